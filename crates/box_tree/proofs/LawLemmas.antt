@@ -15,37 +15,53 @@ use Rattle.box_tree.proofs.PairLemmas.{pairs_are_one}
 abbrev the_leaf : List (ℕ × ℕ) → Node
 the_leaf pairs = Leaf (record { items = pairs })
 
-pub one_node : (width other : ℕ) (a b : Node) (x y : List ℕ) → IsNode width a → IsNode other b → node_line a ++ x ≡ node_line b ++ y → (a ≡ b) × (x ≡ y)
+pub one_node : (width other : ℕ) (a b : Node) (x y : List ℕ) → IsNode width a → IsNode other b
+    → node_line a ++ x ≡ node_line b ++ y → (a ≡ b) × (x ≡ y)
 one_node width other (Split i c) (Split j d) x y a_good b_good same =
-    let one = line_is_one (codes "split") (i ∷ c ∷ []) (j ∷ d ∷ []) x y (cut_is_small i c a_good) (cut_is_small j d b_good) same in
+    let one = line_is_one (codes "split") (i ∷ c ∷ []) (j ∷ d ∷ []) x y (cut_is_small i c a_good)
+    (cut_is_small j d b_good) same in
     let numbers : i ∷ c ∷ [] ≡ j ∷ d ∷ [] = one.0 in
     let inputs : i ≡ j = cc in
     let cuts : c ≡ d = cc in
     (ap (λ (n : ℕ). Split n c) inputs ∙ ap (λ (n : ℕ). Split j n) cuts, one.1)
-one_node width other (Split i c) (Leaf pairs) x y a_good b_good same = let first_letters : 115 ≡ 108 = ap (λ (t : List ℕ). get_or t 0 0) same in absurd (omega (arith, first_letters))
-one_node width other (Leaf pairs) (Split j d) x y a_good b_good same = let first_letters : 108 ≡ 115 = ap (λ (t : List ℕ). get_or t 0 0) same in absurd (omega (arith, first_letters))
+one_node width other (Split i c) (Leaf pairs) x y a_good b_good same =
+    let first_letters : 115 ≡ 108 = ap (λ (t : List ℕ). get_or t 0 0) same in absurd (omega (arith, first_letters))
+one_node width other (Leaf pairs) (Split j d) x y a_good b_good same =
+    let first_letters : 108 ≡ 115 = ap (λ (t : List ℕ). get_or t 0 0) same in absurd (omega (arith, first_letters))
 one_node width other (Leaf pairs) (Leaf others) x y a_good b_good same =
-    let one = line_is_one (codes "leaf") (pair_numbers pairs.items) (pair_numbers others.items) x y (pairs_are_small pairs.items a_good.1) (pairs_are_small others.items b_good.1) same in
+    let one = line_is_one (codes "leaf") (pair_numbers pairs.items) (pair_numbers others.items) x y
+    (pairs_are_small pairs.items a_good.1) (pairs_are_small others.items b_good.1) same in
     (ap the_leaf (pairs_are_one pairs.items others.items one.0), one.1)
 
 pub line_is_some : (node : Node) (rest : List ℕ) → [] ≡ node_line node ++ rest → ⊥
 line_is_some (Split i c) rest same = cc
 line_is_some (Leaf pairs) rest same = cc
 
-nodes_are_one : (width other : ℕ) (ns ms : List Node) → All (IsNode width) ns → All (IsNode other) ms → node_lines ns ≡ node_lines ms → ns ≡ ms
+nodes_are_one : (width other : ℕ) (ns ms : List Node) → All (IsNode width) ns → All (IsNode other) ms
+    → node_lines ns ≡ node_lines ms → ns ≡ ms
 nodes_are_one width other [] [] ns_good ms_good same = refl
 nodes_are_one width other [] (m ∷ ms) ns_good ms_good same = absurd (line_is_some m (node_lines ms) same)
 nodes_are_one width other (n ∷ ns) [] ns_good ms_good same = absurd (line_is_some n (node_lines ns) (sym same))
 nodes_are_one width other (n ∷ ns) (m ∷ ms) ns_good ms_good same =
-    let one = one_node width other n m (node_lines ns) (node_lines ms) (All-head (IsNode width) n ns ns_good) (All-head (IsNode other) m ms ms_good) same in
-    ap (λ (k : Node). k ∷ ns) one.0 ∙ ap (λ (l : List Node). m ∷ l) (nodes_are_one width other ns ms (All-tail (IsNode width) n ns ns_good) (All-tail (IsNode other) m ms ms_good) one.1)
+    let one = one_node width other n m (node_lines ns) (node_lines ms) (All-head (IsNode width) n ns ns_good)
+    (All-head (IsNode other) m ms ms_good) same in
+    ap (λ (k : Node). k ∷ ns) one.0
+    ∙ ap (λ (l : List Node). m ∷ l)
+    (nodes_are_one width other ns ms (All-tail (IsNode width) n ns ns_good)
+    (All-tail (IsNode other) m ms ms_good) one.1)
 
 abbrev the_cert : List ℕ → List Node → Cert
 the_cert claims nodes = record { claims = claims; nodes = nodes }
 
 pub certs_are_one : CertsAreOne
 certs_are_one v w text a b v_small w_small first second =
-    let versions = one_version v w (claim_line a.claims ++ node_lines a.nodes) (claim_line b.claims ++ node_lines b.nodes) v_small w_small (sym first.lines ∙ second.lines) in
-    let claims = one_claim_line a.claims b.claims (node_lines a.nodes) (node_lines b.nodes) first.good.claims second.good.claims versions.1 in
-    let nodes = nodes_are_one (length a.claims) (length b.claims) a.nodes b.nodes first.good.nodes second.good.nodes claims.1 in
-    (versions.0, ap (λ (cs : List ℕ). the_cert cs a.nodes) claims.0 ∙ ap (λ (ns : List Node). the_cert b.claims ns) nodes)
+    let versions = one_version v w (claim_line a.claims ++ node_lines a.nodes)
+    (claim_line b.claims ++ node_lines b.nodes) v_small w_small (sym first.lines ∙ second.lines) in
+    let claims = one_claim_line a.claims b.claims (node_lines a.nodes) (node_lines b.nodes) first.good.claims
+    second.good.claims versions.1 in
+    let nodes = nodes_are_one (length a.claims) (length b.claims) a.nodes b.nodes first.good.nodes second.good.nodes
+    claims.1 in (
+      versions.0,
+      ap (λ (cs : List ℕ). the_cert cs a.nodes) claims.0
+          ∙ ap (λ (ns : List Node). the_cert b.claims ns) nodes,
+    )

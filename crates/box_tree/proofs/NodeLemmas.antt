@@ -1,5 +1,6 @@
 -- The node of a line.
-use Rattle.std.proofs.Common.{◌≡◌, ◌≢◌, ◌≤◌, ℕ, List, [], ◌∷◌, ◌++◌, length, get_or, All, decimal, refl, sym, ◌∙◌, ap, arith, append_assoc}
+use Rattle.std.proofs.Common.{◌≡◌, ◌≢◌, ◌≤◌, ℕ, List, [], ◌∷◌, ◌++◌, length, get_or, All, decimal, refl, sym, ◌∙◌, ap}
+use Rattle.std.proofs.Common.{arith, append_assoc}
 use Rattle.std.specs.Prelude.{codes}
 use Rattle.std.proofs.lemmas.List.{append_cancel_left}
 use Rattle.std.proofs.lemmas.List.Elements.{All-cons, All-nil, All-head, All-tail}
@@ -25,16 +26,21 @@ rest_is_one [] [] a b ns_small ms_small same = (refl, cc)
 rest_is_one [] (m ∷ ms) a b ns_small ms_small same = cc
 rest_is_one (n ∷ ns) [] a b ns_small ms_small same = cc
 rest_is_one (n ∷ ns) (m ∷ ms) a b ns_small ms_small same =
-    let behind : 32 ∷ (decimal n ++ line_rest ns a) ≡ 32 ∷ (decimal m ++ line_rest ms b) = sym (line_rest-cons n ns a) ∙ same ∙ line_rest-cons m ms b in
+    let behind : 32 ∷ (decimal n ++ line_rest ns a) ≡ 32 ∷ (decimal m ++ line_rest ms b) = sym (line_rest-cons n ns a)
+    ∙ same ∙ line_rest-cons m ms b in
     let digits : decimal n ++ line_rest ns a ≡ decimal m ++ line_rest ms b = cc in
-    let one = one_number n m (line_rest ns a) (line_rest ms b) (All-head IsSmall n ns ns_small) (All-head IsSmall m ms ms_small) (rest_ends ns a) (rest_ends ms b) digits in
+    let one = one_number n m (line_rest ns a) (line_rest ms b) (All-head IsSmall n ns ns_small)
+    (All-head IsSmall m ms ms_small) (rest_ends ns a) (rest_ends ms b) digits in
     let more = rest_is_one ns ms a b (All-tail IsSmall n ns ns_small) (All-tail IsSmall m ms ms_small) one.1 in
     (ap (λ (k : ℕ). k ∷ ns) one.0 ∙ ap (λ (l : List ℕ). m ∷ l) more.0, more.1)
 
 -- one text begins with one line of a word
-pub line_is_one : (word ns ms a b : List ℕ) → AreSmall ns → AreSmall ms → line word ns ++ a ≡ line word ms ++ b → (ns ≡ ms) × (a ≡ b)
+pub line_is_one : (word ns ms a b : List ℕ) → AreSmall ns → AreSmall ms → line word ns ++ a ≡ line word ms ++ b
+    → (ns ≡ ms) × (a ≡ b)
 line_is_one word ns ms a b ns_small ms_small same =
-    rest_is_one ns ms a b ns_small ms_small (append_cancel_left word (line_rest ns a) (line_rest ms b) (sym (line_behind word ns a) ∙ same ∙ line_behind word ms b))
+    rest_is_one ns ms a b ns_small ms_small
+    (append_cancel_left word (line_rest ns a) (line_rest ms b)
+    (sym (line_behind word ns a) ∙ same ∙ line_behind word ms b))
 
 pub cut_is_small : (input cut : ℕ) → IsCut input cut → AreSmall (input ∷ cut ∷ [])
 cut_is_small input cut is =
@@ -48,27 +54,40 @@ pairs_are_small (p ∷ pairs) all =
     let here = All-head IsPair p pairs all in
     let rule_small : p.0 ≤ 1000000 = omega (arith, here.rule) in
     let part_small : p.1 ≤ 1000000 = omega (arith, here.part) in
-    All-cons IsSmall p.0 (p.1 ∷ pair_numbers pairs) rule_small (All-cons IsSmall p.1 (pair_numbers pairs) part_small (pairs_are_small pairs (All-tail IsPair p pairs all)))
+    All-cons IsSmall p.0 (p.1 ∷ pair_numbers pairs) rule_small
+    (All-cons IsSmall p.1 (pair_numbers pairs) part_small (pairs_are_small pairs (All-tail IsPair p pairs all)))
 
 -- ---- a text that begins with no node's line
 
 abbrev pub NoLine : List ℕ → List ℕ → Type 0
 NoLine word text = (ns behind : List ℕ) → length ns ≤ 8 → AreSmall ns → text ≢ line word ns ++ behind
 
-pub no_cut : (text ns behind : List ℕ) (width : ℕ) → text ≡ line (codes "split") ns ++ behind → AreSmall ns → ((input cut : ℕ) → IsCut input cut → ns ≢ input ∷ cut ∷ [])
+pub no_cut : (text ns behind : List ℕ) (width : ℕ) → text ≡ line (codes "split") ns ++ behind → AreSmall ns
+    → ((input cut : ℕ) → IsCut input cut → ns ≢ input ∷ cut ∷ [])
     → (node : Node) (other : List ℕ) → IsNode width node → text ≢ node_line node ++ other
 no_cut text ns behind width found small none (Split input cut) other is same =
-    none input cut is ((line_is_one (codes "split") ns (input ∷ cut ∷ []) behind other small (cut_is_small input cut is) (sym found ∙ same)).0)
+    none input cut is
+    ((line_is_one (codes "split") ns (input ∷ cut ∷ []) behind other small (cut_is_small input cut is)
+    (sym found ∙ same)).0)
 no_cut text ns behind width found small none (Leaf pairs) other is same =
-    let first_letters : 115 ≡ 108 = ap (λ (t : List ℕ). get_or t 0 0) (sym found ∙ same) in absurd (omega (arith, first_letters))
+    let first_letters : 115 ≡ 108 = ap (λ (t : List ℕ). get_or t 0 0) (sym found ∙ same) in
+    absurd (omega (arith, first_letters))
 
-pub no_pairs : (text ns behind : List ℕ) (width : ℕ) → NoLine (codes "split") text → text ≡ line (codes "leaf") ns ++ behind → AreSmall ns → ((pairs : List (ℕ × ℕ)) → length pairs ≡ width → All IsPair pairs → ns ≢ pair_numbers pairs)
+pub no_pairs : (text ns behind : List ℕ) (width : ℕ) → NoLine (codes "split") text
+    → text ≡ line (codes "leaf") ns ++ behind → AreSmall ns
+    → ((pairs : List (ℕ × ℕ)) → length pairs ≡ width → All IsPair pairs → ns ≢ pair_numbers pairs)
     → (node : Node) (other : List ℕ) → IsNode width node → text ≢ node_line node ++ other
-no_pairs text ns behind width no_split found small none (Split input cut) other is same = no_split (input ∷ cut ∷ []) other (omega arith) (cut_is_small input cut is) same
+no_pairs text ns behind width no_split found small none (Split input cut) other is same =
+    no_split (input ∷ cut ∷ []) other (omega arith) (cut_is_small input cut is) same
 no_pairs text ns behind width no_split found small none (Leaf pairs) other is same =
-    none pairs.items is.0 is.1 ((line_is_one (codes "leaf") ns (pair_numbers pairs.items) behind other small (pairs_are_small pairs.items is.1) (sym found ∙ same)).0)
+    none pairs.items is.0 is.1
+    ((line_is_one (codes "leaf") ns (pair_numbers pairs.items) behind other small (pairs_are_small pairs.items is.1)
+    (sym found ∙ same)).0)
 
-pub no_word : (text : List ℕ) (width : ℕ) → width ≤ 4 → NoLine (codes "split") text → NoLine (codes "leaf") text → (node : Node) (other : List ℕ) → IsNode width node → text ≢ node_line node ++ other
-no_word text width few no_split no_leaf (Split input cut) other is same = no_split (input ∷ cut ∷ []) other (omega arith) (cut_is_small input cut is) same
+pub no_word : (text : List ℕ) (width : ℕ) → width ≤ 4 → NoLine (codes "split") text → NoLine (codes "leaf") text
+    → (node : Node) (other : List ℕ) → IsNode width node → text ≢ node_line node ++ other
+no_word text width few no_split no_leaf (Split input cut) other is same =
+    no_split (input ∷ cut ∷ []) other (omega arith) (cut_is_small input cut is) same
 no_word text width few no_split no_leaf (Leaf pairs) other is same =
-    no_leaf (pair_numbers pairs.items) other (omega (arith, length-pair_numbers pairs.items, is.0)) (pairs_are_small pairs.items is.1) same
+    no_leaf (pair_numbers pairs.items) other (omega (arith, length-pair_numbers pairs.items, is.0))
+    (pairs_are_small pairs.items is.1) same

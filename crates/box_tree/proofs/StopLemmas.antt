@@ -1,5 +1,6 @@
 -- Where a text stops: at the end of its certificate, or at its first fault.
-use Rattle.std.proofs.Common.{◌≡◌, ◌≢◌, ◌<◌, ◌+◌, ◌≤◌, ◌⊎◌, inl, inr, ℕ, zero, suc, List, [], ◌∷◌, ◌++◌, length, All, Option, Some, None, refl, sym, ◌∙◌, ap, subst, arith, append_assoc}
+use Rattle.std.proofs.Common.{◌≡◌, ◌≢◌, ◌<◌, ◌+◌, ◌≤◌, ◌⊎◌, inl, inr, ℕ, zero, suc, List, [], ◌∷◌, ◌++◌, length, All}
+use Rattle.std.proofs.Common.{Option, Some, None, refl, sym, ◌∙◌, ap, subst, arith, append_assoc}
 use Rattle.std.proofs.lemmas.List.{append_cancel_left, append-nil}
 use Rattle.std.proofs.lemmas.List.Elements.{All-head, All-tail}
 use Rattle.arrayvec.specs.ArrayVec.{ArrayVec}
@@ -10,7 +11,9 @@ use Rattle.box_tree.specs.declared.cert.CertFault.{CertFault}
 use Rattle.box_tree.specs.declared.cert.CertFault.TheVariants.{BadLine, Early, Late, TooManyLeaves}
 use Rattle.box_tree.specs.Texts.{version_line, claim_line, node_line, node_lines}
 use Rattle.box_tree.specs.Trees.{open_from, leaf_count}
-use Rattle.box_tree.specs.Certificates.{IsNode, Begins, CertText, HasNoClaims, HasNoNode, line_behind, HasFault, bad_version, no_version, bad_claims, no_claims, bad_node, left_open, late, many_leaves}
+use Rattle.box_tree.specs.Certificates.{IsNode, Begins, CertText, HasNoClaims, HasNoNode, line_behind, HasFault}
+use Rattle.box_tree.specs.Certificates.{bad_version, no_version, bad_claims, no_claims, bad_node, left_open, late}
+use Rattle.box_tree.specs.Certificates.{many_leaves}
 use Rattle.box_tree.specs.Laws.{FaultsAreOne, CertTextsAreSound}
 use Rattle.box_tree.proofs.HeaderLemmas.{one_claim_line}
 use Rattle.box_tree.proofs.LawLemmas.{one_node, line_is_some}
@@ -24,14 +27,16 @@ data Stops (width : ℕ) (nodes : List Node) (n : ℕ) (rest : List ℕ) : Optio
   early : rest ≡ [] → 0 < n → Stops width nodes n rest (Some Early)
   past : (node : Node) (behind : List ℕ) → n ≡ 0 → rest ≡ node_line node ++ behind → IsNode width node
       → Stops width nodes n rest (Some (Late (line_behind nodes)))
-  full : (pairs : ArrayVec (ℕ × ℕ)) (behind : List ℕ) → 0 < n → rest ≡ node_line (Leaf pairs) ++ behind → IsNode width (Leaf pairs)
+  full : (pairs : ArrayVec (ℕ × ℕ)) (behind : List ℕ) → 0 < n → rest ≡ node_line (Leaf pairs) ++ behind
+      → IsNode width (Leaf pairs)
       → leaf_count nodes ≡ 4096 → Stops width nodes n rest (Some (TooManyLeaves (line_behind nodes)))
 
 line_is_not_nothing : (node : Node) (behind rest : List ℕ) → rest ≡ [] → rest ≡ node_line node ++ behind → ⊥
 line_is_not_nothing node behind rest nothing line = line_is_some node behind (sym nothing ∙ line)
 
 -- a text stops for one reason
-one_stop : (width : ℕ) (nodes : List Node) (n : ℕ) (rest : List ℕ) (a b : Option CertFault) → Stops width nodes n rest a → Stops width nodes n rest b → a ≡ b
+one_stop : (width : ℕ) (nodes : List Node) (n : ℕ) (rest : List ℕ) (a b : Option CertFault) → Stops width nodes n rest a
+    → Stops width nodes n rest b → a ≡ b
 one_stop width nodes n rest _ _ (whole r z) (whole s y) = refl
 one_stop width nodes n rest _ _ (whole r z) (bad s) = absurd (s.0 r)
 one_stop width nodes n rest _ _ (whole r z) (early s y) = absurd (omega arith)
@@ -65,19 +70,25 @@ record GoesOn (first nodes : List Node) (rest rest' : List ℕ) : Type 0 where
   nodes_are : nodes ≡ first ++ node ∷ more
   rest_is : rest ≡ node_line node ++ (node_lines more ++ rest')
 
-node_lines_front : (node : Node) (nodes : List Node) (rest : List ℕ) → node_lines (node ∷ nodes) ++ rest ≡ node_line node ++ (node_lines nodes ++ rest)
+node_lines_front : (node : Node) (nodes : List Node) (rest : List ℕ)
+    → node_lines (node ∷ nodes) ++ rest ≡ node_line node ++ (node_lines nodes ++ rest)
 node_lines_front node nodes rest = append_assoc (node_line node) (node_lines nodes) rest
 
 -- of two lists of nodes that a text begins with, one begins with the other
-compared : (width : ℕ) (ns ms : List Node) (r s : List ℕ) → All (IsNode width) ns → All (IsNode width) ms → node_lines ns ++ r ≡ node_lines ms ++ s
+compared : (width : ℕ) (ns ms : List Node) (r s : List ℕ) → All (IsNode width) ns → All (IsNode width) ms
+    → node_lines ns ++ r ≡ node_lines ms ++ s
     → ((ns ≡ ms) × (r ≡ s)) ⊎ (GoesOn ns ms r s ⊎ GoesOn ms ns s r)
 compared width [] [] r s ns_good ms_good same = inl (refl, same)
-compared width [] (m ∷ ms) r s ns_good ms_good same = inr (inl (record { node = m; more = ms; nodes_are = refl; rest_is = same ∙ node_lines_front m ms s }))
-compared width (n ∷ ns) [] r s ns_good ms_good same = inr (inr (record { node = n; more = ns; nodes_are = refl; rest_is = sym same ∙ node_lines_front n ns r }))
+compared width [] (m ∷ ms) r s ns_good ms_good same =
+    inr (inl (record { node = m; more = ms; nodes_are = refl; rest_is = same ∙ node_lines_front m ms s }))
+compared width (n ∷ ns) [] r s ns_good ms_good same =
+    inr (inr (record { node = n; more = ns; nodes_are = refl; rest_is = sym same ∙ node_lines_front n ns r }))
 compared width (n ∷ ns) (m ∷ ms) r s ns_good ms_good same =
-    let one = one_node width width n m (node_lines ns ++ r) (node_lines ms ++ s) (All-head (IsNode width) n ns ns_good) (All-head (IsNode width) m ms ms_good)
+    let one = one_node width width n m (node_lines ns ++ r) (node_lines ms ++ s) (All-head (IsNode width) n ns ns_good)
+    (All-head (IsNode width) m ms ms_good)
     (sym (node_lines_front n ns r) ∙ same ∙ node_lines_front m ms s) in
-    both one.0 (compared width ns ms r s (All-tail (IsNode width) n ns ns_good) (All-tail (IsNode width) m ms ms_good) one.1)
+    both one.0 (compared width ns ms r s (All-tail (IsNode width) n ns ns_good)
+    (All-tail (IsNode width) m ms ms_good) one.1)
   where
     behind : (a b : Node) (xs ys : List Node) (x y : List ℕ) → a ≡ b → GoesOn xs ys x y → GoesOn (a ∷ xs) (b ∷ ys) x y
     behind a b xs ys x y e g = record {
@@ -87,7 +98,8 @@ compared width (n ∷ ns) (m ∷ ms) r s ns_good ms_good same =
       rest_is = g.rest_is;
     }
 
-    both : n ≡ m → ((ns ≡ ms) × (r ≡ s)) ⊎ (GoesOn ns ms r s ⊎ GoesOn ms ns s r) → ((n ∷ ns ≡ m ∷ ms) × (r ≡ s)) ⊎ (GoesOn (n ∷ ns) (m ∷ ms) r s ⊎ GoesOn (m ∷ ms) (n ∷ ns) s r)
+    both : n ≡ m → ((ns ≡ ms) × (r ≡ s)) ⊎ (GoesOn ns ms r s ⊎ GoesOn ms ns s r)
+        → ((n ∷ ns ≡ m ∷ ms) × (r ≡ s)) ⊎ (GoesOn (n ∷ ns) (m ∷ ms) r s ⊎ GoesOn (m ∷ ms) (n ∷ ns) s r)
     both e (inl (f, g)) = inl (ap (λ (c : Node). c ∷ ns) e ∙ ap (λ (l : List Node). m ∷ l) f, g)
     both e (inr (inl g)) = inr (inl (behind n m ns ms r s e g))
     both e (inr (inr g)) = inr (inr (behind m n ms ns s r (sym e) g))
@@ -101,17 +113,21 @@ record StopsAt (version : ℕ) (text : List ℕ) (answer : Option CertFault) : T
   begins : Begins version text claims nodes n rest
   stops : Stops (length claims) nodes n rest answer
 
-no_more : (version : ℕ) (text claims : List ℕ) (ns ms : List Node) (n m : ℕ) (r s : List ℕ) (answer : Option CertFault) → Begins version text claims ns n r → Begins version text claims ms m s → Stops (length claims) ns n r answer → GoesOn ns ms r s → ⊥
+no_more : (version : ℕ) (text claims : List ℕ) (ns ms : List Node) (n m : ℕ) (r s : List ℕ) (answer : Option CertFault)
+    → Begins version text claims ns n r → Begins version text claims ms m s → Stops (length claims) ns n r answer
+    → GoesOn ns ms r s → ⊥
 no_more version text claims ns ms n m r s answer first second stop on = by answer stop
   where
     behind : List ℕ
     behind = node_lines on.more ++ s
 
     good : IsNode (length claims) on.node
-    good = at_seam (IsNode (length claims)) ns on.node on.more (subst (All (IsNode (length claims))) on.nodes_are second.good_nodes)
+    good = at_seam (IsNode (length claims)) ns on.node on.more
+        (subst (All (IsNode (length claims))) on.nodes_are second.good_nodes)
 
     opens : open_from n (on.node ∷ on.more) ≡ Some m
-    opens = sym (open_from-append 1 n ns (on.node ∷ on.more) first.left_open) ∙ ap (λ (l : List Node). open_from 1 l) (sym on.nodes_are) ∙ second.left_open
+    opens = sym (open_from-append 1 n ns (on.node ∷ on.more) first.left_open)
+        ∙ ap (λ (l : List Node). open_from 1 l) (sym on.nodes_are) ∙ second.left_open
 
     closed : (k : ℕ) (node : Node) (more : List Node) → k ≡ 0 → open_from k (node ∷ more) ≡ Some m → ⊥
     closed zero node more e f = cc
@@ -128,37 +144,53 @@ no_more version text claims ns ms n m r s answer first second stop on = by answe
     by _ (bad h) = h.1 on.node behind good on.rest_is
     by _ (early e z) = line_is_not_nothing on.node behind r e on.rest_is
     by _ (past k c z e g) = closed n on.node on.more z opens
-    by _ (full p c z e g l) = too_many p ((one_node (length claims) (length claims) on.node (Leaf p) behind c good g (sym on.rest_is ∙ e)).0) l
+    by _ (full p c z e g l) =
+        too_many p ((one_node (length claims) (length claims) on.node (Leaf p) behind c good g (sym on.rest_is ∙ e)).0)
+        l
 
-stops_are_one : (version : ℕ) (text : List ℕ) (a b : Option CertFault) → StopsAt version text a → StopsAt version text b → a ≡ b
+stops_are_one : (version : ℕ) (text : List ℕ) (a b : Option CertFault) → StopsAt version text a
+    → StopsAt version text b → a ≡ b
 stops_are_one version text a b p q =
-    let front = append_cancel_left (version_line version) (claim_line p.claims ++ (node_lines p.nodes ++ p.rest)) (claim_line q.claims ++ (node_lines q.nodes ++ q.rest))
-    (sym (p.begins.lines ∙ lines_behind version p.claims p.nodes p.rest) ∙ (q.begins.lines ∙ lines_behind version q.claims q.nodes q.rest)) in
-    let claims = one_claim_line p.claims q.claims (node_lines p.nodes ++ p.rest) (node_lines q.nodes ++ q.rest) p.begins.good_claims q.begins.good_claims front in
+    let front = append_cancel_left (version_line version) (claim_line p.claims ++ (node_lines p.nodes ++ p.rest))
+    (claim_line q.claims ++ (node_lines q.nodes ++ q.rest))
+    (sym (p.begins.lines ∙ lines_behind version p.claims p.nodes p.rest)
+    ∙ (q.begins.lines ∙ lines_behind version q.claims q.nodes q.rest)) in
+    let claims = one_claim_line p.claims q.claims (node_lines p.nodes ++ p.rest)
+    (node_lines q.nodes ++ q.rest) p.begins.good_claims q.begins.good_claims front in
     let begins = subst (λ (cs : List ℕ). Begins version text cs q.nodes q.n q.rest) (sym claims.0) q.begins in
     let stops = subst (λ (cs : List ℕ). Stops (length cs) q.nodes q.n q.rest b) (sym claims.0) q.stops in
-    by p.claims p.nodes q.nodes p.n q.n p.rest q.rest p.begins begins p.stops stops (compared (length p.claims) p.nodes q.nodes p.rest q.rest p.begins.good_nodes begins.good_nodes claims.1)
+    by p.claims p.nodes q.nodes p.n q.n p.rest q.rest p.begins begins p.stops stops
+    (compared (length p.claims) p.nodes q.nodes p.rest q.rest p.begins.good_nodes begins.good_nodes claims.1)
   where
-    same : (claims : List ℕ) (ns ms : List Node) (n m : ℕ) (r s : List ℕ) → Begins version text claims ns n r → Begins version text claims ms m s → ns ≡ ms → n ≡ m
+    same : (claims : List ℕ) (ns ms : List Node) (n m : ℕ) (r s : List ℕ) → Begins version text claims ns n r
+        → Begins version text claims ms m s → ns ≡ ms → n ≡ m
     same claims ns ms n m r s first second e =
-        let opens : Some n ≡ Some m = sym first.left_open ∙ ap (λ (l : List Node). open_from 1 l) e ∙ second.left_open in
+        let opens : Some n ≡ Some m = sym first.left_open ∙ ap (λ (l : List Node). open_from 1 l) e
+        ∙ second.left_open in
         cc
 
-    by : (claims : List ℕ) (ns ms : List Node) (n m : ℕ) (r s : List ℕ) → Begins version text claims ns n r → Begins version text claims ms m s → Stops (length claims) ns n r a → Stops (length claims) ms m s b
+    by : (claims : List ℕ) (ns ms : List Node) (n m : ℕ) (r s : List ℕ) → Begins version text claims ns n r
+        → Begins version text claims ms m s → Stops (length claims) ns n r a → Stops (length claims) ms m s b
         → ((ns ≡ ms) × (r ≡ s)) ⊎ (GoesOn ns ms r s ⊎ GoesOn ms ns s r) → a ≡ b
     by claims ns ms n m r s first second one other (inl (e, f)) =
         let opens = same claims ns ms n m r s first second e in
         one_stop (length claims) ms m s a b
-        (subst (λ (l : List Node). Stops (length claims) l m s a) e (subst (λ (k : ℕ). Stops (length claims) ns k s a) opens (subst (λ (t : List ℕ). Stops (length claims) ns n t a) f one))) other
-    by claims ns ms n m r s first second one other (inr (inl on)) = absurd (no_more version text claims ns ms n m r s a first second one on)
-    by claims ns ms n m r s first second one other (inr (inr on)) = absurd (no_more version text claims ms ns m n s r b second first other on)
+        (subst (λ (l : List Node). Stops (length claims) l m s a) e
+        (subst (λ (k : ℕ). Stops (length claims) ns k s a) opens
+        (subst (λ (t : List ℕ). Stops (length claims) ns n t a) f one))) other
+    by claims ns ms n m r s first second one other (inr (inl on)) =
+        absurd (no_more version text claims ns ms n m r s a first second one on)
+    by claims ns ms n m r s first second one other (inr (inr on)) =
+        absurd (no_more version text claims ms ns m n s r b second first other on)
 
 -- ---- the first two lines too
 
 data Ends (version : ℕ) (text : List ℕ) : Option CertFault → Type 0 where
-  other_version : text ≢ [] → ((rest : List ℕ) → text ≢ version_line version ++ rest) → Ends version text (Some (BadLine 1))
+  other_version : text ≢ [] → ((rest : List ℕ) → text ≢ version_line version ++ rest)
+      → Ends version text (Some (BadLine 1))
   nothing : text ≡ [] → Ends version text (Some Early)
-  other_claims : (rest : List ℕ) → text ≡ version_line version ++ rest → HasNoClaims rest → Ends version text (Some (BadLine 2))
+  other_claims : (rest : List ℕ) → text ≡ version_line version ++ rest → HasNoClaims rest
+      → Ends version text (Some (BadLine 2))
   just_version : text ≡ version_line version → Ends version text (Some Early)
   in_nodes : (answer : Option CertFault) → StopsAt version text answer → Ends version text answer
 
@@ -171,29 +203,43 @@ claims_are_some claims rest same = cc
 no_rest : (version : ℕ) (text : List ℕ) → text ≡ version_line version → text ≡ version_line version ++ []
 no_rest version text same = same ∙ sym (append-nil (version_line version))
 
-nodes_front : (version : ℕ) (text : List ℕ) (answer : Option CertFault) (p : StopsAt version text answer) → text ≡ version_line version ++ (claim_line p.claims ++ (node_lines p.nodes ++ p.rest))
+nodes_front : (version : ℕ) (text : List ℕ) (answer : Option CertFault) (p : StopsAt version text answer)
+    → text ≡ version_line version ++ (claim_line p.claims ++ (node_lines p.nodes ++ p.rest))
 nodes_front version text answer p = p.begins.lines ∙ lines_behind version p.claims p.nodes p.rest
 
-nodes_apart_nothing : (version : ℕ) (text : List ℕ) (answer : Option CertFault) → StopsAt version text answer → text ≡ [] → ⊥
-nodes_apart_nothing version text answer p none = version_is_some version (claim_line p.claims ++ (node_lines p.nodes ++ p.rest)) (sym none ∙ nodes_front version text answer p)
+nodes_apart_nothing : (version : ℕ) (text : List ℕ) (answer : Option CertFault) → StopsAt version text answer
+    → text ≡ [] → ⊥
+nodes_apart_nothing version text answer p none =
+    version_is_some version (claim_line p.claims ++ (node_lines p.nodes ++ p.rest))
+    (sym none ∙ nodes_front version text answer p)
 
-nodes_apart_claims : (version : ℕ) (text : List ℕ) (answer : Option CertFault) (rest : List ℕ) → StopsAt version text answer → text ≡ version_line version ++ rest → HasNoClaims rest → ⊥
+nodes_apart_claims : (version : ℕ) (text : List ℕ) (answer : Option CertFault) (rest : List ℕ)
+    → StopsAt version text answer → text ≡ version_line version ++ rest → HasNoClaims rest → ⊥
 nodes_apart_claims version text answer rest p is none =
-    none.1 p.claims (node_lines p.nodes ++ p.rest) p.begins.good_claims (append_cancel_left (version_line version) rest (claim_line p.claims ++ (node_lines p.nodes ++ p.rest)) (sym is ∙ nodes_front version text answer p))
+    none.1 p.claims (node_lines p.nodes ++ p.rest) p.begins.good_claims
+    (append_cancel_left (version_line version) rest (claim_line p.claims ++ (node_lines p.nodes ++ p.rest))
+    (sym is ∙ nodes_front version text answer p))
 
-nodes_apart_version : (version : ℕ) (text : List ℕ) (answer : Option CertFault) → StopsAt version text answer → text ≡ version_line version → ⊥
+nodes_apart_version : (version : ℕ) (text : List ℕ) (answer : Option CertFault) → StopsAt version text answer
+    → text ≡ version_line version → ⊥
 nodes_apart_version version text answer p is =
-    claims_are_some p.claims (node_lines p.nodes ++ p.rest) (append_cancel_left (version_line version) [] (claim_line p.claims ++ (node_lines p.nodes ++ p.rest)) (sym (no_rest version text is) ∙ nodes_front version text answer p))
+    claims_are_some p.claims (node_lines p.nodes ++ p.rest)
+    (append_cancel_left (version_line version) [] (claim_line p.claims ++ (node_lines p.nodes ++ p.rest))
+    (sym (no_rest version text is) ∙ nodes_front version text answer p))
 
-claims_apart_version : (version : ℕ) (text rest : List ℕ) → text ≡ version_line version ++ rest → HasNoClaims rest → text ≡ version_line version → ⊥
-claims_apart_version version text rest is none just = none.0 (append_cancel_left (version_line version) rest [] (sym is ∙ no_rest version text just))
+claims_apart_version : (version : ℕ) (text rest : List ℕ) → text ≡ version_line version ++ rest → HasNoClaims rest
+    → text ≡ version_line version → ⊥
+claims_apart_version version text rest is none just =
+    none.0 (append_cancel_left (version_line version) rest [] (sym is ∙ no_rest version text just))
 
-ends_are_one : (version : ℕ) (text : List ℕ) (a b : Option CertFault) → Ends version text a → Ends version text b → a ≡ b
+ends_are_one : (version : ℕ) (text : List ℕ) (a b : Option CertFault) → Ends version text a
+    → Ends version text b → a ≡ b
 ends_are_one version text _ _ (other_version r s) (other_version u w) = refl
 ends_are_one version text _ _ (other_version r s) (nothing u) = absurd (r u)
 ends_are_one version text _ _ (other_version r s) (other_claims t u w) = absurd (s t u)
 ends_are_one version text _ _ (other_version r s) (just_version u) = absurd (s [] (no_rest version text u))
-ends_are_one version text _ _ (other_version r s) (in_nodes b q) = absurd (s (claim_line q.claims ++ (node_lines q.nodes ++ q.rest)) (nodes_front version text b q))
+ends_are_one version text _ _ (other_version r s) (in_nodes b q) =
+    absurd (s (claim_line q.claims ++ (node_lines q.nodes ++ q.rest)) (nodes_front version text b q))
 ends_are_one version text _ _ (nothing r) (other_version u w) = absurd (u r)
 ends_are_one version text _ _ (nothing r) (nothing u) = refl
 ends_are_one version text _ _ (nothing r) (other_claims t u w) = absurd (version_is_some version t (sym r ∙ u))
@@ -209,7 +255,8 @@ ends_are_one version text _ _ (just_version r) (nothing u) = refl
 ends_are_one version text _ _ (just_version r) (other_claims t u w) = absurd (claims_apart_version version text t u w r)
 ends_are_one version text _ _ (just_version r) (just_version u) = refl
 ends_are_one version text _ _ (just_version r) (in_nodes b q) = absurd (nodes_apart_version version text b q r)
-ends_are_one version text _ _ (in_nodes a p) (other_version u w) = absurd (w (claim_line p.claims ++ (node_lines p.nodes ++ p.rest)) (nodes_front version text a p))
+ends_are_one version text _ _ (in_nodes a p) (other_version u w) =
+    absurd (w (claim_line p.claims ++ (node_lines p.nodes ++ p.rest)) (nodes_front version text a p))
 ends_are_one version text _ _ (in_nodes a p) (nothing u) = absurd (nodes_apart_nothing version text a p u)
 ends_are_one version text _ _ (in_nodes a p) (other_claims t u w) = absurd (nodes_apart_claims version text a t p u w)
 ends_are_one version text _ _ (in_nodes a p) (just_version u) = absurd (nodes_apart_version version text a p u)
@@ -221,14 +268,33 @@ fault_ends version text _ (no_version none) = nothing none
 fault_ends version text _ (bad_claims rest is none) = other_claims rest is none
 fault_ends version text _ (no_claims is) = just_version is
 fault_ends version text _ (bad_node claims nodes n rest begins none) =
-    in_nodes (Some (BadLine (line_behind nodes))) (record { claims = claims; nodes = nodes; n = n; rest = rest; begins = begins; stops = bad none })
+    in_nodes (Some (BadLine (line_behind nodes)))
+    (record { claims = claims; nodes = nodes; n = n; rest = rest; begins = begins; stops = bad none })
 fault_ends version text _ (left_open claims nodes n begins some) =
-    in_nodes (Some Early) (record { claims = claims; nodes = nodes; n = n; rest = []; begins = begins; stops = early refl some })
+    in_nodes (Some Early)
+    (record { claims = claims; nodes = nodes; n = n; rest = []; begins = begins; stops = early refl some })
 fault_ends version text _ (late claims nodes node behind begins good) =
-    in_nodes (Some (Late (line_behind nodes))) (record { claims = claims; nodes = nodes; n = 0; rest = node_line node ++ behind; begins = begins; stops = past node behind refl refl good })
+    in_nodes (Some (Late (line_behind nodes)))
+    (record {
+      claims = claims;
+      nodes = nodes;
+      n = 0;
+      rest = node_line node ++ behind;
+      begins = begins;
+      stops =
+          past node behind refl refl good;
+    })
 fault_ends version text _ (many_leaves claims nodes n pairs behind begins good some all) =
     in_nodes (Some (TooManyLeaves (line_behind nodes)))
-    (record { claims = claims; nodes = nodes; n = n; rest = node_line (Leaf pairs) ++ behind; begins = begins; stops = full pairs behind some refl good all })
+    (record {
+      claims = claims;
+      nodes = nodes;
+      n = n;
+      rest = node_line (Leaf pairs) ++ behind;
+      begins = begins;
+      stops =
+          full pairs behind some refl good all;
+    })
 
 cert_ends : (version : ℕ) (text : List ℕ) (cert : Cert) → CertText version text cert → Ends version text None
 cert_ends version text cert spelled = in_nodes None (record {
@@ -248,10 +314,12 @@ cert_ends version text cert spelled = in_nodes None (record {
 
 pub faults_are_one : FaultsAreOne
 faults_are_one v text f g first second =
-    let same : Some f ≡ Some g = ends_are_one v text (Some f) (Some g) (fault_ends v text f first) (fault_ends v text g second) in
+    let same : Some f ≡ Some g =
+    ends_are_one v text (Some f) (Some g) (fault_ends v text f first) (fault_ends v text g second) in
     cc
 
 pub cert_texts_are_sound : CertTextsAreSound
 cert_texts_are_sound v text cert f spelled fault =
-    let same : None ≡ Some f = ends_are_one v text None (Some f) (cert_ends v text cert spelled) (fault_ends v text f fault) in
+    let same : None ≡ Some f =
+    ends_are_one v text None (Some f) (cert_ends v text cert spelled) (fault_ends v text f fault) in
     cc

@@ -1,5 +1,6 @@
 //! A certificate's text, node by node.
-ghost use Rattle.std.specs.Prelude.{◌≡◌, ◌≢◌, ◌≤◌, ◌<◌, ◌+◌, ℕ, List, [], ◌∷◌, ◌++◌, length, MatchOption, IfSome, IfOk, IfErr, Err};
+ghost use Rattle.std.specs.Prelude.{◌≡◌, ◌≢◌, ◌≤◌, ◌<◌, ◌+◌, ℕ, List, [], ◌∷◌, ◌++◌, length, MatchOption, IfSome, IfOk};
+ghost use Rattle.std.specs.Prelude.{IfErr, Err};
 ghost use Rattle.box_tree.specs.declared.cert.Node.{Node as TheNode};
 ghost use Rattle.box_tree.specs.declared.cert.CertFault.{CertFault as TheFault};
 

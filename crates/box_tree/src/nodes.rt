@@ -1,5 +1,6 @@
 //! The node of a line.
-ghost use Rattle.std.specs.Prelude.{◌≡◌, ◌≢◌, ◌↔◌, ◌≤◌, ◌<◌, ℕ, List, [], ◌∷◌, ◌++◌, length, MatchOption, IfSome, All, IsTrue};
+ghost use Rattle.std.specs.Prelude.{◌≡◌, ◌≢◌, ◌↔◌, ◌≤◌, ◌<◌, ℕ, List, [], ◌∷◌, ◌++◌, length, MatchOption, IfSome, All};
+ghost use Rattle.std.specs.Prelude.{IsTrue};
 ghost use Rattle.box_tree.specs.declared.cert.Node.{Node as TheNode};
 ghost use Rattle.box_tree.specs.Certificates.{IsCut, IsNode, IsPair};
 ghost use Rattle.box_tree.specs.Texts.{node_line, pair_numbers};

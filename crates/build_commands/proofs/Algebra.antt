@@ -15,7 +15,8 @@ use Rattle.build_commands.specs.Lines.{counted}
 pub text_of-snoc : (lines : List (String Global)) (l : String Global)
     → text_of (lines ++ l ∷ []) ≡ text_of lines ++ string_bytes l
 text_of-snoc [] l = append-nil (string_bytes l)
-text_of-snoc (x ∷ lines) l = ap (λ (t : List ℕ). string_bytes x ++ t) (text_of-snoc lines l) ∙ sym (append_assoc (string_bytes x) (text_of lines) (string_bytes l))
+text_of-snoc (x ∷ lines) l = ap (λ (t : List ℕ). string_bytes x ++ t) (text_of-snoc lines l)
+    ∙ sym (append_assoc (string_bytes x) (text_of lines) (string_bytes l))
 
 -- the text so far with one line more
 pub line_more : (before items_text line_text next_text : List ℕ) (items next : List (String Global))
@@ -67,7 +68,8 @@ pub pushed : (before now : List (String Global)) (last : String Global) (last_te
     → text ≡ text_of before ++ (last_text ++ rest)
 pushed before now last last_text rest text added is so_far =
     so_far
-    ∙ ap (λ (l : List ℕ). l ++ rest) (ap text_of added ∙ text_of-snoc before last ∙ ap (λ (l : List ℕ). text_of before ++ l) is)
+    ∙ ap (λ (l : List ℕ). l ++ rest)
+    (ap text_of added ∙ text_of-snoc before last ∙ ap (λ (l : List ℕ). text_of before ++ l) is)
     ∙ append_assoc (text_of before) last_text rest
 
 -- a text with what it was made of, and more behind it
@@ -86,7 +88,8 @@ begun_items lines_of seen begun items start xs begun_so items_so =
     items_so ∙ ap₂ (λ (x y : List ℕ). x ++ y) begun_so (sym (counted-map lines_of seen 1 xs))
 
 -- what holds of each item as it is seen
-pub of_seen : {X Y : Type 0} (P : Y → Type 0) (seen : X → Y) (xs : List X) → All P (map seen xs) → All (λ x. P (seen x)) xs
+pub of_seen : {X Y : Type 0} (P : Y → Type 0) (seen : X → Y) (xs : List X) → All P (map seen xs)
+    → All (λ x. P (seen x)) xs
 of_seen P seen [] each = All-nil _
 of_seen P seen (x ∷ xs) each =
     All-cons (λ y. P (seen y)) x xs (All-head P (seen x) (map seen xs) each)

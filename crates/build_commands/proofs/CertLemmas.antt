@@ -48,8 +48,11 @@ pub cert_apart : TextAnswersAreOne → SameBlocksAnswerAlike → (width : Width)
     (block other : Block) → IsValid block → IsSameBlock other block
     → AcceptsCert width block text errors → (f : CertRefusal) → HasCertFault width other text f → ⊥
 cert_apart answers alike width text errors block other valid blocks accepts f fault =
-    let refused = alike other block (parts width) (version width) text (Err (refusal_of f)) blocks (has_refusal width other text f fault) in
-    let same : Ok errors ≡ Err (refusal_of f) = answers block (parts width) (version width) text (Ok errors) (Err (refusal_of f)) valid (few_versions width) accepts refused in
+    let refused = alike other block (parts width) (version width) text (Err (refusal_of f)) blocks
+    (has_refusal width other text f fault) in
+    let same : Ok errors ≡ Err (refusal_of f) =
+    answers block (parts width) (version width) text (Ok errors) (Err (refusal_of f)) valid
+    (few_versions width) accepts refused in
     cc
 
 -- ---- a refusal is no want of memory
@@ -107,4 +110,6 @@ as_status width w block text answer (Ok es) at same h = tt
 as_status width w block text answer (Err s) at (r, is, told) h =
     subst (λ v. IsRefusal (cert_refusals v block text) s) (sym at)
     (subst (λ x. IsRefusal (cert_refusals width block text) x) (sym told)
-    (as_refusal width block text r (subst (λ a. IfErr a (λ q. q ≢ refusal.Memory → HasTextFault block (parts width) (version width) text q)) is h)))
+    (as_refusal width block text r
+    (subst (λ a. IfErr a (λ q. q ≢ refusal.Memory → HasTextFault block (parts width) (version width) text q)) is
+    h)))

@@ -12,4 +12,5 @@ pub errors_written : (none errors lines : List (String Global)) (last : String G
     → text_of lines ≡ counted error_line 1 es ++ line label n
 errors_written none errors lines last es label n start e0 e1 b =
     ap text_of e1 ∙ text_of-snoc errors last
-    ∙ ap₂ (λ (x y : List ℕ). x ++ y) (e0 ∙ ap (λ (x : List (String Global)). text_of x ++ counted error_line 1 es) start) b
+    ∙ ap₂ (λ (x y : List ℕ). x ++ y)
+    (e0 ∙ ap (λ (x : List (String Global)). text_of x ++ counted error_line 1 es) start) b

@@ -14,6 +14,7 @@ own = numerals_by_value _ (search rules)
 pub no_number : {E : Type 0} (text : List ℕ) (e : E) → ParsesUnsigned {E = E} 32 10 text (Err e)
     → list_all is_ascii_digit text ≡ true → None ≡ number_up_to 4294967295 text
 no_number text e parses digits =
-    let never : (0 < length text) × (digits_value 10 text < 2 ^ 32) → ⊥ = parse_digits own 32 text (Err e) parses digits in
+    let never : (0 < length text) × (digits_value 10 text < 2 ^ 32) → ⊥ =
+    parse_digits own 32 text (Err e) parses digits in
     let far : 0 < length text → digits_value 10 text ≤ 4294967295 → ⊥ = λ some few. never (some, omega (arith, few)) in
     grind (arith, nat_tests)

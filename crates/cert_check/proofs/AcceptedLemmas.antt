@@ -1,5 +1,6 @@
 -- Under an accepted certificate each answer is within the error.
-use Rattle.std.proofs.Common.{◌≡◌, ℕ, zero, suc, ◌≤◌, List, [], ◌∷◌, length, map, Bool, true, Option, Some, None, refl, sym, ap, ap₂, ◌∙◌, subst, arith, mul-pos}
+use Rattle.std.proofs.Common.{◌≡◌, ℕ, zero, suc, ◌≤◌, List, [], ◌∷◌, length, map, Bool, true, Option, Some, None, refl}
+use Rattle.std.proofs.Common.{sym, ap, ap₂, ◌∙◌, subst, arith, mul-pos}
 use Rattle.std.specs.Prelude.{◌≢◌, nat_le, ◌&&◌, slice_get, fold, All}
 use Rattle.std.proofs.lemmas.Int.{ints}
 use Rattle.std.proofs.lemmas.Bool.Decides.{nat_tests}
@@ -36,12 +37,16 @@ bytes-count (i ∷ is) (x ∷ xs) h = ap suc (bytes-count is xs (omega arith))
 in_whole : (n : ℕ) (k : Bool) → n ≤ 255 → k ≡ true → (nat_le 0 n && (nat_le n 255 && k)) ≡ true
 in_whole n k h e = grind (arith, nat_tests)
 
-bytes-lie : (is : List Input) (xs : List Dec) → length xs ≡ length is → lies (bytes_of is xs) (map (λ _. record { from = 0; to = 255 }) is) ≡ true
+bytes-lie : (is : List Input) (xs : List Dec) → length xs ≡ length is
+    → lies (bytes_of is xs) (map (λ _. record { from = 0; to = 255 }) is) ≡ true
 bytes-lie [] xs h = refl
 bytes-lie (i ∷ is) [] h = absurd (omega arith)
-bytes-lie (i ∷ is) (x ∷ xs) h = in_whole (byte_of i x) (lies (bytes_of is xs) (map (λ _. record { from = 0; to = 255 }) is)) (byte_of-le i x) (bytes-lie is xs (omega arith))
+bytes-lie (i ∷ is) (x ∷ xs) h =
+    in_whole (byte_of i x) (lies (bytes_of is xs) (map (λ _. record { from = 0; to = 255 }) is)) (byte_of-le i x)
+    (bytes-lie is xs (omega arith))
 
-bytes-at : (is : List Input) (xs : List Dec) (k : ℕ) (i : Input) (n : ℕ) (x : Dec) → slice_get is k ≡ Some i → slice_get (bytes_of is xs) k ≡ Some n → slice_get xs k ≡ Some x → byte_of i x ≡ n
+bytes-at : (is : List Input) (xs : List Dec) (k : ℕ) (i : Input) (n : ℕ) (x : Dec) → slice_get is k ≡ Some i
+    → slice_get (bytes_of is xs) k ≡ Some n → slice_get xs k ≡ Some x → byte_of i x ≡ n
 bytes-at [] xs k i n x ei en ex = absurd (let z : ⊥ = cc in z)
 bytes-at (j ∷ is) [] k i n x ei en ex = absurd (let z : ⊥ = cc in z)
 bytes-at (j ∷ is) (y ∷ xs) (suc k) i n x ei en ex = bytes-at is xs k i n x ei en ex
@@ -51,7 +56,8 @@ bytes-at (j ∷ is) (y ∷ xs) zero i n x ei en ex =
     let e3 : byte_of j y ≡ n = cc in
     ap₂ byte_of (sym e1) (sym e2) ∙ e3
 
-bytes-cells : NumbersLieInTheirCells → (b : Block) (xs : List Dec) → IsValid b → AreInputs b xs → LieInCells b (bytes_of b.inputs xs) xs
+bytes-cells : NumbersLieInTheirCells → (b : Block) (xs : List Dec) → IsValid b → AreInputs b xs
+    → LieInCells b (bytes_of b.inputs xs) xs
 bytes-cells in_cells b xs v a = record {
   inputs = a;
   count = bytes-count b.inputs xs a.count;
@@ -62,7 +68,9 @@ bytes-cells in_cells b xs v a = record {
 }
 
 -- what stays near stays so where both answers are kept
-still_near : (x : Output) (leaf : Leaf) (n e q q' : ℕ) (value : ℕ → Quotient) (before after : Quotient) → n ≤ e → Follows x leaf n q q' (value q') before after → IsClose (distance x.lo x.hi) e (value q) before → IsClose (distance x.lo x.hi) e (value q') after
+still_near : (x : Output) (leaf : Leaf) (n e q q' : ℕ) (value : ℕ → Quotient) (before after : Quotient) → n ≤ e
+    → Follows x leaf n q q' (value q') before after → IsClose (distance x.lo x.hi) e (value q) before
+    → IsClose (distance x.lo x.hi) e (value q') after
 still_near x leaf n e q q' value before after h f c = by_k leaf.k refl x.default refl
   where
     near : (leaf.k ≡ 0 → x.default ≢ None) → IsClose (distance x.lo x.hi) e (value q') after
@@ -73,32 +81,65 @@ still_near x leaf n e q q' value before after h f c = by_k leaf.k refl x.default
     by_k zero ek (Some d) ed = near (λ _ z. absurd (let w : ⊥ = cc in w))
     by_k zero ek None ed =
         let p = f.kept ek ed in
-        subst (λ a. IsClose (distance x.lo x.hi) e (value q') a) (sym p.1) (subst (λ m. IsClose (distance x.lo x.hi) e (value m) before) (sym p.0) c)
+        subst (λ a. IsClose (distance x.lo x.hi) e (value q') a) (sym p.1)
+        (subst (λ m. IsClose (distance x.lo x.hi) e (value m) before) (sym p.0) c)
 
-first_close : (b : Block) (h o : ℕ) (x : Output) (e : ℕ) → 1 ≤ h → output_at b o ≡ Some x → IsClose (distance x.lo x.hi) e (value_in h x 0) (first_answer b o)
-first_close b h o x e some ex = rw ex (record { dens = mul-pos (mul-pos (omega arith) (mul-pos (omega arith) some)) (omega arith); cross = omega (arith, ints) })
+first_close : (b : Block) (h o : ℕ) (x : Output) (e : ℕ) → 1 ≤ h → output_at b o ≡ Some x
+    → IsClose (distance x.lo x.hi) e (value_in h x 0) (first_answer b o)
+first_close b h o x e some ex =
+    rw ex
+    (record {
+      dens = mul-pos (mul-pos (omega arith) (mul-pos (omega arith) some)) (omega arith);
+      cross =
+          omega (arith, ints);
+    })
 
-module _ (in_cells : NumbersLieInTheirCells) (near : AnswersAreNear) (b : Block) (h : ℕ) (some : 1 ≤ h) (valid : IsValid b) (cert : Cert) (parts : List Part) (tree : IsTree (whole b) cert.nodes parts []) where
-  next : (o : ℕ) (x : Output) (e : ℕ) → output_at b o ≡ Some x → IsGreatestBound b o x h parts e → (xs : List Dec) → AreInputs b xs → (before : Quotient) (q : ℕ) → IsClose (distance x.lo x.hi) e (value_in h x q) before
-      → IsClose (distance x.lo x.hi) e (value_in h x (answer_in h b o (bytes_of b.inputs xs) q)) (answer_after b o before xs)
+module _ (in_cells : NumbersLieInTheirCells) (near : AnswersAreNear) (b : Block) (h : ℕ) (some : 1 ≤ h)
+    (valid : IsValid b) (cert : Cert) (parts : List Part) (tree : IsTree (whole b) cert.nodes parts []) where
+  next : (o : ℕ) (x : Output) (e : ℕ) → output_at b o ≡ Some x → IsGreatestBound b o x h parts e → (xs : List Dec)
+      → AreInputs b xs → (before : Quotient) (q : ℕ) → IsClose (distance x.lo x.hi) e (value_in h x q) before
+      → IsClose (distance x.lo x.hi) e (value_in h x (answer_in h b o (bytes_of b.inputs xs) q))
+      (answer_after b o before xs)
   next o x e ex g xs a before q c =
       let bytes = bytes_of b.inputs xs in
       let one = one_leaf (whole b) cert.nodes [] parts bytes tree (bytes-lie b.inputs xs a.count) in
       let p = leaf_with bytes parts (λ p. (n : ℕ) × HasBound b o x h p n × (n ≤ e)) (omega arith) g.each in
       let n : ℕ = p.2.0 in
       let hb : HasBound b o x h p.0 n = p.2.1 in
-      let on : IsOnLeaf b p.0.box o x h hb.leaf n bytes xs = record { valid = valid; output_is = ex; parts = some; cells = bytes-cells in_cells b xs valid a; box_is = LieIn-lies bytes p.0.box p.1; holds = hb.holds; bound_is = hb.bound_is } in
-      still_near x hb.leaf n e q (answer_in h b o bytes q) (value_in h x) before (answer_after b o before xs) p.2.2 (near b p.0.box o x h hb.leaf n bytes xs before q on) c
+      let on : IsOnLeaf b p.0.box o x h hb.leaf n bytes xs =
+      record {
+        valid = valid;
+        output_is = ex;
+        parts = some;
+        cells = bytes-cells in_cells b xs valid a;
+        box_is =
+            LieIn-lies bytes p.0.box p.1;
+        holds = hb.holds;
+        bound_is = hb.bound_is;
+      } in
+      still_near x hb.leaf n e q (answer_in h b o bytes q) (value_in h x) before (answer_after b o before xs) p.2.2
+      (near b p.0.box o x h hb.leaf n bytes xs before q on) c
 
-  on_and_on : (o : ℕ) (x : Output) (e : ℕ) → output_at b o ≡ Some x → IsGreatestBound b o x h parts e → (samples : List (List Dec)) → All (AreInputs b) samples → (before : Quotient) (q : ℕ) → IsClose (distance x.lo x.hi) e (value_in h x q) before
-      → IsClose (distance x.lo x.hi) e (value_in h x (fold (λ before xs. answer_in h b o (bytes_of b.inputs xs) before) q samples)) (fold (answer_after b o) before samples)
+  on_and_on : (o : ℕ) (x : Output) (e : ℕ) → output_at b o ≡ Some x → IsGreatestBound b o x h parts e
+      → (samples : List (List Dec)) → All (AreInputs b) samples → (before : Quotient) (q : ℕ)
+      → IsClose (distance x.lo x.hi) e (value_in h x q) before
+      → IsClose (distance x.lo x.hi) e
+      (value_in h x (fold (λ before xs. answer_in h b o (bytes_of b.inputs xs) before) q samples))
+      (fold (answer_after b o) before samples)
   on_and_on o x e ex g [] all before q c = c
-  on_and_on o x e ex g (xs ∷ samples) all before q c = on_and_on o x e ex g samples (λ k d l. all (suc k) d (omega arith)) (answer_after b o before xs) (answer_in h b o (bytes_of b.inputs xs) q) (next o x e ex g xs (all 0 xs (omega arith)) before q c)
+  on_and_on o x e ex g (xs ∷ samples) all before q c =
+      on_and_on o x e ex g samples (λ k d l. all (suc k) d (omega arith)) (answer_after b o before xs)
+      (answer_in h b o (bytes_of b.inputs xs) q) (next o x e ex g xs (all 0 xs (omega arith)) before q c)
 
   -- before the first sample both are the low end
-  pub all_near : (o : ℕ) (x : Output) (e : ℕ) → output_at b o ≡ Some x → IsGreatestBound b o x h parts e → (samples : List (List Dec)) → All (AreInputs b) samples
-      → IsClose (distance x.lo x.hi) e (value_in h x (fold (λ before xs. answer_in h b o (bytes_of b.inputs xs) before) 0 samples)) (fold (answer_after b o) (first_answer b o) samples)
-  all_near o x e ex g samples all = on_and_on o x e ex g samples all (first_answer b o) 0 (first_close b h o x e some ex)
+  pub all_near : (o : ℕ) (x : Output) (e : ℕ) → output_at b o ≡ Some x → IsGreatestBound b o x h parts e
+      → (samples : List (List Dec)) → All (AreInputs b) samples
+      → IsClose (distance x.lo x.hi) e
+      (value_in h x (fold (λ before xs. answer_in h b o (bytes_of b.inputs xs) before) 0 samples))
+      (fold (answer_after b o) (first_answer b o) samples)
+  all_near o x e ex g samples all =
+      on_and_on o x e ex g samples all (first_answer b o) 0 (first_close b h o x e some ex)
 
 pub accepted_near : NumbersLieInTheirCells → AnswersAreNear → AcceptedAnswersAreNear
-accepted_near in_cells near b h cert errors o x e samples valid some acc from ex ee all = all_near in_cells near b h some valid cert acc.parts acc.tree o x e ex (acc.greatest o x e from ex ee) samples all
+accepted_near in_cells near b h cert errors o x e samples valid some acc from ex ee all =
+    all_near in_cells near b h some valid cert acc.parts acc.tree o x e ex (acc.greatest o x e from ex ee) samples all

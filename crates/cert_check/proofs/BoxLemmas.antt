@@ -21,7 +21,8 @@ cuts_halved box k c v e above below =
       right_box = λ is. IsBox-right k c box is cut;
     }
 
-length-whole : (is : List Input) → length (map (λ (_ : Input). let v : Interval = record { from = 0; to = 255 } in v) is) ≡ length is
+length-whole : (is : List Input)
+    → length (map (λ (_ : Input). let v : Interval = record { from = 0; to = 255 } in v) is) ≡ length is
 length-whole [] = refl
 length-whole (i ∷ is) = ap suc (length-whole is)
 
@@ -41,7 +42,8 @@ pub leaf_around : LeavesAreAround
 leaf_around b h cert errors o x e bytes a from ex ee count small =
     let l = lies_whole b.inputs bytes count small in
     let one = one_leaf (whole b) cert.nodes [] a.parts bytes a.tree l in
-    let p = leaf_with bytes a.parts (λ p. (n : ℕ) × HasBound b o x h p n × (n ≤ e)) (omega (arith, one)) (a.greatest o x e from ex ee).each in
+    let p = leaf_with bytes a.parts (λ p. (n : ℕ) × HasBound b o x h p n × (n ≤ e)) (omega (arith, one))
+    (a.greatest o x e from ex ee).each in
     let bound = p.2.1 in
     let around = LieIn-lies bytes p.0.box p.1 in
     record {

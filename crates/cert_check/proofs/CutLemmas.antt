@@ -1,5 +1,6 @@
 -- Cuts of a box, and its halves.
-use Rattle.std.proofs.Common.{◌≡◌, ℕ, zero, suc, ◌+◌, ◌-◌, ◌<◌, ◌≤◌, List, [], ◌∷◌, ◌++◌, length, map, take, Some, None, refl, ap, subst, arith}
+use Rattle.std.proofs.Common.{◌≡◌, ℕ, zero, suc, ◌+◌, ◌-◌, ◌<◌, ◌≤◌, List, [], ◌∷◌, ◌++◌, length, map, take, Some, None}
+use Rattle.std.proofs.Common.{refl, ap, subst, arith}
 use Rattle.std.specs.Prelude.{slice_get, set}
 use Rattle.fuzzy_meaning.specs.declared.block.Block.{Block}
 use Rattle.fuzzy_meaning.specs.declared.block.Input.{Input}
@@ -8,7 +9,8 @@ use Rattle.error_bound.specs.Boxes.{IsBox}
 use Rattle.cert_check.specs.Trees.{left_of, right_of, IsCut, whole}
 
 -- a cut is inside the interval at its place
-pub cut_at : (k c : ℕ) (box : List Interval) (v : Interval) → slice_get box k ≡ Some v → v.from < c → c ≤ v.to → IsCut k c box
+pub cut_at : (k c : ℕ) (box : List Interval) (v : Interval) → slice_get box k ≡ Some v → v.from < c → c ≤ v.to
+    → IsCut k c box
 cut_at k c [] v e f t = absurd (let z : ⊥ = cc in z)
 cut_at zero c (w ∷ vs) v e f t =
     let s : w ≡ v = cc in

@@ -1,5 +1,6 @@
 -- A walk that is driven over a tree, or over a text.
-use Rattle.std.proofs.Common.{◌≡◌, ℕ, zero, suc, ◌+◌, ◌<◌, ◌≤◌, List, [], ◌∷◌, ◌++◌, length, take, drop, get_or, take-append-drop, add-one, Some, refl, sym, ap, ◌∙◌, subst, arith}
+use Rattle.std.proofs.Common.{◌≡◌, ℕ, zero, suc, ◌+◌, ◌<◌, ◌≤◌, List, [], ◌∷◌, ◌++◌, length, take, drop, get_or}
+use Rattle.std.proofs.Common.{take-append-drop, add-one, Some, refl, sym, ap, ◌∙◌, subst, arith}
 use Rattle.std.specs.Prelude.{All, Result, Ok, Err, IfOk, IfErr}
 use Rattle.std.proofs.Math.Seq.{take-suc}
 use Rattle.fuzzy_meaning.specs.declared.block.Block.{Block}
@@ -23,7 +24,8 @@ pub record IsWalkOver (b : Block) (claims : List ℕ) (h : ℕ) (w : Walk) : Typ
   pub claims_are : w.claims.now ≡ claims
   pub parts : w.parts ≡ h
 
-pub still_over : (b : Block) (claims : List ℕ) (h : ℕ) (w v : Walk) → IsWalkOver b claims h w → IsSameTask v w → IsWalkOver b claims h v
+pub still_over : (b : Block) (claims : List ℕ) (h : ℕ) (w v : Walk) → IsWalkOver b claims h w → IsSameTask v w
+    → IsWalkOver b claims h v
 still_over b claims h w v over same = record {
   block = ap (λ x. x.now) same.block ∙ over.block;
   claims_are = ap (λ x. x.now) same.claims ∙ over.claims_are;
@@ -40,15 +42,23 @@ module _ (b : Block) (claims : List ℕ) (h : ℕ) (w : Walk) (over : IsWalkOver
   pub is_cert : IsCert the_cert → IsCert (cert_over w nodes)
   is_cert good = subst (λ c. IsCert c) (sym cert_is) good
 
-  pub accepted_over : (errors : List ℕ) → IsAccepted w.block.now w.parts (cert_over w nodes) errors → IsAccepted b h the_cert errors
-  accepted_over errors a = subst (λ x. IsAccepted x h the_cert errors) over.block (subst (λ p. IsAccepted w.block.now p the_cert errors) over.parts (subst (λ c. IsAccepted w.block.now w.parts c errors) cert_is a))
+  pub accepted_over : (errors : List ℕ) → IsAccepted w.block.now w.parts (cert_over w nodes) errors
+      → IsAccepted b h the_cert errors
+  accepted_over errors a =
+      subst (λ x. IsAccepted x h the_cert errors) over.block
+      (subst (λ p. IsAccepted w.block.now p the_cert errors) over.parts
+      (subst (λ c. IsAccepted w.block.now w.parts c errors) cert_is a))
 
-  pub fault_over : (f : CheckFault) → HasCheckFault w.block.now w.parts (cert_over w nodes) f → HasCheckFault b h the_cert f
-  fault_over f a = subst (λ x. HasCheckFault x h the_cert f) over.block (subst (λ p. HasCheckFault w.block.now p the_cert f) over.parts (subst (λ c. HasCheckFault w.block.now w.parts c f) cert_is a))
+  pub fault_over : (f : CheckFault) → HasCheckFault w.block.now w.parts (cert_over w nodes) f
+      → HasCheckFault b h the_cert f
+  fault_over f a = subst (λ x. HasCheckFault x h the_cert f) over.block
+      (subst (λ p. HasCheckFault w.block.now p the_cert f) over.parts
+      (subst (λ c. HasCheckFault w.block.now w.parts c f) cert_is a))
 
 -- ---- the nodes of a tree, one by one
 
-opens-front : (k m : ℕ) (nodes more : List Node) → open_from k (nodes ++ more) ≡ Some m → (n : ℕ) × (open_from k nodes ≡ Some n)
+opens-front : (k m : ℕ) (nodes more : List Node) → open_from k (nodes ++ more) ≡ Some m
+    → (n : ℕ) × (open_from k nodes ≡ Some n)
 opens-front k m [] more e = (k, refl)
 opens-front zero m (node ∷ nodes) more e = absurd (let z : ⊥ = cc in z)
 opens-front (suc k) m (Split i c ∷ nodes) more e = opens-front (suc (suc k)) m nodes more e
@@ -71,8 +81,10 @@ are_first cert k good =
       few_leaves = omega (arith, leaves, few, ap leaf_count parts);
     }
 
-pub take_next : (nodes : List Node) (k : ℕ) (node : Node) → k < length nodes → node ≡ get_or nodes k node → take (k + 1) nodes ≡ take k nodes ++ node ∷ []
-take_next nodes k node within is = ap (λ n. take n nodes) (add-one k) ∙ take-suc nodes k node within ∙ ap (λ (n : Node). take k nodes ++ n ∷ []) (sym is)
+pub take_next : (nodes : List Node) (k : ℕ) (node : Node) → k < length nodes → node ≡ get_or nodes k node
+    → take (k + 1) nodes ≡ take k nodes ++ node ∷ []
+take_next nodes k node within is = ap (λ n. take n nodes) (add-one k) ∙ take-suc nodes k node within
+    ∙ ap (λ (n : Node). take k nodes ++ n ∷ []) (sym is)
 
 pub take_all : (nodes : List Node) (k : ℕ) → length nodes ≤ k → take k nodes ≡ nodes
 take_all [] zero l = refl
@@ -82,15 +94,24 @@ take_all (node ∷ nodes) (suc k) l = ap (λ (ns : List Node). node ∷ ns) (tak
 
 -- ---- the nodes of a text, as far as it is read
 
-pub first_of_text : (version : ℕ) (text : List ℕ) (nodes : List Node) (lines : Lines) → HasRead version text nodes lines → AreFirst (length (claims_of lines)) nodes
-first_of_text version text nodes lines read = record { good = read.begins.good_nodes; opens = (lines.open_boxes, read.begins.left_open); few_leaves = read.begins.few_leaves }
+pub first_of_text : (version : ℕ) (text : List ℕ) (nodes : List Node) (lines : Lines) → HasRead version text nodes lines
+    → AreFirst (length (claims_of lines)) nodes
+first_of_text version text nodes lines read =
+    record {
+      good = read.begins.good_nodes;
+      opens = (lines.open_boxes, read.begins.left_open);
+      few_leaves =
+          read.begins.few_leaves;
+    }
 
 -- a walk that may take the next node
-pub next_first : (cert : Cert) (w : Walk) (k : ℕ) (node : Node) → IsCert cert → w.claims.now ≡ cert.claims → k < length cert.nodes → node ≡ get_or cert.nodes k node
+pub next_first : (cert : Cert) (w : Walk) (k : ℕ) (node : Node) → IsCert cert → w.claims.now ≡ cert.claims
+    → k < length cert.nodes → node ≡ get_or cert.nodes k node
     → AreFirst (length w.claims.now) (take k cert.nodes ++ node ∷ [])
 next_first cert w k node good claims within is =
     subst (λ cs. AreFirst (length cs) (take k cert.nodes ++ node ∷ [])) (sym claims)
-    (subst (λ ns. AreFirst (length cert.claims) ns) (take_next cert.nodes k node within is) (are_first cert (k + 1) good))
+    (subst (λ ns. AreFirst (length cert.claims) ns) (take_next cert.nodes k node within is)
+    (are_first cert (k + 1) good))
 
 pub IfOk-then : {A E : Type 0} (P Q : A → Type 0) (r : Result A E) → ((x : A) → P x → Q x) → IfOk r P → IfOk r Q
 IfOk-then P Q (Ok x) f p = f x p

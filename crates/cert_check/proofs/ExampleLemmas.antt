@@ -40,10 +40,14 @@ abbrev hot_box : List Interval
 hot_box = record { from = 128; to = 255 } ∷ []
 
 abbrev heater_parts : List Part
-heater_parts = record { box = cold_box; pairs = pair 1 127 ∷ [] } ∷ record { box = hot_box; pairs = pair 2 127 ∷ [] } ∷ []
+heater_parts = record { box = cold_box; pairs = pair 1 127 ∷ [] }
+    ∷ record { box = hot_box; pairs = pair 2 127 ∷ [] } ∷ []
 
 heater_tree : IsTree (whole heater) heater_cert.nodes heater_parts []
-heater_tree = split (whole heater) 1 128 (leaf_node 1 127 ∷ leaf_node 2 127 ∷ []) (leaf_node 2 127 ∷ []) [] (record { box = cold_box; pairs = pair 1 127 ∷ [] } ∷ []) (record { box = hot_box; pairs = pair 2 127 ∷ [] } ∷ []) (omega arith) (omega arith, omega arith) (leaf cold_box (record { items = (1, 127) ∷ [] }) (leaf_node 2 127 ∷ [])) (leaf hot_box (record { items = (2, 127) ∷ [] }) [])
+heater_tree = split (whole heater) 1 128 (leaf_node 1 127 ∷ leaf_node 2 127 ∷ []) (leaf_node 2 127 ∷ []) []
+    (record { box = cold_box; pairs = pair 1 127 ∷ [] } ∷ []) (record { box = hot_box; pairs = pair 2 127 ∷ [] } ∷ [])
+    (omega arith) (omega arith, omega arith) (leaf cold_box (record { items = (1, 127) ∷ [] }) (leaf_node 2 127 ∷ []))
+    (leaf hot_box (record { items = (2, 127) ∷ [] }) [])
 
 abbrev cold_rule : Rule
 cold_rule = record { cond = Is 1 1; weight = None; concl = (1, 1) ∷ [] }
@@ -52,7 +56,13 @@ abbrev hot_rule : Rule
 hot_rule = record { cond = Is 1 2; weight = None; concl = (1, 2) ∷ [] }
 
 abbrev power : Output
-power = record { lo = dec (pos 0); hi = dec (pos 1000000); singletons = dec (pos 0) ∷ dec (pos 1000000) ∷ []; default = Some (dec (pos 0)) }
+power = record {
+  lo = dec (pos 0);
+  hi = dec (pos 1000000);
+  singletons = dec (pos 0) ∷ dec (pos 1000000) ∷ [];
+  default =
+      Some (dec (pos 0));
+}
 
 cold_low : AtMost (over 127 255) (rule_span heater cold_box cold_rule).low
 cold_low = rw (condition_of-Is 1 1) (record { cross = omega arith })
@@ -66,8 +76,10 @@ cold_strong = record { term = 1; concludes_it = refl; low = cold_low; byte_low =
 box_valid : (f t : ℕ) → f ≤ t → t ≤ 255 → IsBox (record { from = f; to = t } ∷ [])
 box_valid f t h k = record { some = at f t h k }
   where
-    at : (f t : ℕ) → f ≤ t → t ≤ 255 → (n : ℕ) (v : Interval) → slice_get (record { from = f; to = t } ∷ []) n ≡ Some v → (v.from ≤ v.to) × (v.to ≤ 255)
-    at f t h k zero v e = let s : (record { from = f; to = t }) ≡ v = cc in subst (λ (i : Interval). (i.from ≤ i.to) × (i.to ≤ 255)) s (h, k)
+    at : (f t : ℕ) → f ≤ t → t ≤ 255 → (n : ℕ) (v : Interval) → slice_get (record { from = f; to = t } ∷ []) n ≡ Some v
+        → (v.from ≤ v.to) × (v.to ≤ 255)
+    at f t h k zero v e = let s : (record { from = f; to = t }) ≡ v = cc in
+        subst (λ (i : Interval). (i.from ≤ i.to) × (i.to ≤ 255)) s (h, k)
     at f t h k (suc n) v e = absurd (let z : ⊥ = cc in z)
 
 cold_bound : 19609 ≡ bound heater (term_errors heater cold_box) 1 power 1 (pair 1 127)
@@ -91,22 +103,49 @@ hot_bound = rw (condition_of-Is 1 1, condition_of-Is 1 2) refl
 hot_wide_bound : 15702 ≡ bound heater (term_errors heater hot_box) 1 power 256 (pair 2 127)
 hot_wide_bound = rw (condition_of-Is 1 1, condition_of-Is 1 2) refl
 
-bound_of : TermErrorsAre → (b : Block) (box : List Interval) (o : ℕ) (x : Output) (h : ℕ) (l : the.Leaf) (n : ℕ) → IsValid b → IsBox box → n ≡ bound b (term_errors b box) o x h l → IsBound b box o x h l n
+bound_of : TermErrorsAre → (b : Block) (box : List Interval) (o : ℕ) (x : Output) (h : ℕ) (l : the.Leaf) (n : ℕ)
+    → IsValid b → IsBox box → n ≡ bound b (term_errors b box) o x h l → IsBound b box o x h l n
 bound_of errors b box o x h l n v ib e = record { errors = term_errors b box; are_errors = errors b box v ib; is = e }
 
-cold_part : TermErrorsAre → IsValid heater → (h n : ℕ) → n ≡ bound heater (term_errors heater cold_box) 1 power h (pair 1 127) → HasBound heater 1 power h (record { box = cold_box; pairs = pair 1 127 ∷ [] }) n
-cold_part errors valid h n e = record { leaf = pair 1 127; pair_is = refl; holds = strong cold_rule (omega arith) (omega arith) (omega arith) refl cold_strong; bound_is = bound_of errors heater cold_box 1 power h (pair 1 127) n valid (box_valid 0 127 (omega arith) (omega arith)) e }
+cold_part : TermErrorsAre → IsValid heater → (h n : ℕ)
+    → n ≡ bound heater (term_errors heater cold_box) 1 power h (pair 1 127)
+    → HasBound heater 1 power h (record { box = cold_box; pairs = pair 1 127 ∷ [] }) n
+cold_part errors valid h n e =
+    record {
+      leaf = pair 1 127;
+      pair_is = refl;
+      holds =
+          strong cold_rule (omega arith) (omega arith) (omega arith) refl cold_strong;
+      bound_is =
+          bound_of errors heater cold_box 1 power h (pair 1 127) n valid
+          (box_valid 0 127 (omega arith) (omega arith)) e;
+    }
 
-hot_part : TermErrorsAre → IsValid heater → (h n : ℕ) → n ≡ bound heater (term_errors heater hot_box) 1 power h (pair 2 127) → HasBound heater 1 power h (record { box = hot_box; pairs = pair 2 127 ∷ [] }) n
-hot_part errors valid h n e = record { leaf = pair 2 127; pair_is = refl; holds = strong hot_rule (omega arith) (omega arith) (omega arith) refl hot_strong; bound_is = bound_of errors heater hot_box 1 power h (pair 2 127) n valid (box_valid 128 255 (omega arith) (omega arith)) e }
+hot_part : TermErrorsAre → IsValid heater → (h n : ℕ)
+    → n ≡ bound heater (term_errors heater hot_box) 1 power h (pair 2 127)
+    → HasBound heater 1 power h (record { box = hot_box; pairs = pair 2 127 ∷ [] }) n
+hot_part errors valid h n e =
+    record {
+      leaf = pair 2 127;
+      pair_is = refl;
+      holds =
+          strong hot_rule (omega arith) (omega arith) (omega arith) refl hot_strong;
+      bound_is =
+          bound_of errors heater hot_box 1 power h (pair 2 127) n valid
+          (box_valid 128 255 (omega arith) (omega arith)) e;
+    }
 
-heater_greatest : TermErrorsAre → IsValid heater → (h n : ℕ) → n ≡ bound heater (term_errors heater cold_box) 1 power h (pair 1 127) → n ≡ bound heater (term_errors heater hot_box) 1 power h (pair 2 127) → IsGreatestBound heater 1 power h heater_parts n
+heater_greatest : TermErrorsAre → IsValid heater → (h n : ℕ)
+    → n ≡ bound heater (term_errors heater cold_box) 1 power h (pair 1 127)
+    → n ≡ bound heater (term_errors heater hot_box) 1 power h (pair 2 127)
+    → IsGreatestBound heater 1 power h heater_parts n
 heater_greatest errors valid h n e f =
     let P : Part → Type 0 = λ p. (m : ℕ) × HasBound heater 1 power h p m × (m ≤ n) in
     let cp : Part = record { box = cold_box; pairs = pair 1 127 ∷ [] } in
     let hp : Part = record { box = hot_box; pairs = pair 2 127 ∷ [] } in
     record {
-      each = All-cons P cp (hp ∷ []) (n, cold_part errors valid h n e, omega arith) (All-cons P hp [] (n, hot_part errors valid h n f, omega arith) (All-none P));
+      each = All-cons P cp (hp ∷ []) (n, cold_part errors valid h n e, omega arith)
+          (All-cons P hp [] (n, hot_part errors valid h n f, omega arith) (All-none P));
       some = (0, cp, omega arith, refl, cold_part errors valid h n e);
     }
 
@@ -117,7 +156,9 @@ no_second : {X : Type 0} (n e : X) (k : ℕ) → slice_get (n ∷ []) (suc k) �
 no_second n e k h = let z : ⊥ = cc in z
 
 -- the one output, with the one error
-only : (b : Block) (h n : ℕ) (y : Output) (parts : List Part) → b.outputs ≡ y ∷ [] → IsGreatestBound b 1 y h parts n → (o : ℕ) (x : Output) (e : ℕ) → 1 ≤ o → output_at b o ≡ Some x → slice_get (n ∷ []) (o - 1) ≡ Some e → IsGreatestBound b o x h parts e
+only : (b : Block) (h n : ℕ) (y : Output) (parts : List Part) → b.outputs ≡ y ∷ [] → IsGreatestBound b 1 y h parts n
+    → (o : ℕ) (x : Output) (e : ℕ) → 1 ≤ o → output_at b o ≡ Some x → slice_get (n ∷ []) (o - 1) ≡ Some e
+    → IsGreatestBound b o x h parts e
 only b h n y parts eb g o x e l ex ee = by_k (o - 1) refl
   where
     by_k : (k : ℕ) → o - 1 ≡ k → IsGreatestBound b o x h parts e
@@ -128,21 +169,49 @@ only b h n y parts eb g o x e l ex ee = by_k (o - 1) refl
         let s : slice_get (y ∷ []) 0 ≡ Some x = subst (λ os. slice_get os 0 ≡ Some x) eb s0 in
         let e1 : y ≡ x = first_is y x s in
         let e2 : n ≡ e = first_is n e (subst (λ j. slice_get (n ∷ []) j ≡ Some e) ek ee) in
-        subst (λ q. IsGreatestBound b q x h parts e) eo (subst (λ z. IsGreatestBound b 1 z h parts e) e1 (subst (λ m. IsGreatestBound b 1 y h parts m) e2 g))
+        subst (λ q. IsGreatestBound b q x h parts e) eo
+        (subst (λ z. IsGreatestBound b 1 z h parts e) e1 (subst (λ m. IsGreatestBound b 1 y h parts m) e2 g))
 
 claimed_one : (n c : ℕ) → n ≤ c → (k e d : ℕ) → slice_get (n ∷ []) k ≡ Some e → slice_get (c ∷ []) k ≡ Some d → e ≤ d
 claimed_one n c h zero e d p q = let e1 : n ≡ e = cc in let e2 : c ≡ d = cc in omega arith
 claimed_one n c h (suc k) e d p q = absurd (let z : ⊥ = cc in z)
 
 heater_accepted : TermErrorsAre → IsValid heater → IsAccepted heater 1 heater_cert (19609 ∷ [])
-heater_accepted errors valid = record { claims_count = refl; errors_count = refl; parts = heater_parts; tree = heater_tree; greatest = only heater 1 19609 power heater_parts refl (heater_greatest errors valid 1 19609 cold_bound hot_bound); claimed = claimed_one 19609 19609 (omega arith) }
+heater_accepted errors valid =
+    record {
+      claims_count = refl;
+      errors_count = refl;
+      parts = heater_parts;
+      tree = heater_tree;
+      greatest =
+          only heater 1 19609 power heater_parts refl (heater_greatest errors valid 1 19609 cold_bound hot_bound);
+      claimed =
+          claimed_one 19609 19609 (omega arith);
+    }
 
 heater_accepted_wide : TermErrorsAre → IsValid heater → IsAccepted heater 256 heater_cert (15702 ∷ [])
-heater_accepted_wide errors valid = record { claims_count = refl; errors_count = refl; parts = heater_parts; tree = heater_tree; greatest = only heater 256 15702 power heater_parts refl (heater_greatest errors valid 256 15702 cold_wide_bound hot_wide_bound); claimed = claimed_one 15702 19609 (omega arith) }
+heater_accepted_wide errors valid =
+    record {
+      claims_count = refl;
+      errors_count = refl;
+      parts = heater_parts;
+      tree = heater_tree;
+      greatest =
+          only heater 256 15702 power heater_parts refl
+          (heater_greatest errors valid 256 15702 cold_wide_bound hot_wide_bound);
+      claimed =
+          claimed_one 15702 19609 (omega arith);
+    }
 
 -- with NC, a vertical edge and a complement
 abbrev keeper : Output
-keeper = record { lo = dec (pos 0); hi = dec (pos 1000000); singletons = dec (pos 0) ∷ dec (pos 1000000) ∷ []; default = None }
+keeper = record {
+  lo = dec (pos 0);
+  hi = dec (pos 1000000);
+  singletons =
+      dec (pos 0) ∷ dec (pos 1000000) ∷ [];
+  default = None;
+}
 
 abbrev on_rule : Box (Unit {0}) → Rule
 on_rule p = record { cond = Not' p (Is 1 1); weight = None; concl = (1, 2) ∷ [] }
@@ -172,10 +241,12 @@ off_strong p = record { term = 1; concludes_it = refl; low = off_low p; byte_low
     off_byte_low p = rw (condition_of-Is 1 2) (omega arith)
 
 -- between the two, neither fires
-silent_between : (p : Box (Unit {0})) → All (λ r. (t : ℕ) → IsTrue (concludes r 1 t) → IsStill (latch p) (span_of 64 191) r) (latch p).rules
+silent_between : (p : Box (Unit {0}))
+    → All (λ r. (t : ℕ) → IsTrue (concludes r 1 t) → IsStill (latch p) (span_of 64 191) r) (latch p).rules
 silent_between p =
     let P : Rule → Type 0 = λ r. (t : ℕ) → IsTrue (concludes r 1 t) → IsStill (latch p) (span_of 64 191) r in
-    All-cons P (on_rule p) (off_rule ∷ []) (λ t _. record { high = on_high p; byte_high = on_byte_high p }) (All-cons P off_rule [] (λ t _. record { high = off_high p; byte_high = off_byte_high p }) (All-none P))
+    All-cons P (on_rule p) (off_rule ∷ []) (λ t _. record { high = on_high p; byte_high = on_byte_high p })
+    (All-cons P off_rule [] (λ t _. record { high = off_high p; byte_high = off_byte_high p }) (All-none P))
   where
     on_high : (p : Box (Unit {0})) → (rule_span (latch p) (span_of 64 191) (on_rule p)).high.num ≡ 0
     on_high p = rw (condition_of-Not p (Is 1 1), condition_of-Is 1 1) refl
@@ -192,29 +263,78 @@ silent_between p =
 on_bound : (p : Box (Unit {0})) → 3922 ≡ bound (latch p) (term_errors (latch p) (span_of 0 63)) 1 keeper 1 (pair 1 255)
 on_bound p = rw (condition_of-Not p (Is 1 1), condition_of-Is 1 1, condition_of-Is 1 2) refl
 
-off_bound : (p : Box (Unit {0})) → 3922 ≡ bound (latch p) (term_errors (latch p) (span_of 192 255)) 1 keeper 1 (pair 2 255)
+off_bound : (p : Box (Unit {0}))
+    → 3922 ≡ bound (latch p) (term_errors (latch p) (span_of 192 255)) 1 keeper 1 (pair 2 255)
 off_bound p = rw (condition_of-Not p (Is 1 1), condition_of-Is 1 1, condition_of-Is 1 2) refl
 
 abbrev part : ℕ → ℕ → ℕ → ℕ → Part
 part f t r k = record { box = span_of f t; pairs = pair r k ∷ [] }
 
-latch_tree : (p : Box (Unit {0})) → IsTree (whole (latch p)) latch_cert.nodes (part 0 63 1 255 ∷ part 64 191 0 0 ∷ part 192 255 2 255 ∷ []) []
-latch_tree p = split (span_of 0 255) 1 64 (leaf_node 1 255 ∷ Split 1 192 ∷ leaf_node 0 0 ∷ leaf_node 2 255 ∷ []) (Split 1 192 ∷ leaf_node 0 0 ∷ leaf_node 2 255 ∷ []) [] (part 0 63 1 255 ∷ []) (part 64 191 0 0 ∷ part 192 255 2 255 ∷ []) (omega arith) (omega arith, omega arith) (leaf (span_of 0 63) (record { items = (1, 255) ∷ [] }) (Split 1 192 ∷ leaf_node 0 0 ∷ leaf_node 2 255 ∷ []))
-    (split (span_of 64 255) 1 192 (leaf_node 0 0 ∷ leaf_node 2 255 ∷ []) (leaf_node 2 255 ∷ []) [] (part 64 191 0 0 ∷ []) (part 192 255 2 255 ∷ []) (omega arith) (omega arith, omega arith) (leaf (span_of 64 191) (record { items = (0, 0) ∷ [] }) (leaf_node 2 255 ∷ [])) (leaf (span_of 192 255) (record { items = (2, 255) ∷ [] }) []))
+latch_tree : (p : Box (Unit {0}))
+    → IsTree (whole (latch p)) latch_cert.nodes (part 0 63 1 255 ∷ part 64 191 0 0 ∷ part 192 255 2 255 ∷ []) []
+latch_tree p = split (span_of 0 255) 1 64 (leaf_node 1 255 ∷ Split 1 192 ∷ leaf_node 0 0 ∷ leaf_node 2 255 ∷ [])
+    (Split 1 192 ∷ leaf_node 0 0 ∷ leaf_node 2 255 ∷ []) [] (part 0 63 1 255 ∷ [])
+    (part 64 191 0 0 ∷ part 192 255 2 255 ∷ []) (omega arith) (omega arith, omega arith)
+    (leaf (span_of 0 63) (record { items = (1, 255) ∷ [] }) (Split 1 192 ∷ leaf_node 0 0 ∷ leaf_node 2 255 ∷ []))
+    (split (span_of 64 255) 1 192 (leaf_node 0 0 ∷ leaf_node 2 255 ∷ []) (leaf_node 2 255 ∷ []) []
+    (part 64 191 0 0 ∷ []) (part 192 255 2 255 ∷ []) (omega arith) (omega arith, omega arith)
+    (leaf (span_of 64 191) (record { items = (0, 0) ∷ [] }) (leaf_node 2 255 ∷ []))
+    (leaf (span_of 192 255) (record { items = (2, 255) ∷ [] }) []))
 
-latch_greatest : TermErrorsAre → (p : Box (Unit {0})) → IsValid (latch p) → IsGreatestBound (latch p) 1 keeper 1 (part 0 63 1 255 ∷ part 64 191 0 0 ∷ part 192 255 2 255 ∷ []) 3922
+latch_greatest : TermErrorsAre → (p : Box (Unit {0})) → IsValid (latch p)
+    → IsGreatestBound (latch p) 1 keeper 1 (part 0 63 1 255 ∷ part 64 191 0 0 ∷ part 192 255 2 255 ∷ []) 3922
 latch_greatest errors p v =
     let P : Part → Type 0 = λ q. (m : ℕ) × HasBound (latch p) 1 keeper 1 q m × (m ≤ 3922) in
-    let first : HasBound (latch p) 1 keeper 1 (part 0 63 1 255) 3922 = record { leaf = pair 1 255; pair_is = refl; holds = strong (on_rule p) (omega arith) (omega arith) (omega arith) refl (on_strong p); bound_is = bound_of errors (latch p) (span_of 0 63) 1 keeper 1 (pair 1 255) 3922 v (box_valid 0 63 (omega arith) (omega arith)) (on_bound p) } in
-    let second : HasBound (latch p) 1 keeper 1 (part 64 191 0 0) 0 = record { leaf = pair 0 0; pair_is = refl; holds = silent refl refl (silent_between p); bound_is = bound_of errors (latch p) (span_of 64 191) 1 keeper 1 (pair 0 0) 0 v (box_valid 64 191 (omega arith) (omega arith)) refl } in
-    let third : HasBound (latch p) 1 keeper 1 (part 192 255 2 255) 3922 = record { leaf = pair 2 255; pair_is = refl; holds = strong off_rule (omega arith) (omega arith) (omega arith) refl (off_strong p); bound_is = bound_of errors (latch p) (span_of 192 255) 1 keeper 1 (pair 2 255) 3922 v (box_valid 192 255 (omega arith) (omega arith)) (off_bound p) } in
+    let first : HasBound (latch p) 1 keeper 1 (part 0 63 1 255) 3922 =
     record {
-      each = All-cons P (part 0 63 1 255) (part 64 191 0 0 ∷ part 192 255 2 255 ∷ []) (3922, first, omega arith) (All-cons P (part 64 191 0 0) (part 192 255 2 255 ∷ []) (0, second, omega arith) (All-cons P (part 192 255 2 255) [] (3922, third, omega arith) (All-none P)));
+      leaf = pair 1 255;
+      pair_is = refl;
+      holds =
+          strong (on_rule p) (omega arith) (omega arith) (omega arith) refl (on_strong p);
+      bound_is =
+          bound_of errors (latch p) (span_of 0 63) 1 keeper 1 (pair 1 255) 3922 v
+          (box_valid 0 63 (omega arith) (omega arith)) (on_bound p);
+    } in
+    let second : HasBound (latch p) 1 keeper 1 (part 64 191 0 0) 0 =
+    record {
+      leaf = pair 0 0;
+      pair_is = refl;
+      holds = silent refl refl (silent_between p);
+      bound_is =
+          bound_of errors (latch p) (span_of 64 191) 1 keeper 1 (pair 0 0) 0 v
+          (box_valid 64 191 (omega arith) (omega arith)) refl;
+    } in
+    let third : HasBound (latch p) 1 keeper 1 (part 192 255 2 255) 3922 =
+    record {
+      leaf = pair 2 255;
+      pair_is = refl;
+      holds =
+          strong off_rule (omega arith) (omega arith) (omega arith) refl (off_strong p);
+      bound_is =
+          bound_of errors (latch p) (span_of 192 255) 1 keeper 1 (pair 2 255) 3922 v
+          (box_valid 192 255 (omega arith) (omega arith)) (off_bound p);
+    } in
+    record {
+      each = All-cons P (part 0 63 1 255) (part 64 191 0 0 ∷ part 192 255 2 255 ∷ []) (3922, first, omega arith)
+          (All-cons P (part 64 191 0 0) (part 192 255 2 255 ∷ []) (0, second, omega arith)
+          (All-cons P (part 192 255 2 255) [] (3922, third, omega arith) (All-none P)));
       some = (0, part 0 63 1 255, omega arith, refl, first);
     }
 
-latch_accepted : TermErrorsAre → (p : Box (Unit {0})) → IsValid (latch p) → IsAccepted (latch p) 1 latch_cert (3922 ∷ [])
-latch_accepted errors p valid = record { claims_count = refl; errors_count = refl; parts = part 0 63 1 255 ∷ part 64 191 0 0 ∷ part 192 255 2 255 ∷ []; tree = latch_tree p; greatest = only (latch p) 1 3922 keeper (part 0 63 1 255 ∷ part 64 191 0 0 ∷ part 192 255 2 255 ∷ []) refl (latch_greatest errors p valid); claimed = claimed_one 3922 3922 (omega arith) }
+latch_accepted : TermErrorsAre → (p : Box (Unit {0})) → IsValid (latch p)
+    → IsAccepted (latch p) 1 latch_cert (3922 ∷ [])
+latch_accepted errors p valid =
+    record {
+      claims_count = refl;
+      errors_count = refl;
+      parts =
+          part 0 63 1 255 ∷ part 64 191 0 0 ∷ part 192 255 2 255 ∷ [];
+      tree = latch_tree p;
+      greatest =
+          only (latch p) 1 3922 keeper (part 0 63 1 255 ∷ part 64 191 0 0 ∷ part 192 255 2 255 ∷ []) refl
+          (latch_greatest errors p valid);
+      claimed = claimed_one 3922 3922 (omega arith);
+    }
 
 pub examples_accepted : ExamplesAreValid → TermErrorsAre → ExamplesAreAccepted
 examples_accepted valid errors =

@@ -16,7 +16,8 @@ use Rattle.box_tree.specs.declared.cert.Cert.{Cert}
 use Rattle.cert_check.specs.declared.checker.CheckFault.{CheckFault}
 use Rattle.cert_check.specs.Trees.{Part, IsTree, leaf, split, leaves_of, left_of, right_of, IsCut, whole}
 use Rattle.cert_check.specs.Acceptance.{HasBound, IsAccepted}
-use Rattle.cert_check.specs.Faults.{line_at, Reaches, root, in_left, in_right, HasPartFault, IsPairFault, bad_rule, fails, HasTreeFault, bad_cut, bad_leaf, outputs, tree, claimed}
+use Rattle.cert_check.specs.Faults.{line_at, Reaches, root, in_left, in_right, HasPartFault, IsPairFault, bad_rule}
+use Rattle.cert_check.specs.Faults.{fails, HasTreeFault, bad_cut, bad_leaf, outputs, tree, claimed}
 use Rattle.cert_check.specs.Laws.{FaultyCertsFail}
 use Rattle.cert_check.proofs.Determined.{tree_unique, errors_unique}
 
@@ -40,7 +41,8 @@ halves box nodes parts rest (split x j d n m r left right some cut tl tr) i c be
     (subst (λ k. Halves x j k below (left ++ right) r) ec (subst (λ k. Halves x j d k (left ++ right) r) en
     (record { left = left; right = right; mid = m; cut = cut; left_tree = tl; right_tree = tr; parts_are = refl })))
 
-one_part : (box : List Interval) (nodes : List Node) (parts : List Part) (rest : List Node) → IsTree box nodes parts rest
+one_part : (box : List Interval) (nodes : List Node) (parts : List Part) (rest : List Node)
+    → IsTree box nodes parts rest
     → (pairs : ArrayVec (ℕ × ℕ)) (below : List Node) → nodes ≡ Leaf pairs ∷ below
     → record { box = box; pairs = leaves_of pairs.items } ∷ [] ≡ parts
 one_part box nodes parts rest (leaf x pairs' r) pairs below e = let s : pairs ≡ pairs' = cc in ap
@@ -90,7 +92,8 @@ Holds-pair b box o pair (silent no_rule no_part still) = record {
   concludes_one = λ z. absurd (omega arith);
 }
 
-pub pair_fails : FaultyLeavesFail → (b : Block) (box : List Interval) (o : ℕ) (pair : the.Leaf) (line : ℕ) (f : CheckFault)
+pub pair_fails : FaultyLeavesFail
+    → (b : Block) (box : List Interval) (o : ℕ) (pair : the.Leaf) (line : ℕ) (f : CheckFault)
     → IsPairFault b box o pair line f → Holds b box o pair → ⊥
 pair_fails fail b box o pair line f (bad_rule n) h = n (Holds-pair b box o pair h)
 pair_fails fail b box o pair line f (fails g p e) h = fail b box o pair g e h
@@ -100,15 +103,18 @@ part_fails : FaultyLeavesFail → (b : Block) (h : ℕ) (p : Part) (line : ℕ) 
 part_fails fail b h p line f x n fault bound =
     let s : Some bound.leaf ≡ Some fault.leaf = sym bound.pair_is ∙ fault.pair_is in
     let same : bound.leaf ≡ fault.leaf = cc in
-    pair_fails fail b p.box fault.output fault.leaf line f fault.is (subst (λ l. Holds b p.box fault.output l) same bound.holds)
+    pair_fails fail b p.box fault.output fault.leaf line f fault.is
+    (subst (λ l. Holds b p.box fault.output l) same bound.holds)
 
 only_part : (P : Part → Type 0) (p : Part) (parts : List Part) → p ∷ [] ≡ parts → All P parts → P p
 only_part P p parts e a = subst (λ ps. All P ps) (sym e) a 0 p (omega arith)
 
-pub tree_fails : FaultyLeavesFail → (b : Block) (h : ℕ) (cert : Cert) (errors : List ℕ) (f : CheckFault) → HasTreeFault b cert.nodes f
+pub tree_fails : FaultyLeavesFail → (b : Block) (h : ℕ) (cert : Cert) (errors : List ℕ) (f : CheckFault)
+    → HasTreeFault b cert.nodes f
     → IsAccepted b h cert errors → ⊥
 tree_fails fail b h cert errors f (bad_cut box i c rest reach outside) a =
-    let t = inside b (λ _. Unit {0}) (whole b) cert.nodes box (Split i c ∷ rest) reach a.parts [] a.tree (λ k d l. tt) in
+    let t = inside b (λ _. Unit {0}) (whole b) cert.nodes box (Split i c ∷ rest) reach a.parts [] a.tree
+    (λ k d l. tt) in
     outside (halves box (Split i c ∷ rest) t.0 t.1 t.2 i c rest refl).cut
 tree_fails fail b h cert errors f (bad_leaf box pairs rest g reach fault) a =
     let o = fault.output in
@@ -128,7 +134,9 @@ pub certs_fail : FaultyLeavesFail → BoundsAreDetermined → FaultyCertsFail
 certs_fail fail one b h cert errors f v (outputs differ) a = differ a.claims_count
 certs_fail fail one b h cert errors f v (tree g count t) a = tree_fails fail b h cert errors g t a
 certs_fail fail one b h cert errors f v (claimed es k over count accepted) a =
-    let same : es ≡ errors = errors_unique one b h (record { claims = es; nodes = cert.nodes }) cert es errors refl v accepted a in
-    let n = a.claimed k over.error over.claim (subst (λ xs. slice_get xs k ≡ Some over.error) same over.error_is) over.claim_is in
+    let same : es ≡ errors =
+    errors_unique one b h (record { claims = es; nodes = cert.nodes }) cert es errors refl v accepted a in
+    let n = a.claimed k over.error over.claim (subst (λ xs. slice_get xs k ≡ Some over.error) same over.error_is)
+    over.claim_is in
     let m = over.over in
     let z : ⊥ = omega arith in z

@@ -17,7 +17,9 @@ use Rattle.cert_check.specs.declared.checker.CheckFault.{CheckFault}
 use Rattle.cert_check.specs.declared.checker.CheckFault.TheVariants as fault
 use Rattle.cert_check.specs.declared.text.TextFault.TheVariants as refusal
 use Rattle.cert_check.specs.Trees.{Part, IsTree, leaf, split, part_of, left_of, right_of, IsCut, whole}
-use Rattle.cert_check.specs.Faults.{AllHold, line_at, Reaches, root, in_left, in_right, HasPartFault, IsPairFault, bad_rule, fails, HasTreeFault, bad_cut, bad_leaf, IsFirstOver, HasCheckFault, outputs, tree, claimed}
+use Rattle.cert_check.specs.Faults.{AllHold, line_at, Reaches, root, in_left, in_right, HasPartFault, IsPairFault}
+use Rattle.cert_check.specs.Faults.{bad_rule, fails, HasTreeFault, bad_cut, bad_leaf, IsFirstOver, HasCheckFault}
+use Rattle.cert_check.specs.Faults.{outputs, tree, claimed}
 use Rattle.cert_check.specs.TextFaults.{of_text, of_cert}
 use Rattle.cert_check.specs.Laws.{CheckFaultsAreOne, TextAnswersAreOne}
 use Rattle.cert_check.proofs.Determined.{tree_unique, errors_unique}
@@ -26,102 +28,143 @@ use Rattle.error_bound.specs.Laws.{BoundsAreDetermined}
 
 -- ---- a leaf's line
 
-one_pair_fault : LeafFaultsAreOne → (b : Block) (box : List Interval) (o : ℕ) (pair : the.Leaf) (line : ℕ) (f g : CheckFault) → IsPairFault b box o pair line f → IsPairFault b box o pair line g → f ≡ g
+one_pair_fault : LeafFaultsAreOne
+    → (b : Block) (box : List Interval) (o : ℕ) (pair : the.Leaf) (line : ℕ) (f g : CheckFault)
+    → IsPairFault b box o pair line f → IsPairFault b box o pair line g → f ≡ g
 one_pair_fault one b box o pair line _ _ (bad_rule n) (bad_rule m) = refl
 one_pair_fault one b box o pair line _ _ (bad_rule n) (fails g p e) = absurd (n p)
 one_pair_fault one b box o pair line _ _ (fails f p e) (bad_rule m) = absurd (m p)
-one_pair_fault one b box o pair line _ _ (fails f p e) (fails g q d) = ap (λ (l : LeafFault). fault.Leaf line l) (one b box o pair f g e d)
+one_pair_fault one b box o pair line _ _ (fails f p e) (fails g q d) =
+    ap (λ (l : LeafFault). fault.Leaf line l) (one b box o pair f g e d)
 
 -- the pair at fault stands before no other that is the first
-none_before : FaultyLeavesFail → (b : Block) (p : Part) (line : ℕ) (f g : CheckFault) (first : HasPartFault b p line f) (other : HasPartFault b p line g) → other.output ≤ first.output
+none_before : FaultyLeavesFail
+    → (b : Block) (p : Part) (line : ℕ) (f g : CheckFault) (first : HasPartFault b p line f)
+    (other : HasPartFault b p line g) → other.output ≤ first.output
 none_before fail b p line f g first other = ⊎_elim
-    (λ (l : first.output < other.output). absurd (pair_fails fail b p.box first.output first.leaf line f first.is (other.before first.output first.leaf first.from l first.pair_is)))
+    (λ (l : first.output < other.output). absurd
+    (pair_fails fail b p.box first.output first.leaf line f first.is
+    (other.before first.output first.leaf first.from l first.pair_is)))
     (λ (l : other.output ≤ first.output). l)
     (cases_lt first.output other.output)
 
-one_part_fault : LeafFaultsAreOne → FaultyLeavesFail → (b : Block) (p : Part) (line : ℕ) (f g : CheckFault) → HasPartFault b p line f → HasPartFault b p line g → f ≡ g
+one_part_fault : LeafFaultsAreOne → FaultyLeavesFail → (b : Block) (p : Part) (line : ℕ) (f g : CheckFault)
+    → HasPartFault b p line f → HasPartFault b p line g → f ≡ g
 one_part_fault one fail b p line f g first second =
     let up = none_before fail b p line f g first second in
     let down = none_before fail b p line g f second first in
     let same : first.output ≡ second.output = omega (arith, up, down) in
-    let pairs : Some first.leaf ≡ Some second.leaf = sym first.pair_is ∙ ap (λ o. slice_get p.pairs (o - 1)) same ∙ second.pair_is in
+    let pairs : Some first.leaf ≡ Some second.leaf = sym first.pair_is ∙ ap (λ o. slice_get p.pairs (o - 1)) same
+    ∙ second.pair_is in
     let leaves : first.leaf ≡ second.leaf = cc in
     one_pair_fault one b p.box second.output second.leaf line f g
-    (subst (λ l. IsPairFault b p.box second.output l line f) leaves (subst (λ o. IsPairFault b p.box o first.leaf line f) same first.is)) second.is
+    (subst (λ l. IsPairFault b p.box second.output l line f) leaves
+    (subst (λ o. IsPairFault b p.box o first.leaf line f) same first.is)) second.is
 
 -- ---- the first node at fault
 
 -- the first of the nodes is at fault on this box
 data Stops (b : Block) (box : List Interval) (rest : List Node) (line : ℕ) : CheckFault → Type 0 where
-  at_cut : (i c : ℕ) (after : List Node) → rest ≡ Split i c ∷ after → (IsCut (i - 1) c box → ⊥) → Stops b box rest line (fault.BadCut line)
-  at_leaf : (pairs : ArrayVec (ℕ × ℕ)) (after : List Node) (f : CheckFault) → rest ≡ Leaf pairs ∷ after → HasPartFault b (part_of box pairs.items) line f → Stops b box rest line f
+  at_cut : (i c : ℕ) (after : List Node) → rest ≡ Split i c ∷ after → (IsCut (i - 1) c box → ⊥)
+      → Stops b box rest line (fault.BadCut line)
+  at_leaf : (pairs : ArrayVec (ℕ × ℕ)) (after : List Node) (f : CheckFault) → rest ≡ Leaf pairs ∷ after
+      → HasPartFault b (part_of box pairs.items) line f → Stops b box rest line f
 
-no_cut : (b : Block) (box : List Interval) (rest : List Node) (line : ℕ) (f : CheckFault) (i c : ℕ) (nodes : List Node) → Stops b box rest line f → rest ≡ Split i c ∷ nodes → IsCut (i - 1) c box → ⊥
+no_cut : (b : Block) (box : List Interval) (rest : List Node) (line : ℕ) (f : CheckFault) (i c : ℕ) (nodes : List Node)
+    → Stops b box rest line f → rest ≡ Split i c ∷ nodes → IsCut (i - 1) c box → ⊥
 no_cut b box rest line _ i c nodes (at_cut j d after e none) same cut =
     let both : Split j d ∷ after ≡ Split i c ∷ nodes = sym e ∙ same in
     let is : j ≡ i = cc in
     let cs : d ≡ c = cc in
     none (subst (λ k. IsCut (k - 1) d box) (sym is) (subst (λ k. IsCut (i - 1) k box) (sym cs) cut))
-no_cut b box rest line _ i c nodes (at_leaf pairs after f e part) same cut = absurd (let both : Leaf pairs ∷ after ≡ Split i c ∷ nodes = sym e ∙ same in let z : ⊥ = cc in z)
+no_cut b box rest line _ i c nodes (at_leaf pairs after f e part) same cut =
+    absurd (let both : Leaf pairs ∷ after ≡ Split i c ∷ nodes = sym e ∙ same in let z : ⊥ = cc in z)
 
-no_leaf : FaultyLeavesFail → (b : Block) (box : List Interval) (pairs : ArrayVec (ℕ × ℕ)) (rest : List Node) (line : ℕ) (f : CheckFault) → Stops b box (Leaf pairs ∷ rest) line f → AllHold b (part_of box pairs.items) → ⊥
+no_leaf : FaultyLeavesFail
+    → (b : Block) (box : List Interval) (pairs : ArrayVec (ℕ × ℕ)) (rest : List Node) (line : ℕ) (f : CheckFault)
+    → Stops b box (Leaf pairs ∷ rest) line f → AllHold b (part_of box pairs.items) → ⊥
 no_leaf fail b box pairs rest line _ (at_cut j d after e none) hold = absurd (let z : ⊥ = cc in z)
 no_leaf fail b box pairs rest line _ (at_leaf others after f e part) hold =
     let same : others ≡ pairs = cc in
     let here = subst (λ (a : ArrayVec (ℕ × ℕ)). HasPartFault b (part_of box a.items) line f) same part in
     let to = here.to in
-    pair_fails fail b box here.output here.leaf line f here.is (hold here.output here.leaf here.from (omega arith) here.pair_is)
+    pair_fails fail b box here.output here.leaf line f here.is
+    (hold here.output here.leaf here.from (omega arith) here.pair_is)
 
 -- a tree whose leaves hold has no node at fault first
-no_stop : FaultyLeavesFail → (b : Block) (box : List Interval) (nodes : List Node) (parts : List Part) (after : List Node) (line : ℕ) (f : CheckFault) → IsTree box nodes parts after → All (AllHold b) parts → Stops b box nodes line f → ⊥
-no_stop fail b box nodes parts after line f (leaf x pairs rest) all stop = no_leaf fail b x pairs rest line f stop (all 0 (part_of x pairs.items) (omega arith))
-no_stop fail b box nodes parts after line f (split x i c n m rest left right some cut tl tr) all stop = no_cut b x (Split i c ∷ n) line f i c n stop refl cut
+no_stop : FaultyLeavesFail
+    → (b : Block) (box : List Interval) (nodes : List Node) (parts : List Part) (after : List Node) (line : ℕ)
+    (f : CheckFault) → IsTree box nodes parts after → All (AllHold b) parts → Stops b box nodes line f → ⊥
+no_stop fail b box nodes parts after line f (leaf x pairs rest) all stop =
+    no_leaf fail b x pairs rest line f stop (all 0 (part_of x pairs.items) (omega arith))
+no_stop fail b box nodes parts after line f (split x i c n m rest left right some cut tl tr) all stop =
+    no_cut b x (Split i c ∷ n) line f i c n stop refl cut
 
-none_inside : FaultyLeavesFail → (b : Block) (box : List Interval) (nodes : List Node) (parts : List Part) (after : List Node) (found : List Interval) (rest : List Node) (line : ℕ) (f : CheckFault)
-    → IsTree box nodes parts after → All (AllHold b) parts → Reaches b box nodes found rest → Stops b found rest line f → ⊥
+none_inside : FaultyLeavesFail
+    → (b : Block) (box : List Interval) (nodes : List Node) (parts : List Part) (after : List Node)
+    (found : List Interval) (rest : List Node) (line : ℕ) (f : CheckFault)
+    → IsTree box nodes parts after → All (AllHold b) parts → Reaches b box nodes found rest
+    → Stops b found rest line f → ⊥
 none_inside fail b box nodes parts after found rest line f t all reach stop =
     let i = inside b (AllHold b) box nodes found rest reach parts after t all in
     no_stop fail b found rest i.0 i.1 line f i.2 i.3 stop
 
-same_side : (side : ℕ → ℕ → List Interval → List Interval) (i j c d : ℕ) (x y : List Interval) → i ≡ j → c ≡ d → x ≡ y → side (i - 1) c x ≡ side (j - 1) d y
+same_side : (side : ℕ → ℕ → List Interval → List Interval) (i j c d : ℕ) (x y : List Interval) → i ≡ j → c ≡ d → x ≡ y
+    → side (i - 1) c x ≡ side (j - 1) d y
 same_side side i j c d x y e1 e2 e3 = cc
 
 -- what stands first at fault in a tree stands at one place
-one_place : FaultyLeavesFail → (b : Block) (x y : List Interval) (ns ms : List Node) (found found' : List Interval) (rest rest' : List Node) (line line' : ℕ) (f g : CheckFault) → x ≡ y → ns ≡ ms
-    → Reaches b x ns found rest → Stops b found rest line f → Reaches b y ms found' rest' → Stops b found' rest' line' g → (found ≡ found') × (rest ≡ rest')
+one_place : FaultyLeavesFail
+    → (b : Block) (x y : List Interval) (ns ms : List Node) (found found' : List Interval) (rest rest' : List Node)
+    (line line' : ℕ) (f g : CheckFault) → x ≡ y → ns ≡ ms
+    → Reaches b x ns found rest → Stops b found rest line f → Reaches b y ms found' rest' → Stops b found' rest' line' g
+    → (found ≡ found') × (rest ≡ rest')
 one_place fail b x y ns ms _ _ _ _ line line' f g ex en (root _ _) stop (root _ _) stop' = (ex, en)
-one_place fail b x y ns ms _ _ _ _ line line' f g ex en (root _ _) stop (in_left _ i c n found' rest' some cut reach) stop' =
+one_place fail b x y ns ms _ _ _ _ line line' f g ex en (root _ _) stop
+    (in_left _ i c n found' rest' some cut reach) stop' =
     absurd (no_cut b x ns line f i c n stop en (subst (λ v. IsCut (i - 1) c v) (sym ex) cut))
-one_place fail b x y ns ms _ _ _ _ line line' f g ex en (root _ _) stop (in_right _ i c n m ps found' rest' some cut t hold reach) stop' =
+one_place fail b x y ns ms _ _ _ _ line line' f g ex en (root _ _) stop
+    (in_right _ i c n m ps found' rest' some cut t hold reach) stop' =
     absurd (no_cut b x ns line f i c n stop en (subst (λ v. IsCut (i - 1) c v) (sym ex) cut))
-one_place fail b x y ns ms _ _ _ _ line line' f g ex en (in_left _ i c n found rest some cut reach) stop (root _ _) stop' =
+one_place fail b x y ns ms _ _ _ _ line line' f g ex en (in_left _ i c n found rest some cut reach) stop
+    (root _ _) stop' =
     absurd (no_cut b y ms line' g i c n stop' (sym en) (subst (λ v. IsCut (i - 1) c v) ex cut))
-one_place fail b x y ns ms _ _ _ _ line line' f g ex en (in_right _ i c n m ps found rest some cut t hold reach) stop (root _ _) stop' =
+one_place fail b x y ns ms _ _ _ _ line line' f g ex en (in_right _ i c n m ps found rest some cut t hold reach) stop
+    (root _ _) stop' =
     absurd (no_cut b y ms line' g i c n stop' (sym en) (subst (λ v. IsCut (i - 1) c v) ex cut))
-one_place fail b x y ns ms _ _ _ _ line line' f g ex en (in_left _ i c n found rest some cut reach) stop (in_left _ j d k found' rest' some' cut' reach') stop' =
+one_place fail b x y ns ms _ _ _ _ line line' f g ex en (in_left _ i c n found rest some cut reach) stop
+    (in_left _ j d k found' rest' some' cut' reach') stop' =
     let is : i ≡ j = cc in
     let cs : c ≡ d = cc in
     let ks : n ≡ k = cc in
-    one_place fail b (left_of (i - 1) c x) (left_of (j - 1) d y) n k found found' rest rest' line line' f g (same_side left_of i j c d x y is cs ex) ks reach stop reach' stop'
-one_place fail b x y ns ms _ _ _ _ line line' f g ex en (in_left _ i c n found rest some cut reach) stop (in_right _ j d k m ps found' rest' some' cut' t hold reach') stop' =
+    one_place fail b (left_of (i - 1) c x) (left_of (j - 1) d y) n k found found' rest rest' line line' f g
+    (same_side left_of i j c d x y is cs ex) ks reach stop reach' stop'
+one_place fail b x y ns ms _ _ _ _ line line' f g ex en (in_left _ i c n found rest some cut reach) stop
+    (in_right _ j d k m ps found' rest' some' cut' t hold reach') stop' =
     let is : i ≡ j = cc in
     let cs : c ≡ d = cc in
     let ks : n ≡ k = cc in
     let same = same_side left_of i j c d x y is cs ex in
-    absurd (none_inside fail b (left_of (i - 1) c x) n ps m found rest line f (subst (λ v. IsTree v n ps m) (sym same) (subst (λ v. IsTree (left_of (j - 1) d y) v ps m) (sym ks) t)) hold reach stop)
-one_place fail b x y ns ms _ _ _ _ line line' f g ex en (in_right _ i c n m ps found rest some cut t hold reach) stop (in_left _ j d k found' rest' some' cut' reach') stop' =
+    absurd (none_inside fail b (left_of (i - 1) c x) n ps m found rest line f
+    (subst (λ v. IsTree v n ps m) (sym same) (subst (λ v. IsTree (left_of (j - 1) d y) v ps m) (sym ks) t)) hold
+    reach stop)
+one_place fail b x y ns ms _ _ _ _ line line' f g ex en (in_right _ i c n m ps found rest some cut t hold reach) stop
+    (in_left _ j d k found' rest' some' cut' reach') stop' =
     let is : i ≡ j = cc in
     let cs : c ≡ d = cc in
     let ks : n ≡ k = cc in
     let same = same_side left_of i j c d x y is cs ex in
-    absurd (none_inside fail b (left_of (j - 1) d y) k ps m found' rest' line' g (subst (λ v. IsTree v k ps m) same (subst (λ v. IsTree (left_of (i - 1) c x) v ps m) ks t)) hold reach' stop')
-one_place fail b x y ns ms _ _ _ _ line line' f g ex en (in_right _ i c n m ps found rest some cut t hold reach) stop (in_right _ j d k o qs found' rest' some' cut' t' hold' reach') stop' =
+    absurd (none_inside fail b (left_of (j - 1) d y) k ps m found' rest' line' g
+    (subst (λ v. IsTree v k ps m) same (subst (λ v. IsTree (left_of (i - 1) c x) v ps m) ks t)) hold reach' stop')
+one_place fail b x y ns ms _ _ _ _ line line' f g ex en (in_right _ i c n m ps found rest some cut t hold reach) stop
+    (in_right _ j d k o qs found' rest' some' cut' t' hold' reach') stop' =
     let is : i ≡ j = cc in
     let cs : c ≡ d = cc in
     let ks : n ≡ k = cc in
     let left = same_side left_of i j c d x y is cs ex in
     let mids = (tree_unique (left_of (i - 1) c x) (left_of (j - 1) d y) n k ps qs m o t t' left ks).1 in
-    one_place fail b (right_of (i - 1) c x) (right_of (j - 1) d y) m o found found' rest rest' line line' f g (same_side right_of i j c d x y is cs ex) mids reach stop reach' stop'
+    one_place fail b (right_of (i - 1) c x) (right_of (j - 1) d y) m o found found' rest rest' line line' f g
+    (same_side right_of i j c d x y is cs ex) mids reach stop reach' stop'
 
 record StopsAt (b : Block) (nodes : List Node) (f : CheckFault) : Type 0 where
   box : List Interval
@@ -130,49 +173,70 @@ record StopsAt (b : Block) (nodes : List Node) (f : CheckFault) : Type 0 where
   stops : Stops b box rest (line_at nodes rest) f
 
 stops_at : (b : Block) (nodes : List Node) (f : CheckFault) → HasTreeFault b nodes f → StopsAt b nodes f
-stops_at b nodes _ (bad_cut box i c rest reach none) = record { box = box; rest = Split i c ∷ rest; reached = reach; stops = at_cut i c rest refl none }
-stops_at b nodes f (bad_leaf box pairs rest g reach part) = record { box = box; rest = Leaf pairs ∷ rest; reached = reach; stops = at_leaf pairs rest f refl part }
+stops_at b nodes _ (bad_cut box i c rest reach none) =
+    record { box = box; rest = Split i c ∷ rest; reached = reach; stops = at_cut i c rest refl none }
+stops_at b nodes f (bad_leaf box pairs rest g reach part) =
+    record { box = box; rest = Leaf pairs ∷ rest; reached = reach; stops = at_leaf pairs rest f refl part }
 
-one_stop : LeafFaultsAreOne → FaultyLeavesFail → (b : Block) (box : List Interval) (rest : List Node) (line : ℕ) (f g : CheckFault) → Stops b box rest line f → Stops b box rest line g → f ≡ g
+one_stop : LeafFaultsAreOne → FaultyLeavesFail
+    → (b : Block) (box : List Interval) (rest : List Node) (line : ℕ) (f g : CheckFault) → Stops b box rest line f
+    → Stops b box rest line g → f ≡ g
 one_stop one fail b box rest line _ _ (at_cut i c after e none) (at_cut j d after' e' none') = refl
-one_stop one fail b box rest line _ _ (at_cut i c after e none) (at_leaf pairs after' g e' part) = absurd (let both : Split i c ∷ after ≡ Leaf pairs ∷ after' = sym e ∙ e' in let z : ⊥ = cc in z)
-one_stop one fail b box rest line _ _ (at_leaf pairs after f e part) (at_cut j d after' e' none') = absurd (let both : Leaf pairs ∷ after ≡ Split j d ∷ after' = sym e ∙ e' in let z : ⊥ = cc in z)
+one_stop one fail b box rest line _ _ (at_cut i c after e none) (at_leaf pairs after' g e' part) =
+    absurd (let both : Split i c ∷ after ≡ Leaf pairs ∷ after' = sym e ∙ e' in let z : ⊥ = cc in z)
+one_stop one fail b box rest line _ _ (at_leaf pairs after f e part) (at_cut j d after' e' none') =
+    absurd (let both : Leaf pairs ∷ after ≡ Split j d ∷ after' = sym e ∙ e' in let z : ⊥ = cc in z)
 one_stop one fail b box rest line _ _ (at_leaf pairs after f e part) (at_leaf others after' g e' part') =
     let both : Leaf pairs ∷ after ≡ Leaf others ∷ after' = sym e ∙ e' in
     let same : pairs ≡ others = cc in
-    one_part_fault one fail b (part_of box others.items) line f g (subst (λ (a : ArrayVec (ℕ × ℕ)). HasPartFault b (part_of box a.items) line f) same part) part'
+    one_part_fault one fail b (part_of box others.items) line f g
+    (subst (λ (a : ArrayVec (ℕ × ℕ)). HasPartFault b (part_of box a.items) line f) same part) part'
 
-one_tree_fault : LeafFaultsAreOne → FaultyLeavesFail → (b : Block) (nodes : List Node) (f g : CheckFault) → HasTreeFault b nodes f → HasTreeFault b nodes g → f ≡ g
+one_tree_fault : LeafFaultsAreOne → FaultyLeavesFail → (b : Block) (nodes : List Node) (f g : CheckFault)
+    → HasTreeFault b nodes f → HasTreeFault b nodes g → f ≡ g
 one_tree_fault one fail b nodes f g first second =
     let p = stops_at b nodes f first in
     let q = stops_at b nodes g second in
-    let at = one_place fail b (whole b) (whole b) nodes nodes p.box q.box p.rest q.rest (line_at nodes p.rest) (line_at nodes q.rest) f g refl refl p.reached p.stops q.reached q.stops in
+    let at = one_place fail b (whole b) (whole b) nodes nodes p.box q.box p.rest q.rest (line_at nodes p.rest)
+    (line_at nodes q.rest) f g refl refl p.reached p.stops q.reached q.stops in
     one_stop one fail b q.box q.rest (line_at nodes q.rest) f g
-    (subst (λ x. Stops b x q.rest (line_at nodes q.rest) f) at.0 (subst (λ r. Stops b p.box r (line_at nodes r) f) at.1 p.stops)) q.stops
+    (subst (λ x. Stops b x q.rest (line_at nodes q.rest) f) at.0
+    (subst (λ r. Stops b p.box r (line_at nodes r) f) at.1 p.stops)) q.stops
 
 -- ---- the claims come last
 
-no_earlier : (errors claims : List ℕ) (j k : ℕ) (first : IsFirstOver errors claims j) (other : IsFirstOver errors claims k) → k ≤ j
+no_earlier : (errors claims : List ℕ) (j k : ℕ) (first : IsFirstOver errors claims j)
+    (other : IsFirstOver errors claims k) → k ≤ j
 no_earlier errors claims j k first other = ⊎_elim
-    (λ (l : j < k). absurd (let a = other.before j first.error first.claim l first.error_is first.claim_is in let o = first.over in let z : ⊥ = omega arith in z))
+    (λ (l : j < k). absurd
+    (let a = other.before j first.error first.claim l first.error_is first.claim_is in let o = first.over in
+    let z : ⊥ = omega arith in z))
     (λ (l : k ≤ j). l)
     (cases_lt j k)
 
-one_claim : (errors claims : List ℕ) (j k : ℕ) (first : IsFirstOver errors claims j) (second : IsFirstOver errors claims k) → fault.Claimed (j + 1) first.claim first.error ≡ fault.Claimed (k + 1) second.claim second.error
+one_claim : (errors claims : List ℕ) (j k : ℕ) (first : IsFirstOver errors claims j)
+    (second : IsFirstOver errors claims k)
+    → fault.Claimed (j + 1) first.claim first.error ≡ fault.Claimed (k + 1) second.claim second.error
 one_claim errors claims j k first second =
     let up = no_earlier errors claims j k first second in
     let down = no_earlier errors claims k j second first in
     let same : j ≡ k = omega (arith, up, down) in
     let next : j + 1 ≡ k + 1 = ap (λ n. n + 1) same in
-    let claims_are : Some first.claim ≡ Some second.claim = sym first.claim_is ∙ ap (λ n. slice_get claims n) same ∙ second.claim_is in
-    let errors_are : Some first.error ≡ Some second.error = sym first.error_is ∙ ap (λ n. slice_get errors n) same ∙ second.error_is in
+    let claims_are : Some first.claim ≡ Some second.claim = sym first.claim_is ∙ ap (λ n. slice_get claims n) same
+    ∙ second.claim_is in
+    let errors_are : Some first.error ≡ Some second.error = sym first.error_is ∙ ap (λ n. slice_get errors n) same
+    ∙ second.error_is in
     let one_claim : first.claim ≡ second.claim = cc in
     let one_error : first.error ≡ second.error = cc in
     cc
 
-one_claim_fault : (es fs claims : List ℕ) (j k : ℕ) → es ≡ fs → (first : IsFirstOver es claims j) (second : IsFirstOver fs claims k) → fault.Claimed (j + 1) first.claim first.error ≡ fault.Claimed (k + 1) second.claim second.error
+one_claim_fault : (es fs claims : List ℕ) (j k : ℕ) → es ≡ fs
+    → (first : IsFirstOver es claims j) (second : IsFirstOver fs claims k)
+    → fault.Claimed (j + 1) first.claim first.error ≡ fault.Claimed (k + 1) second.claim second.error
 one_claim_fault es fs claims j k same first second =
-    subst (λ xs. (f : IsFirstOver xs claims j) → fault.Claimed (j + 1) f.claim f.error ≡ fault.Claimed (k + 1) second.claim second.error) (sym same) (λ f. one_claim fs claims j k f second) first
+    subst (λ xs. (f : IsFirstOver xs claims j)
+    → fault.Claimed (j + 1) f.claim f.error ≡ fault.Claimed (k + 1) second.claim second.error) (sym same)
+    (λ f. one_claim fs claims j k f second) first
 
 abbrev with_claims : List ℕ → Cert → Cert
 with_claims errors cert = record { claims = errors; nodes = cert.nodes }
@@ -180,32 +244,49 @@ with_claims errors cert = record { claims = errors; nodes = cert.nodes }
 pub check_faults_are_one : LeafFaultsAreOne → FaultyLeavesFail → BoundsAreDetermined → CheckFaultsAreOne
 check_faults_are_one one fail unique b h cert _ _ v (outputs differ) (outputs also) = refl
 check_faults_are_one one fail unique b h cert _ _ v (outputs differ) (tree g count t) = absurd (differ count)
-check_faults_are_one one fail unique b h cert _ _ v (outputs differ) (claimed es k over count accepted) = absurd (differ count)
+check_faults_are_one one fail unique b h cert _ _ v (outputs differ) (claimed es k over count accepted) =
+    absurd (differ count)
 check_faults_are_one one fail unique b h cert _ _ v (tree f count t) (outputs also) = absurd (also count)
-check_faults_are_one one fail unique b h cert _ _ v (tree f count t) (tree g also s) = one_tree_fault one fail b cert.nodes f g t s
-check_faults_are_one one fail unique b h cert _ _ v (tree f count t) (claimed es k over also accepted) = absurd (tree_fails fail b h (with_claims es cert) es f t accepted)
-check_faults_are_one one fail unique b h cert _ _ v (claimed es k over count accepted) (outputs also) = absurd (also count)
-check_faults_are_one one fail unique b h cert _ _ v (claimed es k over count accepted) (tree g also t) = absurd (tree_fails fail b h (with_claims es cert) es g t accepted)
+check_faults_are_one one fail unique b h cert _ _ v (tree f count t) (tree g also s) =
+    one_tree_fault one fail b cert.nodes f g t s
+check_faults_are_one one fail unique b h cert _ _ v (tree f count t) (claimed es k over also accepted) =
+    absurd (tree_fails fail b h (with_claims es cert) es f t accepted)
+check_faults_are_one one fail unique b h cert _ _ v (claimed es k over count accepted) (outputs also) =
+    absurd (also count)
+check_faults_are_one one fail unique b h cert _ _ v (claimed es k over count accepted) (tree g also t) =
+    absurd (tree_fails fail b h (with_claims es cert) es g t accepted)
 check_faults_are_one one fail unique b h cert _ _ v (claimed es k over count accepted) (claimed fs j under also too) =
-    one_claim_fault es fs cert.claims k j (errors_unique unique b h (with_claims es cert) (with_claims fs cert) es fs refl v accepted too) over under
+    one_claim_fault es fs cert.claims k j
+    (errors_unique unique b h (with_claims es cert) (with_claims fs cert) es fs refl v accepted too) over under
 
 -- ---- a text's answer
 
-pub text_answers_are_one : FaultyLeavesFail → BoundsAreDetermined → CertsAreOne → FaultsAreOne → CertTextsAreSound → CheckFaultsAreOne → TextAnswersAreOne
+pub text_answers_are_one : FaultyLeavesFail → BoundsAreDetermined → CertsAreOne → FaultsAreOne → CertTextsAreSound
+    → CheckFaultsAreOne → TextAnswersAreOne
 text_answers_are_one fail unique certs faults sound checks b h version text (Ok es) (Ok fs) v small x y =
     let same = (certs version version text x.cert y.cert small small x.spelled y.spelled).1 in
-    ap (λ (l : List ℕ). Ok l) (errors_unique unique b h x.cert y.cert es fs (ap (λ (c : Cert). c.nodes) same) v x.accepted y.accepted)
-text_answers_are_one fail unique certs faults sound checks b h version text (Ok es) (Err _) v small x (of_text f h') = absurd (sound version text x.cert f x.spelled h')
-text_answers_are_one fail unique certs faults sound checks b h version text (Ok es) (Err _) v small x (of_cert cert f spelled h') =
+    ap (λ (l : List ℕ). Ok l)
+    (errors_unique unique b h x.cert y.cert es fs (ap (λ (c : Cert). c.nodes) same) v x.accepted y.accepted)
+text_answers_are_one fail unique certs faults sound checks b h version text (Ok es) (Err _) v small x (of_text f h') =
+    absurd (sound version text x.cert f x.spelled h')
+text_answers_are_one fail unique certs faults sound checks b h version text (Ok es) (Err _) v small x
+    (of_cert cert f spelled h') =
     let same = (certs version version text cert x.cert small small spelled x.spelled).1 in
     absurd (certs_fail fail unique b h x.cert es f v (subst (λ c. HasCheckFault b h c f) same h') x.accepted)
-text_answers_are_one fail unique certs faults sound checks b h version text (Err _) (Ok fs) v small (of_text f h') y = absurd (sound version text y.cert f y.spelled h')
-text_answers_are_one fail unique certs faults sound checks b h version text (Err _) (Ok fs) v small (of_cert cert f spelled h') y =
+text_answers_are_one fail unique certs faults sound checks b h version text (Err _) (Ok fs) v small (of_text f h') y =
+    absurd (sound version text y.cert f y.spelled h')
+text_answers_are_one fail unique certs faults sound checks b h version text (Err _) (Ok fs) v small
+    (of_cert cert f spelled h') y =
     let same = (certs version version text cert y.cert small small spelled y.spelled).1 in
     absurd (certs_fail fail unique b h y.cert fs f v (subst (λ c. HasCheckFault b h c f) same h') y.accepted)
-text_answers_are_one fail unique certs faults sound checks b h version text (Err _) (Err _) v small (of_text f h') (of_text g k') = ap (λ (l : CertFault). Err (refusal.Text l)) (faults version text f g h' k')
-text_answers_are_one fail unique certs faults sound checks b h version text (Err _) (Err _) v small (of_text f h') (of_cert cert g spelled k') = absurd (sound version text cert f spelled h')
-text_answers_are_one fail unique certs faults sound checks b h version text (Err _) (Err _) v small (of_cert cert f spelled h') (of_text g k') = absurd (sound version text cert g spelled k')
-text_answers_are_one fail unique certs faults sound checks b h version text (Err _) (Err _) v small (of_cert cert f spelled h') (of_cert other g spelled' k') =
+text_answers_are_one fail unique certs faults sound checks b h version text (Err _) (Err _) v small (of_text f h')
+    (of_text g k') = ap (λ (l : CertFault). Err (refusal.Text l)) (faults version text f g h' k')
+text_answers_are_one fail unique certs faults sound checks b h version text (Err _) (Err _) v small (of_text f h')
+    (of_cert cert g spelled k') = absurd (sound version text cert f spelled h')
+text_answers_are_one fail unique certs faults sound checks b h version text (Err _) (Err _) v small
+    (of_cert cert f spelled h') (of_text g k') = absurd (sound version text cert g spelled k')
+text_answers_are_one fail unique certs faults sound checks b h version text (Err _) (Err _) v small
+    (of_cert cert f spelled h') (of_cert other g spelled' k') =
     let same = (certs version version text cert other small small spelled spelled').1 in
-    ap (λ (l : CheckFault). Err (refusal.Check l)) (checks b h other f g v (subst (λ c. HasCheckFault b h c f) same h') k')
+    ap (λ (l : CheckFault). Err (refusal.Check l))
+    (checks b h other f g v (subst (λ c. HasCheckFault b h c f) same h') k')

@@ -1,5 +1,6 @@
 -- The pairs of a leaf's line.
-use Rattle.std.proofs.Common.{◌≡◌, ⊎_elim, ℕ, zero, suc, ◌+◌, ◌-◌, ◌<◌, ◌≤◌, List, [], ◌∷◌, length, Some, ap, ◌∙◌, subst, arith}
+use Rattle.std.proofs.Common.{◌≡◌, ⊎_elim, ℕ, zero, suc, ◌+◌, ◌-◌, ◌<◌, ◌≤◌, List, [], ◌∷◌, length, Some, ap, ◌∙◌}
+use Rattle.std.proofs.Common.{subst, arith}
 use Rattle.std.specs.Prelude.{slice_get, slice_index, slice_set, IfSome, max}
 use Rattle.std.proofs.lemmas.Option.{slice_get_within}
 use Rattle.std.proofs.lemmas.Bool.{cases_lt}
@@ -56,11 +57,13 @@ pub IsRaised-more : (b : Block) (h : ℕ) (p : Part) (old new : List ℕ) (k n e
     → length b.outputs ≤ length new → slice_get p.pairs k ≡ Some leaf → Holds b p.box (k + 1) leaf
     → slice_index new k ≡ slice_index old k → e ≡ max (slice_index new k) n
     → IfSome (output_at b (k + 1)) (λ x. IsBound b p.box (k + 1) x h leaf n) → k < length new
-    → AreFilled (IsRaised b h p old) b.outputs new k → AreFilled (IsRaised b h p old) b.outputs (slice_set new k e) (k + 1)
+    → AreFilled (IsRaised b h p old) b.outputs new k
+    → AreFilled (IsRaised b h p old) b.outputs (slice_set new k e) (k + 1)
 IsRaised-more b h p old new k n e leaf all pair holds same is bound within filled = AreFilled-more (IsRaised b h p old)
     b.outputs new k e within filled
     (λ x ex.
     let ek : k ≡ k + 1 - 1 = omega arith in
     let out : output_at b (k + 1) ≡ Some x = subst (λ j. slice_get b.outputs j ≡ Some x) ek ex in
-    let here : IsBound b p.box (k + 1) x h leaf n = subst (λ o. IfSome o (λ x. IsBound b p.box (k + 1) x h leaf n)) out bound in
+    let here : IsBound b p.box (k + 1) x h leaf n =
+    subst (λ o. IfSome o (λ x. IsBound b p.box (k + 1) x h leaf n)) out bound in
     (n, HasBound-at b k x h p leaf n pair holds here, is ∙ ap (λ m. max m n) same))

@@ -9,14 +9,16 @@ use Rattle.error_bound.specs.Best.{silent, strong, nothing, IsCandidate, silent_
 use Rattle.cert_check.specs.SameLeaves.{SameBlocksHaveBestLeaves, SameBlocksHaveBounds}
 use Rattle.cert_check.proofs.SameBlocks.{turned, other_rule, span_same, bytes_same, holds, is_bound}
 
-candidate : (p q : Block) → IsSameBlock p q → (box : List Interval) (o n k : ℕ) → IsCandidate p box o n k → IsCandidate q box o n k
+candidate : (p q : Block) → IsSameBlock p q → (box : List Interval) (o n k : ℕ) → IsCandidate p box o n k
+    → IsCandidate q box o n k
 candidate p q same box o n k c =
     let w = other_rule p.rules q.rules same.rules (n - 1) c.rule c.rule_is in
     record {
       from = c.from;
       rule = w.0;
       rule_is = w.1;
-      concludes_one = subst (λ cs. IsTrue (concludes_some (record c.rule { concl = cs }) o)) w.2.conclusions c.concludes_one;
+      concludes_one = subst (λ cs. IsTrue (concludes_some (record c.rule { concl = cs }) o)) w.2.conclusions
+          c.concludes_one;
       part = c.part ∙ ap (λ x. 255 * x.low.num / x.low.den) (span_same p q same box c.rule w.0 w.2);
       some = c.some;
       byte_low = subst (λ x. 1 ≤ x.low) (bytes_same p q same box c.rule w.0 w.2) c.byte_low;

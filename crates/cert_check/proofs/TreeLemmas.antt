@@ -1,5 +1,6 @@
 -- Each list of bytes of a box lies in exactly one leaf of a tree over it.
-use Rattle.std.proofs.Common.{◌≡◌, ℕ, zero, suc, ◌+◌, ◌-◌, ◌<◌, ◌≤◌, List, [], ◌∷◌, ◌++◌, length, Bool, true, false, ◌&&◌, Some, refl, sym, ap, ap₂, ◌∙◌, arith}
+use Rattle.std.proofs.Common.{◌≡◌, ℕ, zero, suc, ◌+◌, ◌-◌, ◌<◌, ◌≤◌, List, [], ◌∷◌, ◌++◌, length, Bool, true, false}
+use Rattle.std.proofs.Common.{◌&&◌, Some, refl, sym, ap, ap₂, ◌∙◌, arith}
 use Rattle.std.specs.Prelude.{nat_le, if◌then◌else◌, slice_get, All}
 use Rattle.std.proofs.lemmas.Bool.Decides.{nat_tests}
 use Rattle.error_bound.specs.declared.boxes.Interval.{Interval}
@@ -11,15 +12,19 @@ use Rattle.cert_check.specs.Laws.{OneLeafHasTheBytes}
 abbrev num : Bool → ℕ
 num b = if b then 1 else 0
 
-leaves_with-append : (bs : List ℕ) (ps qs : List Part) → leaves_with bs (ps ++ qs) ≡ leaves_with bs ps + leaves_with bs qs
+leaves_with-append : (bs : List ℕ) (ps qs : List Part)
+    → leaves_with bs (ps ++ qs) ≡ leaves_with bs ps + leaves_with bs qs
 leaves_with-append bs [] qs = omega arith
 leaves_with-append bs (p ∷ ps) qs = let r = leaves_with-append bs ps qs in omega (arith, r)
 
-one_cut : (f c t b : ℕ) (k : Bool) → f < c → c ≤ t → num (nat_le f b && (nat_le b t && k)) ≡ num (nat_le f b && (nat_le b (c - 1) && k)) + num (nat_le c b && (nat_le b t && k))
+one_cut : (f c t b : ℕ) (k : Bool) → f < c → c ≤ t
+    → num (nat_le f b && (nat_le b t && k)) ≡ num (nat_le f b && (nat_le b (c - 1) && k)) + num
+    (nat_le c b && (nat_le b t && k))
 one_cut f c t b true h1 h2 = grind (arith, nat_tests)
 one_cut f c t b false h1 h2 = grind (arith, nat_tests)
 
-cut_num : (bs : List ℕ) (k c : ℕ) (x : List Interval) → IsCut k c x → num (lies bs x) ≡ num (lies bs (left_of k c x)) + num (lies bs (right_of k c x))
+cut_num : (bs : List ℕ) (k c : ℕ) (x : List Interval) → IsCut k c x
+    → num (lies bs x) ≡ num (lies bs (left_of k c x)) + num (lies bs (right_of k c x))
 cut_num bs k c [] h = absurd h
 cut_num [] zero c (s ∷ ss) h = refl
 cut_num [] (suc k) c (s ∷ ss) h = refl
@@ -28,13 +33,15 @@ cut_num (b ∷ bs) (suc k) c (s ∷ ss) h =
     let r = cut_num bs k c ss h in
     deeper (nat_le s.from b) (nat_le b s.to) (lies bs ss) (lies bs (left_of k c ss)) (lies bs (right_of k c ss)) r
   where
-    deeper : (a a' k l m : Bool) → num k ≡ num l + num m → num (a && (a' && k)) ≡ num (a && (a' && l)) + num (a && (a' && m))
+    deeper : (a a' k l m : Bool) → num k ≡ num l + num m
+        → num (a && (a' && k)) ≡ num (a && (a' && l)) + num (a && (a' && m))
     deeper true true k l m e = e
     deeper true false k l m e = refl
     deeper false a' k l m e = refl
 
 -- as many leaves hold the bytes as the box does: one, or none
-covers : (bs : List ℕ) (box : List Interval) (nodes rest : List Node) (parts : List Part) → IsTree box nodes parts rest → leaves_with bs parts ≡ num (lies bs box)
+covers : (bs : List ℕ) (box : List Interval) (nodes rest : List Node) (parts : List Part) → IsTree box nodes parts rest
+    → leaves_with bs parts ≡ num (lies bs box)
 covers bs box nodes rest parts (leaf box' pairs rest') = omega arith
 covers bs box nodes rest parts (split box' i c nodes' mid rest' left right h cut l r) =
     let a = covers bs (left_of (i - 1) c box') nodes' mid left l in
@@ -47,11 +54,14 @@ pub one_leaf : OneLeafHasTheBytes
 one_leaf box nodes rest parts bytes t h = covers bytes box nodes rest parts t ∙ ap num h
 
 -- a leaf that has the bytes, with what holds of all leaves
-pub leaf_with : (bs : List ℕ) (ps : List Part) (P : Part → Type 0) → 0 < leaves_with bs ps → All P ps → (p : Part) × (lies bs p.box ≡ true) × P p
+pub leaf_with : (bs : List ℕ) (ps : List Part) (P : Part → Type 0) → 0 < leaves_with bs ps → All P ps
+    → (p : Part) × (lies bs p.box ≡ true) × P p
 leaf_with bs [] P h a = absurd (omega arith)
-leaf_with bs (p ∷ ps) P h a = by_bool (lies bs p.box) refl (λ l. leaf_with bs ps P l (λ k d i. a (suc k) d (omega arith)))
+leaf_with bs (p ∷ ps) P h a =
+    by_bool (lies bs p.box) refl (λ l. leaf_with bs ps P l (λ k d i. a (suc k) d (omega arith)))
   where
-    by_bool : (c : Bool) → lies bs p.box ≡ c → (0 < leaves_with bs ps → (q : Part) × (lies bs q.box ≡ true) × P q) → (q : Part) × (lies bs q.box ≡ true) × P q
+    by_bool : (c : Bool) → lies bs p.box ≡ c → (0 < leaves_with bs ps → (q : Part) × (lies bs q.box ≡ true) × P q)
+        → (q : Part) × (lies bs q.box ≡ true) × P q
     by_bool true e f = (p, e, a 0 p (omega arith))
     by_bool false e f = f (let z : num (lies bs p.box) ≡ 0 = ap num e in omega (arith, z))
 
@@ -66,12 +76,15 @@ lies_count : (bs : List ℕ) (x : List Interval) → lies bs x ≡ true → leng
 lies_count [] [] h = refl
 lies_count [] (v ∷ vs) h = absurd (let z : ⊥ = cc in z)
 lies_count (b ∷ bs) [] h = absurd (let z : ⊥ = cc in z)
-lies_count (b ∷ bs) (v ∷ vs) h = let t = three (nat_le v.from b) (nat_le b v.to) (lies bs vs) h in ap suc (lies_count bs vs t.2)
+lies_count (b ∷ bs) (v ∷ vs) h = let t = three (nat_le v.from b) (nat_le b v.to) (lies bs vs) h in
+    ap suc (lies_count bs vs t.2)
 
-lies_within : (bs : List ℕ) (x : List Interval) → lies bs x ≡ true → (k : ℕ) (v : Interval) (n : ℕ) → slice_get x k ≡ Some v → slice_get bs k ≡ Some n → (v.from ≤ n) × (n ≤ v.to)
+lies_within : (bs : List ℕ) (x : List Interval) → lies bs x ≡ true → (k : ℕ) (v : Interval) (n : ℕ)
+    → slice_get x k ≡ Some v → slice_get bs k ≡ Some n → (v.from ≤ n) × (n ≤ v.to)
 lies_within bs [] h k v n ev en = absurd (let z : ⊥ = cc in z)
 lies_within [] (w ∷ vs) h k v n ev en = absurd (let z : ⊥ = cc in z)
-lies_within (b ∷ bs) (w ∷ vs) h (suc k) v n ev en = lies_within bs vs (three (nat_le w.from b) (nat_le b w.to) (lies bs vs) h).2 k v n ev en
+lies_within (b ∷ bs) (w ∷ vs) h (suc k) v n ev en =
+    lies_within bs vs (three (nat_le w.from b) (nat_le b w.to) (lies bs vs) h).2 k v n ev en
 lies_within (b ∷ bs) (w ∷ vs) h zero v n ev en =
     let t = three (nat_le w.from b) (nat_le b w.to) (lies bs vs) h in
     let t0 = t.0 in

@@ -1,5 +1,6 @@
 -- How far a walk over the nodes has come: the boxes that are open, and what is known of the tree from what follows.
-use Rattle.std.proofs.Common.{◌≡◌, ⊎_elim, inl, inr, ℕ, zero, suc, ◌+◌, ◌-◌, ◌*◌, ◌<◌, ◌≤◌, List, [], ◌∷◌, ◌++◌, length, length-append, get_or, map, reverse, replicate, Some, refl, sym, ap, ◌∙◌, subst, arith}
+use Rattle.std.proofs.Common.{◌≡◌, ⊎_elim, inl, inr, ℕ, zero, suc, ◌+◌, ◌-◌, ◌*◌, ◌<◌, ◌≤◌, List, [], ◌∷◌, ◌++◌, length}
+use Rattle.std.proofs.Common.{length-append, get_or, map, reverse, replicate, Some, refl, sym, ap, ◌∙◌, subst, arith}
 use Rattle.std.specs.Prelude.{slice_get, slice_index, All, max}
 use Rattle.std.specs.List.{Any}
 use Rattle.std.proofs.lemmas.Bool.{cases_lt}
@@ -21,8 +22,10 @@ use Rattle.cert_check.specs.declared.checker.CheckFault.{CheckFault}
 use Rattle.cert_check.specs.declared.checker.CheckFault.TheVariants as fault
 use Rattle.cert_check.specs.Trees.{Part, IsTree, leaf, split, part_of, left_of, right_of, IsCut, whole}
 use Rattle.cert_check.specs.Acceptance.{HasBound, IsGreatestBound, IsAccepted}
-use Rattle.cert_check.specs.Faults.{AllHold, HasPartFault, AreClaimed, HasCheckFault, Reaches, line_at, root, in_left, in_right, bad_cut, bad_leaf, tree}
-use Rattle.cert_check.specs.Walks.{stack_of, Raises, cuts_of, AreCutOut, AreTrees, AreReached, IsGreatestSoFar, HasWalked}
+use Rattle.cert_check.specs.Faults.{AllHold, HasPartFault, AreClaimed, HasCheckFault, Reaches, line_at, root, in_left}
+use Rattle.cert_check.specs.Faults.{in_right, bad_cut, bad_leaf, tree}
+use Rattle.cert_check.specs.Walks.{stack_of, Raises, cuts_of, AreCutOut, AreTrees, AreReached, IsGreatestSoFar}
+use Rattle.cert_check.specs.Walks.{HasWalked}
 use Rattle.cert_check.proofs.CutLemmas.{IsBox-left, IsBox-right}
 use Rattle.cert_check.proofs.Determined.{left_count, right_count, map_count}
 use Rattle.fz_list.proofs.Algebra.{All-cons}
@@ -88,9 +91,11 @@ greatest_more b o x h parts p e n bound g = record {
       parts (λ q w. let l = w.2 in (w.0, w.1, omega arith)) g.each)
       (one_of (λ q. (m : ℕ) × HasBound b o x h q m × (m ≤ max e n)) p (n, bound, omega arith));
   some = λ z. ⊎_elim
-      (λ (l : n < e). let s : e ≡ max e n = omega arith in subst (λ m. Any (λ q. HasBound b o x h q m) (parts ++ p ∷ [])) s
+      (λ (l : n < e). let s : e ≡ max e n = omega arith in
+      subst (λ m. Any (λ q. HasBound b o x h q m) (parts ++ p ∷ [])) s
       (Any-left (λ q. HasBound b o x h q e) parts (p ∷ []) (g.some (omega arith))))
-      (λ (l : e ≤ n). let s : n ≡ max e n = omega arith in subst (λ m. Any (λ q. HasBound b o x h q m) (parts ++ p ∷ [])) s
+      (λ (l : e ≤ n). let s : n ≡ max e n = omega arith in
+      subst (λ m. Any (λ q. HasBound b o x h q m) (parts ++ p ∷ [])) s
       (Any-last (λ q. HasBound b o x h q n) parts p bound))
       (cases_lt n e);
 }
@@ -151,11 +156,13 @@ pub few_boxes : (boxes : List (List Interval)) → AreCutOut boxes → length bo
 few_boxes [] c = omega arith
 few_boxes (box ∷ boxes) c = let c0 = c.0 in omega (arith, c0)
 
-pub few_below : (box : List Interval) (boxes : List (List Interval)) (k c : ℕ) → AreCutOut (box ∷ boxes) → IsCut k c box → length boxes ≤ 2039
+pub few_below : (box : List Interval) (boxes : List (List Interval)) (k c : ℕ) → AreCutOut (box ∷ boxes) → IsCut k c box
+    → length boxes ≤ 2039
 few_below box boxes k c a cut = let a0 = a.0 in let l = cuts-left k c box cut in omega (arith, a0, l)
 
 -- the walk before the first node, and behind one more
-pub walked_none : (b : Block) (h : ℕ) → length b.inputs ≤ 8 → HasWalked b h [] (whole b ∷ []) (replicate (length b.outputs) 0)
+pub walked_none : (b : Block) (h : ℕ) → length b.inputs ≤ 8
+    → HasWalked b h [] (whole b ∷ []) (replicate (length b.outputs) 0)
 walked_none b h few = record {
   are_boxes = one_of (IsBoxOf b) (whole b) (record
       { count = map_count b.inputs; intervals = record { some = whole_intervals b.inputs } });
@@ -190,9 +197,11 @@ walked_split b h nodes box boxes errors i c goes_on some cut w =
       cut_out = (omega (arith, c0, l), (omega (arith, c0, r), w.cut_out.1));
       open_count = goes_on 1 (length (box ∷ boxes)) nodes (Split i c ∷ []) w.open_count;
       parts = w.parts;
-      trees = λ rest ps t. subst (λ ns. AreTrees (whole b ∷ []) ns (w.parts ++ ps) []) (sym (append_assoc nodes (Split i c ∷ []) rest))
+      trees = λ rest ps t. subst (λ ns. AreTrees (whole b ∷ []) ns (w.parts ++ ps) [])
+          (sym (append_assoc nodes (Split i c ∷ []) rest))
           (w.trees (Split i c ∷ rest) ps (trees_split box boxes i c rest ps [] some cut t));
-      reached = λ rest found after r. subst (λ ns. AreReached b (whole b ∷ []) ns found after) (sym (append_assoc nodes (Split i c ∷ []) rest))
+      reached = λ rest found after r. subst (λ ns. AreReached b (whole b ∷ []) ns found after)
+          (sym (append_assoc nodes (Split i c ∷ []) rest))
           (w.reached (Split i c ∷ rest) found after (reached_split b box boxes i c rest found after some cut r));
       count = w.count;
       greatest = w.greatest;
@@ -209,10 +218,13 @@ walked_leaf b h nodes box boxes errors new pairs goes_on hold raised w =
       cut_out = w.cut_out.1;
       open_count = goes_on 1 (length (box ∷ boxes)) nodes (Leaf pairs ∷ []) w.open_count;
       parts = w.parts ++ p ∷ [];
-      trees = λ rest ps t. subst (λ ns. AreTrees (whole b ∷ []) ns ((w.parts ++ p ∷ []) ++ ps) []) (sym (append_assoc nodes (Leaf pairs ∷ []) rest))
-          (subst (λ xs. AreTrees (whole b ∷ []) (nodes ++ Leaf pairs ∷ rest) xs []) (sym (append_assoc w.parts (p ∷ []) ps))
+      trees = λ rest ps t. subst (λ ns. AreTrees (whole b ∷ []) ns ((w.parts ++ p ∷ []) ++ ps) [])
+          (sym (append_assoc nodes (Leaf pairs ∷ []) rest))
+          (subst (λ xs. AreTrees (whole b ∷ []) (nodes ++ Leaf pairs ∷ rest) xs [])
+          (sym (append_assoc w.parts (p ∷ []) ps))
           (w.trees (Leaf pairs ∷ rest) (p ∷ ps) (p ∷ [], ps, rest, leaf box pairs rest, t, refl)));
-      reached = λ rest found after r. subst (λ ns. AreReached b (whole b ∷ []) ns found after) (sym (append_assoc nodes (Leaf pairs ∷ []) rest))
+      reached = λ rest found after r. subst (λ ns. AreReached b (whole b ∷ []) ns found after)
+          (sym (append_assoc nodes (Leaf pairs ∷ []) rest))
           (w.reached (Leaf pairs ∷ rest) found after (reached_leaf b box boxes pairs rest found after hold r));
       count = raised.count ∙ w.count;
       greatest = λ k x e.
@@ -223,9 +235,11 @@ walked_leaf b h nodes box boxes errors new pairs goes_on hold raised w =
           (greatest_more b (k + 1) x h w.parts p (slice_index errors k) r.0 r.1 (w.greatest k x e));
     }
 
-tree_some : (box : List Interval) (nodes rest : List Node) (parts : List Part) → IsTree box nodes parts rest → 1 ≤ length parts
+tree_some : (box : List Interval) (nodes rest : List Node) (parts : List Part) → IsTree box nodes parts rest
+    → 1 ≤ length parts
 tree_some box nodes rest parts (leaf x pairs r) = omega arith
-tree_some box nodes rest parts (split x i c n m r left right some cut tl tr) = let l = tree_some (left_of (i - 1) c x) n m
+tree_some box nodes rest parts (split x i c n m r left right some cut tl tr) =
+    let l = tree_some (left_of (i - 1) c x) n m
     left tl in some_more left right l
   where
     some_more : (xs ys : List Part) → 1 ≤ length xs → 1 ≤ length (xs ++ ys)
@@ -233,12 +247,14 @@ tree_some box nodes rest parts (split x i c n m r left right some cut tl tr) = l
     some_more (x ∷ xs) ys h = omega arith
 
 -- at the end a certificate that claims no less than the errors is accepted
-accepted_all : (b : Block) (h : ℕ) (nodes : List Node) (boxes : List (List Interval)) (claims errors : List ℕ) → boxes ≡ []
+accepted_all : (b : Block) (h : ℕ) (nodes : List Node) (boxes : List (List Interval)) (claims errors : List ℕ)
+    → boxes ≡ []
     → length claims ≡ length b.outputs → AreClaimed errors claims → HasWalked b h nodes boxes errors
     → IsAccepted b h (record { claims = claims; nodes = nodes }) errors
 accepted_all b h nodes (box ∷ boxes) claims errors none count claimed w = absurd (let z : ⊥ = cc in z)
 accepted_all b h nodes [] claims errors none count claimed w =
-    let front : AreTrees (whole b ∷ []) nodes w.parts [] = subst (λ ns. AreTrees (whole b ∷ []) ns w.parts []) (append-nil nodes)
+    let front : AreTrees (whole b ∷ []) nodes w.parts [] =
+    subst (λ ns. AreTrees (whole b ∷ []) ns w.parts []) (append-nil nodes)
     (subst (λ ps. AreTrees (whole b ∷ []) (nodes ++ []) ps []) (append-nil w.parts) (w.trees [] [] (refl, refl))) in
     let tree : IsTree (whole b) nodes w.parts [] = trees_one (whole b) nodes w.parts front in
     record {
@@ -260,14 +276,16 @@ no_boxes [] e = refl
 no_boxes (box ∷ boxes) e = absurd (omega arith)
 
 pub walked_all : (b : Block) (h : ℕ) (nodes : List Node) (boxes : List (List Interval)) (claims errors : List ℕ)
-    → open_from 1 nodes ≡ Some 0 → length claims ≡ length b.outputs → AreClaimed errors claims → HasWalked b h nodes boxes errors
+    → open_from 1 nodes ≡ Some 0 → length claims ≡ length b.outputs → AreClaimed errors claims
+    → HasWalked b h nodes boxes errors
     → IsAccepted b h (record { claims = claims; nodes = nodes }) errors
 walked_all b h nodes boxes claims errors is_tree count claimed w =
     let opens : Some (length boxes) ≡ Some 0 = sym w.open_count ∙ is_tree in
     accepted_all b h nodes boxes claims errors (no_boxes boxes (let e : length boxes ≡ 0 = cc in e)) count claimed w
 
 -- the next open box begins with the node that comes
-walked_to : (b : Block) (h : ℕ) (nodes : List Node) (box : List Interval) (boxes : List (List Interval)) (errors : List ℕ) (rest : List Node)
+walked_to : (b : Block) (h : ℕ) (nodes : List Node) (box : List Interval) (boxes : List (List Interval))
+    (errors : List ℕ) (rest : List Node)
     → HasWalked b h nodes (box ∷ boxes) errors → Reaches b (whole b) (nodes ++ rest) box rest
 walked_to b h nodes box boxes errors rest w = first (w.reached rest box rest (inl (root box rest)))
   where
@@ -278,14 +296,16 @@ walked_to b h nodes box boxes errors rest w = first (w.reached rest box rest (in
 line-here : (nodes rest : List Node) (node : Node) → line_at (nodes ++ node ∷ rest) (node ∷ rest) ≡ length nodes + 3
 line-here nodes rest node = let l = length-append nodes (node ∷ rest) in omega (arith, l)
 
-module _ (b : Block) (h : ℕ) (claims : List ℕ) (nodes : List Node) (box : List Interval) (boxes : List (List Interval)) (errors : List ℕ)
+module _ (b : Block) (h : ℕ) (claims : List ℕ) (nodes : List Node) (box : List Interval) (boxes : List (List Interval))
+    (errors : List ℕ)
     (line : ℕ) (rest : List Node) (count : length claims ≡ length b.outputs) (at : line ≡ length nodes + 3)
     (w : HasWalked b h nodes (box ∷ boxes) errors) where
   pub cut_fault : (i c : ℕ) → (IsCut (i - 1) c box → ⊥)
       → HasCheckFault b h (record { claims = claims; nodes = nodes ++ Split i c ∷ rest }) (fault.BadCut line)
   cut_fault i c none =
       let same = at ∙ sym (line-here nodes rest (Split i c)) in
-      subst (λ n. HasCheckFault b h (record { claims = claims; nodes = nodes ++ Split i c ∷ rest }) (fault.BadCut n)) (sym same)
+      subst (λ n. HasCheckFault b h (record { claims = claims; nodes = nodes ++ Split i c ∷ rest }) (fault.BadCut n))
+      (sym same)
       (tree (fault.BadCut (line_at (nodes ++ Split i c ∷ rest) (Split i c ∷ rest))) count
       (bad_cut box i c rest (walked_to b h nodes box boxes errors (Split i c ∷ rest) w) none))
 
@@ -306,7 +326,8 @@ nodes_count (suc n) m (Leaf pairs ∷ nodes) e = let r = nodes_count n m nodes e
 stack-last : (boxes : List ByteBox) (x : ByteBox) → stack_of (boxes ++ x ∷ []) ≡ x.0.items ∷ stack_of boxes
 stack-last boxes x = ap (λ (xs : List ByteBox). map (λ (y : ByteBox). y.0.items) xs) (reverse-append boxes (x ∷ []))
 
-pub stack-pop : (boxes left : List ByteBox) (x : ByteBox) → boxes ≡ left ++ x ∷ [] → stack_of boxes ≡ x.0.items ∷ stack_of left
+pub stack-pop : (boxes left : List ByteBox) (x : ByteBox) → boxes ≡ left ++ x ∷ []
+    → stack_of boxes ≡ x.0.items ∷ stack_of left
 stack-pop boxes left x popped = ap stack_of popped ∙ stack-last left x
 
 pub leaves-front : (nodes more : List Node) → leaf_count nodes ≤ leaf_count (nodes ++ more)
@@ -315,7 +336,8 @@ leaves-front (Split i c ∷ nodes) more = leaves-front nodes more
 leaves-front (Leaf pairs ∷ nodes) more = let l = leaves-front nodes more in omega (arith, l)
 
 -- the lines of a walk that has met no fault are few
-pub few_lines : (b : Block) (h : ℕ) (nodes more : List Node) (boxes : List (List Interval)) (errors : List ℕ) → leaf_count (nodes ++ more) ≤ 4096
+pub few_lines : (b : Block) (h : ℕ) (nodes more : List Node) (boxes : List (List Interval)) (errors : List ℕ)
+    → leaf_count (nodes ++ more) ≤ 4096
     → HasWalked b h nodes boxes errors → length nodes ≤ 10232
 few_lines b h nodes more boxes errors few w =
     let c = nodes_count 1 (length boxes) nodes w.open_count in
@@ -324,7 +346,8 @@ few_lines b h nodes more boxes errors few w =
     omega (arith, c, l, k, few)
 
 -- where a node may follow, a box is open
-pub some_open : (b : Block) (h n : ℕ) (nodes : List Node) (node : Node) (errors : List ℕ) → OpenBoxesGoOn → open_from 1 (nodes ++ node ∷ []) ≡ Some n
+pub some_open : (b : Block) (h n : ℕ) (nodes : List Node) (node : Node) (errors : List ℕ) → OpenBoxesGoOn
+    → open_from 1 (nodes ++ node ∷ []) ≡ Some n
     → HasWalked b h nodes [] errors → ⊥
 some_open b h n nodes node errors goes_on opens w =
     let none : open_from 0 (node ∷ []) ≡ Some n = sym (goes_on 1 0 nodes (node ∷ []) w.open_count) ∙ opens in

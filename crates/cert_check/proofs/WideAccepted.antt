@@ -1,5 +1,6 @@
 -- A certificate that is accepted for bytes is accepted for 16 bits.
-use Rattle.std.proofs.Common.{◌≡◌, ⊎_elim, ℕ, zero, suc, ◌+◌, ◌-◌, ◌<◌, ◌≤◌, List, [], ◌∷◌, ◌++◌, length, Option, Some, refl, ap, subst, arith}
+use Rattle.std.proofs.Common.{◌≡◌, ⊎_elim, ℕ, zero, suc, ◌+◌, ◌-◌, ◌<◌, ◌≤◌, List, [], ◌∷◌, ◌++◌, length, Option, Some}
+use Rattle.std.proofs.Common.{refl, ap, subst, arith}
 use Rattle.std.specs.Prelude.{All, slice_get}
 use Rattle.std.proofs.lemmas.Bool.{cases_lt}
 use Rattle.fuzzy_meaning.specs.declared.block.Block.{Block}
@@ -14,7 +15,8 @@ use Rattle.cert_check.specs.Acceptance.{HasBound, IsGreatestBound}
 use Rattle.cert_check.specs.Laws.{WideIsAccepted}
 use Rattle.std.proofs.lemmas.Option.{slice_get_within}
 
-wide_has : BoundsFallWithParts → (b : Block) (o : ℕ) (x : Output) (p : Part) (n : ℕ) → IsValid b → output_at b o ≡ Some x → HasBound b o x 1 p n → (m : ℕ) × HasBound b o x 256 p m × (m ≤ n)
+wide_has : BoundsFallWithParts → (b : Block) (o : ℕ) (x : Output) (p : Part) (n : ℕ) → IsValid b
+    → output_at b o ≡ Some x → HasBound b o x 1 p n → (m : ℕ) × HasBound b o x 256 p m × (m ≤ n)
 wide_has fall b o x p n valid out h =
     let w = fall b p.box o x 256 h.leaf n valid out (omega arith) h.bound_is in
     (w.0, record { leaf = h.leaf; pair_is = h.pair_is; holds = h.holds; bound_is = w.1 }, w.2)
@@ -22,13 +24,16 @@ wide_has fall b o x p n valid out h =
 at_least : {a c d : ℕ} → a ≤ c → c ≤ d → a ≤ d
 at_least h k = omega arith
 
-module _ (fall : BoundsFallWithParts) (b : Block) (o : ℕ) (x : Output) (valid : IsValid b) (out : output_at b o ≡ Some x) where
-  joined : (p : Part) (ps : List Part) (m f e : ℕ) → HasBound b o x 256 p m → m ≤ e → IsGreatestBound b o x 256 ps f → f ≤ e → (g : ℕ) × IsGreatestBound b o x 256 (p ∷ ps) g × (g ≤ e)
+module _ (fall : BoundsFallWithParts) (b : Block) (o : ℕ) (x : Output) (valid : IsValid b)
+    (out : output_at b o ≡ Some x) where
+  joined : (p : Part) (ps : List Part) (m f e : ℕ) → HasBound b o x 256 p m → m ≤ e → IsGreatestBound b o x 256 ps f
+      → f ≤ e → (g : ℕ) × IsGreatestBound b o x 256 (p ∷ ps) g × (g ≤ e)
   joined p ps m f e hb me g fe = ⊎_elim
       (λ (l : f < m). (
         m,
         record {
-          each = All-cons (λ (q : Part). (n : ℕ) × HasBound b o x 256 q n × (n ≤ m)) p ps (m, hb, omega arith) (λ k d i. let w = g.each k d i in (w.0, w.1, at_least w.2 (omega arith)));
+          each = All-cons (λ (q : Part). (n : ℕ) × HasBound b o x 256 q n × (n ≤ m)) p ps (m, hb, omega arith)
+              (λ k d i. let w = g.each k d i in (w.0, w.1, at_least w.2 (omega arith)));
           some = (0, p, omega arith, refl, hb);
         },
         me,
@@ -43,12 +48,22 @@ module _ (fall : BoundsFallWithParts) (b : Block) (o : ℕ) (x : Output) (valid 
       ))
       (cases_lt f m)
 
-  greatest_of : (ps : List Part) (e : ℕ) → 0 < length ps → All (λ p. (n : ℕ) × HasBound b o x 1 p n × (n ≤ e)) ps → (f : ℕ) × IsGreatestBound b o x 256 ps f × (f ≤ e)
+  greatest_of : (ps : List Part) (e : ℕ) → 0 < length ps → All (λ p. (n : ℕ) × HasBound b o x 1 p n × (n ≤ e)) ps
+      → (f : ℕ) × IsGreatestBound b o x 256 ps f × (f ≤ e)
   greatest_of [] e l h = absurd (omega arith)
   greatest_of (p ∷ []) e l h =
       let n = h 0 p (omega arith) in
-      let w = wide_has fall b o x p n.0 valid out n.1 in
-      (w.0, record { each = All-cons (λ (q : Part). (n : ℕ) × HasBound b o x 256 q n × (n ≤ w.0)) p [] (w.0, w.1, omega arith) (All-none (λ (q : Part). (n : ℕ) × HasBound b o x 256 q n × (n ≤ w.0))); some = (0, p, omega arith, refl, w.1) }, at_least w.2 n.2)
+      let w = wide_has fall b o x p n.0 valid out n.1 in (
+        w.0,
+        record {
+          each =
+              All-cons (λ (q : Part). (n : ℕ) × HasBound b o x 256 q n × (n ≤ w.0)) p [] (w.0, w.1, omega arith)
+              (All-none (λ (q : Part). (n : ℕ) × HasBound b o x 256 q n × (n ≤ w.0)));
+          some =
+              (0, p, omega arith, refl, w.1);
+        },
+        at_least w.2 n.2,
+      )
   greatest_of (p ∷ q ∷ ps) e l h =
       let n = h 0 p (omega arith) in
       let w = wide_has fall b o x p n.0 valid out n.1 in
@@ -65,15 +80,23 @@ some_leaf box ns r ps (split x i c m mid rest left right h cut tl tq) = appended
     appended (x ∷ xs) ys h = omega arith
 
 -- a number for each element
-choice : {X : Type 0} (Q : ℕ → X → ℕ → Type 0) (xs : List X) → ((k : ℕ) (x : X) → slice_get xs k ≡ Some x → (f : ℕ) × Q k x f) → (fs : List ℕ) × (length fs ≡ length xs) × ((k : ℕ) (x : X) (f : ℕ) → slice_get xs k ≡ Some x → slice_get fs k ≡ Some f → Q k x f)
+choice : {X : Type 0} (Q : ℕ → X → ℕ → Type 0) (xs : List X)
+    → ((k : ℕ) (x : X) → slice_get xs k ≡ Some x → (f : ℕ) × Q k x f)
+    → (fs : List ℕ) × (length fs ≡ length xs)
+    × ((k : ℕ) (x : X) (f : ℕ) → slice_get xs k ≡ Some x → slice_get fs k ≡ Some f → Q k x f)
 choice Q [] h = ([], refl, λ k x f e g. absurd (let z : ⊥ = cc in z))
 choice {X} Q (x ∷ xs) h = step (h 0 x refl) (choice (λ k. Q (suc k)) xs (λ k y e. h (suc k) y e))
   where
-    step : ((f : ℕ) × Q 0 x f) → ((fs : List ℕ) × (length fs ≡ length xs) × ((k : ℕ) (y : X) (f : ℕ) → slice_get xs k ≡ Some y → slice_get fs k ≡ Some f → Q (suc k) y f)) → (fs : List ℕ) × (length fs ≡ length (x ∷ xs)) × ((k : ℕ) (y : X) (f : ℕ) → slice_get (x ∷ xs) k ≡ Some y → slice_get fs k ≡ Some f → Q k y f)
+    step : ((f : ℕ) × Q 0 x f)
+        → ((fs : List ℕ) × (length fs ≡ length xs)
+        × ((k : ℕ) (y : X) (f : ℕ) → slice_get xs k ≡ Some y → slice_get fs k ≡ Some f → Q (suc k) y f))
+        → (fs : List ℕ) × (length fs ≡ length (x ∷ xs))
+        × ((k : ℕ) (y : X) (f : ℕ) → slice_get (x ∷ xs) k ≡ Some y → slice_get fs k ≡ Some f → Q k y f)
     step head tail = (head.0 ∷ tail.0, ap suc tail.1, at)
       where
         at : (k : ℕ) (y : X) (f : ℕ) → slice_get (x ∷ xs) k ≡ Some y → slice_get (head.0 ∷ tail.0) k ≡ Some f → Q k y f
-        at zero y f e g = let e1 : x ≡ y = cc in let e2 : head.0 ≡ f = cc in subst (λ z. Q 0 z f) e1 (subst (λ n. Q 0 x n) e2 head.1)
+        at zero y f e g = let e1 : x ≡ y = cc in let e2 : head.0 ≡ f = cc in
+            subst (λ z. Q 0 z f) e1 (subst (λ n. Q 0 x n) e2 head.1)
         at (suc k) y f e g = tail.2 k y f e g
 
 pub wide_accepted : BoundsFallWithParts → WideIsAccepted
@@ -102,7 +125,8 @@ wide_accepted fall b cert es v a = (
       (c.2 k x.0 f x.1 ef).1 e ee,
 )
   where
-    pick : (k : ℕ) (x : Output) → slice_get b.outputs k ≡ Some x → (f : ℕ) × IsGreatestBound b (k + 1) x 256 a.parts f × ((e : ℕ) → slice_get es k ≡ Some e → f ≤ e)
+    pick : (k : ℕ) (x : Output) → slice_get b.outputs k ≡ Some x
+        → (f : ℕ) × IsGreatestBound b (k + 1) x 256 a.parts f × ((e : ℕ) → slice_get es k ≡ Some e → f ≤ e)
     pick k x ex =
         let l = slice_get_within b.outputs k x ex in
         let n2 = a.errors_count in
@@ -110,14 +134,18 @@ wide_accepted fall b cert es v a = (
         let ek : k ≡ k + 1 - 1 = omega arith in
         let ex' : output_at b (k + 1) ≡ Some x = subst (λ j. slice_get b.outputs j ≡ Some x) ek ex in
         let g = a.greatest (k + 1) x e.0 (omega arith) ex' (subst (λ j. slice_get es j ≡ Some e.0) ek e.1) in
-        let w = greatest_of fall b (k + 1) x v ex' a.parts e.0 (some_leaf (whole b) cert.nodes [] a.parts a.tree) g.each in
+        let w = greatest_of fall b (k + 1) x v ex' a.parts e.0
+        (some_leaf (whole b) cert.nodes [] a.parts a.tree) g.each in
         (w.0, w.1, λ d ed. same_le w.2 e.1 ed)
       where
         same_le : {p q r : ℕ} {s : Option ℕ} → p ≤ q → s ≡ Some q → s ≡ Some r → p ≤ r
         same_le {p} {q} {r} h e f = let z : q ≡ r = cc in omega arith
 
-    c : (fs : List ℕ) × (length fs ≡ length b.outputs) × ((k : ℕ) (x : Output) (f : ℕ) → slice_get b.outputs k ≡ Some x → slice_get fs k ≡ Some f → IsGreatestBound b (k + 1) x 256 a.parts f × ((e : ℕ) → slice_get es k ≡ Some e → f ≤ e))
-    c = choice (λ k x f. IsGreatestBound b (k + 1) x 256 a.parts f × ((e : ℕ) → slice_get es k ≡ Some e → f ≤ e)) b.outputs (λ k x ex. let w = pick k x ex in (w.0, (w.1, w.2)))
+    c : (fs : List ℕ) × (length fs ≡ length b.outputs)
+        × ((k : ℕ) (x : Output) (f : ℕ) → slice_get b.outputs k ≡ Some x → slice_get fs k ≡ Some f
+        → IsGreatestBound b (k + 1) x 256 a.parts f × ((e : ℕ) → slice_get es k ≡ Some e → f ≤ e))
+    c = choice (λ k x f. IsGreatestBound b (k + 1) x 256 a.parts f × ((e : ℕ) → slice_get es k ≡ Some e → f ≤ e))
+        b.outputs (λ k x ex. let w = pick k x ex in (w.0, (w.1, w.2)))
 
     fs : List ℕ
     fs = c.0

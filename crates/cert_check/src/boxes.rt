@@ -1,5 +1,6 @@
 //! Boxes and their halves.
-ghost use Rattle.std.specs.Prelude.{◌≡◌, ◌≤◌, ◌<◌, ◌+◌, ◌-◌, ◌∷◌, set, length, vec_len, vec_capacity, OnOk, IfErr, IfSome, IfNone, Some, slice_get};
+ghost use Rattle.std.specs.Prelude.{◌≡◌, ◌≤◌, ◌<◌, ◌+◌, ◌-◌, ◌∷◌, set, length, vec_len, vec_capacity, OnOk, IfErr};
+ghost use Rattle.std.specs.Prelude.{IfSome, IfNone, Some, slice_get};
 ghost use Rattle.error_bound.specs.Boxes.{IsBox};
 ghost use Rattle.cert_check.specs.Trees.{whole, left_of, right_of, IsCut};
 ghost use Rattle.cert_check.specs.Walks.{stack_of, AreCutOut};

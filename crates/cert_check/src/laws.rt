@@ -1,5 +1,6 @@
 //! Laws of the definitions.
-ghost use Rattle.cert_check.specs.Laws.{OneLeafHasTheBytes, AcceptedAnswersAreNear, ErrorsAreDetermined, FaultyCertsFail, WideIsAccepted, CheckFaultsAreOne, TextAnswersAreOne};
+ghost use Rattle.cert_check.specs.Laws.{OneLeafHasTheBytes, AcceptedAnswersAreNear, ErrorsAreDetermined};
+ghost use Rattle.cert_check.specs.Laws.{FaultyCertsFail, WideIsAccepted, CheckFaultsAreOne, TextAnswersAreOne};
 ghost use Rattle.cert_check.specs.SameBlocks.{SameBlocksAnswerAlike};
 ghost use Rattle.cert_check.specs.Examples.{ExamplesAreAccepted};
 

@@ -1,5 +1,6 @@
 //! The pairs of a leaf's line: whether they hold on its box, and with which Bounds.
-ghost use Rattle.std.specs.Prelude.{◌≡◌, ◌≢◌, ◌↔◌, ◌≤◌, ◌<◌, ◌+◌, ◌-◌, ℕ, length, All, OnOk, IfOk, IfErr, IfSome, IsTrue, Some, slice_get};
+ghost use Rattle.std.specs.Prelude.{◌≡◌, ◌≢◌, ◌↔◌, ◌≤◌, ◌<◌, ◌+◌, ◌-◌, ℕ, length, All, OnOk, IfOk, IfErr, IfSome};
+ghost use Rattle.std.specs.Prelude.{IsTrue, Some, slice_get};
 ghost use Rattle.fuzzy_meaning.specs.Blocks.{IsValid, output_at};
 ghost use Rattle.error_bound.specs.Boxes.{IsBoxOf};
 ghost use Rattle.error_bound.specs.Leaves.{Holds};

@@ -1,5 +1,6 @@
 -- The rows of a trace with upsets, one after another.
-use Rattle.std.proofs.Common.{◌≡◌, ◌≢◌, ◌⊎◌, inl, inr, ◌≤◌, ℕ, zero, suc, ◌+◌, ◌-◌, ◌*◌, Bool, true, false, List, [], ◌∷◌, ◌++◌}
+use Rattle.std.proofs.Common.{◌≡◌, ◌≢◌, ◌⊎◌, inl, inr, ◌≤◌, ℕ, zero, suc, ◌+◌, ◌-◌, ◌*◌, Bool, true, false, List, []}
+use Rattle.std.proofs.Common.{◌∷◌, ◌++◌}
 use Rattle.std.proofs.Common.{length, take, refl, ap, sym, ◌∙◌, subst, arith, append_assoc}
 use Rattle.std.specs.Prelude.{All, map, if◌then◌else◌, Option, Some, None, slice_get, slice_index}
 use Rattle.std.specs.Option.{option_map_or}
@@ -87,7 +88,8 @@ faultless_rows b f before given same m upsets (x ∷ xs) (q ∷ rs) h (suc k) r 
     let next : (n : ℕ) → watched_answer b image sample n (given n) ≡ answer_to 1 b n (before ++ x ∷ []) =
     λ n. faultless_answer b image sample n (given n) fault
     ∙ ap (λ (p : ℕ). answer_in 1 b n bytes p) (same n) ∙ sym (answer_to_next 1 b n before x) in
-    let rest = faultless_rows b f (before ++ x ∷ []) (λ n. watched_answer b image sample n (given n)) next (suc m) upsets
+    let rest = faultless_rows b f (before ++ x ∷ []) (λ n. watched_answer b image sample n (given n)) next
+    (suc m) upsets
     xs rs h.1 k r is zero_ (λ j s lt at. none (suc j) s (omega (arith, lt)) at) o from to in
     let one_more : suc k + 1 ≡ suc (k + 1) = omega arith in
     rest ∙ ap (λ (l : List (List Dec)). answer_to 1 b o l) (append_assoc before (x ∷ []) (take (k + 1) xs)
@@ -125,7 +127,8 @@ default_rows b f o y from to out some before given m upsets (x ∷ xs) (q ∷ rs
 -- ---- the law
 
 pub faultless_near : AcceptedAnswersAreNear → FaultlessAnswersAreNear
-faultless_near near b f cert errors trace samples upsets rows valid spells h accepted k r row_is fault either o x e from output error =
+faultless_near near b f cert errors trace samples upsets rows valid spells h accepted k r row_is fault either o x e from
+    output error =
     let xs = numbers_of samples in
     let bytes : map input_bytes samples ≡ map (bytes_of b.inputs) xs =
     bytes_read b.inputs spells.rows samples spells.spelled in
@@ -137,13 +140,16 @@ faultless_near near b f cert errors trace samples upsets rows valid spells h acc
     let inputs : All (AreInputs b) (take (k + 1) xs) =
     All-take (AreInputs b) (k + 1) xs (are_inputs b spells.rows samples spells.spelled) in
     let close = near b 1 cert errors o x e (take (k + 1) xs) valid (omega arith) accepted from output error inputs in
-    subst (λ (q : ℕ). IsClose (distance x.lo x.hi) e (value_in 1 x q) (exact_answer b o (take (k + 1) xs))) (sym is) close
+    subst (λ (q : ℕ). IsClose (distance x.lo x.hi) e (value_in 1 x q) (exact_answer b o (take (k + 1) xs)))
+    (sym is) close
   where
     by : AreWatchedRows b f (λ n. 0) (changes_from 1 upsets (map (bytes_of b.inputs) (numbers_of samples))) rows
         → o ≤ length b.outputs → HasDefaults b ⊎ NoFaultBefore k rows
         → slice_index r.row.answers (o - 1) ≡ answer_to 1 b o (take (k + 1) (numbers_of samples))
     by own to (inl defaults) =
-        default_rows b f o x from to output (defaults o x from output) [] (λ n. 0) 1 upsets (numbers_of samples) rows own
+        default_rows b f o x from to output (defaults o x from output) [] (λ n. 0) 1 upsets
+        (numbers_of samples) rows own
         k r row_is fault
     by own to (inr none) =
-        faultless_rows b f [] (λ n. 0) (λ n. refl) 1 upsets (numbers_of samples) rows own k r row_is fault none o from to
+        faultless_rows b f [] (λ n. 0) (λ n. refl) 1 upsets (numbers_of samples) rows own k r row_is fault
+        none o from to

@@ -24,7 +24,8 @@ module _ (b : Block) (rows : List Fields) (samples : List Sample) (spelled : Spe
       omega (arith, from, to, same)
 
   bytes_posted : (posted : List ℕ) → All (IsOneOf (length samples)) posted
-      → map (bytes_of (map input_bytes samples)) posted ≡ map (cells.bytes_of b.inputs) (map (numbers_at samples) posted)
+      → map (bytes_of (map input_bytes samples)) posted ≡ map (cells.bytes_of b.inputs)
+      (map (numbers_at samples) posted)
   bytes_posted [] each = refl
   bytes_posted (k ∷ ks) each =
       let lt = there k (All-head (IsOneOf (length samples)) k ks each) in

@@ -31,7 +31,8 @@ use Rattle.eval_code.specs.declared.layout.Layout.{Layout}
 use Rattle.eval_code.specs.declared.width.Width.{Width}
 
 -- a block's items by what they are made of
-abbrev items_of : Layout → Width → List Instr → List Instr → List Input → List Output → List Slot → List Conjunction → List ℕ → Form → List Item
+abbrev items_of : Layout → Width → List Instr → List Instr → List Input → List Output → List Slot → List Conjunction
+    → List ℕ → Form → List Item
 items_of l w before behind inputs outputs slots conjunctions weights form =
     code_at l.code (before ++ (eval_code_over l w inputs outputs slots form ++ behind))
     ++ (bytes_at l.tables (flat_map (λ row. row) (flat_map rows_of inputs))
@@ -40,7 +41,8 @@ items_of l w before behind inputs outputs slots conjunctions weights form =
     ++ bytes_at l.rules (rule_bytes_by l.slots form conjunctions))))
 
 made_of : (l : Layout) (b : Block) (w : Width) (before behind : List Instr)
-    → block_items l b w before behind ≡ items_of l w before behind b.inputs b.outputs (slots_of b) (conjunctions_of b) (weights_of b) (form_of b)
+    → block_items l b w before behind ≡ items_of l w before behind b.inputs b.outputs (slots_of b) (conjunctions_of b)
+    (weights_of b) (form_of b)
 unfolding block_items
 made_of l b w before behind = refl
 
@@ -63,11 +65,13 @@ same_items : (l : Layout) (p q : Block) (w : Width) (before behind : List Instr)
     → block_items l p w before behind ≡ block_items l q w before behind
 same_items l p q w before behind says same =
     made_of l p w before behind
-    ∙ (λ i. items_of l w before behind (says.inputs i) (says.outputs i) (same.slots i) (same.conjunctions i) (same.weights i) (same.form i))
+    ∙ (λ i. items_of l w before behind (says.inputs i) (says.outputs i) (same.slots i) (same.conjunctions i)
+    (same.weights i) (same.form i))
     ∙ sym (made_of l q w before behind)
 
 pub items_are_one : LayoutsAreOne → ItemsAreOne
-items_are_one layouts l p q w before behind says = same_items l p q w before behind says (parts_same p q (layouts.layout p q says))
+items_are_one layouts l p q w before behind says =
+    same_items l p q w before behind says (parts_same p q (layouts.layout p q says))
 
 -- images of the same items are one
 pub images_are_one : ImagesAreOne
@@ -81,16 +85,20 @@ images_are_one items f g of_f of_g = (bytes, start)
 
 items_alike : (xs ys : List Item) (f g : Firmware) → xs ≡ ys → IsImageOf xs f.image → IsImageOf ys g.image
     → HaveOneImage f g
-items_alike xs ys f g items of_f of_g = images_are_one ys f.image g.image (subst (λ (zs : List Item). IsImageOf zs f.image) items of_f) of_g
+items_alike xs ys f g items of_f of_g =
+    images_are_one ys f.image g.image (subst (λ (zs : List Item). IsImageOf zs f.image) items of_f) of_g
 
 pub one_image : LayoutsAreOne → FirmwaresAreOne
 one_image layouts p q f g says wide of_p of_q =
-    items_alike (firmware_items main_layout p (width_of f.wide)) (firmware_items main_layout q (width_of g.wide)) f g items
+    items_alike (firmware_items main_layout p (width_of f.wide))
+    (firmware_items main_layout q (width_of g.wide)) f g items
     of_p.image of_q.image
   where
     items : firmware_items main_layout p (width_of f.wide) ≡ firmware_items main_layout q (width_of g.wide)
     items =
-        ap (λ (xs : List Item). xs ++ vector_items main_layout) (same_items main_layout p q (width_of f.wide) (frame_code main_layout) (Rts ∷ []) says (parts_same p q (layouts.layout p q says)))
+        ap (λ (xs : List Item). xs ++ vector_items main_layout)
+        (same_items main_layout p q (width_of f.wide) (frame_code main_layout) (Rts ∷ []) says
+        (parts_same p q (layouts.layout p q says)))
         ∙ ap (λ (b : Bool). firmware_items main_layout q (width_of b)) wide
 
 -- ---- in the mailbox form

@@ -1,5 +1,6 @@
 -- What a firmware that stands alone answers, and what is known at each of its instructions.
-use Rattle.std.specs.Prelude.{◌≡◌, ℕ, ◌^◌, ◌<◌, ◌≤◌, Bool, true, false, List, [], ◌∷◌, length, All, slice_index, slice_set}
+use Rattle.std.specs.Prelude.{◌≡◌, ℕ, ◌^◌, ◌<◌, ◌≤◌, Bool, true, false, List, [], ◌∷◌, length, All, slice_index}
+use Rattle.std.specs.Prelude.{slice_set}
 use Rattle.fuzzy_meaning.specs.declared.block.Block.{Block}
 use Rattle.fuzzy_meaning.specs.Blocks.{IsValid}
 use Rattle.rule_layout.specs.Layouts.{IsWithinLimits}
@@ -70,8 +71,8 @@ AnswersFrom b f = (flags : ℕ) (samples : List (List ℕ)) → flags < 2 ^ 8 �
 abbrev pub FirmwareAnswers : Type 0
 FirmwareAnswers = (b : Block) (f : Firmware) → IsValid b → IsWithinLimits b → IsFirmwareOf b f → AnswersFrom b f
 
--- What is open to handlers leaves a layout alone: it is neither what EVAL reads and writes, nor the stack, nor between the
--- first byte of the code and the tables, nor the reset vector.
+-- What is open to handlers leaves a layout alone: it is neither what EVAL reads and writes, nor the stack, nor between
+-- the first byte of the code and the tables, nor the reset vector.
 pub record LeavesLayout (open_to : ℕ → Bool) (l : Layout) : Type 0 where
   pub ready : open_to l.ready ≡ false
   pub reads : (at : ℕ) → Reads l at → open_to at ≡ false

@@ -1,12 +1,12 @@
 -- The code before EVAL of a firmware that stands alone, instruction by instruction.
 use Rattle.std.specs.Prelude.{List, [], ◌∷◌}
 use Rattle.cpu12_isa.specs.declared.instr.Instr.{Instr}
-use Rattle.cpu12_isa.specs.declared.instr.Instr.TheVariants.{LdaaExtended, LdsImmediate, ClrExtended, Beq, Bra, JsrExtended, Andcc, Rti}
+use Rattle.cpu12_isa.specs.declared.instr.Instr.TheVariants.{LdaaExtended, LdsImmediate, ClrExtended, Beq, Bra}
+use Rattle.cpu12_isa.specs.declared.instr.Instr.TheVariants.{JsrExtended, Andcc, Rti}
 use Rattle.eval_code.specs.declared.layout.Layout.{Layout}
 
 -- The stack is set up, READY cleared and interrupts let in; then, wherever READY is not 0, EVAL is called and READY
--- cleared.
--- An interrupt returns at once.
+-- cleared. An interrupt returns at once.
 abbrev pub frame_code : Layout → List Instr
 frame_code l =
     LdsImmediate 0x2000 ∷ ClrExtended l.ready ∷ Andcc 0xEF

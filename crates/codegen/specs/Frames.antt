@@ -1,5 +1,6 @@
 -- The frame of a firmware that stands alone, around whatever it calls.
-use Rattle.std.specs.Prelude.{◌≡◌, ℕ, ◌+◌, ◌/◌, ◌%◌, ◌^◌, ◌<◌, ◌≤◌, ◌⊎◌, false, List, [], ◌∷◌, length, slice_index, slice_set}
+use Rattle.std.specs.Prelude.{◌≡◌, ℕ, ◌+◌, ◌/◌, ◌%◌, ◌^◌, ◌<◌, ◌≤◌, ◌⊎◌, false, List, [], ◌∷◌, length, slice_index}
+use Rattle.std.specs.Prelude.{slice_set}
 use Rattle.fuzzy_meaning.specs.declared.block.Block.{Block}
 use Rattle.fuzzy_meaning.specs.Blocks.{IsValid}
 use Rattle.cpu12_isa.specs.declared.instr.Instr.{Instr}
@@ -64,30 +65,27 @@ pub record IsFramed (l : Layout) : Type 0 where
   pub samples : l.samples ≡ l.inputs
   pub eval : l.eval < 65536
 
--- With a sample the frame leads to what it calls, with the return address on the stack.
-pub record Called (c : Setting) (s : State) : Type 0 where
+-- at most so many whole instructions lead to an address, with this SP and this memory
+pub record Leads (c : Setting) (most : ℕ) (s : State) (pc sp : ℕ) (mem : List ℕ) : Type 0 where
   pub t : State
   pub ds : List ℕ
   pub execution : Execution (IsInterruptibleStep c.open_to c.layout c.image c.flags) ds s t
-  pub instructions : length ds ≤ 3
-  pub steps : all_steps ds ≤ 3
+  pub instructions : length ds ≤ most
+  pub steps : all_steps ds ≤ most
   pub live : Live c t
-  pub pc_is : t.regs.pc ≡ c.layout.eval
-  pub sp_is : t.regs.sp ≡ 0x1FFE
-  pub mem_is : t.mem ≡
-      slice_set (slice_set s.mem 0x1FFE ((c.layout.wait + 8) / 2 ^ 8)) 0x1FFF ((c.layout.wait + 8) % 2 ^ 8)
+  pub pc_is : t.regs.pc ≡ pc
+  pub sp_is : t.regs.sp ≡ sp
+  pub mem_is : t.mem ≡ mem
+
+-- With a sample the frame leads to what it calls, with the return address on the stack.
+abbrev pub Called : Setting → State → Type 0
+Called c s =
+    Leads c 3 s c.layout.eval 0x1FFE
+    (slice_set (slice_set s.mem 0x1FFE ((c.layout.wait + 8) / 2 ^ 8)) 0x1FFF ((c.layout.wait + 8) % 2 ^ 8))
 
 -- From there it leads back to where the code waits, and clears READY.
-pub record Left (c : Setting) (s : State) : Type 0 where
-  pub t : State
-  pub ds : List ℕ
-  pub execution : Execution (IsInterruptibleStep c.open_to c.layout c.image c.flags) ds s t
-  pub instructions : length ds ≤ 2
-  pub steps : all_steps ds ≤ 2
-  pub live : Live c t
-  pub pc_is : t.regs.pc ≡ c.layout.wait
-  pub sp_is : t.regs.sp ≡ s.regs.sp
-  pub mem_is : t.mem ≡ slice_set s.mem c.layout.ready 0
+abbrev pub Left : Setting → State → Type 0
+Left c s = Leads c 2 s c.layout.wait s.regs.sp (slice_set s.mem c.layout.ready 0)
 
 -- it does both
 pub record CallsAndLeaves (c : Setting) : Type 0 where

@@ -1,10 +1,12 @@
 -- The mailbox form of a firmware: an interrupt posts a sample whenever it comes, and the code copies it while I is 1.
-use Rattle.std.specs.Prelude.{◌≡◌, ◌≤◌, ℕ, zero, suc, ◌+◌, ◌-◌, ◌*◌, nat_le, nat_lt, ◌&&◌, ◌||◌, Bool, List, [], ◌∷◌, ◌++◌, length}
+use Rattle.std.specs.Prelude.{◌≡◌, ◌≤◌, ℕ, zero, suc, ◌+◌, ◌-◌, ◌*◌, nat_le, nat_lt, ◌&&◌, ◌||◌, Bool, List, [], ◌∷◌}
+use Rattle.std.specs.Prelude.{◌++◌, length}
 use Rattle.fuzzy_meaning.specs.declared.block.Block.{Block}
 use Rattle.fuzzy_meaning.specs.Blocks.{IsValid}
 use Rattle.rule_layout.specs.Layouts.{IsWithinLimits}
 use Rattle.cpu12_isa.specs.declared.instr.Instr.{Instr}
-use Rattle.cpu12_isa.specs.declared.instr.Instr.TheVariants.{LdaaExtended, LdsImmediate, ClrExtended, Beq, Bra, JsrExtended, Rts, Andcc, Orcc, Rti, MovbExtended}
+use Rattle.cpu12_isa.specs.declared.instr.Instr.TheVariants.{LdaaExtended, LdsImmediate, ClrExtended, Beq, Bra}
+use Rattle.cpu12_isa.specs.declared.instr.Instr.TheVariants.{JsrExtended, Rts, Andcc, Orcc, Rti, MovbExtended}
 use Rattle.cpu12_isa.specs.Regions.{is_free}
 use Rattle.cpu12_asm.specs.declared.items.Item.{Item}
 use Rattle.codegen.specs.declared.firmware.Firmware.{Firmware}

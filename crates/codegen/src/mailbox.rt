@@ -2,7 +2,8 @@
 ghost use Rattle.std.specs.Prelude.{◌≡◌, ◌+◌, ◌^◌, ◌<◌, ◌≤◌, ◌++◌, false, length, IfOk, IfErr, OnOk};
 ghost use Rattle.fuzzy_meaning.specs.Blocks.{IsValid};
 ghost use Rattle.rule_layout.specs.Layouts.{flat_of, IsLaidOut, IsWithinLimits, IsFaultOf};
-ghost use Rattle.codegen.specs.Mailboxes.{mailbox_layout, copy_code, mailbox_code, mailbox_items, mailbox_bound, IsMailboxOf};
+ghost use Rattle.codegen.specs.Mailboxes.{mailbox_layout, copy_code, mailbox_code, mailbox_items, mailbox_bound};
+ghost use Rattle.codegen.specs.Mailboxes.{IsMailboxOf};
 ghost use Rattle.codegen.specs.Turns.{TakesPosts};
 ghost use Rattle.codegen.specs.Uninterrupted.{AnswersUninterrupted};
 

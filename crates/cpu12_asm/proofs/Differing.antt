@@ -1,5 +1,6 @@
 -- Where the bytes of two images differ.
-use Rattle.std.proofs.Common.{◌≡◌, ◌≢◌, ◌⊎◌, inl, inr, ⊎_elim, ◌<◌, ℕ, List, [], ◌∷◌, Option, None, Some, Bool, true, false, not, refl, sym, ◌∙◌, ap, subst, arith}
+use Rattle.std.proofs.Common.{◌≡◌, ◌≢◌, ◌⊎◌, inl, inr, ⊎_elim, ◌<◌, ℕ, List, [], ◌∷◌, Option, None, Some, Bool, true}
+use Rattle.std.proofs.Common.{false, not, refl, sym, ◌∙◌, ap, subst, arith}
 use Rattle.std.proofs.lemmas.Bool.{cases_eq}
 use Rattle.std.proofs.lemmas.Bool.Decides.{nat_tests}
 use Rattle.std.specs.Option.{option_eq}
@@ -35,7 +36,8 @@ goes_on bytes others rest b c same = record {
     shared : (q x : ℕ) → byte_at (b ∷ rest) q ≡ Some x → (q ≡ b.0) ⊎ (q ≡ b.0 → ⊥)
         → (byte_at others q ≡ Some x) ⊎ (byte_at rest q ≡ Some x)
     shared q x at (inl here) =
-        let first : byte_at (b ∷ rest) q ≡ Some b.1 = subst (λ (p : ℕ). byte_at (b ∷ rest) p ≡ Some b.1) (sym here) (byte_at-head b rest) in
+        let first : byte_at (b ∷ rest) q ≡ Some b.1 =
+        subst (λ (p : ℕ). byte_at (b ∷ rest) p ≡ Some b.1) (sym here) (byte_at-head b rest) in
         let its : byte_at others q ≡ Some b.1 = subst (λ (p : ℕ). byte_at others p ≡ Some b.1) (sym here) same in
         inl (its ∙ sym first ∙ at)
     shared q x at (inr other) = inr (sym (byte_at-other b rest q other) ∙ at)
@@ -56,7 +58,8 @@ stops bytes others rest b c lacks = record {
 pub ends : (bytes others rest : List (ℕ × ℕ)) → Comparing bytes others rest → rest ≡ [] → (q b : ℕ)
     → byte_at bytes q ≡ Some b → byte_at others q ≡ Some b
 ends bytes others rest c none q b is =
-    ⊎_elim (λ e. e) (λ at. absurd (none_is_no_byte {x = b} refl (subst (λ (l : List (ℕ × ℕ)). byte_at l q ≡ Some b) none at))) (c.shared q b is)
+    ⊎_elim (λ e. e) (λ at. absurd
+    (none_is_no_byte {x = b} refl (subst (λ (l : List (ℕ × ℕ)). byte_at l q ≡ Some b) none at))) (c.shared q b is)
 
 -- ---- the test of a byte
 
@@ -76,7 +79,8 @@ has_byte o p b differs test is same = sym same ∙ holds_byte o b (tests (option
     tests true e = refl
     tests false e = cc
 
-pub has_no_byte : (o p : Option ℕ) (b : ℕ) (differs : Bool) → differs ≡ not (option_eq nat_eq o (Some b)) → differs ≡ true
+pub has_no_byte : (o p : Option ℕ) (b : ℕ) (differs : Bool) → differs ≡ not (option_eq nat_eq o (Some b))
+    → differs ≡ true
     → o ≡ p → p ≢ Some b
 has_no_byte o p b differs test is same =
     λ e. lacks_byte o b (tests (option_eq nat_eq o (Some b)) (sym test ∙ is)) (same ∙ e)

@@ -9,12 +9,14 @@ use Rattle.std.specs.Ordering.{nat_cmp}
 use Rattle.cpu12_asm.specs.Names.{value_in}
 use Rattle.cpu12_asm.specs.Values.{with_value, is_given}
 
-pub value_in-set : (name : List ℕ) (m n : BTreeMap (Bor (List ℕ)) ℕ) (v : ℕ) → 0 < length name → UpdatesBy (λ x y. slice_cmp nat_cmp x.now y.now) (λ k. slice_cmp nat_cmp name k.now) m n (Some v)
+pub value_in-set : (name : List ℕ) (m n : BTreeMap (Bor (List ℕ)) ℕ) (v : ℕ) → 0 < length name
+    → UpdatesBy (λ x y. slice_cmp nat_cmp x.now y.now) (λ k. slice_cmp nat_cmp name k.now) m n (Some v)
     → value_in n ≡ with_value (value_in m) name v
 value_in-set [] m n v some u = absurd (omega arith)
 value_in-set (b ∷ bs) m n v some u = λ i q. btree_map_updates_str (b ∷ bs) m n (Some v) u q i
 
-pub is_given-named : (value : List ℕ → Option ℕ) (name : List ℕ) → 0 < length name → is_given value name ≡ is_some (value name)
+pub is_given-named : (value : List ℕ → Option ℕ) (name : List ℕ) → 0 < length name
+    → is_given value name ≡ is_some (value name)
 is_given-named value [] some = absurd (omega arith)
 is_given-named value (b ∷ bs) some = refl
 

@@ -1,19 +1,23 @@
 -- Items that never go back can be placed.
-use Rattle.std.proofs.Common.{◌≡◌, ℕ, ◌+◌, ◌^◌, ◌≤◌, List, [], ◌∷◌, ◌++◌, length, Option, None, Some, IsSome, refl, ◌∙◌, ap, subst, arith}
+use Rattle.std.proofs.Common.{◌≡◌, ℕ, ◌+◌, ◌^◌, ◌≤◌, List, [], ◌∷◌, ◌++◌, length, Option, None, Some, IsSome, refl, ◌∙◌}
+use Rattle.std.proofs.Common.{ap, subst, arith}
 use Rattle.cpu12_asm.specs.declared.items.Item.{Item}
 use Rattle.cpu12_asm.specs.declared.items.Item.TheVariants.{Place, Byte, Op}
 use Rattle.cpu12_asm.specs.Bytes.{byte_at, placed}
-use Rattle.cpu12_asm.specs.Items.{item_bytes, place_after, place_behind, place_of, given_from, given_by, FailsFirst, PassesEnd, WritesOver, IsRisingFrom, IsRising}
+use Rattle.cpu12_asm.specs.Items.{item_bytes, place_after, place_behind, place_of, given_from, given_by, FailsFirst}
+use Rattle.cpu12_asm.specs.Items.{PassesEnd, WritesOver, IsRisingFrom, IsRising}
 use Rattle.cpu12_asm.proofs.Placing.{or_else, byte_at-append, byte_at-placed}
 
 -- one item, and the others behind it
-pub rising_head : (at : ℕ) (item : Item) (items : List Item) → IsRisingFrom at (item ∷ items) → (at + length (item_bytes item) ≤ place_after at item) × IsRisingFrom (place_after at item) items
+pub rising_head : (at : ℕ) (item : Item) (items : List Item) → IsRisingFrom at (item ∷ items)
+    → (at + length (item_bytes item) ≤ place_after at item) × IsRisingFrom (place_after at item) items
 rising_head at (Place to) items h = (omega (arith, h.0), h.1)
 rising_head at (Byte byte) items h = (omega arith, h)
 rising_head at (Op instruction) items h = (omega arith, h)
 
 -- the end is no lower than the start, and within the memory
-pub rising_end : (at : ℕ) (items : List Item) → IsRisingFrom at items → (at ≤ place_behind at items) × (place_behind at items ≤ 2 ^ 16)
+pub rising_end : (at : ℕ) (items : List Item) → IsRisingFrom at items
+    → (at ≤ place_behind at items) × (place_behind at items ≤ 2 ^ 16)
 rising_end at [] h = (omega arith, h)
 rising_end at (item ∷ items) h =
     let head = rising_head at item items h in
@@ -34,14 +38,17 @@ end_up at (item ∷ xs) ys h =
     omega (arith, head.0, rest)
 
 -- no byte stands from the end on
-byte_at-end : (at q : ℕ) (xs ys : List Item) → IsRisingFrom at (xs ++ ys) → place_behind at xs ≤ q → byte_at (given_from at xs) q ≡ None
+byte_at-end : (at q : ℕ) (xs ys : List Item) → IsRisingFrom at (xs ++ ys) → place_behind at xs ≤ q
+    → byte_at (given_from at xs) q ≡ None
 byte_at-end at q [] ys h low = refl
 byte_at-end at q (item ∷ xs) ys h low =
     let head = rising_head at item (xs ++ ys) h in
-    let rest : byte_at (given_from (place_after at item) xs) q ≡ None = byte_at-end (place_after at item) q xs ys head.1 low in
+    let rest : byte_at (given_from (place_after at item) xs) q ≡ None =
+    byte_at-end (place_after at item) q xs ys head.1 low in
     let up = end_up (place_after at item) xs ys head.1 in
     byte_at-append q (placed at (item_bytes item)) (given_from (place_after at item) xs)
-    ∙ ap (λ o. or_else o (byte_at (given_from (place_after at item) xs) q)) (byte_at-placed at q (item_bytes item) (omega (arith, head.0, up)))
+    ∙ ap (λ o. or_else o (byte_at (given_from (place_after at item) xs) q))
+    (byte_at-placed at q (item_bytes item) (omega (arith, head.0, up)))
     ∙ rest
 
 not_given : (o : Option ℕ) → o ≡ None → IsSome o → ⊥
@@ -51,7 +58,8 @@ not_given (Some x) e h = cc
 -- items that never go back pass no end
 pub no_end_passed : (items : List Item) (n : ℕ) → IsRising items → FailsFirst PassesEnd items n → ⊥
 no_end_passed items n h fails =
-    let whole : IsRisingFrom 0 (fails.before ++ (fails.item ∷ fails.behind)) = subst (λ (xs : List Item). IsRisingFrom 0 xs) fails.parts h in
+    let whole : IsRisingFrom 0 (fails.before ++ (fails.item ∷ fails.behind)) =
+    subst (λ (xs : List Item). IsRisingFrom 0 xs) fails.parts h in
     let here = rising_parts 0 fails.before (fails.item ∷ fails.behind) whole in
     let head = rising_head (place_of fails.before) fails.item fails.behind here in
     let end = rising_end (place_after (place_of fails.before) fails.item) fails.behind head.1 in
@@ -60,7 +68,8 @@ no_end_passed items n h fails =
 -- and write over nothing
 pub nothing_written_over : (items : List Item) (n : ℕ) → IsRising items → FailsFirst WritesOver items n → ⊥
 nothing_written_over items n h fails =
-    let whole : IsRisingFrom 0 (fails.before ++ (fails.item ∷ fails.behind)) = subst (λ (xs : List Item). IsRisingFrom 0 xs) fails.parts h in
+    let whole : IsRisingFrom 0 (fails.before ++ (fails.item ∷ fails.behind)) =
+    subst (λ (xs : List Item). IsRisingFrom 0 xs) fails.parts h in
     let q = place_of fails.before + fails.fails.k in
     let none = byte_at-end 0 q fails.before (fails.item ∷ fails.behind) whole (omega arith) in
     not_given (byte_at (given_by fails.before) q) none fails.fails.given

@@ -14,14 +14,17 @@ has_form i = may_be_mnemonic (text_of (form_of i).mnemonic)
 
 names_none : (word : List ℕ) (i : Instr) → may_be_mnemonic word ≡ false → has_form i ≡ true → names_form word i ≡ false
 names_none word i other has = elim (cases_Bool (names_form word i)) [
-  | inl names ↦ (let same = ap may_be_mnemonic ((bytes_eq-Decides word (text_of (form_of i).mnemonic)).0 names) in absurd (cc))
+  | inl names ↦ (let same = ap may_be_mnemonic ((bytes_eq-Decides word (text_of (form_of i).mnemonic)).0 names) in
+      absurd (cc))
   | inr none ↦ none
 ]
 
-any_none : (word : List ℕ) (rows : List Instr) → may_be_mnemonic word ≡ false → list_all has_form rows ≡ true → list_any (names_form word) rows ≡ false
+any_none : (word : List ℕ) (rows : List Instr) → may_be_mnemonic word ≡ false → list_all has_form rows ≡ true
+    → list_any (names_form word) rows ≡ false
 any_none word [] other all = refl
 any_none word (i ∷ rows) other all = elim (cases_Bool (has_form i)) [
-  | inl has ↦ (let rest : list_all has_form rows ≡ true = rw has at all in rw (names_none word i other has, any_none word rows other rest) refl)
+  | inl has ↦ (let rest : list_all has_form rows ≡ true = rw has at all in
+      rw (names_none word i other has, any_none word rows other rest) refl)
   | inr bad ↦ (let no : list_all has_form (i ∷ rows) ≡ false = rw bad refl in absurd (cc))
 ]
 

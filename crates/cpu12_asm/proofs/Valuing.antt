@@ -7,7 +7,8 @@ abbrev pub all_before : List ℕ → Result (List ℕ) LineFault → Result (Lis
 all_before vs (Ok ws) = Ok (vs ++ ws)
 all_before vs (Err f) = Err f
 
-pub all_before-push : (vs : List ℕ) (v : ℕ) (r : Result (List ℕ) LineFault) → all_before (vs ++ v ∷ []) r ≡ all_before vs (before v r)
+pub all_before-push : (vs : List ℕ) (v : ℕ) (r : Result (List ℕ) LineFault)
+    → all_before (vs ++ v ∷ []) r ≡ all_before vs (before v r)
 all_before-push vs v (Ok ws) = ap (λ (l : List ℕ). Ok l) (append_assoc vs (v ∷ []) ws)
 all_before-push vs v (Err f) = refl
 

@@ -1,8 +1,11 @@
 -- What the lines of a source give, once all its names have values.
-use Rattle.std.specs.Prelude.{ℕ, ◌+◌, ◌-◌, ◌%◌, ◌^◌, ◌&&◌, nat_lt, nat_le, if◌then◌else◌, Bool, true, false, not, List, [], ◌∷◌, ◌++◌, length, map, drop, slice_index, Option, Some, None, is_some, Result, Ok, Err}
+use Rattle.std.specs.Prelude.{ℕ, ◌+◌, ◌-◌, ◌%◌, ◌^◌, ◌&&◌, nat_lt, nat_le, if◌then◌else◌, Bool, true, false, not, List}
+use Rattle.std.specs.Prelude.{[], ◌∷◌, ◌++◌, length, map, drop, slice_index, Option, Some, None, is_some, Result, Ok}
+use Rattle.std.specs.Prelude.{Err}
 use Rattle.std.specs.List.{list_any, flat_map}
 use Rattle.cpu12_isa.specs.declared.form.Operand.{Operand}
-use Rattle.cpu12_isa.specs.declared.form.Operand.TheVariants.{Byte, Word, Address, Offset, ByteToAddress, AddressToAddress}
+use Rattle.cpu12_isa.specs.declared.form.Operand.TheVariants.{Byte, Word, Address, Offset, ByteToAddress}
+use Rattle.cpu12_isa.specs.declared.form.Operand.TheVariants.{AddressToAddress}
 use Rattle.cpu12_isa.specs.Code.{form_bytes}
 use Rattle.cpu12_isa.specs.Memory.{high_of, low_of}
 use Rattle.cpu12_asm.specs.declared.faults.LineFault.{LineFault}

@@ -1,5 +1,6 @@
 -- The values of labels, in words of the lines before them.
-use Rattle.std.specs.Prelude.{ℕ, ◌≡◌, ◌≢◌, ◌≤◌, ◌<◌, ◌+◌, List, [], ◌∷◌, ◌++◌, length, slice_index, Option, Some, None, Ok}
+use Rattle.std.specs.Prelude.{ℕ, ◌≡◌, ◌≢◌, ◌≤◌, ◌<◌, ◌+◌, List, [], ◌∷◌, ◌++◌, length, slice_index, Option, Some, None}
+use Rattle.std.specs.Prelude.{Ok}
 use Rattle.std.specs.List.{sum_by}
 use Rattle.std.specs.Str.{str_to_ascii_uppercase}
 use Rattle.cpu12_asm.specs.declared.statements.Action.{Action}

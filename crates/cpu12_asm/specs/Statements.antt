@@ -1,10 +1,12 @@
 -- What a line of source says.
-use Rattle.std.specs.Prelude.{ℕ, ◌==◌, ◌&&◌, ◌||◌, nat_lt, if◌then◌else◌, Bool, false, not, List, [], ◌∷◌, length, Option, Some, None, codes}
+use Rattle.std.specs.Prelude.{ℕ, ◌==◌, ◌&&◌, ◌||◌, nat_lt, if◌then◌else◌, Bool, false, not, List, [], ◌∷◌, length}
+use Rattle.std.specs.Prelude.{Option, Some, None, codes}
 use Rattle.std.specs.List.{list_all, find}
 use Rattle.std.specs.Str.{bytes_eq}
 use Rattle.cpu12_isa.specs.declared.instr.Instr.{Instr}
 use Rattle.cpu12_isa.specs.declared.form.Operand.{Operand}
-use Rattle.cpu12_isa.specs.declared.form.Operand.TheVariants.{Inherent, Byte, Word, Address, Offset, ByteToAddress, AddressToAddress, XToD, YToD, PostIncrementX}
+use Rattle.cpu12_isa.specs.declared.form.Operand.TheVariants.{Inherent, Byte, Word, Address, Offset, ByteToAddress}
+use Rattle.cpu12_isa.specs.declared.form.Operand.TheVariants.{AddressToAddress, XToD, YToD, PostIncrementX}
 use Rattle.cpu12_isa.specs.Forms.{form_of, every}
 use Rattle.cpu12_asm.specs.declared.statements.Action.{Action}
 use Rattle.cpu12_asm.specs.declared.statements.Action.TheVariants as action

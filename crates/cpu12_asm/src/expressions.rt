@@ -8,7 +8,10 @@ ghost use Rattle.cpu12_asm.specs.Names.{value_in};
 ghost use Rattle.cpu12_asm.specs.Lines.{pieces};
 ghost use Rattle.cpu12_asm.specs.Shapes.{may_be_mnemonic};
 ghost use Rattle.cpu12_asm.specs.Left.{pieces_left, size_left};
-ghost use Rattle.cpu12_asm.specs.Expressions.{is_letter, is_in_name, is_mnemonic, is_directive, is_operation, has_name_form, is_name, is_hex_digit, hex_value, decimal_value, hexadecimal_value, number, plain_term, term_of, with_term, with_group, sum_of};
+ghost use Rattle.cpu12_asm.specs.Expressions.{is_letter, is_in_name, is_mnemonic, is_directive, is_operation};
+ghost use Rattle.cpu12_asm.specs.Expressions.{has_name_form, is_name, is_hex_digit, hex_value, decimal_value};
+ghost use Rattle.cpu12_asm.specs.Expressions.{hexadecimal_value, number, plain_term, term_of, with_term, with_group};
+ghost use Rattle.cpu12_asm.specs.Expressions.{sum_of};
 
 use crate::lines::cut;
 use cpu12_isa::form::EVERY;

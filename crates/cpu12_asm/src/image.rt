@@ -1,8 +1,11 @@
 //! Images of memory.
-ghost use Rattle.std.specs.Prelude.{◌≡◌, ◌↔◌, ◌<◌, ◌≤◌, ◌+◌, ◌^◌, ℕ, List, [], ◌++◌, length, Some, None, Ok, Err, IsTrue, IsSome, OnOk, OnErr, IfOk, IfSome, IfNone, if◌then◌else◌, slice_index, unwrap_or};
+ghost use Rattle.std.specs.Prelude.{◌≡◌, ◌↔◌, ◌<◌, ◌≤◌, ◌+◌, ◌^◌, ℕ, List, [], ◌++◌, length, Some, None, Ok, Err};
+ghost use Rattle.std.specs.Prelude.{IsTrue, IsSome, OnOk, OnErr, IfOk, IfSome, IfNone, if◌then◌else◌, slice_index};
+ghost use Rattle.std.specs.Prelude.{unwrap_or};
 ghost use Rattle.std.specs.BTreeMap.{is_at};
 ghost use Rattle.std.specs.Ordering.{nat_cmp};
-ghost use Rattle.cpu12_asm.specs.Bytes.{byte_at, start_of, placed, Holds, IsAscending, IsFirstDifference, IsFirstMissing};
+ghost use Rattle.cpu12_asm.specs.Bytes.{byte_at, start_of, placed, Holds, IsAscending, IsFirstDifference};
+ghost use Rattle.cpu12_asm.specs.Bytes.{IsFirstMissing};
 
 use cpu12_isa::mem::Mem;
 use std::alloc::{AllocError, Global};

@@ -1,7 +1,8 @@
 //! Items, and their assembling.
 ghost use Rattle.std.specs.Prelude.{◌≡◌, ◌<◌, ◌≤◌, ◌+◌, ◌^◌, ℕ, List, ◌++◌, length, IfOk, IfErr, OnOk, IsSome, Ok, Err};
 ghost use Rattle.cpu12_asm.specs.Bytes.{byte_at, start_of, placed, Holds, IsAscending};
-ghost use Rattle.cpu12_asm.specs.Items.{given_by, item_bytes, place_after, CanBePlaced, FailsFirst, IsRising, PassesEnd, WritesOver};
+ghost use Rattle.cpu12_asm.specs.Items.{given_by, item_bytes, place_after, CanBePlaced, FailsFirst, IsRising};
+ghost use Rattle.cpu12_asm.specs.Items.{PassesEnd, WritesOver};
 
 use crate::image::{ByteMap, Image, Refusal};
 use cpu12_isa::encode::encode;

@@ -1,5 +1,6 @@
 -- The memory of an image, byte by byte.
-use Rattle.std.proofs.Common.{◌≡◌, ℕ, zero, suc, ◌^◌, ◌<◌, Option, Some, None, List, [], ◌∷◌, ◌++◌, length, get_or, unwrap_or, refl, ap, sym, ◌∙◌, arith, inl, inr}
+use Rattle.std.proofs.Common.{◌≡◌, ℕ, zero, suc, ◌^◌, ◌<◌, Option, Some, None, List, [], ◌∷◌, ◌++◌, length, get_or}
+use Rattle.std.proofs.Common.{unwrap_or, refl, ap, sym, ◌∙◌, arith, inl, inr}
 use Rattle.std.proofs.lemmas.Bool.{cases_lt}
 use Rattle.std.proofs.lemmas.List.{length-append, ext_get_or}
 use Rattle.cpu12_isa.specs.Memory.{zeros}
@@ -9,7 +10,8 @@ use Rattle.cpu12_emul.specs.Image.{byte_or_zero, image_memory, loaded, HoldsImag
 pub length_loaded : (image : List (ℕ × ℕ)) (n : ℕ) → length (loaded image n) ≡ n
 unfolding loaded
 length_loaded image zero = refl
-length_loaded image (suc n) = length-append (loaded image n) (byte_or_zero (byte_at image n) ∷ []) ∙ (let e = length_loaded image n in omega arith)
+length_loaded image (suc n) = length-append (loaded image n) (byte_or_zero (byte_at image n) ∷ [])
+    ∙ (let e = length_loaded image n in omega arith)
 
 -- the byte at the end of a list, and one before it
 at_end : (xs : List ℕ) (v i : ℕ) → i ≡ length xs → get_or (xs ++ (v ∷ [])) i 0 ≡ v
@@ -22,14 +24,17 @@ before_end [] v i l = absurd (omega arith)
 before_end (x ∷ xs) v zero l = refl
 before_end (x ∷ xs) v (suc i) l = before_end xs v i (omega arith)
 
-pub loaded_at : (image : List (ℕ × ℕ)) (n at : ℕ) → at < n → get_or (loaded image n) at 0 ≡ byte_or_zero (byte_at image at)
+pub loaded_at : (image : List (ℕ × ℕ)) (n at : ℕ) → at < n
+    → get_or (loaded image n) at 0 ≡ byte_or_zero (byte_at image at)
 unfolding loaded
 loaded_at image zero at l = absurd (omega arith)
 loaded_at image (suc n) at l = elim (cases_lt at n) [
-  | inl b ↦ before_end (loaded image n) (byte_or_zero (byte_at image n)) at (let e = length_loaded image n in omega arith) ∙ loaded_at image n at b
+  | inl b ↦ before_end (loaded image n) (byte_or_zero (byte_at image n)) at
+      (let e = length_loaded image n in omega arith) ∙ loaded_at image n at b
   | inr b ↦
       let here : at ≡ n = omega arith in
-      at_end (loaded image n) (byte_or_zero (byte_at image n)) at (here ∙ sym (length_loaded image n)) ∙ ap (λ (k : ℕ). byte_or_zero (byte_at image k)) (sym here)
+      at_end (loaded image n) (byte_or_zero (byte_at image n)) at (here ∙ sym (length_loaded image n))
+      ∙ ap (λ (k : ℕ). byte_or_zero (byte_at image k)) (sym here)
 ]
 
 zero_at : (n at : ℕ) → get_or (zeros n) at 0 ≡ 0
@@ -42,14 +47,20 @@ or_zero : (o : Option ℕ) (z : ℕ) → z ≡ 0 → unwrap_or o z ≡ byte_or_z
 or_zero None z e = e
 or_zero (Some byte) z e = refl
 
-loaded_by : (image : List (ℕ × ℕ)) (m : List ℕ) (n : ℕ) → length m ≡ n → ((at : ℕ) → at < n → get_or m at 0 ≡ unwrap_or (byte_at image at) (get_or (zeros n) at 0)) → m ≡ loaded image n
+loaded_by : (image : List (ℕ × ℕ)) (m : List ℕ) (n : ℕ) → length m ≡ n
+    → ((at : ℕ) → at < n → get_or m at 0 ≡ unwrap_or (byte_at image at) (get_or (zeros n) at 0)) → m ≡ loaded image n
 loaded_by image m n size bytes = ext_get_or 0 m (loaded image n) (size ∙ sym (length_loaded image n)) (λ at l.
     (let within : at < n = omega arith in
-    bytes at within ∙ or_zero (byte_at image at) (get_or (zeros n) at 0) (zero_at n at) ∙ sym (loaded_at image n at within)))
+    bytes at within ∙ or_zero (byte_at image at) (get_or (zeros n) at 0) (zero_at n at)
+    ∙ sym (loaded_at image n at within)))
 
 -- a memory of zeros that an image was written to
-pub image_memory-written : (image : List (ℕ × ℕ)) (old new : List ℕ) → old ≡ zeros 65536 → length new ≡ 65536 → ((at : ℕ) → at < 2 ^ 16 → get_or new at 0 ≡ unwrap_or (byte_at image at) (get_or old at 0)) → new ≡ image_memory image
-image_memory-written image old new z size bytes = loaded_by image new 65536 size (λ at l. bytes at l ∙ ap (λ (m : List ℕ). unwrap_or (byte_at image at) (get_or m at 0)) z)
+pub image_memory-written : (image : List (ℕ × ℕ)) (old new : List ℕ) → old ≡ zeros 65536 → length new ≡ 65536
+    → ((at : ℕ) → at < 2 ^ 16 → get_or new at 0 ≡ unwrap_or (byte_at image at) (get_or old at 0))
+    → new ≡ image_memory image
+image_memory-written image old new z size bytes =
+    loaded_by image new 65536 size
+    (λ at l. bytes at l ∙ ap (λ (m : List ℕ). unwrap_or (byte_at image at) (get_or m at 0)) z)
 
 pub holds_image : HoldsImage
 holds_image image = (length_loaded image 65536, λ at l. loaded_at image 65536 at l)

@@ -1,5 +1,6 @@
 -- Parts of REV and REVW that go on, and leave the instruction where it stands, are steps.
-use Rattle.std.proofs.Common.{◌≡◌, ◌≢◌, ◌==◌, ◌<◌, ℕ, ◌+◌, min, max, Bool, true, false, Result, Ok, List, [], ◌∷◌, get_or, get_or-set_other, refl, ap, sym, ◌∙◌, subst, arith}
+use Rattle.std.proofs.Common.{◌≡◌, ◌≢◌, ◌==◌, ◌<◌, ℕ, ◌+◌, min, max, Bool, true, false, Result, Ok, List, [], ◌∷◌}
+use Rattle.std.proofs.Common.{get_or, get_or-set_other, refl, ap, sym, ◌∙◌, subst, arith}
 use Rattle.std.specs.Prelude.{if◌then◌else◌}
 use Rattle.std.proofs.lemmas.Bool.{eqb-true, ne_eqb}
 use Rattle.cpu12_isa.specs.declared.instr.Regs.{Regs}
@@ -31,7 +32,8 @@ record Passes (at : ℕ) (m : List ℕ) (o : Outcome) : Type 0 where
   others : (k : ℕ) → k ≢ at → get_or (write_all o.writes m) k 0 ≡ get_or m k 0
 
 -- a choice between two acts
-choice : (P : Outcome → Type 0) (m : List ℕ) (b : Bool) (x y : Act Outcome) → (b ≡ true → P (outcome x m)) → P (outcome y m)
+choice : (P : Outcome → Type 0) (m : List ℕ) (b : Bool) (x y : Act Outcome) → (b ≡ true → P (outcome x m))
+    → P (outcome y m)
     → P (outcome (if b then x else y) m)
 choice P m true x y p q = p refl
 choice P m false x y p q = q
@@ -48,7 +50,8 @@ met_passes s r t at m =
 not_stop : (P : Type 0) (e stop : ℕ) → e ≢ stop → (e == stop) ≡ true → P
 not_stop P e stop ne eq = absurd (ne (eqb-true e stop eq))
 
-rev_passes : (flags : ℕ) (r : Regs) (t : Temps) (e : ℕ) (m : List ℕ) → e ≢ 255 → Passes (plus r.y e) m (outcome (rev_element flags r t e) m)
+rev_passes : (flags : ℕ) (r : Regs) (t : Temps) (e : ℕ) (m : List ℕ) → e ≢ 255
+    → Passes (plus r.y e) m (outcome (rev_element flags r t e) m)
 rev_passes flags r t e m ne =
     let at = plus r.y e in
     let c = opened r.ccr hnzc flags in
@@ -56,20 +59,23 @@ rev_passes flags r t e m ne =
     choice (Passes at m) m (e == 255) (leaving (record s { pc = plus s.pc 2 }) t Done) _
     (not_stop _ e 255 ne)
     (choice (Passes at m) m (e == 254) _ (met r s t at)
-    (λ _. choice (Passes at m) m (has r.ccr overflow) (leaving (record s { a = 255; ccr = put c overflow false }) t More)
+    (λ _. choice (Passes at m) m (has r.ccr overflow)
+    (leaving (record s { a = 255; ccr = put c overflow false }) t More)
     (leaving (record s { ccr = put c overflow true }) t More)
     (λ _. passes_leaving at m (record s { a = 255; ccr = put c overflow false }) t)
     (passes_leaving at m (record s { ccr = put c overflow true }) t))
     (met_passes r s t at m))
 
-revw_passes : (flags : ℕ) (r : Regs) (t : Temps) (e : ℕ) (m : List ℕ) → e ≢ 65535 → Passes e m (outcome (revw_element flags r t e) m)
+revw_passes : (flags : ℕ) (r : Regs) (t : Temps) (e : ℕ) (m : List ℕ) → e ≢ 65535
+    → Passes e m (outcome (revw_element flags r t e) m)
 revw_passes flags r t e m ne =
     let c = opened r.ccr hnz flags in
     let s : Regs = record r { x = plus r.x 2; ccr = c } in
     choice (Passes e m) m (e == 65535) (leaving (record s { pc = plus s.pc 2 }) t Done) _
     (not_stop _ e 65535 ne)
     (choice (Passes e m) m (e == 65534) _ (met r s t e)
-    (λ _. choice (Passes e m) m (has r.ccr overflow) (leaving (record s { a = 255; ccr = put c overflow false }) t More) _
+    (λ _. choice (Passes e m) m (has r.ccr overflow)
+    (leaving (record s { a = 255; ccr = put c overflow false }) t More) _
     (λ _. record { end = refl; others = λ k n. refl })
     (choice (Passes e m) m (has r.ccr carry) _ (leaving (record s { ccr = put c overflow true }) t More)
     (λ _. record { end = refl; others = λ k n. refl })
@@ -92,12 +98,14 @@ keeps_beside stop e at pc m o beside passes = record {
 rev_keeps : (flags : ℕ) (s : State) → RevGoesOn s.mem s.regs → Keeps s.regs.pc s.mem (part_of rev flags s)
 rev_keeps flags s on =
     let e : ℕ = get_or s.mem s.regs.x 0 in
-    keeps_beside 255 e (plus s.regs.y e) s.regs.pc s.mem (part_of rev flags s) on (rev_passes flags s.regs s.temps e s.mem on.goes_on)
+    keeps_beside 255 e (plus s.regs.y e) s.regs.pc s.mem (part_of rev flags s) on
+    (rev_passes flags s.regs s.temps e s.mem on.goes_on)
 
 revw_keeps : (flags : ℕ) (s : State) → RevwGoesOn s.mem s.regs → Keeps s.regs.pc s.mem (part_of revw flags s)
 revw_keeps flags s on =
     let e : ℕ = word_of (get_or s.mem s.regs.x 0) (get_or s.mem (plus s.regs.x 1) 0) in
-    keeps_beside 65535 e e s.regs.pc s.mem (part_of revw flags s) on (revw_passes flags s.regs s.temps e s.mem on.goes_on)
+    keeps_beside 65535 e e s.regs.pc s.mem (part_of revw flags s) on
+    (revw_passes flags s.regs s.temps e s.mem on.goes_on)
 
 -- an instruction in parts that stays at PC, and keeps its bytes where a part goes on
 pub record Ruling (i : Instr) (k : Kind) (opcode : ℕ) (On : List ℕ → Regs → Type 0) : Type 0 where
@@ -108,10 +116,12 @@ pub record Ruling (i : Instr) (k : Kind) (opcode : ℕ) (On : List ℕ → Regs 
   pub sums : LeavesSums k
   pub stack : (flags : ℕ) (s : State) → (part_of k flags s).regs.sp ≡ s.regs.sp
 
-decoded_by : (i : Instr) (opcode : ℕ) → ((rest : List ℕ) → decode_of (0x18 ∷ opcode ∷ rest) ≡ Ok i) → (mem : List ℕ) (pc : ℕ) → Stands opcode pc mem → decode_at mem pc ≡ Ok i
+decoded_by : (i : Instr) (opcode : ℕ) → ((rest : List ℕ) → decode_of (0x18 ∷ opcode ∷ rest) ≡ Ok i)
+    → (mem : List ℕ) (pc : ℕ) → Stands opcode pc mem → decode_at mem pc ≡ Ok i
 decoded_by i opcode is mem pc s =
     let rest : List ℕ = bytes_at mem (plus pc 2 ∷ plus pc 3 ∷ plus pc 4 ∷ plus pc 5 ∷ []) in
-    ap (λ (b : ℕ). decode_of (b ∷ get_or mem (plus pc 1) 0 ∷ rest)) s.prebyte ∙ ap (λ (b : ℕ). decode_of (0x18 ∷ b ∷ rest)) s.code ∙ is rest
+    ap (λ (b : ℕ). decode_of (b ∷ get_or mem (plus pc 1) 0 ∷ rest)) s.prebyte
+    ∙ ap (λ (b : ℕ). decode_of (0x18 ∷ b ∷ rest)) s.code ∙ is rest
 
 pub rev_ruling : GoesOnAt own_address rev → LeavesSums rev → IsSteady rev Any → Ruling Rev rev 0x3A RevGoesOn
 rev_ruling stays sums steady = record {
@@ -137,8 +147,10 @@ pub Ruled-none : (opcode flags : ℕ) (s : State) → Stands opcode s.regs.pc s.
 Ruled-none opcode flags s stands = record { parts = refl; pc = refl; sp = refl; temps = refl; stands = stands }
 
 -- one part
-Ruled-one : {i : Instr} {k : Kind} {opcode : ℕ} {On : List ℕ → Regs → Type 0} (flags : ℕ) (s : State) → Ruling i k opcode On
-    → Keeps s.regs.pc s.mem (part_of k flags s) → IsOff s.temps → Stands opcode s.regs.pc s.mem → Ruled opcode flags s (after_part k flags s) 1
+Ruled-one : {i : Instr} {k : Kind} {opcode : ℕ} {On : List ℕ → Regs → Type 0} (flags : ℕ) (s : State)
+    → Ruling i k opcode On
+    → Keeps s.regs.pc s.mem (part_of k flags s) → IsOff s.temps → Stands opcode s.regs.pc s.mem
+    → Ruled opcode flags s (after_part k flags s) 1
 Ruled-one {i} {k} {opcode} flags s law keeps off stands =
     let t : State = after_part k flags s in
     let step : next_of flags s ≡ Ok (record { state = t; kind = Part }) =
@@ -155,8 +167,10 @@ Ruled-one {i} {k} {opcode} flags s law keeps off stands =
     }
 
 -- one part that goes on, by what it leaves
-pub Ruled-part : {i : Instr} {k : Kind} {opcode : ℕ} {On : List ℕ → Regs → Type 0} (flags : ℕ) (s : State) (r : Regs) (mem : List ℕ)
-    → Ruling i k opcode On → On s.mem s.regs → r ≡ (part_of k flags s).regs → mem ≡ write_all (part_of k flags s).writes s.mem
+pub Ruled-part : {i : Instr} {k : Kind} {opcode : ℕ} {On : List ℕ → Regs → Type 0} (flags : ℕ) (s : State) (r : Regs)
+    (mem : List ℕ)
+    → Ruling i k opcode On → On s.mem s.regs → r ≡ (part_of k flags s).regs
+    → mem ≡ write_all (part_of k flags s).writes s.mem
     → IsOff s.temps → Stands opcode s.regs.pc s.mem → Ruled opcode flags s (state_of r s.temps mem) 1
 Ruled-part {i} {k} {opcode} flags s r mem law on regs writes off stands =
     let o : Outcome = part_of k flags s in
@@ -170,9 +184,11 @@ Ruled-part {i} {k} {opcode} flags s r mem law on regs writes off stands =
 pub Ruled-then : (opcode flags : ℕ) (s t u : State) (n k : ℕ) → IsOff s.temps → Ruled opcode flags s t n
     → (IsOff t.temps → Stands opcode t.regs.pc t.mem → Ruled opcode flags t u k) → Ruled opcode flags s u (n + k)
 Ruled-then opcode flags s t u n k off is further =
-    let more : Ruled opcode flags t u k = further (subst IsOff (sym is.temps) off) (subst (λ (p : ℕ). Stands opcode p t.mem) (sym is.pc) is.stands) in
+    let more : Ruled opcode flags t u k =
+    further (subst IsOff (sym is.temps) off) (subst (λ (p : ℕ). Stands opcode p t.mem) (sym is.pc) is.stands) in
     record {
-      parts = StepsOf-append Part (λ v. (v.regs.pc ≡ s.regs.pc) × (v.regs.sp ≡ s.regs.sp)) (λ v. (v.regs.pc ≡ t.regs.pc) × (v.regs.sp ≡ t.regs.sp))
+      parts = StepsOf-append Part (λ v. (v.regs.pc ≡ s.regs.pc) × (v.regs.sp ≡ s.regs.sp))
+          (λ v. (v.regs.pc ≡ t.regs.pc) × (v.regs.sp ≡ t.regs.sp))
           (λ v at. (at.0 ∙ is.pc, at.1 ∙ is.sp)) flags n k s t u is.parts more.parts;
       pc = more.pc ∙ is.pc;
       sp = more.sp ∙ is.sp;
@@ -184,24 +200,37 @@ Ruled-then opcode flags s t u n k off is further =
 abbrev met_outcome : ℕ → State → Outcome
 met_outcome flags s = record { regs = met_by_rev flags s.mem s.regs; temps = s.temps; writes = []; end = More }
 
-met_by_element : (flags : ℕ) (r : Regs) (t : Temps) (e : ℕ) (m : List ℕ) (o : Outcome) → e < 254 → has r.ccr overflow ≡ false
-    → record { regs = record r { a = min r.a (get_or m (plus r.y e) 0); x = plus r.x 1; ccr = opened r.ccr hnzc flags }; temps = t; writes = []; end = More } ≡ o
+met_by_element : (flags : ℕ) (r : Regs) (t : Temps) (e : ℕ) (m : List ℕ) (o : Outcome) → e < 254
+    → has r.ccr overflow ≡ false
+    → record {
+      regs = record r { a = min r.a (get_or m (plus r.y e) 0); x = plus r.x 1; ccr = opened r.ccr hnzc flags };
+      temps = t;
+      writes = [];
+      end = More;
+    } ≡ o
     → outcome (rev_element flags r t e) m ≡ o
 met_by_element flags r t e m o l v is =
     let h5 = ne_eqb e 255 (λ q. omega arith) in
     let h4 = ne_eqb e 254 (λ q. omega arith) in
     rw (h5, h4, v) is
 
-met_by_part : (flags : ℕ) (s : State) → get_or s.mem s.regs.x 0 < 254 → has s.regs.ccr overflow ≡ false → part_of rev flags s ≡ met_outcome flags s
-met_by_part flags s l v = met_by_element flags s.regs s.temps (get_or s.mem s.regs.x 0) s.mem (met_outcome flags s) l v refl
+met_by_part : (flags : ℕ) (s : State) → get_or s.mem s.regs.x 0 < 254 → has s.regs.ccr overflow ≡ false
+    → part_of rev flags s ≡ met_outcome flags s
+met_by_part flags s l v =
+    met_by_element flags s.regs s.temps (get_or s.mem s.regs.x 0) s.mem (met_outcome flags s) l v refl
 
-pub Ruled-antecedent : (flags : ℕ) (s : State) → Ruling Rev rev 0x3A RevGoesOn → get_or s.mem s.regs.x 0 < 254 → has s.regs.ccr overflow ≡ false
-    → IsOff s.temps → Stands 0x3A s.regs.pc s.mem → Ruled 0x3A flags s (state_of (met_by_rev flags s.mem s.regs) s.temps s.mem) 1
+pub Ruled-antecedent : (flags : ℕ) (s : State) → Ruling Rev rev 0x3A RevGoesOn → get_or s.mem s.regs.x 0 < 254
+    → has s.regs.ccr overflow ≡ false
+    → IsOff s.temps → Stands 0x3A s.regs.pc s.mem
+    → Ruled 0x3A flags s (state_of (met_by_rev flags s.mem s.regs) s.temps s.mem) 1
 Ruled-antecedent flags s law l v off stands =
     let is : part_of rev flags s ≡ met_outcome flags s = met_by_part flags s l v in
     subst (λ (o : Outcome). Ruled 0x3A flags s (state_after o s.mem) 1) is
-    (Ruled-one flags s law (subst (λ (o : Outcome). Keeps s.regs.pc s.mem o) (sym is) (record { end = refl; prebyte = refl; code = refl })) off stands)
+    (Ruled-one flags s law
+    (subst (λ (o : Outcome). Keeps s.regs.pc s.mem o) (sym is) (record { end = refl; prebyte = refl; code = refl }))
+    off stands)
 
 -- V after it
-pub overflow_met : (flags : ℕ) (mem : List ℕ) (r : Regs) → has (met_by_rev flags mem r).ccr overflow ≡ has r.ccr overflow
+pub overflow_met : (flags : ℕ) (mem : List ℕ) (r : Regs)
+    → has (met_by_rev flags mem r).ccr overflow ≡ has r.ccr overflow
 overflow_met flags mem r = let v : bit (opened r.ccr hnzc flags).0 1 ≡ bit r.ccr.0 1 = simp (bit_or_is, bit_and_is) in v

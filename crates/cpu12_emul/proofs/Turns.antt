@@ -16,13 +16,15 @@ use Rattle.cpu12_emul.specs.Adding.{turned, IsAddingLoop, TurnsTo}
 use Rattle.cpu12_emul.proofs.Stepping.{plain_is_step}
 
 -- one turn more
-pub TurnsTo-suc : (flags end : ℕ) (mem : List ℕ) (n : ℕ) (r t : Regs) → TurnsTo flags end mem n r t → (turned flags end mem t).pc ≡ t.pc
+pub TurnsTo-suc : (flags end : ℕ) (mem : List ℕ) (n : ℕ) (r t : Regs) → TurnsTo flags end mem n r t
+    → (turned flags end mem t).pc ≡ t.pc
     → TurnsTo flags end mem (suc n) r (turned flags end mem t)
 TurnsTo-suc flags end mem zero r t to on =
     subst (λ (u : Regs). TurnsTo flags end mem 1 u (turned flags end mem t)) (sym to) (on, refl)
 TurnsTo-suc flags end mem (suc n) r t to on = (to.0, TurnsTo-suc flags end mem n (turned flags end mem r) t to.1 on)
 
-pub TurnsTo-more : (flags end : ℕ) (mem : List ℕ) (n : ℕ) (r t : Regs) → TurnsTo flags end mem n r t → (turned flags end mem t).pc ≡ t.pc
+pub TurnsTo-more : (flags end : ℕ) (mem : List ℕ) (n : ℕ) (r t : Regs) → TurnsTo flags end mem n r t
+    → (turned flags end mem t).pc ≡ t.pc
     → TurnsTo flags end mem (n + 1) r (turned flags end mem t)
 TurnsTo-more flags end mem n r t to on =
     subst (λ (k : ℕ). TurnsTo flags end mem k r (turned flags end mem t)) (let k : suc n ≡ n + 1 = omega arith in k)

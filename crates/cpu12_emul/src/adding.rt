@@ -78,7 +78,8 @@ impl<M: Mem> Machine<M> {
     /// changes memory.
     #[inline(always)]
     pub fn add_up(&mut self, most: u32) -> u32
-        ensures steps { PlainlyTo (λ s. s.mem ≡ self.old.state.mem) self.old.flags result self.old.state self.new.state }
+        ensures steps { PlainlyTo (λ s. s.mem ≡ self.old.state.mem) self.old.flags result self.old.state
+            self.new.state }
         ensures most { result ≤ most }
         ensures flags { self.new.flags ≡ self.old.flags }
         ensures noted { self.new.noted ≡ self.old.noted }

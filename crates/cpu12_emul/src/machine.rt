@@ -33,7 +33,11 @@ impl<M: Mem> Model for Machine<M> {
 
     ghost Value = { Whole };
 
-    ghost view = { λ a. record { state = record { regs = a.regs; temps = a.temps; mem = M.bytes a.mem }; flags = a.flags; noted = M.noted a.mem } };
+    ghost view = { λ a. record {
+      state = record { regs = a.regs; temps = a.temps; mem = M.bytes a.mem };
+      flags = a.flags;
+      noted = M.noted a.mem;
+    } };
 }
 
 /// The kind of a step by a part.
@@ -121,9 +125,12 @@ impl<M: Mem> Machine<M> {
         ensures temps { self.new.state.temps
             ≡ (outcome (R.act k.now self.old.flags self.old.state.regs self.old.state.temps) self.old.state.mem).temps }
         ensures mem { self.new.state.mem
-            ≡ write_all (outcome (R.act k.now self.old.flags self.old.state.regs self.old.state.temps) self.old.state.mem).writes self.old.state.mem }
+            ≡ write_all
+            (outcome (R.act k.now self.old.flags self.old.state.regs self.old.state.temps) self.old.state.mem).writes
+            self.old.state.mem }
         ensures kind { result
-            ≡ kind_of (outcome (R.act k.now self.old.flags self.old.state.regs self.old.state.temps) self.old.state.mem).end }
+            ≡ kind_of
+            (outcome (R.act k.now self.old.flags self.old.state.regs self.old.state.temps) self.old.state.mem).end }
         ensures flags { self.new.flags ≡ self.old.flags }
         ensures noted { self.new.noted ≡ self.old.noted }
     {
@@ -135,7 +142,9 @@ impl<M: Mem> Machine<M> {
     #[inline(always)]
     #[tactic(auto, using(cpu12_isa::proofs::Algebra::outcome_bind))]
     fn instruction(&mut self, i: &Instr) -> Stepped
-        ensures next { applied (outcome (instruction_act self.old.flags self.old.state.regs self.old.state.temps (Ok i.now)) self.old.state.mem) self.old.state.mem
+        ensures next { applied
+            (outcome (instruction_act self.old.flags self.old.state.regs self.old.state.temps (Ok i.now))
+            self.old.state.mem) self.old.state.mem
             ≡ Ok (record { state = self.new.state; kind = result }) }
         ensures flags { self.new.flags ≡ self.old.flags }
         ensures noted { self.new.noted ≡ self.old.noted }

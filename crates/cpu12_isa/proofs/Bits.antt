@@ -1,5 +1,6 @@
 -- Flags by their bits: with numerals for a mask and a bit, the bits of a byte compute.
-use Rattle.std.proofs.Common.{◌≡◌, ℕ, zero, suc, ◌-◌, ◌/◌, ◌%◌, ◌^◌, ◌<◌, ◌≤◌, Bool, true, false, ◌&&◌, ◌||◌, refl, ap, sym, ◌∙◌, arith, inl, inr, ◌⊎◌, bit_and, bit_or, min, max, nat_eq, List, [], ◌∷◌}
+use Rattle.std.proofs.Common.{◌≡◌, ℕ, zero, suc, ◌-◌, ◌/◌, ◌%◌, ◌^◌, ◌<◌, ◌≤◌, Bool, true, false, ◌&&◌, ◌||◌, refl, ap}
+use Rattle.std.proofs.Common.{sym, ◌∙◌, arith, inl, inr, ◌⊎◌, bit_and, bit_or, min, max, nat_eq, List, [], ◌∷◌}
 use Rattle.std.specs.Int.{bit_at}
 use Rattle.std.proofs.lemmas.Nat.Bits.{bit_at_and, bit_at_or, bit_at-lt, same_from_bits_below}
 use Rattle.std.proofs.lemmas.Nat.{and_le_l, or_lt}
@@ -34,10 +35,12 @@ min_test x y f g = elim (two_cases x f) [
 
 -- a bit of an `|` and of an `&`: with a numeral on the right they compute
 pub bit_or_is : (a m k : ℕ) → bit (bit_or a m) k ≡ (bit m k || bit a k)
-bit_or_is a m k = ap (λ (n : ℕ). nat_eq n 1) (bit_at_or a m k) ∙ max_test (bit_at a k) (bit_at m k) (bit_at-lt a k) (bit_at-lt m k)
+bit_or_is a m k = ap (λ (n : ℕ). nat_eq n 1) (bit_at_or a m k)
+    ∙ max_test (bit_at a k) (bit_at m k) (bit_at-lt a k) (bit_at-lt m k)
 
 pub bit_and_is : (a m k : ℕ) → bit (bit_and a m) k ≡ (bit m k && bit a k)
-bit_and_is a m k = ap (λ (n : ℕ). nat_eq n 1) (bit_at_and a m k) ∙ min_test (bit_at a k) (bit_at m k) (bit_at-lt a k) (bit_at-lt m k)
+bit_and_is a m k = ap (λ (n : ℕ). nat_eq n 1) (bit_at_and a m k)
+    ∙ min_test (bit_at a k) (bit_at m k) (bit_at-lt a k) (bit_at-lt m k)
 
 eight : (P : ℕ → Type 0) → P 0 → P 1 → P 2 → P 3 → P 4 → P 5 → P 6 → P 7 → (i : ℕ) → i < 8 → P i
 eight P a b c d e f g h zero l = a
@@ -53,8 +56,16 @@ eight P a b c d e f g h (suc (suc (suc (suc (suc (suc (suc (suc i)))))))) l = ab
 -- a test of a bit says which it is
 same_test : (x y : ℕ) → x < 2 → y < 2 → nat_eq x 1 ≡ nat_eq y 1 → x ≡ y
 same_test x y f g e = elim (two_cases x f) [
-  | inl a ↦ elim (two_cases y g) [ inl b ↦ a ∙ sym b | inr b ↦ absurd (let z : nat_eq 0 1 ≡ nat_eq 1 1 = ap (λ (n : ℕ). nat_eq n 1) (sym a) ∙ e ∙ ap (λ (n : ℕ). nat_eq n 1) b in cc) ]
-  | inr a ↦ elim (two_cases y g) [ inl b ↦ absurd (let z : nat_eq 1 1 ≡ nat_eq 0 1 = ap (λ (n : ℕ). nat_eq n 1) (sym a) ∙ e ∙ ap (λ (n : ℕ). nat_eq n 1) b in cc) | inr b ↦ a ∙ sym b ]
+  | inl a ↦ elim (two_cases y g) [
+    | inl b ↦ a ∙ sym b
+    | inr b ↦ absurd
+        (let z : nat_eq 0 1 ≡ nat_eq 1 1 = ap (λ (n : ℕ). nat_eq n 1) (sym a) ∙ e ∙ ap (λ (n : ℕ). nat_eq n 1) b in cc)
+  ]
+  | inr a ↦ elim (two_cases y g) [
+    | inl b ↦ absurd (let z : nat_eq 1 1 ≡ nat_eq 0 1 = ap (λ (n : ℕ). nat_eq n 1) (sym a) ∙ e
+        ∙ ap (λ (n : ℕ). nat_eq n 1) b in cc)
+    | inr b ↦ a ∙ sym b
+  ]
 ]
 
 -- two bytes with the same bits are equal
@@ -82,8 +93,12 @@ fits_put c k true l f = or_lt 8 c.0 (2 ^ k) f l
 fits_put c k false l f = let h : bit_and c.0 (255 - 2 ^ k) ≤ c.0 = and_le_l c.0 (255 - 2 ^ k) in omega arith
 
 pub fits_opened : (c : Ccr) (mask flags : ℕ) → c.0 < 2 ^ 8 → flags < 2 ^ 8 → (opened c mask flags).0 < 2 ^ 8
-fits_opened c mask flags f g = or_lt 8 (bit_and c.0 (255 - mask)) (bit_and flags mask) (let h : bit_and c.0 (255 - mask) ≤ c.0 = and_le_l c.0 (255 - mask) in omega arith) (let h : bit_and flags mask ≤ flags = and_le_l flags mask in omega arith)
+fits_opened c mask flags f g =
+    or_lt 8 (bit_and c.0 (255 - mask)) (bit_and flags mask)
+    (let h : bit_and c.0 (255 - mask) ≤ c.0 = and_le_l c.0 (255 - mask) in omega arith)
+    (let h : bit_and flags mask ≤ flags = and_le_l flags mask in omega arith)
 
 -- what is pulled after a push with I set is what was pushed
 pub pulled_again : (c : Ccr) → c.0 < 2 ^ 8 → pulled_flags (put c interrupts_masked true) c.0 ≡ c
-pulled_again c f = same_ccr (pulled_flags (put c interrupts_masked true) c.0) c (let h = and_le_l c.0 (bit_or (bit_or c.0 16) 191) in omega arith) f (simp (bit_or_is, bit_and_is, and_same))
+pulled_again c f = same_ccr (pulled_flags (put c interrupts_masked true) c.0) c
+    (let h = and_le_l c.0 (bit_or (bit_or c.0 16) 191) in omega arith) f (simp (bit_or_is, bit_and_is, and_same))

@@ -1,5 +1,7 @@
 -- What fits stays so.
-use Rattle.std.proofs.Common.{◌≡◌, ℕ, zero, suc, ◌+◌, ◌*◌, ◌/◌, ◌%◌, ◌^◌, ◌<◌, ◌≤◌, ◌==◌, ◌⊎◌, nat_lt, if◌then◌else◌, Bool, true, false, Result, Ok, List, [], ◌∷◌, length, get_or, arith, rules, subst, sym, inl, inr, get_or-set_same, get_or-set_other}
+use Rattle.std.proofs.Common.{◌≡◌, ℕ, zero, suc, ◌+◌, ◌*◌, ◌/◌, ◌%◌, ◌^◌, ◌<◌, ◌≤◌, ◌==◌, ◌⊎◌, nat_lt, if◌then◌else◌}
+use Rattle.std.proofs.Common.{Bool, true, false, Result, Ok, List, [], ◌∷◌, length, get_or, arith, rules, subst, sym}
+use Rattle.std.proofs.Common.{inl, inr, get_or-set_same, get_or-set_other}
 use Rattle.std.proofs.Math.Nat.{div-lt_iff_lt-mul}
 use Rattle.std.proofs.Math.ListN.{set}
 use Rattle.std.proofs.lemmas.Bool.{cases_lt, cases_eq}
@@ -19,19 +21,23 @@ use Rattle.cpu12_isa.specs.Code.{FitsOperands, entry, page_of, decode_of, six_fr
 use Rattle.cpu12_isa.specs.Meaning.{act_of}
 use Rattle.cpu12_isa.specs.Fits.{FitsRegs, FitsWrites, AreBytes, Leaves, StaysFit, BytesStay, DecodedFits}
 
-pub leaves_outcome : {A : Type 0} (P : A → Type 0) (act : Act A) (m : List ℕ) → AreBytes m → Leaves P act → P (outcome act m)
+pub leaves_outcome : {A : Type 0} (P : A → Type 0) (act : Act A) (m : List ℕ) → AreBytes m → Leaves P act
+    → P (outcome act m)
 leaves_outcome P (Give a) m b l = l
 leaves_outcome P (Get at next) m b l = leaves_outcome P (next (get_or m at 0)) m b (l (get_or m at 0) (b at))
 
-sp_fits : (flags : ℕ) (i : Instr) (r : Regs) → flags < 2 ^ 8 → FitsOperands i → FitsRegs r → Leaves (λ e. e.regs.sp < 2 ^ 16) (act_of flags i r)
+sp_fits : (flags : ℕ) (i : Instr) (r : Regs) → flags < 2 ^ 8 → FitsOperands i → FitsRegs r
+    → Leaves (λ e. e.regs.sp < 2 ^ 16) (act_of flags i r)
 sp_fits flags (LdaaImmediate v) r h o f = f.sp
 sp_fits flags i r h o f = search (rules, widths)
 
-a_fits : (flags : ℕ) (i : Instr) (r : Regs) → flags < 2 ^ 8 → FitsOperands i → FitsRegs r → Leaves (λ e. e.regs.a < 2 ^ 8) (act_of flags i r)
+a_fits : (flags : ℕ) (i : Instr) (r : Regs) → flags < 2 ^ 8 → FitsOperands i → FitsRegs r
+    → Leaves (λ e. e.regs.a < 2 ^ 8) (act_of flags i r)
 a_fits flags (LdaaImmediate v) r h o f = o
 a_fits flags i r h o f = search (rules, widths)
 
-b_fits : (flags : ℕ) (i : Instr) (r : Regs) → flags < 2 ^ 8 → FitsOperands i → FitsRegs r → Leaves (λ e. e.regs.b < 2 ^ 8) (act_of flags i r)
+b_fits : (flags : ℕ) (i : Instr) (r : Regs) → flags < 2 ^ 8 → FitsOperands i → FitsRegs r
+    → Leaves (λ e. e.regs.b < 2 ^ 8) (act_of flags i r)
 b_fits flags (LdaaImmediate v) r h o f = f.b
 b_fits flags i r h o f = search (rules, widths)
 
@@ -61,27 +67,33 @@ fdiv_fits r =
       pc = plus r.pc 2;
       ccr = put (put (put r.ccr zero_result ((r.a * 2 ^ 8 + r.b) * 2 ^ 16 / r.x == 0)) overflow false) carry false;
     } in
-    let no : Regs = record r { x = 65535; pc = plus r.pc 2; ccr = put (put (put r.ccr zero_result false) overflow true) carry (r.x == 0) } in
+    let no : Regs = record r
+    { x = 65535; pc = plus r.pc 2; ccr = put (put (put r.ccr zero_result false) overflow true) carry (r.x == 0) } in
     choice_fits (r.a * 2 ^ 8 + r.b) r.x (2 ^ 16) yes no (λ l. quotient_fits (r.a * 2 ^ 8 + r.b) r.x l) (omega arith)
 
-x_fits : (flags : ℕ) (i : Instr) (r : Regs) → flags < 2 ^ 8 → FitsOperands i → FitsRegs r → Leaves (λ e. e.regs.x < 2 ^ 16) (act_of flags i r)
+x_fits : (flags : ℕ) (i : Instr) (r : Regs) → flags < 2 ^ 8 → FitsOperands i → FitsRegs r
+    → Leaves (λ e. e.regs.x < 2 ^ 16) (act_of flags i r)
 x_fits flags (LdaaImmediate v) r h o f = f.x
 x_fits flags Fdiv r h o f = fdiv_fits r
 x_fits flags i r h o f = search (rules, widths)
 
-y_fits : (flags : ℕ) (i : Instr) (r : Regs) → flags < 2 ^ 8 → FitsOperands i → FitsRegs r → Leaves (λ e. e.regs.y < 2 ^ 16) (act_of flags i r)
+y_fits : (flags : ℕ) (i : Instr) (r : Regs) → flags < 2 ^ 8 → FitsOperands i → FitsRegs r
+    → Leaves (λ e. e.regs.y < 2 ^ 16) (act_of flags i r)
 y_fits flags (LdaaImmediate v) r h o f = f.y
 y_fits flags i r h o f = search (rules, widths)
 
-pc_fits : (flags : ℕ) (i : Instr) (r : Regs) → flags < 2 ^ 8 → FitsOperands i → FitsRegs r → Leaves (λ e. e.regs.pc < 2 ^ 16) (act_of flags i r)
+pc_fits : (flags : ℕ) (i : Instr) (r : Regs) → flags < 2 ^ 8 → FitsOperands i → FitsRegs r
+    → Leaves (λ e. e.regs.pc < 2 ^ 16) (act_of flags i r)
 pc_fits flags (LdaaImmediate v) r h o f = omega arith
 pc_fits flags i r h o f = search (rules, widths)
 
-ccr_fits : (flags : ℕ) (i : Instr) (r : Regs) → flags < 2 ^ 8 → FitsOperands i → FitsRegs r → Leaves (λ e. e.regs.ccr.0 < 2 ^ 8) (act_of flags i r)
+ccr_fits : (flags : ℕ) (i : Instr) (r : Regs) → flags < 2 ^ 8 → FitsOperands i → FitsRegs r
+    → Leaves (λ e. e.regs.ccr.0 < 2 ^ 8) (act_of flags i r)
 ccr_fits flags (LdaaImmediate v) r h o f = grind (arith, common_steps, widths)
 ccr_fits flags i r h o f = grind (arith, common_steps, widths)
 
-writes_fit : (flags : ℕ) (i : Instr) (r : Regs) → flags < 2 ^ 8 → FitsOperands i → FitsRegs r → Leaves (λ e. FitsWrites e.writes) (act_of flags i r)
+writes_fit : (flags : ℕ) (i : Instr) (r : Regs) → flags < 2 ^ 8 → FitsOperands i → FitsRegs r
+    → Leaves (λ e. FitsWrites e.writes) (act_of flags i r)
 writes_fit flags (LdaaImmediate v) r h o f = tt
 writes_fit flags i r h o f = search (rules, widths)
 
@@ -103,10 +115,13 @@ stays_fit flags i r m h o f b = (
 byte_set : (m : List ℕ) (i v : ℕ) → v < 2 ^ 8 → AreBytes m → AreBytes (set m i v)
 byte_set m i v f b at = elim (cases_eq at i) [
   | inl e ↦ elim (cases_lt i (length m)) [
-    | inl l ↦ (let h : get_or (set m i v) i 0 ≡ v = get_or-set_same m i v 0 l in subst (λ (k : ℕ). get_or (set m i v) k 0 < 2 ^ 8) (sym e) (omega (arith, h)))
-    | inr l ↦ (let h : get_or (set m i v) i 0 ≡ 0 = get_or_past (set m i v) i 0 (omega (arith, length-set m i v)) in subst (λ (k : ℕ). get_or (set m i v) k 0 < 2 ^ 8) (sym e) (omega (arith, h)))
+    | inl l ↦ (let h : get_or (set m i v) i 0 ≡ v = get_or-set_same m i v 0 l in
+        subst (λ (k : ℕ). get_or (set m i v) k 0 < 2 ^ 8) (sym e) (omega (arith, h)))
+    | inr l ↦ (let h : get_or (set m i v) i 0 ≡ 0 = get_or_past (set m i v) i 0 (omega (arith, length-set m i v)) in
+        subst (λ (k : ℕ). get_or (set m i v) k 0 < 2 ^ 8) (sym e) (omega (arith, h)))
   ]
-  | inr ne ↦ (let h : get_or (set m i v) at 0 ≡ get_or m at 0 = get_or-set_other m i at v 0 ne in let k : get_or m at 0 < 2 ^ 8 = b at in omega (arith, h, k))
+  | inr ne ↦ (let h : get_or (set m i v) at 0 ≡ get_or m at 0 = get_or-set_other m i at v 0 ne in
+      let k : get_or m at 0 < 2 ^ 8 = b at in omega (arith, h, k))
 ]
 
 pub bytes_stay : BytesStay
@@ -118,7 +133,8 @@ abbrev AllFit : List (ℕ × Instr) → Type 0
 AllFit [] = Unit {0}
 AllFit (e ∷ es) = FitsOperands e.1 × AllFit es
 
-entry_cases : (b : Bool) (x : Instr) (rest : Result Instr ℕ) (i : Instr) → (if b then Ok x else rest) ≡ Ok i → (x ≡ i) ⊎ (rest ≡ Ok i)
+entry_cases : (b : Bool) (x : Instr) (rest : Result Instr ℕ) (i : Instr) → (if b then Ok x else rest) ≡ Ok i
+    → (x ≡ i) ⊎ (rest ≡ Ok i)
 entry_cases true x rest i e = inl cc
 entry_cases false x rest i e = inr e
 
@@ -134,10 +150,122 @@ choice_cases true p q i e = inl e
 choice_cases false p q i e = inr e
 
 word_fits : (bs : List ℕ) (k : ℕ) → AreBytes bs → word_of (get_or bs k 0) (get_or bs (k + 1) 0) < 2 ^ 16
-word_fits bs k b = let h : get_or bs k 0 < 2 ^ 8 = b k in let l : get_or bs (k + 1) 0 < 2 ^ 8 = b (k + 1) in omega (arith, h, l)
+word_fits bs k b = let h : get_or bs k 0 < 2 ^ 8 = b k in let l : get_or bs (k + 1) 0 < 2 ^ 8 = b (k + 1) in
+    omega (arith, h, l)
 
 page_one_fits : (bs : List ℕ) → AreBytes bs → AllFit (page_of One bs)
-page_one_fits bs b = (b 1, (word_fits bs 1 b, (b 1, (word_fits bs 1 b, (word_fits bs 1 b, (word_fits bs 1 b, (word_fits bs 1 b, (word_fits bs 1 b, (word_fits bs 1 b, (word_fits bs 1 b, (tt, (word_fits bs 1 b, (b 1, (b 1, (b 1, (b 1, (b 1, (word_fits bs 1 b, (tt, (b 1, (b 1, (tt, (tt, (tt, (word_fits bs 1 b, (word_fits bs 1 b, (b 1, (word_fits bs 1 b, (b 1, (word_fits bs 1 b, (b 1, (b 1, (word_fits bs 1 b, (b 1, (word_fits bs 1 b, (b 1, (word_fits bs 1 b, (b 1, (word_fits bs 1 b, (tt, (tt, (tt, (tt, (tt, (tt, (tt, (tt, tt)))))))))))))))))))))))))))))))))))))))))))))))
+page_one_fits bs b = (
+  b 1,
+  (
+    word_fits bs 1 b,
+    (
+      b 1,
+      (
+        word_fits bs 1 b,
+        (
+          word_fits bs 1 b,
+          (
+            word_fits bs 1 b,
+            (
+              word_fits bs 1 b,
+              (
+                word_fits bs 1 b,
+                (
+                  word_fits bs 1 b,
+                  (
+                    word_fits bs 1 b,
+                    (
+                      tt,
+                      (
+                        word_fits bs 1 b,
+                        (
+                          b 1,
+                          (
+                            b 1,
+                            (
+                              b 1,
+                              (
+                                b 1,
+                                (
+                                  b 1,
+                                  (
+                                    word_fits bs 1 b,
+                                    (
+                                      tt,
+                                      (
+                                        b 1,
+                                        (
+                                          b 1,
+                                          (
+                                            tt,
+                                            (
+                                              tt,
+                                              (
+                                                tt,
+                                                (
+                                                  word_fits bs 1 b,
+                                                  (
+                                                    word_fits bs 1 b,
+                                                    (
+                                                      b 1,
+                                                      (
+                                                        word_fits bs 1 b,
+                                                        (
+                                                          b 1,
+                                                          (
+                                                            word_fits bs 1 b,
+                                                            (
+                                                              b 1,
+                                                              (
+                                                                b 1,
+                                                                (
+                                                                  word_fits bs 1 b,
+                                                                  (
+                                                                    b 1,
+                                                                    (
+                                                                      word_fits bs 1 b,
+                                                                      (
+                                                                        b 1,
+                                                                        (
+                                                                          word_fits bs 1 b,
+                                                                          (b 1, (word_fits bs 1 b, (tt, (tt, (tt, (tt, (tt, (tt, (tt, (tt, tt)))))))))),
+                                                                        ),
+                                                                      ),
+                                                                    ),
+                                                                  ),
+                                                                ),
+                                                              ),
+                                                            ),
+                                                          ),
+                                                        ),
+                                                      ),
+                                                    ),
+                                                  ),
+                                                ),
+                                              ),
+                                            ),
+                                          ),
+                                        ),
+                                      ),
+                                    ),
+                                  ),
+                                ),
+                              ),
+                            ),
+                          ),
+                        ),
+                      ),
+                    ),
+                  ),
+                ),
+              ),
+            ),
+          ),
+        ),
+      ),
+    ),
+  ),
+)
 
 page_two_fits : (bs : List ℕ) → AreBytes bs → AllFit (page_of Two bs)
 page_two_fits bs b = (tt, ((b 2, word_fits bs 3 b), ((word_fits bs 2 b, word_fits bs 4 b), (tt, (tt, (tt, tt))))))
@@ -154,16 +282,23 @@ bytes_at_fit mem (x ∷ ats) b zero = b x
 bytes_at_fit mem (x ∷ ats) b (suc at) = bytes_at_fit mem ats b at
 
 decode_fits : (bs : List ℕ) (i : Instr) → AreBytes bs → decode_of bs ≡ Ok i → FitsOperands i
-decode_fits bs i b e = elim (choice_cases (get_or bs 0 0 == 0x18) (entry (page_of Two bs) (get_or bs 1 0)) (if get_or bs 0 0 == 0xB7 then entry (page_of Transfer bs) (get_or bs 1 0) else (if get_or bs 0 0 == 0xEB then entry (page_of AddIndexed bs) (get_or bs 1 0) else entry (page_of One bs) (get_or bs 0 0))) i e) [
-  | inl h ↦ entry_fits (page_of Two bs) (get_or bs 1 0) i (page_two_fits bs b) h
-  | inr f ↦ elim (choice_cases (get_or bs 0 0 == 0xB7) (entry (page_of Transfer bs) (get_or bs 1 0)) (if get_or bs 0 0 == 0xEB then entry (page_of AddIndexed bs) (get_or bs 1 0) else entry (page_of One bs) (get_or bs 0 0)) i f) [
-    | inl h ↦ entry_fits (page_of Transfer bs) (get_or bs 1 0) i (page_transfer_fits bs b) h
-    | inr g ↦ elim (choice_cases (get_or bs 0 0 == 0xEB) (entry (page_of AddIndexed bs) (get_or bs 1 0)) (entry (page_of One bs) (get_or bs 0 0)) i g) [
-      | inl h ↦ entry_fits (page_of AddIndexed bs) (get_or bs 1 0) i (page_add_fits bs b) h
-      | inr h ↦ entry_fits (page_of One bs) (get_or bs 0 0) i (page_one_fits bs b) h
+decode_fits bs i b e =
+    elim (choice_cases (get_or bs 0 0 == 0x18) (entry (page_of Two bs) (get_or bs 1 0))
+    (if get_or bs 0 0 == 0xB7 then entry (page_of Transfer bs) (get_or bs 1 0) else
+    (if get_or bs 0 0 == 0xEB then entry (page_of AddIndexed bs) (get_or bs 1 0) else entry (page_of One bs)
+    (get_or bs 0 0))) i e) [
+      | inl h ↦ entry_fits (page_of Two bs) (get_or bs 1 0) i (page_two_fits bs b) h
+      | inr f ↦ elim (choice_cases (get_or bs 0 0 == 0xB7) (entry (page_of Transfer bs) (get_or bs 1 0))
+          (if get_or bs 0 0 == 0xEB then entry (page_of AddIndexed bs) (get_or bs 1 0) else entry (page_of One bs)
+          (get_or bs 0 0)) i f) [
+            | inl h ↦ entry_fits (page_of Transfer bs) (get_or bs 1 0) i (page_transfer_fits bs b) h
+            | inr g ↦ elim (choice_cases (get_or bs 0 0 == 0xEB) (entry (page_of AddIndexed bs) (get_or bs 1 0))
+                (entry (page_of One bs) (get_or bs 0 0)) i g) [
+                  | inl h ↦ entry_fits (page_of AddIndexed bs) (get_or bs 1 0) i (page_add_fits bs b) h
+                  | inr h ↦ entry_fits (page_of One bs) (get_or bs 0 0) i (page_one_fits bs b) h
+                ]
+          ]
     ]
-  ]
-]
 
 pub decoded_fits : DecodedFits
 decoded_fits mem pc i b e = decode_fits (bytes_at mem (six_from pc)) i (bytes_at_fit mem (six_from pc) b) e

@@ -1,8 +1,11 @@
 -- Memory as pages, byte by byte.
-use Rattle.std.proofs.Common.{arith, ◌≡◌, ◌≢◌, ◌≤◌, ◌<◌, ◌+◌, ◌*◌, ◌/◌, ◌%◌, ℕ, zero, suc, Bool, true, false, cond, List, [], ◌∷◌, ◌++◌, length, get_or, set, replicate, refl, sym, ap, ◌∙◌, inl, inr}
+use Rattle.std.proofs.Common.{arith, ◌≡◌, ◌≢◌, ◌≤◌, ◌<◌, ◌+◌, ◌*◌, ◌/◌, ◌%◌, ℕ, zero, suc, Bool, true, false, cond}
+use Rattle.std.proofs.Common.{List, [], ◌∷◌, ◌++◌, length, get_or, set, replicate, refl, sym, ap, ◌∙◌, inl, inr}
 use Rattle.std.specs.Prelude.{not, ◌==◌, count_by, sum_by}
 use Rattle.std.proofs.lemmas.Bool.{cases_eq, cases_lt, ne_eqb}
-use Rattle.std.proofs.lemmas.List.{length-append, length-replicate, ext_get_or, get_or-set_same, get_or-set_other, get_or-replicate, get_or_past, get_or-map, length-map, length-set, map-set, set-get_or}
+use Rattle.std.proofs.lemmas.List.{length-append, length-replicate, ext_get_or, get_or-set_same, get_or-set_other}
+use Rattle.std.proofs.lemmas.List.{get_or-replicate, get_or_past, get_or-map, length-map, length-set, map-set}
+use Rattle.std.proofs.lemmas.List.{set-get_or}
 use Rattle.std.proofs.lemmas.List.Sums.{count_by-le-length, sum_by-set}
 use Rattle.cpu12_isa.specs.Memory.{zeros}
 use Rattle.cpu12_isa.specs.Pages.{ArePages, byte_in, bytes_in, given_in}
@@ -10,7 +13,8 @@ use Rattle.cpu12_isa.specs.Pages.{ArePages, byte_in, bytes_in, given_in}
 pub length_bytes_in : (table pool : List ℕ) (n : ℕ) → length (bytes_in table pool n) ≡ n
 unfolding bytes_in
 length_bytes_in table pool zero = refl
-length_bytes_in table pool (suc n) = length-append (bytes_in table pool n) (byte_in table pool n ∷ []) ∙ (let e = length_bytes_in table pool n in omega arith)
+length_bytes_in table pool (suc n) = length-append (bytes_in table pool n) (byte_in table pool n ∷ [])
+    ∙ (let e = length_bytes_in table pool n in omega arith)
 
 at_end : (xs : List ℕ) (v i : ℕ) → i ≡ length xs → get_or (xs ++ v ∷ []) i 0 ≡ v
 at_end [] v i e = rw e refl
@@ -22,18 +26,22 @@ before_end [] v i l = absurd (omega arith)
 before_end (x ∷ xs) v zero l = refl
 before_end (x ∷ xs) v (suc i) l = before_end xs v i (omega arith)
 
-pub bytes_in-at : (table pool : List ℕ) (n at : ℕ) → at < n → get_or (bytes_in table pool n) at 0 ≡ byte_in table pool at
+pub bytes_in-at : (table pool : List ℕ) (n at : ℕ) → at < n
+    → get_or (bytes_in table pool n) at 0 ≡ byte_in table pool at
 unfolding bytes_in
 bytes_in-at table pool zero at l = absurd (omega arith)
 bytes_in-at table pool (suc n) at l = elim (cases_lt at n) [
-  | inl b ↦ before_end (bytes_in table pool n) (byte_in table pool n) at (let e = length_bytes_in table pool n in omega arith) ∙ bytes_in-at table pool n at b
+  | inl b ↦ before_end (bytes_in table pool n) (byte_in table pool n) at
+      (let e = length_bytes_in table pool n in omega arith) ∙ bytes_in-at table pool n at b
   | inr b ↦
       let here : at ≡ n = omega arith in
-      at_end (bytes_in table pool n) (byte_in table pool n) at (here ∙ sym (length_bytes_in table pool n)) ∙ ap (byte_in table pool) (sym here)
+      at_end (bytes_in table pool n) (byte_in table pool n) at (here ∙ sym (length_bytes_in table pool n))
+      ∙ ap (byte_in table pool) (sym here)
 ]
 
 -- two memories of pages with the same bytes
-pub bytes_in-same : (table other pool bytes : List ℕ) → ((at : ℕ) → at < 65536 → byte_in table pool at ≡ byte_in other bytes at)
+pub bytes_in-same : (table other pool bytes : List ℕ)
+    → ((at : ℕ) → at < 65536 → byte_in table pool at ≡ byte_in other bytes at)
     → bytes_in table pool 65536 ≡ bytes_in other bytes 65536
 bytes_in-same table other pool bytes same =
     ext_get_or 0 (bytes_in table pool 65536) (bytes_in other bytes 65536)
@@ -48,13 +56,15 @@ pub bytes_in-set : (table pool bytes : List ℕ) (at v : ℕ) → at < 65536 →
     → bytes_in table bytes 65536 ≡ set (bytes_in table pool 65536) at v
 bytes_in-set table pool bytes at v l here others =
     ext_get_or 0 (bytes_in table bytes 65536) (set (bytes_in table pool 65536) at v)
-    (length_bytes_in table bytes 65536 ∙ sym (length_bytes_in table pool 65536) ∙ sym (length-set (bytes_in table pool 65536) at v))
+    (length_bytes_in table bytes 65536 ∙ sym (length_bytes_in table pool 65536)
+    ∙ sym (length-set (bytes_in table pool 65536) at v))
     (λ k b.
     let within : k < 65536 = (let e = length_bytes_in table bytes 65536 in omega arith) in
     bytes_in-at table bytes 65536 k within ∙ elim (cases_eq k at) [
       | inl e ↦ ap (byte_in table bytes) e ∙ here
           ∙ sym (ap (λ (n : ℕ). get_or (set (bytes_in table pool 65536) at v) n 0) e
-          ∙ get_or-set_same (bytes_in table pool 65536) at v 0 (let e = length_bytes_in table pool 65536 in omega arith))
+          ∙ get_or-set_same (bytes_in table pool 65536) at v 0
+          (let e = length_bytes_in table pool 65536 in omega arith))
       | inr n ↦ others k within n ∙ sym (bytes_in-at table pool 65536 k within)
           ∙ sym (get_or-set_other (bytes_in table pool 65536) at k v 0 n)
     ])
@@ -73,9 +83,11 @@ few_used table pool used are =
 -- the place of a byte is in the pool
 pub in_pool : (table pool : List ℕ) (used page n : ℕ) → ArePages table pool used → page < 256 → n < 256
     → get_or table page 0 * 256 + n < 65792
-in_pool table pool used page n are in_table in_page = omega (arith, few_used table pool used are, are.taken page in_table)
+in_pool table pool used page n are in_table in_page =
+    omega (arith, few_used table pool used are, are.taken page in_table)
 
-given_at : (table : List ℕ) (page : ℕ) → page < length table → get_or (given_in table) page false ≡ not (get_or table page 0 == 0)
+given_at : (table : List ℕ) (page : ℕ) → page < length table
+    → get_or (given_in table) page false ≡ not (get_or table page 0 == 0)
 given_at table page l = get_or-map (λ (place : ℕ). not (place == 0)) table page 0 false l
 
 pub stays_given : (table : List ℕ) (page : ℕ) → page < length table → get_or table page 0 ≢ 0
@@ -90,7 +102,8 @@ zero_at : (n at : ℕ) → get_or (zeros n) at 0 ≡ 0
 unfolding zeros
 zero_at n at = elim (cases_lt at n) [
   | inl l ↦ get_or-replicate n at 0 0 l
-  | inr l ↦ get_or_past (replicate {A = ℕ} n 0) at 0 (let e : length (replicate {A = ℕ} n 0) ≡ n = length-replicate n 0 in omega (arith, e, l))
+  | inr l ↦ get_or_past (replicate {A = ℕ} n 0) at 0
+      (let e : length (replicate {A = ℕ} n 0) ≡ n = length-replicate n 0 in omega (arith, e, l))
 ]
 
 length_zeros : (n : ℕ) → length (zeros n) ≡ n
@@ -128,7 +141,8 @@ none_given = refl
 
 -- ---- a page is given a place
 
-module _ (table pool : List ℕ) (used page : ℕ) (are : ArePages table pool used) (in_table : page < 256) (none : get_or table page 0 ≡ 0) where
+module _ (table pool : List ℕ) (used page : ℕ) (are : ArePages table pool used) (in_table : page < 256)
+    (none : get_or table page 0 ≡ 0) where
   here : get_or (set table page (used + 1)) page 0 ≡ used + 1
   here = get_or-set_same table page (used + 1) 0 (omega (arith, are.places))
 
@@ -142,12 +156,14 @@ module _ (table pool : List ℕ) (used page : ℕ) (are : ArePages table pool us
 
   counted : used + 1 ≡ count_by (λ (given : Bool). given) (given_in (set table page (used + 1)))
   counted =
-      let in_given : page < length (given_in table) = (let e = length-map table (λ (place : ℕ). not (place == 0)) in omega (arith, are.places)) in
+      let in_given : page < length (given_in table) =
+      (let e = length-map table (λ (place : ℕ). not (place == 0)) in omega (arith, are.places)) in
       let more = sum_by-set (λ (given : Bool). cond given 1 0) (given_in table) page true false in_given in
       let was : get_or (given_in table) page false ≡ false =
       given_at table page (omega (arith, are.places)) ∙ ap (λ (place : ℕ). not (place == 0)) none in
       let all : sum_by (λ (given : Bool). cond given 1 0) (set (given_in table) page true) + 0 ≡ used + 1 =
-      ap (λ (given : Bool). sum_by (λ (b : Bool). cond b 1 0) (set (given_in table) page true) + cond given 1 0) (sym was)
+      ap (λ (given : Bool). sum_by (λ (b : Bool). cond b 1 0) (set (given_in table) page true) + cond given 1 0)
+      (sym was)
       ∙ more ∙ ap (λ (n : ℕ). n + 1) (sym are.count) in
       sym all ∙ omega arith ∙ ap (count_by (λ (given : Bool). given)) (sym given_set)
 
@@ -163,11 +179,27 @@ module _ (table pool : List ℕ) (used page : ℕ) (are : ArePages table pool us
     apart = λ q r l m own same. elim (cases_eq q page) [
       | inl e ↦ elim (cases_eq r page) [
         | inl f ↦ e ∙ sym f
-        | inr other ↦ absurd (omega (arith, here, ap (λ (n : ℕ). get_or (set table page (used + 1)) n 0) e, same, elsewhere r other, are.taken r m))
+        | inr other ↦ absurd
+            (omega (
+              arith,
+              here,
+              ap (λ (n : ℕ). get_or (set table page (used + 1)) n 0) e,
+              same,
+              elsewhere r other,
+              are.taken r m,
+            ))
       ]
       | inr other ↦ elim (cases_eq r page) [
-        | inl f ↦ absurd (omega (arith, here, ap (λ (n : ℕ). get_or (set table page (used + 1)) n 0) f, same, elsewhere q other, are.taken q l))
-        | inr others ↦ are.apart q r l m (λ z. own (elsewhere q other ∙ z)) (sym (elsewhere q other) ∙ same ∙ elsewhere r others)
+        | inl f ↦ absurd (omega (
+          arith,
+          here,
+          ap (λ (n : ℕ). get_or (set table page (used + 1)) n 0) f,
+          same,
+          elsewhere q other,
+          are.taken q l,
+        ))
+        | inr others ↦ are.apart q r l m (λ z. own (elsewhere q other ∙ z))
+            (sym (elsewhere q other) ∙ same ∙ elsewhere r others)
       ]
     ];
     zero_page = are.zero_page;
@@ -187,7 +219,8 @@ module _ (table pool : List ℕ) (used page : ℕ) (are : ArePages table pool us
 
 -- ---- a byte is written
 
-module _ (table pool : List ℕ) (used at v : ℕ) (are : ArePages table pool used) (in_memory : at < 65536) (own : get_or table (at / 256) 0 ≢ 0) where
+module _ (table pool : List ℕ) (used at v : ℕ) (are : ArePages table pool used) (in_memory : at < 65536)
+    (own : get_or table (at / 256) 0 ≢ 0) where
   in_table : at / 256 < 256
   in_table = omega arith
 
@@ -202,13 +235,16 @@ module _ (table pool : List ℕ) (used at v : ℕ) (are : ArePages table pool us
     taken = are.taken;
     apart = are.apart;
     zero_page = λ n l.
-        get_or-set_other pool (get_or table (at / 256) 0 * 256 + at % 256) n v 0 (λ e. own (omega arith)) ∙ are.zero_page n l;
+        get_or-set_other pool (get_or table (at / 256) 0 * 256 + at % 256) n v 0 (λ e. own (omega arith))
+        ∙ are.zero_page n l;
     rest = λ n l.
-        get_or-set_other pool (get_or table (at / 256) 0 * 256 + at % 256) n v 0 (λ e. absurd (omega (arith, are.taken (at / 256) in_table)))
+        get_or-set_other pool (get_or table (at / 256) 0 * 256 + at % 256) n v 0
+        (λ e. absurd (omega (arith, are.taken (at / 256) in_table)))
         ∙ are.rest n l;
   }
 
-  pub put_bytes : bytes_in table (set pool (get_or table (at / 256) 0 * 256 + at % 256) v) 65536 ≡ set (bytes_in table pool 65536) at v
+  pub put_bytes : bytes_in table (set pool (get_or table (at / 256) 0 * 256 + at % 256) v) 65536 ≡ set
+      (bytes_in table pool 65536) at v
   put_bytes =
       bytes_in-set table pool (set pool (get_or table (at / 256) 0 * 256 + at % 256) v) at v in_memory
       (get_or-set_same pool (get_or table (at / 256) 0 * 256 + at % 256) v 0 (omega (arith, within, are.bytes)))
@@ -221,9 +257,11 @@ module _ (table pool : List ℕ) (used at v : ℕ) (are : ArePages table pool us
       other (omega arith)))
 
 -- a 0 that is written into a page without a place changes nothing
-pub zero_put : (table pool : List ℕ) (used at : ℕ) → ArePages table pool used → at < 65536 → get_or table (at / 256) 0 ≡ 0
+pub zero_put : (table pool : List ℕ) (used at : ℕ) → ArePages table pool used → at < 65536
+    → get_or table (at / 256) 0 ≡ 0
     → bytes_in table pool 65536 ≡ set (bytes_in table pool 65536) at 0
 zero_put table pool used at are l none =
     let zero_there : get_or (bytes_in table pool 65536) at 0 ≡ 0 =
-    bytes_in-at table pool 65536 at l ∙ are.zero_page (get_or table (at / 256) 0 * 256 + at % 256) (omega (arith, none)) in
+    bytes_in-at table pool 65536 at l
+    ∙ are.zero_page (get_or table (at / 256) 0 * 256 + at % 256) (omega (arith, none)) in
     sym (set-get_or (bytes_in table pool 65536) at 0) ∙ ap (set (bytes_in table pool 65536) at) zero_there

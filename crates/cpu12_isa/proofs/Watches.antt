@@ -1,8 +1,12 @@
 -- What is noted again, and what has changed since.
-use Rattle.std.proofs.Common.{◌≡◌, ◌≤◌, ◌<◌, ◌==◌, ℕ, suc, zero, Bool, true, false, not, List, [], ◌∷◌, length, get_or, set, Option, Some, None, option_map, refl, ap, sym, ◌∙◌, subst, arith, inl, inr, get_or-set_other, get_or-set_same}
-use Rattle.std.proofs.lemmas.Bool.{cases_lt, eq-eqb, eqb-true, or_left, or_right, or_cases, false_from_ne_true, false≢true, not-false}
+use Rattle.std.proofs.Common.{◌≡◌, ◌≤◌, ◌<◌, ◌==◌, ℕ, suc, zero, Bool, true, false, not, List, [], ◌∷◌, length, get_or}
+use Rattle.std.proofs.Common.{set, Option, Some, None, option_map, refl, ap, sym, ◌∙◌, subst, arith, inl, inr}
+use Rattle.std.proofs.Common.{get_or-set_other, get_or-set_same}
+use Rattle.std.proofs.lemmas.Bool.{cases_lt, eq-eqb, eqb-true, or_left, or_right, or_cases, false_from_ne_true}
+use Rattle.std.proofs.lemmas.Bool.{false≢true, not-false}
 use Rattle.std.proofs.lemmas.List.{get_or-replicate, get_or_past}
-use Rattle.cpu12_isa.specs.Watching.{unwatched, length_unwatched, noted_again, is_changed, any_changed, is_listed, AreListed, NothingIsWatched}
+use Rattle.cpu12_isa.specs.Watching.{unwatched, length_unwatched, noted_again, is_changed, any_changed, is_listed}
+use Rattle.cpu12_isa.specs.Watching.{AreListed, NothingIsWatched}
 
 -- whether the byte at an address is another than the noted one
 abbrev pub changed_at : List (Option ℕ) → List ℕ → ℕ → Bool
@@ -34,7 +38,8 @@ length_noted_again (n ∷ ns) [] = refl
 length_noted_again (n ∷ ns) (v ∷ vs) = ap suc (length_noted_again ns vs)
 
 -- where nothing has changed, the table stays
-pub noted_stays : (ns : List (Option ℕ)) (mem : List ℕ) → ((at : ℕ) → changed_at ns mem at ≡ true → ⊥) → noted_again ns mem ≡ ns
+pub noted_stays : (ns : List (Option ℕ)) (mem : List ℕ) → ((at : ℕ) → changed_at ns mem at ≡ true → ⊥)
+    → noted_again ns mem ≡ ns
 noted_stays [] mem h = refl
 noted_stays (n ∷ ns) [] h = refl
 noted_stays (n ∷ ns) (v ∷ vs) h =
@@ -42,48 +47,58 @@ noted_stays (n ∷ ns) (v ∷ vs) h =
     ∙ ap (λ (xs : List (Option ℕ)). n ∷ xs) (noted_stays ns vs (λ at. h (suc at)))
 
 -- a byte that is noted first changes nothing of what is noted then
-pub noted_at_again : (ns : List (Option ℕ)) (mem : List ℕ) (at : ℕ) → at < length mem → noted_again (noted_at ns mem at) mem ≡ noted_again ns mem
+pub noted_at_again : (ns : List (Option ℕ)) (mem : List ℕ) (at : ℕ) → at < length mem
+    → noted_again (noted_at ns mem at) mem ≡ noted_again ns mem
 noted_at_again [] mem at l = refl
 noted_at_again (n ∷ ns) [] at l = absurd (omega (arith, l))
 noted_at_again (n ∷ ns) (v ∷ vs) zero l = ap (λ (x : Option ℕ). x ∷ noted_again ns vs) (again n v)
-noted_at_again (n ∷ ns) (v ∷ vs) (suc at) l = ap (λ (xs : List (Option ℕ)). option_map (λ (b : ℕ). v) n ∷ xs) (noted_at_again ns vs at (omega (arith, l)))
+noted_at_again (n ∷ ns) (v ∷ vs) (suc at) l =
+    ap (λ (xs : List (Option ℕ)). option_map (λ (b : ℕ). v) n ∷ xs) (noted_at_again ns vs at (omega (arith, l)))
 
 -- what is noted again has not changed
-pub none_after : (ns : List (Option ℕ)) (mem : List ℕ) (at : ℕ) → length ns ≤ length mem → changed_at (noted_again ns mem) mem at ≡ true → ⊥
+pub none_after : (ns : List (Option ℕ)) (mem : List ℕ) (at : ℕ) → length ns ≤ length mem
+    → changed_at (noted_again ns mem) mem at ≡ true → ⊥
 none_after [] mem at l c = false≢true c
 none_after (n ∷ ns) [] at l c = absurd (omega (arith, l))
 none_after (n ∷ ns) (v ∷ vs) zero l c = fresh n v c
 none_after (n ∷ ns) (v ∷ vs) (suc at) l c = none_after ns vs at (omega (arith, l)) c
 
 -- another entry leaves what has changed elsewhere
-pub changed_beside : (ns : List (Option ℕ)) (mem : List ℕ) (x at : ℕ) (n : Option ℕ) → (at ≡ x → ⊥) → changed_at (set ns x n) mem at ≡ changed_at ns mem at
-changed_beside ns mem x at n ne = ap (λ (o : Option ℕ). is_changed o (get_or mem at 0)) (get_or-set_other ns x at n None ne)
+pub changed_beside : (ns : List (Option ℕ)) (mem : List ℕ) (x at : ℕ) (n : Option ℕ) → (at ≡ x → ⊥)
+    → changed_at (set ns x n) mem at ≡ changed_at ns mem at
+changed_beside ns mem x at n ne =
+    ap (λ (o : Option ℕ). is_changed o (get_or mem at 0)) (get_or-set_other ns x at n None ne)
 
 -- an entry that has not changed by itself has not changed there
-pub changed_other : (ns : List (Option ℕ)) (mem : List ℕ) (x at : ℕ) (n : Option ℕ) → x < length ns → (is_changed n (get_or mem x 0) ≡ true → ⊥)
+pub changed_other : (ns : List (Option ℕ)) (mem : List ℕ) (x at : ℕ) (n : Option ℕ) → x < length ns
+    → (is_changed n (get_or mem x 0) ≡ true → ⊥)
     → changed_at (set ns x n) mem at ≡ true → at ≡ x → ⊥
 changed_other ns mem x at n l h c e =
     let here : changed_at (set ns x n) mem x ≡ true = subst (λ (k : ℕ). changed_at (set ns x n) mem k ≡ true) e c in
     h (ap (λ (o : Option ℕ). is_changed o (get_or mem x 0)) (sym (get_or-set_same ns x n None l)) ∙ here)
 
 -- what has changed once an entry is put that has not
-pub changed_before : (ns : List (Option ℕ)) (mem : List ℕ) (x at : ℕ) (n : Option ℕ) → x < length ns → (is_changed n (get_or mem x 0) ≡ true → ⊥)
+pub changed_before : (ns : List (Option ℕ)) (mem : List ℕ) (x at : ℕ) (n : Option ℕ) → x < length ns
+    → (is_changed n (get_or mem x 0) ≡ true → ⊥)
     → changed_at (set ns x n) mem at ≡ true → (at ≡ x → ⊥) × (changed_at ns mem at ≡ true)
 changed_before ns mem x at n l h c =
     let ne : at ≡ x → ⊥ = changed_other ns mem x at n l h c in
     (ne, sym (changed_beside ns mem x at n ne) ∙ c)
 
-pub changed_once_noted : (ns : List (Option ℕ)) (mem : List ℕ) (x at : ℕ) → x < length ns → changed_at (noted_at ns mem x) mem at ≡ true → (at ≡ x → ⊥) × (changed_at ns mem at ≡ true)
+pub changed_once_noted : (ns : List (Option ℕ)) (mem : List ℕ) (x at : ℕ) → x < length ns
+    → changed_at (noted_at ns mem x) mem at ≡ true → (at ≡ x → ⊥) × (changed_at ns mem at ≡ true)
 changed_once_noted ns mem x at l c = changed_before ns mem x at _ l (fresh (get_or ns x None) (get_or mem x 0)) c
 
 -- the first of a list is passed where its byte has not changed
-pub listed_next : (x : ℕ) (rest : List ℕ) (ns : List (Option ℕ)) (mem : List ℕ) → (changed_at ns mem x ≡ true → ⊥) → AreListed (x ∷ rest) ns mem → AreListed rest ns mem
+pub listed_next : (x : ℕ) (rest : List ℕ) (ns : List (Option ℕ)) (mem : List ℕ) → (changed_at ns mem x ≡ true → ⊥)
+    → AreListed (x ∷ rest) ns mem → AreListed rest ns mem
 listed_next x rest ns mem h all at c = elim (or_cases (x == at) (is_listed rest at) (all at c)) [
   | inl e ↦ absurd (h (subst (λ (k : ℕ). changed_at ns mem k ≡ true) (sym (eqb-true x at e)) c))
   | inr e ↦ e
 ]
 
-pub listed_noted : (x : ℕ) (rest : List ℕ) (ns : List (Option ℕ)) (mem : List ℕ) → x < length ns → AreListed (x ∷ rest) ns mem → AreListed rest (noted_at ns mem x) mem
+pub listed_noted : (x : ℕ) (rest : List ℕ) (ns : List (Option ℕ)) (mem : List ℕ) → x < length ns
+    → AreListed (x ∷ rest) ns mem → AreListed rest (noted_at ns mem x) mem
 listed_noted x rest ns mem l all at c =
     let before = changed_once_noted ns mem x at l c in
     elim (or_cases (x == at) (is_listed rest at) (all at before.1)) [
@@ -92,13 +107,16 @@ listed_noted x rest ns mem l all at c =
     ]
 
 -- some byte has changed, or none
-pub any_from : (ns : List (Option ℕ)) (mem : List ℕ) (at : ℕ) → at < length mem → changed_at ns mem at ≡ true → any_changed ns mem ≡ true
+pub any_from : (ns : List (Option ℕ)) (mem : List ℕ) (at : ℕ) → at < length mem → changed_at ns mem at ≡ true
+    → any_changed ns mem ≡ true
 any_from [] mem at l c = c
 any_from (n ∷ ns) [] at l c = absurd (omega (arith, l))
 any_from (n ∷ ns) (v ∷ vs) zero l c = or_left (is_changed n v) (any_changed ns vs) c
-any_from (n ∷ ns) (v ∷ vs) (suc at) l c = or_right (is_changed n v) (any_changed ns vs) (any_from ns vs at (omega (arith, l)) c)
+any_from (n ∷ ns) (v ∷ vs) (suc at) l c =
+    or_right (is_changed n v) (any_changed ns vs) (any_from ns vs at (omega (arith, l)) c)
 
-pub none_from : (ns : List (Option ℕ)) (mem : List ℕ) → ((at : ℕ) → changed_at ns mem at ≡ true → ⊥) → any_changed ns mem ≡ false
+pub none_from : (ns : List (Option ℕ)) (mem : List ℕ) → ((at : ℕ) → changed_at ns mem at ≡ true → ⊥)
+    → any_changed ns mem ≡ false
 none_from [] mem h = refl
 none_from (n ∷ ns) [] h = refl
 none_from (n ∷ ns) (v ∷ vs) h = rw (false_from_ne_true (is_changed n v) (h zero)) (none_from ns vs (λ at. h (suc at)))
@@ -107,7 +125,8 @@ none_from (n ∷ ns) (v ∷ vs) h = rw (false_from_ne_true (is_changed n v) (h z
 pub changed_within : (ns : List (Option ℕ)) (mem : List ℕ) (at : ℕ) → changed_at ns mem at ≡ true → at < length ns
 changed_within ns mem at c = elim (cases_lt at (length ns)) [
   | inl l ↦ l
-  | inr l ↦ absurd (false≢true (ap (λ (o : Option ℕ). is_changed o (get_or mem at 0)) (sym (get_or_past ns at None l)) ∙ c))
+  | inr l ↦ absurd (false≢true
+      (ap (λ (o : Option ℕ). is_changed o (get_or mem at 0)) (sym (get_or_past ns at None l)) ∙ c))
 ]
 
 -- where nothing is watched
@@ -119,7 +138,8 @@ unwatched_at n at = elim (cases_lt at n) [
 ]
 
 pub unwatched_stays : (mem : List ℕ) (n at : ℕ) → changed_at (unwatched n) mem at ≡ true → ⊥
-unwatched_stays mem n at c = false≢true (ap (λ (o : Option ℕ). is_changed o (get_or mem at 0)) (sym (unwatched_at n at)) ∙ c)
+unwatched_stays mem n at c =
+    false≢true (ap (λ (o : Option ℕ). is_changed o (get_or mem at 0)) (sym (unwatched_at n at)) ∙ c)
 
 pub nothing_is_watched : NothingIsWatched
 nothing_is_watched = (length_unwatched 65536, unwatched_at 65536)

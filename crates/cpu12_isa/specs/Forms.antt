@@ -1,14 +1,25 @@
 -- The table of instruction forms (CPU12 Reference Manual, appendix A).
 use Rattle.std.specs.Prelude.{ℕ, ◌^◌, ◌<◌, List, [], ◌∷◌, map}
 use Rattle.cpu12_isa.specs.declared.instr.Instr.{Instr}
-use Rattle.cpu12_isa.specs.declared.instr.Instr.TheVariants.{LdaaImmediate, LdaaExtended, LdabImmediate, LdabExtended, LdxImmediate, LdyImmediate, LdsImmediate, StaaExtended, StabExtended, ClrExtended, Coma, CpxImmediate, Beq, Bne, Bcc, Bcs, Bra, JsrExtended, Rts, Andcc, Orcc, TransferXD, TransferYD, Ediv, Fdiv, Rti, Nop, IncExtended, DecExtended, AddaImmediate, AddaExtended, AddbImmediate, AddbExtended, AddbPostIncrementX, AdcaImmediate, SubaImmediate, SubaExtended, CmpaImmediate, CmpaExtended, AndaImmediate, AndaExtended, OraaImmediate, OraaExtended, Inx, Dex, Iny, Dey, Psha, Pula, MovbImmediate, MovbExtended, Mem, Rev, Revw, Wav, Wavr}
+use Rattle.cpu12_isa.specs.declared.instr.Instr.TheVariants.{LdaaImmediate, LdaaExtended, LdabImmediate, LdabExtended}
+use Rattle.cpu12_isa.specs.declared.instr.Instr.TheVariants.{LdxImmediate, LdyImmediate, LdsImmediate, StaaExtended}
+use Rattle.cpu12_isa.specs.declared.instr.Instr.TheVariants.{StabExtended, ClrExtended, Coma, CpxImmediate, Beq, Bne}
+use Rattle.cpu12_isa.specs.declared.instr.Instr.TheVariants.{Bcc, Bcs, Bra, JsrExtended, Rts, Andcc, Orcc, TransferXD}
+use Rattle.cpu12_isa.specs.declared.instr.Instr.TheVariants.{TransferYD, Ediv, Fdiv, Rti, Nop, IncExtended, DecExtended}
+use Rattle.cpu12_isa.specs.declared.instr.Instr.TheVariants.{AddaImmediate, AddaExtended, AddbImmediate, AddbExtended}
+use Rattle.cpu12_isa.specs.declared.instr.Instr.TheVariants.{AddbPostIncrementX, AdcaImmediate, SubaImmediate}
+use Rattle.cpu12_isa.specs.declared.instr.Instr.TheVariants.{SubaExtended, CmpaImmediate, CmpaExtended, AndaImmediate}
+use Rattle.cpu12_isa.specs.declared.instr.Instr.TheVariants.{AndaExtended, OraaImmediate, OraaExtended, Inx, Dex, Iny}
+use Rattle.cpu12_isa.specs.declared.instr.Instr.TheVariants.{Dey, Psha, Pula, MovbImmediate, MovbExtended, Mem, Rev}
+use Rattle.cpu12_isa.specs.declared.instr.Instr.TheVariants.{Revw, Wav, Wavr}
 use Rattle.cpu12_isa.specs.declared.form.Form.{Form}
 use Rattle.cpu12_isa.specs.declared.mnemonic.Mnemonic.{Mnemonic}
 use Rattle.cpu12_isa.specs.declared.mnemonic.Mnemonic.TheVariants as mnemonic
 use Rattle.cpu12_isa.specs.declared.form.Page.{Page}
 use Rattle.cpu12_isa.specs.declared.form.Page.TheVariants.{One, Two, Transfer, AddIndexed}
 use Rattle.cpu12_isa.specs.declared.form.Operand.{Operand}
-use Rattle.cpu12_isa.specs.declared.form.Operand.TheVariants.{Inherent, Byte, Word, Address, Offset, ByteToAddress, AddressToAddress, XToD, YToD, PostIncrementX}
+use Rattle.cpu12_isa.specs.declared.form.Operand.TheVariants.{Inherent, Byte, Word, Address, Offset, ByteToAddress}
+use Rattle.cpu12_isa.specs.declared.form.Operand.TheVariants.{AddressToAddress, XToD, YToD, PostIncrementX}
 use Rattle.cpu12_isa.specs.Memory.{high_of, low_of}
 
 abbrev row : Mnemonic → Page → ℕ → Operand → Form

@@ -1,7 +1,11 @@
 -- The names of operations as they are written.
 use Rattle.std.specs.Prelude.{ℕ, List, codes}
 use Rattle.cpu12_isa.specs.declared.mnemonic.Mnemonic.{Mnemonic}
-use Rattle.cpu12_isa.specs.declared.mnemonic.Mnemonic.TheVariants.{Ldaa, Ldab, Ldx, Ldy, Lds, Staa, Stab, Clr, Coma, Cpx, Beq, Bne, Bcc, Bcs, Bra, Jsr, Rts, Andcc, Orcc, Tfr, Ediv, Fdiv, Rti, Nop, Inc, Dec, Adda, Addb, Adca, Suba, Cmpa, Anda, Oraa, Inx, Dex, Iny, Dey, Psha, Pula, Movb, Mem, Rev, Revw, Wav, Wavr}
+use Rattle.cpu12_isa.specs.declared.mnemonic.Mnemonic.TheVariants.{Ldaa, Ldab, Ldx, Ldy, Lds, Staa, Stab, Clr, Coma}
+use Rattle.cpu12_isa.specs.declared.mnemonic.Mnemonic.TheVariants.{Cpx, Beq, Bne, Bcc, Bcs, Bra, Jsr, Rts, Andcc, Orcc}
+use Rattle.cpu12_isa.specs.declared.mnemonic.Mnemonic.TheVariants.{Tfr, Ediv, Fdiv, Rti, Nop, Inc, Dec, Adda, Addb}
+use Rattle.cpu12_isa.specs.declared.mnemonic.Mnemonic.TheVariants.{Adca, Suba, Cmpa, Anda, Oraa, Inx, Dex, Iny, Dey}
+use Rattle.cpu12_isa.specs.declared.mnemonic.Mnemonic.TheVariants.{Psha, Pula, Movb, Mem, Rev, Revw, Wav, Wavr}
 
 -- the letters of a mnemonic
 abbrev pub text_of : Mnemonic → List ℕ

@@ -1,5 +1,6 @@
 -- Memory as pages of 256 bytes, each with a place in a pool.
-use Rattle.std.specs.Prelude.{◌≡◌, ◌≢◌, ◌<◌, ◌≤◌, ℕ, suc, zero, ◌+◌, ◌*◌, ◌%◌, ◌/◌, Bool, not, ◌==◌, List, [], ◌∷◌, ◌++◌, length, map, count_by, slice_index}
+use Rattle.std.specs.Prelude.{◌≡◌, ◌≢◌, ◌<◌, ◌≤◌, ℕ, suc, zero, ◌+◌, ◌*◌, ◌%◌, ◌/◌, Bool, not, ◌==◌, List, [], ◌∷◌}
+use Rattle.std.specs.Prelude.{◌++◌, length, map, count_by, slice_index}
 
 -- the byte at an address: the table has for each page of the memory the place of its bytes
 abbrev pub byte_in : List ℕ → List ℕ → ℕ → ℕ

@@ -1,5 +1,6 @@
 -- What a memory notes: for each address the byte that it is compared with, where it is watched.
-use Rattle.std.specs.Prelude.{◌≡◌, ◌==◌, ◌||◌, ℕ, Bool, true, false, not, Option, Some, None, option_map, List, [], ◌∷◌, length, replicate, slice_index, slice_index_or}
+use Rattle.std.specs.Prelude.{◌≡◌, ◌==◌, ◌||◌, ℕ, Bool, true, false, not, Option, Some, None, option_map, List, [], ◌∷◌}
+use Rattle.std.specs.Prelude.{length, replicate, slice_index, slice_index_or}
 use Rattle.std.specs.List.{list_any}
 use Rattle.std.proofs.lemmas.List.{length-replicate}
 

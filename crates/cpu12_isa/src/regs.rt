@@ -1,7 +1,10 @@
 // What groups of instructions do to the registers. `n` is the number of the instruction's bytes.
 ghost use Rattle.std.specs.Prelude.{ℕ, ◌≡◌, ◌+◌, ◌*◌, ◌/◌, ◌%◌, ◌^◌, ◌<◌, ◌≤◌, ◌==◌, if◌then◌else◌};
 ghost use Rattle.cpu12_isa.specs.Memory.{plus};
-ghost use Rattle.cpu12_isa.specs.Registers.{passed, stored, loaded_a, loaded_b, loaded_x, loaded_y, loaded_sp, complemented_a, compared_x, compared_a, added_a, added_b, carried_a, subtracted_a, anded_a, ored_a, moved_x, moved_y, transferred_d, branched, offset, divided, divided_fraction, grade};
+ghost use Rattle.cpu12_isa.specs.Registers.{passed, stored, loaded_a, loaded_b, loaded_x, loaded_y, loaded_sp};
+ghost use Rattle.cpu12_isa.specs.Registers.{complemented_a, compared_x, compared_a, added_a, added_b, carried_a};
+ghost use Rattle.cpu12_isa.specs.Registers.{subtracted_a, anded_a, ored_a, moved_x, moved_y, transferred_d, branched};
+ghost use Rattle.cpu12_isa.specs.Registers.{offset, divided, divided_fraction, grade};
 
 use crate::ccr::{CARRY, NZ, NZV, OVERFLOW, ZERO};
 use crate::instr::Regs;

@@ -1,8 +1,10 @@
 // Memory that tells whether watched bytes have changed.
-ghost use Rattle.std.specs.Prelude.{ℕ, ◌≡◌, ◌<◌, List, Option, Some, None, true, length, option_map, slice_index, slice_index_or, slice_set, IfOk};
+ghost use Rattle.std.specs.Prelude.{ℕ, ◌≡◌, ◌<◌, List, Option, Some, None, true, length, option_map, slice_index};
+ghost use Rattle.std.specs.Prelude.{slice_index_or, slice_set, IfOk};
 ghost use Rattle.arrayvec.specs.ArrayVec.{array_vec_len};
 ghost use Rattle.cpu12_isa.specs.Memory.{zeros};
-ghost use Rattle.cpu12_isa.specs.Watching.{nothing_noted, unwatched, noted_again, is_changed, any_changed, is_listed, AreListed};
+ghost use Rattle.cpu12_isa.specs.Watching.{nothing_noted, unwatched, noted_again, is_changed, any_changed, is_listed};
+ghost use Rattle.cpu12_isa.specs.Watching.{AreListed};
 
 use crate::mem::Mem;
 use arrayvec::ArrayVec;

@@ -1,5 +1,6 @@
 -- What stands between two parts, and what is pushed there.
-use Rattle.std.proofs.Common.{◌≡◌, ◌==◌, ℕ, ◌+◌, ◌-◌, ◌*◌, ◌%◌, ◌^◌, min, Bool, true, false, List, [], get_or, refl, ap, sym, ◌∙◌, inl, inr}
+use Rattle.std.proofs.Common.{◌≡◌, ◌==◌, ℕ, ◌+◌, ◌-◌, ◌*◌, ◌%◌, ◌^◌, min, Bool, true, false, List, [], get_or, refl, ap}
+use Rattle.std.proofs.Common.{sym, ◌∙◌, inl, inr}
 use Rattle.std.specs.Prelude.{if◌then◌else◌}
 use Rattle.cpu12_isa.specs.declared.instr.Regs.{Regs}
 use Rattle.cpu12_isa.specs.declared.instr.Ccr.{Ccr}
@@ -12,7 +13,8 @@ use Rattle.cpu12_parts.specs.declared.temps.Temps.TheVariants.{Free, Running, On
 use Rattle.cpu12_parts.specs.declared.temps.PartEnd.TheVariants.{More, Done}
 use Rattle.cpu12_parts.specs.State.{State, Outcome}
 use Rattle.cpu12_parts.specs.Cuts.{rev, revw, wav, suspended}
-use Rattle.cpu12_parts.specs.Inside.{own_address, second_byte, GoesOnAt, LeavesSums, WritesNothing, PushesRunning, PushesNone}
+use Rattle.cpu12_parts.specs.Inside.{own_address, second_byte, GoesOnAt, LeavesSums, WritesNothing, PushesRunning}
+use Rattle.cpu12_parts.specs.Inside.{PushesNone}
 use Rattle.cpu12_parts.specs.Laws.{state_of}
 use Rattle.cpu12_parts.specs.Parts.{leaving, met, rev_element, revw_element, wav_end, wav_from, wav_act}
 
@@ -48,7 +50,8 @@ met_leaves : (r : Regs) (t : Temps) (x : ℕ) (c : Ccr) (at : ℕ) (m : List ℕ
     → has c interrupts_masked ≡ has r.ccr interrupts_masked
     → Leaves r t (outcome (met r (record r { x = x; ccr = c }) t at) m)
 met_leaves r t x c at m e =
-    choice (Leaves r t) m (has r.ccr overflow) _ (leaving (record r { x = x; ccr = c; a = min (r.a) (get_or m at 0) }) t More)
+    choice (Leaves r t) m (has r.ccr overflow) _
+    (leaving (record r { x = x; ccr = c; a = min (r.a) (get_or m at 0) }) t More)
     (record { sums = refl; inside = λ _. (e, refl) }) (record { sums = refl; inside = λ _. (e, refl) })
 
 rev_leaves : (flags : ℕ) (r : Regs) (t : Temps) (e : ℕ) (m : List ℕ) → Leaves r t (outcome (rev_element flags r t e) m)
@@ -65,7 +68,8 @@ rev_leaves flags r t e m =
     (record { sums = refl; inside = λ _. (masked_put c true ∙ same, refl) }))
     (met_leaves r t (plus r.x 1) c (plus r.y e) m same))
 
-revw_leaves : (flags : ℕ) (r : Regs) (t : Temps) (e : ℕ) (m : List ℕ) → Leaves r t (outcome (revw_element flags r t e) m)
+revw_leaves : (flags : ℕ) (r : Regs) (t : Temps) (e : ℕ) (m : List ℕ)
+    → Leaves r t (outcome (revw_element flags r t e) m)
 revw_leaves flags r t e m =
     let c = opened r.ccr hnz flags in
     let same = masked_opened_word r.ccr flags in
@@ -87,8 +91,11 @@ pub rev_sums : LeavesSums rev
 rev_sums flags s = let l = rev_leaves flags s.regs s.temps (get_or s.mem s.regs.x 0) s.mem in l.sums
 
 revw_here : (flags : ℕ) (s : State)
-    → Leaves s.regs s.temps (outcome (revw_element flags s.regs s.temps (word_of (get_or s.mem s.regs.x 0) (get_or s.mem (plus s.regs.x 1) 0))) s.mem)
-revw_here flags s = revw_leaves flags s.regs s.temps (word_of (get_or s.mem s.regs.x 0) (get_or s.mem (plus s.regs.x 1) 0)) s.mem
+    → Leaves s.regs s.temps
+    (outcome (revw_element flags s.regs s.temps
+    (word_of (get_or s.mem s.regs.x 0) (get_or s.mem (plus s.regs.x 1) 0))) s.mem)
+revw_here flags s = revw_leaves flags s.regs s.temps
+    (word_of (get_or s.mem s.regs.x 0) (get_or s.mem (plus s.regs.x 1) 0)) s.mem
 
 pub revw_goes_on : GoesOnAt own_address revw
 revw_goes_on flags s = let l = revw_here flags s in l.inside
@@ -110,7 +117,8 @@ adds flags r p w pc m =
     let v = get_or m r.y 0 in
     let p2 = (p + u * v) % 2 ^ 32 in
     let w2 = (w + v) % 2 ^ 16 in
-    let next : Regs = record r { x = plus r.x 1; y = plus r.y 1; b = r.b - 1; pc = pc; ccr = opened r.ccr hnzvc flags } in
+    let next : Regs = record r
+    { x = plus r.x 1; y = plus r.y 1; b = r.b - 1; pc = pc; ccr = opened r.ccr hnzvc flags } in
     choice (Adds r pc) m (r.b == 0) (leaving (wav_end flags r p w pc) Free Done) _ (ended r (wav_end flags r p w pc) pc)
     (choice (Adds r pc) m (r.b == 1) (leaving (wav_end flags r p2 w2 pc) Free Done) (leaving next (Running p2 w2) More)
     (ended r (wav_end flags r p2 w2 pc) pc)

@@ -7,7 +7,8 @@ use Rattle.cpu12_parts.specs.Cuts.{Kind, rev, revw, wav}
 use Rattle.cpu12_parts.specs.Owed.{Whole, WholeAverage, whole_rev, whole_revw, MakesWhole, OverCuts}
 use Rattle.cpu12_parts.specs.Rules.{rev_form, revw_form, rules_read, rules_written, rules_whole}
 use Rattle.cpu12_parts.specs.Averages.{wav_read, wav_whole}
-use Rattle.cpu12_parts.specs.Laws.{PartsTo, below, state_of, GoesOn, IsSteady, CutsChangeNothing, RevIsWhole, RevwIsWhole, WavIsWhole, RevOverCuts}
+use Rattle.cpu12_parts.specs.Laws.{PartsTo, below, state_of, GoesOn, IsSteady, CutsChangeNothing, RevIsWhole}
+use Rattle.cpu12_parts.specs.Laws.{RevwIsWhole, WavIsWhole, RevOverCuts}
 use Rattle.cpu12_parts.specs.Laws.{RevwOverCuts, WavOverCuts}
 use Rattle.cpu12_parts.proofs.Cutting.{cuts_change_nothing}
 
@@ -21,12 +22,14 @@ none_hidden (at ∷ ats) = (refl, none_hidden ats)
 
 pub rev_over_cuts : CutsChangeNothing rev → RevIsWhole → RevOverCuts
 rev_over_cuts cuts whole flags r t mem p ps cs ff fc z sp ready shown len =
-    let run = whole flags r t mem p ps (length cs) (below 6 r.sp) none ff fc ready len shown (none_hidden (rules_written (rev_form r.y) p ps)) in
+    let run = whole flags r t mem p ps (length cs) (below 6 r.sp) none ff fc ready len shown
+    (none_hidden (rules_written (rev_form r.y) p ps)) in
     cuts flags none (length cs) (state_of r t mem) (rules_whole (rev_form r.y) flags r t mem p ps) z sp run cs refl
 
 pub revw_over_cuts : CutsChangeNothing revw → RevwIsWhole → RevwOverCuts
 revw_over_cuts cuts whole flags r t mem p ps cs ff fc z sp ready shown len =
-    let run = whole flags r t mem p ps (length cs) (below 6 r.sp) none ff fc ready len shown (none_hidden (rules_written revw_form p ps)) in
+    let run = whole flags r t mem p ps (length cs) (below 6 r.sp) none ff fc ready len shown
+    (none_hidden (rules_written revw_form p ps)) in
     cuts flags none (length cs) (state_of r t mem) (rules_whole revw_form flags r t mem p ps) z sp run cs refl
 
 pub wav_over_cuts : CutsChangeNothing wav → WavIsWhole → WavOverCuts
@@ -35,7 +38,8 @@ wav_over_cuts cuts whole flags r t mem cs ff fc z sp off shown len =
     cuts flags none (r.b - 1) (state_of r t mem) (wav_whole flags r mem) z sp run cs len
 
 -- and for every instruction in parts
-pub over_cuts : WritesAgree → (k : Kind) (kept : Temps → Type 0) (W : Whole) → GoesOn k kept → IsSteady k kept → MakesWhole k W → OverCuts k W
+pub over_cuts : WritesAgree → (k : Kind) (kept : Temps → Type 0) (W : Whole) → GoesOn k kept → IsSteady k kept
+    → MakesWhole k W → OverCuts k W
 over_cuts agree k kept W goes steady makes flags d reads writes s t cs whole z sp shown len =
     let run = makes flags d reads writes s t whole (below 6 s.regs.sp) none shown (none_hidden writes) in
     cuts_change_nothing agree k kept goes steady flags none d s t z sp run cs len
@@ -44,18 +48,27 @@ over_cuts agree k kept W goes steady makes flags d reads writes s t cs whole z s
 pub rev_makes : RevIsWhole → MakesWhole rev whole_rev
 rev_makes whole flags d reads writes s t w unread unwritten hr hw =
     let f = rev_form s.regs.y in
-    let shown_r : AllShown unread (rules_read f s.regs w.rule w.rules) = subst (λ (ats : List ℕ). AllShown unread ats) w.reads_are hr in
-    let shown_w : AllShown unwritten (rules_written f w.rule w.rules) = subst (λ (ats : List ℕ). AllShown unwritten ats) w.writes_are hw in
-    subst (λ (u : State). PartsTo rev flags unread unwritten d s u) (sym w.leads) (whole flags s.regs s.temps s.mem w.rule w.rules d unread unwritten w.flags_fit w.ccr_fits w.ready w.parts shown_r shown_w)
+    let shown_r : AllShown unread (rules_read f s.regs w.rule w.rules) =
+    subst (λ (ats : List ℕ). AllShown unread ats) w.reads_are hr in
+    let shown_w : AllShown unwritten (rules_written f w.rule w.rules) =
+    subst (λ (ats : List ℕ). AllShown unwritten ats) w.writes_are hw in
+    subst (λ (u : State). PartsTo rev flags unread unwritten d s u) (sym w.leads)
+    (whole flags s.regs s.temps s.mem w.rule w.rules d unread unwritten w.flags_fit w.ccr_fits w.ready w.parts
+    shown_r shown_w)
 
 pub revw_makes : RevwIsWhole → MakesWhole revw whole_revw
 revw_makes whole flags d reads writes s t w unread unwritten hr hw =
-    let shown_r : AllShown unread (rules_read revw_form s.regs w.rule w.rules) = subst (λ (ats : List ℕ). AllShown unread ats) w.reads_are hr in
-    let shown_w : AllShown unwritten (rules_written revw_form w.rule w.rules) = subst (λ (ats : List ℕ). AllShown unwritten ats) w.writes_are hw in
-    subst (λ (u : State). PartsTo revw flags unread unwritten d s u) (sym w.leads) (whole flags s.regs s.temps s.mem w.rule w.rules d unread unwritten w.flags_fit w.ccr_fits w.ready w.parts shown_r shown_w)
+    let shown_r : AllShown unread (rules_read revw_form s.regs w.rule w.rules) =
+    subst (λ (ats : List ℕ). AllShown unread ats) w.reads_are hr in
+    let shown_w : AllShown unwritten (rules_written revw_form w.rule w.rules) =
+    subst (λ (ats : List ℕ). AllShown unwritten ats) w.writes_are hw in
+    subst (λ (u : State). PartsTo revw flags unread unwritten d s u) (sym w.leads)
+    (whole flags s.regs s.temps s.mem w.rule w.rules d unread unwritten w.flags_fit w.ccr_fits w.ready w.parts
+    shown_r shown_w)
 
 pub wav_makes : WavIsWhole → MakesWhole wav WholeAverage
 wav_makes whole flags d reads writes s t w unread unwritten hr hw =
     let shown : AllShown unread (wav_read s.regs) = subst (λ (ats : List ℕ). AllShown unread ats) w.reads_are hr in
     subst (λ (u : State). PartsTo wav flags unread unwritten d s u) (sym w.leads)
-    (subst (λ (k : ℕ). PartsTo wav flags unread unwritten k s (wav_whole flags s.regs s.mem)) (sym w.parts) (whole flags s.regs s.temps s.mem unread unwritten w.flags_fit w.ccr_fits w.off shown))
+    (subst (λ (k : ℕ). PartsTo wav flags unread unwritten k s (wav_whole flags s.regs s.mem)) (sym w.parts)
+    (whole flags s.regs s.temps s.mem unread unwritten w.flags_fit w.ccr_fits w.off shown))

@@ -1,5 +1,6 @@
 -- Parts leave what fits.
-use Rattle.std.proofs.Common.{ℕ, ◌+◌, ◌-◌, ◌*◌, ◌%◌, ◌^◌, ◌<◌, ◌≤◌, ◌==◌, min, max, Bool, true, false, if◌then◌else◌, [], ◌∷◌, arith}
+use Rattle.std.proofs.Common.{ℕ, ◌+◌, ◌-◌, ◌*◌, ◌%◌, ◌^◌, ◌<◌, ◌≤◌, ◌==◌, min, max, Bool, true, false, if◌then◌else◌}
+use Rattle.std.proofs.Common.{[], ◌∷◌, arith}
 use Rattle.std.proofs.Math.Nat.{div-lt_iff_lt-mul, mul-le-mul_left}
 use Rattle.cpu12_isa.specs.declared.instr.Regs.{Regs}
 use Rattle.cpu12_isa.specs.declared.instr.Ccr.{Ccr}
@@ -13,11 +14,13 @@ use Rattle.cpu12_parts.specs.declared.temps.Temps.{Temps}
 use Rattle.cpu12_parts.specs.declared.temps.Temps.TheVariants.{Free, Running, OnStack}
 use Rattle.cpu12_parts.specs.declared.temps.PartEnd.TheVariants.{More, Done}
 use Rattle.cpu12_parts.specs.State.{Outcome}
-use Rattle.cpu12_parts.specs.Parts.{leaving, weighted, met, rev_element, rev_act, revw_element, revw_act, wav_end, wav_from, wav_act}
+use Rattle.cpu12_parts.specs.Parts.{leaving, weighted, met, rev_element, rev_act, revw_element, revw_act, wav_end}
+use Rattle.cpu12_parts.specs.Parts.{wav_from, wav_act}
 use Rattle.cpu12_parts.specs.Cuts.{rev, revw, wav}
 use Rattle.cpu12_parts.specs.Fits.{FitsTemps, FitsOutcome, PartFits}
 
-leaves_if : (b : Bool) (p q : Act Outcome) → Leaves FitsOutcome p → Leaves FitsOutcome q → Leaves FitsOutcome (if b then p else q)
+leaves_if : (b : Bool) (p q : Act Outcome) → Leaves FitsOutcome p → Leaves FitsOutcome q
+    → Leaves FitsOutcome (if b then p else q)
 leaves_if true p q f g = f
 leaves_if false p q f g = g
 
@@ -28,7 +31,9 @@ max_fits : (v a : ℕ) → v < 2 ^ 8 → a < 2 ^ 8 → max v a < 2 ^ 8
 max_fits v a f g = omega arith
 
 weighted_fits : (a w : ℕ) → a < 2 ^ 8 → w < 2 ^ 8 → weighted a w < 2 ^ 8
-weighted_fits a w f g = (div-lt_iff_lt-mul {k = 2 ^ 8} {x = a * (w + 1)} {y = 2 ^ 8} (omega arith)).1 (product_fits a (w + 1) f (omega arith))
+weighted_fits a w f g =
+    (div-lt_iff_lt-mul {k = 2 ^ 8} {x = a * (w + 1)} {y = 2 ^ 8} (omega arith)).1
+    (product_fits a (w + 1) f (omega arith))
   where
     product_fits : (m n : ℕ) → m < 2 ^ 8 → n ≤ 2 ^ 8 → m * n < 2 ^ 8 * 2 ^ 8
     product_fits m n h k =
@@ -36,61 +41,126 @@ weighted_fits a w f g = (div-lt_iff_lt-mul {k = 2 ^ 8} {x = a * (w + 1)} {y = 2 
         omega (arith, a)
 
 -- registers with flags, A, X and Y changed
-regs_fit : (r : Regs) (a x y pc : ℕ) (c : Ccr) → FitsRegs r → a < 2 ^ 8 → x < 2 ^ 16 → y < 2 ^ 16 → pc < 2 ^ 16 → c.0 < 2 ^ 8
+regs_fit : (r : Regs) (a x y pc : ℕ) (c : Ccr) → FitsRegs r → a < 2 ^ 8 → x < 2 ^ 16 → y < 2 ^ 16 → pc < 2 ^ 16
+    → c.0 < 2 ^ 8
     → FitsRegs (record r { a = a; x = x; y = y; pc = pc; ccr = c })
 regs_fit r a x y pc c f fa fx fy fp fc = record { a = fa; b = f.b; x = fx; y = fy; sp = f.sp; pc = fp; ccr = fc }
 
 -- an element that names a byte
-met_fits : (s : Regs) (t : Temps) (x : ℕ) (c : Ccr) (at : ℕ) → FitsRegs s → FitsTemps t → x < 2 ^ 16 → c.0 < 2 ^ 8 → at < 2 ^ 16
+met_fits : (s : Regs) (t : Temps) (x : ℕ) (c : Ccr) (at : ℕ) → FitsRegs s → FitsTemps t → x < 2 ^ 16 → c.0 < 2 ^ 8
+    → at < 2 ^ 16
     → Leaves FitsOutcome (met s (record s { x = x; ccr = c }) t at)
 met_fits s t x c at f ft fx fc fa v h =
-    leaves_if (has s.ccr overflow) (Give (record { regs = record s { x = x; ccr = c }; temps = t; writes = (at, max v s.a) ∷ []; end = More })) (leaving (record s { x = x; ccr = c; a = min s.a v }) t More)
-    (record { regs = regs_fit s s.a x s.y s.pc c f f.a fx f.y f.pc fc; temps = ft; writes = (fa, max_fits v s.a h f.a, tt) })
-    (record { regs = regs_fit s (min s.a v) x s.y s.pc c f (min_fits s.a v f.a) fx f.y f.pc fc; temps = ft; writes = tt })
+    leaves_if (has s.ccr overflow)
+    (Give (record { regs = record s { x = x; ccr = c }; temps = t; writes = (at, max v s.a) ∷ []; end = More }))
+    (leaving (record s { x = x; ccr = c; a = min s.a v }) t More)
+    (record {
+      regs = regs_fit s s.a x s.y s.pc c f f.a fx f.y f.pc fc;
+      temps = ft;
+      writes =
+          (fa, max_fits v s.a h f.a, tt);
+    })
+    (record {
+      regs = regs_fit s (min s.a v) x s.y s.pc c f (min_fits s.a v f.a) fx f.y f.pc fc;
+      temps =
+          ft;
+      writes = tt;
+    })
 
-rev_leaves : (flags : ℕ) (s : Regs) (t : Temps) (e : ℕ) → flags < 2 ^ 8 → FitsRegs s → FitsTemps t → Leaves FitsOutcome (rev_element flags s t e)
+rev_leaves : (flags : ℕ) (s : Regs) (t : Temps) (e : ℕ) → flags < 2 ^ 8 → FitsRegs s → FitsTemps t
+    → Leaves FitsOutcome (rev_element flags s t e)
 rev_leaves flags s t e ff f ft =
     let c : Ccr = opened s.ccr hnzc flags in
     let fc : (opened s.ccr hnzc flags).0 < 2 ^ 8 = fits_opened s.ccr hnzc flags f.ccr ff in
     let x : ℕ = plus s.x 1 in
     leaves_if (e == 255) (leaving (record s { x = plus s.x 1; ccr = opened s.ccr hnzc flags; pc = plus s.pc 2 }) t Done)
-    (if e == 254 then (if has s.ccr overflow then leaving (record s { x = plus s.x 1; a = 255; ccr = put (opened s.ccr hnzc flags) overflow false }) t More else leaving (record s { x = plus s.x 1; ccr = put (opened s.ccr hnzc flags) overflow true }) t More)
+    (if e == 254 then (if has s.ccr overflow then leaving
+    (record s { x = plus s.x 1; a = 255; ccr = put (opened s.ccr hnzc flags) overflow false }) t More else leaving
+    (record s { x = plus s.x 1; ccr = put (opened s.ccr hnzc flags) overflow true }) t More)
     else met s (record s { x = plus s.x 1; ccr = opened s.ccr hnzc flags }) t (plus s.y e))
-    (record { regs = regs_fit s s.a (plus s.x 1) s.y (plus s.pc 2) (opened s.ccr hnzc flags) f f.a (omega arith) f.y (omega arith) fc; temps = ft; writes = tt })
-    (leaves_if (e == 254) (if has s.ccr overflow then leaving (record s { x = plus s.x 1; a = 255; ccr = put (opened s.ccr hnzc flags) overflow false }) t More else leaving (record s { x = plus s.x 1; ccr = put (opened s.ccr hnzc flags) overflow true }) t More)
+    (record {
+      regs = regs_fit s s.a (plus s.x 1) s.y (plus s.pc 2) (opened s.ccr hnzc flags) f f.a (omega arith) f.y
+          (omega arith) fc;
+      temps = ft;
+      writes = tt;
+    })
+    (leaves_if (e == 254)
+    (if has s.ccr overflow then leaving
+    (record s { x = plus s.x 1; a = 255; ccr = put (opened s.ccr hnzc flags) overflow false }) t More else leaving
+    (record s { x = plus s.x 1; ccr = put (opened s.ccr hnzc flags) overflow true }) t More)
     (met s (record s { x = plus s.x 1; ccr = opened s.ccr hnzc flags }) t (plus s.y e))
-    (leaves_if (has s.ccr overflow) (leaving (record s { x = plus s.x 1; a = 255; ccr = put (opened s.ccr hnzc flags) overflow false }) t More) (leaving (record s { x = plus s.x 1; ccr = put (opened s.ccr hnzc flags) overflow true }) t More)
-    (record { regs = regs_fit s 255 (plus s.x 1) s.y s.pc (put (opened s.ccr hnzc flags) overflow false) f (omega arith) (omega arith) f.y f.pc (fits_put (opened s.ccr hnzc flags) overflow false (omega arith) fc); temps = ft; writes = tt })
-    (record { regs = regs_fit s s.a (plus s.x 1) s.y s.pc (put (opened s.ccr hnzc flags) overflow true) f f.a (omega arith) f.y f.pc (fits_put (opened s.ccr hnzc flags) overflow true (omega arith) fc); temps = ft; writes = tt }))
+    (leaves_if (has s.ccr overflow)
+    (leaving (record s { x = plus s.x 1; a = 255; ccr = put (opened s.ccr hnzc flags) overflow false }) t More)
+    (leaving (record s { x = plus s.x 1; ccr = put (opened s.ccr hnzc flags) overflow true }) t More)
+    (record {
+      regs = regs_fit s 255 (plus s.x 1) s.y s.pc (put (opened s.ccr hnzc flags) overflow false) f (omega arith)
+          (omega arith) f.y f.pc (fits_put (opened s.ccr hnzc flags) overflow false (omega arith) fc);
+      temps =
+          ft;
+      writes = tt;
+    })
+    (record {
+      regs = regs_fit s s.a (plus s.x 1) s.y s.pc (put (opened s.ccr hnzc flags) overflow true) f f.a
+          (omega arith) f.y f.pc (fits_put (opened s.ccr hnzc flags) overflow true (omega arith) fc);
+      temps =
+          ft;
+      writes = tt;
+    }))
     (met_fits s t (plus s.x 1) (opened s.ccr hnzc flags) (plus s.y e) f ft (omega arith) fc (omega arith)))
 
 pub rev_fits : PartFits rev
-rev_fits flags s ff f = leaves_outcome FitsOutcome (rev_act flags s.regs s.temps) s.mem f.mem (λ e h. rev_leaves flags s.regs s.temps e ff f.regs f.temps)
+rev_fits flags s ff f =
+    leaves_outcome FitsOutcome (rev_act flags s.regs s.temps) s.mem f.mem
+    (λ e h. rev_leaves flags s.regs s.temps e ff f.regs f.temps)
 
-revw_leaves : (flags : ℕ) (s : Regs) (t : Temps) (e : ℕ) → flags < 2 ^ 8 → e < 2 ^ 16 → FitsRegs s → FitsTemps t → Leaves FitsOutcome (revw_element flags s t e)
+revw_leaves : (flags : ℕ) (s : Regs) (t : Temps) (e : ℕ) → flags < 2 ^ 8 → e < 2 ^ 16 → FitsRegs s → FitsTemps t
+    → Leaves FitsOutcome (revw_element flags s t e)
 revw_leaves flags s t e ff fe f ft =
     let fc : (opened s.ccr hnz flags).0 < 2 ^ 8 = fits_opened s.ccr hnz flags f.ccr ff in
     let weigh : Act Outcome =
-    Get s.y (λ w. leaving (record s { x = plus s.x 2; a = weighted s.a w; y = plus s.y 1; ccr = put (opened s.ccr hnz flags) overflow true }) t More) in
-    let begin : Act Outcome = leaving (record s { x = plus s.x 2; ccr = put (opened s.ccr hnz flags) overflow true }) t More in
-    let turn : Act Outcome = leaving (record s { x = plus s.x 2; a = 255; ccr = put (opened s.ccr hnz flags) overflow false }) t More in
+    Get s.y (λ w. leaving
+    (record s {
+      x = plus s.x 2;
+      a = weighted s.a w;
+      y = plus s.y 1;
+      ccr =
+          put (opened s.ccr hnz flags) overflow true;
+    }) t More) in
+    let begin : Act Outcome =
+    leaving (record s { x = plus s.x 2; ccr = put (opened s.ccr hnz flags) overflow true }) t More in
+    let turn : Act Outcome =
+    leaving (record s { x = plus s.x 2; a = 255; ccr = put (opened s.ccr hnz flags) overflow false }) t More in
     let name : Act Outcome = met s (record s { x = plus s.x 2; ccr = opened s.ccr hnz flags }) t e in
-    let fit : (b : Bool) (a y : ℕ) → a < 2 ^ 8 → y < 2 ^ 16 → FitsRegs (record s { x = plus s.x 2; a = a; y = y; ccr = put (opened s.ccr hnz flags) overflow b }) =
-    λ b a y fa fy. regs_fit s a (plus s.x 2) y s.pc (put (opened s.ccr hnz flags) overflow b) f fa (omega arith) fy f.pc (fits_put (opened s.ccr hnz flags) overflow b (omega arith) fc) in
-    leaves_if (e == 65535) (leaving (record s { x = plus s.x 2; ccr = opened s.ccr hnz flags; pc = plus s.pc 2 }) t Done)
+    let fit : (b : Bool) (a y : ℕ) → a < 2 ^ 8 → y < 2 ^ 16
+    → FitsRegs (record s { x = plus s.x 2; a = a; y = y; ccr = put (opened s.ccr hnz flags) overflow b }) =
+    λ b a y fa fy. regs_fit s a (plus s.x 2) y s.pc (put (opened s.ccr hnz flags) overflow b) f fa (omega arith) fy f.pc
+    (fits_put (opened s.ccr hnz flags) overflow b (omega arith) fc) in
+    leaves_if (e == 65535)
+    (leaving (record s { x = plus s.x 2; ccr = opened s.ccr hnz flags; pc = plus s.pc 2 }) t Done)
     (if e == 65534 then (if has s.ccr overflow then turn else (if has s.ccr carry then weigh else begin)) else name)
-    (record { regs = regs_fit s s.a (plus s.x 2) s.y (plus s.pc 2) (opened s.ccr hnz flags) f f.a (omega arith) f.y (omega arith) fc; temps = ft; writes = tt })
+    (record {
+      regs = regs_fit s s.a (plus s.x 2) s.y (plus s.pc 2) (opened s.ccr hnz flags) f f.a (omega arith) f.y
+          (omega arith) fc;
+      temps = ft;
+      writes = tt;
+    })
     (leaves_if (e == 65534) (if has s.ccr overflow then turn else (if has s.ccr carry then weigh else begin)) name
     (leaves_if (has s.ccr overflow) turn (if has s.ccr carry then weigh else begin)
     (record { regs = fit false 255 s.y (omega arith) f.y; temps = ft; writes = tt })
     (leaves_if (has s.ccr carry) weigh begin
-    (λ w h. record { regs = fit true (weighted s.a w) (plus s.y 1) (weighted_fits s.a w f.a h) (omega arith); temps = ft; writes = tt })
+    (λ w h. record {
+      regs = fit true (weighted s.a w) (plus s.y 1) (weighted_fits s.a w f.a h) (omega arith);
+      temps =
+          ft;
+      writes = tt;
+    })
     (record { regs = fit true s.a s.y f.a f.y; temps = ft; writes = tt })))
     (met_fits s t (plus s.x 2) (opened s.ccr hnz flags) e f ft (omega arith) fc fe))
 
 pub revw_fits : PartFits revw
 revw_fits flags s ff f =
-    leaves_outcome FitsOutcome (revw_act flags s.regs s.temps) s.mem f.mem (λ high h low l. revw_leaves flags s.regs s.temps (word_of high low) ff (omega arith) f.regs f.temps)
+    leaves_outcome FitsOutcome (revw_act flags s.regs s.temps) s.mem f.mem
+    (λ high h low l. revw_leaves flags s.regs s.temps (word_of high low) ff (omega arith) f.regs f.temps)
 
 end_fits : (flags : ℕ) (r : Regs) (p w pc : ℕ) → flags < 2 ^ 8 → FitsRegs r → p < 2 ^ 32 → w < 2 ^ 16
     → FitsOutcome (record { regs = wav_end flags r p w pc; temps = Free; writes = []; end = Done })
@@ -113,22 +183,37 @@ wav_leaves : (flags : ℕ) (r : Regs) (p w pc : ℕ) → flags < 2 ^ 8 → FitsR
 wav_leaves flags r p w pc ff f fp fw fpc =
     let goes : ℕ → ℕ → Act Outcome = λ u v. (
     if r.b == 1 then leaving (wav_end flags r ((p + u * v) % 2 ^ 32) ((w + v) % 2 ^ 16) pc) Free Done
-    else leaving (record r { x = plus r.x 1; y = plus r.y 1; b = r.b - 1; pc = pc; ccr = opened r.ccr hnzvc flags }) (Running ((p + u * v) % 2 ^ 32) ((w + v) % 2 ^ 16)) More) in
+    else leaving (record r { x = plus r.x 1; y = plus r.y 1; b = r.b - 1; pc = pc; ccr = opened r.ccr hnzvc flags })
+    (Running ((p + u * v) % 2 ^ 32) ((w + v) % 2 ^ 16)) More) in
     leaves_if (r.b == 0) (leaving (wav_end flags r p w pc) Free Done) (Get r.x (λ u. Get r.y (λ v. goes u v)))
     (end_fits flags r p w pc ff f fp fw)
-    (λ u hu v hv. leaves_if (r.b == 1) (leaving (wav_end flags r ((p + u * v) % 2 ^ 32) ((w + v) % 2 ^ 16) pc) Free Done)
-    (leaving (record r { x = plus r.x 1; y = plus r.y 1; b = r.b - 1; pc = pc; ccr = opened r.ccr hnzvc flags }) (Running ((p + u * v) % 2 ^ 32) ((w + v) % 2 ^ 16)) More)
+    (λ u hu v hv. leaves_if (r.b == 1)
+    (leaving (wav_end flags r ((p + u * v) % 2 ^ 32) ((w + v) % 2 ^ 16) pc) Free Done)
+    (leaving (record r { x = plus r.x 1; y = plus r.y 1; b = r.b - 1; pc = pc; ccr = opened r.ccr hnzvc flags })
+    (Running ((p + u * v) % 2 ^ 32) ((w + v) % 2 ^ 16)) More)
     (end_fits flags r ((p + u * v) % 2 ^ 32) ((w + v) % 2 ^ 16) pc ff f (omega arith) (omega arith))
     (record {
-      regs = record { a = f.a; b = (let g = f.b in omega arith); x = omega arith; y = omega arith; sp = f.sp; pc = fpc; ccr = fits_opened r.ccr hnzvc flags f.ccr ff };
+      regs = record {
+        a = f.a;
+        b = (let g = f.b in omega arith);
+        x = omega arith;
+        y = omega arith;
+        sp = f.sp;
+        pc =
+            fpc;
+        ccr = fits_opened r.ccr hnzvc flags f.ccr ff;
+      };
       temps = (omega arith, omega arith);
       writes = tt;
     }))
 
-wav_by : (flags : ℕ) (r : Regs) (t : Temps) → flags < 2 ^ 8 → FitsRegs r → FitsTemps t → Leaves FitsOutcome (wav_act flags r t)
+wav_by : (flags : ℕ) (r : Regs) (t : Temps) → flags < 2 ^ 8 → FitsRegs r → FitsTemps t
+    → Leaves FitsOutcome (wav_act flags r t)
 wav_by flags r Free ff f ft = wav_leaves flags r 0 0 (plus r.pc 1) ff f (omega arith) (omega arith) (omega arith)
 wav_by flags r OnStack ff f ft = wav_leaves flags r 0 0 (plus r.pc 1) ff f (omega arith) (omega arith) (omega arith)
 wav_by flags r (Running p w) ff f ft = wav_leaves flags r p w r.pc ff f ft.0 ft.1 f.pc
 
 pub wav_fits : PartFits wav
-wav_fits flags s ff f = leaves_outcome FitsOutcome (wav_act flags s.regs s.temps) s.mem f.mem (wav_by flags s.regs s.temps ff f.regs f.temps)
+wav_fits flags s ff f =
+    leaves_outcome FitsOutcome (wav_act flags s.regs s.temps) s.mem f.mem
+    (wav_by flags s.regs s.temps ff f.regs f.temps)

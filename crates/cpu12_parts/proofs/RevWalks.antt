@@ -1,5 +1,6 @@
 -- What one part of REV and one of REVW do.
-use Rattle.std.proofs.Common.{◌≡◌, ℕ, ◌^◌, ◌<◌, min, max, Bool, true, false, List, [], ◌∷◌, get_or, refl, ap, ap₂, ◌∙◌, subst, arith, get_or-set_other}
+use Rattle.std.proofs.Common.{◌≡◌, ℕ, ◌^◌, ◌<◌, min, max, Bool, true, false, List, [], ◌∷◌, get_or, refl, ap, ap₂, ◌∙◌}
+use Rattle.std.proofs.Common.{subst, arith, get_or-set_other}
 use Rattle.std.proofs.lemmas.Bool.{ne_eqb, false≢true}
 use Rattle.cpu12_isa.specs.declared.instr.Regs.{Regs}
 use Rattle.cpu12_isa.specs.declared.instr.Ccr.{Ccr}
@@ -19,101 +20,142 @@ abbrev regs_at : Regs → ℕ → ℕ → ℕ → Ccr → Regs
 regs_at r a x y c = record r { a = a; x = x; y = y; ccr = c }
 
 -- REV's part by the element at X
-rev_by : (flags : ℕ) (r : Regs) (t : Temps) (a x y e : ℕ) (c : Ccr) (mem : List ℕ) (o : Outcome) (ats : List ℕ) → get_or mem x 0 ≡ e
-    → outcome (rev_element flags (regs_at r a x y c) t e) mem ≡ o → read_by (rev_element flags (regs_at r a x y c) t e) mem ≡ ats
+rev_by : (flags : ℕ) (r : Regs) (t : Temps) (a x y e : ℕ) (c : Ccr) (mem : List ℕ) (o : Outcome) (ats : List ℕ)
+    → get_or mem x 0 ≡ e
+    → outcome (rev_element flags (regs_at r a x y c) t e) mem ≡ o
+    → read_by (rev_element flags (regs_at r a x y c) t e) mem ≡ ats
     → Does rev flags (at_rules r t a x y c mem) o (x ∷ ats)
 rev_by flags r t a x y e c mem o ats is does reads = record {
   is = ap (λ (k : ℕ). outcome (rev_element flags (regs_at r a x y c) t k) mem) is ∙ does;
-  reads = ap (λ (k : ℕ). x ∷ read_by (rev_element flags (regs_at r a x y c) t k) mem) is ∙ ap (λ (xs : List ℕ). x ∷ xs) reads;
+  reads = ap (λ (k : ℕ). x ∷ read_by (rev_element flags (regs_at r a x y c) t k) mem) is
+      ∙ ap (λ (xs : List ℕ). x ∷ xs) reads;
 }
 
 revw_by : (flags : ℕ) (r : Regs) (t : Temps) (a x y e : ℕ) (c : Ccr) (mem : List ℕ) (o : Outcome) (ats : List ℕ)
     → word_of (get_or mem x 0) (get_or mem (plus x 1) 0) ≡ e
-    → outcome (revw_element flags (regs_at r a x y c) t e) mem ≡ o → read_by (revw_element flags (regs_at r a x y c) t e) mem ≡ ats
+    → outcome (revw_element flags (regs_at r a x y c) t e) mem ≡ o
+    → read_by (revw_element flags (regs_at r a x y c) t e) mem ≡ ats
     → Does revw flags (at_rules r t a x y c mem) o (x ∷ plus x 1 ∷ ats)
 revw_by flags r t a x y e c mem o ats is does reads = record {
   is = ap (λ (k : ℕ). outcome (revw_element flags (regs_at r a x y c) t k) mem) is ∙ does;
-  reads = ap (λ (k : ℕ). x ∷ plus x 1 ∷ read_by (revw_element flags (regs_at r a x y c) t k) mem) is ∙ ap (λ (xs : List ℕ). x ∷ plus x 1 ∷ xs) reads;
+  reads = ap (λ (k : ℕ). x ∷ plus x 1 ∷ read_by (revw_element flags (regs_at r a x y c) t k) mem) is
+      ∙ ap (λ (xs : List ℕ). x ∷ plus x 1 ∷ xs) reads;
 }
 
 -- an element that names a byte
-rev_least : (flags : ℕ) (r : Regs) (t : Temps) (a x y e : ℕ) (c : Ccr) (mem : List ℕ) → get_or mem x 0 ≡ e → e < 254 → has c overflow ≡ false
-    → Does rev flags (at_rules r t a x y c mem) (gives r t (min a (get_or mem (plus y e) 0)) (plus x 1) y (opened c hnzc flags) []) (x ∷ plus y e ∷ [])
+rev_least : (flags : ℕ) (r : Regs) (t : Temps) (a x y e : ℕ) (c : Ccr) (mem : List ℕ) → get_or mem x 0 ≡ e → e < 254
+    → has c overflow ≡ false
+    → Does rev flags (at_rules r t a x y c mem)
+    (gives r t (min a (get_or mem (plus y e) 0)) (plus x 1) y (opened c hnzc flags) []) (x ∷ plus y e ∷ [])
 rev_least flags r t a x y e c mem is l v =
     let h5 = ne_eqb e 255 (λ q. omega arith) in let h4 = ne_eqb e 254 (λ q. omega arith) in
-    rev_by flags r t a x y e c mem (gives r t (min a (get_or mem (plus y e) 0)) (plus x 1) y (opened c hnzc flags) []) (plus y e ∷ []) is (rw (h5, h4, v)) (rw (h5, h4, v))
+    rev_by flags r t a x y e c mem (gives r t (min a (get_or mem (plus y e) 0)) (plus x 1) y (opened c hnzc flags) [])
+    (plus y e ∷ []) is (rw (h5, h4, v)) (rw (h5, h4, v))
 
-rev_raise : (flags : ℕ) (r : Regs) (t : Temps) (a x y e : ℕ) (c : Ccr) (mem : List ℕ) → get_or mem x 0 ≡ e → e < 254 → has c overflow ≡ true
-    → Does rev flags (at_rules r t a x y c mem) (gives r t a (plus x 1) y (opened c hnzc flags) ((plus y e, max (get_or mem (plus y e) 0) a) ∷ [])) (x ∷ plus y e ∷ [])
+rev_raise : (flags : ℕ) (r : Regs) (t : Temps) (a x y e : ℕ) (c : Ccr) (mem : List ℕ) → get_or mem x 0 ≡ e → e < 254
+    → has c overflow ≡ true
+    → Does rev flags (at_rules r t a x y c mem)
+    (gives r t a (plus x 1) y (opened c hnzc flags) ((plus y e, max (get_or mem (plus y e) 0) a) ∷ []))
+    (x ∷ plus y e ∷ [])
 rev_raise flags r t a x y e c mem is l v =
     let h5 = ne_eqb e 255 (λ q. omega arith) in let h4 = ne_eqb e 254 (λ q. omega arith) in
-    rev_by flags r t a x y e c mem (gives r t a (plus x 1) y (opened c hnzc flags) ((plus y e, max (get_or mem (plus y e) 0) a) ∷ [])) (plus y e ∷ []) is (rw (h5, h4, v)) (rw (h5, h4, v))
+    rev_by flags r t a x y e c mem
+    (gives r t a (plus x 1) y (opened c hnzc flags) ((plus y e, max (get_or mem (plus y e) 0) a) ∷ []))
+    (plus y e ∷ []) is (rw (h5, h4, v)) (rw (h5, h4, v))
 
-revw_least : (flags : ℕ) (r : Regs) (t : Temps) (a x y e : ℕ) (c : Ccr) (mem : List ℕ) → word_of (get_or mem x 0) (get_or mem (plus x 1) 0) ≡ e → e < 65534
+revw_least : (flags : ℕ) (r : Regs) (t : Temps) (a x y e : ℕ) (c : Ccr) (mem : List ℕ)
+    → word_of (get_or mem x 0) (get_or mem (plus x 1) 0) ≡ e → e < 65534
     → has c overflow ≡ false
-    → Does revw flags (at_rules r t a x y c mem) (gives r t (min a (get_or mem e 0)) (plus x 2) y (opened c hnz flags) []) (x ∷ plus x 1 ∷ e ∷ [])
+    → Does revw flags (at_rules r t a x y c mem)
+    (gives r t (min a (get_or mem e 0)) (plus x 2) y (opened c hnz flags) []) (x ∷ plus x 1 ∷ e ∷ [])
 revw_least flags r t a x y e c mem is l v =
     let h5 = ne_eqb e 65535 (λ q. omega arith) in let h4 = ne_eqb e 65534 (λ q. omega arith) in
-    revw_by flags r t a x y e c mem (gives r t (min a (get_or mem e 0)) (plus x 2) y (opened c hnz flags) []) (e ∷ []) is (rw (h5, h4, v)) (rw (h5, h4, v))
+    revw_by flags r t a x y e c mem (gives r t (min a (get_or mem e 0)) (plus x 2) y (opened c hnz flags) [])
+    (e ∷ []) is (rw (h5, h4, v)) (rw (h5, h4, v))
 
-revw_raise : (flags : ℕ) (r : Regs) (t : Temps) (a x y e : ℕ) (c : Ccr) (mem : List ℕ) → word_of (get_or mem x 0) (get_or mem (plus x 1) 0) ≡ e → e < 65534
+revw_raise : (flags : ℕ) (r : Regs) (t : Temps) (a x y e : ℕ) (c : Ccr) (mem : List ℕ)
+    → word_of (get_or mem x 0) (get_or mem (plus x 1) 0) ≡ e → e < 65534
     → has c overflow ≡ true
-    → Does revw flags (at_rules r t a x y c mem) (gives r t a (plus x 2) y (opened c hnz flags) ((e, max (get_or mem e 0) a) ∷ [])) (x ∷ plus x 1 ∷ e ∷ [])
+    → Does revw flags (at_rules r t a x y c mem)
+    (gives r t a (plus x 2) y (opened c hnz flags) ((e, max (get_or mem e 0) a) ∷ [])) (x ∷ plus x 1 ∷ e ∷ [])
 revw_raise flags r t a x y e c mem is l v =
     let h5 = ne_eqb e 65535 (λ q. omega arith) in let h4 = ne_eqb e 65534 (λ q. omega arith) in
-    revw_by flags r t a x y e c mem (gives r t a (plus x 2) y (opened c hnz flags) ((e, max (get_or mem e 0) a) ∷ [])) (e ∷ []) is (rw (h5, h4, v)) (rw (h5, h4, v))
+    revw_by flags r t a x y e c mem (gives r t a (plus x 2) y (opened c hnz flags) ((e, max (get_or mem e 0) a) ∷ []))
+    (e ∷ []) is (rw (h5, h4, v)) (rw (h5, h4, v))
 
 -- the flags
 rev_again : (c : Ccr) (flags : ℕ) → c.0 < 2 ^ 8 → flags < 2 ^ 8
     → put (opened (opened c hnzc flags) hnzc flags) overflow true ≡ put (opened c hnzc flags) overflow true
-rev_again c flags f g = same_ccr (put (opened (opened c hnzc flags) hnzc flags) overflow true) (put (opened c hnzc flags) overflow true)
-    (fits_put (opened (opened c hnzc flags) hnzc flags) overflow true (omega arith) (fits_opened (opened c hnzc flags) hnzc flags (fits_opened c hnzc flags f g) g))
+rev_again c flags f g =
+    same_ccr (put (opened (opened c hnzc flags) hnzc flags) overflow true) (put (opened c hnzc flags) overflow true)
+    (fits_put (opened (opened c hnzc flags) hnzc flags) overflow true (omega arith)
+    (fits_opened (opened c hnzc flags) hnzc flags (fits_opened c hnzc flags f g) g))
     (fits_put (opened c hnzc flags) overflow true (omega arith) (fits_opened c hnzc flags f g))
     (simp (bit_or_is, bit_and_is))
 
 rev_put_again : (c : Ccr) (flags : ℕ) (b : Bool) → c.0 < 2 ^ 8 → flags < 2 ^ 8
-    → put (opened (put (opened c hnzc flags) overflow b) hnzc flags) overflow true ≡ put (opened c hnzc flags) overflow true
+    → put (opened (put (opened c hnzc flags) overflow b) hnzc flags) overflow true ≡ put
+    (opened c hnzc flags) overflow true
 rev_put_again c flags true f g =
-    same_ccr (put (opened (put (opened c hnzc flags) overflow true) hnzc flags) overflow true) (put (opened c hnzc flags) overflow true)
-    (fits_put (opened (put (opened c hnzc flags) overflow true) hnzc flags) overflow true (omega arith) (fits_opened (put (opened c hnzc flags) overflow true) hnzc flags (fits_put (opened c hnzc flags) overflow true (omega arith) (fits_opened c hnzc flags f g)) g))
+    same_ccr (put (opened (put (opened c hnzc flags) overflow true) hnzc flags) overflow true)
+    (put (opened c hnzc flags) overflow true)
+    (fits_put (opened (put (opened c hnzc flags) overflow true) hnzc flags) overflow true (omega arith)
+    (fits_opened (put (opened c hnzc flags) overflow true) hnzc flags
+    (fits_put (opened c hnzc flags) overflow true (omega arith) (fits_opened c hnzc flags f g)) g))
     (fits_put (opened c hnzc flags) overflow true (omega arith) (fits_opened c hnzc flags f g))
     (simp (bit_or_is, bit_and_is))
 rev_put_again c flags false f g =
-    same_ccr (put (opened (put (opened c hnzc flags) overflow false) hnzc flags) overflow true) (put (opened c hnzc flags) overflow true)
-    (fits_put (opened (put (opened c hnzc flags) overflow false) hnzc flags) overflow true (omega arith) (fits_opened (put (opened c hnzc flags) overflow false) hnzc flags (fits_put (opened c hnzc flags) overflow false (omega arith) (fits_opened c hnzc flags f g)) g))
+    same_ccr (put (opened (put (opened c hnzc flags) overflow false) hnzc flags) overflow true)
+    (put (opened c hnzc flags) overflow true)
+    (fits_put (opened (put (opened c hnzc flags) overflow false) hnzc flags) overflow true (omega arith)
+    (fits_opened (put (opened c hnzc flags) overflow false) hnzc flags
+    (fits_put (opened c hnzc flags) overflow false (omega arith) (fits_opened c hnzc flags f g)) g))
     (fits_put (opened c hnzc flags) overflow true (omega arith) (fits_opened c hnzc flags f g))
     (simp (bit_or_is, bit_and_is))
 
-rev_set : (c : Ccr) (flags : ℕ) → c.0 < 2 ^ 8 → flags < 2 ^ 8 → has c overflow ≡ true → opened c hnzc flags ≡ put (opened c hnzc flags) overflow true
+rev_set : (c : Ccr) (flags : ℕ) → c.0 < 2 ^ 8 → flags < 2 ^ 8 → has c overflow ≡ true
+    → opened c hnzc flags ≡ put (opened c hnzc flags) overflow true
 rev_set c flags f g v =
     let b : bit c.0 1 ≡ true = v in
-    same_ccr (opened c hnzc flags) (put (opened c hnzc flags) overflow true) (fits_opened c hnzc flags f g) (fits_put (opened c hnzc flags) overflow true (omega arith) (fits_opened c hnzc flags f g))
+    same_ccr (opened c hnzc flags) (put (opened c hnzc flags) overflow true) (fits_opened c hnzc flags f g)
+    (fits_put (opened c hnzc flags) overflow true (omega arith) (fits_opened c hnzc flags f g))
     (simp (bit_or_is, bit_and_is) (rw b refl))
 
 revw_again : (c : Ccr) (flags : ℕ) → c.0 < 2 ^ 8 → flags < 2 ^ 8
     → put (opened (opened c hnz flags) hnz flags) overflow true ≡ put (opened c hnz flags) overflow true
-revw_again c flags f g = same_ccr (put (opened (opened c hnz flags) hnz flags) overflow true) (put (opened c hnz flags) overflow true)
-    (fits_put (opened (opened c hnz flags) hnz flags) overflow true (omega arith) (fits_opened (opened c hnz flags) hnz flags (fits_opened c hnz flags f g) g))
+revw_again c flags f g =
+    same_ccr (put (opened (opened c hnz flags) hnz flags) overflow true) (put (opened c hnz flags) overflow true)
+    (fits_put (opened (opened c hnz flags) hnz flags) overflow true (omega arith)
+    (fits_opened (opened c hnz flags) hnz flags (fits_opened c hnz flags f g) g))
     (fits_put (opened c hnz flags) overflow true (omega arith) (fits_opened c hnz flags f g))
     (simp (bit_or_is, bit_and_is))
 
 revw_put_again : (c : Ccr) (flags : ℕ) (b : Bool) → c.0 < 2 ^ 8 → flags < 2 ^ 8
-    → put (opened (put (opened c hnz flags) overflow b) hnz flags) overflow true ≡ put (opened c hnz flags) overflow true
+    → put (opened (put (opened c hnz flags) overflow b) hnz flags) overflow true ≡ put
+    (opened c hnz flags) overflow true
 revw_put_again c flags true f g =
-    same_ccr (put (opened (put (opened c hnz flags) overflow true) hnz flags) overflow true) (put (opened c hnz flags) overflow true)
-    (fits_put (opened (put (opened c hnz flags) overflow true) hnz flags) overflow true (omega arith) (fits_opened (put (opened c hnz flags) overflow true) hnz flags (fits_put (opened c hnz flags) overflow true (omega arith) (fits_opened c hnz flags f g)) g))
+    same_ccr (put (opened (put (opened c hnz flags) overflow true) hnz flags) overflow true)
+    (put (opened c hnz flags) overflow true)
+    (fits_put (opened (put (opened c hnz flags) overflow true) hnz flags) overflow true (omega arith)
+    (fits_opened (put (opened c hnz flags) overflow true) hnz flags
+    (fits_put (opened c hnz flags) overflow true (omega arith) (fits_opened c hnz flags f g)) g))
     (fits_put (opened c hnz flags) overflow true (omega arith) (fits_opened c hnz flags f g))
     (simp (bit_or_is, bit_and_is))
 revw_put_again c flags false f g =
-    same_ccr (put (opened (put (opened c hnz flags) overflow false) hnz flags) overflow true) (put (opened c hnz flags) overflow true)
-    (fits_put (opened (put (opened c hnz flags) overflow false) hnz flags) overflow true (omega arith) (fits_opened (put (opened c hnz flags) overflow false) hnz flags (fits_put (opened c hnz flags) overflow false (omega arith) (fits_opened c hnz flags f g)) g))
+    same_ccr (put (opened (put (opened c hnz flags) overflow false) hnz flags) overflow true)
+    (put (opened c hnz flags) overflow true)
+    (fits_put (opened (put (opened c hnz flags) overflow false) hnz flags) overflow true (omega arith)
+    (fits_opened (put (opened c hnz flags) overflow false) hnz flags
+    (fits_put (opened c hnz flags) overflow false (omega arith) (fits_opened c hnz flags f g)) g))
     (fits_put (opened c hnz flags) overflow true (omega arith) (fits_opened c hnz flags f g))
     (simp (bit_or_is, bit_and_is))
 
-revw_set : (c : Ccr) (flags : ℕ) → c.0 < 2 ^ 8 → flags < 2 ^ 8 → has c overflow ≡ true → opened c hnz flags ≡ put (opened c hnz flags) overflow true
+revw_set : (c : Ccr) (flags : ℕ) → c.0 < 2 ^ 8 → flags < 2 ^ 8 → has c overflow ≡ true
+    → opened c hnz flags ≡ put (opened c hnz flags) overflow true
 revw_set c flags f g v =
     let b : bit c.0 1 ≡ true = v in
-    same_ccr (opened c hnz flags) (put (opened c hnz flags) overflow true) (fits_opened c hnz flags f g) (fits_put (opened c hnz flags) overflow true (omega arith) (fits_opened c hnz flags f g))
+    same_ccr (opened c hnz flags) (put (opened c hnz flags) overflow true) (fits_opened c hnz flags f g)
+    (fits_put (opened c hnz flags) overflow true (omega arith) (fits_opened c hnz flags f g))
     (simp (bit_or_is, bit_and_is) (rw b refl))
 
 revw_weighing : (c : Ccr) (b : Bool) → has (put c overflow b) carry ≡ has c carry
@@ -122,14 +164,21 @@ revw_weighing c false = simp bit_and_is
 
 pub rev_walks : (flags : ℕ) (r : Regs) (t : Temps) → Walks rev flags (rev_form r.y) r t
 rev_walks flags r t = record {
-  stops = λ a x y c mem is. rev_by flags r t a x y 255 c mem (last_gives r t a (plus x 1) y (opened c hnzc flags)) [] is refl refl;
-  turns = λ a x y c mem is v. rev_by flags r t a x y 254 c mem (gives r t 255 (plus x 1) y (put (opened c hnzc flags) overflow false) []) [] is (rw v) (rw v);
-  begins = λ a x y c mem is v o. rev_by flags r t a x y 254 c mem (gives r t a (plus x 1) y (put (opened c hnzc flags) overflow true) []) [] is (rw v) (rw v);
+  stops = λ a x y c mem is. rev_by flags r t a x y 255 c mem (last_gives r t a (plus x 1) y (opened c hnzc flags)) []
+      is refl refl;
+  turns = λ a x y c mem is v. rev_by flags r t a x y 254 c mem
+      (gives r t 255 (plus x 1) y (put (opened c hnzc flags) overflow false) []) [] is (rw v) (rw v);
+  begins = λ a x y c mem is v o. rev_by flags r t a x y 254 c mem
+      (gives r t a (plus x 1) y (put (opened c hnzc flags) overflow true) []) [] is (rw v) (rw v);
   weighs = λ a x y c mem is v o. absurd (false≢true o);
   leasts = λ e a x y c mem is l v at. (let y0 = at refl in
-      subst (λ (n : ℕ). Does rev flags (at_rules r t a x y c mem) (gives r t (min a (get_or mem (plus n e) 0)) (plus x 1) y (opened c hnzc flags) []) (x ∷ plus n e ∷ [])) y0 (rev_least flags r t a x y e c mem is l v));
+      subst (λ (n : ℕ). Does rev flags (at_rules r t a x y c mem)
+      (gives r t (min a (get_or mem (plus n e) 0)) (plus x 1) y (opened c hnzc flags) []) (x ∷ plus n e ∷ [])) y0
+      (rev_least flags r t a x y e c mem is l v));
   raises = λ e a x y c mem is l v at. (let y0 = at refl in
-      subst (λ (n : ℕ). Does rev flags (at_rules r t a x y c mem) (gives r t a (plus x 1) y (opened c hnzc flags) ((plus n e, max (get_or mem (plus n e) 0) a) ∷ [])) (x ∷ plus n e ∷ [])) y0 (rev_raise flags r t a x y e c mem is l v));
+      subst (λ (n : ℕ). Does rev flags (at_rules r t a x y c mem)
+      (gives r t a (plus x 1) y (opened c hnzc flags) ((plus n e, max (get_or mem (plus n e) 0) a) ∷ []))
+      (x ∷ plus n e ∷ [])) y0 (rev_raise flags r t a x y e c mem is l v));
   element_stays = λ mem i v x n. get_or-set_other mem i x v 0 n.0;
   v_opened = λ c. simp (bit_or_is, bit_and_is);
   weighs_opened = λ c. refl;
@@ -141,13 +190,19 @@ rev_walks flags r t = record {
 
 pub revw_walks : (flags : ℕ) (r : Regs) (t : Temps) → Walks revw flags revw_form r t
 revw_walks flags r t = record {
-  stops = λ a x y c mem is. revw_by flags r t a x y 65535 c mem (last_gives r t a (plus x 2) y (opened c hnz flags)) [] is refl refl;
-  turns = λ a x y c mem is v. revw_by flags r t a x y 65534 c mem (gives r t 255 (plus x 2) y (put (opened c hnz flags) overflow false) []) [] is (rw v) (rw v);
-  begins = λ a x y c mem is v o. revw_by flags r t a x y 65534 c mem (gives r t a (plus x 2) y (put (opened c hnz flags) overflow true) []) [] is (rw (v, o)) (rw (v, o));
-  weighs = λ a x y c mem is v o. revw_by flags r t a x y 65534 c mem (gives r t (weighted a (get_or mem y 0)) (plus x 2) (plus y 1) (put (opened c hnz flags) overflow true) []) (y ∷ []) is (rw (v, o)) (rw (v, o));
+  stops = λ a x y c mem is. revw_by flags r t a x y 65535 c mem (last_gives r t a (plus x 2) y (opened c hnz flags)) []
+      is refl refl;
+  turns = λ a x y c mem is v. revw_by flags r t a x y 65534 c mem
+      (gives r t 255 (plus x 2) y (put (opened c hnz flags) overflow false) []) [] is (rw v) (rw v);
+  begins = λ a x y c mem is v o. revw_by flags r t a x y 65534 c mem
+      (gives r t a (plus x 2) y (put (opened c hnz flags) overflow true) []) [] is (rw (v, o)) (rw (v, o));
+  weighs = λ a x y c mem is v o. revw_by flags r t a x y 65534 c mem
+      (gives r t (weighted a (get_or mem y 0)) (plus x 2) (plus y 1) (put (opened c hnz flags) overflow true) [])
+      (y ∷ []) is (rw (v, o)) (rw (v, o));
   leasts = λ e a x y c mem is l v at. revw_least flags r t a x y e c mem is l v;
   raises = λ e a x y c mem is l v at. revw_raise flags r t a x y e c mem is l v;
-  element_stays = λ mem i v x n. ap₂ word_of (get_or-set_other mem i x v 0 n.0) (get_or-set_other mem i (plus x 1) v 0 n.1.0);
+  element_stays = λ mem i v x n. ap₂ word_of (get_or-set_other mem i x v 0 n.0)
+      (get_or-set_other mem i (plus x 1) v 0 n.1.0);
   v_opened = λ c. simp (bit_or_is, bit_and_is);
   weighs_opened = λ c. simp (bit_or_is, bit_and_is);
   weighs_put = revw_weighing;

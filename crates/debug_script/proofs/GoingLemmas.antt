@@ -1,5 +1,6 @@
 -- A session by its next position.
-use Rattle.std.proofs.Common.{◌≡◌, ℕ, zero, suc, ◌+◌, ◌-◌, ◌<◌, ◌≤◌, true, false, List, [], ◌∷◌, ◌++◌, drop, length, refl, sym, ap, ap₂, ◌∙◌, arith}
+use Rattle.std.proofs.Common.{◌≡◌, ℕ, zero, suc, ◌+◌, ◌-◌, ◌<◌, ◌≤◌, true, false, List, [], ◌∷◌, ◌++◌, drop, length}
+use Rattle.std.proofs.Common.{refl, sym, ap, ap₂, ◌∙◌, arith}
 use Rattle.std.proofs.Common.{append_assoc}
 use Rattle.std.specs.Prelude.{slice_index}
 use Rattle.cpu12_isa.specs.Memory.{bytes_at, from, plus}
@@ -25,7 +26,8 @@ GoesOn old new = old.outlook ≡ at_position old.outlook.here (from_here new.out
 
 -- so it did also, where its bytes are noted there
 pub goes_on : (old there new : SessionSeen) → GoesOn old there → new.outlook ≡ there.outlook → GoesOn old new
-goes_on old there new e same = e ∙ ap (λ (o : Outlook (RowSeen (List ℕ))). at_position old.outlook.here (from_here o)) (sym same)
+goes_on old there new e same =
+    e ∙ ap (λ (o : Outlook (RowSeen (List ℕ))). at_position old.outlook.here (from_here o)) (sym same)
 
 pub place_more : (old new : SessionSeen) → GoesOn old new → place_of old ≡ old.outlook.here ∷ place_of new
 place_more old new e = ap (λ (o : Outlook (RowSeen (List ℕ))). o.here ∷ o.later) e
@@ -63,7 +65,8 @@ stopped_place marks old new e is =
 
 pub further_place : (marks : Marks) (old new : SessionSeen) → GoesOn old new
     → stops marks old.outlook.here new.outlook.here ≡ false
-    → on (distance (stops marks) (place_of old)) (place_of old) ≡ on (distance (stops marks) (place_of new)) (place_of new)
+    → on (distance (stops marks) (place_of old)) (place_of old) ≡ on (distance (stops marks) (place_of new))
+    (place_of new)
 further_place marks old new e is =
     ap (λ (ps : List Position). on (distance (stops marks) ps) ps) (place_more old new e)
     ∙ go_more (stops marks) old.outlook.here new.outlook.here new.outlook.later is
@@ -105,7 +108,8 @@ told_numbered k m (w ∷ ws) ps l t = (l, told_numbered k (suc m) ws ps l t)
 
 told_all : (k : ℕ) (wss : List (List State)) → k + length wss ≤ 4294967296 → AreTold (all_numbered k wss)
 told_all k [] l = tt
-told_all k (ws ∷ wss) l = told_numbered k 0 ws (all_numbered (suc k) wss) (omega arith) (told_all (suc k) wss (omega arith))
+told_all k (ws ∷ wss) l =
+    told_numbered k 0 ws (all_numbered (suc k) wss) (omega arith) (told_all (suc k) wss (omega arith))
 
 runs_of_samples : {S A B : Type 0} (f : Form S A B) (most : ℕ) (asks : ℕ → List A) (k : ℕ) (xs : List S) (s : State)
     → length (rows_from f most asks k xs s).states ≡ length xs
@@ -126,7 +130,8 @@ told_positions f most asks xs s l =
 
 -- ---- one order more
 
-pub starts_shown : (marks : Marks) (script : List Order) (place : List Position) (all : List Shown) → marks ≡ no_marks → all ≡ []
+pub starts_shown : (marks : Marks) (script : List Order) (place : List Position) (all : List Shown)
+    → marks ≡ no_marks → all ≡ []
     → all ++ shown_from marks script place ≡ shown script place
 starts_shown marks script place all none nothing =
     ap₂ (λ (k : Marks) (l : List Shown). l ++ shown_from k script place) none nothing

@@ -1,5 +1,6 @@
 -- What is noted, by each address.
-use Rattle.std.proofs.Common.{◌≡◌, ℕ, zero, suc, ◌==◌, ◌||◌, inl, inr, Bool, true, false, not, List, [], ◌∷◌, length, refl, sym, ap, ◌∙◌, arith}
+use Rattle.std.proofs.Common.{◌≡◌, ℕ, zero, suc, ◌==◌, ◌||◌, inl, inr, Bool, true, false, not, List, [], ◌∷◌, length}
+use Rattle.std.proofs.Common.{refl, sym, ap, ◌∙◌, arith}
 use Rattle.std.specs.Prelude.{Option, Some, None, option_map, if◌then◌else◌, slice_index, slice_index_or}
 use Rattle.std.specs.BTreeSet.{BTreeSet, contains_by}
 use Rattle.std.specs.BTreeMap.{is_at}
@@ -23,7 +24,8 @@ length_again (n ∷ ns) [] = refl
 length_again (n ∷ ns) (v ∷ vs) = ap suc (length_again ns vs)
 
 again_at : (noted : List (Option ℕ)) (mem : List ℕ) (at : ℕ) → length noted ≡ length mem
-    → slice_index_or (noted_again noted mem) at None ≡ option_map (λ b. slice_index mem at) (slice_index_or noted at None)
+    → slice_index_or (noted_again noted mem) at None ≡ option_map (λ b. slice_index mem at)
+    (slice_index_or noted at None)
 again_at [] mem at e = refl
 again_at (n ∷ ns) [] at e = absurd (omega arith)
 again_at (n ∷ ns) (v ∷ vs) zero e = refl
@@ -83,7 +85,8 @@ key_passes : (test : ℕ → Bool) (keys : List ℕ) → list_any test keys ≡ 
 key_passes test [] e = absurd cc
 key_passes test (k ∷ ks) e = elim (or_cases (test k) (list_any test ks) e) [
   | inl here ↦ (let same : is_at (nat_cmp k) k ≡ true = grind (arith, nat_tests) in (k, rw same refl, here))
-  | inr later ↦ (let found = key_passes test ks later in (found.0, or_true (is_at (nat_cmp found.0) k) _ found.1, found.2))
+  | inr later ↦ (let found = key_passes test ks later in
+      (found.0, or_true (is_at (nat_cmp found.0) k) _ found.1, found.2))
 ]
 
 same_key : (a b : ℕ) → is_at (nat_cmp a) b ≡ true → a ≡ b
@@ -97,11 +100,13 @@ passes_at test (k ∷ ks) at e is = elim (or_cases (is_at (nat_cmp at) k) (list_
   | inr later ↦ or_true (test k) (list_any test ks) (passes_at test ks at later is)
 ]
 
-changed_key : (is : Bool) (b v : ℕ) → is_changed (if is then Some b else None) v ≡ true → (is ≡ true) × (not (b == v) ≡ true)
+changed_key : (is : Bool) (b v : ℕ) → is_changed (if is then Some b else None) v ≡ true
+    → (is ≡ true) × (not (b == v) ≡ true)
 changed_key true b v e = (refl, e)
 changed_key false b v e = absurd cc
 
-key_changed : (is : Bool) (b v : ℕ) → is ≡ true → not (b == v) ≡ true → is_changed (if is then Some b else None) v ≡ true
+key_changed : (is : Bool) (b v : ℕ) → is ≡ true → not (b == v) ≡ true
+    → is_changed (if is then Some b else None) v ≡ true
 key_changed is b v e differs = rw e differs
 
 watched_differ : (watches : BTreeSet ℕ) (mem new : List ℕ) (noted : List (Option ℕ)) → length new ≡ 65536
@@ -120,14 +125,16 @@ watched_differ watches mem new noted long are = same_truth _ _ there back
     there e =
         let found = changed_somewhere noted new e in
         let at = found.0 in
-        let key = changed_key (contains_by (nat_cmp at) watches) (slice_index mem at) (slice_index new at) (sym (changed at) ∙ found.1) in
+        let key = changed_key (contains_by (nat_cmp at) watches) (slice_index mem at) (slice_index new at)
+        (sym (changed at) ∙ found.1) in
         passes_at differs watches.keys at key.0 key.1
 
     back : list_any differs watches.keys ≡ true → any_changed noted new ≡ true
     back e =
         let found = key_passes differs watches.keys e in
         let at = found.0 in
-        let is = key_changed (contains_by (nat_cmp at) watches) (slice_index mem at) (slice_index new at) found.1 found.2 in
+        let is = key_changed (contains_by (nat_cmp at) watches) (slice_index mem at)
+        (slice_index new at) found.1 found.2 in
         changed_at noted new at (are.size ∙ sym long) (changed at ∙ is)
 
 -- ---- a session
@@ -160,7 +167,8 @@ notes_there watches old there new kept long same noted notes =
 -- there it tells whether the run stops
 stops_there : (marks : Marks) (old there : SessionSeen) → there.noted ≡ old.noted → length (bytes_here there) ≡ 65536
     → NotesBytes marks.watches old
-    → (contains_by (nat_cmp there.outlook.here.state.regs.pc) marks.breaks || any_changed there.noted (bytes_here there))
+    → (contains_by (nat_cmp there.outlook.here.state.regs.pc) marks.breaks || any_changed there.noted
+    (bytes_here there))
     ≡ stops marks old.outlook.here there.outlook.here
 stops_there marks old there kept long notes =
     ap (λ (changed : Bool). contains_by (nat_cmp there.outlook.here.state.regs.pc) marks.breaks || changed)
@@ -170,7 +178,8 @@ stops_there marks old there kept long notes =
 -- and where it notes the bytes there, it stays
 pub stops_at_next : (marks : Marks) (old there new : SessionSeen) → there.noted ≡ old.noted
     → length (bytes_here there) ≡ 65536 → new.outlook ≡ there.outlook → NotesBytes marks.watches old
-    → (contains_by (nat_cmp there.outlook.here.state.regs.pc) marks.breaks || any_changed there.noted (bytes_here there))
+    → (contains_by (nat_cmp there.outlook.here.state.regs.pc) marks.breaks || any_changed there.noted
+    (bytes_here there))
     ≡ stops marks old.outlook.here new.outlook.here
 stops_at_next marks old there new kept long same notes =
     stops_there marks old there kept long notes

@@ -1,5 +1,6 @@
 -- A place by the next position.
-use Rattle.std.proofs.Common.{◌≡◌, ℕ, suc, ◌+◌, ◌-◌, Bool, true, false, min, List, [], ◌∷◌, drop, length, refl, ap, ◌∙◌, arith}
+use Rattle.std.proofs.Common.{◌≡◌, ℕ, suc, ◌+◌, ◌-◌, Bool, true, false, min, List, [], ◌∷◌, drop, length, refl, ap, ◌∙◌}
+use Rattle.std.proofs.Common.{arith}
 use Rattle.std.specs.List.{position_or_len}
 use Rattle.debug_script.specs.Places.{distance, on, stops_behind}
 
@@ -27,6 +28,7 @@ module _ {X : Type 0} where
         → on (distance stops (p ∷ q ∷ ps)) (p ∷ q ∷ ps) ≡ on (distance stops (q ∷ ps)) (q ∷ ps)
     go_more p q ps is =
         let behind = stops_behind stops q ps in
-        let far : position_or_len (λ stop. stop) (stops p q ∷ behind) ≡ 1 + position_or_len (λ stop. stop) behind = rw is refl in
+        let far : position_or_len (λ stop. stop) (stops p q ∷ behind) ≡ 1 + position_or_len (λ stop. stop) behind =
+        rw is refl in
         let more : distance stops (p ∷ q ∷ ps) ≡ distance stops (q ∷ ps) + 1 = omega (arith, far) in
         ap (λ (n : ℕ). on n (p ∷ q ∷ ps)) more ∙ on_more (distance stops (q ∷ ps)) p q ps

@@ -1,5 +1,6 @@
 -- A text by its first line.
-use Rattle.std.proofs.Common.{◌≡◌, ℕ, ◌+◌, ◌-◌, ◌<◌, ◌≤◌, ◌==◌, List, [], ◌∷◌, ◌++◌, take, drop, length, refl, sym, ap, ◌∙◌, subst, inl, inr, arith}
+use Rattle.std.proofs.Common.{◌≡◌, ℕ, ◌+◌, ◌-◌, ◌<◌, ◌≤◌, ◌==◌, List, [], ◌∷◌, ◌++◌, take, drop, length, refl, sym, ap}
+use Rattle.std.proofs.Common.{◌∙◌, subst, inl, inr, arith}
 use Rattle.std.proofs.Common.{append_assoc, append-nil}
 use Rattle.std.specs.Prelude.{Option, Some, None, Result, Ok, Err}
 use Rattle.std.proofs.lemmas.List.{take_rest}
@@ -27,7 +28,8 @@ whole_piece [] l = refl
 whole_piece (b ∷ text) l = elim (cases_Bool (b == 0x0A)) [
   | inl here ↦ (let none : position_or_len (λ k. k == 0x0A) (b ∷ text) ≡ 0 = rw here refl in absurd (omega arith))
   | inr other ↦
-      let more : position_or_len (λ k. k == 0x0A) (b ∷ text) ≡ 1 + position_or_len (λ k. k == 0x0A) text = rw other refl in
+      let more : position_or_len (λ k. k == 0x0A) (b ∷ text) ≡ 1 + position_or_len (λ k. k == 0x0A) text =
+      rw other refl in
       let rest : pieces text ≡ text ∷ [] = whole_piece text (omega arith) in
       rw (other, rest) refl
 ]

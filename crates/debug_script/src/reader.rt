@@ -2,7 +2,8 @@
 ghost use Rattle.std.specs.Prelude.{◌≡◌, ◌≢◌, ◌≤◌, ◌<◌, ◌∷◌, ◌==◌, ℕ, [], Ok, IfOk, IfErr, IfSome, MatchOption, length};
 ghost use Rattle.std.specs.List.{after_first, before_first, position_or_len};
 ghost use Rattle.std.specs.Str.{bytes_eq};
-ghost use Rattle.debug_script.specs.Scripts.{IsFirstFault, bytes_order, memory_order, order_of, pieces, script_of, step_order, with_operands};
+ghost use Rattle.debug_script.specs.Scripts.{IsFirstFault, bytes_order, memory_order, order_of, pieces, script_of};
+ghost use Rattle.debug_script.specs.Scripts.{step_order, with_operands};
 
 use crate::order::{Order, Script, ScriptFault};
 use fz_list::List;

@@ -1,5 +1,6 @@
 -- The best leaf of a box, and the leaves that hold there.
-use Rattle.std.proofs.Common.{◌≡◌, ⊎_elim, ℕ, zero, suc, ◌+◌, ◌-◌, ◌*◌, ◌/◌, ◌<◌, ◌≤◌, Bool, true, false, List, length, Option, Some, None, refl, sym, ◌∙◌, subst, arith, mul-le-mul_right, mul-pos}
+use Rattle.std.proofs.Common.{◌≡◌, ⊎_elim, ℕ, zero, suc, ◌+◌, ◌-◌, ◌*◌, ◌/◌, ◌<◌, ◌≤◌, Bool, true, false, List, length}
+use Rattle.std.proofs.Common.{Option, Some, None, refl, sym, ◌∙◌, subst, arith, mul-le-mul_right, mul-pos}
 use Rattle.std.specs.Prelude.{IsTrue, slice_get, ◌==◌, ◌⊎◌, if◌then◌else◌, nat_le, ◌<ℤ◌}
 use Rattle.std.proofs.lemmas.Int.{ints}
 use Rattle.std.proofs.lemmas.Bool.{cases_lt}
@@ -20,13 +21,17 @@ use Rattle.byte_scaling.specs.Weights.{weight_byte_of}
 use Rattle.point_slope.specs.Tables.{row_of, grade_of}
 use Rattle.error_bound.specs.declared.boxes.Interval.{Interval}
 use Rattle.error_bound.specs.declared.boxes.Leaf.{Leaf}
-use Rattle.error_bound.specs.Boxes.{least_from, greatest_from, literal_span, literal_byte_span, rule_span, rule_byte_span}
-use Rattle.error_bound.specs.Spans.{Span, ByteSpan, span, least_span, greatest_span, byte_span, least_byte_span, greatest_byte_span}
+use Rattle.error_bound.specs.Boxes.{least_from, greatest_from, literal_span, literal_byte_span, rule_span}
+use Rattle.error_bound.specs.Boxes.{rule_byte_span}
+use Rattle.error_bound.specs.Spans.{Span, ByteSpan, span, least_span, greatest_span, byte_span, least_byte_span}
+use Rattle.error_bound.specs.Spans.{greatest_byte_span}
 use Rattle.error_bound.specs.Leaves.{Holds, strong, silent, IsStrong, IsStill, rule_at}
-use Rattle.error_bound.specs.Best.{IsBest, silent as best_silent, strong as best_strong, nothing, IsCandidate, silent_leaf}
+use Rattle.error_bound.specs.Best.{IsBest, silent as best_silent, strong as best_strong, nothing, IsCandidate}
+use Rattle.error_bound.specs.Best.{silent_leaf}
 use Rattle.error_bound.specs.Errors.{billion}
 use Rattle.error_bound.specs.Bounds.{plus, bound, IsBound, greatest_offset, strong_bound, errors_from}
-use Rattle.error_bound.specs.BestLeaves.{IsBestBound, of_leaf, of_none, BestLeavesAreOne, BestLeavesHold, BestBoundsAreLeast}
+use Rattle.error_bound.specs.BestLeaves.{IsBestBound, of_leaf, of_none, BestLeavesAreOne, BestLeavesHold}
+use Rattle.error_bound.specs.BestLeaves.{BestBoundsAreLeast}
 use Rattle.error_bound.proofs.AnswerLemmas.{bound_strong, bound_silent}
 use Rattle.error_bound.proofs.CellErrors.{low_proper, high_proper}
 use Rattle.error_bound.proofs.ConclusionLemmas.{any-some, any-term}
@@ -58,7 +63,8 @@ least_to_greatest : (g : ℕ → ℕ) (p n : ℕ) → least_from g p n ≤ great
 least_to_greatest g p zero = omega arith
 least_to_greatest g p (suc n) = let h = least_to_greatest g p n in omega arith
 
-same_ordered : (f : Fraction) (n : ℕ) → IsProper f → IsOrdered (record { low = f; high = f }) (record { low = n; high = n })
+same_ordered : (f : Fraction) (n : ℕ) → IsProper f
+    → IsOrdered (record { low = f; high = f }) (record { low = n; high = n })
 same_ordered f n p = record { low = p; high = p; bytes = omega arith }
 
 module _ (s : ℕ → ℕ → Span) (m : ℕ → ℕ → ByteSpan) (literal : (i t : ℕ) → IsOrdered (s i t) (m i t)) where
@@ -67,7 +73,12 @@ module _ (s : ℕ → ℕ → Span) (m : ℕ → ℕ → ByteSpan) (literal : (i
     ordered (is i t) = literal i t
     ordered (negation c) =
         let h = ordered c in
-        record { low = record { pos = h.high.pos }; high = record { pos = h.low.pos }; bytes = (let l = h.bytes in omega arith) }
+        record {
+          low = record { pos = h.high.pos };
+          high = record { pos = h.low.pos };
+          bytes =
+              (let l = h.bytes in omega arith);
+        }
     ordered (all cs) = ordered_least cs
     ordered (any cs) = ordered_greatest cs
 
@@ -95,7 +106,8 @@ module _ (s : ℕ → ℕ → Span) (m : ℕ → ℕ → ByteSpan) (literal : (i
 
 module _ (b : Block) (box : List Interval) where
   by_interval : (i t : ℕ) (x : Input) (term : Trapezoid) → input_at b i ≡ Some x → slice_get x.terms (t - 1) ≡ Some term
-      → (v : Option Interval) → slice_get box (i - 1) ≡ v → IsOrdered (literal_span b box i t) (literal_byte_span b box i t)
+      → (v : Option Interval) → slice_get box (i - 1) ≡ v
+      → IsOrdered (literal_span b box i t) (literal_byte_span b box i t)
   by_interval i t x term ex et None ev = rw (ex, et, ev) (same_ordered (over 0 1) 0 (record { pos = omega arith }))
   by_interval i t x term ex et (Some v) ev =
       let k = points_of x term in
@@ -113,7 +125,8 @@ module _ (b : Block) (box : List Interval) where
   by_term i t x ex None et = rw (ex, et) (same_ordered (over 0 1) 0 (record { pos = omega arith }))
   by_term i t x ex (Some term) et = by_interval i t x term ex et (slice_get box (i - 1)) refl
 
-  by_input : (i t : ℕ) (o : Option Input) → input_at b i ≡ o → IsOrdered (literal_span b box i t) (literal_byte_span b box i t)
+  by_input : (i t : ℕ) (o : Option Input) → input_at b i ≡ o
+      → IsOrdered (literal_span b box i t) (literal_byte_span b box i t)
   by_input i t None ex = rw ex (same_ordered (over 0 1) 0 (record { pos = omega arith }))
   by_input i t (Some x) ex = by_term i t x ex (slice_get x.terms (t - 1)) refl
 
@@ -149,7 +162,8 @@ record IsOutdone (b : Block) (box : List Interval) (o n k : ℕ) : Type 0 where
   candidate : IsCandidate b box o n part
   above : k ≤ part
 
-outdone : (b : Block) (box : List Interval) (o n k : ℕ) (r : Rule) → 1 ≤ n → 1 ≤ k → rule_at b n ≡ Some r → IsStrong b box o r k
+outdone : (b : Block) (box : List Interval) (o n k : ℕ) (r : Rule) → 1 ≤ n → 1 ≤ k → rule_at b n ≡ Some r
+    → IsStrong b box o r k
     → IsOutdone b box o n k
 outdone b box o n k r from some er s =
     let f = (rule_span b box r).low in
@@ -169,7 +183,8 @@ outdone b box o n k r from some er s =
     }
 
 -- where the silent leaf holds no rule is strong
-silent_not_strong : (b : Block) (box : List Interval) (o n k : ℕ) (r : Rule) → Holds b box o silent_leaf → rule_at b n ≡ Some r
+silent_not_strong : (b : Block) (box : List Interval) (o n k : ℕ) (r : Rule) → Holds b box o silent_leaf
+    → rule_at b n ≡ Some r
     → IsStrong b box o r k → ⊥
 silent_not_strong b box o n k r (strong r' from some to e' s') er s = absurd (omega arith)
 silent_not_strong b box o n k r (silent z y every) er s =
@@ -191,7 +206,8 @@ none_holds b box o leaf (nothing quiet none) (strong r from some to er s) =
 
 one_of_two : (n k m j : ℕ) → (j < k) ⊎ ((j ≡ k) × (n ≤ m)) → (k < j) ⊎ ((k ≡ j) × (m ≤ n)) → (n ≡ m) × (k ≡ j)
 one_of_two n k m j p q = ⊎_elim
-    (λ (l : j < k). ⊎_elim (λ (g : k < j). absurd (omega arith)) (λ (g : (k ≡ j) × (m ≤ n)). absurd (let e = g.0 in omega arith)) q)
+    (λ (l : j < k). ⊎_elim (λ (g : k < j). absurd (omega arith))
+    (λ (g : (k ≡ j) × (m ≤ n)). absurd (let e = g.0 in omega arith)) q)
     (λ (l : (j ≡ k) × (n ≤ m)). ⊎_elim
     (λ (g : k < j). absurd (let e = l.0 in omega arith))
     (λ (g : (k ≡ j) × (m ≤ n)). (let a = l.1 in let c = g.1 in omega arith, g.0)) q)
@@ -229,7 +245,8 @@ best_holds b box o _ to (best_strong n k quiet c first) =
     let e = c.part in
     let some = c.some in
     let low : AtMost (over k 255) f = record { cross = subst (λ j. j * f.den ≤ f.num * 255) (sym e) below } in (
-      strong c.rule c.from some to c.rule_is (record { term = t.0; concludes_it = t.1; low = low; byte_low = c.byte_low }),
+      strong c.rule c.from some to c.rule_is
+          (record { term = t.0; concludes_it = t.1; low = low; byte_low = c.byte_low }),
       record {
         silent = λ z. absurd (omega arith);
         strong = λ _. c.from;
@@ -240,7 +257,8 @@ best_holds b box o _ to (best_strong n k quiet c first) =
 
 -- ---- its Bound is the least
 
-strong-falls : (x : Output) (h s j k : ℕ) → x.lo.0 <ℤ x.hi.0 → 1 ≤ h → 1 ≤ j → j ≤ k → strong_bound x h s k ≤ strong_bound x h s j
+strong-falls : (x : Output) (h s j k : ℕ) → x.lo.0 <ℤ x.hi.0 → 1 ≤ h → 1 ≤ j → j ≤ k
+    → strong_bound x h s k ≤ strong_bound x h s j
 strong-falls x h s j k range hh hj le =
     let w = distance x.lo x.hi in
     let wp : 0 < w = omega (arith, ints) in
@@ -255,9 +273,11 @@ strong-falls x h s j k range hh hj le =
           mul-pos kp fp;
     }) (record { pos = mul-pos jp fp }) (record { cross = crossed s j k f.num f.den le })
   where
-    crossed : (s j k n d : ℕ) → j ≤ k → (s * 255 * d + n * (billion * k)) * (billion * j * d) ≤ (s * 255 * d + n * (billion * j)) * (billion * k * d)
+    crossed : (s j k n d : ℕ) → j ≤ k
+        → (s * 255 * d + n * (billion * k)) * (billion * j * d) ≤ (s * 255 * d + n * (billion * j)) * (billion * k * d)
     crossed s j k n d le =
-        let m : j * (s * 255 * billion * d * d) ≤ k * (s * 255 * billion * d * d) = mul-le-mul_right (s * 255 * billion * d * d) le in
+        let m : j * (s * 255 * billion * d * d) ≤ k * (s * 255 * billion * d * d) =
+        mul-le-mul_right (s * 255 * billion * d * d) le in
         omega arith
 
 moved : {a b c d : ℕ} → a ≡ c → b ≡ d → c ≤ d → a ≤ b
@@ -273,17 +293,20 @@ module _ (b : Block) (box : List Interval) (o : ℕ) (x : Output) (h : ℕ) (lea
   by_best _ n m (best_silent hs) p (silent z y every) q =
       let e = bound_silent x h leaf.k (errors_from b q.errors o 1 x.singletons) y in
       moved p.is (q.is ∙ e) (omega arith)
-  by_best _ n m (best_silent hs) p (strong r from some to er s) q = absurd (silent_not_strong b box o leaf.rule leaf.k r hs er s)
+  by_best _ n m (best_silent hs) p (strong r from some to er s) q =
+      absurd (silent_not_strong b box o leaf.rule leaf.k r hs er s)
   by_best _ n m (best_strong i k quiet c first) p (silent z y every) q = absurd (quiet (silent refl refl every))
   by_best _ n m (best_strong i k quiet c first) p (strong r from some to er s) q =
       let out = outdone b box o leaf.rule leaf.k r from some er s in
       let le = at_most i k leaf.rule out.part (first leaf.rule out.part out.candidate) in
       let above = out.above in
       let best : Leaf = record { rule = i; k = k } in
-      let there : IsBound b box o x h best (bound b q.errors o x h best) = record { errors = q.errors; are_errors = q.are_errors; is = refl } in
+      let there : IsBound b box o x h best (bound b q.errors o x h best) =
+      record { errors = q.errors; are_errors = q.are_errors; is = refl } in
       let e = bounds_unique b box o x h best n (bound b q.errors o x h best) valid count p there in
       let sum = errors_from b q.errors o 1 x.singletons in
-      moved (e ∙ bound_strong x h k sum c.some) (q.is ∙ bound_strong x h leaf.k sum some) (strong-falls x h sum leaf.k k range hh some (omega arith))
+      moved (e ∙ bound_strong x h k sum c.some) (q.is ∙ bound_strong x h leaf.k sum some)
+      (strong-falls x h sum leaf.k k range hh some (omega arith))
 
   least_here : (n m : ℕ) → IsBestBound b box o x h n → Holds b box o leaf → IsBound b box o x h leaf m → n ≤ m
   least_here n m (of_leaf best _ is_best p) holds q = by_best best n m is_best p holds q
@@ -293,7 +316,8 @@ pub best_least : BestBoundsAreLeast
 best_least b small box o x h leaf n m valid ex hh count ins some best holds q =
     let e = term_errors b small in
     let here = leaves_hold_inside b small box o leaf valid count ins some holds in
-    let p : IsBound b small o x h leaf (bound b e o x h leaf) = record { errors = e; are_errors = term_errors-are b small valid some; is = refl } in
+    let p : IsBound b small o x h leaf (bound b e o x h leaf) =
+    record { errors = e; are_errors = term_errors-are b small valid some; is = refl } in
     let falls = bounds_fall b small box o x h leaf (bound b e o x h leaf) m valid ex hh count ins p q in
     let at : IsValidOutput x = All-slice_get IsValidOutput b.outputs (o - 1) x valid.outputs ex in
     let l = least_here b small o x h leaf valid at.range hh (ins.count ∙ count) n (bound b e o x h leaf) best here p in

@@ -18,7 +18,8 @@ use Rattle.error_bound.specs.Bounds.{in_millionths, offset}
 use Rattle.error_bound.proofs.Sums.{Apart}
 
 -- the same without the range, over parts of the whole range
-crossed : (lo x : ℤ) (parts qw m wd e : ℕ) → x ≡ lo *ℤ pos m +ℤ pos wd → Apart (qw * m) (parts * wd) e → unsigned_abs ((pos parts *ℤ lo +ℤ pos qw) *ℤ pos (m * 10000) -ℤ x *ℤ pos (10000 * parts)) ≤ e * 10000
+crossed : (lo x : ℤ) (parts qw m wd e : ℕ) → x ≡ lo *ℤ pos m +ℤ pos wd → Apart (qw * m) (parts * wd) e
+    → unsigned_abs ((pos parts *ℤ lo +ℤ pos qw) *ℤ pos (m * 10000) -ℤ x *ℤ pos (10000 * parts)) ≤ e * 10000
 crossed lo x parts qw m wd e ex a =
     let v = pos parts *ℤ lo +ℤ pos qw in
     let r1 : up v + parts * down lo ≡ down v + parts * up lo + qw = omega (arith, ints) in
@@ -28,7 +29,9 @@ crossed lo x parts qw m wd e ex a =
     omega (arith, ints, a.up, a.down)
 
 -- a value against x/m, which stands wd/m above the low end
-pub close_value : (h : ℕ) (o : Output) (n q : ℕ) (x : ℤ) (m wd : ℕ) → 0 < h → 0 < m → x ≡ o.lo.0 *ℤ pos m +ℤ pos wd → Apart (q * distance o.lo o.hi * m * 1000000) (wd * (255 * h) * 1000000) (n * distance o.lo o.hi * (255 * h) * m) → IsClose (distance o.lo o.hi) n (value_in h o q) (record { num = x; den = m * 10000 })
+pub close_value : (h : ℕ) (o : Output) (n q : ℕ) (x : ℤ) (m wd : ℕ) → 0 < h → 0 < m → x ≡ o.lo.0 *ℤ pos m +ℤ pos wd
+    → Apart (q * distance o.lo o.hi * m * 1000000) (wd * (255 * h) * 1000000) (n * distance o.lo o.hi * (255 * h) * m)
+    → IsClose (distance o.lo o.hi) n (value_in h o q) (record { num = x; den = m * 10000 })
 close_value h o n q x m wd hh hm ex a =
     let w = distance o.lo o.hi in
     let l = q * w * m in
@@ -36,10 +39,16 @@ close_value h o n q x m wd hh hm ex a =
     let z = apart l r in
     let c = crossed o.lo.0 x (255 * h) (q * w) m wd z ex (record { up = omega arith; down = omega arith }) in
     let e1 : z * 1000000 ≤ n * w * (255 * h) * m = omega (arith, a.up, a.down) in
-    record { dens = mul-pos (mul-pos (omega arith) (mul-pos (omega arith) hh)) (mul-pos hm (omega arith)); cross = omega arith }
+    record {
+      dens = mul-pos (mul-pos (omega arith) (mul-pos (omega arith) hh)) (mul-pos hm (omega arith));
+      cross =
+          omega arith;
+    }
 
 -- the default's byte in h parts against the default
-pub close_default : NearestIsByte → (h : ℕ) (o : Output) (d : Dec) → 0 < h → o.lo.0 <ℤ o.hi.0 → IsWithin o.lo o.hi d → IsClose (distance o.lo o.hi) (in_millionths (over (offset o d) (255 * distance o.lo o.hi))) (value_in h o (h * nearest_byte o d)) (quotient_of d)
+pub close_default : NearestIsByte → (h : ℕ) (o : Output) (d : Dec) → 0 < h → o.lo.0 <ℤ o.hi.0 → IsWithin o.lo o.hi d
+    → IsClose (distance o.lo o.hi) (in_millionths (over (offset o d) (255 * distance o.lo o.hi)))
+    (value_in h o (h * nearest_byte o d)) (quotient_of d)
 close_default is_byte h o d hh range within =
     let w = distance o.lo o.hi in
     let s = nearest_byte o d in
@@ -53,10 +62,13 @@ close_default is_byte h o d hh range within =
     let up_le = le-up_div (1000000 * f) (255 * w) (mul-pos (omega arith) wp) in
     let small : f ≤ 255 * w = omega arith in
     let fits : 1000000 * f ≤ n * (255 * w) = ⊎_elim
-    (λ (l : up_div (1000000 * f) (255 * w) < 1000000). let e : up_div (1000000 * f) (255 * w) ≡ n = omega arith in subst (λ k. 1000000 * f ≤ k * (255 * w)) e up_le)
-    (λ (l : 1000000 ≤ up_div (1000000 * f) (255 * w)). let e : 1000000 ≡ n = omega arith in subst (λ k. 1000000 * f ≤ k * (255 * w)) e (omega arith))
+    (λ (l : up_div (1000000 * f) (255 * w) < 1000000). let e : up_div (1000000 * f) (255 * w) ≡ n = omega arith in
+    subst (λ k. 1000000 * f ≤ k * (255 * w)) e up_le)
+    (λ (l : 1000000 ≤ up_div (1000000 * f) (255 * w)). let e : 1000000 ≡ n = omega arith in
+    subst (λ k. 1000000 * f ≤ k * (255 * w)) e (omega arith))
     (cases_lt (up_div (1000000 * f) (255 * w)) 1000000) in
     let m : (1000000 * f) * h ≤ (n * (255 * w)) * h = mul-le-mul_right h fits in
     let up1 : (s * w) * h ≤ (u * 255 + f) * h = mul-le-mul_right h (omega arith) in
     let down1 : (u * 255) * h ≤ (s * w + f) * h = mul-le-mul_right h (omega arith) in
-    close_value h o n (h * s) d.0 1 u hh (omega arith) (omega (arith, ints, within.low)) (record { up = omega arith; down = omega arith })
+    close_value h o n (h * s) d.0 1 u hh (omega arith) (omega (arith, ints, within.low))
+    (record { up = omega arith; down = omega arith })

@@ -1,5 +1,7 @@
 -- A flat condition reaches as far as the one that it is made of.
-use Rattle.std.proofs.Common.{◌≡◌, ℕ, zero, suc, ◌+◌, ◌-◌, ◌*◌, ◌<◌, ◌≤◌, max, Bool, true, false, List, [], ◌∷◌, ◌++◌, length, get_or, take, map, Vec, Global, Option, Some, None, refl, sym, ap, ap₂, ◌∙◌, subst, arith}
+use Rattle.std.proofs.Common.{◌≡◌, ℕ, zero, suc, ◌+◌, ◌-◌, ◌*◌, ◌<◌, ◌≤◌, max, Bool, true, false, List, [], ◌∷◌, ◌++◌}
+use Rattle.std.proofs.Common.{length, get_or, take, map, Vec, Global, Option, Some, None, refl, sym, ap, ap₂, ◌∙◌}
+use Rattle.std.proofs.Common.{subst, arith}
 use mathlib.Core.Bool.{beq}
 use Rattle.std.specs.Prelude.{if◌then◌else◌, nat_le, not, ◌==◌, slice_get}
 use Rattle.std.specs.Option.{option_map_or}
@@ -15,21 +17,28 @@ use Rattle.fuzzy_meaning.specs.declared.block.Cond.TheFolds.{fold-roll-Cond}
 use Rattle.fuzzy_meaning.specs.declared.block.Input.{Input}
 use Rattle.fuzzy_meaning.specs.declared.block.Trapezoid.{Trapezoid}
 use Rattle.fuzzy_meaning.specs.Blocks.{input_at, IsValidCondition, AreValidConditions, AllValidConditions}
-use Rattle.fuzzy_meaning.specs.Conditions.{Condition, is, negation, all, any, Conditions, end, also, conditions, condition_step, condition_of}
+use Rattle.fuzzy_meaning.specs.Conditions.{Condition, is, negation, all, any, Conditions, end, also, conditions}
+use Rattle.fuzzy_meaning.specs.Conditions.{condition_step, condition_of}
 use Rattle.fuzzy_meaning.specs.Places.{points_of, rise_at, fall_at}
 use Rattle.byte_scaling.specs.Cells.{cell_start, cell_end}
 use Rattle.point_slope.specs.Tables.{row_of, grade_of}
 use Rattle.error_bound.specs.declared.boxes.Interval.{Interval}
-use Rattle.error_bound.specs.Boxes.{least_from, greatest_from, degrees_over, grades_over, literal_span, literal_byte_span}
-use Rattle.error_bound.specs.Spans.{Span, one_minus_span, lesser_span, greater_span, joined_spans, span_of_none, span, ByteSpan, one_minus_bytes, joined_bytes, bytes_of_none, byte_span, greatest_literal}
-use Rattle.error_bound.specs.Flattening.{under, group, within, pieces, each_pieces, flat, AreSame, FlatteningKeepsReaches}
+use Rattle.error_bound.specs.Boxes.{least_from, greatest_from, degrees_over, grades_over, literal_span}
+use Rattle.error_bound.specs.Boxes.{literal_byte_span}
+use Rattle.error_bound.specs.Spans.{Span, one_minus_span, lesser_span, greater_span, joined_spans, span_of_none, span}
+use Rattle.error_bound.specs.Spans.{ByteSpan, one_minus_bytes, joined_bytes, bytes_of_none, byte_span, greatest_literal}
+use Rattle.error_bound.specs.Flattening.{under, group, within, pieces, each_pieces, flat, AreSame}
+use Rattle.error_bound.specs.Flattening.{FlatteningKeepsReaches}
 use Rattle.error_bound.specs.Places.{rise_end}
 use Rattle.error_bound.proofs.CellErrors.{low_proper, high_proper}
-use Rattle.error_bound.proofs.Groups.{group_span_none, group_span, group_bytes_none, group_bytes, group_error_none, group_error}
+use Rattle.error_bound.proofs.Groups.{group_span_none, group_span, group_bytes_none, group_bytes, group_error_none}
+use Rattle.error_bound.proofs.Groups.{group_error}
 use Rattle.error_bound.proofs.Literals.{grade-le}
 use Rattle.error_bound.proofs.Limits.{rise_all, fall_all, end_all}
 use Rattle.error_bound.proofs.Sides.{none_least}
-use Rattle.error_bound.proofs.Values.{one_proper, none_proper, same, same_trans, lesser_same, greater_same, minus_same, lesser_one as and_one, one_lesser, greater_none, none_greater, lesser_lesser, greater_greater, lesser_minus, greater_minus, twice_minus}
+use Rattle.error_bound.proofs.Values.{one_proper, none_proper, same, same_trans, lesser_same, greater_same, minus_same}
+use Rattle.error_bound.proofs.Values.{lesser_one as and_one, one_lesser, greater_none, none_greater, lesser_lesser}
+use Rattle.error_bound.proofs.Values.{greater_greater, lesser_minus, greater_minus, twice_minus}
 
 -- ---- the code's lists
 
@@ -44,9 +53,12 @@ moved [] ys zs = refl
 moved (x ∷ xs) ys zs = ap (λ l. x ∷ l) (moved xs ys zs)
 
 -- the parts of the parts up to a place
-each_more : (or odd : Bool) (cs ds : List Condition) → each_pieces or odd (conditions (cs ++ ds)) ≡ each_pieces or odd (conditions cs) ++ each_pieces or odd (conditions ds)
+each_more : (or odd : Bool) (cs ds : List Condition)
+    → each_pieces or odd (conditions (cs ++ ds)) ≡ each_pieces or odd (conditions cs)
+    ++ each_pieces or odd (conditions ds)
 each_more or odd [] ds = refl
-each_more or odd (c ∷ cs) ds = ap (λ xs. pieces or odd c ++ xs) (each_more or odd cs ds) ∙ sym (moved (pieces or odd c) (each_pieces or odd (conditions cs)) (each_pieces or odd (conditions ds)))
+each_more or odd (c ∷ cs) ds = ap (λ xs. pieces or odd c ++ xs) (each_more or odd cs ds)
+    ∙ sym (moved (pieces or odd c) (each_pieces or odd (conditions cs)) (each_pieces or odd (conditions ds)))
 
 none_more : (xs : List Condition) → xs ++ [] ≡ xs
 none_more [] = refl
@@ -56,25 +68,36 @@ none_more (x ∷ xs) = ap (λ l. x ∷ l) (none_more xs)
 abbrev pub come_to : Bool → Bool → List Condition → List Cond → ℕ → List Condition
 come_to or odd old parts k = old ++ each_pieces or odd (conditions (map condition_of (take k parts)))
 
-pub come_to_more : (or odd : Bool) (old : List Condition) (parts : List Cond) (k : ℕ) (p : Cond) (now new : List Condition) → k < length parts → p ≡ get_or parts k p → now ≡ come_to or odd old parts k → new ≡ now ++ pieces or odd (condition_of p) → new ≡ come_to or odd old parts (k + 1)
+pub come_to_more : (or odd : Bool) (old : List Condition) (parts : List Cond) (k : ℕ) (p : Cond)
+    (now new : List Condition) → k < length parts → p ≡ get_or parts k p → now ≡ come_to or odd old parts k
+    → new ≡ now ++ pieces or odd (condition_of p) → new ≡ come_to or odd old parts (k + 1)
 come_to_more or odd old parts k p now new lt at before made =
     let before_k = map condition_of (take k parts) in
-    let here : map condition_of (take (k + 1) parts) ≡ before_k ++ condition_of p ∷ [] = map_more condition_of parts k p lt ∙ ap (λ (q : Cond). before_k ++ condition_of q ∷ []) (sym at) in
-    made ∙ ap (λ xs. xs ++ pieces or odd (condition_of p)) before ∙ moved old (each_pieces or odd (conditions before_k)) (pieces or odd (condition_of p))
-    ∙ ap (λ xs. old ++ xs) (sym (ap (λ cs. each_pieces or odd (conditions cs)) here ∙ each_more or odd before_k (condition_of p ∷ []) ∙ ap (λ xs. each_pieces or odd (conditions before_k) ++ xs) (none_more (pieces or odd (condition_of p)))))
+    let here : map condition_of (take (k + 1) parts) ≡ before_k ++ condition_of p ∷ [] =
+    map_more condition_of parts k p lt ∙ ap (λ (q : Cond). before_k ++ condition_of q ∷ []) (sym at) in
+    made ∙ ap (λ xs. xs ++ pieces or odd (condition_of p)) before
+    ∙ moved old (each_pieces or odd (conditions before_k)) (pieces or odd (condition_of p))
+    ∙ ap (λ xs. old ++ xs)
+    (sym (ap (λ cs. each_pieces or odd (conditions cs)) here ∙ each_more or odd before_k (condition_of p ∷ [])
+    ∙ ap (λ xs. each_pieces or odd (conditions before_k) ++ xs) (none_more (pieces or odd (condition_of p)))))
 
 -- ---- what is pushed
 
-one_group : (or kind : Bool) (xs : List Condition) → beq kind or ≡ false → within or kind xs ≡ group kind (conditions xs) ∷ []
+one_group : (or kind : Bool) (xs : List Condition) → beq kind or ≡ false
+    → within or kind xs ≡ group kind (conditions xs) ∷ []
 one_group true true xs h = absurd (let z : ⊥ = cc in z)
 one_group true false xs h = refl
 one_group false true xs h = refl
 one_group false false xs h = absurd (let z : ⊥ = cc in z)
 
-pub pushed : (old new : List Cond) (l : Cond) (c : Condition) → new ≡ old ++ l ∷ [] → condition_of l ≡ c → map condition_of new ≡ map condition_of old ++ c ∷ []
-pushed old new l c made named = ap (map condition_of) made ∙ map-append condition_of old (l ∷ []) ∙ ap (λ x. map condition_of old ++ x ∷ []) named
+pub pushed : (old new : List Cond) (l : Cond) (c : Condition) → new ≡ old ++ l ∷ [] → condition_of l ≡ c
+    → map condition_of new ≡ map condition_of old ++ c ∷ []
+pushed old new l c made named = ap (map condition_of) made ∙ map-append condition_of old (l ∷ [])
+    ∙ ap (λ x. map condition_of old ++ x ∷ []) named
 
-pub pushed_group : (or kind : Bool) (old new inner : List Cond) (g : Cond) (xs : List Condition) → beq kind or ≡ false → new ≡ old ++ g ∷ [] → condition_of g ≡ group kind (conditions (map condition_of inner)) → map condition_of inner ≡ xs → map condition_of new ≡ map condition_of old ++ within or kind xs
+pub pushed_group : (or kind : Bool) (old new inner : List Cond) (g : Cond) (xs : List Condition) → beq kind or ≡ false
+    → new ≡ old ++ g ∷ [] → condition_of g ≡ group kind (conditions (map condition_of inner))
+    → map condition_of inner ≡ xs → map condition_of new ≡ map condition_of old ++ within or kind xs
 pushed_group or kind old new inner g xs apart made named parts =
     pushed old new g (group kind (conditions xs)) made (named ∙ ap (λ ys. group kind (conditions ys)) parts)
     ∙ ap (λ ys. map condition_of old ++ ys) (sym (one_group or kind xs apart))
@@ -82,7 +105,9 @@ pushed_group or kind old new inner g xs apart made named parts =
 condition_of-Is : (i t : ℕ) → condition_of (Is i t) ≡ is i t
 condition_of-Is i t = ap condition_of (sym (rolls-Is i t)) ∙ fold-roll-Cond Condition condition_step (Cond-F.Is i t)
 
-pub pushed_literal : (or odd : Bool) (old new : List Cond) (l cond : Cond) (i t : ℕ) → new ≡ old ++ l ∷ [] → condition_of l ≡ under odd (condition_of (Is i t)) → cond ≡ Is i t → map condition_of new ≡ map condition_of old ++ pieces or odd (condition_of cond)
+pub pushed_literal : (or odd : Bool) (old new : List Cond) (l cond : Cond) (i t : ℕ) → new ≡ old ++ l ∷ []
+    → condition_of l ≡ under odd (condition_of (Is i t)) → cond ≡ Is i t
+    → map condition_of new ≡ map condition_of old ++ pieces or odd (condition_of cond)
 pushed_literal or odd old new l cond i t made as_literal at =
     pushed old new l (under odd (is i t)) made (as_literal ∙ ap (under odd) (condition_of-Is i t))
     ∙ ap (λ c. map condition_of old ++ pieces or odd c) (sym (ap condition_of at ∙ condition_of-Is i t))
@@ -127,16 +152,20 @@ module _ (b : Block) where
 
     some_valid : (or odd : Bool) (cs : Conditions) → AreValidConditions b cs → AreSome (each_pieces or odd cs)
     some_valid or odd end h = absurd h
-    some_valid or odd (also c cs) h = some_more (pieces or odd c) (each_pieces or odd cs) (valid or odd c h.0) (all_valid or odd cs h.1)
+    some_valid or odd (also c cs) h =
+        some_more (pieces or odd c) (each_pieces or odd cs) (valid or odd c h.0) (all_valid or odd cs h.1)
 
     all_valid : (or odd : Bool) (cs : Conditions) → AllValidConditions b cs → AreAll (each_pieces or odd cs)
     all_valid or odd end h = tt
-    all_valid or odd (also c cs) h = all_more (pieces or odd c) (each_pieces or odd cs) (some_all (pieces or odd c) (valid or odd c h.0)) (all_valid or odd cs h.1)
+    all_valid or odd (also c cs) h =
+        all_more (pieces or odd c) (each_pieces or odd cs) (some_all (pieces or odd c) (valid or odd c h.0))
+        (all_valid or odd cs h.1)
 
 -- ---- any meaning by laws of AND, OR and NOT
 
 -- f goes by an operation with a tt for ORs and for ANDs, and by another for NOT; the laws hold for good values
-record IsMeaning (A : Type 0) (Good : A → Type 0) (Same : A → A → Type 0) (op : Bool → A → A → A) (none : Bool → A) (minus : A → A) (f : Condition → A) : Type 0 where
+record IsMeaning (A : Type 0) (Good : A → Type 0) (Same : A → A → Type 0) (op : Bool → A → A → A) (none : Bool → A)
+    (minus : A → A) (f : Condition → A) : Type 0 where
   alike : (a : A) → Good a → Same a a
   trans : (a b c : A) → Same a b → Same b c → Same a c
   op_good : (or : Bool) (a b : A) → Good a → Good b → Good (op or a b)
@@ -159,7 +188,8 @@ abbrev flipped : Bool → Bool → Bool
 flipped true or = not or
 flipped false or = or
 
-module _ (A : Type 0) (Good : A → Type 0) (Same : A → A → Type 0) (op : Bool → A → A → A) (none : Bool → A) (minus : A → A) (f : Condition → A) (m : IsMeaning A Good Same op none minus f) where
+module _ (A : Type 0) (Good : A → Type 0) (Same : A → A → Type 0) (op : Bool → A → A → A) (none : Bool → A)
+    (minus : A → A) (f : Condition → A) (m : IsMeaning A Good Same op none minus f) where
   mutual
     good : (c : Condition) → Good (f c)
     good (is i t) = m.literal i t
@@ -169,7 +199,8 @@ module _ (A : Type 0) (Good : A → Type 0) (Same : A → A → Type 0) (op : Bo
 
     group_good : (or : Bool) (cs : Conditions) → Good (f (group or cs))
     group_good or end = subst Good (sym (m.of_none or)) (m.none_good or)
-    group_good or (also c cs) = subst Good (sym (m.of_also or c cs)) (m.op_good or (f c) (f (group or cs)) (good c) (group_good or cs))
+    group_good or (also c cs) =
+        subst Good (sym (m.of_also or c cs)) (m.op_good or (f c) (f (group or cs)) (good c) (group_good or cs))
 
   abbrev turned : Bool → A → A
   turned true a = minus a
@@ -179,10 +210,12 @@ module _ (A : Type 0) (Good : A → Type 0) (Same : A → A → Type 0) (op : Bo
   at or cs = f (group or (conditions cs))
 
   at_one : (or : Bool) (c : Condition) → Same (at or (c ∷ [])) (f c)
-  at_one or c = subst (λ x. Same x (f c)) (sym (m.of_also or c end ∙ ap (op or (f c)) (m.of_none or))) (m.op_none or (f c) (good c))
+  at_one or c = subst (λ x. Same x (f c)) (sym (m.of_also or c end ∙ ap (op or (f c)) (m.of_none or)))
+      (m.op_none or (f c) (good c))
 
   at_more : (or : Bool) (cs ds : List Condition) → Same (at or (cs ++ ds)) (op or (at or cs) (at or ds))
-  at_more or [] ds = subst (λ x. Same (at or ds) (op or x (at or ds))) (sym (m.of_none or)) (m.none_op or (at or ds) (group_good or (conditions ds)))
+  at_more or [] ds = subst (λ x. Same (at or ds) (op or x (at or ds))) (sym (m.of_none or))
+      (m.none_op or (at or ds) (group_good or (conditions ds)))
   at_more or (c ∷ cs) ds =
       let a = f c in
       let b = at or cs in
@@ -202,55 +235,77 @@ module _ (A : Type 0) (Good : A → Type 0) (Same : A → A → Type 0) (op : Bo
 
   turned_not : (odd : Bool) (c : Condition) → Same (turned (not odd) (f c)) (turned odd (f (negation c)))
   turned_not true c = subst (λ x. Same (f c) (minus x)) (sym (m.of_not c)) (m.twice (f c) (good c))
-  turned_not false c = subst (λ x. Same (minus (f c)) x) (sym (m.of_not c)) (m.alike (minus (f c)) (m.minus_good (f c) (good c)))
+  turned_not false c =
+      subst (λ x. Same (minus (f c)) x) (sym (m.of_not c)) (m.alike (minus (f c)) (m.minus_good (f c) (good c)))
 
   turned_literal : (odd : Bool) (c : Condition) → Same (f (under odd c)) (turned odd (f c))
-  turned_literal true c = subst (λ x. Same x (minus (f c))) (sym (m.of_not c)) (m.alike (minus (f c)) (m.minus_good (f c) (good c)))
+  turned_literal true c =
+      subst (λ x. Same x (minus (f c))) (sym (m.of_not c)) (m.alike (minus (f c)) (m.minus_good (f c) (good c)))
   turned_literal false c = m.alike (f c) (good c)
 
   turned_none : (or odd : Bool) → Same (f (group or end)) (turned odd (f (group (flipped odd or) end)))
-  turned_none or true = subst (λ x. Same x (minus (f (group (not or) end)))) (sym (m.of_none or)) (subst (λ x. Same (none or) (minus x)) (sym (m.of_none (not or))) (m.none_minus or))
+  turned_none or true =
+      subst (λ x. Same x (minus (f (group (not or) end)))) (sym (m.of_none or))
+      (subst (λ x. Same (none or) (minus x)) (sym (m.of_none (not or))) (m.none_minus or))
   turned_none or false = m.alike (f (group or end)) (group_good or end)
 
-  turned_also : (or odd : Bool) (c : Condition) (cs : Conditions) → Same (op or (turned odd (f c)) (turned odd (f (group (flipped odd or) cs)))) (turned odd (f (group (flipped odd or) (also c cs))))
-  turned_also or true c cs = subst (λ x. Same (op or (minus (f c)) (minus (f (group (not or) cs)))) (minus x)) (sym (m.of_also (not or) c cs)) (m.op_minus or (f c) (f (group (not or) cs)) (good c) (group_good (not or) cs))
-  turned_also or false c cs = subst (λ x. Same (op or (f c) (f (group or cs))) x) (sym (m.of_also or c cs)) (m.alike (op or (f c) (f (group or cs))) (m.op_good or (f c) (f (group or cs)) (good c) (group_good or cs)))
+  turned_also : (or odd : Bool) (c : Condition) (cs : Conditions)
+      → Same (op or (turned odd (f c)) (turned odd (f (group (flipped odd or) cs))))
+      (turned odd (f (group (flipped odd or) (also c cs))))
+  turned_also or true c cs =
+      subst (λ x. Same (op or (minus (f c)) (minus (f (group (not or) cs)))) (minus x)) (sym (m.of_also (not or) c cs))
+      (m.op_minus or (f c) (f (group (not or) cs)) (good c) (group_good (not or) cs))
+  turned_also or false c cs =
+      subst (λ x. Same (op or (f c) (f (group or cs))) x) (sym (m.of_also or c cs))
+      (m.alike (op or (f c) (f (group or cs))) (m.op_good or (f c) (f (group or cs)) (good c) (group_good or cs)))
 
   turned_all : (odd : Bool) (cs : Conditions) → turned odd (f (group (flipped odd odd) cs)) ≡ turned odd (f (all cs))
   turned_all true cs = refl
   turned_all false cs = refl
 
-  turned_any : (odd : Bool) (cs : Conditions) → turned odd (f (group (flipped odd (not odd)) cs)) ≡ turned odd (f (any cs))
+  turned_any : (odd : Bool) (cs : Conditions)
+      → turned odd (f (group (flipped odd (not odd)) cs)) ≡ turned odd (f (any cs))
   turned_any true cs = refl
   turned_any false cs = refl
 
   mutual
     pieces_same : (or odd : Bool) (c : Condition) → Same (at or (pieces or odd c)) (turned odd (f c))
-    pieces_same or odd (is i t) = m.trans (at or (under odd (is i t) ∷ [])) (f (under odd (is i t))) (turned odd (f (is i t))) (at_one or (under odd (is i t))) (turned_literal odd (is i t))
-    pieces_same or odd (negation c) = m.trans (at or (pieces or (not odd) c)) (turned (not odd) (f c)) (turned odd (f (negation c))) (pieces_same or (not odd) c) (turned_not odd c)
+    pieces_same or odd (is i t) =
+        m.trans (at or (under odd (is i t) ∷ [])) (f (under odd (is i t))) (turned odd (f (is i t)))
+        (at_one or (under odd (is i t))) (turned_literal odd (is i t))
+    pieces_same or odd (negation c) =
+        m.trans (at or (pieces or (not odd) c)) (turned (not odd) (f c)) (turned odd (f (negation c)))
+        (pieces_same or (not odd) c) (turned_not odd c)
     pieces_same or odd (all cs) =
         let ps = each_pieces odd odd cs in
-        m.trans (at or (within or odd ps)) (at odd ps) (turned odd (f (all cs))) (at_within or odd ps) (subst (Same (at odd ps)) (turned_all odd cs) (each_same odd odd cs))
+        m.trans (at or (within or odd ps)) (at odd ps) (turned odd (f (all cs))) (at_within or odd ps)
+        (subst (Same (at odd ps)) (turned_all odd cs) (each_same odd odd cs))
     pieces_same or odd (any cs) =
         let ps = each_pieces (not odd) odd cs in
-        m.trans (at or (within or (not odd) ps)) (at (not odd) ps) (turned odd (f (any cs))) (at_within or (not odd) ps) (subst (Same (at (not odd) ps)) (turned_any odd cs) (each_same (not odd) odd cs))
+        m.trans (at or (within or (not odd) ps)) (at (not odd) ps) (turned odd (f (any cs))) (at_within or (not odd) ps)
+        (subst (Same (at (not odd) ps)) (turned_any odd cs) (each_same (not odd) odd cs))
 
-    each_same : (or odd : Bool) (cs : Conditions) → Same (at or (each_pieces or odd cs)) (turned odd (f (group (flipped odd or) cs)))
+    each_same : (or odd : Bool) (cs : Conditions)
+        → Same (at or (each_pieces or odd cs)) (turned odd (f (group (flipped odd or) cs)))
     each_same or odd end = turned_none or odd
     each_same or odd (also c cs) =
         let ps = pieces or odd c in
         let qs = each_pieces or odd cs in
         let a = turned odd (f c) in
         let b = turned odd (f (group (flipped odd or) cs)) in
-        m.trans (at or (ps ++ qs)) (op or (at or ps) (at or qs)) (turned odd (f (group (flipped odd or) (also c cs)))) (at_more or ps qs)
-        (m.trans (op or (at or ps) (at or qs)) (op or a b) (turned odd (f (group (flipped odd or) (also c cs)))) (m.op_same or (at or ps) (at or qs) a b (pieces_same or odd c) (each_same or odd cs)) (turned_also or odd c cs))
+        m.trans (at or (ps ++ qs)) (op or (at or ps) (at or qs)) (turned odd (f (group (flipped odd or) (also c cs))))
+        (at_more or ps qs)
+        (m.trans (op or (at or ps) (at or qs)) (op or a b) (turned odd (f (group (flipped odd or) (also c cs))))
+        (m.op_same or (at or ps) (at or qs) a b (pieces_same or odd c) (each_same or odd cs))
+        (turned_also or odd c cs))
 
   flat_same : (c : Condition) → Same (f (flat c)) (f c)
   flat_same c = pieces_same false false c
 
 -- ---- errors
 
-error_meaning : (e : ℕ → ℕ → ℕ) → IsMeaning ℕ (λ _. Unit {0}) (λ m n. m ≡ n) (λ _ m n. max m n) (λ _. 0) (λ n. n) (greatest_literal e)
+error_meaning : (e : ℕ → ℕ → ℕ)
+    → IsMeaning ℕ (λ _. Unit {0}) (λ m n. m ≡ n) (λ _ m n. max m n) (λ _. 0) (λ n. n) (greatest_literal e)
 error_meaning e = record {
   alike = λ a g. refl;
   trans = λ a b c p q. p ∙ q;
@@ -302,22 +357,54 @@ record IsGoodSpan (s : Span) : Type 0 where
   to_one : IsToOne s
 
 span_trans : (s r q : Span) → AreSame s r → AreSame r q → AreSame s q
-span_trans s r q a b = record { low = same_trans s.low r.low q.low a.low b.low; high = same_trans s.high r.high q.high a.high b.high }
+span_trans s r q a b =
+    record { low = same_trans s.low r.low q.low a.low b.low; high = same_trans s.high r.high q.high a.high b.high }
 
 span_good : (or : Bool) (s r : Span) → IsGoodSpan s → IsGoodSpan r → IsGoodSpan (joined_spans or s r)
-span_good true s r g h = record { low = IsProper-greater s.low r.low g.low h.low; high = IsProper-greater s.high r.high g.high h.high; to_one = greater_one s r g.to_one h.to_one }
-span_good false s r g h = record { low = IsProper-lesser s.low r.low g.low h.low; high = IsProper-lesser s.high r.high g.high h.high; to_one = lesser_one s r g.to_one h.to_one }
+span_good true s r g h =
+    record {
+      low = IsProper-greater s.low r.low g.low h.low;
+      high =
+          IsProper-greater s.high r.high g.high h.high;
+      to_one = greater_one s r g.to_one h.to_one;
+    }
+span_good false s r g h =
+    record {
+      low = IsProper-lesser s.low r.low g.low h.low;
+      high = IsProper-lesser s.high r.high g.high h.high;
+      to_one =
+          lesser_one s r g.to_one h.to_one;
+    }
 
 none_span_good : (or : Bool) → IsGoodSpan (span_of_none or)
-none_span_good true = record { low = none_proper; high = none_proper; to_one = record { low = none_least one; high = none_least one } }
-none_span_good false = record { low = one_proper; high = one_proper; to_one = record { low = AtMost-refl one; high = AtMost-refl one } }
+none_span_good true =
+    record { low = none_proper; high = none_proper; to_one = record { low = none_least one; high = none_least one } }
+none_span_good false =
+    record { low = one_proper; high = one_proper; to_one = record { low = AtMost-refl one; high = AtMost-refl one } }
 
 minus_span_good : (s : Span) → IsGoodSpan s → IsGoodSpan (one_minus_span s)
-minus_span_good s g = record { low = record { pos = g.high.pos }; high = record { pos = g.low.pos }; to_one = record { low = minus_one s.high; high = minus_one s.low } }
+minus_span_good s g =
+    record {
+      low = record { pos = g.high.pos };
+      high = record { pos = g.low.pos };
+      to_one =
+          record { low = minus_one s.high; high = minus_one s.low };
+    }
 
-span_same : (or : Bool) (s r q p : Span) → AreSame s q → AreSame r p → AreSame (joined_spans or s r) (joined_spans or q p)
-span_same true s r q p a b = record { low = greater_same s.low r.low q.low p.low a.low b.low; high = greater_same s.high r.high q.high p.high a.high b.high }
-span_same false s r q p a b = record { low = lesser_same s.low r.low q.low p.low a.low b.low; high = lesser_same s.high r.high q.high p.high a.high b.high }
+span_same : (or : Bool) (s r q p : Span) → AreSame s q → AreSame r p
+    → AreSame (joined_spans or s r) (joined_spans or q p)
+span_same true s r q p a b =
+    record {
+      low = greater_same s.low r.low q.low p.low a.low b.low;
+      high =
+          greater_same s.high r.high q.high p.high a.high b.high;
+    }
+span_same false s r q p a b =
+    record {
+      low = lesser_same s.low r.low q.low p.low a.low b.low;
+      high =
+          lesser_same s.high r.high q.high p.high a.high b.high;
+    }
 
 span_none : (or : Bool) (s : Span) → IsGoodSpan s → AreSame (joined_spans or s (span_of_none or)) s
 span_none true s g = record { low = greater_none s.low g.low; high = greater_none s.high g.high }
@@ -325,21 +412,37 @@ span_none false s g = record { low = and_one s.low g.low g.to_one.low; high = an
 
 none_span : (or : Bool) (s : Span) → IsGoodSpan s → AreSame s (joined_spans or (span_of_none or) s)
 none_span true s g = record { low = none_greater s.low g.low; high = none_greater s.high g.high }
-none_span false s g = record { low = one_lesser s.low g.low g.to_one.low; high = one_lesser s.high g.high g.to_one.high }
+none_span false s g =
+    record { low = one_lesser s.low g.low g.to_one.low; high = one_lesser s.high g.high g.to_one.high }
 
-span_joined : (or : Bool) (s r q : Span) → IsGoodSpan s → IsGoodSpan r → IsGoodSpan q → AreSame (joined_spans or s (joined_spans or r q)) (joined_spans or (joined_spans or s r) q)
-span_joined true s r q g h k = record { low = greater_greater s.low r.low q.low g.low h.low k.low; high = greater_greater s.high r.high q.high g.high h.high k.high }
-span_joined false s r q g h k = record { low = lesser_lesser s.low r.low q.low g.low h.low k.low; high = lesser_lesser s.high r.high q.high g.high h.high k.high }
+span_joined : (or : Bool) (s r q : Span) → IsGoodSpan s → IsGoodSpan r → IsGoodSpan q
+    → AreSame (joined_spans or s (joined_spans or r q)) (joined_spans or (joined_spans or s r) q)
+span_joined true s r q g h k =
+    record {
+      low = greater_greater s.low r.low q.low g.low h.low k.low;
+      high =
+          greater_greater s.high r.high q.high g.high h.high k.high;
+    }
+span_joined false s r q g h k =
+    record {
+      low = lesser_lesser s.low r.low q.low g.low h.low k.low;
+      high =
+          lesser_lesser s.high r.high q.high g.high h.high k.high;
+    }
 
-span_minus : (or : Bool) (s r : Span) → IsGoodSpan s → IsGoodSpan r → AreSame (joined_spans or (one_minus_span s) (one_minus_span r)) (one_minus_span (joined_spans (not or) s r))
-span_minus true s r g h = record { low = greater_minus s.high r.high g.high h.high; high = greater_minus s.low r.low g.low h.low }
-span_minus false s r g h = record { low = lesser_minus s.high r.high g.high h.high; high = lesser_minus s.low r.low g.low h.low }
+span_minus : (or : Bool) (s r : Span) → IsGoodSpan s → IsGoodSpan r
+    → AreSame (joined_spans or (one_minus_span s) (one_minus_span r)) (one_minus_span (joined_spans (not or) s r))
+span_minus true s r g h =
+    record { low = greater_minus s.high r.high g.high h.high; high = greater_minus s.low r.low g.low h.low }
+span_minus false s r g h =
+    record { low = lesser_minus s.high r.high g.high h.high; high = lesser_minus s.low r.low g.low h.low }
 
 none_span_minus : (or : Bool) → AreSame (span_of_none or) (one_minus_span (span_of_none (not or)))
 none_span_minus true = record { low = same (over 0 1) none_proper; high = same (over 0 1) none_proper }
 none_span_minus false = record { low = same one one_proper; high = same one one_proper }
 
-span_meaning : (s : ℕ → ℕ → Span) → ((i t : ℕ) → IsGoodSpan (s i t)) → IsMeaning Span IsGoodSpan AreSame joined_spans span_of_none one_minus_span (span s)
+span_meaning : (s : ℕ → ℕ → Span) → ((i t : ℕ) → IsGoodSpan (s i t))
+    → IsMeaning Span IsGoodSpan AreSame joined_spans span_of_none one_minus_span (span s)
 span_meaning s literals = record {
   alike = λ a g. record { low = same a.low g.low; high = same a.high g.high };
   trans = span_trans;
@@ -373,7 +476,12 @@ bytes_are : (m n : ByteSpan) → m.low ≡ n.low → m.high ≡ n.high → m ≡
 bytes_are m n p q = ap₂ bytes_from p q
 
 bytes_good : (or : Bool) (m n : ByteSpan) → IsTo255 m → IsTo255 n → IsTo255 (joined_bytes or m n)
-bytes_good true m n g h = record { low = (let a = g.low in let b = h.low in omega arith); high = (let a = g.high in let b = h.high in omega arith) }
+bytes_good true m n g h =
+    record {
+      low = (let a = g.low in let b = h.low in omega arith);
+      high =
+          (let a = g.high in let b = h.high in omega arith);
+    }
 bytes_good false m n g h = record { low = (let a = g.low in omega arith); high = (let a = g.high in omega arith) }
 
 none_bytes_good : (or : Bool) → IsTo255 (bytes_of_none or)
@@ -388,11 +496,13 @@ none_bytes : (or : Bool) (m : ByteSpan) → IsTo255 m → m ≡ joined_bytes or 
 none_bytes true m g = bytes_are m _ (omega arith) (omega arith)
 none_bytes false m g = bytes_are m _ (let a = g.low in omega arith) (let a = g.high in omega arith)
 
-bytes_joined : (or : Bool) (m n q : ByteSpan) → joined_bytes or m (joined_bytes or n q) ≡ joined_bytes or (joined_bytes or m n) q
+bytes_joined : (or : Bool) (m n q : ByteSpan)
+    → joined_bytes or m (joined_bytes or n q) ≡ joined_bytes or (joined_bytes or m n) q
 bytes_joined true m n q = bytes_are _ _ (omega arith) (omega arith)
 bytes_joined false m n q = bytes_are _ _ (omega arith) (omega arith)
 
-bytes_minus : (or : Bool) (m n : ByteSpan) → IsTo255 m → IsTo255 n → joined_bytes or (one_minus_bytes m) (one_minus_bytes n) ≡ one_minus_bytes (joined_bytes (not or) m n)
+bytes_minus : (or : Bool) (m n : ByteSpan) → IsTo255 m → IsTo255 n
+    → joined_bytes or (one_minus_bytes m) (one_minus_bytes n) ≡ one_minus_bytes (joined_bytes (not or) m n)
 bytes_minus true m n g h = bytes_are _ _ (omega arith) (omega arith)
 bytes_minus false m n g h = bytes_are _ _ (omega arith) (omega arith)
 
@@ -403,7 +513,8 @@ none_bytes_minus false = refl
 bytes_twice : (m : ByteSpan) → IsTo255 m → m ≡ one_minus_bytes (one_minus_bytes m)
 bytes_twice m g = bytes_are m _ (let a = g.low in omega arith) (let a = g.high in omega arith)
 
-bytes_meaning : (s : ℕ → ℕ → ByteSpan) → ((i t : ℕ) → IsTo255 (s i t)) → IsMeaning ByteSpan IsTo255 (λ m n. m ≡ n) joined_bytes bytes_of_none one_minus_bytes (byte_span s)
+bytes_meaning : (s : ℕ → ℕ → ByteSpan) → ((i t : ℕ) → IsTo255 (s i t))
+    → IsMeaning ByteSpan IsTo255 (λ m n. m ≡ n) joined_bytes bytes_of_none one_minus_bytes (byte_span s)
 bytes_meaning s literals = record {
   alike = λ a g. refl;
   trans = λ a b c p q. p ∙ q;
@@ -426,7 +537,8 @@ bytes_meaning s literals = record {
 
 -- ---- the literals of a box
 
-mapped : {A B : Type 0} (P : B → Type 0) (f : A → B) (o : Option A) (z : B) → P z → ((x : A) → P (f x)) → P (option_map_or f o z)
+mapped : {A B : Type 0} (P : B → Type 0) (f : A → B) (o : Option A) (z : B) → P z → ((x : A) → P (f x))
+    → P (option_map_or f o z)
 mapped P f None z hz hf = hz
 mapped P f (Some x) z hz hf = hf x
 
@@ -453,15 +565,21 @@ greatest_small g p (suc n) h = let l = greatest_small g p n h in let k = h (p + 
 grades_to_255 : (x : Input) (t : Trapezoid) (v : Interval) → IsTo255 (grades_over x t v)
 grades_to_255 x t v =
     let g = grade_of (row_of x t) in
-    record { low = least_small g v.from (v.to - v.from) (grade-le (row_of x t)); high = greatest_small g v.from (v.to - v.from) (grade-le (row_of x t)) }
+    record {
+      low = least_small g v.from (v.to - v.from) (grade-le (row_of x t));
+      high =
+          greatest_small g v.from (v.to - v.from) (grade-le (row_of x t));
+    }
 
 degrees_good : (x : Input) (t : Trapezoid) (v : Interval) → IsGoodSpan (degrees_over x t v)
 degrees_good x t v =
     let k = points_of x t in
     let w = distance x.lo x.hi in
     record {
-      low = low_proper k (cell_start w v.from) (cell_end w v.to) (record { pos = omega arith }) (record { pos = omega arith });
-      high = high_proper k (cell_start w v.from) (cell_end w v.to) (v.to == 255) (record { pos = omega arith }) (record { pos = omega arith });
+      low = low_proper k (cell_start w v.from) (cell_end w v.to) (record { pos = omega arith })
+          (record { pos = omega arith });
+      high = high_proper k (cell_start w v.from) (cell_end w v.to) (v.to == 255) (record { pos = omega arith })
+          (record { pos = omega arith });
       to_one = degrees_to_one x t v;
     }
 
@@ -469,22 +587,34 @@ module _ (b : Block) (box : List Interval) where
   literal_good : (i t : ℕ) → IsGoodSpan (literal_span b box i t)
   literal_good i t =
       let none : IsGoodSpan (record { low = over 0 1; high = over 0 1 }) = none_span_good true in
-      mapped IsGoodSpan _ (input_at b i) _ none (λ x. mapped IsGoodSpan _ (slice_get x.terms (t - 1)) _ none (λ term. mapped IsGoodSpan _ (slice_get box (i - 1)) _ none (degrees_good x term)))
+      mapped IsGoodSpan _ (input_at b i) _ none
+      (λ x. mapped IsGoodSpan _ (slice_get x.terms (t - 1)) _ none
+      (λ term. mapped IsGoodSpan _ (slice_get box (i - 1)) _ none (degrees_good x term)))
 
   literal_to_255 : (i t : ℕ) → IsTo255 (literal_byte_span b box i t)
   literal_to_255 i t =
       let none : IsTo255 (record { low = 0; high = 0 }) = record { low = omega arith; high = omega arith } in
-      mapped IsTo255 _ (input_at b i) _ none (λ x. mapped IsTo255 _ (slice_get x.terms (t - 1)) _ none (λ term. mapped IsTo255 _ (slice_get box (i - 1)) _ none (grades_to_255 x term)))
+      mapped IsTo255 _ (input_at b i) _ none
+      (λ x. mapped IsTo255 _ (slice_get x.terms (t - 1)) _ none
+      (λ term. mapped IsTo255 _ (slice_get box (i - 1)) _ none (grades_to_255 x term)))
 
   pub span_to_itself : (c : Condition) → AreSame (span (literal_span b box) c) (span (literal_span b box) c)
   span_to_itself c =
-      let g = good Span IsGoodSpan AreSame joined_spans span_of_none one_minus_span (span (literal_span b box)) (span_meaning (literal_span b box) literal_good) c in
-      record { low = same (span (literal_span b box) c).low g.low; high = same (span (literal_span b box) c).high g.high }
+      let g = good Span IsGoodSpan AreSame joined_spans span_of_none one_minus_span (span (literal_span b box))
+      (span_meaning (literal_span b box) literal_good) c in
+      record {
+        low = same (span (literal_span b box) c).low g.low;
+        high =
+            same (span (literal_span b box) c).high g.high;
+      }
 
 pub reaches_kept : FlatteningKeepsReaches
 reaches_kept b c = record {
   valid = valid b false false c;
-  spans = λ box. flat_same Span IsGoodSpan AreSame joined_spans span_of_none one_minus_span (span (literal_span b box)) (span_meaning (literal_span b box) (literal_good b box)) c;
-  byte_spans = λ box. flat_same ByteSpan IsTo255 (λ m n. m ≡ n) joined_bytes bytes_of_none one_minus_bytes (byte_span (literal_byte_span b box)) (bytes_meaning (literal_byte_span b box) (literal_to_255 b box)) c;
-  errors = λ e. flat_same ℕ (λ _. Unit {0}) (λ m n. m ≡ n) (λ _ m n. max m n) (λ _. 0) (λ n. n) (greatest_literal e) (error_meaning e) c;
+  spans = λ box. flat_same Span IsGoodSpan AreSame joined_spans span_of_none one_minus_span (span (literal_span b box))
+      (span_meaning (literal_span b box) (literal_good b box)) c;
+  byte_spans = λ box. flat_same ByteSpan IsTo255 (λ m n. m ≡ n) joined_bytes bytes_of_none one_minus_bytes
+      (byte_span (literal_byte_span b box)) (bytes_meaning (literal_byte_span b box) (literal_to_255 b box)) c;
+  errors = λ e. flat_same ℕ (λ _. Unit {0}) (λ m n. m ≡ n) (λ _ m n. max m n) (λ _. 0) (λ n. n) (greatest_literal e)
+      (error_meaning e) c;
 }

@@ -37,17 +37,20 @@ cells_bounded i t v vi vt h =
       lower = λ x px inn. low_bounds k s f x c ps pf px inn;
       greatest = λ u pu g. low_greatest k (v.from * w) ((v.to + 1) * w) 256 c u (omega arith) lt pu g;
       upper = λ x px inn. high_bounds k s f x c ps pf px inn;
-      least = λ u pu g. high_least k (v.from * w) ((v.to + 1) * w) 256 c u (IsPeaked-points i t vt) (omega arith) lt pu g;
+      least = λ u pu g. high_least k (v.from * w) ((v.to + 1) * w) 256 c u (IsPeaked-points i t vt)
+          (omega arith) lt pu g;
     }
 
-pub term_error-is : (i : Input) (t : Trapezoid) (v : Interval) → IsValidInput i → IsValidTerm i.lo i.hi t → v.from ≤ v.to → IsTermError i t v (term_error i t v)
+pub term_error-is : (i : Input) (t : Trapezoid) (v : Interval) → IsValidInput i → IsValidTerm i.lo i.hi t
+    → v.from ≤ v.to → IsTermError i t v (term_error i t v)
 term_error-is i t v vi vt h =
     let w = distance i.lo i.hi in
     let g = grade_of (row_of i t) in
     let m = v.to - v.from in
     record {
       covers = λ n h1 h2 x c. cells_bounds billion w (points_of i t) g v.from m n h1 (omega arith) x c;
-      least = λ f c. cells_least billion w (points_of i t) g v.from m f (IsPeaked-points i t vt) (width_pos i vi) (omega arith) (λ n h1 h2 x inn. c n h1 (omega arith) x inn);
+      least = λ f c. cells_least billion w (points_of i t) g v.from m f (IsPeaked-points i t vt) (width_pos i vi)
+          (omega arith) (λ n h1 h2 x inn. c n h1 (omega arith) x inn);
     }
 
 pub term_errors-are : TermErrorsAre

@@ -7,7 +7,8 @@ use Rattle.fuzzy_meaning.specs.declared.block.Rule.{Rule}
 use Rattle.error_bound.specs.declared.boxes.Leaf.{Leaf}
 use Rattle.error_bound.specs.Leaves.{rule_at, concludes_some, IsPairFor}
 
-module _ (b : Block) (o : ℕ) (pair : Leaf) (some_rule : pair.rule ≢ 0) (some_part : pair.k ≢ 0) (small : pair.k ≤ 255) where
+module _ (b : Block) (o : ℕ) (pair : Leaf) (some_rule : pair.rule ≢ 0) (some_part : pair.k ≢ 0)
+    (small : pair.k ≤ 255) where
   pub pair_named : (r : Rule) (t : Bool) → rule_at b pair.rule ≡ Some r → t ≡ concludes_some r o → (IsTrue t
       → IsPairFor b o pair) × (IsPairFor b o pair → IsTrue t)
   pair_named r t er et = (to, from)
@@ -22,7 +23,8 @@ module _ (b : Block) (o : ℕ) (pair : Leaf) (some_rule : pair.rule ≢ 0) (some
       }
 
       from : IsPairFor b o pair → IsTrue t
-      from p = subst (λ u. IsTrue u) (sym et) (IsSomeAnd-some (λ r. IsTrue (concludes_some r o)) (rule_at b pair.rule) r er
+      from p = subst (λ u. IsTrue u) (sym et)
+          (IsSomeAnd-some (λ r. IsTrue (concludes_some r o)) (rule_at b pair.rule) r er
           (p.concludes_one (omega (arith, some_part))))
 
   pub pair_unnamed : length b.rules ≤ pair.rule - 1 → IsPairFor b o pair → ⊥

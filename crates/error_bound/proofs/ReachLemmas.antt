@@ -1,5 +1,6 @@
 -- The ends of the reaches of the parts of an AND or OR, from the last on.
-use Rattle.std.proofs.Common.{◌≡◌, ℕ, suc, ◌-◌, ◌<◌, ◌≤◌, Bool, true, false, List, [], ◌∷◌, length, map, drop, get_or, refl, ap, ap₂, sym, ◌∙◌, subst, arith}
+use Rattle.std.proofs.Common.{◌≡◌, ℕ, suc, ◌-◌, ◌<◌, ◌≤◌, Bool, true, false, List, [], ◌∷◌, length, map, drop, get_or}
+use Rattle.std.proofs.Common.{refl, ap, ap₂, sym, ◌∙◌, subst, arith}
 use Rattle.std.proofs.Math.Seq.{drop-cons}
 use Rattle.fuzzy_meaning.specs.declared.block.Block.{Block}
 use Rattle.fuzzy_meaning.specs.declared.block.Cond.{Cond}
@@ -7,7 +8,9 @@ use Rattle.fuzzy_meaning.specs.Conditions.{condition_of, also, conditions}
 use Rattle.error_bound.specs.declared.boxes.Interval.{Interval}
 use Rattle.error_bound.specs.declared.ends.End.{End}
 use Rattle.error_bound.specs.Ratios.{value_of, IsRatio}
-use Rattle.error_bound.specs.Spans.{Span, ByteSpan, span, byte_span, end_of, byte_end_of, joined_spans, span_of_none, joined_bytes, bytes_of_none, joined_ends, end_of_none, joined_byte_ends, byte_end_of_none}
+use Rattle.error_bound.specs.Spans.{Span, ByteSpan, span, byte_span, end_of, byte_end_of, joined_spans, span_of_none}
+use Rattle.error_bound.specs.Spans.{joined_bytes, bytes_of_none, joined_ends, end_of_none, joined_byte_ends}
+use Rattle.error_bound.specs.Spans.{byte_end_of_none}
 use Rattle.error_bound.specs.Boxes.{literal_span, literal_byte_span}
 use Rattle.error_bound.specs.Reaches.{IsEndOfCondition}
 use Rattle.error_bound.specs.Flattening.{group}
@@ -15,13 +18,15 @@ use Rattle.error_bound.proofs.Groups.{group_span, group_span_none, group_bytes, 
 
 -- ---- ends of spans
 
-end-joined : (upper or : Bool) (s r : Span) → end_of upper (joined_spans or s r) ≡ joined_ends or (end_of upper s) (end_of upper r)
+end-joined : (upper or : Bool) (s r : Span)
+    → end_of upper (joined_spans or s r) ≡ joined_ends or (end_of upper s) (end_of upper r)
 end-joined true true s r = refl
 end-joined true false s r = refl
 end-joined false true s r = refl
 end-joined false false s r = refl
 
-byte_end-joined : (upper or : Bool) (s r : ByteSpan) → byte_end_of upper (joined_bytes or s r) ≡ joined_byte_ends or (byte_end_of upper s) (byte_end_of upper r)
+byte_end-joined : (upper or : Bool) (s r : ByteSpan)
+    → byte_end_of upper (joined_bytes or s r) ≡ joined_byte_ends or (byte_end_of upper s) (byte_end_of upper r)
 byte_end-joined true true s r = refl
 byte_end-joined true false s r = refl
 byte_end-joined false true s r = refl
@@ -56,7 +61,8 @@ drop-length : (ps : List Cond) → drop (length ps) ps ≡ []
 drop-length [] = refl
 drop-length (p ∷ ps) = drop-length ps
 
-pub end_from : (b : Block) (box : List Interval) (or upper : Bool) (parts : List Cond) (k : ℕ) (part : Cond) (p r s : End)
+pub end_from : (b : Block) (box : List Interval) (or upper : Bool) (parts : List Cond) (k : ℕ) (part : Cond)
+    (p r s : End)
     → 1 ≤ k → k ≤ length parts → part ≡ get_or parts (k - 1) part
     → IsEndOfCondition b box (condition_of part) upper p
     → IsEndOfCondition b box (group or (conditions (map condition_of (drop k parts)))) upper r
@@ -70,18 +76,23 @@ end_from b box or upper parts k part p r s from to here_is hp hr value byte smal
     let bytes = literal_byte_span b box in
     subst (λ ds. IsEndOfCondition b box (group or ds) upper s) (sym (from_place parts k part from to here_is)) (record {
       value = value ∙ ap₂ (joined_ends or) hp.value hr.value
-          ∙ sym (ap (end_of upper) (group_span spans or c cs) ∙ end-joined upper or (span spans c) (span spans (group or cs)));
+          ∙ sym (ap (end_of upper) (group_span spans or c cs)
+          ∙ end-joined upper or (span spans c) (span spans (group or cs)));
       byte = byte ∙ ap₂ (joined_byte_ends or) hp.byte hr.byte
-          ∙ sym (ap (byte_end_of upper) (group_bytes bytes or c cs) ∙ byte_end-joined upper or (byte_span bytes c) (byte_span bytes (group or cs)));
+          ∙ sym (ap (byte_end_of upper) (group_bytes bytes or c cs)
+          ∙ byte_end-joined upper or (byte_span bytes c) (byte_span bytes (group or cs)));
       small = small;
     })
 
-pub end_from_none : (b : Block) (box : List Interval) (or upper : Bool) (parts : List Cond) (r : End) → value_of r.truth ≡ end_of_none or
+pub end_from_none : (b : Block) (box : List Interval) (or upper : Bool) (parts : List Cond) (r : End)
+    → value_of r.truth ≡ end_of_none or
     → r.byte ≡ byte_end_of_none or → IsRatio 1000000000000 r.truth
     → IsEndOfCondition b box (group or (conditions (map condition_of (drop (length parts) parts)))) upper r
 end_from_none b box or upper parts r value byte small =
-    subst (λ ps. IsEndOfCondition b box (group or (conditions (map condition_of ps))) upper r) (sym (drop-length parts)) (record {
+    subst (λ ps. IsEndOfCondition b box (group or (conditions (map condition_of ps))) upper r)
+    (sym (drop-length parts)) (record {
       value = value ∙ sym (ap (end_of upper) (group_span_none (literal_span b box) or) ∙ end-none upper or);
-      byte = byte ∙ sym (ap (byte_end_of upper) (group_bytes_none (literal_byte_span b box) or) ∙ byte_end-none upper or);
+      byte = byte ∙ sym (ap (byte_end_of upper) (group_bytes_none (literal_byte_span b box) or)
+          ∙ byte_end-none upper or);
       small = small;
     })

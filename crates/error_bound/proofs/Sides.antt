@@ -1,5 +1,6 @@
 -- The sides of a trapezoid.
-use Rattle.std.proofs.Common.{◌≡◌, ⊎_elim, ℕ, ◌-◌, ◌*◌, ◌<◌, ◌≤◌, true, false, Bool, Option, Some, None, ap, subst, arith, mul-le-mul_right, le_of_mul-le-mul_right, lt_of_mul-lt-mul_right, mul-pos}
+use Rattle.std.proofs.Common.{◌≡◌, ⊎_elim, ℕ, ◌-◌, ◌*◌, ◌<◌, ◌≤◌, true, false, Bool, Option, Some, None, ap, subst}
+use Rattle.std.proofs.Common.{arith, mul-le-mul_right, le_of_mul-le-mul_right, lt_of_mul-lt-mul_right, mul-pos}
 use native.Mathlib.Nat.{mul-sub}
 use Rattle.std.proofs.lemmas.Bool.{cases_lt}
 use Rattle.std.proofs.lemmas.Bool.Decides.{nat_tests}
@@ -13,7 +14,10 @@ pub record IsPeaked (t : Points) : Type 0 where
   pub peak : t.b ≤ t.c
 
 -- the three cases of a side
-pub by_rise : (P : Fraction → Type 0) (a b : ℕ) (x : Fraction) → (b * x.den ≤ x.num → P one) → (x.num < b * x.den → x.num ≤ a * x.den → P none) → (a * x.den < x.num → x.num < b * x.den → P (over (x.num - a * x.den) ((b - a) * x.den))) → P (rise_at (Some a) b x)
+pub by_rise : (P : Fraction → Type 0) (a b : ℕ) (x : Fraction) → (b * x.den ≤ x.num → P one)
+    → (x.num < b * x.den → x.num ≤ a * x.den → P none)
+    → (a * x.den < x.num → x.num < b * x.den → P (over (x.num - a * x.den) ((b - a) * x.den)))
+    → P (rise_at (Some a) b x)
 by_rise P a b x p1 p2 p3 = ⊎_elim
     (λ (l : x.num < b * x.den). ⊎_elim
     (λ (m : a * x.den < x.num). subst P (grind (arith, nat_tests)) (p3 m l))
@@ -22,7 +26,10 @@ by_rise P a b x p1 p2 p3 = ⊎_elim
     (λ (l : b * x.den ≤ x.num). subst P (grind (arith, nat_tests)) (p1 l))
     (cases_lt x.num (b * x.den))
 
-pub by_rise_to : (P : Fraction → Type 0) (a b : ℕ) (x : Fraction) → (b * x.den < x.num → P one) → (x.num ≤ b * x.den → x.num ≤ a * x.den → P none) → (a * x.den < x.num → x.num ≤ b * x.den → P (over (x.num - a * x.den) ((b - a) * x.den))) → P (rise_until (Some a) b x)
+pub by_rise_to : (P : Fraction → Type 0) (a b : ℕ) (x : Fraction) → (b * x.den < x.num → P one)
+    → (x.num ≤ b * x.den → x.num ≤ a * x.den → P none)
+    → (a * x.den < x.num → x.num ≤ b * x.den → P (over (x.num - a * x.den) ((b - a) * x.den)))
+    → P (rise_until (Some a) b x)
 by_rise_to P a b x p1 p2 p3 = ⊎_elim
     (λ (l : b * x.den < x.num). subst P (grind (arith, nat_tests)) (p1 l))
     (λ (l : x.num ≤ b * x.den). ⊎_elim
@@ -31,7 +38,10 @@ by_rise_to P a b x p1 p2 p3 = ⊎_elim
     (cases_lt (a * x.den) x.num))
     (cases_lt (b * x.den) x.num)
 
-pub by_fall : (P : Fraction → Type 0) (c d : ℕ) (x : Fraction) → (x.num ≤ c * x.den → P one) → (c * x.den < x.num → d * x.den ≤ x.num → P none) → (c * x.den < x.num → x.num < d * x.den → P (over (d * x.den - x.num) ((d - c) * x.den))) → P (fall_at c (Some d) x)
+pub by_fall : (P : Fraction → Type 0) (c d : ℕ) (x : Fraction) → (x.num ≤ c * x.den → P one)
+    → (c * x.den < x.num → d * x.den ≤ x.num → P none)
+    → (c * x.den < x.num → x.num < d * x.den → P (over (d * x.den - x.num) ((d - c) * x.den)))
+    → P (fall_at c (Some d) x)
 by_fall P c d x p1 p2 p3 = ⊎_elim
     (λ (l : c * x.den < x.num). ⊎_elim
     (λ (m : x.num < d * x.den). subst P (grind (arith, nat_tests)) (p3 l m))
@@ -42,7 +52,8 @@ by_fall P c d x p1 p2 p3 = ⊎_elim
 
 -- a product of positives shows each factor positive
 left_pos : (a x n : ℕ) → n < a * x → 0 < a
-left_pos a x n h = ⊎_elim (λ (l : a < 1). absurd (let z : a ≡ 0 = omega arith in omega (arith, ap (λ k. k * x) z))) (λ (l : 1 ≤ a). l) (cases_lt a 1)
+left_pos a x n h = ⊎_elim (λ (l : a < 1). absurd (let z : a ≡ 0 = omega arith in omega (arith, ap (λ k. k * x) z)))
+    (λ (l : 1 ≤ a). l) (cases_lt a 1)
 
 -- a slope's denominator is positive
 pub width_pos : (a b n x : ℕ) → a * x < n → n < b * x → 0 < b - a
@@ -63,10 +74,12 @@ slope_one : (a b n x : ℕ) → n ≤ b * x → AtMost (over (n - a * x) ((b - a
 slope_one a b n x h = record { cross = omega (arith, mul-sub x b a) }
 
 -- a slope at two places
-slope_mono : (a b : ℕ) (x y : Fraction) → AtMost x y → AtMost (over (x.num - a * x.den) ((b - a) * x.den)) (over (y.num - a * y.den) ((b - a) * y.den))
+slope_mono : (a b : ℕ) (x y : Fraction) → AtMost x y
+    → AtMost (over (x.num - a * x.den) ((b - a) * x.den)) (over (y.num - a * y.den) ((b - a) * y.den))
 slope_mono a b x y l =
     let w = b - a in
-    let p : (x.num - a * x.den) * y.den ≤ (y.num - a * y.den) * x.den = omega (arith, mul-sub y.den x.num (a * x.den), mul-sub x.den y.num (a * y.den), l.cross) in
+    let p : (x.num - a * x.den) * y.den ≤ (y.num - a * y.den) * x.den =
+    omega (arith, mul-sub y.den x.num (a * x.den), mul-sub x.den y.num (a * y.den), l.cross) in
     let q : ((x.num - a * x.den) * y.den) * w ≤ ((y.num - a * y.den) * x.den) * w = mul-le-mul_right w p in
     record { cross = omega arith }
 
@@ -75,7 +88,8 @@ pub none_least : (f : Fraction) → AtMost none f
 none_least f = record { cross = omega arith }
 
 pub rise_one : (a b : ℕ) (x : Fraction) → AtMost (rise_at (Some a) b x) one
-rise_one a b x = by_rise (λ f. AtMost f one) a b x (λ _. AtMost-refl one) (λ _ _. none_least one) (λ _ h. slope_one a b x.num x.den (omega arith))
+rise_one a b x = by_rise (λ f. AtMost f one) a b x (λ _. AtMost-refl one) (λ _ _. none_least one)
+    (λ _ h. slope_one a b x.num x.den (omega arith))
 
 -- the order of two places against a third
 past : (b : ℕ) (x y : Fraction) → IsProper x → AtMost x y → b * x.den ≤ x.num → b * y.den ≤ y.num
@@ -100,7 +114,8 @@ past_less b x y px l h =
     let q : (b * y.den) * x.den < y.num * x.den = omega (arith, l.cross) in
     lt_of_mul-lt-mul_right x.den q
 
-pub rise_mono : (a b : ℕ) (x y : Fraction) → IsProper x → IsProper y → AtMost x y → AtMost (rise_at (Some a) b x) (rise_at (Some a) b y)
+pub rise_mono : (a b : ℕ) (x y : Fraction) → IsProper x → IsProper y → AtMost x y
+    → AtMost (rise_at (Some a) b x) (rise_at (Some a) b y)
 rise_mono a b x y px py l = by_rise (λ f. AtMost (rise_at (Some a) b x) f) a b y
     (λ _. rise_one a b x)
     (λ h1 h2. by_rise (λ f. AtMost f none) a b x
@@ -113,7 +128,8 @@ rise_mono a b x y px py l = by_rise (λ f. AtMost (rise_at (Some a) b x) f) a b 
     (λ _ _. slope_mono a b x y l))
 
 -- below y, a rising side is at most its limit at y
-pub rise_limit : (a b : ℕ) (x y : Fraction) → IsProper x → IsProper y → IsBelow x y → AtMost (rise_at (Some a) b x) (rise_until (Some a) b y)
+pub rise_limit : (a b : ℕ) (x y : Fraction) → IsProper x → IsProper y → IsBelow x y
+    → AtMost (rise_at (Some a) b x) (rise_until (Some a) b y)
 rise_limit a b x y px py s =
     let l = at_most_of_less x y s in
     by_rise_to (λ f. AtMost (rise_at (Some a) b x) f) a b y
@@ -134,7 +150,8 @@ rise_to_proper a b x px = by_rise_to IsProper a b x
     (λ h1 h2. record { pos = mul-pos (width_pos_at a b x.num x.den h1 h2) px.pos })
 
 pub rise_to_one : (a b : ℕ) (x : Fraction) → AtMost (rise_until (Some a) b x) one
-rise_to_one a b x = by_rise_to (λ f. AtMost f one) a b x (λ _. AtMost-refl one) (λ _ _. none_least one) (λ _ h. slope_one a b x.num x.den h)
+rise_to_one a b x = by_rise_to (λ f. AtMost f one) a b x (λ _. AtMost-refl one) (λ _ _. none_least one)
+    (λ _ h. slope_one a b x.num x.den h)
 
 -- the falling side
 fall_proper : (c d : ℕ) (x : Fraction) → IsProper x → IsProper (fall_at c (Some d) x)
@@ -147,16 +164,20 @@ down_one : (c d n x : ℕ) → c * x ≤ n → AtMost (over (d * x - n) ((d - c)
 down_one c d n x h = record { cross = omega (arith, mul-sub x d c) }
 
 pub fall_one : (c d : ℕ) (x : Fraction) → AtMost (fall_at c (Some d) x) one
-fall_one c d x = by_fall (λ f. AtMost f one) c d x (λ _. AtMost-refl one) (λ _ _. none_least one) (λ h _. down_one c d x.num x.den (omega arith))
+fall_one c d x = by_fall (λ f. AtMost f one) c d x (λ _. AtMost-refl one) (λ _ _. none_least one)
+    (λ h _. down_one c d x.num x.den (omega arith))
 
-down_mono : (c d : ℕ) (x y : Fraction) → AtMost x y → AtMost (over (d * y.den - y.num) ((d - c) * y.den)) (over (d * x.den - x.num) ((d - c) * x.den))
+down_mono : (c d : ℕ) (x y : Fraction) → AtMost x y
+    → AtMost (over (d * y.den - y.num) ((d - c) * y.den)) (over (d * x.den - x.num) ((d - c) * x.den))
 down_mono c d x y l =
     let w = d - c in
-    let p : (d * y.den - y.num) * x.den ≤ (d * x.den - x.num) * y.den = omega (arith, mul-sub x.den (d * y.den) y.num, mul-sub y.den (d * x.den) x.num, l.cross) in
+    let p : (d * y.den - y.num) * x.den ≤ (d * x.den - x.num) * y.den =
+    omega (arith, mul-sub x.den (d * y.den) y.num, mul-sub y.den (d * x.den) x.num, l.cross) in
     let q : ((d * y.den - y.num) * x.den) * w ≤ ((d * x.den - x.num) * y.den) * w = mul-le-mul_right w p in
     record { cross = omega arith }
 
-pub fall_mono : (c d : ℕ) (x y : Fraction) → IsProper x → IsProper y → AtMost x y → AtMost (fall_at c (Some d) y) (fall_at c (Some d) x)
+pub fall_mono : (c d : ℕ) (x y : Fraction) → IsProper x → IsProper y → AtMost x y
+    → AtMost (fall_at c (Some d) y) (fall_at c (Some d) x)
 fall_mono c d x y px py l = by_fall (λ f. AtMost (fall_at c (Some d) y) f) c d x
     (λ _. fall_one c d y)
     (λ h1 h2. by_fall (λ f. AtMost f none) c d y
@@ -182,15 +203,18 @@ side_end_proper true a b x px = side_rise_proper a b x px
 side_end_proper false None b x px = record { pos = omega arith }
 side_end_proper false (Some a) b x px = rise_to_proper a b x px
 
-pub side_rise_mono : (a : Option ℕ) (b : ℕ) (x y : Fraction) → IsProper x → IsProper y → AtMost x y → AtMost (rise_at a b x) (rise_at a b y)
+pub side_rise_mono : (a : Option ℕ) (b : ℕ) (x y : Fraction) → IsProper x → IsProper y → AtMost x y
+    → AtMost (rise_at a b x) (rise_at a b y)
 side_rise_mono None b x y px py l = AtMost-refl one
 side_rise_mono (Some a) b x y px py l = rise_mono a b x y px py l
 
-pub side_fall_mono : (c : ℕ) (d : Option ℕ) (x y : Fraction) → IsProper x → IsProper y → AtMost x y → AtMost (fall_at c d y) (fall_at c d x)
+pub side_fall_mono : (c : ℕ) (d : Option ℕ) (x y : Fraction) → IsProper x → IsProper y → AtMost x y
+    → AtMost (fall_at c d y) (fall_at c d x)
 side_fall_mono c None x y px py l = AtMost-refl one
 side_fall_mono c (Some d) x y px py l = fall_mono c d x y px py l
 
-pub side_limit : (a : Option ℕ) (b : ℕ) (x y : Fraction) → IsProper x → IsProper y → IsBelow x y → AtMost (rise_at a b x) (rise_until a b y)
+pub side_limit : (a : Option ℕ) (b : ℕ) (x y : Fraction) → IsProper x → IsProper y → IsBelow x y
+    → AtMost (rise_at a b x) (rise_until a b y)
 side_limit None b x y px py l = AtMost-refl one
 side_limit (Some a) b x y px py l = rise_limit a b x y px py l
 
@@ -202,13 +226,22 @@ in_high : (s e x : Fraction) (k : Bool) → IsFromTo s e k x → AtMost x e
 in_high s e x k (inside a b) = at_most_of_less x e b
 in_high s e x k (at_end a b c) = b
 
-in_end : (a : Option ℕ) (b : ℕ) (s e x : Fraction) (k : Bool) → IsProper x → IsProper e → IsFromTo s e k x → AtMost (rise_at a b x) (rise_end k a b e)
+in_end : (a : Option ℕ) (b : ℕ) (s e x : Fraction) (k : Bool) → IsProper x → IsProper e → IsFromTo s e k x
+    → AtMost (rise_at a b x) (rise_end k a b e)
 in_end a b s e x true px pe h = side_rise_mono a b x e px pe (in_high s e x true h)
 in_end a b s e x false px pe (inside h1 h2) = side_limit a b x e px pe h2
 in_end a b s e x false px pe (at_end h1 h2 h3) = absurd (grind arith)
 
-pub low_bounds : (t : Points) (s e x : Fraction) (k : Bool) → IsProper s → IsProper e → IsProper x → IsFromTo s e k x → AtMost (low t s e) (degree_at t x)
-low_bounds t s e x k ps pe px h = lesser-mono (rise_at t.a t.b s) (fall_at t.c t.d e) (rise_at t.a t.b x) (fall_at t.c t.d x) (side_rise_proper t.a t.b s ps) (side_fall_proper t.c t.d e pe) (side_rise_mono t.a t.b s x ps px (in_low s e x k h)) (side_fall_mono t.c t.d x e px pe (in_high s e x k h))
+pub low_bounds : (t : Points) (s e x : Fraction) (k : Bool) → IsProper s → IsProper e → IsProper x → IsFromTo s e k x
+    → AtMost (low t s e) (degree_at t x)
+low_bounds t s e x k ps pe px h =
+    lesser-mono (rise_at t.a t.b s) (fall_at t.c t.d e) (rise_at t.a t.b x) (fall_at t.c t.d x)
+    (side_rise_proper t.a t.b s ps) (side_fall_proper t.c t.d e pe)
+    (side_rise_mono t.a t.b s x ps px (in_low s e x k h)) (side_fall_mono t.c t.d x e px pe (in_high s e x k h))
 
-pub high_bounds : (t : Points) (s e x : Fraction) (k : Bool) → IsProper s → IsProper e → IsProper x → IsFromTo s e k x → AtMost (degree_at t x) (high t s e k)
-high_bounds t s e x k ps pe px h = lesser-mono (rise_at t.a t.b x) (fall_at t.c t.d x) (rise_end k t.a t.b e) (fall_at t.c t.d s) (side_rise_proper t.a t.b x px) (side_fall_proper t.c t.d x px) (in_end t.a t.b s e x k px pe h) (side_fall_mono t.c t.d s x ps px (in_low s e x k h))
+pub high_bounds : (t : Points) (s e x : Fraction) (k : Bool) → IsProper s → IsProper e → IsProper x → IsFromTo s e k x
+    → AtMost (degree_at t x) (high t s e k)
+high_bounds t s e x k ps pe px h =
+    lesser-mono (rise_at t.a t.b x) (fall_at t.c t.d x) (rise_end k t.a t.b e) (fall_at t.c t.d s)
+    (side_rise_proper t.a t.b x px) (side_fall_proper t.c t.d x px) (in_end t.a t.b s e x k px pe h)
+    (side_fall_mono t.c t.d s x ps px (in_low s e x k h))

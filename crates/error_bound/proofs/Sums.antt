@@ -9,7 +9,8 @@ pub record Apart (m g d : ℕ) : Type 0 where
   pub down : g ≤ m + d
 
 -- one term: (G u - A) (m - g) is at most W G d
-pub term_le : (w gg aa u m g d : ℕ) → u ≤ w → aa ≤ w * gg → m ≤ g + d → g ≤ m + d → gg * u * m + aa * g ≤ aa * m + gg * u * g + w * gg * d
+pub term_le : (w gg aa u m g d : ℕ) → u ≤ w → aa ≤ w * gg → m ≤ g + d → g ≤ m + d
+    → gg * u * m + aa * g ≤ aa * m + gg * u * g + w * gg * d
 term_le w gg aa u m g d hu ha h1 h2 = ⊎_elim less more (cases_lt m g)
   where
     less : m < g → gg * u * m + aa * g ≤ aa * m + gg * u * g + w * gg * d

@@ -1,5 +1,6 @@
 -- What a table has of literals and rules.
-use Rattle.std.proofs.Common.{◌≡◌, ℕ, ◌+◌, ◌-◌, ◌*◌, ◌/◌, ◌<◌, ◌≤◌, Bool, true, false, List, length, get_or, Some, refl, sym, ap, ◌∙◌, subst, arith}
+use Rattle.std.proofs.Common.{◌≡◌, ℕ, ◌+◌, ◌-◌, ◌*◌, ◌/◌, ◌<◌, ◌≤◌, Bool, true, false, List, length, get_or, Some, refl}
+use Rattle.std.proofs.Common.{sym, ap, ◌∙◌, subst, arith}
 use Rattle.std.specs.Prelude.{slice_get}
 use Rattle.std.proofs.lemmas.Option.{get_or_from_slice_get}
 use Rattle.fz_num.specs.Fractions.{times}
@@ -22,14 +23,26 @@ use Rattle.error_bound.specs.Boxes.{literal_span, literal_byte_span, rule_span, 
 use Rattle.error_bound.specs.Ratios.{value_of, IsRatio}
 use Rattle.error_bound.specs.Spans.{Span, span, byte_span, end_of, byte_end_of}
 use Rattle.error_bound.specs.Flattening.{IsSame, AreSame, ReachesAlike}
-use Rattle.error_bound.specs.Reaches.{AreBoxTerms, IsReachOfTerm, IsReachOfLiteral, IsEndOfCondition, IsEndOfRule, IsErrorOfRule, AreEndsOfRules, IsTable}
+use Rattle.error_bound.specs.Reaches.{AreBoxTerms, IsReachOfTerm, IsReachOfLiteral, IsEndOfCondition, IsEndOfRule}
+use Rattle.error_bound.specs.Reaches.{IsErrorOfRule, AreEndsOfRules, IsTable}
 use Rattle.error_bound.proofs.Values.{times_same}
 use Rattle.error_bound.proofs.FlatteningLemmas.{span_to_itself}
 
-as_literal : (b : Block) (box : List Interval) (i t : ℕ) (x : Input) (term : Trapezoid) (v : Interval) (r : Reach) → input_at b i ≡ Some x → slice_get x.terms (t - 1) ≡ Some term → slice_get box (i - 1) ≡ Some v → IsReachOfTerm x term v r → IsReachOfLiteral b box i t r
-as_literal b box i t x term v r ex et ev h = record { value = rw (ex, et, ev) h.value; bytes = rw (ex, et, ev) h.bytes; error = rw (ex, et, ev) h.error; small = h.small }
+as_literal : (b : Block) (box : List Interval) (i t : ℕ) (x : Input) (term : Trapezoid) (v : Interval) (r : Reach)
+    → input_at b i ≡ Some x → slice_get x.terms (t - 1) ≡ Some term → slice_get box (i - 1) ≡ Some v
+    → IsReachOfTerm x term v r → IsReachOfLiteral b box i t r
+as_literal b box i t x term v r ex et ev h =
+    record {
+      value = rw (ex, et, ev) h.value;
+      bytes = rw (ex, et, ev) h.bytes;
+      error =
+          rw (ex, et, ev) h.error;
+      small = h.small;
+    }
 
-pub literal_reach : (b : Block) (terms : BoxTerms) (i t : ℕ) (row : Row) (reach : Reach) → HasTerm b i t → AreBoxTerms b terms → (r : Reach) × (get_or (get_or terms.rows (i - 1) row).reaches (t - 1) reach ≡ r) × IsReachOfLiteral b terms.bytes.0.items i t r
+pub literal_reach : (b : Block) (terms : BoxTerms) (i t : ℕ) (row : Row) (reach : Reach) → HasTerm b i t
+    → AreBoxTerms b terms → (r : Reach) × (get_or (get_or terms.rows (i - 1) row).reaches (t - 1) reach ≡ r)
+    × IsReachOfLiteral b terms.bytes.0.items i t r
 literal_reach b terms i t row reach has table =
     let x = some_at b.inputs (i - 1) (IsSomeAnd-within (λ x. t ≤ length x.terms) b.inputs (i - 1) has.term_to) in
     let few = IsSomeAnd-some (λ x. t ≤ length x.terms) (input_at b i) x.0 x.1 has.term_to in
@@ -41,12 +54,14 @@ literal_reach b terms i t row reach has table =
     let found = table.each (i - 1) x.0 x.1 in
     let here = found.2 v.0 v.1 (t - 1) term.0 term.1 in (
       here.0,
-      ap (λ (w : Row). get_or w.reaches (t - 1) reach) (get_or_from_slice_get terms.rows (i - 1) found.0 row found.1) ∙ get_or_from_slice_get found.0.reaches (t - 1) here.0 reach here.1,
+      ap (λ (w : Row). get_or w.reaches (t - 1) reach) (get_or_from_slice_get terms.rows (i - 1) found.0 row found.1)
+          ∙ get_or_from_slice_get found.0.reaches (t - 1) here.0 reach here.1,
       as_literal b terms.bytes.0.items i t x.0 term.0 v.0 here.0 x.1 term.1 v.1 here.2,
     )
 
 -- what a table has of a rule
-pub rule_error_at : (b : Block) (t : BoxTable) (n : ℕ) (r : Rule) → IsTable b t → slice_get b.rules n ≡ Some r → IsErrorOfRule b t.bytes.0.items r (get_or t.errors n 0)
+pub rule_error_at : (b : Block) (t : BoxTable) (n : ℕ) (r : Rule) → IsTable b t → slice_get b.rules n ≡ Some r
+    → IsErrorOfRule b t.bytes.0.items r (get_or t.errors n 0)
 rule_error_at b t n r table e =
     let q = table.errors n r e in
     subst (IsErrorOfRule b t.bytes.0.items r) (sym (get_or_from_slice_get t.errors n q.0 0 q.1)) q.2
@@ -54,7 +69,8 @@ rule_error_at b t n r table e =
 abbrev pub no_end : End
 no_end = record { truth = record { num = 0; den = 0 }; byte = 0 }
 
-pub rule_end_at : (b : Block) (box : List Interval) (upper : Bool) (ends : List End) (n : ℕ) (r : Rule) → AreEndsOfRules b box upper ends → slice_get b.rules n ≡ Some r
+pub rule_end_at : (b : Block) (box : List Interval) (upper : Bool) (ends : List End) (n : ℕ) (r : Rule)
+    → AreEndsOfRules b box upper ends → slice_get b.rules n ≡ Some r
     → IsEndOfRule b box r upper (get_or ends n no_end)
 rule_end_at b box upper ends n r all e =
     let q = all n r e in
@@ -65,26 +81,36 @@ same_ends : (upper : Bool) (s r : Span) → AreSame s r → IsSame (end_of upper
 same_ends true s r h = h.high
 same_ends false s r h = h.low
 
-end_of_rule_span : (b : Block) (box : List Interval) (r : Rule) (upper : Bool) → end_of upper (rule_span b box r) ≡ times (end_of upper (span (literal_span b box) (condition_of r.cond))) (weight_of r.weight)
+end_of_rule_span : (b : Block) (box : List Interval) (r : Rule) (upper : Bool)
+    → end_of upper (rule_span b box r) ≡ times (end_of upper (span (literal_span b box) (condition_of r.cond)))
+    (weight_of r.weight)
 end_of_rule_span b box r true = refl
 end_of_rule_span b box r false = refl
 
-end_of_rule_bytes : (b : Block) (box : List Interval) (r : Rule) (upper : Bool) → byte_end_of upper (rule_byte_span b box r) ≡ byte_end_of upper (byte_span (literal_byte_span b box) (condition_of r.cond)) * (weight_byte_of r.weight + 1) / 256
+end_of_rule_bytes : (b : Block) (box : List Interval) (r : Rule) (upper : Bool)
+    → byte_end_of upper (rule_byte_span b box r) ≡ byte_end_of upper
+    (byte_span (literal_byte_span b box) (condition_of r.cond)) * (weight_byte_of r.weight + 1) / 256
 end_of_rule_bytes b box r true = refl
 end_of_rule_bytes b box r false = refl
 
-pub end_weighted : (b : Block) (box : List Interval) (r : Rule) (upper : Bool) (d : Condition) (e f : End) (w : ℕ) → ReachesAlike b (condition_of r.cond) d
+pub end_weighted : (b : Block) (box : List Interval) (r : Rule) (upper : Bool) (d : Condition) (e f : End) (w : ℕ)
+    → ReachesAlike b (condition_of r.cond) d
     → IsEndOfCondition b box d upper e → w ≡ weight_of r.weight → value_of f.truth ≡ times (value_of e.truth) w
     → f.byte ≡ e.byte * (weight_byte_of r.weight + 1) / 256 → IsRatio 10000000000000000 f.truth
     → IsEndOfRule b box r upper f
 end_weighted b box r upper d e f w alike h weight value byte small =
     let s = span (literal_span b box) (condition_of r.cond) in
     let s' = span (literal_span b box) d in
-    let same : IsSame (value_of e.truth) (end_of upper s) = subst (λ x. IsSame x (end_of upper s)) (sym h.value) (same_ends upper s' s (alike.spans box)) in
-    let scaled : IsSame (times (value_of e.truth) w) (times (end_of upper s) (weight_of r.weight)) = subst (λ v. IsSame (times (value_of e.truth) v) (times (end_of upper s) (weight_of r.weight))) (sym weight) (times_same (value_of e.truth) (end_of upper s) (weight_of r.weight) same) in
+    let same : IsSame (value_of e.truth) (end_of upper s) =
+    subst (λ x. IsSame x (end_of upper s)) (sym h.value) (same_ends upper s' s (alike.spans box)) in
+    let scaled : IsSame (times (value_of e.truth) w) (times (end_of upper s) (weight_of r.weight)) =
+    subst (λ v. IsSame (times (value_of e.truth) v) (times (end_of upper s) (weight_of r.weight))) (sym weight)
+    (times_same (value_of e.truth) (end_of upper s) (weight_of r.weight) same) in
     record {
-      value = subst (λ x. IsSame x (end_of upper (rule_span b box r))) (sym value) (subst (λ x. IsSame (times (value_of e.truth) w) x) (sym (end_of_rule_span b box r upper)) scaled);
-      byte = byte ∙ ap (λ n. n * (weight_byte_of r.weight + 1) / 256) (h.byte ∙ ap (byte_end_of upper) (alike.byte_spans box)) ∙ sym (end_of_rule_bytes b box r upper);
+      value = subst (λ x. IsSame x (end_of upper (rule_span b box r))) (sym value)
+          (subst (λ x. IsSame (times (value_of e.truth) w) x) (sym (end_of_rule_span b box r upper)) scaled);
+      byte = byte ∙ ap (λ n. n * (weight_byte_of r.weight + 1) / 256)
+          (h.byte ∙ ap (byte_end_of upper) (alike.byte_spans box)) ∙ sym (end_of_rule_bytes b box r upper);
       small = small;
     }
 

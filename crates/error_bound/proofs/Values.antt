@@ -1,9 +1,14 @@
 -- Fractions of one value: what AND, OR and NOT make of them, and what is read from them.
-use Rattle.std.proofs.Common.{◌≡◌, ⊎_elim, ℕ, ◌-◌, ◌*◌, ◌/◌, ◌<◌, ◌≤◌, sym, ap, ◌∙◌, subst, arith, mul-le-mul_right, le_of_mul-le-mul_right}
+use Rattle.std.proofs.Common.{◌≡◌, ⊎_elim, ℕ, ◌-◌, ◌*◌, ◌/◌, ◌<◌, ◌≤◌, sym, ap, ◌∙◌, subst, arith, mul-le-mul_right}
+use Rattle.std.proofs.Common.{le_of_mul-le-mul_right}
 use Rattle.std.proofs.lemmas.Bool.{cases_lt}
 use Rattle.std.proofs.lemmas.Nat.{le-div}
-use Rattle.fz_num.specs.Fractions.{Fraction, over, IsProper, AtMost, IsBelow, lesser, greater, one_minus, times, one, none}
-use Rattle.fz_num.proofs.Algebra.{AtMost-refl, AtMost-trans, by_lesser, by_greater, IsProper-lesser, IsProper-greater, AtMost-lesser_left, AtMost-lesser_right, AtMost-lesser, AtMost-greater_left, AtMost-greater_right, AtMost-greater, lesser-mono, greater-mono, AtMost-one_minus, le-up_div, up_div-le}
+use Rattle.fz_num.specs.Fractions.{Fraction, over, IsProper, AtMost, IsBelow, lesser, greater, one_minus, times, one}
+use Rattle.fz_num.specs.Fractions.{none}
+use Rattle.fz_num.proofs.Algebra.{AtMost-refl, AtMost-trans, by_lesser, by_greater, IsProper-lesser, IsProper-greater}
+use Rattle.fz_num.proofs.Algebra.{AtMost-lesser_left, AtMost-lesser_right, AtMost-lesser, AtMost-greater_left}
+use Rattle.fz_num.proofs.Algebra.{AtMost-greater_right, AtMost-greater, lesser-mono, greater-mono, AtMost-one_minus}
+use Rattle.fz_num.proofs.Algebra.{le-up_div, up_div-le}
 use Rattle.error_bound.specs.Errors.{billion}
 use Rattle.error_bound.specs.declared.boxes.Leaf.{Leaf}
 use Rattle.error_bound.specs.declared.boxes.LeafFault.{LeafFault}
@@ -95,7 +100,8 @@ none_greater f p = record {
   above = AtMost-greater none f f (least_none f) (AtMost-refl f);
 }
 
-pub lesser_lesser : (f g h : Fraction) → IsProper f → IsProper g → IsProper h → IsSame (lesser f (lesser g h)) (lesser (lesser f g) h)
+pub lesser_lesser : (f g h : Fraction) → IsProper f → IsProper g → IsProper h
+    → IsSame (lesser f (lesser g h)) (lesser (lesser f g) h)
 lesser_lesser f g h pf pg ph =
     let pl = IsProper-lesser f g pf pg in
     let pr = IsProper-lesser g h pg ph in
@@ -106,11 +112,17 @@ lesser_lesser f g h pf pg ph =
     record {
       left = IsProper-lesser f (lesser g h) pf pr;
       right = IsProper-lesser (lesser f g) h pl ph;
-      below = AtMost-lesser l (lesser f g) h (AtMost-lesser l f g (AtMost-lesser_left f (lesser g h)) (AtMost-trans l (lesser g h) g pr l_in (AtMost-lesser_left g h))) (AtMost-trans l (lesser g h) h pr l_in (AtMost-lesser_right g h));
-      above = AtMost-lesser r f (lesser g h) (AtMost-trans r (lesser f g) f pl r_in (AtMost-lesser_left f g)) (AtMost-lesser r g h (AtMost-trans r (lesser f g) g pl r_in (AtMost-lesser_right f g)) (AtMost-lesser_right (lesser f g) h));
+      below = AtMost-lesser l (lesser f g) h
+          (AtMost-lesser l f g (AtMost-lesser_left f (lesser g h))
+          (AtMost-trans l (lesser g h) g pr l_in (AtMost-lesser_left g h)))
+          (AtMost-trans l (lesser g h) h pr l_in (AtMost-lesser_right g h));
+      above = AtMost-lesser r f (lesser g h) (AtMost-trans r (lesser f g) f pl r_in (AtMost-lesser_left f g))
+          (AtMost-lesser r g h (AtMost-trans r (lesser f g) g pl r_in (AtMost-lesser_right f g))
+          (AtMost-lesser_right (lesser f g) h));
     }
 
-pub greater_greater : (f g h : Fraction) → IsProper f → IsProper g → IsProper h → IsSame (greater f (greater g h)) (greater (greater f g) h)
+pub greater_greater : (f g h : Fraction) → IsProper f → IsProper g → IsProper h
+    → IsSame (greater f (greater g h)) (greater (greater f g) h)
 greater_greater f g h pf pg ph =
     let pl = IsProper-greater f g pf pg in
     let pr = IsProper-greater g h pg ph in
@@ -121,25 +133,38 @@ greater_greater f g h pf pg ph =
     record {
       left = IsProper-greater f (greater g h) pf pr;
       right = IsProper-greater (greater f g) h pl ph;
-      below = AtMost-greater f (greater g h) r (AtMost-trans f (greater f g) r pl (AtMost-greater_left f g) r_in) (AtMost-greater g h r (AtMost-trans g (greater f g) r pl (AtMost-greater_right f g) r_in) (AtMost-greater_right (greater f g) h));
-      above = AtMost-greater (greater f g) h l (AtMost-greater f g l (AtMost-greater_left f (greater g h)) (AtMost-trans g (greater g h) l pr (AtMost-greater_left g h) l_in)) (AtMost-trans h (greater g h) l pr (AtMost-greater_right g h) l_in);
+      below = AtMost-greater f (greater g h) r (AtMost-trans f (greater f g) r pl (AtMost-greater_left f g) r_in)
+          (AtMost-greater g h r (AtMost-trans g (greater f g) r pl (AtMost-greater_right f g) r_in)
+          (AtMost-greater_right (greater f g) h));
+      above = AtMost-greater (greater f g) h l
+          (AtMost-greater f g l (AtMost-greater_left f (greater g h))
+          (AtMost-trans g (greater g h) l pr (AtMost-greater_left g h) l_in))
+          (AtMost-trans h (greater g h) l pr (AtMost-greater_right g h) l_in);
     }
 
 -- NOT of an OR, and of an AND
-pub lesser_minus : (f g : Fraction) → IsProper f → IsProper g → IsSame (lesser (one_minus f) (one_minus g)) (one_minus (greater f g))
+pub lesser_minus : (f g : Fraction) → IsProper f → IsProper g
+    → IsSame (lesser (one_minus f) (one_minus g)) (one_minus (greater f g))
 lesser_minus f g pf pg = record {
   left = IsProper-lesser (one_minus f) (one_minus g) (minus_proper f pf) (minus_proper g pg);
   right = minus_proper (greater f g) (IsProper-greater f g pf pg);
-  below = by_greater (λ h. AtMost (lesser (one_minus f) (one_minus g)) (one_minus h)) f g (λ _. AtMost-lesser_left (one_minus f) (one_minus g)) (λ _. AtMost-lesser_right (one_minus f) (one_minus g));
-  above = AtMost-lesser (one_minus (greater f g)) (one_minus f) (one_minus g) (AtMost-one_minus f (greater f g) (AtMost-greater_left f g)) (AtMost-one_minus g (greater f g) (AtMost-greater_right f g));
+  below = by_greater (λ h. AtMost (lesser (one_minus f) (one_minus g)) (one_minus h)) f g
+      (λ _. AtMost-lesser_left (one_minus f) (one_minus g)) (λ _. AtMost-lesser_right (one_minus f) (one_minus g));
+  above = AtMost-lesser (one_minus (greater f g)) (one_minus f) (one_minus g)
+      (AtMost-one_minus f (greater f g) (AtMost-greater_left f g))
+      (AtMost-one_minus g (greater f g) (AtMost-greater_right f g));
 }
 
-pub greater_minus : (f g : Fraction) → IsProper f → IsProper g → IsSame (greater (one_minus f) (one_minus g)) (one_minus (lesser f g))
+pub greater_minus : (f g : Fraction) → IsProper f → IsProper g
+    → IsSame (greater (one_minus f) (one_minus g)) (one_minus (lesser f g))
 greater_minus f g pf pg = record {
   left = IsProper-greater (one_minus f) (one_minus g) (minus_proper f pf) (minus_proper g pg);
   right = minus_proper (lesser f g) (IsProper-lesser f g pf pg);
-  below = AtMost-greater (one_minus f) (one_minus g) (one_minus (lesser f g)) (AtMost-one_minus (lesser f g) f (AtMost-lesser_left f g)) (AtMost-one_minus (lesser f g) g (AtMost-lesser_right f g));
-  above = by_lesser (λ h. AtMost (one_minus h) (greater (one_minus f) (one_minus g))) f g (λ _. AtMost-greater_left (one_minus f) (one_minus g)) (λ _. AtMost-greater_right (one_minus f) (one_minus g));
+  below = AtMost-greater (one_minus f) (one_minus g) (one_minus (lesser f g))
+      (AtMost-one_minus (lesser f g) f (AtMost-lesser_left f g))
+      (AtMost-one_minus (lesser f g) g (AtMost-lesser_right f g));
+  above = by_lesser (λ h. AtMost (one_minus h) (greater (one_minus f) (one_minus g))) f g
+      (λ _. AtMost-greater_left (one_minus f) (one_minus g)) (λ _. AtMost-greater_right (one_minus f) (one_minus g));
 }
 
 back : (f : Fraction) → AtMost f one → f.den - (f.den - f.num) ≡ f.num
@@ -182,7 +207,8 @@ turned : (c n d : ℕ) → c * n / d ≡ n * c / d
 turned c n d = let e : c * n ≡ n * c = omega arith in ap (λ m. m / d) e
 
 pub part_same : (f g : Fraction) → IsSame f g → 255 * f.num / f.den ≡ 255 * g.num / g.den
-part_same f g a = subst (λ m. m ≡ 255 * g.num / g.den) (sym (turned 255 f.num f.den)) (subst (λ m. f.num * 255 / f.den ≡ m) (sym (turned 255 g.num g.den)) (floor_same 255 f g a))
+part_same f g a = subst (λ m. m ≡ 255 * g.num / g.den) (sym (turned 255 f.num f.den))
+    (subst (λ m. f.num * 255 / f.den ≡ m) (sym (turned 255 g.num g.den)) (floor_same 255 f g a))
 
 up_below : (f g : Fraction) → IsProper f → IsProper g → AtMost f g → parts_up f ≤ parts_up g
 up_below f g pf pg l =
@@ -199,7 +225,9 @@ up_same f g a = both_ways (up_below f g a.left a.right a.below) (up_below g f a.
 pub below_same : (f g h : Fraction) → IsSame f g → IsBelow f h → IsBelow g h
 below_same f g h a l = ⊎_elim
     (λ (k : g.num * h.den < h.num * g.den). record { cross = k })
-    (λ (k : h.num * g.den ≤ g.num * h.den). absurd (let reached : AtMost h f = AtMost-trans h g f a.right (record { cross = k }) a.above in let x = reached.cross in let y = l.cross in omega arith))
+    (λ (k : h.num * g.den ≤ g.num * h.den). absurd
+    (let reached : AtMost h f = AtMost-trans h g f a.right (record { cross = k }) a.above in
+    let x = reached.cross in let y = l.cross in omega arith))
     (cases_lt (g.num * h.den) (h.num * g.den))
 
 pub none_same : (f g : Fraction) → IsSame f g → f.num ≡ 0 → g.num ≡ 0
@@ -213,10 +241,18 @@ some_same f g a some = ⊎_elim
 
 -- ---- faults
 
-pub strong_same : (leaf : Leaf) (f : Fraction) (n : ℕ) (r : Span) (m : ByteSpan) (fault : LeafFault) → IsSame f r.low → n ≡ m.low → IsStrongFault leaf (only_truth f) (only_byte n) fault → IsStrongFault leaf r m fault
-strong_same leaf f n r m fault a e (weak l) = subst (λ k. IsStrongFault leaf r m (Weak leaf.rule leaf.k (record { 0 = k }))) (sym (down_same f r.low a)) (weak (below_same f r.low (over leaf.k 255) a l))
-strong_same leaf f n r m fault a e (still l none) = still (AtMost-trans (over leaf.k 255) f r.low a.left l a.below) (sym e ∙ none)
+pub strong_same : (leaf : Leaf) (f : Fraction) (n : ℕ) (r : Span) (m : ByteSpan) (fault : LeafFault) → IsSame f r.low
+    → n ≡ m.low → IsStrongFault leaf (only_truth f) (only_byte n) fault → IsStrongFault leaf r m fault
+strong_same leaf f n r m fault a e (weak l) =
+    subst (λ k. IsStrongFault leaf r m (Weak leaf.rule leaf.k (record { 0 = k }))) (sym (down_same f r.low a))
+    (weak (below_same f r.low (over leaf.k 255) a l))
+strong_same leaf f n r m fault a e (still l none) =
+    still (AtMost-trans (over leaf.k 255) f r.low a.left l a.below) (sym e ∙ none)
 
-pub silent_same : (k : ℕ) (f : Fraction) (n : ℕ) (r : Span) (m : ByteSpan) (fault : LeafFault) → IsSame f r.high → n ≡ m.high → IsSilentFault k (only_truth f) (only_byte n) fault → IsSilentFault k r m fault
-silent_same k f n r m fault a e (silent some) = subst (λ j. IsSilentFault k r m (Silent k (record { 0 = j }))) (sym (up_same f r.high a)) (silent (some_same f r.high a some))
-silent_same k f n r m fault a e (loud none some) = subst (λ j. IsSilentFault k r m (Loud k j)) (sym e) (loud (none_same f r.high a none) (subst (λ j. 0 < j) e some))
+pub silent_same : (k : ℕ) (f : Fraction) (n : ℕ) (r : Span) (m : ByteSpan) (fault : LeafFault) → IsSame f r.high
+    → n ≡ m.high → IsSilentFault k (only_truth f) (only_byte n) fault → IsSilentFault k r m fault
+silent_same k f n r m fault a e (silent some) =
+    subst (λ j. IsSilentFault k r m (Silent k (record { 0 = j }))) (sym (up_same f r.high a))
+    (silent (some_same f r.high a some))
+silent_same k f n r m fault a e (loud none some) =
+    subst (λ j. IsSilentFault k r m (Loud k j)) (sym e) (loud (none_same f r.high a none) (subst (λ j. 0 < j) e some))

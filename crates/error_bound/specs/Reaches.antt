@@ -21,7 +21,8 @@ use Rattle.error_bound.specs.declared.tables.BoxTerms.{BoxTerms}
 use Rattle.error_bound.specs.declared.rules.BoxTable.{BoxTable}
 use Rattle.error_bound.specs.Ratios.{value_of, IsRatio}
 use Rattle.error_bound.specs.Spans.{Span, ByteSpan, span, byte_span, end_of, byte_end_of}
-use Rattle.error_bound.specs.Boxes.{IsBoxOf, degrees_over, grades_over, literal_span, literal_byte_span, rule_span, rule_byte_span}
+use Rattle.error_bound.specs.Boxes.{IsBoxOf, degrees_over, grades_over, literal_span, literal_byte_span, rule_span}
+use Rattle.error_bound.specs.Boxes.{rule_byte_span}
 use Rattle.error_bound.specs.Errors.{billion, rule_error}
 use Rattle.error_bound.specs.Flattening.{IsSame, ReachesAlike}
 use Rattle.error_bound.specs.CellErrors.{cell_error, term_error, term_errors}

@@ -5,7 +5,8 @@
 //! right in an AND nor OR right in an OR, so that most of its walk is one loop over literals.
 ghost use Rattle.std.specs.Prelude.{◌≡◌, ◌++◌, IfOk, OnOk, map, false};
 ghost use Rattle.fuzzy_meaning.specs.Conditions.{condition_of, conditions};
-ghost use Rattle.error_bound.specs.Flattening.{under as under_of, group, within as within_of, pieces as pieces_of, each_pieces as each_pieces_of, flat, FlatteningKeepsReaches};
+ghost use Rattle.error_bound.specs.Flattening.{under as under_of, group, within as within_of, pieces as pieces_of};
+ghost use Rattle.error_bound.specs.Flattening.{each_pieces as each_pieces_of, flat, FlatteningKeepsReaches};
 
 use fuzzy_meaning::Cond;
 use std::alloc::{AllocError, Global};
@@ -19,8 +20,8 @@ pub(crate) fn flattened(alloc: Global, cond: &Cond) -> Result<Cond, AllocError>
     Ok(Cond::And(pieces))
 }
 
-/// Puts what a condition comes to behind the parts of an OR or an AND. `odd` says that it stands behind an odd number of
-/// NOTs.
+/// Puts what a condition comes to behind the parts of an OR or an AND. `odd` says that it stands behind
+/// an odd number of NOTs.
 #[cycle(flattening)]
 fn push_pieces(
     alloc: Global,

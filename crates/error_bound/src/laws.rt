@@ -1,5 +1,6 @@
 //! Laws of the definitions.
-ghost use Rattle.error_bound.specs.Laws.{CellsHaveBounds, TermErrorsAre, LeavesHoldInside, BoundsFallInside, BoundsFallWithParts, BoundsAreDetermined};
+ghost use Rattle.error_bound.specs.Laws.{CellsHaveBounds, TermErrorsAre, LeavesHoldInside, BoundsFallInside};
+ghost use Rattle.error_bound.specs.Laws.{BoundsFallWithParts, BoundsAreDetermined};
 ghost use Rattle.error_bound.specs.Answers.{AnswersAreNear};
 ghost use Rattle.error_bound.specs.Faults.{FaultyLeavesFail, LeafFaultsAreOne};
 

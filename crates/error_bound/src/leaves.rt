@@ -1,5 +1,6 @@
 //! Leaves: whether they hold on a box, with which Bound, and the best one of a box.
-ghost use Rattle.std.specs.Prelude.{◌≡◌, ◌↔◌, ◌≤◌, ◌<◌, ◌*◌, ◌/◌, ℕ, IsTrue, IfOk, IfErr, OnOk, All, IfSome, IfNone, Some, length};
+ghost use Rattle.std.specs.Prelude.{◌≡◌, ◌↔◌, ◌≤◌, ◌<◌, ◌*◌, ◌/◌, ℕ, IsTrue, IfOk, IfErr, OnOk, All, IfSome, IfNone};
+ghost use Rattle.std.specs.Prelude.{Some, length};
 ghost use Rattle.fz_num.specs.Fractions.{over, AtMost};
 ghost use Rattle.fuzzy_meaning.specs.declared.block.Rule.{Rule as TheRule};
 ghost use Rattle.fuzzy_meaning.specs.Blocks.{IsValid, output_at};

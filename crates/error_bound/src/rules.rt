@@ -1,12 +1,14 @@
 //! What leaves need of all rules over a box.
-ghost use Rattle.std.specs.Prelude.{◌≡◌, ◌≤◌, ◌<◌, ◌+◌, ◌*◌, ◌/◌, ◌≤ℤ◌, length, pos, unsigned_abs, if◌then◌else◌, ◌==◌, IfSome, Some, false, true, slice_get};
+ghost use Rattle.std.specs.Prelude.{◌≡◌, ◌≤◌, ◌<◌, ◌+◌, ◌*◌, ◌/◌, ◌≤ℤ◌, length, pos, unsigned_abs, if◌then◌else◌, ◌==◌};
+ghost use Rattle.std.specs.Prelude.{IfSome, Some, false, true, slice_get};
 ghost use Rattle.fz_num.specs.Fractions.{up_div};
 ghost use Rattle.fuzzy_meaning.specs.declared.block.Rule.{Rule as TheRule};
 ghost use Rattle.fuzzy_meaning.specs.Blocks.{IsValid, IsValidRule};
 ghost use Rattle.fuzzy_meaning.specs.Conditions.{condition_of};
 ghost use Rattle.error_bound.specs.Boxes.{IsBoxOf};
 ghost use Rattle.error_bound.specs.Errors.{apart};
-ghost use Rattle.error_bound.specs.Reaches.{HasAlike, IsBlockTable, AreBoxTerms, IsEndOfRule, IsErrorOfRule, AreEndsOfRules, AreErrorsOfRules, IsTable};
+ghost use Rattle.error_bound.specs.Reaches.{HasAlike, IsBlockTable, AreBoxTerms, IsEndOfRule, IsErrorOfRule};
+ghost use Rattle.error_bound.specs.Reaches.{AreEndsOfRules, AreErrorsOfRules, IsTable};
 ghost use Rattle.error_bound.specs.Flattening.{ReachesAlike};
 
 use crate::boxes::ByteBox;

@@ -3,7 +3,8 @@ ghost use Rattle.std.specs.Prelude.{◌≡◌, ◌≤◌, ◌-◌, ℕ, length, 
 ghost use Rattle.fuzzy_meaning.specs.Blocks.{IsValid, IsValidInput, IsValidTerm};
 ghost use Rattle.error_bound.specs.declared.tables.InputCells.{InputCells as TheCells};
 ghost use Rattle.error_bound.specs.Boxes.{IsBoxOf};
-ghost use Rattle.error_bound.specs.Reaches.{AreTermCells, AreInputCells, AreAllCells, AreRuleConditions, IsBlockTable, all_bytes, IsReachOfTerm, AreInputReaches, AreBoxTerms};
+ghost use Rattle.error_bound.specs.Reaches.{AreTermCells, AreInputCells, AreAllCells, AreRuleConditions, IsBlockTable};
+ghost use Rattle.error_bound.specs.Reaches.{all_bytes, IsReachOfTerm, AreInputReaches, AreBoxTerms};
 
 use crate::boxes::{ByteBox, Interval};
 use crate::cells::TermCells;

@@ -1,5 +1,6 @@
 -- Boxes, their halves and their cells.
-use Rattle.std.proofs.Common.{◌≡◌, ⊎_elim, ℕ, zero, suc, ◌+◌, ◌-◌, ◌/◌, ◌<◌, ◌≤◌, List, [], ◌∷◌, length, map, get_or, Some, refl, sym, ap, ap₂, ◌∙◌, subst, arith, length-set}
+use Rattle.std.proofs.Common.{◌≡◌, ⊎_elim, ℕ, zero, suc, ◌+◌, ◌-◌, ◌/◌, ◌<◌, ◌≤◌, List, [], ◌∷◌, length, map, get_or}
+use Rattle.std.proofs.Common.{Some, refl, sym, ap, ap₂, ◌∙◌, subst, arith, length-set}
 use Rattle.std.specs.Prelude.{slice_get, All}
 use Rattle.std.proofs.lemmas.Bool.{cases_lt}
 use Rattle.fuzzy_meaning.specs.declared.block.Block.{Block}
@@ -12,7 +13,8 @@ use Rattle.cert_check.specs.Walks.{cuts_of}
 use Rattle.cert_check.specs.BoxLaws.{HasHalves, CutsHaveHalves}
 use Rattle.error_certifier.specs.Halving.{IsWidest, IsHalvedAt, middle_of, cell_of}
 
-pub same_items : {X : Type 0} (xs ys : List X) → length xs ≡ length ys → ((k : ℕ) → k < length xs → slice_get xs k ≡ slice_get ys k) → xs ≡ ys
+pub same_items : {X : Type 0} (xs ys : List X) → length xs ≡ length ys
+    → ((k : ℕ) → k < length xs → slice_get xs k ≡ slice_get ys k) → xs ≡ ys
 same_items [] [] e h = refl
 same_items [] (y ∷ ys) e h = absurd (omega (arith, e))
 same_items (x ∷ xs) [] e h = absurd (omega (arith, e))
@@ -28,7 +30,8 @@ same_items (x ∷ xs) (y ∷ ys) e h =
 middle_inside : (f t : ℕ) → f < t → (f < f + (t - f + 1) / 2) × (f + (t - f + 1) / 2 ≤ t)
 middle_inside f t h = (omega arith, omega arith)
 
-pub halves_of : CutsHaveHalves → (box : List Interval) (k c : ℕ) (at : IsHalvedAt box k c) → HasHalves box k c at.interval
+pub halves_of : CutsHaveHalves → (box : List Interval) (k c : ℕ) (at : IsHalvedAt box k c)
+    → HasHalves box k c at.interval
 halves_of cuts box k c at =
     let v = at.interval in
     let m = middle_inside v.from v.to at.more in
@@ -37,12 +40,14 @@ halves_of cuts box k c at =
     let m1 = m.1 in
     cuts box k c v at.widest.is_at (omega arith) (omega arith)
 
-pub left_box : CutsHaveHalves → (b : Block) (box : List Interval) (k c : ℕ) → IsHalvedAt box k c → IsBoxOf b box → IsBoxOf b (left_of k c box)
+pub left_box : CutsHaveHalves → (b : Block) (box : List Interval) (k c : ℕ) → IsHalvedAt box k c → IsBoxOf b box
+    → IsBoxOf b (left_of k c box)
 left_box cuts b box k c at is =
     let h = halves_of cuts box k c at in
     record { count = ap length (sym h.left_is) ∙ length-set box k _ ∙ is.count; intervals = h.left_box is.intervals }
 
-pub right_box : CutsHaveHalves → (b : Block) (box : List Interval) (k c : ℕ) → IsHalvedAt box k c → IsBoxOf b box → IsBoxOf b (right_of k c box)
+pub right_box : CutsHaveHalves → (b : Block) (box : List Interval) (k c : ℕ) → IsHalvedAt box k c → IsBoxOf b box
+    → IsBoxOf b (right_of k c box)
 right_box cuts b box k c at is =
     let h = halves_of cuts box k c at in
     record { count = ap length (sym h.right_is) ∙ length-set box k _ ∙ is.count; intervals = h.right_box is.intervals }
@@ -54,7 +59,8 @@ length-all_bytes : (is : List Input) → length (all_bytes is) ≡ length is
 length-all_bytes [] = refl
 length-all_bytes (i ∷ is) = ap suc (length-all_bytes is)
 
-all_boxes : (is : List Input) (k : ℕ) (v : Interval) → slice_get (all_bytes is) k ≡ Some v → (v.from ≤ v.to) × (v.to ≤ 255)
+all_boxes : (is : List Input) (k : ℕ) (v : Interval) → slice_get (all_bytes is) k ≡ Some v
+    → (v.from ≤ v.to) × (v.to ≤ 255)
 all_boxes [] k v e = absurd (let z : ⊥ = cc in z)
 all_boxes (i ∷ is) zero v e =
     let all : Interval = record { from = 0; to = 255 } in
@@ -76,7 +82,8 @@ one_widest box j k u v p q = ⊎_elim
     (cases_lt k j))
     (cases_lt j k)
 
-same_interval : (box : List Interval) (j k : ℕ) (u v : Interval) → j ≡ k → slice_get box j ≡ Some u → slice_get box k ≡ Some v → u ≡ v
+same_interval : (box : List Interval) (j k : ℕ) (u v : Interval) → j ≡ k → slice_get box j ≡ Some u
+    → slice_get box k ≡ Some v → u ≡ v
 same_interval box j k u v e p q = cc
 
 pub one_halving : (box : List Interval) (j k c d : ℕ) → IsHalvedAt box j c → IsHalvedAt box k d → (j ≡ k) × (c ≡ d)
@@ -91,7 +98,8 @@ pub cell_bytes : (bytes : List ℕ) → map (λ (v : Interval). v.from) (cell_of
 cell_bytes [] = refl
 cell_bytes (n ∷ ns) = ap (λ ms. n ∷ ms) (cell_bytes ns)
 
-cell_at : (bytes : List ℕ) (k : ℕ) (v : Interval) → slice_get (cell_of bytes) k ≡ Some v → (v.from ≡ v.to) × (slice_get bytes k ≡ Some v.from)
+cell_at : (bytes : List ℕ) (k : ℕ) (v : Interval) → slice_get (cell_of bytes) k ≡ Some v
+    → (v.from ≡ v.to) × (slice_get bytes k ≡ Some v.from)
 cell_at [] k v e = absurd (let z : ⊥ = cc in z)
 cell_at (n ∷ ns) zero v e =
     let byte : Interval = record { from = n; to = n } in
@@ -102,7 +110,8 @@ cell_at (n ∷ ns) (suc k) v e = cell_at ns k v e
 pub cell_not_halved : (box : List Interval) (bytes : List ℕ) (k c : ℕ) → box ≡ cell_of bytes → IsHalvedAt box k c → ⊥
 cell_not_halved box bytes k c e at =
     let v = at.interval in
-    let here : slice_get (cell_of bytes) k ≡ Some v = subst (λ (x : List Interval). slice_get x k ≡ Some v) e at.widest.is_at in
+    let here : slice_get (cell_of bytes) k ≡ Some v =
+    subst (λ (x : List Interval). slice_get x k ≡ Some v) e at.widest.is_at in
     let same = (cell_at bytes k v here).0 in
     let more = at.more in
     absurd (omega arith)
@@ -121,7 +130,8 @@ byte_of_cell (n ∷ ns) zero d h = refl
 byte_of_cell (n ∷ ns) (suc k) d h = byte_of_cell ns k d (omega arith)
 
 pub cell_small : (bytes : List ℕ) → IsBox (cell_of bytes) → All (λ n. n ≤ 255) bytes
-cell_small bytes is k d h = (is.some k (record { from = get_or bytes k d; to = get_or bytes k d }) (byte_of_cell bytes k d h)).1
+cell_small bytes is k d h =
+    (is.some k (record { from = get_or bytes k d; to = get_or bytes k d }) (byte_of_cell bytes k d h)).1
 
 pub cell_inside : (bytes : List ℕ) (box : List Interval) → LieIn box bytes → IsInside (cell_of bytes) box
 cell_inside bytes box lie = record {
@@ -175,8 +185,10 @@ halves_fewer box k c at =
     let m = middle_inside v.from v.to at.more in
     let e = at.middle in
     let m0 = m.0 in
-    let m1 = m.1 in
-    (left_fewer box k c v at.widest.is_at (omega arith) (omega arith), right_fewer box k c v at.widest.is_at (omega arith) (omega arith))
+    let m1 = m.1 in (
+      left_fewer box k c v at.widest.is_at (omega arith) (omega arith),
+      right_fewer box k c v at.widest.is_at (omega arith) (omega arith),
+    )
 
 -- ---- a box of single bytes
 

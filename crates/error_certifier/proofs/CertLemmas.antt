@@ -1,5 +1,6 @@
 -- The certificate of a whole tree.
-use Rattle.std.proofs.Common.{◌≡◌, ⊎_elim, ℕ, zero, suc, ◌+◌, ◌-◌, ◌<◌, ◌≤◌, List, [], ◌∷◌, ◌++◌, length, get_or, replicate, Some, refl, sym, ap, ◌∙◌, subst, arith, length-append}
+use Rattle.std.proofs.Common.{◌≡◌, ⊎_elim, ℕ, zero, suc, ◌+◌, ◌-◌, ◌<◌, ◌≤◌, List, [], ◌∷◌, ◌++◌, length, get_or}
+use Rattle.std.proofs.Common.{replicate, Some, refl, sym, ap, ◌∙◌, subst, arith, length-append}
 use Rattle.std.specs.Prelude.{slice_get, slice_index, All}
 use Rattle.std.specs.List.{Any}
 use Rattle.std.proofs.lemmas.List.{append-nil, length-replicate}
@@ -32,9 +33,11 @@ halved_open : OpenBoxesGoOn → (b : Block) (h target : ℕ) (box : List Interva
     → Halves b h target box n nodes m → (i : ℕ) → open_from (suc i) nodes ≡ Some i
 halved_open on b h target _ _ _ _ (halved_leaf box n pairs w few) i = refl
 halved_open on b h target _ _ _ _ (halved_split box k c n m r out up left right a at l t) i =
-    on (suc (suc i)) (suc i) left right (halved_open on b h target _ n m left l (suc i)) ∙ halved_open on b h target _ m r right t i
+    on (suc (suc i)) (suc i) left right (halved_open on b h target _ n m left l (suc i))
+    ∙ halved_open on b h target _ m r right t i
 
-halved_leaves : (b : Block) (h target : ℕ) (box : List Interval) (n m : ℕ) (nodes : List Node) → Halves b h target box n nodes m
+halved_leaves : (b : Block) (h target : ℕ) (box : List Interval) (n m : ℕ) (nodes : List Node)
+    → Halves b h target box n nodes m
     → (leaf_count nodes + n ≡ m) × (m ≤ 4096)
 halved_leaves b h target _ _ _ _ (halved_leaf box n pairs w few) = (omega arith, omega arith)
 halved_leaves b h target _ _ _ _ (halved_split box k c n m r out up left right a at l t) =
@@ -45,7 +48,8 @@ halved_leaves b h target _ _ _ _ (halved_split box k c n m r out up left right a
     let sum = leaf_count-append left right in
     (omega arith, q.1)
 
-some_part : (box : List Interval) (nodes rest : List Node) (parts : List Part) → IsTree box nodes parts rest → 0 < length parts
+some_part : (box : List Interval) (nodes rest : List Node) (parts : List Part) → IsTree box nodes parts rest
+    → 0 < length parts
 some_part _ _ _ _ (leaf box pairs rest) = omega arith
 some_part _ _ _ _ (split box i c nodes mid rest left right from cut l r) =
     let some = some_part _ nodes mid left l in
@@ -110,7 +114,8 @@ module _ (b : Block) (h target : ℕ) (old new : Tree) (cert : Cert) (valid : Is
       let r = g.errors (o - 1) x ex in
       let rises : RisesTo b h target o x g.parts (slice_index old.errors.items (o - 1)) e =
       subst (λ j. RisesTo b h target j x g.parts (slice_index old.errors.items (o - 1)) e) number
-      (subst (λ n. RisesTo b h target (o - 1 + 1) x g.parts (slice_index old.errors.items (o - 1)) n) (error_at (o - 1) e ee) r) in
+      (subst (λ n. RisesTo b h target (o - 1 + 1) x g.parts (slice_index old.errors.items (o - 1)) n)
+      (error_at (o - 1) e ee) r) in
       greatest_of b h target o x g.parts (slice_index old.errors.items (o - 1)) e
       (some_part (whole b) cert.nodes [] g.parts tree) (zero_at (o - 1)) rises
 
@@ -152,7 +157,8 @@ module _ (b : Block) (h target : ℕ) (old new : Tree) (cert : Cert) (valid : Is
           few = omega arith;
           millionths = λ k d l. (let w = claims_within k d l in omega arith);
         };
-        nodes = subst (λ n. All (IsNode n) cert.nodes) (sym count) (subst (λ (xs : List Node). All (IsNode (length b.outputs)) xs) all_added g.good);
+        nodes = subst (λ n. All (IsNode n) cert.nodes) (sym count)
+            (subst (λ (xs : List Node). All (IsNode (length b.outputs)) xs) all_added g.good);
         tree = halved_open on b h target (whole b) 0 new.leaves cert.nodes halved 0;
         few_leaves = omega arith;
       }

@@ -1,5 +1,6 @@
 -- How a tree grows by the nodes of a box.
-use Rattle.std.proofs.Common.{◌≡◌, ⊎_elim, inl, inr, ℕ, zero, suc, ◌+◌, ◌-◌, ◌<◌, ◌≤◌, max, List, [], ◌∷◌, ◌++◌, length, Some, refl, sym, ap, ◌∙◌, subst, arith, append_assoc}
+use Rattle.std.proofs.Common.{◌≡◌, ⊎_elim, inl, inr, ℕ, zero, suc, ◌+◌, ◌-◌, ◌<◌, ◌≤◌, max, List, [], ◌∷◌, ◌++◌, length}
+use Rattle.std.proofs.Common.{Some, refl, sym, ap, ◌∙◌, subst, arith, append_assoc}
 use Rattle.std.specs.Prelude.{◌⊎◌, slice_get, slice_index, All}
 use Rattle.std.specs.List.{Any}
 use Rattle.std.specs.Global.{Vec}
@@ -21,7 +22,8 @@ use Rattle.cert_check.specs.Acceptance.{HasBound}
 use Rattle.cert_check.specs.BoxLaws.{CutsHaveHalves}
 use Rattle.error_certifier.specs.declared.leaves.BestLeaves.{BestLeaves}
 use Rattle.error_certifier.specs.declared.halving.Tree.{Tree}
-use Rattle.error_certifier.specs.Halving.{AreWithinTarget, IsFirstAbove, IsHalvedAt, Halves, leaf as halved_leaf, split as halved_split}
+use Rattle.error_certifier.specs.Halving.{AreWithinTarget, IsFirstAbove, IsHalvedAt, Halves, leaf as halved_leaf}
+use Rattle.error_certifier.specs.Halving.{split as halved_split}
 use Rattle.error_certifier.specs.Trees.{IsBestPair, AreBestLeaves, AreRaised, RisesTo, Grows}
 use Rattle.error_certifier.proofs.BoxLemmas.{halves_of}
 
@@ -48,7 +50,8 @@ All-one P x p (suc k) d l = absurd (omega arith)
 
 -- ---- errors
 
-rises_on : (b : Block) (h target o : ℕ) (x : Output) (ps qs : List Part) (old mid new : ℕ) → RisesTo b h target o x ps old mid
+rises_on : (b : Block) (h target o : ℕ) (x : Output) (ps qs : List Part) (old mid new : ℕ)
+    → RisesTo b h target o x ps old mid
     → RisesTo b h target o x qs mid new
     → RisesTo b h target o x (ps ++ qs) old new
 rises_on b h target o x ps qs old mid new p q =
@@ -92,14 +95,16 @@ module _ (hold : BestLeavesHold) (b : Block) (h target : ℕ) (box : List Interv
         (record { rule = p.pair.0; k = p.pair.1 }, p.bound, named leaves.pairs.items k p.pair p.pair_is, p.within);
   }
 
-  has_bound : (k : ℕ) (x : Output) (p : IsBestPair b h target box k x leaves) → HasBound b (k + 1) x h (part_of box leaves.pairs.items) p.bound
+  has_bound : (k : ℕ) (x : Output) (p : IsBestPair b h target box k x leaves)
+      → HasBound b (k + 1) x h (part_of box leaves.pairs.items) p.bound
   has_bound k x p =
       let leaf : the.Leaf = record { rule = p.pair.0; k = p.pair.1 } in
       let small = (All-slice_get IsPair leaves.pairs.items k p.pair best.good p.pair_is).part in
       let place : k ≡ k + 1 - 1 = omega arith in
       record {
         leaf = leaf;
-        pair_is = subst (λ j. slice_get (leaves_of leaves.pairs.items) j ≡ Some leaf) place (named leaves.pairs.items k p.pair p.pair_is);
+        pair_is = subst (λ j. slice_get (leaves_of leaves.pairs.items) j ≡ Some leaf) place
+            (named leaves.pairs.items k p.pair p.pair_is);
         holds = (hold b box (k + 1) leaf small p.within.best).0;
         bound_is = p.within.bound;
       }
@@ -125,8 +130,10 @@ module _ (hold : BestLeavesHold) (b : Block) (h target : ℕ) (box : List Interv
       }
 
   -- by a leaf
-  pub grows_leaf : (old new : Tree) → length old.errors.items ≡ length b.outputs → new.nodes.items ≡ old.nodes.items ++ Leaf leaves.pairs ∷ []
-      → AreRaised leaves.bounds.items old.errors.items new.errors.items → new.leaves ≡ old.leaves + 1 → old.leaves < 4096
+  pub grows_leaf : (old new : Tree) → length old.errors.items ≡ length b.outputs
+      → new.nodes.items ≡ old.nodes.items ++ Leaf leaves.pairs ∷ []
+      → AreRaised leaves.bounds.items old.errors.items new.errors.items → new.leaves ≡ old.leaves + 1
+      → old.leaves < 4096
       → Grows b h target box old new
   grows_leaf old new count nodes raised more few = record {
     added = Leaf leaves.pairs ∷ [];
@@ -139,7 +146,8 @@ module _ (hold : BestLeavesHold) (b : Block) (h target : ℕ) (box : List Interv
     count = raised.count;
     errors = λ k x e.
         let p = best.each k x e in
-        let inside : k < length old.errors.items = (let w = slice_get_within b.outputs k x e in omega (arith, w, count)) in
+        let inside : k < length old.errors.items =
+        (let w = slice_get_within b.outputs k x e in omega (arith, w, count)) in
         let bound_is = number_at leaves.bounds.items k p.bound p.bound_is in
         let is : slice_index new.errors.items k ≡ max (slice_index old.errors.items k) p.bound =
         raised.each k inside ∙ ap (λ n. max (slice_index old.errors.items k) n) bound_is in
@@ -151,7 +159,8 @@ module _ (hold : BestLeavesHold) (b : Block) (h target : ℕ) (box : List Interv
 regroup : (old : List Node) (x : Node) (ls rs : List Node) → ((old ++ x ∷ []) ++ ls) ++ rs ≡ old ++ (x ∷ (ls ++ rs))
 regroup old x ls rs = simp append_assoc
 
-split_nodes : (old pushed mid new ls rs : List Node) (x : Node) → pushed ≡ old ++ x ∷ [] → mid ≡ pushed ++ ls → new ≡ mid ++ rs
+split_nodes : (old pushed mid new ls rs : List Node) (x : Node) → pushed ≡ old ++ x ∷ [] → mid ≡ pushed ++ ls
+    → new ≡ mid ++ rs
     → new ≡ old ++ (x ∷ (ls ++ rs))
 split_nodes old pushed mid new ls rs x p m n =
     n ∙ ap (λ (xs : List Node). xs ++ rs) (m ∙ ap (λ (xs : List Node). xs ++ ls) p) ∙ regroup old x ls rs
@@ -167,7 +176,8 @@ split_tree box k c ls rs rest ps qs cut l r =
     (subst (λ j. IsTree (left_of j c box) ((ls ++ rs) ++ rest) ps (rs ++ rest)) place left)
     (subst (λ j. IsTree (right_of j c box) (rs ++ rest) qs rest) place r)
 
-split_node : (b : Block) (box : List Interval) (k c : ℕ) → length b.inputs ≤ 8 → IsBoxOf b box → (at : IsHalvedAt box k c)
+split_node : (b : Block) (box : List Interval) (k c : ℕ) → length b.inputs ≤ 8 → IsBoxOf b box
+    → (at : IsHalvedAt box k c)
     → c ≤ 255 → IsNode (length b.outputs) (Split (k + 1) c)
 split_node b box k c few is at small =
     let inside = slice_get_within box k at.interval at.widest.is_at in
@@ -175,21 +185,27 @@ split_node b box k c few is at small =
     record { some = omega arith; few = omega arith; byte = small }
 
 pub grows_split : CutsHaveHalves
-    → (b : Block) (h target : ℕ) (box : List Interval) (k c out above : ℕ) (old pushed mid new : Tree) → length b.inputs ≤ 8
+    → (b : Block) (h target : ℕ) (box : List Interval) (k c out above : ℕ) (old pushed mid new : Tree)
+    → length b.inputs ≤ 8
     → IsBoxOf b box
     → IsFirstAbove b h target box out above → IsHalvedAt box k c → c ≤ 255
-    → pushed.nodes.items ≡ old.nodes.items ++ Split (k + 1) c ∷ [] → pushed.errors ≡ old.errors → pushed.leaves ≡ old.leaves
-    → Grows b h target (left_of k c box) pushed mid → Grows b h target (right_of k c box) mid new → Grows b h target box old new
+    → pushed.nodes.items ≡ old.nodes.items ++ Split (k + 1) c ∷ [] → pushed.errors ≡ old.errors
+    → pushed.leaves ≡ old.leaves
+    → Grows b h target (left_of k c box) pushed mid → Grows b h target (right_of k c box) mid new
+    → Grows b h target box old new
 grows_split cuts b h target box k c out above old pushed mid new few is first at small nodes errors leaves l r =
     let cut = (halves_of cuts box k c at).cut in
     record {
       added = Split (k + 1) c ∷ (l.added ++ r.added);
       parts = l.parts ++ r.parts;
-      nodes = split_nodes old.nodes.items pushed.nodes.items mid.nodes.items new.nodes.items l.added r.added (Split (k + 1) c) nodes l.nodes r.nodes;
+      nodes = split_nodes old.nodes.items pushed.nodes.items mid.nodes.items new.nodes.items l.added r.added
+          (Split (k + 1) c) nodes l.nodes r.nodes;
       halves = halved_split box k c old.leaves mid.leaves new.leaves out above l.added r.added first at
           (subst (λ n. Halves b h target (left_of k c box) n l.added mid.leaves) leaves l.halves) r.halves;
-      tree = λ rest. split_tree box k c l.added r.added rest l.parts r.parts cut (l.tree (r.added ++ rest)) (r.tree rest);
-      good = All-cons (IsNode (length b.outputs)) (Split (k + 1) c) (l.added ++ r.added) (split_node b box k c few is at small)
+      tree = λ rest. split_tree box k c l.added r.added rest l.parts r.parts cut (l.tree (r.added ++ rest))
+          (r.tree rest);
+      good = All-cons (IsNode (length b.outputs)) (Split (k + 1) c) (l.added ++ r.added)
+          (split_node b box k c few is at small)
           (All-append (IsNode (length b.outputs)) l.added r.added l.good r.good);
       count = r.count ∙ l.count ∙ ap (λ (v : Vec ℕ). length v.items) errors;
       errors = λ j x e. rises_on b h target (j + 1) x l.parts r.parts (slice_index old.errors.items j)

@@ -15,7 +15,8 @@ pub on_ok : {T E P Q : Type 0} (r : Result T E) → OnOk r P → (P → Q) → O
 on_ok (Ok x) p f = f p
 on_ok (Err e) p f = tt
 
-pub on_ok_four : {T E A B C D Q : Type 0} (r : Result T E) → OnOk r A → OnOk r B → OnOk r C → OnOk r D → (A → B → C → D → Q) → OnOk r Q
+pub on_ok_four : {T E A B C D Q : Type 0} (r : Result T E) → OnOk r A → OnOk r B → OnOk r C → OnOk r D
+    → (A → B → C → D → Q) → OnOk r Q
 on_ok_four (Ok x) a b c d f = f a b c d
 on_ok_four (Err e) a b c d f = tt
 
@@ -32,13 +33,16 @@ halved_at b box k c v is widest apart middle =
 -- ---- all bytes
 
 pub box_for : (a b : Block) (box : List Interval) → a ≡ b → box ≡ whole b → IsBoxOf a box
-box_for a b box e f = subst (λ (y : Block). IsBoxOf y box) (sym e) (subst (λ (x : List Interval). IsBoxOf b x) (sym f) (whole_box b))
+box_for a b box e f =
+    subst (λ (y : Block). IsBoxOf y box) (sym e) (subst (λ (x : List Interval). IsBoxOf b x) (sym f) (whole_box b))
 
-pub grows_for : (a b : Block) (g h s t : ℕ) (box : List Interval) (old new : Tree) → a ≡ b → g ≡ h → s ≡ t → box ≡ whole b
+pub grows_for : (a b : Block) (g h s t : ℕ) (box : List Interval) (old new : Tree) → a ≡ b → g ≡ h → s ≡ t
+    → box ≡ whole b
     → Grows a g s box old new → Grows b h t (whole b) old new
 grows_for a b g h s t box old new ea eg es ebox grows =
     subst (λ (x : List Interval). Grows b h t x old new) ebox
-    (subst (λ (y : Block). Grows y h t box old new) ea (subst (λ n. Grows a n t box old new) eg (subst (λ n. Grows a g n box old new) es grows)))
+    (subst (λ (y : Block). Grows y h t box old new) ea
+    (subst (λ n. Grows a n t box old new) eg (subst (λ n. Grows a g n box old new) es grows)))
 
 pub tree_for : (a b : Block) (tree : Tree) (n : ℕ) → a ≡ b → tree.errors.items ≡ replicate n 0 → n ≡ length b.outputs
     → tree.leaves ≡ 0 → IsTreeFor a tree

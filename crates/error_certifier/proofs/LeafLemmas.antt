@@ -1,5 +1,6 @@
 -- The best leaves of a box, one more at a time.
-use Rattle.std.proofs.Common.{◌≡◌, ⊎_elim, ℕ, zero, suc, ◌+◌, ◌-◌, ◌<◌, ◌≤◌, List, [], ◌∷◌, ◌++◌, length, get_or, Some, refl, sym, ◌∙◌, subst, arith}
+use Rattle.std.proofs.Common.{◌≡◌, ⊎_elim, ℕ, zero, suc, ◌+◌, ◌-◌, ◌<◌, ◌≤◌, List, [], ◌∷◌, ◌++◌, length, get_or, Some}
+use Rattle.std.proofs.Common.{refl, sym, ◌∙◌, subst, arith}
 use Rattle.std.specs.Prelude.{slice_get, All, IfSome}
 use Rattle.std.proofs.lemmas.Bool.{cases_lt}
 use Rattle.std.proofs.lemmas.Option.{slice_get_within}
@@ -20,7 +21,8 @@ use Rattle.error_certifier.specs.Trees.{IsBestPair}
 -- a best leaf is a pair of a certificate
 pub pair_of_best : (b : Block) (box : List Interval) (o : ℕ) (leaf : the.Leaf) → IsValid b → leaf.k ≤ 255
     → IsBest b box o (Some leaf) → IsPair (leaf.rule, leaf.k)
-pair_of_best b box o _ valid small (silent h) = record { rule = omega arith; part = omega arith; both = (λ _. refl, λ _. refl) }
+pair_of_best b box o _ valid small (silent h) =
+    record { rule = omega arith; part = omega arith; both = (λ _. refl, λ _. refl) }
 pair_of_best b box o _ valid small (strong n k quiet c first) =
     let within = slice_get_within b.rules (n - 1) c.rule c.rule_is in
     let few = valid.few_rules in
@@ -29,7 +31,8 @@ pair_of_best b box o _ valid small (strong n k quiet c first) =
     record { rule = omega arith; part = small; both = (λ z. absurd (omega arith), λ z. absurd (omega arith)) }
 
 -- what holds of the output of a number holds of the one at its place
-pub at_place : (b : Block) (k : ℕ) (x : Output) (P : Output → Type 0) → slice_get b.outputs k ≡ Some x → IfSome (output_at b (k + 1)) P → P x
+pub at_place : (b : Block) (k : ℕ) (x : Output) (P : Output → Type 0) → slice_get b.outputs k ≡ Some x
+    → IfSome (output_at b (k + 1)) P → P x
 at_place b k x P e h =
     let place : k + 1 - 1 ≡ k = omega arith in
     let at : output_at b (k + 1) ≡ Some x = subst (λ j. slice_get b.outputs j ≡ Some x) (sym place) e in
@@ -37,7 +40,8 @@ at_place b k x P e h =
 
 -- ---- an item behind others
 
-slice_get-before : {X : Type 0} (xs : List X) (y : X) (k : ℕ) (x : X) → slice_get xs k ≡ Some x → slice_get (xs ++ y ∷ []) k ≡ Some x
+slice_get-before : {X : Type 0} (xs : List X) (y : X) (k : ℕ) (x : X) → slice_get xs k ≡ Some x
+    → slice_get (xs ++ y ∷ []) k ≡ Some x
 slice_get-before [] y k x e = absurd (let z : ⊥ = cc in z)
 slice_get-before (w ∷ ws) y zero x e = e
 slice_get-before (w ∷ ws) y (suc k) x e = slice_get-before ws y k x e
@@ -73,20 +77,24 @@ module _ (b : Block) (h target : ℕ) (box : List Interval) (old new : BestLeave
 
   pub pairs_more : (o : ℕ) → length old.pairs.items ≡ o → length old.bounds.items ≡ o
       → ((k : ℕ) (x : Output) → k < o → slice_get b.outputs k ≡ Some x → IsBestPair b h target box k x old)
-      → ((x : Output) → slice_get b.outputs o ≡ Some x → IsWithinTarget b h target box (o + 1) x (record { rule = p.0; k = p.1 }) n)
+      → ((x : Output) → slice_get b.outputs o ≡ Some x
+      → IsWithinTarget b h target box (o + 1) x (record { rule = p.0; k = p.1 }) n)
       → (k : ℕ) (x : Output) → k < o + 1 → slice_get b.outputs k ≡ Some x → IsBestPair b h target box k x new
   pairs_more o ep eb before here k x l e = ⊎_elim
       (λ (g : k < o). pair_before k x (before k x g e))
       (λ (g : o ≤ k).
       let same : o ≡ k = omega arith in
-      pair_last k x (ep ∙ same) (eb ∙ same) (subst (λ j. IsWithinTarget b h target box (j + 1) x (record { rule = p.0; k = p.1 }) n) same
+      pair_last k x (ep ∙ same) (eb ∙ same)
+      (subst (λ j. IsWithinTarget b h target box (j + 1) x (record { rule = p.0; k = p.1 }) n) same
       (here x (subst (λ j. slice_get b.outputs j ≡ Some x) (sym same) e))))
       (cases_lt k o)
 
 -- the outputs before are within the target, and the next is above it
-pub above_behind : (b : Block) (h target : ℕ) (box : List Interval) (leaves : BestLeaves) (o n : ℕ) → o < length b.outputs
+pub above_behind : (b : Block) (h target : ℕ) (box : List Interval) (leaves : BestLeaves) (o n : ℕ)
+    → o < length b.outputs
     → ((k : ℕ) (x : Output) → k < o → slice_get b.outputs k ≡ Some x → IsBestPair b h target box k x leaves)
-    → target < n → ((x : Output) → slice_get b.outputs o ≡ Some x → IsBestBound b box (o + 1) x h n) → IsFirstAbove b h target box o n
+    → target < n → ((x : Output) → slice_get b.outputs o ≡ Some x → IsBestBound b box (o + 1) x h n)
+    → IsFirstAbove b h target box o n
 above_behind b h target box leaves o n inside before above here =
     let x = some_at b.outputs o inside in
     record {
@@ -95,8 +103,12 @@ above_behind b h target box leaves o n inside before above here =
       bound = here x.0 x.1;
       above = above;
       before = λ k y l e.
-          let best = before k y l e in
-          (best.bound, of_leaf (record { rule = best.pair.0; k = best.pair.1 }) best.bound best.within.best best.within.bound, best.within.within);
+          let best = before k y l e in (
+            best.bound,
+            of_leaf (record { rule = best.pair.0; k = best.pair.1 }) best.bound best.within.best
+                best.within.bound,
+            best.within.within,
+          );
     }
 
 pub pair_good : (pairs : List (ℕ × ℕ)) (p : ℕ × ℕ) → All IsPair pairs → IsPair p → All IsPair (pairs ++ p ∷ [])

@@ -1,5 +1,6 @@
 -- Halving has one answer.
-use Rattle.std.proofs.Common.{◌≡◌, ⊎_elim, ℕ, zero, suc, ◌+◌, ◌<◌, ◌≤◌, max, List, [], ◌∷◌, ◌++◌, length, map, Some, None, Result, Ok, Err, refl, sym, ap, ap₂, ◌∙◌, subst, arith}
+use Rattle.std.proofs.Common.{◌≡◌, ⊎_elim, ℕ, zero, suc, ◌+◌, ◌<◌, ◌≤◌, max, List, [], ◌∷◌, ◌++◌, length, map, Some}
+use Rattle.std.proofs.Common.{None, Result, Ok, Err, refl, sym, ap, ap₂, ◌∙◌, subst, arith}
 use Rattle.std.specs.Prelude.{slice_get}
 use Rattle.std.proofs.lemmas.Bool.{cases_lt}
 use Rattle.arrayvec.specs.ArrayVec.{ArrayVec}
@@ -22,9 +23,11 @@ use Rattle.cert_check.specs.Laws.{ErrorsAreDetermined}
 use Rattle.cert_check.specs.BoxLaws.{CutsHaveHalves}
 use Rattle.error_certifier.specs.declared.certifier.NotReached.{NotReached}
 use Rattle.error_certifier.specs.declared.certifier.NotReached.TheVariants.{Cell}
-use Rattle.error_certifier.specs.Halving.{AreWithinTarget, IsFirstAbove, IsHalvedAt, Halves, leaf, split, Stops, cell, limit, in_left, in_right}
+use Rattle.error_certifier.specs.Halving.{AreWithinTarget, IsFirstAbove, IsHalvedAt, Halves, leaf, split, Stops, cell}
+use Rattle.error_certifier.specs.Halving.{limit, in_left, in_right}
 use Rattle.error_certifier.specs.Laws.{AnswersAreOne}
-use Rattle.error_certifier.proofs.BoxLemmas.{same_items, left_box, right_box, whole_box, one_halving, cell_bytes, cell_not_halved}
+use Rattle.error_certifier.proofs.BoxLemmas.{same_items, left_box, right_box, whole_box, one_halving, cell_bytes}
+use Rattle.error_certifier.proofs.BoxLemmas.{cell_not_halved}
 
 abbrev lows : List Interval → List ℕ
 lows box = map (λ (v : Interval). v.from) box
@@ -36,13 +39,15 @@ pairs_back : (pairs : List (ℕ × ℕ)) → pairs_of (leaves_of pairs) ≡ pair
 pairs_back [] = refl
 pairs_back (p ∷ ps) = ap (λ (qs : List (ℕ × ℕ)). p ∷ qs) (pairs_back ps)
 
-same_cell : (xs ys : ArrayVec ℕ) (o p n m : ℕ) → xs.items ≡ ys.items → o ≡ p → n ≡ m → Cell xs (o + 1) n ≡ Cell ys (p + 1) m
+same_cell : (xs ys : ArrayVec ℕ) (o p n m : ℕ) → xs.items ≡ ys.items → o ≡ p → n ≡ m
+    → Cell xs (o + 1) n ≡ Cell ys (p + 1) m
 same_cell xs ys o p n m e f g =
     let vec : List ℕ → ArrayVec ℕ = λ (is : List ℕ). record { items = is } in
     let same : xs ≡ ys = ap vec e in
     cc
 
-module _ (best_one : BestLeavesAreOne) (bound_one : BoundsAreDetermined) (b : Block) (h target : ℕ) (valid : IsValid b) where
+module _ (best_one : BestLeavesAreOne) (bound_one : BoundsAreDetermined) (b : Block) (h target : ℕ)
+    (valid : IsValid b) where
   one_best_bound : (box : List Interval) (o : ℕ) (x : Output) (n m : ℕ) → IsBoxOf b box → IsBestBound b box o x h n
       → IsBestBound b box o x h m → n ≡ m
   one_best_bound box o x _ _ is (of_leaf l n best bound) (of_leaf k m best' bound') =
@@ -60,7 +65,8 @@ module _ (best_one : BestLeavesAreOne) (bound_one : BoundsAreDetermined) (b : Bl
 
   -- ---- a box is within the target, or it has one first output above it
 
-  not_both : (box : List Interval) (leaves : List the.Leaf) (k n : ℕ) → IsBoxOf b box → AreWithinTarget b h target box leaves
+  not_both : (box : List Interval) (leaves : List the.Leaf) (k n : ℕ) → IsBoxOf b box
+      → AreWithinTarget b h target box leaves
       → IsFirstAbove b h target box k n → ⊥
   not_both box leaves k n is w a =
       let here = w.each k a.output a.output_is in
@@ -70,7 +76,8 @@ module _ (best_one : BestLeavesAreOne) (bound_one : BoundsAreDetermined) (b : Bl
       let within = leaf.within in
       absurd (omega arith)
 
-  not_before : (box : List Interval) (k j n m : ℕ) → IsBoxOf b box → IsFirstAbove b h target box k n → IsFirstAbove b h target box j m → k < j → ⊥
+  not_before : (box : List Interval) (k j n m : ℕ) → IsBoxOf b box → IsFirstAbove b h target box k n
+      → IsFirstAbove b h target box j m → k < j → ⊥
   not_before box k j n m is p q l =
       let other = q.before k p.output l p.output_is in
       let e = one_best_bound box (k + 1) p.output n other.0 is p.bound other.1 in
@@ -78,12 +85,14 @@ module _ (best_one : BestLeavesAreOne) (bound_one : BoundsAreDetermined) (b : Bl
       let within = other.2 in
       absurd (omega arith)
 
-  same_place : (box : List Interval) (k n m : ℕ) → IsBoxOf b box → IsFirstAbove b h target box k n → IsFirstAbove b h target box k m → n ≡ m
+  same_place : (box : List Interval) (k n m : ℕ) → IsBoxOf b box → IsFirstAbove b h target box k n
+      → IsFirstAbove b h target box k m → n ≡ m
   same_place box k n m is p q =
       let p_is = p.output_is in
       let q_is = q.output_is in
       let same : q.output ≡ p.output = cc in
-      let moved : IsBestBound b box (k + 1) p.output h m = subst (λ (x : Output). IsBestBound b box (k + 1) x h m) same q.bound in
+      let moved : IsBestBound b box (k + 1) p.output h m =
+      subst (λ (x : Output). IsBestBound b box (k + 1) x h m) same q.bound in
       one_best_bound box (k + 1) p.output n m is p.bound moved
 
   one_above : (box : List Interval) (k j n m : ℕ) → IsBoxOf b box → IsFirstAbove b h target box k n
@@ -98,7 +107,8 @@ module _ (best_one : BestLeavesAreOne) (bound_one : BoundsAreDetermined) (b : Bl
       (cases_lt j k))
       (cases_lt k j)
 
-  one_list : (box : List Interval) (ls ks : List the.Leaf) → AreWithinTarget b h target box ls → AreWithinTarget b h target box ks → ls ≡ ks
+  one_list : (box : List Interval) (ls ks : List the.Leaf) → AreWithinTarget b h target box ls
+      → AreWithinTarget b h target box ks → ls ≡ ks
   one_list box ls ks p q =
       let p_count = p.count in
       let q_count = q.count in
@@ -117,7 +127,8 @@ module _ (best_one : BestLeavesAreOne) (bound_one : BoundsAreDetermined) (b : Bl
 
   -- ---- one tree, or one stop
 
-  moved_above : (box other : List Interval) (k n : ℕ) → box ≡ other → IsFirstAbove b h target other k n → IsFirstAbove b h target box k n
+  moved_above : (box other : List Interval) (k n : ℕ) → box ≡ other → IsFirstAbove b h target other k n
+      → IsFirstAbove b h target box k n
   moved_above box other k n e p = subst (λ (x : List Interval). IsFirstAbove b h target x k n) (sym e) p
 
   moved_within : (box other : List Interval) (ls : List the.Leaf) → box ≡ other → AreWithinTarget b h target other ls
@@ -127,10 +138,12 @@ module _ (best_one : BestLeavesAreOne) (bound_one : BoundsAreDetermined) (b : Bl
   moved_halved : (box other : List Interval) (k c : ℕ) → box ≡ other → IsHalvedAt other k c → IsHalvedAt box k c
   moved_halved box other k c e p = subst (λ (x : List Interval). IsHalvedAt x k c) (sym e) p
 
-  same_left : (box other : List Interval) (k j c d : ℕ) → box ≡ other → k ≡ j → c ≡ d → left_of k c box ≡ left_of j d other
+  same_left : (box other : List Interval) (k j c d : ℕ) → box ≡ other → k ≡ j → c ≡ d
+      → left_of k c box ≡ left_of j d other
   same_left box other k j c d e f g = cc
 
-  same_right : (box other : List Interval) (k j c d : ℕ) → box ≡ other → k ≡ j → c ≡ d → right_of k c box ≡ right_of j d other
+  same_right : (box other : List Interval) (k j c d : ℕ) → box ≡ other → k ≡ j → c ≡ d
+      → right_of k c box ≡ right_of j d other
   same_right box other k j c d e f g = cc
 
   same_split : (k j c d : ℕ) (ls ks rs ts : List Node) → k ≡ j → c ≡ d → ls ≡ ks → rs ≡ ts
@@ -138,7 +151,8 @@ module _ (best_one : BestLeavesAreOne) (bound_one : BoundsAreDetermined) (b : Bl
   same_split k j c d ls ks rs ts e f g i = cc
 
   module _ (cuts : CutsHaveHalves) where
-    one_tree : (box other : List Interval) (n o m r : ℕ) (ns ks : List Node) → IsBoxOf b box → Halves b h target box n ns m
+    one_tree : (box other : List Interval) (n o m r : ℕ) (ns ks : List Node) → IsBoxOf b box
+        → Halves b h target box n ns m
         → Halves b h target other o ks r
         → box ≡ other → n ≡ o → (ns ≡ ks) × (m ≡ r)
     one_tree _ _ _ _ _ _ _ _ is (leaf box n p w few) (leaf other o q v also) e f =
@@ -148,9 +162,11 @@ module _ (best_one : BestLeavesAreOne) (bound_one : BoundsAreDetermined) (b : Bl
         absurd (not_both box (leaves_of p.items) out up is w (moved_above box other out up e a))
     one_tree _ _ _ _ _ _ _ _ is (split box k c n m r out up left right a at l t) (leaf other o q v few) e f =
         absurd (not_both box (leaves_of q.items) out up is (moved_within box other (leaves_of q.items) e v) a)
-    one_tree _ _ _ _ _ _ _ _ is (split box k c n m r out up left right a at l t) (split other j d o m' r' out' up' left' right' a' at' l' t') e f =
+    one_tree _ _ _ _ _ _ _ _ is (split box k c n m r out up left right a at l t)
+        (split other j d o m' r' out' up' left' right' a' at' l' t') e f =
         let same = one_halving box k j c d at (moved_halved box other j d e at') in
-        let lower = one_tree (left_of k c box) (left_of j d other) n o m m' left left' (left_box cuts b box k c at is) l l'
+        let lower = one_tree (left_of k c box) (left_of j d other) n o m m' left left'
+        (left_box cuts b box k c at is) l l'
         (same_left box other k j c d e same.0 same.1) f in
         let upper = one_tree (right_of k c box) (right_of j d other) m m' r r' right right'
         (right_box cuts b box k c at is) t t' (same_right box other k j c d e same.0 same.1) lower.1 in
@@ -166,17 +182,21 @@ module _ (best_one : BestLeavesAreOne) (bound_one : BoundsAreDetermined) (b : Bl
         not_both box (leaves_of p.items) out up is w (moved_above box other out up e a)
     no_stop _ _ _ _ _ _ _ is (leaf box n p w few) (in_right other j d o m' out up left s a at l stop) e f =
         not_both box (leaves_of p.items) out up is w (moved_above box other out up e a)
-    no_stop _ _ _ _ _ _ _ is (split box k c n m r out up left right a at l t) (cell other o bytes out' up' single a') e f =
+    no_stop _ _ _ _ _ _ _ is (split box k c n m r out up left right a at l t)
+        (cell other o bytes out' up' single a') e f =
         cell_not_halved box bytes.items k c (e ∙ single) at
     no_stop _ _ _ _ _ _ _ is (split box k c n m r out up left right a at l t) (limit other o ls v many) e f =
         not_both box ls out up is (moved_within box other ls e v) a
-    no_stop _ _ _ _ _ _ _ is (split box k c n m r out up left right a at l t) (in_left other j d o out' up' s a' at' stop) e f =
+    no_stop _ _ _ _ _ _ _ is (split box k c n m r out up left right a at l t)
+        (in_left other j d o out' up' s a' at' stop) e f =
         let same = one_halving box k j c d at (moved_halved box other j d e at') in
         no_stop (left_of k c box) (left_of j d other) n o m left s (left_box cuts b box k c at is) l stop
         (same_left box other k j c d e same.0 same.1) f
-    no_stop _ _ _ _ _ _ _ is (split box k c n m r out up left right a at l t) (in_right other j d o m' out' up' left' s a' at' l' stop) e f =
+    no_stop _ _ _ _ _ _ _ is (split box k c n m r out up left right a at l t)
+        (in_right other j d o m' out' up' left' s a' at' l' stop) e f =
         let same = one_halving box k j c d at (moved_halved box other j d e at') in
-        let lower = one_tree (left_of k c box) (left_of j d other) n o m m' left left' (left_box cuts b box k c at is) l l'
+        let lower = one_tree (left_of k c box) (left_of j d other) n o m m' left left'
+        (left_box cuts b box k c at is) l l'
         (same_left box other k j c d e same.0 same.1) f in
         no_stop (right_of k c box) (right_of j d other) m m' r right s (right_box cuts b box k c at is) t stop
         (same_right box other k j c d e same.0 same.1) lower.1
@@ -191,7 +211,8 @@ module _ (best_one : BestLeavesAreOne) (bound_one : BoundsAreDetermined) (b : Bl
         absurd (not_both box ls out up is (moved_within box other ls e v) a)
     one_stop _ _ _ _ _ _ is (cell box n bytes out up single a) (in_left other j d o out' up' t a' at stop) e f =
         absurd (cell_not_halved box bytes.items j d single (moved_halved box other j d e at))
-    one_stop _ _ _ _ _ _ is (cell box n bytes out up single a) (in_right other j d o m out' up' left t a' at l stop) e f =
+    one_stop _ _ _ _ _ _ is (cell box n bytes out up single a)
+        (in_right other j d o m out' up' left t a' at l stop) e f =
         absurd (cell_not_halved box bytes.items j d single (moved_halved box other j d e at))
     one_stop _ _ _ _ _ _ is (limit box n ls w many) (cell other o bytes out up single a) e f =
         absurd (not_both box ls out up is w (moved_above box other out up e a))
@@ -208,22 +229,27 @@ module _ (best_one : BestLeavesAreOne) (bound_one : BoundsAreDetermined) (b : Bl
         let same = one_halving box k j c d at (moved_halved box other j d e at') in
         one_stop (left_of k c box) (left_of j d other) n o s t (left_box cuts b box k c at is) stop stop'
         (same_left box other k j c d e same.0 same.1) f
-    one_stop _ _ _ _ _ _ is (in_left box k c n out up s a at stop) (in_right other j d o m out' up' left t a' at' l stop') e f =
+    one_stop _ _ _ _ _ _ is (in_left box k c n out up s a at stop)
+        (in_right other j d o m out' up' left t a' at' l stop') e f =
         let same = one_halving box k j c d at (moved_halved box other j d e at') in
         let left_is = same_left box other k j c d e same.0 same.1 in
         absurd (no_stop (left_of j d other) (left_of k c box) o n m left s
         (subst (IsBoxOf b) left_is (left_box cuts b box k c at is)) l stop (sym left_is) (sym f))
-    one_stop _ _ _ _ _ _ is (in_right box k c n m out up left s a at l stop) (cell other o bytes out' up' single a') e f =
+    one_stop _ _ _ _ _ _ is (in_right box k c n m out up left s a at l stop)
+        (cell other o bytes out' up' single a') e f =
         absurd (cell_not_halved box bytes.items k c (e ∙ single) at)
     one_stop _ _ _ _ _ _ is (in_right box k c n m out up left s a at l stop) (limit other o ls v many) e f =
         absurd (not_both box ls out up is (moved_within box other ls e v) a)
-    one_stop _ _ _ _ _ _ is (in_right box k c n m out up left s a at l stop) (in_left other j d o out' up' t a' at' stop') e f =
+    one_stop _ _ _ _ _ _ is (in_right box k c n m out up left s a at l stop)
+        (in_left other j d o out' up' t a' at' stop') e f =
         let same = one_halving box k j c d at (moved_halved box other j d e at') in
         absurd (no_stop (left_of k c box) (left_of j d other) n o m left t (left_box cuts b box k c at is) l stop'
         (same_left box other k j c d e same.0 same.1) f)
-    one_stop _ _ _ _ _ _ is (in_right box k c n m out up left s a at l stop) (in_right other j d o m' out' up' left' t a' at' l' stop') e f =
+    one_stop _ _ _ _ _ _ is (in_right box k c n m out up left s a at l stop)
+        (in_right other j d o m' out' up' left' t a' at' l' stop') e f =
         let same = one_halving box k j c d at (moved_halved box other j d e at') in
-        let lower = one_tree (left_of k c box) (left_of j d other) n o m m' left left' (left_box cuts b box k c at is) l l'
+        let lower = one_tree (left_of k c box) (left_of j d other) n o m m' left left'
+        (left_box cuts b box k c at is) l l'
         (same_left box other k j c d e same.0 same.1) f in
         one_stop (right_of k c box) (right_of j d other) m m' s t (right_box cuts b box k c at is) stop stop'
         (same_right box other k j c d e same.0 same.1) lower.1
@@ -254,7 +280,8 @@ right_at_most (x ∷ xs) (y ∷ ys) zero z m e f = let a : y ≡ z = cc in let c
 right_at_most (x ∷ xs) (y ∷ ys) (suc k) z m e f = right_at_most xs ys k z m e f
 
 -- accepted with other claims, none below its errors
-claiming : (b : Block) (h : ℕ) (es cs : List ℕ) (ns ks : List Node) → ns ≡ ks → IsAccepted b h (record { claims = es; nodes = ns }) es
+claiming : (b : Block) (h : ℕ) (es cs : List ℕ) (ns ks : List Node) → ns ≡ ks
+    → IsAccepted b h (record { claims = es; nodes = ns }) es
     → length cs ≡ length b.outputs → ((k e c : ℕ) → slice_get es k ≡ Some e → slice_get cs k ≡ Some c → e ≤ c)
     → IsAccepted b h (record { claims = cs; nodes = ks }) es
 claiming b h es cs ns ks e a count most = record {
@@ -271,7 +298,8 @@ one_claims : ErrorsAreDetermined → (b : Block) (h : ℕ) (es fs : List ℕ) (n
     → IsAccepted b h (record { claims = fs; nodes = ks }) fs → es ≡ fs
 one_claims errors_one b h es fs ns ks valid e p q =
     let cs = greater_of es fs in
-    let count : length cs ≡ length b.outputs = length-greater es fs (p.errors_count ∙ sym q.errors_count) ∙ p.errors_count in
+    let count : length cs ≡ length b.outputs = length-greater es fs (p.errors_count ∙ sym q.errors_count)
+    ∙ p.errors_count in
     errors_one b h (record { claims = cs; nodes = ks }) es fs valid
     (claiming b h es cs ns ks e p count (left_at_most es fs))
     (claiming b h fs cs ks ks refl q count (right_at_most es fs))
@@ -282,12 +310,16 @@ one_answer errors_one best_one bound_one cuts b h target (Ok p) (Ok q) valid x y
     (one_tree best_one bound_one b h target valid cuts (whole b) (whole b) 0 0 x.leaves y.leaves p.nodes q.nodes
     (whole_box b) x.nodes y.nodes refl refl).0 in
     let claims = one_claims errors_one b h p.claims q.claims p.nodes q.nodes valid nodes x.claims y.claims in
-    let same : p ≡ q = ap₂ (λ (cs : List ℕ) (ns : List Node). let c : Cert = record { claims = cs; nodes = ns } in c) claims nodes in
+    let same : p ≡ q = ap₂ (λ (cs : List ℕ) (ns : List Node). let c : Cert = record { claims = cs; nodes = ns } in c)
+    claims nodes in
     ap (λ (c : Cert). let r : Result Cert NotReached = Ok c in r) same
 one_answer errors_one best_one bound_one cuts b h target (Ok p) (Err t) valid x y =
-    absurd (no_stop best_one bound_one b h target valid cuts (whole b) (whole b) 0 0 x.leaves p.nodes t (whole_box b) x.nodes y refl refl)
+    absurd (no_stop best_one bound_one b h target valid cuts (whole b) (whole b) 0 0 x.leaves p.nodes t
+    (whole_box b) x.nodes y refl refl)
 one_answer errors_one best_one bound_one cuts b h target (Err s) (Ok q) valid x y =
-    absurd (no_stop best_one bound_one b h target valid cuts (whole b) (whole b) 0 0 y.leaves q.nodes s (whole_box b) y.nodes x refl refl)
+    absurd (no_stop best_one bound_one b h target valid cuts (whole b) (whole b) 0 0 y.leaves q.nodes s
+    (whole_box b) y.nodes x refl refl)
 one_answer errors_one best_one bound_one cuts b h target (Err s) (Err t) valid x y =
-    let same = one_stop best_one bound_one b h target valid cuts (whole b) (whole b) 0 0 s t (whole_box b) x y refl refl in
+    let same = one_stop best_one bound_one b h target valid cuts (whole b) (whole b) 0 0 s t
+    (whole_box b) x y refl refl in
     ap (λ (n : NotReached). let r : Result Cert NotReached = Err n in r) same

@@ -1,6 +1,7 @@
 -- The plain algebra of memory, flags, bounded executions, code bytes, sizes, joins and items one above another, which
 -- the crates above use.
-pub use Rattle.eval_code.proofs.Joins.{block_then, block_items-then, form-flat_of, weights-flat_of, conjunctions-flat_of}
+pub use Rattle.eval_code.proofs.Joins.{block_then, block_items-then, form-flat_of, weights-flat_of}
+pub use Rattle.eval_code.proofs.Joins.{conjunctions-flat_of}
 pub use Rattle.eval_code.proofs.Sizes.{code_size, code_size-append, length-le-code_size}
 pub use Rattle.eval_code.proofs.Placed.{sized}
 pub use Rattle.eval_code.proofs.phases.Law.{length-code}
@@ -17,6 +18,7 @@ pub use Rattle.eval_code.proofs.steps.Executions.{Bounded, bounded_none, bounded
 pub use Rattle.eval_code.proofs.steps.Flags.{masked_or, masked_and, masked_tested, masked_four, masked_on, unmasked}
 pub use Rattle.eval_code.proofs.steps.Flags.{zero_tested, zero_four}
 pub use Rattle.eval_code.proofs.steps.Memory.{length-put, has_put, bytes_by, bytes_front, bytes_back, same_bytes}
-pub use Rattle.eval_code.proofs.steps.Memory.{bytes_put_out, bytes_set_out, bytes_after_set, bytes_after_put, bytes_writes}
+pub use Rattle.eval_code.proofs.steps.Memory.{bytes_put_out, bytes_set_out, bytes_after_set, bytes_after_put}
+pub use Rattle.eval_code.proofs.steps.Memory.{bytes_writes}
 pub use Rattle.eval_code.proofs.steps.Memory.{SameHigh, high_set, high_put, high_writes, WriteBelow, below_more}
 pub use Rattle.eval_code.proofs.steps.Stepping.{written_low, writes_low}

@@ -1,5 +1,6 @@
 -- Parts of a firmware put one behind the other.
-use Rattle.std.proofs.Common.{◌≡◌, ◌≤◌, List, [], ◌∷◌, ◌++◌, map, length, sum_by, All, sym, ◌∙◌, ap, arith, append_assoc}
+use Rattle.std.proofs.Common.{◌≡◌, ◌≤◌, List, [], ◌∷◌, ◌++◌, map, length, sum_by, All, sym, ◌∙◌, ap, arith}
+use Rattle.std.proofs.Common.{append_assoc}
 use Rattle.std.proofs.lemmas.List.{map-append}
 use Rattle.std.proofs.lemmas.List.Elements.{All-get_or}
 use Rattle.std.proofs.lemmas.List.Sums.{sum_by-le}
@@ -21,12 +22,16 @@ use Rattle.eval_code.specs.Data.{table_bytes, singleton_bytes, weight_bytes_by, 
 use Rattle.eval_code.specs.Items.{code_at, bytes_at, block_items}
 
 -- a piece of code behind others
-next_piece : (start later last : List Item) (a b : List Instr) → later ≡ start ++ map Op a → last ≡ later ++ map Op b → last ≡ start ++ map Op (a ++ b)
+next_piece : (start later last : List Item) (a b : List Instr) → later ≡ start ++ map Op a → last ≡ later ++ map Op b
+    → last ≡ start ++ map Op (a ++ b)
 next_piece start later last a b h k =
-    k ∙ ap (λ xs. xs ++ map Op b) h ∙ append_assoc start (map Op a) (map Op b) ∙ ap (λ xs. start ++ xs) (sym (map-append (λ i. Op i) a b))
+    k ∙ ap (λ xs. xs ++ map Op b) h ∙ append_assoc start (map Op a) (map Op b)
+    ∙ ap (λ xs. start ++ xs) (sym (map-append (λ i. Op i) a b))
 
 -- five pieces of code
-pub five_pieces : (start i1 i2 i3 i4 i5 : List Item) (a b c d e : List Instr) → i1 ≡ start ++ map Op a → i2 ≡ i1 ++ map Op b → i3 ≡ i2 ++ map Op c → i4 ≡ i3 ++ map Op d → i5 ≡ i4 ++ map Op e → i5 ≡ start ++ map Op (a ++ (b ++ (c ++ (d ++ e))))
+pub five_pieces : (start i1 i2 i3 i4 i5 : List Item) (a b c d e : List Instr) → i1 ≡ start ++ map Op a
+    → i2 ≡ i1 ++ map Op b → i3 ≡ i2 ++ map Op c → i4 ≡ i3 ++ map Op d → i5 ≡ i4 ++ map Op e
+    → i5 ≡ start ++ map Op (a ++ (b ++ (c ++ (d ++ e))))
 five_pieces start i1 i2 i3 i4 i5 a b c d e h1 h2 h3 h4 h5 =
     let last = next_piece i3 i4 i5 d e h4 h5 in
     let last2 = next_piece i2 i3 i5 c (d ++ e) h3 last in
@@ -34,7 +39,8 @@ five_pieces start i1 i2 i3 i4 i5 a b c d e h1 h2 h3 h4 h5 =
     next_piece start i1 i5 a (b ++ (c ++ (d ++ e))) h1 last3
 
 -- three of them
-pub three_pieces : (start i1 i2 i3 : List Item) (a b c : List Instr) → i1 ≡ start ++ map Op a → i2 ≡ i1 ++ map Op b → i3 ≡ i2 ++ map Op c → i3 ≡ start ++ map Op (a ++ (b ++ c))
+pub three_pieces : (start i1 i2 i3 : List Item) (a b c : List Instr) → i1 ≡ start ++ map Op a → i2 ≡ i1 ++ map Op b
+    → i3 ≡ i2 ++ map Op c → i3 ≡ start ++ map Op (a ++ (b ++ c))
 three_pieces start i1 i2 i3 a b c h1 h2 h3 = next_piece start i1 i3 a (b ++ c) h1 (next_piece i1 i2 i3 b c h2 h3)
 
 -- the layout of a block's rules, field by field
@@ -55,17 +61,22 @@ unfolding flat_of
 conjunctions-flat_of flat b h = ap (λ f. f.conjunctions) h
 
 -- of at most eight inputs with at most fifteen terms each
-pub sum_by-term_count : (inputs : List Input) → length inputs ≤ 8 → All IsValidInput inputs → sum_by term_count inputs ≤ 120
+pub sum_by-term_count : (inputs : List Input) → length inputs ≤ 8 → All IsValidInput inputs
+    → sum_by term_count inputs ≤ 120
 sum_by-term_count inputs few valid =
-    let few_terms : All (λ x. term_count x ≤ 15) inputs = λ i d h. (All-get_or IsValidInput inputs i d h valid).few_terms in
+    let few_terms : All (λ x. term_count x ≤ 15) inputs =
+    λ i d h. (All-get_or IsValidInput inputs i d h valid).few_terms in
     omega (arith, sum_by-le term_count 15 inputs few_terms)
 
 -- the parts of a block in their order
-arranged : (start p e t s b w i1 i3 i4 i5 i6 i7 : List Item) → i1 ≡ start ++ p → i3 ≡ i1 ++ e → i4 ≡ i3 ++ t → i5 ≡ i4 ++ s → i6 ≡ i5 ++ b → i7 ≡ i6 ++ w → i7 ≡ start ++ ((p ++ e) ++ (t ++ ((s ++ b) ++ w)))
+arranged : (start p e t s b w i1 i3 i4 i5 i6 i7 : List Item) → i1 ≡ start ++ p → i3 ≡ i1 ++ e → i4 ≡ i3 ++ t
+    → i5 ≡ i4 ++ s → i6 ≡ i5 ++ b → i7 ≡ i6 ++ w → i7 ≡ start ++ ((p ++ e) ++ (t ++ ((s ++ b) ++ w)))
 arranged start p e t s b w i1 i3 i4 i5 i6 i7 h1 h3 h4 h5 h6 h7 = simp (h7, h6, h5, h4, h3, h1, append_assoc)
 
 -- the code over the parts of a block and its rules' layout
-pub eval_code_over-flat : (l : Layout) (b : Block) (w : Width) (flat : Flat) (inputs : List Input) (outputs : List Output) (slots : List Slot) → flat ≡ flat_of b → inputs ≡ b.inputs → outputs ≡ b.outputs → slots ≡ flat.slots → eval_code_over l w inputs outputs slots flat.form ≡ eval_code l b w
+pub eval_code_over-flat : (l : Layout) (b : Block) (w : Width) (flat : Flat) (inputs : List Input)
+    (outputs : List Output) (slots : List Slot) → flat ≡ flat_of b → inputs ≡ b.inputs → outputs ≡ b.outputs
+    → slots ≡ flat.slots → eval_code_over l w inputs outputs slots flat.form ≡ eval_code l b w
 eval_code_over-flat l b w flat inputs outputs slots h i o s =
     let e = slots-flat_of flat b h in
     let f = form-flat_of flat b h in
@@ -73,7 +84,10 @@ eval_code_over-flat l b w flat inputs outputs slots h i o s =
     rw (i, o, same_slots, f)
 
 -- the weights and the rule list of a block's rules' layout
-pub rule_data-flat : (l : Layout) (b : Block) (flat : Flat) → flat ≡ flat_of b → bytes_at l.weights (weight_bytes_by flat.form flat.weights) ++ bytes_at l.rules (rule_bytes_by l.slots flat.form flat.conjunctions) ≡ bytes_at l.weights (weight_bytes b) ++ bytes_at l.rules (rule_bytes l.slots b)
+pub rule_data-flat : (l : Layout) (b : Block) (flat : Flat) → flat ≡ flat_of b
+    → bytes_at l.weights (weight_bytes_by flat.form flat.weights)
+    ++ bytes_at l.rules (rule_bytes_by l.slots flat.form flat.conjunctions) ≡ bytes_at l.weights (weight_bytes b)
+    ++ bytes_at l.rules (rule_bytes l.slots b)
 rule_data-flat l b flat h =
     let f = form-flat_of flat b h in
     let w = weights-flat_of flat b h in
@@ -81,11 +95,18 @@ rule_data-flat l b flat h =
     rw (f, w, c)
 
 -- the parts of a block, put one behind the other, are its items
-pub block_items-parts : (l : Layout) (b : Block) (w : Width) (before behind : List Instr) (start i1 i3 i4 i5 i6 i7 : List Item) → i1 ≡ start ++ Place l.code ∷ [] → i3 ≡ i1 ++ map Op (block_code l b w before behind) → i4 ≡ i3 ++ bytes_at l.tables (table_bytes b)
-    → i5 ≡ i4 ++ Place l.singletons ∷ [] → i6 ≡ i5 ++ map Byte (singleton_bytes b) → i7 ≡ i6 ++ (bytes_at l.weights (weight_bytes b) ++ bytes_at l.rules (rule_bytes l.slots b)) → i7 ≡ start ++ block_items l b w before behind
+pub block_items-parts : (l : Layout) (b : Block) (w : Width) (before behind : List Instr)
+    (start i1 i3 i4 i5 i6 i7 : List Item) → i1 ≡ start ++ Place l.code ∷ []
+    → i3 ≡ i1 ++ map Op (block_code l b w before behind) → i4 ≡ i3 ++ bytes_at l.tables (table_bytes b)
+    → i5 ≡ i4 ++ Place l.singletons ∷ [] → i6 ≡ i5 ++ map Byte (singleton_bytes b)
+    → i7 ≡ i6 ++ (bytes_at l.weights (weight_bytes b) ++ bytes_at l.rules (rule_bytes l.slots b))
+    → i7 ≡ start ++ block_items l b w before behind
 unfolding block_items
 block_items-parts l b w before behind start i1 i3 i4 i5 i6 i7 h1 h3 h4 h5 h6 h7 =
-    arranged start (Place l.code ∷ []) (map Op (block_code l b w before behind)) (bytes_at l.tables (table_bytes b)) (Place l.singletons ∷ []) (map Byte (singleton_bytes b)) (bytes_at l.weights (weight_bytes b) ++ bytes_at l.rules (rule_bytes l.slots b)) i1 i3 i4 i5 i6 i7 h1 h3 h4 h5 h6 h7
+    arranged start (Place l.code ∷ []) (map Op (block_code l b w before behind)) (bytes_at l.tables (table_bytes b))
+    (Place l.singletons ∷ []) (map Byte (singleton_bytes b))
+    (bytes_at l.weights (weight_bytes b) ++ bytes_at l.rules (rule_bytes l.slots b)) i1 i3 i4 i5 i6 i7 h1 h3
+    h4 h5 h6 h7
 
 -- the same in their order, before other items
 abbrev pub block_then : Layout → Block → Width → List Instr → List Instr → List Item → List Item
@@ -97,7 +118,8 @@ block_then l b w before behind rest =
     ++ (bytes_at l.rules (rule_bytes l.slots b)
     ++ rest))))
 
-pub block_items-then : (l : Layout) (b : Block) (w : Width) (before behind : List Instr) (rest : List Item) → block_items l b w before behind ++ rest ≡ block_then l b w before behind rest
+pub block_items-then : (l : Layout) (b : Block) (w : Width) (before behind : List Instr) (rest : List Item)
+    → block_items l b w before behind ++ rest ≡ block_then l b w before behind rest
 unfolding block_items
 block_items-then l b w before behind rest =
     let A = code_at l.code (block_code l b w before behind) in
@@ -106,4 +128,7 @@ block_items-then l b w before behind rest =
     let W = bytes_at l.weights (weight_bytes b) in
     let R = bytes_at l.rules (rule_bytes l.slots b) in
     append_assoc A (T ++ (S ++ (W ++ R))) rest
-    ∙ ap (λ (x : List Item). A ++ x) (append_assoc T (S ++ (W ++ R)) rest ∙ ap (λ (x : List Item). T ++ x) (append_assoc S (W ++ R) rest ∙ ap (λ (x : List Item). S ++ x) (append_assoc W R rest)))
+    ∙ ap (λ (x : List Item). A ++ x)
+    (append_assoc T (S ++ (W ++ R)) rest
+    ∙ ap (λ (x : List Item). T ++ x)
+    (append_assoc S (W ++ R) rest ∙ ap (λ (x : List Item). S ++ x) (append_assoc W R rest)))

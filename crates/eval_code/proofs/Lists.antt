@@ -5,7 +5,9 @@ use Rattle.rule_layout.specs.declared.flat.Conjunction.{Conjunction}
 use Rattle.rule_layout.specs.Lists.{marked}
 use Rattle.eval_code.specs.Bounds.{entry_count}
 
-pub length-marked : (separator end_mark : ℕ) (cs : List Conjunction) → length (marked separator end_mark cs) ≡ sum_by entry_count cs
+pub length-marked : (separator end_mark : ℕ) (cs : List Conjunction)
+    → length (marked separator end_mark cs) ≡ sum_by entry_count cs
 length-marked separator end_mark [] = refl
 length-marked separator end_mark (c ∷ []) = simp (length-append) (omega (arith, sum_by-cons entry_count c []))
-length-marked separator end_mark (c ∷ d ∷ cs) = simp (length-append) (omega (arith, sum_by-cons entry_count c (d ∷ cs), length-marked separator end_mark (d ∷ cs)))
+length-marked separator end_mark (c ∷ d ∷ cs) =
+    simp (length-append) (omega (arith, sum_by-cons entry_count c (d ∷ cs), length-marked separator end_mark (d ∷ cs)))

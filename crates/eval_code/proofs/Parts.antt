@@ -22,7 +22,8 @@ some_terms (x ∷ xs) some v = let first = (v 0 x (omega arith)).some_term in om
 
 some_singletons : (os : List Output) → 1 ≤ length os → All IsValidOutput os → 1 ≤ sum_by singleton_count os
 some_singletons [] some v = absurd (omega arith)
-some_singletons (o ∷ os) some v = let first = (v 0 o (omega arith)).some_term in omega (arith, sum_by-cons singleton_count o os)
+some_singletons (o ∷ os) some v = let first = (v 0 o (omega arith)).some_term in
+    omega (arith, sum_by-cons singleton_count o os)
 
 some_entries : (cs : List Conjunction) → 1 ≤ length cs → 1 ≤ sum_by entry_count cs
 some_entries [] some = absurd (omega arith)
@@ -39,6 +40,9 @@ has_parts law l b v limits =
     record {
       tables = (omega (arith, length-tables b.inputs, terms), h.tables);
       singletons = (omega (arith, length-singletons b.outputs, singletons), h.singletons);
-      weights = (omega (arith, facts.weighed, conjunctions), omega (arith, length-weights_of b, limits.few_conjunctions));
+      weights = (
+        omega (arith, facts.weighed, conjunctions),
+        omega (arith, length-weights_of b, limits.few_conjunctions),
+      );
       rules = (omega (arith, length-rules l.slots b, element_count-le b, entries), h.rules);
     }

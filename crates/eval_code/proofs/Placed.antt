@@ -1,5 +1,6 @@
 -- A block's items at the addresses of any layout.
-use Rattle.std.proofs.Common.{◌≡◌, ⊎_elim, ℕ, ◌+◌, ◌^◌, ◌<◌, ◌≤◌, List, [], ◌∷◌, ◌++◌, map, length, None, sym, ap, ◌∙◌, subst, arith, append-nil}
+use Rattle.std.proofs.Common.{◌≡◌, ⊎_elim, ℕ, ◌+◌, ◌^◌, ◌<◌, ◌≤◌, List, [], ◌∷◌, ◌++◌, map, length, None, sym, ap, ◌∙◌}
+use Rattle.std.proofs.Common.{subst, arith, append-nil}
 use Rattle.std.proofs.lemmas.List.Elements.{All-nil, All-cons}
 use Rattle.byte_scaling.specs.Cells.{NearestIsByte}
 use Rattle.fuzzy_meaning.specs.declared.block.Block.{Block}
@@ -17,7 +18,8 @@ use Rattle.eval_code.specs.declared.width.Width.{Width}
 use Rattle.eval_code.specs.Code.{code_bytes, eval_code, block_code}
 use Rattle.eval_code.specs.Data.{table_bytes, singleton_bytes, weight_bytes, rule_bytes}
 use Rattle.eval_code.specs.Items.{bytes_at, block_items}
-use Rattle.eval_code.specs.Placed.{IsInOrder, BlockRises, BlockIsShort, BlockStaysInside, GivesBehind, GiveBytes, BlockGivesBytes, HasPlaces, BlockStands}
+use Rattle.eval_code.specs.Placed.{IsInOrder, BlockRises, BlockIsShort, BlockStaysInside, GivesBehind, GiveBytes}
+use Rattle.eval_code.specs.Placed.{BlockGivesBytes, HasPlaces, BlockStands}
 use Rattle.eval_code.proofs.Placement.{HasSizes, IsSpaced, HasPartSizes, part_sizes, block_rises, length-block_items}
 use Rattle.eval_code.proofs.steps.Memory.{same_bytes}
 use Rattle.eval_code.proofs.phases.Law.{length-code}
@@ -33,7 +35,8 @@ pub sized : (code : List Instr) → code_size code ≡ length (code_bytes code)
 sized code = sym (length-code code ∙ sizes_is code)
 
 sizes_of : (b : Block) → BlockFacts b → IsWithinLimits b → HasSizes b
-sizes_of b facts h = record { few_slots = facts.few_slots; few_conjunctions = h.few_conjunctions; short_list = h.short_list }
+sizes_of b facts h =
+    record { few_slots = facts.few_slots; few_conjunctions = h.few_conjunctions; short_list = h.short_list }
 
 pub parts : LayoutLaw → (l : Layout) (b : Block) (w : Width) (before behind : List Instr) → IsValid b → IsWithinLimits b
     → HasPartSizes l b w before behind
@@ -44,7 +47,8 @@ falls : (low high : ℕ) (items : List Item) → low ≤ high → IsRisingFrom h
 falls low high [] le h = omega arith
 falls low high (Place to ∷ items) le h = (omega (arith, h.0), h.1)
 falls low high (Byte b ∷ items) le h = falls (low + 1) (high + 1) items (omega arith) h
-falls low high (Op i ∷ items) le h = falls (low + length (encode_of i)) (high + length (encode_of i)) items (omega arith) h
+falls low high (Op i ∷ items) le h =
+    falls (low + length (encode_of i)) (high + length (encode_of i)) items (omega arith) h
 
 pub rises_between : LayoutLaw → BlockRises
 rises_between law at l b w before behind rest o v limits low r =
@@ -55,17 +59,24 @@ rises_between law at l b w before behind rest o v limits low r =
 
 pub is_short : LayoutLaw → BlockIsShort
 is_short law l b w before behind v limits =
-    omega (arith, length-block_items l b w before behind (parts law l b w before behind v limits), sized before, sized behind)
+    omega (
+      arith,
+      length-block_items l b w before behind (parts law l b w before behind v limits),
+      sized before,
+      sized behind,
+    )
 
 -- no byte below the code
 none_before : Rises → (l : Layout) (b : Block) (w : Width) (before behind : List Instr) (at : ℕ)
-    → IsRisingFrom 0 (block_items l b w before behind) → at < l.code → byte_at (given_by (block_items l b w before behind)) at ≡ None
+    → IsRisingFrom 0 (block_items l b w before behind) → at < l.code
+    → byte_at (given_by (block_items l b w before behind)) at ≡ None
 unfolding block_items
 none_before rises l b w before behind at rise lt =
     none_below rises l.code at
     (map Op (block_code l b w before behind)
     ++ (bytes_at l.tables (table_bytes b)
-    ++ (bytes_at l.singletons (singleton_bytes b) ++ (bytes_at l.weights (weight_bytes b) ++ bytes_at l.rules (rule_bytes l.slots b)))))
+    ++ (bytes_at l.singletons (singleton_bytes b)
+    ++ (bytes_at l.weights (weight_bytes b) ++ bytes_at l.rules (rule_bytes l.slots b)))))
     rise.1 lt
 
 pub stays_inside : LayoutLaw → Rises → BlockStaysInside
@@ -73,12 +84,14 @@ stays_inside law rises l b w before behind at o v limits out =
     let items = block_items l b w before behind in
     let end = l.rules + 9984 in
     let top = o.rules in
-    let alone : IsRisingFrom 0 (items ++ []) = rises_between law 0 l b w before behind [] o v limits (omega arith) (omega arith) in
+    let alone : IsRisingFrom 0 (items ++ []) =
+    rises_between law 0 l b w before behind [] o v limits (omega arith) (omega arith) in
     let whole : IsRisingFrom 0 (items ++ (Place end ∷ [])) =
     rises_between law 0 l b w before behind (Place end ∷ []) o v limits (omega arith) (omega arith, omega arith) in
     let behind_all : IsRisingFrom (place_behind 0 items) (Place end ∷ []) = rises.part 0 items (Place end ∷ []) whole in
     ⊎_elim
-    (λ lt. none_before rises l b w before behind at (subst (λ (xs : List Item). IsRisingFrom 0 xs) (append-nil items) alone) lt)
+    (λ lt. none_before rises l b w before behind at
+    (subst (λ (xs : List Item). IsRisingFrom 0 xs) (append-nil items) alone) lt)
     (λ le. none_behind rises 0 at items (Place end ∷ []) whole (omega (arith, behind_all.0)))
     out
 
@@ -103,16 +116,20 @@ gives_bytes law near l b w before behind apart v front back =
     let items = block_items l b w before behind in
     let fit : ItemsFit (items ++ []) =
     block_fits_between near l b w before behind [] v (block_facts law b v) apart
-    (code_fits before (below_all 256 (code_bytes before) front)) (code_fits behind (below_all 256 (code_bytes behind) back)) tt in
+    (code_fits before (below_all 256 (code_bytes before) front))
+    (code_fits behind (below_all 256 (code_bytes behind) back)) tt in
     all_pairs (given_by items) (given_fit 0 items (subst ItemsFit (append-nil items) fit))
 
 -- the parts stand where the same bytes do
-there : (l : Layout) (b : Block) (w : Width) (before behind : List Instr) (image : List (ℕ × ℕ)) (mem : List ℕ) → IsInOrder l before behind
-    → HasPartSizes l b w before behind → HasPlaces l image mem → Stood (image_memory image) l b w before behind → Stood mem l b w before behind
+there : (l : Layout) (b : Block) (w : Width) (before behind : List Instr) (image : List (ℕ × ℕ)) (mem : List ℕ)
+    → IsInOrder l before behind
+    → HasPartSizes l b w before behind → HasPlaces l image mem → Stood (image_memory image) l b w before behind
+    → Stood mem l b w before behind
 there l b w before behind image mem o size same h =
     let m = image_memory image in
     let code = code_bytes (block_code l b w before behind) in
-    let few : l.code + length code ≤ l.tables = omega (arith, o.eval, o.code, size.code, sized (block_code l b w before behind), sized before, sized behind) in
+    let few : l.code + length code ≤ l.tables =
+    omega (arith, o.eval, o.code, size.code, sized (block_code l b w before behind), sized before, sized behind) in
     let t = o.tables in
     let s = o.singletons in
     let x = o.weights in
@@ -120,10 +137,14 @@ there l b w before behind image mem o size same h =
     let to = o.code in
     record {
       code = same_bytes m mem l.code code (λ k lo hi. same k lo (omega arith)) h.code;
-      tables = same_bytes m mem l.tables (table_bytes b) (λ k lo hi. same k (omega arith) (omega (arith, size.tables))) h.tables;
-      singletons = same_bytes m mem l.singletons (singleton_bytes b) (λ k lo hi. same k (omega arith) (omega (arith, size.singletons))) h.singletons;
-      weights = same_bytes m mem l.weights (weight_bytes b) (λ k lo hi. same k (omega arith) (omega (arith, size.weights))) h.weights;
-      rules = same_bytes m mem l.rules (rule_bytes l.slots b) (λ k lo hi. same k (omega arith) (omega (arith, size.rules))) h.rules;
+      tables = same_bytes m mem l.tables (table_bytes b)
+          (λ k lo hi. same k (omega arith) (omega (arith, size.tables))) h.tables;
+      singletons = same_bytes m mem l.singletons (singleton_bytes b)
+          (λ k lo hi. same k (omega arith) (omega (arith, size.singletons))) h.singletons;
+      weights = same_bytes m mem l.weights (weight_bytes b)
+          (λ k lo hi. same k (omega arith) (omega (arith, size.weights))) h.weights;
+      rules = same_bytes m mem l.rules (rule_bytes l.slots b)
+          (λ k lo hi. same k (omega arith) (omega (arith, size.rules))) h.rules;
     }
 
 pub stands_between : LayoutLaw → Rises → HoldsImage → BlockStands
@@ -139,5 +160,11 @@ stands_between law rises holds image mem front rest l b w before behind o v limi
       front = around.front;
       eval = around.eval;
       back = around.back;
-      room = omega (arith, size.code, code_size-append before (eval ++ behind), code_size-append eval behind, sized eval);
+      room = omega (
+        arith,
+        size.code,
+        code_size-append before (eval ++ behind),
+        code_size-append eval behind,
+        sized eval,
+      );
     }

@@ -1,5 +1,6 @@
 -- How many bytes the parts of a firmware have at most.
-use Rattle.std.proofs.Common.{◌≡◌, ℕ, zero, suc, ◌+◌, ◌*◌, ◌≤◌, List, [], ◌∷◌, ◌++◌, map, length, replicate, sum_by, flat_map, Option, Some, None, option_map, refl, ◌∙◌, ap, arith, length-append}
+use Rattle.std.proofs.Common.{◌≡◌, ℕ, zero, suc, ◌+◌, ◌*◌, ◌≤◌, List, [], ◌∷◌, ◌++◌, map, length, replicate, sum_by}
+use Rattle.std.proofs.Common.{flat_map, Option, Some, None, option_map, refl, ◌∙◌, ap, arith, length-append}
 use Rattle.std.proofs.lemmas.List.{length-map}
 use Rattle.std.proofs.lemmas.List.Sums.{sum_by-cons}
 use Rattle.std.proofs.lemmas.Grind.{flat_map-append}
@@ -24,7 +25,8 @@ use Rattle.eval_code.specs.declared.layout.Layout.{Layout}
 use Rattle.eval_code.specs.declared.width.Width.{Width}
 use Rattle.eval_code.specs.declared.width.Width.TheVariants.{Byte, Word}
 use Rattle.eval_code.specs.Widths.{places}
-use Rattle.eval_code.specs.Code.{fuzzify_code, slot_code, slots_code, rules_code, quotient_code, output_code, outputs_code, input_slots, eval_code_over}
+use Rattle.eval_code.specs.Code.{fuzzify_code, slot_code, slots_code, rules_code, quotient_code, output_code}
+use Rattle.eval_code.specs.Code.{outputs_code, input_slots, eval_code_over}
 
 -- the bytes of instructions
 abbrev pub code_size : List Instr → ℕ
@@ -47,20 +49,33 @@ code_size-copies : (n : ℕ) → code_size (replicate n Mem) ≡ n
 code_size-copies zero = refl
 code_size-copies (suc n) = omega (arith, code_size-copies n)
 
-pub code_size-fuzzify : (at : ℕ) (inputs : List Input) → code_size (fuzzify_code at inputs) ≡ 3 * length inputs + sum_by term_count inputs
+pub code_size-fuzzify : (at : ℕ) (inputs : List Input)
+    → code_size (fuzzify_code at inputs) ≡ 3 * length inputs + sum_by term_count inputs
 code_size-fuzzify at [] = refl
 code_size-fuzzify at (x ∷ xs) =
-    omega (arith, code_size-append (replicate (length x.terms) Mem) (fuzzify_code (at + 1) xs), code_size-copies (length x.terms), code_size-fuzzify (at + 1) xs, sum_by-cons term_count x xs)
+    omega (
+      arith,
+      code_size-append (replicate (length x.terms) Mem) (fuzzify_code (at + 1) xs),
+      code_size-copies (length x.terms),
+      code_size-fuzzify (at + 1) xs,
+      sum_by-cons term_count x xs,
+    )
 
 code_size-slot : (base : ℕ) (inputs : List Input) (at : ℕ) (s : Slot) → code_size (slot_code base inputs at s) ≤ 7
 code_size-slot base inputs at (Term i t) = omega arith
 code_size-slot base inputs at (Complement i t) = omega arith
 code_size-slot base inputs at (Out o t) = omega arith
 
-pub code_size-slots : (base : ℕ) (inputs : List Input) (at : ℕ) (slots : List Slot) → code_size (slots_code base inputs at slots) ≤ 7 * length slots
+pub code_size-slots : (base : ℕ) (inputs : List Input) (at : ℕ) (slots : List Slot)
+    → code_size (slots_code base inputs at slots) ≤ 7 * length slots
 code_size-slots base inputs at [] = omega arith
 code_size-slots base inputs at (s ∷ ss) =
-    omega (arith, code_size-append (slot_code base inputs at s) (slots_code base inputs (at + 1) ss), code_size-slot base inputs at s, code_size-slots base inputs (at + 1) ss)
+    omega (
+      arith,
+      code_size-append (slot_code base inputs at s) (slots_code base inputs (at + 1) ss),
+      code_size-slot base inputs at s,
+      code_size-slots base inputs (at + 1) ss,
+    )
 
 pub code_size-rules : (l : Layout) (f : Form) → code_size (rules_code l f) ≤ 14
 code_size-rules l form.Rev = omega arith
@@ -72,16 +87,21 @@ code_size-quotient Byte at (Some d) = omega arith
 code_size-quotient Word at None = omega arith
 code_size-quotient Word at (Some d) = omega arith
 
-pub code_size-outputs : (w : Width) (singletons slots at : ℕ) (outputs : List Output) → code_size (outputs_code w singletons slots at outputs) ≤ 38 * length outputs
+pub code_size-outputs : (w : Width) (singletons slots at : ℕ) (outputs : List Output)
+    → code_size (outputs_code w singletons slots at outputs) ≤ 38 * length outputs
 code_size-outputs w singletons slots at [] = omega arith
 code_size-outputs w singletons slots at (o ∷ os) =
-    let rest = code_size-outputs w (singletons + length o.singletons) (slots + length o.singletons) (at + places w) os in
-    let here = code_size-append (output_code w singletons slots at o) (outputs_code w (singletons + length o.singletons) (slots + length o.singletons) (at + places w) os) in
+    let rest = code_size-outputs w (singletons + length o.singletons) (slots + length o.singletons)
+    (at + places w) os in
+    let here = code_size-append (output_code w singletons slots at o)
+    (outputs_code w (singletons + length o.singletons) (slots + length o.singletons) (at + places w) os) in
     let own = code_size-quotient w at (option_map (nearest_byte o) o.default) in
     omega (arith, rest, here, own)
 
 -- the code of a block within the limits
-pub code_size-eval : (l : Layout) (w : Width) (inputs : List Input) (outputs : List Output) (slots : List Slot) (f : Form) → length inputs ≤ 8 → sum_by term_count inputs ≤ 120 → length outputs ≤ 4 → length slots ≤ 300 → code_size (eval_code_over l w inputs outputs slots f) ≤ 2416
+pub code_size-eval : (l : Layout) (w : Width) (inputs : List Input) (outputs : List Output) (slots : List Slot)
+    (f : Form) → length inputs ≤ 8 → sum_by term_count inputs ≤ 120 → length outputs ≤ 4 → length slots ≤ 300
+    → code_size (eval_code_over l w inputs outputs slots f) ≤ 2416
 code_size-eval l w inputs outputs slots f few_inputs few_terms few_outputs few_slots =
     let a = fuzzify_code l.inputs inputs in
     let b = slots_code l.slots inputs l.slots slots in
@@ -98,22 +118,44 @@ code_size-eval l w inputs outputs slots f few_inputs few_terms few_outputs few_s
       code_size-outputs w l.singletons (l.slots + input_slots slots outputs) l.outputs outputs,
     )
 
-length-rows : (x : Input) (terms : List Trapezoid) → length (flat_map (λ row. row) (map (row_of x) terms)) ≡ 4 * length terms
+length-rows : (x : Input) (terms : List Trapezoid)
+    → length (flat_map (λ row. row) (map (row_of x) terms)) ≡ 4 * length terms
 length-rows x [] = refl
-length-rows x (t ∷ ts) = omega (arith, length-append (row_of x t) (flat_map (λ row. row) (map (row_of x) ts)), length-rows x ts)
+length-rows x (t ∷ ts) =
+    omega (arith, length-append (row_of x t) (flat_map (λ row. row) (map (row_of x) ts)), length-rows x ts)
 
-pub length-tables : (inputs : List Input) → length (flat_map (λ row. row) (flat_map rows_of inputs)) ≡ 4 * sum_by term_count inputs
+pub length-tables : (inputs : List Input)
+    → length (flat_map (λ row. row) (flat_map rows_of inputs)) ≡ 4 * sum_by term_count inputs
 length-tables [] = refl
 length-tables (x ∷ xs) =
     ap length (flat_map-append (λ row. row) (rows_of x) (flat_map rows_of xs))
-    ∙ omega (arith, length-append (flat_map (λ row. row) (rows_of x)) (flat_map (λ row. row) (flat_map rows_of xs)), length-rows x x.terms, length-tables xs, sum_by-cons term_count x xs)
+    ∙ omega (
+      arith,
+      length-append (flat_map (λ row. row) (rows_of x)) (flat_map (λ row. row) (flat_map rows_of xs)),
+      length-rows x x.terms,
+      length-tables xs,
+      sum_by-cons term_count x xs,
+    )
 
-pub length-singletons : (outputs : List Output) → length (flat_map singleton_bytes_of outputs) ≡ sum_by singleton_count outputs
+pub length-singletons : (outputs : List Output)
+    → length (flat_map singleton_bytes_of outputs) ≡ sum_by singleton_count outputs
 length-singletons [] = refl
 length-singletons (o ∷ os) =
-    omega (arith, length-append (singleton_bytes_of o) (flat_map singleton_bytes_of os), length-map o.singletons (nearest_byte o), length-singletons os, sum_by-cons singleton_count o os)
+    omega (
+      arith,
+      length-append (singleton_bytes_of o) (flat_map singleton_bytes_of os),
+      length-map o.singletons (nearest_byte o),
+      length-singletons os,
+      sum_by-cons singleton_count o os,
+    )
 
 pub length-rule_weights : (rules : List Rule) → length (flat_map rule_weights rules) ≡ conjunction_count rules
 length-rule_weights [] = refl
 length-rule_weights (r ∷ rs) =
-    omega (arith, length-append (rule_weights r) (flat_map rule_weights rs), length-map (rule_spread r) (λ _. weight_byte_of r.weight), length-rule_weights rs, sum_by-cons (λ x. length (rule_spread x)) r rs)
+    omega (
+      arith,
+      length-append (rule_weights r) (flat_map rule_weights rs),
+      length-map (rule_spread r) (λ _. weight_byte_of r.weight),
+      length-rule_weights rs,
+      sum_by-cons (λ x. length (rule_spread x)) r rs,
+    )

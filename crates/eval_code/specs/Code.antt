@@ -1,5 +1,6 @@
 -- The code of EVAL, instruction by instruction.
-use Rattle.std.specs.Prelude.{ℕ, ◌+◌, ◌-◌, List, [], ◌∷◌, ◌++◌, flat_map, length, take, replicate, sum_by, Option, Some, None, option_map}
+use Rattle.std.specs.Prelude.{ℕ, ◌+◌, ◌-◌, List, [], ◌∷◌, ◌++◌, flat_map, length, take, replicate, sum_by, Option, Some}
+use Rattle.std.specs.Prelude.{None, option_map}
 use Rattle.fuzzy_meaning.specs.declared.block.Block.{Block}
 use Rattle.fuzzy_meaning.specs.declared.block.Input.{Input}
 use Rattle.fuzzy_meaning.specs.declared.block.Output.{Output}
@@ -11,7 +12,10 @@ use Rattle.rule_layout.specs.declared.flat.Form.TheVariants as form
 use Rattle.rule_layout.specs.Slots.{slots_of, term_count, singleton_count}
 use Rattle.rule_layout.specs.Layouts.{form_of}
 use Rattle.cpu12_isa.specs.declared.instr.Instr.{Instr}
-use Rattle.cpu12_isa.specs.declared.instr.Instr.TheVariants.{LdaaImmediate, LdaaExtended, LdabImmediate, LdxImmediate, LdyImmediate, StaaExtended, StabExtended, ClrExtended, Coma, CpxImmediate, Beq, Bra, Andcc, Orcc, TransferXD, TransferYD, Ediv, Fdiv, Mem, Rev, Revw, Wav}
+use Rattle.cpu12_isa.specs.declared.instr.Instr.TheVariants.{LdaaImmediate, LdaaExtended, LdabImmediate, LdxImmediate}
+use Rattle.cpu12_isa.specs.declared.instr.Instr.TheVariants.{LdyImmediate, StaaExtended, StabExtended, ClrExtended}
+use Rattle.cpu12_isa.specs.declared.instr.Instr.TheVariants.{Coma, CpxImmediate, Beq, Bra, Andcc, Orcc, TransferXD}
+use Rattle.cpu12_isa.specs.declared.instr.Instr.TheVariants.{TransferYD, Ediv, Fdiv, Mem, Rev, Revw, Wav}
 use Rattle.cpu12_isa.specs.Code.{encode_of}
 use Rattle.eval_code.specs.declared.layout.Layout.{Layout}
 use Rattle.eval_code.specs.declared.width.Width.{Width}

@@ -1,10 +1,12 @@
 //! The code of EVAL.
-ghost use Rattle.std.specs.Prelude.{◌≡◌, ◌+◌, ◌^◌, ◌<◌, ◌≤◌, ◌++◌, map, length, replicate, sum_by, All, OnOk, Some, None, option_map, IfSome};
+ghost use Rattle.std.specs.Prelude.{◌≡◌, ◌+◌, ◌^◌, ◌<◌, ◌≤◌, ◌++◌, map, length, replicate, sum_by, All, OnOk, Some};
+ghost use Rattle.std.specs.Prelude.{None, option_map, IfSome};
 ghost use Rattle.fuzzy_meaning.specs.Blocks.{IsValidOutput};
 ghost use Rattle.cpu12_asm.specs.declared.items.Item.TheVariants.{Op};
 ghost use Rattle.rule_layout.specs.Slots.{term_count, singleton_count};
 ghost use Rattle.eval_code.specs.declared.width.Width.TheVariants as Width;
-ghost use Rattle.eval_code.specs.Code.{fuzzify_code, terms_before, slot_code, slots_code, rules_code, quotient_code, output_code, outputs_code};
+ghost use Rattle.eval_code.specs.Code.{fuzzify_code, terms_before, slot_code, slots_code, rules_code, quotient_code};
+ghost use Rattle.eval_code.specs.Code.{output_code, outputs_code};
 
 use crate::layout::Layout;
 use crate::width::Width;

@@ -2,7 +2,8 @@
 ghost use Rattle.eval_code.specs.Bounds.{BoundsAreFew};
 ghost use Rattle.eval_code.specs.Evaluation.{EvalAnswers};
 ghost use Rattle.eval_code.specs.Firing.{RulesGiveMasses};
-ghost use Rattle.eval_code.specs.Placed.{BlockGivesBytes, BlockHasParts, BlockIsShort, BlockRises, BlockStands, BlockStaysInside, GivesBehind};
+ghost use Rattle.eval_code.specs.Placed.{BlockGivesBytes, BlockHasParts, BlockIsShort, BlockRises, BlockStands};
+ghost use Rattle.eval_code.specs.Placed.{BlockStaysInside, GivesBehind};
 
 use byte_scaling::nearest_is_byte;
 use cpu12_asm::rising_items;

@@ -14,7 +14,8 @@ use Rattle.fcl_check.specs.declared.names.Counts.{Counts}
 use Rattle.fcl_check.specs.declared.names.Section.{Section}
 use Rattle.fcl_check.specs.declared.names.Variable.{Variable}
 use Rattle.fcl_check.specs.Loaded.{or_zero}
-use Rattle.fcl_check.specs.Names.{Declared, is_direction, is_named, number_in, section_name, singleton_names, term_names}
+use Rattle.fcl_check.specs.Names.{Declared, is_direction, is_named, number_in, section_name, singleton_names}
+use Rattle.fcl_check.specs.Names.{term_names}
 
 -- the value at some letters
 abbrev pub at_letters : {X : Type 0} → BTreeMap (Bor (List ℕ)) X → List ℕ → Option X

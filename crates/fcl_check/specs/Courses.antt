@@ -1,6 +1,7 @@
 -- The course that a term's points spell: the straight lines between them, at a doubled abscissa the
 -- greatest degree, and beyond the first and the last point their degrees.
-use Rattle.std.specs.Prelude.{◌≡◌, ℕ, ◌+◌, ◌*◌, cond, true, List, [], ◌∷◌, Option, Some, None, ℤ, ◌-ℤ◌, int_lt, unsigned_abs}
+use Rattle.std.specs.Prelude.{◌≡◌, ℕ, ◌+◌, ◌*◌, cond, true, List, [], ◌∷◌, Option, Some, None, ℤ, ◌-ℤ◌, int_lt}
+use Rattle.std.specs.Prelude.{unsigned_abs}
 use Rattle.std.specs.List.{filter, list_any}
 use Rattle.std.specs.Ordering.{int_eq}
 use Rattle.fz_num.specs.declared.dec.Dec.{Dec}

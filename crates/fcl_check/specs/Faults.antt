@@ -1,7 +1,9 @@
 -- The faults of a tree: each kind at all its places in the text's order, and the first of them.
-use Rattle.std.specs.Prelude.{ℕ, Bool, true, false, not, ◌&&◌, ◌||◌, nat_le, ◌≡◌, ◌≢◌, List, [], ◌∷◌, ◌++◌, drop, length, map, Result, Ok, Err, Option, Some, None, is_none, slice_get, int_lt, pos}
+use Rattle.std.specs.Prelude.{ℕ, Bool, true, false, not, ◌&&◌, ◌||◌, nat_le, ◌≡◌, ◌≢◌, List, [], ◌∷◌, ◌++◌, drop}
+use Rattle.std.specs.Prelude.{length, map, Result, Ok, Err, Option, Some, None, is_none, slice_get, int_lt, pos}
 use Rattle.std.specs.List.{filter, flat_map, list_any}
-use Rattle.fcl_syntax.specs.Grammar.{TNot, neg, group, is, lone, TNots, no_nots, more_nots, TAnd, and_of, TAnds, no_ands, more_ands, TOr, or_of}
+use Rattle.fcl_syntax.specs.Grammar.{TNot, neg, group, is, lone, TNots, no_nots, more_nots, TAnd, and_of, TAnds}
+use Rattle.fcl_syntax.specs.Grammar.{no_ands, more_ands, TOr, or_of}
 use Rattle.fcl_syntax.specs.View.{view_or}
 use Rattle.fcl_syntax.specs.declared.tree.Conclusion.{Conclusion}
 use Rattle.fcl_syntax.specs.declared.tree.DefuzzyLine.{DefuzzyLine}
@@ -20,9 +22,11 @@ use Rattle.fcl_syntax.specs.declared.tree.RuleLine.TheVariants as line
 use Rattle.fcl_syntax.specs.declared.tree.Weight.{Weight}
 use Rattle.fcl_check.specs.declared.fault.LoadFault.{LoadFault}
 use Rattle.fcl_check.specs.declared.fault.LoadFault.TheVariants as load
-use Rattle.fcl_check.specs.Names.{Declared, is_direction, section_name, declared_in, direction_of, section_of, term_number, letters, is_named}
+use Rattle.fcl_check.specs.Names.{Declared, is_direction, section_name, declared_in, direction_of, section_of}
+use Rattle.fcl_check.specs.Names.{term_number, letters, is_named}
 use Rattle.fcl_check.specs.Places.{at_if, at_some, at_each, first}
-use Rattle.fcl_check.specs.Sections.{without_terms, terms_over_limit, falling_points, shapeless_terms, points_outside, bad_range, numbers_outside, incomplete, value}
+use Rattle.fcl_check.specs.Sections.{without_terms, terms_over_limit, falling_points, shapeless_terms, points_outside}
+use Rattle.fcl_check.specs.Sections.{bad_range, numbers_outside, incomplete, value}
 
 -- ---- names in conditions and conclusions
 

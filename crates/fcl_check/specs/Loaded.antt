@@ -3,13 +3,15 @@ use Rattle.std.specs.Prelude.{◌≡◌, ℕ, cond, List, map, Option, Some, Non
 use Rattle.std.specs.Ordering.{int_eq}
 use Rattle.std.specs.List.{AllZip, filter, take_while}
 use Rattle.fz_num.specs.declared.dec.Dec.{Dec}
-use Rattle.fuzzy_meaning.specs.Conditions.{Condition, is as literal, negation, all, any, Conditions, end, also, condition_of}
+use Rattle.fuzzy_meaning.specs.Conditions.{Condition, is as literal, negation, all, any, Conditions, end, also}
+use Rattle.fuzzy_meaning.specs.Conditions.{condition_of}
 use Rattle.fuzzy_meaning.specs.declared.block.Block.{Block}
 use Rattle.fuzzy_meaning.specs.declared.block.Input.{Input}
 use Rattle.fuzzy_meaning.specs.declared.block.Output.{Output}
 use Rattle.fuzzy_meaning.specs.declared.block.Rule.{Rule}
 use Rattle.fuzzy_meaning.specs.declared.block.Trapezoid.{Trapezoid}
-use Rattle.fcl_syntax.specs.Grammar.{TNot, neg, group, is, lone, TNots, no_nots, more_nots, TAnd, and_of, TAnds, no_ands, more_ands, TOr, or_of}
+use Rattle.fcl_syntax.specs.Grammar.{TNot, neg, group, is, lone, TNots, no_nots, more_nots, TAnd, and_of, TAnds}
+use Rattle.fcl_syntax.specs.Grammar.{no_ands, more_ands, TOr, or_of}
 use Rattle.fcl_syntax.specs.View.{view_or}
 use Rattle.fcl_syntax.specs.declared.tree.Conclusion.{Conclusion}
 use Rattle.fcl_syntax.specs.declared.tree.Defuzzify.{Defuzzify}
@@ -27,9 +29,11 @@ use Rattle.fcl_syntax.specs.declared.tree.Singleton.{Singleton}
 use Rattle.fcl_syntax.specs.declared.tree.Term.{Term}
 use Rattle.fcl_syntax.specs.declared.tree.Weight.{Weight}
 use Rattle.fcl_check.specs.Faults.{conclusions_of}
-use Rattle.fcl_check.specs.Names.{as_defuzzify, as_fuzzify, terms_of, singletons_of, declared_as, section_of, variable_number, term_number, letters}
+use Rattle.fcl_check.specs.Names.{as_defuzzify, as_fuzzify, terms_of, singletons_of, declared_as, section_of}
+use Rattle.fcl_check.specs.Names.{variable_number, term_number, letters}
 use Rattle.fcl_check.specs.Places.{first, last, drop_while}
-use Rattle.fcl_check.specs.Sections.{Ends, value, ends_of, hull_of, points_of, x_of, has_one, has_zero, fuzzy_range, defuzzy_range, abscissas, output_numbers, default_of, fallback_number}
+use Rattle.fcl_check.specs.Sections.{Ends, value, ends_of, hull_of, points_of, x_of, has_one, has_zero, fuzzy_range}
+use Rattle.fcl_check.specs.Sections.{defuzzy_range, abscissas, output_numbers, default_of, fallback_number}
 
 abbrev pub number_of : Option Dec → Option ℤ
 number_of d = option_map (λ (d : Dec). d.0) d

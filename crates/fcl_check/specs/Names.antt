@@ -1,6 +1,7 @@
 -- The names of a tree, and what they stand for. Names that differ only in case are equal: their
 -- letters are read in the text in small letters.
-use Rattle.std.specs.Prelude.{if◌then◌else◌, ℕ, suc, Bool, true, false, List, ◌∷◌, drop, map, Option, Some, None, option_map, option_and_then}
+use Rattle.std.specs.Prelude.{if◌then◌else◌, ℕ, suc, Bool, true, false, List, ◌∷◌, drop, map, Option, Some, None}
+use Rattle.std.specs.Prelude.{option_map, option_and_then}
 use Rattle.std.specs.List.{filter_map, find, flat_map, position, take_while}
 use Rattle.std.specs.Str.{bytes_eq}
 use Rattle.fcl_syntax.specs.Tokens.{is_name_byte}

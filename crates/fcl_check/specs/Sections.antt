@@ -1,6 +1,7 @@
 -- The numbers of a section, and the places of the faults that one section has alone. All numbers are in
 -- 1/10000.
-use Rattle.std.specs.Prelude.{ℕ, Bool, false, not, ◌&&◌, ◌||◌, List, [], ◌∷◌, drop, map, Option, Some, None, option_map, is_none, ℤ, pos, neg_ℤ, int_lt}
+use Rattle.std.specs.Prelude.{ℕ, Bool, false, not, ◌&&◌, ◌||◌, List, [], ◌∷◌, drop, map, Option, Some, None, option_map}
+use Rattle.std.specs.Prelude.{is_none, ℤ, pos, neg_ℤ, int_lt}
 use Rattle.std.specs.Int.{int_min, int_max}
 use Rattle.std.specs.List.{filter_map, flat_map, list_all}
 use Rattle.fcl_syntax.specs.declared.token.Amount.{Amount}

@@ -4,7 +4,8 @@ ghost use Rattle.fcl_check.specs.OneBlock.{BlocksAreOne, SpelledBlocksAreOne};
 ghost use Rattle.fcl_check.specs.Courses.{CourseLaw};
 ghost use Rattle.fcl_check.specs.Kept.{NumbersAreKept};
 ghost use Rattle.fcl_check.specs.Order.{PlacesAscend};
-ghost use Rattle.fcl_check.specs.Texts.{EachTextIsJudged, LoadFaultsAreOne, SpelledBlocksAreValid, SpelledTreesHaveBlocks};
+ghost use Rattle.fcl_check.specs.Texts.{EachTextIsJudged, LoadFaultsAreOne, SpelledBlocksAreValid};
+ghost use Rattle.fcl_check.specs.Texts.{SpelledTreesHaveBlocks};
 
 use fcl_syntax::{each_text_is_read, numbers_in_scale, offsets_ascend, trees_are_one};
 

@@ -1,6 +1,7 @@
 //! Which names a tree declares, and what is given twice.
 
-ghost use Rattle.std.specs.Prelude.{◌≡◌, ◌+◌, ◌^◌, ◌<◌, ℕ, List, [], ◌∷◌, ◌++◌, map, cond, Some, None, is_some, option_map, IfOk, IfSome, OnOk};
+ghost use Rattle.std.specs.Prelude.{◌≡◌, ◌+◌, ◌^◌, ◌<◌, ℕ, List, [], ◌∷◌, ◌++◌, map, cond, Some, None, is_some};
+ghost use Rattle.std.specs.Prelude.{option_map, IfOk, IfSome, OnOk};
 ghost use Rattle.std.specs.BTreeMap.{btree_map_len};
 ghost use Rattle.std.specs.List.{flat_map, find, list_any};
 ghost use Rattle.std.specs.Option.{option_or};
@@ -8,10 +9,12 @@ ghost use Rattle.fcl_syntax.specs.declared.tree.Direction.{Direction};
 ghost use Rattle.fcl_syntax.specs.declared.tree.Part.TheVariants as part;
 ghost use Rattle.fcl_syntax.specs.declared.tree.Tree.{Tree};
 ghost use Rattle.fcl_check.specs.ByLetters.{at_letters, variable_in, count_of, names_in, HoldsSections};
-ghost use Rattle.fcl_check.specs.Faults.{Answers, twice, repeated, same_declared, same_kind, same_rule_line, output_line_at, rule_line_at, repeated_lines, repeated_section};
+ghost use Rattle.fcl_check.specs.Faults.{Answers, twice, repeated, same_declared, same_kind, same_rule_line};
+ghost use Rattle.fcl_check.specs.Faults.{output_line_at, rule_line_at, repeated_lines, repeated_section};
 ghost use Rattle.fcl_check.specs.declared.fault.LoadFault.TheVariants as load;
 ghost use Rattle.fcl_check.specs.Known.{Knows};
-ghost use Rattle.fcl_check.specs.Names.{declared_by, declared_in, is_direction, is_named, letters, number_in, section_name, section_of, singleton_names, term_names, term_number};
+ghost use Rattle.fcl_check.specs.Names.{declared_by, declared_in, is_direction, is_named, letters, number_in};
+ghost use Rattle.fcl_check.specs.Names.{section_name, section_of, singleton_names, term_names, term_number};
 ghost use Rattle.fcl_check.specs.Places.{at_if, at_each, first};
 
 use crate::fault::LoadFault;

@@ -13,7 +13,10 @@ ghost use Rattle.fcl_check.specs.Faults.{is_declared_as};
 ghost use Rattle.fcl_check.specs.Known.{Knows};
 ghost use Rattle.fcl_check.specs.Names.{singleton_of, singletons_of, term_of, terms_of};
 ghost use Rattle.fcl_check.specs.Places.{at_if, first};
-ghost use Rattle.fcl_check.specs.Sections.{abscissas, bad_range, defuzzy_range, empty_range, falling_in, falling_points, fuzzy_range, has_shape, hull_of, lies_in, number_line, numbers_outside, outside_in, points_of, points_outside, reach, shapeless_terms, terms_over_limit, without_terms, x_of};
+ghost use Rattle.fcl_check.specs.Sections.{abscissas, bad_range, defuzzy_range, empty_range, falling_in};
+ghost use Rattle.fcl_check.specs.Sections.{falling_points, fuzzy_range, has_shape, hull_of, lies_in, number_line};
+ghost use Rattle.fcl_check.specs.Sections.{numbers_outside, outside_in, points_of, points_outside, reach};
+ghost use Rattle.fcl_check.specs.Sections.{shapeless_terms, terms_over_limit, without_terms, x_of};
 
 use crate::names::Names;
 use crate::numbers::{Span, is_one, value};

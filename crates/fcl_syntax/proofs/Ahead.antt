@@ -1,5 +1,6 @@
 -- One token and a form, unless the token behind the first is one of some: then the first is refused.
-use Rattle.std.proofs.Common.{◌≡◌, ℕ, suc, ◌+◌, Bool, true, false, List, [], ◌∷◌, ◌++◌, length, Option, Some, None, Result, Ok, Err, refl, sym, ap, subst, ◌∙◌, arith, inl, inr, ◌⊎◌}
+use Rattle.std.proofs.Common.{◌≡◌, ℕ, suc, ◌+◌, Bool, true, false, List, [], ◌∷◌, ◌++◌, length, Option, Some, None}
+use Rattle.std.proofs.Common.{Result, Ok, Err, refl, sym, ap, subst, ◌∙◌, arith, inl, inr, ◌⊎◌}
 use Rattle.std.proofs.lemmas.List.{append-nil}
 use Rattle.fcl_syntax.specs.declared.fault.Fault.{Fault}
 use Rattle.fcl_syntax.specs.declared.fault.Kind.{Kind}
@@ -24,7 +25,8 @@ pub record Ahead (Y : Type 0) : Type 0 where
 abbrev pub refused : Kind
 refused = Unsupported 12
 
-abbrev pub to_inl : {A B Y : Type 0} → A → Result (B × List Token) Fault → Result (((A × B) ⊎ (A × Y)) × List Token) Fault
+abbrev pub to_inl : {A B Y : Type 0} → A → Result (B × List Token) Fault
+    → Result (((A × B) ⊎ (A × Y)) × List Token) Fault
 to_inl a r = r >>= λ b. Ok (inl (a, b.0), b.1)
 
 module _ {A B Y : Type 0} (c : Single A) (d : Ahead Y) (q : Form B) where
@@ -39,11 +41,13 @@ module _ {A B Y : Type 0} (c : Single A) (d : Ahead Y) (q : Form B) where
   ahead_read ts = one_at c.want ts >>= ahead_rest
 
 module _ {A B Y : Type 0} (c : Single A) (d : Ahead Y) (q : Form B) (apart : disjoint d.among q.first ≡ true) where
-  pub ahead_begins : (t : (A × B) ⊎ (A × Y)) (rest : List Token) → Starts c.among (tokens_of (ahead_text c d q t) ++ rest)
+  pub ahead_begins : (t : (A × B) ⊎ (A × Y)) (rest : List Token)
+      → Starts c.among (tokens_of (ahead_text c d q t) ++ rest)
   ahead_begins (inl t) rest = c.classes t.0
   ahead_begins (inr t) rest = c.classes t.0
 
-  unless_ok : {T : Type 0} (b : Bool) (e : Fault) (r : Result T Fault) (y : T) → unless b e r ≡ Ok y → (b ≡ false) × (r ≡ Ok y)
+  unless_ok : {T : Type 0} (b : Bool) (e : Fault) (r : Result T Fault) (y : T) → unless b e r ≡ Ok y
+      → (b ≡ false) × (r ≡ Ok y)
   unless_ok true e r y h = absurd cc
   unless_ok false e r y h = (refl, h)
 
@@ -51,7 +55,8 @@ module _ {A B Y : Type 0} (c : Single A) (d : Ahead Y) (q : Form B) (apart : dis
       → Stands (ahead_text c d q) q.goes ts t rest
   ahead_stands ts t rest e =
       let x = bind_ok (one_at c.want ts) (ahead_rest c d q) (t, rest) e in
-      let u = unless_ok (starts d.among x.0.1) (fault_at refused (suc (length x.0.1))) (to_inl x.0.0 (q.read x.0.1)) (t, rest) x.2 in
+      let u = unless_ok (starts d.among x.0.1) (fault_at refused (suc (length x.0.1))) (to_inl x.0.0 (q.read x.0.1))
+      (t, rest) x.2 in
       let y = bind_ok (q.read x.0.1) (λ b. Ok (inl (x.0.0, b.0), b.1)) (t, rest) u.1 in
       let s = one_stands c ts x.0.0 x.0.1 x.1 in
       let r = q.stands x.0.1 y.0.0 y.0.1 y.1 in
@@ -61,9 +66,11 @@ module _ {A B Y : Type 0} (c : Single A) (d : Ahead Y) (q : Form B) (apart : dis
         clean = (refl, r.clean);
         stops = r.stops;
       } in
-      subst (λ (z : ((A × B) ⊎ (A × Y)) × List Token). Stands (ahead_text c d q) q.goes ts z.0 z.1) (ok_is made (t, rest) y.2) whole
+      subst (λ (z : ((A × B) ⊎ (A × Y)) × List Token). Stands (ahead_text c d q) q.goes ts z.0 z.1)
+      (ok_is made (t, rest) y.2) whole
 
-  step : (m : Option Fault) (a : A) (b : B) (rest : List Token) → to_inl {Y = Y} a (answer m b rest) ≡ answer {T = (A × B) ⊎ (A × Y)} m (inl (a, b)) rest
+  step : (m : Option Fault) (a : A) (b : B) (rest : List Token)
+      → to_inl {Y = Y} a (answer m b rest) ≡ answer {T = (A × B) ⊎ (A × Y)} m (inl (a, b)) rest
   step None a b rest = refl
   step (Some e) a b rest = refl
 
@@ -71,7 +78,8 @@ module _ {A B Y : Type 0} (c : Single A) (d : Ahead Y) (q : Form B) (apart : dis
   read_one a l = rw (c.forth a) refl
 
   pub ahead_again : (t : (A × B) ⊎ (A × Y)) (rest : List Token) → Stops q.goes rest
-      → ahead_read c d q (tokens_of (ahead_text c d q t) ++ rest) ≡ answer (first_annotation (ahead_text c d q t) (length rest)) t rest
+      → ahead_read c d q (tokens_of (ahead_text c d q t) ++ rest) ≡ answer
+      (first_annotation (ahead_text c d q t) (length rest)) t rest
   ahead_again (inl t) rest stops =
       let after : List Token = tokens_of (q.text t.1) ++ rest in
       ap (λ (r : Result (A × List Token) Fault). r >>= ahead_rest c d q) (read_one t.0 after)
@@ -83,21 +91,26 @@ module _ {A B Y : Type 0} (c : Single A) (d : Ahead Y) (q : Form B) (apart : dis
       let after : List Token = d.token t.1 ∷ rest in
       let len : suc (length rest) ≡ 1 + length rest = omega arith in
       ap (λ (r : Result (A × List Token) Fault). r >>= ahead_rest c d q) (read_one t.0 after)
-      ∙ ap (λ (b : Bool). unless b (fault_at refused (suc (length after))) (to_inl {Y = Y} t.0 (q.read after))) (d.classes t.1)
+      ∙ ap (λ (b : Bool). unless b (fault_at refused (suc (length after))) (to_inl {Y = Y} t.0 (q.read after)))
+      (d.classes t.1)
       ∙ ap (λ (n : ℕ). Err (fault_at refused (suc n))) len
 
-  ahead_first : (ts : List Token) (e : Fault) → Fails (one_text c) (one_at c.want) ts e → Fails (ahead_text c d q) (ahead_read c d q) ts e
+  ahead_first : (ts : List Token) (e : Fault) → Fails (one_text c) (one_at c.want) ts e
+      → Fails (ahead_text c d q) (ahead_read c d q) ts e
   ahead_first ts e f = record {
     front = f.front;
     bad = f.bad;
     parts = f.parts;
     left = f.left;
-    viable = Viable-in (one_text c) (ahead_text c d q) f.front [] (λ a. inl (a, q.some)) (λ a. q.text q.some) (λ a. refl) tt (λ a. q.some_clean) f.viable;
-    shows = Shows-in (one_text c) (ahead_text c d q) e.kind f.front f.bad [] (λ a. inl (a, q.some)) (λ a. q.text q.some) (λ a. refl) f.shows;
+    viable = Viable-in (one_text c) (ahead_text c d q) f.front [] (λ a. inl (a, q.some)) (λ a. q.text q.some)
+        (λ a. refl) tt (λ a. q.some_clean) f.viable;
+    shows = Shows-in (one_text c) (ahead_text c d q) e.kind f.front f.bad [] (λ a. inl (a, q.some)) (λ a. q.text q.some)
+        (λ a. refl) f.shows;
     local = λ b same. ap (λ (r : Result (A × List Token) Fault). r >>= ahead_rest c d q) (f.local b same);
   }
 
-  ahead_here : (a : A) (rest : List Token) → starts d.among rest ≡ true → Fails (ahead_text c d q) (ahead_read c d q) (c.make a ∷ rest)
+  ahead_here : (a : A) (rest : List Token) → starts d.among rest ≡ true
+      → Fails (ahead_text c d q) (ahead_read c d q) (c.make a ∷ rest)
       (fault_at refused (suc (length rest)))
   ahead_here a [] h = absurd cc
   ahead_here a (x ∷ rest) h =
@@ -107,7 +120,13 @@ module _ {A B Y : Type 0} (c : Single A) (d : Ahead Y) (q : Form B) (apart : dis
         bad = c.make a ∷ x ∷ rest;
         parts = refl;
         left = refl;
-        viable = record { tree = inl (a, q.some); more = c.make a ∷ tokens_of (q.text q.some); clean = (refl, q.some_clean); parts = refl };
+        viable = record {
+          tree = inl (a, q.some);
+          more = c.make a ∷ tokens_of (q.text q.some);
+          clean =
+              (refl, q.some_clean);
+          parts = refl;
+        };
         shows = record {
           tree = inr (a, y.0);
           before = [];
@@ -120,7 +139,8 @@ module _ {A B Y : Type 0} (c : Single A) (d : Ahead Y) (q : Form B) (apart : dis
         local = at;
       }
     where
-      at : (b : List Token) → SameHead refused (c.make a ∷ x ∷ rest) b → ahead_read c d q b ≡ Err (fault_at refused (length b))
+      at : (b : List Token) → SameHead refused (c.make a ∷ x ∷ rest) b
+          → ahead_read c d q b ≡ Err (fault_at refused (length b))
       at [] s = absurd s
       at (z ∷ []) s = absurd (s.1)
       at (z ∷ w ∷ b) s =
@@ -129,7 +149,8 @@ module _ {A B Y : Type 0} (c : Single A) (d : Ahead Y) (q : Form B) (apart : dis
           ∙ ap (λ (t : Bool). unless t (fault_at refused (suc (length (w ∷ b)))) (to_inl {Y = Y} a (q.read (w ∷ b))))
           (subst (λ (v : Token). mem (class_of v) d.among ≡ true) s.1 h)
 
-  ahead_second : (ts : List Token) (e : Fault) (a : A) (rest : List Token) → Stands (one_text c) [] ts a rest → starts d.among rest ≡ false
+  ahead_second : (ts : List Token) (e : Fault) (a : A) (rest : List Token) → Stands (one_text c) [] ts a rest
+      → starts d.among rest ≡ false
       → Fails q.text q.read rest e → Fails (ahead_text c d q) (ahead_read c d q) ts e
   ahead_second ts e a rest s not_so f = record {
     front = c.make a ∷ f.front;
@@ -152,7 +173,8 @@ module _ {A B Y : Type 0} (c : Single A) (d : Ahead Y) (q : Form B) (apart : dis
   inner_err (Ok x) a e h = absurd cc
   inner_err (Err f) a e h = cc
 
-  pub ahead_fails : (ts : List Token) (e : Fault) → ahead_read c d q ts ≡ Err e → Fails (ahead_text c d q) (ahead_read c d q) ts e
+  pub ahead_fails : (ts : List Token) (e : Fault) → ahead_read c d q ts ≡ Err e
+      → Fails (ahead_text c d q) (ahead_read c d q) ts e
   ahead_fails ts e h =
       elim (bind_err (one_at c.want ts) (ahead_rest c d q) e h) [
         | inl first ↦ ahead_first ts e (one_fails c ts e first)
@@ -160,10 +182,12 @@ module _ {A B Y : Type 0} (c : Single A) (d : Ahead Y) (q : Form B) (apart : dis
       ]
     where
       second : (a : A) (rest : List Token) → Stands (one_text c) [] ts a rest → (b : Bool) → starts d.among rest ≡ b
-          → unless b (fault_at refused (suc (length rest))) (to_inl {Y = Y} a (q.read rest)) ≡ Err e → Fails (ahead_text c d q) (ahead_read c d q) ts e
+          → unless b (fault_at refused (suc (length rest))) (to_inl {Y = Y} a (q.read rest)) ≡ Err e
+          → Fails (ahead_text c d q) (ahead_read c d q) ts e
       second a rest s true w h =
           let is : fault_at refused (suc (length rest)) ≡ e = cc in
-          subst (Fails (ahead_text c d q) (ahead_read c d q) ts) is (subst (λ (l : List Token). Fails (ahead_text c d q) (ahead_read c d q) l
+          subst (Fails (ahead_text c d q) (ahead_read c d q) ts) is
+          (subst (λ (l : List Token). Fails (ahead_text c d q) (ahead_read c d q) l
           (fault_at refused (suc (length rest)))) (sym s.parts) (ahead_here a rest w))
       second a rest s false w h = ahead_second ts e a rest s w (q.fails rest e (inner_err (q.read rest) a e h))
 

@@ -1,5 +1,6 @@
 -- Laws of texts with annotations, and of sequences.
-use Rattle.std.proofs.Common.{◌≡◌, ℕ, suc, ◌+◌, Bool, true, false, cond, eqb, List, [], ◌∷◌, ◌++◌, length, Option, Some, None, Result, Ok, Err, refl, ap, subst, arith, inl, inr, ◌⊎◌}
+use Rattle.std.proofs.Common.{◌≡◌, ℕ, suc, ◌+◌, Bool, true, false, cond, eqb, List, [], ◌∷◌, ◌++◌, length, Option, Some}
+use Rattle.std.proofs.Common.{None, Result, Ok, Err, refl, ap, subst, arith, inl, inr, ◌⊎◌}
 use Rattle.std.proofs.lemmas.Bool.{eqb-true}
 use Rattle.std.proofs.lemmas.List.{length-append}
 use Rattle.fcl_syntax.specs.declared.fault.Fault.{Fault}
@@ -11,11 +12,13 @@ use Rattle.fcl_syntax.specs.First.{looks_on, SameNext, SameHead}
 use Rattle.fcl_syntax.specs.Readers.{◌>>=◌}
 use Rattle.fcl_syntax.proofs.Form.{disjoint, Stops, Starts, annotation_at, first_annotation, or_else}
 
-pub bind_ok : {A B : Type 0} (r : Result A Fault) (f : A → Result B Fault) (y : B) → (r >>= f) ≡ Ok y → (x : A) × (r ≡ Ok x) × (f x ≡ Ok y)
+pub bind_ok : {A B : Type 0} (r : Result A Fault) (f : A → Result B Fault) (y : B) → (r >>= f) ≡ Ok y
+    → (x : A) × (r ≡ Ok x) × (f x ≡ Ok y)
 bind_ok (Ok x) f y e = (x, refl, e)
 bind_ok (Err d) f y e = absurd cc
 
-pub bind_err : {A B : Type 0} (r : Result A Fault) (f : A → Result B Fault) (d : Fault) → (r >>= f) ≡ Err d → (r ≡ Err d) ⊎
+pub bind_err : {A B : Type 0} (r : Result A Fault) (f : A → Result B Fault) (d : Fault) → (r >>= f) ≡ Err d
+    → (r ≡ Err d) ⊎
     ((x : A) × (r ≡ Ok x) × (f x ≡ Err d))
 bind_err (Ok x) f d e = inr (x, refl, e)
 bind_err (Err c) f d e = inl cc
@@ -38,15 +41,18 @@ pub IsClean-append : (a b : List Sym) → IsClean a → IsClean b → IsClean (a
 IsClean-append [] b p q = q
 IsClean-append (s ∷ a) b p q = (p.0, IsClean-append a b p.1 q)
 
-annotation_at-or_else : (m : Option Kind) (n : ℕ) (o q : Option Fault) → annotation_at m n (or_else o q) ≡ or_else (annotation_at m n o) q
+annotation_at-or_else : (m : Option Kind) (n : ℕ) (o q : Option Fault)
+    → annotation_at m n (or_else o q) ≡ or_else (annotation_at m n o) q
 annotation_at-or_else None n o q = refl
 annotation_at-or_else (Some k) n o q = refl
 
-pub first_annotation-append : (a b : List Sym) (n : ℕ) → first_annotation (a ++ b) n ≡ or_else (first_annotation a (length b + n)) (first_annotation b n)
+pub first_annotation-append : (a b : List Sym) (n : ℕ)
+    → first_annotation (a ++ b) n ≡ or_else (first_annotation a (length b + n)) (first_annotation b n)
 first_annotation-append [] b n = refl
 first_annotation-append (s ∷ a) b n =
     let e : length (a ++ b) + n ≡ length a + (length b + n) = omega (arith, length-append a b) in
-    rw (e, first_annotation-append a b n) (annotation_at-or_else s.annotation (suc (length a + (length b + n))) (first_annotation a (length b + n))
+    rw (e, first_annotation-append a b n)
+    (annotation_at-or_else s.annotation (suc (length a + (length b + n))) (first_annotation a (length b + n))
     (first_annotation b n))
 
 pub first_annotation-clean : (a : List Sym) (n : ℕ) → IsClean a → first_annotation a n ≡ None
@@ -68,16 +74,19 @@ disjoint-mem [] ys n d h = refl
 disjoint-mem (x ∷ xs) ys n d h =
     let g = cond_false (mem x ys) (disjoint xs ys) d in
     elim (eqb n x) as (λ b. eqb n x ≡ b → cond b true (mem n xs) ≡ false) [
-      | true ↦ λ e. let same : n ≡ x = eqb-true _ _ e in absurd (let no : mem x ys ≡ true = subst (λ (k : ℕ). mem k ys ≡ true) same h in cc)
+      | true ↦ λ e. let same : n ≡ x = eqb-true _ _ e in
+          absurd (let no : mem x ys ≡ true = subst (λ (k : ℕ). mem k ys ≡ true) same h in cc)
       | false ↦ λ e. disjoint-mem xs ys n g.1 h
     ] refl
 
-pub starts-stops : (goes first : List ℕ) (ts : List Token) → disjoint goes first ≡ true → Starts first ts → Stops goes ts
+pub starts-stops : (goes first : List ℕ) (ts : List Token) → disjoint goes first ≡ true → Starts first ts
+    → Stops goes ts
 starts-stops goes first [] d h = absurd h
 starts-stops goes first (x ∷ xs) d h = disjoint-mem goes first (class_of x) d h
 
 -- whether a rest stops a text does not depend on what its first token is followed by
-pub Stops-same : (k : Kind) (goes : List ℕ) (front bad b : List Token) → SameHead k bad b → Stops goes (front ++ bad) → Stops goes (front ++ b)
+pub Stops-same : (k : Kind) (goes : List ℕ) (front bad b : List Token) → SameHead k bad b → Stops goes (front ++ bad)
+    → Stops goes (front ++ b)
 Stops-same k goes [] [] [] s h = tt
 Stops-same k goes [] [] (y ∷ b) s h = absurd s
 Stops-same k goes [] (x ∷ a) [] s h = absurd s
@@ -90,7 +99,8 @@ SameNext-append true [] c bad s = absurd s
 SameNext-append true (x ∷ a) c [] s = absurd s
 SameNext-append true (x ∷ a) c (y ∷ b) s = s
 
-pub SameHead-append : (k : Kind) (x : Token) (a c bad : List Token) → SameHead k (x ∷ a) bad → SameHead k (x ∷ (a ++ c)) bad
+pub SameHead-append : (k : Kind) (x : Token) (a c bad : List Token) → SameHead k (x ∷ a) bad
+    → SameHead k (x ∷ (a ++ c)) bad
 SameHead-append k x a c [] s = absurd s
 SameHead-append k x a c (y ∷ b) s = (s.0, SameNext-append (looks_on k) a c b s.1)
 
@@ -102,11 +112,13 @@ cond_both : (b c : Bool) → cond b c false ≡ true → (b ≡ true) × (c ≡ 
 cond_both true c e = (refl, e)
 cond_both false c e = absurd cc
 
-pub included : (xs ys : List ℕ) → subset xs ys ≡ true → (t : Token) → mem (class_of t) xs ≡ true → mem (class_of t) ys ≡ true
+pub included : (xs ys : List ℕ) → subset xs ys ≡ true → (t : Token) → mem (class_of t) xs ≡ true
+    → mem (class_of t) ys ≡ true
 included [] ys s t h = absurd cc
 included (x ∷ xs) ys s t h =
     let g = cond_both (mem x ys) (subset xs ys) s in
-    elim (eqb (class_of t) x) as (λ b. eqb (class_of t) x ≡ b → cond b true (mem (class_of t) xs) ≡ true → mem (class_of t) ys ≡ true) [
+    elim (eqb (class_of t) x) as
+    (λ b. eqb (class_of t) x ≡ b → cond b true (mem (class_of t) xs) ≡ true → mem (class_of t) ys ≡ true) [
       | true ↦ λ e _. let same : class_of t ≡ x = eqb-true _ _ e in rw same g.0
       | false ↦ λ e h. included xs ys g.1 t h
     ] refl h

@@ -1,5 +1,6 @@
 -- The forms of conditions, by how many more "(" and NOT may be open.
-use Rattle.std.proofs.Common.{◌≡◌, ℕ, zero, suc, true, false, List, [], ◌∷◌, ◌++◌, length, Option, Some, None, Ok, refl, sym, ap, ◌∙◌, inl, inr, ◌⊎◌}
+use Rattle.std.proofs.Common.{◌≡◌, ℕ, zero, suc, true, false, List, [], ◌∷◌, ◌++◌, length, Option, Some, None, Ok, refl}
+use Rattle.std.proofs.Common.{sym, ap, ◌∙◌, inl, inr, ◌⊎◌}
 use Rattle.fcl_syntax.specs.declared.fault.Kind.TheVariants.{Deep}
 use Rattle.fcl_syntax.specs.declared.token.Amount.TheVariants as amount
 use Rattle.fcl_syntax.specs.declared.token.Keyword.TheVariants as key
@@ -11,8 +12,10 @@ use Rattle.fcl_syntax.specs.TokenClasses.{class_of, mem, follow_classes, Among, 
 use Rattle.fcl_syntax.specs.Annotations.{Sym, plain, annotated}
 use Rattle.fcl_syntax.specs.Readers.{◌>>=◌, loop}
 use Rattle.fcl_syntax.proofs.Form.{disjoint, Form}
-use Rattle.fcl_syntax.specs.Grammar.{TNot, neg, group, is, lone, TNots, no_nots, more_nots, TAnd, and_of, TAnds, no_ands, more_ands, TOr, or_of, not_text, nots_text, and_text, ands_text, or_text}
-use Rattle.fcl_syntax.specs.Reading.{key_at, name_at, not_word_at, operand_at, conjunct_in, and_in, alternative_in, or_in, neg_in, group_in, opened_in, not_at}
+use Rattle.fcl_syntax.specs.Grammar.{TNot, neg, group, is, lone, TNots, no_nots, more_nots, TAnd, and_of, TAnds}
+use Rattle.fcl_syntax.specs.Grammar.{no_ands, more_ands, TOr, or_of, not_text, nots_text, and_text, ands_text, or_text}
+use Rattle.fcl_syntax.specs.Reading.{key_at, name_at, not_word_at, operand_at, conjunct_in, and_in, alternative_in}
+use Rattle.fcl_syntax.specs.Reading.{or_in, neg_in, group_in, opened_in, not_at}
 use Rattle.fcl_syntax.specs.View.{nots_of, ands_of}
 use Rattle.fcl_syntax.proofs.Ahead.{Ahead, ahead}
 use Rattle.fcl_syntax.proofs.Chains.{bind_assoc, bind_cond, chain2}
@@ -27,7 +30,13 @@ use Rattle.fcl_syntax.proofs.Seq.{seq}
 -- ---- name IS [NOT] name
 
 abbrev pub follow_ahead : Ahead (Among follow_classes)
-follow_ahead = record { among = follow_classes; token = λ f. f.token; classes = λ f. f.is; cover = λ y h. (record { token = y; is = h }, refl) }
+follow_ahead = record {
+  among = follow_classes;
+  token = λ f. f.token;
+  classes = λ f. f.is;
+  cover =
+      λ y h. (record { token = y; is = h }, refl);
+}
 
 abbrev pub TermRaw : Type 0
 TermRaw = (ℕ × Name) ⊎ Name
@@ -128,7 +137,8 @@ module _ (n : ℕ) (p : Part n) where
   and_seq = then_rep inner conjunct_form (apart_one 23) refl
 
   pub and_same : (t : TNot × List (ℕ × TNot)) → and_text (to_and t) n ≡ and_seq.text t
-  and_same t = ap (λ (l : List Sym). l ++ nots_text (nots_of t.1) n) (sym (p.text t.0)) ∙ ap (λ (l : List Sym). p.form.text t.0 ++ l) (nots_same t.1)
+  and_same t = ap (λ (l : List Sym). l ++ nots_text (nots_of t.1) n) (sym (p.text t.0))
+      ∙ ap (λ (l : List Sym). p.form.text t.0 ++ l) (nots_same t.1)
 
   abbrev pub and_raw : Form TAnd
   and_raw = via and_seq to_and from_and (λ a. and_text a n) and_round and_same
@@ -171,7 +181,8 @@ module _ (n : ℕ) (p : Part n) where
 
   pub or_is : (ts : List Token) → or_in (not_at n) ts ≡ or_raw.read ts
   unfolding or_in
-  or_is ts = chain2 (and_in (not_at n)) (λ l. loop (keyword_class key.Or ∷ []) (alternative_in (not_at n)) (length l) l) to_or ts
+  or_is ts = chain2 (and_in (not_at n))
+      (λ l. loop (keyword_class key.Or ∷ []) (alternative_in (not_at n)) (length l) l) to_or ts
 
   abbrev pub or_form : Form TOr
   or_form = named or_raw (or_in (not_at n)) or_is
@@ -181,7 +192,8 @@ module _ (n : ℕ) (p : Part n) where
   OpenedRaw = (ℕ × TNot) ⊎ (ℕ × (TOr × Unit {0}))
 
   abbrev pub opened_form : Form OpenedRaw
-  opened_form = either (seq (key_form key.Not) inner refl) (seq open_form (seq or_form (bare_form tok.Close refl) (rw p.goes refl)) refl) refl p.goes
+  opened_form = either (seq (key_form key.Not) inner refl)
+      (seq open_form (seq or_form (bare_form tok.Close refl) (rw p.goes refl)) refl) refl p.goes
 
   abbrev pub part_raw : Form (OpenedRaw ⊎ OperandRaw)
   part_raw = either opened_form operand_raw refl refl
@@ -214,7 +226,8 @@ operand_same n (inl (v, (i, inr t))) = refl
 operand_same n (inr t) = refl
 
 module _ (n : ℕ) (p : Part n) where
-  pub part_same : (t : ((ℕ × TNot) ⊎ (ℕ × (TOr × Unit {0}))) ⊎ OperandRaw) → not_text (to_part t) (suc n) ≡ (part_raw n p).text t
+  pub part_same : (t : ((ℕ × TNot) ⊎ (ℕ × (TOr × Unit {0}))) ⊎ OperandRaw)
+      → not_text (to_part t) (suc n) ≡ (part_raw n p).text t
   part_same (inl (inl t)) = ap (λ (l : List Sym). plain (tok.Word t.0 key.Not) ∷ l) (sym (p.text t.1))
   part_same (inl (inr t)) = refl
   part_same (inr t) = operand_same (suc n) t
@@ -322,7 +335,8 @@ deep_dead = record {
 }
 
 abbrev pub last_raw : Form (((ℕ × TNot) ⊎ (ℕ × TOr)) ⊎ OperandRaw)
-last_raw = dead_or deep_dead operand_raw refl (keyword_class key.Not ∷ class_of (tok.Open 0) ∷ operand_raw.first) (in_left opener_classes operand_raw.first)
+last_raw = dead_or deep_dead operand_raw refl (keyword_class key.Not ∷ class_of (tok.Open 0) ∷ operand_raw.first)
+    (in_left opener_classes operand_raw.first)
     (in_right opener_classes operand_raw.first)
 
 abbrev pub to_last : ((ℕ × TNot) ⊎ (ℕ × TOr)) ⊎ OperandRaw → TNot

@@ -1,5 +1,6 @@
 -- Runs, fronts and first occurrences in lists of bytes.
-use Rattle.std.proofs.Common.{◌≡◌, ℕ, suc, ◌+◌, ◌≤◌, Bool, true, false, cond, List, [], ◌∷◌, ◌++◌, length, take, drop, Option, Some, None, refl, sym, ap, subst, ◌∙◌, arith}
+use Rattle.std.proofs.Common.{◌≡◌, ℕ, suc, ◌+◌, ◌≤◌, Bool, true, false, cond, List, [], ◌∷◌, ◌++◌, length, take, drop}
+use Rattle.std.proofs.Common.{Option, Some, None, refl, sym, ap, subst, ◌∙◌, arith}
 use Rattle.std.specs.Prelude.{◌==◌, if◌then◌else◌}
 use Rattle.std.specs.List.{list_all, prefix_len, take_while}
 use Rattle.std.proofs.lemmas.Bool.{and_parts, eqb-true}
@@ -20,13 +21,15 @@ same_front a b x y e len = (
 -- of two fronts the longer begins with the other
 pub begins_with : (a b x y : List ℕ) → a ++ x ≡ b ++ y → length a ≤ length b → (c : List ℕ) × (b ≡ a ++ c)
 begins_with a b x y e len =
-    let front : take (length a) b ≡ a = sym (take-append-le (length a) b y len) ∙ ap (take (length a)) (sym e) ∙ take-append_seam a x in
+    let front : take (length a) b ≡ a = sym (take-append-le (length a) b y len) ∙ ap (take (length a)) (sym e)
+    ∙ take-append_seam a x in
     (drop (length a) b, sym (take-append-drop (length a) b) ∙ ap (λ (l : List ℕ). l ++ drop (length a) b) front)
 
 -- ---- runs
 
 -- all pass, so the run at the front is as long at least
-pub all_in_run : (p : ℕ → Bool) (front behind : List ℕ) → list_all p front ≡ true → length front ≤ prefix_len p (front ++ behind)
+pub all_in_run : (p : ℕ → Bool) (front behind : List ℕ) → list_all p front ≡ true
+    → length front ≤ prefix_len p (front ++ behind)
 all_in_run p [] behind h = omega arith
 all_in_run p (x ∷ front) behind h =
     let parts = and_parts (p x) (list_all p front) h in
@@ -47,15 +50,18 @@ run_is p bytes = length-prefix_len p bytes
 
 pub run_passes : (p : ℕ → Bool) (bytes : List ℕ) → list_all p (take_while p bytes) ≡ true
 run_passes p [] = refl
-run_passes p (x ∷ xs) = subst (λ (l : List ℕ). list_all p l ≡ true) (sym (take_while-cons p x xs)) (go (p x) refl (run_passes p xs))
+run_passes p (x ∷ xs) =
+    subst (λ (l : List ℕ). list_all p l ≡ true) (sym (take_while-cons p x xs)) (go (p x) refl (run_passes p xs))
   where
-    go : (b : Bool) → p x ≡ b → list_all p (take_while p xs) ≡ true → list_all p (cond b (x ∷ take_while p xs) []) ≡ true
+    go : (b : Bool) → p x ≡ b → list_all p (take_while p xs) ≡ true
+        → list_all p (cond b (x ∷ take_while p xs) []) ≡ true
     go true e more = rw e more
     go false e more = refl
 
 -- the run at the front, and what is behind it
 pub run_splits : (p : ℕ → Bool) (bytes : List ℕ) → bytes ≡ take_while p bytes ++ drop (run p bytes) bytes
-run_splits p bytes = sym (take-append-drop (prefix_len p bytes) bytes) ∙ ap (λ (n : ℕ). take_while p bytes ++ drop n bytes) (sym (run_is p bytes))
+run_splits p bytes = sym (take-append-drop (prefix_len p bytes) bytes)
+    ∙ ap (λ (n : ℕ). take_while p bytes ++ drop n bytes) (sym (run_is p bytes))
 
 -- ---- the end of a comment
 
@@ -75,8 +81,10 @@ pub record EndHere (a : ℕ) (bytes : List ℕ) : Type 0 where
 ends_here : (a : ℕ) (bytes : List ℕ) → (if a == 42 then starts_close bytes else false) ≡ true → EndHere a bytes
 ends_here a bytes h = go (a == 42) bytes refl h
   where
-    go : (b : Bool) (bytes : List ℕ) → (a == 42) ≡ b → (if b then starts_close bytes else false) ≡ true → EndHere a bytes
-    go true (c ∷ rest) e h = record { rest = rest; star = eqb-true a 42 e; close = ap (λ (n : ℕ). n ∷ rest) (eqb-true c 41 h) }
+    go : (b : Bool) (bytes : List ℕ) → (a == 42) ≡ b → (if b then starts_close bytes else false) ≡ true
+        → EndHere a bytes
+    go true (c ∷ rest) e h =
+        record { rest = rest; star = eqb-true a 42 e; close = ap (λ (n : ℕ). n ∷ rest) (eqb-true c 41 h) }
     go true [] e h = absurd cc
     go false bytes e h = absurd cc
 
@@ -97,7 +105,8 @@ unfolding tail_of
 same_tail a b x y e = ap tail_of e
 
 -- an end at the very front is found there
-not_here : (a : ℕ) (bytes after : List ℕ) → (if a == 42 then starts_close bytes else false) ≡ false → a ∷ bytes ≡ 42 ∷ 41 ∷ after → ⊥
+not_here : (a : ℕ) (bytes after : List ℕ) → (if a == 42 then starts_close bytes else false) ≡ false
+    → a ∷ bytes ≡ 42 ∷ 41 ∷ after → ⊥
 not_here a bytes after h e =
     let star : a ≡ 42 = same_head a 42 bytes (41 ∷ after) e in
     let close : bytes ≡ 41 ∷ after = same_tail a 42 bytes (41 ∷ after) e in
@@ -118,7 +127,8 @@ pub comment_ends : (bytes : List ℕ) (n : ℕ) → comment_end bytes ≡ Some n
 comment_ends [] n h = absurd cc
 comment_ends (a ∷ bytes) n h = go (comment_ends bytes) (if a == 42 then starts_close bytes else false) refl h
   where
-    go : ((n : ℕ) → comment_end bytes ≡ Some n → FirstEnd bytes n) → (b : Bool) → (if a == 42 then starts_close bytes else false) ≡ b
+    go : ((n : ℕ) → comment_end bytes ≡ Some n → FirstEnd bytes n) → (b : Bool)
+        → (if a == 42 then starts_close bytes else false) ≡ b
         → (if b then Some 2 else shifted 1 (comment_end bytes)) ≡ Some n → FirstEnd (a ∷ bytes) n
     go again true e h =
         let here = ends_here a bytes e in
@@ -137,20 +147,25 @@ comment_ends (a ∷ bytes) n h = go (comment_ends bytes) (if a == 42 then starts
           behind = f.behind;
           parts = ap (λ (l : List ℕ). a ∷ l) f.parts;
           len = omega (arith, f.len, found.2);
-          first = λ before after k. elim before as (λ (before : List ℕ). a ∷ bytes ≡ before ++ (42 ∷ 41 ∷ after) → suc (length f.inside) ≤ length before) [
-            | [] ↦ λ k. absurd (not_here a bytes after e k)
-            | x ∷ more ↦ λ k. omega (arith, f.first more after (same_tail a x bytes (more ++ (42 ∷ 41 ∷ after)) k))
-          ] k;
+          first = λ before after k. elim before as
+              (λ (before : List ℕ). a ∷ bytes ≡ before ++ (42 ∷ 41 ∷ after) → suc (length f.inside) ≤ length before) [
+                | [] ↦ λ k. absurd (not_here a bytes after e k)
+                | x ∷ more ↦ λ k. omega (arith, f.first more after (same_tail a x bytes (more ++ (42 ∷ 41 ∷ after)) k))
+              ] k;
         }
 
-pub comment_open : (bytes : List ℕ) → comment_end bytes ≡ None → (before after : List ℕ) → bytes ≡ before ++ (42 ∷ 41 ∷ after) → ⊥
+pub comment_open : (bytes : List ℕ) → comment_end bytes ≡ None → (before after : List ℕ)
+    → bytes ≡ before ++ (42 ∷ 41 ∷ after) → ⊥
 comment_open [] h [] after e = absurd cc
 comment_open [] h (x ∷ before) after e = absurd cc
-comment_open (a ∷ bytes) h before after e = go (comment_open bytes) (if a == 42 then starts_close bytes else false) refl h before e
+comment_open (a ∷ bytes) h before after e =
+    go (comment_open bytes) (if a == 42 then starts_close bytes else false) refl h before e
   where
     go : (comment_end bytes ≡ None → (before after : List ℕ) → bytes ≡ before ++ (42 ∷ 41 ∷ after) → ⊥) → (b : Bool)
-        → (if a == 42 then starts_close bytes else false) ≡ b → (if b then Some 2 else shifted 1 (comment_end bytes)) ≡ None → (before : List ℕ) → a ∷
+        → (if a == 42 then starts_close bytes else false) ≡ b
+        → (if b then Some 2 else shifted 1 (comment_end bytes)) ≡ None → (before : List ℕ) → a ∷
         bytes ≡ before ++ (42 ∷ 41 ∷ after) → ⊥
     go again true w h before e = absurd cc
     go again false w h [] e = not_here a bytes after w e
-    go again false w h (x ∷ before) e = again (shifted_none (comment_end bytes) h) before after (same_tail a x bytes (before ++ (42 ∷ 41 ∷ after)) e)
+    go again false w h (x ∷ before) e =
+        again (shifted_none (comment_end bytes) h) before after (same_tail a x bytes (before ++ (42 ∷ 41 ∷ after)) e)

@@ -1,5 +1,6 @@
 -- The lexer's loop.
-use Rattle.std.proofs.Common.{◌≡◌, ℕ, zero, suc, ◌+◌, ◌<◌, ◌≤◌, Bool, true, false, eqb, List, [], ◌∷◌, ◌++◌, length, drop, Ok, Err, refl, sym, ap, ◌∙◌, append_assoc, arith}
+use Rattle.std.proofs.Common.{◌≡◌, ℕ, zero, suc, ◌+◌, ◌<◌, ◌≤◌, Bool, true, false, eqb, List, [], ◌∷◌, ◌++◌, length}
+use Rattle.std.proofs.Common.{drop, Ok, Err, refl, sym, ap, ◌∙◌, append_assoc, arith}
 use Rattle.std.specs.Prelude.{◌||◌}
 use Rattle.std.specs.Char.{is_ascii_digit}
 use Rattle.std.specs.List.{prefix_len}
@@ -29,22 +30,27 @@ cut_begun bytes = record { fuel = length bytes; enough = omega arith; so_far = g
     go (Ok l) = refl
     go (Err e) = refl
 
-pub cut_skips : (ts : List Token) (ats : List ℕ) (at n : ℕ) (bytes : List ℕ) (total : Lexed) → 0 < length bytes → piece.Skip n ≡ piece_of at bytes → 0 < n
+pub cut_skips : (ts : List Token) (ats : List ℕ) (at n : ℕ) (bytes : List ℕ) (total : Lexed) → 0 < length bytes
+    → piece.Skip n ≡ piece_of at bytes → 0 < n
     → Cutting ts ats at bytes total → Cutting ts ats (at + n) (drop n bytes) total
 unfolding lexed
 cut_skips ts ats at n [] total long h pos c = absurd (omega arith)
 cut_skips ts ats at n (b ∷ bytes) total long h pos c = go c.fuel c.enough c.so_far
   where
-    go : (fuel : ℕ) → length (b ∷ bytes) ≤ fuel → fronted ts ats (lexed fuel at (b ∷ bytes)) ≡ total → Cutting ts ats (at + n) (drop n (b ∷ bytes)) total
+    go : (fuel : ℕ) → length (b ∷ bytes) ≤ fuel → fronted ts ats (lexed fuel at (b ∷ bytes)) ≡ total
+        → Cutting ts ats (at + n) (drop n (b ∷ bytes)) total
     go zero enough e = absurd (omega arith)
     go (suc fuel) enough e = record {
       fuel = fuel;
       enough = omega (arith, length-drop n (b ∷ bytes));
-      so_far = ap (λ (p : Piece). fronted ts ats (next_piece at p (λ n. lexed fuel (at + n) (drop n (b ∷ bytes))))) h ∙ e;
+      so_far = ap (λ (p : Piece). fronted ts ats (next_piece at p (λ n. lexed fuel (at + n) (drop n (b ∷ bytes))))) h
+          ∙ e;
     }
 
-pub cut_takes : (ts : List Token) (ats : List ℕ) (at n : ℕ) (t : Token) (bytes : List ℕ) (total : Lexed) → 0 < length bytes
-    → piece.Token t n ≡ piece_of at bytes → 0 < n → Cutting ts ats at bytes total → Cutting (ts ++ t ∷ []) (ats ++ at ∷ []) (at + n) (drop n bytes) total
+pub cut_takes : (ts : List Token) (ats : List ℕ) (at n : ℕ) (t : Token) (bytes : List ℕ) (total : Lexed)
+    → 0 < length bytes
+    → piece.Token t n ≡ piece_of at bytes → 0 < n → Cutting ts ats at bytes total
+    → Cutting (ts ++ t ∷ []) (ats ++ at ∷ []) (at + n) (drop n bytes) total
 unfolding lexed
 cut_takes ts ats at n t [] total long h pos c = absurd (omega arith)
 cut_takes ts ats at n t (b ∷ bytes) total long h pos c = go c.fuel c.enough c.so_far
@@ -64,17 +70,22 @@ cut_takes ts ats at n t (b ∷ bytes) total long h pos c = go c.fuel c.enough c.
           (next_piece at p (λ n. lexed fuel (at + n) (drop n (b ∷ bytes))))) h ∙ e;
     }
 
-pub cut_fails : (ts : List Token) (ats : List ℕ) (at : ℕ) (k : LexKind) (bytes : List ℕ) (total : Lexed) → 0 < length bytes → piece.Fault k ≡ piece_of at bytes
+pub cut_fails : (ts : List Token) (ats : List ℕ) (at : ℕ) (k : LexKind) (bytes : List ℕ) (total : Lexed)
+    → 0 < length bytes → piece.Fault k ≡ piece_of at bytes
     → Cutting ts ats at bytes total → total ≡ Err (record { kind = k; at = at })
 unfolding lexed
 cut_fails ts ats at k [] total long h c = absurd (omega arith)
 cut_fails ts ats at k (b ∷ bytes) total long h c = go c.fuel c.enough c.so_far
   where
-    go : (fuel : ℕ) → length (b ∷ bytes) ≤ fuel → fronted ts ats (lexed fuel at (b ∷ bytes)) ≡ total → total ≡ Err (record { kind = k; at = at })
+    go : (fuel : ℕ) → length (b ∷ bytes) ≤ fuel → fronted ts ats (lexed fuel at (b ∷ bytes)) ≡ total
+        → total ≡ Err (record { kind = k; at = at })
     go zero enough e = absurd (omega arith)
-    go (suc fuel) enough e = sym e ∙ ap (λ (p : Piece). fronted ts ats (next_piece at p (λ n. lexed fuel (at + n) (drop n (b ∷ bytes))))) (sym h)
+    go (suc fuel) enough e =
+        sym e ∙ ap (λ (p : Piece). fronted ts ats (next_piece at p (λ n. lexed fuel (at + n) (drop n (b ∷ bytes)))))
+        (sym h)
 
-pub cut_done : (ts : List Token) (ats : List ℕ) (at : ℕ) (bytes : List ℕ) (total : Lexed) → length bytes ≡ 0 → Cutting ts ats at bytes total
+pub cut_done : (ts : List Token) (ats : List ℕ) (at : ℕ) (bytes : List ℕ) (total : Lexed) → length bytes ≡ 0
+    → Cutting ts ats at bytes total
     → total ≡ Ok (ts, ats)
 unfolding lexed
 cut_done ts ats at (b ∷ bytes) total nothing c = absurd (omega arith)

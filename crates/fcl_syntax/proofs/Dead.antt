@@ -1,5 +1,6 @@
 -- Annotated choices, and a form seen as another type.
-use Rattle.std.proofs.Common.{◌≡◌, ℕ, ◌+◌, Bool, true, false, List, [], ◌∷◌, ◌++◌, length, Result, Ok, Err, refl, sym, ap, subst, ◌∙◌, arith, inl, inr, ◌⊎◌}
+use Rattle.std.proofs.Common.{◌≡◌, ℕ, ◌+◌, Bool, true, false, List, [], ◌∷◌, ◌++◌, length, Result, Ok, Err, refl, sym}
+use Rattle.std.proofs.Common.{ap, subst, ◌∙◌, arith, inl, inr, ◌⊎◌}
 use Rattle.std.proofs.lemmas.List.{length-append}
 use Rattle.fcl_syntax.specs.declared.fault.Fault.{Fault}
 use Rattle.fcl_syntax.specs.declared.fault.Kind.{Kind}
@@ -11,11 +12,13 @@ use Rattle.fcl_syntax.specs.First.{looks_on, SameNext, SameHead, Shown}
 use Rattle.fcl_syntax.specs.Readers.{cond_read, fault_at, starts}
 use Rattle.fcl_syntax.proofs.Form.{disjoint, Stops, Starts, first_annotation, answer, Stands, Shows, Fails, Form}
 use Rattle.fcl_syntax.proofs.AnnotatedTexts.{length-tokens}
-use Rattle.fcl_syntax.proofs.Small.{seen_as, widen, answer-seen, seen_err, seen_stands, seen_fails, to_right, starts-not, starts-same, bool_cases}
+use Rattle.fcl_syntax.proofs.Small.{seen_as, widen, answer-seen, seen_err, seen_stands, seen_fails, to_right}
+use Rattle.fcl_syntax.proofs.Small.{starts-not, starts-same, bool_cases}
 
 -- ---- a form seen as another type
 
-module _ {A B : Type 0} (p : Form A) (to : A → B) (from : B → A) (text : B → List Sym) (round : (b : B) → to (from b) ≡ b)
+module _ {A B : Type 0} (p : Form A) (to : A → B) (from : B → A) (text : B → List Sym)
+    (round : (b : B) → to (from b) ≡ b)
     (same_text : (a : A) → text (to a) ≡ p.text a) where
   abbrev pub via_read : List Token → Result (B × List Token) Fault
   via_read ts = seen_as to (p.read ts)
@@ -24,17 +27,21 @@ module _ {A B : Type 0} (p : Form A) (to : A → B) (from : B → A) (text : B �
   from_text b = sym (same_text (from b)) ∙ ap text (round b)
 
   pub via_begins : (b : B) (rest : List Token) → Starts p.first (tokens_of (text b) ++ rest)
-  via_begins b rest = subst (λ (l : List Sym). Starts p.first (tokens_of l ++ rest)) (from_text b) (p.begins (from b) rest)
+  via_begins b rest = subst (λ (l : List Sym). Starts p.first (tokens_of l ++ rest)) (from_text b)
+      (p.begins (from b) rest)
 
   pub via_again : (b : B) (rest : List Token) → Stops p.goes rest → via_read (tokens_of (text b) ++ rest) ≡ answer
       (first_annotation (text b) (length rest)) b rest
   via_again b rest stops =
-      subst (λ (l : List Sym). via_read (tokens_of l ++ rest) ≡ answer (first_annotation l (length rest)) b rest) (from_text b)
-      (ap (seen_as to) (p.again (from b) rest stops) ∙ answer-seen to (first_annotation (p.text (from b)) (length rest)) (from b) rest
+      subst (λ (l : List Sym). via_read (tokens_of l ++ rest) ≡ answer (first_annotation l (length rest)) b rest)
+      (from_text b)
+      (ap (seen_as to) (p.again (from b) rest stops)
+      ∙ answer-seen to (first_annotation (p.text (from b)) (length rest)) (from b) rest
       ∙ ap (λ (y : B). answer (first_annotation (p.text (from b)) (length rest)) y rest) (round b))
 
   pub via_fails : (ts : List Token) (e : Fault) → via_read ts ≡ Err e → Fails text via_read ts e
-  via_fails ts e h = seen_fails p to text same_text via_read ts e (p.fails ts e (seen_err to (p.read ts) e h)) (λ b same. refl)
+  via_fails ts e h = seen_fails p to text same_text via_read ts e (p.fails ts e (seen_err to (p.read ts) e h))
+      (λ b same. refl)
 
   abbrev pub via : Form B
   via = record {
@@ -66,7 +73,8 @@ pub record Dead (X : Type 0) : Type 0 where
 abbrev pub unless : {A : Type 0} → Bool → Fault → Result A Fault → Result A Fault
 unless b e r = cond_read b (Err e) r
 
-pub to_shows : {T : Type 0} (text : T → List Sym) (k : Kind) (front bad : List Token) → Shown text k front bad → Shows text k front bad
+pub to_shows : {T : Type 0} (text : T → List Sym) (k : Kind) (front bad : List Token) → Shown text k front bad
+    → Shows text k front bad
 to_shows text Expected front bad s = tt
 to_shows text Deep front bad s = s
 to_shows text (Unsupported n) front bad s = s
@@ -86,32 +94,39 @@ module _ {X A : Type 0} (d : Dead X) (p : Form A) (apart : disjoint d.among p.fi
     (first_dead : (x : Token) → mem (class_of x) d.among ≡ true → mem (class_of x) first ≡ true)
     (first_right : (x : Token) → mem (class_of x) p.first ≡ true → mem (class_of x) first ≡ true) where
   pub dead_begins : (t : X ⊎ A) (rest : List Token) → Starts first (tokens_of (dead_text d p t) ++ rest)
-  dead_begins (inl x) rest = subst (λ (l : List Sym). Starts first (tokens_of l ++ rest)) (sym (d.is x)) (first_dead (d.head x) (d.classes x))
+  dead_begins (inl x) rest =
+      subst (λ (l : List Sym). Starts first (tokens_of l ++ rest)) (sym (d.is x)) (first_dead (d.head x) (d.classes x))
   dead_begins (inr a) rest = widen first p.first (tokens_of (p.text a) ++ rest) first_right (p.begins a rest)
 
-  unless_ok : (b : Bool) (e : Fault) (r : Result ((X ⊎ A) × List Token) Fault) (y : (X ⊎ A) × List Token) → unless b e r ≡ Ok y → r ≡ Ok y
+  unless_ok : (b : Bool) (e : Fault) (r : Result ((X ⊎ A) × List Token) Fault) (y : (X ⊎ A) × List Token)
+      → unless b e r ≡ Ok y → r ≡ Ok y
   unless_ok true e r y h = absurd cc
   unless_ok false e r y h = h
 
-  pub dead_stands : (ts : List Token) (t : X ⊎ A) (rest : List Token) → dead_read d p ts ≡ Ok (t, rest) → Stands (dead_text d p) p.goes ts t rest
+  pub dead_stands : (ts : List Token) (t : X ⊎ A) (rest : List Token) → dead_read d p ts ≡ Ok (t, rest)
+      → Stands (dead_text d p) p.goes ts t rest
   dead_stands ts t rest e =
       seen_stands p (λ a. inr a) (dead_text d p) (λ a. refl) ts t rest
       (unless_ok (starts d.among ts) (fault_at d.kind (length ts)) (to_right (p.read ts)) (t, rest) e)
 
-  pub dead_again : (t : X ⊎ A) (rest : List Token) → Stops p.goes rest → dead_read d p (tokens_of (dead_text d p t) ++ rest) ≡ answer
+  pub dead_again : (t : X ⊎ A) (rest : List Token) → Stops p.goes rest
+      → dead_read d p (tokens_of (dead_text d p t) ++ rest) ≡ answer
       (first_annotation (dead_text d p t) (length rest)) t rest
   dead_again (inl x) rest stops =
-      subst (λ (l : List Sym). dead_read d p (tokens_of l ++ rest) ≡ answer (first_annotation l (length rest)) (inl x) rest) (sym (d.is x))
+      subst (λ (l : List Sym). dead_read d p (tokens_of l ++ rest) ≡ answer (first_annotation l (length rest))
+      (inl x) rest) (sym (d.is x))
       (let len : length (tokens_of (d.tail x) ++ rest) ≡ length (d.tail x) + length rest = omega
       (arith, length-append (tokens_of (d.tail x)) rest, length-tokens (d.tail x)) in
       rw (d.classes x, len) refl)
   dead_again (inr a) rest stops =
       let ts : List Token = tokens_of (p.text a) ++ rest in
-      ap (λ (b : Bool). unless b (fault_at d.kind (length ts)) (to_right {A = X} (p.read ts))) (starts-not d.among p.first ts apart (p.begins a rest))
+      ap (λ (b : Bool). unless b (fault_at d.kind (length ts)) (to_right {A = X} (p.read ts)))
+      (starts-not d.among p.first ts apart (p.begins a rest))
       ∙ ap (λ (r : Result (A × List Token) Fault). to_right {A = X} r) (p.again a rest stops)
       ∙ answer-seen {B = X ⊎ A} (λ (x : A). inr x) (first_annotation (p.text a) (length rest)) a rest
 
-  dead_here : (ts : List Token) → starts d.among ts ≡ true → Fails (dead_text d p) (dead_read d p) ts (fault_at d.kind (length ts))
+  dead_here : (ts : List Token) → starts d.among ts ≡ true
+      → Fails (dead_text d p) (dead_read d p) ts (fault_at d.kind (length ts))
   dead_here [] h = absurd cc
   dead_here (y ∷ ts) h =
       let c = d.cover y h in
@@ -137,7 +152,8 @@ module _ {X A : Type 0} (d : Dead X) (p : Form A) (apart : disjoint d.among p.fi
       at [] s = absurd s
       at (z ∷ b) s = rw (subst (λ (w : Token). mem (class_of w) d.among ≡ true) s.0 h) refl
 
-  right_fails : (ts : List Token) (e : Fault) → starts d.among ts ≡ false → Fails p.text p.read ts e → Fails (dead_text d p) (dead_read d p) ts e
+  right_fails : (ts : List Token) (e : Fault) → starts d.among ts ≡ false → Fails p.text p.read ts e
+      → Fails (dead_text d p) (dead_read d p) ts e
   right_fails ts e not_so f = seen_fails p (λ a. inr a) (dead_text d p) (λ a. refl) (dead_read d p) ts e f (λ b same.
       ap (λ (c : Bool). unless c (fault_at d.kind (length (f.front ++ b))) (to_right {A = X} (p.read (f.front ++ b))))
       (starts-same d.among e.kind f.front f.bad b same ∙ ap (starts d.among) (sym f.parts) ∙ not_so))
@@ -149,8 +165,10 @@ module _ {X A : Type 0} (d : Dead X) (p : Form A) (apart : disjoint d.among p.fi
   dead_fails ts e h =
       elim (bool_cases (starts d.among ts)) [
         | inl is_so ↦ subst (Fails (dead_text d p) (dead_read d p) ts) (same_err (fault_at d.kind (length ts)) e
-            (subst (λ (b : Bool). unless b (fault_at d.kind (length ts)) (to_right {A = X} (p.read ts)) ≡ Err e) is_so h)) (dead_here ts is_so)
-        | inr not_so ↦ right_fails ts e not_so (p.fails ts e (seen_err {B = X ⊎ A} (λ (x : A). inr x) (p.read ts) e (subst
+            (subst (λ (b : Bool). unless b (fault_at d.kind (length ts)) (to_right {A = X} (p.read ts)) ≡ Err e) is_so
+            h)) (dead_here ts is_so)
+        | inr not_so ↦ right_fails ts e not_so
+            (p.fails ts e (seen_err {B = X ⊎ A} (λ (x : A). inr x) (p.read ts) e (subst
             (λ (b : Bool). unless b (fault_at d.kind (length ts)) (to_right {A = X} (p.read ts)) ≡ Err e) not_so h)))
       ]
 

@@ -1,5 +1,6 @@
 -- A form's reader answers the tree, or the first fault.
-use Rattle.std.proofs.Common.{◌≡◌, ℕ, suc, ◌+◌, ◌≤◌, Bool, true, false, List, [], ◌∷◌, ◌++◌, length, Option, Some, None, Result, Ok, Err, refl, sym, ap, subst, ◌∙◌, append_assoc, arith, inl, inr, ◌⊎◌}
+use Rattle.std.proofs.Common.{◌≡◌, ℕ, suc, ◌+◌, ◌≤◌, Bool, true, false, List, [], ◌∷◌, ◌++◌, length, Option, Some, None}
+use Rattle.std.proofs.Common.{Result, Ok, Err, refl, sym, ap, subst, ◌∙◌, append_assoc, arith, inl, inr, ◌⊎◌}
 use Rattle.std.proofs.lemmas.List.{append-nil, length-append}
 use Rattle.std.proofs.lemmas.Bool.{cases_lt}
 use Rattle.fcl_syntax.specs.declared.fault.Fault.{Fault}
@@ -7,10 +8,12 @@ use Rattle.fcl_syntax.specs.declared.fault.Kind.{Kind}
 use Rattle.fcl_syntax.specs.declared.fault.Kind.TheVariants.{Expected, Deep, Unsupported}
 use Rattle.fcl_syntax.specs.declared.token.Token.{Token}
 use Rattle.fcl_syntax.specs.Annotations.{Sym, tokens_of, IsClean, plain, annotated}
-use Rattle.fcl_syntax.specs.First.{looks_on, SameNext, SameHead, Shown, IsAnnotation, Spells, IsPlain, IsPlainAnnotation, Begins, NoTextHas, NoAnnotation, Here, FirstFault}
+use Rattle.fcl_syntax.specs.First.{looks_on, SameNext, SameHead, Shown, IsAnnotation, Spells, IsPlain}
+use Rattle.fcl_syntax.specs.First.{IsPlainAnnotation, Begins, NoTextHas, NoAnnotation, Here, FirstFault}
 use Rattle.fcl_syntax.specs.Readers.{ended, ◌>>=◌, fault_at}
 use Rattle.fcl_syntax.proofs.Form.{Stops, annotation_at, first_annotation, answer, Stands, Viable, Fails, Form}
-use Rattle.fcl_syntax.proofs.AnnotatedTexts.{bind_ok, bind_err, ok_is, tokens_of-append, length-tokens, first_annotation-clean}
+use Rattle.fcl_syntax.proofs.AnnotatedTexts.{bind_ok, bind_err, ok_is, tokens_of-append, length-tokens}
+use Rattle.fcl_syntax.proofs.AnnotatedTexts.{first_annotation-clean}
 
 abbrev pub whole : {T : Type 0} → Form T → List Token → Result T Fault
 whole p ts = p.read ts >>= ended
@@ -32,10 +35,12 @@ clean_plain [] h = tt
 clean_plain (x ∷ s) h = (clean_annotation x.annotation h.0, clean_plain s h.1)
 
 pub begins_of : {T : Type 0} (text : T → List Sym) (front : List Token) → Viable text front → Begins text front
-begins_of text front v = record { tree = v.tree; more = v.more; plain = clean_plain (text v.tree) v.clean; parts = v.parts }
+begins_of text front v =
+    record { tree = v.tree; more = v.more; plain = clean_plain (text v.tree) v.clean; parts = v.parts }
 
 -- the first annotation of a text of the grammar is Deep
-pub first_annotation-plain : (s : List Sym) (n : ℕ) (e : Fault) → IsPlain s → first_annotation s n ≡ Some e → e.kind ≡ Deep
+pub first_annotation-plain : (s : List Sym) (n : ℕ) (e : Fault) → IsPlain s → first_annotation s n ≡ Some e
+    → e.kind ≡ Deep
 first_annotation-plain [] n e h w = absurd cc
 first_annotation-plain (x ∷ s) n e h w = go (first_annotation-plain s n e h.1) x.annotation h.0 w
   where
@@ -43,7 +48,8 @@ first_annotation-plain (x ∷ s) n e h w = go (first_annotation-plain s n e h.1)
         → annotation_at m (suc (length s + n)) (first_annotation s n) ≡ Some e → e.kind ≡ Deep
     go rest None a b = rest b
     go rest (Some Expected) a b = absurd a
-    go rest (Some Deep) a b = let is : fault_at Deep (suc (length s + n)) ≡ e = cc in ap (λ (f : Fault). f.kind) (sym is)
+    go rest (Some Deep) a b = let is : fault_at Deep (suc (length s + n)) ≡ e = cc in
+        ap (λ (f : Fault). f.kind) (sym is)
     go rest (Some (Unsupported c)) a b = absurd a
 
 -- one of two splits of a list is the longer
@@ -66,19 +72,29 @@ splits (x ∷ a) b (y ∷ c) d e h =
 
 -- a text with an annotation is refused there, or earlier
 first_annotation-has : (before : List Sym) (k : Kind) (x : Token) (after : List Sym) → (e : Fault) ×
-    (first_annotation (before ++ annotated k x ∷ after) 0 ≡ Some e) × ((suc (suc (length after)) ≤ e.left) ⊎ (e ≡ fault_at k (suc (length after))))
-first_annotation-has [] k x after =
-    (fault_at k (suc (length after + 0)), refl, inr (let n : length after + 0 ≡ length after = omega arith in ap (λ (m : ℕ). fault_at k (suc m)) n))
+    (first_annotation (before ++ annotated k x ∷ after) 0 ≡ Some e)
+    × ((suc (suc (length after)) ≤ e.left) ⊎ (e ≡ fault_at k (suc (length after))))
+first_annotation-has [] k x after = (
+  fault_at k (suc (length after + 0)),
+  refl,
+  inr (let n : length after + 0 ≡ length after = omega arith in ap (λ (m : ℕ). fault_at k (suc m)) n),
+)
 first_annotation-has (s ∷ before) k x after = go s.annotation (first_annotation-has before k x after)
   where
     go : (m : Option Kind) → (e : Fault) × (first_annotation (before ++ annotated k x ∷ after) 0 ≡ Some e) ×
         ((suc (suc (length after)) ≤ e.left) ⊎ (e ≡ fault_at k (suc (length after))))
-        → (e : Fault) × (annotation_at m (suc (length (before ++ annotated k x ∷ after) + 0)) (first_annotation (before ++ annotated k x ∷ after) 0) ≡ Some e) ×
+        → (e : Fault) × (annotation_at m (suc (length (before ++ annotated k x ∷ after) + 0))
+        (first_annotation (before ++ annotated k x ∷ after) 0) ≡ Some e) ×
         ((suc (suc (length after)) ≤ e.left) ⊎ (e ≡ fault_at k (suc (length after))))
     go None h = h
-    go (Some j) h = (fault_at j (suc (length (before ++ annotated k x ∷ after) + 0)), refl, inl (omega (arith, length-append before (annotated k x ∷ after))))
+    go (Some j) h = (
+      fault_at j (suc (length (before ++ annotated k x ∷ after) + 0)),
+      refl,
+      inl (omega (arith, length-append before (annotated k x ∷ after))),
+    )
 
-SameNext-after : (l : Bool) (k : Kind) (g : List Token) (x : Token) (a b : List Token) → SameHead k (x ∷ a) b → SameNext l (g ++ x ∷ a) (g ++ b)
+SameNext-after : (l : Bool) (k : Kind) (g : List Token) (x : Token) (a b : List Token) → SameHead k (x ∷ a) b
+    → SameNext l (g ++ x ∷ a) (g ++ b)
 SameNext-after false k g x a b s = tt
 SameNext-after true k (z ∷ g) x a b s = refl
 SameNext-after true k [] x a [] s = absurd s
@@ -92,23 +108,29 @@ module _ {T : Type 0} (p : Form T) where
   read_text t = ap p.read (sym (append-nil (tokens_of (p.text t)))) ∙ p.again t [] nothing_stops
 
   -- where an annotation is shown, reading fails there with it, or earlier
-  refused : (ts front bad : List Token) (k : Kind) → ts ≡ front ++ bad → Shown p.text k front bad → (e : Fault) × (p.read ts ≡ Err e) ×
+  refused : (ts front bad : List Token) (k : Kind) → ts ≡ front ++ bad → Shown p.text k front bad
+      → (e : Fault) × (p.read ts ≡ Err e) ×
       ((suc (length bad) ≤ e.left) ⊎ (e ≡ fault_at k (length bad)))
   refused ts front bad k parts s =
       let m = first_annotation-has s.before k s.token s.after in
       let read : p.read (tokens_of (p.text s.tree)) ≡ Err m.0 =
-      read_text s.tree ∙ ap (λ (o : Option Fault). answer o s.tree []) (ap (λ (l : List Sym). first_annotation l 0) s.split ∙ m.1) in
+      read_text s.tree ∙ ap (λ (o : Option Fault). answer o s.tree [])
+      (ap (λ (l : List Sym). first_annotation l 0) s.split ∙ m.1) in
       let f = p.fails (tokens_of (p.text s.tree)) m.0 read in
       let cut : f.front ++ f.bad ≡ front ++ (s.token ∷ tokens_of s.after) = sym f.parts ∙ ap tokens_of s.split
-      ∙ tokens_of-append s.before (annotated k s.token ∷ s.after) ∙ ap (λ (l : List Token). l ++ (s.token ∷ tokens_of s.after)) s.fronts in
+      ∙ tokens_of-append s.before (annotated k s.token ∷ s.after)
+      ∙ ap (λ (l : List Token). l ++ (s.token ∷ tokens_of s.after)) s.fronts in
       elim m.2 [
-        | inl early ↦ go_early m.0 f (splits f.front f.bad front (s.token ∷ tokens_of s.after) cut (omega (arith, length-tokens s.after, f.left, early)))
+        | inl early ↦ go_early m.0 f
+            (splits f.front f.bad front (s.token ∷ tokens_of s.after) cut
+            (omega (arith, length-tokens s.after, f.left, early)))
             (omega (arith, length-tokens s.after, f.left, early))
         | inr at ↦ go_at m.0 at f (splits f.front f.bad front (s.token ∷ tokens_of s.after) cut
             (omega (arith, length-tokens s.after, f.left, ap (λ (e : Fault). e.left) at)))
       ]
     where
-      go_early : (e : Fault) (f : Fails p.text p.read (tokens_of (p.text s.tree)) e) → Splits f.front f.bad front (s.token ∷ tokens_of s.after)
+      go_early : (e : Fault) (f : Fails p.text p.read (tokens_of (p.text s.tree)) e)
+          → Splits f.front f.bad front (s.token ∷ tokens_of s.after)
           → suc (length (s.token ∷ tokens_of s.after)) ≤ length f.bad
           → (e : Fault) × (p.read ts ≡ Err e) × ((suc (length bad) ≤ e.left) ⊎ (e ≡ fault_at k (length bad)))
       go_early e f (same a b) long = absurd (omega (arith, ap length b, long))
@@ -120,16 +142,26 @@ module _ {T : Type 0} (p : Form T) where
         inl (omega (arith, length-append g bad)),
       )
 
-      go_at : (e : Fault) → e ≡ fault_at k (suc (length s.after)) → (f : Fails p.text p.read (tokens_of (p.text s.tree)) e)
+      go_at : (e : Fault) → e ≡ fault_at k (suc (length s.after))
+          → (f : Fails p.text p.read (tokens_of (p.text s.tree)) e)
           → Splits f.front f.bad front (s.token ∷ tokens_of s.after)
           → (e : Fault) × (p.read ts ≡ Err e) × ((suc (length bad) ≤ e.left) ⊎ (e ≡ fault_at k (length bad)))
       go_at e is f (longer y g a b) =
-          absurd (omega (arith, f.left, ap (λ (e : Fault). e.left) is, ap length b, length-append g (s.token ∷ tokens_of s.after), length-tokens s.after))
+          absurd
+          (omega (
+            arith,
+            f.left,
+            ap (λ (e : Fault). e.left) is,
+            ap length b,
+            length-append g (s.token ∷ tokens_of s.after),
+            length-tokens s.after,
+          ))
       go_at e is f (same a b) =
           let kind : e.kind ≡ k = ap (λ (e : Fault). e.kind) is in (
             fault_at e.kind (length bad),
             ap p.read (parts ∙ ap (λ (l : List Token). l ++ bad) (sym a)) ∙ f.local bad
-                (subst (λ (j : Kind). SameHead j f.bad bad) (sym kind) (subst (λ (l : List Token). SameHead k l bad) (sym b) s.same)),
+                (subst (λ (j : Kind). SameHead j f.bad bad) (sym kind)
+                (subst (λ (l : List Token). SameHead k l bad) (sym b) s.same)),
             inr (ap (λ (j : Kind). fault_at j (length bad)) kind),
           )
 
@@ -146,21 +178,25 @@ module _ {T : Type 0} (p : Form T) where
       go x.0 (p.stands ts x.0.0 x.0.1 x.1) x.2
     where
       go : (x : T × List Token) → Stands p.text p.goes ts x.0 x.1 → ended x ≡ Ok t → Spells p.text ts t
-      go (u, []) s e = let is : u ≡ t = cc in subst (Spells p.text ts) is (record { parts = s.parts ∙ append-nil (tokens_of (p.text u)); clean = s.clean })
+      go (u, []) s e = let is : u ≡ t = cc in
+          subst (Spells p.text ts) is (record { parts = s.parts ∙ append-nil (tokens_of (p.text u)); clean = s.clean })
       go (u, y ∷ rest) s e = absurd cc
 
   pub spells_whole : (ts : List Token) (t : T) → Spells p.text ts t → whole p ts ≡ Ok t
   spells_whole ts t s =
       let read : p.read ts ≡ Ok (t, []) =
-      ap p.read s.parts ∙ read_text t ∙ ap (λ (o : Option Fault). answer o t []) (first_annotation-clean (p.text t) 0 s.clean) in
+      ap p.read s.parts ∙ read_text t
+      ∙ ap (λ (o : Option Fault). answer o t []) (first_annotation-clean (p.text t) 0 s.clean) in
       ap (λ (r : Result (T × List Token) Fault). r >>= ended) read
 
   -- ---- no
 
-  no_annotation_ok : (ts : List Token) (x : T × List Token) → p.read ts ≡ Ok x → (f b : List Token) → ts ≡ f ++ b → NoAnnotation p.text f b
+  no_annotation_ok : (ts : List Token) (x : T × List Token) → p.read ts ≡ Ok x → (f b : List Token) → ts ≡ f ++ b
+      → NoAnnotation p.text f b
   no_annotation_ok ts x h f b parts k m s = let r = refused ts f b k parts s in not_both (p.read ts) x r.0 h r.1
 
-  no_annotation_before : (ts : List Token) (e : Fault) → p.read ts ≡ Err e → (f b : List Token) → ts ≡ f ++ b → suc e.left ≤ length b → NoAnnotation p.text f b
+  no_annotation_before : (ts : List Token) (e : Fault) → p.read ts ≡ Err e → (f b : List Token) → ts ≡ f ++ b
+      → suc e.left ≤ length b → NoAnnotation p.text f b
   no_annotation_before ts e h f b parts lt k m s =
       let r = refused ts f b k parts s in
       let is : r.0 ≡ e = err_is (p.read ts) r.0 e r.1 h in
@@ -170,19 +206,26 @@ module _ {T : Type 0} (p : Form T) where
             (arith, ap (λ (e : Fault). e.left) is, lt, ap (λ (e : Fault). e.left) b)
       ]
 
-  annotation_here : (ts : List Token) (e : Fault) → p.read ts ≡ Err e → (f b : List Token) → ts ≡ f ++ b → e.left ≡ length b → (k : Kind) → Shown p.text k f b
+  annotation_here : (ts : List Token) (e : Fault) → p.read ts ≡ Err e → (f b : List Token) → ts ≡ f ++ b
+      → e.left ≡ length b → (k : Kind) → Shown p.text k f b
       → k ≡ e.kind
   annotation_here ts e h f b parts left k s =
       let r = refused ts f b k parts s in
       let is : r.0 ≡ e = err_is (p.read ts) r.0 e r.1 h in
-      elim r.2 [ inl a ↦ absurd (omega (arith, ap (λ (e : Fault). e.left) is, left, a)) | inr b ↦ ap (λ (e : Fault). e.kind) (sym b ∙ is) ]
+      elim r.2 [
+        | inl a ↦ absurd (omega (arith, ap (λ (e : Fault). e.left) is, left, a))
+        | inr b ↦ ap
+            (λ (e : Fault). e.kind) (sym b ∙ is)
+      ]
 
   -- a text of the grammar is read, or is too deep
-  text_read : (t : T) (r : Result (T × List Token) Fault) → IsPlain (p.text t) → p.read (tokens_of (p.text t)) ≡ r → (r ≡ Ok (t, [])) ⊎
+  text_read : (t : T) (r : Result (T × List Token) Fault) → IsPlain (p.text t) → p.read (tokens_of (p.text t)) ≡ r
+      → (r ≡ Ok (t, [])) ⊎
       ((e : Fault) × (r ≡ Err e) × (e.kind ≡ Deep))
   text_read t r plain h = go (first_annotation (p.text t) 0) refl (sym (read_text t) ∙ h)
     where
-      go : (m : Option Fault) → first_annotation (p.text t) 0 ≡ m → answer m t [] ≡ r → (r ≡ Ok (t, [])) ⊎ ((e : Fault) × (r ≡ Err e) × (e.kind ≡ Deep))
+      go : (m : Option Fault) → first_annotation (p.text t) 0 ≡ m → answer m t [] ≡ r
+          → (r ≡ Ok (t, [])) ⊎ ((e : Fault) × (r ≡ Err e) × (e.kind ≡ Deep))
       go None w a = inl (sym a)
       go (Some e) w a = inr (e, sym a, first_annotation-plain (p.text t) 0 e plain w)
 
@@ -190,50 +233,69 @@ module _ {T : Type 0} (p : Form T) where
   not_expected t n plain h =
       elim (text_read t (Err (fault_at Expected n)) plain h) [
         | inl a ↦ (let b = a in cc)
-        | inr a ↦ (let is : fault_at Expected n ≡ a.0 = (let b = a.1 in cc) in let kind : Expected ≡ Deep = ap (λ (f : Fault). f.kind) is ∙ a.2 in cc)
+        | inr a ↦ (let is : fault_at Expected n ≡ a.0 = (let b = a.1 in cc) in
+            let kind : Expected ≡ Deep = ap (λ (f : Fault). f.kind) is ∙ a.2 in cc)
       ]
 
   -- the reading of another text with the same front
-  no_text : (ts : List Token) (e : Fault) (f : Fails p.text p.read ts e) → e.kind ≡ Expected → NoTextHas p.text f.front f.bad
+  no_text : (ts : List Token) (e : Fault) (f : Fails p.text p.read ts e) → e.kind ≡ Expected
+      → NoTextHas p.text f.front f.bad
   no_text ts e f is = go f.bad refl
     where
       go : (bad : List Token) → f.bad ≡ bad → NoTextHas p.text f.front bad
       go [] b = λ t plain parts.
-          let err = f.local [] (subst (λ (k : Kind). SameHead k f.bad []) (sym is) (subst (λ (l : List Token). SameHead Expected l []) (sym b) tt)) in
-          not_expected t 0 plain (ap p.read (sym parts ∙ sym (append-nil f.front)) ∙ err ∙ ap (λ (k : Kind). Err (fault_at k 0)) is)
+          let err = f.local []
+          (subst (λ (k : Kind). SameHead k f.bad []) (sym is)
+          (subst (λ (l : List Token). SameHead Expected l []) (sym b) tt)) in
+          not_expected t 0 plain
+          (ap p.read (sym parts ∙ sym (append-nil f.front)) ∙ err ∙ ap (λ (k : Kind). Err (fault_at k 0)) is)
       go (x ∷ bad) b = λ v.
           let same : SameHead e.kind f.bad (x ∷ v.more) =
-          subst (λ (k : Kind). SameHead k f.bad (x ∷ v.more)) (sym is) (subst (λ (l : List Token). SameHead Expected l (x ∷ v.more)) (sym b) (refl, tt)) in
-          let parts : tokens_of (p.text v.tree) ≡ f.front ++ (x ∷ v.more) = v.parts ∙ append_assoc f.front (x ∷ []) v.more in
+          subst (λ (k : Kind). SameHead k f.bad (x ∷ v.more)) (sym is)
+          (subst (λ (l : List Token). SameHead Expected l (x ∷ v.more)) (sym b) (refl, tt)) in
+          let parts : tokens_of (p.text v.tree) ≡ f.front ++ (x ∷ v.more) =
+          v.parts ∙ append_assoc f.front (x ∷ []) v.more in
           not_expected v.tree (length (x ∷ v.more)) v.plain (ap p.read parts ∙ f.local (x ∷ v.more) same
           ∙ ap (λ (k : Kind). Err (fault_at k (length (x ∷ v.more)))) is)
 
   no_text_after : (ts : List Token) (t : T) (x : Token) (rest : List Token) → Stands p.text p.goes ts t (x ∷ rest)
       → NoTextHas p.text (tokens_of (p.text t)) (x ∷ rest)
   no_text_after ts t x rest s v =
-      let parts : tokens_of (p.text v.tree) ≡ tokens_of (p.text t) ++ (x ∷ v.more) = v.parts ∙ append_assoc (tokens_of (p.text t)) (x ∷ []) v.more in
+      let parts : tokens_of (p.text v.tree) ≡ tokens_of (p.text t) ++ (x ∷ v.more) =
+      v.parts ∙ append_assoc (tokens_of (p.text t)) (x ∷ []) v.more in
       let two : p.read (tokens_of (p.text t) ++ (x ∷ v.more)) ≡ Ok (t, x ∷ v.more) = p.again t (x ∷ v.more) s.stops
-      ∙ ap (λ (o : Option Fault). answer o t (x ∷ v.more)) (first_annotation-clean (p.text t) (length (x ∷ v.more)) s.clean) in
+      ∙ ap (λ (o : Option Fault). answer o t (x ∷ v.more))
+      (first_annotation-clean (p.text t) (length (x ∷ v.more)) s.clean) in
       elim (text_read v.tree (Ok (t, x ∷ v.more)) v.plain (ap p.read parts ∙ two)) [
-        | inl a ↦ (let rests : (x ∷ v.more) ≡ [] = ap (λ (z : T × List Token). z.1) (ok_is (t, x ∷ v.more) (v.tree, []) a) in cc)
+        | inl a ↦
+            (let rests : (x ∷ v.more) ≡ [] = ap (λ (z : T × List Token). z.1) (ok_is (t, x ∷ v.more) (v.tree, []) a) in
+            cc)
         | inr a ↦ (let b = a.1 in cc)
       ]
 
-  before_of : (ts : List Token) (front bad : List Token) → ts ≡ front ++ bad → ((f b : List Token) → ts ≡ f ++ b → suc (length bad) ≤ length b
+  before_of : (ts : List Token) (front bad : List Token) → ts ≡ front ++ bad
+      → ((f b : List Token) → ts ≡ f ++ b → suc (length bad) ≤ length b
       → NoAnnotation p.text f b)
-      → (f b : List Token) (y : Token) (g : List Token) → front ≡ f ++ y ∷ g → b ≡ y ∷ (g ++ bad) → NoAnnotation p.text f b
+      → (f b : List Token) (y : Token) (g : List Token) → front ≡ f ++ y ∷ g → b ≡ y ∷ (g ++ bad)
+      → NoAnnotation p.text f b
   before_of ts front bad parts none f b y g a c =
-      none f b (parts ∙ ap (λ (l : List Token). l ++ bad) a ∙ append_assoc f (y ∷ g) bad ∙ ap (λ (l : List Token). f ++ l) (sym c))
+      none f b (parts ∙ ap (λ (l : List Token). l ++ bad) a ∙ append_assoc f (y ∷ g) bad
+      ∙ ap (λ (l : List Token). f ++ l) (sym c))
       (omega (arith, ap length c, length-append g bad))
 
-  here_of : (ts : List Token) (k : Kind) (n : ℕ) (h : p.read ts ≡ Err (fault_at k n)) (f : Fails p.text p.read ts (fault_at k n)) → Here p.text k f.front f.bad
+  here_of : (ts : List Token) (k : Kind) (n : ℕ) (h : p.read ts ≡ Err (fault_at k n))
+      (f : Fails p.text p.read ts (fault_at k n)) → Here p.text k f.front f.bad
   here_of ts Expected n h f = (
     no_text ts (fault_at Expected n) f refl,
     λ k m s. kind_not k Expected m
         (annotation_here ts (fault_at Expected n) h f.front f.bad f.parts f.left k s) refl,
   )
   here_of ts Deep n h f = f.shows
-  here_of ts (Unsupported c) n h f = (f.shows, λ s. let k = annotation_here ts (fault_at (Unsupported c) n) h f.front f.bad f.parts f.left Deep s in cc)
+  here_of ts (Unsupported c) n h f = (
+    f.shows,
+    λ s. let k = annotation_here ts (fault_at (Unsupported c) n) h f.front f.bad f.parts f.left Deep s in
+        cc,
+  )
 
   pub whole_faults : (ts : List Token) (e : Fault) → whole p ts ≡ Err e → FirstFault p.text ts e
   whole_faults ts e h =
@@ -252,10 +314,12 @@ module _ {T : Type 0} (p : Form T) where
             left = f.left;
             viable = begins_of p.text f.front f.viable;
             here = here_of ts e.kind e.left a f;
-            before = before_of ts f.front f.bad f.parts (λ g b parts lt. no_annotation_before ts e a g b parts (omega (arith, f.left, lt)));
+            before = before_of ts f.front f.bad f.parts
+                (λ g b parts lt. no_annotation_before ts e a g b parts (omega (arith, f.left, lt)));
           }
 
-      trailing : (x : T × List Token) → p.read ts ≡ Ok x → Stands p.text p.goes ts x.0 x.1 → ended x ≡ Err e → FirstFault p.text ts e
+      trailing : (x : T × List Token) → p.read ts ≡ Ok x → Stands p.text p.goes ts x.0 x.1 → ended x ≡ Err e
+          → FirstFault p.text ts e
       trailing (t, []) a s k = absurd cc
       trailing (t, y ∷ rest) a s k =
           let is : fault_at Expected (suc (length rest)) ≡ e = cc in
@@ -265,7 +329,13 @@ module _ {T : Type 0} (p : Form T) where
             bad = y ∷ rest;
             parts = s.parts;
             left = refl;
-            viable = record { tree = t; more = []; plain = clean_plain (p.text t) s.clean; parts = sym (append-nil (tokens_of (p.text t))) };
+            viable = record {
+              tree = t;
+              more = [];
+              plain = clean_plain (p.text t) s.clean;
+              parts =
+                  sym (append-nil (tokens_of (p.text t)));
+            };
             here = (no_text_after ts t y rest s, none (tokens_of (p.text t)) (y ∷ rest) s.parts);
             before = before_of ts (tokens_of (p.text t)) (y ∷ rest) s.parts (λ f b parts lt. none f b parts);
           })
@@ -276,7 +346,8 @@ module _ {T : Type 0} (p : Form T) where
   fault_not_text ts e t f s = go e.kind f.here f.bad refl
     where
       ok : p.read ts ≡ Ok (t, [])
-      ok = ap p.read s.parts ∙ read_text t ∙ ap (λ (o : Option Fault). answer o t []) (first_annotation-clean (p.text t) 0 s.clean)
+      ok = ap p.read s.parts ∙ read_text t
+          ∙ ap (λ (o : Option Fault). answer o t []) (first_annotation-clean (p.text t) 0 s.clean)
 
       annotated_no : (k : Kind) → Shown p.text k f.front f.bad → ⊥
       annotated_no k h = let r = refused ts f.front f.bad k f.parts h in not_both (p.read ts) (t, []) r.0 ok r.1
@@ -284,7 +355,8 @@ module _ {T : Type 0} (p : Form T) where
       go : (k : Kind) → Here p.text k f.front f.bad → (bad : List Token) → f.bad ≡ bad → ⊥
       go Expected h [] b =
           let no : NoTextHas p.text f.front [] = subst (NoTextHas p.text f.front) b h.0 in
-          no t (clean_plain (p.text t) s.clean) (sym (append-nil f.front) ∙ ap (λ (l : List Token). f.front ++ l) (sym b) ∙ sym f.parts ∙ s.parts)
+          no t (clean_plain (p.text t) s.clean)
+          (sym (append-nil f.front) ∙ ap (λ (l : List Token). f.front ++ l) (sym b) ∙ sym f.parts ∙ s.parts)
       go Expected h (x ∷ bad) b =
           let no : NoTextHas p.text f.front (x ∷ bad) = subst (NoTextHas p.text f.front) b h.0 in
           no (record {
@@ -297,10 +369,12 @@ module _ {T : Type 0} (p : Form T) where
       go Deep h bad b = annotated_no Deep h
       go (Unsupported n) h bad b = annotated_no (Unsupported n) h.0
 
-  not_later : (ts : List Token) (e d : Fault) (f : FirstFault p.text ts e) (g : FirstFault p.text ts d) → suc (length g.bad) ≤ length f.bad → ⊥
+  not_later : (ts : List Token) (e d : Fault) (f : FirstFault p.text ts e) (g : FirstFault p.text ts d)
+      → suc (length g.bad) ≤ length f.bad → ⊥
   not_later ts e d f g lt = at (splits f.front f.bad g.front g.bad (sym f.parts ∙ g.parts) (omega arith))
     where
-      go : (k : Kind) → Here p.text k f.front f.bad → (y : Token) (r : List Token) → g.front ≡ f.front ++ y ∷ r → f.bad ≡ y ∷ (r ++ g.bad) → ⊥
+      go : (k : Kind) → Here p.text k f.front f.bad → (y : Token) (r : List Token) → g.front ≡ f.front ++ y ∷ r
+          → f.bad ≡ y ∷ (r ++ g.bad) → ⊥
       go Expected h y r a b =
           let no : NoTextHas p.text f.front (y ∷ (r ++ g.bad)) = subst (NoTextHas p.text f.front) b h.0 in
           let v = g.viable in
@@ -319,7 +393,8 @@ module _ {T : Type 0} (p : Form T) where
       at (longer y r a b) = go e.kind f.here y r a b
 
   -- where two annotations are shown at the place of a first fault, they are one
-  one_annotation : (ts : List Token) (d : Fault) (g : FirstFault p.text ts d) (k j : Kind) → Shown p.text k g.front g.bad → Shown p.text j g.front g.bad → k ≡ j
+  one_annotation : (ts : List Token) (d : Fault) (g : FirstFault p.text ts d) (k j : Kind)
+      → Shown p.text k g.front g.bad → Shown p.text j g.front g.bad → k ≡ j
   one_annotation ts d g k j a b =
       let r = refused ts g.front g.bad k g.parts a in
       let s = refused ts g.front g.bad j g.parts b in
@@ -334,7 +409,8 @@ module _ {T : Type 0} (p : Form T) where
         ]
       ]
 
-  same_kind : (ts : List Token) (d : Fault) (g : FirstFault p.text ts d) (k j : Kind) → Here p.text k g.front g.bad → Here p.text j g.front g.bad → k ≡ j
+  same_kind : (ts : List Token) (d : Fault) (g : FirstFault p.text ts d) (k j : Kind) → Here p.text k g.front g.bad
+      → Here p.text j g.front g.bad → k ≡ j
   same_kind ts d g Expected Expected a b = refl
   same_kind ts d g Expected Deep a b = absurd (a.1 Deep tt b)
   same_kind ts d g Expected (Unsupported n) a b = absurd (a.1 (Unsupported n) tt b.0)
@@ -359,7 +435,8 @@ module _ {T : Type 0} (p : Form T) where
       at (longer y r a b) len = absurd (omega (arith, ap length b, len, length-append r g.bad))
       at (same a b) len =
           let moved : Here p.text e.kind g.front g.bad =
-          subst (λ (l : List Token). Here p.text e.kind l g.bad) a (subst (λ (l : List Token). Here p.text e.kind f.front l) b f.here) in
+          subst (λ (l : List Token). Here p.text e.kind l g.bad) a
+          (subst (λ (l : List Token). Here p.text e.kind f.front l) b f.here) in
           let kind : e.kind ≡ d.kind = same_kind ts d g e.kind d.kind moved g.here in
           let left : e.left ≡ d.left = omega (arith, f.left, g.left, len) in
           ap (λ (k : Kind). fault_at k e.left) kind ∙ ap (λ (n : ℕ). fault_at d.kind n) left

@@ -1,5 +1,6 @@
 -- A form of the grammar: its texts, its reader, and what holds of both.
-use Rattle.std.specs.Prelude.{◌≡◌, ℕ, suc, ◌+◌, Bool, true, false, List, [], ◌∷◌, ◌++◌, length, Option, Some, None, Result, Ok, Err, if◌then◌else◌}
+use Rattle.std.specs.Prelude.{◌≡◌, ℕ, suc, ◌+◌, Bool, true, false, List, [], ◌∷◌, ◌++◌, length, Option, Some, None}
+use Rattle.std.specs.Prelude.{Result, Ok, Err, if◌then◌else◌}
 use Rattle.fcl_syntax.specs.declared.fault.Fault.{Fault}
 use Rattle.fcl_syntax.specs.declared.fault.Kind.{Kind}
 use Rattle.fcl_syntax.specs.declared.fault.Kind.TheVariants.{Expected, Deep, Unsupported}
@@ -40,7 +41,8 @@ answer None t rest = Ok (t, rest)
 answer (Some e) t rest = Err e
 
 -- the text of a tree stands in front of the rest, has no annotation, and the rest does not go on
-pub record Stands {T : Type 0} (text : T → List Sym) (goes : List ℕ) (ts : List Token) (t : T) (rest : List Token) : Type 0 where
+pub record Stands {T : Type 0} (text : T → List Sym) (goes : List ℕ) (ts : List Token) (t : T)
+    (rest : List Token) : Type 0 where
   pub parts : ts ≡ tokens_of (text t) ++ rest
   pub clean : IsClean (text t)
   pub stops : Stops goes rest
@@ -57,7 +59,8 @@ Shows text Expected front bad = Unit {0}
 Shows text Deep front bad = Shown text Deep front bad
 Shows text (Unsupported n) front bad = Shown text (Unsupported n) front bad
 
-pub record Fails {T : Type 0} (text : T → List Sym) (read : List Token → Result (T × List Token) Fault) (ts : List Token) (e : Fault) : Type 0 where
+pub record Fails {T : Type 0} (text : T → List Sym) (read : List Token → Result (T × List Token) Fault)
+    (ts : List Token) (e : Fault) : Type 0 where
   pub front : List Token
   pub bad : List Token
   pub parts : ts ≡ front ++ bad
@@ -75,5 +78,6 @@ pub record Form (T : Type 0) : Type 0 where
   pub some_clean : IsClean (text some)
   pub begins : (t : T) (rest : List Token) → Starts first (tokens_of (text t) ++ rest)
   pub stands : (ts : List Token) (t : T) (rest : List Token) → read ts ≡ Ok (t, rest) → Stands text goes ts t rest
-  pub again : (t : T) (rest : List Token) → Stops goes rest → read (tokens_of (text t) ++ rest) ≡ answer (first_annotation (text t) (length rest)) t rest
+  pub again : (t : T) (rest : List Token) → Stops goes rest
+      → read (tokens_of (text t) ++ rest) ≡ answer (first_annotation (text t) (length rest)) t rest
   pub fails : (ts : List Token) (e : Fault) → read ts ≡ Err e → Fails text read ts e

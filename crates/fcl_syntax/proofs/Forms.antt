@@ -12,12 +12,18 @@ use Rattle.fcl_syntax.specs.declared.tree.Name.{Name}
 use Rattle.fcl_syntax.specs.declared.tree.Number.{Number}
 use Rattle.fcl_syntax.specs.declared.tree.UnitNumber.{UnitNumber}
 use Rattle.fcl_syntax.specs.declared.tree.ZeroNumber.{ZeroNumber}
-use Rattle.fcl_syntax.specs.TokenClasses.{name_classes, other_type_classes, beyond_unit_classes, beyond_zero_classes, class_of, comma_classes}
+use Rattle.fcl_syntax.specs.TokenClasses.{name_classes, other_type_classes, beyond_unit_classes, beyond_zero_classes}
+use Rattle.fcl_syntax.specs.TokenClasses.{class_of, comma_classes}
 use Rattle.fcl_syntax.specs.Annotations.{Sym, plain}
 use Rattle.fcl_syntax.specs.Readers.{loop}
 use Rattle.fcl_syntax.proofs.Form.{disjoint, Form}
-use Rattle.fcl_syntax.specs.Grammar.{behind, each, key_text, name_text, names_text, TSigned, plus, minus, bare, signed_text, TSignedNumber, TType, TDeclaration, declaration_text, direction_key, TVariables, variables_text, var_classes, TSection, TCoordinate, TUnit, TZero}
-use Rattle.fcl_syntax.specs.Reading.{IsBare, expect_at, key_at, word_at, open_at, name_at, number_at, unit_number_at, zero_number_at, direction_at, signed_at, coordinate_number_at, unit_at, zero_at, comma_name_at, names_at, type_at, declaration_at, declarations_at, variables_at, section_at}
+use Rattle.fcl_syntax.specs.Grammar.{behind, each, key_text, name_text, names_text, TSigned, plus, minus, bare}
+use Rattle.fcl_syntax.specs.Grammar.{signed_text, TSignedNumber, TType, TDeclaration, declaration_text, direction_key}
+use Rattle.fcl_syntax.specs.Grammar.{TVariables, variables_text, var_classes, TSection, TCoordinate, TUnit, TZero}
+use Rattle.fcl_syntax.specs.Reading.{IsBare, expect_at, key_at, word_at, open_at, name_at, number_at, unit_number_at}
+use Rattle.fcl_syntax.specs.Reading.{zero_number_at, direction_at, signed_at, coordinate_number_at, unit_at, zero_at}
+use Rattle.fcl_syntax.specs.Reading.{comma_name_at, names_at, type_at, declaration_at, declarations_at, variables_at}
+use Rattle.fcl_syntax.specs.Reading.{section_at}
 use Rattle.fcl_syntax.proofs.Chains.{bind_assoc, bind_cond, second, chain2, chain3, chain4}
 use Rattle.fcl_syntax.proofs.SingleTokens as single
 use Rattle.fcl_syntax.proofs.Dead.{via}
@@ -112,10 +118,12 @@ signed_round (plus a) = refl
 signed_round (minus b) = refl
 signed_round (bare a) = refl
 
-module _ {A B : Type 0} (p : Form A) (q : Form B) (apart_plus : disjoint (class_of tok.Plus ∷ []) (class_of tok.Minus ∷ p.first) ≡ true)
+module _ {A B : Type 0} (p : Form A) (q : Form B)
+    (apart_plus : disjoint (class_of tok.Plus ∷ []) (class_of tok.Minus ∷ p.first) ≡ true)
     (apart_minus : disjoint (class_of tok.Minus ∷ []) p.first ≡ true) (same : q.goes ≡ p.goes) where
   abbrev pub signed_raw : Form (SignedRaw A B)
-  signed_raw = either (seq (bare_form tok.Plus refl) p refl) (either (seq (bare_form tok.Minus refl) q refl) p apart_minus same) apart_plus refl
+  signed_raw = either (seq (bare_form tok.Plus refl) p refl)
+      (either (seq (bare_form tok.Minus refl) q refl) p apart_minus same) apart_plus refl
 
   pub signed_same : (t : SignedRaw A B) → signed_text p.text q.text (to_signed t) ≡ signed_raw.text t
   signed_same (inl t) = refl
@@ -128,23 +136,27 @@ module _ {A B : Type 0} (p : Form A) (q : Form B) (apart_plus : disjoint (class_
   signed_is ts = simp (bind_cond, bind_assoc)
 
   abbrev pub signed_form : Form (TSigned A B)
-  signed_form = named (via signed_raw to_signed from_signed (signed_text p.text q.text) signed_round signed_same) (signed_at p.read q.read) signed_is
+  signed_form = named (via signed_raw to_signed from_signed (signed_text p.text q.text) signed_round signed_same)
+      (signed_at p.read q.read) signed_is
 
 abbrev pub signed_number_form : Form TSignedNumber
 signed_number_form = signed_form number_form number_form refl refl refl
 
-pub coordinate_number_is : (ts : List Token) → coordinate_number_at ts ≡ (refuse (Unsupported 10) name_classes number_form refl refl).read ts
+pub coordinate_number_is : (ts : List Token)
+    → coordinate_number_at ts ≡ (refuse (Unsupported 10) name_classes number_form refl refl).read ts
 unfolding coordinate_number_at
 coordinate_number_is ts = refl
 
 abbrev pub coordinate_number_form : Form TCoordinate
-coordinate_number_form = named (refuse (Unsupported 10) name_classes number_form refl refl) coordinate_number_at coordinate_number_is
+coordinate_number_form =
+    named (refuse (Unsupported 10) name_classes number_form refl refl) coordinate_number_at coordinate_number_is
 
 abbrev pub coordinate_form : Form (TSigned TCoordinate TCoordinate)
 coordinate_form = signed_form coordinate_number_form coordinate_number_form refl refl refl
 
 abbrev pub unit_raw : Form TUnit
-unit_raw = refuse (Unsupported 10) name_classes (refuse (Unsupported 11) beyond_unit_classes unit_number_form refl refl) refl refl
+unit_raw = refuse (Unsupported 10) name_classes
+    (refuse (Unsupported 11) beyond_unit_classes unit_number_form refl refl) refl refl
 
 pub unit_is : (ts : List Token) → unit_at ts ≡ unit_raw.read ts
 unfolding unit_at
@@ -154,7 +166,8 @@ abbrev pub unit_form : Form TUnit
 unit_form = named unit_raw unit_at unit_is
 
 abbrev pub zero_raw : Form TZero
-zero_raw = refuse (Unsupported 10) name_classes (refuse (Unsupported 11) beyond_zero_classes zero_number_form refl refl) refl refl
+zero_raw = refuse (Unsupported 10) name_classes
+    (refuse (Unsupported 11) beyond_zero_classes zero_number_form refl refl) refl refl
 
 pub zero_is : (ts : List Token) → zero_at ts ≡ zero_raw.read ts
 unfolding zero_at
@@ -169,7 +182,8 @@ degree_form = signed_form unit_form zero_form refl refl refl
 -- ---- variables
 
 abbrev pub comma_name_raw : Form Name
-comma_name_raw = via (seq (bare_form tok.Comma refl) name_form refl) (λ t. t.1) (λ n. (tt, n)) (λ n. plain tok.Comma ∷ name_text n) (λ n. refl) (λ t. refl)
+comma_name_raw = via (seq (bare_form tok.Comma refl) name_form refl) (λ t. t.1) (λ n. (tt, n))
+    (λ n. plain tok.Comma ∷ name_text n) (λ n. refl) (λ t. refl)
 
 pub comma_name_is : (ts : List Token) → comma_name_at ts ≡ comma_name_raw.read ts
 unfolding comma_name_at
@@ -178,18 +192,21 @@ comma_name_is ts = second (expect_at tok.Comma) name_at ts
 abbrev pub comma_name_form : Form Name
 comma_name_form = named comma_name_raw comma_name_at comma_name_is
 
-pub behind_texts : {A : Type 0} (x : Token) (text : A → List Sym) (q : Form A) → ((a : A) → plain x ∷ text a ≡ q.text a) → (items : List A)
+pub behind_texts : {A : Type 0} (x : Token) (text : A → List Sym) (q : Form A) → ((a : A) → plain x ∷ text a ≡ q.text a)
+    → (items : List A)
     → behind x text items ≡ texts q items
 behind_texts x text q same [] = refl
 behind_texts x text q same (a ∷ items) =
-    ap (λ (l : List Sym). plain x ∷ (text a ++ l)) (behind_texts x text q same items) ∙ ap (λ (l : List Sym). l ++ texts q items) (same a)
+    ap (λ (l : List Sym). plain x ∷ (text a ++ l)) (behind_texts x text q same items)
+    ∙ ap (λ (l : List Sym). l ++ texts q items) (same a)
 
 pub each_texts : {A : Type 0} (p : Form A) (items : List A) → each p.text items ≡ texts p items
 each_texts p [] = refl
 each_texts p (a ∷ items) = ap (λ (l : List Sym). p.text a ++ l) (each_texts p items)
 
 pub names_same : (t : Name × List Name) → names_text t ≡ name_text t.0 ++ texts comma_name_form t.1
-names_same t = ap (λ (l : List Sym). name_text t.0 ++ l) (behind_texts tok.Comma name_text comma_name_form (λ a. refl) t.1)
+names_same t = ap (λ (l : List Sym). name_text t.0 ++ l)
+    (behind_texts tok.Comma name_text comma_name_form (λ a. refl) t.1)
 
 abbrev pub names_raw : Form (Name × List Name)
 names_raw = via (then_rep name_form comma_name_form refl refl) (λ t. t) (λ t. t) names_text (λ t. refl) names_same
@@ -201,7 +218,8 @@ names_is ts = chain2 name_at (λ l. loop comma_classes comma_name_at (length l) 
 abbrev pub names_form : Form (Name × List Name)
 names_form = named names_raw names_at names_is
 
-pub type_is : (ts : List Token) → type_at ts ≡ (refuse (Unsupported 5) other_type_classes (word_form word.Real) refl refl).read ts
+pub type_is : (ts : List Token)
+    → type_at ts ≡ (refuse (Unsupported 5) other_type_classes (word_form word.Real) refl refl).read ts
 unfolding type_at
 type_is ts = refl
 
@@ -209,12 +227,15 @@ abbrev pub type_form : Form TType
 type_form = named (refuse (Unsupported 5) other_type_classes (word_form word.Real) refl refl) type_at type_is
 
 abbrev pub declaration_raw : Form TDeclaration
-declaration_raw = via (seq names_form (seq (bare_form tok.Colon refl) (seq type_form (bare_form tok.Semicolon refl) refl) refl) refl)
-    (λ t. record { names = t.0; type = t.1.1.0 }) (λ d. (d.names, (tt, (d.type, tt)))) declaration_text (λ d. refl) (λ t. refl)
+declaration_raw = via
+    (seq names_form (seq (bare_form tok.Colon refl) (seq type_form (bare_form tok.Semicolon refl) refl) refl) refl)
+    (λ t. record { names = t.0; type = t.1.1.0 }) (λ d. (d.names, (tt, (d.type, tt)))) declaration_text (λ d. refl)
+    (λ t. refl)
 
 pub declaration_is : (ts : List Token) → declaration_at ts ≡ declaration_raw.read ts
 unfolding declaration_at
-declaration_is ts = chain4 names_at (expect_at tok.Colon) type_at (expect_at tok.Semicolon) (λ t. record { names = t.0; type = t.1.1.0 }) ts
+declaration_is ts = chain4 names_at (expect_at tok.Colon) type_at (expect_at tok.Semicolon)
+    (λ t. record { names = t.0; type = t.1.1.0 }) ts
 
 abbrev pub declaration_form : Form TDeclaration
 declaration_form = named declaration_raw declaration_at declaration_is
@@ -222,12 +243,16 @@ declaration_form = named declaration_raw declaration_at declaration_is
 abbrev pub to_variables : (ℕ × Direction) × (List TDeclaration × ℕ) → TVariables
 to_variables t = record { at = t.0.0; direction = t.0.1; declarations = t.1.0; end = t.1.1 }
 
-pub variables_same : (t : (ℕ × Direction) × (List TDeclaration × ℕ)) → variables_text (to_variables t) ≡ plain (tok.Word t.0.0 (direction_key t.0.1)) ∷
+pub variables_same : (t : (ℕ × Direction) × (List TDeclaration × ℕ))
+    → variables_text (to_variables t) ≡ plain (tok.Word t.0.0 (direction_key t.0.1)) ∷
     (texts declaration_form t.1.0 ++ key_text key.EndVar t.1.1)
-variables_same t = ap (λ (l : List Sym). plain (tok.Word t.0.0 (direction_key t.0.1)) ∷ (l ++ key_text key.EndVar t.1.1)) (each_texts declaration_form t.1.0)
+variables_same t = ap
+    (λ (l : List Sym). plain (tok.Word t.0.0 (direction_key t.0.1)) ∷ (l ++ key_text key.EndVar t.1.1))
+    (each_texts declaration_form t.1.0)
 
 abbrev pub variables_raw : Form TVariables
-variables_raw = via (seq direction_form (many_then declaration_form (key_form key.EndVar) refl refl refl) refl) to_variables
+variables_raw = via (seq direction_form (many_then declaration_form (key_form key.EndVar) refl refl refl) refl)
+    to_variables
     (λ v. ((v.at, v.direction), (v.declarations, v.end))) variables_text (λ v. refl) variables_same
 
 pub variables_is : (ts : List Token) → variables_at ts ≡ variables_raw.read ts
@@ -237,7 +262,8 @@ variables_is ts = chain3 direction_at declarations_at (key_at key.EndVar) to_var
 abbrev pub variables_form : Form TVariables
 variables_form = named variables_raw variables_at variables_is
 
-pub section_is : (ts : List Token) → section_at ts ≡ (refuse (Unsupported 6) var_classes variables_form refl refl).read ts
+pub section_is : (ts : List Token)
+    → section_at ts ≡ (refuse (Unsupported 6) var_classes variables_form refl refl).read ts
 unfolding section_at
 section_is ts = refl
 

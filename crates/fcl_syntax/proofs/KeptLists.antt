@@ -1,5 +1,6 @@
 -- A list in a text is one of the program: it is no longer than the text has offsets.
-use Rattle.std.proofs.Common.{◌≡◌, ℕ, suc, ◌+◌, ◌-◌, ◌<◌, ◌≤◌, ◌^◌, ◌⊎◌, inl, inr, List, [], ◌∷◌, ◌++◌, length, map, Some, None, refl, arith}
+use Rattle.std.proofs.Common.{◌≡◌, ℕ, suc, ◌+◌, ◌-◌, ◌<◌, ◌≤◌, ◌^◌, ◌⊎◌, inl, inr, List, [], ◌∷◌, ◌++◌, length, map}
+use Rattle.std.proofs.Common.{Some, None, refl, arith}
 use Rattle.std.proofs.lemmas.List.{length-append}
 use Rattle.std.proofs.lemmas.List.Elements.{filter_map-append}
 use Rattle.std.specs.Global.{Box, Global, Vec}
@@ -20,7 +21,17 @@ abbrev pub boxed : {A : Type 0} → A → Box A
 boxed a = record { ptr = null_ptr; alloc = heap; value = a }
 
 abbrev pub listed : {A : Type 0} (items : List A) → length items < 2 ^ 63 → Vec A
-listed items small = record { ptr = null_ptr; len = length items; cap = length items; alloc = heap; items = items; ok = (refl, omega arith); small = small }
+listed items small =
+    record {
+      ptr = null_ptr;
+      len = length items;
+      cap = length items;
+      alloc = heap;
+      items = items;
+      ok =
+          (refl, omega arith);
+      small = small;
+    }
 
 -- ---- texts
 
@@ -69,13 +80,15 @@ pub no_annotation : (k : Kind) → Some k ≡ None → ⊥
 no_annotation k h = cc
 
 -- what is refused stands in no clean text
-pub accepted : {n : ℕ} {A : Type 0} (k : Kind) (classes : List ℕ) (text : A → List Sym) (x : Among classes ⊎ A) → IsShort n (or_refused k classes text x)
+pub accepted : {n : ℕ} {A : Type 0} (k : Kind) (classes : List ℕ) (text : A → List Sym) (x : Among classes ⊎ A)
+    → IsShort n (or_refused k classes text x)
     → (a : A) × (inr a ≡ x) × IsShort n (text a)
 accepted k classes text (inl x) h = absurd (no_annotation k h.clean.0)
 accepted k classes text (inr a) h = (a, refl, h)
 
 -- each item has an offset, so there are no more items than offsets
-few_behind : {A : Type 0} (sep : Token) (text : A → List Sym) → ((a : A) → 0 < count (text a)) → (items : List A) → length items ≤ count (behind sep text items)
+few_behind : {A : Type 0} (sep : Token) (text : A → List Sym) → ((a : A) → 0 < count (text a)) → (items : List A)
+    → length items ≤ count (behind sep text items)
 few_behind sep text some [] = omega arith
 few_behind sep text some (a ∷ items) =
     omega (
@@ -87,20 +100,26 @@ few_behind sep text some (a ∷ items) =
     )
 
 module _ {n : ℕ} (room : n < 2 ^ 63) where
-  pub behind_tree : {A : Type 0} (sep : Token) (text : A → List Sym) → ((a : A) → 0 < count (text a)) → (items : List A) → IsShort n (behind sep text items)
+  pub behind_tree : {A : Type 0} (sep : Token) (text : A → List Sym) → ((a : A) → 0 < count (text a)) → (items : List A)
+      → IsShort n (behind sep text items)
       → HasTree (λ (v : Vec A). v.items) items
   behind_tree sep text some items h = (listed items (omega (arith, few_behind sep text some items)), refl)
 
   -- likewise, where each item has a tree
-  module _ {A T : Type 0} (view : A → T) (text : T → List Sym) (some : (t : T) → IsShort n (text t) → 0 < count (text t))
+  module _ {A T : Type 0} (view : A → T) (text : T → List Sym)
+      (some : (t : T) → IsShort n (text t) → 0 < count (text t))
       (tree : (t : T) → IsShort n (text t) → HasTree view t) where
-    each_items : (ts : List T) → IsShort n (each text ts) → (items : List A) × (map view items ≡ ts) × (length items ≤ count (each text ts))
+    each_items : (ts : List T) → IsShort n (each text ts)
+        → (items : List A) × (map view items ≡ ts) × (length items ≤ count (each text ts))
     each_items [] h = ([], refl, omega arith)
     each_items (t ∷ ts) h =
         let front = short_front (text t) (each text ts) h in
         let one = tree t front in
-        let rest = each_items ts (short_back (text t) (each text ts) h) in
-        (one.0 ∷ rest.0, (λ i. one.1 i ∷ rest.1 i), omega (arith, some t front, rest.2, count-append (text t) (each text ts)))
+        let rest = each_items ts (short_back (text t) (each text ts) h) in (
+          one.0 ∷ rest.0,
+          (λ i. one.1 i ∷ rest.1 i),
+          omega (arith, some t front, rest.2, count-append (text t) (each text ts)),
+        )
 
     pub each_tree : (ts : List T) → IsShort n (each text ts) → HasTree (λ (v : Vec A). map view v.items) ts
     each_tree ts h =

@@ -16,11 +16,19 @@ use Rattle.fcl_syntax.specs.declared.tree.Part.TheVariants as part
 use Rattle.fcl_syntax.specs.declared.tree.Point.{Point}
 use Rattle.fcl_syntax.specs.declared.tree.UnitNumber.{UnitNumber}
 use Rattle.fcl_syntax.specs.declared.tree.ZeroNumber.{ZeroNumber}
-use Rattle.fcl_syntax.specs.Grammar.{TSigned, plus, minus, bare, TSignedNumber, signed_number_text, number_text, each, TCoordinate, coordinate_text, signed_text, unit_text, zero_text, TUnit, TZero, degree_text, TPoint, point_text, TPoints, points_text, TTerm, term_text, TRange, range_text, TFuzzify, fuzzify_text, TSetting, setting_text, accu_classes, method_classes, TSingleton, singleton_text, TFallback, word_text, TDefuzzyLine, defuzzy_line_text, TDefuzzify, defuzzify_text, key_text, TPart, part_text}
+use Rattle.fcl_syntax.specs.Grammar.{TSigned, plus, minus, bare, TSignedNumber, signed_number_text, number_text, each}
+use Rattle.fcl_syntax.specs.Grammar.{TCoordinate, coordinate_text, signed_text, unit_text, zero_text, TUnit, TZero}
+use Rattle.fcl_syntax.specs.Grammar.{degree_text, TPoint, point_text, TPoints, points_text, TTerm, term_text, TRange}
+use Rattle.fcl_syntax.specs.Grammar.{range_text, TFuzzify, fuzzify_text, TSetting, setting_text, accu_classes}
+use Rattle.fcl_syntax.specs.Grammar.{method_classes, TSingleton, singleton_text, TFallback, word_text, TDefuzzyLine}
+use Rattle.fcl_syntax.specs.Grammar.{defuzzy_line_text, TDefuzzify, defuzzify_text, key_text, TPart, part_text}
 use Rattle.fcl_syntax.specs.TokenClasses.{name_classes, beyond_unit_classes, beyond_zero_classes, open_classes}
 use Rattle.fcl_syntax.specs.Annotations.{plain, either_text, or_refused}
-use Rattle.fcl_syntax.specs.View.{view_signed_number, view_coordinate, view_degree, view_point, view_term, view_range, view_fuzzy_line, view_fuzzify, view_setting, view_singleton, view_value, view_fallback, view_defuzzy_line, view_defuzzify, view_part}
-use Rattle.fcl_syntax.proofs.KeptLists.{HasTree, IsShort, accepted, count, each_tree, no_annotation, short_back, short_front, short_rest}
+use Rattle.fcl_syntax.specs.View.{view_signed_number, view_coordinate, view_degree, view_point, view_term, view_range}
+use Rattle.fcl_syntax.specs.View.{view_fuzzy_line, view_fuzzify, view_setting, view_singleton, view_value}
+use Rattle.fcl_syntax.specs.View.{view_fallback, view_defuzzy_line, view_defuzzify, view_part}
+use Rattle.fcl_syntax.proofs.KeptLists.{HasTree, IsShort, accepted, count, each_tree, no_annotation, short_back}
+use Rattle.fcl_syntax.proofs.KeptLists.{short_front, short_rest}
 
 -- ---- numbers
 
@@ -33,10 +41,12 @@ value_tree : (x : TSignedNumber ⊎ ℕ) → HasTree view_value x
 value_tree (inl x) = let one = signed_number_tree x in (fallback.Number one.0, ap inl one.1)
 value_tree (inr at) = (fallback.Nc at, refl)
 
-pub setting_tree : {n : ℕ} (k : Keyword) (w : Word) (classes : List ℕ) (code : ℕ) (s : TSetting classes) → IsShort n (setting_text k w classes code s)
+pub setting_tree : {n : ℕ} (k : Keyword) (w : Word) (classes : List ℕ) (code : ℕ) (s : TSetting classes)
+    → IsShort n (setting_text k w classes code s)
     → HasTree (view_setting {classes = classes}) s
 setting_tree k w classes code s h =
-    let found = accepted (Unsupported code) classes (word_text w) s.word (short_front (or_refused (Unsupported code) classes (word_text w) s.word)
+    let found = accepted (Unsupported code) classes (word_text w) s.word
+    (short_front (or_refused (Unsupported code) classes (word_text w) s.word)
     (plain tok.Semicolon ∷ []) (short_rest (short_rest h))) in
     (record { at = s.at; word = found.0 }, λ i. record { at = s.at; word = found.1 i })
 
@@ -66,22 +76,32 @@ view_points p = inr (view_point p.0, map view_point p.1.items)
 module _ {n : ℕ} (room : n < 2 ^ 63) where
   -- ---- points
 
-  coordinate_tree : (x : TSigned TCoordinate TCoordinate) → IsShort n (signed_text coordinate_text coordinate_text x) → HasTree view_coordinate x
-  coordinate_tree (plus c) h = let found = accepted (Unsupported 10) name_classes number_text c (short_rest h) in (signed.Plus found.0, ap plus found.1)
-  coordinate_tree (minus c) h = let found = accepted (Unsupported 10) name_classes number_text c (short_rest h) in (signed.Minus found.0, ap minus found.1)
-  coordinate_tree (bare c) h = let found = accepted (Unsupported 10) name_classes number_text c h in (signed.Bare found.0, ap bare found.1)
+  coordinate_tree : (x : TSigned TCoordinate TCoordinate) → IsShort n (signed_text coordinate_text coordinate_text x)
+      → HasTree view_coordinate x
+  coordinate_tree (plus c) h = let found = accepted (Unsupported 10) name_classes number_text c (short_rest h) in
+      (signed.Plus found.0, ap plus found.1)
+  coordinate_tree (minus c) h = let found = accepted (Unsupported 10) name_classes number_text c (short_rest h) in
+      (signed.Minus found.0, ap minus found.1)
+  coordinate_tree (bare c) h = let found = accepted (Unsupported 10) name_classes number_text c h in
+      (signed.Bare found.0, ap bare found.1)
 
-  unit_tree : (u : TUnit) → IsShort n (or_refused (Unsupported 10) name_classes (or_refused (Unsupported 11) beyond_unit_classes unit_text) u)
+  unit_tree : (u : TUnit)
+      → IsShort n (or_refused (Unsupported 10) name_classes
+      (or_refused (Unsupported 11) beyond_unit_classes unit_text) u)
       → HasTree view_unit u
   unit_tree u h =
-      let in_place = accepted (Unsupported 10) name_classes (or_refused (Unsupported 11) beyond_unit_classes unit_text) u h in
+      let in_place = accepted (Unsupported 10) name_classes
+      (or_refused (Unsupported 11) beyond_unit_classes unit_text) u h in
       let found = accepted (Unsupported 11) beyond_unit_classes unit_text in_place.0 in_place.2 in
       (found.0, ap inr found.1 ∙ in_place.1)
 
-  zero_tree : (z : TZero) → IsShort n (or_refused (Unsupported 10) name_classes (or_refused (Unsupported 11) beyond_zero_classes zero_text) z)
+  zero_tree : (z : TZero)
+      → IsShort n (or_refused (Unsupported 10) name_classes
+      (or_refused (Unsupported 11) beyond_zero_classes zero_text) z)
       → HasTree view_zero z
   zero_tree z h =
-      let in_place = accepted (Unsupported 10) name_classes (or_refused (Unsupported 11) beyond_zero_classes zero_text) z h in
+      let in_place = accepted (Unsupported 10) name_classes
+      (or_refused (Unsupported 11) beyond_zero_classes zero_text) z h in
       let found = accepted (Unsupported 11) beyond_zero_classes zero_text in_place.0 in_place.2 in
       (found.0, ap inr found.1 ∙ in_place.1)
 
@@ -95,8 +115,12 @@ module _ {n : ℕ} (room : n < 2 ^ 63) where
       let front = signed_text coordinate_text coordinate_text p.x in
       let back = plain tok.Comma ∷ (degree_text p.degree ++ plain tok.Close ∷ []) in
       let x = coordinate_tree p.x (short_front front back (short_rest h)) in
-      let d = degree_tree p.degree (short_front (degree_text p.degree) (plain tok.Close ∷ []) (short_rest (short_back front back (short_rest h)))) in
-      (record { open_at = p.open_at; x = x.0; degree = d.0 }, λ i. record { open_at = p.open_at; x = x.1 i; degree = d.1 i })
+      let d = degree_tree p.degree
+      (short_front (degree_text p.degree) (plain tok.Close ∷ [])
+      (short_rest (short_back front back (short_rest h)))) in (
+        record { open_at = p.open_at; x = x.0; degree = d.0 },
+        λ i. record { open_at = p.open_at; x = x.1 i; degree = d.1 i },
+      )
 
   some_point : (p : TPoint) → IsShort n (point_text p) → 0 < count (point_text p)
   some_point p h = omega arith
@@ -105,29 +129,38 @@ module _ {n : ℕ} (room : n < 2 ^ 63) where
   points_tree (inl x) h = absurd (no_annotation (Unsupported 14) h.clean.0)
   points_tree (inr t) h =
       let first = point_tree t.0 (short_front (point_text t.0) (each point_text t.1) h) in
-      let more = each_tree room view_point point_text some_point point_tree t.1 (short_back (point_text t.0) (each point_text t.1) h) in
+      let more = each_tree room view_point point_text some_point point_tree t.1
+      (short_back (point_text t.0) (each point_text t.1) h) in
       ((first.0, more.0), λ i. inr (first.1 i, more.1 i))
 
   -- ---- inputs
 
   term_tree : (t : TTerm) → IsShort n (term_text t) → HasTree view_term t
   term_tree t h =
-      let found = points_tree t.points (short_front (points_text t.points) (plain tok.Semicolon ∷ []) (short_rest (short_rest (short_rest h)))) in
-      (record { at = t.at; name = t.name; first = found.0.0; more = found.0.1 }, λ i. record { at = t.at; name = t.name; points = found.1 i })
+      let found = points_tree t.points
+      (short_front (points_text t.points) (plain tok.Semicolon ∷ []) (short_rest (short_rest (short_rest h)))) in (
+        record { at = t.at; name = t.name; first = found.0.0; more = found.0.1 },
+        λ i. record { at = t.at; name = t.name; points = found.1 i },
+      )
 
   fuzzy_line_tree : (l : TTerm ⊎ TRange) → IsShort n (either_text term_text range_text l) → HasTree view_fuzzy_line l
   fuzzy_line_tree (inl t) h = let found = term_tree t h in (fuzzy.Term found.0, ap inl found.1)
   fuzzy_line_tree (inr r) h = let found = range_tree r in (fuzzy.Range found.0, ap inr found.1)
 
-  some_fuzzy_line : (l : TTerm ⊎ TRange) → IsShort n (either_text term_text range_text l) → 0 < count (either_text term_text range_text l)
+  some_fuzzy_line : (l : TTerm ⊎ TRange) → IsShort n (either_text term_text range_text l)
+      → 0 < count (either_text term_text range_text l)
   some_fuzzy_line (inl t) h = omega arith
   some_fuzzy_line (inr r) h = omega arith
 
   fuzzify_tree : (f : TFuzzify) → IsShort n (fuzzify_text f) → HasTree view_fuzzify f
   fuzzify_tree f h =
-      let lines = each_tree room view_fuzzy_line (either_text term_text range_text) some_fuzzy_line fuzzy_line_tree f.lines
-      (short_front (each (either_text term_text range_text) f.lines) (key_text key.EndFuzzify f.end) (short_rest (short_rest h))) in
-      (record { at = f.at; name = f.name; lines = lines.0; end = f.end }, λ i. record { at = f.at; name = f.name; lines = lines.1 i; end = f.end })
+      let lines = each_tree room view_fuzzy_line (either_text term_text range_text) some_fuzzy_line
+      fuzzy_line_tree f.lines
+      (short_front (each (either_text term_text range_text) f.lines) (key_text key.EndFuzzify f.end)
+      (short_rest (short_rest h))) in (
+        record { at = f.at; name = f.name; lines = lines.0; end = f.end },
+        λ i. record { at = f.at; name = f.name; lines = lines.1 i; end = f.end },
+      )
 
   -- ---- outputs
 
@@ -142,11 +175,15 @@ module _ {n : ℕ} (room : n < 2 ^ 63) where
 
   defuzzy_line_tree : (l : TDefuzzyLine) → IsShort n (defuzzy_line_text l) → HasTree view_defuzzy_line l
   defuzzy_line_tree (inl s) h = let found = singleton_tree s h in (defuzzy.Singleton found.0, ap inl found.1)
-  defuzzy_line_tree (inr (inl s)) h = let found = setting_tree key.Accu word.Max accu_classes 4 s h in (defuzzy.Accu found.0, λ i. inr (inl (found.1 i)))
+  defuzzy_line_tree (inr (inl s)) h = let found = setting_tree key.Accu word.Max accu_classes 4 s h in
+      (defuzzy.Accu found.0, λ i. inr (inl (found.1 i)))
   defuzzy_line_tree (inr (inr (inl s))) h = let found =
-      setting_tree key.Method word.Cogs method_classes 1 s h in (defuzzy.Method found.0, λ i. inr (inr (inl (found.1 i))))
-  defuzzy_line_tree (inr (inr (inr (inl d)))) h = let found = fallback_tree d in (defuzzy.Default found.0, λ i. inr (inr (inr (inl (found.1 i)))))
-  defuzzy_line_tree (inr (inr (inr (inr r)))) h = let found = range_tree r in (defuzzy.Range found.0, λ i. inr (inr (inr (inr (found.1 i)))))
+      setting_tree key.Method word.Cogs method_classes 1 s h in
+      (defuzzy.Method found.0, λ i. inr (inr (inl (found.1 i))))
+  defuzzy_line_tree (inr (inr (inr (inl d)))) h = let found = fallback_tree d in
+      (defuzzy.Default found.0, λ i. inr (inr (inr (inl (found.1 i)))))
+  defuzzy_line_tree (inr (inr (inr (inr r)))) h = let found = range_tree r in
+      (defuzzy.Range found.0, λ i. inr (inr (inr (inr (found.1 i)))))
 
   some_defuzzy_line : (l : TDefuzzyLine) → IsShort n (defuzzy_line_text l) → 0 < count (defuzzy_line_text l)
   some_defuzzy_line (inl s) h = omega arith
@@ -158,8 +195,10 @@ module _ {n : ℕ} (room : n < 2 ^ 63) where
   defuzzify_tree : (d : TDefuzzify) → IsShort n (defuzzify_text d) → HasTree view_defuzzify d
   defuzzify_tree d h =
       let lines = each_tree room view_defuzzy_line defuzzy_line_text some_defuzzy_line defuzzy_line_tree d.lines
-      (short_front (each defuzzy_line_text d.lines) (key_text key.EndDefuzzify d.end) (short_rest (short_rest h))) in
-      (record { at = d.at; name = d.name; lines = lines.0; end = d.end }, λ i. record { at = d.at; name = d.name; lines = lines.1 i; end = d.end })
+      (short_front (each defuzzy_line_text d.lines) (key_text key.EndDefuzzify d.end) (short_rest (short_rest h))) in (
+        record { at = d.at; name = d.name; lines = lines.0; end = d.end },
+        λ i. record { at = d.at; name = d.name; lines = lines.1 i; end = d.end },
+      )
 
   -- ---- parts
 

@@ -1,12 +1,14 @@
 -- Repetitions: P {Q}, and {P} Q.
-use Rattle.std.proofs.Common.{◌≡◌, ℕ, zero, suc, ◌+◌, ◌≤◌, Bool, true, false, List, [], ◌∷◌, ◌++◌, length, Option, Some, None, Result, Ok, Err, refl, sym, ap, subst, ◌∙◌, append_assoc, arith, inl, inr}
+use Rattle.std.proofs.Common.{◌≡◌, ℕ, zero, suc, ◌+◌, ◌≤◌, Bool, true, false, List, [], ◌∷◌, ◌++◌, length, Option, Some}
+use Rattle.std.proofs.Common.{None, Result, Ok, Err, refl, sym, ap, subst, ◌∙◌, append_assoc, arith, inl, inr}
 use Rattle.std.proofs.lemmas.List.{append-nil, length-append}
 use Rattle.fcl_syntax.specs.declared.fault.Fault.{Fault}
 use Rattle.fcl_syntax.specs.declared.token.Token.{Token}
 use Rattle.fcl_syntax.specs.Annotations.{Sym, tokens_of, IsClean}
 use Rattle.fcl_syntax.specs.Readers.{◌>>=◌, starts, with_front, turn, loop}
 use Rattle.fcl_syntax.proofs.Form.{disjoint, Stops, Starts, first_annotation, or_else, answer, Fails, Form}
-use Rattle.fcl_syntax.proofs.AnnotatedTexts.{bind_ok, bind_err, ok_is, tokens_of-append, length-tokens, IsClean-append, first_annotation-append, first_annotation-clean, starts-stops}
+use Rattle.fcl_syntax.proofs.AnnotatedTexts.{bind_ok, bind_err, ok_is, tokens_of-append, length-tokens, IsClean-append}
+use Rattle.fcl_syntax.proofs.AnnotatedTexts.{first_annotation-append, first_annotation-clean, starts-stops}
 use Rattle.fcl_syntax.proofs.Small.{starts-is}
 
 module _ {A : Type 0} (p : Form A) where
@@ -31,7 +33,8 @@ abbrev pub Settled : {A : Type 0} → List ℕ → List A → List Token → Typ
 Settled goes [] rest = Unit {0}
 Settled goes (a ∷ items) rest = Stops goes rest
 
-pub all_settled : {A : Type 0} (goes : List ℕ) (items : List A) (rest : List Token) → Stops goes rest → Settled goes items rest
+pub all_settled : {A : Type 0} (goes : List ℕ) (items : List A) (rest : List Token) → Stops goes rest
+    → Settled goes items rest
 all_settled goes [] rest s = tt
 all_settled goes (a ∷ items) rest s = s
 
@@ -64,33 +67,44 @@ module _ {A : Type 0} (p : Form A) (apart : disjoint p.goes p.first ≡ true) wh
   shorter : (a : A) (rest : List Token) (n : ℕ) → length (tokens_of (p.text a) ++ rest) ≤ suc n → length rest ≤ n
   shorter a rest n h = omega (arith, longer p.first (tokens_of (p.text a)) rest (begins_alone a))
 
-  with_front_ok : (a : A) (r : Result (List A × List Token) Fault) (items : List A) (rest : List Token) → with_front a r ≡ Ok (items, rest) → (bs : List A) ×
+  with_front_ok : (a : A) (r : Result (List A × List Token) Fault) (items : List A) (rest : List Token)
+      → with_front a r ≡ Ok (items, rest) → (bs : List A) ×
       (r ≡ Ok (bs, rest)) × (items ≡ a ∷ bs)
   with_front_ok a (Ok x) items rest h =
-      let e = ok_is (a ∷ x.0, x.1) (items, rest) h in
-      (x.0, ap (λ (l : List Token). Ok (x.0, l)) (ap (λ (z : List A × List Token). z.1) e), sym (ap (λ (z : List A × List Token). z.0) e))
+      let e = ok_is (a ∷ x.0, x.1) (items, rest) h in (
+        x.0,
+        ap (λ (l : List Token). Ok (x.0, l)) (ap (λ (z : List A × List Token). z.1) e),
+        sym (ap (λ (z : List A × List Token). z.0) e),
+      )
   with_front_ok a (Err d) items rest h = absurd cc
 
-  settle : (items : List A) (ts rest : List Token) → ts ≡ tokens_of (texts p items) ++ rest → Stops p.goes ts → Settled p.goes items rest → Stops p.goes rest
+  settle : (items : List A) (ts rest : List Token) → ts ≡ tokens_of (texts p items) ++ rest → Stops p.goes ts
+      → Settled p.goes items rest → Stops p.goes rest
   settle [] ts rest e s h = subst (Stops p.goes) e s
   settle (a ∷ items) ts rest e s h = h
 
-  pub rep_runs : (n : ℕ) (ts : List Token) (items : List A) (rest : List Token) → length ts ≤ n → rep p n ts ≡ Ok (items, rest) → Ran p ts items rest
+  pub rep_runs : (n : ℕ) (ts : List Token) (items : List A) (rest : List Token) → length ts ≤ n
+      → rep p n ts ≡ Ok (items, rest) → Ran p ts items rest
   rep_runs zero ts items rest len h =
       let e = ok_is ([], ts) (items, rest) h in
-      subst (λ (z : List A × List Token). Ran p ts z.0 z.1) e (record { parts = refl; clean = tt; ends = starts-nil p.first ts len; stops = tt })
+      subst (λ (z : List A × List Token). Ran p ts z.0 z.1) e
+      (record { parts = refl; clean = tt; ends = starts-nil p.first ts len; stops = tt })
   rep_runs (suc n) ts items rest len h = go (rep_runs n) (starts p.first ts) refl h
     where
-      go : ((ts : List Token) (items : List A) (rest : List Token) → length ts ≤ n → rep p n ts ≡ Ok (items, rest) → Ran p ts items rest) → (b : Bool)
-          → starts p.first ts ≡ b → turn b (p.read ts >>= λ a. with_front a.0 (rep p n a.1)) ts ≡ Ok (items, rest) → Ran p ts items rest
+      go : ((ts : List Token) (items : List A) (rest : List Token) → length ts ≤ n → rep p n ts ≡ Ok (items, rest)
+          → Ran p ts items rest) → (b : Bool)
+          → starts p.first ts ≡ b → turn b (p.read ts >>= λ a. with_front a.0 (rep p n a.1)) ts ≡ Ok (items, rest)
+          → Ran p ts items rest
       go again false w h =
           let e = ok_is ([], ts) (items, rest) h in
-          subst (λ (z : List A × List Token). Ran p ts z.0 z.1) e (record { parts = refl; clean = tt; ends = w; stops = tt })
+          subst (λ (z : List A × List Token). Ran p ts z.0 z.1) e
+          (record { parts = refl; clean = tt; ends = w; stops = tt })
       go again true w h =
           let x = bind_ok (p.read ts) (λ a. with_front a.0 (rep p n a.1)) (items, rest) h in
           let s = p.stands ts x.0.0 x.0.1 x.1 in
           let y = with_front_ok x.0.0 (rep p n x.0.1) items rest x.2 in
-          let len' : length x.0.1 ≤ n = shorter x.0.0 x.0.1 n (subst (λ (l : List Token). length l ≤ suc n) s.parts len) in
+          let len' : length x.0.1 ≤ n =
+          shorter x.0.0 x.0.1 n (subst (λ (l : List Token). length l ≤ suc n) s.parts len) in
           let r = again x.0.1 y.0 rest len' y.1 in
           let whole : Ran p ts (x.0.0 ∷ y.0) rest = record {
             parts = s.parts ∙ ap (λ (l : List Token). tokens_of (p.text x.0.0) ++ l) r.parts
@@ -107,7 +121,8 @@ module _ {A : Type 0} (p : Form A) (apart : disjoint p.goes p.first ≡ true) wh
   rep_ends (suc n) rest h = rw h refl
 
   -- the items of a text, and then anything
-  pub rep_again : (n : ℕ) (items : List A) (rest : List Token) → length (tokens_of (texts p items) ++ rest) ≤ n → starts p.first rest ≡ false
+  pub rep_again : (n : ℕ) (items : List A) (rest : List Token) → length (tokens_of (texts p items) ++ rest) ≤ n
+      → starts p.first rest ≡ false
       → Settled p.goes items rest
       → rep p n (tokens_of (texts p items) ++ rest) ≡ answer (first_annotation (texts p items) (length rest)) items rest
   rep_again n [] rest len ends stops = rep_ends n rest ends
@@ -125,12 +140,15 @@ module _ {A : Type 0} (p : Form A) (apart : disjoint p.goes p.first ≡ true) wh
       let len' : length after ≤ n = shorter a after n (subst (λ (l : List Token). length l ≤ suc n) regrouped len) in
       let hp = p.again a after (stops_after items) in
       let hr = rep_again n items rest len' ends (all_settled p.goes items rest stops) in
-      let annotations : first_annotation (texts p (a ∷ items)) (length rest) ≡ or_else (first_annotation (p.text a) (length after))
+      let annotations : first_annotation (texts p (a ∷ items)) (length rest) ≡ or_else
+      (first_annotation (p.text a) (length after))
       (first_annotation (texts p items) (length rest)) =
-      first_annotation-append (p.text a) (texts p items) (length rest) ∙ ap (λ (n : ℕ). or_else (first_annotation (p.text a) n)
+      first_annotation-append (p.text a) (texts p items) (length rest)
+      ∙ ap (λ (n : ℕ). or_else (first_annotation (p.text a) n)
       (first_annotation (texts p items) (length rest))) (sym (lengths items)) in
       ap (rep p (suc n)) regrouped
-      ∙ ap (λ (b : Bool). turn b (p.read (tokens_of (p.text a) ++ after) >>= λ a. with_front a.0 (rep p n a.1)) (tokens_of (p.text a) ++ after))
+      ∙ ap (λ (b : Bool). turn b (p.read (tokens_of (p.text a) ++ after) >>= λ a. with_front a.0 (rep p n a.1))
+      (tokens_of (p.text a) ++ after))
       (starts-is p.first (tokens_of (p.text a) ++ after) (p.begins a after))
       ∙ ap (λ (r : Result (A × List Token) Fault). r >>= λ a. with_front a.0 (rep p n a.1)) hp
       ∙ step (first_annotation (p.text a) (length after)) (first_annotation (texts p items) (length rest)) after hr
@@ -144,7 +162,8 @@ module _ {A : Type 0} (p : Form A) (apart : disjoint p.goes p.first ≡ true) wh
       stops_after (b ∷ bs) =
           starts-stops p.goes p.first (tokens_of (texts p (b ∷ bs)) ++ rest) apart
           (subst (Starts p.first) (sym (append_assoc (tokens_of (p.text b)) (tokens_of (texts p bs)) rest)
-          ∙ ap (λ (l : List Token). l ++ rest) (sym (tokens_of-append (p.text b) (texts p bs)))) (p.begins b (tokens_of (texts p bs) ++ rest)))
+          ∙ ap (λ (l : List Token). l ++ rest) (sym (tokens_of-append (p.text b) (texts p bs))))
+          (p.begins b (tokens_of (texts p bs) ++ rest)))
 
       step : (m k : Option Fault) (r : List Token) → rep p n r ≡ answer k items rest
           → (answer m a r >>= λ a. with_front a.0 (rep p n a.1)) ≡ answer {T = List A} (or_else m k) (a ∷ items) rest
@@ -152,15 +171,18 @@ module _ {A : Type 0} (p : Form A) (apart : disjoint p.goes p.first ≡ true) wh
       step None (Some e) r h = rw h refl
       step (Some e) k r h = refl
 
-  pub stops_before : (items : List A) (rest : List Token) → Stops p.goes rest → Stops p.goes (tokens_of (texts p items) ++ rest)
+  pub stops_before : (items : List A) (rest : List Token) → Stops p.goes rest
+      → Stops p.goes (tokens_of (texts p items) ++ rest)
   stops_before [] rest stops = stops
   stops_before (b ∷ bs) rest stops =
       starts-stops p.goes p.first (tokens_of (texts p (b ∷ bs)) ++ rest) apart
       (subst (Starts p.first) (sym (append_assoc (tokens_of (p.text b)) (tokens_of (texts p bs)) rest)
-      ∙ ap (λ (l : List Token). l ++ rest) (sym (tokens_of-append (p.text b) (texts p bs)))) (p.begins b (tokens_of (texts p bs) ++ rest)))
+      ∙ ap (λ (l : List Token). l ++ rest) (sym (tokens_of-append (p.text b) (texts p bs))))
+      (p.begins b (tokens_of (texts p bs) ++ rest)))
 
   -- items, and then what fails
-  pub rep_local : (n : ℕ) (items : List A) (rest : List Token) (d : Fault) → length (tokens_of (texts p items) ++ rest) ≤ n → IsClean (texts p items)
+  pub rep_local : (n : ℕ) (items : List A) (rest : List Token) (d : Fault)
+      → length (tokens_of (texts p items) ++ rest) ≤ n → IsClean (texts p items)
       → starts p.first rest ≡ true → p.read rest ≡ Err d
       → rep p n (tokens_of (texts p items) ++ rest) ≡ Err d
   rep_local zero [] rest d len clean begun fails = absurd (let no = starts-nil p.first rest len in cc)
@@ -183,7 +205,8 @@ module _ {A : Type 0} (p : Form A) (apart : disjoint p.goes p.first ≡ true) wh
       ∙ ap (λ (m : Option Fault). answer m a after) (first_annotation-clean (p.text a) (length after) parts.0) in
       let hr = rep_local n items rest d len' parts.1 begun fails in
       ap (rep p (suc n)) regrouped
-      ∙ ap (λ (b : Bool). turn b (p.read (tokens_of (p.text a) ++ after) >>= λ a. with_front a.0 (rep p n a.1)) (tokens_of (p.text a) ++ after))
+      ∙ ap (λ (b : Bool). turn b (p.read (tokens_of (p.text a) ++ after) >>= λ a. with_front a.0 (rep p n a.1))
+      (tokens_of (p.text a) ++ after))
       (starts-is p.first (tokens_of (p.text a) ++ after) (p.begins a after))
       ∙ ap (λ (r : Result (A × List Token) Fault). r >>= λ a. with_front a.0 (rep p n a.1)) hp
       ∙ ap (λ (r : Result (List A × List Token) Fault). with_front a r) hr
@@ -197,7 +220,8 @@ module _ {A : Type 0} (p : Form A) (apart : disjoint p.goes p.first ≡ true) wh
   rep_fails (suc n) ts e h = go (rep_fails n) (starts p.first ts) refl h
     where
       first_of : (first : p.read ts ≡ Err e) → starts p.first ts ≡ true → FailsIn p ts e
-      first_of first w = record { before = []; clean = tt; ts' = ts; parts = refl; begun = w; inner = p.fails ts e first }
+      first_of first w = record
+          { before = []; clean = tt; ts' = ts; parts = refl; begun = w; inner = p.fails ts e first }
 
       more_of : (a : A) (rest : List Token) → p.read ts ≡ Ok (a, rest) → FailsIn p rest e → FailsIn p ts e
       more_of a rest h f =

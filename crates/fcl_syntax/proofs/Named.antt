@@ -11,7 +11,8 @@ use Rattle.fcl_syntax.proofs.Small.{alt}
 use Rattle.fcl_syntax.proofs.Dead.{Dead, dead_or}
 use Rattle.fcl_syntax.proofs.Repeat.{mem-append, many}
 
-abbrev pub named : {A : Type 0} (p : Form A) (read : List Token → Read A) → ((ts : List Token) → read ts ≡ p.read ts) → Form A
+abbrev pub named : {A : Type 0} (p : Form A) (read : List Token → Read A)
+    → ((ts : List Token) → read ts ≡ p.read ts) → Form A
 named p read same = record {
   text = p.text;
   read = read;
@@ -49,7 +50,8 @@ in_left xs ys x h = mem-append xs ys (class_of x) ∙ true_left (mem (class_of x
 pub in_right : (xs ys : List ℕ) (x : Token) → mem (class_of x) ys ≡ true → mem (class_of x) (xs ++ ys) ≡ true
 in_right xs ys x h = mem-append xs ys (class_of x) ∙ true_right (mem (class_of x) xs) (mem (class_of x) ys) h
 
-abbrev pub either : {A B : Type 0} (p : Form A) (q : Form B) → disjoint p.first q.first ≡ true → p.goes ≡ q.goes → Form (A ⊎ B)
+abbrev pub either : {A B : Type 0} (p : Form A) (q : Form B) → disjoint p.first q.first ≡ true → p.goes ≡ q.goes
+    → Form (A ⊎ B)
 either p q apart same = alt p q apart same (p.first ++ q.first) (in_left p.first q.first) (in_right p.first q.first)
 
 abbrev pub among_dead : (k : Kind) (classes : List ℕ) → looks_on k ≡ false → Dead (Among classes)
@@ -65,9 +67,13 @@ among_dead k classes here = record {
   here = here;
 }
 
-abbrev pub refuse : {A : Type 0} (k : Kind) (classes : List ℕ) (p : Form A) → looks_on k ≡ false → disjoint classes p.first ≡ true → Form (Among classes ⊎ A)
-refuse k classes p here apart = dead_or (among_dead k classes here) p apart (classes ++ p.first) (in_left classes p.first) (in_right classes p.first)
+abbrev pub refuse : {A : Type 0} (k : Kind) (classes : List ℕ) (p : Form A) → looks_on k ≡ false
+    → disjoint classes p.first ≡ true → Form (Among classes ⊎ A)
+refuse k classes p here apart =
+    dead_or (among_dead k classes here) p apart (classes ++ p.first) (in_left classes p.first)
+    (in_right classes p.first)
 
-abbrev pub many_then : {A B : Type 0} (p : Form A) (q : Form B) → disjoint p.goes p.first ≡ true → disjoint p.goes q.first ≡ true
+abbrev pub many_then : {A B : Type 0} (p : Form A) (q : Form B) → disjoint p.goes p.first ≡ true
+    → disjoint p.goes q.first ≡ true
     → disjoint p.first q.first ≡ true → Form (List A × B)
 many_then p q a b c = many p q a b c (p.first ++ q.first) (in_left p.first q.first) (in_right p.first q.first)

@@ -1,5 +1,7 @@
 -- The offsets of a text's tokens ascend.
-use Rattle.std.proofs.Common.{◌≡◌, ℕ, zero, suc, ◌+◌, ◌-◌, ◌<◌, ◌≤◌, Bool, true, false, List, [], ◌∷◌, length, take, drop, Option, Some, None, Result, Ok, Err, refl, subst, arith, inl, inr, ◌⊎◌, ◌==◌, if◌then◌else◌, ap, ◌∙◌}
+use Rattle.std.proofs.Common.{◌≡◌, ℕ, zero, suc, ◌+◌, ◌-◌, ◌<◌, ◌≤◌, Bool, true, false, List, [], ◌∷◌, length, take}
+use Rattle.std.proofs.Common.{drop, Option, Some, None, Result, Ok, Err, refl, subst, arith, inl, inr, ◌⊎◌, ◌==◌}
+use Rattle.std.proofs.Common.{if◌then◌else◌, ap, ◌∙◌}
 use Rattle.std.specs.Prelude.{◌||◌}
 use Rattle.std.specs.Char.{is_ascii_digit}
 use Rattle.std.specs.List.{cons_option, filter_map}
@@ -11,7 +13,9 @@ use Rattle.fz_num.specs.Decimals.{decimal}
 use Rattle.fcl_syntax.specs.Grammar.{block_text}
 use Rattle.fcl_syntax.specs.Annotations.{Sym, tokens_of}
 use Rattle.fcl_syntax.specs.Tokens.{is_blank, is_name_byte, is_name_start, meaning_in, starts_name}
-use Rattle.fcl_syntax.specs.Lexing.{Lexed, colon_piece, comment_end, comment_piece, decimal_piece, has_fraction, in_front, lexed, delimiter_piece, next_piece, number_len, number_piece, open_piece, piece_of, point_piece, run, slash_piece, token_of, word_token}
+use Rattle.fcl_syntax.specs.Lexing.{Lexed, colon_piece, comment_end, comment_piece, decimal_piece, has_fraction}
+use Rattle.fcl_syntax.specs.Lexing.{in_front, lexed, delimiter_piece, next_piece, number_len, number_piece, open_piece}
+use Rattle.fcl_syntax.specs.Lexing.{piece_of, point_piece, run, slash_piece, token_of, word_token}
 use Rattle.fcl_syntax.specs.Meanings.{meanings}
 use Rattle.fcl_syntax.proofs.CutTexts.{tokens_are_cut}
 use Rattle.fcl_syntax.specs.Offsets.{AscendWithin, offset_of, offsets, OffsetsAscend}
@@ -33,7 +37,8 @@ IsPieceAt at (piece.Skip n) = 0 < n
 IsPieceAt at (piece.Token t n) = (0 < n) × ((offset_of t ≡ None) ⊎ (offset_of t ≡ Some at))
 IsPieceAt at (piece.Fault k) = Unit {0}
 
-either : (at : ℕ) (b : Bool) (p q : Piece) → (b ≡ true → IsPieceAt at p) → IsPieceAt at q → IsPieceAt at (if b then p else q)
+either : (at : ℕ) (b : Bool) (p q : Piece) → (b ≡ true → IsPieceAt at p) → IsPieceAt at q
+    → IsPieceAt at (if b then p else q)
 either at true p q h g = h refl
 either at false p q h g = g
 
@@ -47,7 +52,8 @@ or_left false b h = absurd cc
 some_number : (b : ℕ) (bytes : List ℕ) → is_ascii_digit b ≡ true → 0 < number_len (b ∷ bytes)
 unfolding number_len
 some_number b bytes h =
-    go (has_fraction (drop (run is_ascii_digit (b ∷ bytes)) (b ∷ bytes))) (run is_ascii_digit (b ∷ bytes)) _ (some_run is_ascii_digit b bytes h)
+    go (has_fraction (drop (run is_ascii_digit (b ∷ bytes)) (b ∷ bytes))) (run is_ascii_digit (b ∷ bytes)) _
+    (some_run is_ascii_digit b bytes h)
   where
     go : (c : Bool) (n m : ℕ) → 0 < n → 0 < (if c then n + 1 + m else n)
     go true n m k = omega (arith, k)
@@ -61,7 +67,8 @@ number_at : (at b : ℕ) (bytes : List ℕ) → is_ascii_digit b ≡ true → Is
 unfolding number_piece
 number_at at b bytes h =
     let n = number_len (b ∷ bytes) in
-    either at (starts_name (drop n (b ∷ bytes))) _ _ (λ k. tt) (decimal_at at n _ (decimal (take n (b ∷ bytes))) (some_number b bytes h))
+    either at (starts_name (drop n (b ∷ bytes))) _ _ (λ k. tt)
+    (decimal_at at n _ (decimal (take n (b ∷ bytes))) (some_number b bytes h))
 
 word_at : (at n : ℕ) (m : Meaning) → 0 < n → IsPieceAt at (piece.Token (token_of at m) n)
 word_at at n (meaning.Keyword k) h = (h, inr refl)
@@ -130,13 +137,16 @@ LexedWithin-lower : (low from end : ℕ) (l : Lexed) → low ≤ from → LexedW
 LexedWithin-lower low from end (Ok l) h up = AscendWithin-lower low from end (filter_map offset_of l.0) h up
 LexedWithin-lower low from end (Err e) h up = tt
 
-fronted_within : (t : Token) (at end : ℕ) (l : Lexed) → at < end → (offset_of t ≡ None) ⊎ (offset_of t ≡ Some at) → LexedWithin (suc at) end l
+fronted_within : (t : Token) (at end : ℕ) (l : Lexed) → at < end → (offset_of t ≡ None) ⊎ (offset_of t ≡ Some at)
+    → LexedWithin (suc at) end l
     → LexedWithin at end (in_front t at l)
-fronted_within t at end (Ok l) h (inl none) up = rw none (AscendWithin-lower at (suc at) end (filter_map offset_of l.0) (omega arith) up)
+fronted_within t at end (Ok l) h (inl none) up =
+    rw none (AscendWithin-lower at (suc at) end (filter_map offset_of l.0) (omega arith) up)
 fronted_within t at end (Ok l) h (inr some) up = rw some (omega arith, (h, up))
 fronted_within t at end (Err e) h o up = tt
 
-next_within : (at end : ℕ) (p : Piece) (go : ℕ → Lexed) → at < end → IsPieceAt at p → ((n : ℕ) → LexedWithin (at + n) end (go n))
+next_within : (at end : ℕ) (p : Piece) (go : ℕ → Lexed) → at < end → IsPieceAt at p
+    → ((n : ℕ) → LexedWithin (at + n) end (go n))
     → LexedWithin at end (next_piece at p go)
 next_within at end (piece.Skip n) go h is up = LexedWithin-lower at (at + n) end (go n) (omega arith) (up n)
 next_within at end (piece.Token t n) go h is up =
@@ -148,7 +158,8 @@ unfolding lexed
 lexed_within zero at end bytes h = tt
 lexed_within (suc fuel) at end [] h = tt
 lexed_within (suc fuel) at end (b ∷ bytes) h =
-    next_within at end (piece_of at (b ∷ bytes)) (λ n. lexed fuel (at + n) (drop n (b ∷ bytes))) (omega (arith, h)) (piece_at at b bytes)
+    next_within at end (piece_of at (b ∷ bytes)) (λ n. lexed fuel (at + n) (drop n (b ∷ bytes))) (omega (arith, h))
+    (piece_at at b bytes)
     (λ n. lexed_within fuel (at + n) end (drop n (b ∷ bytes)) (omega (arith, h, length-drop n (b ∷ bytes))))
 
 offsets-tokens : (symbols : List Sym) → filter_map offset_of (tokens_of symbols) ≡ offsets symbols
@@ -158,5 +169,6 @@ offsets-tokens (s ∷ symbols) = ap (cons_option (offset_of s.token)) (offsets-t
 pub offsets_ascend_lem : OffsetsAscend
 offsets_ascend_lem text t s =
     let cut : LexedWithin 0 (length text) (Ok (s.tokens, s.places)) =
-    subst (LexedWithin 0 (length text)) (tokens_are_cut text s.tokens s.places s.cut) (lexed_within (length text) 0 (length text) text (omega arith)) in
+    subst (LexedWithin 0 (length text)) (tokens_are_cut text s.tokens s.places s.cut)
+    (lexed_within (length text) 0 (length text) text (omega arith)) in
     subst (AscendWithin 0 (length text)) (ap (filter_map offset_of) s.spells.parts ∙ offsets-tokens (block_text t)) cut

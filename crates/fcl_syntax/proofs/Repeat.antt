@@ -1,5 +1,6 @@
 -- P {Q} and {P} Q as forms.
-use Rattle.std.proofs.Common.{◌≡◌, ℕ, ◌+◌, Bool, true, false, cond, eqb, List, [], ◌∷◌, ◌++◌, length, Option, Some, None, Result, Ok, Err, refl, sym, ap, subst, ◌∙◌, append_assoc, arith, inl, inr}
+use Rattle.std.proofs.Common.{◌≡◌, ℕ, ◌+◌, Bool, true, false, cond, eqb, List, [], ◌∷◌, ◌++◌, length, Option, Some}
+use Rattle.std.proofs.Common.{None, Result, Ok, Err, refl, sym, ap, subst, ◌∙◌, append_assoc, arith, inl, inr}
 use Rattle.std.proofs.lemmas.List.{append-nil, length-append}
 use Rattle.fcl_syntax.specs.declared.fault.Fault.{Fault}
 use Rattle.fcl_syntax.specs.declared.fault.Kind.{Kind}
@@ -9,10 +10,12 @@ use Rattle.fcl_syntax.specs.Annotations.{Sym, tokens_of, IsClean}
 use Rattle.fcl_syntax.specs.First.{SameHead}
 use Rattle.fcl_syntax.specs.Readers.{◌>>=◌, fault_at, starts}
 use Rattle.fcl_syntax.proofs.Form.{disjoint, Stops, Starts, first_annotation, or_else, answer, Stands, Fails, Form}
-use Rattle.fcl_syntax.proofs.AnnotatedTexts.{bind_ok, bind_err, ok_is, tokens_of-append, length-tokens, IsClean-append, first_annotation-append, first_annotation-clean, starts-stops, Stops-same}
+use Rattle.fcl_syntax.proofs.AnnotatedTexts.{bind_ok, bind_err, ok_is, tokens_of-append, length-tokens, IsClean-append}
+use Rattle.fcl_syntax.proofs.AnnotatedTexts.{first_annotation-append, first_annotation-clean, starts-stops, Stops-same}
 use Rattle.fcl_syntax.proofs.Seq.{Shows-in, Viable-in}
 use Rattle.fcl_syntax.proofs.Small.{starts-not, starts-same, widen}
-use Rattle.fcl_syntax.proofs.Loop.{texts, rep, Settled, all_settled, Ran, FailsIn, rep_runs, rep_again, rep_local, rep_fails, stops_before, starts-Starts}
+use Rattle.fcl_syntax.proofs.Loop.{texts, rep, Settled, all_settled, Ran, FailsIn, rep_runs, rep_again, rep_local}
+use Rattle.fcl_syntax.proofs.Loop.{rep_fails, stops_before, starts-Starts}
 
 pub mem-append : (xs ys : List ℕ) (n : ℕ) → mem n (xs ++ ys) ≡ cond (mem n xs) true (mem n ys)
 mem-append [] ys n = refl
@@ -36,9 +39,11 @@ Stops-both f g (x ∷ xs) h s = rw (mem-append f g (class_of x), h) s
 
 pub texts-append : {A : Type 0} (p : Form A) (a b : List A) → texts p (a ++ b) ≡ texts p a ++ texts p b
 texts-append p [] b = refl
-texts-append p (x ∷ a) b = ap (λ (l : List Sym). p.text x ++ l) (texts-append p a b) ∙ sym (append_assoc (p.text x) (texts p a) (texts p b))
+texts-append p (x ∷ a) b = ap (λ (l : List Sym). p.text x ++ l) (texts-append p a b)
+    ∙ sym (append_assoc (p.text x) (texts p a) (texts p b))
 
-same-front : (e : Fault) (f bad b : List Token) (first : List ℕ) → SameHead e.kind bad b → starts first (f ++ bad) ≡ false → starts first (f ++ b) ≡ false
+same-front : (e : Fault) (f bad b : List Token) (first : List ℕ) → SameHead e.kind bad b
+    → starts first (f ++ bad) ≡ false → starts first (f ++ b) ≡ false
 same-front e f bad b first same h = starts-same first e.kind f bad b same ∙ h
 
 -- ---- P {Q}
@@ -50,12 +55,16 @@ module _ {A B : Type 0} (p : Form A) (q : Form B) where
   abbrev pub then_read : List Token → Result ((A × List B) × List Token) Fault
   then_read ts = p.read ts >>= λ a. rep q (length a.1) a.1 >>= λ r. Ok ((a.0, r.0), r.1)
 
-module _ {A B : Type 0} (p : Form A) (q : Form B) (apart : disjoint q.goes q.first ≡ true) (same_goes : p.goes ≡ q.goes) where
+module _ {A B : Type 0} (p : Form A) (q : Form B) (apart : disjoint q.goes q.first ≡ true)
+    (same_goes : p.goes ≡ q.goes) where
   pub then_begins : (t : A × List B) (rest : List Token) → Starts p.first (tokens_of (then_text p q t) ++ rest)
-  then_begins t rest = subst (Starts p.first) (sym (append_assoc (tokens_of (p.text t.0)) (tokens_of (texts q t.1)) rest)
-      ∙ sym (ap (λ (l : List Token). l ++ rest) (tokens_of-append (p.text t.0) (texts q t.1)))) (p.begins t.0 (tokens_of (texts q t.1) ++ rest))
+  then_begins t rest =
+      subst (Starts p.first) (sym (append_assoc (tokens_of (p.text t.0)) (tokens_of (texts q t.1)) rest)
+      ∙ sym (ap (λ (l : List Token). l ++ rest) (tokens_of-append (p.text t.0) (texts q t.1))))
+      (p.begins t.0 (tokens_of (texts q t.1) ++ rest))
 
-  settled_stops : (items : List B) (ts rest : List Token) → ts ≡ tokens_of (texts q items) ++ rest → Stops p.goes ts → Settled q.goes items rest
+  settled_stops : (items : List B) (ts rest : List Token) → ts ≡ tokens_of (texts q items) ++ rest → Stops p.goes ts
+      → Settled q.goes items rest
       → Stops q.goes rest
   settled_stops [] ts rest e s h = subst (λ (g : List ℕ). Stops g rest) same_goes (subst (Stops p.goes) e s)
   settled_stops (b ∷ items) ts rest e s h = h
@@ -75,31 +84,39 @@ module _ {A B : Type 0} (p : Form A) (q : Form B) (apart : disjoint q.goes q.fir
         clean = IsClean-append (p.text x.0.0) (texts q y.0.0) s.clean r.clean;
         stops = Stops-both q.first q.goes y.0.1 r.ends (settled_stops y.0.0 x.0.1 y.0.1 r.parts s.stops r.stops);
       } in
-      subst (λ (z : (A × List B) × List Token). Stands (then_text p q) (q.first ++ q.goes) ts z.0 z.1) (ok_is made (t, rest) y.2) whole
+      subst (λ (z : (A × List B) × List Token). Stands (then_text p q) (q.first ++ q.goes) ts z.0 z.1)
+      (ok_is made (t, rest) y.2) whole
 
   then_step : (m n : Option Fault) (a : A) (bs : List B) (r rest : List Token) → rep q (length r) r ≡ answer n bs rest
-      → (answer m a r >>= λ a. rep q (length a.1) a.1 >>= λ r. Ok ((a.0, r.0), r.1)) ≡ answer {T = A × List B} (or_else m n) (a, bs) rest
+      → (answer m a r >>= λ a. rep q (length a.1) a.1 >>= λ r. Ok ((a.0, r.0), r.1)) ≡ answer {T = A × List B}
+      (or_else m n) (a, bs) rest
   then_step None None a b r rest h = rw h refl
   then_step None (Some e) a b r rest h = rw h refl
   then_step (Some e) n a b r rest h = refl
 
   pub then_again : (t : A × List B) (rest : List Token) → Stops (q.first ++ q.goes) rest
-      → then_read p q (tokens_of (then_text p q t) ++ rest) ≡ answer (first_annotation (then_text p q t) (length rest)) t rest
+      → then_read p q (tokens_of (then_text p q t) ++ rest) ≡ answer
+      (first_annotation (then_text p q t) (length rest)) t rest
   then_again t rest stops =
       let both = Stops-parts q.first q.goes rest stops in
       let after : List Token = tokens_of (texts q t.1) ++ rest in
       let regrouped : tokens_of (then_text p q t) ++ rest ≡ tokens_of (p.text t.0) ++
       after = ap (λ (l : List Token). l ++ rest) (tokens_of-append (p.text t.0) (texts q t.1))
       ∙ append_assoc (tokens_of (p.text t.0)) (tokens_of (texts q t.1)) rest in
-      let hp = p.again t.0 after (subst (λ (g : List ℕ). Stops g after) (sym same_goes) (stops_before q apart t.1 rest both.1)) in
+      let hp = p.again t.0 after
+      (subst (λ (g : List ℕ). Stops g after) (sym same_goes) (stops_before q apart t.1 rest both.1)) in
       let hr = rep_again q apart (length after) t.1 rest (omega arith) both.0 (all_settled q.goes t.1 rest both.1) in
-      let len : length after ≡ length (texts q t.1) + length rest = omega (arith, length-append (tokens_of (texts q t.1)) rest, length-tokens (texts q t.1)) in
-      let annotations : first_annotation (then_text p q t) (length rest) ≡ or_else (first_annotation (p.text t.0) (length after))
+      let len : length after ≡ length (texts q t.1) + length rest =
+      omega (arith, length-append (tokens_of (texts q t.1)) rest, length-tokens (texts q t.1)) in
+      let annotations : first_annotation (then_text p q t) (length rest) ≡ or_else
+      (first_annotation (p.text t.0) (length after))
       (first_annotation (texts q t.1) (length rest)) = first_annotation-append (p.text t.0) (texts q t.1) (length rest)
-      ∙ ap (λ (n : ℕ). or_else (first_annotation (p.text t.0) n) (first_annotation (texts q t.1) (length rest))) (sym len) in
+      ∙ ap (λ (n : ℕ). or_else (first_annotation (p.text t.0) n) (first_annotation (texts q t.1) (length rest)))
+      (sym len) in
       ap (then_read p q) regrouped
       ∙ ap (λ (r : Result (A × List Token) Fault). r >>= λ a. rep q (length a.1) a.1 >>= λ r. Ok ((a.0, r.0), r.1)) hp
-      ∙ then_step (first_annotation (p.text t.0) (length after)) (first_annotation (texts q t.1) (length rest)) t.0 t.1 after rest hr
+      ∙ then_step (first_annotation (p.text t.0) (length after)) (first_annotation (texts q t.1) (length rest)) t.0 t.1
+      after rest hr
       ∙ ap (λ (m : Option Fault). answer m t rest) (sym annotations)
 
   then_first : (ts : List Token) (e : Fault) → Fails p.text p.read ts e → Fails (then_text p q) (then_read p q) ts e
@@ -110,13 +127,18 @@ module _ {A B : Type 0} (p : Form A) (q : Form B) (apart : disjoint q.goes q.fir
     left = f.left;
     viable = Viable-in p.text (then_text p q) f.front [] (λ a. (a, [])) (λ a. []) (λ a. refl) tt (λ a. tt) f.viable;
     shows = Shows-in p.text (then_text p q) e.kind f.front f.bad [] (λ a. (a, [])) (λ a. []) (λ a. refl) f.shows;
-    local = λ b same. ap (λ (r : Result (A × List Token) Fault). r >>= λ a. rep q (length a.1) a.1 >>= λ r. Ok ((a.0, r.0), r.1)) (f.local b same);
+    local = λ b same. ap
+        (λ (r : Result (A × List Token) Fault). r >>= λ a. rep q (length a.1) a.1 >>= λ r. Ok ((a.0, r.0), r.1))
+        (f.local b same);
   }
 
-  one_more : (a : A) (before : List B) (b : B) → then_text p q (a, before ++ b ∷ []) ≡ (p.text a ++ texts q before) ++ (q.text b ++ [])
-  one_more a before b = ap (λ (l : List Sym). p.text a ++ l) (texts-append q before (b ∷ [])) ∙ sym (append_assoc (p.text a) (texts q before) (q.text b ++ []))
+  one_more : (a : A) (before : List B) (b : B)
+      → then_text p q (a, before ++ b ∷ []) ≡ (p.text a ++ texts q before) ++ (q.text b ++ [])
+  one_more a before b = ap (λ (l : List Sym). p.text a ++ l) (texts-append q before (b ∷ []))
+      ∙ sym (append_assoc (p.text a) (texts q before) (q.text b ++ []))
 
-  then_more : (ts : List Token) (e : Fault) (a : A) (rest : List Token) → Stands p.text p.goes ts a rest → FailsIn q rest e
+  then_more : (ts : List Token) (e : Fault) (a : A) (rest : List Token) → Stands p.text p.goes ts a rest
+      → FailsIn q rest e
       → Fails (then_text p q) (then_read p q) ts e
   then_more ts e a rest s g =
       let f = g.inner in
@@ -125,27 +147,36 @@ module _ {A B : Type 0} (p : Form A) (q : Form B) (apart : disjoint q.goes q.fir
       record {
         front = tokens_of head ++ f.front;
         bad = f.bad;
-        parts = s.parts ∙ ap (λ (l : List Token). tokens_of (p.text a) ++ l) (g.parts ∙ ap (λ (l : List Token). tokens_of (texts q g.before) ++ l) f.parts)
+        parts = s.parts ∙ ap (λ (l : List Token). tokens_of (p.text a) ++ l)
+            (g.parts ∙ ap (λ (l : List Token). tokens_of (texts q g.before) ++ l) f.parts)
             ∙ sym (append_assoc (tokens_of (p.text a)) (tokens_of (texts q g.before)) (f.front ++ f.bad))
             ∙ ap (λ (l : List Token). l ++ (f.front ++ f.bad)) (sym (tokens_of-append (p.text a) (texts q g.before)))
             ∙ sym (append_assoc (tokens_of head) f.front f.bad);
         left = f.left;
-        viable = Viable-in q.text (then_text p q) f.front head (λ b. (a, g.before ++ b ∷ [])) (λ b. []) (one_more a g.before) head_clean (λ b. tt) f.viable;
-        shows = Shows-in q.text (then_text p q) e.kind f.front f.bad head (λ b. (a, g.before ++ b ∷ [])) (λ b. []) (one_more a g.before) f.shows;
+        viable = Viable-in q.text (then_text p q) f.front head (λ b. (a, g.before ++ b ∷ [])) (λ b. [])
+            (one_more a g.before) head_clean (λ b. tt) f.viable;
+        shows = Shows-in q.text (then_text p q) e.kind f.front f.bad head (λ b. (a, g.before ++ b ∷ [])) (λ b. [])
+            (one_more a g.before) f.shows;
         local = λ b same.
             let after : List Token = tokens_of (texts q g.before) ++ (f.front ++ b) in
-            let regrouped : (tokens_of head ++ f.front) ++ b ≡ tokens_of (p.text a) ++ after = append_assoc (tokens_of head) f.front b
+            let regrouped : (tokens_of head ++ f.front) ++ b ≡ tokens_of (p.text a) ++ after =
+            append_assoc (tokens_of head) f.front b
             ∙ ap (λ (l : List Token). l ++ (f.front ++ b)) (tokens_of-append (p.text a) (texts q g.before))
             ∙ append_assoc (tokens_of (p.text a)) (tokens_of (texts q g.before)) (f.front ++ b) in
-            let begun : starts q.first (f.front ++ b) ≡ true = starts-same q.first e.kind f.front f.bad b same ∙ ap (starts q.first) (sym f.parts) ∙ g.begun in
+            let begun : starts q.first (f.front ++ b) ≡ true = starts-same q.first e.kind f.front f.bad b same
+            ∙ ap (starts q.first) (sym f.parts) ∙ g.begun in
             let stops : Stops p.goes after = subst (λ (g : List ℕ). Stops g after) (sym same_goes)
             (stops_before q apart g.before (f.front ++ b) (starts-stops q.goes q.first (f.front ++ b) apart
             (starts-Starts q apart (f.front ++ b) begun))) in
             let hp : p.read (tokens_of (p.text a) ++ after) ≡ Ok (a, after) =
-            p.again a after stops ∙ ap (λ (m : Option Fault). answer m a after) (first_annotation-clean (p.text a) (length after) s.clean) in
-            let hr = rep_local q apart (length after) g.before (f.front ++ b) (fault_at e.kind (length b)) (omega arith) g.clean begun (f.local b same) in
+            p.again a after stops
+            ∙ ap (λ (m : Option Fault). answer m a after)
+            (first_annotation-clean (p.text a) (length after) s.clean) in
+            let hr = rep_local q apart (length after) g.before (f.front ++ b) (fault_at e.kind (length b))
+            (omega arith) g.clean begun (f.local b same) in
             ap (then_read p q) regrouped
-            ∙ ap (λ (r : Result (A × List Token) Fault). r >>= λ a. rep q (length a.1) a.1 >>= λ r. Ok ((a.0, r.0), r.1)) hp
+            ∙ ap (λ (r : Result (A × List Token) Fault). r >>= λ a. rep q (length a.1) a.1 >>= λ r. Ok
+            ((a.0, r.0), r.1)) hp
             ∙ ap (λ (r : Result (List B × List Token) Fault). r >>= λ r. Ok ((a, r.0), r.1)) hr;
       }
 
@@ -154,7 +185,8 @@ module _ {A B : Type 0} (p : Form A) (q : Form B) (apart : disjoint q.goes q.fir
       elim (bind_err (p.read ts) (λ a. rep q (length a.1) a.1 >>= λ r. Ok ((a.0, r.0), r.1)) e h) [
         | inl first ↦ then_first ts e (p.fails ts e first)
         | inr x ↦ elim (bind_err (rep q (length x.0.1) x.0.1) (λ r. Ok ((x.0.0, r.0), r.1)) e x.2) [
-          | inl second ↦ then_more ts e x.0.0 x.0.1 (p.stands ts x.0.0 x.0.1 x.1) (rep_fails q apart (length x.0.1) x.0.1 e second)
+          | inl second ↦ then_more ts e x.0.0 x.0.1 (p.stands ts x.0.0 x.0.1 x.1)
+              (rep_fails q apart (length x.0.1) x.0.1 e second)
           | inr y ↦ absurd (let never = y.2 in cc)
         ]
       ]
@@ -182,7 +214,8 @@ module _ {A B : Type 0} (p : Form A) (q : Form B) where
   abbrev pub many_read : List Token → Result ((List A × B) × List Token) Fault
   many_read ts = rep p (length ts) ts >>= λ r. q.read r.1 >>= λ b. Ok ((r.0, b.0), b.1)
 
-module _ {A B : Type 0} (p : Form A) (q : Form B) (apart : disjoint p.goes p.first ≡ true) (apart_end : disjoint p.goes q.first ≡ true)
+module _ {A B : Type 0} (p : Form A) (q : Form B) (apart : disjoint p.goes p.first ≡ true)
+    (apart_end : disjoint p.goes q.first ≡ true)
     (apart_first : disjoint p.first q.first ≡ true) (first : List ℕ)
     (first_item : (x : Token) → mem (class_of x) p.first ≡ true → mem (class_of x) first ≡ true)
     (first_end : (x : Token) → mem (class_of x) q.first ≡ true → mem (class_of x) first ≡ true) where
@@ -192,14 +225,18 @@ module _ {A B : Type 0} (p : Form A) (q : Form B) (apart : disjoint p.goes p.fir
       go : (items : List A) → Starts first (tokens_of (many_text p q (items, t.1)) ++ rest)
       go [] = widen first q.first (tokens_of (q.text t.1) ++ rest) first_end (q.begins t.1 rest)
       go (a ∷ items) =
-          let e : tokens_of (many_text p q (a ∷ items, t.1)) ++ rest ≡ tokens_of (p.text a) ++ (tokens_of (texts p items ++ q.text t.1) ++ rest) =
+          let e : tokens_of (many_text p q (a ∷ items, t.1)) ++ rest ≡ tokens_of (p.text a)
+          ++ (tokens_of (texts p items ++ q.text t.1) ++ rest) =
           ap (λ (l : List Sym). tokens_of l ++ rest) (append_assoc (p.text a) (texts p items) (q.text t.1))
           ∙ ap (λ (l : List Token). l ++ rest) (tokens_of-append (p.text a) (texts p items ++ q.text t.1))
           ∙ append_assoc (tokens_of (p.text a)) (tokens_of (texts p items ++ q.text t.1)) rest in
-          subst (Starts first) (sym e) (widen first p.first (tokens_of (p.text a) ++ (tokens_of (texts p items ++ q.text t.1) ++ rest)) first_item
+          subst (Starts first) (sym e)
+          (widen first p.first
+          (tokens_of (p.text a) ++ (tokens_of (texts p items ++ q.text t.1) ++ rest)) first_item
           (p.begins a (tokens_of (texts p items ++ q.text t.1) ++ rest)))
 
-  pub many_stands : (ts : List Token) (t : List A × B) (rest : List Token) → many_read p q ts ≡ Ok (t, rest) → Stands (many_text p q) q.goes ts t rest
+  pub many_stands : (ts : List Token) (t : List A × B) (rest : List Token) → many_read p q ts ≡ Ok (t, rest)
+      → Stands (many_text p q) q.goes ts t rest
   many_stands ts t rest e =
       let x = bind_ok (rep p (length ts) ts) (λ r. q.read r.1 >>= λ b. Ok ((r.0, b.0), b.1)) (t, rest) e in
       let y = bind_ok (q.read x.0.1) (λ b. Ok ((x.0.0, b.0), b.1)) (t, rest) x.2 in
@@ -213,15 +250,18 @@ module _ {A B : Type 0} (p : Form A) (q : Form B) (apart : disjoint p.goes p.fir
         clean = IsClean-append (texts p x.0.0) (q.text y.0.0) r.clean s.clean;
         stops = s.stops;
       } in
-      subst (λ (z : (List A × B) × List Token). Stands (many_text p q) q.goes ts z.0 z.1) (ok_is made (t, rest) y.2) whole
+      subst (λ (z : (List A × B) × List Token). Stands (many_text p q) q.goes ts z.0 z.1)
+      (ok_is made (t, rest) y.2) whole
 
   many_step : (m n : Option Fault) (items : List A) (b : B) (r rest : List Token) → q.read r ≡ answer n b rest
-      → (answer m items r >>= λ r. q.read r.1 >>= λ b. Ok ((r.0, b.0), b.1)) ≡ answer {T = List A × B} (or_else m n) (items, b) rest
+      → (answer m items r >>= λ r. q.read r.1 >>= λ b. Ok ((r.0, b.0), b.1)) ≡ answer {T = List A × B} (or_else m n)
+      (items, b) rest
   many_step None None a b r rest h = rw h refl
   many_step None (Some e) a b r rest h = rw h refl
   many_step (Some e) n a b r rest h = refl
 
-  pub many_again : (t : List A × B) (rest : List Token) → Stops q.goes rest → many_read p q (tokens_of (many_text p q t) ++ rest) ≡ answer
+  pub many_again : (t : List A × B) (rest : List Token) → Stops q.goes rest
+      → many_read p q (tokens_of (many_text p q t) ++ rest) ≡ answer
       (first_annotation (many_text p q t) (length rest)) t rest
   many_again t rest stops =
       let after : List Token = tokens_of (q.text t.1) ++ rest in
@@ -229,21 +269,28 @@ module _ {A B : Type 0} (p : Form A) (q : Form B) (apart : disjoint p.goes p.fir
       after = ap (λ (l : List Token). l ++ rest) (tokens_of-append (texts p t.0) (q.text t.1))
       ∙ append_assoc (tokens_of (texts p t.0)) (tokens_of (q.text t.1)) rest in
       let begins = q.begins t.1 rest in
-      let hr = rep_again p apart (length (tokens_of (texts p t.0) ++ after)) t.0 after (omega arith) (starts-not p.first q.first after apart_first begins)
+      let hr = rep_again p apart (length (tokens_of (texts p t.0) ++ after)) t.0 after (omega arith)
+      (starts-not p.first q.first after apart_first begins)
       (all_settled p.goes t.0 after (starts-stops p.goes q.first after apart_end begins)) in
       let hq = q.again t.1 rest stops in
-      let len : length after ≡ length (q.text t.1) + length rest = omega (arith, length-append (tokens_of (q.text t.1)) rest, length-tokens (q.text t.1)) in
-      let annotations : first_annotation (many_text p q t) (length rest) ≡ or_else (first_annotation (texts p t.0) (length after))
+      let len : length after ≡ length (q.text t.1) + length rest =
+      omega (arith, length-append (tokens_of (q.text t.1)) rest, length-tokens (q.text t.1)) in
+      let annotations : first_annotation (many_text p q t) (length rest) ≡ or_else
+      (first_annotation (texts p t.0) (length after))
       (first_annotation (q.text t.1) (length rest)) = first_annotation-append (texts p t.0) (q.text t.1) (length rest)
-      ∙ ap (λ (n : ℕ). or_else (first_annotation (texts p t.0) n) (first_annotation (q.text t.1) (length rest))) (sym len) in
+      ∙ ap (λ (n : ℕ). or_else (first_annotation (texts p t.0) n) (first_annotation (q.text t.1) (length rest)))
+      (sym len) in
       ap (many_read p q) regrouped
       ∙ ap (λ (r : Result (List A × List Token) Fault). r >>= λ r. q.read r.1 >>= λ b. Ok ((r.0, b.0), b.1)) hr
-      ∙ many_step (first_annotation (texts p t.0) (length after)) (first_annotation (q.text t.1) (length rest)) t.0 t.1 after rest hq
+      ∙ many_step (first_annotation (texts p t.0) (length after)) (first_annotation (q.text t.1) (length rest)) t.0 t.1
+      after rest hq
       ∙ ap (λ (m : Option Fault). answer m t rest) (sym annotations)
 
-  item_more : (before : List A) (a : A) → many_text p q (before ++ a ∷ [], q.some) ≡ texts p before ++ (p.text a ++ q.text q.some)
+  item_more : (before : List A) (a : A)
+      → many_text p q (before ++ a ∷ [], q.some) ≡ texts p before ++ (p.text a ++ q.text q.some)
   item_more before a = ap (λ (l : List Sym). l ++ q.text q.some) (texts-append p before (a ∷ []))
-      ∙ append_assoc (texts p before) (p.text a ++ []) (q.text q.some) ∙ ap (λ (l : List Sym). texts p before ++ (l ++ q.text q.some)) (append-nil (p.text a))
+      ∙ append_assoc (texts p before) (p.text a ++ []) (q.text q.some)
+      ∙ ap (λ (l : List Sym). texts p before ++ (l ++ q.text q.some)) (append-nil (p.text a))
 
   many_item : (ts : List Token) (e : Fault) → FailsIn p ts e → Fails (many_text p q) (many_read p q) ts e
   many_item ts e g =
@@ -251,21 +298,27 @@ module _ {A B : Type 0} (p : Form A) (q : Form B) (apart : disjoint p.goes p.fir
       record {
         front = tokens_of (texts p g.before) ++ f.front;
         bad = f.bad;
-        parts = g.parts ∙ ap (λ (l : List Token). tokens_of (texts p g.before) ++ l) f.parts ∙ sym (append_assoc (tokens_of (texts p g.before)) f.front f.bad);
+        parts = g.parts ∙ ap (λ (l : List Token). tokens_of (texts p g.before) ++ l) f.parts
+            ∙ sym (append_assoc (tokens_of (texts p g.before)) f.front f.bad);
         left = f.left;
-        viable = Viable-in p.text (many_text p q) f.front (texts p g.before) (λ a. (g.before ++ a ∷ [], q.some)) (λ a. q.text q.some)
+        viable = Viable-in p.text (many_text p q) f.front (texts p g.before) (λ a. (g.before ++ a ∷ [], q.some))
+            (λ a. q.text q.some)
             (item_more g.before) g.clean (λ a. q.some_clean) f.viable;
-        shows = Shows-in p.text (many_text p q) e.kind f.front f.bad (texts p g.before) (λ a. (g.before ++ a ∷ [], q.some)) (λ a. q.text q.some)
+        shows = Shows-in p.text (many_text p q) e.kind f.front f.bad (texts p g.before)
+            (λ a. (g.before ++ a ∷ [], q.some)) (λ a. q.text q.some)
             (item_more g.before) f.shows;
         local = λ b same.
-            let begun : starts p.first (f.front ++ b) ≡ true = starts-same p.first e.kind f.front f.bad b same ∙ ap (starts p.first) (sym f.parts) ∙ g.begun in
-            let hr = rep_local p apart (length (tokens_of (texts p g.before) ++ (f.front ++ b))) g.before (f.front ++ b) (fault_at e.kind (length b))
+            let begun : starts p.first (f.front ++ b) ≡ true = starts-same p.first e.kind f.front f.bad b same
+            ∙ ap (starts p.first) (sym f.parts) ∙ g.begun in
+            let hr = rep_local p apart (length (tokens_of (texts p g.before) ++ (f.front ++ b))) g.before (f.front ++ b)
+            (fault_at e.kind (length b))
             (omega arith) g.clean begun (f.local b same) in
             ap (many_read p q) (append_assoc (tokens_of (texts p g.before)) f.front b)
             ∙ ap (λ (r : Result (List A × List Token) Fault). r >>= λ r. q.read r.1 >>= λ b. Ok ((r.0, b.0), b.1)) hr;
       }
 
-  many_end : (ts : List Token) (e : Fault) (items : List A) (rest : List Token) → Ran p ts items rest → Fails q.text q.read rest e
+  many_end : (ts : List Token) (e : Fault) (items : List A) (rest : List Token) → Ran p ts items rest
+      → Fails q.text q.read rest e
       → Fails (many_text p q) (many_read p q) ts e
   many_end ts e items rest r f =
       let whole : (b : B) → many_text p q (items, b) ≡ texts p items ++ (q.text b ++ []) =
@@ -273,23 +326,31 @@ module _ {A B : Type 0} (p : Form A) (q : Form B) (apart : disjoint p.goes p.fir
       record {
         front = tokens_of (texts p items) ++ f.front;
         bad = f.bad;
-        parts = r.parts ∙ ap (λ (l : List Token). tokens_of (texts p items) ++ l) f.parts ∙ sym (append_assoc (tokens_of (texts p items)) f.front f.bad);
+        parts = r.parts ∙ ap (λ (l : List Token). tokens_of (texts p items) ++ l) f.parts
+            ∙ sym (append_assoc (tokens_of (texts p items)) f.front f.bad);
         left = f.left;
-        viable = Viable-in q.text (many_text p q) f.front (texts p items) (λ b. (items, b)) (λ b. []) whole r.clean (λ b. tt) f.viable;
-        shows = Shows-in q.text (many_text p q) e.kind f.front f.bad (texts p items) (λ b. (items, b)) (λ b. []) whole f.shows;
+        viable = Viable-in q.text (many_text p q) f.front (texts p items) (λ b. (items, b)) (λ b. []) whole r.clean
+            (λ b. tt) f.viable;
+        shows = Shows-in q.text (many_text p q) e.kind f.front f.bad (texts p items) (λ b. (items, b))
+            (λ b. []) whole f.shows;
         local = λ b same.
             let after : List Token = f.front ++ b in
-            let ends : starts p.first after ≡ false = starts-same p.first e.kind f.front f.bad b same ∙ ap (starts p.first) (sym f.parts) ∙ r.ends in
-            let settled : Settled p.goes items after = Settled-same items e.kind f.front f.bad b same (subst (Settled p.goes items) f.parts r.stops) in
-            let hr : rep p (length (tokens_of (texts p items) ++ after)) (tokens_of (texts p items) ++ after) ≡ Ok (items, after) =
+            let ends : starts p.first after ≡ false = starts-same p.first e.kind f.front f.bad b same
+            ∙ ap (starts p.first) (sym f.parts) ∙ r.ends in
+            let settled : Settled p.goes items after =
+            Settled-same items e.kind f.front f.bad b same (subst (Settled p.goes items) f.parts r.stops) in
+            let hr : rep p (length (tokens_of (texts p items) ++ after)) (tokens_of (texts p items) ++ after) ≡ Ok
+            (items, after) =
             rep_again p apart (length (tokens_of (texts p items) ++ after)) items after (omega arith) ends settled
-            ∙ ap (λ (m : Option Fault). answer m items after) (first_annotation-clean (texts p items) (length after) r.clean) in
+            ∙ ap (λ (m : Option Fault). answer m items after)
+            (first_annotation-clean (texts p items) (length after) r.clean) in
             ap (many_read p q) (append_assoc (tokens_of (texts p items)) f.front b)
             ∙ ap (λ (r : Result (List A × List Token) Fault). r >>= λ r. q.read r.1 >>= λ b. Ok ((r.0, b.0), b.1)) hr
             ∙ ap (λ (r : Result (B × List Token) Fault). r >>= λ b. Ok ((items, b.0), b.1)) (f.local b same);
       }
     where
-      Settled-same : (items : List A) (k : Kind) (front bad b : List Token) → SameHead k bad b → Settled p.goes items (front ++ bad)
+      Settled-same : (items : List A) (k : Kind) (front bad b : List Token) → SameHead k bad b
+          → Settled p.goes items (front ++ bad)
           → Settled p.goes items (front ++ b)
       Settled-same [] k front bad b same h = tt
       Settled-same (a ∷ items) k front bad b same h = Stops-same k p.goes front bad b same h
@@ -299,7 +360,8 @@ module _ {A B : Type 0} (p : Form A) (q : Form B) (apart : disjoint p.goes p.fir
       elim (bind_err (rep p (length ts) ts) (λ r. q.read r.1 >>= λ b. Ok ((r.0, b.0), b.1)) e h) [
         | inl first ↦ many_item ts e (rep_fails p apart (length ts) ts e first)
         | inr x ↦ elim (bind_err (q.read x.0.1) (λ b. Ok ((x.0.0, b.0), b.1)) e x.2) [
-          | inl second ↦ many_end ts e x.0.0 x.0.1 (rep_runs p apart (length ts) ts x.0.0 x.0.1 (omega arith) x.1) (q.fails x.0.1 e second)
+          | inl second ↦ many_end ts e x.0.0 x.0.1 (rep_runs p apart (length ts) ts x.0.0 x.0.1 (omega arith) x.1)
+              (q.fails x.0.1 e second)
           | inr y ↦ absurd (let never = y.2 in cc)
         ]
       ]

@@ -11,12 +11,14 @@ unfolding not_at
 not_at-leaf zero ts h = rw h refl
 not_at-leaf (suc n) ts h = rw h refl
 
-pub not_at-deep : (n : ℕ) (ts : List Token) → n ≡ 0 → starts opener_classes ts ≡ true → not_at n ts ≡ Err (fault_at Deep (length ts))
+pub not_at-deep : (n : ℕ) (ts : List Token) → n ≡ 0 → starts opener_classes ts ≡ true
+    → not_at n ts ≡ Err (fault_at Deep (length ts))
 unfolding not_at
 not_at-deep zero ts z h = rw h refl
 not_at-deep (suc n) ts z h = absurd (omega arith)
 
-pub not_at-opened : (n : ℕ) (ts : List Token) → n ≢ 0 → starts opener_classes ts ≡ true → not_at n ts ≡ opened_in (not_at (n - 1)) ts
+pub not_at-opened : (n : ℕ) (ts : List Token) → n ≢ 0 → starts opener_classes ts ≡ true
+    → not_at n ts ≡ opened_in (not_at (n - 1)) ts
 unfolding not_at
 not_at-opened zero ts z h = absurd (z refl)
 not_at-opened (suc n) ts z h = let e : suc n - 1 ≡ n = omega arith in rw (h, e) refl

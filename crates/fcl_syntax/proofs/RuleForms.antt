@@ -12,13 +12,21 @@ use Rattle.fcl_syntax.specs.TokenClasses.{Among, name_classes, comma_classes, ke
 use Rattle.fcl_syntax.specs.Annotations.{Sym, plain}
 use Rattle.fcl_syntax.specs.Readers.{loop}
 use Rattle.fcl_syntax.proofs.Form.{disjoint, Form}
-use Rattle.fcl_syntax.specs.Grammar.{each, key_text, name_text, conclusion_text, conclusions_text, TSignedNumber, TWeight, weight_text, TOr, TRule, rule_text, option_classes, TRuleItem, rule_item_text, and_classes, or_classes, TAct, act_text, TRuleLine, TRulebase, rulebase_text, ruleblock_classes, TEnd, end_text, TSection, TPart, part_text, TBlock, block_text}
-use Rattle.fcl_syntax.specs.Reading.{expect_at, key_at, name_at, label_at, conclusion_at, comma_conclusion_at, conclusions_at, weight_value_at, with_at, weight_at, or_in, not_at, rule_at, rule_item_at, rules_at, act_word_at, act_at, rule_line_at, rule_lines_at, rulebase_at, end_at, sections_at, parts_at, block_at}
+use Rattle.fcl_syntax.specs.Grammar.{each, key_text, name_text, conclusion_text, conclusions_text, TSignedNumber}
+use Rattle.fcl_syntax.specs.Grammar.{TWeight, weight_text, TOr, TRule, rule_text, option_classes, TRuleItem}
+use Rattle.fcl_syntax.specs.Grammar.{rule_item_text, and_classes, or_classes, TAct, act_text, TRuleLine, TRulebase}
+use Rattle.fcl_syntax.specs.Grammar.{rulebase_text, ruleblock_classes, TEnd, end_text, TSection, TPart, part_text}
+use Rattle.fcl_syntax.specs.Grammar.{TBlock, block_text}
+use Rattle.fcl_syntax.specs.Reading.{expect_at, key_at, name_at, label_at, conclusion_at, comma_conclusion_at}
+use Rattle.fcl_syntax.specs.Reading.{conclusions_at, weight_value_at, with_at, weight_at, or_in, not_at, rule_at}
+use Rattle.fcl_syntax.specs.Reading.{rule_item_at, rules_at, act_word_at, act_at, rule_line_at, rule_lines_at}
+use Rattle.fcl_syntax.specs.Reading.{rulebase_at, end_at, sections_at, parts_at, block_at}
 use Rattle.fcl_syntax.proofs.Chains.{bind_assoc, bind_cond, second, chain2, chain3, chain4, chain5, chain6, chain8}
 use Rattle.fcl_syntax.proofs.SingleTokens as single
 use Rattle.fcl_syntax.proofs.ConditionForms.{part, or_form}
 use Rattle.fcl_syntax.proofs.Dead.{via}
-use Rattle.fcl_syntax.proofs.Forms.{bare_form, key_form, word_form, name_form, signed_number_form, section_form, behind_texts, each_texts}
+use Rattle.fcl_syntax.proofs.Forms.{bare_form, key_form, word_form, name_form, signed_number_form, section_form}
+use Rattle.fcl_syntax.proofs.Forms.{behind_texts, each_texts}
 use Rattle.fcl_syntax.proofs.Loop.{texts}
 use Rattle.fcl_syntax.proofs.Named.{named, either, refuse, many_then}
 use Rattle.fcl_syntax.proofs.Repeat.{then_rep}
@@ -40,7 +48,8 @@ to_conclusion t = record { variable = t.0; is_at = t.1.0; term = t.1.1 }
 
 abbrev pub conclusion_raw : Form Conclusion
 conclusion_raw =
-    via (seq name_form (seq (key_form key.Is) name_form refl) refl) to_conclusion (λ c. (c.variable, (c.is_at, c.term))) conclusion_text (λ c. refl) (λ t. refl)
+    via (seq name_form (seq (key_form key.Is) name_form refl) refl) to_conclusion (λ c. (c.variable, (c.is_at, c.term)))
+    conclusion_text (λ c. refl) (λ t. refl)
 
 pub conclusion_is : (ts : List Token) → conclusion_at ts ≡ conclusion_raw.read ts
 unfolding conclusion_at
@@ -51,7 +60,8 @@ conclusion_form = named conclusion_raw conclusion_at conclusion_is
 
 abbrev pub comma_conclusion_raw : Form Conclusion
 comma_conclusion_raw =
-    via (seq (bare_form tok.Comma refl) conclusion_form refl) (λ t. t.1) (λ c. (tt, c)) (λ c. plain tok.Comma ∷ conclusion_text c) (λ c. refl) (λ t. refl)
+    via (seq (bare_form tok.Comma refl) conclusion_form refl) (λ t. t.1) (λ c. (tt, c))
+    (λ c. plain tok.Comma ∷ conclusion_text c) (λ c. refl) (λ t. refl)
 
 pub comma_conclusion_is : (ts : List Token) → comma_conclusion_at ts ≡ comma_conclusion_raw.read ts
 unfolding comma_conclusion_at
@@ -60,11 +70,15 @@ comma_conclusion_is ts = second (expect_at tok.Comma) conclusion_at ts
 abbrev pub comma_conclusion_form : Form Conclusion
 comma_conclusion_form = named comma_conclusion_raw comma_conclusion_at comma_conclusion_is
 
-pub conclusions_same : (t : Conclusion × List Conclusion) → conclusions_text t ≡ conclusion_text t.0 ++ texts comma_conclusion_form t.1
-conclusions_same t = ap (λ (l : List Sym). conclusion_text t.0 ++ l) (behind_texts tok.Comma conclusion_text comma_conclusion_form (λ a. refl) t.1)
+pub conclusions_same : (t : Conclusion × List Conclusion)
+    → conclusions_text t ≡ conclusion_text t.0 ++ texts comma_conclusion_form t.1
+conclusions_same t =
+    ap (λ (l : List Sym). conclusion_text t.0 ++ l)
+    (behind_texts tok.Comma conclusion_text comma_conclusion_form (λ a. refl) t.1)
 
 abbrev pub conclusions_raw : Form (Conclusion × List Conclusion)
-conclusions_raw = via (then_rep conclusion_form comma_conclusion_form refl refl) (λ t. t) (λ t. t) conclusions_text (λ t. refl) conclusions_same
+conclusions_raw = via (then_rep conclusion_form comma_conclusion_form refl refl) (λ t. t) (λ t. t) conclusions_text
+    (λ t. refl) conclusions_same
 
 pub conclusions_is : (ts : List Token) → conclusions_at ts ≡ conclusions_raw.read ts
 unfolding conclusions_at
@@ -87,7 +101,8 @@ abbrev pub to_with : ℕ × ((Among name_classes ⊎ TSignedNumber) × Unit {0})
 to_with t = record { at = t.0; value = t.1.0 }
 
 abbrev pub with_raw : Form TWeight
-with_raw = via (seq (key_form key.With) (seq weight_value_form (bare_form tok.Semicolon refl) refl) refl) to_with (λ w. (w.at, (w.value, tt))) weight_text
+with_raw = via (seq (key_form key.With) (seq weight_value_form (bare_form tok.Semicolon refl) refl) refl) to_with
+    (λ w. (w.at, (w.value, tt))) weight_text
     (λ w. refl) (λ t. refl)
 
 pub with_is : (ts : List Token) → with_at ts ≡ with_raw.read ts
@@ -131,17 +146,22 @@ to_rule t = record {
 
 abbrev pub rule_seq : Form RuleRaw
 rule_seq = seq (key_form key.Rule) (seq label_form (seq (bare_form tok.Colon refl)
-    (seq (key_form key.If) (seq condition_form (seq (key_form key.Then) (seq conclusions_form weight_form refl) refl) condition_apart) refl) refl) refl) refl
+    (seq (key_form key.If)
+    (seq condition_form (seq (key_form key.Then) (seq conclusions_form weight_form refl) refl) condition_apart)
+    refl) refl) refl) refl
 
 pub rule_same : (t : RuleRaw) → rule_text (to_rule t) ≡ rule_seq.text t
 rule_same t = refl
 
 abbrev pub rule_raw : Form TRule
-rule_raw = via rule_seq to_rule (λ r. (r.at, (r.label, (tt, (r.if_at, (r.condition, (r.then_at, (r.conclusions, r.weight)))))))) rule_text (λ r. refl) rule_same
+rule_raw = via rule_seq to_rule
+    (λ r. (r.at, (r.label, (tt, (r.if_at, (r.condition, (r.then_at, (r.conclusions, r.weight)))))))) rule_text
+    (λ r. refl) rule_same
 
 pub rule_is : (ts : List Token) → rule_at ts ≡ rule_raw.read ts
 unfolding rule_at
-rule_is ts = chain8 (key_at key.Rule) label_at (expect_at tok.Colon) (key_at key.If) (or_in (not_at 64)) (key_at key.Then) conclusions_at weight_at to_rule ts
+rule_is ts = chain8 (key_at key.Rule) label_at (expect_at tok.Colon) (key_at key.If) (or_in (not_at 64))
+    (key_at key.Then) conclusions_at weight_at to_rule ts
 
 abbrev pub rule_form : Form TRule
 rule_form = named rule_raw rule_at rule_is
@@ -172,7 +192,8 @@ abbrev pub to_act : ℕ × (Unit {0} × ((ℕ ⊎ ℕ) × Unit {0})) → TAct
 to_act t = record { at = t.0; word = t.1.1.0 }
 
 abbrev pub act_raw : Form TAct
-act_raw = via (seq (key_form key.Act) (seq (bare_form tok.Colon refl) (seq act_word_form (bare_form tok.Semicolon refl) refl) refl) refl) to_act
+act_raw = via (seq (key_form key.Act)
+    (seq (bare_form tok.Colon refl) (seq act_word_form (bare_form tok.Semicolon refl) refl) refl) refl) to_act
     (λ a. (a.at, (tt, (a.word, tt)))) act_text (λ a. refl) (λ t. refl)
 
 pub act_is : (ts : List Token) → act_at ts ≡ act_raw.read ts
@@ -183,7 +204,8 @@ abbrev pub act_form : Form TAct
 act_form = named act_raw act_at act_is
 
 abbrev pub rule_line_raw : Form TRuleLine
-rule_line_raw = either (setting_form key.And word.Min and_classes 2 refl refl) (either (setting_form key.Or word.Max or_classes 3 refl refl)
+rule_line_raw = either (setting_form key.And word.Min and_classes 2 refl refl)
+    (either (setting_form key.Or word.Max or_classes 3 refl refl)
     (either act_form accu_form refl refl) refl refl) refl refl
 
 pub rule_line_is : (ts : List Token) → rule_line_at ts ≡ rule_line_raw.read ts
@@ -207,13 +229,16 @@ rulebase_seq = seq (key_form key.Ruleblock) (seq name_form (many_then rule_line_
 
 pub rulebase_same : (t : RulebaseRaw) → rulebase_text (to_rulebase t) ≡ rulebase_seq.text t
 rulebase_same t =
-    ap (λ (l : List Sym). key_text key.Ruleblock t.0 ++ (name_text t.1.0 ++ (l ++ (each rule_item_text t.1.1.1.0 ++ key_text key.EndRuleblock t.1.1.1.1))))
+    ap (λ (l : List Sym). key_text key.Ruleblock t.0
+    ++ (name_text t.1.0 ++ (l ++ (each rule_item_text t.1.1.1.0 ++ key_text key.EndRuleblock t.1.1.1.1))))
     (each_texts rule_line_form t.1.1.0)
-    ∙ ap (λ (l : List Sym). key_text key.Ruleblock t.0 ++ (name_text t.1.0 ++ (texts rule_line_form t.1.1.0 ++ (l ++ key_text key.EndRuleblock t.1.1.1.1))))
+    ∙ ap (λ (l : List Sym). key_text key.Ruleblock t.0
+    ++ (name_text t.1.0 ++ (texts rule_line_form t.1.1.0 ++ (l ++ key_text key.EndRuleblock t.1.1.1.1))))
     (each_texts rule_item_form t.1.1.1.0)
 
 abbrev pub rulebase_raw : Form TRulebase
-rulebase_raw = via rulebase_seq to_rulebase (λ r. (r.at, (r.name, (r.lines, (r.rules, r.end))))) rulebase_text (λ r. refl) rulebase_same
+rulebase_raw = via rulebase_seq to_rulebase (λ r. (r.at, (r.name, (r.lines, (r.rules, r.end))))) rulebase_text
+    (λ r. refl) rulebase_same
 
 pub rulebase_is : (ts : List Token) → rulebase_at ts ≡ rulebase_raw.read ts
 unfolding rulebase_at
@@ -225,7 +250,8 @@ rulebase_form = named rulebase_raw rulebase_at rulebase_is
 -- ---- the block
 
 abbrev pub end_raw : Form TEnd
-end_raw = refuse (Unsupported 7) option_classes (refuse (Unsupported 8) ruleblock_classes (key_form key.EndFunctionBlock) refl refl) refl refl
+end_raw = refuse (Unsupported 7) option_classes
+    (refuse (Unsupported 8) ruleblock_classes (key_form key.EndFunctionBlock) refl refl) refl refl
 
 pub end_is : (ts : List Token) → end_at ts ≡ end_raw.read ts
 unfolding end_at
@@ -238,7 +264,15 @@ abbrev pub BlockRaw : Type 0
 BlockRaw = ℕ × (Name × (List TSection × (List TPart × (TRulebase × TEnd))))
 
 abbrev pub to_block : BlockRaw → TBlock
-to_block t = record { at = t.0; name = t.1.0; variables = t.1.1.0; parts = t.1.1.1.0; rules = t.1.1.1.1.0; end = t.1.1.1.1.1 }
+to_block t = record {
+  at = t.0;
+  name = t.1.0;
+  variables = t.1.1.0;
+  parts = t.1.1.1.0;
+  rules = t.1.1.1.1.0;
+  end =
+      t.1.1.1.1.1;
+}
 
 abbrev pub block_seq : Form BlockRaw
 block_seq = seq (key_form key.FunctionBlock) (seq name_form (many_then section_form
@@ -247,12 +281,15 @@ block_seq = seq (key_form key.FunctionBlock) (seq name_form (many_then section_f
 pub block_same : (t : BlockRaw) → block_text (to_block t) ≡ block_seq.text t
 block_same t =
     ap (λ (l : List Sym). key_text key.FunctionBlock t.0 ++ (name_text t.1.0 ++ (l ++
-    (each part_text t.1.1.1.0 ++ (rulebase_text t.1.1.1.1.0 ++ end_text t.1.1.1.1.1))))) (each_texts section_form t.1.1.0)
+    (each part_text t.1.1.1.0 ++ (rulebase_text t.1.1.1.1.0 ++ end_text t.1.1.1.1.1)))))
+    (each_texts section_form t.1.1.0)
     ∙ ap (λ (l : List Sym). key_text key.FunctionBlock t.0 ++ (name_text t.1.0 ++
-    (texts section_form t.1.1.0 ++ (l ++ (rulebase_text t.1.1.1.1.0 ++ end_text t.1.1.1.1.1))))) (each_texts part_form t.1.1.1.0)
+    (texts section_form t.1.1.0 ++ (l ++ (rulebase_text t.1.1.1.1.0 ++ end_text t.1.1.1.1.1)))))
+    (each_texts part_form t.1.1.1.0)
 
 abbrev pub block_raw : Form TBlock
-block_raw = via block_seq to_block (λ b. (b.at, (b.name, (b.variables, (b.parts, (b.rules, b.end)))))) block_text (λ b. refl) block_same
+block_raw = via block_seq to_block (λ b. (b.at, (b.name, (b.variables, (b.parts, (b.rules, b.end)))))) block_text
+    (λ b. refl) block_same
 
 pub block_is : (ts : List Token) → block_at ts ≡ block_raw.read ts
 unfolding block_at

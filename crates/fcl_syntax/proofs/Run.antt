@@ -1,5 +1,6 @@
 -- A loop of the parser, as far as it has come.
-use Rattle.std.proofs.Common.{◌≡◌, ℕ, zero, suc, ◌≤◌, ◌<◌, true, false, List, [], ◌∷◌, ◌++◌, length, map, Result, Ok, Err, refl, sym, ap, subst, ◌∙◌, append_assoc, arith}
+use Rattle.std.proofs.Common.{◌≡◌, ℕ, zero, suc, ◌≤◌, ◌<◌, true, false, List, [], ◌∷◌, ◌++◌, length, map, Result, Ok}
+use Rattle.std.proofs.Common.{Err, refl, sym, ap, subst, ◌∙◌, append_assoc, arith}
 use Rattle.std.proofs.lemmas.List.{append-nil, length-append, map_push}
 use Rattle.std.specs.Prelude.{IfOk}
 use Rattle.fcl_syntax.specs.declared.fault.Fault.{Fault}
@@ -13,13 +14,15 @@ use Rattle.fcl_syntax.proofs.Form.{Starts, Form}
 abbrev pub prefixed : {A : Type 0} → List A → Result (List A × List Token) Fault → Result (List A × List Token) Fault
 prefixed front r = r >>= λ x. Ok (front ++ x.0, x.1)
 
-pub record Going {A : Type 0} (first : List ℕ) (read : List Token → Result (A × List Token) Fault) (front : List A) (rest : List Token)
+pub record Going {A : Type 0} (first : List ℕ) (read : List Token → Result (A × List Token) Fault) (front : List A)
+    (rest : List Token)
     (total : Result (List A × List Token) Fault) : Type 0 where
   pub fuel : ℕ
   pub enough : length rest ≤ fuel
   pub so_far : prefixed front (loop first read fuel rest) ≡ total
 
-pub shrinks : {A : Type 0} (p : Form A) (ts : List Token) (a : A) (rest : List Token) → p.read ts ≡ Ok (a, rest) → length rest < length ts
+pub shrinks : {A : Type 0} (p : Form A) (ts : List Token) (a : A) (rest : List Token) → p.read ts ≡ Ok (a, rest)
+    → length rest < length ts
 shrinks p ts a rest h =
     let s = p.stands ts a rest h in
     let b = p.begins a [] in
@@ -37,24 +40,28 @@ begun first read ts = record { fuel = length ts; enough = omega arith; so_far = 
     go (Ok x) = refl
     go (Err e) = refl
 
-regroup : {A : Type 0} (front : List A) (a : A) (r : Result (List A × List Token) Fault) → prefixed front (with_front a r) ≡ prefixed (front ++ a ∷ []) r
+regroup : {A : Type 0} (front : List A) (a : A) (r : Result (List A × List Token) Fault)
+    → prefixed front (with_front a r) ≡ prefixed (front ++ a ∷ []) r
 regroup front a (Ok x) = ap (λ (items : _). Ok (items, x.1)) (sym (append_assoc front (a ∷ []) x.0))
 regroup front a (Err f) = refl
 
-pub goes_on : {A : Type 0} (first : List ℕ) (read : List Token → Result (A × List Token) Fault) (front : List A) (ts : List Token) (a : A) (after : List Token)
+pub goes_on : {A : Type 0} (first : List ℕ) (read : List Token → Result (A × List Token) Fault) (front : List A)
+    (ts : List Token) (a : A) (after : List Token)
     (total : Result (List A × List Token) Fault)
     → starts first ts ≡ true → read ts ≡ Ok (a, after) → length after < length ts → Going first read front ts total
     → Going first read (front ++ a ∷ []) after total
 goes_on first read front ts a after total begins h shorter g = go g.fuel g.enough g.so_far
   where
-    go : (n : ℕ) → length ts ≤ n → prefixed front (loop first read n ts) ≡ total → Going first read (front ++ a ∷ []) after total
+    go : (n : ℕ) → length ts ≤ n → prefixed front (loop first read n ts) ≡ total
+        → Going first read (front ++ a ∷ []) after total
     go zero enough so_far = absurd (omega arith)
     go (suc n) enough so_far =
         let one : prefixed front (loop first read (suc n) ts) ≡ prefixed (front ++ a ∷ []) (loop first read n after) =
         rw (begins, h) (regroup front a (loop first read n after)) in
         record { fuel = n; enough = omega arith; so_far = sym one ∙ so_far }
 
-pub fails_in : {A : Type 0} (first : List ℕ) (read : List Token → Result (A × List Token) Fault) (front : List A) (ts : List Token) (e : ParseError)
+pub fails_in : {A : Type 0} (first : List ℕ) (read : List Token → Result (A × List Token) Fault) (front : List A)
+    (ts : List Token) (e : ParseError)
     (total : Result (List A × List Token) Fault)
     → starts first ts ≡ true → FailsAs e (read ts) → Going first read front ts total → FailsAs e total
 fails_in first read front ts errors.Memory total begins h g = tt
@@ -70,7 +77,8 @@ fails_in first read front ts (errors.Fault f) total begins h g = go g.fuel g.eno
         let one : prefixed front (loop first read (suc n) ts) ≡ Err f = rw (begins, h) refl in
         sym so_far ∙ one
 
-pub is_done : {A : Type 0} (first : List ℕ) (read : List Token → Result (A × List Token) Fault) (front : List A) (ts : List Token)
+pub is_done : {A : Type 0} (first : List ℕ) (read : List Token → Result (A × List Token) Fault) (front : List A)
+    (ts : List Token)
     (total : Result (List A × List Token) Fault)
     → starts first ts ≡ false → Going first read front ts total → total ≡ Ok (front, ts)
 is_done first read front ts total ends g = go g.fuel g.so_far
@@ -84,21 +92,25 @@ is_done first read front ts total ends g = go g.fuel g.so_far
         let one : prefixed front (loop first read (suc n) ts) ≡ Ok (front, ts) = rw ends done in
         sym so_far ∙ one
 
-pub shorter_by : {A : Type 0} (p : Form A) (f : List Token → Result (A × List Token) Fault) → ((ts : List Token) → f ts ≡ p.read ts)
+pub shorter_by : {A : Type 0} (p : Form A) (f : List Token → Result (A × List Token) Fault)
+    → ((ts : List Token) → f ts ≡ p.read ts)
     → (ts : List Token) (a : A) (rest : List Token) → f ts ≡ Ok (a, rest) → length rest < length ts
 shorter_by p f same ts a rest h = shrinks p ts a rest (sym (same ts) ∙ h)
 
 -- one more item, which is pushed
-pub pushed : {X A : Type 0} (view : X → A) (first : List ℕ) (read : List Token → Result (A × List Token) Fault) (items more : List X) (x : X)
+pub pushed : {X A : Type 0} (view : X → A) (first : List ℕ) (read : List Token → Result (A × List Token) Fault)
+    (items more : List X) (x : X)
     (ts after : List Token) (total : Result (List A × List Token) Fault)
-    → more ≡ items ++ x ∷ [] → starts first ts ≡ true → read ts ≡ Ok (view x, after) → length after < length ts → Going first read (map view items) ts total
+    → more ≡ items ++ x ∷ [] → starts first ts ≡ true → read ts ≡ Ok (view x, after) → length after < length ts
+    → Going first read (map view items) ts total
     → Going first read (map view more) after total
 pushed view first read items more x ts after total is begins h shorter g =
     let e : map view more ≡ map view items ++ view x ∷ [] = rw is (map_push view items x) in
     rw e (goes_on first read (map view items) ts (view x) after total begins h shorter g)
 
 -- what reads as a form takes a token at least
-pub takes_some : {X R A : Type 0} (p : Form A) (f : List Token → Result (A × List Token) Fault) → ((ts : List Token) → f ts ≡ p.read ts)
+pub takes_some : {X R A : Type 0} (p : Form A) (f : List Token → Result (A × List Token) Fault)
+    → ((ts : List Token) → f ts ≡ p.read ts)
     → (view : X → A) (ts : List Token) (r : Result (X × R) ParseError) (now : R → List Token)
     → Gives (λ x. (view x.0, now x.1)) r (f ts) → IfOk r (λ x. length (now x.1) < length ts)
 takes_some p f same view ts (Ok x) now h = shorter_by p f same ts (view x.0) (now x.1) h

@@ -1,5 +1,6 @@
 -- No token has a number beyond 100000.
-use Rattle.std.proofs.Common.{◌≡◌, ℕ, zero, suc, ◌+◌, Bool, true, false, List, [], ◌∷◌, length, take, drop, Option, Some, None, Result, Ok, Err, refl, sym, subst, arith, pos, neg_ℤ, ◌≤ℤ◌, All}
+use Rattle.std.proofs.Common.{◌≡◌, ℕ, zero, suc, ◌+◌, Bool, true, false, List, [], ◌∷◌, length, take, drop, Option}
+use Rattle.std.proofs.Common.{Some, None, Result, Ok, Err, refl, sym, subst, arith, pos, neg_ℤ, ◌≤ℤ◌, All}
 use Rattle.std.proofs.lemmas.Int.{ints}
 use Rattle.std.specs.Ordering.{int_eq}
 use Rattle.std.specs.Prelude.{if◌then◌else◌, nat_lt, not, ◌==◌}
@@ -12,7 +13,9 @@ use Rattle.fz_num.specs.declared.dec.DecFault.TheVariants.{Shape, Places, Large}
 use Rattle.fcl_syntax.specs.Grammar.{block_text}
 use Rattle.fcl_syntax.specs.Annotations.{tokens_of}
 use Rattle.fcl_syntax.specs.Tokens.{amount_of, starts_name, meaning_in, is_blank, is_name_start, is_name_byte}
-use Rattle.fcl_syntax.specs.Lexing.{piece_of, next_piece, lexed, Lexed, decimal_piece, number_piece, number_len, open_piece, comment_piece, comment_end, slash_piece, point_piece, colon_piece, delimiter_piece, token_of, word_token, run, in_front}
+use Rattle.fcl_syntax.specs.Lexing.{piece_of, next_piece, lexed, Lexed, decimal_piece, number_piece, number_len}
+use Rattle.fcl_syntax.specs.Lexing.{open_piece, comment_piece, comment_end, slash_piece, point_piece, colon_piece}
+use Rattle.fcl_syntax.specs.Lexing.{delimiter_piece, token_of, word_token, run, in_front}
 use Rattle.fcl_syntax.specs.declared.lexer.Piece.{Piece}
 use Rattle.fcl_syntax.specs.declared.lexer.Piece.TheVariants as piece
 use Rattle.fcl_syntax.specs.declared.token.Amount.TheVariants as amount
@@ -39,7 +42,8 @@ amount_scale d h = first (int_eq d.0 (pos 0))
     second true = tt
     second false = h
 
-    first : (b : Bool) → IsAmountInScale (if b then amount.Zero else (if int_eq d.0 (pos 10000) then amount.One else amount.Other d))
+    first : (b : Bool) → IsAmountInScale
+        (if b then amount.Zero else (if int_eq d.0 (pos 10000) then amount.One else amount.Other d))
     first true = tt
     first false = second (int_eq d.0 (pos 10000))
 
@@ -47,11 +51,13 @@ abbrev ResultInScale : Result Dec DecFault → Type 0
 ResultInScale (Ok d) = (neg_ℤ (pos 1000000000) ≤ℤ d.0) × (d.0 ≤ℤ pos 1000000000)
 ResultInScale (Err e) = Unit {0}
 
-either_result : (b : Bool) (p q : Result Dec DecFault) → ResultInScale p → ResultInScale q → ResultInScale (if b then p else q)
+either_result : (b : Bool) (p q : Result Dec DecFault) → ResultInScale p → ResultInScale q
+    → ResultInScale (if b then p else q)
 either_result true p q h g = h
 either_result false p q h g = g
 
-small_scale : (negative : Bool) (m : ℕ) (b : Bool) → nat_lt 1000000000 m ≡ b → ResultInScale (if b then Err Large else Ok (record { 0 = signed negative m }))
+small_scale : (negative : Bool) (m : ℕ) (b : Bool) → nat_lt 1000000000 m ≡ b
+    → ResultInScale (if b then Err Large else Ok (record { 0 = signed negative m }))
 small_scale negative m true e = tt
 small_scale true m false e = grind (arith, ints, e)
 small_scale false m false e = grind (arith, ints, e)
@@ -63,7 +69,8 @@ decimal_scale bytes =
     (either_result (not (has_four_places cs)) (Err Places) _ tt
     (small_scale (is_negative bytes) (magnitude cs) (nat_lt 1000000000 (magnitude cs)) refl))
 
-decimal_piece_scale : (at n : ℕ) (whole : Bool) (r : Result Dec DecFault) → ResultInScale r → PieceInScale (decimal_piece at n whole r)
+decimal_piece_scale : (at n : ℕ) (whole : Bool) (r : Result Dec DecFault) → ResultInScale r
+    → PieceInScale (decimal_piece at n whole r)
 decimal_piece_scale at n whole (Ok d) h = amount_scale d h
 decimal_piece_scale at n whole (Err e) h = tt
 
@@ -71,7 +78,8 @@ number_scale : (at : ℕ) (bytes : List ℕ) → PieceInScale (number_piece at b
 unfolding number_piece
 number_scale at bytes =
     let n = number_len bytes in
-    either (starts_name (drop n bytes)) _ _ tt (decimal_piece_scale at n _ (decimal (take n bytes)) (decimal_scale (take n bytes)))
+    either (starts_name (drop n bytes)) _ _ tt
+    (decimal_piece_scale at n _ (decimal (take n bytes)) (decimal_scale (take n bytes)))
 
 word_scale : (at n : ℕ) (m : Meaning) → PieceInScale (piece.Token (token_of at m) n)
 word_scale at n (meaning.Keyword k) = tt
@@ -132,7 +140,8 @@ fronted_scale : (t : Token) (at : ℕ) (l : Lexed) → IsTokenInScale t → Lexe
 fronted_scale t at (Ok l) h g = All-cons IsTokenInScale t l.0 h g
 fronted_scale t at (Err e) h g = tt
 
-next_scale : (at : ℕ) (p : Piece) (go : ℕ → Lexed) → PieceInScale p → ((n : ℕ) → LexedInScale (go n)) → LexedInScale (next_piece at p go)
+next_scale : (at : ℕ) (p : Piece) (go : ℕ → Lexed) → PieceInScale p → ((n : ℕ) → LexedInScale (go n))
+    → LexedInScale (next_piece at p go)
 next_scale at (piece.Skip n) go h g = g n
 next_scale at (piece.Token t n) go h g = fronted_scale t at (go n) h (g n)
 next_scale at (piece.Fault k) go h g = tt
@@ -141,10 +150,12 @@ lexed_scale : (fuel at : ℕ) (bytes : List ℕ) → LexedInScale (lexed fuel at
 unfolding lexed
 lexed_scale zero at bytes = All-nil IsTokenInScale
 lexed_scale (suc fuel) at [] = All-nil IsTokenInScale
-lexed_scale (suc fuel) at (b ∷ bytes) = next_scale at (piece_of at (b ∷ bytes)) (λ n. lexed fuel (at + n) (drop n (b ∷ bytes))) (piece_scale at (b ∷ bytes))
+lexed_scale (suc fuel) at (b ∷ bytes) =
+    next_scale at (piece_of at (b ∷ bytes)) (λ n. lexed fuel (at + n) (drop n (b ∷ bytes))) (piece_scale at (b ∷ bytes))
     (λ n. lexed_scale fuel (at + n) (drop n (b ∷ bytes)))
 
 pub numbers_in_scale_lem : NumbersInScale
 numbers_in_scale_lem text t s =
-    let cut : LexedInScale (Ok (s.tokens, s.places)) = subst LexedInScale (tokens_are_cut text s.tokens s.places s.cut) (lexed_scale (length text) 0 text) in
+    let cut : LexedInScale (Ok (s.tokens, s.places)) =
+    subst LexedInScale (tokens_are_cut text s.tokens s.places s.cut) (lexed_scale (length text) 0 text) in
     All-same IsTokenInScale (tokens_of (block_text t)) s.tokens (sym s.spells.parts) cut

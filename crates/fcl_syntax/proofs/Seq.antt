@@ -1,5 +1,6 @@
 -- One form after another.
-use Rattle.std.proofs.Common.{◌≡◌, ℕ, ◌+◌, true, List, [], ◌∷◌, ◌++◌, length, Option, Some, None, Result, Ok, Err, refl, sym, ap, subst, ◌∙◌, append_assoc, arith, inl, inr}
+use Rattle.std.proofs.Common.{◌≡◌, ℕ, ◌+◌, true, List, [], ◌∷◌, ◌++◌, length, Option, Some, None, Result, Ok, Err, refl}
+use Rattle.std.proofs.Common.{sym, ap, subst, ◌∙◌, append_assoc, arith, inl, inr}
 use Rattle.std.proofs.lemmas.List.{append-nil, length-append}
 use Rattle.fcl_syntax.specs.declared.fault.Fault.{Fault}
 use Rattle.fcl_syntax.specs.declared.fault.Kind.{Kind}
@@ -8,11 +9,15 @@ use Rattle.fcl_syntax.specs.declared.token.Token.{Token}
 use Rattle.fcl_syntax.specs.Annotations.{Sym, tokens_of, IsClean, annotated}
 use Rattle.fcl_syntax.specs.First.{SameHead, Shown}
 use Rattle.fcl_syntax.specs.Readers.{◌>>=◌}
-use Rattle.fcl_syntax.proofs.Form.{disjoint, Stops, Starts, first_annotation, or_else, answer, Stands, Viable, Shows, Fails, Form}
-use Rattle.fcl_syntax.proofs.AnnotatedTexts.{bind_ok, bind_err, ok_is, tokens_of-append, length-tokens, IsClean-append, first_annotation-append, first_annotation-clean, starts-stops, Stops-same, SameHead-append}
+use Rattle.fcl_syntax.proofs.Form.{disjoint, Stops, Starts, first_annotation, or_else, answer, Stands, Viable, Shows}
+use Rattle.fcl_syntax.proofs.Form.{Fails, Form}
+use Rattle.fcl_syntax.proofs.AnnotatedTexts.{bind_ok, bind_err, ok_is, tokens_of-append, length-tokens, IsClean-append}
+use Rattle.fcl_syntax.proofs.AnnotatedTexts.{first_annotation-append, first_annotation-clean, starts-stops, Stops-same}
+use Rattle.fcl_syntax.proofs.AnnotatedTexts.{SameHead-append}
 
 -- what is shown of a part is shown of a whole whose text begins and goes on with others
-pub Shown-in : {A B : Type 0} (ta : A → List Sym) (tb : B → List Sym) (k : Kind) (front bad : List Token) (head : List Sym) (b : A → B) (tail : A → List Sym)
+pub Shown-in : {A B : Type 0} (ta : A → List Sym) (tb : B → List Sym) (k : Kind) (front bad : List Token)
+    (head : List Sym) (b : A → B) (tail : A → List Sym)
     → ((a : A) → tb (b a) ≡ head ++ (ta a ++ tail a)) → Shown ta k front bad → Shown tb k (tokens_of head ++ front) bad
 Shown-in ta tb k front bad head b tail is s = record {
   tree = b s.tree;
@@ -20,27 +25,35 @@ Shown-in ta tb k front bad head b tail is s = record {
   token = s.token;
   after = s.after ++ tail s.tree;
   split = is s.tree ∙ ap (λ (l : List Sym). head ++ (l ++ tail s.tree)) s.split ∙ ap (λ (l : List Sym). head ++ l)
-      (append_assoc s.before (annotated k s.token ∷ s.after) (tail s.tree)) ∙ sym (append_assoc head s.before (annotated k s.token ∷ (s.after ++ tail s.tree)));
+      (append_assoc s.before (annotated k s.token ∷ s.after) (tail s.tree))
+      ∙ sym (append_assoc head s.before (annotated k s.token ∷ (s.after ++ tail s.tree)));
   fronts = tokens_of-append head s.before ∙ ap (λ (l : List Token). tokens_of head ++ l) s.fronts;
   same = subst (λ (l : List Token). SameHead k (s.token ∷ l) bad) (sym (tokens_of-append s.after (tail s.tree)))
       (SameHead-append k s.token (tokens_of s.after) (tokens_of (tail s.tree)) bad s.same);
 }
 
-pub Shows-in : {A B : Type 0} (ta : A → List Sym) (tb : B → List Sym) (k : Kind) (front bad : List Token) (head : List Sym) (b : A → B) (tail : A → List Sym)
+pub Shows-in : {A B : Type 0} (ta : A → List Sym) (tb : B → List Sym) (k : Kind) (front bad : List Token)
+    (head : List Sym) (b : A → B) (tail : A → List Sym)
     → ((a : A) → tb (b a) ≡ head ++ (ta a ++ tail a)) → Shows ta k front bad → Shows tb k (tokens_of head ++ front) bad
 Shows-in ta tb Expected front bad head b tail is s = tt
 Shows-in ta tb Deep front bad head b tail is s = Shown-in ta tb Deep front bad head b tail is s
 Shows-in ta tb (Unsupported n) front bad head b tail is s = Shown-in ta tb (Unsupported n) front bad head b tail is s
 
-pub Viable-in : {A B : Type 0} (ta : A → List Sym) (tb : B → List Sym) (front : List Token) (head : List Sym) (b : A → B) (tail : A → List Sym)
-    → ((a : A) → tb (b a) ≡ head ++ (ta a ++ tail a)) → IsClean head → ((a : A) → IsClean (tail a)) → Viable ta front → Viable tb (tokens_of head ++ front)
+pub Viable-in : {A B : Type 0} (ta : A → List Sym) (tb : B → List Sym) (front : List Token) (head : List Sym)
+    (b : A → B) (tail : A → List Sym)
+    → ((a : A) → tb (b a) ≡ head ++ (ta a ++ tail a)) → IsClean head → ((a : A) → IsClean (tail a)) → Viable ta front
+    → Viable tb (tokens_of head ++ front)
 Viable-in ta tb front head b tail is ch ct v = record {
   tree = b v.tree;
   more = v.more ++ tokens_of (tail v.tree);
-  clean = subst IsClean (sym (is v.tree)) (IsClean-append head (ta v.tree ++ tail v.tree) ch (IsClean-append (ta v.tree) (tail v.tree) v.clean (ct v.tree)));
+  clean = subst IsClean (sym (is v.tree))
+      (IsClean-append head (ta v.tree ++ tail v.tree) ch
+      (IsClean-append (ta v.tree) (tail v.tree) v.clean (ct v.tree)));
   parts = ap tokens_of (is v.tree) ∙ tokens_of-append head (ta v.tree ++ tail v.tree)
-      ∙ ap (λ (l : List Token). tokens_of head ++ l) (tokens_of-append (ta v.tree) (tail v.tree) ∙ ap (λ (l : List Token). l ++ tokens_of (tail v.tree)) v.parts
-      ∙ append_assoc front v.more (tokens_of (tail v.tree))) ∙ sym (append_assoc (tokens_of head) front (v.more ++ tokens_of (tail v.tree)));
+      ∙ ap (λ (l : List Token). tokens_of head ++ l)
+      (tokens_of-append (ta v.tree) (tail v.tree) ∙ ap (λ (l : List Token). l ++ tokens_of (tail v.tree)) v.parts
+      ∙ append_assoc front v.more (tokens_of (tail v.tree)))
+      ∙ sym (append_assoc (tokens_of head) front (v.more ++ tokens_of (tail v.tree)));
 }
 
 module _ {A B : Type 0} (p : Form A) (q : Form B) where
@@ -53,9 +66,11 @@ module _ {A B : Type 0} (p : Form A) (q : Form B) where
 module _ {A B : Type 0} (p : Form A) (q : Form B) (apart : disjoint p.goes q.first ≡ true) where
   pub seq_begins : (t : A × B) (rest : List Token) → Starts p.first (tokens_of (seq_text p q t) ++ rest)
   seq_begins t rest = subst (Starts p.first) (sym (append_assoc (tokens_of (p.text t.0)) (tokens_of (q.text t.1)) rest)
-      ∙ sym (ap (λ (l : List Token). l ++ rest) (tokens_of-append (p.text t.0) (q.text t.1)))) (p.begins t.0 (tokens_of (q.text t.1) ++ rest))
+      ∙ sym (ap (λ (l : List Token). l ++ rest) (tokens_of-append (p.text t.0) (q.text t.1))))
+      (p.begins t.0 (tokens_of (q.text t.1) ++ rest))
 
-  pub seq_stands : (ts : List Token) (t : A × B) (rest : List Token) → seq_read p q ts ≡ Ok (t, rest) → Stands (seq_text p q) q.goes ts t rest
+  pub seq_stands : (ts : List Token) (t : A × B) (rest : List Token) → seq_read p q ts ≡ Ok (t, rest)
+      → Stands (seq_text p q) q.goes ts t rest
   seq_stands ts t rest e =
       let x = bind_ok (p.read ts) (λ a. q.read a.1 >>= λ b. Ok ((a.0, b.0), b.1)) (t, rest) e in
       let y = bind_ok (q.read x.0.1) (λ b. Ok ((x.0.0, b.0), b.1)) (t, rest) x.2 in
@@ -77,7 +92,8 @@ module _ {A B : Type 0} (p : Form A) (q : Form B) (apart : disjoint p.goes q.fir
   step None (Some e) a b r rest h = rw h refl
   step (Some e) n a b r rest h = refl
 
-  pub seq_again : (t : A × B) (rest : List Token) → Stops q.goes rest → seq_read p q (tokens_of (seq_text p q t) ++ rest) ≡ answer
+  pub seq_again : (t : A × B) (rest : List Token) → Stops q.goes rest
+      → seq_read p q (tokens_of (seq_text p q t) ++ rest) ≡ answer
       (first_annotation (seq_text p q t) (length rest)) t rest
   seq_again t rest stops =
       let after : List Token = tokens_of (q.text t.1) ++ rest in
@@ -86,13 +102,17 @@ module _ {A B : Type 0} (p : Form A) (q : Form B) (apart : disjoint p.goes q.fir
       ∙ append_assoc (tokens_of (p.text t.0)) (tokens_of (q.text t.1)) rest in
       let hp = p.again t.0 after (starts-stops p.goes q.first after apart (q.begins t.1 rest)) in
       let hq = q.again t.1 rest stops in
-      let len : length after ≡ length (q.text t.1) + length rest = omega (arith, length-append (tokens_of (q.text t.1)) rest, length-tokens (q.text t.1)) in
-      let annotations : first_annotation (seq_text p q t) (length rest) ≡ or_else (first_annotation (p.text t.0) (length after))
+      let len : length after ≡ length (q.text t.1) + length rest =
+      omega (arith, length-append (tokens_of (q.text t.1)) rest, length-tokens (q.text t.1)) in
+      let annotations : first_annotation (seq_text p q t) (length rest) ≡ or_else
+      (first_annotation (p.text t.0) (length after))
       (first_annotation (q.text t.1) (length rest)) = first_annotation-append (p.text t.0) (q.text t.1) (length rest)
-      ∙ ap (λ (n : ℕ). or_else (first_annotation (p.text t.0) n) (first_annotation (q.text t.1) (length rest))) (sym len) in
+      ∙ ap (λ (n : ℕ). or_else (first_annotation (p.text t.0) n) (first_annotation (q.text t.1) (length rest)))
+      (sym len) in
       ap (seq_read p q) regrouped
       ∙ ap (λ (r : Result (A × List Token) Fault). r >>= λ a. q.read a.1 >>= λ b. Ok ((a.0, b.0), b.1)) hp
-      ∙ step (first_annotation (p.text t.0) (length after)) (first_annotation (q.text t.1) (length rest)) t.0 t.1 after rest hq
+      ∙ step (first_annotation (p.text t.0) (length after)) (first_annotation (q.text t.1) (length rest)) t.0 t.1
+      after rest hq
       ∙ ap (λ (m : Option Fault). answer m t rest) (sym annotations)
 
   pub fails_first : (ts : List Token) (e : Fault) → Fails p.text p.read ts e → Fails (seq_text p q) (seq_read p q) ts e
@@ -101,26 +121,33 @@ module _ {A B : Type 0} (p : Form A) (q : Form B) (apart : disjoint p.goes q.fir
     bad = f.bad;
     parts = f.parts;
     left = f.left;
-    viable = Viable-in p.text (seq_text p q) f.front [] (λ a. (a, q.some)) (λ a. q.text q.some) (λ a. refl) tt (λ a. q.some_clean) f.viable;
-    shows = Shows-in p.text (seq_text p q) e.kind f.front f.bad [] (λ a. (a, q.some)) (λ a. q.text q.some) (λ a. refl) f.shows;
-    local = λ b same. ap (λ (r : Result (A × List Token) Fault). r >>= λ a. q.read a.1 >>= λ b. Ok ((a.0, b.0), b.1)) (f.local b same);
+    viable = Viable-in p.text (seq_text p q) f.front [] (λ a. (a, q.some)) (λ a. q.text q.some) (λ a. refl) tt
+        (λ a. q.some_clean) f.viable;
+    shows = Shows-in p.text (seq_text p q) e.kind f.front f.bad [] (λ a. (a, q.some)) (λ a. q.text q.some)
+        (λ a. refl) f.shows;
+    local = λ b same. ap (λ (r : Result (A × List Token) Fault). r >>= λ a. q.read a.1 >>= λ b. Ok ((a.0, b.0), b.1))
+        (f.local b same);
   }
 
-  pub fails_second : (ts : List Token) (e : Fault) (a : A) (rest : List Token) → Stands p.text p.goes ts a rest → Fails q.text q.read rest e
+  pub fails_second : (ts : List Token) (e : Fault) (a : A) (rest : List Token) → Stands p.text p.goes ts a rest
+      → Fails q.text q.read rest e
       → Fails (seq_text p q) (seq_read p q) ts e
   fails_second ts e a rest s f = record {
     front = tokens_of (p.text a) ++ f.front;
     bad = f.bad;
-    parts = s.parts ∙ ap (λ (l : List Token). tokens_of (p.text a) ++ l) f.parts ∙ sym (append_assoc (tokens_of (p.text a)) f.front f.bad);
+    parts = s.parts ∙ ap (λ (l : List Token). tokens_of (p.text a) ++ l) f.parts
+        ∙ sym (append_assoc (tokens_of (p.text a)) f.front f.bad);
     left = f.left;
     viable = Viable-in q.text (seq_text p q) f.front (p.text a) (λ b. (a, b)) (λ b. [])
         (λ b. ap (λ (l : List Sym). p.text a ++ l) (sym (append-nil (q.text b)))) s.clean (λ b. tt) f.viable;
     shows = Shows-in q.text (seq_text p q) e.kind f.front f.bad (p.text a) (λ b. (a, b)) (λ b. [])
         (λ b. ap (λ (l : List Sym). p.text a ++ l) (sym (append-nil (q.text b)))) f.shows;
     local = λ b same.
-        let stops : Stops p.goes (f.front ++ b) = Stops-same e.kind p.goes f.front f.bad b same (subst (Stops p.goes) f.parts s.stops) in
+        let stops : Stops p.goes (f.front ++ b) =
+        Stops-same e.kind p.goes f.front f.bad b same (subst (Stops p.goes) f.parts s.stops) in
         let hp : p.read (tokens_of (p.text a) ++ (f.front ++ b)) ≡ Ok (a, f.front ++ b) = p.again a (f.front ++ b) stops
-        ∙ ap (λ (m : Option Fault). answer m a (f.front ++ b)) (first_annotation-clean (p.text a) (length (f.front ++ b)) s.clean) in
+        ∙ ap (λ (m : Option Fault). answer m a (f.front ++ b))
+        (first_annotation-clean (p.text a) (length (f.front ++ b)) s.clean) in
         ap (seq_read p q) (append_assoc (tokens_of (p.text a)) f.front b)
         ∙ ap (λ (r : Result (A × List Token) Fault). r >>= λ a. q.read a.1 >>= λ b. Ok ((a.0, b.0), b.1)) hp
         ∙ ap (λ (r : Result (B × List Token) Fault). r >>= λ b. Ok ((a, b.0), b.1)) (f.local b same);

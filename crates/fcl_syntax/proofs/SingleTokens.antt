@@ -16,9 +16,12 @@ use Rattle.fcl_syntax.specs.declared.tree.Name.{Name}
 use Rattle.fcl_syntax.specs.declared.tree.Number.{Number}
 use Rattle.fcl_syntax.specs.declared.tree.UnitNumber.{UnitNumber}
 use Rattle.fcl_syntax.specs.declared.tree.ZeroNumber.{ZeroNumber}
-use Rattle.fcl_syntax.specs.TokenClasses.{class_of, mem, keyword_class, word_class, name_classes, number_classes, unit_classes, zero_classes, whole_classes, direction_classes, open_classes}
-use Rattle.fcl_syntax.specs.Grammar.{name_token, number_token, unit_amount, unit_token, zero_token, label_token, direction_key}
-use Rattle.fcl_syntax.specs.Reading.{IsBare, bare_of, bare_want, some_unit, at_if, key_want, word_want, open_want, name_want, number_want, unit_want, zero_want, label_want, direction_want}
+use Rattle.fcl_syntax.specs.TokenClasses.{class_of, mem, keyword_class, word_class, name_classes, number_classes}
+use Rattle.fcl_syntax.specs.TokenClasses.{unit_classes, zero_classes, whole_classes, direction_classes, open_classes}
+use Rattle.fcl_syntax.specs.Grammar.{name_token, number_token, unit_amount, unit_token, zero_token, label_token}
+use Rattle.fcl_syntax.specs.Grammar.{direction_key}
+use Rattle.fcl_syntax.specs.Reading.{IsBare, bare_of, bare_want, some_unit, at_if, key_want, word_want, open_want}
+use Rattle.fcl_syntax.specs.Reading.{name_want, number_want, unit_want, zero_want, label_want, direction_want}
 use Rattle.fcl_syntax.proofs.Small.{Single}
 use Rattle.fcl_syntax.proofs.Tags.{key_one, word_one}
 
@@ -166,7 +169,16 @@ open_back (tok.Open at) a e = ap (λ (n : ℕ). tok.Open n) (sym (some_of at a e
 open_back _ a e = absurd cc
 
 abbrev pub open_single : Single ℕ
-open_single = record { want = open_want; make = λ n. tok.Open n; among = open_classes; example = 0; back = open_back; forth = λ a. refl; classes = λ a. refl }
+open_single = record {
+  want = open_want;
+  make = λ n. tok.Open n;
+  among = open_classes;
+  example = 0;
+  back = open_back;
+  forth =
+      λ a. refl;
+  classes = λ a. refl;
+}
 
 pub name_back : (x : Token) (a : Name) → name_want x ≡ Some a → name_token a ≡ x
 name_back (tok.Name at w) a e = let is : record { at = at; word = w } ≡ a = cc in ap name_token (sym is)
@@ -202,7 +214,8 @@ name_single = record {
 }
 
 pub number_back : (x : Token) (a : Number) → number_want x ≡ Some a → number_token a ≡ x
-number_back (tok.Number at n w) a e = let is : record { at = at; amount = n; whole = w } ≡ a = cc in ap number_token (sym is)
+number_back (tok.Number at n w) a e = let is : record { at = at; amount = n; whole = w } ≡ a = cc in
+    ap number_token (sym is)
 number_back _ a e = absurd cc
 
 pub number_among : (a : Number) → mem (class_of (number_token a)) number_classes ≡ true
@@ -228,8 +241,10 @@ number_single = record {
 }
 
 pub unit_back : (x : Token) (a : UnitNumber) → unit_want x ≡ Some a → unit_token a ≡ x
-unit_back (tok.Number at amount.Zero w) a e = let is : record { at = at; is_one = false; whole = w } ≡ a = cc in ap unit_token (sym is)
-unit_back (tok.Number at amount.One w) a e = let is : record { at = at; is_one = true; whole = w } ≡ a = cc in ap unit_token (sym is)
+unit_back (tok.Number at amount.Zero w) a e = let is : record { at = at; is_one = false; whole = w } ≡ a = cc in
+    ap unit_token (sym is)
+unit_back (tok.Number at amount.One w) a e = let is : record { at = at; is_one = true; whole = w } ≡ a = cc in
+    ap unit_token (sym is)
 unit_back (tok.Number at (amount.Other n) w) a e = absurd cc
 unit_back _ a e = absurd cc
 
@@ -245,7 +260,8 @@ unit_among a = go a.at a.is_one a.whole
 pub unit_forth : (a : UnitNumber) → unit_want (unit_token a) ≡ Some a
 unit_forth a = go a.at a.is_one a.whole
   where
-    go : (at : ℕ) (b w : Bool) → unit_want (tok.Number at (unit_amount b) w) ≡ Some (record { at = at; is_one = b; whole = w })
+    go : (at : ℕ) (b w : Bool)
+        → unit_want (tok.Number at (unit_amount b) w) ≡ Some (record { at = at; is_one = b; whole = w })
     go at true w = refl
     go at false w = refl
 

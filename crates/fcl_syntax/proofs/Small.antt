@@ -1,5 +1,6 @@
 -- One token, a choice, an annotated choice, and a form seen as another type.
-use Rattle.std.proofs.Common.{◌≡◌, ℕ, Bool, true, false, List, [], ◌∷◌, ◌++◌, length, Option, Some, None, Result, Ok, Err, refl, sym, ap, subst, ◌∙◌, inl, inr, ◌⊎◌}
+use Rattle.std.proofs.Common.{◌≡◌, ℕ, Bool, true, false, List, [], ◌∷◌, ◌++◌, length, Option, Some, None, Result, Ok}
+use Rattle.std.proofs.Common.{Err, refl, sym, ap, subst, ◌∙◌, inl, inr, ◌⊎◌}
 use Rattle.std.proofs.lemmas.List.{append-nil}
 use Rattle.fcl_syntax.specs.declared.fault.Fault.{Fault}
 use Rattle.fcl_syntax.specs.declared.fault.Kind.{Kind}
@@ -28,7 +29,8 @@ module _ {A : Type 0} (c : Single A) where
   abbrev pub one_text : A → List Sym
   one_text a = plain (c.make a) ∷ []
 
-  pub one_stands : (ts : List Token) (a : A) (rest : List Token) → one_at c.want ts ≡ Ok (a, rest) → Stands (one_text) [] ts a rest
+  pub one_stands : (ts : List Token) (a : A) (rest : List Token) → one_at c.want ts ≡ Ok (a, rest)
+      → Stands (one_text) [] ts a rest
   one_stands [] a rest e = absurd cc
   one_stands (x ∷ xs) a rest e = from_found (c.want x) refl e
     where
@@ -36,7 +38,8 @@ module _ {A : Type 0} (c : Single A) where
       stopped [] = tt
       stopped (y ∷ l) = refl
 
-      from_found : (o : Option A) → c.want x ≡ o → found o (x ∷ xs) xs ≡ Ok (a, rest) → Stands one_text [] (x ∷ xs) a rest
+      from_found : (o : Option A) → c.want x ≡ o → found o (x ∷ xs) xs ≡ Ok (a, rest)
+          → Stands one_text [] (x ∷ xs) a rest
       from_found None w e = absurd cc
       from_found (Some b) w e =
           let same : b ≡ a = ap (λ (p : A × List Token). p.0) (ok_is (b, xs) (a, rest) e) in
@@ -52,7 +55,8 @@ module _ {A : Type 0} (c : Single A) where
     left = ap (λ (r : Result (A × List Token) Fault). elim r as (λ _. ℕ) [ Ok x ↦ 0 | Err d ↦ d.left ]) (sym h);
     viable = record { tree = c.example; more = c.make c.example ∷ []; clean = (refl, tt); parts = refl };
     shows = subst (λ (d : Fault). Shows one_text d.kind [] []) (err_is h) tt;
-    local = λ b same. subst (λ (d : Fault). SameHead d.kind [] b → one_at c.want b ≡ Err (fault_at d.kind (length b))) (err_is h) (here b) same;
+    local = λ b same. subst (λ (d : Fault). SameHead d.kind [] b → one_at c.want b ≡ Err (fault_at d.kind (length b)))
+        (err_is h) (here b) same;
   }
     where
       err_is : {d : Fault} → one_at c.want [] ≡ Err d → fault_at Expected 0 ≡ d
@@ -63,7 +67,8 @@ module _ {A : Type 0} (c : Single A) where
       here (y ∷ b) s = absurd s
   one_fails (x ∷ xs) e h = from_found (c.want x) refl h
     where
-      from_found : (o : Option A) → c.want x ≡ o → found o (x ∷ xs) xs ≡ Err e → Fails one_text (one_at c.want) (x ∷ xs) e
+      from_found : (o : Option A) → c.want x ≡ o → found o (x ∷ xs) xs ≡ Err e
+          → Fails one_text (one_at c.want) (x ∷ xs) e
       from_found (Some b) w h = absurd cc
       from_found None w h =
           let is : fault_at Expected (length (x ∷ xs)) ≡ e = cc in
@@ -100,16 +105,20 @@ module _ {A : Type 0} (c : Single A) where
 abbrev pub seen_as : {A B : Type 0} → (A → B) → Result (A × List Token) Fault → Result (B × List Token) Fault
 seen_as to r = r >>= λ a. Ok (to a.0, a.1)
 
-pub answer-seen : {A B : Type 0} (to : A → B) (m : Option Fault) (a : A) (rest : List Token) → seen_as to (answer m a rest) ≡ answer m (to a) rest
+pub answer-seen : {A B : Type 0} (to : A → B) (m : Option Fault) (a : A) (rest : List Token)
+    → seen_as to (answer m a rest) ≡ answer m (to a) rest
 answer-seen to None a rest = refl
 answer-seen to (Some e) a rest = refl
 
-pub seen_err : {A B : Type 0} (to : A → B) (r : Result (A × List Token) Fault) (e : Fault) → seen_as to r ≡ Err e → r ≡ Err e
+pub seen_err : {A B : Type 0} (to : A → B) (r : Result (A × List Token) Fault) (e : Fault) → seen_as to r ≡ Err e
+    → r ≡ Err e
 seen_err to (Ok x) e h = absurd cc
 seen_err to (Err d) e h = cc
 
-module _ {A B : Type 0} (p : Form A) (to : A → B) (text : B → List Sym) (same_text : (a : A) → text (to a) ≡ p.text a) where
-  pub seen_stands : (ts : List Token) (t : B) (rest : List Token) → seen_as to (p.read ts) ≡ Ok (t, rest) → Stands text p.goes ts t rest
+module _ {A B : Type 0} (p : Form A) (to : A → B) (text : B → List Sym)
+    (same_text : (a : A) → text (to a) ≡ p.text a) where
+  pub seen_stands : (ts : List Token) (t : B) (rest : List Token) → seen_as to (p.read ts) ≡ Ok (t, rest)
+      → Stands text p.goes ts t rest
   seen_stands ts t rest e =
       let x = bind_ok (p.read ts) (λ a. Ok (to a.0, a.1)) (t, rest) e in
       let s = p.stands ts x.0.0 x.0.1 x.1 in
@@ -122,15 +131,19 @@ module _ {A B : Type 0} (p : Form A) (to : A → B) (text : B → List Sym) (sam
       subst (λ (z : B × List Token). Stands text p.goes ts z.0 z.1) (ok_is made (t, rest) x.2) whole
 
   -- by a reader that reads it where the fault may be
-  pub seen_fails : (read : List Token → Result (B × List Token) Fault) (ts : List Token) (e : Fault) (f : Fails p.text p.read ts e)
-      → ((b : List Token) → SameHead e.kind f.bad b → read (f.front ++ b) ≡ seen_as to (p.read (f.front ++ b))) → Fails text read ts e
+  pub seen_fails : (read : List Token → Result (B × List Token) Fault) (ts : List Token) (e : Fault)
+      (f : Fails p.text p.read ts e)
+      → ((b : List Token) → SameHead e.kind f.bad b → read (f.front ++ b) ≡ seen_as to (p.read (f.front ++ b)))
+      → Fails text read ts e
   seen_fails read ts e f reads = record {
     front = f.front;
     bad = f.bad;
     parts = f.parts;
     left = f.left;
-    viable = Viable-in p.text text f.front [] to (λ a. []) (λ a. same_text a ∙ sym (append-nil (p.text a))) tt (λ a. tt) f.viable;
-    shows = Shows-in p.text text e.kind f.front f.bad [] to (λ a. []) (λ a. same_text a ∙ sym (append-nil (p.text a))) f.shows;
+    viable = Viable-in p.text text f.front [] to (λ a. []) (λ a. same_text a ∙ sym (append-nil (p.text a))) tt
+        (λ a. tt) f.viable;
+    shows = Shows-in p.text text e.kind f.front f.bad [] to (λ a. [])
+        (λ a. same_text a ∙ sym (append-nil (p.text a))) f.shows;
     local = λ b same. reads b same ∙ ap (seen_as to) (f.local b same);
   }
 
@@ -142,25 +155,29 @@ to_left r = seen_as (λ a. inl a) r
 abbrev pub to_right : {A B : Type 0} → Result (B × List Token) Fault → Result ((A ⊎ B) × List Token) Fault
 to_right r = seen_as (λ b. inr b) r
 
-abbrev pub choose : {A B : Type 0} → Bool → Result (A × List Token) Fault → Result (B × List Token) Fault → Result ((A ⊎ B) × List Token) Fault
+abbrev pub choose : {A B : Type 0} → Bool → Result (A × List Token) Fault → Result (B × List Token) Fault
+    → Result ((A ⊎ B) × List Token) Fault
 choose b p q = cond_read b (to_left p) (to_right q)
 
 pub starts-is : (first : List ℕ) (ts : List Token) → Starts first ts → starts first ts ≡ true
 starts-is first [] h = absurd h
 starts-is first (x ∷ xs) h = h
 
-pub starts-not : (first other : List ℕ) (ts : List Token) → disjoint first other ≡ true → Starts other ts → starts first ts ≡ false
+pub starts-not : (first other : List ℕ) (ts : List Token) → disjoint first other ≡ true → Starts other ts
+    → starts first ts ≡ false
 starts-not first other [] d h = absurd h
 starts-not first other (x ∷ xs) d h = disjoint-mem first other (class_of x) d h
 
-pub starts-same : (first : List ℕ) (k : Kind) (front bad b : List Token) → SameHead k bad b → starts first (front ++ b) ≡ starts first (front ++ bad)
+pub starts-same : (first : List ℕ) (k : Kind) (front bad b : List Token) → SameHead k bad b
+    → starts first (front ++ b) ≡ starts first (front ++ bad)
 starts-same first k [] [] [] s = refl
 starts-same first k [] [] (y ∷ b) s = absurd s
 starts-same first k [] (x ∷ a) [] s = absurd s
 starts-same first k [] (x ∷ a) (y ∷ b) s = ap (λ (z : Token). mem (class_of z) first) (sym s.0)
 starts-same first k (f ∷ front) bad b s = refl
 
-pub widen : (first f : List ℕ) (ts : List Token) → ((x : Token) → mem (class_of x) f ≡ true → mem (class_of x) first ≡ true) → Starts f ts → Starts first ts
+pub widen : (first f : List ℕ) (ts : List Token)
+    → ((x : Token) → mem (class_of x) f ≡ true → mem (class_of x) first ≡ true) → Starts f ts → Starts first ts
 widen first f [] w h = absurd h
 widen first f (x ∷ xs) w h = w x h
 
@@ -175,32 +192,38 @@ module _ {A B : Type 0} (p : Form A) (q : Form B) where
   abbrev pub alt_read : List Token → Result ((A ⊎ B) × List Token) Fault
   alt_read ts = choose (starts p.first ts) (p.read ts) (q.read ts)
 
-module _ {A B : Type 0} (p : Form A) (q : Form B) (apart : disjoint p.first q.first ≡ true) (same_goes : p.goes ≡ q.goes) (first : List ℕ)
+module _ {A B : Type 0} (p : Form A) (q : Form B) (apart : disjoint p.first q.first ≡ true)
+    (same_goes : p.goes ≡ q.goes) (first : List ℕ)
     (first_left : (x : Token) → mem (class_of x) p.first ≡ true → mem (class_of x) first ≡ true)
     (first_right : (x : Token) → mem (class_of x) q.first ≡ true → mem (class_of x) first ≡ true) where
   pub alt_begins : (t : A ⊎ B) (rest : List Token) → Starts first (tokens_of (alt_text p q t) ++ rest)
   alt_begins (inl a) rest = widen first p.first (tokens_of (p.text a) ++ rest) first_left (p.begins a rest)
   alt_begins (inr b) rest = widen first q.first (tokens_of (q.text b) ++ rest) first_right (q.begins b rest)
 
-  left_stands : (ts : List Token) (t : A ⊎ B) (rest : List Token) → to_left {B = B} (p.read ts) ≡ Ok (t, rest) → Stands (alt_text p q) q.goes ts t rest
+  left_stands : (ts : List Token) (t : A ⊎ B) (rest : List Token) → to_left {B = B} (p.read ts) ≡ Ok (t, rest)
+      → Stands (alt_text p q) q.goes ts t rest
   left_stands ts t rest e =
       let s = seen_stands p (λ a. inl a) (alt_text p q) (λ a. refl) ts t rest e in
       record { parts = s.parts; clean = s.clean; stops = subst (λ (g : List ℕ). Stops g rest) same_goes s.stops }
 
-  pub alt_stands : (ts : List Token) (t : A ⊎ B) (rest : List Token) → alt_read p q ts ≡ Ok (t, rest) → Stands (alt_text p q) q.goes ts t rest
+  pub alt_stands : (ts : List Token) (t : A ⊎ B) (rest : List Token) → alt_read p q ts ≡ Ok (t, rest)
+      → Stands (alt_text p q) q.goes ts t rest
   alt_stands ts t rest e =
       elim (bool_cases (starts p.first ts)) [
-        | inl is_so ↦ left_stands ts t rest (subst (λ (b : Bool). choose b (p.read ts) (q.read ts) ≡ Ok (t, rest)) is_so e)
+        | inl is_so ↦ left_stands ts t rest
+            (subst (λ (b : Bool). choose b (p.read ts) (q.read ts) ≡ Ok (t, rest)) is_so e)
         | inr not_so ↦ seen_stands q (λ b. inr b) (alt_text p q) (λ b. refl) ts t rest
             (subst (λ (b : Bool). choose b (p.read ts) (q.read ts) ≡ Ok (t, rest)) not_so e)
       ]
 
-  pub alt_again : (t : A ⊎ B) (rest : List Token) → Stops q.goes rest → alt_read p q (tokens_of (alt_text p q t) ++ rest) ≡ answer
+  pub alt_again : (t : A ⊎ B) (rest : List Token) → Stops q.goes rest
+      → alt_read p q (tokens_of (alt_text p q t) ++ rest) ≡ answer
       (first_annotation (alt_text p q t) (length rest)) t rest
   alt_again (inl a) rest stops =
       let ts : List Token = tokens_of (p.text a) ++ rest in
       ap (λ (b : Bool). choose b (p.read ts) (q.read ts)) (starts-is p.first ts (p.begins a rest))
-      ∙ ap (λ (r : Result (A × List Token) Fault). to_left {B = B} r) (p.again a rest (subst (λ (g : List ℕ). Stops g rest) (sym same_goes) stops))
+      ∙ ap (λ (r : Result (A × List Token) Fault). to_left {B = B} r)
+      (p.again a rest (subst (λ (g : List ℕ). Stops g rest) (sym same_goes) stops))
       ∙ answer-seen {B = A ⊎ B} (λ (x : A). inl x) (first_annotation (p.text a) (length rest)) a rest
   alt_again (inr b) rest stops =
       let ts : List Token = tokens_of (q.text b) ++ rest in
@@ -208,12 +231,14 @@ module _ {A B : Type 0} (p : Form A) (q : Form B) (apart : disjoint p.first q.fi
       ∙ ap (λ (r : Result (B × List Token) Fault). to_right {A = A} r) (q.again b rest stops)
       ∙ answer-seen {B = A ⊎ B} (λ (x : B). inr x) (first_annotation (q.text b) (length rest)) b rest
 
-  left_fails : (ts : List Token) (e : Fault) → starts p.first ts ≡ true → Fails p.text p.read ts e → Fails (alt_text p q) (alt_read p q) ts e
+  left_fails : (ts : List Token) (e : Fault) → starts p.first ts ≡ true → Fails p.text p.read ts e
+      → Fails (alt_text p q) (alt_read p q) ts e
   left_fails ts e is_so f = seen_fails p (λ a. inl a) (alt_text p q) (λ a. refl) (alt_read p q) ts e f (λ b same.
       ap (λ (c : Bool). choose c (p.read (f.front ++ b)) (q.read (f.front ++ b)))
       (starts-same p.first e.kind f.front f.bad b same ∙ ap (starts p.first) (sym f.parts) ∙ is_so))
 
-  right_fails : (ts : List Token) (e : Fault) → starts p.first ts ≡ false → Fails q.text q.read ts e → Fails (alt_text p q) (alt_read p q) ts e
+  right_fails : (ts : List Token) (e : Fault) → starts p.first ts ≡ false → Fails q.text q.read ts e
+      → Fails (alt_text p q) (alt_read p q) ts e
   right_fails ts e not_so f = seen_fails q (λ b. inr b) (alt_text p q) (λ b. refl) (alt_read p q) ts e f (λ b same.
       ap (λ (c : Bool). choose c (p.read (f.front ++ b)) (q.read (f.front ++ b)))
       (starts-same p.first e.kind f.front f.bad b same ∙ ap (starts p.first) (sym f.parts) ∙ not_so))

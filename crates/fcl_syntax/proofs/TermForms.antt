@@ -13,15 +13,24 @@ use Rattle.fcl_syntax.specs.Annotations.{Sym}
 use Rattle.fcl_syntax.specs.First.{looks_on}
 use Rattle.fcl_syntax.specs.Readers.{loop}
 use Rattle.fcl_syntax.proofs.Form.{disjoint, Form}
-use Rattle.fcl_syntax.specs.Grammar.{each, key_text, name_text, TSigned, TSignedNumber, TCoordinate, TUnit, TZero, TPoint, point_text, TPoints, TTerm, term_text, TRange, range_text, opening_text, TFuzzify, fuzzify_text, TSetting, setting_text, accu_classes, TAccu, method_classes, TMethod, TSingleton, singleton_text, TFallback, fallback_text, TDefuzzyLine, TDefuzzify, defuzzify_text, option_classes, TPart}
-use Rattle.fcl_syntax.specs.Reading.{expect_at, key_at, open_at, name_at, signed_number_at, coordinate_at, degree_at, point_at, some_points_at, points_at, term_at, opening_at, range_at, fuzzy_line_at, fuzzy_lines_at, fuzzify_at, choice_at, setting_at, singleton_value_at, singleton_at, fallback_value_at, fallback_at, defuzzy_line_at, defuzzy_lines_at, defuzzify_at, part_at}
+use Rattle.fcl_syntax.specs.Grammar.{each, key_text, name_text, TSigned, TSignedNumber, TCoordinate, TUnit, TZero}
+use Rattle.fcl_syntax.specs.Grammar.{TPoint, point_text, TPoints, TTerm, term_text, TRange, range_text, opening_text}
+use Rattle.fcl_syntax.specs.Grammar.{TFuzzify, fuzzify_text, TSetting, setting_text, accu_classes, TAccu}
+use Rattle.fcl_syntax.specs.Grammar.{method_classes, TMethod, TSingleton, singleton_text, TFallback, fallback_text}
+use Rattle.fcl_syntax.specs.Grammar.{TDefuzzyLine, TDefuzzify, defuzzify_text, option_classes, TPart}
+use Rattle.fcl_syntax.specs.Reading.{expect_at, key_at, open_at, name_at, signed_number_at, coordinate_at, degree_at}
+use Rattle.fcl_syntax.specs.Reading.{point_at, some_points_at, points_at, term_at, opening_at, range_at, fuzzy_line_at}
+use Rattle.fcl_syntax.specs.Reading.{fuzzy_lines_at, fuzzify_at, choice_at, setting_at, singleton_value_at}
+use Rattle.fcl_syntax.specs.Reading.{singleton_at, fallback_value_at, fallback_at, defuzzy_line_at, defuzzy_lines_at}
+use Rattle.fcl_syntax.specs.Reading.{defuzzify_at, part_at}
 use Rattle.fcl_syntax.proofs.Chains.{bind_assoc, bind_cond, chain2, chain4, chain5, chain7}
 use Rattle.fcl_syntax.proofs.Dead.{via}
 use Rattle.fcl_syntax.proofs.Loop.{texts}
 use Rattle.fcl_syntax.proofs.Named.{named, either, refuse, many_then}
 use Rattle.fcl_syntax.proofs.Repeat.{then_rep}
 use Rattle.fcl_syntax.proofs.Seq.{seq}
-use Rattle.fcl_syntax.proofs.Forms.{bare_form, key_form, word_form, open_form, name_form, signed_number_form, coordinate_form, degree_form, each_texts}
+use Rattle.fcl_syntax.proofs.Forms.{bare_form, key_form, word_form, open_form, name_form, signed_number_form}
+use Rattle.fcl_syntax.proofs.Forms.{coordinate_form, degree_form, each_texts}
 
 -- ---- terms of an input
 
@@ -29,7 +38,9 @@ abbrev pub to_point : ℕ × (TSigned TCoordinate TCoordinate × (Unit {0} × (T
 to_point t = record { open_at = t.0; x = t.1.0; degree = t.1.1.1.0 }
 
 abbrev pub point_raw : Form TPoint
-point_raw = via (seq open_form (seq coordinate_form (seq (bare_form tok.Comma refl) (seq degree_form (bare_form tok.Close refl) refl) refl) refl) refl) to_point
+point_raw = via (seq open_form
+    (seq coordinate_form (seq (bare_form tok.Comma refl) (seq degree_form (bare_form tok.Close refl) refl) refl) refl)
+    refl) to_point
     (λ p. (p.open_at, (p.x, (tt, (p.degree, tt))))) point_text (λ p. refl) (λ t. refl)
 
 pub point_is : (ts : List Token) → point_at ts ≡ point_raw.read ts
@@ -39,11 +50,13 @@ point_is ts = chain5 open_at coordinate_at (expect_at tok.Comma) degree_at (expe
 abbrev pub point_form : Form TPoint
 point_form = named point_raw point_at point_is
 
-pub some_points_same : (t : TPoint × List TPoint) → point_text t.0 ++ each point_text t.1 ≡ point_text t.0 ++ texts point_form t.1
+pub some_points_same : (t : TPoint × List TPoint)
+    → point_text t.0 ++ each point_text t.1 ≡ point_text t.0 ++ texts point_form t.1
 some_points_same t = ap (λ (l : List Sym). point_text t.0 ++ l) (each_texts point_form t.1)
 
 abbrev pub some_points_raw : Form (TPoint × List TPoint)
-some_points_raw = via (then_rep point_form point_form refl refl) (λ t. t) (λ t. t) (λ t. point_text t.0 ++ each point_text t.1) (λ t. refl) some_points_same
+some_points_raw = via (then_rep point_form point_form refl refl) (λ t. t) (λ t. t)
+    (λ t. point_text t.0 ++ each point_text t.1) (λ t. refl) some_points_same
 
 pub some_points_is : (ts : List Token) → some_points_at ts ≡ some_points_raw.read ts
 unfolding some_points_at
@@ -52,7 +65,8 @@ some_points_is ts = chain2 point_at (λ l. loop open_classes point_at (length l)
 abbrev pub some_points_form : Form (TPoint × List TPoint)
 some_points_form = named some_points_raw some_points_at some_points_is
 
-pub points_is : (ts : List Token) → points_at ts ≡ (refuse (Unsupported 14) signed_classes some_points_form refl refl).read ts
+pub points_is : (ts : List Token)
+    → points_at ts ≡ (refuse (Unsupported 14) signed_classes some_points_form refl refl).read ts
 unfolding points_at
 points_is ts = refl
 
@@ -64,7 +78,8 @@ to_term t = record { at = t.0; name = t.1.0; points = t.1.1.1.0 }
 
 abbrev pub term_raw : Form TTerm
 term_raw = via (seq (key_form key.Term) (seq name_form (seq (bare_form tok.Assign refl)
-    (seq points_form (bare_form tok.Semicolon refl) refl) refl) refl) refl) to_term (λ t. (t.at, (t.name, (tt, (t.points, tt))))) term_text (λ t. refl)
+    (seq points_form (bare_form tok.Semicolon refl) refl) refl) refl) refl) to_term
+    (λ t. (t.at, (t.name, (tt, (t.points, tt))))) term_text (λ t. refl)
     (λ t. refl)
 
 pub term_is : (ts : List Token) → term_at ts ≡ term_raw.read ts
@@ -99,7 +114,8 @@ opening_same (inl t) = refl
 opening_same (inr at) = refl
 
 abbrev pub opening_via : Form (Bool × ℕ)
-opening_via = via opening_raw to_opening (λ t. from_opening t.0 t.1) (λ t. opening_text t.0 t.1) opening_round opening_same
+opening_via = via opening_raw to_opening (λ t. from_opening t.0 t.1) (λ t. opening_text t.0 t.1) opening_round
+    opening_same
 
 pub opening_is : (ts : List Token) → opening_at ts ≡ opening_via.read ts
 unfolding opening_at
@@ -113,12 +129,14 @@ to_range t = record { at = t.0; assigned = t.1.0.0; open_at = t.1.0.1; low = t.1
 
 abbrev pub range_raw : Form TRange
 range_raw = via (seq (key_form key.Range) (seq opening_form (seq signed_number_form (seq (bare_form tok.To refl)
-    (seq signed_number_form (seq (bare_form tok.Close refl) (bare_form tok.Semicolon refl) refl) refl) refl) refl) refl) refl) to_range
+    (seq signed_number_form (seq (bare_form tok.Close refl) (bare_form tok.Semicolon refl) refl) refl) refl) refl) refl)
+    refl) to_range
     (λ r. (r.at, ((r.assigned, r.open_at), (r.low, (tt, (r.high, (tt, tt))))))) range_text (λ r. refl) (λ t. refl)
 
 pub range_is : (ts : List Token) → range_at ts ≡ range_raw.read ts
 unfolding range_at
-range_is ts = chain7 (key_at key.Range) opening_at signed_number_at (expect_at tok.To) signed_number_at (expect_at tok.Close)
+range_is ts = chain7 (key_at key.Range) opening_at signed_number_at (expect_at tok.To) signed_number_at
+    (expect_at tok.Close)
     (expect_at tok.Semicolon) to_range ts
 
 abbrev pub range_form : Form TRange
@@ -140,11 +158,13 @@ abbrev pub to_fuzzify : ℕ × (Name × (List (TTerm ⊎ TRange) × ℕ)) → TF
 to_fuzzify t = record { at = t.0; name = t.1.0; lines = t.1.1.0; end = t.1.1.1 }
 
 abbrev pub fuzzify_seq : Form (ℕ × (Name × (List (TTerm ⊎ TRange) × ℕ)))
-fuzzify_seq = seq (key_form key.Fuzzify) (seq name_form (many_then fuzzy_line_form (key_form key.EndFuzzify) refl refl refl) refl) refl
+fuzzify_seq = seq (key_form key.Fuzzify)
+    (seq name_form (many_then fuzzy_line_form (key_form key.EndFuzzify) refl refl refl) refl) refl
 
 pub fuzzify_same : (t : ℕ × (Name × (List (TTerm ⊎ TRange) × ℕ))) → fuzzify_text (to_fuzzify t) ≡ fuzzify_seq.text t
 fuzzify_same t =
-    ap (λ (l : List Sym). key_text key.Fuzzify t.0 ++ (name_text t.1.0 ++ (l ++ key_text key.EndFuzzify t.1.1.1))) (each_texts fuzzy_line_form t.1.1.0)
+    ap (λ (l : List Sym). key_text key.Fuzzify t.0 ++ (name_text t.1.0 ++ (l ++ key_text key.EndFuzzify t.1.1.1)))
+    (each_texts fuzzy_line_form t.1.1.0)
 
 abbrev pub fuzzify_raw : Form TFuzzify
 fuzzify_raw = via fuzzify_seq to_fuzzify (λ f. (f.at, (f.name, (f.lines, f.end)))) fuzzify_text (λ f. refl) fuzzify_same
@@ -174,12 +194,14 @@ module _ (k : Keyword) (w : Word) (classes : List ℕ) (code : ℕ) (here : look
   to_setting t = record { at = t.0; word = t.1.1.0 }
 
   abbrev pub setting_raw : Form (TSetting classes)
-  setting_raw = via (seq (key_form k) (seq (bare_form tok.Colon refl) (seq choice_form (bare_form tok.Semicolon refl) refl) refl) refl) to_setting
+  setting_raw = via (seq (key_form k)
+      (seq (bare_form tok.Colon refl) (seq choice_form (bare_form tok.Semicolon refl) refl) refl) refl) to_setting
       (λ s. (s.at, (tt, (s.word, tt)))) (setting_text k w classes code) (λ s. refl) (λ t. refl)
 
   pub setting_is : (ts : List Token) → setting_at k w classes code ts ≡ setting_raw.read ts
   unfolding setting_at
-  setting_is ts = chain4 (key_at k) (expect_at tok.Colon) (choice_at w classes code) (expect_at tok.Semicolon) to_setting ts
+  setting_is ts = chain4 (key_at k) (expect_at tok.Colon) (choice_at w classes code)
+      (expect_at tok.Semicolon) to_setting ts
 
   abbrev pub setting_form : Form (TSetting classes)
   setting_form = named setting_raw (setting_at k w classes code) setting_is
@@ -207,12 +229,14 @@ to_singleton t = record { at = t.0; name = t.1.0; value = t.1.1.1.0 }
 
 abbrev pub singleton_raw : Form TSingleton
 singleton_raw = via (seq (key_form key.Term) (seq name_form (seq (bare_form tok.Assign refl)
-    (seq singleton_value_form (bare_form tok.Semicolon refl) refl) refl) refl) refl) to_singleton (λ t. (t.at, (t.name, (tt, (t.value, tt))))) singleton_text
+    (seq singleton_value_form (bare_form tok.Semicolon refl) refl) refl) refl) refl) to_singleton
+    (λ t. (t.at, (t.name, (tt, (t.value, tt))))) singleton_text
     (λ t. refl) (λ t. refl)
 
 pub singleton_is : (ts : List Token) → singleton_at ts ≡ singleton_raw.read ts
 unfolding singleton_at
-singleton_is ts = chain5 (key_at key.Term) name_at (expect_at tok.Assign) singleton_value_at (expect_at tok.Semicolon) to_singleton ts
+singleton_is ts = chain5 (key_at key.Term) name_at (expect_at tok.Assign) singleton_value_at
+    (expect_at tok.Semicolon) to_singleton ts
 
 abbrev pub singleton_form : Form TSingleton
 singleton_form = named singleton_raw singleton_at singleton_is
@@ -232,17 +256,20 @@ to_fallback t = record { at = t.0; value = t.1.1.0 }
 
 abbrev pub fallback_raw : Form TFallback
 fallback_raw = via (seq (key_form key.Default) (seq (bare_form tok.Assign refl) (seq fallback_value_form
-    (bare_form tok.Semicolon refl) refl) refl) refl) to_fallback (λ d. (d.at, (tt, (d.value, tt)))) fallback_text (λ d. refl) (λ t. refl)
+    (bare_form tok.Semicolon refl) refl) refl) refl) to_fallback (λ d. (d.at, (tt, (d.value, tt)))) fallback_text
+    (λ d. refl) (λ t. refl)
 
 pub fallback_is : (ts : List Token) → fallback_at ts ≡ fallback_raw.read ts
 unfolding fallback_at
-fallback_is ts = chain4 (key_at key.Default) (expect_at tok.Assign) fallback_value_at (expect_at tok.Semicolon) to_fallback ts
+fallback_is ts = chain4 (key_at key.Default) (expect_at tok.Assign) fallback_value_at
+    (expect_at tok.Semicolon) to_fallback ts
 
 abbrev pub fallback_form : Form TFallback
 fallback_form = named fallback_raw fallback_at fallback_is
 
 abbrev pub defuzzy_line_raw : Form TDefuzzyLine
-defuzzy_line_raw = either singleton_form (either accu_form (either method_form (either fallback_form range_form refl refl) refl refl) refl refl) refl refl
+defuzzy_line_raw = either singleton_form
+    (either accu_form (either method_form (either fallback_form range_form refl refl) refl refl) refl refl) refl refl
 
 pub defuzzy_line_is : (ts : List Token) → defuzzy_line_at ts ≡ defuzzy_line_raw.read ts
 unfolding defuzzy_line_at
@@ -255,14 +282,17 @@ abbrev pub to_defuzzify : ℕ × (Name × (List TDefuzzyLine × ℕ)) → TDefuz
 to_defuzzify t = record { at = t.0; name = t.1.0; lines = t.1.1.0; end = t.1.1.1 }
 
 abbrev pub defuzzify_seq : Form (ℕ × (Name × (List TDefuzzyLine × ℕ)))
-defuzzify_seq = seq (key_form key.Defuzzify) (seq name_form (many_then defuzzy_line_form (key_form key.EndDefuzzify) refl refl refl) refl) refl
+defuzzify_seq = seq (key_form key.Defuzzify)
+    (seq name_form (many_then defuzzy_line_form (key_form key.EndDefuzzify) refl refl refl) refl) refl
 
 pub defuzzify_same : (t : ℕ × (Name × (List TDefuzzyLine × ℕ))) → defuzzify_text (to_defuzzify t) ≡ defuzzify_seq.text t
 defuzzify_same t =
-    ap (λ (l : List Sym). key_text key.Defuzzify t.0 ++ (name_text t.1.0 ++ (l ++ key_text key.EndDefuzzify t.1.1.1))) (each_texts defuzzy_line_form t.1.1.0)
+    ap (λ (l : List Sym). key_text key.Defuzzify t.0 ++ (name_text t.1.0 ++ (l ++ key_text key.EndDefuzzify t.1.1.1)))
+    (each_texts defuzzy_line_form t.1.1.0)
 
 abbrev pub defuzzify_raw : Form TDefuzzify
-defuzzify_raw = via defuzzify_seq to_defuzzify (λ d. (d.at, (d.name, (d.lines, d.end)))) defuzzify_text (λ d. refl) defuzzify_same
+defuzzify_raw = via defuzzify_seq to_defuzzify (λ d. (d.at, (d.name, (d.lines, d.end)))) defuzzify_text
+    (λ d. refl) defuzzify_same
 
 pub defuzzify_is : (ts : List Token) → defuzzify_at ts ≡ defuzzify_raw.read ts
 unfolding defuzzify_at

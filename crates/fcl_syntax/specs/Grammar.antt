@@ -18,7 +18,8 @@ use Rattle.fcl_syntax.specs.declared.tree.Name.{Name}
 use Rattle.fcl_syntax.specs.declared.tree.Number.{Number}
 use Rattle.fcl_syntax.specs.declared.tree.UnitNumber.{UnitNumber}
 use Rattle.fcl_syntax.specs.declared.tree.ZeroNumber.{ZeroNumber}
-use Rattle.fcl_syntax.specs.TokenClasses.{keyword_class, word_class, name_classes, other_type_classes, signed_classes, beyond_unit_classes, beyond_zero_classes, follow_classes, Among, open_classes}
+use Rattle.fcl_syntax.specs.TokenClasses.{keyword_class, word_class, name_classes, other_type_classes, signed_classes}
+use Rattle.fcl_syntax.specs.TokenClasses.{beyond_unit_classes, beyond_zero_classes, follow_classes, Among, open_classes}
 use Rattle.fcl_syntax.specs.Annotations.{Sym, plain, annotated, either_text, or_refused}
 
 -- x y z .. as sep x, sep y, sep z ..

@@ -1,5 +1,6 @@
 -- Cutting a text from the left, piece by piece, as the lexer does.
-use Rattle.std.specs.Prelude.{◌≡◌, ℕ, zero, suc, ◌+◌, ◌<◌, ◌≤◌, Bool, false, List, [], ◌∷◌, length, take, drop, Option, Some, None, Result, Ok, Err, ◌==◌, if◌then◌else◌}
+use Rattle.std.specs.Prelude.{◌≡◌, ℕ, zero, suc, ◌+◌, ◌<◌, ◌≤◌, Bool, false, List, [], ◌∷◌, length, take, drop, Option}
+use Rattle.std.specs.Prelude.{Some, None, Result, Ok, Err, ◌==◌, if◌then◌else◌}
 use Rattle.std.specs.List.{take_while}
 use Rattle.std.specs.Char.{is_ascii_digit}
 use Rattle.fz_num.specs.Decimals.{decimal}
@@ -17,7 +18,8 @@ use Rattle.fcl_syntax.specs.declared.token.Meaning.TheVariants as meaning
 use Rattle.fcl_syntax.specs.declared.token.Token.{Token}
 use Rattle.fcl_syntax.specs.declared.token.Token.TheVariants as tok
 use Rattle.fcl_syntax.specs.Meanings.{meanings}
-use Rattle.fcl_syntax.specs.Tokens.{is_blank, meaning_in, is_name_start, amount_of, starts_name, is_line_byte, is_name_byte}
+use Rattle.fcl_syntax.specs.Tokens.{is_blank, meaning_in, is_name_start, amount_of, starts_name, is_line_byte}
+use Rattle.fcl_syntax.specs.Tokens.{is_name_byte}
 
 -- how long a run at the front is
 abbrev pub run : (ℕ → Bool) → List ℕ → ℕ

@@ -1,5 +1,6 @@
 -- The tokens of a text. It is cut from the left into blanks, comments and tokens, each the longest that stands there.
-use Rattle.std.specs.Prelude.{◌≡◌, ℕ, ◌+◌, ◌<◌, ◌≤◌, Bool, true, false, List, [], ◌∷◌, ◌++◌, length, codes, Option, Some, None, Ok, Err, ◌==◌, ◌||◌, ◌⊎◌, if◌then◌else◌, pos}
+use Rattle.std.specs.Prelude.{◌≡◌, ℕ, ◌+◌, ◌<◌, ◌≤◌, Bool, true, false, List, [], ◌∷◌, ◌++◌, length, codes, Option}
+use Rattle.std.specs.Prelude.{Some, None, Ok, Err, ◌==◌, ◌||◌, ◌⊎◌, if◌then◌else◌, pos}
 use Rattle.std.specs.List.{list_all, filter_map}
 use Rattle.std.specs.Char.{is_ascii_digit, is_ascii_alphabetic}
 use Rattle.std.specs.Ordering.{int_eq}

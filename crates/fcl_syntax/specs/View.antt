@@ -38,7 +38,11 @@ use Rattle.fcl_syntax.specs.declared.tree.Singleton.{Singleton}
 use Rattle.fcl_syntax.specs.declared.tree.Term.{Term}
 use Rattle.fcl_syntax.specs.declared.tree.Variables.{Variables}
 use Rattle.fcl_syntax.specs.declared.tree.Weight.{Weight}
-use Rattle.fcl_syntax.specs.Grammar.{TSigned, plus, minus, bare, TSignedNumber, TDeclaration, TVariables, TSection, TCoordinate, TUnit, TZero, TPoint, TTerm, TRange, TFuzzify, TSetting, TSingleton, TFallback, TDefuzzyLine, TDefuzzify, TPart, TNot, neg, group, is, TNots, no_nots, more_nots, TAnd, and_of, TAnds, no_ands, more_ands, TOr, or_of, TWeight, TRule, TRuleItem, TAct, TRuleLine, TRulebase, TBlock}
+use Rattle.fcl_syntax.specs.Grammar.{TSigned, plus, minus, bare, TSignedNumber, TDeclaration, TVariables, TSection}
+use Rattle.fcl_syntax.specs.Grammar.{TCoordinate, TUnit, TZero, TPoint, TTerm, TRange, TFuzzify, TSetting, TSingleton}
+use Rattle.fcl_syntax.specs.Grammar.{TFallback, TDefuzzyLine, TDefuzzify, TPart, TNot, neg, group, is, TNots, no_nots}
+use Rattle.fcl_syntax.specs.Grammar.{more_nots, TAnd, and_of, TAnds, no_ands, more_ands, TOr, or_of, TWeight, TRule}
+use Rattle.fcl_syntax.specs.Grammar.{TRuleItem, TAct, TRuleLine, TRulebase, TBlock}
 
 -- ---- variables, terms and ranges
 

@@ -3,7 +3,8 @@
 ghost use Rattle.std.specs.Prelude.{◌≡◌, [], ◌∷◌, length, map};
 ghost use Rattle.fcl_syntax.specs.TokenClasses.{follow_classes, keyword_class, opener_classes};
 ghost use Rattle.fcl_syntax.specs.Readers.{Gives, loop, starts};
-ghost use Rattle.fcl_syntax.specs.Reading.{not_word_at, operand_at, not_at, opened_in, conjunct_in, and_in, alternative_in, or_in};
+ghost use Rattle.fcl_syntax.specs.Reading.{not_word_at, operand_at, not_at, opened_in, conjunct_in, and_in};
+ghost use Rattle.fcl_syntax.specs.Reading.{alternative_in, or_in};
 ghost use Rattle.fcl_syntax.specs.View.{view_not, view_conjunct, view_and, view_alternative, view_or};
 
 use crate::fault::{Fault, Kind, ParseError};

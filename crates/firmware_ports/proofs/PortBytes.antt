@@ -9,14 +9,18 @@ use Rattle.eval_code.specs.Evaluation as evaluation
 use Rattle.firmware_ports.specs.Ports.{answer_size, answer_at, answers_at}
 use Rattle.firmware_ports.specs.Ports.{GivenIsPut}
 
-pub write_last : (ws : List (ℕ × ℕ)) (at v : ℕ) (m : List ℕ) → write_all (ws ++ (at, v) ∷ []) m ≡ set (write_all ws m) at v
+pub write_last : (ws : List (ℕ × ℕ)) (at v : ℕ) (m : List ℕ)
+    → write_all (ws ++ (at, v) ∷ []) m ≡ set (write_all ws m) at v
 write_last [] at v m = refl
 write_last (w ∷ ws) at v m = write_last ws at v (set m w.0 w.1)
 
 -- one answer more before the others
-pub answer_more : (wide : Bool) (m : List ℕ) (at n : ℕ) (vs : List ℕ) → 0 < n → (vs ++ answer_at wide at m ∷ []) ++ answers_at wide (n - 1) (plus at (answer_size wide)) m ≡ vs ++ answers_at wide n at m
+pub answer_more : (wide : Bool) (m : List ℕ) (at n : ℕ) (vs : List ℕ) → 0 < n
+    → (vs ++ answer_at wide at m ∷ []) ++ answers_at wide (n - 1) (plus at (answer_size wide)) m ≡ vs
+    ++ answers_at wide n at m
 answer_more wide m at zero vs h = absurd (omega arith)
-answer_more wide m at (suc n) vs h = let e : suc n - 1 ≡ n = omega arith in rw e (append_assoc vs (answer_at wide at m ∷ []) (answers_at wide n (plus at (answer_size wide)) m))
+answer_more wide m at (suc n) vs h = let e : suc n - 1 ≡ n = omega arith in
+    rw e (append_assoc vs (answer_at wide at m ∷ []) (answers_at wide n (plus at (answer_size wide)) m))
 
 same_put : (at : ℕ) (bytes m : List ℕ) → at + length bytes ≤ 65535
     → write_all (placed at bytes) m ≡ evaluation.put m at bytes

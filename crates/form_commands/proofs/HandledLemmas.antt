@@ -22,7 +22,8 @@ use Rattle.form_commands.specs.Hrun.{handled_report, hrun_refusals}
 use Rattle.run_reports.specs.Laws.{AnswersAreReported, SpelledBytesFit}
 
 -- what it answers of accepted files is the run of them
-module _ (reported : AnswersAreReported) (fit : SpelledBytesFit) (all : AnswersUnderPlans) (flags : ℕ) (byte : flags < 2 ^ 8)
+module _ (reported : AnswersAreReported) (fit : SpelledBytesFit) (all : AnswersUnderPlans) (flags : ℕ)
+    (byte : flags < 2 ^ 8)
     (files : HandledFiles) (block : Block) (firmware : Firmware) (handler : Image) (instrs : ℕ) (errors : List ℕ)
     (samples slice : List Sample) (plan : List Request) (rows : List HandledSeen)
     (a : AcceptsHandled files block firmware handler instrs errors samples plan)
@@ -30,7 +31,8 @@ module _ (reported : AnswersAreReported) (fit : SpelledBytesFit) (all : AnswersU
     (ran : rows ≡ handled_seen firmware handler.bytes instrs (map input_bytes slice) plan flags)
     (answers : HandlesItsBlock firmware handler.bytes instrs flags (map input_bytes slice) plan rows) where
   there : HandlesItsBlock firmware handler.bytes instrs flags (map input_bytes samples) plan rows
-  there = subst (λ (ss : List Sample). HandlesItsBlock firmware handler.bytes instrs flags (map input_bytes ss) plan rows)
+  there = subst (λ (ss : List Sample). HandlesItsBlock firmware handler.bytes instrs flags
+      (map input_bytes ss) plan rows)
       same answers
 
   handled : AreListedRows firmware handler.bytes instrs flags (map input_bytes samples) plan rows

@@ -11,11 +11,11 @@ use Rattle.interrupt_plan.specs.declared.levels.Level.{Level}
 use Rattle.run_law.specs.Forms.{RowSeen}
 use Rattle.trace_io.specs.declared.sample.Sample.{Sample}
 use Rattle.fz_run.specs.Answering.{AnswersItsBlock, AnswersUnderPlans}
-use Rattle.run_forms.specs.Rows.{shown_rows}
 use Rattle.fz_run.specs.Rows.{bytes_of, firmware_rows, input_bytes}
-use Rattle.two_level.specs.Images.{IsAlone, fast_most}
+use Rattle.two_level.specs.Images.{AloneHasByteBounds, HasByteBounds, fast_most}
 use Rattle.two_level.specs.declared.two.Two.{Two}
-use Rattle.two_runs.specs.Answering.{AnswersAtTwoLevels, AnswersItsBlocks, RowsAreSeen, answer_of_fast, fast_runs, plan_of}
+use Rattle.two_runs.specs.Answering.{AnswersAtTwoLevels, AnswersItsBlocks, RowsAreSeen, answer_of_fast, fast_runs}
+use Rattle.two_runs.specs.Answering.{plan_of}
 use Rattle.two_runs.specs.Order.{LevelsMakeAPlan}
 use Rattle.two_runs.specs.Rows.{TwoSeen, two_seen}
 use Rattle.two_runs.specs.Runs.{FastSeen}

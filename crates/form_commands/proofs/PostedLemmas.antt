@@ -1,5 +1,6 @@
 -- What a run under posts gives.
-use Rattle.std.proofs.Common.{◌≡◌, ◌≢◌, ◌≤◌, ◌+◌, ◌-◌, ◌∙◌, ℕ, Bool, true, false, List, [], ◌∷◌, ◌++◌, length, ap, ap₂, append_assoc, refl, sym, subst, arith}
+use Rattle.std.proofs.Common.{◌≡◌, ◌≢◌, ◌≤◌, ◌+◌, ◌-◌, ◌∙◌, ℕ, Bool, true, false, List, [], ◌∷◌, ◌++◌, length, ap, ap₂}
+use Rattle.std.proofs.Common.{append_assoc, refl, sym, subst, arith}
 use Rattle.std.specs.Prelude.{All, String, codes, flat_map, if◌then◌else◌, map, nat_le, string_bytes, ◌==◌}
 use Rattle.std.proofs.lemmas.List.Elements.{All-cons, All-head, All-tail}
 use Rattle.std.proofs.lemmas.Bool.Decides.{nat_tests}
@@ -20,8 +21,10 @@ use Rattle.trace_io.specs.Traces.{Spells as SpellsTrace}
 use Rattle.trace_io.specs.declared.sample.Sample.{Sample}
 use Rattle.fz_run.specs.Rows.{input_bytes, bytes_of}
 use Rattle.posted_runs.specs.Answering.{AnswersItsPosts, AnswersUnderPosts, answer_in, ended, run_of_turns}
-use Rattle.posted_runs.specs.Runs.{AnswerSeen, RunSeen, answer_seen, arrival, boundary_seen, frames_seen, run_under_posts}
-use Rattle.posted_runs.specs.Turns.{AreTurns, LastIsAnswered, Turn, behind, over, idle, answers, samples_of, up_to, waiting}
+use Rattle.posted_runs.specs.Runs.{AnswerSeen, RunSeen, answer_seen, arrival, boundary_seen, frames_seen}
+use Rattle.posted_runs.specs.Runs.{run_under_posts}
+use Rattle.posted_runs.specs.Turns.{AreTurns, LastIsAnswered, Turn, behind, over, idle, answers, samples_of, up_to}
+use Rattle.posted_runs.specs.Turns.{waiting}
 use Rattle.posted_runs.specs.declared.run.Answer as declared
 use Rattle.certified_run.specs.Posted.{IsOneOf, PostedAnswersAreNear}
 use Rattle.fz_shelf.specs.Lines.{text_of}
@@ -118,7 +121,8 @@ module _ (flags : ℕ) (f : Firmware) (bytes : List (List ℕ)) where
       (samples_of ts) refl (answers_turns ts (ended flags f bytes t s))
 
 -- what it answers of accepted files is the run of them
-module _ (keep : AnswersKeepTheBound) (fit : SpelledBytesFit) (near : PostedAnswersAreNear) (lasts : LastIsAnswered) (flags : ℕ) (files : PostedFiles) (block : Block)
+module _ (keep : AnswersKeepTheBound) (fit : SpelledBytesFit) (near : PostedAnswersAreNear) (lasts : LastIsAnswered)
+    (flags : ℕ) (files : PostedFiles) (block : Block)
     (firmware : Firmware) (errors : List ℕ) (samples : List Sample) (posts : List Post)
     (a : AcceptsPosted files block firmware errors samples posts) (told : List AnswerSeen)
     (frames : List (ℕ × FrameSeen)) (resumed : ℕ)

@@ -37,7 +37,8 @@ instructions_within b f before (x ∷ xs) (r ∷ rs) rows =
     (instructions_within b f (λ o. watched_answer b (image_memory f.image.bytes) x o (before o)) xs rs rows.1)
 
 -- what it answers of accepted files is the run of them
-pub watches : (near : FaultlessAnswersAreNear) (fit : SpelledBytesFit) (flags : ℕ) (files : WatchedFiles) (block : Block) (firmware : Firmware)
+pub watches : (near : FaultlessAnswersAreNear) (fit : SpelledBytesFit) (flags : ℕ) (files : WatchedFiles)
+    (block : Block) (firmware : Firmware)
     (errors : List ℕ) (samples slice : List Sample) (plan : List Request) (upsets : List Upset) (rows : List FaultSeen)
     → AcceptsWatched files block firmware errors samples plan upsets → slice ≡ samples
     → rows ≡ faults_of firmware (upset_rows firmware (map input_bytes slice) plan upsets flags)
@@ -55,7 +56,8 @@ watches near fit flags files block firmware errors samples slice plan upsets row
   good_plan = a.inputs.good_plan;
   upsets = upsets;
   good_upsets = a.good_upsets;
-  ran = subst (λ (ss : List Sample). rows ≡ faults_of firmware (upset_rows firmware (map input_bytes ss) plan upsets flags))
+  ran = subst (λ (ss : List Sample). rows ≡ faults_of firmware
+      (upset_rows firmware (map input_bytes ss) plan upsets flags))
       same ran;
   answers = under;
   bound = a.compiled.compiled.instructions;
@@ -66,7 +68,8 @@ watches near fit flags files block firmware errors samples slice plan upsets row
 }
   where
     all : AnswersItsSamples firmware flags (map input_bytes samples) plan upsets rows
-    all = subst (λ (ss : List Sample). AnswersItsSamples firmware flags (map input_bytes ss) plan upsets rows) same answers
+    all = subst (λ (ss : List Sample). AnswersItsSamples firmware flags (map input_bytes ss) plan upsets rows)
+        same answers
 
     under : AnswersUnderUpsets block firmware flags (map input_bytes samples) plan upsets rows
     under = all block a.compiled.spelled.valid a.compiled.limits a.compiled.compiled
@@ -75,7 +78,8 @@ watches near fit flags files block firmware errors samples slice plan upsets row
 module _ (files : WatchedFiles) (block : Block) (firmware : Firmware) (gives : GivesWatched files.fcl block firmware)
     (image : GivesImage files.image firmware.image) where
   -- what refuses the files behind IMAGE refuses the run
-  pub srun_refused : (s : Status) → input_refusals Byte block files.cert files.trace files.plan s → srun_refusals files s
+  pub srun_refused : (s : Status) → input_refusals Byte block files.cert files.trace files.plan s
+      → srun_refusals files s
   srun_refused (status.Fcl f) r = absurd r.2
   srun_refused (status.Image f) r = absurd r.2
   srun_refused (status.Upset f) r = absurd r.2
@@ -96,7 +100,8 @@ module _ (a b : List (ℕ × ℕ)) (one : (at : ℕ) → byte_at a at ≡ byte_a
   good_there u good = record {
     sample_from = good.sample_from;
     sample_to = good.sample_to;
-    table = ap (λ (o : Bool). nat_le 0xD000 u.at && nat_le u.at 0xFEFF && o) (ap is_there (sym (one u.at))) ∙ good.table;
+    table = ap (λ (o : Bool). nat_le 0xD000 u.at && nat_le u.at 0xFEFF && o) (ap is_there (sym (one u.at)))
+        ∙ good.table;
     value = good.value;
   }
 

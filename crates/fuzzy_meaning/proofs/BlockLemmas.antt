@@ -7,7 +7,8 @@ use Rattle.fz_num.specs.declared.dec.Dec.{Dec}
 use Rattle.fuzzy_meaning.specs.declared.block.Block.{Block}
 use Rattle.fuzzy_meaning.specs.declared.block.Input.{Input}
 use Rattle.fuzzy_meaning.specs.declared.block.Trapezoid.{Trapezoid}
-use Rattle.fuzzy_meaning.specs.Blocks.{IsValid, IsValidInput, IsValidTerm, IsTrapezoid, IsInScale, IsWithin, HasTerm, AreInputs}
+use Rattle.fuzzy_meaning.specs.Blocks.{IsValid, IsValidInput, IsValidTerm, IsTrapezoid, IsInScale, IsWithin, HasTerm}
+use Rattle.fuzzy_meaning.specs.Blocks.{AreInputs}
 use Rattle.fuzzy_meaning.specs.Degrees.{degree}
 use Rattle.fuzzy_meaning.specs.Meaning.{literal_degree}
 use Rattle.fz_list.proofs.Algebra.{All-slice_get, IsSomeAnd-some, IsSomeAnd-within}
@@ -18,11 +19,13 @@ in_scale lo hi x l h from to = record { low = omega (arith, ints); high = omega 
 pub IsInScale-within : (i : Input) (x : Dec) → IsValidInput i → IsWithin i.lo i.hi x → IsInScale x.0
 IsInScale-within i x v w = in_scale i.lo i.hi x v.lo_in v.hi_in w.low w.high
 
-left_in : (lo hi b : Dec) (a : Option Dec) → IsInScale lo.0 → IsInScale hi.0 → b.0 ≤ℤ hi.0 → IfSome a (λ p. (lo.0 ≤ℤ p.0) × (p.0 ≤ℤ b.0)) → IfSome a (λ p. IsInScale p.0 × (p.0 ≤ℤ b.0))
+left_in : (lo hi b : Dec) (a : Option Dec) → IsInScale lo.0 → IsInScale hi.0 → b.0 ≤ℤ hi.0
+    → IfSome a (λ p. (lo.0 ≤ℤ p.0) × (p.0 ≤ℤ b.0)) → IfSome a (λ p. IsInScale p.0 × (p.0 ≤ℤ b.0))
 left_in lo hi b None l h to e = e
 left_in lo hi b (Some a) l h to e = (in_scale lo hi a l h e.0 (omega (arith, ints, e.1)), e.1)
 
-right_in : (lo hi c : Dec) (d : Option Dec) → IsInScale lo.0 → IsInScale hi.0 → lo.0 ≤ℤ c.0 → IfSome d (λ p. (c.0 ≤ℤ p.0) × (p.0 ≤ℤ hi.0)) → IfSome d (λ p. IsInScale p.0 × (c.0 ≤ℤ p.0))
+right_in : (lo hi c : Dec) (d : Option Dec) → IsInScale lo.0 → IsInScale hi.0 → lo.0 ≤ℤ c.0
+    → IfSome d (λ p. (c.0 ≤ℤ p.0) × (p.0 ≤ℤ hi.0)) → IfSome d (λ p. IsInScale p.0 × (c.0 ≤ℤ p.0))
 right_in lo hi c None l h from e = e
 right_in lo hi c (Some d) l h from e = (in_scale lo hi d l h (omega (arith, ints, e.0)) e.1, e.0)
 
@@ -44,26 +47,39 @@ pub record IsLiteral (b : Block) (xs : List Dec) (i t : ℕ) (input : Input) (te
   pub term_is : slice_get input.terms (t - 1) ≡ Some term
   pub x_is : slice_get xs (i - 1) ≡ Some x
 
-pub literal_degree-found : (b : Block) (xs : List Dec) (i t : ℕ) (input : Input) (term : Trapezoid) (x : Dec) → IsLiteral b xs i t input term x → literal_degree b xs i t ≡ degree term x
+pub literal_degree-found : (b : Block) (xs : List Dec) (i t : ℕ) (input : Input) (term : Trapezoid) (x : Dec)
+    → IsLiteral b xs i t input term x → literal_degree b xs i t ≡ degree term x
 literal_degree-found b xs i t input term x l = rw (l.input_is, l.term_is, l.x_is) refl
 
-pub IsTrapezoid-literal : (b : Block) (xs : List Dec) (i t : ℕ) (input : Input) (term : Trapezoid) (x : Dec) → IsValid b → IsLiteral b xs i t input term x → IsTrapezoid term
+pub IsTrapezoid-literal : (b : Block) (xs : List Dec) (i t : ℕ) (input : Input) (term : Trapezoid) (x : Dec) → IsValid b
+    → IsLiteral b xs i t input term x → IsTrapezoid term
 IsTrapezoid-literal b xs i t input term x v l =
     let vi = All-slice_get IsValidInput b.inputs (i - 1) input v.inputs l.input_is in
-    IsTrapezoid-valid input term vi (All-slice_get (IsValidTerm input.lo input.hi) input.terms (t - 1) term vi.terms l.term_is)
+    IsTrapezoid-valid input term vi
+    (All-slice_get (IsValidTerm input.lo input.hi) input.terms (t - 1) term vi.terms l.term_is)
 
-pub IsInScale-literal : (b : Block) (xs : List Dec) (i t : ℕ) (input : Input) (term : Trapezoid) (x : Dec) → IsValid b → AreInputs b xs → IsLiteral b xs i t input term x → IsInScale x.0
+pub IsInScale-literal : (b : Block) (xs : List Dec) (i t : ℕ) (input : Input) (term : Trapezoid) (x : Dec) → IsValid b
+    → AreInputs b xs → IsLiteral b xs i t input term x → IsInScale x.0
 IsInScale-literal b xs i t input term x v are l =
-    IsInScale-within input x (All-slice_get IsValidInput b.inputs (i - 1) input v.inputs l.input_is) (are.within (i - 1) input x l.input_is l.x_is)
+    IsInScale-within input x (All-slice_get IsValidInput b.inputs (i - 1) input v.inputs l.input_is)
+    (are.within (i - 1) input x l.input_is l.x_is)
 
 -- what is read there
-pub IsLiteral-read : (b : Block) (xs : List Dec) (i t : ℕ) (input : Input) (e : Trapezoid) (y : Dec) → HasTerm b i t → AreInputs b xs → input ≡ get_or b.inputs (i - 1) input → IsLiteral b xs i t input (get_or input.terms (t - 1) e) (get_or xs (i - 1) y)
+pub IsLiteral-read : (b : Block) (xs : List Dec) (i t : ℕ) (input : Input) (e : Trapezoid) (y : Dec) → HasTerm b i t
+    → AreInputs b xs → input ≡ get_or b.inputs (i - 1) input
+    → IsLiteral b xs i t input (get_or input.terms (t - 1) e) (get_or xs (i - 1) y)
 IsLiteral-read b xs i t input e y has are is =
     let in_block : i - 1 < length b.inputs = IsSomeAnd-within (λ x. t ≤ length x.terms) b.inputs (i - 1) has.term_to in
     let input_is = slice_get_read b.inputs (length b.inputs) (i - 1) input refl in_block is in
-    let few : t ≤ length input.terms = IsSomeAnd-some (λ x. t ≤ length x.terms) (slice_get b.inputs (i - 1)) input input_is has.term_to in
+    let few : t ≤ length input.terms =
+    IsSomeAnd-some (λ x. t ≤ length x.terms) (slice_get b.inputs (i - 1)) input input_is has.term_to in
     let from = has.term_from in
     let in_terms : t - 1 < length input.terms = omega arith in
     let count = are.count in
     let in_xs : i - 1 < length xs = omega arith in
-    record { input_is = input_is; term_is = slice_get-get_or input.terms (t - 1) e in_terms; x_is = slice_get-get_or xs (i - 1) y in_xs }
+    record {
+      input_is = input_is;
+      term_is = slice_get-get_or input.terms (t - 1) e in_terms;
+      x_is =
+          slice_get-get_or xs (i - 1) y in_xs;
+    }

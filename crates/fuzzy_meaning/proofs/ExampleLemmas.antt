@@ -10,9 +10,11 @@ use Rattle.fz_num.specs.declared.dec.Dec.{Dec}
 use Rattle.fuzzy_meaning.specs.declared.block.Block.{Block}
 use Rattle.fuzzy_meaning.specs.declared.block.Rule.{Rule}
 use Rattle.fuzzy_meaning.specs.declared.block.Cond.{Cond, Is, Not', the_lemmas}
-use Rattle.fuzzy_meaning.specs.Blocks.{IsValid, IsValidInput, IsValidOutput, IsValidTerm, IsValidRule, IsValidCondition, IsInScale, IsWithin, IsWeight, HasSingleton, rule_size}
+use Rattle.fuzzy_meaning.specs.Blocks.{IsValid, IsValidInput, IsValidOutput, IsValidTerm, IsValidRule, IsValidCondition}
+use Rattle.fuzzy_meaning.specs.Blocks.{IsInScale, IsWithin, IsWeight, HasSingleton, rule_size}
 use Rattle.fuzzy_meaning.specs.Conditions.{Condition, is, negation, condition_of, depth, nodes}
-use Rattle.fuzzy_meaning.specs.Examples.{dec, cold, hot, heater, step_at, latch, nots, full_term, full_input, full_output, full_rule, full, ExamplesAreValid}
+use Rattle.fuzzy_meaning.specs.Examples.{dec, cold, hot, heater, step_at, latch, nots, full_term, full_input}
+use Rattle.fuzzy_meaning.specs.Examples.{full_output, full_rule, full, ExamplesAreValid}
 use Rattle.fz_list.proofs.Algebra.{All-cons, All-none}
 
 pub condition_of-Is : (i t : ℕ) → condition_of (Is i t) ≡ is i t
@@ -25,19 +27,42 @@ scale : (n : ℕ) → n ≤ 1000000000 → IsInScale (pos n)
 scale n h = record { low = omega (arith, ints); high = omega (arith, ints) }
 
 cold_valid : IsValidTerm (dec (pos 0)) (dec (pos 2560000)) cold
-cold_valid = record { a_in = tt; b_in = omega (arith, ints); peak = omega (arith, ints); c_in = omega (arith, ints); d_in = (omega (arith, ints), omega (arith, ints)) }
+cold_valid = record {
+  a_in = tt;
+  b_in = omega (arith, ints);
+  peak = omega (arith, ints);
+  c_in =
+      omega (arith, ints);
+  d_in = (omega (arith, ints), omega (arith, ints));
+}
 
 hot_valid : IsValidTerm (dec (pos 0)) (dec (pos 2560000)) hot
-hot_valid = record { a_in = (omega (arith, ints), omega (arith, ints)); b_in = omega (arith, ints); peak = omega (arith, ints); c_in = omega (arith, ints); d_in = tt }
+hot_valid = record {
+  a_in = (omega (arith, ints), omega (arith, ints));
+  b_in = omega (arith, ints);
+  peak =
+      omega (arith, ints);
+  c_in = omega (arith, ints);
+  d_in = tt;
+}
 
 step_valid : (n : ℕ) → n ≤ 2560000 → IsValidTerm (dec (pos 0)) (dec (pos 2560000)) (step_at n)
-step_valid n h = record { a_in = (omega (arith, ints), omega (arith, ints)); b_in = omega (arith, ints); peak = omega (arith, ints); c_in = omega (arith, ints); d_in = tt }
+step_valid n h = record {
+  a_in = (omega (arith, ints), omega (arith, ints));
+  b_in = omega (arith, ints);
+  peak = omega (arith, ints);
+  c_in =
+      omega (arith, ints);
+  d_in = tt;
+}
 
 within : (lo hi x : ℕ) → lo ≤ x → x ≤ hi → IsWithin (dec (pos lo)) (dec (pos hi)) (dec (pos x))
 within lo hi x l h = record { low = omega (arith, ints); high = omega (arith, ints) }
 
 -- a rule with one literal
-plain_rule : (b : Block) (r : Rule) (c : Condition) → condition_of r.cond ≡ c → IsValidCondition b c → depth c ≤ 256 → IfSome r.weight IsWeight → 1 ≤ length r.concl → All (λ (c : ℕ × ℕ). HasSingleton b c.0 c.1) r.concl → IsValidRule b r
+plain_rule : (b : Block) (r : Rule) (c : Condition) → condition_of r.cond ≡ c → IsValidCondition b c → depth c ≤ 256
+    → IfSome r.weight IsWeight → 1 ≤ length r.concl → All (λ (c : ℕ × ℕ). HasSingleton b c.0 c.1) r.concl
+    → IsValidRule b r
 plain_rule b r c e valid deep weight some conclusions = record {
   condition = subst (IsValidCondition b) (sym e) valid;
   deep = subst (λ x. depth x ≤ 256) (sym e) deep;
@@ -48,7 +73,8 @@ plain_rule b r c e valid deep weight some conclusions = record {
 
 -- a conclusion alone
 one_conclusion : (b : Block) (o t : ℕ) → HasSingleton b o t → All (λ (c : ℕ × ℕ). HasSingleton b c.0 c.1) ((o, t) ∷ [])
-one_conclusion b o t h = All-cons (λ (c : ℕ × ℕ). HasSingleton b c.0 c.1) (o, t) [] h (All-none (λ (c : ℕ × ℕ). HasSingleton b c.0 c.1))
+one_conclusion b o t h =
+    All-cons (λ (c : ℕ × ℕ). HasSingleton b c.0 c.1) (o, t) [] h (All-none (λ (c : ℕ × ℕ). HasSingleton b c.0 c.1))
 
 size_of_two : (r s : Rule) → rule_size r ≤ 10 → rule_size s ≤ 10 → sum_by rule_size (r ∷ s ∷ []) ≤ 1048576
 size_of_two r s h k = omega arith
@@ -57,7 +83,8 @@ size_of_two r s h k = omega arith
 ends_in_scale : All (λ (u : Dec). IsInScale u.0) (dec (pos 0) ∷ dec (pos 1000000) ∷ [])
 ends_in_scale =
     let InScale = λ (u : Dec). IsInScale u.0 in
-    All-cons InScale (dec (pos 0)) (dec (pos 1000000) ∷ []) (scale 0 (omega arith)) (All-cons InScale (dec (pos 1000000)) [] (scale 1000000 (omega arith)) (All-none InScale))
+    All-cons InScale (dec (pos 0)) (dec (pos 1000000) ∷ []) (scale 0 (omega arith))
+    (All-cons InScale (dec (pos 1000000)) [] (scale 1000000 (omega arith)) (All-none InScale))
 
 pub heater_valid : IsValid heater
 heater_valid =
@@ -70,11 +97,52 @@ heater_valid =
       few_outputs = omega arith;
       some_rule = omega arith;
       few_rules = omega arith;
-      inputs = All-cons IsValidInput _ [] (record { lo_in = scale 0 (omega arith); hi_in = scale 2560000 (omega arith); range = omega (arith, ints); some_term = omega arith; few_terms = omega arith; terms = All-cons (IsValidTerm (dec (pos 0)) (dec (pos 2560000))) cold (hot ∷ []) cold_valid (All-cons (IsValidTerm (dec (pos 0)) (dec (pos 2560000))) hot [] hot_valid (All-none (IsValidTerm (dec (pos 0)) (dec (pos 2560000))))) }) (All-none IsValidInput);
-      outputs = All-cons IsValidOutput _ [] (record { lo_in = scale 0 (omega arith); hi_in = omega (arith, ints); range = omega (arith, ints); some_term = omega arith; few_terms = omega arith; singletons = All-cons (IsWithin (dec (pos 0)) (dec (pos 1000000))) (dec (pos 0)) (dec (pos 1000000) ∷ []) (within 0 1000000 0 (omega arith) (omega arith)) (All-cons (IsWithin (dec (pos 0)) (dec (pos 1000000))) (dec (pos 1000000)) [] (within 0 1000000 1000000 (omega arith) (omega arith)) (All-none (IsWithin (dec (pos 0)) (dec (pos 1000000))))); singletons_in_scale = ends_in_scale; default_in = within 0 1000000 0 (omega arith) (omega arith); default_in_scale = scale 0 (omega arith) }) (All-none IsValidOutput);
-      rules = All-cons (IsValidRule heater) cold_rule (hot_rule ∷ []) (plain_rule heater cold_rule (is 1 1) (condition_of-Is 1 1) (record { input_from = omega arith; term_from = omega arith; term_to = omega arith }) (omega arith) tt (omega arith) (one_conclusion heater 1 1 (record { output_from = omega arith; term_from = omega arith; term_to = omega arith })))
-          (All-cons (IsValidRule heater) hot_rule [] (plain_rule heater hot_rule (is 1 2) (condition_of-Is 1 2) (record { input_from = omega arith; term_from = omega arith; term_to = omega arith }) (omega arith) tt (omega arith) (one_conclusion heater 1 2 (record { output_from = omega arith; term_from = omega arith; term_to = omega arith }))) (All-none (IsValidRule heater)));
-      size = size_of_two cold_rule hot_rule (let n = ap nodes (condition_of-Is 1 1) in omega (arith, n)) (let n = ap nodes (condition_of-Is 1 2) in omega (arith, n));
+      inputs = All-cons IsValidInput _ []
+          (record {
+            lo_in = scale 0 (omega arith);
+            hi_in = scale 2560000 (omega arith);
+            range =
+                omega (arith, ints);
+            some_term = omega arith;
+            few_terms = omega arith;
+            terms =
+                All-cons (IsValidTerm (dec (pos 0)) (dec (pos 2560000))) cold (hot ∷ []) cold_valid
+                (All-cons (IsValidTerm (dec (pos 0)) (dec (pos 2560000))) hot [] hot_valid
+                (All-none (IsValidTerm (dec (pos 0)) (dec (pos 2560000)))));
+          }) (All-none IsValidInput);
+      outputs = All-cons IsValidOutput _ []
+          (record {
+            lo_in = scale 0 (omega arith);
+            hi_in = omega (arith, ints);
+            range = omega (arith, ints);
+            some_term =
+                omega arith;
+            few_terms = omega arith;
+            singletons =
+                All-cons (IsWithin (dec (pos 0)) (dec (pos 1000000))) (dec (pos 0)) (dec (pos 1000000) ∷ [])
+                (within 0 1000000 0 (omega arith) (omega arith))
+                (All-cons (IsWithin (dec (pos 0)) (dec (pos 1000000))) (dec (pos 1000000)) []
+                (within 0 1000000 1000000 (omega arith) (omega arith))
+                (All-none (IsWithin (dec (pos 0)) (dec (pos 1000000)))));
+            singletons_in_scale = ends_in_scale;
+            default_in =
+                within 0 1000000 0 (omega arith) (omega arith);
+            default_in_scale = scale 0 (omega arith);
+          })
+          (All-none IsValidOutput);
+      rules = All-cons (IsValidRule heater) cold_rule (hot_rule ∷ [])
+          (plain_rule heater cold_rule (is 1 1) (condition_of-Is 1 1)
+          (record { input_from = omega arith; term_from = omega arith; term_to = omega arith }) (omega arith) tt
+          (omega arith) (one_conclusion heater 1 1
+          (record { output_from = omega arith; term_from = omega arith; term_to = omega arith })))
+          (All-cons (IsValidRule heater) hot_rule []
+          (plain_rule heater hot_rule (is 1 2) (condition_of-Is 1 2)
+          (record { input_from = omega arith; term_from = omega arith; term_to = omega arith }) (omega arith) tt
+          (omega arith) (one_conclusion heater 1 2
+          (record { output_from = omega arith; term_from = omega arith; term_to = omega arith })))
+          (All-none (IsValidRule heater)));
+      size = size_of_two cold_rule hot_rule (let n = ap nodes (condition_of-Is 1 1) in omega (arith, n))
+          (let n = ap nodes (condition_of-Is 1 2) in omega (arith, n));
     }
 
 pub latch_valid : (p : Box (Unit {0})) → IsValid (latch p)
@@ -84,7 +152,8 @@ latch_valid p =
     let off_rule : Rule = record { cond = Is 1 2; weight = None; concl = (1, 1) ∷ [] } in
     let IsTerm = IsValidTerm (dec (pos 0)) (dec (pos 2560000)) in
     let IsPoint = IsWithin (dec (pos 0)) (dec (pos 1000000)) in
-    let not_mid : condition_of (Not' p (Is 1 1)) ≡ negation (is 1 1) = condition_of-Not p (Is 1 1) ∙ ap negation (condition_of-Is 1 1) in
+    let not_mid : condition_of (Not' p (Is 1 1)) ≡ negation (is 1 1) = condition_of-Not p (Is 1 1)
+    ∙ ap negation (condition_of-Is 1 1) in
     record {
       some_input = omega arith;
       few_inputs = omega arith;
@@ -92,25 +161,66 @@ latch_valid p =
       few_outputs = omega arith;
       some_rule = omega arith;
       few_rules = omega arith;
-      inputs = All-cons IsValidInput _ [] (record { lo_in = scale 0 (omega arith); hi_in = scale 2560000 (omega arith); range = omega (arith, ints); some_term = omega arith; few_terms = omega arith; terms = All-cons IsTerm (step_at 640000) (step_at 1920000 ∷ []) (step_valid 640000 (omega arith)) (All-cons IsTerm (step_at 1920000) [] (step_valid 1920000 (omega arith)) (All-none IsTerm)) }) (All-none IsValidInput);
-      outputs = All-cons IsValidOutput _ [] (record { lo_in = scale 0 (omega arith); hi_in = omega (arith, ints); range = omega (arith, ints); some_term = omega arith; few_terms = omega arith; singletons = All-cons IsPoint (dec (pos 0)) (dec (pos 1000000) ∷ []) (within 0 1000000 0 (omega arith) (omega arith)) (All-cons IsPoint (dec (pos 1000000)) [] (within 0 1000000 1000000 (omega arith) (omega arith)) (All-none IsPoint)); singletons_in_scale = ends_in_scale; default_in = tt; default_in_scale = tt }) (All-none IsValidOutput);
-      rules = All-cons (IsValidRule b) on_rule (off_rule ∷ []) (plain_rule b on_rule (negation (is 1 1)) not_mid (record { input_from = omega arith; term_from = omega arith; term_to = omega arith }) (omega arith) tt (omega arith) (one_conclusion b 1 2 (record { output_from = omega arith; term_from = omega arith; term_to = omega arith })))
-          (All-cons (IsValidRule b) off_rule [] (plain_rule b off_rule (is 1 2) (condition_of-Is 1 2) (record { input_from = omega arith; term_from = omega arith; term_to = omega arith }) (omega arith) tt (omega arith) (one_conclusion b 1 1 (record { output_from = omega arith; term_from = omega arith; term_to = omega arith }))) (All-none (IsValidRule b)));
-      size = size_of_two on_rule off_rule (let n = ap nodes not_mid in omega (arith, n)) (let n = ap nodes (condition_of-Is 1 2) in omega (arith, n));
+      inputs = All-cons IsValidInput _ []
+          (record {
+            lo_in = scale 0 (omega arith);
+            hi_in = scale 2560000 (omega arith);
+            range =
+                omega (arith, ints);
+            some_term = omega arith;
+            few_terms = omega arith;
+            terms =
+                All-cons IsTerm (step_at 640000) (step_at 1920000 ∷ []) (step_valid 640000 (omega arith))
+                (All-cons IsTerm (step_at 1920000) [] (step_valid 1920000 (omega arith)) (All-none IsTerm));
+          })
+          (All-none IsValidInput);
+      outputs = All-cons IsValidOutput _ []
+          (record {
+            lo_in = scale 0 (omega arith);
+            hi_in = omega (arith, ints);
+            range = omega (arith, ints);
+            some_term =
+                omega arith;
+            few_terms = omega arith;
+            singletons =
+                All-cons IsPoint (dec (pos 0)) (dec (pos 1000000) ∷ []) (within 0 1000000 0 (omega arith) (omega arith))
+                (All-cons IsPoint (dec (pos 1000000)) [] (within 0 1000000 1000000 (omega arith) (omega arith))
+                (All-none IsPoint));
+            singletons_in_scale = ends_in_scale;
+            default_in = tt;
+            default_in_scale = tt;
+          })
+          (All-none IsValidOutput);
+      rules = All-cons (IsValidRule b) on_rule (off_rule ∷ [])
+          (plain_rule b on_rule (negation (is 1 1)) not_mid
+          (record { input_from = omega arith; term_from = omega arith; term_to = omega arith }) (omega arith) tt
+          (omega arith) (one_conclusion b 1 2
+          (record { output_from = omega arith; term_from = omega arith; term_to = omega arith })))
+          (All-cons (IsValidRule b) off_rule []
+          (plain_rule b off_rule (is 1 2) (condition_of-Is 1 2)
+          (record { input_from = omega arith; term_from = omega arith; term_to = omega arith }) (omega arith) tt
+          (omega arith) (one_conclusion b 1 1
+          (record { output_from = omega arith; term_from = omega arith; term_to = omega arith })))
+          (All-none (IsValidRule b)));
+      size = size_of_two on_rule off_rule (let n = ap nodes not_mid in omega (arith, n))
+          (let n = ap nodes (condition_of-Is 1 2) in omega (arith, n));
     }
 
 -- conditions one in another
 depth-nots : (p : Box (Unit {0})) (n : ℕ) (c : Cond) → depth (condition_of (nots p n c)) ≡ n + depth (condition_of c)
 unfolding nots
 depth-nots p zero c = omega arith
-depth-nots p (suc n) c = let e = ap depth (condition_of-Not p (nots p n c)) in let h = depth-nots p n c in omega (arith, e, h)
+depth-nots p (suc n) c = let e = ap depth (condition_of-Not p (nots p n c)) in let h = depth-nots p n c in
+    omega (arith, e, h)
 
 nodes-nots : (p : Box (Unit {0})) (n : ℕ) (c : Cond) → nodes (condition_of (nots p n c)) ≡ n + nodes (condition_of c)
 unfolding nots
 nodes-nots p zero c = omega arith
-nodes-nots p (suc n) c = let e = ap nodes (condition_of-Not p (nots p n c)) in let h = nodes-nots p n c in omega (arith, e, h)
+nodes-nots p (suc n) c = let e = ap nodes (condition_of-Not p (nots p n c)) in let h = nodes-nots p n c in
+    omega (arith, e, h)
 
-nots_valid : (b : Block) (p : Box (Unit {0})) (n : ℕ) (c : Cond) → IsValidCondition b (condition_of c) → IsValidCondition b (condition_of (nots p n c))
+nots_valid : (b : Block) (p : Box (Unit {0})) (n : ℕ) (c : Cond) → IsValidCondition b (condition_of c)
+    → IsValidCondition b (condition_of (nots p n c))
 unfolding nots
 nots_valid b p zero c h = h
 nots_valid b p (suc n) c h = subst (IsValidCondition b) (sym (condition_of-Not p (nots p n c))) (nots_valid b p n c h)
@@ -122,7 +232,15 @@ full_input_valid = record {
   range = omega (arith, ints);
   some_term = omega (arith, length-replicate 15 full_term);
   few_terms = omega (arith, length-replicate 15 full_term);
-  terms = All-replicate (IsValidTerm full_input.lo full_input.hi) 15 full_term (record { a_in = (omega (arith, ints), omega (arith, ints)); b_in = omega (arith, ints); peak = omega (arith, ints); c_in = omega (arith, ints); d_in = (omega (arith, ints), omega (arith, ints)) });
+  terms = All-replicate (IsValidTerm full_input.lo full_input.hi) 15 full_term
+      (record {
+        a_in = (omega (arith, ints), omega (arith, ints));
+        b_in = omega (arith, ints);
+        peak =
+            omega (arith, ints);
+        c_in = omega (arith, ints);
+        d_in = (omega (arith, ints), omega (arith, ints));
+      });
 }
 
 full_output_valid : IsValidOutput full_output
@@ -132,8 +250,10 @@ full_output_valid = record {
   range = omega (arith, ints);
   some_term = omega (arith, length-replicate 15 (dec (pos 1000000000)));
   few_terms = omega (arith, length-replicate 15 (dec (pos 1000000000)));
-  singletons = All-replicate (IsWithin full_output.lo full_output.hi) 15 (dec (pos 1000000000)) (within 1000000000 1000010000 1000000000 (omega arith) (omega arith));
-  singletons_in_scale = All-replicate (λ (u : Dec). IsInScale u.0) 15 (dec (pos 1000000000)) (scale 1000000000 (omega arith));
+  singletons = All-replicate (IsWithin full_output.lo full_output.hi) 15 (dec (pos 1000000000))
+      (within 1000000000 1000010000 1000000000 (omega arith) (omega arith));
+  singletons_in_scale =
+      All-replicate (λ (u : Dec). IsInScale u.0) 15 (dec (pos 1000000000)) (scale 1000000000 (omega arith));
   default_in = within 1000000000 1000010000 1000000000 (omega arith) (omega arith);
   default_in_scale = scale 1000000000 (omega arith);
 }
@@ -141,13 +261,16 @@ full_output_valid = record {
 full_rule_valid : (p : Box (Unit {0})) → IsValidRule (full p) (full_rule p)
 unfolding full_rule
 full_rule_valid p =
-    let literal : IsValidCondition (full p) (condition_of (Is 8 15)) = subst (IsValidCondition (full p)) (sym (condition_of-Is 8 15)) (record { input_from = omega arith; term_from = omega arith; term_to = omega arith }) in
+    let literal : IsValidCondition (full p) (condition_of (Is 8 15)) =
+    subst (IsValidCondition (full p)) (sym (condition_of-Is 8 15))
+    (record { input_from = omega arith; term_from = omega arith; term_to = omega arith }) in
     record {
       condition = nots_valid (full p) p 255 (Is 8 15) literal;
       deep = let e = depth-nots p 255 (Is 8 15) in let i = ap depth (condition_of-Is 8 15) in omega (arith, e, i);
       weight = record { low = omega (arith, ints); high = omega (arith, ints) };
       some_conclusion = let e = length-replicate {A = ℕ × ℕ} 3840 (4, 15) in omega (arith, e);
-      conclusions = All-replicate (λ (c : ℕ × ℕ). HasSingleton (full p) c.0 c.1) 3840 (4, 15) (record { output_from = omega arith; term_from = omega arith; term_to = omega arith });
+      conclusions = All-replicate (λ (c : ℕ × ℕ). HasSingleton (full p) c.0 c.1) 3840 (4, 15)
+          (record { output_from = omega arith; term_from = omega arith; term_to = omega arith });
     }
 
 full_rule_size : (p : Box (Unit {0})) → rule_size (full_rule p) ≡ 4096

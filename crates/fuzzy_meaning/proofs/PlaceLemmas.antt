@@ -9,17 +9,21 @@ use Rattle.fz_num.specs.Decimals.{distance}
 use Rattle.fuzzy_meaning.specs.Degrees.{rise, fall}
 use Rattle.fuzzy_meaning.specs.Places.{rise_at, fall_at, NumbersHaveTheirDegrees}
 
-rise_at-some : (lo a b x : Dec) → lo.0 ≤ℤ a.0 → a.0 ≤ℤ b.0 → lo.0 ≤ℤ x.0 → rise_at (Some (distance lo a)) (distance lo b) (over (distance lo x) 1) ≡ rise (Some a) b x
+rise_at-some : (lo a b x : Dec) → lo.0 ≤ℤ a.0 → a.0 ≤ℤ b.0 → lo.0 ≤ℤ x.0
+    → rise_at (Some (distance lo a)) (distance lo b) (over (distance lo x) 1) ≡ rise (Some a) b x
 rise_at-some lo a b x h1 h2 h3 = grind (arith, ints, nat_tests)
 
-fall_at-some : (lo c d x : Dec) → lo.0 ≤ℤ c.0 → c.0 ≤ℤ d.0 → lo.0 ≤ℤ x.0 → fall_at (distance lo c) (Some (distance lo d)) (over (distance lo x) 1) ≡ fall c (Some d) x
+fall_at-some : (lo c d x : Dec) → lo.0 ≤ℤ c.0 → c.0 ≤ℤ d.0 → lo.0 ≤ℤ x.0
+    → fall_at (distance lo c) (Some (distance lo d)) (over (distance lo x) 1) ≡ fall c (Some d) x
 fall_at-some lo c d x h1 h2 h3 = grind (arith, ints, nat_tests)
 
-rise_at-number : (lo : Dec) (a : Option Dec) (b x : Dec) → IfSome a (λ p. (lo.0 ≤ℤ p.0) × (p.0 ≤ℤ b.0)) → lo.0 ≤ℤ x.0 → rise_at (option_map (distance lo) a) (distance lo b) (over (distance lo x) 1) ≡ rise a b x
+rise_at-number : (lo : Dec) (a : Option Dec) (b x : Dec) → IfSome a (λ p. (lo.0 ≤ℤ p.0) × (p.0 ≤ℤ b.0)) → lo.0 ≤ℤ x.0
+    → rise_at (option_map (distance lo) a) (distance lo b) (over (distance lo x) 1) ≡ rise a b x
 rise_at-number lo None b x h hx = refl
 rise_at-number lo (Some a) b x h hx = rise_at-some lo a b x h.0 h.1 hx
 
-fall_at-number : (lo hi c : Dec) (d : Option Dec) (x : Dec) → lo.0 ≤ℤ c.0 → IfSome d (λ p. (c.0 ≤ℤ p.0) × (p.0 ≤ℤ hi.0)) → lo.0 ≤ℤ x.0 → fall_at (distance lo c) (option_map (distance lo) d) (over (distance lo x) 1) ≡ fall c d x
+fall_at-number : (lo hi c : Dec) (d : Option Dec) (x : Dec) → lo.0 ≤ℤ c.0 → IfSome d (λ p. (c.0 ≤ℤ p.0) × (p.0 ≤ℤ hi.0))
+    → lo.0 ≤ℤ x.0 → fall_at (distance lo c) (option_map (distance lo) d) (over (distance lo x) 1) ≡ fall c d x
 fall_at-number lo hi c None x hc h hx = refl
 fall_at-number lo hi c (Some d) x hc h hx = fall_at-some lo c d x hc h.0 hx
 

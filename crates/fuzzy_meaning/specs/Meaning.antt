@@ -1,5 +1,6 @@
 -- What a block answers (IEC 61131-7:2000: AND is MIN, OR is MAX, NOT is 1 minus, WITH is a product, COGS).
-use Rattle.std.specs.Prelude.{ℕ, ◌+◌, ◌-◌, ◌*◌, if◌then◌else◌, ◌==◌, nat_lt, List, [], ◌∷◌, fold, filter, length, slice_get, Bool, Option, Some, None, ℤ, pos, ◌+ℤ◌, ◌*ℤ◌, unsigned_abs}
+use Rattle.std.specs.Prelude.{ℕ, ◌+◌, ◌-◌, ◌*◌, if◌then◌else◌, ◌==◌, nat_lt, List, [], ◌∷◌, fold, filter, length}
+use Rattle.std.specs.Prelude.{slice_get, Bool, Option, Some, None, ℤ, pos, ◌+ℤ◌, ◌*ℤ◌, unsigned_abs}
 use Rattle.std.specs.Option.{option_map_or}
 use Rattle.fz_num.specs.declared.dec.Dec.{Dec}
 use Rattle.fz_num.specs.Fractions.{Fraction, lesser, greater, one_minus, times, one, none}

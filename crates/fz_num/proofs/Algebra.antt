@@ -1,5 +1,6 @@
 -- The algebra of fractions: their order, gaps to bytes, and what least, greatest and 1 minus do to a nearness.
-use Rattle.std.proofs.Common.{◌≡◌, ◌⊎◌, inl, inr, ⊎_elim, ℕ, ◌+◌, ◌-◌, ◌*◌, ◌<◌, ◌≤◌, min, max, subst, arith, mul-le-mul_right, le_of_mul-le-mul_right, mul-pos}
+use Rattle.std.proofs.Common.{◌≡◌, ◌⊎◌, inl, inr, ⊎_elim, ℕ, ◌+◌, ◌-◌, ◌*◌, ◌<◌, ◌≤◌, min, max, subst, arith}
+use Rattle.std.proofs.Common.{mul-le-mul_right, le_of_mul-le-mul_right, mul-pos}
 use native.Mathlib.Nat.{mul-sub}
 use Rattle.std.proofs.lemmas.Bool.{cases_lt}
 use Rattle.std.proofs.lemmas.Bool.Decides.{nat_tests}
@@ -17,7 +18,8 @@ AtMost-trans f g h pg p q =
     record { cross = le_of_mul-le-mul_right c pg.pos }
 
 pub AtMost-or : (f g : Fraction) → AtMost f g ⊎ AtMost g f
-AtMost-or f g = ⊎_elim (λ l. inl (record { cross = omega arith })) (λ l. inr (record { cross = l })) (cases_lt (f.num * g.den) (g.num * f.den))
+AtMost-or f g = ⊎_elim (λ l. inl (record { cross = omega arith })) (λ l. inr (record { cross = l }))
+    (cases_lt (f.num * g.den) (g.num * f.den))
 
 -- to show something of the lesser of two, show it of each where it is at most the other
 pub by_lesser : (P : Fraction → Type 0) (f g : Fraction) → (AtMost f g → P f) → (AtMost g f → P g) → P (lesser f g)
@@ -56,11 +58,17 @@ AtMost-greater_right f g = by_greater (AtMost g) f g (λ l. l) (λ _. AtMost-ref
 pub AtMost-greater : (f g h : Fraction) → AtMost f h → AtMost g h → AtMost (greater f g) h
 AtMost-greater f g h a b = by_greater (λ k. AtMost k h) f g (λ _. a) (λ _. b)
 
-pub lesser-mono : (f g h k : Fraction) → IsProper f → IsProper g → AtMost f h → AtMost g k → AtMost (lesser f g) (lesser h k)
-lesser-mono f g h k pf pg a b = AtMost-lesser (lesser f g) h k (AtMost-trans (lesser f g) f h pf (AtMost-lesser_left f g) a) (AtMost-trans (lesser f g) g k pg (AtMost-lesser_right f g) b)
+pub lesser-mono : (f g h k : Fraction) → IsProper f → IsProper g → AtMost f h → AtMost g k
+    → AtMost (lesser f g) (lesser h k)
+lesser-mono f g h k pf pg a b =
+    AtMost-lesser (lesser f g) h k (AtMost-trans (lesser f g) f h pf (AtMost-lesser_left f g) a)
+    (AtMost-trans (lesser f g) g k pg (AtMost-lesser_right f g) b)
 
-pub greater-mono : (f g h k : Fraction) → IsProper h → IsProper k → AtMost f h → AtMost g k → AtMost (greater f g) (greater h k)
-greater-mono f g h k ph pk a b = AtMost-greater f g (greater h k) (AtMost-trans f h (greater h k) ph a (AtMost-greater_left h k)) (AtMost-trans g k (greater h k) pk b (AtMost-greater_right h k))
+pub greater-mono : (f g h k : Fraction) → IsProper h → IsProper k → AtMost f h → AtMost g k
+    → AtMost (greater f g) (greater h k)
+greater-mono f g h k ph pk a b =
+    AtMost-greater f g (greater h k) (AtMost-trans f h (greater h k) ph a (AtMost-greater_left h k))
+    (AtMost-trans g k (greater h k) pk b (AtMost-greater_right h k))
 
 -- 1 - f falls as f rises
 pub AtMost-one_minus : (f g : Fraction) → AtMost f g → AtMost (one_minus g) (one_minus f)
@@ -91,7 +99,8 @@ pub gap-least : (t g : ℕ) (f : Fraction) (e : ℕ) → 0 < f.den → IsNear t 
 gap-least t g f e h near =
     let x = f.num * 255 in
     let y = g * f.den in
-    up_div-le ((x - y + (y - x)) * t) (255 * f.den) e (mul-pos (omega arith) h) (omega (arith, mul-sub t x y, mul-sub t y x))
+    up_div-le ((x - y + (y - x)) * t) (255 * f.den) e (mul-pos (omega arith) h)
+    (omega (arith, mul-sub t x y, mul-sub t y x))
 
 -- a gap is at most 1
 pub gap-small : (t g : ℕ) (f : Fraction) → 0 < f.den → f.num ≤ f.den → g ≤ 255 → gap t g f ≤ t
@@ -143,29 +152,46 @@ above t g f e n = record { down = n.down }
 both : (t g : ℕ) (f : Fraction) (e : ℕ) → Under t g f e → Over t g f e → IsNear t g f e
 both t g f e a b = record { up = a.up; down = b.down }
 
-pub IsNear-lesser : (t g1 g2 e1 e2 : ℕ) (f1 f2 : Fraction) → IsProper f1 → IsProper f2 → IsNear t g1 f1 e1 → IsNear t g2 f2 e2 → IsNear t (min g1 g2) (lesser f1 f2) (max e1 e2)
-IsNear-lesser t g1 g2 e1 e2 f1 f2 p1 p2 n1 n2 = by_lesser (λ f. IsNear t (min g1 g2) f (max e1 e2)) f1 f2 (λ l. one_of g1 g2 e1 e2 f1 f2 p2 n1 n2 l) (λ l. swapped (one_of g2 g1 e2 e1 f2 f1 p1 n2 n1 l))
+pub IsNear-lesser : (t g1 g2 e1 e2 : ℕ) (f1 f2 : Fraction) → IsProper f1 → IsProper f2 → IsNear t g1 f1 e1
+    → IsNear t g2 f2 e2 → IsNear t (min g1 g2) (lesser f1 f2) (max e1 e2)
+IsNear-lesser t g1 g2 e1 e2 f1 f2 p1 p2 n1 n2 =
+    by_lesser (λ f. IsNear t (min g1 g2) f (max e1 e2)) f1 f2 (λ l. one_of g1 g2 e1 e2 f1 f2 p2 n1 n2 l)
+    (λ l. swapped (one_of g2 g1 e2 e1 f2 f1 p1 n2 n1 l))
   where
-    one_of : (g1 g2 e1 e2 : ℕ) (f1 f2 : Fraction) → IsProper f2 → IsNear t g1 f1 e1 → IsNear t g2 f2 e2 → AtMost f1 f2 → IsNear t (min g1 g2) f1 (max e1 e2)
+    one_of : (g1 g2 e1 e2 : ℕ) (f1 f2 : Fraction) → IsProper f2 → IsNear t g1 f1 e1 → IsNear t g2 f2 e2 → AtMost f1 f2
+        → IsNear t (min g1 g2) f1 (max e1 e2)
     one_of g1 g2 e1 e2 f1 f2 p2 n1 n2 l = both t (min g1 g2) f1 (max e1 e2)
-        (⊎_elim (λ (h : g2 < g1). under_more t g2 (min g1 g2) e2 (max e1 e2) f1 (omega arith) (omega arith) (under_of t g2 e2 f1 f2 p2 l (under t g2 f2 e2 n2))) (λ (h : g1 ≤ g2). under_more t g1 (min g1 g2) e1 (max e1 e2) f1 (omega arith) (omega arith) (under t g1 f1 e1 n1)) (cases_lt g2 g1))
+        (⊎_elim (λ (h : g2 < g1). under_more t g2 (min g1 g2) e2 (max e1 e2) f1 (omega arith) (omega arith)
+        (under_of t g2 e2 f1 f2 p2 l (under t g2 f2 e2 n2)))
+        (λ (h : g1 ≤ g2). under_more t g1 (min g1 g2) e1 (max e1 e2) f1 (omega arith) (omega arith)
+        (under t g1 f1 e1 n1)) (cases_lt g2 g1))
         (over_more t g1 (min g1 g2) e1 (max e1 e2) f1 (omega arith) (omega arith) (above t g1 f1 e1 n1))
 
     swapped : IsNear t (min g2 g1) f2 (max e2 e1) → IsNear t (min g1 g2) f2 (max e1 e2)
-    swapped n = let a : min g2 g1 ≡ min g1 g2 = omega arith in let b : max e2 e1 ≡ max e1 e2 = omega arith in subst (λ g. IsNear t g f2 (max e1 e2)) a (subst (λ e. IsNear t (min g2 g1) f2 e) b n)
+    swapped n = let a : min g2 g1 ≡ min g1 g2 = omega arith in let b : max e2 e1 ≡ max e1 e2 = omega arith in
+        subst (λ g. IsNear t g f2 (max e1 e2)) a (subst (λ e. IsNear t (min g2 g1) f2 e) b n)
 
-pub IsNear-greater : (t g1 g2 e1 e2 : ℕ) (f1 f2 : Fraction) → IsProper f1 → IsProper f2 → IsNear t g1 f1 e1 → IsNear t g2 f2 e2 → IsNear t (max g1 g2) (greater f1 f2) (max e1 e2)
-IsNear-greater t g1 g2 e1 e2 f1 f2 p1 p2 n1 n2 = by_greater (λ f. IsNear t (max g1 g2) f (max e1 e2)) f1 f2 (λ l. one_of g1 g2 e1 e2 f1 f2 p2 n1 n2 l) (λ l. swapped (one_of g2 g1 e2 e1 f2 f1 p1 n2 n1 l))
+pub IsNear-greater : (t g1 g2 e1 e2 : ℕ) (f1 f2 : Fraction) → IsProper f1 → IsProper f2 → IsNear t g1 f1 e1
+    → IsNear t g2 f2 e2 → IsNear t (max g1 g2) (greater f1 f2) (max e1 e2)
+IsNear-greater t g1 g2 e1 e2 f1 f2 p1 p2 n1 n2 =
+    by_greater (λ f. IsNear t (max g1 g2) f (max e1 e2)) f1 f2 (λ l. one_of g1 g2 e1 e2 f1 f2 p2 n1 n2 l)
+    (λ l. swapped (one_of g2 g1 e2 e1 f2 f1 p1 n2 n1 l))
   where
-    one_of : (g1 g2 e1 e2 : ℕ) (f1 f2 : Fraction) → IsProper f2 → IsNear t g1 f1 e1 → IsNear t g2 f2 e2 → AtMost f2 f1 → IsNear t (max g1 g2) f1 (max e1 e2)
+    one_of : (g1 g2 e1 e2 : ℕ) (f1 f2 : Fraction) → IsProper f2 → IsNear t g1 f1 e1 → IsNear t g2 f2 e2 → AtMost f2 f1
+        → IsNear t (max g1 g2) f1 (max e1 e2)
     one_of g1 g2 e1 e2 f1 f2 p2 n1 n2 l = both t (max g1 g2) f1 (max e1 e2)
         (under_more t g1 (max g1 g2) e1 (max e1 e2) f1 (omega arith) (omega arith) (under t g1 f1 e1 n1))
-        (⊎_elim (λ (h : g1 < g2). over_more t g2 (max g1 g2) e2 (max e1 e2) f1 (omega arith) (omega arith) (over_of t g2 e2 f1 f2 p2 l (above t g2 f2 e2 n2))) (λ (h : g2 ≤ g1). over_more t g1 (max g1 g2) e1 (max e1 e2) f1 (omega arith) (omega arith) (above t g1 f1 e1 n1)) (cases_lt g1 g2))
+        (⊎_elim (λ (h : g1 < g2). over_more t g2 (max g1 g2) e2 (max e1 e2) f1 (omega arith) (omega arith)
+        (over_of t g2 e2 f1 f2 p2 l (above t g2 f2 e2 n2)))
+        (λ (h : g2 ≤ g1). over_more t g1 (max g1 g2) e1 (max e1 e2) f1 (omega arith) (omega arith)
+        (above t g1 f1 e1 n1)) (cases_lt g1 g2))
 
     swapped : IsNear t (max g2 g1) f2 (max e2 e1) → IsNear t (max g1 g2) f2 (max e1 e2)
-    swapped n = let a : max g2 g1 ≡ max g1 g2 = omega arith in let b : max e2 e1 ≡ max e1 e2 = omega arith in subst (λ g. IsNear t g f2 (max e1 e2)) a (subst (λ e. IsNear t (max g2 g1) f2 e) b n)
+    swapped n = let a : max g2 g1 ≡ max g1 g2 = omega arith in let b : max e2 e1 ≡ max e1 e2 = omega arith in
+        subst (λ g. IsNear t g f2 (max e1 e2)) a (subst (λ e. IsNear t (max g2 g1) f2 e) b n)
 
-pub IsNear-one_minus : (t g e : ℕ) (f : Fraction) → g ≤ 255 → AtMost f one → IsNear t g f e → IsNear t (255 - g) (one_minus f) e
+pub IsNear-one_minus : (t g e : ℕ) (f : Fraction) → g ≤ 255 → AtMost f one → IsNear t g f e
+    → IsNear t (255 - g) (one_minus f) e
 IsNear-one_minus t g e f hg hf n = record {
   up = let h = n.down in omega (arith, mul-sub (255 * t) f.den f.num, mul-sub (f.den * t) 255 g, lift);
   down = let h = n.up in omega (arith, mul-sub (255 * t) f.den f.num, mul-sub (f.den * t) 255 g, lift);

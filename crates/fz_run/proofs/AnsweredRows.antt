@@ -1,5 +1,6 @@
 -- Where whole instructions answer all samples, so do the rows under every good plan.
-use Rattle.std.proofs.Common.{◌≡◌, ℕ, zero, suc, ◌+◌, ◌*◌, ◌^◌, ◌<◌, ◌≤◌, Bool, true, false, List, [], ◌∷◌, length, map, get_or, refl, ap, ap₂, sym, ◌∙◌}
+use Rattle.std.proofs.Common.{◌≡◌, ℕ, zero, suc, ◌+◌, ◌*◌, ◌^◌, ◌<◌, ◌≤◌, Bool, true, false, List, [], ◌∷◌, length, map}
+use Rattle.std.proofs.Common.{get_or, refl, ap, ap₂, sym, ◌∙◌}
 use Rattle.std.proofs.Common.{subst, arith}
 use Rattle.std.specs.Prelude.{All}
 use Rattle.std.proofs.lemmas.List.Elements.{All-cons}
@@ -22,7 +23,8 @@ use Rattle.codegen.specs.Interruptible.{is_idle, IsInterruptible}
 use Rattle.codegen.specs.Answers as answers
 use Rattle.cpu12_isa.specs.declared.instr.Regs.{Regs}
 use Rattle.cpu12_isa.specs.Agreement.{Agree}
-use Rattle.codegen.specs.Answers.{LeavesLayout, IsArrivedBeside, FirmwareAnswersBeside, ArrivesAlike, FirmwareArrivesAlike, IsArrived, AreAnswered, IsAnsweredBeside, AreAnsweredBeside}
+use Rattle.codegen.specs.Answers.{LeavesLayout, IsArrivedBeside, FirmwareAnswersBeside, ArrivesAlike}
+use Rattle.codegen.specs.Answers.{FirmwareArrivesAlike, IsArrived, AreAnswered, IsAnsweredBeside, AreAnsweredBeside}
 use Rattle.eval_code.specs.Firing.{AreInputBytes}
 use Rattle.codegen.specs.Firmwares.{IsFirmwareOf}
 use Rattle.codegen.specs.Uninterrupted.{Answer, values_from, values_in, answers_by, AreUninterrupted}
@@ -39,7 +41,8 @@ use Rattle.run_forms.specs.Arrival.{ArrivesPlainly}
 use Rattle.instruction_steps.specs.Facts.{FactsBeside, FactsAlone, WaitsAlone}
 use Rattle.instruction_steps.specs.Instructions.{AreSteps, IsServing}
 use Rattle.fz_run.specs.Following.{row_of_sample, rows_of_samples, IsLow, FollowsAlone, AllWait}
-use Rattle.fz_run.specs.Answering.{answer_of_row, AnswersItsBlock, AnswersUnder, AnswersUnderPlans, RunsBeside, FirmwareRunsBeside, FirstAlike, FirstStatesAlike}
+use Rattle.fz_run.specs.Answering.{answer_of_row, AnswersItsBlock, AnswersUnder, AnswersUnderPlans, RunsBeside}
+use Rattle.fz_run.specs.Answering.{FirmwareRunsBeside, FirstAlike, FirstStatesAlike}
 use Rattle.instruction_steps.proofs.Algebra.{at_stack}
 use Rattle.fz_run.proofs.UsedLaws.{WayLaws, Laws}
 
@@ -53,15 +56,21 @@ AreShort [] = Unit {0}
 AreShort (bytes ∷ samples) = (length bytes ≤ 8) × AreShort samples
 
 -- the numbers of steps of the samples
-numbers : (open_to : ℕ → Bool) (b : Block) (w : Width) (most : ℕ) (image : List ℕ) (flags : ℕ) (before : ℕ → ℕ) (samples : List (List ℕ)) (s : State)
+numbers : (open_to : ℕ → Bool) (b : Block) (w : Width) (most : ℕ) (image : List ℕ) (flags : ℕ) (before : ℕ → ℕ)
+    (samples : List (List ℕ)) (s : State)
     → AreAnsweredBeside open_to main_layout b w most image flags before samples s → List ℕ
 numbers open_to b w most image flags before [] s h = []
-numbers open_to b w most image flags before (bytes ∷ samples) s h = all_steps h.1.0.ds ∷ numbers open_to b w most image flags (λ o. answer w b o bytes (before o)) samples h.0 h.1.1
+numbers open_to b w most image flags before (bytes ∷ samples) s h =
+    all_steps h.1.0.ds ∷ numbers open_to b w most image flags (λ o. answer w b o bytes (before o)) samples h.0 h.1.1
 
-within : (open_to : ℕ → Bool) (b : Block) (w : Width) (most : ℕ) (image : List ℕ) (flags : ℕ) (before : ℕ → ℕ) (samples : List (List ℕ)) (s : State) (h : AreAnsweredBeside open_to main_layout b w most image flags before samples s) → AllWithin (steps_by b most) (numbers open_to b w most image flags before samples s h)
+within : (open_to : ℕ → Bool) (b : Block) (w : Width) (most : ℕ) (image : List ℕ) (flags : ℕ) (before : ℕ → ℕ)
+    (samples : List (List ℕ)) (s : State)
+    (h : AreAnsweredBeside open_to main_layout b w most image flags before samples s)
+    → AllWithin (steps_by b most) (numbers open_to b w most image flags before samples s h)
 unfolding numbers
 within open_to b w most image flags before [] s h = tt
-within open_to b w most image flags before (bytes ∷ samples) s h = (h.1.0.steps, within open_to b w most image flags (λ o. answer w b o bytes (before o)) samples h.0 h.1.1)
+within open_to b w most image flags before (bytes ∷ samples) s h =
+    (h.1.0.steps, within open_to b w most image flags (λ o. answer w b o bytes (before o)) samples h.0 h.1.1)
 
 went : WayLaws → (open_to : ℕ → Bool) (b : Block) (w : Width) (most : ℕ) (image : List ℕ) (flags : ℕ)
     (before : ℕ → ℕ) (bytes : List ℕ) (s t : State) → flags < 2 ^ 8 → length bytes ≤ 8
@@ -89,9 +98,13 @@ sampled laws open_to f n b w most flags before bytes s t hf l a =
       ended = ap (is_idle main_layout) g.goes ∙ a.idle;
     }
 
-all_sampled : WayLaws → (open_to : ℕ → Bool) (f : Firmware) (n : ℕ) (b : Block) (w : Width) (most : ℕ) (flags : ℕ) (before : ℕ → ℕ) (samples : List (List ℕ)) (s : State) → flags < 2 ^ 8
-    → AreShort samples → (h : AreAnsweredBeside open_to main_layout b w most (image_memory f.image.bytes) flags before samples s)
-    → AllComplete (FactsBeside open_to flags (alone f n)) (with_writes flags (alone f n)) (numbers open_to b w most (image_memory f.image.bytes) flags before samples s h) samples s
+all_sampled : WayLaws
+    → (open_to : ℕ → Bool) (f : Firmware) (n : ℕ) (b : Block) (w : Width) (most : ℕ) (flags : ℕ) (before : ℕ → ℕ)
+    (samples : List (List ℕ)) (s : State) → flags < 2 ^ 8
+    → AreShort samples →
+    (h : AreAnsweredBeside open_to main_layout b w most (image_memory f.image.bytes) flags before samples s)
+    → AllComplete (FactsBeside open_to flags (alone f n)) (with_writes flags (alone f n))
+    (numbers open_to b w most (image_memory f.image.bytes) flags before samples s h) samples s
 unfolding numbers
 all_sampled laws open_to f n b w most flags before [] s hf l h = tt
 all_sampled laws open_to f n b w most flags before (bytes ∷ samples) s hf l h =
@@ -99,16 +112,21 @@ all_sampled laws open_to f n b w most flags before (bytes ∷ samples) s hf l h 
     let g = went laws open_to b w most image flags before bytes s h.0 hf l.0 h.1.0 in
     let later : ℕ → ℕ = λ o. answer w b o bytes (before o) in (
       sampled laws open_to f n b w most flags before bytes s h.0 hf l.0 h.1.0,
-      subst (λ (u : State). AllComplete (FactsBeside open_to flags (alone f n)) (with_writes flags (alone f n)) (numbers open_to b w most image flags later samples h.0 h.1.1) samples u) (sym g.goes) (all_sampled laws open_to f n b w most flags later samples h.0 hf l.1 h.1.1),
+      subst (λ (u : State). AllComplete (FactsBeside open_to flags (alone f n)) (with_writes flags (alone f n))
+          (numbers open_to b w most image flags later samples h.0 h.1.1) samples u) (sym g.goes)
+          (all_sampled laws open_to f n b w most flags later samples h.0 hf l.1 h.1.1),
     )
 
 -- where it waits
 waits_alone : (f : Firmware) (s : State) → IsInterruptible is_free (image_memory f.image.bytes) s → WaitsAlone f s
 waits_alone f s c = record { image = c.same; stack = at_stack s.regs.sp c.stack; unmasked = c.mask; sums = c.temps }
 
-all_wait : WayLaws → (f : Firmware) (n : ℕ) (b : Block) (w : Width) (most : ℕ) (flags : ℕ) (before : ℕ → ℕ) (samples : List (List ℕ)) (s : State) → flags < 2 ^ 8
-    → AreShort samples → IsInterruptible is_free (image_memory f.image.bytes) s → (h : AreAnswered main_layout b w most (image_memory f.image.bytes) flags before samples s)
-    → AllWait flags (alone f n) (numbers is_free b w most (image_memory f.image.bytes) flags before samples s h) samples s
+all_wait : WayLaws → (f : Firmware) (n : ℕ) (b : Block) (w : Width) (most : ℕ) (flags : ℕ) (before : ℕ → ℕ)
+    (samples : List (List ℕ)) (s : State) → flags < 2 ^ 8
+    → AreShort samples → IsInterruptible is_free (image_memory f.image.bytes) s
+    → (h : AreAnswered main_layout b w most (image_memory f.image.bytes) flags before samples s)
+    → AllWait flags (alone f n)
+    (numbers is_free b w most (image_memory f.image.bytes) flags before samples s h) samples s
 unfolding numbers
 all_wait laws f n b w most flags before [] s hf l c h = waits_alone (alone f n) s c
 all_wait laws f n b w most flags before (bytes ∷ samples) s hf l c h =
@@ -117,17 +135,20 @@ all_wait laws f n b w most flags before (bytes ∷ samples) s hf l c h =
     let later : ℕ → ℕ = λ o. answer w b o bytes (before o) in
     let one = h.1.0 in (
       waits_alone (alone f n) s c,
-      subst (λ (u : State). AllWait flags (alone f n) (numbers is_free b w most image flags later samples h.0 h.1.1) samples u) (sym g.goes)
+      subst (λ (u : State). AllWait flags (alone f n) (numbers is_free b w most image flags later samples h.0 h.1.1)
+          samples u) (sym g.goes)
           (all_wait laws f n b w most flags later samples h.0 hf l.1 one.interruptible h.1.1),
     )
 
 -- the answers where none stands past the end of memory
-same_answers : (wide : Bool) (m : List ℕ) (at n : ℕ) → at + answer_size wide * n ≤ 65535 → answers_at wide n at m ≡ values_from (width_of wide) m at n
+same_answers : (wide : Bool) (m : List ℕ) (at n : ℕ) → at + answer_size wide * n ≤ 65535
+    → answers_at wide n at m ≡ values_from (width_of wide) m at n
 same_answers wide m at zero l = refl
 same_answers false m at (suc n) l =
     let e : plus at 1 ≡ at + 1 = omega arith in
     let more : 1 * suc n ≡ 1 + 1 * n = omega arith in
-    ap (λ (xs : List ℕ). get_or m at 0 ∷ xs) (ap (λ (k : ℕ). answers_at false n k m) e ∙ same_answers false m (at + 1) n (omega arith))
+    ap (λ (xs : List ℕ). get_or m at 0 ∷ xs)
+    (ap (λ (k : ℕ). answers_at false n k m) e ∙ same_answers false m (at + 1) n (omega arith))
 same_answers true m at (suc n) l =
     let e : plus at 1 ≡ at + 1 = omega arith in
     let f : plus at 2 ≡ at + 2 = omega arith in
@@ -145,13 +166,17 @@ same_values f n s few = let l = few_bytes f.wide n few in same_answers f.wide s.
 -- the rows as answers
 answer_is : (xs ys : List ℕ) (i j : ℕ) → xs ≡ ys → i ≡ j
     → ◌≡◌ {A = Answer} (record { values = xs; instructions = i }) (record { values = ys; instructions = j })
-answer_is xs ys i j v n = ap₂ (λ (x : List ℕ) (k : ℕ). let r : Answer = record { values = x; instructions = k } in r) v n
+answer_is xs ys i j v n =
+    ap₂ (λ (x : List ℕ) (k : ℕ). let r : Answer = record { values = x; instructions = k } in r) v n
 
 all_answers : WayLaws
-    → (f : Firmware) (n : ℕ) (b : Block) (image : List ℕ) (flags : ℕ) (before : ℕ → ℕ) (plan : List Request) (k : ℕ) (samples : List (List ℕ)) (s : State)
+    → (f : Firmware) (n : ℕ) (b : Block) (image : List ℕ) (flags : ℕ) (before : ℕ → ℕ) (plan : List Request) (k : ℕ)
+    (samples : List (List ℕ)) (s : State)
     → flags < 2 ^ 8 → AreShort samples → n ≤ 4
     → (h : AreAnswered main_layout b (width_of f.wide) f.instr_bound image flags before samples s)
-    → map answer_of_row (rows_of_samples flags (alone f n) plan k (numbers is_free b (width_of f.wide) f.instr_bound image flags before samples s h) samples s) ≡ answers_by b (alone f n) image flags before samples s h
+    → map answer_of_row (rows_of_samples flags (alone f n) plan k
+    (numbers is_free b (width_of f.wide) f.instr_bound image flags before samples s h) samples s) ≡ answers_by b
+    (alone f n) image flags before samples s h
 unfolding numbers
 all_answers laws f n b image flags before plan k [] s hf l few h = refl
 all_answers laws f n b image flags before plan k (bytes ∷ samples) s hf l few h =
@@ -162,29 +187,39 @@ all_answers laws f n b image flags before plan k (bytes ∷ samples) s hf l few 
     let later : ℕ → ℕ = λ o. answer w b o bytes (before o) in
     let end = uninterrupted flags (all_steps h.1.0.ds) start in
     let here =
-    answer_is (answers_in (alone f n) end) (values_in (alone f n) h.0) (counted flags (all_steps h.1.0.ds) start) (length h.1.0.ds) (ap (answers_in (alone f n)) g.goes ∙ same_values f n h.0 few) g.counts in
+    answer_is (answers_in (alone f n) end) (values_in (alone f n) h.0) (counted flags (all_steps h.1.0.ds) start)
+    (length h.1.0.ds) (ap (answers_in (alone f n)) g.goes ∙ same_values f n h.0 few) g.counts in
     let rest = all_answers laws f n b image flags later plan (suc k) samples h.0 hf l.1 few h.1.1 in
     let moved =
-    subst (λ (u : State). map answer_of_row (rows_of_samples flags (alone f n) plan (suc k) (numbers is_free b w most image flags later samples h.0 h.1.1) samples u) ≡ answers_by b (alone f n) image flags later samples h.0 h.1.1) (sym g.goes) rest in
+    subst (λ (u : State). map answer_of_row
+    (rows_of_samples flags (alone f n) plan (suc k) (numbers is_free b w most image flags later samples h.0 h.1.1)
+    samples u) ≡ answers_by b (alone f n) image flags later samples h.0 h.1.1) (sym g.goes) rest in
     ap₂ (λ (x : Answer) (xs : List Answer). x ∷ xs) here moved
 
-all_samples : (f : Firmware) (b : Block) (w : Width) (most : ℕ) (image : List ℕ) (flags : ℕ) (before : ℕ → ℕ) (plan : List Request) (k : ℕ) (samples : List (List ℕ)) (s u : State) → (h : AreAnswered main_layout b w most image flags before samples s)
-    → map (λ (r : RowSeen (List ℕ)). r.sample) (rows_of_samples flags f plan k (numbers is_free b w most image flags before samples s h) samples u) ≡ samples
+all_samples : (f : Firmware) (b : Block) (w : Width) (most : ℕ) (image : List ℕ) (flags : ℕ) (before : ℕ → ℕ)
+    (plan : List Request) (k : ℕ) (samples : List (List ℕ)) (s u : State)
+    → (h : AreAnswered main_layout b w most image flags before samples s)
+    → map (λ (r : RowSeen (List ℕ)). r.sample)
+    (rows_of_samples flags f plan k (numbers is_free b w most image flags before samples s h) samples u) ≡ samples
 unfolding numbers
 all_samples f b w most image flags before plan k [] s u h = refl
 all_samples f b w most image flags before plan k (bytes ∷ samples) s u h =
     let start = given f.layout bytes u in
-    ap (λ (xs : List (List ℕ)). bytes ∷ xs) (all_samples f b w most image flags (λ o. answer w b o bytes (before o)) plan (suc k) samples h.0 (uninterrupted flags (all_steps h.1.0.ds) start) h.1.1)
+    ap (λ (xs : List (List ℕ)). bytes ∷ xs)
+    (all_samples f b w most image flags (λ o. answer w b o bytes (before o)) plan (suc k) samples h.0
+    (uninterrupted flags (all_steps h.1.0.ds) start) h.1.1)
 
 -- no row has more steps than the bound
-few_steps : (flags : ℕ) (f : Firmware) (plan : List Request) (most k : ℕ) (ns : List ℕ) (samples : List (List ℕ)) (s : State) → AllWithin most ns
+few_steps : (flags : ℕ) (f : Firmware) (plan : List Request) (most k : ℕ) (ns : List ℕ) (samples : List (List ℕ))
+    (s : State) → AllWithin most ns
     → All (λ (r : RowSeen (List ℕ)). r.steps ≤ most) (rows_of_samples flags f plan k ns samples s)
 few_steps flags f plan most k [] samples s h = λ j r lt. absurd (omega arith)
 few_steps flags f plan most k (n ∷ ns) [] s h = λ j r lt. absurd (omega arith)
 few_steps flags f plan most k (n ∷ ns) (bytes ∷ rest) s h =
     let first = given f.layout bytes s in
     let after = uninterrupted flags n first in
-    All-cons (λ (r : RowSeen (List ℕ)). r.steps ≤ most) (row_of_sample flags f (requests_of k plan) n bytes first) (rows_of_samples flags f plan (suc k) ns rest after) h.0
+    All-cons (λ (r : RowSeen (List ℕ)). r.steps ≤ most) (row_of_sample flags f (requests_of k plan) n bytes first)
+    (rows_of_samples flags f plan (suc k) ns rest after) h.0
     (few_steps flags f plan most (suc k) ns rest after h.1)
 
 -- a firmware waits first where it arrives first
@@ -192,26 +227,35 @@ enough_steps : (w : Width) (b : Block) → length b.outputs ≤ 4 → 3 ≤ step
 unfolding steps_by instruction_bound
 enough_steps w b few = omega arith
 
-first_is : ArrivesPlainly → (open_to : ℕ → Bool) (b : Block) (f : Firmware) (n flags : ℕ) (s : State) → length b.outputs ≤ 4 → IsFirmwareOf b (alone f n)
+first_is : ArrivesPlainly → (open_to : ℕ → Bool) (b : Block) (f : Firmware) (n flags : ℕ) (s : State)
+    → length b.outputs ≤ 4 → IsFirmwareOf b (alone f n)
     → IsArrivedBeside open_to main_layout (image_memory f.image.bytes) flags s → first_state (alone f n) flags ≡ s
 first_is arrives_plainly open_to b f n flags s few h a =
     let start = reset_with (image_memory f.image.bytes) in
     ap (λ (most : ℕ). arrival flags 0xC008 most start) h.steps
-    ∙ arrives_plainly flags 0xC008 3 (step_bound (width_of f.wide) b) start s refl a.way a.wait (enough_steps (width_of f.wide) b few)
+    ∙ arrives_plainly flags 0xC008 3 (step_bound (width_of f.wide) b) start s refl a.way a.wait
+    (enough_steps (width_of f.wide) b few)
 
-all_short : (b : Block) (samples : List (List ℕ)) → length b.inputs ≤ 8 → All (AreInputBytes b) samples → AreShort samples
+all_short : (b : Block) (samples : List (List ℕ)) → length b.inputs ≤ 8 → All (AreInputBytes b) samples
+    → AreShort samples
 all_short b [] few all = tt
-all_short b (bytes ∷ samples) few all =
-    (let i = all 0 bytes (omega arith) in omega (arith, i.count), all_short b samples few (λ k d lt. all (suc k) d (omega arith)))
+all_short b (bytes ∷ samples) few all = (
+  let i = all 0 bytes (omega arith) in
+      omega (arith, i.count),
+  all_short b samples few (λ k d lt. all (suc k) d (omega arith)),
+)
 
 -- its bytes from outside stand low
 is_low : (f : Firmware) (n : ℕ) → n ≤ 4 → IsLow (alone f n)
 is_low f n few = let bytes = few_bytes f.wide n few in record { ready = omega arith; outputs = omega arith }
 
 -- its run beside handlers to which these bytes are open
-beside : WayLaws → (open_to : ℕ → Bool) (b : Block) (f : Firmware) (n flags : ℕ) (samples : List (List ℕ)) (s : State) → flags < 2 ^ 8 → length b.outputs ≤ 4 → n ≤ 4
-    → IsFirmwareOf b (alone f n) → AreShort samples → IsArrivedBeside open_to main_layout (image_memory f.image.bytes) flags s
-    → AreAnsweredBeside open_to main_layout b (width_of f.wide) f.instr_bound (image_memory f.image.bytes) flags (λ o. 0) samples s
+beside : WayLaws → (open_to : ℕ → Bool) (b : Block) (f : Firmware) (n flags : ℕ) (samples : List (List ℕ)) (s : State)
+    → flags < 2 ^ 8 → length b.outputs ≤ 4 → n ≤ 4
+    → IsFirmwareOf b (alone f n) → AreShort samples
+    → IsArrivedBeside open_to main_layout (image_memory f.image.bytes) flags s
+    → AreAnsweredBeside open_to main_layout b (width_of f.wide) f.instr_bound (image_memory f.image.bytes) flags
+    (λ o. 0) samples s
     → RunsBeside open_to (alone f n) flags samples
 beside laws open_to b f n flags samples s hf few count h short a answered =
     let g = alone f n in
@@ -224,13 +268,16 @@ beside laws open_to b f n flags samples s hf few count h short a answered =
     record {
       low = is_low f n count;
       ns = ns;
-      within = subst (λ (m : ℕ). AllWithin m ns) enough (within open_to b w most image flags (λ o. 0) samples s answered);
-      complete = subst (λ (u : State). AllComplete (FactsBeside open_to flags g) (with_writes flags g) ns samples u) (sym first)
+      within = subst (λ (m : ℕ). AllWithin m ns) enough
+          (within open_to b w most image flags (λ o. 0) samples s answered);
+      complete = subst (λ (u : State). AllComplete (FactsBeside open_to flags g) (with_writes flags g) ns samples u)
+          (sym first)
           (all_sampled laws open_to f n b w most flags (λ o. 0) samples s hf short answered);
     }
 
 -- the rows of a firmware that waits first in s
-under : Laws → (b : Block) (f : Firmware) (n flags : ℕ) (samples : List (List ℕ)) (plan : List Request) (s : State) → flags < 2 ^ 8 → length b.outputs ≤ 4
+under : Laws → (b : Block) (f : Firmware) (n flags : ℕ) (samples : List (List ℕ)) (plan : List Request) (s : State)
+    → flags < 2 ^ 8 → length b.outputs ≤ 4
     → n ≤ 4 → IsFirmwareOf b (alone f n) → AreShort samples → IsGood plan
     → IsArrived main_layout (image_memory f.image.bytes) flags s
     → AreAnswered main_layout b (width_of f.wide) f.instr_bound (image_memory f.image.bytes) flags (λ o. 0) samples s
@@ -247,24 +294,33 @@ under laws b f n flags samples plan s hf few count h short good a answered =
     let same_bound : steps_by b most ≡ step_bound w b = ap (steps_by b) h.instructions in
     let enough : f.step_bound ≡ steps_by b most = h.steps ∙ sym same_bound in
     let bounded : AllWithin f.step_bound ns = subst (λ (m : ℕ). AllWithin m ns) (sym enough) steps in
-    let complete : AllComplete (FactsAlone flags g) (with_writes flags g) ns samples s = all_sampled laws.ways is_free f n b w most flags (λ o. 0) samples s hf short answered in
-    let runs : FollowsAlone flags g f.step_bound plan ns samples s = laws.runs_follow flags g f.step_bound plan ns samples s low good bounded complete in
+    let complete : AllComplete (FactsAlone flags g) (with_writes flags g) ns samples s =
+    all_sampled laws.ways is_free f n b w most flags (λ o. 0) samples s hf short answered in
+    let runs : FollowsAlone flags g f.step_bound plan ns samples s =
+    laws.runs_follow flags g f.step_bound plan ns samples s low good bounded complete in
     let rows = (firmware_rows g samples plan flags).rows in
     let expected = rows_of_samples flags g plan 1 ns samples s in
     let rows_are : rows ≡ expected =
-    ap (λ (u : State). (rows_from (with_writes flags g) f.step_bound (λ k. requests_of k plan) 1 samples u).rows) first ∙ runs.rows_are in
-    let same = ap (map answer_of_row) rows_are ∙ all_answers laws.ways f n b image flags (λ o. 0) plan 1 samples s hf short count answered in
+    ap (λ (u : State). (rows_from (with_writes flags g) f.step_bound (λ k. requests_of k plan) 1 samples u).rows) first
+    ∙ runs.rows_are in
+    let same = ap (map answer_of_row) rows_are
+    ∙ all_answers laws.ways f n b image flags (λ o. 0) plan 1 samples s hf short count answered in
     let both = laws.answered_are_uninterrupted b g flags samples s h.outputs a answered in
     record {
       answers = record {
-        samples_are = ap (map (λ (r : RowSeen (List ℕ)). r.sample)) rows_are ∙ all_samples g b w most image flags (λ o. 0) plan 1 samples s s answered;
+        samples_are = ap (map (λ (r : RowSeen (List ℕ)). r.sample)) rows_are
+            ∙ all_samples g b w most image flags (λ o. 0) plan 1 samples s s answered;
         uninterrupted = subst (λ (xs : List Answer). AreUninterrupted g flags samples xs) (sym same) both.0;
         answers = subst (λ (xs : List Answer). AreAnswersOf w b most (λ o. 0) samples xs) (sym same) both.1;
-        steps = subst (λ (rs : List (RowSeen (List ℕ))). All (λ (r : RowSeen (List ℕ)). r.steps ≤ step_bound w b) rs) (sym rows_are) (subst (λ (m : ℕ). All (λ (r : RowSeen (List ℕ)). r.steps ≤ m) expected) same_bound (few_steps flags g plan (steps_by b most) 1 ns samples s steps));
+        steps = subst (λ (rs : List (RowSeen (List ℕ))). All (λ (r : RowSeen (List ℕ)). r.steps ≤ step_bound w b) rs)
+            (sym rows_are) (subst (λ (m : ℕ). All (λ (r : RowSeen (List ℕ)). r.steps ≤ m) expected) same_bound
+            (few_steps flags g plan (steps_by b most) 1 ns samples s steps));
       };
       ns = ns;
-      complete = subst (λ (u : State). AllComplete (FactsAlone flags g) (with_writes flags g) ns samples u) (sym first) complete;
-      waits = subst (λ (u : State). AllWait flags g ns samples u) (sym first) (all_wait laws.ways f n b w most flags (λ o. 0) samples s hf short a.interruptible answered);
+      complete = subst (λ (u : State). AllComplete (FactsAlone flags g) (with_writes flags g) ns samples u)
+          (sym first) complete;
+      waits = subst (λ (u : State). AllWait flags g ns samples u) (sym first)
+          (all_wait laws.ways f n b w most flags (λ o. 0) samples s hf short a.interruptible answered);
       rows_are = rows_are ∙ ap (λ (u : State). rows_of_samples flags g plan 1 ns samples u) (sym first);
       follows = subst (λ (u : State). FollowsAlone flags g f.step_bound plan ns samples u) (sym first) runs;
     }
@@ -285,19 +341,23 @@ runs_beside laws answers open_to b f flags samples hf leaves v limits h all =
     let mine : LeavesLayout open_to main_layout = subst (λ (l : Layout). LeavesLayout open_to l) h.layout leaves in
     let from = answers open_to b (alone f n) mine v limits own flags samples hf all in
     subst (λ (d : Firmware). RunsBeside open_to d flags samples) (sym same)
-    (beside laws open_to b f n flags samples from.0 hf v.few_outputs v.few_outputs own (all_short b samples v.few_inputs all) from.1.0 from.1.1)
+    (beside laws open_to b f n flags samples from.0 hf v.few_outputs v.few_outputs own
+    (all_short b samples v.few_inputs all) from.1.0 from.1.1)
 
-first_alike : ArrivesPlainly → (open_to : ℕ → Bool) (b : Block) (f : Firmware) (n flags : ℕ) (mem : List ℕ) → length b.outputs ≤ 4 → IsFirmwareOf b (alone f n)
+first_alike : ArrivesPlainly → (open_to : ℕ → Bool) (b : Block) (f : Firmware) (n flags : ℕ) (mem : List ℕ)
+    → length b.outputs ≤ 4 → IsFirmwareOf b (alone f n)
     → ArrivesAlike open_to main_layout (image_memory f.image.bytes) mem flags
     → FirstAlike open_to (alone f n) flags mem (arrival flags 0xC008 f.step_bound (reset_with mem))
 first_alike arrives_plainly open_to b f n flags mem few h a =
-    let first : first_state (alone f n) flags ≡ a.image_state = first_is arrives_plainly open_to b f n flags a.image_state few h a.image_arrived in
+    let first : first_state (alone f n) flags ≡ a.image_state =
+    first_is arrives_plainly open_to b f n flags a.image_state few h a.image_arrived in
     let at = a.image_arrived in
     let pc : a.state.regs.pc ≡ 0xC008 = ap (λ (r : Regs). r.pc) a.regs ∙ at.wait in
     let most = step_bound (width_of f.wide) b in
     let here : arrival flags 0xC008 f.step_bound (reset_with mem) ≡ a.state =
     ap (λ (k : ℕ). arrival flags 0xC008 k (reset_with mem)) h.steps
-    ∙ arrives_plainly flags 0xC008 3 most (reset_with mem) a.state refl a.way pc (enough_steps (width_of f.wide) b few) in
+    ∙ arrives_plainly flags 0xC008 3 most (reset_with mem) a.state refl a.way pc
+    (enough_steps (width_of f.wide) b few) in
     let there : FirstAlike open_to (alone f n) flags mem a.state = record {
       regs = a.regs ∙ ap (λ (u : State). u.regs) (sym first);
       temps = a.temps ∙ ap (λ (u : State). u.temps) (sym first);
@@ -312,8 +372,10 @@ first_states_alike arrives_plainly arrives open_to b f flags mem hf leaves v lim
     let same = is_alone b f h in
     let own : IsFirmwareOf b (alone f n) = subst (λ (d : Firmware). IsFirmwareOf b d) same h in
     let mine : LeavesLayout open_to main_layout = subst (λ (l : Layout). LeavesLayout open_to l) h.layout leaves in
-    subst (λ (d : Firmware). FirstAlike open_to d flags mem (arrival flags d.layout.wait d.step_bound (reset_with mem))) (sym same)
-    (first_alike arrives_plainly open_to b f n flags mem v.few_outputs own (arrives open_to b (alone f n) mem flags hf mine v limits own agree))
+    subst (λ (d : Firmware). FirstAlike open_to d flags mem (arrival flags d.layout.wait d.step_bound (reset_with mem)))
+    (sym same)
+    (first_alike arrives_plainly open_to b f n flags mem v.few_outputs own
+    (arrives open_to b (alone f n) mem flags hf mine v limits own agree))
 
 pub answers_under_plans : Laws → AnswersUnderPlans
 answers_under_plans laws f flags samples plan hf good b v limits h all =
@@ -322,11 +384,14 @@ answers_under_plans laws f flags samples plan hf good b v limits h all =
     let own : IsFirmwareOf b (alone f n) = subst (λ (d : Firmware). IsFirmwareOf b d) same h in
     let from = laws.firmware_answers b (alone f n) v limits own flags samples hf all in
     subst (λ (d : Firmware). AnswersUnder b d flags samples plan (firmware_rows d samples plan flags).rows) (sym same)
-    (under laws b f n flags samples plan from.0 hf v.few_outputs v.few_outputs own (all_short b samples v.few_inputs all) good from.1.0 from.1.1)
+    (under laws b f n flags samples plan from.0 hf v.few_outputs v.few_outputs own
+    (all_short b samples v.few_inputs all) good from.1.0 from.1.1)
 
 -- and so do rows that are those of the run
-pub answers_its_block : AnswersUnderPlans → (f : Firmware) (flags : ℕ) (samples : List (List ℕ)) (plan : List Request) (rows : List (RowSeen (List ℕ)))
+pub answers_its_block : AnswersUnderPlans
+    → (f : Firmware) (flags : ℕ) (samples : List (List ℕ)) (plan : List Request) (rows : List (RowSeen (List ℕ)))
     → flags < 2 ^ 8 → IsGood plan → rows ≡ (firmware_rows f samples plan flags).rows
     → AnswersItsBlock f flags samples plan rows
 answers_its_block law f flags samples plan rows hf good e =
-    subst (λ (rs : List (RowSeen (List ℕ))). AnswersItsBlock f flags samples plan rs) (sym e) (law f flags samples plan hf good)
+    subst (λ (rs : List (RowSeen (List ℕ))). AnswersItsBlock f flags samples plan rs) (sym e)
+    (law f flags samples plan hf good)

@@ -1,5 +1,6 @@
 -- The requests of a good plan are in order, and those of each sample are good.
-use Rattle.std.proofs.Common.{◌≡◌, ℕ, suc, ◌<◌, ◌≤◌, Bool, true, false, List, [], ◌∷◌, sym, ◌∙◌, subst, arith, refl, inl, inr, ◌⊎◌}
+use Rattle.std.proofs.Common.{◌≡◌, ℕ, suc, ◌<◌, ◌≤◌, Bool, true, false, List, [], ◌∷◌, sym, ◌∙◌, subst, arith, refl}
+use Rattle.std.proofs.Common.{inl, inr, ◌⊎◌}
 use Rattle.std.specs.Prelude.{All}
 use Rattle.interrupt_plan.specs.declared.Request.{Request}
 use Rattle.interrupt_plan.specs.Plans.{NotAfter, Ascends, IsGoodRequest, IsGood}
@@ -21,7 +22,8 @@ follow_ascends a (b ∷ rest) h = (not_after_le a b h.0, follow_ascends b rest h
 
 follow_good : (plan : List Request) → IsGood plan → Follow place_of 1 plan
 follow_good [] h = tt
-follow_good (a ∷ rest) h = (let first : IsGoodRequest a = h.requests 0 a (omega arith) in first.sample_from, follow_ascends a rest h.ascends)
+follow_good (a ∷ rest) h =
+    (let first : IsGoodRequest a = h.requests 0 a (omega arith) in first.sample_from, follow_ascends a rest h.ascends)
 
 pub plans_are_in_order : PlansAreInOrder
 plans_are_in_order plan good = record { few = good.few; follow = follow_good plan good }
@@ -35,13 +37,24 @@ not_after_moment : (a b : Request) → NotAfter a b → b.sample ≡ a.sample �
 not_after_moment a b (inl l) e = absurd (omega arith)
 not_after_moment a b (inr p) e = p.1
 
-goes_from : (a : Request) (rest : List Request) → All IsGoodRequest rest → Ascends (a ∷ rest) → Goes a.sample a.moment rest
+goes_from : (a : Request) (rest : List Request) → All IsGoodRequest rest → Ascends (a ∷ rest)
+    → Goes a.sample a.moment rest
 goes_from a [] g h = tt
-goes_from a (b ∷ rest) g h = (not_after_le a b h.0, not_after_moment a b h.0, g 0 b (omega arith), goes_from b rest (λ k d l. g (suc k) d (omega arith)) h.1)
+goes_from a (b ∷ rest) g h = (
+  not_after_le a b h.0,
+  not_after_moment a b h.0,
+  g 0 b (omega arith),
+  goes_from b rest (λ k d l. g (suc k) d (omega arith)) h.1,
+)
 
 goes_good : (plan : List Request) → IsGood plan → Goes 0 0 plan
 goes_good [] h = tt
-goes_good (a ∷ rest) h = (omega arith, λ e. omega arith, h.requests 0 a (omega arith), goes_from a rest (λ k d l. h.requests (suc k) d (omega arith)) h.ascends)
+goes_good (a ∷ rest) h = (
+  omega arith,
+  λ e. omega arith,
+  h.requests 0 a (omega arith),
+  goes_from a rest (λ k d l. h.requests (suc k) d (omega arith)) h.ascends,
+)
 
 bool_cases : (b : Bool) → (b ≡ true) ⊎ (b ≡ false)
 bool_cases true = inl refl
@@ -51,20 +64,25 @@ bool_cases false = inr refl
 requests_good : (k j m : ℕ) (plan : List Request) → Goes j m plan → AllGood IsGoodRequest (requests_of k plan)
 requests_good k j m [] h = tt
 requests_good k j m (q ∷ qs) h = elim (bool_cases (is_of place_of k q)) [
-  | inl e ↦ subst (λ (l : List Request). AllGood IsGoodRequest l) (sym (of_here place_of k q qs e)) (h.2, requests_good k q.sample q.moment qs h.3)
-  | inr e ↦ subst (λ (l : List Request). AllGood IsGoodRequest l) (sym (of_not place_of k q qs e)) (requests_good k q.sample q.moment qs h.3)
+  | inl e ↦ subst (λ (l : List Request). AllGood IsGoodRequest l) (sym (of_here place_of k q qs e))
+      (h.2, requests_good k q.sample q.moment qs h.3)
+  | inr e ↦ subst (λ (l : List Request). AllGood IsGoodRequest l) (sym (of_not place_of k q qs e))
+      (requests_good k q.sample q.moment qs h.3)
 ]
 
-requests_ascend : (k j m : ℕ) (plan : List Request) → Goes j m plan → (i : ℕ) → (j ≡ k → i ≤ m) → (j < k → i ≤ 0) → Ascend (λ (r : Request). r.moment) i (requests_of k plan)
+requests_ascend : (k j m : ℕ) (plan : List Request) → Goes j m plan → (i : ℕ) → (j ≡ k → i ≤ m) → (j < k → i ≤ 0)
+    → Ascend (λ (r : Request). r.moment) i (requests_of k plan)
 requests_ascend k j m [] h i e f = tt
 requests_ascend k j m (q ∷ qs) h i e f = elim (bool_cases (is_of place_of k q)) [
   | inl t ↦
       let here = one_is place_of k q t in
       let at : i ≤ q.moment = at_most here (one_of j q.sample h.0) in
-      subst (λ (l : List Request). Ascend (λ (r : Request). r.moment) i l) (sym (of_here place_of k q qs t)) (at, requests_ascend k q.sample q.moment qs h.3 q.moment (λ y. omega arith) (λ y. absurd (omega arith)))
+      subst (λ (l : List Request). Ascend (λ (r : Request). r.moment) i l) (sym (of_here place_of k q qs t))
+      (at, requests_ascend k q.sample q.moment qs h.3 q.moment (λ y. omega arith) (λ y. absurd (omega arith)))
   | inr t ↦
       let other = other_is place_of k q t in
-      subst (λ (l : List Request). Ascend (λ (r : Request). r.moment) i l) (sym (of_not place_of k q qs t)) (requests_ascend k q.sample q.moment qs h.3 i (λ y. absurd (other y)) (λ y. f (omega (arith, h.0))))
+      subst (λ (l : List Request). Ascend (λ (r : Request). r.moment) i l) (sym (of_not place_of k q qs t))
+      (requests_ascend k q.sample q.moment qs h.3 i (λ y. absurd (other y)) (λ y. f (omega (arith, h.0))))
 ]
   where
     one_of : (a b : ℕ) → a ≤ b → (a ≡ b) ⊎ (a < b)

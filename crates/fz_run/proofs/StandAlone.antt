@@ -1,4 +1,5 @@
--- A firmware that stands alone is sound under requests that list writes, and so its runs follow those without interrupts.
+-- A firmware that stands alone is sound under requests that list writes, and so its runs follow those without
+-- interrupts.
 use Rattle.std.proofs.Common.{◌≡◌, ℕ, suc, not, List, [], ◌∷◌, refl, ap, ap₂, ◌∙◌}
 use Rattle.cpu12_isa.specs.Regions.{is_free, is_hidden}
 use Rattle.cpu12_isa.proofs.Algebra.{agree_self}
@@ -20,14 +21,18 @@ use Rattle.run_forms.proofs.Algebra.{taken_is}
 
 same_rows : (flags : ℕ) (f : Firmware) (plan : List Request) (k : ℕ) (ns : List ℕ) (samples : List (List ℕ)) (s : State)
     → AllComplete (FactsAlone flags f) (with_writes flags f) ns samples s
-    → expected_rows (with_writes flags f) (λ j. requests_of j plan) k ns samples s ≡ rows_of_samples flags f plan k ns samples s
+    → expected_rows (with_writes flags f) (λ j. requests_of j plan) k ns samples s ≡ rows_of_samples flags f plan k
+    ns samples s
 same_rows flags f plan k [] samples s h = refl
 same_rows flags f plan k (n ∷ ns) [] s h = refl
 same_rows flags f plan k (n ∷ ns) (bytes ∷ rest) s h =
     let u : State = given f.layout bytes s in
     let holds = (let z = h.0 in z.holds) in
-    let at = taken_is flags (λ (r : Request). r.moment) n u (λ j l. ap not (let p = before_at (FactsAlone flags f) flags n j u holds l in let facts = p.facts in facts.unmasked)) in
-    ap₂ (λ (x : RowSeen (List ℕ)) (xs : List (RowSeen (List ℕ))). x ∷ xs) (ap (λ (moment : Request → ℕ). by moment) at) (same_rows flags f plan (suc k) ns rest (uninterrupted flags n u) h.1)
+    let at = taken_is flags (λ (r : Request). r.moment) n u
+    (λ j l. ap not (let p = before_at (FactsAlone flags f) flags n j u holds l in let facts = p.facts in
+    facts.unmasked)) in
+    ap₂ (λ (x : RowSeen (List ℕ)) (xs : List (RowSeen (List ℕ))). x ∷ xs) (ap (λ (moment : Request → ℕ). by moment) at)
+    (same_rows flags f plan (suc k) ns rest (uninterrupted flags n u) h.1)
   where
     by : (Request → ℕ) → RowSeen (List ℕ)
     by moment = record {
@@ -41,6 +46,13 @@ same_rows flags f plan k (n ∷ ns) (bytes ∷ rest) s h =
 
 pub runs_follow_alone : RunsFollowBeside → RequestsAreGood → RunsFollowAlone
 runs_follow_alone law requests flags f most plan ns samples s low good le h =
-    let r = law is_free flags f free_opens low (λ j. requests_of j plan) (requests plan good) [] 1 most ns samples s s le h
+    let r = law is_free flags f free_opens low (λ j. requests_of j plan)
+    (requests plan good) [] 1 most ns samples s s le h
     (record { regs = refl; temps = refl; mem = agree_self (is_hidden is_free s.regs.sp) s.mem }) tt in
-    record { arrived = r.arrived; rows_are = r.rows_are ∙ same_rows flags f plan 1 ns samples s h; simulates = r.simulates; last = r.last }
+    record {
+      arrived = r.arrived;
+      rows_are = r.rows_are ∙ same_rows flags f plan 1 ns samples s h;
+      simulates =
+          r.simulates;
+      last = r.last;
+    }

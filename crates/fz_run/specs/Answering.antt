@@ -62,7 +62,8 @@ AnswersUnderPlans = (f : Firmware) (flags : ℕ) (samples : List (List ℕ)) (pl
     → IsGood plan
     → AnswersItsBlock f flags samples plan (firmware_rows f samples plan flags).rows
 
--- The run of a firmware without interrupts from its first arrival: it answers all samples, each in at most as many steps
+-- The run of a firmware without interrupts from its first arrival: it answers all samples, each in at most as many
+-- steps
 -- as the bound says, and its states keep the facts beside handlers to which these bytes are open.
 pub record RunsBeside (open_to : ℕ → Bool) (f : Firmware) (flags : ℕ) (samples : List (List ℕ)) : Type 0 where
   pub low : IsLow f

@@ -1,7 +1,6 @@
 pub mod Forms
 pub mod Rows
 pub mod Sessions
-pub mod Facts
 pub mod Following
 pub mod SoundAlone
 pub mod Answering

@@ -53,9 +53,11 @@ low_ports open_to opens f low = record {
       opens.low at (below at (f.layout.outputs + answer_size f.wide * f.outputs) free_start to low.outputs);
 }
 
-pub all_open : (open_to : ℕ → Bool) → OpensFree open_to → (ws : List Write) → All (λ (w : Write). is_free w.at ≡ true) ws → AreOpen open_to ws
+pub all_open : (open_to : ℕ → Bool) → OpensFree open_to → (ws : List Write)
+    → All (λ (w : Write). is_free w.at ≡ true) ws → AreOpen open_to ws
 all_open open_to opens [] g = tt
-all_open open_to opens (w ∷ ws) g = (opens.free w.at (g 0 w (omega arith)), all_open open_to opens ws (λ k x l. g (suc k) x (omega arith)))
+all_open open_to opens (w ∷ ws) g =
+    (opens.free w.at (g 0 w (omega arith)), all_open open_to opens ws (λ k x l. g (suc k) x (omega arith)))
 
 -- answers that stand in shown bytes are the same
 same_answer : (hidden : ℕ → Bool) (wide : Bool) (at : ℕ) (m n : List ℕ) → at + answer_size wide ≤ free_start
@@ -103,7 +105,8 @@ ended_alike open_to f ports low w s l =
     let waits : ℕ → ℕ → Bool = λ p v. (p == f.layout.wait) && (v == 0) in
     ap₂ waits (ap (λ (r : Regs). r.pc) l.regs) (l.mem.bytes f.layout.ready ready)
 
-pub sound : (open_to : ℕ → Bool) → OpensFree open_to → (flags : ℕ) (f : Firmware) → IsLow f → WritesAgree → WritesAreQuiet
+pub sound : (open_to : ℕ → Bool) → OpensFree open_to → (flags : ℕ) (f : Firmware) → IsLow f → WritesAgree
+    → WritesAreQuiet
     → Sound open_to (with_writes flags f) (FactsBeside open_to flags f) IsGoodRequest Nothing
 sound open_to opens flags f low agree quiet = record {
   apart = opens.apart;

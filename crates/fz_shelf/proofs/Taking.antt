@@ -1,5 +1,6 @@
 -- A sink that takes a text piece by piece.
-use Rattle.std.proofs.Common.{zero, suc, get_or, subst, ◌∷◌, ◌≡◌, ◌≤◌, ◌<◌, ◌+◌, ◌-◌, ℕ, List, [], ◌++◌, length, take, drop, refl, sym, ◌∙◌, ap, ap₂, arith, length-append, append_assoc, take-append-drop}
+use Rattle.std.proofs.Common.{zero, suc, get_or, subst, ◌∷◌, ◌≡◌, ◌≤◌, ◌<◌, ◌+◌, ◌-◌, ℕ, List, [], ◌++◌, length, take}
+use Rattle.std.proofs.Common.{drop, refl, sym, ◌∙◌, ap, ap₂, arith, length-append, append_assoc, take-append-drop}
 use Rattle.std.specs.List.{flat_map}
 use Rattle.std.specs.Prelude.{Option, Some, None}
 use Rattle.std.proofs.lemmas.List.{append-nil, take_rest}
@@ -29,29 +30,34 @@ pub record Putting (old now : Option Taken) (bytes rest : List ℕ) : Type 0 whe
 pub begun : (old : Option Taken) (bytes : List ℕ) → Putting old old bytes bytes
 begun old bytes = record { part = []; split = refl; told = sym (gained-nil old) }
 
-pub goes_on : {old now : Option Taken} {bytes rest : List ℕ} → Putting old now bytes rest → (n : ℕ) (next : Option Taken) → next ≡ gained now (take n rest)
+pub goes_on : {old now : Option Taken} {bytes rest : List ℕ} → Putting old now bytes rest
+    → (n : ℕ) (next : Option Taken) → next ≡ gained now (take n rest)
     → Putting old next bytes (take (length rest - n) (drop n rest))
 goes_on {old} {now} {bytes} {rest} p n next told = rw take_rest record {
   part = p.part ++ take n rest;
-  split = append_assoc p.part (take n rest) (drop n rest) ∙ ap (λ (l : List ℕ). p.part ++ l) (take-append-drop n rest) ∙ p.split;
+  split = append_assoc p.part (take n rest) (drop n rest)
+      ∙ ap (λ (l : List ℕ). p.part ++ l) (take-append-drop n rest) ∙ p.split;
   told = told ∙ ap (λ (t : Option Taken). gained t (take n rest)) p.told ∙ gained-append old p.part (take n rest);
 }
 
-pub whole : {old now : Option Taken} {bytes : List ℕ} (rest : List ℕ) → Putting old now bytes rest → length rest ≡ 0 → now ≡ gained old bytes
+pub whole : {old now : Option Taken} {bytes : List ℕ} (rest : List ℕ) → Putting old now bytes rest → length rest ≡ 0
+    → now ≡ gained old bytes
 whole {old} {now} {bytes} [] p none = p.told ∙ ap (gained old) (sym (append-nil p.part) ∙ p.split)
 whole (b ∷ rest) p none = absurd (omega arith)
 
 pub partly : {old now : Option Taken} {bytes rest : List ℕ} → Putting old now bytes rest → GainedPart old now bytes
 partly {old} {now} {bytes} {rest} p = record { part = p.part; rest = rest; split = p.split; told = p.told }
 
-pub room_left : {old now : Option Taken} {bytes rest : List ℕ} → Putting old now bytes rest → HasRoom old (length bytes) → HasRoom now (length rest)
+pub room_left : {old now : Option Taken} {bytes rest : List ℕ} → Putting old now bytes rest → HasRoom old (length bytes)
+    → HasRoom now (length rest)
 room_left {old} {now} {bytes} {rest} p h =
     let size : length p.part + length rest ≡ length bytes = sym (length-append p.part rest) ∙ ap length p.split in
     let fits : HasRoom old (length p.part + length rest) = rw size h in
     rw p.told (room-gained old p.part (length rest) fits)
 
 -- one whole piece more
-pub goes_piece : {old now : Option Taken} {bytes : List ℕ} (piece rest : List ℕ) → Putting old now bytes (piece ++ rest) → (next : Option Taken) → next ≡ gained now piece → Putting old next bytes rest
+pub goes_piece : {old now : Option Taken} {bytes : List ℕ} (piece rest : List ℕ) → Putting old now bytes (piece ++ rest)
+    → (next : Option Taken) → next ≡ gained now piece → Putting old next bytes rest
 goes_piece {old} {now} {bytes} piece rest p next told = record {
   part = p.part ++ piece;
   split = append_assoc p.part piece rest ∙ p.split;
@@ -59,35 +65,44 @@ goes_piece {old} {now} {bytes} piece rest p next told = record {
 }
 
 -- a part of one piece more
-pub stops_in : {old now : Option Taken} {bytes : List ℕ} (piece rest : List ℕ) → Putting old now bytes (piece ++ rest) → (next : Option Taken) → GainedPart now next piece → GainedPart old next bytes
+pub stops_in : {old now : Option Taken} {bytes : List ℕ} (piece rest : List ℕ) → Putting old now bytes (piece ++ rest)
+    → (next : Option Taken) → GainedPart now next piece → GainedPart old next bytes
 stops_in {old} {now} {bytes} piece rest p next g = record {
   part = p.part ++ g.part;
   rest = g.rest ++ rest;
   split = append_assoc p.part g.part (g.rest ++ rest)
-      ∙ ap (λ (l : List ℕ). p.part ++ l) (sym (append_assoc g.part g.rest rest) ∙ ap (λ (l : List ℕ). l ++ rest) g.split)
+      ∙ ap (λ (l : List ℕ). p.part ++ l)
+      (sym (append_assoc g.part g.rest rest) ∙ ap (λ (l : List ℕ). l ++ rest) g.split)
       ∙ p.split;
   told = g.told ∙ ap (λ (t : Option Taken). gained t g.part) p.told ∙ gained-append old p.part g.part;
 }
 
-pub room_for : {old now : Option Taken} {bytes : List ℕ} (piece rest : List ℕ) → Putting old now bytes (piece ++ rest) → HasRoom old (length bytes) → HasRoom now (length piece)
-room_for {old} {now} {bytes} piece rest p h = less now (length piece) (length rest) (let k = room_left p h in rw length-append at k)
+pub room_for : {old now : Option Taken} {bytes : List ℕ} (piece rest : List ℕ) → Putting old now bytes (piece ++ rest)
+    → HasRoom old (length bytes) → HasRoom now (length piece)
+room_for {old} {now} {bytes} piece rest p h =
+    less now (length piece) (length rest) (let k = room_left p h in rw length-append at k)
   where
     less : (t : Option Taken) (a b : ℕ) → HasRoom t (a + b) → HasRoom t a
     less None a b h = h
     less (Some t) a b h = let h' : a + b ≤ t.room = h in omega arith
 
 -- the pieces from the i-th on
-pub flat-drop : {X : Type 0} (f : X → List ℕ) (xs : List X) (i : ℕ) (x : X) → i < length xs → x ≡ get_or xs i x → flat_map f (drop i xs) ≡ f x ++ flat_map f (drop (i + 1) xs)
+pub flat-drop : {X : Type 0} (f : X → List ℕ) (xs : List X) (i : ℕ) (x : X) → i < length xs → x ≡ get_or xs i x
+    → flat_map f (drop i xs) ≡ f x ++ flat_map f (drop (i + 1) xs)
 flat-drop f [] i x lt is = absurd (omega arith)
 flat-drop {X} f (l ∷ xs) zero x lt is = ap (λ (y : X). f y ++ flat_map f xs) (sym is)
-flat-drop {X} f (l ∷ xs) (suc i) x lt is = let e : suc i + 1 ≡ suc (i + 1) = omega arith in flat-drop f xs i x (omega arith) is ∙ ap (λ (n : ℕ). f x ++ flat_map f (drop n (l ∷ xs))) (sym e)
+flat-drop {X} f (l ∷ xs) (suc i) x lt is = let e : suc i + 1 ≡ suc (i + 1) = omega arith in
+    flat-drop f xs i x (omega arith) is ∙ ap (λ (n : ℕ). f x ++ flat_map f (drop n (l ∷ xs))) (sym e)
 
-module _ {X : Type 0} (f : X → List ℕ) {old now : Option Taken} (xs : List X) (i : ℕ) (x : X) (piece : List ℕ) (lt : i < length xs) (is : x ≡ get_or xs i x) (bytes : piece ≡ f x)
+module _ {X : Type 0} (f : X → List ℕ) {old now : Option Taken} (xs : List X) (i : ℕ) (x : X) (piece : List ℕ)
+    (lt : i < length xs) (is : x ≡ get_or xs i x) (bytes : piece ≡ f x)
     (so_far : Putting old now (flat_map f xs) (flat_map f (drop i xs))) where
   split_here : Putting old now (flat_map f xs) (piece ++ flat_map f (drop (i + 1) xs))
-  split_here = subst (λ (t : List ℕ). Putting old now (flat_map f xs) t) (flat-drop f xs i x lt is ∙ ap (λ (b : List ℕ). b ++ flat_map f (drop (i + 1) xs)) (sym bytes)) so_far
+  split_here = subst (λ (t : List ℕ). Putting old now (flat_map f xs) t)
+      (flat-drop f xs i x lt is ∙ ap (λ (b : List ℕ). b ++ flat_map f (drop (i + 1) xs)) (sym bytes)) so_far
 
-  pub next_piece : (next : Option Taken) → next ≡ gained now piece → Putting old next (flat_map f xs) (flat_map f (drop (i + 1) xs))
+  pub next_piece : (next : Option Taken) → next ≡ gained now piece
+      → Putting old next (flat_map f xs) (flat_map f (drop (i + 1) xs))
   next_piece next told = goes_piece piece (flat_map f (drop (i + 1) xs)) split_here next told
 
   pub in_piece : (next : Option Taken) → GainedPart now next piece → GainedPart old next (flat_map f xs)
@@ -102,9 +117,13 @@ get_or-any [] i d e lt = absurd (omega arith)
 get_or-any (x ∷ xs) zero d e lt = refl
 get_or-any (x ∷ xs) (suc i) d e lt = get_or-any xs i d e (omega arith)
 
-module _ {X : Type 0} (f : X → List ℕ) {old now : Option Taken} (xs : List X) (i : ℕ) (d : X) (lt : i < length xs) (so_far : Putting old now (flat_map f xs) (flat_map f (drop i xs))) where
-  pub next_at : (next : Option Taken) → next ≡ gained now (f (get_or xs i d)) → Putting old next (flat_map f xs) (flat_map f (drop (i + 1) xs))
-  next_at next told = next_piece f xs i (get_or xs i d) (f (get_or xs i d)) lt (get_or-any xs i d (get_or xs i d) lt) refl so_far next told
+module _ {X : Type 0} (f : X → List ℕ) {old now : Option Taken} (xs : List X) (i : ℕ) (d : X) (lt : i < length xs)
+    (so_far : Putting old now (flat_map f xs) (flat_map f (drop i xs))) where
+  pub next_at : (next : Option Taken) → next ≡ gained now (f (get_or xs i d))
+      → Putting old next (flat_map f xs) (flat_map f (drop (i + 1) xs))
+  next_at next told = next_piece f xs i (get_or xs i d) (f (get_or xs i d)) lt (get_or-any xs i d (get_or xs i d) lt)
+      refl so_far next told
 
   pub in_at : (next : Option Taken) → GainedPart now next (f (get_or xs i d)) → GainedPart old next (flat_map f xs)
-  in_at next g = in_piece f xs i (get_or xs i d) (f (get_or xs i d)) lt (get_or-any xs i d (get_or xs i d) lt) refl so_far next g
+  in_at next g = in_piece f xs i (get_or xs i d) (f (get_or xs i d)) lt (get_or-any xs i d (get_or xs i d) lt) refl
+      so_far next g

@@ -1,5 +1,6 @@
 //! A shelf in memory.
-ghost use Rattle.std.specs.Prelude.{◌≡◌, ◌≢◌, ◌⊎◌, ◌↔◌, ◌≤◌, ◌<◌, [], ℕ, List, length, IfOk, IsErr, IsErrOf, IsOk, IsTrue, MatchOption, OnOk, false, position};
+ghost use Rattle.std.specs.Prelude.{◌≡◌, ◌≢◌, ◌⊎◌, ◌↔◌, ◌≤◌, ◌<◌, [], ℕ, List, length, IfOk, IsErr, IsErrOf, IsOk};
+ghost use Rattle.std.specs.Prelude.{IsTrue, MatchOption, OnOk, false, position};
 ghost use Rattle.std.specs.List.{All};
 ghost use Rattle.fz_shelf.specs.Calls.{IsListed, one_more};
 ghost use Rattle.fz_shelf.specs.Files.{Fits, IsThere, Written, absent};
@@ -190,7 +191,8 @@ impl Shelf for MemShelf {
     /// A write that is listed fails, and of the others those to a file that is not there and those
     /// of more bytes than its room.
     fn write(&mut self, name: &str, bytes: &[u8]) -> Result<(), Failed>
-        ensures written { OnOk result (Written (⟦<MemShelf as Shelf>⟧.files self.old name.now) bytes.now (⟦<MemShelf as Shelf>⟧.files self.new name.now)) }
+        ensures written { OnOk result (Written (⟦<MemShelf as Shelf>⟧.files self.old name.now) bytes.now
+            (⟦<MemShelf as Shelf>⟧.files self.new name.now)) }
         ensures others { (other : List ℕ) → other ≢ name.now
             → ⟦<MemShelf as Shelf>⟧.files self.new other ≡ ⟦<MemShelf as Shelf>⟧.files self.old other }
         ensures counts { WriteCounts (⟦<MemShelf as Shelf>⟧.counts self.old)

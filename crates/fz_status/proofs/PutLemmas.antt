@@ -1,5 +1,6 @@
 -- A text that is put behind another.
-use Rattle.std.proofs.Common.{◌≡◌, ◌≤◌, ◌++◌, ℕ, List, length, refl, sym, ◌∙◌, ap, ap₂, subst, arith, length-append, append_assoc}
+use Rattle.std.proofs.Common.{◌≡◌, ◌≤◌, ◌++◌, ℕ, List, length, refl, sym, ◌∙◌, ap, ap₂, subst, arith, length-append}
+use Rattle.std.proofs.Common.{append_assoc}
 use Rattle.std.specs.Prelude.{Option, Some, None, Result, Ok, Err, IsErr, OnErr, OnOk}
 use Rattle.fz_shelf.specs.Faults.{Rose}
 use Rattle.fz_shelf.specs.Told.{Taken, gained, HasRoom}
@@ -8,15 +9,19 @@ use Rattle.fz_status.specs.Errors.{Puts}
 gained_behind : (t : Option Taken) (front text : List ℕ) → gained (gained t front) text ≡ gained t (front ++ text)
 gained_behind None front text = refl
 gained_behind (Some t) front text =
-    ap₂ (λ (b : List ℕ) (r : ℕ). Some (record { bytes = b; room = r })) (append_assoc t.bytes front text) (omega (arith, length-append front text))
+    ap₂ (λ (b : List ℕ) (r : ℕ). Some (record { bytes = b; room = r })) (append_assoc t.bytes front text)
+    (omega (arith, length-append front text))
 
-room_behind : (t : Option Taken) (front text : List ℕ) → HasRoom t (length (front ++ text)) → HasRoom (gained t front) (length text)
+room_behind : (t : Option Taken) (front text : List ℕ) → HasRoom t (length (front ++ text))
+    → HasRoom (gained t front) (length text)
 room_behind None front text room = room
-room_behind (Some t) front text room = let fits : length (front ++ text) ≤ t.room = room in omega (arith, length-append front text)
+room_behind (Some t) front text room = let fits : length (front ++ text) ≤ t.room = room in
+    omega (arith, length-append front text)
 
 room_before : (t : Option Taken) (front text : List ℕ) → HasRoom t (length (front ++ text)) → HasRoom t (length front)
 room_before None front text room = room
-room_before (Some t) front text room = let fits : length (front ++ text) ≤ t.room = room in omega (arith, length-append front text)
+room_before (Some t) front text room = let fits : length (front ++ text) ≤ t.room = room in
+    omega (arith, length-append front text)
 
 on_ok : {E : Type 0} {P Q : Type 0} (r : Result Unit E) → (P → Q) → OnOk r P → OnOk r Q
 on_ok {E} {P} {Q} (Ok x) to h = to h
@@ -26,17 +31,21 @@ on_err : {E : Type 0} {P Q : Type 0} (r : Result Unit E) → (P → Q) → OnErr
 on_err {E} {P} {Q} (Ok x) to h = h
 on_err {E} {P} {Q} (Err e) to h = to h
 
-module _ {E : Type 0} (front text : List ℕ) (told told' told'' : Option Taken) (faults faults' faults'' : ℕ) (sound sound' sound'' : Type 0) where
+module _ {E : Type 0} (front text : List ℕ) (told told' told'' : Option Taken) (faults faults' faults'' : ℕ)
+    (sound sound' sound'' : Type 0) where
   -- the first text is put, and then the second, or not
   pub puts_behind : Puts {E = E} front told told' faults faults' sound sound' (Ok tt) → (r : Result Unit E)
-      → Puts text told' told'' faults' faults'' sound' sound'' r → Puts (front ++ text) told told'' faults faults'' sound sound'' r
+      → Puts text told' told'' faults' faults'' sound' sound'' r
+      → Puts (front ++ text) told told'' faults faults'' sound sound'' r
   puts_behind first r second = record {
-    whole = on_ok r (λ is. is ∙ ap (λ (t : Option Taken). gained t text) first.whole ∙ gained_behind told front text) second.whole;
+    whole = on_ok r (λ is. is ∙ ap (λ (t : Option Taken). gained t text) first.whole ∙ gained_behind told front text)
+        second.whole;
     part = record {
       part = front ++ second.part.part;
       rest = second.part.rest;
       split = append_assoc front second.part.part second.part.rest ∙ ap (λ (l : List ℕ). front ++ l) second.part.split;
-      told = second.part.told ∙ ap (λ (t : Option Taken). gained t second.part.part) first.whole ∙ gained_behind told front second.part.part;
+      told = second.part.told ∙ ap (λ (t : Option Taken). gained t second.part.part) first.whole
+          ∙ gained_behind told front second.part.part;
     };
     cause = record {
       later = omega (arith, first.cause.later, second.cause.later);
@@ -49,7 +58,8 @@ module _ {E : Type 0} (front text : List ℕ) (told told' told'' : Option Taken)
   }
 
   -- the put of the first failed
-  pub puts_no_more : (e : E) → Puts {E = E} front told told' faults faults' sound sound' (Err e) → (r : Result Unit E) → IsErr r
+  pub puts_no_more : (e : E) → Puts {E = E} front told told' faults faults' sound sound' (Err e)
+      → (r : Result Unit E) → IsErr r
       → Puts (front ++ text) told told' faults faults' sound sound' r
   puts_no_more e first (Ok x) failed = cc
   puts_no_more e first (Err e') failed = record {

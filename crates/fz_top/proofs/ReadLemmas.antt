@@ -52,9 +52,12 @@ module _ (words : List Text) (places : List ℕ) (files : Names) (c0 c1 c2 : Cou
       → ReadsOne words (get_or places i d) files' c1 c2 a1 a2 bytes
       → ReadsWhole words (take (i + 1) places) files c0 c2 a0 a2 (cs ++ bytes ∷ [])
   more files' cs bytes so_far same one =
-      let held : Holds (files (word_at words (get_or places i d))) bytes = subst (λ (f : Names). Holds (f (word_at words (get_or places i d))) bytes) same one.held in
+      let held : Holds (files (word_at words (get_or places i d))) bytes =
+      subst (λ (f : Names). Holds (f (word_at words (get_or places i d))) bytes) same one.held in
       rw (take_more places i d lt) record {
-        held = rw map-append (held_more files (names_at words (take i places)) cs (word_at words (get_or places i d)) bytes so_far.held held one.small);
+        held = rw map-append
+            (held_more files (names_at words (take i places)) cs (word_at words (get_or places i d)) bytes so_far.held
+            held one.small);
         counts = one.counts ∙ so_far.counts;
         entries =
             rw map-append (entries_more so_far.entries ((word_at words (get_or places i d), Whole) ∷ []) one.entry);
@@ -65,7 +68,8 @@ module _ (words : List Text) (places : List ℕ) (files : Names) (c0 c1 c2 : Cou
       → ReadsOne words (get_or places i d) files' c1 c2 a1 a2 v.items → items' ≡ items ++ v ∷ []
       → ReadsWhole words (take (i + 1) places) files c0 c2 a0 a2 (bytes_of items')
   read_more files' items items' v so_far same one added =
-      subst (λ (l : List (Vec ℕ Global)). ReadsWhole words (take (i + 1) places) files c0 c2 a0 a2 (bytes_of l)) (sym added) (rw map-append (more files' (bytes_of items) v.items so_far same one))
+      subst (λ (l : List (Vec ℕ Global)). ReadsWhole words (take (i + 1) places) files c0 c2 a0 a2 (bytes_of l))
+      (sym added) (rw map-append (more files' (bytes_of items) v.items so_far same one))
 
   reads : (cs : List (List ℕ)) (kind : Answer) (p : ℕ) → p ≡ get_or places i d
       → ReadsWhole words (take i places) files c0 c1 a0 a1 cs
@@ -93,14 +97,16 @@ module _ (words : List Text) (places : List ℕ) (files : Names) (c0 c1 c2 : Cou
     reads cs Long p at.0 so_far at.1,
     at.2 ∙ ap (λ (k : Counts). record k { longs = c2.longs }) so_far.counts,
     subst (λ (k : Counts). Rose k.longs c2.longs) so_far.counts at.3,
-    subst (λ (q : ℕ). IsLong (files (word_at words q))) (sym at.0) (subst (λ (f : Names). IsLong (f (word_at words (get_or places i d)))) same at.4),
+    subst (λ (q : ℕ). IsLong (files (word_at words q))) (sym at.0)
+        (subst (λ (f : Names). IsLong (f (word_at words (get_or places i d)))) same at.4),
   )
 
 pub there_later : (files files' : Names) (words : List Text) (places : List ℕ) (i : ℕ) (d : ℕ) → i < length places
     → files' ≡ files → AreThere files (names_at words places)
     → IsThere (files' (word_at words (get_or places i d)))
 there_later files files' words places i d lt same there =
-    subst (λ (f : Names). IsThere (f (word_at words (get_or places i d)))) (sym same) (there_at files words places i d lt there)
+    subst (λ (f : Names). IsThere (f (word_at words (get_or places i d)))) (sym same)
+    (there_at files words places i d lt there)
 
 held_each : (files : Names) (ns : List Text) (cs : List (Vec ℕ Global)) → AreHeld files ns (bytes_of cs)
     → (k : ℕ) (d : Vec ℕ Global) → k < length cs → length (get_or cs k d).items ≤ 1048576

@@ -64,7 +64,18 @@ module _ (words : List Text) (f0 f1 f2 : Names) (k0 k1 k2 : Counts) (a0 a1 a2 : 
 
   pub ran : Delivered words deed (world f1 k1 a1 t0 e0) (world f2 k2 a2 t2 e2)
       → Runs words (world f0 k0 a0 t0 e0) (world f2 k2 a2 t2 e2) status.Ok
-  ran d = (deed, worked, record { others = subst (λ (f : Names). ChangesOnly words deed.file f f2) made.files d.others; written = written d.written; told = d.told; counts = d.counts ∙ made.whole.counts; faults = d.faults })
+  ran d = (
+    deed,
+    worked,
+    record {
+      others = subst (λ (f : Names). ChangesOnly words deed.file f f2) made.files d.others;
+      written =
+          written d.written;
+      told = d.told;
+      counts = d.counts ∙ made.whole.counts;
+      faults = d.faults;
+    },
+  )
 
   pub broke : ChangesOnly words deed.file f1 f2
       → WriteFailed deed (world f1 k1 a1 t0 e0) (world f2 k2 a2 t2 e2)
@@ -113,7 +124,8 @@ stopped words f0 f1 k0 k1 a0 a1 t0 e0 command places contents slice s is files a
     faulted : (t : Status) → Makes command (bytes_of slice) (Err t)
         → Faulted words (world f0 k0 a0 t0 e0) (world f1 k1 a1 t0 e0) t
     faulted t makes =
-        let all : ReadsWhole words (inputs_of command) f0 k0 k1 a0 a1 (bytes_of contents) = subst (λ (ps : List ℕ). ReadsWhole words ps f0 k0 k1 a0 a1 (bytes_of contents)) at whole in
+        let all : ReadsWhole words (inputs_of command) f0 k0 k1 a0 a1 (bytes_of contents) =
+        subst (λ (ps : List ℕ). ReadsWhole words ps f0 k0 k1 a0 a1 (bytes_of contents)) at whole in
         record {
           worked = record {
             command = command;
@@ -160,7 +172,8 @@ module _ (words : List Text) (files : Names) (command : Command) (contents : Lis
       → AreHeld files (names_at words (inputs_of other)) cs → Makes other cs r → Makes command contents r
   makes_same other cs r other_is held makes =
       let same = same_command other_is is in
-      let held' : AreHeld files (names_at words (inputs_of command)) cs = subst (λ (c : Command). AreHeld files (names_at words (inputs_of c)) cs) same held in
+      let held' : AreHeld files (names_at words (inputs_of command)) cs =
+      subst (λ (c : Command). AreHeld files (names_at words (inputs_of c)) cs) same held in
       let all : cs ≡ contents = known_held files (names_at words (inputs_of command)) contents cs known held' in
       subst (λ (xs : List (List ℕ)). Makes command xs r) all (subst (λ (c : Command). Makes c cs r) same makes)
 
@@ -169,7 +182,9 @@ pub room_of : (words : List Text) (f0 f1 : Names) (k0 k1 : Counts) (a0 a1 : Log)
     → IsReady words (world f0 k0 a0 t0 e0) command contents → FileFits words deed.file f1
     × HasRoom t0 (length deed.text)
 room_of words f0 f1 k0 k1 a0 a1 t0 e0 deed made command contents ready =
-    let room = ready.room deed (makes_same words f0 command contents ready.is ready.known made.command made.contents (Ok deed) made.is made.whole.held made.outcome) in
+    let room = ready.room deed
+    (makes_same words f0 command contents ready.is ready.known made.command made.contents
+    (Ok deed) made.is made.whole.held made.outcome) in
     (subst (λ (f : Names). FileFits words deed.file f) (sym made.files) room.0, room.1)
 
 known_there : (files : Names) (ns : List Text) (cs : List (List ℕ)) → AreKnown files ns cs → AreThere files ns
@@ -203,9 +218,12 @@ module _ (words : List Text) (old new : World) (command : Command) (contents : L
   settles_as _ no_memory runs = inr (inl refl)
   settles_as _ (long_read p) runs =
       let same = same_command runs.is is in
-      let stops : StopsBy words (inputs_of command) old.files old.counts new.counts old.asked new.asked (stop.TooLong p) =
-      subst (λ (c : Command). StopsBy words (inputs_of c) old.files old.counts new.counts old.asked new.asked (stop.TooLong p)) same runs.stops in
-      let at : AreKnown old.files (names_at words (stops.0.before ++ p ∷ stops.0.after)) contents = subst (λ (ps : List ℕ). AreKnown old.files (names_at words ps) contents) (sym stops.0.split) known in
+      let stops : StopsBy words (inputs_of command) old.files old.counts new.counts old.asked new.asked
+      (stop.TooLong p) =
+      subst (λ (c : Command). StopsBy words (inputs_of c) old.files old.counts new.counts old.asked new.asked
+      (stop.TooLong p)) same runs.stops in
+      let at : AreKnown old.files (names_at words (stops.0.before ++ p ∷ stops.0.after)) contents =
+      subst (λ (ps : List ℕ). AreKnown old.files (names_at words ps) contents) (sym stops.0.split) known in
       absurd (not_long old.files words stops.0.before stops.0.after p contents at stops.3)
   settles_as _ (of_contents s of) runs = inl (made_by (Err s) (of.faulted words old new runs).worked)
 
@@ -318,9 +336,12 @@ same_cut files words (a ∷ before) after p [] after' q (c ∷ cs) cs' bytes roo
     let at : IsLong (files (word_at words a)) = subst (λ (n : ℕ). IsLong (files (word_at words n))) e is_long in
     let over : 1048576 < length c = subst (λ (f : File). IsLong f) known_before.0.1 at in
     absurd (omega (arith, over, known_before.1))
-same_cut files words (a ∷ before) after p (b ∷ before') after' q [] cs' bytes room cut known_before told long held is_long = absurd known_before
-same_cut files words (a ∷ before) after p (b ∷ before') after' q (c ∷ cs) [] bytes room cut known_before told long held is_long = absurd held
-same_cut files words (a ∷ before) after p (b ∷ before') after' q (c ∷ cs) (c' ∷ cs') bytes room cut known_before told long held is_long =
+same_cut files words (a ∷ before) after p (b ∷ before') after' q [] cs' bytes room cut known_before told long held
+    is_long = absurd known_before
+same_cut files words (a ∷ before) after p (b ∷ before') after' q (c ∷ cs) [] bytes room cut known_before told long held
+    is_long = absurd held
+same_cut files words (a ∷ before) after p (b ∷ before') after' q (c ∷ cs) (c' ∷ cs') bytes room cut known_before told
+    long held is_long =
     let rest : before ++ p ∷ after ≡ before' ++ q ∷ after' = cc in
     same_cut files words before after p before' after' q cs cs' bytes room rest known_before.2 told long held.2 is_long
 
@@ -328,8 +349,10 @@ module _ (words : List Text) (old new : World) (place : ℕ) (long : IsTooLong w
   no_work : (r : Result Deed Status) → Worked words old new r → ⊥
   no_work r w =
       let same = same_command w.is long.is in
-      let held : AreHeld old.files (names_at words (inputs_of long.command)) w.contents = subst (λ (c : Command). AreHeld old.files (names_at words (inputs_of c)) w.contents) same w.held in
-      let at : AreHeld old.files (names_at words (long.before ++ place ∷ long.after)) w.contents = subst (λ (ps : List ℕ). AreHeld old.files (names_at words ps) w.contents) (sym long.split) held in
+      let held : AreHeld old.files (names_at words (inputs_of long.command)) w.contents =
+      subst (λ (c : Command). AreHeld old.files (names_at words (inputs_of c)) w.contents) same w.held in
+      let at : AreHeld old.files (names_at words (long.before ++ place ∷ long.after)) w.contents =
+      subst (λ (ps : List ℕ). AreHeld old.files (names_at words ps) w.contents) (sym long.split) held in
       never_held old.files words long.before long.after place w.contents long.bytes long.room long.told long.long at
 
   long_status_as : (s : Status) → Kind s → Runs words old new s → (s ≡ status.TooLong place) ⊎
@@ -341,9 +364,12 @@ module _ (words : List Text) (old new : World) (place : ℕ) (long : IsTooLong w
   long_status_as _ no_memory runs = inr (inr refl)
   long_status_as _ (long_read q) runs =
       let same = same_command runs.is long.is in
-      let stops : StopsBy words (inputs_of long.command) old.files old.counts new.counts old.asked new.asked (stop.TooLong q) =
-      subst (λ (c : Command). StopsBy words (inputs_of c) old.files old.counts new.counts old.asked new.asked (stop.TooLong q)) same runs.stops in
-      let e : q ≡ place = same_cut old.files words long.before long.after place stops.0.before stops.0.after q long.contents stops.0.contents long.bytes long.room
+      let stops : StopsBy words (inputs_of long.command) old.files old.counts new.counts old.asked new.asked
+      (stop.TooLong q) =
+      subst (λ (c : Command). StopsBy words (inputs_of c) old.files old.counts new.counts old.asked new.asked
+      (stop.TooLong q)) same runs.stops in
+      let e : q ≡ place = same_cut old.files words long.before long.after place stops.0.before stops.0.after q
+      long.contents stops.0.contents long.bytes long.room
       (long.split ∙ sym stops.0.split) long.known_before long.told long.long stops.0.held stops.3 in
       inl (ap (λ (n : ℕ). status.TooLong n) e)
   long_status_as _ (of_contents s of) runs = absurd (no_work (Err s) (of.faulted words old new runs).worked)

@@ -1,5 +1,6 @@
 -- Tables of commands, and which row words are of.
-use Rattle.std.specs.Prelude.{◌==◌, ◌≤◌, ℕ, Bool, false, List, [], ◌∷◌, length, drop, find, map, option_and_then, option_map, if◌then◌else◌, Option, Some, None}
+use Rattle.std.specs.Prelude.{◌==◌, ◌≤◌, ℕ, Bool, false, List, [], ◌∷◌, length, drop, find, map, option_and_then}
+use Rattle.std.specs.Prelude.{option_map, if◌then◌else◌, Option, Some, None}
 use Rattle.std.specs.Borrow.{Bor}
 use Rattle.std.specs.List.{list_any}
 use Rattle.std.specs.Str.{bytes_eq}

@@ -7,7 +7,8 @@
 //! refuses exactly the words that `clap` refuses, or of which one begins with a hyphen.
 #![tactic(auto)]
 
-ghost use Rattle.std.specs.Prelude.{◌≡◌, ◌≢◌, ◌↔◌, ◌+◌, ◌<◌, [], length, map, string_bytes, false, IfOk, OnOk, IsErrOf, None, Some, option_map};
+ghost use Rattle.std.specs.Prelude.{◌≡◌, ◌≢◌, ◌↔◌, ◌+◌, ◌<◌, [], length, map, string_bytes, false, IfOk, OnOk, IsErrOf};
+ghost use Rattle.std.specs.Prelude.{None, Some, option_map};
 ghost use Rattle.std.specs.List.{list_any};
 ghost use Rattle.clap.specs.Words.{app_of, with_rule, fault_of};
 ghost use Rattle.clap.specs.declared.Command.TheViews.{out-Command as fields_of};

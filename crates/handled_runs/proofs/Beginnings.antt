@@ -1,5 +1,6 @@
 -- Where a run begins whose interrupts run code.
-use Rattle.std.proofs.Common.{◌≡◌, ◌≢◌, ℕ, ◌+◌, ◌*◌, ◌^◌, ◌<◌, ◌≤◌, ◌⊎◌, inl, inr, Bool, true, false, cond, Option, Some, None, List, [], ◌++◌, get_or, refl, ap, ap₂, sym, ◌∙◌, subst, arith, nat_cmp}
+use Rattle.std.proofs.Common.{◌≡◌, ◌≢◌, ℕ, ◌+◌, ◌*◌, ◌^◌, ◌<◌, ◌≤◌, ◌⊎◌, inl, inr, Bool, true, false, cond, Option}
+use Rattle.std.proofs.Common.{Some, None, List, [], ◌++◌, get_or, refl, ap, ap₂, sym, ◌∙◌, subst, arith, nat_cmp}
 use Rattle.std.specs.BTreeMap.{is_at}
 use Rattle.std.proofs.lemmas.Bool.{cases_lt}
 use Rattle.std.proofs.lemmas.Bool.Decides.{nat_tests}
@@ -27,7 +28,8 @@ code_read at (inr (inl o)) = not_open at (inl (omega (arith, o.1)))
 code_read at (inr (inr (inl o))) = not_open at (inr (inr (inl (omega (arith, o.0), omega (arith, o.1)))))
 code_read at (inr (inr (inr (inl o)))) = not_open at (inr (inr (inl (omega (arith, o.0), omega (arith, o.1)))))
 code_read at (inr (inr (inr (inr (inl o))))) = not_open at (inr (inr (inl (omega (arith, o.0), omega (arith, o.1)))))
-code_read at (inr (inr (inr (inr (inr (inl o)))))) = not_open at (inr (inr (inl (omega (arith, o.0), omega (arith, o.1)))))
+code_read at (inr (inr (inr (inr (inr (inl o)))))) =
+    not_open at (inr (inr (inl (omega (arith, o.0), omega (arith, o.1)))))
 code_read at (inr (inr (inr (inr (inr (inr o)))))) = absurd o
 
 code_written : (at : ℕ) → Writes main_layout at → is_open_to_code at ≡ false
@@ -61,7 +63,8 @@ behind_vector firmware handler at a b =
     ∙ byte_at-append at handler firmware
 
 -- at a place that is not open it has the firmware's
-none_shown : (handler : List (ℕ × ℕ)) (at : ℕ) → IsWhole handler → is_open_to_code at ≡ false → byte_at handler at ≡ None
+none_shown : (handler : List (ℕ × ℕ)) (at : ℕ) → IsWhole handler → is_open_to_code at ≡ false
+    → byte_at handler at ≡ None
 none_shown handler at w shown = by (byte_at handler at) refl
   where
     by : (o : Option ℕ) → byte_at handler at ≡ o → byte_at handler at ≡ None
@@ -77,27 +80,33 @@ not_vector at shown = (λ e. first e, λ e. second e)
     second : 65523 ≡ at → ⊥
     second e = let t : is_open_to_code 65523 ≡ false = subst (λ (k : ℕ). is_open_to_code k ≡ false) (sym e) shown in cc
 
-pub joint_agrees : HoldsImage → (firmware handler : List (ℕ × ℕ)) → IsWhole handler → Agree is_open_to_code (joint_memory firmware handler) (image_memory firmware)
+pub joint_agrees : HoldsImage → (firmware handler : List (ℕ × ℕ)) → IsWhole handler
+    → Agree is_open_to_code (joint_memory firmware handler) (image_memory firmware)
 joint_agrees holds firmware handler w =
     let a = holds (joint_bytes firmware handler) in
     let b = holds firmware in
     record { size = a.0 ∙ sym b.0; bytes = λ at shown. each at shown (cases_lt at 65536) }
   where
-    each : (at : ℕ) → is_open_to_code at ≡ false → (at < 65536) ⊎ (65536 ≤ at) → get_or (joint_memory firmware handler) at 0 ≡ get_or (image_memory firmware) at 0
+    each : (at : ℕ) → is_open_to_code at ≡ false → (at < 65536) ⊎ (65536 ≤ at)
+        → get_or (joint_memory firmware handler) at 0 ≡ get_or (image_memory firmware) at 0
     each at shown (inl lt) =
         let a = holds (joint_bytes firmware handler) in
         let b = holds firmware in
         let v = not_vector at shown in
-        a.1 at lt ∙ ap byte_or_zero (behind_vector firmware handler at v.0 v.1 ∙ ap (λ (o : Option ℕ). or_else o (byte_at firmware at)) (none_shown handler at w shown)) ∙ sym (b.1 at lt)
+        a.1 at lt ∙ ap byte_or_zero
+        (behind_vector firmware handler at v.0 v.1
+        ∙ ap (λ (o : Option ℕ). or_else o (byte_at firmware at)) (none_shown handler at w shown)) ∙ sym (b.1 at lt)
     each at shown (inr ge) =
         let a = holds (joint_bytes firmware handler) in
         let b = holds firmware in
         let sa = a.0 in
         let sb = b.0 in
-        get_or_past (joint_memory firmware handler) at 0 (omega arith) ∙ sym (get_or_past (image_memory firmware) at 0 (omega arith))
+        get_or_past (joint_memory firmware handler) at 0 (omega arith)
+        ∙ sym (get_or_past (image_memory firmware) at 0 (omega arith))
 
 -- the handler's bytes stand in it
-pub joint_has : HoldsImage → (firmware handler : List (ℕ × ℕ)) → IsWhole handler → HasImage handler (joint_memory firmware handler)
+pub joint_has : HoldsImage → (firmware handler : List (ℕ × ℕ)) → IsWhole handler
+    → HasImage handler (joint_memory firmware handler)
 joint_has holds firmware handler w =
     let a = holds (joint_bytes firmware handler) in
     record {
@@ -105,16 +114,20 @@ joint_has holds firmware handler w =
       bytes = λ at byte e.
           (let r = in_code handler at byte w e in
           let hi = r.1 in
-          a.1 at (omega arith) ∙ ap byte_or_zero (behind_vector firmware handler at (λ z. omega arith) (λ z. omega arith) ∙ ap (λ (o : Option ℕ). or_else o (byte_at firmware at)) e));
+          a.1 at (omega arith)
+          ∙ ap byte_or_zero (behind_vector firmware handler at (λ z. omega arith) (λ z. omega arith)
+          ∙ ap (λ (o : Option ℕ). or_else o (byte_at firmware at)) e));
     }
 
 -- the handler stands in the first state
-pub first_stands : (f : Firmware) (flags : ℕ) (handler : List (ℕ × ℕ)) (most : ℕ) (mem : List ℕ) (w : State) → IsWhole handler → FirstAlike is_open_to_code f flags mem w
+pub first_stands : (f : Firmware) (flags : ℕ) (handler : List (ℕ × ℕ)) (most : ℕ) (mem : List ℕ) (w : State)
+    → IsWhole handler → FirstAlike is_open_to_code f flags mem w
     → HasImage handler mem → HandlerStands handler most [] w
 first_stands f flags handler most mem w whole h has = record {
   image = record {
     vector = ap₂ (λ (x y : ℕ). x * 2 ^ 8 + y) (h.open_bytes 65522 refl) (h.open_bytes 65523 refl) ∙ has.vector;
-    bytes = λ at byte e. (let r = in_code handler at byte whole e in h.open_bytes at (code_open at r.0 r.1) ∙ has.bytes at byte e);
+    bytes = λ at byte e.
+        (let r = in_code handler at byte whole e in h.open_bytes at (code_open at r.0 r.1) ∙ has.bytes at byte e);
   };
   short = λ k x lt. absurd (omega arith);
 }

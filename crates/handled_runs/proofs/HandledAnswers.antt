@@ -43,13 +43,15 @@ AreFew (x ∷ xs) = (length x ≤ 8) × AreFew xs
 
 all_few : (b : Block) (samples : List (List ℕ)) → length b.inputs ≤ 8 → All (AreInputBytes b) samples → AreFew samples
 all_few b [] few all = tt
-all_few b (x ∷ xs) few all = (let i = all 0 x (omega arith) in omega (arith, i.count), all_few b xs few (λ k d lt. all (suc k) d (omega arith)))
+all_few b (x ∷ xs) few all =
+    (let i = all 0 x (omega arith) in omega (arith, i.count), all_few b xs few (λ k d lt. all (suc k) d (omega arith)))
 
 given_same : (l : Layout) (x : List ℕ) (s : State) → length x ≤ 8 → given l (take 8 x) s ≡ given l x s
 given_same l x s few = ap (λ (v : List ℕ). given l v s) (take_all 8 x few)
 
 -- the run without interrupts is that of listed writes
-complete : (P : State → Type 0) (flags : ℕ) (f : Firmware) (most : ℕ) (ns : List ℕ) (samples : List (List ℕ)) (s : State) → AreFew samples
+complete : (P : State → Type 0) (flags : ℕ) (f : Firmware) (most : ℕ) (ns : List ℕ) (samples : List (List ℕ))
+    (s : State) → AreFew samples
     → AllComplete P (with_writes flags f) ns samples s → AllComplete P (with_code flags f most) ns samples s
 complete P flags f most [] [] s few h = h
 complete P flags f most (n ∷ ns) [] s few h = h
@@ -57,22 +59,27 @@ complete P flags f most [] (x ∷ xs) s few h = h
 complete P flags f most (n ∷ ns) (x ∷ xs) s few h =
     let e = given_same f.layout x s few.0 in
     let one = h.0 in
-    let moved : Completes P (with_code flags f most) 0 n n (given f.layout x s) = record { sum = one.sum; holds = one.holds; on = one.on; ended = one.ended } in (
+    let moved : Completes P (with_code flags f most) 0 n n (given f.layout x s) =
+    record { sum = one.sum; holds = one.holds; on = one.on; ended = one.ended } in (
       subst (λ (u : State). Completes P (with_code flags f most) 0 n n u) (sym e) moved,
       subst (λ (u : State). AllComplete P (with_code flags f most) ns xs (uninterrupted flags n u)) (sym e)
           (complete P flags f most ns xs (uninterrupted flags n (given f.layout x s)) few.1 h.1),
     )
 
 -- so are the rows that are expected
-expected : (flags : ℕ) (f : Firmware) (most : ℕ) (asks : ℕ → List Request) (k : ℕ) (ns : List ℕ) (samples : List (List ℕ)) (s : State) → AreFew samples
-    → expected_rows (with_code flags f most) asks k ns samples s ≡ expected_rows (with_writes flags f) asks k ns samples s
+expected : (flags : ℕ) (f : Firmware) (most : ℕ) (asks : ℕ → List Request) (k : ℕ) (ns : List ℕ)
+    (samples : List (List ℕ)) (s : State) → AreFew samples
+    → expected_rows (with_code flags f most) asks k ns samples s ≡ expected_rows
+    (with_writes flags f) asks k ns samples s
 expected flags f most asks k [] samples s few = refl
 expected flags f most asks k (n ∷ ns) [] s few = refl
 expected flags f most asks k (n ∷ ns) (x ∷ xs) s few =
     let e = given_same f.layout x s few.0 in
     let code = with_code flags f most in
-    ap (λ (u : State). expected_row code (asks k) n x u ∷ expected_rows code asks (suc k) ns xs (uninterrupted flags n u)) e
-    ∙ ap (λ (rows : List (RowSeen (List ℕ))). expected_row (with_writes flags f) (asks k) n x (given f.layout x s) ∷ rows)
+    ap (λ (u : State). expected_row code (asks k) n x u ∷ expected_rows code asks (suc k) ns xs
+    (uninterrupted flags n u)) e
+    ∙ ap (λ (rows : List (RowSeen (List ℕ))). expected_row (with_writes flags f) (asks k) n x
+    (given f.layout x s) ∷ rows)
     (expected flags f most asks (suc k) ns xs (uninterrupted flags n (given f.layout x s)) few.1)
 
 -- the laws of lower crates, and the law on runs
@@ -84,40 +91,64 @@ pub record Laws : Type 0 where
   pub runs_follow_beside : RunsFollowBeside
   pub requests_are_good : RequestsAreGood
   pub runs_follow : (x : Handled)
-      → RunsFollow is_open_to_code (with_code x.flags x.firmware x.most) (FactsBeside is_open_to_code x.flags x.firmware) IsGoodRequest (HandlerStands x.handler x.most)
+      → RunsFollow is_open_to_code (with_code x.flags x.firmware x.most)
+      (FactsBeside is_open_to_code x.flags x.firmware) IsGoodRequest (HandlerStands x.handler x.most)
 
 pub handled_answers : Laws → HandledAnswers
 handled_answers laws b f handler most flags samples plan hf good is v limits h all =
-    let leaves : LeavesLayout is_open_to_code f.layout = subst (λ (l : Layout). LeavesLayout is_open_to_code l) (sym h.layout) code_leaves in
+    let leaves : LeavesLayout is_open_to_code f.layout =
+    subst (λ (l : Layout). LeavesLayout is_open_to_code l) (sym h.layout) code_leaves in
     let runs = laws.firmware_runs_beside is_open_to_code b f flags samples hf leaves v limits h all in
     let ns = runs.ns in
     let few = all_few b samples v.few_inputs all in
     let mem = joint_memory f.image.bytes handler in
     let w = first_handled f handler flags in
     let s = first_state f flags in
-    let alike : FirstAlike is_open_to_code f flags mem w = laws.first_states_alike is_open_to_code b f flags mem hf leaves v limits h (joint_agrees laws.holds_image f.image.bytes handler is.whole) in
-    let stands : HandlerStands handler most [] w = first_stands f flags handler most mem w is.whole alike (joint_has laws.holds_image f.image.bytes handler is.whole) in
-    let inputs : f.layout.samples + 8 ≤ 0x1800 = subst (λ (l : Layout). l.samples + 8 ≤ 0x1800) (sym h.layout) (omega arith) in
-    let x : Handled = record { laws = laws.code; flags = flags; firmware = f; low = runs.low; samples = inputs; handler = handler; most = most; is_handler = is } in
+    let alike : FirstAlike is_open_to_code f flags mem w =
+    laws.first_states_alike is_open_to_code b f flags mem hf leaves v limits h
+    (joint_agrees laws.holds_image f.image.bytes handler is.whole) in
+    let stands : HandlerStands handler most [] w =
+    first_stands f flags handler most mem w is.whole alike
+    (joint_has laws.holds_image f.image.bytes handler is.whole) in
+    let inputs : f.layout.samples + 8 ≤ 0x1800 =
+    subst (λ (l : Layout). l.samples + 8 ≤ 0x1800) (sym h.layout) (omega arith) in
+    let x : Handled = record {
+      laws = laws.code;
+      flags = flags;
+      firmware = f;
+      low = runs.low;
+      samples = inputs;
+      handler = handler;
+      most =
+          most;
+      is_handler = is;
+    } in
     let asks : ℕ → List Request = λ k. requests_of k plan in
     let P = FactsBeside is_open_to_code flags f in
     let code = laws.runs_follow x asks (laws.requests_are_good plan good) [] 1 f.step_bound ns samples w s runs.within
     (complete P flags f most ns samples s few runs.complete) (first_same is_open_to_code f flags mem w alike) stands in
-    let listed = laws.runs_follow_beside is_open_to_code flags f opens_free runs.low asks (laws.requests_are_good plan good) [] 1 f.step_bound ns samples s s runs.within
-    runs.complete (record { regs = refl; temps = refl; mem = agree_self (is_hidden is_open_to_code s.regs.sp) s.mem }) tt in
+    let listed = laws.runs_follow_beside is_open_to_code flags f opens_free runs.low asks
+    (laws.requests_are_good plan good) [] 1 f.step_bound ns samples s s runs.within
+    runs.complete (record { regs = refl; temps = refl; mem = agree_self (is_hidden is_open_to_code s.regs.sp) s.mem })
+    tt in
     let own = code.own in
     record {
       arrived = code.arrived;
       rows_are = code.rows_are ∙ expected flags f most asks 1 ns samples s few ∙ sym listed.rows_are;
-      short = (all_onto_all (λ (t : Request × ℕ). t.1 ≤ most) (handled_rows f handler most samples plan flags).told [] own.short).0;
+      short = (all_onto_all (λ (t : Request × ℕ). t.1 ≤ most) (handled_rows f handler most samples plan flags).told []
+          own.short).0;
     }
 
 -- the rows as they are shown
-pub handles_block : HandledAnswers → RowsAreShown (List ℕ) Request ℕ → (f : Firmware) (handler : List (ℕ × ℕ)) (most flags : ℕ) (samples : List (List ℕ)) (plan : List Request) (rows : List HandledSeen)
-    → flags < 2 ^ 8 → IsGood plan → IsHandler handler most → rows ≡ handled_seen f handler most samples plan flags → HandlesItsBlock f handler most flags samples plan rows
+pub handles_block : HandledAnswers → RowsAreShown (List ℕ) Request ℕ
+    → (f : Firmware) (handler : List (ℕ × ℕ)) (most flags : ℕ) (samples : List (List ℕ)) (plan : List Request)
+    (rows : List HandledSeen)
+    → flags < 2 ^ 8 → IsGood plan → IsHandler handler most → rows ≡ handled_seen f handler most samples plan flags
+    → HandlesItsBlock f handler most flags samples plan rows
 handles_block law shows f handler most flags samples plan rows hf good is same b v limits h all =
     let run = handled_rows f handler most samples plan flags in
-    let are = shows (with_code flags f most) f.step_bound (λ k. requests_of k plan) 1 samples (first_handled f handler flags) in
+    let are = shows (with_code flags f most) f.step_bound (λ k. requests_of k plan) 1 samples
+    (first_handled f handler flags) in
     let under = law b f handler most flags samples plan hf good is v limits h all in
     record {
       listed = ap (λ (rs : List HandledSeen). map (λ (r : HandledSeen). r.row) rs) same
@@ -127,7 +158,8 @@ handles_block law shows f handler most flags samples plan rows hf good is same b
       run = under;
       steps = ap (λ (rs : List HandledSeen). map (λ (r : HandledSeen). r.handler) rs) same
           ∙ map-shown_rows (λ (r : HandledSeen). r.handler) with_steps run.rows run.told
-          ∙ sym (map-shown_rows (λ (steps : List ℕ). sum steps) (λ (row : RowSeen (List ℕ)) (steps : List ℕ). steps) run.rows run.told)
+          ∙ sym (map-shown_rows (λ (steps : List ℕ). sum steps) (λ (row : RowSeen (List ℕ)) (steps : List ℕ). steps)
+          run.rows run.told)
           ∙ ap (λ (steps : List (List ℕ)). map (λ (s : List ℕ). sum s) steps) are.told
           ∙ map-map (λ (s : List ℕ). sum s) (λ (ts : List (Request × ℕ)). tellings ts) run.told;
     }

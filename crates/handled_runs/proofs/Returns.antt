@@ -12,19 +12,23 @@ is_rti v e = grind (arith, nat_tests)
 not_rti : (v : ℕ) → (v ≡ 11 → ⊥) → (v == 11) ≡ false
 not_rti v e = grind (arith, nat_tests)
 
-pub back_now : (flags n : ℕ) (s : State) (next : Next) → 0 < n → next_of flags s ≡ Ok next → get_or s.mem s.regs.pc 0 ≡ 11
+pub back_now : (flags n : ℕ) (s : State) (next : Next) → 0 < n → next_of flags s ≡ Ok next
+    → get_or s.mem s.regs.pc 0 ≡ 11
     → until_rti flags n s ≡ record { state = next.state; steps = 1; done = true }
 unfolding until_rti
 back_now flags zero s next l o b = absurd (omega arith)
 back_now flags (suc n) s next l o b = let t = is_rti (get_or s.mem s.regs.pc 0) b in rw (o, t) refl
 
-pub back_later : (flags n : ℕ) (s : State) (next : Next) → 0 < n → next_of flags s ≡ Ok next → (get_or s.mem s.regs.pc 0 ≡ 11 → ⊥)
+pub back_later : (flags n : ℕ) (s : State) (next : Next) → 0 < n → next_of flags s ≡ Ok next
+    → (get_or s.mem s.regs.pc 0 ≡ 11 → ⊥)
     → until_rti flags n s ≡ one_step (until_rti flags (n - 1) next.state)
 unfolding until_rti
 back_later flags zero s next l o b = absurd (omega arith)
-back_later flags (suc n) s next l o b = let t = not_rti (get_or s.mem s.regs.pc 0) b in let m : suc n - 1 ≡ n = omega arith in rw (o, t, m) refl
+back_later flags (suc n) s next l o b = let t = not_rti (get_or s.mem s.regs.pc 0) b in
+    let m : suc n - 1 ≡ n = omega arith in rw (o, t, m) refl
 
-pub back_never : (flags n : ℕ) (s : State) (byte : ℕ) → next_of flags s ≡ Err byte → until_rti flags n s ≡ record { state = s; steps = 0; done = false }
+pub back_never : (flags n : ℕ) (s : State) (byte : ℕ) → next_of flags s ≡ Err byte
+    → until_rti flags n s ≡ record { state = s; steps = 0; done = false }
 unfolding until_rti
 back_never flags zero s byte o = refl
 back_never flags (suc n) s byte o = rw o refl

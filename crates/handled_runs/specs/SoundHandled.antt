@@ -1,6 +1,7 @@
 -- A firmware whose interrupts run an accepted handler is a sound form. The proof stands here, where an impl can cite
 -- it.
-use Rattle.std.proofs.Common.{◌≡◌, ℕ, zero, suc, ◌+◌, ◌<◌, ◌≤◌, ◌⊎◌, inl, inr, Bool, true, false, Some, List, [], ◌∷◌, length, get_or, refl, ap, sym, ◌∙◌, subst, arith, nat_lt, nat_le}
+use Rattle.std.proofs.Common.{◌≡◌, ℕ, zero, suc, ◌+◌, ◌<◌, ◌≤◌, ◌⊎◌, inl, inr, Bool, true, false, Some, List, [], ◌∷◌}
+use Rattle.std.proofs.Common.{length, get_or, refl, ap, sym, ◌∙◌, subst, arith, nat_lt, nat_le}
 use Rattle.std.specs.Prelude.{All, take, ◌&&◌, ◌||◌}
 use Rattle.std.specs.Option.{is_some}
 use Rattle.std.proofs.lemmas.Bool.{or_parts, cases_lt}
@@ -173,7 +174,12 @@ serves x done a v s good p begins own =
     let sp : v.regs.sp ≤ 0x2000 =
     subst (λ (r : Regs). r.sp ≤ 0x2000) (sym begins.regs) (below_near s.regs s.temps near.0 near.1) in
     let whole = (let k = x.is_handler in k.whole) in (
-      record { regs = u.regs; temps = u.temps; mem = more_hidden v.regs.sp (served x.flags x.most a v).state.mem v.mem u.mem },
+      record {
+        regs = u.regs;
+        temps = u.temps;
+        mem =
+            more_hidden v.regs.sp (served x.flags x.most a v).state.mem v.mem u.mem;
+      },
       record {
         image = image_stays x.handler v.mem (served x.flags x.most a v).state.mem whole
             (λ at from is. u.mem.bytes at (shown_high v.regs.sp at sp from)) own.image;

@@ -86,7 +86,8 @@ impl<'a> RunForm<Request, u16, HandledRow> for WithCode<'a> {
             → (code_harness self.now.firmware.now self.now.most self.now.samples.now).seen result
             ≡ shown_by (code_harness self.now.firmware.now self.now.most self.now.samples.now).shows
             (code_harness self.now.firmware.now self.now.most self.now.samples.now).parts.answers
-            (counted_at (code_harness self.now.firmware.now self.now.most self.now.samples.now).told tally m.now.state) x }
+            (counted_at (code_harness self.now.firmware.now self.now.most self.now.samples.now).told tally
+            m.now.state) x }
     {
         let handler = steps_in(tally.told.as_slice());
         let bytes = self.samples[k].bytes.as_slice();

@@ -1,15 +1,26 @@
 -- What an allowed instruction does to SP, to PC, to the X flag and to memory.
-use Rattle.std.proofs.Common.{◌≡◌, ℕ, ◌+◌, ◌*◌, ◌/◌, ◌%◌, ◌^◌, ◌<◌, ◌≤◌, Bool, true, false, nat_lt, nat_le, ◌-◌, ◌&&◌, ◌||◌, List, [], ◌∷◌, get_or, refl, ap, sym, ◌∙◌, subst, arith, rules, inl, inr, bit_and, bit_or}
+use Rattle.std.proofs.Common.{◌≡◌, ℕ, ◌+◌, ◌*◌, ◌/◌, ◌%◌, ◌^◌, ◌<◌, ◌≤◌, Bool, true, false, nat_lt, nat_le, ◌-◌, ◌&&◌}
+use Rattle.std.proofs.Common.{◌||◌, List, [], ◌∷◌, get_or, refl, ap, sym, ◌∙◌, subst, arith, rules, inl, inr, bit_and}
+use Rattle.std.proofs.Common.{bit_or}
 use Rattle.std.specs.Prelude.{if◌then◌else◌, ◌==◌}
 use Rattle.std.proofs.lemmas.Bool.{false≢true}
 use Rattle.std.proofs.lemmas.Bool.Decides.{nat_tests}
 use Rattle.cpu12_isa.specs.declared.instr.Regs.{Regs}
 use Rattle.cpu12_isa.specs.declared.instr.Ccr.{Ccr}
 use Rattle.cpu12_isa.specs.declared.instr.Instr.{Instr}
-use Rattle.cpu12_isa.specs.declared.instr.Instr.TheVariants.{LdaaImmediate, LdaaExtended, LdabImmediate, LdabExtended, LdxImmediate, LdyImmediate, StaaExtended, StabExtended, ClrExtended, Coma, CpxImmediate, Beq, Bne, Bcc, Bcs, Bra, Orcc, Ediv, Rti, IncExtended, DecExtended, AddaImmediate, AddaExtended, AddbImmediate, AddbExtended, AddbPostIncrementX, AdcaImmediate, SubaImmediate, SubaExtended, CmpaImmediate, CmpaExtended, AndaImmediate, AndaExtended, OraaImmediate, OraaExtended, Inx, Dex, Iny, Dey, Psha, Pula}
+use Rattle.cpu12_isa.specs.declared.instr.Instr.TheVariants.{LdaaImmediate, LdaaExtended, LdabImmediate, LdabExtended}
+use Rattle.cpu12_isa.specs.declared.instr.Instr.TheVariants.{LdxImmediate, LdyImmediate, StaaExtended, StabExtended}
+use Rattle.cpu12_isa.specs.declared.instr.Instr.TheVariants.{ClrExtended, Coma, CpxImmediate, Beq, Bne, Bcc, Bcs, Bra}
+use Rattle.cpu12_isa.specs.declared.instr.Instr.TheVariants.{Orcc, Ediv, Rti, IncExtended, DecExtended, AddaImmediate}
+use Rattle.cpu12_isa.specs.declared.instr.Instr.TheVariants.{AddaExtended, AddbImmediate, AddbExtended}
+use Rattle.cpu12_isa.specs.declared.instr.Instr.TheVariants.{AddbPostIncrementX, AdcaImmediate, SubaImmediate}
+use Rattle.cpu12_isa.specs.declared.instr.Instr.TheVariants.{SubaExtended, CmpaImmediate, CmpaExtended, AndaImmediate}
+use Rattle.cpu12_isa.specs.declared.instr.Instr.TheVariants.{AndaExtended, OraaImmediate, OraaExtended, Inx, Dex, Iny}
+use Rattle.cpu12_isa.specs.declared.instr.Instr.TheVariants.{Dey, Psha, Pula}
 use Rattle.cpu12_isa.specs.Act.{Act, Give, Get, outcome}
 use Rattle.cpu12_isa.specs.Memory.{plus}
-use Rattle.cpu12_isa.specs.Flags.{carry, overflow, put, opened, tested, tested_word, added, added_with_carry, subtracted, subtracted_word, sum_with_carry}
+use Rattle.cpu12_isa.specs.Flags.{carry, overflow, put, opened, tested, tested_word, added, added_with_carry}
+use Rattle.cpu12_isa.specs.Flags.{subtracted, subtracted_word, sum_with_carry}
 use Rattle.cpu12_isa.specs.Registers.{branched, divided, offset}
 use Rattle.cpu12_isa.specs.Meaning.{act_of, effect}
 use Rattle.cpu12_isa.proofs.Algebra.{bit, bit_or_is, bit_and_is}
@@ -43,14 +54,31 @@ choice P false x y p q = q
 divided_is : (P : Regs → Type 0) (flags : ℕ) (r : Regs)
     → P (record r { pc = plus r.pc 1; ccr = put (opened r.ccr 14 flags) carry true })
     → P (record r { pc = plus r.pc 1; ccr = put (put (opened r.ccr 12 flags) overflow true) carry false })
-    → P (let n = r.y * 2 ^ 16 + (r.a * 2 ^ 8 + r.b) in record r { y = n / r.x; a = n % r.x / 2 ^ 8; b = n % r.x % 2 ^ 8; pc = plus r.pc 1; ccr = put (tested_word r.ccr (n / r.x)) carry false })
+    → P (let n = r.y * 2 ^ 16 + (r.a * 2 ^ 8 + r.b) in
+    record r {
+      y = n / r.x;
+      a = n % r.x / 2 ^ 8;
+      b = n % r.x % 2 ^ 8;
+      pc = plus r.pc 1;
+      ccr =
+          put (tested_word r.ccr (n / r.x)) carry false;
+    })
     → P (divided flags r)
 divided_is P flags r p q s =
     let n : ℕ = r.y * 2 ^ 16 + (r.a * 2 ^ 8 + r.b) in
     let none : Regs = record r { pc = plus r.pc 1; ccr = put (opened r.ccr 14 flags) carry true } in
-    let over : Regs = record r { pc = plus r.pc 1; ccr = put (put (opened r.ccr 12 flags) overflow true) carry false } in
-    let good : Regs = record r { y = n / r.x; a = n % r.x / 2 ^ 8; b = n % r.x % 2 ^ 8; pc = plus r.pc 1; ccr = put (tested_word r.ccr (n / r.x)) carry false } in
-    choice P (r.x == 0) none (if nat_le 65536 (n / r.x) then over else good) p (choice P (nat_le 65536 (n / r.x)) over good q s)
+    let over : Regs = record r
+    { pc = plus r.pc 1; ccr = put (put (opened r.ccr 12 flags) overflow true) carry false } in
+    let good : Regs = record r {
+      y = n / r.x;
+      a = n % r.x / 2 ^ 8;
+      b = n % r.x % 2 ^ 8;
+      pc = plus r.pc 1;
+      ccr =
+          put (tested_word r.ccr (n / r.x)) carry false;
+    } in
+    choice P (r.x == 0) none (if nat_le 65536 (n / r.x) then over else good) p
+    (choice P (nat_le 65536 (n / r.x)) over good q s)
 
 -- SP
 abbrev pub sp_after : Instr → ℕ → ℕ
@@ -58,7 +86,8 @@ sp_after Psha k = plus k 65535
 sp_after Pula k = plus k 1
 sp_after i k = k
 
-pub sp_moves : (flags : ℕ) (i : Instr) (r : Regs) → Where (is_stepping i) (Always (λ e. e.regs.sp ≡ sp_after i r.sp) (act_of flags i r))
+pub sp_moves : (flags : ℕ) (i : Instr) (r : Regs)
+    → Where (is_stepping i) (Always (λ e. e.regs.sp ≡ sp_after i r.sp) (act_of flags i r))
 sp_moves flags (LdaaImmediate v) r = refl
 sp_moves flags Ediv r = divided_is (λ k. k.sp ≡ r.sp) flags r refl refl refl
 sp_moves flags i r = search rules
@@ -68,7 +97,8 @@ abbrev pub written_at : Instr → ℕ → List ℕ
 written_at Psha sp = plus sp 65535 ∷ []
 written_at i sp = written_by i
 
-pub writes_are : (flags : ℕ) (i : Instr) (r : Regs) → Where (is_stepping i) (Always (λ e. addresses e.writes ≡ written_at i r.sp) (act_of flags i r))
+pub writes_are : (flags : ℕ) (i : Instr) (r : Regs)
+    → Where (is_stepping i) (Always (λ e. addresses e.writes ≡ written_at i r.sp) (act_of flags i r))
 writes_are flags (LdaaImmediate v) r = refl
 writes_are flags i r = search rules
 
@@ -81,7 +111,8 @@ is_straight (Bcs to) = false
 is_straight (Bra to) = false
 is_straight i = is_stepping i
 
-pc_passes : (flags : ℕ) (i : Instr) (r : Regs) → Where (is_straight i) (Always (λ e. e.regs.pc ≡ plus r.pc (size_of i)) (act_of flags i r))
+pc_passes : (flags : ℕ) (i : Instr) (r : Regs)
+    → Where (is_straight i) (Always (λ e. e.regs.pc ≡ plus r.pc (size_of i)) (act_of flags i r))
 pc_passes flags (LdaaImmediate v) r = refl
 pc_passes flags Ediv r = divided_is (λ k. k.pc ≡ plus r.pc 1) flags r refl refl refl
 pc_passes flags i r = search rules
@@ -94,9 +125,12 @@ far_of : (pc at to : ℕ) → pc ≡ at → at < 20480 → to < 128 → plus (pl
 far_of pc at to p lo l = let e : nat_lt to 128 ≡ true = grind (arith, nat_tests) in rw e (omega arith)
 
 taken : (pc at to : ℕ) → pc ≡ at → at < 20480 → to < 128 → IsIn (target at to) (plus (plus pc 2) (offset to))
-taken pc at to p lo l = subst (λ (ts : List ℕ). IsIn ts (plus (plus pc 2) (offset to))) (sym (target_is at to l)) (inl (far_of pc at to p lo l))
+taken pc at to p lo l =
+    subst (λ (ts : List ℕ). IsIn ts (plus (plus pc 2) (offset to))) (sym (target_is at to l))
+    (inl (far_of pc at to p lo l))
 
-branches : (r : Regs) (at to : ℕ) (go : Bool) → r.pc ≡ at → at < 20480 → to < 128 → IsIn ((at + 2) ∷ target at to) (branched r to go).pc
+branches : (r : Regs) (at to : ℕ) (go : Bool) → r.pc ≡ at → at < 20480 → to < 128
+    → IsIn ((at + 2) ∷ target at to) (branched r to go).pc
 branches r at to true p lo l = inr (taken r.pc at to p lo l)
 branches r at to false p lo l = inl (omega arith)
 
@@ -104,14 +138,19 @@ size_under : (i : Instr) → size_of i ≤ 6
 size_under (LdaaImmediate v) = omega arith
 size_under i = omega arith
 
-passes : (flags : ℕ) (i : Instr) (r : Regs) (m : List ℕ) (at : ℕ) → is_straight i ≡ true → r.pc ≡ at → at < 20480 → (effect flags i r m).regs.pc ≡ at + size_of i
+passes : (flags : ℕ) (i : Instr) (r : Regs) (m : List ℕ) (at : ℕ) → is_straight i ≡ true → r.pc ≡ at → at < 20480
+    → (effect flags i r m).regs.pc ≡ at + size_of i
 passes flags i r m at a p lo =
-    let e : (effect flags i r m).regs.pc ≡ plus r.pc (size_of i) = always_outcome (λ e. e.regs.pc ≡ plus r.pc (size_of i)) (act_of flags i r) m (there (is_straight i) (Always (λ e. e.regs.pc ≡ plus r.pc (size_of i)) (act_of flags i r)) (pc_passes flags i r) a) in
+    let e : (effect flags i r m).regs.pc ≡ plus r.pc (size_of i) =
+    always_outcome (λ e. e.regs.pc ≡ plus r.pc (size_of i)) (act_of flags i r) m
+    (there (is_straight i) (Always (λ e. e.regs.pc ≡ plus r.pc (size_of i)) (act_of flags i r))
+    (pc_passes flags i r) a) in
     let s : size_of i ≤ 6 = size_under i in
     let k : plus r.pc (size_of i) ≡ at + size_of i = omega arith in
     e ∙ k
 
-pub pc_leads : (flags : ℕ) (i : Instr) (r : Regs) (m : List ℕ) (at : ℕ) → is_stepping i ≡ true → GoesForward i → r.pc ≡ at → at < 20480 → IsIn (leads at i) (effect flags i r m).regs.pc
+pub pc_leads : (flags : ℕ) (i : Instr) (r : Regs) (m : List ℕ) (at : ℕ) → is_stepping i ≡ true → GoesForward i
+    → r.pc ≡ at → at < 20480 → IsIn (leads at i) (effect flags i r m).regs.pc
 pc_leads flags (Beq to) r m at a f p lo = branches r at to _ p lo f
 pc_leads flags (Bne to) r m at a f p lo = branches r at to _ p lo f
 pc_leads flags (Bcc to) r m at a f p lo = branches r at to _ p lo f
@@ -141,14 +180,17 @@ leads_on Rti at x s w = absurd w
 leads_on i at x s w = elim w [ inl e ↦ omega arith | inr k ↦ absurd k ]
 
 -- the X flag
-x_put : (c : Ccr) (k : ℕ) (b : Bool) → bit (2 ^ k) 6 ≡ false → bit (255 - 2 ^ k) 6 ≡ true → bit (put c k b).0 6 ≡ bit c.0 6
+x_put : (c : Ccr) (k : ℕ) (b : Bool) → bit (2 ^ k) 6 ≡ false → bit (255 - 2 ^ k) 6 ≡ true
+    → bit (put c k b).0 6 ≡ bit c.0 6
 x_put c k true e f = bit_or_is c.0 (2 ^ k) 6 ∙ ap (λ (t : Bool). t || bit c.0 6) e
 x_put c k false e f = bit_and_is c.0 (255 - 2 ^ k) 6 ∙ ap (λ (t : Bool). t && bit c.0 6) f
 
-x_opened : (c : Ccr) (mask flags : ℕ) → bit mask 6 ≡ false → bit (255 - mask) 6 ≡ true → bit (opened c mask flags).0 6 ≡ bit c.0 6
+x_opened : (c : Ccr) (mask flags : ℕ) → bit mask 6 ≡ false → bit (255 - mask) 6 ≡ true
+    → bit (opened c mask flags).0 6 ≡ bit c.0 6
 x_opened c mask flags e f =
     bit_or_is (bit_and c.0 (255 - mask)) (bit_and flags mask) 6
-    ∙ ap (λ (t : Bool). t || bit (bit_and c.0 (255 - mask)) 6) (bit_and_is flags mask 6 ∙ ap (λ (t : Bool). t && bit flags 6) e)
+    ∙ ap (λ (t : Bool). t || bit (bit_and c.0 (255 - mask)) 6)
+    (bit_and_is flags mask 6 ∙ ap (λ (t : Bool). t && bit flags 6) e)
     ∙ bit_and_is c.0 (255 - mask) 6
     ∙ ap (λ (t : Bool). t && bit c.0 6) f
 
@@ -159,32 +201,41 @@ x_tested_word : (c : Ccr) (v : ℕ) → bit (tested_word c v).0 6 ≡ bit c.0 6
 x_tested_word c v = x_put _ 1 false refl refl ∙ x_put _ 2 (v == 0) refl refl ∙ x_put c 3 (nat_le 32768 v) refl refl
 
 x_four : (c : Ccr) (p q s t : Bool) → bit (put (put (put (put c 3 p) 2 q) 1 s) 0 t).0 6 ≡ bit c.0 6
-x_four c p q s t = x_put (put (put (put c 3 p) 2 q) 1 s) 0 t refl refl ∙ x_put (put (put c 3 p) 2 q) 1 s refl refl ∙ x_put (put c 3 p) 2 q refl refl ∙ x_put c 3 p refl refl
+x_four c p q s t = x_put (put (put (put c 3 p) 2 q) 1 s) 0 t refl refl ∙ x_put (put (put c 3 p) 2 q) 1 s refl refl
+    ∙ x_put (put c 3 p) 2 q refl refl ∙ x_put c 3 p refl refl
 
 x_added : (c : Ccr) (u v : ℕ) → bit (added c u v).0 6 ≡ bit c.0 6
 x_added c u v =
     let s = (u + v) % 2 ^ 8 in
-    x_four (put c 5 (nat_le 16 (u % 16 + v % 16))) (nat_le 128 s) (s == 0) ((nat_le 128 u && nat_le 128 v && nat_lt s 128) || (nat_lt u 128 && nat_lt v 128 && nat_le 128 s)) (nat_le 256 (u + v)) ∙ x_put c 5 (nat_le 16 (u % 16 + v % 16)) refl refl
+    x_four (put c 5 (nat_le 16 (u % 16 + v % 16))) (nat_le 128 s) (s == 0)
+    ((nat_le 128 u && nat_le 128 v && nat_lt s 128) || (nat_lt u 128 && nat_lt v 128 && nat_le 128 s))
+    (nat_le 256 (u + v)) ∙ x_put c 5 (nat_le 16 (u % 16 + v % 16)) refl refl
 
 x_carried : (c : Ccr) (u v : ℕ) → bit (added_with_carry c u v).0 6 ≡ bit c.0 6
 x_carried c u v =
     let s = sum_with_carry c u v % 2 ^ 8 in
-    x_four (put c 5 (nat_le 16 (sum_with_carry c (u % 16) (v % 16)))) (nat_le 128 s) (s == 0) ((nat_le 128 u && nat_le 128 v && nat_lt s 128) || (nat_lt u 128 && nat_lt v 128 && nat_le 128 s)) (nat_le 256 (sum_with_carry c u v)) ∙ x_put c 5 (nat_le 16 (sum_with_carry c (u % 16) (v % 16))) refl refl
+    x_four (put c 5 (nat_le 16 (sum_with_carry c (u % 16) (v % 16)))) (nat_le 128 s) (s == 0)
+    ((nat_le 128 u && nat_le 128 v && nat_lt s 128) || (nat_lt u 128 && nat_lt v 128 && nat_le 128 s))
+    (nat_le 256 (sum_with_carry c u v)) ∙ x_put c 5 (nat_le 16 (sum_with_carry c (u % 16) (v % 16))) refl refl
 
 x_subtracted : (c : Ccr) (u v : ℕ) → bit (subtracted c u v).0 6 ≡ bit c.0 6
 x_subtracted c u v =
     let d = (u + (2 ^ 8 - v)) % 2 ^ 8 in
-    x_four c (nat_le 128 d) (d == 0) ((nat_le 128 u && nat_lt v 128 && nat_lt d 128) || (nat_lt u 128 && nat_le 128 v && nat_le 128 d)) (nat_lt u v)
+    x_four c (nat_le 128 d) (d == 0)
+    ((nat_le 128 u && nat_lt v 128 && nat_lt d 128) || (nat_lt u 128 && nat_le 128 v && nat_le 128 d)) (nat_lt u v)
 
 x_subtracted_word : (c : Ccr) (u v : ℕ) → bit (subtracted_word c u v).0 6 ≡ bit c.0 6
 x_subtracted_word c u v =
     let d = (u + (2 ^ 16 - v)) % 2 ^ 16 in
-    x_four c (nat_le 32768 d) (d == 0) ((nat_le 32768 u && nat_lt v 32768 && nat_lt d 32768) || (nat_lt u 32768 && nat_le 32768 v && nat_le 32768 d)) (nat_lt u v)
+    x_four c (nat_le 32768 d) (d == 0)
+    ((nat_le 32768 u && nat_lt v 32768 && nat_lt d 32768) || (nat_lt u 32768 && nat_le 32768 v && nat_le 32768 d))
+    (nat_lt u v)
 
 x_or : (c v : ℕ) → bit (bit_or c (bit_and v 191)) 6 ≡ bit c 6
 x_or c v = bit_or_is c (bit_and v 191) 6 ∙ ap (λ (t : Bool). t || bit c 6) (bit_and_is v 191 6)
 
-pub x_kept : (flags : ℕ) (i : Instr) (r : Regs) → Where (is_stepping i) (Always (λ e. bit e.regs.ccr.0 6 ≡ bit r.ccr.0 6) (act_of flags i r))
+pub x_kept : (flags : ℕ) (i : Instr) (r : Regs)
+    → Where (is_stepping i) (Always (λ e. bit e.regs.ccr.0 6 ≡ bit r.ccr.0 6) (act_of flags i r))
 x_kept flags (LdaaImmediate v) r = x_tested r.ccr v
 x_kept flags (LdaaExtended at) r = λ v. x_tested r.ccr v
 x_kept flags (LdabImmediate v) r = x_tested r.ccr v
@@ -201,8 +252,10 @@ x_kept flags Ediv r = divided_is (λ k. bit k.ccr.0 6 ≡ bit r.ccr.0 6) flags r
     (x_put _ 0 true refl refl ∙ x_opened r.ccr 14 flags refl refl)
     (x_put _ 0 false refl refl ∙ x_put _ 1 true refl refl ∙ x_opened r.ccr 12 flags refl refl)
     (x_put _ 0 false refl refl ∙ x_tested_word r.ccr ((r.y * 2 ^ 16 + (r.a * 2 ^ 8 + r.b)) / r.x))
-x_kept flags (IncExtended at) r = λ v. x_put (tested r.ccr ((v + 1) % 2 ^ 8)) 1 ((v + 1) % 2 ^ 8 == 128) refl refl ∙ x_tested r.ccr ((v + 1) % 2 ^ 8)
-x_kept flags (DecExtended at) r = λ v. x_put (tested r.ccr ((v + 255) % 2 ^ 8)) 1 ((v + 255) % 2 ^ 8 == 127) refl refl ∙ x_tested r.ccr ((v + 255) % 2 ^ 8)
+x_kept flags (IncExtended at) r = λ v. x_put (tested r.ccr ((v + 1) % 2 ^ 8)) 1 ((v + 1) % 2 ^ 8 == 128) refl refl
+    ∙ x_tested r.ccr ((v + 1) % 2 ^ 8)
+x_kept flags (DecExtended at) r = λ v. x_put (tested r.ccr ((v + 255) % 2 ^ 8)) 1 ((v + 255) % 2 ^ 8 == 127) refl refl
+    ∙ x_tested r.ccr ((v + 255) % 2 ^ 8)
 x_kept flags (AddaImmediate v) r = x_added r.ccr r.a v
 x_kept flags (AddaExtended at) r = λ v. x_added r.ccr r.a v
 x_kept flags (AddbImmediate v) r = x_added r.ccr r.b v

@@ -1,5 +1,6 @@
 -- What a handler writes, beside what is written to free bytes alone.
-use Rattle.std.proofs.Common.{◌≡◌, ℕ, ◌+◌, ◌<◌, ◌≤◌, Bool, true, false, ◌&&◌, nat_lt, nat_le, List, [], ◌∷◌, ◌++◌, length, get_or, refl, sym, ◌∙◌, subst, arith, inl, inr, ◌⊎◌, get_or-set_other}
+use Rattle.std.proofs.Common.{◌≡◌, ℕ, ◌+◌, ◌<◌, ◌≤◌, Bool, true, false, ◌&&◌, nat_lt, nat_le, List, [], ◌∷◌, ◌++◌}
+use Rattle.std.proofs.Common.{length, get_or, refl, sym, ◌∙◌, subst, arith, inl, inr, ◌⊎◌, get_or-set_other}
 use Rattle.std.proofs.lemmas.Bool.{false≢true, or_parts}
 use Rattle.std.proofs.lemmas.Bool.Decides.{nat_tests}
 use Rattle.std.proofs.lemmas.List.{length-set}
@@ -46,7 +47,8 @@ hides base i v m n lo hi a = record {
 }
   where
     other : (at : ℕ) → under base at ≡ false → at ≡ i → ⊥
-    other at h e = let t : (nat_le 8160 at && nat_lt at base) ≡ true = grind (arith, nat_tests) in false≢true (sym (or_parts false (nat_le 8160 at && nat_lt at base) h).1 ∙ t)
+    other at h e = let t : (nat_le 8160 at && nat_lt at base) ≡ true = grind (arith, nat_tests) in
+        false≢true (sym (or_parts false (nat_le 8160 at && nat_lt at base) h).1 ∙ t)
 
 -- writes of a handler, and those of them that are to free bytes
 pub record Shadowed (base : ℕ) (m n : List ℕ) : Type 0 where
@@ -54,16 +56,20 @@ pub record Shadowed (base : ℕ) (m n : List ℕ) : Type 0 where
   pub free : AreOpen is_free writes
   pub mem : Agree (under base) m (write_all (pairs_of writes) n)
 
-pub shadow : WritesAgree → (base : ℕ) (ws : List (ℕ × ℕ)) (m n : List ℕ) → Agree (under base) m n → AllFine base ws → Shadowed base (write_all ws m) n
+pub shadow : WritesAgree → (base : ℕ) (ws : List (ℕ × ℕ)) (m n : List ℕ) → Agree (under base) m n → AllFine base ws
+    → Shadowed base (write_all ws m) n
 shadow agree base [] m n a f = record { writes = []; free = tt; mem = a }
 shadow agree base (w ∷ ws) m n a f = elim f.0 [
-  | inl open_to ↦ (let r = shadow agree base ws (set m w.0 w.1) (set n w.0 w.1) (agree ((w.0, w.1) ∷ []) m n (under base) (under base) a (λ at h. inl h)) f.1 in
+  | inl open_to ↦ (let r =
+      shadow agree base ws (set m w.0 w.1) (set n w.0 w.1)
+      (agree ((w.0, w.1) ∷ []) m n (under base) (under base) a (λ at h. inl h)) f.1 in
       record { writes = record { at = w.0; value = w.1 } ∷ r.writes; free = (open_to, r.free); mem = r.mem })
   | inr low ↦ shadow agree base ws (set m w.0 w.1) n (hides base w.0 w.1 m n low.0 low.1 a) f.1
 ]
 
 -- further writes to the shadow
-pub write_append : (us ws : List Write) (m : List ℕ) → write_all (pairs_of ws) (write_all (pairs_of us) m) ≡ write_all (pairs_of (us ++ ws)) m
+pub write_append : (us ws : List Write) (m : List ℕ)
+    → write_all (pairs_of ws) (write_all (pairs_of us) m) ≡ write_all (pairs_of (us ++ ws)) m
 write_append [] ws m = refl
 write_append (u ∷ us) ws m = write_append us ws (set m u.at u.value)
 
@@ -76,20 +82,24 @@ open_fine base [] f = tt
 open_fine base (w ∷ ws) f = (inl f.0, open_fine base ws f.1)
 
 -- bytes that are neither free nor of the stack stay
-apart : (base : ℕ) (ws : List (ℕ × ℕ)) (at : ℕ) → base ≤ 8192 → AllFine base ws → (at < 6144) ⊎ (8192 ≤ at) → IsWritten ws at → ⊥
+apart : (base : ℕ) (ws : List (ℕ × ℕ)) (at : ℕ) → base ≤ 8192 → AllFine base ws → (at < 6144) ⊎ (8192 ≤ at)
+    → IsWritten ws at → ⊥
 apart base [] at b f o w = absurd w
 apart base (x ∷ ws) at b f o w = elim w [
   | inl e ↦ elim f.0 [
-    | inl free ↦ (let r = free_is x.0 free in elim o [ inl l ↦ omega (arith, r.0, r.1) | inr l ↦ omega (arith, r.0, r.1) ])
+    | inl free ↦ (let r = free_is x.0 free in
+        elim o [ inl l ↦ omega (arith, r.0, r.1) | inr l ↦ omega (arith, r.0, r.1) ])
     | inr low ↦ elim o [ inl l ↦ omega (arith, low.0, low.1) | inr l ↦ omega (arith, low.0, low.1) ]
   ]
   | inr k ↦ apart base ws at b f.1 o k
 ]
 
-pub stays : (base : ℕ) (ws : List (ℕ × ℕ)) (m : List ℕ) (at : ℕ) → base ≤ 8192 → AllFine base ws → (at < 6144) ⊎ (8192 ≤ at) → get_or (write_all ws m) at 0 ≡ get_or m at 0
+pub stays : (base : ℕ) (ws : List (ℕ × ℕ)) (m : List ℕ) (at : ℕ) → base ≤ 8192 → AllFine base ws
+    → (at < 6144) ⊎ (8192 ≤ at) → get_or (write_all ws m) at 0 ≡ get_or m at 0
 stays base ws m at b f o = unwritten ws m at (λ w. apart base ws at b f o w)
 
-pub code_stays : (base : ℕ) (ws : List (ℕ × ℕ)) (m : List ℕ) (is : List Instr) → base ≤ 8192 → AllFine base ws → 16384 + length (code_bytes is) ≤ 20480 → HasCode is m → HasCode is (write_all ws m)
+pub code_stays : (base : ℕ) (ws : List (ℕ × ℕ)) (m : List ℕ) (is : List Instr) → base ≤ 8192 → AllFine base ws
+    → 16384 + length (code_bytes is) ≤ 20480 → HasCode is m → HasCode is (write_all ws m)
 code_stays base ws m is b f ends code at i w =
     let r = within 16384 is at i w in
     let low : 16384 ≤ at = r.0 in

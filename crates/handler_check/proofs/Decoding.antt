@@ -14,7 +14,8 @@ abbrev pub is_stepping : Instr → Bool
 is_stepping Rti = false
 is_stepping i = is_allowed i
 
-pub first_byte : (mem : List ℕ) (pc : ℕ) (i : Instr) → is_stepping i ≡ true → StandsAt mem pc i → (get_or mem pc 0 == 11) ≡ false
+pub first_byte : (mem : List ℕ) (pc : ℕ) (i : Instr) → is_stepping i ≡ true → StandsAt mem pc i
+    → (get_or mem pc 0 == 11) ≡ false
 first_byte mem pc Rti a s = absurd (false≢true a)
 first_byte mem pc i a s = ap (λ (k : ℕ). k == 11) s.0
 

@@ -1,5 +1,6 @@
 -- The interrupts of an accepted handler.
-use Rattle.std.proofs.Common.{◌≡◌, ℕ, ◌-◌, ◌<◌, ◌≤◌, Bool, true, false, ◌&&◌, nat_lt, nat_le, Some, List, get_or, refl, ap, sym, ◌∙◌, subst, arith, inl, inr}
+use Rattle.std.proofs.Common.{◌≡◌, ℕ, ◌-◌, ◌<◌, ◌≤◌, Bool, true, false, ◌&&◌, nat_lt, nat_le, Some, List, get_or, refl}
+use Rattle.std.proofs.Common.{ap, sym, ◌∙◌, subst, arith, inl, inr}
 use Rattle.std.specs.Option.{is_some}
 use Rattle.std.proofs.lemmas.Bool.{or_parts}
 use Rattle.std.proofs.lemmas.Bool.Decides.{nat_tests}
@@ -25,7 +26,8 @@ use Rattle.cpu12_emul.specs.Simulation.{AreOpen, TakesQuietly}
 use Rattle.run_law.proofs.Algebra.{below_fits}
 use Rattle.run_law.specs.Soundness.{below_sums, Begins, AreLeft}
 use Rattle.handler_check.specs.Images.{IsWhole, IsHandler}
-use Rattle.handler_check.specs.Running.{until_rti, at_code, HasHandler, HasImage, CanBegin, CanEnter, IsTake, AcceptedIsTake, HandlersRunAsTakes, HandlersAreQuiet}
+use Rattle.handler_check.specs.Running.{until_rti, at_code, HasHandler, HasImage, CanBegin, CanEnter, IsTake}
+use Rattle.handler_check.specs.Running.{AcceptedIsTake, HandlersRunAsTakes, HandlersAreQuiet}
 use Rattle.handler_check.proofs.Given.{code_by}
 use Rattle.handler_check.proofs.Good.{leaves}
 
@@ -45,14 +47,19 @@ high_at image at byte w e = not_low (λ l. w.inside at (has, inl l))
     has : is_some (byte_at image at) ≡ true
     has = ap is_some e
 
-image_moves : (image : List (ℕ × ℕ)) (sp : ℕ) (m n : List ℕ) → IsWhole image → sp ≤ 8192 → Agree (is_hidden is_free sp) m n → HasImage image n → HasImage image m
+image_moves : (image : List (ℕ × ℕ)) (sp : ℕ) (m n : List ℕ) → IsWhole image → sp ≤ 8192
+    → Agree (is_hidden is_free sp) m n → HasImage image n → HasImage image m
 image_moves image sp m n w l a h = record {
-  vector = ap (λ (k : ℕ). word_of k (get_or m 65523 0)) (a.bytes 65522 (shown_high sp 65522 l (omega arith))) ∙ ap (λ (k : ℕ). word_of (get_or n 65522 0) k) (a.bytes 65523 (shown_high sp 65523 l (omega arith))) ∙ h.vector;
-  bytes = λ at byte e. (let high = high_at image at byte w e in a.bytes at (shown_high sp at l (omega arith)) ∙ h.bytes at byte e);
+  vector = ap (λ (k : ℕ). word_of k (get_or m 65523 0)) (a.bytes 65522 (shown_high sp 65522 l (omega arith)))
+      ∙ ap (λ (k : ℕ). word_of (get_or n 65522 0) k) (a.bytes 65523 (shown_high sp 65523 l (omega arith))) ∙ h.vector;
+  bytes = λ at byte e.
+      (let high = high_at image at byte w e in a.bytes at (shown_high sp at l (omega arith)) ∙ h.bytes at byte e);
 }
 
-has_handler : (image : List (ℕ × ℕ)) (instrs : ℕ) (m : List ℕ) (k : IsHandler image instrs) → HasImage image m → HasHandler k.code m
-has_handler image instrs m k h = record { vector = h.vector; code = code_by image m k.code h.bytes k.accepted.ends k.cut.stands }
+has_handler : (image : List (ℕ × ℕ)) (instrs : ℕ) (m : List ℕ) (k : IsHandler image instrs) → HasImage image m
+    → HasHandler k.code m
+has_handler image instrs m k h =
+    record { vector = h.vector; code = code_by image m k.code h.bytes k.accepted.ends k.cut.stands }
 
 -- where code begins
 can_begin : (open_to : ℕ → Bool) (v s : State) → CanEnter s → Begins open_to v s → CanBegin v
@@ -66,9 +73,11 @@ can_begin open_to v s k b =
       high = subst (λ (r : Regs). r.sp ≤ 8192) (sym b.regs) (omega (arith, r.2, k.high));
     }
 
-takes : AcceptedIsTake → (image : List (ℕ × ℕ)) (instrs flags : ℕ) (ws : List Write) (v : State) → IsHandler image instrs → AreOpen is_free ws → HasImage image v.mem → CanBegin v
+takes : AcceptedIsTake → (image : List (ℕ × ℕ)) (instrs flags : ℕ) (ws : List Write) (v : State)
+    → IsHandler image instrs → AreOpen is_free ws → HasImage image v.mem → CanBegin v
     → IsTake flags instrs ws v
-takes law image instrs flags ws v k free h can = law k.code instrs flags k.accepted ws v free (has_handler image instrs v.mem k h) can
+takes law image instrs flags ws v k free h can =
+    law k.code instrs flags k.accepted ws v free (has_handler image instrs v.mem k h) can
 
 -- sums that stay as they were are left
 left_same : (t u v : Temps) → IsOff v → u ≡ v → AreLeft t u v
@@ -77,7 +86,8 @@ left_same Free u v off e = e
 left_same OnStack u v off e = e
 
 hides_less : (sp : ℕ) (m n : List ℕ) → Agree (is_hidden (λ at. false) sp) m n → Agree (is_hidden is_free sp) m n
-hides_less sp m n a = record { size = a.size; bytes = λ at h. a.bytes at (or_parts (is_free at) (nat_le 8160 at && nat_lt at sp) h).1 }
+hides_less sp m n a =
+    record { size = a.size; bytes = λ at h. a.bytes at (or_parts (is_free at) (nat_le 8160 at && nat_lt at sp) h).1 }
 
 pub handlers_are_quiet : AcceptedIsTake → TakesQuietly → HandlersAreQuiet
 handlers_are_quiet law quietly open_to image instrs flags ws v s k free h can b =
@@ -91,10 +101,14 @@ handlers_are_quiet law quietly open_to image instrs flags ws v s k free h can b 
     record {
       quiet = record {
         regs = l.regs ∙ u.regs;
-        temps = left_same s.temps (until_rti flags instrs (at_code ws v)).state.temps v.temps b.temps (l.temps ∙ u.temps);
-        mem = agree_with (is_hidden is_free v.regs.sp) (until_rti flags instrs (at_code ws v)).state.mem (framed t.writes v).mem v.mem
-            (subst (λ (n : ℕ). Agree (is_hidden is_free n) (until_rti flags instrs (at_code ws v)).state.mem (framed t.writes v).mem) sp
-            (hides_less (framed t.writes v).regs.sp (until_rti flags instrs (at_code ws v)).state.mem (framed t.writes v).mem l.mem)) u.mem;
+        temps = left_same s.temps (until_rti flags instrs (at_code ws v)).state.temps v.temps b.temps
+            (l.temps ∙ u.temps);
+        mem = agree_with (is_hidden is_free v.regs.sp) (until_rti flags instrs (at_code ws v)).state.mem
+            (framed t.writes v).mem v.mem
+            (subst (λ (n : ℕ). Agree (is_hidden is_free n) (until_rti flags instrs (at_code ws v)).state.mem
+            (framed t.writes v).mem) sp
+            (hides_less (framed t.writes v).regs.sp (until_rti flags instrs (at_code ws v)).state.mem
+            (framed t.writes v).mem l.mem)) u.mem;
       };
       back = t.back;
       steps = t.steps;
@@ -122,7 +136,8 @@ begins running none pushed s k = cases s.temps refl
           temps = inr refl;
           free = λ f. absurd (never f);
           regs = ap (below_sums s.regs) (sym e);
-          mem = subst (λ (n : ℕ). Agree (is_hidden is_free s.regs.sp) (write_all (placed n (sum_bytes p w)) s.mem) s.mem) sp (pushed is_free s.regs.sp 6 (sum_bytes p w) s.mem k.high refl (omega arith));
+          mem = subst (λ (n : ℕ). Agree (is_hidden is_free s.regs.sp) (write_all (placed n (sum_bytes p w)) s.mem)
+              s.mem) sp (pushed is_free s.regs.sp 6 (sum_bytes p w) s.mem k.high refl (omega arith));
         })
       where
         never : s.temps ≡ Free → ⊥
@@ -132,5 +147,6 @@ pub handlers_run_as_takes : AcceptedIsTake → PushesRunning → PushesNone → 
 handlers_run_as_takes law running none pushed image instrs k flags ws s free h can =
     let b = begins running none pushed s can in
     let there = image_moves image s.regs.sp (suspended wav s).mem s.mem k.whole can.high b.mem h in
-    let t = takes law image instrs flags ws (suspended wav s) k free there (can_begin is_free (suspended wav s) s can b) in
+    let t = takes law image instrs flags ws (suspended wav s) k free there
+    (can_begin is_free (suspended wav s) s can b) in
     record { writes = t.writes; free = t.free; back = t.back; steps = t.steps; same = t.same }

@@ -1,5 +1,7 @@
 -- Where the bytes of an image stand.
-use Rattle.std.proofs.Common.{◌≡◌, ◌≢◌, ℕ, ◌+◌, ◌-◌, ◌^◌, ◌<◌, ◌≤◌, Bool, true, false, ◌&&◌, nat_lt, nat_le, Ok, Option, Some, None, unwrap_or, List, length, get_or, refl, ap, sym, ◌∙◌, subst, arith, inl, inr, ◌⊎◌}
+use Rattle.std.proofs.Common.{◌≡◌, ◌≢◌, ℕ, ◌+◌, ◌-◌, ◌^◌, ◌<◌, ◌≤◌, Bool, true, false, ◌&&◌, nat_lt, nat_le, Ok, Option}
+use Rattle.std.proofs.Common.{Some, None, unwrap_or, List, length, get_or, refl, ap, sym, ◌∙◌, subst, arith, inl, inr}
+use Rattle.std.proofs.Common.{◌⊎◌}
 use Rattle.std.specs.Prelude.{if◌then◌else◌, IsSome, is_some}
 use Rattle.std.proofs.lemmas.Bool.{false≢true, cases_lt, cases_eq}
 use Rattle.std.proofs.lemmas.Bool.Decides.{nat_tests}
@@ -7,7 +9,8 @@ use Rattle.cpu12_isa.specs.declared.instr.Instr.{Instr}
 use Rattle.cpu12_isa.specs.Code.{encode_of, FitsOperands, decode_at, DecodesEncoded}
 use Rattle.cpu12_asm.specs.Bytes.{byte_at, IsFirstDifference}
 use Rattle.handler_check.specs.declared.faults.HandlerFault.{HandlerFault}
-use Rattle.handler_check.specs.declared.faults.HandlerFault.TheVariants.{Empty, Outside, Dead, Trap, Refused, NotFree, Backward, Target, Height, Falls, Memory}
+use Rattle.handler_check.specs.declared.faults.HandlerFault.TheVariants.{Empty, Outside, Dead, Trap, Refused, NotFree}
+use Rattle.handler_check.specs.declared.faults.HandlerFault.TheVariants.{Backward, Target, Height, Falls, Memory}
 use Rattle.handler_check.specs.Cut.{size_of, code_end, AllFit, IsAt, HasCode}
 use Rattle.handler_check.specs.Faults.{IsFirstFault}
 use Rattle.handler_check.specs.Images.{Gives, IsCut, is_trapped, IsOutside, IsWhole, IsRun, IsFault}
@@ -35,16 +38,22 @@ pub record Gathered (bytes inside : List (ℕ × ℕ)) (end : ℕ) : Type 0 wher
   pub some : (q : ℕ) → 16384 ≤ q → q < end → IsSome (byte_at bytes q)
   pub ends : end < 20480 → byte_at bytes end ≡ None
 
-inside_at : (bytes inside : List (ℕ × ℕ)) (end q : ℕ) → Gathered bytes inside end → 16384 ≤ q → q < end → byte_at inside q ≡ byte_at bytes q
-inside_at bytes inside end q g l h = let t : (nat_le 16384 q && nat_lt q end) ≡ true = grind (arith, nat_tests) in g.bytes_are q ∙ ap (λ (b : Bool). if b then byte_at bytes q else None) t
+inside_at : (bytes inside : List (ℕ × ℕ)) (end q : ℕ) → Gathered bytes inside end → 16384 ≤ q → q < end
+    → byte_at inside q ≡ byte_at bytes q
+inside_at bytes inside end q g l h = let t : (nat_le 16384 q && nat_lt q end) ≡ true = grind (arith, nat_tests) in
+    g.bytes_are q ∙ ap (λ (b : Bool). if b then byte_at bytes q else None) t
 
-outside_at : (bytes inside : List (ℕ × ℕ)) (end q : ℕ) → Gathered bytes inside end → (q < 16384) ⊎ (end ≤ q) → byte_at inside q ≡ None
+outside_at : (bytes inside : List (ℕ × ℕ)) (end q : ℕ) → Gathered bytes inside end → (q < 16384) ⊎ (end ≤ q)
+    → byte_at inside q ≡ None
 outside_at bytes inside end q g o = elim o [
-  | inl l ↦ (let t : (nat_le 16384 q && nat_lt q end) ≡ false = grind (arith, nat_tests) in g.bytes_are q ∙ ap (λ (b : Bool). if b then byte_at bytes q else None) t)
-  | inr l ↦ (let t : (nat_le 16384 q && nat_lt q end) ≡ false = grind (arith, nat_tests) in g.bytes_are q ∙ ap (λ (b : Bool). if b then byte_at bytes q else None) t)
+  | inl l ↦ (let t : (nat_le 16384 q && nat_lt q end) ≡ false = grind (arith, nat_tests) in
+      g.bytes_are q ∙ ap (λ (b : Bool). if b then byte_at bytes q else None) t)
+  | inr l ↦ (let t : (nat_le 16384 q && nat_lt q end) ≡ false = grind (arith, nat_tests) in
+      g.bytes_are q ∙ ap (λ (b : Bool). if b then byte_at bytes q else None) t)
 ]
 
-pub run_of : (bytes inside : List (ℕ × ℕ)) (end : ℕ) → Gathered bytes inside end → (end ≡ 16384 → ⊥) → ((q : ℕ) → byte_at bytes q ≡ byte_at inside q) → IsRun bytes end
+pub run_of : (bytes inside : List (ℕ × ℕ)) (end : ℕ) → Gathered bytes inside end → (end ≡ 16384 → ⊥)
+    → ((q : ℕ) → byte_at bytes q ≡ byte_at inside q) → IsRun bytes end
 run_of bytes inside end g n same = record {
   begins = (let low = g.low in omega arith);
   within = g.high;
@@ -56,14 +65,16 @@ pub empty_of : (bytes inside : List (ℕ × ℕ)) (end : ℕ) → Gathered bytes
 empty_of bytes inside end g e = subst (λ (n : ℕ). byte_at bytes n ≡ None) e (g.ends (omega arith))
 
 -- the least byte that does not belong there
-first_outside : (bytes inside : List (ℕ × ℕ)) (end at : ℕ) → Gathered bytes inside end → byte_at bytes at ≢ byte_at inside at → IsOutside bytes at
+first_outside : (bytes inside : List (ℕ × ℕ)) (end at : ℕ) → Gathered bytes inside end
+    → byte_at bytes at ≢ byte_at inside at → IsOutside bytes at
 first_outside bytes inside end at g n = (has, where_is (cases_lt at 16384))
   where
     apart : 16384 ≤ at → at < end → ⊥
     apart l h = n (sym (inside_at bytes inside end at g l h))
 
     out : (at < 16384) ⊎ (end ≤ at)
-    out = elim (cases_lt at 16384) [ inl l ↦ inl l | inr l ↦ elim (cases_lt at end) [ inl h ↦ absurd (apart l h) | inr h ↦ inr h ] ]
+    out = elim (cases_lt at 16384)
+        [ inl l ↦ inl l | inr l ↦ elim (cases_lt at end) [ inl h ↦ absurd (apart l h) | inr h ↦ inr h ] ]
 
     has : IsSome (byte_at bytes at)
     has = some_else (byte_at bytes at) (λ e. n (e ∙ sym (outside_at bytes inside end at g out)))
@@ -78,23 +89,28 @@ first_outside bytes inside end at g n = (has, where_is (cases_lt at 16384))
         further (inl e) none = absurd (none_not (byte_at bytes at) (ap (byte_at bytes) e ∙ none) has)
         further (inr ne) none = omega arith
 
-    where_is : (at < 16384) ⊎ (16384 ≤ at) → (at < 16384) ⊎ ((20480 ≤ at) ⊎ ((gap : ℕ) × ((16384 ≤ gap) × (gap < at) × (byte_at bytes gap ≡ None))))
+    where_is : (at < 16384) ⊎ (16384 ≤ at)
+        → (at < 16384) ⊎ ((20480 ≤ at) ⊎ ((gap : ℕ) × ((16384 ≤ gap) × (gap < at) × (byte_at bytes gap ≡ None))))
     where_is (inl l) = inl l
     where_is (inr l) = elim (cases_lt at end) [ inl h ↦ absurd (apart l h) | inr h ↦ inr (behind h) ]
 
-none_outside : (bytes inside : List (ℕ × ℕ)) (end q : ℕ) → Gathered bytes inside end → byte_at bytes q ≡ byte_at inside q → IsOutside bytes q → ⊥
+none_outside : (bytes inside : List (ℕ × ℕ)) (end q : ℕ) → Gathered bytes inside end
+    → byte_at bytes q ≡ byte_at inside q → IsOutside bytes q → ⊥
 none_outside bytes inside end q g same o = elim o.1 [
   | inl l ↦ none_not (byte_at bytes q) (same ∙ outside_at bytes inside end q g (inl l)) o.0
   | inr r ↦ elim r [
-    | inl l ↦ (let high = g.high in none_not (byte_at bytes q) (same ∙ outside_at bytes inside end q g (inr (omega arith))) o.0)
-    | inr gap ↦ (let beyond = past gap.0 gap.1.0 gap.1.2 in let before = gap.1.1 in none_not (byte_at bytes q) (same ∙ outside_at bytes inside end q g (inr (omega arith))) o.0)
+    | inl l ↦ (let high = g.high in
+        none_not (byte_at bytes q) (same ∙ outside_at bytes inside end q g (inr (omega arith))) o.0)
+    | inr gap ↦ (let beyond = past gap.0 gap.1.0 gap.1.2 in let before = gap.1.1 in
+        none_not (byte_at bytes q) (same ∙ outside_at bytes inside end q g (inr (omega arith))) o.0)
   ]
 ]
   where
     past : (k : ℕ) → 16384 ≤ k → byte_at bytes k ≡ None → end ≤ k
     past k l e = elim (cases_lt k end) [ inl h ↦ absurd (none_not (byte_at bytes k) e (g.some k l h)) | inr h ↦ h ]
 
-pub outside_of : (bytes inside : List (ℕ × ℕ)) (end at : ℕ) → Gathered bytes inside end → (end ≡ 16384 → ⊥) → IsFirstDifference bytes inside at → IsFault bytes (Outside at)
+pub outside_of : (bytes inside : List (ℕ × ℕ)) (end at : ℕ) → Gathered bytes inside end → (end ≡ 16384 → ⊥)
+    → IsFirstDifference bytes inside at → IsFault bytes (Outside at)
 outside_of bytes inside end at g n d = (
   g.some 16384 (omega arith) (let low = g.low in omega arith),
   first_outside bytes inside end at g d.differs,
@@ -116,23 +132,31 @@ whole_of image end r = record { begins = r.inside 16384 (omega arith) r.begins; 
       | inl l ↦ none_not (byte_at image at) (r.outside at (inl l)) o.0
       | inr s ↦ elim s [
         | inl l ↦ (let high = r.within in none_not (byte_at image at) (r.outside at (inr (omega arith))) o.0)
-        | inr gap ↦ (let beyond = past gap.0 gap.1.0 gap.1.2 in let before = gap.1.1 in none_not (byte_at image at) (r.outside at (inr (omega arith))) o.0)
+        | inr gap ↦ (let beyond = past gap.0 gap.1.0 gap.1.2 in let before = gap.1.1 in
+            none_not (byte_at image at) (r.outside at (inr (omega arith))) o.0)
       ]
     ]
 
 pub below_run : (image : List (ℕ × ℕ)) (end at b : ℕ) → IsRun image end → byte_at image at ≡ Some b → at < end
-below_run image end at b r e = elim (cases_lt at end) [ inl l ↦ l | inr l ↦ absurd (none_not (byte_at image at) (r.outside at (inr l)) (ap is_some e)) ]
+below_run image end at b r e =
+    elim (cases_lt at end)
+    [ inl l ↦ l | inr l ↦ absurd (none_not (byte_at image at) (r.outside at (inr l)) (ap is_some e)) ]
 
-pub has_bytes : (image : List (ℕ × ℕ)) (end : ℕ) (m old : List ℕ) → IsRun image end → ((at : ℕ) → at < 2 ^ 16 → get_or m at 0 ≡ unwrap_or (byte_at image at) (get_or old at 0)) → HasBytes image m
+pub has_bytes : (image : List (ℕ × ℕ)) (end : ℕ) (m old : List ℕ) → IsRun image end
+    → ((at : ℕ) → at < 2 ^ 16 → get_or m at 0 ≡ unwrap_or (byte_at image at) (get_or old at 0)) → HasBytes image m
 has_bytes image end m old r w at b e =
     let l = below_run image end at b r e in
     let high = r.within in
     w at (omega arith) ∙ ap (λ (o : Option ℕ). unwrap_or o (get_or old at 0)) e
 
 -- the cut of its bytes
-pub cut_is : DecodesEncoded → (image : List (ℕ × ℕ)) (end : ℕ) (m : List ℕ) (is : List Instr) (trapped : Bool) (firsts : List Bool) → IsRun image end → HasBytes image m → AllFit is → HasCode is m → AreFirsts is trapped firsts → 16384 + length firsts ≡ end
+pub cut_is : DecodesEncoded
+    → (image : List (ℕ × ℕ)) (end : ℕ) (m : List ℕ) (is : List Instr) (trapped : Bool) (firsts : List Bool)
+    → IsRun image end → HasBytes image m → AllFit is → HasCode is m → AreFirsts is trapped firsts
+    → 16384 + length firsts ≡ end
     → (trapped ≡ true → (i : Instr) → decode_at m (code_end is) ≡ Ok i → end < code_end is + size_of i) → IsCut image is
-cut_is decodes image end m is trapped firsts r h fits code t size stops = record { fits = fits; stands = gives_all image 16384 is given; ends = ends trapped refl }
+cut_is decodes image end m is trapped firsts r h fits code t size stops =
+    record { fits = fits; stands = gives_all image 16384 is given; ends = ends trapped refl }
   where
     given : (at : ℕ) (i : Instr) → IsAt is at i → Gives image at (encode_of i)
     given at i w =
@@ -143,14 +167,17 @@ cut_is decodes image end m is trapped firsts r h fits code t size stops = record
         let some_byte = z.0 in
         let last = t.ends in
         let high = r.within in
-        given_by image m at i h (omega arith) (λ k l. some_is (byte_at image (at + k)) (r.inside (at + k) (omega arith) (omega arith))) (code at i w)
+        given_by image m at i h (omega arith)
+        (λ k l. some_is (byte_at image (at + k)) (r.inside (at + k) (omega arith) (omega arith))) (code at i w)
 
     last_given : (i : Instr) → Gives image (code_end is) (encode_of i) → code_end is + size_of i ≤ end
     last_given i g =
         let z = size_low i in
         let some_byte = z.0 in
         elim (cases_lt end (code_end is + size_of i)) [
-          | inl l ↦ absurd (let last : ℕ = code_end is + (size_of i - 1) in let b = below_run image end (code_end is + (size_of i - 1)) (get_or (encode_of i) (size_of i - 1) 0) r (gives_get image (code_end is) (encode_of i) (size_of i - 1) g (omega arith)) in omega arith)
+          | inl l ↦ absurd (let last : ℕ = code_end is + (size_of i - 1) in
+              let b = below_run image end (code_end is + (size_of i - 1)) (get_or (encode_of i) (size_of i - 1) 0) r
+              (gives_get image (code_end is) (encode_of i) (size_of i - 1) g (omega arith)) in omega arith)
           | inr l ↦ l
         ]
 
@@ -170,22 +197,34 @@ cut_is decodes image end m is trapped firsts r h fits code t size stops = record
         let v : 16384 + length firsts ≤ code_end is = grind (arith, nat_tests) in
         omega arith
 
-pub trapped_is : (image : List (ℕ × ℕ)) (end : ℕ) (is : List Instr) (trapped : Bool) (firsts : List Bool) → IsRun image end → AreFirsts is trapped firsts → 16384 + length firsts ≡ end → is_trapped image is ≡ trapped
+pub trapped_is : (image : List (ℕ × ℕ)) (end : ℕ) (is : List Instr) (trapped : Bool) (firsts : List Bool)
+    → IsRun image end → AreFirsts is trapped firsts → 16384 + length firsts ≡ end → is_trapped image is ≡ trapped
 trapped_is image end is trapped firsts r t size = elim (cases_lt (code_end is) end) [
-  | inl l ↦ (let u : nat_lt (code_end is) (16384 + length firsts) ≡ true = grind (arith, nat_tests) in r.inside (code_end is) (omega arith) l ∙ sym (t.trap ∙ u))
-  | inr l ↦ (let u : nat_lt (code_end is) (16384 + length firsts) ≡ false = grind (arith, nat_tests) in ap is_some (r.outside (code_end is) (inr l)) ∙ sym (t.trap ∙ u))
+  | inl l ↦ (let u : nat_lt (code_end is) (16384 + length firsts) ≡ true = grind (arith, nat_tests) in
+      r.inside (code_end is) (omega arith) l ∙ sym (t.trap ∙ u))
+  | inr l ↦ (let u : nat_lt (code_end is) (16384 + length firsts) ≡ false = grind (arith, nat_tests) in
+      ap is_some (r.outside (code_end is) (inr l)) ∙ sym (t.trap ∙ u))
 ]
 
 -- its first fault is the image's
-pub fault_is : (image : List (ℕ × ℕ)) (is : List Instr) (trapped : Bool) → IsWhole image → IsCut image is → is_trapped image is ≡ trapped → (f : HandlerFault) → IsFirstFault is trapped f → IsFault image f
+pub fault_is : (image : List (ℕ × ℕ)) (is : List Instr) (trapped : Bool) → IsWhole image → IsCut image is
+    → is_trapped image is ≡ trapped → (f : HandlerFault) → IsFirstFault is trapped f → IsFault image f
 fault_is image is trapped w c e Empty a = absurd a.applies
 fault_is image is trapped w c e (Outside at) a = absurd a.applies
-fault_is image is trapped w c e (Dead at) a = (w, (is, (c, subst (λ (b : Bool). IsFirstFault is b (Dead at)) (sym e) a)))
-fault_is image is trapped w c e (Trap at) a = (w, (is, (c, subst (λ (b : Bool). IsFirstFault is b (Trap at)) (sym e) a)))
-fault_is image is trapped w c e (Refused at) a = (w, (is, (c, subst (λ (b : Bool). IsFirstFault is b (Refused at)) (sym e) a)))
-fault_is image is trapped w c e (NotFree at to) a = (w, (is, (c, subst (λ (b : Bool). IsFirstFault is b (NotFree at to)) (sym e) a)))
-fault_is image is trapped w c e (Backward at) a = (w, (is, (c, subst (λ (b : Bool). IsFirstFault is b (Backward at)) (sym e) a)))
-fault_is image is trapped w c e (Target at to) a = (w, (is, (c, subst (λ (b : Bool). IsFirstFault is b (Target at to)) (sym e) a)))
-fault_is image is trapped w c e (Height at) a = (w, (is, (c, subst (λ (b : Bool). IsFirstFault is b (Height at)) (sym e) a)))
-fault_is image is trapped w c e (Falls at) a = (w, (is, (c, subst (λ (b : Bool). IsFirstFault is b (Falls at)) (sym e) a)))
+fault_is image is trapped w c e (Dead at) a =
+    (w, (is, (c, subst (λ (b : Bool). IsFirstFault is b (Dead at)) (sym e) a)))
+fault_is image is trapped w c e (Trap at) a =
+    (w, (is, (c, subst (λ (b : Bool). IsFirstFault is b (Trap at)) (sym e) a)))
+fault_is image is trapped w c e (Refused at) a =
+    (w, (is, (c, subst (λ (b : Bool). IsFirstFault is b (Refused at)) (sym e) a)))
+fault_is image is trapped w c e (NotFree at to) a =
+    (w, (is, (c, subst (λ (b : Bool). IsFirstFault is b (NotFree at to)) (sym e) a)))
+fault_is image is trapped w c e (Backward at) a =
+    (w, (is, (c, subst (λ (b : Bool). IsFirstFault is b (Backward at)) (sym e) a)))
+fault_is image is trapped w c e (Target at to) a =
+    (w, (is, (c, subst (λ (b : Bool). IsFirstFault is b (Target at to)) (sym e) a)))
+fault_is image is trapped w c e (Height at) a =
+    (w, (is, (c, subst (λ (b : Bool). IsFirstFault is b (Height at)) (sym e) a)))
+fault_is image is trapped w c e (Falls at) a =
+    (w, (is, (c, subst (λ (b : Bool). IsFirstFault is b (Falls at)) (sym e) a)))
 fault_is image is trapped w c e Memory a = absurd a.applies

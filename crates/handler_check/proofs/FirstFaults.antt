@@ -1,12 +1,15 @@
 -- The first fault of code; and that accepted code has none.
-use Rattle.std.proofs.Common.{◌≡◌, ℕ, suc, ◌<◌, ◌≤◌, Bool, true, false, Option, Some, None, List, refl, ap, sym, ◌∙◌, subst, arith, inl, inr, ◌⊎◌}
+use Rattle.std.proofs.Common.{◌≡◌, ℕ, suc, ◌<◌, ◌≤◌, Bool, true, false, Option, Some, None, List, refl, ap, sym, ◌∙◌}
+use Rattle.std.proofs.Common.{subst, arith, inl, inr, ◌⊎◌}
 use Rattle.std.proofs.lemmas.Bool.{false≢true, cases_lt}
 use Rattle.cpu12_isa.specs.declared.instr.Instr.{Instr}
 use Rattle.handler_check.specs.declared.faults.HandlerFault.{HandlerFault}
-use Rattle.handler_check.specs.declared.faults.HandlerFault.TheVariants.{Empty, Outside, Dead, Trap, Refused, NotFree, Backward, Target, Height, Falls, Memory}
+use Rattle.handler_check.specs.declared.faults.HandlerFault.TheVariants.{Empty, Outside, Dead, Trap, Refused, NotFree}
+use Rattle.handler_check.specs.declared.faults.HandlerFault.TheVariants.{Backward, Target, Height, Falls, Memory}
 use Rattle.handler_check.specs.declared.ways.Way.{Way}
 use Rattle.handler_check.specs.Cut.{code_end, IsAt}
-use Rattle.handler_check.specs.Paths.{is_allowed, IsIn, written_by, branches_to, falls_to, leads, GoesForward, height_after, FitsHeight, Path}
+use Rattle.handler_check.specs.Paths.{is_allowed, IsIn, written_by, branches_to, falls_to, leads, GoesForward}
+use Rattle.handler_check.specs.Paths.{height_after, FitsHeight, Path}
 use Rattle.handler_check.specs.Accepted.{May, IsAccepted}
 use Rattle.handler_check.specs.Faults.{IsFirst, Meets, Applies, place_of, rank, IsFirstFault}
 use Rattle.handler_check.specs.Ways.{IsWay}
@@ -16,8 +19,10 @@ use Rattle.handler_check.proofs.Leading.{one_way, in_left, in_right}
 use Rattle.handler_check.proofs.Marking.{below_of}
 
 -- accepted code
-led_there : (is : List Instr) (instrs at to : ℕ) (i : Instr) → IsAccepted is instrs → IsAt is at i → IsIn (leads at i) to → (j : Instr) × IsAt is to j
-led_there is instrs at to i acc w k = let r = acc.reached at i w in acc.stands (suc r.0) to (height_after i r.1) (at, r.1, i, (r.2, w, k, refl))
+led_there : (is : List Instr) (instrs at to : ℕ) (i : Instr) → IsAccepted is instrs → IsAt is at i
+    → IsIn (leads at i) to → (j : Instr) × IsAt is to j
+led_there is instrs at to i acc w k = let r = acc.reached at i w in
+    acc.stands (suc r.0) to (height_after i r.1) (at, r.1, i, (r.2, w, k, refl))
 
 may_there : (is : List Instr) (instrs at : ℕ) (i : Instr) → IsAccepted is instrs → IsAt is at i → (h : ℕ) × May i h
 may_there is instrs at i acc w = let r = acc.reached at i w in (r.1, acc.may r.0 at r.1 i r.2 w)
@@ -28,39 +33,53 @@ meets_not is instrs at acc m = m.4.2 (acc.one_height at m.0 m.1 m.2 m.3 m.4.0 m.
 pub faultless : (is : List Instr) (instrs : ℕ) → IsAccepted is instrs → (f : HandlerFault) → Applies is false f → ⊥
 faultless is instrs acc Empty a = a
 faultless is instrs acc (Outside at) a = a
-faultless is instrs acc (Dead at) a = elim a.0 [ inl p ↦ (let r = acc.reached at p.0 p.1 in a.1 r.0 r.1 r.2) | inr t ↦ false≢true t.0 ]
+faultless is instrs acc (Dead at) a =
+    elim a.0 [ inl p ↦ (let r = acc.reached at p.0 p.1 in a.1 r.0 r.1 r.2) | inr t ↦ false≢true t.0 ]
 faultless is instrs acc (Trap at) a = false≢true a.0
-faultless is instrs acc (Refused at) a = (let m = may_there is instrs at a.0 acc a.1.0 in false≢true (sym a.1.1 ∙ m.1.allowed))
-faultless is instrs acc (NotFree at to) a = (let m = may_there is instrs at a.0 acc a.1.0 in false≢true (sym a.1.2 ∙ m.1.free to a.1.1))
+faultless is instrs acc (Refused at) a =
+    (let m = may_there is instrs at a.0 acc a.1.0 in false≢true (sym a.1.1 ∙ m.1.allowed))
+faultless is instrs acc (NotFree at to) a =
+    (let m = may_there is instrs at a.0 acc a.1.0 in false≢true (sym a.1.2 ∙ m.1.free to a.1.1))
 faultless is instrs acc (Backward at) a = (let m = may_there is instrs at a.0 acc a.1.0 in a.1.1 m.1.forward)
-faultless is instrs acc (Target at to) a = a.1.2 (inl (led_there is instrs at to a.0 acc a.1.0 (in_right (falls_to at a.0) (branches_to at a.0) to a.1.1)))
+faultless is instrs acc (Target at to) a =
+    a.1.2 (inl (led_there is instrs at to a.0 acc a.1.0 (in_right (falls_to at a.0) (branches_to at a.0) to a.1.1)))
 faultless is instrs acc (Height at) a = elim a.1.1 [
   | inl m ↦ meets_not is instrs at acc m
   | inr n ↦ n.2.1 (acc.may n.0 at n.1 a.0 n.2.0 a.1.0).height
 ]
-faultless is instrs acc (Falls at) a = a.2.2 (inl (led_there is instrs at a.1 a.0 acc a.2.0 (in_left (falls_to at a.0) (branches_to at a.0) a.1 a.2.1)))
+faultless is instrs acc (Falls at) a =
+    a.2.2 (inl (led_there is instrs at a.1 a.0 acc a.2.0 (in_left (falls_to at a.0) (branches_to at a.0) a.1 a.2.1)))
 faultless is instrs acc Memory a = a
 
 -- the height of every path to a place with a way
-one_height : (is : List Instr) (trapped : Bool) (below best : ℕ) (ways : ℕ → Option Way) → AreJudged is trapped below best ways → (at : ℕ) (way : Way) → ways at ≡ Some way → way.meets ≡ false → at ≤ below
+one_height : (is : List Instr) (trapped : Bool) (below best : ℕ) (ways : ℕ → Option Way)
+    → AreJudged is trapped below best ways → (at : ℕ) (way : Way) → ways at ≡ Some way → way.meets ≡ false → at ≤ below
     → (n h : ℕ) → Path is n at h → h ≡ way.height
 one_height is trapped below best ways m at way e apart l n h p =
     let a = m.complete n at h (below_of is below n at h l p) in
     let same : a.way ≡ way = one_way a.way way (sym a.is ∙ e) in
     a.height (ap (λ (u : Way). u.meets) same ∙ apart) ∙ ap (λ (u : Way). u.height) same
 
-no_meeting : (is : List Instr) (trapped : Bool) (below best : ℕ) (ways : ℕ → Option Way) → AreJudged is trapped below best ways → (at : ℕ) (way : Way) → ways at ≡ Some way → way.meets ≡ false → at ≤ below
+no_meeting : (is : List Instr) (trapped : Bool) (below best : ℕ) (ways : ℕ → Option Way)
+    → AreJudged is trapped below best ways → (at : ℕ) (way : Way) → ways at ≡ Some way → way.meets ≡ false → at ≤ below
     → Meets is at → ⊥
 no_meeting is trapped below best ways m at way e apart l t =
-    t.4.2 (one_height is trapped below best ways m at way e apart l t.0 t.2 t.4.0 ∙ sym (one_height is trapped below best ways m at way e apart l t.1 t.3 t.4.1))
+    t.4.2 (one_height is trapped below best ways m at way e apart l t.0 t.2 t.4.0
+    ∙ sym (one_height is trapped below best ways m at way e apart l t.1 t.3 t.4.1))
 
 -- no fault of a rank that was passed applies at a place up to which all is judged
-pub passed : (is : List Instr) (trapped : Bool) (below best : ℕ) (ways : ℕ → Option Way) → AreJudged is trapped below best ways → (at : ℕ) (i : Instr) (way : Way) → IsAt is at i → ways at ≡ Some way → at ≤ below
-    → (r : ℕ) → Passes is trapped at i way r → (g : HandlerFault) → Applies is trapped g → place_of g ≡ at → rank g < r → ⊥
+pub passed : (is : List Instr) (trapped : Bool) (below best : ℕ) (ways : ℕ → Option Way)
+    → AreJudged is trapped below best ways → (at : ℕ) (i : Instr) (way : Way) → IsAt is at i → ways at ≡ Some way
+    → at ≤ below
+    → (r : ℕ) → Passes is trapped at i way r → (g : HandlerFault) → Applies is trapped g → place_of g ≡ at
+    → rank g < r → ⊥
 passed is trapped below best ways m at i way w e l r p Empty a s k = a
 passed is trapped below best ways m at i way w e l r p (Outside q) a s k = a
-passed is trapped below best ways m at i way w e l r p (Dead q) a s k = (let t = m.sound at way e in let path = t.some in a.1 path.0 path.1 (subst (λ (x : ℕ). Path is path.0 x path.1) (sym s) path.2))
-passed is trapped below best ways m at i way w e l r p (Trap q) a s k = (let b = below_end is at i w in omega (arith, b.1, a.1))
+passed is trapped below best ways m at i way w e l r p (Dead q) a s k =
+    (let t = m.sound at way e in let path = t.some in
+    a.1 path.0 path.1 (subst (λ (x : ℕ). Path is path.0 x path.1) (sym s) path.2))
+passed is trapped below best ways m at i way w e l r p (Trap q) a s k =
+    (let b = below_end is at i w in omega (arith, b.1, a.1))
 passed is trapped below best ways m at i way w e l r p (Refused q) a s k =
     let j : a.0 ≡ i = one_instr is at i a.0 w (subst (λ (x : ℕ). IsAt is x a.0) s a.1.0) in
     false≢true (sym a.1.1 ∙ ap is_allowed j ∙ p.allowed k)
@@ -72,22 +91,26 @@ passed is trapped below best ways m at i way w e l r p (Backward q) a s k =
     a.1.1 (subst GoesForward (sym j) (p.forward k))
 passed is trapped below best ways m at i way w e l r p (Target q to) a s k =
     let j : a.0 ≡ i = one_instr is at i a.0 w (subst (λ (x : ℕ). IsAt is x a.0) s a.1.0) in
-    a.1.2 (p.branches k to (subst (λ (x : Instr). IsIn (branches_to at x) to) j (subst (λ (x : ℕ). IsIn (branches_to x a.0) to) s a.1.1)))
+    a.1.2 (p.branches k to
+    (subst (λ (x : Instr). IsIn (branches_to at x) to) j (subst (λ (x : ℕ). IsIn (branches_to x a.0) to) s a.1.1)))
 passed is trapped below best ways m at i way w e l r p (Height q) a s k =
     let j : a.0 ≡ i = one_instr is at i a.0 w (subst (λ (x : ℕ). IsAt is x a.0) s a.1.0) in
     elim a.1.1 [
       | inl t ↦ no_meeting is trapped below best ways m at way e (p.meets k) l (subst (λ (x : ℕ). Meets is x) s t)
       | inr t ↦ (let path : Path is t.0 at t.1 = subst (λ (x : ℕ). Path is t.0 x t.1) s t.2.0 in
           let h = one_height is trapped below best ways m at way e (p.meets k) l t.0 t.1 path in
-          t.2.1 (subst (λ (x : Instr). FitsHeight x t.1) (sym j) (subst (λ (x : ℕ). FitsHeight i x) (sym h) (p.height k))))
+          t.2.1 (subst (λ (x : Instr). FitsHeight x t.1) (sym j)
+          (subst (λ (x : ℕ). FitsHeight i x) (sym h) (p.height k))))
     ]
 passed is trapped below best ways m at i way w e l r p (Falls q) a s k =
     let j : a.0 ≡ i = one_instr is at i a.0 w (subst (λ (x : ℕ). IsAt is x a.0) s a.2.0) in
-    a.2.2 (p.falls k a.1 (subst (λ (x : Instr). IsIn (falls_to at x) a.1) j (subst (λ (x : ℕ). IsIn (falls_to x a.0) a.1) s a.2.1)))
+    a.2.2 (p.falls k a.1
+    (subst (λ (x : Instr). IsIn (falls_to at x) a.1) j (subst (λ (x : ℕ). IsIn (falls_to x a.0) a.1) s a.2.1)))
 passed is trapped below best ways m at i way w e l r p Memory a s k = a
 
 -- a fault stands at a first byte
-pub first_byte_of : (is : List Instr) (trapped : Bool) (g : HandlerFault) → Applies is trapped g → IsFirst is trapped (place_of g)
+pub first_byte_of : (is : List Instr) (trapped : Bool) (g : HandlerFault) → Applies is trapped g
+    → IsFirst is trapped (place_of g)
 first_byte_of is trapped Empty a = absurd a
 first_byte_of is trapped (Outside q) a = absurd a
 first_byte_of is trapped (Dead q) a = a.0
@@ -114,7 +137,8 @@ low_rank is trapped (Falls q) a = (omega arith, omega arith)
 low_rank is trapped Memory a = absurd a
 
 -- no fault applies below a place up to which all is judged
-pub none_below : (is : List Instr) (trapped : Bool) (below best : ℕ) (ways : ℕ → Option Way) → below ≤ code_end is → AreJudged is trapped below best ways → (g : HandlerFault) → Applies is trapped g → below ≤ place_of g
+pub none_below : (is : List Instr) (trapped : Bool) (below best : ℕ) (ways : ℕ → Option Way) → below ≤ code_end is
+    → AreJudged is trapped below best ways → (g : HandlerFault) → Applies is trapped g → below ≤ place_of g
 none_below is trapped below best ways le m g a = elim (cases_lt (place_of g) below) [
   | inl l ↦ absurd (none l (first_byte_of is trapped g a))
   | inr l ↦ l
@@ -123,16 +147,19 @@ none_below is trapped below best ways le m g a = elim (cases_lt (place_of g) bel
     none : place_of g < below → IsFirst is trapped (place_of g) → ⊥
     none l f = elim f [
       | inl w ↦ (let b = m.each (place_of g) w.0 w.1 l in
-          passed is trapped below best ways m (place_of g) w.0 b.way w.1 b.is_marked (omega arith) 9 b.passes g a refl (low_rank is trapped g a).1)
+          passed is trapped below best ways m (place_of g) w.0 b.way w.1 b.is_marked (omega arith) 9 b.passes g a refl
+          (low_rank is trapped g a).1)
       | inr t ↦ omega (arith, t.1)
     ]
 
 -- the first fault at the place up to which all is judged
-pub first_by : (is : List Instr) (trapped : Bool) (below best : ℕ) (ways : ℕ → Option Way) → below ≤ code_end is → AreJudged is trapped below best ways → (f : HandlerFault) → Applies is trapped f → place_of f ≡ below
+pub first_by : (is : List Instr) (trapped : Bool) (below best : ℕ) (ways : ℕ → Option Way) → below ≤ code_end is
+    → AreJudged is trapped below best ways → (f : HandlerFault) → Applies is trapped f → place_of f ≡ below
     → ((g : HandlerFault) → Applies is trapped g → place_of g ≡ below → rank g < rank f → ⊥) → IsFirstFault is trapped f
 first_by is trapped below best ways le m f a s none = record { applies = a; first = first }
   where
-    first : (g : HandlerFault) → Applies is trapped g → (place_of f < place_of g) ⊎ ((place_of f ≡ place_of g) × (rank f ≤ rank g))
+    first : (g : HandlerFault) → Applies is trapped g
+        → (place_of f < place_of g) ⊎ ((place_of f ≡ place_of g) × (rank f ≤ rank g))
     first g b =
         let low = none_below is trapped below best ways le m g b in
         elim (cases_lt below (place_of g)) [
@@ -144,28 +171,38 @@ first_by is trapped below best ways le m f a s none = record { applies = a; firs
         ]
 
 -- an instruction fails
-pub fails_first : (is : List Instr) (trapped : Bool) (at best : ℕ) (ways : ℕ → Option Way) (i : Instr) (way : Way) (f : HandlerFault) → AreJudged is trapped at best ways → IsAt is at i → ways at ≡ Some way → Fails is trapped at i way f
+pub fails_first : (is : List Instr) (trapped : Bool) (at best : ℕ) (ways : ℕ → Option Way) (i : Instr) (way : Way)
+    (f : HandlerFault) → AreJudged is trapped at best ways → IsAt is at i → ways at ≡ Some way
+    → Fails is trapped at i way f
     → IsFirstFault is trapped f
 fails_first is trapped at best ways i way f m w e x =
     let b = below_end is at i w in
     let le : at ≤ code_end is = omega (arith, b.1) in
-    first_by is trapped at best ways le m f x.applies x.place (λ g a s k. passed is trapped at best ways m at i way w e (omega arith) (rank f) x.passes g a s k)
+    first_by is trapped at best ways le m f x.applies x.place
+    (λ g a s k. passed is trapped at best ways m at i way w e (omega arith) (rank f) x.passes g a s k)
 
 -- nothing leads there
-pub no_path : (is : List Instr) (trapped : Bool) (at best : ℕ) (ways : ℕ → Option Way) → AreJudged is trapped at best ways → ways at ≡ None → (n h : ℕ) → Path is n at h → ⊥
-no_path is trapped at best ways m e n h p = let a = m.complete n at h (below_of is at n at h (omega arith) p) in none_some a.way (sym e ∙ a.is)
+pub no_path : (is : List Instr) (trapped : Bool) (at best : ℕ) (ways : ℕ → Option Way)
+    → AreJudged is trapped at best ways → ways at ≡ None → (n h : ℕ) → Path is n at h → ⊥
+no_path is trapped at best ways m e n h p = let a = m.complete n at h (below_of is at n at h (omega arith) p) in
+    none_some a.way (sym e ∙ a.is)
   where
     none_some : (w : Way) → None ≡ Some w → ⊥
     none_some w e = cc
 
-pub dead_first : (is : List Instr) (trapped : Bool) (at best : ℕ) (ways : ℕ → Option Way) → AreJudged is trapped at best ways → at ≤ code_end is → IsFirst is trapped at → ways at ≡ None → IsFirstFault is trapped (Dead at)
+pub dead_first : (is : List Instr) (trapped : Bool) (at best : ℕ) (ways : ℕ → Option Way)
+    → AreJudged is trapped at best ways → at ≤ code_end is → IsFirst is trapped at → ways at ≡ None
+    → IsFirstFault is trapped (Dead at)
 dead_first is trapped at best ways m le first e =
-    first_by is trapped at best ways le m (Dead at) (first, no_path is trapped at best ways m e) refl (λ g a s k. (let l = low_rank is trapped g a in omega (arith, l.0)))
+    first_by is trapped at best ways le m (Dead at) (first, no_path is trapped at best ways m e) refl
+    (λ g a s k. (let l = low_rank is trapped g a in omega (arith, l.0)))
 
-not_dead : (is : List Instr) (trapped : Bool) (at : ℕ) (way : Way) → IsWay is at way → (g : HandlerFault) → Applies is trapped g → place_of g ≡ at → rank g < 2 → ⊥
+not_dead : (is : List Instr) (trapped : Bool) (at : ℕ) (way : Way) → IsWay is at way → (g : HandlerFault)
+    → Applies is trapped g → place_of g ≡ at → rank g < 2 → ⊥
 not_dead is trapped at way t Empty a s k = a
 not_dead is trapped at way t (Outside q) a s k = a
-not_dead is trapped at way t (Dead q) a s k = (let path = t.some in a.1 path.0 path.1 (subst (λ (x : ℕ). Path is path.0 x path.1) (sym s) path.2))
+not_dead is trapped at way t (Dead q) a s k =
+    (let path = t.some in a.1 path.0 path.1 (subst (λ (x : ℕ). Path is path.0 x path.1) (sym s) path.2))
 not_dead is trapped at way t (Trap q) a s k = omega arith
 not_dead is trapped at way t (Refused q) a s k = omega arith
 not_dead is trapped at way t (NotFree q to) a s k = omega arith
@@ -175,6 +212,9 @@ not_dead is trapped at way t (Height q) a s k = omega arith
 not_dead is trapped at way t (Falls q) a s k = omega arith
 not_dead is trapped at way t Memory a s k = a
 
-pub trap_first : (is : List Instr) (trapped : Bool) (best : ℕ) (ways : ℕ → Option Way) (way : Way) → AreJudged is trapped (code_end is) best ways → trapped ≡ true → ways (code_end is) ≡ Some way → IsFirstFault is trapped (Trap (code_end is))
+pub trap_first : (is : List Instr) (trapped : Bool) (best : ℕ) (ways : ℕ → Option Way) (way : Way)
+    → AreJudged is trapped (code_end is) best ways → trapped ≡ true → ways (code_end is) ≡ Some way
+    → IsFirstFault is trapped (Trap (code_end is))
 trap_first is trapped best ways way m t e =
-    first_by is trapped (code_end is) best ways (omega arith) m (Trap (code_end is)) (t, refl) refl (not_dead is trapped (code_end is) way (m.sound (code_end is) way e))
+    first_by is trapped (code_end is) best ways (omega arith) m (Trap (code_end is)) (t, refl) refl
+    (not_dead is trapped (code_end is) way (m.sound (code_end is) way e))

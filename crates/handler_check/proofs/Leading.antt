@@ -1,5 +1,6 @@
 -- One more way leads to places.
-use Rattle.std.proofs.Common.{◌≡◌, ℕ, ◌+◌, ◌≤◌, Bool, true, false, ◌||◌, not, nat_lt, Option, Some, None, List, [], ◌∷◌, ◌++◌, refl, ap, sym, ◌∙◌, subst, arith, inl, inr, ◌⊎◌}
+use Rattle.std.proofs.Common.{◌≡◌, ℕ, ◌+◌, ◌≤◌, Bool, true, false, ◌||◌, not, nat_lt, Option, Some, None, List, [], ◌∷◌}
+use Rattle.std.proofs.Common.{◌++◌, refl, ap, sym, ◌∙◌, subst, arith, inl, inr, ◌⊎◌}
 use Rattle.std.specs.Prelude.{◌==◌, if◌then◌else◌}
 use Rattle.std.proofs.lemmas.Bool.{cases_eq, false≢true}
 use Rattle.std.proofs.lemmas.Bool.Decides.{nat_tests}
@@ -23,7 +24,12 @@ same_tells : (w : Way) → Tells w w
 same_tells w = record { apart = λ e. e; height = λ e. refl; few = λ e. omega arith }
 
 meets_tells : (w j : Way) → j.meets ≡ true → Tells w j
-meets_tells w j e = record { apart = λ f. absurd (false≢true (sym f ∙ e)); height = λ f. absurd (false≢true (sym f ∙ e)); few = λ f. absurd (false≢true (sym f ∙ e)) }
+meets_tells w j e = record {
+  apart = λ f. absurd (false≢true (sym f ∙ e));
+  height = λ f. absurd (false≢true (sym f ∙ e));
+  few =
+      λ f. absurd (false≢true (sym f ∙ e));
+}
 
 -- the three cases of a join with an old way
 abbrev Joined : Way → Way → Way → Type 0
@@ -70,10 +76,16 @@ new_tells (Some old) v f = elim (joined old v) [
 ]
 
 -- a join of ways is a way
-join_is : (is : List Instr) (at : ℕ) (old v : Way) → v.meets ≡ false → IsWay is at old → IsWay is at v → IsWay is at (join (Some old) v)
+join_is : (is : List Instr) (at : ℕ) (old v : Way) → v.meets ≡ false → IsWay is at old → IsWay is at v
+    → IsWay is at (join (Some old) v)
 join_is is at old v f o n = elim (joined old v) [
-  | inl m ↦ subst (λ (w : Way). IsWay is at w) (sym m.0) (record { one = λ e. absurd (false≢true (sym e)); two = λ e. meets m.1; some = o.some; low = o.low })
-  | inr r ↦ elim r [ inl k ↦ subst (λ (w : Way). IsWay is at w) (sym k.0) n | inr k ↦ subst (λ (w : Way). IsWay is at w) (sym k.0) o ]
+  | inl m ↦ subst (λ (w : Way). IsWay is at w) (sym m.0)
+      (record { one = λ e. absurd (false≢true (sym e)); two = λ e. meets m.1; some = o.some; low = o.low })
+  | inr r ↦ elim r [
+    | inl k ↦ subst (λ (w : Way). IsWay is at w) (sym k.0) n
+    | inr k ↦ subst (λ (w : Way). IsWay is at w)
+        (sym k.0) o
+  ]
 ]
   where
     apart : (b : Bool) → old.meets ≡ b → (old.height ≡ v.height → ⊥) → Meets is at
@@ -83,7 +95,8 @@ join_is is at old v f o n = elim (joined old v) [
     meets : (old.meets ≡ true) ⊎ (old.height ≡ v.height → ⊥) → Meets is at
     meets w = elim w [ inl e ↦ o.two e | inr ne ↦ apart old.meets refl ne ]
 
-pub joined_is : (is : List Instr) (at : ℕ) (o : Option Way) (v : Way) → v.meets ≡ false → ((old : Way) → o ≡ Some old → IsWay is at old) → IsWay is at v → IsWay is at (join o v)
+pub joined_is : (is : List Instr) (at : ℕ) (o : Option Way) (v : Way) → v.meets ≡ false
+    → ((old : Way) → o ≡ Some old → IsWay is at old) → IsWay is at v → IsWay is at (join o v)
 joined_is is at None v f old n = n
 joined_is is at (Some w) v f old n = join_is is at w v f (old w refl) n
 
@@ -94,7 +107,8 @@ led_here ways to v q e = let t : (q == to) ≡ true = grind (arith, nat_tests) i
 pub led_other : (ways : ℕ → Option Way) (to : ℕ) (v : Way) (q : ℕ) → (q ≡ to → ⊥) → led ways to v q ≡ ways q
 led_other ways to v q n = let t : (q == to) ≡ false = grind (arith, nat_tests) in rw t
 
-tells_has : (ways : ℕ → Option Way) (q h n : ℕ) (w j : Way) → ways q ≡ Some j → Tells w j → (w.meets ≡ false → h ≡ w.height) → (w.meets ≡ false → n ≤ w.most) → Has ways q h n
+tells_has : (ways : ℕ → Option Way) (q h n : ℕ) (w j : Way) → ways q ≡ Some j → Tells w j
+    → (w.meets ≡ false → h ≡ w.height) → (w.meets ≡ false → n ≤ w.most) → Has ways q h n
 tells_has ways q h n w j e t height few = record {
   way = j;
   is = e;
@@ -105,14 +119,18 @@ tells_has ways q h n w j e t height few = record {
 led_has : (ways : ℕ → Option Way) (to : ℕ) (v : Way) (q h n : ℕ) → Has ways q h n → Has (led ways to v) q h n
 led_has ways to v q h n a = elim (cases_eq q to) [
   | inl e ↦ tells_has (led ways to v) q h n a.way (join (Some a.way) v)
-      (led_here ways to v q e ∙ ap (λ (o : Option Way). Some (join o v)) (ap ways (sym e) ∙ a.is)) (old_tells a.way v) a.height a.few
+      (led_here ways to v q e ∙ ap (λ (o : Option Way). Some (join o v)) (ap ways (sym e) ∙ a.is))
+      (old_tells a.way v) a.height a.few
   | inr ne ↦ record { way = a.way; is = led_other ways to v q ne ∙ a.is; height = a.height; few = a.few }
 ]
 
 led_new : (ways : ℕ → Option Way) (to : ℕ) (v : Way) → v.meets ≡ false → Has (led ways to v) to v.height v.most
-led_new ways to v f = tells_has (led ways to v) to v.height v.most v (join (ways to) v) (led_here ways to v to refl) (new_tells (ways to) v f) (λ e. refl) (λ e. omega arith)
+led_new ways to v f =
+    tells_has (led ways to v) to v.height v.most v (join (ways to) v) (led_here ways to v to refl)
+    (new_tells (ways to) v f) (λ e. refl) (λ e. omega arith)
 
-led_is : (is : List Instr) (ways : ℕ → Option Way) (to : ℕ) (v : Way) → v.meets ≡ false → ((at : ℕ) (way : Way) → ways at ≡ Some way → IsWay is at way) → IsWay is to v
+led_is : (is : List Instr) (ways : ℕ → Option Way) (to : ℕ) (v : Way) → v.meets ≡ false
+    → ((at : ℕ) (way : Way) → ways at ≡ Some way → IsWay is at way) → IsWay is to v
     → (at : ℕ) (way : Way) → led ways to v at ≡ Some way → IsWay is at way
 led_is is ways to v f a n at way e = elim (cases_eq at to) [
   | inl s ↦ subst (λ (w : Way). IsWay is at w) (one_way (join (ways to) v) way (sym (led_here ways to v at s) ∙ e))
@@ -121,39 +139,49 @@ led_is is ways to v f a n at way e = elim (cases_eq at to) [
 ]
 
 -- one more way leads to each of some places
-pub all_kept : (ways : ℕ → Option Way) (tos : List ℕ) (v : Way) (q : ℕ) → (IsIn tos q → ⊥) → led_all ways tos v q ≡ ways q
+pub all_kept : (ways : ℕ → Option Way) (tos : List ℕ) (v : Way) (q : ℕ) → (IsIn tos q → ⊥)
+    → led_all ways tos v q ≡ ways q
 all_kept ways [] v q n = refl
-all_kept ways (to ∷ tos) v q n = all_kept (led ways to v) tos v q (λ k. n (inr k)) ∙ led_other ways to v q (λ e. n (inl e))
+all_kept ways (to ∷ tos) v q n = all_kept (led ways to v) tos v q (λ k. n (inr k))
+    ∙ led_other ways to v q (λ e. n (inl e))
 
-pub all_has : (ways : ℕ → Option Way) (tos : List ℕ) (v : Way) (q h n : ℕ) → Has ways q h n → Has (led_all ways tos v) q h n
+pub all_has : (ways : ℕ → Option Way) (tos : List ℕ) (v : Way) (q h n : ℕ) → Has ways q h n
+    → Has (led_all ways tos v) q h n
 all_has ways [] v q h n a = a
 all_has ways (to ∷ tos) v q h n a = all_has (led ways to v) tos v q h n (led_has ways to v q h n a)
 
-pub all_new : (ways : ℕ → Option Way) (tos : List ℕ) (v : Way) (q : ℕ) → v.meets ≡ false → IsIn tos q → Has (led_all ways tos v) q v.height v.most
+pub all_new : (ways : ℕ → Option Way) (tos : List ℕ) (v : Way) (q : ℕ) → v.meets ≡ false → IsIn tos q
+    → Has (led_all ways tos v) q v.height v.most
 all_new ways [] v q f k = absurd k
 all_new ways (to ∷ tos) v q f k = elim k [
-  | inl e ↦ all_has (led ways to v) tos v q v.height v.most (subst (λ (p : ℕ). Has (led ways to v) p v.height v.most) (sym e) (led_new ways to v f))
+  | inl e ↦ all_has (led ways to v) tos v q v.height v.most
+      (subst (λ (p : ℕ). Has (led ways to v) p v.height v.most) (sym e) (led_new ways to v f))
   | inr r ↦ all_new (led ways to v) tos v q f r
 ]
 
-pub all_is : (is : List Instr) (ways : ℕ → Option Way) (tos : List ℕ) (v : Way) → v.meets ≡ false → ((at : ℕ) (way : Way) → ways at ≡ Some way → IsWay is at way) → ((q : ℕ) → IsIn tos q → IsWay is q v)
+pub all_is : (is : List Instr) (ways : ℕ → Option Way) (tos : List ℕ) (v : Way) → v.meets ≡ false
+    → ((at : ℕ) (way : Way) → ways at ≡ Some way → IsWay is at way) → ((q : ℕ) → IsIn tos q → IsWay is q v)
     → (at : ℕ) (way : Way) → led_all ways tos v at ≡ Some way → IsWay is at way
 all_is is ways [] v f a n = a
-all_is is ways (to ∷ tos) v f a n = all_is is (led ways to v) tos v f (led_is is ways to v f a (n to (inl refl))) (λ q k. n q (inr k))
+all_is is ways (to ∷ tos) v f a n =
+    all_is is (led ways to v) tos v f (led_is is ways to v f a (n to (inl refl))) (λ q k. n q (inr k))
 
 -- the places of two lists
-pub all_append : (ways : ℕ → Option Way) (xs ys : List ℕ) (v : Way) (q : ℕ) → led_all ways (xs ++ ys) v q ≡ led_all (led_all ways xs v) ys v q
+pub all_append : (ways : ℕ → Option Way) (xs ys : List ℕ) (v : Way) (q : ℕ)
+    → led_all ways (xs ++ ys) v q ≡ led_all (led_all ways xs v) ys v q
 all_append ways [] ys v q = refl
 all_append ways (x ∷ xs) ys v q = all_append (led ways x v) xs ys v q
 
 -- where ways are the same, so are they after
-led_same : (ways others : ℕ → Option Way) (to : ℕ) (v : Way) → ((q : ℕ) → ways q ≡ others q) → (q : ℕ) → led ways to v q ≡ led others to v q
+led_same : (ways others : ℕ → Option Way) (to : ℕ) (v : Way) → ((q : ℕ) → ways q ≡ others q) → (q : ℕ)
+    → led ways to v q ≡ led others to v q
 led_same ways others to v s q = elim (cases_eq q to) [
   | inl e ↦ led_here ways to v q e ∙ ap (λ (o : Option Way). Some (join o v)) (s to) ∙ sym (led_here others to v q e)
   | inr ne ↦ led_other ways to v q ne ∙ s q ∙ sym (led_other others to v q ne)
 ]
 
-pub all_same : (ways others : ℕ → Option Way) (tos : List ℕ) (v : Way) → ((q : ℕ) → ways q ≡ others q) → (q : ℕ) → led_all ways tos v q ≡ led_all others tos v q
+pub all_same : (ways others : ℕ → Option Way) (tos : List ℕ) (v : Way) → ((q : ℕ) → ways q ≡ others q) → (q : ℕ)
+    → led_all ways tos v q ≡ led_all others tos v q
 all_same ways others [] v s q = s q
 all_same ways others (to ∷ tos) v s q = all_same (led ways to v) (led others to v) tos v (led_same ways others to v s) q
 

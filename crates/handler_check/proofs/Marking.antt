@@ -1,5 +1,6 @@
 -- Judged place by place, code is accepted.
-use Rattle.std.proofs.Common.{◌≡◌, ℕ, zero, suc, ◌+◌, ◌<◌, ◌≤◌, Bool, true, false, Option, Some, None, List, [], ◌∷◌, length, refl, ap, sym, ◌∙◌, subst, arith, inl, inr, ◌⊎◌}
+use Rattle.std.proofs.Common.{◌≡◌, ℕ, zero, suc, ◌+◌, ◌<◌, ◌≤◌, Bool, true, false, Option, Some, None, List, [], ◌∷◌}
+use Rattle.std.proofs.Common.{length, refl, ap, sym, ◌∙◌, subst, arith, inl, inr, ◌⊎◌}
 use Rattle.std.proofs.lemmas.Bool.{false≢true}
 use Rattle.cpu12_isa.specs.declared.instr.Instr.{Instr}
 use Rattle.cpu12_isa.specs.declared.instr.Instr.TheVariants.{Beq, Bne, Bcc, Bcs, Bra, Rti}
@@ -33,7 +34,8 @@ short is (suc n) at h p =
     omega (arith, r, l)
 
 -- what was seen of an instruction to which no fault applies, with its way and the way that it leads on
-pub record Seen (is : List Instr) (trapped : Bool) (at best more : ℕ) (ways : ℕ → Option Way) (i : Instr) (way v : Way) : Type 0 where
+pub record Seen (is : List Instr) (trapped : Bool) (at best more : ℕ) (ways : ℕ → Option Way) (i : Instr)
+    (way v : Way) : Type 0 where
   pub judged : AreJudged is trapped at best ways
   pub here : IsAt is at i
   pub way_is : ways at ≡ Some way
@@ -46,20 +48,24 @@ pub record Seen (is : List Instr) (trapped : Bool) (at best more : ℕ) (ways : 
   pub few : i ≡ Rti → suc way.most ≤ more
   pub longest : (more ≡ best) ⊎ ((i ≡ Rti) × (suc way.most ≡ more))
 
-here_path : (is : List Instr) (trapped : Bool) (at best more : ℕ) (ways : ℕ → Option Way) (i : Instr) (way v : Way) → Seen is trapped at best more ways i way v → Path is way.most at way.height
+here_path : (is : List Instr) (trapped : Bool) (at best more : ℕ) (ways : ℕ → Option Way) (i : Instr) (way v : Way)
+    → Seen is trapped at best more ways i way v → Path is way.most at way.height
 here_path is trapped at best more ways i way v s = (s.judged.sound at way s.way_is).one (s.passes.meets (omega arith))
 
 leads_further : (is : List Instr) (at to : ℕ) (i : Instr) → IsIn (leads at i) to → at < to
 leads_further is at to i k = let z = size_low i in leads_on i at to z.0 k
 
-pub mark_on : (is : List Instr) (trapped : Bool) (at best more : ℕ) (ways later : ℕ → Option Way) (i : Instr) (way v : Way) → Seen is trapped at best more ways i way v
+pub mark_on : (is : List Instr) (trapped : Bool) (at best more : ℕ) (ways later : ℕ → Option Way) (i : Instr)
+    (way v : Way) → Seen is trapped at best more ways i way v
     → ((q : ℕ) → later q ≡ led_all ways (leads at i) v q) → AreJudged is trapped (at + size_of i) more later
 mark_on is trapped at best more ways later i way v s on = record {
   sound = λ q w e. sound q w (sym (on q) ∙ e);
-  complete = λ n q h p. (let a = complete n q h p in record { way = a.way; is = on q ∙ a.is; height = a.height; few = a.few });
+  complete = λ n q h p.
+      (let a = complete n q h p in record { way = a.way; is = on q ∙ a.is; height = a.height; few = a.few });
   each = each;
   longest = elim s.longest [
-    | inl e ↦ subst (λ (m : ℕ). (m ≡ 0) ⊎ ((n : ℕ) × (q : ℕ) × (h : ℕ) × (Path is n q h × IsAt is q Rti × (suc n ≡ m)))) (sym e) s.judged.longest
+    | inl e ↦ subst (λ (m : ℕ). (m ≡ 0) ⊎ ((n : ℕ) × (q : ℕ) × (h : ℕ) × (Path is n q h × IsAt is q Rti × (suc n ≡ m))))
+        (sym e) s.judged.longest
     | inr e ↦ inr (way.most, at, way.height, (path, subst (λ (j : Instr). IsAt is at j) e.0 s.here, e.1))
   ];
 }
@@ -68,15 +74,23 @@ mark_on is trapped at best more ways later i way v s on = record {
     path = here_path is trapped at best more ways i way v s
 
     next_path : (q : ℕ) → IsIn (leads at i) q → Path is v.most q v.height
-    next_path q k = subst (λ (n : ℕ). Path is n q v.height) (sym s.most) (at, way.height, i, (path, s.here, k, s.height))
+    next_path q k = subst (λ (n : ℕ). Path is n q v.height) (sym s.most)
+        (at, way.height, i, (path, s.here, k, s.height))
 
     next_way : (q : ℕ) → IsIn (leads at i) q → IsWay is q v
-    next_way q k = record { one = λ e. next_path q k; two = λ e. absurd (false≢true (sym s.meets ∙ e)); some = (v.most, v.height, next_path q k); low = s.low }
+    next_way q k = record {
+      one = λ e. next_path q k;
+      two = λ e. absurd (false≢true (sym s.meets ∙ e));
+      some =
+          (v.most, v.height, next_path q k);
+      low = s.low;
+    }
 
     sound : (q : ℕ) (w : Way) → led_all ways (leads at i) v q ≡ Some w → IsWay is q w
     sound = all_is is ways (leads at i) v s.meets s.judged.sound next_way
 
-    new_path : (n q h : ℕ) → Path is n at h → IsIn (leads at i) q → Has (led_all ways (leads at i) v) q (height_after i h) (suc n)
+    new_path : (n q h : ℕ) → Path is n at h → IsIn (leads at i) q
+        → Has (led_all ways (leads at i) v) q (height_after i h) (suc n)
     new_path n q h p k =
         let a = s.judged.complete n at h (below_of is at n at h (omega arith) p) in
         let same : a.way ≡ way = one_way a.way way (sym a.is ∙ s.way_is) in
@@ -96,10 +110,15 @@ mark_on is trapped at best more ways later i way v s on = record {
     complete : (n q h : ℕ) → PathBelow is (at + size_of i) n q h → Has (led_all ways (leads at i) v) q h n
     complete zero q h p = all_has ways (leads at i) v q h 0 (s.judged.complete 0 q h p)
     complete (suc n) q h p = elim (apart_places 16384 is p.0 at p.2 i p.3.1 s.here) [
-      | inl same ↦ subst (λ (k : ℕ). Has (led_all ways (leads at i) v) q k (suc n)) (sym (p.3.3 ∙ ap (λ (j : Instr). height_after j p.1) same.1))
-          (new_path n q p.1 (subst (λ (k : ℕ). Path is n k p.1) same.0 p.3.0) (subst (λ (j : Instr). IsIn (leads at j) q) same.1 (subst (λ (k : ℕ). IsIn (leads k p.2) q) same.0 p.3.2)))
+      | inl same ↦ subst (λ (k : ℕ). Has (led_all ways (leads at i) v) q k (suc n))
+          (sym (p.3.3 ∙ ap (λ (j : Instr). height_after j p.1) same.1))
+          (new_path n q p.1 (subst (λ (k : ℕ). Path is n k p.1) same.0 p.3.0)
+          (subst (λ (j : Instr). IsIn (leads at j) q) same.1
+          (subst (λ (k : ℕ). IsIn (leads k p.2) q) same.0 p.3.2)))
       | inr apart ↦ elim apart [
-        | inl under ↦ (let z = size_low p.2 in all_has ways (leads at i) v q h (suc n) (s.judged.complete (suc n) q h (p.0, p.1, p.2, (p.3.0, p.3.1, p.3.2, p.3.3, omega (arith, z.0, under)))))
+        | inl under ↦ (let z = size_low p.2 in
+            all_has ways (leads at i) v q h (suc n)
+            (s.judged.complete (suc n) q h (p.0, p.1, p.2, (p.3.0, p.3.1, p.3.2, p.3.3, omega (arith, z.0, under)))))
         | inr over ↦ absurd (let l = p.3.4 in omega arith)
       ]
     ]
@@ -112,12 +131,19 @@ mark_on is trapped at best more ways later i way v s on = record {
 
     each : (q : ℕ) (k : Instr) → IsAt is q k → q < at + size_of i → Judged is trapped more later q k
     each q k w l = elim (apart_places 16384 is q at k i w s.here) [
-      | inl same ↦ subst (λ (p : ℕ). Judged is trapped more later p k) (sym same.0) (subst (λ (j : Instr). Judged is trapped more later at j) (sym same.1) judged_here)
+      | inl same ↦ subst (λ (p : ℕ). Judged is trapped more later p k) (sym same.0)
+          (subst (λ (j : Instr). Judged is trapped more later at j) (sym same.1) judged_here)
       | inr apart ↦ elim apart [
         | inl under ↦ (let z = size_low k in
             let b = s.judged.each q k w (omega (arith, z.0, under)) in
             let over = s.over in
-            record { way = b.way; is_marked = kept q (omega (arith, z.0, under)) ∙ b.is_marked; passes = b.passes; few = λ e. (let f = b.few e in omega arith) })
+            record {
+              way = b.way;
+              is_marked = kept q (omega (arith, z.0, under)) ∙ b.is_marked;
+              passes = b.passes;
+              few =
+                  λ e. (let f = b.few e in omega arith);
+            })
         | inr over ↦ absurd (omega arith)
       ]
     ]
@@ -131,7 +157,8 @@ record Knows (is : List Instr) (best : ℕ) (ways : ℕ → Option Way) (n at h 
   few : n ≤ way.most
   ends : i ≡ Rti → suc way.most ≤ best
 
-knows : (is : List Instr) (best : ℕ) (ways : ℕ → Option Way) → AreJudged is false (code_end is) best ways → (n at h : ℕ) (i : Instr) → Path is n at h → IsAt is at i → Knows is best ways n at h i
+knows : (is : List Instr) (best : ℕ) (ways : ℕ → Option Way) → AreJudged is false (code_end is) best ways
+    → (n at h : ℕ) (i : Instr) → Path is n at h → IsAt is at i → Knows is best ways n at h i
 knows is best ways m n at h i path w =
     let l = below_end is at i w in
     let below : at < code_end is = l.1 in
@@ -141,12 +168,21 @@ knows is best ways m n at h i path w =
     let apart : a.way.meets ≡ false = ap (λ (u : Way). u.meets) same ∙ b.passes.meets (omega arith) in
     let most : a.way.most ≡ b.way.most = ap (λ (u : Way). u.most) same in
     let few = a.few apart in
-    record { way = b.way; is_marked = b.is_marked; passes = b.passes; height = a.height apart ∙ ap (λ (u : Way). u.height) same; few = omega arith; ends = b.few }
+    record {
+      way = b.way;
+      is_marked = b.is_marked;
+      passes = b.passes;
+      height =
+          a.height apart ∙ ap (λ (u : Way). u.height) same;
+      few = omega arith;
+      ends = b.few;
+    }
 
 first_stands : (is : List Instr) (at : ℕ) → IsFirst is false at → (i : Instr) × IsAt is at i
 first_stands is at f = elim f [ inl p ↦ p | inr t ↦ absurd (false≢true t.0) ]
 
-stands_at : (is : List Instr) (best : ℕ) (ways : ℕ → Option Way) → AreJudged is false (code_end is) best ways → ((i : Instr) × IsAt is 16384 i) → (n at h : ℕ) → Path is n at h → (i : Instr) × IsAt is at i
+stands_at : (is : List Instr) (best : ℕ) (ways : ℕ → Option Way) → AreJudged is false (code_end is) best ways
+    → ((i : Instr) × IsAt is 16384 i) → (n at h : ℕ) → Path is n at h → (i : Instr) × IsAt is at i
 stands_at is best ways m start zero at h path = (start.0, subst (λ (k : ℕ). IsAt is k start.0) (sym path.0) start.1)
 stands_at is best ways m start (suc n) at h path =
     let k = knows is best ways m n path.0 path.1 path.2 path.3.0 path.3.1 in
@@ -155,8 +191,16 @@ stands_at is best ways m start (suc n) at h path =
       | inr l ↦ first_stands is at (k.passes.branches (omega arith) at l)
     ]
 
-pub may_of : (is : List Instr) (trapped : Bool) (at : ℕ) (i : Instr) (way : Way) → Passes is trapped at i way 9 → May i way.height
-may_of is trapped at i way p = record { allowed = p.allowed (omega arith); free = p.free (omega arith); forward = p.forward (omega arith); height = p.height (omega arith) }
+pub may_of : (is : List Instr) (trapped : Bool) (at : ℕ) (i : Instr) (way : Way) → Passes is trapped at i way 9
+    → May i way.height
+may_of is trapped at i way p =
+    record {
+      allowed = p.allowed (omega arith);
+      free = p.free (omega arith);
+      forward = p.forward (omega arith);
+      height =
+          p.height (omega arith);
+    }
 
 -- where an instruction leads to
 leads_to : (i : Instr) (at : ℕ) → is_stepping i ≡ true → GoesForward i → (to : ℕ) × IsIn (leads at i) to
@@ -164,12 +208,14 @@ leads_to (Beq to) at a f = (at + 2, inl refl)
 leads_to (Bne to) at a f = (at + 2, inl refl)
 leads_to (Bcc to) at a f = (at + 2, inl refl)
 leads_to (Bcs to) at a f = (at + 2, inl refl)
-leads_to (Bra to) at a f = (at + 2 + to, subst (λ (ts : List ℕ). IsIn ts (at + 2 + to)) (sym (target_is at to f)) (inl refl))
+leads_to (Bra to) at a f =
+    (at + 2 + to, subst (λ (ts : List ℕ). IsIn ts (at + 2 + to)) (sym (target_is at to f)) (inl refl))
 leads_to Rti at a f = absurd (false≢true a)
 leads_to i at a f = (at + size_of i, inl refl)
 
 -- some path has an end
-ends_at : (is : List Instr) (best : ℕ) (ways : ℕ → Option Way) → AreJudged is false (code_end is) best ways → ((i : Instr) × IsAt is 16384 i)
+ends_at : (is : List Instr) (best : ℕ) (ways : ℕ → Option Way) → AreJudged is false (code_end is) best ways
+    → ((i : Instr) × IsAt is 16384 i)
     → (left n at h : ℕ) → code_end is ≤ at + left → Path is n at h → 0 < best
 ends_at is best ways m start zero n at h l path =
     let f = stands_at is best ways m start n at h path in
@@ -180,15 +226,20 @@ ends_at is best ways m start (suc left) n at h l path =
     let k = knows is best ways m n at h f.0 path f.1 in
     elim (rti_or f.0 (k.passes.allowed (omega arith))) [
       | inl rti ↦ (let few = k.ends rti in omega arith)
-      | inr p ↦ (let to = leads_to f.0 at p (k.passes.forward (omega arith)) in let s = size_low f.0 in let on = leads_on f.0 at to.0 s.0 to.1 in
-          ends_at is best ways m start left (suc n) to.0 (height_after f.0 h) (omega (arith, on)) (at, h, f.0, (path, f.1, to.1, refl)))
+      | inr p ↦ (let to = leads_to f.0 at p (k.passes.forward (omega arith)) in let s = size_low f.0 in
+          let on = leads_on f.0 at to.0 s.0 to.1 in
+          ends_at is best ways m start left (suc n) to.0 (height_after f.0 h) (omega (arith, on))
+          (at, h, f.0, (path, f.1, to.1, refl)))
     ]
 
-longest_of : (is : List Instr) (best : ℕ) → 0 < best → ((best ≡ 0) ⊎ ((n : ℕ) × (at : ℕ) × (h : ℕ) × (Path is n at h × IsAt is at Rti × (suc n ≡ best)))) → (n : ℕ) × (at : ℕ) × (h : ℕ) × (Path is n at h × IsAt is at Rti × (suc n ≡ best))
+longest_of : (is : List Instr) (best : ℕ) → 0 < best
+    → ((best ≡ 0) ⊎ ((n : ℕ) × (at : ℕ) × (h : ℕ) × (Path is n at h × IsAt is at Rti × (suc n ≡ best))))
+    → (n : ℕ) × (at : ℕ) × (h : ℕ) × (Path is n at h × IsAt is at Rti × (suc n ≡ best))
 longest_of is best l (inl e) = absurd (omega arith)
 longest_of is best l (inr r) = r
 
-pub accepted_of : (is : List Instr) (best : ℕ) (ways : ℕ → Option Way) → AllFit is → code_end is ≤ 20480 → ((i : Instr) × IsAt is 16384 i) → AreJudged is false (code_end is) best ways → IsAccepted is best
+pub accepted_of : (is : List Instr) (best : ℕ) (ways : ℕ → Option Way) → AllFit is → code_end is ≤ 20480
+    → ((i : Instr) × IsAt is 16384 i) → AreJudged is false (code_end is) best ways → IsAccepted is best
 accepted_of is best ways fits ends start m = record {
   fits = fits;
   ends = ends;
@@ -198,16 +249,22 @@ accepted_of is best ways fits ends start m = record {
       let b = knows is best ways m n at h f.0 q f.1 in
       a.height ∙ ap (λ (u : Way). u.height) (one_way a.way b.way (sym a.is_marked ∙ b.is_marked)) ∙ sym b.height);
   stands = stands_at is best ways m start;
-  may = λ n at h i p w. (let k = knows is best ways m n at h i p w in subst (λ (j : ℕ). May i j) (sym k.height) (may_of is false at i k.way k.passes));
-  most = λ n at h p w. (let k = knows is best ways m n at h Rti p w in let f = k.ends refl in let few = k.few in omega arith);
-  longest = longest_of is best (ends_at is best ways m start (length (code_bytes is)) 0 16384 0 (omega arith) (refl, refl)) m.longest;
+  may = λ n at h i p w.
+      (let k = knows is best ways m n at h i p w in
+      subst (λ (j : ℕ). May i j) (sym k.height) (may_of is false at i k.way k.passes));
+  most = λ n at h p w.
+      (let k = knows is best ways m n at h Rti p w in let f = k.ends refl in let few = k.few in omega arith);
+  longest = longest_of is best
+      (ends_at is best ways m start (length (code_bytes is)) 0 16384 0 (omega arith) (refl, refl)) m.longest;
 }
 
 -- no instruction judged yet
-pub mark_first : (is : List Instr) (trapped : Bool) (ways : ℕ → Option Way) (first : Way) → first ≡ record { height = 0; most = 0; meets = false }
+pub mark_first : (is : List Instr) (trapped : Bool) (ways : ℕ → Option Way) (first : Way)
+    → first ≡ record { height = 0; most = 0; meets = false }
     → ((q : ℕ) → ways q ≡ led_all (λ at. None) (16384 ∷ []) first q) → AreJudged is trapped 16384 0 ways
 mark_first is trapped ways first one on = record {
-  sound = λ q w e. all_is is (λ at. None) (16384 ∷ []) first (ap (λ (u : Way). u.meets) one) (λ at way k. absurd (none_some way k)) start_way q w (sym (on q) ∙ e);
+  sound = λ q w e. all_is is (λ at. None) (16384 ∷ []) first (ap (λ (u : Way). u.meets) one)
+      (λ at way k. absurd (none_some way k)) start_way q w (sym (on q) ∙ e);
   complete = complete;
   each = λ at i w l. absurd (let r = below_end is at i w in omega (arith, r.0));
   longest = inl refl;
@@ -223,7 +280,8 @@ mark_first is trapped ways first one on = record {
     most = ap (λ (u : Way). u.most) one
 
     start_path : (q : ℕ) → IsIn (16384 ∷ []) q → Path is first.most q first.height
-    start_path q k = subst (λ (n : ℕ). Path is n q first.height) (sym most) (elim k [ inl e ↦ (e, height) | inr n ↦ absurd n ])
+    start_path q k = subst (λ (n : ℕ). Path is n q first.height) (sym most)
+        (elim k [ inl e ↦ (e, height) | inr n ↦ absurd n ])
 
     start_way : (q : ℕ) → IsIn (16384 ∷ []) q → IsWay is q first
     start_way q k = record {

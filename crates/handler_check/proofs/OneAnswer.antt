@@ -1,18 +1,23 @@
 -- An image is a handler with one count, or has one first fault.
-use Rattle.std.proofs.Common.{◌≡◌, ℕ, suc, ◌+◌, ◌<◌, ◌≤◌, Bool, true, false, nat_lt, Ok, Some, None, List, [], ◌∷◌, length, get_or, refl, ap, sym, ◌∙◌, subst, arith, inl, inr, ◌⊎◌, length-append}
+use Rattle.std.proofs.Common.{◌≡◌, ℕ, suc, ◌+◌, ◌<◌, ◌≤◌, Bool, true, false, nat_lt, Ok, Some, None, List, [], ◌∷◌}
+use Rattle.std.proofs.Common.{length, get_or, refl, ap, sym, ◌∙◌, subst, arith, inl, inr, ◌⊎◌, length-append}
 use Rattle.std.specs.Prelude.{if◌then◌else◌, IsSome, is_some, Result}
 use Rattle.std.proofs.lemmas.Bool.{cases_lt}
 use Rattle.cpu12_isa.specs.declared.instr.Instr.{Instr}
-use Rattle.cpu12_isa.specs.declared.instr.Instr.TheVariants.{StaaExtended, StabExtended, ClrExtended, Beq, Bne, Bcc, Bcs, Bra, Rti, IncExtended, DecExtended, MovbImmediate, MovbExtended}
+use Rattle.cpu12_isa.specs.declared.instr.Instr.TheVariants.{StaaExtended, StabExtended, ClrExtended, Beq, Bne, Bcc}
+use Rattle.cpu12_isa.specs.declared.instr.Instr.TheVariants.{Bcs, Bra, Rti, IncExtended, DecExtended, MovbImmediate}
+use Rattle.cpu12_isa.specs.declared.instr.Instr.TheVariants.{MovbExtended}
 use Rattle.cpu12_isa.specs.Code.{encode_of, FitsOperands, DecodesEncoded, decode_at}
 use Rattle.cpu12_asm.specs.Bytes.{byte_at}
 use Rattle.cpu12_emul.specs.Image.{byte_or_zero, image_memory, HoldsImage}
 use Rattle.handler_check.specs.declared.faults.HandlerFault.{HandlerFault}
-use Rattle.handler_check.specs.declared.faults.HandlerFault.TheVariants.{Empty, Outside, Dead, Trap, Refused, NotFree, Backward, Target, Height, Falls, Memory}
+use Rattle.handler_check.specs.declared.faults.HandlerFault.TheVariants.{Empty, Outside, Dead, Trap, Refused, NotFree}
+use Rattle.handler_check.specs.declared.faults.HandlerFault.TheVariants.{Backward, Target, Height, Falls, Memory}
 use Rattle.handler_check.specs.Cut.{size_of, code_bytes, code_end, AllFit, IsAt}
 use Rattle.handler_check.specs.Paths.{IsIn, written_by, target, branches_to, Path}
 use Rattle.handler_check.specs.Faults.{Applies, place_of, rank, IsFirstFault}
-use Rattle.handler_check.specs.Images.{Gives, IsCut, is_trapped, IsOutside, IsWhole, IsFault, IsHandler, HandlersHaveNoFault, FaultsAreOne, CountsAreOne}
+use Rattle.handler_check.specs.Images.{Gives, IsCut, is_trapped, IsOutside, IsWhole, IsFault, IsHandler}
+use Rattle.handler_check.specs.Images.{HandlersHaveNoFault, FaultsAreOne, CountsAreOne}
 use Rattle.handler_check.proofs.Decoding.{size_low}
 use Rattle.handler_check.proofs.Places.{one_instr}
 use Rattle.handler_check.proofs.Given.{HasBytes, gives_get, gives_left, gives_right, one_given}
@@ -20,23 +25,35 @@ use Rattle.handler_check.proofs.Extents.{none_not}
 use Rattle.handler_check.proofs.FirstFaults.{faultless}
 
 -- images with the same bytes
-gives_alike : (a b : List (ℕ × ℕ)) → ((at : ℕ) → byte_at a at ≡ byte_at b at) → (at : ℕ) (vs : List ℕ) → Gives a at vs → Gives b at vs
+gives_alike : (a b : List (ℕ × ℕ)) → ((at : ℕ) → byte_at a at ≡ byte_at b at) → (at : ℕ) (vs : List ℕ) → Gives a at vs
+    → Gives b at vs
 gives_alike a b same at [] g = tt
 gives_alike a b same at (v ∷ vs) g = (sym (same at) ∙ g.0, gives_alike a b same (at + 1) vs g.1)
 
-outside_alike : (a b : List (ℕ × ℕ)) → ((at : ℕ) → byte_at a at ≡ byte_at b at) → (at : ℕ) → IsOutside a at → IsOutside b at
+outside_alike : (a b : List (ℕ × ℕ)) → ((at : ℕ) → byte_at a at ≡ byte_at b at) → (at : ℕ) → IsOutside a at
+    → IsOutside b at
 outside_alike a b same at o = (
   ap is_some (sym (same at)) ∙ o.0,
   elim o.1 [
     | inl l ↦ inl l
-    | inr r ↦ elim r [ inl l ↦ inr (inl l) | inr gap ↦ inr (inr (gap.0, (gap.1.0, gap.1.1, sym (same gap.0) ∙ gap.1.2))) ]
+    | inr r ↦ elim r [
+      | inl l ↦ inr (inl l)
+      | inr gap ↦ inr
+          (inr (gap.0, (gap.1.0, gap.1.1, sym (same gap.0) ∙ gap.1.2)))
+    ]
   ],
 )
 
 whole_alike : (a b : List (ℕ × ℕ)) → ((at : ℕ) → byte_at a at ≡ byte_at b at) → IsWhole a → IsWhole b
-whole_alike a b same w = record { begins = ap is_some (sym (same 16384)) ∙ w.begins; inside = λ at o. w.inside at (outside_alike b a (λ q. sym (same q)) at o) }
+whole_alike a b same w =
+    record {
+      begins = ap is_some (sym (same 16384)) ∙ w.begins;
+      inside =
+          λ at o. w.inside at (outside_alike b a (λ q. sym (same q)) at o);
+    }
 
-cut_alike : (a b : List (ℕ × ℕ)) → ((at : ℕ) → byte_at a at ≡ byte_at b at) → (is : List Instr) → IsCut a is → IsCut b is
+cut_alike : (a b : List (ℕ × ℕ)) → ((at : ℕ) → byte_at a at ≡ byte_at b at) → (is : List Instr) → IsCut a is
+    → IsCut b is
 cut_alike a b same is c = record {
   fits = c.fits;
   stands = gives_alike a b same 16384 (code_bytes is) c.stands;
@@ -45,7 +62,8 @@ cut_alike a b same is c = record {
 
 -- an image has one cut
 low_at : (image : List (ℕ × ℕ)) (at b : ℕ) → IsWhole image → byte_at image at ≡ Some b → at < 20480
-low_at image at b w e = elim (cases_lt at 20480) [ inl l ↦ l | inr l ↦ absurd (w.inside at (ap is_some e, inr (inl l))) ]
+low_at image at b w e =
+    elim (cases_lt at 20480) [ inl l ↦ l | inr l ↦ absurd (w.inside at (ap is_some e, inr (inl l))) ]
 
 held : HoldsImage → (image : List (ℕ × ℕ)) → IsWhole image → HasBytes image (image_memory image)
 held holds image w at b e = (let l = low_at image at b w e in (holds image).1 at (omega arith)) ∙ ap byte_or_zero e
@@ -54,12 +72,15 @@ first_given : (image : List (ℕ × ℕ)) (at : ℕ) (i : Instr) → IsWhole ima
 first_given image at i w g =
     let z = size_low i in
     let e : at + 0 ≡ at = omega arith in
-    low_at image at (get_or (encode_of i) 0 0) w (subst (λ (n : ℕ). byte_at image n ≡ Some (get_or (encode_of i) 0 0)) e (gives_get image at (encode_of i) 0 g z.0))
+    low_at image at (get_or (encode_of i) 0 0) w
+    (subst (λ (n : ℕ). byte_at image n ≡ Some (get_or (encode_of i) 0 0)) e
+    (gives_get image at (encode_of i) 0 g z.0))
 
 one_ok : (i j : Instr) (r : Result Instr ℕ) → r ≡ Ok i → r ≡ Ok j → i ≡ j
 one_ok i j r e f = (let h : Ok i ≡ Ok j = sym e ∙ f in cc)
 
-same_instr : DecodesEncoded → HoldsImage → (image : List (ℕ × ℕ)) → IsWhole image → (at : ℕ) (i j : Instr) → FitsOperands i → FitsOperands j → Gives image at (encode_of i) → Gives image at (encode_of j) → i ≡ j
+same_instr : DecodesEncoded → HoldsImage → (image : List (ℕ × ℕ)) → IsWhole image → (at : ℕ) (i j : Instr)
+    → FitsOperands i → FitsOperands j → Gives image at (encode_of i) → Gives image at (encode_of j) → i ≡ j
 same_instr decodes holds image w at i j fi fj gi gj =
     let l = first_given image at i w gi in
     one_ok i j (decode_at (image_memory image) at)
@@ -71,7 +92,8 @@ record Cuts (image : List (ℕ × ℕ)) (start : ℕ) (is : List Instr) : Type 0
   stands : Gives image start (code_bytes is)
   ends : (i : Instr) → FitsOperands i → Gives image (start + length (code_bytes is)) (encode_of i) → ⊥
 
-tail_cuts : (image : List (ℕ × ℕ)) (start : ℕ) (i : Instr) (is : List Instr) → Cuts image start (i ∷ is) → Cuts image (start + size_of i) is
+tail_cuts : (image : List (ℕ × ℕ)) (start : ℕ) (i : Instr) (is : List Instr) → Cuts image start (i ∷ is)
+    → Cuts image (start + size_of i) is
 tail_cuts image start i is c = record {
   fits = c.fits.1;
   stands = gives_right image start (encode_of i) (code_bytes is) c.stands;
@@ -80,15 +102,22 @@ tail_cuts image start i is c = record {
       c.ends j f (subst (λ (n : ℕ). Gives image n (encode_of j)) e g));
 }
 
-no_more : (image : List (ℕ × ℕ)) (start : ℕ) (j : Instr) (js : List Instr) → Cuts image start [] → Cuts image start (j ∷ js) → ⊥
-no_more image start j js c d = c.ends j d.fits.0 (let e : start + 0 ≡ start = omega arith in subst (λ (n : ℕ). Gives image n (encode_of j)) (sym e) (gives_left image start (encode_of j) (code_bytes js) d.stands))
+no_more : (image : List (ℕ × ℕ)) (start : ℕ) (j : Instr) (js : List Instr) → Cuts image start []
+    → Cuts image start (j ∷ js) → ⊥
+no_more image start j js c d =
+    c.ends j d.fits.0 (let e : start + 0 ≡ start = omega arith in
+    subst (λ (n : ℕ). Gives image n (encode_of j)) (sym e)
+    (gives_left image start (encode_of j) (code_bytes js) d.stands))
 
-same_cuts : DecodesEncoded → HoldsImage → (image : List (ℕ × ℕ)) → IsWhole image → (start : ℕ) (is js : List Instr) → Cuts image start is → Cuts image start js → is ≡ js
+same_cuts : DecodesEncoded → HoldsImage → (image : List (ℕ × ℕ)) → IsWhole image → (start : ℕ) (is js : List Instr)
+    → Cuts image start is → Cuts image start js → is ≡ js
 same_cuts decodes holds image w start [] [] c d = refl
 same_cuts decodes holds image w start [] (j ∷ js) c d = absurd (no_more image start j js c d)
 same_cuts decodes holds image w start (i ∷ is) [] c d = absurd (no_more image start i is d c)
 same_cuts decodes holds image w start (i ∷ is) (j ∷ js) c d =
-    let same : i ≡ j = same_instr decodes holds image w start i j c.fits.0 d.fits.0 (gives_left image start (encode_of i) (code_bytes is) c.stands) (gives_left image start (encode_of j) (code_bytes js) d.stands) in
+    let same : i ≡ j = same_instr decodes holds image w start i j c.fits.0 d.fits.0
+    (gives_left image start (encode_of i) (code_bytes is) c.stands)
+    (gives_left image start (encode_of j) (code_bytes js) d.stands) in
     let rest : is ≡ js = same_cuts decodes holds image w (start + size_of i) is js (tail_cuts image start i is c)
     (subst (λ (k : Instr). Cuts image (start + size_of k) js) (sym same) (tail_cuts image start j js d)) in
     cc
@@ -96,17 +125,21 @@ same_cuts decodes holds image w start (i ∷ is) (j ∷ js) c d =
 cuts_of : (image : List (ℕ × ℕ)) (is : List Instr) → IsCut image is → Cuts image 16384 is
 cuts_of image is c = record { fits = c.fits; stands = c.stands; ends = c.ends }
 
-one_cut : DecodesEncoded → HoldsImage → (image : List (ℕ × ℕ)) → IsWhole image → (is js : List Instr) → IsCut image is → IsCut image js → is ≡ js
-one_cut decodes holds image w is js c d = same_cuts decodes holds image w 16384 is js (cuts_of image is c) (cuts_of image js d)
+one_cut : DecodesEncoded → HoldsImage → (image : List (ℕ × ℕ)) → IsWhole image → (is js : List Instr) → IsCut image is
+    → IsCut image js → is ≡ js
+one_cut decodes holds image w is js c d =
+    same_cuts decodes holds image w 16384 is js (cuts_of image is c) (cuts_of image js d)
 
 -- the sorts of faults
 abbrev Coded : List (ℕ × ℕ) → HandlerFault → Type 0
 Coded image f = IsWhole image × ((is : List Instr) × (IsCut image is × IsFirstFault is (is_trapped image is) f))
 
 abbrev Beyond : List (ℕ × ℕ) → HandlerFault → Type 0
-Beyond image f = (at : ℕ) × ((f ≡ Outside at) × IsSome (byte_at image 16384) × IsOutside image at × ((q : ℕ) → IsOutside image q → at ≤ q))
+Beyond image f = (at : ℕ)
+    × ((f ≡ Outside at) × IsSome (byte_at image 16384) × IsOutside image at × ((q : ℕ) → IsOutside image q → at ≤ q))
 
-sorts : (image : List (ℕ × ℕ)) (f : HandlerFault) → IsFault image f → ((f ≡ Empty) × (byte_at image 16384 ≡ None)) ⊎ (Beyond image f ⊎ Coded image f)
+sorts : (image : List (ℕ × ℕ)) (f : HandlerFault) → IsFault image f
+    → ((f ≡ Empty) × (byte_at image 16384 ≡ None)) ⊎ (Beyond image f ⊎ Coded image f)
 sorts image Empty a = inl (refl, a)
 sorts image (Outside at) a = inr (inl (at, (refl, a.0, a.1, a.2)))
 sorts image (Dead at) a = inr (inr a)
@@ -125,9 +158,13 @@ handlers_have_no_fault decodes holds image other instrs f same k a = elim (sorts
   | inl e ↦ none_not (byte_at other 16384) e.1 (whole_alike image other same k.whole).begins
   | inr r ↦ elim r [
     | inl o ↦ (whole_alike image other same k.whole).inside o.0 o.1.2
-    | inr c ↦ (let e : k.code ≡ c.1.0 = one_cut decodes holds other c.0 k.code c.1.0 (cut_alike image other same k.code k.cut) c.1.1.0 in
-        let t : is_trapped other c.1.0 ≡ false = ap (λ (js : List Instr). is_trapped other js) (sym e) ∙ ap is_some (sym (same (code_end k.code))) ∙ k.ends in
-        faultless k.code instrs k.accepted f (subst (λ (js : List Instr). Applies js false f) (sym e) (subst (λ (b : Bool). Applies c.1.0 b f) t c.1.1.1.applies)))
+    | inr c ↦ (let e : k.code ≡ c.1.0 =
+        one_cut decodes holds other c.0 k.code c.1.0 (cut_alike image other same k.code k.cut) c.1.1.0 in
+        let t : is_trapped other c.1.0 ≡ false = ap (λ (js : List Instr). is_trapped other js) (sym e)
+        ∙ ap is_some (sym (same (code_end k.code))) ∙ k.ends in
+        faultless k.code instrs k.accepted f
+        (subst (λ (js : List Instr). Applies js false f) (sym e)
+        (subst (λ (b : Bool). Applies c.1.0 b f) t c.1.1.1.applies)))
   ]
 ]
 
@@ -148,7 +185,8 @@ written_one i a b v w = absurd v
 target_one : (at to a b : ℕ) → IsIn (target at to) a → IsIn (target at to) b → a ≡ b
 target_one at to a b v w = cases (nat_lt to 128) v w
   where
-    cases : (t : Bool) → IsIn (if t then (at + 2 + to) ∷ [] else []) a → IsIn (if t then (at + 2 + to) ∷ [] else []) b → a ≡ b
+    cases : (t : Bool) → IsIn (if t then (at + 2 + to) ∷ [] else []) a
+        → IsIn (if t then (at + 2 + to) ∷ [] else []) b → a ≡ b
     cases true v w = single (at + 2 + to) a b v w
     cases false v w = absurd v
 
@@ -160,7 +198,8 @@ branch_one at (Bcs to) a b v w = target_one at to a b v w
 branch_one at (Bra to) a b v w = target_one at to a b v w
 branch_one at i a b v w = absurd v
 
-one_kind : (is : List Instr) (t : Bool) (f g : HandlerFault) → rank f ≡ rank g → place_of f ≡ place_of g → Applies is t f → Applies is t g → f ≡ g
+one_kind : (is : List Instr) (t : Bool) (f g : HandlerFault) → rank f ≡ rank g → place_of f ≡ place_of g
+    → Applies is t f → Applies is t g → f ≡ g
 one_kind is t Empty g r s a b = absurd a
 one_kind is t (Outside p) g r s a b = absurd a
 one_kind is t Memory g r s a b = absurd a
@@ -179,7 +218,9 @@ one_kind is t (Backward p) (Backward q) r s a b = ap (λ (n : ℕ). Backward n) 
 one_kind is t (Backward p) g r s a b = absurd (omega arith)
 one_kind is t (Target p x) (Target q y) r s a b =
     let j : b.0 ≡ a.0 = one_instr is p a.0 b.0 a.1.0 (subst (λ (n : ℕ). IsAt is n b.0) (sym s) b.1.0) in
-    let e : x ≡ y = branch_one p a.0 x y a.1.1 (subst (λ (k : Instr). IsIn (branches_to p k) y) j (subst (λ (n : ℕ). IsIn (branches_to n b.0) y) (sym s) b.1.1)) in
+    let e : x ≡ y = branch_one p a.0 x y a.1.1
+    (subst (λ (k : Instr). IsIn (branches_to p k) y) j
+    (subst (λ (n : ℕ). IsIn (branches_to n b.0) y) (sym s) b.1.1)) in
     cc
 one_kind is t (Target p x) g r s a b = absurd (omega arith)
 one_kind is t (Height p) (Height q) r s a b = ap (λ (n : ℕ). Height n) s
@@ -192,7 +233,8 @@ one_first is t f g a b = elim (a.first g b.applies) [
   | inl l ↦ elim (b.first f a.applies) [ inl k ↦ absurd (omega arith) | inr k ↦ absurd (let e = k.0 in omega arith) ]
   | inr l ↦ elim (b.first f a.applies) [
     | inl k ↦ absurd (let e = l.0 in omega arith)
-    | inr k ↦ (let x = l.1 in let y = k.1 in let r : rank f ≡ rank g = omega arith in one_kind is t f g r l.0 a.applies b.applies)
+    | inr k ↦ (let x = l.1 in let y = k.1 in let r : rank f ≡ rank g = omega arith in
+        one_kind is t f g r l.0 a.applies b.applies)
   ]
 ]
 
@@ -209,13 +251,15 @@ faults_are_one decodes holds image f g a b = elim (sorts image f a) [
     | inl h ↦ absurd (elim e [ inl o ↦ empty_whole image h.1 o.1.1 | inr c ↦ empty_whole image h.1 c.0.begins ])
     | inr h ↦ elim e [
       | inl o ↦ elim h [
-        | inl u ↦ (let x = o.1.3 u.0 u.1.2 in let y = u.1.3 o.0 o.1.2 in let s : o.0 ≡ u.0 = omega arith in o.1.0 ∙ ap (λ (n : ℕ). Outside n) s ∙ sym u.1.0)
+        | inl u ↦ (let x = o.1.3 u.0 u.1.2 in let y = u.1.3 o.0 o.1.2 in let s : o.0 ≡ u.0 = omega arith in
+            o.1.0 ∙ ap (λ (n : ℕ). Outside n) s ∙ sym u.1.0)
         | inr c ↦ absurd (c.0.inside o.0 o.1.2)
       ]
       | inr c ↦ elim h [
         | inl u ↦ absurd (c.0.inside u.0 u.1.2)
         | inr d ↦ (let s : c.1.0 ≡ d.1.0 = one_cut decodes holds image c.0 c.1.0 d.1.0 c.1.1.0 d.1.1.0 in
-            one_first c.1.0 (is_trapped image c.1.0) f g c.1.1.1 (subst (λ (js : List Instr). IsFirstFault js (is_trapped image js) g) (sym s) d.1.1.1))
+            one_first c.1.0 (is_trapped image c.1.0) f g c.1.1.1
+            (subst (λ (js : List Instr). IsFirstFault js (is_trapped image js) g) (sym s) d.1.1.1))
       ]
     ]
   ]
@@ -225,7 +269,8 @@ at_most : (image : List (ℕ × ℕ)) (m n : ℕ) (a : IsHandler image m) (b : I
 at_most image m n a b e =
     let l = a.accepted.longest in
     let same = l.3.2 in
-    let k = (subst (λ (js : List Instr). (p q h : ℕ) → Path js p q h → IsAt js q Rti → suc p ≤ n) (sym e) b.accepted.most) l.0 l.1 l.2 l.3.0 l.3.1 in
+    let k = (subst (λ (js : List Instr). (p q h : ℕ) → Path js p q h → IsAt js q Rti → suc p ≤ n)
+    (sym e) b.accepted.most) l.0 l.1 l.2 l.3.0 l.3.1 in
     omega arith
 
 pub counts_are_one : DecodesEncoded → HoldsImage → CountsAreOne

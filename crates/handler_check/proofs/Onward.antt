@@ -1,5 +1,7 @@
 -- What is needed where one instruction is judged.
-use Rattle.std.proofs.Common.{◌≡◌, ℕ, suc, ◌+◌, ◌<◌, ◌≤◌, Bool, true, false, Option, Some, None, List, [], ◌∷◌, ◌-◌, zero, nat_le, nat_lt, get_or, unwrap_or, replicate, length, refl, ap, sym, ◌∙◌, subst, arith, inl, inr}
+use Rattle.std.proofs.Common.{◌≡◌, ℕ, suc, ◌+◌, ◌<◌, ◌≤◌, Bool, true, false, Option, Some, None, List, [], ◌∷◌, ◌-◌}
+use Rattle.std.proofs.Common.{zero, nat_le, nat_lt, get_or, unwrap_or, replicate, length, refl, ap, sym, ◌∙◌, subst}
+use Rattle.std.proofs.Common.{arith, inl, inr}
 use Rattle.std.specs.Prelude.{IfSome, MatchOption, slice_get, if◌then◌else◌}
 use Rattle.cpu12_isa.specs.declared.instr.Instr.{Instr}
 use Rattle.cpu12_isa.specs.declared.instr.Instr.TheVariants.{LdaaImmediate, Psha, Pula}
@@ -26,7 +28,8 @@ height_low Pula h f l = omega arith
 height_low i h f l = l
 
 -- a place, if there is one, is one of the table's
-pub to_within : (is : List Instr) (trapped : Bool) (firsts : List Bool) (o : Option ℕ) (tos : List ℕ) (n : ℕ) → AreFirsts is trapped firsts → list_of o ≡ tos → ((q : ℕ) → IsIn tos q → IsFirst is trapped q) → n ≡ length firsts
+pub to_within : (is : List Instr) (trapped : Bool) (firsts : List Bool) (o : Option ℕ) (tos : List ℕ) (n : ℕ)
+    → AreFirsts is trapped firsts → list_of o ≡ tos → ((q : ℕ) → IsIn tos q → IsFirst is trapped q) → n ≡ length firsts
     → IfSome o (λ at. (16384 ≤ at) × (at < 16384 + n))
 to_within is trapped firsts None tos n t e f l = tt
 to_within is trapped firsts (Some at) tos n t e f l =
@@ -34,8 +37,10 @@ to_within is trapped firsts (Some at) tos n t e f l =
     (w.0, omega (arith, w.1))
 
 -- both ways on
-pub on_both : (ways mid later : ℕ → Option Way) (at : ℕ) (i : Instr) (falls branch : Option ℕ) (v : Way) → list_of falls ≡ falls_to at i → list_of branch ≡ branches_to at i
-    → ((q : ℕ) → mid q ≡ led_all ways (list_of falls) v q) → ((q : ℕ) → later q ≡ led_all mid (list_of branch) v q) → (q : ℕ) → later q ≡ led_all ways (leads at i) v q
+pub on_both : (ways mid later : ℕ → Option Way) (at : ℕ) (i : Instr) (falls branch : Option ℕ) (v : Way)
+    → list_of falls ≡ falls_to at i → list_of branch ≡ branches_to at i
+    → ((q : ℕ) → mid q ≡ led_all ways (list_of falls) v q) → ((q : ℕ) → later q ≡ led_all mid (list_of branch) v q)
+    → (q : ℕ) → later q ≡ led_all ways (leads at i) v q
 on_both ways mid later at i falls branch v e f a b q =
     b q
     ∙ all_same mid (led_all ways (list_of falls) v) (list_of branch) v a q
@@ -59,22 +64,30 @@ none_at xs n e q = subst (λ (ys : List (Option Way)). way_at ys q ≡ no_way) (
     cases true = unwrapped n (q - 16384)
     cases false = refl
 
-pub first_on : (xs : List (Option Way)) (n : ℕ) (later : ℕ → Option Way) (first : Way) → xs ≡ replicate n no_way → ((q : ℕ) → later q ≡ led_all (way_at xs) (16384 ∷ []) first q) → (q : ℕ) → later q ≡ led_all (λ at. None) (16384 ∷ []) first q
+pub first_on : (xs : List (Option Way)) (n : ℕ) (later : ℕ → Option Way) (first : Way) → xs ≡ replicate n no_way
+    → ((q : ℕ) → later q ≡ led_all (way_at xs) (16384 ∷ []) first q) → (q : ℕ)
+    → later q ≡ led_all (λ at. None) (16384 ∷ []) first q
 first_on xs n later first e on q = on q ∙ all_same (way_at xs) (λ at. None) (16384 ∷ []) first (none_at xs n e) q
 
 -- behind the last instruction
-pub behind_first : (is : List Instr) (trapped : Bool) (best : ℕ) (ways : ℕ → Option Way) (at : ℕ) (f : HandlerFault) → at ≡ code_end is → trapped ≡ true → AreJudged is trapped at best ways
+pub behind_first : (is : List Instr) (trapped : Bool) (best : ℕ) (ways : ℕ → Option Way) (at : ℕ) (f : HandlerFault)
+    → at ≡ code_end is → trapped ≡ true → AreJudged is trapped at best ways
     → (o : Option Way) → ways at ≡ o → MatchOption o (f ≡ Dead at) (λ w. f ≡ Trap at) → IsFirstFault is trapped f
-behind_first is trapped best ways at f e t m None w r = subst (λ (g : HandlerFault). IsFirstFault is trapped g) (sym r) (dead_first is trapped at best ways m (omega arith) (inr (t, e)) w)
+behind_first is trapped best ways at f e t m None w r =
+    subst (λ (g : HandlerFault). IsFirstFault is trapped g) (sym r)
+    (dead_first is trapped at best ways m (omega arith) (inr (t, e)) w)
 behind_first is trapped best ways at f e t m (Some way) w r =
     subst (λ (g : HandlerFault). IsFirstFault is trapped g) (sym (r ∙ ap (λ (k : ℕ). Trap k) e))
-    (trap_first is trapped best ways way (subst (λ (k : ℕ). AreJudged is trapped k best ways) e m) t (ap ways (sym e) ∙ w))
+    (trap_first is trapped best ways way (subst (λ (k : ℕ). AreJudged is trapped k best ways) e m) t
+    (ap ways (sym e) ∙ w))
 
 some_code : (is : List Instr) → 16384 < code_end is → 0 < length is
 some_code [] l = absurd (omega arith)
 some_code (i ∷ is) l = omega arith
 
-pub accepted_end : (is : List Instr) (trapped : Bool) (firsts : List Bool) (best : ℕ) (ways : ℕ → Option Way) (at : ℕ) → AreFirsts is trapped firsts → 0 < length firsts → AllFit is → trapped ≡ false → at ≡ code_end is → AreJudged is trapped at best ways
+pub accepted_end : (is : List Instr) (trapped : Bool) (firsts : List Bool) (best : ℕ) (ways : ℕ → Option Way) (at : ℕ)
+    → AreFirsts is trapped firsts → 0 < length firsts → AllFit is → trapped ≡ false → at ≡ code_end is
+    → AreJudged is trapped at best ways
     → IsAccepted is best
 accepted_end is trapped firsts best ways at t some fits e here m =
     let u : nat_lt (code_end is) (16384 + length firsts) ≡ false = sym t.trap ∙ e in
@@ -83,4 +96,5 @@ accepted_end is trapped firsts best ways at t some fits e here m =
     let limit = t.limit in
     let n : 0 < length is = some_code is (omega arith) in
     accepted_of is best ways fits (omega arith) (get_or is 0 (LdaaImmediate 0), is_at-here is 0 (LdaaImmediate 0) n)
-    (subst (λ (b : Bool). AreJudged is b (code_end is) best ways) e (subst (λ (k : ℕ). AreJudged is trapped k best ways) here m))
+    (subst (λ (b : Bool). AreJudged is b (code_end is) best ways) e
+    (subst (λ (k : ℕ). AreJudged is trapped k best ways) here m))

@@ -1,30 +1,37 @@
 -- Where the instructions of a list stand.
-use Rattle.std.proofs.Common.{◌≡◌, ℕ, zero, suc, ◌+◌, ◌<◌, ◌≤◌, List, [], ◌∷◌, ◌++◌, length, refl, ap, sym, ◌∙◌, subst, arith, inl, inr, ◌⊎◌, take, get_or, length-append}
+use Rattle.std.proofs.Common.{◌≡◌, ℕ, zero, suc, ◌+◌, ◌<◌, ◌≤◌, List, [], ◌∷◌, ◌++◌, length, refl, ap, sym, ◌∙◌, subst}
+use Rattle.std.proofs.Common.{arith, inl, inr, ◌⊎◌, take, get_or, length-append}
 use Rattle.cpu12_isa.specs.declared.instr.Instr.{Instr}
 use Rattle.cpu12_isa.specs.Code.{encode_of, FitsOperands, StandsAt}
 use Rattle.handler_check.specs.Cut.{size_of, code_bytes, code_end, AllFit, IsFrom, IsAt, HasCode}
 use Rattle.handler_check.proofs.Decoding.{size_low}
 
-pub within : (start : ℕ) (is : List Instr) (at : ℕ) (i : Instr) → IsFrom start is at i → (start ≤ at) × (at + size_of i ≤ start + length (code_bytes is))
+pub within : (start : ℕ) (is : List Instr) (at : ℕ) (i : Instr) → IsFrom start is at i
+    → (start ≤ at) × (at + size_of i ≤ start + length (code_bytes is))
 within start [] at i w = absurd w
 within start (j ∷ js) at i w = elim w [
-  | inl e ↦ (let l = length-append (encode_of j) (code_bytes js) in let s : size_of i ≡ size_of j = ap size_of e.1 in (omega (arith, e.0), omega (arith, e.0, l, s)))
-  | inr k ↦ (let r = within (start + size_of j) js at i k in let l = length-append (encode_of j) (code_bytes js) in (omega (arith, r.0), omega (arith, r.1, l)))
+  | inl e ↦ (let l = length-append (encode_of j) (code_bytes js) in let s : size_of i ≡ size_of j = ap size_of e.1 in
+      (omega (arith, e.0), omega (arith, e.0, l, s)))
+  | inr k ↦ (let r = within (start + size_of j) js at i k in let l = length-append (encode_of j) (code_bytes js) in
+      (omega (arith, r.0), omega (arith, r.1, l)))
 ]
 
 pub below_end : (is : List Instr) (at : ℕ) (i : Instr) → IsAt is at i → (16384 ≤ at) × (at < code_end is)
 below_end is at i w = let r = within 16384 is at i w in let s = size_low i in (r.0, omega (arith, r.1, s.0))
 
 -- instructions at two places are one, or lie one behind the other
-pub apart_places : (start : ℕ) (is : List Instr) (a b : ℕ) (i j : Instr) → IsFrom start is a i → IsFrom start is b j → ((a ≡ b) × (i ≡ j)) ⊎ ((a + size_of i ≤ b) ⊎ (b + size_of j ≤ a))
+pub apart_places : (start : ℕ) (is : List Instr) (a b : ℕ) (i j : Instr) → IsFrom start is a i → IsFrom start is b j
+    → ((a ≡ b) × (i ≡ j)) ⊎ ((a + size_of i ≤ b) ⊎ (b + size_of j ≤ a))
 apart_places start [] a b i j v w = absurd v
 apart_places start (k ∷ ks) a b i j v w = elim v [
   | inl e ↦ elim w [
     | inl f ↦ inl (e.0 ∙ sym f.0, e.1 ∙ sym f.1)
-    | inr l ↦ (let r = within (start + size_of k) ks b j l in let s : size_of i ≡ size_of k = ap size_of e.1 in inr (inl (omega (arith, e.0, r.0, s))))
+    | inr l ↦ (let r = within (start + size_of k) ks b j l in let s : size_of i ≡ size_of k = ap size_of e.1 in
+        inr (inl (omega (arith, e.0, r.0, s))))
   ]
   | inr l ↦ elim w [
-    | inl f ↦ (let r = within (start + size_of k) ks a i l in let s : size_of j ≡ size_of k = ap size_of f.1 in inr (inr (omega (arith, f.0, r.0, s))))
+    | inl f ↦ (let r = within (start + size_of k) ks a i l in let s : size_of j ≡ size_of k = ap size_of f.1 in
+        inr (inr (omega (arith, f.0, r.0, s))))
     | inr l2 ↦ apart_places (start + size_of k) ks a b i j l l2
   ]
 ]
@@ -32,21 +39,27 @@ apart_places start (k ∷ ks) a b i j v w = elim v [
 pub one_instr : (is : List Instr) (at : ℕ) (i j : Instr) → IsAt is at i → IsAt is at j → j ≡ i
 one_instr is at i j v w = elim (apart_places 16384 is at at i j v w) [
   | inl e ↦ sym e.1
-  | inr o ↦ absurd (let s = size_low i in let z = size_low j in elim o [ inl l ↦ omega (arith, l, s.0) | inr l ↦ omega (arith, l, z.0) ])
+  | inr o ↦ absurd (let s = size_low i in let z = size_low j in
+      elim o [ inl l ↦ omega (arith, l, s.0) | inr l ↦ omega (arith, l, z.0) ])
 ]
 
 -- the instructions by their number
-is_from-more : (start : ℕ) (is : List Instr) (k : ℕ) (d : Instr) → k < length is → IsFrom start is (start + length (code_bytes (take k is))) (get_or is k d)
+is_from-more : (start : ℕ) (is : List Instr) (k : ℕ) (d : Instr) → k < length is
+    → IsFrom start is (start + length (code_bytes (take k is))) (get_or is k d)
 is_from-more start [] k d l = absurd (omega arith)
 is_from-more start (i ∷ is) zero d l = inl (omega arith, refl)
 is_from-more start (i ∷ is) (suc k) d l =
-    let e : start + size_of i + length (code_bytes (take k is)) ≡ start + length (code_bytes (take (suc k) (i ∷ is))) = (let a = length-append (encode_of i) (code_bytes (take k is)) in omega (arith, a)) in
-    inr (subst (λ (at : ℕ). IsFrom (start + size_of i) is at (get_or is k d)) e (is_from-more (start + size_of i) is k d (omega arith)))
+    let e : start + size_of i + length (code_bytes (take k is)) ≡ start + length (code_bytes (take (suc k) (i ∷ is))) =
+    (let a = length-append (encode_of i) (code_bytes (take k is)) in omega (arith, a)) in
+    inr (subst (λ (at : ℕ). IsFrom (start + size_of i) is at (get_or is k d)) e
+    (is_from-more (start + size_of i) is k d (omega arith)))
 
-pub is_at-here : (is : List Instr) (k : ℕ) (d : Instr) → k < length is → IsAt is (16384 + length (code_bytes (take k is))) (get_or is k d)
+pub is_at-here : (is : List Instr) (k : ℕ) (d : Instr) → k < length is
+    → IsAt is (16384 + length (code_bytes (take k is))) (get_or is k d)
 is_at-here is k d l = is_from-more 16384 is k d l
 
-pub bytes-more : (is : List Instr) (k : ℕ) (d : Instr) → k < length is → length (code_bytes (take (k + 1) is)) ≡ length (code_bytes (take k is)) + size_of (get_or is k d)
+pub bytes-more : (is : List Instr) (k : ℕ) (d : Instr) → k < length is
+    → length (code_bytes (take (k + 1) is)) ≡ length (code_bytes (take k is)) + size_of (get_or is k d)
 bytes-more [] k d l = absurd (omega arith)
 bytes-more (i ∷ is) zero d l = let a = length-append (encode_of i) [] in omega (arith, a)
 bytes-more (i ∷ is) (suc k) d l =
@@ -54,7 +67,8 @@ bytes-more (i ∷ is) (suc k) d l =
     let b = length-append (encode_of i) (code_bytes (take (k + 1) is)) in
     let r = bytes-more is k d (omega arith) in
     let n : suc k + 1 ≡ suc (k + 1) = omega arith in
-    let e : length (code_bytes (take (suc k + 1) (i ∷ is))) ≡ length (code_bytes (take (suc (k + 1)) (i ∷ is))) = ap (λ (n : ℕ). length (code_bytes (take n (i ∷ is)))) n in
+    let e : length (code_bytes (take (suc k + 1) (i ∷ is))) ≡ length (code_bytes (take (suc (k + 1)) (i ∷ is))) =
+    ap (λ (n : ℕ). length (code_bytes (take n (i ∷ is)))) n in
     omega (arith, a, b, r, e)
 
 pub bytes-under : (is : List Instr) (k : ℕ) → length (code_bytes (take k is)) ≤ length (code_bytes is)
@@ -84,7 +98,8 @@ pub fits-push : (is : List Instr) (i : Instr) → AllFit is → FitsOperands i �
 fits-push [] i f g = (g, tt)
 fits-push (j ∷ is) i f g = (f.0, fits-push is i f.1 g)
 
-from-push : (start : ℕ) (is : List Instr) (i : Instr) (at : ℕ) (j : Instr) → IsFrom start (is ++ i ∷ []) at j → IsFrom start is at j ⊎ ((at ≡ start + length (code_bytes is)) × (j ≡ i))
+from-push : (start : ℕ) (is : List Instr) (i : Instr) (at : ℕ) (j : Instr) → IsFrom start (is ++ i ∷ []) at j
+    → IsFrom start is at j ⊎ ((at ≡ start + length (code_bytes is)) × (j ≡ i))
 from-push start [] i at j w = elim w [ inl e ↦ inr (omega (arith, e.0), e.1) | inr k ↦ absurd k ]
 from-push start (k ∷ is) i at j w = elim w [
   | inl e ↦ inl (inl e)
@@ -94,10 +109,12 @@ from-push start (k ∷ is) i at j w = elim w [
   ]
 ]
 
-pub at-push : (is : List Instr) (i : Instr) (at : ℕ) (j : Instr) → IsAt (is ++ i ∷ []) at j → IsAt is at j ⊎ ((at ≡ code_end is) × (j ≡ i))
+pub at-push : (is : List Instr) (i : Instr) (at : ℕ) (j : Instr) → IsAt (is ++ i ∷ []) at j
+    → IsAt is at j ⊎ ((at ≡ code_end is) × (j ≡ i))
 at-push is i at j w = from-push 16384 is i at j w
 
-from-front : (start : ℕ) (is : List Instr) (i : Instr) (at : ℕ) (j : Instr) → IsFrom start is at j → IsFrom start (is ++ i ∷ []) at j
+from-front : (start : ℕ) (is : List Instr) (i : Instr) (at : ℕ) (j : Instr) → IsFrom start is at j
+    → IsFrom start (is ++ i ∷ []) at j
 from-front start [] i at j w = absurd w
 from-front start (k ∷ is) i at j w = elim w [ inl e ↦ inl e | inr r ↦ inr (from-front (start + size_of k) is i at j r) ]
 
@@ -114,7 +131,8 @@ from-last start (k ∷ is) i =
 pub at-last : (is : List Instr) (i : Instr) → IsAt (is ++ i ∷ []) (code_end is) i
 at-last is i = from-last 16384 is i
 
-pub code-push : (mem : List ℕ) (is : List Instr) (i : Instr) → HasCode is mem → StandsAt mem (code_end is) i → HasCode (is ++ i ∷ []) mem
+pub code-push : (mem : List ℕ) (is : List Instr) (i : Instr) → HasCode is mem → StandsAt mem (code_end is) i
+    → HasCode (is ++ i ∷ []) mem
 code-push mem is i h s at j w = elim (at-push is i at j w) [
   | inl k ↦ h at j k
   | inr k ↦ subst (λ (n : ℕ). StandsAt mem n j) (sym k.0) (subst (StandsAt mem (code_end is)) (sym k.1) s)

@@ -1,5 +1,6 @@
 -- An accepted handler runs to its RTI.
-use Rattle.std.proofs.Common.{◌≡◌, ℕ, zero, suc, ◌+◌, ◌<◌, ◌≤◌, Bool, true, false, Result, Ok, List, [], ◌∷◌, ◌++◌, length, get_or, refl, ap, sym, ◌∙◌, subst, arith, inl, inr}
+use Rattle.std.proofs.Common.{◌≡◌, ℕ, zero, suc, ◌+◌, ◌<◌, ◌≤◌, Bool, true, false, Result, Ok, List, [], ◌∷◌, ◌++◌}
+use Rattle.std.proofs.Common.{length, get_or, refl, ap, sym, ◌∙◌, subst, arith, inl, inr}
 use Rattle.std.specs.Prelude.{◌==◌}
 use Rattle.cpu12_isa.specs.declared.instr.Instr.{Instr}
 use Rattle.cpu12_isa.specs.declared.instr.Instr.TheVariants.{LdaaImmediate, Rti, Psha, Pula}
@@ -22,12 +23,14 @@ use Rattle.handler_check.specs.Paths.{IsIn, written_by, leads, height_after, Fit
 use Rattle.handler_check.specs.Accepted.{May, IsAccepted}
 use Rattle.handler_check.proofs.Grounds.{Grounds}
 use Rattle.handler_check.proofs.Decoding.{is_stepping, first_byte, plain_of, size_low, rti_or}
-use Rattle.handler_check.proofs.Acts.{Always, always_outcome, there, sp_after, sp_moves, written_at, writes_are, pc_leads, leads_on, x_kept}
+use Rattle.handler_check.proofs.Acts.{Always, always_outcome, there, sp_after, sp_moves, written_at, writes_are}
+use Rattle.handler_check.proofs.Acts.{pc_leads, leads_on, x_kept}
 use Rattle.handler_check.proofs.Places.{within}
 use Rattle.handler_check.proofs.Bytes.{under, IsFine, AllFine, fine_by, shadow, code_stays, write_append, open_append}
 use Rattle.handler_check.proofs.Back.{ToRti}
 
--- the state at a place, with h bytes pushed: base is SP without them, t the sums, x the X flag, m the memory with free writes alone
+-- the state at a place, with h bytes pushed: base is SP without them, t the sums, x the X flag, m the memory with free
+-- writes alone
 pub record Stage (is : List Instr) (base : ℕ) (t : Temps) (x : Bool) (at h : ℕ) (s : State) (m : List ℕ) : Type 0 where
   pub pc : s.regs.pc ≡ at
   pub sp : s.regs.sp + h ≡ base
@@ -37,7 +40,8 @@ pub record Stage (is : List Instr) (base : ℕ) (t : Temps) (x : Bool) (at h : �
   pub mem : Agree (under base) s.mem m
 
 -- the way to the RTI
-pub record Arrives (is : List Instr) (flags base : ℕ) (t : Temps) (x : Bool) (instrs n : ℕ) (s : State) (m : List ℕ) : Type 0 where
+pub record Arrives (is : List Instr) (flags base : ℕ) (t : Temps) (x : Bool) (instrs n : ℕ) (s : State)
+    (m : List ℕ) : Type 0 where
   pub steps : ℕ
   pub last : State
   pub goes : ToRti flags steps s last
@@ -52,10 +56,12 @@ pub record Arrives (is : List Instr) (flags base : ℕ) (t : Temps) (x : Bool) (
 
 fits_at : (start : ℕ) (is : List Instr) (at : ℕ) (i : Instr) → AllFit is → IsFrom start is at i → FitsOperands i
 fits_at start [] at i f w = absurd w
-fits_at start (j ∷ js) at i f w = elim w [ inl e ↦ subst FitsOperands (sym e.1) f.0 | inr k ↦ fits_at (start + size_of j) js at i f.1 k ]
+fits_at start (j ∷ js) at i f w =
+    elim w [ inl e ↦ subst FitsOperands (sym e.1) f.0 | inr k ↦ fits_at (start + size_of j) js at i f.1 k ]
 
 -- SP and the height
-sp_goes : (base : ℕ) (i : Instr) (sp h : ℕ) → FitsHeight i h → 8175 ≤ base → base ≤ 8192 → h ≤ 15 → sp + h ≡ base → sp_after i sp + height_after i h ≡ base
+sp_goes : (base : ℕ) (i : Instr) (sp h : ℕ) → FitsHeight i h → 8175 ≤ base → base ≤ 8192 → h ≤ 15 → sp + h ≡ base
+    → sp_after i sp + height_after i h ≡ base
 sp_goes base (LdaaImmediate v) sp h f lo hi l e = e
 sp_goes base Psha sp h f lo hi l e = omega arith
 sp_goes base Pula sp h f lo hi l e = omega arith
@@ -68,13 +74,15 @@ height_low Pula h f l = omega arith
 height_low i h f l = l
 
 -- what it writes is free or below SP
-fine_at : (base : ℕ) (i : Instr) (sp h : ℕ) → ((at : ℕ) → IsIn (written_by i) at → is_free at ≡ true) → FitsHeight i h → 8175 ≤ base → base ≤ 8192 → sp + h ≡ base → (at : ℕ) → IsIn (written_at i sp) at → IsFine base at
+fine_at : (base : ℕ) (i : Instr) (sp h : ℕ) → ((at : ℕ) → IsIn (written_by i) at → is_free at ≡ true) → FitsHeight i h
+    → 8175 ≤ base → base ≤ 8192 → sp + h ≡ base → (at : ℕ) → IsIn (written_at i sp) at → IsFine base at
 fine_at base (LdaaImmediate v) sp h f g lo hi e at w = absurd w
 fine_at base Psha sp h f g lo hi e at w = elim w [ inl k ↦ inr (omega arith, omega arith) | inr k ↦ absurd k ]
 fine_at base i sp h f g lo hi e at w = inl (f at w)
 
 -- one step
-record Onward (is : List Instr) (flags base : ℕ) (t : Temps) (x : Bool) (at h : ℕ) (i : Instr) (s : State) (m : List ℕ) : Type 0 where
+record Onward (is : List Instr) (flags base : ℕ) (t : Temps) (x : Bool) (at h : ℕ) (i : Instr) (s : State)
+    (m : List ℕ) : Type 0 where
   next : Next
   goes : next_of flags s ≡ Ok next
   byte : (get_or s.mem s.regs.pc 0 == 11) ≡ false
@@ -83,29 +91,49 @@ record Onward (is : List Instr) (flags base : ℕ) (t : Temps) (x : Bool) (at h 
   leads : IsIn (leads at i) next.state.regs.pc
   stage : Stage is base t x next.state.regs.pc (height_after i h) next.state (write_all (pairs_of writes) m)
 
-step_on : Grounds → (is : List Instr) (instrs flags base : ℕ) (t : Temps) (x : Bool) → IsAccepted is instrs → IsOff t → 8175 ≤ base → base ≤ 8192
-    → (at h : ℕ) (i : Instr) (s : State) (m : List ℕ) → Stage is base t x at h s m → IsAt is at i → May i h → h ≤ 15 → is_stepping i ≡ true → Onward is flags base t x at h i s m
+step_on : Grounds → (is : List Instr) (instrs flags base : ℕ) (t : Temps) (x : Bool) → IsAccepted is instrs → IsOff t
+    → 8175 ≤ base → base ≤ 8192
+    → (at h : ℕ) (i : Instr) (s : State) (m : List ℕ) → Stage is base t x at h s m → IsAt is at i → May i h → h ≤ 15
+    → is_stepping i ≡ true → Onward is flags base t x at h i s m
 step_on k is instrs flags base t x acc o lo hi at h i s m st w may low p =
     let stands : StandsAt s.mem s.regs.pc i = subst (λ (k : ℕ). StandsAt s.mem k i) (sym st.pc) (st.code at i w) in
     let off : IsOff s.temps = subst IsOff (sym st.temps) o in
-    let step = k.plain_is_step flags i s off (k.decodes s.mem s.regs.pc i (fits_at 16384 is at i acc.fits w) stands) (plain_of i p) in
+    let step = k.plain_is_step flags i s off (k.decodes s.mem s.regs.pc i (fits_at 16384 is at i acc.fits w) stands)
+    (plain_of i p) in
     let e : Effect = effect flags i s.regs s.mem in
-    let next : Next = record { state = record { regs = (effect flags i s.regs s.mem).regs; temps = s.temps; mem = write_all (effect flags i s.regs s.mem).writes s.mem }; kind = Plain } in
+    let next : Next = record {
+      state = record {
+        regs = (effect flags i s.regs s.mem).regs;
+        temps = s.temps;
+        mem =
+            write_all (effect flags i s.regs s.mem).writes s.mem;
+      };
+      kind = Plain;
+    } in
     let r = within 16384 is at i w in
     let ends = acc.ends in
     let size = size_low i in
     let under : at < 20480 = omega (arith, r.1, size.0) in
     let act = act_of flags i s.regs in
     let sp : (effect flags i s.regs s.mem).regs.sp ≡ sp_after i s.regs.sp =
-    always_outcome (λ e. e.regs.sp ≡ sp_after i s.regs.sp) (act_of flags i s.regs) s.mem (there (is_stepping i) (Always (λ e. e.regs.sp ≡ sp_after i s.regs.sp) (act_of flags i s.regs)) (sp_moves flags i s.regs) p) in
+    always_outcome (λ e. e.regs.sp ≡ sp_after i s.regs.sp) (act_of flags i s.regs) s.mem
+    (there (is_stepping i) (Always (λ e. e.regs.sp ≡ sp_after i s.regs.sp) (act_of flags i s.regs))
+    (sp_moves flags i s.regs) p) in
     let at_them : addresses (effect flags i s.regs s.mem).writes ≡ written_at i s.regs.sp =
-    always_outcome (λ e. addresses e.writes ≡ written_at i s.regs.sp) (act_of flags i s.regs) s.mem (there (is_stepping i) (Always (λ e. addresses e.writes ≡ written_at i s.regs.sp) (act_of flags i s.regs)) (writes_are flags i s.regs) p) in
+    always_outcome (λ e. addresses e.writes ≡ written_at i s.regs.sp) (act_of flags i s.regs) s.mem
+    (there (is_stepping i) (Always (λ e. addresses e.writes ≡ written_at i s.regs.sp) (act_of flags i s.regs))
+    (writes_are flags i s.regs) p) in
     let flag : bit (effect flags i s.regs s.mem).regs.ccr.0 6 ≡ bit s.regs.ccr.0 6 =
-    always_outcome (λ e. bit e.regs.ccr.0 6 ≡ bit s.regs.ccr.0 6) (act_of flags i s.regs) s.mem (there (is_stepping i) (Always (λ e. bit e.regs.ccr.0 6 ≡ bit s.regs.ccr.0 6) (act_of flags i s.regs)) (x_kept flags i s.regs) p) in
+    always_outcome (λ e. bit e.regs.ccr.0 6 ≡ bit s.regs.ccr.0 6) (act_of flags i s.regs) s.mem
+    (there (is_stepping i) (Always (λ e. bit e.regs.ccr.0 6 ≡ bit s.regs.ccr.0 6) (act_of flags i s.regs))
+    (x_kept flags i s.regs) p) in
     let fine : AllFine base (effect flags i s.regs s.mem).writes =
-    fine_by base (effect flags i s.regs s.mem).writes (λ a k. fine_at base i s.regs.sp h may.free may.height lo hi st.sp a (subst (λ (l : List ℕ). IsIn l a) at_them k)) in
+    fine_by base (effect flags i s.regs s.mem).writes
+    (λ a k. fine_at base i s.regs.sp h may.free may.height lo hi st.sp a
+    (subst (λ (l : List ℕ). IsIn l a) at_them k)) in
     let sh = shadow k.writes_agree base (effect flags i s.regs s.mem).writes s.mem m st.mem fine in
-    let height : sp_after i s.regs.sp + height_after i h ≡ base = sp_goes base i s.regs.sp h may.height lo hi low st.sp in
+    let height : sp_after i s.regs.sp + height_after i h ≡ base =
+    sp_goes base i s.regs.sp h may.height lo hi low st.sp in
     record {
       next = next;
       goes = ap (λ (o : Result Left ℕ). applied o s.mem) step.0;
@@ -123,7 +151,8 @@ step_on k is instrs flags base t x acc o lo hi at h i s m st w may low p =
       };
     }
 
-here : (is : List Instr) (instrs flags base : ℕ) (t : Temps) (x : Bool) (n at h : ℕ) (i : Instr) (s : State) (m : List ℕ) → IsAccepted is instrs → Path is n at h → Stage is base t x at h s m → IsAt is at i → May i h → i ≡ Rti
+here : (is : List Instr) (instrs flags base : ℕ) (t : Temps) (x : Bool) (n at h : ℕ) (i : Instr) (s : State)
+    (m : List ℕ) → IsAccepted is instrs → Path is n at h → Stage is base t x at h s m → IsAt is at i → May i h → i ≡ Rti
     → Arrives is flags base t x instrs n s m
 here is instrs flags base t x n at h i s m acc path st w may rti =
     let none : h ≡ 0 = subst (λ (j : Instr). FitsHeight j h) rti may.height in
@@ -134,7 +163,8 @@ here is instrs flags base t x n at h i s m acc path st w may rti =
       last = s;
       goes = refl;
       few = omega arith;
-      stands = subst (λ (k : ℕ). StandsAt s.mem k Rti) (sym st.pc) (st.code at Rti (subst (λ (j : Instr). IsAt is at j) rti w));
+      stands = subst (λ (k : ℕ). StandsAt s.mem k Rti) (sym st.pc)
+          (st.code at Rti (subst (λ (j : Instr). IsAt is at j) rti w));
       sp = omega arith;
       temps = st.temps;
       flag = st.flag;
@@ -143,8 +173,10 @@ here is instrs flags base t x n at h i s m acc path st w may rti =
       mem = st.mem;
     }
 
-then_on : (is : List Instr) (instrs flags base : ℕ) (t : Temps) (x : Bool) (n at h : ℕ) (i : Instr) (s : State) (m : List ℕ) (o : Onward is flags base t x at h i s m)
-    → Arrives is flags base t x instrs (suc n) o.next.state (write_all (pairs_of o.writes) m) → Arrives is flags base t x instrs n s m
+then_on : (is : List Instr) (instrs flags base : ℕ) (t : Temps) (x : Bool) (n at h : ℕ) (i : Instr) (s : State)
+    (m : List ℕ) (o : Onward is flags base t x at h i s m)
+    → Arrives is flags base t x instrs (suc n) o.next.state (write_all (pairs_of o.writes) m)
+    → Arrives is flags base t x instrs n s m
 then_on is instrs flags base t x n at h i s m o a =
     let few = a.few in
     record {
@@ -161,8 +193,10 @@ then_on is instrs flags base t x n at h i s m o a =
       mem = subst (λ (l : List ℕ). Agree (under base) a.last.mem l) (write_append o.writes a.writes m) a.mem;
     }
 
-pub arrives : Grounds → (is : List Instr) (instrs flags base : ℕ) (t : Temps) (x : Bool) → IsAccepted is instrs → IsOff t → 8175 ≤ base → base ≤ 8192
-    → (left n at h : ℕ) (s : State) (m : List ℕ) → 16384 + length (code_bytes is) ≤ at + left → Path is n at h → h ≤ 15 → Stage is base t x at h s m → Arrives is flags base t x instrs n s m
+pub arrives : Grounds → (is : List Instr) (instrs flags base : ℕ) (t : Temps) (x : Bool) → IsAccepted is instrs
+    → IsOff t → 8175 ≤ base → base ≤ 8192
+    → (left n at h : ℕ) (s : State) (m : List ℕ) → 16384 + length (code_bytes is) ≤ at + left → Path is n at h → h ≤ 15
+    → Stage is base t x at h s m → Arrives is flags base t x instrs n s m
 arrives k is instrs flags base t x acc o lo hi zero n at h s m l path low st =
     let found = acc.stands n at h path in
     let r = within 16384 is at found.0 found.1 in
@@ -178,6 +212,7 @@ arrives k is instrs flags base t x acc o lo hi (suc left) n at h s m l path low 
           let size = size_low found.0 in
           let further : at < on.next.state.regs.pc = leads_on found.0 at on.next.state.regs.pc size.0 on.leads in
           then_on is instrs flags base t x n at h found.0 s m on
-          (arrives k is instrs flags base t x acc o lo hi left (suc n) on.next.state.regs.pc (height_after found.0 h) on.next.state (write_all (pairs_of on.writes) m) (omega arith)
+          (arrives k is instrs flags base t x acc o lo hi left (suc n) on.next.state.regs.pc
+          (height_after found.0 h) on.next.state (write_all (pairs_of on.writes) m) (omega arith)
           (at, h, found.0, (path, found.1, on.leads, refl)) (height_low found.0 h may.height low) on.stage))
     ]

@@ -1,5 +1,7 @@
 -- The table of the places at which instructions begin.
-use Rattle.std.proofs.Common.{◌≡◌, ℕ, zero, suc, ◌+◌, ◌-◌, ◌<◌, ◌≤◌, Bool, true, false, nat_lt, Option, Some, None, unwrap_or, List, [], ◌∷◌, ◌++◌, length, replicate, refl, ap, sym, ◌∙◌, subst, arith, inl, inr}
+use Rattle.std.proofs.Common.{◌≡◌, ℕ, zero, suc, ◌+◌, ◌-◌, ◌<◌, ◌≤◌, Bool, true, false, nat_lt, Option, Some, None}
+use Rattle.std.proofs.Common.{unwrap_or, List, [], ◌∷◌, ◌++◌, length, replicate, refl, ap, sym, ◌∙◌, subst, arith, inl}
+use Rattle.std.proofs.Common.{inr}
 use Rattle.std.specs.Prelude.{slice_get}
 use Rattle.std.proofs.lemmas.Bool.{cases_eq, false≢true}
 use Rattle.std.proofs.lemmas.Bool.Decides.{nat_tests}
@@ -38,7 +40,8 @@ pub record Table (is : List Instr) (firsts : List Bool) : Type 0 where
 pub table_none : (n : ℕ) → Table [] (replicate n false)
 table_none n = record { only = λ k e. absurd (none_true n k e); all = λ k i w. absurd w }
 
-pub table_push : (is : List Instr) (i : Instr) (firsts : List Bool) (j : ℕ) → Table is firsts → code_end is ≡ 16384 + j → j < length firsts → Table (is ++ i ∷ []) (set firsts j true)
+pub table_push : (is : List Instr) (i : Instr) (firsts : List Bool) (j : ℕ) → Table is firsts → code_end is ≡ 16384 + j
+    → j < length firsts → Table (is ++ i ∷ []) (set firsts j true)
 table_push is i firsts j t e l = record { only = only; all = all }
   where
     only : (k : ℕ) → slice_get (set firsts j true) k ≡ Some true → (d : Instr) × IsAt (is ++ i ∷ []) (16384 + k) d
@@ -50,10 +53,13 @@ table_push is i firsts j t e l = record { only = only; all = all }
     all : (k : ℕ) (d : Instr) → IsAt (is ++ i ∷ []) (16384 + k) d → slice_get (set firsts j true) k ≡ Some true
     all k d w = elim (cases_eq k j) [
       | inl h ↦ subst (λ (n : ℕ). slice_get (set firsts j true) n ≡ Some true) (sym h) (get_same firsts j true l)
-      | inr n ↦ get_other firsts j k true n ∙ elim (at-push is i (16384 + k) d w) [ inl o ↦ t.all k d o | inr o ↦ absurd (n (let a = o.0 in omega arith)) ]
+      | inr n ↦ get_other firsts j k true n
+          ∙ elim (at-push is i (16384 + k) d w)
+          [ inl o ↦ t.all k d o | inr o ↦ absurd (n (let a = o.0 in omega arith)) ]
     ]
 
-pub table_end : (is : List Instr) (firsts : List Bool) → Table is firsts → code_end is ≡ 16384 + length firsts → 16384 + length firsts ≤ 20480 → AreFirsts is false firsts
+pub table_end : (is : List Instr) (firsts : List Bool) → Table is firsts → code_end is ≡ 16384 + length firsts
+    → 16384 + length firsts ≤ 20480 → AreFirsts is false firsts
 table_end is firsts t e l = record {
   ends = omega arith;
   limit = l;
@@ -62,11 +68,13 @@ table_end is firsts t e l = record {
   all = λ k f. elim f [ inl p ↦ t.all k p.0 p.1 | inr p ↦ absurd (false≢true p.0) ];
 }
 
-pub table_trap : (is : List Instr) (firsts : List Bool) (j : ℕ) → Table is firsts → code_end is ≡ 16384 + j → j < length firsts → 16384 + length firsts ≤ 20480 → AreFirsts is true (set firsts j true)
+pub table_trap : (is : List Instr) (firsts : List Bool) (j : ℕ) → Table is firsts → code_end is ≡ 16384 + j
+    → j < length firsts → 16384 + length firsts ≤ 20480 → AreFirsts is true (set firsts j true)
 table_trap is firsts j t e l m = record {
   ends = (let n = length-set firsts j true in omega arith);
   limit = (let n = length-set firsts j true in omega arith);
-  trap = sym (let n = length-set firsts j true in let b : nat_lt (code_end is) (16384 + length (set firsts j true)) ≡ true = grind (arith, nat_tests) in b);
+  trap = sym (let n = length-set firsts j true in
+      let b : nat_lt (code_end is) (16384 + length (set firsts j true)) ≡ true = grind (arith, nat_tests) in b);
   only = only;
   all = all;
 }
@@ -82,12 +90,15 @@ table_trap is firsts j t e l m = record {
 
     all : (k : ℕ) → IsFirst is true (16384 + k) → slice_get (set firsts j true) k ≡ Some true
     all k f = elim f [
-      | inl p ↦ (let b = below_end is (16384 + k) p.0 p.1 in get_other firsts j k true (λ h. (let u = b.1 in omega arith)) ∙ t.all k p.0 p.1)
-      | inr p ↦ subst (λ (n : ℕ). slice_get (set firsts j true) n ≡ Some true) (let q = p.1 in let h : j ≡ k = omega arith in h) here
+      | inl p ↦ (let b = below_end is (16384 + k) p.0 p.1 in
+          get_other firsts j k true (λ h. (let u = b.1 in omega arith)) ∙ t.all k p.0 p.1)
+      | inr p ↦ subst (λ (n : ℕ). slice_get (set firsts j true) n ≡ Some true)
+          (let q = p.1 in let h : j ≡ k = omega arith in h) here
     ]
 
 -- a first byte is one of the table's places
-pub first_within : (is : List Instr) (trapped : Bool) (firsts : List Bool) (q : ℕ) → AreFirsts is trapped firsts → IsFirst is trapped q → (16384 ≤ q) × (q < 16384 + length firsts)
+pub first_within : (is : List Instr) (trapped : Bool) (firsts : List Bool) (q : ℕ) → AreFirsts is trapped firsts
+    → IsFirst is trapped q → (16384 ≤ q) × (q < 16384 + length firsts)
 first_within is trapped firsts q t f =
     let low : 16384 ≤ q = from f in
     let e : 16384 + (q - 16384) ≡ q = omega arith in
@@ -104,13 +115,16 @@ told (Some true) e = refl
 told (Some false) e = absurd (false≢true e)
 told None e = absurd (false≢true e)
 
-pub told_first : (is : List Instr) (trapped : Bool) (firsts : List Bool) (q : ℕ) → AreFirsts is trapped firsts → 16384 ≤ q → unwrap_or (slice_get firsts (q - 16384)) false ≡ true → IsFirst is trapped q
+pub told_first : (is : List Instr) (trapped : Bool) (firsts : List Bool) (q : ℕ) → AreFirsts is trapped firsts
+    → 16384 ≤ q → unwrap_or (slice_get firsts (q - 16384)) false ≡ true → IsFirst is trapped q
 told_first is trapped firsts q t l e =
     let s : 16384 + (q - 16384) ≡ q = omega arith in
     subst (λ (n : ℕ). IsFirst is trapped n) s (t.only (q - 16384) (told (slice_get firsts (q - 16384)) e))
 
-pub told_none : (is : List Instr) (trapped : Bool) (firsts : List Bool) (q : ℕ) → AreFirsts is trapped firsts → 16384 ≤ q → unwrap_or (slice_get firsts (q - 16384)) false ≡ false → IsFirst is trapped q → ⊥
+pub told_none : (is : List Instr) (trapped : Bool) (firsts : List Bool) (q : ℕ) → AreFirsts is trapped firsts
+    → 16384 ≤ q → unwrap_or (slice_get firsts (q - 16384)) false ≡ false → IsFirst is trapped q → ⊥
 told_none is trapped firsts q t l e f =
     let s : 16384 + (q - 16384) ≡ q = omega arith in
-    let a : slice_get firsts (q - 16384) ≡ Some true = t.all (q - 16384) (subst (λ (n : ℕ). IsFirst is trapped n) (sym s) f) in
+    let a : slice_get firsts (q - 16384) ≡ Some true =
+    t.all (q - 16384) (subst (λ (n : ℕ). IsFirst is trapped n) (sym s) f) in
     false≢true (sym e ∙ ap (λ (o : Option Bool). unwrap_or o false) a)

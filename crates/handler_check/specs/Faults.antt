@@ -3,9 +3,11 @@ use Rattle.std.specs.Prelude.{◌≡◌, ℕ, ◌<◌, ◌≤◌, ◌⊎◌, Boo
 use Rattle.cpu12_isa.specs.declared.instr.Instr.{Instr}
 use Rattle.cpu12_isa.specs.Regions.{is_free}
 use Rattle.handler_check.specs.declared.faults.HandlerFault.{HandlerFault}
-use Rattle.handler_check.specs.declared.faults.HandlerFault.TheVariants.{Empty, Outside, Dead, Trap, Refused, NotFree, Backward, Target, Height, Falls, Memory}
+use Rattle.handler_check.specs.declared.faults.HandlerFault.TheVariants.{Empty, Outside, Dead, Trap, Refused, NotFree}
+use Rattle.handler_check.specs.declared.faults.HandlerFault.TheVariants.{Backward, Target, Height, Falls, Memory}
 use Rattle.handler_check.specs.Cut.{code_end, IsAt}
-use Rattle.handler_check.specs.Paths.{is_allowed, IsIn, written_by, branches_to, falls_to, GoesForward, FitsHeight, Path}
+use Rattle.handler_check.specs.Paths.{is_allowed, IsIn, written_by, branches_to, falls_to, GoesForward, FitsHeight}
+use Rattle.handler_check.specs.Paths.{Path}
 
 -- a first byte of an instruction; the byte at which the cut ends counts as one too
 abbrev pub IsFirst : List Instr → Bool → ℕ → Type 0

@@ -1,12 +1,14 @@
 -- What is known of instructions that were judged, place by place.
-use Rattle.std.specs.Prelude.{◌≡◌, ℕ, zero, suc, ◌+◌, ◌<◌, ◌≤◌, ◌⊎◌, nat_lt, Bool, true, false, Option, Some, List, length, slice_get}
+use Rattle.std.specs.Prelude.{◌≡◌, ℕ, zero, suc, ◌+◌, ◌<◌, ◌≤◌, ◌⊎◌, nat_lt, Bool, true, false, Option, Some, List}
+use Rattle.std.specs.Prelude.{length, slice_get}
 use Rattle.cpu12_isa.specs.declared.instr.Instr.{Instr}
 use Rattle.cpu12_isa.specs.declared.instr.Instr.TheVariants.{Rti}
 use Rattle.cpu12_isa.specs.Regions.{is_free}
 use Rattle.handler_check.specs.declared.faults.HandlerFault.{HandlerFault}
 use Rattle.handler_check.specs.declared.ways.Way.{Way}
 use Rattle.handler_check.specs.Cut.{code_start, code_limit, code_end, IsAt}
-use Rattle.handler_check.specs.Paths.{is_allowed, IsIn, written_by, branches_to, falls_to, leads, GoesForward, height_after, FitsHeight, Path}
+use Rattle.handler_check.specs.Paths.{is_allowed, IsIn, written_by, branches_to, falls_to, leads, GoesForward}
+use Rattle.handler_check.specs.Paths.{height_after, FitsHeight, Path}
 use Rattle.handler_check.specs.Faults.{IsFirst, Applies, place_of, rank}
 use Rattle.handler_check.specs.Ways.{IsWay}
 

@@ -1,7 +1,11 @@
 -- What the instructions of a handler may be, where they lead, and the paths through them.
-use Rattle.std.specs.Prelude.{◌≡◌, ℕ, zero, suc, ◌+◌, ◌-◌, ◌<◌, ◌⊎◌, nat_lt, Bool, true, false, if◌then◌else◌, List, [], ◌∷◌, ◌++◌}
+use Rattle.std.specs.Prelude.{◌≡◌, ℕ, zero, suc, ◌+◌, ◌-◌, ◌<◌, ◌⊎◌, nat_lt, Bool, true, false, if◌then◌else◌, List, []}
+use Rattle.std.specs.Prelude.{◌∷◌, ◌++◌}
 use Rattle.cpu12_isa.specs.declared.instr.Instr.{Instr}
-use Rattle.cpu12_isa.specs.declared.instr.Instr.TheVariants.{LdsImmediate, StaaExtended, StabExtended, ClrExtended, Beq, Bne, Bcc, Bcs, Bra, JsrExtended, Rts, Andcc, Fdiv, Rti, IncExtended, DecExtended, Psha, Pula, MovbImmediate, MovbExtended, Mem, Rev, Revw, Wav, Wavr}
+use Rattle.cpu12_isa.specs.declared.instr.Instr.TheVariants.{LdsImmediate, StaaExtended, StabExtended, ClrExtended, Beq}
+use Rattle.cpu12_isa.specs.declared.instr.Instr.TheVariants.{Bne, Bcc, Bcs, Bra, JsrExtended, Rts, Andcc, Fdiv, Rti}
+use Rattle.cpu12_isa.specs.declared.instr.Instr.TheVariants.{IncExtended, DecExtended, Psha, Pula, MovbImmediate}
+use Rattle.cpu12_isa.specs.declared.instr.Instr.TheVariants.{MovbExtended, Mem, Rev, Revw, Wav, Wavr}
 use Rattle.handler_check.specs.Cut.{code_start, size_of, IsAt}
 
 -- What a handler may not have: what sets SP, leads elsewhere, opens I or changes X, and what takes many steps.

@@ -1,5 +1,6 @@
 -- A handler that runs: steps up to its RTI.
-use Rattle.std.specs.Prelude.{◌≡◌, ℕ, zero, suc, ◌+◌, ◌≤◌, ◌==◌, Bool, true, false, if◌then◌else◌, Result, Ok, Err, Some, List, length, slice_index}
+use Rattle.std.specs.Prelude.{◌≡◌, ℕ, zero, suc, ◌+◌, ◌≤◌, ◌==◌, Bool, true, false, if◌then◌else◌, Result, Ok, Err}
+use Rattle.std.specs.Prelude.{Some, List, length, slice_index}
 use Rattle.cpu12_isa.specs.declared.instr.Instr.{Instr}
 use Rattle.cpu12_isa.specs.declared.instr.Write.{Write}
 use Rattle.cpu12_isa.specs.Fits.{FitsRegs}

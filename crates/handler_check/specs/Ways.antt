@@ -1,5 +1,6 @@
 -- The ways to the places of a handler.
-use Rattle.std.specs.Prelude.{◌≡◌, ℕ, ◌-◌, ◌≤◌, ◌==◌, ◌||◌, not, nat_le, nat_lt, true, false, if◌then◌else◌, Option, Some, None, unwrap_or, List, [], ◌∷◌, slice_get}
+use Rattle.std.specs.Prelude.{◌≡◌, ℕ, ◌-◌, ◌≤◌, ◌==◌, ◌||◌, not, nat_le, nat_lt, true, false, if◌then◌else◌, Option}
+use Rattle.std.specs.Prelude.{Some, None, unwrap_or, List, [], ◌∷◌, slice_get}
 use Rattle.cpu12_isa.specs.declared.instr.Instr.{Instr}
 use Rattle.handler_check.specs.declared.ways.Way.{Way}
 use Rattle.handler_check.specs.Cut.{code_start}

@@ -1,5 +1,6 @@
 //! The check of a handler.
-ghost use Rattle.std.specs.Prelude.{◌≡◌, ◌≢◌, ◌<◌, ◌≤◌, ◌&&◌, nat_le, nat_lt, if◌then◌else◌, ℕ, None, IsSome, IfOk, IfErr};
+ghost use Rattle.std.specs.Prelude.{◌≡◌, ◌≢◌, ◌<◌, ◌≤◌, ◌&&◌, nat_le, nat_lt, if◌then◌else◌, ℕ, None, IsSome, IfOk};
+ghost use Rattle.std.specs.Prelude.{IfErr};
 ghost use Rattle.cpu12_asm.specs.Bytes.{byte_at};
 ghost use Rattle.handler_check.specs.Cut.{code_start, code_limit};
 ghost use Rattle.handler_check.specs.Images.{IsRun, IsFault, IsHandler};

@@ -1,5 +1,6 @@
 //! The bytes of a handler as instructions.
-ghost use Rattle.std.specs.Prelude.{◌≡◌, ◌≤◌, ◌<◌, ◌+◌, ◌-◌, ℕ, List, true, false, Ok, IfOk, IfSome, IfNone, length, slice_get, unwrap_or};
+ghost use Rattle.std.specs.Prelude.{◌≡◌, ◌≤◌, ◌<◌, ◌+◌, ◌-◌, ℕ, List, true, false, Ok, IfOk, IfSome, IfNone, length};
+ghost use Rattle.std.specs.Prelude.{slice_get, unwrap_or};
 ghost use Rattle.cpu12_isa.specs.declared.instr.Instr.{Instr};
 ghost use Rattle.cpu12_isa.specs.Code.{FitsOperands, StandsAt, decode_at};
 ghost use Rattle.handler_check.specs.Cut.{code_start, code_limit, code_end, size_of, AllFit, HasCode};

@@ -1,5 +1,6 @@
 //! The instructions of a handler, judged one after the other.
-ghost use Rattle.std.specs.Prelude.{◌≡◌, ◌≢◌, ◌⊎◌, ◌≤◌, ◌<◌, ◌+◌, ℕ, Some, false, IfOk, IfErr, IfSome, IfNone, MatchOption, length};
+ghost use Rattle.std.specs.Prelude.{◌≡◌, ◌≢◌, ◌⊎◌, ◌≤◌, ◌<◌, ◌+◌, ℕ, Some, false, IfOk, IfErr, IfSome, IfNone};
+ghost use Rattle.std.specs.Prelude.{MatchOption, length};
 ghost use Rattle.cpu12_isa.specs.declared.instr.Instr.TheVariants.{Rti};
 ghost use Rattle.handler_check.specs.Cut.{code_start, code_limit, size_of, AllFit, IsAt};
 ghost use Rattle.handler_check.specs.Accepted.{IsAccepted};

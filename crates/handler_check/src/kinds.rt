@@ -3,7 +3,8 @@ ghost use Rattle.std.specs.Prelude.{◌≡◌, ◌≤◌, ◌<◌, ◌+◌, ◌�
 ghost use Rattle.cpu12_isa.specs.declared.instr.Instr.TheVariants.{Rti};
 ghost use Rattle.cpu12_isa.specs.Regions.{is_free};
 ghost use Rattle.handler_check.specs.Cut.{size_of, code_limit};
-ghost use Rattle.handler_check.specs.Paths.{is_allowed, IsIn, written_by, branches_to, falls_to, GoesForward, height_after, FitsHeight};
+ghost use Rattle.handler_check.specs.Paths.{is_allowed, IsIn, written_by, branches_to, falls_to, GoesForward};
+ghost use Rattle.handler_check.specs.Paths.{height_after, FitsHeight};
 ghost use Rattle.handler_check.specs.Ways.{list_of};
 
 use cpu12_isa::encode::encode;

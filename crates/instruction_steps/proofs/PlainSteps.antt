@@ -18,7 +18,8 @@ use Rattle.run_forms.specs.Arrival.{PlainIsOneStep}
 use Rattle.instruction_steps.proofs.Stretches.{OneInstruction, Kept, AtInstruction}
 use Rattle.run_law.proofs.Algebra.{one_stretch}
 
-pub plain_step : PlainIsStep → PlainIsOneStep → (open_to : ℕ → Bool) (flags : ℕ) (Q : State → Type 0) (i : Instr) (s t : State) → AtInstruction open_to s
+pub plain_step : PlainIsStep → PlainIsOneStep
+    → (open_to : ℕ → Bool) (flags : ℕ) (Q : State → Type 0) (i : Instr) (s t : State) → AtInstruction open_to s
     → IsPlainStep flags i s t
     → AllShown (is_hidden open_to s.regs.sp) (read_by (act_of flags i s.regs) s.mem)
     → AllShown (is_hidden open_to (min s.regs.sp t.regs.sp)) (addresses (effect flags i s.regs s.mem).writes)
@@ -32,12 +33,14 @@ plain_step law one open_to flags Q i s t c p reads writes covers q =
       shown = record {
         left = record { regs = e.regs; temps = s.temps; writes = e.writes; kind = Plain };
         goes = is.0;
-        reads = subst (AllShown h) (sym is.1) (shown_append h (six_from s.regs.pc) (read_by (act_of flags i s.regs) s.mem) c.code reads);
+        reads = subst (AllShown h) (sym is.1)
+            (shown_append h (six_from s.regs.pc) (read_by (act_of flags i s.regs) s.mem) c.code reads);
         covers = subst (λ (u : State). Uncovers h e.writes (is_hidden open_to u.regs.sp)) p.after covers;
         room = record { size = c.size; fits = c.fits; low = c.low; high = c.high };
         sums = subst (λ (u : Temps). AreSumsReady open_to s u) (sym c.temps) tt;
       };
-      writes = subst (λ (u : State). AllShown (is_hidden open_to (min s.regs.sp u.regs.sp)) (addresses e.writes)) p.after writes;
+      writes = subst (λ (u : State). AllShown (is_hidden open_to (min s.regs.sp u.regs.sp)) (addresses e.writes))
+          p.after writes;
       unmasked = c.unmasked;
       sums = subst AreNoneOrRunning (sym c.temps) tt;
     } in

@@ -48,7 +48,8 @@ at_instruction open_to image s c = record {
     high (inl e) = omega arith
     high (inr e) = omega arith
 
-step_stretch : StepLaws → PlainIsOneStep → (open_to : ℕ → Bool) (l : Layout) (image : List ℕ) (flags d : ℕ) (s t : State)
+step_stretch : StepLaws → PlainIsOneStep
+    → (open_to : ℕ → Bool) (l : Layout) (image : List ℕ) (flags d : ℕ) (s t : State)
     → flags < 2 ^ 8 → IsInterruptibleStep open_to l image flags d s t
     → OneInstruction (Kept open_to flags (On l image)) flags d s t
 unfolding On
@@ -96,7 +97,8 @@ step_stretch laws one open_to l image flags d s t hf h = by h.instruction
     by (inr (inr (inr p))) =
         average_step laws open_to flags (On l image) d s t hf c p.step p.reads here (second p.away)
 
-stretches : StepLaws → PlainIsOneStep → (open_to : ℕ → Bool) (l : Layout) (image : List ℕ) (flags : ℕ) (ds : List ℕ) (s t : State)
+stretches : StepLaws → PlainIsOneStep
+    → (open_to : ℕ → Bool) (l : Layout) (image : List ℕ) (flags : ℕ) (ds : List ℕ) (s t : State)
     → flags < 2 ^ 8 → Execution (IsInterruptibleStep open_to l image flags) ds s t
     → Execution (OneInstruction (Kept open_to flags (On l image)) flags) ds s t
 stretches laws one open_to l image flags [] s t hf h = h

@@ -14,5 +14,7 @@ one_behind P flags (d ∷ ds) s t w =
     subst (λ (k : ℕ). Stretch P flags (suc d + all_steps ds) k s t) one
     (joined P flags (suc d) (all_steps ds) 1 (length ds) s w.0 t w.1.0 (one_behind P flags ds w.0 t w.1.1))
 
-pub all_stretches : (P : State → Type 0) (flags : ℕ) (ds : List ℕ) (s t : State) → Execution (OneInstruction P flags) ds s t → AreSteps P flags ds s t
-all_stretches P flags ds s t e = let r = one_behind P flags ds s t e in record { goes = r.goes; counts = r.counts; each = r.each }
+pub all_stretches : (P : State → Type 0) (flags : ℕ) (ds : List ℕ) (s t : State)
+    → Execution (OneInstruction P flags) ds s t → AreSteps P flags ds s t
+all_stretches P flags ds s t e = let r = one_behind P flags ds s t e in
+    record { goes = r.goes; counts = r.counts; each = r.each }

@@ -30,16 +30,21 @@ abbrev pub Inside : (State → Type 0) → State → Type 0
 Inside Q s = (v : State) → v.regs.pc ≡ s.regs.pc → v.regs.sp ≡ s.regs.sp → SameAbove s.mem v.mem → Q v
 
 rules_step : (i : Instr) (k : Kind) (f : Form) → RuleLaws i k → WriteLaws
-    → (open_to : ℕ → Bool) (flags : ℕ) (Q : State → Type 0) (d : ℕ) (p : Rule) (ps : List Rule) (s t : State) → flags < 2 ^ 8
+    → (open_to : ℕ → Bool) (flags : ℕ) (Q : State → Type 0) (d : ℕ) (p : Rule) (ps : List Rule) (s t : State)
+    → flags < 2 ^ 8
     → AtInstruction open_to s → IsRulesStep i f flags d p ps s t → Inside Q s
-    → PartsTo k flags (is_hidden open_to s.regs.sp) (is_spared (is_hidden open_to s.regs.sp) (six_from s.regs.pc)) d s (rules_whole f flags s.regs s.temps s.mem p ps)
+    → PartsTo k flags (is_hidden open_to s.regs.sp) (is_spared (is_hidden open_to s.regs.sp) (six_from s.regs.pc)) d s
+    (rules_whole f flags s.regs s.temps s.mem p ps)
     → OneInstruction (Kept open_to flags Q) flags d s t
 rules_step i k f laws writes open_to flags Q d p ps s t hf c h q parts =
     subst (λ (u : State). OneInstruction (Kept open_to flags Q) flags d s u) (sym h.after)
-    (parts_at i k laws writes open_to flags Q s.regs.sp s.regs.pc s.mem d s (rules_whole f flags s.regs s.temps s.mem p ps) hf
+    (parts_at i k laws writes open_to flags Q s.regs.sp s.regs.pc s.mem d s
+    (rules_whole f flags s.regs s.temps s.mem p ps) hf
     (record { begins = c; decoded = h.decoded; stack = refl; at = refl; above = λ at le. refl }) q parts)
 
-pub rev_step : StepLaws → (open_to : ℕ → Bool) (flags : ℕ) (Q : State → Type 0) (d : ℕ) (p : Rule) (ps : List Rule) (s t : State) → flags < 2 ^ 8
+pub rev_step : StepLaws
+    → (open_to : ℕ → Bool) (flags : ℕ) (Q : State → Type 0) (d : ℕ) (p : Rule) (ps : List Rule) (s t : State)
+    → flags < 2 ^ 8
     → AtInstruction open_to s
     → IsRulesStep Rev (rev_form s.regs.y) flags d p ps s t → Touches open_to (rev_form s.regs.y) p ps s → Inside Q s
     → OneInstruction (Kept open_to flags Q) flags d s t
@@ -48,21 +53,27 @@ rev_step laws open_to flags Q d p ps s t hf c h o q =
     let own = six_from s.regs.pc in
     let fits = c.fits in
     rules_step Rev rev (rev_form s.regs.y) laws.rev laws.writes open_to flags Q d p ps s t hf c h q
-    (laws.rev_is_whole flags s.regs s.temps s.mem p ps d hidden (is_spared hidden own) hf fits.ccr h.ready h.parts o.reads
+    (laws.rev_is_whole flags s.regs s.temps s.mem p ps d hidden (is_spared hidden own) hf fits.ccr h.ready
+    h.parts o.reads
     (spared hidden own (rules_written (rev_form s.regs.y) p ps) o.writes o.below o.itself))
 
-pub revw_step : StepLaws → (open_to : ℕ → Bool) (flags : ℕ) (Q : State → Type 0) (d : ℕ) (p : Rule) (ps : List Rule) (s t : State) → flags < 2 ^ 8
+pub revw_step : StepLaws
+    → (open_to : ℕ → Bool) (flags : ℕ) (Q : State → Type 0) (d : ℕ) (p : Rule) (ps : List Rule) (s t : State)
+    → flags < 2 ^ 8
     → AtInstruction open_to s
-    → IsRulesStep Revw revw_form flags d p ps s t → Touches open_to revw_form p ps s → Inside Q s → OneInstruction (Kept open_to flags Q) flags d s t
+    → IsRulesStep Revw revw_form flags d p ps s t → Touches open_to revw_form p ps s → Inside Q s
+    → OneInstruction (Kept open_to flags Q) flags d s t
 revw_step laws open_to flags Q d p ps s t hf c h o q =
     let hidden = is_hidden open_to s.regs.sp in
     let own = six_from s.regs.pc in
     let fits = c.fits in
     rules_step Revw revw revw_form laws.revw laws.writes open_to flags Q d p ps s t hf c h q
-    (laws.revw_is_whole flags s.regs s.temps s.mem p ps d hidden (is_spared hidden own) hf fits.ccr h.ready h.parts o.reads
+    (laws.revw_is_whole flags s.regs s.temps s.mem p ps d hidden (is_spared hidden own) hf fits.ccr h.ready
+    h.parts o.reads
     (spared hidden own (rules_written revw_form p ps) o.writes o.below o.itself))
 
-pub average_step : StepLaws → (open_to : ℕ → Bool) (flags : ℕ) (Q : State → Type 0) (d : ℕ) (s t : State) → flags < 2 ^ 8 → AtInstruction open_to s
+pub average_step : StepLaws → (open_to : ℕ → Bool) (flags : ℕ) (Q : State → Type 0) (d : ℕ) (s t : State)
+    → flags < 2 ^ 8 → AtInstruction open_to s
     → IsAverageStep flags d s t
     → AllShown (is_hidden open_to s.regs.sp) (wav_read s.regs) → Q s
     → ((v : State) → v.regs.pc ≡ plus s.regs.pc 1 → v.regs.sp ≡ s.regs.sp → v.mem ≡ s.mem → Q v)
@@ -73,5 +84,6 @@ average_step laws open_to flags Q d s t hf c h reads qs q =
     let fits = c.fits in
     let whole = laws.wav_is_whole flags s.regs s.temps s.mem hidden none hf fits.ccr h.off reads in
     let parts : PartsTo wav flags hidden none d s t =
-    subst (λ (k : ℕ). PartsTo wav flags hidden none k s t) (sym h.parts) (subst (λ (u : State). PartsTo wav flags hidden none (s.regs.b - 1) s u) (sym h.after) whole) in
+    subst (λ (k : ℕ). PartsTo wav flags hidden none k s t) (sym h.parts)
+    (subst (λ (u : State). PartsTo wav flags hidden none (s.regs.b - 1) s u) (sym h.after) whole) in
     average_at laws.wav laws.decoded_has_opcode open_to flags Q d none s t hf c h.decoded qs q parts

@@ -11,7 +11,8 @@ use Rattle.interrupt_plan.specs.Levels.{AreGoodLevels, LevelNotAfter, SpellsLeve
 use Rattle.interrupt_plan.specs.Plans.{IsGood, NotAfter}
 use Rattle.interrupt_plan.specs.Posts.{AreGoodPosts, NoLater, SpellsPost, writes_in}
 use Rattle.interrupt_plan.specs.PlanTexts.{SpellsRequest, writes_by}
-use Rattle.interrupt_plan.specs.Rows.{AreFree, AreInOrder, FirstFault, HasFirstFault, HasNumbers, RowFails, SpellAll, SpellsText, at_row, count_of, more, not_ascending, not_free, unread}
+use Rattle.interrupt_plan.specs.Rows.{AreFree, AreInOrder, FirstFault, HasFirstFault, HasNumbers, RowFails, SpellAll}
+use Rattle.interrupt_plan.specs.Rows.{SpellsText, at_row, count_of, more, not_ascending, not_free, unread}
 use Rattle.interrupt_plan.specs.declared.PlanFault.{PlanFault}
 use Rattle.interrupt_plan.specs.declared.levels.Level.{Level}
 use Rattle.interrupt_plan.specs.declared.Post.{Post}
@@ -29,8 +30,10 @@ numbers_one fields s m t n one other =
     let same : one.first_text ∷ one.second_text ∷ one.pairs ≡ other.first_text ∷ other.second_text ∷ other.pairs =
     sym one.fields_are ∙ other.fields_are in
     let first : one.first_text ≡ other.first_text = cc in
-    let second : one.second_text ≡ other.second_text = cc in
-    (same_some one.first_is (ap count_of first ∙ other.first_is), same_some one.second_is (ap count_of second ∙ other.second_is))
+    let second : one.second_text ≡ other.second_text = cc in (
+      same_some one.first_is (ap count_of first ∙ other.first_is),
+      same_some one.second_is (ap count_of second ∙ other.second_is),
+    )
 
 request_one : (fields : Fields) (q r : Request) → SpellsRequest fields q → SpellsRequest fields r → q ≡ r
 request_one fields q r one other =
@@ -38,7 +41,8 @@ request_one fields q r one other =
     let writes : q.writes ≡ r.writes = same_some one.row.writes_are other.row.writes_are in
     (λ i. record { sample = numbers.0 i; moment = numbers.1 i; writes = writes i })
 
-post_one : (samples : ℕ) (fields : Fields) (q r : Post) → SpellsPost samples fields q → SpellsPost samples fields r → q ≡ r
+post_one : (samples : ℕ) (fields : Fields) (q r : Post) → SpellsPost samples fields q
+    → SpellsPost samples fields r → q ≡ r
 post_one samples fields q r one other =
     let numbers = numbers_one fields q.moment q.sample r.moment r.sample one.row.numbers other.row.numbers in
     let writes : q.writes ≡ r.writes = same_some one.row.writes_are other.row.writes_are in
@@ -46,7 +50,8 @@ post_one samples fields q r one other =
 
 level_one : (fast : ℕ) (fields : Fields) (q r : Level) → SpellsLevel fast fields q → SpellsLevel fast fields r → q ≡ r
 level_one fast fields q r one other =
-    let same : numbers_of q ≡ numbers_of r = one_numbers fields (numbers_of q) (numbers_of r) one.numbers other.numbers in
+    let same : numbers_of q ≡ numbers_of r =
+    one_numbers fields (numbers_of q) (numbers_of r) one.numbers other.numbers in
     let sample : q.sample ≡ r.sample = cc in
     let moment : q.moment ≡ r.moment = cc in
     let answered : q.fast ≡ r.fast = cc in
@@ -57,10 +62,12 @@ level_one fast fields q r one other =
 
 module _ {E : Type 0} (Spells : Fields → E → Type 0) (writes : E → List Write) (Follows : E → E → Type 0)
     (entry_one : (fields : Fields) (q r : E) → Spells fields q → Spells fields r → q ≡ r) where
-  module _ (before : List Fields) (row : Fields) (others all : List E) (order : AreInOrder writes Follows all) (at : Split Spells before row all)
+  module _ (before : List Fields) (row : Fields) (others all : List E) (order : AreInOrder writes Follows all)
+      (at : Split Spells before row all)
       (spelled : SpellAll Spells before others) where
     own_free : AreFree (writes at.own)
-    own_free = own_of (λ e. AreFree (writes e)) at.front at.own at.behind (subst (λ (l : List E). All (λ e. AreFree (writes e)) l) at.parts order.free)
+    own_free = own_of (λ e. AreFree (writes e)) at.front at.own at.behind
+        (subst (λ (l : List E). All (λ e. AreFree (writes e)) l) at.parts order.free)
 
     row_apart : (n : ℕ) (fault : PlanFault) → RowFails Spells writes Follows others n row fault → ⊥
     row_apart n fault (unread none) = none at.own at.own_is
@@ -73,19 +80,24 @@ module _ {E : Type 0} (Spells : Fields → E → Type 0) (writes : E → List Wr
         cc
     row_apart n fault (not_ascending r spells free falls) =
         let own : r ≡ at.own = entry_one row r at.own spells at.own_is in
-        let up = follows_last Spells entry_one Follows before row others all at spelled order.ascends falls.front falls.last falls.before_is in
+        let up = follows_last Spells entry_one Follows before row others all at spelled order.ascends falls.front
+        falls.last falls.before_is in
         falls.falls (subst (λ (q : E). Follows falls.last q) (sym own) up)
 
-  rows_apart : (rows : List Fields) (all : List E) (fault : PlanFault) → length rows < 10001 → AreInOrder writes Follows all → SpellAll Spells rows all
+  rows_apart : (rows : List Fields) (all : List E) (fault : PlanFault) → length rows < 10001
+      → AreInOrder writes Follows all → SpellAll Spells rows all
       → FirstFault Spells writes Follows rows fault → ⊥
   rows_apart rows all fault few order spelled (at_row before row after others f split lt front front_order fails) =
-      let at = split_at Spells before row after all (subst (λ (rs : List Fields). SpellAll Spells rs all) split spelled) in
+      let at = split_at Spells before row after all
+      (subst (λ (rs : List Fields). SpellAll Spells rs all) split spelled) in
       row_apart before row others all order at front (length before + 1) f fails
   rows_apart rows all fault few order spelled (more before row after others split full front front_order) =
       omega (arith, few, full, ap length split, length-append before (row ∷ after))
 
-  pub texts_apart : FirstRowsAreOne → (Good : List E → Type 0) → ((es : List E) → Good es → AreInOrder writes Follows es)
-      → (text : List ℕ) (all : List E) (fault : PlanFault) → SpellsText Spells Good text all → HasFirstFault Spells writes Follows text fault → ⊥
+  pub texts_apart : FirstRowsAreOne → (Good : List E → Type 0)
+      → ((es : List E) → Good es → AreInOrder writes Follows es)
+      → (text : List ℕ) (all : List E) (fault : PlanFault) → SpellsText Spells Good text all
+      → HasFirstFault Spells writes Follows text fault → ⊥
   texts_apart one Good order text all fault spells has =
       let same : has.rows ≡ spells.rows = one text spells.rows has.rows spells.first spells.few has.first in
       rows_apart spells.rows all fault spells.few (order all spells.good) spells.spelled
@@ -94,21 +106,27 @@ module _ {E : Type 0} (Spells : Fields → E → Type 0) (writes : E → List Wr
 -- ---- plans, posts and levels
 
 plan_order : (plan : List Request) → IsGood plan → AreInOrder writes_by NotAfter plan
-plan_order plan good = record { few = good.few; free = λ k d lt. (let r = good.requests k d lt in r.free); ascends = good.ascends }
+plan_order plan good =
+    record { few = good.few; free = λ k d lt. (let r = good.requests k d lt in r.free); ascends = good.ascends }
 
 posts_order : (samples : ℕ) (posts : List Post) → AreGoodPosts samples posts → AreInOrder writes_in NoLater posts
-posts_order samples posts good = record { few = good.few; free = λ k d lt. (let r = good.posts_are k d lt in r.free); ascends = good.ascends }
+posts_order samples posts good =
+    record { few = good.few; free = λ k d lt. (let r = good.posts_are k d lt in r.free); ascends = good.ascends }
 
 levels_order : (fast : ℕ) (levels : List Level) → AreGoodLevels fast levels → AreInOrder no_writes LevelNotAfter levels
-levels_order fast levels good = record { few = good.few; free = λ k d lt i e none. absurd (omega arith); ascends = good.ascends }
+levels_order fast levels good =
+    record { few = good.few; free = λ k d lt i e none. absurd (omega arith); ascends = good.ascends }
 
 pub plans_apart : FirstRowsAreOne → SpelledPlansHaveNoFault
-plans_apart one text plan fault spells has = texts_apart SpellsRequest writes_by NotAfter request_one one IsGood plan_order text plan fault spells has
+plans_apart one text plan fault spells has =
+    texts_apart SpellsRequest writes_by NotAfter request_one one IsGood plan_order text plan fault spells has
 
 pub posts_apart : FirstRowsAreOne → SpelledPostsHaveNoFault
 posts_apart one samples text posts fault spells has =
-    texts_apart (SpellsPost samples) writes_in NoLater (post_one samples) one (AreGoodPosts samples) (posts_order samples) text posts fault spells has
+    texts_apart (SpellsPost samples) writes_in NoLater (post_one samples) one (AreGoodPosts samples)
+    (posts_order samples) text posts fault spells has
 
 pub levels_apart : FirstRowsAreOne → SpelledLevelsHaveNoFault
 levels_apart one fast text levels fault spells has =
-    texts_apart (SpellsLevel fast) no_writes LevelNotAfter (level_one fast) one (AreGoodLevels fast) (levels_order fast) text levels fault spells has
+    texts_apart (SpellsLevel fast) no_writes LevelNotAfter (level_one fast) one (AreGoodLevels fast)
+    (levels_order fast) text levels fault spells has

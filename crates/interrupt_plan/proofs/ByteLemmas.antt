@@ -1,6 +1,8 @@
 -- What is spelled by two hexadecimal digits is a byte.
-use Rattle.std.proofs.Common.{◌≡◌, ◌≤◌, ◌<◌, ◌+◌, ◌*◌, ◌-◌, ◌^◌, ℕ, Bool, true, false, List, [], ◌∷◌, length, refl, sym, ap, arith}
-use Rattle.std.specs.Prelude.{All, Option, Some, None, Result, Ok, Err, ◌%◌, ◌/◌, ◌==◌, ◌&&◌, nat_le, if◌then◌else◌, slice_index}
+use Rattle.std.proofs.Common.{◌≡◌, ◌≤◌, ◌<◌, ◌+◌, ◌*◌, ◌-◌, ◌^◌, ℕ, Bool, true, false, List, [], ◌∷◌, length, refl, sym}
+use Rattle.std.proofs.Common.{ap, arith}
+use Rattle.std.specs.Prelude.{All, Option, Some, None, Result, Ok, Err, ◌%◌, ◌/◌, ◌==◌, ◌&&◌, nat_le, if◌then◌else◌}
+use Rattle.std.specs.Prelude.{slice_index}
 use Rattle.std.proofs.lemmas.Bool.Decides.{nat_tests}
 use Rattle.std.proofs.lemmas.List.Elements.{All-cons, All-nil}
 use Rattle.hex.specs.Hex.{hex_digit_value, digit_or_error, value_at, pair_value, decode_pairs, decode_sized, ◌>>=◌}
@@ -12,13 +14,18 @@ use Rattle.interrupt_plan.specs.Rows.{word_of, byte_of, the_write, write_of, wit
 
 -- a digit
 digit_small : (c v : ℕ) → hex_digit_value c ≡ Some v → v ≤ 15
-digit_small c v e = at (nat_le 65 c && nat_le c 70) (nat_le 97 c && nat_le c 102) (nat_le 48 c && nat_le c 57) refl refl refl e
+digit_small c v e = at (nat_le 65 c && nat_le c 70) (nat_le 97 c && nat_le c 102)
+    (nat_le 48 c && nat_le c 57) refl refl refl e
   where
-    at : (x y z : Bool) → (nat_le 65 c && nat_le c 70) ≡ x → (nat_le 97 c && nat_le c 102) ≡ y → (nat_le 48 c && nat_le c 57) ≡ z
-        → (if x then Some (c - 55) else if y then Some (c - 87) else if z then Some (c - 48) else None) ≡ Some v → v ≤ 15
+    at : (x y z : Bool) → (nat_le 65 c && nat_le c 70) ≡ x → (nat_le 97 c && nat_le c 102) ≡ y
+        → (nat_le 48 c && nat_le c 57) ≡ z
+        → (if x then Some (c - 55) else if y then Some (c - 87) else if z then Some (c - 48) else None) ≡ Some v
+        → v ≤ 15
     at true y z ex ey ez e = let s : c - 55 ≡ v = cc in let h : c ≤ 70 = grind (arith, nat_tests) in omega (arith, s, h)
-    at false true z ex ey ez e = let s : c - 87 ≡ v = cc in let h : c ≤ 102 = grind (arith, nat_tests) in omega (arith, s, h)
-    at false false true ex ey ez e = let s : c - 48 ≡ v = cc in let h : c ≤ 57 = grind (arith, nat_tests) in omega (arith, s, h)
+    at false true z ex ey ez e = let s : c - 87 ≡ v = cc in let h : c ≤ 102 = grind (arith, nat_tests) in
+        omega (arith, s, h)
+    at false false true ex ey ez e = let s : c - 48 ≡ v = cc in let h : c ≤ 57 = grind (arith, nat_tests) in
+        omega (arith, s, h)
     at false false false ex ey ez e = cc
 
 value_small : (c i v : ℕ) (o : Option ℕ) → hex_digit_value c ≡ o → digit_or_error c i o ≡ Ok v → v ≤ 15
@@ -33,7 +40,12 @@ pair_small high low i v e = first (value_at high i) refl (value_at low (i + 1)) 
         → x >>= (λ h. y >>= (λ l. Ok (h * 16 + l))) ≡ Ok v → v < 256
     first (Ok h) ex (Ok l) ey e =
         let same : h * 16 + l ≡ v = cc in
-        omega (arith, same, value_small high i h (hex_digit_value high) refl ex, value_small low (i + 1) l (hex_digit_value low) refl ey)
+        omega (
+          arith,
+          same,
+          value_small high i h (hex_digit_value high) refl ex,
+          value_small low (i + 1) l (hex_digit_value low) refl ey,
+        )
     first (Ok h) ex (Err q) ey e = cc
     first (Err q) ex y ey e = cc
 
@@ -78,8 +90,10 @@ abbrev IsByteWrite : Write → Type 0
 IsByteWrite w = w.value < 2 ^ 8
 
 -- those of a row
-row_small : (x : Option Write) (y : Option (List Write)) (ws : List Write) → ((w : Write) → x ≡ Some w → w.value < 2 ^ 8)
-    → ((rest : List Write) → y ≡ Some rest → All (λ w. w.value < 2 ^ 8) rest) → with_write x y ≡ Some ws → All (λ w. w.value < 2 ^ 8) ws
+row_small : (x : Option Write) (y : Option (List Write)) (ws : List Write)
+    → ((w : Write) → x ≡ Some w → w.value < 2 ^ 8)
+    → ((rest : List Write) → y ≡ Some rest → All (λ w. w.value < 2 ^ 8) rest) → with_write x y ≡ Some ws
+    → All (λ w. w.value < 2 ^ 8) ws
 row_small (Some w) (Some rest) ws one more e =
     let same : w ∷ rest ≡ ws = cc in
     rw (sym same) (All-cons IsByteWrite w rest (one w refl) (more rest refl))
@@ -90,4 +104,5 @@ pub writes_small : (fields : Fields) (ws : List Write) → writes_of fields ≡ 
 writes_small [] ws e = let same : [] ≡ ws = cc in rw (sym same) (All-nil IsByteWrite)
 writes_small (a ∷ []) ws e = cc
 writes_small (a ∷ v ∷ fields) ws e =
-    row_small (write_of a v) (writes_of fields) ws (λ w is. write_small a v w is) (λ rest is. writes_small fields rest is) e
+    row_small (write_of a v) (writes_of fields) ws (λ w is. write_small a v w is)
+    (λ rest is. writes_small fields rest is) e

@@ -49,6 +49,7 @@ late_good = record {
 pub two_good : IsGood (early ∷ late ∷ [])
 two_good = record {
   few = omega arith;
-  requests = All-cons IsGoodRequest early (late ∷ []) early_good (All-cons IsGoodRequest late [] late_good (none IsGoodRequest));
+  requests = All-cons IsGoodRequest early (late ∷ []) early_good
+      (All-cons IsGoodRequest late [] late_good (none IsGoodRequest));
   ascends = (inr (refl, omega arith), tt);
 }

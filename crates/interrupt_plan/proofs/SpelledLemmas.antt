@@ -7,24 +7,31 @@ use Rattle.interrupt_plan.specs.Plans.{Ascend}
 use Rattle.interrupt_plan.specs.Rows.{SpellAll}
 
 module _ {E : Type 0} (Follows : E → E → Type 0) where
-  pub ascends-snoc : (es : List E) (e : E) → Ascend Follows es → ((front : List E) (last : E) → es ≡ front ++ last ∷ [] → Follows last e)
+  pub ascends-snoc : (es : List E) (e : E) → Ascend Follows es
+      → ((front : List E) (last : E) → es ≡ front ++ last ∷ [] → Follows last e)
       → Ascend Follows (es ++ e ∷ [])
   ascends-snoc [] e ascends follows = tt
   ascends-snoc (a ∷ []) e ascends follows = (follows [] a refl, tt)
-  ascends-snoc (a ∷ b ∷ rest) e ascends follows =
-      (ascends.0, ascends-snoc (b ∷ rest) e ascends.1 (λ front last is. follows (a ∷ front) last (ap (λ (l : List E). a ∷ l) is)))
+  ascends-snoc (a ∷ b ∷ rest) e ascends follows = (
+    ascends.0,
+    ascends-snoc (b ∷ rest) e ascends.1
+        (λ front last is. follows (a ∷ front) last (ap (λ (l : List E). a ∷ l) is)),
+  )
 
-  rises : (front : List E) (last own : E) (behind : List E) → Ascend Follows ((front ++ last ∷ []) ++ own ∷ behind) → Follows last own
+  rises : (front : List E) (last own : E) (behind : List E) → Ascend Follows ((front ++ last ∷ []) ++ own ∷ behind)
+      → Follows last own
   rises [] last own behind ascends = ascends.0
   rises (r ∷ []) last own behind ascends = rises [] last own behind ascends.1
   rises (r ∷ q ∷ front) last own behind ascends = rises (q ∷ front) last own behind ascends.1
 
-pub own_of : {E : Type 0} (P : E → Type 0) (front : List E) (own : E) (behind : List E) → All P (front ++ own ∷ behind) → P own
+pub own_of : {E : Type 0} (P : E → Type 0) (front : List E) (own : E) (behind : List E)
+    → All P (front ++ own ∷ behind) → P own
 own_of P [] own behind each = All-head P own behind each
 own_of P (r ∷ front) own behind each = own_of P front own behind (All-tail P r (front ++ own ∷ behind) each)
 
 -- the entries before a row, its own, and those behind
-pub record Split {E : Type 0} (Spells : Fields → E → Type 0) (before : List Fields) (row : Fields) (all : List E) : Type 0 where
+pub record Split {E : Type 0} (Spells : Fields → E → Type 0) (before : List Fields) (row : Fields)
+    (all : List E) : Type 0 where
   pub front : List E
   pub own : E
   pub behind : List E
@@ -49,7 +56,8 @@ module _ {E : Type 0} (Spells : Fields → E → Type 0) where
   pub split_at : (before : List Fields) (row : Fields) (after : List Fields) (all : List E)
       → SpellAll Spells (before ++ row ∷ after) all → Split Spells before row all
   split_at [] row after [] spelled = absurd spelled
-  split_at [] row after (r ∷ rs) spelled = record { front = []; own = r; behind = rs; parts = refl; spelled = tt; own_is = spelled.0 }
+  split_at [] row after (r ∷ rs) spelled =
+      record { front = []; own = r; behind = rs; parts = refl; spelled = tt; own_is = spelled.0 }
   split_at (b ∷ before) row after [] spelled = absurd spelled
   split_at (b ∷ before) row after (r ∷ rs) spelled =
       let rest = split_at before row after rs spelled.1 in
@@ -74,9 +82,12 @@ module _ {E : Type 0} (Spells : Fields → E → Type 0) where
         ap₂ (λ (r : E) (rs : List E). r ∷ rs) (entry_one row p q one.0 other.0) (entries_one rows ps qs one.1 other.1)
 
     -- a row's entry follows the last of those that the rows before it spell
-    pub follows_last : (Follows : E → E → Type 0) (before : List Fields) (row : Fields) (others all : List E) (at : Split Spells before row all)
-        → SpellAll Spells before others → Ascend Follows all → (front : List E) (last : E) → others ≡ front ++ last ∷ [] → Follows last at.own
+    pub follows_last : (Follows : E → E → Type 0) (before : List Fields) (row : Fields) (others all : List E)
+        (at : Split Spells before row all)
+        → SpellAll Spells before others → Ascend Follows all → (front : List E) (last : E) → others ≡ front ++ last ∷ []
+        → Follows last at.own
     follows_last Follows before row others all at spelled ascends front last is =
         let same : at.front ≡ front ++ last ∷ [] = entries_one before at.front others at.spelled spelled ∙ is in
-        let parts : all ≡ (front ++ last ∷ []) ++ at.own ∷ at.behind = at.parts ∙ ap (λ (l : List E). l ++ at.own ∷ at.behind) same in
+        let parts : all ≡ (front ++ last ∷ []) ++ at.own ∷ at.behind =
+        at.parts ∙ ap (λ (l : List E). l ++ at.own ∷ at.behind) same in
         rises Follows front last at.own at.behind (subst (λ (l : List E). Ascend Follows l) parts ascends)

@@ -1,5 +1,6 @@
 -- Rows and upsets, one by one.
-use Rattle.std.proofs.Common.{◌≡◌, ◌<◌, ◌+◌, ℕ, suc, true, false, List, [], ◌∷◌, ◌++◌, length, take, drop, get_or, sym, ◌∙◌, ap, ap₂, subst, arith}
+use Rattle.std.proofs.Common.{◌≡◌, ◌<◌, ◌+◌, ℕ, suc, true, false, List, [], ◌∷◌, ◌++◌, length, take, drop, get_or, sym}
+use Rattle.std.proofs.Common.{◌∙◌, ap, ap₂, subst, arith}
 use Rattle.std.specs.Prelude.{map, All}
 use Rattle.std.proofs.lemmas.List.{length-append}
 use Rattle.std.proofs.lemmas.List.Elements.{All-append, All-cons, All-nil}
@@ -12,14 +13,17 @@ use Rattle.interrupt_plan.specs.declared.upsets.UpsetFault.{UpsetFault}
 use Rattle.interrupt_plan.specs.declared.upsets.UpsetFault.TheVariants.{TooMany}
 use Rattle.interrupt_plan.specs.Rows.{count_of, write_of}
 use Rattle.interrupt_plan.specs.Upsets.{AreGoodUpsets, IsBefore, IsGoodUpset, is_table}
-use Rattle.interrupt_plan.specs.UpsetTexts.{FirstUpsetFault, SpellUpsets, SpellsUpset, SpelledUpsetsHaveNoFault, UpsetRowFails, at_row, more, unread, not_table, not_ascending}
+use Rattle.interrupt_plan.specs.UpsetTexts.{FirstUpsetFault, SpellUpsets, SpellsUpset, SpelledUpsetsHaveNoFault}
+use Rattle.interrupt_plan.specs.UpsetTexts.{UpsetRowFails, at_row, more, unread, not_table, not_ascending}
 use Rattle.interrupt_plan.proofs.ByteLemmas.{write_small}
 use Rattle.interrupt_plan.proofs.PlanLemmas.{count_small, fields_more, fields_split, length-fields}
-use Rattle.interrupt_plan.proofs.SpelledLemmas.{Split, ascends-snoc, follows_last, own_of, spelled-length, spell-snoc, split_at}
+use Rattle.interrupt_plan.proofs.SpelledLemmas.{Split, ascends-snoc, follows_last, own_of, spelled-length, spell-snoc}
+use Rattle.interrupt_plan.proofs.SpelledLemmas.{split_at}
 use Rattle.interrupt_plan.proofs.ApartLemmas.{same_some}
 
 -- three fields, by their places
-pub three_fields : (fields : Fields) (a b c : List ℕ) → length fields ≡ 3 → get_or fields 0 [] ≡ a → get_or fields 1 [] ≡ b → get_or fields 2 [] ≡ c
+pub three_fields : (fields : Fields) (a b c : List ℕ) → length fields ≡ 3 → get_or fields 0 [] ≡ a
+    → get_or fields 1 [] ≡ b → get_or fields 2 [] ≡ c
     → fields ≡ a ∷ b ∷ c ∷ []
 three_fields [] a b c count p q r = absurd (omega arith)
 three_fields (x ∷ []) a b c count p q r = absurd (omega arith)
@@ -27,7 +31,8 @@ three_fields (x ∷ y ∷ []) a b c count p q r = absurd (omega arith)
 three_fields (x ∷ y ∷ z ∷ []) a b c count p q r = cc
 three_fields (x ∷ y ∷ z ∷ w ∷ fields) a b c count p q r = absurd (omega arith)
 
-pub good_upset : (image : List (ℕ × ℕ)) (fields : Fields) (u : Upset) → SpellsUpset fields u → is_table image u.at ≡ true → IsGoodUpset image u
+pub good_upset : (image : List (ℕ × ℕ)) (fields : Fields) (u : Upset) → SpellsUpset fields u
+    → is_table image u.at ≡ true → IsGoodUpset image u
 good_upset image fields u spelled table = record {
   sample_from = spelled.some;
   sample_to = count_small spelled.sample_text u.sample spelled.sample_is;
@@ -37,23 +42,28 @@ good_upset image fields u spelled table = record {
 
 -- ---- one upset more
 
-module _ (image : List (ℕ × ℕ)) (rows : List Row) (i : ℕ) (row : Row) (lt : i < length rows) (is : row ≡ get_or rows i row) (us : List Upset)
+module _ (image : List (ℕ × ℕ)) (rows : List Row) (i : ℕ) (row : Row) (lt : i < length rows)
+    (is : row ≡ get_or rows i row) (us : List Upset)
     (so_far : SpellUpsets (map fields_of (take i rows)) us) (good : AreGoodUpsets image us) where
   size : length (map fields_of (take i rows)) ≡ i
   size = length-fields rows i row lt is
 
   pub upsets_more : (u : Upset) (us' : List Upset) → SpellsUpset (fields_of row) u → us' ≡ us ++ u ∷ []
       → SpellUpsets (map fields_of (take (i + 1) rows)) us'
-  upsets_more u us' here added = rw (fields_more rows i row lt is, added) (spell-snoc SpellsUpset (map fields_of (take i rows)) us (fields_of row) u so_far here)
+  upsets_more u us' here added =
+      rw (fields_more rows i row lt is, added)
+      (spell-snoc SpellsUpset (map fields_of (take i rows)) us (fields_of row) u so_far here)
 
   pub good_more : (u : Upset) (us' : List Upset) → IsGoodUpset image u
-      → ((front : List Upset) (last : Upset) → us ≡ front ++ last ∷ [] → last.sample < u.sample) → i < 10000 → us' ≡ us ++ u ∷ []
+      → ((front : List Upset) (last : Upset) → us ≡ front ++ last ∷ [] → last.sample < u.sample) → i < 10000
+      → us' ≡ us ++ u ∷ []
       → AreGoodUpsets image us'
   good_more u us' here above few added =
       let count : length us ≡ i = spelled-length SpellsUpset (map fields_of (take i rows)) us so_far ∙ size in
       subst (AreGoodUpsets image) (sym added) (record {
         few = omega (arith, length-append us (u ∷ []), count);
-        each = All-append (IsGoodUpset image) us (u ∷ []) good.each (All-cons (IsGoodUpset image) u [] here (All-nil (IsGoodUpset image)));
+        each = All-append (IsGoodUpset image) us (u ∷ []) good.each
+            (All-cons (IsGoodUpset image) u [] here (All-nil (IsGoodUpset image)));
         ascend = ascends-snoc IsBefore us u good.ascend above;
       })
 
@@ -61,11 +71,13 @@ module _ (image : List (ℕ × ℕ)) (rows : List Row) (i : ℕ) (row : Row) (lt
       → FirstUpsetFault image (map fields_of rows) fault
   fault_at fault n number few fails =
       let at : n ≡ length (map fields_of (take i rows)) + 1 = omega (arith, number, size) in
-      at_row (map fields_of (take i rows)) (fields_of row) (map fields_of (drop (suc i) rows)) us fault (fields_split rows i row lt is) (omega (arith, size)) so_far good
+      at_row (map fields_of (take i rows)) (fields_of row) (map fields_of (drop (suc i) rows)) us fault
+      (fields_split rows i row lt is) (omega (arith, size)) so_far good
       (subst (λ (k : ℕ). UpsetRowFails image us k (fields_of row) fault) at fails)
 
   pub too_many : i ≡ 10000 → FirstUpsetFault image (map fields_of rows) TooMany
-  too_many many = more (map fields_of (take i rows)) (fields_of row) (map fields_of (drop (suc i) rows)) us (fields_split rows i row lt is) (size ∙ many) so_far good
+  too_many many = more (map fields_of (take i rows)) (fields_of row) (map fields_of (drop (suc i) rows)) us
+      (fields_split rows i row lt is) (size ∙ many) so_far good
 
 -- ---- a text that spells upsets has no fault
 
@@ -82,24 +94,29 @@ upset_one fields u v one other =
     let write : w ≡ x = same_some one.write_is (ap₂ (λ (a b : List ℕ). write_of a b) address value ∙ other.write_is) in
     (λ i. record { sample = sample i; at = (write i).at; value = (write i).value })
 
-module _ (image : List (ℕ × ℕ)) (before : List Fields) (row : Fields) (us upsets : List Upset) (good : AreGoodUpsets image upsets) (at : Split SpellsUpset before row upsets)
+module _ (image : List (ℕ × ℕ)) (before : List Fields) (row : Fields) (us upsets : List Upset)
+    (good : AreGoodUpsets image upsets) (at : Split SpellsUpset before row upsets)
     (spelled : SpellUpsets before us) where
   row_apart : (n : ℕ) (fault : UpsetFault) → UpsetRowFails image us n row fault → ⊥
   row_apart n fault (unread none) = none at.own at.own_is
   row_apart n fault (not_table u spells outside) =
       let same : u ≡ at.own = upset_one row u at.own spells at.own_is in
-      let fine = own_of (IsGoodUpset image) at.front at.own at.behind (subst (λ (l : List Upset). All (IsGoodUpset image) l) at.parts good.each) in
+      let fine = own_of (IsGoodUpset image) at.front at.own at.behind
+      (subst (λ (l : List Upset). All (IsGoodUpset image) l) at.parts good.each) in
       let bad : true ≡ false = sym fine.table ∙ ap (λ (v : Upset). is_table image v.at) (sym same) ∙ outside in
       cc
   row_apart n fault (not_ascending u spells inside falls) =
       let own : u ≡ at.own = upset_one row u at.own spells at.own_is in
-      let up = follows_last SpellsUpset upset_one IsBefore before row us upsets at spelled good.ascend falls.front falls.last falls.before_is in
+      let up = follows_last SpellsUpset upset_one IsBefore before row us upsets at spelled good.ascend falls.front
+      falls.last falls.before_is in
       omega (arith, up, falls.falls, ap (λ (v : Upset). v.sample) own)
 
-rows_apart : (image : List (ℕ × ℕ)) (rows : List Fields) (upsets : List Upset) (fault : UpsetFault) → length rows < 10001 → AreGoodUpsets image upsets
+rows_apart : (image : List (ℕ × ℕ)) (rows : List Fields) (upsets : List Upset) (fault : UpsetFault)
+    → length rows < 10001 → AreGoodUpsets image upsets
     → SpellUpsets rows upsets → FirstUpsetFault image rows fault → ⊥
 rows_apart image rows upsets fault few good spelled (at_row before row after us f split lt front front_good fails) =
-    let at = split_at SpellsUpset before row after upsets (subst (λ (rs : List Fields). SpellUpsets rs upsets) split spelled) in
+    let at = split_at SpellsUpset before row after upsets
+    (subst (λ (rs : List Fields). SpellUpsets rs upsets) split spelled) in
     row_apart image before row us upsets good at front (length before + 1) f fails
 rows_apart image rows upsets fault few good spelled (more before row after us split full front front_good) =
     omega (arith, few, full, ap length split, length-append before (row ∷ after))

@@ -1,5 +1,6 @@
 -- Rows of two numbers and writes, each of which spells an entry: a request of a plan, or a post.
-use Rattle.std.specs.Prelude.{◌≡◌, ◌<◌, ◌≤◌, ◌+◌, ◌*◌, ℕ, List, [], ◌∷◌, ◌++◌, length, drop, All, Option, Some, None, Result, Ok, Err, slice_index, nat_le, ◌&&◌, true, false, if◌then◌else◌}
+use Rattle.std.specs.Prelude.{◌≡◌, ◌<◌, ◌≤◌, ◌+◌, ◌*◌, ℕ, List, [], ◌∷◌, ◌++◌, length, drop, All, Option, Some, None}
+use Rattle.std.specs.Prelude.{Result, Ok, Err, slice_index, nat_le, ◌&&◌, true, false, if◌then◌else◌}
 use Rattle.hex.specs.Hex.{decode_sized}
 use Rattle.hex.specs.declared.error.FromHexError.{FromHexError}
 use Rattle.fz_num.specs.Decimals.{are_digits, number}

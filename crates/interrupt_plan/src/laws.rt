@@ -1,5 +1,6 @@
 //! Laws of plans, each the contract of a function that does nothing.
-ghost use Rattle.interrupt_plan.specs.OneReading.{SpelledLevelsHaveNoFault, SpelledPlansHaveNoFault, SpelledPostsHaveNoFault};
+ghost use Rattle.interrupt_plan.specs.OneReading.{SpelledLevelsHaveNoFault, SpelledPlansHaveNoFault};
+ghost use Rattle.interrupt_plan.specs.OneReading.{SpelledPostsHaveNoFault};
 ghost use Rattle.interrupt_plan.specs.UpsetTexts.{SpelledUpsetsHaveNoFault};
 
 /// A text that spells a plan has no fault.

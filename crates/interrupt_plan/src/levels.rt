@@ -1,8 +1,10 @@
 //! Levels: takes of a handler that answers fast samples, and is interrupted itself.
-ghost use Rattle.std.specs.Prelude.{◌≡◌, ◌≢◌, ◌↔◌, ◌≤◌, ℕ, List as Items, [], length, map, All, IfOk, IfErr, MatchOption, Some, IsTrue};
+ghost use Rattle.std.specs.Prelude.{◌≡◌, ◌≢◌, ◌↔◌, ◌≤◌, ℕ, List as Items, [], length, map, All, IfOk, IfErr};
+ghost use Rattle.std.specs.Prelude.{MatchOption, Some, IsTrue};
 ghost use Rattle.std.specs.List.Sorted.{IsNonDecreasing};
 ghost use Rattle.csv.specs.Records.{fields_of};
-ghost use Rattle.interrupt_plan.specs.Levels.{IsGoodLevel, LevelNotAfter, LevelsHaveFault, SpellsLevel, SpellsLevels, no_writes, numbers_of};
+ghost use Rattle.interrupt_plan.specs.Levels.{IsGoodLevel, LevelNotAfter, LevelsHaveFault, SpellsLevel, SpellsLevels};
+ghost use Rattle.interrupt_plan.specs.Levels.{no_writes, numbers_of};
 ghost use Rattle.interrupt_plan.specs.Rows.{count_of};
 ghost use Rattle.interrupt_plan.specs.declared.levels.Level.{Level as TheLevel};
 

@@ -3,7 +3,8 @@ ghost use Rattle.std.specs.Prelude.{◌≡◌, ◌≢◌, ◌<◌, ◌≤◌, Li
 ghost use Rattle.csv.specs.Records.{fields_of};
 ghost use Rattle.interrupt_plan.specs.PlanTexts.{HasFault, Spells};
 ghost use Rattle.interrupt_plan.specs.Posts.{PostsHaveFault, SpellsPosts};
-ghost use Rattle.interrupt_plan.specs.Rows.{AreFree, AreInOrder, FirstFault, HasFirstFault, RowFails, SpellAll, SpellsText};
+ghost use Rattle.interrupt_plan.specs.Rows.{AreFree, AreInOrder, FirstFault, HasFirstFault, RowFails, SpellAll};
+ghost use Rattle.interrupt_plan.specs.Rows.{SpellsText};
 
 use crate::entry::Entry;
 use crate::row::first_taken;

@@ -1,12 +1,14 @@
 //! The parts of a row.
-ghost use Rattle.std.specs.Prelude.{◌≡◌, ◌≢◌, ◌↔◌, ◌<◌, ◌≤◌, ◌*◌, ◌+◌, ◌%◌, ◌^◌, ℕ, List as Items, [], ◌∷◌, ◌++◌, length, drop, min, IfOk, Some, None, MatchOption, IsTrue, slice_index_or};
+ghost use Rattle.std.specs.Prelude.{◌≡◌, ◌≢◌, ◌↔◌, ◌<◌, ◌≤◌, ◌*◌, ◌+◌, ◌%◌, ◌^◌, ℕ, List as Items, [], ◌∷◌, ◌++◌};
+ghost use Rattle.std.specs.Prelude.{length, drop, min, IfOk, Some, None, MatchOption, IsTrue, slice_index_or};
 ghost use Rattle.csv.specs.Records.{fields_of};
 ghost use Rattle.fz_num.specs.Decimals.{are_digits, is_digit, number};
 ghost use Rattle.std.specs.List.{list_all};
 ghost use Rattle.hex.specs.Hex.{decode_sized};
 ghost use Rattle.cpu12_isa.specs.Regions.{is_free};
 ghost use Rattle.cpu12_isa.specs.declared.instr.Write.{Write as TheWrite};
-ghost use Rattle.interrupt_plan.specs.Rows.{AreFree, HasNumbers, IsFirstTaken, SpellsRow, byte_of, count_of, word_of, write_of, writes_of};
+ghost use Rattle.interrupt_plan.specs.Rows.{AreFree, HasNumbers, IsFirstTaken, SpellsRow, byte_of, count_of, word_of};
+ghost use Rattle.interrupt_plan.specs.Rows.{write_of, writes_of};
 
 use cpu12_isa::instr::Write;
 use csv::ByteRecord;

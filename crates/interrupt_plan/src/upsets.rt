@@ -1,8 +1,10 @@
 //! Upsets: bytes of a firmware's tables that hold another value while a sample is answered.
-ghost use Rattle.std.specs.Prelude.{◌≡◌, ◌≢◌, ◌<◌, ◌≤◌, ◌↔◌, List as Items, [], ◌∷◌, ◌++◌, length, map, IfOk, IfErr, MatchOption};
+ghost use Rattle.std.specs.Prelude.{◌≡◌, ◌≢◌, ◌<◌, ◌≤◌, ◌↔◌, List as Items, [], ◌∷◌, ◌++◌, length, map, IfOk, IfErr};
+ghost use Rattle.std.specs.Prelude.{MatchOption};
 ghost use Rattle.csv.specs.Records.{fields_of};
 ghost use Rattle.interrupt_plan.specs.Upsets.{AreGoodUpsets, IsGoodUpset, is_table};
-ghost use Rattle.interrupt_plan.specs.UpsetTexts.{FirstUpsetFault, HasUpsetFault, SpellUpsets, SpellsUpset, SpellsUpsets, UpsetRowFails};
+ghost use Rattle.interrupt_plan.specs.UpsetTexts.{FirstUpsetFault, HasUpsetFault, SpellUpsets, SpellsUpset};
+ghost use Rattle.interrupt_plan.specs.UpsetTexts.{SpellsUpsets, UpsetRowFails};
 ghost use Rattle.interrupt_plan.specs.declared.upsets.Upset.{Upset as TheUpset};
 
 use crate::row::{count_in, field_at, write_in};

@@ -1,5 +1,6 @@
 -- A term's table and the grades under it.
-use Rattle.std.specs.Prelude.{ℕ, ◌+◌, ◌-◌, ◌*◌, ◌/◌, min, if◌then◌else◌, ◌==◌, nat_lt, ◌||◌, List, [], ◌∷◌, map, Option, Some, None, slice_index}
+use Rattle.std.specs.Prelude.{ℕ, ◌+◌, ◌-◌, ◌*◌, ◌/◌, min, if◌then◌else◌, ◌==◌, nat_lt, ◌||◌, List, [], ◌∷◌, map, Option}
+use Rattle.std.specs.Prelude.{Some, None, slice_index}
 use Rattle.std.specs.List.{flat_map}
 use Rattle.fz_num.specs.declared.dec.Dec.{Dec}
 use Rattle.fuzzy_meaning.specs.declared.block.Block.{Block}

@@ -1,5 +1,6 @@
 -- Turns without posts: the run of a turn is that without interrupts.
-use Rattle.std.proofs.Common.{◌≡◌, ℕ, zero, suc, ◌≤◌, ◌&&◌, nat_lt, Bool, true, false, Ok, List, [], refl, sym, ap, ◌∙◌, subst, arith}
+use Rattle.std.proofs.Common.{◌≡◌, ℕ, zero, suc, ◌≤◌, ◌&&◌, nat_lt, Bool, true, false, Ok, List, [], refl, sym, ap, ◌∙◌}
+use Rattle.std.proofs.Common.{subst, arith}
 use Rattle.std.proofs.lemmas.Bool.Decides.{nat_tests}
 use Rattle.cpu12_parts.specs.State.{State}
 use Rattle.cpu12_emul.specs.Step.{Next, next_of, is_part}
@@ -25,25 +26,30 @@ none s = record { state = s; frames = []; told = []; left = [] }
 one_more : (flags : ℕ) (f : Firmware) (samples : List (List ℕ)) (most m : ℕ) (inside : Bool) (s : State) (next : Next)
     → (nat_lt 0 m && is_waiting f.layout s) ≡ false → next_of flags s ≡ Ok next
     → run_from (turn_form flags f samples 0) (suc most) m inside [] s
-    ≡ before_rest inside (none s) next.kind (run_from (turn_form flags f samples 0) most (suc m) (is_part next.kind) [] next.state)
+    ≡ before_rest inside (none s) next.kind
+    (run_from (turn_form flags f samples 0) most (suc m) (is_part next.kind) [] next.state)
 unfolding run_from takes none
 one_more flags f samples most m inside s next on goes = rw (on, goes) refl
 
 -- none more
 no_more : (flags : ℕ) (f : Firmware) (samples : List (List ℕ)) (most m : ℕ) (inside : Bool) (s : State)
-    → (nat_lt 0 m && is_waiting f.layout s) ≡ true → run_from (turn_form flags f samples 0) most m inside [] s ≡ ended true [] s
+    → (nat_lt 0 m && is_waiting f.layout s) ≡ true
+    → run_from (turn_form flags f samples 0) most m inside [] s ≡ ended true [] s
 unfolding run_from
 no_more flags f samples zero m inside s off = rw off refl
 no_more flags f samples (suc most) m inside s off = rw off refl
 
-off_way : (m : ℕ) (f : Firmware) (s : State) → s.regs.pc ≡ f.layout.wait → (nat_lt 0 (suc m) && is_waiting f.layout s) ≡ true
+off_way : (m : ℕ) (f : Firmware) (s : State) → s.regs.pc ≡ f.layout.wait
+    → (nat_lt 0 (suc m) && is_waiting f.layout s) ≡ true
 off_way m f s e = grind (arith, nat_tests)
 
-on_way : (m : ℕ) (f : Firmware) (s : State) → (s.regs.pc ≡ f.layout.wait → ⊥) → (nat_lt 0 (suc m) && is_waiting f.layout s) ≡ false
+on_way : (m : ℕ) (f : Firmware) (s : State) → (s.regs.pc ≡ f.layout.wait → ⊥)
+    → (nat_lt 0 (suc m) && is_waiting f.layout s) ≡ false
 on_way m f s e = grind (arith, nat_tests)
 
 -- one step before the rest
-put_step : (flags n : ℕ) (inside : Bool) (s : State) (next : Next) (r : Ran Post (Unit {0})) → next_of flags s ≡ Ok next → IsAlone flags n next.state r
+put_step : (flags n : ℕ) (inside : Bool) (s : State) (next : Next) (r : Ran Post (Unit {0})) → next_of flags s ≡ Ok next
+    → IsAlone flags n next.state r
     → IsAlone flags (suc n) s (before_rest inside (none s) next.kind r)
 unfolding none
 put_step flags n inside s next r goes h = record {
@@ -67,21 +73,26 @@ later flags f samples (suc n) (suc most) m inside s le b at =
     let r = later flags f samples n most (suc m) (is_part next.kind) next.state (omega arith)
     (subst (Before (IsOnWay f.layout flags) flags n) there b.1)
     (ap (λ (u : State). (uninterrupted flags n u).regs.pc) (sym there) ∙ at) in
-    subst (IsAlone flags (suc n) s) (sym (one_more flags f samples most (suc m) inside s next (on_way m f s one.away) one.goes))
-    (put_step flags n inside s next (run_from (turn_form flags f samples 0) most (suc (suc m)) (is_part next.kind) [] next.state) one.goes r)
+    subst (IsAlone flags (suc n) s)
+    (sym (one_more flags f samples most (suc m) inside s next (on_way m f s one.away) one.goes))
+    (put_step flags n inside s next
+    (run_from (turn_form flags f samples 0) most (suc (suc m)) (is_part next.kind) [] next.state) one.goes r)
 
 -- a turn from its first step on
-pub alone : (flags : ℕ) (f : Firmware) (samples : List (List ℕ)) (n most : ℕ) (s : State) (next : Next) → suc n ≤ most → next_of flags s ≡ Ok next
+pub alone : (flags : ℕ) (f : Firmware) (samples : List (List ℕ)) (n most : ℕ) (s : State) (next : Next) → suc n ≤ most
+    → next_of flags s ≡ Ok next
     → Before (IsOnWay f.layout flags) flags n next.state → (uninterrupted flags n next.state).regs.pc ≡ f.layout.wait
     → IsAlone flags (suc n) s (run_from (turn_form flags f samples 0) most 0 false [] s)
 alone flags f samples n zero s next le goes b at = absurd (omega arith)
 alone flags f samples n (suc most) s next le goes b at =
     subst (IsAlone flags (suc n) s) (sym (one_more flags f samples most 0 false s next refl goes))
-    (put_step flags n false s next (run_from (turn_form flags f samples 0) most 1 (is_part next.kind) [] next.state) goes
+    (put_step flags n false s next
+    (run_from (turn_form flags f samples 0) most 1 (is_part next.kind) [] next.state) goes
     (later flags f samples n most 0 (is_part next.kind) next.state (omega arith) b at))
 
 -- states with the same first step have the same turn
-pub same_alone : (flags : ℕ) (f : Firmware) (samples : List (List ℕ)) (most : ℕ) (s u : State) (next : Next) → 1 ≤ most → next_of flags s ≡ Ok next
+pub same_alone : (flags : ℕ) (f : Firmware) (samples : List (List ℕ)) (most : ℕ) (s u : State) (next : Next) → 1 ≤ most
+    → next_of flags s ≡ Ok next
     → next_of flags u ≡ Ok next
     → (let r = run_from (turn_form flags f samples 0) most 0 false [] s in
     let q = run_from (turn_form flags f samples 0) most 0 false [] u in

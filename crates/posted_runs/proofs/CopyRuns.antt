@@ -1,5 +1,6 @@
 -- The steps of a turn that answers up to behind the copy, and where its posts are taken.
-use Rattle.std.proofs.Common.{◌≡◌, ℕ, zero, suc, ◌+◌, ◌-◌, ◌<◌, ◌≤◌, max, Bool, true, false, not, Result, List, [], ◌∷◌, length, refl, sym, ap, ◌∙◌, subst, arith, inl, inr}
+use Rattle.std.proofs.Common.{◌≡◌, ℕ, zero, suc, ◌+◌, ◌-◌, ◌<◌, ◌≤◌, max, Bool, true, false, not, Result, List, [], ◌∷◌}
+use Rattle.std.proofs.Common.{length, refl, sym, ap, ◌∙◌, subst, arith, inl, inr}
 use Rattle.std.proofs.lemmas.Bool.{cases_lt}
 use Rattle.cpu12_isa.specs.declared.instr.Instr.{Instr}
 use Rattle.cpu12_parts.specs.declared.temps.Temps.TheVariants.{Free}
@@ -13,7 +14,8 @@ use Rattle.cpu12_emul.specs.Step.{Next, is_part}
 use Rattle.cpu12_emul.specs.Take.{may_interrupt}
 use Rattle.run_law.specs.Forms.{one_if}
 use Rattle.run_law.specs.Moments.{TakenAtFirstOpen}
-use Rattle.run_law.specs.Uninterrupted.{uninterrupted, counted, is_inside, stepped, state_by, kind_by, kind_at, first_open}
+use Rattle.run_law.specs.Uninterrupted.{uninterrupted, counted, is_inside, stepped, state_by, kind_by, kind_at}
+use Rattle.run_law.specs.Uninterrupted.{first_open}
 use Rattle.run_law.proofs.Algebra.{uninterrupted_add}
 use Rattle.codegen.specs.declared.firmware.Firmware.{Firmware}
 use Rattle.eval_code.specs.declared.layout.Layout.{Layout}
@@ -24,14 +26,18 @@ use Rattle.posted_runs.proofs.Passing.{plain_next}
 use Rattle.posted_runs.proofs.TwoSteps.{IsHere, here_at}
 
 -- a plain step
-pub kind_plain : StepLaws → (flags : ℕ) (i : Instr) (s t : State) → s.temps ≡ Free → IsPlainStep flags i s t → kind_at flags s ≡ Plain
+pub kind_plain : StepLaws → (flags : ℕ) (i : Instr) (s t : State) → s.temps ≡ Free → IsPlainStep flags i s t
+    → kind_at flags s ≡ Plain
 kind_plain laws flags i s t free p = ap kind_by (plain_next laws.plain_is_step flags i s t free p)
 
-to_plain : StepLaws → (flags : ℕ) (i : Instr) (s t : State) → s.temps ≡ Free → IsPlainStep flags i s t → stepped flags s ≡ t
-to_plain laws flags i s t free p = ap (λ (o : Result Next ℕ). state_by s o) (plain_next laws.plain_is_step flags i s t free p)
+to_plain : StepLaws → (flags : ℕ) (i : Instr) (s t : State) → s.temps ≡ Free → IsPlainStep flags i s t
+    → stepped flags s ≡ t
+to_plain laws flags i s t free p =
+    ap (λ (o : Result Next ℕ). state_by s o) (plain_next laws.plain_is_step flags i s t free p)
 
 -- while I is 1
-masked_at : StepLaws → (l : Layout) (image : List ℕ) (flags : ℕ) (ds : List ℕ) (s t : State) → Execution (IsMaskedStep l image flags) ds s t → (i : ℕ) → i < length ds
+masked_at : StepLaws → (l : Layout) (image : List ℕ) (flags : ℕ) (ds : List ℕ) (s t : State)
+    → Execution (IsMaskedStep l image flags) ds s t → (i : ℕ) → i < length ds
     → (may_interrupt (uninterrupted flags i s) ≡ false) × (kind_at flags (uninterrupted flags i s) ≡ Plain)
 masked_at laws l image flags [] s t e i lt = absurd (omega arith)
 masked_at laws l image flags (d ∷ ds) s t e zero lt =
@@ -44,18 +50,22 @@ masked_at laws l image flags (d ∷ ds) s t e (suc i) lt =
     let steady = h.steady in
     let shown = h.shown in
     let there : stepped flags s ≡ e.0 = to_plain laws flags h.instruction s e.0 steady.temps shown.step in
-    subst (λ (x : State). (may_interrupt (uninterrupted flags i x) ≡ false) × (kind_at flags (uninterrupted flags i x) ≡ Plain)) (sym there)
+    subst (λ (x : State). (may_interrupt (uninterrupted flags i x) ≡ false)
+    × (kind_at flags (uninterrupted flags i x) ≡ Plain)) (sym there)
     (masked_at laws l image flags ds e.0 t e.1.1 i (omega arith))
 
 -- plain steps count
-plain_counts : (flags k : ℕ) (s : State) → ((j : ℕ) → j < k → kind_at flags (uninterrupted flags j s) ≡ Plain) → counted flags k s ≡ k
+plain_counts : (flags k : ℕ) (s : State) → ((j : ℕ) → j < k → kind_at flags (uninterrupted flags j s) ≡ Plain)
+    → counted flags k s ≡ k
 plain_counts flags zero s h = refl
 plain_counts flags (suc k) s h =
-    let one : one_if (not (is_part (kind_at flags s))) ≡ 1 = ap (λ (x : Stepped). one_if (not (is_part x))) (h 0 (omega arith)) in
+    let one : one_if (not (is_part (kind_at flags s))) ≡ 1 =
+    ap (λ (x : Stepped). one_if (not (is_part x))) (h 0 (omega arith)) in
     let rest = plain_counts flags k (stepped flags s) (λ j lt. h (suc j) (omega arith)) in
     omega (arith, one, rest)
 
-plain_outside : (flags k : ℕ) (s : State) → ((j : ℕ) → j < k → kind_at flags (uninterrupted flags j s) ≡ Plain) → (j : ℕ) → j ≤ k → is_inside flags s j ≡ false
+plain_outside : (flags k : ℕ) (s : State) → ((j : ℕ) → j < k → kind_at flags (uninterrupted flags j s) ≡ Plain)
+    → (j : ℕ) → j ≤ k → is_inside flags s j ≡ false
 plain_outside flags k s h zero le = refl
 plain_outside flags k s h (suc j) le = ap is_part (h j (omega arith))
 
@@ -68,16 +78,20 @@ pub record IsCopyRun (flags n all : ℕ) (u : State) : Type 0 where
   pub counts : counted flags (n + 5) u ≡ n + 5
   pub outside : (j : ℕ) → j ≤ n + 5 → is_inside flags u j ≡ false
 
-module _ (laws : StepLaws) (flags : ℕ) (f : Firmware) (n all : ℕ) (inputs : f.inputs ≡ n) (u : State) (here : IsHere u) (run : IsAnswerRun f flags all u) where
-  later : (j : ℕ) → 3 ≤ j → j < n + 5 → (may_interrupt (uninterrupted flags j u) ≡ false) × (kind_at flags (uninterrupted flags j u) ≡ Plain)
+module _ (laws : StepLaws) (flags : ℕ) (f : Firmware) (n all : ℕ) (inputs : f.inputs ≡ n) (u : State) (here : IsHere u)
+    (run : IsAnswerRun f flags all u) where
+  later : (j : ℕ) → 3 ≤ j → j < n + 5
+      → (may_interrupt (uninterrupted flags j u) ≡ false) × (kind_at flags (uninterrupted flags j u) ≡ Plain)
   later j lo hi =
       let copy = run.copy in
       let count = copy.count in
       let sum : j ≡ 3 + (j - 3) = omega arith in
       let at : uninterrupted flags j u ≡ uninterrupted flags (j - 3) copy.masked =
-      ap (λ (k : ℕ). uninterrupted flags k u) sum ∙ uninterrupted_add flags 3 (j - 3) u ∙ ap (uninterrupted flags (j - 3)) run.third in
+      ap (λ (k : ℕ). uninterrupted flags k u) sum ∙ uninterrupted_add flags 3 (j - 3) u
+      ∙ ap (uninterrupted flags (j - 3)) run.third in
       subst (λ (x : State). (may_interrupt x ≡ false) × (kind_at flags x ≡ Plain)) (sym at)
-      (masked_at laws f.layout (image_memory f.image.bytes) flags copy.ds copy.masked run.called copy.copies (j - 3) (omega arith))
+      (masked_at laws f.layout (image_memory f.image.bytes) flags copy.ds copy.masked run.called copy.copies (j - 3)
+      (omega arith))
 
   first_three : (j : ℕ) → j < 3 → kind_at flags (uninterrupted flags j u) ≡ Plain
   first_three zero lt =
@@ -126,9 +140,12 @@ module _ (opens : TakenAtFirstOpen) (flags n all : ℕ) (u : State) (run : IsCop
       let from = h.from in
       let c = max (n + 5) a in
       elim (cases_lt c t) [
-        | inl past ↦ absurd (no_both (may_interrupt (uninterrupted flags c u)) (run.opens c (omega arith) lt) (h.least c (omega arith) past lt))
+        | inl past ↦ absurd (no_both (may_interrupt (uninterrupted flags c u)) (run.opens c (omega arith) lt)
+            (h.least c (omega arith) past lt))
         | inr upto ↦ elim (cases_lt t c) [
-          | inl early ↦ absurd (no_both (may_interrupt (uninterrupted flags t u)) (h.opens (omega (arith, early, lt))) (run.masked t (omega (arith, from, lo)) (omega (arith, early, from))))
+          | inl early ↦ absurd
+              (no_both (may_interrupt (uninterrupted flags t u)) (h.opens (omega (arith, early, lt)))
+              (run.masked t (omega (arith, from, lo)) (omega (arith, early, from))))
           | inr at ↦ omega (arith, upto, at)
         ]
       ]

@@ -18,8 +18,10 @@ two = turn 0 1 39 ((0, post 0 1) ∷ (6, post 3 2) ∷ []) ∷ turn 39 2 39 [] �
 
 pub while_copied : AreTurns 1 steps 0 0 [] (post 0 1 ∷ post 3 2 ∷ []) two
 while_copied =
-    answers 0 0 [] (post 0 1 ∷ post 3 2 ∷ []) two (turn 39 2 39 [] ∷ turn 78 0 0 [] ∷ []) 1 39 (λ e. omega arith) refl refl
-    (answers 39 2 (1 ∷ []) [] (turn 39 2 39 [] ∷ turn 78 0 0 [] ∷ []) (turn 78 0 0 [] ∷ []) 2 78 (λ e. omega arith) refl refl
+    answers 0 0 [] (post 0 1 ∷ post 3 2 ∷ []) two (turn 39 2 39 [] ∷ turn 78 0 0 [] ∷ []) 1 39
+    (λ e. omega arith) refl refl
+    (answers 39 2 (1 ∷ []) [] (turn 39 2 39 [] ∷ turn 78 0 0 [] ∷ []) (turn 78 0 0 [] ∷ []) 2 78
+    (λ e. omega arith) refl refl
     (over 78 0 (1 ∷ 2 ∷ []) [] (turn 78 0 0 [] ∷ []) refl refl refl) refl) refl
 
 -- The second sample comes before the copy, in place of the first.

@@ -1,11 +1,13 @@
 -- The sample that is posted last is answered last, and each post is taken once.
-use Rattle.std.proofs.Common.{◌≡◌, ◌≢◌, ℕ, zero, suc, ◌+◌, ◌-◌, ◌≤◌, ◌==◌, nat_le, Bool, true, false, List, [], ◌∷◌, ◌++◌, map, refl, sym, ap, ap₂, ◌∙◌, arith, ◌⊎◌, inl, inr}
+use Rattle.std.proofs.Common.{◌≡◌, ◌≢◌, ℕ, zero, suc, ◌+◌, ◌-◌, ◌≤◌, ◌==◌, nat_le, Bool, true, false, List, [], ◌∷◌}
+use Rattle.std.proofs.Common.{◌++◌, map, refl, sym, ap, ap₂, ◌∙◌, arith, ◌⊎◌, inl, inr}
 use Rattle.std.proofs.Common.{append_assoc, append-nil}
 use Rattle.std.specs.Prelude.{if◌then◌else◌, flat_map}
 use Rattle.std.proofs.lemmas.List.{map-append}
 use Rattle.std.proofs.lemmas.Bool.Decides.{nat_tests}
 use Rattle.interrupt_plan.specs.declared.Post.{Post}
-use Rattle.posted_runs.specs.Turns.{Turn, AreTurns, LastIsAnswered, AllAreTaken, over, idle, answers, up_to, behind, waiting, taken_from, samples_of}
+use Rattle.posted_runs.specs.Turns.{Turn, AreTurns, LastIsAnswered, AllAreTaken, over, idle, answers, up_to, behind}
+use Rattle.posted_runs.specs.Turns.{waiting, taken_from, samples_of}
 use Rattle.posted_runs.proofs.Postings.{waits_some}
 use Rattle.posted_runs.proofs.OneList.{answering}
 
@@ -37,7 +39,8 @@ not_zero (suc n) h = omega arith
 picked_none : (b : Bool) (w k : ℕ) (xs : List Post) → (k == 0) ≡ b → (waiting 0 xs ≡ 0 → waiting w xs ≡ w)
     → waiting (if b then 0 else k) xs ≡ 0 → waiting (if b then w else k) xs ≡ w
 picked_none true w k xs e r z = r z
-picked_none false w k xs e r z = (let some : 1 ≤ k = grind (arith, nat_tests) in let h = waits_some k xs some in absurd (omega (arith, h, z)))
+picked_none false w k xs e r z =
+    (let some : 1 ≤ k = grind (arith, nat_tests) in let h = waits_some k xs some in absurd (omega (arith, h, z)))
 
 -- where posts put no sample, that before waits
 pub none_put : (w : ℕ) (xs : List Post) → waiting 0 xs ≡ 0 → waiting w xs ≡ w
@@ -56,8 +59,10 @@ some_put w (x ∷ xs) h = picked_some (x.sample == 0) w x.sample xs (some_put w 
 
 -- the posts up to a later moment
 further_by : (b : Bool) (k j : ℕ) (p : Post) (ps : List Post) → nat_le p.moment k ≡ b → k ≤ j
-    → up_to j ps ≡ up_to k ps ++ up_to j (behind k ps) → up_to j (p ∷ ps) ≡ up_to k (p ∷ ps) ++ up_to j (behind k (p ∷ ps))
-further_by true k j p ps e le r = (let due : nat_le p.moment j ≡ true = grind (arith, nat_tests) in rw e (rw due (ap (λ (l : List Post). p ∷ l) r)))
+    → up_to j ps ≡ up_to k ps ++ up_to j (behind k ps)
+    → up_to j (p ∷ ps) ≡ up_to k (p ∷ ps) ++ up_to j (behind k (p ∷ ps))
+further_by true k j p ps e le r =
+    (let due : nat_le p.moment j ≡ true = grind (arith, nat_tests) in rw e (rw due (ap (λ (l : List Post). p ∷ l) r)))
 further_by false k j p ps e le r = rw e refl
 
 pub further : (k j : ℕ) (ps : List Post) → k ≤ j → up_to j ps ≡ up_to k ps ++ up_to j (behind k ps)
@@ -65,11 +70,13 @@ further k j [] le = refl
 further k j (p ∷ ps) le = further_by (nat_le p.moment k) k j p ps refl le (further k j ps le)
 
 -- where a sample waits when a turn begins, one is answered
-pub some_answered : (w g s : ℕ) (posts : List Post) → waiting w (up_to g posts) ≢ 0 → s ≡ waiting w (up_to (g + 2) posts) → 1 ≤ s
+pub some_answered : (w g s : ℕ) (posts : List Post) → waiting w (up_to g posts) ≢ 0
+    → s ≡ waiting w (up_to (g + 2) posts) → 1 ≤ s
 some_answered w g s posts waits s_is =
     let first = waiting w (up_to g posts) in
     let later = up_to (g + 2) (behind g posts) in
-    let e : s ≡ waiting first later = s_is ∙ ap (waiting w) (further g (g + 2) posts (omega arith)) ∙ waiting_append w (up_to g posts) later in
+    let e : s ≡ waiting first later = s_is ∙ ap (waiting w) (further g (g + 2) posts (omega arith))
+    ∙ waiting_append w (up_to g posts) later in
     let h = waits_some first later (not_zero first waits) in
     omega (arith, e, h)
 
@@ -83,7 +90,8 @@ none_answered : (n : ℕ) (steps : List ℕ → ℕ) (g w : ℕ) (done : List �
 none_answered n steps g w done posts turns (over g1 w1 d1 p1 t1 none left is) z = ap samples_of is
 none_answered n steps g w done posts turns (idle g1 w1 d1 p1 t1 l1 none some rest is) z =
     ap samples_of is
-    ∙ none_answered n steps (g + 2) (waiting w (up_to (g + 1) posts)) done (behind (g + 1) posts) l1 rest (waiting_split w (g + 1) posts ∙ z)
+    ∙ none_answered n steps (g + 2) (waiting w (up_to (g + 1) posts)) done (behind (g + 1) posts) l1 rest
+    (waiting_split w (g + 1) posts ∙ z)
 none_answered n steps g w done posts turns (answers g1 w1 d1 p1 t1 l1 s1 e1 waits s_is end_is rest is) z =
     let h = waits_some (waiting w (up_to g posts)) (behind g posts) (not_zero (waiting w (up_to g posts)) waits) in
     let k = waiting_split w g posts in
@@ -94,16 +102,19 @@ last_is_answered n steps g w done posts turns (over g1 w1 d1 p1 t1 none left is)
     absurd (some (sym (waiting_split w g posts) ∙ ap₂ (λ (v : ℕ) (l : List Post). waiting v l) none left))
 last_is_answered n steps g w done posts turns (idle g1 w1 d1 p1 t1 l1 none left rest is) some =
     let same = waiting_split w (g + 1) posts in
-    let r = last_is_answered n steps (g + 2) (waiting w (up_to (g + 1) posts)) done (behind (g + 1) posts) l1 rest (λ z. some (sym same ∙ z)) in
+    let r = last_is_answered n steps (g + 2) (waiting w (up_to (g + 1) posts)) done (behind (g + 1) posts) l1 rest
+    (λ z. some (sym same ∙ z)) in
     (r.0, ap samples_of is ∙ r.1 ∙ ap (λ (k : ℕ). r.0 ++ k ∷ []) same)
 last_is_answered n steps g w done posts turns (answers g1 w1 d1 p1 t1 l1 s1 e1 waits s_is end_is rest is) some =
     let late = behind (g + 2) posts in
     let w2 = waiting 0 (up_to (e1 - 1) late) in
     let posts2 = behind (e1 - 1) late in
     let same : waiting w2 posts2 ≡ waiting 0 late = waiting_split 0 (e1 - 1) late in
-    let whole : waiting w posts ≡ waiting s1 late = sym (waiting_split w (g + 2) posts) ∙ ap (λ (k : ℕ). waiting k late) (sym s_is) in
+    let whole : waiting w posts ≡ waiting s1 late = sym (waiting_split w (g + 2) posts)
+    ∙ ap (λ (k : ℕ). waiting k late) (sym s_is) in
     let first : samples_of turns ≡ s1 ∷ samples_of l1 =
-    ap samples_of is ∙ answers_first (answering n g e1 s1 steps done posts) l1 (some_answered w g s1 posts waits s_is) in
+    ap samples_of is ∙ answers_first (answering n g e1 s1 steps done posts) l1
+    (some_answered w g s1 posts waits s_is) in
     elim (zero_or (waiting 0 late)) [
       | inl z ↦
           let r = none_answered n steps e1 w2 (done ++ s1 ∷ []) posts2 l1 rest (same ∙ z) in
@@ -130,14 +141,16 @@ all_taken turns = flat_map (λ (t : Turn). map (λ (p : ℕ × Post). p.1) t.tak
 pub all_are_taken : AllAreTaken
 unfolding posts_of
 all_are_taken n steps g w done posts turns (over g1 w1 d1 p1 t1 none left is) =
-    let e : flat_map (λ (t : Turn). map (λ (p : ℕ × Post). p.1) t.taken) turns ≡ posts_of (taken_from g posts) ++ [] = ap all_taken is in
+    let e : flat_map (λ (t : Turn). map (λ (p : ℕ × Post). p.1) t.taken) turns ≡ posts_of (taken_from g posts) ++ [] =
+    ap all_taken is in
     e ∙ append-nil (posts_of (taken_from g posts)) ∙ posts_from g posts
 all_are_taken n steps g w done posts turns (idle g1 w1 d1 p1 t1 l1 none some rest is) =
     let r = all_are_taken n steps (g + 2) (waiting w (up_to (g + 1) posts)) done (behind (g + 1) posts) l1 rest in
     ap all_taken is ∙ ap₂ (λ (xs ys : List Post). xs ++ ys) (posts_from g (up_to (g + 1) posts)) r ∙ split (g + 1) posts
 all_are_taken n steps g w done posts turns (answers g1 w1 d1 p1 t1 l1 s1 e1 waits s_is end_is rest is) =
     let late = behind (g + 2) posts in
-    let r = all_are_taken n steps e1 (waiting 0 (up_to (e1 - 1) late)) (done ++ s1 ∷ []) (behind (e1 - 1) late) l1 rest in
+    let r = all_are_taken n steps e1 (waiting 0 (up_to (e1 - 1) late)) (done ++ s1 ∷ [])
+    (behind (e1 - 1) late) l1 rest in
     let early = taken_from g (up_to (g + 2) posts) in
     let middle = taken_from (g + 5 + n) (up_to (e1 - 1) late) in
     ap all_taken is

@@ -1,5 +1,6 @@
 -- All posts that are due at a boundary where I is 0 are taken there.
-use Rattle.std.proofs.Common.{◌≡◌, ℕ, zero, suc, ◌≤◌, nat_le, Bool, true, false, not, ◌&&◌, List, [], ◌∷◌, length, map, refl, sym, ap, ap₂, ◌∙◌, subst, arith, inl, inr}
+use Rattle.std.proofs.Common.{◌≡◌, ℕ, zero, suc, ◌≤◌, nat_le, Bool, true, false, not, ◌&&◌, List, [], ◌∷◌, length, map}
+use Rattle.std.proofs.Common.{refl, sym, ap, ap₂, ◌∙◌, subst, arith, inl, inr}
 use Rattle.std.specs.Prelude.{◌==◌, if◌then◌else◌}
 use Rattle.std.proofs.lemmas.Bool.Decides.{nat_tests}
 use Rattle.cpu12_isa.specs.declared.instr.Regs.{Regs}
@@ -51,7 +52,8 @@ pub same_with : (open_to : ℕ → Bool) (a b c : State) → Same open_to a b �
 same_with open_to a b c x y = record {
   regs = x.regs ∙ y.regs;
   temps = x.temps ∙ y.temps;
-  mem = agree_with (is_hidden open_to c.regs.sp) a.mem b.mem c.mem (subst (λ (r : Regs). Agree (is_hidden open_to r.sp) a.mem b.mem) y.regs x.mem) y.mem;
+  mem = agree_with (is_hidden open_to c.regs.sp) a.mem b.mem c.mem
+      (subst (λ (r : Regs). Agree (is_hidden open_to r.sp) a.mem b.mem) y.regs x.mem) y.mem;
 }
 
 -- which sample waits behind posts
@@ -69,7 +71,8 @@ within_by : (b : Bool) (n w k : ℕ) → w ≤ n → k ≤ n → (if b then w el
 within_by true n w k h g = h
 within_by false n w k h g = g
 
-due_by : (b : Bool) (n m w : ℕ) (p : Post) (ps : List Post) → nat_le p.moment m ≡ b → w ≤ n → waiting (if p.sample == 0 then w else p.sample) (up_to m ps) ≤ n → waiting w (up_to m (p ∷ ps)) ≤ n
+due_by : (b : Bool) (n m w : ℕ) (p : Post) (ps : List Post) → nat_le p.moment m ≡ b → w ≤ n
+    → waiting (if p.sample == 0 then w else p.sample) (up_to m ps) ≤ n → waiting w (up_to m (p ∷ ps)) ≤ n
 due_by true n m w p ps e h r = rw e r
 due_by false n m w p ps e h r = rw e h
 
@@ -77,22 +80,32 @@ pub waits_within : (n m w : ℕ) (ps : List Post) → w ≤ n → AllGood (IsGoo
 waits_within n m w [] h good = h
 waits_within n m w (p ∷ ps) h good =
     let own = good.0 in
-    due_by (nat_le p.moment m) n m w p ps refl h (waits_within n m (if p.sample == 0 then w else p.sample) ps (within_by (p.sample == 0) n w p.sample h own.sample_to) good.1)
+    due_by (nat_le p.moment m) n m w p ps refl h
+    (waits_within n m (if p.sample == 0 then w else p.sample) ps
+    (within_by (p.sample == 0) n w p.sample h own.sample_to) good.1)
 
-module _ (laws : TakingLaws) (flags : ℕ) (f : Firmware) (samples : List (List ℕ)) (n g : ℕ) (box : IsBox f.layout n) (size : AreOfSize n samples) where
+module _ (laws : TakingLaws) (flags : ℕ) (f : Firmware) (samples : List (List ℕ)) (n g : ℕ) (box : IsBox f.layout n)
+    (size : AreOfSize n samples) where
   abbrev form : TurnForm
   form = turn_form flags f samples g
 
   -- one post
-  one_taken : (p : Post) (v : State) → IsReady v → IsGoodPost (length samples) p → Same is_free (taken form p v) (posted f.layout samples p.sample v)
+  one_taken : (p : Post) (v : State) → IsReady v → IsGoodPost (length samples) p
+      → Same is_free (taken form p v) (posted f.layout samples p.sample v)
   one_taken p v r good =
       let ws = post_writes f.layout samples p in
       let is : suspended wav v ≡ v = laws.pushes_none v (inl r.temps) in
       let open_to = open_post laws.writing f.layout n samples box size p good.sample_to good.free in
       let writing = laws.writing in
-      let quiet : Same is_postable (framed ws v) v = writing.takes_quietly is_postable ws v leaves_stack open_to r.size r.fits r.low r.high in
+      let quiet : Same is_postable (framed ws v) v =
+      writing.takes_quietly is_postable ws v leaves_stack open_to r.size r.fits r.low r.high in
       let here : Same is_free (framed ws v) (posted f.layout samples p.sample v) =
-      record { regs = quiet.regs; temps = quiet.temps; mem = post_mailed laws.writing f.layout n samples box size p v good.sample_to good.free r.low r.high } in
+      record {
+        regs = quiet.regs;
+        temps = quiet.temps;
+        mem =
+            post_mailed laws.writing f.layout n samples box size p v good.sample_to good.free r.low r.high;
+      } in
       subst (λ (x : State). Same is_free (framed ws x) (posted f.layout samples p.sample v)) (sym is) here
 
   pub record TookAll (m : ℕ) (qs : List Post) (v : State) : Type 0 where
@@ -101,7 +114,8 @@ module _ (laws : TakingLaws) (flags : ℕ) (f : Firmware) (samples : List (List 
     pub frames : (takes form m qs v).frames ≡ map (λ p. (m, plain_frame v.regs)) (up_to m qs)
     pub same : Same is_free (takes form m qs v).state (posted f.layout samples (waiting 0 (up_to m qs)) v)
 
-  due : (m : ℕ) (q : Post) (qs : List Post) (v : State) → nat_le q.moment m ≡ true → IsReady v → AllGood (IsGoodPost (length samples)) (q ∷ qs)
+  due : (m : ℕ) (q : Post) (qs : List Post) (v : State) → nat_le q.moment m ≡ true → IsReady v
+      → AllGood (IsGoodPost (length samples)) (q ∷ qs)
       → TookAll m qs (taken form q v) → TookAll m (q ∷ qs) v
   unfolding takes
   due m q qs v e r good rest =
@@ -113,22 +127,36 @@ module _ (laws : TakingLaws) (flags : ℕ) (f : Firmware) (samples : List (List 
       let lw = waits_within (length samples) m 0 qs (omega arith) good.1 in
       let test : (may_interrupt v && nat_le q.moment m) ≡ true = ap₂ (λ (x y : Bool). x && y) r.may e in
       let is : takes form m (q ∷ qs) v ≡ put_take (m, frame_of v) (told form q v) b = rw test refl in
-      let frame : frame_of v ≡ plain_frame v.regs = laws.frame_is_on_stack v r.size (omega (arith, r.high)) ∙ ap (frame_in v) r.temps in
+      let frame : frame_of v ≡ plain_frame v.regs = laws.frame_is_on_stack v r.size (omega (arith, r.high))
+      ∙ ap (frame_in v) r.temps in
       let over : Same is_free (posted f.layout samples w v1) (posted f.layout samples (last_of q.sample w) v) =
-      record { regs = one.regs; temps = one.temps; mem = mailed_over laws.writing f.layout n samples box size (is_hidden is_free v.regs.sp) q.sample w v1.mem v.mem lw own.sample_to one.mem } in
-      let both : Same is_free b.state (posted f.layout samples (last_of q.sample w) v) = same_with is_free b.state (posted f.layout samples w v1) (posted f.layout samples (last_of q.sample w) v) rest.same over in
-      let last : last_of q.sample w ≡ waiting 0 (q ∷ up_to m qs) = sym (ap (λ (k : ℕ). waiting k (up_to m qs)) (same_or_none q.sample) ∙ waiting_last q.sample (up_to m qs)) in
+      record {
+        regs = one.regs;
+        temps = one.temps;
+        mem =
+            mailed_over laws.writing f.layout n samples box size (is_hidden is_free v.regs.sp) q.sample w v1.mem v.mem lw
+            own.sample_to one.mem;
+      } in
+      let both : Same is_free b.state (posted f.layout samples (last_of q.sample w) v) =
+      same_with is_free b.state (posted f.layout samples w v1) (posted f.layout samples (last_of q.sample w) v)
+      rest.same over in
+      let last : last_of q.sample w ≡ waiting 0 (q ∷ up_to m qs) =
+      sym (ap (λ (k : ℕ). waiting k (up_to m qs)) (same_or_none q.sample) ∙ waiting_last q.sample (up_to m qs)) in
       record {
         left = ap (λ (k : Taking Post (Unit {0})). k.left) is ∙ rest.left ∙ sym (rw e refl);
-        told = ap (λ (k : Taking Post (Unit {0})). asked k.told) is ∙ ap (λ (xs : List Post). q ∷ xs) rest.told ∙ sym (rw e refl);
-        frames = ap (λ (k : Taking Post (Unit {0})). k.frames) is
-            ∙ ap₂ (λ (x : FrameSeen) (xs : List (ℕ × FrameSeen)). (m, x) ∷ xs) frame (rest.frames ∙ ap (λ (x : Regs). map (λ p. (m, plain_frame x)) (up_to m qs)) one.regs)
+        told = ap (λ (k : Taking Post (Unit {0})). asked k.told) is ∙ ap (λ (xs : List Post). q ∷ xs) rest.told
             ∙ sym (rw e refl);
-        same = subst (λ (k : Taking Post (Unit {0})). Same is_free k.state (posted f.layout samples (waiting 0 (up_to m (q ∷ qs))) v)) (sym is)
+        frames = ap (λ (k : Taking Post (Unit {0})). k.frames) is
+            ∙ ap₂ (λ (x : FrameSeen) (xs : List (ℕ × FrameSeen)). (m, x) ∷ xs) frame
+            (rest.frames ∙ ap (λ (x : Regs). map (λ p. (m, plain_frame x)) (up_to m qs)) one.regs)
+            ∙ sym (rw e refl);
+        same = subst (λ (k : Taking Post (Unit {0})). Same is_free k.state
+            (posted f.layout samples (waiting 0 (up_to m (q ∷ qs))) v)) (sym is)
             (rw e (subst (λ (k : ℕ). Same is_free b.state (posted f.layout samples k v)) last both));
       }
 
-  not_due : (m : ℕ) (q : Post) (qs : List Post) (v : State) → nat_le q.moment m ≡ false → IsReady v → TookAll m (q ∷ qs) v
+  not_due : (m : ℕ) (q : Post) (qs : List Post) (v : State) → nat_le q.moment m ≡ false → IsReady v
+      → TookAll m (q ∷ qs) v
   unfolding takes
   not_due m q qs v e r =
       let test : (may_interrupt v && nat_le q.moment m) ≡ false = ap₂ (λ (x y : Bool). x && y) r.may e in
@@ -137,27 +165,39 @@ module _ (laws : TakingLaws) (flags : ℕ) (f : Firmware) (samples : List (List 
         left = ap (λ (k : Taking Post (Unit {0})). k.left) is ∙ sym (rw e refl);
         told = ap (λ (k : Taking Post (Unit {0})). asked k.told) is ∙ sym (rw e refl);
         frames = ap (λ (k : Taking Post (Unit {0})). k.frames) is ∙ sym (rw e refl);
-        same = subst (λ (k : Taking Post (Unit {0})). Same is_free k.state (posted f.layout samples (waiting 0 (up_to m (q ∷ qs))) v)) (sym is)
+        same = subst (λ (k : Taking Post (Unit {0})). Same is_free k.state
+            (posted f.layout samples (waiting 0 (up_to m (q ∷ qs))) v)) (sym is)
             (rw e (record { regs = refl; temps = refl; mem = agree_self (is_hidden is_free v.regs.sp) v.mem }));
       }
 
-  pub took_all : (m : ℕ) (qs : List Post) (v : State) → IsReady v → AllGood (IsGoodPost (length samples)) qs → TookAll m qs v
+  pub took_all : (m : ℕ) (qs : List Post) (v : State) → IsReady v → AllGood (IsGoodPost (length samples)) qs
+      → TookAll m qs v
   unfolding takes
-  took_all m [] v r good = record { left = refl; told = refl; frames = refl; same = record { regs = refl; temps = refl; mem = agree_self (is_hidden is_free v.regs.sp) v.mem } }
+  took_all m [] v r good =
+      record {
+        left = refl;
+        told = refl;
+        frames = refl;
+        same =
+            record { regs = refl; temps = refl; mem = agree_self (is_hidden is_free v.regs.sp) v.mem };
+      }
   took_all m (q ∷ qs) v r good =
       let own = good.0 in
       let one = one_taken q v r good.0 in
       let apart = mailed_apart laws.writing f.layout n samples box size is_free q.sample v.mem own.sample_to in
       let after : IsReady (posted f.layout samples q.sample v) =
       record { may = r.may; temps = r.temps; size = apart.size ∙ r.size; fits = r.fits; low = r.low; high = r.high } in
-      by (nat_le q.moment m) refl (took_all m qs (taken form q v) (ready_as is_free (taken form q v) (posted f.layout samples q.sample v) one after) good.1)
+      by (nat_le q.moment m) refl
+      (took_all m qs (taken form q v)
+      (ready_as is_free (taken form q v) (posted f.layout samples q.sample v) one after) good.1)
     where
       by : (b : Bool) → nat_le q.moment m ≡ b → TookAll m qs (taken form q v) → TookAll m (q ∷ qs) v
       by true e rest = due m q qs v e r good rest
       by false e rest = not_due m q qs v e r
 
   -- no interrupt is taken where I is 1
-  pub took_none : (m : ℕ) (qs : List Post) (v : State) → may_interrupt v ≡ false → takes form m qs v ≡ record { state = v; frames = []; told = []; left = qs }
+  pub took_none : (m : ℕ) (qs : List Post) (v : State) → may_interrupt v ≡ false
+      → takes form m qs v ≡ record { state = v; frames = []; told = []; left = qs }
   unfolding takes
   took_none m [] v e = refl
   took_none m (q ∷ qs) v e = (let test : (may_interrupt v && nat_le q.moment m) ≡ false = rw e refl in rw test refl)

@@ -1,5 +1,6 @@
 -- Posts in their order, and the writes of one.
-use Rattle.std.proofs.Common.{◌≡◌, ℕ, zero, suc, ◌+◌, ◌-◌, ◌<◌, ◌≤◌, ◌==◌, Bool, true, false, nat_le, List, [], ◌∷◌, ◌++◌, length, get_or, take, drop}
+use Rattle.std.proofs.Common.{◌≡◌, ℕ, zero, suc, ◌+◌, ◌-◌, ◌<◌, ◌≤◌, ◌==◌, Bool, true, false, nat_le, List, [], ◌∷◌}
+use Rattle.std.proofs.Common.{◌++◌, length, get_or, take, drop}
 use Rattle.std.proofs.Common.{refl, ap, sym, ◌∙◌, arith, append_assoc, drop-cons}
 use Rattle.std.proofs.lemmas.List.Elements.{All-cons}
 use Rattle.std.specs.Prelude.{if◌then◌else◌, min, All}
@@ -12,11 +13,13 @@ use Rattle.posted_runs.specs.Turns.{up_to, behind, waiting}
 use Rattle.posted_runs.specs.Runs.{writes_from}
 
 drop_here : {A : Type 0} (xs : List A) (i : ℕ) (d : A) → i < length xs → drop i xs ≡ get_or xs i d ∷ drop (i + 1) xs
-drop_here {A = A} xs i d h = drop-cons xs i d h ∙ ap (λ (k : ℕ). get_or xs i d ∷ drop k xs) (let e : suc i ≡ i + 1 = omega arith in e)
+drop_here {A = A} xs i d h =
+    drop-cons xs i d h ∙ ap (λ (k : ℕ). get_or xs i d ∷ drop k xs) (let e : suc i ≡ i + 1 = omega arith in e)
 
 -- one post more
 pub waits_on : (w : ℕ) (ps : List Post) (i : ℕ) (d : Post) → i < length ps
-    → waiting w (drop i ps) ≡ waiting (if (get_or ps i d).sample == 0 then w else (get_or ps i d).sample) (drop (i + 1) ps)
+    → waiting w (drop i ps) ≡ waiting (if (get_or ps i d).sample == 0 then w else (get_or ps i d).sample)
+    (drop (i + 1) ps)
 waits_on w ps i d h = ap (waiting w) (drop_here ps i d h)
 
 pub few_on : (k : ℕ) (ps : List Post) (i : ℕ) (d : Post) → i < length ps → (get_or ps i d).moment ≤ k
@@ -32,7 +35,8 @@ few_end k ps i d h late =
     ap (λ (xs : List Post). length (up_to k xs)) (drop_here ps i d h) ∙ rw t refl
 
 -- the first posts, and those behind them
-front_by : (b : Bool) (k : ℕ) (p : Post) (ps : List Post) → nat_le p.moment k ≡ b → take (length (up_to k ps)) ps ≡ up_to k ps
+front_by : (b : Bool) (k : ℕ) (p : Post) (ps : List Post) → nat_le p.moment k ≡ b
+    → take (length (up_to k ps)) ps ≡ up_to k ps
     → take (length (up_to k (p ∷ ps))) (p ∷ ps) ≡ up_to k (p ∷ ps)
 front_by true k p ps e r = rw e (ap (λ (xs : List Post). p ∷ xs) r)
 front_by false k p ps e r = rw e refl
@@ -41,7 +45,8 @@ pub first_posts : (k : ℕ) (ps : List Post) → take (length (up_to k ps)) ps �
 first_posts k [] = refl
 first_posts k (p ∷ ps) = front_by (nat_le p.moment k) k p ps refl (first_posts k ps)
 
-behind_by : (b : Bool) (k : ℕ) (p : Post) (ps : List Post) → nat_le p.moment k ≡ b → drop (length (up_to k ps)) ps ≡ behind k ps
+behind_by : (b : Bool) (k : ℕ) (p : Post) (ps : List Post) → nat_le p.moment k ≡ b
+    → drop (length (up_to k ps)) ps ≡ behind k ps
     → drop (length (up_to k (p ∷ ps))) (p ∷ ps) ≡ behind k (p ∷ ps)
 behind_by true k p ps e r = rw e r
 behind_by false k p ps e r = rw e refl
@@ -65,9 +70,11 @@ first_within n w k [] h all = h
 first_within n w k (p ∷ ps) h all =
     let good : IsGoodPost n p = all 0 p (omega arith) in
     first_by (nat_le p.moment k) n w k p ps refl h
-    (first_within n (if p.sample == 0 then w else p.sample) k ps (picked_within (p.sample == 0) n w p.sample h good.sample_to) (λ j d lt. all (suc j) d (omega arith)))
+    (first_within n (if p.sample == 0 then w else p.sample) k ps
+    (picked_within (p.sample == 0) n w p.sample h good.sample_to) (λ j d lt. all (suc j) d (omega arith)))
 
-behind_within_by : (b : Bool) (n k : ℕ) (p : Post) (ps : List Post) → nat_le p.moment k ≡ b → All (IsGoodPost n) (p ∷ ps)
+behind_within_by : (b : Bool) (n k : ℕ) (p : Post) (ps : List Post) → nat_le p.moment k ≡ b
+    → All (IsGoodPost n) (p ∷ ps)
     → waiting 0 (behind k ps) ≤ n → waiting 0 (p ∷ ps) ≤ n → waiting 0 (behind k (p ∷ ps)) ≤ n
 behind_within_by true n k p ps e all r q = rw e r
 behind_within_by false n k p ps e all r q = rw e q
@@ -77,12 +84,15 @@ pub waits_within : (n w : ℕ) (ps : List Post) → w ≤ n → All (IsGoodPost 
 waits_within n w [] h all = h
 waits_within n w (p ∷ ps) h all =
     let good : IsGoodPost n p = all 0 p (omega arith) in
-    waits_within n (if p.sample == 0 then w else p.sample) ps (picked_within (p.sample == 0) n w p.sample h good.sample_to) (λ k d lt. all (suc k) d (omega arith))
+    waits_within n (if p.sample == 0 then w else p.sample) ps
+    (picked_within (p.sample == 0) n w p.sample h good.sample_to) (λ k d lt. all (suc k) d (omega arith))
 
 pub behind_waits_within : (n k : ℕ) (ps : List Post) → All (IsGoodPost n) ps → waiting 0 (behind k ps) ≤ n
 behind_waits_within n k [] all = omega arith
 behind_waits_within n k (p ∷ ps) all =
-    behind_within_by (nat_le p.moment k) n k p ps refl all (behind_waits_within n k ps (λ j d lt. all (suc j) d (omega arith))) (waits_within n 0 (p ∷ ps) (omega arith) all)
+    behind_within_by (nat_le p.moment k) n k p ps refl all
+    (behind_waits_within n k ps (λ j d lt. all (suc j) d (omega arith)))
+    (waits_within n 0 (p ∷ ps) (omega arith) all)
 
 picked_some : (b : Bool) (w s : ℕ) → (s == 0) ≡ b → 1 ≤ w → 1 ≤ (if b then w else s)
 picked_some true w s e h = h
@@ -90,7 +100,8 @@ picked_some false w s e h = grind (arith, nat_tests)
 
 pub waits_some : (w : ℕ) (ps : List Post) → 1 ≤ w → 1 ≤ waiting w ps
 waits_some w [] h = h
-waits_some w (p ∷ ps) h = waits_some (if p.sample == 0 then w else p.sample) ps (picked_some (p.sample == 0) w p.sample refl h)
+waits_some w (p ∷ ps) h =
+    waits_some (if p.sample == 0 then w else p.sample) ps (picked_some (p.sample == 0) w p.sample refl h)
 
 pub at_most_one : (n : ℕ) → min n 1 ≤ 1
 at_most_one n = omega arith
@@ -102,7 +113,8 @@ waits_few w (p ∷ ps) =
     let k = at_most_one (if p.sample == 0 then w else p.sample) in
     omega (arith, r, k)
 
-behind_less_by : (b : Bool) (k : ℕ) (p : Post) (ps : List Post) → nat_le p.moment k ≡ b → length (behind k ps) ≤ length ps
+behind_less_by : (b : Bool) (k : ℕ) (p : Post) (ps : List Post) → nat_le p.moment k ≡ b
+    → length (behind k ps) ≤ length ps
     → length (behind k (p ∷ ps)) ≤ length (p ∷ ps)
 behind_less_by true k p ps e r = rw e (omega (arith, r))
 behind_less_by false k p ps e r = rw e (omega arith)
@@ -115,7 +127,8 @@ pub behind_few : (k : ℕ) (ps : List Post) → min (waiting 0 (behind k ps)) 1 
 behind_few k ps = let a = waits_few 0 (behind k ps) in let b = behind_less k ps in omega (arith, a, b)
 
 -- bytes one after the other
-pub bytes_on : (ws ws2 : List Write) (at : ℕ) (bytes : List ℕ) (i d : ℕ) → i < length bytes → ws2 ≡ ws ++ record { at = at; value = get_or bytes i d } ∷ []
+pub bytes_on : (ws ws2 : List Write) (at : ℕ) (bytes : List ℕ) (i d : ℕ) → i < length bytes
+    → ws2 ≡ ws ++ record { at = at; value = get_or bytes i d } ∷ []
     → ws2 ++ writes_from (plus at 1) (drop (i + 1) bytes) ≡ ws ++ writes_from at (drop i bytes)
 bytes_on ws ws2 at bytes i d h e =
     let rest : List Write = writes_from (plus at 1) (drop (i + 1) bytes) in
@@ -133,7 +146,8 @@ pub all_take : (n i : ℕ) (ps : List Post) → All (IsGoodPost n) ps → All (I
 all_take n zero ps all = λ k d lt. absurd (omega arith)
 all_take n (suc i) [] all = all
 all_take n (suc i) (p ∷ ps) all =
-    All-cons (IsGoodPost n) p (take i ps) (all 0 p (omega arith)) (all_take n i ps (λ k d lt. all (suc k) d (omega arith)))
+    All-cons (IsGoodPost n) p (take i ps) (all 0 p (omega arith))
+    (all_take n i ps (λ k d lt. all (suc k) d (omega arith)))
 
 pub take_few : (i : ℕ) (ps : List Post) → length (take i ps) ≤ i
 take_few zero ps = omega arith
@@ -148,4 +162,5 @@ take_whole (p ∷ ps) = ap (λ (l : List Post). p ∷ l) (take_whole ps)
 pub rest_slice : (i : ℕ) (ps : List Post) → take (length ps - i) (drop i ps) ≡ drop i ps
 rest_slice zero ps = let e : length ps - 0 ≡ length ps = omega arith in ap (λ (k : ℕ). take k ps) e ∙ take_whole ps
 rest_slice (suc i) [] = let e : 0 - suc i ≡ 0 = omega arith in ap (λ (k : ℕ). take k (drop (suc i) [])) e
-rest_slice (suc i) (p ∷ ps) = let e : length (p ∷ ps) - suc i ≡ length ps - i = omega arith in ap (λ (k : ℕ). take k (drop i ps)) e ∙ rest_slice i ps
+rest_slice (suc i) (p ∷ ps) = let e : length (p ∷ ps) - suc i ≡ length ps - i = omega arith in
+    ap (λ (k : ℕ). take k (drop i ps)) e ∙ rest_slice i ps

@@ -1,5 +1,6 @@
 -- The turn of a sample by its steps.
-use Rattle.std.proofs.Common.{◌≡◌, ◌≢◌, ℕ, suc, ◌+◌, ◌-◌, ◌^◌, ◌<◌, ◌≤◌, true, Ok, List, [], ◌∷◌, ◌++◌, length, sym, ap, ◌∙◌, subst, arith}
+use Rattle.std.proofs.Common.{◌≡◌, ◌≢◌, ℕ, suc, ◌+◌, ◌-◌, ◌^◌, ◌<◌, ◌≤◌, true, Ok, List, [], ◌∷◌, ◌++◌, length, sym, ap}
+use Rattle.std.proofs.Common.{◌∙◌, subst, arith}
 use Rattle.fuzzy_meaning.specs.declared.block.Block.{Block}
 use Rattle.cpu12_isa.specs.declared.instr.Instr.TheVariants.{LdaaExtended, Beq, Orcc}
 use Rattle.cpu12_parts.specs.Executions.{IsUntil, all_steps}
@@ -30,10 +31,12 @@ use Rattle.posted_runs.proofs.Serving.{IsServed, served, on_way_by, facts_by}
 stepping : (l : Layout) (image : List ℕ) (flags at : ℕ) (s t : State) → IsAt image at s → at ≢ l.wait
     → next_of flags s ≡ Ok (record { state = t; kind = Plain }) → AreSteps (IsOnWay l flags) flags (0 ∷ []) s t
 stepping l image flags at s t here far next =
-    one_step (IsOnWay l flags) flags s t (record { next = record { state = t; kind = Plain }; goes = next; away = λ e. far (sym here.pc ∙ e) }) next
+    one_step (IsOnWay l flags) flags s t
+    (record { next = record { state = t; kind = Plain }; goes = next; away = λ e. far (sym here.pc ∙ e) }) next
 
 -- Up to the call, with n inputs.
-record Calls (f : Firmware) (flags n : ℕ) (g looked chosen called : State) (copy : IsCopied f.layout n (image_memory f.image.bytes) flags chosen called)
+record Calls (f : Firmware) (flags n : ℕ) (g looked chosen called : State)
+    (copy : IsCopied f.layout n (image_memory f.image.bytes) flags chosen called)
     : Type 0 where
   next : next_of flags g ≡ Ok (record { state = looked; kind = Plain })
   look : IsLook f.layout (image_memory f.image.bytes) flags g looked
@@ -46,9 +49,11 @@ record Calls (f : Firmware) (flags n : ℕ) (g looked chosen called : State) (co
   count : all_steps copy.ds ≡ n + 2
 
 calls : PlainIsOneStep → (f : Firmware) (flags n : ℕ) (g looked chosen called : State) → g.temps ≡ Free
-    → IsLook f.layout (image_memory f.image.bytes) flags g looked → IsChoice f.layout (image_memory f.image.bytes) flags looked chosen
+    → IsLook f.layout (image_memory f.image.bytes) flags g looked
+    → IsChoice f.layout (image_memory f.image.bytes) flags looked chosen
     → IsAt (image_memory f.image.bytes) (f.layout.wait + 5) chosen
-    → (copy : IsCopied f.layout n (image_memory f.image.bytes) flags chosen called) → Calls f flags n g looked chosen called copy
+    → (copy : IsCopied f.layout n (image_memory f.image.bytes) flags chosen called)
+    → Calls f flags n g looked chosen called copy
 calls law f flags n g looked chosen called free look choice on copy =
     let l = f.layout in
     let image = image_memory f.image.bytes in
@@ -75,8 +80,10 @@ calls law f flags n g looked chosen called free look choice on copy =
       third = third;
       call = ap (λ (k : ℕ). uninterrupted flags k g) sum ∙ uninterrupted_add flags 3 (all_steps copy.ds) g
           ∙ ap (uninterrupted flags (all_steps copy.ds)) third ∙ copies.goes;
-      steps = steps_on P flags (0 ∷ []) (0 ∷ copy.ds) looked chosen called (stepping l image flags (l.wait + 3) looked chosen look_at (λ e. omega (arith, e)) next2)
-          (steps_on P flags (0 ∷ []) copy.ds chosen masked called (stepping l image flags (l.wait + 5) chosen masked on (λ e. omega (arith, e)) next3) copies);
+      steps = steps_on P flags (0 ∷ []) (0 ∷ copy.ds) looked chosen called
+          (stepping l image flags (l.wait + 3) looked chosen look_at (λ e. omega (arith, e)) next2)
+          (steps_on P flags (0 ∷ []) copy.ds chosen masked called
+          (stepping l image flags (l.wait + 5) chosen masked on (λ e. omega (arith, e)) next3) copies);
       count = count;
     }
 
@@ -89,7 +96,8 @@ pub record IsSampleRun (f : Firmware) (flags : ℕ) (g looked t : State) : Type 
   pub until : IsUntil (is_idle f.layout) flags (0 ∷ ds) g t
 
 -- the steps behind the call
-served_steps : (f : Firmware) (flags : ℕ) (ds : List ℕ) (s t : State) → AreSteps (IsServing is_postable f.layout (image_memory f.image.bytes) flags) flags ds s t
+served_steps : (f : Firmware) (flags : ℕ) (ds : List ℕ) (s t : State)
+    → AreSteps (IsServing is_postable f.layout (image_memory f.image.bytes) flags) flags ds s t
     → Before (IsServed f flags) flags (all_steps ds) s → AreSteps (IsOnWay f.layout flags) flags ds s t
 served_steps f flags ds s t a b = record {
   goes = a.goes;
@@ -98,23 +106,28 @@ served_steps f flags ds s t a b = record {
 }
 
 -- there are some
-some_steps : (f : Firmware) (flags n : ℕ) (ds : List ℕ) (s t : State) → AreSteps (IsOnWay f.layout flags) flags ds s t → s.regs.pc ≡ call_of f.layout n
+some_steps : (f : Firmware) (flags n : ℕ) (ds : List ℕ) (s t : State) → AreSteps (IsOnWay f.layout flags) flags ds s t
+    → s.regs.pc ≡ call_of f.layout n
     → t.regs.pc ≡ f.layout.wait → 1 ≤ all_steps ds
-some_steps f flags n [] s t a at back = absurd (let e : s.regs.pc ≡ t.regs.pc = ap (λ (u : State). u.regs.pc) a.goes in omega (arith, e, at, back))
+some_steps f flags n [] s t a at back =
+    absurd (let e : s.regs.pc ≡ t.regs.pc = ap (λ (u : State). u.regs.pc) a.goes in omega (arith, e, at, back))
 some_steps f flags n (d ∷ ds) s t a at back = omega arith
 
 -- what holds at a boundary behind the call
-at_boundary : (P : State → Type 0) (flags m n j : ℕ) (g s : State) → uninterrupted flags m g ≡ s → Before P flags n s → m ≤ j → j < m + n
+at_boundary : (P : State → Type 0) (flags m n j : ℕ) (g s : State) → uninterrupted flags m g ≡ s → Before P flags n s
+    → m ≤ j → j < m + n
     → P (uninterrupted flags j g)
 at_boundary P flags m n j g s e b from to =
     let k = j - m in
     let sum : j ≡ m + k = omega arith in
-    let is : uninterrupted flags j g ≡ uninterrupted flags k s = ap (λ (i : ℕ). uninterrupted flags i g) sum ∙ uninterrupted_add flags m k g ∙ ap (uninterrupted flags k) e in
+    let is : uninterrupted flags j g ≡ uninterrupted flags k s = ap (λ (i : ℕ). uninterrupted flags i g) sum
+    ∙ uninterrupted_add flags m k g ∙ ap (uninterrupted flags k) e in
     subst P (sym is) (before_at P flags n k s b (omega arith))
 
 -- what a turn of n inputs and m steps behind the call gives
 answer_run : (f : Firmware) (flags n m : ℕ) (g looked chosen called : State) → f.inputs ≡ n
-    → (copy : IsCopied f.layout n (image_memory f.image.bytes) flags chosen called) → Calls f flags n g looked chosen called copy → 1 ≤ m
+    → (copy : IsCopied f.layout n (image_memory f.image.bytes) flags chosen called)
+    → Calls f flags n g looked chosen called copy → 1 ≤ m
     → n + 5 + m ≤ f.step_bound → Before (IsServed f flags) flags m called → IsAnswerRun f flags (n + 5 + m) g
 answer_run f flags n m g looked chosen called e = subst by e
     (λ copy c some within b. record {
@@ -131,18 +144,23 @@ answer_run f flags n m g looked chosen called e = subst by e
       call = c.call;
       behind = omega (arith, some);
       within = within;
-      facts = λ j from to. facts_by f flags (uninterrupted flags j g) (at_boundary (IsServed f flags) flags (f.inputs + 5) m j g called c.call b from to);
+      facts = λ j from to. facts_by f flags (uninterrupted flags j g)
+          (at_boundary (IsServed f flags) flags (f.inputs + 5) m j g called c.call b from to);
       away = λ j from to.
-          (let way = on_way_by f flags (uninterrupted flags j g) (at_boundary (IsServed f flags) flags (f.inputs + 5) m j g called c.call b from to) in way.away);
+          (let way = on_way_by f flags (uninterrupted flags j g)
+          (at_boundary (IsServed f flags) flags (f.inputs + 5) m j g called c.call b from to) in way.away);
     })
   where
     by : ℕ → Type 0
-    by k = (copy : IsCopied f.layout k (image_memory f.image.bytes) flags chosen called) → Calls f flags k g looked chosen called copy → 1 ≤ m
+    by k = (copy : IsCopied f.layout k (image_memory f.image.bytes) flags chosen called)
+        → Calls f flags k g looked chosen called copy → 1 ≤ m
         → k + 5 + m ≤ f.step_bound → Before (IsServed f flags) flags m called → IsAnswerRun f flags (k + 5 + m) g
 
-pub sample_run : PlainIsOneStep → InstructionsAreSteps → (b : Block) (f : Firmware) (flags : ℕ) (before : ℕ → ℕ) (bytes : List ℕ) (s t : State)
+pub sample_run : PlainIsOneStep → InstructionsAreSteps
+    → (b : Block) (f : Firmware) (flags : ℕ) (before : ℕ → ℕ) (bytes : List ℕ) (s t : State)
     → IsMailboxOf b f → flags < 2 ^ 8 → s.temps ≡ Free
-    → (turn : IsSampleTurn f.layout b (width_of f.wide) f.instr_bound (image_memory f.image.bytes) flags before bytes s t)
+    → (turn : IsSampleTurn f.layout b (width_of f.wide) f.instr_bound
+    (image_memory f.image.bytes) flags before bytes s t)
     → IsSampleRun f flags (given f.layout bytes s) turn.looked t
 sample_run law steps b f flags before bytes s t h fits free turn =
     let l = f.layout in
@@ -162,11 +180,14 @@ sample_run law steps b f flags before bytes s t h fits free turn =
     let some = some_steps f flags n turned.ds turn.called t end called_at.pc back.pc in
     let bound : steps_by b f.instr_bound ≡ f.step_bound = ap (steps_by b) h.instructions ∙ sym h.steps in
     let ds : List ℕ = 0 ∷ 0 ∷ (copy.ds ++ turned.ds) in
-    let sum : n + 5 + m ≡ suc (all_steps ds) = (let e = steps_append copy.ds turned.ds in let k = c.count in omega (arith, e, k)) in
+    let sum : n + 5 + m ≡ suc (all_steps ds) =
+    (let e = steps_append copy.ds turned.ds in let k = c.count in omega (arith, e, k)) in
     record {
       ds = ds;
       next = c.next;
       steps = steps_on (IsOnWay l flags) flags (0 ∷ 0 ∷ copy.ds) turned.ds turn.looked turn.called t c.steps end;
-      run = subst (λ (k : ℕ). IsAnswerRun f flags k g) sum (answer_run f flags n m g turn.looked turn.chosen turn.called h.inputs copy c some (omega (arith, turned.steps, bound)) b4);
+      run = subst (λ (k : ℕ). IsAnswerRun f flags k g) sum
+          (answer_run f flags n m g turn.looked turn.chosen turn.called h.inputs copy c some
+          (omega (arith, turned.steps, bound)) b4);
       until = turn.until;
     }

@@ -1,5 +1,6 @@
 -- Behind the call POSTED is not written, so that PC is not where the code waits before the end.
-use Rattle.std.proofs.Common.{◌≡◌, inl, inr, ℕ, zero, suc, Bool, true, false, Result, Ok, List, [], ◌∷◌, get_or, refl, sym, ap, ◌∙◌, arith, min}
+use Rattle.std.proofs.Common.{◌≡◌, inl, inr, ℕ, zero, suc, Bool, true, false, Result, Ok, List, [], ◌∷◌, get_or, refl}
+use Rattle.std.proofs.Common.{sym, ap, ◌∙◌, arith, min}
 use Rattle.std.proofs.lemmas.Bool.Decides.{nat_tests}
 use Rattle.cpu12_isa.specs.Act.{write_all}
 use Rattle.cpu12_isa.specs.Agreement.{AllShown, IsWritten}
@@ -24,7 +25,8 @@ pub record IsServed (f : Firmware) (flags : ℕ) (s : State) : Type 0 where
   pub serving : IsServing is_postable f.layout (image_memory f.image.bytes) flags s
   pub cleared : get_or s.mem f.layout.ready 0 ≡ 0
 
-not_written : (hidden : ℕ → Bool) (ws : List (ℕ × ℕ)) (at : ℕ) → AllShown hidden (addresses ws) → hidden at ≡ true → IsWritten ws at → ⊥
+not_written : (hidden : ℕ → Bool) (ws : List (ℕ × ℕ)) (at : ℕ) → AllShown hidden (addresses ws) → hidden at ≡ true
+    → IsWritten ws at → ⊥
 not_written hidden [] at a h w = w
 not_written hidden (x ∷ ws) at a h (inl e) = absurd (let z : true ≡ false = sym h ∙ ap hidden e ∙ a.0 in cc)
 not_written hidden (x ∷ ws) at a h (inr w) = not_written hidden ws at a.1 h w
@@ -33,27 +35,36 @@ next_by : (flags : ℕ) (s : State) → Facts is_postable flags s → (next : Ne
 next_by flags s facts =
     let shown = facts.shown in
     let left = shown.left in (
-      record { state = record { regs = left.regs; temps = left.temps; mem = write_all left.writes s.mem }; kind = left.kind },
+      record {
+        state = record { regs = left.regs; temps = left.temps; mem = write_all left.writes s.mem };
+        kind =
+            left.kind;
+      },
       ap (λ (o : Result Left ℕ). applied o s.mem) shown.goes,
     )
 
 -- a step leaves the open bytes
-open_stays : (flags at : ℕ) (s : State) → Facts is_postable flags s → is_postable at ≡ true → get_or (stepped flags s).mem at 0 ≡ get_or s.mem at 0
+open_stays : (flags at : ℕ) (s : State) → Facts is_postable flags s → is_postable at ≡ true
+    → get_or (stepped flags s).mem at 0 ≡ get_or s.mem at 0
 open_stays flags at s facts h =
     let shown = facts.shown in
     let left = shown.left in
     let goes = ap (λ (o : Result Left ℕ). applied o s.mem) shown.goes in
     let hidden = is_hidden is_postable (min s.regs.sp left.regs.sp) in
     let is : hidden at ≡ true = rw h refl in
-    ap (λ (u : State). get_or u.mem at 0) (ap (state_by s) goes) ∙ unwritten left.writes s.mem at (not_written hidden left.writes at facts.writes is)
+    ap (λ (u : State). get_or u.mem at 0) (ap (state_by s) goes)
+    ∙ unwritten left.writes s.mem at (not_written hidden left.writes at facts.writes is)
 
 pub served : (f : Firmware) (flags n : ℕ) (s : State) → is_postable f.layout.ready ≡ true
-    → Before (IsServing is_postable f.layout (image_memory f.image.bytes) flags) flags n s → get_or s.mem f.layout.ready 0 ≡ 0
+    → Before (IsServing is_postable f.layout (image_memory f.image.bytes) flags) flags n s
+    → get_or s.mem f.layout.ready 0 ≡ 0
     → Before (IsServed f flags) flags n s
 served f flags zero s h b e = tt
 served f flags (suc n) s h b e =
-    let one = b.0 in
-    (record { serving = one; cleared = e }, served f flags n (stepped flags s) h b.1 (open_stays flags f.layout.ready s one.facts h ∙ e))
+    let one = b.0 in (
+      record { serving = one; cleared = e },
+      served f flags n (stepped flags s) h b.1 (open_stays flags f.layout.ready s one.facts h ∙ e),
+    )
 
 waits_there : (l : Layout) (s : State) → s.regs.pc ≡ l.wait → get_or s.mem l.ready 0 ≡ 0 → is_idle l s ≡ true
 waits_there l s e h = grind (arith, nat_tests)
@@ -69,4 +80,5 @@ on_way_by f flags s h =
     }
 
 pub facts_by : (f : Firmware) (flags : ℕ) (s : State) → IsServed f flags s → FactsBeside is_postable flags f s
-facts_by f flags s h = let serving = h.serving in record { facts = serving.facts; image = serving.image; stack = serving.stack }
+facts_by f flags s h = let serving = h.serving in
+    record { facts = serving.facts; image = serving.image; stack = serving.stack }

@@ -1,5 +1,6 @@
 -- Turns from where the code waits.
-use Rattle.std.proofs.Common.{◌≡◌, ℕ, suc, ◌+◌, ◌^◌, ◌<◌, ◌==◌, true, not, Bool, Result, Ok, List, ◌∷◌, All, length, get_or, sym, ap, ap₂, ◌∙◌, subst, arith}
+use Rattle.std.proofs.Common.{◌≡◌, ℕ, suc, ◌+◌, ◌^◌, ◌<◌, ◌==◌, true, not, Bool, Result, Ok, List, ◌∷◌, All, length}
+use Rattle.std.proofs.Common.{get_or, sym, ap, ap₂, ◌∙◌, subst, arith}
 use Rattle.std.specs.Prelude.{if◌then◌else◌}
 use Rattle.std.proofs.lemmas.Bool.Decides.{nat_tests}
 use Rattle.fuzzy_meaning.specs.declared.block.Block.{Block}
@@ -56,7 +57,8 @@ pub record Idled (b : Block) (f : Firmware) (flags : ℕ) (before : ℕ → ℕ)
 abbrev chosen : ℕ → Bool → ℕ
 chosen wait z = if z then wait else wait + 5
 
-pub idled : (b : Block) (f : Firmware) (flags : ℕ) (samples : List (List ℕ)) (before : ℕ → ℕ) (s : State) → Setting b f flags samples → Waits b f before s
+pub idled : (b : Block) (f : Firmware) (flags : ℕ) (samples : List (List ℕ)) (before : ℕ → ℕ) (s : State)
+    → Setting b f flags samples → Waits b f before s
     → (t : State) × Idled b f flags before s t
 idled b f flags samples before s x h =
     let l = f.layout in
@@ -74,7 +76,8 @@ idled b f flags samples before s x h =
     let z : has looked.regs.ccr zero_result ≡ true = look.1.found ∙ none in
     let back : IsAt image l.wait t = subst (λ (y : Bool). IsAt image (chosen l.wait y) t) z choice.1.at in
     let mem : t.mem ≡ s.mem = choice.1.mem ∙ look.1.mem in
-    let next = x.plain_is_one_step flags (LdaaExtended l.ready) s looked state.temps (let shown = look.1.step in shown.step) in
+    let next = x.plain_is_one_step flags (LdaaExtended l.ready) s looked state.temps
+    (let shown = look.1.step in shown.step) in
     let next2 = x.plain_is_one_step flags (Beq 0xFB) looked t state1.temps (let shown = choice.1.step in shown.step) in
     let first : uninterrupted flags 1 s ≡ looked = ap (state_by s) next in
     let second : uninterrupted flags 2 s ≡ t = ap (uninterrupted flags 1) first ∙ ap (state_by looked) next2 in
@@ -93,18 +96,21 @@ idled b f flags samples before s x h =
     )
 
 -- A turn that answers sample k from s, in n steps, where u is like s.
-pub record Answered (b : Block) (f : Firmware) (flags : ℕ) (samples : List (List ℕ)) (before : ℕ → ℕ) (k : ℕ) (s u : State) (n : ℕ) : Type 0 where
+pub record Answered (b : Block) (f : Firmware) (flags : ℕ) (samples : List (List ℕ)) (before : ℕ → ℕ) (k : ℕ)
+    (s u : State) (n : ℕ) : Type 0 where
   pub run : IsAnswerRun f flags n (given f.layout (bytes_of samples k) s)
   pub steps : (answered_alone flags f samples k u).steps ≡ n
   pub state : (answered_alone flags f samples k u).state ≡ uninterrupted flags n (given f.layout (bytes_of samples k) s)
-  pub waits : Waits b f (λ o. answer (width_of f.wide) b o (bytes_of samples k) (before o)) (uninterrupted flags n (given f.layout (bytes_of samples k) s))
+  pub waits : Waits b f (λ o. answer (width_of f.wide) b o (bytes_of samples k) (before o))
+      (uninterrupted flags n (given f.layout (bytes_of samples k) s))
   pub answer_is : IsAnswerTo f flags (bytes_of samples k) u (answered_alone flags f samples k u).state (record {
     values = values_in f (uninterrupted flags n (given f.layout (bytes_of samples k) s));
     instructions = counted flags n (given f.layout (bytes_of samples k) s);
   })
 
 -- the turn from one state
-record Single (b : Block) (f : Firmware) (flags : ℕ) (samples : List (List ℕ)) (before : ℕ → ℕ) (k : ℕ) (s : State) : Type 0 where
+record Single (b : Block) (f : Firmware) (flags : ℕ) (samples : List (List ℕ)) (before : ℕ → ℕ) (k : ℕ)
+    (s : State) : Type 0 where
   t : State
   ds : List ℕ
   looked : State
@@ -117,7 +123,8 @@ record Single (b : Block) (f : Firmware) (flags : ℕ) (samples : List (List ℕ
   waits : Waits b f (λ o. answer (width_of f.wide) b o (bytes_of samples k) (before o)) t
   ran : IsAlone flags (suc (all_steps ds)) (given f.layout (bytes_of samples k) s) (answered_alone flags f samples k s)
 
-single : (b : Block) (f : Firmware) (flags : ℕ) (samples : List (List ℕ)) (before : ℕ → ℕ) (k : ℕ) (s : State) → Setting b f flags samples
+single : (b : Block) (f : Firmware) (flags : ℕ) (samples : List (List ℕ)) (before : ℕ → ℕ) (k : ℕ) (s : State)
+    → Setting b f flags samples
     → AreInputBytes b (bytes_of samples k) → Waits b f before s → Single b f flags samples before k s
 single b f flags samples before k s x i h =
     let bytes = bytes_of samples k in
@@ -128,7 +135,8 @@ single b f flags samples before k s x i h =
     let one = takes.answers before bytes s i at h.outputs in
     let turned = one.1.turned in
     let back = turned.at in
-    let r = sample_run x.plain_is_one_step x.instructions_are_steps b f flags before bytes s one.0 x.mailbox x.fits state.temps one.1 in
+    let r = sample_run x.plain_is_one_step x.instructions_are_steps b f flags before bytes s one.0 x.mailbox x.fits
+    state.temps one.1 in
     let steps = r.steps in
     let run = r.run in
     let looked = one.1.looked in
@@ -145,16 +153,19 @@ single b f flags samples before k s x i h =
       run = run;
       until = r.until;
       waits = record { at = back; cleared = one.1.cleared; outputs = turned.answers };
-      ran = alone flags f samples (all_steps r.ds) f.step_bound g next run.within r.next steps.each (ap (λ (v : State). v.regs.pc) steps.goes ∙ back.pc);
+      ran = alone flags f samples (all_steps r.ds) f.step_bound g next run.within r.next steps.each
+          (ap (λ (v : State). v.regs.pc) steps.goes ∙ back.pc);
     }
 
 -- the first step of a turn counts
-counts_first : (flags n : ℕ) (g looked : State) → next_of flags g ≡ Ok (record { state = looked; kind = Plain }) → counted flags (suc n) g ≡ suc (counted flags n looked)
+counts_first : (flags n : ℕ) (g looked : State) → next_of flags g ≡ Ok (record { state = looked; kind = Plain })
+    → counted flags (suc n) g ≡ suc (counted flags n looked)
 counts_first flags n g looked e =
     ap (λ (o : Result Next ℕ). one_if (not (is_part (kind_by o))) + counted flags n (state_by g o)) e ∙ omega arith
 
 -- two states that are alike have one turn
-pub answered : (b : Block) (f : Firmware) (flags : ℕ) (samples : List (List ℕ)) (before : ℕ → ℕ) (k : ℕ) (s u : State) → Setting b f flags samples
+pub answered : (b : Block) (f : Firmware) (flags : ℕ) (samples : List (List ℕ)) (before : ℕ → ℕ) (k : ℕ) (s u : State)
+    → Setting b f flags samples
     → AreInputBytes b (bytes_of samples k) → Waits b f before s → Waits b f before u → AreAlike s u
     → (n : ℕ) × Answered b f flags samples before k s u n
 answered b f flags samples before k s u x i hs hu alike =
@@ -162,19 +173,24 @@ answered b f flags samples before k s u x i hs hu alike =
     let g = given f.layout bytes s in
     let a = single b f flags samples before k s x i hs in
     let c = single b f flags samples before k u x i hu in
-    let looks : a.looked ≡ c.looked = same_look f.layout (image_memory f.image.bytes) flags bytes s u a.looked c.looked a.look c.look alike in
+    let looks : a.looked ≡ c.looked =
+    same_look f.layout (image_memory f.image.bytes) flags bytes s u a.looked c.looked a.look c.look alike in
     let n = suc (all_steps a.ds) in
     let m = suc (all_steps c.ds) in
     let run = a.run in
     let ran = a.ran in
     let ran' = c.ran in
-    let next : next_of flags (given f.layout bytes u) ≡ Ok (record { state = a.looked; kind = Plain }) = c.next ∙ ap plain (sym looks) in
-    let same = same_alone flags f samples f.step_bound g (given f.layout bytes u) (record { state = a.looked; kind = Plain }) (let le = run.within in omega (arith, le)) a.next next in
+    let next : next_of flags (given f.layout bytes u) ≡ Ok (record { state = a.looked; kind = Plain }) =
+    c.next ∙ ap plain (sym looks) in
+    let same = same_alone flags f samples f.step_bound g (given f.layout bytes u)
+    (record { state = a.looked; kind = Plain }) (let le = run.within in omega (arith, le)) a.next next in
     let steps : (answered_alone flags f samples k u).steps ≡ n = sym same.0 ∙ ran.steps in
     let state : (answered_alone flags f samples k u).state ≡ uninterrupted flags n g = sym same.1 ∙ ran.state in
     let counts : counted flags n g ≡ length (0 ∷ c.ds) =
     counts_first flags (all_steps a.ds) g a.looked a.next
-    ∙ ap suc (ap₂ (λ (j : ℕ) (v : State). counted flags j v) (let e : suc (all_steps a.ds) ≡ suc (all_steps c.ds) = sym steps ∙ ran'.steps in omega (arith, e)) looks ∙ c.counts) in
+    ∙ ap suc (ap₂ (λ (j : ℕ) (v : State). counted flags j v)
+    (let e : suc (all_steps a.ds) ≡ suc (all_steps c.ds) = sym steps ∙ ran'.steps in omega (arith, e)) looks
+    ∙ c.counts) in
     let end : c.t ≡ (answered_alone flags f samples k u).state = sym c.goes ∙ sym ran'.state in (
       n,
       record {

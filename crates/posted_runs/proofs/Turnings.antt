@@ -1,18 +1,21 @@
 -- A turn by its next boundary and step.
-use Rattle.std.proofs.Common.{◌≡◌, ℕ, zero, suc, ◌+◌, ◌-◌, ◌<◌, ◌==◌, Bool, true, false, not, ◌&&◌, nat_lt, Ok, Err, List, [], ◌∷◌, ◌++◌, length, drop}
+use Rattle.std.proofs.Common.{◌≡◌, ℕ, zero, suc, ◌+◌, ◌-◌, ◌<◌, ◌==◌, Bool, true, false, not, ◌&&◌, nat_lt, Ok, Err}
+use Rattle.std.proofs.Common.{List, [], ◌∷◌, ◌++◌, length, drop}
 use Rattle.std.proofs.Common.{refl, ap, ap₂, sym, ◌∙◌, arith, append_assoc, append-nil, length-append}
 use Rattle.std.proofs.lemmas.Bool.Decides.{nat_tests}
 use Rattle.cpu12_parts.specs.State.{State}
 use Rattle.cpu12_emul.specs.Step.{Next, next_of, is_part}
 use Rattle.cpu12_emul.specs.Take.{FrameSeen}
-use Rattle.run_law.specs.Forms.{Taking, Ran, takes, one_if, is_empty, resumes, before_rest, stuck, then_rest, run_from, ended}
+use Rattle.run_law.specs.Forms.{Taking, Ran, takes, one_if, is_empty, resumes, before_rest, stuck, then_rest, run_from}
+use Rattle.run_law.specs.Forms.{ended}
 use Rattle.interrupt_plan.specs.declared.Post.{Post}
 use Rattle.cpu12_emul.specs.declared.ends.Stepped.{Stepped}
 use Rattle.posted_runs.specs.declared.tally.Tally.{Tally}
 use Rattle.posted_runs.specs.Runs.{TurnForm, frames_seen}
 use Rattle.posted_runs.specs.Tallies.{Brought, with_frames, turned, rest_of, turned_at}
 
-merged : (inside : Bool) (b : Taking Post (Unit {0})) (kind : Stepped) (m i r : ℕ) (fs : List (ℕ × FrameSeen)) (k : Ran Post (Unit {0}))
+merged : (inside : Bool) (b : Taking Post (Unit {0})) (kind : Stepped) (m i r : ℕ) (fs : List (ℕ × FrameSeen))
+    (k : Ran Post (Unit {0}))
     → turned m i r fs (before_rest inside b kind k)
     ≡ turned (m + 1) (i + one_if (not (is_part kind))) (r + resumes inside b) (fs ++ b.frames) k
 merged inside b kind m i r fs k =
@@ -29,9 +32,11 @@ is_longer fs (g ∷ gs) = let e = length-append fs (g ∷ gs) in grind (arith, n
 taken_there : (inside : Bool) (b : Taking Post (Unit {0})) (fs fs2 : List (ℕ × FrameSeen)) → fs ++ b.frames ≡ fs2
     → resumes inside b ≡ one_if (inside && nat_lt (length fs) (length fs2))
 taken_there inside b fs fs2 ef =
-    ap (λ (k : Bool). one_if (inside && k)) (sym (is_longer fs b.frames) ∙ ap (λ (l : List (ℕ × FrameSeen)). nat_lt (length fs) (length l)) ef)
+    ap (λ (k : Bool). one_if (inside && k))
+    (sym (is_longer fs b.frames) ∙ ap (λ (l : List (ℕ × FrameSeen)). nat_lt (length fs) (length l)) ef)
 
-onward : (g : TurnForm) (n m : ℕ) (inside : Bool) (qs qs2 : List Post) (s t : State) (next : Next) (i r : ℕ) (fs fs2 : List (ℕ × FrameSeen)) → g.ends m s ≡ false
+onward : (g : TurnForm) (n m : ℕ) (inside : Bool) (qs qs2 : List Post) (s t : State) (next : Next) (i r : ℕ)
+    (fs fs2 : List (ℕ × FrameSeen)) → g.ends m s ≡ false
     → with_frames fs (takes g m qs s) ≡ record { state = t; frames = fs2; left = qs2 } → next_of g.flags t ≡ Ok next
     → turned m i r fs (run_from g (suc n) m inside qs s)
     ≡ turned (m + 1) (i + one_if (not (is_part next.kind))) (r + one_if (inside && nat_lt (length fs) (length fs2))) fs2
@@ -45,19 +50,33 @@ onward g n m inside qs qs2 s t next i r fs fs2 on te ne =
     let m1 : suc m ≡ m + 1 = omega arith in
     let rest : Bool → State → Ran Post (Unit {0}) = λ k u. run_from g n (suc m) k b.left u in
     let one : run_from g (suc n) m inside qs s ≡ then_rest inside b rest (next_of g.flags b.state) = rw on refl in
-    let two : then_rest inside b rest (next_of g.flags b.state) ≡ before_rest inside b next.kind (run_from g n (suc m) (is_part next.kind) b.left next.state) =
+    let two : then_rest inside b rest (next_of g.flags b.state) ≡ before_rest inside b next.kind
+    (run_from g n (suc m) (is_part next.kind) b.left next.state) =
     ap (then_rest inside b rest) (ap (next_of g.flags) es ∙ ne) in
     let there : Ran Post (Unit {0}) = run_from g n (suc m) (is_part next.kind) b.left next.state in
-    let same : there ≡ run_from g n (m + 1) (is_part next.kind) qs2 next.state = ap₂ (λ (k : ℕ) (l : List Post). run_from g n k (is_part next.kind) l next.state) m1 el in
+    let same : there ≡ run_from g n (m + 1) (is_part next.kind) qs2 next.state =
+    ap₂ (λ (k : ℕ) (l : List Post). run_from g n k (is_part next.kind) l next.state) m1 el in
     ap (turned m i r fs) (one ∙ two)
     ∙ merged inside b next.kind m i r fs there
-    ∙ ap₂ (λ (k : ℕ) (l : List (ℕ × FrameSeen)). turned (m + 1) (i + one_if (not (is_part next.kind))) (r + k) l there) (taken_there inside b fs fs2 ef) ef
-    ∙ ap (turned (m + 1) (i + one_if (not (is_part next.kind))) (r + one_if (inside && nat_lt (length fs) (length fs2))) fs2) same
+    ∙ ap₂ (λ (k : ℕ) (l : List (ℕ × FrameSeen)). turned (m + 1) (i + one_if (not (is_part next.kind))) (r + k) l there)
+    (taken_there inside b fs fs2 ef) ef
+    ∙ ap (turned (m + 1) (i + one_if (not (is_part next.kind)))
+    (r + one_if (inside && nat_lt (length fs) (length fs2))) fs2) same
 
-no_step : (g : TurnForm) (n m : ℕ) (inside : Bool) (qs qs2 : List Post) (s t : State) (byte i r : ℕ) (fs fs2 : List (ℕ × FrameSeen)) → g.ends m s ≡ false
+no_step : (g : TurnForm) (n m : ℕ) (inside : Bool) (qs qs2 : List Post) (s t : State) (byte i r : ℕ)
+    (fs fs2 : List (ℕ × FrameSeen)) → g.ends m s ≡ false
     → with_frames fs (takes g m qs s) ≡ record { state = t; frames = fs2; left = qs2 } → next_of g.flags t ≡ Err byte
     → turned m i r fs (run_from g (suc n) m inside qs s)
-    ≡ record { arrived = false; state = t; at = m; instrs = i; resumed = r + one_if (inside && nat_lt (length fs) (length fs2)); frames = fs2; left = qs2 }
+    ≡ record {
+      arrived = false;
+      state = t;
+      at = m;
+      instrs = i;
+      resumed =
+          r + one_if (inside && nat_lt (length fs) (length fs2));
+      frames = fs2;
+      left = qs2;
+    }
 unfolding run_from
 no_step g n m inside qs qs2 s t byte i r fs fs2 on te ne =
     let b : Taking Post (Unit {0}) = takes g m qs s in
@@ -66,7 +85,8 @@ no_step g n m inside qs qs2 s t byte i r fs fs2 on te ne =
     let el : b.left ≡ qs2 = ap (λ (k : Brought). k.left) te in
     let rest : Bool → State → Ran Post (Unit {0}) = λ k u. run_from g n (suc m) k b.left u in
     let one : run_from g (suc n) m inside qs s ≡ then_rest inside b rest (next_of g.flags b.state) = rw on refl in
-    let two : then_rest inside b rest (next_of g.flags b.state) ≡ stuck inside b = ap (then_rest inside b rest) (ap (next_of g.flags) es ∙ ne) in
+    let two : then_rest inside b rest (next_of g.flags b.state) ≡ stuck inside b =
+    ap (then_rest inside b rest) (ap (next_of g.flags) es ∙ ne) in
     let i0 : i + 0 ≡ i = omega arith in
     let m0 : m + 0 ≡ m = omega arith in
     let rs = taken_there inside b fs fs2 ef in
@@ -77,11 +97,13 @@ pub record Passed (t t2 t3 : Tally) (next : Next) : Type 0 where
   pub moment : t3.moment ≡ t.moment + 1
   pub inside : t3.inside ≡ is_part next.kind
   pub instrs : t3.instrs ≡ t.instrs + one_if (not (is_part next.kind))
-  pub resumed : t3.resumed ≡ t.resumed + one_if (t.inside && nat_lt (length (frames_seen t.frames.items)) (length (frames_seen t2.frames.items)))
+  pub resumed : t3.resumed ≡ t.resumed + one_if
+      (t.inside && nat_lt (length (frames_seen t.frames.items)) (length (frames_seen t2.frames.items)))
   pub frames : t3.frames ≡ t2.frames
   pub next_is : t3.next ≡ t2.next
 
-pub passes : (g : TurnForm) (last : ℕ) (posts : List Post) (t t2 t3 : Tally) (s s2 : State) (next : Next) → g.ends t.moment s ≡ false → t.moment < last
+pub passes : (g : TurnForm) (last : ℕ) (posts : List Post) (t t2 t3 : Tally) (s s2 : State) (next : Next)
+    → g.ends t.moment s ≡ false → t.moment < last
     → with_frames (frames_seen t.frames.items) (takes g t.moment (drop t.next posts) s)
     ≡ record { state = s2; frames = frames_seen t2.frames.items; left = drop t2.next posts }
     → next_of g.flags s2 ≡ Ok next → Passed t t2 t3 next → rest_of g last posts t s ≡ rest_of g last posts t3 next.state
@@ -89,18 +111,22 @@ passes g last posts t t2 t3 s s2 next on lt te ne p =
     let m = t.moment in
     let fs = frames_seen t.frames.items in
     let fuel : last - m ≡ suc (last - (m + 1)) = omega arith in
-    let a = onward g (last - (m + 1)) m t.inside (drop t.next posts) (drop t2.next posts) s s2 next t.instrs t.resumed fs (frames_seen t2.frames.items) on te ne in
-    let moment = p.moment in let inside = p.inside in let instrs = p.instrs in let resumed = p.resumed in let frames = p.frames in let next_is = p.next_is in
+    let a = onward g (last - (m + 1)) m t.inside (drop t.next posts) (drop t2.next posts) s s2 next t.instrs t.resumed
+    fs (frames_seen t2.frames.items) on te ne in
+    let moment = p.moment in let inside = p.inside in let instrs = p.instrs in let resumed = p.resumed in
+    let frames = p.frames in let next_is = p.next_is in
     ap (λ (k : ℕ). turned m t.instrs t.resumed fs (run_from g k m t.inside (drop t.next posts) s)) fuel ∙ a ∙ cc
 
 pub record Stops (t t2 t3 : Tally) : Type 0 where
   pub moment : t3.moment ≡ t.moment
   pub instrs : t3.instrs ≡ t.instrs
-  pub resumed : t3.resumed ≡ t.resumed + one_if (t.inside && nat_lt (length (frames_seen t.frames.items)) (length (frames_seen t2.frames.items)))
+  pub resumed : t3.resumed ≡ t.resumed + one_if
+      (t.inside && nat_lt (length (frames_seen t.frames.items)) (length (frames_seen t2.frames.items)))
   pub frames : t3.frames ≡ t2.frames
   pub next_is : t3.next ≡ t2.next
 
-pub stops : (g : TurnForm) (last : ℕ) (posts : List Post) (t t2 t3 : Tally) (s s2 : State) (byte : ℕ) → g.ends t.moment s ≡ false → t.moment < last
+pub stops : (g : TurnForm) (last : ℕ) (posts : List Post) (t t2 t3 : Tally) (s s2 : State) (byte : ℕ)
+    → g.ends t.moment s ≡ false → t.moment < last
     → with_frames (frames_seen t.frames.items) (takes g t.moment (drop t.next posts) s)
     ≡ record { state = s2; frames = frames_seen t2.frames.items; left = drop t2.next posts }
     → next_of g.flags s2 ≡ Err byte → Stops t t2 t3 → rest_of g last posts t s ≡ turned_at false posts t3 s2
@@ -108,22 +134,27 @@ stops g last posts t t2 t3 s s2 byte on lt te ne p =
     let m = t.moment in
     let fs = frames_seen t.frames.items in
     let fuel : last - m ≡ suc (last - (m + 1)) = omega arith in
-    let a = no_step g (last - (m + 1)) m t.inside (drop t.next posts) (drop t2.next posts) s s2 byte t.instrs t.resumed fs (frames_seen t2.frames.items) on te ne in
-    let moment = p.moment in let instrs = p.instrs in let resumed = p.resumed in let frames = p.frames in let next_is = p.next_is in
+    let a = no_step g (last - (m + 1)) m t.inside (drop t.next posts) (drop t2.next posts) s s2 byte t.instrs t.resumed
+    fs (frames_seen t2.frames.items) on te ne in
+    let moment = p.moment in let instrs = p.instrs in let resumed = p.resumed in let frames = p.frames in
+    let next_is = p.next_is in
     ap (λ (k : ℕ). turned m t.instrs t.resumed fs (run_from g k m t.inside (drop t.next posts) s)) fuel ∙ a ∙ cc
 
-at_end : (g : TurnForm) (n m : ℕ) (inside : Bool) (qs : List Post) (s : State) → g.ends m s ≡ true → run_from g n m inside qs s ≡ ended true qs s
+at_end : (g : TurnForm) (n m : ℕ) (inside : Bool) (qs : List Post) (s : State) → g.ends m s ≡ true
+    → run_from g n m inside qs s ≡ ended true qs s
 unfolding run_from
 at_end g zero m inside qs s e = rw e refl
 at_end g (suc n) m inside qs s e = rw e refl
 
-spent : (g : TurnForm) (n m : ℕ) (inside : Bool) (qs : List Post) (s : State) → n ≡ 0 → g.ends m s ≡ false → run_from g n m inside qs s ≡ ended false qs s
+spent : (g : TurnForm) (n m : ℕ) (inside : Bool) (qs : List Post) (s : State) → n ≡ 0 → g.ends m s ≡ false
+    → run_from g n m inside qs s ≡ ended false qs s
 unfolding run_from
 spent g zero m inside qs s z e = rw e refl
 spent g (suc n) m inside qs s z e = absurd (omega arith)
 
 ended_there : (arrived : Bool) (posts : List Post) (t : Tally) (s : State)
-    → turned t.moment t.instrs t.resumed (frames_seen t.frames.items) (ended arrived (drop t.next posts) s) ≡ turned_at arrived posts t s
+    → turned t.moment t.instrs t.resumed (frames_seen t.frames.items) (ended arrived (drop t.next posts) s)
+    ≡ turned_at arrived posts t s
 ended_there arrived posts t s =
     let m0 : t.moment + 0 ≡ t.moment = omega arith in
     let i0 : t.instrs + 0 ≡ t.instrs = omega arith in
@@ -132,15 +163,19 @@ ended_there arrived posts t s =
     cc
 
 -- where the code waits again, or no step is left
-pub waits_there : (g : TurnForm) (last : ℕ) (posts : List Post) (t : Tally) (s : State) → g.ends t.moment s ≡ true → rest_of g last posts t s ≡ turned_at true posts t s
+pub waits_there : (g : TurnForm) (last : ℕ) (posts : List Post) (t : Tally) (s : State) → g.ends t.moment s ≡ true
+    → rest_of g last posts t s ≡ turned_at true posts t s
 waits_there g last posts t s e =
-    ap (turned t.moment t.instrs t.resumed (frames_seen t.frames.items)) (at_end g (last - t.moment) t.moment t.inside (drop t.next posts) s e)
+    ap (turned t.moment t.instrs t.resumed (frames_seen t.frames.items))
+    (at_end g (last - t.moment) t.moment t.inside (drop t.next posts) s e)
     ∙ ended_there true posts t s
 
-pub spent_there : (g : TurnForm) (last : ℕ) (posts : List Post) (t : Tally) (s : State) → last - t.moment ≡ 0 → g.ends t.moment s ≡ false
+pub spent_there : (g : TurnForm) (last : ℕ) (posts : List Post) (t : Tally) (s : State) → last - t.moment ≡ 0
+    → g.ends t.moment s ≡ false
     → rest_of g last posts t s ≡ turned_at false posts t s
 spent_there g last posts t s z e =
-    ap (turned t.moment t.instrs t.resumed (frames_seen t.frames.items)) (spent g (last - t.moment) t.moment t.inside (drop t.next posts) s z e)
+    ap (turned t.moment t.instrs t.resumed (frames_seen t.frames.items))
+    (spent g (last - t.moment) t.moment t.inside (drop t.next posts) s z e)
     ∙ ended_there false posts t s
 
 -- the code waits at a later boundary

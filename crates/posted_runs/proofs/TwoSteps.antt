@@ -1,5 +1,6 @@
 -- The first two boundaries of a turn: the code looks at POSTED, and chooses.
-use Rattle.std.proofs.Common.{◌≡◌, ◌≢◌, ℕ, suc, ◌+◌, ◌≤◌, nat_le, nat_lt, Bool, true, false, not, ◌&&◌, List, [], ◌++◌, length, map, get_or, set, refl, sym, ap, ap₂, ◌∙◌, subst, arith, get_or-set_same}
+use Rattle.std.proofs.Common.{◌≡◌, ◌≢◌, ℕ, suc, ◌+◌, ◌≤◌, nat_le, nat_lt, Bool, true, false, not, ◌&&◌, List, [], ◌++◌}
+use Rattle.std.proofs.Common.{length, map, get_or, set, refl, sym, ap, ap₂, ◌∙◌, subst, arith, get_or-set_same}
 use Rattle.std.specs.Prelude.{◌==◌}
 use Rattle.std.proofs.lemmas.Bool.{or_parts}
 use Rattle.std.proofs.lemmas.Bool.Decides.{nat_tests}
@@ -82,7 +83,8 @@ here_at image at s h =
       sp = sp;
     }
 
-module _ (steps : StepLaws) (laws : TakingLaws) (flags : ℕ) (f : Firmware) (samples : List (List ℕ)) (n g : ℕ) (image : List ℕ) (box : IsBox f.layout n) (size : AreOfSize n samples)
+module _ (steps : StepLaws) (laws : TakingLaws) (flags : ℕ) (f : Firmware) (samples : List (List ℕ)) (n g : ℕ)
+    (image : List ℕ) (box : IsBox f.layout n) (size : AreOfSize n samples)
     (base : List ℕ) (base_size : length base ≡ 65536) where
   abbrev form : TurnForm
   form = turn_form flags f samples g
@@ -95,7 +97,8 @@ module _ (steps : StepLaws) (laws : TakingLaws) (flags : ℕ) (f : Firmware) (sa
   sized w le = (let a = mailed_apart laws.writing f.layout n samples box size is_free w base le in a.size ∙ base_size)
 
   -- POSTED is 1 where a sample is in the mailbox
-  posted_by : (b : Bool) (w : ℕ) → (w == 0) ≡ b → 1 ≤ w → length (set (put base f.layout.samples (bytes_of samples w)) f.layout.ready 1) ≡ 65536
+  posted_by : (b : Bool) (w : ℕ) → (w == 0) ≡ b → 1 ≤ w
+      → length (set (put base f.layout.samples (bytes_of samples w)) f.layout.ready 1) ≡ 65536
       → get_or (mailed f.layout samples w base) f.layout.ready 0 ≡ 1
   posted_by true w e some le = absurd (grind (arith, nat_tests))
   posted_by false w e some le =
@@ -107,16 +110,19 @@ module _ (steps : StepLaws) (laws : TakingLaws) (flags : ℕ) (f : Firmware) (sa
   pub posted_is : (w : ℕ) → 1 ≤ w → w ≤ length samples → get_or (mailed f.layout samples w base) f.layout.ready 0 ≡ 1
   posted_is w some le =
       let e : (w == 0) ≡ false = grind (arith, nat_tests) in
-      let s : length (set (put base f.layout.samples (bytes_of samples w)) f.layout.ready 1) ≡ 65536 = rw e at (sized w le) in
+      let s : length (set (put base f.layout.samples (bytes_of samples w)) f.layout.ready 1) ≡ 65536 =
+      rw e at (sized w le) in
       posted_by (w == 0) w refl some s
 
   -- the code looks: only POSTED is read of the mailbox
   look_hidden : ℕ → ℕ → Bool
   look_hidden sp q = wide (is_hidden is_free sp) n q && not (q == 0x1028)
 
-  pub looks_on : (y t v : State) (w k : ℕ) → IsHere y → IsLook f.layout image flags y t → w ≤ length samples → k ≤ length samples
+  pub looks_on : (y t v : State) (w k : ℕ) → IsHere y → IsLook f.layout image flags y t → w ≤ length samples
+      → k ≤ length samples
       → y.mem ≡ mailed f.layout samples k base
-      → get_or (mailed f.layout samples w base) f.layout.ready 0 ≡ get_or (mailed f.layout samples k base) f.layout.ready 0
+      → get_or (mailed f.layout samples w base) f.layout.ready 0 ≡ get_or
+      (mailed f.layout samples k base) f.layout.ready 0
       → Stands y w v → next_of flags v ≡ plainly (record t { mem = v.mem })
   unfolding look_hidden
   looks_on y t v w k at look lw lk my same l =
@@ -126,23 +132,31 @@ module _ (steps : StepLaws) (laws : TakingLaws) (flags : ℕ) (f : Firmware) (sa
       let ready = box.ready in
       let r = at.ready in
       let step = look.step in
-      let code = shown_weaker (is_hidden is_postable sp) hidden (six_from y.regs.pc) (λ q h. ap (λ (b : Bool). b && not (q == 0x1028)) (wide_less n sp q few h)) at.code in
+      let code = shown_weaker (is_hidden is_postable sp) hidden (six_from y.regs.pc)
+      (λ q h. ap (λ (b : Bool). b && not (q == 0x1028)) (wide_less n sp q few h)) at.code in
       let here : (f.layout.ready == 0x1028) ≡ true = grind (arith, nat_tests) in
-      let read : hidden f.layout.ready ≡ false = ap (λ (b : Bool). wide (is_hidden is_free sp) n f.layout.ready && not b) here ∙ not_true (wide (is_hidden is_free sp) n f.layout.ready) in
+      let read : hidden f.layout.ready ≡ false =
+      ap (λ (b : Bool). wide (is_hidden is_free sp) n f.layout.ready && not b) here
+      ∙ not_true (wide (is_hidden is_free sp) n f.layout.ready) in
       let aw = mailed_apart laws.writing f.layout n samples box size (is_hidden is_free sp) w base lw in
       let ak = mailed_apart laws.writing f.layout n samples box size (is_hidden is_free sp) k base lk in
       let agree : Agree hidden v.mem y.mem = record {
         size = l.mem.size ∙ sized w lw ∙ sym (sized k lk) ∙ ap (λ (m : List ℕ). length m) (sym my);
         bytes = λ q h. (by q (q == 0x1028) refl h ∙ ap (λ (m : List ℕ). get_or m q 0) (sym my));
       } in
-      quiet_plain steps flags hidden (LdaaExtended f.layout.ready) y t v r.temps step.step refl code (read, tt) l.regs l.temps agree
+      quiet_plain steps flags hidden (LdaaExtended f.layout.ready) y t v r.temps step.step refl code
+      (read, tt) l.regs l.temps agree
     where
-      by : (q : ℕ) (b : Bool) → (q == 0x1028) ≡ b → (wide (is_hidden is_free y.regs.sp) n q && not (q == 0x1028)) ≡ false
+      by : (q : ℕ) (b : Bool) → (q == 0x1028) ≡ b
+          → (wide (is_hidden is_free y.regs.sp) n q && not (q == 0x1028)) ≡ false
           → get_or v.mem q 0 ≡ get_or (mailed f.layout samples k base) q 0
       by q true e h =
-          let there : q ≡ f.layout.ready = (let ready = box.ready in let z : q ≡ 0x1028 = grind (arith, nat_tests) in omega arith) in
-          let free : is_hidden is_free y.regs.sp q ≡ false = (let z : q ≡ 0x1028 = grind (arith, nat_tests) in ready_shown y.regs.sp q z) in
-          l.mem.bytes q free ∙ ap (λ (p : ℕ). get_or (mailed f.layout samples w base) p 0) there ∙ same ∙ ap (λ (p : ℕ). get_or (mailed f.layout samples k base) p 0) (sym there)
+          let there : q ≡ f.layout.ready =
+          (let ready = box.ready in let z : q ≡ 0x1028 = grind (arith, nat_tests) in omega arith) in
+          let free : is_hidden is_free y.regs.sp q ≡ false =
+          (let z : q ≡ 0x1028 = grind (arith, nat_tests) in ready_shown y.regs.sp q z) in
+          l.mem.bytes q free ∙ ap (λ (p : ℕ). get_or (mailed f.layout samples w base) p 0) there ∙ same
+          ∙ ap (λ (p : ℕ). get_or (mailed f.layout samples k base) p 0) (sym there)
         where
           ready_shown : (sp q : ℕ) → q ≡ 0x1028 → is_hidden is_free sp q ≡ false
           ready_shown sp q z =
@@ -150,7 +164,8 @@ module _ (steps : StepLaws) (laws : TakingLaws) (flags : ℕ) (f : Firmware) (sa
               let b : (nat_le 0x1FE0 q && nat_lt q sp) ≡ false = grind (arith, nat_tests) in
               rw (a, b) refl
       by q false e h =
-          let shown : wide (is_hidden is_free y.regs.sp) n q ≡ false = only (wide (is_hidden is_free y.regs.sp) n q) (q == 0x1028) e h in
+          let shown : wide (is_hidden is_free y.regs.sp) n q ≡ false =
+          only (wide (is_hidden is_free y.regs.sp) n q) (q == 0x1028) e h in
           let p = or_parts (is_hidden is_free y.regs.sp q) (is_boxed n q) shown in
           let aw = mailed_apart laws.writing f.layout n samples box size (is_hidden is_free y.regs.sp) w base lw in
           let ak = mailed_apart laws.writing f.layout n samples box size (is_hidden is_free y.regs.sp) k base lk in
@@ -162,7 +177,8 @@ module _ (steps : StepLaws) (laws : TakingLaws) (flags : ℕ) (f : Firmware) (sa
           only false c e h = refl
 
   -- it chooses: nothing is read of memory
-  pub chooses_on : (y t v : State) (w k : ℕ) → IsHere y → IsChoice f.layout image flags y t → w ≤ length samples → k ≤ length samples
+  pub chooses_on : (y t v : State) (w k : ℕ) → IsHere y → IsChoice f.layout image flags y t → w ≤ length samples
+      → k ≤ length samples
       → y.mem ≡ mailed f.layout samples k base → Stands y w v → next_of flags v ≡ plainly (record t { mem = v.mem })
   chooses_on y t v w k here choice lw lk my l =
       let sp = y.regs.sp in
@@ -170,7 +186,8 @@ module _ (steps : StepLaws) (laws : TakingLaws) (flags : ℕ) (f : Firmware) (sa
       let few = box.few in
       let r = here.ready in
       let step = choice.step in
-      let code = shown_weaker (is_hidden is_postable sp) hidden (six_from y.regs.pc) (λ q h. wide_less n sp q few h) here.code in
+      let code = shown_weaker (is_hidden is_postable sp) hidden (six_from y.regs.pc)
+      (λ q h. wide_less n sp q few h) here.code in
       let aw = mailed_apart laws.writing f.layout n samples box size (is_hidden is_free sp) w base lw in
       let ak = mailed_apart laws.writing f.layout n samples box size (is_hidden is_free sp) k base lk in
       let agree : Agree hidden v.mem y.mem = record {
@@ -187,15 +204,26 @@ module _ (steps : StepLaws) (laws : TakingLaws) (flags : ℕ) (f : Firmware) (sa
     pub frames : (takes form m qs v).frames ≡ map (λ p. (m, plain_frame t.regs)) (up_to m qs)
     pub stands : Stands t (waiting w (up_to m qs)) (takes form m qs v).state
 
-  pub taken_at : (t : State) (w m : ℕ) (qs : List Post) (v : State) → IsReady t → w ≤ length samples → AllGood (IsGoodPost (length samples)) qs → Stands t w v → Taken t w m qs v
+  pub taken_at : (t : State) (w m : ℕ) (qs : List Post) (v : State) → IsReady t → w ≤ length samples
+      → AllGood (IsGoodPost (length samples)) qs → Stands t w v → Taken t w m qs v
   taken_at t w m qs v r lw good l =
-      let rt : IsReady (record t { mem = mailed f.layout samples w base }) = record { may = r.may; temps = r.temps; size = sized w lw; fits = r.fits; low = r.low; high = r.high } in
-      let k = took_all laws flags f samples n g box size m qs v (ready_as is_free v (record t { mem = mailed f.layout samples w base }) l rt) good in
+      let rt : IsReady (record t { mem = mailed f.layout samples w base }) =
+      record { may = r.may; temps = r.temps; size = sized w lw; fits = r.fits; low = r.low; high = r.high } in
+      let k = took_all laws flags f samples n g box size m qs v
+      (ready_as is_free v (record t { mem = mailed f.layout samples w base }) l rt) good in
       let w2 = waiting 0 (up_to m qs) in
       let le = waits_within (length samples) m 0 qs (omega arith) good in
-      let over : Same is_free (posted f.layout samples w2 v) (record t { mem = mailed f.layout samples (last_of w w2) base }) =
-      record { regs = l.regs; temps = l.temps; mem = mailed_over laws.writing f.layout n samples box size (is_hidden is_free t.regs.sp) w w2 v.mem base le lw l.mem } in
-      let both = same_with is_free (takes form m qs v).state (posted f.layout samples w2 v) (record t { mem = mailed f.layout samples (last_of w w2) base }) k.same over in
+      let over : Same is_free (posted f.layout samples w2 v)
+      (record t { mem = mailed f.layout samples (last_of w w2) base }) =
+      record {
+        regs = l.regs;
+        temps = l.temps;
+        mem =
+            mailed_over laws.writing f.layout n samples box size (is_hidden is_free t.regs.sp) w w2 v.mem base le
+            lw l.mem;
+      } in
+      let both = same_with is_free (takes form m qs v).state (posted f.layout samples w2 v)
+      (record t { mem = mailed f.layout samples (last_of w w2) base }) k.same over in
       record {
         left = k.left;
         told = k.told;
@@ -209,11 +237,14 @@ module _ (steps : StepLaws) (laws : TakingLaws) (flags : ℕ) (f : Firmware) (sa
     pub stands : Stands t (waiting w (up_to (g + 1) qs)) next
     pub on : (k i c res : ℕ) (ts l : List Post) (fs : List (ℕ × FrameSeen)) (z : State)
         → TurnEnds (run_from form k (suc (suc g)) false (behind (g + 1) qs) next) i c res fs ts l z
-        → TurnEnds (run_from form (suc (suc k)) g false qs v) (suc (suc i)) (suc (suc c)) res (frames ++ fs) (up_to (g + 1) qs ++ ts) l z
+        → TurnEnds (run_from form (suc (suc k)) g false qs v) (suc (suc i)) (suc (suc c)) res (frames ++ fs)
+        (up_to (g + 1) qs ++ ts) l z
 
-  pub two_steps : (y t u v : State) (w k : ℕ) (qs : List Post) → IsHere y → IsLook f.layout image flags y t → IsChoice f.layout image flags t u → w ≤ length samples → k ≤ length samples
+  pub two_steps : (y t u v : State) (w k : ℕ) (qs : List Post) → IsHere y → IsLook f.layout image flags y t
+      → IsChoice f.layout image flags t u → w ≤ length samples → k ≤ length samples
       → y.mem ≡ mailed f.layout samples k base
-      → get_or (mailed f.layout samples w base) f.layout.ready 0 ≡ get_or (mailed f.layout samples k base) f.layout.ready 0
+      → get_or (mailed f.layout samples w base) f.layout.ready 0 ≡ get_or
+      (mailed f.layout samples k base) f.layout.ready 0
       → AllGood (IsGoodPost (length samples)) qs → up_to g qs ≡ []
       → Stands y w v → Passed u w qs (map (λ p. (g + 1, plain_frame t.regs)) (up_to (g + 1) qs)) v
   two_steps y t u v w k qs at look choice lw lk my same good none l =
@@ -224,7 +255,13 @@ module _ (steps : StepLaws) (laws : TakingLaws) (flags : ℕ) (f : Firmware) (sa
       let rest : behind g qs ≡ qs = subst (λ (xs : List Post). xs ++ behind g qs ≡ qs) none (split g qs) in
       let next0 = looks_on y t v0 w k at look lw lk my same l0 in
       let v1 : State = record t { mem = v0.mem } in
-      let l1 : Stands t w v1 = record { regs = refl; temps = refl; mem = subst (λ (x : ℕ). Agree (is_hidden is_free x) v0.mem (mailed f.layout samples w base)) sp_same l0.mem } in
+      let l1 : Stands t w v1 =
+      record {
+        regs = refl;
+        temps = refl;
+        mem =
+            subst (λ (x : ℕ). Agree (is_hidden is_free x) v0.mem (mailed f.layout samples w base)) sp_same l0.mem;
+      } in
       let m1 : suc g ≡ g + 1 = omega arith in
       let there = here_at image (f.layout.wait + 3) t look.at in
       let b = taken_at t w (g + 1) qs v1 there.ready lw good l1 in
@@ -236,17 +273,34 @@ module _ (steps : StepLaws) (laws : TakingLaws) (flags : ℕ) (f : Firmware) (sa
       let v3 : State = record u { mem = v2.mem } in
       record {
         next = v3;
-        stands = record { regs = refl; temps = refl; mem = subst (λ (x : ℕ). Agree (is_hidden is_free x) v2.mem (mailed f.layout samples w2 base)) sp_later b.stands.mem };
+        stands = record {
+          regs = refl;
+          temps = refl;
+          mem =
+              subst (λ (x : ℕ). Agree (is_hidden is_free x) v2.mem (mailed f.layout samples w2 base)) sp_later
+              b.stands.mem;
+        };
         on = λ j i c res ts l2 fs z r.
             (let e1 = pass form j (suc g) i c res qs ts l2 fs v1 v3 z (not_over flags f samples g (suc g) v1 away1)
             (subst (λ (x : ℕ). next_of flags (takes form x qs v1).state ≡ plainly v3) (sym m1) next1)
-            (subst (λ (xs : List Post). TurnEnds (run_from form j (suc (suc g)) false xs v3) i c res fs ts l2 z) (sym (ap (λ (x : ℕ). (takes form x qs v1).left) m1 ∙ b.left)) r) in
-            let e2 = pass form (suc j) g (suc i) (suc c) res qs (asked (takes form (suc g) qs v1).told ++ ts) l2 ((takes form (suc g) qs v1).frames ++ fs) v v1 z (first_on v)
-            next0 (subst (λ (xs : List Post). TurnEnds (run_from form (suc j) (suc g) false xs v1) (suc i) (suc c) res ((takes form (suc g) qs v1).frames ++ fs) (asked (takes form (suc g) qs v1).told ++ ts) l2 z) (sym (a.left ∙ rest)) e1) in
-            subst (λ (xs : List Post). TurnEnds (run_from form (suc (suc j)) g false qs v) (suc (suc i)) (suc (suc c)) res (map (λ p. (g + 1, plain_frame t.regs)) (up_to (g + 1) qs) ++ fs) xs l2 z)
-            (ap₂ (λ (xs ys : List Post). xs ++ (ys ++ ts)) (a.told ∙ none) (ap (λ (x : ℕ). asked (takes form x qs v1).told) m1 ∙ b.told))
-            (subst (λ (xs : List (ℕ × FrameSeen)). TurnEnds (run_from form (suc (suc j)) g false qs v) (suc (suc i)) (suc (suc c)) res xs (asked (takes form g qs v).told ++ (asked (takes form (suc g) qs v1).told ++ ts)) l2 z)
-            (ap₂ (λ (xs ys : List (ℕ × FrameSeen)). xs ++ (ys ++ fs)) (a.frames ∙ ap (map (λ p. (g, plain_frame y.regs))) none) (ap (λ (x : ℕ). (takes form x qs v1).frames) m1 ∙ b.frames)) e2));
+            (subst (λ (xs : List Post). TurnEnds (run_from form j (suc (suc g)) false xs v3) i c res fs ts l2 z)
+            (sym (ap (λ (x : ℕ). (takes form x qs v1).left) m1 ∙ b.left)) r) in
+            let e2 = pass form (suc j) g (suc i) (suc c) res qs (asked (takes form (suc g) qs v1).told ++ ts) l2
+            ((takes form (suc g) qs v1).frames ++ fs) v v1 z (first_on v)
+            next0
+            (subst (λ (xs : List Post). TurnEnds (run_from form (suc j) (suc g) false xs v1) (suc i) (suc c) res
+            ((takes form (suc g) qs v1).frames ++ fs) (asked (takes form (suc g) qs v1).told ++ ts) l2 z)
+            (sym (a.left ∙ rest)) e1) in
+            subst (λ (xs : List Post). TurnEnds (run_from form (suc (suc j)) g false qs v) (suc (suc i))
+            (suc (suc c)) res (map (λ p. (g + 1, plain_frame t.regs)) (up_to (g + 1) qs) ++ fs) xs l2 z)
+            (ap₂ (λ (xs ys : List Post). xs ++ (ys ++ ts)) (a.told ∙ none)
+            (ap (λ (x : ℕ). asked (takes form x qs v1).told) m1 ∙ b.told))
+            (subst (λ (xs : List (ℕ × FrameSeen)). TurnEnds (run_from form (suc (suc j)) g false qs v) (suc (suc i))
+            (suc (suc c)) res xs
+            (asked (takes form g qs v).told ++ (asked (takes form (suc g) qs v1).told ++ ts)) l2 z)
+            (ap₂ (λ (xs ys : List (ℕ × FrameSeen)). xs ++ (ys ++ fs))
+            (a.frames ∙ ap (map (λ p. (g, plain_frame y.regs))) none)
+            (ap (λ (x : ℕ). (takes form x qs v1).frames) m1 ∙ b.frames)) e2));
       }
     where
       sp_same : y.regs.sp ≡ t.regs.sp

@@ -1,5 +1,6 @@
 -- Steps one after another on the way to where the code waits, and plain instructions as such.
-use Rattle.std.proofs.Common.{◌≡◌, ◌≢◌, ℕ, ◌+◌, not, Result, Ok, List, [], ◌∷◌, ◌++◌, length, refl, sym, ap, ◌∙◌, subst, arith}
+use Rattle.std.proofs.Common.{◌≡◌, ◌≢◌, ℕ, ◌+◌, not, Result, Ok, List, [], ◌∷◌, ◌++◌, length, refl, sym, ap, ◌∙◌, subst}
+use Rattle.std.proofs.Common.{arith}
 use Rattle.cpu12_parts.specs.Executions.{Execution, all_steps}
 use Rattle.cpu12_parts.specs.State.{State}
 use Rattle.cpu12_emul.specs.declared.ends.Stepped.TheVariants.{Plain}
@@ -19,7 +20,8 @@ pub record IsOnWay (l : Layout) (flags : ℕ) (s : State) : Type 0 where
   pub goes : next_of flags s ≡ Ok next
   pub away : s.regs.pc ≢ l.wait
 
-pub one_step : (P : State → Type 0) (flags : ℕ) (s t : State) → P s → next_of flags s ≡ Ok (record { state = t; kind = Plain })
+pub one_step : (P : State → Type 0) (flags : ℕ) (s t : State) → P s
+    → next_of flags s ≡ Ok (record { state = t; kind = Plain })
     → AreSteps P flags (0 ∷ []) s t
 one_step P flags s t p e = record {
   goes = ap (state_by s) e;
@@ -35,34 +37,41 @@ length_append : (ds es : List ℕ) → length (ds ++ es) ≡ length ds + length 
 length_append [] es = omega arith
 length_append (d ∷ ds) es = let r = length_append ds es in omega (arith, r)
 
-pub steps_on : (P : State → Type 0) (flags : ℕ) (ds es : List ℕ) (s t u : State) → AreSteps P flags ds s t → AreSteps P flags es t u
+pub steps_on : (P : State → Type 0) (flags : ℕ) (ds es : List ℕ) (s t u : State) → AreSteps P flags ds s t
+    → AreSteps P flags es t u
     → AreSteps P flags (ds ++ es) s u
 steps_on P flags ds es s t u a b =
     let m = all_steps ds in
     let n = all_steps es in
     let e : all_steps (ds ++ es) ≡ m + n = steps_append ds es in
     record {
-      goes = ap (λ (k : ℕ). uninterrupted flags k s) e ∙ uninterrupted_add flags m n s ∙ ap (uninterrupted flags n) a.goes ∙ b.goes;
+      goes = ap (λ (k : ℕ). uninterrupted flags k s) e ∙ uninterrupted_add flags m n s
+          ∙ ap (uninterrupted flags n) a.goes ∙ b.goes;
       counts = ap (λ (k : ℕ). counted flags k s) e
-          ∙ (let c = counted_add flags m n s in let c2 = ap (counted flags n) a.goes in omega (arith, c, c2, a.counts, b.counts, length_append ds es));
+          ∙ (let c = counted_add flags m n s in let c2 = ap (counted flags n) a.goes in
+          omega (arith, c, c2, a.counts, b.counts, length_append ds es));
       each = subst (λ (k : ℕ). Before P flags k s) (sym e)
           (before_add P flags m n s a.each (subst (λ (v : State). Before P flags n v) (sym a.goes) b.each));
     }
 
 -- the masked instructions of a copy
-pub masked_steps : PlainIsOneStep → (l : Layout) (image : List ℕ) (flags : ℕ) (ds : List ℕ) (s t : State) → Execution (IsMaskedStep l image flags) ds s t
+pub masked_steps : PlainIsOneStep → (l : Layout) (image : List ℕ) (flags : ℕ) (ds : List ℕ) (s t : State)
+    → Execution (IsMaskedStep l image flags) ds s t
     → AreSteps (IsOnWay l flags) flags ds s t
 masked_steps law l image flags [] s t e = record { goes = e; counts = refl; each = tt }
 masked_steps law l image flags (d ∷ ds) s t e =
     let u = e.0 in
     let m : IsMaskedStep l image flags d s u = e.1.0 in
     let steady = m.steady in
-    let next : next_of flags s ≡ Ok (record { state = u; kind = Plain }) = law flags m.instruction s u steady.temps (let shown = m.shown in shown.step) in
-    let first = one_step (IsOnWay l flags) flags s u (record { next = record { state = u; kind = Plain }; goes = next; away = m.away }) next in
+    let next : next_of flags s ≡ Ok (record { state = u; kind = Plain }) =
+    law flags m.instruction s u steady.temps (let shown = m.shown in shown.step) in
+    let first = one_step (IsOnWay l flags) flags s u
+    (record { next = record { state = u; kind = Plain }; goes = next; away = m.away }) next in
     subst (λ (k : ℕ). AreSteps (IsOnWay l flags) flags (k ∷ ds) s t) (sym m.single)
     (steps_on (IsOnWay l flags) flags (0 ∷ []) ds s u t first (masked_steps law l image flags ds u t e.1.1))
 
-pub masked_count : (l : Layout) (image : List ℕ) (flags : ℕ) (ds : List ℕ) (s t : State) → Execution (IsMaskedStep l image flags) ds s t
+pub masked_count : (l : Layout) (image : List ℕ) (flags : ℕ) (ds : List ℕ) (s t : State)
+    → Execution (IsMaskedStep l image flags) ds s t
     → all_steps ds ≡ length ds
 masked_count l image flags [] s t e = refl
 masked_count l image flags (d ∷ ds) s t e =

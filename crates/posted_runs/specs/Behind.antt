@@ -29,7 +29,8 @@ abbrev pub not_mail : ℕ → Bool
 not_mail at = not (is_mail at)
 
 -- The mailbox holds what stood in it behind the copy, but for the sample that was posted last.
-pub record HoldsMail (l : Layout) (samples : List (List ℕ)) (copied : List ℕ) (done : List (Post × Unit {0})) (s : State)
+pub record HoldsMail (l : Layout) (samples : List (List ℕ)) (copied : List ℕ) (done : List (Post × Unit {0}))
+    (s : State)
     : Type 0 where
   pub within : posted_by done ≤ length samples
   pub mail : Agree not_mail s.mem (mailed l samples (posted_by done) copied)

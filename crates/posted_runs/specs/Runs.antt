@@ -90,7 +90,8 @@ abbrev pub then_turns : Firmware → List (List ℕ) → ℕ → ℕ → List (�
     → (ℕ → ℕ → List Post → State → RunSeen) → RunSeen
 then_turns f samples g v frames r rest =
     if r.arrived
-    then before_turns (answers_by f samples g v (asked r.told) (g + r.steps) r.instrs r.state) (frames ++ r.frames) r.resumed
+    then before_turns (answers_by f samples g v (asked r.told) (g + r.steps) r.instrs r.state)
+    (frames ++ r.frames) r.resumed
     (rest (g + r.steps) (waits_by g v (asked r.told)) r.left r.state)
     else no_turn false (frames ++ r.frames) r.resumed
 

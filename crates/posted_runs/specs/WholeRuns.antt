@@ -14,7 +14,8 @@ use Rattle.posted_runs.specs.Answering.{run_of_turns}
 use Rattle.posted_runs.specs.UninterruptedTurns.{AllTurnRuns}
 use Rattle.posted_runs.specs.Postings.{posted, IsBox, AreOfSize}
 
--- From boundary g on, where sample w waits in the mailbox of a state that is else s, the run under good posts is that of
+-- From boundary g on, where sample w waits in the mailbox of a state that is else s, the run under good posts is that
+-- of
 -- its turns, each from where the one before ended without interrupts. It has room for so many turns, and up to boundary
 -- `last`.
 abbrev pub RunsAreTurns : Type 0

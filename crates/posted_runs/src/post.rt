@@ -79,9 +79,11 @@ fn take_next<M: Mem>(
     requires room { vec_len t.old.frames < vec_capacity t.old.frames }
     requires writes { 17 ≤ vec_capacity t.old.writes }
     ensures takes { with_frames (frames_seen t.old.frames.items)
-        (takes (form_of m.old.flags firmware.now samples.now t.old) t.old.moment (drop t.old.next posts.now) m.old.state)
+        (takes (form_of m.old.flags firmware.now samples.now t.old) t.old.moment (drop t.old.next posts.now)
+        m.old.state)
         ≡ with_frames (frames_seen t.new.frames.items)
-        (takes (form_of m.old.flags firmware.now samples.now t.old) t.old.moment (drop t.new.next posts.now) m.new.state) }
+        (takes (form_of m.old.flags firmware.now samples.now t.old) t.old.moment (drop t.new.next posts.now)
+        m.new.state) }
     ensures next { t.new.next ≡ t.old.next + 1 }
     ensures few { t.new.next ≤ length posts.now }
     ensures len { vec_len t.new.frames ≡ vec_len t.old.frames + 1 }
@@ -110,7 +112,8 @@ pub(crate) fn take_due<M: Mem>(
     requires room { vec_len t.old.frames + (length posts.now - t.old.next) ≤ vec_capacity t.old.frames }
     requires writes { 17 ≤ vec_capacity t.old.writes }
     ensures takes { with_frames (frames_seen t.old.frames.items)
-        (takes (form_of m.old.flags firmware.now samples.now t.old) t.old.moment (drop t.old.next posts.now) m.old.state)
+        (takes (form_of m.old.flags firmware.now samples.now t.old) t.old.moment (drop t.old.next posts.now)
+        m.old.state)
         ≡ record { state = m.new.state; frames = frames_seen t.new.frames.items; left = drop t.new.next posts.now } }
     ensures next { (t.old.next ≤ t.new.next) × (t.new.next ≤ length posts.now) }
     ensures room { vec_len t.new.frames + (length posts.now - t.new.next) ≤ vec_capacity t.new.frames }

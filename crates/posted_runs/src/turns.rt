@@ -1,12 +1,14 @@
 // Turn after turn.
-ghost use Rattle.std.specs.Prelude.{ℕ, ◌≡◌, ◌≤◌, ◌<◌, ◌+◌, ◌-◌, ◌*◌, ◌^◌, ◌==◌, ◌&&◌, ◌++◌, [], ◌∷◌, true, false, min, if◌then◌else◌, suc, All, length, map, drop, slice_index, vec_len, vec_capacity};
+ghost use Rattle.std.specs.Prelude.{ℕ, ◌≡◌, ◌≤◌, ◌<◌, ◌+◌, ◌-◌, ◌*◌, ◌^◌, ◌==◌, ◌&&◌, ◌++◌, [], ◌∷◌, true, false, min};
+ghost use Rattle.std.specs.Prelude.{if◌then◌else◌, suc, All, length, map, drop, slice_index, vec_len, vec_capacity};
 ghost use Rattle.run_law.specs.Forms.{takes, is_empty};
 ghost use Rattle.run_law.specs.Following.{asked};
 ghost use Rattle.interrupt_plan.specs.Posts.{IsGoodPost, AreGoodPosts};
 ghost use Rattle.codegen.specs.Uninterrupted.{values_in};
 ghost use Rattle.posted_runs.specs.Turns.{up_to, behind, waiting};
 ghost use Rattle.fz_run.specs.Rows.{bytes_of};
-ghost use Rattle.posted_runs.specs.Runs.{turn_form, answers_by, waits_by, input_bytes, answer_seen, frames_seen, turns_from, most_turns};
+ghost use Rattle.posted_runs.specs.Runs.{turn_form, answers_by, waits_by, input_bytes, answer_seen, frames_seen};
+ghost use Rattle.posted_runs.specs.Runs.{turns_from, most_turns};
 ghost use Rattle.posted_runs.specs.Tallies.{with_frames, counted_at, with_rest};
 
 use crate::outputs::{copy_of, values_in};
@@ -134,8 +136,9 @@ fn look<M: Mem>(
         (takes (turn_form m.old.flags firmware.now (map input_bytes samples.now) t.old.moment) t.old.moment
         (drop t.old.next posts.now) m.old.state)
         ≡ record { state = m.new.state; frames = frames_seen t.new.frames.items; left = drop t.new.next posts.now } }
-    ensures waits { result ≡ waiting waits (asked (takes (turn_form m.old.flags firmware.now (map input_bytes samples.now)
-        t.old.moment) t.old.moment (drop t.old.next posts.now) m.old.state).told) }
+    ensures waits { result ≡ waiting waits
+        (asked (takes (turn_form m.old.flags firmware.now (map input_bytes samples.now) t.old.moment) t.old.moment
+        (drop t.old.next posts.now) m.old.state).told) }
     ensures few { (result ≤ length samples.now) × (min result 1 + t.old.next ≤ min waits 1 + t.new.next) }
     ensures next { (t.old.next ≤ t.new.next) × (t.new.next ≤ length posts.now) }
     ensures room { vec_len t.new.frames + (length posts.now - t.new.next) ≤ vec_capacity t.new.frames }
@@ -184,7 +187,8 @@ fn next_turn<M: Mem>(
     requires resumed { t.old.resumed ≤ t.old.moment }
     requires most { (t.old.moment ≤ last) × (last ≤ 4000000000) }
     requires waits { waits.old ≤ length samples.now }
-    requires answers { (vec_len answers.old + min waits.old 1 ≤ t.old.next) × (length posts.now ≤ vec_capacity answers.old) }
+    requires answers { (vec_len answers.old + min waits.old 1 ≤ t.old.next)
+        × (length posts.now ≤ vec_capacity answers.old) }
     ensures goes { result ≡ true → (n : ℕ)
         → with_rest (map answer_seen answers.old.items) t.old
         (turns_from m.old.flags firmware.now (map input_bytes samples.now) last (suc n) t.old.moment waits.old
@@ -203,7 +207,8 @@ fn next_turn<M: Mem>(
     ensures resumed { result ≡ true → t.new.resumed ≤ t.new.moment }
     ensures most { t.new.moment ≤ last }
     ensures waits { waits.new ≤ length samples.now }
-    ensures answers { (vec_len answers.new + min waits.new 1 ≤ t.new.next) × (length posts.now ≤ vec_capacity answers.new) }
+    ensures answers { (vec_len answers.new + min waits.new 1 ≤ t.new.next)
+        × (length posts.now ≤ vec_capacity answers.new) }
     ensures flags { m.new.flags ≡ m.old.flags }
 {
     let seen = look(m, firmware, samples, posts, t, *waits);

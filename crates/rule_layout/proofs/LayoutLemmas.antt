@@ -1,5 +1,6 @@
 -- The layout of a valid block.
-use Rattle.std.proofs.Common.{◌≡◌, ℕ, ◌+◌, ◌*◌, ◌<◌, ◌≤◌, Bool, List, [], ◌∷◌, ◌++◌, length, map, filter, get_or, refl, sym, ap, ap₂, ◌∙◌, arith}
+use Rattle.std.proofs.Common.{◌≡◌, ℕ, ◌+◌, ◌*◌, ◌<◌, ◌≤◌, Bool, List, [], ◌∷◌, ◌++◌, length, map, filter, get_or, refl}
+use Rattle.std.proofs.Common.{sym, ap, ap₂, ◌∙◌, arith}
 use Rattle.std.specs.Prelude.{All, flat_map, sum_by, IfSome, Ok, nat_le, true, false}
 use Rattle.std.proofs.lemmas.List.{length-map, length-append}
 use Rattle.std.proofs.lemmas.List.FromFn.{length-range_with_len}
@@ -17,12 +18,16 @@ use Rattle.rule_layout.specs.declared.flat.Flat.{Flat}
 use Rattle.rule_layout.specs.declared.sizes.Size.{Size}
 use Rattle.rule_layout.specs.Spreading.{Literal, total_length}
 use Rattle.rule_layout.specs.Lists.{marked}
-use Rattle.rule_layout.specs.Slots.{terms_from, term_count, singleton_count, input_terms, output_terms, term_slot, complement_slot, out_slot, is_complemented, slots_of, literal_number, conclusion_number}
+use Rattle.rule_layout.specs.Slots.{terms_from, term_count, singleton_count, input_terms, output_terms, term_slot}
+use Rattle.rule_layout.specs.Slots.{complement_slot, out_slot, is_complemented, slots_of, literal_number}
+use Rattle.rule_layout.specs.Slots.{conclusion_number}
 use Rattle.rule_layout.specs.Tables.{IsInTable, IsNumbering, table_number, table_literal}
 use Rattle.rule_layout.specs.Sizes.{IsCountable, rule_entries, entry_count, IsSizeOfRules}
-use Rattle.rule_layout.specs.Layouts.{rule_spread, conjunction_of, rule_conjunctions, conjunctions_of, IsBelow, element_width, form_by, form_of, rule_weights, weights_of, flat_of, list_size}
+use Rattle.rule_layout.specs.Layouts.{rule_spread, conjunction_of, rule_conjunctions, conjunctions_of, IsBelow}
+use Rattle.rule_layout.specs.Layouts.{element_width, form_by, form_of, rule_weights, weights_of, flat_of, list_size}
 use Rattle.rule_layout.specs.Steps.{table_conjunction, table_conjunctions, IsSpreadable}
-use Rattle.rule_layout.proofs.BlockLemmas.{input_terms_in_grid, output_terms_in_table, few_terms, few_singletons, rule_fits}
+use Rattle.rule_layout.proofs.BlockLemmas.{input_terms_in_grid, output_terms_in_table, few_terms, few_singletons}
+use Rattle.rule_layout.proofs.BlockLemmas.{rule_fits}
 use Rattle.rule_layout.proofs.ListLemmas.{mark, marked-cons}
 use Rattle.rule_layout.proofs.RuleLemmas.{entry_count_le}
 use Rattle.std.proofs.Math.Nat.{mul-le-mul_right}
@@ -34,10 +39,12 @@ unfolding slots_of
 slots_in_table b v =
     let test : ℕ × ℕ → Bool = λ p. is_complemented b.rules p.0 p.1 in
     let terms = input_terms_in_grid b v in
-    All-append IsInTable (map term_slot (input_terms b)) (map complement_slot (filter test (input_terms b)) ++ map out_slot (output_terms b))
+    All-append IsInTable (map term_slot (input_terms b))
+    (map complement_slot (filter test (input_terms b)) ++ map out_slot (output_terms b))
     (All-map IsInTable term_slot (input_terms b) terms)
     (All-append IsInTable (map complement_slot (filter test (input_terms b))) (map out_slot (output_terms b))
-    (All-map IsInTable complement_slot (filter test (input_terms b)) (All-filter test (λ p. IsInTable (complement_slot p)) (input_terms b) terms))
+    (All-map IsInTable complement_slot (filter test (input_terms b))
+    (All-filter test (λ p. IsInTable (complement_slot p)) (input_terms b) terms))
     (All-map IsInTable out_slot (output_terms b) (output_terms_in_table b v)))
 
 length-terms_from : (i : ℕ) (ns : List ℕ) → All (λ n. n ≤ 15) ns → length (terms_from i ns) ≤ 15 * length ns
@@ -46,15 +53,25 @@ length-terms_from i (n ∷ ns) h =
     let here = All-head (λ m. m ≤ 15) n ns h in
     let later = length-terms_from (i + 1) ns (All-tail (λ m. m ≤ 15) n ns h) in
     let of_term : ℕ → ℕ × ℕ = λ t. (i, t) in
-    omega (arith, here, later, length-append (map (λ t. (i, t)) (range_with_len 1 n)) (terms_from (i + 1) ns), length-map (range_with_len 1 n) of_term, length-range_with_len 1 n)
+    omega (
+      arith,
+      here,
+      later,
+      length-append (map (λ t. (i, t)) (range_with_len 1 n)) (terms_from (i + 1) ns),
+      length-map (range_with_len 1 n) of_term,
+      length-range_with_len 1 n,
+    )
 
 pub few_slots : (b : Block) → IsValid b → length (slots_of b) ≤ 300
 unfolding slots_of
 few_slots b v =
     let test : ℕ × ℕ → Bool = λ p. is_complemented b.rules p.0 p.1 in
-    let terms = length-terms_from 1 (map term_count b.inputs) (All-map (λ n. n ≤ 15) term_count b.inputs (few_terms b v)) in
-    let outs = length-terms_from 1 (map singleton_count b.outputs) (All-map (λ n. n ≤ 15) singleton_count b.outputs (few_singletons b v)) in
-    let a = length-append (map term_slot (input_terms b)) (map complement_slot (filter test (input_terms b)) ++ map out_slot (output_terms b)) in
+    let terms = length-terms_from 1 (map term_count b.inputs)
+    (All-map (λ n. n ≤ 15) term_count b.inputs (few_terms b v)) in
+    let outs = length-terms_from 1 (map singleton_count b.outputs)
+    (All-map (λ n. n ≤ 15) singleton_count b.outputs (few_singletons b v)) in
+    let a = length-append (map term_slot (input_terms b))
+    (map complement_slot (filter test (input_terms b)) ++ map out_slot (output_terms b)) in
     let c = length-append (map complement_slot (filter test (input_terms b))) (map out_slot (output_terms b)) in
     omega (
       arith,
@@ -85,16 +102,26 @@ length-marked s e (c ∷ cs) =
     let back = length-append c.conclusions (mark s e cs ∷ marked s e cs) in
     omega (arith, whole, front, back, length-marked s e cs, sum_by-cons entries_in c cs)
 
-sum_by-flat_map : {X A : Type 0} (g : A → ℕ) (f : X → List A) (xs : List X) → sum_by g (flat_map f xs) ≡ sum_by (λ x. sum_by g (f x)) xs
+sum_by-flat_map : {X A : Type 0} (g : A → ℕ) (f : X → List A) (xs : List X)
+    → sum_by g (flat_map f xs) ≡ sum_by (λ x. sum_by g (f x)) xs
 sum_by-flat_map g f [] = refl
-sum_by-flat_map g f (x ∷ xs) = omega (arith, sum_by-append g (f x) (flat_map f xs), sum_by-flat_map g f xs, sum_by-cons (λ y. sum_by g (f y)) x xs)
+sum_by-flat_map g f (x ∷ xs) =
+    omega (arith, sum_by-append g (f x) (flat_map f xs), sum_by-flat_map g f xs, sum_by-cons (λ y. sum_by g (f y)) x xs)
 
-entries_in_rule : (ss : List Slot) (r : Rule) (cs : List (List Literal)) → sum_by entries_in (map (conjunction_of ss r) cs) ≡ total_length cs + length cs * (length r.concl + 2)
+entries_in_rule : (ss : List Slot) (r : Rule) (cs : List (List Literal))
+    → sum_by entries_in (map (conjunction_of ss r) cs) ≡ total_length cs + length cs * (length r.concl + 2)
 entries_in_rule ss r [] = omega arith
 entries_in_rule ss r (c ∷ cs) =
     let here = sum_by-cons entries_in (conjunction_of ss r c) (map (conjunction_of ss r) cs) in
     let total = sum_by-cons (λ (w : List Literal). length w) c cs in
-    omega (arith, here, total, entries_in_rule ss r cs, length-map c (literal_number ss), length-map r.concl (conclusion_number ss))
+    omega (
+      arith,
+      here,
+      total,
+      entries_in_rule ss r cs,
+      length-map c (literal_number ss),
+      length-map r.concl (conclusion_number ss),
+    )
 
 sum_by_alike : {X : Type 0} (f g : X → ℕ) (xs : List X) → ((x : X) → f x ≡ g x) → sum_by f xs ≡ sum_by g xs
 sum_by_alike f g [] h = refl
@@ -104,53 +131,82 @@ sum_by_alike f g (x ∷ xs) h = omega (arith, h x, sum_by_alike f g xs h, sum_by
 pub length-list : (b : Block) → length (marked 0xFE 0xFF (conjunctions_of b)) ≡ entry_count b.rules
 unfolding conjunctions_of
 length-list b =
-    length-marked 0xFE 0xFF (flat_map (rule_conjunctions (slots_of b)) b.rules) ∙ (sum_by-flat_map entries_in (rule_conjunctions (slots_of b)) b.rules ∙ sum_by_alike (λ r. sum_by entries_in (rule_conjunctions (slots_of b) r)) rule_entries b.rules (λ r. entries_in_rule (slots_of b) r (rule_spread r)))
+    length-marked 0xFE 0xFF (flat_map (rule_conjunctions (slots_of b)) b.rules)
+    ∙ (sum_by-flat_map entries_in (rule_conjunctions (slots_of b)) b.rules
+    ∙ sum_by_alike (λ r. sum_by entries_in (rule_conjunctions (slots_of b) r)) rule_entries b.rules
+    (λ r. entries_in_rule (slots_of b) r (rule_spread r)))
 
 map_alike : {X Y : Type 0} (f g : X → Y) (xs : List X) → All (λ x. f x ≡ g x) xs → map f xs ≡ map g xs
 map_alike f g [] h = refl
-map_alike f g (x ∷ xs) h = ap₂ (λ y ys. y ∷ ys) (All-head (λ z. f z ≡ g z) x xs h) (map_alike f g xs (All-tail (λ z. f z ≡ g z) x xs h))
+map_alike f g (x ∷ xs) h =
+    ap₂ (λ y ys. y ∷ ys) (All-head (λ z. f z ≡ g z) x xs h) (map_alike f g xs (All-tail (λ z. f z ≡ g z) x xs h))
 
-flat_map_alike : {X A : Type 0} (f g : X → List A) (xs : List X) → All (λ x. f x ≡ g x) xs → flat_map f xs ≡ flat_map g xs
+flat_map_alike : {X A : Type 0} (f g : X → List A) (xs : List X) → All (λ x. f x ≡ g x) xs
+    → flat_map f xs ≡ flat_map g xs
 flat_map_alike f g [] h = refl
-flat_map_alike f g (x ∷ xs) h = ap₂ (λ y ys. y ++ ys) (All-head (λ z. f z ≡ g z) x xs h) (flat_map_alike f g xs (All-tail (λ z. f z ≡ g z) x xs h))
+flat_map_alike f g (x ∷ xs) h =
+    ap₂ (λ y ys. y ++ ys) (All-head (λ z. f z ≡ g z) x xs h) (flat_map_alike f g xs (All-tail (λ z. f z ≡ g z) x xs h))
 
-All-flat_map : {X A : Type 0} (P : A → Type 0) (f : X → List A) (xs : List X) → All (λ x. All P (f x)) xs → All P (flat_map f xs)
+All-flat_map : {X A : Type 0} (P : A → Type 0) (f : X → List A) (xs : List X) → All (λ x. All P (f x)) xs
+    → All P (flat_map f xs)
 All-flat_map P f [] h = All-nil P
-All-flat_map P f (x ∷ xs) h = All-append P (f x) (flat_map f xs) (All-head (λ y. All P (f y)) x xs h) (All-flat_map P f xs (All-tail (λ y. All P (f y)) x xs h))
+All-flat_map P f (x ∷ xs) h =
+    All-append P (f x) (flat_map f xs) (All-head (λ y. All P (f y)) x xs h)
+    (All-flat_map P f xs (All-tail (λ y. All P (f y)) x xs h))
 
 module _ (b : Block) (table : List ℕ) (numbering : IsNumbering (slots_of b) table) where
   rule_by_table : (r : Rule) → RuleHasSlots b r → table_conjunctions table r ≡ rule_conjunctions (slots_of b) r
   rule_by_table r h =
-      let conclusions = map_alike (λ p. table_number table (out_slot p)) (conclusion_number (slots_of b)) r.concl (λ k d lt. numbering.numbers _ (h.conclusions k d lt).known (h.conclusions k d lt).found) in
+      let conclusions = map_alike (λ p. table_number table (out_slot p)) (conclusion_number (slots_of b)) r.concl
+      (λ k d lt. numbering.numbers _ (h.conclusions k d lt).known (h.conclusions k d lt).found) in
       map_alike (table_conjunction table r) (conjunction_of (slots_of b) r) (rule_spread r) (λ k d lt.
-      let literals = map_alike (table_literal table) (literal_number (slots_of b)) (get_or (rule_spread r) k d) (λ j e here. numbering.numbers _ (h.literals k d lt j e here).known (h.literals k d lt j e here).found) in
-      ap₂ (λ (v w : List ℕ). let made : Conjunction = record { literals = v; conclusions = w } in made) literals conclusions)
+      let literals = map_alike (table_literal table) (literal_number (slots_of b)) (get_or (rule_spread r) k d)
+      (λ j e here. numbering.numbers _ (h.literals k d lt j e here).known (h.literals k d lt j e here).found) in
+      ap₂ (λ (v w : List ℕ). let made : Conjunction = record { literals = v; conclusions = w } in made) literals
+      conclusions)
 
   pub conjunctions_by_table : IsValid b → flat_map (table_conjunctions table) b.rules ≡ conjunctions_of b
   unfolding conjunctions_of
-  conjunctions_by_table v = flat_map_alike (table_conjunctions table) (rule_conjunctions (slots_of b)) b.rules (λ k d lt. rule_by_table _ (rules_have_slots b v k d lt))
+  conjunctions_by_table v =
+      flat_map_alike (table_conjunctions table) (rule_conjunctions (slots_of b)) b.rules
+      (λ k d lt. rule_by_table _ (rules_have_slots b v k d lt))
 
 -- the numbers of a layout are those of its slots
 pub numbers_in_range : (b : Block) → IsValid b → All (IsBelow (length (slots_of b))) (conjunctions_of b)
 unfolding conjunctions_of
-numbers_in_range b v = All-flat_map (IsBelow (length (slots_of b))) (rule_conjunctions (slots_of b)) b.rules (λ k d lt. in_rule _ (rules_have_slots b v k d lt))
+numbers_in_range b v =
+    All-flat_map (IsBelow (length (slots_of b))) (rule_conjunctions (slots_of b)) b.rules
+    (λ k d lt. in_rule _ (rules_have_slots b v k d lt))
   where
     in_rule : (r : Rule) → RuleHasSlots b r → All (IsBelow (length (slots_of b))) (rule_conjunctions (slots_of b) r)
-    in_rule r h = All-map (IsBelow (length (slots_of b))) (conjunction_of (slots_of b) r) (rule_spread r) (λ k d lt. record {
-      literals = All-map (λ n. n < length (slots_of b)) (literal_number (slots_of b)) (get_or (rule_spread r) k d) (λ j e here. (h.literals k d lt j e here).found);
-      conclusions = All-map (λ n. n < length (slots_of b)) (conclusion_number (slots_of b)) r.concl (λ j e here. (h.conclusions j e here).found);
-    })
+    in_rule r h = All-map (IsBelow (length (slots_of b))) (conjunction_of (slots_of b) r) (rule_spread r)
+        (λ k d lt. record {
+          literals = All-map (λ n. n < length (slots_of b)) (literal_number (slots_of b)) (get_or (rule_spread r) k d)
+              (λ j e here. (h.literals k d lt j e here).found);
+          conclusions = All-map (λ n. n < length (slots_of b)) (conclusion_number (slots_of b)) r.concl
+              (λ j e here. (h.conclusions j e here).found);
+        })
 
 pub rules_countable : (b : Block) → IsValid b → All IsCountable b.rules
 rules_countable b v = λ k d lt.
     let r = get_or b.rules k d in
-    let made : IsCountable r = record { fits = rule_fits b r v (v.rules k d lt); few = omega (arith, v.size, get_or-le-sum_by rule_size b.rules k d lt) } in
+    let made : IsCountable r =
+    record {
+      fits = rule_fits b r v (v.rules k d lt);
+      few =
+          omega (arith, v.size, get_or-le-sum_by rule_size b.rules k d lt);
+    } in
     made
 
 pub rules_spreadable : (b : Block) → IsValid b → All IsSpreadable b.rules
 rules_spreadable b v = λ k d lt.
     let r = get_or b.rules k d in
-    let made : IsSpreadable r = record { fits = rule_fits b r v (v.rules k d lt); conclusions = λ j p here. ((rules_have_slots b v k d lt).conclusions j p here).known } in
+    let made : IsSpreadable r =
+    record {
+      fits = rule_fits b r v (v.rules k d lt);
+      conclusions =
+          λ j p here. ((rules_have_slots b v k d lt).conclusions j p here).known;
+    } in
     made
 
 pub rules_weighed : (b : Block) → IsValid b → All (λ r. IfSome r.weight IsWeight) b.rules
@@ -160,7 +216,8 @@ width_le : (f : Form) → element_width f ≤ 2
 width_le Rev = omega arith
 width_le Revw = omega arith
 
-pub entries_fit : (rules : List Rule) (s : Size) → All IsCountable rules → IsSizeOfRules rules (Ok s) → s.entries ≤ 1073741824
+pub entries_fit : (rules : List Rule) (s : Size) → All IsCountable rules → IsSizeOfRules rules (Ok s)
+    → s.entries ≤ 1073741824
 entries_fit rules s h k = omega (arith, k.0, k.1, k.2, entry_count_le rules h)
 
 pub bytes_fit : (f : Form) (w e : ℕ) → w ≡ element_width f → e ≤ 1073741824 → w * e ≤ 2147483648
@@ -170,22 +227,28 @@ bytes_fit f w e h small =
     let wide : w * e ≤ 2 * e = mul-le-mul_right e few in
     omega (arith, wide)
 
-pub form_made : (b : Block) (n : ℕ) (ss : List Slot) (rules : List Rule) → n ≡ length ss → ss ≡ slots_of b → rules ≡ b.rules → form_by n rules ≡ form_of b
+pub form_made : (b : Block) (n : ℕ) (ss : List Slot) (rules : List Rule) → n ≡ length ss → ss ≡ slots_of b
+    → rules ≡ b.rules → form_by n rules ≡ form_of b
 unfolding form_of
-form_made b n ss rules size same all = ap₂ (λ (m : ℕ) (w : List Rule). form_by m w) (size ∙ ap (λ (w : List Slot). length w) same) all
+form_made b n ss rules size same all =
+    ap₂ (λ (m : ℕ) (w : List Rule). form_by m w) (size ∙ ap (λ (w : List Slot). length w) same) all
 
-pub list_size_made : (b : Block) (f : Form) (w e : ℕ) → f ≡ form_of b → w ≡ element_width f → e ≡ entry_count b.rules → w * e ≡ list_size b
+pub list_size_made : (b : Block) (f : Form) (w e : ℕ) → f ≡ form_of b → w ≡ element_width f → e ≡ entry_count b.rules
+    → w * e ≡ list_size b
 unfolding list_size
 list_size_made b f w e form width entries =
     ap₂ (λ (v n : ℕ). v * n) (width ∙ ap element_width form) (entries ∙ sym (length-list b))
 
-pub flat_made : (b : Block) (f : Flat) → f.slots ≡ slots_of b → f.conjunctions ≡ conjunctions_of b → f.weights ≡ weights_of b → f.form ≡ form_of b → f ≡ flat_of b
+pub flat_made : (b : Block) (f : Flat) → f.slots ≡ slots_of b → f.conjunctions ≡ conjunctions_of b
+    → f.weights ≡ weights_of b → f.form ≡ form_of b → f ≡ flat_of b
 unfolding flat_of
 flat_made b f slots conjunctions weights form =
     (joined f.slots f.conjunctions f.weights f.form slots conjunctions weights form)
   where
-    joined : (ss : List Slot) (cs : List Conjunction) (ws : List ℕ) (g : Form) → ss ≡ slots_of b → cs ≡ conjunctions_of b → ws ≡ weights_of b → g ≡ form_of b →
-        ◌≡◌ {A = Flat} (record { slots = ss; conjunctions = cs; weights = ws; form = g }) (record { slots = slots_of b; conjunctions = conjunctions_of b; weights = weights_of b; form = form_of b })
+    joined : (ss : List Slot) (cs : List Conjunction) (ws : List ℕ) (g : Form) → ss ≡ slots_of b
+        → cs ≡ conjunctions_of b → ws ≡ weights_of b → g ≡ form_of b →
+        ◌≡◌ {A = Flat} (record { slots = ss; conjunctions = cs; weights = ws; form = g })
+        (record { slots = slots_of b; conjunctions = conjunctions_of b; weights = weights_of b; form = form_of b })
     joined ss cs ws g p q r s = cc
 
 pub form_by_rev : (n : ℕ) (rules : List Rule) → form_by n rules ≡ Rev → n ≤ 254

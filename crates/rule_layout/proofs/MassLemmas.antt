@@ -1,5 +1,6 @@
 -- The rule list computes the masses of the output terms.
-use Rattle.std.proofs.Common.{◌≡◌, ℕ, ◌+◌, ◌-◌, ◌<◌, ◌≤◌, ◌||◌, min, max, Bool, true, false, List, [], ◌∷◌, ◌++◌, length, map, get_or, refl, sym, ap, ap₂, ◌∙◌, arith, add-one, Option, Some, None}
+use Rattle.std.proofs.Common.{◌≡◌, ℕ, ◌+◌, ◌-◌, ◌<◌, ◌≤◌, ◌||◌, min, max, Bool, true, false, List, [], ◌∷◌, ◌++◌}
+use Rattle.std.proofs.Common.{length, map, get_or, refl, sym, ap, ap₂, ◌∙◌, arith, add-one, Option, Some, None}
 use Rattle.std.specs.Prelude.{◌==◌, ◌&&◌, All, flat_map, if◌then◌else◌, slice_get, slice_index, nat_le, nat_lt}
 use Rattle.std.specs.Option.{option_map_or}
 use Rattle.std.specs.List.{list_any}
@@ -20,11 +21,14 @@ use Rattle.rule_layout.specs.declared.flat.Slot.TheVariants.{Term, Out}
 use Rattle.rule_layout.specs.declared.flat.Conjunction.{Conjunction}
 use Rattle.rule_layout.specs.Spreading.{Literal}
 use Rattle.rule_layout.specs.Truths.{literal_value, least_literal, greatest_conjunction}
-use Rattle.rule_layout.specs.Slots.{slots_of, is_same_slot, number_in, literal_slot, literal_number, conclusion_number, out_slot}
-use Rattle.rule_layout.specs.Layouts.{rule_spread, conjunction_of, rule_conjunctions, rule_weights, conjunctions_of, weights_of, flat_of}
+use Rattle.rule_layout.specs.Slots.{slots_of, is_same_slot, number_in, literal_slot, literal_number, conclusion_number}
+use Rattle.rule_layout.specs.Slots.{out_slot}
+use Rattle.rule_layout.specs.Layouts.{rule_spread, conjunction_of, rule_conjunctions, rule_weights, conjunctions_of}
+use Rattle.rule_layout.specs.Layouts.{weights_of, flat_of}
 use Rattle.rule_layout.specs.Masses.{slot_byte, slot_bytes, least_byte, scaled, left_in, MassLaw}
 use Rattle.rule_layout.proofs.NumberLemmas.{slot_from_same}
-use Rattle.rule_layout.proofs.MemberLemmas.{HasSlot, LiteralHasSlot, RuleHasSlots, rules_have_slots, number_in-lt, out_in_slots}
+use Rattle.rule_layout.proofs.MemberLemmas.{HasSlot, LiteralHasSlot, RuleHasSlots, rules_have_slots, number_in-lt}
+use Rattle.rule_layout.proofs.MemberLemmas.{out_in_slots}
 use Rattle.rule_layout.proofs.TruthLemmas.{spreading_law_lem}
 
 -- the slot of a number is that slot
@@ -32,14 +36,17 @@ slot_at_number : (ss : List Slot) (s d : Slot) → number_in ss s < length ss �
 slot_at_number [] s d lt = absurd (omega arith)
 slot_at_number (x ∷ xs) s d lt = by_test (is_same_slot s x) refl (slot_at_number xs s d)
   where
-    by_test : (t : Bool) → is_same_slot s x ≡ t → (number_in xs s < length xs → get_or xs (number_in xs s) d ≡ s) → get_or (x ∷ xs) (number_in (x ∷ xs) s) d ≡ s
+    by_test : (t : Bool) → is_same_slot s x ≡ t → (number_in xs s < length xs → get_or xs (number_in xs s) d ≡ s)
+        → get_or (x ∷ xs) (number_in (x ∷ xs) s) d ≡ s
     by_test true e ind = rw e (sym (slot_from_same s x e))
     by_test false e ind =
         let later : number_in xs s < length xs = omega (arith, rw e at lt) in
         rw (e, add-one) (ind later)
 
-byte_at_number : (g : ℕ → ℕ → ℕ) (ss : List Slot) (s : Slot) → number_in ss s < length ss → get_or (slot_bytes g ss) (number_in ss s) 0 ≡ slot_byte g s
-byte_at_number g ss s lt = get_or-map (slot_byte g) ss (number_in ss s) (Term 0 0) 0 lt ∙ ap (slot_byte g) (slot_at_number ss s (Term 0 0) lt)
+byte_at_number : (g : ℕ → ℕ → ℕ) (ss : List Slot) (s : Slot) → number_in ss s < length ss
+    → get_or (slot_bytes g ss) (number_in ss s) 0 ≡ slot_byte g s
+byte_at_number g ss s lt = get_or-map (slot_byte g) ss (number_in ss s) (Term 0 0) 0 lt
+    ∙ ap (slot_byte g) (slot_at_number ss s (Term 0 0) lt)
 
 slot_byte-literal : (g : ℕ → ℕ → ℕ) (l : Literal) → slot_byte g (literal_slot l) ≡ literal_value 255 g l
 slot_byte-literal g l = by_sort l.complement refl
@@ -67,15 +74,20 @@ module _ (b : Block) (g : ℕ → ℕ → ℕ) where
   abbrev bytes : List ℕ
   bytes = slot_bytes g (slots_of b)
 
-  least_byte-literals : (ls : List Literal) → All (LiteralHasSlot b) ls → least_byte bytes (map (literal_number (slots_of b)) ls) ≡ least_literal 255 g ls
+  least_byte-literals : (ls : List Literal) → All (LiteralHasSlot b) ls
+      → least_byte bytes (map (literal_number (slots_of b)) ls) ≡ least_literal 255 g ls
   least_byte-literals [] h = refl
   least_byte-literals (l ∷ ls) h =
-      let here = byte_at_number g (slots_of b) (literal_slot l) (All-head (LiteralHasSlot b) l ls h).found ∙ slot_byte-literal g l in
+      let here = byte_at_number g (slots_of b) (literal_slot l) (All-head (LiteralHasSlot b) l ls h).found
+      ∙ slot_byte-literal g l in
       ap₂ (λ (m n : ℕ). min m n) here (least_byte-literals ls (All-tail (LiteralHasSlot b) l ls h))
 
   -- a rule's conjunctions raise a slot to the rule's strength, if the rule concludes it
-  left_in-rule : (w n : ℕ) (r : Rule) (raised : Bool) (cs : List (List Literal)) → list_any (λ e. e == n) (map (conclusion_number (slots_of b)) r.concl) ≡ raised → All (All (LiteralHasSlot b)) cs →
-      left_in bytes (map (λ _. w) cs) (map (conjunction_of (slots_of b) r) cs) n ≡ (if raised then scaled w (greatest_conjunction 255 g cs) else 0)
+  left_in-rule : (w n : ℕ) (r : Rule) (raised : Bool) (cs : List (List Literal))
+      → list_any (λ e. e == n) (map (conclusion_number (slots_of b)) r.concl) ≡ raised
+      → All (All (LiteralHasSlot b)) cs →
+      left_in bytes (map (λ _. w) cs) (map (conjunction_of (slots_of b) r) cs) n
+      ≡ (if raised then scaled w (greatest_conjunction 255 g cs) else 0)
   left_in-rule w n r true [] e h = omega arith
   left_in-rule w n r false [] e h = refl
   left_in-rule w n r true (c ∷ cs) e h =
@@ -86,7 +98,8 @@ module _ (b : Block) (g : ℕ → ℕ → ℕ) where
       let later = left_in-rule w n r false cs e (All-tail (All (LiteralHasSlot b)) c cs h) in
       rw (e, later) refl
 
-left_in-append : (bytes us ws : List ℕ) (cs ds : List Conjunction) (n : ℕ) → length us ≡ length cs → left_in bytes (us ++ ws) (cs ++ ds) n ≡ max (left_in bytes us cs n) (left_in bytes ws ds n)
+left_in-append : (bytes us ws : List ℕ) (cs ds : List Conjunction) (n : ℕ) → length us ≡ length cs
+    → left_in bytes (us ++ ws) (cs ++ ds) n ≡ max (left_in bytes us cs n) (left_in bytes ws ds n)
 left_in-append bytes [] ws [] ds n e = omega arith
 left_in-append bytes [] ws (c ∷ cs) ds n e = absurd (omega arith)
 left_in-append bytes (u ∷ us) ws [] ds n e = absurd (omega arith)
@@ -108,7 +121,8 @@ map_or_le f (Some x) h = h x
 
 literal_grade_le : (b : Block) (bytes : List ℕ) (i t : ℕ) → literal_grade b bytes i t ≤ 255
 literal_grade_le b bytes i t =
-    map_or_le _ (input_at b i) (λ x. map_or_le _ (slice_get x.terms (t - 1)) (λ term. grade_le (row_of x term) (slice_index bytes (i - 1))))
+    map_or_le _ (input_at b i)
+    (λ x. map_or_le _ (slice_get x.terms (t - 1)) (λ term. grade_le (row_of x term) (slice_index bytes (i - 1))))
 
 same_test : (a c : Bool) → (a ≡ true → c ≡ true) → (c ≡ true → a ≡ true) → a ≡ c
 same_test true true f g = refl
@@ -124,38 +138,49 @@ module _ (b : Block) (v : IsValid b) (o t : ℕ) (given : HasSingleton b o t) wh
   place_found = number_in-lt (slots_of b) (Out o t) (out_in_slots b v o t given)
 
   -- two conclusions have one number only where they are the same
-  same_number : (p : ℕ × ℕ) → HasSlot b (out_slot p) → (conclusion_number (slots_of b) p == place) ≡ (p.0 == o && p.1 == t)
+  same_number : (p : ℕ × ℕ) → HasSlot b (out_slot p)
+      → (conclusion_number (slots_of b) p == place) ≡ (p.0 == o && p.1 == t)
   same_number p h = same_test _ _
       (λ e.
       let numbers : conclusion_number (slots_of b) p ≡ place = grind (arith, nat_tests) in
-      let slots : Out p.0 p.1 ≡ Out o t = sym (slot_at_number (slots_of b) (out_slot p) (Term 0 0) h.found) ∙ (ap (λ (n : ℕ). get_or (slots_of b) n (Term 0 0)) numbers ∙ slot_at_number (slots_of b) (Out o t) (Term 0 0) place_found) in
+      let slots : Out p.0 p.1 ≡ Out o t = sym (slot_at_number (slots_of b) (out_slot p) (Term 0 0) h.found)
+      ∙ (ap (λ (n : ℕ). get_or (slots_of b) n (Term 0 0)) numbers
+      ∙ slot_at_number (slots_of b) (Out o t) (Term 0 0) place_found) in
       let first : p.0 ≡ o = cc in
       let second : p.1 ≡ t = cc in
       grind (arith, nat_tests))
       (λ e.
       let first : p.0 ≡ o = grind (arith, nat_tests) in
       let second : p.1 ≡ t = grind (arith, nat_tests) in
-      let numbers : conclusion_number (slots_of b) p ≡ place = ap₂ (λ (j u : ℕ). number_in (slots_of b) (Out j u)) first second in
+      let numbers : conclusion_number (slots_of b) p ≡ place =
+      ap₂ (λ (j u : ℕ). number_in (slots_of b) (Out j u)) first second in
       grind (arith, nat_tests))
 
   raised_as_concluded : (ps : List (ℕ × ℕ)) → All (λ p. HasSlot b (out_slot p)) ps →
       list_any (λ e. e == place) (map (conclusion_number (slots_of b)) ps) ≡ list_any (λ c. (c.0 == o) && (c.1 == t)) ps
   raised_as_concluded [] h = refl
   raised_as_concluded (p ∷ ps) h =
-      ap₂ (λ (a c : Bool). a || c) (same_number p (All-head (λ q. HasSlot b (out_slot q)) p ps h)) (raised_as_concluded ps (All-tail (λ q. HasSlot b (out_slot q)) p ps h))
+      ap₂ (λ (a c : Bool). a || c) (same_number p (All-head (λ q. HasSlot b (out_slot q)) p ps h))
+      (raised_as_concluded ps (All-tail (λ q. HasSlot b (out_slot q)) p ps h))
 
   rules_left : (bytes : List ℕ) (rules : List Rule) → All (RuleHasSlots b) rules →
-      left_in (slot_bytes (literal_grade b bytes) (slots_of b)) (flat_map rule_weights rules) (flat_map (rule_conjunctions (slots_of b)) rules) place ≡ byte_mass_among b bytes o t rules
+      left_in (slot_bytes (literal_grade b bytes) (slots_of b)) (flat_map rule_weights rules)
+      (flat_map (rule_conjunctions (slots_of b)) rules) place ≡ byte_mass_among b bytes o t rules
   rules_left bytes [] h = refl
   rules_left bytes (r ∷ rs) h =
       let g = literal_grade b bytes in
       let here = All-head (RuleHasSlots b) r rs h in
-      let whole = left_in-append (slot_bytes g (slots_of b)) (rule_weights r) (flat_map rule_weights rs) (rule_conjunctions (slots_of b) r) (flat_map (rule_conjunctions (slots_of b)) rs) place
-      (length-map (rule_spread r) (λ (_ : List Literal). weight_byte_of r.weight) ∙ sym (length-map (rule_spread r) (conjunction_of (slots_of b) r))) in
-      let rule = left_in-rule b g (weight_byte_of r.weight) place r (concludes r o t) (rule_spread r) (raised_as_concluded r.concl here.conclusions) here.literals in
+      let whole = left_in-append (slot_bytes g (slots_of b)) (rule_weights r) (flat_map rule_weights rs)
+      (rule_conjunctions (slots_of b) r) (flat_map (rule_conjunctions (slots_of b)) rs) place
+      (length-map (rule_spread r) (λ (_ : List Literal). weight_byte_of r.weight)
+      ∙ sym (length-map (rule_spread r) (conjunction_of (slots_of b) r))) in
+      let rule = left_in-rule b g (weight_byte_of r.weight) place r (concludes r o t) (rule_spread r)
+      (raised_as_concluded r.concl here.conclusions) here.literals in
       let truth = spreading_law_lem 255 g (condition_of r.cond) (omega arith) (literal_grade_le b bytes) in
       let later = rules_left bytes rs (All-tail (RuleHasSlots b) r rs h) in
-      whole ∙ (ap₂ (λ (m n : ℕ). max m n) (rule ∙ ap (λ (m : ℕ). if concludes r o t then scaled (weight_byte_of r.weight) m else 0) truth) later ∙ by_test (concludes r o t) (byte_strength b bytes r) (byte_mass_among b bytes o t rs))
+      whole ∙ (ap₂ (λ (m n : ℕ). max m n)
+      (rule ∙ ap (λ (m : ℕ). if concludes r o t then scaled (weight_byte_of r.weight) m else 0) truth) later
+      ∙ by_test (concludes r o t) (byte_strength b bytes r) (byte_mass_among b bytes o t rs))
     where
       by_test : (c : Bool) (m n : ℕ) → max (if c then m else 0) n ≡ (if c then max m n else n)
       by_test true m n = refl

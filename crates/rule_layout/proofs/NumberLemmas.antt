@@ -1,5 +1,6 @@
 -- The numbers of slots in a list.
-use Rattle.std.proofs.Common.{◌≡◌, ◌≢◌, ℕ, ◌+◌, ◌<◌, ◌≤◌, Bool, true, false, List, ◌∷◌, length, get_or, set, drop, refl, sym, ap, ◌∙◌, subst, arith, true≢false}
+use Rattle.std.proofs.Common.{◌≡◌, ◌≢◌, ℕ, ◌+◌, ◌<◌, ◌≤◌, Bool, true, false, List, ◌∷◌, length, get_or, set, drop, refl}
+use Rattle.std.proofs.Common.{sym, ap, ◌∙◌, subst, arith, true≢false}
 use Rattle.std.specs.Prelude.{◌==◌, ◌&&◌, All}
 use Rattle.std.proofs.lemmas.List.{drop_more, get_or-set_same, get_or-set_other}
 use Rattle.std.proofs.lemmas.Bool.Decides.{nat_tests}
@@ -43,9 +44,11 @@ place_below (Complement i t) h = omega arith
 place_below (Out i t) h = omega arith
 
 -- the table's numbers, with one slot more from the end
-pub numbers_more : (x : Slot) (rest : List Slot) (table : List ℕ) (k at : ℕ) → length table ≡ 300 → IsInTable x → at ≡ place_of x →
+pub numbers_more : (x : Slot) (rest : List Slot) (table : List ℕ) (k at : ℕ) → length table ≡ 300 → IsInTable x
+    → at ≡ place_of x →
     ((s : Slot) → IsInTable s → number_in rest s < length rest → table_number table s ≡ (k + 1) + number_in rest s) →
-    (s : Slot) → IsInTable s → number_in (x ∷ rest) s < length (x ∷ rest) → table_number (set table at k) s ≡ k + number_in (x ∷ rest) s
+    (s : Slot) → IsInTable s → number_in (x ∷ rest) s < length (x ∷ rest)
+    → table_number (set table at k) s ≡ k + number_in (x ∷ rest) s
 numbers_more x rest table k at size known here before s inside found = by_test (is_same_slot s x) refl
   where
     by_test : (b : Bool) → is_same_slot s x ≡ b → table_number (set table at k) s ≡ k + number_in (x ∷ rest) s
@@ -61,14 +64,17 @@ numbers_more x rest table k at size known here before s inside found = by_test (
 
 -- the table has the numbers of the slots from the k-th on
 abbrev pub NumbersFrom : List Slot → ℕ → List ℕ → Type 0
-NumbersFrom ss k table = (s : Slot) → IsInTable s → number_in (drop k ss) s < length (drop k ss) → table_number table s ≡ k + number_in (drop k ss) s
+NumbersFrom ss k table = (s : Slot) → IsInTable s → number_in (drop k ss) s < length (drop k ss)
+    → table_number table s ≡ k + number_in (drop k ss) s
 
-pub NumbersFrom_more : (ss : List Slot) (n k at : ℕ) (d : Slot) (table : List ℕ) → k + 1 ≡ n → n ≤ length ss → length table ≡ 300 → All IsInTable ss → at ≡ place_of (get_or ss k d) →
+pub NumbersFrom_more : (ss : List Slot) (n k at : ℕ) (d : Slot) (table : List ℕ) → k + 1 ≡ n → n ≤ length ss
+    → length table ≡ 300 → All IsInTable ss → at ≡ place_of (get_or ss k d) →
     NumbersFrom ss n table → NumbersFrom ss k (set table at k)
 NumbersFrom_more ss n k at d table next room size known here before =
     let lt : k < length ss = omega arith in
     let split = drop_more ss k d lt in
     let known_here : IsInTable (get_or ss k d) = known k d lt in
     let tail = subst (λ (m : ℕ). NumbersFrom ss m table) (sym next) before in
-    subst (λ (w : List Slot). (s : Slot) → IsInTable s → number_in w s < length w → table_number (set table at k) s ≡ k + number_in w s) (sym split)
+    subst (λ (w : List Slot). (s : Slot) → IsInTable s → number_in w s < length w
+    → table_number (set table at k) s ≡ k + number_in w s) (sym split)
     (numbers_more (get_or ss k d) (drop (k + 1) ss) table k at size known_here here tail)

@@ -1,5 +1,6 @@
 -- Where the slots of a term stand.
-use Rattle.std.proofs.Common.{◌≡◌, ℕ, zero, suc, ◌+◌, ◌-◌, ◌<◌, ◌≤◌, List, [], ◌∷◌, ◌++◌, length, map, filter, get_or, take, sym, ap, ◌∙◌, arith}
+use Rattle.std.proofs.Common.{◌≡◌, ℕ, zero, suc, ◌+◌, ◌-◌, ◌<◌, ◌≤◌, List, [], ◌∷◌, ◌++◌, length, map, filter, get_or}
+use Rattle.std.proofs.Common.{take, sym, ap, ◌∙◌, arith}
 use Rattle.std.specs.Prelude.{IsSomeAnd, slice_get, sum_by}
 use Rattle.std.specs.List.{range_with_len}
 use Rattle.std.proofs.lemmas.List.{length-append, length-map, get_or_append_left, get_or-append-add, get_or-map}
@@ -9,7 +10,8 @@ use Rattle.fuzzy_meaning.specs.declared.block.Block.{Block}
 use Rattle.fuzzy_meaning.specs.Blocks.{IsValid}
 use Rattle.rule_layout.specs.declared.flat.Slot.{Slot}
 use Rattle.rule_layout.specs.declared.flat.Slot.TheVariants.{Term, Out}
-use Rattle.rule_layout.specs.Slots.{terms_from, term_count, singleton_count, input_terms, output_terms, term_slot, complement_slot, out_slot, is_complemented, slots_of, number_in}
+use Rattle.rule_layout.specs.Slots.{terms_from, term_count, singleton_count, input_terms, output_terms, term_slot}
+use Rattle.rule_layout.specs.Slots.{complement_slot, out_slot, is_complemented, slots_of, number_in}
 use Rattle.rule_layout.specs.Numbers.{complemented_terms, TermNumberLaw, OutNumberLaw}
 use Rattle.rule_layout.proofs.LaidOutLemmas.{slots_apart}
 
@@ -24,29 +26,45 @@ length-row : (j n : ℕ) → length (row j n) ≡ n
 length-row j n = length-map-range_with_len (pair j) 1 n
 
 -- the place of a term among those of all variables
-pub term_place_lt : {X : Type 0} (count : X → ℕ) (xs : List X) (j k t : ℕ) → 1 ≤ t → IsSomeAnd (slice_get xs k) (λ x. t ≤ count x) →
+pub term_place_lt : {X : Type 0} (count : X → ℕ) (xs : List X) (j k t : ℕ) → 1 ≤ t
+    → IsSomeAnd (slice_get xs k) (λ x. t ≤ count x) →
     sum_by count (take k xs) + (t - 1) < length (terms_from j (map count xs))
 term_place_lt count [] j k t from h = absurd h
 term_place_lt count (x ∷ xs) j zero t from h =
     omega (arith, h, length-append (row j (count x)) (terms_from (j + 1) (map count xs)), length-row j (count x))
 term_place_lt count (x ∷ xs) j (suc k) t from h =
-    omega (arith, term_place_lt count xs (j + 1) k t from h, sum_by-cons count x (take k xs), length-append (row j (count x)) (terms_from (j + 1) (map count xs)), length-row j (count x))
+    omega (
+      arith,
+      term_place_lt count xs (j + 1) k t from h,
+      sum_by-cons count x (take k xs),
+      length-append (row j (count x)) (terms_from (j + 1) (map count xs)),
+      length-row j (count x),
+    )
 
-pub term_at_place : {X : Type 0} (count : X → ℕ) (xs : List X) (j k t : ℕ) (d : ℕ × ℕ) → 1 ≤ t → IsSomeAnd (slice_get xs k) (λ x. t ≤ count x) →
+pub term_at_place : {X : Type 0} (count : X → ℕ) (xs : List X) (j k t : ℕ) (d : ℕ × ℕ) → 1 ≤ t
+    → IsSomeAnd (slice_get xs k) (λ x. t ≤ count x) →
     get_or (terms_from j (map count xs)) (sum_by count (take k xs) + (t - 1)) d ≡ (j + k, t)
 term_at_place count [] j k t d from h = absurd h
 term_at_place count (x ∷ xs) j zero t d from h =
     let index : 0 + (t - 1) ≡ t - 1 = omega arith in
     let size = length-row j (count x) in
     let inside : t - 1 < length (row j (count x)) = omega (arith, h, size) in
-    rw index (get_or_append_left (row j (count x)) (terms_from (j + 1) (map count xs)) d (t - 1) inside ∙ (get_or-map-range_with_len (pair j) 1 (count x) (t - 1) t d (omega (arith, h)) (omega arith) ∙ ap (λ (i : ℕ). pair i t) (let same : j ≡ j + 0 = omega arith in same)))
+    rw index (get_or_append_left (row j (count x)) (terms_from (j + 1) (map count xs)) d (t - 1) inside
+    ∙ (get_or-map-range_with_len (pair j) 1 (count x) (t - 1) t d (omega (arith, h)) (omega arith)
+    ∙ ap (λ (i : ℕ). pair i t) (let same : j ≡ j + 0 = omega arith in same)))
 term_at_place count (x ∷ xs) j (suc k) t d from h =
     let size = length-row j (count x) in
-    let index : sum_by count (x ∷ take k xs) + (t - 1) ≡ length (row j (count x)) + (sum_by count (take k xs) + (t - 1)) = omega (arith, size, sum_by-cons count x (take k xs)) in
-    rw index (get_or-append-add (row j (count x)) (terms_from (j + 1) (map count xs)) (sum_by count (take k xs) + (t - 1)) d ∙ (term_at_place count xs (j + 1) k t d from h ∙ ap (λ (i : ℕ). pair i t) (let same : (j + 1) + k ≡ j + suc k = omega arith in same)))
+    let index : sum_by count (x ∷ take k xs) + (t - 1) ≡ length
+    (row j (count x)) + (sum_by count (take k xs) + (t - 1)) =
+    omega (arith, size, sum_by-cons count x (take k xs)) in
+    rw index (get_or-append-add (row j (count x)) (terms_from (j + 1) (map count xs))
+    (sum_by count (take k xs) + (t - 1)) d
+    ∙ (term_at_place count xs (j + 1) k t d from h
+    ∙ ap (λ (i : ℕ). pair i t) (let same : (j + 1) + k ≡ j + suc k = omega arith in same)))
 
 -- a slot that stands at a place has that number
-number_by_place : (b : Block) → IsValid b → (k : ℕ) (s : Slot) → k < length (slots_of b) → get_or (slots_of b) k (Term 0 0) ≡ s → number_in (slots_of b) s ≡ k
+number_by_place : (b : Block) → IsValid b → (k : ℕ) (s : Slot) → k < length (slots_of b)
+    → get_or (slots_of b) k (Term 0 0) ≡ s → number_in (slots_of b) s ≡ k
 number_by_place b v k s lt here = ap (number_in (slots_of b)) (sym here) ∙ slots_apart b v k (Term 0 0) lt
 
 pub term_number_lem : TermNumberLaw
@@ -54,11 +72,14 @@ unfolding slots_of
 term_number_lem b i t v h =
     let k = sum_by term_count (take (i - 1) b.inputs) + (t - 1) in
     let lt = term_place_lt term_count b.inputs 1 (i - 1) t h.term_from h.term_to in
-    let others = map complement_slot (filter (λ p. is_complemented b.rules p.0 p.1) (input_terms b)) ++ map out_slot (output_terms b) in
+    let others = map complement_slot (filter (λ p. is_complemented b.rules p.0 p.1) (input_terms b))
+    ++ map out_slot (output_terms b) in
     let inside : k < length (map term_slot (input_terms b)) = omega (arith, lt, length-map (input_terms b) term_slot) in
     let index : 1 + (i - 1) ≡ i = omega (arith, h.input_from) in
-    let term = term_at_place term_count b.inputs 1 (i - 1) t (0, 0) h.term_from h.term_to ∙ ap (λ (j : ℕ). pair j t) index in
-    let here = get_or_append_left (map term_slot (input_terms b)) others (Term 0 0) k inside ∙ (get_or-map term_slot (input_terms b) k (0, 0) (Term 0 0) lt ∙ ap term_slot term) in
+    let term = term_at_place term_count b.inputs 1 (i - 1) t (0, 0) h.term_from h.term_to
+    ∙ ap (λ (j : ℕ). pair j t) index in
+    let here = get_or_append_left (map term_slot (input_terms b)) others (Term 0 0) k inside
+    ∙ (get_or-map term_slot (input_terms b) k (0, 0) (Term 0 0) lt ∙ ap term_slot term) in
     number_by_place b v k (Term i t) (omega (arith, inside, length-append (map term_slot (input_terms b)) others)) here
 
 pub out_number_lem : OutNumberLaw
@@ -73,7 +94,14 @@ out_number_lem b o t v h =
     let complements_size = length-map (complemented_terms b) complement_slot in
     let outs_size = length-map (output_terms b) out_slot in
     let index : 1 + (o - 1) ≡ o = omega (arith, h.output_from) in
-    let term = term_at_place singleton_count b.outputs 1 (o - 1) t (0, 0) h.term_from h.term_to ∙ ap (λ (j : ℕ). pair j t) index in
-    let place : length (input_terms b) + length (complemented_terms b) + k ≡ length terms + (length complements + k) = omega (arith, terms_size, complements_size) in
-    let here = ap (λ (n : ℕ). get_or (terms ++ (complements ++ outs)) n (Term 0 0)) place ∙ (get_or-append-add terms (complements ++ outs) (length complements + k) (Term 0 0) ∙ (get_or-append-add complements outs k (Term 0 0) ∙ (get_or-map out_slot (output_terms b) k (0, 0) (Term 0 0) lt ∙ ap out_slot term))) in
-    number_by_place b v (length (input_terms b) + length (complemented_terms b) + k) (Out o t) (omega (arith, lt, place, outs_size, length-append terms (complements ++ outs), length-append complements outs)) here
+    let term = term_at_place singleton_count b.outputs 1 (o - 1) t (0, 0) h.term_from h.term_to
+    ∙ ap (λ (j : ℕ). pair j t) index in
+    let place : length (input_terms b) + length (complemented_terms b) + k ≡ length terms + (length complements + k) =
+    omega (arith, terms_size, complements_size) in
+    let here = ap (λ (n : ℕ). get_or (terms ++ (complements ++ outs)) n (Term 0 0)) place
+    ∙ (get_or-append-add terms (complements ++ outs) (length complements + k) (Term 0 0)
+    ∙ (get_or-append-add complements outs k (Term 0 0)
+    ∙ (get_or-map out_slot (output_terms b) k (0, 0) (Term 0 0) lt ∙ ap out_slot term))) in
+    number_by_place b v (length (input_terms b) + length (complemented_terms b) + k) (Out o t)
+    (omega (arith, lt, place, outs_size, length-append terms (complements ++ outs), length-append complements outs))
+    here

@@ -1,5 +1,6 @@
 -- The sizes of rules, one after another.
-use Rattle.std.proofs.Common.{◌≡◌, ℕ, ◌+◌, ◌*◌, ◌<◌, ◌≤◌, false, List, [], ◌∷◌, ◌++◌, length, map, get_or, take, replicate, Some, None, Ok, refl, sym, ap, ap₂, ◌∙◌, subst, arith}
+use Rattle.std.proofs.Common.{◌≡◌, ℕ, ◌+◌, ◌*◌, ◌<◌, ◌≤◌, false, List, [], ◌∷◌, ◌++◌, length, map, get_or, take}
+use Rattle.std.proofs.Common.{replicate, Some, None, Ok, refl, sym, ap, ap₂, ◌∙◌, subst, arith}
 use Rattle.std.specs.Prelude.{All, flat_map}
 use Rattle.std.proofs.lemmas.List.{take_more, get_or-take, length-take, flat_map_more}
 use Rattle.std.proofs.lemmas.List.Sums.{sum_by_more, sum_by-cons}
@@ -23,7 +24,9 @@ entries_bound e m n k h few =
     omega (arith, wide)
 
 rule_entries_le : (r : Rule) → IsCountable r → rule_entries r ≤ length (rule_spread r) * 2097152
-rule_entries_le r h = entries_bound (total_length (rule_spread r)) (length (rule_spread r)) (nodes (condition_of r.cond)) (length r.concl) (entries_le false (condition_of r.cond)) h.few
+rule_entries_le r h =
+    entries_bound (total_length (rule_spread r)) (length (rule_spread r)) (nodes (condition_of r.cond)) (length r.concl)
+    (entries_le false (condition_of r.cond)) h.few
 
 pub entry_count_le : (rules : List Rule) → All IsCountable rules → entry_count rules ≤ conjunction_count rules * 2097152
 entry_count_le [] h = omega arith
@@ -41,19 +44,23 @@ All-take P xs i h = λ k d lt.
 
 module _ (rules : List Rule) (i : ℕ) (r : Rule) (lt : i < length rules) (here : r ≡ get_or rules i r) where
   pub count_more : conjunction_count (take (i + 1) rules) ≡ conjunction_count (take i rules) + length (rule_spread r)
-  count_more = sum_by_more (λ (q : Rule). length (rule_spread q)) rules i r lt ∙ ap (λ (q : Rule). conjunction_count (take i rules) + length (rule_spread q)) (sym here)
+  count_more = sum_by_more (λ (q : Rule). length (rule_spread q)) rules i r lt
+      ∙ ap (λ (q : Rule). conjunction_count (take i rules) + length (rule_spread q)) (sym here)
 
   pub entries_more : entry_count (take (i + 1) rules) ≡ entry_count (take i rules) + rule_entries r
-  entries_more = sum_by_more rule_entries rules i r lt ∙ ap (λ (q : Rule). entry_count (take i rules) + rule_entries q) (sym here)
+  entries_more = sum_by_more rule_entries rules i r lt
+      ∙ ap (λ (q : Rule). entry_count (take i rules) + rule_entries q) (sym here)
 
-  pub rules_more : (t s u : Size) → IsSizeOfRules (take i rules) (Ok t) → IsSizeOfRule r (Some s) → IsSum t s (Some u) → IsSizeOfRules (take (i + 1) rules) (Ok u)
+  pub rules_more : (t s u : Size) → IsSizeOfRules (take i rules) (Ok t) → IsSizeOfRule r (Some s) → IsSum t s (Some u)
+      → IsSizeOfRules (take (i + 1) rules) (Ok u)
   rules_more t s u h k sum = (
     omega (arith, count_more, h.0, h.1, h.2, k.0, k.1, k.2, sum.0, sum.1, sum.2),
     omega (arith, count_more, h.0, h.1, h.2, k.0, k.1, k.2, sum.0, sum.1, sum.2),
     omega (arith, entries_more, h.0, h.1, h.2, k.0, k.1, k.2, sum.0, sum.1, sum.2),
   )
 
-  pub too_many_by_rule : (t : Size) (n : ℕ) → n ≡ i + 1 → IsSizeOfRules (take i rules) (Ok t) → IsSizeOfRule r None → IsFirstTooMany rules n
+  pub too_many_by_rule : (t : Size) (n : ℕ) → n ≡ i + 1 → IsSizeOfRules (take i rules) (Ok t) → IsSizeOfRule r None
+      → IsFirstTooMany rules n
   too_many_by_rule t n e h k = record {
     from = omega arith;
     to = omega arith;
@@ -61,7 +68,8 @@ module _ (rules : List Rule) (i : ℕ) (r : Rule) (lt : i < length rules) (here 
     over = subst (λ (m : ℕ). 512 < conjunction_count (take m rules)) (sym e) (omega (arith, count_more, k));
   }
 
-  pub too_many_by_sum : (t s : Size) (n : ℕ) → n ≡ i + 1 → IsSizeOfRules (take i rules) (Ok t) → IsSizeOfRule r (Some s) → IsSum t s None → IsFirstTooMany rules n
+  pub too_many_by_sum : (t s : Size) (n : ℕ) → n ≡ i + 1 → IsSizeOfRules (take i rules) (Ok t) → IsSizeOfRule r (Some s)
+      → IsSum t s None → IsFirstTooMany rules n
   too_many_by_sum t s n e h k sum = record {
     from = omega arith;
     to = omega arith;
@@ -69,7 +77,8 @@ module _ (rules : List Rule) (i : ℕ) (r : Rule) (lt : i < length rules) (here 
     over = subst (λ (m : ℕ). 512 < conjunction_count (take m rules)) (sym e) (omega (arith, count_more, h.1, k.1, sum));
   }
 
-pub rules_small : (rules : List Rule) (i : ℕ) (t : Size) → All IsCountable rules → IsSizeOfRules (take i rules) (Ok t) → IsSmall t
+pub rules_small : (rules : List Rule) (i : ℕ) (t : Size) → All IsCountable rules → IsSizeOfRules (take i rules) (Ok t)
+    → IsSmall t
 rules_small rules i t h k = record {
   few = omega (arith, k.0, k.1);
   short = omega (arith, k.0, k.1, k.2, entry_count_le (take i rules) (All-take IsCountable rules i h));
@@ -83,18 +92,24 @@ replicate_as_map w n [] e = rw e refl
 replicate_as_map w n (x ∷ xs) e = rw e (ap (λ (ws : List ℕ). w ∷ ws) (replicate_as_map w (length xs) xs refl))
 
 -- one rule's part of a list more
-pub flat_map_step : {X A : Type 0} (f : X → List A) (xs : List X) (i : ℕ) (x : X) (front back : List A) → i < length xs → x ≡ get_or xs i x →
+pub flat_map_step : {X A : Type 0} (f : X → List A) (xs : List X) (i : ℕ) (x : X) (front back : List A) → i < length xs
+    → x ≡ get_or xs i x →
     front ≡ flat_map f (take i xs) → back ≡ front ++ f x → back ≡ flat_map f (take (i + 1) xs)
 flat_map_step f xs i x front back lt here before more =
-    more ∙ (ap (λ w. w ++ f x) before ∙ (flat_map_more f [] (take i xs) x ∙ ap (flat_map f) (ap (λ y. take i xs ++ y ∷ []) here ∙ sym (take_more xs i x lt))))
+    more ∙ (ap (λ w. w ++ f x) before
+    ∙ (flat_map_more f [] (take i xs) x
+    ∙ ap (flat_map f) (ap (λ y. take i xs ++ y ∷ []) here ∙ sym (take_more xs i x lt))))
 
-with_conclusions-map : (table concl : List ℕ) (r : Rule) (cs : List (List Literal)) → concl ≡ map (λ p. table_number table (out_slot p)) r.concl →
+with_conclusions-map : (table concl : List ℕ) (r : Rule) (cs : List (List Literal))
+    → concl ≡ map (λ p. table_number table (out_slot p)) r.concl →
     map (with_conclusions concl) (table_literals table cs) ≡ map (table_conjunction table r) cs
 with_conclusions-map table concl r [] e = refl
 with_conclusions-map table concl r (c ∷ cs) e =
-    ap₂ (λ (w : List ℕ) (v : List Conjunction). with_conclusions w (map (table_literal table) c) ∷ v) e (with_conclusions-map table concl r cs e)
+    ap₂ (λ (w : List ℕ) (v : List Conjunction). with_conclusions w (map (table_literal table) c) ∷ v) e
+    (with_conclusions-map table concl r cs e)
 
-pub table_conjunctions_made : (table : List ℕ) (r : Rule) (spread : List (List ℕ)) (concl : List ℕ) → spread ≡ table_literals table (rule_spread r) → concl ≡ map (λ p. table_number table (out_slot p)) r.concl →
+pub table_conjunctions_made : (table : List ℕ) (r : Rule) (spread : List (List ℕ)) (concl : List ℕ)
+    → spread ≡ table_literals table (rule_spread r) → concl ≡ map (λ p. table_number table (out_slot p)) r.concl →
     map (with_conclusions concl) spread ≡ table_conjunctions table r
 table_conjunctions_made table r spread concl e k =
     ap (map (with_conclusions concl)) e ∙ with_conclusions-map table concl r (rule_spread r) k

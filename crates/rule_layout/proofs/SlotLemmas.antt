@@ -1,5 +1,6 @@
 -- Lists of slots, their terms and their complements.
-use Rattle.std.proofs.Common.{◌≡◌, ℕ, zero, suc, ◌+◌, ◌<◌, ◌||◌, Bool, true, false, List, [], ◌∷◌, ◌++◌, length, map, take, get_or, replicate, refl, sym, ap, ◌∙◌, arith, append_assoc}
+use Rattle.std.proofs.Common.{◌≡◌, ℕ, zero, suc, ◌+◌, ◌<◌, ◌||◌, Bool, true, false, List, [], ◌∷◌, ◌++◌, length, map}
+use Rattle.std.proofs.Common.{take, get_or, replicate, refl, sym, ap, ◌∙◌, arith, append_assoc}
 use Rattle.std.specs.List.{range_with_len}
 use Rattle.std.proofs.lemmas.List.{map_more, append-nil, take_more, length-map, length-take}
 use Rattle.std.proofs.lemmas.List.FromFn.{map-range_with_len_more}
@@ -9,22 +10,36 @@ use Rattle.fuzzy_meaning.specs.Conditions.{Condition, conditions, condition_of}
 use Rattle.rule_layout.specs.Slots.{terms_from, has_complement, some_has_complement, is_complemented}
 
 pub terms_push : (v n j : ℕ) (front : List (ℕ × ℕ)) → 1 + n ≡ j →
-    (front ++ map (λ t. (v, t)) (range_with_len 1 n)) ++ (v, j) ∷ [] ≡ front ++ map (λ t. (v, t)) (range_with_len 1 (n + 1))
+    (front ++ map (λ t. (v, t)) (range_with_len 1 n)) ++ (v, j) ∷ [] ≡ front
+    ++ map (λ t. (v, t)) (range_with_len 1 (n + 1))
 terms_push v n j front e =
-    append_assoc front (map (λ t. (v, t)) (range_with_len 1 n)) ((v, j) ∷ []) ∙ ap (λ (w : List (ℕ × ℕ)). front ++ w) (sym (map-range_with_len_more (λ (t : ℕ). (v, t)) 1 n j e))
+    append_assoc front (map (λ t. (v, t)) (range_with_len 1 n)) ((v, j) ∷ [])
+    ∙ ap (λ (w : List (ℕ × ℕ)). front ++ w) (sym (map-range_with_len_more (λ (t : ℕ). (v, t)) 1 n j e))
 
-terms_from-push_at : (i n : ℕ) (ns : List ℕ) → terms_from i (ns ++ n ∷ []) ≡ terms_from i ns ++ map (λ t. (i + length ns, t)) (range_with_len 1 n)
-terms_from-push_at i n [] = append-nil (map (λ t. (i, t)) (range_with_len 1 n)) ∙ ap (λ (k : ℕ). map (λ t. (k, t)) (range_with_len 1 n)) (omega arith)
+terms_from-push_at : (i n : ℕ) (ns : List ℕ)
+    → terms_from i (ns ++ n ∷ []) ≡ terms_from i ns ++ map (λ t. (i + length ns, t)) (range_with_len 1 n)
+terms_from-push_at i n [] = append-nil (map (λ t. (i, t)) (range_with_len 1 n))
+    ∙ ap (λ (k : ℕ). map (λ t. (k, t)) (range_with_len 1 n)) (omega arith)
 terms_from-push_at i n (m ∷ ns) =
-    ap (λ (w : List (ℕ × ℕ)). map (λ t. (i, t)) (range_with_len 1 m) ++ w) (terms_from-push_at (i + 1) n ns ∙ ap (λ (k : ℕ). terms_from (i + 1) ns ++ map (λ t. (k, t)) (range_with_len 1 n)) (omega arith)) ∙ sym (append_assoc (map (λ t. (i, t)) (range_with_len 1 m)) (terms_from (i + 1) ns) (map (λ t. (i + suc (length ns), t)) (range_with_len 1 n)))
+    ap (λ (w : List (ℕ × ℕ)). map (λ t. (i, t)) (range_with_len 1 m) ++ w)
+    (terms_from-push_at (i + 1) n ns
+    ∙ ap (λ (k : ℕ). terms_from (i + 1) ns ++ map (λ t. (k, t)) (range_with_len 1 n)) (omega arith))
+    ∙ sym (append_assoc (map (λ t. (i, t)) (range_with_len 1 m)) (terms_from (i + 1) ns)
+    (map (λ t. (i + suc (length ns), t)) (range_with_len 1 n)))
 
 -- one variable's terms more
-pub terms_from_more : {X : Type 0} (count : X → ℕ) (xs : List X) (i v : ℕ) (x : X) (front : List (ℕ × ℕ)) → i < length xs → x ≡ get_or xs i x → v ≡ i →
-    front ≡ terms_from 1 (map count (take i xs)) → front ++ map (λ t. (v + 1, t)) (range_with_len 1 (count x)) ≡ terms_from 1 (map count (take (i + 1) xs))
+pub terms_from_more : {X : Type 0} (count : X → ℕ) (xs : List X) (i v : ℕ) (x : X) (front : List (ℕ × ℕ))
+    → i < length xs → x ≡ get_or xs i x → v ≡ i →
+    front ≡ terms_from 1 (map count (take i xs))
+    → front ++ map (λ t. (v + 1, t)) (range_with_len 1 (count x)) ≡ terms_from 1 (map count (take (i + 1) xs))
 terms_from_more count xs i v x front lt here same h =
     let more = map_more count xs i x lt ∙ ap (λ y. map count (take i xs) ++ count y ∷ []) (sym here) in
-    let size : 1 + length (map count (take i xs)) ≡ v + 1 = omega (arith, length-map (take i xs) count, length-take i xs) in
-    ap (λ (w : List (ℕ × ℕ)). w ++ map (λ t. (v + 1, t)) (range_with_len 1 (count x))) h ∙ (ap (λ (k : ℕ). terms_from 1 (map count (take i xs)) ++ map (λ t. (k, t)) (range_with_len 1 (count x))) (sym size) ∙ (sym (terms_from-push_at 1 (count x) (map count (take i xs))) ∙ ap (λ (w : List ℕ). terms_from 1 w) (sym more)))
+    let size : 1 + length (map count (take i xs)) ≡ v + 1 =
+    omega (arith, length-map (take i xs) count, length-take i xs) in
+    ap (λ (w : List (ℕ × ℕ)). w ++ map (λ t. (v + 1, t)) (range_with_len 1 (count x))) h
+    ∙ (ap (λ (k : ℕ). terms_from 1 (map count (take i xs)) ++ map (λ t. (k, t)) (range_with_len 1 (count x)))
+    (sym size) ∙ (sym (terms_from-push_at 1 (count x) (map count (take i xs)))
+    ∙ ap (λ (w : List ℕ). terms_from 1 w) (sym more)))
 
 or_assoc : (a b c : Bool) → ((a || b) || c) ≡ (a || (b || c))
 or_assoc true b c = refl
@@ -35,20 +50,28 @@ or_false true = refl
 or_false false = refl
 
 pub some_has_complement_push : (i t : ℕ) (odd : Bool) (cs : List Condition) (c : Condition) →
-    some_has_complement i t odd (conditions (cs ++ c ∷ [])) ≡ (some_has_complement i t odd (conditions cs) || has_complement i t odd c)
+    some_has_complement i t odd (conditions (cs ++ c ∷ []))
+    ≡ (some_has_complement i t odd (conditions cs) || has_complement i t odd c)
 some_has_complement_push i t odd [] c = or_false (has_complement i t odd c)
 some_has_complement_push i t odd (d ∷ cs) c =
-    ap (λ (b : Bool). has_complement i t odd d || b) (some_has_complement_push i t odd cs c) ∙ sym (or_assoc (has_complement i t odd d) (some_has_complement i t odd (conditions cs)) (has_complement i t odd c))
+    ap (λ (b : Bool). has_complement i t odd d || b) (some_has_complement_push i t odd cs c)
+    ∙ sym (or_assoc (has_complement i t odd d) (some_has_complement i t odd (conditions cs))
+    (has_complement i t odd c))
 
 -- marks that hold those of some parts, after one part more
-pub marks_more : (old now new front part : Bool) → now ≡ (old || front) → new ≡ (now || part) → new ≡ (old || (front || part))
+pub marks_more : (old now new front part : Bool) → now ≡ (old || front) → new ≡ (now || part)
+    → new ≡ (old || (front || part))
 marks_more old now new front part h k = k ∙ (ap (λ (b : Bool). b || part) h ∙ or_assoc old front part)
 
 pub is_complemented_more : (rules : List Rule) (k : ℕ) (r : Rule) (i t : ℕ) → k < length rules → r ≡ get_or rules k r →
-    is_complemented (take (k + 1) rules) i t ≡ (is_complemented (take k rules) i t || has_complement i t false (condition_of r.cond))
+    is_complemented (take (k + 1) rules) i t
+    ≡ (is_complemented (take k rules) i t || has_complement i t false (condition_of r.cond))
 is_complemented_more rules k r i t lt here =
     let more = take_more rules k r lt ∙ ap (λ (q : Rule). take k rules ++ q ∷ []) (sym here) in
-    ap (λ (w : List Rule). is_complemented w i t) more ∙ (list_any-append (λ (q : Rule). has_complement i t false (condition_of q.cond)) (take k rules) (r ∷ []) ∙ ap (λ (b : Bool). is_complemented (take k rules) i t || b) (or_false (has_complement i t false (condition_of r.cond))))
+    ap (λ (w : List Rule). is_complemented w i t) more
+    ∙ (list_any-append (λ (q : Rule). has_complement i t false (condition_of q.cond)) (take k rules) (r ∷ [])
+    ∙ ap (λ (b : Bool). is_complemented (take k rules) i t || b)
+    (or_false (has_complement i t false (condition_of r.cond))))
 
 -- a table without marks
 pub no_marks : (k n : ℕ) → get_or (replicate k false) n false ≡ false

@@ -1,21 +1,31 @@
 -- How conditions spread.
-use Rattle.std.proofs.Common.{◌≡◌, ℕ, ◌+◌, ◌*◌, ◌≤◌, Bool, true, false, not, List, [], ◌∷◌, ◌++◌, length, refl, sym, ap, ◌∙◌, arith, append_assoc}
+use Rattle.std.proofs.Common.{◌≡◌, ℕ, ◌+◌, ◌*◌, ◌≤◌, Bool, true, false, not, List, [], ◌∷◌, ◌++◌, length, refl, sym, ap}
+use Rattle.std.proofs.Common.{◌∙◌, arith, append_assoc}
 use Rattle.std.proofs.lemmas.List.{length-append}
-use Rattle.fuzzy_meaning.specs.Conditions.{Condition, is, negation, all, any, Conditions, end, also, conditions, nodes, total_nodes}
+use Rattle.fuzzy_meaning.specs.Conditions.{Condition, is, negation, all, any, Conditions, end, also, conditions, nodes}
+use Rattle.fuzzy_meaning.specs.Conditions.{total_nodes}
 use Rattle.rule_layout.specs.Spreading.{choices, spread_of, one_after_another, each_choice, total_length}
 use Rattle.rule_layout.specs.Grid.{FitsGrid, SomeFitGrid, AllFitGrid}
 use Rattle.std.proofs.Math.Nat.{mul-le-mul_left, mul-le-mul_right}
-use Rattle.rule_layout.proofs.ChoicesLemmas.{length-choices, total_length-append, total_length-choices, choices_assoc, nil-choices}
+use Rattle.rule_layout.proofs.ChoicesLemmas.{length-choices, total_length-append, total_length-choices, choices_assoc}
+use Rattle.rule_layout.proofs.ChoicesLemmas.{nil-choices}
 
-pub one_after_another-append : (odd : Bool) (cs ds : List Condition) → one_after_another odd (conditions (cs ++ ds)) ≡ one_after_another odd (conditions cs) ++ one_after_another odd (conditions ds)
+pub one_after_another-append : (odd : Bool) (cs ds : List Condition)
+    → one_after_another odd (conditions (cs ++ ds)) ≡ one_after_another odd (conditions cs)
+    ++ one_after_another odd (conditions ds)
 one_after_another-append odd [] ds = refl
 one_after_another-append odd (c ∷ cs) ds =
-    ap (λ w. spread_of odd c ++ w) (one_after_another-append odd cs ds) ∙ sym (append_assoc (spread_of odd c) (one_after_another odd (conditions cs)) (one_after_another odd (conditions ds)))
+    ap (λ w. spread_of odd c ++ w) (one_after_another-append odd cs ds)
+    ∙ sym (append_assoc (spread_of odd c) (one_after_another odd (conditions cs))
+    (one_after_another odd (conditions ds)))
 
-pub each_choice-append : (odd : Bool) (cs ds : List Condition) → each_choice odd (conditions (cs ++ ds)) ≡ choices (each_choice odd (conditions cs)) (each_choice odd (conditions ds))
+pub each_choice-append : (odd : Bool) (cs ds : List Condition)
+    → each_choice odd (conditions (cs ++ ds)) ≡ choices (each_choice odd (conditions cs))
+    (each_choice odd (conditions ds))
 each_choice-append odd [] ds = sym (nil-choices (each_choice odd (conditions ds)))
 each_choice-append odd (c ∷ cs) ds =
-    ap (λ w. choices (spread_of odd c) w) (each_choice-append odd cs ds) ∙ sym (choices_assoc (spread_of odd c) (each_choice odd (conditions cs)) (each_choice odd (conditions ds)))
+    ap (λ w. choices (spread_of odd c) w) (each_choice-append odd cs ds)
+    ∙ sym (choices_assoc (spread_of odd c) (each_choice odd (conditions cs)) (each_choice odd (conditions ds)))
 
 product_from_one : (m n : ℕ) → 1 ≤ m → 1 ≤ n → 1 ≤ m * n
 product_from_one m n p q = grind arith
@@ -63,19 +73,31 @@ mutual
   pub entries_le : (odd : Bool) (c : Condition) → total_length (spread_of odd c) ≤ length (spread_of odd c) * nodes c
   entries_le odd (is i t) = omega arith
   entries_le odd (negation c) = widened _ (length (spread_of (not odd) c)) (nodes c) (entries_le (not odd) c)
-  entries_le true (all cs) = widened _ (length (one_after_another true cs)) (total_nodes cs) (in_turn_entries_le true cs)
+  entries_le true (all cs) =
+      widened _ (length (one_after_another true cs)) (total_nodes cs) (in_turn_entries_le true cs)
   entries_le false (all cs) = widened _ (length (each_choice false cs)) (total_nodes cs) (choice_entries_le false cs)
   entries_le true (any cs) = widened _ (length (each_choice true cs)) (total_nodes cs) (choice_entries_le true cs)
-  entries_le false (any cs) = widened _ (length (one_after_another false cs)) (total_nodes cs) (in_turn_entries_le false cs)
+  entries_le false (any cs) =
+      widened _ (length (one_after_another false cs)) (total_nodes cs) (in_turn_entries_le false cs)
 
-  pub in_turn_entries_le : (odd : Bool) (cs : Conditions) → total_length (one_after_another odd cs) ≤ length (one_after_another odd cs) * total_nodes cs
+  pub in_turn_entries_le : (odd : Bool) (cs : Conditions)
+      → total_length (one_after_another odd cs) ≤ length (one_after_another odd cs) * total_nodes cs
   in_turn_entries_le odd end = omega arith
   in_turn_entries_le odd (also c cs) =
-      rw (total_length-append (spread_of odd c) (one_after_another odd cs), length-append (spread_of odd c) (one_after_another odd cs))
-      (sum_bound _ _ (length (spread_of odd c)) (length (one_after_another odd cs)) (nodes c) (total_nodes cs) (entries_le odd c) (in_turn_entries_le odd cs))
+      rw (
+        total_length-append (spread_of odd c) (one_after_another odd cs),
+        length-append (spread_of odd c) (one_after_another odd cs),
+      )
+      (sum_bound _ _ (length (spread_of odd c)) (length (one_after_another odd cs)) (nodes c) (total_nodes cs)
+      (entries_le odd c) (in_turn_entries_le odd cs))
 
-  pub choice_entries_le : (odd : Bool) (cs : Conditions) → total_length (each_choice odd cs) ≤ length (each_choice odd cs) * total_nodes cs
+  pub choice_entries_le : (odd : Bool) (cs : Conditions)
+      → total_length (each_choice odd cs) ≤ length (each_choice odd cs) * total_nodes cs
   choice_entries_le odd end = omega arith
   choice_entries_le odd (also c cs) =
-      rw (total_length-choices (spread_of odd c) (each_choice odd cs), length-choices (spread_of odd c) (each_choice odd cs))
-      (product_bound _ _ (length (spread_of odd c)) (length (each_choice odd cs)) (nodes c) (total_nodes cs) (entries_le odd c) (choice_entries_le odd cs))
+      rw (
+        total_length-choices (spread_of odd c) (each_choice odd cs),
+        length-choices (spread_of odd c) (each_choice odd cs),
+      )
+      (product_bound _ _ (length (spread_of odd c)) (length (each_choice odd cs)) (nodes c) (total_nodes cs)
+      (entries_le odd c) (choice_entries_le odd cs))

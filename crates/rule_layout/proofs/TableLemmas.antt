@@ -10,12 +10,26 @@ use Rattle.rule_layout.proofs.CondLemmas.{PartOf}
 use Rattle.rule_layout.proofs.SizeLemmas.{in_turn_push, each_choice_push}
 
 module _ {cs : List Cond} {i : ℕ} {p : Cond} (at : PartOf cs i p) (odd : Bool) (table : List ℕ) where
-  pub in_turn_numbers_more : (front part : List (List ℕ)) → front ≡ table_literals table (one_after_another odd (conditions (map condition_of (take i cs)))) → part ≡ table_literals table (spread_of odd (condition_of p))
+  pub in_turn_numbers_more : (front part : List (List ℕ))
+      → front ≡ table_literals table (one_after_another odd (conditions (map condition_of (take i cs))))
+      → part ≡ table_literals table (spread_of odd (condition_of p))
       → front ++ part ≡ table_literals table (one_after_another odd (conditions (map condition_of (take (i + 1) cs))))
   in_turn_numbers_more front part h k =
-      ap₂ (λ (v w : List (List ℕ)). v ++ w) h k ∙ (sym (map-append (map (table_literal table)) (one_after_another odd (conditions (map condition_of (take i cs)))) (spread_of odd (condition_of p))) ∙ ap (table_literals table) (sym (in_turn_push odd (map condition_of (take i cs)) (condition_of p)) ∙ ap (λ (w : List Condition). one_after_another odd (conditions w)) (sym (at.more))))
+      ap₂ (λ (v w : List (List ℕ)). v ++ w) h k
+      ∙ (sym (map-append (map (table_literal table))
+      (one_after_another odd (conditions (map condition_of (take i cs)))) (spread_of odd (condition_of p)))
+      ∙ ap (table_literals table)
+      (sym (in_turn_push odd (map condition_of (take i cs)) (condition_of p))
+      ∙ ap (λ (w : List Condition). one_after_another odd (conditions w)) (sym (at.more))))
 
-  pub choice_numbers_more : (front part : List (List ℕ)) → front ≡ table_literals table (each_choice odd (conditions (map condition_of (take i cs)))) → part ≡ table_literals table (spread_of odd (condition_of p))
+  pub choice_numbers_more : (front part : List (List ℕ))
+      → front ≡ table_literals table (each_choice odd (conditions (map condition_of (take i cs))))
+      → part ≡ table_literals table (spread_of odd (condition_of p))
       → choices front part ≡ table_literals table (each_choice odd (conditions (map condition_of (take (i + 1) cs))))
   choice_numbers_more front part h k =
-      ap₂ (λ (v w : List (List ℕ)). choices v w) h k ∙ (sym (map-choices (table_literal table) (each_choice odd (conditions (map condition_of (take i cs)))) (spread_of odd (condition_of p))) ∙ ap (table_literals table) (sym (each_choice_push odd (map condition_of (take i cs)) (condition_of p)) ∙ ap (λ (w : List Condition). each_choice odd (conditions w)) (sym (at.more))))
+      ap₂ (λ (v w : List (List ℕ)). choices v w) h k
+      ∙ (sym (map-choices (table_literal table) (each_choice odd (conditions (map condition_of (take i cs))))
+      (spread_of odd (condition_of p)))
+      ∙ ap (table_literals table)
+      (sym (each_choice_push odd (map condition_of (take i cs)) (condition_of p))
+      ∙ ap (λ (w : List Condition). each_choice odd (conditions w)) (sym (at.more))))

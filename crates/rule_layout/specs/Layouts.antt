@@ -1,5 +1,6 @@
 -- What a block's rules are laid out as, and when they are too many.
-use Rattle.std.specs.Prelude.{◌≡◌, ℕ, ◌-◌, ◌*◌, ◌<◌, ◌≤◌, Bool, false, not, ◌&&◌, nat_le, List, map, length, get_or, take, sum_by, flat_map, All, Option, Some, None, pos, int_lt, if◌then◌else◌}
+use Rattle.std.specs.Prelude.{◌≡◌, ℕ, ◌-◌, ◌*◌, ◌<◌, ◌≤◌, Bool, false, not, ◌&&◌, nat_le, List, map, length, get_or}
+use Rattle.std.specs.Prelude.{take, sum_by, flat_map, All, Option, Some, None, pos, int_lt, if◌then◌else◌}
 use Rattle.std.specs.List.{list_any}
 use Rattle.fz_num.specs.declared.dec.Dec.{Dec}
 use Rattle.fuzzy_meaning.specs.declared.block.Block.{Block}

@@ -1,12 +1,14 @@
 //! The layout of a block's rules.
-ghost use Rattle.std.specs.Prelude.{◌≡◌, ◌*◌, ◌<◌, ◌≤◌, ◌++◌, nat_le, ◌&&◌, not, map, replicate, flat_map, length, All, IfOk, IfErr, OnOk, IfSome, sum_by, true, false};
+ghost use Rattle.std.specs.Prelude.{◌≡◌, ◌*◌, ◌<◌, ◌≤◌, ◌++◌, nat_le, ◌&&◌, not, map, replicate, flat_map, length, All};
+ghost use Rattle.std.specs.Prelude.{IfOk, IfErr, OnOk, IfSome, sum_by, true, false};
 ghost use Rattle.std.specs.List.{list_any};
 ghost use Rattle.fuzzy_meaning.specs.Blocks.{IsValid, IsWeight, rule_size};
 ghost use Rattle.rule_layout.specs.declared.flat.LayoutFault.TheVariants.{Memory};
 ghost use Rattle.rule_layout.specs.Slots.{out_slot};
 ghost use Rattle.rule_layout.specs.Tables.{IsInTable, table_number};
 ghost use Rattle.rule_layout.specs.Sizes.{IsCountable, IsSizeOfRule, IsSizeOfRules};
-ghost use Rattle.rule_layout.specs.Layouts.{flat_of, IsWithinLimits, IsFaultOf, IsLaidOut, rule_spread, rule_weights, is_below_one, form_by, element_width};
+ghost use Rattle.rule_layout.specs.Layouts.{flat_of, IsWithinLimits, IsFaultOf, IsLaidOut, rule_spread, rule_weights};
+ghost use Rattle.rule_layout.specs.Layouts.{is_below_one, form_by, element_width};
 ghost use Rattle.rule_layout.specs.Steps.{table_conjunctions, IsSpreadable, with_conclusions};
 
 use crate::flat::{Conjunction, Flat, Form, LayoutFault, Slot};

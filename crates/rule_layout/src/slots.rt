@@ -3,9 +3,11 @@ ghost use Rattle.std.specs.Prelude.{◌≡◌, ◌+◌, ◌<◌, ◌≤◌, ◌+
 ghost use Rattle.std.specs.List.{range_with_len};
 ghost use Rattle.fuzzy_meaning.specs.Conditions.{condition_of};
 ghost use Rattle.fuzzy_meaning.specs.Blocks.{IsValid};
-ghost use Rattle.rule_layout.specs.Slots.{slots_of, terms_from, term_count, singleton_count, term_slot, complement_slot, out_slot};
+ghost use Rattle.rule_layout.specs.Slots.{slots_of, terms_from, term_count, singleton_count, term_slot};
+ghost use Rattle.rule_layout.specs.Slots.{complement_slot, out_slot};
 ghost use Rattle.rule_layout.specs.Grid.{FitsGrid, IsInGrid};
-ghost use Rattle.rule_layout.specs.Tables.{IsInTable, place_of, table_number, IsNumbering, is_marked, AreAdded, AreUsed};
+ghost use Rattle.rule_layout.specs.Tables.{IsInTable, place_of, table_number, IsNumbering, is_marked, AreAdded};
+ghost use Rattle.rule_layout.specs.Tables.{AreUsed};
 
 use crate::flat::Slot;
 use fuzzy_meaning::{Block, Cond, Input, Output, Rule};

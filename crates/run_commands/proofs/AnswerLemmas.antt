@@ -28,7 +28,8 @@ abbrev pub certifies : (reported : AnswersAreReported) (run : Run) (files : File
     → left ≡ left_of (firmware_rows firmware (map input_bytes slice) plan run.flags).state.mem
     → CertifiedRun run.width run.flags files (report_of errors firmware.instr_bound rows)
 certifies reported run files block firmware errors samples slice plan rows left a same ran answers left_is =
-    let ran_there = subst (λ (ss : List Sample). rows ≡ (firmware_rows firmware (map input_bytes ss) plan run.flags).rows)
+    let ran_there = subst
+    (λ (ss : List Sample). rows ≡ (firmware_rows firmware (map input_bytes ss) plan run.flags).rows)
     same ran in
     let answers_there : AnswersItsBlock firmware run.flags (map input_bytes samples) plan rows =
     subst (λ (ss : List Sample). AnswersItsBlock firmware run.flags (map input_bytes ss) plan rows) same answers in

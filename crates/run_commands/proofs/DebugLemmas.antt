@@ -34,8 +34,10 @@ abbrev pub only_text : List ℕ → Deed
 only_text t = record { text = t; file = None }
 
 -- what the debugger answers of accepted files, and its lines
-pub gives : (fit : SpelledBytesFit) (debug : DebugRun) (files : DebugFiles) (block : Block) (firmware : Firmware) (samples slice : List Sample)
-    (plan : List Request) (script orders : List Order) (items items' : List Shown) (rows rows' : List (RowSeen (List ℕ)))
+pub gives : (fit : SpelledBytesFit) (debug : DebugRun) (files : DebugFiles) (block : Block) (firmware : Firmware)
+    (samples slice : List Sample)
+    (plan : List Request) (script orders : List Order) (items items' : List Shown)
+    (rows rows' : List (RowSeen (List ℕ)))
     (text : List ℕ)
     → Debugs files block firmware samples plan script → slice ≡ samples → orders ≡ script
     → items ≡ shown orders (run_positions firmware debug.flags slice plan)
@@ -43,12 +45,14 @@ pub gives : (fit : SpelledBytesFit) (debug : DebugRun) (files : DebugFiles) (blo
     → AnswersItsBlock firmware debug.flags (map input_bytes slice) plan rows
     → text ≡ debug_lines items' rows' → items' ≡ items → rows' ≡ rows
     → DebugGives debug files (only_text text)
-gives fit debug files block firmware samples slice plan script orders items items' rows rows' text a same obeyed is ran answers
+gives fit debug files block firmware samples slice plan script orders items items' rows rows' text a same obeyed is
+    ran answers
     written same_items same_rows =
     let all : AnswersItsBlock firmware debug.flags (map input_bytes samples) plan rows =
     subst (λ (ss : List Sample). AnswersItsBlock firmware debug.flags (map input_bytes ss) plan rows) same answers in
     let shown_is : items' ≡ shown script (run_positions firmware debug.flags samples plan) =
-    same_items ∙ is ∙ ap₂ (λ (os : List Order) (ss : List Sample). shown os (run_positions firmware debug.flags ss plan)) obeyed same in
+    same_items ∙ is ∙ ap₂
+    (λ (os : List Order) (ss : List Sample). shown os (run_positions firmware debug.flags ss plan)) obeyed same in
     record {
       block = block;
       firmware = firmware;
@@ -57,7 +61,8 @@ gives fit debug files block firmware samples slice plan script orders items item
       script = script;
       accepts = a;
       rows = rows;
-      ran = subst (λ (ss : List Sample). rows ≡ (firmware_rows firmware (map input_bytes ss) plan debug.flags).rows) same ran;
+      ran = subst (λ (ss : List Sample). rows ≡ (firmware_rows firmware (map input_bytes ss) plan debug.flags).rows)
+          same ran;
       follows = all block a.compiled.spelled.valid a.compiled.limits a.compiled.compiled
           (fit block files.trace samples a.in_range);
       deed_is = ap only_text (written ∙ ap₂ debug_lines shown_is same_rows);

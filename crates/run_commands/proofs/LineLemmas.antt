@@ -24,7 +24,8 @@ pub run_written : (begun rows lines : List (String Global)) (left_line : String 
     → text_of lines ≡ run_lines (report_of es bound (map row_seen rs)) left
 run_written begun rows lines left_line es bound left rs begun_so rows_so added is =
     ap text_of added ∙ text_of-snoc rows left_line
-    ∙ ap₂ (λ (x y : List ℕ). x ++ y) (begun_items row_lines row_seen begun rows (begun_lines es bound) rs begun_so rows_so) is
+    ∙ ap₂ (λ (x y : List ℕ). x ++ y)
+    (begun_items row_lines row_seen begun rows (begun_lines es bound) rs begun_so rows_so) is
     ∙ append_assoc (begun_lines es bound) (counted row_lines 1 (map row_seen rs)) (line (codes "left ") left)
 
 -- ---- the lines of a workload
@@ -39,7 +40,8 @@ pub generate_written : (number bound : ℕ) (es : List ℕ) (rows : List (RowSee
     → l6 ≡ l5 ++ s6 ∷ [] → string_bytes s6 ≡ line (codes "resumed ") (resumed_of rows)
     → l7 ≡ l6 ++ s7 ∷ [] → string_bytes s7 ≡ line (codes "sum ") (answers_of rows)
     → text_of l7 ≡ generate_lines number es bound rows
-generate_written number bound es rows l0 l1 l2 l3 l4 l5 l6 l7 s1 s3 s4 s5 s6 s7 start a1 is1 errors a3 is3 a4 is4 a5 is5 a6 is6 a7 is7 =
+generate_written number bound es rows l0 l1 l2 l3 l4 l5 l6 l7 s1 s3 s4 s5 s6 s7 start a1 is1 errors a3 is3 a4 is4 a5 is5
+    a6 is6 a7 is7 =
     let r7 = line (codes "sum ") (answers_of rows) in
     let r6 = line (codes "resumed ") (resumed_of rows) ++ r7 in
     let r5 = line (codes "frames ") (frames_of rows) ++ r6 in

@@ -1,5 +1,6 @@
 -- Sums, one more.
-use Rattle.std.proofs.Common.{◌≡◌, ◌<◌, ◌≤◌, ◌+◌, ◌-◌, ℕ, List, [], ◌∷◌, drop, get_or, length, map, take, refl, sym, ◌∙◌, ap, arith}
+use Rattle.std.proofs.Common.{◌≡◌, ◌<◌, ◌≤◌, ◌+◌, ◌-◌, ℕ, List, [], ◌∷◌, drop, get_or, length, map, take, refl, sym}
+use Rattle.std.proofs.Common.{◌∙◌, ap, arith}
 use Rattle.std.proofs.Common.{length-drop}
 use Rattle.std.specs.Prelude.{sum, sum_by}
 use Rattle.std.proofs.lemmas.List.{get_or-drop}
@@ -20,13 +21,15 @@ next_sum mem from at total byte low high is so_far =
     let next : at - from + 1 ≡ at + 1 - from = omega (arith, low) in
     let more = sum_more mem from (at - from) (omega (arith, low, high)) in
     ap (λ (n : ℕ). n + byte) so_far
-    ∙ ap (λ (n : ℕ). sum (take (at - from) (drop from mem)) + n) (is ∙ ap (λ (p : ℕ). get_or mem p 0) (omega (arith, here)))
+    ∙ ap (λ (n : ℕ). sum (take (at - from) (drop from mem)) + n)
+    (is ∙ ap (λ (p : ℕ). get_or mem p 0) (omega (arith, here)))
     ∙ sym more
     ∙ ap (λ (n : ℕ). sum (take n (drop from mem))) next
 
 -- ---- over items as they are seen
 
-map_seen : {R S : Type 0} (seen : R → S) (f : S → ℕ) (rows : List R) → map f (map seen rows) ≡ map (λ r. f (seen r)) rows
+map_seen : {R S : Type 0} (seen : R → S) (f : S → ℕ) (rows : List R)
+    → map f (map seen rows) ≡ map (λ r. f (seen r)) rows
 map_seen seen f [] = refl
 map_seen seen f (x ∷ xs) = ap (λ (ns : List ℕ). f (seen x) ∷ ns) (map_seen seen f xs)
 

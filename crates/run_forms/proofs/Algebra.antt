@@ -1,6 +1,7 @@
--- When requests are taken where I is 0 throughout, what holds of all that was told, where placed bytes stand, the requests
--- of a sample, and parts of what is shown.
-use Rattle.std.proofs.Common.{◌≡◌, ℕ, zero, suc, ◌-◌, ◌+◌, ◌<◌, ◌≤◌, ◌⊎◌, inl, inr, true, false, Bool, List, [], ◌∷◌, map, length, refl, ap, arith}
+-- When requests are taken where I is 0 throughout, what holds of all that was told, where placed bytes stand, the
+-- requests of a sample, and parts of what is shown.
+use Rattle.std.proofs.Common.{◌≡◌, ℕ, zero, suc, ◌-◌, ◌+◌, ◌<◌, ◌≤◌, ◌⊎◌, inl, inr, true, false, Bool, List, [], ◌∷◌}
+use Rattle.std.proofs.Common.{map, length, refl, ap, arith}
 use Rattle.std.specs.Prelude.{All, if◌then◌else◌}
 use Rattle.std.proofs.lemmas.Bool.Decides.{nat_tests}
 use Rattle.std.proofs.lemmas.List.Elements.{All-cons}
@@ -68,14 +69,17 @@ one_is place k r e = grind (arith, nat_tests)
 pub other_is : {A : Type 0} (place : A → ℕ × ℕ) (k : ℕ) (r : A) → is_of place k r ≡ false → sample_in place r ≡ k → ⊥
 other_is place k r e = grind (arith, nat_tests)
 
-pub of_here : {A : Type 0} (place : A → ℕ × ℕ) (k : ℕ) (r : A) (rs : List A) → is_of place k r ≡ true → of_sample place k (r ∷ rs) ≡ r ∷ of_sample place k rs
+pub of_here : {A : Type 0} (place : A → ℕ × ℕ) (k : ℕ) (r : A) (rs : List A) → is_of place k r ≡ true
+    → of_sample place k (r ∷ rs) ≡ r ∷ of_sample place k rs
 of_here place k r rs e = ap (λ (b : Bool). if b then r ∷ of_sample place k rs else of_sample place k rs) e
 
-pub of_not : {A : Type 0} (place : A → ℕ × ℕ) (k : ℕ) (r : A) (rs : List A) → is_of place k r ≡ false → of_sample place k (r ∷ rs) ≡ of_sample place k rs
+pub of_not : {A : Type 0} (place : A → ℕ × ℕ) (k : ℕ) (r : A) (rs : List A) → is_of place k r ≡ false
+    → of_sample place k (r ∷ rs) ≡ of_sample place k rs
 of_not place k r rs e = ap (λ (b : Bool). if b then r ∷ of_sample place k rs else of_sample place k rs) e
 
 -- a part of what is shown of each row
-pub map-shown_rows : {S A B T C : Type 0} (part : T → C) (shows : RowSeen S → List B → T) (rows : List (RowSeen S)) (tss : List (List (A × B)))
+pub map-shown_rows : {S A B T C : Type 0} (part : T → C) (shows : RowSeen S → List B → T) (rows : List (RowSeen S))
+    (tss : List (List (A × B)))
     → map part (shown_rows shows rows tss) ≡ shown_rows (λ row told. part (shows row told)) rows tss
 map-shown_rows part shows [] tss = refl
 map-shown_rows part shows (row ∷ rows) [] = refl

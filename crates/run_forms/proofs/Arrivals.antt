@@ -1,5 +1,6 @@
 -- The step of a plain instruction, and the way to LOOP, by its next step.
-use Rattle.std.proofs.Common.{◌≡◌, ℕ, zero, suc, ◌-◌, ◌<◌, ◌==◌, true, false, Result, Ok, Err, inl, refl, ap, sym, ◌∙◌, arith}
+use Rattle.std.proofs.Common.{◌≡◌, ℕ, zero, suc, ◌-◌, ◌<◌, ◌==◌, true, false, Result, Ok, Err, inl, refl, ap, sym, ◌∙◌}
+use Rattle.std.proofs.Common.{arith}
 use Rattle.std.proofs.lemmas.Bool.Decides.{nat_tests}
 use Rattle.cpu12_parts.specs.State.{State}
 use Rattle.cpu12_emul.specs.Simulation.{PlainIsStep}
@@ -28,13 +29,16 @@ unfolding arrival
 arrives flags loop zero s e = refl
 arrives flags loop (suc n) s e = let t = there s.regs.pc loop e in rw t refl
 
-pub arrives_later : (flags loop n : ℕ) (s : State) (next : Next) → (s.regs.pc ≡ loop → ⊥) → 0 < n → next_of flags s ≡ Ok next
+pub arrives_later : (flags loop n : ℕ) (s : State) (next : Next) → (s.regs.pc ≡ loop → ⊥) → 0 < n
+    → next_of flags s ≡ Ok next
     → arrival flags loop n s ≡ arrival flags loop (n - 1) next.state
 unfolding arrival
 arrives_later flags loop zero s next e l o = absurd (omega arith)
-arrives_later flags loop (suc n) s next e l o = let t = elsewhere s.regs.pc loop e in let m : suc n - 1 ≡ n = omega arith in rw (t, o, m) refl
+arrives_later flags loop (suc n) s next e l o = let t = elsewhere s.regs.pc loop e in
+    let m : suc n - 1 ≡ n = omega arith in rw (t, o, m) refl
 
-pub arrives_never : (flags loop n : ℕ) (s : State) (byte : ℕ) → (s.regs.pc ≡ loop → ⊥) → next_of flags s ≡ Err byte → arrival flags loop n s ≡ s
+pub arrives_never : (flags loop n : ℕ) (s : State) (byte : ℕ) → (s.regs.pc ≡ loop → ⊥) → next_of flags s ≡ Err byte
+    → arrival flags loop n s ≡ s
 unfolding arrival
 arrives_never flags loop zero s byte e o = refl
 arrives_never flags loop (suc n) s byte e o = let t = elsewhere s.regs.pc loop e in rw (t, o) refl
@@ -45,7 +49,8 @@ arrives_spent flags loop zero s z = refl
 arrives_spent flags loop (suc n) s z = absurd (omega arith)
 
 pub arrives_plainly : PlainIsStep → ArrivesPlainly
-arrives_plainly law flags loop zero most s t free w at le = arrives flags loop most s (ap (λ (u : State). u.regs.pc) w ∙ at) ∙ w
+arrives_plainly law flags loop zero most s t free w at le =
+    arrives flags loop most s (ap (λ (u : State). u.regs.pc) w ∙ at) ∙ w
 arrives_plainly law flags loop (suc n) most s t free w at le =
     let u = w.0 in
     let i = w.1.1.0 in

@@ -1,5 +1,7 @@
 -- Steps that are done at once: parts of instructions that go on, or plain instructions.
-use Rattle.std.proofs.Common.{◌≡◌, ℕ, zero, suc, ◌+◌, ◌-◌, ◌<◌, ◌≤◌, Bool, true, false, ◌&&◌, nat_le, Ok, List, [], ◌∷◌, ◌++◌, length, length-append, length-drop, map, drop, refl, ap, ap₂, sym, ◌∙◌, subst, arith}
+use Rattle.std.proofs.Common.{◌≡◌, ℕ, zero, suc, ◌+◌, ◌-◌, ◌<◌, ◌≤◌, Bool, true, false, ◌&&◌, nat_le, Ok, List, [], ◌∷◌}
+use Rattle.std.proofs.Common.{◌++◌, length, length-append, length-drop, map, drop, refl, ap, ap₂, sym, ◌∙◌, subst}
+use Rattle.std.proofs.Common.{arith}
 use Rattle.std.specs.Prelude.{◌==◌, not, if◌then◌else◌}
 use Rattle.std.proofs.lemmas.Bool.{and_right}
 use Rattle.std.proofs.lemmas.Bool.Decides.{nat_tests}
@@ -15,8 +17,10 @@ use Rattle.run_forms.specs.Forms.{Harness, moment_in, plan_form}
 use Rattle.run_forms.specs.Rest.{is_due, shown_by}
 use Rattle.run_forms.specs.Rows.{frames_seen}
 use Rattle.run_forms.specs.Positions.{Position, numbered}
-use Rattle.run_forms.specs.Sessions.{Coming, after_states, after_takes, after_state, at_end, by_step, moved, stepped_tally, IsSteady, NoneDue}
-use Rattle.run_forms.specs.Outlooks.{Ahead, Outlook, ahead, at_position, from_here, left_by, outlook, outlook_at, requests_at, sample_at, with_row}
+use Rattle.run_forms.specs.Sessions.{Coming, after_states, after_takes, after_state, at_end, by_step, moved}
+use Rattle.run_forms.specs.Sessions.{stepped_tally, IsSteady, NoneDue}
+use Rattle.run_forms.specs.Outlooks.{Ahead, Outlook, ahead, at_position, from_here, left_by, outlook, outlook_at}
+use Rattle.run_forms.specs.Outlooks.{requests_at, sample_at, with_row}
 use Rattle.run_forms.proofs.Comings.{Takes, stepped_here, taken_here}
 use Rattle.run_forms.proofs.Takings.{takes_end}
 
@@ -37,7 +41,8 @@ none_later moment m n (q ∷ qs) none = λ h. (let l : m + suc n < moment q = no
 none_fewer : {A : Type 0} (moment : A → ℕ) (m n k : ℕ) (qs : List A) → n ≤ k → NoneDue moment m k qs
     → NoneDue moment m n qs
 none_fewer moment m n k [] few none = tt
-none_fewer moment m n k (q ∷ qs) few none = λ h. (let l : m + k < moment q = none (omega (arith, h, few)) in omega (arith, l, few))
+none_fewer moment m n k (q ∷ qs) few none =
+    λ h. (let l : m + k < moment q = none (omega (arith, h, few)) in omega (arith, l, few))
 
 made : {U : Type 0} → Stand U → ℕ → Bool → ℕ → ℕ → Stand U
 made st m i k l = record {
@@ -54,7 +59,8 @@ one_instr : (part : Bool) → (if part then 0 else 1) ≡ one_if (not part)
 one_instr true = refl
 one_instr false = refl
 
-more_instrs : (part : Bool) (k n : ℕ) → k + (if part then 0 else 1) + (if part then 0 else n) ≡ k + (if part then 0 else suc n)
+more_instrs : (part : Bool) (k n : ℕ)
+    → k + (if part then 0 else 1) + (if part then 0 else n) ≡ k + (if part then 0 else suc n)
 more_instrs true k n = omega arith
 more_instrs false k n = omega arith
 
@@ -82,8 +88,10 @@ moved_more part n st =
     ∙ ap₂ (λ (i : Bool) (l : ℕ). made st (t.moment + suc n) i (t.instrs + (if part then 0 else suc n)) l) i l
 
 -- a step at whose end nothing comes
-one_step : {A U R S B T : Type 0} (kind : Stepped) (flags : ℕ) (h : Harness A U R S B T) (qs : List A) (st : Stand U) (s u : State)
-    → st.over ≡ false → st.tally.arrived ≡ false → 1 ≤ st.left → next_of flags s ≡ Ok (record { state = u; kind = kind })
+one_step : {A U R S B T : Type 0} (kind : Stepped) (flags : ℕ) (h : Harness A U R S B T) (qs : List A) (st : Stand U)
+    (s u : State)
+    → st.over ≡ false → st.tally.arrived ≡ false → 1 ≤ st.left
+    → next_of flags s ≡ Ok (record { state = u; kind = kind })
     → h.parts.ends u ≡ false
     → is_due (moment_in h.parts.place) (st.tally.moment + 1) (drop st.tally.next qs) u ≡ false
     → after_takes flags h qs st s ≡ after_state s (after_takes flags h qs (moved (is_part kind) 1 st) u)
@@ -102,17 +110,21 @@ one_step {U = U} kind flags h qs st s u on alive left e busy due =
       resumed = omega (arith, none);
       taken_is = grind (arith, nat_tests);
     } in
-    let takes = takes_end (plan_form flags h.parts) (t.moment + 1) (drop t.next qs) u (frames_seen t.frames.items) (map h.told t.told.items) due in
+    let takes = takes_end (plan_form flags h.parts) (t.moment + 1) (drop t.next qs) u (frames_seen t.frames.items)
+    (map h.told t.told.items) due in
     stepped_here flags h qs st st1 s u kind on e refl
     ∙ ap (after_state s) (sym (
     ap (λ (b : Bool). if b then at_end h.told st2.tally u else by_step flags h qs st2 u (next_of flags u)) on
     ∙ taken_here flags h qs st1 st2 u u false busy k takes))
 
 -- many of them
-steps_on : {A U R S B T : Type 0} (kind : Stepped) (P : State → Type 0) (flags : ℕ) (h : Harness A U R S B T) (qs : List A) (n : ℕ)
-    (st : Stand U) (s t : State) → ((u : State) → P u → h.parts.ends u ≡ false) → st.over ≡ false → st.tally.arrived ≡ false → n ≤ st.left
+steps_on : {A U R S B T : Type 0} (kind : Stepped) (P : State → Type 0) (flags : ℕ) (h : Harness A U R S B T)
+    (qs : List A) (n : ℕ)
+    (st : Stand U) (s t : State) → ((u : State) → P u → h.parts.ends u ≡ false) → st.over ≡ false
+    → st.tally.arrived ≡ false → n ≤ st.left
     → NoneDue (moment_in h.parts.place) st.tally.moment n (drop st.tally.next qs) → StepsOf kind P flags n s t
-    → (states : List State) × (after_takes flags h qs st s ≡ after_states states (after_takes flags h qs (moved (is_part kind) n st) t))
+    → (states : List State)
+    × (after_takes flags h qs st s ≡ after_states states (after_takes flags h qs (moved (is_part kind) n st) t))
 steps_on {U = U} kind P flags h qs zero st s t busy on alive left none to =
     ([], ap₂ (λ (k : Stand U) (u : State). after_takes flags h qs k u) (sym (moved_none (is_part kind) st)) to)
 steps_on {U = U} kind P flags h qs (suc n) st s t busy on alive left none to =
@@ -122,10 +134,12 @@ steps_on {U = U} kind P flags h qs (suc n) st s t busy on alive left none to =
     let st1 : Stand U = moved (is_part kind) 1 st in
     let due = not_due moment m (suc n) (drop st.tally.next qs) u (omega arith) none in
     let one = one_step kind flags h qs st s u on alive (omega (arith, left)) to.1.0 (busy u to.1.1) due in
-    let rest = steps_on kind P flags h qs n st1 u t busy on alive (omega (arith, left)) (none_later moment m n (drop st.tally.next qs) none) to.1.2 in (
+    let rest = steps_on kind P flags h qs n st1 u t busy on alive (omega (arith, left))
+    (none_later moment m n (drop st.tally.next qs) none) to.1.2 in (
       s ∷ rest.0,
       one ∙ ap (after_state s) rest.1
-          ∙ ap (λ (k : Stand U). after_states (s ∷ rest.0) (after_takes flags h qs k t)) (moved_more (is_part kind) n st),
+          ∙ ap (λ (k : Stand U). after_states (s ∷ rest.0) (after_takes flags h qs k t))
+          (moved_more (is_part kind) n st),
     )
 
 fewer_instrs : (part : Bool) (n : ℕ) → (if part then 0 else n) ≤ n
@@ -148,14 +162,19 @@ steady_moved qs part n st left steady =
     }
 
 -- what is to come is the same from a stand as after steps from there, which may go on too
-pub record PassesTo {A U R S B T : Type 0} (flags : ℕ) (h : Harness A U R S B T) (qs : List A) (st st2 : Stand U) (s t : State) : Type 0 where
-  pub coming : (states : List State) × (after_takes flags h qs st s ≡ after_states states (after_takes flags h qs st2 t))
+pub record PassesTo {A U R S B T : Type 0} (flags : ℕ) (h : Harness A U R S B T) (qs : List A) (st st2 : Stand U)
+    (s t : State) : Type 0 where
+  pub coming : (states : List State)
+      × (after_takes flags h qs st s ≡ after_states states (after_takes flags h qs st2 t))
   pub steady : IsSteady qs st2
 
 -- steps of a kind, of which no more are done than come before a request and are left
-pub passes_to : {A U R S B T : Type 0} (kind : Stepped) (P : State → Type 0) (flags : ℕ) (h : Harness A U R S B T) (qs : List A) (most n : ℕ)
-    (st st2 : Stand U) (s t : State) → ((u : State) → P u → h.parts.ends u ≡ false) → st.over ≡ false → IsSteady qs st → most ≤ st.left
-    → NoneDue (moment_in h.parts.place) st.tally.moment most (drop st.tally.next qs) → n ≤ most → StepsOf kind P flags n s t
+pub passes_to : {A U R S B T : Type 0} (kind : Stepped) (P : State → Type 0) (flags : ℕ) (h : Harness A U R S B T)
+    (qs : List A) (most n : ℕ)
+    (st st2 : Stand U) (s t : State) → ((u : State) → P u → h.parts.ends u ≡ false) → st.over ≡ false → IsSteady qs st
+    → most ≤ st.left
+    → NoneDue (moment_in h.parts.place) st.tally.moment most (drop st.tally.next qs) → n ≤ most
+    → StepsOf kind P flags n s t
     → st2 ≡ moved (is_part kind) n st → PassesTo flags h qs st st2 s t
 passes_to {U = U} kind P flags h qs most n st st2 s t busy on steady left none few to is =
     let within : n ≤ st.left = omega (arith, left, few) in
@@ -189,9 +208,11 @@ pub record PassesOn {T : Type 0} (o o2 : Outlook T) : Type 0 where
   pub less : length o2.later < length o.later
 
 -- a position further, and then by steps that were done at once
-passed : {A U R S B T : Type 0} (flags : ℕ) (h : Harness A U R S B T) (plan : List A) (p : Progress U R) (st : Stand U) (o : Outlook T)
+passed : {A U R S B T : Type 0} (flags : ℕ) (h : Harness A U R S B T) (plan : List A) (p : Progress U R) (st : Stand U)
+    (o : Outlook T)
     (s t : State) (at : Position) (states : List State) → o ≡ at_position at (from_here (outlook_at flags h plan p s))
-    → after_takes flags h (requests_at plan p) p.stand s ≡ after_states states (after_takes flags h (requests_at plan p) st t)
+    → after_takes flags h (requests_at plan p) p.stand s ≡ after_states states
+    (after_takes flags h (requests_at plan p) st t)
     → PassesOn o (outlook_at flags h plan (record p { stand = st }) t)
 passed {B = B} {T = T} flags h plan p st o s t at states goes on =
     let x = sample_at p.number h.samples in
@@ -201,9 +222,12 @@ passed {B = B} {T = T} flags h plan p st o s t at states goes on =
     let k : ℕ = p.number in
     let m : ℕ = p.stand.tally.moment in
     let c : Coming B = after_takes flags h (requests_at plan p) st t in
-    let next : Ahead T = ahead flags h p.most (k + 1) later rest (with_row rows (shown_by h.shows h.parts.answers c.brief) x) (left_by h.parts.leave x c.brief.state) in
+    let next : Ahead T =
+    ahead flags h p.most (k + 1) later rest (with_row rows (shown_by h.shows h.parts.answers c.brief) x)
+    (left_by h.parts.leave x c.brief.state) in
     let by : Coming B → Outlook T = λ d. outlook flags h p.most k m x s d later rest rows in
-    let here : o ≡ at_position at (from_here (by (after_states states c))) = goes ∙ ap (λ (d : Coming B). at_position at (from_here (by d))) on in
+    let here : o ≡ at_position at (from_here (by (after_states states c))) =
+    goes ∙ ap (λ (d : Coming B). at_position at (from_here (by d))) on in
     let all = ap (λ (q : Outlook T). length q.later) here in
     let few = fewer k m st.tally.moment states c.states next.left in
     record {
@@ -212,11 +236,14 @@ passed {B = B} {T = T} flags h plan p st o s t at states goes on =
       less = omega (arith, all, few);
     }
 
-pub passes_on : {A U R S B T : Type 0} (flags i j : ℕ) (h : Harness A U R S B T) (plan : List A) (l p : Progress U R) (st : Stand U)
+pub passes_on : {A U R S B T : Type 0} (flags i j : ℕ) (h : Harness A U R S B T) (plan : List A) (l p : Progress U R)
+    (st : Stand U)
     (r s t : State) (at : Position) (states : List State) → i ≡ flags → j ≡ flags
     → outlook_at i h plan l r ≡ at_position at (from_here (outlook_at i h plan p s))
     → after_takes j h (requests_at plan p) p.stand s ≡ after_states states (after_takes j h (requests_at plan p) st t)
     → PassesOn (outlook_at flags h plan l r) (outlook_at flags h plan (record p { stand = st }) t)
-passes_on flags i j h plan l p st r s t at states ei ej goes on = passed flags h plan p st (outlook_at flags h plan l r) s t at states
+passes_on flags i j h plan l p st r s t at states ei ej goes on =
+    passed flags h plan p st (outlook_at flags h plan l r) s t at states
     (subst (λ (k : ℕ). outlook_at k h plan l r ≡ at_position at (from_here (outlook_at k h plan p s))) ei goes)
-    (subst (λ (k : ℕ). after_takes k h (requests_at plan p) p.stand s ≡ after_states states (after_takes k h (requests_at plan p) st t)) ej on)
+    (subst (λ (k : ℕ). after_takes k h (requests_at plan p) p.stand s ≡ after_states states
+    (after_takes k h (requests_at plan p) st t)) ej on)

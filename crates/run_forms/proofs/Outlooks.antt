@@ -1,5 +1,7 @@
 -- What is ahead of a run, by its next position.
-use Rattle.std.proofs.Common.{◌≡◌, ◌≤◌, ◌<◌, ℕ, zero, suc, ◌+◌, ◌-◌, Bool, true, false, Result, Ok, Err, List, [], ◌∷◌, ◌++◌, length, take, drop, refl, ap, ap₂, sym, ◌∙◌, subst, vec_len, vec_capacity, arith, append_assoc, append-nil}
+use Rattle.std.proofs.Common.{◌≡◌, ◌≤◌, ◌<◌, ℕ, zero, suc, ◌+◌, ◌-◌, Bool, true, false, Result, Ok, Err, List, [], ◌∷◌}
+use Rattle.std.proofs.Common.{◌++◌, length, take, drop, refl, ap, ap₂, sym, ◌∙◌, subst, vec_len, vec_capacity, arith}
+use Rattle.std.proofs.Common.{append_assoc, append-nil}
 use Rattle.std.specs.Prelude.{if◌then◌else◌, Option, Some, slice_get, map}
 use Rattle.cpu12_parts.specs.State.{State}
 use Rattle.cpu12_emul.specs.declared.ends.Frame.{Frame}
@@ -15,7 +17,8 @@ use Rattle.run_forms.specs.Rows.{frames_seen, tellings, shown}
 use Rattle.run_forms.specs.Slices.{Follow, requests_first, HasRoom, HaveRoom}
 use Rattle.run_forms.specs.Positions.{Position, numbered, all_numbered, positions_or, positions}
 use Rattle.run_forms.specs.Sessions.{Coming, before_takes, after_takes, after_state, at_end, by_step, IsSteady}
-use Rattle.run_forms.specs.Outlooks.{Ahead, Outlook, from_here, at_position, shown_run, ahead, sample_at, with_row, left_by, outlook, rows_here, state_here, IsUnderWay}
+use Rattle.run_forms.specs.Outlooks.{Ahead, Outlook, from_here, at_position, shown_run, ahead, sample_at, with_row}
+use Rattle.run_forms.specs.Outlooks.{left_by, outlook, rows_here, state_here, IsUnderWay}
 use Rattle.run_forms.proofs.PlanSlices.{room_first, slice_first, count_there, few_there, rest_further}
 use Rattle.run_forms.proofs.Onward.{from_nothing}
 use Rattle.run_forms.proofs.RowSteps.{rows_under, one_row, no_row}
@@ -30,10 +33,12 @@ abbrev pub made : {T : Type 0} → List Position → List T → State → Ahead 
 made ps rows s = record { left = ps; rows = rows; state = s }
 
 -- where a session stands is the first of the states to come
-pub states_here : {A U R S B T : Type 0} (flags : ℕ) (h : Harness A U R S B T) (qs : List A) (st : Stand U) (s : State) → (after_takes flags h qs st s).states ≡ s ∷ drop 1 (after_takes flags h qs st s).states
+pub states_here : {A U R S B T : Type 0} (flags : ℕ) (h : Harness A U R S B T) (qs : List A) (st : Stand U) (s : State)
+    → (after_takes flags h qs st s).states ≡ s ∷ drop 1 (after_takes flags h qs st s).states
 states_here flags h qs st s = by st.over (next_of flags s)
   where
-    by : (b : Bool) (o : Result Next ℕ) → (if b then at_end h.told st.tally s else by_step flags h qs st s o).states ≡ s ∷ drop 1 (if b then at_end h.told st.tally s else by_step flags h qs st s o).states
+    by : (b : Bool) (o : Result Next ℕ) → (if b then at_end h.told st.tally s else by_step flags h qs st s o).states ≡ s
+        ∷ drop 1 (if b then at_end h.told st.tally s else by_step flags h qs st s o).states
     by true o = refl
     by false (Ok next) = refl
     by false (Err byte) = refl
@@ -52,25 +57,33 @@ fresh room = record {
 }
 
 -- all of a sample's run is to come
-fresh_coming : {A U R S B T : Type 0} (flags : ℕ) (h : Harness A U R S B T) (n : ℕ) (qs : List A) (room : Room U) (st : Stand U) (s : State) → st.tally ≡ fresh room → st.left ≡ n
+fresh_coming : {A U R S B T : Type 0} (flags : ℕ) (h : Harness A U R S B T) (n : ℕ) (qs : List A) (room : Room U)
+    (st : Stand U) (s : State) → st.tally ≡ fresh room → st.left ≡ n
     → room.frames.items ≡ [] → room.told.items ≡ []
     → before_takes flags h qs st s ≡ coming_of (run_from (plan_form flags h.parts) n 0 false qs s)
 fresh_coming {A = A} {U = U} {S = S} {B = B} flags h n qs room st s et el ef eu =
     let g : Form S A B = plan_form flags h.parts in
     let r : Ran A B = run_from g n 0 false qs s in
-    ap₂ (λ (t : Tally U) (k : ℕ). coming (rest_at h.told g k qs t s) (run_from g k t.moment t.inside (drop t.next qs) s).states) et el
-    ∙ ap₂ (λ (fs : List (ℕ × Frame)) (us : List U). coming (after 0 0 0 (map h.told us) (frames_seen fs) (brief r)) r.states) ef eu
+    ap₂ (λ (t : Tally U) (k : ℕ). coming (rest_at h.told g k qs t s)
+    (run_from g k t.moment t.inside (drop t.next qs) s).states) et el
+    ∙ ap₂ (λ (fs : List (ℕ × Frame)) (us : List U). coming (after 0 0 0 (map h.told us) (frames_seen fs) (brief r))
+    r.states) ef eu
     ∙ ap (λ (b : Brief B). coming b r.states) (from_nothing (brief r))
 
 -- a sample that ends here
-pub outlook_ends : {A U R S B T : Type 0} (flags : ℕ) (h : Harness A U R S B T) (most k m : ℕ) (x : Option S) (s : State) (t : Tally U) (c : Coming B) (plan : List A) (rest : List S) (rows : List T) → c ≡ at_end h.told t s
+pub outlook_ends : {A U R S B T : Type 0} (flags : ℕ) (h : Harness A U R S B T) (most k m : ℕ) (x : Option S)
+    (s : State) (t : Tally U) (c : Coming B) (plan : List A) (rest : List S) (rows : List T) → c ≡ at_end h.told t s
     → outlook flags h most k m x s c plan rest rows
     ≡ at_position (record { sample = k; moment = m; state = s })
-    (ahead flags h most (k + 1) plan rest (with_row rows (shown_by h.shows h.parts.answers (counted_at h.told t s)) x) (left_by h.parts.leave x s))
-outlook_ends {B = B} flags h most k m x s t c plan rest rows e = ap (λ (d : Coming B). outlook flags h most k m x s d plan rest rows) e
+    (ahead flags h most (k + 1) plan rest (with_row rows (shown_by h.shows h.parts.answers (counted_at h.told t s)) x)
+    (left_by h.parts.leave x s))
+outlook_ends {B = B} flags h most k m x s t c plan rest rows e =
+    ap (λ (d : Coming B). outlook flags h most k m x s d plan rest rows) e
 
 -- the last sample
-pub outlook_last : {A U R S B T : Type 0} (flags : ℕ) (h : Harness A U R S B T) (most k m : ℕ) (x : Option S) (s : State) (t : Tally U) (c : Coming B) (plan : List A) (rest : List S) (rows : List T) → c ≡ at_end h.told t s → rest ≡ []
+pub outlook_last : {A U R S B T : Type 0} (flags : ℕ) (h : Harness A U R S B T) (most k m : ℕ) (x : Option S)
+    (s : State) (t : Tally U) (c : Coming B) (plan : List A) (rest : List S) (rows : List T) → c ≡ at_end h.told t s
+    → rest ≡ []
     → outlook flags h most k m x s c plan rest rows
     ≡ at_position (record { sample = k; moment = m; state = s })
     (made [] (with_row rows (shown_by h.shows h.parts.answers (counted_at h.told t s)) x) (left_by h.parts.leave x s))
@@ -80,25 +93,38 @@ outlook_last {A = A} {S = S} {B = B} {T = T} flags h most k m x s t c plan rest 
     let u : State = left_by h.parts.leave x s in
     outlook_ends flags h most k m x s t c plan rest rows e
     ∙ ap (λ (l : List S). at_position here (ahead flags h most (k + 1) plan l rows2 u)) none
-    ∙ ap (λ (all : Rows S A B). at_position here (made (all_numbered (k + 1) all.states) (rows2 ++ shown h.shows all) all.state)) (no_row (plan_form flags h.parts) h.parts.place most plan (k + 1) u)
+    ∙ ap (λ (all : Rows S A B). at_position here
+    (made (all_numbered (k + 1) all.states) (rows2 ++ shown h.shows all) all.state))
+    (no_row (plan_form flags h.parts) h.parts.place most plan (k + 1) u)
     ∙ ap (λ (l : List T). at_position here (made [] l u)) (append-nil rows2)
 
 -- a sample that goes on
-pub outlook_goes : {A U R S B T : Type 0} (flags : ℕ) (h : Harness A U R S B T) (most k m m2 : ℕ) (x : Option S) (s s2 : State) (c c2 : Coming B) (plan : List A) (rest : List S) (rows : List T) → c ≡ after_state s c2
+pub outlook_goes : {A U R S B T : Type 0} (flags : ℕ) (h : Harness A U R S B T) (most k m m2 : ℕ) (x : Option S)
+    (s s2 : State) (c c2 : Coming B) (plan : List A) (rest : List S) (rows : List T) → c ≡ after_state s c2
     → c2.states ≡ s2 ∷ drop 1 c2.states → m2 ≡ m + 1
-    → outlook flags h most k m x s c plan rest rows ≡ at_position (record { sample = k; moment = m; state = s }) (from_here (outlook flags h most k m2 x s2 c2 plan rest rows))
+    → outlook flags h most k m x s c plan rest rows ≡ at_position (record { sample = k; moment = m; state = s })
+    (from_here (outlook flags h most k m2 x s2 c2 plan rest rows))
 outlook_goes {B = B} {T = T} flags h most k m m2 x s s2 c c2 plan rest rows e here em =
-    let next : Ahead T = ahead flags h most (k + 1) plan rest (with_row rows (shown_by h.shows h.parts.answers c2.brief) x) (left_by h.parts.leave x c2.brief.state) in
+    let next : Ahead T =
+    ahead flags h most (k + 1) plan rest (with_row rows (shown_by h.shows h.parts.answers c2.brief) x)
+    (left_by h.parts.leave x c2.brief.state) in
     let one : suc m ≡ m2 = omega (arith, em) in
     ap (λ (d : Coming B). outlook flags h most k m x s d plan rest rows) e
-    ∙ ap₂ (λ (j : ℕ) (ws : List State). at_position (record { sample = k; moment = m; state = s }) (made (numbered k j ws ++ next.left) next.rows next.state)) one here
+    ∙ ap₂ (λ (j : ℕ) (ws : List State). at_position (record { sample = k; moment = m; state = s })
+    (made (numbered k j ws ++ next.left) next.rows next.state)) one here
 
 -- the first boundary of a sample that was given
-given_ahead : {A U R S B T : Type 0} (flags : ℕ) (h : Harness A U R S B T) (most n m : ℕ) (plan plan2 qs : List A) (o : Option S) (y : S) (rest : List S) (rows : List T) (s t : State) (c : Coming B) → Follow h.parts.place (n + 1) plan
-    → qs ≡ requests_first h.parts.place (n + 1) plan → plan2 ≡ drop (length (requests_first h.parts.place (n + 1) plan)) plan → c ≡ coming_of (run_from (plan_form flags h.parts) most 0 false qs (h.parts.give y s))
+given_ahead : {A U R S B T : Type 0} (flags : ℕ) (h : Harness A U R S B T) (most n m : ℕ) (plan plan2 qs : List A)
+    (o : Option S) (y : S) (rest : List S) (rows : List T) (s t : State) (c : Coming B)
+    → Follow h.parts.place (n + 1) plan
+    → qs ≡ requests_first h.parts.place (n + 1) plan
+    → plan2 ≡ drop (length (requests_first h.parts.place (n + 1) plan)) plan
+    → c ≡ coming_of (run_from (plan_form flags h.parts) most 0 false qs (h.parts.give y s))
     → c.states ≡ t ∷ drop 1 c.states → m ≡ 0 → o ≡ Some y
-    → from_here (outlook flags h most (n + 1) m o t c plan2 rest rows) ≡ ahead flags h most (n + 1) plan (y ∷ rest) rows s
-given_ahead {A = A} {S = S} {B = B} {T = T} flags h most n m plan plan2 qs o y rest rows s t c follow eq ep ec here em eo =
+    → from_here (outlook flags h most (n + 1) m o t c plan2 rest rows) ≡ ahead flags h most (n + 1) plan
+    (y ∷ rest) rows s
+given_ahead {A = A} {S = S} {B = B} {T = T} flags h most n m plan plan2 qs o y rest rows s t c follow eq ep ec
+    here em eo =
     let k : ℕ = n + 1 in
     let g : Form S A B = plan_form flags h.parts in
     let r : Ran A B = run_from g most 0 false (requests_first h.parts.place k plan) (g.give y s) in
@@ -112,12 +138,15 @@ given_ahead {A = A} {S = S} {B = B} {T = T} flags h most n m plan plan2 qs o y r
     ∙ ap (λ (ws : List State). started ws) (sym here)
     ∙ ap (λ (x : Option S). full c plan2 x) eo
     ∙ ap₂ (λ (d : Coming B) (p : List A). full d p (Some y)) same ep
-    ∙ ap₂ (λ (j : ℕ) (l : List T). made (numbered k 0 r.states ++ all_numbered j all.states) l all.state) (sym next) (append_assoc rows (row ∷ []) (shown h.shows all))
-    ∙ ap (λ (rs : Rows S A B). made (all_numbered k rs.states) (rows ++ shown h.shows rs) rs.state) (sym (one_row g h.parts.place most plan k y rest s r follow refl))
+    ∙ ap₂ (λ (j : ℕ) (l : List T). made (numbered k 0 r.states ++ all_numbered j all.states) l all.state) (sym next)
+    (append_assoc rows (row ∷ []) (shown h.shows all))
+    ∙ ap (λ (rs : Rows S A B). made (all_numbered k rs.states) (rows ++ shown h.shows rs) rs.state)
+    (sym (one_row g h.parts.place most plan k y rest s r follow refl))
   where
     full : Coming B → List A → Option S → Ahead T
     full d p x =
-        let next = ahead flags h most (n + 1 + 1) p rest (with_row rows (shown_by h.shows h.parts.answers d.brief) x) (left_by h.parts.leave x d.brief.state) in
+        let next = ahead flags h most (n + 1 + 1) p rest (with_row rows (shown_by h.shows h.parts.answers d.brief) x)
+        (left_by h.parts.leave x d.brief.state) in
         made (numbered (n + 1) 0 d.states ++ next.left) next.rows next.state
 
     first : ℕ → Ahead T
@@ -125,7 +154,8 @@ given_ahead {A = A} {S = S} {B = B} {T = T} flags h most n m plan plan2 qs o y r
 
     started : List State → Ahead T
     started ws =
-        let next = ahead flags h most (n + 1 + 1) plan2 rest (with_row rows (shown_by h.shows h.parts.answers c.brief) o) (left_by h.parts.leave o c.brief.state) in
+        let next = ahead flags h most (n + 1 + 1) plan2 rest
+        (with_row rows (shown_by h.shows h.parts.answers c.brief) o) (left_by h.parts.leave o c.brief.state) in
         made (numbered (n + 1) 0 ws ++ next.left) next.rows next.state
 
 -- a sample of a list, and those behind it
@@ -157,7 +187,8 @@ pub record HasRoomLeft {U : Type 0} (left : ℕ) (t : Tally U) : Type 0 where
   pub few : vec_len t.told + left ≤ 10000
 
 -- so it is before a sample's first boundary
-pub given_room : {A U : Type 0} (qs first : List A) (room : Room U) (t : Tally U) → t ≡ fresh room → HasRoom first room → qs ≡ first → length qs ≤ 10000
+pub given_room : {A U : Type 0} (qs first : List A) (room : Room U) (t : Tally U) → t ≡ fresh room → HasRoom first room
+    → qs ≡ first → length qs ≤ 10000
     → HasRoomLeft (length qs - t.next) t
 given_room {U = U} qs first room t et h eq few =
     let frames = room.frames.ok in
@@ -174,31 +205,41 @@ given_room {U = U} qs first room t et h eq few =
     })
 
 -- the room of the next sample, of which there are n requests
-pub next_room : {A U : Type 0} (place : A → ℕ × ℕ) (plan : List A) (k behind n left : ℕ) (room : Room U) (rooms all : List (Room U)) (t : Tally U)
+pub next_room : {A U : Type 0} (place : A → ℕ × ℕ) (plan : List A) (k behind n left : ℕ) (room : Room U)
+    (rooms all : List (Room U)) (t : Tally U)
     → n ≡ length (requests_first place k (take (length plan - behind) (drop behind plan))) → all ≡ room ∷ rooms
     → HaveRoom place k left (drop behind plan) all → 0 < left → t ≡ fresh room → length plan ≤ 10000
     → HasRoomLeft (length (take (behind + n - behind) (drop behind plan)) - t.next) t
 next_room {A = A} {U = U} place plan k behind n left room rooms all t count items have more et few =
     let rest : List A = drop behind plan in
     let here : n ≡ length (requests_first place k rest) = count_there place k behind n plan count in
-    let first = room_first place k left rest room rooms more (subst (λ (l : List (Room U)). HaveRoom place k left rest l) items have) in
-    given_room (take (behind + n - behind) rest) (requests_first place k rest) room t et first.0 (slice_first place k behind n rest here)
+    let first = room_first place k left rest room rooms more
+    (subst (λ (l : List (Room U)). HaveRoom place k left rest l) items have) in
+    given_room (take (behind + n - behind) rest) (requests_first place k rest) room t et first.0
+    (slice_first place k behind n rest here)
     (few_there plan behind (behind + n - behind) few)
 
 -- the next sample, where the one before was at an end: what is counted of it begins afresh
-pub given_next : {A U R S B T : Type 0} (flags i j : ℕ) (h : Harness A U R S B T) (plan : List A) (p : Progress U R) (n : ℕ) (room : Room U) (rooms : List (Room U))
-    (old st st2 : Stand U) (s past given t : State) (rows : List T) → IsUnderWay h plan p → p.number < length h.samples → p.rooms.items ≡ room ∷ rooms
-    → n ≡ length (requests_first h.parts.place (p.number + 1) (take (length plan - p.behind) (drop p.behind plan))) → old ≡ p.stand
+pub given_next : {A U R S B T : Type 0} (flags i j : ℕ) (h : Harness A U R S B T) (plan : List A) (p : Progress U R)
+    (n : ℕ) (room : Room U) (rooms : List (Room U))
+    (old st st2 : Stand U) (s past given t : State) (rows : List T) → IsUnderWay h plan p → p.number < length h.samples
+    → p.rooms.items ≡ room ∷ rooms
+    → n ≡ length (requests_first h.parts.place (p.number + 1) (take (length plan - p.behind) (drop p.behind plan)))
+    → old ≡ p.stand
     → st.tally ≡ fresh room → st.left ≡ p.most → i ≡ j → j ≡ flags
-    → rows ≡ with_row (map h.seen p.rows.items) (shown_by h.shows h.parts.answers (counted_at h.told old.tally s)) (sample_at p.number h.samples)
+    → rows ≡ with_row (map h.seen p.rows.items) (shown_by h.shows h.parts.answers (counted_at h.told old.tally s))
+    (sample_at p.number h.samples)
     → past ≡ state_here h p s → ((x : S) → slice_get h.samples p.number ≡ Some x → given ≡ h.parts.give x past)
     → after_takes i h (take (p.behind + n - p.behind) (drop p.behind plan)) st2 t
     ≡ before_takes i h (take (p.behind + n - p.behind) (drop p.behind plan)) st given
     → st2.tally.moment ≡ st.tally.moment
     → from_here (outlook flags h p.most (p.number + 1) st2.tally.moment (sample_at (p.number + 1) h.samples) t
-    (after_takes flags h (take (p.behind + n - p.behind) (drop p.behind plan)) st2 t) (drop (p.behind + n) plan) (drop (p.number + 1) h.samples) rows)
-    ≡ ahead flags h p.most (p.number + 1) (drop p.behind plan) (drop p.number h.samples) (rows_here h p s) (state_here h p s)
-given_next {A = A} {U = U} {R = R} {S = S} {B = B} {T = T} flags i j h plan p n room rooms old st st2 s past given t rows way more items count was tally left eij ej erow epast egiven came moment =
+    (after_takes flags h (take (p.behind + n - p.behind) (drop p.behind plan)) st2 t) (drop (p.behind + n) plan)
+    (drop (p.number + 1) h.samples) rows)
+    ≡ ahead flags h p.most (p.number + 1) (drop p.behind plan) (drop p.number h.samples) (rows_here h p s)
+    (state_here h p s)
+given_next {A = A} {U = U} {R = R} {S = S} {B = B} {T = T} flags i j h plan p n room rooms old st st2 s past given t
+    rows way more items count was tally left eij ej erow epast egiven came moment =
     let form : Form S A B = plan_form flags h.parts in
     let place = h.parts.place in
     let k = p.number + 1 in
@@ -215,36 +256,44 @@ given_next {A = A} {U = U} {R = R} {S = S} {B = B} {T = T} flags i j h plan p n 
     ∙ ap (λ (u : State). coming_of (run_from form p.most 0 false qs u)) (egiven y.sample y.at) in
     let begins : st2.tally.moment ≡ 0 = moment ∙ ap (λ (t : Tally U). t.moment) tally in
     let rows_are : rows ≡ rows_here h p s =
-    erow ∙ ap (λ (st : Stand U). with_row (map h.seen p.rows.items) (shown_by h.shows h.parts.answers (counted_at h.told st.tally s)) (sample_at p.number h.samples)) was in
+    erow ∙ ap (λ (st : Stand U). with_row (map h.seen p.rows.items)
+    (shown_by h.shows h.parts.answers (counted_at h.told st.tally s)) (sample_at p.number h.samples)) was in
     let further = rest_further place k p.behind n plan here in
-    given_ahead flags h p.most p.number st2.tally.moment rest (drop (p.behind + n) plan) qs (sample_at k h.samples) y.sample (drop k h.samples) rows past t (after_takes flags h qs st2 t) way.follow
-    (slice_first place k p.behind n rest here) further comes (states_here flags h qs st2 t) begins (sample_next p.number h.samples ∙ y.at)
+    given_ahead flags h p.most p.number st2.tally.moment rest (drop (p.behind + n) plan) qs
+    (sample_at k h.samples) y.sample (drop k h.samples) rows past t (after_takes flags h qs st2 t) way.follow
+    (slice_first place k p.behind n rest here) further comes (states_here flags h qs st2 t) begins
+    (sample_next p.number h.samples ∙ y.at)
     ∙ ap (λ (l : List S). ahead flags h p.most k rest l rows past) (sym y.rest)
     ∙ ap₂ (λ (rs : List T) (u : State). ahead flags h p.most k rest (drop p.number h.samples) rs u) rows_are epast
 
 -- the first position of a run, behind the one before its samples
-pub first_goes : {S A B T : Type 0} (shows : RowSeen S → List B → T) (first : State) (o n : Outlook T) (p q : Position) (all : Rows S A B)
+pub first_goes : {S A B T : Type 0} (shows : RowSeen S → List B → T) (first : State) (o n : Outlook T) (p q : Position)
+    (all : Rows S A B)
     → o ≡ at_position p (made (all_numbered 1 all.states) (shown shows all) all.state) → o ≡ at_position q (from_here n)
     → from_here n ≡ shown_run shows first all
 first_goes {T = T} shows first o n p q all e f =
-    let same : from_here n ≡ made (all_numbered 1 all.states) (shown shows all) all.state = ap (λ (x : Outlook T). made x.later x.rows x.state) (sym f ∙ e) in
+    let same : from_here n ≡ made (all_numbered 1 all.states) (shown shows all) all.state =
+    ap (λ (x : Outlook T). made x.later x.rows x.state) (sym f ∙ e) in
     let there : n.here ∷ n.later ≡ all_numbered 1 all.states = ap (λ (a : Ahead T). a.left) same in
     ap (λ (ps : List Position). made (positions_or first ps) n.rows n.state) there
     ∙ ap (λ (a : Ahead T). made (positions first all) a.rows a.state) same
 
 -- and where there are no samples, that one is the only one
 pub first_stays : {S A B T : Type 0} (shows : RowSeen S → List B → T) (first : State) (o : Outlook T) (all : Rows S A B)
-    → o ≡ at_position (record { sample = 0; moment = 0; state = first }) (made (all_numbered 1 all.states) (shown shows all) all.state) → o.later ≡ []
+    → o ≡ at_position (record { sample = 0; moment = 0; state = first })
+    (made (all_numbered 1 all.states) (shown shows all) all.state) → o.later ≡ []
     → from_here o ≡ shown_run shows first all
 first_stays {T = T} shows first o all e none =
     let rows = shown shows all in
     let there : [] ≡ all_numbered 1 all.states = sym none ∙ ap (λ (x : Outlook T). x.later) e in
     ap from_here e
-    ∙ ap (λ (ps : List Position). made (record { sample = 0; moment = 0; state = first } ∷ ps) rows all.state) (sym there)
+    ∙ ap (λ (ps : List Position). made (record { sample = 0; moment = 0; state = first } ∷ ps) rows all.state)
+    (sym there)
     ∙ ap (λ (ps : List Position). made (positions_or first ps) rows all.state) there
 
 -- the stand before the first sample
-pub steady_before : {A U : Type 0} (room : Room U) (st : Stand U) → st.tally ≡ fresh room → room.frames.items ≡ [] → room.told.items ≡ []
+pub steady_before : {A U : Type 0} (room : Room U) (st : Stand U) → st.tally ≡ fresh room → room.frames.items ≡ []
+    → room.told.items ≡ []
     → IsSteady {A = A} [] (record st { over = true })
 steady_before {A = A} {U = U} room st et ef eu =
     let t : Tally U = st.tally in
@@ -252,7 +301,8 @@ steady_before {A = A} {U = U} room st et ef eu =
     let instrs : t.instrs ≡ 0 = ap (λ (u : Tally U). u.instrs) et in
     let resumed : t.resumed ≡ 0 = ap (λ (u : Tally U). u.resumed) et in
     let none : List A = [] in
-    let left = given_room none none room t et (record { no_frames = ef; none_told = eu; frames = omega arith; told = omega arith }) refl (omega arith) in
+    let left = given_room none none room t et
+    (record { no_frames = ef; none_told = eu; frames = omega arith; told = omega arith }) refl (omega arith) in
     record {
       room = left.frames;
       told = left.told;

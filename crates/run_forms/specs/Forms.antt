@@ -5,8 +5,8 @@ use Rattle.run_law.specs.Forms.{Form, RowSeen}
 
 -- What a form of firmware is, whatever the open flags are: how a sample is given, and taken away again at its end; when
 -- it ends; what it answers there; the place of a request, which is its sample, counted from 1, and its moment; and, by
--- the byte from which open flags are taken, what a request's handler does to a state in which no sums run, from the push
--- of the frame up to the return, and what it tells.
+-- the byte from which open flags are taken, what a request's handler does to a state in which no sums run, from the
+-- push of the frame up to the return, and what it tells.
 pub record FormParts (S A B : Type 0) : Type 0 where
   pub give : S → State → State
   pub leave : S → State → State

@@ -1,6 +1,7 @@
 -- Steps of a run without interrupts one after another: what holds before each, stretches of them, and sums that are
 -- kept between parts or pushed.
-use Rattle.std.proofs.Common.{◌≡◌, ℕ, zero, suc, ◌+◌, ◌^◌, ◌<◌, ◌≤◌, not, Bool, false, Result, Ok, refl, ap, ap₂, sym, ◌∙◌, subst, arith}
+use Rattle.std.proofs.Common.{◌≡◌, ℕ, zero, suc, ◌+◌, ◌^◌, ◌<◌, ◌≤◌, not, Bool, false, Result, Ok, refl, ap, ap₂, sym}
+use Rattle.std.proofs.Common.{◌∙◌, subst, arith}
 use Rattle.cpu12_isa.specs.declared.instr.Regs.{Regs}
 use Rattle.cpu12_isa.specs.Fits.{FitsRegs}
 use Rattle.cpu12_isa.specs.Memory.{plus}
@@ -27,20 +28,25 @@ pub before_weaker : (P Q : State → Type 0) (flags : ℕ) → ((s : State) → 
 before_weaker P Q flags h zero s b = tt
 before_weaker P Q flags h (suc n) s b = (h s b.0, before_weaker P Q flags h n (stepped flags s) b.1)
 
-pub uninterrupted_add : (flags m n : ℕ) (s : State) → uninterrupted flags (m + n) s ≡ uninterrupted flags n (uninterrupted flags m s)
+pub uninterrupted_add : (flags m n : ℕ) (s : State)
+    → uninterrupted flags (m + n) s ≡ uninterrupted flags n (uninterrupted flags m s)
 uninterrupted_add flags zero n s = let e : 0 + n ≡ n = omega arith in ap (λ (k : ℕ). uninterrupted flags k s) e
-uninterrupted_add flags (suc m) n s = let e : suc m + n ≡ suc (m + n) = omega arith in ap (λ (k : ℕ). uninterrupted flags k s) e ∙ uninterrupted_add flags m n (stepped flags s)
+uninterrupted_add flags (suc m) n s = let e : suc m + n ≡ suc (m + n) = omega arith in
+    ap (λ (k : ℕ). uninterrupted flags k s) e ∙ uninterrupted_add flags m n (stepped flags s)
 
-pub counted_add : (flags m n : ℕ) (s : State) → counted flags (m + n) s ≡ counted flags m s + counted flags n (uninterrupted flags m s)
+pub counted_add : (flags m n : ℕ) (s : State)
+    → counted flags (m + n) s ≡ counted flags m s + counted flags n (uninterrupted flags m s)
 counted_add flags zero n s = let e : 0 + n ≡ n = omega arith in ap (λ (k : ℕ). counted flags k s) e ∙ omega arith
 counted_add flags (suc m) n s =
     let e : suc m + n ≡ suc (m + n) = omega arith in
     let r = counted_add flags m n (stepped flags s) in
     ap (λ (k : ℕ). counted flags k s) e ∙ omega (arith, r)
 
-pub before_add : (P : State → Type 0) (flags m n : ℕ) (s : State) → Before P flags m s → Before P flags n (uninterrupted flags m s) → Before P flags (m + n) s
+pub before_add : (P : State → Type 0) (flags m n : ℕ) (s : State) → Before P flags m s
+    → Before P flags n (uninterrupted flags m s) → Before P flags (m + n) s
 before_add P flags zero n s a b = let e : n ≡ 0 + n = omega arith in subst (λ (k : ℕ). Before P flags k s) e b
-before_add P flags (suc m) n s a b = let e : suc (m + n) ≡ suc m + n = omega arith in subst (λ (k : ℕ). Before P flags k s) e (a.0, before_add P flags m n (stepped flags s) a.1 b)
+before_add P flags (suc m) n s a b = let e : suc (m + n) ≡ suc m + n = omega arith in
+    subst (λ (k : ℕ). Before P flags k s) e (a.0, before_add P flags m n (stepped flags s) a.1 b)
 
 -- So many steps lead from s to t, of which so many count, and P holds at each state before t.
 pub record Stretch (P : State → Type 0) (flags n count : ℕ) (s t : State) : Type 0 where
@@ -52,11 +58,13 @@ pub no_stretch : (P : State → Type 0) (flags : ℕ) (s : State) → Stretch P 
 no_stretch P flags s = record { goes = refl; counts = refl; each = tt }
 
 -- one behind the other
-pub joined : (P : State → Type 0) (flags m n i j : ℕ) (s u t : State) → Stretch P flags m i s u → Stretch P flags n j u t
+pub joined : (P : State → Type 0) (flags m n i j : ℕ) (s u t : State) → Stretch P flags m i s u
+    → Stretch P flags n j u t
     → Stretch P flags (m + n) (i + j) s t
 joined P flags m n i j s u t a b = record {
   goes = uninterrupted_add flags m n s ∙ ap (uninterrupted flags n) a.goes ∙ b.goes;
-  counts = (let c = counted_add flags m n s in let d = ap (counted flags n) a.goes in omega (arith, c, d, a.counts, b.counts));
+  counts = (let c = counted_add flags m n s in let d = ap (counted flags n) a.goes in
+      omega (arith, c, d, a.counts, b.counts));
   each = before_add P flags m n s a.each (subst (λ (v : State). Before P flags n v) (sym a.goes) b.each);
 }
 
@@ -65,7 +73,8 @@ pub one_stretch : (P : State → Type 0) (flags : ℕ) (k : Stepped) (s t : Stat
     → next_of flags s ≡ Ok (record { state = t; kind = k }) → Stretch P flags 1 1 s t
 one_stretch P flags k s t whole p e = record {
   goes = ap (state_by s) e;
-  counts = ap (λ (o : Result Next ℕ). one_if (not (is_part (kind_by o))) + 0) e ∙ ap (λ (b : Bool). one_if (not b) + 0) whole;
+  counts = ap (λ (o : Result Next ℕ). one_if (not (is_part (kind_by o))) + 0) e
+      ∙ ap (λ (b : Bool). one_if (not b) + 0) whole;
   each = (p, tt);
 }
 

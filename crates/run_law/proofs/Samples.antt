@@ -1,5 +1,6 @@
 -- The run of one sample goes along with its run without interrupts.
-use Rattle.std.proofs.Common.{◌≡◌, ℕ, zero, suc, ◌+◌, ◌<◌, ◌≤◌, Bool, true, false, not, ◌&&◌, nat_le, List, [], ◌∷◌, ◌++◌, refl, ap, ap₂, sym, ◌∙◌, subst}
+use Rattle.std.proofs.Common.{◌≡◌, ℕ, zero, suc, ◌+◌, ◌<◌, ◌≤◌, Bool, true, false, not, ◌&&◌, nat_le, List, [], ◌∷◌}
+use Rattle.std.proofs.Common.{◌++◌, refl, ap, ap₂, sym, ◌∙◌, subst}
 use Rattle.std.proofs.Common.{arith, inl}
 use Rattle.std.specs.Prelude.{if◌then◌else◌}
 use Rattle.std.proofs.lemmas.List.{map-append}
@@ -17,11 +18,13 @@ use Rattle.run_law.proofs.Steps.{StepFollows, step_follows}
 use Rattle.run_law.proofs.Takes.{settled_first}
 use Rattle.run_law.proofs.Boundaries.{Boundary, boundary, drop_due, taken_here, frames_here}
 use Rattle.run_law.proofs.Moments.{taken_ascend, drop_is, here_is, frames_is}
-use Rattle.run_law.proofs.Expected.{uninterrupted_suc, ascend_rest, frames_along, resumed_along, taken_along, left_along, frames_whole, resumed_whole}
+use Rattle.run_law.proofs.Expected.{uninterrupted_suc, ascend_rest, frames_along, resumed_along, taken_along}
+use Rattle.run_law.proofs.Expected.{left_along, frames_whole, resumed_whole}
 use Rattle.run_law.proofs.Expected.{taken_whole, left_whole}
 
 -- the run of a sample
-record Along {S A B : Type 0} (open_to : ℕ → Bool) (f : Form S A B) (Own : List (A × B) → State → Type 0) (done : List (A × B)) (at : A → ℕ) (n fuel m : ℕ) (inside : Bool) (qs : List A) (w s : State) : Type 0 where
+record Along {S A B : Type 0} (open_to : ℕ → Bool) (f : Form S A B) (Own : List (A × B) → State → Type 0)
+    (done : List (A × B)) (at : A → ℕ) (n fuel m : ℕ) (inside : Bool) (qs : List A) (w s : State) : Type 0 where
   ran : Ran A B
   goes : run_from f fuel m inside qs w ≡ ran
   arrived : ran.arrived ≡ true
@@ -35,11 +38,13 @@ record Along {S A B : Type 0} (open_to : ℕ → Bool) (f : Form S A B) (Own : L
   left : ran.left ≡ left_along at m n qs
   own : Own (onto ran.told done) ran.state
 
-good_rest : {A : Type 0} (Good : A → Type 0) (moment : A → ℕ) (o : Bool) (m : ℕ) (qs : List A) → AllGood Good qs → AllGood Good (drop_due moment o m qs)
+good_rest : {A : Type 0} (Good : A → Type 0) (moment : A → ℕ) (o : Bool) (m : ℕ) (qs : List A) → AllGood Good qs
+    → AllGood Good (drop_due moment o m qs)
 good_rest Good moment o m [] h = tt
 good_rest Good moment o m (q ∷ qs) h = pick (o && nat_le (moment q) m) (good_rest Good moment o m qs h.1) h
   where
-    pick : (b : Bool) → AllGood Good (drop_due moment o m qs) → AllGood Good (q ∷ qs) → AllGood Good (if b then drop_due moment o m qs else q ∷ qs)
+    pick : (b : Bool) → AllGood Good (drop_due moment o m qs) → AllGood Good (q ∷ qs)
+        → AllGood Good (if b then drop_due moment o m qs else q ∷ qs)
     pick true x y = x
     pick false x y = y
 
@@ -48,7 +53,8 @@ onto_both [] ys done = refl
 onto_both (x ∷ xs) ys done = onto_both xs ys (x ∷ done)
 
 -- at the end
-at_end : {S A B : Type 0} (open_to : ℕ → Bool) (f : Form S A B) (Own : List (A × B) → State → Type 0) (done : List (A × B)) (at : A → ℕ) (fuel m : ℕ) (inside : Bool) (qs : List A) (w s : State)
+at_end : {S A B : Type 0} (open_to : ℕ → Bool) (f : Form S A B) (Own : List (A × B) → State → Type 0)
+    (done : List (A × B)) (at : A → ℕ) (fuel m : ℕ) (inside : Bool) (qs : List A) (w s : State)
     → Same open_to w s → f.ends m w ≡ true → Own done w → Along open_to f Own done at 0 fuel m inside qs w s
 unfolding run_from
 at_end open_to f Own done at fuel m inside qs w s l e own = record {
@@ -71,11 +77,14 @@ at_end open_to f Own done at fuel m inside qs w s l e own = record {
     goes_by (suc k) = rw e refl
 
 -- one more boundary and step
-one_more : {S A B : Type 0} (open_to : ℕ → Bool) (f : Form S A B) (Own : List (A × B) → State → Type 0) (done : List (A × B)) (at : A → ℕ) (n fuel m : ℕ) (inside : Bool) (qs : List A) (w s : State) → f.ends m w ≡ false
+one_more : {S A B : Type 0} (open_to : ℕ → Bool) (f : Form S A B) (Own : List (A × B) → State → Type 0)
+    (done : List (A × B)) (at : A → ℕ) (n fuel m : ℕ) (inside : Bool) (qs : List A) (w s : State) → f.ends m w ≡ false
     → (b : Boundary open_to f Own done m true qs w s) → (g : StepFollows open_to f.flags (takes f m qs w).state s)
-    → drop_due f.moment (may_interrupt s) m qs ≡ drop_due at true m qs → taken_here f.moment (may_interrupt s) m qs ≡ taken_here at true m qs
+    → drop_due f.moment (may_interrupt s) m qs ≡ drop_due at true m qs
+    → taken_here f.moment (may_interrupt s) m qs ≡ taken_here at true m qs
     → frames_here f.moment (may_interrupt s) true m s qs ≡ frames_here at true true m s qs
-    → Along open_to f Own (onto (takes f m qs w).told done) at n fuel (suc m) (is_part g.next.kind) (takes f m qs w).left g.next.state (stepped f.flags s)
+    → Along open_to f Own (onto (takes f m qs w).told done) at n fuel (suc m) (is_part g.next.kind)
+    (takes f m qs w).left g.next.state (stepped f.flags s)
     → Along open_to f Own done at (suc n) (suc fuel) m inside qs w s
 unfolding run_from
 one_more {S = S} {A = A} {B = B} open_to f Own done at n fuel m inside qs w s e b g drop here frame r =
@@ -95,19 +104,25 @@ one_more {S = S} {A = A} {B = B} open_to f Own done at n fuel m inside qs w s e 
       instrs = ap₂ (λ (k : Stepped) (i : ℕ). one_if (not (is_part k)) + i) g.kind r.instrs;
       steps = ap suc r.steps;
       resumed = ap₂ (λ (fs : List (ℕ × FrameSeen)) (i : ℕ). one_if (inside && not (is_empty fs)) + i) frames
-          (r.resumed ∙ ap₂ (λ (k : Stepped) (qs' : List A). resumed_along f.flags at (suc m) (is_part k) n qs' (stepped f.flags s)) g.kind left);
-      frames = ap₂ (λ (fs gs : List (ℕ × FrameSeen)). fs ++ gs) frames (r.frames ∙ ap (λ (qs' : List A). frames_along f.flags at (suc m) n qs' (stepped f.flags s)) left);
+          (r.resumed ∙ ap₂ (λ (k : Stepped) (qs' : List A). resumed_along f.flags at (suc m) (is_part k) n qs'
+          (stepped f.flags s)) g.kind left);
+      frames = ap₂ (λ (fs gs : List (ℕ × FrameSeen)). fs ++ gs) frames
+          (r.frames ∙ ap (λ (qs' : List A). frames_along f.flags at (suc m) n qs' (stepped f.flags s)) left);
       taken = map-append (λ (p : A × B). p.0) t.told r.ran.told
-          ∙ ap₂ (λ (xs ys : List A). xs ++ ys) (b.taken ∙ here) (r.taken ∙ ap (λ (qs' : List A). taken_along at (suc m) n qs') left);
+          ∙ ap₂ (λ (xs ys : List A). xs ++ ys) (b.taken ∙ here)
+          (r.taken ∙ ap (λ (qs' : List A). taken_along at (suc m) n qs') left);
       left = r.left ∙ ap (λ (qs' : List A). left_along at (suc m) n qs') left;
       own = subst (λ (ts : List (A × B)). Own ts r.ran.state) (sym (onto_both t.told r.ran.told done)) r.own;
     }
 
-along : {S A B : Type 0} (open_to : ℕ → Bool) (f : Form S A B) (P : State → Type 0) (Good : A → Type 0) (Own : List (A × B) → State → Type 0)
+along : {S A B : Type 0} (open_to : ℕ → Bool) (f : Form S A B) (P : State → Type 0) (Good : A → Type 0)
+    (Own : List (A × B) → State → Type 0)
     → Ground open_to f P Good Own
-    → (all : ℕ) (s0 : State) (from : ℕ) → ((m : ℕ) → from ≤ m → suc m ≤ all → f.ends m (uninterrupted f.flags m s0) ≡ false)
+    → (all : ℕ) (s0 : State) (from : ℕ)
+    → ((m : ℕ) → from ≤ m → suc m ≤ all → f.ends m (uninterrupted f.flags m s0) ≡ false)
     → f.ends all (uninterrupted f.flags all s0) ≡ true
-    → (done : List (A × B)) (n fuel m : ℕ) (inside : Bool) (qs : List A) (w s : State) → from ≤ m → n ≤ fuel → m + n ≡ all → uninterrupted f.flags m s0 ≡ s
+    → (done : List (A × B)) (n fuel m : ℕ) (inside : Bool) (qs : List A) (w s : State) → from ≤ m → n ≤ fuel
+    → m + n ≡ all → uninterrupted f.flags m s0 ≡ s
     → Same open_to w s → Own done w
     → Before P f.flags n s → AllGood Good qs → Ascend (taken_at f.flags f.moment all s0) m qs
     → Along open_to f Own done (taken_at f.flags f.moment all s0) n fuel m inside qs w s
@@ -115,10 +130,13 @@ along open_to f P Good Own gr all s0 from on end done zero fuel m inside qs w s 
     let sound = gr.sound in
     let is : m ≡ all = omega arith in
     let there : f.ends m s ≡ true =
-    subst (λ (k : ℕ). f.ends k s ≡ true) (sym is) (ap (f.ends all) (sym here ∙ ap (λ (k : ℕ). uninterrupted f.flags k s0) is) ∙ end) in
+    subst (λ (k : ℕ). f.ends k s ≡ true) (sym is)
+    (ap (f.ends all) (sym here ∙ ap (λ (k : ℕ). uninterrupted f.flags k s0) is) ∙ end) in
     at_end open_to f Own done (taken_at f.flags f.moment all s0) fuel m inside qs w s l (sound.ends m w s l ∙ there) own
-along open_to f P Good Own gr all s0 from on end done (suc n) zero m inside qs w s past le sum here l own h good up = absurd (omega arith)
-along {S = S} {A = A} {B = B} open_to f P Good Own gr all s0 from on end done (suc n) (suc fuel) m inside qs w s past le sum here l own h good up =
+along open_to f P Good Own gr all s0 from on end done (suc n) zero m inside qs w s past le sum here l own h good up =
+    absurd (omega arith)
+along {S = S} {A = A} {B = B} open_to f P Good Own gr all s0 from on end done (suc n)
+    (suc fuel) m inside qs w s past le sum here l own h good up =
     let at : A → ℕ = taken_at f.flags f.moment all s0 in
     let b = boundary open_to f P Good Own gr done m true qs w s good h.0 (settled_first open_to w s l) own in
     let t : Taking A B = takes f m qs w in
@@ -126,31 +144,43 @@ along {S = S} {A = A} {B = B} open_to f P Good Own gr all s0 from on end done (s
     let keeps = sound.leaves_open in
     let g = step_follows gr.machine.step_keeps open_to f.flags t.state s b.simulates (sound.shown s h.0) in
     let own2 : Own (onto t.told done) g.next.state =
-    subst (λ (v : State). Own (onto t.told done) v) (ap (state_by t.state) g.goes) (keeps.steps (onto t.told done) t.state s h.0 b.simulates b.own) in
+    subst (λ (v : State). Own (onto t.told done) v) (ap (state_by t.state) g.goes)
+    (keeps.steps (onto t.told done) t.state s h.0 b.simulates b.own) in
     let lt : m < all = omega arith in
     let drop : drop_due f.moment (may_interrupt s) m qs ≡ drop_due at true m qs =
-    subst (λ (u : State). drop_due f.moment (may_interrupt u) m qs ≡ drop_due at true m qs) here (drop_is f.flags all s0 f.moment m qs lt up) in
+    subst (λ (u : State). drop_due f.moment (may_interrupt u) m qs ≡ drop_due at true m qs) here
+    (drop_is f.flags all s0 f.moment m qs lt up) in
     let taken : taken_here f.moment (may_interrupt s) m qs ≡ taken_here at true m qs =
-    subst (λ (u : State). taken_here f.moment (may_interrupt u) m qs ≡ taken_here at true m qs) here (here_is f.flags all s0 f.moment m qs lt up) in
+    subst (λ (u : State). taken_here f.moment (may_interrupt u) m qs ≡ taken_here at true m qs) here
+    (here_is f.flags all s0 f.moment m qs lt up) in
     let frame : frames_here f.moment (may_interrupt s) true m s qs ≡ frames_here at true true m s qs =
-    subst (λ (u : State). frames_here f.moment (may_interrupt u) true m s qs ≡ frames_here at true true m s qs) here (frames_is f.flags all s0 s f.moment true m qs lt up) in
-    let next : uninterrupted f.flags (suc m) s0 ≡ stepped f.flags s = uninterrupted_suc f.flags m s0 ∙ ap (stepped f.flags) here in
-    one_more open_to f Own done at n fuel m inside qs w s (sound.ends m w s l ∙ ap (f.ends m) (sym here) ∙ on m past lt) b g drop taken frame
-    (along open_to f P Good Own gr all s0 from on end (onto t.told done) n fuel (suc m) (is_part g.next.kind) t.left g.next.state (stepped f.flags s) (omega arith) (omega arith) (omega arith) next g.same own2 h.1
+    subst (λ (u : State). frames_here f.moment (may_interrupt u) true m s qs ≡ frames_here at true true m s qs) here
+    (frames_is f.flags all s0 s f.moment true m qs lt up) in
+    let next : uninterrupted f.flags (suc m) s0 ≡ stepped f.flags s = uninterrupted_suc f.flags m s0
+    ∙ ap (stepped f.flags) here in
+    one_more open_to f Own done at n fuel m inside qs w s (sound.ends m w s l ∙ ap (f.ends m) (sym here) ∙ on m past lt)
+    b g drop taken frame
+    (along open_to f P Good Own gr all s0 from on end (onto t.told done) n fuel (suc m)
+    (is_part g.next.kind) t.left g.next.state (stepped f.flags s) (omega arith) (omega arith)
+    (omega arith) next g.same own2 h.1
     (subst (λ (qs' : List A). AllGood Good qs') (sym b.left) (good_rest Good f.moment (may_interrupt s) m qs good))
     (subst (λ (qs' : List A). Ascend at (suc m) qs') (sym (b.left ∙ drop)) (ascend_rest at m qs up)))
 
-uninterrupted_more : (flags m n : ℕ) (s : State) → uninterrupted flags n (uninterrupted flags m s) ≡ uninterrupted flags (m + n) s
+uninterrupted_more : (flags m n : ℕ) (s : State)
+    → uninterrupted flags n (uninterrupted flags m s) ≡ uninterrupted flags (m + n) s
 uninterrupted_more flags zero n s = let e : n ≡ 0 + n = omega arith in ap (λ (k : ℕ). uninterrupted flags k s) e
-uninterrupted_more flags (suc m) n s = let e : suc (m + n) ≡ suc m + n = omega arith in uninterrupted_more flags m n (stepped flags s) ∙ ap (λ (k : ℕ). uninterrupted flags k s) e
+uninterrupted_more flags (suc m) n s = let e : suc (m + n) ≡ suc m + n = omega arith in
+    uninterrupted_more flags m n (stepped flags s) ∙ ap (λ (k : ℕ). uninterrupted flags k s) e
 
-pub run_follows : (S A B : Type 0) (open_to : ℕ → Bool) (f : Form S A B) (P : State → Type 0) (Good : A → Type 0) (Own : List (A × B) → State → Type 0)
+pub run_follows : (S A B : Type 0) (open_to : ℕ → Bool) (f : Form S A B) (P : State → Type 0) (Good : A → Type 0)
+    (Own : List (A × B) → State → Type 0)
     → Ground open_to f P Good Own
     → RunFollows open_to f P Good Own
 run_follows S A B open_to f P Good Own gr done m n all most qs w s le good up l own go =
     let at : A → ℕ = taken_at f.flags f.moment all s in
     let r =
-    along open_to f P Good Own gr all s m go.on go.ended done n most m (is_inside f.flags s m) qs w (uninterrupted f.flags m s) (omega arith) le go.sum refl l own go.holds good up in
+    along open_to f P Good Own gr all s m go.on go.ended done n most m (is_inside f.flags s m) qs w
+    (uninterrupted f.flags m s) (omega arith) le go.sum refl l own go.holds good up in
     subst (λ (x : Ran A B). Follows open_to f Own done m n all qs s x) (sym r.goes) (record {
       arrived = r.arrived;
       steps = r.steps;
@@ -160,15 +190,19 @@ run_follows S A B open_to f P Good Own gr done m n all most qs w s le good up l 
       taken = r.taken ∙ taken_whole at m n all qs go.sum up;
       left = r.left ∙ left_whole at m n all qs go.sum up;
       simulates = r.simulates;
-      last = subst (λ (u : State). Same open_to r.ran.state u) (uninterrupted_more f.flags m n s ∙ ap (λ (k : ℕ). uninterrupted f.flags k s) go.sum) r.last;
+      last = subst (λ (u : State). Same open_to r.ran.state u)
+          (uninterrupted_more f.flags m n s ∙ ap (λ (k : ℕ). uninterrupted f.flags k s) go.sum) r.last;
       own = r.own;
     })
 
 -- the same from boundary 0
-pub run_follows_whole : (S A B : Type 0) (open_to : ℕ → Bool) (f : Form S A B) (P : State → Type 0) (Good : A → Type 0) (Own : List (A × B) → State → Type 0)
+pub run_follows_whole : (S A B : Type 0) (open_to : ℕ → Bool) (f : Form S A B) (P : State → Type 0) (Good : A → Type 0)
+    (Own : List (A × B) → State → Type 0)
     → Ground open_to f P Good Own
-    → (done : List (A × B)) (n most : ℕ) (qs : List A) (w s : State) → n ≤ most → AllGood Good qs → Ascend f.moment 0 qs → Same open_to w s → Own done w
+    → (done : List (A × B)) (n most : ℕ) (qs : List A) (w s : State) → n ≤ most → AllGood Good qs → Ascend f.moment 0 qs
+    → Same open_to w s → Own done w
     → Completes P f 0 n n s
     → Follows open_to f Own done 0 n n qs s (run_from f most 0 false qs w)
 run_follows_whole S A B open_to f P Good Own gr done n most qs w s le good up l own go =
-    run_follows S A B open_to f P Good Own gr done 0 n n most qs w s le good (taken_ascend f.flags n s f.moment 0 0 qs (omega arith) up) l own go
+    run_follows S A B open_to f P Good Own gr done 0 n n most qs w s le good
+    (taken_ascend f.flags n s f.moment 0 0 qs (omega arith) up) l own go

@@ -1,5 +1,6 @@
 -- What an interrupt leaves of a state that stands for one of the run without interrupts.
-use Rattle.std.proofs.Common.{◌≡◌, ℕ, ◌+◌, ◌-◌, ◌≤◌, Bool, true, false, not, List, ◌∷◌, ◌++◌, length, refl, ap, sym, ◌∙◌, subst, arith, inl, inr, ◌⊎◌, lit≤}
+use Rattle.std.proofs.Common.{◌≡◌, ℕ, ◌+◌, ◌-◌, ◌≤◌, Bool, true, false, not, List, ◌∷◌, ◌++◌, length, refl, ap, sym}
+use Rattle.std.proofs.Common.{◌∙◌, subst, arith, inl, inr, ◌⊎◌, lit≤}
 use Rattle.cpu12_isa.specs.declared.instr.Regs.{Regs}
 use Rattle.cpu12_isa.specs.Act.{write_all}
 use Rattle.cpu12_isa.specs.Memory.{plus, placed, from, bytes_at}
@@ -44,17 +45,20 @@ below_off r t (inl e) = ap (below_sums r) (sym e)
 below_off r t (inr e) = ap (below_sums r) (sym e)
 
 -- what an interrupt's push of running sums leaves is hidden
-pushed_agrees : MachineLaws → (open_to : ℕ → Bool) (w s : State) (p q : ℕ) → Same open_to w s → LeavesStack open_to → stack_start + 15 ≤ s.regs.sp
+pushed_agrees : MachineLaws → (open_to : ℕ → Bool) (w s : State) (p q : ℕ) → Same open_to w s → LeavesStack open_to
+    → stack_start + 15 ≤ s.regs.sp
     → s.regs.sp ≤ stack_end
     → Agree (is_hidden open_to s.regs.sp) (write_all (placed (plus w.regs.sp 65530) (sum_bytes p q)) w.mem) w.mem
 pushed_agrees laws open_to w s p q l a lo hi =
     let sp : w.regs.sp ≡ s.regs.sp = ap (λ (r : Regs). r.sp) l.regs in
     let base : plus w.regs.sp 65530 ≡ s.regs.sp - 6 = omega arith in
-    subst (λ (k : ℕ). Agree (is_hidden open_to s.regs.sp) (write_all (placed k (sum_bytes p q)) w.mem) w.mem) (sym base) (laws.pushed open_to s.regs.sp 6 (sum_bytes p q) w.mem hi refl (omega arith))
+    subst (λ (k : ℕ). Agree (is_hidden open_to s.regs.sp) (write_all (placed k (sum_bytes p q)) w.mem) w.mem) (sym base)
+    (laws.pushed open_to s.regs.sp 6 (sum_bytes p q) w.mem hi refl (omega arith))
 
 -- the states at a boundary: before the first interrupt, and after
 pub Settled : (ℕ → Bool) → Bool → State → State → Type 0
-Settled open_to first w s = (Same open_to w s × ((first ≡ true) ⊎ IsOff s.temps)) ⊎ (Parked open_to w s × (first ≡ false))
+Settled open_to first w s =
+    (Same open_to w s × ((first ≡ true) ⊎ IsOff s.temps)) ⊎ (Parked open_to w s × (first ≡ false))
 
 pub settled_first : (open_to : ℕ → Bool) (w s : State) → Same open_to w s → Settled open_to true w s
 unfolding Settled
@@ -65,7 +69,8 @@ unfolding Settled
 settled_near open_to first w s (inl l) = inl l.0
 settled_near open_to first w s (inr l) = inr l.0
 
-pub settled_may : (open_to : ℕ → Bool) (first : Bool) (w s : State) → Settled open_to first w s → may_interrupt w ≡ may_interrupt s
+pub settled_may : (open_to : ℕ → Bool) (first : Bool) (w s : State) → Settled open_to first w s
+    → may_interrupt w ≡ may_interrupt s
 unfolding Settled
 settled_may open_to first w s (inl l) = ap (λ (r : Regs). not (has r.ccr interrupts_masked)) l.0.regs
 settled_may open_to first w s (inr l) = ap (λ (r : Regs). not (has r.ccr interrupts_masked)) l.0.regs
@@ -77,7 +82,8 @@ record Taken (open_to : ℕ → Bool) (first : Bool) (w s : State) : Type 0 wher
   after : (u : State) → Quiet open_to u (suspended wav w) s → Settled open_to false u s
 
 -- where sums run they are parked
-taken_running : MachineLaws → (open_to : ℕ → Bool) (w s : State) (p q : ℕ) → LeavesStack open_to → HasRoom s → Same open_to w s → s.temps ≡ Running p q
+taken_running : MachineLaws → (open_to : ℕ → Bool) (w s : State) (p q : ℕ) → LeavesStack open_to → HasRoom s
+    → Same open_to w s → s.temps ≡ Running p q
     → Taken open_to true w s
 unfolding Settled
 taken_running laws open_to w s p q a k l run =
@@ -90,7 +96,8 @@ taken_running laws open_to w s p q a k l run =
     let x = pushed_sums w.regs p q w.mem in
     let is : suspended wav w ≡ x = laws.running w p q now in
     let wrote = pushed_agrees laws open_to w s p q l a lo hi in
-    let below : Agree (is_hidden open_to s.regs.sp) x.mem s.mem = agree_with (is_hidden open_to s.regs.sp) x.mem w.mem s.mem wrote l.mem in
+    let below : Agree (is_hidden open_to s.regs.sp) x.mem s.mem =
+    agree_with (is_hidden open_to s.regs.sp) x.mem w.mem s.mem wrote l.mem in
     record {
       begins = subst (λ (v : State). Begins open_to v s) (sym is) (record {
         temps = inr refl;
@@ -98,7 +105,8 @@ taken_running laws open_to w s p q a k l run =
         regs = ap (λ (r : Regs). record r { sp = plus r.sp 65530 }) l.regs ∙ ap (below_sums s.regs) (sym run);
         mem = below;
       });
-      frame = laws.frame_is_on_stack w size (omega arith) ∙ ap (frame_in w) now ∙ ap (λ (r : Regs). full_by r p q) l.regs
+      frame = laws.frame_is_on_stack w size (omega arith) ∙ ap (frame_in w) now
+          ∙ ap (λ (r : Regs). full_by r p q) l.regs
           ∙ ap (λ (t : Temps). frame_on true s t) (sym run);
       after = λ u quiet. inr (parked_by u (subst (λ (v : State). Quiet open_to u v s) is quiet), refl);
     }
@@ -114,7 +122,9 @@ taken_running laws open_to w s p q a k l run =
         let sp : w.regs.sp ≡ s.regs.sp = ap (λ (r : Regs). r.sp) l.regs in
         let base : plus w.regs.sp 65530 ≡ s.regs.sp - 6 = omega arith in
         let got : bytes_at u.mem (from (plus w.regs.sp 65530) 6) ≡ bytes_at x.mem (from (plus w.regs.sp 65530) 6) =
-        same_bytes (is_hidden open_to (plus w.regs.sp 65530)) u.mem x.mem quiet.mem (from (plus w.regs.sp 65530) 6) (laws.shown open_to (plus w.regs.sp 65530) (plus w.regs.sp 65530) 6 a (omega arith) (omega arith) (omega arith)) in
+        same_bytes (is_hidden open_to (plus w.regs.sp 65530)) u.mem x.mem quiet.mem (from (plus w.regs.sp 65530) 6)
+        (laws.shown open_to (plus w.regs.sp 65530) (plus w.regs.sp 65530) 6 a (omega arith) (omega arith)
+        (omega arith)) in
         let put : bytes_at x.mem (from (plus w.regs.sp 65530) 6) ≡ sum_bytes p q =
         read_placed (sum_bytes p q) (plus w.regs.sp 65530) w.mem (omega arith) (lit≤ tt) (l.mem.size ∙ k.size) in
         let at : plus w.regs.sp 65530 ≡ plus s.regs.sp 65530 = omega arith in
@@ -125,8 +135,10 @@ taken_running laws open_to w s p q a k l run =
           temps = left_running s.temps u.temps x.temps p q run quiet.temps;
           regs = quiet.regs ∙ ap (λ (r : Regs). record r { sp = plus r.sp 65530 }) l.regs;
           sums = subst (λ (k : ℕ). bytes_at u.mem (from k 6) ≡ sum_bytes p q) at (got ∙ put);
-          mem = agree_with (is_hidden open_to s.regs.sp) u.mem x.mem s.mem (laws.more open_to (plus w.regs.sp 65530) s.regs.sp u.mem x.mem (omega arith) quiet.mem)
-              (agree_with (is_hidden open_to s.regs.sp) x.mem w.mem s.mem (pushed_agrees laws open_to w s p q l a lo hi) l.mem);
+          mem = agree_with (is_hidden open_to s.regs.sp) u.mem x.mem s.mem
+              (laws.more open_to (plus w.regs.sp 65530) s.regs.sp u.mem x.mem (omega arith) quiet.mem)
+              (agree_with (is_hidden open_to s.regs.sp) x.mem w.mem s.mem
+              (pushed_agrees laws open_to w s p q l a lo hi) l.mem);
         }
 
 abbrev nine_frame : Regs → ℕ → FrameSeen
@@ -136,12 +148,14 @@ frame_off : (w : State) → IsOff w.temps → frame_in w w.temps ≡ nine_frame 
 frame_off w (inl e) = ap (frame_in w) e
 frame_off w (inr e) = ap (frame_in w) e
 
-expected_off : (first : Bool) (s : State) → IsOff s.temps → expected_frame first s ≡ nine_frame s.regs (plus s.regs.sp 65527)
+expected_off : (first : Bool) (s : State) → IsOff s.temps
+    → expected_frame first s ≡ nine_frame s.regs (plus s.regs.sp 65527)
 expected_off first s (inl e) = ap (λ (t : Temps). frame_on first s t) e
 expected_off first s (inr e) = ap (λ (t : Temps). frame_on first s t) e
 
 -- where none run the state stays the same
-taken_off : MachineLaws → (open_to : ℕ → Bool) (first : Bool) (w s : State) → HasRoom s → Same open_to w s → IsOff s.temps → Taken open_to first w s
+taken_off : MachineLaws → (open_to : ℕ → Bool) (first : Bool) (w s : State) → HasRoom s → Same open_to w s
+    → IsOff s.temps → Taken open_to first w s
 unfolding Settled
 taken_off laws open_to first w s k l off =
     let fits = k.fits in
@@ -155,7 +169,8 @@ taken_off laws open_to first w s k l off =
         regs = l.regs ∙ below_off s.regs s.temps off;
         mem = l.mem;
       });
-      frame = laws.frame_is_on_stack w (l.mem.size ∙ k.size) (omega arith) ∙ frame_off w off_w ∙ ap (λ (r : Regs). nine_frame r (plus r.sp 65527)) l.regs
+      frame = laws.frame_is_on_stack w (l.mem.size ∙ k.size) (omega arith) ∙ frame_off w off_w
+          ∙ ap (λ (r : Regs). nine_frame r (plus r.sp 65527)) l.regs
           ∙ sym (expected_off first s off);
       after = λ u q. inl (same_by u (subst (λ (v : State). Quiet open_to u v s) is q), inr off);
     }
@@ -166,11 +181,13 @@ taken_off laws open_to first w s k l off =
         record {
           regs = q.regs ∙ l.regs;
           temps = left_off s.temps u.temps w.temps off q.temps ∙ l.temps;
-          mem = agree_with (is_hidden open_to s.regs.sp) u.mem w.mem s.mem (subst (λ (k : ℕ). Agree (is_hidden open_to k) u.mem w.mem) sp q.mem) l.mem;
+          mem = agree_with (is_hidden open_to s.regs.sp) u.mem w.mem s.mem
+              (subst (λ (k : ℕ). Agree (is_hidden open_to k) u.mem w.mem) sp q.mem) l.mem;
         }
 
 -- where they are parked they stay so
-taken_parked : MachineLaws → (open_to : ℕ → Bool) (w s : State) → LeavesStack open_to → HasRoom s → Parked open_to w s → Taken open_to false w s
+taken_parked : MachineLaws → (open_to : ℕ → Bool) (w s : State) → LeavesStack open_to → HasRoom s → Parked open_to w s
+    → Taken open_to false w s
 unfolding Settled
 taken_parked laws open_to w s a k l =
     let lo = k.low in
@@ -185,7 +202,8 @@ taken_parked laws open_to w s a k l =
         regs = l.regs ∙ ap (below_sums s.regs) (sym l.running);
         mem = l.mem;
       });
-      frame = laws.frame_is_on_stack w (l.mem.size ∙ k.size) (omega arith) ∙ frame_off w l.temps ∙ ap (λ (r : Regs). nine_frame r (plus r.sp 65527)) l.regs
+      frame = laws.frame_is_on_stack w (l.mem.size ∙ k.size) (omega arith) ∙ frame_off w l.temps
+          ∙ ap (λ (r : Regs). nine_frame r (plus r.sp 65527)) l.regs
           ∙ ap (nine_frame (s.regs)) low
           ∙ ap (λ (t : Temps). frame_on false s t) (sym l.running);
       after = λ u q. inr (stays_by u (subst (λ (v : State). Quiet open_to u v s) is q), refl);
@@ -197,7 +215,8 @@ taken_parked laws open_to w s a k l =
         let hi = k.high in
         let sp : w.regs.sp ≡ plus s.regs.sp 65530 = ap (λ (r : Regs). r.sp) l.regs in
         let got : bytes_at u.mem (from (plus s.regs.sp 65530) 6) ≡ bytes_at w.mem (from (plus s.regs.sp 65530) 6) =
-        same_bytes (is_hidden open_to w.regs.sp) u.mem w.mem q.mem (from (plus s.regs.sp 65530) 6) (laws.shown open_to w.regs.sp (plus s.regs.sp 65530) 6 a (omega arith) (omega arith) (omega arith)) in
+        same_bytes (is_hidden open_to w.regs.sp) u.mem w.mem q.mem (from (plus s.regs.sp 65530) 6)
+        (laws.shown open_to w.regs.sp (plus s.regs.sp 65530) 6 a (omega arith) (omega arith) (omega arith)) in
         record {
           product = l.product;
           weight = l.weight;
@@ -205,12 +224,15 @@ taken_parked laws open_to w s a k l =
           temps = left_running s.temps u.temps w.temps l.product l.weight l.running q.temps;
           regs = q.regs ∙ l.regs;
           sums = got ∙ l.sums;
-          mem = agree_with (is_hidden open_to s.regs.sp) u.mem w.mem s.mem (laws.more open_to w.regs.sp s.regs.sp u.mem w.mem (omega arith) q.mem) l.mem;
+          mem = agree_with (is_hidden open_to s.regs.sp) u.mem w.mem s.mem
+              (laws.more open_to w.regs.sp s.regs.sp u.mem w.mem (omega arith) q.mem) l.mem;
         }
 
-taken_any : MachineLaws → (open_to : ℕ → Bool) (first : Bool) (w s : State) → LeavesStack open_to → HasRoom s → Settled open_to first w s → Taken open_to first w s
+taken_any : MachineLaws → (open_to : ℕ → Bool) (first : Bool) (w s : State) → LeavesStack open_to → HasRoom s
+    → Settled open_to first w s → Taken open_to first w s
 unfolding Settled
-taken_any laws open_to first w s a k (inr l) = subst (λ (b : Bool). Taken open_to b w s) (sym l.1) (taken_parked laws open_to w s a k l.0)
+taken_any laws open_to first w s a k (inr l) =
+    subst (λ (b : Bool). Taken open_to b w s) (sym l.1) (taken_parked laws open_to w s a k l.0)
 taken_any laws open_to first w s a k (inl l) = elim (temps_cases s.temps) [
   | inl off ↦ taken_off laws open_to first w s k l.0 off
   | inr r ↦ elim l.1 [
@@ -220,19 +242,23 @@ taken_any laws open_to first w s a k (inl l) = elim (temps_cases s.temps) [
 ]
 
 -- one interrupt
-pub record Took {S A B : Type 0} (open_to : ℕ → Bool) (f : Form S A B) (Own : List (A × B) → State → Type 0) (first : Bool) (done : List (A × B)) (a : A) (w s : State) : Type 0 where
+pub record Took {S A B : Type 0} (open_to : ℕ → Bool) (f : Form S A B) (Own : List (A × B) → State → Type 0)
+    (first : Bool) (done : List (A × B)) (a : A) (w s : State) : Type 0 where
   pub frame : frame_of w ≡ expected_frame first s
   pub after : Settled open_to false (taken f a w) s
   pub own : Own (told f a w ∷ done) (taken f a w)
 
-pub took_one : {S A B : Type 0} (open_to : ℕ → Bool) (f : Form S A B) (P : State → Type 0) (Good : A → Type 0) (Own : List (A × B) → State → Type 0)
+pub took_one : {S A B : Type 0} (open_to : ℕ → Bool) (f : Form S A B) (P : State → Type 0) (Good : A → Type 0)
+    (Own : List (A × B) → State → Type 0)
     → Ground open_to f P Good Own
-    → (first : Bool) (done : List (A × B)) (a : A) (w s : State) → Good a → P s → may_interrupt s ≡ true → Settled open_to first w s → Own done w
+    → (first : Bool) (done : List (A × B)) (a : A) (w s : State) → Good a → P s → may_interrupt s ≡ true
+    → Settled open_to first w s → Own done w
     → Took open_to f Own first done a w s
 took_one open_to f P Good Own gr first done a w s good ps may l own =
     let sd = gr.sound in
     let seen : IsShownStep open_to f.flags s = sd.shown s ps in
     let t = taken_any gr.machine open_to first w s sd.apart seen.room l in
     let keeps = sd.leaves_open in
-    let q = sd.quiet done a (suspended wav w) s good ps may t.begins (keeps.pushes done w s ps (settled_near open_to first w s l) own) in
+    let q = sd.quiet done a (suspended wav w) s good ps may t.begins
+    (keeps.pushes done w s ps (settled_near open_to first w s l) own) in
     record { frame = t.frame; after = t.after (taken f a w) q.0; own = q.1 }

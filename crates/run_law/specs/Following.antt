@@ -2,7 +2,8 @@
 use Rattle.std.specs.Prelude.{◌≡◌, ℕ, suc, ◌+◌, ◌≤◌, Bool, true, false, List, [], ◌∷◌, map}
 use Rattle.cpu12_parts.specs.State.{State}
 use Rattle.run_law.specs.Forms.{Form, Ran, run_from, RowSeen, Rows, rows_from}
-use Rattle.run_law.specs.Uninterrupted.{uninterrupted, counted, is_inside, taken_at, taken_before, left_from, resumed_of, frames_of}
+use Rattle.run_law.specs.Uninterrupted.{uninterrupted, counted, is_inside, taken_at, taken_before, left_from}
+use Rattle.run_law.specs.Uninterrupted.{resumed_of, frames_of}
 use Rattle.cpu12_emul.specs.Simulation.{Same}
 use Rattle.run_law.specs.Soundness.{Before, AllSimulate, AllGood, Ascend}
 

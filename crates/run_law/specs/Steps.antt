@@ -7,7 +7,8 @@ use Rattle.cpu12_isa.specs.Fits.{BytesStay}
 use Rattle.cpu12_isa.specs.Interrupts.{HidesMoreAbove, ShowsFromSp, HidesPushed}
 use Rattle.cpu12_parts.specs.Cuts.{Kind, rev, revw, wav}
 use Rattle.cpu12_parts.specs.Fits.{PartFits}
-use Rattle.cpu12_parts.specs.Inside.{own_address, second_byte, GoesOnAt, LeavesSums, WritesNothing, PushesRunning, PushesNone}
+use Rattle.cpu12_parts.specs.Inside.{own_address, second_byte, GoesOnAt, LeavesSums, WritesNothing, PushesRunning}
+use Rattle.cpu12_parts.specs.Inside.{PushesNone}
 use Rattle.cpu12_parts.specs.Laws.{Any, AreKept, IsSteady, RevIsWhole, RevwIsWhole, WavIsWhole}
 use Rattle.cpu12_emul.specs.Simulation.{PlainIsStep, PartIsStep, SumsAreStep, StepKeeps, FrameIsOnStack}
 

@@ -1,5 +1,6 @@
 -- The run of a sample without interrupts, and what is expected of its run under requests.
-use Rattle.std.specs.Prelude.{ℕ, zero, suc, ◌+◌, ◌-◌, ◌==◌, ◌&&◌, ◌||◌, not, nat_lt, Bool, true, false, if◌then◌else◌, Result, Ok, Err, Option, Some, None, List, [], ◌∷◌, ◌++◌}
+use Rattle.std.specs.Prelude.{ℕ, zero, suc, ◌+◌, ◌-◌, ◌==◌, ◌&&◌, ◌||◌, not, nat_lt, Bool, true, false, if◌then◌else◌}
+use Rattle.std.specs.Prelude.{Result, Ok, Err, Option, Some, None, List, [], ◌∷◌, ◌++◌}
 use Rattle.cpu12_isa.specs.Memory.{plus}
 use Rattle.cpu12_isa.specs.Registers.{frame_bytes}
 use Rattle.cpu12_parts.specs.declared.temps.Temps.{Temps}

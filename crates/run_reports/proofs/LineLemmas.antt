@@ -14,7 +14,8 @@ use Rattle.run_reports.specs.RowLines.{answered, answers_told, begun_lines, fram
 
 numbers-snoc : (ns : List ℕ) (n : ℕ) → numbers (ns ++ n ∷ []) ≡ numbers ns ++ (codes " " ++ decimal n)
 numbers-snoc [] n = ap (λ (l : List ℕ). codes " " ++ l) (append-nil (decimal n))
-numbers-snoc (m ∷ ns) n = ap (λ (l : List ℕ). codes " " ++ (decimal m ++ l)) (numbers-snoc ns n) ∙ ap (λ (l : List ℕ). codes " " ++ l) (sym (append_assoc (decimal m) (numbers ns) (codes " " ++ decimal n)))
+numbers-snoc (m ∷ ns) n = ap (λ (l : List ℕ). codes " " ++ (decimal m ++ l)) (numbers-snoc ns n)
+    ∙ ap (λ (l : List ℕ). codes " " ++ l) (sym (append_assoc (decimal m) (numbers ns) (codes " " ++ decimal n)))
 
 -- the text so far with one number more
 pub number_more : (before now next : List ℕ) (ns : List ℕ) (i d : ℕ) → i < length ns
@@ -29,7 +30,8 @@ number_more before now next ns i d lt so_far step =
 -- ---- answers, samples and frames
 
 -- answers behind a text, and a number at its end
-pub answers_written : (instrs : ℕ) (answers t0 t1 t2 t3 : List ℕ) → t1 ≡ t0 ++ codes " answers" → t2 ≡ t1 ++ numbers answers
+pub answers_written : (instrs : ℕ) (answers t0 t1 t2 t3 : List ℕ) → t1 ≡ t0 ++ codes " answers"
+    → t2 ≡ t1 ++ numbers answers
     → t3 ≡ t2 ++ (codes " instructions " ++ decimal instrs) → t3 ≡ t0 ++ answers_told answers instrs
 answers_written instrs answers t0 t1 t2 t3 e1 e2 e3 =
     let r2 = codes " instructions " ++ decimal instrs in

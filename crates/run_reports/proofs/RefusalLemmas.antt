@@ -39,15 +39,19 @@ module _ (block : Block) (trace plan : List ℕ) where
 -- ---- nothing refuses files that are accepted
 
 pub samples_stand : SpelledBlocksAreOne → SpelledTracesHaveNoFault → SpelledPlansHaveNoFault → SpelledSamplesHaveNoFault
-samples_stand one traces plans text trace plan block other samples requests (status.Trace f) spelled also in_range good r =
+samples_stand one traces plans text trace plan block other samples requests
+    (status.Trace f) spelled also in_range good r =
     traces other.inputs trace samples f
-    (subst (λ (is : List Input). SpellsTrace is trace samples) (sym (one text other block also spelled).inputs) in_range) r
-samples_stand one traces plans text trace plan block other samples requests (status.Plan f) spelled also in_range good r =
+    (subst (λ (is : List Input). SpellsTrace is trace samples) (sym (one text other block also spelled).inputs)
+    in_range) r
+samples_stand one traces plans text trace plan block other samples requests
+    (status.Plan f) spelled also in_range good r =
     plans plan requests f good r.2
 samples_stand one traces plans text trace plan block other samples requests s spelled also in_range good r = r
 
 pub inputs_stand : AcceptedCertsHaveNoFault → SpelledSamplesHaveNoFault → AcceptedInputsHaveNoFault
-inputs_stand certs stand width text cert trace plan block other errors samples requests (status.Cert f) spelled also a r =
+inputs_stand certs stand width text cert trace plan block other errors samples requests
+    (status.Cert f) spelled also a r =
     certs width text cert errors block other f spelled also a.accepted r
 inputs_stand certs stand width text cert trace plan block other errors samples requests s spelled also a r =
     stand text trace plan block other samples requests s spelled also a.in_range a.good_plan r.2

@@ -57,8 +57,10 @@ input_bytes_fit b [] [] h = All-nil _
 input_bytes_fit b [] (s ∷ ss) h = absurd h
 input_bytes_fit b (r ∷ rs) [] h = absurd h
 input_bytes_fit b (r ∷ rs) (s ∷ ss) h =
-    let own : AreInputBytes b (bytes_of b.inputs s.values) = record { count = bytes_counted b.inputs s.values h.0.within; fit = bytes_small b.inputs s.values } in
-    All-cons (AreInputBytes b) (input_bytes s) (map input_bytes ss) (subst (AreInputBytes b) (sym h.0.bytes) own) (input_bytes_fit b rs ss h.1)
+    let own : AreInputBytes b (bytes_of b.inputs s.values) =
+    record { count = bytes_counted b.inputs s.values h.0.within; fit = bytes_small b.inputs s.values } in
+    All-cons (AreInputBytes b) (input_bytes s) (map input_bytes ss) (subst (AreInputBytes b) (sym h.0.bytes) own)
+    (input_bytes_fit b rs ss h.1)
 
 -- ---- the answers of rows
 
@@ -94,7 +96,8 @@ module _ (near : AnswersAreWithinErrors) (w : Width) (flags : ℕ) (text : List 
   within =
       let accepted_there = subst (λ (v : Width). IsAccepted block (parts v) cert errors) (sym width) accepted in
       subst (λ (v : Width). AreWithinErrors (parts v) block errors samples rows) width
-      (near block firmware flags cert errors trace samples rows gives.spelled.valid in_range under.answers accepted_there)
+      (near block firmware flags cert errors trace samples rows gives.spelled.valid in_range under.answers
+      accepted_there)
 
   pub reports : IsReportOf w flags block firmware samples plan (report_of errors firmware.instr_bound rows)
   reports = record {

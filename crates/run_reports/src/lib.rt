@@ -1,11 +1,11 @@
 //! What the commands that run firmware share: the files CERT, TRACE and PLAN ([`inputs`]), what a report of a run says
 //! (`IsReportOf`), the lines of its samples, answers and frames ([`row_lines`]), and laws of these ([`laws`]).
 //!
-//! Of CERT, TRACE and PLAN [`inputs::inputs_of`] answers what they give ([`inputs::Inputs`]), or the first fault in their
-//! order, and never a fault of files that are accepted with a block of the same text
-//! ([`laws::accepted_inputs_have_no_fault`]). What a firmware answers of a trace's samples is a report, with all answers
-//! within the accepted errors ([`laws::answers_are_reported`]), and its lines are just those of each row in turn
-//! ([`row_lines::push_rows`]), or memory was wanted.
+//! Of CERT, TRACE and PLAN [`inputs::inputs_of`] answers what they give ([`inputs::Inputs`]), or the first
+//! fault in their order, and never a fault of files that are accepted with a block of the same text
+//! ([`laws::accepted_inputs_have_no_fault`]). What a firmware answers of a trace's samples is a report, with
+//! all answers within the accepted errors ([`laws::answers_are_reported`]), and its lines are just those of
+//! each row in turn ([`row_lines::push_rows`]), or memory was wanted.
 #![tactic(auto)]
 
 pub mod inputs;

@@ -1,5 +1,6 @@
 -- What a reader has, and what is given.
-use Rattle.std.proofs.Common.{◌≡◌, ◌≢◌, ℕ, ◌+◌, true, false, List, [], ◌∷◌, ◌++◌, Option, Some, None, IsSome, is_some, refl, sym, ◌∙◌, ap, subst}
+use Rattle.std.proofs.Common.{◌≡◌, ◌≢◌, ℕ, ◌+◌, true, false, List, [], ◌∷◌, ◌++◌, Option, Some, None, IsSome, is_some}
+use Rattle.std.proofs.Common.{refl, sym, ◌∙◌, ap, subst}
 use Rattle.std.proofs.lemmas.List.{append-nil}
 use Rattle.std.specs.Str.Lines.{lines}
 use Rattle.cpu12_asm.specs.Bytes.{byte_at}
@@ -9,10 +10,12 @@ use Rattle.srecord.specs.declared.fields.Kind.{Kind}
 use Rattle.srecord.specs.declared.fields.Kind.TheVariants.{Count}
 use Rattle.srecord.specs.declared.reader.Reader.{Reader}
 use Rattle.srecord.specs.Lines.{HasGoodFields, Opens}
-use Rattle.srecord.specs.Texts.{Give, Given, HasFault, IsRecord, IsTaken, LineFails, RecordFails, at_line, count_differs, no_end, none, nothing_given}
+use Rattle.srecord.specs.Texts.{Give, Given, HasFault, IsRecord, IsTaken, LineFails, RecordFails, at_line}
+use Rattle.srecord.specs.Texts.{count_differs, no_end, none, nothing_given}
 use Rattle.srecord.specs.Reading.{HasRead}
 
-pub is_record_there : (line : List ℕ) (kind : Kind) (at : ℕ) (payload bytes seen : List ℕ) → seen ≡ bytes → Opens line kind bytes → HasGoodFields kind seen at payload
+pub is_record_there : (line : List ℕ) (kind : Kind) (at : ℕ) (payload bytes seen : List ℕ) → seen ≡ bytes
+    → Opens line kind bytes → HasGoodFields kind seen at payload
     → IsRecord line kind at payload
 is_record_there line kind at payload bytes seen same opens fields = record {
   bytes = bytes;
@@ -20,14 +23,17 @@ is_record_there line kind at payload bytes seen same opens fields = record {
   fields = subst (λ (b : List ℕ). HasGoodFields kind b at payload) same fields;
 }
 
-pub taken_too : (bytes given : ℕ → Option ℕ) → ((q : ℕ) → bytes q ≡ given q) → (at : ℕ) (payload : List ℕ) → IsTaken bytes at payload → IsTaken given at payload
+pub taken_too : (bytes given : ℕ → Option ℕ) → ((q : ℕ) → bytes q ≡ given q) → (at : ℕ) (payload : List ℕ)
+    → IsTaken bytes at payload → IsTaken given at payload
 taken_too bytes given same at payload t = (t.0, t.1, subst (λ (o : Option ℕ). IsSome o) (same (at + t.0)) t.2)
 
-pub counted_otherwise : (g : Given) (n at count records : ℕ) (payload : List ℕ) → count ≡ at → records ≡ g.records → count ≢ records
+pub counted_otherwise : (g : Given) (n at count records : ℕ) (payload : List ℕ) → count ≡ at → records ≡ g.records
+    → count ≢ records
     → RecordFails g n Count at payload (CountDiffers count records)
 counted_otherwise g n at count records payload count_is records_are other =
     subst (λ (c : ℕ). RecordFails g n Count at payload (CountDiffers c records)) (sym count_is)
-    (subst (λ (r : ℕ). RecordFails g n Count at payload (CountDiffers at r)) (sym records_are) (count_differs at payload (λ same. other (count_is ∙ same ∙ sym records_are))))
+    (subst (λ (r : ℕ). RecordFails g n Count at payload (CountDiffers at r)) (sym records_are)
+    (count_differs at payload (λ same. other (count_is ∙ same ∙ sym records_are))))
 
 pub has_start : (o p : Option ℕ) → true ≡ is_some o → o ≡ p → p ≢ None
 has_start None p some same = absurd (cc)
@@ -37,7 +43,8 @@ pub has_no_start : (o p : Option ℕ) → false ≡ is_some o → o ≡ p → p 
 has_no_start None p some same = sym same
 has_no_start (Some x) p some same = absurd (cc)
 
-pub nothing_read : (text : List ℕ) (reader : Reader) → ((q : ℕ) → byte_at reader.bytes q ≡ None) → reader.records ≡ 0 → reader.start ≡ None → HasRead text 0 text reader
+pub nothing_read : (text : List ℕ) (reader : Reader) → ((q : ℕ) → byte_at reader.bytes q ≡ None) → reader.records ≡ 0
+    → reader.start ≡ None → HasRead text 0 text reader
 nothing_read text reader no_bytes no_records no_start = record {
   before = [];
   given = nothing_given;
@@ -47,12 +54,16 @@ nothing_read text reader no_bytes no_records no_start = record {
   has = record { bytes = no_bytes; records = no_records; start = no_start };
 }
 
-pub without_start : (text rest : List ℕ) (count : ℕ) (reader : Reader) → HasRead text count rest reader → rest ≡ [] → reader.start ≡ None → HasFault text NoEnd
+pub without_start : (text rest : List ℕ) (count : ℕ) (reader : Reader) → HasRead text count rest reader → rest ≡ []
+    → reader.start ≡ None → HasFault text NoEnd
 without_start text rest count reader h ended no_start =
-    let all : lines text ≡ h.before = h.lines_are ∙ ap (λ (r : List ℕ). h.before ++ lines r) ended ∙ append-nil h.before in
+    let all : lines text ≡ h.before = h.lines_are ∙ ap (λ (r : List ℕ). h.before ++ lines r) ended
+    ∙ append-nil h.before in
     no_end h.given (subst (λ (l : List (List ℕ)). Give l h.given) (sym all) h.give) (sym h.has.start ∙ no_start)
 
-pub fails_there : (text rest line behind : List ℕ) (count : ℕ) (reader : Reader) (fault : SrecFault) (h : HasRead text count rest reader)
+pub fails_there : (text rest line behind : List ℕ) (count : ℕ) (reader : Reader) (fault : SrecFault)
+    (h : HasRead text count rest reader)
     → lines rest ≡ line ∷ lines behind → LineFails h.given (count + 1) line fault → HasFault text fault
 fails_there text rest line behind count reader fault h first fails =
-    at_line h.before (lines behind) line h.given fault (h.lines_are ∙ ap (λ (l : List (List ℕ)). h.before ++ l) first) h.give (subst (λ (n : ℕ). LineFails h.given (n + 1) line fault) (sym h.number) fails)
+    at_line h.before (lines behind) line h.given fault (h.lines_are ∙ ap (λ (l : List (List ℕ)). h.before ++ l) first)
+    h.give (subst (λ (n : ℕ). LineFails h.given (n + 1) line fault) (sym h.number) fails)

@@ -1,5 +1,6 @@
 -- The fields of a record's bytes.
-use Rattle.std.proofs.Common.{◌≡◌, ◌≢◌, ℕ, ◌+◌, ◌-◌, ◌*◌, ◌/◌, ◌%◌, ◌<◌, ◌≤◌, List, [], ◌∷◌, ◌++◌, length, take, drop, get_or, Some, None, false, refl, sym, ap, subst, ◌∙◌, arith, length-append}
+use Rattle.std.proofs.Common.{◌≡◌, ◌≢◌, ℕ, ◌+◌, ◌-◌, ◌*◌, ◌/◌, ◌%◌, ◌<◌, ◌≤◌, List, [], ◌∷◌, ◌++◌, length, take, drop}
+use Rattle.std.proofs.Common.{get_or, Some, None, false, refl, sym, ap, subst, ◌∙◌, arith, length-append}
 use Rattle.std.specs.Prelude.{Err}
 use Rattle.std.proofs.lemmas.List.{take_rest, take-append-drop}
 use Rattle.std.proofs.Math.Seq.{drop-append_seam, take-append_seam}
@@ -8,7 +9,8 @@ use Rattle.hex.specs.declared.error.FromHexError.{FromHexError}
 use Rattle.srecord.specs.declared.fault.SrecFault.TheVariants.{BadLine, BadSum}
 use Rattle.srecord.specs.declared.fields.Kind.{Kind}
 use Rattle.srecord.specs.Records.{body_of, checksum_of}
-use Rattle.srecord.specs.Lines.{BeginsWide, FieldsFail, FitsKind, OpeningFails, is_wide, kind_of, parts_of, bad_sum, unopened, unread}
+use Rattle.srecord.specs.Lines.{BeginsWide, FieldsFail, FitsKind, OpeningFails, is_wide, kind_of, parts_of, bad_sum}
+use Rattle.srecord.specs.Lines.{unopened, unread}
 
 pub no_parts : (line : List ℕ) (n : ℕ) → parts_of line ≡ None → OpeningFails line n (BadLine n)
 no_parts line n none = unopened (λ w. (let some = w.parts in cc)) (λ kind bytes o. (let some = o.parts in cc))
@@ -27,10 +29,14 @@ module _ (line : List ℕ) (n digit : ℕ) (digits : List ℕ) (parts : parts_of
   narrow other w = let same = ap is_wide (digit_is w.digit w.digits w.parts) in let yes = w.wide in cc
 
   pub no_kind : false ≡ is_wide digit → kind_of digit ≡ None → OpeningFails line n (BadLine n)
-  no_kind other none = unopened (narrow other) (λ kind bytes o. (let same = ap kind_of (digit_is o.digit o.digits o.parts) in let some = o.kind_is in cc))
+  no_kind other none =
+      unopened (narrow other)
+      (λ kind bytes o. (let same = ap kind_of (digit_is o.digit o.digits o.parts) in let some = o.kind_is in cc))
 
   pub no_bytes : (e : FromHexError) → false ≡ is_wide digit → decode_of digits ≡ Err e → OpeningFails line n (BadLine n)
-  no_bytes e other err = unopened (narrow other) (λ kind bytes o. (let same = ap decode_of (digits_are o.digit o.digits o.parts) in let ok = o.bytes_are in cc))
+  no_bytes e other err =
+      unopened (narrow other)
+      (λ kind bytes o. (let same = ap decode_of (digits_are o.digit o.digits o.parts) in let ok = o.bytes_are in cc))
 
 -- the address and the data of a count, an address and data
 abbrev pub address_in : List ℕ → ℕ
@@ -39,7 +45,8 @@ address_in body = get_or body 1 0 * 256 + get_or body 2 0
 abbrev pub payload_in : List ℕ → List ℕ
 payload_in body = take (length body - 3) (drop 3 body)
 
-pub is_body : (bytes body back : List ℕ) (high low : ℕ) → bytes ≡ body ++ back → 3 ≤ length body → get_or bytes 0 0 ≡ length body
+pub is_body : (bytes body back : List ℕ) (high low : ℕ) → bytes ≡ body ++ back → 3 ≤ length body
+    → get_or bytes 0 0 ≡ length body
     → high ≡ get_or body 1 0 → low ≡ get_or body 2 0 → get_or bytes 2 0 < 256
     → body_of (high * 256 + low) (payload_in body) ≡ body
 is_body bytes [] back high low split some count high_is low_is byte = absurd (omega arith)
@@ -48,7 +55,8 @@ is_body bytes (b0 ∷ b1 ∷ []) back high low split some count high_is low_is b
 is_body bytes (b0 ∷ b1 ∷ b2 ∷ rest) back high low split some count high_is low_is byte =
     let whole : payload_in (b0 ∷ b1 ∷ b2 ∷ rest) ≡ rest = take_rest (b0 ∷ b1 ∷ b2 ∷ rest) 3 in
     let small : b2 < 256 = omega (arith, byte, ap (λ (b : List ℕ). get_or b 2 0) split) in
-    let first : length (payload_in (b0 ∷ b1 ∷ b2 ∷ rest)) + 3 ≡ b0 = omega (arith, ap length whole, count, ap (λ (b : List ℕ). get_or b 0 0) split) in
+    let first : length (payload_in (b0 ∷ b1 ∷ b2 ∷ rest)) + 3 ≡ b0 =
+    omega (arith, ap length whole, count, ap (λ (b : List ℕ). get_or b 0 0) split) in
     let second : (high * 256 + low) / 256 ≡ b1 = omega (arith, high_is, low_is, small) in
     let third : (high * 256 + low) % 256 ≡ b2 = omega (arith, high_is, low_is, small) in
     ap (λ (c : ℕ). c ∷ (high * 256 + low) / 256 ∷ (high * 256 + low) % 256 ∷ payload_in (b0 ∷ b1 ∷ b2 ∷ rest)) first
@@ -64,8 +72,10 @@ only [] one = absurd (omega arith)
 only (s ∷ []) one = refl
 only (s ∷ t ∷ back) one = absurd (omega arith)
 
-pub are_fields : (bytes body back made : List ℕ) → bytes ≡ body ++ back → made ≡ body → length back ≡ 1 → bytes ≡ made ++ get_or back 0 0 ∷ []
-are_fields bytes body back made split is one = split ∙ ap (λ (b : List ℕ). b ++ back) (sym is) ∙ ap (λ (s : List ℕ). made ++ s) (only back one)
+pub are_fields : (bytes body back made : List ℕ) → bytes ≡ body ++ back → made ≡ body → length back ≡ 1
+    → bytes ≡ made ++ get_or back 0 0 ∷ []
+are_fields bytes body back made split is one = split ∙ ap (λ (b : List ℕ). b ++ back) (sym is)
+    ∙ ap (λ (s : List ℕ). made ++ s) (only back one)
 
 -- the count is that of the bytes behind it
 pub is_counted : (bytes : List ℕ) (at : ℕ) (payload : List ℕ) (sum : ℕ) → bytes ≡ body_of at payload ++ sum ∷ []
@@ -77,14 +87,18 @@ is_counted bytes at payload sum is =
 
 pub snoc_same : {X : Type 0} (xs ys : List X) (x y : X) → length xs ≡ length ys → xs ++ x ∷ [] ≡ ys ++ y ∷ [] → xs ≡ ys
 snoc_same xs ys x y as_long same =
-    sym (take-append_seam xs (x ∷ [])) ∙ ap (take (length xs)) same ∙ ap (λ (n : ℕ). take n (ys ++ y ∷ [])) as_long ∙ take-append_seam ys (y ∷ [])
+    sym (take-append_seam xs (x ∷ [])) ∙ ap (take (length xs)) same ∙ ap (λ (n : ℕ). take n (ys ++ y ∷ [])) as_long
+    ∙ take-append_seam ys (y ∷ [])
 
-pub snoc_last : {X : Type 0} (xs ys : List X) (x y none : X) → length xs ≡ length ys → xs ++ x ∷ [] ≡ ys ++ y ∷ [] → x ≡ y
+pub snoc_last : {X : Type 0} (xs ys : List X) (x y none : X) → length xs ≡ length ys
+    → xs ++ x ∷ [] ≡ ys ++ y ∷ [] → x ≡ y
 snoc_last {X = X} xs ys x y none as_long same =
     ap (λ (l : List X). get_or l 0 none)
-    (sym (drop-append_seam xs (x ∷ [])) ∙ ap (drop (length xs)) same ∙ ap (λ (n : ℕ). drop n (ys ++ y ∷ [])) as_long ∙ drop-append_seam ys (y ∷ []))
+    (sym (drop-append_seam xs (x ∷ [])) ∙ ap (drop (length xs)) same ∙ ap (λ (n : ℕ). drop n (ys ++ y ∷ [])) as_long
+    ∙ drop-append_seam ys (y ∷ []))
 
-module _ (a at : ℕ) (p payload : List ℕ) (s sum : ℕ) (same : body_of a p ++ s ∷ [] ≡ body_of at payload ++ sum ∷ []) where
+module _ (a at : ℕ) (p payload : List ℕ) (s sum : ℕ)
+    (same : body_of a p ++ s ∷ [] ≡ body_of at payload ++ sum ∷ []) where
   pub same_address : a ≡ at
   same_address = omega (arith, ap (λ (b : List ℕ). get_or b 1 0) same, ap (λ (b : List ℕ). get_or b 2 0) same)
 
@@ -99,15 +113,18 @@ module _ (a at : ℕ) (p payload : List ℕ) (s sum : ℕ) (same : body_of a p +
   same_sum = let count : length (body_of a p) ≡ length (body_of at payload) = ap length same_body in
       snoc_last (body_of a p) (body_of at payload) s sum 0 count same
 
-pub only_fields : (kind : Kind) (at : ℕ) (payload : List ℕ) (sum : ℕ) (bytes : List ℕ) → bytes ≡ body_of at payload ++ sum ∷ []
+pub only_fields : (kind : Kind) (at : ℕ) (payload : List ℕ) (sum : ℕ) (bytes : List ℕ)
+    → bytes ≡ body_of at payload ++ sum ∷ []
     → (FitsKind kind at payload → ⊥) → (n : ℕ) → FieldsFail kind bytes n (BadLine n)
 only_fields kind at payload sum bytes is unfit n = unread (λ a p s h.
     (let same : body_of a p ++ s ∷ [] ≡ body_of at payload ++ sum ∷ [] = sym h.bytes_are ∙ is in
     unfit (subst (FitsKind kind at) (same_payload a at p payload s sum same)
     (subst (λ (x : ℕ). FitsKind kind x p) (same_address a at p payload s sum same) h.fits))))
 
-pub wrong_sum : (kind : Kind) (bytes : List ℕ) (at : ℕ) (payload : List ℕ) (sum want n : ℕ) → bytes ≡ body_of at payload ++ sum ∷ []
-    → FitsKind kind at payload → want ≡ checksum_of (body_of at payload) → sum ≢ want → FieldsFail kind bytes n (BadSum n sum want)
+pub wrong_sum : (kind : Kind) (bytes : List ℕ) (at : ℕ) (payload : List ℕ) (sum want n : ℕ)
+    → bytes ≡ body_of at payload ++ sum ∷ []
+    → FitsKind kind at payload → want ≡ checksum_of (body_of at payload) → sum ≢ want
+    → FieldsFail kind bytes n (BadSum n sum want)
 wrong_sum kind bytes at payload sum want n is fit right other =
     subst (λ (w : ℕ). FieldsFail kind bytes n (BadSum n sum w)) (sym right)
     (bad_sum at payload sum (record { bytes_are = is; fits = fit }) (λ same. other (same ∙ sym right)))

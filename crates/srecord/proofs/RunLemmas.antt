@@ -1,5 +1,6 @@
 -- Neighbouring bytes, and the pieces that they are cut into.
-use Rattle.std.proofs.Common.{◌≡◌, ◌≤◌, ◌<◌, ◌+◌, ℕ, zero, suc, true, List, [], ◌∷◌, ◌++◌, length, take, drop, get_or, refl, sym, ◌∙◌, ap, subst, arith, add-one, append_assoc, take-append-drop}
+use Rattle.std.proofs.Common.{◌≡◌, ◌≤◌, ◌<◌, ◌+◌, ℕ, zero, suc, true, List, [], ◌∷◌, ◌++◌, length, take, drop, get_or}
+use Rattle.std.proofs.Common.{refl, sym, ◌∙◌, ap, subst, arith, add-one, append_assoc, take-append-drop}
 use Rattle.std.specs.Prelude.{◌==◌, ◌⊎◌}
 use Rattle.std.proofs.Math.Seq.{take-suc}
 use Rattle.std.proofs.lemmas.Bool.Decides.{nat_tests}
@@ -10,40 +11,51 @@ use Rattle.srecord.specs.Images.{AreCut, IsPiece, Piece, StartsAt, data_text, ne
 use Rattle.srecord.specs.Records.{record_text}
 use Rattle.srecord.specs.Runs.{IsRun, address_at, bytes_only}
 
-run-snoc : (at : ℕ) (bytes : List (ℕ × ℕ)) (b : ℕ × ℕ) → IsRun at bytes → b.0 ≡ at + length bytes → IsRun at (bytes ++ b ∷ [])
+run-snoc : (at : ℕ) (bytes : List (ℕ × ℕ)) (b : ℕ × ℕ) → IsRun at bytes → b.0 ≡ at + length bytes
+    → IsRun at (bytes ++ b ∷ [])
 run-snoc at [] b run is = (omega (arith, is), tt)
 run-snoc at (x ∷ bytes) b run is = (run.0, run-snoc (at + 1) bytes b run.1 (omega (arith, is)))
 
-pub run_more : (bytes : List (ℕ × ℕ)) (n : ℕ) → n < length bytes → IsRun (address_at bytes 0) (take n bytes) → address_at bytes n ≡ address_at bytes 0 + n → IsRun (address_at bytes 0) (take (n + 1) bytes)
+pub run_more : (bytes : List (ℕ × ℕ)) (n : ℕ) → n < length bytes → IsRun (address_at bytes 0) (take n bytes)
+    → address_at bytes n ≡ address_at bytes 0 + n → IsRun (address_at bytes 0) (take (n + 1) bytes)
 run_more bytes n lt run is =
-    let more : take (n + 1) bytes ≡ take n bytes ++ get_or bytes n (0, 0) ∷ [] = ap (λ (k : ℕ). take k bytes) (add-one n) ∙ take-suc bytes n (0, 0) lt in
-    subst (IsRun (address_at bytes 0)) (sym more) (run-snoc (address_at bytes 0) (take n bytes) (get_or bytes n (0, 0)) run (omega (arith, is, length-take-le n bytes (omega arith))))
+    let more : take (n + 1) bytes ≡ take n bytes ++ get_or bytes n (0, 0) ∷ [] =
+    ap (λ (k : ℕ). take k bytes) (add-one n) ∙ take-suc bytes n (0, 0) lt in
+    subst (IsRun (address_at bytes 0)) (sym more)
+    (run-snoc (address_at bytes 0) (take n bytes) (get_or bytes n (0, 0)) run
+    (omega (arith, is, length-take-le n bytes (omega arith))))
 
 pub run_first : (bytes : List (ℕ × ℕ)) → 0 < length bytes → IsRun (address_at bytes 0) (take 1 bytes)
 run_first [] some = absurd (omega arith)
 run_first (b ∷ bytes) some = (refl, tt)
 
-pub starts_there : (at : ℕ) (bytes : List (ℕ × ℕ)) (n : ℕ) → StartsAt at (drop n bytes) → (n < length bytes) × (address_at bytes n ≡ at)
+pub starts_there : (at : ℕ) (bytes : List (ℕ × ℕ)) (n : ℕ) → StartsAt at (drop n bytes)
+    → (n < length bytes) × (address_at bytes n ≡ at)
 starts_there at [] zero starts = absurd starts
 starts_there at [] (suc n) starts = absurd starts
 starts_there at (b ∷ bytes) zero starts = (omega arith, starts)
-starts_there at (b ∷ bytes) (suc n) starts = let rest = starts_there at bytes n starts in (omega (arith, rest.0), rest.1)
+starts_there at (b ∷ bytes) (suc n) starts = let rest = starts_there at bytes n starts in
+    (omega (arith, rest.0), rest.1)
 
 run_placed : (at : ℕ) (bytes : List (ℕ × ℕ)) → IsRun at bytes → placed at (bytes_only bytes) ≡ bytes
 run_placed at [] run = refl
 run_placed at (b ∷ bytes) run =
-    ap (λ (a : ℕ). (a, b.1) ∷ placed (at + 1) (bytes_only bytes)) (sym run.0) ∙ ap (λ (l : List (ℕ × ℕ)). b ∷ l) (run_placed (at + 1) bytes run.1)
+    ap (λ (a : ℕ). (a, b.1) ∷ placed (at + 1) (bytes_only bytes)) (sym run.0)
+    ∙ ap (λ (l : List (ℕ × ℕ)). b ∷ l) (run_placed (at + 1) bytes run.1)
 
 -- the first n bytes as a piece
 abbrev pub piece_of : ℕ → List (ℕ × ℕ) → Piece
 piece_of n bytes = record { at = address_at bytes 0; bytes = bytes_only (take n bytes) }
 
-pub cut_more : (n : ℕ) (bytes : List (ℕ × ℕ)) (pieces : List Piece) → 1 ≤ n → n ≤ 32 → n ≤ length bytes → IsRun (address_at bytes 0) (take n bytes) → (n ≡ 32) ⊎ (StartsAt (address_at bytes 0 + n) (drop n bytes) → ⊥)
-    → address_at bytes 0 + n ≤ 65536 → IsBytes (bytes_only (take n bytes)) → AreCut (drop n bytes) pieces → AreCut bytes (piece_of n bytes ∷ pieces)
+pub cut_more : (n : ℕ) (bytes : List (ℕ × ℕ)) (pieces : List Piece) → 1 ≤ n → n ≤ 32 → n ≤ length bytes
+    → IsRun (address_at bytes 0) (take n bytes) → (n ≡ 32) ⊎ (StartsAt (address_at bytes 0 + n) (drop n bytes) → ⊥)
+    → address_at bytes 0 + n ≤ 65536 → IsBytes (bytes_only (take n bytes)) → AreCut (drop n bytes) pieces
+    → AreCut bytes (piece_of n bytes ∷ pieces)
 cut_more n bytes pieces some few within run ends fits are cut =
     let count : length (bytes_only (take n bytes)) ≡ n = rw length-map (length-take-le n bytes within) in
     let whole : placed (address_at bytes 0) (bytes_only (take n bytes)) ++ drop n bytes ≡ bytes =
-    ap (λ (l : List (ℕ × ℕ)). l ++ drop n bytes) (run_placed (address_at bytes 0) (take n bytes) run) ∙ take-append-drop n bytes in
+    ap (λ (l : List (ℕ × ℕ)). l ++ drop n bytes) (run_placed (address_at bytes 0) (take n bytes) run)
+    ∙ take-append-drop n bytes in
     let good : IsPiece (piece_of n bytes) (drop n bytes) = record {
       some = omega (arith, count);
       few = omega (arith, count);
@@ -51,11 +63,14 @@ cut_more n bytes pieces some few within run ends fits are cut =
       are_bytes = are;
       ends = subst (λ (k : ℕ). (k ≡ 32) ⊎ (StartsAt (address_at bytes 0 + k) (drop n bytes) → ⊥)) (sym count) ends;
     } in
-    subst (λ (l : List (ℕ × ℕ)). AreCut l (piece_of n bytes ∷ pieces)) whole (next (piece_of n bytes) (drop n bytes) pieces good cut)
+    subst (λ (l : List (ℕ × ℕ)). AreCut l (piece_of n bytes ∷ pieces)) whole
+    (next (piece_of n bytes) (drop n bytes) pieces good cut)
 
-pub text_more : (before after : List ℕ) (pieces : List Piece) (p : Piece) → after ≡ before ++ record_text 49 p.at p.bytes → before ++ data_text (p ∷ pieces) ≡ after ++ data_text pieces
+pub text_more : (before after : List ℕ) (pieces : List Piece) (p : Piece)
+    → after ≡ before ++ record_text 49 p.at p.bytes → before ++ data_text (p ∷ pieces) ≡ after ++ data_text pieces
 text_more before after pieces p added =
-    sym (append_assoc before (record_text 49 p.at p.bytes) (data_text pieces)) ∙ ap (λ (t : List ℕ). t ++ data_text pieces) (sym added)
+    sym (append_assoc before (record_text 49 p.at p.bytes) (data_text pieces))
+    ∙ ap (λ (t : List ℕ). t ++ data_text pieces) (sym added)
 
 pub first_kept : (n : ℕ) (bytes : List (ℕ × ℕ)) → 1 ≤ n → address_at (take n bytes) 0 ≡ address_at bytes 0
 first_kept zero bytes some = absurd (omega arith)

@@ -1,5 +1,6 @@
 -- The lines of records that are written.
-use Rattle.std.proofs.Common.{◌≡◌, ℕ, zero, suc, ◌-◌, ◌/◌, ◌%◌, ◌<◌, ◌≤◌, ◌==◌, false, cond, List, [], ◌∷◌, ◌++◌, length, take, Some, None, All, refl, sym, ap, ◌∙◌, arith, append_assoc, inl, inr}
+use Rattle.std.proofs.Common.{◌≡◌, ℕ, zero, suc, ◌-◌, ◌/◌, ◌%◌, ◌<◌, ◌≤◌, ◌==◌, false, cond, List, [], ◌∷◌, ◌++◌}
+use Rattle.std.proofs.Common.{length, take, Some, None, All, refl, sym, ap, ◌∙◌, arith, append_assoc, inl, inr}
 use Rattle.std.specs.Prelude.{slice_index}
 use Rattle.std.proofs.lemmas.Bool.{cases_eq}
 use Rattle.std.proofs.lemmas.Bool.Decides.{nat_tests}
@@ -38,8 +39,10 @@ record_bytes at bytes = body_of at bytes ++ checksum_of (body_of at bytes) ∷ [
 abbrev pub record_line : ℕ → ℕ → List ℕ → List ℕ
 record_line digit at bytes = 0x53 ∷ digit ∷ encode_upper (record_bytes at bytes)
 
-record_bytes_are : (at : ℕ) (bytes : List ℕ) → at < 65536 → length bytes ≤ 32 → AreBytes bytes → AreBytes (record_bytes at bytes)
-record_bytes_are at bytes fits few are = are_bytes_with (body_of at bytes) _ (omega arith, (omega arith, (omega arith, are))) (omega arith)
+record_bytes_are : (at : ℕ) (bytes : List ℕ) → at < 65536 → length bytes ≤ 32 → AreBytes bytes
+    → AreBytes (record_bytes at bytes)
+record_bytes_are at bytes fits few are =
+    are_bytes_with (body_of at bytes) _ (omega arith, (omega arith, (omega arith, are))) (omega arith)
 
 is_other : (c v d : ℕ) → hex_digit_value c ≡ Some d → hex_digit_value v ≡ None → (c == v) ≡ false
 is_other c v d digit none = elim (cases_eq c v) [
@@ -55,42 +58,63 @@ has_no_with : (v c : ℕ) (text : List ℕ) → (c == v) ≡ false → HasNo v t
 has_no_with v c text other others = All-cons (λ c. (c == v) ≡ false) c text other others
 
 high_other : (v b : ℕ) → b < 256 → hex_digit_value v ≡ None → (slice_index upper_digits (b / 16) == v) ≡ false
-high_other v b byte none = is_other (slice_index upper_digits (b / 16)) v (b / 16) (IsDigits-upper_digits (b / 16) (omega (arith, byte))) none
+high_other v b byte none =
+    is_other (slice_index upper_digits (b / 16)) v (b / 16) (IsDigits-upper_digits (b / 16) (omega (arith, byte))) none
 
 low_other : (v b : ℕ) → hex_digit_value v ≡ None → (slice_index upper_digits (b % 16) == v) ≡ false
-low_other v b none = is_other (slice_index upper_digits (b % 16)) v (b % 16) (IsDigits-upper_digits (b % 16) (omega arith)) none
+low_other v b none =
+    is_other (slice_index upper_digits (b % 16)) v (b % 16) (IsDigits-upper_digits (b % 16) (omega arith)) none
 
-digits_other : (v : ℕ) (bytes : List ℕ) → AreBytes bytes → hex_digit_value v ≡ None → HasNo v (encode_with upper_digits bytes)
+digits_other : (v : ℕ) (bytes : List ℕ) → AreBytes bytes → hex_digit_value v ≡ None
+    → HasNo v (encode_with upper_digits bytes)
 unfolding encode_with
 digits_other v [] are none = All-nil (λ c. (c == v) ≡ false)
 digits_other v (b ∷ bytes) are none =
-    let lows = has_no_with v (slice_index upper_digits (b % 16)) (encode_with upper_digits bytes) (low_other v b none) (digits_other v bytes are.1 none) in
-    has_no_with v (slice_index upper_digits (b / 16)) (slice_index upper_digits (b % 16) ∷ encode_with upper_digits bytes) (high_other v b are.0 none) lows
+    let lows = has_no_with v (slice_index upper_digits (b % 16)) (encode_with upper_digits bytes) (low_other v b none)
+    (digits_other v bytes are.1 none) in
+    has_no_with v (slice_index upper_digits (b / 16))
+    (slice_index upper_digits (b % 16) ∷ encode_with upper_digits bytes) (high_other v b are.0 none) lows
 
-line_other : (v digit at : ℕ) (bytes : List ℕ) → AreBytes (record_bytes at bytes) → hex_digit_value v ≡ None → (0x53 == v) ≡ false
+line_other : (v digit at : ℕ) (bytes : List ℕ) → AreBytes (record_bytes at bytes) → hex_digit_value v ≡ None
+    → (0x53 == v) ≡ false
     → (digit == v) ≡ false → HasNo v (record_line digit at bytes)
 line_other v digit at bytes are none letter kind =
     let digits = encode_upper (record_bytes at bytes) in
-    has_no_with v 0x53 (digit ∷ digits) letter (has_no_with v digit digits kind (digits_other v (record_bytes at bytes) are none))
+    has_no_with v 0x53 (digit ∷ digits) letter
+    (has_no_with v digit digits kind (digits_other v (record_bytes at bytes) are none))
 
 keeps_end : (line : List ℕ) → 0 < length line → All (λ c. (c == 13) ≡ false) line → strip_carriage_return line ≡ line
-keeps_end line some other = ap (λ b. cond b (take (length line - 1) line) line) (other (length line - 1) 0 (omega arith))
+keeps_end line some other =
+    ap (λ b. cond b (take (length line - 1) line) line) (other (length line - 1) 0 (omega arith))
 
-pub lines_record : (digit at : ℕ) (bytes rest : List ℕ) → at < 65536 → length bytes ≤ 32 → AreBytes bytes → (digit == 10) ≡ false
+pub lines_record : (digit at : ℕ) (bytes rest : List ℕ) → at < 65536 → length bytes ≤ 32 → AreBytes bytes
+    → (digit == 10) ≡ false
     → (digit == 13) ≡ false → lines (record_text digit at bytes ++ rest) ≡ record_line digit at bytes ∷ lines rest
 lines_record digit at bytes rest fits few are no_feed no_return =
     let all = record_bytes_are at bytes fits few are in
     let line = record_line digit at bytes in
     let text : record_text digit at bytes ++ rest ≡ line ++ 10 ∷ rest = append_assoc line (10 ∷ []) rest in
-    let split : parts (line ++ 10 ∷ rest) ≡ line ∷ parts rest = slice_split_at (λ b. b == 10) line 10 rest (line_other 10 digit at bytes all refl refl no_feed) refl in
+    let split : parts (line ++ 10 ∷ rest) ≡ line ∷ parts rest =
+    slice_split_at (λ b. b == 10) line 10 rest (line_other 10 digit at bytes all refl refl no_feed) refl in
     ap lines text ∙ ap lines_of_parts split
     ∙ first_ends line (parts rest) (let some = length-slice_split (λ b. b == 10) rest in omega arith)
-    ∙ ap (λ (l : List ℕ). l ∷ lines rest) (keeps_end line (omega arith) (line_other 13 digit at bytes all refl refl no_return))
+    ∙ ap (λ (l : List ℕ). l ∷ lines rest)
+    (keeps_end line (omega arith) (line_other 13 digit at bytes all refl refl no_return))
 
-pub is_record : (digit : ℕ) (kind : Kind) (at : ℕ) (bytes : List ℕ) → kind_of digit ≡ Some kind → at < 65536 → length bytes ≤ 32 → AreBytes bytes
+pub is_record : (digit : ℕ) (kind : Kind) (at : ℕ) (bytes : List ℕ) → kind_of digit ≡ Some kind → at < 65536
+    → length bytes ≤ 32 → AreBytes bytes
     → FitsKind kind at bytes → IsRecord (record_line digit at bytes) kind at bytes
 is_record digit kind at bytes kind_is fits few are fit = record {
   bytes = record_bytes at bytes;
-  opens = record { digit = digit; digits = encode_upper (record_bytes at bytes); parts = refl; kind_is = kind_is; bytes_are = decode_of-encode_upper (record_bytes at bytes) (bytes_at (record_bytes at bytes) (record_bytes_are at bytes fits few are)) };
+  opens = record {
+    digit = digit;
+    digits = encode_upper (record_bytes at bytes);
+    parts = refl;
+    kind_is =
+        kind_is;
+    bytes_are =
+        decode_of-encode_upper (record_bytes at bytes)
+        (bytes_at (record_bytes at bytes) (record_bytes_are at bytes fits few are));
+  };
   fields = record { bytes_are = refl; fits = fit };
 }

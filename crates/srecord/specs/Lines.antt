@@ -1,5 +1,6 @@
 -- The fields of one line, and what is wrong with one that has none.
-use Rattle.std.specs.Prelude.{◌≡◌, ◌≢◌, ℕ, ◌+◌, ◌≤◌, ◌==◌, ◌||◌, Bool, true, if◌then◌else◌, List, [], ◌∷◌, ◌++◌, length, Option, Some, None, Ok}
+use Rattle.std.specs.Prelude.{◌≡◌, ◌≢◌, ℕ, ◌+◌, ◌≤◌, ◌==◌, ◌||◌, Bool, true, if◌then◌else◌, List, [], ◌∷◌, ◌++◌, length}
+use Rattle.std.specs.Prelude.{Option, Some, None, Ok}
 use Rattle.hex.specs.Hex.{decode_of}
 use Rattle.srecord.specs.declared.fault.SrecFault.{SrecFault}
 use Rattle.srecord.specs.declared.fault.SrecFault.TheVariants.{BadLine, BadSum, Wide}

@@ -1,5 +1,6 @@
 -- What the lines of a text give, and a text's first fault.
-use Rattle.std.specs.Prelude.{◌≡◌, ◌≢◌, ℕ, ◌+◌, ◌-◌, ◌<◌, ◌&&◌, nat_le, nat_lt, if◌then◌else◌, List, [], ◌∷◌, ◌++◌, length, slice_index, Option, Some, None, IsSome}
+use Rattle.std.specs.Prelude.{◌≡◌, ◌≢◌, ℕ, ◌+◌, ◌-◌, ◌<◌, ◌&&◌, nat_le, nat_lt, if◌then◌else◌, List, [], ◌∷◌, ◌++◌}
+use Rattle.std.specs.Prelude.{length, slice_index, Option, Some, None, IsSome}
 use Rattle.std.specs.Str.Lines.{lines}
 use Rattle.cpu12_asm.specs.Bytes.{byte_at}
 use Rattle.cpu12_asm.specs.declared.image.Image.{Image}

@@ -1,5 +1,6 @@
 //! Laws of the definitions.
-ghost use Rattle.srecord.specs.Laws.{EachTextIsJudged, FaultsAreOne, ImagesAreOne, ImagesHaveFewRecords, ImagesHaveNoFault};
+ghost use Rattle.srecord.specs.Laws.{EachTextIsJudged, FaultsAreOne, ImagesAreOne, ImagesHaveFewRecords};
+ghost use Rattle.srecord.specs.Laws.{ImagesHaveNoFault};
 
 /// A text gives at most one image, and then it has no fault.
 pub fn images_are_one()

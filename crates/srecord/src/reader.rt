@@ -1,5 +1,6 @@
 //! Images from records.
-ghost use Rattle.std.specs.Prelude.{◌≡◌, ◌≢◌, ◌≤◌, ◌<◌, ◌+◌, ℕ, List, [], ◌∷◌, ◌++◌, length, IfOk, IfErr, OnOk, Ok, true, false};
+ghost use Rattle.std.specs.Prelude.{◌≡◌, ◌≢◌, ◌≤◌, ◌<◌, ◌+◌, ℕ, List, [], ◌∷◌, ◌++◌, length, IfOk, IfErr, OnOk, Ok};
+ghost use Rattle.std.specs.Prelude.{true, false};
 ghost use Rattle.cpu12_asm.specs.Bytes.{byte_at};
 ghost use Rattle.srecord.specs.Texts.{GivesImage, HasFault, IsFree, IsTaken, with_bytes};
 

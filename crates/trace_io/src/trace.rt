@@ -4,7 +4,8 @@ ghost use Rattle.std.specs.List.{All};
 ghost use Rattle.csv.specs.Records.{fields_of};
 ghost use Rattle.fuzzy_meaning.specs.Blocks.{IsValid, IsValidInput};
 ghost use Rattle.byte_scaling.specs.Cells.{bytes_of};
-ghost use Rattle.trace_io.specs.Traces.{decimals, AreWithin, IsFirstOutside, RowFails, SpellsSample, FirstFault, SpellSamples, Spells, HasFault};
+ghost use Rattle.trace_io.specs.Traces.{decimals, AreWithin, IsFirstOutside, RowFails, SpellsSample, FirstFault};
+ghost use Rattle.trace_io.specs.Traces.{SpellSamples, Spells, HasFault};
 
 use crate::{Sample, TraceFault};
 use arrayvec::ArrayVec;

@@ -1,5 +1,6 @@
 -- The fast code from where an interrupt enters it up to its return.
-use Rattle.std.proofs.Common.{◌≡◌, ◌⊎◌, inl, inr, ℕ, ◌+◌, ◌*◌, ◌^◌, ◌<◌, ◌≤◌, Ok, Bool, false, List, [], ◌∷◌, length, bit_and, refl, sym, ap, ◌∙◌, subst, arith}
+use Rattle.std.proofs.Common.{◌≡◌, ◌⊎◌, inl, inr, ℕ, ◌+◌, ◌*◌, ◌^◌, ◌<◌, ◌≤◌, Ok, Bool, false, List, [], ◌∷◌, length}
+use Rattle.std.proofs.Common.{bit_and, refl, sym, ap, ◌∙◌, subst, arith}
 use Rattle.fuzzy_meaning.specs.declared.block.Block.{Block}
 use Rattle.cpu12_isa.proofs.Algebra.{bit_and_is}
 use Rattle.cpu12_isa.specs.declared.instr.Ccr.{Ccr}
@@ -20,7 +21,8 @@ use Rattle.eval_code.specs.Placed.{StandsBetween}
 use Rattle.two_level.specs.declared.two.Two.{Two}
 use Rattle.two_level.specs.Layouts.{fast_front, fast_back, fast_layout}
 use Rattle.two_level.specs.Images.{IsTwoOf}
-use Rattle.two_level.specs.Running.{HasFastRom, IsFastStack, fast_code, IsEntered, IsFastStep, IsFastAnswered, FastAnswersEntered}
+use Rattle.two_level.specs.Running.{HasFastRom, IsFastStack, fast_code, IsEntered, IsFastStep, IsFastAnswered}
+use Rattle.two_level.specs.Running.{FastAnswersEntered}
 use Rattle.two_level.proofs.Leaving.{leaves}
 use Rattle.two_level.proofs.FastCode.{CodeLaws, standing, first_decoded}
 use Rattle.two_level.proofs.Places.{fast_apart, AreSound}
@@ -35,8 +37,13 @@ pub record EnteringLaws : Type 0 where
 -- six bytes in the code
 six_in : (pc : ℕ) → fast_layout.code ≤ pc → pc + 6 ≤ fast_layout.code + 2434 → Each (IsIn fast_code) (six_from pc)
 six_in pc from to =
-    let at : (k : ℕ) → k ≤ 5 → IsIn fast_code (plus pc k) = λ k le. (omega arith, omega arith) in
-    ((from, omega arith), (at 1 (omega arith), (at 2 (omega arith), (at 3 (omega arith), (at 4 (omega arith), (at 5 (omega arith), tt))))))
+    let at : (k : ℕ) → k ≤ 5 → IsIn fast_code (plus pc k) = λ k le. (omega arith, omega arith) in (
+      (from, omega arith),
+      (
+        at 1 (omega arith),
+        (at 2 (omega arith), (at 3 (omega arith), (at 4 (omega arith), (at 5 (omega arith), tt)))),
+      ),
+    )
 
 eval_in : (ats : List ℕ) → Each (IsIn (code_region fast_layout)) ats → Each (IsIn fast_code) ats
 eval_in [] h = tt
@@ -54,7 +61,8 @@ record Kept (image : List ℕ) (s : State) : Type 0 where
   stack : IsFastStack s.regs.sp
   unmasked : has s.regs.ccr interrupts_masked ≡ false
 
-step_kept : WritesStay → (image : List ℕ) (flags d : ℕ) (s t : State) → Kept image s → IsEvalStep fast_layout flags d s t
+step_kept : WritesStay → (image : List ℕ) (flags d : ℕ) (s t : State) → Kept image s
+    → IsEvalStep fast_layout flags d s t
     → IsFastStep image flags d s t × Kept image t
 step_kept stay image flags d s t k e = (
   record {
@@ -65,7 +73,8 @@ step_kept stay image flags d s t k e = (
     unmasked = ap (λ (m : Bool × Bool). m.0) e.masks ∙ k.unmasked;
   },
   record {
-    rom = λ at from to. leaves stay _ (Writes fast_layout) flags d s t at e.instruction (written_low at from) ∙ k.rom at from to;
+    rom = λ at from to. leaves stay _ (Writes fast_layout) flags d s t at e.instruction (written_low at from)
+        ∙ k.rom at from to;
     stack = subst IsFastStack (sym e.stack) k.stack;
     unmasked = ap (λ (m : Bool × Bool). m.0) e.masks ∙ k.unmasked;
   },
@@ -110,19 +119,27 @@ record Opened (fast : Block) (image : List ℕ) (flags : ℕ) (bytes : List ℕ)
   kept : Kept image (opened flags s)
   at : IsAtEval fast_layout fast Byte bytes before (opened flags s)
 
-enter : EnteringLaws → (fast : Block) (image : List ℕ) (flags : ℕ) (bytes : List ℕ) (before : ℕ → ℕ) (s : State) → flags < 2 ^ 8
+enter : EnteringLaws → (fast : Block) (image : List ℕ) (flags : ℕ) (bytes : List ℕ) (before : ℕ → ℕ) (s : State)
+    → flags < 2 ^ 8
     → StandsBetween fast_layout fast Byte fast_front fast_back s.mem → IsEntered fast image bytes before s
     → Opened fast image flags bytes before s
 enter laws fast image flags bytes before s fits code h =
     let inside = h.inside in
     let between = inside.between in
     let i = Andcc 0xEF in
-    let decoded : decode_at s.mem s.regs.pc ≡ Ok i = ap (decode_at s.mem) h.pc ∙ first_decoded laws.code fast s.mem code in
+    let decoded : decode_at s.mem s.regs.pc ≡ Ok i = ap (decode_at s.mem) h.pc
+    ∙ first_decoded laws.code fast s.mem code in
     let fit = laws.stays_fit flags i s.regs s.mem fits (omega arith) between.fits between.bytes in
     record {
       step = record {
         inside = inside;
-        instruction = inl (i, (record { step = record { decoded = decoded; plain = refl; after = refl }; reads = tt; writes = tt }, refl));
+        instruction = inl (
+          i,
+          (
+            record { step = record { decoded = decoded; plain = refl; after = refl }; reads = tt; writes = tt },
+            refl,
+          ),
+        );
         stack = refl;
         x = x_left s.regs.ccr.0;
         unmasked = unmasked s.regs.ccr.0;
@@ -138,7 +155,8 @@ enter laws fast image flags bytes before s fits code h =
     }
 
 -- and EVAL leads to RTI
-answered : EnteringLaws → (slow fast : Block) (two : Two) (flags : ℕ) (bytes : List ℕ) (before : ℕ → ℕ) (s t : State) → AreSound slow fast
+answered : EnteringLaws → (slow fast : Block) (two : Two) (flags : ℕ) (bytes : List ℕ) (before : ℕ → ℕ) (s t : State)
+    → AreSound slow fast
     → IsTwoOf slow fast two → Opened fast (image_memory two.image.bytes) flags bytes before s
     → IsEvaluated fast_layout fast Byte flags bytes before (opened flags s) t
     → IsFastAnswered fast (image_memory two.image.bytes) flags bytes before s t
@@ -180,5 +198,6 @@ fast_answers_entered laws slow fast two vs ls vf lf is flags bytes before s fits
     let sound : AreSound slow fast = record { slow_valid = vs; slow_limits = ls; fast_valid = vf; fast_limits = lf } in
     let code = standing laws.code slow fast two s.mem sound is h.inside.rom in
     let o = enter laws fast image flags bytes before s fits code h in
-    let r = laws.eval_answers fast_layout fast Byte flags bytes before (opened flags s) fast_apart vf lf fits input o.at in
+    let r = laws.eval_answers fast_layout fast Byte flags bytes before (opened flags s) fast_apart vf lf fits
+    input o.at in
     (r.0, answered laws slow fast two flags bytes before s r.0 sound is o r.1)

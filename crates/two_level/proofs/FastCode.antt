@@ -21,11 +21,13 @@ pub record CodeLaws : Type 0 where
 pub standing : CodeLaws → (slow fast : Block) (two : Two) (mem : List ℕ) → AreSound slow fast → IsTwoOf slow fast two
     → HasFastRom (image_memory two.image.bytes) mem → StandsBetween fast_layout fast Byte fast_front fast_back mem
 standing laws slow fast two mem h is same =
-    laws.stands two.image.bytes mem [] (slow_items slow) fast_layout fast Byte fast_front fast_back fast_in_order h.fast_valid h.fast_limits
+    laws.stands two.image.bytes mem [] (slow_items slow) fast_layout fast Byte fast_front fast_back fast_in_order
+    h.fast_valid h.fast_limits
     is.image.bytes (two_rise laws.rises slow fast h) same
 
 -- its first instruction
-pub first_decoded : CodeLaws → (fast : Block) (mem : List ℕ) → StandsBetween fast_layout fast Byte fast_front fast_back mem
+pub first_decoded : CodeLaws → (fast : Block) (mem : List ℕ)
+    → StandsBetween fast_layout fast Byte fast_front fast_back mem
     → decode_at mem fast_layout.code ≡ Ok (Andcc 0xEF)
 first_decoded laws fast mem code =
     laws.decodes mem fast_layout.code (Andcc 0xEF) (omega arith) (code.front.0, (code.front.1.0, tt))

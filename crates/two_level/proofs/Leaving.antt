@@ -1,10 +1,12 @@
 -- What an instruction leaves that writes at addresses of one kind.
-use Rattle.std.proofs.Common.{◌≡◌, inl, inr, ℕ, max, List, [], ◌∷◌, ◌++◌, get_or, set, refl, sym, ap, ◌∙◌, subst, get_or-set_other}
+use Rattle.std.proofs.Common.{◌≡◌, inl, inr, ℕ, max, List, [], ◌∷◌, ◌++◌, get_or, set, refl, sym, ap, ◌∙◌, subst}
+use Rattle.std.proofs.Common.{get_or-set_other}
 use Rattle.cpu12_isa.specs.Agreement.{IsWritten, WritesStay}
 use Rattle.cpu12_isa.specs.Meaning.{effect}
 use Rattle.cpu12_parts.specs.State.{State}
 use Rattle.cpu12_parts.specs.Laws.{addresses}
-use Rattle.cpu12_parts.specs.Rules.{Rule, Form, rev_form, revw_form, named, raised, rules_target, strength, concluded, all_concluded}
+use Rattle.cpu12_parts.specs.Rules.{Rule, Form, rev_form, revw_form, named, raised, rules_target, strength, concluded}
+use Rattle.cpu12_parts.specs.Rules.{all_concluded}
 use Rattle.cpu12_parts.specs.Touching.{Each, IsInstructionOver}
 
 each_of_both : (P : ℕ → Type 0) (xs ys : List ℕ) → Each P (xs ++ ys) → Each P xs × Each P ys
@@ -27,13 +29,15 @@ raised_leaves W f at t mem (x ∷ es) out e =
 rules_leave : (W : ℕ → Type 0) (f : Form) (at : ℕ) (mem : List ℕ) (p : Rule) (ps : List Rule) → (W at → ⊥)
     → Each W (rules_target f (p ∷ ps)) → get_or (all_concluded f mem p ps) at 0 ≡ get_or mem at 0
 rules_leave W f at mem p [] out e =
-    raised_leaves W f at (strength f mem p) mem p.conclusions out (each_of_both W (named f p.conclusions) (rules_target f []) e).0
+    raised_leaves W f at (strength f mem p) mem p.conclusions out
+    (each_of_both W (named f p.conclusions) (rules_target f []) e).0
 rules_leave W f at mem p (q ∷ qs) out e =
     let both = each_of_both W (named f p.conclusions) (rules_target f (q ∷ qs)) e in
     rules_leave W f at (concluded f mem p) q qs out both.1
     ∙ raised_leaves W f at (strength f mem p) mem p.conclusions out both.0
 
-pub leaves : WritesStay → (R W : ℕ → Type 0) (flags d : ℕ) (s t : State) (at : ℕ) → IsInstructionOver R W flags d s t → (W at → ⊥)
+pub leaves : WritesStay → (R W : ℕ → Type 0) (flags d : ℕ) (s t : State) (at : ℕ) → IsInstructionOver R W flags d s t
+    → (W at → ⊥)
     → get_or t.mem at 0 ≡ get_or s.mem at 0
 leaves stay R W flags d s t at (inl h) out =
     let k = h.1.0 in

@@ -36,12 +36,15 @@ pub record AreSound (slow fast : Block) : Type 0 where
 vectors_rise : IsRisingFrom (main_layout.rules + 9984) (vector_items slow_layout)
 vectors_rise = (omega arith, (omega arith, omega arith))
 
-slow_rise : BlockRises → (slow fast : Block) → AreSound slow fast → IsRisingFrom (fast_layout.rules + 9984) (slow_items slow)
+slow_rise : BlockRises → (slow fast : Block) → AreSound slow fast
+    → IsRisingFrom (fast_layout.rules + 9984) (slow_items slow)
 slow_rise rises slow fast h =
-    rises (fast_layout.rules + 9984) main_layout slow Byte (frame_code main_layout) (Rts ∷ []) (vector_items slow_layout) main_in_order
+    rises (fast_layout.rules + 9984) main_layout slow Byte (frame_code main_layout) (Rts ∷ [])
+    (vector_items slow_layout) main_in_order
     h.slow_valid h.slow_limits (omega arith) vectors_rise
 
 pub two_rise : BlockRises → (slow fast : Block) → AreSound slow fast → IsRising (two_items slow fast)
 two_rise rises slow fast h =
-    rises 0 fast_layout fast Byte fast_front fast_back (slow_items slow) fast_in_order h.fast_valid h.fast_limits (omega arith)
+    rises 0 fast_layout fast Byte fast_front fast_back (slow_items slow) fast_in_order h.fast_valid h.fast_limits
+    (omega arith)
     (slow_rise rises slow fast h)

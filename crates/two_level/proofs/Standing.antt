@@ -1,5 +1,6 @@
 -- Memory from the image of both blocks, beside that of the slow firmware alone.
-use Rattle.std.proofs.Common.{◌≡◌, ◌⊎◌, inl, inr, ℕ, ◌+◌, ◌-◌, ◌*◌, ◌^◌, ◌<◌, ◌≤◌, nat_lt, nat_le, ◌&&◌, ◌||◌, Bool, true, false, List, [], ◌∷◌, ◌++◌, All, get_or, Option, None, refl}
+use Rattle.std.proofs.Common.{◌≡◌, ◌⊎◌, inl, inr, ℕ, ◌+◌, ◌-◌, ◌*◌, ◌^◌, ◌<◌, ◌≤◌, nat_lt, nat_le, ◌&&◌, ◌||◌, Bool}
+use Rattle.std.proofs.Common.{true, false, List, [], ◌∷◌, ◌++◌, All, get_or, Option, None, refl}
 use Rattle.std.proofs.Common.{sym, ap, ap₂, ◌∙◌, subst, arith, nat_cmp}
 use Rattle.std.specs.BTreeMap.{is_at}
 use Rattle.std.specs.List.{list_all}
@@ -32,7 +33,8 @@ use Rattle.codegen.specs.Answers.{LeavesLayout, FirmwareAnswersBeside, FirmwareA
 use Rattle.eval_code.specs.Placed.{BlockStaysInside, GivesBehind, GiveBytes, BlockGivesBytes}
 use Rattle.eval_code.proofs.Algebra.{memory_fits}
 use Rattle.two_level.specs.declared.two.Two.{Two}
-use Rattle.two_level.specs.Layouts.{fast_front, fast_back, fast_layout, slow_layout, is_fast_ram, is_fast_rom, is_open_to_fast}
+use Rattle.two_level.specs.Layouts.{fast_front, fast_back, fast_layout, slow_layout, is_fast_ram, is_fast_rom}
+use Rattle.two_level.specs.Layouts.{is_open_to_fast}
 use Rattle.two_level.specs.Images.{fast_items, slow_items, two_items, IsTwoOf}
 use Rattle.two_level.specs.Standing.{TwoStandBeside}
 use Rattle.two_level.proofs.FastCode.{CodeLaws, standing, first_decoded}
@@ -94,11 +96,13 @@ unfolding block_items
 slow_starts b = (_, refl)
 
 -- what the items give
-given_slow : GivesBehind → (l : Layout) (b : Block) → given_by (slow_block b ++ vector_items l) ≡ given_by (slow_block b) ++ given_by (vector_items l)
+given_slow : GivesBehind → (l : Layout) (b : Block)
+    → given_by (slow_block b ++ vector_items l) ≡ given_by (slow_block b) ++ given_by (vector_items l)
 given_slow behind l b = behind (slow_block b) _ vector
 
 given_two : GivesBehind → (slow fast : Block)
-    → given_by (two_items slow fast) ≡ given_by (fast_items fast) ++ (given_by (slow_block slow) ++ given_by (vector_items slow_layout))
+    → given_by (two_items slow fast) ≡ given_by (fast_items fast)
+    ++ (given_by (slow_block slow) ++ given_by (vector_items slow_layout))
 given_two behind slow fast =
     let starts = slow_starts slow in
     ap (λ (xs : List Item). given_by (fast_items fast ++ xs)) starts.1
@@ -128,14 +132,16 @@ byte_of_two laws slow fast at h out =
 none_of_slow : StandingLaws → (slow fast : Block) (at : ℕ) → AreSound slow fast → (at < 0xC000) ⊎ (0xFF00 ≤ at)
     → byte_at (given_by (slow_block slow)) at ≡ None
 none_of_slow laws slow fast at h out =
-    laws.inside main_layout slow Byte (frame_code main_layout) (Rts ∷ []) at main_in_order h.slow_valid h.slow_limits out
+    laws.inside main_layout slow Byte (frame_code main_layout) (Rts ∷ []) at main_in_order h.slow_valid
+    h.slow_limits out
 
 -- the vectors
 other : (at p : ℕ) → (at < p) ⊎ (p < at) → is_at (nat_cmp at) p ≡ false
 other at p (inl h) = grind (arith, nat_tests)
 other at p (inr h) = grind (arith, nat_tests)
 
-same_vectors : (at : ℕ) → (at < vector) ⊎ (vector + 2 ≤ at) → byte_at (given_by (vector_items slow_layout)) at ≡ byte_at (given_by (vector_items main_layout)) at
+same_vectors : (at : ℕ) → (at < vector) ⊎ (vector + 2 ≤ at)
+    → byte_at (given_by (vector_items slow_layout)) at ≡ byte_at (given_by (vector_items main_layout)) at
 same_vectors at (inl h) =
     let a = other at vector (inl h) in
     let b = other at (vector + 1) (inl (omega arith)) in
@@ -159,13 +165,15 @@ byte_in : HoldsImage → (slow fast : Block) (two : Two) (at : ℕ) → IsTwoOf 
 byte_in holds slow fast two at h lt = (holds two.image.bytes).1 at lt ∙ ap byte_or_zero (h.image.bytes.bytes at)
 
 byte_alone : HoldsImage → (slow fast : Block) (two : Two) (at : ℕ) → IsTwoOf slow fast two → at < 65536
-    → get_or (image_memory two.slow.image.bytes) at 0 ≡ byte_or_zero (byte_at (given_by (slow_block slow ++ vector_items main_layout)) at)
+    → get_or (image_memory two.slow.image.bytes) at 0 ≡ byte_or_zero
+    (byte_at (given_by (slow_block slow ++ vector_items main_layout)) at)
 byte_alone holds slow fast two at h lt =
     let alone = h.slow_alone in
     let image = alone.firmware.image in
     let items : firmware_items main_layout slow (width_of two.slow.wide) ≡ slow_block slow ++ vector_items main_layout =
     ap (λ (w : Bool). firmware_items main_layout slow (width_of w)) alone.narrow in
-    (holds two.slow.image.bytes).1 at lt ∙ ap byte_or_zero (image.bytes.bytes at ∙ ap (λ (xs : List Item). byte_at (given_by xs) at) items)
+    (holds two.slow.image.bytes).1 at lt
+    ∙ ap byte_or_zero (image.bytes.bytes at ∙ ap (λ (xs : List Item). byte_at (given_by xs) at) items)
 
 -- it has bytes
 abbrev Fits : ℕ × ℕ → Type 0
@@ -179,42 +187,53 @@ bytes_by (x ∷ xs) h =
     All-cons (λ v. v < 2 ^ 8) x xs (ltb-true x 256 both.0) (bytes_by xs both.1)
 
 vectors_fit : GiveBytes (given_by (vector_items slow_layout))
-vectors_fit = four (vector, 0x40) (vector + 1, 0) (0xFFFE, 0xC0) (0xFFFF, 0) (omega arith) (omega arith) (omega arith) (omega arith)
+vectors_fit = four (vector, 0x40) (vector + 1, 0) (0xFFFE, 0xC0) (0xFFFF, 0) (omega arith) (omega arith) (omega arith)
+    (omega arith)
   where
     four : (a b c d : ℕ × ℕ) → Fits a → Fits b → Fits c → Fits d → All Fits (a ∷ b ∷ c ∷ d ∷ [])
     four a b c d p q r s =
-        All-cons Fits a (b ∷ c ∷ d ∷ []) p (All-cons Fits b (c ∷ d ∷ []) q (All-cons Fits c (d ∷ []) r (All-cons Fits d [] s (All-nil Fits))))
+        All-cons Fits a (b ∷ c ∷ d ∷ []) p
+        (All-cons Fits b (c ∷ d ∷ []) q (All-cons Fits c (d ∷ []) r (All-cons Fits d [] s (All-nil Fits))))
 
 two_give : StandingLaws → (slow fast : Block) → AreSound slow fast → GiveBytes (given_by (two_items slow fast))
 two_give laws slow fast h =
     let frame = frame_code main_layout in
     let f =
-    laws.bytes fast_layout fast Byte fast_front fast_back fast_apart h.fast_valid (bytes_by (code_bytes fast_front) refl) (bytes_by (code_bytes fast_back) refl) in
+    laws.bytes fast_layout fast Byte fast_front fast_back fast_apart h.fast_valid
+    (bytes_by (code_bytes fast_front) refl) (bytes_by (code_bytes fast_back) refl) in
     let s =
-    laws.bytes main_layout slow Byte frame (Rts ∷ []) main_apart h.slow_valid (bytes_by (code_bytes frame) refl) (bytes_by (code_bytes (Rts ∷ [])) refl) in
+    laws.bytes main_layout slow Byte frame (Rts ∷ []) main_apart h.slow_valid (bytes_by (code_bytes frame) refl)
+    (bytes_by (code_bytes (Rts ∷ [])) refl) in
     let slow_all = All-append Fits (given_by (slow_block slow)) (given_by (vector_items slow_layout)) s vectors_fit in
     let rest = given_by (slow_block slow) ++ given_by (vector_items slow_layout) in
-    subst GiveBytes (sym (given_two laws.behind slow fast)) (All-append Fits (given_by (fast_items fast)) rest f slow_all)
+    subst GiveBytes (sym (given_two laws.behind slow fast))
+    (All-append Fits (given_by (fast_items fast)) rest f slow_all)
 
-two_bytes : StandingLaws → (slow fast : Block) (two : Two) → AreSound slow fast → IsTwoOf slow fast two → AreBytes (image_memory two.image.bytes)
+two_bytes : StandingLaws → (slow fast : Block) (two : Two) → AreSound slow fast → IsTwoOf slow fast two
+    → AreBytes (image_memory two.image.bytes)
 two_bytes laws slow fast two h is =
-    memory_fits (two_items slow fast) (image_memory two.image.bytes) (two_give laws slow fast h) (laws.holds_image two.image.bytes).0
+    memory_fits (two_items slow fast) (image_memory two.image.bytes) (two_give laws slow fast h)
+    (laws.holds_image two.image.bytes).0
     (λ at lt. byte_in laws.holds_image slow fast two at is lt)
 
 -- an interrupt enters the fast code
-vector_byte : StandingLaws → (slow fast : Block) (two : Two) (at : ℕ) → AreSound slow fast → IsTwoOf slow fast two → vector ≤ at → at < 65536
+vector_byte : StandingLaws → (slow fast : Block) (two : Two) (at : ℕ) → AreSound slow fast → IsTwoOf slow fast two
+    → vector ≤ at → at < 65536
     → get_or (image_memory two.image.bytes) at 0 ≡ byte_or_zero (byte_at (given_by (vector_items slow_layout)) at)
 vector_byte laws slow fast two at h is from to =
     let vectors = byte_at (given_by (vector_items slow_layout)) at in
     byte_in laws.holds_image slow fast two at is to
-    ∙ ap byte_or_zero (byte_of_two laws slow fast at h (inr (omega arith)) ∙ ap (λ (o : Option ℕ). or_else o vectors) (none_of_slow laws slow fast at h (inr (omega arith))))
+    ∙ ap byte_or_zero (byte_of_two laws slow fast at h (inr (omega arith))
+    ∙ ap (λ (o : Option ℕ). or_else o vectors) (none_of_slow laws slow fast at h (inr (omega arith))))
 
 -- memory below its code is 0
-zero_low : StandingLaws → (slow fast : Block) (two : Two) (at : ℕ) → AreSound slow fast → IsTwoOf slow fast two → at < 0x4000
+zero_low : StandingLaws → (slow fast : Block) (two : Two) (at : ℕ) → AreSound slow fast → IsTwoOf slow fast two
+    → at < 0x4000
     → get_or (image_memory two.image.bytes) at 0 ≡ 0
 zero_low laws slow fast two at h is lt =
     byte_in laws.holds_image slow fast two at is (omega arith)
-    ∙ ap byte_or_zero (byte_of_two laws slow fast at h (inl lt) ∙ ap₂ or_else (none_of_slow laws slow fast at h (inl (omega arith))) (no_vector at (omega arith)))
+    ∙ ap byte_or_zero (byte_of_two laws slow fast at h (inl lt)
+    ∙ ap₂ or_else (none_of_slow laws slow fast at h (inl (omega arith))) (no_vector at (omega arith)))
 
 no_outputs : StandingLaws → (slow fast : Block) (two : Two) → AreSound slow fast → IsTwoOf slow fast two
     → HasAnswers fast_layout fast Byte (λ o. 0) (image_memory two.image.bytes)
@@ -230,7 +249,8 @@ apart : (lo hi at : ℕ) → (nat_le lo at && nat_lt at hi) ≡ false → (at < 
 apart lo hi at h = elim (cases_lt at lo) [
   | inl below ↦ inl below
   | inr from ↦ elim (cases_lt at hi) [
-    | inl inside ↦ (let t : (nat_le lo at && nat_lt at hi) ≡ true = grind (arith, nat_tests) in absurd (both (nat_le lo at && nat_lt at hi) t h))
+    | inl inside ↦ (let t : (nat_le lo at && nat_lt at hi) ≡ true = grind (arith, nat_tests) in
+        absurd (both (nat_le lo at && nat_lt at hi) t h))
     | inr above ↦ inr above
   ]
 ]
@@ -242,13 +262,15 @@ outside at h =
     let c = or_parts (is_fast_rom at) (is_vector at) b.1 in
     (apart 0x4000 0x7F00 at c.0, apart vector (vector + 2) at c.1)
 
-alike_in : StandingLaws → (slow fast : Block) (two : Two) (at : ℕ) → AreSound slow fast → IsTwoOf slow fast two → is_open_to_fast at ≡ false → at < 65536
+alike_in : StandingLaws → (slow fast : Block) (two : Two) (at : ℕ) → AreSound slow fast → IsTwoOf slow fast two
+    → is_open_to_fast at ≡ false → at < 65536
     → get_or (image_memory two.image.bytes) at 0 ≡ get_or (image_memory two.slow.image.bytes) at 0
 alike_in laws slow fast two at h is shown lt =
     let out = outside at shown in
     let block = byte_at (given_by (slow_block slow)) at in
     byte_in laws.holds_image slow fast two at is lt
-    ∙ ap byte_or_zero (byte_of_two laws slow fast at h out.0 ∙ ap (or_else block) (same_vectors at out.1) ∙ sym (byte_of_slow laws.behind main_layout slow at))
+    ∙ ap byte_or_zero (byte_of_two laws slow fast at h out.0 ∙ ap (or_else block) (same_vectors at out.1)
+    ∙ sym (byte_of_slow laws.behind main_layout slow at))
     ∙ sym (byte_alone laws.holds_image slow fast two at is lt)
 
 alike : StandingLaws → (slow fast : Block) (two : Two) → AreSound slow fast → IsTwoOf slow fast two
@@ -271,7 +293,8 @@ two_stand_beside laws slow fast two vs ls vf lf is =
     let h : AreSound slow fast = record { slow_valid = vs; slow_limits = ls; fast_valid = vf; fast_limits = lf } in
     let alone = is.slow_alone in
     let firmware = alone.firmware in
-    let left : LeavesLayout is_open_to_fast two.slow.layout = subst (λ (l : Layout). LeavesLayout is_open_to_fast l) (sym firmware.layout) main_left in
+    let left : LeavesLayout is_open_to_fast two.slow.layout =
+    subst (λ (l : Layout). LeavesLayout is_open_to_fast l) (sym firmware.layout) main_left in
     let agree = alike laws slow fast two h is in
     let mem = image_memory two.image.bytes in
     let first = vector_byte laws slow fast two vector h is (omega arith) (omega arith) in

@@ -1,5 +1,6 @@
 -- The state in which the slow firmware waits for its first sample has the fast code beside it.
-use Rattle.std.proofs.Common.{◌≡◌, ◌==◌, ℕ, zero, suc, ◌^◌, ◌<◌, ◌≤◌, Bool, true, false, if◌then◌else◌, Ok, Err, List, [], length, refl, arith}
+use Rattle.std.proofs.Common.{◌≡◌, ◌==◌, ℕ, zero, suc, ◌^◌, ◌<◌, ◌≤◌, Bool, true, false, if◌then◌else◌, Ok, Err, List}
+use Rattle.std.proofs.Common.{[], length, refl, arith}
 use Rattle.std.specs.Prelude.{Result}
 use Rattle.fuzzy_meaning.specs.declared.block.Block.{Block}
 use Rattle.cpu12_isa.specs.Fits.{AreBytes}
@@ -18,7 +19,8 @@ use Rattle.two_runs.specs.Levels.{FastStands}
 use Rattle.two_runs.proofs.Standing.{code_stays, outputs_stay}
 
 -- steps on the way leave what fits
-arrival_fits : StepFits → (flags loop n : ℕ) (s : State) → flags < 2 ^ 8 → FitsState s → FitsState (arrival flags loop n s)
+arrival_fits : StepFits → (flags loop n : ℕ) (s : State) → flags < 2 ^ 8 → FitsState s
+    → FitsState (arrival flags loop n s)
 unfolding arrival
 arrival_fits law flags loop zero s hf fits = fits
 arrival_fits law flags loop (suc n) s hf fits =
@@ -55,10 +57,12 @@ pub first_stands : StepFits → (fast : Block) (two : Two) (flags : ℕ) (sample
     → FastStands fast two flags samples [] (first_two two flags)
 first_stands law fast two flags samples hf few stand alike =
     let image = image_memory two.image.bytes in
-    let fits = arrival_fits law flags two.slow.layout.wait two.slow.step_bound (reset_with image) hf (reset_fits image stand.bytes) in
+    let fits = arrival_fits law flags two.slow.layout.wait two.slow.step_bound (reset_with image) hf
+    (reset_fits image stand.bytes) in
     record {
       bytes = fits.mem;
-      code = code_stays image image (first_two two flags).mem alike.open_bytes (record { rom = λ at lo hi. refl; enters = stand.enters });
+      code = code_stays image image (first_two two flags).mem alike.open_bytes
+          (record { rom = λ at lo hi. refl; enters = stand.enters });
       outputs = outputs_stay fast (λ o. 0) image (first_two two flags).mem few alike.open_bytes stand.outputs;
       answers = tt;
       told = λ k x lt. absurd (omega arith);

@@ -1,5 +1,6 @@
 -- The state before a step of the fast code, and what makes it such a state.
-use Rattle.std.proofs.Common.{◌≡◌, ℕ, ◌≤◌, Bool, Ok, List, [], ◌∷◌, length, refl, ap, ap₂, sym, ◌∙◌, subst, arith, inl, inr}
+use Rattle.std.proofs.Common.{◌≡◌, ℕ, ◌≤◌, Bool, Ok, List, [], ◌∷◌, length, refl, ap, ap₂, sym, ◌∙◌, subst, arith, inl}
+use Rattle.std.proofs.Common.{inr}
 use Rattle.std.specs.Prelude.{slice_index}
 use Rattle.cpu12_isa.specs.declared.instr.Instr.{Instr}
 use Rattle.cpu12_isa.specs.Act.{outcome, read_by, write_all}
@@ -45,17 +46,25 @@ Kept image masked flags sp s = IsFastState image flags sp s × (has s.regs.ccr i
 -- a state so, by what its step leaves, reads and writes
 pub kept : (image : List ℕ) (masked : Bool) (flags sp : ℕ) (s : State) (left : Left) → Stands image masked sp s
     → outcome (step_act flags s.regs s.temps) s.mem ≡ Ok left → sp ≤ left.regs.sp
-    → AllShown (is_foreign sp) (read_by (step_act flags s.regs s.temps) s.mem) → AllShown is_kept (addresses left.writes)
+    → AllShown (is_foreign sp) (read_by (step_act flags s.regs s.temps) s.mem)
+    → AllShown is_kept (addresses left.writes)
     → AreSumsReady is_open_inside s s.temps → Kept image masked flags sp s
 kept image masked flags sp s left c goes stack reads writes sums = (
   record {
     shown = record {
       left = left;
       goes = goes;
-      reads = subst (λ (n : ℕ). AllShown (is_hidden is_open_inside n) (read_by (step_act flags s.regs s.temps) s.mem)) (sym c.stack)
+      reads = subst (λ (n : ℕ). AllShown (is_hidden is_open_inside n) (read_by (step_act flags s.regs s.temps) s.mem))
+          (sym c.stack)
           (all_shown sp (read_by (step_act flags s.regs s.temps) s.mem) (let r = c.room in omega (arith, r.1)) reads);
       covers = λ at h. inl (hides_more s.regs.sp left.regs.sp at (omega (arith, c.stack, stack)) h);
-      room = record { size = c.size; fits = c.fits; low = (let r = c.room in omega (arith, c.stack, r.0)); high = (let r = c.room in omega (arith, c.stack, r.1)) };
+      room = record {
+        size = c.size;
+        fits = c.fits;
+        low = (let r = c.room in omega (arith, c.stack, r.0));
+        high =
+            (let r = c.room in omega (arith, c.stack, r.1));
+      };
       sums = sums;
     };
     reads = reads;
@@ -98,7 +107,8 @@ pub same_code : (image m n ats : List ℕ) → HasFastRom image m → HasFastRom
 same_code image m n [] a b h = refl
 same_code image m n (at ∷ ats) a b h =
     let lo : fast_layout.code ≤ at = h.0.0 in
-    let one : slice_index m at ≡ slice_index n at = a at lo (omega (arith, h.0.1)) ∙ sym (b at lo (omega (arith, h.0.1))) in
+    let one : slice_index m at ≡ slice_index n at = a at lo (omega (arith, h.0.1))
+    ∙ sym (b at lo (omega (arith, h.0.1))) in
     ap₂ (λ (v : ℕ) (vs : List ℕ). v ∷ vs) one (same_code image m n ats a b h.1)
 
 pub same_decode : (image m n : List ℕ) (pc : ℕ) (i : Instr) → HasFastRom image m → HasFastRom image n

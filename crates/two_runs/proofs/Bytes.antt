@@ -88,7 +88,8 @@ simulating_fits open_to flags w s shown (inr l) bytes =
       mem = bytes;
     }
 
-pub step_bytes : BytesLaws → (open_to : ℕ → Bool) (flags : ℕ) (w s : State) → flags < 2 ^ 8 → IsShownStep open_to flags s
+pub step_bytes : BytesLaws → (open_to : ℕ → Bool) (flags : ℕ) (w s : State) → flags < 2 ^ 8
+    → IsShownStep open_to flags s
     → Simulates open_to w s → AreBytes w.mem → AreBytes (stepped flags w).mem
 step_bytes laws open_to flags w s hf shown l bytes =
     let x = laws.step_keeps open_to flags w s l shown in

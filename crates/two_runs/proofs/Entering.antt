@@ -1,5 +1,6 @@
 -- An outer interrupt enters the fast code.
-use Rattle.std.proofs.Common.{◌≡◌, ℕ, suc, ◌+◌, ◌*◌, ◌-◌, ◌^◌, ◌<◌, ◌≤◌, true, List, length, bit_or, ap₂, sym, ◌∙◌, subst, inl, inr, arith}
+use Rattle.std.proofs.Common.{◌≡◌, ℕ, suc, ◌+◌, ◌*◌, ◌-◌, ◌^◌, ◌<◌, ◌≤◌, true, List, length, bit_or, ap₂, sym, ◌∙◌}
+use Rattle.std.proofs.Common.{subst, inl, inr, arith}
 use Rattle.std.specs.Prelude.{All, slice_index, [], ◌∷◌}
 use Rattle.cpu12_isa.specs.declared.instr.Ccr.{Ccr}
 use Rattle.cpu12_isa.specs.Agreement.{WritesStay}
@@ -23,10 +24,12 @@ all_bytes [] h = all_none
 all_bytes (v ∷ vs) h = all_more v vs (h 0 v (omega arith)) (all_bytes vs (λ k x l. h (suc k) x (omega arith)))
 
 -- the memory is one of bytes
-pub bytes_stay : BytesStay → (bytes : List ℕ) (v : State) → All (λ n. n < 2 ^ 8) bytes → FitsRegs v.regs → AreBytes v.mem
+pub bytes_stay : BytesStay → (bytes : List ℕ) (v : State) → All (λ n. n < 2 ^ 8) bytes → FitsRegs v.regs
+    → AreBytes v.mem
     → AreBytes (entered_mem bytes v)
 bytes_stay law bytes v fit fits m =
-    law (placed fast_layout.inputs bytes) (framed_mem v) (placed_fits fast_layout.inputs bytes (omega arith) (all_bytes bytes fit))
+    law (placed fast_layout.inputs bytes) (framed_mem v)
+    (placed_fits fast_layout.inputs bytes (omega arith) (all_bytes bytes fit))
     (law (placed (plus v.regs.sp 65527) (frame_bytes v.regs)) v.mem
     (placed_fits (plus v.regs.sp 65527) (frame_bytes v.regs) (omega arith) (frame_fits v.regs fits)) m)
 
@@ -42,7 +45,8 @@ outer_enters stay law b image bytes before v some few_outputs input can = record
       bytes = bytes_stay law bytes v input.fit can.fits can.bytes;
       fits = fits;
     };
-    rom = λ at from to. stays stay bytes v at few lo can.high (inr (omega arith)) (inr (above at from)) ∙ code.rom at from to;
+    rom = λ at from to. stays stay bytes v at few lo can.high (inr (omega arith)) (inr (above at from))
+        ∙ code.rom at from to;
     stack = (omega (arith, can.low, can.high), omega (arith, can.low, can.high));
     code = subst (λ (n : ℕ). Each (IsIn fast_code) (six_from n)) (sym there) first_six;
   };
@@ -68,7 +72,8 @@ outer_enters stay law b image bytes before v some few_outputs input can = record
     vector_byte : (at : ℕ) → 0xFFF2 ≤ at → slice_index (entered_mem bytes v) at ≡ slice_index v.mem at
     vector_byte at l = stays stay bytes v at few lo can.high (inr (omega arith)) (inr (above at (omega arith)))
 
-    there : word_of (slice_index (entered_mem bytes v) 65522) (slice_index (entered_mem bytes v) 65523) ≡ fast_layout.code
+    there : word_of (slice_index (entered_mem bytes v) 65522) (slice_index (entered_mem bytes v) 65523)
+        ≡ fast_layout.code
     there = ap₂ word_of (vector_byte 65522 (omega arith)) (vector_byte 65523 (omega arith)) ∙ code.enters
 
     first_six : Each (IsIn fast_code) (six_from fast_layout.code)
@@ -86,8 +91,10 @@ outer_enters stay law b image bytes before v some few_outputs input can = record
     })
 
     out_stays : (o : ℕ) → 1 ≤ o → o ≤ length b.outputs
-        → slice_index (entered_mem bytes v) (fast_layout.outputs + 1 * (o - 1)) ≡ slice_index v.mem (fast_layout.outputs + 1 * (o - 1))
-    out_stays o l to = stays stay bytes v (fast_layout.outputs + 1 * (o - 1)) few lo can.high (inr (omega arith)) (inl low_out)
+        → slice_index (entered_mem bytes v) (fast_layout.outputs + 1 * (o - 1)) ≡ slice_index v.mem
+        (fast_layout.outputs + 1 * (o - 1))
+    out_stays o l to = stays stay bytes v (fast_layout.outputs + 1 * (o - 1)) few lo can.high (inr (omega arith))
+        (inl low_out)
       where
         low_out : fast_layout.outputs + 1 * (o - 1) < plus v.regs.sp 65527
         low_out = omega arith

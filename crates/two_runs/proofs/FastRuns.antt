@@ -30,7 +30,8 @@ runs_shown [] [] e = refl
 runs_shown [] (ts ∷ tss) e = absurd (omega arith)
 runs_shown (row ∷ rows) [] e = absurd (omega arith)
 runs_shown (row ∷ rows) (ts ∷ tss) e =
-    ap (λ (fs : List FastSeen). runs_told (map (λ (t : Level × Option FastSeen). t.1) ts) ++ fs) (runs_shown rows tss (omega arith))
+    ap (λ (fs : List FastSeen). runs_told (map (λ (t : Level × Option FastSeen). t.1) ts) ++ fs)
+    (runs_shown rows tss (omega arith))
 
 plain_shown : (rows : List (RowSeen (List ℕ))) (tss : List (List (Level × Option FastSeen))) → length rows ≡ length tss
     → map (λ r. r.row) (shown_rows with_fast rows tss) ≡ rows
@@ -46,14 +47,18 @@ unfolding rows_from
 one_telling f most asks k [] s = refl
 one_telling f most asks k (x ∷ rest) s = ap suc (one_telling f most asks (suc k) rest _)
 
-pub runs_are : (f : Form (List ℕ) Level (Option FastSeen)) (most : ℕ) (asks : ℕ → List Level) (k : ℕ) (samples : List (List ℕ)) (s : State)
-    → (let all = rows_from f most asks k samples s in fast_runs (shown_rows with_fast all.rows all.told) ≡ runs_in all.told)
+pub runs_are : (f : Form (List ℕ) Level (Option FastSeen)) (most : ℕ) (asks : ℕ → List Level) (k : ℕ)
+    (samples : List (List ℕ)) (s : State)
+    → (let all = rows_from f most asks k samples s in
+    fast_runs (shown_rows with_fast all.rows all.told) ≡ runs_in all.told)
 runs_are f most asks k samples s =
     let all = rows_from f most asks k samples s in
     runs_shown all.rows all.told (one_telling f most asks k samples s)
 
-pub rows_seen : (f : Form (List ℕ) Level (Option FastSeen)) (most : ℕ) (asks : ℕ → List Level) (k : ℕ) (samples : List (List ℕ)) (s : State)
-    → (let all = rows_from f most asks k samples s in map (λ r. r.row) (shown_rows with_fast all.rows all.told) ≡ all.rows)
+pub rows_seen : (f : Form (List ℕ) Level (Option FastSeen)) (most : ℕ) (asks : ℕ → List Level) (k : ℕ)
+    (samples : List (List ℕ)) (s : State)
+    → (let all = rows_from f most asks k samples s in
+    map (λ r. r.row) (shown_rows with_fast all.rows all.told) ≡ all.rows)
 rows_seen f most asks k samples s =
     let all = rows_from f most asks k samples s in
     plain_shown all.rows all.told (one_telling f most asks k samples s)
@@ -61,22 +66,27 @@ rows_seen f most asks k samples s =
 -- they answer their samples, one after the other
 abbrev pub Answer : Block → Two → List (List ℕ) → (ℕ → ℕ) → List FastSeen → Type 0
 Answer b two samples before fs =
-    AreAnswersOf Byte b (fast_most two.fast.instr_bound) before (map (λ f. bytes_of samples f.number) fs) (map answer_of_fast fs)
+    AreAnswersOf Byte b (fast_most two.fast.instr_bound) before (map (λ f. bytes_of samples f.number) fs)
+    (map answer_of_fast fs)
 
-one_more : (b : Block) (two : Two) (samples : List (List ℕ)) (before : ℕ → ℕ) (t : Option FastSeen) (gs fs : List FastSeen)
+one_more : (b : Block) (two : Two) (samples : List (List ℕ)) (before : ℕ → ℕ) (t : Option FastSeen)
+    (gs fs : List FastSeen)
     → IsAnswerTold b two samples before t → Answer b two samples (outputs_told b samples before t) (gs ++ fs)
     → Answer b two samples before (cons_option t gs ++ fs)
 one_more b two samples before None gs fs told rest = rest
 one_more b two samples before (Some f) gs fs told rest = (told, rest)
 
-onto_answers : (b : Block) (two : Two) (samples : List (List ℕ)) (ts done : List (Level × Option FastSeen)) (fs : List FastSeen)
+onto_answers : (b : Block) (two : Two) (samples : List (List ℕ)) (ts done : List (Level × Option FastSeen))
+    (fs : List FastSeen)
     → AreAnswersTold b two samples (onto ts done) → Answer b two samples (outputs_after b samples (onto ts done)) fs
-    → Answer b two samples (outputs_after b samples done) (runs_told (map (λ t. t.1) ts) ++ fs) × AreAnswersTold b two samples done
+    → Answer b two samples (outputs_after b samples done) (runs_told (map (λ t. t.1) ts) ++ fs)
+    × AreAnswersTold b two samples done
 onto_answers b two samples [] done fs told rest = (rest, told)
 onto_answers b two samples (t ∷ ts) done fs told rest =
     let r = onto_answers b two samples ts (t ∷ done) fs told rest in
     let here = r.1 in (
-      one_more b two samples (outputs_after b samples done) t.1 (runs_told (map (λ (u : Level × Option FastSeen). u.1) ts)) fs here.0 r.0,
+      one_more b two samples (outputs_after b samples done) t.1
+          (runs_told (map (λ (u : Level × Option FastSeen). u.1) ts)) fs here.0 r.0,
       here.1,
     )
 
@@ -91,7 +101,8 @@ all_answers b two samples (ts ∷ tss) done told =
 -- what holds of each that is read off
 module _ (b : Block) (two : Two) (flags : ℕ) (samples : List (List ℕ)) (P : FastSeen → Type 0)
     (each : (l : Level) (f : FastSeen) → IsReadOff b two flags samples l f → P f) where
-  told_by_levels : (ts : List (Level × Option FastSeen)) (fs : List FastSeen) → AreTold b two flags samples ts → All P fs
+  told_by_levels : (ts : List (Level × Option FastSeen)) (fs : List FastSeen)
+      → AreTold b two flags samples ts → All P fs
       → All P (runs_told (map (λ t. t.1) ts) ++ fs)
   told_by_levels [] fs told rest = rest
   told_by_levels (t ∷ ts) fs told rest =
@@ -104,7 +115,8 @@ module _ (b : Block) (two : Two) (flags : ℕ) (samples : List (List ℕ)) (P : 
       by (Some f) h more =
           All-cons P f (runs_told (map (λ (u : Level × Option FastSeen). u.1) ts) ++ fs) (each t.0 f h) more
 
-  pub all_told : (tss : List (List (Level × Option FastSeen))) → All (AreTold b two flags samples) tss → All P (runs_in tss)
+  pub all_told : (tss : List (List (Level × Option FastSeen))) → All (AreTold b two flags samples) tss
+      → All P (runs_in tss)
   all_told [] told = λ k x lt. absurd (omega arith)
   all_told (ts ∷ tss) told =
       told_by_levels ts (runs_in tss) (told 0 ts (omega arith)) (all_told tss (λ k d l. told (suc k) d (omega arith)))

@@ -1,5 +1,6 @@
 -- Samples of a block's input bytes are taken as they are.
-use Rattle.std.proofs.Common.{◌≡◌, ℕ, zero, suc, ◌+◌, ◌%◌, ◌^◌, ◌<◌, ◌≤◌, Bool, true, false, if◌then◌else◌, List, [], ◌∷◌, ◌++◌, map, length, refl, ap, ap₂, ◌∙◌, arith}
+use Rattle.std.proofs.Common.{◌≡◌, ℕ, zero, suc, ◌+◌, ◌%◌, ◌^◌, ◌<◌, ◌≤◌, Bool, true, false, if◌then◌else◌, List, []}
+use Rattle.std.proofs.Common.{◌∷◌, ◌++◌, map, length, refl, ap, ap₂, ◌∙◌, arith}
 use Rattle.std.specs.Prelude.{◌&&◌, nat_le, All, take}
 use Rattle.std.proofs.lemmas.List.{take_all}
 use Rattle.fuzzy_meaning.specs.declared.block.Block.{Block}
@@ -8,7 +9,8 @@ use Rattle.cpu12_isa.specs.Memory.{placed}
 use Rattle.cpu12_parts.specs.State.{State}
 use Rattle.cpu12_emul.specs.Step.{next_of}
 use Rattle.cpu12_emul.specs.Take.{frame_of, may_interrupt}
-use Rattle.run_law.specs.Forms.{Form, Taking, put_take, takes, taken, told, Ran, ended, then_rest, run_from, Rows, row_of, put_row, rows_from}
+use Rattle.run_law.specs.Forms.{Form, Taking, put_take, takes, taken, told, Ran, ended, then_rest, run_from, Rows}
+use Rattle.run_law.specs.Forms.{row_of, put_row, rows_from}
 use Rattle.eval_code.specs.declared.layout.Layout.{Layout}
 use Rattle.eval_code.specs.Firing.{AreInputBytes}
 use Rattle.firmware_ports.specs.Ports.{given}
@@ -33,11 +35,13 @@ fits_more : (ws : List (ℕ × ℕ)) (w : ℕ × ℕ) → FitsWrites ws → w.0 
 fits_more [] w h at byte = (at, byte, tt)
 fits_more (u ∷ ws) w h at byte = (h.0, h.1, fits_more ws w h.2 at byte)
 
-pub given_bytes : BytesStay → (l : Layout) (x : List ℕ) (w : State) → l.samples < 2 ^ 16 → l.ready < 2 ^ 16 → AreBytes w.mem
+pub given_bytes : BytesStay → (l : Layout) (x : List ℕ) (w : State) → l.samples < 2 ^ 16 → l.ready < 2 ^ 16
+    → AreBytes w.mem
     → AreBytes (given l (fitted x) w).mem
 given_bytes stay l x w samples ready bytes =
     stay (placed l.samples (fitted x) ++ (l.ready, 1) ∷ []) w.mem
-    (fits_more (placed l.samples (fitted x)) (l.ready, 1) (placed_fits l.samples (fitted x) samples (small (take 8 x))) ready (omega arith))
+    (fits_more (placed l.samples (fitted x)) (l.ready, 1) (placed_fits l.samples (fitted x) samples (small (take 8 x)))
+    ready (omega arith))
     bytes
 
 -- those of a block's inputs are all
@@ -57,7 +61,8 @@ abbrev pub AreFitted : List (List ℕ) → Type 0
 AreFitted [] = Unit {0}
 AreFitted (x ∷ xs) = (fitted x ≡ x) × AreFitted xs
 
-pub all_fitted : (b : Block) (samples : List (List ℕ)) → length b.inputs ≤ 8 → All (AreInputBytes b) samples → AreFitted samples
+pub all_fitted : (b : Block) (samples : List (List ℕ)) → length b.inputs ≤ 8 → All (AreInputBytes b) samples
+    → AreFitted samples
 all_fitted b [] few all = tt
 all_fitted b (x ∷ xs) few all =
     (fitted_is b x few (all 0 x (omega arith)), all_fitted b xs few (λ k d lt. all (suc k) d (omega arith)))
@@ -74,7 +79,8 @@ same_takes {S} {A} {B} f give m (q ∷ qs) s =
     ap (λ (t : Taking A B). if may_interrupt s && nat_le (f.moment q) m then put_take (m, frame_of s) (told f q s) t
     else record { state = s; frames = []; told = []; left = q ∷ qs }) (same_takes f give m qs (taken f q s))
 
-same_run : {S A B : Type 0} (f : Form S A B) (give : S → State → State) (n m : ℕ) (inside : Bool) (qs : List A) (s : State)
+same_run : {S A B : Type 0} (f : Form S A B) (give : S → State → State) (n m : ℕ) (inside : Bool) (qs : List A)
+    (s : State)
     → run_from (with_give f give) n m inside qs s ≡ run_from f n m inside qs s
 unfolding run_from
 same_run f give zero m inside qs s = refl
@@ -86,7 +92,8 @@ same_run {S} {A} {B} f give (suc n) m inside qs s =
     (λ k. λ i. λ t. same_run f give n (suc m) i (takes f m qs s).left t k)
 
 -- So the rows over such samples are the form's.
-pub rows_fitted : {A B : Type 0} (f : Form (List ℕ) A B) (most : ℕ) (asks : ℕ → List A) (k : ℕ) (samples : List (List ℕ)) (s : State)
+pub rows_fitted : {A B : Type 0} (f : Form (List ℕ) A B) (most : ℕ) (asks : ℕ → List A) (k : ℕ)
+    (samples : List (List ℕ)) (s : State)
     → AreFitted samples
     → rows_from (with_give f (λ x. f.give (fitted x))) most asks k samples s ≡ rows_from f most asks k samples s
 unfolding rows_from
@@ -98,4 +105,5 @@ rows_fitted {A} {B} f most asks k (x ∷ rest) s h =
     put_row (row_of g x q) q (rows_from g most asks (suc k) rest (f.leave x q.state))) h.0
     ∙ ap (λ (q : Ran A B). put_row (row_of f x q) q (rows_from g most asks (suc k) rest (f.leave x q.state)))
     (same_run f (λ x. f.give (fitted x)) most 0 false (asks k) (f.give x s))
-    ∙ ap (λ (rows : Rows (List ℕ) A B). put_row (row_of f x r) r rows) (rows_fitted f most asks (suc k) rest (f.leave x r.state) h.1)
+    ∙ ap (λ (rows : Rows (List ℕ) A B). put_row (row_of f x r) r rows)
+    (rows_fitted f most asks (suc k) rest (f.leave x r.state) h.1)

@@ -1,5 +1,6 @@
 -- A run of the fast code under inner requests follows the run without.
-use Rattle.std.proofs.Common.{◌≡◌, ℕ, zero, suc, ◌+◌, ◌-◌, ◌^◌, ◌<◌, ◌≤◌, max, nat_lt, Bool, true, false, if◌then◌else◌, List, [], ◌∷◌, length, refl, ap, ap₂, sym, subst, ◌∙◌, arith}
+use Rattle.std.proofs.Common.{◌≡◌, ℕ, zero, suc, ◌+◌, ◌-◌, ◌^◌, ◌<◌, ◌≤◌, max, nat_lt, Bool, true, false, if◌then◌else◌}
+use Rattle.std.proofs.Common.{List, [], ◌∷◌, length, refl, ap, ap₂, sym, subst, ◌∙◌, arith}
 use Rattle.std.proofs.lemmas.Bool.Decides.{nat_tests}
 use Rattle.cpu12_isa.specs.declared.instr.Regs.{Regs}
 use Rattle.cpu12_isa.specs.Agreement.{Agree, WritesAgree}
@@ -32,7 +33,8 @@ outputs_same (suc k) at sp m n l a =
 same_self : (s : State) → Same is_open_inside s s
 same_self s = record { regs = refl; temps = refl; mem = record { size = refl; bytes = λ at h. refl } }
 
-pub sound : BytesLaws → (image : List ℕ) (flags outputs sp : ℕ) → flags < 2 ^ 8 → outputs ≤ 8 → WritesAgree → WritesAreQuiet
+pub sound : BytesLaws → (image : List ℕ) (flags outputs sp : ℕ) → flags < 2 ^ 8 → outputs ≤ 8 → WritesAgree
+    → WritesAreQuiet
     → Sound is_open_inside (fast_form flags outputs sp) (IsFastState image flags sp) AnyMoment HoldsBytes
 sound laws image flags outputs sp hf few agree quiet = record {
   apart = apart;
@@ -61,7 +63,8 @@ sound laws image flags outputs sp hf few agree quiet = record {
     apart at h = absurd (none (sym h))
 
 -- requests are taken at their moments, or at 1
-opens_here : (flags : ℕ) (s : State) (k m : ℕ) → may_interrupt (uninterrupted flags m s) ≡ true → first_open flags s (suc k) m ≡ m
+opens_here : (flags : ℕ) (s : State) (k m : ℕ) → may_interrupt (uninterrupted flags m s) ≡ true
+    → first_open flags s (suc k) m ≡ m
 opens_here flags s k m e = ap (λ (b : Bool). if b then m else first_open flags s k (suc m)) e
 
 waits_here : (flags : ℕ) (s : State) (k m : ℕ) → may_interrupt (uninterrupted flags m s) ≡ false
@@ -79,7 +82,8 @@ moments_at : (flags further : ℕ) (s : State) → may_interrupt s ≡ false
     → (q : ℕ) → taken_at flags (λ k. k) (suc further) s q ≡ max 1 q
 moments_at flags further s masked opens zero =
     let all : suc further - 0 ≡ suc further = omega arith in
-    let one = waits_here flags s further 0 masked ∙ from_one flags (suc further) s opens further 1 (omega arith) (omega arith) in
+    let one = waits_here flags s further 0 masked
+    ∙ from_one flags (suc further) s opens further 1 (omega arith) (omega arith) in
     ap (λ (k : ℕ). first_open flags s k 0) all ∙ one ∙ omega arith
 moments_at flags further s masked opens (suc q) =
     from_one flags (suc further) s opens (suc further - suc q) (suc q) (omega arith) (omega arith) ∙ omega arith
@@ -98,7 +102,8 @@ all_good [] = tt
 all_good (q ∷ qs) = (tt, all_good qs)
 
 pub fast_runs_follow : BytesLaws
-    → ((x : Inside) → RunFollows is_open_inside (fast_form x.flags x.outputs x.sp) (IsFastState x.image x.flags x.sp) AnyMoment HoldsBytes)
+    → ((x : Inside) → RunFollows is_open_inside (fast_form x.flags x.outputs x.sp)
+    (IsFastState x.image x.flags x.sp) AnyMoment HoldsBytes)
     → FastRunsFollow
 fast_runs_follow laws law b image flags most bytes before inner s t hf few fits ascend r le = by
   where
@@ -121,7 +126,8 @@ fast_runs_follow laws law b image flags most bytes before inner s t hf few fits 
     opens : (j : ℕ) → 1 ≤ j → j < suc r.further → may_interrupt (uninterrupted flags j s) ≡ true
     opens zero l h = absurd (omega arith)
     opens (suc j) l h =
-        (let p = before_at (IsOpenState image flags s.regs.sp) flags r.further j (stepped flags s) r.each (omega arith) in p.unmasked)
+        (let p = before_at (IsOpenState image flags s.regs.sp) flags r.further j (stepped flags s) r.each
+        (omega arith) in p.unmasked)
 
     moments : (q : ℕ) → taken_at flags (λ k. k) (suc r.further) s q ≡ max 1 q
     moments = moments_at flags r.further s r.masked opens
@@ -141,10 +147,12 @@ fast_runs_follow laws law b image flags most bytes before inner s t hf few fits 
         let higher : s.regs.sp < (uninterrupted flags (suc r.further) s).regs.sp = omega (arith, up, room.1) in
         grind (arith, nat_tests))
 
-    completes : Completes (IsFastState image flags s.regs.sp) (fast_form flags (length b.outputs) s.regs.sp) 0 (suc r.further) (suc r.further) s
+    completes : Completes (IsFastState image flags s.regs.sp) (fast_form flags (length b.outputs) s.regs.sp) 0
+        (suc r.further) (suc r.further) s
     completes = record { sum = omega arith; holds = holds; on = on; ended = ended }
 
-    followed : Follows is_open_inside (fast_form flags (length b.outputs) s.regs.sp) HoldsBytes [] 0 (suc r.further) (suc r.further) inner s
+    followed : Follows is_open_inside (fast_form flags (length b.outputs) s.regs.sp) HoldsBytes [] 0 (suc r.further)
+        (suc r.further) inner s
         (fast_run flags (length b.outputs) most inner s)
     followed =
         law inside [] 0 (suc r.further) (suc r.further) most inner s s le (all_good inner)

@@ -29,8 +29,11 @@ frames_fit {A} flags n s moment room (q ∷ qs) before =
   where
     by : (x : Bool) → nat_lt (moment q) n ≡ x
         → ((b : Option ℕ) → AreOnStack (frames_after flags moment s b (taken_before moment n qs)))
-        → AreOnStack (frames_after flags moment s before (if x then q ∷ taken_before moment n qs else taken_before moment n qs))
+        → AreOnStack (frames_after flags moment s before
+        (if x then q ∷ taken_before moment n qs else taken_before moment n qs))
     by true e rest =
-        (let u = uninterrupted flags (moment q) s in
-        (frame_fits (is_new before (moment q)) u u.temps (room (moment q) (ltb-true (moment q) n e)), rest (Some (moment q))))
+        (let u = uninterrupted flags (moment q) s in (
+          frame_fits (is_new before (moment q)) u u.temps (room (moment q) (ltb-true (moment q) n e)),
+          rest (Some (moment q)),
+        ))
     by false e rest = rest before

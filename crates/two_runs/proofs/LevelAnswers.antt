@@ -17,7 +17,8 @@ use Rattle.fz_run.specs.Rows.{first_state, firmware_rows}
 use Rattle.instruction_steps.specs.Facts.{FactsBeside, FactsAlone}
 use Rattle.fz_run.specs.Following.{rows_of_samples}
 use Rattle.fz_run.specs.Given.{RequestsAreGood}
-use Rattle.fz_run.specs.Answering.{AnswerBlock, AnswersUnder, AnswersUnderPlans, RunsBeside, FirmwareRunsBeside, FirstAlike, FirstStatesAlike}
+use Rattle.fz_run.specs.Answering.{AnswerBlock, AnswersUnder, AnswersUnderPlans, RunsBeside, FirmwareRunsBeside}
+use Rattle.fz_run.specs.Answering.{FirstAlike, FirstStatesAlike}
 use Rattle.run_forms.proofs.Algebra.{all_onto_all}
 use Rattle.fz_run.proofs.Algebra.{first_same}
 use Rattle.two_runs.specs.Runs.{FastSeen}
@@ -42,7 +43,8 @@ pub record AnswerLaws : Type 0 where
   pub answers_under_plans : AnswersUnderPlans
   pub requests_are_good : RequestsAreGood
   pub runs_follow : (x : Levels)
-      → RunsFollow is_open_to_fast (fitted_form x.flags x.two x.samples) (FactsBeside is_open_to_fast x.flags x.two.slow)
+      → RunsFollow is_open_to_fast (fitted_form x.flags x.two x.samples)
+      (FactsBeside is_open_to_fast x.flags x.two.slow)
       (IsGoodLevel (length x.samples)) (FastStands x.fast x.two x.flags x.samples)
 
 pub answers_under_levels : AnswerLaws → AnswersUnderLevels
@@ -97,14 +99,16 @@ answers_under_levels laws two flags slow_samples samples levels hf good slow fas
     stand = (laws.two_stand_beside slow fast two vs ls vf lf is).0
 
     runs : RunsBeside is_open_to_fast two.slow flags slow_samples
-    runs = laws.firmware_runs_beside is_open_to_fast slow two.slow flags slow_samples hf stand.leaves vs ls firmware slow_inputs
+    runs = laws.firmware_runs_beside is_open_to_fast slow two.slow flags slow_samples hf stand.leaves vs ls firmware
+        slow_inputs
 
     first : State
     first = first_state two.slow flags
 
     alike : FirstAlike is_open_to_fast two.slow flags (image_memory two.image.bytes) (first_two two flags)
     alike =
-        laws.first_states_alike is_open_to_fast slow two.slow flags (image_memory two.image.bytes) hf stand.leaves vs ls firmware
+        laws.first_states_alike is_open_to_fast slow two.slow flags (image_memory two.image.bytes) hf stand.leaves vs
+        ls firmware
         stand.alike
 
     begins : FastStands fast two flags samples [] (first_two two flags)
@@ -114,7 +118,14 @@ answers_under_levels laws two flags slow_samples samples levels hf good slow fas
         first_stands bytes.step_fits fast two flags samples hf (few_outputs x) stand alike)
 
     setting : Levels
-    setting = record { two = two; fast = fast; flags = flags; samples = samples; sound = level_sound x stand.leaves runs.low }
+    setting = record {
+      two = two;
+      fast = fast;
+      flags = flags;
+      samples = samples;
+      sound =
+          level_sound x stand.leaves runs.low;
+    }
 
     fitted_all : AreFitted slow_samples
     fitted_all = all_fitted slow slow_samples vs.few_inputs slow_inputs
@@ -127,8 +138,10 @@ answers_under_levels laws two flags slow_samples samples levels hf good slow fas
     followed =
         subst (AllFollow is_open_to_fast (fitted_form flags two samples) (FastStands fast two flags samples) []
         (λ k. levels_of k levels) 1 runs.ns slow_samples first)
-        (rows_fitted (level_form flags two samples) two.slow.step_bound (λ k. levels_of k levels) 1 slow_samples (first_two two flags) fitted_all)
-        (laws.runs_follow setting (λ k. levels_of k levels) (levels_are_good laws.requests_are_good (length samples) levels good) [] 1
+        (rows_fitted (level_form flags two samples) two.slow.step_bound (λ k. levels_of k levels) 1 slow_samples
+        (first_two two flags) fitted_all)
+        (laws.runs_follow setting (λ k. levels_of k levels)
+        (levels_are_good laws.requests_are_good (length samples) levels good) [] 1
         two.slow.step_bound runs.ns slow_samples (first_two two flags) first runs.within
         (complete flags two samples runs.ns slow_samples first fitted_all runs.complete)
         (first_same is_open_to_fast two.slow flags (image_memory two.image.bytes) (first_two two flags) alike) begins)
@@ -136,17 +149,21 @@ answers_under_levels laws two flags slow_samples samples levels hf good slow fas
     own : FastStands fast two flags samples (all_onto all.told []) all.state
     own = followed.own
 
-    under : AnswersUnder slow two.slow flags slow_samples (plan_of levels) (firmware_rows two.slow slow_samples (plan_of levels) flags).rows
+    under : AnswersUnder slow two.slow flags slow_samples (plan_of levels)
+        (firmware_rows two.slow slow_samples (plan_of levels) flags).rows
     under =
-        laws.answers_under_plans two.slow flags slow_samples (plan_of levels) hf (plan_good (length samples) levels good) slow vs ls
+        laws.answers_under_plans two.slow flags slow_samples (plan_of levels) hf
+        (plan_good (length samples) levels good) slow vs ls
         firmware slow_inputs
 
     rows_of : all.rows ≡ rows_of_samples flags two.slow (plan_of levels) 1 runs.ns slow_samples first
-    rows_of = followed.rows_are ∙ same_rows flags two samples levels 1 runs.ns slow_samples first fitted_all runs.complete
+    rows_of = followed.rows_are
+        ∙ same_rows flags two samples levels 1 runs.ns slow_samples first fitted_all runs.complete
 
     numbers : runs.ns ≡ under.ns
     numbers =
-        same_numbers (SlowFacts flags two) (FactsAlone flags two.slow) flags two.slow runs.ns under.ns slow_samples first runs.complete
+        same_numbers (SlowFacts flags two) (FactsAlone flags two.slow) flags two.slow runs.ns under.ns slow_samples
+        first runs.complete
         under.complete
 
     rows_are : all.rows ≡ (firmware_rows two.slow slow_samples (plan_of levels) flags).rows
@@ -155,10 +172,12 @@ answers_under_levels laws two flags slow_samples samples levels hf good slow fas
         ∙ sym under.rows_are
 
     fast_are : fast_runs_of two slow_samples samples levels flags ≡ runs_in all.told
-    fast_are = runs_are (level_form flags two samples) two.slow.step_bound (λ k. levels_of k levels) 1 slow_samples (first_two two flags)
+    fast_are = runs_are (level_form flags two samples) two.slow.step_bound (λ k. levels_of k levels) 1 slow_samples
+        (first_two two flags)
 
     told : All (AreTold fast two flags samples) all.told
-    told = (all_onto_all (λ (t : Level × Option FastSeen). IsTold fast two flags samples t.0 t.1) all.told [] own.told).0
+    told = (all_onto_all (λ (t : Level × Option FastSeen). IsTold fast two flags samples t.0 t.1) all.told []
+        own.told).0
 
     bound : two.fast.step_bound ≡ step_bound Byte fast
     bound = (let of_fast = bounds x in of_fast.steps)

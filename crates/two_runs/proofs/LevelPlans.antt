@@ -1,11 +1,13 @@
 -- Good levels are good requests that write nothing, and each sample's are in order.
-use Rattle.std.proofs.Common.{◌≡◌, ℕ, zero, suc, ◌==◌, nat_lt, Bool, true, false, cond, if◌then◌else◌, List, [], ◌∷◌, map, length, refl, ap, ap₂, ◌∙◌, subst, arith}
+use Rattle.std.proofs.Common.{◌≡◌, ℕ, zero, suc, ◌==◌, nat_lt, Bool, true, false, cond, if◌then◌else◌, List, [], ◌∷◌}
+use Rattle.std.proofs.Common.{map, length, refl, ap, ap₂, ◌∙◌, subst, arith}
 use Rattle.std.specs.Prelude.{◌&&◌, ◌||◌, ◌+◌, All, filter, Option, None, Some}
 use Rattle.std.proofs.lemmas.List.Elements.{All-cons}
 use Rattle.cpu12_parts.specs.State.{State}
 use Rattle.cpu12_emul.specs.Take.{FrameSeen}
 use Rattle.run_law.specs.Forms.{one_if}
-use Rattle.run_law.specs.Uninterrupted.{uninterrupted, is_inside, has_moment, taken_before, resumed_of, expected_frame, is_new, frames_after, frames_of}
+use Rattle.run_law.specs.Uninterrupted.{uninterrupted, is_inside, has_moment, taken_before, resumed_of, expected_frame}
+use Rattle.run_law.specs.Uninterrupted.{is_new, frames_after, frames_of}
 use Rattle.run_law.specs.Soundness.{AllGood, Ascend}
 use Rattle.interrupt_plan.specs.declared.Request.{Request}
 use Rattle.interrupt_plan.specs.declared.levels.Level.{Level}
@@ -18,7 +20,8 @@ use Rattle.two_runs.specs.Rows.{levels_of}
 use Rattle.two_runs.specs.Answering.{request_of, plan_of}
 
 -- those of a list that pass a test
-filter_each : {A B : Type 0} (p : B → Bool) (g : A → B) (xs : List A) → filter p (map g xs) ≡ map g (filter (λ x. p (g x)) xs)
+filter_each : {A B : Type 0} (p : B → Bool) (g : A → B) (xs : List A)
+    → filter p (map g xs) ≡ map g (filter (λ x. p (g x)) xs)
 filter_each p g [] = refl
 filter_each {A} {B} p g (x ∷ xs) = by (p (g x)) (filter_each p g xs)
   where
@@ -82,7 +85,8 @@ pub levels_are_good : RequestsAreGood → (fast : ℕ) (levels : List Level) →
 levels_are_good law fast levels h k = (
   all_passing (IsGoodLevel fast) (λ l. l.sample == k) levels h.each,
   ascend_each (λ (r : Request). r.moment) request_of 0 (levels_of k levels)
-      (subst (λ (rs : List Request). Ascend (λ (r : Request). r.moment) 0 rs) (requests_are k levels) (law (plan_of levels) (plan_good fast levels h) k).1),
+      (subst (λ (rs : List Request). Ascend (λ (r : Request). r.moment) 0 rs) (requests_are k levels)
+      (law (plan_of levels) (plan_good fast levels h) k).1),
 )
 
 -- what is taken, resumed and pushed for them is what is for the levels
@@ -106,7 +110,8 @@ pub resumed_each : {A B : Type 0} (flags : ℕ) (moment : B → ℕ) (g : A → 
     → resumed_of flags moment s (map g xs) n ≡ resumed_of flags (λ x. moment (g x)) s xs n
 resumed_each flags moment g s xs zero = refl
 resumed_each flags moment g s xs (suc n) =
-    ap₂ (λ (a : ℕ) (t : Bool). a + one_if (is_inside flags s n && t)) (resumed_each flags moment g s xs n) (has_each moment g n xs)
+    ap₂ (λ (a : ℕ) (t : Bool). a + one_if (is_inside flags s n && t)) (resumed_each flags moment g s xs n)
+    (has_each moment g n xs)
 
 frames_each : {A B : Type 0} (flags : ℕ) (moment : B → ℕ) (g : A → B) (s : State) (before : Option ℕ) (xs : List A)
     → frames_after flags moment s before (map g xs) ≡ frames_after flags (λ x. moment (g x)) s before xs

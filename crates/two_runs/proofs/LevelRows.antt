@@ -1,5 +1,6 @@
 -- What rows under levels are to be.
-use Rattle.std.proofs.Common.{◌≡◌, ◌⊎◌, inl, inr, ℕ, suc, ◌<◌, ◌≤◌, not, Bool, true, false, List, [], ◌∷◌, map, refl, ap, ap₂, sym, ◌∙◌, subst, arith}
+use Rattle.std.proofs.Common.{◌≡◌, ◌⊎◌, inl, inr, ℕ, suc, ◌<◌, ◌≤◌, not, Bool, true, false, List, [], ◌∷◌, map, refl}
+use Rattle.std.proofs.Common.{ap, ap₂, sym, ◌∙◌, subst, arith}
 use Rattle.std.specs.Prelude.{All, None}
 use Rattle.std.proofs.lemmas.List.Elements.{All-cons}
 use Rattle.cpu12_parts.specs.State.{State}
@@ -33,7 +34,8 @@ abbrev pub SlowFacts : ℕ → Two → State → Type 0
 SlowFacts flags two = FactsBeside is_open_to_fast flags two.slow
 
 -- the run without interrupts is that of the slow firmware alone
-given_is : (two : Two) (x : List ℕ) (s : State) → fitted x ≡ x → given two.slow.layout (fitted x) s ≡ given two.slow.layout x s
+given_is : (two : Two) (x : List ℕ) (s : State) → fitted x ≡ x
+    → given two.slow.layout (fitted x) s ≡ given two.slow.layout x s
 given_is two x s e = ap (λ (v : List ℕ). given two.slow.layout v s) e
 
 pub complete : (flags : ℕ) (two : Two) (fast : List (List ℕ)) (ns : List ℕ) (samples : List (List ℕ)) (s : State)
@@ -46,7 +48,8 @@ complete flags two fast (n ∷ ns) (x ∷ xs) s few h =
     let e = given_is two x s few.0 in
     let P = SlowFacts flags two in
     let one = h.0 in
-    let moved : Completes P (fitted_form flags two fast) 0 n n (given two.slow.layout x s) = record { sum = one.sum; holds = one.holds; on = one.on; ended = one.ended } in (
+    let moved : Completes P (fitted_form flags two fast) 0 n n (given two.slow.layout x s) =
+    record { sum = one.sum; holds = one.holds; on = one.on; ended = one.ended } in (
       subst (λ (u : State). Completes P (fitted_form flags two fast) 0 n n u) (sym e) moved,
       subst (λ (u : State). AllComplete P (fitted_form flags two fast) ns xs (uninterrupted flags n u)) (sym e)
           (complete flags two fast ns xs (uninterrupted flags n (given two.slow.layout x s)) few.1 h.1),
@@ -68,7 +71,8 @@ one_number P Q flags f m n s a b = by (order m n)
     by (inr (inl l)) = absurd (both _ b.ended (a.on n (omega arith) l))
     by (inr (inr e)) = e
 
-pub same_numbers : (P Q : State → Type 0) (flags : ℕ) (f : Firmware) (ms ns : List ℕ) (samples : List (List ℕ)) (s : State)
+pub same_numbers : (P Q : State → Type 0) (flags : ℕ) (f : Firmware) (ms ns : List ℕ) (samples : List (List ℕ))
+    (s : State)
     → AllComplete P (with_writes flags f) ms samples s → AllComplete Q (with_writes flags f) ns samples s → ms ≡ ns
 same_numbers P Q flags f [] [] [] s a b = refl
 same_numbers P Q flags f [] (n ∷ ns) [] s a b = absurd b
@@ -78,8 +82,10 @@ same_numbers P Q flags f (m ∷ ms) [] (x ∷ xs) s a b = absurd b
 same_numbers P Q flags f (m ∷ ms) (n ∷ ns) (x ∷ xs) s a b =
     let e = one_number P Q flags f m n (given f.layout x s) a.0 b.0 in
     let rest : AllComplete Q (with_writes flags f) ns xs (uninterrupted flags m (given f.layout x s)) =
-    subst (λ (k : ℕ). AllComplete Q (with_writes flags f) ns xs (uninterrupted flags k (given f.layout x s))) (sym e) b.1 in
-    ap₂ (λ (k : ℕ) (ks : List ℕ). k ∷ ks) e (same_numbers P Q flags f ms ns xs (uninterrupted flags m (given f.layout x s)) a.1 rest)
+    subst (λ (k : ℕ). AllComplete Q (with_writes flags f) ns xs (uninterrupted flags k (given f.layout x s)))
+    (sym e) b.1 in
+    ap₂ (λ (k : ℕ) (ks : List ℕ). k ∷ ks) e
+    (same_numbers P Q flags f ms ns xs (uninterrupted flags m (given f.layout x s)) a.1 rest)
 
 -- I is 0 throughout: a level is taken at its moment
 open_at : (flags : ℕ) (two : Two) (n : ℕ) (s : State) → Before (SlowFacts flags two) flags n s
@@ -139,7 +145,8 @@ same_rows flags two fast levels k (n ∷ ns) (x ∷ rest) s few h =
     let u : State = given two.slow.layout x s in
     let holds = (let one = h.0 in one.holds) in
     let ls = levels_of k levels in
-    ap (λ (v : State). expected_row form ls n x v ∷ expected_rows form (λ j. levels_of j levels) (suc k) ns rest (uninterrupted flags n v))
+    ap (λ (v : State). expected_row form ls n x v ∷ expected_rows form (λ j. levels_of j levels) (suc k) ns rest
+    (uninterrupted flags n v))
     (given_is two x s few.0)
     ∙ ap₂ (λ (row : RowSeen (List ℕ)) (rows : List (RowSeen (List ℕ))). row ∷ rows)
     (ap (row_by flags two ls n x u) (moments_are flags two n u holds) ∙ row_alike flags two ls n x u
@@ -151,7 +158,8 @@ pub same_taken : (flags : ℕ) (two : Two) (fast : List (List ℕ)) (levels : Li
     (samples : List (List ℕ)) (s : State) → AreFitted samples
     → AllComplete (SlowFacts flags two) (with_writes flags two.slow) ns samples s
     → expected_taken (fitted_form flags two fast) (λ j. levels_of j levels) k ns samples s
-    ≡ taken_by k levels (map (λ (r : RowSeen (List ℕ)). r.steps) (rows_of_samples flags two.slow (plan_of levels) k ns samples s))
+    ≡ taken_by k levels (map (λ (r : RowSeen (List ℕ)). r.steps)
+    (rows_of_samples flags two.slow (plan_of levels) k ns samples s))
 same_taken flags two fast levels k [] samples s few h = refl
 same_taken flags two fast levels k (n ∷ ns) [] s few h = refl
 same_taken flags two fast levels k (n ∷ ns) (x ∷ rest) s few h =
@@ -180,7 +188,8 @@ on_stack flags two plan k (n ∷ ns) (x ∷ rest) s h =
     let u : State = given two.slow.layout x s in
     let holds = (let one = h.0 in one.holds) in
     let room : (j : ℕ) → j < n → HasFrameRoom (uninterrupted flags j u) =
-    λ j l. (let p = before_at (SlowFacts flags two) flags n j u holds (omega arith) in sp_room (uninterrupted flags j u).regs.sp p.stack) in
+    λ j l. (let p = before_at (SlowFacts flags two) flags n j u holds (omega arith) in
+    sp_room (uninterrupted flags j u).regs.sp p.stack) in
     All-cons (λ (r : RowSeen (List ℕ)). AreOnStack r.frames) (row_with flags two (requests_of k plan) n x u)
     (rows_of_samples flags two.slow plan (suc k) ns rest (uninterrupted flags n u))
     (frames_fit flags n u (λ (r : Request). r.moment) room (requests_of k plan) None)

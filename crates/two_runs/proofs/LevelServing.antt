@@ -1,5 +1,6 @@
 -- A level's interrupt is quiet, and the fast code and its answers stand after it.
-use Rattle.std.proofs.Common.{◌≡◌, ◌⊎◌, inl, inr, ℕ, zero, suc, ◌-◌, ◌^◌, ◌<◌, ◌≤◌, Bool, true, false, List, [], ◌∷◌, length, refl, ap, ap₂, sym, ◌∙◌, subst, arith}
+use Rattle.std.proofs.Common.{◌≡◌, ◌⊎◌, inl, inr, ℕ, zero, suc, ◌-◌, ◌^◌, ◌<◌, ◌≤◌, Bool, true, false, List, [], ◌∷◌}
+use Rattle.std.proofs.Common.{length, refl, ap, ap₂, sym, ◌∙◌, subst, arith}
 use Rattle.std.specs.Prelude.{Option, None, Some, All, slice_get, slice_index_or}
 use Rattle.std.specs.List.Sorted.{IsNonDecreasing}
 use Rattle.std.proofs.lemmas.Bool.Decides.{nat_tests}
@@ -32,7 +33,8 @@ use Rattle.fz_run.specs.Rows.{bytes_of}
 use Rattle.two_runs.specs.Runs.{Outer, FastSeen, entered, fast_run, seen_of, served, told, served_by, told_by}
 use Rattle.two_runs.specs.Steps.{is_open_inside}
 use Rattle.two_runs.specs.Inside.{FastRunsFollow}
-use Rattle.two_runs.specs.Outer.{HasFastCode, CanEnter, IsQuietRun, OuterIsQuiet, IsServable, OuterIsServable, AreSlow, OuterServes}
+use Rattle.two_runs.specs.Outer.{HasFastCode, CanEnter, IsQuietRun, OuterIsQuiet, IsServable, OuterIsServable, AreSlow}
+use Rattle.two_runs.specs.Outer.{OuterServes}
 use Rattle.two_runs.specs.Rows.{sample_of, outer_of}
 use Rattle.two_runs.specs.Answering.{IsTold}
 use Rattle.two_runs.specs.Levels.{outputs_after, FastStands}
@@ -120,7 +122,8 @@ no_open at h = absurd (never h)
     never : false ≡ true → ⊥
     never e = cc
 
-unserved : (x : Given) (done : List (Level × Option FastSeen)) (l : Level) (v s : State) → Serves x done v s → l.fast ≡ 0
+unserved : (x : Given) (done : List (Level × Option FastSeen)) (l : Level) (v s : State) → Serves x done v s
+    → l.fast ≡ 0
     → FastStands x.fast x.two x.flags x.samples ((l, None) ∷ done) (framed [] v)
 unserved x done l v s h none =
     let can = can_enter x done v s h in
@@ -136,10 +139,12 @@ unserved x done l v s h none =
       code = kept.code;
       outputs = kept.outputs;
       answers = (tt, kept.answers);
-      told = All-cons (λ (t : Level × Option FastSeen). IsTold x.fast x.two x.flags x.samples t.0 t.1) (l, None) done none kept.told;
+      told = All-cons (λ (t : Level × Option FastSeen). IsTold x.fast x.two x.flags x.samples t.0 t.1)
+          (l, None) done none kept.told;
     }
   where
-    off_stack : (at : ℕ) → v.regs.sp ≤ 0x2000 → (at < 0x1FE0) ⊎ (0x2000 ≤ at) → is_hidden is_open_inside v.regs.sp at ≡ false
+    off_stack : (at : ℕ) → v.regs.sp ≤ 0x2000 → (at < 0x1FE0) ⊎ (0x2000 ≤ at)
+        → is_hidden is_open_inside v.regs.sp at ≡ false
     off_stack at l (inl e) = grind (arith, nat_tests)
     off_stack at l (inr e) = grind (arith, nat_tests)
 
@@ -169,7 +174,8 @@ servable : (x : Given) (done : List (Level × Option FastSeen)) (l : Level) (v s
     (Some (bytes_in x l))
 servable x done l v s h input =
     let laws = x.laws in
-    laws.servable x.slow x.fast x.two x.flags (bytes_in x l) (outputs_after x.fast x.samples done) v x.slow_valid x.slow_limits
+    laws.servable x.slow x.fast x.two x.flags (bytes_in x l) (outputs_after x.fast x.samples done) v x.slow_valid
+    x.slow_limits
     x.fast_valid x.fast_limits x.is_two x.flags_fit input (can_enter x done v s h)
 
 -- the code stays where the fast block's RAM alone changes
@@ -177,7 +183,8 @@ code_kept : (image m n : List ℕ) (sp : ℕ) → sp ≤ 0x2000 → Agree (is_hi
     → HasFastCode image m
 code_kept image m n sp l a h = record {
   rom = λ at lo hi. a.bytes at (shown at lo) ∙ h.rom at lo hi;
-  enters = ap₂ word_of (a.bytes 65522 (shown 65522 (omega arith))) (a.bytes 65523 (shown 65523 (omega arith))) ∙ h.enters;
+  enters = ap₂ word_of (a.bytes 65522 (shown 65522 (omega arith))) (a.bytes 65523 (shown 65523 (omega arith)))
+      ∙ h.enters;
 }
   where
     shown : (at : ℕ) → 0x4000 ≤ at → is_hidden is_fast_ram sp at ≡ false
@@ -185,7 +192,8 @@ code_kept image m n sp l a h = record {
 
 served_stands : (x : Given) (done : List (Level × Option FastSeen)) (l : Level) (v s : State) → Serves x done v s
     → 1 ≤ l.fast → l.fast ≤ length x.samples → AreInputBytes x.fast (bytes_in x l) → Ascend (λ k. k) 0 l.inner.items
-    → FastStands x.fast x.two x.flags x.samples ((l, Some (seen_of l.fast (length x.fast.outputs) (ran_of x l v))) ∷ done) (ran_of x l v).state
+    → FastStands x.fast x.two x.flags x.samples
+    ((l, Some (seen_of l.fast (length x.fast.outputs) (ran_of x l v))) ∷ done) (ran_of x l v).state
 served_stands x done l v s h from to input ascend =
     let laws = x.laws in
     let image = image_memory x.two.image.bytes in
@@ -199,17 +207,25 @@ served_stands x done l v s h from to input ascend =
     (few_inputs x) (few_outputs x) input can ascend run fast.within in
     let stay = (let b = laws.bytes in b.bytes_stay) in
     let inside =
-    laws.follow x.fast image x.flags (most_of x) (bytes_in x l) before l.inner.items (entered (bytes_in x l) v) fast.behind
-    x.flags_fit (few_outputs x) (bytes_stay stay (bytes_in x l) v input.fit can.fits can.bytes) ascend run fast.within in
+    laws.follow x.fast image x.flags (most_of x) (bytes_in x l) before l.inner.items
+    (entered (bytes_in x l) v) fast.behind
+    x.flags_fit (few_outputs x) (bytes_stay stay (bytes_in x l) v input.fit can.fits can.bytes) ascend run
+    fast.within in
     let most = x.two.fast.instr_bound in
     let steps : (ran_of x l v).instrs ≤ fast_most most =
     (let follows = inside.follows in let bound = bounds x in
-    subst (λ (n : ℕ). n ≤ fast_most most) (sym follows.instrs) (subst (λ (n : ℕ). counted x.flags (suc run.further) (entered (bytes_in x l) v) ≤ fast_most n) (sym bound.instructions) run.instructions)) in
+    subst (λ (n : ℕ). n ≤ fast_most most) (sym follows.instrs)
+    (subst (λ (n : ℕ). counted x.flags (suc run.further) (entered (bytes_in x l) v) ≤ fast_most n)
+    (sym bound.instructions) run.instructions)) in
     record {
       bytes = k.bytes_fit;
       code = code_kept image (ran_of x l v).state.mem v.mem v.regs.sp can.high k.mem own.code;
       outputs = k.answers;
-      answers = (answers_told x.fast (fast_most most) l.fast before (bytes_in x l) (ran_of x l v) (few_outputs x) steps k.answers, own.answers);
+      answers = (
+        answers_told x.fast (fast_most most) l.fast before (bytes_in x l) (ran_of x l v)
+            (few_outputs x) steps k.answers,
+        own.answers,
+      );
       told = All-cons (λ (t : Level × Option FastSeen). IsTold x.fast x.two x.flags x.samples t.0 t.1)
           (l, Some (seen_of l.fast (length x.fast.outputs) (ran_of x l v))) done
           (read_off x.fast x.two x.flags (most_of x) x.samples l before v fast.behind from to run inside) own.told;
@@ -231,7 +247,8 @@ sample_is x l le = by l.fast le
   where
     by : (k : ℕ) → k ≤ length x.samples
         → ((sample_of x.samples k ≡ None) × (k ≡ 0))
-        ⊎ ((sample_of x.samples k ≡ Some (bytes_of x.samples k)) × (1 ≤ k) × AreInputBytes x.fast (bytes_of x.samples k))
+        ⊎ ((sample_of x.samples k ≡ Some (bytes_of x.samples k)) × (1 ≤ k)
+        × AreInputBytes x.fast (bytes_of x.samples k))
     by zero h = inl (refl, refl)
     by (suc j) h =
         (let e : suc j - 1 ≡ j = omega arith in
@@ -249,7 +266,8 @@ inner_ascends ms rise = go ms 0 (λ l. omega arith) rise
     go [] m h rise = tt
     go (k ∷ ms) m h rise = (
       h (omega arith),
-      go ms k (λ l. rise 0 1 0 (omega arith) (omega arith)) (λ i j d le lt. rise (suc i) (suc j) d (omega arith) (omega arith)),
+      go ms k (λ l. rise 0 1 0 (omega arith) (omega arith))
+          (λ i j d le lt. rise (suc i) (suc j) d (omega arith) (omega arith)),
     )
 
 slow_sums : (t : Temps) → AreNoneOrRunning t → AreSlow t
@@ -261,13 +279,16 @@ slow_sums (Running p w) h = tt
 abbrev AfterLevel : (x : Given) → List (Level × Option FastSeen) → Level → State → State → ℕ → Option (List ℕ) → Type 0
 AfterLevel x done l v s n sample =
     Quiet is_open_to_fast (served_by x.flags n (most_of x) l.inner.items sample v) v s
-    × FastStands x.fast x.two x.flags x.samples ((l, told_by x.flags n (most_of x) l.fast l.inner.items sample v) ∷ done)
+    × FastStands x.fast x.two x.flags x.samples
+    ((l, told_by x.flags n (most_of x) l.fast l.inner.items sample v) ∷ done)
     (served_by x.flags n (most_of x) l.inner.items sample v)
 
-pub serves : (x : Given) (done : List (Level × Option FastSeen)) (l : Level) (v s : State) → IsGoodLevel (length x.samples) l
+pub serves : (x : Given) (done : List (Level × Option FastSeen)) (l : Level) (v s : State)
+    → IsGoodLevel (length x.samples) l
     → Serves x done v s
     → Quiet is_open_to_fast (served x.flags x.two.fast.outputs (most_of x) (outer_of x.samples l) v) v s
-    × FastStands x.fast x.two x.flags x.samples ((l, told x.flags x.two.fast.outputs (most_of x) (outer_of x.samples l) v) ∷ done)
+    × FastStands x.fast x.two x.flags x.samples
+    ((l, told x.flags x.two.fast.outputs (most_of x) (outer_of x.samples l) v) ∷ done)
     (served x.flags x.two.fast.outputs (most_of x) (outer_of x.samples l) v)
 serves x done l v s good h =
     subst (λ (n : ℕ). AfterLevel x done l v s n (sample_of x.samples l.fast)) (sym (outputs_are x))
@@ -280,13 +301,16 @@ serves x done l v s good h =
     outer sample = record { moment = l.moment; number = l.fast; sample = sample; inner = l.inner.items }
 
     quiet : (sample : Option (List ℕ))
-        → IsServable x.fast (image_memory x.two.image.bytes) x.flags (most_of x) (outputs_after x.fast x.samples done) v sample
+        → IsServable x.fast (image_memory x.two.image.bytes) x.flags (most_of x)
+        (outputs_after x.fast x.samples done) v sample
         → Quiet is_open_to_fast (served_by x.flags (length x.fast.outputs) (most_of x) l.inner.items sample v) v s
     quiet sample good_sample =
         (let laws = x.laws in
         let slow = (let p = h.facts in let facts = p.facts in slow_sums s.temps facts.sums) in
-        laws.serves x.fast (image_memory x.two.image.bytes) x.flags (most_of x) (outputs_after x.fast x.samples done) (outer sample) v s
-        x.flags_fit (few_inputs x) (few_outputs x) (can_enter x done v s h) good_sample ascend (room_of x done v s h) h.begins slow)
+        laws.serves x.fast (image_memory x.two.image.bytes) x.flags (most_of x) (outputs_after x.fast x.samples done)
+        (outer sample) v s
+        x.flags_fit (few_inputs x) (few_outputs x) (can_enter x done v s h) good_sample ascend
+        (room_of x done v s h) h.begins slow)
 
     by : IsSampleOf x l → AfterLevel x done l v s (length x.fast.outputs) (sample_of x.samples l.fast)
     by (inl e) =

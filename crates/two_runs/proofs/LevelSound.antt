@@ -1,5 +1,6 @@
 -- A slow firmware whose interrupts serve levels is a sound form.
-use Rattle.std.proofs.Common.{◌≡◌, ℕ, ◌+◌, ◌*◌, ◌<◌, ◌≤◌, Bool, false, Option, List, length, ap, sym, ◌∙◌, subst, inl, arith}
+use Rattle.std.proofs.Common.{◌≡◌, ℕ, ◌+◌, ◌*◌, ◌<◌, ◌≤◌, Bool, false, Option, List, length, ap, sym, ◌∙◌, subst, inl}
+use Rattle.std.proofs.Common.{arith}
 use Rattle.cpu12_isa.specs.Agreement.{WritesAgree}
 use Rattle.cpu12_isa.specs.Fits.{AreBytes}
 use Rattle.cpu12_parts.specs.State.{State}
@@ -63,7 +64,8 @@ given_stays x leaves bytes w =
     laws.given_leaves_open is_open_to_fast main_layout (fitted bytes) w (fitted_few bytes) (omega arith) leaves.ready
     (λ at from to. leaves.reads at (inl (from, to))))
 
-pub level_sound : (x : Given) → LeavesLayout is_open_to_fast x.two.slow.layout → IsLow x.two.slow → WritesAgree → WritesAreQuiet
+pub level_sound : (x : Given) → LeavesLayout is_open_to_fast x.two.slow.layout → IsLow x.two.slow → WritesAgree
+    → WritesAreQuiet
     → Sound is_open_to_fast (fitted_form x.flags x.two x.samples) (FactsBeside is_open_to_fast x.flags x.two.slow)
     (IsGoodLevel (length x.samples)) (FastStands x.fast x.two x.flags x.samples)
 level_sound x leaves_slow low agree quiet = record {
@@ -73,9 +75,11 @@ level_sound x leaves_slow low agree quiet = record {
   leaves = λ bytes w s l. l;
   answers = λ w s l. answered_alike is_open_to_fast x.two.slow ports low w s l;
   ends = λ m w s l. ended_alike is_open_to_fast x.two.slow ports low w s l;
-  quiet = λ done a v s good p may begins own. serves x done a v s good (record { facts = p; begins = begins; stands = own });
+  quiet = λ done a v s good p may begins own. serves x done a v s good
+      (record { facts = p; begins = begins; stands = own });
   leaves_open = record {
-    gives = λ done bytes w o. kept done w (given x.two.slow.layout (fitted bytes) w) (given_stays x leaves bytes w) (given_fit bytes w o.bytes) o;
+    gives = λ done bytes w o. kept done w (given x.two.slow.layout (fitted bytes) w) (given_stays x leaves bytes w)
+        (given_fit bytes w o.bytes) o;
     leaves = λ done bytes w o. o;
     pushes = λ done w s p l o.
         (let shown = (let facts = p.facts in facts.shown) in
@@ -97,7 +101,8 @@ level_sound x leaves_slow low agree quiet = record {
     ports : LeavesPorts is_open_to_fast x.two.slow
     ports = ports_of x leaves
 
-    kept : (done : List (Level × Option FastSeen)) (w u : State) → AreOpenAlike is_open_to_fast w.mem u.mem → AreBytes u.mem
+    kept : (done : List (Level × Option FastSeen)) (w u : State) → AreOpenAlike is_open_to_fast w.mem u.mem
+        → AreBytes u.mem
         → FastStands x.fast x.two x.flags x.samples done w → FastStands x.fast x.two x.flags x.samples done u
     kept done w u alike bytes o = stands x.fast x.two x.flags x.samples done w u (few_outputs x) alike bytes o
 

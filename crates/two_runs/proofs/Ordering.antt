@@ -11,7 +11,8 @@ sample_le : (a b : Level) → LevelNotAfter a b → a.sample ≤ b.sample
 sample_le a b (inl less) = omega arith
 sample_le a b (inr same) = omega (arith, same.0)
 
-follow_from : (k : ℕ) (l : Level) (ls : List Level) → k ≤ l.sample → Ascend LevelNotAfter (l ∷ ls) → Follow place_of_level k (l ∷ ls)
+follow_from : (k : ℕ) (l : Level) (ls : List Level) → k ≤ l.sample → Ascend LevelNotAfter (l ∷ ls)
+    → Follow place_of_level k (l ∷ ls)
 follow_from k l [] le ascend = (le, tt)
 follow_from k l (next ∷ ls) le ascend = (le, follow_from l.sample next ls (sample_le l next ascend.0) ascend.1)
 

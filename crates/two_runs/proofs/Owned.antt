@@ -1,5 +1,6 @@
 -- What the fast code reads and writes is its block's own.
-use Rattle.std.proofs.Common.{◌≡◌, ℕ, zero, suc, ◌+◌, ◌≤◌, ◌<◌, nat_le, nat_lt, ◌&&◌, Bool, true, false, List, [], ◌∷◌, refl, ap, ◌∙◌, arith, inl, inr}
+use Rattle.std.proofs.Common.{◌≡◌, ℕ, zero, suc, ◌+◌, ◌≤◌, ◌<◌, nat_le, nat_lt, ◌&&◌, Bool, true, false, List, [], ◌∷◌}
+use Rattle.std.proofs.Common.{refl, ap, ◌∙◌, arith, inl, inr}
 use Rattle.std.proofs.lemmas.Bool.Decides.{nat_tests}
 use Rattle.cpu12_isa.specs.Agreement.{AllShown, IsWritten}
 use Rattle.cpu12_isa.specs.Memory.{plus, from}
@@ -58,7 +59,8 @@ writes_own [] h = tt
 writes_own (at ∷ ats) h = (write_own at h.0, writes_own ats h.1)
 
 -- the frame's nine bytes, or some of them
-pub frame_shown : (n sp at : ℕ) → sp ≤ at → at + n ≤ sp + 9 → sp + 9 ≤ 0x2000 → 0x1FE0 ≤ sp → AllShown (is_foreign sp) (from at n)
+pub frame_shown : (n sp at : ℕ) → sp ≤ at → at + n ≤ sp + 9 → sp + 9 ≤ 0x2000 → 0x1FE0 ≤ sp
+    → AllShown (is_foreign sp) (from at n)
 frame_shown zero sp at lo hi end low = tt
 frame_shown (suc n) sp at lo hi end low = (
   frame_own sp at lo (omega arith) end low,
@@ -70,10 +72,12 @@ pub own_shown : (sp at : ℕ) → sp ≤ 0x2000 → is_foreign sp at ≡ false �
 own_shown sp at le h = grind (arith, nat_tests)
 
 -- more is hidden below a higher SP
-pub hides_more : (low high at : ℕ) → low ≤ high → is_hidden is_open_inside high at ≡ false → is_hidden is_open_inside low at ≡ false
+pub hides_more : (low high at : ℕ) → low ≤ high → is_hidden is_open_inside high at ≡ false
+    → is_hidden is_open_inside low at ≡ false
 hides_more low high at le h = grind (arith, nat_tests)
 
-pub all_shown : (sp : ℕ) (ats : List ℕ) → sp ≤ 0x2000 → AllShown (is_foreign sp) ats → AllShown (is_hidden is_open_inside sp) ats
+pub all_shown : (sp : ℕ) (ats : List ℕ) → sp ≤ 0x2000 → AllShown (is_foreign sp) ats
+    → AllShown (is_hidden is_open_inside sp) ats
 all_shown sp [] le h = tt
 all_shown sp (at ∷ ats) le h = (own_shown sp at le h.0, all_shown sp ats le h.1)
 
@@ -81,7 +85,8 @@ both : (b : Bool) → b ≡ true → b ≡ false → ⊥
 both b t f = cc
 
 -- what is kept is not written
-pub not_written : (ws : List (ℕ × ℕ)) (at : ℕ) → AllShown is_kept (addresses ws) → is_kept at ≡ true → IsWritten ws at → ⊥
+pub not_written : (ws : List (ℕ × ℕ)) (at : ℕ) → AllShown is_kept (addresses ws) → is_kept at ≡ true
+    → IsWritten ws at → ⊥
 not_written [] at a k w = w
 not_written (x ∷ ws) at a k (inl e) = let f : is_kept at ≡ false = ap is_kept e ∙ a.0 in absurd (both (is_kept at) k f)
 not_written (x ∷ ws) at a k (inr w) = not_written ws at a.1 k w

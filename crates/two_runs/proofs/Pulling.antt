@@ -21,7 +21,8 @@ with_flags bytes sp c = record {
   ccr = c;
 }
 
-pub pulled_same : (r q : Regs) (xs ys : List ℕ) → r.sp ≡ q.sp → xs ≡ ys → pulled r xs ≡ pulled (record q { ccr = r.ccr }) ys
+pub pulled_same : (r q : Regs) (xs ys : List ℕ) → r.sp ≡ q.sp → xs ≡ ys
+    → pulled r xs ≡ pulled (record q { ccr = r.ccr }) ys
 pulled_same r q xs ys sp e =
     ap₂ (λ (bytes : List ℕ) (n : ℕ). with_flags bytes n (pulled_flags r.ccr (slice_index bytes 0))) e sp
 
@@ -31,7 +32,8 @@ pulls_alike c d b f x =
     same_ccr (pulled_flags c b) (pulled_flags d b) (let h = and_le_l b (bit_or c.0 191) in omega arith)
     (let h = and_le_l b (bit_or d.0 191) in omega arith) (simp (bit_or_is, bit_and_is, x))
 
-pub pulled_alike : (r q s : Regs) (xs : List ℕ) → s.ccr.0 < 2 ^ 8 → xs ≡ frame_bytes s → r.sp ≡ q.sp → bit r.ccr.0 6 ≡ bit q.ccr.0 6
+pub pulled_alike : (r q s : Regs) (xs : List ℕ) → s.ccr.0 < 2 ^ 8 → xs ≡ frame_bytes s → r.sp ≡ q.sp
+    → bit r.ccr.0 6 ≡ bit q.ccr.0 6
     → pulled r xs ≡ pulled q xs
 pulled_alike r q s xs f e sp x =
     let b : slice_index xs 0 ≡ s.ccr.0 = ap (λ (l : List ℕ). slice_index l 0) e in

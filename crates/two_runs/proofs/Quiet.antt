@@ -1,5 +1,6 @@
 -- An outer interrupt with a fast run leaves what it may.
-use Rattle.std.proofs.Common.{◌≡◌, ◌⊎◌, ℕ, suc, ◌+◌, ◌-◌, ◌*◌, ◌<◌, ◌≤◌, nat_le, nat_lt, ◌&&◌, not, true, false, List, length, refl, ap, sym, ◌∙◌, subst, inl, inr, arith}
+use Rattle.std.proofs.Common.{◌≡◌, ◌⊎◌, ℕ, suc, ◌+◌, ◌-◌, ◌*◌, ◌<◌, ◌≤◌, nat_le, nat_lt, ◌&&◌, not, true, false, List}
+use Rattle.std.proofs.Common.{length, refl, ap, sym, ◌∙◌, subst, inl, inr, arith}
 use Rattle.std.specs.Prelude.{slice_index}
 use Rattle.std.proofs.lemmas.Bool.{or_parts, cases_lt}
 use Rattle.std.proofs.lemmas.Bool.Decides.{nat_tests}
@@ -43,7 +44,8 @@ comes_back back stay b image bytes before v c few can x =
     frame_read stay bytes v can.size few can.low can.high in
     let fits = can.fits in
     let q : Regs = record (v.regs) { sp = plus v.regs.sp 65527; ccr = put v.regs.ccr interrupts_masked true } in
-    pulled_alike (record ((entered bytes v).regs) { ccr = c }) q v.regs (bytes_at (entered_mem bytes v) (from (plus v.regs.sp 65527) 9))
+    pulled_alike (record ((entered bytes v).regs) { ccr = c }) q v.regs
+    (bytes_at (entered_mem bytes v) (from (plus v.regs.sp 65527) 9))
     fits.ccr frame refl x
     ∙ ap (pulled q) frame ∙ back v.regs fits
 
@@ -81,7 +83,9 @@ outer_is_quiet laws b image bytes flags most before inner v t hf few_in few_out 
   free = λ e. same.temps ∙ r.free e;
   mem = record { size = same.mem.size ∙ r.size ∙ size_stays laws.writes_stay bytes v; bytes = bytes_same };
   bytes_fit = ran.follows.own;
-  answers = λ o from to. (let a = r.answers o from to in (same.mem.bytes (fast_layout.outputs + 1 * (o - 1)) (output_shown o from to) ∙ a.0, tt));
+  answers = λ o from to.
+      (let a = r.answers o from to in
+      (same.mem.bytes (fast_layout.outputs + 1 * (o - 1)) (output_shown o from to) ∙ a.0, tt));
 }
   where
     few : length bytes ≤ 8
@@ -93,7 +97,8 @@ outer_is_quiet laws b image bytes flags most before inner v t hf few_in few_out 
         (bytes_stay laws.bytes_stay bytes v input.fit can.fits can.bytes) ascend r le
 
     same : Same is_open_inside (fast_run flags (length b.outputs) most inner (entered bytes v)).state t
-    same = subst (λ (u : State). Same is_open_inside (fast_run flags (length b.outputs) most inner (entered bytes v)).state u) r.goes ran.follows.last
+    same = subst (λ (u : State). Same is_open_inside
+        (fast_run flags (length b.outputs) most inner (entered bytes v)).state u) r.goes ran.follows.last
 
     regs : t.regs ≡ v.regs
     regs = r.regs ∙ comes_back laws.frame_comes_back laws.writes_stay b image bytes before v r.ccr few can r.x
@@ -102,15 +107,18 @@ outer_is_quiet laws b image bytes flags most before inner v t hf few_in few_out 
     shown at h = ap (λ (k : Regs). is_hidden is_open_inside k.sp at) regs ∙ h
 
     bytes_same : (at : ℕ) → is_hidden is_fast_ram v.regs.sp at ≡ false
-        → slice_index (fast_run flags (length b.outputs) most inner (entered bytes v)).state.mem at ≡ slice_index v.mem at
+        → slice_index (fast_run flags (length b.outputs) most inner (entered bytes v)).state.mem at
+        ≡ slice_index v.mem at
     bytes_same at h =
         (let p = or_parts (is_fast_ram at) (nat_le 0x1FE0 at && nat_lt at v.regs.sp) h in
         same.mem.bytes at (shown at p.1) ∙ r.kept at (ap not p.0)
-        ∙ stays laws.writes_stay bytes v at few can.low can.high (outside at p.0) (away v.regs.sp at can.low can.high p.1))
+        ∙ stays laws.writes_stay bytes v at few can.low can.high (outside at p.0)
+        (away v.regs.sp at can.low can.high p.1))
 
     output_shown : (o : ℕ) → 1 ≤ o → o ≤ length b.outputs
         → is_hidden is_open_inside t.regs.sp (fast_layout.outputs + 1 * (o - 1)) ≡ false
-    output_shown o from to = shown (fast_layout.outputs + 1 * (o - 1)) (low (fast_layout.outputs + 1 * (o - 1)) (omega arith))
+    output_shown o from to =
+        shown (fast_layout.outputs + 1 * (o - 1)) (low (fast_layout.outputs + 1 * (o - 1)) (omega arith))
       where
         low : (at : ℕ) → at < 0x1FE0 → (nat_le 0x1FE0 at && nat_lt at v.regs.sp) ≡ false
         low at l = grind (arith, nat_tests)

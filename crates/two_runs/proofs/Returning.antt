@@ -1,5 +1,6 @@
 -- The fast code as steps, up to behind its return.
-use Rattle.std.proofs.Common.{◌≡◌, ℕ, zero, suc, ◌+◌, ◌^◌, ◌<◌, ◌≤◌, not, Bool, true, false, Result, Ok, List, [], ◌∷◌, length, refl, ap, ap₂, sym, ◌∙◌, subst, inl, inr, arith}
+use Rattle.std.proofs.Common.{◌≡◌, ℕ, zero, suc, ◌+◌, ◌^◌, ◌<◌, ◌≤◌, not, Bool, true, false, Result, Ok, List, [], ◌∷◌}
+use Rattle.std.proofs.Common.{length, refl, ap, ap₂, sym, ◌∙◌, subst, inl, inr, arith}
 use Rattle.std.specs.Prelude.{slice_index}
 use Rattle.cpu12_isa.specs.declared.instr.Instr.{Instr}
 use Rattle.cpu12_isa.specs.declared.instr.Instr.TheVariants.{Andcc, Rti, Rev, Revw, Wav}
@@ -31,7 +32,8 @@ use Rattle.two_runs.proofs.Pulling.{pulled_same}
 use Rattle.two_runs.proofs.Instructions.{free_stays, begins, plain_next, instruction_at, instructions_at}
 
 -- the return is one step
-rti_at : StepLaws → (image : List ℕ) (flags sp : ℕ) (s : State) → Begins image false sp s → decode_at s.mem s.regs.pc ≡ Ok Rti
+rti_at : StepLaws → (image : List ℕ) (flags sp : ℕ) (s : State) → Begins image false sp s
+    → decode_at s.mem s.regs.pc ≡ Ok Rti
     → Stretch (Kept image false flags sp) flags 1 1 s (after_plain flags Rti s)
 rti_at laws image flags sp s c decoded =
     let e : Effect = effect flags Rti s.regs s.mem in
@@ -40,13 +42,17 @@ rti_at laws image flags sp s c decoded =
     let left : Left = record { regs = e.regs; temps = s.temps; writes = e.writes; kind = Plain } in
     let up : sp ≤ left.regs.sp = (let r = stands.room in omega (arith, stands.stack, r.1)) in
     let frame : AllShown (is_foreign sp) (read_by (act_of flags Rti s.regs) s.mem) =
-    (let r = stands.room in subst (λ (n : ℕ). AllShown (is_foreign sp) (from n 9)) (sym stands.stack) (frame_shown 9 sp sp (omega arith) (omega arith) r.1 (omega (arith, r.0)))) in
+    (let r = stands.room in
+    subst (λ (n : ℕ). AllShown (is_foreign sp) (from n 9)) (sym stands.stack)
+    (frame_shown 9 sp sp (omega arith) (omega arith) r.1 (omega (arith, r.0)))) in
     one_stretch (Kept image false flags sp) flags Plain s (after_plain flags Rti s) refl
     (kept image false flags sp s left stands is.0 up
-    (subst (AllShown (is_foreign sp)) (sym is.1) (shown_append (is_foreign sp) (six_from s.regs.pc) (read_by (act_of flags Rti s.regs) s.mem)
+    (subst (AllShown (is_foreign sp)) (sym is.1)
+    (shown_append (is_foreign sp) (six_from s.regs.pc) (read_by (act_of flags Rti s.regs) s.mem)
     (code_own sp (six_from s.regs.pc) c.code) frame))
     tt (off_ready s s.temps c.off))
-    (plain_next laws flags Rti s (after_plain flags Rti s) c.off (record { decoded = decoded; plain = refl; after = refl }))
+    (plain_next laws flags Rti s (after_plain flags Rti s) c.off
+    (record { decoded = decoded; plain = refl; after = refl }))
 
 -- ANDCC has no parts beyond the first
 abbrev found : Instr → Result Instr ℕ
@@ -75,13 +81,15 @@ step_keeps : WritesStay → (image : List ℕ) (flags sp : ℕ) (s : State) → 
 step_keeps stay image flags sp s p =
     let shown = p.shown in
     let ws = shown.left.writes in
-    let goes : next_of flags s ≡ applied (Ok shown.left) s.mem = ap (λ (o : Result Left ℕ). applied o s.mem) shown.goes in
+    let goes : next_of flags s ≡ applied (Ok shown.left) s.mem =
+    ap (λ (o : Result Left ℕ). applied o s.mem) shown.goes in
     let there = ap (state_by s) goes in (
       ap (λ (u : State). length u.mem) there ∙ (stay ws s.mem).0,
       λ at k. ap (λ (u : State). slice_index u.mem at) there ∙ (stay ws s.mem).1 at (not_written ws at p.writes k),
     )
 
-pub steps_keep : WritesStay → (image : List ℕ) (flags sp n : ℕ) (s : State) → Before (IsFastState image flags sp) flags n s
+pub steps_keep : WritesStay → (image : List ℕ) (flags sp n : ℕ) (s : State)
+    → Before (IsFastState image flags sp) flags n s
     → (length (uninterrupted flags n s).mem ≡ length s.mem)
     × ((at : ℕ) → is_kept at ≡ true → slice_index (uninterrupted flags n s).mem at ≡ slice_index s.mem at)
 steps_keep stay image flags sp zero s b = (refl, λ at k. refl)
@@ -95,13 +103,16 @@ open_state image flags sp s k = record { state = k.0; unmasked = ap not k.1 }
 
 -- a frame's bytes are kept
 frame_kept : (n sp : ℕ) (m k : List ℕ) → 0x1FE0 ≤ sp → sp + n ≤ 0x2000
-    → ((at : ℕ) → is_kept at ≡ true → slice_index m at ≡ slice_index k at) → bytes_at m (from sp n) ≡ bytes_at k (from sp n)
+    → ((at : ℕ) → is_kept at ≡ true → slice_index m at ≡ slice_index k at)
+    → bytes_at m (from sp n) ≡ bytes_at k (from sp n)
 frame_kept zero sp m k lo hi h = refl
 frame_kept (suc n) sp m k lo hi h =
-    ap₂ (λ (v : ℕ) (vs : List ℕ). v ∷ vs) (h sp (stack_kept sp lo)) (frame_kept n (plus sp 1) m k (omega arith) (omega arith) h)
+    ap₂ (λ (v : ℕ) (vs : List ℕ). v ∷ vs) (h sp (stack_kept sp lo))
+    (frame_kept n (plus sp 1) m k (omega arith) (omega arith) h)
 
 -- the steps behind the first, with the return, by the instructions
-tail_at : StepLaws → (image : List ℕ) (flags sp : ℕ) (ds : List ℕ) (v u : State) → flags < 2 ^ 8 → v.regs.sp ≡ sp → u.regs.sp ≡ sp
+tail_at : StepLaws → (image : List ℕ) (flags sp : ℕ) (ds : List ℕ) (v u : State) → flags < 2 ^ 8 → v.regs.sp ≡ sp
+    → u.regs.sp ≡ sp
     → has v.regs.ccr interrupts_masked ≡ false → has u.regs.ccr interrupts_masked ≡ false
     → Execution (IsFastStep image flags) ds v u → IsInFast image u → decode_at u.mem u.regs.pc ≡ Ok Rti
     → Stretch (Kept image false flags sp) flags (all_steps ds + 1) (length ds + 1) v (after_plain flags Rti u)
@@ -111,7 +122,8 @@ tail_at laws image flags sp ds v u hf sv su mv mu e inside returns =
     (rti_at laws image flags sp u (begins image false sp u inside su mu) returns)
 
 -- the run, from its first instruction and the others
-run_of : StepLaws → (b : Block) (image : List ℕ) (flags : ℕ) (bytes : List ℕ) (before : ℕ → ℕ) (s v u : State) (ds : List ℕ)
+run_of : StepLaws → (b : Block) (image : List ℕ) (flags : ℕ) (bytes : List ℕ) (before : ℕ → ℕ) (s v u : State)
+    (ds : List ℕ)
     → IsFastStack s.regs.sp → has s.regs.ccr interrupts_masked ≡ true
     → Stretch (Kept image true flags s.regs.sp) flags 1 1 s v
     → Stretch (Kept image false flags s.regs.sp) flags (all_steps ds + 1) (length ds + 1) v (after_plain flags Rti u)
@@ -124,10 +136,14 @@ run_of laws b image flags bytes before s v u ds room masked first tail r d is =
     let there : stepped flags s ≡ v = first.goes in
     let each : Before (IsOpenState image flags sp) flags further (stepped flags s) =
     subst (Before (IsOpenState image flags sp) flags further) (sym there)
-    (before_weaker (Kept image false flags sp) (IsOpenState image flags sp) flags (open_state image flags sp) further v tail.each) in
+    (before_weaker (Kept image false flags sp) (IsOpenState image flags sp) flags (open_state image flags sp) further v
+    tail.each) in
     let goes : uninterrupted flags (suc further) s ≡ t = ap (uninterrupted flags further) there ∙ tail.goes in
-    let all : Before (IsFastState image flags sp) flags (suc further) s =
-    (first.each.0.0, before_weaker (IsOpenState image flags sp) (IsFastState image flags sp) flags (λ w p. p.state) further (stepped flags s) each) in
+    let all : Before (IsFastState image flags sp) flags (suc further) s = (
+      first.each.0.0,
+      before_weaker (IsOpenState image flags sp) (IsFastState image flags sp) flags
+          (λ w p. p.state) further (stepped flags s) each,
+    ) in
     let keeps = (let k = laws.writes in steps_keep k.writes_stay image flags sp (suc further) s all) in
     let kept_at : (at : ℕ) → is_kept at ≡ true → slice_index t.mem at ≡ slice_index s.mem at =
     λ at k. ap (λ (w : State). slice_index w.mem at) (sym goes) ∙ keeps.1 at k in
@@ -171,12 +187,14 @@ fast_steps_return laws b image flags bytes before s u hf opens entered r = by r.
     decoded : decode_at s.mem s.regs.pc ≡ Ok (Andcc 0xEF)
     decoded =
         (let inside = entered.inside in
-        ap (decode_at s.mem) entered.pc ∙ same_decode image image s.mem fast_layout.code (Andcc 0xEF) (λ at lo hi. refl) inside.rom
+        ap (decode_at s.mem) entered.pc
+        ∙ same_decode image image s.mem fast_layout.code (Andcc 0xEF) (λ at lo hi. refl) inside.rom
         (subst (λ (n : ℕ). Each (IsIn fast_code) (six_from n)) entered.pc inside.code) opens)
 
     by : (es : List ℕ) → r.ds ≡ es → Execution (IsFastStep image flags) es s u
         → (t : State) × IsFastRun b image flags bytes before s t
-    by [] is e = absurd (none (has s.regs.ccr interrupts_masked) masked (ap (λ (w : State). has w.regs.ccr interrupts_masked) e ∙ r.unmasked))
+    by [] is e = absurd (none (has s.regs.ccr interrupts_masked) masked
+        (ap (λ (w : State). has w.regs.ccr interrupts_masked) e ∙ r.unmasked))
     by (d ∷ ds) is e =
         let v = e.0 in
         let h : IsFastStep image flags d s v = e.1.0 in
@@ -185,5 +203,6 @@ fast_steps_return laws b image flags bytes before s u hf opens entered r = by r.
         let first : Stretch (Kept image true flags s.regs.sp) flags 1 1 s v =
         subst (λ (k : ℕ). Stretch (Kept image true flags s.regs.sp) flags (suc k) 1 s v) short
         (instruction_at laws image true flags s.regs.sp d s v hf start h.instruction h.stack) in
-        let tail = tail_at laws image flags s.regs.sp ds v u hf h.stack r.stack h.unmasked r.unmasked e.1.1 r.inside r.returns in
+        let tail = tail_at laws image flags s.regs.sp ds v u hf h.stack r.stack h.unmasked r.unmasked e.1.1 r.inside
+        r.returns in
         (after_plain flags Rti u, run_of laws b image flags bytes before s v u ds room masked first tail r d is)

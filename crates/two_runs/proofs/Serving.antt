@@ -1,5 +1,6 @@
 -- An outer request is quiet.
-use Rattle.std.proofs.Common.{◌≡◌, ℕ, ◌<◌, ◌≤◌, nat_le, nat_lt, ◌&&◌, ◌||◌, Bool, true, false, Option, None, Some, List, [], length, refl, sym, ◌∙◌, inl, inr, arith}
+use Rattle.std.proofs.Common.{◌≡◌, ℕ, ◌<◌, ◌≤◌, nat_le, nat_lt, ◌&&◌, ◌||◌, Bool, true, false, Option, None, Some, List}
+use Rattle.std.proofs.Common.{[], length, refl, sym, ◌∙◌, inl, inr, arith}
 use Rattle.std.proofs.lemmas.Bool.{or_parts, cases_lt}
 use Rattle.std.proofs.lemmas.Bool.Decides.{nat_tests}
 use Rattle.cpu12_isa.specs.Agreement.{Agree}
@@ -51,7 +52,8 @@ left Free u v slow off stays same = stays (same refl) ∙ sym (same refl)
 left OnStack u v slow off stays same = absurd slow
 
 pub outer_serves : WritesAreQuiet → OuterIsQuiet → OuterServes
-outer_serves quiet runs b image flags most before q v s hf few_in few_out can servable ascend room begins slow = by q.sample servable
+outer_serves quiet runs b image flags most before q v s hf few_in few_out can servable ascend room begins slow =
+    by q.sample servable
   where
     by : (sample : Option (List ℕ)) → IsServable b image flags most before v sample
         → Quiet is_open_to_fast (served_by flags (length b.outputs) most q.inner sample v) v s
@@ -60,7 +62,8 @@ outer_serves quiet runs b image flags most before q v s hf few_in few_out can se
         (let fast : RunsFast b image flags most before v bytes = h.1 in
         let ran = fast_run flags (length b.outputs) most q.inner (entered bytes v) in
         let k : IsQuietRun b bytes before v ran =
-        runs b image bytes flags most before q.inner v fast.behind hf few_in few_out h.0 can ascend fast.run fast.within in
+        runs b image bytes flags most before q.inner v fast.behind hf few_in few_out h.0 can ascend fast.run
+        fast.within in
         record {
           regs = k.regs;
           temps = left s.temps ran.state.temps v.temps slow k.off k.free begins.free;

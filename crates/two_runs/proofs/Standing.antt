@@ -39,7 +39,8 @@ code_stays image m n alike h = record {
 }
 
 pub outputs_stay : (b : Block) (answers : ℕ → ℕ) (m n : List ℕ) → length b.outputs ≤ 8
-    → AreOpenAlike is_open_to_fast m n → HasAnswers fast_layout b Byte answers m → HasAnswers fast_layout b Byte answers n
+    → AreOpenAlike is_open_to_fast m n → HasAnswers fast_layout b Byte answers m
+    → HasAnswers fast_layout b Byte answers n
 outputs_stay b answers m n few alike h o from to =
     let at = fast_layout.outputs + 1 * (o - 1) in
     let r = h o from to in

@@ -1,5 +1,6 @@
 -- The parts of WAV are steps of the fast code.
-use Rattle.std.proofs.Common.{◌≡◌, ℕ, zero, suc, ◌^◌, ◌<◌, Bool, false, Result, Ok, List, ◌++◌, length, refl, ap, ap₂, sym, ◌∙◌, subst, inl, inr, arith}
+use Rattle.std.proofs.Common.{◌≡◌, ℕ, zero, suc, ◌^◌, ◌<◌, Bool, false, Result, Ok, List, ◌++◌, length, refl, ap, ap₂}
+use Rattle.std.proofs.Common.{sym, ◌∙◌, subst, inl, inr, arith}
 use Rattle.std.specs.Prelude.{slice_index}
 use Rattle.cpu12_isa.specs.declared.instr.Instr.TheVariants.{Wav}
 use Rattle.cpu12_isa.specs.Act.{outcome, read_by, write_all}
@@ -52,7 +53,8 @@ part_kept : SumLaws → (image : List ℕ) (masked : Bool) (flags sp : ℕ) (s :
     → AllShown (is_foreign sp) (read_by (step_act flags s.regs s.temps) s.mem) → AreSumsReady is_open_inside s s.temps
     → Kept image masked flags sp s
 part_kept laws image masked flags sp s c goes reads ready =
-    kept image masked flags sp s (left_of (part_of wav flags s)) c goes (let e = sp_stays laws flags s in omega (arith, e, c.stack)) reads
+    kept image masked flags sp s (left_of (part_of wav flags s)) c goes
+    (let e = sp_stays laws flags s in omega (arith, e, c.stack)) reads
     (subst (λ (ws : List (ℕ × ℕ)). AllShown is_kept (addresses ws)) (sym (laws.writes flags s)) tt) ready
 
 -- the state after a part that goes on
@@ -95,9 +97,11 @@ sum_kept laws image masked flags sp s c reads =
     let is = laws.sums_are_step flags s c.product c.weight c.running in
     let stands = c.stands in
     let shown : is_hidden is_open_inside s.regs.sp s.regs.pc ≡ false =
-    ap (λ (n : ℕ). is_hidden is_open_inside n s.regs.pc) stands.stack ∙ own_shown sp s.regs.pc (let r = stands.room in omega (arith, r.1)) c.own in
+    ap (λ (n : ℕ). is_hidden is_open_inside n s.regs.pc) stands.stack
+    ∙ own_shown sp s.regs.pc (let r = stands.room in omega (arith, r.1)) c.own in
     part_kept laws image masked flags sp s stands is.0 (subst (AllShown (is_foreign sp)) (sym is.1) reads)
-    (subst (λ (u : Temps). AreSumsReady is_open_inside s u) (sym c.running) (c.product_fits, c.weight_fits, c.code, shown))
+    (subst (λ (u : Temps). AreSumsReady is_open_inside s u) (sym c.running)
+    (c.product_fits, c.weight_fits, c.code, shown))
 
 sum_goes : SumLaws → (image : List ℕ) (masked : Bool) (flags sp : ℕ) (s : State) → Summing image masked sp s
     → next_of flags s ≡ kinded flags s (part_of wav flags s).end
@@ -105,7 +109,8 @@ unfolding kinded
 sum_goes laws image masked flags sp s c =
     ap (λ (x : Result Left ℕ). applied x s.mem) (laws.sums_are_step flags s c.product c.weight c.running).0
 
-sums_at : SumLaws → (image : List ℕ) (masked : Bool) (flags sp : ℕ) (none : ℕ → Bool) (d : ℕ) (s t : State) → flags < 2 ^ 8
+sums_at : SumLaws → (image : List ℕ) (masked : Bool) (flags sp : ℕ) (none : ℕ → Bool) (d : ℕ) (s t : State)
+    → flags < 2 ^ 8
     → Summing image masked sp s → PartsTo wav flags (is_foreign sp) none d s t
     → Stretch (Kept image masked flags sp) flags (suc d) 1 s t
 unfolding kinded
@@ -136,27 +141,34 @@ unfolding kinded
 average_at laws opcode image masked flags sp none d s t hf c decoded h = by d h
   where
     is : (outcome (step_act flags s.regs s.temps) s.mem ≡ Ok (left_of (part_of wav flags s)))
-        × (read_by (step_act flags s.regs s.temps) s.mem ≡ six_from s.regs.pc ++ read_by (wav.act flags s.regs s.temps) s.mem)
+        × (read_by (step_act flags s.regs s.temps) s.mem ≡ six_from s.regs.pc
+        ++ read_by (wav.act flags s.regs s.temps) s.mem)
     is = laws.first_is_step flags s c.off decoded
 
     here : AllShown (is_foreign sp) (read_by (wav.act flags s.regs s.temps) s.mem) → Kept image masked flags sp s
     here reads =
         part_kept laws image masked flags sp s c.stands is.0
-        (subst (AllShown (is_foreign sp)) (sym is.1) (shown_append (is_foreign sp) (six_from s.regs.pc) (read_by (wav.act flags s.regs s.temps) s.mem) (code_own sp (six_from s.regs.pc) c.code) reads))
+        (subst (AllShown (is_foreign sp)) (sym is.1)
+        (shown_append (is_foreign sp) (six_from s.regs.pc) (read_by (wav.act flags s.regs s.temps) s.mem)
+        (code_own sp (six_from s.regs.pc) c.code) reads))
         (off_ready s s.temps c.off)
 
     goes : next_of flags s ≡ kinded flags s (part_of wav flags s).end
     goes = ap (λ (x : Result Left ℕ). applied x s.mem) is.0
 
-    by : (n : ℕ) → PartsTo wav flags (is_foreign sp) none n s t → Stretch (Kept image masked flags sp) flags (suc n) 1 s t
+    by : (n : ℕ) → PartsTo wav flags (is_foreign sp) none n s t
+        → Stretch (Kept image masked flags sp) flags (suc n) 1 s t
     by zero h =
         subst (λ (u : State). Stretch (Kept image masked flags sp) flags 1 1 s u) (sym h.2)
-        (one_stretch (Kept image masked flags sp) flags LastPart s (after_part wav flags s) refl (here h.0.0) (goes ∙ ap (kinded flags s) h.1))
+        (one_stretch (Kept image masked flags sp) flags LastPart s (after_part wav flags s) refl (here h.0.0)
+        (goes ∙ ap (kinded flags s) h.1))
     by (suc n) h =
         let u = after_part wav flags s in
         let second = second_of s.temps s.regs.pc c.off in
-        let byte : slice_index s.mem (plus s.regs.pc 1) ≡ 60 = (opcode (bytes_at s.mem (six_from s.regs.pc)) Wav decoded).1.0 in
+        let byte : slice_index s.mem (plus s.regs.pc 1) ≡ 60 =
+        (opcode (bytes_at s.mem (six_from s.regs.pc)) Wav decoded).1.0 in
         let shown = code_own sp (six_from s.regs.pc) c.code in
-        let next = next_sums laws image masked flags sp (plus s.regs.pc 1) s hf c.stands (off_fits s.temps c.off) second byte shown.1.0 h.1 in
+        let next = next_sums laws image masked flags sp (plus s.regs.pc 1) s hf c.stands
+        (off_fits s.temps c.off) second byte shown.1.0 h.1 in
         part_stretch (Kept image masked flags sp) flags (suc n) s u t (here h.0.0) (goes ∙ ap (kinded flags s) h.1)
         (sums_at laws image masked flags sp none n u t hf next h.2)

@@ -50,12 +50,15 @@ answers_told b most number before bytes r few le h = record {
     place o = omega arith
 
 -- what is read off the run without inner requests
-pub read_off : (b : Block) (two : Two) (flags most : ℕ) (fast : List (List ℕ)) (l : Level) (before : ℕ → ℕ) (v t : State)
+pub read_off : (b : Block) (two : Two) (flags most : ℕ) (fast : List (List ℕ)) (l : Level) (before : ℕ → ℕ)
+    (v t : State)
     → 1 ≤ l.fast → l.fast ≤ length fast
-    → (r : IsFastRun b (image_memory two.image.bytes) flags (bytes_of fast l.fast) before (entered (bytes_of fast l.fast) v) t)
+    → (r : IsFastRun b (image_memory two.image.bytes) flags (bytes_of fast l.fast) before
+    (entered (bytes_of fast l.fast) v) t)
     → FollowsInside flags (length b.outputs) most l.inner.items (suc r.further) (entered (bytes_of fast l.fast) v)
     → IsReadOff b two flags fast l
-    (seen_of l.fast (length b.outputs) (fast_run flags (length b.outputs) most l.inner.items (entered (bytes_of fast l.fast) v)))
+    (seen_of l.fast (length b.outputs)
+    (fast_run flags (length b.outputs) most l.inner.items (entered (bytes_of fast l.fast) v)))
 read_off b two flags most fast l before v t from to r inside = let follows = inside.follows in record {
   number = refl;
   from = from;

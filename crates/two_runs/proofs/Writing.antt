@@ -1,5 +1,6 @@
 -- The writes of a sample's bytes, and the bytes of its answers, one after the other.
-use Rattle.std.proofs.Common.{◌≡◌, ℕ, zero, suc, ◌+◌, ◌<◌, ◌-◌, List, [], ◌∷◌, ◌++◌, length, get_or, take, drop, ap, sym, ◌∙◌, arith, append_assoc, append-nil}
+use Rattle.std.proofs.Common.{◌≡◌, ℕ, zero, suc, ◌+◌, ◌<◌, ◌-◌, List, [], ◌∷◌, ◌++◌, length, get_or, take, drop, ap}
+use Rattle.std.proofs.Common.{sym, ◌∙◌, arith, append_assoc, append-nil}
 use Rattle.std.proofs.lemmas.List.{drop_all}
 use Rattle.cpu12_isa.specs.declared.instr.Write.{Write}
 use Rattle.cpu12_isa.specs.Act.{write_all}
@@ -19,7 +20,8 @@ entered_with ws bytes k next s all pairs =
     let v : State = pushed (suspended wav s) in
     let none : drop k bytes ≡ [] = drop_all k bytes (omega arith) in
     let put : pairs_of (take (length bytes) ws) ≡ placed fast_layout.inputs bytes =
-    ap (λ j. pairs_of (take j ws)) (sym all) ∙ sym (append-nil (pairs_of (take k ws))) ∙ ap (λ l. pairs_of (take k ws) ++ placed next l) (sym none) ∙ pairs in
+    ap (λ j. pairs_of (take j ws)) (sym all) ∙ sym (append-nil (pairs_of (take k ws)))
+    ∙ ap (λ l. pairs_of (take k ws) ++ placed next l) (sym none) ∙ pairs in
     ap (λ (ps : List (ℕ × ℕ)). vectored (record v { mem = write_all ps v.mem })) put
 
 -- one byte more

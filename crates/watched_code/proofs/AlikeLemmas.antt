@@ -31,11 +31,13 @@ segments_by inputs outputs flat =
     ∷ (weight_segments main_layout.weights flat.form flat.weights
     ++ segment main_layout.rules (rule_bytes_by main_layout.slots flat.form flat.conjunctions) ∷ [])
 
-same_segments : (p q : Block) → IsSameBlock p q → flat_of p ≡ flat_of q → segments_of main_layout p ≡ segments_of main_layout q
+same_segments : (p q : Block) → IsSameBlock p q → flat_of p ≡ flat_of q
+    → segments_of main_layout p ≡ segments_of main_layout q
 unfolding flat_of
 same_segments p q says flat = λ i. segments_by (says.inputs i) (says.outputs i) (flat i)
 
-same_watched : ItemsAreOne → (p q : Block) → IsSameBlock p q → segments_of main_layout p ≡ segments_of main_layout q → watched_items p ≡ watched_items q
+same_watched : ItemsAreOne → (p q : Block) → IsSameBlock p q → segments_of main_layout p ≡ segments_of main_layout q
+    → watched_items p ≡ watched_items q
 same_watched items p q says segments =
     let layout : watched_layout p ≡ watched_layout q =
     (λ i. watched_layout_over main_layout (says.outputs i) (segments i)) in
@@ -48,4 +50,5 @@ same_watched items p q says segments =
 pub one_watched_image : LayoutsAreOne → ItemsAreOne → ImagesAreOne → WatchedFirmwaresAreOne
 one_watched_image layouts items images p q f g says of_p of_q =
     let same = same_watched items p q says (same_segments p q says (layouts.layout p q says)) in
-    images (watched_items q) f.image g.image (subst (λ (xs : List Item). IsImageOf xs f.image) same of_p.image) of_q.image
+    images (watched_items q) f.image g.image
+    (subst (λ (xs : List Item). IsImageOf xs f.image) same of_p.image) of_q.image

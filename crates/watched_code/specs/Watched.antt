@@ -1,5 +1,6 @@
 -- The firmware of a block whose tables are watched, and what it answers while a byte of them is upset.
-use Rattle.std.specs.Prelude.{◌≡◌, ◌≢◌, ℕ, ◌+◌, ◌*◌, ◌^◌, ◌<◌, ◌≤◌, ◌==◌, not, Bool, true, false, List, [], ◌∷◌, ◌++◌, length, sum_by, All, Option, Some, None, slice_index, slice_set, if◌then◌else◌}
+use Rattle.std.specs.Prelude.{◌≡◌, ◌≢◌, ℕ, ◌+◌, ◌*◌, ◌^◌, ◌<◌, ◌≤◌, ◌==◌, not, Bool, true, false, List, [], ◌∷◌, ◌++◌}
+use Rattle.std.specs.Prelude.{length, sum_by, All, Option, Some, None, slice_index, slice_set, if◌then◌else◌}
 use Rattle.fz_num.specs.declared.dec.Dec.{Dec}
 use Rattle.fuzzy_meaning.specs.declared.block.Block.{Block}
 use Rattle.fuzzy_meaning.specs.declared.block.Output.{Output}
@@ -86,7 +87,8 @@ abbrev pub default_of : Option Output → ℕ → ℕ
 default_of None before = before
 default_of (Some o) before = default_or o o.default before
 
--- what output o answers to a sample, after the answer before: the block's answer, but where a byte is upset the default
+-- what output o answers to a sample, after the answer before: the block's answer, but the default where a byte is
+-- upset
 abbrev pub watched_answer : Block → List ℕ → Watched → ℕ → ℕ → ℕ
 watched_answer b image x o before =
     if is_upset image x.change then default_of (output_at b o) before else answer Byte b o x.bytes before
@@ -122,7 +124,8 @@ abbrev pub AreWatchAnswered : Layout → Block → ℕ → List ℕ → ℕ → 
 AreWatchAnswered l b most image flags before [] s = Unit {0}
 AreWatchAnswered l b most image flags before (x ∷ xs) s =
     (t : State) × (IsWatchAnswered l b most image flags before x s t
-    × AreWatchAnswered l b most image flags (λ o. watched_answer b image x o (before o)) xs (restored image x.change t))
+    × AreWatchAnswered l b most image flags (λ o. watched_answer b image x o (before o)) xs
+    (restored image x.change t))
 
 -- A firmware answers every list of samples so from reset, whatever the open flags are, with a byte of its tables
 -- changed in each of them or in none.

@@ -1,5 +1,6 @@
 -- The code that checks a firmware's tables before EVAL.
-use Rattle.std.specs.Prelude.{ℕ, ◌+◌, ◌-◌, ◌^◌, ◌<◌, ◌≤◌, List, [], ◌∷◌, ◌++◌, length, flat_map, Option, Some, None, option_map}
+use Rattle.std.specs.Prelude.{ℕ, ◌+◌, ◌-◌, ◌^◌, ◌<◌, ◌≤◌, List, [], ◌∷◌, ◌++◌, length, flat_map, Option, Some, None}
+use Rattle.std.specs.Prelude.{option_map}
 use Rattle.fuzzy_meaning.specs.declared.block.Block.{Block}
 use Rattle.fuzzy_meaning.specs.declared.block.Output.{Output}
 use Rattle.byte_scaling.specs.Cells.{nearest_byte}
@@ -7,7 +8,8 @@ use Rattle.rule_layout.specs.declared.flat.Form.{Form}
 use Rattle.rule_layout.specs.declared.flat.Form.TheVariants as form
 use Rattle.rule_layout.specs.Layouts.{form_of, weights_of}
 use Rattle.cpu12_isa.specs.declared.instr.Instr.{Instr}
-use Rattle.cpu12_isa.specs.declared.instr.Instr.TheVariants.{LdabImmediate, LdxImmediate, StabExtended, ClrExtended, CpxImmediate, Bne, Rts, AddbImmediate, AddbPostIncrementX}
+use Rattle.cpu12_isa.specs.declared.instr.Instr.TheVariants.{LdabImmediate, LdxImmediate, StabExtended, ClrExtended}
+use Rattle.cpu12_isa.specs.declared.instr.Instr.TheVariants.{CpxImmediate, Bne, Rts, AddbImmediate, AddbPostIncrementX}
 use Rattle.eval_code.specs.declared.layout.Layout.{Layout}
 use Rattle.watched_code.specs.declared.segments.Segment.{Segment}
 use Rattle.eval_code.specs.Layouts.{main_layout}

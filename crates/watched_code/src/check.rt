@@ -2,7 +2,8 @@
 ghost use Rattle.std.specs.Prelude.{◌≡◌, ◌+◌, ◌^◌, ◌<◌, ◌≤◌, ◌∷◌, ◌++◌, length, All, IfOk, OnOk};
 ghost use Rattle.fuzzy_meaning.specs.Blocks.{IsValidOutput};
 ghost use Rattle.cpu12_isa.specs.declared.instr.Instr.TheVariants as Instr;
-ghost use Rattle.watched_code.specs.WatchedCode.{AreSegments, bad_code, check_code, code_length, defaults_code, segments_code, watched_front_over};
+ghost use Rattle.watched_code.specs.WatchedCode.{AreSegments, bad_code, check_code, code_length, defaults_code};
+ghost use Rattle.watched_code.specs.WatchedCode.{segments_code, watched_front_over};
 
 use crate::segments::{Segment, check_byte};
 use byte_scaling::near;

@@ -15,8 +15,8 @@ use Rattle.codegen.specs.declared.firmware.Firmware.{Firmware}
 use Rattle.eval_code.specs.declared.layout.Layout.{Layout}
 use Rattle.codegen.specs.Interruptible.{IsInterruptible}
 use Rattle.watched_code.specs.Watched.{Change, changed, restored, IsTableChange}
-use Rattle.fz_run.specs.Facts.{HasImageBytes, WaitsAlone}
-use Rattle.fz_run.proofs.Algebra.{at_stack}
+use Rattle.instruction_steps.specs.Facts.{HasImageBytes, WaitsAlone}
+use Rattle.instruction_steps.proofs.Algebra.{at_stack}
 use Rattle.watched_runs.specs.Samples.{change_of}
 
 not_none : (o : Option ℕ) → is_there o ≡ true → o ≢ None

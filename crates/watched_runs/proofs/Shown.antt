@@ -58,7 +58,8 @@ pub row_is : (f : Firmware) (x : Watched) (t : Tally (Unit {0})) (end : State) (
       frames = frames_seen t.frames.items;
     } → answers ≡ answers_in f end → fault ≡ slice_index end.mem fault_at → bytes ≡ x.bytes
     → ◌≡◌ {A = FaultSeen} (record { row = row; fault = fault })
-    (shown_by (λ (r : RowSeen Watched) (told : List (Unit {0})). fault_seen f.outputs r) (watched_parts f).answers (counted_at (λ (u : Unit {0}). u) t end) x)
+    (shown_by (λ (r : RowSeen Watched) (told : List (Unit {0})). fault_seen f.outputs r) (watched_parts f).answers
+    (counted_at (λ (u : Unit {0}). u) t end) x)
 unfolding row_with
 row_is f x t end row fault bytes answers by_row by_answers by_fault same_bytes =
     let made : RowSeen (List ℕ) → ℕ → FaultSeen = λ r v. record { row = r; fault = v } in

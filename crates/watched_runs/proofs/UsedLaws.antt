@@ -5,7 +5,7 @@ use Rattle.run_law.specs.Following.{RunsFollow}
 use Rattle.interrupt_plan.specs.Plans.{IsGoodRequest}
 use Rattle.codegen.specs.declared.firmware.Firmware.{Firmware}
 use Rattle.watched_code.specs.Watched.{WatchedAnswers}
-use Rattle.fz_run.specs.Arrival.{ArrivesPlainly}
+use Rattle.run_forms.specs.Arrival.{ArrivesPlainly}
 use Rattle.fz_run.specs.Following.{IsLow, Nothing}
 use Rattle.firmware_ports.specs.Ports.{GivenIsPut}
 use Rattle.fz_run.specs.Given.{RequestsAreGood}

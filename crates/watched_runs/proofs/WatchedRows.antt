@@ -1,5 +1,6 @@
 -- Where whole instructions answer all samples with their upsets, so do the rows under every good plan.
-use Rattle.std.proofs.Common.{◌≡◌, ℕ, suc, ◌+◌, ◌-◌, ◌*◌, ◌^◌, ◌<◌, ◌≤◌, Bool, false, List, [], ◌∷◌, ◌++◌, length, map, take, refl}
+use Rattle.std.proofs.Common.{◌≡◌, ℕ, suc, ◌+◌, ◌-◌, ◌*◌, ◌^◌, ◌<◌, ◌≤◌, Bool, false, List, [], ◌∷◌, ◌++◌, length, map}
+use Rattle.std.proofs.Common.{take, refl}
 use Rattle.std.proofs.Common.{ap, sym, ◌∙◌, subst, arith, inl, inr, ◌⊎◌}
 use Rattle.std.specs.Prelude.{All, slice_index}
 use Rattle.std.proofs.lemmas.List.Elements.{All-cons}
@@ -20,7 +21,8 @@ use Rattle.codegen.specs.Answers.{IsArrived}
 use Rattle.eval_code.specs.Bounds.{steps_by, instruction_bound}
 use Rattle.eval_code.specs.Firing.{AreInputBytes}
 use Rattle.codegen.specs.Interruptible.{is_idle}
-use Rattle.watched_code.specs.Watched.{Watched, changed, restored, upset_given, watched_answer, IsTableChange, IsGoodSample}
+use Rattle.watched_code.specs.Watched.{Watched, changed, restored, upset_given, watched_answer, IsTableChange}
+use Rattle.watched_code.specs.Watched.{IsGoodSample}
 use Rattle.watched_code.specs.Watched.{IsWatchAnswered, AreWatchAnswered, IsWatchedFirmwareOf, watched_bound}
 use Rattle.watched_code.specs.WatchedCode.{fault_at, watched_layout}
 use Rattle.run_law.specs.Forms.{rows_from}

@@ -51,8 +51,10 @@ sound flags f low agree quiet =
       ends = beside.ends;
       quiet = λ done a v s good p may begins own.
           (let facts = p.facts in
-          let shown = facts.shown in
-          (quiet is_free a.writes v s leaves_stack (all_open is_free free_opens a.writes good.free) shown.room begins, tt));
+          let shown = facts.shown in (
+            quiet is_free a.writes v s leaves_stack (all_open is_free free_opens a.writes good.free) shown.room begins,
+            tt,
+          ));
       leaves_open = record {
         gives = λ done x w o. tt;
         leaves = λ done x w o. tt;

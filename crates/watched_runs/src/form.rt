@@ -114,14 +114,17 @@ impl<'a> RunForm<Request, (), WatchedRow> for WithUpsets<'a> {
     }
 
     fn row<M: Mem>(&self, m: &Machine<M>, k: usize, tally: Tally<()>) -> WatchedRow
-        requires sample { k < length (watched_harness self.now.firmware.now self.now.samples.now self.now.upsets.now).samples }
+        requires sample { k
+            < length (watched_harness self.now.firmware.now self.now.samples.now self.now.upsets.now).samples }
         requires few { vec_len tally.told ≤ 10000 }
         ensures { (x : tables.Watched)
-            → slice_get (watched_harness self.now.firmware.now self.now.samples.now self.now.upsets.now).samples k ≡ Some x
+            → slice_get (watched_harness self.now.firmware.now self.now.samples.now self.now.upsets.now).samples k
+            ≡ Some x
             → (watched_harness self.now.firmware.now self.now.samples.now self.now.upsets.now).seen result
             ≡ shown_by (watched_harness self.now.firmware.now self.now.samples.now self.now.upsets.now).shows
             (watched_harness self.now.firmware.now self.now.samples.now self.now.upsets.now).parts.answers
-            (counted_at (watched_harness self.now.firmware.now self.now.samples.now self.now.upsets.now).told tally m.now.state) x }
+            (counted_at (watched_harness self.now.firmware.now self.now.samples.now self.now.upsets.now).told tally
+            m.now.state) x }
     {
         let answers = answers(self.firmware, m);
         WatchedRow {

@@ -1,5 +1,6 @@
 -- What blocks that are drawn have alike, and how long their rule lists are.
-use Rattle.std.proofs.Common.{arith, ◌≡◌, ◌+◌, ◌*◌, ◌/◌, ◌%◌, ◌≤◌, ℕ, zero, suc, List, [], ◌∷◌, ◌++◌, length, map, refl, sym, ap, ◌∙◌}
+use Rattle.std.proofs.Common.{arith, ◌≡◌, ◌+◌, ◌*◌, ◌/◌, ◌%◌, ◌≤◌, ℕ, zero, suc, List, [], ◌∷◌, ◌++◌, length, map, refl}
+use Rattle.std.proofs.Common.{sym, ap, ◌∙◌}
 use Rattle.std.proofs.Common.{length-append}
 use Rattle.std.proofs.lemmas.List.{length-map}
 use Rattle.std.proofs.lemmas.List.Concat.{length-flat_map}
@@ -89,7 +90,8 @@ list_length s e slots [] p = omega arith
 list_length s e slots (r ∷ rs) p =
     let c = conjunction_of slots r (literal false 1 p.0.i ∷ literal false 2 p.0.j ∷ []) in
     let cs = flat_map (rule_conjunctions slots) rs in
-    let one : rule_conjunctions slots r ≡ c ∷ [] = ap (λ x. map (conjunction_of slots r) (spread_of false x)) p.0.condition in
+    let one : rule_conjunctions slots r ≡ c ∷ [] =
+    ap (λ x. map (conjunction_of slots r) (spread_of false x)) p.0.condition in
     let same : flat_map (rule_conjunctions slots) (r ∷ rs) ≡ c ∷ cs = ap (λ (x : List Conjunction). x ++ cs) one in
     let more = marked_more s e c cs in
     let rest = list_length s e slots rs p.1 in

@@ -1,5 +1,6 @@
 -- The block that is drawn: nine terms over each of two inputs, and a rule for each pair of them.
-use Rattle.std.specs.Prelude.{◌≡◌, ℕ, ◌+◌, ◌-◌, ◌*◌, ◌/◌, ◌%◌, ◌==◌, if◌then◌else◌, [], ◌∷◌, length, map, Some, None, slice_get, pos}
+use Rattle.std.specs.Prelude.{◌≡◌, ℕ, ◌+◌, ◌-◌, ◌*◌, ◌/◌, ◌%◌, ◌==◌, if◌then◌else◌, [], ◌∷◌, length, map, Some, None}
+use Rattle.std.specs.Prelude.{slice_get, pos}
 use Rattle.fz_num.specs.declared.dec.Dec.{Dec}
 use Rattle.fuzzy_meaning.specs.Conditions.{is, all, also, end, condition_of}
 use Rattle.fuzzy_meaning.specs.declared.block.Block.{Block}

@@ -1,5 +1,6 @@
 -- A firmware's frame and its reset vector stand in its memory.
-use Rattle.std.proofs.Common.{◌≡◌, ℕ, ◌+◌, ◌<◌, ◌≤◌, false, List, [], ◌∷◌, ◌++◌, length, sym, ap, ◌∙◌, subst, arith, append_assoc, append-nil}
+use Rattle.std.proofs.Common.{◌≡◌, ℕ, ◌+◌, ◌<◌, ◌≤◌, false, List, [], ◌∷◌, ◌++◌, length, sym, ap, ◌∙◌, subst, arith}
+use Rattle.std.proofs.Common.{append_assoc, append-nil}
 use Rattle.fuzzy_meaning.specs.declared.block.Block.{Block}
 use Rattle.rule_layout.specs.Slots.{slots_of}
 use Rattle.cpu12_isa.specs.declared.instr.Instr.{Instr}
@@ -24,12 +25,14 @@ use Rattle.codegen.specs.Calls.{HasRoutine, IsInCode}
 use Rattle.codegen.specs.Settings.{Setting, Stands}
 
 -- the reset vector stands
-pub start_stands : Rises → (image : List ℕ) (front : List Item) (l : Layout) → HasGiven image (given_by (front ++ vector_items l)) → IsRising (front ++ vector_items l)
+pub start_stands : Rises → (image : List ℕ) (front : List Item) (l : Layout)
+    → HasGiven image (given_by (front ++ vector_items l)) → IsRising (front ++ vector_items l)
     → HasBytes image 0xFFFE (bytes_of_word l.code)
 start_stands rises image front l h rise =
     let V = bytes_at 0xFFF2 (bytes_of_word l.interrupt) in
     let E = bytes_at 0xFFFE (bytes_of_word l.code) in
-    let e : front ++ (V ++ E) ≡ (front ++ V) ++ (E ++ []) = sym (append_assoc front V E) ∙ ap (λ (x : List Item). (front ++ V) ++ x) (sym (append-nil E)) in
+    let e : front ++ (V ++ E) ≡ (front ++ V) ++ (E ++ []) = sym (append_assoc front V E)
+    ∙ ap (λ (x : List Item). (front ++ V) ++ x) (sym (append-nil E)) in
     bytes_stand rises image (front ++ vector_items l) (front ++ V) [] 0xFFFE (bytes_of_word l.code) h rise e
 
 -- its frame in three pieces
@@ -44,15 +47,18 @@ pub record FrameBytes (image : List ℕ) (l : Layout) : Type 0 where
 pub frame_bytes : (image : List ℕ) (l : Layout) → HasBytes image l.code (code_bytes (frame_code l)) → FrameBytes image l
 frame_bytes image l h =
     let rest = Rti ∷ [] in
-    let h1 = bytes_back image l.code (code_bytes (start_code l)) (code_bytes (LdaaExtended l.ready ∷ (turn_code l ++ rest))) h in
+    let h1 = bytes_back image l.code (code_bytes (start_code l))
+    (code_bytes (LdaaExtended l.ready ∷ (turn_code l ++ rest))) h in
     let h2 = bytes_back image (l.code + 8) (encode_of (LdaaExtended l.ready)) (code_bytes (turn_code l ++ rest)) h1 in
     record {
-      start = bytes_front image l.code (code_bytes (start_code l)) (code_bytes (LdaaExtended l.ready ∷ (turn_code l ++ rest))) h;
+      start = bytes_front image l.code (code_bytes (start_code l))
+          (code_bytes (LdaaExtended l.ready ∷ (turn_code l ++ rest))) h;
       load = bytes_front image (l.code + 8) (encode_of (LdaaExtended l.ready)) (code_bytes (turn_code l ++ rest)) h1;
       turn = bytes_front image (l.code + 8 + 3) (code_bytes (turn_code l)) (code_bytes rest) h2;
     }
 
-pub has_frame : (c : Setting) → c.open_to c.layout.ready ≡ false → IsFramed c.layout → IsApart c.layout → FrameBytes c.image c.layout → HasFrame c
+pub has_frame : (c : Setting) → c.open_to c.layout.ready ≡ false → IsFramed c.layout → IsApart c.layout
+    → FrameBytes c.image c.layout → HasFrame c
 has_frame c shown f a h =
     let l = c.layout in
     let w = f.started.wait in
@@ -71,11 +77,15 @@ has_frame c shown f a h =
       from = omega arith;
       to = omega arith;
       load = ap (decode_at c.image) w ∙ decode_here c.image (l.code + 8) (LdaaExtended l.ready) tt (omega arith) h.load;
-      rest = subst (λ p. Stands c p (turn_code l)) e3 (stands_of c (l.code + 8 + 3) (turn_code l) (tt, omega arith, (tt, omega arith, (tt, omega arith, (tt, omega arith, tt)))) h.turn (omega arith) (omega arith) (omega arith));
+      rest = subst (λ p. Stands c p (turn_code l)) e3
+          (stands_of c (l.code + 8 + 3) (turn_code l)
+          (tt, omega arith, (tt, omega arith, (tt, omega arith, (tt, omega arith, tt)))) h.turn (omega arith)
+          (omega arith) (omega arith));
     }
 
 -- EVAL and a return behind it
-pub has_routine : (l : Layout) (b : Block) (w : Width) (before : List Instr) (image : List ℕ) → l.wait < l.eval → IsInCode l
+pub has_routine : (l : Layout) (b : Block) (w : Width) (before : List Instr) (image : List ℕ) → l.wait < l.eval
+    → IsInCode l
     → length (slots_of b) ≤ 300 → StandsBetween l b w before (Rts ∷ []) image → HasRoutine l b w image
 has_routine l b w before image above inside few h = record {
   above = above;
@@ -91,4 +101,8 @@ pub frame_calls_and_leaves : FrameCallsAndLeaves
 frame_calls_and_leaves c shown f a h =
     let frame = has_frame c shown f a (frame_bytes c.image c.layout h) in
     let low = f.started.ready in
-    record { calls = λ s l pc sp ready. call_run c s frame low l pc sp ready; leaves = λ s l pc. leave_run c s frame low l pc }
+    record {
+      calls = λ s l pc sp ready. call_run c s frame low l pc sp ready;
+      leaves =
+          λ s l pc. leave_run c s frame low l pc;
+    }

@@ -1,5 +1,6 @@
 -- The firmware of a block answers every list of samples by the byte answer.
-use Rattle.std.proofs.Common.{◌≡◌, ◌⊎◌, inl, inr, Bool, false, ◌≤◌, ℕ, ◌^◌, ◌<◌, List, [], ◌∷◌, length, All, refl, sym, ap, ◌∙◌, subst, arith}
+use Rattle.std.proofs.Common.{◌≡◌, ◌⊎◌, inl, inr, Bool, false, ◌≤◌, ℕ, ◌^◌, ◌<◌, List, [], ◌∷◌, length, All, refl, sym}
+use Rattle.std.proofs.Common.{ap, ◌∙◌, subst, arith}
 use Rattle.fuzzy_meaning.specs.declared.block.Block.{Block}
 use Rattle.fuzzy_meaning.specs.Blocks.{IsValid}
 use Rattle.rule_layout.specs.Layouts.{IsWithinLimits}
@@ -18,7 +19,8 @@ use Rattle.eval_code.specs.Items.{IsApart}
 use Rattle.eval_code.specs.Firing.{AreInputBytes}
 use Rattle.eval_code.specs.Evaluation.{HasBytes, Reads, Writes}
 use Rattle.eval_code.specs.Placed.{IsInOrder, BlockRises, BlockIsShort}
-use Rattle.codegen.specs.Answers.{IsArrivedBeside, AreAnsweredBeside, FirmwareAnswers, LeavesLayout, FreeBytesLeave, FirmwareAnswersBeside, ArrivesAlike, FirmwareArrivesAlike}
+use Rattle.codegen.specs.Answers.{IsArrivedBeside, AreAnsweredBeside, FirmwareAnswers, LeavesLayout, FreeBytesLeave}
+use Rattle.codegen.specs.Answers.{FirmwareAnswersBeside, ArrivesAlike, FirmwareArrivesAlike}
 use Rattle.eval_code.specs.Code.{code_bytes}
 use Rattle.eval_code.proofs.Algebra.{UsedCode, used_bytes}
 use Rattle.codegen.specs.Laws.{LowerLaws}
@@ -43,7 +45,14 @@ main_apart = search arith
 
 main_framed : IsFramed main_layout
 main_framed = record {
-  started = record { low = omega arith; high = omega arith; wait = refl; ready = omega arith; apart = inl (omega arith) };
+  started = record {
+    low = omega arith;
+    high = omega arith;
+    wait = refl;
+    ready = omega arith;
+    apart =
+        inl (omega arith);
+  };
   ready = omega arith;
   samples = refl;
   eval = omega arith;
@@ -93,12 +102,34 @@ main_inside : IsInCode main_layout
 main_inside = record { from = omega arith; to = omega arith }
 
 main_frame_used : UsedCode (frame_code main_layout)
-main_frame_used = (tt, omega arith, (tt, omega arith, (tt, omega arith, (tt, omega arith, (tt, omega arith, (tt, omega arith, (tt, omega arith, (tt, omega arith, (tt, tt, tt)))))))))
+main_frame_used = (
+  tt,
+  omega arith,
+  (
+    tt,
+    omega arith,
+    (
+      tt,
+      omega arith,
+      (tt, omega arith, (tt, omega arith, (tt, omega arith, (tt, omega arith, (tt, omega arith, (tt, tt, tt)))))),
+    ),
+  ),
+)
 
 -- what runs are under that are beside handlers to which these bytes are open
-abbrev over_main : LowerLaws → (open_to : ℕ → Bool) → LeavesLayout open_to main_layout → List ℕ → (flags : ℕ) → flags < 2 ^ 8 → Setting
+abbrev over_main : LowerLaws → (open_to : ℕ → Bool) → LeavesLayout open_to main_layout → List ℕ → (flags : ℕ)
+    → flags < 2 ^ 8 → Setting
 over_main laws open_to leaves image flags fits =
-    record { stays_fit = laws.stays_fit; open_to = open_to; layout = main_layout; shut = main_shut open_to leaves; image = image; flags = flags; fits = fits }
+    record {
+      stays_fit = laws.stays_fit;
+      open_to = open_to;
+      layout = main_layout;
+      shut =
+          main_shut open_to leaves;
+      image = image;
+      flags = flags;
+      fits = fits;
+    }
 
 -- what they stand on, and the first arrival
 record Founded (c : Setting) (b : Block) (w : Width) : Type 0 where
@@ -111,22 +142,28 @@ record Founded (c : Setting) (b : Block) (w : Width) : Type 0 where
 main_in_order : IsInOrder main_layout (frame_code main_layout) (Rts ∷ [])
 main_in_order = search arith
 
-pub main_rises : BlockRises → (b : Block) (w : Width) → IsValid b → IsWithinLimits b → IsRising (firmware_items main_layout b w)
+pub main_rises : BlockRises → (b : Block) (w : Width) → IsValid b → IsWithinLimits b
+    → IsRising (firmware_items main_layout b w)
 main_rises rises b w v limits =
     whole_rises rises main_layout b w (frame_code main_layout) (Rts ∷ []) main_in_order v limits (omega arith)
 
-pub length-main_items : BlockIsShort → (b : Block) (w : Width) → IsValid b → IsWithinLimits b → length (firmware_items main_layout b w) < 2 ^ 32
+pub length-main_items : BlockIsShort → (b : Block) (w : Width) → IsValid b → IsWithinLimits b
+    → length (firmware_items main_layout b w) < 2 ^ 32
 length-main_items short b w v limits =
     whole_is_short short main_layout b w (frame_code main_layout) (Rts ∷ []) v limits (omega arith)
 
-founded : (laws : LowerLaws) → (open_to : ℕ → Bool) (leaves : LeavesLayout open_to main_layout) (b : Block) (w : Width) (image : List (ℕ × ℕ)) (flags : ℕ) (fits : flags < 2 ^ 8)
-    → IsValid b → IsWithinLimits b → Holds image (given_by (firmware_items main_layout b w)) → Founded (over_main laws open_to leaves (image_memory image) flags fits) b w
+founded : (laws : LowerLaws)
+    → (open_to : ℕ → Bool) (leaves : LeavesLayout open_to main_layout) (b : Block) (w : Width) (image : List (ℕ × ℕ))
+    (flags : ℕ) (fits : flags < 2 ^ 8)
+    → IsValid b → IsWithinLimits b → Holds image (given_by (firmware_items main_layout b w))
+    → Founded (over_main laws open_to leaves (image_memory image) flags fits) b w
 founded laws open_to leaves b w image flags fits v limits h =
     let frame = frame_code main_layout in
     let mem = image_memory image in
     let c : Setting = over_main laws open_to leaves mem flags fits in
     let firmware : HasFirmware main_layout b w frame mem =
-    has_firmware laws image main_layout b w frame main_in_order main_apart main_inside (omega arith) (used_bytes frame main_frame_used) (omega arith) (omega arith) v limits h in
+    has_firmware laws image main_layout b w frame main_in_order main_apart main_inside (omega arith)
+    (used_bytes frame main_frame_used) (omega arith) (omega arith) v limits h in
     let fb = frame_bytes mem main_layout firmware.stands.front in
     record {
       samples = record {
@@ -142,19 +179,28 @@ founded laws open_to leaves b w image flags fits v limits h =
       arrived = arrive c b w frame main_framed.started main_apart v fb.start firmware;
     }
 
-arrived_at : (c : Setting) (b : Block) (w : Width) → HasFrame c → (a : Arrived c b w) → IsArrivedBeside c.open_to c.layout c.image c.flags a.t
+arrived_at : (c : Setting) (b : Block) (w : Width) → HasFrame c → (a : Arrived c b w)
+    → IsArrivedBeside c.open_to c.layout c.image c.flags a.t
 arrived_at c b w h a =
     let from = h.from in
     let to = h.to in
     let at = a.home.pc_is in
-    record { way = a.way; wait = at; idle = waits c.layout a.t at a.home.ready_is; interruptible = interruptible_of c a.t a.home.live (omega arith) (omega arith) }
+    record {
+      way = a.way;
+      wait = at;
+      idle = waits c.layout a.t at a.home.ready_is;
+      interruptible =
+          interruptible_of c a.t a.home.live (omega arith) (omega arith);
+    }
 
 -- from the first arrival on, the samples are answered within a bound
 abbrev pub Answers : (ℕ → Bool) → Layout → Block → Width → ℕ → List ℕ → ℕ → List (List ℕ) → Type 0
 Answers open_to l b w most image flags samples =
-    (s : State) × (IsArrivedBeside open_to l image flags s × AreAnsweredBeside open_to l b w most image flags (λ o. 0) samples s)
+    (s : State) × (IsArrivedBeside open_to l image flags s × AreAnsweredBeside open_to l b w most image flags
+    (λ o. 0) samples s)
 
-from_arrival : (c : Setting) (b : Block) (w : Width) (samples : List (List ℕ)) → Founded c b w → All (AreInputBytes b) samples
+from_arrival : (c : Setting) (b : Block) (w : Width) (samples : List (List ℕ)) → Founded c b w
+    → All (AreInputBytes b) samples
     → Answers c.open_to c.layout b w (instruction_bound w b) c.image c.flags samples
 from_arrival c b w samples h all =
     let a = h.arrived in
@@ -171,10 +217,12 @@ firmware_answers_beside laws open_to b f leaves v limits h flags samples fits al
     (from_arrival c b w samples (founded laws open_to mine b w f.image.bytes flags fits v limits h.image.bytes) all))
 
 pub firmware_answers : FirmwareAnswersBeside → FirmwareAnswers
-firmware_answers beside b f v limits h = beside is_free b f (subst (λ (l : Layout). LeavesLayout is_free l) (sym h.layout) free_leaves) v limits h
+firmware_answers beside b f v limits h =
+    beside is_free b f (subst (λ (l : Layout). LeavesLayout is_free l) (sym h.layout) free_leaves) v limits h
 
 -- the arrival over a memory that agrees
-alike : (c : Setting) (b : Block) (w : Width) (mem : List ℕ) → Founded c b w → IsStarted c.layout → ((at : ℕ) → 0xFFFE ≤ at → at < 2 ^ 16 → c.open_to at ≡ false)
+alike : (c : Setting) (b : Block) (w : Width) (mem : List ℕ) → Founded c b w → IsStarted c.layout
+    → ((at : ℕ) → 0xFFFE ≤ at → at < 2 ^ 16 → c.open_to at ≡ false)
     → Agree c.open_to mem c.image → ArrivesAlike c.open_to c.layout c.image mem c.flags
 alike c b w mem h started reset agree =
     let a = h.arrived in
@@ -197,4 +245,5 @@ firmware_arrives_alike laws open_to b f mem flags fits leaves v limits h agree =
     let mine : LeavesLayout open_to main_layout = subst (λ (l : Layout). LeavesLayout open_to l) h.layout leaves in
     let c = over_main laws open_to mine image flags fits in
     subst (λ (l : Layout). ArrivesAlike open_to l image mem flags) (sym h.layout)
-    (alike c b w mem (founded laws open_to mine b w f.image.bytes flags fits v limits h.image.bytes) main_framed.started mine.reset agree)
+    (alike c b w mem (founded laws open_to mine b w f.image.bytes flags fits v limits h.image.bytes) main_framed.started
+    mine.reset agree)

@@ -12,7 +12,9 @@ use Rattle.codegen.proofs.runs.Framing.{Samples, Sampled, sample_run, waits}
 use Rattle.codegen.specs.Frames.{Home}
 use Rattle.codegen.specs.Settings.{Setting}
 
-answered : (c : Setting) (b : Block) (w : Width) (bytes : List ℕ) (before : ℕ → ℕ) (s : State) → Samples c b w → (r : Sampled c b w bytes before (given c.layout bytes s)) → IsAnsweredBeside c.open_to c.layout b w (instruction_bound w b) c.image c.flags before bytes s r.t
+answered : (c : Setting) (b : Block) (w : Width) (bytes : List ℕ) (before : ℕ → ℕ) (s : State) → Samples c b w
+    → (r : Sampled c b w bytes before (given c.layout bytes s))
+    → IsAnsweredBeside c.open_to c.layout b w (instruction_bound w b) c.image c.flags before bytes s r.t
 answered c b w bytes before s h r =
     let lo = h.frame.from in
     let hi = h.frame.to in
@@ -27,8 +29,16 @@ answered c b w bytes before s h r =
       steps = r.steps;
     }
 
-pub are_answered : (c : Setting) (b : Block) (w : Width) (samples : List (List ℕ)) (before : ℕ → ℕ) (s : State) → Samples c b w → Home c b w before s → All (AreInputBytes b) samples → AreAnsweredBeside c.open_to c.layout b w (instruction_bound w b) c.image c.flags before samples s
+pub are_answered : (c : Setting) (b : Block) (w : Width) (samples : List (List ℕ)) (before : ℕ → ℕ) (s : State)
+    → Samples c b w → Home c b w before s → All (AreInputBytes b) samples
+    → AreAnsweredBeside c.open_to c.layout b w (instruction_bound w b) c.image c.flags before samples s
 are_answered c b w [] before s h home all = tt
 are_answered c b w (bytes ∷ samples) before s h home all =
-    let r = sample_run c b w bytes before s h (all 0 bytes (omega arith)) home in
-    (r.t, (answered c b w bytes before s h r, are_answered c b w samples (λ o. answer w b o bytes (before o)) r.t h r.home (λ k d lt. all (suc k) d (omega arith))))
+    let r = sample_run c b w bytes before s h (all 0 bytes (omega arith)) home in (
+      r.t,
+      (
+        answered c b w bytes before s h r,
+        are_answered c b w samples (λ o. answer w b o bytes (before o)) r.t h r.home
+            (λ k d lt. all (suc k) d (omega arith)),
+      ),
+    )

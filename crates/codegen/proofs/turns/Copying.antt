@@ -1,5 +1,6 @@
 -- MAIL is copied while I is 1.
-use Rattle.std.proofs.Common.{◌≡◌, ◌≢◌, ◌⊎◌, inl, inr, ⊎_elim, ℕ, zero, suc, ◌+◌, ◌*◌, ◌<◌, ◌≤◌, Bool, true, false, List, [], ◌∷◌, ◌++◌, length, get_or, set, min, refl, sym, ap, ◌∙◌}
+use Rattle.std.proofs.Common.{◌≡◌, ◌≢◌, ◌⊎◌, inl, inr, ⊎_elim, ℕ, zero, suc, ◌+◌, ◌*◌, ◌<◌, ◌≤◌, Bool, true, false}
+use Rattle.std.proofs.Common.{List, [], ◌∷◌, ◌++◌, length, get_or, set, min, refl, sym, ap, ◌∙◌}
 use Rattle.std.proofs.Common.{subst, arith, get_or-set_same, get_or-set_other}
 use Rattle.std.proofs.lemmas.Bool.Decides.{nat_tests}
 use Rattle.cpu12_isa.specs.declared.instr.Instr.{Instr}
@@ -19,7 +20,8 @@ abbrev Masked : Post → ℕ → State → State → Type 0
 Masked p = IsMaskedStep (mailbox_layout p.n) p.image p.flags
 
 -- one instruction of the copy
-masked_step : (p : Post) (i : Instr) (s t : State) (at q : ℕ) → Lives p.image true s → s.regs.pc ≡ at → Here (free_ctx p) at i → (later : Bool)
+masked_step : (p : Post) (i : Instr) (s t : State) (at q : ℕ) → Lives p.image true s → s.regs.pc ≡ at
+    → Here (free_ctx p) at i → (later : Bool)
     → Went (free_ctx p) later i s t q → Masked p 0 s t
 masked_step p i s t at q l e h later w = record {
   away = λ q. h.off (sym e ∙ q);
@@ -43,18 +45,22 @@ record Moved (p : Post) (n at from to : ℕ) (rest : List Instr) (s : State) : T
   elsewhere : (q : ℕ) → (q < to) ⊎ (to + n ≤ q) → get_or t.mem q 0 ≡ get_or s.mem q 0
 
 -- MOVB
-movb_run : (p : Post) (at from to : ℕ) (s : State) → Lives p.image true s → s.regs.pc ≡ at → Here (free_ctx p) at (MovbExtended from to) → from < 0x1800 → to < 0x1800
+movb_run : (p : Post) (at from to : ℕ) (s : State) → Lives p.image true s → s.regs.pc ≡ at
+    → Here (free_ctx p) at (MovbExtended from to) → from < 0x1800 → to < 0x1800
     → Went (free_ctx p) true (MovbExtended from to) s (after_plain p.flags (MovbExtended from to) s) (at + 6)
 movb_run p at from to s l e h lf lt =
     let lo = h.from in
     let hi = h.to in
     let high = h.high in
-    plain_went (free_ctx p) true true s at (at + 6) (MovbExtended from to) l e lo hi h.decoded refl h.fits (low_shown is_free s.regs.sp from (below from lf) lf, tt) (low_shown is_free _ to (below to lt) lt, tt) (λ at g. inl g) (omega arith, tt) l.stack l.mask (omega arith)
+    plain_went (free_ctx p) true true s at (at + 6) (MovbExtended from to) l e lo hi h.decoded refl h.fits
+    (low_shown is_free s.regs.sp from (below from lf) lf, tt) (low_shown is_free _ to (below to lt) lt, tt)
+    (λ at g. inl g) (omega arith, tt) l.stack l.mask (omega arith)
   where
     below : (q : ℕ) → q < 0x1800 → is_free q ≡ false
     below q lt = grind (arith, nat_tests)
 
-copy_run : (p : Post) (n at from to : ℕ) (rest : List Instr) (s : State) → Lives p.image true s → s.regs.pc ≡ at → Stands (free_ctx p) at (copy_code from to n ++ rest)
+copy_run : (p : Post) (n at from to : ℕ) (rest : List Instr) (s : State) → Lives p.image true s → s.regs.pc ≡ at
+    → Stands (free_ctx p) at (copy_code from to n ++ rest)
     → to + n ≤ from → from + n ≤ 0x1800 → Moved p n at from to rest s
 copy_run p zero at from to rest s l e h apart low =
     let same : at ≡ at + 6 * 0 = omega arith in
@@ -89,34 +95,46 @@ copy_run p (suc n) at from to rest s l e h apart low =
       sp_is = r.sp_is;
       stands = subst (λ (q : ℕ). Stands (free_ctx p) q rest) behind r.stands;
       copied = each r first other;
-      elsewhere = λ q o. r.elsewhere q (⊎_elim (λ x. inl (omega arith)) (λ x. inr (omega arith)) o) ∙ other q (⊎_elim (λ x. omega arith) (λ x. omega arith) o);
+      elsewhere = λ q o. r.elsewhere q (⊎_elim (λ x. inl (omega arith)) (λ x. inr (omega arith)) o)
+          ∙ other q (⊎_elim (λ x. omega arith) (λ x. omega arith) o);
     }
   where
-    each : (r : Moved p n (at + 6) (from + 1) (to + 1) rest (after_plain p.flags (MovbExtended from to) s)) → get_or (set s.mem to (get_or s.mem from 0)) to 0 ≡ get_or s.mem from 0
-        → ((q : ℕ) → q ≢ to → get_or (set s.mem to (get_or s.mem from 0)) q 0 ≡ get_or s.mem q 0) → (k : ℕ) → k < suc n → get_or r.t.mem (to + k) 0 ≡ get_or s.mem (from + k) 0
+    each : (r : Moved p n (at + 6) (from + 1) (to + 1) rest (after_plain p.flags (MovbExtended from to) s))
+        → get_or (set s.mem to (get_or s.mem from 0)) to 0 ≡ get_or s.mem from 0
+        → ((q : ℕ) → q ≢ to → get_or (set s.mem to (get_or s.mem from 0)) q 0 ≡ get_or s.mem q 0) → (k : ℕ) → k < suc n
+        → get_or r.t.mem (to + k) 0 ≡ get_or s.mem (from + k) 0
     each r first other zero lt =
         let a : to + 0 ≡ to = omega arith in
         let b : from + 0 ≡ from = omega arith in
-        ap (λ (q : ℕ). get_or r.t.mem q 0) a ∙ r.elsewhere to (inl (omega arith)) ∙ first ∙ ap (λ (q : ℕ). get_or s.mem q 0) (sym b)
+        ap (λ (q : ℕ). get_or r.t.mem q 0) a ∙ r.elsewhere to (inl (omega arith)) ∙ first
+        ∙ ap (λ (q : ℕ). get_or s.mem q 0) (sym b)
     each r first other (suc k) lt =
         let a : to + suc k ≡ to + 1 + k = omega arith in
         let b : from + suc k ≡ from + 1 + k = omega arith in
-        ap (λ (q : ℕ). get_or r.t.mem q 0) a ∙ r.copied k (omega arith) ∙ other (from + 1 + k) (omega arith) ∙ ap (λ (q : ℕ). get_or s.mem q 0) (sym b)
+        ap (λ (q : ℕ). get_or r.t.mem q 0) a ∙ r.copied k (omega arith) ∙ other (from + 1 + k) (omega arith)
+        ∙ ap (λ (q : ℕ). get_or s.mem q 0) (sym b)
 
 -- ORCC
-set_run : (p : Post) → HasTurn p → (s : State) → IsAt p.image 0xC00D s → Went (free_ctx p) true (Orcc 0x10) s (after_plain p.flags (Orcc 0x10) s) 0xC00F
+set_run : (p : Post) → HasTurn p → (s : State) → IsAt p.image 0xC00D s
+    → Went (free_ctx p) true (Orcc 0x10) s (after_plain p.flags (Orcc 0x10) s) 0xC00F
 set_run p h s at =
     let l = lives_of is_postable false p.image s at.steady in
-    plain_went (free_ctx p) false true s 0xC00D 0xC00F (Orcc 0x10) l at.pc (omega arith) (omega arith) h.rest.1.0.decoded refl (omega arith) tt tt (λ at g. inl g) tt l.stack (masked_on s.regs.ccr.0) (omega (arith, at.pc))
+    plain_went (free_ctx p) false true s 0xC00D 0xC00F (Orcc 0x10) l at.pc (omega arith)
+    (omega arith) h.rest.1.0.decoded refl (omega arith) tt tt (λ at g. inl g) tt l.stack (masked_on s.regs.ccr.0)
+    (omega (arith, at.pc))
 
 -- CLR POSTED
-clear_run : (p : Post) (at : ℕ) (s : State) → Lives p.image true s → s.regs.pc ≡ at → Here (free_ctx p) at (ClrExtended 0x1028)
+clear_run : (p : Post) (at : ℕ) (s : State) → Lives p.image true s → s.regs.pc ≡ at
+    → Here (free_ctx p) at (ClrExtended 0x1028)
     → Went (free_ctx p) true (ClrExtended 0x1028) s (after_plain p.flags (ClrExtended 0x1028) s) (at + 3)
 clear_run p at s l e h =
     let lo = h.from in
     let hi = h.to in
     let high = h.high in
-    plain_went (free_ctx p) true true s at (at + 3) (ClrExtended 0x1028) l e lo hi h.decoded refl h.fits tt (low_shown is_free (min s.regs.sp s.regs.sp) 0x1028 refl (omega arith), tt) (λ at g. inl g) (omega arith, tt) l.stack (ap (λ (m : Bool × Bool). m.0) (masked_four s.regs.ccr false true false false) ∙ l.mask) (omega arith)
+    plain_went (free_ctx p) true true s at (at + 3) (ClrExtended 0x1028) l e lo hi h.decoded refl h.fits tt
+    (low_shown is_free (min s.regs.sp s.regs.sp) 0x1028 refl (omega arith), tt) (λ at g. inl g)
+    (omega arith, tt) l.stack
+    (ap (λ (m : Bool × Bool). m.0) (masked_four s.regs.ccr false true false false) ∙ l.mask) (omega arith)
 
 -- ANDCC
 allow_run : (p : Post) (at : ℕ) (s : State) → Lives p.image true s → s.regs.pc ≡ at → Here (free_ctx p) at (Andcc 0xEF)
@@ -125,14 +143,17 @@ allow_run p at s l e h =
     let lo = h.from in
     let hi = h.to in
     let high = h.high in
-    plain_went (free_ctx p) true false s at (at + 2) (Andcc 0xEF) l e lo hi h.decoded refl h.fits tt tt (λ at g. inl g) tt l.stack (unmasked s.regs.ccr.0) (omega arith)
+    plain_went (free_ctx p) true false s at (at + 2) (Andcc 0xEF) l e lo hi h.decoded refl h.fits tt tt
+    (λ at g. inl g) tt l.stack (unmasked s.regs.ccr.0) (omega arith)
 
-pub copies_run : (p : Post) → HasTurn p → (s : State) → IsAt p.image 0xC00D s → (t : State) × IsCopied (mailbox_layout p.n) p.n p.image p.flags s t
+pub copies_run : (p : Post) → HasTurn p → (s : State) → IsAt p.image 0xC00D s
+    → (t : State) × IsCopied (mailbox_layout p.n) p.n p.image p.flags s t
 copies_run p h s at =
     let few = p.few in
     let s1 = after_plain p.flags (Orcc 0x10) s in
     let w1 = set_run p h s at in
-    let r = copy_run p p.n 0xC00F 0x1020 0x1001 (call_code (mailbox_layout p.n) p.n) s1 w1.lives w1.pc_is h.rest.1.1 (omega arith) (omega arith) in
+    let r = copy_run p p.n 0xC00F 0x1020 0x1001 (call_code (mailbox_layout p.n) p.n) s1 w1.lives w1.pc_is h.rest.1.1
+    (omega arith) (omega arith) in
     let s2 = r.t in
     let m2 = s2.mem in
     let ls = r.lives.size in
@@ -142,8 +163,12 @@ copies_run p h s at =
     let w4 = allow_run p (0xC00F + 6 * p.n + 3) s3 w3.lives w3.pc_is r.stands.1.0 in
     let end : 0xC00F + 6 * p.n + 3 + 2 ≡ 0xC008 + 12 + 6 * p.n = omega arith in
     let sp : s4.regs.sp ≡ 0x2000 = r.sp_is ∙ at.sp in
-    let step3 : Masked p 0 s2 s3 = masked_step p (ClrExtended 0x1028) s2 s3 (0xC00F + 6 * p.n) (0xC00F + 6 * p.n + 3) r.lives r.pc_is r.stands.0 true w3 in
-    let step4 : Masked p 0 s3 s4 = masked_step p (Andcc 0xEF) s3 s4 (0xC00F + 6 * p.n + 3) (0xC00F + 6 * p.n + 3 + 2) w3.lives w3.pc_is r.stands.1.0 false w4 in
+    let step3 : Masked p 0 s2 s3 =
+    masked_step p (ClrExtended 0x1028) s2 s3 (0xC00F + 6 * p.n) (0xC00F + 6 * p.n + 3) r.lives r.pc_is
+    r.stands.0 true w3 in
+    let step4 : Masked p 0 s3 s4 =
+    masked_step p (Andcc 0xEF) s3 s4 (0xC00F + 6 * p.n + 3) (0xC00F + 6 * p.n + 3 + 2) w3.lives w3.pc_is
+    r.stands.1.0 false w4 in
     let kept : (q : ℕ) → q ≢ 0x1028 → get_or s4.mem q 0 ≡ get_or m2 q 0 = λ q ne. get_or-set_other m2 0x1028 q 0 0 ne in (
       s4,
       record {

@@ -1,10 +1,12 @@
 -- The mailbox form's code stands in its memory.
-use Rattle.std.proofs.Common.{◌≡◌, inr, ℕ, zero, suc, ◌+◌, ◌-◌, ◌*◌, ◌^◌, ◌<◌, ◌≤◌, List, [], ◌∷◌, ◌++◌, length, refl, ap, ap₂, ◌∙◌, subst, arith}
+use Rattle.std.proofs.Common.{◌≡◌, inr, ℕ, zero, suc, ◌+◌, ◌-◌, ◌*◌, ◌^◌, ◌<◌, ◌≤◌, List, [], ◌∷◌, ◌++◌, length, refl}
+use Rattle.std.proofs.Common.{ap, ap₂, ◌∙◌, subst, arith}
 use Rattle.fuzzy_meaning.specs.declared.block.Block.{Block}
 use Rattle.fuzzy_meaning.specs.Blocks.{IsValid}
 use Rattle.rule_layout.specs.Layouts.{IsWithinLimits}
 use Rattle.cpu12_isa.specs.declared.instr.Instr.{Instr}
-use Rattle.cpu12_isa.specs.declared.instr.Instr.TheVariants.{LdaaExtended, Beq, Bra, JsrExtended, MovbExtended, Orcc, Rts}
+use Rattle.cpu12_isa.specs.declared.instr.Instr.TheVariants.{LdaaExtended, Beq, Bra, JsrExtended, MovbExtended, Orcc}
+use Rattle.cpu12_isa.specs.declared.instr.Instr.TheVariants.{Rts}
 use Rattle.cpu12_isa.specs.Code.{encode_of}
 use Rattle.cpu12_asm.specs.Items.{IsRising}
 use Rattle.eval_code.specs.declared.width.Width.{Width}
@@ -13,7 +15,8 @@ use Rattle.eval_code.specs.Evaluation.{HasBytes}
 use Rattle.eval_code.specs.Placed.{IsInOrder, BlockRises, BlockIsShort}
 use Rattle.codegen.specs.Mailboxes.{mailbox_layout, copy_code, call_code, mailbox_code, mailbox_items}
 use Rattle.eval_code.specs.Code.{code_bytes}
-use Rattle.eval_code.proofs.Algebra.{length-code, code_size, code_size-append, sizes, sizes_append, UsedCode, used_append, decode_here, bytes_front}
+use Rattle.eval_code.proofs.Algebra.{length-code, code_size, code_size-append, sizes, sizes_append, UsedCode}
+use Rattle.eval_code.proofs.Algebra.{used_append, decode_here, bytes_front}
 use Rattle.eval_code.proofs.Algebra.{bytes_back, sizes_is}
 use Rattle.codegen.proofs.runs.Stepping.{stands_of}
 use Rattle.codegen.proofs.runs.Placing.{whole_rises, whole_is_short}
@@ -23,7 +26,8 @@ use Rattle.codegen.specs.Frames.{IsStarted, start_code}
 use Rattle.codegen.specs.Settings.{Setting, Here, Stands}
 
 -- one copy more
-pub copy_more : (from to n : ℕ) → copy_code from to (suc n) ≡ copy_code from to n ++ MovbExtended (from + n) (to + n) ∷ []
+pub copy_more : (from to n : ℕ)
+    → copy_code from to (suc n) ≡ copy_code from to n ++ MovbExtended (from + n) (to + n) ∷ []
 copy_more from to zero =
     let a : from ≡ from + 0 = omega arith in
     let b : to ≡ to + 0 = omega arith in
@@ -31,7 +35,9 @@ copy_more from to zero =
 copy_more from to (suc n) =
     let a : from + 1 + n ≡ from + suc n = omega arith in
     let b : to + 1 + n ≡ to + suc n = omega arith in
-    ap (λ (is : List Instr). MovbExtended from to ∷ is) (copy_more (from + 1) (to + 1) n ∙ ap₂ (λ (x y : ℕ). copy_code (from + 1) (to + 1) n ++ MovbExtended x y ∷ []) a b)
+    ap (λ (is : List Instr). MovbExtended from to ∷ is)
+    (copy_more (from + 1) (to + 1) n
+    ∙ ap₂ (λ (x y : ℕ). copy_code (from + 1) (to + 1) n ++ MovbExtended x y ∷ []) a b)
 
 -- six bytes a copy
 code_size-copy : (from to n : ℕ) → code_size (copy_code from to n) ≡ 6 * n
@@ -40,7 +46,11 @@ code_size-copy from to (suc n) = omega (arith, code_size-copy (from + 1) (to + 1
 
 pub code_size-mailbox : (n : ℕ) → code_size (mailbox_code (mailbox_layout n) n) ≡ 26 + 6 * n
 code_size-mailbox n =
-    omega (arith, code_size-append (copy_code 0x1020 0x1001 n) (call_code (mailbox_layout n) n), code_size-copy 0x1020 0x1001 n)
+    omega (
+      arith,
+      code_size-append (copy_code 0x1020 0x1001 n) (call_code (mailbox_layout n) n),
+      code_size-copy 0x1020 0x1001 n,
+    )
 
 pub sizes-mailbox : (n : ℕ) → sizes (mailbox_code (mailbox_layout n) n) ≡ 26 + 6 * n
 sizes-mailbox n = sizes_is (mailbox_code (mailbox_layout n) n) ∙ code_size-mailbox n
@@ -64,7 +74,8 @@ mailbox_apart n few = record {
 }
 
 pub mailbox_started : (n : ℕ) → IsStarted (mailbox_layout n)
-mailbox_started n = record { low = omega arith; high = omega arith; wait = refl; ready = omega arith; apart = inr (omega arith) }
+mailbox_started n = record
+    { low = omega arith; high = omega arith; wait = refl; ready = omega arith; apart = inr (omega arith) }
 
 pub mailbox_inside : (n : ℕ) → n ≤ 8 → IsInCode (mailbox_layout n)
 mailbox_inside n few = record { from = omega arith; to = omega arith }
@@ -82,7 +93,8 @@ mailbox_in_order n few =
     }
 
 -- its items can be placed, and are few
-pub mailbox_rises : BlockRises → (b : Block) (w : Width) → IsValid b → IsWithinLimits b → IsRising (mailbox_items (mailbox_layout (length b.inputs)) b w)
+pub mailbox_rises : BlockRises → (b : Block) (w : Width) → IsValid b → IsWithinLimits b
+    → IsRising (mailbox_items (mailbox_layout (length b.inputs)) b w)
 mailbox_rises rises b w v limits =
     let n = length b.inputs in
     let l = mailbox_layout n in
@@ -100,7 +112,8 @@ length-mailbox_items short b w v limits =
 -- the operands fit
 used_copy : (from to n : ℕ) → from + n < 2 ^ 16 → to + n < 2 ^ 16 → UsedCode (copy_code from to n)
 used_copy from to zero f t = tt
-used_copy from to (suc n) f t = (tt, (omega arith, omega arith), used_copy (from + 1) (to + 1) n (omega arith) (omega arith))
+used_copy from to (suc n) f t =
+    (tt, (omega arith, omega arith), used_copy (from + 1) (to + 1) n (omega arith) (omega arith))
 
 used_call : (n : ℕ) → n ≤ 8 → UsedCode (call_code (mailbox_layout n) n)
 used_call n few = (tt, omega arith, (tt, omega arith, (tt, omega arith, (tt, omega arith, (tt, tt, tt)))))
@@ -109,27 +122,46 @@ abbrev turn_code : ℕ → List Instr
 turn_code n = Beq 0xFB ∷ Orcc 0x10 ∷ (copy_code 0x1020 0x1001 n ++ call_code (mailbox_layout n) n)
 
 used_turn : (n : ℕ) → n ≤ 8 → UsedCode (turn_code n)
-used_turn n few =
-    (tt, omega arith, (tt, omega arith, used_append (copy_code 0x1020 0x1001 n) (call_code (mailbox_layout n) n) (used_copy 0x1020 0x1001 n (omega arith) (omega arith)) (used_call n few)))
+used_turn n few = (
+  tt,
+  omega arith,
+  (
+    tt,
+    omega arith,
+    used_append (copy_code 0x1020 0x1001 n) (call_code (mailbox_layout n) n)
+        (used_copy 0x1020 0x1001 n (omega arith) (omega arith)) (used_call n few),
+  ),
+)
 
 pub used_mailbox : (n : ℕ) → n ≤ 8 → UsedCode (mailbox_code (mailbox_layout n) n)
 used_mailbox n few = (tt, omega arith, (tt, omega arith, (tt, omega arith, (tt, omega arith, used_turn n few))))
 
 -- the code of a turn
-pub start_bytes : (p : Post) → HasBytes p.image 0xC000 (code_bytes (mailbox_code (mailbox_layout p.n) p.n)) → HasBytes p.image 0xC000 (code_bytes (start_code (mailbox_layout p.n)))
-start_bytes p h = bytes_front p.image 0xC000 (code_bytes (start_code (mailbox_layout p.n))) (code_bytes (LdaaExtended 0x1028 ∷ turn_code p.n)) h
+pub start_bytes : (p : Post) → HasBytes p.image 0xC000 (code_bytes (mailbox_code (mailbox_layout p.n) p.n))
+    → HasBytes p.image 0xC000 (code_bytes (start_code (mailbox_layout p.n)))
+start_bytes p h = bytes_front p.image 0xC000 (code_bytes (start_code (mailbox_layout p.n)))
+    (code_bytes (LdaaExtended 0x1028 ∷ turn_code p.n)) h
 
 pub has_turn : (p : Post) → HasBytes p.image 0xC000 (code_bytes (mailbox_code (mailbox_layout p.n) p.n)) → HasTurn p
 has_turn p h =
     let few = p.few in
     let h1 : HasBytes p.image 0xC008 (code_bytes (LdaaExtended 0x1028 ∷ turn_code p.n)) =
-    bytes_back p.image 0xC000 (code_bytes (start_code (mailbox_layout p.n))) (code_bytes (LdaaExtended 0x1028 ∷ turn_code p.n)) h in
-    let h2 : HasBytes p.image 0xC00B (code_bytes (turn_code p.n)) = bytes_back p.image 0xC008 (encode_of (LdaaExtended 0x1028)) (code_bytes (turn_code p.n)) h1 in
+    bytes_back p.image 0xC000 (code_bytes (start_code (mailbox_layout p.n)))
+    (code_bytes (LdaaExtended 0x1028 ∷ turn_code p.n)) h in
+    let h2 : HasBytes p.image 0xC00B (code_bytes (turn_code p.n)) =
+    bytes_back p.image 0xC008 (encode_of (LdaaExtended 0x1028)) (code_bytes (turn_code p.n)) h1 in
     let size : sizes (turn_code p.n) ≡ 15 + 6 * p.n =
-    omega (arith, sizes_append (copy_code 0x1020 0x1001 p.n) (call_code (mailbox_layout p.n) p.n), sizes_is (copy_code 0x1020 0x1001 p.n), code_size-copy 0x1020 0x1001 p.n) in
+    omega (
+      arith,
+      sizes_append (copy_code 0x1020 0x1001 p.n) (call_code (mailbox_layout p.n) p.n),
+      sizes_is (copy_code 0x1020 0x1001 p.n),
+      code_size-copy 0x1020 0x1001 p.n,
+    ) in
     record {
-      look = decode_here p.image 0xC008 (LdaaExtended 0x1028) tt (omega arith) (bytes_front p.image 0xC008 (encode_of (LdaaExtended 0x1028)) (code_bytes (turn_code p.n)) h1);
-      rest = stands_of (free_ctx p) 0xC00B (turn_code p.n) (used_turn p.n p.few) h2 (omega arith) (omega arith) (omega arith);
+      look = decode_here p.image 0xC008 (LdaaExtended 0x1028) tt (omega arith)
+          (bytes_front p.image 0xC008 (encode_of (LdaaExtended 0x1028)) (code_bytes (turn_code p.n)) h1);
+      rest = stands_of (free_ctx p) 0xC00B (turn_code p.n) (used_turn p.n p.few) h2 (omega arith) (omega arith)
+          (omega arith);
     }
 
 -- the call and the way back
@@ -140,7 +172,8 @@ stands_back c p (x ∷ xs) ys h =
 
 here_too : (p : Post) (at q : ℕ) (i : Instr) → at ≡ q → Here (free_ctx p) at i → Here (post_ctx p) q i
 here_too p at q i e h =
-    let again : Here (post_ctx p) at i = record { from = h.from; to = h.to; high = h.high; off = h.off; fits = h.fits; decoded = h.decoded } in
+    let again : Here (post_ctx p) at i =
+    record { from = h.from; to = h.to; high = h.high; off = h.off; fits = h.fits; decoded = h.decoded } in
     subst (λ (k : ℕ). Here (post_ctx p) k i) e again
 
 pub record HasCall (p : Post) : Type 0 where
@@ -149,9 +182,13 @@ pub record HasCall (p : Post) : Type 0 where
 
 pub has_call : (p : Post) → HasTurn p → HasCall p
 has_call p h =
-    let size : sizes (copy_code 0x1020 0x1001 p.n) ≡ 6 * p.n = sizes_is (copy_code 0x1020 0x1001 p.n) ∙ code_size-copy 0x1020 0x1001 p.n in
-    let k = stands_back (free_ctx p) 0xC00F (copy_code 0x1020 0x1001 p.n) (call_code (mailbox_layout p.n) p.n) h.rest.1.1 in
+    let size : sizes (copy_code 0x1020 0x1001 p.n) ≡ 6 * p.n = sizes_is (copy_code 0x1020 0x1001 p.n)
+    ∙ code_size-copy 0x1020 0x1001 p.n in
+    let k = stands_back (free_ctx p) 0xC00F (copy_code 0x1020 0x1001 p.n) (call_code (mailbox_layout p.n) p.n)
+    h.rest.1.1 in
     record {
-      call = here_too p (0xC00F + sizes (copy_code 0x1020 0x1001 p.n) + 3 + 2) (0xC014 + 6 * p.n) (JsrExtended (0xC01A + 6 * p.n)) (omega arith) k.1.1.0;
-      back = here_too p (0xC00F + sizes (copy_code 0x1020 0x1001 p.n) + 3 + 2 + 3) (0xC017 + 6 * p.n) (Bra (239 - 6 * p.n)) (omega arith) k.1.1.1.0;
+      call = here_too p (0xC00F + sizes (copy_code 0x1020 0x1001 p.n) + 3 + 2) (0xC014 + 6 * p.n)
+          (JsrExtended (0xC01A + 6 * p.n)) (omega arith) k.1.1.0;
+      back = here_too p (0xC00F + sizes (copy_code 0x1020 0x1001 p.n) + 3 + 2 + 3) (0xC017 + 6 * p.n)
+          (Bra (239 - 6 * p.n)) (omega arith) k.1.1.1.0;
     }

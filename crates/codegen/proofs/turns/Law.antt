@@ -20,14 +20,17 @@ use Rattle.codegen.proofs.turns.Posting.{Post, post_ctx, at_of}
 use Rattle.codegen.proofs.turns.Looking.{look_run, choose_run}
 use Rattle.codegen.proofs.turns.Copying.{copies_run}
 use Rattle.codegen.proofs.turns.Turning.{Turns, turn_run}
-use Rattle.codegen.proofs.turns.Founding.{mailbox_in_order, mailbox_apart, mailbox_started, mailbox_inside, used_mailbox, start_bytes, has_turn, has_call}
+use Rattle.codegen.proofs.turns.Founding.{mailbox_in_order, mailbox_apart, mailbox_started, mailbox_inside}
+use Rattle.codegen.proofs.turns.Founding.{used_mailbox, start_bytes, has_turn, has_call}
 
 -- what its runs are under
 abbrev post_of : LowerLaws → (b : Block) → length b.inputs ≤ 8 → List ℕ → (flags : ℕ) → flags < 2 ^ 8 → Post
-post_of laws b few image flags fits = record { stays_fit = laws.stays_fit; n = length b.inputs; few = few; image = image; flags = flags; fits = fits }
+post_of laws b few image flags fits =
+    record { stays_fit = laws.stays_fit; n = length b.inputs; few = few; image = image; flags = flags; fits = fits }
 
 -- from what stands in memory
-with_code : (laws : LowerLaws) → (b : Block) (w : Width) (image : List ℕ) (flags : ℕ) (fits : flags < 2 ^ 8) → (v : IsValid b) → IsWithinLimits b
+with_code : (laws : LowerLaws) → (b : Block) (w : Width) (image : List ℕ) (flags : ℕ) (fits : flags < 2 ^ 8)
+    → (v : IsValid b) → IsWithinLimits b
     → (let l = mailbox_layout (length b.inputs) in HasFirmware l b w (mailbox_code l (length b.inputs)) image)
     → TakesTurns (mailbox_layout (length b.inputs)) b w (mailbox_bound w b) image flags
 with_code laws b w image flags fits v limits firmware =
@@ -38,18 +41,41 @@ with_code laws b w image flags fits v limits firmware =
     let front = firmware.stands.front in
     let turn = has_turn p front in
     let call = has_call p turn in
-    let turns : Turns p b w = record { apart = mailbox_apart n few; inputs = refl; valid = v; limits = limits; eval_answers = laws.eval_answers; routine = firmware.routine; call = call.call; back = call.back } in
-    let arrived = arrive (post_ctx p) b w (mailbox_code l n) (mailbox_started n) (mailbox_apart n few) v (start_bytes p front) firmware in
+    let turns : Turns p b w =
+    record {
+      apart = mailbox_apart n few;
+      inputs = refl;
+      valid = v;
+      limits = limits;
+      eval_answers =
+          laws.eval_answers;
+      routine = firmware.routine;
+      call = call.call;
+      back = call.back;
+    } in
+    let arrived = arrive (post_ctx p) b w (mailbox_code l n) (mailbox_started n) (mailbox_apart n few) v
+    (start_bytes p front) firmware in
     let home = arrived.home in
     record {
-      arrives = (arrived.t, record { way = arrived.way; at = at_of p 0xC008 arrived.t home.live home.pc_is (omega arith) (omega arith) home.sp_is; cleared = home.ready_is; outputs = home.outs });
+      arrives = (
+        arrived.t,
+        record {
+          way = arrived.way;
+          at =
+              at_of p 0xC008 arrived.t home.live home.pc_is (omega arith) (omega arith) home.sp_is;
+          cleared =
+              home.ready_is;
+          outputs = home.outs;
+        },
+      );
       looks = look_run p turn;
       chooses = choose_run p turn;
       copies = copies_run p turn;
       evaluates = λ bytes before s i at hi ho. turn_run p b w bytes before s turns i at hi ho;
     }
 
-with_items : LowerLaws → (b : Block) (w : Width) (image : List (ℕ × ℕ)) (flags : ℕ) (fits : flags < 2 ^ 8) → IsValid b → IsWithinLimits b
+with_items : LowerLaws → (b : Block) (w : Width) (image : List (ℕ × ℕ)) (flags : ℕ) (fits : flags < 2 ^ 8) → IsValid b
+    → IsWithinLimits b
     → Holds image (given_by (mailbox_items (mailbox_layout (length b.inputs)) b w))
     → TakesTurns (mailbox_layout (length b.inputs)) b w (mailbox_bound w b) (image_memory image) flags
 with_items laws b w image flags fits v limits h =
@@ -58,7 +84,8 @@ with_items laws b w image flags fits v limits h =
     let l = mailbox_layout n in
     let before = mailbox_code l n in
     with_code laws b w (image_memory image) flags fits v limits
-    (has_firmware laws image l b w before (mailbox_in_order n few) (mailbox_apart n few) (mailbox_inside n few) (omega arith) (used_bytes before (used_mailbox n few)) (omega arith) (omega arith) v limits h)
+    (has_firmware laws image l b w before (mailbox_in_order n few) (mailbox_apart n few) (mailbox_inside n few)
+    (omega arith) (used_bytes before (used_mailbox n few)) (omega arith) (omega arith) v limits h)
 
 pub mailbox_takes_posts : LowerLaws → MailboxTakesPosts
 mailbox_takes_posts laws b f v limits h flags fits =

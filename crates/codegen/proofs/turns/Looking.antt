@@ -13,11 +13,15 @@ use Rattle.eval_code.proofs.Algebra.{masked_tested, zero_tested}
 use Rattle.codegen.proofs.runs.Stepping.{low_shown, plain_went}
 use Rattle.codegen.proofs.turns.Posting.{Post, HasTurn, free_ctx, lives_of, at_of}
 
-pub look_run : (p : Post) → HasTurn p → (s : State) → IsAt p.image 0xC008 s → (t : State) × IsLook (mailbox_layout p.n) p.image p.flags s t
+pub look_run : (p : Post) → HasTurn p → (s : State) → IsAt p.image 0xC008 s
+    → (t : State) × IsLook (mailbox_layout p.n) p.image p.flags s t
 look_run p h s at =
     let l = lives_of is_postable false p.image s at.steady in
     let w =
-    plain_went (free_ctx p) false false s 0xC008 0xC00B (LdaaExtended 0x1028) l at.pc (omega arith) (omega arith) h.look refl (omega arith) (low_shown is_free s.regs.sp 0x1028 refl (omega arith), tt) tt (λ at g. inl g) tt l.stack (ap (λ (m : Bool × Bool). m.0) (masked_tested s.regs.ccr _ _) ∙ l.mask) (omega (arith, at.pc)) in (
+    plain_went (free_ctx p) false false s 0xC008 0xC00B (LdaaExtended 0x1028) l at.pc (omega arith)
+    (omega arith) h.look refl (omega arith) (low_shown is_free s.regs.sp 0x1028 refl (omega arith), tt) tt
+    (λ at g. inl g) tt l.stack (ap (λ (m : Bool × Bool). m.0) (masked_tested s.regs.ccr _ _) ∙ l.mask)
+    (omega (arith, at.pc)) in (
       after_plain p.flags (LdaaExtended 0x1028) s,
       record {
         step = w.shown;
@@ -29,7 +33,8 @@ look_run p h s at =
 
 -- to where the code waits, or on
 jump_to : (z : Bool) (pc : ℕ) → pc ≡ 0xC00B
-    → (if z then plus (plus pc 2) (if nat_lt 0xFB 128 then 0xFB else 0xFB + 65280) else plus pc 2) ≡ (if z then 0xC008 else 0xC00D)
+    → (if z then plus (plus pc 2) (if nat_lt 0xFB 128 then 0xFB else 0xFB + 65280) else plus pc 2)
+    ≡ (if z then 0xC008 else 0xC00D)
 jump_to true pc e = omega arith
 jump_to false pc e = omega arith
 
@@ -41,12 +46,20 @@ jump_high : (z : Bool) → (if z then 0xC008 else 0xC00D) + 6 ≤ 0xD000
 jump_high true = omega arith
 jump_high false = omega arith
 
-pub choose_run : (p : Post) → HasTurn p → (s : State) → IsAt p.image 0xC00B s → (t : State) × IsChoice (mailbox_layout p.n) p.image p.flags s t
+pub choose_run : (p : Post) → HasTurn p → (s : State) → IsAt p.image 0xC00B s
+    → (t : State) × IsChoice (mailbox_layout p.n) p.image p.flags s t
 choose_run p h s at =
     let l = lives_of is_postable false p.image s at.steady in
     let z = has s.regs.ccr 2 in
     let w =
-    plain_went (free_ctx p) false false s 0xC00B (if z then 0xC008 else 0xC00D) (Beq 0xFB) l at.pc (omega arith) (omega arith) h.rest.0.decoded refl (omega arith) tt tt (λ at g. inl g) tt l.stack l.mask (jump_to z s.regs.pc at.pc) in (
+    plain_went (free_ctx p) false false s 0xC00B (if z then 0xC008 else 0xC00D) (Beq 0xFB) l at.pc (omega arith)
+    (omega arith) h.rest.0.decoded refl (omega arith) tt tt (λ at g. inl g) tt l.stack l.mask
+    (jump_to z s.regs.pc at.pc) in (
       after_plain p.flags (Beq 0xFB) s,
-      record { step = w.shown; at = at_of p (if z then 0xC008 else 0xC00D) _ w.lives w.pc_is (jump_low z) (jump_high z) at.sp; mem = refl },
+      record {
+        step = w.shown;
+        at =
+            at_of p (if z then 0xC008 else 0xC00D) _ w.lives w.pc_is (jump_low z) (jump_high z) at.sp;
+        mem = refl;
+      },
     )

@@ -65,19 +65,51 @@ postable_shut n = record {
 
 -- up to the copy's end the free bytes are open, from there on the mailbox too
 abbrev pub free_ctx : Post → Setting
-free_ctx p = record { stays_fit = p.stays_fit; open_to = is_free; layout = mailbox_layout p.n; shut = free_shut p.n; image = p.image; flags = p.flags; fits = p.fits }
+free_ctx p = record {
+  stays_fit = p.stays_fit;
+  open_to = is_free;
+  layout = mailbox_layout p.n;
+  shut =
+      free_shut p.n;
+  image = p.image;
+  flags = p.flags;
+  fits = p.fits;
+}
 
 abbrev pub post_ctx : Post → Setting
-post_ctx p = record { stays_fit = p.stays_fit; open_to = is_postable; layout = mailbox_layout p.n; shut = postable_shut p.n; image = p.image; flags = p.flags; fits = p.fits }
+post_ctx p = record {
+  stays_fit = p.stays_fit;
+  open_to = is_postable;
+  layout = mailbox_layout p.n;
+  shut =
+      postable_shut p.n;
+  image = p.image;
+  flags = p.flags;
+  fits = p.fits;
+}
 
 -- the code of a turn stands
 pub record HasTurn (p : Post) : Type 0 where
   pub look : decode_at p.image 0xC008 ≡ Ok (LdaaExtended 0x1028)
-  pub rest : Stands (free_ctx p) 0xC00B (Beq 0xFB ∷ Orcc 0x10 ∷ (copy_code 0x1020 0x1001 p.n ++ call_code (mailbox_layout p.n) p.n))
+  pub rest : Stands (free_ctx p) 0xC00B
+      (Beq 0xFB ∷ Orcc 0x10 ∷ (copy_code 0x1020 0x1001 p.n ++ call_code (mailbox_layout p.n) p.n))
 
 -- what a state keeps
-pub lives_of : (open_to : ℕ → Bool) (masked : Bool) (image : List ℕ) (s : State) → IsSteady open_to masked image s → Lives image masked s
-lives_of open_to masked image s h = record { temps = h.temps; size = h.size; bytes = h.bytes; fits = h.fits; stack = h.stack; mask = h.mask; same = h.same }
+pub lives_of : (open_to : ℕ → Bool) (masked : Bool) (image : List ℕ) (s : State) → IsSteady open_to masked image s
+    → Lives image masked s
+lives_of open_to masked image s h =
+    record {
+      temps = h.temps;
+      size = h.size;
+      bytes = h.bytes;
+      fits = h.fits;
+      stack = h.stack;
+      mask =
+          h.mask;
+      same = h.same;
+    }
 
-pub at_of : (p : Post) (pc : ℕ) (s : State) → Lives p.image false s → s.regs.pc ≡ pc → 0xC000 ≤ pc → pc + 6 ≤ 0xD000 → s.regs.sp ≡ 0x2000 → IsAt p.image pc s
-at_of p pc s l e lo hi sp = record { steady = steady_of (post_ctx p) false s l (omega arith) (omega arith); pc = e; sp = sp }
+pub at_of : (p : Post) (pc : ℕ) (s : State) → Lives p.image false s → s.regs.pc ≡ pc → 0xC000 ≤ pc → pc + 6 ≤ 0xD000
+    → s.regs.sp ≡ 0x2000 → IsAt p.image pc s
+at_of p pc s l e lo hi sp =
+    record { steady = steady_of (post_ctx p) false s l (omega arith) (omega arith); pc = e; sp = sp }

@@ -1,5 +1,6 @@
 -- EVAL is called on the copy, and the code waits again.
-use Rattle.std.proofs.Common.{◌≡◌, inl, inr, ℕ, ◌+◌, ◌-◌, ◌*◌, ◌/◌, ◌%◌, ◌^◌, ◌<◌, ◌≤◌, nat_lt, Bool, false, List, [], ◌∷◌, ◌++◌, length}
+use Rattle.std.proofs.Common.{◌≡◌, inl, inr, ℕ, ◌+◌, ◌-◌, ◌*◌, ◌/◌, ◌%◌, ◌^◌, ◌<◌, ◌≤◌, nat_lt, Bool, false, List, []}
+use Rattle.std.proofs.Common.{◌∷◌, ◌++◌, length}
 use Rattle.std.proofs.Common.{get_or, set, refl, sym, ap, ap₂, ◌∙◌, subst, arith, get_or-set_other}
 use Rattle.std.specs.Prelude.{if◌then◌else◌}
 use Rattle.std.proofs.lemmas.Bool.Decides.{nat_tests}
@@ -48,11 +49,13 @@ back_to n pc few e =
     let far : nat_lt (239 - 6 * n) 128 ≡ false = grind (arith, nat_tests) in
     ap (λ (t : Bool). plus (plus pc 2) (if t then 239 - 6 * n else 239 - 6 * n + 65280)) far ∙ omega arith
 
-bra_run : (p : Post) (s : State) → Live (post_ctx p) s → s.regs.pc ≡ 0xC017 + 6 * p.n → Here (post_ctx p) (0xC017 + 6 * p.n) (Bra (239 - 6 * p.n))
+bra_run : (p : Post) (s : State) → Live (post_ctx p) s → s.regs.pc ≡ 0xC017 + 6 * p.n
+    → Here (post_ctx p) (0xC017 + 6 * p.n) (Bra (239 - 6 * p.n))
     → Next (post_ctx p) s (after_plain p.flags (Bra (239 - 6 * p.n)) s) 0xC008
 bra_run p s l e h =
     let few = p.few in
-    next (post_ctx p) s (0xC017 + 6 * p.n) 0xC008 (Bra (239 - 6 * p.n)) l e h refl h.fits tt tt tt refl refl (back_to p.n s.regs.pc p.few e)
+    next (post_ctx p) s (0xC017 + 6 * p.n) 0xC008 (Bra (239 - 6 * p.n)) l e h refl h.fits tt tt tt refl refl
+    (back_to p.n s.regs.pc p.few e)
 
 -- EVAL is called
 record Entered (p : Post) (s : State) : Type 0 where
@@ -63,14 +66,16 @@ record Entered (p : Post) (s : State) : Type 0 where
   sp_is : t.regs.sp ≡ 0x1FFE
   mem_is : t.mem ≡ set (set s.mem 0x1FFE ((0xC017 + 6 * p.n) / 2 ^ 8)) 0x1FFF ((0xC017 + 6 * p.n) % 2 ^ 8)
 
-enter_run : (p : Post) (s : State) → IsAt p.image (0xC014 + 6 * p.n) s → Here (post_ctx p) (0xC014 + 6 * p.n) (JsrExtended (0xC01A + 6 * p.n)) → Entered p s
+enter_run : (p : Post) (s : State) → IsAt p.image (0xC014 + 6 * p.n) s
+    → Here (post_ctx p) (0xC014 + 6 * p.n) (JsrExtended (0xC01A + 6 * p.n)) → Entered p s
 enter_run p s at h =
     let few = p.few in
     let to = 0xC01A + 6 * p.n in
     let e0 : plus s.regs.sp 65534 ≡ 0x1FFE = omega (arith, at.sp) in
     let e1 : plus s.regs.sp 65535 ≡ 0x1FFF = omega (arith, at.sp) in
     let er : plus s.regs.pc 3 ≡ 0xC017 + 6 * p.n = omega (arith, at.pc) in
-    let n = jsr_run (post_ctx p) s (0xC014 + 6 * p.n) to (lives_of is_postable false p.image s at.steady) at.pc h at.sp in
+    let n = jsr_run (post_ctx p) s (0xC014 + 6 * p.n) to (lives_of is_postable false p.image s at.steady)
+    at.pc h at.sp in
     record {
       t = after_plain p.flags (JsrExtended to) s;
       step = n.step;
@@ -87,7 +92,8 @@ unfolding instruction_bound
 enough b w few = omega arith
 
 -- from EVAL's return on
-left : (p : Post) (b : Block) (w : Width) (bytes : List ℕ) (before : ℕ → ℕ) (s : State) → Turns p b w → IsAt p.image (0xC014 + 6 * p.n) s
+left : (p : Post) (b : Block) (w : Width) (bytes : List ℕ) (before : ℕ → ℕ) (s : State) → Turns p b w
+    → IsAt p.image (0xC014 + 6 * p.n) s
     → (r : Entered p s) → Back (post_ctx p) b w (0xC017 + 6 * p.n) bytes before r.t
     → (t : State) × IsTurned (mailbox_layout p.n) b w (mailbox_bound w b) p.image p.flags before bytes s t
 unfolding steps_by
@@ -99,7 +105,8 @@ left p b w bytes before s h at r e =
     let ret = 0xC017 + 6 * p.n in
     let m1 = set s.mem 0x1FFE (ret / 2 ^ 8) in
     let below : (q : ℕ) → q < 0x1800 → get_or r.t.mem q 0 ≡ get_or s.mem q 0 = λ q lt.
-    (ap (λ (m : List ℕ). get_or m q 0) r.mem_is ∙ get_or-set_other m1 0x1FFF q (ret % 2 ^ 8) 0 (omega arith) ∙ get_or-set_other s.mem 0x1FFE q (ret / 2 ^ 8) 0 (omega arith)) in
+    (ap (λ (m : List ℕ). get_or m q 0) r.mem_is ∙ get_or-set_other m1 0x1FFF q (ret % 2 ^ 8) 0 (omega arith)
+    ∙ get_or-set_other s.mem 0x1FFE q (ret / 2 ^ 8) 0 (omega arith)) in
     let sp : u.regs.sp ≡ 0x2000 = e.sp_is in
     let count = h.inputs in (
       u,
@@ -108,13 +115,16 @@ left p b w bytes before s h at r e =
         execution = (r.t, (r.step, execution_on (Step p) e.ds (0 ∷ []) r.t e.t u e.execution (u, (n.step, refl))));
         at = at_of p 0xC008 u n.live n.pc_is (omega arith) (omega arith) sp;
         answers = e.answers;
-        mail = λ q m. (let lo : 0x1020 ≤ q = grind (arith, nat_tests) in let hi : q < 0x1029 = grind (arith, nat_tests) in e.elsewhere q (inr (omega arith)) (inl (omega arith)) ∙ below q (omega arith));
+        mail = λ q m. (let lo : 0x1020 ≤ q = grind (arith, nat_tests) in
+            let hi : q < 0x1029 = grind (arith, nat_tests) in e.elsewhere q (inr (omega arith)) (inl (omega arith))
+            ∙ below q (omega arith));
         instructions = omega (arith, length_append e.ds (0 ∷ []), e.instructions);
         steps = omega (arith, steps_append e.ds (0 ∷ []), e.steps, enough b w h.valid.few_outputs);
       },
     )
 
-pub turn_run : (p : Post) (b : Block) (w : Width) (bytes : List ℕ) (before : ℕ → ℕ) (s : State) → Turns p b w → AreInputBytes b bytes → IsAt p.image (0xC014 + 6 * p.n) s
+pub turn_run : (p : Post) (b : Block) (w : Width) (bytes : List ℕ) (before : ℕ → ℕ) (s : State) → Turns p b w
+    → AreInputBytes b bytes → IsAt p.image (0xC014 + 6 * p.n) s
     → HasBytes s.mem 0x1001 bytes → HasAnswers (mailbox_layout p.n) b w before s.mem
     → (t : State) × IsTurned (mailbox_layout p.n) b w (mailbox_bound w b) p.image p.flags before bytes s t
 turn_run p b w bytes before s h i at hi ho =
@@ -128,12 +138,16 @@ turn_run p b w bytes before s h i at hi ho =
     let r = enter_run p s at h.call in
     let m1 = set s.mem 0x1FFE (ret / 2 ^ 8) in
     let keep : HasBytes r.t.mem 0x1001 bytes =
-    subst (λ x. HasBytes x 0x1001 bytes) (sym r.mem_is) (bytes_set_out m1 0x1FFF (ret % 2 ^ 8) 0x1001 bytes (inl (omega arith)) (bytes_set_out s.mem 0x1FFE (ret / 2 ^ 8) 0x1001 bytes (inl (omega arith)) hi)) in
+    subst (λ x. HasBytes x 0x1001 bytes) (sym r.mem_is)
+    (bytes_set_out m1 0x1FFF (ret % 2 ^ 8) 0x1001 bytes (inl (omega arith))
+    (bytes_set_out s.mem 0x1FFE (ret / 2 ^ 8) 0x1001 bytes (inl (omega arith)) hi)) in
     let kept : HasAnswers l b w before r.t.mem = λ o lo le.
     (let q = 0x1010 + places w * (o - 1) in
     let vs = bytes_of w (before o) in
     let room = answer_room w o (before o) lo (omega arith) in
-    subst (λ (m : List ℕ). HasBytes m q vs) (sym r.mem_is) (bytes_set_out m1 0x1FFF (ret % 2 ^ 8) q vs (inl (omega arith)) (bytes_set_out s.mem 0x1FFE (ret / 2 ^ 8) q vs (inl (omega arith)) (ho o lo le)))) in
+    subst (λ (m : List ℕ). HasBytes m q vs) (sym r.mem_is)
+    (bytes_set_out m1 0x1FFF (ret % 2 ^ 8) q vs (inl (omega arith))
+    (bytes_set_out s.mem 0x1FFE (ret / 2 ^ 8) q vs (inl (omega arith)) (ho o lo le)))) in
     let pushed : get_or r.t.mem 0x1FFE 0 * 2 ^ 8 + get_or r.t.mem 0x1FFF 0 ≡ ret =
     ap (λ (x : List ℕ). get_or x 0x1FFE 0 * 2 ^ 8 + get_or x 0x1FFF 0) r.mem_is ∙ pushed_word s.mem ret size in
     let k : IsCalled is_postable l b w p.image ret bytes before r.t = record {
@@ -144,4 +158,5 @@ turn_run p b w bytes before s h i at hi ho =
       inputs = keep;
       outputs = kept;
     } in
-    left p b w bytes before s h at r (called h.eval_answers (post_ctx p) b w ret bytes before r.t h.apart h.valid h.limits h.routine i k)
+    left p b w bytes before s h at r
+    (called h.eval_answers (post_ctx p) b w ret bytes before r.t h.apart h.valid h.limits h.routine i k)

@@ -1,5 +1,6 @@
 -- WAV over an output's singletons and masses.
-use Rattle.std.proofs.Common.{◌≡◌, ℕ, ◌+◌, ◌*◌, ◌^◌, ◌<◌, ◌≤◌, true, List, [], ◌∷◌, length, refl, ap, ap₂, ◌∙◌, arith, inl, inr, zero, suc, ◌-◌, ◌/◌, ◌%◌, Ok}
+use Rattle.std.proofs.Common.{◌≡◌, ℕ, ◌+◌, ◌*◌, ◌^◌, ◌<◌, ◌≤◌, true, List, [], ◌∷◌, length, refl, ap, ap₂, ◌∙◌, arith}
+use Rattle.std.proofs.Common.{inl, inr, zero, suc, ◌-◌, ◌/◌, ◌%◌, Ok}
 use Rattle.std.proofs.Common.{◌++◌, sym, subst}
 use Rattle.cpu12_isa.specs.declared.instr.Regs.{Regs}
 use Rattle.cpu12_isa.specs.Fits.{FitsRegs, AreBytes}
@@ -18,11 +19,13 @@ use Rattle.eval_code.proofs.steps.Flags.{masked_put, masked_open_hnvc}
 use Rattle.eval_code.proofs.steps.Decoding.{decode_same}
 use Rattle.eval_code.proofs.steps.Stepping.{Ctx, Here, Live, Goes, goes_part, between_of, code_in}
 
-pub bytes_from : (m : List ℕ) (p : ℕ) (bs : List ℕ) → p + length bs < 65536 → HasBytes m p bs → bytes_at m (from p (length bs)) ≡ bs
+pub bytes_from : (m : List ℕ) (p : ℕ) (bs : List ℕ) → p + length bs < 65536 → HasBytes m p bs
+    → bytes_at m (from p (length bs)) ≡ bs
 bytes_from m p [] lt h = refl
 bytes_from m p (b ∷ bs) lt h =
     let e : plus p 1 ≡ p + 1 = omega arith in
-    ap₂ (λ (v : ℕ) (vs : List ℕ). v ∷ vs) h.0 (ap (λ k. bytes_at m (from k (length bs))) e ∙ bytes_from m (p + 1) bs (omega arith) h.1)
+    ap₂ (λ (v : ℕ) (vs : List ℕ). v ∷ vs) h.0
+    (ap (λ k. bytes_at m (from k (length bs))) e ∙ bytes_from m (p + 1) bs (omega arith) h.1)
 
 -- a list of bytes
 abbrev pub Bytes : List ℕ → Type 0
@@ -45,7 +48,8 @@ pub total_le : (vs : List ℕ) → Bytes vs → total vs ≤ 255 * length vs
 total_le [] h = omega arith
 total_le (v ∷ vs) h = omega (arith, h.0, total_le vs h.1)
 
-pub wav_fits : (flags : ℕ) (r : Regs) (p w pc : ℕ) → flags < 2 ^ 8 → FitsRegs r → p < 2 ^ 32 → w < 2 ^ 16 → FitsRegs (wav_end flags r p w pc)
+pub wav_fits : (flags : ℕ) (r : Regs) (p w pc : ℕ) → flags < 2 ^ 8 → FitsRegs r → p < 2 ^ 32 → w < 2 ^ 16
+    → FitsRegs (wav_end flags r p w pc)
 wav_fits flags r p w pc f h hp hw = record {
   a = omega arith;
   b = omega arith;
@@ -63,7 +67,11 @@ each_append P (x ∷ xs) ys a b = (a.0, each_append P xs ys a.1 b)
 -- n addresses from one on
 pub each_from : (P : ℕ → Type 0) (p n : ℕ) → p + n < 65536 → ((k : ℕ) → p ≤ k → k < p + n → P k) → Each P (from p n)
 each_from P p zero h e = tt
-each_from P p (suc n) h e = let q : plus p 1 ≡ p + 1 = omega arith in (e p (omega arith) (omega arith), subst (λ k. Each P (from k n)) (sym q) (each_from P (p + 1) n (omega arith) (λ k lo hi. e k (omega arith) (omega arith))))
+each_from P p (suc n) h e = let q : plus p 1 ≡ p + 1 = omega arith in (
+  e p (omega arith) (omega arith),
+  subst (λ k. Each P (from k n)) (sym q)
+      (each_from P (p + 1) n (omega arith) (λ k lo hi. e k (omega arith) (omega arith))),
+)
 
 -- where WAV leads: the sum of the masses in X, that of the products in Y and D
 pub record Averaged (c : Ctx) (k : ℕ) (s : State) (pc : ℕ) (us vs : List ℕ) : Type 0 where
@@ -77,8 +85,10 @@ pub record Averaged (c : Ctx) (k : ℕ) (s : State) (pc : ℕ) (us vs : List ℕ
   pub mem_is : t.mem ≡ s.mem
   pub sp_is : t.regs.sp ≡ s.regs.sp
 
-pub wav_run : (c : Ctx) (s : State) (p sx sy : ℕ) (us vs : List ℕ) → Live c s → s.regs.pc ≡ p → Here c p Wav → s.regs.x ≡ sx → s.regs.y ≡ sy
-    → s.regs.b ≡ length us → length vs ≡ length us → 1 ≤ length us → length us ≤ 15 → HasBytes c.image sx us → HasBytes s.mem sy vs → c.layout.singletons ≤ sx
+pub wav_run : (c : Ctx) (s : State) (p sx sy : ℕ) (us vs : List ℕ) → Live c s → s.regs.pc ≡ p → Here c p Wav
+    → s.regs.x ≡ sx → s.regs.y ≡ sy
+    → s.regs.b ≡ length us → length vs ≡ length us → 1 ≤ length us → length us ≤ 15 → HasBytes c.image sx us
+    → HasBytes s.mem sy vs → c.layout.singletons ≤ sx
     → sx + length us ≤ c.layout.singletons + 60 → c.layout.slots ≤ sy → sy + length us ≤ c.layout.slots + 300
     → Averaged c (length us - 1) s (p + 2) us vs
 wav_run c s p sx sy us vs l ep h ex ey eb ev some few hu hv lo hi slo low =
@@ -86,9 +96,11 @@ wav_run c s p sx sy us vs l ep h ex ey eb ev some few hu hv lo hi slo low =
     let a2 = c.apart.singletons_end in
     let a3 = c.apart.slots in
     let hu' : HasBytes s.mem sx us = same_bytes c.image s.mem sx us (λ k a b. l.same k (omega arith)) hu in
-    let bu : bytes_at s.mem (from s.regs.x s.regs.b) ≡ us = ap₂ (λ k n. bytes_at s.mem (from k n)) ex eb ∙ bytes_from s.mem sx us (omega arith) hu' in
+    let bu : bytes_at s.mem (from s.regs.x s.regs.b) ≡ us = ap₂ (λ k n. bytes_at s.mem (from k n)) ex eb
+    ∙ bytes_from s.mem sx us (omega arith) hu' in
     let en : s.regs.b ≡ length vs = eb ∙ sym ev in
-    let bv : bytes_at s.mem (from s.regs.y s.regs.b) ≡ vs = ap₂ (λ k n. bytes_at s.mem (from k n)) ey en ∙ bytes_from s.mem sy vs (omega arith) hv in
+    let bv : bytes_at s.mem (from s.regs.y s.regs.b) ≡ vs = ap₂ (λ k n. bytes_at s.mem (from k n)) ey en
+    ∙ bytes_from s.mem sy vs (omega arith) hv in
     let by = stand_bytes s.mem sx us l.bytes hu' in
     let dl = dot_le us vs by in
     let tl = total_le vs (stand_bytes s.mem sy vs l.bytes hv) in
@@ -97,9 +109,11 @@ wav_run c s p sx sy us vs l ep h ex ey eb ev some few hu hv lo hi slo low =
     let eP : P ≡ dot us vs = ap₂ (λ a b. dot a b % 2 ^ 32) bu bv ∙ omega arith in
     let eW : W ≡ total vs = ap (λ b. total b % 2 ^ 16) bv ∙ omega arith in
     let t : State = wav_whole c.flags s.regs s.mem in
-    let d : decode_at s.mem s.regs.pc ≡ Ok Wav = ap (decode_at s.mem) ep ∙ decode_same c.image s.mem p h.low h.high l.same ∙ h.decoded in
+    let d : decode_at s.mem s.regs.pc ≡ Ok Wav =
+    ap (decode_at s.mem) ep ∙ decode_same c.image s.mem p h.low h.high l.same ∙ h.decoded in
     let r1 : Each (Reads c.layout) (from s.regs.x s.regs.b) =
-    each_from (Reads c.layout) s.regs.x s.regs.b (omega arith) (λ k from to. inr (inr (inr (inl (omega arith, omega arith))))) in
+    each_from (Reads c.layout) s.regs.x s.regs.b (omega arith)
+    (λ k from to. inr (inr (inr (inl (omega arith, omega arith))))) in
     let r2 : Each (Reads c.layout) (from s.regs.y s.regs.b) =
     each_from (Reads c.layout) s.regs.y s.regs.b (omega arith) (λ k from to. inr (inl (omega arith, omega arith))) in
     let masks = masked_put (opened s.regs.ccr 43 c.flags) 2 true (omega arith) ∙ masked_open_hnvc s.regs.ccr c.flags in

@@ -1,6 +1,8 @@
 -- EVAL, from its first instruction to behind its last.
-use Rattle.std.proofs.Common.{◌≡◌, ℕ, suc, ◌+◌, ◌*◌, ◌≤◌, List, [], ◌∷◌, ◌++◌, map, length, take, drop, sum_by, All, get_or, sym, ap, ◌∙◌, subst, arith}
-use Rattle.std.proofs.Common.{length-take, take-append-drop, inl, ◌-◌, refl, subst₂, length-append, length-drop, append-nil}
+use Rattle.std.proofs.Common.{◌≡◌, ℕ, suc, ◌+◌, ◌*◌, ◌≤◌, List, [], ◌∷◌, ◌++◌, map, length, take, drop, sum_by, All}
+use Rattle.std.proofs.Common.{get_or, sym, ap, ◌∙◌, subst, arith}
+use Rattle.std.proofs.Common.{length-take, take-append-drop, inl, ◌-◌, refl, subst₂, length-append, length-drop}
+use Rattle.std.proofs.Common.{append-nil}
 use Rattle.std.proofs.lemmas.List.{length-map}
 use Rattle.std.proofs.lemmas.List.Sums.{sum_by-le}
 use Rattle.fuzzy_meaning.specs.declared.block.Block.{Block}
@@ -17,14 +19,16 @@ use Rattle.eval_code.specs.Evaluation.{put}
 use Rattle.eval_code.proofs.Placement.{length-weights_of}
 use Rattle.eval_code.proofs.steps.Memory.{HasBytes, has_put, bytes_back, bytes_put_out}
 use Rattle.eval_code.proofs.phases.RuleMemory.{length-fired, Below, AllBelow, length-renamed}
-use Rattle.eval_code.proofs.phases.SlotValues.{further_slots, slots_are, further_fill, before_are, count_further, length-slots, length-input_terms}
+use Rattle.eval_code.proofs.phases.SlotValues.{further_slots, slots_are, further_fill, before_are, count_further}
+use Rattle.eval_code.proofs.phases.SlotValues.{length-slots, length-input_terms}
 use Rattle.rule_layout.specs.declared.flat.Conjunction.{Conjunction}
 use Rattle.rule_layout.specs.declared.flat.Form.{Form}
 use Rattle.cpu12_isa.specs.declared.instr.Instr.{Instr}
 use Rattle.cpu12_isa.specs.declared.instr.Instr.TheVariants.{LdxImmediate, LdyImmediate}
 use Rattle.cpu12_parts.specs.State.{State}
 use Rattle.cpu12_parts.specs.Whole.{after_plain}
-use Rattle.eval_code.specs.Bounds.{input_term_count, output_term_count, complement_count, entry_count, element_count, form_bound}
+use Rattle.eval_code.specs.Bounds.{input_term_count, output_term_count, complement_count, entry_count, element_count}
+use Rattle.eval_code.specs.Bounds.{form_bound}
 use Rattle.eval_code.specs.declared.width.Width.{Width}
 use Rattle.eval_code.specs.Widths.{places}
 use Rattle.eval_code.proofs.phases.Quotients.{output_most, output_parts}
@@ -36,7 +40,8 @@ use Rattle.eval_code.proofs.phases.Fuzzify.{grades, length-grades, fuzzify_run}
 use Rattle.eval_code.proofs.phases.Filling.{fill_count, slots_run}
 use Rattle.eval_code.proofs.phases.Ruling.{AreFull, address, AtRules, rev_run, revw_run}
 use Rattle.eval_code.proofs.phases.RuleFacts.{BlockFacts, HasRules, has_rules, all_below, weights_below, rev_is_plain}
-use Rattle.eval_code.proofs.steps.Stepping.{Ctx, Live, Stands, Goes, goes_one, goes_on, stands_front, stands_back, Reaches, reaches_at, reaches_after}
+use Rattle.eval_code.proofs.steps.Stepping.{Ctx, Live, Stands, Goes, goes_one, goes_on, stands_front, stands_back}
+use Rattle.eval_code.proofs.steps.Stepping.{Reaches, reaches_at, reaches_after}
 use Rattle.eval_code.proofs.steps.Instructions.{ldx, ldy}
 use Rattle.eval_code.proofs.phases.Outputs.{outputs_run, output_answers, all_bytes, length-all_bytes}
 use Rattle.eval_code.proofs.phases.Outputs.{places_few}
@@ -47,9 +52,11 @@ abbrev pub masses : Block → List ℕ → List ℕ
 masses b bytes = drop (input_slots (slots_of b) b.outputs) (slots_after b bytes)
 
 pub length-after : (b : Block) (bytes : List ℕ) → length (slots_after b bytes) ≡ length (slots_of b)
-length-after b bytes = length-fired (slots_before b bytes) (conjunctions_of b) (weights_of b) ∙ length-map (slots_of b) (slot_before b bytes)
+length-after b bytes = length-fired (slots_before b bytes) (conjunctions_of b) (weights_of b)
+    ∙ length-map (slots_of b) (slot_before b bytes)
 
-pub has_put_from : (m : List ℕ) (p n : ℕ) (bs : List ℕ) → p + length bs ≤ length m → n ≤ length bs → HasBytes (put m p bs) (p + n) (drop n bs)
+pub has_put_from : (m : List ℕ) (p n : ℕ) (bs : List ℕ) → p + length bs ≤ length m → n ≤ length bs
+    → HasBytes (put m p bs) (p + n) (drop n bs)
 has_put_from m p n bs h le =
     let cut : bs ≡ take n bs ++ drop n bs = sym (take-append-drop n bs) in
     let q = subst (HasBytes (put m p bs) p) cut (has_put m p bs h) in
@@ -62,7 +69,8 @@ few_singletons b v = λ k d lt. (let o : IsValidOutput (get_or b.outputs k d) = 
 pub outputs_few : (b : Block) → IsValid b → sum_by singleton_count b.outputs ≤ 60
 outputs_few b v = omega (arith, sum_by-le singleton_count 15 b.outputs (few_singletons b v), v.few_outputs)
 
-pub list_size-le : (b : Block) → IsWithinLimits b → element_width (form_of b) * length (marked 0xFE 0xFF (conjunctions_of b)) ≤ 9984
+pub list_size-le : (b : Block) → IsWithinLimits b
+    → element_width (form_of b) * length (marked 0xFE 0xFF (conjunctions_of b)) ≤ 9984
 unfolding list_size
 list_size-le b h = h.short_list
 
@@ -73,11 +81,14 @@ weights_few b h = omega (arith, length-weights_of b, h.few_conjunctions)
 no_code : (base : ℕ) (inputs : List Input) (at : ℕ) (ps : List (ℕ × ℕ)) (rest : List Slot)
     → slots_code base inputs at (map term_slot ps ++ rest) ≡ slots_code base inputs (at + length ps) rest
 no_code base inputs at [] rest = let e : at ≡ at + 0 = omega arith in ap (λ k. slots_code base inputs k rest) e
-no_code base inputs at (p ∷ ps) rest = let e : at + 1 + length ps ≡ at + suc (length ps) = omega arith in no_code base inputs (at + 1) ps rest ∙ ap (λ k. slots_code base inputs k rest) e
+no_code base inputs at (p ∷ ps) rest = let e : at + 1 + length ps ≡ at + suc (length ps) = omega arith in
+    no_code base inputs (at + 1) ps rest ∙ ap (λ k. slots_code base inputs k rest) e
 
 pub slots_code_is : (l : Layout) (b : Block)
-    → slots_code l.slots b.inputs l.slots (slots_of b) ≡ slots_code l.slots b.inputs (l.slots + length (input_terms b)) (further_slots b)
-slots_code_is l b = ap (slots_code l.slots b.inputs l.slots) (slots_are b) ∙ no_code l.slots b.inputs l.slots (input_terms b) (further_slots b)
+    → slots_code l.slots b.inputs l.slots (slots_of b) ≡ slots_code l.slots b.inputs (l.slots + length (input_terms b))
+    (further_slots b)
+slots_code_is l b = ap (slots_code l.slots b.inputs l.slots) (slots_are b)
+    ∙ no_code l.slots b.inputs l.slots (input_terms b) (further_slots b)
 
 -- what stands in memory for EVAL
 pub record HasParts (c : Ctx) (l : Layout) (b : Block) (w : Width) : Type 0 where
@@ -89,7 +100,8 @@ pub record HasParts (c : Ctx) (l : Layout) (b : Block) (w : Width) : Type 0 wher
 
 -- memory after EVAL
 abbrev pub evaluated : Layout → Block → Width → List ℕ → List ℕ → List ℕ → List ℕ
-evaluated l b w bytes bs m = put (put m l.slots (slots_after b bytes)) l.outputs (all_bytes w (output_answers w b.outputs (masses b bytes) bs))
+evaluated l b w bytes bs m =
+    put (put m l.slots (slots_after b bytes)) l.outputs (all_bytes w (output_answers w b.outputs (masses b bytes) bs))
 
 -- what EVAL's theorem stands on
 pub record Evals (c : Ctx) (l : Layout) (b : Block) (w : Width) (bytes bs : List ℕ) : Type 0 where
@@ -101,45 +113,57 @@ pub record Evals (c : Ctx) (l : Layout) (b : Block) (w : Width) (bytes bs : List
   pub count : length bs ≡ length b.outputs
 
 -- code and what stands behind it
-behind : (c : Ctx) (code rest : List Instr) (n k m j : ℕ) (s : State) (p : ℕ) (t : State) (mem : List ℕ) → Goes c n k s t → t.regs.sp ≡ s.regs.sp
+behind : (c : Ctx) (code rest : List Instr) (n k m j : ℕ) (s : State) (p : ℕ) (t : State) (mem : List ℕ)
+    → Goes c n k s t → t.regs.sp ≡ s.regs.sp
     → Reaches c m j t (p + sizes code + sizes rest) mem → Reaches c (n + m) (k + j) s (p + sizes (code ++ rest)) mem
 behind c code rest n k m j s p t mem g es r =
     let e = sizes_append code rest in
-    reaches_at c _ _ _ _ s _ _ _ _ (omega arith) (omega arith) (omega arith) refl (reaches_after c n k m j s t _ mem g es r)
+    reaches_at c _ _ _ _ s _ _ _ _ (omega arith) (omega arith) (omega arith) refl
+    (reaches_after c n k m j s t _ mem g es r)
 
 -- the outputs
 abbrev outputs_part : Layout → Block → Width → List Instr
 outputs_part l b w = outputs_code w l.singletons (l.slots + input_slots (slots_of b) b.outputs) l.outputs b.outputs
 
-outputs_on : (c : Ctx) (b : Block) (w : Width) (bytes bs m : List ℕ) (s : State) (p : ℕ) → Evals c c.layout b w bytes bs → Live c s → s.regs.pc ≡ p
+outputs_on : (c : Ctx) (b : Block) (w : Width) (bytes bs m : List ℕ) (s : State) (p : ℕ) → Evals c c.layout b w bytes bs
+    → Live c s → s.regs.pc ≡ p
     → Stands c p (outputs_part c.layout b w) → length m ≡ 65536 → s.mem ≡ put m c.layout.slots (slots_after b bytes)
     → HasBytes m c.layout.outputs (all_bytes w bs)
-    → Reaches c (sum_by (output_most w) b.outputs) (output_parts b.outputs) s (p + sizes (outputs_part c.layout b w)) (evaluated c.layout b w bytes bs m)
+    → Reaches c (sum_by (output_most w) b.outputs) (output_parts b.outputs) s (p + sizes (outputs_part c.layout b w))
+    (evaluated c.layout b w bytes bs m)
 outputs_on c b w bytes bs m s p h live ep st lm em hb =
     let l = c.layout in
     let n = input_slots (slots_of b) b.outputs in
     let la = length-after b bytes in
     let ls = length-slots b in
     let few = h.facts.few_slots in
-    let ld : length (masses b bytes) ≡ sum_by singleton_count b.outputs = omega (arith, length-drop n (slots_after b bytes)) in
+    let ld : length (masses b bytes) ≡ sum_by singleton_count b.outputs =
+    omega (arith, length-drop n (slots_after b bytes)) in
     let lo = c.apart.slots in
     let lu = c.apart.outputs in
     let outs = h.valid.few_outputs in
     let hv : HasBytes s.mem (l.slots + n) (masses b bytes) =
-    subst (λ x. HasBytes x (l.slots + n) (masses b bytes)) (sym em) (has_put_from m l.slots n (slots_after b bytes) (omega arith) (omega arith)) in
+    subst (λ x. HasBytes x (l.slots + n) (masses b bytes)) (sym em)
+    (has_put_from m l.slots n (slots_after b bytes) (omega arith) (omega arith)) in
     let lb = length-all_bytes w bs in
     let room = places_few w (length b.outputs) outs in
     let eb : places w * length bs ≡ places w * length b.outputs = ap (λ k. places w * k) h.count in
     let hb' : HasBytes s.mem l.outputs (all_bytes w bs) =
-    subst (λ x. HasBytes x l.outputs (all_bytes w bs)) (sym em) (bytes_put_out m l.slots (slots_after b bytes) l.outputs (all_bytes w bs) (inl (omega arith)) hb) in
+    subst (λ x. HasBytes x l.outputs (all_bytes w bs)) (sym em)
+    (bytes_put_out m l.slots (slots_after b bytes) l.outputs (all_bytes w bs) (inl (omega arith)) hb) in
     let few_out : sum_by singleton_count b.outputs ≤ length (slots_of b) = omega arith in
     let many : length (masses b bytes) ≤ 60 = omega (arith, outputs_few b h.valid) in
     let r =
-    outputs_run c w b.outputs l.singletons (l.slots + n) l.outputs (masses b bytes) bs s p (record { live = live; pc_is = ep; code = st; singletons = h.rom.singletons; masses = hv; before = hb' }) h.valid.outputs ld h.count (omega arith) (omega arith) (omega arith) (omega arith) (omega arith) (omega arith) in
-    reaches_at c _ _ _ _ s _ _ _ _ (omega arith) (omega arith) refl (ap (λ x. put x l.outputs (all_bytes w (output_answers w b.outputs (masses b bytes) bs))) em) r
+    outputs_run c w b.outputs l.singletons (l.slots + n) l.outputs (masses b bytes) bs s p
+    (record { live = live; pc_is = ep; code = st; singletons = h.rom.singletons; masses = hv; before = hb' })
+    h.valid.outputs ld h.count (omega arith) (omega arith) (omega arith) (omega arith) (omega arith)
+    (omega arith) in
+    reaches_at c _ _ _ _ s _ _ _ _ (omega arith) (omega arith) refl
+    (ap (λ x. put x l.outputs (all_bytes w (output_answers w b.outputs (masses b bytes) bs))) em) r
 
 -- what the rules stand on, in either form
-record RulesHere (c : Ctx) (m ss : List ℕ) (f : Form) (s : State) (p : ℕ) (cs : List Conjunction) (ws : List ℕ) : Type 0 where
+record RulesHere (c : Ctx) (m ss : List ℕ) (f : Form) (s : State) (p : ℕ) (cs : List Conjunction)
+    (ws : List ℕ) : Type 0 where
   live : Live c s
   pc_is : s.regs.pc ≡ p
   code : Stands c p (rules_code c.layout f)
@@ -154,29 +178,42 @@ record RulesHere (c : Ctx) (m ss : List ℕ) (f : Form) (s : State) (p : ℕ) (c
   rules_few : element_width f * length (marked 0xFE 0xFF cs) ≤ 9984
   weights_few : length ws ≤ 512
 
-rules_at : (c : Ctx) (m ss : List ℕ) (f : Form) (s : State) (p : ℕ) (k : Conjunction) (ks : List Conjunction) (w : ℕ) (vs : List ℕ) → length vs ≡ length ks
+rules_at : (c : Ctx) (m ss : List ℕ) (f : Form) (s : State) (p : ℕ) (k : Conjunction) (ks : List Conjunction) (w : ℕ)
+    (vs : List ℕ) → length vs ≡ length ks
     → RulesHere c m ss f s p (k ∷ ks) (w ∷ vs)
-    → Reaches c (5 + form_bound f) (sum_by entry_count (k ∷ ks) - 1) s (p + sizes (rules_code c.layout f)) (put m c.layout.slots (fired ss (k ∷ ks) (w ∷ vs)))
+    → Reaches c (5 + form_bound f) (sum_by entry_count (k ∷ ks) - 1) s (p + sizes (rules_code c.layout f))
+    (put m c.layout.slots (fired ss (k ∷ ks) (w ∷ vs)))
 rules_at c m ss form.Rev s p k ks w vs e h =
     let plain = h.plain refl in
-    let at : AtRules c m ss k ks w vs s = record { live = h.live; mem_is = h.mem_is; size = h.size; below = h.below; weights = e; few = h.few } in
-    reaches_at c _ _ _ _ s _ _ _ _ (omega arith) (omega arith) refl refl (rev_run c m ss k ks w vs s p at h.pc_is h.code plain.1 plain.0 h.rules (omega (arith, h.rules_few)))
+    let at : AtRules c m ss k ks w vs s =
+    record { live = h.live; mem_is = h.mem_is; size = h.size; below = h.below; weights = e; few = h.few } in
+    reaches_at c _ _ _ _ s _ _ _ _ (omega arith) (omega arith) refl refl
+    (rev_run c m ss k ks w vs s p at h.pc_is h.code plain.1 plain.0 h.rules (omega (arith, h.rules_few)))
 rules_at c m ss form.Revw s p k ks w vs e h =
-    let at : AtRules c m ss k ks w vs s = record { live = h.live; mem_is = h.mem_is; size = h.size; below = h.below; weights = e; few = h.few } in
+    let at : AtRules c m ss k ks w vs s =
+    record { live = h.live; mem_is = h.mem_is; size = h.size; below = h.below; weights = e; few = h.few } in
     let n : length (list_words c.layout.slots (k ∷ ks)) ≡ length (marked 0xFE 0xFF (k ∷ ks)) =
     length-renamed 65534 65535 (address c.layout.slots) (k ∷ ks) ∙ sym (length-marked 0xFE 0xFF (k ∷ ks)) in
-    reaches_at c _ _ _ _ s _ _ _ _ (omega arith) (omega arith) refl refl (revw_run c m ss k ks w vs s p at h.pc_is h.code h.light h.rules (omega (arith, h.rules_few)) h.weights h.weights_few)
+    reaches_at c _ _ _ _ s _ _ _ _ (omega arith) (omega arith) refl refl
+    (revw_run c m ss k ks w vs s p at h.pc_is h.code h.light h.rules (omega (arith, h.rules_few)) h.weights
+    h.weights_few)
 
 abbrev RulesRun : Ctx → List ℕ → List ℕ → Form → State → ℕ → List Conjunction → List ℕ → Type 0
 RulesRun c m ss f s p cs ws =
-    RulesHere c m ss f s p cs ws → Reaches c (5 + form_bound f) (sum_by entry_count cs - 1) s (p + sizes (rules_code c.layout f)) (put m c.layout.slots (fired ss cs ws))
+    RulesHere c m ss f s p cs ws
+    → Reaches c (5 + form_bound f) (sum_by entry_count cs - 1) s (p + sizes (rules_code c.layout f))
+    (put m c.layout.slots (fired ss cs ws))
 
-rules_run : (c : Ctx) (m ss : List ℕ) (f : Form) (s : State) (p : ℕ) (cs : List Conjunction) (ws : List ℕ) → HasRules cs ws → RulesRun c m ss f s p cs ws
+rules_run : (c : Ctx) (m ss : List ℕ) (f : Form) (s : State) (p : ℕ) (cs : List Conjunction) (ws : List ℕ)
+    → HasRules cs ws → RulesRun c m ss f s p cs ws
 rules_run c m ss f s p cs ws h =
-    subst₂ (λ (a : List Conjunction) (b : List ℕ). RulesRun c m ss f s p a b) (sym h.conjunctions_are) (sym h.weights_are) (rules_at c m ss f s p h.k h.ks h.w h.vs h.same)
+    subst₂ (λ (a : List Conjunction) (b : List ℕ). RulesRun c m ss f s p a b) (sym h.conjunctions_are)
+    (sym h.weights_are) (rules_at c m ss f s p h.k h.ks h.w h.vs h.same)
 
-rules_here : (c : Ctx) (b : Block) (w : Width) (bytes bs m : List ℕ) (s : State) (p : ℕ) → Evals c c.layout b w bytes bs → Live c s → s.regs.pc ≡ p
-    → Stands c p (rules_code c.layout (form_of b)) → length m ≡ 65536 → s.mem ≡ put m c.layout.slots (slots_before b bytes)
+rules_here : (c : Ctx) (b : Block) (w : Width) (bytes bs m : List ℕ) (s : State) (p : ℕ) → Evals c c.layout b w bytes bs
+    → Live c s → s.regs.pc ≡ p
+    → Stands c p (rules_code c.layout (form_of b)) → length m ≡ 65536
+    → s.mem ≡ put m c.layout.slots (slots_before b bytes)
     → RulesHere c m (slots_before b bytes) (form_of b) s p (conjunctions_of b) (weights_of b)
 rules_here c b w bytes bs m s p h live ep st lm em =
     let lb : length (slots_before b bytes) ≡ length (slots_of b) = length-map (slots_of b) (slot_before b bytes) in
@@ -201,22 +238,32 @@ rules_here c b w bytes bs m s p h live ep st lm em =
 abbrev rules_part : Layout → Block → Width → List Instr
 rules_part l b w = rules_code l (form_of b) ++ outputs_part l b w
 
-rules_on : (c : Ctx) (b : Block) (w : Width) (bytes bs m : List ℕ) (s : State) (p : ℕ) → Evals c c.layout b w bytes bs → Live c s → s.regs.pc ≡ p
+rules_on : (c : Ctx) (b : Block) (w : Width) (bytes bs m : List ℕ) (s : State) (p : ℕ) → Evals c c.layout b w bytes bs
+    → Live c s → s.regs.pc ≡ p
     → Stands c p (rules_part c.layout b w) → length m ≡ 65536 → s.mem ≡ put m c.layout.slots (slots_before b bytes)
     → HasBytes m c.layout.outputs (all_bytes w bs)
-    → Reaches c (5 + form_bound (form_of b) + sum_by (output_most w) b.outputs) (element_count b - 1 + output_parts b.outputs) s (p + sizes (rules_part c.layout b w)) (evaluated c.layout b w bytes bs m)
+    → Reaches c (5 + form_bound (form_of b) + sum_by (output_most w) b.outputs)
+    (element_count b - 1 + output_parts b.outputs) s (p + sizes (rules_part c.layout b w))
+    (evaluated c.layout b w bytes bs m)
 rules_on c b w bytes bs m s p h live ep st lm em hb =
     let code = rules_code c.layout (form_of b) in
     let rest = outputs_part c.layout b w in
     let r =
-    rules_run c m (slots_before b bytes) (form_of b) s p (conjunctions_of b) (weights_of b) (has_rules b h.facts) (rules_here c b w bytes bs m s p h live ep (stands_front c p code rest st) lm em) in
-    let q = outputs_on c b w bytes bs m r.t (p + sizes code) h r.live r.pc_is (stands_back c p code rest st) lm r.mem_is hb in
-    behind c code rest (5 + form_bound (form_of b)) (element_count b - 1) (sum_by (output_most w) b.outputs) (output_parts b.outputs) s p r.t (evaluated c.layout b w bytes bs m) r.goes r.sp_is q
+    rules_run c m (slots_before b bytes) (form_of b) s p (conjunctions_of b) (weights_of b) (has_rules b h.facts)
+    (rules_here c b w bytes bs m s p h live ep (stands_front c p code rest st) lm em) in
+    let q = outputs_on c b w bytes bs m r.t (p + sizes code) h r.live r.pc_is
+    (stands_back c p code rest st) lm r.mem_is hb in
+    behind c code rest (5 + form_bound (form_of b)) (element_count b - 1) (sum_by (output_most w) b.outputs)
+    (output_parts b.outputs) s p r.t (evaluated c.layout b w bytes bs m) r.goes r.sp_is q
 
 -- the complements and the cleared slots
-fill_run : (c : Ctx) (b : Block) (w : Width) (bytes bs m : List ℕ) (s : State) (p : ℕ) → Evals c c.layout b w bytes bs → Live c s → s.regs.pc ≡ p
-    → Stands c p (slots_code c.layout.slots b.inputs c.layout.slots (slots_of b)) → length m ≡ 65536 → s.mem ≡ put m c.layout.slots (grades bytes b.inputs)
-    → Reaches c (3 * complement_count b + output_term_count b) 0 s (p + sizes (slots_code c.layout.slots b.inputs c.layout.slots (slots_of b))) (put m c.layout.slots (slots_before b bytes))
+fill_run : (c : Ctx) (b : Block) (w : Width) (bytes bs m : List ℕ) (s : State) (p : ℕ) → Evals c c.layout b w bytes bs
+    → Live c s → s.regs.pc ≡ p
+    → Stands c p (slots_code c.layout.slots b.inputs c.layout.slots (slots_of b)) → length m ≡ 65536
+    → s.mem ≡ put m c.layout.slots (grades bytes b.inputs)
+    → Reaches c (3 * complement_count b + output_term_count b) 0 s
+    (p + sizes (slots_code c.layout.slots b.inputs c.layout.slots (slots_of b)))
+    (put m c.layout.slots (slots_before b bytes))
 fill_run c b w bytes bs m s p h live ep st lm em =
     let gs = grades bytes b.inputs in
     let code = slots_code_is c.layout b in
@@ -224,56 +271,85 @@ fill_run c b w bytes bs m s p h live ep st lm em =
     let li = length-input_terms b in
     let ls = length-slots b in
     let few = h.facts.few_slots in
-    let at : c.layout.slots + length (input_terms b) ≡ c.layout.slots + length (gs ++ []) = omega (arith, length-append gs []) in
+    let at : c.layout.slots + length (input_terms b) ≡ c.layout.slots + length (gs ++ []) =
+    omega (arith, length-append gs []) in
     let lf : length (input_terms b) + length (further_slots b) ≡ length (slots_of b) =
-    omega (arith, ap length (slots_are b), length-append (map term_slot (input_terms b)) (further_slots b), length-map (input_terms b) term_slot) in
+    omega (
+      arith,
+      ap length (slots_are b),
+      length-append (map term_slot (input_terms b)) (further_slots b),
+      length-map (input_terms b) term_slot,
+    ) in
     let r =
-    slots_run c b bytes b.inputs gs m c.layout.slots (further_slots b) [] s p (c.layout.slots + length (input_terms b)) live ep (subst (Stands c p) code st) (further_fill b bytes h.input.count) at (em ∙ ap (put m c.layout.slots) (sym (append-nil gs))) lm refl (omega arith) in
-    reaches_at c (fill_count (further_slots b)) 0 _ _ s _ _ _ _ (omega (arith, count_further b)) (omega arith) (ap (λ k. p + sizes k) (sym code)) (ap (put m c.layout.slots) (sym (before_are b bytes h.input.count))) r
+    slots_run c b bytes b.inputs gs m c.layout.slots (further_slots b) [] s p (c.layout.slots + length (input_terms b))
+    live ep (subst (Stands c p) code st) (further_fill b bytes h.input.count) at
+    (em ∙ ap (put m c.layout.slots) (sym (append-nil gs))) lm refl (omega arith) in
+    reaches_at c (fill_count (further_slots b)) 0 _ _ s _ _ _ _ (omega (arith, count_further b)) (omega arith)
+    (ap (λ k. p + sizes k) (sym code)) (ap (put m c.layout.slots) (sym (before_are b bytes h.input.count))) r
 
 abbrev slots_part : Layout → Block → Width → List Instr
 slots_part l b w = slots_code l.slots b.inputs l.slots (slots_of b) ++ rules_part l b w
 
-slots_on : (c : Ctx) (b : Block) (w : Width) (bytes bs m : List ℕ) (s : State) (p : ℕ) → Evals c c.layout b w bytes bs → Live c s → s.regs.pc ≡ p
+slots_on : (c : Ctx) (b : Block) (w : Width) (bytes bs m : List ℕ) (s : State) (p : ℕ) → Evals c c.layout b w bytes bs
+    → Live c s → s.regs.pc ≡ p
     → Stands c p (slots_part c.layout b w) → length m ≡ 65536 → s.mem ≡ put m c.layout.slots (grades bytes b.inputs)
     → HasBytes m c.layout.outputs (all_bytes w bs)
-    → Reaches c (3 * complement_count b + output_term_count b + (5 + form_bound (form_of b) + sum_by (output_most w) b.outputs)) (0 + (element_count b - 1 + output_parts b.outputs)) s (p + sizes (slots_part c.layout b w)) (evaluated c.layout b w bytes bs m)
+    → Reaches c (3 * complement_count b + output_term_count
+    b + (5 + form_bound (form_of b) + sum_by (output_most w) b.outputs))
+    (0 + (element_count b - 1 + output_parts b.outputs)) s (p + sizes (slots_part c.layout b w))
+    (evaluated c.layout b w bytes bs m)
 slots_on c b w bytes bs m s p h live ep st lm em hb =
     let code = slots_code c.layout.slots b.inputs c.layout.slots (slots_of b) in
     let rest = rules_part c.layout b w in
     let r = fill_run c b w bytes bs m s p h live ep (stands_front c p code rest st) lm em in
-    let q = rules_on c b w bytes bs m r.t (p + sizes code) h r.live r.pc_is (stands_back c p code rest st) lm r.mem_is hb in
-    behind c code rest (3 * complement_count b + output_term_count b) 0 (5 + form_bound (form_of b) + sum_by (output_most w) b.outputs) (element_count b - 1 + output_parts b.outputs) s p r.t (evaluated c.layout b w bytes bs m) r.goes r.sp_is q
+    let q = rules_on c b w bytes bs m r.t (p + sizes code) h r.live r.pc_is
+    (stands_back c p code rest st) lm r.mem_is hb in
+    behind c code rest (3 * complement_count b + output_term_count b) 0
+    (5 + form_bound (form_of b) + sum_by (output_most w) b.outputs) (element_count b - 1 + output_parts b.outputs) s
+    p r.t (evaluated c.layout b w bytes bs m) r.goes r.sp_is q
 
 -- the grades, and what follows
 abbrev inputs_part : Layout → Block → Width → List Instr
 inputs_part l b w = fuzzify_code l.inputs b.inputs ++ slots_part l b w
 
-inputs_on : (c : Ctx) (b : Block) (w : Width) (bytes bs : List ℕ) (s : State) (p : ℕ) → Evals c c.layout b w bytes bs → Live c s → s.regs.pc ≡ p
-    → s.regs.x ≡ c.layout.tables → s.regs.y ≡ c.layout.slots → Stands c p (inputs_part c.layout b w) → HasBytes s.mem c.layout.inputs bytes
+inputs_on : (c : Ctx) (b : Block) (w : Width) (bytes bs : List ℕ) (s : State) (p : ℕ) → Evals c c.layout b w bytes bs
+    → Live c s → s.regs.pc ≡ p
+    → s.regs.x ≡ c.layout.tables → s.regs.y ≡ c.layout.slots → Stands c p (inputs_part c.layout b w)
+    → HasBytes s.mem c.layout.inputs bytes
     → HasBytes s.mem c.layout.outputs (all_bytes w bs)
-    → Reaches c (length b.inputs + input_term_count b + (3 * complement_count b + output_term_count b + (5 + form_bound (form_of b) + sum_by (output_most w) b.outputs))) (0 + (0 + (element_count b - 1 + output_parts b.outputs))) s (p + sizes (inputs_part c.layout b w)) (evaluated c.layout b w bytes bs s.mem)
+    → Reaches c (length b.inputs + input_term_count
+    b + (3 * complement_count b + output_term_count
+    b + (5 + form_bound (form_of b) + sum_by (output_most w) b.outputs)))
+    (0 + (0 + (element_count b - 1 + output_parts b.outputs))) s (p + sizes (inputs_part c.layout b w))
+    (evaluated c.layout b w bytes bs s.mem)
 inputs_on c b w bytes bs s p h live ep ex ey st hi hb =
     let code = fuzzify_code c.layout.inputs b.inputs in
     let rest = slots_part c.layout b w in
     let t = sum_by-term_count b.inputs h.valid.few_inputs h.valid.inputs in
     let r =
-    fuzzify_run c b.inputs bytes c.layout.inputs s p c.layout.tables c.layout.slots live ep (stands_front c p code rest st) ex ey h.input.count hi h.rom.tables (omega arith) (omega arith) (omega arith) (omega (arith, h.input.count, h.valid.few_inputs)) (omega arith) (omega arith) in
-    let q = slots_on c b w bytes bs s.mem r.t (p + sizes code) h r.live r.pc_is (stands_back c p code rest st) live.size r.mem_is hb in
-    behind c code rest (length b.inputs + input_term_count b) 0 _ _ s p r.t (evaluated c.layout b w bytes bs s.mem) r.goes r.sp_is q
+    fuzzify_run c b.inputs bytes c.layout.inputs s p c.layout.tables c.layout.slots live ep
+    (stands_front c p code rest st) ex ey h.input.count hi h.rom.tables (omega arith) (omega arith) (omega arith)
+    (omega (arith, h.input.count, h.valid.few_inputs)) (omega arith) (omega arith) in
+    let q = slots_on c b w bytes bs s.mem r.t (p + sizes code) h r.live r.pc_is (stands_back c p code rest st) live.size
+    r.mem_is hb in
+    behind c code rest (length b.inputs + input_term_count b) 0 _ _ s p r.t (evaluated c.layout b w bytes bs s.mem)
+    r.goes r.sp_is q
 
 -- how many instructions EVAL takes at most, and how many parts beyond their first
 abbrev pub eval_most : Width → Block → ℕ
 eval_most w b =
-    7 + length b.inputs + input_term_count b + 3 * complement_count b + output_term_count b + sum_by (output_most w) b.outputs + form_bound (form_of b)
+    7 + length b.inputs + input_term_count b + 3 * complement_count b + output_term_count b + sum_by
+    (output_most w) b.outputs + form_bound (form_of b)
 
 abbrev pub eval_parts : Block → ℕ
 eval_parts b = element_count b - 1 + output_parts b.outputs
 
 -- EVAL: the answers stand where the outputs are
-pub eval_run : (c : Ctx) (b : Block) (w : Width) (bytes bs : List ℕ) (s : State) → Evals c c.layout b w bytes bs → Live c s → s.regs.pc ≡ c.layout.eval
+pub eval_run : (c : Ctx) (b : Block) (w : Width) (bytes bs : List ℕ) (s : State) → Evals c c.layout b w bytes bs
+    → Live c s → s.regs.pc ≡ c.layout.eval
     → HasBytes s.mem c.layout.inputs bytes → HasBytes s.mem c.layout.outputs (all_bytes w bs)
-    → Reaches c (eval_most w b) (eval_parts b) s (c.layout.eval + sizes (eval_code c.layout b w)) (evaluated c.layout b w bytes bs s.mem)
+    → Reaches c (eval_most w b) (eval_parts b) s (c.layout.eval + sizes (eval_code c.layout b w))
+    (evaluated c.layout b w bytes bs s.mem)
 eval_run c b w bytes bs s h live ep hi hb =
     let st = h.rom.code in
     let s1 = after_plain c.flags (LdxImmediate c.layout.tables) s in
@@ -281,5 +357,7 @@ eval_run c b w bytes bs s h live ep hi hb =
     let n1 = ldx c s c.layout.eval c.layout.tables live ep st.0 st.0.fits in
     let n2 = ldy c s1 (c.layout.eval + 3) c.layout.slots n1.live n1.pc_is st.1.0 st.1.0.fits in
     let q = inputs_on c b w bytes bs s2 (c.layout.eval + 3 + 3) h n2.live n2.pc_is refl refl st.1.1 hi hb in
-    let g = goes_on c 1 0 1 0 s s1 s2 (goes_one c s s1 (c.layout.eval + 3) n1) (goes_one c s1 s2 (c.layout.eval + 3 + 3) n2) in
-    reaches_at c _ _ _ _ s _ _ _ _ (omega arith) (omega arith) (omega arith) refl (reaches_after c 2 0 _ _ s s2 _ (evaluated c.layout b w bytes bs s.mem) g refl q)
+    let g = goes_on c 1 0 1 0 s s1 s2 (goes_one c s s1 (c.layout.eval + 3) n1)
+    (goes_one c s1 s2 (c.layout.eval + 3 + 3) n2) in
+    reaches_at c _ _ _ _ s _ _ _ _ (omega arith) (omega arith) (omega arith) refl
+    (reaches_after c 2 0 _ _ s s2 _ (evaluated c.layout b w bytes bs s.mem) g refl q)

@@ -1,5 +1,6 @@
 -- The complements, and the cleared slots of the outputs' terms.
-use Rattle.std.proofs.Common.{◌≡◌, ℕ, ◌+◌, ◌-◌, ◌<◌, List, [], ◌∷◌, length, get_or, inl, inr, ◌≤◌, ◌++◌, map, set, refl, sym, ap, ap₂, ◌∙◌, arith, length-append, append_assoc, append-nil}
+use Rattle.std.proofs.Common.{◌≡◌, ℕ, ◌+◌, ◌-◌, ◌<◌, List, [], ◌∷◌, length, get_or, inl, inr, ◌≤◌, ◌++◌, map, set, refl}
+use Rattle.std.proofs.Common.{sym, ap, ap₂, ◌∙◌, arith, length-append, append_assoc, append-nil}
 use Rattle.fuzzy_meaning.specs.declared.block.Block.{Block}
 use Rattle.fuzzy_meaning.specs.declared.block.Input.{Input}
 use Rattle.point_slope.specs.Bytes.{literal_grade}
@@ -14,13 +15,16 @@ use Rattle.eval_code.specs.Firing.{slot_before}
 use Rattle.eval_code.specs.Evaluation.{put}
 use Rattle.eval_code.proofs.steps.Memory.{at_put_in, put_end}
 use Rattle.eval_code.proofs.steps.Decoding.{sizes}
-use Rattle.eval_code.proofs.steps.Stepping.{Ctx, Live, Stands, goes_one, goes_on, Reaches, reaches_none, reaches_after, reaches_at}
+use Rattle.eval_code.proofs.steps.Stepping.{Ctx, Live, Stands, goes_one, goes_on, Reaches, reaches_none, reaches_after}
+use Rattle.eval_code.proofs.steps.Stepping.{reaches_at}
 use Rattle.eval_code.proofs.steps.Instructions.{ldaa, staa, clr, coma}
 
 -- a slot that can be filled from the grades: a complement's term has its grade there
 abbrev pub CanFill : Block → List ℕ → List Input → List ℕ → Slot → Type 0
 CanFill b bytes inputs gs (Term i t) = ⊥
-CanFill b bytes inputs gs (Complement i t) = (terms_before inputs i + (t - 1) < length gs) × (get_or gs (terms_before inputs i + (t - 1)) 0 ≡ literal_grade b bytes i t)
+CanFill b bytes inputs gs (Complement i t) =
+    (terms_before inputs i + (t - 1) < length gs)
+    × (get_or gs (terms_before inputs i + (t - 1)) 0 ≡ literal_grade b bytes i t)
 CanFill b bytes inputs gs (Out o t) = Unit {0}
 
 abbrev pub AllCanFill : Block → List ℕ → List Input → List ℕ → List Slot → Type 0
@@ -35,24 +39,37 @@ fill_count (Complement i t ∷ ss) = 3 + fill_count ss
 fill_count (Out o t ∷ ss) = 1 + fill_count ss
 
 -- one more value behind those that are there
-one_more : (m : List ℕ) (base : ℕ) (gs done rest : List ℕ) (v : ℕ) → put m base (gs ++ ((done ++ v ∷ []) ++ rest)) ≡ put m base (gs ++ (done ++ v ∷ rest))
+one_more : (m : List ℕ) (base : ℕ) (gs done rest : List ℕ) (v : ℕ)
+    → put m base (gs ++ ((done ++ v ∷ []) ++ rest)) ≡ put m base (gs ++ (done ++ v ∷ rest))
 one_more m base gs done rest v = ap (λ l. put m base (gs ++ l)) (append_assoc done (v ∷ []) rest)
 
-set_next : (m mem : List ℕ) (base at : ℕ) (gs done : List ℕ) (v : ℕ) → mem ≡ put m base (gs ++ done) → at ≡ base + length (gs ++ done) → set mem at v ≡ put m base (gs ++ (done ++ v ∷ []))
-set_next m mem base at gs done v em ea = ap₂ (λ (n : List ℕ) (k : ℕ). set n k v) em ea ∙ put_end m base (gs ++ done) v ∙ ap (put m base) (append_assoc gs done (v ∷ []))
+set_next : (m mem : List ℕ) (base at : ℕ) (gs done : List ℕ) (v : ℕ) → mem ≡ put m base (gs ++ done)
+    → at ≡ base + length (gs ++ done) → set mem at v ≡ put m base (gs ++ (done ++ v ∷ []))
+set_next m mem base at gs done v em ea = ap₂ (λ (n : List ℕ) (k : ℕ). set n k v) em ea ∙ put_end m base (gs ++ done) v
+    ∙ ap (put m base) (append_assoc gs done (v ∷ []))
 
-next_place : (base at : ℕ) (gs done : List ℕ) (v : ℕ) → at ≡ base + length (gs ++ done) → at + 1 ≡ base + length (gs ++ (done ++ v ∷ []))
-next_place base at gs done v e = omega (arith, length-append gs done, length-append gs (done ++ v ∷ []), length-append done (v ∷ []))
+next_place : (base at : ℕ) (gs done : List ℕ) (v : ℕ) → at ≡ base + length (gs ++ done)
+    → at + 1 ≡ base + length (gs ++ (done ++ v ∷ []))
+next_place base at gs done v e =
+    omega (arith, length-append gs done, length-append gs (done ++ v ∷ []), length-append done (v ∷ []))
 
-pub slots_run : (c : Ctx) (b : Block) (bytes : List ℕ) (inputs : List Input) (gs m : List ℕ) (base : ℕ) (ss : List Slot) (done : List ℕ) (s : State) (p at : ℕ) → Live c s → s.regs.pc ≡ p → Stands c p (slots_code base inputs at ss) → AllCanFill b bytes inputs gs ss → at ≡ base + length (gs ++ done) → s.mem ≡ put m base (gs ++ done) → length m ≡ 65536 → base ≡ c.layout.slots → at + length ss ≤ c.layout.slots + 300
-    → Reaches c (fill_count ss) 0 s (p + sizes (slots_code base inputs at ss)) (put m base (gs ++ (done ++ map (slot_before b bytes) ss)))
-slots_run c b bytes inputs gs m base [] done s p at l ep st can ea em lm eb le = reaches_none c s _ _ l (omega arith) (em ∙ ap (λ k. put m base (gs ++ k)) (sym (append-nil done)))
+pub slots_run : (c : Ctx) (b : Block) (bytes : List ℕ) (inputs : List Input) (gs m : List ℕ) (base : ℕ) (ss : List Slot)
+    (done : List ℕ) (s : State) (p at : ℕ) → Live c s → s.regs.pc ≡ p → Stands c p (slots_code base inputs at ss)
+    → AllCanFill b bytes inputs gs ss → at ≡ base + length (gs ++ done) → s.mem ≡ put m base (gs ++ done)
+    → length m ≡ 65536 → base ≡ c.layout.slots → at + length ss ≤ c.layout.slots + 300
+    → Reaches c (fill_count ss) 0 s (p + sizes (slots_code base inputs at ss))
+    (put m base (gs ++ (done ++ map (slot_before b bytes) ss)))
+slots_run c b bytes inputs gs m base [] done s p at l ep st can ea em lm eb le =
+    reaches_none c s _ _ l (omega arith) (em ∙ ap (λ k. put m base (gs ++ k)) (sym (append-nil done)))
 slots_run c b bytes inputs gs m base (Term i t ∷ ss) done s p at l ep st can ea em lm eb le = absurd can.0
 slots_run c b bytes inputs gs m base (Out o t ∷ ss) done s p at l ep st can ea em lm eb le =
     let s1 = after_plain c.flags (ClrExtended at) s in
     let n1 = clr c s p at l ep st.0 (inr (inl (omega arith, omega arith))) in
-    let r = slots_run c b bytes inputs gs m base ss (done ++ 0 ∷ []) s1 (p + 3) (at + 1) n1.live n1.pc_is st.1 can.1 (next_place base at gs done 0 ea) (set_next m s.mem base at gs done 0 em ea) lm eb (omega arith) in
-    reaches_at c _ _ _ _ s _ _ _ _ (omega arith) (omega arith) (omega arith) (one_more m base gs done (map (slot_before b bytes) ss) 0) (reaches_after c 1 0 _ _ s s1 _ _ (goes_one c s s1 (p + 3) n1) refl r)
+    let r = slots_run c b bytes inputs gs m base ss (done ++ 0 ∷ []) s1 (p + 3) (at + 1) n1.live n1.pc_is st.1 can.1
+    (next_place base at gs done 0 ea) (set_next m s.mem base at gs done 0 em ea) lm eb (omega arith) in
+    reaches_at c _ _ _ _ s _ _ _ _ (omega arith) (omega arith) (omega arith)
+    (one_more m base gs done (map (slot_before b bytes) ss) 0)
+    (reaches_after c 1 0 _ _ s s1 _ _ (goes_one c s s1 (p + 3) n1) refl r)
 slots_run c b bytes inputs gs m base (Complement i t ∷ ss) done s p at l ep st can ea em lm eb le =
     let top = c.apart.slots in
     let j = terms_before inputs i + (t - 1) in
@@ -65,8 +82,13 @@ slots_run c b bytes inputs gs m base (Complement i t ∷ ss) done s p at l ep st
     let n1 = ldaa c s p (base + j) l ep st.0 (inr (inl (omega arith, omega arith))) in
     let n2 = coma c s1 (p + 3) n1.live n1.pc_is st.1.0 in
     let n3 = staa c s2 (p + 3 + 1) at n2.live n2.pc_is st.1.1.0 (inr (inl (omega arith, omega arith))) in
-    let ev : get_or s.mem (base + j) 0 ≡ literal_grade b bytes i t = ap (λ k. get_or k (base + j) 0) em ∙ at_put_in m base (gs ++ done) j (omega arith) (omega arith) ∙ get_or_append_left gs done 0 j lj ∙ can.0.1 in
+    let ev : get_or s.mem (base + j) 0 ≡ literal_grade b bytes i t = ap (λ k. get_or k (base + j) 0) em
+    ∙ at_put_in m base (gs ++ done) j (omega arith) (omega arith) ∙ get_or_append_left gs done 0 j lj ∙ can.0.1 in
     let ew : s3.mem ≡ set s.mem at w = ap (λ k. set s.mem at (255 - k)) ev in
-    let r = slots_run c b bytes inputs gs m base ss (done ++ w ∷ []) s3 (p + 3 + 1 + 3) (at + 1) n3.live n3.pc_is st.1.1.1 can.1 (next_place base at gs done w ea) (ew ∙ set_next m s.mem base at gs done w em ea) lm eb (omega arith) in
-    let g = goes_on c 1 0 2 0 s s1 s3 (goes_one c s s1 (p + 3) n1) (goes_on c 1 0 1 0 s1 s2 s3 (goes_one c s1 s2 (p + 3 + 1) n2) (goes_one c s2 s3 (p + 3 + 1 + 3) n3)) in
-    reaches_at c _ _ _ _ s _ _ _ _ (omega arith) (omega arith) (omega arith) (one_more m base gs done (map (slot_before b bytes) ss) w) (reaches_after c 3 0 _ _ s s3 _ _ g refl r)
+    let r = slots_run c b bytes inputs gs m base ss (done ++ w ∷ []) s3 (p + 3 + 1 + 3)
+    (at + 1) n3.live n3.pc_is st.1.1.1 can.1 (next_place base at gs done w ea)
+    (ew ∙ set_next m s.mem base at gs done w em ea) lm eb (omega arith) in
+    let g = goes_on c 1 0 2 0 s s1 s3 (goes_one c s s1 (p + 3) n1)
+    (goes_on c 1 0 1 0 s1 s2 s3 (goes_one c s1 s2 (p + 3 + 1) n2) (goes_one c s2 s3 (p + 3 + 1 + 3) n3)) in
+    reaches_at c _ _ _ _ s _ _ _ _ (omega arith) (omega arith) (omega arith)
+    (one_more m base gs done (map (slot_before b bytes) ss) w) (reaches_after c 3 0 _ _ s s3 _ _ g refl r)

@@ -1,5 +1,6 @@
 -- EVAL goes to its end over what it owns.
-use Rattle.std.proofs.Common.{◌≡◌, ◌⊎◌, inl, inr, ℕ, suc, ◌+◌, ◌-◌, ◌*◌, ◌<◌, ◌≤◌, List, [], ◌∷◌, length, sum_by, All, Option, Some, None, get_or, refl, sym}
+use Rattle.std.proofs.Common.{◌≡◌, ◌⊎◌, inl, inr, ℕ, suc, ◌+◌, ◌-◌, ◌*◌, ◌<◌, ◌≤◌, List, [], ◌∷◌, length, sum_by, All}
+use Rattle.std.proofs.Common.{Option, Some, None, get_or, refl, sym}
 use Rattle.std.proofs.Common.{ap, ◌∙◌, subst, arith, length-append}
 use Rattle.fuzzy_meaning.specs.declared.block.Block.{Block}
 use Rattle.fuzzy_meaning.specs.Blocks.{IsValid, IsValidOutput}
@@ -27,9 +28,11 @@ use Rattle.eval_code.specs.Code.{eval_code}
 use Rattle.eval_code.proofs.steps.Memory.{has_put, at_put_out, length-put, bytes_front, bytes_back}
 use Rattle.eval_code.proofs.steps.Decoding.{sizes, UsedCode, code_bytes, decode_here}
 use Rattle.eval_code.proofs.phases.Quotients.{output_parts, output_most}
-use Rattle.eval_code.proofs.phases.Evaluating.{masses, length-after, HasParts, Evals, evaluated, eval_most, eval_parts, eval_run}
+use Rattle.eval_code.proofs.phases.Evaluating.{masses, length-after, HasParts, Evals, evaluated, eval_most, eval_parts}
+use Rattle.eval_code.proofs.phases.Evaluating.{eval_run}
 use Rattle.eval_code.proofs.masses.Answering.{answers_are}
-use Rattle.eval_code.proofs.phases.Outputs.{output_answers, all_bytes, length-all_bytes, length-output_answers, one_stands, listed, length-listed, listed_at}
+use Rattle.eval_code.proofs.phases.Outputs.{output_answers, all_bytes, length-all_bytes, length-output_answers}
+use Rattle.eval_code.proofs.phases.Outputs.{one_stands, listed, length-listed, listed_at}
 use Rattle.eval_code.proofs.phases.Outputs.{listed_stand}
 use Rattle.eval_code.proofs.phases.RuleFacts.{BlockFacts, block_facts, HasRules, has_rules}
 use Rattle.eval_code.proofs.phases.Used.{used_answer, answer_size}
@@ -41,7 +44,8 @@ length-code [] = refl
 length-code (i ∷ is) = omega (arith, length-append (encode_of i) (code_bytes is), length-code is)
 
 -- code that stands in memory among EVAL's
-stands_of : (c : Ctx) (p : ℕ) (is : List Instr) → UsedCode is → HasBytes c.image p (code_bytes is) → c.layout.eval ≤ p → p + sizes is + 6 ≤ c.layout.eval + 2432
+stands_of : (c : Ctx) (p : ℕ) (is : List Instr) → UsedCode is → HasBytes c.image p (code_bytes is) → c.layout.eval ≤ p
+    → p + sizes is + 6 ≤ c.layout.eval + 2432
     → Stands c p is
 stands_of c p [] u h lo hi = tt
 stands_of c p (i ∷ is) u h lo hi =
@@ -55,20 +59,24 @@ stands_of c p (i ∷ is) u h lo hi =
         fits = u.1;
         decoded = decode_here c.image p i u.0 (omega arith) (bytes_front c.image p (encode_of i) (code_bytes is) h);
       },
-      stands_of c (p + length (encode_of i)) is u.2 (bytes_back c.image p (encode_of i) (code_bytes is) h) (omega arith) (omega arith),
+      stands_of c (p + length (encode_of i)) is u.2 (bytes_back c.image p (encode_of i) (code_bytes is) h) (omega arith)
+          (omega arith),
     )
 
-parts_of : NearestIsByte → (c : Ctx) (b : Block) (w : Width) → IsValid b → BlockFacts b → HasEval c.layout b w c.image → HasParts c c.layout b w
+parts_of : NearestIsByte → (c : Ctx) (b : Block) (w : Width) → IsValid b → BlockFacts b → HasEval c.layout b w c.image
+    → HasParts c c.layout b w
 parts_of near c b w v facts h = record {
   tables = h.tables;
   singletons = h.singletons;
   weights = h.weights;
   rules = h.rules;
-  code = stands_of c c.layout.eval (eval_code c.layout b w) (used_answer near c.layout b w c.apart v facts) h.code (omega arith) (omega (arith, answer_size c.layout b w v facts));
+  code = stands_of c c.layout.eval (eval_code c.layout b w) (used_answer near c.layout b w c.apart v facts) h.code
+      (omega arith) (omega (arith, answer_size c.layout b w v facts));
 }
 
 -- the bounds are those of the parts
-bound_of : (w : Width) (o : Output) (d : Option Dec) → output_most w (record o { default = d }) ≡ output_bound w (record o { default = d })
+bound_of : (w : Width) (o : Output) (d : Option Dec)
+    → output_most w (record o { default = d }) ≡ output_bound w (record o { default = d })
 bound_of Byte o None = refl
 bound_of Byte o (Some d) = refl
 bound_of Word o None = refl
@@ -76,7 +84,14 @@ bound_of Word o (Some d) = refl
 
 all_bounds : (w : Width) (os : List Output) → sum_by (output_most w) os ≡ sum_by (output_bound w) os
 all_bounds w [] = refl
-all_bounds w (o ∷ os) = omega (arith, sum_by-cons (output_most w) o os, sum_by-cons (output_bound w) o os, bound_of w o o.default, all_bounds w os)
+all_bounds w (o ∷ os) =
+    omega (
+      arith,
+      sum_by-cons (output_most w) o os,
+      sum_by-cons (output_bound w) o os,
+      bound_of w o o.default,
+      all_bounds w os,
+    )
 
 count_bound : (w : Width) (b : Block) → 6 + eval_most w b ≡ instruction_bound w b
 unfolding instruction_bound
@@ -89,9 +104,11 @@ parts_and_outputs (o ∷ os) v =
     omega (arith, sum_by-cons singleton_count o os, parts_and_outputs os (λ k d lt. v (suc k) d (omega arith)))
 
 some_entries : (cs : List Conjunction) (ws : List ℕ) → HasRules cs ws → 2 ≤ sum_by entry_count cs
-some_entries cs ws h = subst (λ xs. 2 ≤ sum_by entry_count xs) (sym h.conjunctions_are) (omega (arith, sum_by-cons entry_count h.k h.ks))
+some_entries cs ws h =
+    subst (λ xs. 2 ≤ sum_by entry_count xs) (sym h.conjunctions_are) (omega (arith, sum_by-cons entry_count h.k h.ks))
 
-steps_fit : (w : Width) (b : Block) → IsValid b → BlockFacts b → (n : ℕ) → n ≤ 6 + eval_most w b + eval_parts b → n ≤ step_bound w b
+steps_fit : (w : Width) (b : Block) → IsValid b → BlockFacts b → (n : ℕ) → n ≤ 6 + eval_most w b + eval_parts b
+    → n ≤ step_bound w b
 unfolding steps_by
 steps_fit w b v facts n h =
     let some : 2 ≤ element_count b = some_entries (conjunctions_of b) _ (has_rules b facts) in
@@ -100,7 +117,9 @@ steps_fit w b v facts n h =
 -- where EVAL leads
 gone : RulesGiveMasses → (c : Ctx) (b : Block) (w : Width) (bytes : List ℕ) (before : ℕ → ℕ) (s : State)
     → Evals c c.layout b w bytes (listed before 1 (length b.outputs)) → Live c s
-    → (r : Reaches c (eval_most w b) (eval_parts b) s (c.layout.eval + sizes (eval_code c.layout b w)) (evaluated c.layout b w bytes (listed before 1 (length b.outputs)) s.mem)) → IsEvaluated c.layout b w c.flags bytes before s r.t
+    → (r : Reaches c (eval_most w b) (eval_parts b) s (c.layout.eval + sizes (eval_code c.layout b w))
+    (evaluated c.layout b w bytes (listed before 1 (length b.outputs)) s.mem))
+    → IsEvaluated c.layout b w c.flags bytes before s r.t
 gone masses_law c b w bytes before s h live r =
     let l = c.layout in
     let n = length b.outputs in
@@ -117,7 +136,8 @@ gone masses_law c b w bytes before s h live r =
     let m1 = put s.mem l.slots (slots_after b bytes) in
     let lm : length m1 ≡ 65536 = length-put s.mem l.slots (slots_after b bytes) ∙ live.size in
     let outs : HasBytes r.t.mem l.outputs (all_bytes w qs) =
-    subst (λ x. HasBytes x l.outputs (all_bytes w qs)) (sym r.mem_is) (has_put m1 l.outputs (all_bytes w qs) (omega arith)) in
+    subst (λ x. HasBytes x l.outputs (all_bytes w qs)) (sym r.mem_is)
+    (has_put m1 l.outputs (all_bytes w qs) (omega arith)) in
     record {
       ds = r.goes.ds;
       execution = r.goes.way;
@@ -130,10 +150,13 @@ gone masses_law c b w bytes before s h live r =
           ∙ answers_are w b bytes bs h.count (o - 1) (omega arith)
           ∙ ap (answer w b (1 + (o - 1)) bytes) (listed_at before 1 n (o - 1) (omega arith))
           ∙ ap (λ j. answer w b j bytes (before j)) k in
-          subst (λ v. HasBytes r.t.mem (l.outputs + places w * (o - 1)) (bytes_of w v)) e (one_stands r.t.mem w l.outputs qs (o - 1) outs (omega arith)));
+          subst (λ v. HasBytes r.t.mem (l.outputs + places w * (o - 1)) (bytes_of w v)) e
+          (one_stands r.t.mem w l.outputs qs (o - 1) outs (omega arith)));
       elsewhere = λ at x y. ap (λ m. get_or m at 0) r.mem_is
-          ∙ at_put_out m1 l.outputs (all_bytes w qs) at (outside l.outputs (places w * n) at (length (all_bytes w qs)) lb x)
-          ∙ at_put_out s.mem l.slots (slots_after b bytes) at (outside l.slots (length (slots_of b)) at (length (slots_after b bytes)) la y);
+          ∙ at_put_out m1 l.outputs (all_bytes w qs) at
+          (outside l.outputs (places w * n) at (length (all_bytes w qs)) lb x)
+          ∙ at_put_out s.mem l.slots (slots_after b bytes) at
+          (outside l.slots (length (slots_of b)) at (length (slots_after b bytes)) la y);
       instructions = omega (arith, r.goes.count, count_bound w b);
       steps = steps_fit w b h.valid h.facts (all_steps r.goes.ds + 6) (omega (arith, r.goes.parts));
     }
@@ -142,15 +165,28 @@ gone masses_law c b w bytes before s h live r =
     outside p n at k e (inl x) = inl x
     outside p n at k e (inr x) = inr (omega arith)
 
-begun : RulesGiveMasses → NearestIsByte → (c : Ctx) (b : Block) (w : Width) (bytes : List ℕ) (before : ℕ → ℕ) (s : State) → IsValid b → BlockFacts b
-    → IsWithinLimits b → AreInputBytes b bytes → HasEval c.layout b w c.image → Live c s → IsAtEval c.layout b w bytes before s
+begun : RulesGiveMasses → NearestIsByte
+    → (c : Ctx) (b : Block) (w : Width) (bytes : List ℕ) (before : ℕ → ℕ) (s : State) → IsValid b → BlockFacts b
+    → IsWithinLimits b → AreInputBytes b bytes → HasEval c.layout b w c.image → Live c s
+    → IsAtEval c.layout b w bytes before s
     → (t : State) × IsEvaluated c.layout b w c.flags bytes before s t
 begun masses_law near c b w bytes before s v facts lim i rom live k =
     let n = length b.outputs in
-    let e : Evals c c.layout b w bytes (listed before 1 n) = record { valid = v; facts = facts; limits = lim; rom = parts_of near c b w v facts rom; input = i; count = length-listed before 1 n } in
+    let e : Evals c c.layout b w bytes (listed before 1 n) =
+    record {
+      valid = v;
+      facts = facts;
+      limits = lim;
+      rom = parts_of near c b w v facts rom;
+      input = i;
+      count =
+          length-listed before 1 n;
+    } in
     let z : (j : ℕ) → 1 + j - 1 ≡ j = λ j. omega arith in
     let was =
-    listed_stand s.mem w c.layout.outputs before 1 n (λ j lt. subst (λ q. HasBytes s.mem (c.layout.outputs + places w * q) (bytes_of w (before (1 + j)))) (z j) (k.outputs (1 + j) (omega arith) (omega arith))) in
+    listed_stand s.mem w c.layout.outputs before 1 n
+    (λ j lt. subst (λ q. HasBytes s.mem (c.layout.outputs + places w * q) (bytes_of w (before (1 + j)))) (z j)
+    (k.outputs (1 + j) (omega arith) (omega arith))) in
     let r = eval_run c b w bytes (listed before 1 n) s e live k.pc k.inputs was in
     (r.t, gone masses_law c b w bytes before s e live r)
 
@@ -182,4 +218,5 @@ eval_answers laws l b w flags bytes before s a v lim fits i k =
       masks = refl;
       same = λ at h. refl;
     } in
-    begun laws.rules_give_masses laws.nearest_is_byte c b w bytes before s v (block_facts laws.layout_law b v) lim i k.eval live k
+    begun laws.rules_give_masses laws.nearest_is_byte c b w bytes before s v (block_facts laws.layout_law b v) lim i
+    k.eval live k

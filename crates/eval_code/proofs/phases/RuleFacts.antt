@@ -49,7 +49,8 @@ pub record HasRules (cs : List Conjunction) (ws : List ℕ) : Type 0 where
 has_rules_by : (cs : List Conjunction) (ws : List ℕ) → 1 ≤ length cs → length ws ≡ length cs → HasRules cs ws
 has_rules_by [] ws h e = absurd (omega arith)
 has_rules_by (k ∷ ks) [] h e = absurd (omega arith)
-has_rules_by (k ∷ ks) (w ∷ vs) h e = record { k = k; ks = ks; w = w; vs = vs; conjunctions_are = refl; weights_are = refl; same = omega arith }
+has_rules_by (k ∷ ks) (w ∷ vs) h e =
+    record { k = k; ks = ks; w = w; vs = vs; conjunctions_are = refl; weights_are = refl; same = omega arith }
 
 pub has_rules : (b : Block) → BlockFacts b → HasRules (conjunctions_of b) (weights_of b)
 has_rules b facts = has_rules_by (conjunctions_of b) (weights_of b) facts.some_conjunction facts.weighed
@@ -57,8 +58,11 @@ has_rules b facts = has_rules_by (conjunctions_of b) (weights_of b) facts.some_c
 -- their numbers are those of slots
 all_below_by : (n : ℕ) (cs : List Conjunction) → All (IsBelow n) cs → AllBelow n cs
 all_below_by n [] h = tt
-all_below_by n (c ∷ cs) h =
-    (below_all n c.literals (h 0 c (omega arith)).literals, below_all n c.conclusions (h 0 c (omega arith)).conclusions, all_below_by n cs (λ k d lt. h (suc k) d (omega arith)))
+all_below_by n (c ∷ cs) h = (
+  below_all n c.literals (h 0 c (omega arith)).literals,
+  below_all n c.conclusions (h 0 c (omega arith)).conclusions,
+  all_below_by n cs (λ k d lt. h (suc k) d (omega arith)),
+)
 
 pub all_below : (b : Block) → BlockFacts b → AllBelow (length (slots_of b)) (conjunctions_of b)
 all_below b facts = all_below_by (length (slots_of b)) (conjunctions_of b) facts.in_range
@@ -66,7 +70,8 @@ all_below b facts = all_below_by (length (slots_of b)) (conjunctions_of b) facts
 -- weights are bytes, and with REV 255
 bytes_below : (ws : List ℕ) → All (λ w. w ≤ 255) ws → Below 256 ws
 bytes_below [] h = tt
-bytes_below (w ∷ ws) h = ((let l : w ≤ 255 = h 0 w (omega arith) in omega arith), bytes_below ws (λ k d lt. h (suc k) d (omega arith)))
+bytes_below (w ∷ ws) h =
+    ((let l : w ≤ 255 = h 0 w (omega arith) in omega arith), bytes_below ws (λ k d lt. h (suc k) d (omega arith)))
 
 pub weights_below : (b : Block) → BlockFacts b → Below 256 (weights_of b)
 weights_below b facts = bytes_below (weights_of b) facts.weight_bytes

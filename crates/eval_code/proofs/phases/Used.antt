@@ -1,5 +1,6 @@
 -- The operands of EVAL's code fit.
-use Rattle.std.proofs.Common.{◌≡◌, ℕ, zero, suc, ◌+◌, ◌*◌, ◌^◌, ◌<◌, ◌≤◌, List, [], ◌∷◌, map, length, replicate, sum_by, All, Option, Some, None, option_map}
+use Rattle.std.proofs.Common.{◌≡◌, ℕ, zero, suc, ◌+◌, ◌*◌, ◌^◌, ◌<◌, ◌≤◌, List, [], ◌∷◌, map, length, replicate, sum_by}
+use Rattle.std.proofs.Common.{All, Option, Some, None, option_map}
 use Rattle.std.proofs.Common.{refl, sym, ap, subst, arith, length-append}
 use Rattle.std.specs.Prelude.{IfSome}
 use Rattle.std.proofs.lemmas.List.{length-map, length-replicate}
@@ -20,7 +21,8 @@ use Rattle.cpu12_isa.specs.declared.instr.Instr.{Instr}
 use Rattle.cpu12_isa.specs.declared.instr.Instr.TheVariants.{Mem}
 use Rattle.cpu12_isa.specs.Code.{encode_of}
 use Rattle.eval_code.specs.declared.layout.Layout.{Layout}
-use Rattle.eval_code.specs.Code.{fuzzify_code, slots_code, rules_code, input_slots, quotient_code, output_code, outputs_code, eval_code}
+use Rattle.eval_code.specs.Code.{fuzzify_code, slots_code, rules_code, input_slots, quotient_code, output_code}
+use Rattle.eval_code.specs.Code.{outputs_code, eval_code}
 use Rattle.eval_code.specs.declared.width.Width.{Width}
 use Rattle.eval_code.specs.declared.width.Width.TheVariants.{Byte, Word}
 use Rattle.eval_code.specs.Widths.{places}
@@ -42,39 +44,103 @@ used_mems (suc n) = (tt, tt, used_mems n)
 
 used_fuzzify : (at : ℕ) (inputs : List Input) → at + length inputs < 2 ^ 16 → UsedCode (fuzzify_code at inputs)
 used_fuzzify at [] h = tt
-used_fuzzify at (x ∷ xs) h = (tt, omega arith, used_append (replicate (length x.terms) Mem) (fuzzify_code (at + 1) xs) (used_mems (length x.terms)) (used_fuzzify (at + 1) xs (omega arith)))
+used_fuzzify at (x ∷ xs) h = (
+  tt,
+  omega arith,
+  used_append (replicate (length x.terms) Mem) (fuzzify_code (at + 1) xs)
+      (used_mems (length x.terms)) (used_fuzzify (at + 1) xs (omega arith)),
+)
 
-used_slots : (b : Block) (bytes : List ℕ) (inputs : List Input) (gs : List ℕ) (base at : ℕ) (ss : List Slot) → AllCanFill b bytes inputs gs ss
+used_slots : (b : Block) (bytes : List ℕ) (inputs : List Input) (gs : List ℕ) (base at : ℕ) (ss : List Slot)
+    → AllCanFill b bytes inputs gs ss
     → base + length gs < 2 ^ 16 → at + length ss < 2 ^ 16 → UsedCode (slots_code base inputs at ss)
 used_slots b bytes inputs gs base at [] h lo hi = tt
 used_slots b bytes inputs gs base at (Term i t ∷ ss) h lo hi = absurd h.0
-used_slots b bytes inputs gs base at (Out o t ∷ ss) h lo hi = (tt, omega arith, used_slots b bytes inputs gs base (at + 1) ss h.1 lo (omega arith))
-used_slots b bytes inputs gs base at (Complement i t ∷ ss) h lo hi = let k = h.0.0 in (tt, omega arith, (tt, tt, (tt, omega arith, used_slots b bytes inputs gs base (at + 1) ss h.1 lo (omega arith))))
+used_slots b bytes inputs gs base at (Out o t ∷ ss) h lo hi =
+    (tt, omega arith, used_slots b bytes inputs gs base (at + 1) ss h.1 lo (omega arith))
+used_slots b bytes inputs gs base at (Complement i t ∷ ss) h lo hi = let k = h.0.0 in
+    (tt, omega arith, (tt, tt, (tt, omega arith, used_slots b bytes inputs gs base (at + 1) ss h.1 lo (omega arith))))
 
 used_rules : (l : Layout) (f : Form) → IsApart l → UsedCode (rules_code l f)
-used_rules l form.Rev a = let s = a.slots in let r = a.rules_end in (tt, omega arith, (tt, omega arith, (tt, omega arith, (tt, omega arith, (tt, tt, tt)))))
-used_rules l form.Revw a = let w = a.weights_end in let r = a.rules_end in (tt, omega arith, (tt, omega arith, (tt, omega arith, (tt, omega arith, (tt, omega arith, (tt, tt, tt))))))
+used_rules l form.Rev a = let s = a.slots in let r = a.rules_end in
+    (tt, omega arith, (tt, omega arith, (tt, omega arith, (tt, omega arith, (tt, tt, tt)))))
+used_rules l form.Revw a = let w = a.weights_end in let r = a.rules_end in
+    (tt, omega arith, (tt, omega arith, (tt, omega arith, (tt, omega arith, (tt, omega arith, (tt, tt, tt))))))
 
-used_quotient : NearestIsByte → (w : Width) (at : ℕ) (o : Output) (d : Option Dec) → at + places w ≤ 2 ^ 16 → IsValidOutput o → IfSome d (IsWithin o.lo o.hi)
+used_quotient : NearestIsByte → (w : Width) (at : ℕ) (o : Output) (d : Option Dec) → at + places w ≤ 2 ^ 16
+    → IsValidOutput o → IfSome d (IsWithin o.lo o.hi)
     → UsedCode (quotient_code w at (option_map (nearest_byte o) d))
-used_quotient near Byte at o None h v k = (tt, omega arith, (tt, omega arith, (tt, tt, (tt, tt, (tt, omega arith, tt)))))
-used_quotient near Byte at o (Some d) h v k = let q = near o d v.range k in (tt, omega arith, (tt, omega arith, (tt, tt, (tt, tt, (tt, omega arith, (tt, omega arith, (tt, omega arith, tt)))))))
-used_quotient near Word at o None h v k = (tt, omega arith, (tt, omega arith, (tt, tt, (tt, tt, (tt, tt, (tt, omega arith, (tt, tt, (tt, omega arith, tt))))))))
-used_quotient near Word at o (Some d) h v k = let q = near o d v.range k in (tt, omega arith, (tt, omega arith, (tt, tt, (tt, tt, (tt, tt, (tt, omega arith, (tt, tt, (tt, omega arith, (tt, omega arith, (tt, omega arith, (tt, omega arith, (tt, omega arith, tt))))))))))))
+used_quotient near Byte at o None h v k =
+    (tt, omega arith, (tt, omega arith, (tt, tt, (tt, tt, (tt, omega arith, tt)))))
+used_quotient near Byte at o (Some d) h v k = let q = near o d v.range k in (
+  tt,
+  omega arith,
+  (
+    tt,
+    omega arith,
+    (tt, tt, (tt, tt, (tt, omega arith, (tt, omega arith, (tt, omega arith, tt))))),
+  ),
+)
+used_quotient near Word at o None h v k = (
+  tt,
+  omega arith,
+  (
+    tt,
+    omega arith,
+    (tt, tt, (tt, tt, (tt, tt, (tt, omega arith, (tt, tt, (tt, omega arith, tt)))))),
+  ),
+)
+used_quotient near Word at o (Some d) h v k = let q = near o d v.range k in (
+  tt,
+  omega arith,
+  (
+    tt,
+    omega arith,
+    (
+      tt,
+      tt,
+      (
+        tt,
+        tt,
+        (
+          tt,
+          tt,
+          (
+            tt,
+            omega arith,
+            (tt, tt, (tt, omega arith, (tt, omega arith, (tt, omega arith, (tt, omega arith, (tt, omega arith, tt)))))),
+          ),
+        ),
+      ),
+    ),
+  ),
+)
 
-used_outputs : NearestIsByte → (w : Width) (sx sy at : ℕ) (os : List Output) → All IsValidOutput os → sx + sum_by singleton_count os < 2 ^ 16
-    → sy + sum_by singleton_count os < 2 ^ 16 → at + places w * length os ≤ 2 ^ 16 → UsedCode (outputs_code w sx sy at os)
+used_outputs : NearestIsByte → (w : Width) (sx sy at : ℕ) (os : List Output) → All IsValidOutput os
+    → sx + sum_by singleton_count os < 2 ^ 16
+    → sy + sum_by singleton_count os < 2 ^ 16 → at + places w * length os ≤ 2 ^ 16
+    → UsedCode (outputs_code w sx sy at os)
 used_outputs near w sx sy at [] v hx hy h = tt
 used_outputs near w sx sy at (o ∷ os) v hx hy h =
     let e = sum_by-cons singleton_count o os in
     let vo = v 0 o (omega arith) in
     let few = vo.few_terms in
     let more : places w * length (o ∷ os) ≡ places w + places w * length os = omega arith in
-    used_append (output_code w sx sy at o) (outputs_code w (sx + length o.singletons) (sy + length o.singletons) (at + places w) os)
-    (tt, omega arith, (tt, omega arith, (tt, omega arith, (tt, tt, used_quotient near w at o o.default (omega arith) vo vo.default_in))))
-    (used_outputs near w (sx + length o.singletons) (sy + length o.singletons) (at + places w) os (λ k d lt. v (suc k) d (omega arith)) (omega arith) (omega arith) (omega arith))
+    used_append (output_code w sx sy at o)
+    (outputs_code w (sx + length o.singletons) (sy + length o.singletons) (at + places w) os) (
+      tt,
+      omega arith,
+      (
+        tt,
+        omega arith,
+        (tt, omega arith, (tt, tt, used_quotient near w at o o.default (omega arith) vo vo.default_in)),
+      ),
+    )
+    (used_outputs near w (sx + length o.singletons) (sy + length o.singletons) (at + places w) os
+    (λ k d lt. v (suc k) d (omega arith)) (omega arith) (omega arith) (omega arith))
 
-pub used_answer : NearestIsByte → (l : Layout) (b : Block) (w : Width) → IsApart l → IsValid b → BlockFacts b → UsedCode (eval_code l b w)
+pub used_answer : NearestIsByte → (l : Layout) (b : Block) (w : Width) → IsApart l → IsValid b → BlockFacts b
+    → UsedCode (eval_code l b w)
 used_answer near l b w a v facts =
     let zs = replicate (length b.inputs) 0 in
     let lz : length zs ≡ length b.inputs = length-replicate {A = ℕ} (length b.inputs) 0 in
@@ -85,14 +151,24 @@ used_answer near l b w a v facts =
     let ls = length-slots b in
     let li = length-input_terms b in
     let lf : length (input_terms b) + length (further_slots b) ≡ length (slots_of b) =
-    omega (arith, ap length (slots_are b), length-append (map term_slot (input_terms b)) (further_slots b), length-map (input_terms b) term_slot) in
+    omega (
+      arith,
+      ap length (slots_are b),
+      length-append (map term_slot (input_terms b)) (further_slots b),
+      length-map (input_terms b) term_slot,
+    ) in
     let i = a.inputs in
     let o = a.outputs in
     let s = a.slots in
     let singles = outputs_few b v in
     let fill : UsedCode (slots_code l.slots b.inputs l.slots (slots_of b)) =
-    subst UsedCode (sym (slots_code_is l b)) (used_slots b zs b.inputs gs l.slots (l.slots + length (input_terms b)) (further_slots b) (further_fill b zs lz) (omega arith) (omega arith)) in
-    let outs : UsedCode (outputs_code w l.singletons (l.slots + input_slots (slots_of b) b.outputs) l.outputs b.outputs) = used_outputs near w l.singletons (l.slots + input_slots (slots_of b) b.outputs) l.outputs b.outputs v.outputs (omega (arith, a.singletons_end)) (omega arith) (omega (arith, places_few w (length b.outputs) v.few_outputs)) in (
+    subst UsedCode (sym (slots_code_is l b))
+    (used_slots b zs b.inputs gs l.slots (l.slots + length (input_terms b)) (further_slots b) (further_fill b zs lz)
+    (omega arith) (omega arith)) in
+    let outs : UsedCode (outputs_code w l.singletons (l.slots + input_slots (slots_of b) b.outputs) l.outputs
+    b.outputs) = used_outputs near w l.singletons (l.slots + input_slots (slots_of b) b.outputs) l.outputs b.outputs
+    v.outputs (omega (arith, a.singletons_end)) (omega arith)
+    (omega (arith, places_few w (length b.outputs) v.few_outputs)) in (
       tt,
       omega (arith, a.tables_end),
       (
@@ -111,4 +187,9 @@ sizes_is (i ∷ is) = ap (λ n. length (encode_of i) + n) (sizes_is is)
 -- the code of a block, which leaves room for a fetch and a return
 pub answer_size : (l : Layout) (b : Block) (w : Width) → IsValid b → BlockFacts b → sizes (eval_code l b w) ≤ 2420
 answer_size l b w v facts =
-    omega (arith, sizes_is (eval_code l b w), code_size-eval l w b.inputs b.outputs (slots_of b) (form_of b) v.few_inputs (sum_by-term_count b.inputs v.few_inputs v.inputs) v.few_outputs facts.few_slots)
+    omega (
+      arith,
+      sizes_is (eval_code l b w),
+      code_size-eval l w b.inputs b.outputs (slots_of b) (form_of b) v.few_inputs
+          (sum_by-term_count b.inputs v.few_inputs v.inputs) v.few_outputs facts.few_slots,
+    )

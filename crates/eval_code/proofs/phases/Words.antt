@@ -1,5 +1,7 @@
 -- The quotient's code, for answers of a byte and of a word.
-use Rattle.std.proofs.Common.{◌≡◌, ◌≢◌, ℕ, zero, suc, ◌+◌, ◌*◌, ◌/◌, ◌%◌, ◌^◌, ◌<◌, ◌≤◌, nat_lt, Bool, true, false, List, [], ◌∷◌, get_or, set, div-lt_iff_lt-mul, Option, Some, None, refl, sym, ap, ap₂, ◌∙◌, arith}
+use Rattle.std.proofs.Common.{◌≡◌, ◌≢◌, ℕ, zero, suc, ◌+◌, ◌*◌, ◌/◌, ◌%◌, ◌^◌, ◌<◌, ◌≤◌, nat_lt, Bool, true, false}
+use Rattle.std.proofs.Common.{List, [], ◌∷◌, get_or, set, div-lt_iff_lt-mul, Option, Some, None, refl, sym, ap, ap₂}
+use Rattle.std.proofs.Common.{◌∙◌, arith}
 use Rattle.std.specs.Prelude.{◌==◌}
 use Rattle.std.proofs.lemmas.List.{set-get_or}
 use Rattle.std.proofs.lemmas.Bool.Decides.{nat_tests}
@@ -7,7 +9,8 @@ use Rattle.std.proofs.lemmas.Nat.{div-add-mod'}
 use Rattle.std.proofs.Math.Nat.{div-div-eq-div-mul, mul-div-mul_right, mul-add-div_right, mod-lt}
 use Rattle.cpu12_isa.specs.declared.instr.Regs.{Regs}
 use Rattle.cpu12_isa.specs.declared.instr.Instr.{Instr}
-use Rattle.cpu12_isa.specs.declared.instr.Instr.TheVariants.{LdabImmediate, StaaExtended, StabExtended, ClrExtended, CpxImmediate, Beq, Bra, TransferXD, TransferYD, Ediv, Fdiv}
+use Rattle.cpu12_isa.specs.declared.instr.Instr.TheVariants.{LdabImmediate, StaaExtended, StabExtended, ClrExtended}
+use Rattle.cpu12_isa.specs.declared.instr.Instr.TheVariants.{CpxImmediate, Beq, Bra, TransferXD, TransferYD, Ediv, Fdiv}
 use Rattle.cpu12_isa.specs.Flags.{has}
 use Rattle.cpu12_isa.specs.declared.instr.Ccr.{Ccr}
 use Rattle.cpu12_isa.specs.Memory.{plus}
@@ -24,24 +27,40 @@ use Rattle.eval_code.proofs.phases.Quotients.{quotient_of, quotient_most, quotie
 use Rattle.eval_code.proofs.steps.Flags.{masked_put}
 use Rattle.eval_code.proofs.steps.Memory.{HasBytes}
 use Rattle.eval_code.proofs.steps.Decoding.{sizes}
-use Rattle.eval_code.proofs.steps.Instructions.{divided_is, ldab_byte, staa, stab, clr, cpx, cpx_zero, beq_on, beq_off, bra_on, tfr, ediv, ediv_y, ediv_sp}
-use Rattle.eval_code.proofs.steps.Stepping.{Ctx, Here, Live, Stands, Next, next, Goes, goes_one, goes_on, stands_at, Reaches, reaches_at}
+use Rattle.eval_code.proofs.steps.Instructions.{divided_is, ldab_byte, staa, stab, clr, cpx, cpx_zero, beq_on, beq_off}
+use Rattle.eval_code.proofs.steps.Instructions.{bra_on, tfr, ediv, ediv_y, ediv_sp}
+use Rattle.eval_code.proofs.steps.Stepping.{Ctx, Here, Live, Stands, Next, next, Goes, goes_one, goes_on, stands_at}
+use Rattle.eval_code.proofs.steps.Stepping.{Reaches, reaches_at}
 use Rattle.cpu12_isa.specs.Flags as flag
 
 -- D by X as fractions, where D is below X
 fraction_is : (r : Regs) (d : ℕ) → r.a * 2 ^ 8 + r.b ≡ d → d < r.x
-    → divided_fraction r ≡ record r { x = d * 2 ^ 16 / r.x; a = d * 2 ^ 16 % r.x / 2 ^ 8; b = d * 2 ^ 16 % r.x % 2 ^ 8; pc = plus r.pc 2; ccr = flag.put (flag.put (flag.put r.ccr 2 (d * 2 ^ 16 / r.x == 0)) 1 false) 0 false }
+    → divided_fraction r
+    ≡ record r {
+      x = d * 2 ^ 16 / r.x;
+      a = d * 2 ^ 16 % r.x / 2 ^ 8;
+      b = d * 2 ^ 16 % r.x % 2 ^ 8;
+      pc =
+          plus r.pc 2;
+      ccr = flag.put (flag.put (flag.put r.ccr 2 (d * 2 ^ 16 / r.x == 0)) 1 false) 0 false;
+    }
 fraction_is r d e lt = let a : nat_lt d r.x ≡ true = grind (arith, nat_tests) in rw (e, a)
 
-masked_three : (c : Ccr) (z : Bool) → interrupt_masks (flag.put (flag.put (flag.put c 2 z) 1 false) 0 false) ≡ interrupt_masks c
-masked_three c z = masked_put (flag.put (flag.put c 2 z) 1 false) 0 false (omega arith) ∙ masked_put (flag.put c 2 z) 1 false (omega arith) ∙ masked_put c 2 z (omega arith)
+masked_three : (c : Ccr) (z : Bool)
+    → interrupt_masks (flag.put (flag.put (flag.put c 2 z) 1 false) 0 false) ≡ interrupt_masks c
+masked_three c z = masked_put (flag.put (flag.put c 2 z) 1 false) 0 false (omega arith)
+    ∙ masked_put (flag.put c 2 z) 1 false (omega arith) ∙ masked_put c 2 z (omega arith)
 
-fdiv : (c : Ctx) (s : State) (p d : ℕ) → Live c s → s.regs.pc ≡ p → Here c p Fdiv → s.regs.a * 2 ^ 8 + s.regs.b ≡ d → d < s.regs.x → Next c s (after_plain c.flags Fdiv s) (p + 2)
+fdiv : (c : Ctx) (s : State) (p d : ℕ) → Live c s → s.regs.pc ≡ p → Here c p Fdiv → s.regs.a * 2 ^ 8 + s.regs.b ≡ d
+    → d < s.regs.x → Next c s (after_plain c.flags Fdiv s) (p + 2)
 fdiv c s p d l ep h e lt =
     let q = fraction_is s.regs d e lt in
-    next c s p (p + 2) Fdiv l ep h refl tt tt tt (ap (λ (r : Regs). r.sp) q) (ap (λ (r : Regs). interrupt_masks r.ccr) q ∙ masked_three s.regs.ccr _) (ap (λ (r : Regs). r.pc) q ∙ omega (arith, h.high))
+    next c s p (p + 2) Fdiv l ep h refl tt tt tt (ap (λ (r : Regs). r.sp) q)
+    (ap (λ (r : Regs). interrupt_masks r.ccr) q ∙ masked_three s.regs.ccr _)
+    (ap (λ (r : Regs). r.pc) q ∙ omega (arith, h.high))
 
-transfer : (c : Ctx) (s : State) (p : ℕ) → Live c s → s.regs.pc ≡ p → Here c p TransferXD → Next c s (after_plain c.flags TransferXD s) (p + 2)
+transfer : (c : Ctx) (s : State) (p : ℕ) → Live c s → s.regs.pc ≡ p → Here c p TransferXD
+    → Next c s (after_plain c.flags TransferXD s) (p + 2)
 transfer c s p l ep h = next c s p (p + 2) TransferXD l ep h refl tt tt tt refl refl (omega (arith, h.high))
 
 -- EDIV and FDIV: the quotient in Y, its fraction in X
@@ -55,7 +74,9 @@ record Divided (c : Ctx) (s : State) (pc n w : ℕ) : Type 0 where
   mem_is : t.mem ≡ s.mem
   sp_is : t.regs.sp ≡ s.regs.sp
 
-divided : (c : Ctx) (p n w : ℕ) (s : State) (rest : List Instr) → Live c s → s.regs.pc ≡ p → Stands c p (Ediv ∷ Fdiv ∷ rest) → s.regs.x ≡ suc w → s.regs.y * 2 ^ 16 + (s.regs.a * 2 ^ 8 + s.regs.b) ≡ n → n ≤ 255 * suc w → Divided c s (p + 1 + 2) n w
+divided : (c : Ctx) (p n w : ℕ) (s : State) (rest : List Instr) → Live c s → s.regs.pc ≡ p
+    → Stands c p (Ediv ∷ Fdiv ∷ rest) → s.regs.x ≡ suc w → s.regs.y * 2 ^ 16 + (s.regs.a * 2 ^ 8 + s.regs.b) ≡ n
+    → n ≤ 255 * suc w → Divided c s (p + 1 + 2) n w
 divided c p n w s rest l ep st ex en le =
     let q = quotient_small w n le in
     let nz : s.regs.x ≢ 0 = omega arith in
@@ -92,7 +113,10 @@ record Stored (c : Ctx) (s : State) (pc at high low : ℕ) : Type 0 where
   mem_is : t.mem ≡ set (set s.mem at high) (at + 1) low
   sp_is : t.regs.sp ≡ s.regs.sp
 
-stored : (c : Ctx) (at p high low : ℕ) (s : State) (rest : List Instr) → Live c s → s.regs.pc ≡ p → Stands c p (TransferYD ∷ StabExtended at ∷ TransferXD ∷ StaaExtended (at + 1) ∷ rest) → s.regs.y ≡ high → high < 256 → s.regs.x / 2 ^ 8 ≡ low → Writes c.layout at → Writes c.layout (at + 1) → Stored c s (p + 2 + 3 + 2 + 3) at high low
+stored : (c : Ctx) (at p high low : ℕ) (s : State) (rest : List Instr) → Live c s → s.regs.pc ≡ p
+    → Stands c p (TransferYD ∷ StabExtended at ∷ TransferXD ∷ StaaExtended (at + 1) ∷ rest) → s.regs.y ≡ high
+    → high < 256 → s.regs.x / 2 ^ 8 ≡ low → Writes c.layout at → Writes c.layout (at + 1)
+    → Stored c s (p + 2 + 3 + 2 + 3) at high low
 stored c at p high low s rest l ep st ey lt ex wa wb =
     let s1 = after_plain c.flags TransferYD s in
     let s2 = after_plain c.flags (StabExtended at) s1 in
@@ -105,7 +129,9 @@ stored c at p high low s rest l ep st ey lt ex wa wb =
     let eb : s1.regs.b ≡ high = ap (λ k. k % 2 ^ 8) ey ∙ omega arith in
     record {
       t = s4;
-      goes = goes_on c 1 0 3 0 s s1 s4 (goes_one c s s1 (p + 2) n1) (goes_on c 1 0 2 0 s1 s2 s4 (goes_one c s1 s2 (p + 2 + 3) n2) (goes_on c 1 0 1 0 s2 s3 s4 (goes_one c s2 s3 (p + 2 + 3 + 2) n3) (goes_one c s3 s4 (p + 2 + 3 + 2 + 3) n4)));
+      goes = goes_on c 1 0 3 0 s s1 s4 (goes_one c s s1 (p + 2) n1)
+          (goes_on c 1 0 2 0 s1 s2 s4 (goes_one c s1 s2 (p + 2 + 3) n2)
+          (goes_on c 1 0 1 0 s2 s3 s4 (goes_one c s2 s3 (p + 2 + 3 + 2) n3) (goes_one c s3 s4 (p + 2 + 3 + 2 + 3) n4)));
       live = n4.live;
       pc_is = n4.pc_is;
       mem_is = ap₂ (λ a b. set (set s.mem at a) (at + 1) b) eb ex;
@@ -119,7 +145,8 @@ byte_small n w h = grind (arith, div-lt_iff_lt-mul)
 word_high : (n w : ℕ) → 256 * n / suc w / 2 ^ 8 ≡ n / suc w
 word_high n w =
     let e : 256 * n ≡ n * 256 = omega arith in
-    div-div-eq-div-mul (256 * n) (suc w) 256 ∙ ap (λ k. k / (suc w * 256)) e ∙ mul-div-mul_right {m = 256} n (suc w) (omega arith)
+    div-div-eq-div-mul (256 * n) (suc w) 256 ∙ ap (λ k. k / (suc w * 256)) e
+    ∙ mul-div-mul_right {m = 256} n (suc w) (omega arith)
 
 word_low : (n w : ℕ) → 256 * n / suc w % 2 ^ 8 ≡ n % suc w * 2 ^ 16 / suc w / 2 ^ 8
 word_low n w =
@@ -129,18 +156,23 @@ word_low n w =
     let split : q * suc w + r ≡ n = div-add-mod' n (suc w) in
     let dist : 256 * q * suc w ≡ 256 * (q * suc w) = grind arith in
     let e : 256 * n ≡ 256 * q * suc w + 256 * r = omega arith in
-    let whole : 256 * n / suc w ≡ 256 * q + 256 * r / suc w = ap (λ k. k / suc w) e ∙ mul-add-div_right {m = suc w} (omega arith) (256 * q) (256 * r) in
+    let whole : 256 * n / suc w ≡ 256 * q + 256 * r / suc w =
+    ap (λ k. k / suc w) e ∙ mul-add-div_right {m = suc w} (omega arith) (256 * q) (256 * r) in
     let small = byte_small (256 * r) w (omega arith) in
     let f : r * 2 ^ 16 ≡ 256 * r * 256 = omega arith in
-    let back : r * 2 ^ 16 / suc w / 2 ^ 8 ≡ 256 * r / suc w = div-div-eq-div-mul (r * 2 ^ 16) (suc w) 256 ∙ ap (λ k. k / (suc w * 256)) f ∙ mul-div-mul_right {m = 256} (256 * r) (suc w) (omega arith) in
+    let back : r * 2 ^ 16 / suc w / 2 ^ 8 ≡ 256 * r / suc w = div-div-eq-div-mul (r * 2 ^ 16) (suc w) 256
+    ∙ ap (λ k. k / (suc w * 256)) f ∙ mul-div-mul_right {m = 256} (256 * r) (suc w) (omega arith) in
     omega arith
 
 -- the code for a word
 abbrev pub word : ℕ → ℕ → Option ℕ → ℕ → ℕ
 word w n d before = quotient_of Word w n d before
 
-pub word_run : (c : Ctx) (at p n w : ℕ) (d : Option ℕ) (before : ℕ) (s : State) → Live c s → s.regs.pc ≡ p → Stands c p (quotient_code Word at d) → s.regs.x ≡ w → s.regs.y * 2 ^ 16 + (s.regs.a * 2 ^ 8 + s.regs.b) ≡ n → n ≤ 255 * w → HasBytes s.mem at (bytes_of Word before) → Writes c.layout at → Writes c.layout (at + 1)
-    → Reaches c (quotient_most Word d) 0 s (p + sizes (quotient_code Word at d)) (put s.mem at (bytes_of Word (word w n d before)))
+pub word_run : (c : Ctx) (at p n w : ℕ) (d : Option ℕ) (before : ℕ) (s : State) → Live c s → s.regs.pc ≡ p
+    → Stands c p (quotient_code Word at d) → s.regs.x ≡ w → s.regs.y * 2 ^ 16 + (s.regs.a * 2 ^ 8 + s.regs.b) ≡ n
+    → n ≤ 255 * w → HasBytes s.mem at (bytes_of Word before) → Writes c.layout at → Writes c.layout (at + 1)
+    → Reaches c (quotient_most Word d) 0 s (p + sizes (quotient_code Word at d))
+    (put s.mem at (bytes_of Word (word w n d before)))
 word_run c at p n zero (Some d) before s l ep st ex en le hb wa wb =
     let s1 = after_plain c.flags (CpxImmediate 0) s in
     let s2 = after_plain c.flags (Beq 15) s1 in
@@ -152,15 +184,22 @@ word_run c at p n zero (Some d) before s l ep st ex en le hb wa wb =
     let z : has s1.regs.ccr 2 ≡ true = cpx_zero c s l.fits.x ∙ x0 in
     let tail = st.1.1.1.1.1.1.1.1.1 in
     let n2 = beq_off c s1 (p + 3) 15 n1.live n1.pc_is st.1.0 (omega arith) (omega (arith, tail.0.high)) z in
-    let h3 = stands_at c (p + 3 + 2 + 1 + 2 + 2 + 3 + 2 + 3 + 2) (p + 3 + 2 + 15) (LdabImmediate d ∷ StabExtended at ∷ ClrExtended (at + 1) ∷ []) (omega arith) tail in
+    let h3 = stands_at c (p + 3 + 2 + 1 + 2 + 2 + 3 + 2 + 3 + 2) (p + 3 + 2 + 15)
+    (LdabImmediate d ∷ StabExtended at ∷ ClrExtended (at + 1) ∷ []) (omega arith) tail in
     let small = h3.0.fits in
     let n3 = ldab_byte c s2 (p + 3 + 2 + 15) d n2.live n2.pc_is h3.0 h3.0.fits in
     let n4 = stab c s3 (p + 3 + 2 + 15 + 2) at n3.live n3.pc_is h3.1.0 wa in
     let n5 = clr c s4 (p + 3 + 2 + 15 + 2 + 3) (at + 1) n4.live n4.pc_is h3.1.1.0 wb in
-    let g = goes_on c 1 0 4 0 s s1 s5 (goes_one c s s1 (p + 3) n1) (goes_on c 1 0 3 0 s1 s2 s5 (goes_one c s1 s2 (p + 3 + 2 + 15) n2) (goes_on c 1 0 2 0 s2 s3 s5 (goes_one c s2 s3 (p + 3 + 2 + 15 + 2) n3) (goes_on c 1 0 1 0 s3 s4 s5 (goes_one c s3 s4 (p + 3 + 2 + 15 + 2 + 3) n4) (goes_one c s4 s5 (p + 3 + 2 + 15 + 2 + 3 + 3) n5)))) in
+    let g = goes_on c 1 0 4 0 s s1 s5 (goes_one c s s1 (p + 3) n1)
+    (goes_on c 1 0 3 0 s1 s2 s5 (goes_one c s1 s2 (p + 3 + 2 + 15) n2)
+    (goes_on c 1 0 2 0 s2 s3 s5 (goes_one c s2 s3 (p + 3 + 2 + 15 + 2) n3)
+    (goes_on c 1 0 1 0 s3 s4 s5 (goes_one c s3 s4 (p + 3 + 2 + 15 + 2 + 3) n4)
+    (goes_one c s4 s5 (p + 3 + 2 + 15 + 2 + 3 + 3) n5)))) in
     let high : 256 * d / 2 ^ 8 ≡ d = omega arith in
     let low : 256 * d % 2 ^ 8 ≡ 0 = omega arith in
-    reaches_at c 5 0 _ _ s _ _ _ _ (omega arith) (omega arith) (omega arith) (sym (ap₂ (λ a b. set (set s.mem at a) (at + 1) b) high low)) (record { t = s5; goes = g; live = n5.live; pc_is = n5.pc_is; mem_is = refl; sp_is = refl })
+    reaches_at c 5 0 _ _ s _ _ _ _ (omega arith) (omega arith) (omega arith)
+    (sym (ap₂ (λ a b. set (set s.mem at a) (at + 1) b) high low))
+    (record { t = s5; goes = g; live = n5.live; pc_is = n5.pc_is; mem_is = refl; sp_is = refl })
 word_run c at p n zero None before s l ep st ex en le hb wa wb =
     let s1 = after_plain c.flags (CpxImmediate 0) s in
     let s2 = after_plain c.flags (Beq 13) s1 in
@@ -169,8 +208,11 @@ word_run c at p n zero None before s l ep st ex en le hb wa wb =
     let z : has s1.regs.ccr 2 ≡ true = cpx_zero c s l.fits.x ∙ x0 in
     let n2 = beq_off c s1 (p + 3) 13 n1.live n1.pc_is st.1.0 (omega arith) (omega (arith, st.1.1.1.1.1.1.1.0.high)) z in
     let g = goes_on c 1 0 1 0 s s1 s2 (goes_one c s s1 (p + 3) n1) (goes_one c s1 s2 (p + 3 + 2 + 13) n2) in
-    let same : s.mem ≡ put s.mem at (bytes_of Word before) = sym (ap₂ (λ a b. set (set s.mem at a) (at + 1) b) (sym hb.0) (sym hb.1.0) ∙ ap (λ m. set m (at + 1) (get_or s.mem (at + 1) 0)) (set-get_or s.mem at 0) ∙ set-get_or s.mem (at + 1) 0) in
-    reaches_at c 2 0 _ _ s _ _ _ _ (omega arith) (omega arith) (omega arith) same (record { t = s2; goes = g; live = n2.live; pc_is = n2.pc_is; mem_is = refl; sp_is = refl })
+    let same : s.mem ≡ put s.mem at (bytes_of Word before) =
+    sym (ap₂ (λ a b. set (set s.mem at a) (at + 1) b) (sym hb.0) (sym hb.1.0)
+    ∙ ap (λ m. set m (at + 1) (get_or s.mem (at + 1) 0)) (set-get_or s.mem at 0) ∙ set-get_or s.mem (at + 1) 0) in
+    reaches_at c 2 0 _ _ s _ _ _ _ (omega arith) (omega arith) (omega arith) same
+    (record { t = s2; goes = g; live = n2.live; pc_is = n2.pc_is; mem_is = refl; sp_is = refl })
 word_run c at p n (suc w) d before s l ep st ex en le hb wa wb = by_default d st
   where
     no : (suc w == 0) ≡ false
@@ -185,29 +227,46 @@ word_run c at p n (suc w) d before s l ep st ex en le hb wa wb = by_default d st
     z : has (after_plain c.flags (CpxImmediate 0) s).regs.ccr 2 ≡ false
     z = cpx_zero c s l.fits.x ∙ x0
 
-    held : (d : Option ℕ) (m : List ℕ) → m ≡ s.mem → set (set m at (n / suc w)) (at + 1) (n % suc w * 2 ^ 16 / suc w / 2 ^ 8) ≡ put s.mem at (bytes_of Word (word (suc w) n d before))
-    held d m e = ap (λ k. set (set k at (n / suc w)) (at + 1) (n % suc w * 2 ^ 16 / suc w / 2 ^ 8)) e ∙ sym (ap₂ (λ a b. set (set s.mem at a) (at + 1) b) (word_high n w) (word_low n w)) ∙ ap (λ a. put s.mem at (bytes_of Word a)) (fired d)
+    held : (d : Option ℕ) (m : List ℕ) → m ≡ s.mem
+        → set (set m at (n / suc w)) (at + 1) (n % suc w * 2 ^ 16 / suc w / 2 ^ 8) ≡ put s.mem at
+        (bytes_of Word (word (suc w) n d before))
+    held d m e = ap (λ k. set (set k at (n / suc w)) (at + 1) (n % suc w * 2 ^ 16 / suc w / 2 ^ 8)) e
+        ∙ sym (ap₂ (λ a b. set (set s.mem at a) (at + 1) b) (word_high n w) (word_low n w))
+        ∙ ap (λ a. put s.mem at (bytes_of Word a)) (fired d)
 
-    by_default : (d : Option ℕ) → Stands c p (quotient_code Word at d) → Reaches c (quotient_most Word d) 0 s (p + sizes (quotient_code Word at d)) (put s.mem at (bytes_of Word (word (suc w) n d before)))
+    by_default : (d : Option ℕ) → Stands c p (quotient_code Word at d)
+        → Reaches c (quotient_most Word d) 0 s (p + sizes (quotient_code Word at d))
+        (put s.mem at (bytes_of Word (word (suc w) n d before)))
     by_default None st =
         let s1 = after_plain c.flags (CpxImmediate 0) s in
         let s2 = after_plain c.flags (Beq 13) s1 in
         let n1 = cpx c s p l ep st.0 in
         let n2 = beq_on c s1 (p + 3) 13 n1.live n1.pc_is st.1.0 (omega arith) z in
-        let q = divided c (p + 3 + 2) n w s2 (TransferYD ∷ StabExtended at ∷ TransferXD ∷ StaaExtended (at + 1) ∷ []) n2.live n2.pc_is st.1.1 ex en le in
-        let r = stored c at (p + 3 + 2 + 1 + 2) (n / suc w) (n % suc w * 2 ^ 16 / suc w / 2 ^ 8) q.t [] q.live q.pc_is st.1.1.1.1 q.y_is (quotient_small w n le) (ap (λ k. k / 2 ^ 8) q.x_is) wa wb in
-        let g = goes_on c 1 0 7 0 s s1 r.t (goes_one c s s1 (p + 3) n1) (goes_on c 1 0 6 0 s1 s2 r.t (goes_one c s1 s2 (p + 3 + 2) n2) (goes_on c 2 0 4 0 s2 q.t r.t q.goes r.goes)) in
-        reaches_at c 8 0 _ _ s _ _ _ _ (omega arith) (omega arith) (omega arith) (held None q.t.mem q.mem_is) (record { t = r.t; goes = g; live = r.live; pc_is = r.pc_is; mem_is = r.mem_is; sp_is = r.sp_is ∙ q.sp_is })
+        let q = divided c (p + 3 + 2) n w s2 (TransferYD ∷ StabExtended at ∷ TransferXD ∷ StaaExtended (at + 1) ∷ [])
+        n2.live n2.pc_is st.1.1 ex en le in
+        let r = stored c at (p + 3 + 2 + 1 + 2) (n / suc w) (n % suc w * 2 ^ 16 / suc w / 2 ^ 8) q.t [] q.live q.pc_is
+        st.1.1.1.1 q.y_is (quotient_small w n le) (ap (λ k. k / 2 ^ 8) q.x_is) wa wb in
+        let g = goes_on c 1 0 7 0 s s1 r.t (goes_one c s s1 (p + 3) n1)
+        (goes_on c 1 0 6 0 s1 s2 r.t (goes_one c s1 s2 (p + 3 + 2) n2)
+        (goes_on c 2 0 4 0 s2 q.t r.t q.goes r.goes)) in
+        reaches_at c 8 0 _ _ s _ _ _ _ (omega arith) (omega arith) (omega arith) (held None q.t.mem q.mem_is)
+        (record { t = r.t; goes = g; live = r.live; pc_is = r.pc_is; mem_is = r.mem_is; sp_is = r.sp_is ∙ q.sp_is })
     by_default (Some d) st =
         let s1 = after_plain c.flags (CpxImmediate 0) s in
         let s2 = after_plain c.flags (Beq 15) s1 in
         let rest : List Instr = Bra 8 ∷ LdabImmediate d ∷ StabExtended at ∷ ClrExtended (at + 1) ∷ [] in
         let n1 = cpx c s p l ep st.0 in
         let n2 = beq_on c s1 (p + 3) 15 n1.live n1.pc_is st.1.0 (omega arith) z in
-        let q = divided c (p + 3 + 2) n w s2 (TransferYD ∷ StabExtended at ∷ TransferXD ∷ StaaExtended (at + 1) ∷ rest) n2.live n2.pc_is st.1.1 ex en le in
-        let r = stored c at (p + 3 + 2 + 1 + 2) (n / suc w) (n % suc w * 2 ^ 16 / suc w / 2 ^ 8) q.t rest q.live q.pc_is st.1.1.1.1 q.y_is (quotient_small w n le) (ap (λ k. k / 2 ^ 8) q.x_is) wa wb in
+        let q = divided c (p + 3 + 2) n w s2 (TransferYD ∷ StabExtended at ∷ TransferXD ∷ StaaExtended (at + 1) ∷ rest)
+        n2.live n2.pc_is st.1.1 ex en le in
+        let r = stored c at (p + 3 + 2 + 1 + 2) (n / suc w) (n % suc w * 2 ^ 16 / suc w / 2 ^ 8) q.t rest q.live q.pc_is
+        st.1.1.1.1 q.y_is (quotient_small w n le) (ap (λ k. k / 2 ^ 8) q.x_is) wa wb in
         let u = after_plain c.flags (Bra 8) r.t in
         let tail = st.1.1.1.1.1.1.1.1 in
-        let n3 = bra_on c r.t (p + 3 + 2 + 1 + 2 + 2 + 3 + 2 + 3) 8 r.live r.pc_is tail.0 (omega arith) (omega (arith, tail.1.1.1.0.high)) in
-        let g = goes_on c 1 0 8 0 s s1 u (goes_one c s s1 (p + 3) n1) (goes_on c 1 0 7 0 s1 s2 u (goes_one c s1 s2 (p + 3 + 2) n2) (goes_on c 2 0 5 0 s2 q.t u q.goes (goes_on c 4 0 1 0 q.t r.t u r.goes (goes_one c r.t u _ n3)))) in
-        reaches_at c 9 0 _ _ s _ _ _ _ (omega arith) (omega arith) (omega arith) (held (Some d) q.t.mem q.mem_is) (record { t = u; goes = g; live = n3.live; pc_is = n3.pc_is; mem_is = r.mem_is; sp_is = r.sp_is ∙ q.sp_is })
+        let n3 = bra_on c r.t (p + 3 + 2 + 1 + 2 + 2 + 3 + 2 + 3) 8 r.live r.pc_is tail.0 (omega arith)
+        (omega (arith, tail.1.1.1.0.high)) in
+        let g = goes_on c 1 0 8 0 s s1 u (goes_one c s s1 (p + 3) n1)
+        (goes_on c 1 0 7 0 s1 s2 u (goes_one c s1 s2 (p + 3 + 2) n2)
+        (goes_on c 2 0 5 0 s2 q.t u q.goes (goes_on c 4 0 1 0 q.t r.t u r.goes (goes_one c r.t u _ n3)))) in
+        reaches_at c 9 0 _ _ s _ _ _ _ (omega arith) (omega arith) (omega arith) (held (Some d) q.t.mem q.mem_is)
+        (record { t = u; goes = g; live = n3.live; pc_is = n3.pc_is; mem_is = r.mem_is; sp_is = r.sp_is ∙ q.sp_is })

@@ -1,5 +1,6 @@
 -- What a block's items give are bytes.
-use Rattle.std.proofs.Common.{◌≡◌, ℕ, zero, suc, ◌+◌, ◌-◌, ◌*◌, ◌/◌, ◌<◌, ◌≤◌, Bool, false, List, [], ◌∷◌, ◌++◌, map, flat_map, length}
+use Rattle.std.proofs.Common.{◌≡◌, ℕ, zero, suc, ◌+◌, ◌-◌, ◌*◌, ◌/◌, ◌<◌, ◌≤◌, Bool, false, List, [], ◌∷◌, ◌++◌, map}
+use Rattle.std.proofs.Common.{flat_map, length}
 use Rattle.std.proofs.Common.{All, Option, Some, None, refl, sym, subst, arith, div-lt_iff_lt-mul}
 use Rattle.std.specs.Prelude.{◌==◌, if◌then◌else◌}
 use Rattle.std.proofs.lemmas.Bool.Decides.{nat_tests}
@@ -18,9 +19,12 @@ use Rattle.rule_layout.specs.Lists.{marked, at_address, list_bytes, list_words}
 use Rattle.rule_layout.specs.Slots.{slots_of}
 use Rattle.rule_layout.specs.Layouts.{conjunctions_of, weights_of, form_of, IsBelow}
 use Rattle.cpu12_isa.specs.declared.instr.Instr.{Instr}
-use Rattle.cpu12_isa.specs.declared.instr.Instr.TheVariants.{LdaaImmediate, LdaaExtended, LdabImmediate, LdxImmediate, LdyImmediate, LdsImmediate, StaaExtended}
-use Rattle.cpu12_isa.specs.declared.instr.Instr.TheVariants.{StabExtended, ClrExtended, Coma, CpxImmediate, Beq, Bra, JsrExtended, Rts, Andcc, Orcc, TransferXD}
-use Rattle.cpu12_isa.specs.declared.instr.Instr.TheVariants.{TransferYD, Ediv, Fdiv, Rti, MovbExtended, Mem, Rev, Revw, Wav, Bne, AddbImmediate, AddbPostIncrementX}
+use Rattle.cpu12_isa.specs.declared.instr.Instr.TheVariants.{LdaaImmediate, LdaaExtended, LdabImmediate, LdxImmediate}
+use Rattle.cpu12_isa.specs.declared.instr.Instr.TheVariants.{LdyImmediate, LdsImmediate, StaaExtended}
+use Rattle.cpu12_isa.specs.declared.instr.Instr.TheVariants.{StabExtended, ClrExtended, Coma, CpxImmediate, Beq, Bra}
+use Rattle.cpu12_isa.specs.declared.instr.Instr.TheVariants.{JsrExtended, Rts, Andcc, Orcc, TransferXD}
+use Rattle.cpu12_isa.specs.declared.instr.Instr.TheVariants.{TransferYD, Ediv, Fdiv, Rti, MovbExtended, Mem, Rev, Revw}
+use Rattle.cpu12_isa.specs.declared.instr.Instr.TheVariants.{Wav, Bne, AddbImmediate, AddbPostIncrementX}
 use Rattle.cpu12_isa.specs.Code.{encode_of, FitsOperands}
 use Rattle.cpu12_asm.specs.declared.items.Item.{Item}
 use Rattle.cpu12_asm.specs.declared.items.Item.TheVariants.{Byte, Op}
@@ -28,7 +32,8 @@ use Rattle.cpu12_asm.specs.Bytes.{placed}
 use Rattle.cpu12_asm.specs.Items.{item_bytes, place_after, given_from}
 use Rattle.eval_code.specs.declared.width.Width.{Width}
 use Rattle.eval_code.specs.Code.{code_bytes, eval_code, block_code}
-use Rattle.eval_code.specs.Data.{table_bytes, singleton_bytes, singleton_bytes_of, weight_bytes, weight_bytes_by, rule_bytes, rule_bytes_by, bytes_of_word}
+use Rattle.eval_code.specs.Data.{table_bytes, singleton_bytes, singleton_bytes_of, weight_bytes, weight_bytes_by}
+use Rattle.eval_code.specs.Data.{rule_bytes, rule_bytes_by, bytes_of_word}
 use Rattle.eval_code.specs.Items.{block_items, IsApart}
 use Rattle.eval_code.specs.declared.layout.Layout.{Layout}
 use Rattle.eval_code.proofs.Joins.{block_then, block_items-then}
@@ -74,7 +79,8 @@ encoded_fits TransferYD u h = (omega arith, (omega arith, tt))
 encoded_fits Ediv u h = (omega arith, tt)
 encoded_fits Fdiv u h = (omega arith, (omega arith, tt))
 encoded_fits Rti u h = (omega arith, tt)
-encoded_fits (MovbExtended v w) u h = let a = h.0 in let b = h.1 in (omega arith, (omega arith, (omega arith, (omega arith, (omega arith, (omega arith, tt))))))
+encoded_fits (MovbExtended v w) u h = let a = h.0 in let b = h.1 in
+    (omega arith, (omega arith, (omega arith, (omega arith, (omega arith, (omega arith, tt))))))
 encoded_fits Mem u h = (omega arith, tt)
 encoded_fits Rev u h = (omega arith, (omega arith, tt))
 encoded_fits Revw u h = (omega arith, (omega arith, tt))
@@ -102,7 +108,8 @@ quotient_small w = small (510 + suc w) (2 * suc w) (omega arith) (omega arith)
 
 slope_small : (w : ℕ) → slope_of w < 256
 slope_small zero = omega arith
-slope_small (suc w) = let a : (suc w == 0) ≡ false = grind (arith, nat_tests) in subst (λ (t : Bool). (if t then 0 else (510 + suc w) / (2 * suc w)) < 256) (sym a) (quotient_small w)
+slope_small (suc w) = let a : (suc w == 0) ≡ false = grind (arith, nat_tests) in
+    subst (λ (t : Bool). (if t then 0 else (510 + suc w) / (2 * suc w)) < 256) (sym a) (quotient_small w)
 
 byte_small : (i : Input) (x : Dec) → byte_of i x < 256
 byte_small i x = omega arith
@@ -126,20 +133,33 @@ right_slope_small i c (Some d) = slope_small (byte_of i d - byte_of i c)
 rows_fit : (x : Input) (ts : List Trapezoid) (rest : List (List ℕ)) → Below 256 (flat_map (λ row. row) rest)
     → Below 256 (flat_map (λ row. row) (map (row_of x) ts ++ rest))
 rows_fit x [] rest h = h
-rows_fit x (t ∷ ts) rest h = (left_small x t.a, (right_small x t.d, (left_slope_small x t.a t.b, (right_slope_small x t.c t.d, rows_fit x ts rest h))))
+rows_fit x (t ∷ ts) rest h = (
+  left_small x t.a,
+  (
+    right_small x t.d,
+    (left_slope_small x t.a t.b, (right_slope_small x t.c t.d, rows_fit x ts rest h)),
+  ),
+)
 
 tables_fit : (xs : List Input) → Below 256 (flat_map (λ row. row) (flat_map rows_of xs))
 tables_fit [] = tt
 tables_fit (x ∷ xs) = rows_fit x x.terms (flat_map rows_of xs) (tables_fit xs)
 
 -- singletons
-own_fit : NearestIsByte → (o : Output) (us : List Dec) → IsValidOutput o → All (IsWithin o.lo o.hi) us → Below 256 (map (nearest_byte o) us)
+own_fit : NearestIsByte → (o : Output) (us : List Dec) → IsValidOutput o → All (IsWithin o.lo o.hi) us
+    → Below 256 (map (nearest_byte o) us)
 own_fit near o [] v h = tt
-own_fit near o (u ∷ us) v h = (let q = near o u v.range (h 0 u (omega arith)) in omega arith, own_fit near o us v (λ k d lt. h (suc k) d (omega arith)))
+own_fit near o (u ∷ us) v h = (
+  let q = near o u v.range (h 0 u (omega arith)) in
+      omega arith,
+  own_fit near o us v (λ k d lt. h (suc k) d (omega arith)),
+)
 
 singletons_fit : NearestIsByte → (os : List Output) → All IsValidOutput os → Below 256 (flat_map singleton_bytes_of os)
 singletons_fit near [] v = tt
-singletons_fit near (o ∷ os) v = let w = v 0 o (omega arith) in below_append 256 (singleton_bytes_of o) (flat_map singleton_bytes_of os) (own_fit near o o.singletons w w.singletons) (singletons_fit near os (λ k d lt. v (suc k) d (omega arith)))
+singletons_fit near (o ∷ os) v = let w = v 0 o (omega arith) in
+    below_append 256 (singleton_bytes_of o) (flat_map singleton_bytes_of os)
+    (own_fit near o o.singletons w w.singletons) (singletons_fit near os (λ k d lt. v (suc k) d (omega arith)))
 
 -- weights and the rule list
 weights_fit : (f : Form) (ws : List ℕ) → Below 256 ws → Below 256 (weight_bytes_by f ws)
@@ -158,16 +178,21 @@ added_below : (base n m : ℕ) (ks : List ℕ) → base + n ≤ m → Below n ks
 added_below base n m [] le h = tt
 added_below base n m (k ∷ ks) le h = (let q = h.0 in omega arith, added_below base n m ks le h.1)
 
-marked_fits : (s e m : ℕ) (c : Conjunction) (cs : List Conjunction) → s < m → e < m → Below m c.literals → Below m c.conclusions → Below m (marked s e cs)
+marked_fits : (s e m : ℕ) (c : Conjunction) (cs : List Conjunction) → s < m → e < m → Below m c.literals
+    → Below m c.conclusions → Below m (marked s e cs)
     → Below m (marked s e (c ∷ cs))
 marked_fits s e m c [] hs he a b r = below_append m c.literals _ a (hs, below_append m c.conclusions _ b (he, tt))
 marked_fits s e m c (d ∷ cs) hs he a b r = below_append m c.literals _ a (hs, below_append m c.conclusions _ b (hs, r))
 
-list_words_fit : (base n : ℕ) (cs : List Conjunction) → base + n ≤ 65534 → All (IsBelow n) cs → Below 65536 (list_words base cs)
+list_words_fit : (base n : ℕ) (cs : List Conjunction) → base + n ≤ 65534 → All (IsBelow n) cs
+    → Below 65536 (list_words base cs)
 list_words_fit base n [] le h = tt
 list_words_fit base n (c ∷ cs) le h =
     let k = h 0 c (omega arith) in
-    marked_fits 65534 65535 65536 (at_address base c) (map (at_address base) cs) (omega arith) (omega arith) (added_below base n 65536 c.literals (omega arith) (below_all n c.literals k.literals)) (added_below base n 65536 c.conclusions (omega arith) (below_all n c.conclusions k.conclusions)) (list_words_fit base n cs le (λ j d lt. h (suc j) d (omega arith)))
+    marked_fits 65534 65535 65536 (at_address base c) (map (at_address base) cs) (omega arith) (omega arith)
+    (added_below base n 65536 c.literals (omega arith) (below_all n c.literals k.literals))
+    (added_below base n 65536 c.conclusions (omega arith) (below_all n c.conclusions k.conclusions))
+    (list_words_fit base n cs le (λ j d lt. h (suc j) d (omega arith)))
 
 list_bytes_fit : (n : ℕ) (cs : List Conjunction) → n ≤ 254 → All (IsBelow n) cs → Below 256 (list_bytes cs)
 list_bytes_fit n [] le h = tt
@@ -178,7 +203,8 @@ list_bytes_fit n (c ∷ cs) le h =
     (below_more n 256 c.conclusions (omega arith) (below_all n c.conclusions k.conclusions))
     (list_bytes_fit n cs le (λ j d lt. h (suc j) d (omega arith)))
 
-rules_fit : (base n : ℕ) (f : Form) (cs : List Conjunction) → (f ≡ form.Rev → n ≤ 254) → base + n ≤ 65534 → All (IsBelow n) cs
+rules_fit : (base n : ℕ) (f : Form) (cs : List Conjunction) → (f ≡ form.Rev → n ≤ 254) → base + n ≤ 65534
+    → All (IsBelow n) cs
     → Below 256 (rule_bytes_by base f cs)
 rules_fit base n form.Rev cs small le h = list_bytes_fit n cs (let q = small refl in q) h
 rules_fit base n form.Revw cs small le h = words_fit (list_words base cs) (list_words_fit base n cs le h)
@@ -187,8 +213,11 @@ joined : (xs ys : List Instr) → ItemsFit (map Op xs) → ItemsFit (map Op ys) 
 joined xs ys a b = subst ItemsFit (sym (map-append (λ i. Op i) xs ys)) (fit_append (map Op xs) (map Op ys) a b)
 
 -- a block's items give bytes, with code before and behind that gives bytes
-pub block_fits_between : NearestIsByte → (l : Layout) (b : Block) (w : Width) (before behind : List Instr) (rest : List Item) → IsValid b → BlockFacts b → IsApart l
-    → ItemsFit (map Op before) → ItemsFit (map Op behind) → ItemsFit rest → ItemsFit (block_items l b w before behind ++ rest)
+pub block_fits_between : NearestIsByte
+    → (l : Layout) (b : Block) (w : Width) (before behind : List Instr) (rest : List Item) → IsValid b → BlockFacts b
+    → IsApart l
+    → ItemsFit (map Op before) → ItemsFit (map Op behind) → ItemsFit rest
+    → ItemsFit (block_items l b w before behind ++ rest)
 block_fits_between near l b w before behind rest v facts a front back others =
     let few = facts.few_slots in
     let top = a.slots in
@@ -196,18 +225,21 @@ block_fits_between near l b w before behind rest v facts a front back others =
     let eval : ItemsFit (map Op (eval_code l b w)) = fit_code (eval_code l b w) (used_answer near l b w a v facts) in
     let code : ItemsFit (map Op (block_code l b w before behind)) =
     joined before (eval_code l b w ++ behind) front (joined (eval_code l b w) behind eval back) in
-    let rules : Below 256 (rule_bytes l.slots b) = rules_fit l.slots (length (slots_of b)) (form_of b) (conjunctions_of b) small (omega arith) facts.in_range in
+    let rules : Below 256 (rule_bytes l.slots b) =
+    rules_fit l.slots (length (slots_of b)) (form_of b) (conjunctions_of b) small (omega arith) facts.in_range in
     let all : ItemsFit (block_then l b w before behind rest) = (
       tt,
       fit_append (map Op (block_code l b w before behind)) _ code (
         tt,
         fit_append (map Byte (table_bytes b)) _ (fit_bytes (table_bytes b) (tables_fit b.inputs)) (
           tt,
-          fit_append (map Byte (singleton_bytes b)) _ (fit_bytes (singleton_bytes b) (singletons_fit near b.outputs v.outputs)) (
-            tt,
-            fit_append (map Byte (weight_bytes b)) _ (fit_bytes (weight_bytes b) (weights_fit (form_of b) (weights_of b) (weights_below b facts)))
-                (tt, fit_append (map Byte (rule_bytes l.slots b)) rest (fit_bytes (rule_bytes l.slots b) rules) others),
-          ),
+          fit_append (map Byte (singleton_bytes b)) _
+              (fit_bytes (singleton_bytes b) (singletons_fit near b.outputs v.outputs)) (
+                tt,
+                fit_append (map Byte (weight_bytes b)) _
+                    (fit_bytes (weight_bytes b) (weights_fit (form_of b) (weights_of b) (weights_below b facts)))
+                    (tt, fit_append (map Byte (rule_bytes l.slots b)) rest (fit_bytes (rule_bytes l.slots b) rules) others),
+              ),
         ),
       ),
     ) in
@@ -224,4 +256,5 @@ placed_fit at (b ∷ bs) ps h k = (h.0, placed_fit (at + 1) bs ps h.1 k)
 
 pub given_fit : (at : ℕ) (items : List Item) → ItemsFit items → PairsFit (given_from at items)
 given_fit at [] h = tt
-given_fit at (x ∷ xs) h = placed_fit at (item_bytes x) (given_from (place_after at x) xs) h.0 (given_fit (place_after at x) xs h.1)
+given_fit at (x ∷ xs) h =
+    placed_fit at (item_bytes x) (given_from (place_after at x) xs) h.0 (given_fit (place_after at x) xs h.1)

@@ -1,5 +1,6 @@
 -- Bytes of code that is used, and of a memory that has what items give.
-use Rattle.std.proofs.Common.{◌≡◌, inl, inr, ℕ, ◌^◌, ◌<◌, Bool, true, false, cond, List, [], ◌∷◌, length, All, get_or, Some, arith, nat_cmp}
+use Rattle.std.proofs.Common.{◌≡◌, inl, inr, ℕ, ◌^◌, ◌<◌, Bool, true, false, cond, List, [], ◌∷◌, length, All, get_or}
+use Rattle.std.proofs.Common.{Some, arith, nat_cmp}
 use Rattle.std.specs.BTreeMap.{is_at}
 use Rattle.std.proofs.lemmas.Bool.{cases_lt}
 use Rattle.std.proofs.lemmas.List.{get_or_past}
@@ -31,7 +32,8 @@ found_fits : (given : List (ℕ × ℕ)) (q : ℕ) → GiveBytes given → byte_
 found_fits [] q h = omega arith
 found_fits (p ∷ given) q h = chosen (is_at (nat_cmp q) p.0) (found_fits given q (All-tail IsFit p given h))
   where
-    chosen : (t : Bool) → byte_or_zero (byte_at given q) < 256 → byte_or_zero (cond t (Some p.1) (byte_at given q)) < 256
+    chosen : (t : Bool) → byte_or_zero (byte_at given q) < 256
+        → byte_or_zero (cond t (Some p.1) (byte_at given q)) < 256
     chosen true k = All-head IsFit p given h
     chosen false k = k
 

@@ -1,5 +1,6 @@
 -- The parts of items that go up stand in the memory of their image.
-use Rattle.std.proofs.Common.{◌≡◌, ℕ, zero, suc, ◌+◌, ◌<◌, ◌≤◌, true, false, cond, List, [], ◌∷◌, ◌++◌, map, length, get_or, Some, None, refl, sym, ap, ◌∙◌}
+use Rattle.std.proofs.Common.{◌≡◌, ℕ, zero, suc, ◌+◌, ◌<◌, ◌≤◌, true, false, cond, List, [], ◌∷◌, ◌++◌, map, length}
+use Rattle.std.proofs.Common.{get_or, Some, None, refl, sym, ap, ◌∙◌}
 use Rattle.std.proofs.Common.{subst, arith, length-append, append_assoc, nat_cmp}
 use Rattle.std.specs.BTreeMap.{is_at}
 use Rattle.std.proofs.lemmas.Bool.Decides.{nat_tests}
@@ -39,7 +40,8 @@ placed_append at (x ∷ a) b =
     ap (λ l. (at, x) ∷ l) (placed_append (at + 1) a b ∙ ap (λ k. placed (at + 1) a ++ placed k b) e)
 
 -- bytes, and code, give their bytes one after another
-pub given_bytes : (at : ℕ) (bs : List ℕ) (rest : List Item) → given_from at (map Byte bs ++ rest) ≡ placed at bs ++ given_from (at + length bs) rest
+pub given_bytes : (at : ℕ) (bs : List ℕ) (rest : List Item)
+    → given_from at (map Byte bs ++ rest) ≡ placed at bs ++ given_from (at + length bs) rest
 given_bytes at [] rest = let e : at ≡ at + 0 = omega arith in ap (λ k. given_from k rest) e
 given_bytes at (b ∷ bs) rest =
     let e : at + 1 + length bs ≡ at + suc (length bs) = omega arith in
@@ -52,14 +54,20 @@ given_code at (i ∷ is) rest =
     let n = length (encode_of i) in
     let la = length-append (encode_of i) (code_bytes is) in
     let e : at + n + length (code_bytes is) ≡ at + length (encode_of i ++ code_bytes is) = omega arith in
-    ap (λ l. placed at (encode_of i) ++ l) (given_code (at + n) is rest ∙ ap (λ k. placed (at + n) (code_bytes is) ++ given_from k rest) e)
-    ∙ sym (append_assoc (placed at (encode_of i)) (placed (at + n) (code_bytes is)) (given_from (at + length (encode_of i ++ code_bytes is)) rest))
-    ∙ ap (λ l. l ++ given_from (at + length (encode_of i ++ code_bytes is)) rest) (sym (placed_append at (encode_of i) (code_bytes is)))
+    ap (λ l. placed at (encode_of i) ++ l)
+    (given_code (at + n) is rest ∙ ap (λ k. placed (at + n) (code_bytes is) ++ given_from k rest) e)
+    ∙ sym (append_assoc (placed at (encode_of i)) (placed (at + n) (code_bytes is))
+    (given_from (at + length (encode_of i ++ code_bytes is)) rest))
+    ∙ ap (λ l. l ++ given_from (at + length (encode_of i ++ code_bytes is)) rest)
+    (sym (placed_append at (encode_of i) (code_bytes is)))
 
-pub given_append : (at : ℕ) (xs ys : List Item) → given_from at (xs ++ ys) ≡ given_from at xs ++ given_from (place_behind at xs) ys
+pub given_append : (at : ℕ) (xs ys : List Item)
+    → given_from at (xs ++ ys) ≡ given_from at xs ++ given_from (place_behind at xs) ys
 given_append at [] ys = refl
 given_append at (x ∷ xs) ys =
-    ap (λ l. placed at (item_bytes x) ++ l) (given_append (place_after at x) xs ys) ∙ sym (append_assoc (placed at (item_bytes x)) (given_from (place_after at x) xs) (given_from (place_behind (place_after at x) xs) ys))
+    ap (λ l. placed at (item_bytes x) ++ l) (given_append (place_after at x) xs ys)
+    ∙ sym (append_assoc (placed at (item_bytes x)) (given_from (place_after at x) xs)
+    (given_from (place_behind (place_after at x) xs) ys))
 
 -- going up
 end_up : Rises → (at : ℕ) (xs ys : List Item) → IsRisingFrom at (xs ++ ys) → at ≤ place_behind at xs
@@ -70,14 +78,17 @@ end_up rises at (x ∷ xs) ys h =
     omega (arith, head.0, rest)
 
 -- items give no byte from their end on
-pub none_behind : Rises → (at q : ℕ) (xs ys : List Item) → IsRisingFrom at (xs ++ ys) → place_behind at xs ≤ q → byte_at (given_from at xs) q ≡ None
+pub none_behind : Rises → (at q : ℕ) (xs ys : List Item) → IsRisingFrom at (xs ++ ys) → place_behind at xs ≤ q
+    → byte_at (given_from at xs) q ≡ None
 none_behind rises at q [] ys h low = refl
 none_behind rises at q (x ∷ xs) ys h low =
     let head = rises.first at x (xs ++ ys) h in
-    let rest : byte_at (given_from (place_after at x) xs) q ≡ None = none_behind rises (place_after at x) q xs ys head.1 low in
+    let rest : byte_at (given_from (place_after at x) xs) q ≡ None =
+    none_behind rises (place_after at x) q xs ys head.1 low in
     let up = end_up rises (place_after at x) xs ys head.1 in
     byte_at-append q (placed at (item_bytes x)) (given_from (place_after at x) xs)
-    ∙ ap (λ o. or_else o (byte_at (given_from (place_after at x) xs) q)) (byte_at-placed at q (item_bytes x) (omega (arith, head.0, up)))
+    ∙ ap (λ o. or_else o (byte_at (given_from (place_after at x) xs) q))
+    (byte_at-placed at q (item_bytes x) (omega (arith, head.0, up)))
     ∙ rest
 
 -- nor below their start
@@ -87,7 +98,8 @@ other_below at q h = grind (arith, nat_tests)
 pub none_placed_below : (at q : ℕ) (bs : List ℕ) → q < at → byte_at (placed at bs) q ≡ None
 none_placed_below at q [] h = refl
 none_placed_below at q (b ∷ bs) h =
-    ap (λ t. cond t (Some b) (byte_at (placed (at + 1) bs) q)) (other_below at q h) ∙ none_placed_below (at + 1) q bs (omega arith)
+    ap (λ t. cond t (Some b) (byte_at (placed (at + 1) bs) q)) (other_below at q h)
+    ∙ none_placed_below (at + 1) q bs (omega arith)
 
 pub none_below : Rises → (at q : ℕ) (xs : List Item) → IsRisingFrom at xs → q < at → byte_at (given_from at xs) q ≡ None
 none_below rises at q [] h low = refl
@@ -111,22 +123,28 @@ found_placed p zero (b ∷ bs) lt =
     ap (byte_at (placed p (b ∷ bs))) e ∙ ap (λ t. cond t (Some b) (byte_at (placed (p + 1) bs) p)) (same_here p)
 found_placed p (suc j) (b ∷ bs) lt =
     let e : p + suc j ≡ p + 1 + j = omega arith in
-    ap (byte_at (placed p (b ∷ bs))) e ∙ ap (λ t. cond t (Some b) (byte_at (placed (p + 1) bs) (p + 1 + j))) (other_above p (p + 1 + j) (omega arith))
+    ap (byte_at (placed p (b ∷ bs))) e
+    ∙ ap (λ t. cond t (Some b) (byte_at (placed (p + 1) bs) (p + 1 + j))) (other_above p (p + 1 + j) (omega arith))
     ∙ found_placed (p + 1) j bs (omega arith)
 
 -- a part of rising items stands in memory
-part_stands : Rises → (mem : List ℕ) (items front part rest : List Item) (p : ℕ) (bs : List ℕ) → HasGiven mem (given_by items) → IsRising items
-    → items ≡ front ++ (Place p ∷ (part ++ rest)) → given_from p (part ++ rest) ≡ placed p bs ++ given_from (p + length bs) rest
+part_stands : Rises → (mem : List ℕ) (items front part rest : List Item) (p : ℕ) (bs : List ℕ)
+    → HasGiven mem (given_by items) → IsRising items
+    → items ≡ front ++ (Place p ∷ (part ++ rest))
+    → given_from p (part ++ rest) ≡ placed p bs ++ given_from (p + length bs) rest
     → place_behind p part ≡ p + length bs
     → HasBytes mem p bs
 part_stands rises mem items front part rest p bs h rise e eg ep =
-    let whole : IsRisingFrom 0 (front ++ (Place p ∷ (part ++ rest))) = subst (λ (xs : List Item). IsRisingFrom 0 xs) e rise in
+    let whole : IsRisingFrom 0 (front ++ (Place p ∷ (part ++ rest))) =
+    subst (λ (xs : List Item). IsRisingFrom 0 xs) e rise in
     let here = rises.part 0 front (Place p ∷ (part ++ rest)) whole in
     let behind = rises.part p part rest here.1 in
     let top = rises.end (place_behind p part) rest behind in
     bytes_by mem p bs (λ j lt.
-    (let g : given_by items ≡ given_from 0 front ++ (placed p bs ++ given_from (p + length bs) rest) = ap given_by e ∙ given_append 0 front (Place p ∷ (part ++ rest)) ∙ ap (λ l. given_from 0 front ++ l) eg in
-    let n : byte_at (given_from 0 front) (p + j) ≡ None = none_behind rises 0 (p + j) front (Place p ∷ (part ++ rest)) whole (omega (arith, here.0)) in
+    (let g : given_by items ≡ given_from 0 front ++ (placed p bs ++ given_from (p + length bs) rest) =
+    ap given_by e ∙ given_append 0 front (Place p ∷ (part ++ rest)) ∙ ap (λ l. given_from 0 front ++ l) eg in
+    let n : byte_at (given_from 0 front) (p + j) ≡ None =
+    none_behind rises 0 (p + j) front (Place p ∷ (part ++ rest)) whole (omega (arith, here.0)) in
     let f : byte_at (given_by items) (p + j) ≡ Some (get_or bs j 0) =
     ap (λ l. byte_at l (p + j)) g
     ∙ byte_at-append (p + j) (given_from 0 front) (placed p bs ++ given_from (p + length bs) rest)
@@ -141,14 +159,18 @@ behind_bytes at (b ∷ bs) = behind_bytes (at + 1) bs ∙ omega arith
 
 behind_code : (at : ℕ) (is : List Instr) → place_behind at (map Op is) ≡ at + length (code_bytes is)
 behind_code at [] = omega arith
-behind_code at (i ∷ is) = behind_code (at + length (encode_of i)) is ∙ omega (arith, length-append (encode_of i) (code_bytes is))
+behind_code at (i ∷ is) = behind_code (at + length (encode_of i)) is
+    ∙ omega (arith, length-append (encode_of i) (code_bytes is))
 
-pub bytes_stand : Rises → (mem : List ℕ) (items front rest : List Item) (p : ℕ) (bs : List ℕ) → HasGiven mem (given_by items) → IsRising items
+pub bytes_stand : Rises → (mem : List ℕ) (items front rest : List Item) (p : ℕ) (bs : List ℕ)
+    → HasGiven mem (given_by items) → IsRising items
     → items ≡ front ++ (Place p ∷ (map Byte bs ++ rest)) → HasBytes mem p bs
 bytes_stand rises mem items front rest p bs h rise e =
     part_stands rises mem items front (map Byte bs) rest p bs h rise e (given_bytes p bs rest) (behind_bytes p bs)
 
-pub code_stands : Rises → (mem : List ℕ) (items front rest : List Item) (p : ℕ) (is : List Instr) → HasGiven mem (given_by items) → IsRising items
+pub code_stands : Rises → (mem : List ℕ) (items front rest : List Item) (p : ℕ) (is : List Instr)
+    → HasGiven mem (given_by items) → IsRising items
     → items ≡ front ++ (Place p ∷ (map Op is ++ rest)) → HasBytes mem p (code_bytes is)
 code_stands rises mem items front rest p is h rise e =
-    part_stands rises mem items front (map Op is) rest p (code_bytes is) h rise e (given_code p is rest) (behind_code p is)
+    part_stands rises mem items front (map Op is) rest p (code_bytes is) h rise e (given_code p is rest)
+    (behind_code p is)

@@ -3,7 +3,8 @@ use Rattle.std.proofs.Common.{◌≡◌, ℕ, ◌+◌, ◌≤◌, List, [], ◌�
 use Rattle.cpu12_parts.specs.State.{State}
 use Rattle.cpu12_parts.specs.Executions.{Execution, all_steps}
 
-pub execution_on : (W : ℕ → State → State → Type 0) (ds es : List ℕ) (s t u : State) → Execution W ds s t → Execution W es t u → Execution W (ds ++ es) s u
+pub execution_on : (W : ℕ → State → State → Type 0) (ds es : List ℕ) (s t u : State) → Execution W ds s t
+    → Execution W es t u → Execution W (ds ++ es) s u
 execution_on W [] es s t u a b = subst (λ v. Execution W es v u) (sym a) b
 execution_on W (d ∷ ds) es s t u a b = (a.0, (a.1.0, execution_on W ds es a.0 t u a.1.1 b))
 
@@ -28,7 +29,8 @@ bounded_none W s = record { ds = []; way = refl; count = omega arith; parts = om
 pub bounded_one : (W : ℕ → State → State → Type 0) (d : ℕ) (s t : State) → W d s t → Bounded W 1 d s t
 bounded_one W d s t h = record { ds = d ∷ []; way = (t, (h, refl)); count = omega arith; parts = omega arith }
 
-pub bounded_on : (W : ℕ → State → State → Type 0) (n k m j : ℕ) (s t u : State) → Bounded W n k s t → Bounded W m j t u → Bounded W (n + m) (k + j) s u
+pub bounded_on : (W : ℕ → State → State → Type 0) (n k m j : ℕ) (s t u : State) → Bounded W n k s t → Bounded W m j t u
+    → Bounded W (n + m) (k + j) s u
 bounded_on W n k m j s t u a b = record {
   ds = a.ds ++ b.ds;
   way = execution_on W a.ds b.ds s t u a.way b.way;
@@ -36,5 +38,7 @@ bounded_on W n k m j s t u a b = record {
   parts = omega (arith, steps_append a.ds b.ds, a.parts, b.parts);
 }
 
-pub bounded_more : (W : ℕ → State → State → Type 0) (n k m j : ℕ) (s t : State) → n ≤ m → k ≤ j → Bounded W n k s t → Bounded W m j s t
-bounded_more W n k m j s t a b g = record { ds = g.ds; way = g.way; count = omega (arith, g.count); parts = omega (arith, g.parts) }
+pub bounded_more : (W : ℕ → State → State → Type 0) (n k m j : ℕ) (s t : State) → n ≤ m → k ≤ j → Bounded W n k s t
+    → Bounded W m j s t
+bounded_more W n k m j s t a b g =
+    record { ds = g.ds; way = g.way; count = omega (arith, g.count); parts = omega (arith, g.parts) }

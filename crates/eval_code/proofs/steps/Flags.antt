@@ -1,5 +1,6 @@
 -- The flags that the code rests on: I, X, V, Z and C.
-use Rattle.std.proofs.Common.{◌≡◌, ℕ, zero, suc, ◌-◌, ◌<◌, Bool, true, false, ◌&&◌, ◌||◌, bit_and, bit_or, refl, ap, ap₂, ◌∙◌, arith}
+use Rattle.std.proofs.Common.{◌≡◌, ℕ, zero, suc, ◌-◌, ◌<◌, Bool, true, false, ◌&&◌, ◌||◌, bit_and, bit_or, refl, ap}
+use Rattle.std.proofs.Common.{ap₂, ◌∙◌, arith}
 use Rattle.cpu12_isa.specs.declared.instr.Ccr.{Ccr}
 use Rattle.cpu12_isa.specs.Flags.{has, put, opened}
 use Rattle.cpu12_isa.proofs.Algebra.{bit, bit_or_is, bit_and_is}
@@ -34,13 +35,15 @@ masked_put c (suc (suc (suc zero))) false h = masked_and c.0 247 refl refl
 masked_put c (suc (suc (suc (suc k)))) b h = absurd (omega arith)
 
 pub masked_tested : (c : Ccr) (n z : Bool) → interrupt_masks (put (put (put c 3 n) 2 z) 1 false) ≡ interrupt_masks c
-masked_tested c n z = masked_put (put (put c 3 n) 2 z) 1 false (omega arith) ∙ masked_put (put c 3 n) 2 z (omega arith) ∙ masked_put c 3 n (omega arith)
+masked_tested c n z = masked_put (put (put c 3 n) 2 z) 1 false (omega arith) ∙ masked_put (put c 3 n) 2 z (omega arith)
+    ∙ masked_put c 3 n (omega arith)
 
 -- so do the flags of a mask that has neither, taken from FLAGS
 masked_opened : (c : Ccr) (mask flags : ℕ) → bit mask 4 ≡ false → bit mask 6 ≡ false → bit (255 - mask) 4 ≡ true
     → bit (255 - mask) 6 ≡ true → interrupt_masks (opened c mask flags) ≡ interrupt_masks c
 masked_opened c mask flags i x j y =
-    masked_or (bit_and c.0 (255 - mask)) (bit_and flags mask) (bit_and_is flags mask 4 ∙ ap (λ (b : Bool). b && bit flags 4) i)
+    masked_or (bit_and c.0 (255 - mask)) (bit_and flags mask)
+    (bit_and_is flags mask 4 ∙ ap (λ (b : Bool). b && bit flags 4) i)
     (bit_and_is flags mask 6 ∙ ap (λ (b : Bool). b && bit flags 6) x)
     ∙ masked_and c.0 (255 - mask) j y
 
@@ -89,9 +92,12 @@ pub masked_on : (n : ℕ) → has (ccr_of (bit_or n 16)) 4 ≡ true
 masked_on n = bit_or_is n 16 4
 
 -- four flags put one after another
-pub masked_four : (c : Ccr) (n z v k : Bool) → interrupt_masks (put (put (put (put c 3 n) 2 z) 1 v) 0 k) ≡ interrupt_masks c
+pub masked_four : (c : Ccr) (n z v k : Bool)
+    → interrupt_masks (put (put (put (put c 3 n) 2 z) 1 v) 0 k) ≡ interrupt_masks c
 masked_four c n z v k =
-    masked_put (put (put (put c 3 n) 2 z) 1 v) 0 k (omega arith) ∙ masked_put (put (put c 3 n) 2 z) 1 v (omega arith) ∙ masked_put (put c 3 n) 2 z (omega arith) ∙ masked_put c 3 n (omega arith)
+    masked_put (put (put (put c 3 n) 2 z) 1 v) 0 k (omega arith) ∙ masked_put (put (put c 3 n) 2 z) 1 v (omega arith)
+    ∙ masked_put (put c 3 n) 2 z (omega arith) ∙ masked_put c 3 n (omega arith)
 
 pub zero_four : (c : Ccr) (n z v k : Bool) → has (put (put (put (put c 3 n) 2 z) 1 v) 0 k) 2 ≡ z
-zero_four c n z v k = zero_kept (put (put (put c 3 n) 2 z) 1 v) 0 k (omega arith) ∙ zero_kept (put (put c 3 n) 2 z) 1 v (omega arith) ∙ zero_put (put c 3 n) z
+zero_four c n z v k = zero_kept (put (put (put c 3 n) 2 z) 1 v) 0 k (omega arith)
+    ∙ zero_kept (put (put c 3 n) 2 z) 1 v (omega arith) ∙ zero_put (put c 3 n) z

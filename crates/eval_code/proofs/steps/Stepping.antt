@@ -1,5 +1,6 @@
 -- One instruction of EVAL, and where it leads.
-use Rattle.std.proofs.Common.{◌≡◌, inl, inr, ℕ, ◌+◌, ◌^◌, ◌<◌, ◌≤◌, Bool, true, Ok, List, [], ◌∷◌, ◌++◌, length, refl, ap, ◌∙◌, subst, arith}
+use Rattle.std.proofs.Common.{◌≡◌, inl, inr, ℕ, ◌+◌, ◌^◌, ◌<◌, ◌≤◌, Bool, true, Ok, List, [], ◌∷◌, ◌++◌, length, refl}
+use Rattle.std.proofs.Common.{ap, ◌∙◌, subst, arith}
 use Rattle.cpu12_isa.specs.declared.instr.Instr.{Instr}
 use Rattle.cpu12_isa.specs.Act.{read_by}
 use Rattle.cpu12_isa.specs.Code.{encode_of, decode_at, six_from, FitsOperands}
@@ -71,10 +72,16 @@ pub between_of : (c : Ctx) (s : State) → Live c s → IsBetween s
 between_of c s l = record { off = l.off; size = l.size; bytes = l.bytes; fits = l.fits }
 
 -- an address of the code, and those that a fetch looks at
-pub code_in : (c : Ctx) (pc : ℕ) → c.layout.eval ≤ pc → pc + 6 ≤ c.layout.eval + 2432 → pc + 6 < 65536 → Each (IsIn (code_region c.layout)) (six_from pc)
+pub code_in : (c : Ctx) (pc : ℕ) → c.layout.eval ≤ pc → pc + 6 ≤ c.layout.eval + 2432 → pc + 6 < 65536
+    → Each (IsIn (code_region c.layout)) (six_from pc)
 code_in c pc a b h =
-    let at : (k : ℕ) → k ≤ 5 → IsIn (code_region c.layout) (plus pc k) = λ k le. (omega arith, omega arith) in
-    ((omega arith, omega arith), (at 1 (omega arith), (at 2 (omega arith), (at 3 (omega arith), (at 4 (omega arith), (at 5 (omega arith), tt))))))
+    let at : (k : ℕ) → k ≤ 5 → IsIn (code_region c.layout) (plus pc k) = λ k le. (omega arith, omega arith) in (
+      (omega arith, omega arith),
+      (
+        at 1 (omega arith),
+        (at 2 (omega arith), (at 3 (omega arith), (at 4 (omega arith), (at 5 (omega arith), tt)))),
+      ),
+    )
 
 -- what EVAL writes is RAM
 pub written_low : (l : Layout) (at : ℕ) → IsApart l → Writes l at → at < 0x1800
@@ -93,7 +100,8 @@ pub record Next (c : Ctx) (s t : State) (q : ℕ) : Type 0 where
   pub pc_is : t.regs.pc ≡ q
 
 -- a plain instruction of the code that touches what is owned alone
-pub next : (c : Ctx) (s : State) (p q : ℕ) (i : Instr) → Live c s → s.regs.pc ≡ p → Here c p i → is_plain i ≡ true → FitsOperands i
+pub next : (c : Ctx) (s : State) (p q : ℕ) (i : Instr) → Live c s → s.regs.pc ≡ p → Here c p i → is_plain i ≡ true
+    → FitsOperands i
     → Each (Reads c.layout) (read_by (act_of c.flags i s.regs) s.mem)
     → Each (Writes c.layout) (addresses (effect c.flags i s.regs s.mem).writes)
     → (effect c.flags i s.regs s.mem).regs.sp ≡ s.regs.sp
@@ -103,12 +111,16 @@ pub next : (c : Ctx) (s : State) (p q : ℕ) (i : Instr) → Live c s → s.regs
 next c s p q i l ep h pl fo reads writes esp masks pc =
     let e = effect c.flags i s.regs s.mem in
     let fit = c.stays_fit c.flags i s.regs s.mem c.fits fo l.fits l.bytes in
-    let d : decode_at s.mem s.regs.pc ≡ Ok i = ap (decode_at s.mem) ep ∙ decode_same c.image s.mem p h.low h.high l.same ∙ h.decoded in
+    let d : decode_at s.mem s.regs.pc ≡ Ok i = ap (decode_at s.mem) ep ∙ decode_same c.image s.mem p h.low h.high l.same
+    ∙ h.decoded in
     record {
       step = record {
         between = between_of c s l;
         code = code_in c s.regs.pc (omega (arith, h.above)) (omega (arith, h.below)) (omega (arith, h.high));
-        instruction = inl (i, (record { step = record { decoded = d; plain = pl; after = refl }; reads = reads; writes = writes }, refl));
+        instruction = inl (
+          i,
+          (record { step = record { decoded = d; plain = pl; after = refl }; reads = reads; writes = writes }, refl),
+        );
         stack = esp;
         masks = masks;
       };
@@ -152,13 +164,35 @@ pub record Reaches (c : Ctx) (n k : ℕ) (s : State) (pc : ℕ) (mem : List ℕ)
   pub mem_is : t.mem ≡ mem
   pub sp_is : t.regs.sp ≡ s.regs.sp
 
-pub reaches_none : (c : Ctx) (s : State) (pc : ℕ) (mem : List ℕ) → Live c s → s.regs.pc ≡ pc → s.mem ≡ mem → Reaches c 0 0 s pc mem
-reaches_none c s pc mem l ep em = record { t = s; goes = goes_none c s; live = l; pc_is = ep; mem_is = em; sp_is = refl }
+pub reaches_none : (c : Ctx) (s : State) (pc : ℕ) (mem : List ℕ) → Live c s → s.regs.pc ≡ pc → s.mem ≡ mem
+    → Reaches c 0 0 s pc mem
+reaches_none c s pc mem l ep em =
+    record { t = s; goes = goes_none c s; live = l; pc_is = ep; mem_is = em; sp_is = refl }
 
-pub reaches_after : (c : Ctx) (n k m j : ℕ) (s t : State) (pc : ℕ) (mem : List ℕ) → Goes c n k s t → t.regs.sp ≡ s.regs.sp → Reaches c m j t pc mem
+pub reaches_after : (c : Ctx) (n k m j : ℕ) (s t : State) (pc : ℕ) (mem : List ℕ) → Goes c n k s t
+    → t.regs.sp ≡ s.regs.sp → Reaches c m j t pc mem
     → Reaches c (n + m) (k + j) s pc mem
-reaches_after c n k m j s t pc mem g es r = record { t = r.t; goes = goes_on c n k m j s t r.t g r.goes; live = r.live; pc_is = r.pc_is; mem_is = r.mem_is; sp_is = r.sp_is ∙ es }
+reaches_after c n k m j s t pc mem g es r =
+    record {
+      t = r.t;
+      goes = goes_on c n k m j s t r.t g r.goes;
+      live = r.live;
+      pc_is = r.pc_is;
+      mem_is =
+          r.mem_is;
+      sp_is = r.sp_is ∙ es;
+    }
 
-pub reaches_at : (c : Ctx) (n k m j : ℕ) (s : State) (pc pc' : ℕ) (mem mem' : List ℕ) → n ≤ m → k ≤ j → pc ≡ pc' → mem ≡ mem' → Reaches c n k s pc mem
+pub reaches_at : (c : Ctx) (n k m j : ℕ) (s : State) (pc pc' : ℕ) (mem mem' : List ℕ) → n ≤ m → k ≤ j → pc ≡ pc'
+    → mem ≡ mem' → Reaches c n k s pc mem
     → Reaches c m j s pc' mem'
-reaches_at c n k m j s pc pc' mem mem' a b ep em r = record { t = r.t; goes = goes_most c n k m j s r.t a b r.goes; live = r.live; pc_is = r.pc_is ∙ ep; mem_is = r.mem_is ∙ em; sp_is = r.sp_is }
+reaches_at c n k m j s pc pc' mem mem' a b ep em r =
+    record {
+      t = r.t;
+      goes = goes_most c n k m j s r.t a b r.goes;
+      live = r.live;
+      pc_is = r.pc_is ∙ ep;
+      mem_is =
+          r.mem_is ∙ em;
+      sp_is = r.sp_is;
+    }

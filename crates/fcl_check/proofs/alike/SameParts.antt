@@ -1,9 +1,12 @@
 -- Parts of a tree that their views determine: points, ranges, lines of outputs and of rule blocks, weights.
 use Rattle.std.proofs.Common.{◌≡◌, ℕ, List, Option, Some, None, inr, refl, ap}
 use Rattle.std.specs.Prelude.{◌⊎◌}
-use Rattle.fcl_syntax.specs.Grammar.{TAct, TFallback, TPoint, TRange, TSetting, TSingleton, TWeight, accu_classes, and_classes, method_classes, or_classes}
+use Rattle.fcl_syntax.specs.Grammar.{TAct, TFallback, TPoint, TRange, TSetting, TSingleton, TWeight, accu_classes}
+use Rattle.fcl_syntax.specs.Grammar.{and_classes, method_classes, or_classes}
 use Rattle.fcl_syntax.specs.TokenClasses.{Among}
-use Rattle.fcl_syntax.specs.View.{view_act, view_act_word, view_coordinate, view_defuzzy_line, view_degree, view_fallback, view_signed_number, view_point, view_range, view_rule_line, view_setting, view_singleton, view_value, view_weight, view_with}
+use Rattle.fcl_syntax.specs.View.{view_act, view_act_word, view_coordinate, view_defuzzy_line, view_degree}
+use Rattle.fcl_syntax.specs.View.{view_fallback, view_signed_number, view_point, view_range, view_rule_line}
+use Rattle.fcl_syntax.specs.View.{view_setting, view_singleton, view_value, view_weight, view_with}
 use Rattle.fcl_syntax.specs.declared.tree.ActWord.{ActWord}
 use Rattle.fcl_syntax.specs.declared.tree.ActWord.TheVariants as act
 use Rattle.fcl_syntax.specs.declared.tree.Activation.{Activation}
@@ -62,7 +65,8 @@ same_range q r h =
 
 -- ---- lines of outputs
 
-same_setting : (classes : List ℕ) (s t : Setting) → view_setting {classes = classes} s ≡ view_setting {classes = classes} t → s ≡ t
+same_setting : (classes : List ℕ) (s t : Setting)
+    → view_setting {classes = classes} s ≡ view_setting {classes = classes} t → s ≡ t
 same_setting classes s t h =
     let at : s.at ≡ t.at = ap (λ (x : TSetting classes). x.at) h in
     let inner : ◌≡◌ {A = Among classes ⊎ ℕ} (inr s.word) (inr t.word) = ap (λ (x : TSetting classes). x.word) h in

@@ -25,7 +25,8 @@ module _ {X V : Type 0} (v : X → V) where
   same_has_none (x ∷ xs) [] h = absurd cc
   same_has_none (x ∷ xs) (u ∷ us) h = refl
 
-  pub same_list_any : (p q : X → Bool) → ((x u : X) → v x ≡ v u → p x ≡ q u) → (xs us : List X) → map v xs ≡ map v us → list_any p xs ≡ list_any q us
+  pub same_list_any : (p q : X → Bool) → ((x u : X) → v x ≡ v u → p x ≡ q u) → (xs us : List X) → map v xs ≡ map v us
+      → list_any p xs ≡ list_any q us
   same_list_any p q same [] [] h = refl
   same_list_any p q same [] (u ∷ us) h = absurd cc
   same_list_any p q same (x ∷ xs) [] h = absurd cc
@@ -34,8 +35,10 @@ module _ {X V : Type 0} (v : X → V) where
       let rest = same_list_any p q same xs us (cc) in
       ap₂ (λ (a b : Bool). a || b) here rest
 
-  pub same_at_each : (f g : List X → X → List ℕ) → ((before others : List X) (x u : X) → map v before ≡ map v others → v x ≡ v u → f before x ≡ g others u)
-      → (before others xs us : List X) → map v before ≡ map v others → map v xs ≡ map v us → at_each f before xs ≡ at_each g others us
+  pub same_at_each : (f g : List X → X → List ℕ)
+      → ((before others : List X) (x u : X) → map v before ≡ map v others → v x ≡ v u → f before x ≡ g others u)
+      → (before others xs us : List X) → map v before ≡ map v others → map v xs ≡ map v us
+      → at_each f before xs ≡ at_each g others us
   same_at_each f g same before others [] [] e h = refl
   same_at_each f g same before others [] (u ∷ us) e h = absurd cc
   same_at_each f g same before others (x ∷ xs) [] e h = absurd cc
@@ -45,8 +48,11 @@ module _ {X V : Type 0} (v : X → V) where
       let rest = same_at_each f g same (x ∷ before) (u ∷ others) xs us (cc) (cc) in
       cc
 
-  pub same_repeated : (test : X → X → Bool) (at : X → ℕ) → ((x u y w : X) → v x ≡ v u → v y ≡ v w → test x y ≡ test u w) → ((x u : X) → v x ≡ v u → at x ≡ at u)
+  pub same_repeated : (test : X → X → Bool) (at : X → ℕ) → ((x u y w : X) → v x ≡ v u → v y ≡ v w → test x y ≡ test u w)
+      → ((x u : X) → v x ≡ v u → at x ≡ at u)
       → (xs us : List X) → map v xs ≡ map v us → repeated test at xs ≡ repeated test at us
   same_repeated test at same places xs us h =
-      same_at_each (λ (before : List X) (x : X). at_if (list_any (test x) before) (at x)) (λ (before : List X) (x : X). at_if (list_any (test x) before) (at x))
-      (λ before others x u e k. ap₂ at_if (same_list_any (test x) (test u) (λ y w. same x u y w k) before others e) (places x u k)) [] [] xs us refl h
+      same_at_each (λ (before : List X) (x : X). at_if (list_any (test x) before) (at x))
+      (λ (before : List X) (x : X). at_if (list_any (test x) before) (at x))
+      (λ before others x u e k. ap₂ at_if (same_list_any (test x) (test u) (λ y w. same x u y w k) before others e)
+      (places x u k)) [] [] xs us refl h

@@ -1,7 +1,8 @@
 -- What is given twice in a tree is given twice in each tree with the same view.
 use Rattle.std.proofs.Common.{◌≡◌, ℕ, List, [], map, refl, ap, ap₂}
 use Rattle.fcl_syntax.specs.Grammar.{TBlock, TRange, TTerm}
-use Rattle.fcl_syntax.specs.View.{view, view_defuzzify, view_fuzzify, view_fuzzy_line, view_part, view_range, view_rule_line, view_term}
+use Rattle.fcl_syntax.specs.View.{view, view_defuzzify, view_fuzzify, view_fuzzy_line, view_part, view_range}
+use Rattle.fcl_syntax.specs.View.{view_rule_line, view_term}
 use Rattle.fcl_syntax.specs.declared.tree.DefuzzyLine.{DefuzzyLine}
 use Rattle.fcl_syntax.specs.declared.tree.FunctionBlock.{FunctionBlock}
 use Rattle.fcl_syntax.specs.declared.tree.FuzzyLine.{FuzzyLine}
@@ -10,7 +11,9 @@ use Rattle.fcl_syntax.specs.declared.tree.Name.{Name}
 use Rattle.fcl_syntax.specs.declared.tree.Part.{Part}
 use Rattle.fcl_syntax.specs.declared.tree.Part.TheVariants as part
 use Rattle.fcl_syntax.specs.declared.tree.RuleLine.{RuleLine}
-use Rattle.fcl_check.specs.Faults.{line_at, output_line_at, repeated, repeated_lines, repeated_section, rule_line_at, same_declared, same_line, same_name, same_output_line, same_rule_line, same_section, twice}
+use Rattle.fcl_check.specs.Faults.{line_at, output_line_at, repeated, repeated_lines, repeated_section, rule_line_at}
+use Rattle.fcl_check.specs.Faults.{same_declared, same_line, same_name, same_output_line, same_rule_line, same_section}
+use Rattle.fcl_check.specs.Faults.{twice}
 use Rattle.fcl_check.specs.Names.{Declared}
 use Rattle.fcl_check.specs.Places.{at_if}
 use Rattle.fcl_check.proofs.alike.SameImages.{same_list}
@@ -43,13 +46,15 @@ module _ (text : List ℕ) (b c : FunctionBlock) where
   same_repeated_lines : (p q : Part) → view_part p ≡ view_part q → repeated_lines text b p ≡ repeated_lines text c q
   same_repeated_lines (part.Fuzzify s) (part.Fuzzify t) h =
       let inner : view_fuzzify s ≡ view_fuzzify t = cc in
-      same_repeated view_fuzzy_line (same_line text b) line_at same_line_test same_line_at s.lines.items t.lines.items (same_fuzzy_lines s t inner)
+      same_repeated view_fuzzy_line (same_line text b) line_at same_line_test same_line_at s.lines.items t.lines.items
+      (same_fuzzy_lines s t inner)
   same_repeated_lines (part.Defuzzify s) (part.Defuzzify t) h =
       let inner : view_defuzzify s ≡ view_defuzzify t = cc in
       ap (λ (ls : List DefuzzyLine). repeated (same_output_line text b) output_line_at ls) (same_lines s t inner)
   same_repeated_lines p q h = absurd cc
 
-  same_repeated_section : (before others : List Part) (p q : Part) → map view_part before ≡ map view_part others → view_part p ≡ view_part q
+  same_repeated_section : (before others : List Part) (p q : Part) → map view_part before ≡ map view_part others
+      → view_part p ≡ view_part q
       → repeated_section text b before p ≡ repeated_section text c others q
   same_repeated_section before others p q e h =
       let name = same_section_name p q h in
@@ -59,8 +64,12 @@ module _ (text : List ℕ) (b c : FunctionBlock) where
 
   pub same_twice : view b ≡ view c → twice text b ≡ twice text c
   same_twice same =
-      let names = ap (λ (ds : List Declared). repeated (same_declared text b) (λ (d : Declared). d.1.at) ds) (same_declarations text b c same) in
-      let sections = same_at_each view_part (repeated_section text b) (repeated_section text c) same_repeated_section [] [] b.parts.items c.parts.items refl
+      let names = ap (λ (ds : List Declared). repeated (same_declared text b) (λ (d : Declared). d.1.at) ds)
+      (same_declarations text b c same) in
+      let sections = same_at_each view_part (repeated_section text b) (repeated_section text c) same_repeated_section []
+      [] b.parts.items c.parts.items refl
       (ap (λ (t : TBlock). t.parts) same) in
-      let lines = same_list view_rule_line same_rulebase_line b.rules.lines.items c.rules.lines.items (ap (λ (t : TBlock). t.rules.lines) same) in
-      same_appended names (same_appended sections (ap (λ (ls : List RuleLine). repeated same_rule_line rule_line_at ls) lines))
+      let lines = same_list view_rule_line same_rulebase_line b.rules.lines.items c.rules.lines.items
+      (ap (λ (t : TBlock). t.rules.lines) same) in
+      same_appended names (same_appended sections
+      (ap (λ (ls : List RuleLine). repeated same_rule_line rule_line_at ls) lines))

@@ -23,23 +23,34 @@ use Rattle.fcl_check.proofs.trees.RuleSizes.{condition_size, count-rules}
 
 -- ---- rules
 
-number_of-weight : (o : Option Weight) → number_of (option_map (λ (w : Weight). decimal_of w.value) o) ≡ option_map (λ (w : Weight). value w.value) o
+number_of-weight : (o : Option Weight)
+    → number_of (option_map (λ (w : Weight). decimal_of w.value) o) ≡ option_map (λ (w : Weight). value w.value) o
 number_of-weight None = refl
 number_of-weight (Some w) = refl
 
 module _ (text : List ℕ) (b : FunctionBlock) where
-  found_rule : (r : RuleNode) → nodes (or_condition (literal_of text b) (view_or r.condition)) < 2 ^ 63 → (q : Rule) × IsRuleOf text b r q
+  found_rule : (r : RuleNode) → nodes (or_condition (literal_of text b) (view_or r.condition)) < 2 ^ 63
+      → (q : Rule) × IsRuleOf text b r q
   found_rule r small =
-      let condition = found_condition b.variables.alloc (or_condition (literal_of text b) (view_or r.condition)) small in (
-        record { cond = condition.0; weight = option_map (λ (w : Weight). decimal_of w.value) r.weight; concl = map (conclusion_of text b) (conclusions_of r) },
+      let condition = found_condition b.variables.alloc
+      (or_condition (literal_of text b) (view_or r.condition)) small in (
+        record {
+          cond = condition.0;
+          weight = option_map (λ (w : Weight). decimal_of w.value) r.weight;
+          concl =
+              map (conclusion_of text b) (conclusions_of r);
+        },
         record { condition = condition.1; weight = number_of-weight r.weight; conclusions = refl },
       )
 
-  found_rules : (rs : List RuleNode) → count (each rule_item_text (map view_rule_item rs)) < 2 ^ 63 → AllByRecursion (λ r. (q : Rule) × IsRuleOf text b r q) rs
+  found_rules : (rs : List RuleNode) → count (each rule_item_text (map view_rule_item rs)) < 2 ^ 63
+      → AllByRecursion (λ r. (q : Rule) × IsRuleOf text b r q) rs
   found_rules [] small = tt
   found_rules (r ∷ rs) small =
-      let parts = count-append (rule_item_text (view_rule_item r)) (each rule_item_text (map view_rule_item rs)) in
-      (found_rule r (omega (arith, condition_size text b r, parts, small)), found_rules rs (omega (arith, parts, small)))
+      let parts = count-append (rule_item_text (view_rule_item r)) (each rule_item_text (map view_rule_item rs)) in (
+        found_rule r (omega (arith, condition_size text b r, parts, small)),
+        found_rules rs (omega (arith, parts, small)),
+      )
 
 -- ---- the block
 
@@ -50,5 +61,8 @@ found_block offsets_ascend text b small spelled sound =
     let few = few_within 0 (length text) (offsets (block_text (view b))) (offsets_ascend text (view b) spelled) in
     let inputs = found_inputs letters b sound in
     let outputs = found_outputs letters b sound in
-    let rules = found_items (IsRuleOf letters b) items (found_rules letters b items (omega (arith, count-rules b, few, small))) in
-    (record { inputs = inputs.0; outputs = outputs.0; rules = rules.0 }, record { inputs = inputs.1; outputs = outputs.1; rules = rules.1 })
+    let rules = found_items (IsRuleOf letters b) items
+    (found_rules letters b items (omega (arith, count-rules b, few, small))) in (
+      record { inputs = inputs.0; outputs = outputs.0; rules = rules.0 },
+      record { inputs = inputs.1; outputs = outputs.1; rules = rules.1 },
+    )

@@ -50,6 +50,10 @@ pub found_input : (s : Fuzzify) → IsSoundFuzzify s → (x : Input) × IsInputO
 found_input s sound =
     let range = found_value (input_range s) (input_range_there s sound.some) in
     let shaped_terms = nowhere (λ (t : Term). at_if (not (has_shape (points_of t))) t.at) (terms_of s) sound.shaped in
-    let terms = found_items IsTermOf (terms_of s) (all_weaker (λ (t : Term). at_if (not (has_shape (points_of t))) t.at ≡ [])
-    (λ (t : Term). (z : Trapezoid) × IsTermOf t z) (λ t none. found_term t (shaped (has_shape (points_of t)) t.at none)) (terms_of s) shaped_terms) in
-    (record { lo = record { 0 = range.0.0 }; hi = record { 0 = range.0.1 }; terms = terms.0 }, record { range = sym range.1; terms = terms.1 })
+    let terms = found_items IsTermOf (terms_of s)
+    (all_weaker (λ (t : Term). at_if (not (has_shape (points_of t))) t.at ≡ [])
+    (λ (t : Term). (z : Trapezoid) × IsTermOf t z) (λ t none. found_term t (shaped (has_shape (points_of t)) t.at none))
+    (terms_of s) shaped_terms) in (
+      record { lo = record { 0 = range.0.0 }; hi = record { 0 = range.0.1 }; terms = terms.0 },
+      record { range = sym range.1; terms = terms.1 },
+    )

@@ -14,7 +14,8 @@ pub last_there : {X : Type 0} (xs : List X) → IsSome (first xs) → IsSome (la
 last_there [] there = absurd cc
 last_there (x ∷ xs) there = elim (last xs) as (λ o. IsSome (option_or o (Some x))) [ None ↦ refl | Some y ↦ refl ]
 
-pub found_items : {X Y : Type 0} (R : X → Y → Type 0) (xs : List X) → AllByRecursion (λ x. (y : Y) × R x y) xs → (ys : List Y) × AllZip R xs ys
+pub found_items : {X Y : Type 0} (R : X → Y → Type 0) (xs : List X) → AllByRecursion (λ x. (y : Y) × R x y) xs
+    → (ys : List Y) × AllZip R xs ys
 found_items R [] found = ([], tt)
 found_items R (x ∷ xs) found =
     let rest = found_items R xs found.1 in
@@ -22,7 +23,8 @@ found_items R (x ∷ xs) found =
 
 -- of each declared variable of a direction, of its name alone
 pub found_names : {Y : Type 0} (R : Name → Y → Type 0) (side : Direction) (ds : List Declared)
-    → AllByRecursion (λ d. is_direction side d.0 ≡ true → (y : Y) × R d.1 y) ds → AllByRecursion (λ n. (y : Y) × R n y) (filter_map (named_as side) ds)
+    → AllByRecursion (λ d. is_direction side d.0 ≡ true → (y : Y) × R d.1 y) ds
+    → AllByRecursion (λ n. (y : Y) × R n y) (filter_map (named_as side) ds)
 found_names R side [] found = tt
 found_names {Y} R side (d ∷ ds) found =
     let rest = found_names R side ds found.1 in

@@ -18,7 +18,9 @@ number_of-decimal : (o : Option SignedNumber) → number_of (option_map decimal_
 number_of-decimal None = refl
 number_of-decimal (Some n) = refl
 
-singleton_numbers : (ts : List Singleton) → map (λ (d : Dec). d.0) (map (λ (t : Singleton). decimal_of t.value) ts) ≡ map (λ (t : Singleton). value t.value) ts
+singleton_numbers : (ts : List Singleton)
+    → map (λ (d : Dec). d.0) (map (λ (t : Singleton). decimal_of t.value) ts) ≡ map
+    (λ (t : Singleton). value t.value) ts
 singleton_numbers [] = refl
 singleton_numbers (t ∷ ts) = ap (◌∷◌ (value t.value)) (singleton_numbers ts)
 

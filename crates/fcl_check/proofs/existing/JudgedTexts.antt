@@ -8,22 +8,36 @@ use Rattle.fcl_syntax.specs.Text.{SpellsTree}
 use Rattle.fcl_syntax.specs.View.{view}
 use Rattle.fcl_syntax.specs.declared.tree.FunctionBlock.{FunctionBlock}
 use Rattle.fcl_check.specs.Faults.{first_fault}
-use Rattle.fcl_check.specs.Texts.{EachTextIsJudged, HasLoadFault, LoadFaultsAreOne, SpelledBlocksAreValid, SpelledTreesHaveBlocks, SpellsBlock}
+use Rattle.fcl_check.specs.Texts.{EachTextIsJudged, HasLoadFault, LoadFaultsAreOne, SpelledBlocksAreValid}
+use Rattle.fcl_check.specs.Texts.{SpelledTreesHaveBlocks, SpellsBlock}
 use Rattle.fcl_check.specs.declared.fault.LoadFault.{LoadFault}
 use Rattle.fcl_check.proofs.alike.SameFaults.{same_first_fault}
 
-module _ (valid : SpelledBlocksAreValid) (have : SpelledTreesHaveBlocks) (text : List ℕ) (small : length text ≤ 1048576) where
-  judged_tree : (b : FunctionBlock) → SpellsTree text (view b) → (o : Option LoadFault) → first_fault (str_to_ascii_lowercase text) b ≡ o
+module _ (valid : SpelledBlocksAreValid) (have : SpelledTreesHaveBlocks) (text : List ℕ)
+    (small : length text ≤ 1048576) where
+  judged_tree : (b : FunctionBlock) → SpellsTree text (view b) → (o : Option LoadFault)
+      → first_fault (str_to_ascii_lowercase text) b ≡ o
       → ((f : LoadFault) × HasLoadFault text f) ⊎ ((block : Block) × SpellsBlock text block)
   judged_tree b spelled (Some f) is = inl (f, record { tree = b; spelled = spelled; first = is })
   judged_tree b spelled None sound =
       let found = have text b small spelled sound in
-      inr (found.0, record { tree = b; spelled = spelled; sound = sound; loaded = found.1; valid = valid text b found.0 small spelled sound found.1 })
+      inr (
+        found.0,
+        record {
+          tree = b;
+          spelled = spelled;
+          sound = sound;
+          loaded = found.1;
+          valid =
+              valid text b found.0 small spelled sound found.1;
+        },
+      )
 
 pub judged_texts : EachTextIsRead → SpelledBlocksAreValid → SpelledTreesHaveBlocks → EachTextIsJudged
 judged_texts read valid have text small =
     elim (read text small) [
-      | inl tree ↦ inr (judged_tree valid have text small tree.0 tree.1 (first_fault (str_to_ascii_lowercase text) tree.0) refl)
+      | inl tree ↦ inr (judged_tree valid have text small tree.0 tree.1
+          (first_fault (str_to_ascii_lowercase text) tree.0) refl)
       | inr fault ↦ inl fault
     ]
 
@@ -32,14 +46,16 @@ judged_texts read valid have text small =
 module _ (trees_are_one : TreesAreOne) (text : List ℕ) where
   same_spelled : (b c : FunctionBlock) → SpellsTree text (view b) → SpellsTree text (view c)
       → first_fault (str_to_ascii_lowercase text) b ≡ first_fault (str_to_ascii_lowercase text) c
-  same_spelled b c of_b of_c = same_first_fault (str_to_ascii_lowercase text) b c (trees_are_one text (view b) (view c) of_b of_c)
+  same_spelled b c of_b of_c =
+      same_first_fault (str_to_ascii_lowercase text) b c (trees_are_one text (view b) (view c) of_b of_c)
 
   same_load_fault : (f g : LoadFault) → HasLoadFault text f → HasLoadFault text g → f ≡ g
   same_load_fault f g p q = same_Some f g (sym p.first ∙ same_spelled p.tree q.tree p.spelled q.spelled ∙ q.first)
 
   no_block : (f : LoadFault) (block : Block) → HasLoadFault text f → SpellsBlock text block → ⊥
   no_block f block p q =
-      let faultless : ◌≡◌ {A = Option LoadFault} (Some f) None = sym p.first ∙ same_spelled p.tree q.tree p.spelled q.spelled ∙ q.sound in
+      let faultless : ◌≡◌ {A = Option LoadFault} (Some f) None =
+      sym p.first ∙ same_spelled p.tree q.tree p.spelled q.spelled ∙ q.sound in
       cc
 
 pub one_load_fault : TreesAreOne → LoadFaultsAreOne

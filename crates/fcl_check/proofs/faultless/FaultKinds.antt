@@ -14,7 +14,8 @@ first_of_kinds (k ∷ ks) = option_or (option_map k.0 (first k.1)) (first_of_kin
 
 first-kinds : (ks : List ((ℕ → LoadFault) × List ℕ)) → first (flat_map (λ k. map k.0 k.1) ks) ≡ first_of_kinds ks
 first-kinds [] = refl
-first-kinds (k ∷ ks) = rw (first-append (map k.0 k.1) (flat_map (λ k. map k.0 k.1) ks), first-map k.0 k.1, first-kinds ks) refl
+first-kinds (k ∷ ks) =
+    rw (first-append (map k.0 k.1) (flat_map (λ k. map k.0 k.1) ks), first-map k.0 k.1, first-kinds ks) refl
 
 pub first_fault_by_kinds : (text : List ℕ) (b : FunctionBlock) → first_fault text b ≡ first_of_kinds (kinds text b)
 first_fault_by_kinds text b = first-kinds (kinds text b)

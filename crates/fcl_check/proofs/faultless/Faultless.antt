@@ -1,5 +1,6 @@
 -- A tree without load faults: no kind has a place, neither in a section nor in a rule.
-use Rattle.std.proofs.Common.{◌≡◌, ℕ, Bool, true, false, cond, not, ◌&&◌, List, [], ◌∷◌, ◌++◌, map, Option, Some, None, option_and_then, refl}
+use Rattle.std.proofs.Common.{◌≡◌, ℕ, Bool, true, false, cond, not, ◌&&◌, List, [], ◌∷◌, ◌++◌, map, Option, Some, None}
+use Rattle.std.proofs.Common.{option_and_then, refl}
 use Rattle.std.specs.Prelude.{is_none}
 use Rattle.std.specs.List.{AllByRecursion, find, flat_map}
 use Rattle.fcl_syntax.specs.declared.tree.Conclusion.{Conclusion}
@@ -13,11 +14,16 @@ use Rattle.fcl_syntax.specs.declared.tree.Part.{Part}
 use Rattle.fcl_syntax.specs.declared.tree.Part.TheVariants as part
 use Rattle.fcl_syntax.specs.declared.tree.Rule.{Rule}
 use Rattle.fcl_check.specs.declared.fault.LoadFault.{LoadFault}
-use Rattle.fcl_check.specs.Faults.{Pair, conclusions_of, condition_pairs, direction, first_fault, is_declared_as, is_some_direction, kinds, mistaken, mistaken_in, mistaken_section, missing_part, too_many, twice, unknown, unknown_in, unknown_pair, unknown_section, weight_outside, wrong_side}
-use Rattle.fcl_check.specs.Names.{as_defuzzify, as_fuzzify, defuzzify_of, fuzzify_of, is_direction, is_named, letters, section_of, section_name, term_number}
+use Rattle.fcl_check.specs.Faults.{Pair, conclusions_of, condition_pairs, direction, first_fault, is_declared_as}
+use Rattle.fcl_check.specs.Faults.{is_some_direction, kinds, mistaken, mistaken_in, mistaken_section, missing_part}
+use Rattle.fcl_check.specs.Faults.{too_many, twice, unknown, unknown_in, unknown_pair, unknown_section, weight_outside}
+use Rattle.fcl_check.specs.Faults.{wrong_side}
+use Rattle.fcl_check.specs.Names.{as_defuzzify, as_fuzzify, defuzzify_of, fuzzify_of, is_direction, is_named, letters}
+use Rattle.fcl_check.specs.Names.{section_of, section_name, term_number}
 use Rattle.fcl_check.specs.Places.{at_if, at_some, first}
 use Rattle.fcl_check.specs.Sound.{IsKnown, IsSoundRule}
-use Rattle.fcl_check.specs.Sections.{bad_range, falling_points, incomplete, numbers_outside, points_outside, shapeless_terms, terms_over_limit, without_terms}
+use Rattle.fcl_check.specs.Sections.{bad_range, falling_points, incomplete, numbers_outside, points_outside}
+use Rattle.fcl_check.specs.Sections.{shapeless_terms, terms_over_limit, without_terms}
 
 -- ---- lists without items
 
@@ -40,7 +46,8 @@ nowhere f (x ∷ xs) h =
     (both.0, nowhere f xs both.1)
 
 -- none at an item that is found
-pub not_at : {X Y : Type 0} (f : X → List Y) (test : X → Bool) (xs : List X) (y : X) → flat_map f xs ≡ [] → find test xs ≡ Some y → f y ≡ []
+pub not_at : {X Y : Type 0} (f : X → List Y) (test : X → Bool) (xs : List X) (y : X) → flat_map f xs ≡ []
+    → find test xs ≡ Some y → f y ≡ []
 not_at f test [] y h found = cc
 not_at f test (x ∷ xs) y h found =
     let both = no_items (f x) (flat_map f xs) h in
@@ -49,7 +56,8 @@ not_at f test (x ∷ xs) y h found =
       | false ↦ λ e. not_at f test xs y both.1 e
     ] found
 
-no_kind : (ks : List ((ℕ → LoadFault) × List ℕ)) → first (flat_map (λ (k : (ℕ → LoadFault) × List ℕ). map k.0 k.1) ks) ≡ None
+no_kind : (ks : List ((ℕ → LoadFault) × List ℕ))
+    → first (flat_map (λ (k : (ℕ → LoadFault) × List ℕ). map k.0 k.1) ks) ≡ None
     → AllByRecursion (λ (k : (ℕ → LoadFault) × List ℕ). k.1 ≡ []) ks
 no_kind [] h = tt
 no_kind ((fault, []) ∷ ks) h = (refl, no_kind ks h)
@@ -61,9 +69,11 @@ no_kind ((fault, at ∷ ats) ∷ ks) h = absurd cc
 pub known_side : (side : Direction) (o : Option Direction) (at : ℕ) → at_if (is_none o) at ≡ []
     → at_some (λ (d : Direction). at_if (not (is_direction side d)) at) o ≡ [] → is_some_direction side o ≡ true
 known_side side None at h k = cc
-known_side side (Some d) at h k = elim (is_direction side d) as (λ b. at_if (not b) at ≡ [] → b ≡ true) [ true ↦ λ e. refl | false ↦ λ e. cc ] k
+known_side side (Some d) at h k =
+    elim (is_direction side d) as (λ b. at_if (not b) at ≡ [] → b ≡ true) [ true ↦ λ e. refl | false ↦ λ e. cc ] k
 
-known_number : (test : Bool) (o : Option ℕ) (at : ℕ) → test ≡ true → at_if (test && is_none o) at ≡ [] → (n : ℕ) × (o ≡ Some n)
+known_number : (test : Bool) (o : Option ℕ) (at : ℕ) → test ≡ true → at_if (test && is_none o) at ≡ []
+    → (n : ℕ) × (o ≡ Some n)
 known_number true None at h k = absurd cc
 known_number true (Some n) at h k = (n, refl)
 known_number false o at h k = absurd cc
@@ -75,22 +85,26 @@ fuzzify_found None s h = cc
 fuzzify_found (Some (part.Fuzzify f)) s h = cc
 fuzzify_found (Some (part.Defuzzify f)) s h = cc
 
-defuzzify_found : (o : Option Part) (s : Defuzzify) → option_and_then as_defuzzify o ≡ Some s → o ≡ Some (part.Defuzzify s)
+defuzzify_found : (o : Option Part) (s : Defuzzify) → option_and_then as_defuzzify o ≡ Some s
+    → o ≡ Some (part.Defuzzify s)
 defuzzify_found None s h = cc
 defuzzify_found (Some (part.Fuzzify f)) s h = cc
 defuzzify_found (Some (part.Defuzzify f)) s h = cc
 
 module _ (text : List ℕ) (b : FunctionBlock) where
-  known : (side : Direction) (v t : Name) → unknown_pair text b side v t ≡ [] → mistaken text b side v ≡ [] → IsKnown text b side v t
+  known : (side : Direction) (v t : Name) → unknown_pair text b side v t ≡ [] → mistaken text b side v ≡ []
+      → IsKnown text b side v t
   known side v t h k =
       let both = no_items (at_if (is_none (direction text b v)) v.at) _ h in
       let declared = known_side side (direction text b v) v.at both.0 k in
-      let found = known_number (is_declared_as text b side v) (term_number text b side (letters text v) (letters text t)) t.at declared both.1 in
+      let found = known_number (is_declared_as text b side v)
+      (term_number text b side (letters text v) (letters text t)) t.at declared both.1 in
       record { declared = declared; number = found.0; numbered = found.1 }
 
   -- ---- rules
 
-  all_known : {X : Type 0} (side : Direction) (v t : X → Name) (xs : List X) → flat_map (λ x. unknown_pair text b side (v x) (t x)) xs ≡ []
+  all_known : {X : Type 0} (side : Direction) (v t : X → Name) (xs : List X)
+      → flat_map (λ x. unknown_pair text b side (v x) (t x)) xs ≡ []
       → flat_map (λ x. mistaken text b side (v x)) xs ≡ [] → AllByRecursion (λ x. IsKnown text b side (v x) (t x)) xs
   all_known side v t [] h k = tt
   all_known side v t (x ∷ xs) h k =
@@ -98,7 +112,8 @@ module _ (text : List ℕ) (b : FunctionBlock) where
       let sided = no_items (mistaken text b side (v x)) _ k in
       (known side (v x) (t x) here.0 sided.0, all_known side v t xs here.1 sided.1)
 
-  sound_rule : (r : Rule) → unknown_in text b r ≡ [] → mistaken_in text b r ≡ [] → weight_outside r ≡ [] → IsSoundRule text b r
+  sound_rule : (r : Rule) → unknown_in text b r ≡ [] → mistaken_in text b r ≡ [] → weight_outside r ≡ []
+      → IsSoundRule text b r
   sound_rule r h k w =
       let pairs = condition_pairs r in
       let ends = conclusions_of r in
@@ -106,11 +121,13 @@ module _ (text : List ℕ) (b : FunctionBlock) where
       let sided = no_items (flat_map (λ (p : Pair). mistaken text b Input p.variable) pairs) _ k in
       record {
         condition = all_known Input (λ (p : Pair). p.variable) (λ (p : Pair). p.term) pairs here.0 sided.0;
-        conclusions = all_known Output (λ (c : Conclusion). c.variable) (λ (c : Conclusion). c.term) ends here.1 sided.1;
+        conclusions = all_known Output (λ (c : Conclusion). c.variable)
+            (λ (c : Conclusion). c.term) ends here.1 sided.1;
         weight = w;
       }
 
-  all_sound : (rs : List Rule) → flat_map (unknown_in text b) rs ≡ [] → flat_map (mistaken_in text b) rs ≡ [] → flat_map weight_outside rs ≡ []
+  all_sound : (rs : List Rule) → flat_map (unknown_in text b) rs ≡ [] → flat_map (mistaken_in text b) rs ≡ []
+      → flat_map weight_outside rs ≡ []
       → AllByRecursion (IsSoundRule text b) rs
   all_sound [] h k w = tt
   all_sound (r ∷ rs) h k w =

@@ -1,5 +1,6 @@
 -- The first of what is over a limit.
-use Rattle.std.proofs.Common.{◌≡◌, ℕ, suc, zero, ◌+◌, false, List, [], ◌∷◌, ◌++◌, drop, length, map, Option, Some, None, option_map, refl, sym, ap, ◌∙◌, arith}
+use Rattle.std.proofs.Common.{◌≡◌, ℕ, suc, zero, ◌+◌, false, List, [], ◌∷◌, ◌++◌, drop, length, map, Option, Some, None}
+use Rattle.std.proofs.Common.{option_map, refl, sym, ap, ◌∙◌, arith}
 use Rattle.std.specs.Option.{option_or}
 use Rattle.std.specs.Prelude.{nat_le, slice_get}
 use Rattle.std.specs.List.{filter, flat_map}
@@ -46,12 +47,15 @@ over_is i (suc o) before ((Output, n) ∷ ds) hi ho =
     let e : nat_le 4 (count Output before) ≡ false = lt-leb 4 (count Output before) (omega arith) in
     rw e (over_is i o ((Output, n) ∷ before) ds hi (omega arith))
 
-pub over_first : (ds : List Declared) → first (at_each (λ (before : List Declared) (d : Declared). at_if (is_over before d) d.1.at) [] ds) ≡ over_from
+pub over_first : (ds : List Declared)
+    → first (at_each (λ (before : List Declared) (d : Declared). at_if (is_over before d) d.1.at) [] ds) ≡ over_from
     (room 8 4) ds
 over_first ds = sym (over_is 8 4 [] ds refl refl)
 
-pub too_many_first : (text : List ℕ) (b : FunctionBlock) → first (too_many text b) ≡ option_or (first (at_each over_places [] (declared_in b)))
-    (option_or (first (flat_map terms_over_limit b.parts.items)) (option_map (λ (r : Rule). r.at) (slice_get b.rules.rules.items 256)))
+pub too_many_first : (text : List ℕ) (b : FunctionBlock)
+    → first (too_many text b) ≡ option_or (first (at_each over_places [] (declared_in b)))
+    (option_or (first (flat_map terms_over_limit b.parts.items))
+    (option_map (λ (r : Rule). r.at) (slice_get b.rules.rules.items 256)))
 too_many_first text b =
     let names = at_each over_places [] (declared_in b) in
     let terms = flat_map terms_over_limit b.parts.items in

@@ -1,5 +1,6 @@
 -- Points that ascend, and where they stand.
-use Rattle.std.proofs.Common.{◌≡◌, ℕ, true, false, cond, not, ◌&&◌, List, [], ◌∷◌, ◌++◌, Some, None, refl, arith, ◌⊎◌, inl, inr}
+use Rattle.std.proofs.Common.{◌≡◌, ℕ, true, false, cond, not, ◌&&◌, List, [], ◌∷◌, ◌++◌, Some, None, refl, arith, ◌⊎◌}
+use Rattle.std.proofs.Common.{inl, inr}
 use Rattle.std.specs.Prelude.{ℤ, ◌≤ℤ◌, ◌<ℤ◌, int_lt}
 use Rattle.std.specs.List.{AllByRecursion, filter, list_all, list_any}
 use Rattle.std.specs.Option.{option_or}
@@ -35,10 +36,16 @@ no-tie : (a x : ℤ) → (a ≡ x → ⊥) → int_eq a x ≡ false
 no-tie a x h = elim (cases_Bool (int_eq a x)) [ inl e ↦ absurd (h ((Decides-int_eq a x).0 e)) | inr e ↦ e ]
 
 pub left : (p : Point) (x : ℤ) → x_of p <ℤ x → IsLeft p x
-left p x h = record { less = grind (arith, ints); same = no-tie (x_of p) x (λ e. omega (arith, ints)); more = grind (arith, ints) }
+left p x h = record {
+  less = grind (arith, ints);
+  same = no-tie (x_of p) x (λ e. omega (arith, ints));
+  more =
+      grind (arith, ints);
+}
 
 pub right : (p : Point) (x : ℤ) → x <ℤ x_of p → IsRight p x
-right p x h = record { less = grind (arith, ints); same = no-tie (x_of p) x (λ e. omega (arith, ints)); more = grind (arith, ints) }
+right p x h = record
+    { less = grind (arith, ints); same = no-tie (x_of p) x (λ e. omega (arith, ints)); more = grind (arith, ints) }
 
 pub here : (p : Point) (x : ℤ) → x_of p ≡ x → IsAt p x
 here p x h =
@@ -49,7 +56,8 @@ here p x h =
 pub place : (a x : ℤ) → (a <ℤ x) ⊎ ((a ≡ x) ⊎ (x <ℤ a))
 place a x = elim (cases_Bool (int_lt a x)) [
   | inl e ↦ inl (grind (arith, ints))
-  | inr e ↦ elim (cases_Bool (int_lt x a)) [ inl f ↦ inr (inr (grind (arith, ints))) | inr f ↦ inr (inl ((Decides-int_eq a x).0 (rw (e, f) refl))) ]
+  | inr e ↦ elim (cases_Bool (int_lt x a))
+      [ inl f ↦ inr (inr (grind (arith, ints))) | inr f ↦ inr (inl ((Decides-int_eq a x).0 (rw (e, f) refl))) ]
 ]
 
 -- ---- points that ascend
@@ -68,10 +76,12 @@ NotBelow-lower low high (p ∷ points) h all = (omega (arith, ints, h, all.0), N
 abbrev falls : List Point → Point → List ℕ
 falls before p = at_if (is_below p (first before)) p.open_at
 
-ascends-on : (q : Point) (before points : List Point) → at_each falls (q ∷ before) points ≡ [] → NotBelow (x_of q) points × Ascends points
+ascends-on : (q : Point) (before points : List Point) → at_each falls (q ∷ before) points ≡ []
+    → NotBelow (x_of q) points × Ascends points
 ascends-on q before [] h = (tt, tt)
 ascends-on q before (p ∷ points) h =
-    elim (int_lt (x_of p) (x_of q)) as (λ b. int_lt (x_of p) (x_of q) ≡ b → at_if b p.open_at ++ at_each falls (p ∷ q ∷ before) points ≡ []
+    elim (int_lt (x_of p) (x_of q)) as
+    (λ b. int_lt (x_of p) (x_of q) ≡ b → at_if b p.open_at ++ at_each falls (p ∷ q ∷ before) points ≡ []
     → NotBelow (x_of q) (p ∷ points) × Ascends (p ∷ points)) [
       | true ↦ λ e k. cc
       | false ↦ λ e k.
@@ -86,11 +96,15 @@ ascends t h = ascends-on t.first [] t.more.items h
 -- ---- zeros
 
 pub head-zero : (p : Point) (points : List Point) → list_all has_zero (p ∷ points) ≡ true → has_one p ≡ false
-head-zero p points h = elim (has_one p) as (λ b. (not b && list_all has_zero points) ≡ true → b ≡ false) [ true ↦ λ k. cc | false ↦ λ k. refl ] h
+head-zero p points h =
+    elim (has_one p) as (λ b. (not b && list_all has_zero points) ≡ true → b ≡ false)
+    [ true ↦ λ k. cc | false ↦ λ k. refl ] h
 
-pub tail-zero : (p : Point) (points : List Point) → list_all has_zero (p ∷ points) ≡ true → list_all has_zero points ≡ true
+pub tail-zero : (p : Point) (points : List Point) → list_all has_zero (p ∷ points) ≡ true
+    → list_all has_zero points ≡ true
 tail-zero p points h =
-    elim (has_one p) as (λ b. (not b && list_all has_zero points) ≡ true → list_all has_zero points ≡ true) [ true ↦ λ k. cc | false ↦ λ k. k ] h
+    elim (has_one p) as (λ b. (not b && list_all has_zero points) ≡ true → list_all has_zero points ≡ true)
+    [ true ↦ λ k. cc | false ↦ λ k. k ] h
 
 -- ---- where all points stand on one side
 
@@ -102,19 +116,23 @@ left_of x points = filter (λ (p : Point). int_lt (x_of p) x) points
 
 none-at : (low x : ℤ) (points : List Point) → x <ℤ low → NotBelow low points → at_x x points ≡ []
 none-at low x [] h all = refl
-none-at low x (p ∷ points) h all = let r = right p x (omega (arith, ints, h, all.0)) in rw r.same (none-at low x points h all.1)
+none-at low x (p ∷ points) h all = let r = right p x (omega (arith, ints, h, all.0)) in
+    rw r.same (none-at low x points h all.1)
 
 none-left : (low x : ℤ) (points : List Point) → x <ℤ low → NotBelow low points → left_of x points ≡ []
 none-left low x [] h all = refl
-none-left low x (p ∷ points) h all = let r = right p x (omega (arith, ints, h, all.0)) in rw r.less (none-left low x points h all.1)
+none-left low x (p ∷ points) h all = let r = right p x (omega (arith, ints, h, all.0)) in
+    rw r.less (none-left low x points h all.1)
 
 -- ---- the course, point after point
 
 pub last-over : {A : Type 0} (x y : A) (l : List A) → last (x ∷ y ∷ l) ≡ last (y ∷ l)
-last-over x y l = elim (last l) as (λ o. option_or (option_or o (Some y)) (Some x) ≡ option_or o (Some y)) [ None ↦ refl | Some z ↦ refl ]
+last-over x y l = elim (last l) as (λ o. option_or (option_or o (Some y)) (Some x) ≡ option_or o (Some y))
+    [ None ↦ refl | Some z ↦ refl ]
 
 module _ (x : ℤ) where
-  pub course-step : (p q : Point) (points : List Point) → x_of p <ℤ x → x_of q <ℤ x → course (p ∷ q ∷ points) x ≡ course (q ∷ points) x
+  pub course-step : (p q : Point) (points : List Point) → x_of p <ℤ x → x_of q <ℤ x
+      → course (p ∷ q ∷ points) x ≡ course (q ∷ points) x
   course-step p q points h k =
       let r = left p x h in
       let s = left q x k in
@@ -123,19 +141,31 @@ module _ (x : ℤ) where
   pub course-end : (p : Point) → x_of p <ℤ x → course (p ∷ []) x ≡ height p
   course-end p h = let r = left p x h in rw (r.same, r.less, r.more) refl
 
-  pub course-start : (p : Point) (points : List Point) → x <ℤ x_of p → NotBelow (x_of p) points → course (p ∷ points) x ≡ height p
+  pub course-start : (p : Point) (points : List Point) → x <ℤ x_of p → NotBelow (x_of p) points
+      → course (p ∷ points) x ≡ height p
   course-start p points h all =
       let r = right p x h in
       rw (r.same, r.less, r.more, none-at (x_of p) x points h all, none-left (x_of p) x points h all) refl
 
-  pub course-between : (p q : Point) (points : List Point) → x_of p <ℤ x → x <ℤ x_of q → NotBelow (x_of q) points → course (p ∷ q ∷ points) x ≡ on_line p q x
+  pub course-between : (p q : Point) (points : List Point) → x_of p <ℤ x → x <ℤ x_of q → NotBelow (x_of q) points
+      → course (p ∷ q ∷ points) x ≡ on_line p q x
   course-between p q points h k all =
       let r = left p x h in
       let s = right q x k in
-      rw (r.same, r.less, r.more, s.same, s.less, s.more, none-at (x_of q) x points k all, none-left (x_of q) x points k all) refl
+      rw (
+        r.same,
+        r.less,
+        r.more,
+        s.same,
+        s.less,
+        s.more,
+        none-at (x_of q) x points k all,
+        none-left (x_of q) x points k all,
+      ) refl
 
   -- a point at x behind one that stands before it
-  pub course-reach : (p q : Point) (points : List Point) → x_of p <ℤ x → x_of q ≡ x → course (p ∷ q ∷ points) x ≡ course (q ∷ points) x
+  pub course-reach : (p q : Point) (points : List Point) → x_of p <ℤ x → x_of q ≡ x
+      → course (p ∷ q ∷ points) x ≡ course (q ∷ points) x
   course-reach p q points h k =
       let r = left p x h in
       let s = here q x k in
@@ -145,13 +175,15 @@ module _ (x : ℤ) where
   course-top p points h top = let r = here p x h in rw (r.same, top) refl
 
   -- a zero at x behind or before other points at x
-  pub course-run : (p q : Point) (points : List Point) → x_of p ≡ x → has_one p ≡ false → x_of q ≡ x → course (p ∷ q ∷ points) x ≡ course (q ∷ points) x
+  pub course-run : (p q : Point) (points : List Point) → x_of p ≡ x → has_one p ≡ false → x_of q ≡ x
+      → course (p ∷ q ∷ points) x ≡ course (q ∷ points) x
   course-run p q points h zero k =
       let r = here p x h in
       let s = here q x k in
       rw (r.same, s.same, zero) refl
 
-  pub course-lone : (p q : Point) (points : List Point) → x_of p ≡ x → has_one p ≡ false → x <ℤ x_of q → NotBelow (x_of q) points
+  pub course-lone : (p q : Point) (points : List Point) → x_of p ≡ x → has_one p ≡ false → x <ℤ x_of q
+      → NotBelow (x_of q) points
       → course (p ∷ q ∷ points) x ≡ none
   course-lone p q points h zero k all =
       let r = here p x h in
@@ -167,7 +199,8 @@ module _ (x : ℤ) where
         | false ↦ no-one points (tail-zero p points h)
       ]
 
-  pub course-zeros : (p : Point) (points : List Point) → x_of p ≡ x → list_all has_zero (p ∷ points) ≡ true → course (p ∷ points) x ≡ none
+  pub course-zeros : (p : Point) (points : List Point) → x_of p ≡ x → list_all has_zero (p ∷ points) ≡ true
+      → course (p ∷ points) x ≡ none
   course-zeros p points h zeros =
       let r = here p x h in
       rw (r.same, head-zero p points zeros, no-one points (tail-zero p points zeros)) refl

@@ -1,5 +1,6 @@
 -- How many names, terms and rules there are where none is missing and none too many.
-use Rattle.std.proofs.Common.{◌≡◌, ℕ, ◌+◌, ◌≤◌, true, false, ◌||◌, List, [], ◌∷◌, drop, length, map, Some, None, if◌then◌else◌, ap, arith}
+use Rattle.std.proofs.Common.{◌≡◌, ℕ, ◌+◌, ◌≤◌, true, false, ◌||◌, List, [], ◌∷◌, drop, length, map, Some, None}
+use Rattle.std.proofs.Common.{if◌then◌else◌, ap, arith}
 use Rattle.std.specs.Prelude.{is_none, nat_le}
 use Rattle.std.specs.List.{cons_option, filter, list_any, slice_get}
 use Rattle.std.proofs.lemmas.Bool.Decides.{nat_tests}
@@ -17,7 +18,8 @@ some_item [] at h = absurd cc
 some_item (x ∷ xs) at h = omega arith
 
 pub few_items : {X Y : Type 0} (n : ℕ) (f : X → Y) (xs : List X) → map f (drop n xs) ≡ [] → length xs ≤ n
-few_items n f xs h = let none : length (map f (drop n xs)) ≡ 0 = ap length h in omega (arith, none, length-map (drop n xs) f, length-drop n xs)
+few_items n f xs h = let none : length (map f (drop n xs)) ≡ 0 = ap length h in
+    omega (arith, none, length-map (drop n xs) f, length-drop n xs)
 
 pub some_at_all : {X : Type 0} (xs : List X) → is_none (slice_get xs 0) ≡ false → 1 ≤ length xs
 some_at_all [] h = cc
@@ -34,7 +36,8 @@ over before d = at_if (is_over before d) d.1.at
 not_over : (n m : ℕ) → nat_le n m ≡ false → m + 1 ≤ n
 not_over n m h = grind (arith, nat_tests)
 
-pub some_names : (side : Direction) (ds : List Declared) → list_any (λ (d : Declared). is_direction side d.0) ds ≡ true → 1 ≤ length (names_of side ds)
+pub some_names : (side : Direction) (ds : List Declared) → list_any (λ (d : Declared). is_direction side d.0) ds ≡ true
+    → 1 ≤ length (names_of side ds)
 some_names side [] h = cc
 some_names side (d ∷ ds) h =
     elim (is_direction side d.0) as (λ b. (b || list_any (λ (d : Declared). is_direction side d.0) ds) ≡ true
@@ -43,7 +46,8 @@ some_names side (d ∷ ds) h =
       | false ↦ λ k. some_names side ds k
     ] h
 
-pub few_names : (side : Direction) (before ds : List Declared) → of_side side before ≤ most_of side → at_each over before ds ≡ []
+pub few_names : (side : Direction) (before ds : List Declared) → of_side side before ≤ most_of side
+    → at_each over before ds ≡ []
     → of_side side before + length (names_of side ds) ≤ most_of side
 few_names side before [] h none = omega (arith, h)
 few_names side.Input before ((side.Input, n) ∷ ds) h none =

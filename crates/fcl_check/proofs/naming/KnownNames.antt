@@ -1,5 +1,6 @@
 -- The numbers of known names: they are there, and bytes.
-use Rattle.std.proofs.Common.{◌≡◌, ℕ, zero, suc, ◌≤◌, ◌<◌, true, List, [], ◌∷◌, get_or, length, map, Option, Some, None, option_and_then, option_map, refl, ap, ◌∙◌, arith}
+use Rattle.std.proofs.Common.{◌≡◌, ℕ, zero, suc, ◌≤◌, ◌<◌, true, List, [], ◌∷◌, get_or, length, map, Option, Some, None}
+use Rattle.std.proofs.Common.{option_and_then, option_map, refl, ap, ◌∙◌, arith}
 use Rattle.std.specs.List.{AllByRecursion}
 use Rattle.std.proofs.lemmas.List.{length-map}
 use Rattle.fcl_syntax.specs.declared.tree.Alternative.{Alternative}
@@ -13,9 +14,11 @@ use Rattle.fcl_syntax.specs.declared.tree.Term.{Term}
 use Rattle.fcl_syntax.specs.View.{ands_of, nots_of, view_alternative, view_conjunct}
 use Rattle.fcl_check.specs.declared.names.Variable.{Variable}
 use Rattle.fcl_check.specs.ByLetters.{names_of, variable_in}
-use Rattle.fcl_check.specs.Faults.{Pair, and_pairs, ands_pairs, direction, first_fault, is_some_direction, most_of, not_pairs, nots_pairs}
+use Rattle.fcl_check.specs.Faults.{Pair, and_pairs, ands_pairs, direction, first_fault, is_some_direction, most_of}
+use Rattle.fcl_check.specs.Faults.{not_pairs, nots_pairs}
 use Rattle.fcl_check.specs.Loaded.{or_zero}
-use Rattle.fcl_check.specs.Names.{declared_as, declared_in, defuzzify_of, fuzzify_of, letters, number_in, singleton_names, singletons_of, term_names, term_number, terms_of, variable_number}
+use Rattle.fcl_check.specs.Names.{declared_as, declared_in, defuzzify_of, fuzzify_of, letters, number_in}
+use Rattle.fcl_check.specs.Names.{singleton_names, singletons_of, term_names, term_number, terms_of, variable_number}
 use Rattle.fcl_check.specs.Places.{at_each}
 use Rattle.fcl_check.specs.Sound.{IsKnown}
 use Rattle.fcl_check.proofs.lists.Counts.{few_items, few_names, over}
@@ -26,17 +29,21 @@ use Rattle.fcl_check.proofs.faultless.Present.{as_side}
 
 -- ---- one of several parts
 
-pub pairs_of-conjunct : (P : Pair → Type 0) (xs : List Conjunct) (i : ℕ) (d : Conjunct) → AllByRecursion P (nots_pairs (nots_of (map view_conjunct xs)))
+pub pairs_of-conjunct : (P : Pair → Type 0) (xs : List Conjunct) (i : ℕ) (d : Conjunct)
+    → AllByRecursion P (nots_pairs (nots_of (map view_conjunct xs)))
     → i < length xs → AllByRecursion P (not_pairs (view_conjunct (get_or xs i d)).1)
 pairs_of-conjunct P [] i d all within = absurd (omega arith)
 pairs_of-conjunct P (x ∷ xs) zero d all within = (parts_of P (not_pairs (view_conjunct x).1) _ all).0
-pairs_of-conjunct P (x ∷ xs) (suc i) d all within = pairs_of-conjunct P xs i d (parts_of P (not_pairs (view_conjunct x).1) _ all).1 (omega arith)
+pairs_of-conjunct P (x ∷ xs) (suc i) d all within =
+    pairs_of-conjunct P xs i d (parts_of P (not_pairs (view_conjunct x).1) _ all).1 (omega arith)
 
 pub pairs_of-alternative : (P : Pair → Type 0) (xs : List Alternative) (i : ℕ) (d : Alternative)
-    → AllByRecursion P (ands_pairs (ands_of (map view_alternative xs))) → i < length xs → AllByRecursion P (and_pairs (view_alternative (get_or xs i d)).1)
+    → AllByRecursion P (ands_pairs (ands_of (map view_alternative xs))) → i < length xs
+    → AllByRecursion P (and_pairs (view_alternative (get_or xs i d)).1)
 pairs_of-alternative P [] i d all within = absurd (omega arith)
 pairs_of-alternative P (x ∷ xs) zero d all within = (parts_of P (and_pairs (view_alternative x).1) _ all).0
-pairs_of-alternative P (x ∷ xs) (suc i) d all within = pairs_of-alternative P xs i d (parts_of P (and_pairs (view_alternative x).1) _ all).1 (omega arith)
+pairs_of-alternative P (x ∷ xs) (suc i) d all within =
+    pairs_of-alternative P xs i d (parts_of P (and_pairs (view_alternative x).1) _ all).1 (omega arith)
 
 -- ---- numbers
 
@@ -52,7 +59,8 @@ declared_so : (side : Direction) (o : Option Direction) → is_some_direction si
 declared_so side None h = cc
 declared_so side (Some d) h = ap Some (as_side side d h)
 
-few_in : {X : Type 0} (text : List ℕ) (ls : List ℕ) (names : X → List Name) (o : Option X) (n : ℕ) → ((x : X) → o ≡ Some x → length (names x) ≤ 15)
+few_in : {X : Type 0} (text : List ℕ) (ls : List ℕ) (names : X → List Name) (o : Option X) (n : ℕ)
+    → ((x : X) → o ≡ Some x → length (names x) ≤ 15)
     → option_and_then (λ x. number_in text (names x) ls) o ≡ Some n → n ≤ 15
 few_in text ls names None n few e = absurd cc
 few_in text ls names (Some x) n few e = omega (arith, few x refl, (number_within text (names x) ls n e).1)
@@ -62,7 +70,8 @@ module _ (text : List ℕ) (b : FunctionBlock) (sound : first_fault text b ≡ N
   variable_few side ls =
       let many = no_items (at_each over [] (declared_in b)) _ (faultless text b sound).counts in
       let few = few_names side [] (declared_in b) (omega arith) many.0 in
-      or_zero-le (variable_number text b side ls) 8 (λ k e. omega (arith, (number_within text (declared_as side b) ls k e).1, few, most-le side))
+      or_zero-le (variable_number text b side ls) 8
+      (λ k e. omega (arith, (number_within text (declared_as side b) ls k e).1, few, most-le side))
 
   pub term_few : (side : Direction) (ls ts : List ℕ) (n : ℕ) → term_number text b side ls ts ≡ Some n → n ≤ 15
   term_few Input ls ts n e = few_in text ts term_names (fuzzify_of text b ls) n (λ s h. omega (
@@ -73,15 +82,18 @@ module _ (text : List ℕ) (b : FunctionBlock) (sound : first_fault text b ≡ N
   term_few Output ls ts n e = few_in text ts singleton_names (defuzzify_of text b ls) n
       (λ s h. omega (
         arith,
-        few_items 15 (λ (t : Singleton). t.name.at) (singletons_of s) (sound_output text b (faultless text b sound) ls s h).few,
+        few_items 15 (λ (t : Singleton). t.name.at) (singletons_of s)
+            (sound_output text b (faultless text b sound) ls s h).few,
         length-map (singletons_of s) (λ (t : Singleton). t.name),
       )) e
 
-  pub number_few : (side : Direction) (v t : Name) (ls : List ℕ) (d : Variable) → IsKnown text b side v t → ls ≡ letters text v
+  pub number_few : (side : Direction) (v t : Name) (ls : List ℕ) (d : Variable) → IsKnown text b side v t
+      → ls ≡ letters text v
       → Some d ≡ variable_in text (declared_in b) ls → d.number ≤ 8
   number_few side v t ls d known spelled found =
       let numbered : Direction → Variable =
-      λ (d : Direction). record { direction = d; number = or_zero (number_in text (names_of d (declared_in b)) (letters text v)) } in
+      λ (d : Direction). record
+      { direction = d; number = or_zero (number_in text (names_of d (declared_in b)) (letters text v)) } in
       let there : variable_in text (declared_in b) (letters text v) ≡ Some (numbered side) =
       ap (option_map numbered) (declared_so side (direction text b v) known.declared) in
       let same : d ≡ numbered side = (let e : Some d ≡ Some (numbered side) = (rw spelled at found) ∙ there in cc) in

@@ -1,5 +1,6 @@
 -- Sections by their letters, and what a tree has twice, as one more section is read.
-use Rattle.std.proofs.Common.{◌≡◌, ℕ, ◌+◌, Bool, true, false, cond, List, [], ◌∷◌, ◌++◌, take, Option, Some, None, is_some, option_map, IfSome, refl, ap, ◌∙◌, sym}
+use Rattle.std.proofs.Common.{◌≡◌, ℕ, ◌+◌, Bool, true, false, cond, List, [], ◌∷◌, ◌++◌, take, Option, Some, None}
+use Rattle.std.proofs.Common.{is_some, option_map, IfSome, refl, ap, ◌∙◌, sym}
 use Rattle.std.proofs.lemmas.List.Folds.{find-append}
 use Rattle.std.specs.BTreeMap.{BTreeMap}
 use Rattle.std.specs.Borrow.{Bor}
@@ -28,7 +29,8 @@ map_or f None p true a h = rw (← h) refl
 map_or f None p false a h = rw (← h) refl
 map_or f (Some c) p b a h = rw (← h) refl
 
-if_or : {A : Type 0} (P : A → Type 0) (o : Option A) (b : Bool) (a : A) → IfSome o P → P a → IfSome (option_or o (cond b (Some a) None)) P
+if_or : {A : Type 0} (P : A → Type 0) (o : Option A) (b : Bool) (a : A) → IfSome o P → P a
+    → IfSome (option_or o (cond b (Some a) None)) P
 if_or P None true a h k = k
 if_or P None false a h k = h
 if_or P (Some c) b a h k = h
@@ -37,8 +39,10 @@ nowhere : (o : Option ℕ) → option_map load.Twice o ≡ None → o ≡ None
 nowhere None h = refl
 nowhere (Some n) h = cc
 
-module _ (text : List ℕ) (b : FunctionBlock) (parts : List Part) (i : ℕ) (p : Part) (more : take (i + 1) parts ≡ take i parts ++ p ∷ [])
-    (m : BTreeMap (Bor (List ℕ)) Section) (holds : HoldsSections text (take i parts) m) (name : Name) (named : name ≡ section_name p) where
+module _ (text : List ℕ) (b : FunctionBlock) (parts : List Part) (i : ℕ) (p : Part)
+    (more : take (i + 1) parts ≡ take i parts ++ p ∷ [])
+    (m : BTreeMap (Bor (List ℕ)) Section) (holds : HoldsSections text (take i parts) m) (name : Name)
+    (named : name ≡ section_name p) where
   section_taken : is_some (at_letters m (letters text name)) ≡ list_any (same_section text b p) (take i parts)
   section_taken =
       rw named (sym (is_some-map (λ (s : Section). s.part.now) (at_letters m (letters text (section_name p))))
@@ -46,7 +50,8 @@ module _ (text : List ℕ) (b : FunctionBlock) (parts : List Part) (i : ℕ) (p 
       ∙ found_any (λ (q : Part). is_named text (letters text (section_name p)) (section_name q)) (take i parts))
 
   module _ (once : first (at_each (repeated_section text b) [] (take i parts)) ≡ None) where
-    pub section_twice : is_some (at_letters m (letters text name)) ≡ true → first (at_each (repeated_section text b) [] parts) ≡ Some name.at
+    pub section_twice : is_some (at_letters m (letters text name)) ≡ true
+        → first (at_each (repeated_section text b) [] parts) ≡ Some name.at
     section_twice found =
         first_at_here (repeated_section text b) parts i p more once name.at (rw (
           list_any-all_walked (same_section text b p) (take i parts),
@@ -59,13 +64,15 @@ module _ (text : List ℕ) (b : FunctionBlock) (parts : List Part) (i : ℕ) (p 
       pub line_twice : (e : LoadFault) → Says e (option_map load.Twice (first (repeated_lines text b p)))
           → Says e (option_map load.Twice (first (at_each (repeated_section text b) [] parts)))
       line_twice e found =
-          same_place e (first (repeated_lines text b p)) _ (λ n at. first_at_here (repeated_section text b) parts i p more once n
+          same_place e (first (repeated_lines text b p)) _
+          (λ n at. first_at_here (repeated_section text b) parts i p more once n
           (rw (list_any-all_walked (same_section text b p) (take i parts), ← section_taken, free) at)) found
 
       pub section_once : option_map load.Twice (first (repeated_lines text b p)) ≡ None
           → first (at_each (repeated_section text b) [] (take (i + 1) parts)) ≡ None
       section_once none =
-          first_at_more (repeated_section text b) parts i p more once (rw (list_any-all_walked (same_section text b p) (take i parts), ← section_taken, free)
+          first_at_more (repeated_section text b) parts i p more once
+          (rw (list_any-all_walked (same_section text b p) (take i parts), ← section_taken, free)
           (nowhere (first (repeated_lines text b p)) none))
 
   pub sections_more : (n : BTreeMap (Bor (List ℕ)) Section) (s : Section) → s.part.now ≡ p
@@ -73,8 +80,16 @@ module _ (text : List ℕ) (b : FunctionBlock) (parts : List Part) (i : ℕ) (p 
       → ((ls : List ℕ) → at_letters n ls ≡ option_or (at_letters m ls) (cond (is_named text ls name) (Some s) None))
       → HoldsSections text (take (i + 1) parts) n
   sections_more n s is terms added = record {
-    parts = λ ls. rw (more, find-append (λ (q : Part). is_named text ls (section_name q)) (take i parts) (p ∷ []), added ls, ← named, ← is)
+    parts = λ ls. rw (
+      more,
+      find-append (λ (q : Part). is_named text ls (section_name q)) (take i parts) (p ∷ []),
+      added ls,
+      ← named,
+      ← is,
+    )
         (map_or (λ (s : Section). s.part.now) (at_letters m ls) _ (is_named text ls name) s (holds.parts ls));
-    terms = λ ls. rw (added ls) (if_or (λ (s : Section). (ts : List ℕ) → at_letters s.terms ts ≡ number_in text (names_in s.part.now) ts) (at_letters m ls)
+    terms = λ ls. rw (added ls)
+        (if_or (λ (s : Section). (ts : List ℕ) → at_letters s.terms ts ≡ number_in text (names_in s.part.now) ts)
+        (at_letters m ls)
         (is_named text ls name) s (holds.terms ls) (λ ts. rw is (terms ts)));
   }

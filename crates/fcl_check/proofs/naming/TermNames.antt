@@ -1,5 +1,6 @@
 -- Terms with their numbers, and what a section has twice, as one more line is read.
-use Rattle.std.proofs.Common.{◌≡◌, ℕ, suc, ◌+◌, ◌<◌, Bool, true, false, cond, ◌||◌, List, [], ◌∷◌, ◌++◌, length, map, take, get_or, Some, None, is_some, option_map, refl, ap, ◌∙◌, sym, arith, length-append}
+use Rattle.std.proofs.Common.{◌≡◌, ℕ, suc, ◌+◌, ◌<◌, Bool, true, false, cond, ◌||◌, List, [], ◌∷◌, ◌++◌, length, map}
+use Rattle.std.proofs.Common.{take, get_or, Some, None, is_some, option_map, refl, ap, ◌∙◌, sym, arith, length-append}
 use Rattle.std.proofs.lemmas.List.{append-nil, map-append}
 use Rattle.std.proofs.lemmas.List.Elements.{filter-append, filter_map-append}
 use Rattle.std.proofs.lemmas.List.Folds.{list_any-append}
@@ -24,7 +25,8 @@ use Rattle.fcl_check.specs.Faults.{repeated, same_kind, same_line, line_at, same
 use Rattle.fcl_check.specs.Names.{is_named, letters, number_in, singleton_of}
 use Rattle.fcl_check.specs.Places.{at_if, first}
 use Rattle.fcl_check.proofs.naming.LetterMaps.{number_any, number_push}
-use Rattle.fcl_check.proofs.places.FirstPlaces.{Says, one_further, or_false, or_true, passed_by, place_here, repeated_here, repeated_more}
+use Rattle.fcl_check.proofs.places.FirstPlaces.{Says, one_further, or_false, or_true, passed_by, place_here}
+use Rattle.fcl_check.proofs.places.FirstPlaces.{repeated_here, repeated_more}
 
 -- ---- numbers
 
@@ -34,7 +36,8 @@ pub record Numbers (text : List ℕ) (ns : List Name) (m : BTreeMap (Bor (List �
   pub count : btree_map_len m ≡ length ns
 
 pub numbers_more : (text : List ℕ) (ns : List Name) (name : Name) (m n : BTreeMap (Bor (List ℕ)) ℕ) → Numbers text ns m
-    → ((ls : List ℕ) → at_letters n ls ≡ option_or (at_letters m ls) (cond (is_named text ls name) (Some (btree_map_len m + 1)) None))
+    → ((ls : List ℕ) → at_letters n ls ≡ option_or (at_letters m ls)
+    (cond (is_named text ls name) (Some (btree_map_len m + 1)) None))
     → btree_map_len n ≡ btree_map_len m + 1 → Numbers text (ns ++ name ∷ []) n
 numbers_more text ns name m n holds added grown =
     let number : suc (length ns) ≡ btree_map_len m + 1 = omega (arith, holds.count) in
@@ -45,26 +48,31 @@ numbers_more text ns name m n holds added grown =
 
 pub number_taken : (text : List ℕ) (ns : List Name) (name : Name) (m : BTreeMap (Bor (List ℕ)) ℕ) → Numbers text ns m
     → is_some (at_letters m (letters text name)) ≡ list_any (is_named text (letters text name)) ns
-number_taken text ns name m holds = ap is_some (holds.numbers (letters text name)) ∙ number_any text ns (letters text name)
+number_taken text ns name m holds = ap is_some (holds.numbers (letters text name))
+    ∙ number_any text ns (letters text name)
 
 -- ---- lines
 
 module _ (text : List ℕ) (b : FunctionBlock) where
-  any_terms : (t : Term) (lines : List FuzzyLine) → list_any (same_line text b (fuzzy.Term t)) lines ≡ list_any (is_named text (letters text t.name))
+  any_terms : (t : Term) (lines : List FuzzyLine)
+      → list_any (same_line text b (fuzzy.Term t)) lines ≡ list_any (is_named text (letters text t.name))
       (names_of_terms lines)
   any_terms t [] = refl
   any_terms t (fuzzy.Term s ∷ lines) = ap (λ a. is_named text (letters text t.name) s.name || a) (any_terms t lines)
   any_terms t (fuzzy.Range r ∷ lines) = any_terms t lines
 
-  any_ranges : (q : Range) (lines : List FuzzyLine) → list_any (same_line text b (fuzzy.Range q)) lines ≡ list_any is_range lines
+  any_ranges : (q : Range) (lines : List FuzzyLine)
+      → list_any (same_line text b (fuzzy.Range q)) lines ≡ list_any is_range lines
   any_ranges q [] = refl
   any_ranges q (fuzzy.Term s ∷ lines) = any_ranges q lines
   any_ranges q (fuzzy.Range r ∷ lines) = refl
 
-  any_singletons : (t : Singleton) (lines : List DefuzzyLine) → list_any (same_output_line text b (defuzzy.Singleton t)) lines ≡ list_any
+  any_singletons : (t : Singleton) (lines : List DefuzzyLine)
+      → list_any (same_output_line text b (defuzzy.Singleton t)) lines ≡ list_any
       (is_named text (letters text t.name)) (names_of_singletons lines)
   any_singletons t [] = refl
-  any_singletons t (defuzzy.Singleton s ∷ lines) = ap (λ a. is_named text (letters text t.name) s.name || a) (any_singletons t lines)
+  any_singletons t (defuzzy.Singleton s ∷ lines) =
+      ap (λ a. is_named text (letters text t.name) s.name || a) (any_singletons t lines)
   any_singletons t (defuzzy.Accu s ∷ lines) = any_singletons t lines
   any_singletons t (defuzzy.Method s ∷ lines) = any_singletons t lines
   any_singletons t (defuzzy.Default s ∷ lines) = any_singletons t lines
@@ -85,7 +93,8 @@ module _ (text : List ℕ) (b : FunctionBlock) where
   differ (defuzzy.Default s) t = refl
   differ (defuzzy.Range s) t = refl
 
-  any_of_kind : (x : DefuzzyLine) (lines : List DefuzzyLine) → list_any (same_kind x) lines ≡ list_any (same_kind x) (filter is_other lines)
+  any_of_kind : (x : DefuzzyLine) (lines : List DefuzzyLine)
+      → list_any (same_kind x) lines ≡ list_any (same_kind x) (filter is_other lines)
   any_of_kind x [] = refl
   any_of_kind x (defuzzy.Singleton s ∷ lines) = rw (differ x s) (any_of_kind x lines)
   any_of_kind x (defuzzy.Accu s ∷ lines) = ap (λ a. same_kind x (defuzzy.Accu s) || a) (any_of_kind x lines)
@@ -93,21 +102,25 @@ module _ (text : List ℕ) (b : FunctionBlock) where
   any_of_kind x (defuzzy.Default s ∷ lines) = ap (λ a. same_kind x (defuzzy.Default s) || a) (any_of_kind x lines)
   any_of_kind x (defuzzy.Range s ∷ lines) = ap (λ a. same_kind x (defuzzy.Range s) || a) (any_of_kind x lines)
 
-  any_same : (x : DefuzzyLine) (lines : List DefuzzyLine) → is_other x ≡ true → list_any (same_output_line text b x) lines ≡ list_any (same_kind x) lines
+  any_same : (x : DefuzzyLine) (lines : List DefuzzyLine) → is_other x ≡ true
+      → list_any (same_output_line text b x) lines ≡ list_any (same_kind x) lines
   any_same x [] h = refl
   any_same x (y ∷ lines) h = rw (same_other x y h, any_same x lines h) refl
 
-names_with_term : (lines : List FuzzyLine) (t : Term) → names_of_terms (lines ++ fuzzy.Term t ∷ []) ≡ names_of_terms lines ++ t.name ∷ []
+names_with_term : (lines : List FuzzyLine) (t : Term)
+    → names_of_terms (lines ++ fuzzy.Term t ∷ []) ≡ names_of_terms lines ++ t.name ∷ []
 names_with_term [] t = refl
 names_with_term (fuzzy.Term s ∷ lines) t = ap (λ ns. s.name ∷ ns) (names_with_term lines t)
 names_with_term (fuzzy.Range r ∷ lines) t = names_with_term lines t
 
-names_with_range : (lines : List FuzzyLine) (q : Range) → names_of_terms (lines ++ fuzzy.Range q ∷ []) ≡ names_of_terms lines
+names_with_range : (lines : List FuzzyLine) (q : Range)
+    → names_of_terms (lines ++ fuzzy.Range q ∷ []) ≡ names_of_terms lines
 names_with_range [] q = refl
 names_with_range (fuzzy.Term s ∷ lines) q = ap (λ ns. s.name ∷ ns) (names_with_range lines q)
 names_with_range (fuzzy.Range r ∷ lines) q = names_with_range lines q
 
-names_with_singleton : (lines : List DefuzzyLine) (t : Singleton) → names_of_singletons (lines ++ defuzzy.Singleton t ∷ []) ≡ names_of_singletons lines ++
+names_with_singleton : (lines : List DefuzzyLine) (t : Singleton)
+    → names_of_singletons (lines ++ defuzzy.Singleton t ∷ []) ≡ names_of_singletons lines ++
     t.name ∷ []
 names_with_singleton [] t = refl
 names_with_singleton (defuzzy.Singleton s ∷ lines) t = ap (λ ns. s.name ∷ ns) (names_with_singleton lines t)
@@ -130,27 +143,39 @@ is_no_singleton (defuzzy.Method s) h = refl
 is_no_singleton (defuzzy.Default s) h = refl
 is_no_singleton (defuzzy.Range s) h = refl
 
-names_with_other : (lines : List DefuzzyLine) (x : DefuzzyLine) → is_other x ≡ true → names_of_singletons (lines ++ x ∷ []) ≡ names_of_singletons lines
+names_with_other : (lines : List DefuzzyLine) (x : DefuzzyLine) → is_other x ≡ true
+    → names_of_singletons (lines ++ x ∷ []) ≡ names_of_singletons lines
 names_with_other lines x h =
     let apart = filter_map-append singleton_of lines (x ∷ []) in
-    ap (λ (ts : List Singleton). map (λ (t : Singleton). t.name) ts) apart ∙ map-append (λ (t : Singleton). t.name) (filter_map singleton_of lines)
-    (filter_map singleton_of (x ∷ [])) ∙ ap (λ ns. names_of_singletons lines ++ ns) (no_name x h) ∙ append-nil (names_of_singletons lines)
+    ap (λ (ts : List Singleton). map (λ (t : Singleton). t.name) ts) apart
+    ∙ map-append (λ (t : Singleton). t.name) (filter_map singleton_of lines)
+    (filter_map singleton_of (x ∷ [])) ∙ ap (λ ns. names_of_singletons lines ++ ns) (no_name x h)
+    ∙ append-nil (names_of_singletons lines)
 
 -- ---- steps over the lines of an input's section
 
-module _ (text : List ℕ) (b : FunctionBlock) (lines : List FuzzyLine) (i : ℕ) (x : FuzzyLine) (h : i < length lines) (here : x ≡ get_or lines i x)
+module _ (text : List ℕ) (b : FunctionBlock) (lines : List FuzzyLine) (i : ℕ) (x : FuzzyLine) (h : i < length lines)
+    (here : x ≡ get_or lines i x)
     (once : first (repeated (same_line text b) line_at (take i lines)) ≡ None) where
-  module _ (t : Term) (is : x ≡ fuzzy.Term t) (m : BTreeMap (Bor (List ℕ)) ℕ) (holds : Numbers text (names_of_terms (take i lines)) m) where
-    term_taken : is_some (at_letters m (letters text t.name)) ≡ list_any (same_line text b (fuzzy.Term t)) (take i lines)
-    term_taken = number_taken text (names_of_terms (take i lines)) t.name m holds ∙ sym (any_terms text b t (take i lines))
+  module _ (t : Term) (is : x ≡ fuzzy.Term t) (m : BTreeMap (Bor (List ℕ)) ℕ)
+      (holds : Numbers text (names_of_terms (take i lines)) m) where
+    term_taken : is_some (at_letters m (letters text t.name)) ≡ list_any (same_line text b (fuzzy.Term t))
+        (take i lines)
+    term_taken = number_taken text (names_of_terms (take i lines)) t.name m holds
+        ∙ sym (any_terms text b t (take i lines))
 
-    pub term_twice : (e : LoadFault) → Says e (option_map load.Twice (first (at_if (is_some (at_letters m (letters text t.name))) t.name.at)))
+    pub term_twice : (e : LoadFault)
+        → Says e (option_map load.Twice (first (at_if (is_some (at_letters m (letters text t.name))) t.name.at)))
         → Says e (option_map load.Twice (first (repeated (same_line text b) line_at lines)))
-    term_twice e found = place_here (same_line text b) line_at lines i (fuzzy.Term t) (one_further lines i x (fuzzy.Term t) h here is) once _ e term_taken found
+    term_twice e found =
+        place_here (same_line text b) line_at lines i (fuzzy.Term t) (one_further lines i x (fuzzy.Term t) h here is)
+        once _ e term_taken found
 
-    pub term_once : option_map load.Twice (first (at_if (is_some (at_letters m (letters text t.name))) t.name.at)) ≡ None
+    pub term_once : option_map load.Twice
+        (first (at_if (is_some (at_letters m (letters text t.name))) t.name.at)) ≡ None
         → first (repeated (same_line text b) line_at (take (i + 1) lines)) ≡ None
-    term_once nothing = passed_by (same_line text b) line_at lines i (fuzzy.Term t) (one_further lines i x (fuzzy.Term t) h here is) once _ term_taken nothing
+    term_once nothing = passed_by (same_line text b) line_at lines i (fuzzy.Term t)
+        (one_further lines i x (fuzzy.Term t) h here is) once _ term_taken nothing
 
     pub term_numbers : (n : BTreeMap (Bor (List ℕ)) ℕ) → ((ls : List ℕ) → at_letters n ls ≡ option_or (at_letters m ls)
         (cond (is_named text ls t.name) (Some (btree_map_len m + 1)) None))
@@ -158,53 +183,77 @@ module _ (text : List ℕ) (b : FunctionBlock) (lines : List FuzzyLine) (i : ℕ
     term_numbers n added grown = rw (one_further lines i x (fuzzy.Term t) h here is, names_with_term (take i lines) t)
         (numbers_more text (names_of_terms (take i lines)) t.name m n holds added grown)
 
-    pub term_range : (has_range : Bool) → has_range ≡ list_any is_range (take i lines) → has_range ≡ list_any is_range (take (i + 1) lines)
-    term_range has_range had = rw (one_further lines i x (fuzzy.Term t) h here is, list_any-append is_range (take i lines) (fuzzy.Term t ∷ []))
+    pub term_range : (has_range : Bool) → has_range ≡ list_any is_range (take i lines)
+        → has_range ≡ list_any is_range (take (i + 1) lines)
+    term_range has_range had =
+        rw (one_further lines i x (fuzzy.Term t) h here is, list_any-append is_range (take i lines) (fuzzy.Term t ∷ []))
         (had ∙ sym (or_false (list_any is_range (take i lines))))
 
   module _ (q : Range) (is : x ≡ fuzzy.Range q) where
-    pub range_twice : true ≡ list_any is_range (take i lines) → first (repeated (same_line text b) line_at lines) ≡ Some q.at
-    range_twice found = repeated_here (same_line text b) line_at lines i (fuzzy.Range q) (one_further lines i x (fuzzy.Range q) h here is) once
+    pub range_twice : true ≡ list_any is_range (take i lines)
+        → first (repeated (same_line text b) line_at lines) ≡ Some q.at
+    range_twice found = repeated_here (same_line text b) line_at lines i (fuzzy.Range q)
+        (one_further lines i x (fuzzy.Range q) h here is) once
         (any_ranges text b q (take i lines) ∙ sym found)
 
-    pub range_once : false ≡ list_any is_range (take i lines) → first (repeated (same_line text b) line_at (take (i + 1) lines)) ≡ None
-    range_once found = repeated_more (same_line text b) line_at lines i (fuzzy.Range q) (one_further lines i x (fuzzy.Range q) h here is) once
+    pub range_once : false ≡ list_any is_range (take i lines)
+        → first (repeated (same_line text b) line_at (take (i + 1) lines)) ≡ None
+    range_once found = repeated_more (same_line text b) line_at lines i (fuzzy.Range q)
+        (one_further lines i x (fuzzy.Range q) h here is) once
         (any_ranges text b q (take i lines) ∙ sym found)
 
-    pub range_numbers : (m : BTreeMap (Bor (List ℕ)) ℕ) → Numbers text (names_of_terms (take i lines)) m → Numbers text (names_of_terms (take (i + 1) lines)) m
-    range_numbers m holds = rw (one_further lines i x (fuzzy.Range q) h here is, names_with_range (take i lines) q) holds
+    pub range_numbers : (m : BTreeMap (Bor (List ℕ)) ℕ) → Numbers text (names_of_terms (take i lines)) m
+        → Numbers text (names_of_terms (take (i + 1) lines)) m
+    range_numbers m holds =
+        rw (one_further lines i x (fuzzy.Range q) h here is, names_with_range (take i lines) q) holds
 
     pub range_seen : true ≡ list_any is_range (take (i + 1) lines)
-    range_seen = rw (one_further lines i x (fuzzy.Range q) h here is, list_any-append is_range (take i lines) (fuzzy.Range q ∷ []))
+    range_seen = rw (
+      one_further lines i x (fuzzy.Range q) h here is,
+      list_any-append is_range (take i lines) (fuzzy.Range q ∷ []),
+    )
         (sym (or_true (list_any is_range (take i lines))))
 
 -- ---- steps over the lines of an output's section
 
-module _ (text : List ℕ) (b : FunctionBlock) (lines : List DefuzzyLine) (i : ℕ) (x : DefuzzyLine) (more : take (i + 1) lines ≡ take i lines ++ x ∷ [])
+module _ (text : List ℕ) (b : FunctionBlock) (lines : List DefuzzyLine) (i : ℕ) (x : DefuzzyLine)
+    (more : take (i + 1) lines ≡ take i lines ++ x ∷ [])
     (once : first (repeated (same_output_line text b) output_line_at (take i lines)) ≡ None) where
-  module _ (t : Singleton) (is : x ≡ defuzzy.Singleton t) (m : BTreeMap (Bor (List ℕ)) ℕ) (holds : Numbers text (names_of_singletons (take i lines)) m) where
+  module _ (t : Singleton) (is : x ≡ defuzzy.Singleton t) (m : BTreeMap (Bor (List ℕ)) ℕ)
+      (holds : Numbers text (names_of_singletons (take i lines)) m) where
     singleton_more : take (i + 1) lines ≡ take i lines ++ defuzzy.Singleton t ∷ []
     singleton_more = more ∙ ap (λ y. take i lines ++ y ∷ []) is
 
-    singleton_taken : is_some (at_letters m (letters text t.name)) ≡ list_any (same_output_line text b (defuzzy.Singleton t)) (take i lines)
-    singleton_taken = number_taken text (names_of_singletons (take i lines)) t.name m holds ∙ sym (any_singletons text b t (take i lines))
+    singleton_taken : is_some (at_letters m (letters text t.name)) ≡ list_any
+        (same_output_line text b (defuzzy.Singleton t)) (take i lines)
+    singleton_taken = number_taken text (names_of_singletons (take i lines)) t.name m holds
+        ∙ sym (any_singletons text b t (take i lines))
 
-    pub singleton_twice : (e : LoadFault) → Says e (option_map load.Twice (first (at_if (is_some (at_letters m (letters text t.name))) t.name.at)))
+    pub singleton_twice : (e : LoadFault)
+        → Says e (option_map load.Twice (first (at_if (is_some (at_letters m (letters text t.name))) t.name.at)))
         → Says e (option_map load.Twice (first (repeated (same_output_line text b) output_line_at lines)))
-    singleton_twice e found = place_here (same_output_line text b) output_line_at lines i (defuzzy.Singleton t) singleton_more once _ e singleton_taken found
+    singleton_twice e found =
+        place_here (same_output_line text b) output_line_at lines i (defuzzy.Singleton t) singleton_more once _ e
+        singleton_taken found
 
-    pub singleton_once : option_map load.Twice (first (at_if (is_some (at_letters m (letters text t.name))) t.name.at)) ≡ None
+    pub singleton_once : option_map load.Twice
+        (first (at_if (is_some (at_letters m (letters text t.name))) t.name.at)) ≡ None
         → first (repeated (same_output_line text b) output_line_at (take (i + 1) lines)) ≡ None
-    singleton_once nothing = passed_by (same_output_line text b) output_line_at lines i (defuzzy.Singleton t) singleton_more once _ singleton_taken nothing
+    singleton_once nothing =
+        passed_by (same_output_line text b) output_line_at lines i (defuzzy.Singleton t) singleton_more once _
+        singleton_taken nothing
 
-    pub singleton_numbers : (n : BTreeMap (Bor (List ℕ)) ℕ) → ((ls : List ℕ) → at_letters n ls ≡ option_or (at_letters m ls)
+    pub singleton_numbers : (n : BTreeMap (Bor (List ℕ)) ℕ)
+        → ((ls : List ℕ) → at_letters n ls ≡ option_or (at_letters m ls)
         (cond (is_named text ls t.name) (Some (btree_map_len m + 1)) None))
         → btree_map_len n ≡ btree_map_len m + 1 → Numbers text (names_of_singletons (take (i + 1) lines)) n
     singleton_numbers n added grown =
-        rw (singleton_more, names_with_singleton (take i lines) t) (numbers_more text (names_of_singletons (take i lines)) t.name m n holds added grown)
+        rw (singleton_more, names_with_singleton (take i lines) t)
+        (numbers_more text (names_of_singletons (take i lines)) t.name m n holds added grown)
 
     pub singleton_others : filter is_other (take (i + 1) lines) ≡ filter is_other (take i lines)
-    singleton_others = rw (singleton_more, filter-append is_other (take i lines) (defuzzy.Singleton t ∷ [])) (append-nil (filter is_other (take i lines)))
+    singleton_others = rw (singleton_more, filter-append is_other (take i lines) (defuzzy.Singleton t ∷ []))
+        (append-nil (filter is_other (take i lines)))
 
   module _ (other : is_other x ≡ true) where
     seen : list_any (same_output_line text b x) (take i lines) ≡ list_any (same_kind x) (filter is_other (take i lines))

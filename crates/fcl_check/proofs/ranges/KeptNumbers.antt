@@ -34,4 +34,5 @@ token_kept tok.Plus h = tt
 token_kept tok.Minus h = tt
 
 pub all_kept : NumbersInScale → NumbersAreKept
-all_kept scale text t spelled k d within = token_kept (get_or (tokens_of (block_text t)) k d) (scale text t spelled k d within)
+all_kept scale text t spelled k d within =
+    token_kept (get_or (tokens_of (block_text t)) k d) (scale text t spelled k d within)

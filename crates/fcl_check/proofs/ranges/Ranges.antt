@@ -32,10 +32,12 @@ lies e x h =
     ]
 
 -- none of some numbers is outside
-pub all_inside : {X : Type 0} (e : Ends) (x : X → ℤ) (at : X → ℕ) (xs : List X) → flat_map (λ i. at_if (not (lies_in e (x i))) (at i)) xs ≡ []
+pub all_inside : {X : Type 0} (e : Ends) (x : X → ℤ) (at : X → ℕ) (xs : List X)
+    → flat_map (λ i. at_if (not (lies_in e (x i))) (at i)) xs ≡ []
     → AllByRecursion (λ i. In e (x i)) xs
 all_inside e x at xs h = all_weaker (λ i. at_if (not (lies_in e (x i))) (at i) ≡ []) (λ i. In e (x i))
-    (λ i k. lies e (x i) (no_place (not (lies_in e (x i))) (at i) k)) xs (nowhere (λ i. at_if (not (lies_in e (x i))) (at i)) xs h)
+    (λ i k. lies e (x i) (no_place (not (lies_in e (x i))) (at i) k)) xs
+    (nowhere (λ i. at_if (not (lies_in e (x i))) (at i)) xs h)
 
 pub not_empty : (e : Ends) → is_empty_range e ≡ false → e.0 <ℤ e.1
 not_empty e h =
@@ -74,11 +76,13 @@ hull-ordered (x ∷ numbers) e h = let here = (hull-over (x ∷ numbers) e h).0 
 
 pub widened-ordered : (e : Ends) → e.0 ≤ℤ e.1 → (widened e).0 <ℤ (widened e).1
 widened-ordered e h =
-    elim (int_eq e.0 e.1) as (λ b. int_eq e.0 e.1 ≡ b → (cond b (e.0, e.1 +ℤ pos 10000) e).0 <ℤ (cond b (e.0, e.1 +ℤ pos 10000) e).1) [
+    elim (int_eq e.0 e.1) as
+    (λ b. int_eq e.0 e.1 ≡ b → (cond b (e.0, e.1 +ℤ pos 10000) e).0 <ℤ (cond b (e.0, e.1 +ℤ pos 10000) e).1) [
       | true ↦ λ k. omega (arith, ints)
       | false ↦ λ k. elim (cases_Bool (int_lt e.0 e.1)) [
         | inl less ↦ grind (arith, ints)
-        | inr less ↦ absurd (let same : e.0 ≡ e.1 = grind (arith, ints) in let tied : int_eq e.0 e.1 ≡ true = (Decides-int_eq e.0 e.1).1 same in cc)
+        | inr less ↦ absurd (let same : e.0 ≡ e.1 = grind (arith, ints) in
+            let tied : int_eq e.0 e.1 ≡ true = (Decides-int_eq e.0 e.1).1 same in cc)
       ]
     ] refl
 

@@ -18,7 +18,8 @@ use Rattle.fcl_syntax.specs.declared.tree.Point.{Point}
 use Rattle.fcl_syntax.specs.declared.tree.Range.{Range}
 use Rattle.fcl_check.specs.Loaded.{given_or, input_range, widened, output_hull}
 use Rattle.fcl_check.specs.Names.{terms_of}
-use Rattle.fcl_check.specs.Sections.{Ends, abscissas, ends_of, fallback_number, fuzzy_range, hull_of, magnitude, number_line, output_numbers, points_of, reach, to_scale, value, x_of}
+use Rattle.fcl_check.specs.Sections.{Ends, abscissas, ends_of, fallback_number, fuzzy_range, hull_of, magnitude}
+use Rattle.fcl_check.specs.Sections.{number_line, output_numbers, points_of, reach, to_scale, value, x_of}
 
 pub record AreInScale (e : Ends) : Type 0 where
   pub lo : IsInScale e.0
@@ -26,7 +27,11 @@ pub record AreInScale (e : Ends) : Type 0 where
 
 pub IsInScale-between : (e : Ends) (z : ℤ) → AreInScale e → (e.0 ≤ℤ z) × (z ≤ℤ e.1) → IsInScale z
 IsInScale-between e z h inside =
-    record { low = (let from = h.lo.low in omega (arith, ints, inside.0)); high = (let to = h.hi.high in omega (arith, ints, inside.1)) }
+    record {
+      low = (let from = h.lo.low in omega (arith, ints, inside.0));
+      high =
+          (let to = h.hi.high in omega (arith, ints, inside.1));
+    }
 
 IsInScale-to_scale : (z : ℤ) → IsInScale (to_scale z)
 IsInScale-to_scale z = record { low = omega (arith, ints, clamps); high = omega (arith, ints, clamps) }
@@ -37,17 +42,22 @@ IsInScale-value (signed.Minus n) = IsInScale-to_scale (neg_ℤ (magnitude n.amou
 IsInScale-value (signed.Bare n) = IsInScale-to_scale (magnitude n.amount)
 
 lesser-in : (x y : ℤ) → IsInScale x → IsInScale y → IsInScale (int_min x y)
-lesser-in x y h k = record { low = omega (arith, ints, clamps, h.low, k.low); high = omega (arith, ints, clamps, h.high, k.high) }
+lesser-in x y h k = record
+    { low = omega (arith, ints, clamps, h.low, k.low); high = omega (arith, ints, clamps, h.high, k.high) }
 
 greater-in : (x y : ℤ) → IsInScale x → IsInScale y → IsInScale (int_max x y)
-greater-in x y h k = record { low = omega (arith, ints, clamps, h.low, k.low); high = omega (arith, ints, clamps, h.high, k.high) }
+greater-in x y h k =
+    record { low = omega (arith, ints, clamps, h.low, k.low); high = omega (arith, ints, clamps, h.high, k.high) }
 
-reach-in : (e : Ends) (numbers : List ℤ) → AreInScale e → AllByRecursion IsInScale numbers → AreInScale (reach e numbers)
+reach-in : (e : Ends) (numbers : List ℤ) → AreInScale e → AllByRecursion IsInScale numbers
+    → AreInScale (reach e numbers)
 reach-in e [] h all = h
 reach-in e (x ∷ numbers) h all =
-    reach-in (int_min e.0 x, int_max e.1 x) numbers (record { lo = lesser-in e.0 x h.lo all.0; hi = greater-in e.1 x h.hi all.0 }) all.1
+    reach-in (int_min e.0 x, int_max e.1 x) numbers
+    (record { lo = lesser-in e.0 x h.lo all.0; hi = greater-in e.1 x h.hi all.0 }) all.1
 
-pub hull_of-in : (numbers : List ℤ) (e : Ends) → AllByRecursion IsInScale numbers → Some e ≡ hull_of numbers → AreInScale e
+pub hull_of-in : (numbers : List ℤ) (e : Ends) → AllByRecursion IsInScale numbers → Some e ≡ hull_of numbers
+    → AreInScale e
 hull_of-in [] e all h = cc
 hull_of-in (x ∷ numbers) e all h =
     let same : e ≡ reach (x, x) numbers = cc in
@@ -56,7 +66,8 @@ hull_of-in (x ∷ numbers) e all h =
 pub ends_of-in : (r : Range) → AreInScale (ends_of r)
 ends_of-in r = record { lo = IsInScale-value r.low; hi = IsInScale-value r.high }
 
-pub given_or-in : (hull : Option Ends) (r : Option Range) (e : Ends) → (Some e ≡ hull → AreInScale e) → Some e ≡ given_or hull r → AreInScale e
+pub given_or-in : (hull : Option Ends) (r : Option Range) (e : Ends) → (Some e ≡ hull → AreInScale e)
+    → Some e ≡ given_or hull r → AreInScale e
 given_or-in hull None e otherwise h = otherwise h
 given_or-in hull (Some r) e otherwise h = let same : e ≡ ends_of r = cc in rw same (ends_of-in r)
 
@@ -65,14 +76,20 @@ abscissas-in [] = tt
 abscissas-in (p ∷ points) = (IsInScale-value p.x, abscissas-in points)
 
 pub input_range-in : (s : Fuzzify) (e : Ends) → Some e ≡ input_range s → AreInScale e
-input_range-in s e h = given_or-in (hull_of (abscissas s)) (fuzzy_range s) e (hull_of-in (abscissas s) e (abscissas-in (flat_map points_of (terms_of s)))) h
+input_range-in s e h =
+    given_or-in (hull_of (abscissas s)) (fuzzy_range s) e
+    (hull_of-in (abscissas s) e (abscissas-in (flat_map points_of (terms_of s)))) h
 
-fallback-in : (v : FallbackValue) (at : ℕ) (rest : List (ℤ × ℕ)) → AllByRecursion IsInScale (map (λ (n : ℤ × ℕ). n.0) rest)
-    → AllByRecursion IsInScale (map (λ (n : ℤ × ℕ). n.0) (cons_option (option_map (λ (n : SignedNumber). (value n, at)) (fallback_number v)) rest))
+fallback-in : (v : FallbackValue) (at : ℕ) (rest : List (ℤ × ℕ))
+    → AllByRecursion IsInScale (map (λ (n : ℤ × ℕ). n.0) rest)
+    → AllByRecursion IsInScale
+    (map (λ (n : ℤ × ℕ). n.0)
+    (cons_option (option_map (λ (n : SignedNumber). (value n, at)) (fallback_number v)) rest))
 fallback-in (fallback.Number n) at rest all = (IsInScale-value n, all)
 fallback-in (fallback.Nc x) at rest all = all
 
-numbers-in : (lines : List DefuzzyLine) → AllByRecursion IsInScale (map (λ (n : ℤ × ℕ). n.0) (filter_map number_line lines))
+numbers-in : (lines : List DefuzzyLine)
+    → AllByRecursion IsInScale (map (λ (n : ℤ × ℕ). n.0) (filter_map number_line lines))
 numbers-in [] = tt
 numbers-in (defuzzy.Singleton t ∷ lines) = (IsInScale-value t.value, numbers-in lines)
 numbers-in (defuzzy.Accu x ∷ lines) = numbers-in lines

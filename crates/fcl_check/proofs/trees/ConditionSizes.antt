@@ -1,5 +1,6 @@
 -- How deep the condition of a text is, and how many conditions there are: no more than the text's offsets.
-use Rattle.std.proofs.Common.{◌≡◌, ℕ, zero, suc, ◌+◌, ◌-◌, ◌*◌, ◌≤◌, List, [], ◌∷◌, ◌++◌, length, Some, None, refl, arith}
+use Rattle.std.proofs.Common.{◌≡◌, ℕ, zero, suc, ◌+◌, ◌-◌, ◌*◌, ◌≤◌, List, [], ◌∷◌, ◌++◌, length, Some, None, refl}
+use Rattle.std.proofs.Common.{arith}
 use Rattle.std.proofs.lemmas.List.{length-append}
 use Rattle.std.proofs.lemmas.List.Elements.{filter_map-append}
 use Rattle.fuzzy_meaning.specs.Conditions.{Condition, depth, greatest_depth, nodes, total_nodes}
@@ -9,7 +10,9 @@ use Rattle.fcl_syntax.specs.declared.token.Keyword.TheVariants as key
 use Rattle.fcl_syntax.specs.declared.token.Token.{Token}
 use Rattle.fcl_syntax.specs.declared.token.Token.TheVariants as tok
 use Rattle.fcl_syntax.specs.declared.tree.Name.{Name}
-use Rattle.fcl_syntax.specs.Grammar.{TNot, neg, group, is, lone, TNots, no_nots, more_nots, TAnd, and_of, TAnds, no_ands, more_ands, TOr, or_of, not_text, nots_text, and_text, ands_text, or_text, less, opener}
+use Rattle.fcl_syntax.specs.Grammar.{TNot, neg, group, is, lone, TNots, no_nots, more_nots, TAnd, and_of, TAnds}
+use Rattle.fcl_syntax.specs.Grammar.{no_ands, more_ands, TOr, or_of, not_text, nots_text, and_text, ands_text, or_text}
+use Rattle.fcl_syntax.specs.Grammar.{less, opener}
 use Rattle.fcl_syntax.specs.Annotations.{IsClean, Sym, plain}
 use Rattle.fcl_syntax.specs.Offsets.{AscendWithin, offset_of, offsets}
 use Rattle.fcl_check.specs.Loaded.{not_condition, nots_conditions, and_condition, ands_conditions, or_condition}
@@ -47,14 +50,16 @@ module _ (f : Name → Name → Condition) where
       nodes_not : (t : TNot) (n : ℕ) → nodes (not_condition f t) ≤ count (not_text t n)
       nodes_not (neg at t) n = rw (token-opener n (tok.Word at key.Not)) (omega (arith, nodes_not t (less n)))
       nodes_not (group at o) n =
-          rw (token-opener n (tok.Open at)) (omega (arith, nodes_or o (less n), count-append (or_text o (less n)) (plain tok.Close ∷ [])))
+          rw (token-opener n (tok.Open at))
+          (omega (arith, nodes_or o (less n), count-append (or_text o (less n)) (plain tok.Close ∷ [])))
       nodes_not (is v i None t) n = omega (arith, one v t)
       nodes_not (is v i (Some at) t) n = omega (arith, one v t)
       nodes_not (lone v x) n = omega (arith, one v v)
 
       nodes_nots : (ts : TNots) (n : ℕ) → total_nodes (nots_conditions f ts) ≤ count (nots_text ts n)
       nodes_nots no_nots n = omega arith
-      nodes_nots (more_nots at t ts) n = omega (arith, nodes_not t n, nodes_nots ts n, count-append (not_text t n) (nots_text ts n))
+      nodes_nots (more_nots at t ts) n =
+          omega (arith, nodes_not t n, nodes_nots ts n, count-append (not_text t n) (nots_text ts n))
 
       nodes_and : (a : TAnd) (n : ℕ) → nodes (and_condition f a) ≤ count (and_text a n)
       nodes_and (and_of t no_nots) n = omega (arith, nodes_not t n, count-append (not_text t n) [])
@@ -69,7 +74,8 @@ module _ (f : Name → Name → Condition) where
 
       nodes_ands : (items : TAnds) (n : ℕ) → total_nodes (ands_conditions f items) ≤ count (ands_text items n)
       nodes_ands no_ands n = omega arith
-      nodes_ands (more_ands at a items) n = omega (arith, nodes_and a n, nodes_ands items n, count-append (and_text a n) (ands_text items n))
+      nodes_ands (more_ands at a items) n =
+          omega (arith, nodes_and a n, nodes_ands items n, count-append (and_text a n) (ands_text items n))
 
       pub nodes_or : (o : TOr) (n : ℕ) → nodes (or_condition f o) ≤ count (or_text o n)
       nodes_or (or_of a no_ands) n = omega (arith, nodes_and a n, count-append (and_text a n) [])
@@ -90,7 +96,8 @@ module _ (f : Name → Name → Condition) where
       depth_not (neg at t) zero clean = absurd (no_annotation Deep clean.0)
       depth_not (neg at t) (suc n) clean = omega (arith, depth_not t n clean.1)
       depth_not (group at o) zero clean = absurd (no_annotation Deep clean.0)
-      depth_not (group at o) (suc n) clean = omega (arith, depth_or o n (clean_parts (or_text o n) (plain tok.Close ∷ []) clean.1).0)
+      depth_not (group at o) (suc n) clean =
+          omega (arith, depth_or o n (clean_parts (or_text o n) (plain tok.Close ∷ []) clean.1).0)
       depth_not (is v i None t) n clean = omega (arith, flat v t)
       depth_not (is v i (Some at) t) n clean = omega (arith, flat v t)
       depth_not (lone v x) n clean = omega (arith, flat v v)
@@ -108,7 +115,8 @@ module _ (f : Name → Name → Condition) where
           let rest = clean_parts (not_text u n) (nots_text ts n) both.1.1 in
           omega (arith, depth_not t n both.0, depth_not u n rest.0, depth_nots ts n rest.1)
 
-      depth_ands : (items : TAnds) (n : ℕ) → IsClean (ands_text items n) → greatest_depth (ands_conditions f items) ≤ 2 * n + 3
+      depth_ands : (items : TAnds) (n : ℕ) → IsClean (ands_text items n)
+          → greatest_depth (ands_conditions f items) ≤ 2 * n + 3
       depth_ands no_ands n clean = omega arith
       depth_ands (more_ands at a items) n clean =
           let both = clean_parts (and_text a n) (ands_text items n) clean.1 in

@@ -13,7 +13,9 @@ use Rattle.fcl_syntax.specs.declared.token.Token.TheVariants as tok
 use Rattle.fcl_syntax.specs.declared.tree.Conclusion.{Conclusion}
 use Rattle.fcl_syntax.specs.declared.tree.FunctionBlock.{FunctionBlock}
 use Rattle.fcl_syntax.specs.declared.tree.Rule.{Rule as RuleNode}
-use Rattle.fcl_syntax.specs.Grammar.{behind, block_text, conclusion_text, conclusions_text, each, end_text, key_text, or_text, part_text, rule_item_text, rule_line_text, rulebase_text, section_text, semicolon_text, weight_text}
+use Rattle.fcl_syntax.specs.Grammar.{behind, block_text, conclusion_text, conclusions_text, each, end_text, key_text}
+use Rattle.fcl_syntax.specs.Grammar.{or_text, part_text, rule_item_text, rule_line_text, rulebase_text, section_text}
+use Rattle.fcl_syntax.specs.Grammar.{semicolon_text, weight_text}
 use Rattle.fcl_syntax.specs.Annotations.{IsClean, Sym, either_text, plain}
 use Rattle.fcl_syntax.specs.View.{view, view_or, view_part, view_rule_item, view_rule_line, view_section, view_weight}
 use Rattle.fcl_check.specs.Faults.{conclusions_of}
@@ -29,23 +31,32 @@ count-behind (c ∷ cs) = omega (arith, count-behind cs)
 
 -- the text behind a rule's condition
 abbrev ending : RuleNode → List Sym
-ending r = plain (tok.Word r.then_at key.Then) ∷ (conclusions_text (r.first, r.more.items) ++ either_text weight_text semicolon_text (view_weight r.weight))
+ending r = plain (tok.Word r.then_at key.Then)
+    ∷ (conclusions_text (r.first, r.more.items) ++ either_text weight_text semicolon_text (view_weight r.weight))
 
 count-conclusions : (r : RuleNode) → length (conclusions_of r) ≤ count (ending r)
 count-conclusions r =
     let more = behind tok.Comma conclusion_text r.more.items in
-    omega (arith, count-behind r.more.items, count-append more (either_text weight_text semicolon_text (view_weight r.weight)))
+    omega (
+      arith,
+      count-behind r.more.items,
+      count-append more (either_text weight_text semicolon_text (view_weight r.weight)),
+    )
 
 module _ (text : List ℕ) (b : FunctionBlock) where
-  rule_size-le : (r : RuleNode) (q : Rule) → IsRuleOf text b r q → rule_size q ≤ count (rule_item_text (view_rule_item r))
+  rule_size-le : (r : RuleNode) (q : Rule) → IsRuleOf text b r q
+      → rule_size q ≤ count (rule_item_text (view_rule_item r))
   rule_size-le r q rule =
       let o = view_or r.condition in
       let literal = literal_of text b in
-      let conditions : nodes (condition_of q.cond) ≤ count (or_text o 64) = rw (rule.condition) (nodes_or literal (λ v t. refl) o 64) in
-      let ends : length q.concl ≡ length (conclusions_of r) = ap length rule.conclusions ∙ length-map (conclusions_of r) (conclusion_of text b) in
+      let conditions : nodes (condition_of q.cond) ≤ count (or_text o 64) =
+      rw (rule.condition) (nodes_or literal (λ v t. refl) o 64) in
+      let ends : length q.concl ≡ length (conclusions_of r) = ap length rule.conclusions
+      ∙ length-map (conclusions_of r) (conclusion_of text b) in
       omega (arith, conditions, ends, count-conclusions r, count-append (or_text o 64) (ending r))
 
-  pub condition_size : (r : RuleNode) → nodes (or_condition (literal_of text b) (view_or r.condition)) ≤ count (rule_item_text (view_rule_item r))
+  pub condition_size : (r : RuleNode)
+      → nodes (or_condition (literal_of text b) (view_or r.condition)) ≤ count (rule_item_text (view_rule_item r))
   condition_size r =
       let o = view_or r.condition in
       omega (arith, nodes_or (literal_of text b) (λ v t. refl) o 64, count-append (or_text o 64) (ending r))
@@ -117,7 +128,8 @@ IsShallow q = depth (condition_of q.cond) ≤ 256
 abbrev HasCleanCondition : RuleNode → Type 0
 HasCleanCondition r = IsClean (or_text (view_or r.condition) 64)
 
-clean_conditions : (rs : List RuleNode) → IsClean (each rule_item_text (map view_rule_item rs)) → AllByRecursion HasCleanCondition rs
+clean_conditions : (rs : List RuleNode) → IsClean (each rule_item_text (map view_rule_item rs))
+    → AllByRecursion HasCleanCondition rs
 clean_conditions [] clean = tt
 clean_conditions (r ∷ rs) clean =
     let both = clean_parts (rule_item_text (view_rule_item r)) (each rule_item_text (map view_rule_item rs)) clean in
@@ -127,10 +139,14 @@ module _ (text : List ℕ) (b : FunctionBlock) where
   shallow_rule : (r : RuleNode) (q : Rule) → HasCleanCondition r → IsRuleOf text b r q → IsShallow q
   shallow_rule r q clean rule =
       let literal = literal_of text b in
-      let deep : depth (or_condition literal (view_or r.condition)) ≤ 132 = depth_or literal (λ v t. refl) (view_or r.condition) 64 clean in
+      let deep : depth (or_condition literal (view_or r.condition)) ≤ 132 =
+      depth_or literal (λ v t. refl) (view_or r.condition) 64 clean in
       rw (rule.condition) (omega (arith, deep))
 
-  pub shallow_rules : (rs : List RuleNode) (qs : List Rule) → IsClean (each rule_item_text (map view_rule_item rs)) → AllZip (IsRuleOf text b) rs qs
+  pub shallow_rules : (rs : List RuleNode) (qs : List Rule) → IsClean (each rule_item_text (map view_rule_item rs))
+      → AllZip (IsRuleOf text b) rs qs
       → All IsShallow qs
   shallow_rules rs qs clean rules =
-      All-from_recursion IsShallow qs (all_related HasCleanCondition (IsRuleOf text b) IsShallow shallow_rule rs qs (clean_conditions rs clean) rules)
+      All-from_recursion IsShallow qs
+      (all_related HasCleanCondition (IsRuleOf text b) IsShallow shallow_rule rs qs
+      (clean_conditions rs clean) rules)

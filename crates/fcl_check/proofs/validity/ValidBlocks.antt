@@ -32,7 +32,8 @@ use Rattle.fcl_check.specs.Sound.{IsSoundRule}
 use Rattle.fcl_check.proofs.trees.ConditionSizes.{few_within}
 use Rattle.fcl_check.proofs.lists.Counts.{few_items, few_names, over, some_at_all, some_names}
 use Rattle.fcl_check.proofs.lists.Elements.{all_images, all_related}
-use Rattle.fcl_check.proofs.faultless.Faultless.{IsFaultless, faultless, no_items, no_place, sound_input, sound_output, sound_rules}
+use Rattle.fcl_check.proofs.faultless.Faultless.{IsFaultless, faultless, no_items, no_place, sound_input, sound_output}
+use Rattle.fcl_check.proofs.faultless.Faultless.{sound_rules}
 use Rattle.fcl_check.proofs.trees.RuleSizes.{IsShallow, clean-rules, count-rules, rule_sizes, shallow_rules}
 use Rattle.fcl_check.proofs.validity.ValidInputs.{valid_input}
 use Rattle.fcl_check.proofs.validity.ValidOutputs.{valid_output}
@@ -46,7 +47,8 @@ all_three false q r h = absurd cc
 
 -- ---- the block
 
-module _ (text : List ℕ) (b : FunctionBlock) (block : Block) (sound : IsFaultless text b) (of : IsBlockOf text b block) where
+module _ (text : List ℕ) (b : FunctionBlock) (block : Block) (sound : IsFaultless text b)
+    (of : IsBlockOf text b block) where
   named_input : (n : Name) (x : Input) → IsInputNamed text b n x → IsValidInput x
   named_input n x named =
       let s : Fuzzify = named.0 in
@@ -63,14 +65,16 @@ module _ (text : List ℕ) (b : FunctionBlock) (block : Block) (sound : IsFaultl
       let ins = declared_as side.Input b in
       let outs = declared_as side.Output b in
       let missing = no_items (flat_map (without_section text b) (declared_in b)) _ sound.missing in
-      let whole = all_three (has_direction text b side.Input) (has_direction text b side.Output) (is_none (slice_get rules 0))
+      let whole = all_three (has_direction text b side.Input) (has_direction text b side.Output)
+      (is_none (slice_get rules 0))
       (no_place (not (is_whole text b)) b.end (no_items (flat_map incomplete b.parts.items) _ missing.1).1) in
       let many = no_items (at_each over [] (declared_in b)) _ sound.counts in
       let long_ins = AllZip-long (IsInputNamed text b) ins block.inputs of.inputs in
       let long_outs = AllZip-long (IsOutputNamed text b) outs block.outputs of.outputs in
       let long_rules = AllZip-long (IsRuleOf text b) rules block.rules of.rules in
       let valid_rules = All-from_recursion (λ q. IsShallow q → IsValidRule block q) block.rules
-      (all_related (IsSoundRule text b) (IsRuleOf text b) (λ q. IsShallow q → IsValidRule block q) (valid_rule text b block of) rules block.rules
+      (all_related (IsSoundRule text b) (IsRuleOf text b) (λ q. IsShallow q → IsValidRule block q)
+      (valid_rule text b block of) rules block.rules
       (sound_rules text b sound) of.rules) in
       record {
         some_input = omega (arith, long_ins, some_names side.Input (declared_in b) whole.0);
@@ -78,14 +82,22 @@ module _ (text : List ℕ) (b : FunctionBlock) (block : Block) (sound : IsFaultl
         some_output = omega (arith, long_outs, some_names side.Output (declared_in b) whole.1.0);
         few_outputs = omega (arith, long_outs, few_names side.Output [] (declared_in b) (omega arith) many.0);
         some_rule = omega (arith, long_rules, some_at_all rules whole.1.1);
-        few_rules = omega (arith, long_rules, few_items 256 (λ (r : RuleNode). r.at) rules (no_items (flat_map terms_over_limit b.parts.items) _ many.1).1);
-        inputs = All-from_recursion IsValidInput block.inputs (all_images (IsInputNamed text b) IsValidInput named_input ins block.inputs of.inputs);
-        outputs = All-from_recursion IsValidOutput block.outputs (all_images (IsOutputNamed text b) IsValidOutput named_output outs block.outputs of.outputs);
+        few_rules = omega (
+          arith,
+          long_rules,
+          few_items 256 (λ (r : RuleNode). r.at) rules
+              (no_items (flat_map terms_over_limit b.parts.items) _ many.1).1,
+        );
+        inputs = All-from_recursion IsValidInput block.inputs
+            (all_images (IsInputNamed text b) IsValidInput named_input ins block.inputs of.inputs);
+        outputs = All-from_recursion IsValidOutput block.outputs
+            (all_images (IsOutputNamed text b) IsValidOutput named_output outs block.outputs of.outputs);
         rules = λ k d h. valid_rules k d h (deep k d h);
         size = small;
       }
 
-pub valid_block : (text : List ℕ) (b : FunctionBlock) (block : Block) → first_fault text b ≡ None → IsBlockOf text b block → All IsShallow block.rules
+pub valid_block : (text : List ℕ) (b : FunctionBlock) (block : Block) → first_fault text b ≡ None
+    → IsBlockOf text b block → All IsShallow block.rules
     → sum_by rule_size block.rules ≤ 1048576 → IsValid block
 valid_block text b block sound of = sized_block text b block (faultless text b sound) of
 
@@ -99,11 +111,14 @@ spelled_blocks offsets_ascend text b block small spelled sound of =
     valid_block letters b block sound of deep (omega (arith, sizes, count-rules b, few, small))
 
 -- a tree that is kept has a text, and its blocks keep what the law gives to the blocks of that text
-pub kept_block : SpelledBlocksAreValid → (letters : List ℕ) (b : FunctionBlock) (block : Block) → ∥ IsSpelled letters b ∥₁ → first_fault letters b ≡ None
+pub kept_block : SpelledBlocksAreValid → (letters : List ℕ) (b : FunctionBlock) (block : Block)
+    → ∥ IsSpelled letters b ∥₁ → first_fault letters b ≡ None
     → IsBlockOf letters b block → IsValid block
 kept_block valid letters b block kept sound of =
-    let limits : All IsShallow block.rules × (sum_by rule_size block.rules ≤ 1048576) = ∥∥₁_elim kept (hlevel props) (λ (s : IsSpelled letters b).
-    let whole : IsValid block = valid s.text b block s.small s.spelled (subst (λ (l : List ℕ). first_fault l b ≡ None) s.letters_are sound)
+    let limits : All IsShallow block.rules × (sum_by rule_size block.rules ≤ 1048576) =
+    ∥∥₁_elim kept (hlevel props) (λ (s : IsSpelled letters b).
+    let whole : IsValid block =
+    valid s.text b block s.small s.spelled (subst (λ (l : List ℕ). first_fault l b ≡ None) s.letters_are sound)
     (subst (λ (l : List ℕ). IsBlockOf l b block) s.letters_are of) in
     (λ k d h. (whole.rules k d h).deep, whole.size)) in
     valid_block letters b block sound of limits.0 limits.1

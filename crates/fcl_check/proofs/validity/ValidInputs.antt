@@ -19,7 +19,8 @@ use Rattle.fcl_check.specs.Faults.{direction, is_declared_as}
 use Rattle.fcl_check.specs.Loaded.{IsInputOf, IsTermOf, given_or}
 use Rattle.fcl_check.specs.Names.{terms_of}
 use Rattle.fcl_check.specs.Places.{at_if}
-use Rattle.fcl_check.specs.Sections.{Ends, abscissas, bad_fuzzy_range, ends_of, falling_in, fuzzy_range, has_shape, hull_of, is_empty_range, outside, outside_in, points_of, x_of}
+use Rattle.fcl_check.specs.Sections.{Ends, abscissas, bad_fuzzy_range, ends_of, falling_in, fuzzy_range, has_shape}
+use Rattle.fcl_check.specs.Sections.{hull_of, is_empty_range, outside, outside_in, points_of, x_of}
 use Rattle.fcl_check.proofs.lists.Counts.{few_items, some_item}
 use Rattle.fcl_check.proofs.lists.Elements.{all_related, all_unmapped, all_weaker, parts_of}
 use Rattle.fcl_check.proofs.faultless.Faultless.{IsSoundPart, known_side, no_items, no_place, nowhere, shaped}
@@ -40,12 +41,14 @@ by_terms e (t ∷ ts) h =
     (both.0, by_terms e ts both.1)
 
 range_of : (s : Fuzzify) (o : Option Range) (e : Ends) → Some e ≡ given_or (hull_of (abscissas s)) o
-    → outside (λ e. flat_map (outside_in e) (terms_of s)) o ≡ [] → bad_fuzzy_range true s o ≡ [] → (e.0 <ℤ e.1) × AllTermsIn e (terms_of s)
+    → outside (λ e. flat_map (outside_in e) (terms_of s)) o ≡ [] → bad_fuzzy_range true s o ≡ []
+    → (e.0 <ℤ e.1) × AllTermsIn e (terms_of s)
 range_of s None e is inside range =
     let hull : hull_of (abscissas s) ≡ Some e = sym is in
     let proper : at_if (true && is_empty_range e) s.name.at ≡ [] = rw hull at range in (
       not_empty e (no_place (is_empty_range e) s.name.at proper),
-      by_terms e (terms_of s) (all_unmapped (In e) x_of (flat_map points_of (terms_of s)) (hull-over (abscissas s) e is)),
+      by_terms e (terms_of s)
+          (all_unmapped (In e) x_of (flat_map points_of (terms_of s)) (hull-over (abscissas s) e is)),
     )
 range_of s (Some r) e is inside range =
     let same : e ≡ ends_of r = cc in
@@ -67,12 +70,15 @@ record IsSoundTerm (e : Ends) (t : Term) : Type 0 where
 abbrev unshaped : Term → List ℕ
 unshaped t = at_if (not (has_shape (points_of t))) t.at
 
-sound_terms : (e : Ends) (ts : List Term) → flat_map falling_in ts ≡ [] → flat_map unshaped ts ≡ [] → AllTermsIn e ts → AllByRecursion (IsSoundTerm e) ts
+sound_terms : (e : Ends) (ts : List Term) → flat_map falling_in ts ≡ [] → flat_map unshaped ts ≡ [] → AllTermsIn e ts
+    → AllByRecursion (IsSoundTerm e) ts
 sound_terms e [] falls shapes inside = tt
 sound_terms e (t ∷ ts) falls shapes inside =
     let fall = no_items (falling_in t) _ falls in
-    let shape = no_items (unshaped t) _ shapes in
-    (record { falls = fall.0; shape = shaped (has_shape (points_of t)) t.at shape.0; inside = inside.0 }, sound_terms e ts fall.1 shape.1 inside.1)
+    let shape = no_items (unshaped t) _ shapes in (
+      record { falls = fall.0; shape = shaped (has_shape (points_of t)) t.at shape.0; inside = inside.0 },
+      sound_terms e ts fall.1 shape.1 inside.1,
+    )
 
 valid_one : (lo hi : Dec) (t : Term) (z : Trapezoid) → IsSoundTerm (lo.0, hi.0) t → IsTermOf t z → IsValidTerm lo hi z
 valid_one lo hi t z sound of = valid_term lo hi z t of sound.falls sound.shape sound.inside
@@ -82,7 +88,8 @@ module _ (text : List ℕ) (b : FunctionBlock) where
   valid_input s x sound of =
       let e : Ends = (x.lo.0, x.hi.0) in
       let terms = terms_of s in
-      let declared : is_declared_as text b side.Input s.name ≡ true = known_side side.Input (direction text b s.name) s.name.at sound.known sound.sided in
+      let declared : is_declared_as text b side.Input s.name ≡ true =
+      known_side side.Input (direction text b s.name) s.name.at sound.known sound.sided in
       let proper : bad_fuzzy_range true s (fuzzy_range s) ≡ [] = rw declared at sound.range in
       let range = range_of s (fuzzy_range s) e of.range sound.inside proper in
       let scale = input_range-in s e of.range in
@@ -94,6 +101,7 @@ module _ (text : List ℕ) (b : FunctionBlock) where
         range = range.0;
         some_term = omega (arith, long, some_item terms s.end sound.some);
         few_terms = omega (arith, long, few_items 15 (λ (t : Term). t.name.at) terms sound.few);
-        terms = All-from_recursion (IsValidTerm x.lo x.hi) x.terms (all_related (IsSoundTerm e) IsTermOf (IsValidTerm x.lo x.hi)
+        terms = All-from_recursion (IsValidTerm x.lo x.hi) x.terms
+            (all_related (IsSoundTerm e) IsTermOf (IsValidTerm x.lo x.hi)
             (valid_one x.lo x.hi) terms x.terms all of.terms);
       }

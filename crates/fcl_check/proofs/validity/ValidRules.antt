@@ -1,5 +1,6 @@
 -- The rule of a rule without faults is valid over the inputs and outputs of its tree.
-use Rattle.std.proofs.Common.{◌≡◌, ℕ, suc, ◌-◌, ◌≤◌, true, false, ◌||◌, List, [], length, map, Option, Some, None, option_and_then, option_map, sym, subst, ap, arith, inl, inr}
+use Rattle.std.proofs.Common.{◌≡◌, ℕ, suc, ◌-◌, ◌≤◌, true, false, ◌||◌, List, [], length, map, Option, Some, None}
+use Rattle.std.proofs.Common.{option_and_then, option_map, sym, subst, ap, arith, inl, inr}
 use Rattle.std.specs.Prelude.{IfSome, IsSomeAnd, ℤ, pos, ◌≤ℤ◌, int_lt}
 use Rattle.std.specs.List.{AllByRecursion, AllZip, slice_get}
 use Rattle.std.proofs.lemmas.Bool.{cases_Bool}
@@ -28,8 +29,10 @@ use Rattle.fcl_syntax.specs.declared.tree.Term.{Term}
 use Rattle.fcl_syntax.specs.declared.tree.Weight.{Weight}
 use Rattle.fcl_syntax.specs.View.{view_or}
 use Rattle.fcl_check.specs.Faults.{Pair, conclusions_of, is_declared_as}
-use Rattle.fcl_check.specs.Loaded.{IsBlockOf, IsInputOf, IsOutputOf, IsRuleOf, IsTermOf, IsVariableNamed, conclusion_of, literal_of, number_of, or_zero}
-use Rattle.fcl_check.specs.Names.{as_defuzzify, as_fuzzify, declared_as, declared_in, letters, number_in, section_of, singleton_names, singletons_of, term_names, term_number, terms_of, variable_number}
+use Rattle.fcl_check.specs.Loaded.{IsBlockOf, IsInputOf, IsOutputOf, IsRuleOf, IsTermOf, IsVariableNamed, conclusion_of}
+use Rattle.fcl_check.specs.Loaded.{literal_of, number_of, or_zero}
+use Rattle.fcl_check.specs.Names.{as_defuzzify, as_fuzzify, declared_as, declared_in, letters, number_in, section_of}
+use Rattle.fcl_check.specs.Names.{singleton_names, singletons_of, term_names, term_number, terms_of, variable_number}
 use Rattle.fcl_check.specs.Places.{at_if, at_some}
 use Rattle.fcl_check.specs.Sections.{value}
 use Rattle.fcl_check.specs.Sound.{IsKnown, IsSoundRule}
@@ -48,7 +51,8 @@ record HasNumbers {X : Type 0} (size : X → ℕ) (xs : List X) (i t : ℕ) : Ty
   term_from : 1 ≤ t
   term_to : IsSomeAnd (slice_get xs (i - 1)) (λ x. t ≤ size x)
 
-numbers_at : {X : Type 0} (size : X → ℕ) (xs : List X) (i t index : ℕ) (x : X) → i ≡ suc index → slice_get xs index ≡ Some x → 1 ≤ t → t ≤ size x
+numbers_at : {X : Type 0} (size : X → ℕ) (xs : List X) (i t index : ℕ) (x : X) → i ≡ suc index
+    → slice_get xs index ≡ Some x → 1 ≤ t → t ≤ size x
     → HasNumbers size xs i t
 numbers_at size xs i t index x numbered_so here from to =
     let before : i - 1 ≡ index = omega (arith, numbered_so) in
@@ -58,24 +62,29 @@ numbers_at size xs i t index x numbered_so here from to =
 -- of a variable whose section names as many terms as it has
 module _ {S X : Type 0} (as_section : Part → Option S) (IsOf : S → X → Type 0) (names : S → List Name) (size : X → ℕ)
     (long : (s : S) (x : X) → IsOf s x → size x ≡ length (names s)) (text : List ℕ) (b : FunctionBlock) where
-  has_numbers : (side : Direction) (xs : List X) → AllZip (IsVariableNamed as_section IsOf text b) (declared_as side b) xs → (v t : Name) (k : ℕ)
+  has_numbers : (side : Direction) (xs : List X)
+      → AllZip (IsVariableNamed as_section IsOf text b) (declared_as side b) xs → (v t : Name) (k : ℕ)
       → is_declared_as text b side v ≡ true
-      → option_and_then (λ (s : S). number_in text (names s) (letters text t)) (option_and_then as_section (section_of text b (letters text v))) ≡ Some k
+      → option_and_then (λ (s : S). number_in text (names s) (letters text t))
+      (option_and_then as_section (section_of text b (letters text v))) ≡ Some k
       → HasNumbers size xs (or_zero (variable_number text b side (letters text v))) k
   has_numbers side xs all v t k declared number =
       let ls = letters text v in
-      let at = numbered text ls (IsVariableNamed as_section IsOf text b) (declared_as side b) xs all (declared_any text ls side (declared_in b) declared) in
+      let at = numbered text ls (IsVariableNamed as_section IsOf text b) (declared_as side b) xs all
+      (declared_any text ls side (declared_in b) declared) in
       let s : S = at.related.0 in
       let same : ls ≡ letters text at.name = (bytes_eq-Decides ls (letters text at.name)).0 at.named in
       let section : option_and_then as_section (section_of text b ls) ≡ Some s =
       subst (λ (ms : List ℕ). option_and_then as_section (section_of text b ms) ≡ Some s) (sym same) at.related.1 in
       let here : number_in text (names s) (letters text t) ≡ Some k = rw section at number in
       let within = number_within text (names s) (letters text t) k here in
-      numbers_at size xs (or_zero (variable_number text b side ls)) k at.index at.item (ap or_zero at.number) at.here within.0
+      numbers_at size xs (or_zero (variable_number text b side ls)) k at.index at.item
+      (ap or_zero at.number) at.here within.0
       (omega (arith, within.1, long s at.item at.related.2))
 
 many_terms : (s : Fuzzify) (x : Input) → IsInputOf s x → length x.terms ≡ length (term_names s)
-many_terms s x of = omega (arith, AllZip-long IsTermOf (terms_of s) x.terms of.terms, length-map (terms_of s) (λ (t : Term). t.name))
+many_terms s x of = omega
+    (arith, AllZip-long IsTermOf (terms_of s) x.terms of.terms, length-map (terms_of s) (λ (t : Term). t.name))
 
 many_singletons : (s : Defuzzify) (y : Output) → IsOutputOf s y → length y.singletons ≡ length (singleton_names s)
 many_singletons s y of =
@@ -103,46 +112,59 @@ weighed w h =
 abbrev beyond : Weight → List ℕ
 beyond w = at_if (int_lt (value w.value) (pos 0) || int_lt (pos 10000) (value w.value)) w.at
 
-valid_weight : (o : Option Weight) (d : Option Dec) → at_some beyond o ≡ [] → number_of d ≡ option_map (λ (w : Weight). value w.value) o → IfSome d IsWeight
+valid_weight : (o : Option Weight) (d : Option Dec) → at_some beyond o ≡ []
+    → number_of d ≡ option_map (λ (w : Weight). value w.value) o → IfSome d IsWeight
 valid_weight o None none e = tt
 valid_weight None (Some d) none e = absurd cc
 valid_weight (Some w) (Some d) none e =
     let same : d.0 ≡ value w.value = cc in
-    let both = weighed (value w.value) (no_place (int_lt (value w.value) (pos 0) || int_lt (pos 10000) (value w.value)) w.at none) in
+    let both = weighed (value w.value)
+    (no_place (int_lt (value w.value) (pos 0) || int_lt (pos 10000) (value w.value)) w.at none) in
     record { low = rw same both.0; high = rw same both.1 }
 
 -- ---- rules
 
 module _ (text : List ℕ) (b : FunctionBlock) (block : Block) (of : IsBlockOf text b block) where
-  has_term : (v t : Name) → IsKnown text b side.Input v t → HasTerm block (or_zero (variable_number text b side.Input (letters text v)))
+  has_term : (v t : Name) → IsKnown text b side.Input v t
+      → HasTerm block (or_zero (variable_number text b side.Input (letters text v)))
       (or_zero (term_number text b side.Input (letters text v) (letters text t)))
   has_term v t known =
-      let term : or_zero (term_number text b side.Input (letters text v) (letters text t)) ≡ known.number = ap or_zero known.numbered in
-      let has = has_numbers as_fuzzify IsInputOf term_names (λ (x : Input). length x.terms) many_terms text b side.Input block.inputs of.inputs v t known.number
+      let term : or_zero (term_number text b side.Input (letters text v) (letters text t)) ≡ known.number =
+      ap or_zero known.numbered in
+      let has = has_numbers as_fuzzify IsInputOf term_names (λ (x : Input). length x.terms) many_terms text b side.Input
+      block.inputs of.inputs v t known.number
       known.declared known.numbered in
       rw term (record { input_from = has.variable_from; term_from = has.term_from; term_to = has.term_to })
 
-  has_singleton : (v t : Name) → IsKnown text b side.Output v t → HasSingleton block (or_zero (variable_number text b side.Output (letters text v)))
+  has_singleton : (v t : Name) → IsKnown text b side.Output v t
+      → HasSingleton block (or_zero (variable_number text b side.Output (letters text v)))
       (or_zero (term_number text b side.Output (letters text v) (letters text t)))
   has_singleton v t known =
-      let term : or_zero (term_number text b side.Output (letters text v) (letters text t)) ≡ known.number = ap or_zero known.numbered in
-      let has = has_numbers as_defuzzify IsOutputOf singleton_names (λ (y : Output). length y.singletons) many_singletons text b side.Output block.outputs
+      let term : or_zero (term_number text b side.Output (letters text v) (letters text t)) ≡ known.number =
+      ap or_zero known.numbered in
+      let has = has_numbers as_defuzzify IsOutputOf singleton_names (λ (y : Output). length y.singletons)
+      many_singletons text b side.Output block.outputs
       of.outputs v t known.number known.declared known.numbered in
       rw term (record { output_from = has.variable_from; term_from = has.term_from; term_to = has.term_to })
 
-  pub valid_rule : (r : RuleNode) (q : Rule) → IsSoundRule text b r → IsRuleOf text b r q → IsShallow q → IsValidRule block q
+  pub valid_rule : (r : RuleNode) (q : Rule) → IsSoundRule text b r → IsRuleOf text b r q → IsShallow q
+      → IsValidRule block q
   valid_rule r q sound rule deep =
-      let known = valid_or block (literal_of text b) (λ (p : Pair). IsKnown text b side.Input p.variable p.term) (λ v t h. has_term v t h) (view_or r.condition)
+      let known = valid_or block (literal_of text b) (λ (p : Pair). IsKnown text b side.Input p.variable p.term)
+      (λ v t h. has_term v t h) (view_or r.condition)
       (whole r.condition) sound.condition in
-      let ends : AllByRecursion (λ (c : ℕ × ℕ). HasSingleton block c.0 c.1) (map (conclusion_of text b) (conclusions_of r)) = all_mapped
+      let ends : AllByRecursion (λ (c : ℕ × ℕ). HasSingleton block c.0 c.1)
+      (map (conclusion_of text b) (conclusions_of r)) = all_mapped
       (λ (c : ℕ × ℕ). HasSingleton block c.0 c.1) (conclusion_of text b) (conclusions_of r)
       (all_weaker (λ (c : Conclusion). IsKnown text b side.Output c.variable c.term)
-      (λ (c : Conclusion). HasSingleton block (conclusion_of text b c).0 (conclusion_of text b c).1) (λ c h. has_singleton c.variable c.term h)
+      (λ (c : Conclusion). HasSingleton block (conclusion_of text b c).0 (conclusion_of text b c).1)
+      (λ c h. has_singleton c.variable c.term h)
       (conclusions_of r) sound.conclusions) in
       record {
         condition = rw (rule.condition) known;
         deep = deep;
         weight = valid_weight r.weight q.weight sound.weight rule.weight;
         some_conclusion = rw (rule.conclusions) (omega arith);
-        conclusions = All-from_recursion (λ (c : ℕ × ℕ). HasSingleton block c.0 c.1) q.concl (rw (rule.conclusions) ends);
+        conclusions = All-from_recursion (λ (c : ℕ × ℕ). HasSingleton block c.0 c.1) q.concl
+            (rw (rule.conclusions) ends);
       }

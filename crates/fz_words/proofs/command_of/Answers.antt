@@ -6,11 +6,14 @@ use Rattle.fz_words.proofs.command_of.Goals as goal
 
 pub unreachable-requires : goal.unreachable-requires
 unreachable-requires g c =
-    never_none (rows_of c.args.rows.now) c.requires.few (map string_bytes c.args.words.now) (sym c.any_after_first.ensures ∙ c.if-any_after_first.false) c.in-Ok.ensures.taken
+    never_none (rows_of c.args.rows.now) c.requires.few (map string_bytes c.args.words.now)
+    (sym c.any_after_first.ensures ∙ c.if-any_after_first.false) c.in-Ok.ensures.taken
     (sym c.command_by_form.ensures ∙ c.in-None.is)
 
 pub returns-in-Err-Usage-clause-usage : goal.returns-in-Err-Usage-clause-usage
-returns-in-Err-Usage-clause-usage g c = λ _. refused_unnamed (rows_of c.args.rows.now) c.requires.few (map string_bytes c.args.words.now) (inr ((rw c.in-Err-Usage.field-0-is at c.in-Err-Usage.ensures).refused refl))
+returns-in-Err-Usage-clause-usage g c =
+    λ _. refused_unnamed (rows_of c.args.rows.now) c.requires.few (map string_bytes c.args.words.now)
+    (inr ((rw c.in-Err-Usage.field-0-is at c.in-Err-Usage.ensures).refused refl))
 
 pub returns-in-Err-Usage-clause-clap : goal.returns-in-Err-Usage-clause-clap
 returns-in-Err-Usage-clause-clap g c = law (rows_of c.args.rows.now) c.requires.few (map string_bytes c.args.words.now)

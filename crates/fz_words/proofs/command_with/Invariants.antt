@@ -5,4 +5,6 @@ use Rattle.fz_words.proofs.Rows.{taking}
 use Rattle.fz_words.proofs.command_with.Given as goal
 
 abbrev pub invariant-loop-row : goal.invariant-loop-row
-invariant-loop-row g l = option_map taking (row_with (rows_of l.rows) l.word) ≡ option_map taking (row_with (rows_of (drop l.row-index l.rows)) l.word)
+invariant-loop-row g l =
+    option_map taking (row_with (rows_of l.rows) l.word) ≡ option_map taking
+    (row_with (rows_of (drop l.row-index l.rows)) l.word)

@@ -11,4 +11,7 @@ loop-id-preserved c = record {
 }
 
 pub returns-clause-app : goal.returns-clause-app
-returns-clause-app c = c.loop-id.invariant.app ∙ ap (with_all (new_app c.args.name.now)) (whole_same c.min.result (min c.args.count 9) c.loop-id.id-index _ c.min.ensures c.loop-id-test.false)
+returns-clause-app c =
+    c.loop-id.invariant.app
+    ∙ ap (with_all (new_app c.args.name.now))
+    (whole_same c.min.result (min c.args.count 9) c.loop-id.id-index _ c.min.ensures c.loop-id-test.false)

@@ -1,10 +1,12 @@
 -- Bytes added up, one after another.
-use Rattle.std.proofs.Common.{◌≡◌, ℕ, zero, suc, ◌+◌, ◌-◌, ◌*◌, ◌%◌, ◌^◌, ◌<◌, ◌≤◌, Bool, true, false, nat_lt, List, [], ◌∷◌, ◌++◌, length, get_or, refl, sym, ap, ap₂, ◌∙◌, subst, arith}
+use Rattle.std.proofs.Common.{◌≡◌, ℕ, zero, suc, ◌+◌, ◌-◌, ◌*◌, ◌%◌, ◌^◌, ◌<◌, ◌≤◌, Bool, true, false, nat_lt, List, []}
+use Rattle.std.proofs.Common.{◌∷◌, ◌++◌, length, get_or, refl, sym, ap, ap₂, ◌∙◌, subst, arith}
 use Rattle.std.specs.Prelude.{◌==◌, not, if◌then◌else◌}
 use Rattle.std.proofs.lemmas.Bool.Decides.{nat_tests}
 use Rattle.cpu12_isa.specs.declared.instr.Ccr.{Ccr}
 use Rattle.cpu12_isa.specs.declared.instr.Instr.{Instr}
-use Rattle.cpu12_isa.specs.declared.instr.Instr.TheVariants.{ClrExtended, LdabImmediate, LdxImmediate, StabExtended, CpxImmediate, Bne, AddbImmediate, AddbPostIncrementX}
+use Rattle.cpu12_isa.specs.declared.instr.Instr.TheVariants.{ClrExtended, LdabImmediate, LdxImmediate, StabExtended}
+use Rattle.cpu12_isa.specs.declared.instr.Instr.TheVariants.{CpxImmediate, Bne, AddbImmediate, AddbPostIncrementX}
 use Rattle.cpu12_isa.specs.Code.{encode_of}
 use Rattle.cpu12_isa.specs.Flags.{has, put}
 use Rattle.cpu12_isa.specs.Memory.{plus}
@@ -24,72 +26,100 @@ masked_half : (c : Ccr) (b : Bool) → interrupt_masks (put c 5 b) ≡ interrupt
 masked_half c true = masked_or c.0 32 refl refl
 masked_half c false = masked_and c.0 223 refl refl
 
-masked_five : (c : Ccr) (h n z v k : Bool) → interrupt_masks (put (put (put (put (put c 5 h) 3 n) 2 z) 1 v) 0 k) ≡ interrupt_masks c
+masked_five : (c : Ccr) (h n z v k : Bool)
+    → interrupt_masks (put (put (put (put (put c 5 h) 3 n) 2 z) 1 v) 0 k) ≡ interrupt_masks c
 masked_five c h n z v k = masked_four (put c 5 h) n z v k ∙ masked_half c h
 
 zero_five : (c : Ccr) (h n z v k : Bool) → has (put (put (put (put (put c 5 h) 3 n) 2 z) 1 v) 0 k) 2 ≡ z
 zero_five c h n z v k = zero_four (put c 5 h) n z v k
 
 -- the instructions
-pub clr : InstructionGoesOn → (c : Setting) (s : State) (p at : ℕ) → Live c s → s.regs.pc ≡ p → Here c p (ClrExtended at) → at < 0x1800 → c.open_to at ≡ false
+pub clr : InstructionGoesOn → (c : Setting) (s : State) (p at : ℕ) → Live c s → s.regs.pc ≡ p
+    → Here c p (ClrExtended at) → at < 0x1800 → c.open_to at ≡ false
     → Next c s (after_plain c.flags (ClrExtended at) s) (p + 3)
-clr go c s p at l ep h lt shut = go c s p (p + 3) (ClrExtended at) l ep h refl tt (lt, tt) (shut, tt) refl (masked_four s.regs.ccr false true false false) (omega (arith, h.high))
+clr go c s p at l ep h lt shut =
+    go c s p (p + 3) (ClrExtended at) l ep h refl tt (lt, tt) (shut, tt) refl
+    (masked_four s.regs.ccr false true false false) (omega (arith, h.high))
 
-pub ldab : InstructionGoesOn → (c : Setting) (s : State) (p v : ℕ) → Live c s → s.regs.pc ≡ p → Here c p (LdabImmediate v)
+pub ldab : InstructionGoesOn → (c : Setting) (s : State) (p v : ℕ) → Live c s → s.regs.pc ≡ p
+    → Here c p (LdabImmediate v)
     → Next c s (after_plain c.flags (LdabImmediate v) s) (p + 2)
-ldab go c s p v l ep h = go c s p (p + 2) (LdabImmediate v) l ep h refl tt tt tt refl (masked_tested s.regs.ccr _ _) (omega (arith, h.high))
+ldab go c s p v l ep h =
+    go c s p (p + 2) (LdabImmediate v) l ep h refl tt tt tt refl (masked_tested s.regs.ccr _ _) (omega (arith, h.high))
 
-pub stab : InstructionGoesOn → (c : Setting) (s : State) (p at : ℕ) → Live c s → s.regs.pc ≡ p → Here c p (StabExtended at) → at < 0x1800
+pub stab : InstructionGoesOn → (c : Setting) (s : State) (p at : ℕ) → Live c s → s.regs.pc ≡ p
+    → Here c p (StabExtended at) → at < 0x1800
     → c.open_to at ≡ false → Next c s (after_plain c.flags (StabExtended at) s) (p + 3)
-stab go c s p at l ep h lt shut = go c s p (p + 3) (StabExtended at) l ep h refl tt (lt, tt) (shut, tt) refl (masked_tested s.regs.ccr _ _) (omega (arith, h.high))
+stab go c s p at l ep h lt shut =
+    go c s p (p + 3) (StabExtended at) l ep h refl tt (lt, tt) (shut, tt) refl (masked_tested s.regs.ccr _ _)
+    (omega (arith, h.high))
 
 ldx : InstructionGoesOn → (c : Setting) (s : State) (p v : ℕ) → Live c s → s.regs.pc ≡ p → Here c p (LdxImmediate v)
     → Next c s (after_plain c.flags (LdxImmediate v) s) (p + 3)
-ldx go c s p v l ep h = go c s p (p + 3) (LdxImmediate v) l ep h refl tt tt tt refl (masked_tested s.regs.ccr _ _) (omega (arith, h.high))
+ldx go c s p v l ep h =
+    go c s p (p + 3) (LdxImmediate v) l ep h refl tt tt tt refl (masked_tested s.regs.ccr _ _) (omega (arith, h.high))
 
-pub addb : InstructionGoesOn → (c : Setting) (s : State) (p v : ℕ) → Live c s → s.regs.pc ≡ p → Here c p (AddbImmediate v)
+pub addb : InstructionGoesOn → (c : Setting) (s : State) (p v : ℕ) → Live c s → s.regs.pc ≡ p
+    → Here c p (AddbImmediate v)
     → Next c s (after_plain c.flags (AddbImmediate v) s) (p + 2)
-addb go c s p v l ep h = go c s p (p + 2) (AddbImmediate v) l ep h refl tt tt tt refl (masked_five s.regs.ccr _ _ _ _ _) (omega (arith, h.high))
+addb go c s p v l ep h =
+    go c s p (p + 2) (AddbImmediate v) l ep h refl tt tt tt refl (masked_five s.regs.ccr _ _ _ _ _)
+    (omega (arith, h.high))
 
 -- Z after ADDB says whether the sum is 0
-pub addb_zero : (c : Setting) (s : State) (v : ℕ) → has (after_plain c.flags (AddbImmediate v) s).regs.ccr 2 ≡ ((s.regs.b + v) % 2 ^ 8 == 0)
+pub addb_zero : (c : Setting) (s : State) (v : ℕ)
+    → has (after_plain c.flags (AddbImmediate v) s).regs.ccr 2 ≡ ((s.regs.b + v) % 2 ^ 8 == 0)
 addb_zero c s v = zero_five s.regs.ccr _ _ ((s.regs.b + v) % 2 ^ 8 == 0) _ _
 
 -- no byte that stands high is open
 abbrev pub IsShutAbove : Setting → Type 0
 IsShutAbove c = (at : ℕ) → 0x2000 ≤ at → c.open_to at ≡ false
 
-addb_next : InstructionGoesOn → (c : Setting) → IsShutAbove c → (s : State) (p : ℕ) → Live c s → s.regs.pc ≡ p → Here c p AddbPostIncrementX → 0x2000 ≤ s.regs.x
+addb_next : InstructionGoesOn → (c : Setting) → IsShutAbove c → (s : State) (p : ℕ) → Live c s → s.regs.pc ≡ p
+    → Here c p AddbPostIncrementX → 0x2000 ≤ s.regs.x
     → Next c s (after_plain c.flags AddbPostIncrementX s) (p + 2)
 addb_next go c u s p l ep h low =
     let top = sp_high s l.stack in
-    go c s p (p + 2) AddbPostIncrementX l ep h refl (high_shown c.open_to s.regs.sp s.regs.x (u s.regs.x low) (omega arith), tt) tt tt refl (masked_five s.regs.ccr _ _ _ _ _) (omega (arith, h.high))
+    go c s p (p + 2) AddbPostIncrementX l ep h refl
+    (high_shown c.open_to s.regs.sp s.regs.x (u s.regs.x low) (omega arith), tt) tt tt refl
+    (masked_five s.regs.ccr _ _ _ _ _) (omega (arith, h.high))
 
 cpx : InstructionGoesOn → (c : Setting) (s : State) (p v : ℕ) → Live c s → s.regs.pc ≡ p → Here c p (CpxImmediate v)
     → Next c s (after_plain c.flags (CpxImmediate v) s) (p + 3)
-cpx go c s p v l ep h = go c s p (p + 3) (CpxImmediate v) l ep h refl tt tt tt refl (masked_four s.regs.ccr _ _ _ _) (omega (arith, h.high))
+cpx go c s p v l ep h =
+    go c s p (p + 3) (CpxImmediate v) l ep h refl tt tt tt refl (masked_four s.regs.ccr _ _ _ _) (omega (arith, h.high))
 
 -- Z after CPX says whether X is the word
-cpx_same : (c : Setting) (s : State) (v : ℕ) → s.regs.x ≡ v → v < 2 ^ 16 → has (after_plain c.flags (CpxImmediate v) s).regs.ccr 2 ≡ true
+cpx_same : (c : Setting) (s : State) (v : ℕ) → s.regs.x ≡ v → v < 2 ^ 16
+    → has (after_plain c.flags (CpxImmediate v) s).regs.ccr 2 ≡ true
 cpx_same c s v e lt =
-    let z : ((s.regs.x + (65536 - v)) % 65536 == 0) ≡ true = (let d : (s.regs.x + (65536 - v)) % 65536 ≡ 0 = omega arith in grind (arith, nat_tests)) in
+    let z : ((s.regs.x + (65536 - v)) % 65536 == 0) ≡ true =
+    (let d : (s.regs.x + (65536 - v)) % 65536 ≡ 0 = omega arith in grind (arith, nat_tests)) in
     zero_four s.regs.ccr _ ((s.regs.x + (65536 - v)) % 65536 == 0) _ _ ∙ z
 
-cpx_less : (c : Setting) (s : State) (v : ℕ) → s.regs.x < v → v < 2 ^ 16 → has (after_plain c.flags (CpxImmediate v) s).regs.ccr 2 ≡ false
+cpx_less : (c : Setting) (s : State) (v : ℕ) → s.regs.x < v → v < 2 ^ 16
+    → has (after_plain c.flags (CpxImmediate v) s).regs.ccr 2 ≡ false
 cpx_less c s v less lt =
-    let z : ((s.regs.x + (65536 - v)) % 65536 == 0) ≡ false = (let d : 0 < (s.regs.x + (65536 - v)) % 65536 = omega arith in grind (arith, nat_tests)) in
+    let z : ((s.regs.x + (65536 - v)) % 65536 == 0) ≡ false =
+    (let d : 0 < (s.regs.x + (65536 - v)) % 65536 = omega arith in grind (arith, nat_tests)) in
     zero_four s.regs.ccr _ ((s.regs.x + (65536 - v)) % 65536 == 0) _ _ ∙ z
 
-pub bne_on : InstructionGoesOn → (c : Setting) (s : State) (p to : ℕ) → Live c s → s.regs.pc ≡ p → Here c p (Bne to) → has s.regs.ccr 2 ≡ true
+pub bne_on : InstructionGoesOn → (c : Setting) (s : State) (p to : ℕ) → Live c s → s.regs.pc ≡ p → Here c p (Bne to)
+    → has s.regs.ccr 2 ≡ true
     → Next c s (after_plain c.flags (Bne to) s) (p + 2)
 bne_on go c s p to l ep h z =
-    go c s p (p + 2) (Bne to) l ep h refl tt tt tt refl refl (ap (λ b. if not b then plus (plus s.regs.pc 2) (if nat_lt to 128 then to else to + 65280) else plus s.regs.pc 2) z ∙ omega (arith, h.high))
+    go c s p (p + 2) (Bne to) l ep h refl tt tt tt refl refl
+    (ap (λ b. if not b then plus (plus s.regs.pc 2) (if nat_lt to 128 then to else to + 65280) else plus s.regs.pc
+    2) z ∙ omega (arith, h.high))
 
-pub bne_back : InstructionGoesOn → (c : Setting) (s : State) (p to q : ℕ) → Live c s → s.regs.pc ≡ p → Here c p (Bne to) → 128 ≤ to → to < 2 ^ 8 → p + 2 + to ≡ q + 256
+pub bne_back : InstructionGoesOn → (c : Setting) (s : State) (p to q : ℕ) → Live c s → s.regs.pc ≡ p → Here c p (Bne to)
+    → 128 ≤ to → to < 2 ^ 8 → p + 2 + to ≡ q + 256
     → has s.regs.ccr 2 ≡ false → Next c s (after_plain c.flags (Bne to) s) q
 bne_back go c s p to q l ep h ge lt e z =
     let far : nat_lt to 128 ≡ false = grind (arith, nat_tests) in
-    go c s p q (Bne to) l ep h refl tt tt tt refl refl (ap₂ (λ b d. if not b then plus (plus s.regs.pc 2) (if d then to else to + 65280) else plus s.regs.pc 2) z far ∙ omega (arith, h.high))
+    go c s p q (Bne to) l ep h refl tt tt tt refl refl
+    (ap₂ (λ b d. if not b then plus (plus s.regs.pc 2) (if d then to else to + 65280) else plus s.regs.pc 2) z far
+    ∙ omega (arith, h.high))
 
 -- so many bytes from an address on, summed
 abbrev pub sum_from : List ℕ → ℕ → ℕ → ℕ
@@ -106,7 +136,8 @@ pub record Adds (c : Setting) (n : ℕ) (s : State) (pc sum : ℕ) : Type 0 wher
   pub mem_is : t.mem ≡ s.mem
   pub b_is : t.regs.b ≡ sum
 
-adds_after : (c : Setting) (n m : ℕ) (s u : State) (pc sum : ℕ) → Goes c n 0 s u → u.regs.sp ≡ s.regs.sp → u.mem ≡ s.mem → Adds c m u pc sum → Adds c (n + m) s pc sum
+adds_after : (c : Setting) (n m : ℕ) (s u : State) (pc sum : ℕ) → Goes c n 0 s u → u.regs.sp ≡ s.regs.sp → u.mem ≡ s.mem
+    → Adds c m u pc sum → Adds c (n + m) s pc sum
 adds_after c n m s u pc sum g es em r = record {
   t = r.t;
   goes = goes_on c n 0 m 0 s u r.t g r.goes;
@@ -117,7 +148,8 @@ adds_after c n m s u pc sum g es em r = record {
   b_is = r.b_is;
 }
 
-adds_at : (c : Setting) (n m : ℕ) (s : State) (pc pc' sum sum' : ℕ) → n ≡ m → pc ≡ pc' → sum ≡ sum' → Adds c n s pc sum → Adds c m s pc' sum'
+adds_at : (c : Setting) (n m : ℕ) (s : State) (pc pc' sum sum' : ℕ) → n ≡ m → pc ≡ pc' → sum ≡ sum' → Adds c n s pc sum
+    → Adds c m s pc' sum'
 adds_at c n m s pc pc' sum sum' en ep es r = record {
   t = r.t;
   goes = subst (λ (k : ℕ). Goes c k 0 s r.t) en r.goes;
@@ -144,7 +176,8 @@ record Turned (c : Setting) (s : State) (p end : ℕ) : Type 0 where
 abbrev loop_code : ℕ → List Instr
 loop_code end = AddbPostIncrementX ∷ CpxImmediate end ∷ Bne 0xF9 ∷ []
 
-turn : InstructionGoesOn → (c : Setting) → IsShutAbove c → (s : State) (p end : ℕ) → Live c s → s.regs.pc ≡ p → Stands c p (loop_code end) → 0x2000 ≤ s.regs.x → s.regs.x < end → end < 2 ^ 16 → Turned c s p end
+turn : InstructionGoesOn → (c : Setting) → IsShutAbove c → (s : State) (p end : ℕ) → Live c s → s.regs.pc ≡ p
+    → Stands c p (loop_code end) → 0x2000 ≤ s.regs.x → s.regs.x < end → end < 2 ^ 16 → Turned c s p end
 turn go c above s p end l ep h low less top =
     let s1 = after_plain c.flags AddbPostIncrementX s in
     let s2 = after_plain c.flags (CpxImmediate end) s1 in
@@ -171,7 +204,8 @@ goes_none : (c : Setting) (s : State) → Goes c 0 0 s s
 goes_none c = bounded_none (IsInterruptibleStep c.open_to c.layout c.image c.flags)
 
 -- the loop: three instructions a byte
-pub loop : InstructionGoesOn → (c : Setting) → IsShutAbove c → (s : State) (p end n : ℕ) → Live c s → s.regs.pc ≡ p → Stands c p (loop_code end) → 0x2000 ≤ s.regs.x → s.regs.x + suc n ≡ end → end < 2 ^ 16
+pub loop : InstructionGoesOn → (c : Setting) → IsShutAbove c → (s : State) (p end n : ℕ) → Live c s → s.regs.pc ≡ p
+    → Stands c p (loop_code end) → 0x2000 ≤ s.regs.x → s.regs.x + suc n ≡ end → end < 2 ^ 16
     → Adds c (3 * suc n) s (p + 7) ((s.regs.b + sum_from s.mem s.regs.x (suc n)) % 2 ^ 8)
 loop go c above s p end zero l ep h low e top =
     let r = turn go c above s p end l ep h low (omega arith) top in
@@ -190,15 +224,20 @@ loop go c above s p end zero l ep h low e top =
 loop go c above s p end (suc n) l ep h low e top =
     let r = turn go c above s p end l ep h low (omega arith) top in
     let at : p + 5 ≡ p + 2 + 3 = omega arith in
-    let k = bne_back go c r.t (p + 2 + 3) 0xF9 p r.live (r.pc_is ∙ at) h.1.1.0 (omega arith) (omega arith) (omega arith) (r.more (omega arith)) in
+    let k = bne_back go c r.t (p + 2 + 3) 0xF9 p r.live (r.pc_is ∙ at) h.1.1.0 (omega arith) (omega arith) (omega arith)
+    (r.more (omega arith)) in
     let u = after_plain c.flags (Bne 0xF9) r.t in
     let ex = r.x_is in
     let rest = loop go c above u p end n k.live k.pc_is h (omega arith) (omega arith) top in
-    let same : sum_from u.mem u.regs.x (suc n) ≡ sum_from s.mem (s.regs.x + 1) (suc n) = ap₂ (λ (m : List ℕ) (x : ℕ). sum_from m x (suc n)) r.mem_is ex in
-    let total : (u.regs.b + sum_from u.mem u.regs.x (suc n)) % 2 ^ 8 ≡ (s.regs.b + sum_from s.mem s.regs.x (suc (suc n))) % 2 ^ 8 =
-    ap₂ (λ (x y : ℕ). (x + y) % 2 ^ 8) r.b_is same ∙ sum_on s.regs.b (get_or s.mem s.regs.x 0) (sum_from s.mem (s.regs.x + 1) (suc n)) in
+    let same : sum_from u.mem u.regs.x (suc n) ≡ sum_from s.mem (s.regs.x + 1) (suc n) =
+    ap₂ (λ (m : List ℕ) (x : ℕ). sum_from m x (suc n)) r.mem_is ex in
+    let total : (u.regs.b + sum_from u.mem u.regs.x (suc n)) % 2 ^ 8
+    ≡ (s.regs.b + sum_from s.mem s.regs.x (suc (suc n))) % 2 ^ 8 =
+    ap₂ (λ (x y : ℕ). (x + y) % 2 ^ 8) r.b_is same
+    ∙ sum_on s.regs.b (get_or s.mem s.regs.x 0) (sum_from s.mem (s.regs.x + 1) (suc n)) in
     adds_at c (2 + 1 + 3 * suc n) (3 * suc (suc n)) s (p + 7) (p + 7) _ _ (omega arith) refl total
-    (adds_after c (2 + 1) (3 * suc n) s u (p + 7) _ (goes_on c 2 0 1 0 s r.t u r.goes (goes_one c r.t u p k)) r.sp_is r.mem_is rest)
+    (adds_after c (2 + 1) (3 * suc n) s u (p + 7) _ (goes_on c 2 0 1 0 s r.t u r.goes (goes_one c r.t u p k)) r.sp_is
+    r.mem_is rest)
 
 -- what stands where segments are, summed, and how many instructions that takes
 abbrev pub sum_in : List ℕ → List Segment → ℕ
@@ -209,19 +248,23 @@ abbrev pub count_in : List Segment → ℕ
 count_in [] = 0
 count_in (g ∷ gs) = 1 + 3 * length g.bytes + count_in gs
 
-segment_run : InstructionGoesOn → (c : Setting) → IsShutAbove c → (s : State) (p : ℕ) (g : Segment) → Live c s → s.regs.pc ≡ p → Stands c p (segment_code g) → IsSegment g
+segment_run : InstructionGoesOn → (c : Setting) → IsShutAbove c → (s : State) (p : ℕ) (g : Segment) → Live c s
+    → s.regs.pc ≡ p → Stands c p (segment_code g) → IsSegment g
     → Adds c (1 + 3 * length g.bytes) s (p + 10) ((s.regs.b + sum_from s.mem g.at (length g.bytes)) % 2 ^ 8)
 segment_run go c above s p g l ep h q = by_size (length g.bytes) refl
   where
-    by_size : (n : ℕ) → length g.bytes ≡ n → Adds c (1 + 3 * length g.bytes) s (p + 10) ((s.regs.b + sum_from s.mem g.at (length g.bytes)) % 2 ^ 8)
+    by_size : (n : ℕ) → length g.bytes ≡ n
+        → Adds c (1 + 3 * length g.bytes) s (p + 10) ((s.regs.b + sum_from s.mem g.at (length g.bytes)) % 2 ^ 8)
     by_size zero e = absurd (let some = q.1 in omega arith)
     by_size (suc n) e =
         let low = q.0 in
         let top = q.2 in
         let u = after_plain c.flags (LdxImmediate g.at) s in
         let k = ldx go c s p g.at l ep h.0 in
-        let r = loop go c above u (p + 3) (g.at + length g.bytes) n k.live k.pc_is h.1 low (omega arith) (omega arith) in
-        let total : (s.regs.b + sum_from s.mem g.at (suc n)) % 2 ^ 8 ≡ (s.regs.b + sum_from s.mem g.at (length g.bytes)) % 2 ^ 8 =
+        let r = loop go c above u (p + 3) (g.at + length g.bytes) n k.live k.pc_is h.1 low (omega arith)
+        (omega arith) in
+        let total : (s.regs.b + sum_from s.mem g.at (suc n)) % 2 ^ 8
+        ≡ (s.regs.b + sum_from s.mem g.at (length g.bytes)) % 2 ^ 8 =
         ap (λ (m : ℕ). (s.regs.b + sum_from s.mem g.at m) % 2 ^ 8) (sym e) in
         adds_at c (1 + 3 * suc n) (1 + 3 * length g.bytes) s (p + 3 + 7) (p + 10) _ _ (omega arith) (omega arith) total
         (adds_after c 1 (3 * suc n) s u (p + 3 + 7) _ (goes_one c s u (p + 3) k) refl refl r)
@@ -236,28 +279,44 @@ pub record Added (c : Setting) (s : State) (gs : List Segment) (rest : List Inst
   pub behind : Stands c q rest
 
 added_on : (c : Setting) (s : State) (p q : ℕ) (g : Segment) (gs : List Segment) (rest : List Instr)
-    → (r : Adds c (1 + 3 * length g.bytes) s p ((s.regs.b + sum_from s.mem g.at (length g.bytes)) % 2 ^ 8)) → Added c r.t gs rest q → Added c s (g ∷ gs) rest q
+    → (r : Adds c (1 + 3 * length g.bytes) s p ((s.regs.b + sum_from s.mem g.at (length g.bytes)) % 2 ^ 8))
+    → Added c r.t gs rest q → Added c s (g ∷ gs) rest q
 added_on c s p q g gs rest r k =
     let n = 1 + 3 * length g.bytes in
     let m = count_in gs in
     let same : sum_in r.t.mem gs ≡ sum_in s.mem gs = ap (λ (x : List ℕ). sum_in x gs) r.mem_is in
     let total : (r.t.regs.b + sum_in r.t.mem gs) % 2 ^ 8 ≡ (s.regs.b + sum_in s.mem (g ∷ gs)) % 2 ^ 8 =
-    ap₂ (λ (x y : ℕ). (x + y) % 2 ^ 8) r.b_is same ∙ sum_on s.regs.b (sum_from s.mem g.at (length g.bytes)) (sum_in s.mem gs) in
+    ap₂ (λ (x y : ℕ). (x + y) % 2 ^ 8) r.b_is same
+    ∙ sum_on s.regs.b (sum_from s.mem g.at (length g.bytes)) (sum_in s.mem gs) in
     record {
-      adds = adds_at c (n + m) (n + m) s q q _ _ refl refl total (adds_after c n m s r.t q _ r.goes r.sp_is r.mem_is k.adds);
+      adds = adds_at c (n + m) (n + m) s q q _ _ refl refl total
+          (adds_after c n m s r.t q _ r.goes r.sp_is r.mem_is k.adds);
       behind = k.behind;
     }
 
-pub segments_run : InstructionGoesOn → (c : Setting) → IsShutAbove c → (s : State) (p q : ℕ) (gs : List Segment) (rest : List Instr) → Live c s → s.regs.pc ≡ p → Stands c p (segments_code gs ++ rest) → AreSegments gs
+pub segments_run : InstructionGoesOn → (c : Setting) → IsShutAbove c
+    → (s : State) (p q : ℕ) (gs : List Segment) (rest : List Instr) → Live c s → s.regs.pc ≡ p
+    → Stands c p (segments_code gs ++ rest) → AreSegments gs
     → p + 10 * length gs ≡ q → Added c s gs rest q
 segments_run go c above s p q [] rest l ep h g e =
     let fit = l.fits.b in
     let at : p ≡ q = omega arith in
     record {
-      adds = record { t = s; goes = goes_none c s; live = l; pc_is = ep ∙ at; sp_is = refl; mem_is = refl; b_is = omega arith };
+      adds = record {
+        t = s;
+        goes = goes_none c s;
+        live = l;
+        pc_is = ep ∙ at;
+        sp_is = refl;
+        mem_is = refl;
+        b_is =
+            omega arith;
+      };
       behind = subst (λ (k : ℕ). Stands c k rest) at h;
     }
 segments_run go c above s p q (g ∷ gs) rest l ep h k e =
     let r = segment_run go c above s p g l ep (h.0, (h.1.0, (h.1.1.0, (h.1.1.1.0, tt)))) k.0 in
     let at : p + 3 + 2 + 3 + 2 ≡ p + 10 = omega arith in
-    added_on c s (p + 10) q g gs rest r (segments_run go c above r.t (p + 10) q gs rest r.live r.pc_is (subst (λ (n : ℕ). Stands c n (segments_code gs ++ rest)) at h.1.1.1.1) k.1 (omega arith))
+    added_on c s (p + 10) q g gs rest r
+    (segments_run go c above r.t (p + 10) q gs rest r.live r.pc_is
+    (subst (λ (n : ℕ). Stands c n (segments_code gs ++ rest)) at h.1.1.1.1) k.1 (omega arith))

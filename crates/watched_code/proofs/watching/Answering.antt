@@ -1,5 +1,6 @@
 -- From the image of a firmware with watched tables to its answers.
-use Rattle.std.proofs.Common.{inr, ◌≡◌, inl, ℕ, ◌+◌, ◌^◌, ◌<◌, ◌≤◌, List, [], ◌∷◌, ◌++◌, length, All, refl, sym, ap, ◌∙◌, subst, arith, length-append}
+use Rattle.std.proofs.Common.{inr, ◌≡◌, inl, ℕ, ◌+◌, ◌^◌, ◌<◌, ◌≤◌, List, [], ◌∷◌, ◌++◌, length, All, refl, sym, ap}
+use Rattle.std.proofs.Common.{◌∙◌, subst, arith, length-append}
 use Rattle.std.specs.Prelude.{Option, Some, None}
 use Rattle.fuzzy_meaning.specs.declared.block.Block.{Block}
 use Rattle.fuzzy_meaning.specs.Blocks.{IsValid}
@@ -20,13 +21,15 @@ use Rattle.eval_code.specs.Items.{IsApart, block_items}
 use Rattle.codegen.specs.Images.{vector_items}
 use Rattle.codegen.specs.Answers.{IsArrived}
 use Rattle.watched_code.specs.WatchedCode.{segments_of, watched_front, watched_layout, code_length}
-use Rattle.watched_code.specs.Watched.{watched_items, watched_bound, Change, Watched, IsTableChange, IsGoodSample, AreWatchAnswered, WatchedAnswers}
+use Rattle.watched_code.specs.Watched.{watched_items, watched_bound, Change, Watched, IsTableChange, IsGoodSample}
+use Rattle.watched_code.specs.Watched.{AreWatchAnswered, WatchedAnswers}
 use Rattle.eval_code.proofs.Algebra.{UsedCode, used_bytes}
 use Rattle.codegen.specs.Answers.{FreeBytesLeave}
 use Rattle.codegen.specs.Standing.{HasFirmware}
 use Rattle.codegen.proofs.Algebra.{interruptible_of, not_free, waits}
 use Rattle.watched_code.proofs.watching.Adding.{count_in}
-use Rattle.watched_code.proofs.watching.Fronts.{IsWatchedLayout, length-more, length-bad, length-front, used_front, fit_defaults, start_bytes}
+use Rattle.watched_code.proofs.watching.Fronts.{IsWatchedLayout, length-more, length-bad, length-front, used_front}
+use Rattle.watched_code.proofs.watching.Fronts.{fit_defaults, start_bytes}
 use Rattle.watched_code.proofs.watching.Laws.{WatchingLaws}
 use Rattle.watched_code.proofs.watching.Tables.{are_segments, are_apart, are_few, stand, counted}
 use Rattle.watched_code.proofs.watching.Located.{located}
@@ -36,7 +39,12 @@ use Rattle.codegen.specs.Settings.{Setting, IsShut}
 
 -- the code before EVAL is short
 pub short_front : (b : Block) → IsValid b → code_length (watched_front main_layout b) ≤ 97
-short_front b v = omega (arith, length-front main_layout b.outputs (segments_of main_layout b), length-bad main_layout b.outputs v.few_outputs, are_few b)
+short_front b v = omega (
+  arith,
+  length-front main_layout b.outputs (segments_of main_layout b),
+  length-bad main_layout b.outputs v.few_outputs,
+  are_few b,
+)
 
 watched_apart : (b : Block) → IsValid b → IsApart (watched_layout b)
 watched_apart b v =
@@ -59,7 +67,14 @@ watched_apart b v =
 
 is_watched_layout : (b : Block) → IsValid b → IsWatchedLayout (watched_layout b) b.outputs (segments_of main_layout b)
 is_watched_layout b v = record {
-  started = record { low = omega arith; high = omega arith; wait = refl; ready = omega arith; apart = inl (omega arith) };
+  started = record {
+    low = omega arith;
+    high = omega arith;
+    wait = refl;
+    ready = omega arith;
+    apart =
+        inl (omega arith);
+  };
   ready = omega arith;
   samples = refl;
   apart = watched_apart b v;
@@ -84,14 +99,19 @@ watched_in_order b v =
 pub watched_rise : BlockRises → (b : Block) → IsValid b → IsWithinLimits b → IsRising (watched_items b)
 watched_rise rises b v limits =
     let l = watched_layout b in
-    rises 0 l b Byte (watched_front main_layout b) (Rts ∷ []) (vector_items l) (watched_in_order b v) v limits (omega arith) (omega arith, (omega arith, omega arith))
+    rises 0 l b Byte (watched_front main_layout b) (Rts ∷ []) (vector_items l) (watched_in_order b v) v limits
+    (omega arith) (omega arith, (omega arith, omega arith))
 
 pub length-watched_items : BlockIsShort → (b : Block) → IsValid b → IsWithinLimits b → length (watched_items b) < 2 ^ 32
 length-watched_items brief b v limits =
     let short = short_front b v in
     let l = watched_layout b in
     let front = watched_front main_layout b in
-    omega (arith, length-append (block_items l b Byte front (Rts ∷ [])) (vector_items l), brief l b Byte front (Rts ∷ []) v limits)
+    omega (
+      arith,
+      length-append (block_items l b Byte front (Rts ∷ [])) (vector_items l),
+      brief l b Byte front (Rts ∷ []) v limits,
+    )
 
 -- the image of a firmware, and what is known of its block
 record Founded (laws : WatchingLaws) (b : Block) (image : List (ℕ × ℕ)) : Type 0 where
@@ -102,11 +122,14 @@ record Founded (laws : WatchingLaws) (b : Block) (image : List (ℕ × ℕ)) : T
 parts : (laws : WatchingLaws) (b : Block) (image : List (ℕ × ℕ)) → Founded laws b image → HasParts main_layout b
 parts laws b image h = laws.parts main_layout b h.valid h.limits
 
-used : (laws : WatchingLaws) (b : Block) (image : List (ℕ × ℕ)) → Founded laws b image → UsedCode (watched_front main_layout b)
+used : (laws : WatchingLaws) (b : Block) (image : List (ℕ × ℕ)) → Founded laws b image
+    → UsedCode (watched_front main_layout b)
 used laws b image h =
     let few = h.valid.few_outputs in
     let bad = length-bad main_layout b.outputs few in
-    used_front main_layout b.outputs (segments_of main_layout b) (omega arith) (omega arith) (fit_defaults laws.nearest_is_byte b.outputs h.valid.outputs) (omega arith) (are_segments b (parts laws b image h))
+    used_front main_layout b.outputs (segments_of main_layout b) (omega arith) (omega arith)
+    (fit_defaults laws.nearest_is_byte b.outputs h.valid.outputs) (omega arith)
+    (are_segments b (parts laws b image h))
 
 -- what stands in its memory
 firmware : (laws : WatchingLaws) (b : Block) (image : List (ℕ × ℕ)) → Founded laws b image
@@ -114,7 +137,8 @@ firmware : (laws : WatchingLaws) (b : Block) (image : List (ℕ × ℕ)) → Fou
 firmware laws b image h =
     let short = short_front b h.valid in
     let front = watched_front main_layout b in
-    laws.firmware image (watched_layout b) b Byte front (watched_in_order b h.valid) (watched_apart b h.valid) (record { from = omega arith; to = omega arith }) (omega arith)
+    laws.firmware image (watched_layout b) b Byte front (watched_in_order b h.valid) (watched_apart b h.valid)
+    (record { from = omega arith; to = omega arith }) (omega arith)
     (used_bytes front (used laws b image h)) (omega arith) (omega arith) h.valid h.limits h.holds
 
 bound_is : (b : Block) → instruction_bound Byte b + 4 + count_in (segments_of main_layout b) ≡ watched_bound b
@@ -133,9 +157,20 @@ shut free b = record {
 
 -- the run of its image
 abbrev over : WatchingLaws → Block → List ℕ → (flags : ℕ) → flags < 2 ^ 8 → Setting
-over laws b image flags fits = record { stays_fit = laws.stays_fit; open_to = is_free; layout = watched_layout b; shut = shut laws.free b; image = image; flags = flags; fits = fits }
+over laws b image flags fits =
+    record {
+      stays_fit = laws.stays_fit;
+      open_to = is_free;
+      layout = watched_layout b;
+      shut = shut laws.free b;
+      image =
+          image;
+      flags = flags;
+      fits = fits;
+    }
 
-grounds : (laws : WatchingLaws) (b : Block) (image : List (ℕ × ℕ)) (flags : ℕ) (fits : flags < 2 ^ 8) → Founded laws b image
+grounds : (laws : WatchingLaws) (b : Block) (image : List (ℕ × ℕ)) (flags : ℕ) (fits : flags < 2 ^ 8)
+    → Founded laws b image
     → Grounds (over laws b (image_memory image) flags fits) b (segments_of main_layout b) (watched_bound b)
 grounds laws b image flags fits h =
     let mem = image_memory image in
@@ -166,18 +201,21 @@ grounds laws b image flags fits h =
       stands = stand mem b here.eval.tables here.eval.singletons here.eval.weights here.eval.rules;
     }
 
-arrived : (laws : WatchingLaws) (b : Block) (image : List (ℕ × ℕ)) (flags : ℕ) (fits : flags < 2 ^ 8) → Founded laws b image → Arrived (over laws b (image_memory image) flags fits) b Byte
+arrived : (laws : WatchingLaws) (b : Block) (image : List (ℕ × ℕ)) (flags : ℕ) (fits : flags < 2 ^ 8)
+    → Founded laws b image → Arrived (over laws b (image_memory image) flags fits) b Byte
 arrived laws b image flags fits h =
     let l = watched_layout b in
     let mem = image_memory image in
     let front = watched_front main_layout b in
     let all = firmware laws b image h in
-    laws.arrives (over laws b mem flags fits) b Byte front (is_watched_layout b h.valid).started (watched_apart b h.valid) h.valid
+    laws.arrives (over laws b mem flags fits) b Byte front (is_watched_layout b h.valid).started
+    (watched_apart b h.valid) h.valid
     (start_bytes mem l b.outputs (segments_of main_layout b) all.stands.front) all
 
 -- the code ends below the tables
 code_end : (laws : WatchingLaws) (b : Block) (image : List (ℕ × ℕ)) → Founded laws b image
-    → (let l = watched_layout b in l.code + length (code_bytes (block_code l b Byte (watched_front main_layout b) (Rts ∷ []))) ≤ l.tables)
+    → (let l = watched_layout b in
+    l.code + length (code_bytes (block_code l b Byte (watched_front main_layout b) (Rts ∷ []))) ≤ l.tables)
 code_end laws b image h =
     let l = watched_layout b in
     let front = watched_front main_layout b in
@@ -186,8 +224,10 @@ code_end laws b image h =
     omega (arith, short_front b h.valid, length-more front (eval ++ Rts ∷ []), length-more eval (Rts ∷ []), room)
 
 -- good samples of the definition
-may_change : (laws : WatchingLaws) (b : Block) (image : List (ℕ × ℕ)) (flags : ℕ) (fits : flags < 2 ^ 8) (change : Option Change) → Founded laws b image
-    → IsTableChange (watched_layout b) image change → MayChange (over laws b (image_memory image) flags fits) (segments_of main_layout b) change
+may_change : (laws : WatchingLaws) (b : Block) (image : List (ℕ × ℕ)) (flags : ℕ) (fits : flags < 2 ^ 8)
+    (change : Option Change) → Founded laws b image
+    → IsTableChange (watched_layout b) image change
+    → MayChange (over laws b (image_memory image) flags fits) (segments_of main_layout b) change
 may_change laws b image flags fits None h x = tt
 may_change laws b image flags fits (Some c) h x =
     let l = watched_layout b in
@@ -204,22 +244,32 @@ may_change laws b image flags fits (Some c) h x =
 
 -- from the first arrival on, the samples are answered within a bound
 abbrev Answers : Layout → Block → ℕ → List ℕ → ℕ → List Watched → Type 0
-Answers l b most image flags samples = (s : State) × (IsArrived l image flags s × AreWatchAnswered l b most image flags (λ o. 0) samples s)
+Answers l b most image flags samples =
+    (s : State) × (IsArrived l image flags s × AreWatchAnswered l b most image flags (λ o. 0) samples s)
 
-from_arrival : (laws : WatchingLaws) (b : Block) (image : List ℕ) (flags : ℕ) (fits : flags < 2 ^ 8) (samples : List Watched)
-    → Grounds (over laws b image flags fits) b (segments_of main_layout b) (watched_bound b) → AreGood (over laws b image flags fits) b (segments_of main_layout b) samples
+from_arrival : (laws : WatchingLaws) (b : Block) (image : List ℕ) (flags : ℕ) (fits : flags < 2 ^ 8)
+    (samples : List Watched)
+    → Grounds (over laws b image flags fits) b (segments_of main_layout b) (watched_bound b)
+    → AreGood (over laws b image flags fits) b (segments_of main_layout b) samples
     → Arrived (over laws b image flags fits) b Byte → Answers (watched_layout b) b (watched_bound b) image flags samples
 from_arrival laws b image flags fits samples h all a =
     let c = over laws b image flags fits in
     let at = a.home.pc_is in (
       a.t,
       (
-        record { way = a.way; wait = at; idle = waits c.layout a.t at a.home.ready_is; interruptible = interruptible_of c a.t a.home.live (omega arith) (omega arith) },
+        record {
+          way = a.way;
+          wait = at;
+          idle = waits c.layout a.t at a.home.ready_is;
+          interruptible =
+              interruptible_of c a.t a.home.live (omega arith) (omega arith);
+        },
         are_answered c b (segments_of main_layout b) (watched_bound b) samples (λ o. 0) a.t h a.home all,
       ),
     )
 
-main_answers : (laws : WatchingLaws) (b : Block) (image : List (ℕ × ℕ)) (flags : ℕ) (samples : List Watched) → IsValid b → IsWithinLimits b
+main_answers : (laws : WatchingLaws) (b : Block) (image : List (ℕ × ℕ)) (flags : ℕ) (samples : List Watched) → IsValid b
+    → IsWithinLimits b
     → Holds image (given_by (watched_items b)) → flags < 2 ^ 8 → All (IsGoodSample b (watched_layout b) image) samples
     → Answers (watched_layout b) b (watched_bound b) (image_memory image) flags samples
 main_answers laws b image flags samples v limits h fits all =
@@ -231,6 +281,8 @@ main_answers laws b image flags samples v limits h fits all =
 pub watched_answers : WatchingLaws → WatchedAnswers
 watched_answers laws b f v limits h flags samples fits all =
     let image = f.image.bytes in
-    let good : All (IsGoodSample b (watched_layout b) image) samples = subst (λ (l : Layout). All (IsGoodSample b l image) samples) h.layout all in
+    let good : All (IsGoodSample b (watched_layout b) image) samples =
+    subst (λ (l : Layout). All (IsGoodSample b l image) samples) h.layout all in
     subst (λ (l : Layout). Answers l b f.instr_bound (image_memory image) flags samples) (sym h.layout)
-    (subst (λ (most : ℕ). Answers (watched_layout b) b most (image_memory image) flags samples) (sym h.instructions) (main_answers laws b image flags samples v limits h.image.bytes fits good))
+    (subst (λ (most : ℕ). Answers (watched_layout b) b most (image_memory image) flags samples) (sym h.instructions)
+    (main_answers laws b image flags samples v limits h.image.bytes fits good))

@@ -1,5 +1,6 @@
 -- The check, to EVAL or to BAD.
-use Rattle.std.proofs.Common.{◌≡◌, ℕ, ◌+◌, ◌*◌, ◌%◌, ◌^◌, ◌<◌, ◌≤◌, true, false, List, [], ◌∷◌, ◌++◌, length, set, refl, ap, ◌∙◌, subst, arith}
+use Rattle.std.proofs.Common.{◌≡◌, ℕ, ◌+◌, ◌*◌, ◌%◌, ◌^◌, ◌<◌, ◌≤◌, true, false, List, [], ◌∷◌, ◌++◌, length, set, refl}
+use Rattle.std.proofs.Common.{ap, ◌∙◌, subst, arith}
 use Rattle.std.specs.Prelude.{◌==◌}
 use Rattle.cpu12_isa.specs.declared.instr.Instr.{Instr}
 use Rattle.cpu12_isa.specs.declared.instr.Instr.TheVariants.{LdabImmediate, ClrExtended, Bne, AddbImmediate}
@@ -9,7 +10,8 @@ use Rattle.cpu12_parts.specs.Whole.{after_plain}
 use Rattle.watched_code.specs.declared.segments.Segment.{Segment}
 use Rattle.watched_code.specs.WatchedCode.{segments_code, fault_at}
 use Rattle.codegen.proofs.Algebra.{Goes, goes_on, goes_one}
-use Rattle.watched_code.proofs.watching.Adding.{IsShutAbove, AreSegments, Added, segments_run, sum_in, count_in, clr, ldab, addb, addb_zero, bne_on, bne_back}
+use Rattle.watched_code.proofs.watching.Adding.{IsShutAbove, AreSegments, Added, segments_run, sum_in, count_in, clr}
+use Rattle.watched_code.proofs.watching.Adding.{ldab, addb, addb_zero, bne_on, bne_back}
 use Rattle.codegen.specs.Settings.{Setting, Live, Stands, InstructionGoesOn}
 
 -- the check's last three instructions
@@ -37,19 +39,24 @@ record Decided (c : Setting) (s : State) (at check to : ℕ) (gs : List Segment)
   zero_is : has t.regs.ccr 2 ≡ ((sum_in s.mem gs + check) % 2 ^ 8 == 0)
   rest : Stands c (at + 2 + 10 * length gs + 2) (Bne to ∷ ClrExtended fault_at ∷ [])
 
-decided_by : InstructionGoesOn → (c : Setting) (s : State) (at check to : ℕ) (gs : List Segment) → Live c (after_plain c.flags (LdabImmediate 0) s)
+decided_by : InstructionGoesOn → (c : Setting) (s : State) (at check to : ℕ) (gs : List Segment)
+    → Live c (after_plain c.flags (LdabImmediate 0) s)
     → Goes c 1 0 s (after_plain c.flags (LdabImmediate 0) s)
-    → Added c (after_plain c.flags (LdabImmediate 0) s) gs (decision check to) (at + 2 + 10 * length gs) → Decided c s at check to gs
+    → Added c (after_plain c.flags (LdabImmediate 0) s) gs (decision check to) (at + 2 + 10 * length gs)
+    → Decided c s at check to gs
 decided_by go c s at check to gs l g r =
     let a = r.adds in
     let q = at + 2 + 10 * length gs in
     let u = after_plain c.flags (AddbImmediate check) a.t in
     let n = addb go c a.t q check a.live a.pc_is r.behind.0 in
-    let total : (a.t.regs.b + check) % 2 ^ 8 ≡ (sum_in s.mem gs + check) % 2 ^ 8 = ap (λ (x : ℕ). (x + check) % 2 ^ 8) a.b_is ∙ cut (sum_in s.mem gs) check in
+    let total : (a.t.regs.b + check) % 2 ^ 8 ≡ (sum_in s.mem gs + check) % 2 ^ 8 =
+    ap (λ (x : ℕ). (x + check) % 2 ^ 8) a.b_is ∙ cut (sum_in s.mem gs) check in
     let count : 1 + (count_in gs + 1) ≡ 2 + count_in gs = omega arith in
     record {
       t = u;
-      goes = subst (λ (m : ℕ). Goes c m 0 s u) count (goes_on c 1 0 (count_in gs + 1) 0 s (after_plain c.flags (LdabImmediate 0) s) u g (goes_on c (count_in gs) 0 1 0 _ a.t u a.goes (goes_one c a.t u (q + 2) n)));
+      goes = subst (λ (m : ℕ). Goes c m 0 s u) count
+          (goes_on c 1 0 (count_in gs + 1) 0 s (after_plain c.flags (LdabImmediate 0) s) u g
+          (goes_on c (count_in gs) 0 1 0 _ a.t u a.goes (goes_one c a.t u (q + 2) n)));
       live = n.live;
       pc_is = n.pc_is;
       sp_is = a.sp_is;
@@ -61,12 +68,14 @@ decided_by go c s at check to gs l g r =
     cut : (n k : ℕ) → ((0 + n) % 2 ^ 8 + k) % 2 ^ 8 ≡ (n + k) % 2 ^ 8
     cut n k = omega arith
 
-decided : InstructionGoesOn → (c : Setting) (s : State) (at bad check to : ℕ) (gs : List Segment) → HasCheck c at bad check to gs → Live c s → s.regs.pc ≡ at → Decided c s at check to gs
+decided : InstructionGoesOn → (c : Setting) (s : State) (at bad check to : ℕ) (gs : List Segment)
+    → HasCheck c at bad check to gs → Live c s → s.regs.pc ≡ at → Decided c s at check to gs
 decided go c s at bad check to gs h l ep =
     let u = after_plain c.flags (LdabImmediate 0) s in
     let n = ldab go c s at 0 l ep h.code.0 in
     decided_by go c s at check to gs n.live (goes_one c s u (at + 2) n)
-    (segments_run go c h.above u (at + 2) (at + 2 + 10 * length gs) gs (decision check to) n.live n.pc_is h.code.1 h.segments refl)
+    (segments_run go c h.above u (at + 2) (at + 2 + 10 * length gs) gs (decision check to) n.live n.pc_is h.code.1
+    h.segments refl)
 
 -- where the check leads
 pub record Leads (c : Setting) (n : ℕ) (s : State) (pc : ℕ) (mem : List ℕ) : Type 0 where
@@ -78,8 +87,10 @@ pub record Leads (c : Setting) (n : ℕ) (s : State) (pc : ℕ) (mem : List ℕ)
   pub mem_is : t.mem ≡ mem
 
 -- behind it, with FAULT cleared, where the sum with the check byte is 0
-passed_by : InstructionGoesOn → (c : Setting) (s : State) (at check to : ℕ) (gs : List Segment) → c.open_to fault_at ≡ false → Decided c s at check to gs
-    → ((sum_in s.mem gs + check) % 2 ^ 8 == 0) ≡ true → Leads c (4 + count_in gs) s (at + 10 * length gs + 9) (set s.mem fault_at 0)
+passed_by : InstructionGoesOn → (c : Setting) (s : State) (at check to : ℕ) (gs : List Segment)
+    → c.open_to fault_at ≡ false → Decided c s at check to gs
+    → ((sum_in s.mem gs + check) % 2 ^ 8 == 0) ≡ true
+    → Leads c (4 + count_in gs) s (at + 10 * length gs + 9) (set s.mem fault_at 0)
 passed_by go c s at check to gs shown d e =
     let q = at + 2 + 10 * length gs + 2 in
     let u = after_plain c.flags (Bne to) d.t in
@@ -89,19 +100,25 @@ passed_by go c s at check to gs shown d e =
     let count : 2 + count_in gs + 2 ≡ 4 + count_in gs = omega arith in
     record {
       t = v;
-      goes = subst (λ (m : ℕ). Goes c m 0 s v) count (goes_on c (2 + count_in gs) 0 2 0 s d.t v d.goes (goes_on c 1 0 1 0 d.t u v (goes_one c d.t u (q + 2) n) (goes_one c u v (q + 2 + 3) k)));
+      goes = subst (λ (m : ℕ). Goes c m 0 s v) count
+          (goes_on c (2 + count_in gs) 0 2 0 s d.t v d.goes
+          (goes_on c 1 0 1 0 d.t u v (goes_one c d.t u (q + 2) n) (goes_one c u v (q + 2 + 3) k)));
       live = k.live;
       pc_is = k.pc_is ∙ omega arith;
       sp_is = d.sp_is;
       mem_is = ap (λ (m : List ℕ). set m fault_at 0) d.mem_is;
     }
 
-pub passed : InstructionGoesOn → (c : Setting) (s : State) (at bad check to : ℕ) (gs : List Segment) → HasCheck c at bad check to gs → Live c s → s.regs.pc ≡ at
-    → ((sum_in s.mem gs + check) % 2 ^ 8 == 0) ≡ true → Leads c (4 + count_in gs) s (at + 10 * length gs + 9) (set s.mem fault_at 0)
-passed go c s at bad check to gs h l ep e = passed_by go c s at check to gs h.shown (decided go c s at bad check to gs h l ep) e
+pub passed : InstructionGoesOn → (c : Setting) (s : State) (at bad check to : ℕ) (gs : List Segment)
+    → HasCheck c at bad check to gs → Live c s → s.regs.pc ≡ at
+    → ((sum_in s.mem gs + check) % 2 ^ 8 == 0) ≡ true
+    → Leads c (4 + count_in gs) s (at + 10 * length gs + 9) (set s.mem fault_at 0)
+passed go c s at bad check to gs h l ep e =
+    passed_by go c s at check to gs h.shown (decided go c s at bad check to gs h l ep) e
 
 -- to BAD, where it is not
-failed_by : InstructionGoesOn → (c : Setting) (s : State) (at bad check to : ℕ) (gs : List Segment) → HasCheck c at bad check to gs → Decided c s at check to gs
+failed_by : InstructionGoesOn → (c : Setting) (s : State) (at bad check to : ℕ) (gs : List Segment)
+    → HasCheck c at bad check to gs → Decided c s at check to gs
     → ((sum_in s.mem gs + check) % 2 ^ 8 == 0) ≡ false → Leads c (3 + count_in gs) s bad s.mem
 failed_by go c s at bad check to gs h d e =
     let q = at + 2 + 10 * length gs + 2 in
@@ -111,13 +128,16 @@ failed_by go c s at bad check to gs h d e =
     let count : 2 + count_in gs + 1 ≡ 3 + count_in gs = omega arith in
     record {
       t = u;
-      goes = subst (λ (m : ℕ). Goes c m 0 s u) count (goes_on c (2 + count_in gs) 0 1 0 s d.t u d.goes (goes_one c d.t u bad n));
+      goes = subst (λ (m : ℕ). Goes c m 0 s u) count
+          (goes_on c (2 + count_in gs) 0 1 0 s d.t u d.goes (goes_one c d.t u bad n));
       live = n.live;
       pc_is = n.pc_is;
       sp_is = d.sp_is;
       mem_is = d.mem_is;
     }
 
-pub failed : InstructionGoesOn → (c : Setting) (s : State) (at bad check to : ℕ) (gs : List Segment) → HasCheck c at bad check to gs → Live c s → s.regs.pc ≡ at
+pub failed : InstructionGoesOn → (c : Setting) (s : State) (at bad check to : ℕ) (gs : List Segment)
+    → HasCheck c at bad check to gs → Live c s → s.regs.pc ≡ at
     → ((sum_in s.mem gs + check) % 2 ^ 8 == 0) ≡ false → Leads c (3 + count_in gs) s bad s.mem
-failed go c s at bad check to gs h l ep e = failed_by go c s at bad check to gs h (decided go c s at bad check to gs h l ep) e
+failed go c s at bad check to gs h l ep e =
+    failed_by go c s at bad check to gs h (decided go c s at bad check to gs h l ep) e

@@ -3,7 +3,8 @@ use Rattle.std.proofs.Common.{◌≡◌, ◌≢◌, ℕ, ◌+◌, ◌-◌, ◌%�
 use Rattle.std.specs.Prelude.{sum}
 use Rattle.std.proofs.lemmas.List.Sums.{sum_by-set}
 use Rattle.std.proofs.lemmas.List.Elements.{All-cons, All-nil}
-use Rattle.watched_code.specs.Checksums.{OneChangeIsSeen, TwoChangesMayPass, TwoChangesUnseen, UnchangedSumIsZero, check_byte}
+use Rattle.watched_code.specs.Checksums.{OneChangeIsSeen, TwoChangesMayPass, TwoChangesUnseen, UnchangedSumIsZero}
+use Rattle.watched_code.specs.Checksums.{check_byte}
 
 zero_mod : (n : ℕ) → (n + (256 - n % 256) % 256) % 256 ≡ 0
 zero_mod n = omega arith
@@ -18,11 +19,13 @@ other_sum n m k a v zero e la lv ne z = ne (omega arith)
 pub one_change_is_seen : OneChangeIsSeen
 one_change_is_seen bytes at value fit lt small other =
     let kept = sum_by-set (λ (x : ℕ). x) bytes at value 0 lt in
-    other_sum (sum bytes) (sum (set bytes at value)) (check_byte bytes) (get_or bytes at 0) value (unchanged_sum_is_zero bytes) kept (fit at 0 lt) small other
+    other_sum (sum bytes) (sum (set bytes at value)) (check_byte bytes) (get_or bytes at 0) value
+    (unchanged_sum_is_zero bytes) kept (fit at 0 lt) small other
 
 two : TwoChangesUnseen (1 ∷ 2 ∷ []) 0 1 2 1
 two = record {
-  fit = All-cons (λ (v : ℕ). v < 2 ^ 8) 1 (2 ∷ []) (omega arith) (All-cons (λ (v : ℕ). v < 2 ^ 8) 2 [] (omega arith) (All-nil (λ (v : ℕ). v < 2 ^ 8)));
+  fit = All-cons (λ (v : ℕ). v < 2 ^ 8) 1 (2 ∷ []) (omega arith)
+      (All-cons (λ (v : ℕ). v < 2 ^ 8) 2 [] (omega arith) (All-nil (λ (v : ℕ). v < 2 ^ 8)));
   first_in = omega arith;
   second_in = omega arith;
   apart = λ e. omega arith;

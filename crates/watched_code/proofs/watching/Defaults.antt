@@ -1,5 +1,7 @@
 -- BAD: FAULT is set, and the outputs get their defaults.
-use Rattle.std.proofs.Common.{◌≡◌, ◌≢◌, false, ◌⊎◌, inl, inr, ⊎_elim, ℕ, zero, suc, ◌+◌, ◌*◌, ◌^◌, ◌<◌, ◌≤◌, List, [], ◌∷◌, ◌++◌, length, get_or, set, refl, sym, ap, ◌∙◌, subst, arith, length-set, get_or-set_same, get_or-set_other, append_assoc}
+use Rattle.std.proofs.Common.{◌≡◌, ◌≢◌, false, ◌⊎◌, inl, inr, ⊎_elim, ℕ, zero, suc, ◌+◌, ◌*◌, ◌^◌, ◌<◌, ◌≤◌, List, []}
+use Rattle.std.proofs.Common.{◌∷◌, ◌++◌, length, get_or, set, refl, sym, ap, ◌∙◌, subst, arith, length-set}
+use Rattle.std.proofs.Common.{get_or-set_same, get_or-set_other, append_assoc}
 use Rattle.std.specs.Prelude.{Option, Some, None, option_map, slice_get}
 use Rattle.fz_num.specs.declared.dec.Dec.{Dec}
 use Rattle.fuzzy_meaning.specs.declared.block.Output.{Output}
@@ -49,20 +51,43 @@ pub record Stored (c : Setting) (n : ℕ) (s : State) (mem : List ℕ) (rest : L
   pub behind : Stands c at rest
 
 goes_most : (c : Setting) (n m : ℕ) (s t : State) → n ≤ m → Goes c n 0 s t → Goes c m 0 s t
-goes_most c n m s t le = bounded_more (IsInterruptibleStep c.open_to c.layout c.image c.flags) n 0 m 0 s t le (omega arith)
+goes_most c n m s t le =
+    bounded_more (IsInterruptibleStep c.open_to c.layout c.image c.flags) n 0 m 0 s t le (omega arith)
 
-default_run : InstructionGoesOn → (c : Setting) (s : State) (p to : ℕ) (byte : Option ℕ) (rest : List Instr) → Live c s → s.regs.pc ≡ p → Stands c p (default_code to byte ++ rest) → to < 0x1800 → c.open_to to ≡ false
+default_run : InstructionGoesOn → (c : Setting) (s : State) (p to : ℕ) (byte : Option ℕ) (rest : List Instr) → Live c s
+    → s.regs.pc ≡ p → Stands c p (default_code to byte ++ rest) → to < 0x1800 → c.open_to to ≡ false
     → Stored c 2 s (defaulted s.mem to byte) rest
 default_run go c s p to None rest l ep h low shown =
-    record { t = s; goes = goes_most c 0 2 s s (omega arith) (bounded_none (IsInterruptibleStep c.open_to c.layout c.image c.flags) s); live = l; at = p; pc_is = ep; sp_is = refl; mem_is = refl; behind = h }
+    record {
+      t = s;
+      goes =
+          goes_most c 0 2 s s (omega arith) (bounded_none (IsInterruptibleStep c.open_to c.layout c.image c.flags) s);
+      live = l;
+      at = p;
+      pc_is = ep;
+      sp_is = refl;
+      mem_is = refl;
+      behind = h;
+    }
 default_run go c s p to (Some byte) rest l ep h low shown =
     let u = after_plain c.flags (LdabImmediate byte) s in
     let v = after_plain c.flags (StabExtended to) u in
     let n = ldab go c s p byte l ep h.0 in
     let k = stab go c u (p + 2) to n.live n.pc_is h.1.0 low shown in
-    record { t = v; goes = goes_on c 1 0 1 0 s u v (goes_one c s u (p + 2) n) (goes_one c u v (p + 2 + 3) k); live = k.live; at = p + 2 + 3; pc_is = k.pc_is; sp_is = refl; mem_is = refl; behind = h.1.1 }
+    record {
+      t = v;
+      goes = goes_on c 1 0 1 0 s u v (goes_one c s u (p + 2) n) (goes_one c u v (p + 2 + 3) k);
+      live =
+          k.live;
+      at = p + 2 + 3;
+      pc_is = k.pc_is;
+      sp_is = refl;
+      mem_is = refl;
+      behind = h.1.1;
+    }
 
-stored_on : (c : Setting) (n m : ℕ) (s : State) (mem mem' : List ℕ) (next rest : List Instr) → (r : Stored c n s mem next) → Stored c m r.t mem' rest → Stored c (n + m) s mem' rest
+stored_on : (c : Setting) (n m : ℕ) (s : State) (mem mem' : List ℕ) (next rest : List Instr)
+    → (r : Stored c n s mem next) → Stored c m r.t mem' rest → Stored c (n + m) s mem' rest
 stored_on c n m s mem mem' next rest r k = record {
   t = k.t;
   goes = goes_on c n 0 m 0 s r.t k.t r.goes k.goes;
@@ -74,39 +99,60 @@ stored_on c n m s mem mem' next rest r k = record {
   behind = k.behind;
 }
 
-pub defaults_run : InstructionGoesOn → (c : Setting) (s : State) (p to : ℕ) (os : List Output) (rest : List Instr) → Live c s → s.regs.pc ≡ p → Stands c p (defaults_code to os ++ rest)
-    → to + length os ≤ 0x1800 → ((k : ℕ) → to ≤ k → k < to + length os → c.open_to k ≡ false) → Stored c (2 * length os) s (all_defaulted s.mem to os) rest
+pub defaults_run : InstructionGoesOn → (c : Setting) (s : State) (p to : ℕ) (os : List Output) (rest : List Instr)
+    → Live c s → s.regs.pc ≡ p → Stands c p (defaults_code to os ++ rest)
+    → to + length os ≤ 0x1800 → ((k : ℕ) → to ≤ k → k < to + length os → c.open_to k ≡ false)
+    → Stored c (2 * length os) s (all_defaulted s.mem to os) rest
 defaults_run go c s p to [] rest l ep h low shown =
-    record { t = s; goes = bounded_none (IsInterruptibleStep c.open_to c.layout c.image c.flags) s; live = l; at = p; pc_is = ep; sp_is = refl; mem_is = refl; behind = h }
+    record {
+      t = s;
+      goes = bounded_none (IsInterruptibleStep c.open_to c.layout c.image c.flags) s;
+      live = l;
+      at =
+          p;
+      pc_is = ep;
+      sp_is = refl;
+      mem_is = refl;
+      behind = h;
+    }
 defaults_run go c s p to (o ∷ os) rest l ep h low shown =
     let more = defaults_code (to + 1) os ++ rest in
-    let joined : Stands c p (default_code to (default_byte o) ++ more) = subst (Stands c p) (append_assoc (default_code to (default_byte o)) (defaults_code (to + 1) os) rest) h in
-    let r = default_run go c s p to (default_byte o) more l ep joined (omega arith) (shown to (omega arith) (omega arith)) in
-    let k = defaults_run go c r.t r.at (to + 1) os rest r.live r.pc_is r.behind (omega arith) (λ k lo hi. shown k (omega arith) (omega arith)) in
-    let same : all_defaulted r.t.mem (to + 1) os ≡ all_defaulted s.mem to (o ∷ os) = ap (λ (m : List ℕ). all_defaulted m (to + 1) os) r.mem_is in
+    let joined : Stands c p (default_code to (default_byte o) ++ more) =
+    subst (Stands c p) (append_assoc (default_code to (default_byte o)) (defaults_code (to + 1) os) rest) h in
+    let r = default_run go c s p to (default_byte o) more l ep joined (omega arith)
+    (shown to (omega arith) (omega arith)) in
+    let k = defaults_run go c r.t r.at (to + 1) os rest r.live r.pc_is r.behind (omega arith)
+    (λ k lo hi. shown k (omega arith) (omega arith)) in
+    let same : all_defaulted r.t.mem (to + 1) os ≡ all_defaulted s.mem to (o ∷ os) =
+    ap (λ (m : List ℕ). all_defaulted m (to + 1) os) r.mem_is in
     let count : 2 + 2 * length os ≡ 2 * length (o ∷ os) = omega arith in
     subst (λ (n : ℕ). Stored c n s (all_defaulted s.mem to (o ∷ os)) rest) count
-    (subst (λ (m : List ℕ). Stored c (2 + 2 * length os) s m rest) same (stored_on c 2 (2 * length os) s _ _ more rest r k))
+    (subst (λ (m : List ℕ). Stored c (2 + 2 * length os) s m rest) same
+    (stored_on c 2 (2 * length os) s _ _ more rest r k))
 
 -- what memory then holds
 one_else : (m : List ℕ) (at k : ℕ) (byte : Option ℕ) → k ≢ at → get_or (defaulted m at byte) k 0 ≡ get_or m k 0
 one_else m at k None ne = refl
 one_else m at k (Some byte) ne = get_or-set_other m at k byte 0 ne
 
-pub default_else : (m : List ℕ) (at : ℕ) (os : List Output) (k : ℕ) → (k < at) ⊎ (at + length os ≤ k) → get_or (all_defaulted m at os) k 0 ≡ get_or m k 0
+pub default_else : (m : List ℕ) (at : ℕ) (os : List Output) (k : ℕ) → (k < at) ⊎ (at + length os ≤ k)
+    → get_or (all_defaulted m at os) k 0 ≡ get_or m k 0
 default_else m at [] k h = refl
 default_else m at (o ∷ os) k h =
-    default_else (defaulted m at (default_byte o)) (at + 1) os k (⊎_elim (λ l. inl (omega arith)) (λ r. inr (omega arith)) h)
+    default_else (defaulted m at (default_byte o)) (at + 1) os k
+    (⊎_elim (λ l. inl (omega arith)) (λ r. inr (omega arith)) h)
     ∙ one_else m at k (default_byte o) (⊎_elim (λ l e. omega arith) (λ r e. omega arith) h)
 
 length-one : (m : List ℕ) (at : ℕ) (byte : Option ℕ) → length (defaulted m at byte) ≡ length m
 length-one m at None = refl
 length-one m at (Some byte) = length-set m at byte
 
-own : (m : List ℕ) (at : ℕ) (o : Output) → at < length m → get_or (defaulted m at (default_byte o)) at 0 ≡ default_of (Some o) (get_or m at 0)
+own : (m : List ℕ) (at : ℕ) (o : Output) → at < length m
+    → get_or (defaulted m at (default_byte o)) at 0 ≡ default_of (Some o) (get_or m at 0)
 own m at o lt = by_default o.default
   where
-    by_default : (d : Option Dec) → get_or (defaulted m at (option_map (nearest_byte o) d)) at 0 ≡ default_or o d (get_or m at 0)
+    by_default : (d : Option Dec)
+        → get_or (defaulted m at (option_map (nearest_byte o) d)) at 0 ≡ default_or o d (get_or m at 0)
     by_default None = refl
     by_default (Some d) = get_or-set_same m at (nearest_byte o d) 0 lt
 
@@ -125,4 +171,5 @@ default_there m at (o ∷ os) (suc k) lt le =
     let size = length-one m at (default_byte o) in
     ap (λ (j : ℕ). get_or (all_defaulted n (at + 1) os) j 0) e
     ∙ default_there n (at + 1) os k (omega arith) (omega arith)
-    ∙ ap (default_of (slice_get os k)) (one_else m at (at + 1 + k) (default_byte o) (λ q. omega arith) ∙ ap (λ (j : ℕ). get_or m j 0) (sym e))
+    ∙ ap (default_of (slice_get os k))
+    (one_else m at (at + 1 + k) (default_byte o) (λ q. omega arith) ∙ ap (λ (j : ℕ). get_or m j 0) (sym e))

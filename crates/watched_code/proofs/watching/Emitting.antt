@@ -1,5 +1,6 @@
 -- What the calls that make the image rest on.
-use Rattle.std.proofs.Common.{◌≡◌, ℕ, zero, suc, ◌+◌, ◌<◌, ◌≤◌, List, [], ◌∷◌, ◌++◌, length, sum_by, All, get_or, sym, ap₂, ◌∙◌, subst, arith}
+use Rattle.std.proofs.Common.{◌≡◌, ℕ, zero, suc, ◌+◌, ◌<◌, ◌≤◌, List, [], ◌∷◌, ◌++◌, length, sum_by, All, get_or, sym}
+use Rattle.std.proofs.Common.{ap₂, ◌∙◌, subst, arith}
 use Rattle.fuzzy_meaning.specs.declared.block.Block.{Block}
 use Rattle.rule_layout.specs.declared.flat.Flat.{Flat}
 use Rattle.rule_layout.specs.declared.flat.Form.{Form}
@@ -23,28 +24,40 @@ segment_at (x ∷ gs) zero g lt h = h.0
 segment_at (x ∷ gs) (suc i) g lt h = segment_at gs i g (omega arith) h.1
 
 -- one of the segments is one
-pub is_segment : (gs : List Segment) (i : ℕ) (g : Segment) → i < length gs → g ≡ get_or gs i g → AreSegments gs → IsSegment g
+pub is_segment : (gs : List Segment) (i : ℕ) (g : Segment) → i < length gs → g ≡ get_or gs i g → AreSegments gs
+    → IsSegment g
 is_segment gs i g lt e h = subst (λ (x : Segment). IsSegment x) (sym e) (segment_at gs i g lt h)
 
 -- the segments, pushed one after another
-pub segments_made : (l : Layout) (b : Block) (flat : Flat) (i0 i1 i2 i3 i4 : List Segment) (t s r : List ℕ) → flat ≡ flat_of b → i0 ≡ [] → t ≡ table_bytes b → s ≡ singleton_bytes b
-    → r ≡ rule_bytes_by l.slots flat.form flat.conjunctions → i1 ≡ i0 ++ segment l.tables t ∷ [] → i2 ≡ i1 ++ segment l.singletons s ∷ []
-    → i3 ≡ i2 ++ weight_segments l.weights flat.form flat.weights → i4 ≡ i3 ++ segment l.rules r ∷ [] → i4 ≡ segments_of l b
+pub segments_made : (l : Layout) (b : Block) (flat : Flat) (i0 i1 i2 i3 i4 : List Segment) (t s r : List ℕ)
+    → flat ≡ flat_of b → i0 ≡ [] → t ≡ table_bytes b → s ≡ singleton_bytes b
+    → r ≡ rule_bytes_by l.slots flat.form flat.conjunctions → i1 ≡ i0 ++ segment l.tables t ∷ []
+    → i2 ≡ i1 ++ segment l.singletons s ∷ []
+    → i3 ≡ i2 ++ weight_segments l.weights flat.form flat.weights → i4 ≡ i3 ++ segment l.rules r ∷ []
+    → i4 ≡ segments_of l b
 segments_made l b flat i0 i1 i2 i3 i4 t s r e h0 et es er h1 h2 h3 h4 =
     let first : i2 ≡ segment l.tables (table_bytes b) ∷ segment l.singletons (singleton_bytes b) ∷ [] =
-    h2 ∙ ap₂ (λ (x : List Segment) (y : List ℕ). x ++ segment l.singletons y ∷ []) (h1 ∙ ap₂ (λ (x : List Segment) (y : List ℕ). x ++ segment l.tables y ∷ []) h0 et) es in
-    let weights : weight_segments l.weights flat.form flat.weights ≡ weight_segments l.weights (form_of b) (weights_of b) =
-    ap₂ (λ (f : Form) (ws : List ℕ). weight_segments l.weights f ws) (form-flat_of flat b e) (weights-flat_of flat b e) in
-    let rules : r ≡ rule_bytes l.slots b = er ∙ ap₂ (λ f cs. rule_bytes_by l.slots f cs) (form-flat_of flat b e) (conjunctions-flat_of flat b e) in
-    h4 ∙ ap₂ (λ (x : List Segment) (y : List ℕ). x ++ segment l.rules y ∷ []) (h3 ∙ ap₂ (λ (x y : List Segment). x ++ y) first weights) rules
+    h2 ∙ ap₂ (λ (x : List Segment) (y : List ℕ). x ++ segment l.singletons y ∷ [])
+    (h1 ∙ ap₂ (λ (x : List Segment) (y : List ℕ). x ++ segment l.tables y ∷ []) h0 et) es in
+    let weights : weight_segments l.weights flat.form flat.weights ≡ weight_segments l.weights (form_of b)
+    (weights_of b) =
+    ap₂ (λ (f : Form) (ws : List ℕ). weight_segments l.weights f ws) (form-flat_of flat b e)
+    (weights-flat_of flat b e) in
+    let rules : r ≡ rule_bytes l.slots b =
+    er ∙ ap₂ (λ f cs. rule_bytes_by l.slots f cs) (form-flat_of flat b e) (conjunctions-flat_of flat b e) in
+    h4 ∙ ap₂ (λ (x : List Segment) (y : List ℕ). x ++ segment l.rules y ∷ [])
+    (h3 ∙ ap₂ (λ (x y : List Segment). x ++ y) first weights) rules
 
 -- none is longer than a rule list
 abbrev IsShort : Segment → Type 0
 IsShort g = length g.bytes ≤ 9984
 
-later_short : (f : Form) (at to : ℕ) (ws rs : List ℕ) → length ws ≤ 512 → length rs ≤ 9984 → All IsShort (weight_segments at f ws ++ segment to rs ∷ [])
+later_short : (f : Form) (at to : ℕ) (ws rs : List ℕ) → length ws ≤ 512 → length rs ≤ 9984
+    → All IsShort (weight_segments at f ws ++ segment to rs ∷ [])
 later_short form.Rev at to ws rs a b = All-cons IsShort (segment to rs) [] b (All-nil IsShort)
-later_short form.Revw at to ws rs a b = All-cons IsShort (segment at ws) (segment to rs ∷ []) (omega arith) (All-cons IsShort (segment to rs) [] b (All-nil IsShort))
+later_short form.Revw at to ws rs a b =
+    All-cons IsShort (segment at ws) (segment to rs ∷ []) (omega arith)
+    (All-cons IsShort (segment to rs) [] b (All-nil IsShort))
 
 pub are_short : (b : Block) → HasParts main_layout b → All (λ g. length g.bytes ≤ 9984) (segments_of main_layout b)
 are_short b h =
@@ -52,9 +65,11 @@ are_short b h =
     let s = h.singletons in
     let later = weight_segments 0xD300 (form_of b) (weights_of b) ++ segment 0xD800 (rule_bytes 0x1100 b) ∷ [] in
     All-cons IsShort (segment 0xD000 (table_bytes b)) (segment 0xD200 (singleton_bytes b) ∷ later) (omega arith)
-    (All-cons IsShort (segment 0xD200 (singleton_bytes b)) later (omega arith) (later_short (form_of b) 0xD300 0xD800 (weights_of b) (rule_bytes 0x1100 b) h.weights.1 h.rules.1))
+    (All-cons IsShort (segment 0xD200 (singleton_bytes b)) later (omega arith)
+    (later_short (form_of b) 0xD300 0xD800 (weights_of b) (rule_bytes 0x1100 b) h.weights.1 h.rules.1))
 
 -- the bound, from its parts
-pub bound_made : (b : Block) (n s : ℕ) → n ≡ instruction_bound Byte b → s ≡ sum_by segment_bound (segments_of main_layout b) → n + 4 + s ≡ watched_bound b
+pub bound_made : (b : Block) (n s : ℕ) → n ≡ instruction_bound Byte b
+    → s ≡ sum_by segment_bound (segments_of main_layout b) → n + 4 + s ≡ watched_bound b
 unfolding watched_bound
 bound_made b n s en es = ap₂ (λ (x y : ℕ). x + 4 + y) en es

@@ -1,5 +1,6 @@
 -- The code before EVAL of a firmware with watched tables: its size, and where it stands.
-use Rattle.std.proofs.Common.{◌≡◌, false, ℕ, suc, ◌+◌, ◌-◌, ◌*◌, ◌^◌, ◌<◌, ◌≤◌, List, [], ◌∷◌, ◌++◌, length, All, refl, ap, ◌∙◌, subst, arith, length-append}
+use Rattle.std.proofs.Common.{◌≡◌, false, ℕ, suc, ◌+◌, ◌-◌, ◌*◌, ◌^◌, ◌<◌, ◌≤◌, List, [], ◌∷◌, ◌++◌, length, All, refl}
+use Rattle.std.proofs.Common.{ap, ◌∙◌, subst, arith, length-append}
 use Rattle.std.specs.Prelude.{Option, Some, None, IfSome, option_map}
 use Rattle.std.proofs.lemmas.Grind.{flat_map-append}
 use Rattle.fz_num.specs.declared.dec.Dec.{Dec}
@@ -7,17 +8,21 @@ use Rattle.fuzzy_meaning.specs.declared.block.Output.{Output}
 use Rattle.fuzzy_meaning.specs.Blocks.{IsValidOutput, IsWithin}
 use Rattle.byte_scaling.specs.Cells.{nearest_byte, NearestIsByte}
 use Rattle.cpu12_isa.specs.declared.instr.Instr.{Instr}
-use Rattle.cpu12_isa.specs.declared.instr.Instr.TheVariants.{LdaaExtended, LdabImmediate, ClrExtended, Beq, Bra, JsrExtended, Rts, Rti}
+use Rattle.cpu12_isa.specs.declared.instr.Instr.TheVariants.{LdaaExtended, LdabImmediate, ClrExtended, Beq, Bra}
+use Rattle.cpu12_isa.specs.declared.instr.Instr.TheVariants.{JsrExtended, Rts, Rti}
 use Rattle.cpu12_isa.specs.Code.{encode_of}
 use Rattle.eval_code.specs.declared.layout.Layout.{Layout}
 use Rattle.watched_code.specs.declared.segments.Segment.{Segment}
 use Rattle.watched_code.specs.Checksums.{check_byte}
 use Rattle.codegen.specs.Code.{frame_code}
 use Rattle.eval_code.specs.Items.{IsApart}
-use Rattle.watched_code.specs.WatchedCode.{segment_bytes, code_length, default_code, defaults_code, bad_code, segment_code, segments_code, back_to_bad, check_code, bad_at, check_at, watched_front_over, fault_at}
+use Rattle.watched_code.specs.WatchedCode.{segment_bytes, code_length, default_code, defaults_code, bad_code}
+use Rattle.watched_code.specs.WatchedCode.{segment_code, segments_code, back_to_bad, check_code, bad_at, check_at}
+use Rattle.watched_code.specs.WatchedCode.{watched_front_over, fault_at}
 use Rattle.eval_code.specs.Evaluation.{HasBytes}
 use Rattle.eval_code.specs.Code.{code_bytes}
-use Rattle.eval_code.proofs.Algebra.{length-le-code_size, sized, bytes_front, bytes_back, UsedCode, used_append, length-code, bytes_append}
+use Rattle.eval_code.proofs.Algebra.{length-le-code_size, sized, bytes_front, bytes_back, UsedCode, used_append}
+use Rattle.eval_code.proofs.Algebra.{length-code, bytes_append}
 use Rattle.codegen.proofs.Algebra.{stands_of}
 use Rattle.watched_code.proofs.watching.Adding.{IsShutAbove, AreSegments}
 use Rattle.watched_code.proofs.watching.Checking.{HasCheck, decision}
@@ -41,7 +46,12 @@ length-default at (Some byte) = omega arith
 length-defaults : (at : ℕ) (os : List Output) → code_length (defaults_code at os) ≤ 5 * length os
 length-defaults at [] = omega arith
 length-defaults at (o ∷ os) =
-    omega (arith, length-more (default_code at (default_byte o)) (defaults_code (at + 1) os), length-default at (default_byte o), length-defaults (at + 1) os)
+    omega (
+      arith,
+      length-more (default_code at (default_byte o)) (defaults_code (at + 1) os),
+      length-default at (default_byte o),
+      length-defaults (at + 1) os,
+    )
 
 pub length-bad : (l : Layout) (os : List Output) → length os ≤ 4 → code_length (bad_code l os) ≤ 26
 length-bad l os few =
@@ -50,12 +60,14 @@ length-bad l os few =
 pub length-sum : (gs : List Segment) → code_length (LdabImmediate 0 ∷ segments_code gs) ≡ 2 + 10 * length gs
 length-sum gs = omega (arith, length-segments gs)
 
-length-check : (l : Layout) (os : List Output) (gs : List Segment) → code_length (check_code l os gs) ≡ 9 + 10 * length gs
+length-check : (l : Layout) (os : List Output) (gs : List Segment)
+    → code_length (check_code l os gs) ≡ 9 + 10 * length gs
 length-check l os gs =
     let tail = decision (check_byte (segment_bytes gs)) (2 ^ 8 - back_to_bad l os gs) in
     omega (arith, length-segments gs, length-more (segments_code gs) tail)
 
-pub length-front : (l : Layout) (os : List Output) (gs : List Segment) → code_length (watched_front_over l os gs) ≡ 22 + (code_length (bad_code l os) + (9 + 10 * length gs))
+pub length-front : (l : Layout) (os : List Output) (gs : List Segment)
+    → code_length (watched_front_over l os gs) ≡ 22 + (code_length (bad_code l os) + (9 + 10 * length gs))
 length-front l os gs =
     let r : Layout = record l { eval = check_at l os } in
     omega (
@@ -77,11 +89,20 @@ used_default at (Some byte) fit lt = (tt, fit, (tt, omega arith, tt))
 used_defaults : (at : ℕ) (os : List Output) → FitDefaults os → at + length os < 65536 → UsedCode (defaults_code at os)
 used_defaults at [] fit lt = tt
 used_defaults at (o ∷ os) fit lt =
-    used_append (default_code at (default_byte o)) (defaults_code (at + 1) os) (used_default at (default_byte o) fit.0 (omega arith)) (used_defaults (at + 1) os fit.1 (omega arith))
+    used_append (default_code at (default_byte o)) (defaults_code (at + 1) os)
+    (used_default at (default_byte o) fit.0 (omega arith)) (used_defaults (at + 1) os fit.1 (omega arith))
 
-pub used_bad : (l : Layout) (os : List Output) → FitDefaults os → l.outputs + length os < 65536 → UsedCode (bad_code l os)
-used_bad l os fit lt =
-    (tt, omega arith, (tt, omega arith, used_append (defaults_code l.outputs os) (Rts ∷ []) (used_defaults l.outputs os fit lt) (tt, tt, tt)))
+pub used_bad : (l : Layout) (os : List Output) → FitDefaults os → l.outputs + length os < 65536
+    → UsedCode (bad_code l os)
+used_bad l os fit lt = (
+  tt,
+  omega arith,
+  (
+    tt,
+    omega arith,
+    used_append (defaults_code l.outputs os) (Rts ∷ []) (used_defaults l.outputs os fit lt) (tt, tt, tt),
+  ),
+)
 
 used_segments : (gs : List Segment) → AreSegments gs → UsedCode (segments_code gs)
 used_segments [] h = tt
@@ -91,23 +112,38 @@ used_segments (g ∷ gs) h =
 
 pub used_check : (l : Layout) (os : List Output) (gs : List Segment) → AreSegments gs → UsedCode (check_code l os gs)
 used_check l os gs h =
-    let some : 1 ≤ back_to_bad l os gs = omega arith in
-    (tt, omega arith, used_append (segments_code gs) (decision (check_byte (segment_bytes gs)) (2 ^ 8 - back_to_bad l os gs)) (used_segments gs h) (tt, omega arith, (tt, omega arith, (tt, omega arith, tt))))
+    let some : 1 ≤ back_to_bad l os gs = omega arith in (
+      tt,
+      omega arith,
+      used_append (segments_code gs)
+          (decision (check_byte (segment_bytes gs)) (2 ^ 8 - back_to_bad l os gs)) (used_segments gs h)
+          (tt, omega arith, (tt, omega arith, (tt, omega arith, tt))),
+    )
 
 used_frame : (l : Layout) → l.ready < 65536 → l.eval < 65536 → UsedCode (frame_code l)
-used_frame l ready eval =
-    (tt, omega arith, (tt, ready, (tt, omega arith, (tt, ready, (tt, omega arith, (tt, eval, (tt, ready, (tt, omega arith, (tt, tt, tt)))))))))
+used_frame l ready eval = (
+  tt,
+  omega arith,
+  (
+    tt,
+    ready,
+    (tt, omega arith, (tt, ready, (tt, omega arith, (tt, eval, (tt, ready, (tt, omega arith, (tt, tt, tt))))))),
+  ),
+)
 
-pub used_front : (l : Layout) (os : List Output) (gs : List Segment) → l.ready < 65536 → check_at l os < 65536 → FitDefaults os → l.outputs + length os < 65536 → AreSegments gs
+pub used_front : (l : Layout) (os : List Output) (gs : List Segment) → l.ready < 65536 → check_at l os < 65536
+    → FitDefaults os → l.outputs + length os < 65536 → AreSegments gs
     → UsedCode (watched_front_over l os gs)
 used_front l os gs ready at fit room h =
     let r : Layout = record l { eval = check_at l os } in
-    used_append (frame_code r) (bad_code l os ++ check_code l os gs) (used_frame r ready at) (used_append (bad_code l os) (check_code l os gs) (used_bad l os fit room) (used_check l os gs h))
+    used_append (frame_code r) (bad_code l os ++ check_code l os gs) (used_frame r ready at)
+    (used_append (bad_code l os) (check_code l os gs) (used_bad l os fit room) (used_check l os gs h))
 
 -- defaults are bytes
 pub fit_defaults : NearestIsByte → (os : List Output) → All IsValidOutput os → FitDefaults os
 fit_defaults near [] v = tt
-fit_defaults near (o ∷ os) v = let w = v 0 o (omega arith) in (by_default o.default w.default_in, fit_defaults near os (λ k d lt. v (suc k) d (omega arith)))
+fit_defaults near (o ∷ os) v = let w = v 0 o (omega arith) in
+    (by_default o.default w.default_in, fit_defaults near os (λ k d lt. v (suc k) d (omega arith)))
   where
     by_default : (d : Option Dec) → IfSome d (IsWithin o.lo o.hi) → FitDefault (option_map (nearest_byte o) d)
     by_default None h = tt
@@ -153,7 +189,14 @@ called_framed l os gs h =
     let high = h.started.high in
     let bad = length-bad l os h.few in
     record {
-      started = record { low = h.started.low; high = h.started.high; wait = h.started.wait; ready = h.started.ready; apart = h.started.apart };
+      started = record {
+        low = h.started.low;
+        high = h.started.high;
+        wait = h.started.wait;
+        ready =
+            h.started.ready;
+        apart = h.started.apart;
+      };
       ready = h.ready;
       samples = h.samples;
       eval = omega arith;
@@ -165,14 +208,17 @@ pub record FrontBytes (m : List ℕ) (l : Layout) (os : List Output) (gs : List 
   pub bad : HasBytes m (bad_at l) (code_bytes (bad_code l os))
   pub check : HasBytes m (check_at l os) (code_bytes (check_code l os gs))
 
-pub front_bytes : (m : List ℕ) (l : Layout) (os : List Output) (gs : List Segment) → HasBytes m l.code (code_bytes (watched_front_over l os gs)) → FrontBytes m l os gs
+pub front_bytes : (m : List ℕ) (l : Layout) (os : List Output) (gs : List Segment)
+    → HasBytes m l.code (code_bytes (watched_front_over l os gs)) → FrontBytes m l os gs
 front_bytes m l os gs h =
     let a = frame_code (calls l os) in
     let b = bad_code l os in
     let c = check_code l os gs in
-    let split : code_bytes (watched_front_over l os gs) ≡ code_bytes a ++ (code_bytes b ++ code_bytes c) = bytes_append a (b ++ c) ∙ ap (λ (x : List ℕ). code_bytes a ++ x) (bytes_append b c) in
+    let split : code_bytes (watched_front_over l os gs) ≡ code_bytes a ++ (code_bytes b ++ code_bytes c) =
+    bytes_append a (b ++ c) ∙ ap (λ (x : List ℕ). code_bytes a ++ x) (bytes_append b c) in
     let all : HasBytes m l.code (code_bytes a ++ (code_bytes b ++ code_bytes c)) = subst (HasBytes m l.code) split h in
-    let later : HasBytes m (bad_at l) (code_bytes b ++ code_bytes c) = bytes_back m l.code (code_bytes a) (code_bytes b ++ code_bytes c) all in
+    let later : HasBytes m (bad_at l) (code_bytes b ++ code_bytes c) =
+    bytes_back m l.code (code_bytes a) (code_bytes b ++ code_bytes c) all in
     record {
       frame = bytes_front m l.code (code_bytes a) (code_bytes b ++ code_bytes c) all;
       bad = bytes_front m (bad_at l) (code_bytes b) (code_bytes c) later;
@@ -180,12 +226,15 @@ front_bytes m l os gs h =
     }
 
 -- the frame starts as any does
-pub start_bytes : (m : List ℕ) (l : Layout) (os : List Output) (gs : List Segment) → HasBytes m l.code (code_bytes (watched_front_over l os gs)) → HasBytes m l.code (code_bytes (start_code l))
+pub start_bytes : (m : List ℕ) (l : Layout) (os : List Output) (gs : List Segment)
+    → HasBytes m l.code (code_bytes (watched_front_over l os gs)) → HasBytes m l.code (code_bytes (start_code l))
 start_bytes m l os gs h =
-    let rest = LdaaExtended l.ready ∷ Beq 0xFB ∷ JsrExtended (check_at l os) ∷ ClrExtended l.ready ∷ Bra 0xF3 ∷ Rti ∷ [] in
+    let rest = LdaaExtended l.ready ∷ Beq 0xFB ∷ JsrExtended (check_at l os) ∷ ClrExtended l.ready ∷ Bra 0xF3
+    ∷ Rti ∷ [] in
     bytes_front m l.code (code_bytes (start_code l)) (code_bytes rest) (front_bytes m l os gs h).frame
 
-bad_found : (c : Setting) (os : List Output) (gs : List Segment) → IsWatchedLayout c.layout os gs → FitDefaults os → HasBytes c.image (bad_at c.layout) (code_bytes (bad_code c.layout os))
+bad_found : (c : Setting) (os : List Output) (gs : List Segment) → IsWatchedLayout c.layout os gs → FitDefaults os
+    → HasBytes c.image (bad_at c.layout) (code_bytes (bad_code c.layout os))
     → Stands c (bad_at c.layout) (bad_code c.layout os)
 bad_found c os gs h fit bytes =
     let l = c.layout in
@@ -197,10 +246,14 @@ bad_found c os gs h fit bytes =
     let size = length-code (bad_code l os) in
     let a1 = h.apart.outputs in
     let a2 = h.apart.slots in
-    stands_of c (bad_at l) (bad_code l os) (used_bad l os fit (omega arith)) bytes (omega arith) (omega arith) (omega arith)
+    stands_of c (bad_at l) (bad_code l os) (used_bad l os fit (omega arith)) bytes (omega arith) (omega arith)
+    (omega arith)
 
-check_found : (c : Setting) (os : List Output) (gs : List Segment) → IsWatchedLayout c.layout os gs → c.open_to fault_at ≡ false → IsShutAbove c → AreSegments gs → HasBytes c.image (check_at c.layout os) (code_bytes (check_code c.layout os gs))
-    → HasCheck c (check_at c.layout os) (bad_at c.layout) (check_byte (segment_bytes gs)) (2 ^ 8 - back_to_bad c.layout os gs) gs
+check_found : (c : Setting) (os : List Output) (gs : List Segment) → IsWatchedLayout c.layout os gs
+    → c.open_to fault_at ≡ false → IsShutAbove c → AreSegments gs
+    → HasBytes c.image (check_at c.layout os) (code_bytes (check_code c.layout os gs))
+    → HasCheck c (check_at c.layout os) (bad_at c.layout) (check_byte (segment_bytes gs))
+    (2 ^ 8 - back_to_bad c.layout os gs) gs
 check_found c os gs h shown above are bytes =
     let l = c.layout in
     let low = h.started.low in
@@ -212,7 +265,8 @@ check_found c os gs h shown above are bytes =
     let all = length-check l os gs in
     let size = length-code (check_code l os gs) in
     record {
-      code = stands_of c (check_at l os) (check_code l os gs) (used_check l os gs are) bytes (omega arith) (omega arith) (omega arith);
+      code = stands_of c (check_at l os) (check_code l os gs) (used_check l os gs are) bytes (omega arith) (omega arith)
+          (omega arith);
       segments = are;
       back = omega arith;
       to_fits = omega arith;
@@ -221,7 +275,9 @@ check_found c os gs h shown above are bytes =
       bad_is = omega arith;
     }
 
-pub has_front : FrameCallsAndLeaves → (c : Setting) (os : List Output) (gs : List Segment) → IsWatchedLayout c.layout os gs → c.open_to c.layout.ready ≡ false → c.open_to fault_at ≡ false → IsShutAbove c → FitDefaults os → AreSegments gs
+pub has_front : FrameCallsAndLeaves → (c : Setting) (os : List Output) (gs : List Segment)
+    → IsWatchedLayout c.layout os gs → c.open_to c.layout.ready ≡ false → c.open_to fault_at ≡ false → IsShutAbove c
+    → FitDefaults os → AreSegments gs
     → HasBytes c.image c.layout.code (code_bytes (watched_front_over c.layout os gs)) → HasFront c os gs
 has_front turns c os gs h ready shown above fit are bytes =
     let l = c.layout in

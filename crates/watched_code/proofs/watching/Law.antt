@@ -1,5 +1,7 @@
 -- The firmware of a block with watched tables answers every list of samples, with a byte of its tables changed in each.
-use Rattle.std.proofs.Common.{◌≡◌, ◌≢◌, inl, inr, ℕ, suc, ◌+◌, ◌-◌, ◌*◌, ◌%◌, ◌^◌, ◌<◌, ◌≤◌, Bool, true, false, List, [], ◌∷◌, length, All, get_or, set, refl, sym, ap, ◌∙◌, subst, arith, length-set, get_or-set_same, get_or-set_other}
+use Rattle.std.proofs.Common.{◌≡◌, ◌≢◌, inl, inr, ℕ, suc, ◌+◌, ◌-◌, ◌*◌, ◌%◌, ◌^◌, ◌<◌, ◌≤◌, Bool, true, false, List}
+use Rattle.std.proofs.Common.{[], ◌∷◌, length, All, get_or, set, refl, sym, ap, ◌∙◌, subst, arith, length-set}
+use Rattle.std.proofs.Common.{get_or-set_same, get_or-set_other}
 use Rattle.std.specs.Prelude.{◌==◌, not, Option, Some, None, if◌then◌else◌}
 use Rattle.std.proofs.lemmas.Bool.{cases_eq}
 use Rattle.std.proofs.lemmas.Bool.Decides.{nat_tests}
@@ -23,7 +25,8 @@ use Rattle.codegen.specs.Answers.{given}
 use Rattle.eval_code.specs.Evaluation.{put}
 use Rattle.watched_code.specs.WatchedCode.{segment_bytes, fault_at, watched_front_over, code_length}
 use Rattle.watched_code.specs.Checksums.{check_byte}
-use Rattle.watched_code.specs.Watched.{Change, changed, is_upset, Watched, default_of, watched_answer, watched_fault, upset_given, restored, IsWatchAnswered, AreWatchAnswered}
+use Rattle.watched_code.specs.Watched.{Change, changed, is_upset, Watched, default_of, watched_answer, watched_fault}
+use Rattle.watched_code.specs.Watched.{upset_given, restored, IsWatchAnswered, AreWatchAnswered}
 use Rattle.eval_code.specs.Code.{code_bytes}
 use Rattle.eval_code.proofs.Algebra.{SameHigh, bytes_set_out, bytes_after_set, bytes_put_out, has_put, length-put}
 use Rattle.codegen.proofs.Algebra.{given_live, interruptible_of, waits}
@@ -76,11 +79,13 @@ pub record Grounds (c : Setting) (b : Block) (gs : List Segment) (most : ℕ) : 
   pub routine : HasRoutine c.layout b Byte c.image
   pub stands : Stand c.image gs
 
-front_stays : (m : List ℕ) (p : ℕ) (bs : List ℕ) (change : Option Change) (c : Setting) (gs : List Segment) → MayChange c gs change → p + length bs ≤ 0xD000 → HasBytes m p bs → HasBytes (changed change m) p bs
+front_stays : (m : List ℕ) (p : ℕ) (bs : List ℕ) (change : Option Change) (c : Setting) (gs : List Segment)
+    → MayChange c gs change → p + length bs ≤ 0xD000 → HasBytes m p bs → HasBytes (changed change m) p bs
 front_stays m p bs None c gs x le h = h
 front_stays m p bs (Some x) c gs t le h = let low = t.low in bytes_set_out m x.0 x.1 p bs (inl (omega arith)) h
 
-watches : (c : Setting) (b : Block) (gs : List Segment) (most : ℕ) (change : Option Change) → Grounds c b gs most → MayChange c gs change → Watches (under c (changed change c.image)) b gs most
+watches : (c : Setting) (b : Block) (gs : List Segment) (most : ℕ) (change : Option Change) → Grounds c b gs most
+    → MayChange c gs change → Watches (under c (changed change c.image)) b gs most
 watches c b gs most change h x = record {
   apart = h.layout.apart;
   valid = h.valid;
@@ -91,27 +96,42 @@ watches c b gs most change h x = record {
   slots_from = h.slots_from;
   fault_shown = h.fault_shown;
   most_is = h.most_is;
-  front = has_front h.laws.turns (under c (changed change c.image)) b.outputs gs h.layout h.ready_shown h.fault_shown h.above h.defaults h.are
-      (front_stays c.image c.layout.code (code_bytes (watched_front_over c.layout b.outputs gs)) change c gs x h.front_end h.front);
+  front = has_front h.laws.turns (under c (changed change c.image)) b.outputs gs h.layout h.ready_shown h.fault_shown
+      h.above h.defaults h.are
+      (front_stays c.image c.layout.code (code_bytes (watched_front_over c.layout b.outputs gs)) change c gs x
+      h.front_end h.front);
 }
 
 -- ---- a byte of memory and image changed, and put back
 
 high_changed : (m n : List ℕ) (a v : ℕ) → a < length m → a < length n → SameHigh m n → SameHigh (set m a v) (set n a v)
 high_changed m n a v lm ln h at le = elim (cases_eq at a) [
-  | inl e ↦ ap (λ (k : ℕ). get_or (set n a v) k 0) e ∙ get_or-set_same n a v 0 ln ∙ sym (ap (λ (k : ℕ). get_or (set m a v) k 0) e ∙ get_or-set_same m a v 0 lm)
+  | inl e ↦ ap (λ (k : ℕ). get_or (set n a v) k 0) e ∙ get_or-set_same n a v 0 ln
+      ∙ sym (ap (λ (k : ℕ). get_or (set m a v) k 0) e ∙ get_or-set_same m a v 0 lm)
   | inr ne ↦ get_or-set_other n a at v 0 ne ∙ h at le ∙ sym (get_or-set_other m a at v 0 ne)
 ]
 
 high_restored : (m n : List ℕ) (a v : ℕ) → a < length n → SameHigh (set m a v) n → SameHigh m (set n a (get_or m a 0))
 high_restored m n a v ln h at le = elim (cases_eq at a) [
-  | inl e ↦ ap (λ (k : ℕ). get_or (set n a (get_or m a 0)) k 0) e ∙ get_or-set_same n a (get_or m a 0) 0 ln ∙ ap (λ (k : ℕ). get_or m k 0) (sym e)
+  | inl e ↦ ap (λ (k : ℕ). get_or (set n a (get_or m a 0)) k 0) e ∙ get_or-set_same n a (get_or m a 0) 0 ln
+      ∙ ap (λ (k : ℕ). get_or m k 0) (sym e)
   | inr ne ↦ get_or-set_other n a at (get_or m a 0) 0 ne ∙ h at le ∙ get_or-set_other m a at v 0 ne
 ]
 
-live_changed : (c : Setting) (gs : List Segment) (change : Option Change) (s : State) → length c.image ≡ 65536 → MayChange c gs change → Live c s
+live_changed : (c : Setting) (gs : List Segment) (change : Option Change) (s : State) → length c.image ≡ 65536
+    → MayChange c gs change → Live c s
     → Live (under c (changed change c.image)) (record s { mem = changed change s.mem })
-live_changed c gs None s size x l = record { temps = l.temps; size = l.size; bytes = l.bytes; fits = l.fits; stack = l.stack; mask = l.mask; same = l.same }
+live_changed c gs None s size x l =
+    record {
+      temps = l.temps;
+      size = l.size;
+      bytes = l.bytes;
+      fits = l.fits;
+      stack = l.stack;
+      mask =
+          l.mask;
+      same = l.same;
+    }
 live_changed c gs (Some x) s size t l =
     let high = t.high in
     let sized = l.size in
@@ -126,10 +146,21 @@ live_changed c gs (Some x) s size t l =
     }
 
 -- the machine waits again, with the image's byte
-home_restored : (c : Setting) (b : Block) (gs : List Segment) (change : Option Change) (answers : ℕ → ℕ) (s : State) → IsApart c.layout → length b.outputs ≤ 4 → c.layout.ready < 0x1800 → AreBytes c.image
-    → MayChange c gs change → Home (under c (changed change c.image)) b Byte answers s → Home c b Byte answers (restored c.image change s)
+home_restored : (c : Setting) (b : Block) (gs : List Segment) (change : Option Change) (answers : ℕ → ℕ) (s : State)
+    → IsApart c.layout → length b.outputs ≤ 4 → c.layout.ready < 0x1800 → AreBytes c.image
+    → MayChange c gs change → Home (under c (changed change c.image)) b Byte answers s
+    → Home c b Byte answers (restored c.image change s)
 home_restored c b gs None answers s a few low bytes x h = record {
-  live = record { temps = h.live.temps; size = h.live.size; bytes = h.live.bytes; fits = h.live.fits; stack = h.live.stack; mask = h.live.mask; same = h.live.same };
+  live = record {
+    temps = h.live.temps;
+    size = h.live.size;
+    bytes = h.live.bytes;
+    fits = h.live.fits;
+    stack =
+        h.live.stack;
+    mask = h.live.mask;
+    same = h.live.same;
+  };
   pc_is = h.pc_is;
   sp_is = h.sp_is;
   outs = h.outs;
@@ -154,16 +185,19 @@ home_restored c b gs (Some x) answers s a few low bytes t h =
       };
       pc_is = h.pc_is;
       sp_is = h.sp_is;
-      outs = λ o lo hi. bytes_set_out s.mem x.0 v (c.layout.outputs + 1 * (o - 1)) (answers o ∷ []) (inl (omega arith)) (h.outs o lo hi);
+      outs = λ o lo hi. bytes_set_out s.mem x.0 v (c.layout.outputs + 1 * (o - 1)) (answers o ∷ []) (inl (omega arith))
+          (h.outs o lo hi);
       ready_is = get_or-set_other s.mem x.0 c.layout.ready v 0 (λ e. omega arith) ∙ h.ready_is;
     }
 
 -- ---- a sample
 
-kept : (m : List ℕ) (p : ℕ) (bs : List ℕ) (change : Option Change) (c : Setting) (gs : List Segment) → MayChange c gs change → p + length bs ≤ 0x1800 → HasBytes m p bs → HasBytes (changed change m) p bs
+kept : (m : List ℕ) (p : ℕ) (bs : List ℕ) (change : Option Change) (c : Setting) (gs : List Segment)
+    → MayChange c gs change → p + length bs ≤ 0x1800 → HasBytes m p bs → HasBytes (changed change m) p bs
 kept m p bs change c gs x le h = front_stays m p bs change c gs x (omega arith) h
 
-is_given : (c : Setting) (b : Block) (gs : List Segment) (most : ℕ) (before : ℕ → ℕ) (x : Watched) (s : State) → Grounds c b gs most → AreInputBytes b x.bytes → MayChange c gs x.change
+is_given : (c : Setting) (b : Block) (gs : List Segment) (most : ℕ) (before : ℕ → ℕ) (x : Watched) (s : State)
+    → Grounds c b gs most → AreInputBytes b x.bytes → MayChange c gs x.change
     → Home c b Byte before s → IsGiven (under c (changed x.change c.image)) b x.bytes before (upset_given c.layout x s)
 is_given c b gs most before x s h i t home =
     let l = c.layout in
@@ -180,9 +214,11 @@ is_given c b gs most before x s h i t home =
     let lm : length m ≡ 65536 = length-put s.mem l.samples x.bytes ∙ home.live.size in
     let one : HasBytes (given l x.bytes s).mem l.ready (1 ∷ []) = (get_or-set_same m l.ready 1 0 (omega arith), tt) in
     let bytes : HasBytes (given l x.bytes s).mem l.inputs x.bytes =
-    bytes_set_out m l.ready 1 l.inputs x.bytes (inr (omega arith)) (subst (λ (p : ℕ). HasBytes m p x.bytes) at (has_put s.mem l.samples x.bytes (omega arith))) in
+    bytes_set_out m l.ready 1 l.inputs x.bytes (inr (omega arith))
+    (subst (λ (p : ℕ). HasBytes m p x.bytes) at (has_put s.mem l.samples x.bytes (omega arith))) in
     record {
-      live = live_changed c gs x.change (given l x.bytes s) h.size t (given_live c x.bytes s home.live i.fit (omega arith) (omega arith));
+      live = live_changed c gs x.change (given l x.bytes s) h.size t
+          (given_live c x.bytes s home.live i.fit (omega arith) (omega arith));
       pc_is = home.pc_is;
       sp_is = home.sp_is;
       ready_is = (kept (given l x.bytes s).mem l.ready (1 ∷ []) x.change c gs t (omega arith) one).0;
@@ -190,21 +226,27 @@ is_given c b gs most before x s h i t home =
       outputs = λ o lo hi.
           (let p = l.outputs + 1 * (o - 1) in
           kept (given l x.bytes s).mem p (before o ∷ []) x.change c gs t (omega arith)
-          (bytes_set_out m l.ready 1 p (before o ∷ []) (inr (omega arith)) (bytes_put_out s.mem l.samples x.bytes p (before o ∷ []) (inr (omega arith)) (home.outs o lo hi))));
+          (bytes_set_out m l.ready 1 p (before o ∷ []) (inr (omega arith))
+          (bytes_put_out s.mem l.samples x.bytes p (before o ∷ []) (inr (omega arith)) (home.outs o lo hi))));
     }
 
 -- where no byte is upset the image is the same
 unchanged : (m : List ℕ) (change : Option Change) → is_upset m change ≡ false → changed change m ≡ m
 unchanged m None e = refl
-unchanged m (Some x) e = let same : get_or m x.0 0 ≡ x.1 = grind (arith, nat_tests) in ap (set m x.0) (sym same) ∙ set-get_or m x.0 0
+unchanged m (Some x) e = let same : get_or m x.0 0 ≡ x.1 = grind (arith, nat_tests) in ap (set m x.0) (sym same)
+    ∙ set-get_or m x.0 0
 
 -- and else the sum is another
-upset_fails : (c : Setting) (gs : List Segment) (change : Option Change) → length c.image ≡ 65536 → AreBytes c.image → Stand c.image gs → Apart 0x2000 gs → MayChange c gs change
-    → is_upset c.image change ≡ true → ((sum_in (changed change c.image) gs + check_byte (segment_bytes gs)) % 2 ^ 8 == 0) ≡ false
+upset_fails : (c : Setting) (gs : List Segment) (change : Option Change) → length c.image ≡ 65536 → AreBytes c.image
+    → Stand c.image gs → Apart 0x2000 gs → MayChange c gs change
+    → is_upset c.image change ≡ true
+    → ((sum_in (changed change c.image) gs + check_byte (segment_bytes gs)) % 2 ^ 8 == 0) ≡ false
 upset_fails c gs None size bytes h apart t e = absurd (let bad : false ≡ true = e in cc)
 upset_fails c gs (Some x) size bytes h apart t e =
     let high = t.high in
-    let other : x.1 ≢ get_or c.image x.0 0 = λ q. (let same : (get_or c.image x.0 0 == x.1) ≡ true = grind (arith, nat_tests) in let bad : false ≡ true = ap not (sym same) ∙ e in cc) in
+    let other : x.1 ≢ get_or c.image x.0 0 =
+    λ q. (let same : (get_or c.image x.0 0 == x.1) ≡ true = grind (arith, nat_tests) in
+    let bad : false ≡ true = ap not (sym same) ∙ e in cc) in
     change_fails c.image x.0 x.1 0x2000 gs h apart t.within (omega arith) (bytes x.0) t.fits other
 
 -- what output o answers, and FAULT, by whether a byte is upset
@@ -214,29 +256,39 @@ answer_by t b bytes o before = if t then default_of (output_at b o) before else 
 abbrev fault_by : Bool → ℕ
 fault_by t = if t then 1 else 0
 
-sample_by : (c : Setting) (b : Block) (gs : List Segment) (most : ℕ) (before : ℕ → ℕ) (x : Watched) (s : State) → Grounds c b gs most → AreInputBytes b x.bytes → MayChange c gs x.change
+sample_by : (c : Setting) (b : Block) (gs : List Segment) (most : ℕ) (before : ℕ → ℕ) (x : Watched) (s : State)
+    → Grounds c b gs most → AreInputBytes b x.bytes → MayChange c gs x.change
     → IsGiven (under c (changed x.change c.image)) b x.bytes before s → (t : Bool) → is_upset c.image x.change ≡ t
     → WatchSampled (under c (changed x.change c.image)) b most (λ o. answer_by t b x.bytes o (before o)) (fault_by t) s
 sample_by c b gs most before x s h i m g true e =
     let u = under c (changed x.change c.image) in
     let same = sum_high u.image s.mem gs g.live.same h.are in
     answered_badly u b gs most x.bytes before s (watches c b gs most x.change h m) h.apart i g
-    (ap (λ (n : ℕ). (n + check_byte (segment_bytes gs)) % 2 ^ 8 == 0) same ∙ upset_fails c gs x.change h.size h.bytes h.stands h.apart m e)
+    (ap (λ (n : ℕ). (n + check_byte (segment_bytes gs)) % 2 ^ 8 == 0) same
+    ∙ upset_fails c gs x.change h.size h.bytes h.stands h.apart m e)
 sample_by c b gs most before x s h i m g false e =
     let u = under c (changed x.change c.image) in
     let back : c.image ≡ u.image = sym (unchanged c.image x.change e) in
     let same = sum_high u.image s.mem gs g.live.same h.are in
-    let fine : ((sum_in u.image gs + check_byte (segment_bytes gs)) % 2 ^ 8 == 0) ≡ true = stand_passes u.image gs (subst (λ (n : List ℕ). Stand n gs) back h.stands) in
-    answered_well u b gs most x.bytes before s (watches c b gs most x.change h m) h.apart (subst (HasRoutine c.layout b Byte) back h.routine) i g
+    let fine : ((sum_in u.image gs + check_byte (segment_bytes gs)) % 2 ^ 8 == 0) ≡ true =
+    stand_passes u.image gs (subst (λ (n : List ℕ). Stand n gs) back h.stands) in
+    answered_well u b gs most x.bytes before s (watches c b gs most x.change h m) h.apart
+    (subst (HasRoutine c.layout b Byte) back h.routine) i g
     (ap (λ (n : ℕ). (n + check_byte (segment_bytes gs)) % 2 ^ 8 == 0) same ∙ fine)
 
-sampled : (c : Setting) (b : Block) (gs : List Segment) (most : ℕ) (before : ℕ → ℕ) (x : Watched) (s : State) → Grounds c b gs most → AreInputBytes b x.bytes → MayChange c gs x.change
-    → Home c b Byte before s → WatchSampled (under c (changed x.change c.image)) b most (λ o. watched_answer b c.image x o (before o)) (watched_fault c.image x) (upset_given c.layout x s)
+sampled : (c : Setting) (b : Block) (gs : List Segment) (most : ℕ) (before : ℕ → ℕ) (x : Watched) (s : State)
+    → Grounds c b gs most → AreInputBytes b x.bytes → MayChange c gs x.change
+    → Home c b Byte before s
+    → WatchSampled (under c (changed x.change c.image)) b most (λ o. watched_answer b c.image x o (before o))
+    (watched_fault c.image x) (upset_given c.layout x s)
 sampled c b gs most before x s h i m home =
-    sample_by c b gs most before x (upset_given c.layout x s) h i m (is_given c b gs most before x s h i m home) (is_upset c.image x.change) refl
+    sample_by c b gs most before x (upset_given c.layout x s) h i m (is_given c b gs most before x s h i m home)
+    (is_upset c.image x.change) refl
 
-answered : (c : Setting) (b : Block) (gs : List Segment) (most : ℕ) (before : ℕ → ℕ) (x : Watched) (s : State) → Grounds c b gs most
-    → (r : WatchSampled (under c (changed x.change c.image)) b most (λ o. watched_answer b c.image x o (before o)) (watched_fault c.image x) (upset_given c.layout x s))
+answered : (c : Setting) (b : Block) (gs : List Segment) (most : ℕ) (before : ℕ → ℕ) (x : Watched) (s : State)
+    → Grounds c b gs most
+    → (r : WatchSampled (under c (changed x.change c.image)) b most (λ o. watched_answer b c.image x o (before o))
+    (watched_fault c.image x) (upset_given c.layout x s))
     → IsWatchAnswered c.layout b most c.image c.flags before x s r.t
 answered c b gs most before x s h r =
     let lo = h.layout.started.low in
@@ -245,9 +297,11 @@ answered c b gs most before x s h r =
     let ep = r.home.pc_is in
     record {
       ds = r.ds;
-      execution = subst (λ (o : ℕ → Bool). Execution (IsInterruptibleStep o c.layout (changed x.change c.image) c.flags) r.ds (upset_given c.layout x s) r.t) h.free r.execution;
+      execution = subst (λ (o : ℕ → Bool). Execution (IsInterruptibleStep o c.layout (changed x.change c.image) c.flags)
+          r.ds (upset_given c.layout x s) r.t) h.free r.execution;
       idle = waits c.layout r.t r.home.pc_is r.home.ready_is;
-      interruptible = subst (λ (o : ℕ → Bool). IsInterruptible o (changed x.change c.image) r.t) h.free (interruptible_of (under c (changed x.change c.image)) r.t r.home.live (omega arith) (omega arith));
+      interruptible = subst (λ (o : ℕ → Bool). IsInterruptible o (changed x.change c.image) r.t) h.free
+          (interruptible_of (under c (changed x.change c.image)) r.t r.home.live (omega arith) (omega arith));
       answers = r.home.outs;
       fault = r.fault_is;
       instructions = r.instructions;
@@ -258,7 +312,8 @@ answered c b gs most before x s h r =
 abbrev pub AreGood : Setting → Block → List Segment → List Watched → Type 0
 AreGood c b gs xs = All (λ x. AreInputBytes b x.bytes × MayChange c gs x.change) xs
 
-pub are_answered : (c : Setting) (b : Block) (gs : List Segment) (most : ℕ) (xs : List Watched) (before : ℕ → ℕ) (s : State) → Grounds c b gs most → Home c b Byte before s → AreGood c b gs xs
+pub are_answered : (c : Setting) (b : Block) (gs : List Segment) (most : ℕ) (xs : List Watched) (before : ℕ → ℕ)
+    (s : State) → Grounds c b gs most → Home c b Byte before s → AreGood c b gs xs
     → AreWatchAnswered c.layout b most c.image c.flags before xs s
 are_answered c b gs most [] before s h home all = tt
 are_answered c b gs most (x ∷ xs) before s h home all =
@@ -268,5 +323,12 @@ are_answered c b gs most (x ∷ xs) before s h home all =
     let a2 = h.layout.apart.outputs in
     let a3 = h.layout.apart.slots in
     let ready = h.layout.ready in
-    let next = home_restored c b gs x.change (λ o. watched_answer b c.image x o (before o)) r.t h.layout.apart h.valid.few_outputs (omega arith) h.bytes good.1 r.home in
-    (r.t, (answered c b gs most before x s h r, are_answered c b gs most xs (λ o. watched_answer b c.image x o (before o)) (restored c.image x.change r.t) h next (λ k d lt. all (suc k) d (omega arith))))
+    let next = home_restored c b gs x.change (λ o. watched_answer b c.image x o (before o)) r.t h.layout.apart
+    h.valid.few_outputs (omega arith) h.bytes good.1 r.home in (
+      r.t,
+      (
+        answered c b gs most before x s h r,
+        are_answered c b gs most xs (λ o. watched_answer b c.image x o (before o))
+            (restored c.image x.change r.t) h next (λ k d lt. all (suc k) d (omega arith)),
+      ),
+    )

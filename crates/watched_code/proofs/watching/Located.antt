@@ -1,5 +1,6 @@
 -- Where the bytes of an image lie from the tables on: in its segments.
-use Rattle.std.proofs.Common.{◌≡◌, ◌≢◌, ◌⊎◌, inl, inr, ℕ, ◌+◌, ◌<◌, ◌≤◌, List, [], ◌∷◌, ◌++◌, map, length, None, ap, ◌∙◌, arith, refl}
+use Rattle.std.proofs.Common.{◌≡◌, ◌≢◌, ◌⊎◌, inl, inr, ℕ, ◌+◌, ◌<◌, ◌≤◌, List, [], ◌∷◌, ◌++◌, map, length, None, ap}
+use Rattle.std.proofs.Common.{◌∙◌, arith, refl}
 use Rattle.std.proofs.lemmas.Bool.{cases_lt}
 use Rattle.fuzzy_meaning.specs.declared.block.Block.{Block}
 use Rattle.rule_layout.specs.declared.flat.Form.{Form}
@@ -23,14 +24,16 @@ use Rattle.eval_code.proofs.Algebra.{block_then, block_items-then, given_bytes, 
 use Rattle.watched_code.proofs.watching.Segments.{Within, In}
 
 -- not among bytes that are placed, so behind them
-passed_by : (q p : ℕ) (bs : List ℕ) (rest : List (ℕ × ℕ)) → byte_at (placed p bs) q ≡ None → byte_at (placed p bs ++ rest) q ≢ None → byte_at rest q ≢ None
+passed_by : (q p : ℕ) (bs : List ℕ) (rest : List (ℕ × ℕ)) → byte_at (placed p bs) q ≡ None
+    → byte_at (placed p bs ++ rest) q ≢ None → byte_at rest q ≢ None
 passed_by q p bs rest none h e = h (byte_at-append q (placed p bs) rest ∙ ap (λ o. or_else o (byte_at rest q)) none ∙ e)
 
 -- a byte of a part, or of those behind it
 found_in : (q p : ℕ) (bs : List ℕ) (rest : List Item) → byte_at (given_from p (map Byte bs ++ rest)) q ≢ None
     → ((p ≤ q) × (q < p + length bs)) ⊎ (byte_at (given_from (p + length bs) rest) q ≢ None)
 found_in q p bs rest h =
-    let g : byte_at (placed p bs ++ given_from (p + length bs) rest) q ≢ None = λ e. h (ap (λ (l : List (ℕ × ℕ)). byte_at l q) (given_bytes p bs rest) ∙ e) in
+    let g : byte_at (placed p bs ++ given_from (p + length bs) rest) q ≢ None =
+    λ e. h (ap (λ (l : List (ℕ × ℕ)). byte_at l q) (given_bytes p bs rest) ∙ e) in
     elim (cases_lt q p) [
       | inl below ↦ inr (passed_by q p bs (given_from (p + length bs) rest) (none_placed_below p q bs below) g)
       | inr from ↦ elim (cases_lt q (p + length bs)) [
@@ -40,34 +43,41 @@ found_in q p bs rest h =
     ]
 
 -- behind code
-past_code : (q p : ℕ) (code : List Instr) (rest : List Item) → p + length (code_bytes code) ≤ q → byte_at (given_from p (map Op code ++ rest)) q ≢ None
+past_code : (q p : ℕ) (code : List Instr) (rest : List Item) → p + length (code_bytes code) ≤ q
+    → byte_at (given_from p (map Op code ++ rest)) q ≢ None
     → byte_at (given_from (p + length (code_bytes code)) rest) q ≢ None
 past_code q p code rest le h =
-    passed_by q p (code_bytes code) (given_from (p + length (code_bytes code)) rest) (byte_at-placed p q (code_bytes code) le) (λ e. h (ap (λ (l : List (ℕ × ℕ)). byte_at l q) (given_code p code rest) ∙ e))
+    passed_by q p (code_bytes code) (given_from (p + length (code_bytes code)) rest)
+    (byte_at-placed p q (code_bytes code) le)
+    (λ e. h (ap (λ (l : List (ℕ × ℕ)). byte_at l q) (given_code p code rest) ∙ e))
 
 -- not below the vectors
 no_vector : (q at : ℕ) (l : Layout) → q < 0xFFF2 → byte_at (given_from at (vector_items l)) q ≢ None → ⊥
-no_vector q at l lt h = elim (found_in q 0xFFF2 (bytes_of_word l.interrupt) (bytes_at 0xFFFE (bytes_of_word l.code)) h) [
-  | inl i ↦ (let from = i.0 in omega arith)
-  | inr j ↦ elim (found_in q 0xFFFE (bytes_of_word l.code) [] j) [
-    | inl i ↦ (let from = i.0 in omega arith)
-    | inr none ↦ none refl
-  ]
-]
+no_vector q at l lt h =
+    elim (found_in q 0xFFF2 (bytes_of_word l.interrupt) (bytes_at 0xFFFE (bytes_of_word l.code)) h) [
+      | inl i ↦ (let from = i.0 in omega arith)
+      | inr j ↦ elim (found_in q 0xFFFE (bytes_of_word l.code) [] j) [
+        | inl i ↦ (let from = i.0 in omega arith)
+        | inr none ↦ none refl
+      ]
+    ]
 
 -- the segments behind the singletons
 abbrev later : Layout → Block → Form → List Segment
 later l b f = weight_segments l.weights f (weights_of b) ++ segment l.rules (rule_bytes l.slots b) ∷ []
 
-in_rules : (q : ℕ) (l : Layout) (b : Block) (f : Form) → Within q (segment l.rules (rule_bytes l.slots b)) → In q (later l b f)
+in_rules : (q : ℕ) (l : Layout) (b : Block) (f : Form) → Within q (segment l.rules (rule_bytes l.slots b))
+    → In q (later l b f)
 in_rules q l b form.Rev i = inl i
 in_rules q l b form.Revw i = inr (inl i)
 
-in_weights : (q : ℕ) (l : Layout) (b : Block) (f : Form) → l.weights ≤ q → q < l.weights + length (weight_bytes_by f (weights_of b)) → In q (later l b f)
+in_weights : (q : ℕ) (l : Layout) (b : Block) (f : Form) → l.weights ≤ q
+    → q < l.weights + length (weight_bytes_by f (weights_of b)) → In q (later l b f)
 in_weights q l b form.Rev lo hi = absurd (omega arith)
 in_weights q l b form.Revw lo hi = inl (lo, hi)
 
-pub located : (q : ℕ) (l : Layout) (b : Block) (w : Width) (before behind : List Instr) → l.code + length (code_bytes (block_code l b w before behind)) ≤ q → q < 0xFFF2
+pub located : (q : ℕ) (l : Layout) (b : Block) (w : Width) (before behind : List Instr)
+    → l.code + length (code_bytes (block_code l b w before behind)) ≤ q → q < 0xFFF2
     → byte_at (given_by (block_items l b w before behind ++ vector_items l)) q ≢ None → In q (segments_of l b)
 located q l b w before behind le lt h =
     let V = vector_items l in
@@ -76,7 +86,8 @@ located q l b w before behind le lt h =
     let S = bytes_at l.singletons (singleton_bytes b) ++ W in
     let T = bytes_at l.tables (table_bytes b) ++ S in
     let code = block_code l b w before behind in
-    let all : byte_at (given_by (block_then l b w before behind V)) q ≢ None = λ e. h (ap (λ (xs : List Item). byte_at (given_by xs) q) (block_items-then l b w before behind V) ∙ e) in
+    let all : byte_at (given_by (block_then l b w before behind V)) q ≢ None =
+    λ e. h (ap (λ (xs : List Item). byte_at (given_by xs) q) (block_items-then l b w before behind V) ∙ e) in
     let behind_code = past_code q l.code code T le all in
     elim (found_in q l.tables (table_bytes b) S behind_code) [
       | inl i ↦ inl i

@@ -1,5 +1,7 @@
 -- A sample of a firmware with watched tables, from where the code waits back to there.
-use Rattle.std.proofs.Common.{◌≡◌, inl, inr, ℕ, ◌+◌, ◌-◌, ◌*◌, ◌/◌, ◌%◌, ◌^◌, ◌<◌, ◌≤◌, true, false, List, [], ◌∷◌, ◌++◌, length, set, get_or, sum_by, refl, sym, ap, ap₂, ◌∙◌, subst, arith, length-set, get_or-set_same, get_or-set_other}
+use Rattle.std.proofs.Common.{◌≡◌, inl, inr, ℕ, ◌+◌, ◌-◌, ◌*◌, ◌/◌, ◌%◌, ◌^◌, ◌<◌, ◌≤◌, true, false, List, [], ◌∷◌}
+use Rattle.std.proofs.Common.{◌++◌, length, set, get_or, sum_by, refl, sym, ap, ap₂, ◌∙◌, subst, arith, length-set}
+use Rattle.std.proofs.Common.{get_or-set_same, get_or-set_other}
 use Rattle.std.specs.Prelude.{◌==◌, Option, Some, None}
 use Rattle.std.proofs.lemmas.List.Sums.{sum_by-cons}
 use Rattle.fz_num.specs.declared.dec.Dec.{Dec}
@@ -45,7 +47,15 @@ calling c at = record {
   stays_fit = c.stays_fit;
   open_to = c.open_to;
   layout = calls_at c.layout at;
-  shut = record { reads = c.shut.reads; writes = c.shut.writes; stack = c.shut.stack; code = c.shut.code; low = c.shut.low; high = c.shut.high };
+  shut = record {
+    reads = c.shut.reads;
+    writes = c.shut.writes;
+    stack = c.shut.stack;
+    code = c.shut.code;
+    low =
+        c.shut.low;
+    high = c.shut.high;
+  };
   image = c.image;
   flags = c.flags;
   fits = c.fits;
@@ -54,20 +64,24 @@ calling c at = record {
 abbrev Step : Setting → ℕ → State → State → Type 0
 Step c = IsInterruptibleStep c.open_to c.layout c.image c.flags
 
-as_rules : (c : Setting) (at : ℕ) (i : Instr) (f : Form) (d : ℕ) (p : Rule) (ps : List Rule) (s t : State) → IsShownRules c.open_to (calling c at).layout i f c.flags d p ps s t
+as_rules : (c : Setting) (at : ℕ) (i : Instr) (f : Form) (d : ℕ) (p : Rule) (ps : List Rule) (s t : State)
+    → IsShownRules c.open_to (calling c at).layout i f c.flags d p ps s t
     → IsShownRules c.open_to c.layout i f c.flags d p ps s t
-as_rules c at i f d p ps s t h = record { step = h.step; reads = h.reads; writes = h.writes; below = h.below; itself = h.itself; away = h.away }
+as_rules c at i f d p ps s t h =
+    record { step = h.step; reads = h.reads; writes = h.writes; below = h.below; itself = h.itself; away = h.away }
 
 as_step : (c : Setting) (at d : ℕ) (s t : State) → Step (calling c at) d s t → Step c d s t
 as_step c at d s t h = record { busy = h.busy; interruptible = h.interruptible; instruction = same h.instruction }
   where
-    same : IsShownInstruction c.open_to (calling c at).layout c.flags d s t → IsShownInstruction c.open_to c.layout c.flags d s t
+    same : IsShownInstruction c.open_to (calling c at).layout c.flags d s t
+        → IsShownInstruction c.open_to c.layout c.flags d s t
     same (inl p) = inl p
     same (inr (inl q)) = inr (inl (q.0, q.1, as_rules c at _ _ d q.0 q.1 s t q.2))
     same (inr (inr (inl q))) = inr (inr (inl (q.0, q.1, as_rules c at _ _ d q.0 q.1 s t q.2)))
     same (inr (inr (inr q))) = inr (inr (inr (record { step = q.step; some = q.some; reads = q.reads; away = q.away })))
 
-as_execution : (c : Setting) (at : ℕ) (ds : List ℕ) (s t : State) → Execution (Step (calling c at)) ds s t → Execution (Step c) ds s t
+as_execution : (c : Setting) (at : ℕ) (ds : List ℕ) (s t : State) → Execution (Step (calling c at)) ds s t
+    → Execution (Step c) ds s t
 as_execution c at [] s t e = e
 as_execution c at (d ∷ ds) s t e = (e.0, (as_step c at d s e.0 e.1.0, as_execution c at ds e.0 t e.1.1))
 
@@ -111,7 +125,8 @@ bound_some b v = by_outputs b.outputs v.some_output refl
     by_outputs (o ∷ os) some e =
         let first : 9 ≤ output_bound Byte o = least o in
         let all = sum_by-cons (output_bound Byte) o os in
-        let same : sum_by (output_bound Byte) b.outputs ≡ sum_by (output_bound Byte) (o ∷ os) = ap (sum_by (output_bound Byte)) e in
+        let same : sum_by (output_bound Byte) b.outputs ≡ sum_by (output_bound Byte) (o ∷ os) =
+        ap (sum_by (output_bound Byte)) e in
         omega arith
 
 pub steps_more : (b : Block) (n e : ℕ) → 1 + length b.outputs ≤ n → steps_by b (n + e) ≡ steps_by b n + e
@@ -146,8 +161,10 @@ record Ended (c : Setting) (b : Block) (most back : ℕ) (answers : ℕ → ℕ)
 
 -- ---- the tables are what they were: EVAL
 
-eval_called : (c : Setting) (b : Block) (gs : List Segment) (most at back n : ℕ) (bytes : List ℕ) (before : ℕ → ℕ) (s : State) → Watches c b gs most → IsInCode c.layout → AreInputBytes b bytes
-    → AtCheck c b at back bytes before s → (r : Leads c n s c.layout.eval (set s.mem fault_at 0)) → IsCalled c.open_to c.layout b Byte c.image back bytes before r.t
+eval_called : (c : Setting) (b : Block) (gs : List Segment) (most at back n : ℕ) (bytes : List ℕ) (before : ℕ → ℕ)
+    (s : State) → Watches c b gs most → IsInCode c.layout → AreInputBytes b bytes
+    → AtCheck c b at back bytes before s → (r : Leads c n s c.layout.eval (set s.mem fault_at 0))
+    → IsCalled c.open_to c.layout b Byte c.image back bytes before r.t
 eval_called c b gs most at back n bytes before s h inside i k r =
     let l = c.layout in
     let from = inside.from in
@@ -160,19 +177,25 @@ eval_called c b gs most at back n bytes before s h inside i k r =
     let low = h.apart.eval in
     let high = h.apart.eval_end in
     let size = k.live.size in
-    let e0 : get_or (set s.mem fault_at 0) 0x1FFE 0 ≡ get_or s.mem 0x1FFE 0 = get_or-set_other s.mem fault_at 0x1FFE 0 0 (λ q. omega arith) in
-    let e1 : get_or (set s.mem fault_at 0) 0x1FFF 0 ≡ get_or s.mem 0x1FFF 0 = get_or-set_other s.mem fault_at 0x1FFF 0 0 (λ q. omega arith) in
+    let e0 : get_or (set s.mem fault_at 0) 0x1FFE 0 ≡ get_or s.mem 0x1FFE 0 =
+    get_or-set_other s.mem fault_at 0x1FFE 0 0 (λ q. omega arith) in
+    let e1 : get_or (set s.mem fault_at 0) 0x1FFF 0 ≡ get_or s.mem 0x1FFF 0 =
+    get_or-set_other s.mem fault_at 0x1FFF 0 0 (λ q. omega arith) in
     record {
       interruptible = interruptible_of c r.t r.live (omega (arith, r.pc_is)) (omega (arith, r.pc_is));
       pc = r.pc_is;
       sp = r.sp_is ∙ k.sp_is;
-      back_is = ap (λ (m : List ℕ). get_or m 0x1FFE 0 * 2 ^ 8 + get_or m 0x1FFF 0) r.mem_is ∙ ap₂ (λ (x y : ℕ). x * 2 ^ 8 + y) e0 e1 ∙ k.back_is;
-      inputs = subst (λ (m : List ℕ). HasBytes m l.inputs bytes) (sym r.mem_is) (bytes_set_out s.mem fault_at 0 l.inputs bytes (inl (omega arith)) k.inputs);
+      back_is = ap (λ (m : List ℕ). get_or m 0x1FFE 0 * 2 ^ 8 + get_or m 0x1FFF 0) r.mem_is
+          ∙ ap₂ (λ (x y : ℕ). x * 2 ^ 8 + y) e0 e1 ∙ k.back_is;
+      inputs = subst (λ (m : List ℕ). HasBytes m l.inputs bytes) (sym r.mem_is)
+          (bytes_set_out s.mem fault_at 0 l.inputs bytes (inl (omega arith)) k.inputs);
       outputs = λ o lo hi. subst (λ (m : List ℕ). HasBytes m (l.outputs + 1 * (o - 1)) (before o ∷ [])) (sym r.mem_is)
-          (bytes_set_out s.mem fault_at 0 (l.outputs + 1 * (o - 1)) (before o ∷ []) (inl (omega arith)) (k.outputs o lo hi));
+          (bytes_set_out s.mem fault_at 0 (l.outputs + 1 * (o - 1)) (before o ∷ []) (inl (omega arith))
+          (k.outputs o lo hi));
     }
 
-evaluated_by : (c : Setting) (b : Block) (gs : List Segment) (most back : ℕ) (bytes : List ℕ) (before : ℕ → ℕ) (s : State) → Watches c b gs most → length s.mem ≡ 65536
+evaluated_by : (c : Setting) (b : Block) (gs : List Segment) (most back : ℕ) (bytes : List ℕ) (before : ℕ → ℕ)
+    (s : State) → Watches c b gs most → length s.mem ≡ 65536
     → (r : Leads c (4 + count_in gs) s c.layout.eval (set s.mem fault_at 0)) → Back c b Byte back bytes before r.t
     → Ended c b most back (λ o. answer Byte b o bytes (before o)) 0 s
 evaluated_by c b gs most back bytes before s h size r e =
@@ -183,7 +206,8 @@ evaluated_by c b gs most back bytes before s h size r e =
     let total = h.most_is in
     let least = bound_some b h.valid in
     let more = steps_more b (instruction_bound Byte b) (4 + count_in gs) (omega arith) in
-    let at_most : steps_by b most ≡ steps_by b (instruction_bound Byte b + (4 + count_in gs)) = ap (steps_by b) (omega arith) in
+    let at_most : steps_by b most ≡ steps_by b (instruction_bound Byte b + (4 + count_in gs)) =
+    ap (steps_by b) (omega arith) in
     record {
       t = e.t;
       ds = ds;
@@ -192,13 +216,16 @@ evaluated_by c b gs most back bytes before s h size r e =
       pc_is = e.pc_is;
       sp_is = e.sp_is;
       answers_are = e.answers;
-      fault_is = e.elsewhere fault_at (inr a1) (inl a2) ∙ ap (λ (m : List ℕ). get_or m fault_at 0) r.mem_is ∙ get_or-set_same s.mem fault_at 0 0 (omega arith);
+      fault_is = e.elsewhere fault_at (inr a1) (inl a2) ∙ ap (λ (m : List ℕ). get_or m fault_at 0) r.mem_is
+          ∙ get_or-set_same s.mem fault_at 0 0 (omega arith);
       instructions = omega (arith, length_append r.goes.ds e.ds, r.goes.count, e.instructions);
       steps = omega (arith, steps_append r.goes.ds e.ds, r.goes.parts, e.steps);
     }
 
-ended_well : (c : Setting) (b : Block) (gs : List Segment) (most back : ℕ) (bytes : List ℕ) (before : ℕ → ℕ) (s : State) → (h : Watches c b gs most) → HasRoutine c.layout b Byte c.image
-    → AreInputBytes b bytes → AtCheck c b h.front.at back bytes before s → ((sum_in s.mem gs + check_byte (segment_bytes gs)) % 2 ^ 8 == 0) ≡ true
+ended_well : (c : Setting) (b : Block) (gs : List Segment) (most back : ℕ) (bytes : List ℕ) (before : ℕ → ℕ) (s : State)
+    → (h : Watches c b gs most) → HasRoutine c.layout b Byte c.image
+    → AreInputBytes b bytes → AtCheck c b h.front.at back bytes before s
+    → ((sum_in s.mem gs + check_byte (segment_bytes gs)) % 2 ^ 8 == 0) ≡ true
     → Ended c b most back (λ o. answer Byte b o bytes (before o)) 0 s
 ended_well c b gs most back bytes before s h routine i k fine =
     let f = h.front in
@@ -206,34 +233,55 @@ ended_well c b gs most back bytes before s h routine i k fine =
     let r : Leads c (4 + count_in gs) s c.layout.eval (set s.mem fault_at 0) =
     record { t = p.t; goes = p.goes; live = p.live; pc_is = p.pc_is ∙ f.behind; sp_is = p.sp_is; mem_is = p.mem_is } in
     evaluated_by c b gs most back bytes before s h k.live.size r
-    (h.laws.called c b Byte back bytes before r.t h.apart h.valid h.limits routine i (eval_called c b gs most f.at back (4 + count_in gs) bytes before s h routine.inside i k r))
+    (h.laws.called c b Byte back bytes before r.t h.apart h.valid h.limits routine i
+    (eval_called c b gs most f.at back (4 + count_in gs) bytes before s h routine.inside i k r))
 
 -- ---- they are not: BAD
 
 -- before the defaults
-marked : InstructionGoesOn → (c : Setting) (s : State) (bad : ℕ) (rest : List Instr) → c.open_to fault_at ≡ false → Live c s → s.regs.pc ≡ bad → Stands c bad (LdabImmediate 1 ∷ StabExtended fault_at ∷ rest)
+marked : InstructionGoesOn → (c : Setting) (s : State) (bad : ℕ) (rest : List Instr) → c.open_to fault_at ≡ false
+    → Live c s → s.regs.pc ≡ bad → Stands c bad (LdabImmediate 1 ∷ StabExtended fault_at ∷ rest)
     → Stored c 2 s (set s.mem fault_at 1) rest
 marked go c s bad rest shown l ep h =
     let u = after_plain c.flags (LdabImmediate 1) s in
     let v = after_plain c.flags (StabExtended fault_at) u in
     let n = ldab go c s bad 1 l ep h.0 in
     let k = stab go c u (bad + 2) fault_at n.live n.pc_is h.1.0 (omega arith) shown in
-    record { t = v; goes = goes_on c 1 0 1 0 s u v (goes_one c s u (bad + 2) n) (goes_one c u v (bad + 2 + 3) k); live = k.live; at = bad + 2 + 3; pc_is = k.pc_is; sp_is = refl; mem_is = refl; behind = h.1.1 }
+    record {
+      t = v;
+      goes = goes_on c 1 0 1 0 s u v (goes_one c s u (bad + 2) n) (goes_one c u v (bad + 2 + 3) k);
+      live =
+          k.live;
+      at = bad + 2 + 3;
+      pc_is = k.pc_is;
+      sp_is = refl;
+      mem_is = refl;
+      behind = h.1.1;
+    }
 
 -- what memory holds behind them
-defaults_stand : (l : Layout) (b : Block) (before : ℕ → ℕ) (m : List ℕ) → length b.outputs ≤ 4 → l.outputs + 8 ≤ fault_at → length m ≡ 65536 → HasAnswers l b Byte before m
-    → HasAnswers l b Byte (λ o. default_of (output_at b o) (before o)) (all_defaulted (set m fault_at 1) l.outputs b.outputs)
+defaults_stand : (l : Layout) (b : Block) (before : ℕ → ℕ) (m : List ℕ) → length b.outputs ≤ 4
+    → l.outputs + 8 ≤ fault_at → length m ≡ 65536 → HasAnswers l b Byte before m
+    → HasAnswers l b Byte (λ o. default_of (output_at b o) (before o))
+    (all_defaulted (set m fault_at 1) l.outputs b.outputs)
 defaults_stand l b before m few end size h o lo hi =
     let n = set m fault_at 1 in
     let at = l.outputs + 1 * (o - 1) in
     let e : at ≡ l.outputs + (o - 1) = omega arith in
     let sized = length-set m fault_at 1 in
     let was : get_or n (l.outputs + (o - 1)) 0 ≡ before o =
-    get_or-set_other m fault_at (l.outputs + (o - 1)) 1 0 (λ q. omega arith) ∙ ap (λ (k : ℕ). get_or m k 0) (sym e) ∙ (h o lo hi).0 in
-    (ap (λ (k : ℕ). get_or (all_defaulted n l.outputs b.outputs) k 0) e ∙ default_there n l.outputs b.outputs (o - 1) (omega arith) (omega arith) ∙ ap (default_of (output_at b o)) was, tt)
+    get_or-set_other m fault_at (l.outputs + (o - 1)) 1 0 (λ q. omega arith) ∙ ap (λ (k : ℕ). get_or m k 0) (sym e)
+    ∙ (h o lo hi).0 in (
+      ap (λ (k : ℕ). get_or (all_defaulted n l.outputs b.outputs) k 0) e
+          ∙ default_there n l.outputs b.outputs (o - 1) (omega arith) (omega arith)
+          ∙ ap (default_of (output_at b o)) was,
+      tt,
+    )
 
-defaulted_by : (c : Setting) (b : Block) (gs : List Segment) (most at back : ℕ) (bytes : List ℕ) (before : ℕ → ℕ) (s : State) → Watches c b gs most → AtCheck c b at back bytes before s
-    → (bad : ℕ) → (r : Leads c (3 + count_in gs) s bad s.mem) → (m : Stored c 2 r.t (set r.t.mem fault_at 1) (defaults_code c.layout.outputs b.outputs ++ Rts ∷ []))
+defaulted_by : (c : Setting) (b : Block) (gs : List Segment) (most at back : ℕ) (bytes : List ℕ) (before : ℕ → ℕ)
+    (s : State) → Watches c b gs most → AtCheck c b at back bytes before s
+    → (bad : ℕ) → (r : Leads c (3 + count_in gs) s bad s.mem)
+    → (m : Stored c 2 r.t (set r.t.mem fault_at 1) (defaults_code c.layout.outputs b.outputs ++ Rts ∷ []))
     → Stored c (2 * length b.outputs) m.t (all_defaulted m.t.mem c.layout.outputs b.outputs) (Rts ∷ [])
     → Ended c b most back (λ o. default_of (output_at b o) (before o)) 1 s
 defaulted_by c b gs most at back bytes before s h k bad r m d =
@@ -243,15 +291,21 @@ defaulted_by c b gs most at back bytes before s h k bad r m d =
     let a1 = h.outputs_end in
     let size = k.live.size in
     let mem : d.t.mem ≡ all_defaulted (set s.mem fault_at 1) l.outputs os =
-    d.mem_is ∙ ap (λ (x : List ℕ). all_defaulted x l.outputs os) (m.mem_is ∙ ap (λ (x : List ℕ). set x fault_at 1) r.mem_is) in
+    d.mem_is ∙ ap (λ (x : List ℕ). all_defaulted x l.outputs os)
+    (m.mem_is ∙ ap (λ (x : List ℕ). set x fault_at 1) r.mem_is) in
     let far : (q : ℕ) → fault_at < q → get_or d.t.mem q 0 ≡ get_or s.mem q 0 =
-    λ q lt. ap (λ (x : List ℕ). get_or x q 0) mem ∙ default_else (set s.mem fault_at 1) l.outputs os q (inr (omega arith)) ∙ get_or-set_other s.mem fault_at q 1 0 (λ e. omega arith) in
+    λ q lt. ap (λ (x : List ℕ). get_or x q 0) mem
+    ∙ default_else (set s.mem fault_at 1) l.outputs os q (inr (omega arith))
+    ∙ get_or-set_other s.mem fault_at q 1 0 (λ e. omega arith) in
     let sp : d.t.regs.sp ≡ 0x1FFE = d.sp_is ∙ m.sp_is ∙ r.sp_is ∙ k.sp_is in
-    let word : get_or d.t.mem 0x1FFE 0 * 2 ^ 8 + get_or d.t.mem 0x1FFF 0 ≡ back = ap₂ (λ (x y : ℕ). x * 2 ^ 8 + y) (far 0x1FFE (omega arith)) (far 0x1FFF (omega arith)) ∙ k.back_is in
+    let word : get_or d.t.mem 0x1FFE 0 * 2 ^ 8 + get_or d.t.mem 0x1FFF 0 ≡ back =
+    ap₂ (λ (x y : ℕ). x * 2 ^ 8 + y) (far 0x1FFE (omega arith)) (far 0x1FFF (omega arith)) ∙ k.back_is in
     let n = h.laws.returns c d.t d.at back d.live d.pc_is d.behind.0 sp word in
     let u = after_plain c.flags Rts d.t in
     let goes : Goes c (3 + count_in gs + (2 + (2 * length os + 1))) 0 s u =
-    goes_on c (3 + count_in gs) 0 (2 + (2 * length os + 1)) 0 s r.t u r.goes (goes_on c 2 0 (2 * length os + 1) 0 r.t m.t u m.goes (goes_on c (2 * length os) 0 1 0 m.t d.t u d.goes (goes_one c d.t u back n))) in
+    goes_on c (3 + count_in gs) 0 (2 + (2 * length os + 1)) 0 s r.t u r.goes
+    (goes_on c 2 0 (2 * length os + 1) 0 r.t m.t u m.goes
+    (goes_on c (2 * length os) 0 1 0 m.t d.t u d.goes (goes_one c d.t u back n))) in
     let total = h.most_is in
     let least = bound_some b h.valid in
     let steps = steps_least b most in
@@ -262,14 +316,19 @@ defaulted_by c b gs most at back bytes before s h k bad r m d =
       live = n.live;
       pc_is = n.pc_is;
       sp_is = (let q : (d.t.regs.sp + 2) % 2 ^ 16 ≡ 0x2000 = omega arith in q);
-      answers_are = subst (HasAnswers l b Byte (λ o. default_of (output_at b o) (before o))) (sym mem) (defaults_stand l b before s.mem few a1 size k.outputs);
-      fault_is = ap (λ (x : List ℕ). get_or x fault_at 0) mem ∙ default_else (set s.mem fault_at 1) l.outputs os fault_at (inr (omega arith)) ∙ get_or-set_same s.mem fault_at 1 0 (omega arith);
+      answers_are = subst (HasAnswers l b Byte (λ o. default_of (output_at b o) (before o))) (sym mem)
+          (defaults_stand l b before s.mem few a1 size k.outputs);
+      fault_is = ap (λ (x : List ℕ). get_or x fault_at 0) mem
+          ∙ default_else (set s.mem fault_at 1) l.outputs os fault_at (inr (omega arith))
+          ∙ get_or-set_same s.mem fault_at 1 0 (omega arith);
       instructions = omega (arith, goes.count);
       steps = omega (arith, goes.parts);
     }
 
-ended_badly : (c : Setting) (b : Block) (gs : List Segment) (most back : ℕ) (bytes : List ℕ) (before : ℕ → ℕ) (s : State) → (h : Watches c b gs most)
-    → AtCheck c b h.front.at back bytes before s → ((sum_in s.mem gs + check_byte (segment_bytes gs)) % 2 ^ 8 == 0) ≡ false
+ended_badly : (c : Setting) (b : Block) (gs : List Segment) (most back : ℕ) (bytes : List ℕ) (before : ℕ → ℕ)
+    (s : State) → (h : Watches c b gs most)
+    → AtCheck c b h.front.at back bytes before s
+    → ((sum_in s.mem gs + check_byte (segment_bytes gs)) % 2 ^ 8 == 0) ≡ false
     → Ended c b most back (λ o. default_of (output_at b o) (before o)) 1 s
 ended_badly c b gs most back bytes before s h k wrong =
     let f = h.front in
@@ -277,8 +336,11 @@ ended_badly c b gs most back bytes before s h k wrong =
     let few = h.valid.few_outputs in
     let a1 = h.outputs_end in
     let r = failed h.laws.plain c s f.at f.bad (check_byte (segment_bytes gs)) f.to gs f.check k.live k.pc_is wrong in
-    let m = marked h.laws.plain c r.t f.bad (defaults_code l.outputs b.outputs ++ Rts ∷ []) h.fault_shown r.live r.pc_is f.bad_stands in
-    defaulted_by c b gs most f.at back bytes before s h k f.bad r m (defaults_run h.laws.plain c m.t m.at l.outputs b.outputs (Rts ∷ []) m.live m.pc_is m.behind (omega arith) (λ q lo hi. c.shut.writes q (inl (lo, omega arith))))
+    let m = marked h.laws.plain c r.t f.bad (defaults_code l.outputs b.outputs ++ Rts ∷ []) h.fault_shown r.live r.pc_is
+    f.bad_stands in
+    defaulted_by c b gs most f.at back bytes before s h k f.bad r m
+    (defaults_run h.laws.plain c m.t m.at l.outputs b.outputs (Rts ∷ []) m.live m.pc_is m.behind (omega arith)
+    (λ q lo hi. c.shut.writes q (inl (lo, omega arith))))
 
 -- ---- around both
 
@@ -292,12 +354,16 @@ pub record WatchSampled (c : Setting) (b : Block) (most : ℕ) (answers : ℕ �
   pub instructions : length ds ≤ most
   pub steps : all_steps ds ≤ steps_by b most
 
-pushed_bytes : (m : List ℕ) (r p : ℕ) (bs : List ℕ) → p + length bs ≤ 0x1FFE → HasBytes m p bs → HasBytes (set (set m 0x1FFE (r / 2 ^ 8)) 0x1FFF (r % 2 ^ 8)) p bs
+pushed_bytes : (m : List ℕ) (r p : ℕ) (bs : List ℕ) → p + length bs ≤ 0x1FFE → HasBytes m p bs
+    → HasBytes (set (set m 0x1FFE (r / 2 ^ 8)) 0x1FFF (r % 2 ^ 8)) p bs
 pushed_bytes m r p bs le h =
-    bytes_set_out (set m 0x1FFE (r / 2 ^ 8)) 0x1FFF (r % 2 ^ 8) p bs (inl (omega arith)) (bytes_set_out m 0x1FFE (r / 2 ^ 8) p bs (inl (omega arith)) h)
+    bytes_set_out (set m 0x1FFE (r / 2 ^ 8)) 0x1FFF (r % 2 ^ 8) p bs (inl (omega arith))
+    (bytes_set_out m 0x1FFE (r / 2 ^ 8) p bs (inl (omega arith)) h)
 
-at_check : (c : Setting) (b : Block) (gs : List Segment) (most : ℕ) (bytes : List ℕ) (before : ℕ → ℕ) (s : State) → (h : Watches c b gs most) → AreInputBytes b bytes → Live c s
-    → HasBytes s.mem c.layout.inputs bytes → HasAnswers c.layout b Byte before s.mem → (r : Called (calling c h.front.at) s)
+at_check : (c : Setting) (b : Block) (gs : List Segment) (most : ℕ) (bytes : List ℕ) (before : ℕ → ℕ) (s : State)
+    → (h : Watches c b gs most) → AreInputBytes b bytes → Live c s
+    → HasBytes s.mem c.layout.inputs bytes → HasAnswers c.layout b Byte before s.mem
+    → (r : Called (calling c h.front.at) s)
     → AtCheck c b h.front.at (c.layout.wait + 8) bytes before r.t
 at_check c b gs most bytes before s h i l hi ho r =
     let ret = c.layout.wait + 8 in
@@ -310,14 +376,19 @@ at_check c b gs most bytes before s h i l hi ho r =
       live = r.live;
       pc_is = r.pc_is;
       sp_is = r.sp_is;
-      back_is = ap (λ (x : List ℕ). get_or x 0x1FFE 0 * 2 ^ 8 + get_or x 0x1FFF 0) r.mem_is ∙ pushed_word s.mem ret l.size;
-      inputs = subst (λ (m : List ℕ). HasBytes m c.layout.inputs bytes) (sym r.mem_is) (pushed_bytes s.mem ret c.layout.inputs bytes (omega arith) hi);
-      outputs = λ o lo le. subst (λ (m : List ℕ). HasBytes m (c.layout.outputs + 1 * (o - 1)) (before o ∷ [])) (sym r.mem_is)
+      back_is = ap (λ (x : List ℕ). get_or x 0x1FFE 0 * 2 ^ 8 + get_or x 0x1FFF 0) r.mem_is
+          ∙ pushed_word s.mem ret l.size;
+      inputs = subst (λ (m : List ℕ). HasBytes m c.layout.inputs bytes) (sym r.mem_is)
+          (pushed_bytes s.mem ret c.layout.inputs bytes (omega arith) hi);
+      outputs = λ o lo le. subst (λ (m : List ℕ). HasBytes m (c.layout.outputs + 1 * (o - 1)) (before o ∷ []))
+          (sym r.mem_is)
           (pushed_bytes s.mem ret (c.layout.outputs + 1 * (o - 1)) (before o ∷ []) (omega arith) (ho o lo le));
     }
 
-returned : (c : Setting) (b : Block) (gs : List Segment) (most : ℕ) (answers : ℕ → ℕ) (fault : ℕ) (s : State) → (h : Watches c b gs most) → (r : Called (calling c h.front.at) s)
-    → (e : Ended c b most (c.layout.wait + 8) answers fault r.t) → Left (calling c h.front.at) e.t → WatchSampled c b most answers fault s
+returned : (c : Setting) (b : Block) (gs : List Segment) (most : ℕ) (answers : ℕ → ℕ) (fault : ℕ) (s : State)
+    → (h : Watches c b gs most) → (r : Called (calling c h.front.at) s)
+    → (e : Ended c b most (c.layout.wait + 8) answers fault r.t) → Left (calling c h.front.at) e.t
+    → WatchSampled c b most answers fault s
 returned c b gs most answers fault s h r e f =
     let at = h.front.at in
     let ds = e.ds ++ f.ds in
@@ -332,17 +403,22 @@ returned c b gs most answers fault s h r e f =
     record {
       t = f.t;
       ds = r.ds ++ ds;
-      execution = execution_on (Step c) r.ds ds s r.t f.t way_in (execution_on (Step c) e.ds f.ds r.t e.t f.t e.execution way_out);
+      execution = execution_on (Step c) r.ds ds s r.t f.t way_in
+          (execution_on (Step c) e.ds f.ds r.t e.t f.t e.execution way_out);
       home = record {
         live = f.live;
         pc_is = f.pc_is;
         sp_is = f.sp_is ∙ e.sp_is;
         outs = λ o lo hi. subst (λ (m : List ℕ). HasBytes m (c.layout.outputs + 1 * (o - 1)) (answers o ∷ [])) (sym mem)
-            (bytes_set_out e.t.mem c.layout.ready 0 (c.layout.outputs + 1 * (o - 1)) (answers o ∷ []) (inr (omega arith)) (e.answers_are o lo hi));
-        ready_is = ap (λ (x : List ℕ). get_or x c.layout.ready 0) mem ∙ get_or-set_same e.t.mem c.layout.ready 0 0 (omega arith);
+            (bytes_set_out e.t.mem c.layout.ready 0 (c.layout.outputs + 1 * (o - 1)) (answers o ∷ [])
+            (inr (omega arith)) (e.answers_are o lo hi));
+        ready_is = ap (λ (x : List ℕ). get_or x c.layout.ready 0) mem
+            ∙ get_or-set_same e.t.mem c.layout.ready 0 0 (omega arith);
       };
-      fault_is = ap (λ (x : List ℕ). get_or x fault_at 0) mem ∙ get_or-set_other e.t.mem c.layout.ready fault_at 0 0 (λ q. omega arith) ∙ e.fault_is;
-      instructions = omega (arith, length_append r.ds ds, length_append e.ds f.ds, r.instructions, e.instructions, f.instructions);
+      fault_is = ap (λ (x : List ℕ). get_or x fault_at 0) mem
+          ∙ get_or-set_other e.t.mem c.layout.ready fault_at 0 0 (λ q. omega arith) ∙ e.fault_is;
+      instructions = omega
+          (arith, length_append r.ds ds, length_append e.ds f.ds, r.instructions, e.instructions, f.instructions);
       steps = omega (arith, steps_append r.ds ds, steps_append e.ds f.ds, r.steps, e.steps, f.steps);
     }
 
@@ -355,39 +431,48 @@ pub record IsGiven (c : Setting) (b : Block) (bytes : List ℕ) (before : ℕ �
   pub inputs : HasBytes s.mem c.layout.inputs bytes
   pub outputs : HasAnswers c.layout b Byte before s.mem
 
-call : (c : Setting) (b : Block) (gs : List Segment) (most : ℕ) (bytes : List ℕ) (before : ℕ → ℕ) (s : State) → (h : Watches c b gs most) → IsGiven c b bytes before s → Called (calling c h.front.at) s
+call : (c : Setting) (b : Block) (gs : List Segment) (most : ℕ) (bytes : List ℕ) (before : ℕ → ℕ) (s : State)
+    → (h : Watches c b gs most) → IsGiven c b bytes before s → Called (calling c h.front.at) s
 call c b gs most bytes before s h g =
     h.front.frame.calls s g.live g.pc_is g.sp_is g.ready_is
 
-leave : (c : Setting) (b : Block) (gs : List Segment) (most : ℕ) (answers : ℕ → ℕ) (fault : ℕ) (s : State) → (h : Watches c b gs most)
+leave : (c : Setting) (b : Block) (gs : List Segment) (most : ℕ) (answers : ℕ → ℕ) (fault : ℕ) (s : State)
+    → (h : Watches c b gs most)
     → (e : Ended c b most (c.layout.wait + 8) answers fault s) → Left (calling c h.front.at) e.t
 leave c b gs most answers fault s h e =
     h.front.frame.leaves e.t e.live e.pc_is
 
 -- the sum that the check makes is that where the sample is given
-called_sum : (c : Setting) (at : ℕ) (s : State) (gs : List Segment) → Apart 0x2000 gs → (r : Called (calling c at) s) → sum_in r.t.mem gs ≡ sum_in s.mem gs
+called_sum : (c : Setting) (at : ℕ) (s : State) (gs : List Segment) → Apart 0x2000 gs → (r : Called (calling c at) s)
+    → sum_in r.t.mem gs ≡ sum_in s.mem gs
 called_sum c at s gs apart r =
     let ret = c.layout.wait + 8 in
     ap (λ (m : List ℕ). sum_in m gs) r.mem_is
     ∙ sum_below (set s.mem 0x1FFE (ret / 2 ^ 8)) 0x1FFF (ret % 2 ^ 8) 0x2000 gs apart (omega arith)
     ∙ sum_below s.mem 0x1FFE (ret / 2 ^ 8) 0x2000 gs apart (omega arith)
 
-pub answered_well : (c : Setting) (b : Block) (gs : List Segment) (most : ℕ) (bytes : List ℕ) (before : ℕ → ℕ) (s : State) → (h : Watches c b gs most) → Apart 0x2000 gs
-    → HasRoutine c.layout b Byte c.image → AreInputBytes b bytes → IsGiven c b bytes before s → ((sum_in s.mem gs + check_byte (segment_bytes gs)) % 2 ^ 8 == 0) ≡ true
+pub answered_well : (c : Setting) (b : Block) (gs : List Segment) (most : ℕ) (bytes : List ℕ) (before : ℕ → ℕ)
+    (s : State) → (h : Watches c b gs most) → Apart 0x2000 gs
+    → HasRoutine c.layout b Byte c.image → AreInputBytes b bytes → IsGiven c b bytes before s
+    → ((sum_in s.mem gs + check_byte (segment_bytes gs)) % 2 ^ 8 == 0) ≡ true
     → WatchSampled c b most (λ o. answer Byte b o bytes (before o)) 0 s
 answered_well c b gs most bytes before s h apart routine i g fine =
     let r = call c b gs most bytes before s h g in
     let k = at_check c b gs most bytes before s h i g.live g.inputs g.outputs r in
     let same = called_sum c h.front.at s gs apart r in
-    let e = ended_well c b gs most (c.layout.wait + 8) bytes before r.t h routine i k (ap (λ (n : ℕ). (n + check_byte (segment_bytes gs)) % 2 ^ 8 == 0) same ∙ fine) in
+    let e = ended_well c b gs most (c.layout.wait + 8) bytes before r.t h routine i k
+    (ap (λ (n : ℕ). (n + check_byte (segment_bytes gs)) % 2 ^ 8 == 0) same ∙ fine) in
     returned c b gs most (λ o. answer Byte b o bytes (before o)) 0 s h r e (leave c b gs most _ 0 r.t h e)
 
-pub answered_badly : (c : Setting) (b : Block) (gs : List Segment) (most : ℕ) (bytes : List ℕ) (before : ℕ → ℕ) (s : State) → (h : Watches c b gs most) → Apart 0x2000 gs
-    → AreInputBytes b bytes → IsGiven c b bytes before s → ((sum_in s.mem gs + check_byte (segment_bytes gs)) % 2 ^ 8 == 0) ≡ false
+pub answered_badly : (c : Setting) (b : Block) (gs : List Segment) (most : ℕ) (bytes : List ℕ) (before : ℕ → ℕ)
+    (s : State) → (h : Watches c b gs most) → Apart 0x2000 gs
+    → AreInputBytes b bytes → IsGiven c b bytes before s
+    → ((sum_in s.mem gs + check_byte (segment_bytes gs)) % 2 ^ 8 == 0) ≡ false
     → WatchSampled c b most (λ o. default_of (output_at b o) (before o)) 1 s
 answered_badly c b gs most bytes before s h apart i g wrong =
     let r = call c b gs most bytes before s h g in
     let k = at_check c b gs most bytes before s h i g.live g.inputs g.outputs r in
     let same = called_sum c h.front.at s gs apart r in
-    let e = ended_badly c b gs most (c.layout.wait + 8) bytes before r.t h k (ap (λ (n : ℕ). (n + check_byte (segment_bytes gs)) % 2 ^ 8 == 0) same ∙ wrong) in
+    let e = ended_badly c b gs most (c.layout.wait + 8) bytes before r.t h k
+    (ap (λ (n : ℕ). (n + check_byte (segment_bytes gs)) % 2 ^ 8 == 0) same ∙ wrong) in
     returned c b gs most (λ o. default_of (output_at b o) (before o)) 1 s h r e (leave c b gs most _ 1 r.t h e)

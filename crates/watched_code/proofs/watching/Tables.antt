@@ -22,7 +22,8 @@ later_segments : (f : Form) (ws rs : List ℕ) → 1 ≤ length ws → length ws
 later_segments form.Rev ws rs a b c d = ((omega arith, c, omega arith), tt)
 later_segments form.Revw ws rs a b c d = ((omega arith, a, omega arith), ((omega arith, c, omega arith), tt))
 
-later_apart : (f : Form) (from : ℕ) (ws rs : List ℕ) → from ≤ 0xD300 → length ws ≤ 512 → Apart from (weight_segments 0xD300 f ws ++ segment 0xD800 rs ∷ [])
+later_apart : (f : Form) (from : ℕ) (ws rs : List ℕ) → from ≤ 0xD300 → length ws ≤ 512
+    → Apart from (weight_segments 0xD300 f ws ++ segment 0xD800 rs ∷ [])
 later_apart form.Rev from ws rs le b = (omega arith, tt)
 later_apart form.Revw from ws rs le b = (omega arith, (omega arith, tt))
 
@@ -39,16 +40,29 @@ module _ (b : Block) (h : HasParts main_layout b) where
   pub are_segments : AreSegments (segments_of main_layout b)
   are_segments =
       let t = h.tables in
-      let s = h.singletons in
-      ((omega arith, t.0, omega arith), ((omega arith, s.0, omega arith), later_segments (form_of b) (weights_of b) (rule_bytes 0x1100 b) h.weights.0 h.weights.1 h.rules.0 h.rules.1))
+      let s = h.singletons in (
+        (omega arith, t.0, omega arith),
+        (
+          (omega arith, s.0, omega arith),
+          later_segments (form_of b) (weights_of b) (rule_bytes 0x1100 b) h.weights.0 h.weights.1 h.rules.0 h.rules.1,
+        ),
+      )
 
   pub are_apart : Apart 0x2000 (segments_of main_layout b)
-  are_apart = let t = h.tables in let s = h.singletons in (omega arith, (omega arith, later_apart (form_of b) (0xD200 + length (singleton_bytes b)) (weights_of b) (rule_bytes 0x1100 b) (omega arith) h.weights.1))
+  are_apart = let t = h.tables in let s = h.singletons in (
+    omega arith,
+    (
+      omega arith,
+      later_apart (form_of b) (0xD200 + length (singleton_bytes b)) (weights_of b) (rule_bytes 0x1100 b)
+          (omega arith) h.weights.1,
+    ),
+  )
 
 pub are_few : (b : Block) → length (segments_of main_layout b) ≤ 4
 are_few b = let n = later_few (form_of b) (weights_of b) (rule_bytes 0x1100 b) in omega arith
 
-pub stand : (m : List ℕ) (b : Block) → HasBytes m 0xD000 (table_bytes b) → HasBytes m 0xD200 (singleton_bytes b) → HasBytes m 0xD300 (weight_bytes b) → HasBytes m 0xD800 (rule_bytes 0x1100 b)
+pub stand : (m : List ℕ) (b : Block) → HasBytes m 0xD000 (table_bytes b) → HasBytes m 0xD200 (singleton_bytes b)
+    → HasBytes m 0xD300 (weight_bytes b) → HasBytes m 0xD800 (rule_bytes 0x1100 b)
     → Stand m (segments_of main_layout b)
 stand m b t s w r = (t, (s, later_stand m (form_of b) (weights_of b) (rule_bytes 0x1100 b) w r))
 
@@ -64,4 +78,5 @@ sum_from_high m n at (suc k) h le = ap₂ (λ (x y : ℕ). x + y) (h at le) (sum
 
 pub sum_high : (m n : List ℕ) (gs : List Segment) → SameHigh m n → AreSegments gs → sum_in n gs ≡ sum_in m gs
 sum_high m n [] h are = refl
-sum_high m n (g ∷ gs) h are = ap₂ (λ (x y : ℕ). x + y) (sum_from_high m n g.at (length g.bytes) h are.0.0) (sum_high m n gs h are.1)
+sum_high m n (g ∷ gs) h are =
+    ap₂ (λ (x y : ℕ). x + y) (sum_from_high m n g.at (length g.bytes) h are.0.0) (sum_high m n gs h are.1)

@@ -3,7 +3,8 @@ use Rattle.box_tree.specs.Reading.{HasRead, unread_len}
 use Rattle.box_tree.proofs.reader.cert_behind.Given as goal
 
 abbrev pub invariant-loop-node : goal.invariant-loop-node
-invariant-loop-node l = (version : ℕ) (text : List ℕ) → HasRead version text [] l.fn.lines → HasRead version text l.nodes.items l.lines
+invariant-loop-node l = (version : ℕ) (text : List ℕ) → HasRead version text [] l.fn.lines
+    → HasRead version text l.nodes.items l.lines
 
 abbrev pub decreases-loop-node : goal.decreases-loop-node
 decreases-loop-node l = unread_len l.lines

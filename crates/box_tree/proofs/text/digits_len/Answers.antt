@@ -13,5 +13,7 @@ place k n h = grind (arith, nat_tests)
 pub returns : goal.returns
 returns c =
     let xs = c.args.text.now in
-    let found = position_from_yields_List is_no_digit _ _ c.position.result c.position.ensures.ran (YieldsList-from_slice xs cc) (λ x b q k. search (rules, tests)) in
-    c.unwrap_or.ensures ∙ ap (λ o. unwrap_or o (length xs)) found ∙ place (digits_len_of xs) (length xs) (prefix_len-le-length (λ x. not (is_no_digit x)) xs)
+    let found = position_from_yields_List is_no_digit _ _ c.position.result c.position.ensures.ran
+    (YieldsList-from_slice xs cc) (λ x b q k. search (rules, tests)) in
+    c.unwrap_or.ensures ∙ ap (λ o. unwrap_or o (length xs)) found
+    ∙ place (digits_len_of xs) (length xs) (prefix_len-le-length (λ x. not (is_no_digit x)) xs)

@@ -8,7 +8,8 @@ invariant-loop-behind l = record {
   few : length l.numbers.items ≤ 8;
   small : All (λ n. n ≤ 1000000) l.numbers.items;
   so_far : l.text ≡ l.word ++ (numbers l.numbers.items ++ l.rest);
-  others : (ns behind : List ℕ) → length ns ≤ 8 → All (λ n. n ≤ 1000000) ns → l.text ≡ line l.word ns ++ behind → GoesOn ns behind l.numbers.items l.rest;
+  others : (ns behind : List ℕ) → length ns ≤ 8 → All (λ n. n ≤ 1000000) ns → l.text ≡ line l.word ns ++ behind
+      → GoesOn ns behind l.numbers.items l.rest;
 }
 
 abbrev pub decreases-loop-behind : goal.decreases-loop-behind

@@ -11,7 +11,8 @@ returns-in-Ok-load-clause-block c =
       tree = tree.block;
       spelled = c.in-Ok.ensures.found;
       sound = subst (λ (ls : List ℕ). first_fault ls tree.block ≡ None) c.in-Ok.ensures.kept c.in-Ok-load.ensures.fault;
-      loaded = subst (λ (ls : List ℕ). IsBlockOf ls tree.block c.in-Ok-load.block) c.in-Ok.ensures.kept c.in-Ok-load.ensures.block;
+      loaded = subst (λ (ls : List ℕ). IsBlockOf ls tree.block c.in-Ok-load.block) c.in-Ok.ensures.kept
+          c.in-Ok-load.ensures.block;
       valid = c.in-Ok-load.ensures.valid;
     }
 
@@ -26,7 +27,8 @@ returns c =
         record {
           tree = tree.block;
           spelled = c.in-Ok.ensures.found;
-          first = subst (λ (ls : List ℕ). first_fault ls tree.block ≡ Some c.in-Err-load.fault) c.in-Ok.ensures.kept (c.in-Err-load.ensures.fault no_memory);
+          first = subst (λ (ls : List ℕ). first_fault ls tree.block ≡ Some c.in-Err-load.fault) c.in-Ok.ensures.kept
+              (c.in-Err-load.ensures.fault no_memory);
         },
       );
     }

@@ -9,4 +9,5 @@ returns c text block (fcl.Load f) spelled within carries refuses =
     (c.load_faults_are_one.ensures text).1 f block refuses spelled
 returns c text block (fcl.Layout f) spelled within carries refuses =
     let same = c.spelled_blocks_are_one.ensures text refuses.0 block refuses.1 spelled in
-    c.limits_have_no_fault.ensures block f within carries (c.layouts_are_one.ensures.fault refuses.0 block f same refuses.2)
+    c.limits_have_no_fault.ensures block f within carries
+    (c.layouts_are_one.ensures.fault refuses.0 block f same refuses.2)

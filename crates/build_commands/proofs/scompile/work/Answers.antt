@@ -8,5 +8,6 @@ use Rattle.build_commands.proofs.scompile.work.Goals as goal
 pub returns : goal.returns
 returns c =
     firmware_makes (ScompileMakes c.args.fcl.now) (GivesWatched c.args.fcl.now) watched_bound
-    c.in_ok-compiled.compiled.block c.in_ok-compiled.compiled.firmware c.in_ok-compiled.ensures.gives (search rules) (search rules)
+    c.in_ok-compiled.compiled.block c.in_ok-compiled.compiled.firmware c.in_ok-compiled.ensures.gives (search rules)
+    (search rules)
     c.written_firmware.result c.written_firmware.ensures.writes c.written_firmware.ensures.memory (λ deed w. w)

@@ -1,4 +1,5 @@
-use Rattle.std.proofs.Common.{◌≡◌, ◌+◌, ◌-◌, ◌<◌, ◌≢◌, length, get_or, Some, arith, sym, subst, ◌∙◌, get_or-set_other, length-set}
+use Rattle.std.proofs.Common.{◌≡◌, ◌+◌, ◌-◌, ◌<◌, ◌≢◌, length, get_or, Some, arith, sym, subst, ◌∙◌, get_or-set_other}
+use Rattle.std.proofs.Common.{length-set}
 use Rattle.std.specs.Prelude.{slice_get}
 use Rattle.std.proofs.lemmas.Option.{slice_get-get_or}
 use Rattle.std.proofs.lemmas.Result.{err_from_is_err_and}
@@ -20,7 +21,8 @@ returns-in_err-bound-clause-fault c =
     let named = leaf_at pairs k (get_or pairs k (0, 0)) (slice_get-get_or pairs k (0, 0) c.loop-o-test.true) in
     let k' : k ≡ k + 1 - 1 = omega arith in
     let leaf : Leaf = record { rule = (get_or pairs k (0, 0)).0; k = (get_or pairs k (0, 0)).1 } in
-    let there : HasPartFault b (record { box = c.for_leaves-table.result.bytes.0.items; pairs = leaves_of pairs }) c.args.line
+    let there : HasPartFault b (record { box = c.for_leaves-table.result.bytes.0.items; pairs = leaves_of pairs })
+    c.args.line
     c.in_err-bound.field-0.0 = record {
       output = k + 1;
       from = omega arith;
@@ -30,7 +32,8 @@ returns-in_err-bound-clause-fault c =
       before = c.loop-o.invariant.hold;
       is = c.in_err-bound.ensures.fault;
     } in
-    rw (p.1, p.2) (subst (λ (x : ByteBox). HasPartFault b (record { box = x.0.items; pairs = leaves_of pairs }) c.args.line
+    rw (p.1, p.2) (subst
+    (λ (x : ByteBox). HasPartFault b (record { box = x.0.items; pairs = leaves_of pairs }) c.args.line
     c.in_err-bound.field-0.0) c.for_leaves-table.ensures.same there)
 
 pub loop-o-preserved : goal.loop-o-preserved
@@ -43,13 +46,16 @@ loop-o-preserved c =
     let named = leaf_at pairs k (get_or pairs k (0, 0)) (slice_get-get_or pairs k (0, 0) c.loop-o-test.true) in
     let i = c.loop-o.invariant in
     let count = i.count in
-    let within : k < length c.loop-o.errors = omega (arith, c.requires.pairs, c.requires.errors, c.loop-o-test.true, count) in
+    let within : k < length c.loop-o.errors =
+    omega (arith, c.requires.pairs, c.requires.errors, c.loop-o-test.true, count) in
     record {
       count = rw length-set count;
       hold = HoldBefore-more b part k i.hold (λ l e. let s : Some leaf ≡ Some l = sym named ∙ e in subst
           (λ m. Holds b part.box (k + 1) m) (let same : leaf ≡ l = cc in same) c.in_ok-bound.ensures.holds);
-      raised = IsRaised-more b c.args.parts part c.args.errors.now c.loop-o.errors k c.in_ok-bound.bound c.max.result leaf
-          (omega (arith, c.requires.errors, count)) named c.in_ok-bound.ensures.holds (i.same k (omega arith)) c.max.ensures
+      raised = IsRaised-more b c.args.parts part c.args.errors.now c.loop-o.errors k c.in_ok-bound.bound
+          c.max.result leaf
+          (omega (arith, c.requires.errors, count)) named c.in_ok-bound.ensures.holds
+          (i.same k (omega arith)) c.max.ensures
           c.in_ok-bound.ensures.bound within i.raised;
       same = λ j l. let other : j ≢ k = omega arith in rw get_or-set_other (i.same j (omega arith));
     }
@@ -61,5 +67,6 @@ returns-clause-raised c =
     c.args.errors.now c.loop-o.errors in
     subst at c.for_leaves-table.ensures.same
     (Raises-filled c.args.block.now c.args.parts (record
-    { box = c.for_leaves-table.result.bytes.0.items; pairs = leaves_of pairs }) c.args.errors.now c.loop-o.errors c.loop-o.o
+    { box = c.for_leaves-table.result.bytes.0.items; pairs = leaves_of pairs }) c.args.errors.now
+    c.loop-o.errors c.loop-o.o
     (omega (arith, c.requires.pairs, c.loop-o-test.false)) c.loop-o.invariant.count c.loop-o.invariant.raised)

@@ -7,7 +7,12 @@ use Rattle.cert_check.proofs.text.errors_of.Goals as goal
 
 pub loop-node-init : goal.loop-node-init
 loop-node-init c = record {
-  over = record { block = c.in-Ok.ensures.block; claims_are = c.in-Ok.ensures.claims ∙ c.as_slice.ensures.value ∙ c.claims-claims.ensures; parts = c.in-Ok.ensures.parts };
+  over = record {
+    block = c.in-Ok.ensures.block;
+    claims_are = c.in-Ok.ensures.claims ∙ c.as_slice.ensures.value
+        ∙ c.claims-claims.ensures;
+    parts = c.in-Ok.ensures.parts;
+  };
   taken = λ version text read. ([], read, c.in-Ok.ensures.begun);
 }
 
@@ -18,8 +23,12 @@ take-requires c =
     let t = i.taken r.0 r.1 r.2 in
     let node = c.in-Ok-Some.node in
     let read = rw c.in-Ok-Some.field-0-is at (c.in-Ok-Some.ensures.node r.0 r.1 t.0 t.1) in
-    let claims = c.next.ensures.claims ∙ sym i.over.claims_are in
-    (t.0, t.2, subst (λ (cs : List ℕ). AreFirst (length cs) (t.0 ++ node ∷ [])) claims (first_of_text r.0 r.1 (t.0 ++ node ∷ []) c.next.new.self read))
+    let claims = c.next.ensures.claims ∙ sym i.over.claims_are in (
+      t.0,
+      t.2,
+      subst (λ (cs : List ℕ). AreFirst (length cs) (t.0 ++ node ∷ [])) claims
+          (first_of_text r.0 r.1 (t.0 ++ node ∷ []) c.next.new.self read),
+    )
 
 pub loop-node-smaller : goal.loop-node-smaller
 loop-node-smaller c = rw c.in-Ok-Some.field-0-is at c.in-Ok-Some.ensures.less
@@ -33,11 +42,13 @@ loop-node-preserved c =
     let same = sym claims in
     let over = subst (λ (cs : List ℕ). IsWalkOver b cs c.args.parts c.loop-node.walk) same i.over in
     record {
-      over = still_over b (claims_of c.next.new.self) c.args.parts c.loop-node.walk c.take.new.self over c.take.ensures.same;
+      over = still_over b (claims_of c.next.new.self) c.args.parts c.loop-node.walk c.take.new.self over
+          c.take.ensures.same;
       taken = λ version text first.
           let t = i.taken version text first in
           let read = rw c.in-Ok-Some.field-0-is at (c.in-Ok-Some.ensures.node version text t.0 t.1) in
-          let may = subst (λ (cs : List ℕ). AreFirst (length cs) (t.0 ++ node ∷ [])) (claims ∙ sym i.over.claims_are) (first_of_text version text (t.0 ++ node ∷ []) c.next.new.self read) in
+          let may = subst (λ (cs : List ℕ). AreFirst (length cs) (t.0 ++ node ∷ [])) (claims ∙ sym i.over.claims_are)
+          (first_of_text version text (t.0 ++ node ∷ []) c.next.new.self read) in
           (t.0 ++ node ∷ [], read, c.take.ensures.taken t.0 t.2 may);
     }
 
@@ -62,7 +73,9 @@ returns-in-Ok-finish-clause-accepted c = λ version text first.
     record {
       cert = record { claims = claims; nodes = t.0 };
       spelled = spelled.0;
-      accepted = accepted_over b claims c.args.parts c.loop-node.walk i.over t.0 _ (c.in-Ok-finish.ensures.accepted t.0 t.2 (is_cert b claims c.args.parts c.loop-node.walk i.over t.0 spelled.0.good));
+      accepted = accepted_over b claims c.args.parts c.loop-node.walk i.over t.0 _
+          (c.in-Ok-finish.ensures.accepted t.0 t.2
+          (is_cert b claims c.args.parts c.loop-node.walk i.over t.0 spelled.0.good));
     }
 
 pub returns-in-Err-finish-clause-refused : goal.returns-in-Err-finish-clause-refused
@@ -73,4 +86,6 @@ returns-in-Err-finish-clause-refused c = λ version text first real.
     let claims = claims_of c.loop-node.lines in
     let spelled = rw c.in-Ok-None.field-0-is at (c.in-Ok-None.ensures.node version text t.0 t.1) in
     of_cert (record { claims = claims; nodes = t.0 }) c.in-Err-finish.fault spelled.0
-    (fault_over b claims c.args.parts c.loop-node.walk i.over t.0 c.in-Err-finish.fault (c.in-Err-finish.ensures.fault t.0 t.2 (is_cert b claims c.args.parts c.loop-node.walk i.over t.0 spelled.0.good)))
+    (fault_over b claims c.args.parts c.loop-node.walk i.over t.0 c.in-Err-finish.fault
+    (c.in-Err-finish.ensures.fault t.0 t.2
+    (is_cert b claims c.args.parts c.loop-node.walk i.over t.0 spelled.0.good)))

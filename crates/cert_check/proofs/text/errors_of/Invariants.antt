@@ -8,7 +8,8 @@ use Rattle.cert_check.proofs.text.errors_of.Given as goal
 abbrev pub invariant-loop-node : goal.invariant-loop-node
 invariant-loop-node l = record {
   over : IsWalkOver l.block (claims_of l.lines) l.parts l.walk;
-  taken : (version : ℕ) (text : List ℕ) → HasRead version text [] l.fn.lines → (nodes : List Node) × HasRead version text nodes l.lines × HasTaken nodes l.walk;
+  taken : (version : ℕ) (text : List ℕ) → HasRead version text [] l.fn.lines
+      → (nodes : List Node) × HasRead version text nodes l.lines × HasTaken nodes l.walk;
 }
 
 abbrev pub decreases-loop-node : goal.decreases-loop-node

@@ -40,11 +40,15 @@ returns-clause-firmware c =
       inputs = search rules;
       outputs = search rules;
       instructions = c.instruction_bound-instr_bound.ensures.value ∙ ap (λ (k : Width). instruction_bound k b) same;
-      steps = c.steps_by-step_bound.ensures ∙ ap (steps_by b) (c.instruction_bound-instr_bound.ensures.value ∙ ap (λ (k : Width). instruction_bound k b) same);
+      steps = c.steps_by-step_bound.ensures
+          ∙ ap (steps_by b) (c.instruction_bound-instr_bound.ensures.value
+          ∙ ap (λ (k : Width). instruction_bound k b) same);
     }
 
 pub returns-clause-answers : goal.returns-clause-answers
-returns-clause-answers c = c.firmware_answers.ensures c.args.block.now _ c.requires c.in-Ok.ensures.limits (returns-clause-firmware c)
+returns-clause-answers c =
+    c.firmware_answers.ensures c.args.block.now _ c.requires c.in-Ok.ensures.limits (returns-clause-firmware c)
 
 pub returns-clause-uninterrupted : goal.returns-clause-uninterrupted
-returns-clause-uninterrupted c = c.firmware_is_uninterrupted.ensures c.args.block.now _ c.requires c.in-Ok.ensures.limits (returns-clause-firmware c)
+returns-clause-uninterrupted c =
+    c.firmware_is_uninterrupted.ensures c.args.block.now _ c.requires c.in-Ok.ensures.limits (returns-clause-firmware c)

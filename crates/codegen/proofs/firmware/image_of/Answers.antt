@@ -11,4 +11,5 @@ prove-unreachable-requires c =
     ]
 
 pub returns-in-Ok : goal.returns-in-Ok
-returns-in-Ok c = record { bytes = c.in-Ok.ensures.bytes; ascending = c.in-Ok.ensures.ascending; start = c.in-Ok.ensures.start }
+returns-in-Ok c = record
+    { bytes = c.in-Ok.ensures.bytes; ascending = c.in-Ok.ensures.ascending; start = c.in-Ok.ensures.start }

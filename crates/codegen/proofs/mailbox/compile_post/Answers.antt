@@ -9,7 +9,8 @@ use Rattle.codegen.proofs.turns.Founding.{length-mailbox_items, mailbox_rises}
 use Rattle.codegen.proofs.mailbox.compile_post.Goals as goal
 
 -- the items at the layout of the block's inputs
-same_items : (b : Block) (xs items : List Item) (l : Layout) → xs ≡ items → items ≡ mailbox_items l b Byte → l ≡ mailbox_layout (length b.inputs)
+same_items : (b : Block) (xs items : List Item) (l : Layout) → xs ≡ items → items ≡ mailbox_items l b Byte
+    → l ≡ mailbox_layout (length b.inputs)
     → mailbox_items (mailbox_layout (length b.inputs)) b Byte ≡ xs
 same_items b xs items l e f g = sym (e ∙ f ∙ ap (λ (k : Layout). mailbox_items k b Byte) g)
 
@@ -17,21 +18,25 @@ pub image_of-requires-clause-few : goal.image_of-requires-clause-few
 image_of-requires-clause-few c =
     let b = c.args.block.now in
     let layout : c.mailbox_layout-layout.result ≡ mailbox_layout (length b.inputs) = search rules in
-    subst (λ (xs : List Item). length xs < 2 ^ 32) (same_items b _ _ _ c.as_slice.ensures.value c.in-Ok-mailbox_items.ensures layout)
+    subst (λ (xs : List Item). length xs < 2 ^ 32)
+    (same_items b _ _ _ c.as_slice.ensures.value c.in-Ok-mailbox_items.ensures layout)
     (length-mailbox_items c.blocks_are_placed.ensures.short b Byte c.requires c.in-Ok.ensures.limits)
 
 pub image_of-requires-clause-rising : goal.image_of-requires-clause-rising
 image_of-requires-clause-rising c =
     let b = c.args.block.now in
     let layout : c.mailbox_layout-layout.result ≡ mailbox_layout (length b.inputs) = search rules in
-    subst (λ (xs : List Item). IsRising xs) (same_items b _ _ _ c.as_slice.ensures.value c.in-Ok-mailbox_items.ensures layout)
+    subst (λ (xs : List Item). IsRising xs)
+    (same_items b _ _ _ c.as_slice.ensures.value c.in-Ok-mailbox_items.ensures layout)
     (mailbox_rises c.blocks_are_placed.ensures.rises b Byte c.requires c.in-Ok.ensures.limits)
 
 pub returns-clause-firmware : goal.returns-clause-firmware
 returns-clause-firmware c = search rules
 
 pub returns-clause-turns : goal.returns-clause-turns
-returns-clause-turns c = c.mailbox_takes_posts.ensures c.args.block.now _ c.requires c.in-Ok.ensures.limits (returns-clause-firmware c)
+returns-clause-turns c =
+    c.mailbox_takes_posts.ensures c.args.block.now _ c.requires c.in-Ok.ensures.limits (returns-clause-firmware c)
 
 pub returns-clause-uninterrupted : goal.returns-clause-uninterrupted
-returns-clause-uninterrupted c = c.mailbox_is_uninterrupted.ensures c.args.block.now _ c.requires c.in-Ok.ensures.limits (returns-clause-firmware c)
+returns-clause-uninterrupted c =
+    c.mailbox_is_uninterrupted.ensures c.args.block.now _ c.requires c.in-Ok.ensures.limits (returns-clause-firmware c)

@@ -9,7 +9,8 @@ pub loop-left-preserved : goal.loop-left-preserved
 loop-left-preserved c =
     let step : Sum → List ℕ → Sum = λ t word. with_term t (term_of (value_in c.args.names.now) word) in
     let before : Sum = c.loop-left.total in
-    let after : c.with-total.result ≡ step before c.cut.result.0.now = c.with-total.ensures.value ∙ ap (with_term before) c.any_term.ensures in
+    let after : c.with-total.result ≡ step before c.cut.result.0.now = c.with-total.ensures.value
+    ∙ ap (with_term before) c.any_term.ensures in
     let bound = rw c.in-Some.is at c.loop-left.invariant.bound in
     record {
       same =

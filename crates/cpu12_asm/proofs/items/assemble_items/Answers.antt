@@ -10,28 +10,35 @@ returns-in-Err-PastEnd-clause-range c = λ n e.
     let items = c.args.items.now in
     let i = c.loop-item.item-index in
     let past = c.in-Err-PastEnd.ensures.past (cc) in
-    FailsFirst-at PassesEnd _ items i n (Place 0) (omega arith) (let same : c.loop-item.number + 1 ≡ n = cc in omega arith) c.loop-item.invariant.3 (omega arith)
+    FailsFirst-at PassesEnd _ items i n (Place 0) (omega arith)
+    (let same : c.loop-item.number + 1 ≡ n = cc in omega arith) c.loop-item.invariant.3 (omega arith)
 
 pub returns-in-Err-Taken-clause-overlap : goal.returns-in-Err-Taken-clause-overlap
 returns-in-Err-Taken-clause-overlap c = λ n e.
     let items = c.args.items.now in
     let i = c.loop-item.item-index in
     let taken = c.in-Err-Taken.ensures.taken (cc) in
-    let over = WritesOver-at (take i items) (get_or items i (Place 0)) c.loop-item.place c.loop-item.invariant.1 taken.0 (taken.1 (given_by (take i items)) c.loop-item.invariant.3) in
-    FailsFirst-at WritesOver _ items i n (Place 0) (omega arith) (let same : c.loop-item.number + 1 ≡ n = cc in omega arith) c.loop-item.invariant.3 over
+    let over = WritesOver-at (take i items) (get_or items i (Place 0)) c.loop-item.place c.loop-item.invariant.1 taken.0
+    (taken.1 (given_by (take i items)) c.loop-item.invariant.3) in
+    FailsFirst-at WritesOver _ items i n (Place 0) (omega arith)
+    (let same : c.loop-item.number + 1 ≡ n = cc in omega arith) c.loop-item.invariant.3 over
 
 pub loop-item-preserved : goal.loop-item-preserved
 loop-item-preserved c =
     let items = c.args.items.now in
     let i = c.loop-item.item-index in (
       omega arith,
-      c.in-Ok.ensures.behind.0 ∙ ap (λ p. place_after p (get_or items i (Place 0))) c.loop-item.invariant.1 ∙ sym (place_of-take items i (Place 0) (omega arith)),
+      c.in-Ok.ensures.behind.0 ∙ ap (λ p. place_after p (get_or items i (Place 0))) c.loop-item.invariant.1
+          ∙ sym (place_of-take items i (Place 0) (omega arith)),
       c.in-Ok.ensures.behind.1,
-      Holds-take _ items i c.loop-item.place (Place 0) (omega arith) c.loop-item.invariant.1 (c.in-Ok.ensures.held (given_by (take i items)) c.loop-item.invariant.3),
+      Holds-take _ items i c.loop-item.place (Place 0) (omega arith) c.loop-item.invariant.1
+          (c.in-Ok.ensures.held (given_by (take i items)) c.loop-item.invariant.3),
     )
 
 pub returns-in-Err-PastEnd-clause-rising : goal.returns-in-Err-PastEnd-clause-rising
-returns-in-Err-PastEnd-clause-rising c = λ rising. absurd (no_end_passed _ _ rising (returns-in-Err-PastEnd-clause-range c _ refl))
+returns-in-Err-PastEnd-clause-rising c =
+    λ rising. absurd (no_end_passed _ _ rising (returns-in-Err-PastEnd-clause-range c _ refl))
 
 pub returns-in-Err-Taken-clause-rising : goal.returns-in-Err-Taken-clause-rising
-returns-in-Err-Taken-clause-rising c = λ rising. absurd (nothing_written_over _ _ rising (returns-in-Err-Taken-clause-overlap c _ refl))
+returns-in-Err-Taken-clause-rising c =
+    λ rising. absurd (nothing_written_over _ _ rising (returns-in-Err-Taken-clause-overlap c _ refl))

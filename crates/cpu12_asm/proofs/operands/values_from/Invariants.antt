@@ -9,7 +9,8 @@ use Rattle.cpu12_asm.proofs.operands.values_from.Given as goal
 -- the values so far, before those of the parts that are left
 abbrev pub invariant-loop-left : goal.invariant-loop-left
 invariant-loop-left l = record {
-  same : all_before l.values.items (values_from (value_in l.names) l.limit l.limits.other (pieces_left 0x2C l.left)) ≡ values_from (value_in l.names) l.limits.first l.limits.other (pieces 0x2C l.text);
+  same : all_before l.values.items (values_from (value_in l.names) l.limit l.limits.other (pieces_left 0x2C l.left))
+      ≡ values_from (value_in l.names) l.limits.first l.limits.other (pieces 0x2C l.text);
   bound : size_left l.left ≤ 2 ^ 32 + 1;
 }
 

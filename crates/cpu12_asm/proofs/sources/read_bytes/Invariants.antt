@@ -9,7 +9,9 @@ use Rattle.cpu12_asm.proofs.sources.read_bytes.Given as goal
 -- the lines that are left give what is wanted
 abbrev pub invariant-loop-left : goal.invariant-loop-left
 invariant-loop-left l = record {
-  same : (given : List (ℕ × ℕ)) × (Holds l.bytes given) × (through (given_by_line (value_in l.names)) (record { place = l.place; bytes = given }) (l.number + 1) (lines_left l.left) ≡ bytes_of (value_in l.names) l.text);
+  same : (given : List (ℕ × ℕ)) × (Holds l.bytes given)
+      × (through (given_by_line (value_in l.names)) (record { place = l.place; bytes = given }) (l.number + 1)
+      (lines_left l.left) ≡ bytes_of (value_in l.names) l.text);
   few : l.number + size_left l.left ≤ 2 ^ 20 + 1;
   low : l.place ≤ 2 ^ 16;
 }

@@ -13,7 +13,8 @@ loop-done-preserved g c =
     c.turned-next.ensures.regs ∙ ap (λ (m : List ℕ). turned a.flags a.end m l.r) l.invariant.mem in
     let back : (turned a.flags a.end mem l.r).pc ≡ l.r.pc = ap (λ (r : Regs). r.pc) (sym next) ∙ c.if-next-r.false in
     record {
-      turns = subst (λ (r : Regs). TurnsTo a.flags a.end mem (l.done + 1) a.regs r) (sym next) (TurnsTo-more a.flags a.end mem l.done a.regs l.r l.invariant.turns back);
+      turns = subst (λ (r : Regs). TurnsTo a.flags a.end mem (l.done + 1) a.regs r) (sym next)
+          (TurnsTo-more a.flags a.end mem l.done a.regs l.r l.invariant.turns back);
       within = omega arith;
       mem = c.turned-next.ensures.mem ∙ l.invariant.mem;
       noted = c.turned-next.ensures.noted ∙ l.invariant.noted;

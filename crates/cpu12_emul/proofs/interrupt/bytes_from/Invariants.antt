@@ -6,7 +6,8 @@ use Rattle.cpu12_emul.proofs.interrupt.bytes_from.Given as goal
 -- what is there and what is to come are all the bytes
 abbrev pub invariant-loop-left : goal.invariant-loop-left
 invariant-loop-left g l = record {
-  bytes : l.bytes.items ++ bytes_at (g.M.Mem.bytes l.m) (from l.next l.left) ≡ bytes_at (g.M.Mem.bytes l.m) (from l.at l.n);
+  bytes : l.bytes.items ++ bytes_at (g.M.Mem.bytes l.m) (from l.next l.left) ≡ bytes_at (g.M.Mem.bytes l.m)
+      (from l.at l.n);
   room : array_vec_len l.bytes + l.left ≡ l.n;
 }
 

@@ -8,7 +8,8 @@ use Rattle.cpu12_emul.proofs.ruling.antecedents.Given as goal
 abbrev pub invariant-loop-done : goal.invariant-loop-done
 invariant-loop-done g l = record {
   ruled : (t : Temps) → IsOff t → Stands 0x3A l.fn.regs.pc (g.M.Mem.bytes l.fn.m)
-      → Ruled 0x3A l.fn.flags (state_of l.fn.regs t (g.M.Mem.bytes l.fn.m)) (state_of l.r t (g.M.Mem.bytes l.fn.m)) l.done;
+      → Ruled 0x3A l.fn.flags (state_of l.fn.regs t (g.M.Mem.bytes l.fn.m))
+      (state_of l.r t (g.M.Mem.bytes l.fn.m)) l.done;
   meeting : has l.r.ccr overflow ≡ false;
   within : l.done ≤ l.fn.most;
 }

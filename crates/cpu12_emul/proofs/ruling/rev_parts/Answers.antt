@@ -19,7 +19,8 @@ loop-done-preserved g c =
     (Ruled-part a.flags t u.regs u.mem law on c.part.ensures.regs c.part.ensures.mem) in
     let v : State = state_of c.antecedents-more.result.0 a.temps u.mem in
     record {
-      ruled = Ruled-then 0x3A a.flags s u v (l.done + 1) c.antecedents-more.result.1 c.requires.off ruled (c.antecedents-more.ensures.parts a.temps);
+      ruled = Ruled-then 0x3A a.flags s u v (l.done + 1) c.antecedents-more.result.1 c.requires.off ruled
+          (c.antecedents-more.ensures.parts a.temps);
       within = omega arith;
       noted = c.part.ensures.noted ∙ l.invariant.noted;
     }

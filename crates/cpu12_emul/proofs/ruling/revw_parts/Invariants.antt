@@ -5,7 +5,8 @@ use Rattle.cpu12_emul.proofs.ruling.revw_parts.Given as goal
 
 abbrev pub invariant-loop-done : goal.invariant-loop-done
 invariant-loop-done g l = record {
-  ruled : Ruled 0x3B l.fn.flags (state_of l.fn.regs l.fn.temps (g.M.Mem.bytes l.fn.m)) (state_of l.r l.fn.temps (g.M.Mem.bytes l.m)) l.done;
+  ruled : Ruled 0x3B l.fn.flags (state_of l.fn.regs l.fn.temps (g.M.Mem.bytes l.fn.m))
+      (state_of l.r l.fn.temps (g.M.Mem.bytes l.m)) l.done;
   within : l.done ≤ l.fn.most;
   noted : g.M.Mem.noted l.m ≡ g.M.Mem.noted l.fn.m;
 }

@@ -6,6 +6,7 @@ use Rattle.cpu12_isa.proofs.stack.place.Given as goal
 -- the bytes that are left lead to the same memory as all, and what is noted stays
 abbrev pub invariant-loop-v : goal.invariant-loop-v
 invariant-loop-v g l = record {
-  mem : write_all (placed l.to (drop l.v-index l.bytes)) (g.M.Mem.bytes l.m) ≡ write_all (placed l.at l.bytes) (g.M.Mem.bytes l.fn.m);
+  mem : write_all (placed l.to (drop l.v-index l.bytes)) (g.M.Mem.bytes l.m) ≡ write_all (placed l.at l.bytes)
+      (g.M.Mem.bytes l.fn.m);
   noted : g.M.Mem.noted l.m ≡ g.M.Mem.noted l.fn.m;
 }

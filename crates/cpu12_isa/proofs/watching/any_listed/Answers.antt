@@ -24,11 +24,14 @@ loop-at-preserved g c =
     let stays : changed_at a.table.now mem x ≡ false =
     ap (is_changed (get_or a.table.now x _)) (sym c.read.ensures) ∙ sym c.is_changed.ensures ∙ c.if-is_changed.false in
     listed_next x (drop (i + 1) a.written.now) a.table.now mem (both_ways (changed_at a.table.now mem x) stays)
-    (subst (λ (l : List ℕ). AreListed l a.table.now mem) (drop_more a.written.now i 0 c.loop-at-test.true) c.loop-at.invariant)
+    (subst (λ (l : List ℕ). AreListed l a.table.now mem) (drop_more a.written.now i 0 c.loop-at-test.true)
+    c.loop-at.invariant)
 
 pub returns : goal.returns
 returns g c =
     let a = c.args in
     let mem : List ℕ = g.M.Mem.bytes a.m.now in
-    let rest : AreListed [] a.table.now mem = subst (λ (l : List ℕ). AreListed l a.table.now mem) (drop_all c.loop-at.at-index a.written.now c.loop-at-test.false) c.loop-at.invariant in
+    let rest : AreListed [] a.table.now mem =
+    subst (λ (l : List ℕ). AreListed l a.table.now mem)
+    (drop_all c.loop-at.at-index a.written.now c.loop-at-test.false) c.loop-at.invariant in
     sym (none_from a.table.now mem (λ at changed. false≢true (rest at changed)))

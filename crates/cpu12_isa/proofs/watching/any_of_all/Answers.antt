@@ -16,4 +16,11 @@ pub returns : goal.returns
 returns g c =
     let a = c.args in
     let mem : List ℕ = g.M.Mem.bytes a.m.now in
-    sym (none_from a.table.now mem (λ at changed. omega (arith, c.requires, c.loop-at-test.false, c.loop-at.invariant at changed, changed_within a.table.now mem at changed)))
+    sym (none_from a.table.now mem
+    (λ at changed. omega (
+      arith,
+      c.requires,
+      c.loop-at-test.false,
+      c.loop-at.invariant at changed,
+      changed_within a.table.now mem at changed,
+    )))

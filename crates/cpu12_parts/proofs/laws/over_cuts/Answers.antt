@@ -6,4 +6,5 @@ pub returns : goal.returns
 returns g c =
     let r = g.R.Resumable in
     let k = c.args.k.now in
-    over_cuts c.writes_agree.ensures (kind_by (r.act k) (r.push k) (r.pull k)) (r.kept k) (r.whole k) c.goes_on.ensures c.is_steady.ensures c.makes_whole.ensures
+    over_cuts c.writes_agree.ensures (kind_by (r.act k) (r.push k) (r.pull k)) (r.kept k)
+    (r.whole k) c.goes_on.ensures c.is_steady.ensures c.makes_whole.ensures

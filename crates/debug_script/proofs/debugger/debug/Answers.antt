@@ -17,7 +17,8 @@ obey_all-requires c =
     let few : length inputs ≤ 4294967295 = omega (arith, c.requires.samples, length-map a.samples.now input_bytes) in
     record {
       told = subst AreTold (sym (ap (λ (x : Ahead (RowSeen (List ℕ))). x.left) c.in_ok-session.ensures.outlook))
-          (told_positions (with_writes a.flags f) f.step_bound (λ k. requests_of k a.plan.now) inputs (first_state f a.flags) few);
+          (told_positions (with_writes a.flags f) f.step_bound (λ k. requests_of k a.plan.now) inputs
+          (first_state f a.flags) few);
       notes = c.in_ok-session.ensures.noted;
     }
 
@@ -25,7 +26,9 @@ pub returns-clause-answers : goal.returns-clause-answers
 returns-clause-answers c =
     let a = c.args in
     let inputs : List (List ℕ) = map input_bytes a.samples.now in
-    let are : map row_seen c.finish-rows.result.0.items ≡ (firmware_rows a.firmware.now inputs a.plan.now a.flags).rows =
-    c.finish-rows.ensures.rows ∙ c.in-Ok.ensures.leads.rows ∙ ap (λ (x : Ahead (RowSeen (List ℕ))). x.rows) c.in_ok-session.ensures.outlook in
+    let are : map row_seen c.finish-rows.result.0.items
+    ≡ (firmware_rows a.firmware.now inputs a.plan.now a.flags).rows =
+    c.finish-rows.ensures.rows ∙ c.in-Ok.ensures.leads.rows
+    ∙ ap (λ (x : Ahead (RowSeen (List ℕ))). x.rows) c.in_ok-session.ensures.outlook in
     subst (λ (rows : List (RowSeen (List ℕ))). AnswersItsBlock a.firmware.now a.flags inputs a.plan.now rows) (sym are)
     (c.answers_under_plans.ensures a.firmware.now a.flags inputs a.plan.now c.ranges.flags.fits c.requires.plan)

@@ -12,7 +12,8 @@ returns-then-stops-clause-place g c =
     let new = c.note.new.self in
     let e : GoesOn old new = goes_on old there new (c.loop-session-test.ensures.goes refl) c.note.ensures.outlook in
     let is : stops marks old.outlook.here new.outlook.here ≡ true =
-    sym (stops_at_next marks old there new c.loop-session-test.ensures.noted c.has_all_bytes.ensures c.note.ensures.outlook
+    sym (stops_at_next marks old there new c.loop-session-test.ensures.noted c.has_all_bytes.ensures
+    c.note.ensures.outlook
     c.loop-session.invariant.notes)
     ∙ sym c.is_stopped-stops.ensures ∙ c.if-stops.true in
     sym (stopped_place marks old new e is) ∙ c.loop-session.invariant.place
@@ -21,7 +22,8 @@ pub returns-then-stops-clause-leads : goal.returns-then-stops-clause-leads
 returns-then-stops-clause-leads g c =
     let old = c.loop-session.session in
     let new = c.note.new.self in
-    let e : GoesOn old new = goes_on old c.advance.new.self new (c.loop-session-test.ensures.goes refl) c.note.ensures.outlook in
+    let e : GoesOn old new =
+    goes_on old c.advance.new.self new (c.loop-session-test.ensures.goes refl) c.note.ensures.outlook in
     leads_more c.args.session.now old new e c.loop-session.invariant.leads
 
 pub returns-then-stops-clause-notes : goal.returns-then-stops-clause-notes
@@ -38,7 +40,8 @@ loop-session-preserved g c =
     let new = c.note.new.self in
     let e : GoesOn old new = goes_on old there new (c.loop-session-test.ensures.goes refl) c.note.ensures.outlook in
     let off : stops marks old.outlook.here new.outlook.here ≡ false =
-    sym (stops_at_next marks old there new c.loop-session-test.ensures.noted c.has_all_bytes.ensures c.note.ensures.outlook
+    sym (stops_at_next marks old there new c.loop-session-test.ensures.noted c.has_all_bytes.ensures
+    c.note.ensures.outlook
     c.loop-session.invariant.notes)
     ∙ sym c.is_stopped-stops.ensures ∙ c.if-stops.false in
     record {

@@ -11,7 +11,8 @@ loop-order-init g c =
     let session = c.args.session.now in
     let marks = c.in_ok-marks.marks in
     record {
-      shown = starts_shown marks c.args.script.now (place_of session) c.new-all.result.items c.in_ok-marks.ensures c.new-all.ensures.items;
+      shown = starts_shown marks c.args.script.now (place_of session) c.new-all.result.items c.in_ok-marks.ensures
+          c.new-all.ensures.items;
       leads = stays session;
       told = c.requires.told;
       notes = notes_nothing marks session c.in_ok-marks.ensures c.requires.notes c.nothing_is_watched.ensures;
@@ -26,7 +27,8 @@ loop-order-preserved g c =
     record {
       shown = order_more l.marks c.obey.new.marks _ (drop l.order-index script) (drop (l.order-index + 1) script)
           place there l.all.items c.obey.new.shown.items (shown script (place_of c.args.session.now)) l.invariant.shown
-          (drop_more script l.order-index _ c.loop-order-test.true) c.in_ok-obey.ensures.marks c.in_ok-obey.ensures.place
+          (drop_more script l.order-index _ c.loop-order-test.true) c.in_ok-obey.ensures.marks
+          c.in_ok-obey.ensures.place
           c.in_ok-obey.ensures.shown;
       leads = record {
         rows = c.in_ok-obey.ensures.leads.rows ∙ l.invariant.leads.rows;

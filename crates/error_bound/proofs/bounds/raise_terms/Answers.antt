@@ -13,7 +13,8 @@ loop-k-preserved-then-output-out c =
     let errors = c.loop-k.errors in
     let count = c.loop-k.invariant.count in
     let within : j < length cs = omega (arith, ap length c.as_slice-conclusions.ensures) in
-    let named : get_or c.as_slice-conclusions.result.now j (0, 0) ≡ x = ap (λ l. get_or l j (0, 0)) c.as_slice-conclusions.ensures in
+    let named : get_or c.as_slice-conclusions.result.now j (0, 0) ≡ x =
+    ap (λ l. get_or l j (0, 0)) c.as_slice-conclusions.ensures in
     let term = c.requires j (0, 0) within in
     let back : suc j ≡ c.loop-k.k = omega arith in
     let next : drop j cs ≡ x ∷ drop c.loop-k.k cs = drop-cons cs j (0, 0) within ∙ ap (λ n. x ∷ drop n cs) back in
@@ -24,7 +25,10 @@ loop-k-preserved-then-output-out c =
           let output : x.0 ≡ c.args.out = sym (ap (λ (y : ℕ × ℕ). y.0) named) ∙ c.if-output-out.true in
           let made : c.max.result ≡ max (slice_index errors (x.1 - 1)) c.args.error =
           c.max.ensures ∙ ap (λ (y : ℕ × ℕ). max (slice_index errors (y.1 - 1)) c.args.error) named in
-          let raised = raised_by errors c.args.out c.args.error old t c.max.result x count few output term.0 term.1 made (drop c.loop-k.k cs) (c.loop-k.invariant.each t few) in
-          subst (λ (y : ℕ × ℕ). slice_index (slice_set errors (y.1 - 1) c.max.result) t ≡ (if concludes_among c.args.out (t + 1) (drop j cs) then max c.args.error old else old)) (sym named)
-          (subst (λ ys. slice_index (slice_set errors (x.1 - 1) c.max.result) t ≡ (if concludes_among c.args.out (t + 1) ys then max c.args.error old else old)) (sym next) raised);
+          let raised = raised_by errors c.args.out c.args.error old t c.max.result x count few output term.0 term.1 made
+          (drop c.loop-k.k cs) (c.loop-k.invariant.each t few) in
+          subst (λ (y : ℕ × ℕ). slice_index (slice_set errors (y.1 - 1) c.max.result) t
+          ≡ (if concludes_among c.args.out (t + 1) (drop j cs) then max c.args.error old else old)) (sym named)
+          (subst (λ ys. slice_index (slice_set errors (x.1 - 1) c.max.result) t
+          ≡ (if concludes_among c.args.out (t + 1) ys then max c.args.error old else old)) (sym next) raised);
     }

@@ -7,5 +7,6 @@ abbrev pub invariant-loop-k : goal.invariant-loop-k
 invariant-loop-k l = record {
   count : length l.errors ≡ 15;
   each : (t : ℕ) → t < 15 → slice_index l.errors t
-      ≡ (if concludes_among l.out (t + 1) (drop l.k l.rule.concl) then max l.error (slice_index l.initial.errors t) else slice_index l.initial.errors t);
+      ≡ (if concludes_among l.out (t + 1) (drop l.k l.rule.concl) then max l.error (slice_index l.initial.errors t) else
+      slice_index l.initial.errors t);
 }

@@ -34,16 +34,25 @@ loop-b-preserved c =
     record {
       grades_count = length-set c.loop-b.cells.grades b c.grade.result ∙ grades_count;
       errors_count = length-set c.loop-b.cells.errors b error ∙ errors_count;
-      grades = kept_more (λ n y. y ≡ grade_of c.args.table n) c.loop-b.cells.grades from b c.grade.result (omega (arith, few, grades_count)) c.grade.ensures i.grades;
-      errors = kept_more (λ n y. y ≡ e n) c.loop-b.cells.errors from b error (omega (arith, few, errors_count)) c.error_of_cell.ensures.value i.errors;
-      small = kept_more (λ n y. y ≤ 1000000000) c.loop-b.cells.errors from b error (omega (arith, few, errors_count)) c.error_of_cell.ensures.small i.small;
+      grades = kept_more (λ n y. y ≡ grade_of c.args.table n) c.loop-b.cells.grades from b c.grade.result
+          (omega (arith, few, grades_count)) c.grade.ensures i.grades;
+      errors = kept_more (λ n y. y ≡ e n) c.loop-b.cells.errors from b error
+          (omega (arith, few, errors_count)) c.error_of_cell.ensures.value i.errors;
+      small = kept_more (λ n y. y ≤ 1000000000) c.loop-b.cells.errors from b error
+          (omega (arith, few, errors_count)) c.error_of_cell.ensures.small i.small;
     }
 
 pub returns-clause-grades : goal.returns-clause-grades
-returns-clause-grades c = λ n l u. c.loop-b.invariant.grades n l (let e = c.loop-b-test.false in let s = c.from-b-end.ensures in omega (arith, e, s))
+returns-clause-grades c =
+    λ n l u. c.loop-b.invariant.grades n l
+    (let e = c.loop-b-test.false in let s = c.from-b-end.ensures in omega (arith, e, s))
 
 pub returns-clause-errors : goal.returns-clause-errors
-returns-clause-errors c = λ n l u. c.loop-b.invariant.errors n l (let e = c.loop-b-test.false in let s = c.from-b-end.ensures in omega (arith, e, s))
+returns-clause-errors c =
+    λ n l u. c.loop-b.invariant.errors n l
+    (let e = c.loop-b-test.false in let s = c.from-b-end.ensures in omega (arith, e, s))
 
 pub returns-clause-small : goal.returns-clause-small
-returns-clause-small c = λ n l u. c.loop-b.invariant.small n l (let e = c.loop-b-test.false in let s = c.from-b-end.ensures in omega (arith, e, s))
+returns-clause-small c =
+    λ n l u. c.loop-b.invariant.small n l
+    (let e = c.loop-b-test.false in let s = c.from-b-end.ensures in omega (arith, e, s))

@@ -6,7 +6,13 @@ use Rattle.fz_num.specs.Fracs.{fraction_of, IsTruth}
 use Rattle.error_bound.proofs.cells.error_of_cell.Goals as goal
 
 wider : (f : Frac) → IsTruth 1000000000000 f → IsTruth 10000000000000000 f
-wider f t = record { num_from = t.num_from; num_to = t.num_to; den_from = t.den_from; den_to = omega (arith, ints, t.den_to) }
+wider f t = record {
+  num_from = t.num_from;
+  num_to = t.num_to;
+  den_from = t.den_from;
+  den_to =
+      omega (arith, ints, t.den_to);
+}
 
 pub gap-requires : goal.gap-requires
 gap-requires c = wider c.wide.result c.wide.ensures.truth
@@ -26,6 +32,8 @@ gap_small g f hg t = whole_near 1000000000 g (fraction_of f) hg (omega (arith, i
 
 pub returns-clause-small : goal.returns-clause-small
 returns-clause-small c =
-    let a = c.gap.ensures.least 1000000000 (gap_small c.grade-g.result c.wide.result (omega arith) c.wide.ensures.truth) in
-    let b = c.gap-2.ensures.least 1000000000 (gap_small c.grade-g.result c.wide-2.result (omega arith) c.wide-2.ensures.truth) in
+    let a = c.gap.ensures.least 1000000000
+    (gap_small c.grade-g.result c.wide.result (omega arith) c.wide.ensures.truth) in
+    let b = c.gap-2.ensures.least 1000000000
+    (gap_small c.grade-g.result c.wide-2.result (omega arith) c.wide-2.ensures.truth) in
     omega (arith, a, b)

@@ -46,16 +46,19 @@ end_among-loop-k-preserved t c =
       | end_among-in-Some w ↦ subst (IsEndOfCondition b box (condition_of part) upper) (sym w.end-is)
           (subst (λ x. IsEndOfCondition b box x upper w.end_of_literal-end.result) (sym w.in-Some.ensures)
           w.end_of_literal-end.ensures)
-      | end_among-in-None w ↦ subst (IsEndOfCondition b box (condition_of part) upper) (sym w.end-is) w.end_of-end.ensures
+      | end_among-in-None w ↦ subst (IsEndOfCondition b box (condition_of part) upper)
+          (sym w.end-is) w.end_of-end.ensures
     ] in
     let m = c.joined-joined.ensures in
-    end_from b box c.args.any upper c.args.parts.now c.loop-k.k part q c.loop-k.joined c.joined-joined.result (search rules) (search rules)
+    end_from b box c.args.any upper c.args.parts.now c.loop-k.k part q c.loop-k.joined c.joined-joined.result
+    (search rules) (search rules)
     c.index-parts-k.is made c.loop-k.invariant m.value m.byte m.small
 
 pub end_among-loop-k-init : goal.end_among-loop-k-init
 end_among-loop-k-init t c =
     let m = c.of_none-joined.ensures in
-    end_from_none c.args.block.now c.args.terms.now.bytes.0.items c.args.any c.args.upper c.args.parts.now c.of_none-joined.result m.value m.byte m.small
+    end_from_none c.args.block.now c.args.terms.now.bytes.0.items c.args.any c.args.upper c.args.parts.now
+    c.of_none-joined.result m.value m.byte m.small
 
 pub end_of-end_among-requires : goal.end_of-end_among-requires
 end_of-end_among-requires t c =

@@ -6,4 +6,5 @@ use Rattle.error_bound.proofs.ends.+ends.Given as goal
 
 abbrev pub invariant-end_among-loop-k : goal.invariant-end_among-loop-k
 invariant-end_among-loop-k l =
-    IsEndOfCondition l.block l.terms.bytes.0.items (group l.any (conditions (map condition_of (drop l.k l.parts)))) l.upper l.joined
+    IsEndOfCondition l.block l.terms.bytes.0.items (group l.any (conditions (map condition_of (drop l.k l.parts))))
+    l.upper l.joined

@@ -5,15 +5,19 @@ use Rattle.error_bound.proofs.FlatteningLemmas.{come_to_more, pushed_group, push
 use Rattle.error_bound.proofs.flattening.+flattening.Goals as goal
 
 pub push_each-loop-part-preserved : goal.push_each-loop-part-preserved
-push_each-loop-part-preserved t c = come_to_more c.args.any c.args.odd _ c.args.parts.now c.loop-part.part-index c.part-item.result _ _ c.loop-part-test.true c.part-item.is c.loop-part.invariant c.in_ok-push_pieces.ensures
+push_each-loop-part-preserved t c =
+    come_to_more c.args.any c.args.odd _ c.args.parts.now c.loop-part.part-index c.part-item.result _ _
+    c.loop-part-test.true c.part-item.is c.loop-part.invariant c.in_ok-push_pieces.ensures
 
 pub push_group-returns : goal.push_group-returns
 push_group-returns t c =
     let parts = each_pieces c.args.kind c.args.odd (conditions (map condition_of c.args.parts.now)) in
-    pushed_group c.args.any c.args.kind _ _ _ c.grouped.result parts c.if-kind-any.false c.in_ok-push.ensures.items c.grouped.ensures
+    pushed_group c.args.any c.args.kind _ _ _ c.grouped.result parts c.if-kind-any.false c.in_ok-push.ensures.items
+    c.grouped.ensures
     (c.in_ok-push_each.ensures ∙ ap (λ xs. map condition_of xs ++ parts) c.new-inner.ensures.items)
 
 pub push_pieces-returns-in_ok-push-in-Is : goal.push_pieces-returns-in_ok-push-in-Is
 push_pieces-returns-in_ok-push-in-Is t c =
-    pushed_literal c.args.any c.args.odd _ _ c.in_ok-literal-in-Is.literal c.args.cond.now c.in-Is.input c.in-Is.term c.in_ok-push-in-Is.ensures.items
+    pushed_literal c.args.any c.args.odd _ _ c.in_ok-literal-in-Is.literal c.args.cond.now c.in-Is.input c.in-Is.term
+    c.in_ok-push-in-Is.ensures.items
     c.in_ok-literal-in-Is.ensures c.in-Is.is

@@ -9,7 +9,8 @@ pub returns-then-high-gt0-clause-fault : goal.returns-then-high-gt0-clause-fault
 returns-then-high-gt0-clause-fault c =
     let high = c.args.high in
     let n = c.args.n in
-    subst (λ (k : ℕ). IsSilentFault n (only_truth (value_of high.truth)) (only_byte high.byte) (Silent n (record { 0 = k }))) (sym c.up_nano.ensures) (silent (omega (arith, c.if-high-gt0.true)))
+    subst (λ (k : ℕ). IsSilentFault n (only_truth (value_of high.truth)) (only_byte high.byte)
+    (Silent n (record { 0 = k }))) (sym c.up_nano.ensures) (silent (omega (arith, c.if-high-gt0.true)))
 
 pub returns-then-high-gt0-2-clause-fault : goal.returns-then-high-gt0-2-clause-fault
 returns-then-high-gt0-2-clause-fault c =

@@ -11,7 +11,9 @@ pub returns-then-is_below-clause-fault : goal.returns-then-is_below-clause-fault
 returns-then-is_below-clause-fault c =
     let low = c.args.low in
     let leaf = c.args.leaf in
-    subst (λ (k : ℕ). IsStrongFault leaf (only_truth (value_of low.truth)) (only_byte low.byte) (Weak leaf.rule leaf.k (record { 0 = k }))) (sym c.floor_nano.ensures) (weak (c.is_below.ensures.0 c.if-is_below.true))
+    subst (λ (k : ℕ). IsStrongFault leaf (only_truth (value_of low.truth)) (only_byte low.byte)
+    (Weak leaf.rule leaf.k (record { 0 = k }))) (sym c.floor_nano.ensures)
+    (weak (c.is_below.ensures.0 c.if-is_below.true))
 
 not_below : (f g : Fraction) → (IsBelow f g → ⊥) → AtMost g f
 not_below f g h = ⊎_elim
@@ -20,4 +22,6 @@ not_below f g h = ⊎_elim
     (cases_lt (f.num * g.den) (g.num * f.den))
 
 pub returns-then-low-eq0-clause-fault : goal.returns-then-low-eq0-clause-fault
-returns-then-low-eq0-clause-fault c = still (not_below _ _ (λ b. (let yes = c.is_below.ensures.1 b in let z : ⊥ = cc in z))) (let z = c.if-low-eq0.true in omega (arith, z))
+returns-then-low-eq0-clause-fault c =
+    still (not_below _ _ (λ b. (let yes = c.is_below.ensures.1 b in let z : ⊥ = cc in z)))
+    (let z = c.if-low-eq0.true in omega (arith, z))

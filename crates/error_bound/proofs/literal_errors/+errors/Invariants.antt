@@ -6,4 +6,5 @@ use Rattle.error_bound.proofs.literal_errors.+errors.Given as goal
 
 abbrev pub invariant-error_among-loop-k : goal.invariant-error_among-loop-k
 invariant-error_among-loop-k l =
-    (l.greatest ≡ greatest_among (term_errors l.block l.terms.bytes.0.items) (conditions (map condition_of (drop l.k l.parts)))) × (l.greatest ≤ 1000000000)
+    (l.greatest ≡ greatest_among (term_errors l.block l.terms.bytes.0.items)
+    (conditions (map condition_of (drop l.k l.parts)))) × (l.greatest ≤ 1000000000)

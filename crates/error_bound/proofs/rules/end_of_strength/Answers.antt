@@ -12,5 +12,6 @@ pub returns : goal.returns
 returns c =
     let rule = c.args.rule.now in
     let weight : unsigned_abs c.unwrap_or-weight.result.0 ≡ weight_of rule.weight = search rules in
-    end_weighted c.args.block.now c.args.terms.now.bytes.0.items rule c.args.upper (condition_of c.condition_in-cond.result.now) c.end_of-end.result _ _
+    end_weighted c.args.block.now c.args.terms.now.bytes.0.items rule c.args.upper
+    (condition_of c.condition_in-cond.result.now) c.end_of-end.result _ _
     c.condition_in-cond.ensures c.end_of-end.ensures weight c.times.ensures.value (search rules) c.times.ensures.ratio

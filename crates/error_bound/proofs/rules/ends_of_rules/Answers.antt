@@ -25,8 +25,11 @@ loop-n-preserved c =
     let made : IsEndOfRule b box r0 upper c.end_of_strength.result = c.end_of_strength.ensures in
     let here = λ (r : Rule) (e : slice_get b.rules n ≡ Some r).
     let same_r : r0 ≡ r = c.index-all-n.is ∙ ap (λ l. get_or l n r0) all ∙ get_or_from_slice_get b.rules n r r0 e in
-    subst (λ z. IsEndOfRule b box z upper c.end_of_strength.result) same_r made in
-    (omega (arith, length-set {A = End}), AreFilled-more (λ (_ : ℕ) (r : Rule) (e : End). IsEndOfRule b box r upper e) b.rules c.loop-n.ends n c.end_of_strength.result (omega (arith, same)) c.loop-n.invariant.1 here)
+    subst (λ z. IsEndOfRule b box z upper c.end_of_strength.result) same_r made in (
+      omega (arith, length-set {A = End}),
+      AreFilled-more (λ (_ : ℕ) (r : Rule) (e : End). IsEndOfRule b box r upper e) b.rules c.loop-n.ends n
+          c.end_of_strength.result (omega (arith, same)) c.loop-n.invariant.1 here,
+    )
 
 pub returns : goal.returns
 returns c = λ k r e. c.loop-n.invariant.1 k r

@@ -10,7 +10,8 @@ error_of-requires-clause-cond c = c.condition_in-cond.ensures.valid c.requires.r
 pub returns : goal.returns
 returns c =
     let e = term_errors c.args.block.now c.args.terms.now.bytes.0.items in
-    let literals : c.error_of.result ≡ greatest_literal e (condition_of c.args.rule.now.cond) = c.error_of.ensures.value ∙ c.condition_in-cond.ensures.errors e in
+    let literals : c.error_of.result ≡ greatest_literal e (condition_of c.args.rule.now.cond) = c.error_of.ensures.value
+    ∙ c.condition_in-cond.ensures.errors e in
     record {
       value = search (rules, literals);
       small = search rules;

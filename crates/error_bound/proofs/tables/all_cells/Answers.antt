@@ -1,4 +1,5 @@
-use Rattle.std.proofs.Common.{◌≡◌, ℕ, ◌+◌, [], ◌∷◌, ◌++◌, length, length-append, get_or, Some, sym, ap, ◌∙◌, subst, arith}
+use Rattle.std.proofs.Common.{◌≡◌, ℕ, ◌+◌, [], ◌∷◌, ◌++◌, length, length-append, get_or, Some, sym, ap, ◌∙◌, subst}
+use Rattle.std.proofs.Common.{arith}
 use Rattle.std.specs.Prelude.{slice_get}
 use Rattle.std.proofs.lemmas.Option.{slice_get_within, get_or_from_slice_get}
 use Rattle.fuzzy_meaning.specs.declared.block.Input.{Input}
@@ -20,12 +21,17 @@ loop-input-preserved c =
     let items = c.in_ok-push.ensures.items in
     let count = i.0 in
     let here = λ (x : Input) (e : slice_get xs t ≡ Some x).
-    let same : x0 ≡ x = c.input-item.is ∙ ap (λ l. get_or l t x0) c.as_slice-input-items.ensures ∙ get_or_from_slice_get xs t x x0 e in
+    let same : x0 ≡ x = c.input-item.is ∙ ap (λ l. get_or l t x0) c.as_slice-input-items.ensures
+    ∙ get_or_from_slice_get xs t x x0 e in
     subst (λ z. AreInputCells z all_bytes c.new.result) same c.new.ensures in
-    let longer : length (c.loop-input.inputs.items ++ c.new.result ∷ []) ≡ t + 1 = let l = length-append c.loop-input.inputs.items (c.new.result ∷ []) in omega (arith, l, count) in (
+    let longer : length (c.loop-input.inputs.items ++ c.new.result ∷ []) ≡ t + 1 =
+    let l = length-append c.loop-input.inputs.items (c.new.result ∷ []) in omega (arith, l, count) in (
       ap length items ∙ longer,
-      subst (λ ys. AreFilled P xs ys (t + 1)) (sym items) (AreFilled-push P xs c.loop-input.inputs.items t c.new.result count i.1 here),
+      subst (λ ys. AreFilled P xs ys (t + 1)) (sym items)
+          (AreFilled-push P xs c.loop-input.inputs.items t c.new.result count i.1 here),
     )
 
 pub returns : goal.returns
-returns c i x e = c.loop-input.invariant.1 i x (let l = slice_get_within c.args.block.now.inputs i x e in let lens = ap length c.as_slice-input-items.ensures in let end = c.loop-input-test.false in omega (arith, l, lens, end)) e
+returns c i x e = c.loop-input.invariant.1 i x
+    (let l = slice_get_within c.args.block.now.inputs i x e in let lens = ap length c.as_slice-input-items.ensures in
+    let end = c.loop-input-test.false in omega (arith, l, lens, end)) e

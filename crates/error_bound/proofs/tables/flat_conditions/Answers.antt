@@ -1,4 +1,5 @@
-use Rattle.std.proofs.Common.{◌≡◌, ℕ, ◌+◌, [], ◌∷◌, ◌++◌, length, length-append, get_or, Some, sym, ap, ◌∙◌, subst, arith}
+use Rattle.std.proofs.Common.{◌≡◌, ℕ, ◌+◌, [], ◌∷◌, ◌++◌, length, length-append, get_or, Some, sym, ap, ◌∙◌, subst}
+use Rattle.std.proofs.Common.{arith}
 use Rattle.std.specs.Prelude.{slice_get}
 use Rattle.std.proofs.lemmas.Option.{slice_get_within, get_or_from_slice_get}
 use Rattle.fuzzy_meaning.specs.declared.block.Cond.{Cond}
@@ -22,11 +23,14 @@ loop-rule-preserved c =
     let items = c.in_ok-push.ensures.items in
     let count = i.0 in
     let here = λ (r : Rule) (e : slice_get rs t ≡ Some r).
-    let same : r0 ≡ r = c.rule-item.is ∙ ap (λ l. get_or l t r0) c.as_slice-rule-items.ensures ∙ get_or_from_slice_get rs t r r0 e in
+    let same : r0 ≡ r = c.rule-item.is ∙ ap (λ l. get_or l t r0) c.as_slice-rule-items.ensures
+    ∙ get_or_from_slice_get rs t r r0 e in
     subst (λ z. condition_of cond ≡ flat (condition_of z.cond)) same c.in_ok-cond.ensures in
-    let longer : length (c.loop-rule.conditions.items ++ cond ∷ []) ≡ t + 1 = let l = length-append c.loop-rule.conditions.items (cond ∷ []) in omega (arith, l, count) in (
+    let longer : length (c.loop-rule.conditions.items ++ cond ∷ []) ≡ t + 1 =
+    let l = length-append c.loop-rule.conditions.items (cond ∷ []) in omega (arith, l, count) in (
       ap length items ∙ longer,
-      subst (λ ys. AreFilled P rs ys (t + 1)) (sym items) (AreFilled-push P rs c.loop-rule.conditions.items t cond count i.1 here),
+      subst (λ ys. AreFilled P rs ys (t + 1)) (sym items)
+          (AreFilled-push P rs c.loop-rule.conditions.items t cond count i.1 here),
     )
 
 pub returns : goal.returns

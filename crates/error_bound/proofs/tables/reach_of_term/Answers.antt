@@ -12,11 +12,13 @@ returns c =
     let o = c.over-grades.ensures in
     record {
       value = c.degrees_of.ensures.value;
-      bytes = ap₂ (λ a b. record { low = a; high = b }) (o.least ∙ least_is x term v v cells c.requires.cells (omega arith) (omega arith) c.requires.order)
+      bytes = ap₂ (λ a b. record { low = a; high = b })
+          (o.least ∙ least_is x term v v cells c.requires.cells (omega arith) (omega arith) c.requires.order)
           (o.greatest ∙ greatest_is x term v v cells c.requires.cells (omega arith) (omega arith) c.requires.order);
       error = o.error ∙ error_is x term v v cells c.requires.cells (omega arith) (omega arith) c.requires.order;
       small = record {
         degrees = c.degrees_of.ensures.truth;
-        error = subst (λ e. e ≤ billion) (sym o.error) (error_small x term v v cells c.requires.cells (omega arith) (omega arith) c.requires.order);
+        error = subst (λ e. e ≤ billion) (sym o.error)
+            (error_small x term v v cells c.requires.cells (omega arith) (omega arith) c.requires.order);
       };
     }

@@ -25,9 +25,11 @@ reach_of_term-requires-clause-cells c =
     let terms = c.as_slice-terms.result.now in
     let same = c.as_slice-terms.ensures in
     let at : slice_get terms t ≡ Some (get_or terms t no_term) = slice_get-get_or terms t no_term c.loop-t-test.true in
-    let found : slice_get x.terms t ≡ Some (get_or terms t no_term) = subst (λ l. slice_get l t ≡ Some (get_or terms t no_term)) same at in
+    let found : slice_get x.terms t ≡ Some (get_or terms t no_term) =
+    subst (λ l. slice_get l t ≡ Some (get_or terms t no_term)) same at in
     let cells = c.requires.cells t (get_or terms t no_term) found in
-    subst (AreTermCells x (get_or terms t no_term) c.args.bytes) (sym (get_or_from_slice_get c.args.cells.now.terms t cells.0 no_cells cells.1)) cells.2
+    subst (AreTermCells x (get_or terms t no_term) c.args.bytes)
+    (sym (get_or_from_slice_get c.args.cells.now.terms t cells.0 no_cells cells.1)) cells.2
 
 pub loop-t-preserved : goal.loop-t-preserved
 loop-t-preserved c =
@@ -41,9 +43,16 @@ loop-t-preserved c =
     let few = c.requires.input.few_terms in
     let lens = ap length same in
     let here = λ (term : Trapezoid) (e : slice_get x.terms t ≡ Some term).
-    let is : get_or terms t no_term ≡ term = ap (λ l. get_or l t no_term) same ∙ get_or_from_slice_get x.terms t term no_term e in
-    subst (λ q. IsReachOfTerm x q v c.reach_of_term.result) is c.reach_of_term.ensures in
-    (omega (arith, length-set {A = Reach}), AreFilled-more P x.terms c.loop-t.reaches t c.reach_of_term.result (omega (arith, lens)) c.loop-t.invariant.1 here)
+    let is : get_or terms t no_term ≡ term = ap (λ l. get_or l t no_term) same
+    ∙ get_or_from_slice_get x.terms t term no_term e in
+    subst (λ q. IsReachOfTerm x q v c.reach_of_term.result) is c.reach_of_term.ensures in (
+      omega (arith, length-set {A = Reach}),
+      AreFilled-more P x.terms c.loop-t.reaches t c.reach_of_term.result
+          (omega (arith, lens)) c.loop-t.invariant.1 here,
+    )
 
 pub returns : goal.returns
-returns c t term e = c.loop-t.invariant.1 t term (let l = slice_get_within c.args.input.now.terms t term e in let lens = ap length c.as_slice-terms.ensures in omega (arith, lens)) e
+returns c t term e =
+    c.loop-t.invariant.1 t term
+    (let l = slice_get_within c.args.input.now.terms t term e in let lens = ap length c.as_slice-terms.ensures in
+    omega (arith, lens)) e

@@ -20,11 +20,14 @@ unreachable-requires c =
 pub returns-in-Ok-clause-pair : goal.returns-in-Ok-clause-pair
 returns-in-Ok-clause-pair c =
     let small : c.in-Some.leaf.k ≤ 255 = omega arith in
-    pair_of_best c.args.block.now c.args.table.now.bytes.0.items (c.args.place + 1) c.in-Some.leaf c.requires.block small c.in-Some.ensures
+    pair_of_best c.args.block.now c.args.table.now.bytes.0.items (c.args.place + 1) c.in-Some.leaf c.requires.block
+    small c.in-Some.ensures
 
 pub returns-in-Ok-2-clause-bound : goal.returns-in-Ok-2-clause-bound
 returns-in-Ok-2-clause-bound c = λ x e.
     let b = c.args.block.now in
     let box = c.args.table.now.bytes.0.items in
     of_leaf c.in-Some.leaf c.in-Ok.bound c.in-Some.ensures
-    (at_place b c.args.place x (λ (y : Output). IsBound b box (c.args.place + 1) y c.args.parts c.in-Some.leaf c.in-Ok.bound) e c.in-Ok.ensures.bound)
+    (at_place b c.args.place x
+    (λ (y : Output). IsBound b box (c.args.place + 1) y c.args.parts c.in-Some.leaf c.in-Ok.bound) e
+    c.in-Ok.ensures.bound)

@@ -11,9 +11,13 @@ returns-clause-value c =
     let b = c.args.block.now in
     let flat = c.args.flat.now in
     let w = c.args.width in
-    let terms : c.input_terms-terms.result ≡ input_term_count b = c.input_terms-terms.ensures.value ∙ ap (λ xs. sum_by term_count xs) c.as_slice.ensures in
-    let singletons : c.output_terms.result ≡ output_term_count b = c.output_terms.ensures.value ∙ ap (λ xs. sum_by singleton_count xs) c.as_slice-2.ensures in
-    let outputs : c.output_bounds.result ≡ sum_by (output_bound w) b.outputs = c.output_bounds.ensures.value ∙ ap (λ xs. sum_by (output_bound w) xs) c.as_slice-3.ensures in
+    let terms : c.input_terms-terms.result ≡ input_term_count b = c.input_terms-terms.ensures.value
+    ∙ ap (λ xs. sum_by term_count xs) c.as_slice.ensures in
+    let singletons : c.output_terms.result ≡ output_term_count b = c.output_terms.ensures.value
+    ∙ ap (λ xs. sum_by singleton_count xs) c.as_slice-2.ensures in
+    let outputs : c.output_bounds.result ≡ sum_by (output_bound w) b.outputs = c.output_bounds.ensures.value
+    ∙ ap (λ xs. sum_by (output_bound w) xs) c.as_slice-3.ensures in
     let slots : length flat.slots ≡ length (slots_of b) = ap (λ xs. length xs) (slots-flat_of flat b c.requires.flat) in
-    let form : c.form_bound.result ≡ form_bound (form_of b) = c.form_bound.ensures.value ∙ ap form_bound (form-flat_of flat b c.requires.flat) in
+    let form : c.form_bound.result ≡ form_bound (form_of b) = c.form_bound.ensures.value
+    ∙ ap form_bound (form-flat_of flat b c.requires.flat) in
     omega arith

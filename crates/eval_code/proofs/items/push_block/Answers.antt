@@ -11,7 +11,8 @@ returns c =
     let b = c.args.block.now in
     let w = c.args.width in
     let flat = c.args.flat.now in
-    let eval = eval_code_over-flat l b w flat _ _ _ c.requires.flat c.as_slice.ensures c.as_slice-2.ensures c.as_slice-3.ensures in
+    let eval = eval_code_over-flat l b w flat _ _ _ c.requires.flat c.as_slice.ensures c.as_slice-2.ensures
+    c.as_slice-3.ensures in
     let rules = rule_data-flat l b flat c.requires.flat in
     let code = three_pieces _ _ _ _ c.args.before.now (eval_code l b w) c.args.behind.now
     c.in_ok-push_code.ensures
@@ -22,5 +23,7 @@ returns c =
     code
     c.in_ok-push_tables_at.ensures
     c.in_ok-push-2.ensures.items
-    (c.in_ok-push_singletons.ensures ∙ ap (λ outputs. c.push-2.new.self.items ++ map Byte (flat_map singleton_bytes_of outputs)) c.as_slice-4.ensures)
+    (c.in_ok-push_singletons.ensures
+    ∙ ap (λ outputs. c.push-2.new.self.items ++ map Byte (flat_map singleton_bytes_of outputs))
+    c.as_slice-4.ensures)
     (c.in_ok-push_rule_data.ensures ∙ ap (λ items. c.push_singletons.new.items.items ++ items) rules)

@@ -15,8 +15,12 @@ returns c =
     let outputs = c.args.outputs.now in
     let slots = c.args.slots.now in
     let w = c.args.width in
-    let first : l.slots + c.saturating_sub.result ≡ l.slots + input_slots slots outputs = omega (arith, c.saturating_sub.ensures, c.output_terms.ensures.value) in
-    let answers = c.in_ok-push_outputs.ensures ∙ ap (λ n. c.push_rules.new.items.items ++ map Op (outputs_code w l.singletons n l.outputs outputs)) first in
+    let first : l.slots + c.saturating_sub.result ≡ l.slots + input_slots slots outputs =
+    omega (arith, c.saturating_sub.ensures, c.output_terms.ensures.value) in
+    let answers = c.in_ok-push_outputs.ensures
+    ∙ ap (λ n. c.push_rules.new.items.items ++ map Op (outputs_code w l.singletons n l.outputs outputs)) first in
     five_pieces _ _ _ _ _ _
-    (LdxImmediate l.tables ∷ LdyImmediate l.slots ∷ []) (fuzzify_code l.inputs inputs) (slots_code l.slots inputs l.slots slots) (rules_code l c.args.form) (outputs_code w l.singletons (l.slots + input_slots slots outputs) l.outputs outputs)
+    (LdxImmediate l.tables ∷ LdyImmediate l.slots ∷ []) (fuzzify_code l.inputs inputs)
+    (slots_code l.slots inputs l.slots slots) (rules_code l c.args.form)
+    (outputs_code w l.singletons (l.slots + input_slots slots outputs) l.outputs outputs)
     c.in_ok-push_code.ensures c.in_ok-push_fuzzify.ensures c.in_ok-push_slots.ensures c.in_ok-push_rules.ensures answers

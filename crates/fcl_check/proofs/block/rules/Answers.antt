@@ -12,7 +12,8 @@ each-preserved c =
     let value = c.deref-next-items.ensures.value in
     let nodes = c.args.source.now.tree.now.block.rules.rules.items in
     let node = c.next-item.result in
-    let more = one_further nodes c.each.next-index node node (rw value at c.each-test.true) (rw value at c.next-item.is) refl in
+    let more = one_further nodes c.each.next-index node node (rw value at c.each-test.true)
+    (rw value at c.next-item.is) refl in
     let IsRule = IsRuleOf c.args.source.now.tree.now.text.items c.args.source.now.tree.now.block in
     rw (c.in_ok-push.ensures.items, more) (all_related_more IsRule
     (take c.each.next-index nodes) c.each.rules.items node c.in_ok-next.next c.each.invariant c.in_ok-next.ensures)
@@ -23,5 +24,7 @@ rule-requires c =
     let text = source.tree.now.text.items in
     let block = source.tree.now.block in
     let value = c.deref-next-items.ensures.value in
-    let sound = All-from_recursion (IsSoundRule text block) block.rules.rules.items (sound_rules text block (faultless text block source.sound)) in
-    subst (IsSoundRule text block) (sym (rw value at c.next-item.is)) (sound c.each.next-index c.next-item.result (rw value at c.each-test.true))
+    let sound = All-from_recursion (IsSoundRule text block) block.rules.rules.items
+    (sound_rules text block (faultless text block source.sound)) in
+    subst (IsSoundRule text block) (sym (rw value at c.next-item.is))
+    (sound c.each.next-index c.next-item.result (rw value at c.each-test.true))

@@ -9,7 +9,8 @@ use Rattle.fcl_check.proofs.checks.first_in.Goals as goal
 pub returns-in-None : goal.returns-in-None
 returns-in-None g c = λ in_section in_rule section_says rule_says.
     let parts = c.args.tree.now.block.parts.items in
-    let front : first (flat_map in_section parts) ≡ None = sym (rw c.deref.ensures.value at (c.first_at.ensures in_section section_says)) ∙ c.in-None.is in
+    let front : first (flat_map in_section parts) ≡ None =
+    sym (rw c.deref.ensures.value at (c.first_at.ensures in_section section_says)) ∙ c.in-None.is in
     rw (
       first-append (flat_map in_section parts) (flat_map in_rule c.args.tree.now.block.rules.rules.items),
       front,

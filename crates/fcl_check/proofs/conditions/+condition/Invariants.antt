@@ -7,11 +7,16 @@ use Rattle.fcl_check.specs.Loaded.{literal_of, not_condition, and_condition}
 use Rattle.fcl_check.proofs.conditions.+condition.Given as goal
 
 abbrev pub invariant-and-each : goal.invariant-and-each
-invariant-and-each l = map condition_of l.parts.items ≡ not_condition (literal_of l.source.tree.now.text.items l.source.tree.now.block)
-    (view_not (out-And l.and).first) ∷ map (λ j. not_condition (literal_of l.source.tree.now.text.items l.source.tree.now.block) (view_conjunct j).1)
+invariant-and-each l =
+    map condition_of l.parts.items ≡ not_condition (literal_of l.source.tree.now.text.items l.source.tree.now.block)
+    (view_not (out-And l.and).first)
+    ∷ map (λ j. not_condition (literal_of l.source.tree.now.text.items l.source.tree.now.block) (view_conjunct j).1)
     (take l.conjunct-index (out-And l.and).more.items)
 
 abbrev pub invariant-or-each : goal.invariant-or-each
-invariant-or-each l = map condition_of l.parts.items ≡ and_condition (literal_of l.source.tree.now.text.items l.source.tree.now.block)
-    (view_and (out-Or l.or).first) ∷ map (λ a. and_condition (literal_of l.source.tree.now.text.items l.source.tree.now.block) (view_alternative a).1)
+invariant-or-each l =
+    map condition_of l.parts.items ≡ and_condition (literal_of l.source.tree.now.text.items l.source.tree.now.block)
+    (view_and (out-Or l.or).first)
+    ∷ map (λ a. and_condition (literal_of l.source.tree.now.text.items l.source.tree.now.block)
+    (view_alternative a).1)
     (take l.alternative-index (out-Or l.or).more.items)

@@ -26,7 +26,8 @@ each-preserved c =
           (all_zipped_more IsTermOf _ _ _ _ c.each.invariant w.trapezoid.ensures)
       | in_default w ↦ rw (
         w.terms-is,
-        filter_map-more term_of lines c.deref-line-items.result.now c.each.line-index c.line-item.result None c.deref-line-items.ensures.value within
+        filter_map-more term_of lines c.deref-line-items.result.now c.each.line-index c.line-item.result None
+            c.deref-line-items.ensures.value within
             c.line-item.is (search rules),
         append-nil,
       ) c.each.invariant

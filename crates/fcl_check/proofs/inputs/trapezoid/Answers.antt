@@ -10,8 +10,10 @@ loop-point-init c = c.with-corners.ensures [] (record { a = refl; b = refl; c = 
 pub loop-point-preserved : goal.loop-point-preserved
 loop-point-preserved c =
     let points = c.args.term.now.more.items in
-    AreCornersOf-more c.args.term.now.first points c.deref-point-items.result.now c.loop-point.point-index _ _ c.deref-point-items.ensures.value (omega arith)
-    (c.with-corners-in-loop-point.ensures (c.args.term.now.first ∷ take c.loop-point.point-index points) c.loop-point.invariant)
+    AreCornersOf-more c.args.term.now.first points c.deref-point-items.result.now c.loop-point.point-index _ _
+    c.deref-point-items.ensures.value (omega arith)
+    (c.with-corners-in-loop-point.ensures (c.args.term.now.first ∷ take c.loop-point.point-index points)
+    c.loop-point.invariant)
 
 pub unwrap-requires : goal.unwrap-requires
 unwrap-requires c =

@@ -5,4 +5,5 @@ use Rattle.fcl_check.proofs.laws.spelled_blocks_are_one.Goals as goal
 
 pub returns : goal.returns
 returns c = λ text p q of_p of_q. same_blocks (str_to_ascii_lowercase text) of_p.tree of_q.tree
-    (c.trees_are_one.ensures text (view of_p.tree) (view of_q.tree) of_p.spelled of_q.spelled) p q of_p.loaded of_q.loaded
+    (c.trees_are_one.ensures text (view of_p.tree) (view of_q.tree) of_p.spelled of_q.spelled) p q of_p.loaded
+    of_q.loaded

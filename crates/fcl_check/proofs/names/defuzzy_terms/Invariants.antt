@@ -10,5 +10,6 @@ abbrev pub invariant-each : goal.invariant-each
 invariant-each l = record {
   numbers : Numbers l.tree.text.items (names_of_singletons (take l.line-index l.section.lines.items)) l.terms;
   others : l.others.items ≡ filter is_other (take l.line-index l.section.lines.items);
-  once : first (repeated (same_output_line l.tree.text.items l.tree.block) output_line_at (take l.line-index l.section.lines.items)) ≡ None;
+  once : first (repeated (same_output_line l.tree.text.items l.tree.block) output_line_at
+      (take l.line-index l.section.lines.items)) ≡ None;
 }

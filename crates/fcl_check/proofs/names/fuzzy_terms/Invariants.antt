@@ -10,5 +10,6 @@ abbrev pub invariant-each : goal.invariant-each
 invariant-each l = record {
   numbers : Numbers l.tree.text.items (names_of_terms (take l.line-index l.section.lines.items)) l.terms;
   range : l.has_range ≡ list_any is_range (take l.line-index l.section.lines.items);
-  once : first (repeated (same_line l.tree.text.items l.tree.block) line_at (take l.line-index l.section.lines.items)) ≡ None;
+  once : first (repeated (same_line l.tree.text.items l.tree.block) line_at (take l.line-index l.section.lines.items))
+      ≡ None;
 }

@@ -8,8 +8,10 @@ returns-then-contains_key-clause-fault c =
     let value = c.deref-part-items.ensures.value in
     let parts = c.args.tree.now.block.parts.items in
     let p = c.part-item.result in
-    let more = one_further parts c.each.part-index p p (rw value at c.each-test.true) (rw value at c.part-item.is) refl in
-    let here = section_twice c.args.tree.now.text.items c.args.tree.now.block parts c.each.part-index p more c.each.sections c.each.invariant.sections
+    let more = one_further parts c.each.part-index p p (rw value at c.each-test.true)
+    (rw value at c.part-item.is) refl in
+    let here = section_twice c.args.tree.now.text.items c.args.tree.now.block parts c.each.part-index p more
+    c.each.sections c.each.invariant.sections
     c.section_name-name.result c.section_name-name.ensures c.each.invariant.once
     (sym (rw c.letters.ensures at c.if-contains_key.ensures)) in
     λ h. rw here refl
@@ -20,8 +22,10 @@ returns-in_err-terms-clause-fault c =
     let value = c.deref-part-items.ensures.value in
     let parts = c.args.tree.now.block.parts.items in
     let p = c.part-item.result in
-    let more = one_further parts c.each.part-index p p (rw value at c.each-test.true) (rw value at c.part-item.is) refl in
-    rw passed (line_twice c.args.tree.now.text.items c.args.tree.now.block parts c.each.part-index p more c.each.sections c.each.invariant.sections
+    let more = one_further parts c.each.part-index p p (rw value at c.each-test.true)
+    (rw value at c.part-item.is) refl in
+    rw passed (line_twice c.args.tree.now.text.items c.args.tree.now.block parts c.each.part-index p more
+    c.each.sections c.each.invariant.sections
     c.section_name-name.result c.section_name-name.ensures c.each.invariant.once
     (sym (rw c.letters.ensures at c.if-contains_key.ensures)) c.in_err-terms.field-0.0 c.in_err-terms.ensures.fault)
 
@@ -36,8 +40,10 @@ each-preserved c =
     let more = one_further parts i p p (rw value at c.each-test.true) (rw value at c.part-item.is) refl in
     let so_far = c.each.invariant in
     record {
-      sections = sections_more text b parts i p more c.each.sections so_far.sections c.section_name-name.result c.section_name-name.ensures _ _ refl
+      sections = sections_more text b parts i p more c.each.sections so_far.sections c.section_name-name.result
+          c.section_name-name.ensures _ _ refl
           c.in_ok-terms.ensures.terms c.in_ok-add.ensures.added;
-      once = section_once text b parts i p more c.each.sections so_far.sections c.section_name-name.result c.section_name-name.ensures so_far.once
+      once = section_once text b parts i p more c.each.sections so_far.sections c.section_name-name.result
+          c.section_name-name.ensures so_far.once
           (sym (rw c.letters.ensures at c.if-contains_key.ensures)) c.in_ok-terms.ensures.fault;
     }

@@ -7,5 +7,6 @@ use Rattle.fcl_check.proofs.names.sections.Given as goal
 abbrev pub invariant-each : goal.invariant-each
 invariant-each l = record {
   sections : HoldsSections l.tree.text.items (take l.part-index l.tree.block.parts.items) l.sections;
-  once : first (at_each (repeated_section l.tree.text.items l.tree.block) [] (take l.part-index l.tree.block.parts.items)) ≡ None;
+  once : first (at_each (repeated_section l.tree.text.items l.tree.block) []
+      (take l.part-index l.tree.block.parts.items)) ≡ None;
 }

@@ -7,7 +7,9 @@ use Rattle.fcl_check.proofs.names.variables.Given as goal
 
 abbrev pub invariant-each : goal.invariant-each
 invariant-each l = record {
-  variables : (ls : List ℕ) → at_letters l.variables ls ≡ variable_in l.tree.text.items (take l.direction-index l.declared) ls;
+  variables : (ls : List ℕ)
+      → at_letters l.variables ls ≡ variable_in l.tree.text.items (take l.direction-index l.declared) ls;
   counts : (d : Direction) → count_of d l.counts ≡ length (names_of d (take l.direction-index l.declared));
-  once : first (repeated (same_declared l.tree.text.items l.tree.block) (λ d. d.1.at) (take l.direction-index l.declared)) ≡ None;
+  once : first (repeated (same_declared l.tree.text.items l.tree.block) (λ d. d.1.at)
+      (take l.direction-index l.declared)) ≡ None;
 }

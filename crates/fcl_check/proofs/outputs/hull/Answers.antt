@@ -9,9 +9,12 @@ loop-line-preserved c =
     let lines = c.args.section.now.lines.items in
     let read = c.deref-line-items in
     elim c.match-number_in.branch [
-      | in-Some+in-Some-hull w ↦ rw w.hull-is (ap Some w.with.ensures ∙ hull-found lines read.result.now c.loop-line.line-index _ read.ensures.value
-          (omega arith) (Some (ends_in w.in-Some-hull.span)) w.in-Some.x.0 (rw w.in-Some-hull.is at c.loop-line.invariant) w.in-Some.ensures)
-      | in-Some+in-None w ↦ rw w.hull-is (ap Some w.at.ensures ∙ hull-found lines read.result.now c.loop-line.line-index _ read.ensures.value
+      | in-Some+in-Some-hull w ↦ rw w.hull-is
+          (ap Some w.with.ensures ∙ hull-found lines read.result.now c.loop-line.line-index _ read.ensures.value
+          (omega arith) (Some (ends_in w.in-Some-hull.span)) w.in-Some.x.0
+          (rw w.in-Some-hull.is at c.loop-line.invariant) w.in-Some.ensures)
+      | in-Some+in-None w ↦ rw w.hull-is
+          (ap Some w.at.ensures ∙ hull-found lines read.result.now c.loop-line.line-index _ read.ensures.value
           (omega arith) None w.in-Some.x.0 (rw w.in-None.is at c.loop-line.invariant) w.in-Some.ensures)
       | in_default w ↦ rw w.hull-is (hull-passed lines read.result.now c.loop-line.line-index _ read.ensures.value
           (omega arith) _ c.loop-line.invariant w.in_default.ensures)

@@ -11,7 +11,10 @@ each-preserved c =
     elim c.match-line.branch [
       | in-Singleton+in_ok-push w ↦ rw (w.singletons-is, w.in_ok-push.ensures.items)
           (singletons-more lines read.result.now c.each.line-index _ read.ensures.value
-          (omega arith) c.each.singletons.items w.value.result w.in-Singleton.singleton w.in-Singleton.is w.value.ensures c.each.invariant)
-      | in_default w ↦ rw w.singletons-is (singletons-passed lines read.result.now c.each.line-index _ read.ensures.value (omega arith) c.each.singletons.items
+          (omega arith) c.each.singletons.items w.value.result w.in-Singleton.singleton w.in-Singleton.is
+          w.value.ensures c.each.invariant)
+      | in_default w ↦ rw w.singletons-is
+          (singletons-passed lines read.result.now c.each.line-index _ read.ensures.value
+          (omega arith) c.each.singletons.items
           (no-singleton _ w.in_default.not-Singleton) c.each.invariant)
     ]

@@ -5,4 +5,5 @@ use Rattle.fcl_check.specs.Sections.{defuzzy_range, output_range_line}
 use Rattle.fcl_check.proofs.sections.defuzzy_range.Given as goal
 
 abbrev pub invariant-loop-line : goal.invariant-loop-line
-invariant-loop-line l = first (filter_map output_range_line (drop l.line-index l.section.lines.items)) ≡ defuzzy_range l.section
+invariant-loop-line l =
+    first (filter_map output_range_line (drop l.line-index l.section.lines.items)) ≡ defuzzy_range l.section

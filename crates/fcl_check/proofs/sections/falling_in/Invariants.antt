@@ -5,4 +5,5 @@ use Rattle.fcl_check.proofs.courses.Falling.{falling_from}
 use Rattle.fcl_check.proofs.sections.falling_in.Given as goal
 
 abbrev pub invariant-loop-point : goal.invariant-loop-point
-invariant-loop-point l = first (falling_from l.before.0 (drop l.point-index l.term.more.items)) ≡ first (falling_in l.term)
+invariant-loop-point l =
+    first (falling_from l.before.0 (drop l.point-index l.term.more.items)) ≡ first (falling_in l.term)

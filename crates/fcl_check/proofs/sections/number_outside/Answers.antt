@@ -3,4 +3,5 @@ use Rattle.fcl_check.proofs.places.Places.{flat_map-filter_map}
 use Rattle.fcl_check.proofs.sections.number_outside.Goals as goal
 
 pub returns : goal.returns
-returns c = rw (c.in-Defuzzify.is, ← c.defuzzy_range.ensures, c.in_ok-defuzzy_range.was, flat_map-filter_map) (search rules)
+returns c = rw (c.in-Defuzzify.is, ← c.defuzzy_range.ensures, c.in_ok-defuzzy_range.was, flat_map-filter_map)
+    (search rules)

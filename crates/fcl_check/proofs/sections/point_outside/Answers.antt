@@ -3,4 +3,10 @@ use Rattle.fcl_check.proofs.places.Places.{flat_map-filter_map}
 use Rattle.fcl_check.proofs.sections.point_outside.Goals as goal
 
 pub returns : goal.returns
-returns c = rw (c.in-Fuzzify.is, ← c.fuzzy_range.ensures, c.in_ok-fuzzy_range.was, ← c.of-span.ensures, flat_map-filter_map) (search rules)
+returns c = rw (
+  c.in-Fuzzify.is,
+  ← c.fuzzy_range.ensures,
+  c.in_ok-fuzzy_range.was,
+  ← c.of-span.ensures,
+  flat_map-filter_map,
+) (search rules)

@@ -9,7 +9,8 @@ overflow_cast-result c =
     let block = source.tree.now.block in
     omega (
       arith,
-      number_few text block source.sound c.args.side c.args.variable c.args.term _ c.unwrap-declared.result c.requires c.letters-letters.ensures
+      number_few text block source.sound c.args.side c.args.variable c.args.term _ c.unwrap-declared.result c.requires
+          c.letters-letters.ensures
           (sym c.unwrap-declared.ensures ∙ c.variable.ensures source.tree.now source.known),
     )
 

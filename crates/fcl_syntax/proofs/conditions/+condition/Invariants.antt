@@ -32,14 +32,16 @@ abbrev pub decreases-opened : goal.decreases-opened
 decreases-opened l = 8 * l.room + 7
 
 abbrev pub invariant-alternatives-each : goal.invariant-alternatives-each
-invariant-alternatives-each l = Going (keyword_class key.Or ∷ []) (alternative_in (not_at l.room)) (map view_alternative l.more.items) l.rest
+invariant-alternatives-each l =
+    Going (keyword_class key.Or ∷ []) (alternative_in (not_at l.room)) (map view_alternative l.more.items) l.rest
     (loop (keyword_class key.Or ∷ []) (alternative_in (not_at l.room)) (length l.tokens) l.tokens)
 
 abbrev pub decreases-alternatives-each : goal.decreases-alternatives-each
 decreases-alternatives-each l = length l.rest
 
 abbrev pub invariant-conjuncts-each : goal.invariant-conjuncts-each
-invariant-conjuncts-each l = Going (keyword_class key.And ∷ []) (conjunct_in (not_at l.room)) (map view_conjunct l.more.items) l.rest
+invariant-conjuncts-each l =
+    Going (keyword_class key.And ∷ []) (conjunct_in (not_at l.room)) (map view_conjunct l.more.items) l.rest
     (loop (keyword_class key.And ∷ []) (conjunct_in (not_at l.room)) (length l.tokens) l.tokens)
 
 abbrev pub decreases-conjuncts-each : goal.decreases-conjuncts-each

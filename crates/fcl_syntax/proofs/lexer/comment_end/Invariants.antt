@@ -3,7 +3,8 @@ use Rattle.fcl_syntax.specs.Lexing.{comment_end, shifted}
 use Rattle.fcl_syntax.proofs.lexer.comment_end.Given as goal
 
 abbrev pub invariant-each : goal.invariant-each
-invariant-each l = record { so_far : shifted l.n (comment_end l.rest) ≡ comment_end l.bytes; len : l.n + length l.rest ≡ length l.bytes }
+invariant-each l = record
+    { so_far : shifted l.n (comment_end l.rest) ≡ comment_end l.bytes; len : l.n + length l.rest ≡ length l.bytes }
 
 abbrev pub decreases-each : goal.decreases-each
 decreases-each l = length l.rest

@@ -4,7 +4,11 @@ use Rattle.fcl_syntax.proofs.Cutting.{Cutting}
 use Rattle.fcl_syntax.proofs.lexer.lex.Given as goal
 
 abbrev pub invariant-each : goal.invariant-each
-invariant-each l = record { cutting : Cutting l.tokens.items l.places.items l.at l.rest (tokenization l.text); len : l.at + length l.rest ≡ length l.text }
+invariant-each l = record {
+  cutting : Cutting l.tokens.items l.places.items l.at l.rest (tokenization l.text);
+  len : l.at + length l.rest
+      ≡ length l.text;
+}
 
 abbrev pub decreases-each : goal.decreases-each
 decreases-each l = length l.rest

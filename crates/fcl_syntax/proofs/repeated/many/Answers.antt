@@ -4,5 +4,7 @@ use Rattle.fcl_syntax.proofs.repeated.many.Goals as goal
 
 pub each-preserved : goal.each-preserved
 each-preserved g c =
-    pushed g.R.Repeated.view g.R.Repeated.first g.R.Repeated.read_at c.each.items.items _ c.in_ok-next.next c.each.rest.now c.in_ok-next.after.now _
-    c.in_ok-push.ensures.items (sym c.each-test.ensures) c.in_ok-next.ensures.read c.in_ok-next.ensures.shorter c.each.invariant
+    pushed g.R.Repeated.view g.R.Repeated.first g.R.Repeated.read_at c.each.items.items _ c.in_ok-next.next
+    c.each.rest.now c.in_ok-next.after.now _
+    c.in_ok-push.ensures.items (sym c.each-test.ensures) c.in_ok-next.ensures.read c.in_ok-next.ensures.shorter
+    c.each.invariant

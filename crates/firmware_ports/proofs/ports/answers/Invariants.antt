@@ -6,7 +6,8 @@ use Rattle.firmware_ports.proofs.ports.answers.Given as goal
 -- what is there and what is to come are all the answers
 abbrev pub invariant-loop-left : goal.invariant-loop-left
 invariant-loop-left g l = record {
-  answers : l.answers.items ++ answers_at l.firmware.wide l.left l.at l.m.state.mem ≡ answers_at l.firmware.wide l.firmware.outputs l.firmware.layout.outputs l.m.state.mem;
+  answers : l.answers.items ++ answers_at l.firmware.wide l.left l.at l.m.state.mem ≡ answers_at l.firmware.wide
+      l.firmware.outputs l.firmware.layout.outputs l.m.state.mem;
   room : array_vec_len l.answers + l.left ≡ l.firmware.outputs;
 }
 

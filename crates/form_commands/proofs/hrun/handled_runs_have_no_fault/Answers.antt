@@ -8,7 +8,8 @@ returns c hrun files deed (status.Fcl f) gives is =
     c.spelled_texts_have_no_fault.ensures files.fcl r.block f r.compiled.spelled r.compiled.limits is.0 is.1
 returns c hrun files deed (status.Image f) gives (carries, (other, others, gives_other, refuses)) =
     let r = gives.certified in
-    c.given_handlers_have_no_fault.ensures files.handler r.handler r.instrs (status.Image f) r.handles (carries, refuses)
+    c.given_handlers_have_no_fault.ensures files.handler r.handler r.instrs (status.Image f) r.handles
+    (carries, refuses)
 returns c hrun files deed (status.Handler f) gives (carries, (other, others, gives_other, refuses)) =
     let r = gives.certified in
     c.given_handlers_have_no_fault.ensures files.handler r.handler r.instrs (status.Handler f) r.handles

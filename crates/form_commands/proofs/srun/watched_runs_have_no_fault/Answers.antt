@@ -9,7 +9,8 @@ returns c srun files deed (status.Fcl f) gives is =
     c.spelled_texts_have_no_fault.ensures files.fcl r.block f r.compiled.spelled r.compiled.limits is.0 is.1
 returns c srun files deed (status.Image f) gives (carries, (other, others, gives_other, refuses)) =
     let r = gives.watched in
-    c.watched_images_have_no_fault.ensures files.fcl files.image r.block other r.firmware others f r.compiled gives_other
+    c.watched_images_have_no_fault.ensures files.fcl files.image r.block other r.firmware others f r.compiled
+    gives_other
     r.image refuses
 returns c srun files deed (status.Upset f) gives (carries, (other, others, gives_other, refuses)) =
     let r = gives.watched in

@@ -13,8 +13,10 @@ truth-requires-in-loop-k t c =
     let same : condition_of c.args.cond.now ≡ all (conditions (map condition_of items)) = search (rules, the_lemmas) in
     let valid = subst (λ x. IsValidCondition b x) same c.requires.cond in
     let within : c.loop-k.k - 1 < length items = search rules in
-    let part = slice_get_read items (length items) (c.loop-k.k - 1) c.index.result.now refl within c.index.ensures in
-    (search (rules, the_lemmas), (parts_valid b items (c.loop-k.k - 1) c.index.result.now valid part, (c.requires.block, c.requires.xs)))
+    let part = slice_get_read items (length items) (c.loop-k.k - 1) c.index.result.now refl within c.index.ensures in (
+      search (rules, the_lemmas),
+      (parts_valid b items (c.loop-k.k - 1) c.index.result.now valid part, (c.requires.block, c.requires.xs)),
+    )
 
 pub truth-requires-in-loop-k-2 : goal.truth-requires-in-loop-k-2
 truth-requires-in-loop-k-2 t c =
@@ -23,5 +25,11 @@ truth-requires-in-loop-k-2 t c =
     let same : condition_of c.args.cond.now ≡ any (conditions (map condition_of items)) = search (rules, the_lemmas) in
     let valid = subst (λ x. IsValidCondition b x) same c.requires.cond in
     let within : c.loop-k-2.k - 1 < length items = search rules in
-    let part = slice_get_read items (length items) (c.loop-k-2.k - 1) c.index-in-loop-k-2.result.now refl within c.index-in-loop-k-2.ensures in
-    (search (rules, the_lemmas), (parts_valid b items (c.loop-k-2.k - 1) c.index-in-loop-k-2.result.now valid part, (c.requires.block, c.requires.xs)))
+    let part = slice_get_read items (length items) (c.loop-k-2.k - 1) c.index-in-loop-k-2.result.now refl within
+    c.index-in-loop-k-2.ensures in (
+      search (rules, the_lemmas),
+      (
+        parts_valid b items (c.loop-k-2.k - 1) c.index-in-loop-k-2.result.now valid part,
+        (c.requires.block, c.requires.xs),
+      ),
+    )

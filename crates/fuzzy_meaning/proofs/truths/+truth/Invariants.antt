@@ -8,7 +8,13 @@ abbrev pub decreases-truth : goal.decreases-truth
 decreases-truth l = goal.size-truth l
 
 abbrev pub invariant-loop-k : goal.invariant-loop-k
-invariant-loop-k l = IsTruth 4000000000 l.least × (fraction_of l.least ≡ least_truth (literal_degree l.block l.xs) (conditions (map condition_of (drop l.k l.parts.items))))
+invariant-loop-k l =
+    IsTruth 4000000000 l.least
+    × (fraction_of l.least ≡ least_truth (literal_degree l.block l.xs)
+    (conditions (map condition_of (drop l.k l.parts.items))))
 
 abbrev pub invariant-loop-k-2 : goal.invariant-loop-k-2
-invariant-loop-k-2 l = IsTruth 4000000000 l.greatest × (fraction_of l.greatest ≡ greatest_truth (literal_degree l.block l.xs) (conditions (map condition_of (drop l.k l.parts.items))))
+invariant-loop-k-2 l =
+    IsTruth 4000000000 l.greatest
+    × (fraction_of l.greatest ≡ greatest_truth (literal_degree l.block l.xs)
+    (conditions (map condition_of (drop l.k l.parts.items))))

@@ -14,5 +14,7 @@ place k n h = grind (arith, nat_tests)
 pub returns : goal.returns
 returns c =
     let xs = c.args.numeral.now in
-    let found = position_from_yields_List is_point _ _ c.position.result c.position.ensures.ran (YieldsList-from_slice xs cc) (λ x b q k. search (rules, tests)) in
-    c.unwrap_or.ensures ∙ ap (λ o. unwrap_or o (length xs)) found ∙ place (position_or_len is_point xs) (length xs) (prefix_len-le-length (λ x. not (is_point x)) xs)
+    let found = position_from_yields_List is_point _ _ c.position.result c.position.ensures.ran
+    (YieldsList-from_slice xs cc) (λ x b q k. search (rules, tests)) in
+    c.unwrap_or.ensures ∙ ap (λ o. unwrap_or o (length xs)) found
+    ∙ place (position_or_len is_point xs) (length xs) (prefix_len-le-length (λ x. not (is_point x)) xs)

@@ -30,7 +30,8 @@ loop-row-preserved c =
     let inv = c.loop-row.invariant in
     let s = rw (c.in-Some.is, c.in-Ok.is) at ((c.next.ensures.steps inv.2 inv.0).0 inv.1) in
     let m = rows-more (λ (s : Bor (List ℕ)). Some s.now) c.loop-row.row-iterator.rdr c.next.new.self.rdr
-    (fields_of c.in-Ok.row) default_config st.StartRecord (strip_bom c.args.text.now) inv.4 (map fields_of c.loop-row.rows.items) inv.3 inv.5 inv.6 s.0 in (
+    (fields_of c.in-Ok.row) default_config st.StartRecord (strip_bom c.args.text.now) inv.4
+    (map fields_of c.loop-row.rows.items) inv.3 inv.5 inv.6 s.0 in (
       s.0.3 ∙ inv.0,
       inl s.1,
       s.2,
@@ -45,7 +46,8 @@ returns-then-len-eq-MOST c =
     let inv = c.loop-row.invariant in
     let s = rw (c.in-Some.is, c.in-Ok.is) at ((c.next.ensures.steps inv.2 inv.0).0 inv.1) in
     let m = rows-more (λ (s : Bor (List ℕ)). Some s.now) c.loop-row.row-iterator.rdr c.next.new.self.rdr
-    (fields_of c.in-Ok.row) default_config st.StartRecord (strip_bom c.args.text.now) inv.4 (map fields_of c.loop-row.rows.items) inv.3 inv.5 inv.6 s.0 in
+    (fields_of c.in-Ok.row) default_config st.StartRecord (strip_bom c.args.text.now) inv.4
+    (map fields_of c.loop-row.rows.items) inv.3 inv.5 inv.6 s.0 in
     record {
       state = c.next.new.self.rdr.state;
       rest = m.0;
@@ -61,5 +63,6 @@ returns c =
       state = c.loop-row.row-iterator.rdr.state;
       rest = inv.4;
       cut = inv.6;
-      enough = inl (rows-end (λ (s : Bor (List ℕ)). Some s.now) c.loop-row.row-iterator.rdr c.next.new.self.rdr [] default_config inv.4 inv.3 inv.5 s);
+      enough = inl (rows-end (λ (s : Bor (List ℕ)). Some s.now) c.loop-row.row-iterator.rdr c.next.new.self.rdr []
+          default_config inv.4 inv.3 inv.5 s);
     }

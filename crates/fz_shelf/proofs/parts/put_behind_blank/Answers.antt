@@ -13,4 +13,5 @@ returns-clause-part g c =
     let digits = decimal c.args.number in
     let first = goes_piece (32 ∷ []) digits (begun old (32 ∷ digits)) mid c.in_ok-put_all.ensures.whole in
     let second : GainedPart mid new digits = search rules in
-    stops_in digits [] (subst (λ (rest : List ℕ). Putting old mid (32 ∷ digits) rest) (sym (append-nil digits)) first) new second
+    stops_in digits [] (subst (λ (rest : List ℕ). Putting old mid (32 ∷ digits) rest) (sym (append-nil digits)) first)
+    new second

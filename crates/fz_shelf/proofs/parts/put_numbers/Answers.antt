@@ -12,10 +12,13 @@ loop-number-init g c = record {
 
 pub loop-number-preserved : goal.loop-number-preserved
 loop-number-preserved g c = record {
-  putting = next_at behind_blank c.args.numbers.now c.loop-number.number-index _ c.loop-number-test.true c.loop-number.invariant.putting _ c.in_ok-put_behind_blank.ensures.whole;
+  putting = next_at behind_blank c.args.numbers.now c.loop-number.number-index _ c.loop-number-test.true
+      c.loop-number.invariant.putting _ c.in_ok-put_behind_blank.ensures.whole;
   faults = c.in_ok-put_behind_blank.ensures.cause.stays ∙ c.loop-number.invariant.faults;
   sound = λ s. c.in_ok-put_behind_blank.ensures.sound (c.loop-number.invariant.sound s);
 }
 
 pub returns-in_err-put_behind_blank-clause-part : goal.returns-in_err-put_behind_blank-clause-part
-returns-in_err-put_behind_blank-clause-part g c = in_at behind_blank c.args.numbers.now c.loop-number.number-index _ c.loop-number-test.true c.loop-number.invariant.putting _ c.put_behind_blank.ensures.part
+returns-in_err-put_behind_blank-clause-part g c =
+    in_at behind_blank c.args.numbers.now c.loop-number.number-index _ c.loop-number-test.true
+    c.loop-number.invariant.putting _ c.put_behind_blank.ensures.part

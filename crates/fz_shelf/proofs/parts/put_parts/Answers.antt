@@ -12,10 +12,13 @@ loop-part-init g c = record {
 
 pub loop-part-preserved : goal.loop-part-preserved
 loop-part-preserved g c = record {
-  putting = next_at part_text c.args.parts.now c.loop-part.part-index _ c.loop-part-test.true c.loop-part.invariant.putting _ c.in_ok-put_part.ensures.whole;
+  putting = next_at part_text c.args.parts.now c.loop-part.part-index _ c.loop-part-test.true
+      c.loop-part.invariant.putting _ c.in_ok-put_part.ensures.whole;
   faults = c.in_ok-put_part.ensures.cause.stays ∙ c.loop-part.invariant.faults;
   sound = λ s. c.in_ok-put_part.ensures.sound (c.loop-part.invariant.sound s);
 }
 
 pub returns-in_err-put_part-clause-part : goal.returns-in_err-put_part-clause-part
-returns-in_err-put_part-clause-part g c = in_at part_text c.args.parts.now c.loop-part.part-index _ c.loop-part-test.true c.loop-part.invariant.putting _ c.put_part.ensures.part
+returns-in_err-put_part-clause-part g c =
+    in_at part_text c.args.parts.now c.loop-part.part-index _ c.loop-part-test.true c.loop-part.invariant.putting _
+    c.put_part.ensures.part

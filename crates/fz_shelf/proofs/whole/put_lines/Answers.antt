@@ -12,11 +12,15 @@ loop-line-init g c = record {
 
 pub loop-line-preserved : goal.loop-line-preserved
 loop-line-preserved g c = record {
-  putting = next_piece string_bytes c.args.lines.now c.loop-line.line-index c.line-item.result c.as_bytes.result.now c.loop-line-test.true c.line-item.is c.as_bytes.ensures.value c.loop-line.invariant.putting _ c.in_ok-put_all.ensures.whole;
+  putting = next_piece string_bytes c.args.lines.now c.loop-line.line-index c.line-item.result c.as_bytes.result.now
+      c.loop-line-test.true c.line-item.is c.as_bytes.ensures.value c.loop-line.invariant.putting _
+      c.in_ok-put_all.ensures.whole;
   faults = c.in_ok-put_all.ensures.cause.stays ∙ c.loop-line.invariant.faults;
   sound = λ s. c.in_ok-put_all.ensures.sound (c.loop-line.invariant.sound s);
 }
 
 pub returns-in_err-put_all-clause-part : goal.returns-in_err-put_all-clause-part
 returns-in_err-put_all-clause-part g c =
-    in_piece string_bytes c.args.lines.now c.loop-line.line-index c.line-item.result c.as_bytes.result.now c.loop-line-test.true c.line-item.is c.as_bytes.ensures.value c.loop-line.invariant.putting _ c.put_all.ensures.part
+    in_piece string_bytes c.args.lines.now c.loop-line.line-index c.line-item.result c.as_bytes.result.now
+    c.loop-line-test.true c.line-item.is c.as_bytes.ensures.value c.loop-line.invariant.putting _
+    c.put_all.ensures.part

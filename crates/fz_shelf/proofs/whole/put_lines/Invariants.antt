@@ -5,7 +5,8 @@ use Rattle.fz_shelf.proofs.whole.put_lines.Given as goal
 
 abbrev pub invariant-loop-line : goal.invariant-loop-line
 invariant-loop-line g l = record {
-  putting : Putting (g.S.Sink.told l.initial.sink) (g.S.Sink.told l.sink) (text_of l.lines) (text_of (drop l.line-index l.lines));
+  putting : Putting (g.S.Sink.told l.initial.sink) (g.S.Sink.told l.sink) (text_of l.lines)
+      (text_of (drop l.line-index l.lines));
   faults : g.S.Sink.faults l.sink ≡ g.S.Sink.faults l.initial.sink;
   sound : g.S.Sink.sound l.initial.sink → g.S.Sink.sound l.sink;
 }

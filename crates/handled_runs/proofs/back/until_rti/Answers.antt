@@ -10,7 +10,8 @@ returns-then-returns-clause-state g c =
     let l = c.loop-left in
     let next : Next = record { state = c.step.new.self.state; kind = c.in-Ok.field-0 } in
     let byte = c.peek-returns.ensures ∙ ap (λ (r : Regs). get_or l.m.state.mem r.pc 0) c.regs.ensures in
-    let now = back_now l.m.flags l.left l.m.state next c.loop-left-test.true c.in-Ok.ensures.next (sym byte ∙ c.if-returns.true) in
+    let now = back_now l.m.flags l.left l.m.state next c.loop-left-test.true c.in-Ok.ensures.next
+    (sym byte ∙ c.if-returns.true) in
     sym (ap (λ (r : Returned). r.state) now) ∙ l.invariant.state
 
 pub returns-then-returns-clause-steps : goal.returns-then-returns-clause-steps
@@ -18,7 +19,8 @@ returns-then-returns-clause-steps g c =
     let l = c.loop-left in
     let next : Next = record { state = c.step.new.self.state; kind = c.in-Ok.field-0 } in
     let byte = c.peek-returns.ensures ∙ ap (λ (r : Regs). get_or l.m.state.mem r.pc 0) c.regs.ensures in
-    let now = back_now l.m.flags l.left l.m.state next c.loop-left-test.true c.in-Ok.ensures.next (sym byte ∙ c.if-returns.true) in
+    let now = back_now l.m.flags l.left l.m.state next c.loop-left-test.true c.in-Ok.ensures.next
+    (sym byte ∙ c.if-returns.true) in
     let one : (until_rti l.m.flags l.left l.m.state).steps ≡ 1 = ap (λ (r : Returned). r.steps) now in
     omega (arith, one, l.invariant.steps, l.invariant.few, c.loop-left-test.true)
 
@@ -27,10 +29,15 @@ loop-left-preserved g c =
     let l = c.loop-left in
     let next : Next = record { state = c.step.new.self.state; kind = c.in-Ok.field-0 } in
     let byte = c.peek-returns.ensures ∙ ap (λ (r : Regs). get_or l.m.state.mem r.pc 0) c.regs.ensures in
-    let later = back_later l.m.flags l.left l.m.state next c.loop-left-test.true c.in-Ok.ensures.next (λ e. c.if-returns.false (byte ∙ e)) in
-    let rest : until_rti c.step.new.self.flags (l.left - 1) c.step.new.self.state ≡ until_rti l.m.flags (l.left - 1) c.step.new.self.state = ap (λ (f : ℕ). until_rti f (l.left - 1) c.step.new.self.state) c.step.ensures.flags in
-    let count : (until_rti l.m.flags l.left l.m.state).steps ≡ suc (until_rti l.m.flags (l.left - 1) c.step.new.self.state).steps = ap (λ (r : Returned). r.steps) later in
-    let same : (until_rti c.step.new.self.flags (l.left - 1) c.step.new.self.state).steps ≡ (until_rti l.m.flags (l.left - 1) c.step.new.self.state).steps = ap (λ (r : Returned). r.steps) rest in
+    let later = back_later l.m.flags l.left l.m.state next c.loop-left-test.true c.in-Ok.ensures.next
+    (λ e. c.if-returns.false (byte ∙ e)) in
+    let rest : until_rti c.step.new.self.flags (l.left - 1) c.step.new.self.state ≡ until_rti l.m.flags
+    (l.left - 1) c.step.new.self.state =
+    ap (λ (f : ℕ). until_rti f (l.left - 1) c.step.new.self.state) c.step.ensures.flags in
+    let count : (until_rti l.m.flags l.left l.m.state).steps ≡ suc
+    (until_rti l.m.flags (l.left - 1) c.step.new.self.state).steps = ap (λ (r : Returned). r.steps) later in
+    let same : (until_rti c.step.new.self.flags (l.left - 1) c.step.new.self.state).steps
+    ≡ (until_rti l.m.flags (l.left - 1) c.step.new.self.state).steps = ap (λ (r : Returned). r.steps) rest in
     record {
       state = ap (λ (r : Returned). r.state) rest ∙ sym (ap (λ (r : Returned). r.state) later) ∙ l.invariant.state;
       steps = omega (arith, count, same, l.invariant.steps, l.invariant.few, c.loop-left-test.true);

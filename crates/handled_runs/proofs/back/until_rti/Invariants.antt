@@ -6,7 +6,8 @@ use Rattle.handled_runs.proofs.back.until_rti.Given as goal
 abbrev pub invariant-loop-left : goal.invariant-loop-left
 invariant-loop-left g l = record {
   state : (until_rti l.m.flags l.left l.m.state).state ≡ (until_rti l.fn.m.flags l.most l.fn.m.state).state;
-  steps : l.most - l.left + (until_rti l.m.flags l.left l.m.state).steps ≡ (until_rti l.fn.m.flags l.most l.fn.m.state).steps;
+  steps : l.most - l.left + (until_rti l.m.flags l.left l.m.state).steps
+      ≡ (until_rti l.fn.m.flags l.most l.fn.m.state).steps;
   few : l.left ≤ l.most;
   noted : l.m.noted ≡ l.fn.m.noted;
   flags : l.m.flags ≡ l.fn.m.flags;

@@ -10,4 +10,7 @@ overflow_cast-form c =
 
 pub run_form-requires : goal.run_form-requires
 run_form-requires c =
-    record { order = subst (IsInOrder place_of) (sym c.as_slice.ensures) (c.plans_are_in_order.ensures c.args.plan.now c.requires.plan) }
+    record {
+      order = subst (IsInOrder place_of) (sym c.as_slice.ensures)
+          (c.plans_are_in_order.ensures c.args.plan.now c.requires.plan);
+    }

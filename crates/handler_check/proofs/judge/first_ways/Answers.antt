@@ -7,5 +7,7 @@ use Rattle.handler_check.proofs.judge.first_ways.Goals as goal
 pub returns-clause-judged : goal.returns-clause-judged
 returns-clause-judged c =
     let e : c.in-Ok.ways.places.items ≡ replicate c.len.result None = c.in-Ok.ensures in
-    mark_first c.args.cut.now.code.items c.args.cut.now.trapped (way_at c.lead.new.self.places.items) (record { height = 0; most = 0; meets = false }) refl
-    (first_on c.in-Ok.ways.places.items c.len.result (way_at c.lead.new.self.places.items) (record { height = 0; most = 0; meets = false }) e c.lead.ensures.ways)
+    mark_first c.args.cut.now.code.items c.args.cut.now.trapped (way_at c.lead.new.self.places.items)
+    (record { height = 0; most = 0; meets = false }) refl
+    (first_on c.in-Ok.ways.places.items c.len.result (way_at c.lead.new.self.places.items)
+    (record { height = 0; most = 0; meets = false }) e c.lead.ensures.ways)

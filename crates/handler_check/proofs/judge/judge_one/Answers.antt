@@ -11,7 +11,9 @@ pub returns-in-None-clause-fault : goal.returns-in-None-clause-fault
 returns-in-None-clause-fault c =
     let e : way_at c.args.ways.now.places.items c.args.at ≡ None = cc in
     let b = below_end c.args.cut.now.code.items c.args.at c.args.instr c.requires.here in
-    dead_first c.args.cut.now.code.items c.args.cut.now.trapped c.args.at c.args.best (way_at c.args.ways.now.places.items) c.requires.judged (omega (arith, b.1)) (inl (c.args.instr, c.requires.here)) e
+    dead_first c.args.cut.now.code.items c.args.cut.now.trapped c.args.at c.args.best
+    (way_at c.args.ways.now.places.items) c.requires.judged (omega (arith, b.1))
+    (inl (c.args.instr, c.requires.here)) e
 
 pub fault_at-requires-clause-way : goal.fault_at-requires-clause-way
 fault_at-requires-clause-way c =
@@ -21,7 +23,9 @@ fault_at-requires-clause-way c =
 pub returns-in-Some-fault_at-clause-fault : goal.returns-in-Some-fault_at-clause-fault
 returns-in-Some-fault_at-clause-fault c =
     let e : way_at c.args.ways.now.places.items c.args.at ≡ Some c.in-Some.way = cc in
-    fails_first c.args.cut.now.code.items c.args.cut.now.trapped c.args.at c.args.best (way_at c.args.ways.now.places.items) c.args.instr c.in-Some.way c.in-Some-fault_at.fault c.requires.judged c.requires.here e c.in-Some-fault_at.ensures.some
+    fails_first c.args.cut.now.code.items c.args.cut.now.trapped c.args.at c.args.best
+    (way_at c.args.ways.now.places.items) c.args.instr c.in-Some.way c.in-Some-fault_at.fault c.requires.judged
+    c.requires.here e c.in-Some-fault_at.ensures.some
 
 pub height_after-requires-clause-low : goal.height_after-requires-clause-low
 height_after-requires-clause-low c =
@@ -33,25 +37,32 @@ overflow_add-next c =
     let e : way_at c.args.ways.now.places.items c.args.at ≡ Some c.in-Some.way = cc in
     let w = c.requires.judged.sound c.args.at c.in-Some.way e in
     let p = c.in-None-fault_at.ensures.none in
-    let s = short c.args.cut.now.code.items c.in-Some.way.most c.args.at c.in-Some.way.height (w.one (p.meets (omega arith))) in
+    let s = short c.args.cut.now.code.items c.in-Some.way.most c.args.at c.in-Some.way.height
+    (w.one (p.meets (omega arith))) in
     omega (arith, s)
 
 pub lead-requires : goal.lead-requires
 lead-requires c =
     let p = c.in-None-fault_at.ensures.none in
-    to_within c.args.cut.now.code.items c.args.cut.now.trapped c.args.cut.now.firsts.items c.falls_to.result (falls_to c.args.at c.args.instr) (length c.args.ways.now.places.items) c.requires.table c.falls_to.ensures.to (p.falls (omega arith)) c.requires.size
+    to_within c.args.cut.now.code.items c.args.cut.now.trapped c.args.cut.now.firsts.items c.falls_to.result
+    (falls_to c.args.at c.args.instr) (length c.args.ways.now.places.items) c.requires.table c.falls_to.ensures.to
+    (p.falls (omega arith)) c.requires.size
 
 pub lead-requires-2 : goal.lead-requires-2
 lead-requires-2 c =
     let p = c.in-None-fault_at.ensures.none in
-    to_within c.args.cut.now.code.items c.args.cut.now.trapped c.args.cut.now.firsts.items c.branches_to.result (branches_to c.args.at c.args.instr) (length c.lead.new.self.places.items) c.requires.table c.branches_to.ensures.to (p.branches (omega arith)) (c.lead.ensures.size ∙ c.requires.size)
+    to_within c.args.cut.now.code.items c.args.cut.now.trapped c.args.cut.now.firsts.items c.branches_to.result
+    (branches_to c.args.at c.args.instr) (length c.lead.new.self.places.items) c.requires.table
+    c.branches_to.ensures.to (p.branches (omega arith)) (c.lead.ensures.size ∙ c.requires.size)
 
 pub returns-clause-judged : goal.returns-clause-judged
 returns-clause-judged c =
     let e : way_at c.args.ways.now.places.items c.args.at ≡ Some c.in-Some.way = cc in
     let p = c.in-None-fault_at.ensures.none in
     let w = c.requires.judged.sound c.args.at c.in-Some.way e in
-    let s : Seen c.args.cut.now.code.items c.args.cut.now.trapped c.args.at c.args.best c.longest.result (way_at c.args.ways.now.places.items) c.args.instr c.in-Some.way (record { height = c.height_after.result; most = c.in-Some.way.most + 1; meets = false }) = record {
+    let s : Seen c.args.cut.now.code.items c.args.cut.now.trapped c.args.at c.args.best c.longest.result
+    (way_at c.args.ways.now.places.items) c.args.instr c.in-Some.way
+    (record { height = c.height_after.result; most = c.in-Some.way.most + 1; meets = false }) = record {
       judged = c.requires.judged;
       here = c.requires.here;
       way_is = e;
@@ -59,11 +70,16 @@ returns-clause-judged c =
       height = c.height_after.ensures;
       most = omega arith;
       meets = refl;
-      low = subst (λ (h : ℕ). h ≤ 15) (sym c.height_after.ensures) (height_low c.args.instr c.in-Some.way.height (p.height (omega arith)) w.low);
+      low = subst (λ (h : ℕ). h ≤ 15) (sym c.height_after.ensures)
+          (height_low c.args.instr c.in-Some.way.height (p.height (omega arith)) w.low);
       over = c.longest.ensures.over;
       few = λ r. (let f = c.longest.ensures.few r in omega arith);
       longest = elim c.longest.ensures.one [ inl k ↦ inl k | inr k ↦ (let f = k.1 in inr (k.0, omega arith)) ];
     } in
-    mark_on c.args.cut.now.code.items c.args.cut.now.trapped c.args.at c.args.best c.longest.result (way_at c.args.ways.now.places.items) (way_at c.lead-2.new.self.places.items) c.args.instr c.in-Some.way (record { height = c.height_after.result; most = c.in-Some.way.most + 1; meets = false }) s
-    (on_both (way_at c.args.ways.now.places.items) (way_at c.lead.new.self.places.items) (way_at c.lead-2.new.self.places.items) c.args.at c.args.instr c.falls_to.result c.branches_to.result (record { height = c.height_after.result; most = c.in-Some.way.most + 1; meets = false })
+    mark_on c.args.cut.now.code.items c.args.cut.now.trapped c.args.at c.args.best c.longest.result
+    (way_at c.args.ways.now.places.items) (way_at c.lead-2.new.self.places.items) c.args.instr c.in-Some.way
+    (record { height = c.height_after.result; most = c.in-Some.way.most + 1; meets = false }) s
+    (on_both (way_at c.args.ways.now.places.items) (way_at c.lead.new.self.places.items)
+    (way_at c.lead-2.new.self.places.items) c.args.at c.args.instr c.falls_to.result c.branches_to.result
+    (record { height = c.height_after.result; most = c.in-Some.way.most + 1; meets = false })
     c.falls_to.ensures.to c.branches_to.ensures.to c.lead.ensures.ways c.lead-2.ensures.ways)

@@ -17,5 +17,6 @@ level_of-requires c =
 
 pub returns : goal.returns
 returns c =
-    let are = subst (λ (ns : List ℕ). map count_of (fields_of c.args.row.now) ≡ map Some ns) (sym c.as_slice.ensures.value) c.in_ok-numbers.ensures in
+    let are = subst (λ (ns : List ℕ). map count_of (fields_of c.args.row.now) ≡ map Some ns)
+    (sym c.as_slice.ensures.value) c.in_ok-numbers.ensures in
     spelled_by (fields_of c.args.row.now) c.as_slice.result.now c.args.fast are c.level_of.result c.level_of.ensures

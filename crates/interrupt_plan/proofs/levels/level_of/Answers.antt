@@ -1,9 +1,13 @@
-use Rattle.std.proofs.Common.{◌≡◌, ◌≤◌, ◌-◌, ◌∷◌, ◌∙◌, ℕ, false, true, List, length, take, drop, get_or, refl, sym, ap, subst, arith}
+use Rattle.std.proofs.Common.{◌≡◌, ◌≤◌, ◌-◌, ◌∷◌, ◌∙◌, ℕ, false, true, List, length, take, drop, get_or, refl, sym, ap}
+use Rattle.std.proofs.Common.{subst, arith}
 use Rattle.std.specs.Prelude.{All}
 use Rattle.std.specs.List.Sorted.{IsNonDecreasing}
 use Rattle.interrupt_plan.proofs.LevelLemmas.{inner_of, small_behind, three_and_more}
 use Rattle.interrupt_plan.proofs.levels.level_of.Goals as goal
-use Rattle.interrupt_plan.proofs.levels.level_of.Goals.{then-sample-eq0-via-then-sample-eq0, then-sample-eq0-via-else-sample-eq0+then-answered-fast, then-sample-eq0-via-else-sample-eq0+else-answered-fast+then-not-rises, then-sample-eq0-via-else-sample-eq0+else-answered-fast+else-not-rises+then-not-is_answered}
+use Rattle.interrupt_plan.proofs.levels.level_of.Goals.{then-sample-eq0-via-then-sample-eq0}
+use Rattle.interrupt_plan.proofs.levels.level_of.Goals.{then-sample-eq0-via-else-sample-eq0+then-answered-fast}
+use Rattle.interrupt_plan.proofs.levels.level_of.Goals.{then-sample-eq0-via-else-sample-eq0+else-answered-fast+then-not-rises}
+use Rattle.interrupt_plan.proofs.levels.level_of.Goals.{then-sample-eq0-via-else-sample-eq0+else-answered-fast+else-not-rises+then-not-is_answered}
 
 pub returns-then-sample-eq0 : goal.returns-then-sample-eq0
 returns-then-sample-eq0 c = λ l is good.
@@ -16,11 +20,13 @@ returns-then-sample-eq0 c = λ l is good.
           (let answered : get_or ns 2 0 ≡ l.fast = ap (λ (ms : List ℕ). get_or ms 2 0) is in
           omega (arith, w.if-answered-fast.true, answered, good.fast_to))
       | then-sample-eq0-via-else-sample-eq0+else-answered-fast+then-not-rises w ↦
-          (let bad : false ≡ true = w.if-not-rises.ensures.1 (subst IsNonDecreasing (sym (inner_of ns l is)) good.inner_rise) in
+          (let bad : false ≡ true =
+          w.if-not-rises.ensures.1 (subst IsNonDecreasing (sym (inner_of ns l is)) good.inner_rise) in
           cc)
       | then-sample-eq0-via-else-sample-eq0+else-answered-fast+else-not-rises+then-not-is_answered w ↦
           (let answered : get_or ns 2 0 ≡ l.fast = ap (λ (ms : List ℕ). get_or ms 2 0) is in
-          let bad : false ≡ true = w.if-not-is_answered.ensures.1 (λ none. inner_of ns l is ∙ good.none (sym answered ∙ none)) in
+          let bad : false ≡ true =
+          w.if-not-is_answered.ensures.1 (λ none. inner_of ns l is ∙ good.none (sym answered ∙ none)) in
           cc)
     ]
 
@@ -38,7 +44,8 @@ returns-in-Ok c =
         moment_to = c.requires 1 0 (omega (arith, some));
         fast_to = c.if-answered-fast.false;
         few = omega (arith, c.in-Ok.ensures.1, ap length inner);
-        inner_to = small_behind (get_or ns 0 0) (get_or ns 1 0) (get_or ns 2 0) c.in-Ok.inner.items (subst (λ (l : List ℕ). All (λ n. n ≤ 999999999) l) whole c.requires);
+        inner_to = small_behind (get_or ns 0 0) (get_or ns 1 0) (get_or ns 2 0) c.in-Ok.inner.items
+            (subst (λ (l : List ℕ). All (λ n. n ≤ 999999999) l) whole c.requires);
         inner_rise = subst IsNonDecreasing inner (c.if-not-rises.ensures.0 refl);
         none = λ none. sym inner ∙ c.if-not-is_answered.ensures.0 refl none;
       },

@@ -5,5 +5,6 @@ use Rattle.interrupt_plan.proofs.levels.read_levels.Goals as goal
 
 pub returns-clause-levels : goal.returns-clause-levels
 returns-clause-levels c =
-    good_text (SpellsLevel c.args.fast) no_writes LevelNotAfter (AreGoodLevels c.args.fast) (good_levels c.args.fast) c.args.text.now c.entries_of.result
+    good_text (SpellsLevel c.args.fast) no_writes LevelNotAfter (AreGoodLevels c.args.fast)
+    (good_levels c.args.fast) c.args.text.now c.entries_of.result
     c.entries_of.ensures.entries

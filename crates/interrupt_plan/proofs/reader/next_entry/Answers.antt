@@ -9,12 +9,14 @@ pub returns-in-Ok-None-clause-fault : goal.returns-in-Ok-None-clause-fault
 returns-in-Ok-None-clause-fault g c = λ _. unread (rw c.in-Ok-None.field-0-is at c.in-Ok-None.ensures)
 
 pub returns-in-Some-clause-fault : goal.returns-in-Some-clause-fault
-returns-in-Some-clause-fault g c = λ _. not_free c.in-Ok-Some.entry c.in-Some.at (rw c.in-Ok-Some.field-0-is at c.in-Ok-Some.ensures)
+returns-in-Some-clause-fault g c =
+    λ _. not_free c.in-Ok-Some.entry c.in-Some.at (rw c.in-Ok-Some.field-0-is at c.in-Ok-Some.ensures)
     (subst (λ (ws : List Write). IsFirstTaken ws c.in-Some.at) c.writes.ensures c.in-Some.ensures)
 
 pub returns-in-Some-last-clause-fault : goal.returns-in-Some-last-clause-fault
 returns-in-Some-last-clause-fault g c = λ _.
-    not_ascending c.in-Ok-Some.entry (rw c.in-Ok-Some.field-0-is at c.in-Ok-Some.ensures) (subst AreFree c.writes.ensures c.in_default.ensures) (record {
+    not_ascending c.in-Ok-Some.entry (rw c.in-Ok-Some.field-0-is at c.in-Ok-Some.ensures)
+    (subst AreFree c.writes.ensures c.in_default.ensures) (record {
       front = take (length c.args.before.now - 1) c.args.before.now;
       last = c.in-Some-last.last.now;
       before_is = last_is c.args.before.now c.in-Some-last.last.now c.in-Some-last.ensures.value;

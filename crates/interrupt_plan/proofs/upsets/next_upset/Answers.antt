@@ -20,7 +20,9 @@ returns-in-Some-last-clause-fault c =
     })
 
 pub returns-in_default-clause-good : goal.returns-in_default-clause-good
-returns-in_default-clause-good c = good_upset c.args.image.now.bytes _ c.in-Some.upset c.in-Some.ensures (sym c.if-not-is_table.ensures)
+returns-in_default-clause-good c =
+    good_upset c.args.image.now.bytes _ c.in-Some.upset c.in-Some.ensures (sym c.if-not-is_table.ensures)
 
 pub returns-in_default-2-clause-good : goal.returns-in_default-2-clause-good
-returns-in_default-2-clause-good c = good_upset c.args.image.now.bytes _ c.in-Some.upset c.in-Some.ensures (sym c.if-not-is_table.ensures)
+returns-in_default-2-clause-good c =
+    good_upset c.args.image.now.bytes _ c.in-Some.upset c.in-Some.ensures (sym c.if-not-is_table.ensures)

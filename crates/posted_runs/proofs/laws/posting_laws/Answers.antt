@@ -10,8 +10,18 @@ returns c =
       hides_pushed = c.stack_is_hidden.ensures.pushed;
     } in
     record {
-      steps = record { step_agrees = c.step_agrees.ensures; step_keeps = c.step_keeps.ensures; plain_is_step = c.plain_is_step.ensures };
-      taking = record { writing = writing; frame_is_on_stack = c.frame_is_on_stack.ensures; pushes_none = c.wav_suspends.ensures.none };
+      steps = record {
+        step_agrees = c.step_agrees.ensures;
+        step_keeps = c.step_keeps.ensures;
+        plain_is_step =
+            c.plain_is_step.ensures;
+      };
+      taking = record {
+        writing = writing;
+        frame_is_on_stack = c.frame_is_on_stack.ensures;
+        pushes_none =
+            c.wav_suspends.ensures.none;
+      };
       stepping = record {
         writing = writing;
         step_agrees = c.step_agrees.ensures;

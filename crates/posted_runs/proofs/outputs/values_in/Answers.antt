@@ -13,7 +13,8 @@ loop-left-preserved g c =
     let low = l.invariant.low in
     let room = l.invariant.room in
     record {
-      values = ap₂ (λ (vs : List ℕ) (k : ℕ). vs ++ values_from w mem (l.at + k) (l.left - 1)) (c.push.ensures.items ∙ ap (λ (v : ℕ). l.values.items ++ v ∷ []) c.value_at.ensures) size.0
+      values = ap₂ (λ (vs : List ℕ) (k : ℕ). vs ++ values_from w mem (l.at + k) (l.left - 1))
+          (c.push.ensures.items ∙ ap (λ (v : ℕ). l.values.items ++ v ∷ []) c.value_at.ensures) size.0
           ∙ values_more w mem l.at l.left l.values.items (omega arith) ∙ l.invariant.values;
       room = omega arith;
       low = omega (arith, size.1, low);

@@ -10,6 +10,8 @@ returns-clause-takes g c =
     let a = c.args in
     let same : l.t.moment ≡ a.t.now.moment = ap (λ t. t.moment) l.invariant.rest in
     let off : is_due a.t.now.moment (drop l.t.next a.posts.now) l.m.state ≡ false =
-    subst (λ (k : ℕ). is_due k (drop l.t.next a.posts.now) l.m.state ≡ false) same (sym c.is_due.ensures ∙ c.loop-m-test.false) in
+    subst (λ (k : ℕ). is_due k (drop l.t.next a.posts.now) l.m.state ≡ false) same
+    (sym c.is_due.ensures ∙ c.loop-m-test.false) in
     l.invariant.takes
-    ∙ takes_end a.m.now.flags a.firmware.now (map input_bytes a.samples.now) a.t.now.begun a.t.now.moment (drop l.t.next a.posts.now) l.m.state (frames_seen l.t.frames.items) off
+    ∙ takes_end a.m.now.flags a.firmware.now (map input_bytes a.samples.now) a.t.now.begun a.t.now.moment
+    (drop l.t.next a.posts.now) l.m.state (frames_seen l.t.frames.items) off

@@ -13,9 +13,14 @@ returns-clause-takes g c =
     let m = a.m.now in
     let samples = map input_bytes a.samples.now in
     let items : c.push.new.self.items ≡ t.frames.items ++ (t.moment, c.interrupt-frame.result) ∷ [] =
-    c.push.ensures.items ∙ ap (λ r. if is_ok r then t.frames.items ++ (t.moment, c.interrupt-frame.result) ∷ [] else t.frames.items) c.unwrap.ensures in
-    let writes = c.as_slice.ensures.value ∙ c.write_post.ensures.writes ∙ ap (post_writes a.firmware.now.layout samples) c.index-posts-t.is in
-    one_taken m.flags a.firmware.now samples t.begun t.moment a.posts.now t.next c.index-posts-t.result m.state c.interrupt-frame.new.self.state
+    c.push.ensures.items
+    ∙ ap (λ r. if is_ok r then t.frames.items ++ (t.moment, c.interrupt-frame.result) ∷ [] else t.frames.items)
+    c.unwrap.ensures in
+    let writes = c.as_slice.ensures.value ∙ c.write_post.ensures.writes
+    ∙ ap (post_writes a.firmware.now.layout samples) c.index-posts-t.is in
+    one_taken m.flags a.firmware.now samples t.begun t.moment a.posts.now t.next c.index-posts-t.result m.state
+    c.interrupt-frame.new.self.state
     t.frames.items c.push.new.self.items c.interrupt-frame.result
     (due_within t.moment a.posts.now t.next m.state c.requires.due) c.requires.due
-    (c.interrupt-frame.ensures.state ∙ ap (λ ws. framed ws (suspended wav m.state)) writes) c.interrupt-frame.ensures.frame items
+    (c.interrupt-frame.ensures.state ∙ ap (λ ws. framed ws (suspended wav m.state)) writes)
+    c.interrupt-frame.ensures.frame items

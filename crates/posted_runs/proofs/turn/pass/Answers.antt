@@ -21,14 +21,17 @@ returns-in-Ok-clause-goes g c e last lt =
       instrs = t2.instrs + c.instructions.result;
       resumed = t2.resumed + c.resumes.result;
     } in
-    passes form last a.posts.now t t2 t3 a.m.now.state c.take_due.new.m.state next c.requires.on lt c.take_due.ensures.takes
+    passes form last a.posts.now t t2 t3 a.m.now.state c.take_due.new.m.state next c.requires.on lt
+    c.take_due.ensures.takes
     (ap (λ (k : ℕ). next_of k c.take_due.new.m.state) (sym c.take_due.ensures.flags) ∙ c.in-Ok.ensures.next)
     (record {
       moment = ap (λ k. k.moment + 1) c.take_due.ensures.rest;
       inside = c.is_part-t.ensures;
       instrs = ap₂ (λ (x y : ℕ). x + y) (ap (λ k. k.instrs) c.take_due.ensures.rest) c.instructions.ensures.value;
       resumed = ap₂ (λ (x y : ℕ). x + y) (ap (λ k. k.resumed) c.take_due.ensures.rest)
-          (c.resumes.ensures.value ∙ ap₂ (λ (b : Bool) (d : Bool). one_if (b && d)) inside (ap₂ nat_lt c.count-before.ensures c.count.ensures));
+          (c.resumes.ensures.value
+          ∙ ap₂ (λ (b : Bool) (d : Bool). one_if (b && d)) inside
+          (ap₂ nat_lt c.count-before.ensures c.count.ensures));
       frames = refl;
       next_is = refl;
     })
@@ -41,13 +44,16 @@ returns-in-Err-clause-stuck g c e last lt =
     let form : TurnForm = form_of a.m.now.flags a.firmware.now a.samples.now t in
     let inside : t2.inside ≡ t.inside = ap (λ k. k.inside) c.take_due.ensures.rest in
     let t3 : Tally = record t2 { resumed = t2.resumed + c.resumes.result } in
-    stops form last a.posts.now t t2 t3 a.m.now.state c.take_due.new.m.state c.in-Err.field-0.byte c.requires.on lt c.take_due.ensures.takes
+    stops form last a.posts.now t t2 t3 a.m.now.state c.take_due.new.m.state c.in-Err.field-0.byte c.requires.on lt
+    c.take_due.ensures.takes
     (ap (λ (k : ℕ). next_of k c.take_due.new.m.state) (sym c.take_due.ensures.flags) ∙ c.in-Err.ensures.next.0)
     (record {
       moment = ap (λ k. k.moment) c.take_due.ensures.rest;
       instrs = ap (λ k. k.instrs) c.take_due.ensures.rest;
       resumed = ap₂ (λ (x y : ℕ). x + y) (ap (λ k. k.resumed) c.take_due.ensures.rest)
-          (c.resumes.ensures.value ∙ ap₂ (λ (b : Bool) (d : Bool). one_if (b && d)) inside (ap₂ nat_lt c.count-before.ensures c.count.ensures));
+          (c.resumes.ensures.value
+          ∙ ap₂ (λ (b : Bool) (d : Bool). one_if (b && d)) inside
+          (ap₂ nat_lt c.count-before.ensures c.count.ensures));
       frames = refl;
       next_is = refl;
     })

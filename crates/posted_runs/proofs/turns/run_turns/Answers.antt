@@ -13,7 +13,8 @@ returns-then-not-next_turn g c =
     let more : suc (l.left - 1) ≡ l.left = omega (arith, some) in
     sym (c.next_turn.ensures.ends c.if-not-next_turn.true (l.left - 1))
     ∙ ap₂ (λ (k n : ℕ). with_rest (map answer_seen l.answers.items) l.t
-    (turns_from k a.firmware.now samples a.last n l.t.moment l.waits (drop l.t.next a.posts.now) l.m.state)) l.invariant.flags more
+    (turns_from k a.firmware.now samples a.last n l.t.moment l.waits (drop l.t.next a.posts.now) l.m.state))
+    l.invariant.flags more
     ∙ l.invariant.rest
 
 pub returns : goal.returns
@@ -21,6 +22,7 @@ returns g c =
     let a = c.args in
     let l = c.loop-left in
     let none = c.loop-left-test.false in
-    sym (none_left a.m.now.flags a.firmware.now (map input_bytes a.samples.now) a.last l.left l.t.moment l.waits (drop l.t.next a.posts.now) l.m.state l.t (map answer_seen l.answers.items)
+    sym (none_left a.m.now.flags a.firmware.now (map input_bytes a.samples.now) a.last l.left l.t.moment l.waits
+    (drop l.t.next a.posts.now) l.m.state l.t (map answer_seen l.answers.items)
     (omega (arith, none)))
     ∙ l.invariant.rest

@@ -7,7 +7,8 @@ use Rattle.posted_runs.proofs.turns.run_turns.Given as goal
 abbrev pub invariant-loop-left : goal.invariant-loop-left
 invariant-loop-left g l = record {
   rest : with_rest (map answer_seen l.answers.items) l.t
-      (turns_from l.fn.m.flags l.firmware (map input_bytes l.samples) l.last l.left l.t.moment l.waits (drop l.t.next l.posts) l.m.state)
+      (turns_from l.fn.m.flags l.firmware (map input_bytes l.samples) l.last l.left l.t.moment l.waits
+      (drop l.t.next l.posts) l.m.state)
       ≡ with_rest (map answer_seen l.fn.answers.items) l.fn.t
       (turns_from l.fn.m.flags l.firmware (map input_bytes l.samples) l.last most_turns 0 0 l.posts l.fn.m.state);
   next : l.t.next ≤ length l.posts;

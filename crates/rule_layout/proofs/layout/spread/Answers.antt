@@ -5,53 +5,78 @@ use Rattle.rule_layout.specs.declared.flat.Slot.{Slot}
 use Rattle.rule_layout.specs.Tables.{IsInTable, IsNumbering}
 use Rattle.rule_layout.specs.Sizes.{IsCountable, IsSizeOfRules}
 use Rattle.rule_layout.specs.Steps.{IsSpreadable, table_conjunctions}
-use Rattle.rule_layout.proofs.LayoutLemmas.{slots_in_table, few_slots, rules_countable, rules_spreadable, entries_fit, bytes_fit, form_made, list_size_made, flat_made, conjunctions_by_table, weights_made}
+use Rattle.rule_layout.proofs.LayoutLemmas.{slots_in_table, few_slots, rules_countable, rules_spreadable, entries_fit}
+use Rattle.rule_layout.proofs.LayoutLemmas.{bytes_fit, form_made, list_size_made, flat_made, conjunctions_by_table}
+use Rattle.rule_layout.proofs.LayoutLemmas.{weights_made}
 use Rattle.rule_layout.proofs.LaidOutLemmas.{laid_out_made}
 use Rattle.rule_layout.proofs.layout.spread.Goals as goal
 
 pub size_of_rules-requires-clause-countable : goal.size_of_rules-requires-clause-countable
-size_of_rules-requires-clause-countable c = subst (All IsCountable) (sym c.as_slice-rules.ensures) (rules_countable c.args.block.now c.requires)
+size_of_rules-requires-clause-countable c =
+    subst (All IsCountable) (sym c.as_slice-rules.ensures) (rules_countable c.args.block.now c.requires)
 
 pub new-numbers-requires-clause-known : goal.new-numbers-requires-clause-known
-new-numbers-requires-clause-known c = subst (All IsInTable) (sym (c.deref.ensures.value ∙ c.in_ok-slots.ensures)) (slots_in_table c.args.block.now c.requires)
+new-numbers-requires-clause-known c =
+    subst (All IsInTable) (sym (c.deref.ensures.value ∙ c.in_ok-slots.ensures))
+    (slots_in_table c.args.block.now c.requires)
 
 pub new-numbers-requires-clause-few : goal.new-numbers-requires-clause-few
-new-numbers-requires-clause-few c = subst (λ (w : List Slot). length w ≤ 300) (sym (c.deref.ensures.value ∙ c.in_ok-slots.ensures)) (few_slots c.args.block.now c.requires)
+new-numbers-requires-clause-few c =
+    subst (λ (w : List Slot). length w ≤ 300) (sym (c.deref.ensures.value ∙ c.in_ok-slots.ensures))
+    (few_slots c.args.block.now c.requires)
 
 pub spread_rules-requires-clause-spreadable : goal.spread_rules-requires-clause-spreadable
-spread_rules-requires-clause-spreadable c = subst (All IsSpreadable) (sym c.as_slice-rules.ensures) (rules_spreadable c.args.block.now c.requires)
+spread_rules-requires-clause-spreadable c =
+    subst (All IsSpreadable) (sym c.as_slice-rules.ensures) (rules_spreadable c.args.block.now c.requires)
 
 pub overflow_mul-bytes : goal.overflow_mul-bytes
 overflow_mul-bytes c =
-    let countable = subst (All IsCountable) (sym c.as_slice-rules.ensures) (rules_countable c.args.block.now c.requires) in
+    let countable = subst (All IsCountable) (sym c.as_slice-rules.ensures)
+    (rules_countable c.args.block.now c.requires) in
     let small = entries_fit c.as_slice-rules.result.now c.in_ok-size.size countable c.in_ok-size.ensures in
-    let bytes = bytes_fit c.form_of-form.result c.element_width.result c.in_ok-size.size.entries c.element_width.ensures small in
+    let bytes = bytes_fit c.form_of-form.result c.element_width.result c.in_ok-size.size.entries
+    c.element_width.ensures small in
     omega (arith, bytes)
 
 pub returns-then-bytes-gt-MOST_LIST_BYTES-clause-fault : goal.returns-then-bytes-gt-MOST_LIST_BYTES-clause-fault
 returns-then-bytes-gt-MOST_LIST_BYTES-clause-fault c =
-    let size = subst (λ (w : List Rule). IsSizeOfRules w (Ok c.in_ok-size.size)) c.as_slice-rules.ensures c.in_ok-size.ensures in
-    let form = c.form_of-form.ensures ∙ form_made c.args.block.now c.len.result c.in_ok-slots.slots.items c.as_slice-rules.result.now (c.len.ensures ∙ c.in_ok-slots.slots.ok.0) c.in_ok-slots.ensures c.as_slice-rules.ensures in
+    let size = subst (λ (w : List Rule). IsSizeOfRules w (Ok c.in_ok-size.size)) c.as_slice-rules.ensures
+    c.in_ok-size.ensures in
+    let form = c.form_of-form.ensures
+    ∙ form_made c.args.block.now c.len.result c.in_ok-slots.slots.items c.as_slice-rules.result.now
+    (c.len.ensures ∙ c.in_ok-slots.slots.ok.0) c.in_ok-slots.ensures c.as_slice-rules.ensures in
     record {
       few_conjunctions = size.0;
-      bytes = list_size_made c.args.block.now c.form_of-form.result c.element_width.result c.in_ok-size.size.entries form c.element_width.ensures size.2;
+      bytes = list_size_made c.args.block.now c.form_of-form.result c.element_width.result c.in_ok-size.size.entries
+          form c.element_width.ensures size.2;
       over = c.if-bytes-gt-MOST_LIST_BYTES.true;
     }
 
 pub returns-clause-value : goal.returns-clause-value
 returns-clause-value c =
     let b = c.args.block.now in
-    let form = c.form_of-form.ensures ∙ form_made b c.len.result c.in_ok-slots.slots.items c.as_slice-rules.result.now (c.len.ensures ∙ c.in_ok-slots.slots.ok.0) c.in_ok-slots.ensures c.as_slice-rules.ensures in
-    let numbering = subst (λ (w : List Slot). IsNumbering w c.new-numbers.result.table) (c.deref.ensures.value ∙ c.in_ok-slots.ensures) c.new-numbers.ensures in
-    let conjunctions = c.in_ok-conjunctions.ensures.conjunctions ∙ (ap (λ (w : List Rule). flat_map (table_conjunctions c.new-numbers.result.table) w) c.as_slice-rules.ensures ∙ conjunctions_by_table b c.new-numbers.result.table numbering c.requires) in
-    let weights = c.in_ok-conjunctions.ensures.weights ∙ weights_made b c.as_slice-rules.result.now c.as_slice-rules.ensures in
-    flat_made b _ (c.new.ensures ∙ c.in_ok-slots.ensures) (c.new-2.ensures ∙ conjunctions) (c.new-3.ensures ∙ weights) form
+    let form = c.form_of-form.ensures
+    ∙ form_made b c.len.result c.in_ok-slots.slots.items c.as_slice-rules.result.now
+    (c.len.ensures ∙ c.in_ok-slots.slots.ok.0) c.in_ok-slots.ensures c.as_slice-rules.ensures in
+    let numbering = subst (λ (w : List Slot). IsNumbering w c.new-numbers.result.table)
+    (c.deref.ensures.value ∙ c.in_ok-slots.ensures) c.new-numbers.ensures in
+    let conjunctions = c.in_ok-conjunctions.ensures.conjunctions
+    ∙ (ap (λ (w : List Rule). flat_map (table_conjunctions c.new-numbers.result.table) w) c.as_slice-rules.ensures
+    ∙ conjunctions_by_table b c.new-numbers.result.table numbering c.requires) in
+    let weights = c.in_ok-conjunctions.ensures.weights
+    ∙ weights_made b c.as_slice-rules.result.now c.as_slice-rules.ensures in
+    flat_made b _ (c.new.ensures ∙ c.in_ok-slots.ensures) (c.new-2.ensures ∙ conjunctions)
+    (c.new-3.ensures ∙ weights) form
 
 pub returns-clause-limits : goal.returns-clause-limits
 returns-clause-limits c =
-    let size = subst (λ (w : List Rule). IsSizeOfRules w (Ok c.in_ok-size.size)) c.as_slice-rules.ensures c.in_ok-size.ensures in
-    let form = c.form_of-form.ensures ∙ form_made c.args.block.now c.len.result c.in_ok-slots.slots.items c.as_slice-rules.result.now (c.len.ensures ∙ c.in_ok-slots.slots.ok.0) c.in_ok-slots.ensures c.as_slice-rules.ensures in
-    let bytes = list_size_made c.args.block.now c.form_of-form.result c.element_width.result c.in_ok-size.size.entries form c.element_width.ensures size.2 in
+    let size = subst (λ (w : List Rule). IsSizeOfRules w (Ok c.in_ok-size.size)) c.as_slice-rules.ensures
+    c.in_ok-size.ensures in
+    let form = c.form_of-form.ensures
+    ∙ form_made c.args.block.now c.len.result c.in_ok-slots.slots.items c.as_slice-rules.result.now
+    (c.len.ensures ∙ c.in_ok-slots.slots.ok.0) c.in_ok-slots.ensures c.as_slice-rules.ensures in
+    let bytes = list_size_made c.args.block.now c.form_of-form.result c.element_width.result c.in_ok-size.size.entries
+    form c.element_width.ensures size.2 in
     record { few_conjunctions = size.0; short_list = rw (← bytes) c.if-bytes-gt-MOST_LIST_BYTES.false }
 
 pub returns-clause-laid_out : goal.returns-clause-laid_out

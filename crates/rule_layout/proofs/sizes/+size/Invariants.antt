@@ -5,7 +5,9 @@ use Rattle.rule_layout.specs.Sizes.{IsSizeOf}
 use Rattle.rule_layout.proofs.sizes.+size.Given as goal
 
 abbrev pub invariant-size_in_turn-loop-part : goal.invariant-size_in_turn-loop-part
-invariant-size_in_turn-loop-part l = IsSizeOf (one_after_another l.odd (conditions (map condition_of (take l.part-index l.parts)))) (Some l.total)
+invariant-size_in_turn-loop-part l =
+    IsSizeOf (one_after_another l.odd (conditions (map condition_of (take l.part-index l.parts)))) (Some l.total)
 
 abbrev pub invariant-size_of_choices-loop-part : goal.invariant-size_of_choices-loop-part
-invariant-size_of_choices-loop-part l = IsSizeOf (each_choice l.odd (conditions (map condition_of (take l.part-index l.parts)))) (Some l.total)
+invariant-size_of_choices-loop-part l =
+    IsSizeOf (each_choice l.odd (conditions (map condition_of (take l.part-index l.parts)))) (Some l.total)

@@ -4,4 +4,6 @@ use Rattle.rule_layout.specs.Tables.{is_marked}
 use Rattle.rule_layout.proofs.slots.push_complement_slots.Given as goal
 
 abbrev pub invariant-loop-input : goal.invariant-loop-input
-invariant-loop-input l = l.slots.items ≡ l.initial.slots.items ++ map complement_slot (filter (λ p. is_marked l.used.table p.0 p.1) (take l.input-index l.terms))
+invariant-loop-input l =
+    l.slots.items ≡ l.initial.slots.items
+    ++ map complement_slot (filter (λ p. is_marked l.used.table p.0 p.1) (take l.input-index l.terms))

@@ -5,20 +5,28 @@ use Rattle.rule_layout.proofs.TableLemmas.{in_turn_numbers_more, choice_numbers_
 use Rattle.rule_layout.proofs.spreading.+spread.Goals as goal
 
 pub conjunctions-in_turn-requires : goal.conjunctions-in_turn-requires
-conjunctions-in_turn-requires t c =
-    (search (rules, the_lemmas), rw c.deref-then-odd-2.ensures.value (AllFitGrid-And c.args.cond.now c.in-And.parts c.in-And.is c.requires))
+conjunctions-in_turn-requires t c = (
+  search (rules, the_lemmas),
+  rw c.deref-then-odd-2.ensures.value (AllFitGrid-And c.args.cond.now c.in-And.parts c.in-And.is c.requires),
+)
 
 pub conjunctions-by_choice-requires : goal.conjunctions-by_choice-requires
-conjunctions-by_choice-requires t c =
-    (search (rules, the_lemmas), rw c.deref-else-odd-2.ensures.value (AllFitGrid-And c.args.cond.now c.in-And.parts c.in-And.is c.requires))
+conjunctions-by_choice-requires t c = (
+  search (rules, the_lemmas),
+  rw c.deref-else-odd-2.ensures.value (AllFitGrid-And c.args.cond.now c.in-And.parts c.in-And.is c.requires),
+)
 
 pub conjunctions-by_choice-requires-then-odd-3 : goal.conjunctions-by_choice-requires-then-odd-3
-conjunctions-by_choice-requires-then-odd-3 t c =
-    (search (rules, the_lemmas), rw c.deref-then-odd-3.ensures.value (AllFitGrid-Or c.args.cond.now c.in-Or.parts c.in-Or.is c.requires))
+conjunctions-by_choice-requires-then-odd-3 t c = (
+  search (rules, the_lemmas),
+  rw c.deref-then-odd-3.ensures.value (AllFitGrid-Or c.args.cond.now c.in-Or.parts c.in-Or.is c.requires),
+)
 
 pub conjunctions-in_turn-requires-else-odd-3 : goal.conjunctions-in_turn-requires-else-odd-3
-conjunctions-in_turn-requires-else-odd-3 t c =
-    (search (rules, the_lemmas), rw c.deref-else-odd-3.ensures.value (AllFitGrid-Or c.args.cond.now c.in-Or.parts c.in-Or.is c.requires))
+conjunctions-in_turn-requires-else-odd-3 t c = (
+  search (rules, the_lemmas),
+  rw c.deref-else-odd-3.ensures.value (AllFitGrid-Or c.args.cond.now c.in-Or.parts c.in-Or.is c.requires),
+)
 
 pub in_turn-conjunctions-requires : goal.in_turn-conjunctions-requires
 in_turn-conjunctions-requires t c =
@@ -33,10 +41,13 @@ by_choice-conjunctions-requires t c =
 pub in_turn-loop-part-preserved : goal.in_turn-loop-part-preserved
 in_turn-loop-part-preserved t c =
     let at = part_of c.args.parts.now c.loop-part.part-index c.part-item.result c.loop-part-test.true c.part-item.is in
-    rw c.in_ok-append.ensures.items (in_turn_numbers_more at c.args.odd c.args.numbers.now.table c.loop-part.all.items c.in_ok-more.more.items c.loop-part.invariant c.in_ok-more.ensures)
+    rw c.in_ok-append.ensures.items
+    (in_turn_numbers_more at c.args.odd c.args.numbers.now.table c.loop-part.all.items c.in_ok-more.more.items
+    c.loop-part.invariant c.in_ok-more.ensures)
 
 pub by_choice-loop-part-preserved : goal.by_choice-loop-part-preserved
 by_choice-loop-part-preserved t c =
     let at = part_of c.args.parts.now c.loop-part.part-index c.part-item.result c.loop-part-test.true c.part-item.is in
     let tails = c.deref.ensures.value ∙ c.in_ok-tails.ensures in
-    c.in_ok-chosen-2.ensures ∙ choice_numbers_more at c.args.odd c.args.numbers.now.table _ _ c.loop-part.invariant tails
+    c.in_ok-chosen-2.ensures
+    ∙ choice_numbers_more at c.args.odd c.args.numbers.now.table _ _ c.loop-part.invariant tails

@@ -10,7 +10,8 @@ returns c debug files deed (status.Fcl f) gives is =
     c.spelled_texts_have_no_fault.ensures files.fcl gives.block f a.compiled.spelled a.compiled.limits is.0 is.1
 returns c debug files deed (status.Image f) gives (carries, (other, others, gives_other, refuses)) =
     let a = gives.accepts in
-    c.firmware_images_have_no_fault.ensures Byte files.fcl files.image gives.block other gives.firmware others f a.compiled
+    c.firmware_images_have_no_fault.ensures Byte files.fcl files.image gives.block other gives.firmware others
+    f a.compiled
     gives_other a.image refuses
 returns c debug files deed (status.Script n) gives (carries, (other, others, gives_other, refuses)) =
     let yes = gives.accepts.spelled in
@@ -18,5 +19,6 @@ returns c debug files deed (status.Script n) gives (carries, (other, others, giv
     cc
 returns c debug files deed s gives (carries, (other, others, gives_other, refuses)) =
     let a = gives.accepts in
-    c.spelled_samples_have_no_fault.ensures files.fcl files.trace files.plan gives.block other gives.samples gives.plan s
+    c.spelled_samples_have_no_fault.ensures files.fcl files.trace files.plan gives.block other gives.samples
+    gives.plan s
     a.compiled.spelled gives_other.spelled a.in_range a.good_plan refuses.1

@@ -8,6 +8,7 @@ pub returns : goal.returns
 returns c generate deed (status.NotReached stop) gives (carries, (other, drawn_other, stops)) =
     let same = c.drawn_blocks_are_one.ensures (draw generate.number 0 5) other gives.block drawn_other
     gives.workload.drawn_block in
-    c.halved_blocks_do_not_stop.ensures Byte generated_target gives.block other gives.cert stop gives.gives.spelled.valid
+    c.halved_blocks_do_not_stop.ensures Byte generated_target gives.block other gives.cert stop
+    gives.gives.spelled.valid
     same gives.halving stops
 returns c generate deed s gives is = is.1

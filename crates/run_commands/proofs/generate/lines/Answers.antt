@@ -16,7 +16,8 @@ returns c =
     c.in_ok-push.ensures.items (rw c.from.ensures at c.in_ok-labelled.ensures)
     c.in_ok-push_errors.ensures
     c.in_ok-push-2.ensures.items (rw c.from-2.ensures at c.in_ok-labelled-2.ensures)
-    c.in_ok-push-3.ensures.items (c.in_ok-labelled-3.ensures ∙ ap (line (codes "samples ")) (sym (length-map c.args.rows.now row_seen)))
+    c.in_ok-push-3.ensures.items
+    (c.in_ok-labelled-3.ensures ∙ ap (line (codes "samples ")) (sym (length-map c.args.rows.now row_seen)))
     c.in_ok-push-4.ensures.items (c.in_ok-labelled-4.ensures ∙ ap (line (codes "frames ")) sums.frames)
     c.in_ok-push-5.ensures.items (c.in_ok-labelled-5.ensures ∙ ap (line (codes "resumed ")) sums.resumed)
     c.in_ok-push-6.ensures.items (c.in_ok-labelled-6.ensures ∙ ap (line (codes "sum ")) sums.answers)

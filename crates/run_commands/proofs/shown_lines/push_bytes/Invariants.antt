@@ -5,4 +5,5 @@ use Rattle.run_commands.specs.Debug.{behind_blank}
 use Rattle.run_commands.proofs.shown_lines.push_bytes.Given as goal
 
 abbrev pub invariant-loop-byte : goal.invariant-loop-byte
-invariant-loop-byte l = string_bytes l.text ≡ string_bytes l.initial.text ++ flat_map behind_blank (take l.byte-index l.bytes)
+invariant-loop-byte l =
+    string_bytes l.text ≡ string_bytes l.initial.text ++ flat_map behind_blank (take l.byte-index l.bytes)

@@ -12,7 +12,8 @@ pub returns-then-not-step_on-clause-ends : goal.returns-then-not-step_on-clause-
 returns-then-not-step_on-clause-ends g c =
     let a = c.args in
     let w = c.step_on.ensures.stuck c.if-not-step_on.true in
-    λ e. stuck_here a.m.now.flags (g.F.RunForm.harness a.form.now) a.requests.now a.st.now a.m.now.state w.0 c.if-st.false w.1
+    λ e. stuck_here a.m.now.flags (g.F.RunForm.harness a.form.now) a.requests.now a.st.now a.m.now.state w.0
+    c.if-st.false w.1
 
 pub returns-clause-goes : goal.returns-clause-goes
 returns-clause-goes g c =

@@ -4,7 +4,8 @@ use Rattle.cpu12_emul.specs.Step.{Whole}
 use Rattle.run_forms.specs.declared.boundary.Stand.{Stand}
 use Rattle.run_forms.specs.Positions.{Position}
 use Rattle.run_forms.specs.Sessions.{after_takes}
-use Rattle.run_forms.specs.Outlooks.{ahead, at_position, from_here, outlook_at, requests_at, rows_here, sample_at, state_here}
+use Rattle.run_forms.specs.Outlooks.{ahead, at_position, from_here, outlook_at, requests_at, rows_here, sample_at}
+use Rattle.run_forms.specs.Outlooks.{state_here}
 use Rattle.run_forms.proofs.Outlooks.{states_here, outlook_ends, outlook_goes, outlook_last}
 use Rattle.run_forms.proofs.progress.advance.Goals as goal
 
@@ -52,6 +53,7 @@ returns-clause-goes g c =
     λ e. outlook_ends flags h p.most p.number p.stand.tally.moment (sample_at p.number h.samples) s p.stand.tally
     (after_takes flags h qs p.stand s) rest left (map h.seen p.rows.items) (c.pass.ensures.ends c.if-pass.false)
     ∙ ap₂ (λ (st : Stand g.row.U.Denot) (m : Whole). at_position here (ahead m.flags h p.most (p.number + 1) rest left
-    (rows_here h (record p { stand = st }) m.state) (state_here h (record p { stand = st }) m.state))) (sym same.0) (sym same.1)
+    (rows_here h (record p { stand = st }) m.state) (state_here h (record p { stand = st }) m.state))) (sym same.0)
+    (sym same.1)
     ∙ ap (λ x. at_position here x) (sym c.give_next.ensures.outlook)
     ∙ ap (λ (k : ℕ). at_position here (from_here (outlook_at k h a.plan.now n.p n.m.state))) c.pass.ensures.flags

@@ -21,6 +21,7 @@ returns-clause-way g c =
       rooms = subst (λ (n : ℕ). HaveRoom h.parts.place 1 n a.plan.now a.rooms.items) (sym all) c.requires.rooms;
       rows = omega (arith, len.0, none);
       room = c.requires.room;
-      stand = steady_before (record { frames = c.new.result; told = c.new-2.result }) c.fresh_stand-stand.result c.fresh_stand-stand.ensures.tally
+      stand = steady_before (record { frames = c.new.result; told = c.new-2.result }) c.fresh_stand-stand.result
+          c.fresh_stand-stand.ensures.tally
           c.new.ensures.items c.new-2.ensures.items;
     }

@@ -6,14 +6,18 @@ use Rattle.run_forms.proofs.progress.drive.Goals.{After-pass_at_once}
 use Rattle.run_forms.proofs.progress.drive.Goals as goal
 
 -- what is to come, after a position and the steps that were done at once from there
-further : (g : Over) (c : After-pass_at_once g) → PassesOn (outlook_at c.args.m.now.flags (g.F.RunForm.harness c.args.form.now) c.args.plan.now c.loop-m.p c.loop-m.m.state)
-    (outlook_at c.args.m.now.flags (g.F.RunForm.harness c.args.form.now) c.args.plan.now (record (c.advance.new.p) { stand = c.pass_at_once.new.st }) c.pass_at_once.new.m.state)
+further : (g : Over) (c : After-pass_at_once g)
+    → PassesOn (outlook_at c.args.m.now.flags (g.F.RunForm.harness c.args.form.now) c.args.plan.now c.loop-m.p
+    c.loop-m.m.state)
+    (outlook_at c.args.m.now.flags (g.F.RunForm.harness c.args.form.now) c.args.plan.now
+    (record (c.advance.new.p) { stand = c.pass_at_once.new.st }) c.pass_at_once.new.m.state)
 further g c =
     let l = c.loop-m in
     let n = c.advance.new in
     let q = c.pass_at_once.new in
     let coming = c.pass_at_once.ensures.coming in
-    passes_on c.args.m.now.flags l.m.flags n.m.flags (g.F.RunForm.harness c.args.form.now) c.args.plan.now l.p n.p q.st l.m.state n.m.state q.m.state _ coming.0
+    passes_on c.args.m.now.flags l.m.flags n.m.flags (g.F.RunForm.harness c.args.form.now) c.args.plan.now l.p n.p q.st
+    l.m.state n.m.state q.m.state _ coming.0
     l.invariant.flags (c.advance.ensures.flags ∙ l.invariant.flags) (c.advance.ensures.goes c.loop-m-test.true) coming.1
 
 pub loop-m-preserved : goal.loop-m-preserved

@@ -21,7 +21,8 @@ returns-clause-rows g c =
     ap (map h.seen) items
     ∙ map-append h.seen rows (row ∷ [])
     ∙ ap (λ x. map h.seen rows ++ x ∷ []) (c.row-row.ensures y.sample y.at)
-    ∙ ap (λ o. with_row (map h.seen rows) (shown_by h.shows h.parts.answers (counted_at h.told a.tally a.m.now.state)) o) (sym at)
+    ∙ ap (λ o. with_row (map h.seen rows) (shown_by h.shows h.parts.answers (counted_at h.told a.tally a.m.now.state))
+    o) (sym at)
 
 pub returns-clause-state : goal.returns-clause-state
 returns-clause-state g c =

@@ -7,13 +7,15 @@ use Rattle.run_forms.proofs.runs.arrive.Goals as goal
 pub returns-then-regs-loop_at-clause-state : goal.returns-then-regs-loop_at-clause-state
 returns-then-regs-loop_at-clause-state g c =
     let l = c.loop-left in
-    sym (arrives l.m.flags c.args.loop_at l.left l.m.state (sym (ap (λ r. r.pc) c.regs.ensures) ∙ c.if-regs-loop_at.true)) ∙ l.invariant.way
+    sym (arrives l.m.flags c.args.loop_at l.left l.m.state
+    (sym (ap (λ r. r.pc) c.regs.ensures) ∙ c.if-regs-loop_at.true)) ∙ l.invariant.way
 
 pub returns-in-Err-clause-state : goal.returns-in-Err-clause-state
 returns-in-Err-clause-state g c =
     let l = c.loop-left in
     ap (λ w. w.state) c.in-Err.ensures.next.2
-    ∙ sym (arrives_never l.m.flags c.args.loop_at l.left l.m.state c.in-Err.field-0.byte (λ e. c.if-regs-loop_at.false (ap (λ r. r.pc) c.regs.ensures ∙ e)) c.in-Err.ensures.next.0)
+    ∙ sym (arrives_never l.m.flags c.args.loop_at l.left l.m.state c.in-Err.field-0.byte
+    (λ e. c.if-regs-loop_at.false (ap (λ r. r.pc) c.regs.ensures ∙ e)) c.in-Err.ensures.next.0)
     ∙ l.invariant.way
 
 pub loop-left-preserved : goal.loop-left-preserved
@@ -22,7 +24,9 @@ loop-left-preserved g c =
     let next : Next = record { state = c.step.new.self.state; kind = c.in-Ok.field-0 } in
     record {
       way = ap (λ (f : ℕ). arrival f c.args.loop_at (l.left - 1) c.step.new.self.state) c.step.ensures.flags
-          ∙ sym (arrives_later l.m.flags c.args.loop_at l.left l.m.state next (λ e. c.if-regs-loop_at.false (ap (λ r. r.pc) c.regs.ensures ∙ e)) c.loop-left-test.true c.in-Ok.ensures.next)
+          ∙ sym (arrives_later l.m.flags c.args.loop_at l.left l.m.state next
+          (λ e. c.if-regs-loop_at.false (ap (λ r. r.pc) c.regs.ensures ∙ e)) c.loop-left-test.true
+          c.in-Ok.ensures.next)
           ∙ l.invariant.way;
       flags = c.step.ensures.flags ∙ l.invariant.flags;
       noted = c.step.ensures.noted ∙ l.invariant.noted;

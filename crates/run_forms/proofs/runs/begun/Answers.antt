@@ -27,7 +27,8 @@ returns-clause-first g c =
     let most : c.before_samples-progress.result.most ≡ start.most = c.before_samples-progress.ensures.most in
     let flags : m.flags ≡ a.flags = c.arrive.ensures.flags ∙ ap (λ (w : Whole). w.flags) c.in_ok-machine.ensures in
     let state : m.state ≡ arrived_at a.flags start.wait start.most start.image.now.bytes =
-    c.arrive.ensures.state ∙ ap (λ (w : Whole). arrival w.flags start.wait start.most w.state) c.in_ok-machine.ensures in
+    c.arrive.ensures.state
+    ∙ ap (λ (w : Whole). arrival w.flags start.wait start.most w.state) c.in_ok-machine.ensures in
     ap (λ (k : ℕ). from_here (outlook_at k h plan n.p n.m.state)) (sym flags)
     ∙ c.begin.ensures.first
     ∙ ap₂ (λ (k j : ℕ). shown_run h.shows m.state (harness_rows k h j plan m.state)) flags most

@@ -13,7 +13,8 @@ loop-next-preserved g c =
     let k = l.next + 1 in
     let n = c.count_of-count.result in
     let order : 1 + l.next ≡ k = omega arith in
-    let count : n ≡ length (requests_first place k (drop l.first plan)) = count_there place k l.first n plan c.count_of-count.ensures in
+    let count : n ≡ length (requests_first place k (drop l.first plan)) =
+    count_there place k l.first n plan c.count_of-count.ensures in
     let r = c.in_ok-room in
     let has = r.ensures in
     let frames = has.2 in
@@ -25,14 +26,19 @@ loop-next-preserved g c =
       told = omega (arith, count, told);
     } in
     let there : HasRoom (requests_first place (1 + l.next) (requests_after place 1 l.next plan)) r.room =
-    subst (λ (j : ℕ). HasRoom (requests_first place j (requests_after place 1 l.next plan)) r.room) (sym order) (subst (λ (rest : List g.row.A.Denot). HasRoom (requests_first place k rest) r.room) l.invariant.rest room) in
-    let items = c.push_back.ensures.items ∙ ap (λ o. if is_ok o then l.rooms.items ++ r.room ∷ [] else l.rooms.items) c.in-Ok-push_back.is in
+    subst (λ (j : ℕ). HasRoom (requests_first place j (requests_after place 1 l.next plan)) r.room) (sym order)
+    (subst (λ (rest : List g.row.A.Denot). HasRoom (requests_first place k rest) r.room) l.invariant.rest room) in
+    let items = c.push_back.ensures.items
+    ∙ ap (λ o. if is_ok o then l.rooms.items ++ r.room ∷ [] else l.rooms.items) c.in-Ok-push_back.is in
     record {
-      rooms = subst (λ (rooms : List (Room g.row.U.Denot)). HaveRoom place 1 k plan rooms) (sym items) (room_more place 1 l.next plan l.rooms.items r.room l.invariant.rooms there);
+      rooms = subst (λ (rooms : List (Room g.row.U.Denot)). HaveRoom place 1 k plan rooms) (sym items)
+          (room_more place 1 l.next plan l.rooms.items r.room l.invariant.rooms there);
       rest = rest_further place k l.first n plan count
           ∙ ap (λ (rest : List g.row.A.Denot). drop (length (requests_first place k rest)) rest) l.invariant.rest
-          ∙ ap (λ (j : ℕ). drop (length (requests_first place j (requests_after place 1 l.next plan))) (requests_after place 1 l.next plan)) (sym order)
+          ∙ ap (λ (j : ℕ). drop (length (requests_first place j (requests_after place 1 l.next plan)))
+          (requests_after place 1 l.next plan)) (sym order)
           ∙ sym (after_more place 1 l.next plan);
-      first = (let few = first_few place k (drop l.first plan) in let len = length-drop l.first plan in let inv = l.invariant.first in omega (arith, few, len, inv, count));
+      first = (let few = first_few place k (drop l.first plan) in let len = length-drop l.first plan in
+          let inv = l.invariant.first in omega (arith, few, len, inv, count));
       next = omega arith;
     }

@@ -8,9 +8,11 @@ use Rattle.run_forms.proofs.sample.take_due.Given as goal
 abbrev pub invariant-loop-m : goal.invariant-loop-m
 invariant-loop-m g l = record {
   takes : with_before (frames_seen l.fn.t.frames.items) (map (g.F.RunForm.harness l.form).told l.fn.t.told.items)
-      (takes (plan_form l.fn.m.flags (g.F.RunForm.harness l.form).parts) l.fn.t.moment (drop l.fn.t.next l.requests) l.fn.m.state)
+      (takes (plan_form l.fn.m.flags (g.F.RunForm.harness l.form).parts) l.fn.t.moment
+      (drop l.fn.t.next l.requests) l.fn.m.state)
       ≡ with_before (frames_seen l.t.frames.items) (map (g.F.RunForm.harness l.form).told l.t.told.items)
-      (takes (plan_form l.fn.m.flags (g.F.RunForm.harness l.form).parts) l.fn.t.moment (drop l.t.next l.requests) l.m.state);
+      (takes (plan_form l.fn.m.flags (g.F.RunForm.harness l.form).parts) l.fn.t.moment
+      (drop l.t.next l.requests) l.m.state);
   room : vec_len l.t.frames + (length l.requests - l.t.next) ≤ vec_capacity l.t.frames;
   told : vec_len l.t.told + (length l.requests - l.t.next) ≤ vec_capacity l.t.told;
   few : vec_len l.t.told + (length l.requests - l.t.next) ≤ 10000;

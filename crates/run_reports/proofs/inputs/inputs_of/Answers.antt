@@ -11,7 +11,8 @@ returns-in_err-errors-clause-fault c =
     let block = c.args.block.now in
     let at = content_at (bytes_of c.args.contents.now) in
     let passed : c.from_residual.result ≡ Err c.in_err-errors.field-0.0 = search rules in
-    rw passed (refused (cert_refusals c.args.width block (at 2)) (input_refusals c.args.width block (at 2) (at 3) (at 4))
+    rw passed (refused (cert_refusals c.args.width block (at 2))
+    (input_refusals c.args.width block (at 2) (at 3) (at 4))
     (by_cert block (at 3) (at 4) c.args.width (at 2)) c.in_err-errors.field-0.0
     (rw c.content.ensures.value at c.in_err-errors.ensures.refused))
 

@@ -10,4 +10,5 @@ pub loop-at-preserved : goal.loop-at-preserved
 loop-at-preserved c =
     let more = λ (r : Row). text_of c.loop-at.lines.items ++ row_lines (c.loop-at.at + 1) (row_seen r) in
     text_more _ _ _ _ _ _ c.loop-at.invariant (c.in_ok-push_row.ensures ∙ ap more c.index-rows-at.is)
-    (counted_more (λ k r. row_lines k (row_seen r)) c.args.rows.now c.loop-at.at c.index-rows-at.result c.loop-at-test.true)
+    (counted_more (λ k r. row_lines k (row_seen r)) c.args.rows.now c.loop-at.at c.index-rows-at.result
+    c.loop-at-test.true)

@@ -9,5 +9,6 @@ returns c = λ rest.
     let frames : c.len.result ≡ length (frames_seen c.args.row.now.frames) =
     c.len.ensures ∙ sym (length-map c.args.row.now.frames boundary_seen) in
     sample_written _ _ _ _ _ _ _ rest _ _ _ _ _ _ c.in_ok-text.ensures.ok c.in_ok-write.ensures.bytes
-    (rw c.as_slice.ensures.value at (rw c.as_slice-2.ensures.value at c.in_ok-push_answered.ensures)) c.in_ok-push_count.ensures
+    (rw c.as_slice.ensures.value at (rw c.as_slice-2.ensures.value at c.in_ok-push_answered.ensures))
+    c.in_ok-push_count.ensures
     c.in_ok-push_count-2.ensures (rw frames at c.in_ok-push_count-3.ensures)

@@ -9,4 +9,5 @@ returns-clause-image c =
     let image = c.args.image.now in
     let same : c.deref.result.now ≡ image.bytes = c.deref.ensures.value ∙ c.in_ok-bytes.ensures.bytes in
     IfOk-weaker c.text_of.result _ _ (λ text spelled.
-    written_gives image text.items c.in_ok-bytes.ensures.ascending (subst (λ (bytes : List (ℕ × ℕ)). ImageText bytes image.start text.items) same spelled)) c.text_of.ensures
+    written_gives image text.items c.in_ok-bytes.ensures.ascending
+    (subst (λ (bytes : List (ℕ × ℕ)). ImageText bytes image.start text.items) same spelled)) c.text_of.ensures

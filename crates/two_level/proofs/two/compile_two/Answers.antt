@@ -9,12 +9,15 @@ returns-clause-two c = record {
 
 pub returns-clause-beside : goal.returns-clause-beside
 returns-clause-beside c =
-    (c.two_stand_beside.ensures c.args.slow.now c.args.fast.now _ c.requires.slow c.in-Ok.ensures.limits c.requires.fast c.in-Ok-compile.ensures.limits (returns-clause-two c)).0
+    (c.two_stand_beside.ensures c.args.slow.now c.args.fast.now _ c.requires.slow c.in-Ok.ensures.limits c.requires.fast
+    c.in-Ok-compile.ensures.limits (returns-clause-two c)).0
 
 pub returns-clause-slow_answers : goal.returns-clause-slow_answers
 returns-clause-slow_answers c =
-    (c.two_stand_beside.ensures c.args.slow.now c.args.fast.now _ c.requires.slow c.in-Ok.ensures.limits c.requires.fast c.in-Ok-compile.ensures.limits (returns-clause-two c)).1
+    (c.two_stand_beside.ensures c.args.slow.now c.args.fast.now _ c.requires.slow c.in-Ok.ensures.limits c.requires.fast
+    c.in-Ok-compile.ensures.limits (returns-clause-two c)).1
 
 pub returns-clause-fast_answers : goal.returns-clause-fast_answers
 returns-clause-fast_answers c =
-    c.fast_answers_entered.ensures c.args.slow.now c.args.fast.now _ c.requires.slow c.in-Ok.ensures.limits c.requires.fast c.in-Ok-compile.ensures.limits (returns-clause-two c)
+    c.fast_answers_entered.ensures c.args.slow.now c.args.fast.now _ c.requires.slow c.in-Ok.ensures.limits
+    c.requires.fast c.in-Ok-compile.ensures.limits (returns-clause-two c)

@@ -9,7 +9,8 @@ loop-left-preserved g c =
     let l = c.loop-left in
     let got = c.from.ensures ∙ c.peek.ensures in
     record {
-      answers = ap (λ (vs : List ℕ). vs ++ bytes_at mem (from (plus l.next 1) (l.left - 1))) (c.push.ensures.items ∙ ap (λ (v : ℕ). l.answers.items ++ v ∷ []) got)
+      answers = ap (λ (vs : List ℕ). vs ++ bytes_at mem (from (plus l.next 1) (l.left - 1)))
+          (c.push.ensures.items ∙ ap (λ (v : ℕ). l.answers.items ++ v ∷ []) got)
           ∙ byte_more mem l.next l.left l.answers.items (omega arith) ∙ l.invariant.answers;
       room = (let len = c.push.ensures.len in omega arith);
     }

@@ -7,7 +7,8 @@ use Rattle.two_runs.proofs.fast.answers.Given as goal
 -- what is there and what is to come are all the answers
 abbrev pub invariant-loop-left : goal.invariant-loop-left
 invariant-loop-left g l = record {
-  answers : l.answers.items ++ bytes_at l.m.state.mem (from l.next l.left) ≡ bytes_at l.m.state.mem (from fast_layout.outputs l.outputs);
+  answers : l.answers.items ++ bytes_at l.m.state.mem (from l.next l.left) ≡ bytes_at l.m.state.mem
+      (from fast_layout.outputs l.outputs);
   room : array_vec_len l.answers + l.left ≡ l.outputs;
 }
 

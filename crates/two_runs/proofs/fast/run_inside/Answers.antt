@@ -18,7 +18,8 @@ loop-counts-init g c =
     let no_frames = ap length c.new-counts.ensures.frames in
     record {
       rest = λ outputs. begins m.flags outputs c.regs-entered.result.sp c.args.most c.args.moments.now counts m.state
-          (ap (λ (r : Regs). r.sp) c.regs-entered.ensures) none.0 none.1 none.2 c.new-counts.ensures.outside c.new-counts.ensures.frames;
+          (ap (λ (r : Regs). r.sp) c.regs-entered.ensures) none.0 none.1 none.2 c.new-counts.ensures.outside
+          c.new-counts.ensures.frames;
       frames = omega (arith, no_frames);
       instrs = omega (arith, none.0, none.1);
       resumed = omega (arith, none.0, none.2, outside);
@@ -38,10 +39,13 @@ returns-then-regs-entered-clause-counted g c outputs =
     let none : due_at l.counts inner l.m.state ≡ false = sym c.is_due.ensures ∙ c.if-is_due.false in
     let at : c.regs.result.sp ≡ n.m.state.regs.sp = ap (λ (r : Regs). r.sp) c.regs.ensures in
     let higher : sp < n.m.state.regs.sp = (let over = c.if-regs-entered.true in omega (arith, at, over)) in
-    let step : past_of (fast_form flags outputs sp) most inner l.counts l.m.state ≡ rest_of (fast_form flags outputs sp) most inner n.self n.m.state =
-    subst (λ (k : ℕ). past_of (fast_form k outputs sp) most inner l.counts l.m.state ≡ rest_of (fast_form k outputs sp) most inner n.self n.m.state) l.invariant.flags
+    let step : past_of (fast_form flags outputs sp) most inner l.counts l.m.state ≡ rest_of
+    (fast_form flags outputs sp) most inner n.self n.m.state =
+    subst (λ (k : ℕ). past_of (fast_form k outputs sp) most inner l.counts l.m.state ≡ rest_of
+    (fast_form k outputs sp) most inner n.self n.m.state) l.invariant.flags
     (c.step.ensures.goes c.if-not-step.false outputs sp most inner none c.loop-counts-test.true) in
-    sym (ends_counted flags outputs sp most inner n.self n.m.state (is_past sp n.m.state.regs.sp higher)) ∙ sym step ∙ l.invariant.rest outputs
+    sym (ends_counted flags outputs sp most inner n.self n.m.state (is_past sp n.m.state.regs.sp higher)) ∙ sym step
+    ∙ l.invariant.rest outputs
 
 pub loop-counts-preserved : goal.loop-counts-preserved
 loop-counts-preserved g c =
@@ -65,10 +69,14 @@ loop-counts-preserved g c =
     let still = ap (λ (k : Counts). array_vec_len k.frames) p.ensures.rest in
     record {
       rest = λ outputs.
-          sym (subst (λ (k : ℕ). past_of (fast_form k outputs sp) most inner n.self n.m.state ≡ past_of (fast_form k outputs sp) most inner p.new.self p.new.m.state) (c.step.ensures.flags ∙ l.invariant.flags)
+          sym
+          (subst (λ (k : ℕ). past_of (fast_form k outputs sp) most inner n.self n.m.state ≡ past_of
+          (fast_form k outputs sp) most inner p.new.self p.new.m.state) (c.step.ensures.flags ∙ l.invariant.flags)
           (p.ensures.goes outputs sp low))
           ∙ sym (goes_past flags outputs sp most inner n.self n.m.state (is_not_past sp n.m.state.regs.sp low))
-          ∙ sym (subst (λ (k : ℕ). past_of (fast_form k outputs sp) most inner l.counts l.m.state ≡ rest_of (fast_form k outputs sp) most inner n.self n.m.state) l.invariant.flags
+          ∙ sym
+          (subst (λ (k : ℕ). past_of (fast_form k outputs sp) most inner l.counts l.m.state ≡ rest_of
+          (fast_form k outputs sp) most inner n.self n.m.state) l.invariant.flags
           (c.step.ensures.goes done outputs sp most inner none some))
           ∙ l.invariant.rest outputs;
       frames = (let few = l.invariant.frames in omega (arith, frames, still, few));

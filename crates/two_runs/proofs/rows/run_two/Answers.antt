@@ -19,4 +19,5 @@ returns-clause-answers c =
     let levels = a.levels.now in
     let good : AreGoodLevels (length (map input_bytes a.fast.now)) levels =
     subst (λ (n : ℕ). AreGoodLevels n levels) (sym (length-map a.fast.now input_bytes)) c.requires.levels in
-    c.answers_under_levels.ensures a.two.now a.flags (map input_bytes a.slow.now) (map input_bytes a.fast.now) levels c.ranges.flags.fits good
+    c.answers_under_levels.ensures a.two.now a.flags (map input_bytes a.slow.now)
+    (map input_bytes a.fast.now) levels c.ranges.flags.fits good

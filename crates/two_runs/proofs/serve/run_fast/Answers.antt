@@ -13,8 +13,10 @@ returns-clause-state g c =
     let f = a.two.now.fast in
     let n = c.enter-frame.new.m in
     ap (λ (k : Counted). k.state)
-    (same_run f.outputs n.flags a.m.now.flags c.fast_step_bound.result (fast_most f.step_bound) a.moments.now n.state (entered a.bytes.now (suspended wav a.m.now.state))
-    (counted_at c.run_inside-counts.result c.run_inside-counts.new.m.state) (c.run_inside-counts.ensures.counted f.outputs) c.enter-frame.ensures.flags
+    (same_run f.outputs n.flags a.m.now.flags c.fast_step_bound.result (fast_most f.step_bound) a.moments.now n.state
+    (entered a.bytes.now (suspended wav a.m.now.state))
+    (counted_at c.run_inside-counts.result c.run_inside-counts.new.m.state)
+    (c.run_inside-counts.ensures.counted f.outputs) c.enter-frame.ensures.flags
     c.fast_step_bound.ensures c.enter-frame.ensures.state)
 
 pub returns-clause-row : goal.returns-clause-row
@@ -24,8 +26,10 @@ returns-clause-row g c =
     let n = c.enter-frame.new.m in
     let v = entered a.bytes.now (suspended wav a.m.now.state) in
     ap (λ (x : FastSeen). Some x)
-    (seen_by_counts a.number f.outputs c.run_inside-counts.result c.run_inside-counts.new.m.state (fast_run a.m.now.flags f.outputs (fast_most f.step_bound) a.moments.now v)
+    (seen_by_counts a.number f.outputs c.run_inside-counts.result c.run_inside-counts.new.m.state
+    (fast_run a.m.now.flags f.outputs (fast_most f.step_bound) a.moments.now v)
     c.answers.result.items
     (same_run f.outputs n.flags a.m.now.flags c.fast_step_bound.result (fast_most f.step_bound) a.moments.now n.state v
-    (counted_at c.run_inside-counts.result c.run_inside-counts.new.m.state) (c.run_inside-counts.ensures.counted f.outputs) c.enter-frame.ensures.flags
+    (counted_at c.run_inside-counts.result c.run_inside-counts.new.m.state)
+    (c.run_inside-counts.ensures.counted f.outputs) c.enter-frame.ensures.flags
     c.fast_step_bound.ensures c.enter-frame.ensures.state) c.answers.ensures)

@@ -3,4 +3,5 @@ use Rattle.watched_code.specs.WatchedCode.{code_length}
 use Rattle.watched_code.proofs.check.code_length.Given as goal
 
 abbrev pub invariant-loop-instruction : goal.invariant-loop-instruction
-invariant-loop-instruction l = (l.bytes ≡ code_length (take l.instruction-index l.code)) × (l.bytes ≤ 6 * l.instruction-index)
+invariant-loop-instruction l =
+    (l.bytes ≡ code_length (take l.instruction-index l.code)) × (l.bytes ≤ 6 * l.instruction-index)

@@ -6,7 +6,12 @@ use Rattle.watched_code.proofs.check.watched_front.Goals as goal
 pub code_length-requires-2 : goal.code_length-requires-2
 code_length-requires-2 c =
     let same = c.deref-2.ensures.value ∙ c.in_ok-bad.ensures in
-    omega (arith, ap length same, length-le (bad_code c.args.layout.now c.args.outputs.now), length-bad c.args.layout.now c.args.outputs.now c.requires.few)
+    omega (
+      arith,
+      ap length same,
+      length-le (bad_code c.args.layout.now c.args.outputs.now),
+      length-bad c.args.layout.now c.args.outputs.now c.requires.few,
+    )
 
 pub overflow_add-bad_at-2 : goal.overflow_add-bad_at-2
 overflow_add-bad_at-2 c =

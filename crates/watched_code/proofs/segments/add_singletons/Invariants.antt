@@ -3,4 +3,5 @@ use Rattle.byte_scaling.specs.Cells.{nearest_byte}
 use Rattle.watched_code.proofs.segments.add_singletons.Given as goal
 
 abbrev pub invariant-loop-singleton : goal.invariant-loop-singleton
-invariant-loop-singleton l = l.bytes.items ≡ l.fn.bytes.items ++ map (nearest_byte l.output) (take l.singleton-index l.output.singletons)
+invariant-loop-singleton l =
+    l.bytes.items ≡ l.fn.bytes.items ++ map (nearest_byte l.output) (take l.singleton-index l.output.singletons)

@@ -5,9 +5,11 @@ use Rattle.watched_code.proofs.segments.segments.Goals as goal
 
 pub returns : goal.returns
 returns c =
-    segments_made c.args.layout.now c.args.block.now c.args.flat.now _ _ _ _ _ _ _ _ c.requires.flat c.new-segments.ensures.items
+    segments_made c.args.layout.now c.args.block.now c.args.flat.now _ _ _ _ _ _ _ _ c.requires.flat
+    c.new-segments.ensures.items
     (c.new.ensures ∙ c.in_ok-term_tables.ensures)
-    (c.new-2.ensures ∙ c.in_ok-singletons.ensures ∙ ap (λ outputs. flat_map singleton_bytes_of outputs) c.as_slice.ensures)
+    (c.new-2.ensures ∙ c.in_ok-singletons.ensures
+    ∙ ap (λ outputs. flat_map singleton_bytes_of outputs) c.as_slice.ensures)
     (c.new-3.ensures ∙ c.in_ok-rule_list.ensures)
     c.in_ok-push.ensures.items
     c.in_ok-push-2.ensures.items

@@ -7,9 +7,11 @@ use Rattle.watched_code.proofs.watch.watched_image.Goals as goal
 pub image_of-requires-clause-few : goal.image_of-requires-clause-few
 image_of-requires-clause-few c =
     let e = c.as_slice.ensures.value ∙ c.in_ok-items.ensures in
-    subst (λ (xs : List Item). length xs < 2 ^ 32) (sym e) (length-watched_items c.blocks_are_placed.ensures.short c.args.block.now c.requires.valid c.requires.limits)
+    subst (λ (xs : List Item). length xs < 2 ^ 32) (sym e)
+    (length-watched_items c.blocks_are_placed.ensures.short c.args.block.now c.requires.valid c.requires.limits)
 
 pub image_of-requires-clause-rising : goal.image_of-requires-clause-rising
 image_of-requires-clause-rising c =
     let e = c.as_slice.ensures.value ∙ c.in_ok-items.ensures in
-    subst (λ (xs : List Item). IsRising xs) (sym e) (watched_rise c.blocks_are_placed.ensures.rises c.args.block.now c.requires.valid c.requires.limits)
+    subst (λ (xs : List Item). IsRising xs) (sym e)
+    (watched_rise c.blocks_are_placed.ensures.rises c.args.block.now c.requires.valid c.requires.limits)

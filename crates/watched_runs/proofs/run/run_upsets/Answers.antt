@@ -16,7 +16,10 @@ use Rattle.watched_runs.proofs.run.run_upsets.Goals as goal
 
 pub run_form-requires : goal.run_form-requires
 run_form-requires c =
-    record { order = subst (IsInOrder place_of) (sym c.as_slice.ensures) (c.plans_are_in_order.ensures c.args.plan.now c.requires.plan) }
+    record {
+      order = subst (IsInOrder place_of) (sym c.as_slice.ensures)
+          (c.plans_are_in_order.ensures c.args.plan.now c.requires.plan);
+    }
 
 pub returns-clause-rows : goal.returns-clause-rows
 returns-clause-rows c =
@@ -27,7 +30,8 @@ returns-clause-rows c =
     let given = with_upsets c.ascending-upsets.result.now inputs in
     c.in_ok-rows.ensures.rows
     ∙ ap (λ (l : List Request). shown (λ (row : RowSeen Watched) (told : List (Unit {0})). fault_seen f.outputs row)
-    (rows_from (watched_form a.flags f) f.step_bound (λ k. requests_of k l) 1 given (first_state f a.flags))) c.as_slice.ensures
+    (rows_from (watched_form a.flags f) f.step_bound (λ k. requests_of k l) 1 given (first_state f a.flags)))
+    c.as_slice.ensures
     ∙ shown_plainly (fault_seen f.outputs) (watched_form a.flags f) f.step_bound (λ k. requests_of k plan) 1
     given (first_state f a.flags)
     ∙ ap (λ (us : List Upset). faults_of f (upset_rows f inputs plan us a.flags)) c.ascending-upsets.ensures.same

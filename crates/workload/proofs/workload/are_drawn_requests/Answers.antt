@@ -9,7 +9,8 @@ use Rattle.workload.proofs.workload.are_drawn_requests.Goals as goal
 
 -- a request by what is drawn for it
 abbrev made : ℕ → ℕ × ℕ × ℕ → Request
-made sample drawn = record { sample = sample; moment = drawn.0; writes = record { at = free_start + drawn.1; value = drawn.2 } ∷ [] }
+made sample drawn = record
+    { sample = sample; moment = drawn.0; writes = record { at = free_start + drawn.1; value = drawn.2 } ∷ [] }
 
 pub loop-k-preserved : goal.loop-k-preserved
 loop-k-preserved c =

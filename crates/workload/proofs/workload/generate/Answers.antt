@@ -16,14 +16,17 @@ returns-then-are_drawn_requests-clause-workload c =
     let begun : c.of-draws.result.state ≡ state_after number 0 = c.of-draws.ensures ∙ state_after_none number in
     let behind = c.shift-shift.ensures.state number 0 begun in
     record {
-      spelled = subst (λ (text : List ℕ). SpellsBlock text c.in_ok-block.block) c.deref.ensures.value c.in_ok-block.ensures.spelled;
-      drawn_block = subst (λ (shift : ℕ). IsDrawnBlock shift c.in_ok-block.block) (c.shift-shift.ensures.value number 0 begun)
+      spelled = subst (λ (text : List ℕ). SpellsBlock text c.in_ok-block.block) c.deref.ensures.value
+          c.in_ok-block.ensures.spelled;
+      drawn_block = subst (λ (shift : ℕ). IsDrawnBlock shift c.in_ok-block.block)
+          (c.shift-shift.ensures.value number 0 begun)
           c.in_ok-block.ensures.drawn;
       in_trace = subst (λ (text : List ℕ). SpellsTrace c.in_ok-block.block.inputs text c.in_ok-samples.samples.items)
           c.deref-2.ensures.value c.in_ok-samples.ensures;
       drawn_samples = subst (λ (samples : List Sample). AreDrawnSamples number samples) c.deref-4.ensures.value
           (c.if-are_drawn_samples.ensures.drawn number behind refl);
-      in_plan = subst (λ (text : List ℕ). SpellsPlan text c.in_ok-requests.requests) c.deref-3.ensures.value c.in_ok-requests.ensures;
+      in_plan = subst (λ (text : List ℕ). SpellsPlan text c.in_ok-requests.requests) c.deref-3.ensures.value
+          c.in_ok-requests.ensures;
       drawn_requests = subst (λ (plan : List Request). AreDrawnRequests number plan) c.as_slice.ensures
           (c.if-are_drawn_requests.ensures number (c.if-are_drawn_samples.ensures.state number behind refl) refl);
     }

@@ -15,14 +15,24 @@ returns-after-node-clause-node c = λ version text nodes h.
     elim c.match-node.branch [
       | in-Split w ↦
           let left : open_from old.open_boxes (node ∷ []) ≡ Some c.match-node.self.open_boxes =
-          ap (λ (n : Node). open_from old.open_boxes (n ∷ [])) w.in-Split.is ∙ open_split old.open_boxes w.in-Split.field-0 w.in-Split.field-1 stands.box_open ∙ ap (λ (l : Lines). Some l.open_boxes) (sym w.self-is) in
+          ap (λ (n : Node). open_from old.open_boxes (n ∷ [])) w.in-Split.is
+          ∙ open_split old.open_boxes w.in-Split.field-0 w.in-Split.field-1 stands.box_open
+          ∙ ap (λ (l : Lines). Some l.open_boxes) (sym w.self-is) in
           let none : leaf_count (node ∷ []) ≡ 0 = ap (λ (n : Node). leaf_count (n ∷ [])) w.in-Split.is in
-          has_read_more version text nodes old c.match-node.self node c.in-Ok-Some.behind.now h stands (ap (λ (l : Lines). l.claims) w.self-is) (ap (λ (l : Lines). l.rest.now) w.self-is) (ap (λ (l : Lines). l.read) w.self-is) left
-          (omega (arith, ap (λ (l : Lines). l.leaves) w.self-is, none)) (ap (λ (l : Lines). l.fault) w.self-is ∙ h.no_fault)
+          has_read_more version text nodes old c.match-node.self node c.in-Ok-Some.behind.now h stands
+          (ap (λ (l : Lines). l.claims) w.self-is) (ap (λ (l : Lines). l.rest.now) w.self-is)
+          (ap (λ (l : Lines). l.read) w.self-is) left
+          (omega (arith, ap (λ (l : Lines). l.leaves) w.self-is, none))
+          (ap (λ (l : Lines). l.fault) w.self-is ∙ h.no_fault)
       | in-Leaf w ↦
           let left : open_from old.open_boxes (node ∷ []) ≡ Some c.match-node.self.open_boxes =
-          ap (λ (n : Node). open_from old.open_boxes (n ∷ [])) w.in-Leaf.is ∙ open_leaf old.open_boxes w.in-Leaf.field-0 stands.box_open ∙ ap (λ (l : Lines). Some l.open_boxes) (sym w.self-is) in
+          ap (λ (n : Node). open_from old.open_boxes (n ∷ [])) w.in-Leaf.is
+          ∙ open_leaf old.open_boxes w.in-Leaf.field-0 stands.box_open
+          ∙ ap (λ (l : Lines). Some l.open_boxes) (sym w.self-is) in
           let one : leaf_count (node ∷ []) ≡ 1 = ap (λ (n : Node). leaf_count (n ∷ [])) w.in-Leaf.is in
-          has_read_more version text nodes old c.match-node.self node c.in-Ok-Some.behind.now h stands (ap (λ (l : Lines). l.claims) w.self-is) (ap (λ (l : Lines). l.rest.now) w.self-is) (ap (λ (l : Lines). l.read) w.self-is) left
-          (omega (arith, ap (λ (l : Lines). l.leaves) w.self-is, one)) (ap (λ (l : Lines). l.fault) w.self-is ∙ h.no_fault)
+          has_read_more version text nodes old c.match-node.self node c.in-Ok-Some.behind.now h stands
+          (ap (λ (l : Lines). l.claims) w.self-is) (ap (λ (l : Lines). l.rest.now) w.self-is)
+          (ap (λ (l : Lines). l.read) w.self-is) left
+          (omega (arith, ap (λ (l : Lines). l.leaves) w.self-is, one))
+          (ap (λ (l : Lines). l.fault) w.self-is ∙ h.no_fault)
     ]

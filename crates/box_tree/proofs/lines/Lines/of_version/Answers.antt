@@ -13,7 +13,11 @@ returns-in-None-clause-fault c = bad_version (is_something c.args.text.now c.if-
 
 pub returns-then-is_empty-2-clause-fault : goal.returns-then-is_empty-2-clause-fault
 returns-then-is_empty-2-clause-fault c =
-    no_claims (c.in-Some.ensures.line ∙ ap (λ (t : List ℕ). version_line c.args.version ++ t) (is_nothing c.in-Some.rest.now c.if-is_empty-2.ensures) ∙ append-nil _)
+    no_claims (c.in-Some.ensures.line
+    ∙ ap (λ (t : List ℕ). version_line c.args.version ++ t) (is_nothing c.in-Some.rest.now c.if-is_empty-2.ensures)
+    ∙ append-nil _)
 
 pub returns-in-None-claims_at-clause-fault : goal.returns-in-None-claims_at-clause-fault
-returns-in-None-claims_at-clause-fault c = bad_claims c.in-Some.rest.now c.in-Some.ensures.line (is_something c.in-Some.rest.now c.if-is_empty-2.ensures, c.in-None-claims_at.ensures.claims)
+returns-in-None-claims_at-clause-fault c =
+    bad_claims c.in-Some.rest.now c.in-Some.ensures.line
+    (is_something c.in-Some.rest.now c.if-is_empty-2.ensures, c.in-None-claims_at.ensures.claims)

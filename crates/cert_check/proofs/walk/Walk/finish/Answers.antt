@@ -9,10 +9,12 @@ returns-in-Some-clause-fault c = λ nodes taken cert. last_fault c.args.self nod
 pub returns-in-Some-first_over-clause-fault : goal.returns-in-Some-first_over-clause-fault
 returns-in-Some-first_over-clause-fault c = λ nodes taken cert.
     let w = c.args.self in
-    claim_fault w nodes c.as_slice.result.now c.in-Some-first_over.o _ c.index.result.now c.as_slice.ensures.value cert.tree c.in-Some-first_over.ensures.over
+    claim_fault w nodes c.as_slice.result.now c.in-Some-first_over.o _ c.index.result.now c.as_slice.ensures.value
+    cert.tree c.in-Some-first_over.ensures.over
     refl c.index.ensures (as_behind w nodes c.in_default.is taken)
 
 pub returns-in-None-clause-accepted : goal.returns-in-None-clause-accepted
 returns-in-None-clause-accepted c = λ nodes taken cert.
     let w = c.args.self in
-    accepted_behind w nodes c.as_slice.result.now c.as_slice.ensures.value cert.tree c.in-None.ensures.none (as_behind w nodes c.in_default.is taken)
+    accepted_behind w nodes c.as_slice.result.now c.as_slice.ensures.value cert.tree c.in-None.ensures.none
+    (as_behind w nodes c.in_default.is taken)

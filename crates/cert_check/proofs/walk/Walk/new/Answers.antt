@@ -12,8 +12,20 @@ use Rattle.cert_check.proofs.walk.Walk.new.Goals as goal
 
 pub returns-clause-begun : goal.returns-clause-begun
 returns-clause-begun c =
-    let w : Walk = record { block = c.args.block; claims = c.args.claims; parts = c.args.parts; table = c.in_ok-table.table; boxes = c.push.new.boxes; errors = c.in_ok-errors.errors; line = 3; fault = c.if-claims-outputs.fault } in
-    let stack = c.push.ensures.boxes ∙ ap₂ (λ (x : List Interval) (xs : List ByteBox). x ∷ stack_of xs) c.whole_box.ensures c.in_ok-boxes.ensures.items in
+    let w : Walk = record {
+      block = c.args.block;
+      claims = c.args.claims;
+      parts = c.args.parts;
+      table = c.in_ok-table.table;
+      boxes =
+          c.push.new.boxes;
+      errors = c.in_ok-errors.errors;
+      line = 3;
+      fault = c.if-claims-outputs.fault;
+    } in
+    let stack = c.push.ensures.boxes
+    ∙ ap₂ (λ (x : List Interval) (xs : List ByteBox). x ∷ stack_of xs) c.whole_box.ensures
+    c.in_ok-boxes.ensures.items in
     let zeros = c.in_ok-errors.ensures ∙ ap (λ n. replicate n 0) c.len-outputs.ensures in
     let room = c.push.ensures.room in
     let exact = c.in_ok-boxes.ensures.exact in
@@ -24,9 +36,14 @@ returns-clause-begun c =
       parts_from = c.requires.parts_from;
       parts_to = c.requires.parts_to;
       so_far = elim c.if-claims-outputs.branch [
-        | then-claims-outputs v ↦ subst (λ f. MatchOption f (IsBehind [] w) (λ g. (rest : List Node) → HasCheckFault w.block.now w.parts (cert_over w rest) g)) (sym v.fault-is)
-            (behind_none w c.requires.block.few_inputs (v.if-claims-outputs.true ∙ c.len-outputs.ensures) stack zeros refl (omega (arith, room, exact)))
-        | else-claims-outputs v ↦ subst (λ f. MatchOption f (IsBehind [] w) (λ g. (rest : List Node) → HasCheckFault w.block.now w.parts (cert_over w rest) g)) (sym v.fault-is)
+        | then-claims-outputs v ↦ subst
+            (λ f. MatchOption f (IsBehind [] w)
+            (λ g. (rest : List Node) → HasCheckFault w.block.now w.parts (cert_over w rest) g)) (sym v.fault-is)
+            (behind_none w c.requires.block.few_inputs (v.if-claims-outputs.true ∙ c.len-outputs.ensures) stack zeros
+            refl (omega (arith, room, exact)))
+        | else-claims-outputs v ↦ subst
+            (λ f. MatchOption f (IsBehind [] w)
+            (λ g. (rest : List Node) → HasCheckFault w.block.now w.parts (cert_over w rest) g)) (sym v.fault-is)
             (count_fault w c.len-outputs.result c.len-outputs.ensures v.if-claims-outputs.false)
       ];
     }

@@ -5,7 +5,8 @@ use Rattle.cpu12_asm.proofs.image.ByteMap.write_to.Given as goal
 -- what is written and what is still to come
 abbrev pub invariant-loop-at : goal.invariant-loop-at
 invariant-loop-at g l = record {
-  same : (q : ℕ) → unwrap_or (byte_at l.at-iterator q) (get_or (g.M.Mem.bytes l.m) q 0) ≡ unwrap_or (byte_at l.fn.self q) (get_or (g.M.Mem.bytes l.fn.m) q 0);
+  same : (q : ℕ) → unwrap_or (byte_at l.at-iterator q) (get_or (g.M.Mem.bytes l.m) q 0) ≡ unwrap_or
+      (byte_at l.fn.self q) (get_or (g.M.Mem.bytes l.fn.m) q 0);
   ascending : IsAscending l.at-iterator;
   noted : g.M.Mem.noted l.m ≡ g.M.Mem.noted l.fn.m;
 }

@@ -15,9 +15,12 @@ returns-clause-steps g c =
     let end : ℕ = c.in-Some.end in
     let r : Regs = c.turns-done.result.0 in
     let n : ℕ = c.turns-done.result.1 in
-    let stands : IsAddingLoop end s = subst (λ (v : Whole). IsAddingLoop end v.state) (sym c.self.view_is) c.in-Some.ensures in
+    let stands : IsAddingLoop end s =
+    subst (λ (v : Whole). IsAddingLoop end v.state) (sym c.self.view_is) c.in-Some.ensures in
     let steps = turns_are_steps m.flags end n s.mem s r refl stands c.turns-done.ensures.turns in
-    subst (λ (mem : List ℕ). PlainlyTo (λ u. u.mem ≡ now.state.mem) now.flags (n * 3) now.state (record { regs = r; temps = m.temps; mem = mem }))
+    subst (λ (mem : List ℕ). PlainlyTo (λ u. u.mem ≡ now.state.mem) now.flags (n * 3) now.state
+    (record { regs = r; temps = m.temps; mem = mem }))
     (sym c.turns-done.ensures.mem)
-    (subst (λ (v : Whole). PlainlyTo (λ u. u.mem ≡ v.state.mem) v.flags (n * 3) v.state (record { regs = r; temps = m.temps; mem = s.mem }))
+    (subst (λ (v : Whole). PlainlyTo (λ u. u.mem ≡ v.state.mem) v.flags (n * 3) v.state
+    (record { regs = r; temps = m.temps; mem = s.mem }))
     c.self.view_is steps)

@@ -8,7 +8,10 @@ use Rattle.cpu12_emul.proofs.machine.Machine.new.Goals as goal
 pub returns : goal.returns
 returns g c =
     let after : List ℕ = g.M.Mem.bytes c.write_to.new.m in
-    let written = image_memory-written c.args.image.now.bytes (g.M.Mem.bytes c.in_ok-mem.mem) after c.in_ok-mem.ensures.bytes (g.met.M.Mem.size c.write_to.new.m) c.write_to.ensures.bytes in
+    let written = image_memory-written c.args.image.now.bytes (g.M.Mem.bytes c.in_ok-mem.mem) after
+    c.in_ok-mem.ensures.bytes (g.met.M.Mem.size c.write_to.new.m) c.write_to.ensures.bytes in
     let noted : g.M.Mem.noted c.write_to.new.m ≡ nothing_noted = c.write_to.ensures.noted ∙ c.in_ok-mem.ensures.noted in
-    let whole : List ℕ → List (Option ℕ) → Whole = λ m n. record { state = reset_with m; flags = c.args.flags; noted = n } in
-    c.reset.ensures ∙ ap (λ (m : List ℕ). whole m (g.M.Mem.noted c.write_to.new.m)) written ∙ ap (whole (image_memory c.args.image.now.bytes)) noted
+    let whole : List ℕ → List (Option ℕ) → Whole =
+    λ m n. record { state = reset_with m; flags = c.args.flags; noted = n } in
+    c.reset.ensures ∙ ap (λ (m : List ℕ). whole m (g.M.Mem.noted c.write_to.new.m)) written
+    ∙ ap (whole (image_memory c.args.image.now.bytes)) noted

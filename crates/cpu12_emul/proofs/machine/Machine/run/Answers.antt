@@ -10,7 +10,8 @@ loop-budget-preserved g c =
     let before = c.loop-budget.self in
     let next : Next = record { state = c.step.new.self.state; kind = c.in-Ok.field-0 } in
     let free : is_at_rest before.state ≡ false = sym c.loop-budget-test.ensures in
-    let step : next_of s.flags before.state ≡ Ok next = ap (λ (f : ℕ). next_of f before.state) (sym c.loop-budget.invariant.flags) ∙ c.in-Ok.ensures.next in
+    let step : next_of s.flags before.state ≡ Ok next =
+    ap (λ (f : ℕ). next_of f before.state) (sym c.loop-budget.invariant.flags) ∙ c.in-Ok.ensures.next in
     record {
       to = StepsTo-more s.flags c.loop-budget.steps s.state before.state next c.loop-budget.invariant.to free step;
       flags = c.step.ensures.flags ∙ c.loop-budget.invariant.flags;

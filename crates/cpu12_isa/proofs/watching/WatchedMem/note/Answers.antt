@@ -12,4 +12,5 @@ returns-else-not-is_empty-clause-noted g c =
     let empty : m.written.items ≡ [] =
     nil_from_length m.written.items (eqb-true (length m.written.items) 0 (sym is_empty ∙ c.if-not-is_empty.false)) in
     sym (noted_stays m.table.items (g.M.Mem.bytes m.inner) (λ at changed.
-    false≢true (ap (λ (l : List ℕ). is_listed l at) (sym empty) ∙ m.listed (omega (arith, ap length empty)) at changed)))
+    false≢true (ap (λ (l : List ℕ). is_listed l at) (sym empty)
+    ∙ m.listed (omega (arith, ap length empty)) at changed)))

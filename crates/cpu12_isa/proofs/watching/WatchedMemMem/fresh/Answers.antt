@@ -8,5 +8,7 @@ invariant_of-result g c =
     let mem : List ℕ = g.M.Mem.bytes c.in_ok-fresh.field-0 in
     record {
       size = ap (λ (l : List (Option ℕ)). length l) c.in-Ok.ensures ∙ length_unwatched 65536;
-      listed = λ few at changed. absurd (unwatched_stays mem 65536 at (subst (λ (l : List (Option ℕ)). changed_at l mem at ≡ true) c.in-Ok.ensures changed));
+      listed = λ few at changed. absurd
+          (unwatched_stays mem 65536 at
+          (subst (λ (l : List (Option ℕ)). changed_at l mem at ≡ true) c.in-Ok.ensures changed));
     }

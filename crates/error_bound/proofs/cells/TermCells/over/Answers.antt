@@ -16,7 +16,8 @@ loop-b-preserved c =
     let from : p ≤ b = omega (arith, c.loop-b.auto.b, start) in
     let least : c.min.result ≡ min c.loop-b.grades.least (g (b + 1)) = omega arith in
     let greatest : c.max.result ≡ max c.loop-b.grades.greatest (g (b + 1)) = omega arith in
-    let worst : c.max-in-loop-b.result ≡ max c.loop-b.grades.error (e (b + 1)) = omega (arith, c.from-in-loop-b.ensures) in
+    let worst : c.max-in-loop-b.result ≡ max c.loop-b.grades.error (e (b + 1)) =
+    omega (arith, c.from-in-loop-b.ensures) in
     record {
       least = least ∙ ap (λ m. min m (g (b + 1))) i.least ∙ sym (least_more g p b from);
       greatest = greatest ∙ ap (λ m. max m (g (b + 1))) i.greatest ∙ sym (greatest_more g p b from);
@@ -29,5 +30,6 @@ returns-clause-error c =
     let p = c.args.bytes.from in
     let start = c.from-from.ensures in
     let end = c.from-b-end.ensures in
-    let at : c.loop-b.b ≡ c.args.bytes.to = omega (arith, c.loop-b-test.false, c.loop-b.auto.b-end, start, end, c.requires) in
+    let at : c.loop-b.b ≡ c.args.bytes.to =
+    omega (arith, c.loop-b-test.false, c.loop-b.auto.b-end, start, end, c.requires) in
     subst (λ k. c.loop-b.grades.error ≡ greatest_from e p (k - p)) at c.loop-b.invariant.error

@@ -6,6 +6,7 @@ use Rattle.error_bound.proofs.cells.TermCells.over.Given as goal
 abbrev pub invariant-loop-b : goal.invariant-loop-b
 invariant-loop-b l = record {
   least : l.grades.least ≡ least_from (λ n. slice_index l.self.grades n) l.fn.bytes.from (l.b - l.fn.bytes.from);
-  greatest : l.grades.greatest ≡ greatest_from (λ n. slice_index l.self.grades n) l.fn.bytes.from (l.b - l.fn.bytes.from);
+  greatest : l.grades.greatest ≡ greatest_from (λ n. slice_index l.self.grades n) l.fn.bytes.from
+      (l.b - l.fn.bytes.from);
   error : l.grades.error ≡ greatest_from (λ n. slice_index l.self.errors n) l.fn.bytes.from (l.b - l.fn.bytes.from);
 }

@@ -1,4 +1,5 @@
-use Rattle.std.proofs.Common.{◌≡◌, ℕ, suc, ◌+◌, ◌-◌, ◌<◌, ◌≤◌, max, Bool, true, false, ◌∷◌, length, drop, get_or, refl, sym, ap, ap₂, ◌∙◌, arith}
+use Rattle.std.proofs.Common.{◌≡◌, ℕ, suc, ◌+◌, ◌-◌, ◌<◌, ◌≤◌, max, Bool, true, false, ◌∷◌, length, drop, get_or, refl}
+use Rattle.std.proofs.Common.{sym, ap, ap₂, ◌∙◌, arith}
 use Rattle.std.specs.Prelude.{if◌then◌else◌}
 use Rattle.std.proofs.Math.Seq.{drop-cons}
 use Rattle.std.proofs.lemmas.Option.{slice_get_read}
@@ -28,7 +29,8 @@ loop-n-preserved c =
     let q = rule_error_at b c.args.self.now j r0 c.requires.table (rw all at found) in
     let error = get_or c.args.self.now.errors j 0 in
     let back : suc j ≡ c.loop-n.n = omega arith in
-    let here : drop j rules ≡ r0 ∷ drop c.loop-n.n rules = drop-cons rules j r0 within ∙ ap₂ (λ r n. r ∷ drop n rules) (sym c.index-rules-n.is) back in
+    let here : drop j rules ≡ r0 ∷ drop c.loop-n.n rules = drop-cons rules j r0 within
+    ∙ ap₂ (λ r n. r ∷ drop n rules) (sym c.index-rules-n.is) back in
     let before = c.loop-n.invariant in
     let raised = c.raise_terms.ensures in
     record {
@@ -36,5 +38,6 @@ loop-n-preserved c =
       each = λ t few.
           raised t few ∙ ap₂ (λ x y. if concludes r0 o (t + 1) then max x y else y) q.value (before.each t few)
           ∙ sym (ap (output_error_among e o (t + 1)) here);
-      small = λ t few. raised-le (concludes r0 o (t + 1)) error _ _ 3000000000 (raised t few) q.small (before.small t few);
+      small = λ t few. raised-le (concludes r0 o (t + 1)) error _ _ 3000000000 (raised t few) q.small
+          (before.small t few);
     }

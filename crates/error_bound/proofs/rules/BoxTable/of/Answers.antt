@@ -7,13 +7,15 @@ use Rattle.error_bound.proofs.rules.BoxTable.of.Goals as goal
 pub returns-clause-table : goal.returns-clause-table
 returns-clause-table c =
     let b = c.args.block.now in
-    let same : c.new-terms.result.bytes.0.items ≡ c.args.bytes.0.items = ap (λ (x : ByteBox). x.0.items) c.new-terms.ensures.same ∙ c.copied.ensures in
+    let same : c.new-terms.result.bytes.0.items ≡ c.args.bytes.0.items =
+    ap (λ (x : ByteBox). x.0.items) c.new-terms.ensures.same ∙ c.copied.ensures in
     record {
       box_is = c.requires.bytes;
       same_box = same;
       terms = c.new-terms.ensures.terms;
       kept = c.requires.kept;
-      errors = subst (λ box. AreErrorsOfRules b box c.errors_of_rules-errors.result) same c.errors_of_rules-errors.ensures;
+      errors = subst (λ box. AreErrorsOfRules b box c.errors_of_rules-errors.result) same
+          c.errors_of_rules-errors.ensures;
       lows = subst (λ box. IfSome c.ends_if-lows.result (AreEndsOfRules b box false)) same c.ends_if-lows.ensures;
       highs = subst (λ box. IfSome c.ends_if-highs.result (AreEndsOfRules b box true)) same c.ends_if-highs.ensures;
     }

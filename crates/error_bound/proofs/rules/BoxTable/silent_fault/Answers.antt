@@ -1,4 +1,5 @@
-use Rattle.std.proofs.Common.{◌≡◌, ⊎_elim, true, false, ◌+◌, ◌-◌, ◌<◌, ◌≤◌, length, get_or, Some, refl, sym, ap, ◌∙◌, subst, arith}
+use Rattle.std.proofs.Common.{◌≡◌, ⊎_elim, true, false, ◌+◌, ◌-◌, ◌<◌, ◌≤◌, length, get_or, Some, refl, sym, ap, ◌∙◌}
+use Rattle.std.proofs.Common.{subst, arith}
 use Rattle.std.specs.Prelude.{slice_get}
 use Rattle.std.proofs.lemmas.Bool.{cases_lt}
 use Rattle.std.proofs.lemmas.Option.{slice_get_read, slice_get-get_or, get_or_from_slice_get}
@@ -27,7 +28,8 @@ returns-in-Some-clause-fault c =
       concludes_one = sym c.concludes_some.ensures ∙ c.if-concludes_some.true;
       still_before = λ m q from lt e t y. c.loop-n.invariant (m - 1) q (omega arith) e t y;
     } in
-    let fault = silent_same (n + 1) _ _ (rule_span b box r0) (rule_byte_span b box r0) c.in-Some.fault q.value q.byte c.in-Some.ensures.fault in
+    let fault = silent_same (n + 1) _ _ (rule_span b box r0) (rule_byte_span b box r0) c.in-Some.fault q.value q.byte
+    c.in-Some.ensures.fault in
     of_silent (n + 1) r0 refl first fault
 
 pub loop-n-preserved : goal.loop-n-preserved
@@ -40,14 +42,17 @@ loop-n-preserved c m q lt e t y = ⊎_elim
     let same : m ≡ n = omega arith in
     let found : slice_get b.rules n ≡ Some q = subst (λ k. slice_get b.rules k ≡ Some q) same e in
     let r0 = c.index-rules-n.result in
-    let same_rule : r0 ≡ q = c.index-rules-n.is ∙ ap (λ l. get_or l n r0) c.as_slice-rules.ensures ∙ get_or_from_slice_get b.rules n q r0 found in
+    let same_rule : r0 ≡ q = c.index-rules-n.is ∙ ap (λ l. get_or l n r0) c.as_slice-rules.ensures
+    ∙ get_or_from_slice_get b.rules n q r0 found in
     let some : concludes_some q c.args.out ≡ true = any-some c.args.out t q.concl y in
     elim c.if-concludes_some.branch [
       | then-concludes_some+in_default w ↦ record {
         high = none_same _ _ (w.end_of_rule-high.ensures q found).value w.in_default.ensures.high;
         byte_high = sym (w.end_of_rule-high.ensures q found).byte ∙ w.in_default.ensures.byte_high;
       }
-      | else-concludes_some w ↦ absurd (let no : concludes_some q c.args.out ≡ false = ap (λ r. concludes_some r c.args.out) (sym same_rule) ∙ sym c.concludes_some.ensures ∙ w.if-concludes_some.false in let z : ⊥ = cc in z)
+      | else-concludes_some w ↦ absurd
+          (let no : concludes_some q c.args.out ≡ false = ap (λ r. concludes_some r c.args.out) (sym same_rule)
+          ∙ sym c.concludes_some.ensures ∙ w.if-concludes_some.false in let z : ⊥ = cc in z)
     ]
     ))
     (cases_lt m c.loop-n.n)
@@ -56,4 +61,5 @@ pub returns-clause-still : goal.returns-clause-still
 returns-clause-still c k d lt t y =
     let same = ap length c.as_slice-rules.ensures in
     let end = c.loop-n-test.false in
-    c.loop-n.invariant k (get_or c.args.block.now.rules k d) (omega (arith, same)) (slice_get-get_or c.args.block.now.rules k d lt) t y
+    c.loop-n.invariant k (get_or c.args.block.now.rules k d) (omega (arith, same))
+    (slice_get-get_or c.args.block.now.rules k d lt) t y

@@ -20,12 +20,15 @@ loop-k-preserved c =
     let within : k - 1 < length us = omega arith in
     let back : suc (k - 1) ≡ k = omega arith in
     let next : k - 1 + 1 + 1 ≡ k + 1 = omega arith in
-    let here : drop (k - 1) us ≡ get_or us (k - 1) none ∷ drop k us = drop-cons us (k - 1) none within ∙ ap (λ n. get_or us (k - 1) none ∷ drop n us) back in
+    let here : drop (k - 1) us ≡ get_or us (k - 1) none ∷ drop k us = drop-cons us (k - 1) none within
+    ∙ ap (λ n. get_or us (k - 1) none ∷ drop n us) back in
     let before = c.loop-k.invariant in
     let few = before.0 in
     let terms = c.requires.output.few_terms in
     let in_table : k - 1 < 15 = omega arith in
     let small = c.errors_by_term-errors.ensures.small (k - 1) in_table in (
       omega (arith, small),
-      ap₂ (λ x y. x + y) (c.errors_by_term-errors.ensures.value (k - 1) in_table) (before.1 ∙ ap (λ n. errors_from b e o n (drop k us)) (sym next)) ∙ sym (ap (errors_from b e o (k - 1 + 1)) here),
+      ap₂ (λ x y. x + y) (c.errors_by_term-errors.ensures.value (k - 1) in_table)
+          (before.1 ∙ ap (λ n. errors_from b e o n (drop k us)) (sym next))
+          ∙ sym (ap (errors_from b e o (k - 1 + 1)) here),
     )

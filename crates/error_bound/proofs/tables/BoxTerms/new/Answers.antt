@@ -25,15 +25,23 @@ loop-i-preserved c =
     let few = c.requires.block.few_inputs in
     let count = c.loop-i.invariant.0 in
     let same = ap length inputs in
-    let P = λ (k : ℕ) (x : Input) (r : Row). (v : Interval) → slice_get c.args.bytes.0.items k ≡ Some v → AreInputReaches x v r.reaches in
-    let here = λ (x : Input) (e : slice_get b.inputs i ≡ Some x) (v : Interval) (ev : slice_get c.args.bytes.0.items i ≡ Some v).
-    let same_x : x0 ≡ x = c.index-inputs-i.is ∙ ap (λ l. get_or l i x0) inputs ∙ get_or_from_slice_get b.inputs i x x0 e in
-    let same_v : get_or c.deref.result.now i none ≡ v = ap (λ l. get_or l i none) spans ∙ get_or_from_slice_get c.args.bytes.0.items i v none ev in
-    subst (λ z. AreInputReaches z v rs) same_x (subst (λ w. AreInputReaches x0 w rs) same_v made) in
-    (omega (arith, length-set {A = Row}), AreFilled-more P b.inputs c.loop-i.rows i c.row_in.result (omega (arith, same)) c.loop-i.invariant.1 here)
+    let P = λ (k : ℕ) (x : Input) (r : Row). (v : Interval) → slice_get c.args.bytes.0.items k ≡ Some v
+    → AreInputReaches x v r.reaches in
+    let here = λ (x : Input) (e : slice_get b.inputs i ≡ Some x) (v : Interval)
+    (ev : slice_get c.args.bytes.0.items i ≡ Some v).
+    let same_x : x0 ≡ x = c.index-inputs-i.is ∙ ap (λ l. get_or l i x0) inputs
+    ∙ get_or_from_slice_get b.inputs i x x0 e in
+    let same_v : get_or c.deref.result.now i none ≡ v = ap (λ l. get_or l i none) spans
+    ∙ get_or_from_slice_get c.args.bytes.0.items i v none ev in
+    subst (λ z. AreInputReaches z v rs) same_x (subst (λ w. AreInputReaches x0 w rs) same_v made) in (
+      omega (arith, length-set {A = Row}),
+      AreFilled-more P b.inputs c.loop-i.rows i c.row_in.result (omega (arith, same)) c.loop-i.invariant.1 here,
+    )
 
 pub returns-clause-terms : goal.returns-clause-terms
 returns-clause-terms c = record {
   count = c.requires.bytes.count;
-  each = λ i x e. c.loop-i.invariant.1 i x (let l = slice_get_within c.args.block.now.inputs i x e in let same = ap length c.as_slice-inputs.ensures in omega (arith, same)) e;
+  each = λ i x e. c.loop-i.invariant.1 i x
+      (let l = slice_get_within c.args.block.now.inputs i x e in let same = ap length c.as_slice-inputs.ensures in
+      omega (arith, same)) e;
 }

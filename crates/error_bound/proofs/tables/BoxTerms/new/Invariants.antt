@@ -6,4 +6,7 @@ use Rattle.fz_list.proofs.Algebra.{AreFilled}
 use Rattle.error_bound.proofs.tables.BoxTerms.new.Given as goal
 
 abbrev pub invariant-loop-i : goal.invariant-loop-i
-invariant-loop-i l = (length l.rows ≡ 8) × AreFilled (λ k x r. (v : Interval) → slice_get l.bytes.0.items k ≡ Some v → AreInputReaches x v r.reaches) l.block.inputs l.rows l.i
+invariant-loop-i l =
+    (length l.rows ≡ 8) × AreFilled
+    (λ k x r. (v : Interval) → slice_get l.bytes.0.items k ≡ Some v → AreInputReaches x v r.reaches)
+    l.block.inputs l.rows l.i

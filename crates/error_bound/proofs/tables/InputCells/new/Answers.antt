@@ -20,8 +20,12 @@ loop-t-preserved c =
     let few = c.requires.few_terms in
     let made : IfSome (slice_get i.terms (c.loop-t.t + 1 - 1)) (λ t. AreTermCells i t v c.new.result) = c.new.ensures in
     let here : c.loop-t.t + 1 - 1 ≡ c.loop-t.t = omega arith in
-    let made' = subst (λ k. IfSome (slice_get i.terms k) (λ t. AreTermCells i t v c.new.result)) here made in
-    (omega (arith, length-set {A = TermCells}), AreFilled-more P i.terms c.loop-t.terms c.loop-t.t c.new.result (omega arith) c.loop-t.invariant.1 (λ x e. rw e at made'))
+    let made' = subst (λ k. IfSome (slice_get i.terms k) (λ t. AreTermCells i t v c.new.result)) here made in (
+      omega (arith, length-set {A = TermCells}),
+      AreFilled-more P i.terms c.loop-t.terms c.loop-t.t c.new.result (omega arith) c.loop-t.invariant.1
+          (λ x e. rw e at made'),
+    )
 
 pub returns : goal.returns
-returns c t term e = c.loop-t.invariant.1 t term (let l = slice_get_within c.args.input.now.terms t term e in omega arith) e
+returns c t term e =
+    c.loop-t.invariant.1 t term (let l = slice_get_within c.args.input.now.terms t term e in omega arith) e

@@ -10,7 +10,8 @@ pub returns-in-Err-clause-above : goal.returns-in-Err-clause-above
 returns-in-Err-clause-above c =
     let i = c.loop-o.invariant in
     let leaves : BestLeaves = record { pairs = c.loop-o.pairs; bounds = c.loop-o.bounds } in
-    above_behind c.args.block.now c.args.parts c.args.target c.args.table.now.bytes.0.items leaves c.loop-o.o c.in-Err.bound
+    above_behind c.args.block.now c.args.parts c.args.target c.args.table.now.bytes.0.items leaves c.loop-o.o
+    c.in-Err.bound
     (omega (arith, c.loop-o-test.true, c.len-o-end.ensures)) i.each c.in-Err.ensures.above c.in-Err.ensures.bound
 
 pub loop-o-preserved : goal.loop-o-preserved
@@ -22,9 +23,12 @@ loop-o-preserved c =
     record {
       count = omega (arith, c.push.ensures.len, i.count);
       bounds_count = omega (arith, c.push-in-Ok.ensures.len, i.bounds_count);
-      each = pairs_more c.args.block.now c.args.parts c.args.target c.args.table.now.bytes.0.items old new p c.in-Ok.bound
-          c.push.ensures.items c.push-in-Ok.ensures.items c.loop-o.o i.count i.bounds_count i.each c.in-Ok.ensures.within;
-      good = subst (λ (xs : List (ℕ × ℕ)). All IsPair xs) (sym c.push.ensures.items) (pair_good c.loop-o.pairs.items p i.good c.in-Ok.ensures.pair);
+      each = pairs_more c.args.block.now c.args.parts c.args.target c.args.table.now.bytes.0.items old new p
+          c.in-Ok.bound
+          c.push.ensures.items c.push-in-Ok.ensures.items c.loop-o.o i.count i.bounds_count i.each
+          c.in-Ok.ensures.within;
+      good = subst (λ (xs : List (ℕ × ℕ)). All IsPair xs) (sym c.push.ensures.items)
+          (pair_good c.loop-o.pairs.items p i.good c.in-Ok.ensures.pair);
     }
 
 pub returns-clause-leaves : goal.returns-clause-leaves

@@ -3,14 +3,20 @@ use Rattle.fcl_check.proofs.courses.CornerSteps.{rising, falling, beginning, goi
 use Rattle.fcl_check.proofs.inputs.Corners.with.Goals as goal
 
 pub returns-in-false-None : goal.returns-in-false-None
-returns-in-false-None c = λ seen held. rising seen c.args.point.now c.args.self held c.value-x.result c.value-x.ensures (search rules) (search rules)
+returns-in-false-None c =
+    λ seen held. rising seen c.args.point.now c.args.self held c.value-x.result c.value-x.ensures (search rules)
+    (search rules)
 
 pub returns-in-false-Some : goal.returns-in-false-Some
 returns-in-false-Some c =
-    λ seen held. rw c.or.ensures (falling seen c.args.point.now c.args.self held _ c.value-x.result c.value-x.ensures (search rules) c.in-false-Some.is-1)
+    λ seen held. rw c.or.ensures
+    (falling seen c.args.point.now c.args.self held _ c.value-x.result c.value-x.ensures
+    (search rules) c.in-false-Some.is-1)
 
 pub returns-in-true-None : goal.returns-in-true-None
-returns-in-true-None c = λ seen held. beginning seen c.args.point.now c.args.self held c.value-x.result c.value-x.ensures (search rules) (search rules)
+returns-in-true-None c =
+    λ seen held. beginning seen c.args.point.now c.args.self held c.value-x.result c.value-x.ensures (search rules)
+    (search rules)
 
 pub returns-in-true-Some : goal.returns-in-true-Some
 returns-in-true-Some c = λ seen held. going-on seen c.args.point.now c.args.self held

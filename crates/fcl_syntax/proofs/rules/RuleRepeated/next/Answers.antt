@@ -7,4 +7,5 @@ use Rattle.fcl_syntax.proofs.rules.RuleRepeated.next.Goals as goal
 
 pub returns-clause-shorter : goal.returns-clause-shorter
 returns-clause-shorter c =
-    takes_some rule_item_form rule_item_at (λ ts. refl) view_rule_item c.args.tokens.now c.rule_item.result (λ r. r.now) c.rule_item.ensures
+    takes_some rule_item_form rule_item_at (λ ts. refl) view_rule_item c.args.tokens.now c.rule_item.result
+    (λ r. r.now) c.rule_item.ensures

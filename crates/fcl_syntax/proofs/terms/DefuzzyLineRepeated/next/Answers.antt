@@ -7,4 +7,5 @@ use Rattle.fcl_syntax.proofs.terms.DefuzzyLineRepeated.next.Goals as goal
 
 pub returns-clause-shorter : goal.returns-clause-shorter
 returns-clause-shorter c =
-    takes_some defuzzy_line_form defuzzy_line_at (λ ts. refl) view_defuzzy_line c.args.tokens.now c.defuzzy_line.result (λ r. r.now) c.defuzzy_line.ensures
+    takes_some defuzzy_line_form defuzzy_line_at (λ ts. refl) view_defuzzy_line c.args.tokens.now c.defuzzy_line.result
+    (λ r. r.now) c.defuzzy_line.ensures

@@ -7,4 +7,5 @@ use Rattle.fcl_syntax.proofs.terms.FuzzyLineRepeated.next.Goals as goal
 
 pub returns-clause-shorter : goal.returns-clause-shorter
 returns-clause-shorter c =
-    takes_some fuzzy_line_form fuzzy_line_at (λ ts. refl) view_fuzzy_line c.args.tokens.now c.fuzzy_line.result (λ r. r.now) c.fuzzy_line.ensures
+    takes_some fuzzy_line_form fuzzy_line_at (λ ts. refl) view_fuzzy_line c.args.tokens.now c.fuzzy_line.result
+    (λ r. r.now) c.fuzzy_line.ensures

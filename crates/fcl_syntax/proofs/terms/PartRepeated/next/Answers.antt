@@ -6,4 +6,5 @@ use Rattle.fcl_syntax.proofs.Run.{takes_some}
 use Rattle.fcl_syntax.proofs.terms.PartRepeated.next.Goals as goal
 
 pub returns-clause-shorter : goal.returns-clause-shorter
-returns-clause-shorter c = takes_some part_form part_at (λ ts. refl) view_part c.args.tokens.now c.part.result (λ r. r.now) c.part.ensures
+returns-clause-shorter c =
+    takes_some part_form part_at (λ ts. refl) view_part c.args.tokens.now c.part.result (λ r. r.now) c.part.ensures

@@ -6,4 +6,5 @@ use Rattle.fcl_syntax.proofs.Run.{takes_some}
 use Rattle.fcl_syntax.proofs.terms.PointRepeated.next.Goals as goal
 
 pub returns-clause-shorter : goal.returns-clause-shorter
-returns-clause-shorter c = takes_some point_form point_at (λ ts. refl) view_point c.args.tokens.now c.point.result (λ r. r.now) c.point.ensures
+returns-clause-shorter c =
+    takes_some point_form point_at (λ ts. refl) view_point c.args.tokens.now c.point.result (λ r. r.now) c.point.ensures

@@ -7,4 +7,5 @@ use Rattle.fcl_syntax.proofs.variables.DeclarationRepeated.next.Goals as goal
 
 pub returns-clause-shorter : goal.returns-clause-shorter
 returns-clause-shorter c =
-    takes_some declaration_form declaration_at (λ ts. refl) view_declaration c.args.tokens.now c.declaration.result (λ r. r.now) c.declaration.ensures
+    takes_some declaration_form declaration_at (λ ts. refl) view_declaration c.args.tokens.now c.declaration.result
+    (λ r. r.now) c.declaration.ensures

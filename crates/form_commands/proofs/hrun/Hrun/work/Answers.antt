@@ -21,7 +21,8 @@ returns-in-Ok-lines c =
     begun_lines es bound ++ counted (λ k r. handled_row_lines k (row_seen r)) 1 rs in
     record {
       report = handled_report a.inputs.errors.items bound (map row_seen c.in-Ok.rows.items);
-      certified = handles c.answers_are_reported.ensures c.spelled_bytes_fit.ensures c.answers_under_plans.ensures c.args.self.flags byte
+      certified = handles c.answers_are_reported.ensures c.spelled_bytes_fit.ensures c.answers_under_plans.ensures
+          c.args.self.flags byte
           (handled_files (bytes_of c.args.contents.now)) a.compiled.block a.compiled.firmware a.handler.image
           a.handler.handler.instrs a.inputs.errors.items a.inputs.samples.items c.deref.result.now a.inputs.plan
           (map row_seen c.in-Ok.rows.items) c.in_ok-accepted.ensures.accepted c.deref.ensures.value

@@ -11,7 +11,8 @@ pub returns-in_err-compiled-clause-fault : goal.returns-in_err-compiled-clause-f
 returns-in_err-compiled-clause-fault c =
     let files = level_files (bytes_of c.args.contents.now) in
     let passed : c.from_residual.result ≡ Err c.in_err-compiled.field-0.0 = search rules in
-    rw passed (refused (two_refusals files.slow files.fast) (lrun_refusals files) (by_two files) c.in_err-compiled.field-0.0
+    rw passed (refused (two_refusals files.slow files.fast) (lrun_refusals files)
+    (by_two files) c.in_err-compiled.field-0.0
     (rw (c.content.ensures.value, c.content-2.ensures.value) at c.in_err-compiled.ensures.fault))
 
 pub returns-in_err-require_image-clause-fault : goal.returns-in_err-require_image-clause-fault
@@ -21,7 +22,8 @@ returns-in_err-require_image-clause-fault c =
     let passed : c.from_residual-in_err-require_image.result ≡ Err c.in_err-require_image.field-0.0 = search rules in
     rw passed (refused (image_refusals files.image both.two.image) (lrun_refusals files)
     (by_image files both.slow both.fast both.two
-    (rw (c.content.ensures.value, c.content-2.ensures.value) at c.in_ok-compiled.ensures.gives)) c.in_err-require_image.field-0.0
+    (rw (c.content.ensures.value, c.content-2.ensures.value) at c.in_ok-compiled.ensures.gives))
+    c.in_err-require_image.field-0.0
     (rw c.content-3.ensures.value at c.in_err-require_image.ensures.fault))
 
 pub returns-in_err-errors-clause-fault : goal.returns-in_err-errors-clause-fault

@@ -22,12 +22,14 @@ returns-in-Ok-lines c =
     record {
       report = level_report a.errors.slow.items a.errors.fast.items bound fast_bound rows;
       at_levels = levels_run c.answers_are_reported.ensures c.answers_keep_the_bound.ensures c.spelled_bytes_fit.ensures
-          c.posted_answers_are_near.ensures c.answers_under_plans.ensures c.levels_make_a_plan.ensures c.rows_are_seen.ensures
+          c.posted_answers_are_near.ensures c.answers_under_plans.ensures c.levels_make_a_plan.ensures
+          c.rows_are_seen.ensures
           c.alone_has_byte_bounds.ensures c.args.self.flags byte (level_files (bytes_of c.args.contents.now))
           a.compiled.slow a.compiled.fast two a.errors.slow.items a.errors.fast.items a.traces.slow.items
           a.traces.fast.items a.levels c.in_ok-accepted.ensures.accepted rows
           (rw (c.deref.ensures.value, c.deref-2.ensures.value) at c.in-Ok.ensures.rows)
           (rw (c.deref.ensures.value, c.deref-2.ensures.value) at c.in-Ok.ensures.answers);
-      deed_is = ap only_text (c.in-Ok-lines.ensures ∙ (λ i. lines_of (c.deref-3.ensures.value i) (c.deref-4.ensures.value i)
+      deed_is = ap only_text
+          (c.in-Ok-lines.ensures ∙ (λ i. lines_of (c.deref-3.ensures.value i) (c.deref-4.ensures.value i)
           (c.deref-5.ensures.value i)));
     }

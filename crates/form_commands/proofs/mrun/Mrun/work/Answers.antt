@@ -17,8 +17,10 @@ returns-in-Ok-lines c =
     let lines_of = λ (es : List ℕ). mrun_lines (posted_report es bound answers frames run.resumed) in
     record {
       report = posted_report a.errors.items bound answers frames run.resumed;
-      posted = posts_run c.answers_keep_the_bound.ensures c.spelled_bytes_fit.ensures c.posted_answers_are_near.ensures c.last_is_answered.ensures c.args.self.flags
-          (posted_files (bytes_of c.args.contents.now)) a.compiled.block a.compiled.firmware a.errors.items a.samples.items
+      posted = posts_run c.answers_keep_the_bound.ensures c.spelled_bytes_fit.ensures c.posted_answers_are_near.ensures
+          c.last_is_answered.ensures c.args.self.flags
+          (posted_files (bytes_of c.args.contents.now)) a.compiled.block a.compiled.firmware a.errors.items
+          a.samples.items
           a.posts c.in_ok-accepted.ensures.accepted answers frames run.resumed
           (rw c.deref.ensures.value at c.in-Ok.ensures.answers) (rw c.deref.ensures.value at c.in-Ok.ensures.frames)
           (rw c.deref.ensures.value at c.in-Ok.ensures.resumed)

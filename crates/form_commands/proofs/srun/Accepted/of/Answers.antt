@@ -24,7 +24,8 @@ returns-in_err-upsets-clause-fault c =
     let inputs = c.in_ok-inputs.inputs in
     let passed : c.from_residual-in_err-upsets.result ≡ Err c.in_err-upsets.field-0.0 = search rules in
     rw passed (refused (upset_refusals compiled.firmware.image.bytes files.upsets) (srun_refusals files)
-    (upsets_refused files compiled.block compiled.firmware (rw c.content.ensures.value at c.in_ok-compiled.ensures.gives)
+    (upsets_refused files compiled.block compiled.firmware
+    (rw c.content.ensures.value at c.in_ok-compiled.ensures.gives)
     (rw c.content-2.ensures.value at c.in_ok-require_image.ensures.image) inputs.errors.items inputs.samples.items
     inputs.plan c.in_ok-inputs.ensures.inputs) c.in_err-upsets.field-0.0
     (rw c.content-3.ensures.value at c.in_err-upsets.ensures.fault))

@@ -20,9 +20,11 @@ returns-in-Ok-lines c =
     begun_lines es bound ++ counted (λ k r. watched_row_lines k (row_seen r)) 1 rs in
     record {
       report = watched_report a.inputs.errors.items bound (map row_seen c.in-Ok.rows.items);
-      watched = watches c.faultless_answers_are_near.ensures c.spelled_bytes_fit.ensures c.args.self.flags (watched_files (bytes_of c.args.contents.now))
+      watched = watches c.faultless_answers_are_near.ensures c.spelled_bytes_fit.ensures c.args.self.flags
+          (watched_files (bytes_of c.args.contents.now))
           a.compiled.block a.compiled.firmware a.inputs.errors.items a.inputs.samples.items c.deref.result.now
-          a.inputs.plan a.upsets (map row_seen c.in-Ok.rows.items) c.in_ok-accepted.ensures.accepted c.deref.ensures.value
+          a.inputs.plan a.upsets (map row_seen c.in-Ok.rows.items) c.in_ok-accepted.ensures.accepted
+          c.deref.ensures.value
           c.in-Ok.ensures.rows c.in-Ok.ensures.answers;
       deed_is = ap only_text (c.in-Ok-lines.ensures ∙ ap₂ lines_of c.deref-2.ensures.value c.deref-3.ensures.value
           ∙ ap (λ (l : List ℕ). begun_lines a.inputs.errors.items bound ++ l) (sym each));

@@ -8,14 +8,16 @@ use Rattle.fz_num.proofs.frac.Frac.gap.Goals as goal
 pub overflow_cast-result : goal.overflow_cast-result
 overflow_cast-result c =
     let f = fraction_of c.args.f in
-    let small : gap 1000000000 c.args.g f ≤ 1000000000 = gap-small 1000000000 c.args.g f (omega (arith, ints)) (omega (arith, ints)) (omega arith) in
+    let small : gap 1000000000 c.args.g f ≤ 1000000000 =
+    gap-small 1000000000 c.args.g f (omega (arith, ints)) (omega (arith, ints)) (omega arith) in
     let e : c.parts_from.result ≡ gap 1000000000 c.args.g f = c.parts_from.ensures in
     search rules
 
 pub returns-clause-near : goal.returns-clause-near
 returns-clause-near c =
     let f = fraction_of c.args.f in
-    subst (λ n. IsNear 1000000000 c.args.g f n) (sym c.parts_from.ensures) (gap-near 1000000000 c.args.g f (omega (arith, ints)))
+    subst (λ n. IsNear 1000000000 c.args.g f n) (sym c.parts_from.ensures)
+    (gap-near 1000000000 c.args.g f (omega (arith, ints)))
 
 pub returns-clause-least : goal.returns-clause-least
 returns-clause-least c e near =

@@ -21,7 +21,8 @@ returns-clause-memory g c =
     let h = writes_harness i.form.firmware.now i.form.samples.now in
     c.into_mem.ensures.bytes
     ∙ ap (λ (s : State). s.mem) (c.into_rows-rows.ensures.state ∙ c.drive.ensures.state)
-    ∙ ap (λ (l : List Request). (outlook_at i.machine.flags h l i.progress i.machine.state).state.mem) c.as_slice.ensures
+    ∙ ap (λ (l : List Request). (outlook_at i.machine.flags h l i.progress i.machine.state).state.mem)
+    c.as_slice.ensures
     ∙ ap (λ (o : SessionSeen). o.outlook.state.mem) c.self.view_is
 
 pub into_rows-rows-requires-clause-few : goal.into_rows-rows-requires-clause-few

@@ -12,7 +12,10 @@ use Rattle.fz_run.proofs.session.Session.new.Goals as goal
 
 pub begun-requires : goal.begun-requires
 begun-requires g c =
-    record { order = subst (IsInOrder place_of) (sym c.as_slice.ensures) (plans_are_in_order c.args.plan.now c.requires.plan) }
+    record {
+      order = subst (IsInOrder place_of) (sym c.as_slice.ensures)
+          (plans_are_in_order c.args.plan.now c.requires.plan);
+    }
 
 pub returns-clause-outlook : goal.returns-clause-outlook
 returns-clause-outlook g c =
@@ -24,11 +27,13 @@ returns-clause-outlook g c =
     let r = c.in_ok-machine in
     let same : c.as_slice.result.now ≡ a.plan.now = c.as_slice.ensures in
     let rows : List Request → Rows (List ℕ) Request (Unit {0}) = λ l. firmware_rows f inputs l a.flags in
-    ap₂ (λ (k : ℕ) (l : List Request). from_here (outlook_at k h l r.progress r.machine.state)) r.ensures.flags (sym same)
+    ap₂ (λ (k : ℕ) (l : List Request). from_here (outlook_at k h l r.progress r.machine.state))
+    r.ensures.flags (sym same)
     ∙ r.ensures.first
     ∙ ap (λ (l : List Request). shown_run h.shows first (rows l)) same
     ∙ ap (λ (shown : List (RowSeen (List ℕ))). with_rows first (rows a.plan.now) shown)
-    (let are = c.rows_are_shown.ensures (with_writes a.flags f) f.step_bound (λ k. requests_of k a.plan.now) 1 inputs first in are.rows)
+    (let are = c.rows_are_shown.ensures (with_writes a.flags f) f.step_bound (λ k. requests_of k a.plan.now) 1 inputs
+    first in are.rows)
   where
     with_rows : State → Rows (List ℕ) Request (Unit {0}) → List (RowSeen (List ℕ)) → Ahead (RowSeen (List ℕ))
     with_rows first all rows = record { left = positions first all; rows = rows; state = all.state }

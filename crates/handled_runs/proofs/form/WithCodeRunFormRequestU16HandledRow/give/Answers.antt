@@ -7,8 +7,11 @@ use Rattle.handled_runs.proofs.form.WithCodeRunFormRequestU16HandledRow.give.Goa
 
 pub returns-clause-state : goal.returns-clause-state
 returns-clause-state g c x e =
-    let same : x ≡ c.as_slice.result.now = got input_bytes c.args.self.now.samples.now c.args.k c.index-self-k.result x c.requires e ∙ sym c.as_slice.ensures.value in
+    let same : x ≡ c.as_slice.result.now =
+    got input_bytes c.args.self.now.samples.now c.args.k c.index-self-k.result x c.requires e
+    ∙ sym c.as_slice.ensures.value in
     let count : length x ≡ length c.as_slice.result.now = ap (λ (v : List ℕ). length v) same in
     let few : length x ≤ 8 = omega (arith, count, c.as_slice.ensures.fits) in
     c.give.ensures.state
-    ∙ ap (λ (v : List ℕ). given c.args.self.now.firmware.now.layout v c.args.m.now.state) (sym same ∙ sym (take_all 8 x few))
+    ∙ ap (λ (v : List ℕ). given c.args.self.now.firmware.now.layout v c.args.m.now.state)
+    (sym same ∙ sym (take_all 8 x few))

@@ -19,9 +19,12 @@ returns g c = λ x is.
     let counted = counted_at (λ (steps : ℕ). steps) t a.m.now.state in
     let made : RowSeen (List ℕ) → ℕ → HandledSeen = λ row handler. record { row = row; handler = handler } in
     let bytes : c.as_slice-bytes.result.now ≡ x =
-    c.as_slice-bytes.ensures.value ∙ sym (got input_bytes a.self.now.samples.now a.k c.index-self-k.result x c.requires.sample is) in
+    c.as_slice-bytes.ensures.value
+    ∙ sym (got input_bytes a.self.now.samples.now a.k c.index-self-k.result x c.requires.sample is) in
     let row : rows.row_seen c.row_of-row.result ≡ row_by (answers_in f) x counted =
-    c.row_of-row.ensures ∙ ap₂ (λ (bs vs : List ℕ). record (row_by (answers_in f) x counted) { sample = bs; answers = vs }) bytes c.answers.ensures in
+    c.row_of-row.ensures
+    ∙ ap₂ (λ (bs vs : List ℕ). record (row_by (answers_in f) x counted) { sample = bs; answers = vs }) bytes
+    c.answers.ensures in
     let handler : c.steps_in-handler.result ≡ sum (map (λ (steps : ℕ). steps) told) =
     c.steps_in-handler.ensures ∙ ap (λ (l : List ℕ). sum l) (c.as_slice.ensures.value ∙ sym (map-id told)) in
     ap₂ made row handler

@@ -11,20 +11,30 @@ use Rattle.rule_layout.proofs.slots.Complements.+add.Goals as goal
 
 pub add-requires-in-loop-part : goal.add-requires-in-loop-part
 add-requires-in-loop-part t c =
-    let at = part_of c.deref-part-items.result.now c.loop-part.part-index c.part-item.result c.loop-part-test.true c.part-item.is in
-    let fits = subst (λ (w : List Cond). AllFitGrid (conditions (map condition_of w))) (sym c.deref-part-items.ensures.value) (AllFitGrid-parts c.args.cond.now c.in-And.parts c.in-And.is c.requires) in
+    let at = part_of c.deref-part-items.result.now c.loop-part.part-index c.part-item.result c.loop-part-test.true
+    c.part-item.is in
+    let fits = subst (λ (w : List Cond). AllFitGrid (conditions (map condition_of w)))
+    (sym c.deref-part-items.ensures.value)
+    (AllFitGrid-parts c.args.cond.now c.in-And.parts c.in-And.is c.requires) in
     (search (rules, the_lemmas), part_fits at fits)
 
 pub loop-part-preserved : goal.loop-part-preserved
 loop-part-preserved t c = λ i u h.
-    let at = part_of c.deref-part-items.result.now c.loop-part.part-index c.part-item.result c.loop-part-test.true c.part-item.is in
-    let parts = ap (λ (w : List Condition). some_has_complement i u c.args.odd (conditions w)) at.more ∙ some_has_complement_push i u c.args.odd (map condition_of (take c.loop-part.part-index c.deref-part-items.result.now)) (condition_of c.part-item.result) in
-    marks_more _ _ _ _ _ (c.loop-part.invariant i u h) (c.add-in-loop-part.ensures.marks i u h) ∙ ap (λ (b : Bool). is_marked c.args.self.now.table i u || b) (sym parts)
+    let at = part_of c.deref-part-items.result.now c.loop-part.part-index c.part-item.result c.loop-part-test.true
+    c.part-item.is in
+    let parts = ap (λ (w : List Condition). some_has_complement i u c.args.odd (conditions w)) at.more
+    ∙ some_has_complement_push i u c.args.odd
+    (map condition_of (take c.loop-part.part-index c.deref-part-items.result.now))
+    (condition_of c.part-item.result) in
+    marks_more _ _ _ _ _ (c.loop-part.invariant i u h) (c.add-in-loop-part.ensures.marks i u h)
+    ∙ ap (λ (b : Bool). is_marked c.args.self.now.table i u || b) (sym parts)
 
 pub returns-after-loop-part : goal.returns-after-loop-part
 returns-after-loop-part t c = record {
   marks = λ i u h.
-      let whole = take_all c.loop-part.part-index c.deref-part-items.result.now c.loop-part-test.false ∙ c.deref-part-items.ensures.value in
-      let parts = ap (λ (w : List Cond). some_has_complement i u c.args.odd (conditions (map condition_of w))) whole ∙ sym (has_complement-parts c.args.cond.now c.in-And.parts c.in-And.is i u c.args.odd) in
+      let whole = take_all c.loop-part.part-index c.deref-part-items.result.now c.loop-part-test.false
+      ∙ c.deref-part-items.ensures.value in
+      let parts = ap (λ (w : List Cond). some_has_complement i u c.args.odd (conditions (map condition_of w))) whole
+      ∙ sym (has_complement-parts c.args.cond.now c.in-And.parts c.in-And.is i u c.args.odd) in
       c.loop-part.invariant i u h ∙ ap (λ (b : Bool). is_marked c.args.self.now.table i u || b) parts;
 }

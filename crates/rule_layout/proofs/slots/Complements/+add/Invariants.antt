@@ -7,4 +7,7 @@ use Rattle.rule_layout.proofs.slots.Complements.+add.Given as goal
 
 abbrev pub invariant-loop-part : goal.invariant-loop-part
 invariant-loop-part l =
-    (i t : ℕ) → IsInGrid i t → is_marked l.self.table i t ≡ (is_marked l.initial.self.table i t || some_has_complement i t l.odd (conditions (map condition_of (take l.part-index l.part-items))))
+    (i t : ℕ) → IsInGrid i t
+    → is_marked l.self.table i t
+    ≡ (is_marked l.initial.self.table i t || some_has_complement i t l.odd
+    (conditions (map condition_of (take l.part-index l.part-items))))

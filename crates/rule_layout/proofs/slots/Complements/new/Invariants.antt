@@ -5,4 +5,5 @@ use Rattle.rule_layout.specs.Tables.{is_marked}
 use Rattle.rule_layout.proofs.slots.Complements.new.Given as goal
 
 abbrev pub invariant-loop-rule : goal.invariant-loop-rule
-invariant-loop-rule l = (i t : ℕ) → IsInGrid i t → is_marked l.complements.table i t ≡ is_complemented (take l.rule-index l.rules) i t
+invariant-loop-rule l =
+    (i t : ℕ) → IsInGrid i t → is_marked l.complements.table i t ≡ is_complemented (take l.rule-index l.rules) i t

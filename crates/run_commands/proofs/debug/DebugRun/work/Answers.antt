@@ -10,7 +10,8 @@ use Rattle.run_commands.proofs.debug.DebugRun.work.Goals as goal
 pub returns-in-Ok-lines : goal.returns-in-Ok-lines
 returns-in-Ok-lines c =
     let a = c.in_ok-accepted.accepted in
-    gives c.spelled_bytes_fit.ensures c.args.self (debug_files (bytes_of c.args.contents.now)) a.compiled.block a.compiled.firmware a.samples.items
+    gives c.spelled_bytes_fit.ensures c.args.self (debug_files (bytes_of c.args.contents.now)) a.compiled.block
+    a.compiled.firmware a.samples.items
     c.deref.result.now a.plan a.script c.as_slice.result.now c.in-Ok.shown.items c.deref-2.result.now
     (map row_seen c.in-Ok.rows.items) (map row_seen c.deref-3.result.now) _ c.in_ok-accepted.ensures.accepted
     c.deref.ensures.value c.as_slice.ensures c.in-Ok.ensures.shown c.in-Ok.ensures.rows c.in-Ok.ensures.answers

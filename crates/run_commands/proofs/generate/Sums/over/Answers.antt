@@ -19,7 +19,14 @@ loop-row-preserved c =
     record {
       frames = omega (arith, frames, so_far.frames, c.len.ensures, told);
       resumed = omega (arith, resumed, so_far.resumed, c.from-resumed.ensures, c.from.ensures);
-      answers = omega (arith, answers, so_far.answers, c.sum_of.ensures, ap sum c.as_slice.ensures.value, c.from-in-loop-row.ensures);
+      answers = omega (
+        arith,
+        answers,
+        so_far.answers,
+        c.sum_of.ensures,
+        ap sum c.as_slice.ensures.value,
+        c.from-in-loop-row.ensures,
+      );
       few_frames = omega (arith, so_far.few_frames, c.len.type_inv);
       few_resumed = omega (arith, so_far.few_resumed, c.from-resumed.type_inv, c.from.ensures);
       few_answers = omega (arith, so_far.few_answers, c.sum_of.type_inv, c.from-in-loop-row.ensures);

@@ -21,7 +21,8 @@ returns-in-Ok-lines c =
     record {
       report = report_of a.inputs.errors.items bound (map row_seen c.in-Ok.rows.items);
       certified = certifies c.answers_are_reported.ensures c.args.self (files_in (bytes_of c.args.contents.now))
-          a.compiled.block a.compiled.firmware a.inputs.errors.items a.inputs.samples.items c.deref.result.now a.inputs.plan
+          a.compiled.block a.compiled.firmware a.inputs.errors.items a.inputs.samples.items c.deref.result.now
+          a.inputs.plan
           (map row_seen c.in-Ok.rows.items) c.left_in.result c.in_ok-accepted.ensures.accepted c.deref.ensures.value
           c.in-Ok.ensures.rows c.in-Ok.ensures.answers (c.left_in.ensures ∙ ap left_of c.in-Ok.ensures.memory);
       deed_is = ap only_text (c.in-Ok-lines.ensures ∙ ap₂ lines_of c.deref-2.ensures.value c.deref-3.ensures.value);

@@ -14,14 +14,23 @@ returns-clause-goes g c outputs sp most inner due some =
     let old = c.args.self.now in
     let s : State = c.args.m.now.state in
     let frame : InnerFrame = record { boundary = old.steps; frame = c.interrupt-frame.result } in
-    let more : Counts = record { steps = old.steps; instrs = old.instrs; resumed = old.resumed + c.from.result; inside = false; frames = c.push.new.self } in
+    let more : Counts = record {
+      steps = old.steps;
+      instrs = old.instrs;
+      resumed = old.resumed + c.from.result;
+      inside = false;
+      frames =
+          c.push.new.self;
+    } in
     take_counted c.args.m.now.flags outputs sp most inner old more s due some (record {
       steps = refl;
       instrs = refl;
       resumed = ap (λ k. old.resumed + k) (c.from.ensures ∙ one_of old.inside);
       inside = refl;
       frames = ap inner_frames_seen c.push.ensures.items ∙ map-append inner_seen old.frames.items (frame ∷ [])
-          ∙ ap (λ (f : FrameSeen). inner_frames_seen old.frames.items ++ (old.steps, f) ∷ []) c.interrupt-frame.ensures.frame;
+          ∙ ap (λ (f : FrameSeen). inner_frames_seen old.frames.items ++ (old.steps, f) ∷ [])
+          c.interrupt-frame.ensures.frame;
       len = c.push.ensures.len;
     })
-    ∙ ap (λ (u : State). past_of (fast_form c.args.m.now.flags outputs sp) most inner more u) (sym c.interrupt-frame.ensures.state)
+    ∙ ap (λ (u : State). past_of (fast_form c.args.m.now.flags outputs sp) most inner more u)
+    (sym c.interrupt-frame.ensures.state)

@@ -5,7 +5,8 @@ use Rattle.workload.proofs.draws.Draws.request.Goals as goal
 
 pub returns-clause-state : goal.returns-clause-state
 returns-clause-state c = λ number n here.
-    state_after_three number n c.args.self.now.state c.below-moment.new.self.state c.below-at.new.self.state c.below-value.new.self.state here
+    state_after_three number n c.args.self.now.state c.below-moment.new.self.state c.below-at.new.self.state
+    c.below-value.new.self.state here
     c.below-moment.ensures.state c.below-at.ensures.state c.below-value.ensures.state
 
 pub returns-clause-value : goal.returns-clause-value
@@ -17,8 +18,10 @@ returns-clause-value c = λ number n here.
     c.below-moment.ensures.state c.below-at.ensures.state in
     let moment = draw_at number n 456 c.args.self.now.state c.below-moment.new.self.state c.below-moment.result here
     c.below-moment.ensures.state c.below-moment.ensures.value in
-    let at = draw_at number (n + 1) 2016 c.below-moment.new.self.state c.below-at.new.self.state c.below-at.result second
+    let at = draw_at number (n + 1) 2016 c.below-moment.new.self.state c.below-at.new.self.state
+    c.below-at.result second
     c.below-at.ensures.state c.below-at.ensures.value in
-    let value = draw_at number (n + 2) 256 c.below-at.new.self.state c.below-value.new.self.state c.below-value.result third
+    let value = draw_at number (n + 2) 256 c.below-at.new.self.state c.below-value.new.self.state
+    c.below-value.result third
     c.below-value.ensures.state c.below-value.ensures.value in
     λ i. (moment i, at i, value i)

@@ -7,4 +7,5 @@ returns-clause-state c = λ number n here.
 
 pub returns-clause-value : goal.returns-clause-value
 returns-clause-value c = λ number n here.
-    draw_at number n 5 c.args.self.now.state c.below.new.self.state c.below.result here c.below.ensures.state c.below.ensures.value
+    draw_at number n 5 c.args.self.now.state c.below.new.self.state c.below.result here c.below.ensures.state
+    c.below.ensures.value
