@@ -1,9 +1,9 @@
 -- Registers and writes of the sizes that they have.
-use Rattle.std.specs.Prelude.{◌≡◌, Ok, ℕ, ◌^◌, ◌<◌, List, [], ◌∷◌, slice_index}
+use Rattle.std.specs.Prelude.{◌≡◌, Ok, ℕ, ◌^◌, ◌<◌, ◌≤◌, List, [], ◌∷◌, length, All, slice_index}
 use Rattle.cpu12_isa.specs.declared.instr.Regs.{Regs}
 use Rattle.cpu12_isa.specs.declared.instr.Instr.{Instr}
 use Rattle.cpu12_isa.specs.Act.{write_all, Act, Give, Get}
-use Rattle.cpu12_isa.specs.Code.{FitsOperands, decode_at}
+use Rattle.cpu12_isa.specs.Code.{FitsOperands, decode_at, encode_of}
 use Rattle.cpu12_isa.specs.Meaning.{effect}
 
 pub record FitsRegs (r : Regs) : Type 0 where
@@ -42,3 +42,11 @@ BytesStay = (ws : List (ℕ × ℕ)) (mem : List ℕ) → FitsWrites ws → AreB
 -- What is decoded on a memory of bytes has operands that fit.
 abbrev pub DecodedFits : Type 0
 DecodedFits = (mem : List ℕ) (pc : ℕ) (i : Instr) → AreBytes mem → decode_at mem pc ≡ Ok i → FitsOperands i
+
+-- An instruction has six bytes at most.
+abbrev pub EncodedIsShort : Type 0
+EncodedIsShort = (i : Instr) → length (encode_of i) ≤ 6
+
+-- Where its operands fit they are bytes.
+abbrev pub EncodedAreBytes : Type 0
+EncodedAreBytes = (i : Instr) → FitsOperands i → All (λ v. v < 2 ^ 8) (encode_of i)

@@ -1,7 +1,7 @@
 // Laws of instructions and memories.
 ghost use Rattle.cpu12_isa.specs.Meaning.{Effect};
 ghost use Rattle.cpu12_isa.specs.Code.{DecodedHasOpcode};
-ghost use Rattle.cpu12_isa.specs.Fits.{StaysFit, BytesStay, DecodedFits};
+ghost use Rattle.cpu12_isa.specs.Fits.{StaysFit, BytesStay, DecodedFits, EncodedIsShort, EncodedAreBytes};
 ghost use Rattle.cpu12_isa.specs.Agreement.{ReadsAlone, WritesAgree, WritesStay};
 ghost use Rattle.cpu12_isa.specs.Interrupts.{FrameComesBack, HidesMoreAbove, ShowsFromSp, HidesPushed};
 ghost use Rattle.cpu12_isa.specs.Watching.{NothingIsWatched};
@@ -39,6 +39,12 @@ pub fn nothing_is_watched()
 /// What is decoded has operands that fit.
 pub fn decoded_fits()
     ensures { DecodedFits }
+{}
+
+/// An instruction has six bytes at most, and they are bytes where its operands fit.
+pub fn encoded_are_bytes()
+    ensures short { EncodedIsShort }
+    ensures bytes { EncodedAreBytes }
 {}
 
 /// What is decoded has its opcode there, and its page's byte before it.

@@ -6,4 +6,5 @@ pub mod OverCuts
 pub mod PartFits
 pub mod OneWay
 pub mod Inside
+pub mod ExecutionLemmas
 pub mod Algebra

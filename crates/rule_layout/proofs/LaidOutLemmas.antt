@@ -25,6 +25,7 @@ use Rattle.rule_layout.specs.Slots.{complement_slot, out_slot, is_complemented, 
 use Rattle.rule_layout.specs.Tables.{place_of}
 use Rattle.rule_layout.specs.Layouts.{rule_spread, conjunction_of, rule_conjunctions, rule_weights, conjunctions_of}
 use Rattle.rule_layout.specs.Layouts.{weights_of, is_below_one, form_by, form_of, flat_of, IsLaidOut, LayoutLaw}
+use Rattle.rule_layout.specs.Layouts.{FlatHasParts}
 use Rattle.rule_layout.proofs.SpreadLemmas.{some_conjunction}
 use Rattle.rule_layout.proofs.BlockLemmas.{rule_fits, few_terms, few_singletons}
 use Rattle.rule_layout.proofs.NumberLemmas.{slot_from_same}
@@ -258,3 +259,13 @@ slots_apart b v k s lt = number_in-get_or 0 300 k (slots_of b) s (slots_rise b v
 
 pub layout_law_lem : LayoutLaw
 layout_law_lem b v = laid_out_made b (flat_of b) v refl
+
+-- the parts of a layout are the block's
+pub flat_has_parts : FlatHasParts
+unfolding flat_of
+flat_has_parts flat b e = record {
+  slots = ap (λ (f : Flat). f.slots) e;
+  conjunctions = ap (λ (f : Flat). f.conjunctions) e;
+  weights = ap (λ (f : Flat). f.weights) e;
+  form = ap (λ (f : Flat). f.form) e;
+}

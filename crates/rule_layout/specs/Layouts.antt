@@ -114,3 +114,14 @@ IsFaultOf b Memory = Unit {0}
 -- a valid block's layout is one, also where it is over its limits
 abbrev pub LayoutLaw : Type 0
 LayoutLaw = (b : Block) → IsValid b → IsLaidOut (flat_of b)
+
+-- a layout has the parts of a block's
+pub record HasPartsOf (flat : Flat) (b : Block) : Type 0 where
+  pub slots : flat.slots ≡ slots_of b
+  pub conjunctions : flat.conjunctions ≡ conjunctions_of b
+  pub weights : flat.weights ≡ weights_of b
+  pub form : flat.form ≡ form_of b
+
+-- the layout of a block does
+abbrev pub FlatHasParts : Type 0
+FlatHasParts = (flat : Flat) (b : Block) → flat ≡ flat_of b → HasPartsOf flat b

@@ -1,6 +1,6 @@
 //! Laws of the layout, each the contract of a function that does nothing.
 ghost use Rattle.rule_layout.specs.Alike.{LayoutsAreOne, LimitsHaveNoFault};
-ghost use Rattle.rule_layout.specs.Layouts.{LayoutLaw};
+ghost use Rattle.rule_layout.specs.Layouts.{LayoutLaw, FlatHasParts};
 ghost use Rattle.rule_layout.specs.Masses.{MassLaw};
 ghost use Rattle.rule_layout.specs.Numbers.{TermNumberLaw, OutNumberLaw};
 ghost use Rattle.rule_layout.specs.Truths.{SpreadingLaw};
@@ -44,4 +44,9 @@ pub fn layouts_are_one()
 /// A block within its limits has no fault.
 pub fn limits_have_no_fault()
     ensures { LimitsHaveNoFault }
+{}
+
+/// A layout's parts are those of its block.
+pub fn flat_has_parts()
+    ensures { FlatHasParts }
 {}
