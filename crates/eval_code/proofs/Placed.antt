@@ -8,6 +8,7 @@ use Rattle.fuzzy_meaning.specs.Blocks.{IsValid}
 use Rattle.rule_layout.specs.Layouts.{IsWithinLimits, LayoutLaw}
 use Rattle.cpu12_isa.specs.declared.instr.Instr.{Instr}
 use Rattle.cpu12_isa.specs.Code.{encode_of}
+use Rattle.cpu12_isa.specs.Fits.{EncodedAreBytes}
 use Rattle.cpu12_asm.specs.declared.items.Item.{Item}
 use Rattle.cpu12_asm.specs.declared.items.Item.TheVariants.{Place, Byte, Op}
 use Rattle.cpu12_asm.specs.Bytes.{byte_at}
@@ -25,7 +26,7 @@ use Rattle.eval_code.proofs.steps.Memory.{same_bytes}
 use Rattle.eval_code.proofs.phases.Law.{length-code}
 use Rattle.eval_code.proofs.phases.RuleFacts.{BlockFacts, block_facts}
 use Rattle.eval_code.proofs.phases.RuleMemory.{Below, below_all}
-use Rattle.eval_code.proofs.phases.Used.{sizes_is}
+use Rattle.eval_code.proofs.phases.Operands.{sizes_is}
 use Rattle.eval_code.proofs.Sizes.{code_size, code_size-append}
 use Rattle.eval_code.proofs.placing.Standing.{Rises, given_append, image_given, none_below, none_behind}
 use Rattle.eval_code.proofs.placing.GivenBytes.{ItemsFit, block_fits_between, PairsFit, given_fit}
@@ -111,11 +112,11 @@ all_pairs : (given : List (ℕ × ℕ)) → PairsFit given → GiveBytes given
 all_pairs [] h = All-nil (λ (p : ℕ × ℕ). p.1 < 2 ^ 8)
 all_pairs (p ∷ given) h = All-cons (λ (p : ℕ × ℕ). p.1 < 2 ^ 8) p given h.0 (all_pairs given h.1)
 
-pub gives_bytes : LayoutLaw → NearestIsByte → BlockGivesBytes
-gives_bytes law near l b w before behind apart v front back =
+pub gives_bytes : EncodedAreBytes → LayoutLaw → NearestIsByte → BlockGivesBytes
+gives_bytes encoded law near l b w before behind apart v front back =
     let items = block_items l b w before behind in
     let fit : ItemsFit (items ++ []) =
-    block_fits_between near l b w before behind [] v (block_facts law b v) apart
+    block_fits_between encoded near l b w before behind [] v (block_facts law b v) apart
     (code_fits before (below_all 256 (code_bytes before) front))
     (code_fits behind (below_all 256 (code_bytes behind) back)) tt in
     all_pairs (given_by items) (given_fit 0 items (subst ItemsFit (append-nil items) fit))

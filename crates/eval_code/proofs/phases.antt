@@ -10,5 +10,5 @@ pub mod RuleFacts
 pub mod Evaluating
 pub mod Words
 pub mod Outputs
-pub mod Used
+pub mod Operands
 pub mod Law

@@ -2,4 +2,5 @@
 pub mod Standing
 pub mod GivenBytes
 pub mod MemoryBytes
+pub mod Located
 pub mod Founding

@@ -2,6 +2,5 @@
 pub mod Memory
 pub mod Flags
 pub mod Decoding
-pub mod Executions
 pub mod Stepping
 pub mod Instructions

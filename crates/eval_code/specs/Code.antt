@@ -16,7 +16,7 @@ use Rattle.cpu12_isa.specs.declared.instr.Instr.TheVariants.{LdaaImmediate, Ldaa
 use Rattle.cpu12_isa.specs.declared.instr.Instr.TheVariants.{LdyImmediate, StaaExtended, StabExtended, ClrExtended}
 use Rattle.cpu12_isa.specs.declared.instr.Instr.TheVariants.{Coma, CpxImmediate, Beq, Bra, Andcc, Orcc, TransferXD}
 use Rattle.cpu12_isa.specs.declared.instr.Instr.TheVariants.{TransferYD, Ediv, Fdiv, Mem, Rev, Revw, Wav}
-use Rattle.cpu12_isa.specs.Code.{encode_of}
+use Rattle.cpu12_isa.specs.Code.{encode_of, FitsOperands}
 use Rattle.eval_code.specs.declared.layout.Layout.{Layout}
 use Rattle.eval_code.specs.declared.width.Width.{Width}
 use Rattle.eval_code.specs.declared.width.Width.TheVariants.{Byte, Word}
@@ -25,6 +25,11 @@ use Rattle.eval_code.specs.Widths.{places}
 -- the bytes of instructions one after another
 abbrev pub code_bytes : List Instr → List ℕ
 code_bytes code = flat_map encode_of code
+
+-- instructions whose operands fit
+abbrev pub FitCode : List Instr → Type 0
+FitCode [] = Unit {0}
+FitCode (i ∷ is) = FitsOperands i × FitCode is
 
 -- the grades of each input's byte, of which the first stands at this address, under its terms' tables, one after
 -- another

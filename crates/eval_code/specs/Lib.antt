@@ -8,3 +8,4 @@ pub mod Firing
 pub mod Masks
 pub mod Evaluation
 pub mod Placed
+pub mod Standing

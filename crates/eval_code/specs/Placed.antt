@@ -1,5 +1,5 @@
 -- A block's items at the addresses of any layout: where they give bytes, and what stands there in an image of them.
-use Rattle.std.specs.Prelude.{◌≡◌, ℕ, ◌+◌, ◌^◌, ◌<◌, ◌≤◌, ◌⊎◌, List, ◌∷◌, ◌++◌, length, All, None, slice_index}
+use Rattle.std.specs.Prelude.{◌≡◌, ◌≢◌, ℕ, ◌+◌, ◌^◌, ◌<◌, ◌≤◌, ◌⊎◌, List, ◌∷◌, ◌++◌, length, All, None, slice_index}
 use Rattle.fuzzy_meaning.specs.declared.block.Block.{Block}
 use Rattle.fuzzy_meaning.specs.Blocks.{IsValid}
 use Rattle.rule_layout.specs.Layouts.{IsWithinLimits, weights_of}
@@ -11,8 +11,8 @@ use Rattle.cpu12_asm.specs.Items.{given_by, IsRisingFrom, IsRising}
 use Rattle.cpu12_emul.specs.Image.{image_memory}
 use Rattle.eval_code.specs.declared.layout.Layout.{Layout}
 use Rattle.eval_code.specs.declared.width.Width.{Width}
-use Rattle.eval_code.specs.Code.{code_bytes}
-use Rattle.eval_code.specs.Data.{table_bytes, singleton_bytes, rule_bytes}
+use Rattle.eval_code.specs.Code.{code_bytes, block_code}
+use Rattle.eval_code.specs.Data.{table_bytes, singleton_bytes, weight_bytes, rule_bytes}
 use Rattle.eval_code.specs.Items.{block_items, IsApart}
 use Rattle.eval_code.specs.Evaluation.{HasBytes, HasEval, eval_bytes}
 
@@ -59,6 +59,20 @@ BlockStaysInside =
     (l : Layout) (b : Block) (w : Width) (before behind : List Instr) (at : ℕ) → IsInOrder l before behind → IsValid b
     → IsWithinLimits b → (at < l.code) ⊎ (l.rules + 9984 ≤ at)
     → byte_at (given_by (block_items l b w before behind)) at ≡ None
+
+-- an address is one of so many from another on
+abbrev pub IsWithin : ℕ → ℕ → ℕ → Type 0
+IsWithin at from size = (from ≤ at) × (at < from + size)
+
+-- They give bytes at their parts alone, and items behind them that begin with a place give what they give alone.
+abbrev pub BlockGivesAtParts : Type 0
+BlockGivesAtParts =
+    (l : Layout) (b : Block) (w : Width) (before behind : List Instr) (more : List Item) (p at : ℕ)
+    → byte_at (given_by (block_items l b w before behind ++ (Place p ∷ more))) at ≢ None
+    → IsWithin at l.code (length (code_bytes (block_code l b w before behind)))
+    ⊎ IsWithin at l.tables (length (table_bytes b)) ⊎ IsWithin at l.singletons (length (singleton_bytes b))
+    ⊎ IsWithin at l.weights (length (weight_bytes b)) ⊎ IsWithin at l.rules (length (rule_bytes l.slots b))
+    ⊎ (byte_at (given_by (Place p ∷ more)) at ≢ None)
 
 -- Items that stand behind others, from a place of their own on, give what they give alone.
 abbrev pub GivesBehind : Type 0

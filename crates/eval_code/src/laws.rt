@@ -3,12 +3,15 @@ ghost use Rattle.eval_code.specs.Bounds.{BoundsAreFew};
 ghost use Rattle.eval_code.specs.Evaluation.{EvalAnswers};
 ghost use Rattle.eval_code.specs.Firing.{RulesGiveMasses};
 ghost use Rattle.eval_code.specs.Placed.{BlockGivesBytes, BlockHasParts, BlockIsShort, BlockRises, BlockStands};
-ghost use Rattle.eval_code.specs.Placed.{BlockStaysInside, GivesBehind};
+ghost use Rattle.eval_code.specs.Placed.{BlockGivesAtParts, BlockStaysInside, GivesBehind};
+ghost use Rattle.eval_code.specs.Standing.{BytesStand, CodeIsBytes, CodeStands, DecodesWhereItStands, ImageIsBytes};
+ghost use Rattle.eval_code.specs.Standing.{ZeroBelow};
 
 use byte_scaling::nearest_is_byte;
 use cpu12_asm::rising_items;
 use cpu12_emul::laws::holds_image;
-use cpu12_isa::laws::stays_fit;
+use cpu12_isa::decode::decodes_encoded;
+use cpu12_isa::laws::{encoded_are_bytes, stays_fit};
 use rule_layout::{layout_law, mass_law};
 
 /// The rules leave in the slots of the outputs' terms their masses.
@@ -17,6 +20,27 @@ pub fn rules_give_masses()
 {
     layout_law();
     mass_law();
+}
+
+/// An instruction is decoded where its bytes stand, and code whose operands fit is bytes.
+pub fn code_is_decoded()
+    ensures decoded { DecodesWhereItStands }
+    ensures bytes { CodeIsBytes }
+{
+    decodes_encoded();
+    encoded_are_bytes();
+}
+
+/// In the memory of an image of items that go up, bytes and code behind a place stand from there on,
+/// and below the first place it is 0; where what they give are bytes, it is one of bytes.
+pub fn placed_items_stand()
+    ensures bytes { BytesStand }
+    ensures code { CodeStands }
+    ensures below { ZeroBelow }
+    ensures fits { ImageIsBytes }
+{
+    rising_items();
+    holds_image();
 }
 
 /// EVAL answers a block over bytes, as bytes or in 16 bits, at the addresses of any layout whose
@@ -28,6 +52,7 @@ pub fn eval_answers()
     layout_law();
     nearest_is_byte();
     stays_fit();
+    code_is_decoded();
     rules_give_masses();
 }
 
@@ -39,20 +64,22 @@ pub fn bounds_are_few()
     layout_law();
 }
 
-/// A block's items at a layout, with code before and behind EVAL, go up, are few, and give bytes from
-/// the code to the rule list's end alone; each part of its data has a byte. In the memory of an image of
+/// A block's items at a layout, with code before and behind EVAL, go up, are few, and give bytes at its
+/// parts alone, from the code to the rule list's end; each part of its data has a byte. In the memory of an image of
 /// items that go up, of which these are some, EVAL stands with its data between that code.
 pub fn blocks_are_placed()
     ensures rises { BlockRises }
     ensures short { BlockIsShort }
     ensures parts { BlockHasParts }
     ensures inside { BlockStaysInside }
+    ensures at_parts { BlockGivesAtParts }
     ensures behind { GivesBehind }
     ensures bytes { BlockGivesBytes }
     ensures stands { BlockStands }
 {
     layout_law();
     nearest_is_byte();
+    encoded_are_bytes();
     rising_items();
     holds_image();
 }

@@ -26,7 +26,7 @@ use Rattle.eval_code.specs.Masks.{interrupt_masks}
 use Rattle.eval_code.specs.Evaluation.{HasBytes, HasEval, IsAtEval, IsEvaluated, EvalAnswers}
 use Rattle.eval_code.specs.Code.{eval_code}
 use Rattle.eval_code.proofs.steps.Memory.{has_put, at_put_out, length-put, bytes_front, bytes_back}
-use Rattle.eval_code.proofs.steps.Decoding.{sizes, UsedCode, code_bytes, decode_here}
+use Rattle.eval_code.proofs.steps.Decoding.{sizes, FitCode, code_bytes}
 use Rattle.eval_code.proofs.phases.Quotients.{output_parts, output_most}
 use Rattle.eval_code.proofs.phases.Evaluating.{masses, length-after, HasParts, Evals, evaluated, eval_most, eval_parts}
 use Rattle.eval_code.proofs.phases.Evaluating.{eval_run}
@@ -35,7 +35,8 @@ use Rattle.eval_code.proofs.phases.Outputs.{output_answers, all_bytes, length-al
 use Rattle.eval_code.proofs.phases.Outputs.{one_stands, listed, length-listed, listed_at}
 use Rattle.eval_code.proofs.phases.Outputs.{listed_stand}
 use Rattle.eval_code.proofs.phases.RuleFacts.{BlockFacts, block_facts, HasRules, has_rules}
-use Rattle.eval_code.proofs.phases.Used.{used_answer, answer_size}
+use Rattle.eval_code.proofs.phases.Operands.{fit_answer, answer_size}
+use Rattle.eval_code.specs.Standing.{DecodesWhereItStands}
 use Rattle.eval_code.proofs.phases.Outputs.{places_few}
 use Rattle.eval_code.proofs.steps.Stepping.{Ctx, Live, Stands, Reaches, between_of}
 
@@ -44,11 +45,12 @@ length-code [] = refl
 length-code (i ∷ is) = omega (arith, length-append (encode_of i) (code_bytes is), length-code is)
 
 -- code that stands in memory among EVAL's
-stands_of : (c : Ctx) (p : ℕ) (is : List Instr) → UsedCode is → HasBytes c.image p (code_bytes is) → c.layout.eval ≤ p
+stands_of : DecodesWhereItStands → (c : Ctx) (p : ℕ) (is : List Instr) → FitCode is → HasBytes c.image p (code_bytes is)
+    → c.layout.eval ≤ p
     → p + sizes is + 6 ≤ c.layout.eval + 2432
     → Stands c p is
-stands_of c p [] u h lo hi = tt
-stands_of c p (i ∷ is) u h lo hi =
+stands_of decodes c p [] u h lo hi = tt
+stands_of decodes c p (i ∷ is) u h lo hi =
     let low = c.apart.eval in
     let high = c.apart.eval_end in (
       record {
@@ -56,21 +58,21 @@ stands_of c p (i ∷ is) u h lo hi =
         high = omega arith;
         above = lo;
         below = omega arith;
-        fits = u.1;
-        decoded = decode_here c.image p i u.0 (omega arith) (bytes_front c.image p (encode_of i) (code_bytes is) h);
+        fits = u.0;
+        decoded = decodes c.image p i u.0 (omega arith) (bytes_front c.image p (encode_of i) (code_bytes is) h);
       },
-      stands_of c (p + length (encode_of i)) is u.2 (bytes_back c.image p (encode_of i) (code_bytes is) h) (omega arith)
+      stands_of decodes c (p + length (encode_of i)) is u.1 (bytes_back c.image p (encode_of i) (code_bytes is) h) (omega arith)
           (omega arith),
     )
 
-parts_of : NearestIsByte → (c : Ctx) (b : Block) (w : Width) → IsValid b → BlockFacts b → HasEval c.layout b w c.image
+parts_of : DecodesWhereItStands → NearestIsByte → (c : Ctx) (b : Block) (w : Width) → IsValid b → BlockFacts b → HasEval c.layout b w c.image
     → HasParts c c.layout b w
-parts_of near c b w v facts h = record {
+parts_of decodes near c b w v facts h = record {
   tables = h.tables;
   singletons = h.singletons;
   weights = h.weights;
   rules = h.rules;
-  code = stands_of c c.layout.eval (eval_code c.layout b w) (used_answer near c.layout b w c.apart v facts) h.code
+  code = stands_of decodes c c.layout.eval (eval_code c.layout b w) (fit_answer near c.layout b w c.apart v facts) h.code
       (omega arith) (omega (arith, answer_size c.layout b w v facts));
 }
 
@@ -140,7 +142,7 @@ gone masses_law c b w bytes before s h live r =
     (has_put m1 l.outputs (all_bytes w qs) (omega arith)) in
     record {
       ds = r.goes.ds;
-      execution = r.goes.way;
+      execution = r.goes.execution;
       between = between_of c r.t r.live;
       pc = r.pc_is ∙ ap (λ n. l.eval + n) (sym (length-code (eval_code l b w)));
       answers = λ o from to.
@@ -165,19 +167,19 @@ gone masses_law c b w bytes before s h live r =
     outside p n at k e (inl x) = inl x
     outside p n at k e (inr x) = inr (omega arith)
 
-begun : RulesGiveMasses → NearestIsByte
+begun : DecodesWhereItStands → RulesGiveMasses → NearestIsByte
     → (c : Ctx) (b : Block) (w : Width) (bytes : List ℕ) (before : ℕ → ℕ) (s : State) → IsValid b → BlockFacts b
     → IsWithinLimits b → AreInputBytes b bytes → HasEval c.layout b w c.image → Live c s
     → IsAtEval c.layout b w bytes before s
     → (t : State) × IsEvaluated c.layout b w c.flags bytes before s t
-begun masses_law near c b w bytes before s v facts lim i rom live k =
+begun decodes masses_law near c b w bytes before s v facts lim i rom live k =
     let n = length b.outputs in
     let e : Evals c c.layout b w bytes (listed before 1 n) =
     record {
       valid = v;
       facts = facts;
       limits = lim;
-      rom = parts_of near c b w v facts rom;
+      rom = parts_of decodes near c b w v facts rom;
       input = i;
       count =
           length-listed before 1 n;
@@ -195,6 +197,7 @@ pub record EvalLaws : Type 0 where
   pub layout_law : LayoutLaw
   pub nearest_is_byte : NearestIsByte
   pub stays_fit : StaysFit
+  pub decodes : DecodesWhereItStands
   pub rules_give_masses : RulesGiveMasses
 
 pub eval_answers : EvalLaws → EvalAnswers
@@ -218,5 +221,5 @@ eval_answers laws l b w flags bytes before s a v lim fits i k =
       masks = refl;
       same = λ at h. refl;
     } in
-    begun laws.rules_give_masses laws.nearest_is_byte c b w bytes before s v (block_facts laws.layout_law b v) lim i
+    begun laws.decodes laws.rules_give_masses laws.nearest_is_byte c b w bytes before s v (block_facts laws.layout_law b v) lim i
     k.eval live k

@@ -1,5 +1,5 @@
 -- What a block's items give are bytes.
-use Rattle.std.proofs.Common.{◌≡◌, ℕ, zero, suc, ◌+◌, ◌-◌, ◌*◌, ◌/◌, ◌<◌, ◌≤◌, Bool, false, List, [], ◌∷◌, ◌++◌, map}
+use Rattle.std.proofs.Common.{◌≡◌, ℕ, zero, suc, ◌+◌, ◌-◌, ◌*◌, ◌/◌, ◌^◌, ◌<◌, ◌≤◌, Bool, false, List, [], ◌∷◌, ◌++◌, map}
 use Rattle.std.proofs.Common.{flat_map, length}
 use Rattle.std.proofs.Common.{All, Option, Some, None, refl, sym, subst, arith, div-lt_iff_lt-mul}
 use Rattle.std.specs.Prelude.{◌==◌, if◌then◌else◌}
@@ -19,13 +19,8 @@ use Rattle.rule_layout.specs.Lists.{marked, at_address, list_bytes, list_words}
 use Rattle.rule_layout.specs.Slots.{slots_of}
 use Rattle.rule_layout.specs.Layouts.{conjunctions_of, weights_of, form_of, IsBelow}
 use Rattle.cpu12_isa.specs.declared.instr.Instr.{Instr}
-use Rattle.cpu12_isa.specs.declared.instr.Instr.TheVariants.{LdaaImmediate, LdaaExtended, LdabImmediate, LdxImmediate}
-use Rattle.cpu12_isa.specs.declared.instr.Instr.TheVariants.{LdyImmediate, LdsImmediate, StaaExtended}
-use Rattle.cpu12_isa.specs.declared.instr.Instr.TheVariants.{StabExtended, ClrExtended, Coma, CpxImmediate, Beq, Bra}
-use Rattle.cpu12_isa.specs.declared.instr.Instr.TheVariants.{JsrExtended, Rts, Andcc, Orcc, TransferXD}
-use Rattle.cpu12_isa.specs.declared.instr.Instr.TheVariants.{TransferYD, Ediv, Fdiv, Rti, MovbExtended, Mem, Rev, Revw}
-use Rattle.cpu12_isa.specs.declared.instr.Instr.TheVariants.{Wav, Bne, AddbImmediate, AddbPostIncrementX}
-use Rattle.cpu12_isa.specs.Code.{encode_of, FitsOperands}
+use Rattle.cpu12_isa.specs.Code.{encode_of}
+use Rattle.cpu12_isa.specs.Fits.{EncodedAreBytes}
 use Rattle.cpu12_asm.specs.declared.items.Item.{Item}
 use Rattle.cpu12_asm.specs.declared.items.Item.TheVariants.{Byte, Op}
 use Rattle.cpu12_asm.specs.Bytes.{placed}
@@ -39,8 +34,10 @@ use Rattle.eval_code.specs.declared.layout.Layout.{Layout}
 use Rattle.eval_code.proofs.Joins.{block_then, block_items-then}
 use Rattle.eval_code.proofs.phases.RuleMemory.{Below, below_all, below_append}
 use Rattle.eval_code.proofs.phases.RuleFacts.{BlockFacts, weights_below, rev_is_plain}
-use Rattle.eval_code.proofs.steps.Decoding.{IsUsed, UsedCode}
-use Rattle.eval_code.proofs.phases.Used.{used_answer}
+use Rattle.eval_code.proofs.steps.Decoding.{FitCode}
+use Rattle.eval_code.specs.Standing.{CodeIsBytes}
+use Rattle.std.proofs.lemmas.List.Elements.{All-nil, All-append}
+use Rattle.eval_code.proofs.phases.Operands.{fit_answer}
 use Rattle.rule_layout.specs.declared.flat.Form.TheVariants as form
 
 -- items that give bytes
@@ -56,48 +53,15 @@ fit_bytes : (bs : List ℕ) → Below 256 bs → ItemsFit (map Byte bs)
 fit_bytes [] h = tt
 fit_bytes (b ∷ bs) h = ((h.0, tt), fit_bytes bs h.1)
 
-encoded_fits : (i : Instr) → IsUsed i → FitsOperands i → Below 256 (encode_of i)
-encoded_fits (LdaaImmediate v) u h = (omega arith, (h, tt))
-encoded_fits (LdaaExtended v) u h = (omega arith, (omega arith, (omega arith, tt)))
-encoded_fits (LdabImmediate v) u h = (omega arith, (h, tt))
-encoded_fits (LdxImmediate v) u h = (omega arith, (omega arith, (omega arith, tt)))
-encoded_fits (LdyImmediate v) u h = (omega arith, (omega arith, (omega arith, tt)))
-encoded_fits (LdsImmediate v) u h = (omega arith, (omega arith, (omega arith, tt)))
-encoded_fits (StaaExtended v) u h = (omega arith, (omega arith, (omega arith, tt)))
-encoded_fits (StabExtended v) u h = (omega arith, (omega arith, (omega arith, tt)))
-encoded_fits (ClrExtended v) u h = (omega arith, (omega arith, (omega arith, tt)))
-encoded_fits Coma u h = (omega arith, tt)
-encoded_fits (CpxImmediate v) u h = (omega arith, (omega arith, (omega arith, tt)))
-encoded_fits (Beq v) u h = (omega arith, (h, tt))
-encoded_fits (Bra v) u h = (omega arith, (h, tt))
-encoded_fits (JsrExtended v) u h = (omega arith, (omega arith, (omega arith, tt)))
-encoded_fits Rts u h = (omega arith, tt)
-encoded_fits (Andcc v) u h = (omega arith, (h, tt))
-encoded_fits (Orcc v) u h = (omega arith, (h, tt))
-encoded_fits TransferXD u h = (omega arith, (omega arith, tt))
-encoded_fits TransferYD u h = (omega arith, (omega arith, tt))
-encoded_fits Ediv u h = (omega arith, tt)
-encoded_fits Fdiv u h = (omega arith, (omega arith, tt))
-encoded_fits Rti u h = (omega arith, tt)
-encoded_fits (MovbExtended v w) u h = let a = h.0 in let b = h.1 in
-    (omega arith, (omega arith, (omega arith, (omega arith, (omega arith, (omega arith, tt))))))
-encoded_fits Mem u h = (omega arith, tt)
-encoded_fits Rev u h = (omega arith, (omega arith, tt))
-encoded_fits Revw u h = (omega arith, (omega arith, tt))
-encoded_fits Wav u h = (omega arith, (omega arith, tt))
-encoded_fits (Bne v) u h = (omega arith, (h, tt))
-encoded_fits (AddbImmediate v) u h = (omega arith, (h, tt))
-encoded_fits AddbPostIncrementX u h = (omega arith, (omega arith, tt))
-encoded_fits i u h = absurd u
+-- code whose operands fit
+pub fit_code : EncodedAreBytes → (is : List Instr) → FitCode is → ItemsFit (map Op is)
+fit_code bytes [] h = tt
+fit_code bytes (i ∷ is) h = (below_all 256 (encode_of i) (bytes i h.0), fit_code bytes is h.1)
 
--- the bytes of code that is used
-pub code_below : (is : List Instr) → UsedCode is → Below 256 (code_bytes is)
-code_below [] h = tt
-code_below (i ∷ is) h = below_append 256 (encode_of i) (code_bytes is) (encoded_fits i h.0 h.1) (code_below is h.2)
-
-fit_code : (is : List Instr) → UsedCode is → ItemsFit (map Op is)
-fit_code [] h = tt
-fit_code (i ∷ is) h = (encoded_fits i h.0 h.1, fit_code is h.2)
+pub code_is_bytes : EncodedAreBytes → CodeIsBytes
+code_is_bytes bytes [] h = All-nil (λ v. v < 2 ^ 8)
+code_is_bytes bytes (i ∷ is) h =
+    All-append (λ v. v < 2 ^ 8) (encode_of i) (code_bytes is) (bytes i h.0) (code_is_bytes bytes is h.1)
 
 -- tables
 quotient_small : (w : ℕ) → (510 + suc w) / (2 * suc w) < 256
@@ -213,16 +177,16 @@ joined : (xs ys : List Instr) → ItemsFit (map Op xs) → ItemsFit (map Op ys) 
 joined xs ys a b = subst ItemsFit (sym (map-append (λ i. Op i) xs ys)) (fit_append (map Op xs) (map Op ys) a b)
 
 -- a block's items give bytes, with code before and behind that gives bytes
-pub block_fits_between : NearestIsByte
+pub block_fits_between : EncodedAreBytes → NearestIsByte
     → (l : Layout) (b : Block) (w : Width) (before behind : List Instr) (rest : List Item) → IsValid b → BlockFacts b
     → IsApart l
     → ItemsFit (map Op before) → ItemsFit (map Op behind) → ItemsFit rest
     → ItemsFit (block_items l b w before behind ++ rest)
-block_fits_between near l b w before behind rest v facts a front back others =
+block_fits_between encoded near l b w before behind rest v facts a front back others =
     let few = facts.few_slots in
     let top = a.slots in
     let small : form_of b ≡ form.Rev → length (slots_of b) ≤ 254 = λ e. (rev_is_plain b facts e).0 in
-    let eval : ItemsFit (map Op (eval_code l b w)) = fit_code (eval_code l b w) (used_answer near l b w a v facts) in
+    let eval : ItemsFit (map Op (eval_code l b w)) = fit_code encoded (eval_code l b w) (fit_answer near l b w a v facts) in
     let code : ItemsFit (map Op (block_code l b w before behind)) =
     joined before (eval_code l b w ++ behind) front (joined (eval_code l b w) behind eval back) in
     let rules : Below 256 (rule_bytes l.slots b) =

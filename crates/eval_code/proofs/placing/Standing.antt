@@ -13,6 +13,7 @@ use Rattle.cpu12_asm.specs.Items.{item_bytes, place_after, place_behind, given_f
 use Rattle.cpu12_asm.specs.Rising.{RisesBehindFirst, EndsInMemory, RisesBehindPart}
 use Rattle.cpu12_asm.proofs.Algebra.{or_else, byte_at-append, byte_at-placed}
 use Rattle.cpu12_emul.specs.Image.{byte_or_zero, image_memory, HoldsImage}
+use Rattle.eval_code.specs.Standing.{BytesStand, CodeStands, ZeroBelow}
 use Rattle.eval_code.proofs.steps.Memory.{HasBytes, bytes_by}
 use Rattle.eval_code.proofs.steps.Decoding.{code_bytes}
 
@@ -174,3 +175,17 @@ pub code_stands : Rises → (mem : List ℕ) (items front rest : List Item) (p :
 code_stands rises mem items front rest p is h rise e =
     part_stands rises mem items front (map Op is) rest p (code_bytes is) h rise e (given_code p is rest)
     (behind_code p is)
+
+-- the same of the memory of an image
+pub bytes_in_image : Rises → HoldsImage → BytesStand
+bytes_in_image rises holds image items front rest p bs h rise e =
+    bytes_stand rises (image_memory image) items front rest p bs (image_given holds image (given_by items) h) rise e
+
+pub code_in_image : Rises → HoldsImage → CodeStands
+code_in_image rises holds image items front rest p is h rise e =
+    code_stands rises (image_memory image) items front rest p is (image_given holds image (given_by items) h) rise e
+
+pub zero_below : Rises → HoldsImage → ZeroBelow
+zero_below rises holds image items p at h rise low small =
+    let given = image_given holds image (given_by (Place p ∷ items)) h in
+    given.bytes at small ∙ ap byte_or_zero (none_below rises p at items rise.1 low)

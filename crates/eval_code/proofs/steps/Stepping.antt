@@ -18,7 +18,7 @@ use Rattle.eval_code.specs.Masks.{interrupt_masks}
 use Rattle.eval_code.specs.Evaluation.{Writes, Reads, code_region, IsEvalStep}
 use Rattle.eval_code.proofs.steps.Memory.{SameHigh, WriteBelow, high_writes, bytes_writes}
 use Rattle.eval_code.proofs.steps.Decoding.{sizes, decode_same}
-use Rattle.eval_code.proofs.steps.Executions.{Bounded, bounded_none, bounded_one, bounded_on, bounded_more}
+use Rattle.cpu12_parts.proofs.Algebra.{Bounded, bounded_none, bounded_one, bounded_on, bounded_more}
 
 -- what a run is under: the layout, memory where EVAL begins and the open flags, and SP, I and X as they stay
 pub record Ctx : Type 0 where

@@ -1,5 +1,6 @@
 use Rattle.eval_code.proofs.Placed.{rises_between, is_short, stays_inside, gives_behind, gives_bytes, stands_between}
 use Rattle.eval_code.proofs.Parts.{has_parts}
+use Rattle.eval_code.proofs.placing.Located.{gives_at_parts}
 use Rattle.eval_code.proofs.placing.Standing.{Rises}
 use Rattle.eval_code.proofs.laws.blocks_are_placed.Goals as goal
 
@@ -16,7 +17,8 @@ returns c =
       short = is_short law;
       parts = has_parts law;
       inside = stays_inside law rises;
+      at_parts = gives_at_parts;
       behind = gives_behind;
-      bytes = gives_bytes law c.nearest_is_byte.ensures;
+      bytes = gives_bytes c.encoded_are_bytes.ensures.bytes law c.nearest_is_byte.ensures;
       stands = stands_between law rises c.holds_image.ensures;
     }

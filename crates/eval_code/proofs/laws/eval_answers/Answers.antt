@@ -6,5 +6,6 @@ returns c = eval_answers (record {
   layout_law = c.layout_law.ensures;
   nearest_is_byte = c.nearest_is_byte.ensures;
   stays_fit = c.stays_fit.ensures;
+  decodes = c.code_is_decoded.ensures.decoded;
   rules_give_masses = c.rules_give_masses.ensures;
 })

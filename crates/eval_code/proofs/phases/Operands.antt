@@ -22,14 +22,14 @@ use Rattle.cpu12_isa.specs.declared.instr.Instr.TheVariants.{Mem}
 use Rattle.cpu12_isa.specs.Code.{encode_of}
 use Rattle.eval_code.specs.declared.layout.Layout.{Layout}
 use Rattle.eval_code.specs.Code.{fuzzify_code, slots_code, rules_code, input_slots, quotient_code, output_code}
-use Rattle.eval_code.specs.Code.{outputs_code, eval_code}
+use Rattle.eval_code.specs.Code.{outputs_code, eval_code, FitCode}
 use Rattle.eval_code.specs.declared.width.Width.{Width}
 use Rattle.eval_code.specs.declared.width.Width.TheVariants.{Byte, Word}
 use Rattle.eval_code.specs.Widths.{places}
 use Rattle.eval_code.specs.Items.{IsApart}
 use Rattle.eval_code.proofs.Joins.{sum_by-term_count}
 use Rattle.eval_code.proofs.Sizes.{code_size, code_size-eval}
-use Rattle.eval_code.proofs.steps.Decoding.{sizes, UsedCode, used_append}
+use Rattle.eval_code.proofs.steps.Decoding.{sizes, fit_append}
 use Rattle.eval_code.proofs.phases.Fuzzify.{grades, length-grades}
 use Rattle.eval_code.proofs.phases.Filling.{AllCanFill}
 use Rattle.eval_code.proofs.phases.SlotValues.{further_slots, slots_are, further_fill, length-slots, length-input_terms}
@@ -38,77 +38,66 @@ use Rattle.rule_layout.specs.declared.flat.Form.TheVariants as form
 use Rattle.eval_code.proofs.phases.Outputs.{places_few}
 
 -- the operands of the code fit
-used_mems : (n : ℕ) → UsedCode (replicate n Mem)
-used_mems zero = tt
-used_mems (suc n) = (tt, tt, used_mems n)
+fit_mems : (n : ℕ) → FitCode (replicate n Mem)
+fit_mems zero = tt
+fit_mems (suc n) = (tt, fit_mems n)
 
-used_fuzzify : (at : ℕ) (inputs : List Input) → at + length inputs < 2 ^ 16 → UsedCode (fuzzify_code at inputs)
-used_fuzzify at [] h = tt
-used_fuzzify at (x ∷ xs) h = (
-  tt,
+fit_fuzzify : (at : ℕ) (inputs : List Input) → at + length inputs < 2 ^ 16 → FitCode (fuzzify_code at inputs)
+fit_fuzzify at [] h = tt
+fit_fuzzify at (x ∷ xs) h = (
   omega arith,
-  used_append (replicate (length x.terms) Mem) (fuzzify_code (at + 1) xs)
-      (used_mems (length x.terms)) (used_fuzzify (at + 1) xs (omega arith)),
+  fit_append (replicate (length x.terms) Mem) (fuzzify_code (at + 1) xs)
+      (fit_mems (length x.terms)) (fit_fuzzify (at + 1) xs (omega arith)),
 )
 
-used_slots : (b : Block) (bytes : List ℕ) (inputs : List Input) (gs : List ℕ) (base at : ℕ) (ss : List Slot)
+fit_slots : (b : Block) (bytes : List ℕ) (inputs : List Input) (gs : List ℕ) (base at : ℕ) (ss : List Slot)
     → AllCanFill b bytes inputs gs ss
-    → base + length gs < 2 ^ 16 → at + length ss < 2 ^ 16 → UsedCode (slots_code base inputs at ss)
-used_slots b bytes inputs gs base at [] h lo hi = tt
-used_slots b bytes inputs gs base at (Term i t ∷ ss) h lo hi = absurd h.0
-used_slots b bytes inputs gs base at (Out o t ∷ ss) h lo hi =
-    (tt, omega arith, used_slots b bytes inputs gs base (at + 1) ss h.1 lo (omega arith))
-used_slots b bytes inputs gs base at (Complement i t ∷ ss) h lo hi = let k = h.0.0 in
-    (tt, omega arith, (tt, tt, (tt, omega arith, used_slots b bytes inputs gs base (at + 1) ss h.1 lo (omega arith))))
+    → base + length gs < 2 ^ 16 → at + length ss < 2 ^ 16 → FitCode (slots_code base inputs at ss)
+fit_slots b bytes inputs gs base at [] h lo hi = tt
+fit_slots b bytes inputs gs base at (Term i t ∷ ss) h lo hi = absurd h.0
+fit_slots b bytes inputs gs base at (Out o t ∷ ss) h lo hi =
+    (omega arith, fit_slots b bytes inputs gs base (at + 1) ss h.1 lo (omega arith))
+fit_slots b bytes inputs gs base at (Complement i t ∷ ss) h lo hi = let k = h.0.0 in
+    (omega arith, (tt, (omega arith, fit_slots b bytes inputs gs base (at + 1) ss h.1 lo (omega arith))))
 
-used_rules : (l : Layout) (f : Form) → IsApart l → UsedCode (rules_code l f)
-used_rules l form.Rev a = let s = a.slots in let r = a.rules_end in
-    (tt, omega arith, (tt, omega arith, (tt, omega arith, (tt, omega arith, (tt, tt, tt)))))
-used_rules l form.Revw a = let w = a.weights_end in let r = a.rules_end in
-    (tt, omega arith, (tt, omega arith, (tt, omega arith, (tt, omega arith, (tt, omega arith, (tt, tt, tt))))))
+fit_rules : (l : Layout) (f : Form) → IsApart l → FitCode (rules_code l f)
+fit_rules l form.Rev a = let s = a.slots in let r = a.rules_end in
+    (omega arith, (omega arith, (omega arith, (omega arith, (tt, tt)))))
+fit_rules l form.Revw a = let w = a.weights_end in let r = a.rules_end in
+    (omega arith, (omega arith, (omega arith, (omega arith, (omega arith, (tt, tt))))))
 
-used_quotient : NearestIsByte → (w : Width) (at : ℕ) (o : Output) (d : Option Dec) → at + places w ≤ 2 ^ 16
+fit_quotient : NearestIsByte → (w : Width) (at : ℕ) (o : Output) (d : Option Dec) → at + places w ≤ 2 ^ 16
     → IsValidOutput o → IfSome d (IsWithin o.lo o.hi)
-    → UsedCode (quotient_code w at (option_map (nearest_byte o) d))
-used_quotient near Byte at o None h v k =
-    (tt, omega arith, (tt, omega arith, (tt, tt, (tt, tt, (tt, omega arith, tt)))))
-used_quotient near Byte at o (Some d) h v k = let q = near o d v.range k in (
-  tt,
+    → FitCode (quotient_code w at (option_map (nearest_byte o) d))
+fit_quotient near Byte at o None h v k =
+    (omega arith, (omega arith, (tt, (tt, (omega arith, tt)))))
+fit_quotient near Byte at o (Some d) h v k = let q = near o d v.range k in (
   omega arith,
   (
-    tt,
     omega arith,
-    (tt, tt, (tt, tt, (tt, omega arith, (tt, omega arith, (tt, omega arith, tt))))),
+    (tt, (tt, (omega arith, (omega arith, (omega arith, tt))))),
   ),
 )
-used_quotient near Word at o None h v k = (
-  tt,
+fit_quotient near Word at o None h v k = (
   omega arith,
   (
-    tt,
     omega arith,
-    (tt, tt, (tt, tt, (tt, tt, (tt, omega arith, (tt, tt, (tt, omega arith, tt)))))),
+    (tt, (tt, (tt, (omega arith, (tt, (omega arith, tt)))))),
   ),
 )
-used_quotient near Word at o (Some d) h v k = let q = near o d v.range k in (
-  tt,
+fit_quotient near Word at o (Some d) h v k = let q = near o d v.range k in (
   omega arith,
   (
-    tt,
     omega arith,
     (
       tt,
-      tt,
       (
-        tt,
         tt,
         (
           tt,
-          tt,
           (
-            tt,
             omega arith,
-            (tt, tt, (tt, omega arith, (tt, omega arith, (tt, omega arith, (tt, omega arith, (tt, omega arith, tt)))))),
+            (tt, (omega arith, (omega arith, (omega arith, (omega arith, (omega arith, tt)))))),
           ),
         ),
       ),
@@ -116,32 +105,30 @@ used_quotient near Word at o (Some d) h v k = let q = near o d v.range k in (
   ),
 )
 
-used_outputs : NearestIsByte → (w : Width) (sx sy at : ℕ) (os : List Output) → All IsValidOutput os
+fit_outputs : NearestIsByte → (w : Width) (sx sy at : ℕ) (os : List Output) → All IsValidOutput os
     → sx + sum_by singleton_count os < 2 ^ 16
     → sy + sum_by singleton_count os < 2 ^ 16 → at + places w * length os ≤ 2 ^ 16
-    → UsedCode (outputs_code w sx sy at os)
-used_outputs near w sx sy at [] v hx hy h = tt
-used_outputs near w sx sy at (o ∷ os) v hx hy h =
+    → FitCode (outputs_code w sx sy at os)
+fit_outputs near w sx sy at [] v hx hy h = tt
+fit_outputs near w sx sy at (o ∷ os) v hx hy h =
     let e = sum_by-cons singleton_count o os in
     let vo = v 0 o (omega arith) in
     let few = vo.few_terms in
     let more : places w * length (o ∷ os) ≡ places w + places w * length os = omega arith in
-    used_append (output_code w sx sy at o)
+    fit_append (output_code w sx sy at o)
     (outputs_code w (sx + length o.singletons) (sy + length o.singletons) (at + places w) os) (
-      tt,
       omega arith,
       (
-        tt,
         omega arith,
-        (tt, omega arith, (tt, tt, used_quotient near w at o o.default (omega arith) vo vo.default_in)),
+        (omega arith, (tt, fit_quotient near w at o o.default (omega arith) vo vo.default_in)),
       ),
     )
-    (used_outputs near w (sx + length o.singletons) (sy + length o.singletons) (at + places w) os
+    (fit_outputs near w (sx + length o.singletons) (sy + length o.singletons) (at + places w) os
     (λ k d lt. v (suc k) d (omega arith)) (omega arith) (omega arith) (omega arith))
 
-pub used_answer : NearestIsByte → (l : Layout) (b : Block) (w : Width) → IsApart l → IsValid b → BlockFacts b
-    → UsedCode (eval_code l b w)
-used_answer near l b w a v facts =
+pub fit_answer : NearestIsByte → (l : Layout) (b : Block) (w : Width) → IsApart l → IsValid b → BlockFacts b
+    → FitCode (eval_code l b w)
+fit_answer near l b w a v facts =
     let zs = replicate (length b.inputs) 0 in
     let lz : length zs ≡ length b.inputs = length-replicate {A = ℕ} (length b.inputs) 0 in
     let gs = grades zs b.inputs in
@@ -161,22 +148,20 @@ used_answer near l b w a v facts =
     let o = a.outputs in
     let s = a.slots in
     let singles = outputs_few b v in
-    let fill : UsedCode (slots_code l.slots b.inputs l.slots (slots_of b)) =
-    subst UsedCode (sym (slots_code_is l b))
-    (used_slots b zs b.inputs gs l.slots (l.slots + length (input_terms b)) (further_slots b) (further_fill b zs lz)
+    let fill : FitCode (slots_code l.slots b.inputs l.slots (slots_of b)) =
+    subst FitCode (sym (slots_code_is l b))
+    (fit_slots b zs b.inputs gs l.slots (l.slots + length (input_terms b)) (further_slots b) (further_fill b zs lz)
     (omega arith) (omega arith)) in
-    let outs : UsedCode (outputs_code w l.singletons (l.slots + input_slots (slots_of b) b.outputs) l.outputs
-    b.outputs) = used_outputs near w l.singletons (l.slots + input_slots (slots_of b) b.outputs) l.outputs b.outputs
+    let outs : FitCode (outputs_code w l.singletons (l.slots + input_slots (slots_of b) b.outputs) l.outputs
+    b.outputs) = fit_outputs near w l.singletons (l.slots + input_slots (slots_of b) b.outputs) l.outputs b.outputs
     v.outputs (omega (arith, a.singletons_end)) (omega arith)
     (omega (arith, places_few w (length b.outputs) v.few_outputs)) in (
-      tt,
       omega (arith, a.tables_end),
       (
-        tt,
         omega arith,
-        used_append (fuzzify_code l.inputs b.inputs) _ (used_fuzzify l.inputs b.inputs (omega (arith, v.few_inputs)))
-            (used_append (slots_code l.slots b.inputs l.slots (slots_of b)) _ fill
-            (used_append (rules_code l (form_of b)) _ (used_rules l (form_of b) a) outs)),
+        fit_append (fuzzify_code l.inputs b.inputs) _ (fit_fuzzify l.inputs b.inputs (omega (arith, v.few_inputs)))
+            (fit_append (slots_code l.slots b.inputs l.slots (slots_of b)) _ fill
+            (fit_append (rules_code l (form_of b)) _ (fit_rules l (form_of b) a) outs)),
       ),
     )
 
