@@ -1,5 +1,5 @@
 -- Runs of the code around EVAL: what they are under, what each state keeps, and how one instruction leads on.
-use Rattle.std.specs.Prelude.{◌≡◌, ◌≢◌, ℕ, ◌+◌, ◌^◌, ◌<◌, ◌≤◌, ◌⊎◌, Bool, true, false, Ok, List, [], ◌∷◌, length}
+use Rattle.std.specs.Prelude.{◌≡◌, ◌≢◌, ℕ, ◌+◌, ◌^◌, ◌<◌, ◌≤◌, ◌⊎◌, Bool, true, false, Ok, List, [], ◌∷◌, length, All}
 use Rattle.std.specs.Prelude.{slice_index}
 use Rattle.cpu12_isa.specs.declared.instr.Instr.{Instr}
 use Rattle.cpu12_isa.specs.declared.instr.Instr.TheVariants.{Rts}
@@ -17,9 +17,12 @@ use Rattle.cpu12_parts.specs.State.{State}
 use Rattle.cpu12_parts.specs.Touching.{Each}
 use Rattle.cpu12_parts.specs.Whole.{after_plain}
 use Rattle.eval_code.specs.declared.layout.Layout.{Layout}
-use Rattle.eval_code.specs.Evaluation.{Reads, Writes}
+use Rattle.eval_code.specs.Evaluation.{HasBytes, Reads, Writes}
 use Rattle.eval_code.specs.Masks.{interrupt_masks}
-use Rattle.codegen.specs.Interruptible.{IsInterruptibleStep}
+use Rattle.eval_code.specs.Standing.{DecodesWhereItStands}
+use Rattle.eval_code.specs.Code.{code_bytes, FitCode}
+use Rattle.codegen.specs.Answers.{given}
+use Rattle.codegen.specs.Interruptible.{is_idle, IsInterruptible, IsInterruptibleStep}
 
 -- how many bytes the code of a form has at most, with those that are fetched behind it
 abbrev pub code_room : ℕ
@@ -34,10 +37,11 @@ pub record IsShut (open_to : ℕ → Bool) (l : Layout) : Type 0 where
   pub low : 0x2000 ≤ l.code
   pub high : l.code + code_room < 65536
 
--- what a run is under: that instructions keep registers and bytes in their ranges, the bytes that are open to
--- handlers, the layout, the image's memory and the open flags
+-- what a run is under: that instructions keep registers and bytes in their ranges and are decoded where they stand, the
+-- bytes that are open to handlers, the layout, the image's memory and the open flags
 pub record Setting : Type 0 where
   pub stays_fit : StaysFit
+  pub decodes : DecodesWhereItStands
   pub open_to : ℕ → Bool
   pub layout : Layout
   pub shut : IsShut open_to layout
@@ -59,6 +63,13 @@ abbrev pub Stands : Setting → ℕ → List Instr → Type 0
 Stands c p [] = Unit {0}
 Stands c p (i ∷ is) = Here c p i × Stands c (p + length (encode_of i)) is
 
+-- Code that stands in the image behind where the code waits is there, instruction by instruction.
+abbrev pub InstructionsStand : Type 0
+InstructionsStand =
+    (c : Setting) (p : ℕ) (code : List Instr) → FitCode code → HasBytes c.image p (code_bytes code)
+    → c.layout.code ≤ p → c.layout.wait < p → p + length (code_bytes code) + 6 ≤ c.layout.code + code_room
+    → Stands c p code
+
 -- what each state of the run keeps, with I set or not: its memory is the image from $2000 on
 pub record Lives (image : List ℕ) (masked : Bool) (s : State) : Type 0 where
   pub temps : s.temps ≡ Free
@@ -71,6 +82,24 @@ pub record Lives (image : List ℕ) (masked : Bool) (s : State) : Type 0 where
 
 abbrev pub Live : Setting → State → Type 0
 Live c = Lives c.image false
+
+-- Such a state may be interrupted, where its next instruction is the code's.
+abbrev pub LiveIsInterruptible : Type 0
+LiveIsInterruptible =
+    (c : Setting) (s : State) → Live c s → c.layout.code ≤ s.regs.pc → s.regs.pc + 6 ≤ c.layout.code + code_room
+    → IsInterruptible c.open_to c.image s
+
+-- It is idle where the code waits, and READY is 0.
+abbrev pub LiveIsIdle : Type 0
+LiveIsIdle =
+    (c : Setting) (s : State) → Live c s → s.regs.pc ≡ c.layout.wait → slice_index s.mem c.layout.ready ≡ 0
+    → is_idle c.layout s ≡ true
+
+-- It stays live where a sample is given.
+abbrev pub GivenIsLive : Type 0
+GivenIsLive =
+    (c : Setting) (bytes : List ℕ) (s : State) → Live c s → All (λ v. v < 2 ^ 8) bytes
+    → c.layout.samples + length bytes ≤ free_start → c.layout.ready < free_start → Live c (given c.layout bytes s)
 
 -- one instruction leads to an address
 pub record Next (c : Setting) (s t : State) (q : ℕ) : Type 0 where

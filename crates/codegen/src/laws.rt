@@ -6,17 +6,18 @@ ghost use Rattle.codegen.specs.Frames.{FrameCallsAndLeaves, StartArrives};
 ghost use Rattle.codegen.specs.Laws.{LowerLaws};
 ghost use Rattle.codegen.specs.Mailboxes.{MailboxStepsAreFew};
 ghost use Rattle.codegen.specs.SampleTurns.{MailboxTakesSamples};
-ghost use Rattle.codegen.specs.Settings.{InstructionGoesOn, ReturnGoesOn};
+ghost use Rattle.codegen.specs.Settings.{GivenIsLive, InstructionGoesOn, InstructionsStand, LiveIsIdle};
+ghost use Rattle.codegen.specs.Settings.{LiveIsInterruptible, ReturnGoesOn};
 ghost use Rattle.codegen.specs.Standing.{ImageHasFirmware};
 ghost use Rattle.codegen.specs.Turns.{MailboxTakesPosts, MailboxIsUninterrupted};
 ghost use Rattle.codegen.specs.Uninterrupted.{AnsweredAreUninterrupted, FirmwareIsUninterrupted, UninterruptedAreOne};
 
 use byte_scaling::nearest_is_byte;
-use cpu12_asm::rising_items;
-use cpu12_emul::laws::holds_image;
 use cpu12_isa::laws::stays_fit;
 use cpu12_parts::executions::executions_are_one;
-use eval_code::laws::{blocks_are_placed, bounds_are_few, eval_answers};
+use eval_code::laws::{
+    blocks_are_placed, bounds_are_few, code_is_decoded, eval_answers, placed_items_stand,
+};
 use rule_layout::{layout_law, layouts_are_one};
 
 /// What the laws on the forms of firmware rest on.
@@ -26,17 +27,26 @@ fn lower_laws()
     layout_law();
     nearest_is_byte();
     stays_fit();
-    rising_items();
-    holds_image();
+    code_is_decoded();
+    placed_items_stand();
     eval_answers();
     blocks_are_placed();
 }
 
 /// One instruction of the code around EVAL leads on: a plain one that leaves SP and what masks
-/// interrupts, and the return from a call.
+/// interrupts, and the return from a call. Code whose bytes stand in the image is such instructions.
 pub fn instructions_go_on()
+    ensures stand { InstructionsStand }
     ensures plain { InstructionGoesOn }
     ensures returns { ReturnGoesOn }
+{}
+
+/// A state that the code's runs keep may be interrupted, is idle where the code waits and READY is 0,
+/// and stays such a state where a sample is given.
+pub fn live_states_wait()
+    ensures interruptible { LiveIsInterruptible }
+    ensures idle { LiveIsIdle }
+    ensures given { GivenIsLive }
 {}
 
 /// EVAL comes back with its block's answers wherever the code around it calls it.
@@ -110,6 +120,7 @@ pub fn mailbox_takes_samples()
     ensures { MailboxTakesSamples }
 {
     stays_fit();
+    code_is_decoded();
     mailbox_takes_posts();
 }
 

@@ -11,7 +11,6 @@ use Rattle.cpu12_asm.specs.declared.items.Item.{Item}
 use Rattle.cpu12_asm.specs.Items.{given_by, IsRising}
 use Rattle.cpu12_parts.specs.State.{State}
 use Rattle.cpu12_parts.specs.Whole.{after_plain, PlainWay}
-use Rattle.cpu12_emul.specs.Image.{byte_or_zero}
 use Rattle.cpu12_emul.specs.Step.{reset_with}
 use Rattle.eval_code.specs.declared.layout.Layout.{Layout}
 use Rattle.eval_code.specs.declared.width.Width.{Width}
@@ -27,26 +26,28 @@ use Rattle.cpu12_parts.specs.declared.temps.Temps.TheVariants.{Free}
 use Rattle.std.proofs.lemmas.Bool.{cases_eq}
 use Rattle.eval_code.specs.Evaluation.{HasBytes}
 use Rattle.eval_code.proofs.Algebra.{unmasked, same_bytes, SameHigh, high_set, bytes_set_out, bytes_after_set}
-use Rattle.eval_code.proofs.Algebra.{decode_same, decode_here, Rises}
-use Rattle.eval_code.proofs.Algebra.{HasGiven, none_below}
+use Rattle.eval_code.proofs.Algebra.{decode_same}
+use Rattle.cpu12_emul.specs.Image.{image_memory}
+use Rattle.eval_code.specs.Standing.{DecodesWhereItStands, ZeroBelow}
+use Rattle.cpu12_asm.specs.Bytes.{Holds}
 use Rattle.codegen.proofs.runs.Framing.{answer_room}
 use Rattle.codegen.specs.Frames.{first_waiting, IsStarted, start_code, StartArrives}
 use Rattle.codegen.specs.Settings.{Setting, Live}
 
 -- memory below the code is 0
-pub zero_below : Rises
-    → (image : List ℕ) (l : Layout) (b : Block) (w : Width) (before behind : List Instr) (rest : List Item)
-    → HasGiven image (given_by (block_items l b w before behind ++ rest))
+pub zero_below : ZeroBelow
+    → (image : List (ℕ × ℕ)) (l : Layout) (b : Block) (w : Width) (before behind : List Instr) (rest : List Item)
+    → Holds image (given_by (block_items l b w before behind ++ rest))
     → IsRising (block_items l b w before behind ++ rest) → (q : ℕ) → q < l.code
-    → q < 65536 → get_or image q 0 ≡ 0
+    → q < 65536 → get_or (image_memory image) q 0 ≡ 0
 unfolding block_items
-zero_below rises image l b w before behind rest h rise q lt small =
-    h.bytes q small ∙ ap byte_or_zero
-    (none_below rises l.code q
+zero_below below image l b w before behind rest h rise q lt small =
+    below image
     ((map Op (block_code l b w before behind)
     ++ (bytes_at l.tables (table_bytes b)
     ++ (bytes_at l.singletons (singleton_bytes b)
-    ++ (bytes_at l.weights (weight_bytes b) ++ bytes_at l.rules (rule_bytes l.slots b))))) ++ rest) rise.1 lt)
+    ++ (bytes_at l.weights (weight_bytes b) ++ bytes_at l.rules (rule_bytes l.slots b))))) ++ rest)
+    l.code q h rise lt small
 
 -- answers that are 0, where memory is
 none_stand : (w : Width) (m : List ℕ) (p : ℕ) → ((q : ℕ) → p ≤ q → q < p + length (bytes_of w 0) → get_or m q 0 ≡ 0)
@@ -55,10 +56,10 @@ none_stand Byte m p h = (h p (omega arith) (omega arith), tt)
 none_stand Word m p h = (h p (omega arith) (omega arith), (h (p + 1) (omega arith) (omega arith), tt))
 
 -- three plain instructions lead there
-pub start_way : (flags : ℕ) (l : Layout) (image : List ℕ) → IsStarted l → HasBytes image 0xFFFE (bytes_of_word l.code)
+pub start_way : DecodesWhereItStands → (flags : ℕ) (l : Layout) (image : List ℕ) → IsStarted l → HasBytes image 0xFFFE (bytes_of_word l.code)
     → HasBytes image l.code (code_bytes (start_code l))
     → PlainWay flags l.wait 3 (reset_with image) (first_waiting flags l image)
-start_way flags l image f vector start =
+start_way decodes flags l image f vector start =
     let lo = f.low in
     let hi = f.high in
     let w = f.wait in
@@ -74,18 +75,18 @@ start_way flags l image f vector start =
     let same : SameHigh image m = high_set image image l.ready 0 (omega arith) (λ at le. refl) in
     let d0 : decode_at image s0.regs.pc ≡ Ok (LdsImmediate 0x2000) =
     ap (decode_at image) p0
-    ∙ decode_here image l.code (LdsImmediate 0x2000) tt (omega arith) (start.0, (start.1.0, (start.1.1.0, tt))) in
+    ∙ decodes image l.code (LdsImmediate 0x2000) (omega arith) (omega arith) (start.0, (start.1.0, (start.1.1.0, tt))) in
     let at1 : l.code + 1 + 1 + 1 ≡ l.code + 3 = omega arith in
     let b1 : HasBytes image (l.code + 3) (121 ∷ l.ready / 2 ^ 8 ∷ l.ready % 2 ^ 8 ∷ 16 ∷ 239 ∷ []) =
     subst (λ p. HasBytes image p (121 ∷ l.ready / 2 ^ 8 ∷ l.ready % 2 ^ 8 ∷ 16 ∷ 239 ∷ [])) at1 start.1.1.1 in
     let d1 : decode_at image s1.regs.pc ≡ Ok (ClrExtended l.ready) =
     ap (decode_at image) p1
-    ∙ decode_here image (l.code + 3) (ClrExtended l.ready) tt (omega arith) (b1.0, (b1.1.0, (b1.1.1.0, tt))) in
+    ∙ decodes image (l.code + 3) (ClrExtended l.ready) (omega arith) (omega arith) (b1.0, (b1.1.0, (b1.1.1.0, tt))) in
     let at2 : l.code + 3 + 1 + 1 + 1 ≡ l.code + 6 = omega arith in
     let b2 : HasBytes image (l.code + 6) (16 ∷ 239 ∷ []) = subst (λ p. HasBytes image p (16 ∷ 239 ∷ [])) at2 b1.1.1.1 in
     let d2 : decode_at m s2.regs.pc ≡ Ok (Andcc 0xEF) =
     ap (decode_at m) p2 ∙ decode_same image m (l.code + 6) (omega arith) (omega arith) same
-    ∙ decode_here image (l.code + 6) (Andcc 0xEF) tt (omega arith) (b2.0, (b2.1.0, tt)) in (
+    ∙ decodes image (l.code + 6) (Andcc 0xEF) (omega arith) (omega arith) (b2.0, (b2.1.0, tt)) in (
       s1,
       (
         omega arith,
@@ -155,7 +156,7 @@ arrive c b width before f a v start h =
     record {
       t = s3;
       first = refl;
-      way = start_way c.flags l c.image f vector start;
+      way = start_way c.decodes c.flags l c.image f vector start;
       home = record {
         live = live;
         pc_is = home;
@@ -234,7 +235,7 @@ arrive_alike c mem f shown reset vector start size a =
     (a.bytes 65535 (reset 65535 (omega arith) (omega arith))) in
     record {
       state = first_waiting c.flags l mem;
-      way = start_way c.flags l mem f here code;
+      way = start_way c.decodes c.flags l mem f here code;
       regs = ap (regs_from c.flags l.ready) pc;
       temps = refl;
       bytes = set_agree c.open_to mem c.image l.ready 0 (omega arith) a;

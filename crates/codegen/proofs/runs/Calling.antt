@@ -31,9 +31,11 @@ use Rattle.cpu12_parts.specs.Touching.{IsIn, Each, IsRulesOver, IsInstructionOve
 use Rattle.eval_code.specs.Code.{eval_code, code_bytes}
 use Rattle.eval_code.specs.Evaluation.{HasBytes, HasEval, IsAtEval, IsEvaluated, EvalAnswers, eval_bytes, Reads, Writes}
 use Rattle.eval_code.specs.Evaluation.{code_region, IsEvalStep}
-use Rattle.eval_code.proofs.Algebra.{SameHigh, high_set, same_bytes, high_writes, execution_on, steps_append}
-use Rattle.eval_code.proofs.Algebra.{length_append, decode_here, Below, From}
-use Rattle.eval_code.proofs.Algebra.{apart_by, below_front, below_back, written_low, writes_low, places_few}
+use Rattle.cpu12_parts.proofs.Algebra.{execution_on, steps_append}
+use Rattle.eval_code.proofs.Algebra.{SameHigh, high_set, same_bytes, high_writes}
+use Rattle.std.proofs.Common.{length-append}
+use Rattle.eval_code.proofs.Algebra.{WriteBelow, Below, From}
+use Rattle.eval_code.proofs.Algebra.{apart_by, below_front, below_back, places_few}
 use Rattle.codegen.proofs.runs.Stepping.{plain_next, low_shown, high_shown, not_at}
 use Rattle.codegen.specs.Settings.{IsShut, Setting, Here, Live, ReturnGoesOn}
 use Rattle.codegen.specs.Calls.{IsInCode, HasRoutine, IsCalled, Back, CalledEvalReturns}
@@ -81,6 +83,16 @@ all_read : (open_to : ℕ → Bool) (l : Layout) (sp : ℕ) (ats : List ℕ) →
     → Each (Reads l) ats → AllShown (is_hidden open_to sp) ats
 all_read open_to l sp [] u a h e = tt
 all_read open_to l sp (at ∷ ats) u a h e = (read_shown open_to l sp at u a h e.0, all_read open_to l sp ats u a h e.1)
+
+-- What EVAL writes lies below the free bytes.
+written_low : (l : Layout) (at : ℕ) → IsApart l → Writes l at → at < 0x1800
+written_low l at a (inl o) = omega (arith, a.outputs, a.slots, o.1)
+written_low l at a (inr (inl o)) = omega (arith, a.slots, o.1)
+written_low l at a (inr (inr o)) = absurd o
+
+writes_low : (l : Layout) (ws : List (ℕ × ℕ)) → IsApart l → Each (Writes l) (addresses ws) → WriteBelow 0x2000 ws
+writes_low l [] a e = tt
+writes_low l (w ∷ ws) a e = ((let low = written_low l w.0 a e.0 in omega arith), writes_low l ws a e.1)
 
 all_written : (open_to : ℕ → Bool) (l : Layout) (sp : ℕ) (ats : List ℕ) → IsShut open_to l → IsApart l
     → Each (Writes l) ats → AllShown (is_hidden open_to sp) ats
@@ -324,7 +336,7 @@ returned c b w back bytes before s a v h k t g e alone =
       off = λ e. omega arith;
       fits = tt;
       decoded =
-          decode_here c.image p Rts tt (omega arith) h.back;
+          c.decodes c.image p Rts tt (omega arith) h.back;
     } in
     let far : (at : ℕ) → 0x1800 ≤ at → get_or t.mem at 0 ≡ get_or s.mem at 0 =
     λ at le. g.elsewhere at (inr (omega arith)) (inr (omega arith)) in
@@ -344,7 +356,7 @@ returned c b w back bytes before s a v h k t g e alone =
       answers = g.answers;
       elsewhere = λ at o z. g.elsewhere at (⊎_elim (λ x. inl x) (λ x. inr (omega arith)) o)
           (⊎_elim (λ x. inl x) (λ x. inr (omega arith)) z);
-      instructions = omega (arith, g.instructions, length_append g.ds (0 ∷ []));
+      instructions = omega (arith, g.instructions, length-append g.ds (0 ∷ []));
       steps = omega (arith, g.steps, steps_append g.ds (0 ∷ []));
     }
 

@@ -7,7 +7,9 @@ use Rattle.cpu12_isa.specs.declared.instr.Instr.{Instr}
 use Rattle.cpu12_isa.specs.declared.instr.Instr.TheVariants.{LdaaExtended, ClrExtended, Beq, Bra, JsrExtended, Rts, Rti}
 use Rattle.cpu12_isa.specs.Code.{encode_of, decode_at}
 use Rattle.cpu12_asm.specs.declared.items.Item.{Item}
+use Rattle.cpu12_asm.specs.Bytes.{Holds}
 use Rattle.cpu12_asm.specs.Items.{given_by, IsRising}
+use Rattle.cpu12_emul.specs.Image.{image_memory}
 use Rattle.eval_code.specs.declared.layout.Layout.{Layout}
 use Rattle.eval_code.specs.declared.width.Width.{Width}
 use Rattle.eval_code.specs.Code.{code_bytes}
@@ -17,7 +19,8 @@ use Rattle.eval_code.specs.Evaluation.{HasBytes, eval_bytes}
 use Rattle.eval_code.specs.Placed.{StandsBetween}
 use Rattle.codegen.specs.Code.{frame_code}
 use Rattle.codegen.specs.Images.{vector_items}
-use Rattle.eval_code.proofs.Algebra.{Rises, HasGiven, bytes_stand, bytes_front, bytes_back, decode_here}
+use Rattle.eval_code.specs.Standing.{BytesStand}
+use Rattle.eval_code.proofs.Algebra.{bytes_front, bytes_back}
 use Rattle.codegen.proofs.runs.Stepping.{stands_of}
 use Rattle.codegen.proofs.runs.Framing.{HasFrame, call_run, leave_run}
 use Rattle.codegen.specs.Frames.{start_code, IsFramed, FrameCallsAndLeaves}
@@ -25,15 +28,15 @@ use Rattle.codegen.specs.Calls.{HasRoutine, IsInCode}
 use Rattle.codegen.specs.Settings.{Setting, Stands}
 
 -- the reset vector stands
-pub start_stands : Rises → (image : List ℕ) (front : List Item) (l : Layout)
-    → HasGiven image (given_by (front ++ vector_items l)) → IsRising (front ++ vector_items l)
-    → HasBytes image 0xFFFE (bytes_of_word l.code)
-start_stands rises image front l h rise =
+pub start_stands : BytesStand → (image : List (ℕ × ℕ)) (front : List Item) (l : Layout)
+    → Holds image (given_by (front ++ vector_items l)) → IsRising (front ++ vector_items l)
+    → HasBytes (image_memory image) 0xFFFE (bytes_of_word l.code)
+start_stands stand image front l h rise =
     let V = bytes_at 0xFFF2 (bytes_of_word l.interrupt) in
     let E = bytes_at 0xFFFE (bytes_of_word l.code) in
     let e : front ++ (V ++ E) ≡ (front ++ V) ++ (E ++ []) = sym (append_assoc front V E)
     ∙ ap (λ (x : List Item). (front ++ V) ++ x) (sym (append-nil E)) in
-    bytes_stand rises image (front ++ vector_items l) (front ++ V) [] 0xFFFE (bytes_of_word l.code) h rise e
+    stand image (front ++ vector_items l) (front ++ V) [] 0xFFFE (bytes_of_word l.code) h rise e
 
 -- its frame in three pieces
 abbrev pub turn_code : Layout → List Instr
@@ -76,10 +79,10 @@ has_frame c shown f a h =
       shown = shown;
       from = omega arith;
       to = omega arith;
-      load = ap (decode_at c.image) w ∙ decode_here c.image (l.code + 8) (LdaaExtended l.ready) tt (omega arith) h.load;
+      load = ap (decode_at c.image) w ∙ c.decodes c.image (l.code + 8) (LdaaExtended l.ready) (omega arith) (omega arith) h.load;
       rest = subst (λ p. Stands c p (turn_code l)) e3
           (stands_of c (l.code + 8 + 3) (turn_code l)
-          (tt, omega arith, (tt, omega arith, (tt, omega arith, (tt, omega arith, tt)))) h.turn (omega arith)
+          (omega arith, (omega arith, (omega arith, (omega arith, tt)))) h.turn (omega arith)
           (omega arith) (omega arith));
     }
 

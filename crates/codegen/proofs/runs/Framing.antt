@@ -1,7 +1,7 @@
 -- A sample, from where the code waits back to there.
 use Rattle.std.proofs.Common.{◌≡◌, ◌⊎◌, inl, inr, ℕ, ◌+◌, ◌-◌, ◌*◌, ◌/◌, ◌%◌, ◌^◌, ◌<◌, ◌≤◌, min, Bool, true, false}
 use Rattle.std.proofs.Common.{◌&&◌, nat_lt, nat_le, Ok, List, [], ◌∷◌}
-use Rattle.std.proofs.Common.{◌++◌, length, set, All, get_or, refl, sym, ap, ap₂, ◌∙◌, subst, arith, length-set}
+use Rattle.std.proofs.Common.{◌++◌, length, set, get_or, refl, sym, ap, ap₂, ◌∙◌, subst, arith, length-set}
 use Rattle.std.proofs.Common.{get_or-set_same, get_or-set_other}
 use Rattle.std.specs.Prelude.{◌==◌}
 use Rattle.std.proofs.lemmas.Bool.{cases_eq, or_parts}
@@ -31,13 +31,15 @@ use Rattle.cpu12_isa.specs.Regions.{is_hidden}
 use Rattle.codegen.specs.Interruptible.{is_idle, IsInterruptibleStep}
 use Rattle.eval_code.proofs.Algebra.{masked_tested, zero_tested, length-put, has_put, bytes_put_out, bytes_set_out}
 use Rattle.eval_code.proofs.Algebra.{bytes_after_set, bytes_after_put}
-use Rattle.eval_code.proofs.Algebra.{high_set, high_put, execution_on, length_append, steps_append}
+use Rattle.cpu12_parts.proofs.Algebra.{execution_on, steps_append}
+use Rattle.std.proofs.Common.{length-append}
+use Rattle.eval_code.proofs.Algebra.{high_set, high_put}
 use Rattle.codegen.proofs.runs.Stepping.{next, plain_next, goes_one, goes_on, interruptible_of, low_shown, high_shown}
 use Rattle.codegen.proofs.runs.Stepping.{not_at, clr, beq_on}
 use Rattle.codegen.proofs.runs.Calling.{called}
 use Rattle.codegen.specs.Calls.{HasRoutine, IsCalled, Back}
 use Rattle.codegen.specs.Frames.{Home, Called, Left}
-use Rattle.codegen.specs.Settings.{code_room, Setting, Here, Live, Stands, Next}
+use Rattle.codegen.specs.Settings.{code_room, Setting, Here, Live, LiveIsIdle, GivenIsLive, Stands, Next}
 
 -- the code around EVAL
 pub record HasFrame (c : Setting) : Type 0 where
@@ -68,6 +70,9 @@ waits l s e h =
     let a : (s.regs.pc == l.wait) ≡ true = grind (arith, nat_tests) in
     let b : (get_or s.mem l.ready 0 == 0) ≡ true = grind (arith, nat_tests) in
     rw (a, b)
+
+pub live_is_idle : LiveIsIdle
+live_is_idle c s live e h = waits c.layout s e h
 
 -- JSR from an empty stack
 jsr_uncovers : (open_to : ℕ → Bool) (sp a b at : ℕ) → sp ≡ 0x2000 → is_hidden open_to (plus sp 65534) at ≡ false
@@ -134,7 +139,7 @@ call_run c s f low l ep es er =
     record {
       t = s3;
       ds = g.ds;
-      execution = g.way;
+      execution = g.execution;
       instructions = g.count;
       steps = g.parts;
       live = n3.live;
@@ -156,7 +161,7 @@ leave_run c s f low l ep =
     record {
       t = s2;
       ds = g.ds;
-      execution = g.way;
+      execution = g.execution;
       instructions = g.count;
       steps = g.parts;
       live = n2.live;
@@ -167,9 +172,7 @@ leave_run c s f low l ep =
     }
 
 -- the state with a sample's bytes and READY
-pub given_live : (c : Setting) (bytes : List ℕ) (s : State) → Live c s → All (λ v. v < 2 ^ 8) bytes
-    → c.layout.samples + length bytes ≤ 0x1800
-    → c.layout.ready < 0x1800 → Live c (given c.layout bytes s)
+pub given_live : GivenIsLive
 given_live c bytes s l fit le low =
     let m = put s.mem c.layout.samples bytes in
     let lm : length m ≡ 65536 = length-put s.mem c.layout.samples bytes ∙ l.size in
@@ -236,7 +239,7 @@ left c b w bytes before s0 h r e f =
       execution = execution_on W r.ds ds s0 r.t f.t r.execution
           (execution_on W e.ds f.ds r.t u f.t e.execution f.execution);
       instructions = omega
-          (arith, length_append r.ds ds, length_append e.ds f.ds, r.instructions, e.instructions, f.instructions);
+          (arith, length-append r.ds ds, length-append e.ds f.ds, r.instructions, e.instructions, f.instructions);
       steps = omega (arith, steps_append r.ds ds, steps_append e.ds f.ds, r.steps, e.steps, f.steps);
       home = record {
         live = f.live;

@@ -21,8 +21,7 @@ use Rattle.eval_code.specs.Evaluation.{HasBytes, Reads, Writes}
 use Rattle.eval_code.specs.Placed.{IsInOrder, BlockRises, BlockIsShort}
 use Rattle.codegen.specs.Answers.{IsArrivedBeside, AreAnsweredBeside, FirmwareAnswers, LeavesLayout, FreeBytesLeave}
 use Rattle.codegen.specs.Answers.{FirmwareAnswersBeside, ArrivesAlike, FirmwareArrivesAlike}
-use Rattle.eval_code.specs.Code.{code_bytes}
-use Rattle.eval_code.proofs.Algebra.{UsedCode, used_bytes}
+use Rattle.eval_code.specs.Code.{code_bytes, FitCode}
 use Rattle.codegen.specs.Laws.{LowerLaws}
 use Rattle.codegen.proofs.runs.Stepping.{interruptible_of}
 use Rattle.cpu12_isa.specs.Regions.{is_free}
@@ -101,20 +100,9 @@ free_leaves = record {
 main_inside : IsInCode main_layout
 main_inside = record { from = omega arith; to = omega arith }
 
-main_frame_used : UsedCode (frame_code main_layout)
-main_frame_used = (
-  tt,
-  omega arith,
-  (
-    tt,
-    omega arith,
-    (
-      tt,
-      omega arith,
-      (tt, omega arith, (tt, omega arith, (tt, omega arith, (tt, omega arith, (tt, omega arith, (tt, tt, tt)))))),
-    ),
-  ),
-)
+main_frame_fits : FitCode (frame_code main_layout)
+main_frame_fits =
+    (omega arith, (omega arith, (omega arith, (omega arith, (omega arith, (omega arith, (omega arith, (omega arith, (tt, tt)))))))))
 
 -- what runs are under that are beside handlers to which these bytes are open
 abbrev over_main : LowerLaws → (open_to : ℕ → Bool) → LeavesLayout open_to main_layout → List ℕ → (flags : ℕ)
@@ -122,6 +110,7 @@ abbrev over_main : LowerLaws → (open_to : ℕ → Bool) → LeavesLayout open_
 over_main laws open_to leaves image flags fits =
     record {
       stays_fit = laws.stays_fit;
+      decodes = laws.decodes;
       open_to = open_to;
       layout = main_layout;
       shut =
@@ -163,7 +152,7 @@ founded laws open_to leaves b w image flags fits v limits h =
     let c : Setting = over_main laws open_to leaves mem flags fits in
     let firmware : HasFirmware main_layout b w frame mem =
     has_firmware laws image main_layout b w frame main_in_order main_apart main_inside (omega arith)
-    (used_bytes frame main_frame_used) (omega arith) (omega arith) v limits h in
+    (laws.code_is_bytes frame main_frame_fits) (omega arith) (omega arith) v limits h in
     let fb = frame_bytes mem main_layout firmware.stands.front in
     record {
       samples = record {

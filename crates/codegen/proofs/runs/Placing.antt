@@ -17,12 +17,7 @@ use Rattle.eval_code.specs.Items.{block_items, IsApart}
 use Rattle.eval_code.specs.Placed.{IsInOrder, StandsBetween, GiveBytes}
 use Rattle.eval_code.specs.Placed.{BlockRises, BlockIsShort, BlockStands}
 use Rattle.codegen.specs.Images.{vector_items}
-use Rattle.eval_code.proofs.Algebra.{Rises}
 use Rattle.codegen.specs.Laws.{LowerLaws}
-
--- the laws of items that go up
-pub rises_of : LowerLaws → Rises
-rises_of laws = record { first = laws.first; end = laws.end; part = laws.part }
 
 -- a layout has room for the slots of a valid block
 pub few_slots : LayoutLaw → (b : Block) → IsValid b → length (slots_of b) ≤ 300

@@ -1,7 +1,7 @@
 -- One instruction of the code around EVAL, and where it leads.
 use Rattle.std.proofs.Common.{◌≡◌, ◌≢◌, ◌⊎◌, inl, inr, ⊎_elim, ℕ, ◌+◌, ◌^◌, ◌<◌, ◌≤◌, min, nat_lt, nat_le, ◌&&◌, Bool}
 use Rattle.std.proofs.Common.{true, false, Ok, List, [], ◌∷◌, length}
-use Rattle.std.proofs.Common.{refl, sym, ap, ◌∙◌, arith}
+use Rattle.std.proofs.Common.{refl, sym, ap, ◌∙◌, arith, length-append}
 use Rattle.std.specs.Prelude.{◌==◌, if◌then◌else◌}
 use Rattle.std.proofs.lemmas.Bool.Decides.{nat_tests}
 use Rattle.cpu12_isa.specs.declared.instr.Instr.{Instr}
@@ -19,14 +19,15 @@ use Rattle.cpu12_parts.specs.Whole.{after_plain}
 use Rattle.eval_code.specs.declared.layout.Layout.{Layout}
 use Rattle.cpu12_isa.specs.Regions.{is_hidden}
 use Rattle.eval_code.specs.Masks.{interrupt_masks}
-use Rattle.eval_code.specs.Evaluation.{HasBytes}
-use Rattle.codegen.specs.Interruptible.{is_idle, IsSteady, IsInterruptible, IsShownPlain, IsInterruptibleStep}
+use Rattle.codegen.specs.Interruptible.{is_idle, IsSteady, IsShownPlain, IsInterruptibleStep}
 use Rattle.cpu12_isa.specs.declared.instr.Instr.TheVariants.{ClrExtended, Beq}
 use Rattle.eval_code.specs.Code.{code_bytes}
-use Rattle.eval_code.proofs.Algebra.{WriteBelow, below_more, high_writes, bytes_writes, bytes_front, bytes_back, sizes}
+use Rattle.eval_code.proofs.Algebra.{WriteBelow, below_more, high_writes, bytes_writes, bytes_front, bytes_back}
 use Rattle.eval_code.proofs.Algebra.{decode_same}
-use Rattle.codegen.specs.Settings.{code_room, IsShut, Setting, Here, Stands, Lives, Live, Next, InstructionGoesOn}
-use Rattle.eval_code.proofs.Algebra.{UsedCode, decode_here, masked_four, Bounded, bounded_one, bounded_on}
+use Rattle.codegen.specs.Settings.{code_room, IsShut, Setting, Here, Lives, Live, Next, InstructionGoesOn}
+use Rattle.codegen.specs.Settings.{InstructionsStand, LiveIsInterruptible}
+use Rattle.cpu12_parts.proofs.Algebra.{Bounded, bounded_one, bounded_on}
+use Rattle.eval_code.proofs.Algebra.{masked_four}
 
 pub sp_high : (s : State) → (s.regs.sp ≡ 0x1FFE) ⊎ (s.regs.sp ≡ 0x2000) → s.regs.sp ≤ 0x2000
 sp_high s h = ⊎_elim (λ l. omega arith) (λ r. omega arith) h
@@ -71,8 +72,7 @@ steady_of c masked s l lo hi = record {
   code = code_shown c.open_to c.layout s.regs.sp s.regs.pc c.shut (sp_high s l.stack) lo hi;
 }
 
-pub interruptible_of : (c : Setting) (s : State) → Live c s → c.layout.code ≤ s.regs.pc
-    → s.regs.pc + 6 ≤ c.layout.code + code_room → IsInterruptible c.open_to c.image s
+pub interruptible_of : LiveIsInterruptible
 interruptible_of c = steady_of c false
 
 writes_shown : (open_to : ℕ → Bool) (sp : ℕ) (ws : List (ℕ × ℕ)) → WriteBelow 0x1800 ws
@@ -213,20 +213,19 @@ beq_on c s p to l ep h lt z =
     ∙ omega (arith, h.high))
 
 -- code that stands in the image above where it waits
-pub stands_of : (c : Setting) (p : ℕ) (is : List Instr) → UsedCode is → HasBytes c.image p (code_bytes is)
-    → c.layout.code ≤ p → c.layout.wait < p
-    → p + sizes is + 6 ≤ c.layout.code + code_room → Stands c p is
+pub stands_of : InstructionsStand
 stands_of c p [] u h lo w hi = tt
-stands_of c p (i ∷ is) u h lo w hi = (
-  record {
-    from = lo;
-    to = omega arith;
-    high = (let end = c.shut.high in omega arith);
-    off = λ e. omega arith;
-    fits = u.1;
-    decoded = decode_here c.image p i u.0 (let end = c.shut.high in omega arith)
-        (bytes_front c.image p (encode_of i) (code_bytes is) h);
-  },
-  stands_of c (p + length (encode_of i)) is u.2 (bytes_back c.image p (encode_of i) (code_bytes is) h) (omega arith)
-      (omega arith) (omega arith),
-)
+stands_of c p (i ∷ is) u h lo w hi =
+    let size = length-append (encode_of i) (code_bytes is) in
+    let high : p + 6 < 65536 = (let end = c.shut.high in omega arith) in (
+      record {
+        from = lo;
+        to = omega arith;
+        high = high;
+        off = λ e. omega arith;
+        fits = u.0;
+        decoded = c.decodes c.image p i u.0 high (bytes_front c.image p (encode_of i) (code_bytes is) h);
+      },
+      stands_of c (p + length (encode_of i)) is u.1 (bytes_back c.image p (encode_of i) (code_bytes is) h) (omega arith)
+          (omega arith) (omega arith),
+    )

@@ -13,6 +13,7 @@ use Rattle.cpu12_parts.specs.State.{State}
 use Rattle.cpu12_parts.specs.Executions.{Execution, IsStepBefore}
 use Rattle.cpu12_emul.specs.Image.{image_memory}
 use Rattle.cpu12_emul.specs.Step.{reset_with}
+use Rattle.eval_code.specs.Standing.{DecodesWhereItStands}
 use Rattle.codegen.specs.declared.firmware.Firmware.{Firmware}
 use Rattle.eval_code.specs.declared.layout.Layout.{Layout}
 use Rattle.eval_code.specs.declared.width.Width.{Width}
@@ -27,7 +28,9 @@ use Rattle.codegen.specs.Mailboxes.{is_postable, mailbox_layout}
 use Rattle.codegen.specs.Turns.{IsAt, IsMaskedStep, IsCopied, IsLook, IsChoice, TakesTurns, MailboxTakesPosts}
 use Rattle.codegen.specs.Turns.{MailboxIsUninterrupted, call_of}
 use Rattle.codegen.specs.SampleTurns.{IsSampleTurn, TakesSamples, MailboxTakesSamples}
-use Rattle.eval_code.proofs.Algebra.{execution_on, length_append, length-put, has_put, bytes_by, bytes_put_out}
+use Rattle.cpu12_parts.proofs.Algebra.{execution_on}
+use Rattle.std.proofs.Common.{length-append}
+use Rattle.eval_code.proofs.Algebra.{length-put, has_put, bytes_by, bytes_put_out}
 use Rattle.eval_code.proofs.Algebra.{bytes_set_out, same_bytes}
 use Rattle.codegen.proofs.runs.Stepping.{not_at}
 use Rattle.codegen.proofs.runs.Framing.{answer_room, not_ready, given_live, waits as idle}
@@ -200,12 +203,19 @@ takes_samples p b w most turns v =
           v.few_outputs i at outs;
     }
 
-pub mailbox_takes_samples : StaysFit → MailboxTakesPosts → MailboxTakesSamples
-mailbox_takes_samples stays_fit law b f flags v limits h fits =
+pub mailbox_takes_samples : StaysFit → DecodesWhereItStands → MailboxTakesPosts → MailboxTakesSamples
+mailbox_takes_samples stays_fit decodes law b f flags v limits h fits =
     let image = image_memory f.image.bytes in
     let w = width_of f.wide in
-    let p : Post = record
-    { stays_fit = stays_fit; n = length b.inputs; few = v.few_inputs; image = image; flags = flags; fits = fits } in
+    let p : Post = record {
+      stays_fit = stays_fit;
+      decodes = decodes;
+      n = length b.inputs;
+      few = v.few_inputs;
+      image = image;
+      flags = flags;
+      fits = fits;
+    } in
     let turns : TakesTurns (mailbox_layout (length b.inputs)) b w f.instr_bound image flags =
     subst (λ (k : Layout). TakesTurns k b w f.instr_bound image flags) h.layout (law b f v limits h flags fits) in
     subst (λ (k : Layout). TakesSamples k b w f.instr_bound image flags) (sym h.layout)
@@ -234,7 +244,7 @@ more f b flags before bytes samples s t e one rest both =
             values = λ o lo hi. value_from w t.mem f.layout.outputs f.outputs (o - 1) (answer w b o bytes (before o))
                 (omega arith) (turned.answers o lo hi);
             count = count_from w t.mem f.layout.outputs f.outputs ∙ e;
-            instructions = omega (arith, length_append copy.ds turned.ds, copy.count, turned.instructions);
+            instructions = omega (arith, length-append copy.ds turned.ds, copy.count, turned.instructions);
           },
           both.1,
         ),

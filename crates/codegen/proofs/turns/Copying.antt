@@ -11,7 +11,9 @@ use Rattle.cpu12_parts.specs.Whole.{after_plain}
 use Rattle.cpu12_parts.specs.Executions.{Execution}
 use Rattle.codegen.specs.Mailboxes.{is_postable, mailbox_layout, copy_code, call_code}
 use Rattle.codegen.specs.Turns.{IsAt, IsMaskedStep, IsCopied}
-use Rattle.eval_code.proofs.Algebra.{masked_four, masked_on, unmasked, execution_on, length_append}
+use Rattle.cpu12_parts.proofs.Algebra.{execution_on}
+use Rattle.std.proofs.Common.{length-append}
+use Rattle.eval_code.proofs.Algebra.{masked_four, masked_on, unmasked}
 use Rattle.codegen.proofs.runs.Stepping.{Went, low_shown, plain_went, steady_of}
 use Rattle.codegen.proofs.turns.Posting.{Post, HasTurn, free_ctx, post_ctx, lives_of, at_of}
 use Rattle.codegen.specs.Settings.{Here, Lives, Stands}
@@ -176,7 +178,7 @@ copies_run p h s at =
         sets = w1.shown;
         ds = r.ds ++ 0 ∷ 0 ∷ [];
         copies = execution_on (Masked p) r.ds (0 ∷ 0 ∷ []) s1 s2 s4 r.execution (s3, (step3, (s4, (step4, refl))));
-        count = omega (arith, length_append r.ds (0 ∷ 0 ∷ []), r.count);
+        count = omega (arith, length-append r.ds (0 ∷ 0 ∷ []), r.count);
         at = at_of p (0xC008 + 12 + 6 * p.n) s4 w4.lives (w4.pc_is ∙ end) (omega arith) (omega arith) sp;
         inputs = λ k lt. kept (0x1001 + k) (omega arith) ∙ r.copied k lt;
         cleared = get_or-set_same m2 0x1028 0 0 (omega arith);

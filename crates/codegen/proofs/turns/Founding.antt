@@ -14,9 +14,9 @@ use Rattle.eval_code.specs.Items.{IsApart}
 use Rattle.eval_code.specs.Evaluation.{HasBytes}
 use Rattle.eval_code.specs.Placed.{IsInOrder, BlockRises, BlockIsShort}
 use Rattle.codegen.specs.Mailboxes.{mailbox_layout, copy_code, call_code, mailbox_code, mailbox_items}
-use Rattle.eval_code.specs.Code.{code_bytes}
-use Rattle.eval_code.proofs.Algebra.{length-code, code_size, code_size-append, sizes, sizes_append, UsedCode}
-use Rattle.eval_code.proofs.Algebra.{used_append, decode_here, bytes_front}
+use Rattle.eval_code.specs.Code.{code_bytes, FitCode}
+use Rattle.eval_code.proofs.Algebra.{length-code, code_size, code_size-append, sizes, sizes_append}
+use Rattle.eval_code.proofs.Algebra.{fit_append, bytes_front}
 use Rattle.eval_code.proofs.Algebra.{bytes_back, sizes_is}
 use Rattle.codegen.proofs.runs.Stepping.{stands_of}
 use Rattle.codegen.proofs.runs.Placing.{whole_rises, whole_is_short}
@@ -110,31 +110,29 @@ length-mailbox_items short b w v limits =
     whole_is_short short l b w (mailbox_code l n) (Rts ∷ []) v limits (omega arith)
 
 -- the operands fit
-used_copy : (from to n : ℕ) → from + n < 2 ^ 16 → to + n < 2 ^ 16 → UsedCode (copy_code from to n)
-used_copy from to zero f t = tt
-used_copy from to (suc n) f t =
-    (tt, (omega arith, omega arith), used_copy (from + 1) (to + 1) n (omega arith) (omega arith))
+fit_copy : (from to n : ℕ) → from + n < 2 ^ 16 → to + n < 2 ^ 16 → FitCode (copy_code from to n)
+fit_copy from to zero f t = tt
+fit_copy from to (suc n) f t =
+    ((omega arith, omega arith), fit_copy (from + 1) (to + 1) n (omega arith) (omega arith))
 
-used_call : (n : ℕ) → n ≤ 8 → UsedCode (call_code (mailbox_layout n) n)
-used_call n few = (tt, omega arith, (tt, omega arith, (tt, omega arith, (tt, omega arith, (tt, tt, tt)))))
+fit_call : (n : ℕ) → n ≤ 8 → FitCode (call_code (mailbox_layout n) n)
+fit_call n few = (omega arith, (omega arith, (omega arith, (omega arith, (tt, tt)))))
 
 abbrev turn_code : ℕ → List Instr
 turn_code n = Beq 0xFB ∷ Orcc 0x10 ∷ (copy_code 0x1020 0x1001 n ++ call_code (mailbox_layout n) n)
 
-used_turn : (n : ℕ) → n ≤ 8 → UsedCode (turn_code n)
-used_turn n few = (
-  tt,
+fit_turn : (n : ℕ) → n ≤ 8 → FitCode (turn_code n)
+fit_turn n few = (
   omega arith,
   (
-    tt,
     omega arith,
-    used_append (copy_code 0x1020 0x1001 n) (call_code (mailbox_layout n) n)
-        (used_copy 0x1020 0x1001 n (omega arith) (omega arith)) (used_call n few),
+    fit_append (copy_code 0x1020 0x1001 n) (call_code (mailbox_layout n) n)
+        (fit_copy 0x1020 0x1001 n (omega arith) (omega arith)) (fit_call n few),
   ),
 )
 
-pub used_mailbox : (n : ℕ) → n ≤ 8 → UsedCode (mailbox_code (mailbox_layout n) n)
-used_mailbox n few = (tt, omega arith, (tt, omega arith, (tt, omega arith, (tt, omega arith, used_turn n few))))
+pub fit_mailbox : (n : ℕ) → n ≤ 8 → FitCode (mailbox_code (mailbox_layout n) n)
+fit_mailbox n few = (omega arith, (omega arith, (omega arith, (omega arith, fit_turn n few))))
 
 -- the code of a turn
 pub start_bytes : (p : Post) → HasBytes p.image 0xC000 (code_bytes (mailbox_code (mailbox_layout p.n) p.n))
@@ -150,17 +148,18 @@ has_turn p h =
     (code_bytes (LdaaExtended 0x1028 ∷ turn_code p.n)) h in
     let h2 : HasBytes p.image 0xC00B (code_bytes (turn_code p.n)) =
     bytes_back p.image 0xC008 (encode_of (LdaaExtended 0x1028)) (code_bytes (turn_code p.n)) h1 in
-    let size : sizes (turn_code p.n) ≡ 15 + 6 * p.n =
+    let size : length (code_bytes (turn_code p.n)) ≡ 15 + 6 * p.n =
     omega (
       arith,
+      length-code (copy_code 0x1020 0x1001 p.n ++ call_code (mailbox_layout p.n) p.n),
       sizes_append (copy_code 0x1020 0x1001 p.n) (call_code (mailbox_layout p.n) p.n),
       sizes_is (copy_code 0x1020 0x1001 p.n),
       code_size-copy 0x1020 0x1001 p.n,
     ) in
     record {
-      look = decode_here p.image 0xC008 (LdaaExtended 0x1028) tt (omega arith)
+      look = p.decodes p.image 0xC008 (LdaaExtended 0x1028) (omega arith) (omega arith)
           (bytes_front p.image 0xC008 (encode_of (LdaaExtended 0x1028)) (code_bytes (turn_code p.n)) h1);
-      rest = stands_of (free_ctx p) 0xC00B (turn_code p.n) (used_turn p.n p.few) h2 (omega arith) (omega arith)
+      rest = stands_of (free_ctx p) 0xC00B (turn_code p.n) (fit_turn p.n p.few) h2 (omega arith) (omega arith)
           (omega arith);
     }
 

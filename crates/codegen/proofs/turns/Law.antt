@@ -11,7 +11,6 @@ use Rattle.eval_code.specs.declared.width.Width.{Width}
 use Rattle.eval_code.specs.Widths.{width_of}
 use Rattle.codegen.specs.Mailboxes.{mailbox_layout, mailbox_code, mailbox_items, mailbox_bound}
 use Rattle.codegen.specs.Turns.{TakesTurns, MailboxTakesPosts}
-use Rattle.eval_code.proofs.Algebra.{used_bytes}
 use Rattle.codegen.specs.Laws.{LowerLaws}
 use Rattle.codegen.proofs.runs.Arriving.{arrive}
 use Rattle.codegen.proofs.runs.Standing.{has_firmware}
@@ -21,12 +20,20 @@ use Rattle.codegen.proofs.turns.Looking.{look_run, choose_run}
 use Rattle.codegen.proofs.turns.Copying.{copies_run}
 use Rattle.codegen.proofs.turns.Turning.{Turns, turn_run}
 use Rattle.codegen.proofs.turns.Founding.{mailbox_in_order, mailbox_apart, mailbox_started, mailbox_inside}
-use Rattle.codegen.proofs.turns.Founding.{used_mailbox, start_bytes, has_turn, has_call}
+use Rattle.codegen.proofs.turns.Founding.{fit_mailbox, start_bytes, has_turn, has_call}
 
 -- what its runs are under
 abbrev post_of : LowerLaws → (b : Block) → length b.inputs ≤ 8 → List ℕ → (flags : ℕ) → flags < 2 ^ 8 → Post
 post_of laws b few image flags fits =
-    record { stays_fit = laws.stays_fit; n = length b.inputs; few = few; image = image; flags = flags; fits = fits }
+    record {
+      stays_fit = laws.stays_fit;
+      decodes = laws.decodes;
+      n = length b.inputs;
+      few = few;
+      image = image;
+      flags = flags;
+      fits = fits;
+    }
 
 -- from what stands in memory
 with_code : (laws : LowerLaws) → (b : Block) (w : Width) (image : List ℕ) (flags : ℕ) (fits : flags < 2 ^ 8)
@@ -85,7 +92,7 @@ with_items laws b w image flags fits v limits h =
     let before = mailbox_code l n in
     with_code laws b w (image_memory image) flags fits v limits
     (has_firmware laws image l b w before (mailbox_in_order n few) (mailbox_apart n few) (mailbox_inside n few)
-    (omega arith) (used_bytes before (used_mailbox n few)) (omega arith) (omega arith) v limits h)
+    (omega arith) (laws.code_is_bytes before (fit_mailbox n few)) (omega arith) (omega arith) v limits h)
 
 pub mailbox_takes_posts : LowerLaws → MailboxTakesPosts
 mailbox_takes_posts laws b f v limits h flags fits =

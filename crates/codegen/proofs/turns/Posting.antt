@@ -7,6 +7,7 @@ use Rattle.cpu12_isa.specs.Fits.{StaysFit}
 use Rattle.cpu12_isa.specs.Regions.{is_free}
 use Rattle.cpu12_parts.specs.State.{State}
 use Rattle.eval_code.specs.Evaluation.{Reads, Writes}
+use Rattle.eval_code.specs.Standing.{DecodesWhereItStands}
 use Rattle.codegen.specs.Interruptible.{IsSteady}
 use Rattle.codegen.specs.Mailboxes.{is_postable, mailbox_layout, copy_code, call_code}
 use Rattle.codegen.specs.Turns.{IsAt}
@@ -17,6 +18,7 @@ use Rattle.codegen.specs.Settings.{IsShut, Setting, Lives, Stands}
 -- the number of inputs, the image's memory and the open flags
 pub record Post : Type 0 where
   pub stays_fit : StaysFit
+  pub decodes : DecodesWhereItStands
   pub n : ℕ
   pub few : n ≤ 8
   pub image : List ℕ
@@ -67,6 +69,7 @@ postable_shut n = record {
 abbrev pub free_ctx : Post → Setting
 free_ctx p = record {
   stays_fit = p.stays_fit;
+  decodes = p.decodes;
   open_to = is_free;
   layout = mailbox_layout p.n;
   shut =
@@ -79,6 +82,7 @@ free_ctx p = record {
 abbrev pub post_ctx : Post → Setting
 post_ctx p = record {
   stays_fit = p.stays_fit;
+  decodes = p.decodes;
   open_to = is_postable;
   layout = mailbox_layout p.n;
   shut =

@@ -20,7 +20,9 @@ use Rattle.eval_code.specs.Evaluation.{HasBytes, HasAnswers, EvalAnswers}
 use Rattle.codegen.specs.Interruptible.{IsInterruptibleStep}
 use Rattle.codegen.specs.Mailboxes.{is_postable, mailbox_layout, mailbox_bound}
 use Rattle.codegen.specs.Turns.{IsAt, IsTurned}
-use Rattle.eval_code.proofs.Algebra.{execution_on, length_append, steps_append, bytes_set_out}
+use Rattle.cpu12_parts.proofs.Algebra.{execution_on, steps_append}
+use Rattle.std.proofs.Common.{length-append}
+use Rattle.eval_code.proofs.Algebra.{bytes_set_out}
 use Rattle.codegen.proofs.runs.Stepping.{next, interruptible_of}
 use Rattle.codegen.proofs.runs.Calling.{called}
 use Rattle.codegen.proofs.runs.Framing.{answer_room, pushed_word, jsr_run}
@@ -118,7 +120,7 @@ left p b w bytes before s h at r e =
         mail = λ q m. (let lo : 0x1020 ≤ q = grind (arith, nat_tests) in
             let hi : q < 0x1029 = grind (arith, nat_tests) in e.elsewhere q (inr (omega arith)) (inl (omega arith))
             ∙ below q (omega arith));
-        instructions = omega (arith, length_append e.ds (0 ∷ []), e.instructions);
+        instructions = omega (arith, length-append e.ds (0 ∷ []), e.instructions);
         steps = omega (arith, steps_append e.ds (0 ∷ []), e.steps, enough b w h.valid.few_outputs);
       },
     )

@@ -1,6 +1,6 @@
 use Rattle.codegen.proofs.runs.Calling.{rts_run}
-use Rattle.codegen.proofs.runs.Stepping.{instruction_goes_on}
+use Rattle.codegen.proofs.runs.Stepping.{instruction_goes_on, stands_of}
 use Rattle.codegen.proofs.laws.instructions_go_on.Goals as goal
 
 pub returns : goal.returns
-returns c = record { plain = instruction_goes_on; returns = rts_run }
+returns c = record { stand = stands_of; plain = instruction_goes_on; returns = rts_run }
