@@ -6,10 +6,10 @@ ghost use Rattle.watched_code.specs.Watched.{WatchedAnswers};
 use byte_scaling::nearest_is_byte;
 use codegen::laws::{
     called_eval_returns, frames_lead, free_bytes_leave, image_has_firmware, instructions_go_on,
-    items_are_one,
+    items_are_one, live_states_wait,
 };
 use cpu12_isa::laws::stays_fit;
-use eval_code::laws::blocks_are_placed;
+use eval_code::laws::{blocks_are_placed, code_is_decoded};
 use rule_layout::layouts_are_one;
 
 /// With its check byte the sum of bytes is 0. Where one byte is changed to another it is not; where
@@ -28,8 +28,10 @@ pub fn watched_answers()
 {
     nearest_is_byte();
     stays_fit();
+    code_is_decoded();
     blocks_are_placed();
     instructions_go_on();
+    live_states_wait();
     called_eval_returns();
     frames_lead();
     image_has_firmware();

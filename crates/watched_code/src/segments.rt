@@ -13,7 +13,7 @@ use eval_code::Layout;
 use fuzzy_meaning::{Block, Output};
 use fz_list::List;
 use point_slope::table;
-use rule_layout::{Flat, Form};
+use rule_layout::{Flat, Form, flat_has_parts};
 use std::alloc::{AllocError, Global};
 
 /// A part of an image whose bytes are summed: where it starts, and its bytes.
@@ -135,6 +135,7 @@ pub(crate) fn segments(
     requires room { layout.now.slots + 1024 < 2 ^ 16 }
     ensures { IfOk result (λ v. v.items ≡ segments_of layout.now block.now) }
 {
+    flat_has_parts();
     let mut segments = Vec::new(alloc);
     segments.push(Segment {
         at: layout.tables,

@@ -1,4 +1,5 @@
 -- Bytes added up, one after another.
+use Rattle.std.proofs.Common.{⊎_elim}
 use Rattle.std.proofs.Common.{◌≡◌, ℕ, zero, suc, ◌+◌, ◌-◌, ◌*◌, ◌%◌, ◌^◌, ◌<◌, ◌≤◌, Bool, true, false, nat_lt, List, []}
 use Rattle.std.proofs.Common.{◌∷◌, ◌++◌, length, get_or, refl, sym, ap, ap₂, ◌∙◌, subst, arith}
 use Rattle.std.specs.Prelude.{◌==◌, not, if◌then◌else◌}
@@ -17,8 +18,9 @@ use Rattle.eval_code.specs.Masks.{interrupt_masks}
 use Rattle.watched_code.specs.WatchedCode.{segment_code, segments_code, IsSegment}
 pub use Rattle.watched_code.specs.WatchedCode.{AreSegments}
 use Rattle.codegen.specs.Interruptible.{IsInterruptibleStep}
-use Rattle.eval_code.proofs.Algebra.{bounded_none, masked_or, masked_and, masked_tested, masked_four, zero_four}
-use Rattle.codegen.proofs.Algebra.{Goes, goes_on, goes_one, high_shown, sp_high}
+use Rattle.cpu12_parts.proofs.Algebra.{Bounded, bounded_none, bounded_one, bounded_on}
+use Rattle.eval_code.proofs.Algebra.{masked_or, masked_and, masked_tested, masked_four, zero_four}
+use Rattle.codegen.proofs.Algebra.{high_shown}
 use Rattle.codegen.specs.Settings.{Setting, Here, Live, Stands, Next, InstructionGoesOn}
 
 -- H leaves I and X, and with the other flags Z
@@ -72,6 +74,10 @@ pub addb_zero : (c : Setting) (s : State) (v : ℕ)
 addb_zero c s v = zero_five s.regs.ccr _ _ ((s.regs.b + v) % 2 ^ 8 == 0) _ _
 
 -- no byte that stands high is open
+-- one step of the code around EVAL
+abbrev pub Step : Setting → ℕ → State → State → Type 0
+Step c = IsInterruptibleStep c.open_to c.layout c.image c.flags
+
 abbrev pub IsShutAbove : Setting → Type 0
 IsShutAbove c = (at : ℕ) → 0x2000 ≤ at → c.open_to at ≡ false
 
@@ -79,7 +85,7 @@ addb_next : InstructionGoesOn → (c : Setting) → IsShutAbove c → (s : State
     → Here c p AddbPostIncrementX → 0x2000 ≤ s.regs.x
     → Next c s (after_plain c.flags AddbPostIncrementX s) (p + 2)
 addb_next go c u s p l ep h low =
-    let top = sp_high s l.stack in
+    let top : s.regs.sp ≤ 0x2000 = ⊎_elim (λ e. omega arith) (λ e. omega arith) l.stack in
     go c s p (p + 2) AddbPostIncrementX l ep h refl
     (high_shown c.open_to s.regs.sp s.regs.x (u s.regs.x low) (omega arith), tt) tt tt refl
     (masked_five s.regs.ccr _ _ _ _ _) (omega (arith, h.high))
@@ -129,18 +135,18 @@ sum_from m at (suc n) = get_or m at 0 + sum_from m (at + 1) n
 -- where instructions lead that leave memory and the stack, and what is then in B
 pub record Adds (c : Setting) (n : ℕ) (s : State) (pc sum : ℕ) : Type 0 where
   pub t : State
-  pub goes : Goes c n 0 s t
+  pub goes : Bounded (Step c) n 0 s t
   pub live : Live c t
   pub pc_is : t.regs.pc ≡ pc
   pub sp_is : t.regs.sp ≡ s.regs.sp
   pub mem_is : t.mem ≡ s.mem
   pub b_is : t.regs.b ≡ sum
 
-adds_after : (c : Setting) (n m : ℕ) (s u : State) (pc sum : ℕ) → Goes c n 0 s u → u.regs.sp ≡ s.regs.sp → u.mem ≡ s.mem
+adds_after : (c : Setting) (n m : ℕ) (s u : State) (pc sum : ℕ) → Bounded (Step c) n 0 s u → u.regs.sp ≡ s.regs.sp → u.mem ≡ s.mem
     → Adds c m u pc sum → Adds c (n + m) s pc sum
 adds_after c n m s u pc sum g es em r = record {
   t = r.t;
-  goes = goes_on c n 0 m 0 s u r.t g r.goes;
+  goes = bounded_on (Step c) n 0 m 0 s u r.t g r.goes;
   live = r.live;
   pc_is = r.pc_is;
   sp_is = r.sp_is ∙ es;
@@ -152,7 +158,7 @@ adds_at : (c : Setting) (n m : ℕ) (s : State) (pc pc' sum sum' : ℕ) → n �
     → Adds c m s pc' sum'
 adds_at c n m s pc pc' sum sum' en ep es r = record {
   t = r.t;
-  goes = subst (λ (k : ℕ). Goes c k 0 s r.t) en r.goes;
+  goes = subst (λ (k : ℕ). Bounded (Step c) k 0 s r.t) en r.goes;
   live = r.live;
   pc_is = r.pc_is ∙ ep;
   sp_is = r.sp_is;
@@ -163,7 +169,7 @@ adds_at c n m s pc pc' sum sum' en ep es r = record {
 -- a byte added, and X compared with the end
 record Turned (c : Setting) (s : State) (p end : ℕ) : Type 0 where
   t : State
-  goes : Goes c 2 0 s t
+  goes : Bounded (Step c) 2 0 s t
   live : Live c t
   pc_is : t.regs.pc ≡ p + 5
   x_is : t.regs.x ≡ s.regs.x + 1
@@ -186,7 +192,7 @@ turn go c above s p end l ep h low less top =
     let x1 : s1.regs.x ≡ s.regs.x + 1 = omega arith in
     record {
       t = s2;
-      goes = goes_on c 1 0 1 0 s s1 s2 (goes_one c s s1 (p + 2) n1) (goes_one c s1 s2 (p + 2 + 3) n2);
+      goes = bounded_on (Step c) 1 0 1 0 s s1 s2 (bounded_one (Step c) 0 s s1 n1.step) (bounded_one (Step c) 0 s1 s2 n2.step);
       live = n2.live;
       pc_is = n2.pc_is ∙ omega arith;
       x_is = x1;
@@ -200,9 +206,6 @@ turn go c above s p end l ep h low less top =
 sum_on : (b v w : ℕ) → ((b + v) % 2 ^ 8 + w) % 2 ^ 8 ≡ (b + (v + w)) % 2 ^ 8
 sum_on b v w = omega arith
 
-goes_none : (c : Setting) (s : State) → Goes c 0 0 s s
-goes_none c = bounded_none (IsInterruptibleStep c.open_to c.layout c.image c.flags)
-
 -- the loop: three instructions a byte
 pub loop : InstructionGoesOn → (c : Setting) → IsShutAbove c → (s : State) (p end n : ℕ) → Live c s → s.regs.pc ≡ p
     → Stands c p (loop_code end) → 0x2000 ≤ s.regs.x → s.regs.x + suc n ≡ end → end < 2 ^ 16
@@ -214,7 +217,7 @@ loop go c above s p end zero l ep h low e top =
     let u = after_plain c.flags (Bne 0xF9) r.t in
     record {
       t = u;
-      goes = goes_on c 2 0 1 0 s r.t u r.goes (goes_one c r.t u (p + 2 + 3 + 2) n);
+      goes = bounded_on (Step c) 2 0 1 0 s r.t u r.goes (bounded_one (Step c) 0 r.t u n.step);
       live = n.live;
       pc_is = n.pc_is ∙ omega arith;
       sp_is = r.sp_is;
@@ -236,7 +239,7 @@ loop go c above s p end (suc n) l ep h low e top =
     ap₂ (λ (x y : ℕ). (x + y) % 2 ^ 8) r.b_is same
     ∙ sum_on s.regs.b (get_or s.mem s.regs.x 0) (sum_from s.mem (s.regs.x + 1) (suc n)) in
     adds_at c (2 + 1 + 3 * suc n) (3 * suc (suc n)) s (p + 7) (p + 7) _ _ (omega arith) refl total
-    (adds_after c (2 + 1) (3 * suc n) s u (p + 7) _ (goes_on c 2 0 1 0 s r.t u r.goes (goes_one c r.t u p k)) r.sp_is
+    (adds_after c (2 + 1) (3 * suc n) s u (p + 7) _ (bounded_on (Step c) 2 0 1 0 s r.t u r.goes (bounded_one (Step c) 0 r.t u k.step)) r.sp_is
     r.mem_is rest)
 
 -- what stands where segments are, summed, and how many instructions that takes
@@ -267,7 +270,7 @@ segment_run go c above s p g l ep h q = by_size (length g.bytes) refl
         ≡ (s.regs.b + sum_from s.mem g.at (length g.bytes)) % 2 ^ 8 =
         ap (λ (m : ℕ). (s.regs.b + sum_from s.mem g.at m) % 2 ^ 8) (sym e) in
         adds_at c (1 + 3 * suc n) (1 + 3 * length g.bytes) s (p + 3 + 7) (p + 10) _ _ (omega arith) (omega arith) total
-        (adds_after c 1 (3 * suc n) s u (p + 3 + 7) _ (goes_one c s u (p + 3) k) refl refl r)
+        (adds_after c 1 (3 * suc n) s u (p + 3 + 7) _ (bounded_one (Step c) 0 s u k.step) refl refl r)
 
 pub stands_front : (c : Setting) (p : ℕ) (a b : List Instr) → Stands c p (a ++ b) → Stands c p a
 stands_front c p [] b h = tt
@@ -304,7 +307,7 @@ segments_run go c above s p q [] rest l ep h g e =
     record {
       adds = record {
         t = s;
-        goes = goes_none c s;
+        goes = bounded_none (Step c) s;
         live = l;
         pc_is = ep ∙ at;
         sp_is = refl;

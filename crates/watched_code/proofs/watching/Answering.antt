@@ -23,12 +23,12 @@ use Rattle.codegen.specs.Answers.{IsArrived}
 use Rattle.watched_code.specs.WatchedCode.{segments_of, watched_front, watched_layout, code_length}
 use Rattle.watched_code.specs.Watched.{watched_items, watched_bound, Change, Watched, IsTableChange, IsGoodSample}
 use Rattle.watched_code.specs.Watched.{AreWatchAnswered, WatchedAnswers}
-use Rattle.eval_code.proofs.Algebra.{UsedCode, used_bytes}
+use Rattle.eval_code.specs.Code.{FitCode}
 use Rattle.codegen.specs.Answers.{FreeBytesLeave}
 use Rattle.codegen.specs.Standing.{HasFirmware}
-use Rattle.codegen.proofs.Algebra.{interruptible_of, not_free, waits}
+use Rattle.codegen.proofs.Algebra.{not_free}
 use Rattle.watched_code.proofs.watching.Adding.{count_in}
-use Rattle.watched_code.proofs.watching.Fronts.{IsWatchedLayout, length-more, length-bad, length-front, used_front}
+use Rattle.watched_code.proofs.watching.Fronts.{IsWatchedLayout, length-more, length-bad, length-front, fits_front}
 use Rattle.watched_code.proofs.watching.Fronts.{fit_defaults, start_bytes}
 use Rattle.watched_code.proofs.watching.Laws.{WatchingLaws}
 use Rattle.watched_code.proofs.watching.Tables.{are_segments, are_apart, are_few, stand, counted}
@@ -122,12 +122,12 @@ record Founded (laws : WatchingLaws) (b : Block) (image : List (ℕ × ℕ)) : T
 parts : (laws : WatchingLaws) (b : Block) (image : List (ℕ × ℕ)) → Founded laws b image → HasParts main_layout b
 parts laws b image h = laws.parts main_layout b h.valid h.limits
 
-used : (laws : WatchingLaws) (b : Block) (image : List (ℕ × ℕ)) → Founded laws b image
-    → UsedCode (watched_front main_layout b)
-used laws b image h =
+fits : (laws : WatchingLaws) (b : Block) (image : List (ℕ × ℕ)) → Founded laws b image
+    → FitCode (watched_front main_layout b)
+fits laws b image h =
     let few = h.valid.few_outputs in
     let bad = length-bad main_layout b.outputs few in
-    used_front main_layout b.outputs (segments_of main_layout b) (omega arith) (omega arith)
+    fits_front main_layout b.outputs (segments_of main_layout b) (omega arith) (omega arith)
     (fit_defaults laws.nearest_is_byte b.outputs h.valid.outputs) (omega arith)
     (are_segments b (parts laws b image h))
 
@@ -139,7 +139,7 @@ firmware laws b image h =
     let front = watched_front main_layout b in
     laws.firmware image (watched_layout b) b Byte front (watched_in_order b h.valid) (watched_apart b h.valid)
     (record { from = omega arith; to = omega arith }) (omega arith)
-    (used_bytes front (used laws b image h)) (omega arith) (omega arith) h.valid h.limits h.holds
+    (laws.code_is_bytes front (fits laws b image h)) (omega arith) (omega arith) h.valid h.limits h.holds
 
 bound_is : (b : Block) → instruction_bound Byte b + 4 + count_in (segments_of main_layout b) ≡ watched_bound b
 unfolding watched_bound
@@ -160,6 +160,7 @@ abbrev over : WatchingLaws → Block → List ℕ → (flags : ℕ) → flags < 
 over laws b image flags fits =
     record {
       stays_fit = laws.stays_fit;
+      decodes = laws.decodes;
       open_to = is_free;
       layout = watched_layout b;
       shut = shut laws.free b;
@@ -238,7 +239,7 @@ may_change laws b image flags fits (Some c) h x =
     record {
       low = x.0;
       high = omega arith;
-      within = located c.0 l b Byte front (Rts ∷ []) (omega arith) x.1 (λ e. x.2 (h.holds.bytes c.0 ∙ e));
+      within = located laws.at_parts c.0 l b Byte front (Rts ∷ []) (omega arith) x.1 (λ e. x.2 (h.holds.bytes c.0 ∙ e));
       fits = x.3;
     }
 
@@ -260,9 +261,9 @@ from_arrival laws b image flags fits samples h all a =
         record {
           way = a.way;
           wait = at;
-          idle = waits c.layout a.t at a.home.ready_is;
+          idle = laws.idle c a.t a.home.live at a.home.ready_is;
           interruptible =
-              interruptible_of c a.t a.home.live (omega arith) (omega arith);
+              laws.interruptible c a.t a.home.live (omega arith) (omega arith);
         },
         are_answered c b (segments_of main_layout b) (watched_bound b) samples (λ o. 0) a.t h a.home all,
       ),

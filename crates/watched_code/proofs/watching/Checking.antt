@@ -9,8 +9,8 @@ use Rattle.cpu12_parts.specs.State.{State}
 use Rattle.cpu12_parts.specs.Whole.{after_plain}
 use Rattle.watched_code.specs.declared.segments.Segment.{Segment}
 use Rattle.watched_code.specs.WatchedCode.{segments_code, fault_at}
-use Rattle.codegen.proofs.Algebra.{Goes, goes_on, goes_one}
-use Rattle.watched_code.proofs.watching.Adding.{IsShutAbove, AreSegments, Added, segments_run, sum_in, count_in, clr}
+use Rattle.cpu12_parts.proofs.Algebra.{Bounded, bounded_one, bounded_on}
+use Rattle.watched_code.proofs.watching.Adding.{IsShutAbove, AreSegments, Added, segments_run, sum_in, count_in, clr, Step}
 use Rattle.watched_code.proofs.watching.Adding.{ldab, addb, addb_zero, bne_on, bne_back}
 use Rattle.codegen.specs.Settings.{Setting, Live, Stands, InstructionGoesOn}
 
@@ -31,7 +31,7 @@ pub record HasCheck (c : Setting) (at bad check to : ℕ) (gs : List Segment) : 
 -- before the branch
 record Decided (c : Setting) (s : State) (at check to : ℕ) (gs : List Segment) : Type 0 where
   t : State
-  goes : Goes c (2 + count_in gs) 0 s t
+  goes : Bounded (Step c) (2 + count_in gs) 0 s t
   live : Live c t
   pc_is : t.regs.pc ≡ at + 2 + 10 * length gs + 2
   sp_is : t.regs.sp ≡ s.regs.sp
@@ -41,7 +41,7 @@ record Decided (c : Setting) (s : State) (at check to : ℕ) (gs : List Segment)
 
 decided_by : InstructionGoesOn → (c : Setting) (s : State) (at check to : ℕ) (gs : List Segment)
     → Live c (after_plain c.flags (LdabImmediate 0) s)
-    → Goes c 1 0 s (after_plain c.flags (LdabImmediate 0) s)
+    → Bounded (Step c) 1 0 s (after_plain c.flags (LdabImmediate 0) s)
     → Added c (after_plain c.flags (LdabImmediate 0) s) gs (decision check to) (at + 2 + 10 * length gs)
     → Decided c s at check to gs
 decided_by go c s at check to gs l g r =
@@ -54,9 +54,9 @@ decided_by go c s at check to gs l g r =
     let count : 1 + (count_in gs + 1) ≡ 2 + count_in gs = omega arith in
     record {
       t = u;
-      goes = subst (λ (m : ℕ). Goes c m 0 s u) count
-          (goes_on c 1 0 (count_in gs + 1) 0 s (after_plain c.flags (LdabImmediate 0) s) u g
-          (goes_on c (count_in gs) 0 1 0 _ a.t u a.goes (goes_one c a.t u (q + 2) n)));
+      goes = subst (λ (m : ℕ). Bounded (Step c) m 0 s u) count
+          (bounded_on (Step c) 1 0 (count_in gs + 1) 0 s (after_plain c.flags (LdabImmediate 0) s) u g
+          (bounded_on (Step c) (count_in gs) 0 1 0 _ a.t u a.goes (bounded_one (Step c) 0 a.t u n.step)));
       live = n.live;
       pc_is = n.pc_is;
       sp_is = a.sp_is;
@@ -73,14 +73,14 @@ decided : InstructionGoesOn → (c : Setting) (s : State) (at bad check to : ℕ
 decided go c s at bad check to gs h l ep =
     let u = after_plain c.flags (LdabImmediate 0) s in
     let n = ldab go c s at 0 l ep h.code.0 in
-    decided_by go c s at check to gs n.live (goes_one c s u (at + 2) n)
+    decided_by go c s at check to gs n.live (bounded_one (Step c) 0 s u n.step)
     (segments_run go c h.above u (at + 2) (at + 2 + 10 * length gs) gs (decision check to) n.live n.pc_is h.code.1
     h.segments refl)
 
 -- where the check leads
 pub record Leads (c : Setting) (n : ℕ) (s : State) (pc : ℕ) (mem : List ℕ) : Type 0 where
   pub t : State
-  pub goes : Goes c n 0 s t
+  pub goes : Bounded (Step c) n 0 s t
   pub live : Live c t
   pub pc_is : t.regs.pc ≡ pc
   pub sp_is : t.regs.sp ≡ s.regs.sp
@@ -100,9 +100,9 @@ passed_by go c s at check to gs shown d e =
     let count : 2 + count_in gs + 2 ≡ 4 + count_in gs = omega arith in
     record {
       t = v;
-      goes = subst (λ (m : ℕ). Goes c m 0 s v) count
-          (goes_on c (2 + count_in gs) 0 2 0 s d.t v d.goes
-          (goes_on c 1 0 1 0 d.t u v (goes_one c d.t u (q + 2) n) (goes_one c u v (q + 2 + 3) k)));
+      goes = subst (λ (m : ℕ). Bounded (Step c) m 0 s v) count
+          (bounded_on (Step c) (2 + count_in gs) 0 2 0 s d.t v d.goes
+          (bounded_on (Step c) 1 0 1 0 d.t u v (bounded_one (Step c) 0 d.t u n.step) (bounded_one (Step c) 0 u v k.step)));
       live = k.live;
       pc_is = k.pc_is ∙ omega arith;
       sp_is = d.sp_is;
@@ -128,8 +128,8 @@ failed_by go c s at bad check to gs h d e =
     let count : 2 + count_in gs + 1 ≡ 3 + count_in gs = omega arith in
     record {
       t = u;
-      goes = subst (λ (m : ℕ). Goes c m 0 s u) count
-          (goes_on c (2 + count_in gs) 0 1 0 s d.t u d.goes (goes_one c d.t u bad n));
+      goes = subst (λ (m : ℕ). Bounded (Step c) m 0 s u) count
+          (bounded_on (Step c) (2 + count_in gs) 0 1 0 s d.t u d.goes (bounded_one (Step c) 0 d.t u n.step));
       live = n.live;
       pc_is = n.pc_is;
       sp_is = d.sp_is;

@@ -10,12 +10,10 @@ use Rattle.cpu12_isa.specs.declared.instr.Instr.{Instr}
 use Rattle.cpu12_isa.specs.declared.instr.Instr.TheVariants.{LdabImmediate, StabExtended}
 use Rattle.cpu12_parts.specs.State.{State}
 use Rattle.cpu12_parts.specs.Whole.{after_plain}
-use Rattle.codegen.specs.Interruptible.{IsInterruptibleStep}
 use Rattle.watched_code.specs.WatchedCode.{default_code, defaults_code}
 use Rattle.watched_code.specs.Watched.{default_or, default_of}
-use Rattle.eval_code.proofs.Algebra.{bounded_none, bounded_more}
-use Rattle.codegen.proofs.Algebra.{Goes, goes_on, goes_one}
-use Rattle.watched_code.proofs.watching.Adding.{ldab, stab}
+use Rattle.cpu12_parts.proofs.Algebra.{Bounded, bounded_none, bounded_one, bounded_on, bounded_more}
+use Rattle.watched_code.proofs.watching.Adding.{ldab, stab, Step}
 use Rattle.codegen.specs.Settings.{Setting, Live, Stands, InstructionGoesOn}
 
 -- an output's default, where it has one
@@ -42,7 +40,7 @@ FitDefaults (o ∷ os) = FitDefault (default_byte o) × FitDefaults os
 -- where instructions lead, and what stands there
 pub record Stored (c : Setting) (n : ℕ) (s : State) (mem : List ℕ) (rest : List Instr) : Type 0 where
   pub t : State
-  pub goes : Goes c n 0 s t
+  pub goes : Bounded (Step c) n 0 s t
   pub live : Live c t
   pub at : ℕ
   pub pc_is : t.regs.pc ≡ at
@@ -50,9 +48,9 @@ pub record Stored (c : Setting) (n : ℕ) (s : State) (mem : List ℕ) (rest : L
   pub mem_is : t.mem ≡ mem
   pub behind : Stands c at rest
 
-goes_most : (c : Setting) (n m : ℕ) (s t : State) → n ≤ m → Goes c n 0 s t → Goes c m 0 s t
+goes_most : (c : Setting) (n m : ℕ) (s t : State) → n ≤ m → Bounded (Step c) n 0 s t → Bounded (Step c) m 0 s t
 goes_most c n m s t le =
-    bounded_more (IsInterruptibleStep c.open_to c.layout c.image c.flags) n 0 m 0 s t le (omega arith)
+    bounded_more (Step c) n 0 m 0 s t le (omega arith)
 
 default_run : InstructionGoesOn → (c : Setting) (s : State) (p to : ℕ) (byte : Option ℕ) (rest : List Instr) → Live c s
     → s.regs.pc ≡ p → Stands c p (default_code to byte ++ rest) → to < 0x1800 → c.open_to to ≡ false
@@ -61,7 +59,7 @@ default_run go c s p to None rest l ep h low shown =
     record {
       t = s;
       goes =
-          goes_most c 0 2 s s (omega arith) (bounded_none (IsInterruptibleStep c.open_to c.layout c.image c.flags) s);
+          goes_most c 0 2 s s (omega arith) (bounded_none (Step c) s);
       live = l;
       at = p;
       pc_is = ep;
@@ -76,7 +74,7 @@ default_run go c s p to (Some byte) rest l ep h low shown =
     let k = stab go c u (p + 2) to n.live n.pc_is h.1.0 low shown in
     record {
       t = v;
-      goes = goes_on c 1 0 1 0 s u v (goes_one c s u (p + 2) n) (goes_one c u v (p + 2 + 3) k);
+      goes = bounded_on (Step c) 1 0 1 0 s u v (bounded_one (Step c) 0 s u n.step) (bounded_one (Step c) 0 u v k.step);
       live =
           k.live;
       at = p + 2 + 3;
@@ -90,7 +88,7 @@ stored_on : (c : Setting) (n m : ℕ) (s : State) (mem mem' : List ℕ) (next re
     → (r : Stored c n s mem next) → Stored c m r.t mem' rest → Stored c (n + m) s mem' rest
 stored_on c n m s mem mem' next rest r k = record {
   t = k.t;
-  goes = goes_on c n 0 m 0 s r.t k.t r.goes k.goes;
+  goes = bounded_on (Step c) n 0 m 0 s r.t k.t r.goes k.goes;
   live = k.live;
   at = k.at;
   pc_is = k.pc_is;
@@ -106,7 +104,7 @@ pub defaults_run : InstructionGoesOn → (c : Setting) (s : State) (p to : ℕ) 
 defaults_run go c s p to [] rest l ep h low shown =
     record {
       t = s;
-      goes = bounded_none (IsInterruptibleStep c.open_to c.layout c.image c.flags) s;
+      goes = bounded_none (Step c) s;
       live = l;
       at =
           p;

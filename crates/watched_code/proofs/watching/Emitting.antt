@@ -5,7 +5,7 @@ use Rattle.fuzzy_meaning.specs.declared.block.Block.{Block}
 use Rattle.rule_layout.specs.declared.flat.Flat.{Flat}
 use Rattle.rule_layout.specs.declared.flat.Form.{Form}
 use Rattle.rule_layout.specs.declared.flat.Form.TheVariants as form
-use Rattle.rule_layout.specs.Layouts.{flat_of, form_of, weights_of}
+use Rattle.rule_layout.specs.Layouts.{flat_of, form_of, weights_of, FlatHasParts}
 use Rattle.eval_code.specs.declared.layout.Layout.{Layout}
 use Rattle.watched_code.specs.declared.segments.Segment.{Segment}
 use Rattle.eval_code.specs.declared.width.Width.TheVariants.{Byte}
@@ -16,7 +16,6 @@ use Rattle.eval_code.specs.Placed.{HasParts}
 use Rattle.watched_code.specs.Watched.{segment_bound, watched_bound}
 use Rattle.watched_code.specs.WatchedCode.{IsSegment, AreSegments, segment, weight_segments, segments_of}
 use Rattle.std.proofs.lemmas.List.Elements.{All-cons, All-nil}
-use Rattle.eval_code.proofs.Algebra.{form-flat_of, weights-flat_of, conjunctions-flat_of}
 
 segment_at : (gs : List Segment) (i : ℕ) (g : Segment) → i < length gs → AreSegments gs → IsSegment (get_or gs i g)
 segment_at [] i g lt h = absurd (omega arith)
@@ -29,22 +28,22 @@ pub is_segment : (gs : List Segment) (i : ℕ) (g : Segment) → i < length gs �
 is_segment gs i g lt e h = subst (λ (x : Segment). IsSegment x) (sym e) (segment_at gs i g lt h)
 
 -- the segments, pushed one after another
-pub segments_made : (l : Layout) (b : Block) (flat : Flat) (i0 i1 i2 i3 i4 : List Segment) (t s r : List ℕ)
+pub segments_made : FlatHasParts → (l : Layout) (b : Block) (flat : Flat) (i0 i1 i2 i3 i4 : List Segment) (t s r : List ℕ)
     → flat ≡ flat_of b → i0 ≡ [] → t ≡ table_bytes b → s ≡ singleton_bytes b
     → r ≡ rule_bytes_by l.slots flat.form flat.conjunctions → i1 ≡ i0 ++ segment l.tables t ∷ []
     → i2 ≡ i1 ++ segment l.singletons s ∷ []
     → i3 ≡ i2 ++ weight_segments l.weights flat.form flat.weights → i4 ≡ i3 ++ segment l.rules r ∷ []
     → i4 ≡ segments_of l b
-segments_made l b flat i0 i1 i2 i3 i4 t s r e h0 et es er h1 h2 h3 h4 =
+segments_made law l b flat i0 i1 i2 i3 i4 t s r e h0 et es er h1 h2 h3 h4 =
+    let has = law flat b e in
     let first : i2 ≡ segment l.tables (table_bytes b) ∷ segment l.singletons (singleton_bytes b) ∷ [] =
     h2 ∙ ap₂ (λ (x : List Segment) (y : List ℕ). x ++ segment l.singletons y ∷ [])
     (h1 ∙ ap₂ (λ (x : List Segment) (y : List ℕ). x ++ segment l.tables y ∷ []) h0 et) es in
     let weights : weight_segments l.weights flat.form flat.weights ≡ weight_segments l.weights (form_of b)
     (weights_of b) =
-    ap₂ (λ (f : Form) (ws : List ℕ). weight_segments l.weights f ws) (form-flat_of flat b e)
-    (weights-flat_of flat b e) in
+    ap₂ (λ (f : Form) (ws : List ℕ). weight_segments l.weights f ws) has.form has.weights in
     let rules : r ≡ rule_bytes l.slots b =
-    er ∙ ap₂ (λ f cs. rule_bytes_by l.slots f cs) (form-flat_of flat b e) (conjunctions-flat_of flat b e) in
+    er ∙ ap₂ (λ f cs. rule_bytes_by l.slots f cs) has.form has.conjunctions in
     h4 ∙ ap₂ (λ (x : List Segment) (y : List ℕ). x ++ segment l.rules y ∷ [])
     (h3 ∙ ap₂ (λ (x y : List Segment). x ++ y) first weights) rules
 

@@ -20,10 +20,9 @@ use Rattle.watched_code.specs.WatchedCode.{segment_bytes, code_length, default_c
 use Rattle.watched_code.specs.WatchedCode.{segment_code, segments_code, back_to_bad, check_code, bad_at, check_at}
 use Rattle.watched_code.specs.WatchedCode.{watched_front_over, fault_at}
 use Rattle.eval_code.specs.Evaluation.{HasBytes}
-use Rattle.eval_code.specs.Code.{code_bytes}
-use Rattle.eval_code.proofs.Algebra.{length-le-code_size, sized, bytes_front, bytes_back, UsedCode, used_append}
-use Rattle.eval_code.proofs.Algebra.{length-code, bytes_append}
-use Rattle.codegen.proofs.Algebra.{stands_of}
+use Rattle.eval_code.specs.Code.{code_bytes, FitCode}
+use Rattle.eval_code.proofs.Algebra.{length-le-code_size, sized, bytes_front, bytes_back, fit_append}
+use Rattle.codegen.specs.Settings.{InstructionsStand}
 use Rattle.watched_code.proofs.watching.Adding.{IsShutAbove, AreSegments}
 use Rattle.watched_code.proofs.watching.Checking.{HasCheck, decision}
 use Rattle.watched_code.proofs.watching.Defaults.{FitDefault, FitDefaults, default_byte}
@@ -82,62 +81,57 @@ pub length-le : (code : List Instr) → length code ≤ code_length code
 length-le code = omega (arith, length-le-code_size code, sized code)
 
 -- the operands fit
-used_default : (at : ℕ) (byte : Option ℕ) → FitDefault byte → at < 65536 → UsedCode (default_code at byte)
-used_default at None fit lt = tt
-used_default at (Some byte) fit lt = (tt, fit, (tt, omega arith, tt))
+fits_default : (at : ℕ) (byte : Option ℕ) → FitDefault byte → at < 65536 → FitCode (default_code at byte)
+fits_default at None fit lt = tt
+fits_default at (Some byte) fit lt = (fit, (omega arith, tt))
 
-used_defaults : (at : ℕ) (os : List Output) → FitDefaults os → at + length os < 65536 → UsedCode (defaults_code at os)
-used_defaults at [] fit lt = tt
-used_defaults at (o ∷ os) fit lt =
-    used_append (default_code at (default_byte o)) (defaults_code (at + 1) os)
-    (used_default at (default_byte o) fit.0 (omega arith)) (used_defaults (at + 1) os fit.1 (omega arith))
+fits_defaults : (at : ℕ) (os : List Output) → FitDefaults os → at + length os < 65536 → FitCode (defaults_code at os)
+fits_defaults at [] fit lt = tt
+fits_defaults at (o ∷ os) fit lt =
+    fit_append (default_code at (default_byte o)) (defaults_code (at + 1) os)
+    (fits_default at (default_byte o) fit.0 (omega arith)) (fits_defaults (at + 1) os fit.1 (omega arith))
 
-pub used_bad : (l : Layout) (os : List Output) → FitDefaults os → l.outputs + length os < 65536
-    → UsedCode (bad_code l os)
-used_bad l os fit lt = (
-  tt,
+pub fits_bad : (l : Layout) (os : List Output) → FitDefaults os → l.outputs + length os < 65536
+    → FitCode (bad_code l os)
+fits_bad l os fit lt = (
   omega arith,
   (
-    tt,
     omega arith,
-    used_append (defaults_code l.outputs os) (Rts ∷ []) (used_defaults l.outputs os fit lt) (tt, tt, tt),
+    fit_append (defaults_code l.outputs os) (Rts ∷ []) (fits_defaults l.outputs os fit lt) (tt, tt),
   ),
 )
 
-used_segments : (gs : List Segment) → AreSegments gs → UsedCode (segments_code gs)
-used_segments [] h = tt
-used_segments (g ∷ gs) h =
+fits_segments : (gs : List Segment) → AreSegments gs → FitCode (segments_code gs)
+fits_segments [] h = tt
+fits_segments (g ∷ gs) h =
     let top = h.0.2 in
-    (tt, omega arith, (tt, tt, (tt, omega arith, (tt, omega arith, used_segments gs h.1))))
+    (omega arith, (tt, (omega arith, (omega arith, fits_segments gs h.1))))
 
-pub used_check : (l : Layout) (os : List Output) (gs : List Segment) → AreSegments gs → UsedCode (check_code l os gs)
-used_check l os gs h =
+pub fits_check : (l : Layout) (os : List Output) (gs : List Segment) → AreSegments gs → FitCode (check_code l os gs)
+fits_check l os gs h =
     let some : 1 ≤ back_to_bad l os gs = omega arith in (
-      tt,
       omega arith,
-      used_append (segments_code gs)
-          (decision (check_byte (segment_bytes gs)) (2 ^ 8 - back_to_bad l os gs)) (used_segments gs h)
-          (tt, omega arith, (tt, omega arith, (tt, omega arith, tt))),
+      fit_append (segments_code gs)
+          (decision (check_byte (segment_bytes gs)) (2 ^ 8 - back_to_bad l os gs)) (fits_segments gs h)
+          (omega arith, (omega arith, (omega arith, tt))),
     )
 
-used_frame : (l : Layout) → l.ready < 65536 → l.eval < 65536 → UsedCode (frame_code l)
-used_frame l ready eval = (
-  tt,
+fits_frame : (l : Layout) → l.ready < 65536 → l.eval < 65536 → FitCode (frame_code l)
+fits_frame l ready eval = (
   omega arith,
   (
-    tt,
     ready,
-    (tt, omega arith, (tt, ready, (tt, omega arith, (tt, eval, (tt, ready, (tt, omega arith, (tt, tt, tt))))))),
+    (omega arith, (ready, (omega arith, (eval, (ready, (omega arith, (tt, tt))))))),
   ),
 )
 
-pub used_front : (l : Layout) (os : List Output) (gs : List Segment) → l.ready < 65536 → check_at l os < 65536
+pub fits_front : (l : Layout) (os : List Output) (gs : List Segment) → l.ready < 65536 → check_at l os < 65536
     → FitDefaults os → l.outputs + length os < 65536 → AreSegments gs
-    → UsedCode (watched_front_over l os gs)
-used_front l os gs ready at fit room h =
+    → FitCode (watched_front_over l os gs)
+fits_front l os gs ready at fit room h =
     let r : Layout = record l { eval = check_at l os } in
-    used_append (frame_code r) (bad_code l os ++ check_code l os gs) (used_frame r ready at)
-    (used_append (bad_code l os) (check_code l os gs) (used_bad l os fit room) (used_check l os gs h))
+    fit_append (frame_code r) (bad_code l os ++ check_code l os gs) (fits_frame r ready at)
+    (fit_append (bad_code l os) (check_code l os gs) (fits_bad l os fit room) (fits_check l os gs h))
 
 -- defaults are bytes
 pub fit_defaults : NearestIsByte → (os : List Output) → All IsValidOutput os → FitDefaults os
@@ -215,7 +209,7 @@ front_bytes m l os gs h =
     let b = bad_code l os in
     let c = check_code l os gs in
     let split : code_bytes (watched_front_over l os gs) ≡ code_bytes a ++ (code_bytes b ++ code_bytes c) =
-    bytes_append a (b ++ c) ∙ ap (λ (x : List ℕ). code_bytes a ++ x) (bytes_append b c) in
+    flat_map-append encode_of a (b ++ c) ∙ ap (λ (x : List ℕ). code_bytes a ++ x) (flat_map-append encode_of b c) in
     let all : HasBytes m l.code (code_bytes a ++ (code_bytes b ++ code_bytes c)) = subst (HasBytes m l.code) split h in
     let later : HasBytes m (bad_at l) (code_bytes b ++ code_bytes c) =
     bytes_back m l.code (code_bytes a) (code_bytes b ++ code_bytes c) all in
@@ -233,28 +227,27 @@ start_bytes m l os gs h =
     ∷ Rti ∷ [] in
     bytes_front m l.code (code_bytes (start_code l)) (code_bytes rest) (front_bytes m l os gs h).frame
 
-bad_found : (c : Setting) (os : List Output) (gs : List Segment) → IsWatchedLayout c.layout os gs → FitDefaults os
+bad_found : InstructionsStand → (c : Setting) (os : List Output) (gs : List Segment) → IsWatchedLayout c.layout os gs → FitDefaults os
     → HasBytes c.image (bad_at c.layout) (code_bytes (bad_code c.layout os))
     → Stands c (bad_at c.layout) (bad_code c.layout os)
-bad_found c os gs h fit bytes =
+bad_found stand c os gs h fit bytes =
     let l = c.layout in
     let low = h.started.low in
     let high = h.started.high in
     let wait = h.started.wait in
     let few = h.few in
     let bad = length-bad l os h.few in
-    let size = length-code (bad_code l os) in
     let a1 = h.apart.outputs in
     let a2 = h.apart.slots in
-    stands_of c (bad_at l) (bad_code l os) (used_bad l os fit (omega arith)) bytes (omega arith) (omega arith)
+    stand c (bad_at l) (bad_code l os) (fits_bad l os fit (omega arith)) bytes (omega arith) (omega arith)
     (omega arith)
 
-check_found : (c : Setting) (os : List Output) (gs : List Segment) → IsWatchedLayout c.layout os gs
+check_found : InstructionsStand → (c : Setting) (os : List Output) (gs : List Segment) → IsWatchedLayout c.layout os gs
     → c.open_to fault_at ≡ false → IsShutAbove c → AreSegments gs
     → HasBytes c.image (check_at c.layout os) (code_bytes (check_code c.layout os gs))
     → HasCheck c (check_at c.layout os) (bad_at c.layout) (check_byte (segment_bytes gs))
     (2 ^ 8 - back_to_bad c.layout os gs) gs
-check_found c os gs h shown above are bytes =
+check_found stand c os gs h shown above are bytes =
     let l = c.layout in
     let low = h.started.low in
     let high = h.started.high in
@@ -263,9 +256,8 @@ check_found c os gs h shown above are bytes =
     let bad = length-bad l os h.few in
     let sum = length-sum gs in
     let all = length-check l os gs in
-    let size = length-code (check_code l os gs) in
     record {
-      code = stands_of c (check_at l os) (check_code l os gs) (used_check l os gs are) bytes (omega arith) (omega arith)
+      code = stand c (check_at l os) (check_code l os gs) (fits_check l os gs are) bytes (omega arith) (omega arith)
           (omega arith);
       segments = are;
       back = omega arith;
@@ -275,11 +267,11 @@ check_found c os gs h shown above are bytes =
       bad_is = omega arith;
     }
 
-pub has_front : FrameCallsAndLeaves → (c : Setting) (os : List Output) (gs : List Segment)
+pub has_front : InstructionsStand → FrameCallsAndLeaves → (c : Setting) (os : List Output) (gs : List Segment)
     → IsWatchedLayout c.layout os gs → c.open_to c.layout.ready ≡ false → c.open_to fault_at ≡ false → IsShutAbove c
     → FitDefaults os → AreSegments gs
     → HasBytes c.image c.layout.code (code_bytes (watched_front_over c.layout os gs)) → HasFront c os gs
-has_front turns c os gs h ready shown above fit are bytes =
+has_front stand turns c os gs h ready shown above fit are bytes =
     let l = c.layout in
     let at = check_at l os in
     let parts = front_bytes c.image l os gs bytes in
@@ -290,7 +282,7 @@ has_front turns c os gs h ready shown above fit are bytes =
       bad = bad_at l;
       to = 2 ^ 8 - back_to_bad l os gs;
       frame = turns (calling c at) ready (called_framed l os gs h) (called_apart l os gs h) parts.frame;
-      check = check_found c os gs h shown above are parts.check;
-      bad_stands = bad_found c os gs h fit parts.bad;
+      check = check_found stand c os gs h shown above are parts.check;
+      bad_stands = bad_found stand c os gs h fit parts.bad;
       behind = omega arith;
     }

@@ -29,7 +29,6 @@ use Rattle.watched_code.specs.Watched.{Change, changed, is_upset, Watched, defau
 use Rattle.watched_code.specs.Watched.{upset_given, restored, IsWatchAnswered, AreWatchAnswered}
 use Rattle.eval_code.specs.Code.{code_bytes}
 use Rattle.eval_code.proofs.Algebra.{SameHigh, bytes_set_out, bytes_after_set, bytes_put_out, has_put, length-put}
-use Rattle.codegen.proofs.Algebra.{given_live, interruptible_of, waits}
 use Rattle.watched_code.proofs.watching.Adding.{IsShutAbove, AreSegments, sum_in, count_in}
 use Rattle.watched_code.proofs.watching.Segments.{Apart, In, Stand, stand_passes, change_fails}
 use Rattle.watched_code.proofs.watching.Defaults.{FitDefaults}
@@ -96,7 +95,7 @@ watches c b gs most change h x = record {
   slots_from = h.slots_from;
   fault_shown = h.fault_shown;
   most_is = h.most_is;
-  front = has_front h.laws.turns (under c (changed change c.image)) b.outputs gs h.layout h.ready_shown h.fault_shown
+  front = has_front h.laws.stand h.laws.turns (under c (changed change c.image)) b.outputs gs h.layout h.ready_shown h.fault_shown
       h.above h.defaults h.are
       (front_stays c.image c.layout.code (code_bytes (watched_front_over c.layout b.outputs gs)) change c gs x
       h.front_end h.front);
@@ -218,7 +217,7 @@ is_given c b gs most before x s h i t home =
     (subst (λ (p : ℕ). HasBytes m p x.bytes) at (has_put s.mem l.samples x.bytes (omega arith))) in
     record {
       live = live_changed c gs x.change (given l x.bytes s) h.size t
-          (given_live c x.bytes s home.live i.fit (omega arith) (omega arith));
+          (h.laws.given c x.bytes s home.live i.fit (omega arith) (omega arith));
       pc_is = home.pc_is;
       sp_is = home.sp_is;
       ready_is = (kept (given l x.bytes s).mem l.ready (1 ∷ []) x.change c gs t (omega arith) one).0;
@@ -299,9 +298,9 @@ answered c b gs most before x s h r =
       ds = r.ds;
       execution = subst (λ (o : ℕ → Bool). Execution (IsInterruptibleStep o c.layout (changed x.change c.image) c.flags)
           r.ds (upset_given c.layout x s) r.t) h.free r.execution;
-      idle = waits c.layout r.t r.home.pc_is r.home.ready_is;
+      idle = h.laws.idle (under c (changed x.change c.image)) r.t r.home.live r.home.pc_is r.home.ready_is;
       interruptible = subst (λ (o : ℕ → Bool). IsInterruptible o (changed x.change c.image) r.t) h.free
-          (interruptible_of (under c (changed x.change c.image)) r.t r.home.live (omega arith) (omega arith));
+          (h.laws.interruptible (under c (changed x.change c.image)) r.t r.home.live (omega arith) (omega arith));
       answers = r.home.outs;
       fault = r.fault_is;
       instructions = r.instructions;

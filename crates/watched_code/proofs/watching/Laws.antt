@@ -1,20 +1,29 @@
 -- What a firmware with watched tables rests on.
 use Rattle.byte_scaling.specs.Cells.{NearestIsByte}
 use Rattle.cpu12_isa.specs.Fits.{StaysFit}
-use Rattle.eval_code.specs.Placed.{BlockHasParts}
+use Rattle.eval_code.specs.Placed.{BlockHasParts, BlockGivesAtParts}
+use Rattle.eval_code.specs.Standing.{DecodesWhereItStands, CodeIsBytes}
 use Rattle.codegen.specs.Answers.{FreeBytesLeave}
 use Rattle.codegen.specs.Calls.{CalledEvalReturns}
 use Rattle.codegen.specs.Frames.{FrameCallsAndLeaves, StartArrives}
-use Rattle.codegen.specs.Settings.{InstructionGoesOn, ReturnGoesOn}
+use Rattle.codegen.specs.Settings.{InstructionsStand, InstructionGoesOn, ReturnGoesOn, LiveIsInterruptible, LiveIsIdle}
+use Rattle.codegen.specs.Settings.{GivenIsLive}
 use Rattle.codegen.specs.Standing.{ImageHasFirmware}
 
 -- the laws of lower crates
 pub record WatchingLaws : Type 0 where
   pub nearest_is_byte : NearestIsByte
   pub stays_fit : StaysFit
+  pub decodes : DecodesWhereItStands
+  pub code_is_bytes : CodeIsBytes
   pub parts : BlockHasParts
+  pub at_parts : BlockGivesAtParts
+  pub stand : InstructionsStand
   pub plain : InstructionGoesOn
   pub returns : ReturnGoesOn
+  pub interruptible : LiveIsInterruptible
+  pub idle : LiveIsIdle
+  pub given : GivenIsLive
   pub called : CalledEvalReturns
   pub arrives : StartArrives
   pub turns : FrameCallsAndLeaves

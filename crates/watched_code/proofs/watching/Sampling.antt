@@ -1,4 +1,5 @@
 -- A sample of a firmware with watched tables, from where the code waits back to there.
+use Rattle.std.proofs.Common.{length-append}
 use Rattle.std.proofs.Common.{◌≡◌, inl, inr, ℕ, ◌+◌, ◌-◌, ◌*◌, ◌/◌, ◌%◌, ◌^◌, ◌<◌, ◌≤◌, true, false, List, [], ◌∷◌}
 use Rattle.std.proofs.Common.{◌++◌, length, set, get_or, sum_by, refl, sym, ap, ap₂, ◌∙◌, subst, arith, length-set}
 use Rattle.std.proofs.Common.{get_or-set_same, get_or-set_other}
@@ -23,13 +24,14 @@ use Rattle.eval_code.specs.Bounds.{output_bound, instruction_bound, steps_by}
 use Rattle.eval_code.specs.Items.{IsApart}
 use Rattle.eval_code.specs.Firing.{AreInputBytes}
 use Rattle.eval_code.specs.Evaluation.{HasBytes, HasAnswers}
-use Rattle.codegen.specs.Interruptible.{IsShownInstruction, IsShownRules, IsInterruptibleStep}
+use Rattle.codegen.specs.Interruptible.{IsShownInstruction, IsShownRules}
 use Rattle.watched_code.specs.WatchedCode.{bad_code, defaults_code, fault_at, segment_bytes}
 use Rattle.watched_code.specs.Checksums.{check_byte}
 use Rattle.watched_code.specs.Watched.{default_of}
-use Rattle.eval_code.proofs.Algebra.{execution_on, length_append, steps_append, bytes_set_out}
-use Rattle.codegen.proofs.Algebra.{Goes, goes_on, goes_one, interruptible_of, pushed_word}
-use Rattle.watched_code.proofs.watching.Adding.{sum_in, count_in, ldab, stab}
+use Rattle.cpu12_parts.proofs.Algebra.{Bounded, bounded_one, bounded_on, execution_on, steps_append}
+use Rattle.eval_code.proofs.Algebra.{bytes_set_out}
+use Rattle.codegen.proofs.Algebra.{pushed_word}
+use Rattle.watched_code.proofs.watching.Adding.{sum_in, count_in, ldab, stab, Step}
 use Rattle.watched_code.proofs.watching.Checking.{HasCheck, Leads, passed, failed}
 use Rattle.watched_code.proofs.watching.Segments.{Apart, sum_below}
 use Rattle.watched_code.proofs.watching.Defaults.{Stored, all_defaulted, defaults_run, default_else, default_there}
@@ -45,6 +47,7 @@ calls_at l at = record l { eval = at }
 abbrev pub calling : Setting → ℕ → Setting
 calling c at = record {
   stays_fit = c.stays_fit;
+  decodes = c.decodes;
   open_to = c.open_to;
   layout = calls_at c.layout at;
   shut = record {
@@ -60,9 +63,6 @@ calling c at = record {
   flags = c.flags;
   fits = c.fits;
 }
-
-abbrev Step : Setting → ℕ → State → State → Type 0
-Step c = IsInterruptibleStep c.open_to c.layout c.image c.flags
 
 as_rules : (c : Setting) (at : ℕ) (i : Instr) (f : Form) (d : ℕ) (p : Rule) (ps : List Rule) (s t : State)
     → IsShownRules c.open_to (calling c at).layout i f c.flags d p ps s t
@@ -182,7 +182,7 @@ eval_called c b gs most at back n bytes before s h inside i k r =
     let e1 : get_or (set s.mem fault_at 0) 0x1FFF 0 ≡ get_or s.mem 0x1FFF 0 =
     get_or-set_other s.mem fault_at 0x1FFF 0 0 (λ q. omega arith) in
     record {
-      interruptible = interruptible_of c r.t r.live (omega (arith, r.pc_is)) (omega (arith, r.pc_is));
+      interruptible = h.laws.interruptible c r.t r.live (omega (arith, r.pc_is)) (omega (arith, r.pc_is));
       pc = r.pc_is;
       sp = r.sp_is ∙ k.sp_is;
       back_is = ap (λ (m : List ℕ). get_or m 0x1FFE 0 * 2 ^ 8 + get_or m 0x1FFF 0) r.mem_is
@@ -211,14 +211,14 @@ evaluated_by c b gs most back bytes before s h size r e =
     record {
       t = e.t;
       ds = ds;
-      execution = execution_on (Step c) r.goes.ds e.ds s r.t e.t r.goes.way e.execution;
+      execution = execution_on (Step c) r.goes.ds e.ds s r.t e.t r.goes.execution e.execution;
       live = e.live;
       pc_is = e.pc_is;
       sp_is = e.sp_is;
       answers_are = e.answers;
       fault_is = e.elsewhere fault_at (inr a1) (inl a2) ∙ ap (λ (m : List ℕ). get_or m fault_at 0) r.mem_is
           ∙ get_or-set_same s.mem fault_at 0 0 (omega arith);
-      instructions = omega (arith, length_append r.goes.ds e.ds, r.goes.count, e.instructions);
+      instructions = omega (arith, length-append r.goes.ds e.ds, r.goes.count, e.instructions);
       steps = omega (arith, steps_append r.goes.ds e.ds, r.goes.parts, e.steps);
     }
 
@@ -249,7 +249,7 @@ marked go c s bad rest shown l ep h =
     let k = stab go c u (bad + 2) fault_at n.live n.pc_is h.1.0 (omega arith) shown in
     record {
       t = v;
-      goes = goes_on c 1 0 1 0 s u v (goes_one c s u (bad + 2) n) (goes_one c u v (bad + 2 + 3) k);
+      goes = bounded_on (Step c) 1 0 1 0 s u v (bounded_one (Step c) 0 s u n.step) (bounded_one (Step c) 0 u v k.step);
       live =
           k.live;
       at = bad + 2 + 3;
@@ -302,17 +302,17 @@ defaulted_by c b gs most at back bytes before s h k bad r m d =
     ap₂ (λ (x y : ℕ). x * 2 ^ 8 + y) (far 0x1FFE (omega arith)) (far 0x1FFF (omega arith)) ∙ k.back_is in
     let n = h.laws.returns c d.t d.at back d.live d.pc_is d.behind.0 sp word in
     let u = after_plain c.flags Rts d.t in
-    let goes : Goes c (3 + count_in gs + (2 + (2 * length os + 1))) 0 s u =
-    goes_on c (3 + count_in gs) 0 (2 + (2 * length os + 1)) 0 s r.t u r.goes
-    (goes_on c 2 0 (2 * length os + 1) 0 r.t m.t u m.goes
-    (goes_on c (2 * length os) 0 1 0 m.t d.t u d.goes (goes_one c d.t u back n))) in
+    let goes : Bounded (Step c) (3 + count_in gs + (2 + (2 * length os + 1))) 0 s u =
+    bounded_on (Step c) (3 + count_in gs) 0 (2 + (2 * length os + 1)) 0 s r.t u r.goes
+    (bounded_on (Step c) 2 0 (2 * length os + 1) 0 r.t m.t u m.goes
+    (bounded_on (Step c) (2 * length os) 0 1 0 m.t d.t u d.goes (bounded_one (Step c) 0 d.t u n.step))) in
     let total = h.most_is in
     let least = bound_some b h.valid in
     let steps = steps_least b most in
     record {
       t = u;
       ds = goes.ds;
-      execution = goes.way;
+      execution = goes.execution;
       live = n.live;
       pc_is = n.pc_is;
       sp_is = (let q : (d.t.regs.sp + 2) % 2 ^ 16 ≡ 0x2000 = omega arith in q);
@@ -418,7 +418,7 @@ returned c b gs most answers fault s h r e f =
       fault_is = ap (λ (x : List ℕ). get_or x fault_at 0) mem
           ∙ get_or-set_other e.t.mem c.layout.ready fault_at 0 0 (λ q. omega arith) ∙ e.fault_is;
       instructions = omega
-          (arith, length_append r.ds ds, length_append e.ds f.ds, r.instructions, e.instructions, f.instructions);
+          (arith, length-append r.ds ds, length-append e.ds f.ds, r.instructions, e.instructions, f.instructions);
       steps = omega (arith, steps_append r.ds ds, steps_append e.ds f.ds, r.steps, e.steps, f.steps);
     }
 
