@@ -31,7 +31,7 @@ use Rattle.codegen.specs.Images.{vector_items, firmware_items}
 use Rattle.eval_code.specs.Evaluation.{HasAnswers, Reads, Writes}
 use Rattle.codegen.specs.Answers.{LeavesLayout, FirmwareAnswersBeside, FirmwareArrivesAlike}
 use Rattle.eval_code.specs.Placed.{BlockStaysInside, GivesBehind, GiveBytes, BlockGivesBytes}
-use Rattle.eval_code.proofs.Algebra.{memory_fits}
+use Rattle.eval_code.specs.Standing.{ImageIsBytes}
 use Rattle.two_level.specs.declared.two.Two.{Two}
 use Rattle.two_level.specs.Layouts.{fast_front, fast_back, fast_layout, slow_layout, is_fast_ram, is_fast_rom}
 use Rattle.two_level.specs.Layouts.{is_open_to_fast}
@@ -47,6 +47,7 @@ pub record StandingLaws : Type 0 where
   pub behind : GivesBehind
   pub bytes : BlockGivesBytes
   pub holds_image : HoldsImage
+  pub image_is_bytes : ImageIsBytes
   pub answers : FirmwareAnswersBeside
   pub arrives : FirmwareArrivesAlike
 
@@ -212,9 +213,7 @@ two_give laws slow fast h =
 two_bytes : StandingLaws → (slow fast : Block) (two : Two) → AreSound slow fast → IsTwoOf slow fast two
     → AreBytes (image_memory two.image.bytes)
 two_bytes laws slow fast two h is =
-    memory_fits (two_items slow fast) (image_memory two.image.bytes) (two_give laws slow fast h)
-    (laws.holds_image two.image.bytes).0
-    (λ at lt. byte_in laws.holds_image slow fast two at is lt)
+    (laws.image_is_bytes two.image.bytes (two_items slow fast) is.image.bytes (two_give laws slow fast h)).1
 
 -- an interrupt enters the fast code
 vector_byte : StandingLaws → (slow fast : Block) (two : Two) (at : ℕ) → AreSound slow fast → IsTwoOf slow fast two

@@ -8,7 +8,7 @@ use codegen::laws::{firmware_answers_beside, firmware_arrives_alike, items_are_o
 use cpu12_emul::laws::holds_image;
 use cpu12_isa::decode::decodes_encoded;
 use cpu12_isa::laws::{stays_fit, writes_stay};
-use eval_code::laws::{blocks_are_placed, eval_answers};
+use eval_code::laws::{blocks_are_placed, eval_answers, placed_items_stand};
 
 /// Wherever an interrupt enters the fast code it leads to its return with its block's answers, within its
 /// bounds, touches what is the fast block's alone, and leaves X.
@@ -30,6 +30,7 @@ pub fn two_stand_beside()
     blocks_are_placed();
     decodes_encoded();
     holds_image();
+    placed_items_stand();
     firmware_answers_beside();
     firmware_arrives_alike();
 }

@@ -12,6 +12,7 @@ returns c = two_stand_beside (record {
   behind = c.blocks_are_placed.ensures.behind;
   bytes = c.blocks_are_placed.ensures.bytes;
   holds_image = c.holds_image.ensures;
+  image_is_bytes = c.placed_items_stand.ensures.fits;
   answers = c.firmware_answers_beside.ensures;
   arrives = c.firmware_arrives_alike.ensures;
 })
