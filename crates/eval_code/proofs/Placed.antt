@@ -1,5 +1,5 @@
 -- A block's items at the addresses of any layout.
-use Rattle.std.proofs.Common.{◌≡◌, ⊎_elim, ℕ, ◌+◌, ◌^◌, ◌<◌, ◌≤◌, List, [], ◌∷◌, ◌++◌, map, length, None, sym, ap, ◌∙◌}
+use Rattle.std.proofs.Common.{◌≡◌, ⊎_elim, ℕ, ◌+◌, ◌^◌, ◌<◌, ◌≤◌, List, [], ◌∷◌, ◌++◌, map, length, None, ap, ◌∙◌}
 use Rattle.std.proofs.Common.{subst, arith, append-nil}
 use Rattle.std.proofs.lemmas.List.Elements.{All-nil, All-cons}
 use Rattle.byte_scaling.specs.Cells.{NearestIsByte}
@@ -23,17 +23,12 @@ use Rattle.eval_code.specs.Placed.{IsInOrder, BlockRises, BlockIsShort, BlockSta
 use Rattle.eval_code.specs.Placed.{BlockGivesBytes, HasPlaces, BlockStands}
 use Rattle.eval_code.proofs.Placement.{HasSizes, IsSpaced, HasPartSizes, part_sizes, block_rises, length-block_items}
 use Rattle.eval_code.proofs.steps.Memory.{same_bytes}
-use Rattle.eval_code.proofs.phases.Law.{length-code}
 use Rattle.eval_code.proofs.phases.RuleFacts.{BlockFacts, block_facts}
 use Rattle.eval_code.proofs.phases.RuleMemory.{Below, below_all}
-use Rattle.eval_code.proofs.phases.Operands.{sizes_is}
-use Rattle.eval_code.proofs.Sizes.{code_size, code_size-append}
+use Rattle.eval_code.proofs.Sizes.{code_size-append, length-code_bytes}
 use Rattle.eval_code.proofs.placing.Standing.{Rises, given_append, image_given, none_below, none_behind}
 use Rattle.eval_code.proofs.placing.GivenBytes.{ItemsFit, block_fits_between, PairsFit, given_fit}
 use Rattle.eval_code.proofs.placing.Founding.{Stood, stood, around_eval}
-
-pub sized : (code : List Instr) → code_size code ≡ length (code_bytes code)
-sized code = sym (length-code code ∙ sizes_is code)
 
 sizes_of : (b : Block) → BlockFacts b → IsWithinLimits b → HasSizes b
 sizes_of b facts h =
@@ -55,7 +50,7 @@ pub rises_between : LayoutLaw → BlockRises
 rises_between law at l b w before behind rest o v limits low r =
     let h = parts law l b w before behind v limits in
     let spaced : IsSpaced l = record { tables = o.tables; singletons = o.singletons; weights = o.weights } in
-    block_rises at l b w before behind rest spaced h low (omega (arith, o.eval, o.code, sized before, sized behind))
+    block_rises at l b w before behind rest spaced h low (omega (arith, o.eval, o.code, length-code_bytes before, length-code_bytes behind))
     (falls (l.rules + length (rule_bytes l.slots b)) (l.rules + 9984) rest (omega (arith, h.rules)) r)
 
 pub is_short : LayoutLaw → BlockIsShort
@@ -63,8 +58,8 @@ is_short law l b w before behind v limits =
     omega (
       arith,
       length-block_items l b w before behind (parts law l b w before behind v limits),
-      sized before,
-      sized behind,
+      length-code_bytes before,
+      length-code_bytes behind,
     )
 
 -- no byte below the code
@@ -130,7 +125,7 @@ there l b w before behind image mem o size same h =
     let m = image_memory image in
     let code = code_bytes (block_code l b w before behind) in
     let few : l.code + length code ≤ l.tables =
-    omega (arith, o.eval, o.code, size.code, sized (block_code l b w before behind), sized before, sized behind) in
+    omega (arith, o.eval, o.code, size.code, length-code_bytes (block_code l b w before behind), length-code_bytes before, length-code_bytes behind) in
     let t = o.tables in
     let s = o.singletons in
     let x = o.weights in
@@ -153,7 +148,7 @@ stands_between law rises holds image mem front rest l b w before behind o v limi
     let items = front ++ (block_items l b w before behind ++ rest) in
     let given = image_given holds image (given_by items) h in
     let size = parts law l b w before behind v limits in
-    let at = o.eval ∙ ap (λ n. l.code + n) (length-code before) in
+    let at = o.eval ∙ ap (λ n. l.code + n) (length-code_bytes before) in
     let in_image = stood rises (image_memory image) front rest l b w before behind given rise in
     let around = around_eval mem l b w before behind at (there l b w before behind image mem o size same in_image) in
     let eval = eval_code l b w in
@@ -166,6 +161,6 @@ stands_between law rises holds image mem front rest l b w before behind o v limi
         size.code,
         code_size-append before (eval ++ behind),
         code_size-append eval behind,
-        sized eval,
+        length-code_bytes eval,
       );
     }

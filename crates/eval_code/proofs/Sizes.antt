@@ -26,7 +26,7 @@ use Rattle.eval_code.specs.declared.width.Width.{Width}
 use Rattle.eval_code.specs.declared.width.Width.TheVariants.{Byte, Word}
 use Rattle.eval_code.specs.Widths.{places}
 use Rattle.eval_code.specs.Code.{fuzzify_code, slot_code, slots_code, rules_code, quotient_code, output_code}
-use Rattle.eval_code.specs.Code.{outputs_code, input_slots, eval_code_over}
+use Rattle.eval_code.specs.Code.{outputs_code, input_slots, eval_code_over, code_bytes}
 
 -- the bytes of instructions
 abbrev pub code_size : List Instr → ℕ
@@ -36,6 +36,10 @@ code_size (i ∷ is) = length (encode_of i) + code_size is
 pub code_size-append : (xs ys : List Instr) → code_size (xs ++ ys) ≡ code_size xs + code_size ys
 code_size-append [] ys = omega arith
 code_size-append (x ∷ xs) ys = omega (arith, code_size-append xs ys)
+
+pub length-code_bytes : (code : List Instr) → length (code_bytes code) ≡ code_size code
+length-code_bytes [] = refl
+length-code_bytes (i ∷ is) = omega (arith, length-append (encode_of i) (code_bytes is), length-code_bytes is)
 
 encoding_has_bytes : (i : Instr) → 1 ≤ length (encode_of i)
 encoding_has_bytes (LdaaImmediate v) = omega arith

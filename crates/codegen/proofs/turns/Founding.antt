@@ -15,9 +15,9 @@ use Rattle.eval_code.specs.Evaluation.{HasBytes}
 use Rattle.eval_code.specs.Placed.{IsInOrder, BlockRises, BlockIsShort}
 use Rattle.codegen.specs.Mailboxes.{mailbox_layout, copy_code, call_code, mailbox_code, mailbox_items}
 use Rattle.eval_code.specs.Code.{code_bytes, FitCode}
-use Rattle.eval_code.proofs.Algebra.{length-code, code_size, code_size-append, sizes, sizes_append}
+use Rattle.eval_code.proofs.Algebra.{length-code_bytes, code_size, code_size-append}
 use Rattle.eval_code.proofs.Algebra.{fit_append, bytes_front}
-use Rattle.eval_code.proofs.Algebra.{bytes_back, sizes_is}
+use Rattle.eval_code.proofs.Algebra.{bytes_back}
 use Rattle.codegen.proofs.runs.Stepping.{stands_of}
 use Rattle.codegen.proofs.runs.Placing.{whole_rises, whole_is_short}
 use Rattle.codegen.proofs.turns.Posting.{Post, HasTurn, free_ctx, post_ctx}
@@ -52,9 +52,6 @@ code_size-mailbox n =
       code_size-copy 0x1020 0x1001 n,
     )
 
-pub sizes-mailbox : (n : ℕ) → sizes (mailbox_code (mailbox_layout n) n) ≡ 26 + 6 * n
-sizes-mailbox n = sizes_is (mailbox_code (mailbox_layout n) n) ∙ code_size-mailbox n
-
 -- the layout
 pub mailbox_apart : (n : ℕ) → n ≤ 8 → IsApart (mailbox_layout n)
 mailbox_apart n few = record {
@@ -82,7 +79,7 @@ mailbox_inside n few = record { from = omega arith; to = omega arith }
 
 pub mailbox_in_order : (n : ℕ) → n ≤ 8 → IsInOrder (mailbox_layout n) (mailbox_code (mailbox_layout n) n) (Rts ∷ [])
 mailbox_in_order n few =
-    let size = length-code (mailbox_code (mailbox_layout n) n) ∙ sizes-mailbox n in
+    let size = length-code_bytes (mailbox_code (mailbox_layout n) n) ∙ code_size-mailbox n in
     record {
       eval = omega arith;
       code = omega arith;
@@ -106,7 +103,7 @@ length-mailbox_items short b w v limits =
     let n = length b.inputs in
     let l = mailbox_layout n in
     let few = v.few_inputs in
-    let size = length-code (mailbox_code l n) ∙ sizes-mailbox n in
+    let size = length-code_bytes (mailbox_code l n) ∙ code_size-mailbox n in
     whole_is_short short l b w (mailbox_code l n) (Rts ∷ []) v limits (omega arith)
 
 -- the operands fit
@@ -151,9 +148,8 @@ has_turn p h =
     let size : length (code_bytes (turn_code p.n)) ≡ 15 + 6 * p.n =
     omega (
       arith,
-      length-code (copy_code 0x1020 0x1001 p.n ++ call_code (mailbox_layout p.n) p.n),
-      sizes_append (copy_code 0x1020 0x1001 p.n) (call_code (mailbox_layout p.n) p.n),
-      sizes_is (copy_code 0x1020 0x1001 p.n),
+      length-code_bytes (copy_code 0x1020 0x1001 p.n ++ call_code (mailbox_layout p.n) p.n),
+      code_size-append (copy_code 0x1020 0x1001 p.n) (call_code (mailbox_layout p.n) p.n),
       code_size-copy 0x1020 0x1001 p.n,
     ) in
     record {
@@ -164,7 +160,7 @@ has_turn p h =
     }
 
 -- the call and the way back
-stands_back : (c : Setting) (p : ℕ) (xs ys : List Instr) → Stands c p (xs ++ ys) → Stands c (p + sizes xs) ys
+stands_back : (c : Setting) (p : ℕ) (xs ys : List Instr) → Stands c p (xs ++ ys) → Stands c (p + code_size xs) ys
 stands_back c p [] ys h = subst (λ (q : ℕ). Stands c q ys) (omega arith) h
 stands_back c p (x ∷ xs) ys h =
     subst (λ (q : ℕ). Stands c q ys) (omega arith) (stands_back c (p + length (encode_of x)) xs ys h.1)
@@ -181,13 +177,12 @@ pub record HasCall (p : Post) : Type 0 where
 
 pub has_call : (p : Post) → HasTurn p → HasCall p
 has_call p h =
-    let size : sizes (copy_code 0x1020 0x1001 p.n) ≡ 6 * p.n = sizes_is (copy_code 0x1020 0x1001 p.n)
-    ∙ code_size-copy 0x1020 0x1001 p.n in
+    let size = code_size-copy 0x1020 0x1001 p.n in
     let k = stands_back (free_ctx p) 0xC00F (copy_code 0x1020 0x1001 p.n) (call_code (mailbox_layout p.n) p.n)
     h.rest.1.1 in
     record {
-      call = here_too p (0xC00F + sizes (copy_code 0x1020 0x1001 p.n) + 3 + 2) (0xC014 + 6 * p.n)
+      call = here_too p (0xC00F + code_size (copy_code 0x1020 0x1001 p.n) + 3 + 2) (0xC014 + 6 * p.n)
           (JsrExtended (0xC01A + 6 * p.n)) (omega arith) k.1.1.0;
-      back = here_too p (0xC00F + sizes (copy_code 0x1020 0x1001 p.n) + 3 + 2 + 3) (0xC017 + 6 * p.n)
+      back = here_too p (0xC00F + code_size (copy_code 0x1020 0x1001 p.n) + 3 + 2 + 3) (0xC017 + 6 * p.n)
           (Bra (239 - 6 * p.n)) (omega arith) k.1.1.1.0;
     }

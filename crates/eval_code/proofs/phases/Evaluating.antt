@@ -35,7 +35,7 @@ use Rattle.eval_code.proofs.phases.Quotients.{output_most, output_parts}
 use Rattle.eval_code.specs.Data.{table_bytes, singleton_bytes, weight_bytes, weight_bytes_by, rule_bytes, rule_bytes_by}
 use Rattle.eval_code.proofs.Joins.{sum_by-term_count}
 use Rattle.eval_code.proofs.Lists.{length-marked}
-use Rattle.eval_code.proofs.steps.Decoding.{sizes, sizes_append}
+use Rattle.eval_code.proofs.Sizes.{code_size, code_size-append}
 use Rattle.eval_code.proofs.phases.Fuzzify.{grades, length-grades, fuzzify_run}
 use Rattle.eval_code.proofs.phases.Filling.{fill_count, slots_run}
 use Rattle.eval_code.proofs.phases.Ruling.{AreFull, address, AtRules, rev_run, revw_run}
@@ -115,9 +115,9 @@ pub record Evals (c : Ctx) (l : Layout) (b : Block) (w : Width) (bytes bs : List
 -- code and what stands behind it
 behind : (c : Ctx) (code rest : List Instr) (n k m j : ℕ) (s : State) (p : ℕ) (t : State) (mem : List ℕ)
     → Goes c n k s t → t.regs.sp ≡ s.regs.sp
-    → Reaches c m j t (p + sizes code + sizes rest) mem → Reaches c (n + m) (k + j) s (p + sizes (code ++ rest)) mem
+    → Reaches c m j t (p + code_size code + code_size rest) mem → Reaches c (n + m) (k + j) s (p + code_size (code ++ rest)) mem
 behind c code rest n k m j s p t mem g es r =
-    let e = sizes_append code rest in
+    let e = code_size-append code rest in
     reaches_at c _ _ _ _ s _ _ _ _ (omega arith) (omega arith) (omega arith) refl
     (reaches_after c n k m j s t _ mem g es r)
 
@@ -129,7 +129,7 @@ outputs_on : (c : Ctx) (b : Block) (w : Width) (bytes bs m : List ℕ) (s : Stat
     → Live c s → s.regs.pc ≡ p
     → Stands c p (outputs_part c.layout b w) → length m ≡ 65536 → s.mem ≡ put m c.layout.slots (slots_after b bytes)
     → HasBytes m c.layout.outputs (all_bytes w bs)
-    → Reaches c (sum_by (output_most w) b.outputs) (output_parts b.outputs) s (p + sizes (outputs_part c.layout b w))
+    → Reaches c (sum_by (output_most w) b.outputs) (output_parts b.outputs) s (p + code_size (outputs_part c.layout b w))
     (evaluated c.layout b w bytes bs m)
 outputs_on c b w bytes bs m s p h live ep st lm em hb =
     let l = c.layout in
@@ -181,7 +181,7 @@ record RulesHere (c : Ctx) (m ss : List ℕ) (f : Form) (s : State) (p : ℕ) (c
 rules_at : (c : Ctx) (m ss : List ℕ) (f : Form) (s : State) (p : ℕ) (k : Conjunction) (ks : List Conjunction) (w : ℕ)
     (vs : List ℕ) → length vs ≡ length ks
     → RulesHere c m ss f s p (k ∷ ks) (w ∷ vs)
-    → Reaches c (5 + form_bound f) (sum_by entry_count (k ∷ ks) - 1) s (p + sizes (rules_code c.layout f))
+    → Reaches c (5 + form_bound f) (sum_by entry_count (k ∷ ks) - 1) s (p + code_size (rules_code c.layout f))
     (put m c.layout.slots (fired ss (k ∷ ks) (w ∷ vs)))
 rules_at c m ss form.Rev s p k ks w vs e h =
     let plain = h.plain refl in
@@ -201,7 +201,7 @@ rules_at c m ss form.Revw s p k ks w vs e h =
 abbrev RulesRun : Ctx → List ℕ → List ℕ → Form → State → ℕ → List Conjunction → List ℕ → Type 0
 RulesRun c m ss f s p cs ws =
     RulesHere c m ss f s p cs ws
-    → Reaches c (5 + form_bound f) (sum_by entry_count cs - 1) s (p + sizes (rules_code c.layout f))
+    → Reaches c (5 + form_bound f) (sum_by entry_count cs - 1) s (p + code_size (rules_code c.layout f))
     (put m c.layout.slots (fired ss cs ws))
 
 rules_run : (c : Ctx) (m ss : List ℕ) (f : Form) (s : State) (p : ℕ) (cs : List Conjunction) (ws : List ℕ)
@@ -243,7 +243,7 @@ rules_on : (c : Ctx) (b : Block) (w : Width) (bytes bs m : List ℕ) (s : State)
     → Stands c p (rules_part c.layout b w) → length m ≡ 65536 → s.mem ≡ put m c.layout.slots (slots_before b bytes)
     → HasBytes m c.layout.outputs (all_bytes w bs)
     → Reaches c (5 + form_bound (form_of b) + sum_by (output_most w) b.outputs)
-    (element_count b - 1 + output_parts b.outputs) s (p + sizes (rules_part c.layout b w))
+    (element_count b - 1 + output_parts b.outputs) s (p + code_size (rules_part c.layout b w))
     (evaluated c.layout b w bytes bs m)
 rules_on c b w bytes bs m s p h live ep st lm em hb =
     let code = rules_code c.layout (form_of b) in
@@ -251,7 +251,7 @@ rules_on c b w bytes bs m s p h live ep st lm em hb =
     let r =
     rules_run c m (slots_before b bytes) (form_of b) s p (conjunctions_of b) (weights_of b) (has_rules b h.facts)
     (rules_here c b w bytes bs m s p h live ep (stands_front c p code rest st) lm em) in
-    let q = outputs_on c b w bytes bs m r.t (p + sizes code) h r.live r.pc_is
+    let q = outputs_on c b w bytes bs m r.t (p + code_size code) h r.live r.pc_is
     (stands_back c p code rest st) lm r.mem_is hb in
     behind c code rest (5 + form_bound (form_of b)) (element_count b - 1) (sum_by (output_most w) b.outputs)
     (output_parts b.outputs) s p r.t (evaluated c.layout b w bytes bs m) r.goes r.sp_is q
@@ -262,7 +262,7 @@ fill_run : (c : Ctx) (b : Block) (w : Width) (bytes bs m : List ℕ) (s : State)
     → Stands c p (slots_code c.layout.slots b.inputs c.layout.slots (slots_of b)) → length m ≡ 65536
     → s.mem ≡ put m c.layout.slots (grades bytes b.inputs)
     → Reaches c (3 * complement_count b + output_term_count b) 0 s
-    (p + sizes (slots_code c.layout.slots b.inputs c.layout.slots (slots_of b)))
+    (p + code_size (slots_code c.layout.slots b.inputs c.layout.slots (slots_of b)))
     (put m c.layout.slots (slots_before b bytes))
 fill_run c b w bytes bs m s p h live ep st lm em =
     let gs = grades bytes b.inputs in
@@ -285,7 +285,7 @@ fill_run c b w bytes bs m s p h live ep st lm em =
     live ep (subst (Stands c p) code st) (further_fill b bytes h.input.count) at
     (em ∙ ap (put m c.layout.slots) (sym (append-nil gs))) lm refl (omega arith) in
     reaches_at c (fill_count (further_slots b)) 0 _ _ s _ _ _ _ (omega (arith, count_further b)) (omega arith)
-    (ap (λ k. p + sizes k) (sym code)) (ap (put m c.layout.slots) (sym (before_are b bytes h.input.count))) r
+    (ap (λ k. p + code_size k) (sym code)) (ap (put m c.layout.slots) (sym (before_are b bytes h.input.count))) r
 
 abbrev slots_part : Layout → Block → Width → List Instr
 slots_part l b w = slots_code l.slots b.inputs l.slots (slots_of b) ++ rules_part l b w
@@ -296,13 +296,13 @@ slots_on : (c : Ctx) (b : Block) (w : Width) (bytes bs m : List ℕ) (s : State)
     → HasBytes m c.layout.outputs (all_bytes w bs)
     → Reaches c (3 * complement_count b + output_term_count
     b + (5 + form_bound (form_of b) + sum_by (output_most w) b.outputs))
-    (0 + (element_count b - 1 + output_parts b.outputs)) s (p + sizes (slots_part c.layout b w))
+    (0 + (element_count b - 1 + output_parts b.outputs)) s (p + code_size (slots_part c.layout b w))
     (evaluated c.layout b w bytes bs m)
 slots_on c b w bytes bs m s p h live ep st lm em hb =
     let code = slots_code c.layout.slots b.inputs c.layout.slots (slots_of b) in
     let rest = rules_part c.layout b w in
     let r = fill_run c b w bytes bs m s p h live ep (stands_front c p code rest st) lm em in
-    let q = rules_on c b w bytes bs m r.t (p + sizes code) h r.live r.pc_is
+    let q = rules_on c b w bytes bs m r.t (p + code_size code) h r.live r.pc_is
     (stands_back c p code rest st) lm r.mem_is hb in
     behind c code rest (3 * complement_count b + output_term_count b) 0
     (5 + form_bound (form_of b) + sum_by (output_most w) b.outputs) (element_count b - 1 + output_parts b.outputs) s
@@ -320,7 +320,7 @@ inputs_on : (c : Ctx) (b : Block) (w : Width) (bytes bs : List ℕ) (s : State) 
     → Reaches c (length b.inputs + input_term_count
     b + (3 * complement_count b + output_term_count
     b + (5 + form_bound (form_of b) + sum_by (output_most w) b.outputs)))
-    (0 + (0 + (element_count b - 1 + output_parts b.outputs))) s (p + sizes (inputs_part c.layout b w))
+    (0 + (0 + (element_count b - 1 + output_parts b.outputs))) s (p + code_size (inputs_part c.layout b w))
     (evaluated c.layout b w bytes bs s.mem)
 inputs_on c b w bytes bs s p h live ep ex ey st hi hb =
     let code = fuzzify_code c.layout.inputs b.inputs in
@@ -330,7 +330,7 @@ inputs_on c b w bytes bs s p h live ep ex ey st hi hb =
     fuzzify_run c b.inputs bytes c.layout.inputs s p c.layout.tables c.layout.slots live ep
     (stands_front c p code rest st) ex ey h.input.count hi h.rom.tables (omega arith) (omega arith) (omega arith)
     (omega (arith, h.input.count, h.valid.few_inputs)) (omega arith) (omega arith) in
-    let q = slots_on c b w bytes bs s.mem r.t (p + sizes code) h r.live r.pc_is (stands_back c p code rest st) live.size
+    let q = slots_on c b w bytes bs s.mem r.t (p + code_size code) h r.live r.pc_is (stands_back c p code rest st) live.size
     r.mem_is hb in
     behind c code rest (length b.inputs + input_term_count b) 0 _ _ s p r.t (evaluated c.layout b w bytes bs s.mem)
     r.goes r.sp_is q
@@ -348,7 +348,7 @@ eval_parts b = element_count b - 1 + output_parts b.outputs
 pub eval_run : (c : Ctx) (b : Block) (w : Width) (bytes bs : List ℕ) (s : State) → Evals c c.layout b w bytes bs
     → Live c s → s.regs.pc ≡ c.layout.eval
     → HasBytes s.mem c.layout.inputs bytes → HasBytes s.mem c.layout.outputs (all_bytes w bs)
-    → Reaches c (eval_most w b) (eval_parts b) s (c.layout.eval + sizes (eval_code c.layout b w))
+    → Reaches c (eval_most w b) (eval_parts b) s (c.layout.eval + code_size (eval_code c.layout b w))
     (evaluated c.layout b w bytes bs s.mem)
 eval_run c b w bytes bs s h live ep hi hb =
     let st = h.rom.code in

@@ -14,7 +14,7 @@ use Rattle.cpu12_parts.specs.Whole.{after_plain}
 use Rattle.eval_code.specs.Firing.{slot_before}
 use Rattle.eval_code.specs.Evaluation.{put}
 use Rattle.eval_code.proofs.steps.Memory.{at_put_in, put_end}
-use Rattle.eval_code.proofs.steps.Decoding.{sizes}
+use Rattle.eval_code.proofs.Sizes.{code_size}
 use Rattle.eval_code.proofs.steps.Stepping.{Ctx, Live, Stands, goes_one, goes_on, Reaches, reaches_none, reaches_after}
 use Rattle.eval_code.proofs.steps.Stepping.{reaches_at}
 use Rattle.eval_code.proofs.steps.Instructions.{ldaa, staa, clr, coma}
@@ -57,7 +57,7 @@ pub slots_run : (c : Ctx) (b : Block) (bytes : List ℕ) (inputs : List Input) (
     (done : List ℕ) (s : State) (p at : ℕ) → Live c s → s.regs.pc ≡ p → Stands c p (slots_code base inputs at ss)
     → AllCanFill b bytes inputs gs ss → at ≡ base + length (gs ++ done) → s.mem ≡ put m base (gs ++ done)
     → length m ≡ 65536 → base ≡ c.layout.slots → at + length ss ≤ c.layout.slots + 300
-    → Reaches c (fill_count ss) 0 s (p + sizes (slots_code base inputs at ss))
+    → Reaches c (fill_count ss) 0 s (p + code_size (slots_code base inputs at ss))
     (put m base (gs ++ (done ++ map (slot_before b bytes) ss)))
 slots_run c b bytes inputs gs m base [] done s p at l ep st can ea em lm eb le =
     reaches_none c s _ _ l (omega arith) (em ∙ ap (λ k. put m base (gs ++ k)) (sym (append-nil done)))

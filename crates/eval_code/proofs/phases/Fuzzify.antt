@@ -9,7 +9,7 @@ use Rattle.fuzzy_meaning.specs.declared.block.Trapezoid.{Trapezoid}
 use Rattle.point_slope.specs.Tables.{row_of, rows_of, grade_of}
 use Rattle.rule_layout.specs.Slots.{term_count}
 use Rattle.cpu12_isa.specs.declared.instr.Instr.TheVariants.{Mem, LdaaExtended}
-use Rattle.eval_code.proofs.steps.Decoding.{sizes, sizes_append}
+use Rattle.eval_code.proofs.Sizes.{code_size, code_size-append}
 use Rattle.cpu12_parts.specs.State.{State}
 use Rattle.cpu12_parts.specs.Whole.{after_plain}
 use Rattle.eval_code.specs.Code.{fuzzify_code}
@@ -26,7 +26,7 @@ pub length-row_bytes : (i : Input) (ts : List Trapezoid) → length (row_bytes i
 length-row_bytes i [] = refl
 length-row_bytes i (t ∷ ts) = omega (arith, length-row_bytes i ts)
 
-pub sizes_mems : (n : ℕ) → sizes (replicate n Mem) ≡ n
+pub sizes_mems : (n : ℕ) → code_size (replicate n Mem) ≡ n
 sizes_mems zero = refl
 sizes_mems (suc n) = omega (arith, sizes_mems n)
 
@@ -122,7 +122,7 @@ pub fuzzify_run : (c : Ctx) (is : List Input) (vs : List ℕ) (at : ℕ) (s : St
     → HasBytes c.image x (input_rows is) → c.layout.tables ≤ x → x + 4 * sum_by term_count is ≤ c.layout.tables + 480
     → c.layout.inputs ≤ at → at + length vs ≤ c.layout.inputs + 8 → c.layout.slots ≤ y
     → y + sum_by term_count is ≤ c.layout.slots + 300
-    → Graded c (length is + sum_by term_count is) s (p + sizes (fuzzify_code at is)) (x + 4 * sum_by term_count is)
+    → Graded c (length is + sum_by term_count is) s (p + code_size (fuzzify_code at is)) (x + 4 * sum_by term_count is)
     (y + sum_by term_count is) (put s.mem y (grades vs is))
 fuzzify_run c [] vs at s p x y l ep st ex ey el hv hb lo hi a0 a1 b0 b1 =
     record {
@@ -162,10 +162,10 @@ fuzzify_run c (i ∷ is) (v ∷ vs) at s p x y l ep st ex ey el hv hb lo hi a0 a
         → Stands c (p + 3 + length i.terms) (fuzzify_code (at + 1) is) → u.regs.x ≡ x + 4 * length i.terms
         → u.regs.y ≡ y + length i.terms → HasBytes u.mem (at + 1) vs
         → HasBytes c.image (x + 4 * length i.terms) (input_rows is)
-        → Graded c (length is + sum_by term_count is) u (p + 3 + length i.terms + sizes (fuzzify_code (at + 1) is))
+        → Graded c (length is + sum_by term_count is) u (p + 3 + length i.terms + code_size (fuzzify_code (at + 1) is))
         (x + 4 * length i.terms + 4 * sum_by term_count is) (y + length i.terms + sum_by term_count is)
         (put u.mem (y + length i.terms) (grades vs is)))
-        → Graded c (length (i ∷ is) + sum_by term_count (i ∷ is)) s (p + sizes (fuzzify_code at (i ∷ is)))
+        → Graded c (length (i ∷ is) + sum_by term_count (i ∷ is)) s (p + code_size (fuzzify_code at (i ∷ is)))
         (x + 4 * sum_by term_count (i ∷ is)) (y + sum_by term_count (i ∷ is))
         (put s.mem y (grades (v ∷ vs) (i ∷ is)))
     then_rest n1 r go =
@@ -180,7 +180,7 @@ fuzzify_run c (i ∷ is) (v ∷ vs) at s p x y l ep st ex ey el hv hb lo hi a0 a
         let lg : length g ≡ n = length-map i.terms (λ t. grade_of (row_of i t) v) in
         let lr = length-row_bytes i i.terms in
         let sm = sizes_mems n in
-        let sa = sizes_append (replicate n Mem) rest in
+        let sa = code_size-append (replicate n Mem) rest in
         let eu : u.mem ≡ put s.mem y g =
         r.mem_is ∙ ap (λ k. put s.mem y (map (λ t. grade_of (row_of i t) k) i.terms)) hv.0 in
         let hv1 : HasBytes u.mem (at + 1) vs =
@@ -192,8 +192,8 @@ fuzzify_run c (i ∷ is) (v ∷ vs) at s p x y l ep st ex ey el hv hb lo hi a0 a
         let hb1 : HasBytes c.image (x + 4 * n) (input_rows is) =
         subst (λ k. HasBytes c.image k (input_rows is)) exx
         (bytes_back c.image x (row_bytes i i.terms) (input_rows is) hb') in
-        let epp : p + 3 + sizes (replicate n Mem) ≡ p + 3 + n = omega arith in
-        let st1 = stands_at c (p + 3 + sizes (replicate n Mem)) (p + 3 + n) rest epp
+        let epp : p + 3 + code_size (replicate n Mem) ≡ p + 3 + n = omega arith in
+        let st1 = stands_at c (p + 3 + code_size (replicate n Mem)) (p + 3 + n) rest epp
         (stands_back c (p + 3) (replicate n Mem) rest st.1) in
         let q = go u r.live r.pc_is st1 r.x_is r.y_is hv1 hb1 in
         let em : put u.mem (y + n) (grades vs is) ≡ put s.mem y (g ++ grades vs is) =

@@ -1,7 +1,7 @@
 -- EVAL goes to its end over what it owns.
 use Rattle.std.proofs.Common.{◌≡◌, ◌⊎◌, inl, inr, ℕ, suc, ◌+◌, ◌-◌, ◌*◌, ◌<◌, ◌≤◌, List, [], ◌∷◌, length, sum_by, All}
 use Rattle.std.proofs.Common.{Option, Some, None, get_or, refl, sym}
-use Rattle.std.proofs.Common.{ap, ◌∙◌, subst, arith, length-append}
+use Rattle.std.proofs.Common.{ap, ◌∙◌, subst, arith}
 use Rattle.fuzzy_meaning.specs.declared.block.Block.{Block}
 use Rattle.fuzzy_meaning.specs.Blocks.{IsValid, IsValidOutput}
 use Rattle.std.proofs.lemmas.List.Sums.{sum_by-cons}
@@ -26,7 +26,8 @@ use Rattle.eval_code.specs.Masks.{interrupt_masks}
 use Rattle.eval_code.specs.Evaluation.{HasBytes, HasEval, IsAtEval, IsEvaluated, EvalAnswers}
 use Rattle.eval_code.specs.Code.{eval_code}
 use Rattle.eval_code.proofs.steps.Memory.{has_put, at_put_out, length-put, bytes_front, bytes_back}
-use Rattle.eval_code.proofs.steps.Decoding.{sizes, FitCode, code_bytes}
+use Rattle.eval_code.proofs.Sizes.{code_size, length-code_bytes}
+use Rattle.eval_code.proofs.steps.Decoding.{FitCode, code_bytes}
 use Rattle.eval_code.proofs.phases.Quotients.{output_parts, output_most}
 use Rattle.eval_code.proofs.phases.Evaluating.{masses, length-after, HasParts, Evals, evaluated, eval_most, eval_parts}
 use Rattle.eval_code.proofs.phases.Evaluating.{eval_run}
@@ -40,14 +41,10 @@ use Rattle.eval_code.specs.Standing.{DecodesWhereItStands}
 use Rattle.eval_code.proofs.phases.Outputs.{places_few}
 use Rattle.eval_code.proofs.steps.Stepping.{Ctx, Live, Stands, Reaches, between_of}
 
-pub length-code : (is : List Instr) → length (code_bytes is) ≡ sizes is
-length-code [] = refl
-length-code (i ∷ is) = omega (arith, length-append (encode_of i) (code_bytes is), length-code is)
-
 -- code that stands in memory among EVAL's
 stands_of : DecodesWhereItStands → (c : Ctx) (p : ℕ) (is : List Instr) → FitCode is → HasBytes c.image p (code_bytes is)
     → c.layout.eval ≤ p
-    → p + sizes is + 6 ≤ c.layout.eval + 2432
+    → p + code_size is + 6 ≤ c.layout.eval + 2432
     → Stands c p is
 stands_of decodes c p [] u h lo hi = tt
 stands_of decodes c p (i ∷ is) u h lo hi =
@@ -119,7 +116,7 @@ steps_fit w b v facts n h =
 -- where EVAL leads
 gone : RulesGiveMasses → (c : Ctx) (b : Block) (w : Width) (bytes : List ℕ) (before : ℕ → ℕ) (s : State)
     → Evals c c.layout b w bytes (listed before 1 (length b.outputs)) → Live c s
-    → (r : Reaches c (eval_most w b) (eval_parts b) s (c.layout.eval + sizes (eval_code c.layout b w))
+    → (r : Reaches c (eval_most w b) (eval_parts b) s (c.layout.eval + code_size (eval_code c.layout b w))
     (evaluated c.layout b w bytes (listed before 1 (length b.outputs)) s.mem))
     → IsEvaluated c.layout b w c.flags bytes before s r.t
 gone masses_law c b w bytes before s h live r =
@@ -144,7 +141,7 @@ gone masses_law c b w bytes before s h live r =
       ds = r.goes.ds;
       execution = r.goes.execution;
       between = between_of c r.t r.live;
-      pc = r.pc_is ∙ ap (λ n. l.eval + n) (sym (length-code (eval_code l b w)));
+      pc = r.pc_is ∙ ap (λ n. l.eval + n) (sym (length-code_bytes (eval_code l b w)));
       answers = λ o from to.
           (let k : 1 + (o - 1) ≡ o = omega arith in
           let e : get_or qs (o - 1) 0 ≡ answer w b o bytes (before o) =

@@ -1,7 +1,7 @@
 -- The operands of EVAL's code fit.
 use Rattle.std.proofs.Common.{◌≡◌, ℕ, zero, suc, ◌+◌, ◌*◌, ◌^◌, ◌<◌, ◌≤◌, List, [], ◌∷◌, map, length, replicate, sum_by}
 use Rattle.std.proofs.Common.{All, Option, Some, None, option_map}
-use Rattle.std.proofs.Common.{refl, sym, ap, subst, arith, length-append}
+use Rattle.std.proofs.Common.{sym, ap, subst, arith, length-append}
 use Rattle.std.specs.Prelude.{IfSome}
 use Rattle.std.proofs.lemmas.List.{length-map, length-replicate}
 use Rattle.std.proofs.lemmas.List.Sums.{sum_by-cons}
@@ -17,9 +17,7 @@ use Rattle.rule_layout.specs.declared.flat.Form.{Form}
 use Rattle.rule_layout.specs.Slots.{slots_of, singleton_count, input_terms, term_slot}
 use Rattle.rule_layout.specs.Layouts.{form_of}
 use Rattle.eval_code.proofs.phases.RuleFacts.{BlockFacts}
-use Rattle.cpu12_isa.specs.declared.instr.Instr.{Instr}
 use Rattle.cpu12_isa.specs.declared.instr.Instr.TheVariants.{Mem}
-use Rattle.cpu12_isa.specs.Code.{encode_of}
 use Rattle.eval_code.specs.declared.layout.Layout.{Layout}
 use Rattle.eval_code.specs.Code.{fuzzify_code, slots_code, rules_code, input_slots, quotient_code, output_code}
 use Rattle.eval_code.specs.Code.{outputs_code, eval_code, FitCode}
@@ -29,7 +27,7 @@ use Rattle.eval_code.specs.Widths.{places}
 use Rattle.eval_code.specs.Items.{IsApart}
 use Rattle.eval_code.proofs.Joins.{sum_by-term_count}
 use Rattle.eval_code.proofs.Sizes.{code_size, code_size-eval}
-use Rattle.eval_code.proofs.steps.Decoding.{sizes, fit_append}
+use Rattle.eval_code.proofs.steps.Decoding.{fit_append}
 use Rattle.eval_code.proofs.phases.Fuzzify.{grades, length-grades}
 use Rattle.eval_code.proofs.phases.Filling.{AllCanFill}
 use Rattle.eval_code.proofs.phases.SlotValues.{further_slots, slots_are, further_fill, length-slots, length-input_terms}
@@ -165,16 +163,11 @@ fit_answer near l b w a v facts =
       ),
     )
 
-pub sizes_is : (is : List Instr) → sizes is ≡ code_size is
-sizes_is [] = refl
-sizes_is (i ∷ is) = ap (λ n. length (encode_of i) + n) (sizes_is is)
-
 -- the code of a block, which leaves room for a fetch and a return
-pub answer_size : (l : Layout) (b : Block) (w : Width) → IsValid b → BlockFacts b → sizes (eval_code l b w) ≤ 2420
+pub answer_size : (l : Layout) (b : Block) (w : Width) → IsValid b → BlockFacts b → code_size (eval_code l b w) ≤ 2420
 answer_size l b w v facts =
     omega (
       arith,
-      sizes_is (eval_code l b w),
       code_size-eval l w b.inputs b.outputs (slots_of b) (form_of b) v.few_inputs
           (sum_by-term_count b.inputs v.few_inputs v.inputs) v.few_outputs facts.few_slots,
     )

@@ -20,7 +20,7 @@ use Rattle.eval_code.specs.Widths.{places, bytes_of}
 use Rattle.eval_code.specs.Code.{quotient_code, output_code, outputs_code}
 use Rattle.eval_code.proofs.phases.Quotients.{quotient_of, quotient_most, output_most, output_parts, quotient_run}
 use Rattle.eval_code.proofs.steps.Memory.{HasBytes, bytes_front, bytes_back, bytes_put_out, put_append}
-use Rattle.eval_code.proofs.steps.Decoding.{sizes, sizes_append}
+use Rattle.eval_code.proofs.Sizes.{code_size, code_size-append}
 use Rattle.eval_code.proofs.steps.Stepping.{Ctx, Live, Stands, goes_one, goes_on, stands_front, stands_back, Reaches}
 use Rattle.eval_code.proofs.steps.Stepping.{reaches_none, reaches_after, reaches_at}
 use Rattle.eval_code.proofs.steps.Instructions.{ldab_byte, ldx, ldy}
@@ -41,7 +41,7 @@ abbrev Quotient : Ctx → Width → Type 0
 Quotient c w = (at p n m : ℕ) (d : Option ℕ) (before : ℕ) (s : State) → Live c s → s.regs.pc ≡ p
     → Stands c p (quotient_code w at d) → s.regs.x ≡ m → s.regs.y * 2 ^ 16 + (s.regs.a * 2 ^ 8 + s.regs.b) ≡ n
     → n ≤ 255 * m → HasBytes s.mem at (bytes_of w before) → c.layout.outputs ≤ at → at + places w ≤ c.layout.outputs + 8
-    → Reaches c (quotient_most w d) 0 s (p + sizes (quotient_code w at d))
+    → Reaches c (quotient_most w d) 0 s (p + code_size (quotient_code w at d))
     (put s.mem at (bytes_of w (quotient_of w m n d before)))
 
 quotient : (c : Ctx) (w : Width) → Quotient c w
@@ -64,7 +64,7 @@ pub output_run : (c : Ctx) (w : Width) (o : Output) (sx sy at : ℕ) (vs : List 
     → HasBytes s.mem at (bytes_of w before)
     → c.layout.singletons ≤ sx → sx + length vs ≤ c.layout.singletons + 60 → c.layout.slots ≤ sy
     → sy + length vs ≤ c.layout.slots + 300 → c.layout.outputs ≤ at → at + places w ≤ c.layout.outputs + 8
-    → Reaches c (output_most w o) (length o.singletons - 1) s (p + sizes (output_code w sx sy at o))
+    → Reaches c (output_most w o) (length o.singletons - 1) s (p + code_size (output_code w sx sy at o))
     (put s.mem at (bytes_of w (output_answer w o vs before)))
 output_run c w o sx sy at vs before s p l ep st valid hs hv ev hb lo hi slo low alo apart =
     let us = singleton_bytes_of o in
@@ -176,7 +176,7 @@ pub outputs_run : (c : Ctx) (w : Width) (os : List Output) (sx sy at : ℕ) (vs 
     → c.layout.singletons ≤ sx → sx + length vs ≤ c.layout.singletons + 60 → c.layout.slots ≤ sy
     → sy + length vs ≤ c.layout.slots + 300 → c.layout.outputs ≤ at
     → at + places w * length os ≤ c.layout.outputs + 8
-    → Reaches c (sum_by (output_most w) os) (output_parts os) s (p + sizes (outputs_code w sx sy at os))
+    → Reaches c (sum_by (output_most w) os) (output_parts os) s (p + code_size (outputs_code w sx sy at os))
     (put s.mem at (all_bytes w (output_answers w os vs bs)))
 outputs_run c w [] sx sy at vs bs s p h valid ev eb lo hi slo low alo apart =
     reaches_none c s _ _ h.live (h.pc_is ∙ omega arith) refl
@@ -200,16 +200,16 @@ outputs_run c w (o ∷ os) sx sy at vs (b ∷ bs) s p h valid ev eb lo hi slo lo
     (λ j x lt. valid (suc j) x (omega arith)) (omega arith) (omega arith) (omega arith) (omega arith) (omega arith)
     (omega arith) (omega arith) (omega arith))
   where
-    then_rest : Reaches c (output_most w o) (length o.singletons - 1) s (p + sizes (output_code w sx sy at o))
+    then_rest : Reaches c (output_most w o) (length o.singletons - 1) s (p + code_size (output_code w sx sy at o))
         (put s.mem at (bytes_of w (output_answer w o (take (length o.singletons) vs) b)))
         → ((u : State) (q : ℕ)
         → AtOutputs c w (sx + length o.singletons) (sy + length o.singletons) (at + places w)
         (drop (length o.singletons) vs) bs os q u
         → Reaches c (sum_by (output_most w) os) (output_parts os) u
-        (q + sizes (outputs_code w (sx + length o.singletons) (sy + length o.singletons) (at + places w) os))
+        (q + code_size (outputs_code w (sx + length o.singletons) (sy + length o.singletons) (at + places w) os))
         (put u.mem (at + places w) (all_bytes w (output_answers w os (drop (length o.singletons) vs) bs))))
         → Reaches c (sum_by (output_most w) (o ∷ os)) (output_parts (o ∷ os)) s
-        (p + sizes (outputs_code w sx sy at (o ∷ os)))
+        (p + code_size (outputs_code w sx sy at (o ∷ os)))
         (put s.mem at (all_bytes w (output_answers w (o ∷ os) vs (b ∷ bs))))
     then_rest r go =
         let above = c.apart.outputs in
@@ -223,7 +223,7 @@ outputs_run c w (o ∷ os) sx sy at vs (b ∷ bs) s p h valid ev eb lo hi slo lo
         let lu : length (singleton_bytes_of o) ≡ n = length-map o.singletons (nearest_byte o) in
         let c1 = output_code w sx sy at o in
         let rest = outputs_code w (sx + n) (sy + n) (at + k) os in
-        let es = sizes_append c1 rest in
+        let es = code_size-append c1 rest in
         let q = bytes_of w (output_answer w o (take n vs) b) in
         let lq : length q ≡ k = length-bytes_of w (output_answer w o (take n vs) b) in
         let later = all_bytes w (output_answers w os (drop n vs) bs) in
@@ -236,7 +236,7 @@ outputs_run c w (o ∷ os) sx sy at vs (b ∷ bs) s p h valid ev eb lo hi slo lo
         let kept : (place : ℕ) (xs : List ℕ) → at + k ≤ place → HasBytes s.mem place xs → HasBytes u.mem place xs =
         λ place xs le hx. subst (λ m. HasBytes m place xs) (sym r.mem_is)
         (bytes_put_out s.mem at q place xs (inr (omega arith)) hx) in
-        let next = go u (p + sizes c1) (record {
+        let next = go u (p + code_size c1) (record {
           live = r.live;
           pc_is = r.pc_is;
           code = stands_back c p c1 rest h.code;

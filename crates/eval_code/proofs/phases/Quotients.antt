@@ -19,7 +19,7 @@ use Rattle.cpu12_parts.specs.State.{State}
 use Rattle.cpu12_parts.specs.Whole.{after_plain}
 use Rattle.eval_code.specs.Code.{quotient_code}
 use Rattle.eval_code.specs.Evaluation.{Writes}
-use Rattle.eval_code.proofs.steps.Decoding.{sizes}
+use Rattle.eval_code.proofs.Sizes.{code_size}
 use Rattle.eval_code.proofs.steps.Stepping.{Ctx, Live, Stands, Goes, goes_one, goes_on, stands_at, Reaches, reaches_at}
 use Rattle.eval_code.proofs.steps.Instructions.{ldab_byte, stab, cpx, cpx_zero, beq_on, beq_off, bra_on, tfr, ediv}
 use Rattle.eval_code.proofs.steps.Instructions.{ediv_y, ediv_sp}
@@ -79,7 +79,7 @@ divided_run c at p n w s rest l ep st ex en le =
 pub quotient_run : (c : Ctx) (at p n w : ℕ) (d : Option ℕ) (s : State) → Live c s → s.regs.pc ≡ p
     → Stands c p (quotient_code Byte at d) → s.regs.x ≡ w → s.regs.y * 2 ^ 16 + (s.regs.a * 2 ^ 8 + s.regs.b) ≡ n
     → n ≤ 255 * w → Writes c.layout at
-    → Reaches c (quotient_most Byte d) 0 s (p + sizes (quotient_code Byte at d))
+    → Reaches c (quotient_most Byte d) 0 s (p + code_size (quotient_code Byte at d))
     (set s.mem at (quotient_of Byte w n d (get_or s.mem at 0)))
 quotient_run c at p n zero (Some d) s l ep st ex en le lt =
     let s1 = after_plain c.flags (CpxImmediate 0) s in
@@ -130,7 +130,7 @@ quotient_run c at p n (suc w) d s l ep st ex en le lt = by_default d st
     z = cpx_zero c s l.fits.x ∙ x0
 
     by_default : (d : Option ℕ) → Stands c p (quotient_code Byte at d)
-        → Reaches c (quotient_most Byte d) 0 s (p + sizes (quotient_code Byte at d))
+        → Reaches c (quotient_most Byte d) 0 s (p + code_size (quotient_code Byte at d))
         (set s.mem at (quotient_of Byte (suc w) n d (get_or s.mem at 0)))
     by_default None st =
         let s1 = after_plain c.flags (CpxImmediate 0) s in

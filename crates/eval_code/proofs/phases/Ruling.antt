@@ -34,7 +34,8 @@ use Rattle.eval_code.specs.Masks.{interrupt_masks}
 use Rattle.eval_code.specs.Evaluation.{Reads, Writes}
 use Rattle.eval_code.proofs.steps.Flags.{masked_put, masked_open_hnzc, masked_open_hnz, overflow_off, overflow_or}
 use Rattle.eval_code.proofs.steps.Flags.{carry_or}
-use Rattle.eval_code.proofs.steps.Decoding.{sizes, decode_same}
+use Rattle.eval_code.proofs.Sizes.{code_size}
+use Rattle.eval_code.proofs.steps.Decoding.{decode_same}
 use Rattle.eval_code.proofs.steps.Stepping.{Ctx, Live, Stands, Goes, goes_one, goes_on, goes_part, Reaches, reaches_at}
 use Rattle.eval_code.proofs.steps.Stepping.{between_of, code_in}
 use Rattle.eval_code.proofs.steps.Instructions.{ldaa_byte, ldx, ldy, andcc_v, orcc_c}
@@ -366,7 +367,7 @@ pub rev_run : (c : Ctx) (m ss : List ℕ) (k : Conjunction) (ks : List Conjuncti
     → s.regs.pc ≡ p → Stands c p (rules_code c.layout form.Rev)
     → AreFull (w ∷ ws) → length ss ≤ 254 → HasBytes c.image c.layout.rules (list_bytes (k ∷ ks))
     → length (list_bytes (k ∷ ks)) ≤ 9984
-    → Reaches c 5 (sum_by entry_count (k ∷ ks) - 1) s (p + sizes (rules_code c.layout form.Rev))
+    → Reaches c 5 (sum_by entry_count (k ∷ ks) - 1) s (p + code_size (rules_code c.layout form.Rev))
     (put m c.layout.slots (fired ss (k ∷ ks) (w ∷ ws)))
 rev_run c m ss k ks w ws s p h ep st full few hl le =
     let s1 = after_plain c.flags (LdxImmediate c.layout.rules) s in
@@ -430,7 +431,7 @@ pub revw_run : (c : Ctx) (m ss : List ℕ) (k : Conjunction) (ks : List Conjunct
     → Below 256 (w ∷ ws) → HasBytes c.image c.layout.rules (flat_map bytes_of_word (list_words c.layout.slots (k ∷ ks)))
     → 2 * length (list_words c.layout.slots (k ∷ ks)) ≤ 9984 → HasBytes c.image c.layout.weights (w ∷ ws)
     → length (w ∷ ws) ≤ 512
-    → Reaches c 6 (sum_by entry_count (k ∷ ks) - 1) s (p + sizes (rules_code c.layout form.Revw))
+    → Reaches c 6 (sum_by entry_count (k ∷ ks) - 1) s (p + code_size (rules_code c.layout form.Revw))
     (put m c.layout.slots (fired ss (k ∷ ks) (w ∷ ws)))
 revw_run c m ss k ks w ws s p h ep st light hl le hw whi =
     let j = sum_by entry_count (k ∷ ks) - 1 in

@@ -26,7 +26,7 @@ use Rattle.eval_code.specs.Code.{quotient_code}
 use Rattle.eval_code.proofs.phases.Quotients.{quotient_of, quotient_most, quotient_small}
 use Rattle.eval_code.proofs.steps.Flags.{masked_put}
 use Rattle.eval_code.proofs.steps.Memory.{HasBytes}
-use Rattle.eval_code.proofs.steps.Decoding.{sizes}
+use Rattle.eval_code.proofs.Sizes.{code_size}
 use Rattle.eval_code.proofs.steps.Instructions.{divided_is, ldab_byte, staa, stab, clr, cpx, cpx_zero, beq_on, beq_off}
 use Rattle.eval_code.proofs.steps.Instructions.{bra_on, tfr, ediv, ediv_y, ediv_sp}
 use Rattle.eval_code.proofs.steps.Stepping.{Ctx, Here, Live, Stands, Next, next, Goes, goes_one, goes_on, stands_at}
@@ -171,7 +171,7 @@ word w n d before = quotient_of Word w n d before
 pub word_run : (c : Ctx) (at p n w : ℕ) (d : Option ℕ) (before : ℕ) (s : State) → Live c s → s.regs.pc ≡ p
     → Stands c p (quotient_code Word at d) → s.regs.x ≡ w → s.regs.y * 2 ^ 16 + (s.regs.a * 2 ^ 8 + s.regs.b) ≡ n
     → n ≤ 255 * w → HasBytes s.mem at (bytes_of Word before) → Writes c.layout at → Writes c.layout (at + 1)
-    → Reaches c (quotient_most Word d) 0 s (p + sizes (quotient_code Word at d))
+    → Reaches c (quotient_most Word d) 0 s (p + code_size (quotient_code Word at d))
     (put s.mem at (bytes_of Word (word w n d before)))
 word_run c at p n zero (Some d) before s l ep st ex en le hb wa wb =
     let s1 = after_plain c.flags (CpxImmediate 0) s in
@@ -235,7 +235,7 @@ word_run c at p n (suc w) d before s l ep st ex en le hb wa wb = by_default d st
         ∙ ap (λ a. put s.mem at (bytes_of Word a)) (fired d)
 
     by_default : (d : Option ℕ) → Stands c p (quotient_code Word at d)
-        → Reaches c (quotient_most Word d) 0 s (p + sizes (quotient_code Word at d))
+        → Reaches c (quotient_most Word d) 0 s (p + code_size (quotient_code Word at d))
         (put s.mem at (bytes_of Word (word (suc w) n d before)))
     by_default None st =
         let s1 = after_plain c.flags (CpxImmediate 0) s in

@@ -14,8 +14,8 @@ use Rattle.eval_code.specs.Items.{code_at, bytes_at, block_items}
 use Rattle.eval_code.specs.Evaluation.{HasBytes, HasEval, eval_bytes}
 use Rattle.eval_code.proofs.Joins.{block_items-then}
 use Rattle.eval_code.proofs.steps.Memory.{bytes_front, bytes_back}
-use Rattle.eval_code.proofs.steps.Decoding.{sizes}
-use Rattle.eval_code.proofs.phases.Law.{length-code}
+use Rattle.eval_code.proofs.Sizes.{code_size}
+use Rattle.eval_code.proofs.Sizes.{length-code_bytes}
 use Rattle.eval_code.proofs.placing.Standing.{Rises, HasGiven, bytes_stand, code_stands}
 
 pub bytes_append : (a b : List Instr) → code_bytes (a ++ b) ≡ code_bytes a ++ code_bytes b
@@ -71,7 +71,7 @@ pub record AroundEval (image : List ℕ) (l : Layout) (b : Block) (w : Width) (b
   pub back : HasBytes image (l.eval + length (eval_bytes l b w)) (code_bytes behind)
 
 pub around_eval : (image : List ℕ) (l : Layout) (b : Block) (w : Width) (before behind : List Instr)
-    → l.eval ≡ l.code + sizes before → Stood image l b w before behind
+    → l.eval ≡ l.code + code_size before → Stood image l b w before behind
     → AroundEval image l b w before behind
 around_eval image l b w before behind at h =
     let eval = eval_code l b w in
@@ -80,7 +80,7 @@ around_eval image l b w before behind at h =
     bytes_append before (eval ++ behind) ∙ ap (λ (x : List ℕ). code_bytes before ++ x) (bytes_append eval behind) in
     let code : HasBytes image l.code (code_bytes before ++ (code_bytes eval ++ code_bytes behind)) =
     subst (HasBytes image l.code) split h.code in
-    let e : l.code + length (code_bytes before) ≡ l.eval = omega (arith, length-code before) in
+    let e : l.code + length (code_bytes before) ≡ l.eval = omega (arith, length-code_bytes before) in
     let later : HasBytes image l.eval (code_bytes eval ++ code_bytes behind) =
     subst (λ (p : ℕ). HasBytes image p (code_bytes eval ++ code_bytes behind)) e
     (bytes_back image l.code (code_bytes before) (code_bytes eval ++ code_bytes behind) code) in

@@ -44,11 +44,3 @@ decode_same m n p lo hi h =
     let at : (k : ℕ) → k ≤ 5 → get_or n (plus p k) 0 ≡ get_or m (plus p k) 0 = λ k l. h (plus p k) (omega arith) in
     ap decode_of (six n p _ _ _ _ _ _ (h p lo) (at 1 (omega arith)) (at 2 (omega arith)) (at 3 (omega arith))
     (at 4 (omega arith)) (at 5 (omega arith)))
-
-abbrev pub sizes : List Instr → ℕ
-sizes [] = 0
-sizes (i ∷ is) = length (encode_of i) + sizes is
-
-pub sizes_append : (a b : List Instr) → sizes (a ++ b) ≡ sizes a + sizes b
-sizes_append [] b = omega arith
-sizes_append (i ∷ a) b = let e = sizes_append a b in omega arith

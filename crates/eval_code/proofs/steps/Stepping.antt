@@ -17,7 +17,8 @@ use Rattle.cpu12_parts.specs.Touching.{IsIn, Each, IsBetween}
 use Rattle.eval_code.specs.Masks.{interrupt_masks}
 use Rattle.eval_code.specs.Evaluation.{Writes, Reads, code_region, IsEvalStep}
 use Rattle.eval_code.proofs.steps.Memory.{SameHigh, WriteBelow, high_writes, bytes_writes}
-use Rattle.eval_code.proofs.steps.Decoding.{sizes, decode_same}
+use Rattle.eval_code.proofs.Sizes.{code_size}
+use Rattle.eval_code.proofs.steps.Decoding.{decode_same}
 use Rattle.cpu12_parts.proofs.Algebra.{Bounded, bounded_none, bounded_one, bounded_on, bounded_more}
 
 -- what a run is under: the layout, memory where EVAL begins and the open flags, and SP, I and X as they stay
@@ -49,10 +50,10 @@ pub stands_front : (c : Ctx) (p : ℕ) (a b : List Instr) → Stands c p (a ++ b
 stands_front c p [] b h = tt
 stands_front c p (i ∷ a) b h = (h.0, stands_front c (p + length (encode_of i)) a b h.1)
 
-pub stands_back : (c : Ctx) (p : ℕ) (a b : List Instr) → Stands c p (a ++ b) → Stands c (p + sizes a) b
+pub stands_back : (c : Ctx) (p : ℕ) (a b : List Instr) → Stands c p (a ++ b) → Stands c (p + code_size a) b
 stands_back c p [] b h = let e : p ≡ p + 0 = omega arith in subst (λ n. Stands c n b) e h
 stands_back c p (i ∷ a) b h =
-    let e : p + length (encode_of i) + sizes a ≡ p + sizes (i ∷ a) = omega arith in
+    let e : p + length (encode_of i) + code_size a ≡ p + code_size (i ∷ a) = omega arith in
     subst (λ n. Stands c n b) e (stands_back c (p + length (encode_of i)) a b h.1)
 
 pub stands_at : (c : Ctx) (p q : ℕ) (is : List Instr) → p ≡ q → Stands c p is → Stands c q is

@@ -21,7 +21,7 @@ use Rattle.watched_code.specs.WatchedCode.{segment_code, segments_code, back_to_
 use Rattle.watched_code.specs.WatchedCode.{watched_front_over, fault_at}
 use Rattle.eval_code.specs.Evaluation.{HasBytes}
 use Rattle.eval_code.specs.Code.{code_bytes, FitCode}
-use Rattle.eval_code.proofs.Algebra.{length-le-code_size, sized, bytes_front, bytes_back, fit_append}
+use Rattle.eval_code.proofs.Algebra.{length-le-code_size, length-code_bytes, bytes_front, bytes_back, fit_append}
 use Rattle.codegen.specs.Settings.{InstructionsStand}
 use Rattle.watched_code.proofs.watching.Adding.{IsShutAbove, AreSegments}
 use Rattle.watched_code.proofs.watching.Checking.{HasCheck, decision}
@@ -78,7 +78,7 @@ length-front l os gs =
 
 -- no instruction is without a byte
 pub length-le : (code : List Instr) → length code ≤ code_length code
-length-le code = omega (arith, length-le-code_size code, sized code)
+length-le code = omega (arith, length-le-code_size code, length-code_bytes code)
 
 -- the operands fit
 fits_default : (at : ℕ) (byte : Option ℕ) → FitDefault byte → at < 65536 → FitCode (default_code at byte)
