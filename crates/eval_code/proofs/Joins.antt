@@ -14,7 +14,7 @@ use Rattle.fuzzy_meaning.specs.declared.block.Output.{Output}
 use Rattle.rule_layout.specs.declared.flat.Flat.{Flat}
 use Rattle.rule_layout.specs.declared.flat.Slot.{Slot}
 use Rattle.rule_layout.specs.Slots.{slots_of, term_count}
-use Rattle.rule_layout.specs.Layouts.{flat_of, form_of, weights_of, conjunctions_of}
+use Rattle.rule_layout.specs.Layouts.{HasPartsOf}
 use Rattle.eval_code.specs.declared.layout.Layout.{Layout}
 use Rattle.eval_code.specs.declared.width.Width.{Width}
 use Rattle.eval_code.specs.Code.{eval_code_over, eval_code, block_code}
@@ -43,23 +43,6 @@ pub three_pieces : (start i1 i2 i3 : List Item) (a b c : List Instr) → i1 ≡ 
     → i3 ≡ i2 ++ map Op c → i3 ≡ start ++ map Op (a ++ (b ++ c))
 three_pieces start i1 i2 i3 a b c h1 h2 h3 = next_piece start i1 i3 a (b ++ c) h1 (next_piece i1 i2 i3 b c h2 h3)
 
--- the layout of a block's rules, field by field
-pub slots-flat_of : (flat : Flat) (b : Block) → flat ≡ flat_of b → flat.slots ≡ slots_of b
-unfolding flat_of
-slots-flat_of flat b h = ap (λ f. f.slots) h
-
-pub form-flat_of : (flat : Flat) (b : Block) → flat ≡ flat_of b → flat.form ≡ form_of b
-unfolding flat_of
-form-flat_of flat b h = ap (λ f. f.form) h
-
-pub weights-flat_of : (flat : Flat) (b : Block) → flat ≡ flat_of b → flat.weights ≡ weights_of b
-unfolding flat_of
-weights-flat_of flat b h = ap (λ f. f.weights) h
-
-pub conjunctions-flat_of : (flat : Flat) (b : Block) → flat ≡ flat_of b → flat.conjunctions ≡ conjunctions_of b
-unfolding flat_of
-conjunctions-flat_of flat b h = ap (λ f. f.conjunctions) h
-
 -- of at most eight inputs with at most fifteen terms each
 pub sum_by-term_count : (inputs : List Input) → length inputs ≤ 8 → All IsValidInput inputs
     → sum_by term_count inputs ≤ 120
@@ -75,23 +58,22 @@ arranged start p e t s b w i1 i3 i4 i5 i6 i7 h1 h3 h4 h5 h6 h7 = simp (h7, h6, h
 
 -- the code over the parts of a block and its rules' layout
 pub eval_code_over-flat : (l : Layout) (b : Block) (w : Width) (flat : Flat) (inputs : List Input)
-    (outputs : List Output) (slots : List Slot) → flat ≡ flat_of b → inputs ≡ b.inputs → outputs ≡ b.outputs
+    (outputs : List Output) (slots : List Slot) → HasPartsOf flat b → inputs ≡ b.inputs → outputs ≡ b.outputs
     → slots ≡ flat.slots → eval_code_over l w inputs outputs slots flat.form ≡ eval_code l b w
 eval_code_over-flat l b w flat inputs outputs slots h i o s =
-    let e = slots-flat_of flat b h in
-    let f = form-flat_of flat b h in
-    let same_slots : slots ≡ slots_of b = s ∙ e in
+    let f = h.form in
+    let same_slots : slots ≡ slots_of b = s ∙ h.slots in
     rw (i, o, same_slots, f)
 
 -- the weights and the rule list of a block's rules' layout
-pub rule_data-flat : (l : Layout) (b : Block) (flat : Flat) → flat ≡ flat_of b
+pub rule_data-flat : (l : Layout) (b : Block) (flat : Flat) → HasPartsOf flat b
     → bytes_at l.weights (weight_bytes_by flat.form flat.weights)
     ++ bytes_at l.rules (rule_bytes_by l.slots flat.form flat.conjunctions) ≡ bytes_at l.weights (weight_bytes b)
     ++ bytes_at l.rules (rule_bytes l.slots b)
 rule_data-flat l b flat h =
-    let f = form-flat_of flat b h in
-    let w = weights-flat_of flat b h in
-    let c = conjunctions-flat_of flat b h in
+    let f = h.form in
+    let w = h.weights in
+    let c = h.conjunctions in
     rw (f, w, c)
 
 -- the parts of a block, put one behind the other, are its items

@@ -7,7 +7,7 @@ ghost use Rattle.eval_code.specs.Bounds.{output_bound, entry_count, form_bound, 
 
 use crate::width::Width;
 use fuzzy_meaning::{Block, Input, Output};
-use rule_layout::{Conjunction, Flat, Form};
+use rule_layout::{Conjunction, Flat, Form, flat_has_parts};
 
 /// How many terms inputs have.
 fn input_terms(inputs: &[Input]) -> u32
@@ -97,6 +97,7 @@ pub fn instruction_bound(width: Width, block: &Block, flat: &Flat) -> u32
     ensures value { result ≡ instruction_bound width block.now }
     ensures few { result ≤ 2000 }
 {
+    flat_has_parts();
     let terms = input_terms(block.inputs.as_slice());
     let singletons = u32::from(output_terms(block.outputs.as_slice()));
     let complements = (flat.slots.len() as u32)
@@ -118,6 +119,7 @@ pub fn steps_by(block: &Block, flat: &Flat, instructions: u32) -> u32
     requires few { instructions ≤ 130000 }
     ensures { result ≡ steps_by block.now instructions }
 {
+    flat_has_parts();
     let singletons = u32::from(output_terms(block.outputs.as_slice()));
     let outputs = block.outputs.len() as u32;
     instructions.saturating_sub(1).saturating_sub(outputs)

@@ -16,7 +16,7 @@ use cpu12_asm::Item;
 use cpu12_isa::instr::Instr;
 use fuzzy_meaning::{Block, Input, Output};
 use point_slope::table;
-use rule_layout::{Flat, Form, Slot};
+use rule_layout::{Flat, Form, Slot, flat_has_parts};
 use std::alloc::{AllocError, Global};
 
 /// A block's code at a layout, with what stands before and behind EVAL, its tables and its rule list,
@@ -38,6 +38,7 @@ pub fn push_block(
     ensures { OnOk result (items.new.items
         ≡ items.old.items ++ block_items layout.now block.now width before.now behind.now) }
 {
+    flat_has_parts();
     items.push(Item::Place(layout.code))?;
     push_code(items, before)?;
     push_eval(

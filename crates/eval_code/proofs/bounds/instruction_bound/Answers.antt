@@ -2,7 +2,6 @@ use Rattle.std.proofs.Common.{◌≡◌, length, sum_by, ap, ◌∙◌, arith}
 use Rattle.rule_layout.specs.Slots.{slots_of, term_count, singleton_count}
 use Rattle.rule_layout.specs.Layouts.{form_of}
 use Rattle.eval_code.specs.Bounds.{input_term_count, output_term_count, output_bound, form_bound, instruction_bound}
-use Rattle.eval_code.proofs.Joins.{slots-flat_of, form-flat_of}
 use Rattle.eval_code.proofs.bounds.instruction_bound.Goals as goal
 
 pub returns-clause-value : goal.returns-clause-value
@@ -10,6 +9,7 @@ unfolding instruction_bound
 returns-clause-value c =
     let b = c.args.block.now in
     let flat = c.args.flat.now in
+    let has = c.flat_has_parts.ensures flat b c.requires.flat in
     let w = c.args.width in
     let terms : c.input_terms-terms.result ≡ input_term_count b = c.input_terms-terms.ensures.value
     ∙ ap (λ xs. sum_by term_count xs) c.as_slice.ensures in
@@ -17,7 +17,7 @@ returns-clause-value c =
     ∙ ap (λ xs. sum_by singleton_count xs) c.as_slice-2.ensures in
     let outputs : c.output_bounds.result ≡ sum_by (output_bound w) b.outputs = c.output_bounds.ensures.value
     ∙ ap (λ xs. sum_by (output_bound w) xs) c.as_slice-3.ensures in
-    let slots : length flat.slots ≡ length (slots_of b) = ap (λ xs. length xs) (slots-flat_of flat b c.requires.flat) in
+    let slots : length flat.slots ≡ length (slots_of b) = ap (λ xs. length xs) has.slots in
     let form : c.form_bound.result ≡ form_bound (form_of b) = c.form_bound.ensures.value
-    ∙ ap form_bound (form-flat_of flat b c.requires.flat) in
+    ∙ ap form_bound has.form in
     omega arith

@@ -1,7 +1,6 @@
 use Rattle.std.proofs.Common.{◌≡◌, sum_by, ap, ◌∙◌, arith}
 use Rattle.rule_layout.specs.Slots.{singleton_count}
 use Rattle.eval_code.specs.Bounds.{output_term_count, entry_count, element_count, steps_by}
-use Rattle.eval_code.proofs.Joins.{conjunctions-flat_of}
 use Rattle.eval_code.proofs.Placement.{element_count-le}
 use Rattle.eval_code.proofs.bounds.steps_by.Goals as goal
 
@@ -9,7 +8,7 @@ pub elements-requires : goal.elements-requires
 elements-requires c =
     let b = c.args.block.now in
     let same = ap (λ cs. sum_by entry_count cs)
-    (c.as_slice-2.ensures ∙ conjunctions-flat_of c.args.flat.now b c.requires.flat) in
+    (c.as_slice-2.ensures ∙ (c.flat_has_parts.ensures c.args.flat.now b c.requires.flat).conjunctions) in
     omega (arith, element_count-le b, c.requires.limits.short_list, same)
 
 pub returns : goal.returns
@@ -20,5 +19,5 @@ returns c =
     ∙ ap (λ xs. sum_by singleton_count xs) c.as_slice.ensures in
     let elements : c.elements.result ≡ element_count b = c.elements.ensures.value
     ∙ ap (λ cs. sum_by entry_count cs)
-    (c.as_slice-2.ensures ∙ conjunctions-flat_of c.args.flat.now b c.requires.flat) in
+    (c.as_slice-2.ensures ∙ (c.flat_has_parts.ensures c.args.flat.now b c.requires.flat).conjunctions) in
     omega arith

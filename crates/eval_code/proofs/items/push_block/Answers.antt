@@ -11,9 +11,10 @@ returns c =
     let b = c.args.block.now in
     let w = c.args.width in
     let flat = c.args.flat.now in
-    let eval = eval_code_over-flat l b w flat _ _ _ c.requires.flat c.as_slice.ensures c.as_slice-2.ensures
+    let has = c.flat_has_parts.ensures flat b c.requires.flat in
+    let eval = eval_code_over-flat l b w flat _ _ _ has c.as_slice.ensures c.as_slice-2.ensures
     c.as_slice-3.ensures in
-    let rules = rule_data-flat l b flat c.requires.flat in
+    let rules = rule_data-flat l b flat has in
     let code = three_pieces _ _ _ _ c.args.before.now (eval_code l b w) c.args.behind.now
     c.in_ok-push_code.ensures
     (c.in_ok-push_eval.ensures ∙ ap (λ code. c.push_code.new.items.items ++ map Op code) eval)
