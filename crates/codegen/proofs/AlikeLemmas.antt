@@ -7,10 +7,9 @@ use Rattle.fuzzy_meaning.specs.declared.block.Output.{Output}
 use Rattle.fuzzy_meaning.specs.SameBlocks.{IsSameBlock}
 use Rattle.point_slope.specs.Tables.{rows_of}
 use Rattle.rule_layout.specs.Alike.{LayoutsAreOne}
-use Rattle.rule_layout.specs.Layouts.{conjunctions_of, flat_of, form_of, weights_of}
+use Rattle.rule_layout.specs.Layouts.{conjunctions_of, flat_of, form_of, weights_of, FlatHasParts}
 use Rattle.rule_layout.specs.Slots.{slots_of}
 use Rattle.rule_layout.specs.declared.flat.Conjunction.{Conjunction}
-use Rattle.rule_layout.specs.declared.flat.Flat.{Flat}
 use Rattle.rule_layout.specs.declared.flat.Form.{Form}
 use Rattle.rule_layout.specs.declared.flat.Slot.{Slot}
 use Rattle.cpu12_isa.specs.declared.instr.Instr.{Instr}
@@ -52,14 +51,16 @@ record SameLayout (p q : Block) : Type 0 where
   weights : weights_of p ≡ weights_of q
   form : form_of p ≡ form_of q
 
-parts_same : (p q : Block) → flat_of p ≡ flat_of q → SameLayout p q
-unfolding flat_of
-parts_same p q same = record {
-  slots = ap (λ (f : Flat). f.slots) same;
-  conjunctions = ap (λ (f : Flat). f.conjunctions) same;
-  weights = ap (λ (f : Flat). f.weights) same;
-  form = ap (λ (f : Flat). f.form) same;
-}
+parts_same : FlatHasParts → (p q : Block) → flat_of p ≡ flat_of q → SameLayout p q
+parts_same law p q same =
+    let mine = law (flat_of p) p refl in
+    let other = law (flat_of p) q same in
+    record {
+      slots = sym mine.slots ∙ other.slots;
+      conjunctions = sym mine.conjunctions ∙ other.conjunctions;
+      weights = sym mine.weights ∙ other.weights;
+      form = sym mine.form ∙ other.form;
+    }
 
 same_items : (l : Layout) (p q : Block) (w : Width) (before behind : List Instr) → IsSameBlock p q → SameLayout p q
     → block_items l p w before behind ≡ block_items l q w before behind
@@ -69,9 +70,9 @@ same_items l p q w before behind says same =
     (same.weights i) (same.form i))
     ∙ sym (made_of l q w before behind)
 
-pub items_are_one : LayoutsAreOne → ItemsAreOne
-items_are_one layouts l p q w before behind says =
-    same_items l p q w before behind says (parts_same p q (layouts.layout p q says))
+pub items_are_one : LayoutsAreOne → FlatHasParts → ItemsAreOne
+items_are_one layouts law l p q w before behind says =
+    same_items l p q w before behind says (parts_same law p q (layouts.layout p q says))
 
 -- images of the same items are one
 pub images_are_one : ImagesAreOne
@@ -88,8 +89,8 @@ items_alike : (xs ys : List Item) (f g : Firmware) → xs ≡ ys → IsImageOf x
 items_alike xs ys f g items of_f of_g =
     images_are_one ys f.image g.image (subst (λ (zs : List Item). IsImageOf zs f.image) items of_f) of_g
 
-pub one_image : LayoutsAreOne → FirmwaresAreOne
-one_image layouts p q f g says wide of_p of_q =
+pub one_image : LayoutsAreOne → FlatHasParts → FirmwaresAreOne
+one_image layouts law p q f g says wide of_p of_q =
     items_alike (firmware_items main_layout p (width_of f.wide))
     (firmware_items main_layout q (width_of g.wide)) f g items
     of_p.image of_q.image
@@ -98,7 +99,7 @@ one_image layouts p q f g says wide of_p of_q =
     items =
         ap (λ (xs : List Item). xs ++ vector_items main_layout)
         (same_items main_layout p q (width_of f.wide) (frame_code main_layout) (Rts ∷ []) says
-        (parts_same p q (layouts.layout p q says)))
+        (parts_same law p q (layouts.layout p q says)))
         ∙ ap (λ (b : Bool). firmware_items main_layout q (width_of b)) wide
 
 -- ---- in the mailbox form
@@ -117,8 +118,8 @@ same_mailbox p q w says same =
     (same_items l p q w (mailbox_code l (length p.inputs)) (Rts ∷ []) says same)
     ∙ ap (λ (inputs : List Input). mailbox_by inputs q w) says.inputs
 
-pub one_mailbox_image : LayoutsAreOne → MailboxesAreOne
-one_mailbox_image layouts p q f g says wide of_p of_q =
+pub one_mailbox_image : LayoutsAreOne → FlatHasParts → MailboxesAreOne
+one_mailbox_image layouts law p q f g says wide of_p of_q =
     items_alike (mailbox_by p.inputs p (width_of f.wide)) (mailbox_by q.inputs q (width_of g.wide)) f g
-    (same_mailbox p q (width_of f.wide) says (parts_same p q (layouts.layout p q says))
+    (same_mailbox p q (width_of f.wide) says (parts_same law p q (layouts.layout p q says))
     ∙ ap (λ (b : Bool). mailbox_by q.inputs q (width_of b)) wide) of_p.image of_q.image

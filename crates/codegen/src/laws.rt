@@ -18,7 +18,7 @@ use cpu12_parts::executions::executions_are_one;
 use eval_code::laws::{
     blocks_are_placed, bounds_are_few, code_is_decoded, eval_answers, placed_items_stand,
 };
-use rule_layout::{layout_law, layouts_are_one};
+use rule_layout::{flat_has_parts, layout_law, layouts_are_one};
 
 /// What the laws on the forms of firmware rest on.
 fn lower_laws()
@@ -157,6 +157,7 @@ pub fn items_are_one()
     ensures images { ImagesAreOne }
 {
     layouts_are_one();
+    flat_has_parts();
 }
 
 /// Blocks that are the same, wherever their conditions lie in memory, have firmware with one image.
@@ -164,6 +165,7 @@ pub fn firmwares_are_one()
     ensures { FirmwaresAreOne }
 {
     layouts_are_one();
+    flat_has_parts();
 }
 
 /// And so they have in the mailbox form.
@@ -171,4 +173,5 @@ pub fn mailboxes_are_one()
     ensures { MailboxesAreOne }
 {
     layouts_are_one();
+    flat_has_parts();
 }

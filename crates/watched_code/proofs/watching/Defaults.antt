@@ -52,6 +52,26 @@ goes_most : (c : Setting) (n m : ℕ) (s t : State) → n ≤ m → Bounded (Ste
 goes_most c n m s t le =
     bounded_more (Step c) n 0 m 0 s t le (omega arith)
 
+-- a byte is stored
+pub stored : InstructionGoesOn → (c : Setting) (s : State) (p to byte : ℕ) (rest : List Instr) → Live c s
+    → s.regs.pc ≡ p → Stands c p (LdabImmediate byte ∷ StabExtended to ∷ rest) → to < 0x1800
+    → c.open_to to ≡ false → Stored c 2 s (set s.mem to byte) rest
+stored go c s p to byte rest l ep h low shown =
+    let u = after_plain c.flags (LdabImmediate byte) s in
+    let v = after_plain c.flags (StabExtended to) u in
+    let n = ldab go c s p byte l ep h.0 in
+    let k = stab go c u (p + 2) to n.live n.pc_is h.1.0 low shown in
+    record {
+      t = v;
+      goes = bounded_on (Step c) 1 0 1 0 s u v (bounded_one (Step c) 0 s u n.step) (bounded_one (Step c) 0 u v k.step);
+      live = k.live;
+      at = p + 2 + 3;
+      pc_is = k.pc_is;
+      sp_is = refl;
+      mem_is = refl;
+      behind = h.1.1;
+    }
+
 default_run : InstructionGoesOn → (c : Setting) (s : State) (p to : ℕ) (byte : Option ℕ) (rest : List Instr) → Live c s
     → s.regs.pc ≡ p → Stands c p (default_code to byte ++ rest) → to < 0x1800 → c.open_to to ≡ false
     → Stored c 2 s (defaulted s.mem to byte) rest
@@ -67,22 +87,7 @@ default_run go c s p to None rest l ep h low shown =
       mem_is = refl;
       behind = h;
     }
-default_run go c s p to (Some byte) rest l ep h low shown =
-    let u = after_plain c.flags (LdabImmediate byte) s in
-    let v = after_plain c.flags (StabExtended to) u in
-    let n = ldab go c s p byte l ep h.0 in
-    let k = stab go c u (p + 2) to n.live n.pc_is h.1.0 low shown in
-    record {
-      t = v;
-      goes = bounded_on (Step c) 1 0 1 0 s u v (bounded_one (Step c) 0 s u n.step) (bounded_one (Step c) 0 u v k.step);
-      live =
-          k.live;
-      at = p + 2 + 3;
-      pc_is = k.pc_is;
-      sp_is = refl;
-      mem_is = refl;
-      behind = h.1.1;
-    }
+default_run go c s p to (Some byte) rest l ep h low shown = stored go c s p to byte rest l ep h low shown
 
 stored_on : (c : Setting) (n m : ℕ) (s : State) (mem mem' : List ℕ) (next rest : List Instr)
     → (r : Stored c n s mem next) → Stored c m r.t mem' rest → Stored c (n + m) s mem' rest

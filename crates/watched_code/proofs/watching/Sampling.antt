@@ -31,10 +31,10 @@ use Rattle.watched_code.specs.Watched.{default_of}
 use Rattle.cpu12_parts.proofs.Algebra.{Bounded, bounded_one, bounded_on, execution_on, steps_append}
 use Rattle.eval_code.proofs.Algebra.{bytes_set_out}
 use Rattle.codegen.proofs.Algebra.{pushed_word}
-use Rattle.watched_code.proofs.watching.Adding.{sum_in, count_in, ldab, stab, Step}
+use Rattle.watched_code.proofs.watching.Adding.{sum_in, count_in, Step}
 use Rattle.watched_code.proofs.watching.Checking.{HasCheck, Leads, passed, failed}
 use Rattle.watched_code.proofs.watching.Segments.{Apart, sum_below}
-use Rattle.watched_code.proofs.watching.Defaults.{Stored, all_defaulted, defaults_run, default_else, default_there}
+use Rattle.watched_code.proofs.watching.Defaults.{Stored, stored, all_defaulted, defaults_run, default_else, default_there}
 use Rattle.codegen.specs.Calls.{HasRoutine, IsInCode, IsCalled, Back}
 use Rattle.codegen.specs.Frames.{CallsAndLeaves, Home, Called, Left}
 use Rattle.watched_code.proofs.watching.Laws.{WatchingLaws}
@@ -242,22 +242,7 @@ ended_well c b gs most back bytes before s h routine i k fine =
 marked : InstructionGoesOn → (c : Setting) (s : State) (bad : ℕ) (rest : List Instr) → c.open_to fault_at ≡ false
     → Live c s → s.regs.pc ≡ bad → Stands c bad (LdabImmediate 1 ∷ StabExtended fault_at ∷ rest)
     → Stored c 2 s (set s.mem fault_at 1) rest
-marked go c s bad rest shown l ep h =
-    let u = after_plain c.flags (LdabImmediate 1) s in
-    let v = after_plain c.flags (StabExtended fault_at) u in
-    let n = ldab go c s bad 1 l ep h.0 in
-    let k = stab go c u (bad + 2) fault_at n.live n.pc_is h.1.0 (omega arith) shown in
-    record {
-      t = v;
-      goes = bounded_on (Step c) 1 0 1 0 s u v (bounded_one (Step c) 0 s u n.step) (bounded_one (Step c) 0 u v k.step);
-      live =
-          k.live;
-      at = bad + 2 + 3;
-      pc_is = k.pc_is;
-      sp_is = refl;
-      mem_is = refl;
-      behind = h.1.1;
-    }
+marked go c s bad rest shown l ep h = stored go c s bad fault_at 1 rest l ep h (omega arith) shown
 
 -- what memory holds behind them
 defaults_stand : (l : Layout) (b : Block) (before : ℕ → ℕ) (m : List ℕ) → length b.outputs ≤ 4
