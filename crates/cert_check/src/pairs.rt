@@ -11,7 +11,7 @@ ghost use Rattle.cert_check.specs.Faults.{AllHold, IsPairFault, HasPartFault};
 ghost use Rattle.cert_check.specs.Walks.{Raises};
 
 use crate::checker::CheckFault;
-use error_bound::{BlockTable, BoxTable, ByteBox, Leaf, is_pair_for};
+use error_bound::{AskedLeaves, BlockTable, BoxTable, ByteBox, Leaf, is_pair_for};
 use fuzzy_meaning::Block;
 
 /// Raises the error of each output to the Bound of its pair on a box, or tells the first pair that
@@ -36,14 +36,27 @@ pub(crate) fn raise_errors(
     ensures raised { OnOk result (Raises block.now parts (part_of bytes.0.items pairs.now) errors.old errors.new) }
     ensures fault { IfErr result (HasPartFault block.now (part_of bytes.0.items pairs.now) line) }
 {
-    let silent = pairs.iter().any(|pair| pair.1 == 0);
-    let table = BoxTable::for_leaves(block, kept, bytes, silent);
+    let table = BoxTable::for_leaves(block, kept, bytes, asked_by(pairs));
     for o in 0..pairs.len() {
         let (rule, k) = pairs[o];
         let bound = pair_bound(block, &table, Leaf { rule, k }, o as u8 + 1, parts, line)?;
         errors[o] = errors[o].max(bound);
     }
     Ok(())
+}
+
+/// The leaves that a line's pairs are.
+fn asked_by(pairs: &[(u16, u8)]) -> AskedLeaves
+    ensures silent { result ≡ AskedLeaves.Silent ↔ All (λ pair. pair.1 ≡ 0) pairs.now }
+    ensures strong { result ≡ AskedLeaves.Strong → All (λ pair. pair.1 ≢ 0) pairs.now }
+{
+    if pairs.iter().all(|pair| pair.1 == 0) {
+        AskedLeaves::Silent
+    } else if pairs.iter().all(|pair| pair.1 != 0) {
+        AskedLeaves::Strong
+    } else {
+        AskedLeaves::Mixed
+    }
 }
 
 /// The Bound of a pair for an output on a table's box, or its fault.

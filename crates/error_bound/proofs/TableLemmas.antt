@@ -16,7 +16,6 @@ use Rattle.fz_list.proofs.Algebra.{IsSomeAnd-some, IsSomeAnd-within, some_at}
 use Rattle.error_bound.specs.declared.boxes.Interval.{Interval}
 use Rattle.error_bound.specs.declared.ends.End.{End}
 use Rattle.error_bound.specs.declared.reaches.Reach.{Reach}
-use Rattle.error_bound.specs.declared.rules.BoxTable.{BoxTable}
 use Rattle.error_bound.specs.declared.tables.Row.{Row}
 use Rattle.error_bound.specs.declared.tables.BoxTerms.{BoxTerms}
 use Rattle.error_bound.specs.Boxes.{literal_span, literal_byte_span, rule_span, rule_byte_span}
@@ -24,7 +23,7 @@ use Rattle.error_bound.specs.Ratios.{value_of, IsRatio}
 use Rattle.error_bound.specs.Spans.{Span, span, byte_span, end_of, byte_end_of}
 use Rattle.error_bound.specs.Flattening.{IsSame, AreSame, ReachesAlike}
 use Rattle.error_bound.specs.Reaches.{AreBoxTerms, IsReachOfTerm, IsReachOfLiteral, IsEndOfCondition, IsEndOfRule}
-use Rattle.error_bound.specs.Reaches.{IsErrorOfRule, AreEndsOfRules, IsTable}
+use Rattle.error_bound.specs.Reaches.{IsErrorOfRule, AreEndsOfRules, AreErrorsOfRules}
 use Rattle.error_bound.proofs.Values.{times_same}
 use Rattle.error_bound.proofs.FlatteningLemmas.{span_to_itself}
 
@@ -60,11 +59,12 @@ literal_reach b terms i t row reach has table =
     )
 
 -- what a table has of a rule
-pub rule_error_at : (b : Block) (t : BoxTable) (n : ℕ) (r : Rule) → IsTable b t → slice_get b.rules n ≡ Some r
-    → IsErrorOfRule b t.bytes.0.items r (get_or t.errors n 0)
-rule_error_at b t n r table e =
-    let q = table.errors n r e in
-    subst (IsErrorOfRule b t.bytes.0.items r) (sym (get_or_from_slice_get t.errors n q.0 0 q.1)) q.2
+pub rule_error_at : (b : Block) (box : List Interval) (errors : List ℕ) (n : ℕ) (r : Rule)
+    → AreErrorsOfRules b box errors → slice_get b.rules n ≡ Some r
+    → IsErrorOfRule b box r (get_or errors n 0)
+rule_error_at b box errors n r all e =
+    let q = all n r e in
+    subst (IsErrorOfRule b box r) (sym (get_or_from_slice_get errors n q.0 0 q.1)) q.2
 
 abbrev pub no_end : End
 no_end = record { truth = record { num = 0; den = 0 }; byte = 0 }

@@ -138,6 +138,6 @@ pub record IsTable (b : Block) (t : BoxTable) : Type 0 where
   pub same_box : t.terms.bytes.0.items ≡ t.bytes.0.items
   pub terms : AreBoxTerms b t.terms
   pub kept : IfSome t.kept (λ table. IsBlockTable b table.now)
-  pub errors : AreErrorsOfRules b t.bytes.0.items t.errors
+  pub errors : IfSome t.errors (AreErrorsOfRules b t.bytes.0.items)
   pub lows : IfSome t.lows (AreEndsOfRules b t.bytes.0.items false)
   pub highs : IfSome t.highs (AreEndsOfRules b t.bytes.0.items true)

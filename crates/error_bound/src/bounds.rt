@@ -132,7 +132,8 @@ impl BoxTable<'_> {
         let mut errors = [0; 15];
         let rules = block.rules.as_slice();
         for n in (0..rules.len()).rev() {
-            raise_terms(&mut errors, &rules[n], out, self.errors[n]);
+            let error = self.error_of_rule(block, n);
+            raise_terms(&mut errors, &rules[n], out, error);
         }
         errors
     }

@@ -33,5 +33,5 @@ pub use laws::{
     term_errors_are,
 };
 pub use leaves::{is_pair_for, leaf_bound, leaf_bound16};
-pub use rules::BoxTable;
+pub use rules::{AskedLeaves, BoxTable};
 pub use tables::BlockTable;

@@ -19,8 +19,21 @@ use byte_scaling::weight_byte;
 use fuzzy_meaning::{Block, Cond, Rule};
 use fz_num::Dec;
 
-/// What leaves need of a box, made once for all of them. It answers for each leaf; which ends of the rules' strengths
-/// are made beforehand says only how fast.
+/// The leaves that a table is made for.
+#[derive(Clone, Copy, PartialEq, Eq, Debug)]
+pub enum AskedLeaves {
+    /// Silent ones alone, which need no errors.
+    Silent,
+    /// A few strong ones.
+    Strong,
+    /// Silent ones, and a few strong ones.
+    Mixed,
+    /// The best ones, for which all rules' strengths are looked at.
+    Best,
+}
+
+/// What leaves need of a box, made once for all of them. It answers for each leaf; what of the rules is made beforehand
+/// says only how fast.
 #[derive(Drop)]
 pub struct BoxTable<'a> {
     /// The box that the table was made from.
@@ -28,7 +41,7 @@ pub struct BoxTable<'a> {
     pub(crate) terms: BoxTerms,
     pub(crate) kept: Option<&'a BlockTable>,
     /// How far each rule's strength over bytes may be from the exact one, in parts of 10^9.
-    pub(crate) errors: [u64; 256],
+    pub(crate) errors: Option<[u64; 256]>,
     /// The least strength of each rule.
     pub(crate) lows: Option<[End; 256]>,
     /// The greatest strength of each rule.
@@ -44,7 +57,7 @@ impl<'a> BoxTable<'a> {
         ensures same { result.bytes ≡ bytes }
         ensures table { IsTable block.now result }
     {
-        BoxTable::of(block, None, bytes, true, true)
+        BoxTable::of(block, None, bytes, AskedLeaves::Best)
     }
 
     /// The same where the block's table is kept, in a few steps for each byte of each term, and then for
@@ -56,16 +69,15 @@ impl<'a> BoxTable<'a> {
         ensures same { result.bytes ≡ bytes }
         ensures table { IsTable block.now result }
     {
-        BoxTable::of(block, Some(table), bytes, true, true)
+        BoxTable::of(block, Some(table), bytes, AskedLeaves::Best)
     }
 
-    /// The same where few strong leaves are asked for, or the best ones are not. `silent` says that silent leaves are
-    /// asked for.
+    /// The same where it is known which leaves are asked for: of the rules it makes beforehand what they need alone.
     pub fn for_leaves(
         block: &Block,
         table: &'a BlockTable,
         bytes: ByteBox,
-        silent: bool,
+        leaves: AskedLeaves,
     ) -> BoxTable<'a>
         requires block { IsValid block.now }
         requires table { IsBlockTable block.now table.now }
@@ -73,15 +85,14 @@ impl<'a> BoxTable<'a> {
         ensures same { result.bytes ≡ bytes }
         ensures table { IsTable block.now result }
     {
-        BoxTable::of(block, Some(table), bytes, false, silent)
+        BoxTable::of(block, Some(table), bytes, leaves)
     }
 
     fn of(
         block: &Block,
         kept: Option<&'a BlockTable>,
         bytes: ByteBox,
-        lower: bool,
-        upper: bool,
+        leaves: AskedLeaves,
     ) -> BoxTable<'a>
         requires block { IsValid block.now }
         requires bytes { IsBoxOf block.now bytes.0.items }
@@ -90,9 +101,9 @@ impl<'a> BoxTable<'a> {
         ensures table { IsTable block.now result }
     {
         let terms = BoxTerms::new(block, bytes.copied(), kept);
-        let errors = errors_of_rules(kept, block, &terms);
-        let lows = ends_if(lower, false, kept, block, &terms);
-        let highs = ends_if(upper, true, kept, block, &terms);
+        let errors = errors_for(leaves, kept, block, &terms);
+        let lows = ends_for(leaves, false, kept, block, &terms);
+        let highs = ends_for(leaves, true, kept, block, &terms);
         BoxTable {
             bytes,
             terms,
@@ -100,6 +111,23 @@ impl<'a> BoxTable<'a> {
             errors,
             lows,
             highs,
+        }
+    }
+
+    /// The error of the strength of the rule at a place.
+    pub(crate) fn error_of_rule(&self, block: &Block, place: usize) -> u64
+        requires block { IsValid block.now }
+        requires table { IsTable block.now self.now }
+        requires place { place < length block.now.rules }
+        ensures { (r : TheRule) → slice_get block.now.rules place ≡ Some r
+            → IsErrorOfRule block.now self.now.bytes.0.items r result }
+    {
+        match &self.errors {
+            Some(errors) => errors[place],
+            None => {
+                let rule = &block.rules.as_slice()[place];
+                error_of_strength(self.kept, place, rule, block, &self.terms)
+            }
         }
     }
 
@@ -129,9 +157,29 @@ impl<'a> BoxTable<'a> {
     }
 }
 
-/// The upper ends of all rules' strengths, or the lower ones, where they are asked for.
-fn ends_if(
-    asked: bool,
+/// The errors of all rules' strengths, where leaves need them.
+fn errors_for(
+    leaves: AskedLeaves,
+    kept: Option<&BlockTable>,
+    block: &Block,
+    terms: &BoxTerms,
+) -> Option<[u64; 256]>
+    requires block { IsValid block.now }
+    requires terms { AreBoxTerms block.now terms.now }
+    requires kept { IfSome kept (λ table. IsBlockTable block.now table.now) }
+    ensures { IfSome result (AreErrorsOfRules block.now terms.now.bytes.0.items) }
+{
+    match leaves {
+        AskedLeaves::Silent => None,
+        AskedLeaves::Strong | AskedLeaves::Mixed | AskedLeaves::Best => {
+            Some(errors_of_rules(kept, block, terms))
+        }
+    }
+}
+
+/// The upper ends of all rules' strengths, or the lower ones, where leaves need them. A strong leaf needs one alone.
+fn ends_for(
+    leaves: AskedLeaves,
     upper: bool,
     kept: Option<&BlockTable>,
     block: &Block,
@@ -142,7 +190,12 @@ fn ends_if(
     requires kept { IfSome kept (λ table. IsBlockTable block.now table.now) }
     ensures { IfSome result (AreEndsOfRules block.now terms.now.bytes.0.items upper) }
 {
-    if asked {
+    let all = match leaves {
+        AskedLeaves::Silent | AskedLeaves::Mixed => upper,
+        AskedLeaves::Strong => false,
+        AskedLeaves::Best => true,
+    };
+    if all {
         Some(ends_of_rules(upper, kept, block, terms))
     } else {
         None

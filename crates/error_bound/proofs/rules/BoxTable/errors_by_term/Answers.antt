@@ -1,4 +1,4 @@
-use Rattle.std.proofs.Common.{◌≡◌, ℕ, suc, ◌+◌, ◌-◌, ◌<◌, ◌≤◌, max, Bool, true, false, ◌∷◌, length, drop, get_or, refl}
+use Rattle.std.proofs.Common.{◌≡◌, ℕ, suc, ◌+◌, ◌-◌, ◌<◌, ◌≤◌, max, Bool, true, false, ◌∷◌, length, drop, refl}
 use Rattle.std.proofs.Common.{sym, ap, ap₂, ◌∙◌, arith}
 use Rattle.std.specs.Prelude.{if◌then◌else◌}
 use Rattle.std.proofs.Math.Seq.{drop-cons}
@@ -6,7 +6,6 @@ use Rattle.std.proofs.lemmas.Option.{slice_get_read}
 use Rattle.fuzzy_meaning.specs.Rules.{concludes}
 use Rattle.error_bound.specs.CellErrors.{term_errors}
 use Rattle.error_bound.specs.Errors.{output_error_among}
-use Rattle.error_bound.proofs.TableLemmas.{rule_error_at}
 use Rattle.error_bound.proofs.rules.BoxTable.errors_by_term.Goals as goal
 
 raised-le : (p : Bool) (x y a n : ℕ) → a ≡ (if p then max x y else y) → x ≤ n → y ≤ n → a ≤ n
@@ -26,8 +25,8 @@ loop-n-preserved c =
     let upto = c.loop-n.auto.n in
     let within : j < length rules = omega arith in
     let found = slice_get_read rules (length rules) j r0 refl within c.index-rules-n.is in
-    let q = rule_error_at b c.args.self.now j r0 c.requires.table (rw all at found) in
-    let error = get_or c.args.self.now.errors j 0 in
+    let q = c.error_of_rule-error.ensures r0 (rw all at found) in
+    let error = c.error_of_rule-error.result in
     let back : suc j ≡ c.loop-n.n = omega arith in
     let here : drop j rules ≡ r0 ∷ drop c.loop-n.n rules = drop-cons rules j r0 within
     ∙ ap₂ (λ r n. r ∷ drop n rules) (sym c.index-rules-n.is) back in

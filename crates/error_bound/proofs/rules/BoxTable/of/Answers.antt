@@ -14,8 +14,8 @@ returns-clause-table c =
       same_box = same;
       terms = c.new-terms.ensures.terms;
       kept = c.requires.kept;
-      errors = subst (λ box. AreErrorsOfRules b box c.errors_of_rules-errors.result) same
-          c.errors_of_rules-errors.ensures;
-      lows = subst (λ box. IfSome c.ends_if-lows.result (AreEndsOfRules b box false)) same c.ends_if-lows.ensures;
-      highs = subst (λ box. IfSome c.ends_if-highs.result (AreEndsOfRules b box true)) same c.ends_if-highs.ensures;
+      errors = subst (λ box. IfSome c.errors_for-errors.result (AreErrorsOfRules b box)) same
+          c.errors_for-errors.ensures;
+      lows = subst (λ box. IfSome c.ends_for-lows.result (AreEndsOfRules b box false)) same c.ends_for-lows.ensures;
+      highs = subst (λ box. IfSome c.ends_for-highs.result (AreEndsOfRules b box true)) same c.ends_for-highs.ensures;
     }

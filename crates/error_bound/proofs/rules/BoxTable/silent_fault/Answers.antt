@@ -11,6 +11,15 @@ use Rattle.error_bound.proofs.Values.{silent_same, none_same}
 use Rattle.error_bound.proofs.rules.BoxTable.silent_fault.Goals as goal
 use Rattle.error_bound.proofs.rules.BoxTable.silent_fault.Goals.{then-concludes_some+in_default, else-concludes_some}
 
+pub firing_fault-requires : goal.firing_fault-requires
+firing_fault-requires c =
+    let n = c.loop-n.n in
+    let r0 = c.index-rules-n.result in
+    let rules = c.as_slice-rules.result.now in
+    let all : rules ≡ c.args.block.now.rules = c.as_slice-rules.ensures in
+    let found = rw all at (slice_get_read rules (length rules) n r0 refl c.loop-n-test.true c.index-rules-n.is) in
+    (c.end_of_rule-high.ensures r0 found).small
+
 pub returns-in-Some-clause-fault : goal.returns-in-Some-clause-fault
 returns-in-Some-clause-fault c =
     let b = c.args.block.now in
