@@ -1,11 +1,7 @@
 -- Steps of a run without interrupts one after another: what holds before each, stretches of them, and sums that are
--- kept between parts or pushed.
+-- kept between parts.
 use Rattle.std.proofs.Common.{◌≡◌, ℕ, zero, suc, ◌+◌, ◌^◌, ◌<◌, ◌≤◌, not, Bool, false, Result, Ok, refl, ap, ap₂, sym}
 use Rattle.std.proofs.Common.{◌∙◌, subst, arith}
-use Rattle.cpu12_isa.specs.declared.instr.Regs.{Regs}
-use Rattle.cpu12_isa.specs.Fits.{FitsRegs}
-use Rattle.cpu12_isa.specs.Memory.{plus}
-use Rattle.cpu12_isa.specs.Regions.{stack_start, stack_end}
 use Rattle.cpu12_parts.specs.declared.temps.Temps.{Temps}
 use Rattle.cpu12_parts.specs.declared.temps.Temps.TheVariants.{Free, Running, OnStack}
 use Rattle.cpu12_parts.specs.Laws.{AreKept}
@@ -15,18 +11,19 @@ use Rattle.cpu12_emul.specs.declared.ends.Stepped.TheVariants.{Part}
 use Rattle.cpu12_emul.specs.Step.{Next, next_of, is_part}
 use Rattle.run_law.specs.Forms.{one_if}
 use Rattle.run_law.specs.Uninterrupted.{stepped, kind_at, state_by, kind_by, uninterrupted, counted}
-use Rattle.run_law.specs.Soundness.{Before, below_sums}
+use Rattle.run_law.specs.Soundness.{Before}
 
-pub before_at : (P : State → Type 0) (flags n m : ℕ) (s : State) → Before P flags n s → suc m ≤ n
-    → P (uninterrupted flags m s)
-before_at P flags zero m s b l = absurd (omega arith)
-before_at P flags (suc n) zero s b l = b.0
-before_at P flags (suc n) (suc m) s b l = before_at P flags n m (stepped flags s) b.1 (omega arith)
+-- what holds before no step, before one, and before one more
+pub before_none : (P : State → Type 0) (flags : ℕ) (s : State) → Before P flags 0 s
+before_none P flags s k l = absurd (omega arith)
 
-pub before_weaker : (P Q : State → Type 0) (flags : ℕ) → ((s : State) → P s → Q s) → (n : ℕ) (s : State)
-    → Before P flags n s → Before Q flags n s
-before_weaker P Q flags h zero s b = tt
-before_weaker P Q flags h (suc n) s b = (h s b.0, before_weaker P Q flags h n (stepped flags s) b.1)
+pub before_more : (P : State → Type 0) (flags n : ℕ) (s : State) → P s → Before P flags n (stepped flags s)
+    → Before P flags (suc n) s
+before_more P flags n s p b zero l = p
+before_more P flags n s p b (suc k) l = b k (omega arith)
+
+pub before_one : (P : State → Type 0) (flags : ℕ) (s : State) → P s → Before P flags 1 s
+before_one P flags s p = before_more P flags 0 s p (before_none P flags (stepped flags s))
 
 pub uninterrupted_add : (flags m n : ℕ) (s : State)
     → uninterrupted flags (m + n) s ≡ uninterrupted flags n (uninterrupted flags m s)
@@ -44,9 +41,10 @@ counted_add flags (suc m) n s =
 
 pub before_add : (P : State → Type 0) (flags m n : ℕ) (s : State) → Before P flags m s
     → Before P flags n (uninterrupted flags m s) → Before P flags (m + n) s
-before_add P flags zero n s a b = let e : n ≡ 0 + n = omega arith in subst (λ (k : ℕ). Before P flags k s) e b
-before_add P flags (suc m) n s a b = let e : suc (m + n) ≡ suc m + n = omega arith in
-    subst (λ (k : ℕ). Before P flags k s) e (a.0, before_add P flags m n (stepped flags s) a.1 b)
+before_add P flags zero n s a b k l = b k (omega arith)
+before_add P flags (suc m) n s a b zero l = a 0 (omega arith)
+before_add P flags (suc m) n s a b (suc k) l =
+    before_add P flags m n (stepped flags s) (λ j i. a (suc j) (omega arith)) b k (omega arith)
 
 -- So many steps lead from s to t, of which so many count, and P holds at each state before t.
 pub record Stretch (P : State → Type 0) (flags n count : ℕ) (s t : State) : Type 0 where
@@ -55,7 +53,7 @@ pub record Stretch (P : State → Type 0) (flags n count : ℕ) (s t : State) : 
   pub each : Before P flags n s
 
 pub no_stretch : (P : State → Type 0) (flags : ℕ) (s : State) → Stretch P flags 0 0 s s
-no_stretch P flags s = record { goes = refl; counts = refl; each = tt }
+no_stretch P flags s = record { goes = refl; counts = refl; each = before_none P flags s }
 
 -- one behind the other
 pub joined : (P : State → Type 0) (flags m n i j : ℕ) (s u t : State) → Stretch P flags m i s u
@@ -75,7 +73,7 @@ one_stretch P flags k s t whole p e = record {
   goes = ap (state_by s) e;
   counts = ap (λ (o : Result Next ℕ). one_if (not (is_part (kind_by o))) + 0) e
       ∙ ap (λ (b : Bool). one_if (not b) + 0) whole;
-  each = (p, tt);
+  each = before_one P flags s p;
 }
 
 -- a part before the rest
@@ -87,7 +85,7 @@ part_stretch P flags n s u t p e r =
     record {
       goes = ap (uninterrupted flags n) at ∙ r.goes;
       counts = ap₂ (λ (k : Stepped) (m : ℕ). one_if (not (is_part k)) + m) kind (ap (counted flags n) at ∙ r.counts);
-      each = (p, subst (λ (v : State). Before P flags n v) (sym at) r.each);
+      each = before_more P flags n s p (subst (λ (v : State). Before P flags n v) (sym at) r.each);
     }
 
 -- sums that stand between parts
@@ -102,13 +100,3 @@ pub kept_sums : (t : Temps) → AreKept t → KeptSums t
 kept_sums Free h = absurd h
 kept_sums OnStack h = absurd h
 kept_sums (Running p w) h = record { product = p; weight = w; running = refl; product_fits = h.0; weight_fits = h.1 }
-
--- registers below sums that are pushed fit, and SP is no more than six lower
-pub below_fits : (r : Regs) (t : Temps) → FitsRegs r → stack_start + 15 ≤ r.sp → r.sp ≤ stack_end
-    → FitsRegs (below_sums r t) × (r.sp ≤ (below_sums r t).sp + 6) × ((below_sums r t).sp ≤ r.sp)
-below_fits r Free f l h = (f, omega arith, omega arith)
-below_fits r OnStack f l h = (f, omega arith, omega arith)
-below_fits r (Running p w) f l h = (at (plus r.sp 65530) (omega arith), omega arith, omega arith)
-  where
-    at : (k : ℕ) → k < 2 ^ 16 → FitsRegs (record r { sp = k })
-    at k fits = record { a = f.a; b = f.b; x = f.x; y = f.y; sp = fits; pc = f.pc; ccr = f.ccr }

@@ -1,7 +1,8 @@
 -- A handler that does listed writes is quiet.
-use Rattle.std.proofs.Common.{◌≡◌, ℕ, ◌+◌, ◌≤◌, Bool, length, sym, ◌∙◌, subst, arith}
+use Rattle.std.proofs.Common.{◌≡◌, ℕ, ◌+◌, ◌^◌, ◌<◌, ◌≤◌, Bool, length, sym, ◌∙◌, subst, arith}
 use Rattle.cpu12_isa.specs.declared.instr.Regs.{Regs}
 use Rattle.cpu12_isa.specs.Fits.{FitsRegs}
+use Rattle.cpu12_isa.specs.Memory.{plus}
 use Rattle.cpu12_isa.specs.Regions.{stack_start, stack_end}
 use Rattle.cpu12_parts.specs.declared.temps.Temps.{Temps}
 use Rattle.cpu12_parts.specs.declared.temps.Temps.TheVariants.{Free, Running, OnStack}
@@ -9,8 +10,20 @@ use Rattle.cpu12_parts.specs.State.{State}
 use Rattle.cpu12_parts.specs.Laws.{IsOff}
 use Rattle.cpu12_emul.specs.Take.{framed}
 use Rattle.cpu12_emul.specs.Simulation.{HasRoom, TakesQuietly}
-use Rattle.run_law.proofs.Algebra.{below_fits}
-use Rattle.run_law.specs.Soundness.{Begins, AreLeft, WritesAreQuiet}
+use Rattle.run_law.specs.Soundness.{below_sums, SumsFitBelow, Begins, AreLeft, WritesAreQuiet}
+
+-- registers below sums that are pushed
+pub sums_fit_below : SumsFitBelow
+sums_fit_below r Free f l h = record { fits = f; low = omega arith; high = omega arith }
+sums_fit_below r OnStack f l h = record { fits = f; low = omega arith; high = omega arith }
+sums_fit_below r (Running p w) f l h = record {
+  fits = at (plus r.sp 65530) (omega arith);
+  low = omega arith;
+  high = omega arith;
+}
+  where
+    at : (k : ℕ) → k < 2 ^ 16 → FitsRegs (record r { sp = k })
+    at k fits = record { a = f.a; b = f.b; x = f.x; y = f.y; sp = fits; pc = f.pc; ccr = f.ccr }
 
 -- the state in which a handler begins has room for the nine bytes
 record Begun (v : State) : Type 0 where
@@ -21,12 +34,12 @@ record Begun (v : State) : Type 0 where
 
 begun : (open_to : ℕ → Bool) (v s : State) → HasRoom s → Begins open_to v s → Begun v
 begun open_to v s k b =
-    let r = below_fits s.regs s.temps k.fits k.low k.high in
+    let r = sums_fit_below s.regs s.temps k.fits k.low k.high in
     record {
       size = b.mem.size ∙ k.size;
-      fits = subst (λ (r : Regs). FitsRegs r) (sym b.regs) r.0;
-      low = subst (λ (r : Regs). stack_start + 9 ≤ r.sp) (sym b.regs) (omega (arith, r.1, k.low));
-      high = subst (λ (r : Regs). r.sp ≤ stack_end) (sym b.regs) (omega (arith, r.2, k.high));
+      fits = subst (λ (r : Regs). FitsRegs r) (sym b.regs) r.fits;
+      low = subst (λ (r : Regs). stack_start + 9 ≤ r.sp) (sym b.regs) (omega (arith, r.low, k.low));
+      high = subst (λ (r : Regs). r.sp ≤ stack_end) (sym b.regs) (omega (arith, r.high, k.high));
     }
 
 -- sums that stay as they were are left

@@ -8,7 +8,7 @@ use Rattle.cpu12_parts.specs.State.{State}
 use Rattle.cpu12_emul.specs.Take.{FrameSeen, may_interrupt}
 use Rattle.run_law.specs.Uninterrupted.{uninterrupted, first_open, taken_at, expected_frame}
 use Rattle.run_law.specs.Soundness.{Ascend}
-use Rattle.run_law.specs.Moments.{TakenAtFirstOpen}
+use Rattle.run_law.specs.Moments.{TakenAtFirstOpen, TakenAtOnce}
 use Rattle.run_law.proofs.Boundaries.{drop_due, frames_here, taken_here}
 
 bool_cases : (b : Bool) → (b ≡ true) ⊎ (b ≡ false)
@@ -170,3 +170,19 @@ taken_at_first_open flags n s a = record {
     | inr e ↦ e
   ]);
 }
+
+-- where I is 0 throughout a request is taken at its moment
+at_once : (flags : ℕ) (s : State) (k m : ℕ)
+    → ((j : ℕ) → j < m + k → may_interrupt (uninterrupted flags j s) ≡ true) → first_open flags s k m ≡ m
+at_once flags s zero m h = refl
+at_once flags s (suc k) m h = let e = h m (omega arith) in rw e refl
+
+pub taken_at_once : TakenAtOnce
+taken_at_once flags n s a h = by (within n a)
+  where
+    within : (n a : ℕ) → (n - a ≡ 0) ⊎ (n - a + a ≡ n)
+    within n a = grind arith
+
+    by : (n - a ≡ 0) ⊎ (n - a + a ≡ n) → first_open flags s (n - a) a ≡ a
+    by (inl e) = ap (λ (k : ℕ). first_open flags s k a) e
+    by (inr e) = at_once flags s (n - a) a (λ j l. h j (omega arith))

@@ -138,14 +138,15 @@ along open_to f P Good Own gr all s0 from on end done (suc n) zero m inside qs w
 along {S = S} {A = A} {B = B} open_to f P Good Own gr all s0 from on end done (suc n)
     (suc fuel) m inside qs w s past le sum here l own h good up =
     let at : A → ℕ = taken_at f.flags f.moment all s0 in
-    let b = boundary open_to f P Good Own gr done m true qs w s good h.0 (settled_first open_to w s l) own in
+    let here_holds : P s = h 0 (omega arith) in
+    let b = boundary open_to f P Good Own gr done m true qs w s good here_holds (settled_first open_to w s l) own in
     let t : Taking A B = takes f m qs w in
     let sound = gr.sound in
     let keeps = sound.leaves_open in
-    let g = step_follows gr.machine.step_keeps open_to f.flags t.state s b.simulates (sound.shown s h.0) in
+    let g = step_follows gr.machine.step_keeps open_to f.flags t.state s b.simulates (sound.shown s here_holds) in
     let own2 : Own (onto t.told done) g.next.state =
     subst (λ (v : State). Own (onto t.told done) v) (ap (state_by t.state) g.goes)
-    (keeps.steps (onto t.told done) t.state s h.0 b.simulates b.own) in
+    (keeps.steps (onto t.told done) t.state s here_holds b.simulates b.own) in
     let lt : m < all = omega arith in
     let drop : drop_due f.moment (may_interrupt s) m qs ≡ drop_due at true m qs =
     subst (λ (u : State). drop_due f.moment (may_interrupt u) m qs ≡ drop_due at true m qs) here
@@ -162,7 +163,8 @@ along {S = S} {A = A} {B = B} open_to f P Good Own gr all s0 from on end done (s
     b g drop taken frame
     (along open_to f P Good Own gr all s0 from on end (onto t.told done) n fuel (suc m)
     (is_part g.next.kind) t.left g.next.state (stepped f.flags s) (omega arith) (omega arith)
-    (omega arith) next g.same own2 h.1
+    (omega arith) next g.same own2
+    (λ j i. h (suc j) (omega arith))
     (subst (λ (qs' : List A). AllGood Good qs') (sym b.left) (good_rest Good f.moment (may_interrupt s) m qs good))
     (subst (λ (qs' : List A). Ascend at (suc m) qs') (sym (b.left ∙ drop)) (ascend_rest at m qs up)))
 

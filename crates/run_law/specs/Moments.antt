@@ -13,3 +13,8 @@ pub record IsFirstOpen (flags n : ℕ) (s : State) (a t : ℕ) : Type 0 where
 -- A request of moment a is taken at the least boundary from a on at which I is 0.
 abbrev pub TakenAtFirstOpen : Type 0
 TakenAtFirstOpen = (flags n : ℕ) (s : State) (a : ℕ) → IsFirstOpen flags n s a (first_open flags s (n - a) a)
+
+-- Where I is 0 at each boundary before n, a request of moment a is taken at its moment.
+abbrev pub TakenAtOnce : Type 0
+TakenAtOnce = (flags n : ℕ) (s : State) (a : ℕ)
+    → ((j : ℕ) → j < n → may_interrupt (uninterrupted flags j s) ≡ true) → first_open flags s (n - a) a ≡ a

@@ -1,10 +1,11 @@
 -- What a form of firmware and its handler owe, so that its runs under interrupts follow those without.
-use Rattle.std.specs.Prelude.{◌≡◌, ℕ, zero, suc, ◌≤◌, Bool, true, List, [], ◌∷◌}
+use Rattle.std.specs.Prelude.{◌≡◌, ℕ, ◌+◌, ◌<◌, ◌≤◌, Bool, true, List, [], ◌∷◌}
 use Rattle.cpu12_isa.specs.declared.instr.Regs.{Regs}
 use Rattle.cpu12_isa.specs.declared.instr.Write.{Write}
 use Rattle.cpu12_isa.specs.Memory.{plus}
 use Rattle.cpu12_isa.specs.Agreement.{Agree}
-use Rattle.cpu12_isa.specs.Regions.{is_hidden, LeavesStack}
+use Rattle.cpu12_isa.specs.Fits.{FitsRegs}
+use Rattle.cpu12_isa.specs.Regions.{stack_start, stack_end, is_hidden, LeavesStack}
 use Rattle.cpu12_parts.specs.declared.temps.Temps.{Temps}
 use Rattle.cpu12_parts.specs.declared.temps.Temps.TheVariants.{Free, Running, OnStack}
 use Rattle.cpu12_parts.specs.State.{State}
@@ -13,12 +14,11 @@ use Rattle.cpu12_parts.specs.Laws.{IsOff}
 use Rattle.cpu12_emul.specs.Take.{may_interrupt, framed}
 use Rattle.cpu12_emul.specs.Simulation.{AreOpen, Same, Simulates, HasRoom, IsShownStep}
 use Rattle.run_law.specs.Forms.{Form}
-use Rattle.run_law.specs.Uninterrupted.{stepped}
+use Rattle.run_law.specs.Uninterrupted.{stepped, uninterrupted}
 
 -- P holds at each of the n states before the last
 abbrev pub Before : (State → Type 0) → ℕ → ℕ → State → Type 0
-Before P flags zero s = Unit {0}
-Before P flags (suc n) s = P s × Before P flags n (stepped flags s)
+Before P flags n s = (k : ℕ) → k < n → P (uninterrupted flags k s)
 
 -- each state of a list simulates that of the run without interrupts
 abbrev pub AllSimulate : (ℕ → Bool) → ℕ → List State → State → Type 0
@@ -30,6 +30,16 @@ abbrev pub below_sums : Regs → Temps → Regs
 below_sums r Free = r
 below_sums r OnStack = r
 below_sums r (Running p w) = record r { sp = plus r.sp 65530 }
+
+-- they fit, and SP is no more than six lower
+pub record FitBelow (r : Regs) (t : Temps) : Type 0 where
+  pub fits : FitsRegs (below_sums r t)
+  pub low : r.sp ≤ (below_sums r t).sp + 6
+  pub high : (below_sums r t).sp ≤ r.sp
+
+-- So it is with registers that fit, where SP stands on the stack with room for a frame and sums.
+abbrev pub SumsFitBelow : Type 0
+SumsFitBelow = (r : Regs) (t : Temps) → FitsRegs r → stack_start + 15 ≤ r.sp → r.sp ≤ stack_end → FitBelow r t
 
 -- v is the state in which a handler begins where the run without interrupts is in s: no sums run, and none are on the
 -- stack where none are in s.

@@ -3,9 +3,9 @@ ghost use Rattle.std.specs.Prelude.{ℕ, Bool, List};
 ghost use Rattle.cpu12_isa.specs.Agreement.{WritesAgree};
 ghost use Rattle.cpu12_parts.specs.State.{State};
 ghost use Rattle.run_law.specs.Forms.{Form};
-ghost use Rattle.run_law.specs.Soundness.{Sound, WritesAreQuiet};
+ghost use Rattle.run_law.specs.Soundness.{Sound, SumsFitBelow, WritesAreQuiet};
 ghost use Rattle.run_law.specs.Following.{RunFollows, RunsFollow};
-ghost use Rattle.run_law.specs.Moments.{TakenAtFirstOpen};
+ghost use Rattle.run_law.specs.Moments.{TakenAtFirstOpen, TakenAtOnce};
 ghost use Rattle.run_law.specs.Steps.{MachineLaws, StepLaws};
 
 use cpu12_emul::laws::{
@@ -88,6 +88,16 @@ pub fn runs_follow<F: SoundForm>()
 /// A request is taken at the least boundary from its moment on at which I is 0 without interrupts.
 pub fn taken_at_first_open()
     ensures { TakenAtFirstOpen }
+{}
+
+/// Where I is 0 throughout without interrupts, a request is taken at its moment.
+pub fn taken_at_once()
+    ensures { TakenAtOnce }
+{}
+
+/// Registers with SP below sums that are pushed fit, and SP is no more than six lower.
+pub fn sums_fit_below()
+    ensures { SumsFitBelow }
 {}
 
 /// A handler that does writes to open bytes is quiet.
