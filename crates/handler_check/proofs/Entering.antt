@@ -23,8 +23,7 @@ use Rattle.cpu12_parts.specs.Laws.{IsOff}
 use Rattle.cpu12_parts.specs.Inside.{PushesRunning, PushesNone}
 use Rattle.cpu12_emul.specs.Take.{framed}
 use Rattle.cpu12_emul.specs.Simulation.{AreOpen, TakesQuietly}
-use Rattle.run_law.proofs.Algebra.{below_fits}
-use Rattle.run_law.specs.Soundness.{below_sums, Begins, AreLeft}
+use Rattle.run_law.specs.Soundness.{below_sums, Begins, AreLeft, SumsFitBelow}
 use Rattle.handler_check.specs.Images.{IsWhole, IsHandler}
 use Rattle.handler_check.specs.Running.{until_rti, at_code, HasHandler, HasImage, CanBegin, CanEnter, IsTake}
 use Rattle.handler_check.specs.Running.{AcceptedIsTake, HandlersRunAsTakes, HandlersAreQuiet}
@@ -62,15 +61,15 @@ has_handler image instrs m k h =
     record { vector = h.vector; code = code_by image m k.code h.bytes k.accepted.ends k.cut.stands }
 
 -- where code begins
-can_begin : (open_to : ℕ → Bool) (v s : State) → CanEnter s → Begins open_to v s → CanBegin v
-can_begin open_to v s k b =
-    let r = below_fits s.regs s.temps k.fits (omega (arith, k.low)) k.high in
+can_begin : SumsFitBelow → (open_to : ℕ → Bool) (v s : State) → CanEnter s → Begins open_to v s → CanBegin v
+can_begin fit open_to v s k b =
+    let r = fit s.regs s.temps k.fits (omega (arith, k.low)) k.high in
     record {
       temps = b.temps;
       size = b.mem.size ∙ k.size;
-      fits = subst (λ (r : Regs). FitsRegs r) (sym b.regs) r.0;
-      low = subst (λ (r : Regs). 8184 ≤ r.sp) (sym b.regs) (omega (arith, r.1, k.low));
-      high = subst (λ (r : Regs). r.sp ≤ 8192) (sym b.regs) (omega (arith, r.2, k.high));
+      fits = subst (λ (r : Regs). FitsRegs r) (sym b.regs) r.fits;
+      low = subst (λ (r : Regs). 8184 ≤ r.sp) (sym b.regs) (omega (arith, r.low, k.low));
+      high = subst (λ (r : Regs). r.sp ≤ 8192) (sym b.regs) (omega (arith, r.high, k.high));
     }
 
 takes : AcceptedIsTake → (image : List (ℕ × ℕ)) (instrs flags : ℕ) (ws : List Write) (v : State)
@@ -89,9 +88,9 @@ hides_less : (sp : ℕ) (m n : List ℕ) → Agree (is_hidden (λ at. false) sp)
 hides_less sp m n a =
     record { size = a.size; bytes = λ at h. a.bytes at (or_parts (is_free at) (nat_le 8160 at && nat_lt at sp) h).1 }
 
-pub handlers_are_quiet : AcceptedIsTake → TakesQuietly → HandlersAreQuiet
-handlers_are_quiet law quietly open_to image instrs flags ws v s k free h can b =
-    let c = can_begin open_to v s can b in
+pub handlers_are_quiet : AcceptedIsTake → TakesQuietly → SumsFitBelow → HandlersAreQuiet
+handlers_are_quiet law quietly fit open_to image instrs flags ws v s k free h can b =
+    let c = can_begin fit open_to v s can b in
     let t = takes law image instrs flags ws v k free h c in
     let low = c.low in
     let u = quietly is_free t.writes v leaves t.free c.size c.fits (omega arith) c.high in
@@ -143,10 +142,11 @@ begins running none pushed s k = cases s.temps refl
         never : s.temps ≡ Free → ⊥
         never f = (let r : s.temps ≡ Running p w = e in cc)
 
-pub handlers_run_as_takes : AcceptedIsTake → PushesRunning → PushesNone → HidesPushed → HandlersRunAsTakes
-handlers_run_as_takes law running none pushed image instrs k flags ws s free h can =
+pub handlers_run_as_takes : AcceptedIsTake → PushesRunning → PushesNone → HidesPushed → SumsFitBelow
+    → HandlersRunAsTakes
+handlers_run_as_takes law running none pushed fit image instrs k flags ws s free h can =
     let b = begins running none pushed s can in
     let there = image_moves image s.regs.sp (suspended wav s).mem s.mem k.whole can.high b.mem h in
     let t = takes law image instrs flags ws (suspended wav s) k free there
-    (can_begin is_free (suspended wav s) s can b) in
+    (can_begin fit is_free (suspended wav s) s can b) in
     record { writes = t.writes; free = t.free; back = t.back; steps = t.steps; same = t.same }
