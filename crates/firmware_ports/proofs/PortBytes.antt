@@ -1,13 +1,15 @@
 -- What is written and read through a firmware's ports.
-use Rattle.std.proofs.Common.{◌≡◌, ℕ, zero, suc, ◌+◌, ◌-◌, ◌<◌, ◌≤◌, Bool, List, [], ◌∷◌, ◌++◌, length, refl, ap, ◌∙◌}
-use Rattle.std.proofs.Common.{arith, append_assoc}
+use Rattle.std.proofs.Common.{◌≡◌, ℕ, zero, suc, ◌+◌, ◌-◌, ◌*◌, ◌<◌, ◌≤◌, Bool, true, false, List, [], ◌∷◌, ◌++◌, length}
+use Rattle.std.proofs.Common.{get_or, refl, ap, ap₂, ◌∙◌, arith, append_assoc}
 use Rattle.std.proofs.Math.ListN.{set}
 use Rattle.cpu12_isa.specs.Act.{write_all}
-use Rattle.cpu12_isa.specs.Memory.{plus, placed}
+use Rattle.cpu12_isa.specs.Memory.{plus, placed, word_of}
 use Rattle.cpu12_parts.specs.State.{State}
 use Rattle.eval_code.specs.Evaluation as evaluation
+use Rattle.eval_code.specs.Widths.{width_of}
+use Rattle.codegen.specs.Uninterrupted.{values_from}
 use Rattle.firmware_ports.specs.Ports.{answer_size, answer_at, answers_at}
-use Rattle.firmware_ports.specs.Ports.{GivenIsPut}
+use Rattle.firmware_ports.specs.Ports.{AnswersAreValues, GivenIsPut}
 
 pub write_last : (ws : List (ℕ × ℕ)) (at v : ℕ) (m : List ℕ)
     → write_all (ws ++ (at, v) ∷ []) m ≡ set (write_all ws m) at v
@@ -37,3 +39,20 @@ given_is_put layout bytes s l =
   where
     by : List ℕ → State
     by m = record { regs = s.regs; temps = s.temps; mem = m }
+
+-- answers are read alike
+same_answers : (wide : Bool) (m : List ℕ) (at n : ℕ) → at + 2 * n ≤ 65535
+    → answers_at wide n at m ≡ values_from (width_of wide) m at n
+same_answers wide m at zero l = refl
+same_answers false m at (suc n) l =
+    let e : plus at 1 ≡ at + 1 = omega arith in
+    ap (λ (xs : List ℕ). get_or m at 0 ∷ xs)
+    (ap (λ (k : ℕ). answers_at false n k m) e ∙ same_answers false m (at + 1) n (omega arith))
+same_answers true m at (suc n) l =
+    let e : plus at 1 ≡ at + 1 = omega arith in
+    let f : plus at 2 ≡ at + 2 = omega arith in
+    ap₂ (λ (x : ℕ) (xs : List ℕ). x ∷ xs) (ap (λ (k : ℕ). word_of (get_or m at 0) (get_or m k 0)) e)
+    (ap (λ (k : ℕ). answers_at true n k m) f ∙ same_answers true m (at + 2) n (omega arith))
+
+pub answers_are_values : AnswersAreValues
+answers_are_values f s l = same_answers f.wide s.mem f.layout.outputs f.outputs l

@@ -1,9 +1,10 @@
 -- How a firmware is given samples, and where its answers are read.
-use Rattle.std.specs.Prelude.{◌≡◌, ℕ, zero, suc, ◌+◌, ◌≤◌, Bool, true, false, List, [], ◌∷◌, ◌++◌, length, slice_index}
+use Rattle.std.specs.Prelude.{◌≡◌, ℕ, zero, suc, ◌+◌, ◌*◌, ◌≤◌, Bool, true, false, List, [], ◌∷◌, ◌++◌, length, slice_index}
 use Rattle.cpu12_isa.specs.Act.{write_all}
 use Rattle.cpu12_isa.specs.Memory.{plus, placed, word_of}
 use Rattle.cpu12_parts.specs.State.{State}
 use Rattle.codegen.specs.Answers as answers
+use Rattle.codegen.specs.Uninterrupted.{values_in}
 use Rattle.codegen.specs.declared.firmware.Firmware.{Firmware}
 use Rattle.eval_code.specs.declared.layout.Layout.{Layout}
 
@@ -32,3 +33,8 @@ answers_in f s = answers_at f.wide f.outputs f.layout.outputs s.mem
 abbrev pub GivenIsPut : Type 0
 GivenIsPut = (l : Layout) (bytes : List ℕ) (s : State) → l.samples + length bytes ≤ 65535
     → given l bytes s ≡ answers.given l bytes s
+
+-- Answers, each of two bytes at most, that end in memory are the values of the outputs.
+abbrev pub AnswersAreValues : Type 0
+AnswersAreValues =
+    (f : Firmware) (s : State) → f.layout.outputs + 2 * f.outputs ≤ 65535 → answers_in f s ≡ values_in f s
