@@ -1,4 +1,3 @@
-pub mod Algebra
 pub mod Stretches
 pub mod Stretching
 pub mod PlainSteps

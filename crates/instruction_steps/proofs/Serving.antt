@@ -12,8 +12,6 @@ use Rattle.run_forms.specs.Arrival.{PlainIsOneStep}
 use Rattle.instruction_steps.specs.Facts.{IsStackOfOneCall}
 use Rattle.instruction_steps.specs.Instructions.{IsServing, InstructionsAreSteps}
 use Rattle.run_law.specs.Steps.{StepLaws}
-use Rattle.run_law.proofs.Algebra.{before_weaker}
-use Rattle.instruction_steps.proofs.Algebra.{at_stack}
 use Rattle.instruction_steps.proofs.Stretches.{OneInstruction, Kept, SameAbove, AtInstruction}
 use Rattle.instruction_steps.proofs.Stretching.{all_stretches}
 use Rattle.instruction_steps.proofs.PlainSteps.{plain_step}
@@ -59,7 +57,7 @@ step_stretch laws one open_to l image flags d s t hf h = by h.instruction
     c = at_instruction open_to image s h.interruptible
 
     stack : IsStackOfOneCall s.regs.sp
-    stack = (let state = h.interruptible in at_stack s.regs.sp state.stack)
+    stack = (let state = h.interruptible in state.stack)
 
     same : SameAbove image s.mem
     same = (let state = h.interruptible in state.same)
@@ -114,11 +112,9 @@ pub instructions_are_steps : StepLaws → PlainIsOneStep → InstructionsAreStep
 unfolding On
 instructions_are_steps laws one open_to l image flags ds s t hf h =
     let P = Kept open_to flags (On l image) in
-    let Q = IsServing open_to l image flags in
     let g = all_stretches P flags ds s t (stretches laws one open_to l image flags ds s t hf h) in
     record {
       goes = g.goes;
       counts = g.counts;
-      each = before_weaker P Q flags (λ u k. record { facts = k.0; busy = k.1.0; image = k.1.2; stack = k.1.1 })
-          (all_steps ds) s g.each;
+      each = λ j l. (let k = g.each j l in record { facts = k.0; busy = k.1.0; image = k.1.2; stack = k.1.1 });
     }

@@ -1,5 +1,5 @@
 -- What each state of a run without interrupts keeps.
-use Rattle.std.specs.Prelude.{◌≡◌, ℕ, ◌+◌, ◌≤◌, ◌⊎◌, min, Bool, false, List, slice_index}
+use Rattle.std.specs.Prelude.{◌≡◌, ℕ, ◌-◌, ◌≤◌, ◌⊎◌, min, Bool, false, List, slice_index}
 use Rattle.cpu12_isa.specs.Agreement.{AllShown}
 use Rattle.cpu12_isa.specs.Flags.{interrupts_masked, has}
 use Rattle.cpu12_isa.specs.Regions.{stack_end, is_free, is_hidden}
@@ -36,7 +36,7 @@ HasImage f s = HasImageBytes (image_memory f.image.bytes) s
 
 -- SP is at the stack's end, or two bytes lower while a call is open
 abbrev pub IsStackOfOneCall : ℕ → Type 0
-IsStackOfOneCall sp = (sp + 2 ≡ stack_end) ⊎ (sp ≡ stack_end)
+IsStackOfOneCall sp = (sp ≡ stack_end - 2) ⊎ (sp ≡ stack_end)
 
 -- the facts of a firmware that stands alone, beside handlers to which these bytes are open
 pub record FactsBeside (open_to : ℕ → Bool) (flags : ℕ) (f : Firmware) (s : State) : Type 0 where
