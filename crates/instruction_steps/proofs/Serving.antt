@@ -5,12 +5,12 @@ use Rattle.std.proofs.lemmas.Bool.Decides.{nat_tests}
 use Rattle.cpu12_isa.specs.Memory.{plus}
 use Rattle.cpu12_isa.specs.Regions.{stack_start, stack_end}
 use Rattle.cpu12_parts.specs.State.{State}
-use Rattle.cpu12_parts.specs.Executions.{Execution, all_steps}
+use Rattle.cpu12_parts.specs.Executions.{Execution}
 use Rattle.eval_code.specs.declared.layout.Layout.{Layout}
 use Rattle.codegen.specs.Interruptible.{is_idle, IsInterruptible, IsShownInstruction, IsInterruptibleStep}
 use Rattle.run_forms.specs.Arrival.{PlainIsOneStep}
 use Rattle.instruction_steps.specs.Facts.{IsStackOfOneCall}
-use Rattle.instruction_steps.specs.Instructions.{IsServing, InstructionsAreSteps}
+use Rattle.instruction_steps.specs.Instructions.{InstructionsAreSteps}
 use Rattle.run_law.specs.Steps.{StepLaws}
 use Rattle.instruction_steps.proofs.Stretches.{OneInstruction, Kept, SameAbove, AtInstruction}
 use Rattle.instruction_steps.proofs.Stretching.{all_stretches}

@@ -10,7 +10,7 @@ use Rattle.cpu12_parts.specs.State.{State}
 use Rattle.cpu12_parts.specs.Laws.{IsOff}
 use Rattle.cpu12_emul.specs.Take.{framed}
 use Rattle.cpu12_emul.specs.Simulation.{HasRoom, TakesQuietly}
-use Rattle.run_law.specs.Soundness.{below_sums, SumsFitBelow, Begins, AreLeft, WritesAreQuiet}
+use Rattle.run_law.specs.Soundness.{SumsFitBelow, Begins, AreLeft, WritesAreQuiet}
 
 -- registers below sums that are pushed
 pub sums_fit_below : SumsFitBelow
