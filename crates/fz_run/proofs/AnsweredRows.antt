@@ -1,11 +1,12 @@
 -- Where whole instructions answer all samples, so do the rows under every good plan.
-use Rattle.std.proofs.Common.{◌≡◌, ℕ, zero, suc, ◌+◌, ◌*◌, ◌^◌, ◌<◌, ◌≤◌, Bool, true, false, List, [], ◌∷◌, length, map}
-use Rattle.std.proofs.Common.{get_or, refl, ap, ap₂, sym, ◌∙◌}
+use Rattle.std.proofs.Common.{◌≡◌, ℕ, suc, ◌*◌, ◌^◌, ◌<◌, ◌≤◌, Bool, true, false, List, [], ◌∷◌, length, map}
+use Rattle.std.proofs.Common.{refl, ap, ap₂, sym, ◌∙◌}
 use Rattle.std.proofs.Common.{subst, arith}
-use Rattle.std.specs.Prelude.{All}
+use Rattle.std.proofs.Common.{nat_le, nat_lt}
+use Rattle.std.specs.Prelude.{All, ◌&&◌}
+use Rattle.std.proofs.lemmas.Bool.{or_parts}
 use Rattle.std.proofs.lemmas.List.Elements.{All-cons}
 use Rattle.fuzzy_meaning.specs.declared.block.Block.{Block}
-use Rattle.cpu12_isa.specs.Memory.{plus, word_of}
 use Rattle.cpu12_isa.specs.Regions.{is_free}
 use Rattle.cpu12_parts.specs.State.{State}
 use Rattle.cpu12_parts.specs.Executions.{all_steps}
@@ -27,13 +28,12 @@ use Rattle.codegen.specs.Answers.{LeavesLayout, IsArrivedBeside, FirmwareAnswers
 use Rattle.codegen.specs.Answers.{FirmwareArrivesAlike, IsArrived, AreAnswered, IsAnsweredBeside, AreAnsweredBeside}
 use Rattle.eval_code.specs.Firing.{AreInputBytes}
 use Rattle.codegen.specs.Firmwares.{IsFirmwareOf}
-use Rattle.codegen.specs.Uninterrupted.{Answer, values_from, values_in, answers_by, AreUninterrupted}
+use Rattle.codegen.specs.Uninterrupted.{Answer, values_in, answers_by, AreUninterrupted}
 use Rattle.codegen.specs.Uninterrupted.{AreAnswersOf}
 use Rattle.run_law.specs.Forms.{RowSeen, rows_from}
 use Rattle.run_law.specs.Uninterrupted.{uninterrupted, counted}
 use Rattle.run_law.specs.Following.{Completes, AllComplete, AllWithin}
-use Rattle.run_law.proofs.Algebra.{before_at, before_weaker}
-use Rattle.firmware_ports.specs.Ports.{given, answer_size, answers_at, answers_in}
+use Rattle.firmware_ports.specs.Ports.{given, answer_size, answers_in, AnswersAreValues}
 use Rattle.fz_run.specs.Forms.{with_writes}
 use Rattle.run_forms.specs.Rows.{arrival}
 use Rattle.fz_run.specs.Rows.{requests_of, first_state, firmware_rows}
@@ -42,8 +42,7 @@ use Rattle.instruction_steps.specs.Facts.{FactsBeside, FactsAlone, WaitsAlone}
 use Rattle.instruction_steps.specs.Instructions.{AreSteps, IsServing}
 use Rattle.fz_run.specs.Following.{row_of_sample, rows_of_samples, IsLow, FollowsAlone, AllWait}
 use Rattle.fz_run.specs.Answering.{answer_of_row, AnswersItsBlock, AnswersUnder, AnswersUnderPlans, RunsBeside}
-use Rattle.fz_run.specs.Answering.{FirmwareRunsBeside, FirstAlike, FirstStatesAlike}
-use Rattle.instruction_steps.proofs.Algebra.{at_stack}
+use Rattle.fz_run.specs.Answering.{FirmwareRunsBeside, FirstAlike, FirstStatesAlike, FirstStatesAgree}
 use Rattle.fz_run.proofs.UsedLaws.{WayLaws, Laws}
 
 -- a firmware at the layout that stands alone, with n answers
@@ -87,14 +86,11 @@ sampled : WayLaws → (open_to : ℕ → Bool) (f : Firmware) (n : ℕ) (b : Blo
     → Completes (FactsBeside open_to flags (alone f n)) (with_writes flags (alone f n)) 0 (all_steps a.ds)
     (all_steps a.ds) (given main_layout bytes s)
 sampled laws open_to f n b w most flags before bytes s t hf l a =
-    let P = IsServing open_to main_layout (image_memory f.image.bytes) flags in
-    let first = given main_layout bytes s in
     let g = went laws open_to b w most (image_memory f.image.bytes) flags before bytes s t hf l a in
     record {
       sum = omega arith;
-      holds = before_weaker P (FactsBeside open_to flags (alone f n)) flags
-          (λ u k. record { facts = k.facts; image = k.image; stack = k.stack }) (all_steps a.ds) first g.each;
-      on = λ j from l. (let k = before_at P flags (all_steps a.ds) j first g.each l in k.busy);
+      holds = λ j l. (let k = g.each j l in record { facts = k.facts; image = k.image; stack = k.stack });
+      on = λ j from l. (let k = g.each j l in k.busy);
       ended = ap (is_idle main_layout) g.goes ∙ a.idle;
     }
 
@@ -119,7 +115,7 @@ all_sampled laws open_to f n b w most flags before (bytes ∷ samples) s hf l h 
 
 -- where it waits
 waits_alone : (f : Firmware) (s : State) → IsInterruptible is_free (image_memory f.image.bytes) s → WaitsAlone f s
-waits_alone f s c = record { image = c.same; stack = at_stack s.regs.sp c.stack; unmasked = c.mask; sums = c.temps }
+waits_alone f s c = record { image = c.same; stack = c.stack; unmasked = c.mask; sums = c.temps }
 
 all_wait : WayLaws → (f : Firmware) (n : ℕ) (b : Block) (w : Width) (most : ℕ) (flags : ℕ) (before : ℕ → ℕ)
     (samples : List (List ℕ)) (s : State) → flags < 2 ^ 8
@@ -140,28 +136,10 @@ all_wait laws f n b w most flags before (bytes ∷ samples) s hf l c h =
           (all_wait laws f n b w most flags later samples h.0 hf l.1 one.interruptible h.1.1),
     )
 
--- the answers where none stands past the end of memory
-same_answers : (wide : Bool) (m : List ℕ) (at n : ℕ) → at + answer_size wide * n ≤ 65535
-    → answers_at wide n at m ≡ values_from (width_of wide) m at n
-same_answers wide m at zero l = refl
-same_answers false m at (suc n) l =
-    let e : plus at 1 ≡ at + 1 = omega arith in
-    let more : 1 * suc n ≡ 1 + 1 * n = omega arith in
-    ap (λ (xs : List ℕ). get_or m at 0 ∷ xs)
-    (ap (λ (k : ℕ). answers_at false n k m) e ∙ same_answers false m (at + 1) n (omega arith))
-same_answers true m at (suc n) l =
-    let e : plus at 1 ≡ at + 1 = omega arith in
-    let f : plus at 2 ≡ at + 2 = omega arith in
-    let more : 2 * suc n ≡ 2 + 2 * n = omega arith in
-    ap₂ (λ (x : ℕ) (xs : List ℕ). x ∷ xs) (ap (λ (k : ℕ). word_of (get_or m at 0) (get_or m k 0)) e)
-    (ap (λ (k : ℕ). answers_at true n k m) f ∙ same_answers true m (at + 2) n (omega arith))
-
-few_bytes : (wide : Bool) (n : ℕ) → n ≤ 4 → answer_size wide * n ≤ 8
-few_bytes false n l = omega arith
-few_bytes true n l = omega arith
-
-same_values : (f : Firmware) (n : ℕ) (s : State) → n ≤ 4 → answers_in (alone f n) s ≡ values_in (alone f n) s
-same_values f n s few = let l = few_bytes f.wide n few in same_answers f.wide s.mem 0x1010 n (omega arith)
+-- the answers are the values
+same_values : AnswersAreValues → (f : Firmware) (n : ℕ) (s : State) → n ≤ 4
+    → answers_in (alone f n) s ≡ values_in (alone f n) s
+same_values law f n s few = law (alone f n) s (omega arith)
 
 -- the rows as answers
 answer_is : (xs ys : List ℕ) (i j : ℕ) → xs ≡ ys → i ≡ j
@@ -169,7 +147,7 @@ answer_is : (xs ys : List ℕ) (i j : ℕ) → xs ≡ ys → i ≡ j
 answer_is xs ys i j v n =
     ap₂ (λ (x : List ℕ) (k : ℕ). let r : Answer = record { values = x; instructions = k } in r) v n
 
-all_answers : WayLaws
+all_answers : Laws
     → (f : Firmware) (n : ℕ) (b : Block) (image : List ℕ) (flags : ℕ) (before : ℕ → ℕ) (plan : List Request) (k : ℕ)
     (samples : List (List ℕ)) (s : State)
     → flags < 2 ^ 8 → AreShort samples → n ≤ 4
@@ -183,12 +161,12 @@ all_answers laws f n b image flags before plan k (bytes ∷ samples) s hf l few 
     let w = width_of f.wide in
     let most = f.instr_bound in
     let start = given main_layout bytes s in
-    let g = went laws is_free b w most image flags before bytes s h.0 hf l.0 h.1.0 in
+    let g = went laws.ways is_free b w most image flags before bytes s h.0 hf l.0 h.1.0 in
     let later : ℕ → ℕ = λ o. answer w b o bytes (before o) in
     let end = uninterrupted flags (all_steps h.1.0.ds) start in
     let here =
     answer_is (answers_in (alone f n) end) (values_in (alone f n) h.0) (counted flags (all_steps h.1.0.ds) start)
-    (length h.1.0.ds) (ap (answers_in (alone f n)) g.goes ∙ same_values f n h.0 few) g.counts in
+    (length h.1.0.ds) (ap (answers_in (alone f n)) g.goes ∙ same_values laws.answers_are_values f n h.0 few) g.counts in
     let rest = all_answers laws f n b image flags later plan (suc k) samples h.0 hf l.1 few h.1.1 in
     let moved =
     subst (λ (u : State). map answer_of_row
@@ -246,6 +224,10 @@ all_short b (bytes ∷ samples) few all = (
 )
 
 -- its bytes from outside stand low
+few_bytes : (wide : Bool) (n : ℕ) → n ≤ 4 → answer_size wide * n ≤ 8
+few_bytes false n l = omega arith
+few_bytes true n l = omega arith
+
 is_low : (f : Firmware) (n : ℕ) → n ≤ 4 → IsLow (alone f n)
 is_low f n few = let bytes = few_bytes f.wide n few in record { ready = omega arith; outputs = omega arith }
 
@@ -304,7 +286,7 @@ under laws b f n flags samples plan s hf few count h short good a answered =
     ap (λ (u : State). (rows_from (with_writes flags g) f.step_bound (λ k. requests_of k plan) 1 samples u).rows) first
     ∙ runs.rows_are in
     let same = ap (map answer_of_row) rows_are
-    ∙ all_answers laws.ways f n b image flags (λ o. 0) plan 1 samples s hf short count answered in
+    ∙ all_answers laws f n b image flags (λ o. 0) plan 1 samples s hf short count answered in
     let both = laws.answered_are_uninterrupted b g flags samples s h.outputs a answered in
     record {
       answers = record {
@@ -376,6 +358,18 @@ first_states_alike arrives_plainly arrives open_to b f flags mem hf leaves v lim
     (sym same)
     (first_alike arrives_plainly open_to b f n flags mem v.few_outputs own
     (arrives open_to b (alone f n) mem flags hf mine v limits own agree))
+
+-- such a state is the same but for what is hidden
+pub first_states_agree : FirstStatesAgree
+first_states_agree open_to f flags mem w h = record {
+  regs = h.regs;
+  temps = h.temps;
+  mem = (let a = h.bytes in record {
+    size = a.size;
+    bytes = λ at shown. a.bytes at
+        (or_parts (open_to at) (nat_le 0x1FE0 at && nat_lt at (first_state f flags).regs.sp) shown).0;
+  });
+}
 
 pub answers_under_plans : Laws → AnswersUnderPlans
 answers_under_plans laws f flags samples plan hf good b v limits h all =

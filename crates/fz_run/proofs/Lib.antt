@@ -1,4 +1,3 @@
-pub mod Algebra
 pub mod AnsweredRows
 pub mod Requests
 pub mod StandAlone

@@ -5,9 +5,9 @@ use Rattle.cpu12_isa.specs.Regions.{is_free, is_hidden}
 use Rattle.cpu12_isa.proofs.Algebra.{agree_self}
 use Rattle.cpu12_parts.specs.State.{State}
 use Rattle.run_law.specs.Forms.{RowSeen}
-use Rattle.run_law.specs.Uninterrupted.{uninterrupted, counted, resumed_of, frames_of}
+use Rattle.run_law.specs.Uninterrupted.{uninterrupted, counted, taken_at, resumed_of, frames_of}
 use Rattle.run_law.specs.Following.{AllComplete, expected_rows}
-use Rattle.run_law.proofs.Algebra.{before_at}
+use Rattle.run_law.specs.Moments.{TakenAtOnce}
 use Rattle.interrupt_plan.specs.declared.Request.{Request}
 use Rattle.codegen.specs.declared.firmware.Firmware.{Firmware}
 use Rattle.firmware_ports.specs.Ports.{given, answers_in}
@@ -17,22 +17,21 @@ use Rattle.instruction_steps.specs.Facts.{FactsAlone}
 use Rattle.fz_run.specs.SoundAlone.{free_opens}
 use Rattle.fz_run.specs.Following.{rows_of_samples, RunsFollowAlone, RunsFollowBeside}
 use Rattle.fz_run.specs.Given.{RequestsAreGood}
-use Rattle.run_forms.proofs.Algebra.{taken_is}
 
-same_rows : (flags : ℕ) (f : Firmware) (plan : List Request) (k : ℕ) (ns : List ℕ) (samples : List (List ℕ)) (s : State)
+same_rows : TakenAtOnce → (flags : ℕ) (f : Firmware) (plan : List Request) (k : ℕ) (ns : List ℕ) (samples : List (List ℕ)) (s : State)
     → AllComplete (FactsAlone flags f) (with_writes flags f) ns samples s
     → expected_rows (with_writes flags f) (λ j. requests_of j plan) k ns samples s ≡ rows_of_samples flags f plan k
     ns samples s
-same_rows flags f plan k [] samples s h = refl
-same_rows flags f plan k (n ∷ ns) [] s h = refl
-same_rows flags f plan k (n ∷ ns) (bytes ∷ rest) s h =
+same_rows law flags f plan k [] samples s h = refl
+same_rows law flags f plan k (n ∷ ns) [] s h = refl
+same_rows law flags f plan k (n ∷ ns) (bytes ∷ rest) s h =
     let u : State = given f.layout bytes s in
     let holds = (let z = h.0 in z.holds) in
-    let at = taken_is flags (λ (r : Request). r.moment) n u
-    (λ j l. ap not (let p = before_at (FactsAlone flags f) flags n j u holds l in let facts = p.facts in
-    facts.unmasked)) in
+    let at : taken_at flags (λ (r : Request). r.moment) n u ≡ (λ (r : Request). r.moment) =
+    λ i. λ r. law flags n u r.moment
+    (λ j l. ap not (let p = holds j l in let facts = p.facts in facts.unmasked)) i in
     ap₂ (λ (x : RowSeen (List ℕ)) (xs : List (RowSeen (List ℕ))). x ∷ xs) (ap (λ (moment : Request → ℕ). by moment) at)
-    (same_rows flags f plan (suc k) ns rest (uninterrupted flags n u) h.1)
+    (same_rows law flags f plan (suc k) ns rest (uninterrupted flags n u) h.1)
   where
     by : (Request → ℕ) → RowSeen (List ℕ)
     by moment = record {
@@ -44,14 +43,14 @@ same_rows flags f plan k (n ∷ ns) (bytes ∷ rest) s h =
       frames = frames_of flags moment (given f.layout bytes s) (requests_of k plan) n;
     }
 
-pub runs_follow_alone : RunsFollowBeside → RequestsAreGood → RunsFollowAlone
-runs_follow_alone law requests flags f most plan ns samples s low good le h =
+pub runs_follow_alone : RunsFollowBeside → RequestsAreGood → TakenAtOnce → RunsFollowAlone
+runs_follow_alone law requests at_once flags f most plan ns samples s low good le h =
     let r = law is_free flags f free_opens low (λ j. requests_of j plan)
     (requests plan good) [] 1 most ns samples s s le h
     (record { regs = refl; temps = refl; mem = agree_self (is_hidden is_free s.regs.sp) s.mem }) tt in
     record {
       arrived = r.arrived;
-      rows_are = r.rows_are ∙ same_rows flags f plan 1 ns samples s h;
+      rows_are = r.rows_are ∙ same_rows at_once flags f plan 1 ns samples s h;
       simulates =
           r.simulates;
       last = r.last;

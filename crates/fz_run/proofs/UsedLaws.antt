@@ -3,7 +3,7 @@ use Rattle.codegen.specs.Answers.{FirmwareAnswers}
 use Rattle.codegen.specs.Uninterrupted.{AnsweredAreUninterrupted}
 use Rattle.run_forms.specs.Arrival.{ArrivesPlainly}
 use Rattle.fz_run.specs.Following.{RunsFollowAlone}
-use Rattle.firmware_ports.specs.Ports.{GivenIsPut}
+use Rattle.firmware_ports.specs.Ports.{AnswersAreValues, GivenIsPut}
 use Rattle.instruction_steps.specs.Instructions.{InstructionsAreSteps}
 
 pub record WayLaws : Type 0 where
@@ -13,6 +13,7 @@ pub record WayLaws : Type 0 where
 
 pub record Laws : Type 0 where
   pub ways : WayLaws
+  pub answers_are_values : AnswersAreValues
   pub firmware_answers : FirmwareAnswers
   pub answered_are_uninterrupted : AnsweredAreUninterrupted
   pub runs_follow : RunsFollowAlone

@@ -6,6 +6,7 @@ use Rattle.rule_layout.specs.Layouts.{IsWithinLimits}
 use Rattle.cpu12_isa.specs.Agreement.{Agree}
 use Rattle.cpu12_parts.specs.State.{State}
 use Rattle.cpu12_emul.specs.Image.{image_memory}
+use Rattle.cpu12_emul.specs.Simulation.{Same}
 use Rattle.cpu12_emul.specs.Step.{reset_with}
 use Rattle.codegen.specs.Answers.{LeavesLayout}
 use Rattle.interrupt_plan.specs.declared.Request.{Request}
@@ -92,3 +93,9 @@ FirstStatesAlike =
     → LeavesLayout open_to f.layout → IsValid b → IsWithinLimits b → IsFirmwareOf b f
     → Agree open_to mem (image_memory f.image.bytes)
     → FirstAlike open_to f flags mem (arrival flags f.layout.wait f.step_bound (reset_with mem))
+
+-- Such a state is the first one but for what is hidden.
+abbrev pub FirstStatesAgree : Type 0
+FirstStatesAgree =
+    (open_to : ℕ → Bool) (f : Firmware) (flags : ℕ) (mem : List ℕ) (w : State) → FirstAlike open_to f flags mem w
+    → Same open_to w (first_state f flags)

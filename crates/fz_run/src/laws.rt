@@ -1,5 +1,5 @@
 // Laws of runs.
-ghost use Rattle.fz_run.specs.Answering.{AnswersUnderPlans, FirmwareRunsBeside, FirstStatesAlike};
+ghost use Rattle.fz_run.specs.Answering.{AnswersUnderPlans, FirmwareRunsBeside, FirstStatesAgree, FirstStatesAlike};
 ghost use Rattle.fz_run.specs.Following.{RunsFollowAlone, RunsFollowBeside};
 ghost use Rattle.fz_run.specs.Given.{PlansAreInOrder, RequestsAreGood};
 ghost use Rattle.fz_run.specs.OpenBytes.{GivenLeavesOpen, StepsLeaveOpen};
@@ -11,10 +11,10 @@ use codegen::laws::{
 use cpu12_emul::laws::{step_agrees, wavr_goes_on};
 use cpu12_isa::laws::writes_stay;
 use cpu12_parts::laws::wav_suspends;
-use firmware_ports::given_is_put;
+use firmware_ports::{answers_are_values, given_is_put};
 use instruction_steps::laws::instructions_are_steps;
 use run_forms::laws::arrives_plainly;
-use run_law::laws::runs_follow;
+use run_law::laws::{runs_follow, taken_at_once};
 
 /// The run of a firmware that stands alone follows the run without interrupts under every good plan,
 /// where each state of the latter keeps the facts of [`FactsAlone`]: its answers, counts of instructions
@@ -28,6 +28,7 @@ pub fn runs_follow_alone()
 {
     runs_follow_beside();
     requests_are_good();
+    taken_at_once();
 }
 
 /// The same whatever more is open than the free bytes.
@@ -47,6 +48,7 @@ pub fn answers_under_plans()
     instructions_are_steps();
     given_is_put();
     arrives_plainly();
+    answers_are_values();
     firmware_answers();
     answered_are_uninterrupted();
     runs_follow_alone();
@@ -81,6 +83,11 @@ pub fn first_states_alike()
     arrives_plainly();
     firmware_arrives_alike();
 }
+
+/// Such a state is the first one but for what is hidden.
+pub fn first_states_agree()
+    ensures { FirstStatesAgree }
+{}
 
 /// A step of a run under interrupts leaves what is open to handlers, and so does the push of the sums.
 pub fn steps_leave_open()

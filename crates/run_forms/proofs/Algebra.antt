@@ -1,36 +1,15 @@
--- When requests are taken where I is 0 throughout, what holds of all that was told, where placed bytes stand, the
--- requests of a sample, and parts of what is shown.
-use Rattle.std.proofs.Common.{◌≡◌, ℕ, zero, suc, ◌-◌, ◌+◌, ◌<◌, ◌≤◌, ◌⊎◌, inl, inr, true, false, Bool, List, [], ◌∷◌}
+-- What holds of all that was told, where placed bytes stand, the requests of a sample, and parts of what is shown.
+use Rattle.std.proofs.Common.{◌≡◌, ℕ, suc, ◌+◌, ◌<◌, ◌≤◌, inl, inr, true, false, Bool, List, [], ◌∷◌}
 use Rattle.std.proofs.Common.{map, length, refl, ap, arith}
 use Rattle.std.specs.Prelude.{All, if◌then◌else◌}
 use Rattle.std.proofs.lemmas.Bool.Decides.{nat_tests}
 use Rattle.std.proofs.lemmas.List.Elements.{All-cons}
 use Rattle.cpu12_isa.specs.Agreement.{IsWritten}
 use Rattle.cpu12_isa.specs.Memory.{plus, placed}
-use Rattle.cpu12_parts.specs.State.{State}
-use Rattle.cpu12_emul.specs.Take.{may_interrupt}
 use Rattle.run_law.specs.Forms.{RowSeen}
-use Rattle.run_law.specs.Uninterrupted.{uninterrupted, first_open, taken_at}
 use Rattle.run_law.specs.Following.{onto, all_onto}
 use Rattle.run_forms.specs.Forms.{sample_in}
 use Rattle.run_forms.specs.Rows.{is_of, of_sample, shown_rows, tellings}
-
--- where I is 0 throughout a request is taken at its moment
-at_once : (flags : ℕ) (s : State) (k m : ℕ)
-    → ((j : ℕ) → suc j ≤ m + k → may_interrupt (uninterrupted flags j s) ≡ true) → first_open flags s k m ≡ m
-at_once flags s zero m h = refl
-at_once flags s (suc k) m h = let e = h m (omega arith) in rw e refl
-
-pub taken_is : {A : Type 0} (flags : ℕ) (moment : A → ℕ) (n : ℕ) (s : State)
-    → ((j : ℕ) → suc j ≤ n → may_interrupt (uninterrupted flags j s) ≡ true) → taken_at flags moment n s ≡ moment
-taken_is {A} flags moment n s h = λ i. λ q. at q (within (moment q)) i
-  where
-    within : (a : ℕ) → (n - a ≡ 0) ⊎ (n - a + a ≡ n)
-    within a = grind arith
-
-    at : (q : A) → (n - moment q ≡ 0) ⊎ (n - moment q + moment q ≡ n) → taken_at flags moment n s q ≡ moment q
-    at q (inl e) = ap (λ (k : ℕ). first_open flags s k (moment q)) e
-    at q (inr e) = at_once flags s (n - moment q) (moment q) (λ j l. h j (omega arith))
 
 -- what holds of all that was told holds of each sample's
 onto_all : {C : Type 0} (P : C → Type 0) (xs done : List C) → All P (onto xs done) → All P xs × All P done
