@@ -26,9 +26,8 @@ use Rattle.fz_run.specs.Rows.{requests_of, first_state}
 use Rattle.instruction_steps.specs.Facts.{FactsBeside}
 use Rattle.fz_run.specs.Following.{RunsFollowBeside}
 use Rattle.fz_run.specs.Given.{RequestsAreGood}
-use Rattle.fz_run.specs.Answering.{FirmwareRunsBeside, FirstAlike, FirstStatesAlike}
+use Rattle.fz_run.specs.Answering.{FirmwareRunsBeside, FirstAlike, FirstStatesAlike, FirstStatesAgree}
 use Rattle.run_forms.proofs.Algebra.{map-shown_rows, all_onto_all}
-use Rattle.fz_run.proofs.Algebra.{first_same}
 use Rattle.handled_runs.specs.Open.{is_open_to_code}
 use Rattle.handled_runs.specs.Joint.{joint_memory}
 use Rattle.handled_runs.specs.Forms.{with_code, first_handled, handled_rows, HandledSeen, with_steps, handled_seen}
@@ -88,6 +87,7 @@ pub record Laws : Type 0 where
   pub holds_image : HoldsImage
   pub firmware_runs_beside : FirmwareRunsBeside
   pub first_states_alike : FirstStatesAlike
+  pub first_states_agree : FirstStatesAgree
   pub runs_follow_beside : RunsFollowBeside
   pub requests_are_good : RequestsAreGood
   pub runs_follow : (x : Handled)
@@ -126,7 +126,7 @@ handled_answers laws b f handler most flags samples plan hf good is v limits h a
     let asks : ℕ → List Request = λ k. requests_of k plan in
     let P = FactsBeside is_open_to_code flags f in
     let code = laws.runs_follow x asks (laws.requests_are_good plan good) [] 1 f.step_bound ns samples w s runs.within
-    (complete P flags f most ns samples s few runs.complete) (first_same is_open_to_code f flags mem w alike) stands in
+    (complete P flags f most ns samples s few runs.complete) (laws.first_states_agree is_open_to_code f flags mem w alike) stands in
     let listed = laws.runs_follow_beside is_open_to_code flags f opens_free runs.low asks
     (laws.requests_are_good plan good) [] 1 f.step_bound ns samples s s runs.within
     runs.complete (record { regs = refl; temps = refl; mem = agree_self (is_hidden is_open_to_code s.regs.sp) s.mem })

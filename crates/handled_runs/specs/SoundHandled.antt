@@ -13,13 +13,11 @@ use Rattle.cpu12_isa.specs.Agreement.{Agree, WritesAgree}
 use Rattle.cpu12_isa.specs.Memory.{word_of}
 use Rattle.cpu12_isa.specs.Regions.{is_free, is_hidden, vector, is_vector, LeavesStack}
 use Rattle.cpu12_asm.specs.Bytes.{byte_at}
-use Rattle.cpu12_parts.specs.declared.temps.Temps.{Temps}
-use Rattle.cpu12_parts.specs.declared.temps.Temps.TheVariants.{Free, Running, OnStack}
 use Rattle.cpu12_parts.specs.State.{State}
 use Rattle.cpu12_parts.specs.Cuts.{suspended, wav}
 use Rattle.cpu12_emul.specs.Simulation.{AreOpen}
 use Rattle.run_law.specs.Uninterrupted.{stepped}
-use Rattle.run_law.specs.Soundness.{below_sums, Begins, Quiet, Sound, WritesAreQuiet}
+use Rattle.run_law.specs.Soundness.{Begins, Quiet, Sound, SumsFitBelow, WritesAreQuiet}
 use Rattle.handler_check.specs.Images.{IsWhole, IsHandler}
 use Rattle.handler_check.specs.Running.{HasImage, CanEnter, IsQuietCode, HandlersAreQuiet}
 use Rattle.interrupt_plan.specs.declared.Request.{Request}
@@ -39,6 +37,7 @@ pub record CodeLaws : Type 0 where
   pub steps_leave_open : StepsLeaveOpen
   pub given_leaves_open : GivenLeavesOpen
   pub handlers_are_quiet : HandlersAreQuiet
+  pub sums_fit_below : SumsFitBelow
 
 -- a firmware whose bytes stand low, and an accepted handler
 pub record Handled : Type 0 where
@@ -144,11 +143,6 @@ more_hidden sp m n a = record { size = a.size; bytes = λ at h. a.bytes at (less
         let f = or_parts (is_free at) (is_code at || is_vector at) p.0 in
         rw (f.0, p.1) refl
 
-below_near : (r : Regs) (t : Temps) → 0x1FFE ≤ r.sp → r.sp ≤ 0x2000 → (below_sums r t).sp ≤ 0x2000
-below_near r Free lo hi = hi
-below_near r OnStack lo hi = hi
-below_near r (Running p w) lo hi = omega arith
-
 shown_high : (sp at : ℕ) → sp ≤ 0x2000 → 0x4000 ≤ at → is_hidden is_free sp at ≡ false
 shown_high sp at l h =
     let a : is_free at ≡ false = grind (arith, nat_tests) in
@@ -171,8 +165,9 @@ serves x done a v s good p begins own =
     laws.handlers_are_quiet is_open_to_code x.handler x.most x.flags a.writes v s x.is_handler
     (all_open a.writes good.free) own.image can begins in
     let u = q.quiet in
+    let below = laws.sums_fit_below s.regs s.temps room.fits room.low room.high in
     let sp : v.regs.sp ≤ 0x2000 =
-    subst (λ (r : Regs). r.sp ≤ 0x2000) (sym begins.regs) (below_near s.regs s.temps near.0 near.1) in
+    subst (λ (r : Regs). r.sp ≤ 0x2000) (sym begins.regs) (omega (arith, below.high, near.1)) in
     let whole = (let k = x.is_handler in k.whole) in (
       record {
         regs = u.regs;

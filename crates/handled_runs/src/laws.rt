@@ -4,11 +4,11 @@ ghost use Rattle.handled_runs.specs.Answering.{HandledAnswers};
 use crate::handled::HandledForm;
 use cpu12_emul::laws::holds_image;
 use fz_run::laws::{
-    firmware_runs_beside, first_states_alike, given_leaves_open, requests_are_good,
-    runs_follow_beside, steps_leave_open,
+    firmware_runs_beside, first_states_agree, first_states_alike, given_leaves_open,
+    requests_are_good, runs_follow_beside, steps_leave_open,
 };
 use handler_check::laws::handlers_are_quiet;
-use run_law::laws::runs_follow;
+use run_law::laws::{runs_follow, sums_fit_below};
 
 /// Under every good plan a block's firmware whose interrupts run an accepted handler gives the rows of
 /// the run in which they do the listed writes alone, and each interrupt does at most as many steps as
@@ -19,9 +19,11 @@ pub fn handled_answers()
     steps_leave_open();
     given_leaves_open();
     handlers_are_quiet();
+    sums_fit_below();
     holds_image();
     firmware_runs_beside();
     first_states_alike();
+    first_states_agree();
     runs_follow_beside();
     requests_are_good();
     runs_follow::<HandledForm>();
