@@ -67,11 +67,11 @@ later flags f samples zero most m inside s le b at =
     (let done : IsAlone flags 0 s r = record { arrived = refl; steps = refl; state = refl } in done)
 later flags f samples (suc n) zero m inside s le b at = absurd (omega arith)
 later flags f samples (suc n) (suc most) m inside s le b at =
-    let one = b.0 in
+    let one = b 0 (omega arith) in
     let next : Next = one.next in
     let there = ap (state_by s) one.goes in
     let r = later flags f samples n most (suc m) (is_part next.kind) next.state (omega arith)
-    (subst (Before (IsOnWay f.layout flags) flags n) there b.1)
+    (subst (Before (IsOnWay f.layout flags) flags n) there (λ j i. b (suc j) (omega arith)))
     (ap (λ (u : State). (uninterrupted flags n u).regs.pc) (sym there) ∙ at) in
     subst (IsAlone flags (suc n) s)
     (sym (one_more flags f samples most (suc m) inside s next (on_way m f s one.away) one.goes))

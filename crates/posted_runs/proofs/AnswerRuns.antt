@@ -15,7 +15,7 @@ use Rattle.cpu12_emul.specs.Simulation.{Same}
 use Rattle.run_law.specs.Forms.{Ran, takes, run_from}
 use Rattle.run_law.specs.Following.{asked, onto, Completes}
 use Rattle.run_law.specs.Moments.{TakenAtFirstOpen}
-use Rattle.run_law.specs.Soundness.{AllGood, Ascend, Before}
+use Rattle.run_law.specs.Soundness.{AllGood, Ascend}
 use Rattle.run_law.specs.Uninterrupted.{uninterrupted, counted, is_inside, stepped, taken_at, resumed_of, frames_after}
 use Rattle.run_law.proofs.Algebra.{uninterrupted_add, counted_add}
 use Rattle.interrupt_plan.specs.declared.Post.{Post}
@@ -54,12 +54,6 @@ good_behind_by false Good m p ps e g r = rw e g
 pub good_behind : (Good : Post → Type 0) (m : ℕ) (ps : List Post) → AllGood Good ps → AllGood Good (behind m ps)
 good_behind Good m [] g = tt
 good_behind Good m (p ∷ ps) g = good_behind_by (nat_le p.moment m) Good m p ps refl g (good_behind Good m ps g.1)
-
-before_from : (P : State → Type 0) (flags k : ℕ) (s : State) → ((j : ℕ) → j < k → P (uninterrupted flags j s))
-    → Before P flags k s
-before_from P flags zero s h = tt
-before_from P flags (suc k) s h =
-    (h 0 (omega arith), before_from P flags k (stepped flags s) (λ j lt. h (suc j) (omega arith)))
 
 -- without interrupts no step behind the copy writes the mailbox
 mail_stays : Stepping → (flags : ℕ) (f : Firmware) (k : ℕ) (s : State)
@@ -194,7 +188,7 @@ module _ (laws : TurnLaws) (flags : ℕ) (f : Firmware) (samples : List (List �
       (run.facts (n + 5 + j) (omega arith) (omega arith))) in
       let go : Completes (FactsBeside is_postable flags f) part (n + 5) left all u = record {
         sum = omega arith;
-        holds = before_from (FactsBeside is_postable flags f) flags left x facts;
+        holds = facts;
         on = λ j lo lt. not_over flags f samples g (g + j) (uninterrupted flags j u) (run.away j (omega arith) lt);
         ended = ends_there g (g + all) (uninterrupted flags all u).regs.pc f.layout.wait (omega arith) end.pc;
       } in

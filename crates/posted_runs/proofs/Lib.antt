@@ -19,7 +19,6 @@ pub mod LastOnes
 pub mod Instances
 pub mod Takings
 pub mod Turnings
-pub mod OutputValues
 pub mod Running
 pub mod HavingSteps
 pub mod WholeTurns

@@ -30,7 +30,7 @@ use Rattle.fz_run.specs.Rows.{bytes_of}
 use Rattle.posted_runs.specs.Runs.{arrival}
 use Rattle.posted_runs.specs.Answering.{run_of_turns, answer_in}
 use Rattle.posted_runs.specs.UninterruptedTurns.{steps_of, HasSteps, HaveSteps, MailboxRunsTurns}
-use Rattle.posted_runs.proofs.WholeTurns.{IsOnWay, one_step, steps_on}
+use Rattle.posted_runs.proofs.WholeTurns.{IsOnWay, no_step, one_step, steps_on}
 use Rattle.posted_runs.proofs.Alone.{IsAlone, alone}
 use Rattle.posted_runs.proofs.Looking.{alike_self}
 use Rattle.posted_runs.proofs.TurnSteps.{Setting, Waits}
@@ -42,7 +42,7 @@ plain_parts (suc n) = 0 ∷ plain_parts n
 
 way_steps : PlainIsOneStep → (l : Layout) (flags n : ℕ) (s t : State) → s.temps ≡ Free → PlainWay flags l.wait n s t
     → AreSteps (IsOnWay l flags) flags (plain_parts n) s t
-way_steps law l flags zero s t free w = record { goes = w; counts = refl; each = tt }
+way_steps law l flags zero s t free w = no_step (IsOnWay l flags) flags s t w
 way_steps law l flags (suc n) s t free w =
     let u = w.0 in
     let step = w.1.1.1 in

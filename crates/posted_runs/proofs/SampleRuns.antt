@@ -11,7 +11,7 @@ use Rattle.cpu12_emul.specs.Image.{image_memory}
 use Rattle.cpu12_emul.specs.Step.{next_of}
 use Rattle.run_law.specs.Uninterrupted.{state_by, uninterrupted}
 use Rattle.run_law.specs.Soundness.{Before}
-use Rattle.run_law.proofs.Algebra.{before_at, before_weaker, uninterrupted_add}
+use Rattle.run_law.proofs.Algebra.{uninterrupted_add}
 use Rattle.codegen.specs.declared.firmware.Firmware.{Firmware}
 use Rattle.eval_code.specs.declared.layout.Layout.{Layout}
 use Rattle.codegen.specs.Answers.{given}
@@ -102,7 +102,7 @@ served_steps : (f : Firmware) (flags : ℕ) (ds : List ℕ) (s t : State)
 served_steps f flags ds s t a b = record {
   goes = a.goes;
   counts = a.counts;
-  each = before_weaker (IsServed f flags) (IsOnWay f.layout flags) flags (on_way_by f flags) (all_steps ds) s b;
+  each = λ j l. on_way_by f flags (uninterrupted flags j s) (b j l);
 }
 
 -- there are some
@@ -122,7 +122,7 @@ at_boundary P flags m n j g s e b from to =
     let sum : j ≡ m + k = omega arith in
     let is : uninterrupted flags j g ≡ uninterrupted flags k s = ap (λ (i : ℕ). uninterrupted flags i g) sum
     ∙ uninterrupted_add flags m k g ∙ ap (uninterrupted flags k) e in
-    subst P (sym is) (before_at P flags n k s b (omega arith))
+    subst P (sym is) (b k (omega arith))
 
 -- what a turn of n inputs and m steps behind the call gives
 answer_run : (f : Firmware) (flags n m : ℕ) (g looked chosen called : State) → f.inputs ≡ n

@@ -59,12 +59,12 @@ pub served : (f : Firmware) (flags n : ℕ) (s : State) → is_postable f.layout
     → Before (IsServing is_postable f.layout (image_memory f.image.bytes) flags) flags n s
     → get_or s.mem f.layout.ready 0 ≡ 0
     → Before (IsServed f flags) flags n s
-served f flags zero s h b e = tt
-served f flags (suc n) s h b e =
-    let one = b.0 in (
-      record { serving = one; cleared = e },
-      served f flags n (stepped flags s) h b.1 (open_stays flags f.layout.ready s one.facts h ∙ e),
-    )
+served f flags zero s h b e k l = absurd (omega arith)
+served f flags (suc n) s h b e zero l = record { serving = b 0 (omega arith); cleared = e }
+served f flags (suc n) s h b e (suc k) l =
+    let one = b 0 (omega arith) in
+    served f flags n (stepped flags s) h (λ j i. b (suc j) (omega arith))
+    (open_stays flags f.layout.ready s one.facts h ∙ e) k (omega arith)
 
 waits_there : (l : Layout) (s : State) → s.regs.pc ≡ l.wait → get_or s.mem l.ready 0 ≡ 0 → is_idle l s ≡ true
 waits_there l s e h = grind (arith, nat_tests)

@@ -8,7 +8,7 @@ use Rattle.cpu12_emul.specs.Step.{Next, next_of, is_part}
 use Rattle.run_law.specs.Forms.{one_if}
 use Rattle.run_law.specs.Uninterrupted.{state_by, kind_by, uninterrupted, counted}
 use Rattle.run_law.specs.Soundness.{Before}
-use Rattle.run_law.proofs.Algebra.{uninterrupted_add, counted_add, before_add}
+use Rattle.run_law.proofs.Algebra.{uninterrupted_add, counted_add, before_none, before_one, before_add}
 use Rattle.eval_code.specs.declared.layout.Layout.{Layout}
 use Rattle.codegen.specs.Turns.{IsMaskedStep}
 use Rattle.run_forms.specs.Arrival.{PlainIsOneStep}
@@ -20,13 +20,16 @@ pub record IsOnWay (l : Layout) (flags : ℕ) (s : State) : Type 0 where
   pub goes : next_of flags s ≡ Ok next
   pub away : s.regs.pc ≢ l.wait
 
+pub no_step : (P : State → Type 0) (flags : ℕ) (s t : State) → s ≡ t → AreSteps P flags [] s t
+no_step P flags s t e = record { goes = e; counts = refl; each = before_none P flags s }
+
 pub one_step : (P : State → Type 0) (flags : ℕ) (s t : State) → P s
     → next_of flags s ≡ Ok (record { state = t; kind = Plain })
     → AreSteps P flags (0 ∷ []) s t
 one_step P flags s t p e = record {
   goes = ap (state_by s) e;
   counts = ap (λ (o : Result Next ℕ). one_if (not (is_part (kind_by o))) + 0) e;
-  each = (p, tt);
+  each = before_one P flags s p;
 }
 
 pub steps_append : (ds es : List ℕ) → all_steps (ds ++ es) ≡ all_steps ds + all_steps es
@@ -58,7 +61,7 @@ steps_on P flags ds es s t u a b =
 pub masked_steps : PlainIsOneStep → (l : Layout) (image : List ℕ) (flags : ℕ) (ds : List ℕ) (s t : State)
     → Execution (IsMaskedStep l image flags) ds s t
     → AreSteps (IsOnWay l flags) flags ds s t
-masked_steps law l image flags [] s t e = record { goes = e; counts = refl; each = tt }
+masked_steps law l image flags [] s t e = no_step (IsOnWay l flags) flags s t e
 masked_steps law l image flags (d ∷ ds) s t e =
     let u = e.0 in
     let m : IsMaskedStep l image flags d s u = e.1.0 in

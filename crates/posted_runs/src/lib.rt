@@ -25,7 +25,6 @@
 
 mod copied;
 mod laws;
-mod outputs;
 mod post;
 mod run;
 mod tally;

@@ -11,14 +11,15 @@ ghost use Rattle.posted_runs.specs.Runs.{turn_form, answers_by, waits_by, input_
 ghost use Rattle.posted_runs.specs.Runs.{turns_from, most_turns};
 ghost use Rattle.posted_runs.specs.Tallies.{with_frames, counted_at, with_rest};
 
-use crate::outputs::{copy_of, values_in};
 use crate::post::take_due;
 use crate::run::Answer;
 use crate::tally::Tally;
 use crate::turn::turn;
+use arrayvec::ArrayVec;
 use codegen::Firmware;
 use cpu12_emul::machine::Machine;
 use cpu12_isa::mem::Mem;
+use firmware_ports::{answers, answers_are_values, copy_of};
 use interrupt_plan::Post;
 use trace_io::Sample;
 
@@ -51,6 +52,15 @@ fn count_up_to(moment: u32, posts: &[Post]) -> usize
         count += 1;
     }
     count
+}
+
+/// The values of the outputs, in their order.
+fn values_in<M: Mem>(firmware: &Firmware, m: &Machine<M>) -> ArrayVec<u16, 4>
+    requires { (firmware.now.outputs ≤ 4) × (firmware.now.layout.outputs + 8 < 2 ^ 16) }
+    ensures { result.items ≡ values_in firmware.now m.now.state }
+{
+    answers_are_values();
+    answers(firmware, m)
 }
 
 /// The answer of a turn that ends here, of this sample.
