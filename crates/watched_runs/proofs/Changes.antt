@@ -16,7 +16,6 @@ use Rattle.eval_code.specs.declared.layout.Layout.{Layout}
 use Rattle.codegen.specs.Interruptible.{IsInterruptible}
 use Rattle.watched_code.specs.Watched.{Change, changed, restored, IsTableChange}
 use Rattle.instruction_steps.specs.Facts.{HasImageBytes, WaitsAlone}
-use Rattle.instruction_steps.proofs.Algebra.{at_stack}
 use Rattle.watched_runs.specs.Samples.{change_of}
 
 not_none : (o : Option ℕ) → is_there o ≡ true → o ≢ None
@@ -72,10 +71,10 @@ pub waits_restored : (f : Firmware) (c : Option Change) (s : State) → IsTableC
     → IsInterruptible is_free (changed c (image_memory f.image.bytes)) s
     → WaitsAlone f (restored (image_memory f.image.bytes) c s)
 waits_restored f None s table h =
-    record { image = h.same; stack = at_stack s.regs.sp h.stack; unmasked = h.mask; sums = h.temps }
+    record { image = h.same; stack = h.stack; unmasked = h.mask; sums = h.temps }
 waits_restored f (Some c) s table h = record {
   image = put_back (image_memory f.image.bytes) c s (let lt = table.1 in omega (arith, lt)) h;
-  stack = at_stack s.regs.sp h.stack;
+  stack = h.stack;
   unmasked = h.mask;
   sums = h.temps;
 }

@@ -28,13 +28,11 @@ use Rattle.watched_code.specs.WatchedCode.{fault_at, watched_layout}
 use Rattle.run_law.specs.Forms.{rows_from}
 use Rattle.run_law.specs.Uninterrupted.{uninterrupted}
 use Rattle.run_law.specs.Following.{Completes, AllComplete, AllWithin, AllFollow, expected_row, expected_rows}
-use Rattle.run_law.proofs.Algebra.{before_at, before_weaker}
 use Rattle.firmware_ports.specs.Ports.{answer_size, answers_at, answers_in}
 use Rattle.fz_run.specs.Rows.{requests_of, first_state}
 use Rattle.instruction_steps.specs.Facts.{HasImageBytes, WaitsAlone}
 use Rattle.fz_run.specs.Following.{IsLow, Nothing}
 use Rattle.instruction_steps.specs.Instructions.{AreSteps, IsServing}
-use Rattle.instruction_steps.proofs.Algebra.{at_stack}
 use Rattle.watched_runs.specs.Samples.{change_of, changes_from, with_upsets}
 use Rattle.watched_runs.specs.Forms.{given_changed, watched_form, FactsWatched}
 use Rattle.watched_runs.specs.Rows.{FaultSeen, fault_seen, upset_rows, faults_of}
@@ -117,13 +115,10 @@ sampled : (b : Block) (f : Firmware) (flags : ℕ) (before : ℕ → ℕ) (x : W
     → Completes (FactsWatched flags) (watched_form flags f) 0 (all_steps a.ds) (all_steps a.ds)
     (given_changed f.layout x s)
 sampled b f flags before x s t a g =
-    let P = IsServing is_free f.layout (changed x.change (image f)) flags in
-    let first = given_changed f.layout x s in
     record {
       sum = omega arith;
-      holds = before_weaker P (FactsWatched flags) flags
-          (λ u k. record { facts = k.facts; stack = k.stack }) (all_steps a.ds) first g.each;
-      on = λ j from l. (let k = before_at P flags (all_steps a.ds) j first g.each l in k.busy);
+      holds = λ j l. (let k = g.each j l in record { facts = k.facts; stack = k.stack });
+      on = λ j from l. (let k = g.each j l in k.busy);
       ended = ap (is_idle f.layout) g.goes ∙ a.idle;
     }
 
@@ -158,10 +153,7 @@ holds_change b f flags before x s t a g j l = by (one_of j (all_steps a.ds) l)
 
     by : (suc j ≤ all_steps a.ds) ⊎ (j ≡ all_steps a.ds)
         → HasImageBytes (changed x.change (image f)) (uninterrupted flags j (given_changed f.layout x s))
-    by (inl less) =
-        let P = IsServing is_free f.layout (changed x.change (image f)) flags in
-        let k = before_at P flags (all_steps a.ds) j (given_changed f.layout x s) g.each less in
-        k.image
+    by (inl less) = let k = g.each j less in k.image
     by (inr e) =
         let end = a.interruptible in
         subst (λ (u : State). HasImageBytes (changed x.change (image f)) u)
@@ -285,7 +277,7 @@ under laws b f p flags samples plan upsets s hf good ready a answered =
     all_sampled laws b f p flags (λ o. 0) xs s hf ready answered in
     let c = a.interruptible in
     let waits : WaitsAlone f s =
-    record { image = c.same; stack = at_stack s.regs.sp c.stack; unmasked = c.mask; sums = c.temps } in
+    record { image = c.same; stack = c.stack; unmasked = c.mask; sums = c.temps } in
     let runs : AllFollow is_free g Nothing [] asks 1 ns xs s (rows_from g f.step_bound asks 1 xs s) =
     laws.runs_follow flags f p.low asks (laws.requests_are_good plan good) [] 1 f.step_bound ns xs s s bounded complete
     (record { regs = refl; temps = refl; mem = agree_self (is_hidden is_free s.regs.sp) s.mem }) tt in
