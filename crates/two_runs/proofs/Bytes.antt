@@ -16,7 +16,7 @@ use Rattle.cpu12_emul.specs.Simulation.{Simulates, AreSumsReady, HasRoom, IsShow
 use Rattle.cpu12_emul.specs.Step.{Next}
 use Rattle.cpu12_emul.specs.Take.{framed}
 use Rattle.run_law.specs.Uninterrupted.{stepped, state_by}
-use Rattle.run_law.specs.Soundness.{below_sums, Begins}
+use Rattle.run_law.specs.Soundness.{Begins, SumsFitBelow}
 use Rattle.two_runs.proofs.Beginnings.{off_fits}
 
 -- the laws of lower crates
@@ -26,6 +26,7 @@ pub record BytesLaws : Type 0 where
   pub step_keeps : StepKeeps
   pub pushes_running : PushesRunning
   pub pushes_none : PushesNone
+  pub sums_fit_below : SumsFitBelow
 
 -- bytes of a list
 pub AllBytes : List ℕ → Type 0
@@ -59,11 +60,6 @@ frame_fits r f =
 
 fits_at : (r : Regs) (k : ℕ) → FitsRegs r → k < 2 ^ 16 → FitsRegs (record r { sp = k })
 fits_at r k f h = record { a = f.a; b = f.b; x = f.x; y = f.y; sp = h; pc = f.pc; ccr = f.ccr }
-
-below_fits : (r : Regs) (t : Temps) → FitsRegs r → FitsRegs (below_sums r t)
-below_fits r Free f = f
-below_fits r OnStack f = f
-below_fits r (Running p w) f = fits_at r (plus r.sp 65530) f (omega arith)
 
 ready_fits : (open_to : ℕ → Bool) (s : State) (t : Temps) → AreSumsReady open_to s t → FitsTemps t
 ready_fits open_to s Free h = tt
@@ -116,8 +112,10 @@ push_bytes laws open_to flags w s shown l bytes = cases w.temps refl
         (placed_fits (plus w.regs.sp 65530) (sum_bytes q k) (omega arith) (sums_fit q k sums.0 sums.1)) bytes)
 
 -- an interrupt begins with registers that fit
-pub begins_fits : (open_to : ℕ → Bool) (v s : State) → HasRoom s → Begins open_to v s → FitsRegs v.regs
-begins_fits open_to v s room begins = subst FitsRegs (sym begins.regs) (below_fits s.regs s.temps room.fits)
+pub begins_fits : BytesLaws → (open_to : ℕ → Bool) (v s : State) → HasRoom s → Begins open_to v s → FitsRegs v.regs
+begins_fits laws open_to v s room begins =
+    let below = laws.sums_fit_below s.regs s.temps room.fits room.low room.high in
+    subst FitsRegs (sym begins.regs) below.fits
 
 pub take_bytes : BytesStay → (v : State) → FitsRegs v.regs → AreBytes v.mem → AreBytes (framed [] v).mem
 take_bytes stay v fits bytes =

@@ -10,13 +10,13 @@ use Rattle.std.specs.Prelude.{None}
 use Rattle.cpu12_parts.specs.State.{State}
 use Rattle.cpu12_emul.specs.Simulation.{Same}
 use Rattle.cpu12_emul.specs.Take.{may_interrupt}
-use Rattle.run_law.specs.Uninterrupted.{stepped, uninterrupted, first_open, taken_at}
+use Rattle.run_law.specs.Uninterrupted.{uninterrupted, first_open, taken_at}
 use Rattle.run_law.specs.Soundness.{Before, Sound, WritesAreQuiet, AllGood, Ascend}
 use Rattle.run_law.specs.Following.{RunFollows, Completes, Follows}
-use Rattle.run_law.proofs.Algebra.{before_weaker, before_at}
+use Rattle.run_law.proofs.Algebra.{before_more}
 use Rattle.two_level.specs.Layouts.{fast_layout}
 use Rattle.two_runs.specs.Runs.{fast_form, fast_run}
-use Rattle.two_runs.specs.Steps.{is_open_inside, IsFastState, IsOpenState}
+use Rattle.two_runs.specs.Steps.{is_open_inside, IsFastState}
 use Rattle.two_runs.specs.Inside.{AnyMoment, HoldsBytes, Inside, FollowsInside, FastRunsFollow, AreOnStack}
 use Rattle.two_runs.proofs.Frames.{HasFrameRoom, frames_fit}
 use Rattle.two_runs.proofs.Bytes.{BytesLaws, step_bytes, push_bytes, begins_fits, take_bytes}
@@ -46,7 +46,7 @@ sound laws image flags outputs sp hf few agree quiet = record {
   quiet = λ done a v s good p may begins own.
       (let shown = p.shown in (
         quiet is_open_inside [] v s apart tt shown.room begins,
-        take_bytes laws.bytes_stay v (begins_fits is_open_inside v s shown.room begins) own,
+        take_bytes laws.bytes_stay v (begins_fits laws is_open_inside v s shown.room begins) own,
       ));
   leaves_open = record {
     gives = λ done x w o. o;
@@ -117,25 +117,20 @@ fast_runs_follow laws law b image flags most bytes before inner s t hf few fits 
     }
 
     holds : Before (IsFastState image flags s.regs.sp) flags (suc r.further) s
-    holds = (
-      r.first,
-      before_weaker (IsOpenState image flags s.regs.sp) (IsFastState image flags s.regs.sp) flags
-          (λ w p. p.state) r.further (stepped flags s) r.each,
-    )
+    holds = before_more (IsFastState image flags s.regs.sp) flags r.further s r.first
+        (λ j l. (let p = r.each j l in p.state))
 
     opens : (j : ℕ) → 1 ≤ j → j < suc r.further → may_interrupt (uninterrupted flags j s) ≡ true
     opens zero l h = absurd (omega arith)
     opens (suc j) l h =
-        (let p = before_at (IsOpenState image flags s.regs.sp) flags r.further j (stepped flags s) r.each
-        (omega arith) in p.unmasked)
+        (let p = r.each j (omega arith) in p.unmasked)
 
     moments : (q : ℕ) → taken_at flags (λ k. k) (suc r.further) s q ≡ max 1 q
     moments = moments_at flags r.further s r.masked opens
 
     on : (j : ℕ) → 0 ≤ j → suc j ≤ suc r.further → nat_lt s.regs.sp (uninterrupted flags j s).regs.sp ≡ false
     on j z l =
-        (let p : IsFastState image flags s.regs.sp (uninterrupted flags j s) =
-        before_at (IsFastState image flags s.regs.sp) flags (suc r.further) j s holds l in
+        (let p : IsFastState image flags s.regs.sp (uninterrupted flags j s) = holds j l in
         let e = p.stack in grind (arith, nat_tests))
 
     ended : nat_lt s.regs.sp (uninterrupted flags (suc r.further) s).regs.sp ≡ true
@@ -160,8 +155,7 @@ fast_runs_follow laws law b image flags most bytes before inner s t hf few fits 
 
     room : (j : ℕ) → j < suc r.further → HasFrameRoom (uninterrupted flags j s)
     room j l =
-        (let p : IsFastState image flags s.regs.sp (uninterrupted flags j s) =
-        before_at (IsFastState image flags s.regs.sp) flags (suc r.further) j s holds l in
+        (let p : IsFastState image flags s.regs.sp (uninterrupted flags j s) = holds j l in
         let fast = p.room in
         (omega (arith, p.stack, fast.0), omega (arith, p.stack, fast.1)))
 

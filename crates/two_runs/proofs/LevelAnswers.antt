@@ -5,6 +5,7 @@ use Rattle.cpu12_parts.specs.State.{State}
 use Rattle.cpu12_emul.specs.Image.{image_memory}
 use Rattle.run_law.specs.Forms.{RowSeen, Rows}
 use Rattle.run_law.specs.Following.{all_onto, AllFollow, RunsFollow}
+use Rattle.run_law.specs.Moments.{TakenAtOnce}
 use Rattle.interrupt_plan.specs.declared.levels.Level.{Level}
 use Rattle.interrupt_plan.specs.Levels.{IsGoodLevel}
 use Rattle.eval_code.specs.declared.width.Width.TheVariants.{Byte}
@@ -18,9 +19,8 @@ use Rattle.instruction_steps.specs.Facts.{FactsBeside, FactsAlone}
 use Rattle.fz_run.specs.Following.{rows_of_samples}
 use Rattle.fz_run.specs.Given.{RequestsAreGood}
 use Rattle.fz_run.specs.Answering.{AnswerBlock, AnswersUnder, AnswersUnderPlans, RunsBeside, FirmwareRunsBeside}
-use Rattle.fz_run.specs.Answering.{FirstAlike, FirstStatesAlike}
+use Rattle.fz_run.specs.Answering.{FirstAlike, FirstStatesAlike, FirstStatesAgree}
 use Rattle.run_forms.proofs.Algebra.{all_onto_all}
-use Rattle.fz_run.proofs.Algebra.{first_same}
 use Rattle.two_runs.specs.Runs.{FastSeen}
 use Rattle.two_runs.specs.Inside.{AreOnStack}
 use Rattle.two_runs.specs.Rows.{levels_of, level_form, first_two, two_rows}
@@ -40,6 +40,8 @@ pub record AnswerLaws : Type 0 where
   pub two_stand_beside : TwoStandBeside
   pub firmware_runs_beside : FirmwareRunsBeside
   pub first_states_alike : FirstStatesAlike
+  pub first_states_agree : FirstStatesAgree
+  pub taken_at_once : TakenAtOnce
   pub answers_under_plans : AnswersUnderPlans
   pub requests_are_good : RequestsAreGood
   pub runs_follow : (x : Levels)
@@ -54,7 +56,7 @@ answers_under_levels laws two flags slow_samples samples levels hf good slow fas
       rows_are = rows_are;
       slow_answers = subst (λ (rows : List (RowSeen (List ℕ))). AnswerBlock slow two.slow flags slow_samples rows)
           (sym rows_are) under.answers;
-      taken = followed.taken ∙ same_taken flags two samples levels 1 runs.ns slow_samples first fitted_all runs.complete
+      taken = followed.taken ∙ same_taken laws.taken_at_once flags two samples levels 1 runs.ns slow_samples first fitted_all runs.complete
           ∙ ap (λ (rows : List (RowSeen (List ℕ))). taken_by 1 levels (map (λ (r : RowSeen (List ℕ)). r.steps) rows))
           (sym rows_of);
       fast_numbers = subst
@@ -144,7 +146,7 @@ answers_under_levels laws two flags slow_samples samples levels hf good slow fas
         (levels_are_good laws.requests_are_good (length samples) levels good) [] 1
         two.slow.step_bound runs.ns slow_samples (first_two two flags) first runs.within
         (complete flags two samples runs.ns slow_samples first fitted_all runs.complete)
-        (first_same is_open_to_fast two.slow flags (image_memory two.image.bytes) (first_two two flags) alike) begins)
+        (laws.first_states_agree is_open_to_fast two.slow flags (image_memory two.image.bytes) (first_two two flags) alike) begins)
 
     own : FastStands fast two flags samples (all_onto all.told []) all.state
     own = followed.own
@@ -158,7 +160,7 @@ answers_under_levels laws two flags slow_samples samples levels hf good slow fas
 
     rows_of : all.rows ≡ rows_of_samples flags two.slow (plan_of levels) 1 runs.ns slow_samples first
     rows_of = followed.rows_are
-        ∙ same_rows flags two samples levels 1 runs.ns slow_samples first fitted_all runs.complete
+        ∙ same_rows laws.taken_at_once flags two samples levels 1 runs.ns slow_samples first fitted_all runs.complete
 
     numbers : runs.ns ≡ under.ns
     numbers =

@@ -1,7 +1,8 @@
 -- Good levels are good requests that write nothing, and each sample's are in order.
 use Rattle.std.proofs.Common.{◌≡◌, ℕ, zero, suc, ◌==◌, nat_lt, Bool, true, false, cond, if◌then◌else◌, List, [], ◌∷◌}
-use Rattle.std.proofs.Common.{map, length, refl, ap, ap₂, ◌∙◌, subst, arith}
+use Rattle.std.proofs.Common.{map, refl, ap, ap₂, ◌∙◌, subst, arith}
 use Rattle.std.specs.Prelude.{◌&&◌, ◌||◌, ◌+◌, All, filter, Option, None, Some}
+use Rattle.std.proofs.lemmas.List.{length-map}
 use Rattle.std.proofs.lemmas.List.Elements.{All-cons}
 use Rattle.cpu12_parts.specs.State.{State}
 use Rattle.cpu12_emul.specs.Take.{FrameSeen}
@@ -65,13 +66,9 @@ ascends [] h = tt
 ascends (a ∷ []) h = tt
 ascends (a ∷ (b ∷ rest)) h = (h.0, ascends (b ∷ rest) h.1)
 
-length_each : {A B : Type 0} (g : A → B) (xs : List A) → length (map g xs) ≡ length xs
-length_each g [] = refl
-length_each g (x ∷ xs) = let r = length_each g xs in omega (arith, r)
-
 pub plan_good : (fast : ℕ) (levels : List Level) → AreGoodLevels fast levels → IsGood (plan_of levels)
 plan_good fast levels h = record {
-  few = (let e = length_each request_of levels in omega (arith, e, h.few));
+  few = (let e = length-map levels request_of in omega (arith, e, h.few));
   requests = all_good fast levels h.each;
   ascends = ascends levels h.ascends;
 }

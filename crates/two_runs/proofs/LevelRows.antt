@@ -9,7 +9,7 @@ use Rattle.run_law.specs.Forms.{RowSeen}
 use Rattle.run_law.specs.Uninterrupted.{uninterrupted, counted, taken_at, taken_before, resumed_of, frames_of}
 use Rattle.run_law.specs.Soundness.{Before}
 use Rattle.run_law.specs.Following.{Completes, AllComplete, expected_row, expected_rows, expected_taken}
-use Rattle.run_law.proofs.Algebra.{before_at}
+use Rattle.run_law.specs.Moments.{TakenAtOnce}
 use Rattle.interrupt_plan.specs.declared.Request.{Request}
 use Rattle.interrupt_plan.specs.declared.levels.Level.{Level}
 use Rattle.codegen.specs.declared.firmware.Firmware.{Firmware}
@@ -20,7 +20,6 @@ use Rattle.fz_run.specs.Forms.{with_writes}
 use Rattle.fz_run.specs.Rows.{requests_of}
 use Rattle.instruction_steps.specs.Facts.{IsStackOfOneCall, FactsBeside}
 use Rattle.fz_run.specs.Following.{rows_of_samples}
-use Rattle.run_forms.proofs.Algebra.{taken_is}
 use Rattle.two_runs.specs.Inside.{AreOnStack}
 use Rattle.two_runs.specs.Rows.{levels_of}
 use Rattle.two_runs.specs.Answering.{request_of, plan_of, taken_by}
@@ -89,13 +88,12 @@ same_numbers P Q flags f (m ∷ ms) (n ∷ ns) (x ∷ xs) s a b =
 
 -- I is 0 throughout: a level is taken at its moment
 open_at : (flags : ℕ) (two : Two) (n : ℕ) (s : State) → Before (SlowFacts flags two) flags n s
-    → (j : ℕ) → suc j ≤ n → may_interrupt (uninterrupted flags j s) ≡ true
-open_at flags two n s holds j l =
-    ap not (let p = before_at (SlowFacts flags two) flags n j s holds l in let facts = p.facts in facts.unmasked)
+    → (j : ℕ) → j < n → may_interrupt (uninterrupted flags j s) ≡ true
+open_at flags two n s holds j l = ap not (let p = holds j l in let facts = p.facts in facts.unmasked)
 
-moments_are : (flags : ℕ) (two : Two) (n : ℕ) (s : State) → Before (SlowFacts flags two) flags n s
+moments_are : TakenAtOnce → (flags : ℕ) (two : Two) (n : ℕ) (s : State) → Before (SlowFacts flags two) flags n s
     → taken_at flags (λ (l : Level). l.moment) n s ≡ (λ l. l.moment)
-moments_are flags two n s holds = taken_is flags (λ (l : Level). l.moment) n s (open_at flags two n s holds)
+moments_are law flags two n s holds = λ i. λ l. law flags n s l.moment (open_at flags two n s holds) i
 
 -- a row by when levels are taken
 abbrev row_by : ℕ → Two → List Level → ℕ → List ℕ → State → (Level → ℕ) → RowSeen (List ℕ)
@@ -133,14 +131,14 @@ row_alike flags two ls n x s =
     (sym (frames_of_each flags (λ (r : Request). r.moment) request_of s ls n))
 
 -- So the rows are those of the slow firmware alone under the levels' plan,
-pub same_rows : (flags : ℕ) (two : Two) (fast : List (List ℕ)) (levels : List Level) (k : ℕ) (ns : List ℕ)
+pub same_rows : TakenAtOnce → (flags : ℕ) (two : Two) (fast : List (List ℕ)) (levels : List Level) (k : ℕ) (ns : List ℕ)
     (samples : List (List ℕ)) (s : State) → AreFitted samples
     → AllComplete (SlowFacts flags two) (with_writes flags two.slow) ns samples s
     → expected_rows (fitted_form flags two fast) (λ j. levels_of j levels) k ns samples s
     ≡ rows_of_samples flags two.slow (plan_of levels) k ns samples s
-same_rows flags two fast levels k [] samples s few h = refl
-same_rows flags two fast levels k (n ∷ ns) [] s few h = refl
-same_rows flags two fast levels k (n ∷ ns) (x ∷ rest) s few h =
+same_rows law flags two fast levels k [] samples s few h = refl
+same_rows law flags two fast levels k (n ∷ ns) [] s few h = refl
+same_rows law flags two fast levels k (n ∷ ns) (x ∷ rest) s few h =
     let form = fitted_form flags two fast in
     let u : State = given two.slow.layout x s in
     let holds = (let one = h.0 in one.holds) in
@@ -149,20 +147,20 @@ same_rows flags two fast levels k (n ∷ ns) (x ∷ rest) s few h =
     (uninterrupted flags n v))
     (given_is two x s few.0)
     ∙ ap₂ (λ (row : RowSeen (List ℕ)) (rows : List (RowSeen (List ℕ))). row ∷ rows)
-    (ap (row_by flags two ls n x u) (moments_are flags two n u holds) ∙ row_alike flags two ls n x u
+    (ap (row_by flags two ls n x u) (moments_are law flags two n u holds) ∙ row_alike flags two ls n x u
     ∙ ap (λ (qs : List Request). row_with flags two qs n x u) (sym (requests_are k levels)))
-    (same_rows flags two fast levels (suc k) ns rest (uninterrupted flags n u) few.1 h.1)
+    (same_rows law flags two fast levels (suc k) ns rest (uninterrupted flags n u) few.1 h.1)
 
 -- the levels that are taken are those before the ends of the samples,
-pub same_taken : (flags : ℕ) (two : Two) (fast : List (List ℕ)) (levels : List Level) (k : ℕ) (ns : List ℕ)
+pub same_taken : TakenAtOnce → (flags : ℕ) (two : Two) (fast : List (List ℕ)) (levels : List Level) (k : ℕ) (ns : List ℕ)
     (samples : List (List ℕ)) (s : State) → AreFitted samples
     → AllComplete (SlowFacts flags two) (with_writes flags two.slow) ns samples s
     → expected_taken (fitted_form flags two fast) (λ j. levels_of j levels) k ns samples s
     ≡ taken_by k levels (map (λ (r : RowSeen (List ℕ)). r.steps)
     (rows_of_samples flags two.slow (plan_of levels) k ns samples s))
-same_taken flags two fast levels k [] samples s few h = refl
-same_taken flags two fast levels k (n ∷ ns) [] s few h = refl
-same_taken flags two fast levels k (n ∷ ns) (x ∷ rest) s few h =
+same_taken law flags two fast levels k [] samples s few h = refl
+same_taken law flags two fast levels k (n ∷ ns) [] s few h = refl
+same_taken law flags two fast levels k (n ∷ ns) (x ∷ rest) s few h =
     let form = fitted_form flags two fast in
     let u : State = given two.slow.layout x s in
     let holds = (let one = h.0 in one.holds) in
@@ -171,8 +169,8 @@ same_taken flags two fast levels k (n ∷ ns) (x ∷ rest) s few h =
     ∷ expected_taken form (λ j. levels_of j levels) (suc k) ns rest (uninterrupted flags n v))
     (given_is two x s few.0)
     ∙ ap₂ (λ (ts : List Level) (tss : List (List Level)). ts ∷ tss)
-    (ap (λ (moment : Level → ℕ). taken_before moment n ls) (moments_are flags two n u holds))
-    (same_taken flags two fast levels (suc k) ns rest (uninterrupted flags n u) few.1 h.1)
+    (ap (λ (moment : Level → ℕ). taken_before moment n ls) (moments_are law flags two n u holds))
+    (same_taken law flags two fast levels (suc k) ns rest (uninterrupted flags n u) few.1 h.1)
 
 -- and no frame stands below the stack's start.
 sp_room : (sp : ℕ) → IsStackOfOneCall sp → (0x1FEF ≤ sp) × (sp ≤ 0x2000)
@@ -188,8 +186,7 @@ on_stack flags two plan k (n ∷ ns) (x ∷ rest) s h =
     let u : State = given two.slow.layout x s in
     let holds = (let one = h.0 in one.holds) in
     let room : (j : ℕ) → j < n → HasFrameRoom (uninterrupted flags j u) =
-    λ j l. (let p = before_at (SlowFacts flags two) flags n j u holds (omega arith) in
-    sp_room (uninterrupted flags j u).regs.sp p.stack) in
+    λ j l. (let p = holds j l in sp_room (uninterrupted flags j u).regs.sp p.stack) in
     All-cons (λ (r : RowSeen (List ℕ)). AreOnStack r.frames) (row_with flags two (requests_of k plan) n x u)
     (rows_of_samples flags two.slow plan (suc k) ns rest (uninterrupted flags n u))
     (frames_fit flags n u (λ (r : Request). r.moment) room (requests_of k plan) None)

@@ -1,5 +1,5 @@
 -- A level's interrupt is quiet, and the fast code and its answers stand after it.
-use Rattle.std.proofs.Common.{◌≡◌, ◌⊎◌, inl, inr, ℕ, zero, suc, ◌-◌, ◌^◌, ◌<◌, ◌≤◌, Bool, true, false, List, [], ◌∷◌}
+use Rattle.std.proofs.Common.{◌≡◌, ◌⊎◌, inl, inr, ℕ, zero, suc, ◌-◌, ◌^◌, ◌<◌, ◌≤◌, true, false, List, [], ◌∷◌}
 use Rattle.std.proofs.Common.{length, refl, ap, ap₂, sym, ◌∙◌, subst, arith}
 use Rattle.std.specs.Prelude.{Option, None, Some, All, slice_get, slice_index_or}
 use Rattle.std.specs.List.Sorted.{IsNonDecreasing}
@@ -20,7 +20,7 @@ use Rattle.cpu12_emul.specs.Simulation.{HasRoom, TakesQuietly}
 use Rattle.cpu12_emul.specs.Take.{framed}
 use Rattle.run_law.specs.Forms.{Ran}
 use Rattle.run_law.specs.Uninterrupted.{counted}
-use Rattle.run_law.specs.Soundness.{below_sums, Begins, Quiet, Ascend}
+use Rattle.run_law.specs.Soundness.{below_sums, FitBelow, Begins, Quiet, Ascend}
 use Rattle.interrupt_plan.specs.declared.levels.Level.{Level}
 use Rattle.interrupt_plan.specs.Levels.{IsGoodLevel}
 use Rattle.eval_code.specs.Firing.{AreInputBytes}
@@ -88,14 +88,10 @@ room_of : (x : Given) (done : List (Level × Option FastSeen)) (v s : State) →
 room_of x done v s h = let p = h.facts in let facts = p.facts in let shown = facts.shown in shown.room
 
 -- SP leaves room for a frame inside a frame
-sp_within : (r : Regs) (t : Temps) → IsStackOfOneCall r.sp
+sp_within : (r : Regs) (t : Temps) → FitBelow r t → IsStackOfOneCall r.sp
     → (0x1FF8 ≤ (below_sums r t).sp) × ((below_sums r t).sp ≤ 0x2000)
-sp_within r Free (inl e) = (omega arith, omega arith)
-sp_within r Free (inr e) = (omega arith, omega arith)
-sp_within r OnStack (inl e) = (omega arith, omega arith)
-sp_within r OnStack (inr e) = (omega arith, omega arith)
-sp_within r (Running p w) (inl e) = (omega arith, omega arith)
-sp_within r (Running p w) (inr e) = (omega arith, omega arith)
+sp_within r t below (inl e) = (omega (arith, below.low, e), omega (arith, below.high, e))
+sp_within r t below (inr e) = (omega (arith, below.low, e), omega (arith, below.high, e))
 
 can_enter : (x : Given) (done : List (Level × Option FastSeen)) (v s : State) → Serves x done v s
     → CanEnter x.fast (image_memory x.two.image.bytes) (outputs_after x.fast x.samples done) v
@@ -103,12 +99,14 @@ can_enter x done v s h =
     let begins = h.begins in
     let own = h.stands in
     let room = room_of x done v s h in
-    let sp = (let p = h.facts in sp_within s.regs s.temps p.stack) in
+    let laws : BytesLaws = (let all = x.laws in all.bytes) in
+    let below = laws.sums_fit_below s.regs s.temps room.fits room.low room.high in
+    let sp = (let p = h.facts in sp_within s.regs s.temps below p.stack) in
     record {
       off = begins.temps;
       size = begins.mem.size ∙ room.size;
       bytes = own.bytes;
-      fits = begins_fits is_open_to_fast v s room begins;
+      fits = begins_fits laws is_open_to_fast v s room begins;
       low = subst (λ (r : Regs). 0x1FF8 ≤ r.sp) (sym begins.regs) sp.0;
       high = subst (λ (r : Regs). r.sp ≤ 0x2000) (sym begins.regs) sp.1;
       code = own.code;

@@ -20,7 +20,7 @@ use Rattle.cpu12_emul.specs.Step.{Left, applied, next_of}
 use Rattle.run_law.specs.Uninterrupted.{stepped, state_by, uninterrupted, counted}
 use Rattle.run_law.specs.Soundness.{Before}
 use Rattle.run_law.specs.Steps.{StepLaws}
-use Rattle.run_law.proofs.Algebra.{before_weaker, Stretch, joined, one_stretch}
+use Rattle.run_law.proofs.Algebra.{before_more, Stretch, joined, one_stretch}
 use Rattle.fuzzy_meaning.specs.declared.block.Block.{Block}
 use Rattle.eval_code.specs.Evaluation.{Reads, Writes}
 use Rattle.two_level.specs.Layouts.{fast_layout}
@@ -94,8 +94,8 @@ pub steps_keep : WritesStay → (image : List ℕ) (flags sp n : ℕ) (s : State
     × ((at : ℕ) → is_kept at ≡ true → slice_index (uninterrupted flags n s).mem at ≡ slice_index s.mem at)
 steps_keep stay image flags sp zero s b = (refl, λ at k. refl)
 steps_keep stay image flags sp (suc n) s b =
-    let one = step_keeps stay image flags sp s b.0 in
-    let rest = steps_keep stay image flags sp n (stepped flags s) b.1 in
+    let one = step_keeps stay image flags sp s (b 0 (omega arith)) in
+    let rest = steps_keep stay image flags sp n (stepped flags s) (λ j l. b (suc j) (omega arith)) in
     (rest.0 ∙ one.0, λ at k. rest.1 at k ∙ one.1 at k)
 
 open_state : (image : List ℕ) (flags sp : ℕ) (s : State) → Kept image false flags sp s → IsOpenState image flags sp s
@@ -136,14 +136,11 @@ run_of laws b image flags bytes before s v u ds room masked first tail r d is =
     let there : stepped flags s ≡ v = first.goes in
     let each : Before (IsOpenState image flags sp) flags further (stepped flags s) =
     subst (Before (IsOpenState image flags sp) flags further) (sym there)
-    (before_weaker (Kept image false flags sp) (IsOpenState image flags sp) flags (open_state image flags sp) further v
-    tail.each) in
+    (λ j l. open_state image flags sp (uninterrupted flags j v) (tail.each j l)) in
     let goes : uninterrupted flags (suc further) s ≡ t = ap (uninterrupted flags further) there ∙ tail.goes in
-    let all : Before (IsFastState image flags sp) flags (suc further) s = (
-      first.each.0.0,
-      before_weaker (IsOpenState image flags sp) (IsFastState image flags sp) flags
-          (λ w p. p.state) further (stepped flags s) each,
-    ) in
+    let start : IsFastState image flags sp s = (first.each 0 (omega arith)).0 in
+    let all : Before (IsFastState image flags sp) flags (suc further) s =
+    before_more (IsFastState image flags sp) flags further s start (λ j l. (let p = each j l in p.state)) in
     let keeps = (let k = laws.writes in steps_keep k.writes_stay image flags sp (suc further) s all) in
     let kept_at : (at : ℕ) → is_kept at ≡ true → slice_index t.mem at ≡ slice_index s.mem at =
     λ at k. ap (λ (w : State). slice_index w.mem at) (sym goes) ∙ keeps.1 at k in
@@ -154,7 +151,7 @@ run_of laws b image flags bytes before s v u ds room masked first tail r d is =
     record {
       further = further;
       goes = goes;
-      first = first.each.0.0;
+      first = start;
       masked = ap not masked;
       each = each;
       ccr = u.regs.ccr;

@@ -1,6 +1,5 @@
 -- Each sample of the fast of two blocks has a run from where its code can be entered.
 use Rattle.std.proofs.Common.{◌≡◌, suc, ◌≤◌, sym, subst, arith}
-use Rattle.fuzzy_meaning.specs.declared.block.Block.{Block}
 use Rattle.eval_code.specs.declared.width.Width.TheVariants.{Byte}
 use Rattle.eval_code.specs.Bounds.{step_bound}
 use Rattle.cpu12_emul.specs.Image.{image_memory}

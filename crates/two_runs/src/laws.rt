@@ -12,10 +12,12 @@ use cpu12_emul::laws::{holds_image, step_fits, step_keeps, takes_quietly};
 use cpu12_isa::laws::{bytes_stay, frame_comes_back, writes_stay};
 use cpu12_parts::laws::wav_suspends;
 use fz_run::laws::{
-    answers_under_plans, firmware_runs_beside, first_states_alike, given_leaves_open,
-    requests_are_good, steps_leave_open,
+    answers_under_plans, firmware_runs_beside, first_states_agree, first_states_alike,
+    given_leaves_open, requests_are_good, steps_leave_open,
 };
-use run_law::laws::{run_follows, runs_follow, step_laws, writes_are_quiet};
+use run_law::laws::{
+    run_follows, runs_follow, step_laws, sums_fit_below, taken_at_once, writes_are_quiet,
+};
 use two_level::{alone_has_byte_bounds, fast_answers_entered, two_stand_beside};
 
 /// The whole instructions with which the fast code answers, and its return, are steps from the state
@@ -46,6 +48,7 @@ pub fn fast_runs_follow()
     step_fits();
     step_keeps();
     wav_suspends();
+    sums_fit_below();
     run_follows::<InsideForm>();
 }
 
@@ -105,6 +108,7 @@ pub fn answers_under_levels()
     step_fits();
     step_keeps();
     wav_suspends();
+    sums_fit_below();
     takes_quietly();
     steps_leave_open();
     given_leaves_open();
@@ -115,6 +119,8 @@ pub fn answers_under_levels()
     two_stand_beside();
     firmware_runs_beside();
     first_states_alike();
+    first_states_agree();
+    taken_at_once();
     answers_under_plans();
     requests_are_good();
     alone_has_byte_bounds();

@@ -10,6 +10,7 @@ returns c = answers_under_levels (record {
       step_keeps = c.step_keeps.ensures;
       pushes_running = c.wav_suspends.ensures.running;
       pushes_none = c.wav_suspends.ensures.none;
+      sums_fit_below = c.sums_fit_below.ensures;
     };
     steps_leave_open = c.steps_leave_open.ensures;
     given_leaves_open = c.given_leaves_open.ensures;
@@ -23,6 +24,8 @@ returns c = answers_under_levels (record {
   two_stand_beside = c.two_stand_beside.ensures;
   firmware_runs_beside = c.firmware_runs_beside.ensures;
   first_states_alike = c.first_states_alike.ensures;
+  first_states_agree = c.first_states_agree.ensures;
+  taken_at_once = c.taken_at_once.ensures;
   answers_under_plans = c.answers_under_plans.ensures;
   requests_are_good = c.requests_are_good.ensures;
   runs_follow = c.runs_follow.ensures;

@@ -8,4 +8,5 @@ returns c = fast_runs_follow (record {
   step_keeps = c.step_keeps.ensures;
   pushes_running = c.wav_suspends.ensures.running;
   pushes_none = c.wav_suspends.ensures.none;
+  sums_fit_below = c.sums_fit_below.ensures;
 }) c.run_follows.ensures

@@ -3,7 +3,7 @@ use Rattle.std.specs.Prelude.{Some}
 use Rattle.cpu12_parts.specs.Cuts.{suspended, wav}
 use Rattle.two_level.specs.Images.{fast_most}
 use Rattle.two_runs.specs.Runs.{FastSeen, fast_run, entered}
-use Rattle.two_runs.specs.Counts.{Counted, counted, counted_at}
+use Rattle.two_runs.specs.Counts.{Counted, counted_at}
 use Rattle.two_runs.proofs.FastRows.{same_run, seen_by_counts}
 use Rattle.two_runs.proofs.serve.run_fast.Goals as goal
 
