@@ -1,14 +1,13 @@
 -- Steps one after another on the way to where the code waits, and plain instructions as such.
-use Rattle.std.proofs.Common.{◌≡◌, ◌≢◌, ℕ, ◌+◌, not, Result, Ok, List, [], ◌∷◌, ◌++◌, length, refl, sym, ap, ◌∙◌, subst}
+use Rattle.std.proofs.Common.{◌≡◌, ◌≢◌, ℕ, ◌+◌, Ok, List, [], ◌∷◌, ◌++◌, length, refl, sym, ap, ◌∙◌, subst}
 use Rattle.std.proofs.Common.{arith}
 use Rattle.cpu12_parts.specs.Executions.{Execution, all_steps}
 use Rattle.cpu12_parts.specs.State.{State}
 use Rattle.cpu12_emul.specs.declared.ends.Stepped.TheVariants.{Plain}
-use Rattle.cpu12_emul.specs.Step.{Next, next_of, is_part}
-use Rattle.run_law.specs.Forms.{one_if}
-use Rattle.run_law.specs.Uninterrupted.{state_by, kind_by, uninterrupted, counted}
+use Rattle.cpu12_emul.specs.Step.{Next, next_of}
+use Rattle.run_law.specs.Uninterrupted.{uninterrupted, counted}
 use Rattle.run_law.specs.Soundness.{Before}
-use Rattle.run_law.proofs.Algebra.{uninterrupted_add, counted_add, before_none, before_one, before_add}
+use Rattle.run_law.proofs.Algebra.{Stretch, no_stretch, one_stretch, joined}
 use Rattle.eval_code.specs.declared.layout.Layout.{Layout}
 use Rattle.codegen.specs.Turns.{IsMaskedStep}
 use Rattle.run_forms.specs.Arrival.{PlainIsOneStep}
@@ -21,16 +20,13 @@ pub record IsOnWay (l : Layout) (flags : ℕ) (s : State) : Type 0 where
   pub away : s.regs.pc ≢ l.wait
 
 pub no_step : (P : State → Type 0) (flags : ℕ) (s t : State) → s ≡ t → AreSteps P flags [] s t
-no_step P flags s t e = record { goes = e; counts = refl; each = before_none P flags s }
+no_step P flags s t e = let r = no_stretch P flags s in record { goes = e; counts = r.counts; each = r.each }
 
 pub one_step : (P : State → Type 0) (flags : ℕ) (s t : State) → P s
     → next_of flags s ≡ Ok (record { state = t; kind = Plain })
     → AreSteps P flags (0 ∷ []) s t
-one_step P flags s t p e = record {
-  goes = ap (state_by s) e;
-  counts = ap (λ (o : Result Next ℕ). one_if (not (is_part (kind_by o))) + 0) e;
-  each = before_one P flags s p;
-}
+one_step P flags s t p e =
+    let r = one_stretch P flags Plain s t refl p e in record { goes = r.goes; counts = r.counts; each = r.each }
 
 pub steps_append : (ds es : List ℕ) → all_steps (ds ++ es) ≡ all_steps ds + all_steps es
 steps_append [] es = omega arith
@@ -40,6 +36,10 @@ length_append : (ds es : List ℕ) → length (ds ++ es) ≡ length ds + length 
 length_append [] es = omega arith
 length_append (d ∷ ds) es = let r = length_append ds es in omega (arith, r)
 
+stretch : (P : State → Type 0) (flags : ℕ) (ds : List ℕ) (s t : State) → AreSteps P flags ds s t
+    → Stretch P flags (all_steps ds) (length ds) s t
+stretch P flags ds s t a = record { goes = a.goes; counts = a.counts; each = a.each }
+
 pub steps_on : (P : State → Type 0) (flags : ℕ) (ds es : List ℕ) (s t u : State) → AreSteps P flags ds s t
     → AreSteps P flags es t u
     → AreSteps P flags (ds ++ es) s u
@@ -47,14 +47,11 @@ steps_on P flags ds es s t u a b =
     let m = all_steps ds in
     let n = all_steps es in
     let e : all_steps (ds ++ es) ≡ m + n = steps_append ds es in
+    let r = joined P flags m n (length ds) (length es) s t u (stretch P flags ds s t a) (stretch P flags es t u b) in
     record {
-      goes = ap (λ (k : ℕ). uninterrupted flags k s) e ∙ uninterrupted_add flags m n s
-          ∙ ap (uninterrupted flags n) a.goes ∙ b.goes;
-      counts = ap (λ (k : ℕ). counted flags k s) e
-          ∙ (let c = counted_add flags m n s in let c2 = ap (counted flags n) a.goes in
-          omega (arith, c, c2, a.counts, b.counts, length_append ds es));
-      each = subst (λ (k : ℕ). Before P flags k s) (sym e)
-          (before_add P flags m n s a.each (subst (λ (v : State). Before P flags n v) (sym a.goes) b.each));
+      goes = ap (λ (k : ℕ). uninterrupted flags k s) e ∙ r.goes;
+      counts = ap (λ (k : ℕ). counted flags k s) e ∙ r.counts ∙ sym (length_append ds es);
+      each = subst (λ (k : ℕ). Before P flags k s) (sym e) r.each;
     }
 
 -- the masked instructions of a copy

@@ -13,8 +13,8 @@ use Rattle.run_law.specs.Forms.{one_if}
 use Rattle.run_law.specs.Uninterrupted.{stepped, kind_at, state_by, kind_by, uninterrupted, counted}
 use Rattle.run_law.specs.Soundness.{Before}
 
--- what holds before no step, before one, and before one more
-pub before_none : (P : State → Type 0) (flags : ℕ) (s : State) → Before P flags 0 s
+-- what holds before no step, before one more, and before one
+before_none : (P : State → Type 0) (flags : ℕ) (s : State) → Before P flags 0 s
 before_none P flags s k l = absurd (omega arith)
 
 pub before_more : (P : State → Type 0) (flags n : ℕ) (s : State) → P s → Before P flags n (stepped flags s)
@@ -22,7 +22,7 @@ pub before_more : (P : State → Type 0) (flags n : ℕ) (s : State) → P s →
 before_more P flags n s p b zero l = p
 before_more P flags n s p b (suc k) l = b k (omega arith)
 
-pub before_one : (P : State → Type 0) (flags : ℕ) (s : State) → P s → Before P flags 1 s
+before_one : (P : State → Type 0) (flags : ℕ) (s : State) → P s → Before P flags 1 s
 before_one P flags s p = before_more P flags 0 s p (before_none P flags (stepped flags s))
 
 pub uninterrupted_add : (flags m n : ℕ) (s : State)
@@ -39,7 +39,7 @@ counted_add flags (suc m) n s =
     let r = counted_add flags m n (stepped flags s) in
     ap (λ (k : ℕ). counted flags k s) e ∙ omega (arith, r)
 
-pub before_add : (P : State → Type 0) (flags m n : ℕ) (s : State) → Before P flags m s
+before_add : (P : State → Type 0) (flags m n : ℕ) (s : State) → Before P flags m s
     → Before P flags n (uninterrupted flags m s) → Before P flags (m + n) s
 before_add P flags zero n s a b k l = b k (omega arith)
 before_add P flags (suc m) n s a b zero l = a 0 (omega arith)

@@ -1,5 +1,5 @@
 use Rattle.std.proofs.Common.{◌≡◌, ◌+◌, ◌≤◌, ℕ, Some, None, length, arith, subst, sym, ◌∙◌, refl, inl, inr, false}
-use Rattle.handler_check.specs.Paths.{height_after, falls_to, branches_to}
+use Rattle.handler_check.specs.Paths.{falls_to, branches_to}
 use Rattle.handler_check.specs.Ways.{way_at}
 use Rattle.handler_check.proofs.Places.{below_end}
 use Rattle.handler_check.proofs.Marking.{short, Seen, mark_on}
