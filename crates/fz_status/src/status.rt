@@ -1,5 +1,6 @@
 //! How a call of the program ends.
 ghost use Rattle.std.specs.Prelude.{◌≡◌};
+ghost use Rattle.fz_status.specs.declared.status.Status.TheVariants.{Memory as want};
 
 use box_tree::CertFault;
 use cert_check::CheckFault;
@@ -7,10 +8,12 @@ use cpu12_asm::AsmFault;
 use error_certifier::NotReached;
 use fcl_check::LoadFault;
 use fcl_syntax::SyntaxFault;
+use fz_list::Memory;
 use handler_check::HandlerFault;
 use interrupt_plan::{PlanFault, UpsetFault};
 use rule_layout::LayoutFault;
 use srecord::SrecFault;
+use std::alloc::AllocError;
 use trace_io::TraceFault;
 
 /// How a call of the program ends. A word is told by its index, the program's name being 0.
@@ -96,6 +99,22 @@ pub enum CertRefusal {
     Text(CertFault),
     /// The certificate is not accepted.
     Check(CheckFault),
+}
+
+impl From<AllocError> for Status {
+    ghost from_gives = { λ _ status. status ≡ want };
+
+    fn from(_: AllocError) -> Status {
+        Status::Memory
+    }
+}
+
+impl From<Memory> for Status {
+    ghost from_gives = { λ _ status. status ≡ want };
+
+    fn from(_: Memory) -> Status {
+        Status::Memory
+    }
 }
 
 impl Status {
