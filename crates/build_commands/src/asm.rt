@@ -29,10 +29,8 @@ pub fn work(alloc: Global, source: &[u8]) -> Result<Work, Status>
         Err(AsmFault::Memory) => return Err(Status::Memory),
         Err(fault) => return Err(Status::Asm(fault)),
     };
-    match lines(alloc, &image) {
-        Ok(lines) => written_image(alloc, &image, OUT, lines),
-        Err(_) => Err(Status::Memory),
-    }
+    let lines = lines(alloc, &image)?;
+    written_image(alloc, &image, OUT, lines)
 }
 
 /// How many bytes the image has.

@@ -46,10 +46,8 @@ impl Certify {
     pub fn of(width: Width, words: &[String]) -> Option<Certify>
         ensures { result ≡ certify_in width (texts_of words.now) }
     {
-        match number_in(word(words, 3)) {
-            Some(target) => Some(Certify { width, target }),
-            None => None,
-        }
+        let target = number_in(word(words, 3))?;
+        Some(Certify { width, target })
     }
 
     /// Halves the boxes of the text's block until each has leaves within the target, and writes down
@@ -62,13 +60,11 @@ impl Certify {
         let compiled = firmware_of(alloc, width, fcl)?;
         let cert = halved(alloc, width, self.target.get(), &compiled.block)?;
         let text = text_of_cert(alloc, width, &cert)?;
-        match lines(alloc, &cert) {
-            Ok(lines) => Ok(Work {
-                lines,
-                file: Some((OUT, text)),
-            }),
-            Err(_) => Err(Status::Memory),
-        }
+        let lines = lines(alloc, &cert)?;
+        Ok(Work {
+            lines,
+            file: Some((OUT, text)),
+        })
     }
 }
 
@@ -99,13 +95,10 @@ fn text_of_cert(alloc: Global, width: Width, cert: &Cert) -> Result<Vec<u8>, Sta
     ensures memory { IfErr result (λ status. status ≡ Status.Memory) }
 {
     let text = match width {
-        Width::Byte => box_tree::write(alloc, cert),
-        Width::Word => box_tree::write16(alloc, cert),
+        Width::Byte => box_tree::write(alloc, cert)?,
+        Width::Word => box_tree::write16(alloc, cert)?,
     };
-    match text {
-        Ok(text) => Ok(text),
-        Err(_) => Err(Status::Memory),
-    }
+    Ok(text)
 }
 
 fn count_of_leaves(nodes: &[Node]) -> u64

@@ -33,10 +33,8 @@ impl Check {
     {
         let compiled = firmware_of(alloc, self.width, fcl)?;
         let errors = errors_under(alloc, self.width, &compiled.block, cert)?;
-        match lines(alloc, errors.as_slice(), compiled.firmware.instr_bound) {
-            Ok(lines) => Ok(Work { lines, file: None }),
-            Err(_) => Err(Status::Memory),
-        }
+        let lines = lines(alloc, errors.as_slice(), compiled.firmware.instr_bound)?;
+        Ok(Work { lines, file: None })
     }
 }
 

@@ -37,16 +37,9 @@ impl Exec {
     pub fn of(words: &[String]) -> Option<Exec>
         ensures { result ≡ exec_in (texts_of words.now) }
     {
-        let Some(steps) = number_in(word(words, 3)) else {
-            return None;
-        };
-        match flags(word(words, 4)) {
-            Some(flags) => Some(Exec {
-                steps: steps.get(),
-                flags,
-            }),
-            None => None,
-        }
+        let steps = number_in(word(words, 3))?.get();
+        let flags = flags(word(words, 4))?;
+        Some(Exec { steps, flags })
     }
 
     /// Runs the image from reset until it branches to itself, and writes down the registers.
@@ -55,15 +48,12 @@ impl Exec {
         ensures { IsResultOf (ExecMakes self records.now) result }
     {
         let image = image_of(alloc, records)?;
-        let mut machine = match Machine::<PageMem>::new(alloc, &image, self.flags) {
-            Ok(machine) => machine,
-            Err(_) => return Err(Status::Memory),
-        };
+        let mut machine = Machine::<PageMem>::new(alloc, &image, self.flags)?;
         match machine.run(self.steps) {
-            RunEnd::Arrived(steps) => match lines(alloc, &machine.regs(), steps) {
-                Ok(lines) => Ok(Work { lines, file: None }),
-                Err(_) => Err(Status::Memory),
-            },
+            RunEnd::Arrived(steps) => Ok(Work {
+                lines: lines(alloc, &machine.regs(), steps)?,
+                file: None,
+            }),
             RunEnd::Trap(pc, byte) => Err(Status::Trap(pc, byte)),
             RunEnd::Budget(steps) => Err(Status::Budget(steps)),
         }

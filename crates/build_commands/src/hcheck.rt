@@ -49,10 +49,8 @@ pub fn work(alloc: Global, records: &[u8]) -> Result<Work, Status>
     ensures { IsResultOf (HcheckMakes records.now) result }
 {
     let accepted = handler_of(alloc, records)?;
-    match lines(alloc, accepted.handler) {
-        Ok(lines) => Ok(Work { lines, file: None }),
-        Err(_) => Err(Status::Memory),
-    }
+    let lines = lines(alloc, accepted.handler)?;
+    Ok(Work { lines, file: None })
 }
 
 /// The greatest number of instructions on a path of the handler.

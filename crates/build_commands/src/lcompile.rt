@@ -29,10 +29,8 @@ pub fn work(alloc: Global, slow: &[u8], fast: &[u8]) -> Result<Work, Status>
 {
     alone_has_byte_bounds();
     let both = two_of(alloc, slow, fast)?;
-    match lines(alloc, &both.two) {
-        Ok(lines) => written_image(alloc, &both.two.image, OUT, lines),
-        Err(_) => Err(Status::Memory),
-    }
+    let lines = lines(alloc, &both.two)?;
+    written_image(alloc, &both.two.image, OUT, lines)
 }
 
 /// The bounds on instructions of the slow code and of the fast, and how many bytes the image has.

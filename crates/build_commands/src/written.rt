@@ -24,13 +24,11 @@ pub(crate) fn written_image(
     ensures writes { IfOk result (λ work. WritesImage image.now place (text_of lines.items) (deed_of work)) }
     ensures memory { IfErr result (λ status. status ≡ Status.Memory) }
 {
-    match srecord::write(alloc, image) {
-        Ok(records) => Ok(Work {
-            lines,
-            file: Some((place, records)),
-        }),
-        Err(_) => Err(Status::Memory),
-    }
+    let records = srecord::write(alloc, image)?;
+    Ok(Work {
+        lines,
+        file: Some((place, records)),
+    })
 }
 
 /// The records of the firmware's image, for OUT, and its lines.
@@ -40,10 +38,8 @@ pub(crate) fn written_firmware(alloc: Global, firmware: &Firmware) -> Result<Wor
         (deed_of work)) }
     ensures memory { IfErr result (λ status. status ≡ Status.Memory) }
 {
-    match lines(alloc, firmware) {
-        Ok(lines) => written_image(alloc, &firmware.image, OUT, lines),
-        Err(_) => Err(Status::Memory),
-    }
+    let lines = lines(alloc, firmware)?;
+    written_image(alloc, &firmware.image, OUT, lines)
 }
 
 /// The bounds on instructions and steps, and how many bytes the image has.

@@ -6,22 +6,22 @@ use Rattle.build_commands.specs.Written.{WritesImage}
 use Rattle.build_commands.proofs.WrittenLemmas.{written_makes}
 use Rattle.build_commands.proofs.lcompile.work.Goals as goal
 
-pub returns-in-Ok : goal.returns-in-Ok
-returns-in-Ok c =
+pub returns : goal.returns
+returns c =
     let both = c.in_ok-both.both in
     let two = both.two in
     let gives = c.in_ok-both.ensures.gives in
     let slow_bounds = c.alone_has_byte_bounds.ensures both.slow two.slow gives.both.slow_alone in
     let fast_bounds = c.alone_has_byte_bounds.ensures both.fast two.fast gives.both.fast_alone in
     let bytes = length two.image.bytes in
-    written_makes (LcompileMakes c.args.slow.now c.args.fast.now) two.image 4 (text_of c.in-Ok.lines.items)
+    written_makes (LcompileMakes c.args.slow.now c.args.fast.now) two.image 4 (text_of c.in_ok-lines.lines.items)
     c.written_image.result c.written_image.ensures.writes c.written_image.ensures.memory (λ deed w. record {
       slow_block = both.slow;
       fast_block = both.fast;
       two = two;
       gives = gives;
       writes = subst (λ (text : List ℕ). WritesImage two.image 4 text deed)
-          (c.in-Ok.ensures
+          (c.in_ok-lines.ensures
           ∙ ap₂ (λ (s f : ℕ). lcompile_lines s (fast_most f) bytes) slow_bounds.instructions
           fast_bounds.instructions) w;
     })
