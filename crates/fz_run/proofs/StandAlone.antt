@@ -18,7 +18,8 @@ use Rattle.fz_run.specs.SoundAlone.{free_opens}
 use Rattle.fz_run.specs.Following.{rows_of_samples, RunsFollowAlone, RunsFollowBeside}
 use Rattle.fz_run.specs.Given.{RequestsAreGood}
 
-same_rows : TakenAtOnce → (flags : ℕ) (f : Firmware) (plan : List Request) (k : ℕ) (ns : List ℕ) (samples : List (List ℕ)) (s : State)
+same_rows : TakenAtOnce → (flags : ℕ) (f : Firmware) (plan : List Request) (k : ℕ) (ns : List ℕ)
+    (samples : List (List ℕ)) (s : State)
     → AllComplete (FactsAlone flags f) (with_writes flags f) ns samples s
     → expected_rows (with_writes flags f) (λ j. requests_of j plan) k ns samples s ≡ rows_of_samples flags f plan k
     ns samples s

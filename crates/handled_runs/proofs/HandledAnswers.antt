@@ -126,7 +126,8 @@ handled_answers laws b f handler most flags samples plan hf good is v limits h a
     let asks : ℕ → List Request = λ k. requests_of k plan in
     let P = FactsBeside is_open_to_code flags f in
     let code = laws.runs_follow x asks (laws.requests_are_good plan good) [] 1 f.step_bound ns samples w s runs.within
-    (complete P flags f most ns samples s few runs.complete) (laws.first_states_agree is_open_to_code f flags mem w alike) stands in
+    (complete P flags f most ns samples s few runs.complete)
+    (laws.first_states_agree is_open_to_code f flags mem w alike) stands in
     let listed = laws.runs_follow_beside is_open_to_code flags f opens_free runs.low asks
     (laws.requests_are_good plan good) [] 1 f.step_bound ns samples s s runs.within
     runs.complete (record { regs = refl; temps = refl; mem = agree_self (is_hidden is_open_to_code s.regs.sp) s.mem })

@@ -56,7 +56,9 @@ answers_under_levels laws two flags slow_samples samples levels hf good slow fas
       rows_are = rows_are;
       slow_answers = subst (λ (rows : List (RowSeen (List ℕ))). AnswerBlock slow two.slow flags slow_samples rows)
           (sym rows_are) under.answers;
-      taken = followed.taken ∙ same_taken laws.taken_at_once flags two samples levels 1 runs.ns slow_samples first fitted_all runs.complete
+      taken = followed.taken
+          ∙ same_taken laws.taken_at_once flags two samples levels 1 runs.ns slow_samples first fitted_all
+          runs.complete
           ∙ ap (λ (rows : List (RowSeen (List ℕ))). taken_by 1 levels (map (λ (r : RowSeen (List ℕ)). r.steps) rows))
           (sym rows_of);
       fast_numbers = subst
@@ -146,7 +148,9 @@ answers_under_levels laws two flags slow_samples samples levels hf good slow fas
         (levels_are_good laws.requests_are_good (length samples) levels good) [] 1
         two.slow.step_bound runs.ns slow_samples (first_two two flags) first runs.within
         (complete flags two samples runs.ns slow_samples first fitted_all runs.complete)
-        (laws.first_states_agree is_open_to_fast two.slow flags (image_memory two.image.bytes) (first_two two flags) alike) begins)
+        (laws.first_states_agree is_open_to_fast two.slow flags (image_memory two.image.bytes)
+        (first_two two flags) alike)
+        begins)
 
     own : FastStands fast two flags samples (all_onto all.told []) all.state
     own = followed.own

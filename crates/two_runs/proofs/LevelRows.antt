@@ -152,8 +152,8 @@ same_rows law flags two fast levels k (n ∷ ns) (x ∷ rest) s few h =
     (same_rows law flags two fast levels (suc k) ns rest (uninterrupted flags n u) few.1 h.1)
 
 -- the levels that are taken are those before the ends of the samples,
-pub same_taken : TakenAtOnce → (flags : ℕ) (two : Two) (fast : List (List ℕ)) (levels : List Level) (k : ℕ) (ns : List ℕ)
-    (samples : List (List ℕ)) (s : State) → AreFitted samples
+pub same_taken : TakenAtOnce → (flags : ℕ) (two : Two) (fast : List (List ℕ)) (levels : List Level) (k : ℕ)
+    (ns : List ℕ) (samples : List (List ℕ)) (s : State) → AreFitted samples
     → AllComplete (SlowFacts flags two) (with_writes flags two.slow) ns samples s
     → expected_taken (fitted_form flags two fast) (λ j. levels_of j levels) k ns samples s
     ≡ taken_by k levels (map (λ (r : RowSeen (List ℕ)). r.steps)
