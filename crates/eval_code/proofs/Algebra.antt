@@ -1,4 +1,4 @@
--- The plain algebra of bytes in memory, flags, code_size of code and addresses, which the crates above use.
+-- The plain algebra of bytes in memory, flags, sizes of code and addresses, which the crates above use.
 pub use Rattle.eval_code.proofs.Sizes.{code_size, code_size-append, length-code_bytes, length-le-code_size}
 pub use Rattle.eval_code.proofs.phases.Outputs.{places_few}
 pub use Rattle.eval_code.proofs.phases.RuleMemory.{Below, From, apart_by, below_front, below_back}

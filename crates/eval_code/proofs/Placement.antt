@@ -114,7 +114,7 @@ rises_part : (at p : ℕ) (bytes : List ℕ) (items : List Item) → at ≤ p �
     → IsRisingFrom at (bytes_at p bytes ++ items)
 rises_part at p bytes items low rest = (low, rises_bytes p bytes items rest)
 
--- the parts by their code_size
+-- the parts by their sizes
 pub record HasPartSizes (l : Layout) (b : Block) (w : Width) (before behind : List Instr) : Type 0 where
   pub code : code_size (block_code l b w before behind) ≤ code_size before + 2416 + code_size behind
   pub tables : length (table_bytes b) ≤ 480
