@@ -50,10 +50,8 @@ impl Hrun {
     pub fn of(words: &[String]) -> Option<Hrun>
         ensures { result ≡ hrun_in (texts_of words.now) }
     {
-        match flags(word(words, 7)) {
-            Some(flags) => Some(Hrun { flags }),
-            None => None,
-        }
+        let flags = flags(word(words, 7))?;
+        Some(Hrun { flags })
     }
 
     /// Runs the samples of the trace under the plan, each interrupt by the handler's code, once all files
@@ -67,7 +65,7 @@ impl Hrun {
         spelled_bytes_fit();
         let accepted = Hrun::accepted(alloc, contents)?;
         let firmware = &accepted.compiled.firmware;
-        let ran = run_handler(
+        let rows = run_handler(
             alloc,
             firmware,
             &accepted.handler.image,
@@ -75,14 +73,9 @@ impl Hrun {
             &accepted.inputs.samples,
             &accepted.inputs.plan,
             self.flags,
-        );
-        let Ok(rows) = ran else {
-            return Err(Status::Memory);
-        };
-        match lines(alloc, &accepted.inputs.errors, firmware.instr_bound, &rows) {
-            Ok(lines) => Ok(Work { lines, file: None }),
-            Err(_) => Err(Status::Memory),
-        }
+        )?;
+        let lines = lines(alloc, &accepted.inputs.errors, firmware.instr_bound, &rows)?;
+        Ok(Work { lines, file: None })
     }
 
     /// What the files give, or the first fault in their order.

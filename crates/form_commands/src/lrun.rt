@@ -99,10 +99,8 @@ impl Lrun {
     pub fn of(words: &[String]) -> Option<Lrun>
         ensures { result ≡ lrun_in (texts_of words.now) }
     {
-        match flags(word(words, 10)) {
-            Some(flags) => Some(Lrun { flags }),
-            None => None,
-        }
+        let flags = flags(word(words, 10))?;
+        Some(Lrun { flags })
     }
 
     /// Runs the slow samples under the levels, once all files are accepted, and writes down what came of
@@ -121,27 +119,22 @@ impl Lrun {
         spelled_bytes_fit();
         let accepted = Accepted::of(alloc, contents)?;
         let two = &accepted.compiled.two;
-        let ran = run_two(
+        let rows = run_two(
             alloc,
             two,
             &accepted.traces.slow,
             &accepted.traces.fast,
             &accepted.levels,
             self.flags,
-        );
-        let Ok(rows) = ran else {
-            return Err(Status::Memory);
-        };
-        match lines(
+        )?;
+        let lines = lines(
             alloc,
             &accepted.errors.slow,
             &accepted.errors.fast,
             two,
             &rows,
-        ) {
-            Ok(lines) => Ok(Work { lines, file: None }),
-            Err(_) => Err(Status::Memory),
-        }
+        )?;
+        Ok(Work { lines, file: None })
     }
 }
 

@@ -79,10 +79,8 @@ impl Mrun {
     pub fn of(words: &[String]) -> Option<Mrun>
         ensures { result ≡ mrun_in (texts_of words.now) }
     {
-        match flags(word(words, 7)) {
-            Some(flags) => Some(Mrun { flags }),
-            None => None,
-        }
+        let flags = flags(word(words, 7))?;
+        Some(Mrun { flags })
     }
 
     /// Runs the firmware under the posts, once all files are accepted, and writes down what came of them.
@@ -96,20 +94,15 @@ impl Mrun {
         last_is_answered();
         let accepted = Accepted::of(alloc, contents)?;
         let firmware = &accepted.compiled.firmware;
-        let ran = run_posts(
+        let told = run_posts(
             alloc,
             firmware,
             &accepted.samples,
             &accepted.posts,
             self.flags,
-        );
-        let Ok(told) = ran else {
-            return Err(Status::Memory);
-        };
-        match lines(alloc, &accepted.errors, firmware.instr_bound, &told) {
-            Ok(lines) => Ok(Work { lines, file: None }),
-            Err(_) => Err(Status::Memory),
-        }
+        )?;
+        let lines = lines(alloc, &accepted.errors, firmware.instr_bound, &told)?;
+        Ok(Work { lines, file: None })
     }
 }
 

@@ -76,10 +76,8 @@ impl Srun {
     pub fn of(words: &[String]) -> Option<Srun>
         ensures { result ≡ srun_in (texts_of words.now) }
     {
-        match flags(word(words, 8)) {
-            Some(flags) => Some(Srun { flags }),
-            None => None,
-        }
+        let flags = flags(word(words, 8))?;
+        Some(Srun { flags })
     }
 
     /// Runs the samples of the trace under the plan, each with its upset, once all files are accepted, and
@@ -92,21 +90,16 @@ impl Srun {
         spelled_bytes_fit();
         let accepted = Accepted::of(alloc, contents)?;
         let firmware = &accepted.compiled.firmware;
-        let ran = run_upsets(
+        let rows = run_upsets(
             alloc,
             firmware,
             &accepted.inputs.samples,
             &accepted.inputs.plan,
             &accepted.upsets,
             self.flags,
-        );
-        let Ok(rows) = ran else {
-            return Err(Status::Memory);
-        };
-        match lines(alloc, &accepted.inputs.errors, firmware.instr_bound, &rows) {
-            Ok(lines) => Ok(Work { lines, file: None }),
-            Err(_) => Err(Status::Memory),
-        }
+        )?;
+        let lines = lines(alloc, &accepted.inputs.errors, firmware.instr_bound, &rows)?;
+        Ok(Work { lines, file: None })
     }
 }
 

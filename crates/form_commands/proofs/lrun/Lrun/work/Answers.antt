@@ -9,12 +9,12 @@ use Rattle.form_commands.specs.Lrun.{level_files, level_report, lrun_lines}
 use Rattle.form_commands.proofs.LevelLemmas.{levels_run}
 use Rattle.form_commands.proofs.lrun.Lrun.work.Goals as goal
 
-pub returns-in-Ok-lines : goal.returns-in-Ok-lines
-returns-in-Ok-lines c =
+pub returns : goal.returns
+returns c =
     let a = c.in_ok-accepted.accepted in
     let two = a.compiled.two in
     let byte : c.args.self.flags < 2 ^ 8 = search rules in
-    let rows = map row_seen c.in-Ok.rows.items in
+    let rows = map row_seen c.in_ok-rows.rows.items in
     let bound = two.slow.instr_bound in
     let fast_bound = fast_most two.fast.instr_bound in
     let lines_of = λ (es fes : List ℕ) (rs : List TwoRow).
@@ -27,9 +27,9 @@ returns-in-Ok-lines c =
           c.alone_has_byte_bounds.ensures c.args.self.flags byte (level_files (bytes_of c.args.contents.now))
           a.compiled.slow a.compiled.fast two a.errors.slow.items a.errors.fast.items a.traces.slow.items
           a.traces.fast.items a.levels c.in_ok-accepted.ensures.accepted rows
-          (rw (c.deref.ensures.value, c.deref-2.ensures.value) at c.in-Ok.ensures.rows)
-          (rw (c.deref.ensures.value, c.deref-2.ensures.value) at c.in-Ok.ensures.answers);
+          (rw (c.deref.ensures.value, c.deref-2.ensures.value) at c.in_ok-rows.ensures.rows)
+          (rw (c.deref.ensures.value, c.deref-2.ensures.value) at c.in_ok-rows.ensures.answers);
       deed_is = ap only_text
-          (c.in-Ok-lines.ensures ∙ (λ i. lines_of (c.deref-3.ensures.value i) (c.deref-4.ensures.value i)
+          (c.in_ok-lines.ensures ∙ (λ i. lines_of (c.deref-3.ensures.value i) (c.deref-4.ensures.value i)
           (c.deref-5.ensures.value i)));
     }

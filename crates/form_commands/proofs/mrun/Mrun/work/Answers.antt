@@ -7,10 +7,10 @@ use Rattle.form_commands.specs.Mrun.{mrun_lines, posted_files, posted_report}
 use Rattle.form_commands.proofs.PostedLemmas.{posts_run}
 use Rattle.form_commands.proofs.mrun.Mrun.work.Goals as goal
 
-pub returns-in-Ok-lines : goal.returns-in-Ok-lines
-returns-in-Ok-lines c =
+pub returns : goal.returns
+returns c =
     let a = c.in_ok-accepted.accepted in
-    let run = c.in-Ok.told in
+    let run = c.in_ok-told.told in
     let answers = map answer_seen run.answers.items in
     let frames = frames_seen run.frames.items in
     let bound = a.compiled.firmware.instr_bound in
@@ -22,8 +22,8 @@ returns-in-Ok-lines c =
           (posted_files (bytes_of c.args.contents.now)) a.compiled.block a.compiled.firmware a.errors.items
           a.samples.items
           a.posts c.in_ok-accepted.ensures.accepted answers frames run.resumed
-          (rw c.deref.ensures.value at c.in-Ok.ensures.answers) (rw c.deref.ensures.value at c.in-Ok.ensures.frames)
-          (rw c.deref.ensures.value at c.in-Ok.ensures.resumed)
-          (rw c.deref.ensures.value at c.in-Ok.ensures.by_turns);
-      deed_is = ap only_text (c.in-Ok-lines.ensures ∙ ap lines_of c.deref-2.ensures.value);
+          (rw c.deref.ensures.value at c.in_ok-told.ensures.answers) (rw c.deref.ensures.value at c.in_ok-told.ensures.frames)
+          (rw c.deref.ensures.value at c.in_ok-told.ensures.resumed)
+          (rw c.deref.ensures.value at c.in_ok-told.ensures.by_turns);
+      deed_is = ap only_text (c.in_ok-lines.ensures ∙ ap lines_of c.deref-2.ensures.value);
     }

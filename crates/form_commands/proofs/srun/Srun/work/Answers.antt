@@ -11,21 +11,21 @@ use Rattle.form_commands.specs.Srun.{watched_files, watched_report, watched_row_
 use Rattle.form_commands.proofs.WatchedLemmas.{watches}
 use Rattle.form_commands.proofs.srun.Srun.work.Goals as goal
 
-pub returns-in-Ok-lines : goal.returns-in-Ok-lines
-returns-in-Ok-lines c =
+pub returns : goal.returns
+returns c =
     let a = c.in_ok-accepted.accepted in
     let bound = a.compiled.firmware.instr_bound in
-    let each = counted-map watched_row_lines row_seen 1 c.in-Ok.rows.items in
+    let each = counted-map watched_row_lines row_seen 1 c.in_ok-rows.rows.items in
     let lines_of = λ (es : List ℕ) (rs : List WatchedRow).
     begun_lines es bound ++ counted (λ k r. watched_row_lines k (row_seen r)) 1 rs in
     record {
-      report = watched_report a.inputs.errors.items bound (map row_seen c.in-Ok.rows.items);
+      report = watched_report a.inputs.errors.items bound (map row_seen c.in_ok-rows.rows.items);
       watched = watches c.faultless_answers_are_near.ensures c.spelled_bytes_fit.ensures c.args.self.flags
           (watched_files (bytes_of c.args.contents.now))
           a.compiled.block a.compiled.firmware a.inputs.errors.items a.inputs.samples.items c.deref.result.now
-          a.inputs.plan a.upsets (map row_seen c.in-Ok.rows.items) c.in_ok-accepted.ensures.accepted
+          a.inputs.plan a.upsets (map row_seen c.in_ok-rows.rows.items) c.in_ok-accepted.ensures.accepted
           c.deref.ensures.value
-          c.in-Ok.ensures.rows c.in-Ok.ensures.answers;
-      deed_is = ap only_text (c.in-Ok-lines.ensures ∙ ap₂ lines_of c.deref-2.ensures.value c.deref-3.ensures.value
+          c.in_ok-rows.ensures.rows c.in_ok-rows.ensures.answers;
+      deed_is = ap only_text (c.in_ok-lines.ensures ∙ ap₂ lines_of c.deref-2.ensures.value c.deref-3.ensures.value
           ∙ ap (λ (l : List ℕ). begun_lines a.inputs.errors.items bound ++ l) (sym each));
     }
