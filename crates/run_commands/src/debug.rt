@@ -49,10 +49,8 @@ impl DebugRun {
     pub fn of(words: &[String]) -> Option<DebugRun>
         ensures { result ≡ debug_in (texts_of words.now) }
     {
-        match flags(word(words, 6)) {
-            Some(flags) => Some(DebugRun { flags }),
-            None => None,
-        }
+        let flags = flags(word(words, 6))?;
+        Some(DebugRun { flags })
     }
 
     /// Runs the samples of the trace under the plan and obeys the script on the way, once all files
@@ -64,21 +62,16 @@ impl DebugRun {
         spelled_bytes_fit();
         spelled_traces_are_short();
         let accepted = DebugRun::accepted(alloc, contents)?;
-        let ran = debug(
+        let (shown, rows) = debug(
             alloc,
             &accepted.compiled.firmware,
             &accepted.samples,
             &accepted.plan,
             self.flags,
             accepted.script.as_slice(),
-        );
-        let Ok((shown, rows)) = ran else {
-            return Err(Status::Memory);
-        };
-        match lines(alloc, &shown, &rows) {
-            Ok(lines) => Ok(Work { lines, file: None }),
-            Err(_) => Err(Status::Memory),
-        }
+        )?;
+        let lines = lines(alloc, &shown, &rows)?;
+        Ok(Work { lines, file: None })
     }
 
     /// What the files give, or the first fault in their order.

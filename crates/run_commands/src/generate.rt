@@ -54,10 +54,8 @@ impl Generate {
     pub fn of(words: &[String]) -> Option<Generate>
         ensures { result ≡ generate_in (texts_of words.now) }
     {
-        match number32_in(word(words, 2)) {
-            Some(number) => Some(Generate { number }),
-            None => None,
-        }
+        let number = number32_in(word(words, 2))?;
+        Some(Generate { number })
     }
 
     /// Makes the workload of the number and its block's certificate, runs its samples under its
@@ -67,23 +65,15 @@ impl Generate {
     {
         answers_are_reported();
         drawn_blocks_are_within_limits();
-        let Ok(workload) = workload::generate(alloc, self.number) else {
-            return Err(Status::Memory);
-        };
+        let workload = workload::generate(alloc, self.number)?;
         let block = &workload.block;
-        let Ok(firmware) = compiled(alloc, block) else {
-            return Err(Status::Memory);
-        };
+        let firmware = compiled(alloc, block)?;
         let cert = halved(alloc, Width::Byte, TARGET, block)?;
         let samples = workload.samples.as_slice();
-        let Ok(rows) = run(alloc, &firmware, samples, &workload.requests, FLAGS) else {
-            return Err(Status::Memory);
-        };
+        let rows = run(alloc, &firmware, samples, &workload.requests, FLAGS)?;
         let errors = cert.claims.as_slice();
-        match lines(alloc, self.number, errors, firmware.instr_bound, &rows) {
-            Ok(lines) => Ok(Work { lines, file: None }),
-            Err(_) => Err(Status::Memory),
-        }
+        let lines = lines(alloc, self.number, errors, firmware.instr_bound, &rows)?;
+        Ok(Work { lines, file: None })
     }
 }
 

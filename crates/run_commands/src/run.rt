@@ -52,10 +52,8 @@ impl Run {
     pub fn of(width: Width, words: &[String]) -> Option<Run>
         ensures { result ≡ run_in width (texts_of words.now) }
     {
-        match flags(word(words, 7)) {
-            Some(flags) => Some(Run { width, flags }),
-            None => None,
-        }
+        let flags = flags(word(words, 7))?;
+        Some(Run { width, flags })
     }
 
     /// Runs the samples of the trace under the plan, once all files are accepted, and writes down what
@@ -67,27 +65,22 @@ impl Run {
         answers_are_reported();
         let accepted = self.accepted(alloc, contents)?;
         let firmware = &accepted.compiled.firmware;
-        let ran = run_on::<PageMem>(
+        let (rows, memory) = run_on::<PageMem>(
             alloc,
             firmware,
             &accepted.inputs.samples,
             &accepted.inputs.plan,
             self.flags,
-        );
-        let Ok((rows, memory)) = ran else {
-            return Err(Status::Memory);
-        };
+        )?;
         let bound = firmware.instr_bound;
-        match lines(
+        let lines = lines(
             alloc,
             &accepted.inputs.errors,
             bound,
             &rows,
             left_in(&memory),
-        ) {
-            Ok(lines) => Ok(Work { lines, file: None }),
-            Err(_) => Err(Status::Memory),
-        }
+        )?;
+        Ok(Work { lines, file: None })
     }
 
     /// What the files give, or the first fault in their order.

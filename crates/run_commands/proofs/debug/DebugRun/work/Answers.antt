@@ -7,18 +7,18 @@ use Rattle.run_commands.specs.Debug.{debug_files}
 use Rattle.run_commands.proofs.DebugLemmas.{gives}
 use Rattle.run_commands.proofs.debug.DebugRun.work.Goals as goal
 
-pub returns-in-Ok-lines : goal.returns-in-Ok-lines
-returns-in-Ok-lines c =
+pub returns : goal.returns
+returns c =
     let a = c.in_ok-accepted.accepted in
     gives c.spelled_bytes_fit.ensures c.args.self (debug_files (bytes_of c.args.contents.now)) a.compiled.block
     a.compiled.firmware a.samples.items
-    c.deref.result.now a.plan a.script c.as_slice.result.now c.in-Ok.shown.items c.deref-2.result.now
-    (map row_seen c.in-Ok.rows.items) (map row_seen c.deref-3.result.now) _ c.in_ok-accepted.ensures.accepted
-    c.deref.ensures.value c.as_slice.ensures c.in-Ok.ensures.shown c.in-Ok.ensures.rows c.in-Ok.ensures.answers
-    c.in-Ok-lines.ensures c.deref-2.ensures.value (ap (map row_seen) c.deref-3.ensures.value)
+    c.deref.result.now a.plan a.script c.as_slice.result.now c.in_ok-shown.shown.items c.deref-2.result.now
+    (map row_seen c.in_ok-shown.rows.items) (map row_seen c.deref-3.result.now) _ c.in_ok-accepted.ensures.accepted
+    c.deref.ensures.value c.as_slice.ensures c.in_ok-shown.ensures.shown c.in_ok-shown.ensures.rows c.in_ok-shown.ensures.answers
+    c.in_ok-lines.ensures c.deref-2.ensures.value (ap (map row_seen) c.deref-3.ensures.value)
 
-pub debug-ran-requires-clause-samples : goal.debug-ran-requires-clause-samples
-debug-ran-requires-clause-samples c =
+pub debug-requires-clause-samples : goal.debug-requires-clause-samples
+debug-requires-clause-samples c =
     let samples = c.in_ok-accepted.accepted.samples.items in
     let few = c.spelled_traces_are_short.ensures _ _ samples c.in_ok-accepted.ensures.accepted.in_range in
     let same = ap (λ (ss : List Sample). length ss) c.deref.ensures.value in

@@ -15,24 +15,24 @@ only_text t = record { text = t; file = None }
 
 pub compiled-requires-clause-limits : goal.compiled-requires-clause-limits
 compiled-requires-clause-limits c =
-    c.drawn_blocks_are_within_limits.ensures (draw c.args.self.number 0 5) c.in-Ok.workload.block
-    c.in-Ok.ensures.workload.drawn_block
+    c.drawn_blocks_are_within_limits.ensures (draw c.args.self.number 0 5) c.in_ok-workload.workload.block
+    c.in_ok-workload.ensures.workload.drawn_block
 
-pub returns-in-Ok-lines : goal.returns-in-Ok-lines
-returns-in-Ok-lines c =
+pub returns : goal.returns
+returns c =
     let number = c.args.self.number in
-    let w = c.in-Ok.workload in
-    let drawn = c.in-Ok.ensures.workload in
-    let firmware = c.in-Ok-compiled.firmware in
+    let w = c.in_ok-workload.workload in
+    let drawn = c.in_ok-workload.ensures.workload in
+    let firmware = c.in_ok-firmware.firmware in
     let bound = firmware.instr_bound in
     let cert = c.in_ok-cert.cert in
     let halving = c.in_ok-cert.ensures.halving in
-    let rows = map row_seen c.in-Ok-run.rows.items in
+    let rows = map row_seen c.in_ok-rows.rows.items in
     let gives : GivesFirmware Byte w.text.items w.block firmware = record {
       spelled = drawn.spelled;
       limits = c.drawn_blocks_are_within_limits.ensures (draw number 0 5) w.block drawn.drawn_block;
-      compiled = c.in-Ok-compiled.ensures.firmware;
-      wide = c.in-Ok-compiled.ensures.narrow;
+      compiled = c.in_ok-firmware.ensures.firmware;
+      wide = c.in_ok-firmware.ensures.narrow;
     } in
     let lines_of = λ (es : List ℕ) (rs : List Row). generate_lines number es bound (map row_seen rs) in
     record {
@@ -51,7 +51,7 @@ returns-in-Ok-lines c =
       errors = refl;
       reported = c.answers_are_reported.ensures Byte 0 w.text.items w.block firmware cert cert.claims w.trace.items
           w.samples.items w.requests rows gives halving.claims drawn.in_trace
-          (rw c.as_slice-samples.ensures.value at c.in-Ok-run.ensures.rows)
-          (rw c.as_slice-samples.ensures.value at c.in-Ok-run.ensures.answers);
-      deed_is = ap only_text (c.in-Ok-lines.ensures ∙ ap₂ lines_of c.as_slice-errors.ensures c.deref.ensures.value);
+          (rw c.as_slice-samples.ensures.value at c.in_ok-rows.ensures.rows)
+          (rw c.as_slice-samples.ensures.value at c.in_ok-rows.ensures.answers);
+      deed_is = ap only_text (c.in_ok-lines.ensures ∙ ap₂ lines_of c.as_slice-errors.ensures c.deref.ensures.value);
     }
