@@ -3,7 +3,7 @@ use Rattle.std.specs.Prelude.{◌≡◌, ℕ, List, [], ◌∷◌, length, codes
 use Rattle.cpu12_asm.specs.Bytes.{IsAscending, start_of}
 use Rattle.cpu12_asm.specs.Sources.{Assembles, assembled}
 use Rattle.cpu12_asm.specs.declared.image.Image.{Image}
-use Rattle.build_commands.specs.Deeds.{Deed}
+use Rattle.build_commands.specs.SeenOutputs.{SeenOutput}
 use Rattle.build_commands.specs.Lines.{line}
 use Rattle.build_commands.specs.Written.{WritesImage}
 use Rattle.fz_status.specs.Refusals.{Refusals, Refuses}
@@ -15,18 +15,18 @@ abbrev pub asm_inputs : List ℕ
 asm_inputs = 2 ∷ []
 
 -- the source gives an image, and OUT is to hold its records; the line says how many bytes it has
-pub record AsmGives (source : List ℕ) (deed : Deed) : Type 0 where
+pub record AsmGives (source : List ℕ) (output : SeenOutput) : Type 0 where
   pub image : Image
   pub assembles : Assembles source image.bytes
   pub ascending : IsAscending image.bytes
   pub start : image.start ≡ start_of image.bytes
-  pub writes : WritesImage image 3 (line (codes "bytes ") (length image.bytes)) deed
+  pub writes : WritesImage image 3 (line (codes "bytes ") (length image.bytes)) output
 
 -- why a source gives none
 abbrev pub source_refusals : List ℕ → Refusals
 source_refusals source (status.Asm f) = assembled source ≡ Err f
 source_refusals source s = ⊥
 
-abbrev pub AsmMakes : List ℕ → Result Deed Status → Type 0
-AsmMakes source (Ok deed) = AsmGives source deed
+abbrev pub AsmMakes : List ℕ → Result SeenOutput Status → Type 0
+AsmMakes source (Ok output) = AsmGives source output
 AsmMakes source (Err s) = Refuses (source_refusals source) s

@@ -17,7 +17,7 @@ use Rattle.fz_status.specs.Words.{Text, word_at}
 use Rattle.fz_status.specs.declared.status.Status.{Status}
 use Rattle.fz_status.specs.declared.status.Status.TheVariants as status
 use Rattle.build_commands.specs.Certs.{version}
-use Rattle.build_commands.specs.Deeds.{Deed}
+use Rattle.build_commands.specs.SeenOutputs.{SeenOutput}
 use Rattle.build_commands.specs.Firmwares.{GivesFirmware, RefusesText}
 use Rattle.build_commands.specs.Lines.{counted, error_line, line}
 use Rattle.build_commands.specs.Words.{number_of}
@@ -43,7 +43,7 @@ certify_lines errors leaves = counted error_line 1 errors ++ line (codes "leaves
 
 -- the text gives firmware with answers of this width, the certificate is that of the halving of its block, with
 -- errors of at most the target, and OUT is to hold the certificate's text
-pub record CertifyGives (certify : Certify) (text : List ℕ) (deed : Deed) : Type 0 where
+pub record CertifyGives (certify : Certify) (text : List ℕ) (output : SeenOutput) : Type 0 where
   pub block : Block
   pub firmware : Firmware
   pub gives : GivesFirmware certify.width text block firmware
@@ -52,7 +52,7 @@ pub record CertifyGives (certify : Certify) (text : List ℕ) (deed : Deed) : Ty
   pub within : All (λ error. error ≤ certify.target) cert.claims
   pub out : List ℕ
   pub spelled : CertText (version certify.width) out cert
-  pub deed_is : deed ≡ record { text = certify_lines cert.claims (leaf_count cert.nodes); file = Some (4, out) }
+  pub output_is : output ≡ record { text = certify_lines cert.claims (leaf_count cert.nodes); file = Some (4, out) }
 
 -- halving stops so, and for a cell no certificate that is accepted has a smaller error
 pub record StopsHalving (width : Width) (target : ℕ) (block : Block) (stop : NotReached) : Type 0 where
@@ -71,8 +71,8 @@ certify_refusals certify text (status.NotReached stop) =
     × StopsHalving certify.width certify.target block stop
 certify_refusals certify text s = ⊥
 
-abbrev pub CertifyMakes : Certify → List ℕ → Result Deed Status → Type 0
-CertifyMakes certify text (Ok deed) = CertifyGives certify text deed
+abbrev pub CertifyMakes : Certify → List ℕ → Result SeenOutput Status → Type 0
+CertifyMakes certify text (Ok output) = CertifyGives certify text output
 CertifyMakes certify text (Err s) = Refuses (certify_refusals certify text) s
 
 -- halving does not stop at a block that is the same as one with a certificate of it

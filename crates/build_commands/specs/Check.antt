@@ -5,7 +5,7 @@ use Rattle.eval_code.specs.Bounds.{instruction_bound}
 use Rattle.codegen.specs.declared.firmware.Firmware.{Firmware}
 use Rattle.eval_code.specs.declared.width.Width.{Width}
 use Rattle.build_commands.specs.Certs.{AcceptsCert, RefusesCert}
-use Rattle.build_commands.specs.Deeds.{Deed, only_text}
+use Rattle.build_commands.specs.SeenOutputs.{SeenOutput, only_text}
 use Rattle.build_commands.specs.Firmwares.{GivesFirmware, RefusesText}
 use Rattle.build_commands.specs.Lines.{counted, error_line, line}
 use Rattle.fz_status.specs.Refusals.{Refusals, Refuses}
@@ -28,13 +28,13 @@ check_lines errors instructions = counted error_line 1 errors ++ line (codes "in
 -- ---- what it makes of its files
 
 -- the text gives firmware with answers of this width, and CERT is a certificate that is accepted with these errors
-pub record CheckGives (check : Check) (text cert : List ℕ) (deed : Deed) : Type 0 where
+pub record CheckGives (check : Check) (text cert : List ℕ) (output : SeenOutput) : Type 0 where
   pub block : Block
   pub firmware : Firmware
   pub gives : GivesFirmware check.width text block firmware
   pub errors : List ℕ
   pub accepts : AcceptsCert check.width block cert errors
-  pub deed_is : deed ≡ only_text (check_lines errors (instruction_bound check.width block))
+  pub output_is : output ≡ only_text (check_lines errors (instruction_bound check.width block))
 
 -- why its files are refused: the text first
 abbrev pub check_refusals : Check → List ℕ → List ℕ → Refusals
@@ -42,6 +42,6 @@ check_refusals check text cert (status.Fcl f) = RefusesText text f
 check_refusals check text cert (status.Cert f) = RefusesCert check.width text cert f
 check_refusals check text cert s = ⊥
 
-abbrev pub CheckMakes : Check → List ℕ → List ℕ → Result Deed Status → Type 0
-CheckMakes check text cert (Ok deed) = CheckGives check text cert deed
+abbrev pub CheckMakes : Check → List ℕ → List ℕ → Result SeenOutput Status → Type 0
+CheckMakes check text cert (Ok output) = CheckGives check text cert output
 CheckMakes check text cert (Err s) = Refuses (check_refusals check text cert) s

@@ -2,7 +2,7 @@
 use Rattle.std.specs.Prelude.{ℕ, List, [], ◌∷◌, Result, Ok, Err}
 use Rattle.eval_code.specs.Bounds.{instruction_bound}
 use Rattle.eval_code.specs.declared.width.Width.{Width}
-use Rattle.build_commands.specs.Deeds.{Deed}
+use Rattle.build_commands.specs.SeenOutputs.{SeenOutput}
 use Rattle.build_commands.specs.Firmwares.{GivesFirmware, text_refusals}
 use Rattle.build_commands.specs.Written.{WritesFirmware}
 use Rattle.fz_status.specs.Refusals.{Refuses}
@@ -17,7 +17,7 @@ abbrev pub compile_inputs : List ℕ
 compile_inputs = 2 ∷ []
 
 -- the text gives firmware with answers of this width, and OUT is to hold the records of its image
-abbrev pub CompileMakes : Compile → List ℕ → Result Deed Status → Type 0
-CompileMakes compile text (Ok deed) =
-    WritesFirmware (GivesFirmware compile.width text) (instruction_bound compile.width) deed
+abbrev pub CompileMakes : Compile → List ℕ → Result SeenOutput Status → Type 0
+CompileMakes compile text (Ok output) =
+    WritesFirmware (GivesFirmware compile.width text) (instruction_bound compile.width) output
 CompileMakes compile text (Err s) = Refuses (text_refusals text) s

@@ -10,7 +10,7 @@ use Rattle.cpu12_emul.specs.Step.{reset_with}
 use Rattle.cpu12_emul.specs.declared.ends.RunEnd.{RunEnd}
 use Rattle.cpu12_emul.specs.declared.ends.RunEnd.TheVariants as end
 use Rattle.srecord.specs.Texts.{GivesImage}
-use Rattle.build_commands.specs.Deeds.{Deed, only_text}
+use Rattle.build_commands.specs.SeenOutputs.{SeenOutput, only_text}
 use Rattle.build_commands.specs.Images.{records_refusals}
 use Rattle.build_commands.specs.Lines.{line, with_registers}
 use Rattle.fz_status.specs.Refusals.{Refusals, Refuses}
@@ -46,11 +46,11 @@ pub record Ends (exec : Exec) (text : List ℕ) (e : RunEnd) (last : State) : Ty
   pub ends : EndsRun exec.flags exec.steps (reset_with (image_memory image.bytes)) e last
 
 -- the line is that of the first state at `20 FE`, which is the least number of steps away
-pub record ExecGives (exec : Exec) (text : List ℕ) (deed : Deed) : Type 0 where
+pub record ExecGives (exec : Exec) (text : List ℕ) (output : SeenOutput) : Type 0 where
   pub steps : ℕ
   pub last : State
   pub arrives : Ends exec text (end.Arrived steps) last
-  pub deed_is : deed ≡ only_text (exec_line last.regs steps)
+  pub output_is : output ≡ only_text (exec_line last.regs steps)
 
 -- the text gives no image, or the run ends elsewhere
 abbrev pub exec_refusals : Exec → List ℕ → Refusals
@@ -58,6 +58,6 @@ exec_refusals exec text (status.Trap pc byte) = (last : State) × Ends exec text
 exec_refusals exec text (status.Budget steps) = (last : State) × Ends exec text (end.Budget steps) last
 exec_refusals exec text s = records_refusals text s
 
-abbrev pub ExecMakes : Exec → List ℕ → Result Deed Status → Type 0
-ExecMakes exec text (Ok deed) = ExecGives exec text deed
+abbrev pub ExecMakes : Exec → List ℕ → Result SeenOutput Status → Type 0
+ExecMakes exec text (Ok output) = ExecGives exec text output
 ExecMakes exec text (Err s) = Refuses (exec_refusals exec text) s

@@ -3,7 +3,7 @@ use Rattle.std.specs.Prelude.{◌≡◌, ℕ, List, [], ◌∷◌, codes, Result
 use Rattle.cpu12_asm.specs.declared.image.Image.{Image}
 use Rattle.handler_check.specs.Images.{IsHandler, IsFault}
 use Rattle.srecord.specs.Texts.{GivesImage}
-use Rattle.build_commands.specs.Deeds.{Deed, only_text}
+use Rattle.build_commands.specs.SeenOutputs.{SeenOutput, only_text}
 use Rattle.build_commands.specs.Images.{records_refusals}
 use Rattle.build_commands.specs.Lines.{line}
 use Rattle.fz_status.specs.Refusals.{Refusals, Refuses}
@@ -30,12 +30,12 @@ GivenHandlersHaveNoFault = (text : List ℕ) (image : Image) (instrs : ℕ) (s :
     → Refuses (handler_refusals text) s → ⊥
 
 -- the text gives a handler, and the line says how many instructions its longest path has
-pub record HcheckGives (text : List ℕ) (deed : Deed) : Type 0 where
+pub record HcheckGives (text : List ℕ) (output : SeenOutput) : Type 0 where
   pub image : Image
   pub instrs : ℕ
   pub gives : GivesHandler text image instrs
-  pub deed_is : deed ≡ only_text (line (codes "handler instructions ") instrs)
+  pub output_is : output ≡ only_text (line (codes "handler instructions ") instrs)
 
-abbrev pub HcheckMakes : List ℕ → Result Deed Status → Type 0
-HcheckMakes text (Ok deed) = HcheckGives text deed
+abbrev pub HcheckMakes : List ℕ → Result SeenOutput Status → Type 0
+HcheckMakes text (Ok output) = HcheckGives text output
 HcheckMakes text (Err s) = Refuses (handler_refusals text) s

@@ -5,7 +5,7 @@ use Rattle.eval_code.specs.Bounds.{instruction_bound}
 use Rattle.eval_code.specs.declared.width.Width.TheVariants.{Byte}
 use Rattle.two_level.specs.Images.{fast_most}
 use Rattle.two_level.specs.declared.two.Two.{Two}
-use Rattle.build_commands.specs.Deeds.{Deed}
+use Rattle.build_commands.specs.SeenOutputs.{SeenOutput}
 use Rattle.build_commands.specs.Lines.{line}
 use Rattle.build_commands.specs.Twos.{GivesTwo, two_refusals}
 use Rattle.build_commands.specs.Written.{WritesImage}
@@ -22,15 +22,15 @@ lcompile_lines slow fast bytes =
     line (codes "instructions ") slow ++ (line (codes "fast ") fast ++ line (codes "bytes ") bytes)
 
 -- the texts give blocks and these the firmware of both, and OUT is to hold the records of its image
-pub record LcompileGives (slow fast : List ℕ) (deed : Deed) : Type 0 where
+pub record LcompileGives (slow fast : List ℕ) (output : SeenOutput) : Type 0 where
   pub slow_block : Block
   pub fast_block : Block
   pub two : Two
   pub gives : GivesTwo slow fast slow_block fast_block two
   pub writes : WritesImage two.image 4
       (lcompile_lines (instruction_bound Byte slow_block) (fast_most (instruction_bound Byte fast_block))
-      (length two.image.bytes)) deed
+      (length two.image.bytes)) output
 
-abbrev pub LcompileMakes : List ℕ → List ℕ → Result Deed Status → Type 0
-LcompileMakes slow fast (Ok deed) = LcompileGives slow fast deed
+abbrev pub LcompileMakes : List ℕ → List ℕ → Result SeenOutput Status → Type 0
+LcompileMakes slow fast (Ok output) = LcompileGives slow fast output
 LcompileMakes slow fast (Err s) = Refuses (two_refusals slow fast) s

@@ -4,7 +4,7 @@ pub mod Certs
 pub mod Check
 pub mod Compile
 pub mod Contents
-pub mod Deeds
+pub mod SeenOutputs
 pub mod Exec
 pub mod Firmwares
 pub mod Hcheck

@@ -2,13 +2,13 @@
 use Rattle.std.specs.Prelude.{ℕ, List, Result, Ok, Err}
 use Rattle.codegen.specs.Mailboxes.{mailbox_bound}
 use Rattle.eval_code.specs.declared.width.Width.TheVariants.{Byte}
-use Rattle.build_commands.specs.Deeds.{Deed}
+use Rattle.build_commands.specs.SeenOutputs.{SeenOutput}
 use Rattle.build_commands.specs.Firmwares.{GivesMailbox, text_refusals}
 use Rattle.build_commands.specs.Written.{WritesFirmware}
 use Rattle.fz_status.specs.Refusals.{Refuses}
 use Rattle.fz_status.specs.declared.status.Status.{Status}
 
 -- the text gives firmware in the mailbox form, and OUT is to hold the records of its image
-abbrev pub McompileMakes : List ℕ → Result Deed Status → Type 0
-McompileMakes text (Ok deed) = WritesFirmware (GivesMailbox text) (mailbox_bound Byte) deed
+abbrev pub McompileMakes : List ℕ → Result SeenOutput Status → Type 0
+McompileMakes text (Ok output) = WritesFirmware (GivesMailbox text) (mailbox_bound Byte) output
 McompileMakes text (Err s) = Refuses (text_refusals text) s

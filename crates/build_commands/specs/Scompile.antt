@@ -1,7 +1,7 @@
 -- The command `scompile FCL OUT`.
 use Rattle.std.specs.Prelude.{ℕ, List, [], ◌∷◌, Result, Ok, Err}
 use Rattle.watched_code.specs.Watched.{watched_bound}
-use Rattle.build_commands.specs.Deeds.{Deed}
+use Rattle.build_commands.specs.SeenOutputs.{SeenOutput}
 use Rattle.build_commands.specs.Firmwares.{GivesWatched, text_refusals}
 use Rattle.build_commands.specs.Written.{WritesFirmware}
 use Rattle.fz_status.specs.Refusals.{Refuses}
@@ -12,6 +12,6 @@ abbrev pub scompile_inputs : List ℕ
 scompile_inputs = 2 ∷ []
 
 -- the text gives firmware with watched tables, and OUT is to hold the records of its image
-abbrev pub ScompileMakes : List ℕ → Result Deed Status → Type 0
-ScompileMakes text (Ok deed) = WritesFirmware (GivesWatched text) watched_bound deed
+abbrev pub ScompileMakes : List ℕ → Result SeenOutput Status → Type 0
+ScompileMakes text (Ok output) = WritesFirmware (GivesWatched text) watched_bound output
 ScompileMakes text (Err s) = Refuses (text_refusals text) s

@@ -5,14 +5,14 @@ use Rattle.eval_code.specs.Bounds.{steps_by}
 use Rattle.codegen.specs.declared.firmware.Firmware.{Firmware}
 use Rattle.cpu12_asm.specs.declared.image.Image.{Image}
 use Rattle.srecord.specs.Images.{ImageText}
-use Rattle.build_commands.specs.Deeds.{Deed}
+use Rattle.build_commands.specs.SeenOutputs.{SeenOutput}
 use Rattle.build_commands.specs.Lines.{line}
 
 -- the file of this word is to hold the records of the image, and this is the text for out
-pub record WritesImage (image : Image) (place : ℕ) (text : List ℕ) (deed : Deed) : Type 0 where
+pub record WritesImage (image : Image) (place : ℕ) (text : List ℕ) (output : SeenOutput) : Type 0 where
   pub records : List ℕ
   pub of_image : ImageText image.bytes image.start records
-  pub deed_is : deed ≡ record { text = text; file = Some (place, records) }
+  pub output_is : output ≡ record { text = text; file = Some (place, records) }
 
 -- the bounds of firmware, and how many bytes its image has
 abbrev pub compile_lines : ℕ → ℕ → ℕ → List ℕ
@@ -21,9 +21,9 @@ compile_lines instructions steps bytes =
 
 -- a text gives firmware of one form, whose bound on instructions this is; OUT is to hold the records of its image, and
 -- the lines are of its bounds and its bytes
-pub record WritesFirmware (Gives : Block → Firmware → Type 0) (bound : Block → ℕ) (deed : Deed) : Type 0 where
+pub record WritesFirmware (Gives : Block → Firmware → Type 0) (bound : Block → ℕ) (output : SeenOutput) : Type 0 where
   pub block : Block
   pub firmware : Firmware
   pub gives : Gives block firmware
   pub writes : WritesImage firmware.image 3
-      (compile_lines (bound block) (steps_by block (bound block)) (length firmware.image.bytes)) deed
+      (compile_lines (bound block) (steps_by block (bound block)) (length firmware.image.bytes)) output

@@ -2,12 +2,12 @@
 ghost use Rattle.std.specs.Prelude.{◌≡◌, ◌≤◌, length, IfOk, List, ℕ};
 ghost use Rattle.fz_shelf.specs.Lines.{text_of};
 ghost use Rattle.std.specs.Prelude.{codes};
-ghost use Rattle.build_commands.specs.Deeds.{DeedHasNoFault, IsResultOf};
+ghost use Rattle.build_commands.specs.SeenOutputs.{OutputHasNoFault, IsResultOf};
 ghost use Rattle.build_commands.specs.Lines.{line};
 ghost use Rattle.build_commands.specs.Asm.{AsmMakes};
 
 use crate::lines::labelled;
-use crate::work::Work;
+use crate::output::Output;
 use crate::written::written_image;
 use cpu12_asm::{AsmFault, Image, assemble};
 use fz_status::Status;
@@ -20,7 +20,7 @@ pub static INPUTS: [u32; 1] = [2];
 const OUT: u32 = 3;
 
 /// Assembles the source, and writes down the records of its image and how many bytes that has.
-pub fn work(alloc: Global, source: &[u8]) -> Result<Work, Status>
+pub fn work(alloc: Global, source: &[u8]) -> Result<Output, Status>
     requires { length source.now ≤ 1048576 }
     ensures { IsResultOf (AsmMakes source.now) result }
 {
@@ -42,7 +42,7 @@ fn lines(alloc: Global, image: &Image) -> Result<Vec<String>, AllocError>
     Ok(lines)
 }
 
-/// A source that makes a deed makes no fault.
+/// A source that makes an output makes no fault.
 pub fn assembled_sources_have_no_fault()
-    ensures { (source : List ℕ) → DeedHasNoFault (AsmMakes source) }
+    ensures { (source : List ℕ) → OutputHasNoFault (AsmMakes source) }
 {}

@@ -11,13 +11,13 @@ ghost use Rattle.fz_status.specs.Words.{texts_of};
 ghost use Rattle.build_commands.specs.Certs.{version};
 ghost use Rattle.build_commands.specs.Certify.{CertifyMakes, certify_in, certify_lines, target_refusals};
 ghost use Rattle.build_commands.specs.Certify.{HalvedBlocksDoNotStop};
-ghost use Rattle.build_commands.specs.Deeds.{DeedHasNoFault, IsResultOf};
+ghost use Rattle.build_commands.specs.SeenOutputs.{OutputHasNoFault, IsResultOf};
 ghost use Rattle.build_commands.specs.declared.certify.Certify.{Certify as TheCertify};
 
 use crate::firmware::{firmware_of, spelled_texts_have_no_fault};
 use crate::lines::{labelled, push_errors};
+use crate::output::Output;
 use crate::words::{Number, number_in};
-use crate::work::Work;
 use box_tree::{Cert, Node};
 use error_certifier::{NotReached, answers_are_one, same_blocks_stop_alike};
 use eval_code::Width;
@@ -52,7 +52,7 @@ impl Certify {
 
     /// Halves the boxes of the text's block until each has leaves within the target, and writes down
     /// the certificate, the error of each output and the number of leaves.
-    pub fn work(self, alloc: Global, fcl: &[u8]) -> Result<Work, Status>
+    pub fn work(self, alloc: Global, fcl: &[u8]) -> Result<Output, Status>
         requires { length fcl.now ≤ 1048576 }
         ensures { IsResultOf (CertifyMakes self fcl.now) result }
     {
@@ -61,7 +61,7 @@ impl Certify {
         let cert = halved(alloc, width, self.target.get(), &compiled.block)?;
         let text = text_of_cert(alloc, width, &cert)?;
         let lines = lines(alloc, &cert)?;
-        Ok(Work {
+        Ok(Output {
             lines,
             file: Some((OUT, text)),
         })
@@ -136,9 +136,9 @@ pub fn halved_blocks_do_not_stop()
     answers_are_one()
 }
 
-/// A text that makes a deed makes no fault.
+/// A text that makes an output makes no fault.
 pub fn certified_texts_have_no_fault()
-    ensures { (certify : TheCertify) (text : List ℕ) → DeedHasNoFault (CertifyMakes certify text) }
+    ensures { (certify : TheCertify) (text : List ℕ) → OutputHasNoFault (CertifyMakes certify text) }
 {
     spelled_texts_have_no_fault();
     spelled_blocks_are_one();

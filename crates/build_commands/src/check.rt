@@ -1,14 +1,14 @@
 //! The commands `check FCL CERT` and `check16 FCL CERT`.
 ghost use Rattle.std.specs.Prelude.{◌≡◌, ◌≤◌, length, IfOk, List, ℕ};
 ghost use Rattle.fz_shelf.specs.Lines.{text_of};
-ghost use Rattle.build_commands.specs.Deeds.{DeedHasNoFault, IsResultOf};
+ghost use Rattle.build_commands.specs.SeenOutputs.{OutputHasNoFault, IsResultOf};
 ghost use Rattle.build_commands.specs.Check.{CheckMakes, check_lines};
 ghost use Rattle.build_commands.specs.declared.check.Check.{Check as TheCheck};
 
 use crate::certs::{accepted_certs_have_no_fault, errors_under};
 use crate::firmware::{firmware_of, spelled_texts_have_no_fault};
 use crate::lines::{labelled, push_errors};
-use crate::work::Work;
+use crate::output::Output;
 use eval_code::Width;
 use fz_status::Status;
 use std::alloc::{AllocError, Global};
@@ -26,7 +26,7 @@ pub static INPUTS: [u32; 2] = [2, 3];
 impl Check {
     /// Checks the certificate against the text's block, and writes down the error of each output and
     /// the bound on instructions.
-    pub fn work(self, alloc: Global, fcl: &[u8], cert: &[u8]) -> Result<Work, Status>
+    pub fn work(self, alloc: Global, fcl: &[u8], cert: &[u8]) -> Result<Output, Status>
         requires fcl { length fcl.now ≤ 1048576 }
         requires cert { length cert.now ≤ 1048576 }
         ensures { IsResultOf (CheckMakes self fcl.now cert.now) result }
@@ -34,7 +34,7 @@ impl Check {
         let compiled = firmware_of(alloc, self.width, fcl)?;
         let errors = errors_under(alloc, self.width, &compiled.block, cert)?;
         let lines = lines(alloc, errors.as_slice(), compiled.firmware.instr_bound)?;
-        Ok(Work { lines, file: None })
+        Ok(Output { lines, file: None })
     }
 }
 
@@ -48,9 +48,9 @@ fn lines(alloc: Global, errors: &[u32], instructions: u32) -> Result<Vec<String>
     Ok(lines)
 }
 
-/// A text and a certificate that make a deed make no fault.
+/// A text and a certificate that make an output make no fault.
 pub fn checked_certs_have_no_fault()
-    ensures { (check : TheCheck) (text cert : List ℕ) → DeedHasNoFault (CheckMakes check text cert) }
+    ensures { (check : TheCheck) (text cert : List ℕ) → OutputHasNoFault (CheckMakes check text cert) }
 {
     spelled_texts_have_no_fault();
     accepted_certs_have_no_fault()

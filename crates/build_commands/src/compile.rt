@@ -1,11 +1,11 @@
 //! The commands `compile FCL OUT` and `compile16 FCL OUT`.
 ghost use Rattle.std.specs.Prelude.{◌≤◌, length, List, ℕ};
-ghost use Rattle.build_commands.specs.Deeds.{DeedHasNoFault, IsResultOf};
+ghost use Rattle.build_commands.specs.SeenOutputs.{OutputHasNoFault, IsResultOf};
 ghost use Rattle.build_commands.specs.Compile.{CompileMakes};
 ghost use Rattle.build_commands.specs.declared.compile.Compile.{Compile as TheCompile};
 
 use crate::firmware::{firmware_of, spelled_texts_have_no_fault};
-use crate::work::Work;
+use crate::output::Output;
 use crate::written::written_firmware;
 use eval_code::Width;
 use fz_status::Status;
@@ -23,7 +23,7 @@ pub static INPUTS: [u32; 1] = [2];
 
 impl Compile {
     /// Compiles the text, and writes down the records of the image and its bounds.
-    pub fn work(self, alloc: Global, fcl: &[u8]) -> Result<Work, Status>
+    pub fn work(self, alloc: Global, fcl: &[u8]) -> Result<Output, Status>
         requires { length fcl.now ≤ 1048576 }
         ensures { IsResultOf (CompileMakes self fcl.now) result }
     {
@@ -32,9 +32,9 @@ impl Compile {
     }
 }
 
-/// A text that makes a deed makes no fault.
+/// A text that makes an output makes no fault.
 pub fn compiled_texts_have_no_fault()
-    ensures { (compile : TheCompile) (text : List ℕ) → DeedHasNoFault (CompileMakes compile text) }
+    ensures { (compile : TheCompile) (text : List ℕ) → OutputHasNoFault (CompileMakes compile text) }
 {
     spelled_texts_have_no_fault()
 }

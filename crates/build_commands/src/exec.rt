@@ -1,15 +1,15 @@
 //! The command `exec IMAGE STEPS FLAGS`.
 ghost use Rattle.std.specs.Prelude.{◌≡◌, ◌≤◌, length, string_bytes, IfOk, List, ℕ};
 ghost use Rattle.fz_shelf.specs.Lines.{text_of};
-ghost use Rattle.build_commands.specs.Deeds.{DeedHasNoFault, IsResultOf};
+ghost use Rattle.build_commands.specs.SeenOutputs.{OutputHasNoFault, IsResultOf};
 ghost use Rattle.build_commands.specs.Exec.{ExecMakes, exec_in, exec_line};
 ghost use Rattle.fz_status.specs.Words.{texts_of};
 ghost use Rattle.build_commands.specs.declared.exec.Exec.{Exec as TheExec};
 
 use crate::images::image_of;
 use crate::lines::{labelled, line_of_registers};
+use crate::output::Output;
 use crate::words::{flags, number_in};
-use crate::work::Work;
 use cpu12_asm::Image;
 use cpu12_emul::ends::RunEnd;
 use cpu12_emul::laws::{images_load_alike, runs_end_once};
@@ -43,14 +43,14 @@ impl Exec {
     }
 
     /// Runs the image from reset until it branches to itself, and writes down the registers.
-    pub fn work(self, alloc: Global, records: &[u8]) -> Result<Work, Status>
+    pub fn work(self, alloc: Global, records: &[u8]) -> Result<Output, Status>
         requires { length records.now ≤ 1048576 }
         ensures { IsResultOf (ExecMakes self records.now) result }
     {
         let image = image_of(alloc, records)?;
         let mut machine = Machine::<PageMem>::new(alloc, &image, self.flags)?;
         match machine.run(self.steps) {
-            RunEnd::Arrived(steps) => Ok(Work {
+            RunEnd::Arrived(steps) => Ok(Output {
                 lines: lines(alloc, &machine.regs(), steps)?,
                 file: None,
             }),
@@ -76,9 +76,9 @@ fn lines(alloc: Global, regs: &Regs, steps: u32) -> Result<Vec<String>, AllocErr
     Ok(lines)
 }
 
-/// Records that make a deed make no fault.
+/// Records that make an output make no fault.
 pub fn ended_runs_have_no_fault()
-    ensures { (exec : TheExec) (text : List ℕ) → DeedHasNoFault (ExecMakes exec text) }
+    ensures { (exec : TheExec) (text : List ℕ) → OutputHasNoFault (ExecMakes exec text) }
 {
     images_are_one();
     images_load_alike();

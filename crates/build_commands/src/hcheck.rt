@@ -1,14 +1,14 @@
 //! The command `hcheck HANDLER`, and the handler that a text of records gives.
 ghost use Rattle.std.specs.Prelude.{◌≡◌, ◌≤◌, codes, length, IfOk, IfErr, List, ℕ};
 ghost use Rattle.fz_shelf.specs.Lines.{text_of};
-ghost use Rattle.build_commands.specs.Deeds.{DeedHasNoFault, IsResultOf};
+ghost use Rattle.build_commands.specs.SeenOutputs.{OutputHasNoFault, IsResultOf};
 ghost use Rattle.build_commands.specs.Hcheck.{GivesHandler, GivenHandlersHaveNoFault, HcheckMakes, handler_refusals};
 ghost use Rattle.build_commands.specs.Lines.{line};
 ghost use Rattle.fz_status.specs.Refusals.{IsRefusal};
 
 use crate::images::image_of;
 use crate::lines::labelled;
-use crate::work::Work;
+use crate::output::Output;
 use cpu12_asm::Image;
 use fz_status::Status;
 use handler_check::laws::handlers_have_no_fault;
@@ -44,13 +44,13 @@ pub fn handler_of(alloc: Global, records: &[u8]) -> Result<AcceptedHandler, Stat
 }
 
 /// Checks the handler that the records give, and writes down how many instructions its longest path has.
-pub fn work(alloc: Global, records: &[u8]) -> Result<Work, Status>
+pub fn work(alloc: Global, records: &[u8]) -> Result<Output, Status>
     requires { length records.now ≤ 1048576 }
     ensures { IsResultOf (HcheckMakes records.now) result }
 {
     let accepted = handler_of(alloc, records)?;
     let lines = lines(alloc, accepted.handler)?;
-    Ok(Work { lines, file: None })
+    Ok(Output { lines, file: None })
 }
 
 /// The greatest number of instructions on a path of the handler.
@@ -70,9 +70,9 @@ pub fn given_handlers_have_no_fault()
     handlers_have_no_fault()
 }
 
-/// Records that make a deed make no fault.
+/// Records that make an output make no fault.
 pub fn checked_handlers_have_no_fault()
-    ensures { (text : List ℕ) → DeedHasNoFault (HcheckMakes text) }
+    ensures { (text : List ℕ) → OutputHasNoFault (HcheckMakes text) }
 {
     given_handlers_have_no_fault()
 }

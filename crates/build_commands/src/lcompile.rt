@@ -2,13 +2,13 @@
 ghost use Rattle.std.specs.Prelude.{◌≡◌, ◌≤◌, length, IfOk, List, ℕ};
 ghost use Rattle.fz_shelf.specs.Lines.{text_of};
 ghost use Rattle.two_level.specs.Images.{fast_most};
-ghost use Rattle.build_commands.specs.Deeds.{DeedHasNoFault, IsResultOf};
+ghost use Rattle.build_commands.specs.SeenOutputs.{OutputHasNoFault, IsResultOf};
 ghost use Rattle.build_commands.specs.Lcompile.{LcompileMakes, lcompile_lines};
 
 use crate::firmware::spelled_texts_have_no_fault;
 use crate::lines::labelled;
+use crate::output::Output;
 use crate::twos::two_of;
-use crate::work::Work;
 use crate::written::written_image;
 use fz_status::Status;
 use std::alloc::{AllocError, Global};
@@ -22,7 +22,7 @@ const OUT: u32 = 4;
 
 /// Compiles the fast block of one text into the interrupts of the slow one of another, and writes down the
 /// records of the image of both and their bounds.
-pub fn work(alloc: Global, slow: &[u8], fast: &[u8]) -> Result<Work, Status>
+pub fn work(alloc: Global, slow: &[u8], fast: &[u8]) -> Result<Output, Status>
     requires slow { length slow.now ≤ 1048576 }
     requires fast { length fast.now ≤ 1048576 }
     ensures { IsResultOf (LcompileMakes slow.now fast.now) result }
@@ -45,9 +45,9 @@ fn lines(alloc: Global, two: &Two) -> Result<Vec<String>, AllocError>
     Ok(lines)
 }
 
-/// Texts that make a deed make no fault.
+/// Texts that make an output make no fault.
 pub fn two_texts_have_no_fault()
-    ensures { (slow fast : List ℕ) → DeedHasNoFault (LcompileMakes slow fast) }
+    ensures { (slow fast : List ℕ) → OutputHasNoFault (LcompileMakes slow fast) }
 {
     spelled_texts_have_no_fault()
 }

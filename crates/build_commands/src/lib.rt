@@ -2,7 +2,7 @@
 //! `check` and their variants, `hcheck` and `exec`.
 //!
 //! Each is one module, with the form of its words, the places of its files among them (`INPUTS`), and
-//! `work`, which makes of the files' contents what is to be written and put ([`work::Work`]), or the
+//! `work`, which makes of the files' contents what is to be written and put ([`output::Output`]), or the
 //! status of their first fault. The other modules are what several commands share, those of crates
 //! above too: from a text to its firmware, images and certificates, lines, and the forms of words.
 //!
@@ -22,8 +22,8 @@ pub mod images;
 pub mod lcompile;
 pub mod lines;
 pub mod mcompile;
+pub mod output;
 pub mod scompile;
 pub mod twos;
 pub mod words;
-pub mod work;
 mod written;

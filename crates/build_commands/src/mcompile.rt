@@ -1,16 +1,16 @@
 //! The command `mcompile FCL OUT`.
 ghost use Rattle.std.specs.Prelude.{◌≤◌, length, List, ℕ};
-ghost use Rattle.build_commands.specs.Deeds.{DeedHasNoFault, IsResultOf};
+ghost use Rattle.build_commands.specs.SeenOutputs.{OutputHasNoFault, IsResultOf};
 ghost use Rattle.build_commands.specs.Mcompile.{McompileMakes};
 
 use crate::firmware::{mailbox_of, spelled_texts_have_no_fault};
-use crate::work::Work;
+use crate::output::Output;
 use crate::written::written_firmware;
 use fz_status::Status;
 use std::alloc::Global;
 
 /// Compiles the text in the mailbox form, and writes down the records of the image and its bounds.
-pub fn work(alloc: Global, fcl: &[u8]) -> Result<Work, Status>
+pub fn work(alloc: Global, fcl: &[u8]) -> Result<Output, Status>
     requires { length fcl.now ≤ 1048576 }
     ensures { IsResultOf (McompileMakes fcl.now) result }
 {
@@ -18,9 +18,9 @@ pub fn work(alloc: Global, fcl: &[u8]) -> Result<Work, Status>
     written_firmware(alloc, &compiled.firmware)
 }
 
-/// A text that makes a deed makes no fault.
+/// A text that makes an output makes no fault.
 pub fn mailbox_texts_have_no_fault()
-    ensures { (text : List ℕ) → DeedHasNoFault (McompileMakes text) }
+    ensures { (text : List ℕ) → OutputHasNoFault (McompileMakes text) }
 {
     spelled_texts_have_no_fault()
 }

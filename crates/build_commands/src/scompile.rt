@@ -1,10 +1,10 @@
 //! The command `scompile FCL OUT`.
 ghost use Rattle.std.specs.Prelude.{◌≤◌, length, List, ℕ};
-ghost use Rattle.build_commands.specs.Deeds.{DeedHasNoFault, IsResultOf};
+ghost use Rattle.build_commands.specs.SeenOutputs.{OutputHasNoFault, IsResultOf};
 ghost use Rattle.build_commands.specs.Scompile.{ScompileMakes};
 
 use crate::firmware::{spelled_texts_have_no_fault, watched_firmware_of};
-use crate::work::Work;
+use crate::output::Output;
 use crate::written::written_firmware;
 use fz_status::Status;
 use std::alloc::Global;
@@ -14,7 +14,7 @@ pub static INPUTS: [u32; 1] = [2];
 
 /// Compiles the text to firmware that watches its tables, and writes down the records of its image and
 /// its bounds.
-pub fn work(alloc: Global, fcl: &[u8]) -> Result<Work, Status>
+pub fn work(alloc: Global, fcl: &[u8]) -> Result<Output, Status>
     requires { length fcl.now ≤ 1048576 }
     ensures { IsResultOf (ScompileMakes fcl.now) result }
 {
@@ -22,9 +22,9 @@ pub fn work(alloc: Global, fcl: &[u8]) -> Result<Work, Status>
     written_firmware(alloc, &compiled.firmware)
 }
 
-/// A text that makes a deed makes no fault.
+/// A text that makes an output makes no fault.
 pub fn watched_texts_have_no_fault()
-    ensures { (text : List ℕ) → DeedHasNoFault (ScompileMakes text) }
+    ensures { (text : List ℕ) → OutputHasNoFault (ScompileMakes text) }
 {
     spelled_texts_have_no_fault()
 }

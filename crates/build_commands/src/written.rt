@@ -1,11 +1,11 @@
 //! What commands write of firmware and images: the records for OUT, and lines.
 ghost use Rattle.std.specs.Prelude.{◌≡◌, length, IfErr, IfOk};
 ghost use Rattle.fz_shelf.specs.Lines.{text_of};
-ghost use Rattle.build_commands.specs.Deeds.{deed_of};
+ghost use Rattle.build_commands.specs.SeenOutputs.{seen_output};
 ghost use Rattle.build_commands.specs.Written.{WritesImage, compile_lines};
 
 use crate::lines::labelled;
-use crate::work::Work;
+use crate::output::Output;
 use codegen::Firmware;
 use cpu12_asm::Image;
 use fz_status::Status;
@@ -20,22 +20,22 @@ pub(crate) fn written_image(
     image: &Image,
     place: u32,
     lines: Vec<String>,
-) -> Result<Work, Status>
-    ensures writes { IfOk result (λ work. WritesImage image.now place (text_of lines.items) (deed_of work)) }
+) -> Result<Output, Status>
+    ensures writes { IfOk result (λ work. WritesImage image.now place (text_of lines.items) (seen_output work)) }
     ensures memory { IfErr result (λ status. status ≡ Status.Memory) }
 {
     let records = srecord::write(alloc, image)?;
-    Ok(Work {
+    Ok(Output {
         lines,
         file: Some((place, records)),
     })
 }
 
 /// The records of the firmware's image, for OUT, and its lines.
-pub(crate) fn written_firmware(alloc: Global, firmware: &Firmware) -> Result<Work, Status>
+pub(crate) fn written_firmware(alloc: Global, firmware: &Firmware) -> Result<Output, Status>
     ensures writes { IfOk result (λ work. WritesImage firmware.now.image 3
         (compile_lines firmware.now.instr_bound firmware.now.step_bound (length firmware.now.image.bytes))
-        (deed_of work)) }
+        (seen_output work)) }
     ensures memory { IfErr result (λ status. status ≡ Status.Memory) }
 {
     let lines = lines(alloc, firmware)?;

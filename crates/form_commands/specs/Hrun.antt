@@ -5,7 +5,7 @@ use Rattle.cpu12_asm.specs.declared.image.Image.{Image}
 use Rattle.eval_code.specs.declared.width.Width.TheVariants.{Byte}
 use Rattle.handled_runs.specs.Forms.{HandledSeen}
 use Rattle.build_commands.specs.Contents.{content_at}
-use Rattle.build_commands.specs.Deeds.{Deed, only_text}
+use Rattle.build_commands.specs.SeenOutputs.{SeenOutput, only_text}
 use Rattle.build_commands.specs.Firmwares.{OfFirmware, RefusesText}
 use Rattle.build_commands.specs.Hcheck.{GivesHandler, handler_refusals}
 use Rattle.build_commands.specs.Lines.{counted}
@@ -55,10 +55,10 @@ handled_report errors bound rows = record { errors = errors; bound = bound; rows
 -- ---- what it makes of its files
 
 -- the handler's run is certified, and the lines are those of its report
-pub record HrunGives (hrun : Hrun) (files : HandledFiles) (deed : Deed) : Type 0 where
+pub record HrunGives (hrun : Hrun) (files : HandledFiles) (output : SeenOutput) : Type 0 where
   pub report : HandledReport
   pub certified : HandledRun hrun.flags files report
-  pub deed_is : deed ≡ only_text (hrun_lines report)
+  pub output_is : output ≡ only_text (hrun_lines report)
 
 -- why FCL is refused; why HANDLER is, by its records or by its code, FCL giving firmware; and why the files behind are,
 -- HANDLER giving a handler
@@ -72,6 +72,6 @@ hrun_refusals files s = OfFirmware Byte files.fcl (λ block firmware.
     (image : Image) × (instrs : ℕ) × GivesHandler files.handler image instrs
     × input_refusals Byte block files.cert files.trace files.plan s)
 
-abbrev pub HrunMakes : Hrun → HandledFiles → Result Deed Status → Type 0
-HrunMakes hrun files (Ok deed) = HrunGives hrun files deed
+abbrev pub HrunMakes : Hrun → HandledFiles → Result SeenOutput Status → Type 0
+HrunMakes hrun files (Ok output) = HrunGives hrun files output
 HrunMakes hrun files (Err s) = Refuses (hrun_refusals files) s

@@ -20,7 +20,7 @@ use Rattle.fz_status.specs.declared.status.Status.{Status}
 use Rattle.fz_status.specs.declared.status.Status.TheVariants as status
 use Rattle.build_commands.specs.Certs.{AcceptsCert, HasCertFault}
 use Rattle.build_commands.specs.Contents.{content_at}
-use Rattle.build_commands.specs.Deeds.{Deed, only_text}
+use Rattle.build_commands.specs.SeenOutputs.{SeenOutput, only_text}
 use Rattle.build_commands.specs.Images.{RefusesImage}
 use Rattle.build_commands.specs.Lines.{counted, error_line, line}
 use Rattle.build_commands.specs.Twos.{GivesTwo, two_refusals}
@@ -98,10 +98,10 @@ level_report errors fast_errors bound fast_bound rows =
 -- ---- what it makes of its files
 
 -- the run is one of the files, and the lines are those of its report
-pub record LrunGives (lrun : Lrun) (files : LevelFiles) (deed : Deed) : Type 0 where
+pub record LrunGives (lrun : Lrun) (files : LevelFiles) (output : SeenOutput) : Type 0 where
   pub report : LevelReport
   pub at_levels : LevelRun lrun.flags files report
-  pub deed_is : deed ≡ only_text (lrun_lines report)
+  pub output_is : output ≡ only_text (lrun_lines report)
 
 -- why a certificate is refused: the slow block's first
 abbrev pub certs_refusals : LevelFiles → Block → Block → Refusals
@@ -152,6 +152,6 @@ lrun_refusals files (status.Image f) = OfTwo files (λ slow fast two. RefusesIma
 lrun_refusals files s = OfTwo files (λ slow fast two.
     GivesImage files.image two.image × level_input_refusals files slow fast s)
 
-abbrev pub LrunMakes : Lrun → LevelFiles → Result Deed Status → Type 0
-LrunMakes lrun files (Ok deed) = LrunGives lrun files deed
+abbrev pub LrunMakes : Lrun → LevelFiles → Result SeenOutput Status → Type 0
+LrunMakes lrun files (Ok output) = LrunGives lrun files output
 LrunMakes lrun files (Err s) = Refuses (lrun_refusals files) s

@@ -18,7 +18,7 @@ use Rattle.fz_status.specs.declared.status.Status.{Status}
 use Rattle.fz_status.specs.declared.status.Status.TheVariants as status
 use Rattle.build_commands.specs.Certs.{AcceptsCert, HasCertFault}
 use Rattle.build_commands.specs.Contents.{content_at}
-use Rattle.build_commands.specs.Deeds.{Deed, only_text}
+use Rattle.build_commands.specs.SeenOutputs.{SeenOutput, only_text}
 use Rattle.build_commands.specs.Firmwares.{GivesMailbox, RefusesText}
 use Rattle.build_commands.specs.Images.{RefusesImage}
 use Rattle.build_commands.specs.Lines.{counted, line}
@@ -76,10 +76,10 @@ mrun_lines r = begun_lines r.errors r.bound ++ (counted answer_line 1 r.answers
 -- ---- what it makes of its files
 
 -- the run is one of the files, and the lines are those of its report
-pub record MrunGives (mrun : Mrun) (files : PostedFiles) (deed : Deed) : Type 0 where
+pub record MrunGives (mrun : Mrun) (files : PostedFiles) (output : SeenOutput) : Type 0 where
   pub report : PostedReport
   pub posted : PostedRun mrun.flags files report
-  pub deed_is : deed ≡ only_text (mrun_lines report)
+  pub output_is : output ≡ only_text (mrun_lines report)
 
 -- FCL gives firmware in the mailbox form of which this holds
 abbrev pub OfMailbox : List ℕ → (Block → Firmware → Type 0) → Type 0
@@ -108,6 +108,6 @@ abbrev pub posts_refusals : ℕ → List ℕ → Refusals
 posts_refusals samples text (status.Plan f) = PostsHaveFault samples text f
 posts_refusals samples text s = ⊥
 
-abbrev pub MrunMakes : Mrun → PostedFiles → Result Deed Status → Type 0
-MrunMakes mrun files (Ok deed) = MrunGives mrun files deed
+abbrev pub MrunMakes : Mrun → PostedFiles → Result SeenOutput Status → Type 0
+MrunMakes mrun files (Ok output) = MrunGives mrun files output
 MrunMakes mrun files (Err s) = Refuses (mrun_refusals files) s

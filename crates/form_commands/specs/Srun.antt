@@ -14,7 +14,7 @@ use Rattle.fz_status.specs.Words.{Text, word_at}
 use Rattle.fz_status.specs.declared.status.Status.{Status}
 use Rattle.fz_status.specs.declared.status.Status.TheVariants as status
 use Rattle.build_commands.specs.Contents.{content_at}
-use Rattle.build_commands.specs.Deeds.{Deed, only_text}
+use Rattle.build_commands.specs.SeenOutputs.{SeenOutput, only_text}
 use Rattle.build_commands.specs.Firmwares.{GivesWatched, RefusesText}
 use Rattle.build_commands.specs.Images.{RefusesImage}
 use Rattle.build_commands.specs.Lines.{counted}
@@ -69,10 +69,10 @@ pub record AcceptsWatched (files : WatchedFiles) (block : Block) (firmware : Fir
   pub good_upsets : SpellsUpsets firmware.image.bytes files.upsets upsets
 
 -- the run is one of the files, and the lines are those of its report
-pub record SrunGives (srun : Srun) (files : WatchedFiles) (deed : Deed) : Type 0 where
+pub record SrunGives (srun : Srun) (files : WatchedFiles) (output : SeenOutput) : Type 0 where
   pub report : WatchedReport
   pub watched : WatchedRun srun.flags files report
-  pub deed_is : deed ≡ only_text (srun_lines report)
+  pub output_is : output ≡ only_text (srun_lines report)
 
 -- FCL gives firmware with watched tables of which this holds
 abbrev pub OfWatched : List ℕ → (Block → Firmware → Type 0) → Type 0
@@ -96,6 +96,6 @@ abbrev pub upset_refusals : List (ℕ × ℕ) → List ℕ → Refusals
 upset_refusals image text (status.Upset f) = HasUpsetFault image text f
 upset_refusals image text s = ⊥
 
-abbrev pub SrunMakes : Srun → WatchedFiles → Result Deed Status → Type 0
-SrunMakes srun files (Ok deed) = SrunGives srun files deed
+abbrev pub SrunMakes : Srun → WatchedFiles → Result SeenOutput Status → Type 0
+SrunMakes srun files (Ok output) = SrunGives srun files output
 SrunMakes srun files (Err s) = Refuses (srun_refusals files) s

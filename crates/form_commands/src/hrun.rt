@@ -4,7 +4,7 @@ ghost use Rattle.std.specs.List.{All};
 ghost use Rattle.fz_status.specs.Refusals.{IsRefusal};
 ghost use Rattle.fz_status.specs.Words.{texts_of};
 ghost use Rattle.build_commands.specs.Contents.{bytes_of};
-ghost use Rattle.build_commands.specs.Deeds.{DeedHasNoFault, IsResultOf};
+ghost use Rattle.build_commands.specs.SeenOutputs.{OutputHasNoFault, IsResultOf};
 ghost use Rattle.form_commands.specs.HandledRun.{AcceptsHandled, HandledFiles};
 ghost use Rattle.build_commands.specs.Lines.{counted};
 ghost use Rattle.fz_shelf.specs.Lines.{text_of};
@@ -16,8 +16,8 @@ ghost use Rattle.form_commands.specs.declared.hrun.Hrun.{Hrun as TheHrun};
 use build_commands::contents::content;
 use build_commands::firmware::{Compiled, firmware_of, spelled_texts_have_no_fault};
 use build_commands::hcheck::{AcceptedHandler, given_handlers_have_no_fault, handler_of};
+use build_commands::output::Output;
 use build_commands::words::flags;
-use build_commands::work::Work;
 use eval_code::Width;
 use fz_run::laws::answers_under_plans;
 use fz_status::{Status, word};
@@ -56,7 +56,7 @@ impl Hrun {
 
     /// Runs the samples of the trace under the plan, each interrupt by the handler's code, once all files
     /// are accepted, and writes down what came of them.
-    pub fn work(self, alloc: Global, contents: &[Vec<u8>]) -> Result<Work, Status>
+    pub fn work(self, alloc: Global, contents: &[Vec<u8>]) -> Result<Output, Status>
         requires { All (λ c. length c.items ≤ 1048576) contents.now }
         ensures { IsResultOf (HrunMakes self (handled_files (bytes_of contents.now))) result }
     {
@@ -75,7 +75,7 @@ impl Hrun {
             self.flags,
         )?;
         let lines = lines(alloc, &accepted.inputs.errors, firmware.instr_bound, &rows)?;
-        Ok(Work { lines, file: None })
+        Ok(Output { lines, file: None })
     }
 
     /// What the files give, or the first fault in their order.
@@ -115,9 +115,9 @@ fn lines(
     Ok(lines)
 }
 
-/// Files that make a deed make no fault.
+/// Files that make an output make no fault.
 pub fn handled_runs_have_no_fault()
-    ensures { (hrun : TheHrun) (files : HandledFiles) → DeedHasNoFault (HrunMakes hrun files) }
+    ensures { (hrun : TheHrun) (files : HandledFiles) → OutputHasNoFault (HrunMakes hrun files) }
 {
     spelled_texts_have_no_fault();
     given_handlers_have_no_fault();

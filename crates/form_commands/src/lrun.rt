@@ -6,7 +6,7 @@ ghost use Rattle.interrupt_plan.specs.Levels.{SpellsLevels};
 ghost use Rattle.fz_status.specs.Refusals.{IsRefusal};
 ghost use Rattle.fz_status.specs.Words.{texts_of};
 ghost use Rattle.build_commands.specs.Contents.{bytes_of};
-ghost use Rattle.build_commands.specs.Deeds.{DeedHasNoFault, IsResultOf};
+ghost use Rattle.build_commands.specs.SeenOutputs.{OutputHasNoFault, IsResultOf};
 ghost use Rattle.form_commands.specs.LevelRun.{AcceptsCerts, AcceptsLevels, LevelFiles, SpellTraces};
 ghost use Rattle.form_commands.specs.Lrun.{LrunMakes, certs_refusals, level_files, levels_refusals, lrun_in};
 ghost use Rattle.form_commands.specs.Lrun.{lrun_refusals, traces_refusals};
@@ -17,9 +17,9 @@ use build_commands::certs::{accepted_certs_have_no_fault, errors_under};
 use build_commands::contents::content;
 use build_commands::firmware::spelled_texts_have_no_fault;
 use build_commands::images::require_image;
+use build_commands::output::Output;
 use build_commands::twos::{CompiledTwo, two_images_have_no_fault, two_of};
 use build_commands::words::flags;
-use build_commands::work::Work;
 use certified_run::posted_answers_are_near;
 use eval_code::Width;
 use fcl_check::spelled_blocks_are_one;
@@ -105,7 +105,7 @@ impl Lrun {
 
     /// Runs the slow samples under the levels, once all files are accepted, and writes down what came of
     /// them and of the fast runs.
-    pub fn work(self, alloc: Global, contents: &[Vec<u8>]) -> Result<Work, Status>
+    pub fn work(self, alloc: Global, contents: &[Vec<u8>]) -> Result<Output, Status>
         requires { All (λ c. length c.items ≤ 1048576) contents.now }
         ensures { IsResultOf (LrunMakes self (level_files (bytes_of contents.now))) result }
     {
@@ -134,7 +134,7 @@ impl Lrun {
             two,
             &rows,
         )?;
-        Ok(Work { lines, file: None })
+        Ok(Output { lines, file: None })
     }
 }
 
@@ -202,9 +202,9 @@ fn levels_of(alloc: Global, text: &[u8], fast: &[Sample]) -> Result<Levels, Stat
     }
 }
 
-/// Files that make a deed make no fault.
+/// Files that make an output make no fault.
 pub fn level_runs_have_no_fault()
-    ensures { (lrun : TheLrun) (files : LevelFiles) → DeedHasNoFault (LrunMakes lrun files) }
+    ensures { (lrun : TheLrun) (files : LevelFiles) → OutputHasNoFault (LrunMakes lrun files) }
 {
     spelled_texts_have_no_fault();
     two_images_have_no_fault();

@@ -6,7 +6,7 @@ ghost use Rattle.interrupt_plan.specs.Posts.{SpellsPosts};
 ghost use Rattle.fz_status.specs.Refusals.{IsRefusal};
 ghost use Rattle.fz_status.specs.Words.{texts_of};
 ghost use Rattle.build_commands.specs.Contents.{bytes_of};
-ghost use Rattle.build_commands.specs.Deeds.{DeedHasNoFault, IsResultOf};
+ghost use Rattle.build_commands.specs.SeenOutputs.{OutputHasNoFault, IsResultOf};
 ghost use Rattle.form_commands.specs.Mrun.{MrunMakes, mrun_in, mrun_refusals, posted_files, posts_refusals};
 ghost use Rattle.form_commands.specs.PostedRun.{AcceptsPosted, PostedFiles};
 ghost use Rattle.form_commands.specs.declared.mrun.Mrun.{Mrun as TheMrun};
@@ -16,8 +16,8 @@ use build_commands::certs::{accepted_certs_have_no_fault, errors_under};
 use build_commands::contents::content;
 use build_commands::firmware::{Compiled, mailbox_of, spelled_texts_have_no_fault};
 use build_commands::images::{mailbox_images_have_no_fault, require_image};
+use build_commands::output::Output;
 use build_commands::words::flags;
-use build_commands::work::Work;
 use certified_run::posted_answers_are_near;
 use eval_code::Width;
 use fcl_check::spelled_blocks_are_one;
@@ -84,7 +84,7 @@ impl Mrun {
     }
 
     /// Runs the firmware under the posts, once all files are accepted, and writes down what came of them.
-    pub fn work(self, alloc: Global, contents: &[Vec<u8>]) -> Result<Work, Status>
+    pub fn work(self, alloc: Global, contents: &[Vec<u8>]) -> Result<Output, Status>
         requires { All (λ c. length c.items ≤ 1048576) contents.now }
         ensures { IsResultOf (MrunMakes self (posted_files (bytes_of contents.now))) result }
     {
@@ -102,7 +102,7 @@ impl Mrun {
             self.flags,
         )?;
         let lines = lines(alloc, &accepted.errors, firmware.instr_bound, &told)?;
-        Ok(Work { lines, file: None })
+        Ok(Output { lines, file: None })
     }
 }
 
@@ -120,9 +120,9 @@ fn posts_of(alloc: Global, text: &[u8], samples: &[Sample]) -> Result<Posts, Sta
     }
 }
 
-/// Files that make a deed make no fault.
+/// Files that make an output make no fault.
 pub fn posted_runs_have_no_fault()
-    ensures { (mrun : TheMrun) (files : PostedFiles) → DeedHasNoFault (MrunMakes mrun files) }
+    ensures { (mrun : TheMrun) (files : PostedFiles) → OutputHasNoFault (MrunMakes mrun files) }
 {
     spelled_texts_have_no_fault();
     mailbox_images_have_no_fault();

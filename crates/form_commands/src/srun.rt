@@ -6,7 +6,7 @@ ghost use Rattle.interrupt_plan.specs.UpsetTexts.{SpellsUpsets};
 ghost use Rattle.fz_status.specs.Refusals.{IsRefusal};
 ghost use Rattle.fz_status.specs.Words.{texts_of};
 ghost use Rattle.build_commands.specs.Contents.{bytes_of};
-ghost use Rattle.build_commands.specs.Deeds.{DeedHasNoFault, IsResultOf};
+ghost use Rattle.build_commands.specs.SeenOutputs.{OutputHasNoFault, IsResultOf};
 ghost use Rattle.form_commands.specs.Srun.{AcceptsWatched, SrunMakes, srun_in, srun_refusals};
 ghost use Rattle.form_commands.specs.Srun.{upset_refusals, watched_files, watched_row_lines};
 ghost use Rattle.build_commands.specs.Lines.{counted};
@@ -19,8 +19,8 @@ ghost use Rattle.form_commands.specs.declared.srun.Srun.{Srun as TheSrun};
 use build_commands::contents::content;
 use build_commands::firmware::{Compiled, spelled_texts_have_no_fault, watched_firmware_of};
 use build_commands::images::{require_image, watched_images_have_no_fault};
+use build_commands::output::Output;
 use build_commands::words::flags;
-use build_commands::work::Work;
 use certified_run::faultless_answers_are_near;
 use cpu12_asm::Image;
 use eval_code::Width;
@@ -82,7 +82,7 @@ impl Srun {
 
     /// Runs the samples of the trace under the plan, each with its upset, once all files are accepted, and
     /// writes down what came of them.
-    pub fn work(self, alloc: Global, contents: &[Vec<u8>]) -> Result<Work, Status>
+    pub fn work(self, alloc: Global, contents: &[Vec<u8>]) -> Result<Output, Status>
         requires { All (λ c. length c.items ≤ 1048576) contents.now }
         ensures { IsResultOf (SrunMakes self (watched_files (bytes_of contents.now))) result }
     {
@@ -99,7 +99,7 @@ impl Srun {
             self.flags,
         )?;
         let lines = lines(alloc, &accepted.inputs.errors, firmware.instr_bound, &rows)?;
-        Ok(Work { lines, file: None })
+        Ok(Output { lines, file: None })
     }
 }
 
@@ -134,9 +134,9 @@ fn lines(
     Ok(lines)
 }
 
-/// Files that make a deed make no fault.
+/// Files that make an output make no fault.
 pub fn watched_runs_have_no_fault()
-    ensures { (srun : TheSrun) (files : WatchedFiles) → DeedHasNoFault (SrunMakes srun files) }
+    ensures { (srun : TheSrun) (files : WatchedFiles) → OutputHasNoFault (SrunMakes srun files) }
 {
     spelled_texts_have_no_fault();
     watched_images_have_no_fault();

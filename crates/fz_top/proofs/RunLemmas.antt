@@ -13,8 +13,8 @@ use Rattle.fz_status.specs.Words.{Text, word_at}
 use Rattle.build_commands.specs.Contents.{bytes_of}
 use Rattle.fz_top.specs.Commands.{Makes, command_in, inputs_of}
 use Rattle.fz_top.specs.Reads.{ReadsWhole, AreHeld, AreThere, names_at, StopsBy}
-use Rattle.build_commands.specs.Deeds.{Deed, IsFaultOf}
-use Rattle.fz_top.specs.Runs.{CanBeDone, DeedsHaveNoFault, HasNoFault, Faulted, IsMade, Untouched, IsReadFault}
+use Rattle.build_commands.specs.SeenOutputs.{SeenOutput, IsFaultOf}
+use Rattle.fz_top.specs.Runs.{CanBeDone, OutputsHaveNoFault, HasNoFault, Faulted, IsMade, Untouched, IsReadFault}
 use Rattle.fz_top.specs.Runs.{IsTooLong, IsWriteFault, Settles, status_of, IsReady, AreKnown, FileFits, World, world}
 use Rattle.fz_top.specs.Runs.{Worked, Delivered, WriteFailed, PutFailed, ChangesOnly, IsWritten, Runs}
 use Rattle.fz_top.specs.declared.command.Command.{Command}
@@ -25,31 +25,31 @@ use Rattle.fz_top.proofs.StatusLemmas.{Kind, done, failed_read, failed_write, ki
 use Rattle.fz_top.proofs.StatusLemmas.{no_memory, of_contents}
 
 -- what was read and made, before anything is written
-pub record Made (words : List Text) (f0 f1 : Names) (k0 k1 : Counts) (a0 a1 : Log) (deed : Deed) : Type 0 where
+pub record Made (words : List Text) (f0 f1 : Names) (k0 k1 : Counts) (a0 a1 : Log) (output : SeenOutput) : Type 0 where
   pub command : Command
   pub is : command_in words ≡ Some command
   pub contents : List (List ℕ)
   pub files : f1 ≡ f0
   pub whole : ReadsWhole words (inputs_of command) f0 k0 k1 a0 a1 contents
-  pub outcome : Makes command contents (Ok deed)
+  pub outcome : Makes command contents (Ok output)
 
 pub make : (words : List Text) (f0 f1 : Names) (k0 k1 : Counts) (a0 a1 : Log) (command : Command) (places : List ℕ)
-    (contents slice : List (Vec ℕ Global)) (deed : Deed)
+    (contents slice : List (Vec ℕ Global)) (output : SeenOutput)
     → Some command ≡ command_in words → f1 ≡ f0 → places ≡ inputs_of command
     → ReadsWhole words places f0 k0 k1 a0 a1 (bytes_of contents) → slice ≡ contents
-    → Makes command (bytes_of slice) (Ok deed) → Made words f0 f1 k0 k1 a0 a1 deed
-make words f0 f1 k0 k1 a0 a1 command places contents slice deed is files at whole same outcome = record {
+    → Makes command (bytes_of slice) (Ok output) → Made words f0 f1 k0 k1 a0 a1 output
+make words f0 f1 k0 k1 a0 a1 command places contents slice output is files at whole same outcome = record {
   command = command;
   is = sym is;
   contents = bytes_of contents;
   files = files;
   whole = subst (λ (ps : List ℕ). ReadsWhole words ps f0 k0 k1 a0 a1 (bytes_of contents)) at whole;
-  outcome = subst (λ (cs : List (Vec ℕ Global)). Makes command (bytes_of cs) (Ok deed)) same outcome;
+  outcome = subst (λ (cs : List (Vec ℕ Global)). Makes command (bytes_of cs) (Ok output)) same outcome;
 }
 
 module _ (words : List Text) (f0 f1 f2 : Names) (k0 k1 k2 : Counts) (a0 a1 a2 : Log) (t0 t2 : Option Taken)
-    (e0 e2 : ℕ) (deed : Deed) (made : Made words f0 f1 k0 k1 a0 a1 deed) (asked : a2 ≡ a1) where
-  worked : Worked words (world f0 k0 a0 t0 e0) (world f2 k2 a2 t2 e2) (Ok deed)
+    (e0 e2 : ℕ) (output : SeenOutput) (made : Made words f0 f1 k0 k1 a0 a1 output) (asked : a2 ≡ a1) where
+  worked : Worked words (world f0 k0 a0 t0 e0) (world f2 k2 a2 t2 e2) (Ok output)
   worked = record {
     command = made.command;
     is = made.is;
@@ -59,16 +59,16 @@ module _ (words : List Text) (f0 f1 f2 : Names) (k0 k1 k2 : Counts) (a0 a1 a2 : 
     outcome = made.outcome;
   }
 
-  written : IsWritten words deed.file f1 f2 → IsWritten words deed.file f0 f2
-  written w = subst (λ (f : Names). IsWritten words deed.file f f2) made.files w
+  written : IsWritten words output.file f1 f2 → IsWritten words output.file f0 f2
+  written w = subst (λ (f : Names). IsWritten words output.file f f2) made.files w
 
-  pub ran : Delivered words deed (world f1 k1 a1 t0 e0) (world f2 k2 a2 t2 e2)
+  pub ran : Delivered words output (world f1 k1 a1 t0 e0) (world f2 k2 a2 t2 e2)
       → Runs words (world f0 k0 a0 t0 e0) (world f2 k2 a2 t2 e2) status.Ok
   ran d = (
-    deed,
+    output,
     worked,
     record {
-      others = subst (λ (f : Names). ChangesOnly words deed.file f f2) made.files d.others;
+      others = subst (λ (f : Names). ChangesOnly words output.file f f2) made.files d.others;
       written =
           written d.written;
       told = d.told;
@@ -77,14 +77,14 @@ module _ (words : List Text) (f0 f1 f2 : Names) (k0 k1 k2 : Counts) (a0 a1 a2 : 
     },
   )
 
-  pub broke : ChangesOnly words deed.file f1 f2
-      → WriteFailed deed (world f1 k1 a1 t0 e0) (world f2 k2 a2 t2 e2)
-      ⊎ PutFailed words deed (world f1 k1 a1 t0 e0) (world f2 k2 a2 t2 e2)
+  pub broke : ChangesOnly words output.file f1 f2
+      → WriteFailed output (world f1 k1 a1 t0 e0) (world f2 k2 a2 t2 e2)
+      ⊎ PutFailed words output (world f1 k1 a1 t0 e0) (world f2 k2 a2 t2 e2)
       → Runs words (world f0 k0 a0 t0 e0) (world f2 k2 a2 t2 e2) status.WriteFault
   broke only (inl w) = (
-    deed,
+    output,
     worked,
-    subst (λ (f : Names). ChangesOnly words deed.file f f2) made.files only,
+    subst (λ (f : Names). ChangesOnly words output.file f f2) made.files only,
     inl record {
       has_file = w.has_file;
       counts = w.counts ∙ ap (λ (k : Counts). record k { writes = k2.writes }) made.whole.counts;
@@ -94,9 +94,9 @@ module _ (words : List Text) (f0 f1 f2 : Names) (k0 k1 k2 : Counts) (a0 a1 a2 : 
     },
   )
   broke only (inr p) = (
-    deed,
+    output,
     worked,
-    subst (λ (f : Names). ChangesOnly words deed.file f f2) made.files only,
+    subst (λ (f : Names). ChangesOnly words output.file f f2) made.files only,
     inr record {
       written = written p.written;
       counts = p.counts ∙ made.whole.counts;
@@ -168,7 +168,7 @@ same_command {a} {b} {o} x y = cc (x, y)
 module _ (words : List Text) (files : Names) (command : Command) (contents : List (List ℕ))
     (is : command_in words ≡ Some command)
     (known : AreKnown files (names_at words (inputs_of command)) contents) where
-  pub makes_same : (other : Command) (cs : List (List ℕ)) (r : Result Deed Status) → command_in words ≡ Some other
+  pub makes_same : (other : Command) (cs : List (List ℕ)) (r : Result SeenOutput Status) → command_in words ≡ Some other
       → AreHeld files (names_at words (inputs_of other)) cs → Makes other cs r → Makes command contents r
   makes_same other cs r other_is held makes =
       let same = same_command other_is is in
@@ -178,14 +178,14 @@ module _ (words : List Text) (files : Names) (command : Command) (contents : Lis
       subst (λ (xs : List (List ℕ)). Makes command xs r) all (subst (λ (c : Command). Makes c cs r) same makes)
 
 pub room_of : (words : List Text) (f0 f1 : Names) (k0 k1 : Counts) (a0 a1 : Log) (t0 : Option Taken) (e0 : ℕ)
-    (deed : Deed) (made : Made words f0 f1 k0 k1 a0 a1 deed) (command : Command) (contents : List (List ℕ))
-    → IsReady words (world f0 k0 a0 t0 e0) command contents → FileFits words deed.file f1
-    × HasRoom t0 (length deed.text)
-room_of words f0 f1 k0 k1 a0 a1 t0 e0 deed made command contents ready =
-    let room = ready.room deed
+    (output : SeenOutput) (made : Made words f0 f1 k0 k1 a0 a1 output) (command : Command) (contents : List (List ℕ))
+    → IsReady words (world f0 k0 a0 t0 e0) command contents → FileFits words output.file f1
+    × HasRoom t0 (length output.text)
+room_of words f0 f1 k0 k1 a0 a1 t0 e0 output made command contents ready =
+    let room = ready.room output
     (makes_same words f0 command contents ready.is ready.known made.command made.contents
-    (Ok deed) made.is made.whole.held made.outcome) in
-    (subst (λ (f : Names). FileFits words deed.file f) (sym made.files) room.0, room.1)
+    (Ok output) made.is made.whole.held made.outcome) in
+    (subst (λ (f : Names). FileFits words output.file f) (sym made.files) room.0, room.1)
 
 known_there : (files : Names) (ns : List Text) (cs : List (List ℕ)) → AreKnown files ns cs → AreThere files ns
 known_there files [] [] known = tt
@@ -206,7 +206,7 @@ not_long files words (b ∷ before) after p (c ∷ cs) known long = not_long fil
 module _ (words : List Text) (old new : World) (command : Command) (contents : List (List ℕ))
     (is : command_in words ≡ Some command)
     (known : AreKnown old.files (names_at words (inputs_of command)) contents) where
-  made_by : (r : Result Deed Status) → Worked words old new r → IsMade (Makes command contents) (status_of r)
+  made_by : (r : Result SeenOutput Status) → Worked words old new r → IsMade (Makes command contents) (status_of r)
   made_by r w =
       (r, makes_same words old.files command contents is known w.command w.contents r w.is w.held w.outcome, refl)
 
@@ -243,16 +243,16 @@ module _ (words : List Text) (old new : World) (command : Command) (contents : L
 abbrev IsDone : Status → Type 0
 IsDone s = (s ≡ status.Ok) ⊎ (s ≡ status.Memory)
 
-pub does : (apart : DeedsHaveNoFault) (words : List Text) (old new : World) (command : Command)
-    (contents : List (List ℕ)) (deed : Deed) → CanBeDone words old.files command contents deed
+pub does : (apart : OutputsHaveNoFault) (words : List Text) (old new : World) (command : Command)
+    (contents : List (List ℕ)) (output : SeenOutput) → CanBeDone words old.files command contents output
     → (s : Status) → Runs words old new s → (IsReadFault s → ⊥) → (IsWriteFault s → ⊥) → IsDone s
-does apart words old new command contents deed can s runs no_read no_write =
+does apart words old new command contents output can s runs no_read no_write =
     go (completes words old new command contents can.is can.known s runs no_read no_write)
   where
     go : IsMade (Makes command contents) s ⊎ (s ≡ status.Memory) → IsDone s
     go (inr memory) = inr memory
     go (inl (Ok made, makes, is)) = inl is
-    go (inl (Err t, makes, is)) = absurd (apart command contents deed t can.makes makes)
+    go (inl (Err t, makes, is)) = absurd (apart command contents output t can.makes makes)
 
 pub no_read_fault : (words : List Text) (old new : World) → HasNoFault old new → (s : Status) → Runs words old new s
     → IsReadFault s → ⊥
@@ -346,7 +346,7 @@ same_cut files words (a ∷ before) after p (b ∷ before') after' q (c ∷ cs) 
     same_cut files words before after p before' after' q cs cs' bytes room rest known_before.2 told long held.2 is_long
 
 module _ (words : List Text) (old new : World) (place : ℕ) (long : IsTooLong words old.files place) where
-  no_work : (r : Result Deed Status) → Worked words old new r → ⊥
+  no_work : (r : Result SeenOutput Status) → Worked words old new r → ⊥
   no_work r w =
       let same = same_command w.is long.is in
       let held : AreHeld old.files (names_at words (inputs_of long.command)) w.contents =

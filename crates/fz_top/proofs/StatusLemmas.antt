@@ -5,7 +5,7 @@ use Rattle.fz_status.specs.Words.{Text}
 use Rattle.fz_status.specs.declared.status.Status.{Status}
 use Rattle.fz_status.specs.declared.status.Status.TheVariants as status
 use Rattle.fz_top.specs.Commands.{Makes}
-use Rattle.build_commands.specs.Deeds.{IsFaultOf}
+use Rattle.build_commands.specs.SeenOutputs.{IsFaultOf}
 use Rattle.fz_top.specs.Runs.{Faulted, IsReadFault, IsWriteFault, Runs, World}
 use Rattle.fz_top.specs.declared.command.Command.{Command}
 

@@ -9,7 +9,7 @@ use Rattle.build_commands.specs.Certify.{CertifyMakes, certify_in, certify_input
 use Rattle.build_commands.specs.Check.{CheckMakes, check_in, check_inputs}
 use Rattle.build_commands.specs.Compile.{CompileMakes, compile_in, compile_inputs}
 use Rattle.run_commands.specs.Debug.{DebugMakes, debug_files, debug_in, debug_inputs}
-use Rattle.build_commands.specs.Deeds.{Deed}
+use Rattle.build_commands.specs.SeenOutputs.{SeenOutput}
 use Rattle.build_commands.specs.Exec.{ExecMakes, exec_in, exec_inputs}
 use Rattle.run_commands.specs.Generate.{GenerateMakes, generate_in, generate_inputs}
 use Rattle.build_commands.specs.Hcheck.{HcheckMakes, hcheck_inputs}
@@ -86,7 +86,7 @@ inputs_of Scompile = scompile_inputs
 inputs_of (Srun srun) = srun_inputs
 
 -- what the command makes of the contents of its files
-unfoldable pub Makes : Command → List (List ℕ) → Result Deed Status → Type 0
+unfoldable pub Makes : Command → List (List ℕ) → Result SeenOutput Status → Type 0
 Makes Asm contents r = AsmMakes (content_at contents 0) r
 Makes (Certify certify) contents r = CertifyMakes certify (content_at contents 0) r
 Makes (Check check) contents r = CheckMakes check (content_at contents 0) (content_at contents 1) r

@@ -9,7 +9,7 @@ use Rattle.fz_shelf.specs.Reading.{Counts}
 use Rattle.fz_status.specs.Words.{Text, word_at}
 use Rattle.fz_top.specs.Commands.{Makes, command_in, inputs_of}
 use Rattle.fz_top.specs.Reads.{AreHeld, names_at, whole_entries, StopsBy}
-use Rattle.build_commands.specs.Deeds.{Deed}
+use Rattle.build_commands.specs.SeenOutputs.{SeenOutput}
 use Rattle.fz_top.specs.declared.command.Command.{Command}
 use Rattle.fz_top.specs.declared.reading.Stop.{Stop}
 use Rattle.fz_top.specs.declared.reading.Stop.TheVariants as stop
@@ -42,30 +42,30 @@ FileFits words None files = Unit {0}
 FileFits words (Some p) files = Fits (files (word_at words p.0)) (length p.1)
 
 -- all is written and put
-pub record Delivered (words : List Text) (deed : Deed) (old new : World) : Type 0 where
-  pub others : ChangesOnly words deed.file old.files new.files
-  pub written : IsWritten words deed.file old.files new.files
-  pub told : new.told ≡ gained old.told deed.text
+pub record Delivered (words : List Text) (output : SeenOutput) (old new : World) : Type 0 where
+  pub others : ChangesOnly words output.file old.files new.files
+  pub written : IsWritten words output.file old.files new.files
+  pub told : new.told ≡ gained old.told output.text
   pub counts : new.counts ≡ old.counts
   pub faults : new.faults ≡ old.faults
 
 -- the write failed, and nothing was put
-pub record WriteFailed (deed : Deed) (old new : World) : Type 0 where
-  pub has_file : is_some deed.file ≡ true
+pub record WriteFailed (output : SeenOutput) (old new : World) : Type 0 where
+  pub has_file : is_some output.file ≡ true
   pub counts : new.counts ≡ record old.counts { writes = new.counts.writes }
   pub rose : Rose old.counts.writes new.counts.writes
   pub told : new.told ≡ old.told
   pub faults : new.faults ≡ old.faults
 
 -- a put failed, and OUT is whole
-pub record PutFailed (words : List Text) (deed : Deed) (old new : World) : Type 0 where
-  pub written : IsWritten words deed.file old.files new.files
+pub record PutFailed (words : List Text) (output : SeenOutput) (old new : World) : Type 0 where
+  pub written : IsWritten words output.file old.files new.files
   pub counts : new.counts ≡ old.counts
   pub rose : Rose old.faults new.faults
-  pub part : GainedPart old.told new.told deed.text
+  pub part : GainedPart old.told new.told output.text
 
 -- the command of the words, the contents that its files have where the shelf tells them, and what it makes of them
-pub record Worked (words : List Text) (old new : World) (r : Result Deed Status) : Type 0 where
+pub record Worked (words : List Text) (old new : World) (r : Result SeenOutput Status) : Type 0 where
   pub command : Command
   pub is : command_in words ≡ Some command
   pub contents : List (List ℕ)
@@ -95,11 +95,11 @@ pub record Faulted (words : List Text) (old new : World) (s : Status) : Type 0 w
 
 -- the table of statuses
 abbrev pub Runs : List Text → World → World → Status → Type 0
-Runs words old new status.Ok = (deed : Deed) × Worked words old new (Ok deed) × Delivered words deed old new
+Runs words old new status.Ok = (output : SeenOutput) × Worked words old new (Ok output) × Delivered words output old new
 Runs words old new status.Usage = (command_in words ≡ None) × (new ≡ old)
 Runs words old new (status.ReadFault p) = Refused words old new (stop.Failed p)
-Runs words old new status.WriteFault = (deed : Deed) × Worked words old new (Ok deed)
-    × ChangesOnly words deed.file old.files new.files × (WriteFailed deed old new ⊎ PutFailed words deed old new)
+Runs words old new status.WriteFault = (output : SeenOutput) × Worked words old new (Ok output)
+    × ChangesOnly words output.file old.files new.files × (WriteFailed output old new ⊎ PutFailed words output old new)
 Runs words old new status.Memory = (new.counts ≡ old.counts) × Untouched old new
 Runs words old new (status.TooLong p) = Refused words old new (stop.TooLong p)
 Runs words old new s = Faulted words old new s
@@ -112,9 +112,9 @@ AreKnown files (n ∷ ns) [] = ⊥
 AreKnown files (n ∷ ns) (c ∷ cs) = ((room : ℕ) × (files n ≡ known c room)) × (length c ≤ 1048576) × AreKnown files ns cs
 
 -- there is room for what the command writes and puts, whatever that is
-abbrev pub RoomFor : List Text → Names → Option Taken → (Result Deed Status → Type 0) → Type 0
+abbrev pub RoomFor : List Text → Names → Option Taken → (Result SeenOutput Status → Type 0) → Type 0
 RoomFor words files told makes =
-    (deed : Deed) → makes (Ok deed) → FileFits words deed.file files × HasRoom told (length deed.text)
+    (output : SeenOutput) → makes (Ok output) → FileFits words output.file files × HasRoom told (length output.text)
 
 -- the words are of a command whose files are told, and there is room
 pub record IsReady (words : List Text) (old : World) (command : Command) (contents : List (List ℕ)) : Type 0 where
@@ -122,12 +122,12 @@ pub record IsReady (words : List Text) (old : World) (command : Command) (conten
   pub known : AreKnown old.files (names_at words (inputs_of command)) contents
   pub room : RoomFor words old.files old.told (Makes command contents)
 
--- the words are of a command whose files are told, and the contents make a deed
+-- the words are of a command whose files are told, and the contents make an output
 pub record CanBeDone (words : List Text) (files : Names) (command : Command) (contents : List (List ℕ))
-    (deed : Deed) : Type 0 where
+    (output : SeenOutput) : Type 0 where
   pub is : command_in words ≡ Some command
   pub known : AreKnown files (names_at words (inputs_of command)) contents
-  pub makes : Makes command contents (Ok deed)
+  pub makes : Makes command contents (Ok output)
 
 -- no read, write or put failed
 pub record HasNoFault (old new : World) : Type 0 where
@@ -150,8 +150,8 @@ pub record IsTooLong (words : List Text) (files : Names) (place : ℕ) : Type 0 
   pub told : files (word_at words place) ≡ known bytes room
   pub long : 1048576 < length bytes
 
-abbrev pub status_of : Result Deed Status → Status
-status_of (Ok deed) = status.Ok
+abbrev pub status_of : Result SeenOutput Status → Status
+status_of (Ok output) = status.Ok
 status_of (Err s) = s
 
 abbrev pub IsReadFault : Status → Type 0
@@ -163,14 +163,14 @@ IsWriteFault status.WriteFault = Unit {0}
 IsWriteFault _ = ⊥
 
 -- the status is one that the contents make
-abbrev pub IsMade : (Result Deed Status → Type 0) → Status → Type 0
-IsMade makes s = (r : Result Deed Status) × makes r × (s ≡ status_of r)
+abbrev pub IsMade : (Result SeenOutput Status → Type 0) → Status → Type 0
+IsMade makes s = (r : Result SeenOutput Status) × makes r × (s ≡ status_of r)
 
 -- the same, but for want of memory and faults of the shelf and out
-abbrev pub Settles : (Result Deed Status → Type 0) → Status → Type 0
+abbrev pub Settles : (Result SeenOutput Status → Type 0) → Status → Type 0
 Settles makes s = IsMade makes s ⊎ ((s ≡ status.Memory) ⊎ (IsReadFault s ⊎ IsWriteFault s))
 
--- Contents that make a deed make no fault.
-abbrev pub DeedsHaveNoFault : Type 0
-DeedsHaveNoFault = (command : Command) (contents : List (List ℕ)) (deed : Deed) (s : Status)
-    → Makes command contents (Ok deed) → Makes command contents (Err s) → ⊥
+-- Contents that make an output make no fault.
+abbrev pub OutputsHaveNoFault : Type 0
+OutputsHaveNoFault = (command : Command) (contents : List (List ℕ)) (output : SeenOutput) (s : Status)
+    → Makes command contents (Ok output) → Makes command contents (Err s) → ⊥

@@ -9,14 +9,14 @@ ghost use Rattle.fz_words.specs.App.{IsRefused};
 ghost use Rattle.fz_status.specs.Words.{texts_of};
 ghost use Rattle.build_commands.specs.Contents.{bytes_of};
 ghost use Rattle.fz_top.specs.Commands.{IsUsage, Makes, command_in, form_of, inputs_of, name_in, table};
-ghost use Rattle.build_commands.specs.Deeds.{IsResultOf};
+ghost use Rattle.build_commands.specs.SeenOutputs.{IsResultOf};
 
 use build_commands::certify::{self, Certify};
 use build_commands::check::{self, Check};
 use build_commands::compile::{self, Compile};
 use build_commands::contents::content;
 use build_commands::exec::{self, Exec};
-use build_commands::work::Work;
+use build_commands::output::Output;
 use build_commands::{asm, hcheck, lcompile, mcompile, scompile};
 use eval_code::Width;
 use form_commands::hrun::{self, Hrun};
@@ -173,7 +173,7 @@ impl Command {
 
     /// What the command makes of its files' contents.
     #[tactic(auto, unfolding(crate::specs::Commands::Makes))]
-    pub(crate) fn work(self, alloc: Global, contents: &[Vec<u8>]) -> Result<Work, Status>
+    pub(crate) fn work(self, alloc: Global, contents: &[Vec<u8>]) -> Result<Output, Status>
         requires { All (λ c. length c.items ≤ 1048576) contents.now }
         ensures { IsResultOf (Makes self (bytes_of contents.now)) result }
     {

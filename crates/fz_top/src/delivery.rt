@@ -2,36 +2,37 @@
 ghost use Rattle.std.specs.Prelude.{◌≡◌, ◌⊎◌, length, OnOk, OnErr, IsOk};
 ghost use Rattle.fz_shelf.specs.Told.{HasRoom};
 ghost use Rattle.fz_status.specs.Words.{texts_of};
-ghost use Rattle.build_commands.specs.Deeds.{deed_of};
+ghost use Rattle.build_commands.specs.SeenOutputs.{seen_output};
 ghost use Rattle.fz_top.specs.Runs.{world, ChangesOnly, FileFits, Delivered, WriteFailed, PutFailed};
 
-use build_commands::work::Work;
+use build_commands::output::Output;
 use fz_shelf::{Failed, Shelf, Sink, put_lines};
 use fz_status::word;
 
 /// Writes the file, if there is one, and then puts the lines.
 pub(crate) fn deliver<S: Shelf, O: Sink>(
     words: &[String],
-    work: &Work,
+    work: &Output,
     shelf: &mut S,
     out: &mut O,
 ) -> Result<(), Failed>
-    ensures others { ChangesOnly (texts_of words.now) (deed_of work.now).file (S.files shelf.old) (S.files shelf.new) }
+    ensures others { ChangesOnly (texts_of words.now) (seen_output work.now).file
+        (S.files shelf.old) (S.files shelf.new) }
     ensures asked { S.asked shelf.new ≡ S.asked shelf.old }
-    ensures done { OnOk result (Delivered (texts_of words.now) (deed_of work.now)
+    ensures done { OnOk result (Delivered (texts_of words.now) (seen_output work.now)
         (world (S.files shelf.old) (S.counts shelf.old) (S.asked shelf.old) (O.told out.old) (O.faults out.old))
         (world (S.files shelf.new) (S.counts shelf.new) (S.asked shelf.new) (O.told out.new) (O.faults out.new))) }
-    ensures failed { OnErr result (WriteFailed (deed_of work.now)
+    ensures failed { OnErr result (WriteFailed (seen_output work.now)
         (world (S.files shelf.old) (S.counts shelf.old) (S.asked shelf.old) (O.told out.old) (O.faults out.old))
         (world (S.files shelf.new) (S.counts shelf.new) (S.asked shelf.new) (O.told out.new) (O.faults out.new))
-        ⊎ PutFailed (texts_of words.now) (deed_of work.now)
+        ⊎ PutFailed (texts_of words.now) (seen_output work.now)
         (world (S.files shelf.old) (S.counts shelf.old) (S.asked shelf.old) (O.told out.old) (O.faults out.old))
         (world (S.files shelf.new) (S.counts shelf.new) (S.asked shelf.new) (O.told out.new) (O.faults out.new))) }
     ensures shelf_sound { S.sound shelf.old → S.sound shelf.new }
     ensures out_sound { O.sound out.old → O.sound out.new }
     ensures steady { S.sound shelf.old → O.sound out.old
-        → FileFits (texts_of words.now) (deed_of work.now).file (S.files shelf.old)
-        → HasRoom (O.told out.old) (length (deed_of work.now).text) → IsOk result }
+        → FileFits (texts_of words.now) (seen_output work.now).file (S.files shelf.old)
+        → HasRoom (O.told out.old) (length (seen_output work.now).text) → IsOk result }
 {
     match &work.file {
         Some((place, bytes)) => match shelf.write(word(words, *place), bytes) {

@@ -1,5 +1,5 @@
 //! Laws of what commands make, each the contract of a function that does nothing.
-ghost use Rattle.fz_top.specs.Runs.{DeedsHaveNoFault};
+ghost use Rattle.fz_top.specs.Runs.{OutputsHaveNoFault};
 
 use build_commands::asm::assembled_sources_have_no_fault;
 use build_commands::certify::certified_texts_have_no_fault;
@@ -18,9 +18,9 @@ use run_commands::debug::debugged_runs_have_no_fault;
 use run_commands::generate::generated_runs_have_no_fault;
 use run_commands::run::certified_runs_have_no_fault;
 
-/// Contents that make a deed make no fault.
-pub(crate) fn deeds_have_no_fault()
-    ensures { DeedsHaveNoFault }
+/// Contents that make an output make no fault.
+pub(crate) fn outputs_have_no_fault()
+    ensures { OutputsHaveNoFault }
 {
     assembled_sources_have_no_fault();
     certified_texts_have_no_fault();

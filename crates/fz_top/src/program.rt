@@ -3,7 +3,7 @@ ghost use Rattle.std.specs.Prelude.{◌≡◌, ◌⊎◌, ◌↔◌, length, Non
 ghost use Rattle.fz_shelf.specs.Told.{gained, HasRoom};
 ghost use Rattle.fz_status.specs.Words.{texts_of};
 ghost use Rattle.fz_top.specs.Commands.{command_in, inputs_of, IsUsage, Makes};
-ghost use Rattle.build_commands.specs.Deeds.{Deed};
+ghost use Rattle.build_commands.specs.SeenOutputs.{SeenOutput};
 ghost use Rattle.fz_top.specs.Reads.{names_at, AreThere};
 ghost use Rattle.fz_top.specs.Runs.{world, Runs, IsReady, IsReadFault, IsWriteFault, IsTooLong, AreKnown, CanBeDone};
 ghost use Rattle.fz_top.specs.Runs.{HasNoFault, IsMade, RoomFor, Settles};
@@ -13,7 +13,7 @@ ghost use Rattle.fz_top.specs.declared.command.Command.{Command};
 
 use crate::command::command_of;
 use crate::delivery::deliver;
-use crate::laws::deeds_have_no_fault;
+use crate::laws::outputs_have_no_fault;
 use crate::reading::{Stop, read_all};
 use fz_shelf::{Shelf, Sink};
 use fz_status::{Status, report};
@@ -95,10 +95,10 @@ pub fn fuzz12<S: Shelf, O: Sink, F: Sink>(
         command contents
         → IsMade (Makes command contents) result ⊎ (result ≡ Status.Memory) }
 
-    // where the contents make a deed it is done, unless a count rose, and also where the shelf and
+    // where the contents make an output it is done, unless a count rose, and also where the shelf and
     // out are sound with room
-    ensures done { (command : Command) (contents : List (List ℕ)) (deed : Deed)
-        → CanBeDone (texts_of words.now) (S.files shelf.old) command contents deed
+    ensures done { (command : Command) (contents : List (List ℕ)) (output : SeenOutput)
+        → CanBeDone (texts_of words.now) (S.files shelf.old) command contents output
         → HasNoFault
         (world (S.files shelf.old) (S.counts shelf.old) (S.asked shelf.old) (O.told out.old) (O.faults out.old))
         (world (S.files shelf.new) (S.counts shelf.new) (S.asked shelf.new) (O.told out.new) (O.faults out.new))
@@ -118,7 +118,7 @@ pub fn fuzz12<S: Shelf, O: Sink, F: Sink>(
     ensures out_sound { O.sound out.old → O.sound out.new }
     ensures err_sound { F.sound err.old → F.sound err.new }
 {
-    deeds_have_no_fault();
+    outputs_have_no_fault();
     let status = run(alloc, words, shelf, out);
     report(err, words, &status);
     status

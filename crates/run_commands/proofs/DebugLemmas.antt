@@ -23,14 +23,14 @@ use Rattle.build_commands.specs.Firmwares.{GivesFirmware}
 use Rattle.run_reports.specs.Inputs.{sample_refusals}
 use Rattle.run_commands.specs.Debug.{DebugFiles, DebugGives, Debugs, debug_lines, debug_refusals, run_positions}
 use Rattle.run_commands.specs.Debug.{shown_line}
-use Rattle.build_commands.specs.Deeds.{Deed}
+use Rattle.build_commands.specs.SeenOutputs.{SeenOutput}
 use Rattle.build_commands.specs.Lines.{counted}
 use Rattle.run_reports.specs.RowLines.{row_lines}
 use Rattle.run_commands.specs.declared.debug.DebugRun.{DebugRun}
 use Rattle.run_reports.specs.Laws.{SpelledBytesFit}
 use Rattle.build_commands.proofs.Algebra.{counted-map}
 
-abbrev pub only_text : List ℕ → Deed
+abbrev pub only_text : List ℕ → SeenOutput
 only_text t = record { text = t; file = None }
 
 -- what the debugger answers of accepted files, and its lines
@@ -65,7 +65,7 @@ gives fit debug files block firmware samples slice plan script orders items item
           same ran;
       follows = all block a.compiled.spelled.valid a.compiled.limits a.compiled.compiled
           (fit block files.trace samples a.in_range);
-      deed_is = ap only_text (written ∙ ap₂ debug_lines shown_is same_rows);
+      output_is = ap only_text (written ∙ ap₂ debug_lines shown_is same_rows);
     }
 
 -- what refuses the trace or the plan refuses the run

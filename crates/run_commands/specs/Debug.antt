@@ -21,7 +21,7 @@ use Rattle.debug_script.specs.declared.order.Order.{Order}
 use Rattle.debug_script.specs.declared.shown.Shown.{Shown}
 use Rattle.debug_script.specs.declared.shown.Shown.TheVariants.{Stop, Registers, Bytes}
 use Rattle.build_commands.specs.Contents.{content_at}
-use Rattle.build_commands.specs.Deeds.{Deed}
+use Rattle.build_commands.specs.SeenOutputs.{SeenOutput}
 use Rattle.build_commands.specs.Firmwares.{GivesFirmware, OfFirmware, RefusesText}
 use Rattle.build_commands.specs.Images.{RefusesImage}
 use Rattle.build_commands.specs.Lines.{counted, with_registers}
@@ -99,7 +99,7 @@ run_positions firmware flags samples plan =
 
 -- The lines are what the script shows over the positions of that run, and then its rows: they are those of the run
 -- without the script, whose answers and counts are those without interrupts.
-pub record DebugGives (debug : DebugRun) (files : DebugFiles) (deed : Deed) : Type 0 where
+pub record DebugGives (debug : DebugRun) (files : DebugFiles) (output : SeenOutput) : Type 0 where
   pub block : Block
   pub firmware : Firmware
   pub samples : List Sample
@@ -109,7 +109,7 @@ pub record DebugGives (debug : DebugRun) (files : DebugFiles) (deed : Deed) : Ty
   pub rows : List (RowSeen (List ℕ))
   pub ran : rows ≡ (firmware_rows firmware (map input_bytes samples) plan debug.flags).rows
   pub follows : AnswersUnder block firmware debug.flags (map input_bytes samples) plan rows
-  pub deed_is : deed ≡ record {
+  pub output_is : output ≡ record {
     text = debug_lines (shown script (run_positions firmware debug.flags samples plan)) rows;
     file = None;
   }
@@ -127,6 +127,6 @@ debug_refusals files (status.Script n) = OfFirmware Byte files.fcl (λ block fir
 debug_refusals files s = OfFirmware Byte files.fcl (λ block firmware.
     GivesImage files.image firmware.image × sample_refusals block files.trace files.plan s)
 
-abbrev pub DebugMakes : DebugRun → DebugFiles → Result Deed Status → Type 0
-DebugMakes debug files (Ok deed) = DebugGives debug files deed
+abbrev pub DebugMakes : DebugRun → DebugFiles → Result SeenOutput Status → Type 0
+DebugMakes debug files (Ok output) = DebugGives debug files output
 DebugMakes debug files (Err s) = Refuses (debug_refusals files) s

@@ -19,7 +19,7 @@ use Rattle.fz_status.specs.declared.status.Status.{Status}
 use Rattle.fz_status.specs.declared.status.Status.TheVariants as status
 use Rattle.run_reports.specs.Reports.{IsReportOf, Report}
 use Rattle.build_commands.specs.Certify.{StopsHalving}
-use Rattle.build_commands.specs.Deeds.{Deed}
+use Rattle.build_commands.specs.SeenOutputs.{SeenOutput}
 use Rattle.build_commands.specs.Firmwares.{GivesFirmware}
 use Rattle.build_commands.specs.Lines.{counted, error_line, line}
 use Rattle.build_commands.specs.Words.{number_up_to}
@@ -66,7 +66,7 @@ generated_target = 400000
 -- have a byte, and the certificate is that of its halving, accepted with its claims as errors. The report is of the
 -- firmware's run over the samples under the interrupts, with FLAGS 00: as `run` reports it of these texts, of the
 -- image's records and of the certificate's text.
-pub record GenerateGives (number : ℕ) (deed : Deed) : Type 0 where
+pub record GenerateGives (number : ℕ) (output : SeenOutput) : Type 0 where
   pub text : List ℕ
   pub trace : List ℕ
   pub plan : List ℕ
@@ -81,7 +81,7 @@ pub record GenerateGives (number : ℕ) (deed : Deed) : Type 0 where
   pub report : Report
   pub errors : report.errors ≡ cert.claims
   pub reported : IsReportOf Byte 0 block firmware samples requests report
-  pub deed_is : deed ≡ record { text = generate_lines number report.errors report.bound report.rows; file = None }
+  pub output_is : output ≡ record { text = generate_lines number report.errors report.bound report.rows; file = None }
 
 -- there is none where halving stops at a block that the number draws
 abbrev pub generate_refusals : ℕ → Refusals
@@ -89,6 +89,6 @@ generate_refusals number (status.NotReached stop) =
     (block : Block) × IsDrawnBlock (draw number 0 5) block × StopsHalving Byte generated_target block stop
 generate_refusals number s = ⊥
 
-abbrev pub GenerateMakes : Generate → Result Deed Status → Type 0
-GenerateMakes generate (Ok deed) = GenerateGives generate.number deed
+abbrev pub GenerateMakes : Generate → Result SeenOutput Status → Type 0
+GenerateMakes generate (Ok output) = GenerateGives generate.number output
 GenerateMakes generate (Err s) = Refuses (generate_refusals generate.number) s

@@ -7,7 +7,7 @@ use Rattle.eval_code.specs.declared.width.Width.{Width}
 use Rattle.interrupt_plan.specs.declared.Request.{Request}
 use Rattle.trace_io.specs.declared.sample.Sample.{Sample}
 use Rattle.srecord.specs.Texts.{GivesImage}
-use Rattle.build_commands.specs.Deeds.{Deed}
+use Rattle.build_commands.specs.SeenOutputs.{SeenOutput}
 use Rattle.build_commands.specs.Firmwares.{GivesFirmware, OfFirmware, RefusesText}
 use Rattle.build_commands.specs.Images.{RefusesImage}
 use Rattle.build_commands.specs.Lines.{counted, line}
@@ -59,10 +59,10 @@ pub record Accepts (width : Width) (files : Files) (block : Block) (firmware : F
   pub inputs : AcceptsInputs width block files.cert files.trace files.plan errors samples plan
 
 -- the run is certified, and the lines are those of its report and of what it leaves
-pub record RunGives (run : Run) (files : Files) (deed : Deed) : Type 0 where
+pub record RunGives (run : Run) (files : Files) (output : SeenOutput) : Type 0 where
   pub report : Report
   pub certified : CertifiedRun run.width run.flags files report
-  pub deed_is : deed ≡ record { text = run_lines report certified.left; file = None }
+  pub output_is : output ≡ record { text = run_lines report certified.left; file = None }
 
 -- why FCL is refused; why IMAGE is, FCL giving firmware; and why the files behind are, IMAGE holding its image
 abbrev pub run_refusals : Run → Files → Refusals
@@ -72,6 +72,6 @@ run_refusals run files (status.Image f) =
 run_refusals run files s = OfFirmware run.width files.fcl (λ block firmware.
     GivesImage files.image firmware.image × input_refusals run.width block files.cert files.trace files.plan s)
 
-abbrev pub RunMakes : Run → Files → Result Deed Status → Type 0
-RunMakes run files (Ok deed) = RunGives run files deed
+abbrev pub RunMakes : Run → Files → Result SeenOutput Status → Type 0
+RunMakes run files (Ok output) = RunGives run files output
 RunMakes run files (Err s) = Refuses (run_refusals run files) s

@@ -5,15 +5,15 @@ ghost use Rattle.fz_status.specs.Refusals.{IsRefusal};
 ghost use Rattle.fz_status.specs.Words.{texts_of};
 ghost use Rattle.build_commands.specs.Contents.{bytes_of};
 ghost use Rattle.run_commands.specs.Debug.{DebugFiles, DebugMakes, Debugs, debug_files, debug_in, debug_refusals};
-ghost use Rattle.build_commands.specs.Deeds.{DeedHasNoFault, IsResultOf};
+ghost use Rattle.build_commands.specs.SeenOutputs.{OutputHasNoFault, IsResultOf};
 ghost use Rattle.run_commands.specs.declared.debug.DebugRun.{DebugRun as TheDebug};
 
 use crate::shown_lines::lines;
 use build_commands::contents::content;
 use build_commands::firmware::{Compiled, firmware_of, spelled_texts_have_no_fault};
 use build_commands::images::{firmware_images_have_no_fault, require_image};
+use build_commands::output::Output;
 use build_commands::words::flags;
-use build_commands::work::Work;
 use debug_script::{Script, ScriptFault, debug, read_script};
 use eval_code::Width;
 use fz_status::{Status, word};
@@ -55,7 +55,7 @@ impl DebugRun {
 
     /// Runs the samples of the trace under the plan and obeys the script on the way, once all files
     /// are accepted, and writes down what the script shows and what came of the samples.
-    pub fn work(self, alloc: Global, contents: &[Vec<u8>]) -> Result<Work, Status>
+    pub fn work(self, alloc: Global, contents: &[Vec<u8>]) -> Result<Output, Status>
         requires { All (λ c. length c.items ≤ 1048576) contents.now }
         ensures { IsResultOf (DebugMakes self (debug_files (bytes_of contents.now))) result }
     {
@@ -71,7 +71,7 @@ impl DebugRun {
             accepted.script.as_slice(),
         )?;
         let lines = lines(alloc, &shown, &rows)?;
-        Ok(Work { lines, file: None })
+        Ok(Output { lines, file: None })
     }
 
     /// What the files give, or the first fault in their order.
@@ -102,9 +102,9 @@ impl DebugRun {
     }
 }
 
-/// Files that make a deed make no fault.
+/// Files that make an output make no fault.
 pub fn debugged_runs_have_no_fault()
-    ensures { (debug : TheDebug) (files : DebugFiles) → DeedHasNoFault (DebugMakes debug files) }
+    ensures { (debug : TheDebug) (files : DebugFiles) → OutputHasNoFault (DebugMakes debug files) }
 {
     spelled_texts_have_no_fault();
     firmware_images_have_no_fault();

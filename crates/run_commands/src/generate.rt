@@ -7,15 +7,15 @@ ghost use Rattle.codegen.specs.Firmwares.{IsFirmwareOf};
 ghost use Rattle.fz_run.specs.Rows.{row_seen};
 ghost use Rattle.fz_shelf.specs.Lines.{text_of};
 ghost use Rattle.fz_status.specs.Words.{texts_of};
-ghost use Rattle.build_commands.specs.Deeds.{DeedHasNoFault, IsResultOf};
+ghost use Rattle.build_commands.specs.SeenOutputs.{OutputHasNoFault, IsResultOf};
 ghost use Rattle.run_commands.specs.Generate.{GenerateMakes, generate_in, generate_lines};
 ghost use Rattle.run_commands.specs.Generate.{frames_of, resumed_of, answers_of};
 ghost use Rattle.run_commands.specs.declared.generate.Generate.{Generate as TheGenerate};
 
 use build_commands::certify::{halved, halved_blocks_do_not_stop};
 use build_commands::lines::{labelled, push_errors};
+use build_commands::output::Output;
 use build_commands::words::number32_in;
-use build_commands::work::Work;
 use codegen::{Firmware, compile};
 use eval_code::Width;
 use fuzzy_meaning::Block;
@@ -60,7 +60,7 @@ impl Generate {
 
     /// Makes the workload of the number and its block's certificate, runs its samples under its
     /// interrupts, and writes down what came of them.
-    pub fn work(self, alloc: Global) -> Result<Work, Status>
+    pub fn work(self, alloc: Global) -> Result<Output, Status>
         ensures { IsResultOf (GenerateMakes self) result }
     {
         answers_are_reported();
@@ -73,7 +73,7 @@ impl Generate {
         let rows = run(alloc, &firmware, samples, &workload.requests, FLAGS)?;
         let errors = cert.claims.as_slice();
         let lines = lines(alloc, self.number, errors, firmware.instr_bound, &rows)?;
-        Ok(Work { lines, file: None })
+        Ok(Output { lines, file: None })
     }
 }
 
@@ -150,9 +150,9 @@ fn lines(
     Ok(lines)
 }
 
-/// A number that makes a deed makes no fault.
+/// A number that makes an output makes no fault.
 pub fn generated_runs_have_no_fault()
-    ensures { (generate : TheGenerate) → DeedHasNoFault (GenerateMakes generate) }
+    ensures { (generate : TheGenerate) → OutputHasNoFault (GenerateMakes generate) }
 {
     drawn_blocks_are_one();
     halved_blocks_do_not_stop()

@@ -6,7 +6,7 @@ ghost use Rattle.fz_shelf.specs.Lines.{text_of};
 ghost use Rattle.fz_status.specs.Refusals.{IsRefusal};
 ghost use Rattle.fz_status.specs.Words.{texts_of};
 ghost use Rattle.build_commands.specs.Contents.{bytes_of};
-ghost use Rattle.build_commands.specs.Deeds.{DeedHasNoFault, IsResultOf};
+ghost use Rattle.build_commands.specs.SeenOutputs.{OutputHasNoFault, IsResultOf};
 ghost use Rattle.run_reports.specs.Reports.{report_of};
 ghost use Rattle.run_commands.specs.CertifiedRun.{Files, left_of};
 ghost use Rattle.run_commands.specs.Run.{Accepts, RunMakes, files_in, run_in, run_lines, run_refusals};
@@ -16,8 +16,8 @@ use build_commands::contents::content;
 use build_commands::firmware::{Compiled, firmware_of, spelled_texts_have_no_fault};
 use build_commands::images::{firmware_images_have_no_fault, require_image};
 use build_commands::lines::labelled;
+use build_commands::output::Output;
 use build_commands::words::flags;
-use build_commands::work::Work;
 use cpu12_isa::mem::Mem;
 use cpu12_isa::pages::PageMem;
 use eval_code::Width;
@@ -58,7 +58,7 @@ impl Run {
 
     /// Runs the samples of the trace under the plan, once all files are accepted, and writes down what
     /// came of them.
-    pub fn work(self, alloc: Global, contents: &[Vec<u8>]) -> Result<Work, Status>
+    pub fn work(self, alloc: Global, contents: &[Vec<u8>]) -> Result<Output, Status>
         requires { All (λ c. length c.items ≤ 1048576) contents.now }
         ensures { IsResultOf (RunMakes self (files_in (bytes_of contents.now))) result }
     {
@@ -80,7 +80,7 @@ impl Run {
             &rows,
             left_in(&memory),
         )?;
-        Ok(Work { lines, file: None })
+        Ok(Output { lines, file: None })
     }
 
     /// What the files give, or the first fault in their order.
@@ -125,9 +125,9 @@ fn left_in<M: Mem>(memory: &M) -> u32
     sum
 }
 
-/// Files that make a deed make no fault.
+/// Files that make an output make no fault.
 pub fn certified_runs_have_no_fault()
-    ensures { (run : TheRun) (files : Files) → DeedHasNoFault (RunMakes run files) }
+    ensures { (run : TheRun) (files : Files) → OutputHasNoFault (RunMakes run files) }
 {
     spelled_texts_have_no_fault();
     firmware_images_have_no_fault();

@@ -4,8 +4,8 @@ use Rattle.fz_status.specs.declared.status.Status.TheVariants as status
 use Rattle.build_commands.proofs.asm.assembled_sources_have_no_fault.Goals as goal
 
 pub returns : goal.returns
-returns c source deed (status.Asm f) gives is =
+returns c source output (status.Asm f) gives is =
     let yes = gives.assembles.assembled in
     let no : assembled source ≡ Err f = is.1 in
     cc
-returns c source deed s gives is = is.1
+returns c source output s gives is = is.1

@@ -22,14 +22,14 @@ ends_alike images loads ends exec text e f t u one other =
     (subst (λ (s : State). EndsRun exec.flags exec.steps s e t) same one.ends) other.ends).0
 
 pub returns : goal.returns
-returns c exec text deed (status.Image f) gives is =
+returns c exec text output (status.Image f) gives is =
     records_apart c.images_are_one.ensures.no_fault text gives.arrives.image f gives.arrives.spelled is.1
-returns c exec text deed (status.Trap pc byte) gives (carries, (last, ends_so)) =
+returns c exec text output (status.Trap pc byte) gives (carries, (last, ends_so)) =
     let same = ends_alike c.images_are_one.ensures.one c.images_load_alike.ensures c.runs_end_once.ensures exec text
     (end.Arrived gives.steps) (end.Trap pc byte) gives.last last gives.arrives ends_so in
     cc
-returns c exec text deed (status.Budget n) gives (carries, (last, ends_so)) =
+returns c exec text output (status.Budget n) gives (carries, (last, ends_so)) =
     let same = ends_alike c.images_are_one.ensures.one c.images_load_alike.ensures c.runs_end_once.ensures exec text
     (end.Arrived gives.steps) (end.Budget n) gives.last last gives.arrives ends_so in
     cc
-returns c exec text deed s gives is = is.1
+returns c exec text output s gives is = is.1

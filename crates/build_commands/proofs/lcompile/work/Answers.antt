@@ -15,12 +15,12 @@ returns c =
     let fast_bounds = c.alone_has_byte_bounds.ensures both.fast two.fast gives.both.fast_alone in
     let bytes = length two.image.bytes in
     written_makes (LcompileMakes c.args.slow.now c.args.fast.now) two.image 4 (text_of c.in_ok-lines.lines.items)
-    c.written_image.result c.written_image.ensures.writes c.written_image.ensures.memory (λ deed w. record {
+    c.written_image.result c.written_image.ensures.writes c.written_image.ensures.memory (λ output w. record {
       slow_block = both.slow;
       fast_block = both.fast;
       two = two;
       gives = gives;
-      writes = subst (λ (text : List ℕ). WritesImage two.image 4 text deed)
+      writes = subst (λ (text : List ℕ). WritesImage two.image 4 text output)
           (c.in_ok-lines.ensures
           ∙ ap₂ (λ (s f : ℕ). lcompile_lines s (fast_most f) bytes) slow_bounds.instructions
           fast_bounds.instructions) w;

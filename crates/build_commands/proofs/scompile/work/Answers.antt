@@ -10,4 +10,4 @@ returns c =
     firmware_makes (ScompileMakes c.args.fcl.now) (GivesWatched c.args.fcl.now) watched_bound
     c.in_ok-compiled.compiled.block c.in_ok-compiled.compiled.firmware c.in_ok-compiled.ensures.gives (search rules)
     (search rules)
-    c.written_firmware.result c.written_firmware.ensures.writes c.written_firmware.ensures.memory (λ deed w. w)
+    c.written_firmware.result c.written_firmware.ensures.writes c.written_firmware.ensures.memory (λ output w. w)

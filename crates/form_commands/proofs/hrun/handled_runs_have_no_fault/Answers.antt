@@ -3,18 +3,18 @@ use Rattle.fz_status.specs.declared.status.Status.TheVariants as status
 use Rattle.form_commands.proofs.hrun.handled_runs_have_no_fault.Goals as goal
 
 pub returns : goal.returns
-returns c hrun files deed (status.Fcl f) gives is =
+returns c hrun files output (status.Fcl f) gives is =
     let r = gives.certified in
     c.spelled_texts_have_no_fault.ensures files.fcl r.block f r.compiled.spelled r.compiled.limits is.0 is.1
-returns c hrun files deed (status.Image f) gives (carries, (other, others, gives_other, refuses)) =
+returns c hrun files output (status.Image f) gives (carries, (other, others, gives_other, refuses)) =
     let r = gives.certified in
     c.given_handlers_have_no_fault.ensures files.handler r.handler r.instrs (status.Image f) r.handles
     (carries, refuses)
-returns c hrun files deed (status.Handler f) gives (carries, (other, others, gives_other, refuses)) =
+returns c hrun files output (status.Handler f) gives (carries, (other, others, gives_other, refuses)) =
     let r = gives.certified in
     c.given_handlers_have_no_fault.ensures files.handler r.handler r.instrs (status.Handler f) r.handles
     (carries, refuses)
-returns c hrun files deed s gives (carries, (other, others, gives_other, refuses)) =
+returns c hrun files output s gives (carries, (other, others, gives_other, refuses)) =
     let r = gives.certified in
     c.accepted_inputs_have_no_fault.ensures Byte files.fcl files.cert files.trace files.plan r.block other
     gives.report.errors r.samples r.plan s r.compiled.spelled gives_other.spelled

@@ -8,45 +8,45 @@ use Rattle.fz_status.specs.declared.status.Status.TheVariants as status
 use Rattle.form_commands.proofs.lrun.level_runs_have_no_fault.Goals as goal
 
 pub returns : goal.returns
-returns c lrun files deed (status.Fcl f) gives is =
+returns c lrun files output (status.Fcl f) gives is =
     let a = (let r = gives.at_levels in r.accepts) in
     let own = a.compiled.slow_is in
     c.spelled_texts_have_no_fault.ensures files.slow _ f own.spelled own.limits is.0 is.1
-returns c lrun files deed (status.Fast (told.Fcl f)) gives is =
+returns c lrun files output (status.Fast (told.Fcl f)) gives is =
     let a = (let r = gives.at_levels in r.accepts) in
     let own = a.compiled.fast_is in
     c.spelled_texts_have_no_fault.ensures files.fast _ f own.spelled own.limits is.0 is.1.1
-returns c lrun files deed (status.Image f) gives (carries, (slow, fast, two, gives_other, refuses)) =
+returns c lrun files output (status.Image f) gives (carries, (slow, fast, two, gives_other, refuses)) =
     let r = gives.at_levels in
     c.two_images_have_no_fault.ensures files.slow files.fast files.image r.slow r.fast slow fast r.two two f
     r.accepts.compiled gives_other r.accepts.image refuses
-returns c lrun files deed (status.Cert f) gives (carries, (slow, fast, two, gives_other, refuses)) =
+returns c lrun files output (status.Cert f) gives (carries, (slow, fast, two, gives_other, refuses)) =
     let r = gives.at_levels in
     c.accepted_certs_have_no_fault.ensures Byte files.slow files.slow_cert gives.report.errors r.slow slow f
     r.accepts.compiled.slow_is.spelled gives_other.slow_is.spelled r.accepts.certs.slow_accepted refuses.1
-returns c lrun files deed (status.Fast (told.Cert f)) gives (carries, (slow, fast, two, gives_other, refuses)) =
+returns c lrun files output (status.Fast (told.Cert f)) gives (carries, (slow, fast, two, gives_other, refuses)) =
     let r = gives.at_levels in
     c.accepted_certs_have_no_fault.ensures Byte files.fast files.fast_cert gives.report.fast_errors r.fast fast f
     r.accepts.compiled.fast_is.spelled gives_other.fast_is.spelled r.accepts.certs.fast_accepted refuses.1.1
-returns c lrun files deed (status.Trace f) gives (carries, (slow, fast, two, gives_other, refuses)) =
+returns c lrun files output (status.Trace f) gives (carries, (slow, fast, two, gives_other, refuses)) =
     let r = gives.at_levels in
     let same = c.spelled_blocks_are_one.ensures files.slow slow r.slow gives_other.slow_is.spelled
     r.accepts.compiled.slow_is.spelled in
     c.spelled_traces_have_no_fault.ensures slow.inputs files.slow_trace r.samples f
     (subst (λ (is : List Input). Spells is files.slow_trace r.samples) (sym same.inputs) r.accepts.traces.slow_in_range)
     refuses.1.3
-returns c lrun files deed (status.Fast (told.Trace f)) gives (carries, (slow, fast, two, gives_other, refuses)) =
+returns c lrun files output (status.Fast (told.Trace f)) gives (carries, (slow, fast, two, gives_other, refuses)) =
     let r = gives.at_levels in
     let same = c.spelled_blocks_are_one.ensures files.fast fast r.fast gives_other.fast_is.spelled
     r.accepts.compiled.fast_is.spelled in
     c.spelled_traces_have_no_fault.ensures fast.inputs files.fast_trace r.fast_samples f
     (subst (λ (is : List Input). Spells is files.fast_trace r.fast_samples) (sym same.inputs)
     r.accepts.traces.fast_in_range) refuses.1.3.1
-returns c lrun files deed (status.Plan f) gives (carries, (slow, fast, two, gives_other, refuses)) =
+returns c lrun files output (status.Plan f) gives (carries, (slow, fast, two, gives_other, refuses)) =
     let r = gives.at_levels in
     let behind = refuses.1.3 in
     let count = c.spelled_traces_are_one_long.ensures fast.inputs r.fast.inputs files.fast_trace behind.1 r.fast_samples
     behind.2.fast_in_range r.accepts.traces.fast_in_range in
     c.spelled_levels_have_no_fault.ensures _ files.levels r.levels f r.accepts.good_levels
     (subst (λ (n : ℕ). LevelsHaveFault n files.levels f) count behind.3)
-returns c lrun files deed s gives (carries, (slow, fast, two, gives_other, refuses)) = refuses.1.3
+returns c lrun files output s gives (carries, (slow, fast, two, gives_other, refuses)) = refuses.1.3

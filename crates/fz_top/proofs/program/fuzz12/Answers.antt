@@ -40,17 +40,17 @@ returns-clause-usage_always g c = λ is.
     usage_status (texts_of c.args.words.now) old _ _ c.run-status.ensures.runs (c.run-status.ensures.law.1 is)
 
 pub returns-clause-done : goal.returns-clause-done
-returns-clause-done g c = λ command contents deed can why.
+returns-clause-done g c = λ command contents output can why.
     let old = world (g.S.Shelf.files c.args.shelf.now) (g.S.Shelf.counts c.args.shelf.now)
     (g.S.Shelf.asked c.args.shelf.now) (g.O.Sink.told c.args.out.now) (g.O.Sink.faults c.args.out.now) in
     let words = texts_of c.args.words.now in
     let run = c.run-status.ensures in
     elim why [
-      | inl none ↦ does c.deeds_have_no_fault.ensures words old _ command contents deed can _ run.runs
+      | inl none ↦ does c.outputs_have_no_fault.ensures words old _ command contents output can _ run.runs
           (no_read_fault words old _ none _ run.runs) (no_write_fault words old _ none _ run.runs)
       | inr sound ↦
           let ready : IsReady words old command contents = record { is = can.is; known = can.known; room = sound.2 } in
-          does c.deeds_have_no_fault.ensures words old _ command contents deed can _ run.runs
+          does c.outputs_have_no_fault.ensures words old _ command contents output can _ run.runs
           (run.reads_steady sound.0 command can.is (there words old old command contents can.is can.known))
           (run.writes_steady sound.0 sound.1 command contents ready)
     ]

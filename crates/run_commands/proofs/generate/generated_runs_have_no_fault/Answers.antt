@@ -5,10 +5,10 @@ use Rattle.fz_status.specs.declared.status.Status.TheVariants as status
 use Rattle.run_commands.proofs.generate.generated_runs_have_no_fault.Goals as goal
 
 pub returns : goal.returns
-returns c generate deed (status.NotReached stop) gives (carries, (other, drawn_other, stops)) =
+returns c generate output (status.NotReached stop) gives (carries, (other, drawn_other, stops)) =
     let same = c.drawn_blocks_are_one.ensures (draw generate.number 0 5) other gives.block drawn_other
     gives.workload.drawn_block in
     c.halved_blocks_do_not_stop.ensures Byte generated_target gives.block other gives.cert stop
     gives.gives.spelled.valid
     same gives.halving stops
-returns c generate deed s gives is = is.1
+returns c generate output s gives is = is.1

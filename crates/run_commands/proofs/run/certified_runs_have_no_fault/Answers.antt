@@ -2,14 +2,14 @@ use Rattle.fz_status.specs.declared.status.Status.TheVariants as status
 use Rattle.run_commands.proofs.run.certified_runs_have_no_fault.Goals as goal
 
 pub returns : goal.returns
-returns c run files deed (status.Fcl f) gives is =
+returns c run files output (status.Fcl f) gives is =
     let r = gives.certified in
     c.spelled_texts_have_no_fault.ensures files.fcl r.block f r.compiled.spelled r.compiled.limits is.0 is.1
-returns c run files deed (status.Image f) gives (carries, (other, others, gives_other, refuses)) =
+returns c run files output (status.Image f) gives (carries, (other, others, gives_other, refuses)) =
     let r = gives.certified in
     c.firmware_images_have_no_fault.ensures run.width files.fcl files.image r.block other r.firmware others f r.compiled
     gives_other r.image refuses
-returns c run files deed s gives (carries, (other, others, gives_other, refuses)) =
+returns c run files output s gives (carries, (other, others, gives_other, refuses)) =
     let r = gives.certified in
     c.accepted_inputs_have_no_fault.ensures run.width files.fcl files.cert files.trace files.plan r.block other
     gives.report.errors r.samples r.plan s r.compiled.spelled gives_other.spelled

@@ -11,4 +11,4 @@ returns c =
     (instruction_bound c.args.self.width)
     c.in_ok-compiled.compiled.block c.in_ok-compiled.compiled.firmware c.in_ok-compiled.ensures.gives (search rules)
     (search rules)
-    c.written_firmware.result c.written_firmware.ensures.writes c.written_firmware.ensures.memory (λ deed w. w)
+    c.written_firmware.result c.written_firmware.ensures.writes c.written_firmware.ensures.memory (λ output w. w)

@@ -4,7 +4,7 @@ use Rattle.two_level.specs.Images.{fast_most}
 use Rattle.two_runs.specs.Harness.{row_seen}
 use Rattle.two_runs.specs.declared.rows.TwoRow.{TwoRow}
 use Rattle.build_commands.specs.Contents.{bytes_of}
-use Rattle.build_commands.specs.Deeds.{only_text}
+use Rattle.build_commands.specs.SeenOutputs.{only_text}
 use Rattle.form_commands.specs.Lrun.{level_files, level_report, lrun_lines}
 use Rattle.form_commands.proofs.LevelLemmas.{levels_run}
 use Rattle.form_commands.proofs.lrun.Lrun.work.Goals as goal
@@ -29,7 +29,7 @@ returns c =
           a.traces.fast.items a.levels c.in_ok-accepted.ensures.accepted rows
           (rw (c.deref.ensures.value, c.deref-2.ensures.value) at c.in_ok-rows.ensures.rows)
           (rw (c.deref.ensures.value, c.deref-2.ensures.value) at c.in_ok-rows.ensures.answers);
-      deed_is = ap only_text
+      output_is = ap only_text
           (c.in_ok-lines.ensures ∙ (λ i. lines_of (c.deref-3.ensures.value i) (c.deref-4.ensures.value i)
           (c.deref-5.ensures.value i)));
     }

@@ -2,7 +2,7 @@ use Rattle.std.proofs.Common.{ℕ, List, ap, ◌∙◌}
 use Rattle.std.specs.Prelude.{map}
 use Rattle.posted_runs.specs.Runs.{answer_seen, frames_seen}
 use Rattle.build_commands.specs.Contents.{bytes_of}
-use Rattle.build_commands.specs.Deeds.{only_text}
+use Rattle.build_commands.specs.SeenOutputs.{only_text}
 use Rattle.form_commands.specs.Mrun.{mrun_lines, posted_files, posted_report}
 use Rattle.form_commands.proofs.PostedLemmas.{posts_run}
 use Rattle.form_commands.proofs.mrun.Mrun.work.Goals as goal
@@ -25,5 +25,5 @@ returns c =
           (rw c.deref.ensures.value at c.in_ok-told.ensures.answers) (rw c.deref.ensures.value at c.in_ok-told.ensures.frames)
           (rw c.deref.ensures.value at c.in_ok-told.ensures.resumed)
           (rw c.deref.ensures.value at c.in_ok-told.ensures.by_turns);
-      deed_is = ap only_text (c.in_ok-lines.ensures ∙ ap lines_of c.deref-2.ensures.value);
+      output_is = ap only_text (c.in_ok-lines.ensures ∙ ap lines_of c.deref-2.ensures.value);
     }

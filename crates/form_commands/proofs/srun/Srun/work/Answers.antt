@@ -3,7 +3,7 @@ use Rattle.std.specs.Prelude.{map}
 use Rattle.watched_runs.specs.Rows.{row_seen}
 use Rattle.watched_runs.specs.declared.form.WatchedRow.{WatchedRow}
 use Rattle.build_commands.specs.Contents.{bytes_of}
-use Rattle.build_commands.specs.Deeds.{only_text}
+use Rattle.build_commands.specs.SeenOutputs.{only_text}
 use Rattle.build_commands.specs.Lines.{counted}
 use Rattle.build_commands.proofs.Algebra.{counted-map}
 use Rattle.run_reports.specs.RowLines.{begun_lines}
@@ -26,6 +26,6 @@ returns c =
           a.inputs.plan a.upsets (map row_seen c.in_ok-rows.rows.items) c.in_ok-accepted.ensures.accepted
           c.deref.ensures.value
           c.in_ok-rows.ensures.rows c.in_ok-rows.ensures.answers;
-      deed_is = ap only_text (c.in_ok-lines.ensures ∙ ap₂ lines_of c.deref-2.ensures.value c.deref-3.ensures.value
+      output_is = ap only_text (c.in_ok-lines.ensures ∙ ap₂ lines_of c.deref-2.ensures.value c.deref-3.ensures.value
           ∙ ap (λ (l : List ℕ). begun_lines a.inputs.errors.items bound ++ l) (sym each));
     }

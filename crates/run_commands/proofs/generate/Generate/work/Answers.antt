@@ -4,13 +4,13 @@ use Rattle.eval_code.specs.declared.width.Width.TheVariants.{Byte}
 use Rattle.fz_run.specs.Rows.{row_seen}
 use Rattle.fz_run.specs.declared.rows.Row.{Row}
 use Rattle.workload.specs.Draws.{draw}
-use Rattle.build_commands.specs.Deeds.{Deed}
+use Rattle.build_commands.specs.SeenOutputs.{SeenOutput}
 use Rattle.build_commands.specs.Firmwares.{GivesFirmware}
 use Rattle.run_commands.specs.Generate.{generate_lines}
 use Rattle.run_reports.specs.Reports.{report_of}
 use Rattle.run_commands.proofs.generate.Generate.work.Goals as goal
 
-abbrev only_text : List ℕ → Deed
+abbrev only_text : List ℕ → SeenOutput
 only_text t = record { text = t; file = None }
 
 pub compiled-requires-clause-limits : goal.compiled-requires-clause-limits
@@ -53,5 +53,5 @@ returns c =
           w.samples.items w.requests rows gives halving.claims drawn.in_trace
           (rw c.as_slice-samples.ensures.value at c.in_ok-rows.ensures.rows)
           (rw c.as_slice-samples.ensures.value at c.in_ok-rows.ensures.answers);
-      deed_is = ap only_text (c.in_ok-lines.ensures ∙ ap₂ lines_of c.as_slice-errors.ensures c.deref.ensures.value);
+      output_is = ap only_text (c.in_ok-lines.ensures ∙ ap₂ lines_of c.as_slice-errors.ensures c.deref.ensures.value);
     }

@@ -3,14 +3,14 @@ use Rattle.std.specs.Prelude.{None, map}
 use Rattle.fz_run.specs.Rows.{row_seen}
 use Rattle.fz_run.specs.declared.rows.Row.{Row}
 use Rattle.run_commands.specs.CertifiedRun.{left_of}
-use Rattle.build_commands.specs.Deeds.{Deed}
+use Rattle.build_commands.specs.SeenOutputs.{SeenOutput}
 use Rattle.run_commands.specs.Run.{files_in, run_lines}
 use Rattle.run_reports.specs.Reports.{report_of}
 use Rattle.build_commands.specs.Contents.{bytes_of}
 use Rattle.run_commands.proofs.AnswerLemmas.{certifies}
 use Rattle.run_commands.proofs.run.Run.work.Goals as goal
 
-abbrev only_text : List ℕ → Deed
+abbrev only_text : List ℕ → SeenOutput
 only_text t = record { text = t; file = None }
 
 pub returns : goal.returns
@@ -25,5 +25,5 @@ returns c =
           a.inputs.plan
           (map row_seen c.in_ok-rows.rows.items) c.left_in.result c.in_ok-accepted.ensures.accepted c.deref.ensures.value
           c.in_ok-rows.ensures.rows c.in_ok-rows.ensures.answers (c.left_in.ensures ∙ ap left_of c.in_ok-rows.ensures.memory);
-      deed_is = ap only_text (c.in_ok-lines.ensures ∙ ap₂ lines_of c.deref-2.ensures.value c.deref-3.ensures.value);
+      output_is = ap only_text (c.in_ok-lines.ensures ∙ ap₂ lines_of c.deref-2.ensures.value c.deref-3.ensures.value);
     }

@@ -2,7 +2,7 @@
 
 /// The lines for out, and the word of the file to write with its bytes.
 #[derive(Drop)]
-pub struct Work {
+pub struct Output {
     /// The lines, each with its end.
     pub lines: Vec<String>,
     /// The place of the word that names the file, and what the file is to hold.

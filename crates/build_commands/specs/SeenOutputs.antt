@@ -3,26 +3,26 @@ use Rattle.std.specs.Prelude.{ℕ, List, None, Option, option_map, Result, Ok, E
 use Rattle.fz_shelf.specs.Lines.{text_of}
 use Rattle.fz_status.specs.declared.status.Status.{Status}
 use Rattle.fz_status.specs.declared.status.Status.TheVariants as status
-use Rattle.build_commands.specs.declared.work.Work.{Work}
+use Rattle.build_commands.specs.declared.output.Output.{Output}
 
 -- the text for out, and the word of the file to write with its bytes
-pub record Deed : Type 0 where
+pub record SeenOutput : Type 0 where
   pub text : List ℕ
   pub file : Option (ℕ × List ℕ)
 
--- a deed that writes no file
-abbrev pub only_text : List ℕ → Deed
+-- an output that writes no file
+abbrev pub only_text : List ℕ → SeenOutput
 only_text t = record { text = t; file = None }
 
-abbrev pub deed_of : Work → Deed
-deed_of w = record { text = text_of w.lines.items; file = option_map (λ p. (p.0, p.1.items)) w.file }
+abbrev pub seen_output : Output → SeenOutput
+seen_output w = record { text = text_of w.lines.items; file = option_map (λ p. (p.0, p.1.items)) w.file }
 
--- what makes a deed makes no fault
-abbrev pub DeedHasNoFault : (Result Deed Status → Type 0) → Type 0
-DeedHasNoFault makes = (deed : Deed) (s : Status) → makes (Ok deed) → makes (Err s) → ⊥
+-- what makes an output makes no fault
+abbrev pub OutputHasNoFault : (Result SeenOutput Status → Type 0) → Type 0
+OutputHasNoFault makes = (output : SeenOutput) (s : Status) → makes (Ok output) → makes (Err s) → ⊥
 
 -- the fault is one that comes of the contents, or want of memory
-abbrev pub IsFaultOf : (Result Deed Status → Type 0) → Status → Type 0
+abbrev pub IsFaultOf : (Result SeenOutput Status → Type 0) → Status → Type 0
 IsFaultOf makes status.Ok = ⊥
 IsFaultOf makes status.Usage = ⊥
 IsFaultOf makes (status.ReadFault p) = ⊥
@@ -32,6 +32,6 @@ IsFaultOf makes status.Memory = Unit {0}
 IsFaultOf makes s = makes (Err s)
 
 -- what is made, or one of its faults, or want of memory
-abbrev pub IsResultOf : (Result Deed Status → Type 0) → Result Work Status → Type 0
-IsResultOf makes (Ok w) = makes (Ok (deed_of w))
+abbrev pub IsResultOf : (Result SeenOutput Status → Type 0) → Result Output Status → Type 0
+IsResultOf makes (Ok w) = makes (Ok (seen_output w))
 IsResultOf makes (Err s) = IsFaultOf makes s
