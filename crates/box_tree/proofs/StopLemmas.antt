@@ -14,7 +14,7 @@ use Rattle.box_tree.specs.Trees.{open_from, leaf_count}
 use Rattle.box_tree.specs.Certificates.{IsNode, Begins, CertText, HasNoClaims, HasNoNode, line_behind, HasFault}
 use Rattle.box_tree.specs.Certificates.{bad_version, no_version, bad_claims, no_claims, bad_node, left_open, late}
 use Rattle.box_tree.specs.Certificates.{many_leaves}
-use Rattle.box_tree.specs.Laws.{FaultsAreOne, CertTextsAreSound}
+use Rattle.box_tree.specs.Laws.{FaultsAreOne, CertTextsHaveNoFault}
 use Rattle.box_tree.proofs.HeaderLemmas.{one_claim_line}
 use Rattle.box_tree.proofs.LawLemmas.{one_node, line_is_some}
 use Rattle.box_tree.proofs.LineLemmas.{at_seam}
@@ -318,8 +318,8 @@ faults_are_one v text f g first second =
     ends_are_one v text (Some f) (Some g) (fault_ends v text f first) (fault_ends v text g second) in
     cc
 
-pub cert_texts_are_sound : CertTextsAreSound
-cert_texts_are_sound v text cert f spelled fault =
+pub cert_texts_have_no_fault : CertTextsHaveNoFault
+cert_texts_have_no_fault v text cert f spelled fault =
     let same : None ≡ Some f =
     ends_are_one v text None (Some f) (cert_ends v text cert spelled) (fault_ends v text f fault) in
     cc

@@ -16,8 +16,9 @@ abbrev pub FaultsAreOne : Type 0
 FaultsAreOne = (v : ℕ) (text : List ℕ) (f g : CertFault) → HasFault v text f → HasFault v text g → f ≡ g
 
 -- and one with a certificate has none
-abbrev pub CertTextsAreSound : Type 0
-CertTextsAreSound = (v : ℕ) (text : List ℕ) (cert : Cert) (f : CertFault) → CertText v text cert → HasFault v text f → ⊥
+abbrev pub CertTextsHaveNoFault : Type 0
+CertTextsHaveNoFault = (v : ℕ) (text : List ℕ) (cert : Cert) (f : CertFault) → CertText v text cert → HasFault v text f
+    → ⊥
 
 -- more nodes go on with the boxes that those before left open
 abbrev pub OpenBoxesGoOn : Type 0

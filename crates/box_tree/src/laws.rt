@@ -1,5 +1,5 @@
 //! Laws of the definitions.
-ghost use Rattle.box_tree.specs.Laws.{CertsAreOne, FaultsAreOne, CertTextsAreSound, OpenBoxesGoOn};
+ghost use Rattle.box_tree.specs.Laws.{CertsAreOne, FaultsAreOne, CertTextsHaveNoFault, OpenBoxesGoOn};
 
 /// A text has at most one certificate, and is of one version.
 pub fn certs_are_one()
@@ -12,8 +12,8 @@ pub fn faults_are_one()
 {}
 
 /// A text with a certificate has no fault.
-pub fn cert_texts_are_sound()
-    ensures { CertTextsAreSound }
+pub fn cert_texts_have_no_fault()
+    ensures { CertTextsHaveNoFault }
 {}
 
 /// More nodes go on with the boxes that those before left open.

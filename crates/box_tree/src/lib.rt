@@ -17,7 +17,7 @@ mod text;
 mod writer;
 
 pub use cert::{Cert, CertFault, Node};
-pub use laws::{cert_texts_are_sound, certs_are_one, faults_are_one, open_boxes_go_on};
+pub use laws::{cert_texts_have_no_fault, certs_are_one, faults_are_one, open_boxes_go_on};
 pub use lines::Lines;
 pub use reader::{read, read16};
 pub use writer::{write, write16};

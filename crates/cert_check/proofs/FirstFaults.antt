@@ -12,7 +12,7 @@ use Rattle.box_tree.specs.declared.cert.Node.{Node}
 use Rattle.box_tree.specs.declared.cert.Node.TheVariants.{Split, Leaf}
 use Rattle.box_tree.specs.declared.cert.Cert.{Cert}
 use Rattle.box_tree.specs.declared.cert.CertFault.{CertFault}
-use Rattle.box_tree.specs.Laws.{CertsAreOne, FaultsAreOne, CertTextsAreSound}
+use Rattle.box_tree.specs.Laws.{CertsAreOne, FaultsAreOne, CertTextsHaveNoFault}
 use Rattle.cert_check.specs.declared.checker.CheckFault.{CheckFault}
 use Rattle.cert_check.specs.declared.checker.CheckFault.TheVariants as fault
 use Rattle.cert_check.specs.declared.text.TextFault.TheVariants as refusal
@@ -261,31 +261,33 @@ check_faults_are_one one fail unique b h cert _ _ v (claimed es k over count acc
 
 -- ---- a text's answer
 
-pub text_answers_are_one : FaultyLeavesFail → BoundsAreDetermined → CertsAreOne → FaultsAreOne → CertTextsAreSound
+pub text_answers_are_one : FaultyLeavesFail → BoundsAreDetermined → CertsAreOne → FaultsAreOne → CertTextsHaveNoFault
     → CheckFaultsAreOne → TextAnswersAreOne
-text_answers_are_one fail unique certs faults sound checks b h version text (Ok es) (Ok fs) v small x y =
+text_answers_are_one fail unique certs faults faultless checks b h version text (Ok es) (Ok fs) v small x y =
     let same = (certs version version text x.cert y.cert small small x.spelled y.spelled).1 in
     ap (λ (l : List ℕ). Ok l)
     (errors_unique unique b h x.cert y.cert es fs (ap (λ (c : Cert). c.nodes) same) v x.accepted y.accepted)
-text_answers_are_one fail unique certs faults sound checks b h version text (Ok es) (Err _) v small x (of_text f h') =
-    absurd (sound version text x.cert f x.spelled h')
-text_answers_are_one fail unique certs faults sound checks b h version text (Ok es) (Err _) v small x
+text_answers_are_one fail unique certs faults faultless checks b h version text (Ok es) (Err _) v small x
+    (of_text f h') =
+    absurd (faultless version text x.cert f x.spelled h')
+text_answers_are_one fail unique certs faults faultless checks b h version text (Ok es) (Err _) v small x
     (of_cert cert f spelled h') =
     let same = (certs version version text cert x.cert small small spelled x.spelled).1 in
     absurd (certs_fail fail unique b h x.cert es f v (subst (λ c. HasCheckFault b h c f) same h') x.accepted)
-text_answers_are_one fail unique certs faults sound checks b h version text (Err _) (Ok fs) v small (of_text f h') y =
-    absurd (sound version text y.cert f y.spelled h')
-text_answers_are_one fail unique certs faults sound checks b h version text (Err _) (Ok fs) v small
+text_answers_are_one fail unique certs faults faultless checks b h version text (Err _) (Ok fs) v small (of_text f h')
+    y =
+    absurd (faultless version text y.cert f y.spelled h')
+text_answers_are_one fail unique certs faults faultless checks b h version text (Err _) (Ok fs) v small
     (of_cert cert f spelled h') y =
     let same = (certs version version text cert y.cert small small spelled y.spelled).1 in
     absurd (certs_fail fail unique b h y.cert fs f v (subst (λ c. HasCheckFault b h c f) same h') y.accepted)
-text_answers_are_one fail unique certs faults sound checks b h version text (Err _) (Err _) v small (of_text f h')
+text_answers_are_one fail unique certs faults faultless checks b h version text (Err _) (Err _) v small (of_text f h')
     (of_text g k') = ap (λ (l : CertFault). Err (refusal.Text l)) (faults version text f g h' k')
-text_answers_are_one fail unique certs faults sound checks b h version text (Err _) (Err _) v small (of_text f h')
-    (of_cert cert g spelled k') = absurd (sound version text cert f spelled h')
-text_answers_are_one fail unique certs faults sound checks b h version text (Err _) (Err _) v small
-    (of_cert cert f spelled h') (of_text g k') = absurd (sound version text cert g spelled k')
-text_answers_are_one fail unique certs faults sound checks b h version text (Err _) (Err _) v small
+text_answers_are_one fail unique certs faults faultless checks b h version text (Err _) (Err _) v small (of_text f h')
+    (of_cert cert g spelled k') = absurd (faultless version text cert f spelled h')
+text_answers_are_one fail unique certs faults faultless checks b h version text (Err _) (Err _) v small
+    (of_cert cert f spelled h') (of_text g k') = absurd (faultless version text cert g spelled k')
+text_answers_are_one fail unique certs faults faultless checks b h version text (Err _) (Err _) v small
     (of_cert cert f spelled h') (of_cert other g spelled' k') =
     let same = (certs version version text cert other small small spelled spelled').1 in
     ap (λ (l : CheckFault). Err (refusal.Check l))

@@ -4,7 +4,7 @@ ghost use Rattle.cert_check.specs.Laws.{FaultyCertsFail, WideIsAccepted, CheckFa
 ghost use Rattle.cert_check.specs.SameBlocks.{SameBlocksAnswerAlike};
 ghost use Rattle.cert_check.specs.Examples.{ExamplesAreAccepted};
 
-use box_tree::{cert_texts_are_sound, certs_are_one, faults_are_one};
+use box_tree::{cert_texts_have_no_fault, certs_are_one, faults_are_one};
 use byte_scaling::numbers_lie_in_their_cells;
 use error_bound::{
     answers_are_near, bounds_are_determined, bounds_fall_with_parts, faulty_leaves_fail,
@@ -73,7 +73,7 @@ pub fn text_answers_are_one()
     bounds_are_determined();
     certs_are_one();
     faults_are_one();
-    cert_texts_are_sound();
+    cert_texts_have_no_fault();
     check_faults_are_one();
 }
 

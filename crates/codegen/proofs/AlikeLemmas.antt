@@ -22,15 +22,15 @@ use Rattle.codegen.specs.Code.{frame_code}
 use Rattle.eval_code.specs.Data.{rule_bytes_by, singleton_bytes_of, weight_bytes_by}
 use Rattle.codegen.specs.Images.{IsImageOf, firmware_items, vector_items}
 use Rattle.eval_code.specs.Items.{bytes_at, code_at, block_items}
-use Rattle.eval_code.specs.Layouts.{main_layout}
-use Rattle.codegen.specs.Mailboxes.{mailbox_code, mailbox_layout}
+use Rattle.eval_code.specs.MemoryMaps.{main_map}
+use Rattle.codegen.specs.Mailboxes.{mailbox_code, mailbox_map}
 use Rattle.eval_code.specs.Widths.{width_of}
 use Rattle.codegen.specs.declared.firmware.Firmware.{Firmware}
-use Rattle.eval_code.specs.declared.layout.Layout.{Layout}
+use Rattle.eval_code.specs.declared.memory_map.MemoryMap.{MemoryMap}
 use Rattle.eval_code.specs.declared.width.Width.{Width}
 
 -- a block's items by what they are made of
-abbrev items_of : Layout → Width → List Instr → List Instr → List Input → List Output → List Slot → List Conjunction
+abbrev items_of : MemoryMap → Width → List Instr → List Instr → List Input → List Output → List Slot → List Conjunction
     → List ℕ → Form → List Item
 items_of l w before behind inputs outputs slots conjunctions weights form =
     code_at l.code (before ++ (eval_code_over l w inputs outputs slots form ++ behind))
@@ -39,7 +39,7 @@ items_of l w before behind inputs outputs slots conjunctions weights form =
     ++ (bytes_at l.weights (weight_bytes_by form weights)
     ++ bytes_at l.rules (rule_bytes_by l.slots form conjunctions))))
 
-made_of : (l : Layout) (b : Block) (w : Width) (before behind : List Instr)
+made_of : (l : MemoryMap) (b : Block) (w : Width) (before behind : List Instr)
     → block_items l b w before behind ≡ items_of l w before behind b.inputs b.outputs (slots_of b) (conjunctions_of b)
     (weights_of b) (form_of b)
 unfolding block_items
@@ -62,7 +62,7 @@ parts_same law p q same =
       form = sym mine.form ∙ other.form;
     }
 
-same_items : (l : Layout) (p q : Block) (w : Width) (before behind : List Instr) → IsSameBlock p q → SameLayout p q
+same_items : (l : MemoryMap) (p q : Block) (w : Width) (before behind : List Instr) → IsSameBlock p q → SameLayout p q
     → block_items l p w before behind ≡ block_items l q w before behind
 same_items l p q w before behind says same =
     made_of l p w before behind
@@ -91,29 +91,29 @@ items_alike xs ys f g items of_f of_g =
 
 pub one_image : LayoutsAreOne → FlatHasParts → FirmwaresAreOne
 one_image layouts law p q f g says wide of_p of_q =
-    items_alike (firmware_items main_layout p (width_of f.wide))
-    (firmware_items main_layout q (width_of g.wide)) f g items
+    items_alike (firmware_items main_map p (width_of f.wide))
+    (firmware_items main_map q (width_of g.wide)) f g items
     of_p.image of_q.image
   where
-    items : firmware_items main_layout p (width_of f.wide) ≡ firmware_items main_layout q (width_of g.wide)
+    items : firmware_items main_map p (width_of f.wide) ≡ firmware_items main_map q (width_of g.wide)
     items =
-        ap (λ (xs : List Item). xs ++ vector_items main_layout)
-        (same_items main_layout p q (width_of f.wide) (frame_code main_layout) (Rts ∷ []) says
+        ap (λ (xs : List Item). xs ++ vector_items main_map)
+        (same_items main_map p q (width_of f.wide) (frame_code main_map) (Rts ∷ []) says
         (parts_same law p q (layouts.layout p q says)))
-        ∙ ap (λ (b : Bool). firmware_items main_layout q (width_of b)) wide
+        ∙ ap (λ (b : Bool). firmware_items main_map q (width_of b)) wide
 
 -- ---- in the mailbox form
 
--- the items of a block, by inputs from which the layout and the code before EVAL come
+-- the items of a block, by inputs from which the memory map and the code before EVAL come
 abbrev mailbox_by : List Input → Block → Width → List Item
 mailbox_by inputs b w =
-    let l = mailbox_layout (length inputs) in
+    let l = mailbox_map (length inputs) in
     block_items l b w (mailbox_code l (length inputs)) (Rts ∷ []) ++ vector_items l
 
 same_mailbox : (p q : Block) (w : Width) → IsSameBlock p q → SameLayout p q
     → mailbox_by p.inputs p w ≡ mailbox_by q.inputs q w
 same_mailbox p q w says same =
-    let l = mailbox_layout (length p.inputs) in
+    let l = mailbox_map (length p.inputs) in
     ap (λ (xs : List Item). xs ++ vector_items l)
     (same_items l p q w (mailbox_code l (length p.inputs)) (Rts ∷ []) says same)
     ∙ ap (λ (inputs : List Input). mailbox_by inputs q w) says.inputs

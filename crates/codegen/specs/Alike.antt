@@ -6,7 +6,7 @@ use Rattle.cpu12_isa.specs.declared.instr.Instr.{Instr}
 use Rattle.cpu12_asm.specs.declared.image.Image.{Image}
 use Rattle.cpu12_asm.specs.declared.items.Item.{Item}
 use Rattle.cpu12_asm.specs.Bytes.{byte_at}
-use Rattle.eval_code.specs.declared.layout.Layout.{Layout}
+use Rattle.eval_code.specs.declared.memory_map.MemoryMap.{MemoryMap}
 use Rattle.eval_code.specs.declared.width.Width.{Width}
 use Rattle.eval_code.specs.Items.{block_items}
 use Rattle.codegen.specs.Firmwares.{IsFirmwareOf}
@@ -22,9 +22,9 @@ AreOneImage f g = ((at : ℕ) → byte_at f.bytes at ≡ byte_at g.bytes at) × 
 abbrev pub ImagesAreOne : Type 0
 ImagesAreOne = (items : List Item) (f g : Image) → IsImageOf items f → IsImageOf items g → AreOneImage f g
 
--- At a layout, between the same code, blocks that are the same have the same items.
+-- At a memory map, between the same code, blocks that are the same have the same items.
 abbrev pub ItemsAreOne : Type 0
-ItemsAreOne = (l : Layout) (p q : Block) (w : Width) (before behind : List Instr) → IsSameBlock p q
+ItemsAreOne = (l : MemoryMap) (p q : Block) (w : Width) (before behind : List Instr) → IsSameBlock p q
     → block_items l p w before behind ≡ block_items l q w before behind
 
 -- two firmwares have one image

@@ -7,16 +7,16 @@ use Rattle.rule_layout.specs.Layouts.{IsWithinLimits}
 use Rattle.cpu12_isa.specs.Agreement.{Agree}
 use Rattle.cpu12_isa.specs.Regions.{stack_start, stack_end, is_free}
 use Rattle.cpu12_parts.specs.State.{State}
-use Rattle.cpu12_parts.specs.Whole.{PlainWay}
+use Rattle.cpu12_parts.specs.Whole.{PlainExecution}
 use Rattle.cpu12_parts.specs.Executions.{Execution, all_steps}
 use Rattle.cpu12_emul.specs.Image.{image_memory}
 use Rattle.cpu12_emul.specs.Step.{reset_with}
-use Rattle.eval_code.specs.declared.layout.Layout.{Layout}
+use Rattle.eval_code.specs.declared.memory_map.MemoryMap.{MemoryMap}
 use Rattle.eval_code.specs.declared.width.Width.{Width}
 use Rattle.codegen.specs.declared.firmware.Firmware.{Firmware}
 use Rattle.eval_code.specs.Widths.{width_of, answer}
 use Rattle.eval_code.specs.Bounds.{steps_by}
-use Rattle.eval_code.specs.Layouts.{main_layout}
+use Rattle.eval_code.specs.MemoryMaps.{main_map}
 use Rattle.eval_code.specs.Firing.{AreInputBytes}
 use Rattle.eval_code.specs.Evaluation.{put, Reads, Writes, HasAnswers}
 use Rattle.codegen.specs.Interruptible.{is_idle, IsInterruptible, IsInterruptibleStep}
@@ -24,23 +24,23 @@ use Rattle.codegen.specs.Firmwares.{IsFirmwareOf}
 
 -- the first arrival where the code waits, by three plain instructions from reset, beside handlers to which these bytes
 -- are open
-pub record IsArrivedBeside (open_to : ℕ → Bool) (l : Layout) (image : List ℕ) (flags : ℕ) (s : State) : Type 0 where
-  pub way : PlainWay flags l.wait 3 (reset_with image) s
+pub record IsArrivedBeside (open_to : ℕ → Bool) (l : MemoryMap) (image : List ℕ) (flags : ℕ) (s : State) : Type 0 where
+  pub execution : PlainExecution flags l.wait 3 (reset_with image) s
   pub wait : s.regs.pc ≡ l.wait
   pub idle : is_idle l s ≡ true
   pub interruptible : IsInterruptible open_to image s
 
 -- so it is beside handlers to which the free bytes are open
-abbrev pub IsArrived : Layout → List ℕ → ℕ → State → Type 0
+abbrev pub IsArrived : MemoryMap → List ℕ → ℕ → State → Type 0
 IsArrived = IsArrivedBeside is_free
 
 -- a sample's bytes and READY are written
-abbrev pub given : Layout → List ℕ → State → State
+abbrev pub given : MemoryMap → List ℕ → State → State
 given l bytes s = record s { mem = slice_set (put s.mem l.samples bytes) l.ready 1 }
 
 -- From there at most so many whole instructions lead to where the code waits again, with the answers after those
 -- before, and no more steps than that says.
-pub record IsAnsweredBeside (open_to : ℕ → Bool) (l : Layout) (b : Block) (w : Width) (most : ℕ) (image : List ℕ)
+pub record IsAnsweredBeside (open_to : ℕ → Bool) (l : MemoryMap) (b : Block) (w : Width) (most : ℕ) (image : List ℕ)
     (flags : ℕ) (before : ℕ → ℕ) (bytes : List ℕ) (s t : State) : Type 0 where
   pub ds : List ℕ
   pub execution : Execution (IsInterruptibleStep open_to l image flags) ds (given l bytes s) t
@@ -51,29 +51,29 @@ pub record IsAnsweredBeside (open_to : ℕ → Bool) (l : Layout) (b : Block) (w
   pub steps : all_steps ds ≤ steps_by b most
 
 -- a list of samples, each answered after the one before
-abbrev pub AreAnsweredBeside : (ℕ → Bool) → Layout → Block → Width → ℕ → List ℕ → ℕ → (ℕ → ℕ) → List (List ℕ) → State
+abbrev pub AreAnsweredBeside : (ℕ → Bool) → MemoryMap → Block → Width → ℕ → List ℕ → ℕ → (ℕ → ℕ) → List (List ℕ) → State
     → Type 0
 AreAnsweredBeside open_to l b w most image flags before [] s = Unit {0}
 AreAnsweredBeside open_to l b w most image flags before (bytes ∷ samples) s =
     (t : State) × (IsAnsweredBeside open_to l b w most image flags before bytes s t
     × AreAnsweredBeside open_to l b w most image flags (λ o. answer w b o bytes (before o)) samples t)
 
-abbrev pub AreAnswered : Layout → Block → Width → ℕ → List ℕ → ℕ → (ℕ → ℕ) → List (List ℕ) → State → Type 0
+abbrev pub AreAnswered : MemoryMap → Block → Width → ℕ → List ℕ → ℕ → (ℕ → ℕ) → List (List ℕ) → State → Type 0
 AreAnswered = AreAnsweredBeside is_free
 
 -- A firmware answers every list of samples of a block so from reset, within its bound, whatever the open flags are.
 abbrev pub AnswersFrom : Block → Firmware → Type 0
 AnswersFrom b f = (flags : ℕ) (samples : List (List ℕ)) → flags < 2 ^ 8 → All (AreInputBytes b) samples
-    → (s : State) × (IsArrived f.layout (image_memory f.image.bytes) flags s
-    × AreAnswered f.layout b (width_of f.wide) f.instr_bound (image_memory f.image.bytes) flags (λ o. 0) samples s)
+    → (s : State) × (IsArrived f.memory_map (image_memory f.image.bytes) flags s
+    × AreAnswered f.memory_map b (width_of f.wide) f.instr_bound (image_memory f.image.bytes) flags (λ o. 0) samples s)
 
 -- The firmware of a block does.
 abbrev pub FirmwareAnswers : Type 0
 FirmwareAnswers = (b : Block) (f : Firmware) → IsValid b → IsWithinLimits b → IsFirmwareOf b f → AnswersFrom b f
 
--- What is open to handlers leaves a layout alone: it is neither what EVAL reads and writes, nor the stack, nor between
--- the first byte of the code and the tables, nor the reset vector.
-pub record LeavesLayout (open_to : ℕ → Bool) (l : Layout) : Type 0 where
+-- What is open to handlers leaves a memory map alone: it is neither what EVAL reads and writes, nor the stack, nor
+-- between the first byte of the code and the tables, nor the reset vector.
+pub record LeavesMapped (open_to : ℕ → Bool) (l : MemoryMap) : Type 0 where
   pub ready : open_to l.ready ≡ false
   pub reads : (at : ℕ) → Reads l at → open_to at ≡ false
   pub writes : (at : ℕ) → Writes l at → open_to at ≡ false
@@ -83,28 +83,29 @@ pub record LeavesLayout (open_to : ℕ → Bool) (l : Layout) : Type 0 where
 
 -- So do the free bytes.
 abbrev pub FreeBytesLeave : Type 0
-FreeBytesLeave = LeavesLayout is_free main_layout
+FreeBytesLeave = LeavesMapped is_free main_map
 
 -- The same beside handlers to which more is open.
 abbrev pub AnswersBeside : (ℕ → Bool) → Block → Firmware → Type 0
 AnswersBeside open_to b f =
     (flags : ℕ) (samples : List (List ℕ)) → flags < 2 ^ 8 → All (AreInputBytes b) samples
-    → (s : State) × (IsArrivedBeside open_to f.layout (image_memory f.image.bytes) flags s
-    × AreAnsweredBeside open_to f.layout b (width_of f.wide) f.instr_bound (image_memory f.image.bytes) flags (λ o. 0)
+    → (s : State) × (IsArrivedBeside open_to f.memory_map (image_memory f.image.bytes) flags s
+    × AreAnsweredBeside open_to f.memory_map b (width_of f.wide) f.instr_bound (image_memory f.image.bytes) flags
+    (λ o. 0)
     samples s)
 
--- The firmware of a block does, beside handlers to which anything is open that leaves its layout alone.
+-- The firmware of a block does, beside handlers to which anything is open that leaves its memory map alone.
 abbrev pub FirmwareAnswersBeside : Type 0
-FirmwareAnswersBeside = (open_to : ℕ → Bool) (b : Block) (f : Firmware) → LeavesLayout open_to f.layout → IsValid b
+FirmwareAnswersBeside = (open_to : ℕ → Bool) (b : Block) (f : Firmware) → LeavesMapped open_to f.memory_map → IsValid b
     → IsWithinLimits b → IsFirmwareOf b f → AnswersBeside open_to b f
 
 -- From reset over a memory that is the image's but for open bytes, instructions come where the code waits too: there
 -- the registers are the same, and the bytes but for those that are open, which are as they were.
-pub record ArrivesAlike (open_to : ℕ → Bool) (l : Layout) (image mem : List ℕ) (flags : ℕ) : Type 0 where
+pub record ArrivesAlike (open_to : ℕ → Bool) (l : MemoryMap) (image mem : List ℕ) (flags : ℕ) : Type 0 where
   pub image_state : State
   pub state : State
   pub image_arrived : IsArrivedBeside open_to l image flags image_state
-  pub way : PlainWay flags l.wait 3 (reset_with mem) state
+  pub execution : PlainExecution flags l.wait 3 (reset_with mem) state
   pub regs : state.regs ≡ image_state.regs
   pub temps : state.temps ≡ image_state.temps
   pub bytes : Agree open_to state.mem image_state.mem
@@ -113,6 +114,6 @@ pub record ArrivesAlike (open_to : ℕ → Bool) (l : Layout) (image mem : List 
 -- So does the firmware of a block.
 abbrev pub FirmwareArrivesAlike : Type 0
 FirmwareArrivesAlike = (open_to : ℕ → Bool) (b : Block) (f : Firmware) (mem : List ℕ) (flags : ℕ) → flags < 2 ^ 8
-    → LeavesLayout open_to f.layout → IsValid b → IsWithinLimits b → IsFirmwareOf b f
+    → LeavesMapped open_to f.memory_map → IsValid b → IsWithinLimits b → IsFirmwareOf b f
     → Agree open_to mem (image_memory f.image.bytes)
-    → ArrivesAlike open_to f.layout (image_memory f.image.bytes) mem flags
+    → ArrivesAlike open_to f.memory_map (image_memory f.image.bytes) mem flags

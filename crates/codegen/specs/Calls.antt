@@ -8,7 +8,7 @@ use Rattle.cpu12_isa.specs.declared.instr.Instr.TheVariants.{Rts}
 use Rattle.cpu12_isa.specs.Code.{encode_of}
 use Rattle.cpu12_parts.specs.Executions.{Execution, all_steps}
 use Rattle.cpu12_parts.specs.State.{State}
-use Rattle.eval_code.specs.declared.layout.Layout.{Layout}
+use Rattle.eval_code.specs.declared.memory_map.MemoryMap.{MemoryMap}
 use Rattle.eval_code.specs.declared.width.Width.{Width}
 use Rattle.eval_code.specs.Bounds.{instruction_bound, step_bound}
 use Rattle.eval_code.specs.Evaluation.{HasBytes, HasEval, HasAnswers, eval_bytes}
@@ -20,12 +20,12 @@ use Rattle.codegen.specs.Interruptible.{IsInterruptible, IsInterruptibleStep}
 use Rattle.codegen.specs.Settings.{Setting, Live, code_room, return_address}
 
 -- EVAL stands in the code
-pub record IsInCode (l : Layout) : Type 0 where
+pub record IsInCode (l : MemoryMap) : Type 0 where
   pub from : l.code ≤ l.eval
   pub to : l.eval + 2432 ≤ l.code + code_room
 
 -- EVAL and its return stand in the image, above where the code waits, and leave room behind them and behind the slots
-pub record HasRoutine (l : Layout) (b : Block) (w : Width) (image : List ℕ) : Type 0 where
+pub record HasRoutine (l : MemoryMap) (b : Block) (w : Width) (image : List ℕ) : Type 0 where
   pub above : l.wait < l.eval
   pub inside : IsInCode l
   pub eval : HasEval l b w image
@@ -34,7 +34,7 @@ pub record HasRoutine (l : Layout) (b : Block) (w : Width) (image : List ℕ) : 
   pub few_slots : length (slots_of b) ≤ 300
 
 -- EVAL was called from an address with these bytes of inputs and these answers before
-pub record IsCalled (open_to : ℕ → Bool) (l : Layout) (b : Block) (w : Width) (image : List ℕ) (back : ℕ)
+pub record IsCalled (open_to : ℕ → Bool) (l : MemoryMap) (b : Block) (w : Width) (image : List ℕ) (back : ℕ)
     (bytes : List ℕ) (before : ℕ → ℕ) (s : State) : Type 0 where
   pub interruptible : IsInterruptible open_to image s
   pub pc : s.regs.pc ≡ l.eval
@@ -49,19 +49,20 @@ pub record Back (c : Setting) (b : Block) (w : Width) (back : ℕ) (bytes : List
     : Type 0 where
   pub t : State
   pub ds : List ℕ
-  pub execution : Execution (IsInterruptibleStep c.open_to c.layout c.image c.flags) ds s t
+  pub execution : Execution (IsInterruptibleStep c.open_to c.memory_map c.image c.flags) ds s t
   pub live : Live c t
   pub pc_is : t.regs.pc ≡ back
   pub sp_is : t.regs.sp ≡ 0x2000
-  pub answers : HasAnswers c.layout b w (λ o. answer w b o bytes (before o)) t.mem
-  pub elsewhere : (at : ℕ) → (at < c.layout.outputs) ⊎ (c.layout.outputs + 8 ≤ at)
-      → (at < c.layout.slots) ⊎ (c.layout.slots + 300 ≤ at) → slice_index t.mem at ≡ slice_index s.mem at
+  pub answers : HasAnswers c.memory_map b w (λ o. answer w b o bytes (before o)) t.mem
+  pub elsewhere : (at : ℕ) → (at < c.memory_map.outputs) ⊎ (c.memory_map.outputs + 8 ≤ at)
+      → (at < c.memory_map.slots) ⊎ (c.memory_map.slots + 300 ≤ at) → slice_index t.mem at ≡ slice_index s.mem at
   pub instructions : length ds + 5 ≤ instruction_bound w b
   pub steps : all_steps ds + 5 ≤ step_bound w b
 
 -- So it comes back wherever it was called.
 abbrev pub CalledEvalReturns : Type 0
 CalledEvalReturns =
-    (c : Setting) (b : Block) (w : Width) (back : ℕ) (bytes : List ℕ) (before : ℕ → ℕ) (s : State) → IsApart c.layout
-    → IsValid b → IsWithinLimits b → HasRoutine c.layout b w c.image → AreInputBytes b bytes
-    → IsCalled c.open_to c.layout b w c.image back bytes before s → Back c b w back bytes before s
+    (c : Setting) (b : Block) (w : Width) (back : ℕ) (bytes : List ℕ) (before : ℕ → ℕ) (s : State)
+    → IsApart c.memory_map
+    → IsValid b → IsWithinLimits b → HasRoutine c.memory_map b w c.image → AreInputBytes b bytes
+    → IsCalled c.open_to c.memory_map b w c.image back bytes before s → Back c b w back bytes before s

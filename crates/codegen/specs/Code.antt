@@ -3,11 +3,11 @@ use Rattle.std.specs.Prelude.{List, [], ◌∷◌}
 use Rattle.cpu12_isa.specs.declared.instr.Instr.{Instr}
 use Rattle.cpu12_isa.specs.declared.instr.Instr.TheVariants.{LdaaExtended, LdsImmediate, ClrExtended, Beq, Bra}
 use Rattle.cpu12_isa.specs.declared.instr.Instr.TheVariants.{JsrExtended, Andcc, Rti}
-use Rattle.eval_code.specs.declared.layout.Layout.{Layout}
+use Rattle.eval_code.specs.declared.memory_map.MemoryMap.{MemoryMap}
 
 -- The stack is set up, READY cleared and interrupts let in; then, wherever READY is not 0, EVAL is called and READY
 -- cleared. An interrupt returns at once.
-abbrev pub frame_code : Layout → List Instr
+abbrev pub frame_code : MemoryMap → List Instr
 frame_code l =
     LdsImmediate 0x2000 ∷ ClrExtended l.ready ∷ Andcc 0xEF
     ∷ LdaaExtended l.ready ∷ Beq 0xFB ∷ JsrExtended l.eval ∷ ClrExtended l.ready ∷ Bra 0xF3

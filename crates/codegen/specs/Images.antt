@@ -7,7 +7,7 @@ use Rattle.cpu12_asm.specs.declared.items.Item.{Item}
 use Rattle.cpu12_asm.specs.declared.image.Image.{Image}
 use Rattle.cpu12_asm.specs.Bytes.{start_of, Holds, IsAscending}
 use Rattle.cpu12_asm.specs.Items.{given_by}
-use Rattle.eval_code.specs.declared.layout.Layout.{Layout}
+use Rattle.eval_code.specs.declared.memory_map.MemoryMap.{MemoryMap}
 use Rattle.eval_code.specs.declared.width.Width.{Width}
 use Rattle.eval_code.specs.Data.{bytes_of_word}
 use Rattle.eval_code.specs.Items.{bytes_at, block_items}
@@ -15,11 +15,11 @@ use Rattle.codegen.specs.Code.{frame_code}
 
 -- the interrupt's and the reset vector (CPU12 Reference Manual, section 7): the last instruction before EVAL, and the
 -- first one
-abbrev pub vector_items : Layout → List Item
+abbrev pub vector_items : MemoryMap → List Item
 vector_items l = bytes_at vector (bytes_of_word l.interrupt) ++ bytes_at 0xFFFE (bytes_of_word l.code)
 
 -- a firmware that stands alone: these, with the frame and the return, the vectors, and nothing else
-abbrev pub firmware_items : Layout → Block → Width → List Item
+abbrev pub firmware_items : MemoryMap → Block → Width → List Item
 firmware_items l b w = block_items l b w (frame_code l) (Rts ∷ []) ++ vector_items l
 
 -- an image has just the bytes of these items, the lowest first, and starts where its reset vector says

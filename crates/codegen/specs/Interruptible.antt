@@ -17,10 +17,10 @@ use Rattle.cpu12_parts.specs.Averages.{wav_read}
 use Rattle.cpu12_parts.specs.Laws.{addresses}
 use Rattle.cpu12_parts.specs.Touching.{Each}
 use Rattle.cpu12_parts.specs.Whole.{IsPlainStep, IsRulesStep, IsAverageStep}
-use Rattle.eval_code.specs.declared.layout.Layout.{Layout}
+use Rattle.eval_code.specs.declared.memory_map.MemoryMap.{MemoryMap}
 
 -- PC is where the code waits, and READY is 0
-abbrev pub is_idle : Layout → State → Bool
+abbrev pub is_idle : MemoryMap → State → Bool
 is_idle l s = (s.regs.pc == l.wait) && (slice_index s.mem l.ready == 0)
 
 -- what each state keeps in which I is set or not. Its memory is that of the image from $2000 on.
@@ -49,7 +49,7 @@ pub record IsShownPlain (open_to : ℕ → Bool) (flags : ℕ) (i : Instr) (s t 
 
 -- REV or REVW: what it reads and writes is shown, it writes below the image alone, and not itself, and between its
 -- parts PC is not where the code waits
-pub record IsShownRules (open_to : ℕ → Bool) (l : Layout) (i : Instr) (f : Form) (flags d : ℕ) (p : Rule)
+pub record IsShownRules (open_to : ℕ → Bool) (l : MemoryMap) (i : Instr) (f : Form) (flags d : ℕ) (p : Rule)
     (ps : List Rule)
     (s t : State) : Type 0 where
   pub step : IsRulesStep i f flags d p ps s t
@@ -61,13 +61,13 @@ pub record IsShownRules (open_to : ℕ → Bool) (l : Layout) (i : Instr) (f : F
 
 -- WAV: it has a pair at least, what it reads is shown, and where it goes on after an interrupt is not where the code
 -- waits
-pub record IsShownAverage (open_to : ℕ → Bool) (l : Layout) (flags d : ℕ) (s t : State) : Type 0 where
+pub record IsShownAverage (open_to : ℕ → Bool) (l : MemoryMap) (flags d : ℕ) (s t : State) : Type 0 where
   pub step : IsAverageStep flags d s t
   pub some : 1 ≤ s.regs.b
   pub reads : AllShown (is_hidden open_to s.regs.sp) (wav_read s.regs)
   pub away : plus s.regs.pc 1 ≢ l.wait
 
-abbrev pub IsShownInstruction : (ℕ → Bool) → Layout → ℕ → ℕ → State → State → Type 0
+abbrev pub IsShownInstruction : (ℕ → Bool) → MemoryMap → ℕ → ℕ → State → State → Type 0
 IsShownInstruction open_to l flags d s t =
     ((i : Instr) × (IsShownPlain open_to flags i s t × (d ≡ 0)))
     ⊎ (((p : Rule) × (ps : List Rule) × IsShownRules open_to l Rev (rev_form s.regs.y) flags d p ps s t)
@@ -75,7 +75,7 @@ IsShownInstruction open_to l flags d s t =
     ⊎ IsShownAverage open_to l flags d s t))
 
 -- a whole instruction on a sample, from a state that does not wait
-pub record IsInterruptibleStep (open_to : ℕ → Bool) (l : Layout) (image : List ℕ) (flags d : ℕ)
+pub record IsInterruptibleStep (open_to : ℕ → Bool) (l : MemoryMap) (image : List ℕ) (flags d : ℕ)
     (s t : State) : Type 0 where
   pub busy : is_idle l s ≡ false
   pub interruptible : IsInterruptible open_to image s

@@ -10,9 +10,9 @@ use Rattle.cpu12_isa.specs.declared.instr.Instr.TheVariants.{JsrExtended, Rts, A
 use Rattle.cpu12_isa.specs.Regions.{is_free}
 use Rattle.cpu12_asm.specs.declared.items.Item.{Item}
 use Rattle.codegen.specs.declared.firmware.Firmware.{Firmware}
-use Rattle.eval_code.specs.declared.layout.Layout.{Layout}
+use Rattle.eval_code.specs.declared.memory_map.MemoryMap.{MemoryMap}
 use Rattle.eval_code.specs.declared.width.Width.{Width}
-use Rattle.eval_code.specs.Layouts.{main_layout}
+use Rattle.eval_code.specs.MemoryMaps.{main_map}
 use Rattle.eval_code.specs.Widths.{width_of}
 use Rattle.codegen.specs.Images.{vector_items, IsImageOf}
 use Rattle.eval_code.specs.Items.{block_items}
@@ -26,9 +26,9 @@ is_mail at = nat_le 0x1020 at && nat_lt at 0x1029
 abbrev pub is_postable : ℕ → Bool
 is_postable at = is_free at || is_mail at
 
--- the layout of a block with n inputs: its code has a copy of six bytes for each
-abbrev pub mailbox_layout : ℕ → Layout
-mailbox_layout n = record main_layout {
+-- the memory map of a block with n inputs: its code has a copy of six bytes for each
+abbrev pub mailbox_map : ℕ → MemoryMap
+mailbox_map n = record main_map {
   interrupt = 0xC019 + 6 * n;
   eval = 0xC01A + 6 * n;
   ready = 0x1028;
@@ -41,19 +41,19 @@ copy_code from to zero = []
 copy_code from to (suc n) = MovbExtended from to ∷ copy_code (from + 1) (to + 1) n
 
 -- POSTED is cleared, interrupts are let in, EVAL is called, and the code waits again; an interrupt returns at once
-abbrev pub call_code : Layout → ℕ → List Instr
+abbrev pub call_code : MemoryMap → ℕ → List Instr
 call_code l n = ClrExtended l.ready ∷ Andcc 0xEF ∷ JsrExtended l.eval ∷ Bra (239 - 6 * n) ∷ Rti ∷ []
 
 -- the code before EVAL: the stack is set up, POSTED cleared and interrupts let in; then, wherever POSTED is not 0,
 -- interrupts are kept out, and MAIL is copied to the inputs
-abbrev pub mailbox_code : Layout → ℕ → List Instr
+abbrev pub mailbox_code : MemoryMap → ℕ → List Instr
 mailbox_code l n =
     LdsImmediate 0x2000 ∷ ClrExtended l.ready ∷ Andcc 0xEF
     ∷ LdaaExtended l.ready ∷ Beq 0xFB ∷ Orcc 0x10
     ∷ (copy_code l.samples l.inputs n ++ call_code l n)
 
 -- code, tables, singletons, weights, rule list and vectors, and nothing else
-abbrev pub mailbox_items : Layout → Block → Width → List Item
+abbrev pub mailbox_items : MemoryMap → Block → Width → List Item
 mailbox_items l b w = block_items l b w (mailbox_code l (length b.inputs)) (Rts ∷ []) ++ vector_items l
 
 -- ORCC and the copies take these instructions more than the frame of a firmware that stands alone
@@ -62,8 +62,8 @@ mailbox_bound w b = instruction_bound w b + length b.inputs + 2
 
 -- a firmware is a block's in the mailbox form
 pub record IsMailboxOf (b : Block) (f : Firmware) : Type 0 where
-  pub image : IsImageOf (mailbox_items (mailbox_layout (length b.inputs)) b (width_of f.wide)) f.image
-  pub layout : f.layout ≡ mailbox_layout (length b.inputs)
+  pub image : IsImageOf (mailbox_items (mailbox_map (length b.inputs)) b (width_of f.wide)) f.image
+  pub memory_map : f.memory_map ≡ mailbox_map (length b.inputs)
   pub inputs : f.inputs ≡ length b.inputs
   pub outputs : f.outputs ≡ length b.outputs
   pub instructions : f.instr_bound ≡ mailbox_bound (width_of f.wide) b

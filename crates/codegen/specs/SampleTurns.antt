@@ -8,7 +8,7 @@ use Rattle.cpu12_parts.specs.Executions.{IsUntil}
 use Rattle.cpu12_emul.specs.Image.{image_memory}
 use Rattle.cpu12_emul.specs.Step.{reset_with}
 use Rattle.codegen.specs.declared.firmware.Firmware.{Firmware}
-use Rattle.eval_code.specs.declared.layout.Layout.{Layout}
+use Rattle.eval_code.specs.declared.memory_map.MemoryMap.{MemoryMap}
 use Rattle.eval_code.specs.declared.width.Width.{Width}
 use Rattle.eval_code.specs.Widths.{width_of}
 use Rattle.eval_code.specs.Firing.{AreInputBytes}
@@ -21,7 +21,7 @@ use Rattle.codegen.specs.Turns.{IsAt, IsLook, IsChoice, IsCopied, IsTurned, IsRe
 
 -- A sample that is given in s is seen, copied and answered, and the code waits again in t. These are all instructions
 -- of the turn.
-pub record IsSampleTurn (l : Layout) (b : Block) (w : Width) (most : ℕ) (image : List ℕ) (flags : ℕ) (before : ℕ → ℕ)
+pub record IsSampleTurn (l : MemoryMap) (b : Block) (w : Width) (most : ℕ) (image : List ℕ) (flags : ℕ) (before : ℕ → ℕ)
     (bytes : List ℕ) (s t : State) : Type 0 where
   pub looked : State
   pub look : IsLook l image flags (given l bytes s) looked
@@ -35,7 +35,7 @@ pub record IsSampleTurn (l : Layout) (b : Block) (w : Width) (most : ℕ) (image
   pub until : IsUntil (is_idle l) flags (0 ∷ 0 ∷ 0 ∷ (copy.ds ++ turned.ds)) (given l bytes s) t
 
 -- So a firmware answers samples, from its first arrival on.
-pub record TakesSamples (l : Layout) (b : Block) (w : Width) (most : ℕ) (image : List ℕ) (flags : ℕ) : Type 0 where
+pub record TakesSamples (l : MemoryMap) (b : Block) (w : Width) (most : ℕ) (image : List ℕ) (flags : ℕ) : Type 0 where
   pub first : State
   pub ready : IsReady l b w image flags first
   pub arrived : IsUntil (is_waiting l) flags (0 ∷ 0 ∷ 0 ∷ []) (reset_with image) first
@@ -46,4 +46,4 @@ pub record TakesSamples (l : Layout) (b : Block) (w : Width) (most : ℕ) (image
 abbrev pub MailboxTakesSamples : Type 0
 MailboxTakesSamples =
     (b : Block) (f : Firmware) (flags : ℕ) → IsValid b → IsWithinLimits b → IsMailboxOf b f → flags < 2 ^ 8
-    → TakesSamples f.layout b (width_of f.wide) f.instr_bound (image_memory f.image.bytes) flags
+    → TakesSamples f.memory_map b (width_of f.wide) f.instr_bound (image_memory f.image.bytes) flags

@@ -16,7 +16,7 @@ use Rattle.cpu12_parts.specs.Laws.{addresses}
 use Rattle.cpu12_parts.specs.State.{State}
 use Rattle.cpu12_parts.specs.Touching.{Each}
 use Rattle.cpu12_parts.specs.Whole.{after_plain}
-use Rattle.eval_code.specs.declared.layout.Layout.{Layout}
+use Rattle.eval_code.specs.declared.memory_map.MemoryMap.{MemoryMap}
 use Rattle.eval_code.specs.Evaluation.{HasBytes, Reads, Writes}
 use Rattle.eval_code.specs.Masks.{interrupt_masks}
 use Rattle.eval_code.specs.Standing.{DecodesWhereItStands}
@@ -29,7 +29,7 @@ abbrev pub code_room : ℕ
 code_room = 0x1000
 
 -- what is open to handlers is neither owned by EVAL, nor the stack, nor code
-pub record IsShut (open_to : ℕ → Bool) (l : Layout) : Type 0 where
+pub record IsShut (open_to : ℕ → Bool) (l : MemoryMap) : Type 0 where
   pub reads : (at : ℕ) → Reads l at → open_to at ≡ false
   pub writes : (at : ℕ) → Writes l at → open_to at ≡ false
   pub stack : (at : ℕ) → 0x1FE0 ≤ at → at < 0x2000 → open_to at ≡ false
@@ -38,23 +38,23 @@ pub record IsShut (open_to : ℕ → Bool) (l : Layout) : Type 0 where
   pub high : l.code + code_room < 65536
 
 -- what a run is under: that instructions keep registers and bytes in their ranges and are decoded where they stand, the
--- bytes that are open to handlers, the layout, the image's memory and the open flags
+-- bytes that are open to handlers, the memory map, the image's memory and the open flags
 pub record Setting : Type 0 where
   pub stays_fit : StaysFit
   pub decodes : DecodesWhereItStands
   pub open_to : ℕ → Bool
-  pub layout : Layout
-  pub shut : IsShut open_to layout
+  pub memory_map : MemoryMap
+  pub shut : IsShut open_to memory_map
   pub image : List ℕ
   pub flags : ℕ
   pub fits : flags < 2 ^ 8
 
 -- an instruction stands in the image, and not where the code waits
 pub record Here (c : Setting) (p : ℕ) (i : Instr) : Type 0 where
-  pub from : c.layout.code ≤ p
-  pub to : p + 6 ≤ c.layout.code + code_room
+  pub from : c.memory_map.code ≤ p
+  pub to : p + 6 ≤ c.memory_map.code + code_room
   pub high : p + 6 < 65536
-  pub off : p ≢ c.layout.wait
+  pub off : p ≢ c.memory_map.wait
   pub fits : FitsOperands i
   pub decoded : decode_at c.image p ≡ Ok i
 
@@ -67,7 +67,7 @@ Stands c p (i ∷ is) = Here c p i × Stands c (p + length (encode_of i)) is
 abbrev pub InstructionsStand : Type 0
 InstructionsStand =
     (c : Setting) (p : ℕ) (code : List Instr) → FitCode code → HasBytes c.image p (code_bytes code)
-    → c.layout.code ≤ p → c.layout.wait < p → p + length (code_bytes code) + 6 ≤ c.layout.code + code_room
+    → c.memory_map.code ≤ p → c.memory_map.wait < p → p + length (code_bytes code) + 6 ≤ c.memory_map.code + code_room
     → Stands c p code
 
 -- what each state of the run keeps, with I set or not: its memory is the image from $2000 on
@@ -86,24 +86,25 @@ Live c = Lives c.image false
 -- Such a state may be interrupted, where its next instruction is the code's.
 abbrev pub LiveIsInterruptible : Type 0
 LiveIsInterruptible =
-    (c : Setting) (s : State) → Live c s → c.layout.code ≤ s.regs.pc → s.regs.pc + 6 ≤ c.layout.code + code_room
+    (c : Setting) (s : State) → Live c s → c.memory_map.code ≤ s.regs.pc → s.regs.pc + 6 ≤ c.memory_map.code + code_room
     → IsInterruptible c.open_to c.image s
 
 -- It is idle where the code waits, and READY is 0.
 abbrev pub LiveIsIdle : Type 0
 LiveIsIdle =
-    (c : Setting) (s : State) → Live c s → s.regs.pc ≡ c.layout.wait → slice_index s.mem c.layout.ready ≡ 0
-    → is_idle c.layout s ≡ true
+    (c : Setting) (s : State) → Live c s → s.regs.pc ≡ c.memory_map.wait → slice_index s.mem c.memory_map.ready ≡ 0
+    → is_idle c.memory_map s ≡ true
 
 -- It stays live where a sample is given.
 abbrev pub GivenIsLive : Type 0
 GivenIsLive =
     (c : Setting) (bytes : List ℕ) (s : State) → Live c s → All (λ v. v < 2 ^ 8) bytes
-    → c.layout.samples + length bytes ≤ free_start → c.layout.ready < free_start → Live c (given c.layout bytes s)
+    → c.memory_map.samples + length bytes ≤ free_start → c.memory_map.ready < free_start
+    → Live c (given c.memory_map bytes s)
 
 -- one instruction leads to an address
 pub record Next (c : Setting) (s t : State) (q : ℕ) : Type 0 where
-  pub step : IsInterruptibleStep c.open_to c.layout c.image c.flags 0 s t
+  pub step : IsInterruptibleStep c.open_to c.memory_map c.image c.flags 0 s t
   pub live : Live c t
   pub pc_is : t.regs.pc ≡ q
 

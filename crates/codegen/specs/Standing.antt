@@ -10,7 +10,7 @@ use Rattle.cpu12_isa.specs.Regions.{vector}
 use Rattle.cpu12_asm.specs.Bytes.{Holds}
 use Rattle.cpu12_asm.specs.Items.{given_by}
 use Rattle.cpu12_emul.specs.Image.{image_memory}
-use Rattle.eval_code.specs.declared.layout.Layout.{Layout}
+use Rattle.eval_code.specs.declared.memory_map.MemoryMap.{MemoryMap}
 use Rattle.eval_code.specs.declared.width.Width.{Width}
 use Rattle.eval_code.specs.Code.{code_bytes}
 use Rattle.eval_code.specs.Data.{bytes_of_word}
@@ -22,7 +22,7 @@ use Rattle.codegen.specs.Images.{vector_items}
 
 -- a memory has a block's firmware: EVAL with its data behind this code and before its return, and the reset vector.
 -- Below the code it is 0.
-pub record HasFirmware (l : Layout) (b : Block) (w : Width) (before : List Instr) (mem : List ℕ) : Type 0 where
+pub record HasFirmware (l : MemoryMap) (b : Block) (w : Width) (before : List Instr) (mem : List ℕ) : Type 0 where
   pub size : length mem ≡ 65536
   pub bytes : AreBytes mem
   pub stands : StandsBetween l b w before (Rts ∷ []) mem
@@ -33,7 +33,7 @@ pub record HasFirmware (l : Layout) (b : Block) (w : Width) (before : List Instr
 -- So has that of an image of a block's items with the vectors behind them.
 abbrev pub ImageHasFirmware : Type 0
 ImageHasFirmware =
-    (image : List (ℕ × ℕ)) (l : Layout) (b : Block) (w : Width) (before : List Instr) → IsInOrder l before (Rts ∷ [])
+    (image : List (ℕ × ℕ)) (l : MemoryMap) (b : Block) (w : Width) (before : List Instr) → IsInOrder l before (Rts ∷ [])
     → IsApart l → IsInCode l → l.wait < l.eval → All (λ v. v < 2 ^ 8) (code_bytes before) → l.interrupt < 2 ^ 16
     → l.rules + 9984 ≤ vector → IsValid b → IsWithinLimits b
     → Holds image (given_by (block_items l b w before (Rts ∷ []) ++ vector_items l))

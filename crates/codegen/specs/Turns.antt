@@ -9,12 +9,12 @@ use Rattle.cpu12_isa.specs.declared.instr.Instr.TheVariants.{LdaaExtended, Beq, 
 use Rattle.cpu12_isa.specs.Flags.{has, zero_result}
 use Rattle.cpu12_isa.specs.Regions.{is_free}
 use Rattle.cpu12_parts.specs.State.{State}
-use Rattle.cpu12_parts.specs.Whole.{PlainWay}
+use Rattle.cpu12_parts.specs.Whole.{PlainExecution}
 use Rattle.cpu12_parts.specs.Executions.{Execution, all_steps}
 use Rattle.cpu12_emul.specs.Image.{image_memory}
 use Rattle.cpu12_emul.specs.Step.{reset_with}
 use Rattle.codegen.specs.declared.firmware.Firmware.{Firmware}
-use Rattle.eval_code.specs.declared.layout.Layout.{Layout}
+use Rattle.eval_code.specs.declared.memory_map.MemoryMap.{MemoryMap}
 use Rattle.eval_code.specs.declared.width.Width.{Width}
 use Rattle.eval_code.specs.Widths.{width_of, answer}
 use Rattle.eval_code.specs.Bounds.{steps_by}
@@ -32,20 +32,20 @@ pub record IsAt (image : List ℕ) (at : ℕ) (s : State) : Type 0 where
 
 -- Up to the copy's end what is read and written is neither free nor below SP on the stack. POSTED is read where the
 -- code waits.
-pub record IsLook (l : Layout) (image : List ℕ) (flags : ℕ) (s t : State) : Type 0 where
+pub record IsLook (l : MemoryMap) (image : List ℕ) (flags : ℕ) (s t : State) : Type 0 where
   pub step : IsShownPlain is_free flags (LdaaExtended l.ready) s t
   pub at : IsAt image (l.wait + 3) t
   pub found : has t.regs.ccr zero_result ≡ (slice_index s.mem l.ready == 0)
   pub mem : t.mem ≡ s.mem
 
 -- Where it was 0 the code waits again.
-pub record IsChoice (l : Layout) (image : List ℕ) (flags : ℕ) (s t : State) : Type 0 where
+pub record IsChoice (l : MemoryMap) (image : List ℕ) (flags : ℕ) (s t : State) : Type 0 where
   pub step : IsShownPlain is_free flags (Beq 0xFB) s t
   pub at : IsAt image (if has s.regs.ccr zero_result then l.wait else l.wait + 5) t
   pub mem : t.mem ≡ s.mem
 
 -- a plain instruction while I is 1, so that no interrupt comes before it, away from where the code waits
-pub record IsMaskedStep (l : Layout) (image : List ℕ) (flags d : ℕ) (s t : State) : Type 0 where
+pub record IsMaskedStep (l : MemoryMap) (image : List ℕ) (flags d : ℕ) (s t : State) : Type 0 where
   pub away : s.regs.pc ≢ l.wait
   pub steady : IsSteady is_postable true image s
   pub instruction : Instr
@@ -53,11 +53,11 @@ pub record IsMaskedStep (l : Layout) (image : List ℕ) (flags d : ℕ) (s t : S
   pub single : d ≡ 0
 
 -- where EVAL is called, behind n copies
-abbrev pub call_of : Layout → ℕ → ℕ
+abbrev pub call_of : MemoryMap → ℕ → ℕ
 call_of l n = l.wait + 12 + 6 * n
 
 -- Else I is set, MAIL copied to the n inputs and POSTED cleared, and I is 0 again; memory is as it was elsewhere.
-pub record IsCopied (l : Layout) (n : ℕ) (image : List ℕ) (flags : ℕ) (s t : State) : Type 0 where
+pub record IsCopied (l : MemoryMap) (n : ℕ) (image : List ℕ) (flags : ℕ) (s t : State) : Type 0 where
   pub masked : State
   pub sets : IsShownPlain is_free flags (Orcc 0x10) s masked
   pub ds : List ℕ
@@ -71,7 +71,7 @@ pub record IsCopied (l : Layout) (n : ℕ) (image : List ℕ) (flags : ℕ) (s t
 
 -- From there whole instructions lead to where the code waits again, with the answers after those before. None reads
 -- or writes the mailbox, which stays as it is. The n + 5 instructions up to the call have room in the bound.
-pub record IsTurned (l : Layout) (b : Block) (w : Width) (most : ℕ) (image : List ℕ) (flags : ℕ) (before : ℕ → ℕ)
+pub record IsTurned (l : MemoryMap) (b : Block) (w : Width) (most : ℕ) (image : List ℕ) (flags : ℕ) (before : ℕ → ℕ)
     (bytes : List ℕ) (s t : State) : Type 0 where
   pub ds : List ℕ
   pub execution : Execution (IsInterruptibleStep is_postable l image flags) ds s t
@@ -83,14 +83,14 @@ pub record IsTurned (l : Layout) (b : Block) (w : Width) (most : ℕ) (image : L
 
 -- the first arrival where the code waits, by three plain instructions from reset: no sample is posted, and the outputs
 -- are 0
-pub record IsReady (l : Layout) (b : Block) (w : Width) (image : List ℕ) (flags : ℕ) (s : State) : Type 0 where
-  pub way : PlainWay flags l.wait 3 (reset_with image) s
+pub record IsReady (l : MemoryMap) (b : Block) (w : Width) (image : List ℕ) (flags : ℕ) (s : State) : Type 0 where
+  pub execution : PlainExecution flags l.wait 3 (reset_with image) s
   pub at : IsAt image l.wait s
   pub cleared : slice_index s.mem l.ready ≡ 0
   pub outputs : HasAnswers l b w (λ o. 0) s.mem
 
 -- A firmware takes its turns so, from whatever states interrupts leave before the copy.
-pub record TakesTurns (l : Layout) (b : Block) (w : Width) (most : ℕ) (image : List ℕ) (flags : ℕ) : Type 0 where
+pub record TakesTurns (l : MemoryMap) (b : Block) (w : Width) (most : ℕ) (image : List ℕ) (flags : ℕ) : Type 0 where
   pub arrives : (s : State) × IsReady l b w image flags s
   pub looks : (s : State) → IsAt image l.wait s → (t : State) × IsLook l image flags s t
   pub chooses : (s : State) → IsAt image (l.wait + 3) s → (t : State) × IsChoice l image flags s t
@@ -104,7 +104,7 @@ pub record TakesTurns (l : Layout) (b : Block) (w : Width) (most : ℕ) (image :
 abbrev pub TakesPosts : Block → Firmware → Type 0
 TakesPosts b f =
     (flags : ℕ) → flags < 2 ^ 8
-    → TakesTurns f.layout b (width_of f.wide) f.instr_bound (image_memory f.image.bytes) flags
+    → TakesTurns f.memory_map b (width_of f.wide) f.instr_bound (image_memory f.image.bytes) flags
 
 -- The mailbox firmware of a block does.
 abbrev pub MailboxTakesPosts : Type 0

@@ -9,7 +9,7 @@ use Rattle.cpu12_parts.specs.State.{State}
 use Rattle.cpu12_parts.specs.Executions.{IsUntil}
 use Rattle.cpu12_emul.specs.Image.{image_memory}
 use Rattle.cpu12_emul.specs.Step.{reset_with}
-use Rattle.eval_code.specs.declared.layout.Layout.{Layout}
+use Rattle.eval_code.specs.declared.memory_map.MemoryMap.{MemoryMap}
 use Rattle.eval_code.specs.declared.width.Width.{Width}
 use Rattle.eval_code.specs.declared.width.Width.TheVariants.{Byte, Word}
 use Rattle.codegen.specs.declared.firmware.Firmware.{Firmware}
@@ -35,16 +35,16 @@ values_from w mem at (suc n) = value_at w mem at ∷ values_from w mem (at + pla
 
 -- the values of a firmware's outputs
 abbrev pub values_in : Firmware → State → List ℕ
-values_in f s = values_from (width_of f.wide) s.mem f.layout.outputs f.outputs
+values_in f s = values_from (width_of f.wide) s.mem f.memory_map.outputs f.outputs
 
 -- PC is where the code waits
-abbrev pub is_waiting : Layout → State → Bool
+abbrev pub is_waiting : MemoryMap → State → Bool
 is_waiting l s = s.regs.pc == l.wait
 
 -- a sample is given in one state where the code waits, and answered in the next
 pub record IsAnswerTo (f : Firmware) (flags : ℕ) (bytes : List ℕ) (s t : State) (a : Answer) : Type 0 where
   pub ds : List ℕ
-  pub until : IsUntil (is_idle f.layout) flags ds (given f.layout bytes s) t
+  pub until : IsUntil (is_idle f.memory_map) flags ds (given f.memory_map bytes s) t
   pub values : a.values ≡ values_in f t
   pub instructions : a.instructions ≡ length ds
 
@@ -59,7 +59,7 @@ AreAnswersTo f flags (bytes ∷ samples) (a ∷ answers) s =
 pub record AreUninterrupted (f : Firmware) (flags : ℕ) (samples : List (List ℕ)) (answers : List Answer) : Type 0 where
   pub first : State
   pub ds : List ℕ
-  pub arrived : IsUntil (is_waiting f.layout) flags ds (reset_with (image_memory f.image.bytes)) first
+  pub arrived : IsUntil (is_waiting f.memory_map) flags ds (reset_with (image_memory f.image.bytes)) first
   pub each : AreAnswersTo f flags samples answers first
 
 -- They have one value.
@@ -85,7 +85,7 @@ AreAnswersOf w b most before (bytes ∷ samples) (a ∷ answers) =
 -- the answers of samples that whole instructions answer where interrupts may come
 abbrev pub answers_by : (b : Block) (f : Firmware) (image : List ℕ) (flags : ℕ) (before : ℕ → ℕ)
     (samples : List (List ℕ)) (s : State)
-    → AreAnswered f.layout b (width_of f.wide) f.instr_bound image flags before samples s → List Answer
+    → AreAnswered f.memory_map b (width_of f.wide) f.instr_bound image flags before samples s → List Answer
 answers_by b f image flags before [] s h = []
 answers_by b f image flags before (bytes ∷ samples) s h =
     record { values = values_in f h.0; instructions = length h.1.0.ds }
@@ -95,8 +95,8 @@ answers_by b f image flags before (bytes ∷ samples) s h =
 abbrev pub AnsweredAreUninterrupted : Type 0
 AnsweredAreUninterrupted =
     (b : Block) (f : Firmware) (flags : ℕ) (samples : List (List ℕ)) (s : State) → f.outputs ≡ length b.outputs
-    → IsArrived f.layout (image_memory f.image.bytes) flags s
-    → (h : AreAnswered f.layout b (width_of f.wide) f.instr_bound (image_memory f.image.bytes) flags
+    → IsArrived f.memory_map (image_memory f.image.bytes) flags s
+    → (h : AreAnswered f.memory_map b (width_of f.wide) f.instr_bound (image_memory f.image.bytes) flags
     (λ o. 0) samples s)
     → AreUninterrupted f flags samples (answers_by b f (image_memory f.image.bytes) flags (λ o. 0) samples s h)
     × AreAnswersOf (width_of f.wide) b f.instr_bound

@@ -12,7 +12,7 @@ ghost use Rattle.codegen.specs.Uninterrupted.{AnswersUninterrupted};
 use crate::items::firmware_items;
 use crate::laws::{firmware_answers, firmware_is_uninterrupted};
 use cpu12_asm::{AsmFault, Image, Item, assemble_items};
-use eval_code::{Layout, Width, blocks_are_placed, instruction_bound, steps_by};
+use eval_code::{MemoryMap, Width, blocks_are_placed, instruction_bound, steps_by};
 use fuzzy_meaning::Block;
 use rule_layout::{LayoutFault, spread};
 use std::alloc::{AllocError, Global};
@@ -23,7 +23,7 @@ pub struct Firmware {
     /// The bytes of its memory, and where it starts.
     pub image: Image,
     /// Where its parts stand.
-    pub layout: Layout,
+    pub memory_map: MemoryMap,
     pub inputs: u8,
     pub outputs: u8,
     /// Whether an answer has two bytes, the high one first, and not one.
@@ -108,7 +108,7 @@ fn compile_at(alloc: Global, width: Width, block: &Block) -> Result<Firmware, La
         Ok(flat) => flat,
         Err(fault) => return Err(fault),
     };
-    let Ok(items) = firmware_items(alloc, &Layout::MAIN, width, block, &flat) else {
+    let Ok(items) = firmware_items(alloc, &MemoryMap::MAIN, width, block, &flat) else {
         return Err(LayoutFault::Memory);
     };
     let Ok(image) = image_of(alloc, items.as_slice()) else {
@@ -118,7 +118,7 @@ fn compile_at(alloc: Global, width: Width, block: &Block) -> Result<Firmware, La
     let step_bound = steps_by(block, &flat, instr_bound);
     Ok(Firmware {
         image,
-        layout: Layout::MAIN,
+        memory_map: MemoryMap::MAIN,
         inputs: block.inputs.len() as u8,
         outputs: block.outputs.len() as u8,
         wide: width.is_wide(),

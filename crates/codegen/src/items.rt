@@ -9,33 +9,33 @@ ghost use Rattle.codegen.specs.Images.{vector_items, firmware_items};
 use cpu12_asm::Item;
 use cpu12_isa::instr::Instr;
 use cpu12_isa::mem::VECTOR;
-use eval_code::{Layout, Width, push_block, push_word};
+use eval_code::{MemoryMap, Width, push_block, push_word};
 use fuzzy_meaning::Block;
 use rule_layout::Flat;
 use std::alloc::{AllocError, Global};
 
 /// The code before EVAL of a firmware that stands alone.
-pub fn frame_code(layout: &Layout) -> [Instr; 9]
-    ensures { result ≡ frame_code layout.now }
+pub fn frame_code(memory_map: &MemoryMap) -> [Instr; 9]
+    ensures { result ≡ frame_code memory_map.now }
 {
     [
         Instr::LdsImmediate(0x2000),
-        Instr::ClrExtended(layout.ready),
+        Instr::ClrExtended(memory_map.ready),
         Instr::Andcc(0xEF),
-        Instr::LdaaExtended(layout.ready),
+        Instr::LdaaExtended(memory_map.ready),
         Instr::Beq(0xFB),
-        Instr::JsrExtended(layout.eval),
-        Instr::ClrExtended(layout.ready),
+        Instr::JsrExtended(memory_map.eval),
+        Instr::ClrExtended(memory_map.ready),
         Instr::Bra(0xF3),
         Instr::Rti,
     ]
 }
 
-/// The items of a block's firmware that stands alone at a layout, with answers of a width. `flat` is
+/// The items of a block's firmware that stands alone at a memory map, with answers of a width. `flat` is
 /// the block's rules as `spread` lays them out.
 pub fn firmware_items(
     alloc: Global,
-    layout: &Layout,
+    memory_map: &MemoryMap,
     width: Width,
     block: &Block,
     flat: &Flat,
@@ -43,24 +43,24 @@ pub fn firmware_items(
     requires valid { IsValid block.now }
     requires flat { flat.now ≡ flat_of block.now }
     requires laid_out { IsLaidOut flat.now }
-    requires room { HasRoom layout.now }
-    ensures { IfOk result (λ items. items.items ≡ firmware_items layout.now block.now width) }
+    requires room { HasRoom memory_map.now }
+    ensures { IfOk result (λ items. items.items ≡ firmware_items memory_map.now block.now width) }
 {
     let mut items = Vec::new(alloc);
-    let (before, behind) = (frame_code(layout), [Instr::Rts]);
+    let (before, behind) = (frame_code(memory_map), [Instr::Rts]);
     push_block(
-        alloc, &mut items, layout, width, block, flat, &before, &behind,
+        alloc, &mut items, memory_map, width, block, flat, &before, &behind,
     )?;
-    push_vectors(&mut items, layout)?;
+    push_vectors(&mut items, memory_map)?;
     Ok(items)
 }
 
 /// The interrupt's and the reset vector.
-pub fn push_vectors(items: &mut Vec<Item>, layout: &Layout) -> Result<(), AllocError>
-    ensures { OnOk result (items.new.items ≡ items.old.items ++ vector_items layout.now) }
+pub fn push_vectors(items: &mut Vec<Item>, memory_map: &MemoryMap) -> Result<(), AllocError>
+    ensures { OnOk result (items.new.items ≡ items.old.items ++ vector_items memory_map.now) }
 {
     items.push(Item::Place(VECTOR))?;
-    push_word(items, layout.interrupt)?;
+    push_word(items, memory_map.interrupt)?;
     items.push(Item::Place(0xFFFE))?;
-    push_word(items, layout.code)
+    push_word(items, memory_map.code)
 }

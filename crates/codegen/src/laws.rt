@@ -70,14 +70,14 @@ pub fn frames_lead()
     ensures turns { FrameCallsAndLeaves }
 {}
 
-/// The free bytes leave the layout of a firmware that stands alone as it is.
+/// The free bytes leave the memory map of a firmware that stands alone as it is.
 pub fn free_bytes_leave()
     ensures { FreeBytesLeave }
 {}
 
 /// The firmware of a block answers every list of samples over bytes, whatever the open flags are,
 /// within its bounds; and at each instruction what an interrupt may change is not read, whichever
-/// bytes these are that leave its layout alone.
+/// bytes these are that leave its memory map alone.
 pub fn firmware_answers_beside()
     ensures { FirmwareAnswersBeside }
 {
@@ -151,7 +151,7 @@ pub fn uninterrupted_are_one()
     executions_are_one();
 }
 
-/// Blocks that are the same have the same items at a layout; images of the same items are one.
+/// Blocks that are the same have the same items at a memory map; images of the same items are one.
 pub fn items_are_one()
     ensures items { ItemsAreOne }
     ensures images { ImagesAreOne }

@@ -2,7 +2,7 @@
 ghost use Rattle.std.specs.Prelude.{◌≡◌, ◌+◌, ◌^◌, ◌<◌, ◌≤◌, ◌++◌, false, length, IfOk, IfErr, OnOk};
 ghost use Rattle.fuzzy_meaning.specs.Blocks.{IsValid};
 ghost use Rattle.rule_layout.specs.Layouts.{flat_of, IsLaidOut, IsWithinLimits, IsFaultOf};
-ghost use Rattle.codegen.specs.Mailboxes.{mailbox_layout, copy_code, mailbox_code, mailbox_items, mailbox_bound};
+ghost use Rattle.codegen.specs.Mailboxes.{mailbox_map, copy_code, mailbox_code, mailbox_items, mailbox_bound};
 ghost use Rattle.codegen.specs.Mailboxes.{IsMailboxOf};
 ghost use Rattle.codegen.specs.Turns.{TakesPosts};
 ghost use Rattle.codegen.specs.Uninterrupted.{AnswersUninterrupted};
@@ -12,23 +12,23 @@ use crate::items::push_vectors;
 use crate::laws::{mailbox_is_uninterrupted, mailbox_takes_posts};
 use cpu12_asm::Item;
 use cpu12_isa::instr::Instr;
-use eval_code::{Layout, Width, blocks_are_placed, instruction_bound, push_block, steps_by};
+use eval_code::{MemoryMap, Width, blocks_are_placed, instruction_bound, push_block, steps_by};
 use fuzzy_meaning::Block;
 use rule_layout::{Flat, LayoutFault, spread};
 use std::alloc::{AllocError, Global};
 
-/// The layout for so many inputs: each takes six bytes of code for its copy.
-fn mailbox_layout(inputs: u8) -> Layout
+/// The memory map for so many inputs: each takes six bytes of code for its copy.
+fn mailbox_map(inputs: u8) -> MemoryMap
     requires { inputs ≤ 8 }
-    ensures { result ≡ mailbox_layout inputs }
+    ensures { result ≡ mailbox_map inputs }
 {
     let copies = 6 * u16::from(inputs);
-    Layout {
+    MemoryMap {
         interrupt: 0xC019 + copies,
         eval: 0xC01A + copies,
         ready: 0x1028,
         samples: 0x1020,
-        ..Layout::MAIN
+        ..MemoryMap::MAIN
     }
 }
 
@@ -45,25 +45,25 @@ fn push_copies(code: &mut Vec<Instr>, from: u16, to: u16, count: u8) -> Result<(
 
 /// The code before EVAL. POSTED is looked at in a loop; where it is set, MAIL is copied to the inputs
 /// while I is 1, so that no handler comes between two bytes of a sample.
-fn mailbox_code(alloc: Global, layout: &Layout, inputs: u8) -> Result<Vec<Instr>, AllocError>
+fn mailbox_code(alloc: Global, memory_map: &MemoryMap, inputs: u8) -> Result<Vec<Instr>, AllocError>
     requires few { inputs ≤ 8 }
-    requires room { (layout.now.samples + 8 < 2 ^ 16) × (layout.now.inputs + 8 < 2 ^ 16) }
-    ensures { IfOk result (λ code. code.items ≡ mailbox_code layout.now inputs) }
+    requires room { (memory_map.now.samples + 8 < 2 ^ 16) × (memory_map.now.inputs + 8 < 2 ^ 16) }
+    ensures { IfOk result (λ code. code.items ≡ mailbox_code memory_map.now inputs) }
 {
     let mut code = Vec::new(alloc);
     code.extend_from_slice(&[
         Instr::LdsImmediate(0x2000),
-        Instr::ClrExtended(layout.ready),
+        Instr::ClrExtended(memory_map.ready),
         Instr::Andcc(0xEF),
-        Instr::LdaaExtended(layout.ready),
+        Instr::LdaaExtended(memory_map.ready),
         Instr::Beq(0xFB),
         Instr::Orcc(0x10),
     ])?;
-    push_copies(&mut code, layout.samples, layout.inputs, inputs)?;
+    push_copies(&mut code, memory_map.samples, memory_map.inputs, inputs)?;
     code.extend_from_slice(&[
-        Instr::ClrExtended(layout.ready), // Behind the copy, so that no post is lost.
+        Instr::ClrExtended(memory_map.ready), // Behind the copy, so that no post is lost.
         Instr::Andcc(0xEF), // Let in before EVAL.
-        Instr::JsrExtended(layout.eval),
+        Instr::JsrExtended(memory_map.eval),
         Instr::Bra(239 - 6 * inputs),
         Instr::Rti,
     ])?;
@@ -73,7 +73,7 @@ fn mailbox_code(alloc: Global, layout: &Layout, inputs: u8) -> Result<Vec<Instr>
 /// The items of a block's mailbox firmware. `flat` is the block's rules as `spread` lays them out.
 fn mailbox_items(
     alloc: Global,
-    layout: &Layout,
+    memory_map: &MemoryMap,
     width: Width,
     block: &Block,
     flat: &Flat,
@@ -81,22 +81,22 @@ fn mailbox_items(
     requires valid { IsValid block.now }
     requires flat { flat.now ≡ flat_of block.now }
     requires laid_out { IsLaidOut flat.now }
-    requires layout { layout.now ≡ mailbox_layout (length block.now.inputs) }
-    ensures { IfOk result (λ items. items.items ≡ mailbox_items layout.now block.now width) }
+    requires memory_map { memory_map.now ≡ mailbox_map (length block.now.inputs) }
+    ensures { IfOk result (λ items. items.items ≡ mailbox_items memory_map.now block.now width) }
 {
-    let before = mailbox_code(alloc, layout, block.inputs.len() as u8)?;
+    let before = mailbox_code(alloc, memory_map, block.inputs.len() as u8)?;
     let mut items = Vec::new(alloc);
     push_block(
         alloc,
         &mut items,
-        layout,
+        memory_map,
         width,
         block,
         flat,
         &before,
         &[Instr::Rts],
     )?;
-    push_vectors(&mut items, layout)?;
+    push_vectors(&mut items, memory_map)?;
     Ok(items)
 }
 
@@ -127,8 +127,8 @@ pub fn compile_post(alloc: Global, block: &Block) -> Result<Firmware, LayoutFaul
         Err(fault) => return Err(fault),
     };
     let inputs = block.inputs.len() as u8;
-    let layout = mailbox_layout(inputs);
-    let Ok(items) = mailbox_items(alloc, &layout, Width::Byte, block, &flat) else {
+    let memory_map = mailbox_map(inputs);
+    let Ok(items) = mailbox_items(alloc, &memory_map, Width::Byte, block, &flat) else {
         return Err(LayoutFault::Memory);
     };
     let Ok(image) = image_of(alloc, items.as_slice()) else {
@@ -138,7 +138,7 @@ pub fn compile_post(alloc: Global, block: &Block) -> Result<Firmware, LayoutFaul
     let step_bound = steps_by(block, &flat, instr_bound);
     Ok(Firmware {
         image,
-        layout,
+        memory_map,
         inputs,
         outputs: block.outputs.len() as u8,
         wide: false,

@@ -23,10 +23,10 @@ pub record IsPlainStep (flags : ℕ) (i : Instr) (s t : State) : Type 0 where
   pub after : t ≡ after_plain flags i s
 
 -- n plain instructions lead from s to t, and none of them stands at this address
-abbrev pub PlainWay : ℕ → ℕ → ℕ → State → State → Type 0
-PlainWay flags at zero s t = s ≡ t
-PlainWay flags at (suc n) s t =
-    (u : State) × ((s.regs.pc ≢ at) × ((i : Instr) × IsPlainStep flags i s u) × PlainWay flags at n u t)
+abbrev pub PlainExecution : ℕ → ℕ → ℕ → State → State → Type 0
+PlainExecution flags at zero s t = s ≡ t
+PlainExecution flags at (suc n) s t =
+    (u : State) × ((s.regs.pc ≢ at) × ((i : Instr) × IsPlainStep flags i s u) × PlainExecution flags at n u t)
 
 -- REV or REVW stands at PC with its rules, and leads from s to t by d parts more than one
 pub record IsRulesStep (i : Instr) (f : Form) (flags d : ℕ) (p : Rule) (ps : List Rule) (s t : State) : Type 0 where

@@ -103,13 +103,13 @@ impl End {
 
 /// The upper end of a condition's reach over a box, or the lower.
 #[cycle(ends)]
-pub(crate) fn end_of(cond: &Cond, upper: bool, block: &Block, terms: &BoxTerms) -> End
-    requires cond { IsValidCondition block.now (condition_of cond.now) }
+pub(crate) fn end_of(condition: &Cond, upper: bool, block: &Block, terms: &BoxTerms) -> End
+    requires condition { IsValidCondition block.now (condition_of condition.now) }
     requires block { IsValid block.now }
     requires terms { AreBoxTerms block.now terms.now }
-    ensures { IsEndOfCondition block.now terms.now.bytes.0.items (condition_of cond.now) upper result }
+    ensures { IsEndOfCondition block.now terms.now.bytes.0.items (condition_of condition.now) upper result }
 {
-    match cond {
+    match condition {
         Cond::Is(input, term) => {
             End::of_reach(reach_of_literal(block, *input, *term, terms), upper)
         }

@@ -12,11 +12,11 @@ use fuzzy_meaning::Cond;
 use std::alloc::{AllocError, Global};
 
 /// The flat condition of a condition.
-pub(crate) fn flattened(alloc: Global, cond: &Cond) -> Result<Cond, AllocError>
-    ensures { IfOk result (λ c. condition_of c ≡ flat (condition_of cond.now)) }
+pub(crate) fn flattened(alloc: Global, condition: &Cond) -> Result<Cond, AllocError>
+    ensures { IfOk result (λ c. condition_of c ≡ flat (condition_of condition.now)) }
 {
     let mut pieces = Vec::new(alloc);
-    push_pieces(alloc, cond, false, false, &mut pieces)?;
+    push_pieces(alloc, condition, false, false, &mut pieces)?;
     Ok(Cond::And(pieces))
 }
 
@@ -25,15 +25,15 @@ pub(crate) fn flattened(alloc: Global, cond: &Cond) -> Result<Cond, AllocError>
 #[cycle(flattening)]
 fn push_pieces(
     alloc: Global,
-    cond: &Cond,
+    condition: &Cond,
     any: bool,
     odd: bool,
     pieces: &mut Vec<Cond>,
 ) -> Result<(), AllocError>
     ensures { OnOk result (map condition_of pieces.new.items
-        ≡ map condition_of pieces.old.items ++ pieces_of any odd (condition_of cond.now)) }
+        ≡ map condition_of pieces.old.items ++ pieces_of any odd (condition_of condition.now)) }
 {
-    match cond {
+    match condition {
         Cond::Is(input, term) => {
             let literal = under(alloc, Cond::Is(*input, *term), odd)?;
             pieces.push(literal)?;
@@ -97,14 +97,14 @@ fn push_each(
 }
 
 /// A condition, or where `odd` its negation.
-fn under(alloc: Global, cond: Cond, odd: bool) -> Result<Cond, AllocError>
-    ensures { IfOk result (λ c. condition_of c ≡ under_of odd (condition_of cond)) }
+fn under(alloc: Global, condition: Cond, odd: bool) -> Result<Cond, AllocError>
+    ensures { IfOk result (λ c. condition_of c ≡ under_of odd (condition_of condition)) }
 {
     if !odd {
-        return Ok(cond);
+        return Ok(condition);
     }
-    let cond = Box::new(alloc, cond)?;
-    Ok(Cond::Not(cond))
+    let condition = Box::new(alloc, condition)?;
+    Ok(Cond::Not(condition))
 }
 
 /// A flat condition reaches as far over each box as the one that it is made of.

@@ -12,15 +12,15 @@ use fuzzy_meaning::{Block, Cond, parts_are_valid};
 
 /// In parts of 10^9.
 #[cycle(errors)]
-pub(crate) fn error_of(cond: &Cond, block: &Block, terms: &BoxTerms) -> u64
-    requires cond { IsValidCondition block.now (condition_of cond.now) }
+pub(crate) fn error_of(condition: &Cond, block: &Block, terms: &BoxTerms) -> u64
+    requires condition { IsValidCondition block.now (condition_of condition.now) }
     requires block { IsValid block.now }
     requires terms { AreBoxTerms block.now terms.now }
     ensures value { result
-        ≡ greatest_literal (term_errors block.now terms.now.bytes.0.items) (condition_of cond.now) }
+        ≡ greatest_literal (term_errors block.now terms.now.bytes.0.items) (condition_of condition.now) }
     ensures small { result ≤ 1000000000 }
 {
-    match cond {
+    match condition {
         Cond::Is(input, term) => reach_of_literal(block, *input, *term, terms).error,
         Cond::Not(inner) => error_of(inner, block, terms),
         Cond::And(parts) => error_among(parts.as_slice(), block, terms),

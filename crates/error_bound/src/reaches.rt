@@ -43,10 +43,10 @@ pub(crate) struct Literal {
 
 /// The literal that a condition is, which may stand behind one NOT.
 #[inline]
-pub(crate) fn literal_in(cond: &Cond) -> Option<Literal>
-    ensures { IfSome result (λ l. condition_of cond.now ≡ under l.negated (is l.input l.term)) }
+pub(crate) fn literal_in(condition: &Cond) -> Option<Literal>
+    ensures { IfSome result (λ l. condition_of condition.now ≡ under l.negated (is l.input l.term)) }
 {
-    match cond {
+    match condition {
         Cond::Is(input, term) => Some(Literal {
             input: *input,
             term: *term,

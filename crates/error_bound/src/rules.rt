@@ -254,8 +254,8 @@ fn end_of_strength(
     requires terms { AreBoxTerms block.now terms.now }
     ensures { IsEndOfRule block.now terms.now.bytes.0.items rule.now upper result }
 {
-    let cond = condition_in(kept, place, rule, block);
-    let end = end_of(cond, upper, block, terms);
+    let condition = condition_in(kept, place, rule, block);
+    let end = end_of(condition, upper, block, terms);
     let weight = rule.weight.unwrap_or(Dec(10_000));
     End {
         truth: end.truth.times(weight),
@@ -277,10 +277,10 @@ fn error_of_strength(
     requires terms { AreBoxTerms block.now terms.now }
     ensures { IsErrorOfRule block.now terms.now.bytes.0.items rule.now result }
 {
-    let cond = condition_in(kept, place, rule, block);
+    let condition = condition_in(kept, place, rule, block);
     let weight = rule.weight.unwrap_or(Dec(10_000));
     let byte = weight_byte(rule.weight);
-    error_of(cond, block, terms) + weight_error(weight, byte) + floor_error(byte)
+    error_of(condition, block, terms) + weight_error(weight, byte) + floor_error(byte)
 }
 
 /// The condition of the rule at a place, the flat one where that is kept.

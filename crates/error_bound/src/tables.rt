@@ -76,8 +76,8 @@ fn flat_conditions(alloc: Global, block: &Block) -> Result<Vec<Cond>, AllocError
     flattening_keeps_reaches();
     let mut conditions = Vec::new(alloc);
     for rule in block.rules.as_slice() {
-        let cond = flattened(alloc, &rule.cond)?;
-        conditions.push(cond)?;
+        let condition = flattened(alloc, &rule.cond)?;
+        conditions.push(condition)?;
     }
     Ok(conditions)
 }

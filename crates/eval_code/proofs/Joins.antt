@@ -15,7 +15,7 @@ use Rattle.rule_layout.specs.declared.flat.Flat.{Flat}
 use Rattle.rule_layout.specs.declared.flat.Slot.{Slot}
 use Rattle.rule_layout.specs.Slots.{slots_of, term_count}
 use Rattle.rule_layout.specs.Layouts.{HasPartsOf}
-use Rattle.eval_code.specs.declared.layout.Layout.{Layout}
+use Rattle.eval_code.specs.declared.memory_map.MemoryMap.{MemoryMap}
 use Rattle.eval_code.specs.declared.width.Width.{Width}
 use Rattle.eval_code.specs.Code.{eval_code_over, eval_code, block_code}
 use Rattle.eval_code.specs.Data.{table_bytes, singleton_bytes, weight_bytes_by, weight_bytes, rule_bytes_by, rule_bytes}
@@ -57,7 +57,7 @@ arranged : (start p e t s b w i1 i3 i4 i5 i6 i7 : List Item) → i1 ≡ start ++
 arranged start p e t s b w i1 i3 i4 i5 i6 i7 h1 h3 h4 h5 h6 h7 = simp (h7, h6, h5, h4, h3, h1, append_assoc)
 
 -- the code over the parts of a block and its rules' layout
-pub eval_code_over-flat : (l : Layout) (b : Block) (w : Width) (flat : Flat) (inputs : List Input)
+pub eval_code_over-flat : (l : MemoryMap) (b : Block) (w : Width) (flat : Flat) (inputs : List Input)
     (outputs : List Output) (slots : List Slot) → HasPartsOf flat b → inputs ≡ b.inputs → outputs ≡ b.outputs
     → slots ≡ flat.slots → eval_code_over l w inputs outputs slots flat.form ≡ eval_code l b w
 eval_code_over-flat l b w flat inputs outputs slots h i o s =
@@ -66,7 +66,7 @@ eval_code_over-flat l b w flat inputs outputs slots h i o s =
     rw (i, o, same_slots, f)
 
 -- the weights and the rule list of a block's rules' layout
-pub rule_data-flat : (l : Layout) (b : Block) (flat : Flat) → HasPartsOf flat b
+pub rule_data-flat : (l : MemoryMap) (b : Block) (flat : Flat) → HasPartsOf flat b
     → bytes_at l.weights (weight_bytes_by flat.form flat.weights)
     ++ bytes_at l.rules (rule_bytes_by l.slots flat.form flat.conjunctions) ≡ bytes_at l.weights (weight_bytes b)
     ++ bytes_at l.rules (rule_bytes l.slots b)
@@ -77,7 +77,7 @@ rule_data-flat l b flat h =
     rw (f, w, c)
 
 -- the parts of a block, put one behind the other, are its items
-pub block_items-parts : (l : Layout) (b : Block) (w : Width) (before behind : List Instr)
+pub block_items-parts : (l : MemoryMap) (b : Block) (w : Width) (before behind : List Instr)
     (start i1 i3 i4 i5 i6 i7 : List Item) → i1 ≡ start ++ Place l.code ∷ []
     → i3 ≡ i1 ++ map Op (block_code l b w before behind) → i4 ≡ i3 ++ bytes_at l.tables (table_bytes b)
     → i5 ≡ i4 ++ Place l.singletons ∷ [] → i6 ≡ i5 ++ map Byte (singleton_bytes b)
@@ -91,7 +91,7 @@ block_items-parts l b w before behind start i1 i3 i4 i5 i6 i7 h1 h3 h4 h5 h6 h7 
     h4 h5 h6 h7
 
 -- the same in their order, before other items
-abbrev pub block_then : Layout → Block → Width → List Instr → List Instr → List Item → List Item
+abbrev pub block_then : MemoryMap → Block → Width → List Instr → List Instr → List Item → List Item
 block_then l b w before behind rest =
     code_at l.code (block_code l b w before behind)
     ++ (bytes_at l.tables (table_bytes b)
@@ -100,7 +100,7 @@ block_then l b w before behind rest =
     ++ (bytes_at l.rules (rule_bytes l.slots b)
     ++ rest))))
 
-pub block_items-then : (l : Layout) (b : Block) (w : Width) (before behind : List Instr) (rest : List Item)
+pub block_items-then : (l : MemoryMap) (b : Block) (w : Width) (before behind : List Instr) (rest : List Item)
     → block_items l b w before behind ++ rest ≡ block_then l b w before behind rest
 unfolding block_items
 block_items-then l b w before behind rest =

@@ -1,4 +1,4 @@
--- A block's items at the addresses of any layout.
+-- A block's items at the addresses of any memory map.
 use Rattle.std.proofs.Common.{◌≡◌, ⊎_elim, ℕ, ◌+◌, ◌^◌, ◌<◌, ◌≤◌, List, [], ◌∷◌, ◌++◌, map, length, None, ap, ◌∙◌}
 use Rattle.std.proofs.Common.{subst, arith, append-nil}
 use Rattle.std.proofs.lemmas.List.Elements.{All-nil, All-cons}
@@ -14,7 +14,7 @@ use Rattle.cpu12_asm.specs.declared.items.Item.TheVariants.{Place, Byte, Op}
 use Rattle.cpu12_asm.specs.Bytes.{byte_at}
 use Rattle.cpu12_asm.specs.Items.{place_behind, given_by, IsRisingFrom}
 use Rattle.cpu12_emul.specs.Image.{image_memory, HoldsImage}
-use Rattle.eval_code.specs.declared.layout.Layout.{Layout}
+use Rattle.eval_code.specs.declared.memory_map.MemoryMap.{MemoryMap}
 use Rattle.eval_code.specs.declared.width.Width.{Width}
 use Rattle.eval_code.specs.Code.{code_bytes, eval_code, block_code}
 use Rattle.eval_code.specs.Data.{table_bytes, singleton_bytes, weight_bytes, rule_bytes}
@@ -34,7 +34,8 @@ sizes_of : (b : Block) → BlockFacts b → IsWithinLimits b → HasSizes b
 sizes_of b facts h =
     record { few_slots = facts.few_slots; few_conjunctions = h.few_conjunctions; short_list = h.short_list }
 
-pub parts : LayoutLaw → (l : Layout) (b : Block) (w : Width) (before behind : List Instr) → IsValid b → IsWithinLimits b
+pub parts : LayoutLaw → (l : MemoryMap) (b : Block) (w : Width) (before behind : List Instr) → IsValid b
+    → IsWithinLimits b
     → HasPartSizes l b w before behind
 parts law l b w before behind v limits = part_sizes l b w before behind v (sizes_of b (block_facts law b v) limits)
 
@@ -63,7 +64,7 @@ is_short law l b w before behind v limits =
     )
 
 -- no byte below the code
-none_before : Rises → (l : Layout) (b : Block) (w : Width) (before behind : List Instr) (at : ℕ)
+none_before : Rises → (l : MemoryMap) (b : Block) (w : Width) (before behind : List Instr) (at : ℕ)
     → IsRisingFrom 0 (block_items l b w before behind) → at < l.code
     → byte_at (given_by (block_items l b w before behind)) at ≡ None
 unfolding block_items
@@ -117,7 +118,7 @@ gives_bytes encoded law near l b w before behind apart v front back =
     all_pairs (given_by items) (given_fit 0 items (subst ItemsFit (append-nil items) fit))
 
 -- the parts stand where the same bytes do
-there : (l : Layout) (b : Block) (w : Width) (before behind : List Instr) (image : List (ℕ × ℕ)) (mem : List ℕ)
+there : (l : MemoryMap) (b : Block) (w : Width) (before behind : List Instr) (image : List (ℕ × ℕ)) (mem : List ℕ)
     → IsInOrder l before behind
     → HasPartSizes l b w before behind → HasPlaces l image mem → Stood (image_memory image) l b w before behind
     → Stood mem l b w before behind

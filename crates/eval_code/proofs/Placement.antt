@@ -16,7 +16,7 @@ use Rattle.cpu12_isa.specs.declared.instr.Instr.{Instr}
 use Rattle.cpu12_asm.specs.declared.items.Item.{Item}
 use Rattle.cpu12_asm.specs.declared.items.Item.TheVariants.{Byte, Op}
 use Rattle.cpu12_asm.specs.Items.{IsRisingFrom}
-use Rattle.eval_code.specs.declared.layout.Layout.{Layout}
+use Rattle.eval_code.specs.declared.memory_map.MemoryMap.{MemoryMap}
 use Rattle.eval_code.specs.declared.width.Width.{Width}
 use Rattle.eval_code.specs.Code.{eval_code, block_code}
 use Rattle.eval_code.specs.Data.{table_bytes, singleton_bytes, weight_bytes_by, weight_bytes, bytes_of_word}
@@ -36,7 +36,7 @@ pub record HasSizes (b : Block) : Type 0 where
   pub short_list : list_size b ≤ 9984
 
 -- each part behind the code ends below the next one
-pub record IsSpaced (l : Layout) : Type 0 where
+pub record IsSpaced (l : MemoryMap) : Type 0 where
   pub tables : l.tables + 480 ≤ l.singletons
   pub singletons : l.singletons + 60 ≤ l.weights
   pub weights : l.weights + 512 ≤ l.rules
@@ -115,14 +115,14 @@ rises_part : (at p : ℕ) (bytes : List ℕ) (items : List Item) → at ≤ p �
 rises_part at p bytes items low rest = (low, rises_bytes p bytes items rest)
 
 -- the parts by their sizes
-pub record HasPartSizes (l : Layout) (b : Block) (w : Width) (before behind : List Instr) : Type 0 where
+pub record HasPartSizes (l : MemoryMap) (b : Block) (w : Width) (before behind : List Instr) : Type 0 where
   pub code : code_size (block_code l b w before behind) ≤ code_size before + 2416 + code_size behind
   pub tables : length (table_bytes b) ≤ 480
   pub singletons : length (singleton_bytes b) ≤ 60
   pub weights : length (weight_bytes b) ≤ 512
   pub rules : length (rule_bytes l.slots b) ≤ 9984
 
-pub part_sizes : (l : Layout) (b : Block) (w : Width) (before behind : List Instr) → IsValid b → HasSizes b
+pub part_sizes : (l : MemoryMap) (b : Block) (w : Width) (before behind : List Instr) → IsValid b → HasSizes b
     → HasPartSizes l b w before behind
 part_sizes l b w before behind v h =
     let terms = sum_by-term_count b.inputs v.few_inputs v.inputs in
@@ -140,7 +140,7 @@ part_sizes l b w before behind v h =
     }
 
 -- a block's items never go back, where the code ends below the tables
-pub block_rises : (at : ℕ) (l : Layout) (b : Block) (w : Width) (before behind : List Instr) (rest : List Item)
+pub block_rises : (at : ℕ) (l : MemoryMap) (b : Block) (w : Width) (before behind : List Instr) (rest : List Item)
     → IsSpaced l → HasPartSizes l b w before behind → at ≤ l.code
     → l.code + (code_size before + 2416 + code_size behind) ≤ l.tables
     → IsRisingFrom (l.rules + length (rule_bytes l.slots b)) rest
@@ -159,7 +159,7 @@ block_rises at l b w before behind rest s h low room behind_rules =
     subst (λ (xs : List Item). IsRisingFrom at xs) (sym (block_items-then l b w before behind rest)) whole
 
 -- and are few
-pub length-block_items : (l : Layout) (b : Block) (w : Width) (before behind : List Instr)
+pub length-block_items : (l : MemoryMap) (b : Block) (w : Width) (before behind : List Instr)
     → HasPartSizes l b w before behind
     → length (block_items l b w before behind) ≤ code_size before + code_size behind + 13457
 unfolding block_items

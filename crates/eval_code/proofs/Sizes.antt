@@ -21,7 +21,7 @@ use Rattle.rule_layout.specs.Slots.{term_count, singleton_count}
 use Rattle.cpu12_isa.specs.declared.instr.Instr.{Instr}
 use Rattle.cpu12_isa.specs.declared.instr.Instr.TheVariants.{LdaaImmediate, Mem}
 use Rattle.cpu12_isa.specs.Code.{encode_of}
-use Rattle.eval_code.specs.declared.layout.Layout.{Layout}
+use Rattle.eval_code.specs.declared.memory_map.MemoryMap.{MemoryMap}
 use Rattle.eval_code.specs.declared.width.Width.{Width}
 use Rattle.eval_code.specs.declared.width.Width.TheVariants.{Byte, Word}
 use Rattle.eval_code.specs.Widths.{places}
@@ -81,7 +81,7 @@ code_size-slots base inputs at (s ∷ ss) =
       code_size-slots base inputs (at + 1) ss,
     )
 
-pub code_size-rules : (l : Layout) (f : Form) → code_size (rules_code l f) ≤ 14
+pub code_size-rules : (l : MemoryMap) (f : Form) → code_size (rules_code l f) ≤ 14
 code_size-rules l form.Rev = omega arith
 code_size-rules l form.Revw = omega arith
 
@@ -103,7 +103,7 @@ code_size-outputs w singletons slots at (o ∷ os) =
     omega (arith, rest, here, own)
 
 -- the code of a block within the limits
-pub code_size-eval : (l : Layout) (w : Width) (inputs : List Input) (outputs : List Output) (slots : List Slot)
+pub code_size-eval : (l : MemoryMap) (w : Width) (inputs : List Input) (outputs : List Output) (slots : List Slot)
     (f : Form) → length inputs ≤ 8 → sum_by term_count inputs ≤ 120 → length outputs ≤ 4 → length slots ≤ 300
     → code_size (eval_code_over l w inputs outputs slots f) ≤ 2416
 code_size-eval l w inputs outputs slots f few_inputs few_terms few_outputs few_slots =

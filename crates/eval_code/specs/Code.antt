@@ -17,7 +17,7 @@ use Rattle.cpu12_isa.specs.declared.instr.Instr.TheVariants.{LdyImmediate, StaaE
 use Rattle.cpu12_isa.specs.declared.instr.Instr.TheVariants.{Coma, CpxImmediate, Beq, Bra, Andcc, Orcc, TransferXD}
 use Rattle.cpu12_isa.specs.declared.instr.Instr.TheVariants.{TransferYD, Ediv, Fdiv, Mem, Rev, Revw, Wav}
 use Rattle.cpu12_isa.specs.Code.{encode_of, FitsOperands}
-use Rattle.eval_code.specs.declared.layout.Layout.{Layout}
+use Rattle.eval_code.specs.declared.memory_map.MemoryMap.{MemoryMap}
 use Rattle.eval_code.specs.declared.width.Width.{Width}
 use Rattle.eval_code.specs.declared.width.Width.TheVariants.{Byte, Word}
 use Rattle.eval_code.specs.Widths.{places}
@@ -56,7 +56,7 @@ slots_code slots inputs at [] = []
 slots_code slots inputs at (s ∷ ss) = slot_code slots inputs at s ++ slots_code slots inputs (at + 1) ss
 
 -- the rule list over the slots, from A 255 and V 0, with its weights where it has some
-abbrev pub rules_code : Layout → Form → List Instr
+abbrev pub rules_code : MemoryMap → Form → List Instr
 rules_code l form.Rev = LdxImmediate l.rules ∷ LdyImmediate l.slots ∷ LdaaImmediate 0xFF ∷ Andcc 0xFD ∷ Rev ∷ []
 rules_code l form.Revw =
     LdxImmediate l.rules ∷ LdyImmediate l.weights ∷ LdaaImmediate 0xFF ∷ Andcc 0xFD ∷ Orcc 0x01 ∷ Revw ∷ []
@@ -92,7 +92,7 @@ abbrev pub input_slots : List Slot → List Output → ℕ
 input_slots slots outputs = length slots - sum_by singleton_count outputs
 
 -- EVAL, the answers to the inputs' bytes, over slots and with rules of this form; what stands behind it is its caller's
-abbrev pub eval_code_over : Layout → Width → List Input → List Output → List Slot → Form → List Instr
+abbrev pub eval_code_over : MemoryMap → Width → List Input → List Output → List Slot → Form → List Instr
 eval_code_over l w inputs outputs slots f =
     (LdxImmediate l.tables ∷ LdyImmediate l.slots ∷ [])
     ++ (fuzzify_code l.inputs inputs
@@ -100,9 +100,9 @@ eval_code_over l w inputs outputs slots f =
     ++ (rules_code l f
     ++ outputs_code w l.singletons (l.slots + input_slots slots outputs) l.outputs outputs)))
 
-abbrev pub eval_code : Layout → Block → Width → List Instr
+abbrev pub eval_code : MemoryMap → Block → Width → List Instr
 eval_code l b w = eval_code_over l w b.inputs b.outputs (slots_of b) (form_of b)
 
 -- EVAL with the code before and behind it
-abbrev pub block_code : Layout → Block → Width → List Instr → List Instr → List Instr
+abbrev pub block_code : MemoryMap → Block → Width → List Instr → List Instr → List Instr
 block_code l b w before behind = before ++ (eval_code l b w ++ behind)

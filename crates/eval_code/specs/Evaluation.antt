@@ -1,4 +1,4 @@
--- EVAL by what it owns, at the addresses of any layout.
+-- EVAL by what it owns, at the addresses of any memory map.
 use Rattle.std.specs.Prelude.{◌≡◌, ℕ, ◌+◌, ◌-◌, ◌*◌, ◌^◌, ◌<◌, ◌≤◌, ◌⊎◌, List, [], ◌∷◌, length, slice_index, slice_set}
 use Rattle.fuzzy_meaning.specs.declared.block.Block.{Block}
 use Rattle.fuzzy_meaning.specs.Blocks.{IsValid}
@@ -8,7 +8,7 @@ use Rattle.cpu12_isa.specs.Code.{six_from}
 use Rattle.cpu12_parts.specs.State.{State}
 use Rattle.cpu12_parts.specs.Touching.{IsIn, IsInOne, Each, IsInstructionOver, IsBetween}
 use Rattle.cpu12_parts.specs.Executions.{Execution, all_steps}
-use Rattle.eval_code.specs.declared.layout.Layout.{Layout}
+use Rattle.eval_code.specs.declared.memory_map.MemoryMap.{MemoryMap}
 use Rattle.eval_code.specs.declared.width.Width.{Width}
 use Rattle.eval_code.specs.Widths.{places, bytes_of, answer}
 use Rattle.eval_code.specs.Bounds.{instruction_bound, step_bound}
@@ -18,27 +18,27 @@ use Rattle.eval_code.specs.Data.{table_bytes, singleton_bytes, weight_bytes, rul
 use Rattle.eval_code.specs.Items.{IsApart}
 use Rattle.eval_code.specs.Firing.{AreInputBytes}
 
--- what a layout keeps for a block's evaluation: its code, and what that writes and reads
-abbrev pub code_region : Layout → ℕ × ℕ
+-- what a memory map keeps for a block's evaluation: its code, and what that writes and reads
+abbrev pub code_region : MemoryMap → ℕ × ℕ
 code_region l = (l.eval, 2432)
 
-abbrev pub Writes : Layout → ℕ → Type 0
+abbrev pub Writes : MemoryMap → ℕ → Type 0
 Writes l = IsInOne ((l.outputs, 8) ∷ (l.slots, 300) ∷ [])
 
-abbrev pub Reads : Layout → ℕ → Type 0
+abbrev pub Reads : MemoryMap → ℕ → Type 0
 Reads l =
     IsInOne ((l.inputs, 8) ∷ (l.slots, 300) ∷ (l.tables, 480) ∷ (l.singletons, 60) ∷ (l.weights, 512) ∷ (l.rules, 9984)
     ∷ [])
 
 -- a whole instruction of EVAL: it stands in EVAL's code, touches what is owned alone, and leaves SP, I and X
-pub record IsEvalStep (l : Layout) (flags d : ℕ) (s t : State) : Type 0 where
+pub record IsEvalStep (l : MemoryMap) (flags d : ℕ) (s t : State) : Type 0 where
   pub between : IsBetween s
   pub code : Each (IsIn (code_region l)) (six_from s.regs.pc)
   pub instruction : IsInstructionOver (Reads l) (Writes l) flags d s t
   pub stack : t.regs.sp ≡ s.regs.sp
   pub masks : interrupt_masks t.regs.ccr ≡ interrupt_masks s.regs.ccr
 
-abbrev pub eval_bytes : Layout → Block → Width → List ℕ
+abbrev pub eval_bytes : MemoryMap → Block → Width → List ℕ
 eval_bytes l b w = code_bytes (eval_code l b w)
 
 -- these bytes stand from an address on
@@ -52,7 +52,7 @@ put mem at [] = mem
 put mem at (v ∷ vs) = put (slice_set mem at v) (at + 1) vs
 
 -- EVAL stands in memory with its data
-pub record HasEval (l : Layout) (b : Block) (w : Width) (mem : List ℕ) : Type 0 where
+pub record HasEval (l : MemoryMap) (b : Block) (w : Width) (mem : List ℕ) : Type 0 where
   pub code : HasBytes mem l.eval (eval_bytes l b w)
   pub tables : HasBytes mem l.tables (table_bytes b)
   pub singletons : HasBytes mem l.singletons (singleton_bytes b)
@@ -60,12 +60,12 @@ pub record HasEval (l : Layout) (b : Block) (w : Width) (mem : List ℕ) : Type 
   pub rules : HasBytes mem l.rules (rule_bytes l.slots b)
 
 -- an answer for each output stands where the outputs are
-abbrev pub HasAnswers : Layout → Block → Width → (ℕ → ℕ) → List ℕ → Type 0
+abbrev pub HasAnswers : MemoryMap → Block → Width → (ℕ → ℕ) → List ℕ → Type 0
 HasAnswers l b w answers mem =
     (o : ℕ) → 1 ≤ o → o ≤ length b.outputs → HasBytes mem (l.outputs + places w * (o - 1)) (bytes_of w (answers o))
 
 -- at EVAL's first instruction, with these bytes of inputs and these answers before
-pub record IsAtEval (l : Layout) (b : Block) (w : Width) (bytes : List ℕ) (before : ℕ → ℕ) (s : State) : Type 0 where
+pub record IsAtEval (l : MemoryMap) (b : Block) (w : Width) (bytes : List ℕ) (before : ℕ → ℕ) (s : State) : Type 0 where
   pub between : IsBetween s
   pub pc : s.regs.pc ≡ l.eval
   pub eval : HasEval l b w s.mem
@@ -74,7 +74,7 @@ pub record IsAtEval (l : Layout) (b : Block) (w : Width) (bytes : List ℕ) (bef
 
 -- EVAL leads behind its code with the answers. Outside their bytes and the slots memory is as it was. Around it, from
 -- a call to the return and what follows, six instructions have room in the bounds.
-pub record IsEvaluated (l : Layout) (b : Block) (w : Width) (flags : ℕ) (bytes : List ℕ) (before : ℕ → ℕ)
+pub record IsEvaluated (l : MemoryMap) (b : Block) (w : Width) (flags : ℕ) (bytes : List ℕ) (before : ℕ → ℕ)
     (s t : State) : Type 0 where
   pub ds : List ℕ
   pub execution : Execution (IsEvalStep l flags) ds s t
@@ -90,6 +90,6 @@ pub record IsEvaluated (l : Layout) (b : Block) (w : Width) (flags : ℕ) (bytes
 -- masked.
 abbrev pub EvalAnswers : Type 0
 EvalAnswers =
-    (l : Layout) (b : Block) (w : Width) (flags : ℕ) (bytes : List ℕ) (before : ℕ → ℕ) (s : State) → IsApart l
+    (l : MemoryMap) (b : Block) (w : Width) (flags : ℕ) (bytes : List ℕ) (before : ℕ → ℕ) (s : State) → IsApart l
     → IsValid b → IsWithinLimits b → flags < 2 ^ 8 → AreInputBytes b bytes
     → IsAtEval l b w bytes before s → (t : State) × IsEvaluated l b w flags bytes before s t

@@ -1,10 +1,10 @@
--- The items of EVAL and its data at a layout, and the room that it keeps for them.
+-- The items of EVAL and its data at a memory map, and the room that it keeps for them.
 use Rattle.std.specs.Prelude.{ℕ, ◌+◌, ◌^◌, ◌<◌, ◌≤◌, List, ◌∷◌, ◌++◌, map}
 use Rattle.fuzzy_meaning.specs.declared.block.Block.{Block}
 use Rattle.cpu12_isa.specs.declared.instr.Instr.{Instr}
 use Rattle.cpu12_asm.specs.declared.items.Item.{Item}
 use Rattle.cpu12_asm.specs.declared.items.Item.TheVariants.{Place, Byte, Op}
-use Rattle.eval_code.specs.declared.layout.Layout.{Layout}
+use Rattle.eval_code.specs.declared.memory_map.MemoryMap.{MemoryMap}
 use Rattle.eval_code.specs.declared.width.Width.{Width}
 use Rattle.eval_code.specs.Code.{block_code}
 use Rattle.eval_code.specs.Data.{table_bytes, singleton_bytes, weight_bytes, rule_bytes}
@@ -17,7 +17,7 @@ abbrev pub bytes_at : ℕ → List ℕ → List Item
 bytes_at at bytes = Place at ∷ map Byte bytes
 
 -- a block's EVAL with the code before and behind it, its tables, singletons, weights and rule list
-unfoldable pub block_items : Layout → Block → Width → List Instr → List Instr → List Item
+unfoldable pub block_items : MemoryMap → Block → Width → List Instr → List Instr → List Item
 block_items l b w before behind =
     code_at l.code (block_code l b w before behind)
     ++ (bytes_at l.tables (table_bytes b)
@@ -26,14 +26,14 @@ block_items l b w before behind =
     ++ bytes_at l.rules (rule_bytes l.slots b))))
 
 -- each address that the code needs stands in memory
-pub record HasRoom (l : Layout) : Type 0 where
+pub record HasRoom (l : MemoryMap) : Type 0 where
   pub inputs : l.inputs + 8 < 2 ^ 16
   pub outputs : l.outputs + 8 < 2 ^ 16
   pub slots : l.slots + 1024 < 2 ^ 16
   pub singletons : l.singletons + 64 < 2 ^ 16
 
--- the regions that a layout keeps for a block: those of RAM one above another below FREE, and those of ROM above it
-pub record IsApart (l : Layout) : Type 0 where
+-- the regions that a memory map keeps for a block: those of RAM one above another below FREE, and those of ROM above it
+pub record IsApart (l : MemoryMap) : Type 0 where
   pub inputs : l.inputs + 8 ≤ l.outputs
   pub outputs : l.outputs + 8 ≤ l.slots
   pub slots : l.slots + 300 ≤ 0x1800

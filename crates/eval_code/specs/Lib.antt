@@ -1,4 +1,4 @@
-pub mod Layouts
+pub mod MemoryMaps
 pub mod Widths
 pub mod Code
 pub mod Data

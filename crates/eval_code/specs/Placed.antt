@@ -1,4 +1,4 @@
--- A block's items at the addresses of any layout: where they give bytes, and what stands there in an image of them.
+-- A block's items at the addresses of any memory map: where they give bytes, and what stands there in an image of them.
 use Rattle.std.specs.Prelude.{◌≡◌, ◌≢◌, ℕ, ◌+◌, ◌^◌, ◌<◌, ◌≤◌, ◌⊎◌, List, ◌∷◌, ◌++◌, length, All, None, slice_index}
 use Rattle.fuzzy_meaning.specs.declared.block.Block.{Block}
 use Rattle.fuzzy_meaning.specs.Blocks.{IsValid}
@@ -9,7 +9,7 @@ use Rattle.cpu12_asm.specs.declared.items.Item.TheVariants.{Place}
 use Rattle.cpu12_asm.specs.Bytes.{byte_at, Holds}
 use Rattle.cpu12_asm.specs.Items.{given_by, IsRisingFrom, IsRising}
 use Rattle.cpu12_emul.specs.Image.{image_memory}
-use Rattle.eval_code.specs.declared.layout.Layout.{Layout}
+use Rattle.eval_code.specs.declared.memory_map.MemoryMap.{MemoryMap}
 use Rattle.eval_code.specs.declared.width.Width.{Width}
 use Rattle.eval_code.specs.Code.{code_bytes, block_code}
 use Rattle.eval_code.specs.Data.{table_bytes, singleton_bytes, weight_bytes, rule_bytes}
@@ -21,7 +21,7 @@ abbrev pub eval_room : ℕ
 eval_room = 2416
 
 -- with this code before and behind EVAL each part ends where the next begins, or before
-pub record IsInOrder (l : Layout) (before behind : List Instr) : Type 0 where
+pub record IsInOrder (l : MemoryMap) (before behind : List Instr) : Type 0 where
   pub eval : l.eval ≡ l.code + length (code_bytes before)
   pub code : l.eval + eval_room + length (code_bytes behind) ≤ l.tables
   pub tables : l.tables + 480 ≤ l.singletons
@@ -32,31 +32,32 @@ pub record IsInOrder (l : Layout) (before behind : List Instr) : Type 0 where
 -- A block's items go up, and items behind them that go up from the rule list's end.
 abbrev pub BlockRises : Type 0
 BlockRises =
-    (at : ℕ) (l : Layout) (b : Block) (w : Width) (before behind : List Instr) (rest : List Item)
+    (at : ℕ) (l : MemoryMap) (b : Block) (w : Width) (before behind : List Instr) (rest : List Item)
     → IsInOrder l before behind → IsValid b → IsWithinLimits b → at ≤ l.code → IsRisingFrom (l.rules + 9984) rest
     → IsRisingFrom at (block_items l b w before behind ++ rest)
 
 -- They are few.
 abbrev pub BlockIsShort : Type 0
 BlockIsShort =
-    (l : Layout) (b : Block) (w : Width) (before behind : List Instr) → IsValid b → IsWithinLimits b
+    (l : MemoryMap) (b : Block) (w : Width) (before behind : List Instr) → IsValid b → IsWithinLimits b
     → length (block_items l b w before behind)
     ≤ length (code_bytes before) + length (code_bytes behind) + 13457
 
 -- each part of a block's data has a byte, and so many at most
-pub record HasParts (l : Layout) (b : Block) : Type 0 where
+pub record HasParts (l : MemoryMap) (b : Block) : Type 0 where
   pub tables : (1 ≤ length (table_bytes b)) × (length (table_bytes b) ≤ 480)
   pub singletons : (1 ≤ length (singleton_bytes b)) × (length (singleton_bytes b) ≤ 60)
   pub weights : (1 ≤ length (weights_of b)) × (length (weights_of b) ≤ 512)
   pub rules : (1 ≤ length (rule_bytes l.slots b)) × (length (rule_bytes l.slots b) ≤ 9984)
 
 abbrev pub BlockHasParts : Type 0
-BlockHasParts = (l : Layout) (b : Block) → IsValid b → IsWithinLimits b → HasParts l b
+BlockHasParts = (l : MemoryMap) (b : Block) → IsValid b → IsWithinLimits b → HasParts l b
 
 -- They give bytes from the code to the rule list's end alone.
 abbrev pub BlockStaysInside : Type 0
 BlockStaysInside =
-    (l : Layout) (b : Block) (w : Width) (before behind : List Instr) (at : ℕ) → IsInOrder l before behind → IsValid b
+    (l : MemoryMap) (b : Block) (w : Width) (before behind : List Instr) (at : ℕ) → IsInOrder l before behind
+    → IsValid b
     → IsWithinLimits b → (at < l.code) ⊎ (l.rules + 9984 ≤ at)
     → byte_at (given_by (block_items l b w before behind)) at ≡ None
 
@@ -67,7 +68,7 @@ IsWithin at from size = (from ≤ at) × (at < from + size)
 -- They give bytes at their parts alone, and items behind them that begin with a place give what they give alone.
 abbrev pub BlockGivesAtParts : Type 0
 BlockGivesAtParts =
-    (l : Layout) (b : Block) (w : Width) (before behind : List Instr) (more : List Item) (p at : ℕ)
+    (l : MemoryMap) (b : Block) (w : Width) (before behind : List Instr) (more : List Item) (p at : ℕ)
     → byte_at (given_by (block_items l b w before behind ++ (Place p ∷ more))) at ≢ None
     → IsWithin at l.code (length (code_bytes (block_code l b w before behind)))
     ⊎ IsWithin at l.tables (length (table_bytes b)) ⊎ IsWithin at l.singletons (length (singleton_bytes b))
@@ -87,12 +88,12 @@ GiveBytes given = All (λ p. p.1 < 2 ^ 8) given
 -- What they give are bytes, where those of the code around EVAL are.
 abbrev pub BlockGivesBytes : Type 0
 BlockGivesBytes =
-    (l : Layout) (b : Block) (w : Width) (before behind : List Instr) → IsApart l → IsValid b
+    (l : MemoryMap) (b : Block) (w : Width) (before behind : List Instr) → IsApart l → IsValid b
     → All (λ v. v < 2 ^ 8) (code_bytes before) → All (λ v. v < 2 ^ 8) (code_bytes behind)
     → GiveBytes (given_by (block_items l b w before behind))
 
 -- EVAL stands in memory with its data, between this code
-pub record StandsBetween (l : Layout) (b : Block) (w : Width) (before behind : List Instr) (mem : List ℕ)
+pub record StandsBetween (l : MemoryMap) (b : Block) (w : Width) (before behind : List Instr) (mem : List ℕ)
     : Type 0 where
   pub front : HasBytes mem l.code (code_bytes before)
   pub eval : HasEval l b w mem
@@ -100,14 +101,14 @@ pub record StandsBetween (l : Layout) (b : Block) (w : Width) (before behind : L
   pub room : length (eval_bytes l b w) ≤ eval_room
 
 -- memory has an image's bytes from the code to the rule list's end
-abbrev pub HasPlaces : Layout → List (ℕ × ℕ) → List ℕ → Type 0
+abbrev pub HasPlaces : MemoryMap → List (ℕ × ℕ) → List ℕ → Type 0
 HasPlaces l image mem =
     (at : ℕ) → l.code ≤ at → at < l.rules + 9984 → slice_index mem at ≡ slice_index (image_memory image) at
 
 -- So it does in a memory that has there the bytes of an image of items that go up, of which these are some.
 abbrev pub BlockStands : Type 0
 BlockStands =
-    (image : List (ℕ × ℕ)) (mem : List ℕ) (front rest : List Item) (l : Layout) (b : Block) (w : Width)
+    (image : List (ℕ × ℕ)) (mem : List ℕ) (front rest : List Item) (l : MemoryMap) (b : Block) (w : Width)
     (before behind : List Instr) → IsInOrder l before behind → IsValid b → IsWithinLimits b
     → Holds image (given_by (front ++ (block_items l b w before behind ++ rest)))
     → IsRising (front ++ (block_items l b w before behind ++ rest)) → HasPlaces l image mem

@@ -8,7 +8,7 @@ ghost use Rattle.eval_code.specs.declared.width.Width.TheVariants as Width;
 ghost use Rattle.eval_code.specs.Code.{fuzzify_code, terms_before, slot_code, slots_code, rules_code, quotient_code};
 ghost use Rattle.eval_code.specs.Code.{output_code, outputs_code};
 
-use crate::layout::Layout;
+use crate::memory_map::MemoryMap;
 use crate::width::Width;
 use byte_scaling::near;
 use cpu12_asm::Item;
@@ -120,17 +120,17 @@ pub(crate) fn push_slots(
 /// The rules.
 pub(crate) fn push_rules(
     items: &mut Vec<Item>,
-    layout: &Layout,
+    memory_map: &MemoryMap,
     form: Form,
 ) -> Result<(), AllocError>
-    ensures { OnOk result (items.new.items ≡ items.old.items ++ map Op (rules_code layout.now form)) }
+    ensures { OnOk result (items.new.items ≡ items.old.items ++ map Op (rules_code memory_map.now form)) }
 {
     match form {
         Form::Rev => push_code(
             items,
             &[
-                Instr::LdxImmediate(layout.rules),
-                Instr::LdyImmediate(layout.slots),
+                Instr::LdxImmediate(memory_map.rules),
+                Instr::LdyImmediate(memory_map.slots),
                 Instr::LdaaImmediate(0xFF),
                 Instr::Andcc(0xFD),
                 Instr::Rev,
@@ -139,8 +139,8 @@ pub(crate) fn push_rules(
         Form::Revw => push_code(
             items,
             &[
-                Instr::LdxImmediate(layout.rules),
-                Instr::LdyImmediate(layout.weights),
+                Instr::LdxImmediate(memory_map.rules),
+                Instr::LdyImmediate(memory_map.weights),
                 Instr::LdaaImmediate(0xFF),
                 Instr::Andcc(0xFD),
                 Instr::Orcc(0x01),

@@ -10,7 +10,7 @@ ghost use Rattle.eval_code.specs.Items.{bytes_at, block_items, HasRoom};
 use crate::bounds::output_terms;
 use crate::code::{push_code, push_fuzzify, push_outputs, push_rules, push_slots};
 use crate::data::{push_bytes, push_singletons, push_tables, push_words};
-use crate::layout::Layout;
+use crate::memory_map::MemoryMap;
 use crate::width::Width;
 use cpu12_asm::Item;
 use cpu12_isa::instr::Instr;
@@ -19,12 +19,12 @@ use point_slope::table;
 use rule_layout::{Flat, Form, Slot, flat_has_parts};
 use std::alloc::{AllocError, Global};
 
-/// A block's code at a layout, with what stands before and behind EVAL, its tables and its rule list,
+/// A block's code at a memory map, with what stands before and behind EVAL, its tables and its rule list,
 /// behind other items. `flat` is the block's rules as `spread` lays them out.
 pub fn push_block(
     alloc: Global,
     items: &mut Vec<Item>,
-    layout: &Layout,
+    memory_map: &MemoryMap,
     width: Width,
     block: &Block,
     flat: &Flat,
@@ -34,16 +34,16 @@ pub fn push_block(
     requires valid { IsValid block.now }
     requires flat { flat.now ≡ flat_of block.now }
     requires laid_out { IsLaidOut flat.now }
-    requires room { HasRoom layout.now }
+    requires room { HasRoom memory_map.now }
     ensures { OnOk result (items.new.items
-        ≡ items.old.items ++ block_items layout.now block.now width before.now behind.now) }
+        ≡ items.old.items ++ block_items memory_map.now block.now width before.now behind.now) }
 {
     flat_has_parts();
-    items.push(Item::Place(layout.code))?;
+    items.push(Item::Place(memory_map.code))?;
     push_code(items, before)?;
     push_eval(
         items,
-        layout,
+        memory_map,
         width,
         block.inputs.as_slice(),
         block.outputs.as_slice(),
@@ -51,17 +51,17 @@ pub fn push_block(
         flat.form,
     )?;
     push_code(items, behind)?;
-    push_tables_at(alloc, items, layout, block)?;
-    items.push(Item::Place(layout.singletons))?;
+    push_tables_at(alloc, items, memory_map, block)?;
+    items.push(Item::Place(memory_map.singletons))?;
     push_singletons(items, block.outputs.as_slice())?;
-    push_rule_data(alloc, items, layout, flat)?;
+    push_rule_data(alloc, items, memory_map, flat)?;
     Ok(())
 }
 
 /// The code that answers a sample, to where it returns.
 fn push_eval(
     items: &mut Vec<Item>,
-    layout: &Layout,
+    memory_map: &MemoryMap,
     width: Width,
     inputs: &[Input],
     outputs: &[Output],
@@ -73,27 +73,27 @@ fn push_eval(
     requires outputs { All IsValidOutput outputs.now }
     requires few_outputs { length outputs.now ≤ 4 }
     requires slots { length slots.now ≤ 300 }
-    requires room { HasRoom layout.now }
+    requires room { HasRoom memory_map.now }
     ensures { OnOk result (items.new.items
-        ≡ items.old.items ++ map Op (eval_code_over layout.now width inputs.now outputs.now slots.now form)) }
+        ≡ items.old.items ++ map Op (eval_code_over memory_map.now width inputs.now outputs.now slots.now form)) }
 {
     push_code(
         items,
         &[
-            Instr::LdxImmediate(layout.tables),
-            Instr::LdyImmediate(layout.slots),
+            Instr::LdxImmediate(memory_map.tables),
+            Instr::LdyImmediate(memory_map.slots),
         ],
     )?;
-    push_fuzzify(items, layout.inputs, inputs)?;
-    push_slots(items, layout.slots, inputs, slots)?;
-    push_rules(items, layout, form)?;
-    let first = layout.slots + (slots.len() as u16).saturating_sub(output_terms(outputs));
+    push_fuzzify(items, memory_map.inputs, inputs)?;
+    push_slots(items, memory_map.slots, inputs, slots)?;
+    push_rules(items, memory_map, form)?;
+    let first = memory_map.slots + (slots.len() as u16).saturating_sub(output_terms(outputs));
     push_outputs(
         items,
         width,
-        layout.singletons,
+        memory_map.singletons,
         first,
-        layout.outputs,
+        memory_map.outputs,
         outputs,
     )?;
     Ok(())
@@ -103,17 +103,18 @@ fn push_eval(
 fn push_tables_at(
     alloc: Global,
     items: &mut Vec<Item>,
-    layout: &Layout,
+    memory_map: &MemoryMap,
     block: &Block,
 ) -> Result<(), AllocError>
     requires { IsValid block.now }
-    ensures { OnOk result (items.new.items ≡ items.old.items ++ bytes_at layout.now.tables (table_bytes block.now)) }
+    ensures { OnOk result (items.new.items
+        ≡ items.old.items ++ bytes_at memory_map.now.tables (table_bytes block.now)) }
 {
     let rows = match table(alloc, block) {
         Ok(rows) => rows,
         Err(_) => return Err(AllocError),
     };
-    items.push(Item::Place(layout.tables))?;
+    items.push(Item::Place(memory_map.tables))?;
     push_tables(items, rows.as_slice())
 }
 
@@ -121,26 +122,26 @@ fn push_tables_at(
 fn push_rule_data(
     alloc: Global,
     items: &mut Vec<Item>,
-    layout: &Layout,
+    memory_map: &MemoryMap,
     flat: &Flat,
 ) -> Result<(), AllocError>
     requires laid_out { IsLaidOut flat.now }
-    requires room { HasRoom layout.now }
+    requires room { HasRoom memory_map.now }
     ensures { OnOk result (items.new.items
-        ≡ items.old.items ++ (bytes_at layout.now.weights (weight_bytes_by flat.now.form flat.now.weights)
-        ++ bytes_at layout.now.rules (rule_bytes_by layout.now.slots flat.now.form flat.now.conjunctions))) }
+        ≡ items.old.items ++ (bytes_at memory_map.now.weights (weight_bytes_by flat.now.form flat.now.weights)
+        ++ bytes_at memory_map.now.rules (rule_bytes_by memory_map.now.slots flat.now.form flat.now.conjunctions))) }
 {
-    items.push(Item::Place(layout.weights))?;
+    items.push(Item::Place(memory_map.weights))?;
     match flat.form {
         Form::Rev => {
-            items.push(Item::Place(layout.rules))?;
+            items.push(Item::Place(memory_map.rules))?;
             let list = flat.bytes(alloc)?;
             push_bytes(items, list.as_slice())
         }
         Form::Revw => {
             push_bytes(items, flat.weights.as_slice())?;
-            items.push(Item::Place(layout.rules))?;
-            let list = flat.words_from(alloc, layout.slots)?;
+            items.push(Item::Place(memory_map.rules))?;
+            let list = flat.words_from(alloc, memory_map.slots)?;
             push_words(items, list.as_slice())
         }
     }

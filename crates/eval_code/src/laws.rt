@@ -43,9 +43,9 @@ pub fn placed_items_stand()
     holds_image();
 }
 
-/// EVAL answers a block over bytes, as bytes or in 16 bits, at the addresses of any layout whose
+/// EVAL answers a block over bytes, as bytes or in 16 bits, at the addresses of any memory map whose
 /// regions are apart, wherever SP is and whether or not interrupts are masked. It leads from its
-/// first instruction to behind its last, and touches what its layout keeps for it alone.
+/// first instruction to behind its last, and touches what its memory map keeps for it alone.
 pub fn eval_answers()
     ensures { EvalAnswers }
 {
@@ -64,7 +64,7 @@ pub fn bounds_are_few()
     layout_law();
 }
 
-/// A block's items at a layout, with code before and behind EVAL, go up, are few, and give bytes at its
+/// A block's items at a memory map, with code before and behind EVAL, go up, are few, and give bytes at its
 /// parts alone, from the code to the rule list's end; each part of its data has a byte. In the memory of an image of
 /// items that go up, of which these are some, EVAL stands with its data between that code.
 pub fn blocks_are_placed()

@@ -1,12 +1,12 @@
-//! The code and data that answer one sample of a block, at the addresses of any layout.
+//! The code and data that answer one sample of a block, at the addresses of any memory map.
 //!
-//! EVAL takes the inputs' bytes at a [`Layout`] to the outputs' answers, of the [`Width`] that is
+//! EVAL takes the inputs' bytes at a [`MemoryMap`] to the outputs' answers, of the [`Width`] that is
 //! asked for. [`push_block`] makes the items of EVAL with the code that its caller puts before and
 //! behind it, its tables, its singletons, its weights and its rule list: exactly the items that
 //! `block_items` names, behind those that were there. [`eval_answers`] says what EVAL then does
 //! wherever these stand: from its first instruction it leads behind its last one with the block's
 //! answers over bytes, within [`instruction_bound`] and [`steps_by`], and reads, writes and leaves
-//! alone what its layout says.
+//! alone what its memory map says.
 #![tactic(auto)]
 
 mod bounds;
@@ -14,12 +14,12 @@ mod code;
 mod data;
 mod items;
 pub mod laws;
-mod layout;
+mod memory_map;
 mod width;
 
 pub use bounds::{instruction_bound, steps_by};
 pub use data::push_word;
 pub use items::push_block;
 pub use laws::{blocks_are_placed, bounds_are_few, eval_answers, rules_give_masses};
-pub use layout::Layout;
+pub use memory_map::MemoryMap;
 pub use width::Width;

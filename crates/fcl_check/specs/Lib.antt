@@ -6,7 +6,7 @@ pub mod Sections
 pub mod Faults
 pub mod Loaded
 pub mod Known
-pub mod Sound
+pub mod WellFormed
 pub mod Texts
 pub mod Steps
 pub mod Corners

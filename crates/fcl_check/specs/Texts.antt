@@ -15,7 +15,7 @@ use Rattle.fcl_check.specs.declared.fault.LoadFault.{LoadFault}
 pub record SpellsBlock (text : List ℕ) (block : Block) : Type 0 where
   pub tree : FunctionBlock
   pub spelled : SpellsTree text (view tree)
-  pub sound : first_fault (str_to_ascii_lowercase text) tree ≡ None
+  pub well_formed : first_fault (str_to_ascii_lowercase text) tree ≡ None
   pub loaded : IsBlockOf (str_to_ascii_lowercase text) tree block
   pub valid : IsValid block
 

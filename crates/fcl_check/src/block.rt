@@ -10,7 +10,7 @@ ghost use Rattle.fcl_check.specs.Faults.{conclusions_of, first_fault};
 ghost use Rattle.fcl_check.specs.Known.{Knows};
 ghost use Rattle.fcl_check.specs.Loaded.{number_of, conclusion_of, IsRuleOf, IsBlockOf};
 ghost use Rattle.fcl_check.specs.Sections.{value};
-ghost use Rattle.fcl_check.specs.Sound.{AreConcluded, IsKnown, IsSoundRule};
+ghost use Rattle.fcl_check.specs.WellFormed.{AreConcluded, IsKnown, IsWellFormedRule};
 ghost use Rattle.fcl_syntax.specs.declared.tree.Direction.TheVariants.{Output as OutputSide};
 
 use crate::conditions::or;
@@ -60,15 +60,15 @@ fn conclusions(
 }
 
 fn rule(source: &Source<'_, '_>, rule: &fcl_syntax::Rule) -> Result<fuzzy_meaning::Rule, AllocError>
-    requires { IsSoundRule source.now.tree.now.text.items source.now.tree.now.block rule.now }
+    requires { IsWellFormedRule source.now.tree.now.text.items source.now.tree.now.block rule.now }
     ensures { IfOk result (IsRuleOf source.now.tree.now.text.items source.now.tree.now.block rule.now) }
 {
-    let cond = or(source, &rule.condition)?;
-    let concl = conclusions(source, rule)?;
+    let condition = or(source, &rule.condition)?;
+    let conclusions = conclusions(source, rule)?;
     Ok(fuzzy_meaning::Rule {
-        cond,
+        cond: condition,
         weight: weight(rule),
-        concl: List::new(concl),
+        concl: List::new(conclusions),
     })
 }
 
@@ -87,7 +87,7 @@ fn rules(source: &Source<'_, '_>) -> Result<Vec<fuzzy_meaning::Rule>, AllocError
 /// The block of a tree that has no load fault.
 pub fn block<'a>(alloc: Global, tree: &'a Tree, names: &Names<'a>) -> Result<Block, AllocError>
     requires known { Knows tree.now names.now }
-    requires sound { first_fault tree.now.text.items tree.now.block ≡ None }
+    requires well_formed { first_fault tree.now.text.items tree.now.block ≡ None }
     ensures { IfOk result (IsBlockOf tree.now.text.items tree.now.block) }
 {
     let inputs = variables::<Input>(alloc, tree, names)?;

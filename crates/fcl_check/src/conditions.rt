@@ -7,7 +7,7 @@ ghost use Rattle.fuzzy_meaning.specs.Conditions.{condition_of, negation};
 ghost use Rattle.fcl_syntax.specs.View.{view_not, view_and, view_or};
 ghost use Rattle.fcl_check.specs.Faults.{and_pairs, not_pairs, or_pairs};
 ghost use Rattle.fcl_check.specs.Loaded.{literal_of, negated, not_condition, and_condition, or_condition};
-ghost use Rattle.fcl_check.specs.Sound.{AreKnown, IsKnown};
+ghost use Rattle.fcl_check.specs.WellFormed.{AreKnown, IsKnown};
 ghost use Rattle.fcl_syntax.specs.declared.tree.Direction.TheVariants.{Input as InputSide};
 
 use crate::source::{Source, numbers};

@@ -10,7 +10,7 @@ ghost use Rattle.fcl_check.specs.Corners.{AreCornersOf};
 ghost use Rattle.fcl_check.specs.Loaded.{IsInputOf, IsTermOf, input_range};
 ghost use Rattle.fcl_check.specs.Names.{as_fuzzify, terms_of};
 ghost use Rattle.fcl_check.specs.Sections.{has_shape, points_of, shapeless_terms};
-ghost use Rattle.fcl_check.specs.Sound.{IsSoundFuzzify};
+ghost use Rattle.fcl_check.specs.WellFormed.{IsWellFormedFuzzify};
 
 use crate::numbers::{Span, is_one, value};
 use crate::sections::{fuzzy_range, hull};
@@ -104,7 +104,7 @@ impl FromSection for Input {
 
     ghost as_section = { as_fuzzify };
 
-    ghost IsSound = { IsSoundFuzzify };
+    ghost IsWellFormed = { IsWellFormedFuzzify };
 
     ghost IsOf = { IsInputOf };
 

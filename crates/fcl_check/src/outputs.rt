@@ -9,7 +9,7 @@ ghost use Rattle.fcl_check.specs.Loaded.{IsOutputOf, default_number, number_of, 
 ghost use Rattle.fcl_check.specs.Names.{as_defuzzify, singletons_of};
 ghost use Rattle.fcl_check.specs.Places.{first};
 ghost use Rattle.fcl_check.specs.Sections.{default_of, fallback_number, incomplete, method_line, number_line, value};
-ghost use Rattle.fcl_check.specs.Sound.{IsSoundDefuzzify};
+ghost use Rattle.fcl_check.specs.WellFormed.{IsWellFormedDefuzzify};
 
 use crate::numbers::{Span, value};
 use crate::sections::defuzzy_range;
@@ -134,7 +134,7 @@ impl FromSection for Output {
 
     ghost as_section = { as_defuzzify };
 
-    ghost IsSound = { IsSoundDefuzzify };
+    ghost IsWellFormed = { IsWellFormedDefuzzify };
 
     ghost IsOf = { IsOutputOf };
 

@@ -5,7 +5,7 @@ ghost use Rattle.std.specs.Prelude.{◌≡◌, None};
 ghost use Rattle.fcl_check.specs.Faults.{first_fault};
 ghost use Rattle.fcl_check.specs.Known.{Knows};
 ghost use Rattle.fcl_check.specs.Loaded.{numbers_of};
-ghost use Rattle.fcl_check.specs.Sound.{IsKnown};
+ghost use Rattle.fcl_check.specs.WellFormed.{IsKnown};
 
 use crate::names::Names;
 use fcl_syntax::{Direction, Name, Tree};
@@ -18,7 +18,7 @@ pub struct Source<'a, 'n> {
     pub tree: &'a Tree,
     pub names: &'n Names<'a>,
     ghost known: { Knows tree.now names.now } by { Prim.hlevel props },
-    ghost sound: { first_fault tree.now.text.items tree.now.block ≡ None },
+    ghost well_formed: { first_fault tree.now.text.items tree.now.block ≡ None },
 }
 
 /// The numbers of a variable and of a term of it on one side.

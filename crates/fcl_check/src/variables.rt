@@ -7,7 +7,7 @@ ghost use Rattle.fcl_syntax.specs.declared.tree.Part.{Part};
 ghost use Rattle.fcl_check.specs.Known.{Knows};
 ghost use Rattle.fcl_check.specs.Loaded.{IsVariableNamed};
 ghost use Rattle.fcl_check.specs.Names.{declared_as, declared_in};
-ghost use Rattle.fcl_check.specs.Sound.{HasSection};
+ghost use Rattle.fcl_check.specs.WellFormed.{HasSection};
 
 use crate::names::Names;
 use fcl_syntax::{Direction, Part, Tree};
@@ -27,7 +27,7 @@ pub trait FromSection: Sized + Drop {
     ghost as_section: { Part → Option Self.Section };
 
     /// Whether a section has no fault that a builder would meet.
-    ghost IsSound: { Self.Section → Type 0 };
+    ghost IsWellFormed: { Self.Section → Type 0 };
 
     /// What is made of a section.
     ghost IsOf: { Self.Section → Self → Type 0 };
@@ -40,9 +40,9 @@ pub trait FromSection: Sized + Drop {
     fn section(part: &Part) -> Option<&Self::Section>
         ensures { option_map (λ s. s.now) result ≡ as_section part.now };
 
-    /// What is made of a sound section. Only memory can be wanting.
+    /// What is made of a well-formed section. Only memory can be wanting.
     fn from_section(alloc: Global, section: &Self::Section) -> Result<Self, AllocError>
-        requires { IsSound section.now }
+        requires { IsWellFormed section.now }
         ensures { IfOk result (IsOf section.now) };
 }
 
@@ -53,7 +53,7 @@ pub fn variables<V: FromSection>(
     names: &Names<'_>,
 ) -> Result<Vec<V>, AllocError>
     requires known { Knows tree.now names.now }
-    requires sound { All (HasSection V.side V.as_section V.IsSound tree.now.text.items tree.now.block)
+    requires well_formed { All (HasSection V.side V.as_section V.IsWellFormed tree.now.text.items tree.now.block)
         (declared_in tree.now.block) }
     ensures same { IfOk result (λ v. AllZip (IsVariableNamed V.as_section V.IsOf tree.now.text.items tree.now.block)
         (declared_as V.side tree.now.block) v.items) }

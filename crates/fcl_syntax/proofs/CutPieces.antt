@@ -170,7 +170,7 @@ together at bytes (Some t) h = inr (inr (at, t, h))
 make : (at : ℕ) (text front behind : List ℕ) (t : Option Token) (n : ℕ) → text ≡ front ++ behind → length front ≡ n
     → IsSpelling at front t
     → IsLongest front text → ((k : LexKind) → IsFaulty k text → ⊥) → Found at text t n
-make at text front behind t n parts len spells longest sound = record {
+make at text front behind t n parts len spells longest faultless = record {
   front = front;
   behind = behind;
   parts = parts;
@@ -178,7 +178,7 @@ make at text front behind t n parts len spells longest sound = record {
   is = record {
     spells = spells;
     longest = subst (IsLongest front) parts longest;
-    sound = λ k f. sound k (subst (IsFaulty k) (sym parts) f);
+    faultless = λ k f. faultless k (subst (IsFaulty k) (sym parts) f);
   };
 }
 
@@ -471,13 +471,13 @@ number_stands at b bytes dark begins h =
     read at b n bytes h f longest behind (Ok d) e =
         let spells : IsToken at f.front (tok.Number at (amount_of d) f.whole) = (refl, f.is, (d, e, refl)) in
         make at (b ∷ bytes) f.front f.behind (Some (tok.Number at (amount_of d) f.whole)) n f.parts f.len spells longest
-        (sound d e spells)
+        (faultless d e spells)
       where
-        sound : (d : Dec) → decimal f.front ≡ Ok d → IsToken at f.front (tok.Number at (amount_of d) f.whole)
+        faultless : (d : Dec) → decimal f.front ≡ Ok d → IsToken at f.front (tok.Number at (amount_of d) f.whole)
             → (k : LexKind) → IsFaulty k (b ∷ bytes) → ⊥
-        sound d e spells kinds.BadByte g = g.1 f.front f.behind f.parts (inr (inl (f.whole, f.is)))
-        sound d e spells kinds.OpenComment g = other_byte b is_ascii_digit h refl bytes g.0 g.1 g.2
-        sound d e spells (kinds.Number c) g =
+        faultless d e spells kinds.BadByte g = g.1 f.front f.behind f.parts (inr (inl (f.whole, f.is)))
+        faultless d e spells kinds.OpenComment g = other_byte b is_ascii_digit h refl bytes g.0 g.1 g.2
+        faultless d e spells (kinds.Number c) g =
             let shorter : length g.0 ≤ length f.front = longest g.0 g.1 g.2 (inr (inl g.3)) in
             let longer : length f.front ≤ length g.0 = g.4 f.front f.behind f.parts (inr (inl (f.whole, f.is))) in
             let same = same_front g.0 f.front g.1 f.behind (sym g.2 ∙ f.parts) (omega (arith, shorter, longer)) in

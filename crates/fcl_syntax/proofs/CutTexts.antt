@@ -139,12 +139,12 @@ front_piece : (at : ℕ) (l : Lexeme) (behind : List ℕ) (p : Piece) → IsFron
     → p ≡ lexeme_piece l.token (length l.bytes)
 front_piece at l behind (piece.Skip n) front f = found_is at n l behind None front f
 front_piece at l behind (piece.Token t n) front f = found_is at n l behind (Some t) front f
-front_piece at l behind (piece.Fault k) front f = absurd (front.sound k f)
+front_piece at l behind (piece.Fault k) front f = absurd (front.faultless k f)
 
 fault_piece : (at : ℕ) (text : List ℕ) (k : LexKind) (p : Piece) → IsFaulty k text → PieceStands at text p
     → p ≡ piece.Fault k
-fault_piece at text k (piece.Skip n) g f = absurd (f.is.sound k (subst (IsFaulty k) f.parts g))
-fault_piece at text k (piece.Token t n) g f = absurd (f.is.sound k (subst (IsFaulty k) f.parts g))
+fault_piece at text k (piece.Skip n) g f = absurd (f.is.faultless k (subst (IsFaulty k) f.parts g))
+fault_piece at text k (piece.Token t n) g f = absurd (f.is.faultless k (subst (IsFaulty k) f.parts g))
 fault_piece at text k (piece.Fault j) g f = ap (λ (x : LexKind). piece.Fault x) (one_fault text j k f g)
 
 abbrev with_lexeme : ℕ → Option Token → Lexed → Lexed

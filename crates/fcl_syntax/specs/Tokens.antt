@@ -153,7 +153,7 @@ IsFaulty (kinds.Number e) text =
 pub record IsFront (at : ℕ) (l : Lexeme) (behind : List ℕ) : Type 0 where
   pub spells : IsSpelling at l.bytes l.token
   pub longest : IsLongest l.bytes (l.bytes ++ behind)
-  pub sound : (k : LexKind) → IsFaulty k (l.bytes ++ behind) → ⊥
+  pub faultless : (k : LexKind) → IsFaulty k (l.bytes ++ behind) → ⊥
 
 -- the lexemes stand in the text one behind the other, the first at this place, and leave the rest
 abbrev pub IsCut : ℕ → List Lexeme → List ℕ → List ℕ → Type 0

@@ -33,9 +33,9 @@ same_put at (v ∷ bytes) m l =
 
 -- a sample is given alike
 pub given_is_put : GivenIsPut
-given_is_put layout bytes s l =
-    let last = write_last (placed layout.samples bytes) layout.ready 1 s.mem in
-    ap by (last ∙ ap (λ (m : List ℕ). set m layout.ready 1) (same_put layout.samples bytes s.mem l))
+given_is_put memory_map bytes s l =
+    let last = write_last (placed memory_map.samples bytes) memory_map.ready 1 s.mem in
+    ap by (last ∙ ap (λ (m : List ℕ). set m memory_map.ready 1) (same_put memory_map.samples bytes s.mem l))
   where
     by : List ℕ → State
     by m = record { regs = s.regs; temps = s.temps; mem = m }
@@ -55,4 +55,4 @@ same_answers true m at (suc n) l =
     (ap (λ (k : ℕ). answers_at true n k m) f ∙ same_answers true m (at + 2) n (omega arith))
 
 pub answers_are_values : AnswersAreValues
-answers_are_values f s l = same_answers f.wide s.mem f.layout.outputs f.outputs l
+answers_are_values f s l = same_answers f.wide s.mem f.memory_map.outputs f.outputs l

@@ -7,10 +7,10 @@ use Rattle.cpu12_parts.specs.State.{State}
 use Rattle.codegen.specs.Answers as answers
 use Rattle.codegen.specs.Uninterrupted.{values_in}
 use Rattle.codegen.specs.declared.firmware.Firmware.{Firmware}
-use Rattle.eval_code.specs.declared.layout.Layout.{Layout}
+use Rattle.eval_code.specs.declared.memory_map.MemoryMap.{MemoryMap}
 
 -- the input bytes are written, and READY 1
-abbrev pub given : Layout → List ℕ → State → State
+abbrev pub given : MemoryMap → List ℕ → State → State
 given l bytes s = record s { mem = write_all (placed l.samples bytes ++ (l.ready, 1) ∷ []) s.mem }
 
 -- an answer has one byte, or two where answers are wide, and the high one is the first
@@ -28,14 +28,14 @@ answers_at wide zero at mem = []
 answers_at wide (suc n) at mem = answer_at wide at mem ∷ answers_at wide n (plus at (answer_size wide)) mem
 
 abbrev pub answers_in : Firmware → State → List ℕ
-answers_in f s = answers_at f.wide f.outputs f.layout.outputs s.mem
+answers_in f s = answers_at f.wide f.outputs f.memory_map.outputs s.mem
 
 -- Bytes that end in memory are given as whole instructions are.
 abbrev pub GivenIsPut : Type 0
-GivenIsPut = (l : Layout) (bytes : List ℕ) (s : State) → l.samples + length bytes ≤ 65535
+GivenIsPut = (l : MemoryMap) (bytes : List ℕ) (s : State) → l.samples + length bytes ≤ 65535
     → given l bytes s ≡ answers.given l bytes s
 
 -- Answers, each of two bytes at most, that end in memory are the values of the outputs.
 abbrev pub AnswersAreValues : Type 0
 AnswersAreValues =
-    (f : Firmware) (s : State) → f.layout.outputs + 2 * f.outputs ≤ 65535 → answers_in f s ≡ values_in f s
+    (f : Firmware) (s : State) → f.memory_map.outputs + 2 * f.outputs ≤ 65535 → answers_in f s ≡ values_in f s

@@ -9,35 +9,35 @@ use arrayvec::ArrayVec;
 use codegen::Firmware;
 use cpu12_emul::machine::Machine;
 use cpu12_isa::mem::{Mem, word_of};
-use eval_code::Layout;
+use eval_code::MemoryMap;
 
 /// Whether the firmware waits for a sample: PC is where it waits, and READY is 0.
-pub fn is_idle<M: Mem>(layout: &Layout, m: &Machine<M>) -> bool
-    ensures { result ≡ is_idle layout.now m.now.state }
+pub fn is_idle<M: Mem>(memory_map: &MemoryMap, m: &Machine<M>) -> bool
+    ensures { result ≡ is_idle memory_map.now m.now.state }
 {
-    m.regs().pc == layout.wait && m.peek(layout.ready) == 0
+    m.regs().pc == memory_map.wait && m.peek(memory_map.ready) == 0
 }
 
 /// Whether PC is elsewhere than where the firmware waits, so that it is busy as long as PC stays.
 #[inline(always)]
-pub fn is_busy_here<M: Mem>(layout: &Layout, m: &Machine<M>) -> bool
-    ensures { result ≡ true → (s : State) → s.regs.pc ≡ m.now.state.regs.pc → is_idle layout.now s ≡ false }
+pub fn is_busy_here<M: Mem>(memory_map: &MemoryMap, m: &Machine<M>) -> bool
+    ensures { result ≡ true → (s : State) → s.regs.pc ≡ m.now.state.regs.pc → is_idle memory_map.now s ≡ false }
 {
-    m.regs().pc != layout.wait
+    m.regs().pc != memory_map.wait
 }
 
 /// Gives a sample: writes its bytes from the first input on, and 1 to READY.
-pub fn give<M: Mem>(layout: &Layout, m: &mut Machine<M>, bytes: &[u8])
-    ensures state { m.new.state ≡ given layout.now bytes.now m.old.state }
+pub fn give<M: Mem>(memory_map: &MemoryMap, m: &mut Machine<M>, bytes: &[u8])
+    ensures state { m.new.state ≡ given memory_map.now bytes.now m.old.state }
     ensures noted { m.new.noted ≡ m.old.noted }
     ensures flags { m.new.flags ≡ m.old.flags }
 {
-    let mut at = layout.samples;
+    let mut at = memory_map.samples;
     for byte in bytes {
         m.poke(at, *byte);
         at = at.wrapping_add(1);
     }
-    m.poke(layout.ready, 1);
+    m.poke(memory_map.ready, 1);
 }
 
 /// How many bytes an answer has.
@@ -65,7 +65,7 @@ pub fn answers<M: Mem>(firmware: &Firmware, m: &Machine<M>) -> ArrayVec<u16, 4>
     ensures { result.items ≡ answers_in firmware.now m.now.state }
 {
     let mut answers = ArrayVec::new();
-    let mut at = firmware.layout.outputs;
+    let mut at = firmware.memory_map.outputs;
     let mut left = firmware.outputs;
     while left > 0 {
         answers.push(answer_at(m, firmware.wide, at));

@@ -64,11 +64,11 @@ fn make_heater(alloc: Global) -> Result<Block, AllocError>
     })
 }
 
-fn rule(alloc: Global, cond: Cond, term: u8) -> Result<Rule, AllocError>
-    ensures { IfOk result (λ r. r ≡ record { cond = cond; weight = None; concl = (1, term) ∷ [] }) }
+fn rule(alloc: Global, condition: Cond, term: u8) -> Result<Rule, AllocError>
+    ensures { IfOk result (λ r. r ≡ record { cond = condition; weight = None; concl = (1, term) ∷ [] }) }
 {
     Ok(Rule {
-        cond,
+        cond: condition,
         weight: None,
         concl: List::new(vec![in alloc; (1, term)]?),
     })

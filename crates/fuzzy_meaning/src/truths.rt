@@ -11,14 +11,14 @@ use fz_num::{Dec, Frac};
 
 /// The truth of a condition where the inputs are `xs`: the degree, one minus, the least, the
 /// greatest.
-pub fn truth(cond: &Cond, block: &Block, xs: &[Dec]) -> Frac
-    requires cond { IsValidCondition block.now (condition_of cond.now) }
+pub fn truth(condition: &Cond, block: &Block, xs: &[Dec]) -> Frac
+    requires condition { IsValidCondition block.now (condition_of condition.now) }
     requires block { IsValid block.now }
     requires xs { AreInputs block.now xs.now }
-    ensures value { fraction_of result ≡ truth_of (literal_degree block.now xs.now) (condition_of cond.now) }
+    ensures value { fraction_of result ≡ truth_of (literal_degree block.now xs.now) (condition_of condition.now) }
     ensures truth { IsTruth 4000000000 result }
 {
-    match cond {
+    match condition {
         Cond::Is(input, term) => literal(block, *input, *term, xs),
         Cond::Not(inner) => truth(inner, block, xs).one_minus(),
         Cond::And(parts) => {

@@ -15,16 +15,16 @@ use Rattle.cpu12_emul.specs.Step.{reset_with}
 use Rattle.interrupt_plan.specs.declared.Request.{Request}
 use Rattle.interrupt_plan.specs.Plans.{IsGood}
 use Rattle.codegen.specs.declared.firmware.Firmware.{Firmware}
-use Rattle.eval_code.specs.declared.layout.Layout.{Layout}
+use Rattle.eval_code.specs.declared.memory_map.MemoryMap.{MemoryMap}
 use Rattle.eval_code.specs.declared.width.Width.{Width}
-use Rattle.eval_code.specs.Layouts.{main_layout}
+use Rattle.eval_code.specs.MemoryMaps.{main_map}
 use Rattle.eval_code.specs.Widths.{width_of, answer}
 use Rattle.eval_code.specs.Bounds.{instruction_bound, steps_by, step_bound}
 use Rattle.codegen.specs.Interruptible.{is_idle, IsInterruptible}
 use Rattle.codegen.specs.Answers as answers
 use Rattle.cpu12_isa.specs.declared.instr.Regs.{Regs}
 use Rattle.cpu12_isa.specs.Agreement.{Agree}
-use Rattle.codegen.specs.Answers.{LeavesLayout, IsArrivedBeside, FirmwareAnswersBeside, ArrivesAlike}
+use Rattle.codegen.specs.Answers.{LeavesMapped, IsArrivedBeside, FirmwareAnswersBeside, ArrivesAlike}
 use Rattle.codegen.specs.Answers.{FirmwareArrivesAlike, IsArrived, AreAnswered, IsAnsweredBeside, AreAnsweredBeside}
 use Rattle.eval_code.specs.Firing.{AreInputBytes}
 use Rattle.codegen.specs.Firmwares.{IsFirmwareOf}
@@ -43,11 +43,11 @@ use Rattle.instruction_steps.specs.Instructions.{AreSteps, IsServing}
 use Rattle.fz_run.specs.Following.{row_of_sample, rows_of_samples, IsLow, FollowsAlone, AllWait}
 use Rattle.fz_run.specs.Answering.{answer_of_row, AnswersItsBlock, AnswersUnder, AnswersUnderPlans, RunsBeside}
 use Rattle.fz_run.specs.Answering.{FirmwareRunsBeside, FirstAlike, FirstStatesAlike, FirstStatesAgree}
-use Rattle.fz_run.proofs.UsedLaws.{WayLaws, Laws}
+use Rattle.fz_run.proofs.UsedLaws.{ExecutionLaws, Laws}
 
--- a firmware at the layout that stands alone, with n answers
+-- a firmware at the memory map that stands alone, with n answers
 abbrev alone : Firmware → ℕ → Firmware
-alone f n = record f { layout = main_layout; outputs = n }
+alone f n = record f { memory_map = main_map; outputs = n }
 
 -- samples that end below the outputs' bytes
 abbrev AreShort : List (List ℕ) → Type 0
@@ -57,48 +57,48 @@ AreShort (bytes ∷ samples) = (length bytes ≤ 8) × AreShort samples
 -- the numbers of steps of the samples
 numbers : (open_to : ℕ → Bool) (b : Block) (w : Width) (most : ℕ) (image : List ℕ) (flags : ℕ) (before : ℕ → ℕ)
     (samples : List (List ℕ)) (s : State)
-    → AreAnsweredBeside open_to main_layout b w most image flags before samples s → List ℕ
+    → AreAnsweredBeside open_to main_map b w most image flags before samples s → List ℕ
 numbers open_to b w most image flags before [] s h = []
 numbers open_to b w most image flags before (bytes ∷ samples) s h =
     all_steps h.1.0.ds ∷ numbers open_to b w most image flags (λ o. answer w b o bytes (before o)) samples h.0 h.1.1
 
 within : (open_to : ℕ → Bool) (b : Block) (w : Width) (most : ℕ) (image : List ℕ) (flags : ℕ) (before : ℕ → ℕ)
     (samples : List (List ℕ)) (s : State)
-    (h : AreAnsweredBeside open_to main_layout b w most image flags before samples s)
+    (h : AreAnsweredBeside open_to main_map b w most image flags before samples s)
     → AllWithin (steps_by b most) (numbers open_to b w most image flags before samples s h)
 unfolding numbers
 within open_to b w most image flags before [] s h = tt
 within open_to b w most image flags before (bytes ∷ samples) s h =
     (h.1.0.steps, within open_to b w most image flags (λ o. answer w b o bytes (before o)) samples h.0 h.1.1)
 
-went : WayLaws → (open_to : ℕ → Bool) (b : Block) (w : Width) (most : ℕ) (image : List ℕ) (flags : ℕ)
+went : ExecutionLaws → (open_to : ℕ → Bool) (b : Block) (w : Width) (most : ℕ) (image : List ℕ) (flags : ℕ)
     (before : ℕ → ℕ) (bytes : List ℕ) (s t : State) → flags < 2 ^ 8 → length bytes ≤ 8
-    → (a : IsAnsweredBeside open_to main_layout b w most image flags before bytes s t)
-    → AreSteps (IsServing open_to main_layout image flags) flags a.ds (given main_layout bytes s) t
+    → (a : IsAnsweredBeside open_to main_map b w most image flags before bytes s t)
+    → AreSteps (IsServing open_to main_map image flags) flags a.ds (given main_map bytes s) t
 went laws open_to b w most image flags before bytes s t hf l a =
-    subst (λ (u : State). AreSteps (IsServing open_to main_layout image flags) flags a.ds u t)
-    (sym (laws.given_is_put main_layout bytes s (omega arith)))
-    (laws.steps open_to main_layout image flags a.ds (answers.given main_layout bytes s) t hf a.execution)
+    subst (λ (u : State). AreSteps (IsServing open_to main_map image flags) flags a.ds u t)
+    (sym (laws.given_is_put main_map bytes s (omega arith)))
+    (laws.steps open_to main_map image flags a.ds (answers.given main_map bytes s) t hf a.execution)
 
-sampled : WayLaws → (open_to : ℕ → Bool) (f : Firmware) (n : ℕ) (b : Block) (w : Width) (most : ℕ) (flags : ℕ)
+sampled : ExecutionLaws → (open_to : ℕ → Bool) (f : Firmware) (n : ℕ) (b : Block) (w : Width) (most : ℕ) (flags : ℕ)
     (before : ℕ → ℕ) (bytes : List ℕ) (s t : State) → flags < 2 ^ 8 → length bytes ≤ 8
-    → (a : IsAnsweredBeside open_to main_layout b w most (image_memory f.image.bytes) flags before bytes s t)
+    → (a : IsAnsweredBeside open_to main_map b w most (image_memory f.image.bytes) flags before bytes s t)
     → Completes (FactsBeside open_to flags (alone f n)) (with_writes flags (alone f n)) 0 (all_steps a.ds)
-    (all_steps a.ds) (given main_layout bytes s)
+    (all_steps a.ds) (given main_map bytes s)
 sampled laws open_to f n b w most flags before bytes s t hf l a =
     let g = went laws open_to b w most (image_memory f.image.bytes) flags before bytes s t hf l a in
     record {
       sum = omega arith;
       holds = λ j l. (let k = g.each j l in record { facts = k.facts; image = k.image; stack = k.stack });
       on = λ j from l. (let k = g.each j l in k.busy);
-      ended = ap (is_idle main_layout) g.goes ∙ a.idle;
+      ended = ap (is_idle main_map) g.goes ∙ a.idle;
     }
 
-all_sampled : WayLaws
+all_sampled : ExecutionLaws
     → (open_to : ℕ → Bool) (f : Firmware) (n : ℕ) (b : Block) (w : Width) (most : ℕ) (flags : ℕ) (before : ℕ → ℕ)
     (samples : List (List ℕ)) (s : State) → flags < 2 ^ 8
     → AreShort samples →
-    (h : AreAnsweredBeside open_to main_layout b w most (image_memory f.image.bytes) flags before samples s)
+    (h : AreAnsweredBeside open_to main_map b w most (image_memory f.image.bytes) flags before samples s)
     → AllComplete (FactsBeside open_to flags (alone f n)) (with_writes flags (alone f n))
     (numbers open_to b w most (image_memory f.image.bytes) flags before samples s h) samples s
 unfolding numbers
@@ -117,10 +117,10 @@ all_sampled laws open_to f n b w most flags before (bytes ∷ samples) s hf l h 
 waits_alone : (f : Firmware) (s : State) → IsInterruptible is_free (image_memory f.image.bytes) s → WaitsAlone f s
 waits_alone f s c = record { image = c.same; stack = c.stack; unmasked = c.mask; sums = c.temps }
 
-all_wait : WayLaws → (f : Firmware) (n : ℕ) (b : Block) (w : Width) (most : ℕ) (flags : ℕ) (before : ℕ → ℕ)
+all_wait : ExecutionLaws → (f : Firmware) (n : ℕ) (b : Block) (w : Width) (most : ℕ) (flags : ℕ) (before : ℕ → ℕ)
     (samples : List (List ℕ)) (s : State) → flags < 2 ^ 8
     → AreShort samples → IsInterruptible is_free (image_memory f.image.bytes) s
-    → (h : AreAnswered main_layout b w most (image_memory f.image.bytes) flags before samples s)
+    → (h : AreAnswered main_map b w most (image_memory f.image.bytes) flags before samples s)
     → AllWait flags (alone f n)
     (numbers is_free b w most (image_memory f.image.bytes) flags before samples s h) samples s
 unfolding numbers
@@ -151,7 +151,7 @@ all_answers : Laws
     → (f : Firmware) (n : ℕ) (b : Block) (image : List ℕ) (flags : ℕ) (before : ℕ → ℕ) (plan : List Request) (k : ℕ)
     (samples : List (List ℕ)) (s : State)
     → flags < 2 ^ 8 → AreShort samples → n ≤ 4
-    → (h : AreAnswered main_layout b (width_of f.wide) f.instr_bound image flags before samples s)
+    → (h : AreAnswered main_map b (width_of f.wide) f.instr_bound image flags before samples s)
     → map answer_of_row (rows_of_samples flags (alone f n) plan k
     (numbers is_free b (width_of f.wide) f.instr_bound image flags before samples s h) samples s) ≡ answers_by b
     (alone f n) image flags before samples s h
@@ -160,8 +160,8 @@ all_answers laws f n b image flags before plan k [] s hf l few h = refl
 all_answers laws f n b image flags before plan k (bytes ∷ samples) s hf l few h =
     let w = width_of f.wide in
     let most = f.instr_bound in
-    let start = given main_layout bytes s in
-    let g = went laws.ways is_free b w most image flags before bytes s h.0 hf l.0 h.1.0 in
+    let start = given main_map bytes s in
+    let g = went laws.executions is_free b w most image flags before bytes s h.0 hf l.0 h.1.0 in
     let later : ℕ → ℕ = λ o. answer w b o bytes (before o) in
     let end = uninterrupted flags (all_steps h.1.0.ds) start in
     let here =
@@ -176,13 +176,13 @@ all_answers laws f n b image flags before plan k (bytes ∷ samples) s hf l few 
 
 all_samples : (f : Firmware) (b : Block) (w : Width) (most : ℕ) (image : List ℕ) (flags : ℕ) (before : ℕ → ℕ)
     (plan : List Request) (k : ℕ) (samples : List (List ℕ)) (s u : State)
-    → (h : AreAnswered main_layout b w most image flags before samples s)
+    → (h : AreAnswered main_map b w most image flags before samples s)
     → map (λ (r : RowSeen (List ℕ)). r.sample)
     (rows_of_samples flags f plan k (numbers is_free b w most image flags before samples s h) samples u) ≡ samples
 unfolding numbers
 all_samples f b w most image flags before plan k [] s u h = refl
 all_samples f b w most image flags before plan k (bytes ∷ samples) s u h =
-    let start = given f.layout bytes u in
+    let start = given f.memory_map bytes u in
     ap (λ (xs : List (List ℕ)). bytes ∷ xs)
     (all_samples f b w most image flags (λ o. answer w b o bytes (before o)) plan (suc k) samples h.0
     (uninterrupted flags (all_steps h.1.0.ds) start) h.1.1)
@@ -194,7 +194,7 @@ few_steps : (flags : ℕ) (f : Firmware) (plan : List Request) (most k : ℕ) (n
 few_steps flags f plan most k [] samples s h = λ j r lt. absurd (omega arith)
 few_steps flags f plan most k (n ∷ ns) [] s h = λ j r lt. absurd (omega arith)
 few_steps flags f plan most k (n ∷ ns) (bytes ∷ rest) s h =
-    let first = given f.layout bytes s in
+    let first = given f.memory_map bytes s in
     let after = uninterrupted flags n first in
     All-cons (λ (r : RowSeen (List ℕ)). r.steps ≤ most) (row_of_sample flags f (requests_of k plan) n bytes first)
     (rows_of_samples flags f plan (suc k) ns rest after) h.0
@@ -207,11 +207,11 @@ enough_steps w b few = omega arith
 
 first_is : ArrivesPlainly → (open_to : ℕ → Bool) (b : Block) (f : Firmware) (n flags : ℕ) (s : State)
     → length b.outputs ≤ 4 → IsFirmwareOf b (alone f n)
-    → IsArrivedBeside open_to main_layout (image_memory f.image.bytes) flags s → first_state (alone f n) flags ≡ s
+    → IsArrivedBeside open_to main_map (image_memory f.image.bytes) flags s → first_state (alone f n) flags ≡ s
 first_is arrives_plainly open_to b f n flags s few h a =
     let start = reset_with (image_memory f.image.bytes) in
     ap (λ (most : ℕ). arrival flags 0xC008 most start) h.steps
-    ∙ arrives_plainly flags 0xC008 3 (step_bound (width_of f.wide) b) start s refl a.way a.wait
+    ∙ arrives_plainly flags 0xC008 3 (step_bound (width_of f.wide) b) start s refl a.execution a.wait
     (enough_steps (width_of f.wide) b few)
 
 all_short : (b : Block) (samples : List (List ℕ)) → length b.inputs ≤ 8 → All (AreInputBytes b) samples
@@ -232,11 +232,12 @@ is_low : (f : Firmware) (n : ℕ) → n ≤ 4 → IsLow (alone f n)
 is_low f n few = let bytes = few_bytes f.wide n few in record { ready = omega arith; outputs = omega arith }
 
 -- its run beside handlers to which these bytes are open
-beside : WayLaws → (open_to : ℕ → Bool) (b : Block) (f : Firmware) (n flags : ℕ) (samples : List (List ℕ)) (s : State)
+beside : ExecutionLaws → (open_to : ℕ → Bool) (b : Block) (f : Firmware) (n flags : ℕ) (samples : List (List ℕ))
+    (s : State)
     → flags < 2 ^ 8 → length b.outputs ≤ 4 → n ≤ 4
     → IsFirmwareOf b (alone f n) → AreShort samples
-    → IsArrivedBeside open_to main_layout (image_memory f.image.bytes) flags s
-    → AreAnsweredBeside open_to main_layout b (width_of f.wide) f.instr_bound (image_memory f.image.bytes) flags
+    → IsArrivedBeside open_to main_map (image_memory f.image.bytes) flags s
+    → AreAnsweredBeside open_to main_map b (width_of f.wide) f.instr_bound (image_memory f.image.bytes) flags
     (λ o. 0) samples s
     → RunsBeside open_to (alone f n) flags samples
 beside laws open_to b f n flags samples s hf few count h short a answered =
@@ -261,8 +262,8 @@ beside laws open_to b f n flags samples s hf few count h short a answered =
 under : Laws → (b : Block) (f : Firmware) (n flags : ℕ) (samples : List (List ℕ)) (plan : List Request) (s : State)
     → flags < 2 ^ 8 → length b.outputs ≤ 4
     → n ≤ 4 → IsFirmwareOf b (alone f n) → AreShort samples → IsGood plan
-    → IsArrived main_layout (image_memory f.image.bytes) flags s
-    → AreAnswered main_layout b (width_of f.wide) f.instr_bound (image_memory f.image.bytes) flags (λ o. 0) samples s
+    → IsArrived main_map (image_memory f.image.bytes) flags s
+    → AreAnswered main_map b (width_of f.wide) f.instr_bound (image_memory f.image.bytes) flags (λ o. 0) samples s
     → AnswersUnder b (alone f n) flags samples plan (firmware_rows (alone f n) samples plan flags).rows
 under laws b f n flags samples plan s hf few count h short good a answered =
     let g = alone f n in
@@ -270,14 +271,14 @@ under laws b f n flags samples plan s hf few count h short good a answered =
     let image = image_memory f.image.bytes in
     let most = f.instr_bound in
     let ns = numbers is_free b w most image flags (λ o. 0) samples s answered in
-    let first : first_state g flags ≡ s = first_is laws.ways.arrives_plainly is_free b f n flags s few h a in
+    let first : first_state g flags ≡ s = first_is laws.executions.arrives_plainly is_free b f n flags s few h a in
     let low : IsLow g = is_low f n count in
     let steps : AllWithin (steps_by b most) ns = within is_free b w most image flags (λ o. 0) samples s answered in
     let same_bound : steps_by b most ≡ step_bound w b = ap (steps_by b) h.instructions in
     let enough : f.step_bound ≡ steps_by b most = h.steps ∙ sym same_bound in
     let bounded : AllWithin f.step_bound ns = subst (λ (m : ℕ). AllWithin m ns) (sym enough) steps in
     let complete : AllComplete (FactsAlone flags g) (with_writes flags g) ns samples s =
-    all_sampled laws.ways is_free f n b w most flags (λ o. 0) samples s hf short answered in
+    all_sampled laws.executions is_free f n b w most flags (λ o. 0) samples s hf short answered in
     let runs : FollowsAlone flags g f.step_bound plan ns samples s =
     laws.runs_follow flags g f.step_bound plan ns samples s low good bounded complete in
     let rows = (firmware_rows g samples plan flags).rows in
@@ -302,25 +303,25 @@ under laws b f n flags samples plan s hf few count h short good a answered =
       complete = subst (λ (u : State). AllComplete (FactsAlone flags g) (with_writes flags g) ns samples u)
           (sym first) complete;
       waits = subst (λ (u : State). AllWait flags g ns samples u) (sym first)
-          (all_wait laws.ways f n b w most flags (λ o. 0) samples s hf short a.interruptible answered);
+          (all_wait laws.executions f n b w most flags (λ o. 0) samples s hf short a.interruptible answered);
       rows_are = rows_are ∙ ap (λ (u : State). rows_of_samples flags g plan 1 ns samples u) (sym first);
       follows = subst (λ (u : State). FollowsAlone flags g f.step_bound plan ns samples u) (sym first) runs;
     }
 
 -- the same of any firmware of a block
-by_layout : Firmware → Layout → ℕ → Firmware
-by_layout f l k = record f { layout = l; outputs = k }
+by_map : Firmware → MemoryMap → ℕ → Firmware
+by_map f l k = record f { memory_map = l; outputs = k }
 
 is_alone : (b : Block) (f : Firmware) → IsFirmwareOf b f → f ≡ alone f (length b.outputs)
-unfolding by_layout
-is_alone b f h = ap₂ (by_layout f) h.layout h.outputs
+unfolding by_map
+is_alone b f h = ap₂ (by_map f) h.memory_map h.outputs
 
-pub runs_beside : WayLaws → FirmwareAnswersBeside → FirmwareRunsBeside
+pub runs_beside : ExecutionLaws → FirmwareAnswersBeside → FirmwareRunsBeside
 runs_beside laws answers open_to b f flags samples hf leaves v limits h all =
     let n = length b.outputs in
     let same = is_alone b f h in
     let own : IsFirmwareOf b (alone f n) = subst (λ (d : Firmware). IsFirmwareOf b d) same h in
-    let mine : LeavesLayout open_to main_layout = subst (λ (l : Layout). LeavesLayout open_to l) h.layout leaves in
+    let mine : LeavesMapped open_to main_map = subst (λ (l : MemoryMap). LeavesMapped open_to l) h.memory_map leaves in
     let from = answers open_to b (alone f n) mine v limits own flags samples hf all in
     subst (λ (d : Firmware). RunsBeside open_to d flags samples) (sym same)
     (beside laws open_to b f n flags samples from.0 hf v.few_outputs v.few_outputs own
@@ -328,7 +329,7 @@ runs_beside laws answers open_to b f flags samples hf leaves v limits h all =
 
 first_alike : ArrivesPlainly → (open_to : ℕ → Bool) (b : Block) (f : Firmware) (n flags : ℕ) (mem : List ℕ)
     → length b.outputs ≤ 4 → IsFirmwareOf b (alone f n)
-    → ArrivesAlike open_to main_layout (image_memory f.image.bytes) mem flags
+    → ArrivesAlike open_to main_map (image_memory f.image.bytes) mem flags
     → FirstAlike open_to (alone f n) flags mem (arrival flags 0xC008 f.step_bound (reset_with mem))
 first_alike arrives_plainly open_to b f n flags mem few h a =
     let first : first_state (alone f n) flags ≡ a.image_state =
@@ -338,7 +339,7 @@ first_alike arrives_plainly open_to b f n flags mem few h a =
     let most = step_bound (width_of f.wide) b in
     let here : arrival flags 0xC008 f.step_bound (reset_with mem) ≡ a.state =
     ap (λ (k : ℕ). arrival flags 0xC008 k (reset_with mem)) h.steps
-    ∙ arrives_plainly flags 0xC008 3 most (reset_with mem) a.state refl a.way pc
+    ∙ arrives_plainly flags 0xC008 3 most (reset_with mem) a.state refl a.execution pc
     (enough_steps (width_of f.wide) b few) in
     let there : FirstAlike open_to (alone f n) flags mem a.state = record {
       regs = a.regs ∙ ap (λ (u : State). u.regs) (sym first);
@@ -353,8 +354,9 @@ first_states_alike arrives_plainly arrives open_to b f flags mem hf leaves v lim
     let n = length b.outputs in
     let same = is_alone b f h in
     let own : IsFirmwareOf b (alone f n) = subst (λ (d : Firmware). IsFirmwareOf b d) same h in
-    let mine : LeavesLayout open_to main_layout = subst (λ (l : Layout). LeavesLayout open_to l) h.layout leaves in
-    subst (λ (d : Firmware). FirstAlike open_to d flags mem (arrival flags d.layout.wait d.step_bound (reset_with mem)))
+    let mine : LeavesMapped open_to main_map = subst (λ (l : MemoryMap). LeavesMapped open_to l) h.memory_map leaves in
+    subst (λ (d : Firmware). FirstAlike open_to d flags mem (arrival flags d.memory_map.wait d.step_bound
+    (reset_with mem)))
     (sym same)
     (first_alike arrives_plainly open_to b f n flags mem v.few_outputs own
     (arrives open_to b (alone f n) mem flags hf mine v limits own agree))

@@ -26,7 +26,7 @@ same_rows : TakenAtOnce → (flags : ℕ) (f : Firmware) (plan : List Request) (
 same_rows law flags f plan k [] samples s h = refl
 same_rows law flags f plan k (n ∷ ns) [] s h = refl
 same_rows law flags f plan k (n ∷ ns) (bytes ∷ rest) s h =
-    let u : State = given f.layout bytes s in
+    let u : State = given f.memory_map bytes s in
     let holds = (let z = h.0 in z.holds) in
     let at : taken_at flags (λ (r : Request). r.moment) n u ≡ (λ (r : Request). r.moment) =
     λ i. λ r. law flags n u r.moment
@@ -37,11 +37,11 @@ same_rows law flags f plan k (n ∷ ns) (bytes ∷ rest) s h =
     by : (Request → ℕ) → RowSeen (List ℕ)
     by moment = record {
       sample = bytes;
-      answers = answers_in f (uninterrupted flags n (given f.layout bytes s));
-      instrs = counted flags n (given f.layout bytes s);
+      answers = answers_in f (uninterrupted flags n (given f.memory_map bytes s));
+      instrs = counted flags n (given f.memory_map bytes s);
       steps = n;
-      resumed = resumed_of flags moment (given f.layout bytes s) (requests_of k plan) n;
-      frames = frames_of flags moment (given f.layout bytes s) (requests_of k plan) n;
+      resumed = resumed_of flags moment (given f.memory_map bytes s) (requests_of k plan) n;
+      frames = frames_of flags moment (given f.memory_map bytes s) (requests_of k plan) n;
     }
 
 pub runs_follow_alone : RunsFollowBeside → RequestsAreGood → TakenAtOnce → RunsFollowAlone

@@ -6,13 +6,13 @@ use Rattle.fz_run.specs.Following.{RunsFollowAlone}
 use Rattle.firmware_ports.specs.Ports.{AnswersAreValues, GivenIsPut}
 use Rattle.instruction_steps.specs.Instructions.{InstructionsAreSteps}
 
-pub record WayLaws : Type 0 where
+pub record ExecutionLaws : Type 0 where
   pub steps : InstructionsAreSteps
   pub given_is_put : GivenIsPut
   pub arrives_plainly : ArrivesPlainly
 
 pub record Laws : Type 0 where
-  pub ways : WayLaws
+  pub executions : ExecutionLaws
   pub answers_are_values : AnswersAreValues
   pub firmware_answers : FirmwareAnswers
   pub answered_are_uninterrupted : AnsweredAreUninterrupted

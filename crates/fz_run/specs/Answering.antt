@@ -8,7 +8,7 @@ use Rattle.cpu12_parts.specs.State.{State}
 use Rattle.cpu12_emul.specs.Image.{image_memory}
 use Rattle.cpu12_emul.specs.Simulation.{Same}
 use Rattle.cpu12_emul.specs.Step.{reset_with}
-use Rattle.codegen.specs.Answers.{LeavesLayout}
+use Rattle.codegen.specs.Answers.{LeavesMapped}
 use Rattle.interrupt_plan.specs.declared.Request.{Request}
 use Rattle.interrupt_plan.specs.Plans.{IsGood}
 use Rattle.codegen.specs.declared.firmware.Firmware.{Firmware}
@@ -72,11 +72,12 @@ pub record RunsBeside (open_to : ℕ → Bool) (f : Firmware) (flags : ℕ) (sam
   pub within : AllWithin f.step_bound ns
   pub complete : AllComplete (FactsBeside open_to flags f) (with_writes flags f) ns samples (first_state f flags)
 
--- So the firmware of a block runs beside handlers to which anything is open that leaves its layout alone.
+-- So the firmware of a block runs beside handlers to which anything is open that leaves its memory map alone.
 abbrev pub FirmwareRunsBeside : Type 0
 FirmwareRunsBeside =
     (open_to : ℕ → Bool) (b : Block) (f : Firmware) (flags : ℕ) (samples : List (List ℕ)) → flags < 2 ^ 8
-    → LeavesLayout open_to f.layout → IsValid b → IsWithinLimits b → IsFirmwareOf b f → All (AreInputBytes b) samples
+    → LeavesMapped open_to f.memory_map → IsValid b → IsWithinLimits b → IsFirmwareOf b f
+    → All (AreInputBytes b) samples
     → RunsBeside open_to f flags samples
 
 -- The first state over a memory that is the image's but for open bytes: it is the same but for these, which are as
@@ -90,9 +91,9 @@ pub record FirstAlike (open_to : ℕ → Bool) (f : Firmware) (flags : ℕ) (mem
 abbrev pub FirstStatesAlike : Type 0
 FirstStatesAlike =
     (open_to : ℕ → Bool) (b : Block) (f : Firmware) (flags : ℕ) (mem : List ℕ) → flags < 2 ^ 8
-    → LeavesLayout open_to f.layout → IsValid b → IsWithinLimits b → IsFirmwareOf b f
+    → LeavesMapped open_to f.memory_map → IsValid b → IsWithinLimits b → IsFirmwareOf b f
     → Agree open_to mem (image_memory f.image.bytes)
-    → FirstAlike open_to f flags mem (arrival flags f.layout.wait f.step_bound (reset_with mem))
+    → FirstAlike open_to f flags mem (arrival flags f.memory_map.wait f.step_bound (reset_with mem))
 
 -- Such a state is the first one but for what is hidden.
 abbrev pub FirstStatesAgree : Type 0

@@ -30,7 +30,7 @@ abbrev pub rows_of_samples : ℕ → Firmware → List Request → ℕ → List 
 rows_of_samples flags f plan k [] samples s = []
 rows_of_samples flags f plan k (n ∷ ns) [] s = []
 rows_of_samples flags f plan k (n ∷ ns) (bytes ∷ rest) s =
-    let first = given f.layout bytes s in
+    let first = given f.memory_map bytes s in
     let row = row_of_sample flags f (requests_of k plan) n bytes first in
     row ∷ rows_of_samples flags f plan (suc k) ns rest (uninterrupted flags n first)
 
@@ -39,12 +39,12 @@ abbrev pub AllWait : ℕ → Firmware → List ℕ → List (List ℕ) → State
 AllWait flags f [] samples s = WaitsAlone f s
 AllWait flags f (n ∷ ns) [] s = WaitsAlone f s
 AllWait flags f (n ∷ ns) (bytes ∷ rest) s =
-    WaitsAlone f s × AllWait flags f ns rest (uninterrupted flags n (given f.layout bytes s))
+    WaitsAlone f s × AllWait flags f ns rest (uninterrupted flags n (given f.memory_map bytes s))
 
 -- the bytes that are read from outside stand below those that plans may write
 pub record IsLow (f : Firmware) : Type 0 where
-  pub ready : f.layout.ready < free_start
-  pub outputs : f.layout.outputs + answer_size f.wide * f.outputs ≤ free_start
+  pub ready : f.memory_map.ready < free_start
+  pub outputs : f.memory_map.outputs + answer_size f.wide * f.outputs ≤ free_start
 
 -- the free bytes are open, the bytes below them are not, nor is the stack
 pub record OpensFree (open_to : ℕ → Bool) : Type 0 where

@@ -13,9 +13,9 @@ use Rattle.firmware_ports.specs.Ports.{given, answers_in}
 abbrev pub stand_alone : {A B : Type 0} → Firmware → (A → ℕ × ℕ) → (ℕ → A → State → State) → (ℕ → A → State → B)
     → FormParts (List ℕ) A B
 stand_alone f place handle tells = record {
-  give = given f.layout;
+  give = given f.memory_map;
   leave = λ x s. s;
-  ends = λ s. is_idle f.layout s;
+  ends = λ s. is_idle f.memory_map s;
   answers = answers_in f;
   place = place;
   handle = handle;

@@ -5,7 +5,7 @@ use Rattle.cpu12_parts.specs.State.{State}
 use Rattle.cpu12_parts.specs.Cuts.{suspended, wav}
 use Rattle.cpu12_emul.specs.Simulation.{Simulates}
 use Rattle.run_law.specs.Uninterrupted.{stepped}
-use Rattle.eval_code.specs.declared.layout.Layout.{Layout}
+use Rattle.eval_code.specs.declared.memory_map.MemoryMap.{MemoryMap}
 use Rattle.codegen.specs.declared.firmware.Firmware.{Firmware}
 use Rattle.firmware_ports.specs.Ports.{given}
 use Rattle.instruction_steps.specs.Facts.{FactsBeside}
@@ -28,7 +28,7 @@ StepsLeaveOpen =
 -- A sample of at most eight bytes does, where its bytes and READY are not open.
 abbrev pub GivenLeavesOpen : Type 0
 GivenLeavesOpen =
-    (open_to : ℕ → Bool) (l : Layout) (bytes : List ℕ) (w : State) → length bytes ≤ 8 → l.samples + 8 ≤ 65536
+    (open_to : ℕ → Bool) (l : MemoryMap) (bytes : List ℕ) (w : State) → length bytes ≤ 8 → l.samples + 8 ≤ 65536
     → open_to l.ready ≡ false
     → ((at : ℕ) → l.samples ≤ at → at < l.samples + 8 → open_to at ≡ false)
     → AreOpenAlike open_to w.mem (given l bytes w).mem

@@ -26,7 +26,7 @@ row_seen r = record {
 
 -- the state in which a firmware waits for its first sample
 abbrev pub first_state : Firmware → ℕ → State
-first_state f flags = arrived_at flags f.layout.wait f.step_bound f.image.bytes
+first_state f flags = arrived_at flags f.memory_map.wait f.step_bound f.image.bytes
 
 abbrev pub input_bytes : Sample → List ℕ
 input_bytes s = s.bytes.items

@@ -39,8 +39,8 @@ low_shown open_to sp at a h =
 
 -- the bytes that are read from outside are not open
 pub record LeavesPorts (open_to : ℕ → Bool) (f : Firmware) : Type 0 where
-  pub ready : open_to f.layout.ready ≡ false
-  pub outputs : (at : ℕ) → f.layout.outputs ≤ at → at < f.layout.outputs + answer_size f.wide * f.outputs
+  pub ready : open_to f.memory_map.ready ≡ false
+  pub outputs : (at : ℕ) → f.memory_map.outputs ≤ at → at < f.memory_map.outputs + answer_size f.wide * f.outputs
       → open_to at ≡ false
 
 below : (a b c : ℕ) → a < b → b ≤ c → a < c
@@ -48,9 +48,9 @@ below a b c l m = omega arith
 
 pub low_ports : (open_to : ℕ → Bool) → OpensFree open_to → (f : Firmware) → IsLow f → LeavesPorts open_to f
 low_ports open_to opens f low = record {
-  ready = opens.low f.layout.ready low.ready;
+  ready = opens.low f.memory_map.ready low.ready;
   outputs = λ at from to.
-      opens.low at (below at (f.layout.outputs + answer_size f.wide * f.outputs) free_start to low.outputs);
+      opens.low at (below at (f.memory_map.outputs + answer_size f.wide * f.outputs) free_start to low.outputs);
 }
 
 pub all_open : (open_to : ℕ → Bool) → OpensFree open_to → (ws : List Write)
@@ -85,25 +85,25 @@ same_answers hidden true (suc k) at m n l h a =
 
 -- samples are given, answers read and ends seen alike
 pub given_alike : WritesAgree → (open_to : ℕ → Bool) (f : Firmware) (x : List ℕ) (w s : State) → Same open_to w s
-    → Same open_to (given f.layout x w) (given f.layout x s)
+    → Same open_to (given f.memory_map x w) (given f.memory_map x s)
 given_alike agree open_to f x w s l =
     let hidden = is_hidden open_to s.regs.sp in
-    let writes = placed f.layout.samples x ++ (f.layout.ready, 1) ∷ [] in
+    let writes = placed f.memory_map.samples x ++ (f.memory_map.ready, 1) ∷ [] in
     record { regs = l.regs; temps = l.temps; mem = agree writes w.mem s.mem hidden hidden l.mem (λ at h. inl h) }
 
 pub answered_alike : (open_to : ℕ → Bool) (f : Firmware) → LeavesPorts open_to f → IsLow f → (w s : State)
     → Same open_to w s → answers_in f w ≡ answers_in f s
 answered_alike open_to f ports low w s l =
-    same_answers (is_hidden open_to s.regs.sp) f.wide f.outputs f.layout.outputs w.mem s.mem low.outputs
+    same_answers (is_hidden open_to s.regs.sp) f.wide f.outputs f.memory_map.outputs w.mem s.mem low.outputs
     (λ j from to. low_shown open_to s.regs.sp j (ports.outputs j from to)
-    (below j (f.layout.outputs + answer_size f.wide * f.outputs) free_start to low.outputs)) l.mem
+    (below j (f.memory_map.outputs + answer_size f.wide * f.outputs) free_start to low.outputs)) l.mem
 
 pub ended_alike : (open_to : ℕ → Bool) (f : Firmware) → LeavesPorts open_to f → IsLow f → (w s : State)
-    → Same open_to w s → is_idle f.layout w ≡ is_idle f.layout s
+    → Same open_to w s → is_idle f.memory_map w ≡ is_idle f.memory_map s
 ended_alike open_to f ports low w s l =
-    let ready = low_shown open_to s.regs.sp f.layout.ready ports.ready low.ready in
-    let waits : ℕ → ℕ → Bool = λ p v. (p == f.layout.wait) && (v == 0) in
-    ap₂ waits (ap (λ (r : Regs). r.pc) l.regs) (l.mem.bytes f.layout.ready ready)
+    let ready = low_shown open_to s.regs.sp f.memory_map.ready ports.ready low.ready in
+    let waits : ℕ → ℕ → Bool = λ p v. (p == f.memory_map.wait) && (v == 0) in
+    ap₂ waits (ap (λ (r : Regs). r.pc) l.regs) (l.mem.bytes f.memory_map.ready ready)
 
 pub sound : (open_to : ℕ → Bool) → OpensFree open_to → (flags : ℕ) (f : Firmware) → IsLow f → WritesAgree
     → WritesAreQuiet

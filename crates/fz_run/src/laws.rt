@@ -65,7 +65,7 @@ pub fn plans_are_in_order()
 {}
 
 /// The firmware of a block answers all samples without interrupts, each within its bound of steps, and
-/// each state keeps the facts, beside handlers to which anything is open that leaves its layout alone.
+/// each state keeps the facts, beside handlers to which anything is open that leaves its memory map alone.
 pub fn firmware_runs_beside()
     ensures { FirmwareRunsBeside }
 {

@@ -69,7 +69,7 @@ impl<'a, M: Mem> Session<'a, M> {
         let form = WithWrites { firmware, samples };
         let start = Start {
             image: &firmware.image,
-            wait: firmware.layout.wait,
+            wait: firmware.memory_map.wait,
             most: firmware.step_bound,
         };
         let (machine, progress) = begun(alloc, &form, &start, plan.as_slice(), flags)?;

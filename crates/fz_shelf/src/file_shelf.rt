@@ -10,7 +10,7 @@ use std::fs::File;
 use std::io::Read;
 use std::rt::Files;
 
-/// The files of the system by their paths. It is never sound.
+/// The files of the system by their paths. It is never reliable.
 #[derive(Drop)]
 pub struct FileShelf<R: Files + Drop> {
     rt: R,
@@ -106,7 +106,7 @@ impl<R: Files + Drop> Shelf for FileShelf<R> {
 
     ghost asked = { λ s. asked_of s.asked.items };
 
-    ghost sound = { λ s. ⊥ };
+    ghost reliable = { λ s. ⊥ };
 
     fn read(&mut self, name: &str, into: &mut Vec<u8>) -> Result<(), ReadError> {
         match read_once(self.alloc, &self.rt, &mut self.asked, name, into) {

@@ -95,8 +95,8 @@ impl MemShelf {
         ensures numbers { IfOk result (λ s. (reads_of s ≡ 0) × (writes_of s ≡ 0)) }
         ensures failing_reads { IfOk result (λ s. failing_reads_of s ≡ failing_reads) }
         ensures failing_writes { IfOk result (λ s. failing_writes_of s ≡ failing_writes) }
-        ensures sound { All (λ n. n ≤ 0) failing_reads → All (λ n. n ≤ 0) failing_writes
-            → IfOk result (λ s. ⟦<MemShelf as Shelf>⟧.sound s) }
+        ensures reliable { All (λ n. n ≤ 0) failing_reads → All (λ n. n ≤ 0) failing_writes
+            → IfOk result (λ s. ⟦<MemShelf as Shelf>⟧.reliable s) }
     {
         let files = match store(alloc, files) {
             Ok(files) => files,
@@ -133,7 +133,7 @@ impl Shelf for MemShelf {
 
     ghost asked = { λ s. asked_of s.asked.items };
 
-    ghost sound = { λ s. All (λ n. n ≤ s.reads) s.failing_reads × All (λ n. n ≤ s.writes) s.failing_writes };
+    ghost reliable = { λ s. All (λ n. n ≤ s.reads) s.failing_reads × All (λ n. n ≤ s.writes) s.failing_writes };
 
     /// A read that is listed fails, and no other of a file that is there.
     fn read(&mut self, name: &str, into: &mut Vec<u8>) -> Result<(), ReadError>
@@ -144,8 +144,9 @@ impl Shelf for MemShelf {
             (⟦<MemShelf as Shelf>⟧.counts self.new) result }
         ensures asked { ⟦<MemShelf as Shelf>⟧.asked self.new
             ≡ asked_after (⟦<MemShelf as Shelf>⟧.asked self.old) name.now result }
-        ensures sound { ⟦<MemShelf as Shelf>⟧.sound self.old → ⟦<MemShelf as Shelf>⟧.sound self.new }
-        ensures steady { ⟦<MemShelf as Shelf>⟧.sound self.old → IsThere (⟦<MemShelf as Shelf>⟧.files self.old name.now)
+        ensures reliable { ⟦<MemShelf as Shelf>⟧.reliable self.old → ⟦<MemShelf as Shelf>⟧.reliable self.new }
+        ensures steady { ⟦<MemShelf as Shelf>⟧.reliable self.old
+            → IsThere (⟦<MemShelf as Shelf>⟧.files self.old name.now)
             → IsErrOf result ReadError.Failed → ⊥ }
 
         ensures listed { IsListed (failing_reads_of self.old) (reads_of self.old)
@@ -198,8 +199,8 @@ impl Shelf for MemShelf {
         ensures counts { WriteCounts (⟦<MemShelf as Shelf>⟧.counts self.old)
             (⟦<MemShelf as Shelf>⟧.counts self.new) result }
         ensures asked { ⟦<MemShelf as Shelf>⟧.asked self.new ≡ ⟦<MemShelf as Shelf>⟧.asked self.old }
-        ensures sound { ⟦<MemShelf as Shelf>⟧.sound self.old → ⟦<MemShelf as Shelf>⟧.sound self.new }
-        ensures steady { ⟦<MemShelf as Shelf>⟧.sound self.old
+        ensures reliable { ⟦<MemShelf as Shelf>⟧.reliable self.old → ⟦<MemShelf as Shelf>⟧.reliable self.new }
+        ensures steady { ⟦<MemShelf as Shelf>⟧.reliable self.old
             → Fits (⟦<MemShelf as Shelf>⟧.files self.old name.now) (length bytes.now) → IsOk result }
 
         ensures listed { IsListed (failing_writes_of self.old) (writes_of self.old) → IsErr result }

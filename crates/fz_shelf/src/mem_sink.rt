@@ -41,7 +41,7 @@ impl MemSink {
         ensures numbers { IfOk result (λ s. puts_of s ≡ 0) }
         ensures failing { IfOk result (λ s. failing_puts_of s ≡ failing_puts) }
         ensures most { IfOk result (λ s. most_of s ≡ most) }
-        ensures sound { All (λ n. n ≤ 0) failing_puts → IfOk result (λ s. ⟦<MemSink as Sink>⟧.sound s) }
+        ensures reliable { All (λ n. n ≤ 0) failing_puts → IfOk result (λ s. ⟦<MemSink as Sink>⟧.reliable s) }
     {
         let bytes = match Vec::with_capacity(alloc, room as usize) {
             Ok(bytes) => bytes,
@@ -72,7 +72,7 @@ impl Sink for MemSink {
 
     ghost faults = { λ s. s.faults };
 
-    ghost sound = { λ s. All (λ n. n ≤ s.puts) s.failing };
+    ghost reliable = { λ s. All (λ n. n ≤ s.puts) s.failing };
 
     /// A put that is listed fails, and of the others those of a piece longer than the room left.
     fn put(&mut self, bytes: &[u8]) -> Result<usize, Failed>
@@ -81,8 +81,8 @@ impl Sink for MemSink {
         ensures told { ⟦<MemSink as Sink>⟧.told self.new
             ≡ after_put (⟦<MemSink as Sink>⟧.told self.old) bytes.now result }
         ensures cause { HasCause (⟦<MemSink as Sink>⟧.faults self.old) (⟦<MemSink as Sink>⟧.faults self.new) result }
-        ensures sound { ⟦<MemSink as Sink>⟧.sound self.old → ⟦<MemSink as Sink>⟧.sound self.new }
-        ensures steady { ⟦<MemSink as Sink>⟧.sound self.old
+        ensures reliable { ⟦<MemSink as Sink>⟧.reliable self.old → ⟦<MemSink as Sink>⟧.reliable self.new }
+        ensures steady { ⟦<MemSink as Sink>⟧.reliable self.old
             → HasRoom (⟦<MemSink as Sink>⟧.told self.old) (length bytes.now) → IsOk result }
 
         ensures listed { IsListed (failing_puts_of self.old) (puts_of self.old) → IsErr result }

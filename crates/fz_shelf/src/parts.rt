@@ -30,8 +30,8 @@ pub fn put_parts<S: Sink>(sink: &mut S, parts: &[Part]) -> Result<(), Failed>
     ensures whole { OnOk result (S.told sink.new ≡ gained (S.told sink.old) (parts_text parts.now)) }
     ensures part { GainedPart (S.told sink.old) (S.told sink.new) (parts_text parts.now) }
     ensures cause { HasCause (S.faults sink.old) (S.faults sink.new) result }
-    ensures sound { S.sound sink.old → S.sound sink.new }
-    ensures steady { S.sound sink.old → HasRoom (S.told sink.old) (length (parts_text parts.now)) → IsOk result }
+    ensures reliable { S.reliable sink.old → S.reliable sink.new }
+    ensures steady { S.reliable sink.old → HasRoom (S.told sink.old) (length (parts_text parts.now)) → IsOk result }
 {
     for part in parts {
         put_part(sink, part)?;
@@ -43,8 +43,8 @@ fn put_part<S: Sink>(sink: &mut S, part: &Part) -> Result<(), Failed>
     ensures whole { OnOk result (S.told sink.new ≡ gained (S.told sink.old) (part_text part.now)) }
     ensures part { GainedPart (S.told sink.old) (S.told sink.new) (part_text part.now) }
     ensures cause { HasCause (S.faults sink.old) (S.faults sink.new) result }
-    ensures sound { S.sound sink.old → S.sound sink.new }
-    ensures steady { S.sound sink.old → HasRoom (S.told sink.old) (length (part_text part.now)) → IsOk result }
+    ensures reliable { S.reliable sink.old → S.reliable sink.new }
+    ensures steady { S.reliable sink.old → HasRoom (S.told sink.old) (length (part_text part.now)) → IsOk result }
 {
     match part {
         Part::Text(text) => put_all(sink, text),
@@ -62,8 +62,8 @@ fn put_numbers<S: Sink>(sink: &mut S, numbers: &[u8]) -> Result<(), Failed>
     ensures whole { OnOk result (S.told sink.new ≡ gained (S.told sink.old) (flat_map behind_blank numbers.now)) }
     ensures part { GainedPart (S.told sink.old) (S.told sink.new) (flat_map behind_blank numbers.now) }
     ensures cause { HasCause (S.faults sink.old) (S.faults sink.new) result }
-    ensures sound { S.sound sink.old → S.sound sink.new }
-    ensures steady { S.sound sink.old
+    ensures reliable { S.reliable sink.old → S.reliable sink.new }
+    ensures steady { S.reliable sink.old
         → HasRoom (S.told sink.old) (length (flat_map behind_blank numbers.now)) → IsOk result }
 {
     for number in numbers {
@@ -76,8 +76,8 @@ fn put_behind_blank<S: Sink>(sink: &mut S, number: u8) -> Result<(), Failed>
     ensures whole { OnOk result (S.told sink.new ≡ gained (S.told sink.old) (behind_blank number)) }
     ensures part { GainedPart (S.told sink.old) (S.told sink.new) (behind_blank number) }
     ensures cause { HasCause (S.faults sink.old) (S.faults sink.new) result }
-    ensures sound { S.sound sink.old → S.sound sink.new }
-    ensures steady { S.sound sink.old → HasRoom (S.told sink.old) (length (behind_blank number)) → IsOk result }
+    ensures reliable { S.reliable sink.old → S.reliable sink.new }
+    ensures steady { S.reliable sink.old → HasRoom (S.told sink.old) (length (behind_blank number)) → IsOk result }
 {
     put_all(sink, b" ")?;
     let mut buffer = Buffer::new();

@@ -24,7 +24,7 @@ pub trait Shelf {
 
     /// While it holds, a read of a name that is there does not fail, nor does a write to such a
     /// name within its room. Every call keeps it.
-    ghost sound: { Self → Type 0 };
+    ghost reliable: { Self → Type 0 };
 
     /// Fills `into` with the whole file. After a refusal the contents of `into` are not known.
     fn read(&mut self, name: &str, into: &mut Vec<u8>) -> Result<(), ReadError>
@@ -33,8 +33,8 @@ pub trait Shelf {
         ensures tells { ReadTells (files self.old name.now) result into.new.items }
         ensures counts { ReadCounts (counts self.old) (counts self.new) result }
         ensures asked { asked self.new ≡ asked_after (asked self.old) name.now result }
-        ensures sound { sound self.old → sound self.new }
-        ensures steady { sound self.old → IsThere (files self.old name.now) → IsErrOf result ReadError.Failed → ⊥ };
+        ensures reliable { reliable self.old → reliable self.new }
+        ensures steady { reliable self.old → IsThere (files self.old name.now) → IsErrOf result ReadError.Failed → ⊥ };
 
     /// Puts these bytes, which are within the file's room, in the place of the file's. After a
     /// fault that file's contents are not known, and every other file is as before. Takes no
@@ -44,6 +44,6 @@ pub trait Shelf {
         ensures others { (other : List ℕ) → other ≢ name.now → files self.new other ≡ files self.old other }
         ensures counts { WriteCounts (counts self.old) (counts self.new) result }
         ensures asked { asked self.new ≡ asked self.old }
-        ensures sound { sound self.old → sound self.new }
-        ensures steady { sound self.old → Fits (files self.old name.now) (length bytes.now) → IsOk result };
+        ensures reliable { reliable self.old → reliable self.new }
+        ensures steady { reliable self.old → Fits (files self.old name.now) (length bytes.now) → IsOk result };
 }

@@ -14,7 +14,7 @@ pub trait Sink {
     ghost faults: { Self → ℕ };
 
     /// While it holds, a put within the room left does not fail. Every call keeps it.
-    ghost sound: { Self → Type 0 };
+    ghost reliable: { Self → Type 0 };
 
     /// Takes a nonempty prefix of a piece that is not empty, no longer than the room left, and
     /// answers its length. A put of an empty piece that is `Ok` answers 0. Takes no memory.
@@ -23,6 +23,6 @@ pub trait Sink {
         ensures fits { IfOk result (IsWithinRoom (told self.old)) }
         ensures told { told self.new ≡ after_put (told self.old) bytes.now result }
         ensures cause { HasCause (faults self.old) (faults self.new) result }
-        ensures sound { sound self.old → sound self.new }
-        ensures steady { sound self.old → HasRoom (told self.old) (length bytes.now) → IsOk result };
+        ensures reliable { reliable self.old → reliable self.new }
+        ensures steady { reliable self.old → HasRoom (told self.old) (length bytes.now) → IsOk result };
 }

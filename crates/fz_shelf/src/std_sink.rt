@@ -4,7 +4,7 @@ ghost use Rattle.std.specs.Prelude.{◌≡◌, None};
 use crate::{Failed, Sink};
 use std::io::Write;
 
-/// A writer of the system, which tells nothing of what it took and is never sound.
+/// A writer of the system, which tells nothing of what it took and is never reliable.
 #[derive(Drop)]
 pub struct StdSink<W: Write + Drop> {
     writer: W,
@@ -25,7 +25,7 @@ impl<W: Write + Drop> Sink for StdSink<W> {
 
     ghost faults = { λ s. s.faults };
 
-    ghost sound = { λ s. ⊥ };
+    ghost reliable = { λ s. ⊥ };
 
     fn put(&mut self, bytes: &[u8]) -> Result<usize, Failed> {
         match self.writer.write(bytes) {

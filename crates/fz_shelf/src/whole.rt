@@ -11,8 +11,8 @@ pub fn put_all<S: Sink>(sink: &mut S, bytes: &[u8]) -> Result<(), Failed>
     ensures whole { OnOk result (S.told sink.new ≡ gained (S.told sink.old) bytes.now) }
     ensures part { GainedPart (S.told sink.old) (S.told sink.new) bytes.now }
     ensures cause { HasCause (S.faults sink.old) (S.faults sink.new) result }
-    ensures sound { S.sound sink.old → S.sound sink.new }
-    ensures steady { S.sound sink.old → HasRoom (S.told sink.old) (length bytes.now) → IsOk result }
+    ensures reliable { S.reliable sink.old → S.reliable sink.new }
+    ensures steady { S.reliable sink.old → HasRoom (S.told sink.old) (length bytes.now) → IsOk result }
 {
     let mut rest = bytes;
     while !rest.is_empty() {
@@ -27,8 +27,8 @@ pub fn put_lines<S: Sink>(sink: &mut S, lines: &[String]) -> Result<(), Failed>
     ensures whole { OnOk result (S.told sink.new ≡ gained (S.told sink.old) (text_of lines.now)) }
     ensures part { GainedPart (S.told sink.old) (S.told sink.new) (text_of lines.now) }
     ensures cause { HasCause (S.faults sink.old) (S.faults sink.new) result }
-    ensures sound { S.sound sink.old → S.sound sink.new }
-    ensures steady { S.sound sink.old → HasRoom (S.told sink.old) (length (text_of lines.now)) → IsOk result }
+    ensures reliable { S.reliable sink.old → S.reliable sink.new }
+    ensures steady { S.reliable sink.old → HasRoom (S.told sink.old) (length (text_of lines.now)) → IsOk result }
 {
     for line in lines {
         put_all(sink, line.as_bytes())?;

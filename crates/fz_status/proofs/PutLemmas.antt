@@ -32,11 +32,11 @@ on_err {E} {P} {Q} (Ok x) to h = h
 on_err {E} {P} {Q} (Err e) to h = to h
 
 module _ {E : Type 0} (front text : List ℕ) (told told' told'' : Option Taken) (faults faults' faults'' : ℕ)
-    (sound sound' sound'' : Type 0) where
+    (reliable reliable' reliable'' : Type 0) where
   -- the first text is put, and then the second, or not
-  pub puts_behind : Puts {E = E} front told told' faults faults' sound sound' (Ok tt) → (r : Result Unit E)
-      → Puts text told' told'' faults' faults'' sound' sound'' r
-      → Puts (front ++ text) told told'' faults faults'' sound sound'' r
+  pub puts_behind : Puts {E = E} front told told' faults faults' reliable reliable' (Ok tt) → (r : Result Unit E)
+      → Puts text told' told'' faults' faults'' reliable' reliable'' r
+      → Puts (front ++ text) told told'' faults faults'' reliable reliable'' r
   puts_behind first r second = record {
     whole = on_ok r (λ is. is ∙ ap (λ (t : Option Taken). gained t text) first.whole ∙ gained_behind told front text)
         second.whole;
@@ -58,9 +58,9 @@ module _ {E : Type 0} (front text : List ℕ) (told told' told'' : Option Taken)
   }
 
   -- the put of the first failed
-  pub puts_no_more : (e : E) → Puts {E = E} front told told' faults faults' sound sound' (Err e)
+  pub puts_no_more : (e : E) → Puts {E = E} front told told' faults faults' reliable reliable' (Err e)
       → (r : Result Unit E) → IsErr r
-      → Puts (front ++ text) told told' faults faults' sound sound' r
+      → Puts (front ++ text) told told' faults faults' reliable reliable' r
   puts_no_more e first (Ok x) failed = cc
   puts_no_more e first (Err e') failed = record {
     whole = tt;

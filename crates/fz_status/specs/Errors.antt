@@ -32,13 +32,14 @@ error_line_of words (status.Script line) = with_number (codes "script: line ") l
 error_line_of words (status.Fast f) = fast_line f
 
 -- a text is put: from what the sink told, its faults and its soundness before to those after
-pub record Puts {E : Type 0} (text : List ℕ) (told told' : Option Taken) (faults faults' : ℕ) (sound sound' : Type 0)
+pub record Puts {E : Type 0} (text : List ℕ) (told told' : Option Taken) (faults faults' : ℕ)
+    (reliable reliable' : Type 0)
     (result : Result Unit E) : Type 0 where
   pub whole : OnOk result (told' ≡ gained told text)
   pub part : GainedPart told told' text
   pub cause : HasCause faults faults' result
-  pub keeps : sound → sound'
-  pub steady : sound → HasRoom told (length text) → IsOk result
+  pub keeps : reliable → reliable'
+  pub steady : reliable → HasRoom told (length text) → IsOk result
 
 -- the sink gained a prefix of the line, and all of it where its count did not rise
 pub record Complains (text : List ℕ) (told told' : Option Taken) (faults faults' : ℕ) : Type 0 where

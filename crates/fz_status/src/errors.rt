@@ -16,7 +16,7 @@ use fz_shelf::{Failed, Part, Sink};
 /// A name behind a text, and the end of the line.
 fn put_name<'a, F: Sink>(err: &mut F, label: &'a [u8], name: &'a str) -> Result<(), Failed>
     ensures { Puts (with_name label.now name.now) (F.told err.old) (F.told err.new)
-        (F.faults err.old) (F.faults err.new) (F.sound err.old) (F.sound err.new) result }
+        (F.faults err.old) (F.faults err.new) (F.reliable err.old) (F.reliable err.new) result }
 {
     put(
         err,
@@ -30,7 +30,7 @@ fn put_name<'a, F: Sink>(err: &mut F, label: &'a [u8], name: &'a str) -> Result<
 
 fn put_line<F: Sink>(err: &mut F, words: &[String], status: &Status) -> Result<(), Failed>
     ensures { Puts (error_line_of (texts_of words.now) status.now) (F.told err.old) (F.told err.new)
-        (F.faults err.old) (F.faults err.new) (F.sound err.old) (F.sound err.new) result }
+        (F.faults err.old) (F.faults err.new) (F.reliable err.old) (F.reliable err.new) result }
 {
     match status {
         Status::Ok => put(err, &[]),
@@ -75,8 +75,8 @@ pub fn report<F: Sink>(err: &mut F, words: &[String], status: &Status)
     ensures line { (status.now ≡ Status.Ok → ⊥)
         → Complains (error_line_of (texts_of words.now) status.now) (F.told err.old) (F.told err.new)
         (F.faults err.old) (F.faults err.new) }
-    ensures sound { F.sound err.old → F.sound err.new }
-    ensures steady { F.sound err.old
+    ensures reliable { F.reliable err.old → F.reliable err.new }
+    ensures steady { F.reliable err.old
         → HasRoom (F.told err.old) (length (error_line_of (texts_of words.now) status.now))
         → F.told err.new ≡ gained (F.told err.old) (error_line_of (texts_of words.now) status.now) }
 {
@@ -90,8 +90,8 @@ pub fn report<F: Sink>(err: &mut F, words: &[String], status: &Status)
 fn complain<F: Sink>(err: &mut F, words: &[String], status: &Status)
     ensures line { Complains (error_line_of (texts_of words.now) status.now) (F.told err.old) (F.told err.new)
         (F.faults err.old) (F.faults err.new) }
-    ensures sound { F.sound err.old → F.sound err.new }
-    ensures steady { F.sound err.old
+    ensures reliable { F.reliable err.old → F.reliable err.new }
+    ensures steady { F.reliable err.old
         → HasRoom (F.told err.old) (length (error_line_of (texts_of words.now) status.now))
         → F.told err.new ≡ gained (F.told err.old) (error_line_of (texts_of words.now) status.now) }
 {

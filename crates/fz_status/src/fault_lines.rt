@@ -27,7 +27,7 @@ use trace_io::TraceFault;
 /// Puts the parts one after the other.
 pub(crate) fn put<F: Sink>(err: &mut F, parts: &[Part]) -> Result<(), Failed>
     ensures { Puts (parts_text parts.now) (F.told err.old) (F.told err.new)
-        (F.faults err.old) (F.faults err.new) (F.sound err.old) (F.sound err.new) result }
+        (F.faults err.old) (F.faults err.new) (F.reliable err.old) (F.reliable err.new) result }
 {
     put_parts(err, parts)
 }
@@ -35,7 +35,7 @@ pub(crate) fn put<F: Sink>(err: &mut F, parts: &[Part]) -> Result<(), Failed>
 /// A text and the end of the line.
 pub(crate) fn put_text<F: Sink>(err: &mut F, text: &[u8]) -> Result<(), Failed>
     ensures { Puts (text.now ++ newline) (F.told err.old) (F.told err.new)
-        (F.faults err.old) (F.faults err.new) (F.sound err.old) (F.sound err.new) result }
+        (F.faults err.old) (F.faults err.new) (F.reliable err.old) (F.reliable err.new) result }
 {
     put(err, &[Part::Text(text), Part::Text(b"\n")])
 }
@@ -48,7 +48,7 @@ pub(crate) fn put_number<'a, F: Sink>(
     rest: &'a [u8],
 ) -> Result<(), Failed>
     ensures { Puts (with_number label.now n rest.now) (F.told err.old) (F.told err.new)
-        (F.faults err.old) (F.faults err.new) (F.sound err.old) (F.sound err.new) result }
+        (F.faults err.old) (F.faults err.new) (F.reliable err.old) (F.reliable err.new) result }
 {
     put(
         err,
@@ -71,7 +71,7 @@ fn put_two<'a, F: Sink>(
     rest: &'a [u8],
 ) -> Result<(), Failed>
     ensures { Puts (with_two label.now n middle.now m rest.now) (F.told err.old) (F.told err.new)
-        (F.faults err.old) (F.faults err.new) (F.sound err.old) (F.sound err.new) result }
+        (F.faults err.old) (F.faults err.new) (F.reliable err.old) (F.reliable err.new) result }
 {
     put(
         err,
@@ -95,7 +95,7 @@ fn put_row_at<'a, F: Sink>(
     at: u16,
 ) -> Result<(), Failed>
     ensures { Puts (row_at label.now row why.now at) (F.told err.old) (F.told err.new)
-        (F.faults err.old) (F.faults err.new) (F.sound err.old) (F.sound err.new) result }
+        (F.faults err.old) (F.faults err.new) (F.reliable err.old) (F.reliable err.new) result }
 {
     put(
         err,
@@ -111,7 +111,7 @@ fn put_row_at<'a, F: Sink>(
 
 fn put_syntax<F: Sink>(err: &mut F, fault: &SyntaxFault) -> Result<(), Failed>
     ensures { Puts (syntax_line fault.now) (F.told err.old) (F.told err.new)
-        (F.faults err.old) (F.faults err.new) (F.sound err.old) (F.sound err.new) result }
+        (F.faults err.old) (F.faults err.new) (F.reliable err.old) (F.reliable err.new) result }
 {
     match fault {
         SyntaxFault::BadByte(at) => put_number(err, b"fcl: at ", *at, b": bad byte"),
@@ -135,14 +135,14 @@ fn put_syntax<F: Sink>(err: &mut F, fault: &SyntaxFault) -> Result<(), Failed>
 
 fn put_kind<F: Sink>(err: &mut F, at: u32, kind: u32) -> Result<(), Failed>
     ensures { Puts (load_kind at kind) (F.told err.old) (F.told err.new)
-        (F.faults err.old) (F.faults err.new) (F.sound err.old) (F.sound err.new) result }
+        (F.faults err.old) (F.faults err.new) (F.reliable err.old) (F.reliable err.new) result }
 {
     put_two(err, b"fcl: at ", at, b": load ", kind, b"")
 }
 
 fn put_load<F: Sink>(err: &mut F, fault: &LoadFault) -> Result<(), Failed>
     ensures { Puts (load_line fault.now) (F.told err.old) (F.told err.new)
-        (F.faults err.old) (F.faults err.new) (F.sound err.old) (F.sound err.new) result }
+        (F.faults err.old) (F.faults err.new) (F.reliable err.old) (F.reliable err.new) result }
 {
     match fault {
         LoadFault::Twice(at) => put_kind(err, *at, 1),
@@ -163,7 +163,7 @@ fn put_load<F: Sink>(err: &mut F, fault: &LoadFault) -> Result<(), Failed>
 
 fn put_layout<F: Sink>(err: &mut F, fault: &LayoutFault) -> Result<(), Failed>
     ensures { Puts (layout_line fault.now) (F.told err.old) (F.told err.new)
-        (F.faults err.old) (F.faults err.new) (F.sound err.old) (F.sound err.new) result }
+        (F.faults err.old) (F.faults err.new) (F.reliable err.old) (F.reliable err.new) result }
 {
     match fault {
         LayoutFault::TooManyRules(rule) => put_number(
@@ -179,7 +179,7 @@ fn put_layout<F: Sink>(err: &mut F, fault: &LayoutFault) -> Result<(), Failed>
 
 pub(crate) fn put_fcl<F: Sink>(err: &mut F, fault: &FclFault) -> Result<(), Failed>
     ensures { Puts (fcl_line fault.now) (F.told err.old) (F.told err.new)
-        (F.faults err.old) (F.faults err.new) (F.sound err.old) (F.sound err.new) result }
+        (F.faults err.old) (F.faults err.new) (F.reliable err.old) (F.reliable err.new) result }
 {
     match fault {
         FclFault::Syntax(fault) => put_syntax(err, fault),
@@ -190,7 +190,7 @@ pub(crate) fn put_fcl<F: Sink>(err: &mut F, fault: &FclFault) -> Result<(), Fail
 
 fn put_records<F: Sink>(err: &mut F, fault: &SrecFault) -> Result<(), Failed>
     ensures { Puts (records_line fault.now) (F.told err.old) (F.told err.new)
-        (F.faults err.old) (F.faults err.new) (F.sound err.old) (F.sound err.new) result }
+        (F.faults err.old) (F.faults err.new) (F.reliable err.old) (F.reliable err.new) result }
 {
     match fault {
         SrecFault::BadLine(line) => put_number(err, b"image: line ", *line, b": bad line"),
@@ -234,7 +234,7 @@ fn byte_part(byte: Option<u8>) -> Part<'static>
 
 pub(crate) fn put_image<F: Sink>(err: &mut F, fault: &ImageFault) -> Result<(), Failed>
     ensures { Puts (image_line fault.now) (F.told err.old) (F.told err.new)
-        (F.faults err.old) (F.faults err.new) (F.sound err.old) (F.sound err.new) result }
+        (F.faults err.old) (F.faults err.new) (F.reliable err.old) (F.reliable err.new) result }
 {
     match fault {
         ImageFault::Records(fault) => put_records(err, fault),
@@ -265,7 +265,7 @@ pub(crate) fn put_image<F: Sink>(err: &mut F, fault: &ImageFault) -> Result<(), 
 
 fn put_cert_text<F: Sink>(err: &mut F, fault: &CertFault) -> Result<(), Failed>
     ensures { Puts (text_line fault.now) (F.told err.old) (F.told err.new)
-        (F.faults err.old) (F.faults err.new) (F.sound err.old) (F.sound err.new) result }
+        (F.faults err.old) (F.faults err.new) (F.reliable err.old) (F.reliable err.new) result }
 {
     match fault {
         CertFault::BadLine(line) => put_number(err, b"cert: line ", *line, b": bad line"),
@@ -284,7 +284,7 @@ fn put_cert_text<F: Sink>(err: &mut F, fault: &CertFault) -> Result<(), Failed>
 /// A leaf on that line does not hold.
 fn put_leaf<F: Sink>(err: &mut F, line: u32, fault: &LeafFault) -> Result<(), Failed>
     ensures { Puts (leaf_line line fault.now) (F.told err.old) (F.told err.new)
-        (F.faults err.old) (F.faults err.new) (F.sound err.old) (F.sound err.new) result }
+        (F.faults err.old) (F.faults err.new) (F.reliable err.old) (F.reliable err.new) result }
 {
     match fault {
         LeafFault::Weak(rule, k, low) => put(
@@ -338,7 +338,7 @@ fn put_leaf<F: Sink>(err: &mut F, line: u32, fault: &LeafFault) -> Result<(), Fa
 
 fn put_check<F: Sink>(err: &mut F, fault: &CheckFault) -> Result<(), Failed>
     ensures { Puts (check_line fault.now) (F.told err.old) (F.told err.new)
-        (F.faults err.old) (F.faults err.new) (F.sound err.old) (F.sound err.new) result }
+        (F.faults err.old) (F.faults err.new) (F.reliable err.old) (F.reliable err.new) result }
 {
     match fault {
         CheckFault::Outputs(got, wanted) => put_two(
@@ -370,7 +370,7 @@ fn put_check<F: Sink>(err: &mut F, fault: &CheckFault) -> Result<(), Failed>
 
 pub(crate) fn put_cert<F: Sink>(err: &mut F, fault: &CertRefusal) -> Result<(), Failed>
     ensures { Puts (cert_line fault.now) (F.told err.old) (F.told err.new)
-        (F.faults err.old) (F.faults err.new) (F.sound err.old) (F.sound err.new) result }
+        (F.faults err.old) (F.faults err.new) (F.reliable err.old) (F.reliable err.new) result }
 {
     match fault {
         CertRefusal::Text(fault) => put_cert_text(err, fault),
@@ -380,7 +380,7 @@ pub(crate) fn put_cert<F: Sink>(err: &mut F, fault: &CertRefusal) -> Result<(), 
 
 pub(crate) fn put_trace<F: Sink>(err: &mut F, fault: &TraceFault) -> Result<(), Failed>
     ensures { Puts (trace_line fault.now) (F.told err.old) (F.told err.new)
-        (F.faults err.old) (F.faults err.new) (F.sound err.old) (F.sound err.new) result }
+        (F.faults err.old) (F.faults err.new) (F.reliable err.old) (F.reliable err.new) result }
 {
     match fault {
         TraceFault::TooMany => put_text(err, b"trace: too many rows"),
@@ -399,7 +399,7 @@ pub(crate) fn put_trace<F: Sink>(err: &mut F, fault: &TraceFault) -> Result<(), 
 
 pub(crate) fn put_plan<F: Sink>(err: &mut F, fault: &PlanFault) -> Result<(), Failed>
     ensures { Puts (plan_line fault.now) (F.told err.old) (F.told err.new)
-        (F.faults err.old) (F.faults err.new) (F.sound err.old) (F.sound err.new) result }
+        (F.faults err.old) (F.faults err.new) (F.reliable err.old) (F.reliable err.new) result }
 {
     match fault {
         PlanFault::TooMany => put_text(err, b"plan: too many rows"),
@@ -412,7 +412,7 @@ pub(crate) fn put_plan<F: Sink>(err: &mut F, fault: &PlanFault) -> Result<(), Fa
 
 pub(crate) fn put_upset<F: Sink>(err: &mut F, fault: &UpsetFault) -> Result<(), Failed>
     ensures { Puts (upset_line fault.now) (F.told err.old) (F.told err.new)
-        (F.faults err.old) (F.faults err.new) (F.sound err.old) (F.sound err.new) result }
+        (F.faults err.old) (F.faults err.new) (F.reliable err.old) (F.reliable err.new) result }
 {
     match fault {
         UpsetFault::TooMany => put_text(err, b"upset: too many rows"),
@@ -431,7 +431,7 @@ pub(crate) fn put_upset<F: Sink>(err: &mut F, fault: &UpsetFault) -> Result<(), 
 
 pub(crate) fn put_not_reached<F: Sink>(err: &mut F, fault: &NotReached) -> Result<(), Failed>
     ensures { Puts (not_reached_line fault.now) (F.told err.old) (F.told err.new)
-        (F.faults err.old) (F.faults err.new) (F.sound err.old) (F.sound err.new) result }
+        (F.faults err.old) (F.faults err.new) (F.reliable err.old) (F.reliable err.new) result }
 {
     match fault {
         NotReached::Cell(bytes, output, bound) => put(
@@ -453,7 +453,7 @@ pub(crate) fn put_not_reached<F: Sink>(err: &mut F, fault: &NotReached) -> Resul
 
 pub(crate) fn put_asm<F: Sink>(err: &mut F, fault: &AsmFault) -> Result<(), Failed>
     ensures { Puts (asm_line fault.now) (F.told err.old) (F.told err.new)
-        (F.faults err.old) (F.faults err.new) (F.sound err.old) (F.sound err.new) result }
+        (F.faults err.old) (F.faults err.new) (F.reliable err.old) (F.reliable err.new) result }
 {
     match fault {
         AsmFault::BadLine(line) => put_number(err, b"asm: line ", *line, b": bad line"),
@@ -469,7 +469,7 @@ pub(crate) fn put_asm<F: Sink>(err: &mut F, fault: &AsmFault) -> Result<(), Fail
 /// Why the instruction at an address is refused.
 fn put_at<'a, F: Sink>(err: &mut F, at: u16, why: &'a [u8]) -> Result<(), Failed>
     ensures { Puts (at_address at why.now) (F.told err.old) (F.told err.new)
-        (F.faults err.old) (F.faults err.new) (F.sound err.old) (F.sound err.new) result }
+        (F.faults err.old) (F.faults err.new) (F.reliable err.old) (F.reliable err.new) result }
 {
     put(
         err,
@@ -486,7 +486,7 @@ fn put_at<'a, F: Sink>(err: &mut F, at: u16, why: &'a [u8]) -> Result<(), Failed
 /// Why the instruction at an address is refused, with another address.
 fn put_at_to<'a, F: Sink>(err: &mut F, at: u16, why: &'a [u8], to: u16) -> Result<(), Failed>
     ensures { Puts (at_addresses at why.now to) (F.told err.old) (F.told err.new)
-        (F.faults err.old) (F.faults err.new) (F.sound err.old) (F.sound err.new) result }
+        (F.faults err.old) (F.faults err.new) (F.reliable err.old) (F.reliable err.new) result }
 {
     put(
         err,
@@ -503,7 +503,7 @@ fn put_at_to<'a, F: Sink>(err: &mut F, at: u16, why: &'a [u8], to: u16) -> Resul
 
 pub(crate) fn put_handler<F: Sink>(err: &mut F, fault: &HandlerFault) -> Result<(), Failed>
     ensures { Puts (handler_line fault.now) (F.told err.old) (F.told err.new)
-        (F.faults err.old) (F.faults err.new) (F.sound err.old) (F.sound err.new) result }
+        (F.faults err.old) (F.faults err.new) (F.reliable err.old) (F.reliable err.new) result }
 {
     match fault {
         HandlerFault::Empty => put_text(err, b"handler: empty"),
@@ -523,7 +523,7 @@ pub(crate) fn put_handler<F: Sink>(err: &mut F, fault: &HandlerFault) -> Result<
 /// The line of a fault of the fast block's file: that of the same fault of another block, with `fast ` in front.
 pub(crate) fn put_fast<F: Sink>(err: &mut F, fault: &FastFault) -> Result<(), Failed>
     ensures { Puts (fast_line fault.now) (F.told err.old) (F.told err.new)
-        (F.faults err.old) (F.faults err.new) (F.sound err.old) (F.sound err.new) result }
+        (F.faults err.old) (F.faults err.new) (F.reliable err.old) (F.reliable err.new) result }
 {
     put(err, &[Part::Text(b"fast ")])?;
     put_usual(err, fault)
@@ -532,7 +532,7 @@ pub(crate) fn put_fast<F: Sink>(err: &mut F, fault: &FastFault) -> Result<(), Fa
 /// The line of the same fault of another block.
 fn put_usual<F: Sink>(err: &mut F, fault: &FastFault) -> Result<(), Failed>
     ensures { Puts (usual_line fault.now) (F.told err.old) (F.told err.new)
-        (F.faults err.old) (F.faults err.new) (F.sound err.old) (F.sound err.new) result }
+        (F.faults err.old) (F.faults err.new) (F.reliable err.old) (F.reliable err.new) result }
 {
     match fault {
         FastFault::Fcl(fault) => put_fcl(err, fault),

@@ -28,9 +28,9 @@ pub(crate) fn deliver<S: Shelf, O: Sink>(
         ⊎ PutFailed (texts_of words.now) (seen_output work.now)
         (world (S.files shelf.old) (S.counts shelf.old) (S.asked shelf.old) (O.told out.old) (O.faults out.old))
         (world (S.files shelf.new) (S.counts shelf.new) (S.asked shelf.new) (O.told out.new) (O.faults out.new))) }
-    ensures shelf_sound { S.sound shelf.old → S.sound shelf.new }
-    ensures out_sound { O.sound out.old → O.sound out.new }
-    ensures steady { S.sound shelf.old → O.sound out.old
+    ensures shelf_reliable { S.reliable shelf.old → S.reliable shelf.new }
+    ensures out_reliable { O.reliable out.old → O.reliable out.new }
+    ensures steady { S.reliable shelf.old → O.reliable out.old
         → FileFits (texts_of words.now) (seen_output work.now).file (S.files shelf.old)
         → HasRoom (O.told out.old) (length (seen_output work.now).text) → IsOk result }
 {

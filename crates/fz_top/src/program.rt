@@ -27,15 +27,15 @@ fn run<S: Shelf, O: Sink>(alloc: Global, words: &[String], shelf: &mut S, out: &
         (world (S.files shelf.new) (S.counts shelf.new) (S.asked shelf.new) (O.told out.new) (O.faults out.new))
         result }
     ensures law { (command_in (texts_of words.now) ≡ None) ↔ IsUsage (texts_of words.now) }
-    ensures reads_steady { S.sound shelf.old → (command : Command) → command_in (texts_of words.now) ≡ Some command
+    ensures reads_steady { S.reliable shelf.old → (command : Command) → command_in (texts_of words.now) ≡ Some command
         → AreThere (S.files shelf.old) (names_at (texts_of words.now) (inputs_of command)) → IsReadFault result → ⊥ }
-    ensures writes_steady { S.sound shelf.old → O.sound out.old → (command : Command) (contents : List (List ℕ))
+    ensures writes_steady { S.reliable shelf.old → O.reliable out.old → (command : Command) (contents : List (List ℕ))
         → IsReady (texts_of words.now)
         (world (S.files shelf.old) (S.counts shelf.old) (S.asked shelf.old) (O.told out.old) (O.faults out.old))
         command contents
         → IsWriteFault result → ⊥ }
-    ensures shelf_sound { S.sound shelf.old → S.sound shelf.new }
-    ensures out_sound { O.sound out.old → O.sound out.new }
+    ensures shelf_reliable { S.reliable shelf.old → S.reliable shelf.new }
+    ensures out_reliable { O.reliable out.old → O.reliable out.new }
 {
     let command = match command_of(alloc, words) {
         Ok(command) => command,
@@ -89,20 +89,20 @@ pub fn fuzz12<S: Shelf, O: Sink, F: Sink>(
     ensures settled { (command : Command) (contents : List (List ℕ)) → command_in (texts_of words.now) ≡ Some command
         → AreKnown (S.files shelf.old) (names_at (texts_of words.now) (inputs_of command)) contents
         → Settles (Makes command contents) result }
-    ensures complete { S.sound shelf.old → O.sound out.old → (command : Command) (contents : List (List ℕ))
+    ensures complete { S.reliable shelf.old → O.reliable out.old → (command : Command) (contents : List (List ℕ))
         → IsReady (texts_of words.now)
         (world (S.files shelf.old) (S.counts shelf.old) (S.asked shelf.old) (O.told out.old) (O.faults out.old))
         command contents
         → IsMade (Makes command contents) result ⊎ (result ≡ Status.Memory) }
 
     // where the contents make an output it is done, unless a count rose, and also where the shelf and
-    // out are sound with room
+    // out are reliable with room
     ensures done { (command : Command) (contents : List (List ℕ)) (output : SeenOutput)
         → CanBeDone (texts_of words.now) (S.files shelf.old) command contents output
         → HasNoFault
         (world (S.files shelf.old) (S.counts shelf.old) (S.asked shelf.old) (O.told out.old) (O.faults out.old))
         (world (S.files shelf.new) (S.counts shelf.new) (S.asked shelf.new) (O.told out.new) (O.faults out.new))
-        ⊎ (S.sound shelf.old × O.sound out.old
+        ⊎ (S.reliable shelf.old × O.reliable out.old
         × RoomFor (texts_of words.now) (S.files shelf.old) (O.told out.old) (Makes command contents))
         → (result ≡ Status.Ok) ⊎ (result ≡ Status.Memory) }
 
@@ -111,12 +111,13 @@ pub fn fuzz12<S: Shelf, O: Sink, F: Sink>(
     ensures line { (result ≡ Status.Ok → ⊥)
         → Complains (error_line_of (texts_of words.now) result) (F.told err.old) (F.told err.new)
         (F.faults err.old) (F.faults err.new) }
-    ensures err_steady { F.sound err.old → HasRoom (F.told err.old) (length (error_line_of (texts_of words.now) result))
+    ensures err_steady { F.reliable err.old
+        → HasRoom (F.told err.old) (length (error_line_of (texts_of words.now) result))
         → F.told err.new ≡ gained (F.told err.old) (error_line_of (texts_of words.now) result) }
 
-    ensures shelf_sound { S.sound shelf.old → S.sound shelf.new }
-    ensures out_sound { O.sound out.old → O.sound out.new }
-    ensures err_sound { F.sound err.old → F.sound err.new }
+    ensures shelf_reliable { S.reliable shelf.old → S.reliable shelf.new }
+    ensures out_reliable { O.reliable out.old → O.reliable out.new }
+    ensures err_reliable { F.reliable err.old → F.reliable err.new }
 {
     outputs_have_no_fault();
     let status = run(alloc, words, shelf, out);

@@ -30,8 +30,8 @@ fn read_one<S: Shelf>(
         (S.counts shelf.old) (S.counts shelf.new) (S.asked shelf.old) (S.asked shelf.new) bytes.items) }
     ensures stops { IfErr result (StopsAt (texts_of words.now) place (S.files shelf.old)
         (S.counts shelf.old) (S.counts shelf.new) (S.asked shelf.old) (S.asked shelf.new)) }
-    ensures sound { S.sound shelf.old → S.sound shelf.new }
-    ensures steady { S.sound shelf.old → IsThere (S.files shelf.old (word_at (texts_of words.now) place))
+    ensures reliable { S.reliable shelf.old → S.reliable shelf.new }
+    ensures steady { S.reliable shelf.old → IsThere (S.files shelf.old (word_at (texts_of words.now) place))
         → IfErr result (λ s. IsFailedRead s → ⊥) }
 {
     let mut bytes = Vec::new(alloc);
@@ -56,8 +56,8 @@ pub(crate) fn read_all<S: Shelf>(
     ensures small { IfOk result (λ contents. All (λ c. length c.items ≤ 1048576) contents.items) }
     ensures stops { IfErr result (StopsBy (texts_of words.now) places.now (S.files shelf.old)
         (S.counts shelf.old) (S.counts shelf.new) (S.asked shelf.old) (S.asked shelf.new)) }
-    ensures sound { S.sound shelf.old → S.sound shelf.new }
-    ensures steady { S.sound shelf.old → AreThere (S.files shelf.old) (names_at (texts_of words.now) places.now)
+    ensures reliable { S.reliable shelf.old → S.reliable shelf.new }
+    ensures steady { S.reliable shelf.old → AreThere (S.files shelf.old) (names_at (texts_of words.now) places.now)
         → IfErr result (λ s. IsFailedRead s → ⊥) }
 {
     let mut contents = Vec::new(alloc);

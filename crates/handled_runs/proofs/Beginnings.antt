@@ -13,16 +13,16 @@ use Rattle.cpu12_emul.specs.Image.{byte_or_zero, image_memory, HoldsImage}
 use Rattle.handler_check.specs.Images.{IsWhole}
 use Rattle.handler_check.specs.Running.{HasImage}
 use Rattle.codegen.specs.declared.firmware.Firmware.{Firmware}
-use Rattle.eval_code.specs.Layouts.{main_layout}
+use Rattle.eval_code.specs.MemoryMaps.{main_map}
 use Rattle.eval_code.specs.Evaluation.{Reads, Writes}
-use Rattle.codegen.specs.Answers.{LeavesLayout}
+use Rattle.codegen.specs.Answers.{LeavesMapped}
 use Rattle.fz_run.specs.Answering.{FirstAlike}
 use Rattle.handled_runs.specs.Open.{is_open_to_code}
 use Rattle.handled_runs.specs.Joint.{joint_bytes, joint_memory}
 use Rattle.handled_runs.specs.SoundHandled.{not_open, both, code_open, in_code, HandlerStands}
 
--- what is open leaves the layout alone
-code_read : (at : ℕ) → Reads main_layout at → is_open_to_code at ≡ false
+-- what is open leaves the memory map alone
+code_read : (at : ℕ) → Reads main_map at → is_open_to_code at ≡ false
 code_read at (inl o) = not_open at (inl (omega (arith, o.1)))
 code_read at (inr (inl o)) = not_open at (inl (omega (arith, o.1)))
 code_read at (inr (inr (inl o))) = not_open at (inr (inr (inl (omega (arith, o.0), omega (arith, o.1)))))
@@ -32,12 +32,12 @@ code_read at (inr (inr (inr (inr (inr (inl o)))))) =
     not_open at (inr (inr (inl (omega (arith, o.0), omega (arith, o.1)))))
 code_read at (inr (inr (inr (inr (inr (inr o)))))) = absurd o
 
-code_written : (at : ℕ) → Writes main_layout at → is_open_to_code at ≡ false
+code_written : (at : ℕ) → Writes main_map at → is_open_to_code at ≡ false
 code_written at (inl o) = not_open at (inl (omega (arith, o.1)))
 code_written at (inr (inl o)) = not_open at (inl (omega (arith, o.1)))
 code_written at (inr (inr o)) = absurd o
 
-pub code_leaves : LeavesLayout is_open_to_code main_layout
+pub code_leaves : LeavesMapped is_open_to_code main_map
 code_leaves = record {
   ready = refl;
   reads = code_read;

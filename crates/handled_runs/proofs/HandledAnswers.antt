@@ -14,9 +14,9 @@ use Rattle.run_law.specs.Following.{Completes, AllComplete, RunsFollow, expected
 use Rattle.handler_check.specs.Images.{IsHandler}
 use Rattle.interrupt_plan.specs.declared.Request.{Request}
 use Rattle.interrupt_plan.specs.Plans.{IsGoodRequest, IsGood}
-use Rattle.eval_code.specs.declared.layout.Layout.{Layout}
+use Rattle.eval_code.specs.declared.memory_map.MemoryMap.{MemoryMap}
 use Rattle.codegen.specs.declared.firmware.Firmware.{Firmware}
-use Rattle.codegen.specs.Answers.{LeavesLayout}
+use Rattle.codegen.specs.Answers.{LeavesMapped}
 use Rattle.eval_code.specs.Firing.{AreInputBytes}
 use Rattle.firmware_ports.specs.Ports.{given}
 use Rattle.fz_run.specs.Forms.{with_writes}
@@ -45,7 +45,7 @@ all_few b [] few all = tt
 all_few b (x ∷ xs) few all =
     (let i = all 0 x (omega arith) in omega (arith, i.count), all_few b xs few (λ k d lt. all (suc k) d (omega arith)))
 
-given_same : (l : Layout) (x : List ℕ) (s : State) → length x ≤ 8 → given l (take 8 x) s ≡ given l x s
+given_same : (l : MemoryMap) (x : List ℕ) (s : State) → length x ≤ 8 → given l (take 8 x) s ≡ given l x s
 given_same l x s few = ap (λ (v : List ℕ). given l v s) (take_all 8 x few)
 
 -- the run without interrupts is that of listed writes
@@ -56,13 +56,13 @@ complete P flags f most [] [] s few h = h
 complete P flags f most (n ∷ ns) [] s few h = h
 complete P flags f most [] (x ∷ xs) s few h = h
 complete P flags f most (n ∷ ns) (x ∷ xs) s few h =
-    let e = given_same f.layout x s few.0 in
+    let e = given_same f.memory_map x s few.0 in
     let one = h.0 in
-    let moved : Completes P (with_code flags f most) 0 n n (given f.layout x s) =
+    let moved : Completes P (with_code flags f most) 0 n n (given f.memory_map x s) =
     record { sum = one.sum; holds = one.holds; on = one.on; ended = one.ended } in (
       subst (λ (u : State). Completes P (with_code flags f most) 0 n n u) (sym e) moved,
       subst (λ (u : State). AllComplete P (with_code flags f most) ns xs (uninterrupted flags n u)) (sym e)
-          (complete P flags f most ns xs (uninterrupted flags n (given f.layout x s)) few.1 h.1),
+          (complete P flags f most ns xs (uninterrupted flags n (given f.memory_map x s)) few.1 h.1),
     )
 
 -- so are the rows that are expected
@@ -73,13 +73,13 @@ expected : (flags : ℕ) (f : Firmware) (most : ℕ) (asks : ℕ → List Reques
 expected flags f most asks k [] samples s few = refl
 expected flags f most asks k (n ∷ ns) [] s few = refl
 expected flags f most asks k (n ∷ ns) (x ∷ xs) s few =
-    let e = given_same f.layout x s few.0 in
+    let e = given_same f.memory_map x s few.0 in
     let code = with_code flags f most in
     ap (λ (u : State). expected_row code (asks k) n x u ∷ expected_rows code asks (suc k) ns xs
     (uninterrupted flags n u)) e
     ∙ ap (λ (rows : List (RowSeen (List ℕ))). expected_row (with_writes flags f) (asks k) n x
-    (given f.layout x s) ∷ rows)
-    (expected flags f most asks (suc k) ns xs (uninterrupted flags n (given f.layout x s)) few.1)
+    (given f.memory_map x s) ∷ rows)
+    (expected flags f most asks (suc k) ns xs (uninterrupted flags n (given f.memory_map x s)) few.1)
 
 -- the laws of lower crates, and the law on runs
 pub record Laws : Type 0 where
@@ -96,8 +96,8 @@ pub record Laws : Type 0 where
 
 pub handled_answers : Laws → HandledAnswers
 handled_answers laws b f handler most flags samples plan hf good is v limits h all =
-    let leaves : LeavesLayout is_open_to_code f.layout =
-    subst (λ (l : Layout). LeavesLayout is_open_to_code l) (sym h.layout) code_leaves in
+    let leaves : LeavesMapped is_open_to_code f.memory_map =
+    subst (λ (l : MemoryMap). LeavesMapped is_open_to_code l) (sym h.memory_map) code_leaves in
     let runs = laws.firmware_runs_beside is_open_to_code b f flags samples hf leaves v limits h all in
     let ns = runs.ns in
     let few = all_few b samples v.few_inputs all in
@@ -110,8 +110,8 @@ handled_answers laws b f handler most flags samples plan hf good is v limits h a
     let stands : HandlerStands handler most [] w =
     first_stands f flags handler most mem w is.whole alike
     (joint_has laws.holds_image f.image.bytes handler is.whole) in
-    let inputs : f.layout.samples + 8 ≤ 0x1800 =
-    subst (λ (l : Layout). l.samples + 8 ≤ 0x1800) (sym h.layout) (omega arith) in
+    let inputs : f.memory_map.samples + 8 ≤ 0x1800 =
+    subst (λ (l : MemoryMap). l.samples + 8 ≤ 0x1800) (sym h.memory_map) (omega arith) in
     let x : Handled = record {
       laws = laws.code;
       flags = flags;

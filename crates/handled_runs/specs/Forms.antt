@@ -25,7 +25,7 @@ abbrev pub code_parts : Firmware → ℕ → FormParts (List ℕ) Request ℕ
 code_parts f most =
     record (stand_alone f place_of (λ flags r v. (served flags most r v).state)
     (λ flags r v. (served flags most r v).steps)) {
-      give = λ bytes. given f.layout (take 8 bytes);
+      give = λ bytes. given f.memory_map (take 8 bytes);
     }
 
 abbrev pub with_code : ℕ → Firmware → ℕ → Form (List ℕ) Request ℕ
@@ -34,7 +34,7 @@ with_code flags f most = plan_form flags (code_parts f most)
 -- the state in which the firmware waits for its first sample, where the handler's bytes stand beside it
 abbrev pub first_handled : Firmware → List (ℕ × ℕ) → ℕ → State
 first_handled f handler flags =
-    arrived_at flags f.layout.wait f.step_bound (joint_bytes f.image.bytes handler)
+    arrived_at flags f.memory_map.wait f.step_bound (joint_bytes f.image.bytes handler)
 
 -- the run over a list of samples under a plan, in which a handler does at most so many steps
 abbrev pub handled_rows : Firmware → List (ℕ × ℕ) → ℕ → List (List ℕ) → List Request → ℕ → Rows (List ℕ) Request ℕ

@@ -45,7 +45,7 @@ pub record Handled : Type 0 where
   pub flags : ℕ
   pub firmware : Firmware
   pub low : IsLow firmware
-  pub samples : firmware.layout.samples + 8 ≤ 0x1800
+  pub samples : firmware.memory_map.samples + 8 ≤ 0x1800
   pub handler : List (ℕ × ℕ)
   pub most : ℕ
   pub is_handler : IsHandler handler most
@@ -200,9 +200,9 @@ sound x agree quiet =
       ends = λ m w s l. ended_alike is_open_to_code x.firmware ports x.low w s l;
       quiet = λ done a v s good p may begins own. serves x done a v s good p begins own;
       leaves_open = record {
-        gives = λ done bytes w o. stands x.handler x.most done w (given x.firmware.layout (take 8 bytes) w) whole
-            (laws.given_leaves_open is_open_to_code x.firmware.layout (take 8 bytes) w (take_few 8 bytes)
-            (let end = x.samples in omega (arith, end)) (opens_free.low x.firmware.layout.ready ready)
+        gives = λ done bytes w o. stands x.handler x.most done w (given x.firmware.memory_map (take 8 bytes) w) whole
+            (laws.given_leaves_open is_open_to_code x.firmware.memory_map (take 8 bytes) w (take_few 8 bytes)
+            (let end = x.samples in omega (arith, end)) (opens_free.low x.firmware.memory_map.ready ready)
             (λ at from to. opens_free.low at (let end = x.samples in omega (arith, end, to)))) o;
         leaves = λ done bytes w o. o;
         pushes = λ done w s p l o.

@@ -49,18 +49,22 @@ impl<'a> RunForm<Request, u16, HandledRow> for WithCode<'a> {
     }
 
     fn give<M: Mem>(&self, m: &mut Machine<M>, k: usize) {
-        give(&self.firmware.layout, m, self.samples[k].bytes.as_slice());
+        give(
+            &self.firmware.memory_map,
+            m,
+            self.samples[k].bytes.as_slice(),
+        );
     }
 
     fn leave<M: Mem>(&self, _m: &mut Machine<M>, _k: usize) {}
 
     fn ends<M: Mem>(&self, m: &Machine<M>) -> bool {
-        is_idle(&self.firmware.layout, m)
+        is_idle(&self.firmware.memory_map, m)
     }
 
     #[inline(always)]
     fn goes_on_here<M: Mem>(&self, m: &Machine<M>) -> bool {
-        is_busy_here(&self.firmware.layout, m)
+        is_busy_here(&self.firmware.memory_map, m)
     }
 
     #[inline(always)]

@@ -58,7 +58,7 @@ fn joint_rows(
     };
     let start = Start {
         image: &joint,
-        wait: firmware.layout.wait,
+        wait: firmware.memory_map.wait,
         most: firmware.step_bound,
     };
     let (rows, _memory): (Vec<HandledRow>, PageMem) = run_form(

@@ -6,16 +6,16 @@ use Rattle.cpu12_isa.specs.declared.instr.Instr.{Instr}
 use Rattle.handler_check.specs.declared.faults.HandlerFault.{HandlerFault}
 use Rattle.handler_check.specs.declared.faults.HandlerFault.TheVariants.{Empty, Outside, Dead, Trap, Refused, NotFree}
 use Rattle.handler_check.specs.declared.faults.HandlerFault.TheVariants.{Backward, Target, Height, Falls, Memory}
-use Rattle.handler_check.specs.declared.ways.Way.{Way}
+use Rattle.handler_check.specs.declared.path_summaries.PathSummary.{PathSummary}
 use Rattle.handler_check.specs.Cut.{code_end, IsAt}
 use Rattle.handler_check.specs.Paths.{is_allowed, IsIn, written_by, branches_to, falls_to, leads, GoesForward}
 use Rattle.handler_check.specs.Paths.{height_after, FitsHeight, Path}
 use Rattle.handler_check.specs.Accepted.{May, IsAccepted}
 use Rattle.handler_check.specs.Faults.{IsFirst, Meets, Applies, place_of, rank, IsFirstFault}
-use Rattle.handler_check.specs.Ways.{IsWay}
+use Rattle.handler_check.specs.PathSummaries.{IsSummary}
 use Rattle.handler_check.specs.Judging.{Passes, Fails, AreJudged}
 use Rattle.handler_check.proofs.Places.{below_end, one_instr}
-use Rattle.handler_check.proofs.Leading.{one_way, in_left, in_right}
+use Rattle.handler_check.proofs.Leading.{one_summary, in_left, in_right}
 use Rattle.handler_check.proofs.Marking.{below_of}
 
 -- accepted code
@@ -51,62 +51,66 @@ faultless is instrs acc (Falls at) a =
     a.2.2 (inl (led_there is instrs at a.1 a.0 acc a.2.0 (in_left (falls_to at a.0) (branches_to at a.0) a.1 a.2.1)))
 faultless is instrs acc Memory a = a
 
--- the height of every path to a place with a way
-one_height : (is : List Instr) (trapped : Bool) (below best : ℕ) (ways : ℕ → Option Way)
-    → AreJudged is trapped below best ways → (at : ℕ) (way : Way) → ways at ≡ Some way → way.meets ≡ false → at ≤ below
-    → (n h : ℕ) → Path is n at h → h ≡ way.height
-one_height is trapped below best ways m at way e apart l n h p =
+-- the height of every path to a place with a summary
+one_height : (is : List Instr) (trapped : Bool) (below best : ℕ) (summaries : ℕ → Option PathSummary)
+    → AreJudged is trapped below best summaries → (at : ℕ) (summary : PathSummary) → summaries at ≡ Some summary
+    → summary.meets ≡ false → at ≤ below
+    → (n h : ℕ) → Path is n at h → h ≡ summary.height
+one_height is trapped below best summaries m at summary e apart l n h p =
     let a = m.complete n at h (below_of is below n at h l p) in
-    let same : a.way ≡ way = one_way a.way way (sym a.is ∙ e) in
-    a.height (ap (λ (u : Way). u.meets) same ∙ apart) ∙ ap (λ (u : Way). u.height) same
+    let same : a.summary ≡ summary = one_summary a.summary summary (sym a.is ∙ e) in
+    a.height (ap (λ (u : PathSummary). u.meets) same ∙ apart) ∙ ap (λ (u : PathSummary). u.height) same
 
-no_meeting : (is : List Instr) (trapped : Bool) (below best : ℕ) (ways : ℕ → Option Way)
-    → AreJudged is trapped below best ways → (at : ℕ) (way : Way) → ways at ≡ Some way → way.meets ≡ false → at ≤ below
+no_meeting : (is : List Instr) (trapped : Bool) (below best : ℕ) (summaries : ℕ → Option PathSummary)
+    → AreJudged is trapped below best summaries → (at : ℕ) (summary : PathSummary) → summaries at ≡ Some summary
+    → summary.meets ≡ false → at ≤ below
     → Meets is at → ⊥
-no_meeting is trapped below best ways m at way e apart l t =
-    t.4.2 (one_height is trapped below best ways m at way e apart l t.0 t.2 t.4.0
-    ∙ sym (one_height is trapped below best ways m at way e apart l t.1 t.3 t.4.1))
+no_meeting is trapped below best summaries m at summary e apart l t =
+    t.4.2 (one_height is trapped below best summaries m at summary e apart l t.0 t.2 t.4.0
+    ∙ sym (one_height is trapped below best summaries m at summary e apart l t.1 t.3 t.4.1))
 
 -- no fault of a rank that was passed applies at a place up to which all is judged
-pub passed : (is : List Instr) (trapped : Bool) (below best : ℕ) (ways : ℕ → Option Way)
-    → AreJudged is trapped below best ways → (at : ℕ) (i : Instr) (way : Way) → IsAt is at i → ways at ≡ Some way
+pub passed : (is : List Instr) (trapped : Bool) (below best : ℕ) (summaries : ℕ → Option PathSummary)
+    → AreJudged is trapped below best summaries → (at : ℕ) (i : Instr) (summary : PathSummary) → IsAt is at i
+    → summaries at ≡ Some summary
     → at ≤ below
-    → (r : ℕ) → Passes is trapped at i way r → (g : HandlerFault) → Applies is trapped g → place_of g ≡ at
+    → (r : ℕ) → Passes is trapped at i summary r → (g : HandlerFault) → Applies is trapped g → place_of g ≡ at
     → rank g < r → ⊥
-passed is trapped below best ways m at i way w e l r p Empty a s k = a
-passed is trapped below best ways m at i way w e l r p (Outside q) a s k = a
-passed is trapped below best ways m at i way w e l r p (Dead q) a s k =
-    (let t = m.sound at way e in let path = t.some in
+passed is trapped below best summaries m at i summary w e l r p Empty a s k = a
+passed is trapped below best summaries m at i summary w e l r p (Outside q) a s k = a
+passed is trapped below best summaries m at i summary w e l r p (Dead q) a s k =
+    (let t = m.tell at summary e in let path = t.some in
     a.1 path.0 path.1 (subst (λ (x : ℕ). Path is path.0 x path.1) (sym s) path.2))
-passed is trapped below best ways m at i way w e l r p (Trap q) a s k =
+passed is trapped below best summaries m at i summary w e l r p (Trap q) a s k =
     (let b = below_end is at i w in omega (arith, b.1, a.1))
-passed is trapped below best ways m at i way w e l r p (Refused q) a s k =
+passed is trapped below best summaries m at i summary w e l r p (Refused q) a s k =
     let j : a.0 ≡ i = one_instr is at i a.0 w (subst (λ (x : ℕ). IsAt is x a.0) s a.1.0) in
     false≢true (sym a.1.1 ∙ ap is_allowed j ∙ p.allowed k)
-passed is trapped below best ways m at i way w e l r p (NotFree q to) a s k =
+passed is trapped below best summaries m at i summary w e l r p (NotFree q to) a s k =
     let j : a.0 ≡ i = one_instr is at i a.0 w (subst (λ (x : ℕ). IsAt is x a.0) s a.1.0) in
     false≢true (sym a.1.2 ∙ p.free k to (subst (λ (x : Instr). IsIn (written_by x) to) j a.1.1))
-passed is trapped below best ways m at i way w e l r p (Backward q) a s k =
+passed is trapped below best summaries m at i summary w e l r p (Backward q) a s k =
     let j : a.0 ≡ i = one_instr is at i a.0 w (subst (λ (x : ℕ). IsAt is x a.0) s a.1.0) in
     a.1.1 (subst GoesForward (sym j) (p.forward k))
-passed is trapped below best ways m at i way w e l r p (Target q to) a s k =
+passed is trapped below best summaries m at i summary w e l r p (Target q to) a s k =
     let j : a.0 ≡ i = one_instr is at i a.0 w (subst (λ (x : ℕ). IsAt is x a.0) s a.1.0) in
     a.1.2 (p.branches k to
     (subst (λ (x : Instr). IsIn (branches_to at x) to) j (subst (λ (x : ℕ). IsIn (branches_to x a.0) to) s a.1.1)))
-passed is trapped below best ways m at i way w e l r p (Height q) a s k =
+passed is trapped below best summaries m at i summary w e l r p (Height q) a s k =
     let j : a.0 ≡ i = one_instr is at i a.0 w (subst (λ (x : ℕ). IsAt is x a.0) s a.1.0) in
     elim a.1.1 [
-      | inl t ↦ no_meeting is trapped below best ways m at way e (p.meets k) l (subst (λ (x : ℕ). Meets is x) s t)
+      | inl t ↦ no_meeting is trapped below best summaries m at summary e (p.meets k) l
+          (subst (λ (x : ℕ). Meets is x) s t)
       | inr t ↦ (let path : Path is t.0 at t.1 = subst (λ (x : ℕ). Path is t.0 x t.1) s t.2.0 in
-          let h = one_height is trapped below best ways m at way e (p.meets k) l t.0 t.1 path in
+          let h = one_height is trapped below best summaries m at summary e (p.meets k) l t.0 t.1 path in
           t.2.1 (subst (λ (x : Instr). FitsHeight x t.1) (sym j)
           (subst (λ (x : ℕ). FitsHeight i x) (sym h) (p.height k))))
     ]
-passed is trapped below best ways m at i way w e l r p (Falls q) a s k =
+passed is trapped below best summaries m at i summary w e l r p (Falls q) a s k =
     let j : a.0 ≡ i = one_instr is at i a.0 w (subst (λ (x : ℕ). IsAt is x a.0) s a.2.0) in
     a.2.2 (p.falls k a.1
     (subst (λ (x : Instr). IsIn (falls_to at x) a.1) j (subst (λ (x : ℕ). IsIn (falls_to x a.0) a.1) s a.2.1)))
-passed is trapped below best ways m at i way w e l r p Memory a s k = a
+passed is trapped below best summaries m at i summary w e l r p Memory a s k = a
 
 -- a fault stands at a first byte
 pub first_byte_of : (is : List Instr) (trapped : Bool) (g : HandlerFault) → Applies is trapped g
@@ -137,9 +141,10 @@ low_rank is trapped (Falls q) a = (omega arith, omega arith)
 low_rank is trapped Memory a = absurd a
 
 -- no fault applies below a place up to which all is judged
-pub none_below : (is : List Instr) (trapped : Bool) (below best : ℕ) (ways : ℕ → Option Way) → below ≤ code_end is
-    → AreJudged is trapped below best ways → (g : HandlerFault) → Applies is trapped g → below ≤ place_of g
-none_below is trapped below best ways le m g a = elim (cases_lt (place_of g) below) [
+pub none_below : (is : List Instr) (trapped : Bool) (below best : ℕ) (summaries : ℕ → Option PathSummary)
+    → below ≤ code_end is
+    → AreJudged is trapped below best summaries → (g : HandlerFault) → Applies is trapped g → below ≤ place_of g
+none_below is trapped below best summaries le m g a = elim (cases_lt (place_of g) below) [
   | inl l ↦ absurd (none l (first_byte_of is trapped g a))
   | inr l ↦ l
 ]
@@ -147,21 +152,23 @@ none_below is trapped below best ways le m g a = elim (cases_lt (place_of g) bel
     none : place_of g < below → IsFirst is trapped (place_of g) → ⊥
     none l f = elim f [
       | inl w ↦ (let b = m.each (place_of g) w.0 w.1 l in
-          passed is trapped below best ways m (place_of g) w.0 b.way w.1 b.is_marked (omega arith) 9 b.passes g a refl
+          passed is trapped below best summaries m (place_of g) w.0 b.summary w.1 b.is_marked (omega arith) 9 b.passes
+          g a refl
           (low_rank is trapped g a).1)
       | inr t ↦ omega (arith, t.1)
     ]
 
 -- the first fault at the place up to which all is judged
-pub first_by : (is : List Instr) (trapped : Bool) (below best : ℕ) (ways : ℕ → Option Way) → below ≤ code_end is
-    → AreJudged is trapped below best ways → (f : HandlerFault) → Applies is trapped f → place_of f ≡ below
+pub first_by : (is : List Instr) (trapped : Bool) (below best : ℕ) (summaries : ℕ → Option PathSummary)
+    → below ≤ code_end is
+    → AreJudged is trapped below best summaries → (f : HandlerFault) → Applies is trapped f → place_of f ≡ below
     → ((g : HandlerFault) → Applies is trapped g → place_of g ≡ below → rank g < rank f → ⊥) → IsFirstFault is trapped f
-first_by is trapped below best ways le m f a s none = record { applies = a; first = first }
+first_by is trapped below best summaries le m f a s none = record { applies = a; first = first }
   where
     first : (g : HandlerFault) → Applies is trapped g
         → (place_of f < place_of g) ⊎ ((place_of f ≡ place_of g) × (rank f ≤ rank g))
     first g b =
-        let low = none_below is trapped below best ways le m g b in
+        let low = none_below is trapped below best summaries le m g b in
         elim (cases_lt below (place_of g)) [
           | inl l ↦ inl (omega arith)
           | inr l ↦ (let here : place_of g ≡ below = omega arith in elim (cases_lt (rank g) (rank f)) [
@@ -171,50 +178,53 @@ first_by is trapped below best ways le m f a s none = record { applies = a; firs
         ]
 
 -- an instruction fails
-pub fails_first : (is : List Instr) (trapped : Bool) (at best : ℕ) (ways : ℕ → Option Way) (i : Instr) (way : Way)
-    (f : HandlerFault) → AreJudged is trapped at best ways → IsAt is at i → ways at ≡ Some way
-    → Fails is trapped at i way f
+pub fails_first : (is : List Instr) (trapped : Bool) (at best : ℕ) (summaries : ℕ → Option PathSummary) (i : Instr)
+    (summary : PathSummary)
+    (f : HandlerFault) → AreJudged is trapped at best summaries → IsAt is at i → summaries at ≡ Some summary
+    → Fails is trapped at i summary f
     → IsFirstFault is trapped f
-fails_first is trapped at best ways i way f m w e x =
+fails_first is trapped at best summaries i summary f m w e x =
     let b = below_end is at i w in
     let le : at ≤ code_end is = omega (arith, b.1) in
-    first_by is trapped at best ways le m f x.applies x.place
-    (λ g a s k. passed is trapped at best ways m at i way w e (omega arith) (rank f) x.passes g a s k)
+    first_by is trapped at best summaries le m f x.applies x.place
+    (λ g a s k. passed is trapped at best summaries m at i summary w e (omega arith) (rank f) x.passes g a s k)
 
 -- nothing leads there
-pub no_path : (is : List Instr) (trapped : Bool) (at best : ℕ) (ways : ℕ → Option Way)
-    → AreJudged is trapped at best ways → ways at ≡ None → (n h : ℕ) → Path is n at h → ⊥
-no_path is trapped at best ways m e n h p = let a = m.complete n at h (below_of is at n at h (omega arith) p) in
-    none_some a.way (sym e ∙ a.is)
+pub no_path : (is : List Instr) (trapped : Bool) (at best : ℕ) (summaries : ℕ → Option PathSummary)
+    → AreJudged is trapped at best summaries → summaries at ≡ None → (n h : ℕ) → Path is n at h → ⊥
+no_path is trapped at best summaries m e n h p = let a = m.complete n at h (below_of is at n at h (omega arith) p) in
+    none_some a.summary (sym e ∙ a.is)
   where
-    none_some : (w : Way) → None ≡ Some w → ⊥
+    none_some : (w : PathSummary) → None ≡ Some w → ⊥
     none_some w e = cc
 
-pub dead_first : (is : List Instr) (trapped : Bool) (at best : ℕ) (ways : ℕ → Option Way)
-    → AreJudged is trapped at best ways → at ≤ code_end is → IsFirst is trapped at → ways at ≡ None
+pub dead_first : (is : List Instr) (trapped : Bool) (at best : ℕ) (summaries : ℕ → Option PathSummary)
+    → AreJudged is trapped at best summaries → at ≤ code_end is → IsFirst is trapped at → summaries at ≡ None
     → IsFirstFault is trapped (Dead at)
-dead_first is trapped at best ways m le first e =
-    first_by is trapped at best ways le m (Dead at) (first, no_path is trapped at best ways m e) refl
+dead_first is trapped at best summaries m le first e =
+    first_by is trapped at best summaries le m (Dead at) (first, no_path is trapped at best summaries m e) refl
     (λ g a s k. (let l = low_rank is trapped g a in omega (arith, l.0)))
 
-not_dead : (is : List Instr) (trapped : Bool) (at : ℕ) (way : Way) → IsWay is at way → (g : HandlerFault)
+not_dead : (is : List Instr) (trapped : Bool) (at : ℕ) (summary : PathSummary) → IsSummary is at summary
+    → (g : HandlerFault)
     → Applies is trapped g → place_of g ≡ at → rank g < 2 → ⊥
-not_dead is trapped at way t Empty a s k = a
-not_dead is trapped at way t (Outside q) a s k = a
-not_dead is trapped at way t (Dead q) a s k =
+not_dead is trapped at summary t Empty a s k = a
+not_dead is trapped at summary t (Outside q) a s k = a
+not_dead is trapped at summary t (Dead q) a s k =
     (let path = t.some in a.1 path.0 path.1 (subst (λ (x : ℕ). Path is path.0 x path.1) (sym s) path.2))
-not_dead is trapped at way t (Trap q) a s k = omega arith
-not_dead is trapped at way t (Refused q) a s k = omega arith
-not_dead is trapped at way t (NotFree q to) a s k = omega arith
-not_dead is trapped at way t (Backward q) a s k = omega arith
-not_dead is trapped at way t (Target q to) a s k = omega arith
-not_dead is trapped at way t (Height q) a s k = omega arith
-not_dead is trapped at way t (Falls q) a s k = omega arith
-not_dead is trapped at way t Memory a s k = a
+not_dead is trapped at summary t (Trap q) a s k = omega arith
+not_dead is trapped at summary t (Refused q) a s k = omega arith
+not_dead is trapped at summary t (NotFree q to) a s k = omega arith
+not_dead is trapped at summary t (Backward q) a s k = omega arith
+not_dead is trapped at summary t (Target q to) a s k = omega arith
+not_dead is trapped at summary t (Height q) a s k = omega arith
+not_dead is trapped at summary t (Falls q) a s k = omega arith
+not_dead is trapped at summary t Memory a s k = a
 
-pub trap_first : (is : List Instr) (trapped : Bool) (best : ℕ) (ways : ℕ → Option Way) (way : Way)
-    → AreJudged is trapped (code_end is) best ways → trapped ≡ true → ways (code_end is) ≡ Some way
+pub trap_first : (is : List Instr) (trapped : Bool) (best : ℕ) (summaries : ℕ → Option PathSummary)
+    (summary : PathSummary)
+    → AreJudged is trapped (code_end is) best summaries → trapped ≡ true → summaries (code_end is) ≡ Some summary
     → IsFirstFault is trapped (Trap (code_end is))
-trap_first is trapped best ways way m t e =
-    first_by is trapped (code_end is) best ways (omega arith) m (Trap (code_end is)) (t, refl) refl
-    (not_dead is trapped (code_end is) way (m.sound (code_end is) way e))
+trap_first is trapped best summaries summary m t e =
+    first_by is trapped (code_end is) best summaries (omega arith) m (Trap (code_end is)) (t, refl) refl
+    (not_dead is trapped (code_end is) summary (m.tell (code_end is) summary e))

@@ -1,29 +1,29 @@
--- One more way leads to places.
+-- One more summary leads to places.
 use Rattle.std.proofs.Common.{◌≡◌, ℕ, ◌≤◌, Bool, true, false, ◌||◌, not, nat_lt, Option, Some, None, List, [], ◌∷◌}
 use Rattle.std.proofs.Common.{◌++◌, refl, ap, sym, ◌∙◌, subst, arith, inl, inr, ◌⊎◌}
 use Rattle.std.specs.Prelude.{◌==◌, if◌then◌else◌}
 use Rattle.std.proofs.lemmas.Bool.{cases_eq, false≢true}
 use Rattle.std.proofs.lemmas.Bool.Decides.{nat_tests}
 use Rattle.cpu12_isa.specs.declared.instr.Instr.{Instr}
-use Rattle.handler_check.specs.declared.ways.Way.{Way}
+use Rattle.handler_check.specs.declared.path_summaries.PathSummary.{PathSummary}
 use Rattle.handler_check.specs.Paths.{IsIn}
 use Rattle.handler_check.specs.Faults.{Meets}
-use Rattle.handler_check.specs.Ways.{join, led, led_all, IsWay}
+use Rattle.handler_check.specs.PathSummaries.{join, led, led_all, IsSummary}
 use Rattle.handler_check.specs.Judging.{Has}
 
-pub one_way : (w v : Way) → Some w ≡ Some v → w ≡ v
-one_way w v e = cc
+pub one_summary : (w v : PathSummary) → Some w ≡ Some v → w ≡ v
+one_summary w v e = cc
 
--- what the way at a place tells after a join, where no paths meet: as much as each of the two
-pub record Tells (w : Way) (j : Way) : Type 0 where
+-- what the summary at a place tells after a join, where no paths meet: as much as each of the two
+pub record Tells (w : PathSummary) (j : PathSummary) : Type 0 where
   pub apart : j.meets ≡ false → w.meets ≡ false
   pub height : j.meets ≡ false → w.height ≡ j.height
   pub few : j.meets ≡ false → w.most ≤ j.most
 
-same_tells : (w : Way) → Tells w w
+same_tells : (w : PathSummary) → Tells w w
 same_tells w = record { apart = λ e. e; height = λ e. refl; few = λ e. omega arith }
 
-meets_tells : (w j : Way) → j.meets ≡ true → Tells w j
+meets_tells : (w j : PathSummary) → j.meets ≡ true → Tells w j
 meets_tells w j e = record {
   apart = λ f. absurd (false≢true (sym f ∙ e));
   height = λ f. absurd (false≢true (sym f ∙ e));
@@ -31,8 +31,8 @@ meets_tells w j e = record {
       λ f. absurd (false≢true (sym f ∙ e));
 }
 
--- the three cases of a join with an old way
-abbrev Joined : Way → Way → Way → Type 0
+-- the three cases of a join with an old summary
+abbrev Joined : PathSummary → PathSummary → PathSummary → Type 0
 Joined old v j = ((j ≡ record old { meets = true }) × ((old.meets ≡ true) ⊎ (old.height ≡ v.height → ⊥)))
     ⊎ (((j ≡ v) × (old.meets ≡ false) × (old.height ≡ v.height) × (old.most ≤ v.most))
     ⊎ ((j ≡ old) × (old.meets ≡ false) × (old.height ≡ v.height) × (v.most ≤ old.most)))
@@ -40,7 +40,7 @@ Joined old v j = ((j ≡ record old { meets = true }) × ((old.meets ≡ true) �
 other_heights : (g h : ℕ) → (g == h) ≡ false → g ≡ h → ⊥
 other_heights g h e f = grind (arith, nat_tests)
 
-joined : (old v : Way) → Joined old v (join (Some old) v)
+joined : (old v : PathSummary) → Joined old v (join (Some old) v)
 joined old v = cases old.meets (old.height == v.height) (nat_lt old.most v.most) refl refl refl
   where
     cases : (m h l : Bool) → old.meets ≡ m → (old.height == v.height) ≡ h → nat_lt old.most v.most ≡ l
@@ -50,13 +50,13 @@ joined old v = cases old.meets (old.height == v.height) (nat_lt old.most v.most)
     cases false true true em eh el = inr (inl (refl, em, grind (arith, nat_tests), grind (arith, nat_tests)))
     cases false true false em eh el = inr (inr (refl, em, grind (arith, nat_tests), grind (arith, nat_tests)))
 
-is_met : (old j : Way) → j ≡ record old { meets = true } → j.meets ≡ true
-is_met old j e = ap (λ (w : Way). w.meets) e
+is_met : (old j : PathSummary) → j ≡ record old { meets = true } → j.meets ≡ true
+is_met old j e = ap (λ (w : PathSummary). w.meets) e
 
-tells_by : (w u j : Way) → j ≡ u → Tells w u → Tells w j
-tells_by w u j e t = subst (λ (k : Way). Tells w k) (sym e) t
+tells_by : (w u j : PathSummary) → j ≡ u → Tells w u → Tells w j
+tells_by w u j e t = subst (λ (k : PathSummary). Tells w k) (sym e) t
 
-pub old_tells : (old v : Way) → Tells old (join (Some old) v)
+pub old_tells : (old v : PathSummary) → Tells old (join (Some old) v)
 old_tells old v = elim (joined old v) [
   | inl m ↦ meets_tells old (join (Some old) v) (is_met old (join (Some old) v) m.0)
   | inr r ↦ elim r [
@@ -65,7 +65,7 @@ old_tells old v = elim (joined old v) [
   ]
 ]
 
-pub new_tells : (o : Option Way) (v : Way) → v.meets ≡ false → Tells v (join o v)
+pub new_tells : (o : Option PathSummary) (v : PathSummary) → v.meets ≡ false → Tells v (join o v)
 new_tells None v f = same_tells v
 new_tells (Some old) v f = elim (joined old v) [
   | inl m ↦ meets_tells v (join (Some old) v) (is_met old (join (Some old) v) m.0)
@@ -75,15 +75,15 @@ new_tells (Some old) v f = elim (joined old v) [
   ]
 ]
 
--- a join of ways is a way
-join_is : (is : List Instr) (at : ℕ) (old v : Way) → v.meets ≡ false → IsWay is at old → IsWay is at v
-    → IsWay is at (join (Some old) v)
+-- a join of summaries is a summary
+join_is : (is : List Instr) (at : ℕ) (old v : PathSummary) → v.meets ≡ false → IsSummary is at old → IsSummary is at v
+    → IsSummary is at (join (Some old) v)
 join_is is at old v f o n = elim (joined old v) [
-  | inl m ↦ subst (λ (w : Way). IsWay is at w) (sym m.0)
+  | inl m ↦ subst (λ (w : PathSummary). IsSummary is at w) (sym m.0)
       (record { one = λ e. absurd (false≢true (sym e)); two = λ e. meets m.1; some = o.some; low = o.low })
   | inr r ↦ elim r [
-    | inl k ↦ subst (λ (w : Way). IsWay is at w) (sym k.0) n
-    | inr k ↦ subst (λ (w : Way). IsWay is at w)
+    | inl k ↦ subst (λ (w : PathSummary). IsSummary is at w) (sym k.0) n
+    | inr k ↦ subst (λ (w : PathSummary). IsSummary is at w)
         (sym k.0) o
   ]
 ]
@@ -95,95 +95,107 @@ join_is is at old v f o n = elim (joined old v) [
     meets : (old.meets ≡ true) ⊎ (old.height ≡ v.height → ⊥) → Meets is at
     meets w = elim w [ inl e ↦ o.two e | inr ne ↦ apart old.meets refl ne ]
 
-pub joined_is : (is : List Instr) (at : ℕ) (o : Option Way) (v : Way) → v.meets ≡ false
-    → ((old : Way) → o ≡ Some old → IsWay is at old) → IsWay is at v → IsWay is at (join o v)
+pub joined_is : (is : List Instr) (at : ℕ) (o : Option PathSummary) (v : PathSummary) → v.meets ≡ false
+    → ((old : PathSummary) → o ≡ Some old → IsSummary is at old) → IsSummary is at v → IsSummary is at (join o v)
 joined_is is at None v f old n = n
 joined_is is at (Some w) v f old n = join_is is at w v f (old w refl) n
 
--- one more way leads to a place
-pub led_here : (ways : ℕ → Option Way) (to : ℕ) (v : Way) (q : ℕ) → q ≡ to → led ways to v q ≡ Some (join (ways to) v)
-led_here ways to v q e = let t : (q == to) ≡ true = grind (arith, nat_tests) in rw t
+-- one more summary leads to a place
+pub led_here : (summaries : ℕ → Option PathSummary) (to : ℕ) (v : PathSummary) (q : ℕ) → q ≡ to → led summaries to v q
+    ≡ Some (join (summaries to) v)
+led_here summaries to v q e = let t : (q == to) ≡ true = grind (arith, nat_tests) in rw t
 
-pub led_other : (ways : ℕ → Option Way) (to : ℕ) (v : Way) (q : ℕ) → (q ≡ to → ⊥) → led ways to v q ≡ ways q
-led_other ways to v q n = let t : (q == to) ≡ false = grind (arith, nat_tests) in rw t
+pub led_other : (summaries : ℕ → Option PathSummary) (to : ℕ) (v : PathSummary) (q : ℕ) → (q ≡ to → ⊥)
+    → led summaries to v q ≡ summaries q
+led_other summaries to v q n = let t : (q == to) ≡ false = grind (arith, nat_tests) in rw t
 
-tells_has : (ways : ℕ → Option Way) (q h n : ℕ) (w j : Way) → ways q ≡ Some j → Tells w j
-    → (w.meets ≡ false → h ≡ w.height) → (w.meets ≡ false → n ≤ w.most) → Has ways q h n
-tells_has ways q h n w j e t height few = record {
-  way = j;
+tells_has : (summaries : ℕ → Option PathSummary) (q h n : ℕ) (w j : PathSummary) → summaries q ≡ Some j → Tells w j
+    → (w.meets ≡ false → h ≡ w.height) → (w.meets ≡ false → n ≤ w.most) → Has summaries q h n
+tells_has summaries q h n w j e t height few = record {
+  summary = j;
   is = e;
   height = λ m. height (t.apart m) ∙ t.height m;
   few = λ m. (let a = few (t.apart m) in let b = t.few m in omega arith);
 }
 
-led_has : (ways : ℕ → Option Way) (to : ℕ) (v : Way) (q h n : ℕ) → Has ways q h n → Has (led ways to v) q h n
-led_has ways to v q h n a = elim (cases_eq q to) [
-  | inl e ↦ tells_has (led ways to v) q h n a.way (join (Some a.way) v)
-      (led_here ways to v q e ∙ ap (λ (o : Option Way). Some (join o v)) (ap ways (sym e) ∙ a.is))
-      (old_tells a.way v) a.height a.few
-  | inr ne ↦ record { way = a.way; is = led_other ways to v q ne ∙ a.is; height = a.height; few = a.few }
+led_has : (summaries : ℕ → Option PathSummary) (to : ℕ) (v : PathSummary) (q h n : ℕ) → Has summaries q h n
+    → Has (led summaries to v) q h n
+led_has summaries to v q h n a = elim (cases_eq q to) [
+  | inl e ↦ tells_has (led summaries to v) q h n a.summary (join (Some a.summary) v)
+      (led_here summaries to v q e ∙ ap (λ (o : Option PathSummary). Some (join o v)) (ap summaries (sym e) ∙ a.is))
+      (old_tells a.summary v) a.height a.few
+  | inr ne ↦ record { summary = a.summary; is = led_other summaries to v q ne ∙ a.is; height = a.height; few = a.few }
 ]
 
-led_new : (ways : ℕ → Option Way) (to : ℕ) (v : Way) → v.meets ≡ false → Has (led ways to v) to v.height v.most
-led_new ways to v f =
-    tells_has (led ways to v) to v.height v.most v (join (ways to) v) (led_here ways to v to refl)
-    (new_tells (ways to) v f) (λ e. refl) (λ e. omega arith)
+led_new : (summaries : ℕ → Option PathSummary) (to : ℕ) (v : PathSummary) → v.meets ≡ false → Has (led summaries to v)
+    to v.height v.most
+led_new summaries to v f =
+    tells_has (led summaries to v) to v.height v.most v (join (summaries to) v) (led_here summaries to v to refl)
+    (new_tells (summaries to) v f) (λ e. refl) (λ e. omega arith)
 
-led_is : (is : List Instr) (ways : ℕ → Option Way) (to : ℕ) (v : Way) → v.meets ≡ false
-    → ((at : ℕ) (way : Way) → ways at ≡ Some way → IsWay is at way) → IsWay is to v
-    → (at : ℕ) (way : Way) → led ways to v at ≡ Some way → IsWay is at way
-led_is is ways to v f a n at way e = elim (cases_eq at to) [
-  | inl s ↦ subst (λ (w : Way). IsWay is at w) (one_way (join (ways to) v) way (sym (led_here ways to v at s) ∙ e))
-      (subst (λ (k : ℕ). IsWay is k (join (ways to) v)) (sym s) (joined_is is to (ways to) v f (λ old k. a to old k) n))
-  | inr ne ↦ a at way (sym (led_other ways to v at ne) ∙ e)
+led_is : (is : List Instr) (summaries : ℕ → Option PathSummary) (to : ℕ) (v : PathSummary) → v.meets ≡ false
+    → ((at : ℕ) (summary : PathSummary) → summaries at ≡ Some summary → IsSummary is at summary) → IsSummary is to v
+    → (at : ℕ) (summary : PathSummary) → led summaries to v at ≡ Some summary → IsSummary is at summary
+led_is is summaries to v f a n at summary e = elim (cases_eq at to) [
+  | inl s ↦ subst (λ (w : PathSummary). IsSummary is at w) (one_summary (join (summaries to) v) summary
+      (sym (led_here summaries to v at s) ∙ e))
+      (subst (λ (k : ℕ). IsSummary is k (join (summaries to) v)) (sym s)
+      (joined_is is to (summaries to) v f (λ old k. a to old k) n))
+  | inr ne ↦ a at summary (sym (led_other summaries to v at ne) ∙ e)
 ]
 
--- one more way leads to each of some places
-pub all_kept : (ways : ℕ → Option Way) (tos : List ℕ) (v : Way) (q : ℕ) → (IsIn tos q → ⊥)
-    → led_all ways tos v q ≡ ways q
-all_kept ways [] v q n = refl
-all_kept ways (to ∷ tos) v q n = all_kept (led ways to v) tos v q (λ k. n (inr k))
-    ∙ led_other ways to v q (λ e. n (inl e))
+-- one more summary leads to each of some places
+pub all_kept : (summaries : ℕ → Option PathSummary) (tos : List ℕ) (v : PathSummary) (q : ℕ) → (IsIn tos q → ⊥)
+    → led_all summaries tos v q ≡ summaries q
+all_kept summaries [] v q n = refl
+all_kept summaries (to ∷ tos) v q n = all_kept (led summaries to v) tos v q (λ k. n (inr k))
+    ∙ led_other summaries to v q (λ e. n (inl e))
 
-pub all_has : (ways : ℕ → Option Way) (tos : List ℕ) (v : Way) (q h n : ℕ) → Has ways q h n
-    → Has (led_all ways tos v) q h n
-all_has ways [] v q h n a = a
-all_has ways (to ∷ tos) v q h n a = all_has (led ways to v) tos v q h n (led_has ways to v q h n a)
+pub all_has : (summaries : ℕ → Option PathSummary) (tos : List ℕ) (v : PathSummary) (q h n : ℕ) → Has summaries q h n
+    → Has (led_all summaries tos v) q h n
+all_has summaries [] v q h n a = a
+all_has summaries (to ∷ tos) v q h n a = all_has (led summaries to v) tos v q h n (led_has summaries to v q h n a)
 
-pub all_new : (ways : ℕ → Option Way) (tos : List ℕ) (v : Way) (q : ℕ) → v.meets ≡ false → IsIn tos q
-    → Has (led_all ways tos v) q v.height v.most
-all_new ways [] v q f k = absurd k
-all_new ways (to ∷ tos) v q f k = elim k [
-  | inl e ↦ all_has (led ways to v) tos v q v.height v.most
-      (subst (λ (p : ℕ). Has (led ways to v) p v.height v.most) (sym e) (led_new ways to v f))
-  | inr r ↦ all_new (led ways to v) tos v q f r
+pub all_new : (summaries : ℕ → Option PathSummary) (tos : List ℕ) (v : PathSummary) (q : ℕ) → v.meets ≡ false
+    → IsIn tos q
+    → Has (led_all summaries tos v) q v.height v.most
+all_new summaries [] v q f k = absurd k
+all_new summaries (to ∷ tos) v q f k = elim k [
+  | inl e ↦ all_has (led summaries to v) tos v q v.height v.most
+      (subst (λ (p : ℕ). Has (led summaries to v) p v.height v.most) (sym e) (led_new summaries to v f))
+  | inr r ↦ all_new (led summaries to v) tos v q f r
 ]
 
-pub all_is : (is : List Instr) (ways : ℕ → Option Way) (tos : List ℕ) (v : Way) → v.meets ≡ false
-    → ((at : ℕ) (way : Way) → ways at ≡ Some way → IsWay is at way) → ((q : ℕ) → IsIn tos q → IsWay is q v)
-    → (at : ℕ) (way : Way) → led_all ways tos v at ≡ Some way → IsWay is at way
-all_is is ways [] v f a n = a
-all_is is ways (to ∷ tos) v f a n =
-    all_is is (led ways to v) tos v f (led_is is ways to v f a (n to (inl refl))) (λ q k. n q (inr k))
+pub all_is : (is : List Instr) (summaries : ℕ → Option PathSummary) (tos : List ℕ) (v : PathSummary) → v.meets ≡ false
+    → ((at : ℕ) (summary : PathSummary) → summaries at ≡ Some summary → IsSummary is at summary)
+    → ((q : ℕ) → IsIn tos q → IsSummary is q v)
+    → (at : ℕ) (summary : PathSummary) → led_all summaries tos v at ≡ Some summary → IsSummary is at summary
+all_is is summaries [] v f a n = a
+all_is is summaries (to ∷ tos) v f a n =
+    all_is is (led summaries to v) tos v f (led_is is summaries to v f a (n to (inl refl))) (λ q k. n q (inr k))
 
 -- the places of two lists
-pub all_append : (ways : ℕ → Option Way) (xs ys : List ℕ) (v : Way) (q : ℕ)
-    → led_all ways (xs ++ ys) v q ≡ led_all (led_all ways xs v) ys v q
-all_append ways [] ys v q = refl
-all_append ways (x ∷ xs) ys v q = all_append (led ways x v) xs ys v q
+pub all_append : (summaries : ℕ → Option PathSummary) (xs ys : List ℕ) (v : PathSummary) (q : ℕ)
+    → led_all summaries (xs ++ ys) v q ≡ led_all (led_all summaries xs v) ys v q
+all_append summaries [] ys v q = refl
+all_append summaries (x ∷ xs) ys v q = all_append (led summaries x v) xs ys v q
 
--- where ways are the same, so are they after
-led_same : (ways others : ℕ → Option Way) (to : ℕ) (v : Way) → ((q : ℕ) → ways q ≡ others q) → (q : ℕ)
-    → led ways to v q ≡ led others to v q
-led_same ways others to v s q = elim (cases_eq q to) [
-  | inl e ↦ led_here ways to v q e ∙ ap (λ (o : Option Way). Some (join o v)) (s to) ∙ sym (led_here others to v q e)
-  | inr ne ↦ led_other ways to v q ne ∙ s q ∙ sym (led_other others to v q ne)
+-- where summaries are the same, so are they after
+led_same : (summaries others : ℕ → Option PathSummary) (to : ℕ) (v : PathSummary) → ((q : ℕ) → summaries q ≡ others q)
+    → (q : ℕ)
+    → led summaries to v q ≡ led others to v q
+led_same summaries others to v s q = elim (cases_eq q to) [
+  | inl e ↦ led_here summaries to v q e ∙ ap (λ (o : Option PathSummary). Some (join o v)) (s to)
+      ∙ sym (led_here others to v q e)
+  | inr ne ↦ led_other summaries to v q ne ∙ s q ∙ sym (led_other others to v q ne)
 ]
 
-pub all_same : (ways others : ℕ → Option Way) (tos : List ℕ) (v : Way) → ((q : ℕ) → ways q ≡ others q) → (q : ℕ)
-    → led_all ways tos v q ≡ led_all others tos v q
-all_same ways others [] v s q = s q
-all_same ways others (to ∷ tos) v s q = all_same (led ways to v) (led others to v) tos v (led_same ways others to v s) q
+pub all_same : (summaries others : ℕ → Option PathSummary) (tos : List ℕ) (v : PathSummary)
+    → ((q : ℕ) → summaries q ≡ others q) → (q : ℕ)
+    → led_all summaries tos v q ≡ led_all others tos v q
+all_same summaries others [] v s q = s q
+all_same summaries others (to ∷ tos) v s q = all_same (led summaries to v) (led others to v) tos v
+    (led_same summaries others to v s) q
 
 pub in_left : (xs ys : List ℕ) (q : ℕ) → IsIn xs q → IsIn (xs ++ ys) q
 in_left [] ys q k = absurd k

@@ -8,12 +8,12 @@ use Rattle.cpu12_isa.specs.declared.instr.Instr.TheVariants.{LdaaImmediate, Psha
 use Rattle.std.proofs.lemmas.Bool.Decides.{nat_tests}
 use Rattle.handler_check.specs.declared.faults.HandlerFault.{HandlerFault}
 use Rattle.handler_check.specs.declared.faults.HandlerFault.TheVariants.{Dead, Trap}
-use Rattle.handler_check.specs.declared.ways.Way.{Way}
+use Rattle.handler_check.specs.declared.path_summaries.PathSummary.{PathSummary}
 use Rattle.handler_check.specs.Cut.{code_end, AllFit}
 use Rattle.handler_check.specs.Paths.{IsIn, leads, falls_to, branches_to, height_after, FitsHeight}
 use Rattle.handler_check.specs.Faults.{IsFirst, IsFirstFault}
 use Rattle.handler_check.specs.Accepted.{IsAccepted}
-use Rattle.handler_check.specs.Ways.{way_at, led_all, list_of}
+use Rattle.handler_check.specs.PathSummaries.{summary_at, led_all, list_of}
 use Rattle.handler_check.specs.Judging.{AreFirsts, AreJudged}
 use Rattle.handler_check.proofs.Places.{is_at-here}
 use Rattle.handler_check.proofs.Marking.{accepted_of}
@@ -36,65 +36,77 @@ to_within is trapped firsts (Some at) tos n t e f l =
     let w = first_within is trapped firsts at t (f at (subst (λ (ts : List ℕ). IsIn ts at) e (inl refl))) in
     (w.0, omega (arith, w.1))
 
--- both ways on
-pub on_both : (ways mid later : ℕ → Option Way) (at : ℕ) (i : Instr) (falls branch : Option ℕ) (v : Way)
+-- both summaries on
+pub on_both : (summaries mid later : ℕ → Option PathSummary) (at : ℕ) (i : Instr) (falls branch : Option ℕ)
+    (v : PathSummary)
     → list_of falls ≡ falls_to at i → list_of branch ≡ branches_to at i
-    → ((q : ℕ) → mid q ≡ led_all ways (list_of falls) v q) → ((q : ℕ) → later q ≡ led_all mid (list_of branch) v q)
-    → (q : ℕ) → later q ≡ led_all ways (leads at i) v q
-on_both ways mid later at i falls branch v e f a b q =
+    → ((q : ℕ) → mid q ≡ led_all summaries (list_of falls) v q) → ((q : ℕ) → later q ≡ led_all mid (list_of branch) v q)
+    → (q : ℕ) → later q ≡ led_all summaries (leads at i) v q
+on_both summaries mid later at i falls branch v e f a b q =
     b q
-    ∙ all_same mid (led_all ways (list_of falls) v) (list_of branch) v a q
-    ∙ ap (λ (ts : List ℕ). led_all (led_all ways (list_of falls) v) ts v q) f
-    ∙ ap (λ (ts : List ℕ). led_all (led_all ways ts v) (branches_to at i) v q) e
-    ∙ sym (all_append ways (falls_to at i) (branches_to at i) v q)
+    ∙ all_same mid (led_all summaries (list_of falls) v) (list_of branch) v a q
+    ∙ ap (λ (ts : List ℕ). led_all (led_all summaries (list_of falls) v) ts v q) f
+    ∙ ap (λ (ts : List ℕ). led_all (led_all summaries ts v) (branches_to at i) v q) e
+    ∙ sym (all_append summaries (falls_to at i) (branches_to at i) v q)
 
--- no way leads anywhere at first
-abbrev no_way : Option Way
-no_way = None
+-- no summary leads anywhere at first
+abbrev no_summary : Option PathSummary
+no_summary = None
 
-unwrapped : (n k : ℕ) → unwrap_or (slice_get (replicate n no_way) k) no_way ≡ no_way
+unwrapped : (n k : ℕ) → unwrap_or (slice_get (replicate n no_summary) k) no_summary ≡ no_summary
 unwrapped zero k = refl
 unwrapped (suc n) zero = refl
 unwrapped (suc n) (suc k) = unwrapped n k
 
-none_at : (xs : List (Option Way)) (n : ℕ) → xs ≡ replicate n no_way → (q : ℕ) → way_at xs q ≡ no_way
-none_at xs n e q = subst (λ (ys : List (Option Way)). way_at ys q ≡ no_way) (sym e) (cases (nat_le 16384 q))
+none_at : (xs : List (Option PathSummary)) (n : ℕ) → xs ≡ replicate n no_summary → (q : ℕ) → summary_at xs q
+    ≡ no_summary
+none_at xs n e q = subst (λ (ys : List (Option PathSummary)). summary_at ys q ≡ no_summary) (sym e)
+    (cases (nat_le 16384 q))
   where
-    cases : (b : Bool) → (if b then unwrap_or (slice_get (replicate n no_way) (q - 16384)) no_way else no_way) ≡ no_way
+    cases : (b : Bool) → (if b then unwrap_or (slice_get (replicate n no_summary) (q - 16384)) no_summary else
+        no_summary) ≡ no_summary
     cases true = unwrapped n (q - 16384)
     cases false = refl
 
-pub first_on : (xs : List (Option Way)) (n : ℕ) (later : ℕ → Option Way) (first : Way) → xs ≡ replicate n no_way
-    → ((q : ℕ) → later q ≡ led_all (way_at xs) (16384 ∷ []) first q) → (q : ℕ)
+pub first_on : (xs : List (Option PathSummary)) (n : ℕ) (later : ℕ → Option PathSummary) (first : PathSummary) → xs
+    ≡ replicate n no_summary
+    → ((q : ℕ) → later q ≡ led_all (summary_at xs) (16384 ∷ []) first q) → (q : ℕ)
     → later q ≡ led_all (λ at. None) (16384 ∷ []) first q
-first_on xs n later first e on q = on q ∙ all_same (way_at xs) (λ at. None) (16384 ∷ []) first (none_at xs n e) q
+first_on xs n later first e on q = on q ∙ all_same (summary_at xs) (λ at. None) (16384 ∷ []) first (none_at xs n e) q
 
 -- behind the last instruction
-pub behind_first : (is : List Instr) (trapped : Bool) (best : ℕ) (ways : ℕ → Option Way) (at : ℕ) (f : HandlerFault)
-    → at ≡ code_end is → trapped ≡ true → AreJudged is trapped at best ways
-    → (o : Option Way) → ways at ≡ o → MatchOption o (f ≡ Dead at) (λ w. f ≡ Trap at) → IsFirstFault is trapped f
-behind_first is trapped best ways at f e t m None w r =
+pub behind_first : (is : List Instr) (trapped : Bool) (best : ℕ) (summaries : ℕ → Option PathSummary) (at : ℕ)
+    (f : HandlerFault)
+    → at ≡ code_end is → trapped ≡ true → AreJudged is trapped at best summaries
+    → (o : Option PathSummary) → summaries at ≡ o → MatchOption o (f ≡ Dead at) (λ w. f ≡ Trap at)
+    → IsFirstFault is trapped f
+behind_first is trapped best summaries at f e t m None w r =
     subst (λ (g : HandlerFault). IsFirstFault is trapped g) (sym r)
-    (dead_first is trapped at best ways m (omega arith) (inr (t, e)) w)
-behind_first is trapped best ways at f e t m (Some way) w r =
+    (dead_first is trapped at best summaries m (omega arith) (inr (t, e)) w)
+behind_first is trapped best summaries at f e t m (Some summary) w r =
     subst (λ (g : HandlerFault). IsFirstFault is trapped g) (sym (r ∙ ap (λ (k : ℕ). Trap k) e))
-    (trap_first is trapped best ways way (subst (λ (k : ℕ). AreJudged is trapped k best ways) e m) t
-    (ap ways (sym e) ∙ w))
+    (trap_first is trapped best summaries summary (subst (λ (k : ℕ). AreJudged is trapped k best summaries) e m) t
+    (ap summaries (sym e) ∙ w))
 
 some_code : (is : List Instr) → 16384 < code_end is → 0 < length is
 some_code [] l = absurd (omega arith)
 some_code (i ∷ is) l = omega arith
 
-pub accepted_end : (is : List Instr) (trapped : Bool) (firsts : List Bool) (best : ℕ) (ways : ℕ → Option Way) (at : ℕ)
+pub accepted_end : (is : List Instr) (trapped : Bool) (firsts : List Bool) (best : ℕ)
+    (summaries : ℕ → Option PathSummary) (at : ℕ)
     → AreFirsts is trapped firsts → 0 < length firsts → AllFit is → trapped ≡ false → at ≡ code_end is
-    → AreJudged is trapped at best ways
+    → AreJudged is trapped at best summaries
     → IsAccepted is best
-accepted_end is trapped firsts best ways at t some fits e here m =
+accepted_end is trapped firsts best summaries at t some fits e here m =
     let u : nat_lt (code_end is) (16384 + length firsts) ≡ false = sym t.trap ∙ e in
     let v : 16384 + length firsts ≤ code_end is = grind (arith, nat_tests) in
     let ends = t.ends in
     let limit = t.limit in
     let n : 0 < length is = some_code is (omega arith) in
-    accepted_of is best ways fits (omega arith) (get_or is 0 (LdaaImmediate 0), is_at-here is 0 (LdaaImmediate 0) n)
-    (subst (λ (b : Bool). AreJudged is b (code_end is) best ways) e
-    (subst (λ (k : ℕ). AreJudged is trapped k best ways) here m))
+    accepted_of is best summaries fits (omega arith) (
+      get_or is 0 (LdaaImmediate 0),
+      is_at-here is 0 (LdaaImmediate 0)
+          n,
+    )
+    (subst (λ (b : Bool). AreJudged is b (code_end is) best summaries) e
+    (subst (λ (k : ℕ). AreJudged is trapped k best summaries) here m))

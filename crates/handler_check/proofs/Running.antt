@@ -39,7 +39,7 @@ pub record Stage (is : List Instr) (base : ℕ) (t : Temps) (x : Bool) (at h : �
   pub code : HasCode is s.mem
   pub mem : Agree (under base) s.mem m
 
--- the way to the RTI
+-- the summary to the RTI
 pub record Arrives (is : List Instr) (flags base : ℕ) (t : Temps) (x : Bool) (instrs n : ℕ) (s : State)
     (m : List ℕ) : Type 0 where
   pub steps : ℕ

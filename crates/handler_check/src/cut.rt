@@ -7,7 +7,7 @@ ghost use Rattle.handler_check.specs.Cut.{code_start, code_limit, code_end, size
 ghost use Rattle.handler_check.specs.Paths.{IsIn};
 ghost use Rattle.handler_check.specs.Faults.{IsFirst};
 ghost use Rattle.handler_check.specs.Judging.{AreFirsts};
-ghost use Rattle.handler_check.specs.Ways.{list_of};
+ghost use Rattle.handler_check.specs.PathSummaries.{list_of};
 
 use crate::faults::CODE_START;
 use cpu12_isa::decode::decode;

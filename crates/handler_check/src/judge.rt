@@ -6,7 +6,7 @@ ghost use Rattle.handler_check.specs.Cut.{code_start, code_limit, size_of, AllFi
 ghost use Rattle.handler_check.specs.Accepted.{IsAccepted};
 ghost use Rattle.handler_check.specs.Faults.{IsFirstFault};
 ghost use Rattle.handler_check.specs.Judging.{AreFirsts, AreJudged, Fails, Passes};
-ghost use Rattle.handler_check.specs.Ways.{way_at, IsWay};
+ghost use Rattle.handler_check.specs.PathSummaries.{summary_at, IsSummary};
 
 use crate::cut::Cut;
 use crate::faults::{CODE_START, Handler, HandlerFault};
@@ -14,19 +14,19 @@ use crate::kinds::{
     branches_to, falls_to, fits_height, goes_back, height_after, is_return, may_stand, not_free,
     size,
 };
-use crate::ways::{Way, Ways};
+use crate::path_summaries::{PathSummaries, PathSummary};
 use cpu12_isa::instr::Instr;
 use std::alloc::Global;
 
-/// The first fault that applies to the instruction at a place with this way.
-fn fault_at(cut: &Cut, at: u16, instr: Instr, way: Way) -> Option<HandlerFault>
+/// The first fault that applies to the instruction at a place whose paths have this summary.
+fn fault_at(cut: &Cut, at: u16, instr: Instr, summary: PathSummary) -> Option<HandlerFault>
     requires table { AreFirsts cut.now.code.items cut.now.trapped cut.now.firsts.items }
     requires low { code_start ≤ at }
     requires high { at < code_limit }
     requires here { IsAt cut.now.code.items at instr }
-    requires way { IsWay cut.now.code.items at way }
-    ensures some { IfSome result (λ f. Fails cut.now.code.items cut.now.trapped at instr way f) }
-    ensures none { IfNone result (Passes cut.now.code.items cut.now.trapped at instr way 9) }
+    requires summary { IsSummary cut.now.code.items at summary }
+    ensures some { IfSome result (λ f. Fails cut.now.code.items cut.now.trapped at instr summary f) }
+    ensures none { IfNone result (Passes cut.now.code.items cut.now.trapped at instr summary 9) }
 {
     if !may_stand(instr) {
         return Some(HandlerFault::Refused(at));
@@ -40,7 +40,7 @@ fn fault_at(cut: &Cut, at: u16, instr: Instr, way: Way) -> Option<HandlerFault>
     if let Some(to) = cut.missing(branches_to(at, instr)) {
         return Some(HandlerFault::Target(at, to));
     }
-    if way.meets || !fits_height(instr, way.height) {
+    if summary.meets || !fits_height(instr, summary.height) {
         return Some(HandlerFault::Height(at));
     }
     match cut.missing(falls_to(at, instr)) {
@@ -62,11 +62,11 @@ fn longest(instr: Instr, best: u32, most: u32) -> u32
     }
 }
 
-/// Judges the instruction at a place: where no fault applies, its way leads on, and the answer is the greatest number
-/// of instructions on a path to an RTI so far.
+/// Judges the instruction at a place: where no fault applies, the paths to it lead on, and the answer is the greatest
+/// number of instructions on a path to an RTI so far.
 fn judge_one(
     cut: &Cut,
-    ways: &mut Ways,
+    summaries: &mut PathSummaries,
     at: u16,
     instr: Instr,
     best: u32,
@@ -75,59 +75,59 @@ fn judge_one(
     requires low { code_start ≤ at }
     requires high { at < code_limit }
     requires here { IsAt cut.now.code.items at instr }
-    requires judged { AreJudged cut.now.code.items cut.now.trapped at best (way_at ways.old.places.items) }
-    requires size { length ways.old.places.items ≡ length cut.now.firsts.items }
+    requires judged { AreJudged cut.now.code.items cut.now.trapped at best (summary_at summaries.old.places.items) }
+    requires size { length summaries.old.places.items ≡ length cut.now.firsts.items }
     ensures judged { IfOk result (λ more. AreJudged cut.now.code.items cut.now.trapped (at + size_of instr)
-        more (way_at ways.new.places.items)) }
+        more (summary_at summaries.new.places.items)) }
     ensures fault { IfErr result (λ f. IsFirstFault cut.now.code.items cut.now.trapped f) }
-    ensures size { length ways.new.places.items ≡ length ways.old.places.items }
+    ensures size { length summaries.new.places.items ≡ length summaries.old.places.items }
 {
-    let way = match ways.get(at) {
-        Some(way) => way,
+    let summary = match summaries.get(at) {
+        Some(summary) => summary,
         None => return Err(HandlerFault::Dead(at)),
     };
-    match fault_at(cut, at, instr, way) {
+    match fault_at(cut, at, instr, summary) {
         Some(fault) => return Err(fault),
         None => {}
     }
-    let next = Way {
-        height: height_after(instr, way.height),
-        most: way.most + 1,
+    let next = PathSummary {
+        height: height_after(instr, summary.height),
+        most: summary.most + 1,
         meets: false,
     };
-    ways.lead(falls_to(at, instr), next);
-    ways.lead(branches_to(at, instr), next);
+    summaries.lead(falls_to(at, instr), next);
+    summaries.lead(branches_to(at, instr), next);
     Ok(longest(instr, best, next.most))
 }
 
-/// The ways before any instruction is judged: one of no instruction leads to `$4000`.
-fn first_ways(alloc: Global, cut: &Cut) -> Result<Ways, HandlerFault>
+/// The summaries before any instruction is judged: a path of no instruction leads to `$4000`.
+fn first_summaries(alloc: Global, cut: &Cut) -> Result<PathSummaries, HandlerFault>
     requires { 0 < length cut.now.firsts.items }
-    ensures judged { IfOk result (λ ways. AreJudged cut.now.code.items cut.now.trapped code_start 0
-        (way_at ways.places.items)) }
-    ensures size { IfOk result (λ ways. length ways.places.items ≡ length cut.now.firsts.items) }
+    ensures judged { IfOk result (λ summaries. AreJudged cut.now.code.items cut.now.trapped code_start 0
+        (summary_at summaries.places.items)) }
+    ensures size { IfOk result (λ summaries. length summaries.places.items ≡ length cut.now.firsts.items) }
     ensures err { IfErr result (λ f. f ≡ HandlerFault.Memory) }
 {
-    let mut ways = match Ways::new(alloc, cut.firsts.len()) {
-        Ok(ways) => ways,
+    let mut summaries = match PathSummaries::new(alloc, cut.firsts.len()) {
+        Ok(summaries) => summaries,
         Err(_) => return Err(HandlerFault::Memory),
     };
-    let first = Way {
+    let first = PathSummary {
         height: 0,
         most: 0,
         meets: false,
     };
-    ways.lead(Some(CODE_START), first);
-    Ok(ways)
+    summaries.lead(Some(CODE_START), first);
+    Ok(summaries)
 }
 
 /// The first fault at the place behind the last instruction, where bytes stand.
-fn fault_behind(ways: &Ways, at: u16) -> HandlerFault
+fn fault_behind(summaries: &PathSummaries, at: u16) -> HandlerFault
     requires { code_start ≤ at }
-    ensures { MatchOption (way_at ways.now.places.items at) (result ≡ HandlerFault.Dead at)
-        (λ way. result ≡ HandlerFault.Trap at) }
+    ensures { MatchOption (summary_at summaries.now.places.items at) (result ≡ HandlerFault.Dead at)
+        (λ summary. result ≡ HandlerFault.Trap at) }
 {
-    match ways.get(at) {
+    match summaries.get(at) {
         Some(_) => HandlerFault::Trap(at),
         None => HandlerFault::Dead(at),
     }
@@ -143,15 +143,15 @@ pub(crate) fn judge(alloc: Global, cut: &Cut) -> Result<Handler, HandlerFault>
     ensures fault { IfErr result (λ f. f ≢ HandlerFault.Memory
         → IsFirstFault cut.now.code.items cut.now.trapped f) }
 {
-    let mut ways = first_ways(alloc, cut)?;
+    let mut summaries = first_summaries(alloc, cut)?;
     let mut at = CODE_START;
     let mut best = 0;
     for instr in &cut.code {
-        best = judge_one(cut, &mut ways, at, *instr, best)?;
+        best = judge_one(cut, &mut summaries, at, *instr, best)?;
         at += size(instr);
     }
     if cut.trapped {
-        return Err(fault_behind(&ways, at));
+        return Err(fault_behind(&summaries, at));
     }
     Ok(Handler { instrs: best })
 }

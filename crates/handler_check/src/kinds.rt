@@ -5,7 +5,7 @@ ghost use Rattle.cpu12_isa.specs.Regions.{is_free};
 ghost use Rattle.handler_check.specs.Cut.{size_of, code_limit};
 ghost use Rattle.handler_check.specs.Paths.{is_allowed, IsIn, written_by, branches_to, falls_to, GoesForward};
 ghost use Rattle.handler_check.specs.Paths.{height_after, FitsHeight};
-ghost use Rattle.handler_check.specs.Ways.{list_of};
+ghost use Rattle.handler_check.specs.PathSummaries.{list_of};
 
 use cpu12_isa::encode::encode;
 use cpu12_isa::instr::Instr;

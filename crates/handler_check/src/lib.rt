@@ -12,7 +12,7 @@ mod faults;
 mod judge;
 mod kinds;
 pub mod laws;
-mod ways;
+mod path_summaries;
 
 pub use check::check_handler;
 pub use faults::{Handler, HandlerFault};

@@ -6,7 +6,7 @@ use Rattle.cpu12_isa.specs.Memory.{plus}
 use Rattle.cpu12_isa.specs.Regions.{stack_start, stack_end}
 use Rattle.cpu12_parts.specs.State.{State}
 use Rattle.cpu12_parts.specs.Executions.{Execution}
-use Rattle.eval_code.specs.declared.layout.Layout.{Layout}
+use Rattle.eval_code.specs.declared.memory_map.MemoryMap.{MemoryMap}
 use Rattle.codegen.specs.Interruptible.{is_idle, IsInterruptible, IsShownInstruction, IsInterruptibleStep}
 use Rattle.run_forms.specs.Arrival.{PlainIsOneStep}
 use Rattle.instruction_steps.specs.Facts.{IsStackOfOneCall}
@@ -18,10 +18,10 @@ use Rattle.instruction_steps.proofs.PlainSteps.{plain_step}
 use Rattle.instruction_steps.proofs.WholeSteps.{Inside, rev_step, revw_step, average_step}
 
 -- it does not wait, SP is one of two, and memory is the image's from the stack's end on
-On : Layout → List ℕ → State → Type 0
+On : MemoryMap → List ℕ → State → Type 0
 On l image u = (is_idle l u ≡ false) × IsStackOfOneCall u.regs.sp × SameAbove image u.mem
 
-off_loop : (l : Layout) (v : State) → (v.regs.pc ≡ l.wait → ⊥) → is_idle l v ≡ false
+off_loop : (l : MemoryMap) (v : State) → (v.regs.pc ≡ l.wait → ⊥) → is_idle l v ≡ false
 off_loop l v h = let t : (v.regs.pc == l.wait) ≡ false = grind (arith, nat_tests) in rw t refl
 
 -- what each state keeps at which an interrupt may come, in the words of runs
@@ -47,7 +47,7 @@ at_instruction open_to image s c = record {
     high (inr e) = omega arith
 
 step_stretch : StepLaws → PlainIsOneStep
-    → (open_to : ℕ → Bool) (l : Layout) (image : List ℕ) (flags d : ℕ) (s t : State)
+    → (open_to : ℕ → Bool) (l : MemoryMap) (image : List ℕ) (flags d : ℕ) (s t : State)
     → flags < 2 ^ 8 → IsInterruptibleStep open_to l image flags d s t
     → OneInstruction (Kept open_to flags (On l image)) flags d s t
 unfolding On
@@ -96,7 +96,7 @@ step_stretch laws one open_to l image flags d s t hf h = by h.instruction
         average_step laws open_to flags (On l image) d s t hf c p.step p.reads here (second p.away)
 
 stretches : StepLaws → PlainIsOneStep
-    → (open_to : ℕ → Bool) (l : Layout) (image : List ℕ) (flags : ℕ) (ds : List ℕ) (s t : State)
+    → (open_to : ℕ → Bool) (l : MemoryMap) (image : List ℕ) (flags : ℕ) (ds : List ℕ) (s t : State)
     → flags < 2 ^ 8 → Execution (IsInterruptibleStep open_to l image flags) ds s t
     → Execution (OneInstruction (Kept open_to flags (On l image)) flags) ds s t
 stretches laws one open_to l image flags [] s t hf h = h

@@ -2,7 +2,7 @@
 use Rattle.std.specs.Prelude.{◌≡◌, ℕ, ◌^◌, ◌<◌, Bool, false, List, length}
 use Rattle.cpu12_parts.specs.State.{State}
 use Rattle.cpu12_parts.specs.Executions.{Execution, all_steps}
-use Rattle.eval_code.specs.declared.layout.Layout.{Layout}
+use Rattle.eval_code.specs.declared.memory_map.MemoryMap.{MemoryMap}
 use Rattle.codegen.specs.Interruptible.{is_idle, IsInterruptibleStep}
 use Rattle.run_law.specs.Uninterrupted.{uninterrupted, counted}
 use Rattle.run_law.specs.Soundness.{Before}
@@ -17,7 +17,7 @@ pub record AreSteps (P : State → Type 0) (flags : ℕ) (ds : List ℕ) (s t : 
 
 -- what each state keeps in which a sample is being answered: it does not wait, and its bytes from $2000 on are those of
 -- an image's memory
-pub record IsServing (open_to : ℕ → Bool) (l : Layout) (memory : List ℕ) (flags : ℕ) (s : State) : Type 0 where
+pub record IsServing (open_to : ℕ → Bool) (l : MemoryMap) (memory : List ℕ) (flags : ℕ) (s : State) : Type 0 where
   pub facts : Facts open_to flags s
   pub busy : is_idle l s ≡ false
   pub image : HasImageBytes memory s
@@ -26,6 +26,6 @@ pub record IsServing (open_to : ℕ → Bool) (l : Layout) (memory : List ℕ) (
 -- Whole instructions on a sample are such steps.
 abbrev pub InstructionsAreSteps : Type 0
 InstructionsAreSteps =
-    (open_to : ℕ → Bool) (l : Layout) (image : List ℕ) (flags : ℕ) (ds : List ℕ) (s t : State) → flags < 2 ^ 8
+    (open_to : ℕ → Bool) (l : MemoryMap) (image : List ℕ) (flags : ℕ) (ds : List ℕ) (s t : State) → flags < 2 ^ 8
     → Execution (IsInterruptibleStep open_to l image flags) ds s t
     → AreSteps (IsServing open_to l image flags) flags ds s t

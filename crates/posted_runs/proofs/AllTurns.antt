@@ -37,9 +37,9 @@ came_near : (k n g w : ℕ) (ps : List Post) → AllGood (IsGoodPost n) ps → R
 came_near k n g w [] good r z some = absurd (omega (arith, z, some))
 came_near k n g w (p ∷ ps) good r z some = (let own = good.0 in let m = own.moment_to in omega (arith, m, r.0))
 
-module _ (laws : TurnLaws) (flags : ℕ) (f : Firmware) (samples : List (List ℕ)) (n : ℕ) (box : IsBox f.layout n)
+module _ (laws : TurnLaws) (flags : ℕ) (f : Firmware) (samples : List (List ℕ)) (n : ℕ) (box : IsBox f.memory_map n)
     (size : AreOfSize n samples) (last : ℕ)
-    (outputs : f.layout.outputs + places (width_of f.wide) * f.outputs ≤ 0x1020) (inputs : f.inputs ≡ n) (bound : ℕ)
+    (outputs : f.memory_map.outputs + places (width_of f.wide) * f.outputs ≤ 0x1020) (inputs : f.inputs ≡ n) (bound : ℕ)
     (bound_is : bound ≡ f.step_bound) (some_bound : 1 ≤ bound) (room : 1000000 + 2 * bound ≤ last) where
   abbrev Here : ℕ → ℕ → List Post → State → State → Type 0
   Here = Begins laws flags f samples n box size last

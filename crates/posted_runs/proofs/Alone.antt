@@ -11,7 +11,7 @@ use Rattle.interrupt_plan.specs.declared.Post.{Post}
 use Rattle.codegen.specs.declared.firmware.Firmware.{Firmware}
 use Rattle.codegen.specs.Uninterrupted.{is_waiting}
 use Rattle.posted_runs.specs.Runs.{turn_form}
-use Rattle.posted_runs.proofs.WholeTurns.{IsOnWay}
+use Rattle.posted_runs.proofs.WholeTurns.{IsBusy}
 
 -- a run is the one without interrupts, and ends behind n steps
 pub record IsAlone (flags n : ℕ) (s : State) (r : Ran Post (Unit {0})) : Type 0 where
@@ -24,7 +24,7 @@ none s = record { state = s; frames = []; told = []; left = [] }
 
 -- a step more
 one_more : (flags : ℕ) (f : Firmware) (samples : List (List ℕ)) (most m : ℕ) (inside : Bool) (s : State) (next : Next)
-    → (nat_lt 0 m && is_waiting f.layout s) ≡ false → next_of flags s ≡ Ok next
+    → (nat_lt 0 m && is_waiting f.memory_map s) ≡ false → next_of flags s ≡ Ok next
     → run_from (turn_form flags f samples 0) (suc most) m inside [] s
     ≡ before_rest inside (none s) next.kind
     (run_from (turn_form flags f samples 0) most (suc m) (is_part next.kind) [] next.state)
@@ -33,19 +33,19 @@ one_more flags f samples most m inside s next on goes = rw (on, goes) refl
 
 -- none more
 no_more : (flags : ℕ) (f : Firmware) (samples : List (List ℕ)) (most m : ℕ) (inside : Bool) (s : State)
-    → (nat_lt 0 m && is_waiting f.layout s) ≡ true
+    → (nat_lt 0 m && is_waiting f.memory_map s) ≡ true
     → run_from (turn_form flags f samples 0) most m inside [] s ≡ ended true [] s
 unfolding run_from
 no_more flags f samples zero m inside s off = rw off refl
 no_more flags f samples (suc most) m inside s off = rw off refl
 
-off_way : (m : ℕ) (f : Firmware) (s : State) → s.regs.pc ≡ f.layout.wait
-    → (nat_lt 0 (suc m) && is_waiting f.layout s) ≡ true
-off_way m f s e = grind (arith, nat_tests)
+is_waiting_there : (m : ℕ) (f : Firmware) (s : State) → s.regs.pc ≡ f.memory_map.wait
+    → (nat_lt 0 (suc m) && is_waiting f.memory_map s) ≡ true
+is_waiting_there m f s e = grind (arith, nat_tests)
 
-on_way : (m : ℕ) (f : Firmware) (s : State) → (s.regs.pc ≡ f.layout.wait → ⊥)
-    → (nat_lt 0 (suc m) && is_waiting f.layout s) ≡ false
-on_way m f s e = grind (arith, nat_tests)
+is_waiting_nowhere : (m : ℕ) (f : Firmware) (s : State) → (s.regs.pc ≡ f.memory_map.wait → ⊥)
+    → (nat_lt 0 (suc m) && is_waiting f.memory_map s) ≡ false
+is_waiting_nowhere m f s e = grind (arith, nat_tests)
 
 -- one step before the rest
 put_step : (flags n : ℕ) (inside : Bool) (s : State) (next : Next) (r : Ran Post (Unit {0})) → next_of flags s ≡ Ok next
@@ -59,11 +59,11 @@ put_step flags n inside s next r goes h = record {
 }
 
 later : (flags : ℕ) (f : Firmware) (samples : List (List ℕ)) (n most m : ℕ) (inside : Bool) (s : State) → n ≤ most
-    → Before (IsOnWay f.layout flags) flags n s → (uninterrupted flags n s).regs.pc ≡ f.layout.wait
+    → Before (IsBusy f.memory_map flags) flags n s → (uninterrupted flags n s).regs.pc ≡ f.memory_map.wait
     → IsAlone flags n s (run_from (turn_form flags f samples 0) most (suc m) inside [] s)
 later flags f samples zero most m inside s le b at =
     let r : Ran Post (Unit {0}) = ended true [] s in
-    subst (IsAlone flags 0 s) (sym (no_more flags f samples most (suc m) inside s (off_way m f s at)))
+    subst (IsAlone flags 0 s) (sym (no_more flags f samples most (suc m) inside s (is_waiting_there m f s at)))
     (let done : IsAlone flags 0 s r = record { arrived = refl; steps = refl; state = refl } in done)
 later flags f samples (suc n) zero m inside s le b at = absurd (omega arith)
 later flags f samples (suc n) (suc most) m inside s le b at =
@@ -71,17 +71,18 @@ later flags f samples (suc n) (suc most) m inside s le b at =
     let next : Next = one.next in
     let there = ap (state_by s) one.goes in
     let r = later flags f samples n most (suc m) (is_part next.kind) next.state (omega arith)
-    (subst (Before (IsOnWay f.layout flags) flags n) there (λ j i. b (suc j) (omega arith)))
+    (subst (Before (IsBusy f.memory_map flags) flags n) there (λ j i. b (suc j) (omega arith)))
     (ap (λ (u : State). (uninterrupted flags n u).regs.pc) (sym there) ∙ at) in
     subst (IsAlone flags (suc n) s)
-    (sym (one_more flags f samples most (suc m) inside s next (on_way m f s one.away) one.goes))
+    (sym (one_more flags f samples most (suc m) inside s next (is_waiting_nowhere m f s one.away) one.goes))
     (put_step flags n inside s next
     (run_from (turn_form flags f samples 0) most (suc (suc m)) (is_part next.kind) [] next.state) one.goes r)
 
 -- a turn from its first step on
 pub alone : (flags : ℕ) (f : Firmware) (samples : List (List ℕ)) (n most : ℕ) (s : State) (next : Next) → suc n ≤ most
     → next_of flags s ≡ Ok next
-    → Before (IsOnWay f.layout flags) flags n next.state → (uninterrupted flags n next.state).regs.pc ≡ f.layout.wait
+    → Before (IsBusy f.memory_map flags) flags n next.state → (uninterrupted flags n next.state).regs.pc
+    ≡ f.memory_map.wait
     → IsAlone flags (suc n) s (run_from (turn_form flags f samples 0) most 0 false [] s)
 alone flags f samples n zero s next le goes b at = absurd (omega arith)
 alone flags f samples n (suc most) s next le goes b at =

@@ -121,9 +121,9 @@ module _ (opens : TakenAtFirstOpen) (flags n all g : ℕ) (u : State) (run : IsC
   at_ascends k [] lo r = tt
   at_ascends k (p ∷ ps) lo r = (at_least p (omega (arith, lo, r.0)), ascends p ps (omega (arith, lo, r.0)) r.1)
 
-module _ (laws : TurnLaws) (flags : ℕ) (f : Firmware) (samples : List (List ℕ)) (n g : ℕ) (box : IsBox f.layout n)
+module _ (laws : TurnLaws) (flags : ℕ) (f : Firmware) (samples : List (List ℕ)) (n g : ℕ) (box : IsBox f.memory_map n)
     (size : AreOfSize n samples)
-    (outputs : f.layout.outputs + places (width_of f.wide) * f.outputs ≤ 0x1020) (inputs : f.inputs ≡ n) where
+    (outputs : f.memory_map.outputs + places (width_of f.wide) * f.outputs ≤ 0x1020) (inputs : f.inputs ≡ n) where
   abbrev image : List ℕ
   image = image_memory f.image.bytes
 
@@ -132,13 +132,14 @@ module _ (laws : TurnLaws) (flags : ℕ) (f : Firmware) (samples : List (List �
 
   -- what the mailbox holds, and what stands elsewhere
   joined : (z t : State) (w : ℕ) (copied : List ℕ) → w ≤ length samples → Same is_postable z t
-      → Agree not_mail z.mem (mailed f.layout samples w copied)
-      → Agree not_mail t.mem copied → Same is_free z (posted f.layout samples w t)
+      → Agree not_mail z.mem (mailed f.memory_map samples w copied)
+      → Agree not_mail t.mem copied → Same is_free z (posted f.memory_map samples w t)
   joined z t w copied le l own stays = record {
     regs = l.regs;
     temps = l.temps;
     mem = record {
-      size = l.mem.size ∙ sym (let a = mailed_apart writing f.layout n samples box size is_free w t.mem le in a.size);
+      size = l.mem.size ∙ sym (let a = mailed_apart writing f.memory_map n samples box size is_free w t.mem le
+          in a.size);
       bytes = λ q h. by q (is_mail q) refl h;
     };
   }
@@ -147,34 +148,34 @@ module _ (laws : TurnLaws) (flags : ℕ) (f : Firmware) (samples : List (List �
       writing = (let taking = laws.posting.taking in taking.writing)
 
       by : (q : ℕ) (b : Bool) → is_mail q ≡ b → is_hidden is_free t.regs.sp q ≡ false
-          → get_or z.mem q 0 ≡ get_or (mailed f.layout samples w t.mem) q 0
+          → get_or z.mem q 0 ≡ get_or (mailed f.memory_map samples w t.mem) q 0
       by q true e h =
           let out : not_mail q ≡ false = ap not e in
-          let alike = mailed_alike writing f.layout n samples box size not_mail w t.mem copied le stays in
+          let alike = mailed_alike writing f.memory_map n samples box size not_mail w t.mem copied le stays in
           own.bytes q out ∙ sym (alike.bytes q out)
       by q false e h =
           let p = or_parts (is_free q) (nat_le 0x1FE0 q && nat_lt q t.regs.sp) h in
           let shown : is_hidden is_postable t.regs.sp q ≡ false = rw (p.0, e, p.1) refl in
           let few = box.few in
-          let apart = mailed_apart writing f.layout n samples box size (is_hidden is_free t.regs.sp) w t.mem le in
+          let apart = mailed_apart writing f.memory_map n samples box size (is_hidden is_free t.regs.sp) w t.mem le in
           l.mem.bytes q shown ∙ sym (apart.bytes q (wide_less n t.regs.sp q few shown))
 
   abbrev pub with_sample : ℕ → State → State
-  with_sample w s = record s { mem = mailed f.layout samples w s.mem }
+  with_sample w s = record s { mem = mailed f.memory_map samples w s.mem }
 
   abbrev pub at_in : ℕ → State → Post → ℕ
   at_in all u = taken_at flags (λ p. p.moment - g) all u
 
   -- behind the copy, from boundary n + 5 of the turn on
   behind_ends : (k all : ℕ) (u v : State) (qs : List Post) → all ≤ k + (n + 5) → IsHere u → IsAnswerRun f flags all u
-      → IsAt image f.layout.wait (uninterrupted flags all u)
+      → IsAt image f.memory_map.wait (uninterrupted flags all u)
       → AllGood (IsGoodPost (length samples)) qs → Rise (g + 3) qs → Same is_free v (uninterrupted flags (n + 5) u)
       → (z : State) × (TurnEnds (run_from form k (g + (n + 5)) false qs v) (all - (n + 5))
       (counted flags (all - (n + 5)) (uninterrupted flags (n + 5) u))
       (resumed_of flags (at_in all u) u qs all)
       (frames_from g (frames_after flags (at_in all u) u None (up_to (g + all - 1) qs))) (up_to (g + all - 1) qs)
       (behind (g + all - 1) qs) z
-      × (Same is_free z (posted f.layout samples (waiting 0 (up_to (g + all - 1) qs)) (uninterrupted flags all u))
+      × (Same is_free z (posted f.memory_map samples (waiting 0 (up_to (g + all - 1) qs)) (uninterrupted flags all u))
       × Same is_postable z (uninterrupted flags all u)))
   behind_ends k all u v qs fuel here run end good rise l =
       let c = copy_run laws.posting.steps flags f n all inputs u here run in
@@ -190,7 +191,7 @@ module _ (laws : TurnLaws) (flags : ℕ) (f : Firmware) (samples : List (List �
         sum = omega arith;
         holds = facts;
         on = λ j lo lt. not_over flags f samples g (g + j) (uninterrupted flags j u) (run.away j (omega arith) lt);
-        ended = ends_there g (g + all) (uninterrupted flags all u).regs.pc f.layout.wait (omega arith) end.pc;
+        ended = ends_there g (g + all) (uninterrupted flags all u).regs.pc f.memory_map.wait (omega arith) end.pc;
       } in
       let same : Same is_postable v x =
       record {
@@ -199,7 +200,7 @@ module _ (laws : TurnLaws) (flags : ℕ) (f : Firmware) (samples : List (List �
         mem =
             record { size = l.mem.size; bytes = λ q h. l.mem.bytes q (less_hidden x.regs.sp q h) };
       } in
-      let own : HoldsMail f.layout samples x.mem [] v =
+      let own : HoldsMail f.memory_map samples x.mem [] v =
       record { within = omega arith; mail = to_mail x.regs.sp v.mem x.mem l.mem } in
       let up = at_ascends laws.first_open flags n all g u c (g + 3) qs (omega arith) rise in
       let r = laws.follows flags f samples n g x.mem box size outputs [] (n + 5) left all k qs v u
@@ -216,8 +217,8 @@ module _ (laws : TurnLaws) (flags : ℕ) (f : Firmware) (samples : List (List �
       let w_is : posted_by (onto ran.told []) ≡ w = posted_last ran.told [] ∙ ap (waiting 0) told in
       let le = waits_within (length samples) (g + all - 1) 0 qs (omega arith) good in
       let kept = r.own in
-      let mail : Agree not_mail ran.state.mem (mailed f.layout samples w x.mem) =
-      subst (λ (y : ℕ). Agree not_mail ran.state.mem (mailed f.layout samples y x.mem)) w_is kept.mail in
+      let mail : Agree not_mail ran.state.mem (mailed f.memory_map samples w x.mem) =
+      subst (λ (y : ℕ). Agree not_mail ran.state.mem (mailed f.memory_map samples y x.mem)) w_is kept.mail in
       let at_end : uninterrupted flags left x ≡ uninterrupted flags all u = sym (uninterrupted_add flags (n + 5) left u)
       ∙ ap (λ (y : ℕ). uninterrupted flags y u) (let e : n + 5 + left ≡ all = omega arith in e) in
       let stays : Agree not_mail (uninterrupted flags all u).mem x.mem =
@@ -245,7 +246,7 @@ module _ (laws : TurnLaws) (flags : ℕ) (f : Firmware) (samples : List (List �
   -- the whole turn
   pub answer_run : (k all w wf : ℕ) (s v : State) (qs : List Post) → all ≤ k → IsHere s → 1 ≤ w → w ≤ length samples
       → 1 ≤ wf → wf ≤ length samples
-      → IsAt image f.layout.wait (uninterrupted flags all (with_sample wf s))
+      → IsAt image f.memory_map.wait (uninterrupted flags all (with_sample wf s))
       → AllGood (IsGoodPost (length samples)) qs → Rise (g + 1) qs → up_to g qs ≡ [] → Same is_free v (with_sample w s)
       → wf ≡ waiting (waiting w (up_to (g + 1) qs)) (up_to (g + 2) (behind (g + 1) qs))
       → (run : IsAnswerRun f flags all (with_sample wf s))
@@ -258,14 +259,15 @@ module _ (laws : TurnLaws) (flags : ℕ) (f : Firmware) (samples : List (List �
       (up_to (g + 1) qs ++
       (up_to (g + 2) (behind (g + 1) qs) ++ up_to (g + all - 1) (behind (g + 2) (behind (g + 1) qs))))
       (behind (g + all - 1) (behind (g + 2) (behind (g + 1) qs))) z
-      × (Same is_free z (posted f.layout samples (waiting 0 (up_to (g + all - 1) (behind (g + 2) (behind (g + 1) qs))))
+      × (Same is_free z (posted f.memory_map samples (waiting 0
+      (up_to (g + all - 1) (behind (g + 2) (behind (g + 1) qs))))
       (uninterrupted flags all (with_sample wf s)))
       × Same is_postable z (uninterrupted flags all (with_sample wf s))))
   answer_run k all w wf s v qs fuel here some le somef lef end good rise none l wf_is run =
       let u = with_sample wf s in
       let taking = laws.posting.taking in
       let r = here.ready in
-      let apart = mailed_apart taking.writing f.layout n samples box size is_free wf s.mem lef in
+      let apart = mailed_apart taking.writing f.memory_map n samples box size is_free wf s.mem lef in
       let here_u : IsHere u = record {
         ready = record {
           may = r.may;
@@ -287,24 +289,24 @@ module _ (laws : TurnLaws) (flags : ℕ) (f : Firmware) (samples : List (List �
       let good2 = good_behind (IsGoodPost (length samples)) (g + 2) qs1 good1 in
       let w1 = waiting w (up_to (g + 1) qs) in
       let le1 = waits_within (length samples) (g + 1) w qs le good in
-      let posted : get_or (mailed f.layout samples w s.mem) f.layout.ready 0 ≡ get_or
-      (mailed f.layout samples wf s.mem) f.layout.ready 0 =
+      let posted : get_or (mailed f.memory_map samples w s.mem) f.memory_map.ready 0 ≡ get_or
+      (mailed f.memory_map samples wf s.mem) f.memory_map.ready 0 =
       posted_is laws.posting.steps taking flags f samples n g image box size s.mem r.size w some le
       ∙ sym (posted_is laws.posting.steps taking flags f samples n g image box size s.mem r.size wf somef lef) in
       let p = two_steps laws.posting.steps taking flags f samples n g image box size s.mem r.size u run.looked
       run.chosen v w wf qs here_u run.look run.choice le lef refl posted good none
       (record { regs = l.regs; temps = l.temps; mem = l.mem }) in
       let on = run.on in
-      let here2 = here_at image (f.layout.wait + 5) run.chosen on in
+      let here2 = here_at image (f.memory_map.wait + 5) run.chosen on in
       let b = taken_here laws.posting.steps taking flags f samples n g image box size s.mem r.size run.chosen w1
       (g + 2) qs1 p.next here2.ready le1 good1 p.stands in
       let v3 = (takes form (g + 2) qs1 p.next).state in
       let copy = run.copy in
       let look = run.look in
       let choice = run.choice in
-      let mem : run.chosen.mem ≡ mailed f.layout samples wf s.mem = choice.mem ∙ look.mem in
-      let st : Same is_free v3 (record (run.chosen) { mem = mailed f.layout samples wf s.mem }) =
-      subst (λ (x : ℕ). Same is_free v3 (record (run.chosen) { mem = mailed f.layout samples x s.mem }))
+      let mem : run.chosen.mem ≡ mailed f.memory_map samples wf s.mem = choice.mem ∙ look.mem in
+      let st : Same is_free v3 (record (run.chosen) { mem = mailed f.memory_map samples wf s.mem }) =
+      subst (λ (x : ℕ). Same is_free v3 (record (run.chosen) { mem = mailed f.memory_map samples x s.mem }))
       (sym wf_is) b.stands in
       let at3 : Same is_free v3 run.chosen =
       record {
@@ -375,7 +377,7 @@ module _ (laws : TurnLaws) (flags : ℕ) (f : Firmware) (samples : List (List �
         ),
       )
     where
-      away : run.chosen.regs.pc ≡ f.layout.wait → ⊥
+      away : run.chosen.regs.pc ≡ f.memory_map.wait → ⊥
       away e = (let on = run.on in let p = on.pc in omega arith)
 
       whole : (k all k2 all2 i2 i res : ℕ) (fs : List (ℕ × FrameSeen)) (ts lf : List Post) (z : State) (qs : List Post)
@@ -391,5 +393,5 @@ pub posted_turns_follow : TurnLaws → PostedTurnsFollow
 posted_turns_follow laws flags f samples n g most all w last s v qs box size outputs inputs fuel at some le somef lef
     last_is end good rise none l run =
     let r = answer_run laws flags f samples n g box size outputs inputs most all w last s v qs fuel
-    (here_at (image_memory f.image.bytes) f.layout.wait s at) some le somef lef end good rise none l last_is run in
+    (here_at (image_memory f.image.bytes) f.memory_map.wait s at) some le somef lef end good rise none l last_is run in
     record { last = r.0; ends = r.1.0; mailed = r.1.1.0; same = r.1.1.1 }

@@ -193,34 +193,35 @@ begun_room r OnStack lo hi = (omega arith, hi)
 begun_room r (Running p w) lo hi = (omega arith, omega arith)
 
 module _ (laws : Stepping) (flags : ℕ) (f : Firmware) (samples : List (List ℕ)) (n g : ℕ) (copied : List ℕ)
-    (box : IsBox f.layout n) (size : AreOfSize n samples)
-    (outputs : f.layout.outputs + places (width_of f.wide) * f.outputs ≤ 0x1020) where
+    (box : IsBox f.memory_map n) (size : AreOfSize n samples)
+    (outputs : f.memory_map.outputs + places (width_of f.wide) * f.outputs ≤ 0x1020) where
   abbrev Holds : List (Post × Unit {0}) → State → Type 0
-  Holds = HoldsMail f.layout samples copied
+  Holds = HoldsMail f.memory_map samples copied
 
   holds_on : (done : List (Post × Unit {0})) (u w : State) → Agree not_mail u.mem w.mem → Holds done w → Holds done u
   holds_on done u w a o =
       record {
         within = o.within;
         mail =
-            agree_with not_mail u.mem w.mem (mailed f.layout samples (posted_by done) copied) a o.mail;
+            agree_with not_mail u.mem w.mem (mailed f.memory_map samples (posted_by done) copied) a o.mail;
       }
 
   one_more : (done : List (Post × Unit {0})) (p : Post) (v s : State) → IsGoodPost (length samples) p → HasRoom s
       → Begins is_postable v s → Holds done v
-      → Holds ((p, tt) ∷ done) (framed (post_writes f.layout samples p) v)
+      → Holds ((p, tt) ∷ done) (framed (post_writes f.memory_map samples p) v)
   one_more done p v s good room begins o =
       let near = begun_room s.regs s.temps (omega (arith, room.low)) room.high in
       let lo : 0x1FE9 ≤ v.regs.sp = subst (λ (r : Regs). 0x1FE9 ≤ r.sp) (sym begins.regs) near.0 in
       let hi : v.regs.sp ≤ 0x2000 = subst (λ (r : Regs). r.sp ≤ 0x2000) (sym begins.regs) near.1 in
       let wrote = to_mail v.regs.sp _ _
-      (post_mailed laws.writing f.layout n samples box size p v good.sample_to good.free lo hi) in
-      let over = mailed_over laws.writing f.layout n samples box size not_mail (posted_by done) p.sample v.mem copied
+      (post_mailed laws.writing f.memory_map n samples box size p v good.sample_to good.free lo hi) in
+      let over = mailed_over laws.writing f.memory_map n samples box size not_mail (posted_by done) p.sample v.mem
+      copied
       good.sample_to o.within o.mail in
       record {
         within = by (p.sample == 0) o.within good.sample_to;
-        mail = agree_with not_mail _ (mailed f.layout samples p.sample v.mem)
-            (mailed f.layout samples (last_of (posted_by done) p.sample) copied) wrote over;
+        mail = agree_with not_mail _ (mailed f.memory_map samples p.sample v.mem)
+            (mailed f.memory_map samples (last_of (posted_by done) p.sample) copied) wrote over;
       }
     where
       by : (b : Bool) → posted_by done ≤ length samples → p.sample ≤ length samples
@@ -230,19 +231,20 @@ module _ (laws : Stepping) (flags : ℕ) (f : Firmware) (samples : List (List �
 
   pub sound_behind : WritesAgree → WritesAreQuiet
       → Sound is_postable (part_form flags f samples g) (FactsBeside is_postable flags f) (IsGoodPost (length samples))
-      (HoldsMail f.layout samples copied)
+      (HoldsMail f.memory_map samples copied)
   sound_behind agree quiet = record {
     apart = leaves_stack;
     shown = λ s p. (let facts = p.facts in facts.shown);
     gives = λ x w s l. l;
     leaves = λ x w s l. l;
-    answers = λ w s l. values_alike (width_of f.wide) w.mem s.mem s.regs.sp f.layout.outputs f.outputs l.mem outputs;
-    ends = λ m w s l. ap (λ (r : Regs). nat_lt g (g + m) && (r.pc == f.layout.wait)) l.regs;
+    answers = λ w s l. values_alike (width_of f.wide) w.mem s.mem s.regs.sp f.memory_map.outputs f.outputs l.mem
+        outputs;
+    ends = λ m w s l. ap (λ (r : Regs). nat_lt g (g + m) && (r.pc == f.memory_map.wait)) l.regs;
     quiet = λ done a v s good p may begins own.
         (let facts = p.facts in
         let shown = facts.shown in (
-          quiet is_postable (post_writes f.layout samples a) v s leaves_stack
-              (open_post laws.writing f.layout n samples box size a good.sample_to good.free) shown.room begins,
+          quiet is_postable (post_writes f.memory_map samples a) v s leaves_stack
+              (open_post laws.writing f.memory_map n samples box size a good.sample_to good.free) shown.room begins,
           one_more done a v s good shown.room begins own,
         ));
     leaves_open = record {

@@ -18,7 +18,7 @@ use Rattle.run_law.specs.Uninterrupted.{uninterrupted, counted, is_inside, stepp
 use Rattle.run_law.specs.Uninterrupted.{first_open}
 use Rattle.run_law.proofs.Algebra.{uninterrupted_add}
 use Rattle.codegen.specs.declared.firmware.Firmware.{Firmware}
-use Rattle.eval_code.specs.declared.layout.Layout.{Layout}
+use Rattle.eval_code.specs.declared.memory_map.MemoryMap.{MemoryMap}
 use Rattle.codegen.specs.Turns.{IsMaskedStep}
 use Rattle.posted_runs.specs.UninterruptedTurns.{IsAnswerRun}
 use Rattle.posted_runs.specs.UsedLaws.{StepLaws}
@@ -36,7 +36,7 @@ to_plain laws flags i s t free p =
     ap (λ (o : Result Next ℕ). state_by s o) (plain_next laws.plain_is_step flags i s t free p)
 
 -- while I is 1
-masked_at : StepLaws → (l : Layout) (image : List ℕ) (flags : ℕ) (ds : List ℕ) (s t : State)
+masked_at : StepLaws → (l : MemoryMap) (image : List ℕ) (flags : ℕ) (ds : List ℕ) (s t : State)
     → Execution (IsMaskedStep l image flags) ds s t → (i : ℕ) → i < length ds
     → (may_interrupt (uninterrupted flags i s) ≡ false) × (kind_at flags (uninterrupted flags i s) ≡ Plain)
 masked_at laws l image flags [] s t e i lt = absurd (omega arith)
@@ -90,7 +90,7 @@ module _ (laws : StepLaws) (flags : ℕ) (f : Firmware) (n all : ℕ) (inputs : 
       ap (λ (k : ℕ). uninterrupted flags k u) sum ∙ uninterrupted_add flags 3 (j - 3) u
       ∙ ap (uninterrupted flags (j - 3)) run.third in
       subst (λ (x : State). (may_interrupt x ≡ false) × (kind_at flags x ≡ Plain)) (sym at)
-      (masked_at laws f.layout (image_memory f.image.bytes) flags copy.ds copy.masked run.called copy.copies (j - 3)
+      (masked_at laws f.memory_map (image_memory f.image.bytes) flags copy.ds copy.masked run.called copy.copies (j - 3)
       (omega arith))
 
   first_three : (j : ℕ) → j < 3 → kind_at flags (uninterrupted flags j u) ≡ Plain
@@ -101,13 +101,13 @@ module _ (laws : StepLaws) (flags : ℕ) (f : Firmware) (n all : ℕ) (inputs : 
       kind_plain laws flags _ u run.looked r.temps shown.step
   first_three (suc zero) lt =
       let look = run.look in
-      let there = here_at (image_memory f.image.bytes) (f.layout.wait + 3) run.looked look.at in
+      let there = here_at (image_memory f.image.bytes) (f.memory_map.wait + 3) run.looked look.at in
       let r = there.ready in
       let choice = run.choice in
       let shown = choice.step in
       ap (kind_at flags) run.first ∙ kind_plain laws flags _ run.looked run.chosen r.temps shown.step
   first_three (suc (suc zero)) lt =
-      let there = here_at (image_memory f.image.bytes) (f.layout.wait + 5) run.chosen run.on in
+      let there = here_at (image_memory f.image.bytes) (f.memory_map.wait + 5) run.chosen run.on in
       let r = there.ready in
       let copy = run.copy in
       let shown = copy.sets in

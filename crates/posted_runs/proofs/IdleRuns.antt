@@ -22,7 +22,7 @@ pub idle_turns_follow : StepLaws → TakingLaws → IdleTurnsFollow
 idle_turns_follow steps taking flags f samples n g most s v qs box size fuel at end good none l run =
     let image = image_memory f.image.bytes in
     let form : TurnForm = turn_form flags f samples g in
-    let here = here_at image f.layout.wait s at in
+    let here = here_at image f.memory_map.wait s at in
     let r = here.ready in
     let look = run.look in
     let choice = run.choice in
@@ -32,20 +32,20 @@ idle_turns_follow steps taking flags f samples n g most s v qs box size fuel at 
     let st = p.stands in
     let w = waiting 0 (up_to (g + 1) qs) in
     let chosen : State = run.chosen in
-    let pc : p.next.regs.pc ≡ f.layout.wait = ap (λ (x : Regs). x.pc) st.regs
+    let pc : p.next.regs.pc ≡ f.memory_map.wait = ap (λ (x : Regs). x.pc) st.regs
     ∙ ap (λ (x : State). x.regs.pc) (sym run.second) ∙ end.pc in
     let e = pass_end form (most - 2) (suc (suc g)) (behind (g + 1) qs) p.next
-    (ends_there g (suc (suc g)) p.next.regs.pc f.layout.wait (omega arith) pc) in
+    (ends_there g (suc (suc g)) p.next.regs.pc f.memory_map.wait (omega arith) pc) in
     let fs = map (λ q. (g + 1, plain_frame (let t : State = run.looked in t.regs))) (up_to (g + 1) qs) in
     let all = p.on (most - 2) 0 0 0 [] (behind (g + 1) qs) [] p.next e in
     let k : suc (suc (most - 2)) ≡ most = omega arith in
     let there : chosen.mem ≡ s.mem = choice.mem ∙ look.mem in
-    let mailed_there : Same is_free p.next (posted f.layout samples w chosen) =
+    let mailed_there : Same is_free p.next (posted f.memory_map samples w chosen) =
     record {
       regs = st.regs;
       temps = st.temps;
       mem =
-          subst (λ (m : List ℕ). Agree (is_hidden is_free chosen.regs.sp) p.next.mem (mailed f.layout samples w m))
+          subst (λ (m : List ℕ). Agree (is_hidden is_free chosen.regs.sp) p.next.mem (mailed f.memory_map samples w m))
           (sym there) st.mem;
     } in
     record {
@@ -56,5 +56,6 @@ idle_turns_follow steps taking flags f samples n g most s v qs box size fuel at 
           (up_to (g + 1) qs) (behind (g + 1) qs) p.next) (append-nil fs)
           (subst (λ (xs : List Post). TurnEnds (run_from form (suc (suc (most - 2))) g false qs v) 2 2 0 (fs ++ []) xs
           (behind (g + 1) qs) p.next) (append-nil (up_to (g + 1) qs)) all));
-      mailed = subst (λ (x : State). Same is_free p.next (posted f.layout samples w x)) (sym run.second) mailed_there;
+      mailed = subst (λ (x : State). Same is_free p.next (posted f.memory_map samples w x)) (sym run.second)
+          mailed_there;
     }

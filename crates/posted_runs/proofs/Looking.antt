@@ -11,7 +11,7 @@ use Rattle.cpu12_isa.proofs.Algebra.{bit, bit_or_is, bit_and_is, same_ccr, fits_
 use Rattle.cpu12_parts.specs.declared.temps.Temps.{Temps}
 use Rattle.cpu12_parts.specs.State.{State}
 use Rattle.cpu12_parts.specs.Whole.{after_plain}
-use Rattle.eval_code.specs.declared.layout.Layout.{Layout}
+use Rattle.eval_code.specs.declared.memory_map.MemoryMap.{MemoryMap}
 use Rattle.codegen.specs.Answers.{given}
 use Rattle.eval_code.specs.Evaluation.{put as put_bytes}
 use Rattle.codegen.specs.Turns.{IsLook, IsChoice}
@@ -54,7 +54,8 @@ pub alike_self : (s : State) → AreAlike s s
 alike_self s = record { mem = refl; temps = refl; loads = λ v. refl }
 
 -- an idle turn
-pub idle_alike : (l : Layout) (image : List ℕ) (flags : ℕ) (s looked chosen u : State) → IsLook l image flags s looked
+pub idle_alike : (l : MemoryMap) (image : List ℕ) (flags : ℕ) (s looked chosen u : State)
+    → IsLook l image flags s looked
     → IsChoice l image flags looked chosen
     → s.regs.ccr.0 < 2 ^ 8 → chosen.regs.pc ≡ s.regs.pc → AreAlike s u → AreAlike chosen u
 idle_alike l image flags s looked chosen u look choice fits back same =
@@ -81,7 +82,7 @@ idle_alike l image flags s looked chosen u look choice fits back same =
     made v c pc = record { a = v; b = s.regs.b; x = s.regs.x; y = s.regs.y; sp = s.regs.sp; pc = plus pc 3; ccr = c }
 
 -- the look at a sample that is given in either
-pub same_look : (l : Layout) (image : List ℕ) (flags : ℕ) (bytes : List ℕ) (s u a b : State)
+pub same_look : (l : MemoryMap) (image : List ℕ) (flags : ℕ) (bytes : List ℕ) (s u a b : State)
     → IsLook l image flags (given l bytes s) a
     → IsLook l image flags (given l bytes u) b → AreAlike s u → a ≡ b
 same_look l image flags bytes s u a b la lb same =

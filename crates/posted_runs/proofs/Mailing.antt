@@ -15,7 +15,7 @@ use Rattle.cpu12_parts.specs.State.{State}
 use Rattle.cpu12_emul.specs.Take.{pairs_of, framed}
 use Rattle.cpu12_emul.specs.Simulation.{AreOpen}
 use Rattle.interrupt_plan.specs.declared.Post.{Post}
-use Rattle.eval_code.specs.declared.layout.Layout.{Layout}
+use Rattle.eval_code.specs.declared.memory_map.MemoryMap.{MemoryMap}
 use Rattle.eval_code.specs.Evaluation.{put}
 use Rattle.codegen.specs.Mailboxes.{is_postable}
 use Rattle.fz_run.specs.Rows.{bytes_of}
@@ -40,10 +40,10 @@ puts at (v ∷ vs) m h =
     ap (λ (k : ℕ). write_all (pairs_of (writes_from k vs)) (set m at v)) e ∙ puts (at + 1) vs (set m at v) (omega arith)
 
 -- a sample's bytes and POSTED
-abbrev box_writes : Layout → List ℕ → List Write
+abbrev box_writes : MemoryMap → List ℕ → List Write
 box_writes l bytes = writes_from l.samples bytes ++ record { at = l.ready; value = 1 } ∷ []
 
-box_is : (l : Layout) (bytes m : List ℕ) → l.samples + length bytes ≤ 65535
+box_is : (l : MemoryMap) (bytes m : List ℕ) → l.samples + length bytes ≤ 65535
     → write_all (pairs_of (box_writes l bytes)) m ≡ set (put m l.samples bytes) l.ready 1
 box_is l bytes m h =
     ap (λ (ps : List (ℕ × ℕ)). write_all ps m)
@@ -94,7 +94,7 @@ clash : (b : Bool) → b ≡ true → b ≡ false → ⊥
 clash b t f = cc
 
 -- the writes of a sample are in the box, and fill it
-boxed : (l : Layout) (n : ℕ) (bytes : List ℕ) (q : ℕ) → IsBox l n → length bytes ≡ n
+boxed : (l : MemoryMap) (n : ℕ) (bytes : List ℕ) (q : ℕ) → IsBox l n → length bytes ≡ n
     → IsWritten (pairs_of (box_writes l bytes)) q → is_boxed n q ≡ true
 boxed l n bytes q box size w =
     let few = box.few in
@@ -110,7 +110,7 @@ boxed l n bytes q box size w =
           [ inl e ↦ (let here : q ≡ 0x1028 = omega arith in grind (arith, nat_tests)) | inr none ↦ absurd none ]
     ]
 
-filled : (l : Layout) (n : ℕ) (bytes : List ℕ) (q : ℕ) → IsBox l n → length bytes ≡ n
+filled : (l : MemoryMap) (n : ℕ) (bytes : List ℕ) (q : ℕ) → IsBox l n → length bytes ≡ n
     → (is_boxed n q ≡ false) ⊎ IsWritten (pairs_of (box_writes l bytes)) q
 filled l n bytes q box size =
     let few = box.few in
@@ -143,7 +143,7 @@ wider hidden n m k a = record { size = a.size; bytes = λ q h. a.bytes q (or_par
 
 -- ---- memories with a sample in the box
 
-module _ (laws : Writing) (l : Layout) (n : ℕ) (samples : List (List ℕ)) (box : IsBox l n)
+module _ (laws : Writing) (l : MemoryMap) (n : ℕ) (samples : List (List ℕ)) (box : IsBox l n)
     (size : AreOfSize n samples) where
   abbrev pre : ℕ → List Write
   pre w = if w == 0 then [] else box_writes l (bytes_of samples w)

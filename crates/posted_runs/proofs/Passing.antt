@@ -196,9 +196,10 @@ ends_there g m pc wait lt e =
     let b : (pc == wait) ≡ true = grind (arith, nat_tests) in
     rw (a, b) refl
 
-pub not_over : (flags : ℕ) (f : Firmware) (samples : List (List ℕ)) (g m : ℕ) (v : State) → v.regs.pc ≢ f.layout.wait
+pub not_over : (flags : ℕ) (f : Firmware) (samples : List (List ℕ)) (g m : ℕ) (v : State)
+    → v.regs.pc ≢ f.memory_map.wait
     → (turn_form flags f samples g).ends m v ≡ false
-not_over flags f samples g m v h = away_false (nat_lt g m) v.regs.pc f.layout.wait h
+not_over flags f samples g m v h = away_false (nat_lt g m) v.regs.pc f.memory_map.wait h
 
 pub record Masked (flags : ℕ) (f : Firmware) (samples : List (List ℕ)) (g j m : ℕ) (qs : List Post)
     (v t : State) : Type 0 where
@@ -208,9 +209,9 @@ pub record Masked (flags : ℕ) (f : Firmware) (samples : List (List ℕ)) (g j 
       → TurnEnds (run_from (turn_form flags f samples g) k (m + j) false qs next) n c res fs ts l z
       → TurnEnds (run_from (turn_form flags f samples g) (j + k) m false qs v) (j + n) (j + c) res fs ts l z
 
-pub masked_run : StepLaws → (flags : ℕ) (f : Firmware) (samples : List (List ℕ)) (n g : ℕ) → IsBox f.layout n
+pub masked_run : StepLaws → (flags : ℕ) (f : Firmware) (samples : List (List ℕ)) (n g : ℕ) → IsBox f.memory_map n
     → AreOfSize n samples → TakingLaws → (image : List ℕ) (ds : List ℕ) (m : ℕ) (qs : List Post) (s t v : State)
-    → Execution (IsMaskedStep f.layout image flags) ds s t → Same is_free v s
+    → Execution (IsMaskedStep f.memory_map image flags) ds s t → Same is_free v s
     → Masked flags f samples g (length ds) m qs v t
 masked_run steps flags f samples n g box size laws image [] m qs s t v e l = record {
   next = v;
@@ -236,7 +237,7 @@ masked_run steps flags f samples n g box size laws image (d ∷ ds) m qs s t v e
     took_none laws flags f samples n g box size m qs v may in
     let one = plain_follows steps true image flags h.instruction s e.0 v h.steady h.shown l in
     let rest = masked_run steps flags f samples n g box size laws image ds (suc m) qs e.0 t one.next e.1.1 one.same in
-    let away : v.regs.pc ≢ f.layout.wait = λ z. h.away (sym (ap (λ (x : Regs). x.pc) l.regs) ∙ z) in
+    let away : v.regs.pc ≢ f.memory_map.wait = λ z. h.away (sym (ap (λ (x : Regs). x.pc) l.regs) ∙ z) in
     record {
       next = rest.next;
       same = rest.same;

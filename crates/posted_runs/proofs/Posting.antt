@@ -84,35 +84,35 @@ waits_within n m w (p ∷ ps) h good =
     (waits_within n m (if p.sample == 0 then w else p.sample) ps
     (within_by (p.sample == 0) n w p.sample h own.sample_to) good.1)
 
-module _ (laws : TakingLaws) (flags : ℕ) (f : Firmware) (samples : List (List ℕ)) (n g : ℕ) (box : IsBox f.layout n)
+module _ (laws : TakingLaws) (flags : ℕ) (f : Firmware) (samples : List (List ℕ)) (n g : ℕ) (box : IsBox f.memory_map n)
     (size : AreOfSize n samples) where
   abbrev form : TurnForm
   form = turn_form flags f samples g
 
   -- one post
   one_taken : (p : Post) (v : State) → IsReady v → IsGoodPost (length samples) p
-      → Same is_free (taken form p v) (posted f.layout samples p.sample v)
+      → Same is_free (taken form p v) (posted f.memory_map samples p.sample v)
   one_taken p v r good =
-      let ws = post_writes f.layout samples p in
+      let ws = post_writes f.memory_map samples p in
       let is : suspended wav v ≡ v = laws.pushes_none v (inl r.temps) in
-      let open_to = open_post laws.writing f.layout n samples box size p good.sample_to good.free in
+      let open_to = open_post laws.writing f.memory_map n samples box size p good.sample_to good.free in
       let writing = laws.writing in
       let quiet : Same is_postable (framed ws v) v =
       writing.takes_quietly is_postable ws v leaves_stack open_to r.size r.fits r.low r.high in
-      let here : Same is_free (framed ws v) (posted f.layout samples p.sample v) =
+      let here : Same is_free (framed ws v) (posted f.memory_map samples p.sample v) =
       record {
         regs = quiet.regs;
         temps = quiet.temps;
         mem =
-            post_mailed laws.writing f.layout n samples box size p v good.sample_to good.free r.low r.high;
+            post_mailed laws.writing f.memory_map n samples box size p v good.sample_to good.free r.low r.high;
       } in
-      subst (λ (x : State). Same is_free (framed ws x) (posted f.layout samples p.sample v)) (sym is) here
+      subst (λ (x : State). Same is_free (framed ws x) (posted f.memory_map samples p.sample v)) (sym is) here
 
   pub record TookAll (m : ℕ) (qs : List Post) (v : State) : Type 0 where
     pub left : (takes form m qs v).left ≡ behind m qs
     pub told : asked (takes form m qs v).told ≡ up_to m qs
     pub frames : (takes form m qs v).frames ≡ map (λ p. (m, plain_frame v.regs)) (up_to m qs)
-    pub same : Same is_free (takes form m qs v).state (posted f.layout samples (waiting 0 (up_to m qs)) v)
+    pub same : Same is_free (takes form m qs v).state (posted f.memory_map samples (waiting 0 (up_to m qs)) v)
 
   due : (m : ℕ) (q : Post) (qs : List Post) (v : State) → nat_le q.moment m ≡ true → IsReady v
       → AllGood (IsGoodPost (length samples)) (q ∷ qs)
@@ -129,16 +129,17 @@ module _ (laws : TakingLaws) (flags : ℕ) (f : Firmware) (samples : List (List 
       let is : takes form m (q ∷ qs) v ≡ put_take (m, frame_of v) (told form q v) b = rw test refl in
       let frame : frame_of v ≡ plain_frame v.regs = laws.frame_is_on_stack v r.size (omega (arith, r.high))
       ∙ ap (frame_in v) r.temps in
-      let over : Same is_free (posted f.layout samples w v1) (posted f.layout samples (last_of q.sample w) v) =
+      let over : Same is_free (posted f.memory_map samples w v1) (posted f.memory_map samples (last_of q.sample w) v) =
       record {
         regs = one.regs;
         temps = one.temps;
         mem =
-            mailed_over laws.writing f.layout n samples box size (is_hidden is_free v.regs.sp) q.sample w v1.mem v.mem lw
+            mailed_over laws.writing f.memory_map n samples box size (is_hidden is_free v.regs.sp) q.sample w v1.mem
+            v.mem lw
             own.sample_to one.mem;
       } in
-      let both : Same is_free b.state (posted f.layout samples (last_of q.sample w) v) =
-      same_with is_free b.state (posted f.layout samples w v1) (posted f.layout samples (last_of q.sample w) v)
+      let both : Same is_free b.state (posted f.memory_map samples (last_of q.sample w) v) =
+      same_with is_free b.state (posted f.memory_map samples w v1) (posted f.memory_map samples (last_of q.sample w) v)
       rest.same over in
       let last : last_of q.sample w ≡ waiting 0 (q ∷ up_to m qs) =
       sym (ap (λ (k : ℕ). waiting k (up_to m qs)) (same_or_none q.sample) ∙ waiting_last q.sample (up_to m qs)) in
@@ -151,8 +152,8 @@ module _ (laws : TakingLaws) (flags : ℕ) (f : Firmware) (samples : List (List 
             (rest.frames ∙ ap (λ (x : Regs). map (λ p. (m, plain_frame x)) (up_to m qs)) one.regs)
             ∙ sym (rw e refl);
         same = subst (λ (k : Taking Post (Unit {0})). Same is_free k.state
-            (posted f.layout samples (waiting 0 (up_to m (q ∷ qs))) v)) (sym is)
-            (rw e (subst (λ (k : ℕ). Same is_free b.state (posted f.layout samples k v)) last both));
+            (posted f.memory_map samples (waiting 0 (up_to m (q ∷ qs))) v)) (sym is)
+            (rw e (subst (λ (k : ℕ). Same is_free b.state (posted f.memory_map samples k v)) last both));
       }
 
   not_due : (m : ℕ) (q : Post) (qs : List Post) (v : State) → nat_le q.moment m ≡ false → IsReady v
@@ -166,7 +167,7 @@ module _ (laws : TakingLaws) (flags : ℕ) (f : Firmware) (samples : List (List 
         told = ap (λ (k : Taking Post (Unit {0})). asked k.told) is ∙ sym (rw e refl);
         frames = ap (λ (k : Taking Post (Unit {0})). k.frames) is ∙ sym (rw e refl);
         same = subst (λ (k : Taking Post (Unit {0})). Same is_free k.state
-            (posted f.layout samples (waiting 0 (up_to m (q ∷ qs))) v)) (sym is)
+            (posted f.memory_map samples (waiting 0 (up_to m (q ∷ qs))) v)) (sym is)
             (rw e (record { regs = refl; temps = refl; mem = agree_self (is_hidden is_free v.regs.sp) v.mem }));
       }
 
@@ -184,12 +185,12 @@ module _ (laws : TakingLaws) (flags : ℕ) (f : Firmware) (samples : List (List 
   took_all m (q ∷ qs) v r good =
       let own = good.0 in
       let one = one_taken q v r good.0 in
-      let apart = mailed_apart laws.writing f.layout n samples box size is_free q.sample v.mem own.sample_to in
-      let after : IsReady (posted f.layout samples q.sample v) =
+      let apart = mailed_apart laws.writing f.memory_map n samples box size is_free q.sample v.mem own.sample_to in
+      let after : IsReady (posted f.memory_map samples q.sample v) =
       record { may = r.may; temps = r.temps; size = apart.size ∙ r.size; fits = r.fits; low = r.low; high = r.high } in
       by (nat_le q.moment m) refl
       (took_all m qs (taken form q v)
-      (ready_as is_free (taken form q v) (posted f.layout samples q.sample v) one after) good.1)
+      (ready_as is_free (taken form q v) (posted f.memory_map samples q.sample v) one after) good.1)
     where
       by : (b : Bool) → nat_le q.moment m ≡ b → TookAll m qs (taken form q v) → TookAll m (q ∷ qs) v
       by true e rest = due m q qs v e r good rest

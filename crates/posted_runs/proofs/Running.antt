@@ -95,14 +95,14 @@ slice_is posts xs i j le lt e =
 
 -- a run that is over
 pub run_over : (flags : ℕ) (f : Firmware) (samples : List (List ℕ)) (last n g w : ℕ) (qs : List Post) (s : State)
-    → is_over f.layout (takes (turn_form flags f samples g) g qs s) ≡ true
+    → is_over f.memory_map (takes (turn_form flags f samples g) g qs s) ≡ true
     → turns_from flags f samples last (suc n) g w qs s ≡ no_turn true
     (takes (turn_form flags f samples g) g qs s).frames 0
 unfolding turns_from
 run_over flags f samples last n g w qs s e = rw e refl
 
 pub run_on : (flags : ℕ) (f : Firmware) (samples : List (List ℕ)) (last n g w : ℕ) (qs : List Post) (s : State)
-    → is_over f.layout (takes (turn_form flags f samples g) g qs s) ≡ false
+    → is_over f.memory_map (takes (turn_form flags f samples g) g qs s) ≡ false
     → turns_from flags f samples last (suc n) g w qs s
     ≡ then_turns f samples g (waiting w (asked (takes (turn_form flags f samples g) g qs s).told))
     (takes (turn_form flags f samples g) g qs s).frames
@@ -117,7 +117,7 @@ pub run_turn : (flags : ℕ) (f : Firmware) (samples : List (List ℕ)) (last n 
     (s s1 : State) (fs fs1 : List (ℕ × FrameSeen))
     → with_frames fs (takes (turn_form flags f samples g) g qs s) ≡ record { state = s1; frames = fs1; left = qs1 }
     → v ≡ waiting w (asked (takes (turn_form flags f samples g) g qs s).told)
-    → (is_empty qs1 && (slice_index s1.mem f.layout.ready == 0)) ≡ false
+    → (is_empty qs1 && (slice_index s1.mem f.memory_map.ready == 0)) ≡ false
     → turns_from flags f samples last (suc n) g w qs s
     ≡ then_turns f samples g v (takes (turn_form flags f samples g) g qs s).frames
     (run_from (turn_form flags f samples g) (last - g) g false qs1 s1) (turns_from flags f samples last n)
@@ -126,8 +126,8 @@ run_turn flags f samples last n g w v qs qs1 s s1 fs fs1 te ve e =
     let b : Taking Post (Unit {0}) = takes form g qs s in
     let es : b.state ≡ s1 = ap (λ (k : Brought). k.state) te in
     let el : b.left ≡ qs1 = ap (λ (k : Brought). k.left) te in
-    let on : is_over f.layout b ≡ false =
-    ap₂ (λ (l : List Post) (u : State). is_empty l && (slice_index u.mem f.layout.ready == 0)) el es ∙ e in
+    let on : is_over f.memory_map b ≡ false =
+    ap₂ (λ (l : List Post) (u : State). is_empty l && (slice_index u.mem f.memory_map.ready == 0)) el es ∙ e in
     run_on flags f samples last n g w qs s on
     ∙ ap₂ (λ (x : ℕ) (r : Ran Post (Unit {0})). then_turns f samples g x b.frames r (turns_from flags f samples last n))
     (sym ve)
@@ -141,7 +141,7 @@ pub over_here : (flags : ℕ) (f : Firmware) (samples : List (List ℕ)) (last n
     (s s1 : State) (t t1 : Tally) (answers : List AnswerSeen)
     → with_frames (frames_seen t.frames.items) (takes (turn_form flags f samples g) g qs s)
     ≡ record { state = s1; frames = frames_seen t1.frames.items; left = qs1 }
-    → t1.resumed ≡ t.resumed → (is_empty qs1 && (slice_index s1.mem f.layout.ready == 0)) ≡ true
+    → t1.resumed ≡ t.resumed → (is_empty qs1 && (slice_index s1.mem f.memory_map.ready == 0)) ≡ true
     → with_rest answers t (turns_from flags f samples last (suc n) g w qs s) ≡ counted_at answers t1
 unfolding counted
 over_here flags f samples last n g w qs qs1 s s1 t t1 answers te re e =
@@ -149,8 +149,8 @@ over_here flags f samples last n g w qs qs1 s s1 t t1 answers te re e =
     let es : b.state ≡ s1 = ap (λ (k : Brought). k.state) te in
     let ef : frames_seen t.frames.items ++ b.frames ≡ frames_seen t1.frames.items = ap (λ (k : Brought). k.frames) te in
     let el : b.left ≡ qs1 = ap (λ (k : Brought). k.left) te in
-    let on : is_over f.layout b ≡ true =
-    ap₂ (λ (l : List Post) (u : State). is_empty l && (slice_index u.mem f.layout.ready == 0)) el es ∙ e in
+    let on : is_over f.memory_map b ≡ true =
+    ap₂ (λ (l : List Post) (u : State). is_empty l && (slice_index u.mem f.memory_map.ready == 0)) el es ∙ e in
     let r : t.resumed + 0 ≡ t1.resumed = omega (arith, re) in
     ap (with_rest answers t) (run_over flags f samples last n g w qs s on)
     ∙ ap (λ (xs : List AnswerSeen). counted xs (frames_seen t.frames.items ++ b.frames) (t.resumed + 0))

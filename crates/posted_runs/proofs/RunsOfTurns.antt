@@ -8,13 +8,13 @@ use Rattle.fuzzy_meaning.specs.declared.block.Block.{Block}
 use Rattle.cpu12_parts.specs.declared.temps.Temps.TheVariants.{Free}
 use Rattle.cpu12_parts.specs.Executions.{IsUntil}
 use Rattle.cpu12_parts.specs.State.{State}
-use Rattle.cpu12_parts.specs.Whole.{PlainWay}
+use Rattle.cpu12_parts.specs.Whole.{PlainExecution}
 use Rattle.cpu12_emul.specs.declared.ends.Stepped.TheVariants.{Plain}
 use Rattle.cpu12_emul.specs.Image.{image_memory}
 use Rattle.cpu12_emul.specs.Step.{reset_with}
 use Rattle.run_law.specs.Uninterrupted.{uninterrupted, state_by}
 use Rattle.codegen.specs.declared.firmware.Firmware.{Firmware}
-use Rattle.eval_code.specs.declared.layout.Layout.{Layout}
+use Rattle.eval_code.specs.declared.memory_map.MemoryMap.{MemoryMap}
 use Rattle.eval_code.specs.declared.width.Width.{Width}
 use Rattle.eval_code.specs.Bounds.{instruction_bound, steps_by}
 use Rattle.eval_code.specs.Firing.{AreInputBytes}
@@ -30,7 +30,7 @@ use Rattle.fz_run.specs.Rows.{bytes_of}
 use Rattle.posted_runs.specs.Runs.{arrival}
 use Rattle.posted_runs.specs.Answering.{run_of_turns, answer_in}
 use Rattle.posted_runs.specs.UninterruptedTurns.{steps_of, HasSteps, HaveSteps, MailboxRunsTurns}
-use Rattle.posted_runs.proofs.WholeTurns.{IsOnWay, no_step, one_step, steps_on}
+use Rattle.posted_runs.proofs.WholeTurns.{IsBusy, no_step, one_step, steps_on}
 use Rattle.posted_runs.proofs.Alone.{IsAlone, alone}
 use Rattle.posted_runs.proofs.Looking.{alike_self}
 use Rattle.posted_runs.proofs.TurnSteps.{Setting, Waits}
@@ -40,22 +40,24 @@ abbrev plain_parts : ℕ → List ℕ
 plain_parts zero = []
 plain_parts (suc n) = 0 ∷ plain_parts n
 
-way_steps : PlainIsOneStep → (l : Layout) (flags n : ℕ) (s t : State) → s.temps ≡ Free → PlainWay flags l.wait n s t
-    → AreSteps (IsOnWay l flags) flags (plain_parts n) s t
-way_steps law l flags zero s t free w = no_step (IsOnWay l flags) flags s t w
-way_steps law l flags (suc n) s t free w =
+execution_steps : PlainIsOneStep → (l : MemoryMap) (flags n : ℕ) (s t : State) → s.temps ≡ Free
+    → PlainExecution flags l.wait n s t
+    → AreSteps (IsBusy l flags) flags (plain_parts n) s t
+execution_steps law l flags zero s t free w = no_step (IsBusy l flags) flags s t w
+execution_steps law l flags (suc n) s t free w =
     let u = w.0 in
     let step = w.1.1.1 in
     let next = law flags w.1.1.0 s u free step in
     let kept : u.temps ≡ Free = ap (λ (v : State). v.temps) step.after ∙ free in
-    steps_on (IsOnWay l flags) flags (0 ∷ []) (plain_parts n) s u t
-    (one_step (IsOnWay l flags) flags s u
+    steps_on (IsBusy l flags) flags (0 ∷ []) (plain_parts n) s u t
+    (one_step (IsBusy l flags) flags s u
     (record { next = record { state = u; kind = Plain }; goes = next; away = w.1.0 }) next)
-    (way_steps law l flags n u t kept w.1.2)
+    (execution_steps law l flags n u t kept w.1.2)
 
 -- the first arrival
 arrives : PlainIsOneStep → (f : Firmware) (flags : ℕ) (samples : List (List ℕ)) (t : State) → 3 ≤ f.step_bound
-    → PlainWay flags f.layout.wait 3 (reset_with (image_memory f.image.bytes)) t → t.regs.pc ≡ f.layout.wait
+    → PlainExecution flags f.memory_map.wait 3 (reset_with (image_memory f.image.bytes)) t → t.regs.pc
+    ≡ f.memory_map.wait
     → ((arrival f samples flags).arrived ≡ true) × ((arrival f samples flags).state ≡ t)
 arrives law f flags samples t le w at =
     let s = reset_with (image_memory f.image.bytes) in
@@ -63,7 +65,7 @@ arrives law f flags samples t le w at =
     let step = w.1.1.1 in
     let next = law flags w.1.1.0 s u refl step in
     let kept : u.temps ≡ Free = ap (λ (v : State). v.temps) step.after in
-    let rest = way_steps law f.layout flags 2 u t kept w.1.2 in
+    let rest = execution_steps law f.memory_map flags 2 u t kept w.1.2 in
     let r : IsAlone flags 3 s (arrival f samples flags) =
     alone flags f samples 2 f.step_bound s (record { state = u; kind = Plain }) le next rest.each
     (ap (λ (v : State). v.regs.pc) rest.goes ∙ at) in
@@ -110,7 +112,7 @@ mailbox_runs_turns laws b f flags samples turns v limits h fits all have =
     let ready = takes.ready in
     let home = ready.at in
     let arrived = arrives laws.plain_is_one_step f flags samples takes.first
-    (let enough = enough_steps w b v.few_outputs in omega (arith, enough, h.steps)) ready.way home.pc in
+    (let enough = enough_steps w b v.few_outputs in omega (arith, enough, h.steps)) ready.execution home.pc in
     let x : Setting b f flags samples = record {
       plain_is_one_step = laws.plain_is_one_step;
       instructions_are_steps = laws.instructions_are_steps;
@@ -127,8 +129,8 @@ mailbox_runs_turns laws b f flags samples turns v limits h fits all have =
     (record { waits = waits; there = waits; alike = alike_self first }) have in
     let xs = map (bytes_of samples) (samples_of turns) in
     let ys = map answer_in (run_of_turns flags f samples turns first).answers in
-    let until : IsUntil (is_waiting f.layout) flags (0 ∷ 0 ∷ 0 ∷ []) (reset_with image) first =
-    subst (IsUntil (is_waiting f.layout) flags (0 ∷ 0 ∷ 0 ∷ []) (reset_with image)) (sym arrived.1) takes.arrived in
+    let until : IsUntil (is_waiting f.memory_map) flags (0 ∷ 0 ∷ 0 ∷ []) (reset_with image) first =
+    subst (IsUntil (is_waiting f.memory_map) flags (0 ∷ 0 ∷ 0 ∷ []) (reset_with image)) (sym arrived.1) takes.arrived in
     let are : AreUninterrupted f flags xs ys =
     record { first = first; ds = 0 ∷ 0 ∷ 0 ∷ []; arrived = until; each = run.answers } in
     let one = laws.is_uninterrupted b f v limits h flags xs fits

@@ -13,7 +13,7 @@ use Rattle.run_law.specs.Uninterrupted.{state_by, uninterrupted}
 use Rattle.run_law.specs.Soundness.{Before}
 use Rattle.run_law.proofs.Algebra.{uninterrupted_add}
 use Rattle.codegen.specs.declared.firmware.Firmware.{Firmware}
-use Rattle.eval_code.specs.declared.layout.Layout.{Layout}
+use Rattle.eval_code.specs.declared.memory_map.MemoryMap.{MemoryMap}
 use Rattle.codegen.specs.Answers.{given}
 use Rattle.eval_code.specs.Bounds.{steps_by}
 use Rattle.codegen.specs.Interruptible.{is_idle}
@@ -24,40 +24,40 @@ use Rattle.eval_code.specs.Widths.{width_of}
 use Rattle.run_forms.specs.Arrival.{PlainIsOneStep}
 use Rattle.instruction_steps.specs.Instructions.{AreSteps, IsServing, InstructionsAreSteps}
 use Rattle.posted_runs.specs.UninterruptedTurns.{IsAnswerRun}
-use Rattle.posted_runs.proofs.WholeTurns.{IsOnWay, one_step, steps_append, steps_on, masked_steps, masked_count}
-use Rattle.posted_runs.proofs.Serving.{IsServed, served, on_way_by, facts_by}
+use Rattle.posted_runs.proofs.WholeTurns.{IsBusy, one_step, steps_append, steps_on, masked_steps, masked_count}
+use Rattle.posted_runs.proofs.Serving.{IsServed, served, busy_by, facts_by}
 
 -- a plain step of an instruction, on the way
-stepping : (l : Layout) (image : List ℕ) (flags at : ℕ) (s t : State) → IsAt image at s → at ≢ l.wait
-    → next_of flags s ≡ Ok (record { state = t; kind = Plain }) → AreSteps (IsOnWay l flags) flags (0 ∷ []) s t
+stepping : (l : MemoryMap) (image : List ℕ) (flags at : ℕ) (s t : State) → IsAt image at s → at ≢ l.wait
+    → next_of flags s ≡ Ok (record { state = t; kind = Plain }) → AreSteps (IsBusy l flags) flags (0 ∷ []) s t
 stepping l image flags at s t here far next =
-    one_step (IsOnWay l flags) flags s t
+    one_step (IsBusy l flags) flags s t
     (record { next = record { state = t; kind = Plain }; goes = next; away = λ e. far (sym here.pc ∙ e) }) next
 
 -- Up to the call, with n inputs.
 record Calls (f : Firmware) (flags n : ℕ) (g looked chosen called : State)
-    (copy : IsCopied f.layout n (image_memory f.image.bytes) flags chosen called)
+    (copy : IsCopied f.memory_map n (image_memory f.image.bytes) flags chosen called)
     : Type 0 where
   next : next_of flags g ≡ Ok (record { state = looked; kind = Plain })
-  look : IsLook f.layout (image_memory f.image.bytes) flags g looked
-  choice : IsChoice f.layout (image_memory f.image.bytes) flags looked chosen
-  on : IsAt (image_memory f.image.bytes) (f.layout.wait + 5) chosen
+  look : IsLook f.memory_map (image_memory f.image.bytes) flags g looked
+  choice : IsChoice f.memory_map (image_memory f.image.bytes) flags looked chosen
+  on : IsAt (image_memory f.image.bytes) (f.memory_map.wait + 5) chosen
   second : uninterrupted flags 2 g ≡ chosen
   third : uninterrupted flags 3 g ≡ copy.masked
   call : uninterrupted flags (n + 5) g ≡ called
-  steps : AreSteps (IsOnWay f.layout flags) flags (0 ∷ 0 ∷ copy.ds) looked called
+  steps : AreSteps (IsBusy f.memory_map flags) flags (0 ∷ 0 ∷ copy.ds) looked called
   count : all_steps copy.ds ≡ n + 2
 
 calls : PlainIsOneStep → (f : Firmware) (flags n : ℕ) (g looked chosen called : State) → g.temps ≡ Free
-    → IsLook f.layout (image_memory f.image.bytes) flags g looked
-    → IsChoice f.layout (image_memory f.image.bytes) flags looked chosen
-    → IsAt (image_memory f.image.bytes) (f.layout.wait + 5) chosen
-    → (copy : IsCopied f.layout n (image_memory f.image.bytes) flags chosen called)
+    → IsLook f.memory_map (image_memory f.image.bytes) flags g looked
+    → IsChoice f.memory_map (image_memory f.image.bytes) flags looked chosen
+    → IsAt (image_memory f.image.bytes) (f.memory_map.wait + 5) chosen
+    → (copy : IsCopied f.memory_map n (image_memory f.image.bytes) flags chosen called)
     → Calls f flags n g looked chosen called copy
 calls law f flags n g looked chosen called free look choice on copy =
-    let l = f.layout in
+    let l = f.memory_map in
     let image = image_memory f.image.bytes in
-    let P = IsOnWay l flags in
+    let P = IsBusy l flags in
     let look_at = look.at in
     let state1 = look_at.steady in
     let state2 = on.steady in
@@ -91,24 +91,25 @@ calls law f flags n g looked chosen called free look choice on copy =
 pub record IsSampleRun (f : Firmware) (flags : ℕ) (g looked t : State) : Type 0 where
   pub ds : List ℕ
   pub next : next_of flags g ≡ Ok (record { state = looked; kind = Plain })
-  pub steps : AreSteps (IsOnWay f.layout flags) flags ds looked t
+  pub steps : AreSteps (IsBusy f.memory_map flags) flags ds looked t
   pub run : IsAnswerRun f flags (suc (all_steps ds)) g
-  pub until : IsUntil (is_idle f.layout) flags (0 ∷ ds) g t
+  pub until : IsUntil (is_idle f.memory_map) flags (0 ∷ ds) g t
 
 -- the steps behind the call
 served_steps : (f : Firmware) (flags : ℕ) (ds : List ℕ) (s t : State)
-    → AreSteps (IsServing is_postable f.layout (image_memory f.image.bytes) flags) flags ds s t
-    → Before (IsServed f flags) flags (all_steps ds) s → AreSteps (IsOnWay f.layout flags) flags ds s t
+    → AreSteps (IsServing is_postable f.memory_map (image_memory f.image.bytes) flags) flags ds s t
+    → Before (IsServed f flags) flags (all_steps ds) s → AreSteps (IsBusy f.memory_map flags) flags ds s t
 served_steps f flags ds s t a b = record {
   goes = a.goes;
   counts = a.counts;
-  each = λ j l. on_way_by f flags (uninterrupted flags j s) (b j l);
+  each = λ j l. busy_by f flags (uninterrupted flags j s) (b j l);
 }
 
 -- there are some
-some_steps : (f : Firmware) (flags n : ℕ) (ds : List ℕ) (s t : State) → AreSteps (IsOnWay f.layout flags) flags ds s t
-    → s.regs.pc ≡ call_of f.layout n
-    → t.regs.pc ≡ f.layout.wait → 1 ≤ all_steps ds
+some_steps : (f : Firmware) (flags n : ℕ) (ds : List ℕ) (s t : State) → AreSteps (IsBusy f.memory_map flags) flags ds s
+    t
+    → s.regs.pc ≡ call_of f.memory_map n
+    → t.regs.pc ≡ f.memory_map.wait → 1 ≤ all_steps ds
 some_steps f flags n [] s t a at back =
     absurd (let e : s.regs.pc ≡ t.regs.pc = ap (λ (u : State). u.regs.pc) a.goes in omega (arith, e, at, back))
 some_steps f flags n (d ∷ ds) s t a at back = omega arith
@@ -126,7 +127,7 @@ at_boundary P flags m n j g s e b from to =
 
 -- what a turn of n inputs and m steps behind the call gives
 answer_run : (f : Firmware) (flags n m : ℕ) (g looked chosen called : State) → f.inputs ≡ n
-    → (copy : IsCopied f.layout n (image_memory f.image.bytes) flags chosen called)
+    → (copy : IsCopied f.memory_map n (image_memory f.image.bytes) flags chosen called)
     → Calls f flags n g looked chosen called copy → 1 ≤ m
     → n + 5 + m ≤ f.step_bound → Before (IsServed f flags) flags m called → IsAnswerRun f flags (n + 5 + m) g
 answer_run f flags n m g looked chosen called e = subst by e
@@ -147,23 +148,23 @@ answer_run f flags n m g looked chosen called e = subst by e
       facts = λ j from to. facts_by f flags (uninterrupted flags j g)
           (at_boundary (IsServed f flags) flags (f.inputs + 5) m j g called c.call b from to);
       away = λ j from to.
-          (let way = on_way_by f flags (uninterrupted flags j g)
-          (at_boundary (IsServed f flags) flags (f.inputs + 5) m j g called c.call b from to) in way.away);
+          (let busy = busy_by f flags (uninterrupted flags j g)
+          (at_boundary (IsServed f flags) flags (f.inputs + 5) m j g called c.call b from to) in busy.away);
     })
   where
     by : ℕ → Type 0
-    by k = (copy : IsCopied f.layout k (image_memory f.image.bytes) flags chosen called)
+    by k = (copy : IsCopied f.memory_map k (image_memory f.image.bytes) flags chosen called)
         → Calls f flags k g looked chosen called copy → 1 ≤ m
         → k + 5 + m ≤ f.step_bound → Before (IsServed f flags) flags m called → IsAnswerRun f flags (k + 5 + m) g
 
 pub sample_run : PlainIsOneStep → InstructionsAreSteps
     → (b : Block) (f : Firmware) (flags : ℕ) (before : ℕ → ℕ) (bytes : List ℕ) (s t : State)
     → IsMailboxOf b f → flags < 2 ^ 8 → s.temps ≡ Free
-    → (turn : IsSampleTurn f.layout b (width_of f.wide) f.instr_bound
+    → (turn : IsSampleTurn f.memory_map b (width_of f.wide) f.instr_bound
     (image_memory f.image.bytes) flags before bytes s t)
-    → IsSampleRun f flags (given f.layout bytes s) turn.looked t
+    → IsSampleRun f flags (given f.memory_map bytes s) turn.looked t
 sample_run law steps b f flags before bytes s t h fits free turn =
-    let l = f.layout in
+    let l = f.memory_map in
     let image = image_memory f.image.bytes in
     let g = given l bytes s in
     let n = length b.inputs in
@@ -174,7 +175,7 @@ sample_run law steps b f flags before bytes s t h fits free turn =
     let m = all_steps turned.ds in
     let c = calls law f flags n g turn.looked turn.chosen turn.called free turn.look turn.choice turn.on copy in
     let serving = steps is_postable l image flags turned.ds turn.called t fits turned.execution in
-    let opens : is_postable l.ready ≡ true = ap (λ (k : Layout). is_postable k.ready) h.layout in
+    let opens : is_postable l.ready ≡ true = ap (λ (k : MemoryMap). is_postable k.ready) h.memory_map in
     let b4 = served f flags m turn.called opens serving.each copy.cleared in
     let end = served_steps f flags turned.ds turn.called t serving b4 in
     let some = some_steps f flags n turned.ds turn.called t end called_at.pc back.pc in
@@ -185,7 +186,7 @@ sample_run law steps b f flags before bytes s t h fits free turn =
     record {
       ds = ds;
       next = c.next;
-      steps = steps_on (IsOnWay l flags) flags (0 ∷ 0 ∷ copy.ds) turned.ds turn.looked turn.called t c.steps end;
+      steps = steps_on (IsBusy l flags) flags (0 ∷ 0 ∷ copy.ds) turned.ds turn.looked turn.called t c.steps end;
       run = subst (λ (k : ℕ). IsAnswerRun f flags k g) sum
           (answer_run f flags n m g turn.looked turn.chosen turn.called h.inputs copy c some
           (omega (arith, turned.steps, bound)) b4);

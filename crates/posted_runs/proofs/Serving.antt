@@ -13,17 +13,17 @@ use Rattle.cpu12_emul.specs.Step.{Left, Next, applied, next_of}
 use Rattle.run_law.specs.Uninterrupted.{stepped, state_by}
 use Rattle.run_law.specs.Soundness.{Before}
 use Rattle.codegen.specs.declared.firmware.Firmware.{Firmware}
-use Rattle.eval_code.specs.declared.layout.Layout.{Layout}
+use Rattle.eval_code.specs.declared.memory_map.MemoryMap.{MemoryMap}
 use Rattle.codegen.specs.Interruptible.{is_idle}
 use Rattle.codegen.specs.Mailboxes.{is_postable}
 use Rattle.instruction_steps.specs.Facts.{Facts, FactsBeside}
 use Rattle.instruction_steps.specs.Instructions.{IsServing}
-use Rattle.posted_runs.proofs.WholeTurns.{IsOnWay}
+use Rattle.posted_runs.proofs.WholeTurns.{IsBusy}
 
 -- a state behind the call, in which no sample is posted
 pub record IsServed (f : Firmware) (flags : ℕ) (s : State) : Type 0 where
-  pub serving : IsServing is_postable f.layout (image_memory f.image.bytes) flags s
-  pub cleared : get_or s.mem f.layout.ready 0 ≡ 0
+  pub serving : IsServing is_postable f.memory_map (image_memory f.image.bytes) flags s
+  pub cleared : get_or s.mem f.memory_map.ready 0 ≡ 0
 
 not_written : (hidden : ℕ → Bool) (ws : List (ℕ × ℕ)) (at : ℕ) → AllShown hidden (addresses ws) → hidden at ≡ true
     → IsWritten ws at → ⊥
@@ -55,28 +55,28 @@ open_stays flags at s facts h =
     ap (λ (u : State). get_or u.mem at 0) (ap (state_by s) goes)
     ∙ unwritten left.writes s.mem at (not_written hidden left.writes at facts.writes is)
 
-pub served : (f : Firmware) (flags n : ℕ) (s : State) → is_postable f.layout.ready ≡ true
-    → Before (IsServing is_postable f.layout (image_memory f.image.bytes) flags) flags n s
-    → get_or s.mem f.layout.ready 0 ≡ 0
+pub served : (f : Firmware) (flags n : ℕ) (s : State) → is_postable f.memory_map.ready ≡ true
+    → Before (IsServing is_postable f.memory_map (image_memory f.image.bytes) flags) flags n s
+    → get_or s.mem f.memory_map.ready 0 ≡ 0
     → Before (IsServed f flags) flags n s
 served f flags zero s h b e k l = absurd (omega arith)
 served f flags (suc n) s h b e zero l = record { serving = b 0 (omega arith); cleared = e }
 served f flags (suc n) s h b e (suc k) l =
     let one = b 0 (omega arith) in
     served f flags n (stepped flags s) h (λ j i. b (suc j) (omega arith))
-    (open_stays flags f.layout.ready s one.facts h ∙ e) k (omega arith)
+    (open_stays flags f.memory_map.ready s one.facts h ∙ e) k (omega arith)
 
-waits_there : (l : Layout) (s : State) → s.regs.pc ≡ l.wait → get_or s.mem l.ready 0 ≡ 0 → is_idle l s ≡ true
+waits_there : (l : MemoryMap) (s : State) → s.regs.pc ≡ l.wait → get_or s.mem l.ready 0 ≡ 0 → is_idle l s ≡ true
 waits_there l s e h = grind (arith, nat_tests)
 
-pub on_way_by : (f : Firmware) (flags : ℕ) (s : State) → IsServed f flags s → IsOnWay f.layout flags s
-on_way_by f flags s h =
+pub busy_by : (f : Firmware) (flags : ℕ) (s : State) → IsServed f flags s → IsBusy f.memory_map flags s
+busy_by f flags s h =
     let serving = h.serving in
     let next = next_by flags s serving.facts in
     record {
       next = next.0;
       goes = next.1;
-      away = λ e. absurd (let z : true ≡ false = sym (waits_there f.layout s e h.cleared) ∙ serving.busy in cc);
+      away = λ e. absurd (let z : true ≡ false = sym (waits_there f.memory_map s e h.cleared) ∙ serving.busy in cc);
     }
 
 pub facts_by : (f : Firmware) (flags : ℕ) (s : State) → IsServed f flags s → FactsBeside is_postable flags f s

@@ -68,7 +68,7 @@ turn_run : (b : Block) (f : Firmware) (flags : ℕ) (samples : List (List ℕ)) 
     (s s2 : State) → Waits b f before s
     → Waits b f after s2 → ended flags f samples t s ≡ s2
     → (t.sample ≡ 0 → (t.steps ≡ 0) ⊎ ((t.steps ≡ 2) × IsIdleRun f flags s))
-    → (t.sample ≢ 0 → IsAnswerRun f flags t.steps (given f.layout (bytes_of samples t.sample) s))
+    → (t.sample ≢ 0 → IsAnswerRun f flags t.steps (given f.memory_map (bytes_of samples t.sample) s))
     → IsTurnRun f flags samples t s
 turn_run b f flags samples before after t s s2 h end at rests answers =
     let w : Waits b f after (ended flags f samples t s) = subst (Waits b f after) (sym at) end in
@@ -110,13 +110,13 @@ put_rest flags f samples t ts s s2 u z at run r =
 put_answer : (b : Block) (flags : ℕ) (f : Firmware) (samples : List (List ℕ)) (before : ℕ → ℕ) (t : Turn)
     (ts : List Turn) (s u : State) → 1 ≤ t.sample
     → Waits b f before s → Answered b f flags samples before t.sample s u t.steps
-    → AllRun flags f samples ts (uninterrupted flags t.steps (given f.layout (bytes_of samples t.sample) s))
+    → AllRun flags f samples ts (uninterrupted flags t.steps (given f.memory_map (bytes_of samples t.sample) s))
     (answered_alone flags f samples t.sample u).state
     → AllRun flags f samples (t ∷ ts) s u
 unfolding Answers
 put_answer b flags f samples before t ts s u some h a r =
     let k = t.sample in
-    let g = given f.layout (bytes_of samples k) s in
+    let g = given f.memory_map (bytes_of samples k) s in
     let s2 = uninterrupted flags t.steps g in
     let e = is_some k some in
     let begins : begun f samples t s ≡ g = rw e refl in
@@ -172,10 +172,10 @@ answered_stands : (b : Block) (f : Firmware) (flags : ℕ) (samples : List (List
     (k n : ℕ) (s : State)
     → Answered b f flags samples before k s (chain flags f samples (arrival f samples flags).state done) n
     → Stands b f flags samples (λ o. answer (width_of f.wide) b o (bytes_of samples k) (before o)) (done ++ k ∷ [])
-    (uninterrupted flags n (given f.layout (bytes_of samples k) s))
+    (uninterrupted flags n (given f.memory_map (bytes_of samples k) s))
 answered_stands b f flags samples before done k n s a =
     let first = (arrival f samples flags).state in
-    let s2 = uninterrupted flags n (given f.layout (bytes_of samples k) s) in
+    let s2 = uninterrupted flags n (given f.memory_map (bytes_of samples k) s) in
     let is : s2 ≡ chain flags f samples first (done ++ k ∷ []) =
     sym a.state ∙ sym (chain_more flags f samples first done k) in
     record {
@@ -237,7 +237,7 @@ all_run b f flags samples before done (t ∷ ts) s x h have =
           sym (has.answers (λ z. omega (arith, z, some)) ∙ steps_more flags f samples first done k ∙ a.1.steps) in
           let one : Answered b f flags samples before k s u t.steps =
           subst (Answered b f flags samples before k s u) steps a.1 in
-          let s2 = uninterrupted flags t.steps (given f.layout (bytes_of samples k) s) in
+          let s2 = uninterrupted flags t.steps (given f.memory_map (bytes_of samples k) s) in
           let later = all_run b f flags samples (λ o. answer (width_of f.wide) b o (bytes_of samples k) (before o))
           (done ++ k ∷ []) ts s2 x
           (answered_stands b f flags samples before done k t.steps s one) (subst rest e have.1) in

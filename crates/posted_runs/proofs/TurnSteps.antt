@@ -37,15 +37,15 @@ pub record Setting (b : Block) (f : Firmware) (flags : ℕ) (samples : List (Lis
   pub instructions_are_steps : InstructionsAreSteps
   pub mailbox : IsMailboxOf b f
   pub fits : flags < 2 ^ 8
-  pub turns : TakesTurns f.layout b (width_of f.wide) f.instr_bound (image_memory f.image.bytes) flags
-  pub takes : TakesSamples f.layout b (width_of f.wide) f.instr_bound (image_memory f.image.bytes) flags
+  pub turns : TakesTurns f.memory_map b (width_of f.wide) f.instr_bound (image_memory f.image.bytes) flags
+  pub takes : TakesSamples f.memory_map b (width_of f.wide) f.instr_bound (image_memory f.image.bytes) flags
   pub bytes : All (AreInputBytes b) samples
 
 -- the code waits, no sample is posted, and the outputs are the answers before
 pub record Waits (b : Block) (f : Firmware) (before : ℕ → ℕ) (s : State) : Type 0 where
-  pub at : IsAt (image_memory f.image.bytes) f.layout.wait s
-  pub cleared : get_or s.mem f.layout.ready 0 ≡ 0
-  pub outputs : HasAnswers f.layout b (width_of f.wide) before s.mem
+  pub at : IsAt (image_memory f.image.bytes) f.memory_map.wait s
+  pub cleared : get_or s.mem f.memory_map.ready 0 ≡ 0
+  pub outputs : HasAnswers f.memory_map b (width_of f.wide) before s.mem
 
 -- an idle turn
 pub record Idled (b : Block) (f : Firmware) (flags : ℕ) (before : ℕ → ℕ) (s t : State) : Type 0 where
@@ -61,7 +61,7 @@ pub idled : (b : Block) (f : Firmware) (flags : ℕ) (samples : List (List ℕ))
     → Setting b f flags samples → Waits b f before s
     → (t : State) × Idled b f flags before s t
 idled b f flags samples before s x h =
-    let l = f.layout in
+    let l = f.memory_map in
     let image = image_memory f.image.bytes in
     let at = h.at in
     let state = at.steady in
@@ -98,14 +98,15 @@ idled b f flags samples before s x h =
 -- A turn that answers sample k from s, in n steps, where u is like s.
 pub record Answered (b : Block) (f : Firmware) (flags : ℕ) (samples : List (List ℕ)) (before : ℕ → ℕ) (k : ℕ)
     (s u : State) (n : ℕ) : Type 0 where
-  pub run : IsAnswerRun f flags n (given f.layout (bytes_of samples k) s)
+  pub run : IsAnswerRun f flags n (given f.memory_map (bytes_of samples k) s)
   pub steps : (answered_alone flags f samples k u).steps ≡ n
-  pub state : (answered_alone flags f samples k u).state ≡ uninterrupted flags n (given f.layout (bytes_of samples k) s)
+  pub state : (answered_alone flags f samples k u).state
+      ≡ uninterrupted flags n (given f.memory_map (bytes_of samples k) s)
   pub waits : Waits b f (λ o. answer (width_of f.wide) b o (bytes_of samples k) (before o))
-      (uninterrupted flags n (given f.layout (bytes_of samples k) s))
+      (uninterrupted flags n (given f.memory_map (bytes_of samples k) s))
   pub answer_is : IsAnswerTo f flags (bytes_of samples k) u (answered_alone flags f samples k u).state (record {
-    values = values_in f (uninterrupted flags n (given f.layout (bytes_of samples k) s));
-    instructions = counted flags n (given f.layout (bytes_of samples k) s);
+    values = values_in f (uninterrupted flags n (given f.memory_map (bytes_of samples k) s));
+    instructions = counted flags n (given f.memory_map (bytes_of samples k) s);
   })
 
 -- the turn from one state
@@ -114,21 +115,22 @@ record Single (b : Block) (f : Firmware) (flags : ℕ) (samples : List (List ℕ
   t : State
   ds : List ℕ
   looked : State
-  look : IsLook f.layout (image_memory f.image.bytes) flags (given f.layout (bytes_of samples k) s) looked
-  next : next_of flags (given f.layout (bytes_of samples k) s) ≡ Ok (record { state = looked; kind = Plain })
+  look : IsLook f.memory_map (image_memory f.image.bytes) flags (given f.memory_map (bytes_of samples k) s) looked
+  next : next_of flags (given f.memory_map (bytes_of samples k) s) ≡ Ok (record { state = looked; kind = Plain })
   counts : counted flags (all_steps ds) looked ≡ length ds
-  goes : uninterrupted flags (suc (all_steps ds)) (given f.layout (bytes_of samples k) s) ≡ t
-  run : IsAnswerRun f flags (suc (all_steps ds)) (given f.layout (bytes_of samples k) s)
-  until : IsUntil (is_idle f.layout) flags (0 ∷ ds) (given f.layout (bytes_of samples k) s) t
+  goes : uninterrupted flags (suc (all_steps ds)) (given f.memory_map (bytes_of samples k) s) ≡ t
+  run : IsAnswerRun f flags (suc (all_steps ds)) (given f.memory_map (bytes_of samples k) s)
+  until : IsUntil (is_idle f.memory_map) flags (0 ∷ ds) (given f.memory_map (bytes_of samples k) s) t
   waits : Waits b f (λ o. answer (width_of f.wide) b o (bytes_of samples k) (before o)) t
-  ran : IsAlone flags (suc (all_steps ds)) (given f.layout (bytes_of samples k) s) (answered_alone flags f samples k s)
+  ran : IsAlone flags (suc (all_steps ds)) (given f.memory_map (bytes_of samples k) s)
+      (answered_alone flags f samples k s)
 
 single : (b : Block) (f : Firmware) (flags : ℕ) (samples : List (List ℕ)) (before : ℕ → ℕ) (k : ℕ) (s : State)
     → Setting b f flags samples
     → AreInputBytes b (bytes_of samples k) → Waits b f before s → Single b f flags samples before k s
 single b f flags samples before k s x i h =
     let bytes = bytes_of samples k in
-    let g = given f.layout bytes s in
+    let g = given f.memory_map bytes s in
     let at = h.at in
     let state = at.steady in
     let takes = x.takes in
@@ -170,19 +172,19 @@ pub answered : (b : Block) (f : Firmware) (flags : ℕ) (samples : List (List �
     → (n : ℕ) × Answered b f flags samples before k s u n
 answered b f flags samples before k s u x i hs hu alike =
     let bytes = bytes_of samples k in
-    let g = given f.layout bytes s in
+    let g = given f.memory_map bytes s in
     let a = single b f flags samples before k s x i hs in
     let c = single b f flags samples before k u x i hu in
     let looks : a.looked ≡ c.looked =
-    same_look f.layout (image_memory f.image.bytes) flags bytes s u a.looked c.looked a.look c.look alike in
+    same_look f.memory_map (image_memory f.image.bytes) flags bytes s u a.looked c.looked a.look c.look alike in
     let n = suc (all_steps a.ds) in
     let m = suc (all_steps c.ds) in
     let run = a.run in
     let ran = a.ran in
     let ran' = c.ran in
-    let next : next_of flags (given f.layout bytes u) ≡ Ok (record { state = a.looked; kind = Plain }) =
+    let next : next_of flags (given f.memory_map bytes u) ≡ Ok (record { state = a.looked; kind = Plain }) =
     c.next ∙ ap plain (sym looks) in
-    let same = same_alone flags f samples f.step_bound g (given f.layout bytes u)
+    let same = same_alone flags f samples f.step_bound g (given f.memory_map bytes u)
     (record { state = a.looked; kind = Plain }) (let le = run.within in omega (arith, le)) a.next next in
     let steps : (answered_alone flags f samples k u).steps ≡ n = sym same.0 ∙ ran.steps in
     let state : (answered_alone flags f samples k u).state ≡ uninterrupted flags n g = sym same.1 ∙ ran.state in
@@ -200,7 +202,7 @@ answered b f flags samples before k s u x i hs hu alike =
         waits = subst (Waits b f (λ o. answer (width_of f.wide) b o bytes (before o))) (sym a.goes) a.waits;
         answer_is = record {
           ds = 0 ∷ c.ds;
-          until = subst (IsUntil (is_idle f.layout) flags (0 ∷ c.ds) (given f.layout bytes u)) end c.until;
+          until = subst (IsUntil (is_idle f.memory_map) flags (0 ∷ c.ds) (given f.memory_map bytes u)) end c.until;
           values = ap (values_in f) (sym state);
           instructions = counts;
         };

@@ -121,7 +121,7 @@ and_no false = refl
 abbrev turn : ℕ → ℕ → ℕ → List (ℕ × Post) → Turn
 turn g k steps taken = record { begin = g; sample = k; steps = steps; taken = taken }
 
-module _ (laws : TurnLaws) (flags : ℕ) (f : Firmware) (samples : List (List ℕ)) (n : ℕ) (box : IsBox f.layout n)
+module _ (laws : TurnLaws) (flags : ℕ) (f : Firmware) (samples : List (List ℕ)) (n : ℕ) (box : IsBox f.memory_map n)
     (size : AreOfSize n samples) (last : ℕ) where
   abbrev image : List ℕ
   image = image_memory f.image.bytes
@@ -134,16 +134,16 @@ module _ (laws : TurnLaws) (flags : ℕ) (f : Firmware) (samples : List (List �
     pub within : w ≤ length samples
     pub good : AllGood (IsGoodPost (length samples)) posts
     pub rise : Rise g posts
-    pub same : Same is_free v (posted f.layout samples w s)
+    pub same : Same is_free v (posted f.memory_map samples w s)
 
   -- no sample waits, and no post is left
-  pub over_turn : (m g w : ℕ) (posts : List Post) (s v : State) → Begins g w posts s v → IsAt image f.layout.wait s
-      → get_or s.mem f.layout.ready 0 ≡ 0
+  pub over_turn : (m g w : ℕ) (posts : List Post) (s v : State) → Begins g w posts s v → IsAt image f.memory_map.wait s
+      → get_or s.mem f.memory_map.ready 0 ≡ 0
       → waiting w (up_to g posts) ≡ 0 → behind g posts ≡ []
       → run (suc m) g w posts v ≡ run_of_turns flags f samples
       (record { begin = g; sample = 0; steps = 0; taken = taken_from g posts } ∷ []) s
   over_turn m g w posts s v h at cleared none left =
-      let here = here_at image f.layout.wait s at in
+      let here = here_at image f.memory_map.wait s at in
       let r = here.ready in
       let taking = laws.posting.taking in
       let b = takes (turn_form flags f samples g) g posts v in
@@ -154,12 +154,13 @@ module _ (laws : TurnLaws) (flags : ℕ) (f : Firmware) (samples : List (List �
       b.state) none t.stands in
       let sp = at.sp in
       let at_ready = box.ready in
-      let free : is_hidden is_free s.regs.sp f.layout.ready ≡ false =
-      (let a : is_free f.layout.ready ≡ false = grind (arith, nat_tests) in
-      let c : (nat_le 0x1FE0 f.layout.ready && nat_lt f.layout.ready s.regs.sp) ≡ false =
+      let free : is_hidden is_free s.regs.sp f.memory_map.ready ≡ false =
+      (let a : is_free f.memory_map.ready ≡ false = grind (arith, nat_tests) in
+      let c : (nat_le 0x1FE0 f.memory_map.ready && nat_lt f.memory_map.ready s.regs.sp) ≡ false =
       grind (arith, nat_tests) in rw (a, c) refl) in
-      let zero_there : get_or b.state.mem f.layout.ready 0 ≡ 0 = stands.mem.bytes f.layout.ready free ∙ cleared in
-      let done : is_over f.layout b ≡ true =
+      let zero_there : get_or b.state.mem f.memory_map.ready 0 ≡ 0 = stands.mem.bytes f.memory_map.ready free
+      ∙ cleared in
+      let done : is_over f.memory_map b ≡ true =
       ap₂ (λ (xs : List Post) (k : ℕ). is_empty xs && (k == 0)) (t.left ∙ left) zero_there in
       let all : up_to g posts ≡ posts = sym (append-nil (up_to g posts))
       ∙ ap (λ (xs : List Post). up_to g posts ++ xs) (sym left) ∙ split g posts in
@@ -185,14 +186,14 @@ module _ (laws : TurnLaws) (flags : ℕ) (f : Firmware) (samples : List (List �
     pub goes : run (suc m) g w posts v ≡ before_turns (answer_of flags f samples t s) (frames_in flags f samples t s)
         (resumed_in flags f samples t s) (run m g2 w2 posts2 state)
 
-  pub idle_turn : (m g w : ℕ) (posts : List Post) (s v : State) → Begins g w posts s v → IsAt image f.layout.wait s
+  pub idle_turn : (m g w : ℕ) (posts : List Post) (s v : State) → Begins g w posts s v → IsAt image f.memory_map.wait s
       → g + 2 ≤ last
       → waiting w (up_to g posts) ≡ 0 → behind g posts ≢ [] → IsIdleRun f flags s
-      → IsAt image f.layout.wait (uninterrupted flags 2 s)
+      → IsAt image f.memory_map.wait (uninterrupted flags 2 s)
       → Next m g w posts s v (turn g 0 2 (taken_from g (up_to (g + 1) posts))) (g + 2) (waiting w (up_to (g + 1) posts))
       (behind (g + 1) posts)
   idle_turn m g w posts s v h at bound none some idle_run end =
-      let here = here_at image f.layout.wait s at in
+      let here = here_at image f.memory_map.wait s at in
       let r = here.ready in
       let taking = laws.posting.taking in
       let form = turn_form flags f samples g in
@@ -202,12 +203,12 @@ module _ (laws : TurnLaws) (flags : ℕ) (f : Firmware) (samples : List (List �
       let q0 = behind g posts in
       let a0 = up_to g posts in
       let a1 = up_to (g + 1) q0 in
-      let on : is_over f.layout b ≡ false =
-      ap (λ (xs : List Post). is_empty xs && (get_or b.state.mem f.layout.ready 0 == 0)) tk.left
-      ∙ ap (λ (x : Bool). x && (get_or b.state.mem f.layout.ready 0 == 0)) (some_left q0 some) in
+      let on : is_over f.memory_map b ≡ false =
+      ap (λ (xs : List Post). is_empty xs && (get_or b.state.mem f.memory_map.ready 0 == 0)) tk.left
+      ∙ ap (λ (x : Bool). x && (get_or b.state.mem f.memory_map.ready 0 == 0)) (some_left q0 some) in
       let st = tk.stands in
-      let st0 : Same is_free b.state (record s { mem = mailed f.layout samples 0 s.mem }) =
-      subst (λ (x : ℕ). Same is_free b.state (record s { mem = mailed f.layout samples x s.mem })) none st in
+      let st0 : Same is_free b.state (record s { mem = mailed f.memory_map samples 0 s.mem }) =
+      subst (λ (x : ℕ). Same is_free b.state (record s { mem = mailed f.memory_map samples x s.mem })) none st in
       let same0 : Same is_free b.state s = record { regs = st0.regs; temps = st0.temps; mem = st0.mem } in
       let rise0 : Rise (suc g) q0 = rise_behind g g posts h.rise in
       let due0 : up_to g q0 ≡ [] = none_due g (suc g) q0 (omega arith) rise0 in
@@ -227,7 +228,7 @@ module _ (laws : TurnLaws) (flags : ℕ) (f : Firmware) (samples : List (List �
       let left_is : behind (g + 1) q0 ≡ behind (g + 1) posts = behind_behind g (g + 1) posts (omega arith) in
       let look = idle_run.look in
       let looked_at = look.at in
-      let looked_here = here_at image (f.layout.wait + 3) idle_run.looked look.at in
+      let looked_here = here_at image (f.memory_map.wait + 3) idle_run.looked look.at in
       let lr = looked_here.ready in
       let step = look.step in
       let inside : (k : ℕ) → k < 2 → is_inside flags s k ≡ false =
@@ -254,7 +255,7 @@ module _ (laws : TurnLaws) (flags : ℕ) (f : Firmware) (samples : List (List �
           good = good_behind (IsGoodPost (length samples)) (g + 1) posts h.good;
           rise = (let e : suc (g + 1) ≡ g + 2 = omega arith in
               subst (λ (x : ℕ). Rise x (behind (g + 1) posts)) e (rise_behind g (g + 1) posts h.rise));
-          same = subst (λ (x : ℕ). Same is_free res.last (posted f.layout samples x (uninterrupted flags 2 s))) w_is
+          same = subst (λ (x : ℕ). Same is_free res.last (posted f.memory_map samples x (uninterrupted flags 2 s))) w_is
               res.mailed;
         };
         goes = e1 ∙ e2 ∙ e3
@@ -269,11 +270,11 @@ module _ (laws : TurnLaws) (flags : ℕ) (f : Firmware) (samples : List (List �
       outside_two s e (suc (suc k)) lt = absurd (omega arith)
 
   -- a sample's turn begins in the state in which it is posted
-  given_is : (k : ℕ) (s : State) → 1 ≤ k → given f.layout (bytes_of samples k) s ≡ posted f.layout samples k s
+  given_is : (k : ℕ) (s : State) → 1 ≤ k → given f.memory_map (bytes_of samples k) s ≡ posted f.memory_map samples k s
   given_is k s h = (let e : (k == 0) ≡ false = grind (arith, nat_tests) in rw e refl)
 
   begun_is : (b : Bool) (k : ℕ) (s : State) → (k == 0) ≡ b → 1 ≤ k
-      → (if b then s else given f.layout (bytes_of samples k) s) ≡ posted f.layout samples k s
+      → (if b then s else given f.memory_map (bytes_of samples k) s) ≡ posted f.memory_map samples k s
   begun_is true k s e h = absurd (grind (arith, nat_tests))
   begun_is false k s e h = given_is k s h
 
@@ -281,15 +282,15 @@ module _ (laws : TurnLaws) (flags : ℕ) (f : Firmware) (samples : List (List �
   nonzero k h = grind (arith, nat_tests)
 
   -- a turn that answers
-  module _ (outputs : f.layout.outputs + places (width_of f.wide) * f.outputs ≤ 0x1020) (inputs : f.inputs ≡ n)
+  module _ (outputs : f.memory_map.outputs + places (width_of f.wide) * f.outputs ≤ 0x1020) (inputs : f.inputs ≡ n)
       (m g w all : ℕ) (posts : List Post) (s v : State)
-      (h : Begins g w posts s v) (at : IsAt image f.layout.wait s) (bound : g + all ≤ last)
+      (h : Begins g w posts s v) (at : IsAt image f.memory_map.wait s) (bound : g + all ≤ last)
       (waits : waiting w (up_to g posts) ≢ 0) where
     abbrev k0 : ℕ
     k0 = waiting w (up_to (g + 2) posts)
 
     abbrev u : State
-    u = posted f.layout samples k0 s
+    u = posted f.memory_map samples k0 s
 
     abbrev q0 : List Post
     q0 = behind g posts
@@ -337,7 +338,7 @@ module _ (laws : TurnLaws) (flags : ℕ) (f : Firmware) (samples : List (List �
         ++ (map (λ p. (g + 2, plain_frame (let t : State = run1.chosen in t.regs))) a2
         ++ frames_from g (frames_after flags (part_taken flags g all u) u None c2))
 
-    answer_turn : 1 ≤ k0 → (run1 : IsAnswerRun f flags all u) → IsAt image f.layout.wait (uninterrupted flags all u)
+    answer_turn : 1 ≤ k0 → (run1 : IsAnswerRun f flags all u) → IsAt image f.memory_map.wait (uninterrupted flags all u)
         → (z : State) × (Begins (g + all) (waiting 0 c2) (behind e q2) (uninterrupted flags all u) z
         × (run (suc m) g w posts v ≡ before_turns (seen_from u ∷ [])
         (map (λ p. (g, plain_frame s.regs)) a0
@@ -346,7 +347,7 @@ module _ (laws : TurnLaws) (flags : ℕ) (f : Firmware) (samples : List (List �
         ++ frames_from g (frames_after flags (part_taken flags g all u) u None c2))))
         (resumed_of flags (part_taken flags g all u) u q2 all) (run m (g + all) (waiting 0 c2) (behind e q2) z)))
     answer_turn some0 run1 end =
-        let here = here_at image f.layout.wait s at in
+        let here = here_at image f.memory_map.wait s at in
         let r = here.ready in
         let taking = laws.posting.taking in
         let form = turn_form flags f samples g in
@@ -360,10 +361,11 @@ module _ (laws : TurnLaws) (flags : ℕ) (f : Firmware) (samples : List (List �
         let st = tk.stands in
         let ready = box.ready in
         let sp = at.sp in
-        let free : is_hidden is_free s.regs.sp f.layout.ready ≡ false = ready_shown s.regs.sp f.layout.ready ready in
-        let one : get_or b.state.mem f.layout.ready 0 ≡ 1 = st.mem.bytes f.layout.ready free
+        let free : is_hidden is_free s.regs.sp f.memory_map.ready ≡ false = ready_shown s.regs.sp f.memory_map.ready
+        ready in
+        let one : get_or b.state.mem f.memory_map.ready 0 ≡ 1 = st.mem.bytes f.memory_map.ready free
         ∙ posted_is laws.posting.steps taking flags f samples n g image box size s.mem r.size v0 some le0 in
-        let on : is_over f.layout b ≡ false = ap (λ (x : ℕ). is_empty b.left && (x == 0)) one
+        let on : is_over f.memory_map b ≡ false = ap (λ (x : ℕ). is_empty b.left && (x == 0)) one
         ∙ and_no (is_empty b.left) in
         let rise0 : Rise (suc g) q0 = rise_behind g g posts h.rise in
         let rise1 : Rise (g + 1) q0 = (let d : suc g ≡ g + 1 = omega arith in subst (λ (x : ℕ). Rise x q0) d rise0) in
@@ -393,7 +395,7 @@ module _ (laws : TurnLaws) (flags : ℕ) (f : Firmware) (samples : List (List �
         let same = res.same in
         let values : values_in f res.last ≡ values_in f (uninterrupted flags all u) =
         values_alike (width_of f.wide) res.last.mem (uninterrupted flags all u).mem
-        (uninterrupted flags all u).regs.sp f.layout.outputs f.outputs same.mem outputs in
+        (uninterrupted flags all u).regs.sp f.memory_map.outputs f.outputs same.mem outputs in
         let ans : answers_by f samples g v0 ts (g + all) (counted flags all u) res.last ≡ seen_from u ∷ [] =
         answered_by v0 ts (counted flags all u) res.last (nonzero v0 some)
         ∙ ap₂ (λ (x : ℕ) (vs : List ℕ). record
@@ -457,23 +459,23 @@ module _ (laws : TurnLaws) (flags : ℕ) (f : Firmware) (samples : List (List �
         (append_assoc (taken_from g a1) (taken_from g a2) (taken_from (g + 5 + n) c2))
 
     -- the turn comes to what it is without interrupts
-    pub answer_next : 1 ≤ k0 → IsAnswerRun f flags all (given f.layout (bytes_of samples k0) s)
-        → IsAt image f.layout.wait (ended flags f samples shown s)
+    pub answer_next : 1 ≤ k0 → IsAnswerRun f flags all (given f.memory_map (bytes_of samples k0) s)
+        → IsAt image f.memory_map.wait (ended flags f samples shown s)
         → Next m g w posts s v shown (g + all) (waiting 0 (up_to e (behind (g + 2) posts)))
         (behind e (behind (g + 2) posts))
     answer_next some0 given_run end =
-        let gu : given f.layout (bytes_of samples k0) s ≡ u = given_is k0 s some0 in
+        let gu : given f.memory_map (bytes_of samples k0) s ≡ u = given_is k0 s some0 in
         let bu : begun f samples shown s ≡ u = begun_is (k0 == 0) k0 s refl some0 in
         let run1 : IsAnswerRun f flags all u = subst (λ (x : State). IsAnswerRun f flags all x) gu given_run in
-        let end1 : IsAt image f.layout.wait (uninterrupted flags all u) =
-        subst (λ (x : State). IsAt image f.layout.wait (uninterrupted flags all x)) bu end in
+        let end1 : IsAt image f.memory_map.wait (uninterrupted flags all u) =
+        subst (λ (x : State). IsAt image f.memory_map.wait (uninterrupted flags all x)) bu end in
         let r = answer_turn some0 run1 end1 in
-        let here = here_at image f.layout.wait s at in
+        let here = here_at image f.memory_map.wait s at in
         let hr = here.ready in
         let taking = laws.posting.taking in
         let writing = taking.writing in
         let lk0 = waits_within (length samples) (g + 2) w posts h.within h.good in
-        let apart = mailed_apart writing f.layout n samples box size is_free k0 s.mem lk0 in
+        let apart = mailed_apart writing f.memory_map n samples box size is_free k0 s.mem lk0 in
         let here_u : IsHere u =
         record {
           ready = record {
@@ -490,8 +492,8 @@ module _ (laws : TurnLaws) (flags : ℕ) (f : Firmware) (samples : List (List �
         } in
         let c = copy_run laws.posting.steps flags f n all inputs u here_u run1 in
         let look = run1.look in
-        let h1 = here_at image (f.layout.wait + 3) run1.looked look.at in
-        let h2 = here_at image (f.layout.wait + 5) run1.chosen run1.on in
+        let h1 = here_at image (f.memory_map.wait + 3) run1.looked look.at in
+        let h2 = here_at image (f.memory_map.wait + 5) run1.chosen run1.on in
         let r1 = h1.ready in
         let r2 = h2.ready in
         let rise0 : Rise (g + 1) q0 =

@@ -84,33 +84,35 @@ here_at image at s h =
     }
 
 module _ (steps : StepLaws) (laws : TakingLaws) (flags : ℕ) (f : Firmware) (samples : List (List ℕ)) (n g : ℕ)
-    (image : List ℕ) (box : IsBox f.layout n) (size : AreOfSize n samples)
+    (image : List ℕ) (box : IsBox f.memory_map n) (size : AreOfSize n samples)
     (base : List ℕ) (base_size : length base ≡ 65536) where
   abbrev form : TurnForm
   form = turn_form flags f samples g
 
   -- v stands for a state t with sample w in the mailbox
   abbrev pub Stands : State → ℕ → State → Type 0
-  Stands t w v = Same is_free v (record t { mem = mailed f.layout samples w base })
+  Stands t w v = Same is_free v (record t { mem = mailed f.memory_map samples w base })
 
-  sized : (w : ℕ) → w ≤ length samples → length (mailed f.layout samples w base) ≡ 65536
-  sized w le = (let a = mailed_apart laws.writing f.layout n samples box size is_free w base le in a.size ∙ base_size)
+  sized : (w : ℕ) → w ≤ length samples → length (mailed f.memory_map samples w base) ≡ 65536
+  sized w le = (let a = mailed_apart laws.writing f.memory_map n samples box size is_free w base le in a.size
+      ∙ base_size)
 
   -- POSTED is 1 where a sample is in the mailbox
   posted_by : (b : Bool) (w : ℕ) → (w == 0) ≡ b → 1 ≤ w
-      → length (set (put base f.layout.samples (bytes_of samples w)) f.layout.ready 1) ≡ 65536
-      → get_or (mailed f.layout samples w base) f.layout.ready 0 ≡ 1
+      → length (set (put base f.memory_map.samples (bytes_of samples w)) f.memory_map.ready 1) ≡ 65536
+      → get_or (mailed f.memory_map samples w base) f.memory_map.ready 0 ≡ 1
   posted_by true w e some le = absurd (grind (arith, nat_tests))
   posted_by false w e some le =
-      let m = put base f.layout.samples (bytes_of samples w) in
+      let m = put base f.memory_map.samples (bytes_of samples w) in
       let ready = box.ready in
-      let len = length-set m f.layout.ready 1 in
-      rw e (get_or-set_same m f.layout.ready 1 0 (omega (arith, ready, len, le)))
+      let len = length-set m f.memory_map.ready 1 in
+      rw e (get_or-set_same m f.memory_map.ready 1 0 (omega (arith, ready, len, le)))
 
-  pub posted_is : (w : ℕ) → 1 ≤ w → w ≤ length samples → get_or (mailed f.layout samples w base) f.layout.ready 0 ≡ 1
+  pub posted_is : (w : ℕ) → 1 ≤ w → w ≤ length samples → get_or (mailed f.memory_map samples w base) f.memory_map.ready
+      0 ≡ 1
   posted_is w some le =
       let e : (w == 0) ≡ false = grind (arith, nat_tests) in
-      let s : length (set (put base f.layout.samples (bytes_of samples w)) f.layout.ready 1) ≡ 65536 =
+      let s : length (set (put base f.memory_map.samples (bytes_of samples w)) f.memory_map.ready 1) ≡ 65536 =
       rw e at (sized w le) in
       posted_by (w == 0) w refl some s
 
@@ -118,11 +120,11 @@ module _ (steps : StepLaws) (laws : TakingLaws) (flags : ℕ) (f : Firmware) (sa
   look_hidden : ℕ → ℕ → Bool
   look_hidden sp q = wide (is_hidden is_free sp) n q && not (q == 0x1028)
 
-  pub looks_on : (y t v : State) (w k : ℕ) → IsHere y → IsLook f.layout image flags y t → w ≤ length samples
+  pub looks_on : (y t v : State) (w k : ℕ) → IsHere y → IsLook f.memory_map image flags y t → w ≤ length samples
       → k ≤ length samples
-      → y.mem ≡ mailed f.layout samples k base
-      → get_or (mailed f.layout samples w base) f.layout.ready 0 ≡ get_or
-      (mailed f.layout samples k base) f.layout.ready 0
+      → y.mem ≡ mailed f.memory_map samples k base
+      → get_or (mailed f.memory_map samples w base) f.memory_map.ready 0 ≡ get_or
+      (mailed f.memory_map samples k base) f.memory_map.ready 0
       → Stands y w v → next_of flags v ≡ plainly (record t { mem = v.mem })
   unfolding look_hidden
   looks_on y t v w k at look lw lk my same l =
@@ -134,29 +136,29 @@ module _ (steps : StepLaws) (laws : TakingLaws) (flags : ℕ) (f : Firmware) (sa
       let step = look.step in
       let code = shown_weaker (is_hidden is_postable sp) hidden (six_from y.regs.pc)
       (λ q h. ap (λ (b : Bool). b && not (q == 0x1028)) (wide_less n sp q few h)) at.code in
-      let here : (f.layout.ready == 0x1028) ≡ true = grind (arith, nat_tests) in
-      let read : hidden f.layout.ready ≡ false =
-      ap (λ (b : Bool). wide (is_hidden is_free sp) n f.layout.ready && not b) here
-      ∙ not_true (wide (is_hidden is_free sp) n f.layout.ready) in
-      let aw = mailed_apart laws.writing f.layout n samples box size (is_hidden is_free sp) w base lw in
-      let ak = mailed_apart laws.writing f.layout n samples box size (is_hidden is_free sp) k base lk in
+      let here : (f.memory_map.ready == 0x1028) ≡ true = grind (arith, nat_tests) in
+      let read : hidden f.memory_map.ready ≡ false =
+      ap (λ (b : Bool). wide (is_hidden is_free sp) n f.memory_map.ready && not b) here
+      ∙ not_true (wide (is_hidden is_free sp) n f.memory_map.ready) in
+      let aw = mailed_apart laws.writing f.memory_map n samples box size (is_hidden is_free sp) w base lw in
+      let ak = mailed_apart laws.writing f.memory_map n samples box size (is_hidden is_free sp) k base lk in
       let agree : Agree hidden v.mem y.mem = record {
         size = l.mem.size ∙ sized w lw ∙ sym (sized k lk) ∙ ap (λ (m : List ℕ). length m) (sym my);
         bytes = λ q h. (by q (q == 0x1028) refl h ∙ ap (λ (m : List ℕ). get_or m q 0) (sym my));
       } in
-      quiet_plain steps flags hidden (LdaaExtended f.layout.ready) y t v r.temps step.step refl code
+      quiet_plain steps flags hidden (LdaaExtended f.memory_map.ready) y t v r.temps step.step refl code
       (read, tt) l.regs l.temps agree
     where
       by : (q : ℕ) (b : Bool) → (q == 0x1028) ≡ b
           → (wide (is_hidden is_free y.regs.sp) n q && not (q == 0x1028)) ≡ false
-          → get_or v.mem q 0 ≡ get_or (mailed f.layout samples k base) q 0
+          → get_or v.mem q 0 ≡ get_or (mailed f.memory_map samples k base) q 0
       by q true e h =
-          let there : q ≡ f.layout.ready =
+          let there : q ≡ f.memory_map.ready =
           (let ready = box.ready in let z : q ≡ 0x1028 = grind (arith, nat_tests) in omega arith) in
           let free : is_hidden is_free y.regs.sp q ≡ false =
           (let z : q ≡ 0x1028 = grind (arith, nat_tests) in ready_shown y.regs.sp q z) in
-          l.mem.bytes q free ∙ ap (λ (p : ℕ). get_or (mailed f.layout samples w base) p 0) there ∙ same
-          ∙ ap (λ (p : ℕ). get_or (mailed f.layout samples k base) p 0) (sym there)
+          l.mem.bytes q free ∙ ap (λ (p : ℕ). get_or (mailed f.memory_map samples w base) p 0) there ∙ same
+          ∙ ap (λ (p : ℕ). get_or (mailed f.memory_map samples k base) p 0) (sym there)
         where
           ready_shown : (sp q : ℕ) → q ≡ 0x1028 → is_hidden is_free sp q ≡ false
           ready_shown sp q z =
@@ -167,8 +169,8 @@ module _ (steps : StepLaws) (laws : TakingLaws) (flags : ℕ) (f : Firmware) (sa
           let shown : wide (is_hidden is_free y.regs.sp) n q ≡ false =
           only (wide (is_hidden is_free y.regs.sp) n q) (q == 0x1028) e h in
           let p = or_parts (is_hidden is_free y.regs.sp q) (is_boxed n q) shown in
-          let aw = mailed_apart laws.writing f.layout n samples box size (is_hidden is_free y.regs.sp) w base lw in
-          let ak = mailed_apart laws.writing f.layout n samples box size (is_hidden is_free y.regs.sp) k base lk in
+          let aw = mailed_apart laws.writing f.memory_map n samples box size (is_hidden is_free y.regs.sp) w base lw in
+          let ak = mailed_apart laws.writing f.memory_map n samples box size (is_hidden is_free y.regs.sp) k base lk in
           l.mem.bytes q p.0 ∙ aw.bytes q shown ∙ sym (ak.bytes q shown)
         where
           only : (b c : Bool) → c ≡ false → (b && not c) ≡ false → b ≡ false
@@ -177,9 +179,9 @@ module _ (steps : StepLaws) (laws : TakingLaws) (flags : ℕ) (f : Firmware) (sa
           only false c e h = refl
 
   -- it chooses: nothing is read of memory
-  pub chooses_on : (y t v : State) (w k : ℕ) → IsHere y → IsChoice f.layout image flags y t → w ≤ length samples
+  pub chooses_on : (y t v : State) (w k : ℕ) → IsHere y → IsChoice f.memory_map image flags y t → w ≤ length samples
       → k ≤ length samples
-      → y.mem ≡ mailed f.layout samples k base → Stands y w v → next_of flags v ≡ plainly (record t { mem = v.mem })
+      → y.mem ≡ mailed f.memory_map samples k base → Stands y w v → next_of flags v ≡ plainly (record t { mem = v.mem })
   chooses_on y t v w k here choice lw lk my l =
       let sp = y.regs.sp in
       let hidden = wide (is_hidden is_free sp) n in
@@ -188,8 +190,8 @@ module _ (steps : StepLaws) (laws : TakingLaws) (flags : ℕ) (f : Firmware) (sa
       let step = choice.step in
       let code = shown_weaker (is_hidden is_postable sp) hidden (six_from y.regs.pc)
       (λ q h. wide_less n sp q few h) here.code in
-      let aw = mailed_apart laws.writing f.layout n samples box size (is_hidden is_free sp) w base lw in
-      let ak = mailed_apart laws.writing f.layout n samples box size (is_hidden is_free sp) k base lk in
+      let aw = mailed_apart laws.writing f.memory_map n samples box size (is_hidden is_free sp) w base lw in
+      let ak = mailed_apart laws.writing f.memory_map n samples box size (is_hidden is_free sp) k base lk in
       let agree : Agree hidden v.mem y.mem = record {
         size = l.mem.size ∙ sized w lw ∙ sym (sized k lk) ∙ ap (λ (m : List ℕ). length m) (sym my);
         bytes = λ q h. (let p = or_parts (is_hidden is_free sp q) (is_boxed n q) h in
@@ -207,23 +209,23 @@ module _ (steps : StepLaws) (laws : TakingLaws) (flags : ℕ) (f : Firmware) (sa
   pub taken_at : (t : State) (w m : ℕ) (qs : List Post) (v : State) → IsReady t → w ≤ length samples
       → AllGood (IsGoodPost (length samples)) qs → Stands t w v → Taken t w m qs v
   taken_at t w m qs v r lw good l =
-      let rt : IsReady (record t { mem = mailed f.layout samples w base }) =
+      let rt : IsReady (record t { mem = mailed f.memory_map samples w base }) =
       record { may = r.may; temps = r.temps; size = sized w lw; fits = r.fits; low = r.low; high = r.high } in
       let k = took_all laws flags f samples n g box size m qs v
-      (ready_as is_free v (record t { mem = mailed f.layout samples w base }) l rt) good in
+      (ready_as is_free v (record t { mem = mailed f.memory_map samples w base }) l rt) good in
       let w2 = waiting 0 (up_to m qs) in
       let le = waits_within (length samples) m 0 qs (omega arith) good in
-      let over : Same is_free (posted f.layout samples w2 v)
-      (record t { mem = mailed f.layout samples (last_of w w2) base }) =
+      let over : Same is_free (posted f.memory_map samples w2 v)
+      (record t { mem = mailed f.memory_map samples (last_of w w2) base }) =
       record {
         regs = l.regs;
         temps = l.temps;
         mem =
-            mailed_over laws.writing f.layout n samples box size (is_hidden is_free t.regs.sp) w w2 v.mem base le
+            mailed_over laws.writing f.memory_map n samples box size (is_hidden is_free t.regs.sp) w w2 v.mem base le
             lw l.mem;
       } in
-      let both = same_with is_free (takes form m qs v).state (posted f.layout samples w2 v)
-      (record t { mem = mailed f.layout samples (last_of w w2) base }) k.same over in
+      let both = same_with is_free (takes form m qs v).state (posted f.memory_map samples w2 v)
+      (record t { mem = mailed f.memory_map samples (last_of w w2) base }) k.same over in
       record {
         left = k.left;
         told = k.told;
@@ -240,11 +242,11 @@ module _ (steps : StepLaws) (laws : TakingLaws) (flags : ℕ) (f : Firmware) (sa
         → TurnEnds (run_from form (suc (suc k)) g false qs v) (suc (suc i)) (suc (suc c)) res (frames ++ fs)
         (up_to (g + 1) qs ++ ts) l z
 
-  pub two_steps : (y t u v : State) (w k : ℕ) (qs : List Post) → IsHere y → IsLook f.layout image flags y t
-      → IsChoice f.layout image flags t u → w ≤ length samples → k ≤ length samples
-      → y.mem ≡ mailed f.layout samples k base
-      → get_or (mailed f.layout samples w base) f.layout.ready 0 ≡ get_or
-      (mailed f.layout samples k base) f.layout.ready 0
+  pub two_steps : (y t u v : State) (w k : ℕ) (qs : List Post) → IsHere y → IsLook f.memory_map image flags y t
+      → IsChoice f.memory_map image flags t u → w ≤ length samples → k ≤ length samples
+      → y.mem ≡ mailed f.memory_map samples k base
+      → get_or (mailed f.memory_map samples w base) f.memory_map.ready 0 ≡ get_or
+      (mailed f.memory_map samples k base) f.memory_map.ready 0
       → AllGood (IsGoodPost (length samples)) qs → up_to g qs ≡ []
       → Stands y w v → Passed u w qs (map (λ p. (g + 1, plain_frame t.regs)) (up_to (g + 1) qs)) v
   two_steps y t u v w k qs at look choice lw lk my same good none l =
@@ -260,15 +262,15 @@ module _ (steps : StepLaws) (laws : TakingLaws) (flags : ℕ) (f : Firmware) (sa
         regs = refl;
         temps = refl;
         mem =
-            subst (λ (x : ℕ). Agree (is_hidden is_free x) v0.mem (mailed f.layout samples w base)) sp_same l0.mem;
+            subst (λ (x : ℕ). Agree (is_hidden is_free x) v0.mem (mailed f.memory_map samples w base)) sp_same l0.mem;
       } in
       let m1 : suc g ≡ g + 1 = omega arith in
-      let there = here_at image (f.layout.wait + 3) t look.at in
+      let there = here_at image (f.memory_map.wait + 3) t look.at in
       let b = taken_at t w (g + 1) qs v1 there.ready lw good l1 in
       let v2 = (takes form (g + 1) qs v1).state in
       let w2 = waiting w (up_to (g + 1) qs) in
       let lw2 = waits_within (length samples) (g + 1) w qs lw good in
-      let mt : t.mem ≡ mailed f.layout samples k base = look.mem ∙ my in
+      let mt : t.mem ≡ mailed f.memory_map samples k base = look.mem ∙ my in
       let next1 = chooses_on t u v2 w2 k there choice lw2 lk mt b.stands in
       let v3 : State = record u { mem = v2.mem } in
       record {
@@ -277,7 +279,7 @@ module _ (steps : StepLaws) (laws : TakingLaws) (flags : ℕ) (f : Firmware) (sa
           regs = refl;
           temps = refl;
           mem =
-              subst (λ (x : ℕ). Agree (is_hidden is_free x) v2.mem (mailed f.layout samples w2 base)) sp_later
+              subst (λ (x : ℕ). Agree (is_hidden is_free x) v2.mem (mailed f.memory_map samples w2 base)) sp_later
               b.stands.mem;
         };
         on = λ j i c res ts l2 fs z r.
@@ -309,8 +311,8 @@ module _ (steps : StepLaws) (laws : TakingLaws) (flags : ℕ) (f : Firmware) (sa
       sp_later : t.regs.sp ≡ u.regs.sp
       sp_later = (let h = look.at in let k = choice.at in h.sp ∙ sym k.sp)
 
-      away1 : t.regs.pc ≢ f.layout.wait
+      away1 : t.regs.pc ≢ f.memory_map.wait
       away1 e = (let h = look.at in let p = h.pc in omega arith)
 
       first_on : (v : State) → form.ends g v ≡ false
-      first_on v = ap (λ (b : Bool). b && (v.regs.pc == f.layout.wait)) (not_below g)
+      first_on v = ap (λ (b : Bool). b && (v.regs.pc == f.memory_map.wait)) (not_below g)

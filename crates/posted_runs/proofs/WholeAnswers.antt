@@ -9,7 +9,7 @@ use Rattle.run_law.specs.Soundness.{AllGood, Ascend}
 use Rattle.interrupt_plan.specs.declared.Post.{Post}
 use Rattle.interrupt_plan.specs.Plans as plans
 use Rattle.interrupt_plan.specs.Posts.{IsGoodPost, NoLater}
-use Rattle.eval_code.specs.declared.layout.Layout.{Layout}
+use Rattle.eval_code.specs.declared.memory_map.MemoryMap.{MemoryMap}
 use Rattle.eval_code.specs.declared.width.Width.{Width}
 use Rattle.eval_code.specs.declared.width.Width.TheVariants.{Byte, Word}
 use Rattle.eval_code.specs.Firing.{AreInputBytes}
@@ -51,17 +51,17 @@ answers_under have count runs are few_steps f flags samples posts hf good b vali
     let n = f.inputs in
     let inputs = h.inputs in
     let few = valid.few_inputs in
-    let box : IsBox f.layout n =
+    let box : IsBox f.memory_map n =
     record {
       few = omega (arith, inputs, few);
-      samples = ap (λ (l : Layout). l.samples) h.layout;
+      samples = ap (λ (l : MemoryMap). l.samples) h.memory_map;
       ready =
-          ap (λ (l : Layout). l.ready) h.layout;
+          ap (λ (l : MemoryMap). l.ready) h.memory_map;
     } in
     let size : AreOfSize n samples =
     (λ k lo hi. (let i : AreInputBytes b (bytes_of samples k) = all (k - 1) [] (omega arith) in
     i.count ∙ sym inputs)) in
-    let at_outputs : f.layout.outputs ≡ 0x1010 = ap (λ (l : Layout). l.outputs) h.layout in
+    let at_outputs : f.memory_map.outputs ≡ 0x1010 = ap (λ (l : MemoryMap). l.outputs) h.memory_map in
     let outs = h.outputs in
     let few_outs = valid.few_outputs in
     let wide = few_places (width_of f.wide) f.outputs (omega (arith, outs, few_outs)) in

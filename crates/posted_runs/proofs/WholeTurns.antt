@@ -8,13 +8,13 @@ use Rattle.cpu12_emul.specs.Step.{Next, next_of}
 use Rattle.run_law.specs.Uninterrupted.{uninterrupted, counted}
 use Rattle.run_law.specs.Soundness.{Before}
 use Rattle.run_law.proofs.Algebra.{Stretch, no_stretch, one_stretch, joined}
-use Rattle.eval_code.specs.declared.layout.Layout.{Layout}
+use Rattle.eval_code.specs.declared.memory_map.MemoryMap.{MemoryMap}
 use Rattle.codegen.specs.Turns.{IsMaskedStep}
 use Rattle.run_forms.specs.Arrival.{PlainIsOneStep}
 use Rattle.instruction_steps.specs.Instructions.{AreSteps}
 
 -- a step is defined, and PC is not where the code waits
-pub record IsOnWay (l : Layout) (flags : ℕ) (s : State) : Type 0 where
+pub record IsBusy (l : MemoryMap) (flags : ℕ) (s : State) : Type 0 where
   pub next : Next
   pub goes : next_of flags s ≡ Ok next
   pub away : s.regs.pc ≢ l.wait
@@ -55,22 +55,22 @@ steps_on P flags ds es s t u a b =
     }
 
 -- the masked instructions of a copy
-pub masked_steps : PlainIsOneStep → (l : Layout) (image : List ℕ) (flags : ℕ) (ds : List ℕ) (s t : State)
+pub masked_steps : PlainIsOneStep → (l : MemoryMap) (image : List ℕ) (flags : ℕ) (ds : List ℕ) (s t : State)
     → Execution (IsMaskedStep l image flags) ds s t
-    → AreSteps (IsOnWay l flags) flags ds s t
-masked_steps law l image flags [] s t e = no_step (IsOnWay l flags) flags s t e
+    → AreSteps (IsBusy l flags) flags ds s t
+masked_steps law l image flags [] s t e = no_step (IsBusy l flags) flags s t e
 masked_steps law l image flags (d ∷ ds) s t e =
     let u = e.0 in
     let m : IsMaskedStep l image flags d s u = e.1.0 in
     let steady = m.steady in
     let next : next_of flags s ≡ Ok (record { state = u; kind = Plain }) =
     law flags m.instruction s u steady.temps (let shown = m.shown in shown.step) in
-    let first = one_step (IsOnWay l flags) flags s u
+    let first = one_step (IsBusy l flags) flags s u
     (record { next = record { state = u; kind = Plain }; goes = next; away = m.away }) next in
-    subst (λ (k : ℕ). AreSteps (IsOnWay l flags) flags (k ∷ ds) s t) (sym m.single)
-    (steps_on (IsOnWay l flags) flags (0 ∷ []) ds s u t first (masked_steps law l image flags ds u t e.1.1))
+    subst (λ (k : ℕ). AreSteps (IsBusy l flags) flags (k ∷ ds) s t) (sym m.single)
+    (steps_on (IsBusy l flags) flags (0 ∷ []) ds s u t first (masked_steps law l image flags ds u t e.1.1))
 
-pub masked_count : (l : Layout) (image : List ℕ) (flags : ℕ) (ds : List ℕ) (s t : State)
+pub masked_count : (l : MemoryMap) (image : List ℕ) (flags : ℕ) (ds : List ℕ) (s t : State)
     → Execution (IsMaskedStep l image flags) ds s t
     → all_steps ds ≡ length ds
 masked_count l image flags [] s t e = refl

@@ -23,7 +23,7 @@ use Rattle.posted_runs.specs.Runs.{AnswerSeen, RunSeen, no_turn, before_turns, a
 
 -- a turn that answers begins with its sample in the mailbox
 abbrev pub begun : Firmware → List (List ℕ) → Turn → State → State
-begun f samples t s = if t.sample == 0 then s else given f.layout (bytes_of samples t.sample) s
+begun f samples t s = if t.sample == 0 then s else given f.memory_map (bytes_of samples t.sample) s
 
 -- the state where the code waits again
 abbrev pub ended : ℕ → Firmware → List (List ℕ) → Turn → State → State

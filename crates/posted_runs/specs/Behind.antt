@@ -7,7 +7,7 @@ use Rattle.run_law.specs.Following.{RunFollows}
 use Rattle.interrupt_plan.specs.declared.Post.{Post}
 use Rattle.interrupt_plan.specs.Posts.{IsGoodPost}
 use Rattle.codegen.specs.declared.firmware.Firmware.{Firmware}
-use Rattle.eval_code.specs.declared.layout.Layout.{Layout}
+use Rattle.eval_code.specs.declared.memory_map.MemoryMap.{MemoryMap}
 use Rattle.codegen.specs.Mailboxes.{is_mail, is_postable}
 use Rattle.eval_code.specs.Widths.{width_of, places}
 use Rattle.instruction_steps.specs.Facts.{FactsBeside}
@@ -29,7 +29,7 @@ abbrev pub not_mail : ℕ → Bool
 not_mail at = not (is_mail at)
 
 -- The mailbox holds what stood in it behind the copy, but for the sample that was posted last.
-pub record HoldsMail (l : Layout) (samples : List (List ℕ)) (copied : List ℕ) (done : List (Post × Unit {0}))
+pub record HoldsMail (l : MemoryMap) (samples : List (List ℕ)) (copied : List ℕ) (done : List (Post × Unit {0}))
     (s : State)
     : Type 0 where
   pub within : posted_by done ≤ length samples
@@ -44,11 +44,12 @@ pub record Copied : Type 0 where
   pub copied : List ℕ
   pub sound : WritesAgree → WritesAreQuiet → Sound is_postable (part_form flags firmware samples begin)
       (FactsBeside is_postable flags firmware) (IsGoodPost (length samples))
-      (HoldsMail firmware.layout samples copied)
+      (HoldsMail firmware.memory_map samples copied)
 
 -- So the runs of the part behind the copy follow the run without interrupts, where the outputs stand below the mailbox.
 abbrev pub FollowsBehind : Type 0
-FollowsBehind = (flags : ℕ) (f : Firmware) (samples : List (List ℕ)) (n begin : ℕ) (copied : List ℕ) → IsBox f.layout n
-    → AreOfSize n samples → f.layout.outputs + places (width_of f.wide) * f.outputs ≤ 0x1020
+FollowsBehind = (flags : ℕ) (f : Firmware) (samples : List (List ℕ)) (n begin : ℕ) (copied : List ℕ)
+    → IsBox f.memory_map n
+    → AreOfSize n samples → f.memory_map.outputs + places (width_of f.wide) * f.outputs ≤ 0x1020
     → RunFollows is_postable (part_form flags f samples begin) (FactsBeside is_postable flags f)
-    (IsGoodPost (length samples)) (HoldsMail f.layout samples copied)
+    (IsGoodPost (length samples)) (HoldsMail f.memory_map samples copied)

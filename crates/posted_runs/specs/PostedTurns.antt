@@ -71,22 +71,22 @@ pub record FollowsTurn (flags : ℕ) (f : Firmware) (samples : List (List ℕ)) 
       ++ frames_from g (frames_after flags (part_taken flags g all u) u None (up_to_end g all qs))))
       (second g qs ++ (third g qs ++ up_to_end g all qs)) (behind (g + all - 1) (behind_copy g qs)) last
   pub mailed : Same is_free last
-      (posted f.layout samples (waiting 0 (up_to_end g all qs)) (uninterrupted flags all u))
+      (posted f.memory_map samples (waiting 0 (up_to_end g all qs)) (uninterrupted flags all u))
   pub same : Same is_postable last (uninterrupted flags all u)
 
 -- So does each turn that begins with a sample in the mailbox, under good posts that come behind its begin.
 abbrev pub PostedTurnsFollow : Type 0
 PostedTurnsFollow =
     (flags : ℕ) (f : Firmware) (samples : List (List ℕ)) (n g most all w last : ℕ) (s v : State) (qs : List Post)
-    → IsBox f.layout n → AreOfSize n samples → f.layout.outputs + places (width_of f.wide) * f.outputs ≤ 0x1020
-    → f.inputs ≡ n → all ≤ most → IsAt (image_memory f.image.bytes) f.layout.wait s
+    → IsBox f.memory_map n → AreOfSize n samples → f.memory_map.outputs + places (width_of f.wide) * f.outputs ≤ 0x1020
+    → f.inputs ≡ n → all ≤ most → IsAt (image_memory f.image.bytes) f.memory_map.wait s
     → 1 ≤ w → w ≤ length samples → 1 ≤ last → last ≤ length samples
     → last ≡ waiting (waiting w (second g qs)) (third g qs)
-    → IsAt (image_memory f.image.bytes) f.layout.wait (uninterrupted flags all (posted f.layout samples last s))
+    → IsAt (image_memory f.image.bytes) f.memory_map.wait (uninterrupted flags all (posted f.memory_map samples last s))
     → AllGood (IsGoodPost (length samples)) qs → Ascend (λ p. p.moment) (g + 1) qs → up_to g qs ≡ []
-    → Same is_free v (posted f.layout samples w s)
-    → (run : IsAnswerRun f flags all (posted f.layout samples last s))
-    → FollowsTurn flags f samples g all qs (posted f.layout samples last s) run
+    → Same is_free v (posted f.memory_map samples w s)
+    → (run : IsAnswerRun f flags all (posted f.memory_map samples last s))
+    → FollowsTurn flags f samples g all qs (posted f.memory_map samples last s) run
     (run_from (turn_form flags f samples g) most g false qs v)
 
 -- An idle turn r takes two steps; what is posted by its second boundary is taken there; and it ends in the state of the
@@ -96,14 +96,14 @@ pub record FollowsIdle (flags : ℕ) (f : Firmware) (samples : List (List ℕ)) 
   pub last : State
   pub ends : TurnEnds r 2 2 0 (map (λ p. (g + 1, plain_frame (let t : State = run.looked in t.regs))) (second g qs))
       (second g qs) (behind (g + 1) qs) last
-  pub mailed : Same is_free last (posted f.layout samples (waiting 0 (second g qs)) (uninterrupted flags 2 s))
+  pub mailed : Same is_free last (posted f.memory_map samples (waiting 0 (second g qs)) (uninterrupted flags 2 s))
 
 -- So does each turn that begins with no sample in the mailbox.
 abbrev pub IdleTurnsFollow : Type 0
 IdleTurnsFollow =
     (flags : ℕ) (f : Firmware) (samples : List (List ℕ)) (n g most : ℕ) (s v : State) (qs : List Post)
-    → IsBox f.layout n → AreOfSize n samples → 2 ≤ most → IsAt (image_memory f.image.bytes) f.layout.wait s
-    → IsAt (image_memory f.image.bytes) f.layout.wait (uninterrupted flags 2 s)
+    → IsBox f.memory_map n → AreOfSize n samples → 2 ≤ most → IsAt (image_memory f.image.bytes) f.memory_map.wait s
+    → IsAt (image_memory f.image.bytes) f.memory_map.wait (uninterrupted flags 2 s)
     → AllGood (IsGoodPost (length samples)) qs → up_to g qs ≡ [] → Same is_free v s
     → (run : IsIdleRun f flags s)
     → FollowsIdle flags f samples g qs s run (run_from (turn_form flags f samples g) most g false qs v)

@@ -1,15 +1,15 @@
 -- What posts leave in the mailbox.
 use Rattle.std.specs.Prelude.{◌≡◌, ℕ, ◌≤◌, ◌==◌, if◌then◌else◌, List, length, slice_set}
 use Rattle.cpu12_parts.specs.State.{State}
-use Rattle.eval_code.specs.declared.layout.Layout.{Layout}
+use Rattle.eval_code.specs.declared.memory_map.MemoryMap.{MemoryMap}
 use Rattle.eval_code.specs.Evaluation.{put}
 use Rattle.fz_run.specs.Rows.{bytes_of}
 
 -- a memory with sample w posted, or none
-abbrev pub mailed : Layout → List (List ℕ) → ℕ → List ℕ → List ℕ
+abbrev pub mailed : MemoryMap → List (List ℕ) → ℕ → List ℕ → List ℕ
 mailed l samples w m = if w == 0 then m else slice_set (put m l.samples (bytes_of samples w)) l.ready 1
 
-abbrev pub posted : Layout → List (List ℕ) → ℕ → State → State
+abbrev pub posted : MemoryMap → List (List ℕ) → ℕ → State → State
 posted l samples w s = record s { mem = mailed l samples w s.mem }
 
 -- the last of two samples, where 0 is none
@@ -17,7 +17,7 @@ abbrev pub last_of : ℕ → ℕ → ℕ
 last_of a w = if w == 0 then a else w
 
 -- a mailbox for n inputs, and samples of so many bytes
-pub record IsBox (l : Layout) (n : ℕ) : Type 0 where
+pub record IsBox (l : MemoryMap) (n : ℕ) : Type 0 where
   pub few : n ≤ 8
   pub samples : l.samples ≡ 0x1020
   pub ready : l.ready ≡ 0x1028

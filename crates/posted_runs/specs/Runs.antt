@@ -13,7 +13,7 @@ use Rattle.run_law.specs.Following.{asked}
 use Rattle.interrupt_plan.specs.declared.Post.{Post}
 use Rattle.trace_io.specs.declared.sample.Sample.{Sample}
 use Rattle.codegen.specs.declared.firmware.Firmware.{Firmware}
-use Rattle.eval_code.specs.declared.layout.Layout.{Layout}
+use Rattle.eval_code.specs.declared.memory_map.MemoryMap.{MemoryMap}
 use Rattle.codegen.specs.Uninterrupted.{is_waiting, values_in}
 use Rattle.fz_run.specs.Rows.{bytes_of}
 use Rattle.posted_runs.specs.declared.run.Answer as declared
@@ -25,7 +25,7 @@ writes_from at [] = []
 writes_from at (v ∷ vs) = record { at = at; value = v } ∷ writes_from (plus at 1) vs
 
 -- what the handler of a post writes: of a sample its bytes to MAIL and 1 to POSTED, and then the post's own writes
-abbrev pub post_writes : Layout → List (List ℕ) → Post → List Write
+abbrev pub post_writes : MemoryMap → List (List ℕ) → Post → List Write
 post_writes l samples p =
     if p.sample == 0 then p.writes
     else writes_from l.samples (bytes_of samples p.sample) ++ (record { at = l.ready; value = 1 } ∷ p.writes)
@@ -39,10 +39,10 @@ turn_form flags f samples g = record {
   flags = flags;
   give = λ x s. s;
   leave = λ x s. s;
-  ends = λ m s. nat_lt g m && is_waiting f.layout s;
+  ends = λ m s. nat_lt g m && is_waiting f.memory_map s;
   answers = values_in f;
   moment = λ p. p.moment;
-  handle = λ p. framed (post_writes f.layout samples p);
+  handle = λ p. framed (post_writes f.memory_map samples p);
   tells = λ p s. tt;
 }
 
@@ -96,7 +96,7 @@ then_turns f samples g v frames r rest =
     else no_turn false (frames ++ r.frames) r.resumed
 
 -- no sample is posted, and no post is left
-abbrev pub is_over : Layout → Taking Post (Unit {0}) → Bool
+abbrev pub is_over : MemoryMap → Taking Post (Unit {0}) → Bool
 is_over l b = is_empty b.left && (slice_index b.state.mem l.ready == 0)
 
 -- At most n turns up to boundary `last`, from boundary g on, where the code waits in state s, sample w waits and these
@@ -105,7 +105,7 @@ unfoldable pub turns_from : ℕ → Firmware → List (List ℕ) → ℕ → ℕ
 turns_from flags f samples last zero g w posts s = no_turn false [] 0
 turns_from flags f samples last (suc n) g w posts s =
     let b = takes (turn_form flags f samples g) g posts s in
-    if is_over f.layout b then no_turn true b.frames 0
+    if is_over f.memory_map b then no_turn true b.frames 0
     else then_turns f samples g (waiting w (asked b.told)) b.frames
     (run_from (turn_form flags f samples g) (last - g) g false b.left b.state)
     (turns_from flags f samples last n)

@@ -26,7 +26,7 @@ use Rattle.posted_runs.specs.Answering.{ended, run_of_turns, answer_in, AllKeepF
 -- a turn without posts that answers sample k, from where the code waits in s
 abbrev pub answered_alone : ℕ → Firmware → List (List ℕ) → ℕ → State → Ran Post (Unit {0})
 answered_alone flags f samples k s =
-    run_from (turn_form flags f samples 0) f.step_bound 0 false [] (given f.layout (bytes_of samples k) s)
+    run_from (turn_form flags f samples 0) f.step_bound 0 false [] (given f.memory_map (bytes_of samples k) s)
 
 -- how many steps the turn of the last of these samples takes, where each is answered from where the one before left
 abbrev pub steps_from : ℕ → Firmware → List (List ℕ) → State → List ℕ → ℕ
@@ -61,8 +61,8 @@ TurnsHaveSteps =
 pub record IsIdleRun (f : Firmware) (flags : ℕ) (s : State) : Type 0 where
   pub looked : State
   pub chosen : State
-  pub look : IsLook f.layout (image_memory f.image.bytes) flags s looked
-  pub choice : IsChoice f.layout (image_memory f.image.bytes) flags looked chosen
+  pub look : IsLook f.memory_map (image_memory f.image.bytes) flags s looked
+  pub choice : IsChoice f.memory_map (image_memory f.image.bytes) flags looked chosen
   pub first : uninterrupted flags 1 s ≡ looked
   pub second : uninterrupted flags 2 s ≡ chosen
 
@@ -73,10 +73,10 @@ pub record IsAnswerRun (f : Firmware) (flags n : ℕ) (s : State) : Type 0 where
   pub looked : State
   pub chosen : State
   pub called : State
-  pub look : IsLook f.layout (image_memory f.image.bytes) flags s looked
-  pub choice : IsChoice f.layout (image_memory f.image.bytes) flags looked chosen
-  pub on : IsAt (image_memory f.image.bytes) (f.layout.wait + 5) chosen
-  pub copy : IsCopied f.layout f.inputs (image_memory f.image.bytes) flags chosen called
+  pub look : IsLook f.memory_map (image_memory f.image.bytes) flags s looked
+  pub choice : IsChoice f.memory_map (image_memory f.image.bytes) flags looked chosen
+  pub on : IsAt (image_memory f.image.bytes) (f.memory_map.wait + 5) chosen
+  pub copy : IsCopied f.memory_map f.inputs (image_memory f.image.bytes) flags chosen called
   pub first : uninterrupted flags 1 s ≡ looked
   pub second : uninterrupted flags 2 s ≡ chosen
   pub third : uninterrupted flags 3 s ≡ copy.masked
@@ -84,16 +84,16 @@ pub record IsAnswerRun (f : Firmware) (flags n : ℕ) (s : State) : Type 0 where
   pub behind : f.inputs + 5 < n
   pub within : n ≤ f.step_bound
   pub facts : (j : ℕ) → f.inputs + 5 ≤ j → j < n → FactsBeside is_postable flags f (uninterrupted flags j s)
-  pub away : (j : ℕ) → f.inputs + 5 ≤ j → j < n → (uninterrupted flags j s).regs.pc ≢ f.layout.wait
+  pub away : (j : ℕ) → f.inputs + 5 ≤ j → j < n → (uninterrupted flags j s).regs.pc ≢ f.memory_map.wait
 
 -- A turn begins where the code waits and no sample is posted; so does the next.
 pub record IsTurnRun (f : Firmware) (flags : ℕ) (samples : List (List ℕ)) (t : Turn) (s : State) : Type 0 where
-  pub at : IsAt (image_memory f.image.bytes) f.layout.wait s
-  pub cleared : slice_index s.mem f.layout.ready ≡ 0
+  pub at : IsAt (image_memory f.image.bytes) f.memory_map.wait s
+  pub cleared : slice_index s.mem f.memory_map.ready ≡ 0
   pub rests : t.sample ≡ 0 → (t.steps ≡ 0) ⊎ ((t.steps ≡ 2) × IsIdleRun f flags s)
-  pub answers : t.sample ≢ 0 → IsAnswerRun f flags t.steps (given f.layout (bytes_of samples t.sample) s)
-  pub at_end : IsAt (image_memory f.image.bytes) f.layout.wait (ended flags f samples t s)
-  pub cleared_at_end : slice_index (ended flags f samples t s).mem f.layout.ready ≡ 0
+  pub answers : t.sample ≢ 0 → IsAnswerRun f flags t.steps (given f.memory_map (bytes_of samples t.sample) s)
+  pub at_end : IsAt (image_memory f.image.bytes) f.memory_map.wait (ended flags f samples t s)
+  pub cleared_at_end : slice_index (ended flags f samples t s).mem f.memory_map.ready ≡ 0
 
 abbrev pub AllTurnRuns : Firmware → ℕ → List (List ℕ) → List Turn → State → Type 0
 AllTurnRuns f flags samples [] s = Unit {0}

@@ -22,10 +22,10 @@ abbrev pub RunsAreTurns : Type 0
 RunsAreTurns =
     (flags : ℕ) (f : Firmware) (samples : List (List ℕ)) (n : ℕ) (steps : List ℕ → ℕ) (last most g w : ℕ)
     (done : List ℕ) (posts : List Post) (turns : List Turn) (s v : State)
-    → IsBox f.layout n → AreOfSize n samples → f.layout.outputs + places (width_of f.wide) * f.outputs ≤ 0x1020
+    → IsBox f.memory_map n → AreOfSize n samples → f.memory_map.outputs + places (width_of f.wide) * f.outputs ≤ 0x1020
     → f.inputs ≡ n → 1 ≤ f.step_bound → 1000000 + 2 * f.step_bound ≤ last
     → AreTurns n steps g w done posts turns → AllTurnRuns f flags samples turns s
     → w ≤ length samples → AllGood (IsGoodPost (length samples)) posts → Ascend (λ p. p.moment) g posts
-    → Same is_free v (posted f.layout samples w s)
+    → Same is_free v (posted f.memory_map samples w s)
     → (1000001 - g) + min w 1 < most → (1 ≤ w → g ≤ 1000000 + f.step_bound)
     → turns_from flags f samples last most g w posts v ≡ run_of_turns flags f samples turns s

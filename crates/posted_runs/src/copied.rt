@@ -28,7 +28,7 @@ impl SoundForm for BehindTheCopy {
 
     ghost good = { λ x. IsGoodPost (length x.samples) };
 
-    ghost own = { λ x. HoldsMail x.firmware.layout x.samples x.copied };
+    ghost own = { λ x. HoldsMail x.firmware.memory_map x.samples x.copied };
 
     ghost sound = { λ x agree quiet. x.sound agree quiet };
 }

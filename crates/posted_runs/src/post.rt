@@ -10,7 +10,7 @@ use codegen::Firmware;
 use cpu12_emul::machine::Machine;
 use cpu12_isa::instr::Write;
 use cpu12_isa::mem::Mem;
-use eval_code::Layout;
+use eval_code::MemoryMap;
 use interrupt_plan::Post;
 use trace_io::Sample;
 
@@ -34,18 +34,18 @@ fn push_bytes(writes: &mut Vec<Write>, at: u16, bytes: &[u8])
 }
 
 /// What the handler of a post writes: of a sample its bytes and 1 to POSTED, and then the post's writes.
-fn write_post(layout: &Layout, samples: &[Sample], post: &Post, writes: &mut Vec<Write>)
+fn write_post(memory_map: &MemoryMap, samples: &[Sample], post: &Post, writes: &mut Vec<Write>)
     requires good { IsGoodPost (length samples.now) post.now }
     requires room { 17 ≤ vec_capacity writes.old }
-    ensures writes { writes.new.items ≡ post_writes layout.now (map input_bytes samples.now) post.now }
+    ensures writes { writes.new.items ≡ post_writes memory_map.now (map input_bytes samples.now) post.now }
     ensures room { 17 ≤ vec_capacity writes.new }
 {
     writes.clear();
     if post.sample > 0 {
         let sample = &samples[post.sample as usize - 1];
-        push_bytes(writes, layout.samples, sample.bytes.as_slice());
+        push_bytes(writes, memory_map.samples, sample.bytes.as_slice());
         let posted = Write {
-            at: layout.ready,
+            at: memory_map.ready,
             value: 1,
         };
         writes.push(posted).unwrap();
@@ -92,7 +92,7 @@ fn take_next<M: Mem>(
     ensures rest { t.new ≡ record t.old { next = t.new.next; frames = t.new.frames; writes = t.new.writes } }
     ensures flags { m.new.flags ≡ m.old.flags }
 {
-    write_post(&firmware.layout, samples, &posts[t.next], &mut t.writes);
+    write_post(&firmware.memory_map, samples, &posts[t.next], &mut t.writes);
     let frame = m.interrupt(t.writes.as_slice());
     t.frames.push((t.moment, frame)).unwrap();
     t.next += 1;

@@ -138,7 +138,7 @@ pub fn run_posts(
     posts: &Posts,
     flags: u8,
 ) -> Result<PostRun, Memory>
-    requires outputs { (firmware.now.outputs ≤ 4) × (firmware.now.layout.outputs + 8 < 2 ^ 16) }
+    requires outputs { (firmware.now.outputs ≤ 4) × (firmware.now.memory_map.outputs + 8 < 2 ^ 16) }
     requires posts { AreGoodPosts (length samples.now) posts.now }
     ensures answers { IfOk result (λ r. map answer_seen r.answers.items
         ≡ (run_under_posts firmware.now (map input_bytes samples.now) posts.now flags).answers) }
@@ -162,16 +162,16 @@ pub fn run_posts(
         return Err(Memory);
     };
     let mut m: Machine<PageMem> = Machine::new(alloc, &firmware.image, flags)?;
-    let mut way = fresh_tally(Vec::new(alloc), writes);
+    let mut arrival = fresh_tally(Vec::new(alloc), writes);
     let waits = turn(
         &mut m,
         firmware,
         samples,
         &[],
-        &mut way,
+        &mut arrival,
         firmware.step_bound,
     );
-    let mut t = fresh_tally(frames, room_of(way));
+    let mut t = fresh_tally(frames, room_of(arrival));
     if waits {
         let last = last_boundary(firmware);
         run_turns(

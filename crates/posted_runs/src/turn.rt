@@ -86,7 +86,7 @@ pub(crate) fn turn<M: Mem>(
         if !pass(m, firmware, samples, posts, t) {
             return false;
         }
-        if m.regs().pc == firmware.layout.wait {
+        if m.regs().pc == firmware.memory_map.wait {
             return true;
         }
     }

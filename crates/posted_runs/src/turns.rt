@@ -56,7 +56,7 @@ fn count_up_to(moment: u32, posts: &[Post]) -> usize
 
 /// The values of the outputs, in their order.
 fn values_in<M: Mem>(firmware: &Firmware, m: &Machine<M>) -> ArrayVec<u16, 4>
-    requires { (firmware.now.outputs ≤ 4) × (firmware.now.layout.outputs + 8 < 2 ^ 16) }
+    requires { (firmware.now.outputs ≤ 4) × (firmware.now.memory_map.outputs + 8 < 2 ^ 16) }
     ensures { result.items ≡ values_in firmware.now m.now.state }
 {
     answers_are_values();
@@ -71,7 +71,7 @@ fn answer_of<M: Mem>(
     t: &Tally,
     sample: u32,
 ) -> Answer
-    requires outputs { (firmware.now.outputs ≤ 4) × (firmware.now.layout.outputs + 8 < 2 ^ 16) }
+    requires outputs { (firmware.now.outputs ≤ 4) × (firmware.now.memory_map.outputs + 8 < 2 ^ 16) }
     requires some { (1 ≤ sample) × (sample ≤ length samples.now) }
     ensures { answer_seen result ≡ record {
       sample = sample;
@@ -103,7 +103,7 @@ fn end_turn<M: Mem>(
     waits: u32,
     answers: &mut Vec<Answer>,
 ) -> u32
-    requires outputs { (firmware.now.outputs ≤ 4) × (firmware.now.layout.outputs + 8 < 2 ^ 16) }
+    requires outputs { (firmware.now.outputs ≤ 4) × (firmware.now.memory_map.outputs + 8 < 2 ^ 16) }
     requires waits { waits ≤ length samples.now }
     requires good { All (IsGoodPost (length samples.now)) taken.now }
     requires begun { t.now.begun + 2 < 2 ^ 32 }
@@ -169,10 +169,10 @@ fn look<M: Mem>(
 fn is_over<M: Mem>(m: &Machine<M>, firmware: &Firmware, posts: &[Post], t: &Tally) -> bool
     requires { t.now.next ≤ length posts.now }
     ensures { result ≡ (is_empty (drop t.now.next posts.now)
-        && (slice_index m.now.state.mem firmware.now.layout.ready == 0)) }
+        && (slice_index m.now.state.mem firmware.now.memory_map.ready == 0)) }
 {
     if t.next == posts.len() {
-        m.peek(firmware.layout.ready) == 0
+        m.peek(firmware.memory_map.ready) == 0
     } else {
         false
     }
@@ -189,7 +189,7 @@ fn next_turn<M: Mem>(
     answers: &mut Vec<Answer>,
     last: u32,
 ) -> bool
-    requires outputs { (firmware.now.outputs ≤ 4) × (firmware.now.layout.outputs + 8 < 2 ^ 16) }
+    requires outputs { (firmware.now.outputs ≤ 4) × (firmware.now.memory_map.outputs + 8 < 2 ^ 16) }
     requires good { AreGoodPosts (length samples.now) posts.now }
     requires next { t.old.next ≤ length posts.now }
     requires room { vec_len t.old.frames + (length posts.now - t.old.next) ≤ vec_capacity t.old.frames }
@@ -251,7 +251,7 @@ pub(crate) fn run_turns<M: Mem>(
     answers: &mut Vec<Answer>,
     last: u32,
 )
-    requires outputs { (firmware.now.outputs ≤ 4) × (firmware.now.layout.outputs + 8 < 2 ^ 16) }
+    requires outputs { (firmware.now.outputs ≤ 4) × (firmware.now.memory_map.outputs + 8 < 2 ^ 16) }
     requires good { AreGoodPosts (length samples.now) posts.now }
     requires begins { (t.old.moment ≡ 0) × (t.old.next ≡ 0) × (t.old.resumed ≡ 0) }
     requires room { vec_len t.old.frames + length posts.now ≤ vec_capacity t.old.frames }

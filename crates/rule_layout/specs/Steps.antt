@@ -26,4 +26,4 @@ pub record IsSpreadable (r : Rule) : Type 0 where
 
 -- a conjunction with these conclusions
 abbrev pub with_conclusions : List ℕ → List ℕ → Conjunction
-with_conclusions concl ls = record { literals = ls; conclusions = concl }
+with_conclusions conclusions ls = record { literals = ls; conclusions = conclusions }

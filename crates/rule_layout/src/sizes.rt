@@ -73,12 +73,12 @@ impl Size {
 /// What a condition spreads into, or None where that is more than 512 conjunctions. `odd` says
 /// that it stands under an odd number of NOTs.
 #[cycle(size)]
-pub fn size_of(cond: &Cond, odd: bool) -> Option<Size>
-    requires fits { FitsGrid (condition_of cond.now) }
-    requires few { nodes (condition_of cond.now) ≤ 1048576 }
-    ensures { IsSizeOf (spread_of odd (condition_of cond.now)) result }
+pub fn size_of(condition: &Cond, odd: bool) -> Option<Size>
+    requires fits { FitsGrid (condition_of condition.now) }
+    requires few { nodes (condition_of condition.now) ≤ 1048576 }
+    ensures { IsSizeOf (spread_of odd (condition_of condition.now)) result }
 {
-    match cond {
+    match condition {
         Cond::Is(_, _) => Some(Size::LITERAL),
         Cond::Not(part) => size_of(part, !odd),
         Cond::And(parts) => {

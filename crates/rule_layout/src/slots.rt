@@ -84,11 +84,11 @@ impl Complements {
     }
 
     /// Adds those of a condition; `odd` says that it stands under an odd number of NOTs.
-    fn add(&mut self, cond: &Cond, odd: bool)
-        requires { FitsGrid (condition_of cond.now) }
-        ensures { AreAdded odd (condition_of cond.now) self.old.table self.new.table }
+    fn add(&mut self, condition: &Cond, odd: bool)
+        requires { FitsGrid (condition_of condition.now) }
+        ensures { AreAdded odd (condition_of condition.now) self.old.table self.new.table }
     {
-        match cond {
+        match condition {
             Cond::Is(input, term) => {
                 if odd {
                     self.table[place(Slot::Complement(*input, *term))] = true;

@@ -17,14 +17,14 @@ use std::alloc::{AllocError, Global};
 pub fn conjunctions(
     alloc: Global,
     numbers: &SlotNumbers,
-    cond: &Cond,
+    condition: &Cond,
     odd: bool,
 ) -> Result<Vec<List<u16>>, AllocError>
-    requires { FitsGrid (condition_of cond.now) }
+    requires { FitsGrid (condition_of condition.now) }
     ensures { IfOk result
-        (λ v. v.items ≡ table_literals numbers.now.table (spread_of odd (condition_of cond.now))) }
+        (λ v. v.items ≡ table_literals numbers.now.table (spread_of odd (condition_of condition.now))) }
 {
-    match cond {
+    match condition {
         Cond::Is(input, term) => {
             let slot = if odd {
                 Slot::Complement(*input, *term)

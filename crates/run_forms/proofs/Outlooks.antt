@@ -239,7 +239,7 @@ pub given_next : {A U R S B T : Type 0} (flags i j : ℕ) (h : Harness A U R S B
     ≡ ahead flags h p.most (p.number + 1) (drop p.behind plan) (drop p.number h.samples) (rows_here h p s)
     (state_here h p s)
 given_next {A = A} {U = U} {R = R} {S = S} {B = B} {T = T} flags i j h plan p n room rooms old st st2 s past given t
-    rows way more items count was tally left eij ej erow epast egiven came moment =
+    rows under_way more items count was tally left eij ej erow epast egiven came moment =
     let form : Form S A B = plan_form flags h.parts in
     let place = h.parts.place in
     let k = p.number + 1 in
@@ -247,7 +247,8 @@ given_next {A = A} {U = U} {R = R} {S = S} {B = B} {T = T} flags i j h plan p n 
     let qs : List A = take (p.behind + n - p.behind) rest in
     let here : n ≡ length (requests_first place k rest) = count_there place k p.behind n plan count in
     let y = is_there h.samples p.number more in
-    let have = subst (λ (l : List (Room U)). HaveRoom place k (length h.samples - p.number) rest l) items way.rooms in
+    let have = subst (λ (l : List (Room U)). HaveRoom place k (length h.samples - p.number) rest l) items
+    under_way.rooms in
     let empty = (room_first place k (length h.samples - p.number) rest room rooms (omega (arith, more)) have).0 in
     let same : i ≡ flags = eij ∙ ej in
     let comes : after_takes flags h qs st2 t ≡ coming_of (run_from form p.most 0 false qs (form.give y.sample past)) =
@@ -260,7 +261,7 @@ given_next {A = A} {U = U} {R = R} {S = S} {B = B} {T = T} flags i j h plan p n 
     (shown_by h.shows h.parts.answers (counted_at h.told st.tally s)) (sample_at p.number h.samples)) was in
     let further = rest_further place k p.behind n plan here in
     given_ahead flags h p.most p.number st2.tally.moment rest (drop (p.behind + n) plan) qs
-    (sample_at k h.samples) y.sample (drop k h.samples) rows past t (after_takes flags h qs st2 t) way.follow
+    (sample_at k h.samples) y.sample (drop k h.samples) rows past t (after_takes flags h qs st2 t) under_way.follow
     (slice_first place k p.behind n rest here) further comes (states_here flags h qs st2 t) begins
     (sample_next p.number h.samples ∙ y.at)
     ∙ ap (λ (l : List S). ahead flags h p.most k rest l rows past) (sym y.rest)

@@ -3,7 +3,7 @@ use Rattle.std.specs.Prelude.{◌≡◌, ℕ, ◌≤◌, Ok}
 use Rattle.cpu12_isa.specs.declared.instr.Instr.{Instr}
 use Rattle.cpu12_parts.specs.declared.temps.Temps.TheVariants.{Free}
 use Rattle.cpu12_parts.specs.State.{State}
-use Rattle.cpu12_parts.specs.Whole.{IsPlainStep, PlainWay}
+use Rattle.cpu12_parts.specs.Whole.{IsPlainStep, PlainExecution}
 use Rattle.cpu12_emul.specs.declared.ends.Stepped.TheVariants.{Plain}
 use Rattle.cpu12_emul.specs.Step.{next_of}
 use Rattle.run_forms.specs.Rows.{arrival}
@@ -17,5 +17,6 @@ PlainIsOneStep =
 -- Plain instructions that lead to LOOP are the arrival, for any bound that is not below their number.
 abbrev pub ArrivesPlainly : Type 0
 ArrivesPlainly =
-    (flags loop n most : ℕ) (s t : State) → s.temps ≡ Free → PlainWay flags loop n s t → t.regs.pc ≡ loop → n ≤ most
+    (flags loop n most : ℕ) (s t : State) → s.temps ≡ Free → PlainExecution flags loop n s t → t.regs.pc ≡ loop
+    → n ≤ most
     → arrival flags loop most s ≡ t

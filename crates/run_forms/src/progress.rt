@@ -112,13 +112,13 @@ fn give_next<M: Mem, A, U: Drop, R, F: RunForm<A, U, R>>(
     plan: &[A],
     p: &mut Progress<U, R>,
 )
-    requires way { IsUnderWay (F.harness form.now) plan.now p.old }
+    requires under_way { IsUnderWay (F.harness form.now) plan.now p.old }
     requires left { p.old.number < length (F.harness form.now).samples }
     ensures outlook { from_here (outlook_at m.old.flags (F.harness form.now) plan.now p.new m.new.state)
         ≡ ahead m.old.flags (F.harness form.now) p.old.most (p.old.number + 1) (drop p.old.behind plan.now)
         (drop p.old.number (F.harness form.now).samples)
         (rows_here (F.harness form.now) p.old m.old.state) (state_here (F.harness form.now) p.old m.old.state) }
-    ensures way { IsUnderWay (F.harness form.now) plan.now p.new }
+    ensures under_way { IsUnderWay (F.harness form.now) plan.now p.new }
     ensures noted { m.new.noted ≡ m.old.noted }
     ensures flags { m.new.flags ≡ m.old.flags }
 {
@@ -142,7 +142,7 @@ pub fn advance<M: Mem, A, U: Drop, R, F: RunForm<A, U, R>>(
     plan: &[A],
     p: &mut Progress<U, R>,
 ) -> bool
-    requires way { IsUnderWay (F.harness form.now) plan.now p.old }
+    requires under_way { IsUnderWay (F.harness form.now) plan.now p.old }
     ensures goes { result ≡ true → outlook_at m.old.flags (F.harness form.now) plan.now p.old m.old.state
         ≡ at_position (record { sample = p.old.number; moment = p.old.stand.tally.moment; state = m.old.state })
         (from_here (outlook_at m.old.flags (F.harness form.now) plan.now p.new m.new.state)) }
@@ -154,7 +154,7 @@ pub fn advance<M: Mem, A, U: Drop, R, F: RunForm<A, U, R>>(
           state = state_here (F.harness form.now) p.old m.old.state;
         } }
     ensures same { result ≡ false → (p.new ≡ p.old) × (m.new ≡ m.old) }
-    ensures way { IsUnderWay (F.harness form.now) plan.now p.new }
+    ensures under_way { IsUnderWay (F.harness form.now) plan.now p.new }
     ensures noted { m.new.noted ≡ m.old.noted }
     ensures flags { m.new.flags ≡ m.old.flags }
 {
@@ -186,7 +186,7 @@ pub(crate) fn before_samples<A, U, R, F: RunForm<A, U, R>>(
         ≡ at_position (record { sample = 0; moment = 0; state = s })
         (ahead flags (F.harness form.now) most 1 plan.now (F.harness form.now).samples [] s) }
     ensures most { result.most ≡ most }
-    ensures way { IsUnderWay (F.harness form.now) plan.now result }
+    ensures under_way { IsUnderWay (F.harness form.now) plan.now result }
 {
     let none = Room {
         frames: Vec::new(alloc),
@@ -212,14 +212,14 @@ pub(crate) fn begin<M: Mem, A, U: Drop, R, F: RunForm<A, U, R>>(
     plan: &[A],
     p: &mut Progress<U, R>,
 )
-    requires way { IsUnderWay (F.harness form.now) plan.now p.old }
+    requires under_way { IsUnderWay (F.harness form.now) plan.now p.old }
     requires before { outlook_at m.old.flags (F.harness form.now) plan.now p.old m.old.state
         ≡ at_position (record { sample = 0; moment = 0; state = m.old.state })
         (ahead m.old.flags (F.harness form.now) p.old.most 1 plan.now (F.harness form.now).samples [] m.old.state) }
     ensures first { from_here (outlook_at m.old.flags (F.harness form.now) plan.now p.new m.new.state)
         ≡ shown_run (F.harness form.now).shows m.old.state
         (harness_rows m.old.flags (F.harness form.now) p.old.most plan.now m.old.state) }
-    ensures way { IsUnderWay (F.harness form.now) plan.now p.new }
+    ensures under_way { IsUnderWay (F.harness form.now) plan.now p.new }
     ensures noted { m.new.noted ≡ m.old.noted }
     ensures flags { m.new.flags ≡ m.old.flags }
 {
@@ -233,12 +233,12 @@ pub fn drive<M: Mem, A, U: Drop, R, F: RunForm<A, U, R>>(
     plan: &[A],
     p: &mut Progress<U, R>,
 )
-    requires way { IsUnderWay (F.harness form.now) plan.now p.old }
+    requires under_way { IsUnderWay (F.harness form.now) plan.now p.old }
     ensures rows { rows_here (F.harness form.now) p.new m.new.state
         ≡ (outlook_at m.old.flags (F.harness form.now) plan.now p.old m.old.state).rows }
     ensures state { state_here (F.harness form.now) p.new m.new.state
         ≡ (outlook_at m.old.flags (F.harness form.now) plan.now p.old m.old.state).state }
-    ensures way { IsUnderWay (F.harness form.now) plan.now p.new }
+    ensures under_way { IsUnderWay (F.harness form.now) plan.now p.new }
 {
     while advance(m, form, plan, p) {
         pass_at_once(m, form, &plan[p.first..p.behind], &mut p.stand);

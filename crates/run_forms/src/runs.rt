@@ -64,7 +64,7 @@ pub fn begun<M: Mem, A, U: Drop, R: Drop, F: RunForm<A, U, R>>(
         (arrived_at flags start.now.wait start.now.most start.now.image.now.bytes)
         (harness_rows flags (F.harness form.now) start.now.most plan.now
         (arrived_at flags start.now.wait start.now.most start.now.image.now.bytes))) }
-    ensures way { IfOk result (λ r. IsUnderWay (F.harness form.now) plan.now r.1) }
+    ensures under_way { IfOk result (λ r. IsUnderWay (F.harness form.now) plan.now r.1) }
     ensures noted { IfOk result (λ r. r.0.noted ≡ nothing_noted) }
     ensures flags { IfOk result (λ r. r.0.flags ≡ flags) }
 {

@@ -21,7 +21,7 @@ use cpu12_parts::laws::{
 /// A form of firmware with its handler, and what it owes so that its runs under interrupts follow
 /// those without. It has ghost members alone: an implementation is the proof that they are sound.
 pub trait SoundForm {
-    /// What the form depends on, such as the layout of a firmware.
+    /// What the form depends on, such as the memory map of a firmware.
     ghost Setting: { Type 0 };
 
     /// What it is given.

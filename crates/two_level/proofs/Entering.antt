@@ -19,13 +19,13 @@ use Rattle.eval_code.specs.declared.width.Width.TheVariants.{Byte}
 use Rattle.eval_code.specs.Evaluation.{Writes, code_region, IsEvalStep, IsAtEval, IsEvaluated, EvalAnswers}
 use Rattle.eval_code.specs.Placed.{StandsBetween}
 use Rattle.two_level.specs.declared.two.Two.{Two}
-use Rattle.two_level.specs.Layouts.{fast_front, fast_back, fast_layout}
+use Rattle.two_level.specs.MemoryMaps.{fast_front, fast_back, fast_map}
 use Rattle.two_level.specs.Images.{IsTwoOf}
 use Rattle.two_level.specs.Running.{HasFastRom, IsFastStack, fast_code, IsEntered, IsFastStep, IsFastAnswered}
 use Rattle.two_level.specs.Running.{FastAnswersEntered}
 use Rattle.two_level.proofs.Leaving.{leaves}
 use Rattle.two_level.proofs.FastCode.{CodeLaws, standing, first_decoded}
-use Rattle.two_level.proofs.Places.{fast_apart, AreSound}
+use Rattle.two_level.proofs.Places.{fast_apart, AreAccepted}
 
 -- the laws of lower crates
 pub record EnteringLaws : Type 0 where
@@ -35,7 +35,7 @@ pub record EnteringLaws : Type 0 where
   pub writes_stay : WritesStay
 
 -- six bytes in the code
-six_in : (pc : ℕ) → fast_layout.code ≤ pc → pc + 6 ≤ fast_layout.code + 2434 → Each (IsIn fast_code) (six_from pc)
+six_in : (pc : ℕ) → fast_map.code ≤ pc → pc + 6 ≤ fast_map.code + 2434 → Each (IsIn fast_code) (six_from pc)
 six_in pc from to =
     let at : (k : ℕ) → k ≤ 5 → IsIn fast_code (plus pc k) = λ k le. (omega arith, omega arith) in (
       (from, omega arith),
@@ -45,12 +45,12 @@ six_in pc from to =
       ),
     )
 
-eval_in : (ats : List ℕ) → Each (IsIn (code_region fast_layout)) ats → Each (IsIn fast_code) ats
+eval_in : (ats : List ℕ) → Each (IsIn (code_region fast_map)) ats → Each (IsIn fast_code) ats
 eval_in [] h = tt
 eval_in (at ∷ ats) h = ((omega (arith, h.0.0), omega (arith, h.0.1)), eval_in ats h.1)
 
 -- what EVAL writes is below its code
-written_low : (at : ℕ) → fast_layout.code ≤ at → Writes fast_layout at → ⊥
+written_low : (at : ℕ) → fast_map.code ≤ at → Writes fast_map at → ⊥
 written_low at from (inl o) = absurd (omega (arith, o.1))
 written_low at from (inr (inl o)) = absurd (omega (arith, o.1))
 written_low at from (inr (inr o)) = o
@@ -62,7 +62,7 @@ record Kept (image : List ℕ) (s : State) : Type 0 where
   unmasked : has s.regs.ccr interrupts_masked ≡ false
 
 step_kept : WritesStay → (image : List ℕ) (flags d : ℕ) (s t : State) → Kept image s
-    → IsEvalStep fast_layout flags d s t
+    → IsEvalStep fast_map flags d s t
     → IsFastStep image flags d s t × Kept image t
 step_kept stay image flags d s t k e = (
   record {
@@ -73,7 +73,7 @@ step_kept stay image flags d s t k e = (
     unmasked = ap (λ (m : Bool × Bool). m.0) e.masks ∙ k.unmasked;
   },
   record {
-    rom = λ at from to. leaves stay _ (Writes fast_layout) flags d s t at e.instruction (written_low at from)
+    rom = λ at from to. leaves stay _ (Writes fast_map) flags d s t at e.instruction (written_low at from)
         ∙ k.rom at from to;
     stack = subst IsFastStack (sym e.stack) k.stack;
     unmasked = ap (λ (m : Bool × Bool). m.0) e.masks ∙ k.unmasked;
@@ -87,7 +87,7 @@ record Ran (image : List ℕ) (flags : ℕ) (ds : List ℕ) (s t : State) : Type
   x : has t.regs.ccr x_masked ≡ has s.regs.ccr x_masked
 
 ran : WritesStay → (image : List ℕ) (flags : ℕ) (ds : List ℕ) (s t : State) → Kept image s
-    → Execution (IsEvalStep fast_layout flags) ds s t → Ran image flags ds s t
+    → Execution (IsEvalStep fast_map flags) ds s t → Ran image flags ds s t
 ran stay image flags [] s t k e = record {
   execution = e;
   kept = subst (Kept image) e k;
@@ -117,11 +117,11 @@ x_left n = bit_and_is n 239 6
 record Opened (fast : Block) (image : List ℕ) (flags : ℕ) (bytes : List ℕ) (before : ℕ → ℕ) (s : State) : Type 0 where
   step : IsFastStep image flags 0 s (opened flags s)
   kept : Kept image (opened flags s)
-  at : IsAtEval fast_layout fast Byte bytes before (opened flags s)
+  at : IsAtEval fast_map fast Byte bytes before (opened flags s)
 
 enter : EnteringLaws → (fast : Block) (image : List ℕ) (flags : ℕ) (bytes : List ℕ) (before : ℕ → ℕ) (s : State)
     → flags < 2 ^ 8
-    → StandsBetween fast_layout fast Byte fast_front fast_back s.mem → IsEntered fast image bytes before s
+    → StandsBetween fast_map fast Byte fast_front fast_back s.mem → IsEntered fast image bytes before s
     → Opened fast image flags bytes before s
 enter laws fast image flags bytes before s fits code h =
     let inside = h.inside in
@@ -156,9 +156,9 @@ enter laws fast image flags bytes before s fits code h =
 
 -- and EVAL leads to RTI
 answered : EnteringLaws → (slow fast : Block) (two : Two) (flags : ℕ) (bytes : List ℕ) (before : ℕ → ℕ) (s t : State)
-    → AreSound slow fast
+    → AreAccepted slow fast
     → IsTwoOf slow fast two → Opened fast (image_memory two.image.bytes) flags bytes before s
-    → IsEvaluated fast_layout fast Byte flags bytes before (opened flags s) t
+    → IsEvaluated fast_map fast Byte flags bytes before (opened flags s) t
     → IsFastAnswered fast (image_memory two.image.bytes) flags bytes before s t
 answered laws slow fast two flags bytes before s t h is o e =
     let image = image_memory two.image.bytes in
@@ -187,17 +187,22 @@ answered laws slow fast two flags bytes before s t h is o e =
       steps = omega (arith, e.steps);
     }
   where
-    outside : (at : ℕ) → (at < fast_layout.outputs) ⊎ (fast_layout.outputs + length fast.outputs ≤ at)
-        → (at < fast_layout.outputs) ⊎ (fast_layout.outputs + 1 * length fast.outputs ≤ at)
+    outside : (at : ℕ) → (at < fast_map.outputs) ⊎ (fast_map.outputs + length fast.outputs ≤ at)
+        → (at < fast_map.outputs) ⊎ (fast_map.outputs + 1 * length fast.outputs ≤ at)
     outside at (inl lt) = inl lt
     outside at (inr le) = inr (omega arith)
 
 pub fast_answers_entered : EnteringLaws → FastAnswersEntered
 fast_answers_entered laws slow fast two vs ls vf lf is flags bytes before s fits input h =
     let image = image_memory two.image.bytes in
-    let sound : AreSound slow fast = record { slow_valid = vs; slow_limits = ls; fast_valid = vf; fast_limits = lf } in
-    let code = standing laws.code slow fast two s.mem sound is h.inside.rom in
+    let accepted : AreAccepted slow fast = record {
+      slow_valid = vs;
+      slow_limits = ls;
+      fast_valid = vf;
+      fast_limits = lf;
+    } in
+    let code = standing laws.code slow fast two s.mem accepted is h.inside.rom in
     let o = enter laws fast image flags bytes before s fits code h in
-    let r = laws.eval_answers fast_layout fast Byte flags bytes before (opened flags s) fast_apart vf lf fits
+    let r = laws.eval_answers fast_map fast Byte flags bytes before (opened flags s) fast_apart vf lf fits
     input o.at in
-    (r.0, answered laws slow fast two flags bytes before s r.0 sound is o r.1)
+    (r.0, answered laws slow fast two flags bytes before s r.0 accepted is o r.1)

@@ -7,10 +7,10 @@ use Rattle.cpu12_emul.specs.Image.{image_memory}
 use Rattle.eval_code.specs.declared.width.Width.TheVariants.{Byte}
 use Rattle.eval_code.specs.Placed.{BlockRises, BlockStands, StandsBetween}
 use Rattle.two_level.specs.declared.two.Two.{Two}
-use Rattle.two_level.specs.Layouts.{fast_front, fast_back, fast_layout}
+use Rattle.two_level.specs.MemoryMaps.{fast_front, fast_back, fast_map}
 use Rattle.two_level.specs.Images.{slow_items, IsTwoOf}
 use Rattle.two_level.specs.Running.{HasFastRom}
-use Rattle.two_level.proofs.Places.{fast_in_order, AreSound, two_rise}
+use Rattle.two_level.proofs.Places.{fast_in_order, AreAccepted, two_rise}
 
 -- the laws of lower crates
 pub record CodeLaws : Type 0 where
@@ -18,16 +18,16 @@ pub record CodeLaws : Type 0 where
   pub stands : BlockStands
   pub decodes : DecodesEncoded
 
-pub standing : CodeLaws → (slow fast : Block) (two : Two) (mem : List ℕ) → AreSound slow fast → IsTwoOf slow fast two
-    → HasFastRom (image_memory two.image.bytes) mem → StandsBetween fast_layout fast Byte fast_front fast_back mem
+pub standing : CodeLaws → (slow fast : Block) (two : Two) (mem : List ℕ) → AreAccepted slow fast → IsTwoOf slow fast two
+    → HasFastRom (image_memory two.image.bytes) mem → StandsBetween fast_map fast Byte fast_front fast_back mem
 standing laws slow fast two mem h is same =
-    laws.stands two.image.bytes mem [] (slow_items slow) fast_layout fast Byte fast_front fast_back fast_in_order
+    laws.stands two.image.bytes mem [] (slow_items slow) fast_map fast Byte fast_front fast_back fast_in_order
     h.fast_valid h.fast_limits
     is.image.bytes (two_rise laws.rises slow fast h) same
 
 -- its first instruction
 pub first_decoded : CodeLaws → (fast : Block) (mem : List ℕ)
-    → StandsBetween fast_layout fast Byte fast_front fast_back mem
-    → decode_at mem fast_layout.code ≡ Ok (Andcc 0xEF)
+    → StandsBetween fast_map fast Byte fast_front fast_back mem
+    → decode_at mem fast_map.code ≡ Ok (Andcc 0xEF)
 first_decoded laws fast mem code =
-    laws.decodes mem fast_layout.code (Andcc 0xEF) (omega arith) (code.front.0, (code.front.1.0, tt))
+    laws.decodes mem fast_map.code (Andcc 0xEF) (omega arith) (code.front.0, (code.front.1.0, tt))

@@ -6,45 +6,45 @@ use Rattle.rule_layout.specs.Layouts.{IsWithinLimits}
 use Rattle.cpu12_isa.specs.declared.instr.Instr.TheVariants.{Rts}
 use Rattle.cpu12_asm.specs.Items.{IsRisingFrom, IsRising}
 use Rattle.eval_code.specs.declared.width.Width.TheVariants.{Byte}
-use Rattle.eval_code.specs.Layouts.{main_layout}
+use Rattle.eval_code.specs.MemoryMaps.{main_map}
 use Rattle.codegen.specs.Code.{frame_code}
 use Rattle.codegen.specs.Images.{vector_items}
 use Rattle.eval_code.specs.Items.{IsApart}
 use Rattle.eval_code.specs.Placed.{IsInOrder, BlockRises}
-use Rattle.two_level.specs.Layouts.{fast_front, fast_back, fast_layout, slow_layout}
+use Rattle.two_level.specs.MemoryMaps.{fast_front, fast_back, fast_map, slow_map}
 use Rattle.two_level.specs.Images.{slow_items, two_items}
 
-pub fast_in_order : IsInOrder fast_layout fast_front fast_back
+pub fast_in_order : IsInOrder fast_map fast_front fast_back
 fast_in_order = search arith
 
-pub main_in_order : IsInOrder main_layout (frame_code main_layout) (Rts ∷ [])
+pub main_in_order : IsInOrder main_map (frame_code main_map) (Rts ∷ [])
 main_in_order = search arith
 
-pub fast_apart : IsApart fast_layout
+pub fast_apart : IsApart fast_map
 fast_apart = search arith
 
-pub main_apart : IsApart main_layout
+pub main_apart : IsApart main_map
 main_apart = search arith
 
 -- both blocks are valid and can be laid out
-pub record AreSound (slow fast : Block) : Type 0 where
+pub record AreAccepted (slow fast : Block) : Type 0 where
   pub slow_valid : IsValid slow
   pub slow_limits : IsWithinLimits slow
   pub fast_valid : IsValid fast
   pub fast_limits : IsWithinLimits fast
 
-vectors_rise : IsRisingFrom (main_layout.rules + 9984) (vector_items slow_layout)
+vectors_rise : IsRisingFrom (main_map.rules + 9984) (vector_items slow_map)
 vectors_rise = (omega arith, (omega arith, omega arith))
 
-slow_rise : BlockRises → (slow fast : Block) → AreSound slow fast
-    → IsRisingFrom (fast_layout.rules + 9984) (slow_items slow)
+slow_rise : BlockRises → (slow fast : Block) → AreAccepted slow fast
+    → IsRisingFrom (fast_map.rules + 9984) (slow_items slow)
 slow_rise rises slow fast h =
-    rises (fast_layout.rules + 9984) main_layout slow Byte (frame_code main_layout) (Rts ∷ [])
-    (vector_items slow_layout) main_in_order
+    rises (fast_map.rules + 9984) main_map slow Byte (frame_code main_map) (Rts ∷ [])
+    (vector_items slow_map) main_in_order
     h.slow_valid h.slow_limits (omega arith) vectors_rise
 
-pub two_rise : BlockRises → (slow fast : Block) → AreSound slow fast → IsRising (two_items slow fast)
+pub two_rise : BlockRises → (slow fast : Block) → AreAccepted slow fast → IsRising (two_items slow fast)
 two_rise rises slow fast h =
-    rises 0 fast_layout fast Byte fast_front fast_back (slow_items slow) fast_in_order h.fast_valid h.fast_limits
+    rises 0 fast_map fast Byte fast_front fast_back (slow_items slow) fast_in_order h.fast_valid h.fast_limits
     (omega arith)
     (slow_rise rises slow fast h)

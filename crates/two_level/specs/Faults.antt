@@ -1,7 +1,7 @@
 -- Why two blocks are refused.
 use Rattle.std.specs.Prelude.{◌≢◌}
 use Rattle.fuzzy_meaning.specs.declared.block.Block.{Block}
-use Rattle.rule_layout.specs.declared.flat.LayoutFault.TheVariants as layout
+use Rattle.rule_layout.specs.declared.flat.LayoutFault.TheVariants as memory_map
 use Rattle.rule_layout.specs.Layouts.{IsWithinLimits, IsFaultOf}
 use Rattle.two_level.specs.declared.two.TwoFault.{TwoFault}
 use Rattle.two_level.specs.declared.two.TwoFault.TheVariants.{Slow, Fast, Memory}
@@ -13,6 +13,6 @@ pub record AreWithinLimits (slow fast : Block) : Type 0 where
 
 -- The slow block's fault, or else the fast one's. Want of memory is no one's, and none of these.
 abbrev pub IsTwoFaultOf : Block → Block → TwoFault → Type 0
-IsTwoFaultOf slow fast (Slow fault) = IsFaultOf slow fault × (fault ≢ layout.Memory)
-IsTwoFaultOf slow fast (Fast fault) = IsWithinLimits slow × (IsFaultOf fast fault × (fault ≢ layout.Memory))
+IsTwoFaultOf slow fast (Slow fault) = IsFaultOf slow fault × (fault ≢ memory_map.Memory)
+IsTwoFaultOf slow fast (Fast fault) = IsWithinLimits slow × (IsFaultOf fast fault × (fault ≢ memory_map.Memory))
 IsTwoFaultOf slow fast Memory = Unit {0}

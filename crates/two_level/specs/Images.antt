@@ -5,22 +5,22 @@ use Rattle.cpu12_isa.specs.declared.instr.Instr.TheVariants.{Rts}
 use Rattle.cpu12_asm.specs.declared.items.Item.{Item}
 use Rattle.codegen.specs.declared.firmware.Firmware.{Firmware}
 use Rattle.eval_code.specs.declared.width.Width.TheVariants.{Byte}
-use Rattle.eval_code.specs.Layouts.{main_layout}
+use Rattle.eval_code.specs.MemoryMaps.{main_map}
 use Rattle.codegen.specs.Code.{frame_code}
 use Rattle.eval_code.specs.Bounds.{instruction_bound, step_bound}
 use Rattle.eval_code.specs.Items.{block_items}
 use Rattle.codegen.specs.Images.{vector_items, IsImageOf}
 use Rattle.codegen.specs.Firmwares.{IsFirmwareOf}
 use Rattle.two_level.specs.declared.two.Two.{Two}
-use Rattle.two_level.specs.Layouts.{fast_front, fast_back, fast_layout, slow_layout}
+use Rattle.two_level.specs.MemoryMaps.{fast_front, fast_back, fast_map, slow_map}
 
 -- the fast block's code and data
 abbrev pub fast_items : Block → List Item
-fast_items b = block_items fast_layout b Byte fast_front fast_back
+fast_items b = block_items fast_map b Byte fast_front fast_back
 
 -- those of the slow firmware that stands alone, but for the interrupt's vector
 abbrev pub slow_items : Block → List Item
-slow_items b = block_items main_layout b Byte (frame_code main_layout) (Rts ∷ []) ++ vector_items slow_layout
+slow_items b = block_items main_map b Byte (frame_code main_map) (Rts ∷ []) ++ vector_items slow_map
 
 -- the first, and then the others
 abbrev pub two_items : Block → Block → List Item

@@ -1,4 +1,4 @@
-pub mod Layouts
+pub mod MemoryMaps
 pub mod Images
 pub mod Faults
 pub mod Running

@@ -18,17 +18,17 @@ use Rattle.eval_code.specs.Bounds.{instruction_bound, step_bound}
 use Rattle.eval_code.specs.Firing.{AreInputBytes}
 use Rattle.eval_code.specs.Evaluation.{Reads, Writes, HasBytes, HasAnswers}
 use Rattle.two_level.specs.declared.two.Two.{Two}
-use Rattle.two_level.specs.Layouts.{fast_layout, fast_rom_end}
+use Rattle.two_level.specs.MemoryMaps.{fast_map, fast_rom_end}
 use Rattle.two_level.specs.Images.{fast_most, IsTwoOf}
 
 -- the bytes of the fast block's ROM are an image's, and 0 where it has none
 abbrev pub HasFastRom : List ℕ → List ℕ → Type 0
 HasFastRom image mem =
-    (at : ℕ) → fast_layout.code ≤ at → at < fast_rom_end → slice_index mem at ≡ slice_index image at
+    (at : ℕ) → fast_map.code ≤ at → at < fast_rom_end → slice_index mem at ≡ slice_index image at
 
 -- an image whose fast code lets interrupts in at once
 abbrev pub LetsIn : List ℕ → Type 0
-LetsIn image = decode_at image fast_layout.code ≡ Ok (Andcc 0xEF)
+LetsIn image = decode_at image fast_map.code ≡ Ok (Andcc 0xEF)
 
 -- SP in the fast code: the nine bytes of its interrupt's frame stand from there on, and one more interrupt has room
 abbrev pub IsFastStack : ℕ → Type 0
@@ -36,7 +36,7 @@ IsFastStack sp = (stack_start + 15 ≤ sp) × (sp + 9 ≤ stack_end)
 
 -- where the fast code stands, with what is fetched behind it
 abbrev pub fast_code : ℕ × ℕ
-fast_code = (fast_layout.code, 2434)
+fast_code = (fast_map.code, 2434)
 
 -- what each state in it keeps
 pub record IsInFast (image : List ℕ) (s : State) : Type 0 where
@@ -49,16 +49,16 @@ pub record IsInFast (image : List ℕ) (s : State) : Type 0 where
 -- stack, whose they may be.
 pub record IsEntered (b : Block) (image bytes : List ℕ) (before : ℕ → ℕ) (s : State) : Type 0 where
   pub inside : IsInFast image s
-  pub pc : s.regs.pc ≡ fast_layout.code
+  pub pc : s.regs.pc ≡ fast_map.code
   pub masked : has s.regs.ccr interrupts_masked ≡ true
-  pub inputs : HasBytes s.mem fast_layout.inputs bytes
-  pub outputs : HasAnswers fast_layout b Byte before s.mem
+  pub inputs : HasBytes s.mem fast_map.inputs bytes
+  pub outputs : HasAnswers fast_map b Byte before s.mem
 
 -- A whole instruction of it before the return reads and writes what is the fast block's own, leaves SP and X, and
 -- behind it I is 0.
 pub record IsFastStep (image : List ℕ) (flags d : ℕ) (s t : State) : Type 0 where
   pub inside : IsInFast image s
-  pub instruction : IsInstructionOver (Reads fast_layout) (Writes fast_layout) flags d s t
+  pub instruction : IsInstructionOver (Reads fast_map) (Writes fast_map) flags d s t
   pub stack : t.regs.sp ≡ s.regs.sp
   pub x : has t.regs.ccr x_masked ≡ has s.regs.ccr x_masked
   pub unmasked : has t.regs.ccr interrupts_masked ≡ false
@@ -74,9 +74,9 @@ pub record IsFastAnswered (b : Block) (image : List ℕ) (flags : ℕ) (bytes : 
   pub stack : t.regs.sp ≡ s.regs.sp
   pub x : has t.regs.ccr x_masked ≡ has s.regs.ccr x_masked
   pub unmasked : has t.regs.ccr interrupts_masked ≡ false
-  pub answers : HasAnswers fast_layout b Byte (λ o. answer Byte b o bytes (before o)) t.mem
-  pub elsewhere : (at : ℕ) → (at < fast_layout.outputs) ⊎ (fast_layout.outputs + length b.outputs ≤ at)
-      → (at < fast_layout.slots) ⊎ (fast_layout.slots + length (slots_of b) ≤ at)
+  pub answers : HasAnswers fast_map b Byte (λ o. answer Byte b o bytes (before o)) t.mem
+  pub elsewhere : (at : ℕ) → (at < fast_map.outputs) ⊎ (fast_map.outputs + length b.outputs ≤ at)
+      → (at < fast_map.slots) ⊎ (fast_map.slots + length (slots_of b) ≤ at)
       → slice_index t.mem at ≡ slice_index s.mem at
   pub instructions : length ds + 1 ≤ fast_most (instruction_bound Byte b)
   pub steps : all_steps ds + 1 ≤ fast_most (step_bound Byte b)

@@ -9,21 +9,21 @@ use Rattle.cpu12_isa.specs.Regions.{vector_word}
 use Rattle.cpu12_emul.specs.Image.{image_memory}
 use Rattle.eval_code.specs.declared.width.Width.TheVariants.{Byte}
 use Rattle.eval_code.specs.Evaluation.{HasAnswers}
-use Rattle.codegen.specs.Answers.{LeavesLayout, AnswersBeside, ArrivesAlike}
+use Rattle.codegen.specs.Answers.{LeavesMapped, AnswersBeside, ArrivesAlike}
 use Rattle.two_level.specs.declared.two.Two.{Two}
-use Rattle.two_level.specs.Layouts.{fast_layout, is_open_to_fast}
+use Rattle.two_level.specs.MemoryMaps.{fast_map, is_open_to_fast}
 use Rattle.two_level.specs.Images.{IsTwoOf}
 use Rattle.two_level.specs.Running.{LetsIn}
 
 -- Memory from the image is one of bytes: an interrupt enters the fast code, which lets interrupts in at once and whose
 -- outputs are 0; and it is as the slow firmware's alone but for what is open to the fast block, which leaves the slow
--- firmware's layout.
+-- firmware's memory map.
 pub record StandsBeside (fast : Block) (two : Two) : Type 0 where
   pub bytes : AreBytes (image_memory two.image.bytes)
-  pub enters : vector_word (image_memory two.image.bytes) ≡ fast_layout.code
+  pub enters : vector_word (image_memory two.image.bytes) ≡ fast_map.code
   pub lets_in : LetsIn (image_memory two.image.bytes)
-  pub outputs : HasAnswers fast_layout fast Byte (λ o. 0) (image_memory two.image.bytes)
-  pub leaves : LeavesLayout is_open_to_fast two.slow.layout
+  pub outputs : HasAnswers fast_map fast Byte (λ o. 0) (image_memory two.image.bytes)
+  pub leaves : LeavesMapped is_open_to_fast two.slow.memory_map
   pub alike : Agree is_open_to_fast (image_memory two.image.bytes) (image_memory two.slow.image.bytes)
 
 -- Beside interrupts to which all that is open, the slow firmware alone answers every list of samples; from reset over
@@ -31,7 +31,7 @@ pub record StandsBeside (fast : Block) (two : Two) : Type 0 where
 pub record SlowAnswersBeside (slow : Block) (two : Two) : Type 0 where
   pub answers : AnswersBeside is_open_to_fast slow two.slow
   pub arrives : (flags : ℕ) → flags < 2 ^ 8
-      → ArrivesAlike is_open_to_fast two.slow.layout (image_memory two.slow.image.bytes)
+      → ArrivesAlike is_open_to_fast two.slow.memory_map (image_memory two.slow.image.bytes)
       (image_memory two.image.bytes) flags
 
 -- So do those of two blocks.

@@ -4,12 +4,12 @@ ghost use Rattle.fuzzy_meaning.specs.Blocks.{IsValid};
 ghost use Rattle.rule_layout.specs.Layouts.{flat_of, IsLaidOut, IsWithinLimits};
 ghost use Rattle.codegen.specs.Images.{IsImageOf};
 ghost use Rattle.two_level.specs.Images.{two_items};
-ghost use Rattle.two_level.specs.Layouts.{fast_layout, slow_layout};
+ghost use Rattle.two_level.specs.MemoryMaps.{fast_map, slow_map};
 
 use codegen::{frame_code, image_of, push_vectors};
 use cpu12_asm::{Image, Item};
 use cpu12_isa::instr::Instr;
-use eval_code::{Layout, Width, blocks_are_placed, push_block};
+use eval_code::{MemoryMap, Width, blocks_are_placed, push_block};
 use fuzzy_meaning::Block;
 use rule_layout::{Flat, spread};
 use std::alloc::{AllocError, Global};
@@ -20,12 +20,12 @@ const LOWERED: u16 = 0x8000;
 const RAISED: u16 = 0x0400;
 
 /// Where the fast block stands. Its code begins with the instruction of two bytes that lets interrupts in.
-pub fn fast_layout() -> Layout
-    ensures { result ≡ fast_layout }
+pub fn fast_map() -> MemoryMap
+    ensures { result ≡ fast_map }
 {
-    let main = Layout::MAIN;
+    let main = MemoryMap::MAIN;
     let code = main.code - LOWERED;
-    Layout {
+    MemoryMap {
         code,
         wait: main.wait - LOWERED,
         interrupt: code,
@@ -59,23 +59,23 @@ fn two_items(
     requires fast_laid_out { IsLaidOut fast_flat.now }
     ensures { IfOk result (λ items. items.items ≡ two_items slow.now fast.now) }
 {
-    let layout = fast_layout();
+    let memory_map = fast_map();
     let mut items = Vec::new(alloc);
     push_block(
         alloc,
         &mut items,
-        &layout,
+        &memory_map,
         Width::Byte,
         fast,
         fast_flat,
         &[Instr::Andcc(0xEF)],
         &[Instr::Rti],
     )?;
-    let frame = frame_code(&Layout::MAIN);
+    let frame = frame_code(&MemoryMap::MAIN);
     push_block(
         alloc,
         &mut items,
-        &Layout::MAIN,
+        &MemoryMap::MAIN,
         Width::Byte,
         slow,
         slow_flat,
@@ -84,9 +84,9 @@ fn two_items(
     )?;
     push_vectors(
         &mut items,
-        &Layout {
-            interrupt: layout.interrupt,
-            ..Layout::MAIN
+        &MemoryMap {
+            interrupt: memory_map.interrupt,
+            ..MemoryMap::MAIN
         },
     )?;
     Ok(items)

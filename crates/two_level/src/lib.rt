@@ -12,6 +12,6 @@ mod items;
 pub mod laws;
 mod two;
 
-pub use items::fast_layout;
+pub use items::fast_map;
 pub use laws::{alone_has_byte_bounds, fast_answers_entered, two_stand_beside, twos_are_one};
 pub use two::{Two, TwoFault, compile_two};

@@ -12,7 +12,7 @@ use Rattle.cpu12_emul.specs.Step.{Next, next_of, reset_with}
 use Rattle.run_forms.specs.Rows.{then_arrival, arrival}
 use Rattle.fz_run.specs.Answering.{FirstAlike}
 use Rattle.two_level.specs.declared.two.Two.{Two}
-use Rattle.two_level.specs.Layouts.{is_open_to_fast}
+use Rattle.two_level.specs.MemoryMaps.{is_open_to_fast}
 use Rattle.two_level.specs.Standing.{StandsBeside}
 use Rattle.two_runs.specs.Rows.{first_two}
 use Rattle.two_runs.specs.Levels.{FastStands}
@@ -57,7 +57,7 @@ pub first_stands : StepFits → (fast : Block) (two : Two) (flags : ℕ) (sample
     → FastStands fast two flags samples [] (first_two two flags)
 first_stands law fast two flags samples hf few stand alike =
     let image = image_memory two.image.bytes in
-    let fits = arrival_fits law flags two.slow.layout.wait two.slow.step_bound (reset_with image) hf
+    let fits = arrival_fits law flags two.slow.memory_map.wait two.slow.step_bound (reset_with image) hf
     (reset_fits image stand.bytes) in
     record {
       bytes = fits.mem;

@@ -18,7 +18,7 @@ use Rattle.cpu12_parts.specs.Laws.{IsOff, addresses}
 use Rattle.cpu12_parts.specs.Touching.{IsIn, Each}
 use Rattle.cpu12_emul.specs.Simulation.{AreSumsReady}
 use Rattle.cpu12_emul.specs.Step.{Left, step_act}
-use Rattle.two_level.specs.Layouts.{fast_layout}
+use Rattle.two_level.specs.MemoryMaps.{fast_map}
 use Rattle.two_level.specs.Running.{HasFastRom, IsFastStack, fast_code}
 use Rattle.two_runs.specs.Steps.{is_open_inside, is_foreign, is_kept, IsFastState}
 use Rattle.two_runs.proofs.Owned.{all_shown, hides_more, not_written, rom_kept}
@@ -106,7 +106,7 @@ pub same_code : (image m n ats : List ℕ) → HasFastRom image m → HasFastRom
     → bytes_at m ats ≡ bytes_at n ats
 same_code image m n [] a b h = refl
 same_code image m n (at ∷ ats) a b h =
-    let lo : fast_layout.code ≤ at = h.0.0 in
+    let lo : fast_map.code ≤ at = h.0.0 in
     let one : slice_index m at ≡ slice_index n at = a at lo (omega (arith, h.0.1))
     ∙ sym (b at lo (omega (arith, h.0.1))) in
     ap₂ (λ (v : ℕ) (vs : List ℕ). v ∷ vs) one (same_code image m n ats a b h.1)

@@ -12,7 +12,7 @@ use Rattle.cpu12_isa.specs.Registers.{frame_bytes}
 use Rattle.cpu12_isa.proofs.Algebra.{bit_or_is, fits_put}
 use Rattle.cpu12_parts.specs.State.{State}
 use Rattle.cpu12_parts.specs.Touching.{IsIn, Each}
-use Rattle.two_level.specs.Layouts.{fast_layout}
+use Rattle.two_level.specs.MemoryMaps.{fast_map}
 use Rattle.two_level.specs.Running.{fast_code}
 use Rattle.two_runs.specs.Runs.{entered}
 use Rattle.two_runs.specs.Outer.{HasFastCode, OuterEnters}
@@ -28,8 +28,8 @@ pub bytes_stay : BytesStay → (bytes : List ℕ) (v : State) → All (λ n. n <
     → AreBytes v.mem
     → AreBytes (entered_mem bytes v)
 bytes_stay law bytes v fit fits m =
-    law (placed fast_layout.inputs bytes) (framed_mem v)
-    (placed_fits fast_layout.inputs bytes (omega arith) (all_bytes bytes fit))
+    law (placed fast_map.inputs bytes) (framed_mem v)
+    (placed_fits fast_map.inputs bytes (omega arith) (all_bytes bytes fit))
     (law (placed (plus v.regs.sp 65527) (frame_bytes v.regs)) v.mem
     (placed_fits (plus v.regs.sp 65527) (frame_bytes v.regs) (omega arith) (frame_fits v.regs fits)) m)
 
@@ -52,7 +52,7 @@ outer_enters stay law b image bytes before v some few_outputs input can = record
   };
   pc = there;
   masked = masked_on v.regs.ccr.0;
-  inputs = sample_read stay bytes fast_layout.inputs (framed_mem v)
+  inputs = sample_read stay bytes fast_map.inputs (framed_mem v)
       ((stay (placed (plus v.regs.sp 65527) (frame_bytes v.regs)) v.mem).0 ∙ can.size) (omega (arith, few));
   outputs = λ o from to. (let r = can.outputs o from to in (out_stays o from to ∙ r.0, tt));
 }
@@ -66,17 +66,17 @@ outer_enters stay law b image bytes before v some few_outputs input can = record
     code : HasFastCode image v.mem
     code = can.code
 
-    above : (at : ℕ) → fast_layout.code ≤ at → v.regs.sp ≤ at
+    above : (at : ℕ) → fast_map.code ≤ at → v.regs.sp ≤ at
     above at l = (let hi = can.high in omega arith)
 
     vector_byte : (at : ℕ) → 0xFFF2 ≤ at → slice_index (entered_mem bytes v) at ≡ slice_index v.mem at
     vector_byte at l = stays stay bytes v at few lo can.high (inr (omega arith)) (inr (above at (omega arith)))
 
     there : word_of (slice_index (entered_mem bytes v) 65522) (slice_index (entered_mem bytes v) 65523)
-        ≡ fast_layout.code
+        ≡ fast_map.code
     there = ap₂ word_of (vector_byte 65522 (omega arith)) (vector_byte 65523 (omega arith)) ∙ code.enters
 
-    first_six : Each (IsIn fast_code) (six_from fast_layout.code)
+    first_six : Each (IsIn fast_code) (six_from fast_map.code)
     first_six = search arith
 
     fits : FitsRegs (entered bytes v).regs
@@ -91,10 +91,10 @@ outer_enters stay law b image bytes before v some few_outputs input can = record
     })
 
     out_stays : (o : ℕ) → 1 ≤ o → o ≤ length b.outputs
-        → slice_index (entered_mem bytes v) (fast_layout.outputs + 1 * (o - 1)) ≡ slice_index v.mem
-        (fast_layout.outputs + 1 * (o - 1))
-    out_stays o l to = stays stay bytes v (fast_layout.outputs + 1 * (o - 1)) few lo can.high (inr (omega arith))
+        → slice_index (entered_mem bytes v) (fast_map.outputs + 1 * (o - 1)) ≡ slice_index v.mem
+        (fast_map.outputs + 1 * (o - 1))
+    out_stays o l to = stays stay bytes v (fast_map.outputs + 1 * (o - 1)) few lo can.high (inr (omega arith))
         (inl low_out)
       where
-        low_out : fast_layout.outputs + 1 * (o - 1) < plus v.regs.sp 65527
+        low_out : fast_map.outputs + 1 * (o - 1) < plus v.regs.sp 65527
         low_out = omega arith

@@ -10,7 +10,7 @@ use Rattle.cpu12_parts.specs.State.{State}
 use Rattle.run_law.specs.Forms.{Ran}
 use Rattle.trace_io.specs.declared.sample.Sample.{Sample}
 use Rattle.fz_run.specs.Rows.{input_bytes}
-use Rattle.two_level.specs.Layouts.{fast_layout}
+use Rattle.two_level.specs.MemoryMaps.{fast_map}
 use Rattle.two_runs.specs.declared.counts.Counts.{Counts}
 use Rattle.two_runs.specs.Runs.{FastSeen, fast_run, seen_of}
 use Rattle.two_runs.specs.Counts.{Counted, counted, counted_at, inner_frames_seen}
@@ -29,7 +29,7 @@ seen number answers c = record {
 
 pub seen_by_counts : (number outputs : ℕ) (c : Counts) (s : State) (r : Ran ℕ (Unit {0})) (answers : List ℕ)
     → counted_at c s ≡ counted r
-    → answers ≡ bytes_at s.mem (from fast_layout.outputs outputs)
+    → answers ≡ bytes_at s.mem (from fast_map.outputs outputs)
     → seen number answers c ≡ seen_of number outputs r
 seen_by_counts number outputs c s r answers e are =
     let state : s ≡ r.state = ap (λ k. k.state) e in
@@ -37,8 +37,8 @@ seen_by_counts number outputs c s r answers e are =
     let steps : c.steps ≡ r.steps = ap (λ k. k.steps) e in
     let resumed : c.resumed ≡ r.resumed = ap (λ k. k.resumed) e in
     let frames : inner_frames_seen c.frames.items ≡ r.frames = ap (λ k. k.frames) e in
-    let read : answers ≡ bytes_at r.state.mem (from fast_layout.outputs outputs) =
-    are ∙ ap (λ (u : State). bytes_at u.mem (from fast_layout.outputs outputs)) state in
+    let read : answers ≡ bytes_at r.state.mem (from fast_map.outputs outputs) =
+    are ∙ ap (λ (u : State). bytes_at u.mem (from fast_map.outputs outputs)) state in
     cc
 
 -- the sample of a number that is not 0

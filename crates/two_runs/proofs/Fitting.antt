@@ -11,7 +11,7 @@ use Rattle.cpu12_emul.specs.Step.{next_of}
 use Rattle.cpu12_emul.specs.Take.{frame_of, may_interrupt}
 use Rattle.run_law.specs.Forms.{Form, Taking, put_take, takes, taken, told, Ran, ended, then_rest, run_from, Rows}
 use Rattle.run_law.specs.Forms.{row_of, put_row, rows_from}
-use Rattle.eval_code.specs.declared.layout.Layout.{Layout}
+use Rattle.eval_code.specs.declared.memory_map.MemoryMap.{MemoryMap}
 use Rattle.eval_code.specs.Firing.{AreInputBytes}
 use Rattle.firmware_ports.specs.Ports.{given}
 use Rattle.two_runs.specs.Levels.{fitted}
@@ -35,7 +35,7 @@ fits_more : (ws : List (ℕ × ℕ)) (w : ℕ × ℕ) → FitsWrites ws → w.0 
 fits_more [] w h at byte = (at, byte, tt)
 fits_more (u ∷ ws) w h at byte = (h.0, h.1, fits_more ws w h.2 at byte)
 
-pub given_bytes : BytesStay → (l : Layout) (x : List ℕ) (w : State) → l.samples < 2 ^ 16 → l.ready < 2 ^ 16
+pub given_bytes : BytesStay → (l : MemoryMap) (x : List ℕ) (w : State) → l.samples < 2 ^ 16 → l.ready < 2 ^ 16
     → AreBytes w.mem
     → AreBytes (given l (fitted x) w).mem
 given_bytes stay l x w samples ready bytes =

@@ -14,7 +14,7 @@ use Rattle.run_law.specs.Uninterrupted.{uninterrupted, first_open, taken_at}
 use Rattle.run_law.specs.Soundness.{Before, Sound, WritesAreQuiet, AllGood, Ascend}
 use Rattle.run_law.specs.Following.{RunFollows, Completes, Follows}
 use Rattle.run_law.proofs.Algebra.{before_more}
-use Rattle.two_level.specs.Layouts.{fast_layout}
+use Rattle.two_level.specs.MemoryMaps.{fast_map}
 use Rattle.two_runs.specs.Runs.{fast_form, fast_run}
 use Rattle.two_runs.specs.Steps.{is_open_inside, IsFastState}
 use Rattle.two_runs.specs.Inside.{AnyMoment, HoldsBytes, Inside, FollowsInside, FastRunsFollow, AreOnStack}
@@ -41,7 +41,7 @@ sound laws image flags outputs sp hf few agree quiet = record {
   shown = λ s p. p.shown;
   gives = λ x w s l. l;
   leaves = λ x w s l. l;
-  answers = λ w s l. outputs_same outputs fast_layout.outputs s.regs.sp w.mem s.mem (omega arith) l.mem;
+  answers = λ w s l. outputs_same outputs fast_map.outputs s.regs.sp w.mem s.mem (omega arith) l.mem;
   ends = λ m w s l. ap (λ (r : Regs). nat_lt sp r.sp) l.regs;
   quiet = λ done a v s good p may begins own.
       (let shown = p.shown in (

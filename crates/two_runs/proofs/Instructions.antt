@@ -21,7 +21,7 @@ use Rattle.cpu12_parts.specs.Whole.{IsPlainStep}
 use Rattle.cpu12_emul.specs.declared.ends.Stepped.TheVariants.{Plain}
 use Rattle.cpu12_emul.specs.Step.{Left, Next, applied, next_of}
 use Rattle.eval_code.specs.Evaluation.{Reads, Writes}
-use Rattle.two_level.specs.Layouts.{fast_layout}
+use Rattle.two_level.specs.MemoryMaps.{fast_map}
 use Rattle.two_level.specs.Running.{IsFastStack, IsInFast, IsFastStep}
 use Rattle.two_runs.specs.Steps.{is_foreign, is_kept}
 use Rattle.two_runs.proofs.Owned.{reads_own, writes_own, code_own}
@@ -62,7 +62,7 @@ plain_next laws flags i s t off p =
 
 plain_at : StepLaws → (image : List ℕ) (masked : Bool) (flags sp : ℕ) (i : Instr) (s t : State)
     → Begins image masked sp s
-    → IsPlainOver (Reads fast_layout) (Writes fast_layout) flags i s t → t.regs.sp ≡ sp
+    → IsPlainOver (Reads fast_map) (Writes fast_map) flags i s t → t.regs.sp ≡ sp
     → Stretch (Kept image masked flags sp) flags 1 1 s t
 plain_at laws image masked flags sp i s t c p stack =
     let e : Effect = effect flags i s.regs s.mem in
@@ -79,7 +79,7 @@ plain_at laws image masked flags sp i s t c p stack =
     (plain_next laws flags i s t c.off step)
 
 pub instruction_at : StepLaws → (image : List ℕ) (masked : Bool) (flags sp d : ℕ) (s t : State) → flags < 2 ^ 8
-    → Begins image masked sp s → IsInstructionOver (Reads fast_layout) (Writes fast_layout) flags d s t → t.regs.sp ≡ sp
+    → Begins image masked sp s → IsInstructionOver (Reads fast_map) (Writes fast_map) flags d s t → t.regs.sp ≡ sp
     → Stretch (Kept image masked flags sp) flags (suc d) 1 s t
 instruction_at laws image masked flags sp d s t hf c (inl p) stack =
     subst (λ (k : ℕ). Stretch (Kept image masked flags sp) flags (suc k) 1 s t) (sym p.1.1)
@@ -147,4 +147,4 @@ free_stays image flags [] s t e free = ap (λ (u : State). u.temps) (sym e) ∙ 
 free_stays image flags (d ∷ ds) s t e free =
     let h : IsFastStep image flags d s e.0 = e.1.0 in
     free_stays image flags ds e.0 t e.1.1
-    (free_behind (Reads fast_layout) (Writes fast_layout) flags d s e.0 h.instruction free)
+    (free_behind (Reads fast_map) (Writes fast_map) flags d s e.0 h.instruction free)

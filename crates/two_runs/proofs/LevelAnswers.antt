@@ -12,7 +12,7 @@ use Rattle.eval_code.specs.declared.width.Width.TheVariants.{Byte}
 use Rattle.eval_code.specs.Bounds.{step_bound}
 use Rattle.codegen.specs.Firmwares.{IsFirmwareOf}
 use Rattle.two_level.specs.Images.{fast_most}
-use Rattle.two_level.specs.Layouts.{is_open_to_fast}
+use Rattle.two_level.specs.MemoryMaps.{is_open_to_fast}
 use Rattle.two_level.specs.Standing.{StandsBeside, TwoStandBeside}
 use Rattle.fz_run.specs.Rows.{first_state, firmware_rows}
 use Rattle.instruction_steps.specs.Facts.{FactsBeside, FactsAlone}

@@ -14,7 +14,7 @@ use Rattle.interrupt_plan.specs.declared.Request.{Request}
 use Rattle.interrupt_plan.specs.declared.levels.Level.{Level}
 use Rattle.codegen.specs.declared.firmware.Firmware.{Firmware}
 use Rattle.two_level.specs.declared.two.Two.{Two}
-use Rattle.two_level.specs.Layouts.{is_open_to_fast}
+use Rattle.two_level.specs.MemoryMaps.{is_open_to_fast}
 use Rattle.firmware_ports.specs.Ports.{given, answers_in}
 use Rattle.fz_run.specs.Forms.{with_writes}
 use Rattle.fz_run.specs.Rows.{requests_of}
@@ -34,8 +34,8 @@ SlowFacts flags two = FactsBeside is_open_to_fast flags two.slow
 
 -- the run without interrupts is that of the slow firmware alone
 given_is : (two : Two) (x : List ℕ) (s : State) → fitted x ≡ x
-    → given two.slow.layout (fitted x) s ≡ given two.slow.layout x s
-given_is two x s e = ap (λ (v : List ℕ). given two.slow.layout v s) e
+    → given two.slow.memory_map (fitted x) s ≡ given two.slow.memory_map x s
+given_is two x s e = ap (λ (v : List ℕ). given two.slow.memory_map v s) e
 
 pub complete : (flags : ℕ) (two : Two) (fast : List (List ℕ)) (ns : List ℕ) (samples : List (List ℕ)) (s : State)
     → AreFitted samples → AllComplete (SlowFacts flags two) (with_writes flags two.slow) ns samples s
@@ -47,11 +47,11 @@ complete flags two fast (n ∷ ns) (x ∷ xs) s few h =
     let e = given_is two x s few.0 in
     let P = SlowFacts flags two in
     let one = h.0 in
-    let moved : Completes P (fitted_form flags two fast) 0 n n (given two.slow.layout x s) =
+    let moved : Completes P (fitted_form flags two fast) 0 n n (given two.slow.memory_map x s) =
     record { sum = one.sum; holds = one.holds; on = one.on; ended = one.ended } in (
       subst (λ (u : State). Completes P (fitted_form flags two fast) 0 n n u) (sym e) moved,
       subst (λ (u : State). AllComplete P (fitted_form flags two fast) ns xs (uninterrupted flags n u)) (sym e)
-          (complete flags two fast ns xs (uninterrupted flags n (given two.slow.layout x s)) few.1 h.1),
+          (complete flags two fast ns xs (uninterrupted flags n (given two.slow.memory_map x s)) few.1 h.1),
     )
 
 -- two runs that end have the same numbers of steps
@@ -79,12 +79,12 @@ same_numbers P Q flags f (m ∷ ms) ns [] s a b = absurd a
 same_numbers P Q flags f [] ns (x ∷ xs) s a b = absurd a
 same_numbers P Q flags f (m ∷ ms) [] (x ∷ xs) s a b = absurd b
 same_numbers P Q flags f (m ∷ ms) (n ∷ ns) (x ∷ xs) s a b =
-    let e = one_number P Q flags f m n (given f.layout x s) a.0 b.0 in
-    let rest : AllComplete Q (with_writes flags f) ns xs (uninterrupted flags m (given f.layout x s)) =
-    subst (λ (k : ℕ). AllComplete Q (with_writes flags f) ns xs (uninterrupted flags k (given f.layout x s)))
+    let e = one_number P Q flags f m n (given f.memory_map x s) a.0 b.0 in
+    let rest : AllComplete Q (with_writes flags f) ns xs (uninterrupted flags m (given f.memory_map x s)) =
+    subst (λ (k : ℕ). AllComplete Q (with_writes flags f) ns xs (uninterrupted flags k (given f.memory_map x s)))
     (sym e) b.1 in
     ap₂ (λ (k : ℕ) (ks : List ℕ). k ∷ ks) e
-    (same_numbers P Q flags f ms ns xs (uninterrupted flags m (given f.layout x s)) a.1 rest)
+    (same_numbers P Q flags f ms ns xs (uninterrupted flags m (given f.memory_map x s)) a.1 rest)
 
 -- I is 0 throughout: a level is taken at its moment
 open_at : (flags : ℕ) (two : Two) (n : ℕ) (s : State) → Before (SlowFacts flags two) flags n s
@@ -140,7 +140,7 @@ same_rows law flags two fast levels k [] samples s few h = refl
 same_rows law flags two fast levels k (n ∷ ns) [] s few h = refl
 same_rows law flags two fast levels k (n ∷ ns) (x ∷ rest) s few h =
     let form = fitted_form flags two fast in
-    let u : State = given two.slow.layout x s in
+    let u : State = given two.slow.memory_map x s in
     let holds = (let one = h.0 in one.holds) in
     let ls = levels_of k levels in
     ap (λ (v : State). expected_row form ls n x v ∷ expected_rows form (λ j. levels_of j levels) (suc k) ns rest
@@ -162,7 +162,7 @@ same_taken law flags two fast levels k [] samples s few h = refl
 same_taken law flags two fast levels k (n ∷ ns) [] s few h = refl
 same_taken law flags two fast levels k (n ∷ ns) (x ∷ rest) s few h =
     let form = fitted_form flags two fast in
-    let u : State = given two.slow.layout x s in
+    let u : State = given two.slow.memory_map x s in
     let holds = (let one = h.0 in one.holds) in
     let ls = levels_of k levels in
     ap (λ (v : State). taken_before (taken_at flags (λ (l : Level). l.moment) n v) n ls
@@ -183,7 +183,7 @@ pub on_stack : (flags : ℕ) (two : Two) (plan : List Request) (k : ℕ) (ns : L
 on_stack flags two plan k [] samples s h = λ j d l. absurd (omega arith)
 on_stack flags two plan k (n ∷ ns) [] s h = λ j d l. absurd (omega arith)
 on_stack flags two plan k (n ∷ ns) (x ∷ rest) s h =
-    let u : State = given two.slow.layout x s in
+    let u : State = given two.slow.memory_map x s in
     let holds = (let one = h.0 in one.holds) in
     let room : (j : ℕ) → j < n → HasFrameRoom (uninterrupted flags j u) =
     λ j l. (let p = holds j l in sp_room (uninterrupted flags j u).regs.sp p.stack) in

@@ -26,7 +26,7 @@ use Rattle.interrupt_plan.specs.Levels.{IsGoodLevel}
 use Rattle.eval_code.specs.Firing.{AreInputBytes}
 use Rattle.two_level.specs.declared.two.Two.{Two}
 use Rattle.two_level.specs.Images.{fast_most, AloneHasByteBounds, HasByteBounds, IsTwoOf}
-use Rattle.two_level.specs.Layouts.{is_fast_ram, is_open_to_fast}
+use Rattle.two_level.specs.MemoryMaps.{is_fast_ram, is_open_to_fast}
 use Rattle.instruction_steps.specs.Facts.{AreNoneOrRunning, IsStackOfOneCall, FactsBeside}
 use Rattle.fz_run.specs.OpenBytes.{StepsLeaveOpen, GivenLeavesOpen}
 use Rattle.fz_run.specs.Rows.{bytes_of}

@@ -10,10 +10,10 @@ use Rattle.run_law.specs.Uninterrupted.{stepped}
 use Rattle.run_law.specs.Soundness.{Sound, WritesAreQuiet}
 use Rattle.interrupt_plan.specs.declared.levels.Level.{Level}
 use Rattle.interrupt_plan.specs.Levels.{IsGoodLevel}
-use Rattle.eval_code.specs.declared.layout.Layout.{Layout}
-use Rattle.codegen.specs.Answers.{LeavesLayout}
-use Rattle.eval_code.specs.Layouts.{main_layout}
-use Rattle.two_level.specs.Layouts.{is_open_to_fast}
+use Rattle.eval_code.specs.declared.memory_map.MemoryMap.{MemoryMap}
+use Rattle.codegen.specs.Answers.{LeavesMapped}
+use Rattle.eval_code.specs.MemoryMaps.{main_map}
+use Rattle.two_level.specs.MemoryMaps.{is_open_to_fast}
 use Rattle.firmware_ports.specs.Ports.{given, answer_size}
 use Rattle.instruction_steps.specs.Facts.{FactsBeside}
 use Rattle.fz_run.specs.Following.{IsLow}
@@ -27,9 +27,9 @@ use Rattle.two_runs.proofs.LevelServing.{LevelLaws, Given, few_outputs, serves}
 use Rattle.two_runs.proofs.Serving.{open_apart}
 use Rattle.two_runs.proofs.Standing.{stands}
 
--- the slow firmware's layout is the one that stands alone, and it answers bytes
-layout_is : (x : Given) → x.two.slow.layout ≡ main_layout
-layout_is x = let is = x.is_two in let alone = is.slow_alone in let firmware = alone.firmware in firmware.layout
+-- the slow firmware's memory map is the one that stands alone, and it answers bytes
+map_is : (x : Given) → x.two.slow.memory_map ≡ main_map
+map_is x = let is = x.is_two in let alone = is.slow_alone in let firmware = alone.firmware in firmware.memory_map
 
 wide_is : (x : Given) → x.two.slow.wide ≡ false
 wide_is x = let is = x.is_two in let alone = is.slow_alone in alone.narrow
@@ -43,28 +43,28 @@ outputs_few x =
     omega (arith, firmware.outputs, valid.few_outputs)
 
 -- what is open leaves what is read from outside
-ports_of : (x : Given) → LeavesLayout is_open_to_fast main_layout → LeavesPorts is_open_to_fast x.two.slow
+ports_of : (x : Given) → LeavesMapped is_open_to_fast main_map → LeavesPorts is_open_to_fast x.two.slow
 ports_of x leaves = record {
-  ready = ap (λ (l : Layout). is_open_to_fast l.ready) (layout_is x) ∙ leaves.ready;
+  ready = ap (λ (l : MemoryMap). is_open_to_fast l.ready) (map_is x) ∙ leaves.ready;
   outputs = λ at from to. leaves.writes at (inl (
-    subst (λ (l : Layout). l.outputs ≤ at) (layout_is x) from,
-    end at (subst (λ (wide : Bool). at < main_layout.outputs + answer_size wide * x.two.slow.outputs) (wide_is x)
-        (subst (λ (l : Layout). at < l.outputs + answer_size x.two.slow.wide * x.two.slow.outputs) (layout_is x) to)),
+    subst (λ (l : MemoryMap). l.outputs ≤ at) (map_is x) from,
+    end at (subst (λ (wide : Bool). at < main_map.outputs + answer_size wide * x.two.slow.outputs) (wide_is x)
+        (subst (λ (l : MemoryMap). at < l.outputs + answer_size x.two.slow.wide * x.two.slow.outputs) (map_is x) to)),
   ));
 }
   where
-    end : (at : ℕ) → at < main_layout.outputs + 1 * x.two.slow.outputs → at < main_layout.outputs + 8
+    end : (at : ℕ) → at < main_map.outputs + 1 * x.two.slow.outputs → at < main_map.outputs + 8
     end at l = let few = outputs_few x in omega arith
 
-given_stays : (x : Given) → LeavesLayout is_open_to_fast main_layout → (bytes : List ℕ) (w : State)
-    → AreOpenAlike is_open_to_fast w.mem (given x.two.slow.layout (fitted bytes) w).mem
+given_stays : (x : Given) → LeavesMapped is_open_to_fast main_map → (bytes : List ℕ) (w : State)
+    → AreOpenAlike is_open_to_fast w.mem (given x.two.slow.memory_map (fitted bytes) w).mem
 given_stays x leaves bytes w =
-    subst (λ (l : Layout). AreOpenAlike is_open_to_fast w.mem (given l (fitted bytes) w).mem) (sym (layout_is x))
+    subst (λ (l : MemoryMap). AreOpenAlike is_open_to_fast w.mem (given l (fitted bytes) w).mem) (sym (map_is x))
     (let laws = x.laws in
-    laws.given_leaves_open is_open_to_fast main_layout (fitted bytes) w (fitted_few bytes) (omega arith) leaves.ready
+    laws.given_leaves_open is_open_to_fast main_map (fitted bytes) w (fitted_few bytes) (omega arith) leaves.ready
     (λ at from to. leaves.reads at (inl (from, to))))
 
-pub level_sound : (x : Given) → LeavesLayout is_open_to_fast x.two.slow.layout → IsLow x.two.slow → WritesAgree
+pub level_sound : (x : Given) → LeavesMapped is_open_to_fast x.two.slow.memory_map → IsLow x.two.slow → WritesAgree
     → WritesAreQuiet
     → Sound is_open_to_fast (fitted_form x.flags x.two x.samples) (FactsBeside is_open_to_fast x.flags x.two.slow)
     (IsGoodLevel (length x.samples)) (FastStands x.fast x.two x.flags x.samples)
@@ -78,7 +78,7 @@ level_sound x leaves_slow low agree quiet = record {
   quiet = λ done a v s good p may begins own. serves x done a v s good
       (record { facts = p; begins = begins; stands = own });
   leaves_open = record {
-    gives = λ done bytes w o. kept done w (given x.two.slow.layout (fitted bytes) w) (given_stays x leaves bytes w)
+    gives = λ done bytes w o. kept done w (given x.two.slow.memory_map (fitted bytes) w) (given_stays x leaves bytes w)
         (given_fit bytes w o.bytes) o;
     leaves = λ done bytes w o. o;
     pushes = λ done w s p l o.
@@ -95,8 +95,8 @@ level_sound x leaves_slow low agree quiet = record {
     laws : LevelLaws
     laws = x.laws
 
-    leaves : LeavesLayout is_open_to_fast main_layout
-    leaves = subst (λ (l : Layout). LeavesLayout is_open_to_fast l) (layout_is x) leaves_slow
+    leaves : LeavesMapped is_open_to_fast main_map
+    leaves = subst (λ (l : MemoryMap). LeavesMapped is_open_to_fast l) (map_is x) leaves_slow
 
     ports : LeavesPorts is_open_to_fast x.two.slow
     ports = ports_of x leaves
@@ -110,7 +110,8 @@ level_sound x leaves_slow low agree quiet = record {
         → StepLeavesOpen is_open_to_fast x.flags w
     open_left w s p l = laws.steps_leave_open is_open_to_fast x.flags x.two.slow w s open_apart p l
 
-    given_fit : (bytes : List ℕ) (w : State) → AreBytes w.mem → AreBytes (given x.two.slow.layout (fitted bytes) w).mem
+    given_fit : (bytes : List ℕ) (w : State) → AreBytes w.mem
+        → AreBytes (given x.two.slow.memory_map (fitted bytes) w).mem
     given_fit bytes w fits =
-        subst (λ (l : Layout). AreBytes (given l (fitted bytes) w).mem) (sym (layout_is x))
-        (let b = laws.bytes in given_bytes b.bytes_stay main_layout bytes w (omega arith) (omega arith) fits)
+        subst (λ (l : MemoryMap). AreBytes (given l (fitted bytes) w).mem) (sym (map_is x))
+        (let b = laws.bytes in given_bytes b.bytes_stay main_map bytes w (omega arith) (omega arith) fits)

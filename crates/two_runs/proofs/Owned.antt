@@ -8,7 +8,7 @@ use Rattle.cpu12_isa.specs.Regions.{is_hidden}
 use Rattle.cpu12_parts.specs.Laws.{addresses}
 use Rattle.cpu12_parts.specs.Touching.{IsIn, Each}
 use Rattle.eval_code.specs.Evaluation.{Reads, Writes}
-use Rattle.two_level.specs.Layouts.{fast_layout, is_fast_ram, is_fast_rom}
+use Rattle.two_level.specs.MemoryMaps.{fast_map, is_fast_ram, is_fast_rom}
 use Rattle.two_level.specs.Running.{fast_code}
 use Rattle.two_runs.specs.Steps.{is_open_inside, is_foreign, is_kept}
 
@@ -29,7 +29,7 @@ frame_own sp at lo hi end low =
     let c : (nat_le sp at && nat_lt at (sp + 9)) ≡ true = grind (arith, nat_tests) in
     rw (a, b, c) refl
 
-read_own : (sp at : ℕ) → Reads fast_layout at → is_foreign sp at ≡ false
+read_own : (sp at : ℕ) → Reads fast_map at → is_foreign sp at ≡ false
 read_own sp at (inl h) = ram_own sp at (omega (arith, h.0)) (omega (arith, h.1))
 read_own sp at (inr (inl h)) = ram_own sp at (omega (arith, h.0)) (omega (arith, h.1))
 read_own sp at (inr (inr (inl h))) = rom_own sp at (omega (arith, h.0)) (omega (arith, h.1))
@@ -38,7 +38,7 @@ read_own sp at (inr (inr (inr (inr (inl h))))) = rom_own sp at (omega (arith, h.
 read_own sp at (inr (inr (inr (inr (inr (inl h)))))) = rom_own sp at (omega (arith, h.0)) (omega (arith, h.1))
 read_own sp at (inr (inr (inr (inr (inr (inr h)))))) = absurd h
 
-pub reads_own : (sp : ℕ) (ats : List ℕ) → Each (Reads fast_layout) ats → AllShown (is_foreign sp) ats
+pub reads_own : (sp : ℕ) (ats : List ℕ) → Each (Reads fast_map) ats → AllShown (is_foreign sp) ats
 reads_own sp [] h = tt
 reads_own sp (at ∷ ats) h = (read_own sp at h.0, reads_own sp ats h.1)
 
@@ -49,12 +49,12 @@ code_own sp (at ∷ ats) h = (rom_own sp at (omega (arith, h.0.0)) (omega (arith
 ram_kept : (at : ℕ) → 0x1400 ≤ at → at < 0x162C → is_kept at ≡ false
 ram_kept at lo hi = let a : is_fast_ram at ≡ true = grind (arith, nat_tests) in rw a refl
 
-write_own : (at : ℕ) → Writes fast_layout at → is_kept at ≡ false
+write_own : (at : ℕ) → Writes fast_map at → is_kept at ≡ false
 write_own at (inl h) = ram_kept at (omega (arith, h.0)) (omega (arith, h.1))
 write_own at (inr (inl h)) = ram_kept at (omega (arith, h.0)) (omega (arith, h.1))
 write_own at (inr (inr h)) = absurd h
 
-pub writes_own : (ats : List ℕ) → Each (Writes fast_layout) ats → AllShown is_kept ats
+pub writes_own : (ats : List ℕ) → Each (Writes fast_map) ats → AllShown is_kept ats
 writes_own [] h = tt
 writes_own (at ∷ ats) h = (write_own at h.0, writes_own ats h.1)
 

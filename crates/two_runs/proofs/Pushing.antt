@@ -10,7 +10,7 @@ use Rattle.cpu12_isa.proofs.Algebra.{read_placed, bytes_unwritten}
 use Rattle.cpu12_isa.specs.Registers.{frame_bytes}
 use Rattle.cpu12_parts.specs.State.{State}
 use Rattle.eval_code.specs.Evaluation.{HasBytes}
-use Rattle.two_level.specs.Layouts.{fast_layout}
+use Rattle.two_level.specs.MemoryMaps.{fast_map}
 use Rattle.run_forms.proofs.Algebra.{placed_in}
 
 -- memory in which the frame is pushed, and that in which the sample's bytes are written too
@@ -18,7 +18,7 @@ abbrev pub framed_mem : State → List ℕ
 framed_mem v = write_all (placed (plus v.regs.sp 65527) (frame_bytes v.regs)) v.mem
 
 abbrev pub entered_mem : List ℕ → State → List ℕ
-entered_mem bytes v = write_all (placed fast_layout.inputs bytes) (framed_mem v)
+entered_mem bytes v = write_all (placed fast_map.inputs bytes) (framed_mem v)
 
 -- SP below the frame
 pub frame_at : (sp : ℕ) → 0x1FF8 ≤ sp → sp ≤ 0x2000 → plus sp 65527 + 9 ≡ sp
@@ -30,14 +30,14 @@ pub stays : WritesStay → (bytes : List ℕ) (v : State) (at : ℕ) → length 
     → (at < 0x1401) ⊎ (0x1409 ≤ at) → (at < plus v.regs.sp 65527) ⊎ (v.regs.sp ≤ at)
     → slice_index (entered_mem bytes v) at ≡ slice_index v.mem at
 stays stay bytes v at few lo hi out away =
-    (stay (placed fast_layout.inputs bytes) (framed_mem v)).1 at (not_sample out)
+    (stay (placed fast_map.inputs bytes) (framed_mem v)).1 at (not_sample out)
     ∙ (stay (placed (plus v.regs.sp 65527) (frame_bytes v.regs)) v.mem).1 at (not_frame away)
   where
-    not_sample : (at < 0x1401) ⊎ (0x1409 ≤ at) → IsWritten (placed fast_layout.inputs bytes) at → ⊥
+    not_sample : (at < 0x1401) ⊎ (0x1409 ≤ at) → IsWritten (placed fast_map.inputs bytes) at → ⊥
     not_sample (inl l) w =
-        (let r = placed_in bytes fast_layout.inputs at (omega arith) w in absurd (omega (arith, r.0)))
+        (let r = placed_in bytes fast_map.inputs at (omega arith) w in absurd (omega (arith, r.0)))
     not_sample (inr l) w =
-        (let r = placed_in bytes fast_layout.inputs at (omega arith) w in absurd (omega (arith, r.1)))
+        (let r = placed_in bytes fast_map.inputs at (omega arith) w in absurd (omega (arith, r.1)))
 
     end : plus v.regs.sp 65527 + 9 ≡ v.regs.sp
     end = frame_at v.regs.sp lo hi
@@ -53,7 +53,7 @@ stays stay bytes v at few lo hi out away =
 
 pub size_stays : WritesStay → (bytes : List ℕ) (v : State) → length (entered_mem bytes v) ≡ length v.mem
 size_stays stay bytes v =
-    (stay (placed fast_layout.inputs bytes) (framed_mem v)).0
+    (stay (placed fast_map.inputs bytes) (framed_mem v)).0
     ∙ (stay (placed (plus v.regs.sp 65527) (frame_bytes v.regs)) v.mem).0
 
 -- the frame is read again
@@ -61,12 +61,12 @@ pub frame_read : WritesStay → (bytes : List ℕ) (v : State) → length v.mem 
     → 0x1FF8 ≤ v.regs.sp
     → v.regs.sp ≤ 0x2000 → bytes_at (entered_mem bytes v) (from (plus v.regs.sp 65527) 9) ≡ frame_bytes v.regs
 frame_read stay bytes v size few lo hi =
-    bytes_unwritten (placed fast_layout.inputs bytes) (framed_mem v) 9 (plus v.regs.sp 65527) (omega arith) away
+    bytes_unwritten (placed fast_map.inputs bytes) (framed_mem v) 9 (plus v.regs.sp 65527) (omega arith) away
     ∙ read_placed (frame_bytes v.regs) (plus v.regs.sp 65527) v.mem (omega arith) (omega arith) size
   where
-    away : (k : ℕ) → k < 9 → IsWritten (placed fast_layout.inputs bytes) ((plus v.regs.sp 65527 + k) % 2 ^ 16) → ⊥
+    away : (k : ℕ) → k < 9 → IsWritten (placed fast_map.inputs bytes) ((plus v.regs.sp 65527 + k) % 2 ^ 16) → ⊥
     away k l w =
-        (let r = placed_in bytes fast_layout.inputs ((plus v.regs.sp 65527 + k) % 2 ^ 16) (omega arith) w in
+        (let r = placed_in bytes fast_map.inputs ((plus v.regs.sp 65527 + k) % 2 ^ 16) (omega arith) w in
         absurd (omega (arith, r.1)))
 
 -- and so are the sample's bytes

@@ -18,7 +18,7 @@ use Rattle.cpu12_isa.proofs.Algebra.{bit}
 use Rattle.cpu12_parts.specs.State.{State}
 use Rattle.cpu12_parts.specs.Laws.{IsOff}
 use Rattle.cpu12_emul.specs.Simulation.{Same}
-use Rattle.two_level.specs.Layouts.{fast_layout, is_fast_ram}
+use Rattle.two_level.specs.MemoryMaps.{fast_map, is_fast_ram}
 use Rattle.two_runs.specs.Runs.{entered, fast_run}
 use Rattle.two_runs.specs.Steps.{is_open_inside}
 use Rattle.two_runs.specs.Inside.{FollowsInside, FastRunsFollow}
@@ -85,7 +85,7 @@ outer_is_quiet laws b image bytes flags most before inner v t hf few_in few_out 
   bytes_fit = ran.follows.own;
   answers = λ o from to.
       (let a = r.answers o from to in
-      (same.mem.bytes (fast_layout.outputs + 1 * (o - 1)) (output_shown o from to) ∙ a.0, tt));
+      (same.mem.bytes (fast_map.outputs + 1 * (o - 1)) (output_shown o from to) ∙ a.0, tt));
 }
   where
     few : length bytes ≤ 8
@@ -116,9 +116,9 @@ outer_is_quiet laws b image bytes flags most before inner v t hf few_in few_out 
         (away v.regs.sp at can.low can.high p.1))
 
     output_shown : (o : ℕ) → 1 ≤ o → o ≤ length b.outputs
-        → is_hidden is_open_inside t.regs.sp (fast_layout.outputs + 1 * (o - 1)) ≡ false
+        → is_hidden is_open_inside t.regs.sp (fast_map.outputs + 1 * (o - 1)) ≡ false
     output_shown o from to =
-        shown (fast_layout.outputs + 1 * (o - 1)) (low (fast_layout.outputs + 1 * (o - 1)) (omega arith))
+        shown (fast_map.outputs + 1 * (o - 1)) (low (fast_map.outputs + 1 * (o - 1)) (omega arith))
       where
         low : (at : ℕ) → at < 0x1FE0 → (nat_le 0x1FE0 at && nat_lt at v.regs.sp) ≡ false
         low at l = grind (arith, nat_tests)

@@ -23,7 +23,7 @@ use Rattle.run_law.specs.Steps.{StepLaws}
 use Rattle.run_law.proofs.Algebra.{before_more, Stretch, joined, one_stretch}
 use Rattle.fuzzy_meaning.specs.declared.block.Block.{Block}
 use Rattle.eval_code.specs.Evaluation.{Reads, Writes}
-use Rattle.two_level.specs.Layouts.{fast_layout}
+use Rattle.two_level.specs.MemoryMaps.{fast_map}
 use Rattle.two_level.specs.Running.{IsFastStack, fast_code, IsInFast, IsFastStep, IsFastAnswered}
 use Rattle.two_runs.specs.Steps.{is_foreign, is_kept, IsFastState, IsOpenState, IsFastRun, FastStepsReturn}
 use Rattle.two_runs.proofs.Owned.{code_own, frame_shown, not_written, stack_kept}
@@ -185,7 +185,7 @@ fast_steps_return laws b image flags bytes before s u hf opens entered r = by r.
     decoded =
         (let inside = entered.inside in
         ap (decode_at s.mem) entered.pc
-        ∙ same_decode image image s.mem fast_layout.code (Andcc 0xEF) (λ at lo hi. refl) inside.rom
+        ∙ same_decode image image s.mem fast_map.code (Andcc 0xEF) (λ at lo hi. refl) inside.rom
         (subst (λ (n : ℕ). Each (IsIn fast_code) (six_from n)) entered.pc inside.code) opens)
 
     by : (es : List ℕ) → r.ds ≡ es → Execution (IsFastStep image flags) es s u
@@ -196,7 +196,7 @@ fast_steps_return laws b image flags bytes before s u hf opens entered r = by r.
         let v = e.0 in
         let h : IsFastStep image flags d s v = e.1.0 in
         let start = begins image true s.regs.sp s h.inside refl masked in
-        let short : d ≡ 0 = no_parts (Reads fast_layout) (Writes fast_layout) flags d s v decoded h.instruction in
+        let short : d ≡ 0 = no_parts (Reads fast_map) (Writes fast_map) flags d s v decoded h.instruction in
         let first : Stretch (Kept image true flags s.regs.sp) flags 1 1 s v =
         subst (λ (k : ℕ). Stretch (Kept image true flags s.regs.sp) flags (suc k) 1 s v) short
         (instruction_at laws image true flags s.regs.sp d s v hf start h.instruction h.stack) in

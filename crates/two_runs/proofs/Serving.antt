@@ -9,7 +9,7 @@ use Rattle.cpu12_parts.specs.declared.temps.Temps.{Temps}
 use Rattle.cpu12_parts.specs.declared.temps.Temps.TheVariants.{Free, Running, OnStack}
 use Rattle.cpu12_parts.specs.Laws.{IsOff}
 use Rattle.run_law.specs.Soundness.{WritesAreQuiet, Quiet, AreLeft}
-use Rattle.two_level.specs.Layouts.{is_fast_ram, is_fast_rom, is_open_to_fast}
+use Rattle.two_level.specs.MemoryMaps.{is_fast_ram, is_fast_rom, is_open_to_fast}
 use Rattle.two_runs.specs.Runs.{entered, fast_run, served_by}
 use Rattle.two_runs.specs.Outer.{OuterIsQuiet, IsQuietRun, RunsFast, IsServable, AreSlow, OuterServes}
 

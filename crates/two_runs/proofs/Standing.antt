@@ -11,7 +11,7 @@ use Rattle.eval_code.specs.declared.width.Width.TheVariants.{Byte}
 use Rattle.eval_code.specs.Evaluation.{HasAnswers}
 use Rattle.interrupt_plan.specs.declared.levels.Level.{Level}
 use Rattle.two_level.specs.declared.two.Two.{Two}
-use Rattle.two_level.specs.Layouts.{fast_layout, is_fast_ram, is_fast_rom, is_open_to_fast}
+use Rattle.two_level.specs.MemoryMaps.{fast_map, is_fast_ram, is_fast_rom, is_open_to_fast}
 use Rattle.fz_run.specs.OpenBytes.{AreOpenAlike}
 use Rattle.two_runs.specs.Runs.{FastSeen}
 use Rattle.two_runs.specs.Outer.{HasFastCode}
@@ -39,10 +39,10 @@ code_stays image m n alike h = record {
 }
 
 pub outputs_stay : (b : Block) (answers : ℕ → ℕ) (m n : List ℕ) → length b.outputs ≤ 8
-    → AreOpenAlike is_open_to_fast m n → HasAnswers fast_layout b Byte answers m
-    → HasAnswers fast_layout b Byte answers n
+    → AreOpenAlike is_open_to_fast m n → HasAnswers fast_map b Byte answers m
+    → HasAnswers fast_map b Byte answers n
 outputs_stay b answers m n few alike h o from to =
-    let at = fast_layout.outputs + 1 * (o - 1) in
+    let at = fast_map.outputs + 1 * (o - 1) in
     let r = h o from to in
     (alike at (ram_open at (omega arith) (omega arith)) ∙ r.0, tt)
 

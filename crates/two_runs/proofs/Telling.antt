@@ -13,7 +13,7 @@ use Rattle.eval_code.specs.Widths.{answer}
 use Rattle.eval_code.specs.Evaluation.{HasAnswers}
 use Rattle.codegen.specs.Uninterrupted.{IsAnswerOf}
 use Rattle.two_level.specs.declared.two.Two.{Two}
-use Rattle.two_level.specs.Layouts.{fast_layout}
+use Rattle.two_level.specs.MemoryMaps.{fast_map}
 use Rattle.fz_run.specs.Rows.{bytes_of}
 use Rattle.two_runs.specs.Runs.{entered, fast_run, seen_of}
 use Rattle.two_runs.specs.Steps.{IsFastRun}
@@ -36,17 +36,17 @@ count_at (suc n) at m = let r = count_at n (plus at 1) m in omega (arith, r)
 -- the answers of a run at whose end these stand in memory
 pub answers_told : (b : Block) (most number : ℕ) (before : ℕ → ℕ) (bytes : List ℕ) (r : Ran ℕ (Unit {0}))
     → length b.outputs ≤ 8 → r.instrs ≤ most
-    → HasAnswers fast_layout b Byte (λ o. answer Byte b o bytes (before o)) r.state.mem
+    → HasAnswers fast_map b Byte (λ o. answer Byte b o bytes (before o)) r.state.mem
     → IsAnswerOf Byte b most before bytes (answer_of_fast (seen_of number (length b.outputs) r))
 answers_told b most number before bytes r few le h = record {
   values = λ o from to. (let a = h o from to in
-      read_at (length b.outputs) fast_layout.outputs (o - 1) r.state.mem (omega arith) (omega arith)
+      read_at (length b.outputs) fast_map.outputs (o - 1) r.state.mem (omega arith) (omega arith)
       ∙ ap (slice_index r.state.mem) (place o) ∙ a.0);
-  count = count_at (length b.outputs) fast_layout.outputs r.state.mem;
+  count = count_at (length b.outputs) fast_map.outputs r.state.mem;
   instructions = le;
 }
   where
-    place : (o : ℕ) → fast_layout.outputs + (o - 1) ≡ fast_layout.outputs + 1 * (o - 1)
+    place : (o : ℕ) → fast_map.outputs + (o - 1) ≡ fast_map.outputs + 1 * (o - 1)
     place o = omega arith
 
 -- what is read off the run without inner requests

@@ -9,17 +9,17 @@ use Rattle.cpu12_parts.specs.State.{State}
 use Rattle.cpu12_parts.specs.Cuts.{suspended, wav}
 use Rattle.cpu12_emul.specs.Take as take
 use Rattle.cpu12_emul.specs.Take.{pairs_of, pushed, vectored}
-use Rattle.two_level.specs.Layouts.{fast_layout}
+use Rattle.two_level.specs.MemoryMaps.{fast_map}
 use Rattle.two_runs.specs.Runs.{entered}
 
 -- what enters the fast code with these writes enters it with the bytes that they put
 pub entered_with : (ws : List Write) (bytes : List ℕ) (k next : ℕ) (s : State) → k ≡ length bytes
-    → pairs_of (take k ws) ++ placed next (drop k bytes) ≡ placed fast_layout.inputs bytes
+    → pairs_of (take k ws) ++ placed next (drop k bytes) ≡ placed fast_map.inputs bytes
     → take.entered (take (length bytes) ws) s ≡ entered bytes (suspended wav s)
 entered_with ws bytes k next s all pairs =
     let v : State = pushed (suspended wav s) in
     let none : drop k bytes ≡ [] = drop_all k bytes (omega arith) in
-    let put : pairs_of (take (length bytes) ws) ≡ placed fast_layout.inputs bytes =
+    let put : pairs_of (take (length bytes) ws) ≡ placed fast_map.inputs bytes =
     ap (λ j. pairs_of (take j ws)) (sym all) ∙ sym (append-nil (pairs_of (take k ws)))
     ∙ ap (λ l. pairs_of (take k ws) ++ placed next l) (sym none) ∙ pairs in
     ap (λ (ps : List (ℕ × ℕ)). vectored (record v { mem = write_all ps v.mem })) put

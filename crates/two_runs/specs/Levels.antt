@@ -15,7 +15,7 @@ use Rattle.eval_code.specs.Evaluation.{HasAnswers}
 use Rattle.codegen.specs.Uninterrupted.{IsAnswerOf}
 use Rattle.two_level.specs.declared.two.Two.{Two}
 use Rattle.two_level.specs.Images.{fast_most}
-use Rattle.two_level.specs.Layouts.{fast_layout, is_open_to_fast}
+use Rattle.two_level.specs.MemoryMaps.{fast_map, is_open_to_fast}
 use Rattle.firmware_ports.specs.Ports.{given}
 use Rattle.instruction_steps.specs.Facts.{FactsBeside}
 use Rattle.fz_run.specs.Rows.{bytes_of}
@@ -30,7 +30,7 @@ fitted x = map (λ v. v % 2 ^ 8) (take 8 x)
 
 -- The form that takes these of each sample, whatever it is given: of the bytes of a block's inputs it takes all.
 abbrev pub fitted_form : ℕ → Two → List (List ℕ) → Form (List ℕ) Level (Option FastSeen)
-fitted_form flags two fast = record (level_form flags two fast) { give = λ x. given two.slow.layout (fitted x) }
+fitted_form flags two fast = record (level_form flags two fast) { give = λ x. given two.slow.memory_map (fitted x) }
 
 -- the fast outputs after what a level told, and after what levels told, the last first
 abbrev pub outputs_told : Block → List (List ℕ) → (ℕ → ℕ) → Option FastSeen → ℕ → ℕ
@@ -58,7 +58,7 @@ pub record FastStands (b : Block) (two : Two) (flags : ℕ) (fast : List (List �
     (done : List (Level × Option FastSeen)) (w : State) : Type 0 where
   pub bytes : AreBytes w.mem
   pub code : HasFastCode (image_memory two.image.bytes) w.mem
-  pub outputs : HasAnswers fast_layout b Byte (outputs_after b fast done) w.mem
+  pub outputs : HasAnswers fast_map b Byte (outputs_after b fast done) w.mem
   pub answers : AreAnswersTold b two fast done
   pub told : AreTold b two flags fast done
 

@@ -19,7 +19,7 @@ use Rattle.cpu12_emul.specs.Simulation.{HasRoom}
 use Rattle.run_law.specs.Forms.{Ran}
 use Rattle.run_law.specs.Soundness.{Ascend, Begins, Quiet}
 use Rattle.two_level.specs.declared.two.Two.{Two}
-use Rattle.two_level.specs.Layouts.{fast_layout, is_fast_ram, is_open_to_fast}
+use Rattle.two_level.specs.MemoryMaps.{fast_map, is_fast_ram, is_open_to_fast}
 use Rattle.two_level.specs.Images.{fast_most, IsTwoOf}
 use Rattle.two_level.specs.Running.{HasFastRom, IsEntered}
 use Rattle.two_runs.specs.Runs.{entered, fast_run, Outer, served}
@@ -28,7 +28,7 @@ use Rattle.two_runs.specs.Steps.{IsFastRun}
 -- the fast code stands in memory, and the vector leads to it
 pub record HasFastCode (image mem : List ℕ) : Type 0 where
   pub rom : HasFastRom image mem
-  pub enters : vector_word mem ≡ fast_layout.code
+  pub enters : vector_word mem ≡ fast_map.code
 
 -- An outer interrupt may enter the fast code from here, after these answers: no sums run, and below SP there is room
 -- for its own frame and for one of an inner interrupt.
@@ -40,7 +40,7 @@ pub record CanEnter (b : Block) (image : List ℕ) (before : ℕ → ℕ) (v : S
   pub low : stack_start + 24 ≤ v.regs.sp
   pub high : v.regs.sp ≤ stack_end
   pub code : HasFastCode image v.mem
-  pub outputs : HasAnswers fast_layout b Byte before v.mem
+  pub outputs : HasAnswers fast_map b Byte before v.mem
 
 -- It enters the fast code.
 abbrev pub OuterEnters : Type 0
@@ -58,7 +58,7 @@ pub record IsQuietRun {A B : Type 0} (b : Block) (bytes : List ℕ) (before : �
   pub free : v.temps ≡ Free → r.state.temps ≡ Free
   pub mem : Agree (is_hidden is_fast_ram v.regs.sp) r.state.mem v.mem
   pub bytes_fit : AreBytes r.state.mem
-  pub answers : HasAnswers fast_layout b Byte (λ o. answer Byte b o bytes (before o)) r.state.mem
+  pub answers : HasAnswers fast_map b Byte (λ o. answer Byte b o bytes (before o)) r.state.mem
 
 -- So is each interrupt with a fast run, whose inner moments do not fall.
 abbrev pub OuterIsQuiet : Type 0

@@ -37,7 +37,7 @@ levels_of k levels = of_sample place_of_level k levels
 
 -- the state in which the slow firmware waits for its first sample, with the fast block beside it
 abbrev pub first_two : Two → ℕ → State
-first_two two flags = arrived_at flags two.slow.layout.wait two.slow.step_bound two.image.bytes
+first_two two flags = arrived_at flags two.slow.memory_map.wait two.slow.step_bound two.image.bytes
 
 -- the run over a list of slow samples under levels over a list of fast ones
 abbrev pub two_rows : Two → List (List ℕ) → List (List ℕ) → List Level → ℕ → Rows (List ℕ) Level (Option FastSeen)

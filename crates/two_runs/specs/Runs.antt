@@ -4,12 +4,12 @@ use Rattle.cpu12_isa.specs.Act.{write_all}
 use Rattle.cpu12_isa.specs.Memory.{from, placed, bytes_at}
 use Rattle.cpu12_parts.specs.State.{State}
 use Rattle.cpu12_emul.specs.Take.{FrameSeen, pushed, vectored, framed}
-use Rattle.two_level.specs.Layouts.{fast_layout}
+use Rattle.two_level.specs.MemoryMaps.{fast_map}
 use Rattle.run_law.specs.Forms.{Form, Ran, run_from}
 
 -- bytes of a sample at the fast inputs
 abbrev pub sampled : List ℕ → State → State
-sampled bytes s = record s { mem = write_all (placed fast_layout.inputs bytes) s.mem }
+sampled bytes s = record s { mem = write_all (placed fast_map.inputs bytes) s.mem }
 
 -- The fast code is entered where no sums run: the nine bytes are pushed, I is set, a sample's bytes are written, and
 -- PC comes from the vector.
@@ -24,7 +24,7 @@ fast_form flags outputs sp = record {
   give = λ x s. s;
   leave = λ x s. s;
   ends = λ m s. nat_lt sp s.regs.sp;
-  answers = λ s. bytes_at s.mem (from fast_layout.outputs outputs);
+  answers = λ s. bytes_at s.mem (from fast_map.outputs outputs);
   moment = λ q. q;
   handle = λ q s. framed [] s;
   tells = λ q s. tt;
@@ -46,7 +46,7 @@ pub record FastSeen : Type 0 where
 abbrev pub seen_of : ℕ → ℕ → Ran ℕ (Unit {0}) → FastSeen
 seen_of number outputs r = record {
   number = number;
-  answers = bytes_at r.state.mem (from fast_layout.outputs outputs);
+  answers = bytes_at r.state.mem (from fast_map.outputs outputs);
   instrs = r.instrs;
   steps = r.steps;
   resumed = r.resumed;

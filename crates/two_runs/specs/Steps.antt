@@ -26,7 +26,7 @@ use Rattle.eval_code.specs.Firing.{AreInputBytes}
 use Rattle.eval_code.specs.Evaluation.{HasAnswers}
 use Rattle.run_law.specs.Uninterrupted.{stepped, uninterrupted, counted}
 use Rattle.run_law.specs.Soundness.{Before}
-use Rattle.two_level.specs.Layouts.{fast_layout, is_fast_ram, is_fast_rom}
+use Rattle.two_level.specs.MemoryMaps.{fast_map, is_fast_ram, is_fast_rom}
 use Rattle.two_level.specs.declared.two.Two.{Two}
 use Rattle.two_level.specs.Images.{fast_most, IsTwoOf}
 use Rattle.two_level.specs.Running.{HasFastRom, LetsIn, IsFastStack, IsEntered, IsFastAnswered}
@@ -78,12 +78,12 @@ pub record IsFastRun (b : Block) (image : List ℕ) (flags : ℕ) (bytes : List 
   pub regs : t.regs ≡ pulled (record (s.regs) { ccr = ccr }) (bytes_at s.mem (from s.regs.sp 9))
   pub off : IsOff t.temps
   pub free : s.temps ≡ Free → t.temps ≡ Free
-  pub answers : HasAnswers fast_layout b Byte (λ o. answer Byte b o bytes (before o)) t.mem
+  pub answers : HasAnswers fast_map b Byte (λ o. answer Byte b o bytes (before o)) t.mem
   pub fit : AreBytes t.mem
   pub size : length t.mem ≡ length s.mem
   pub kept : (at : ℕ) → is_kept at ≡ true → slice_index t.mem at ≡ slice_index s.mem at
-  pub elsewhere : (at : ℕ) → (at < fast_layout.outputs) ⊎ (fast_layout.outputs + length b.outputs ≤ at)
-      → (at < fast_layout.slots) ⊎ (fast_layout.slots + length (slots_of b) ≤ at)
+  pub elsewhere : (at : ℕ) → (at < fast_map.outputs) ⊎ (fast_map.outputs + length b.outputs ≤ at)
+      → (at < fast_map.slots) ⊎ (fast_map.slots + length (slots_of b) ≤ at)
       → slice_index t.mem at ≡ slice_index s.mem at
   pub instructions : counted flags (suc further) s ≤ fast_most (instruction_bound Byte b)
   pub steps : suc further ≤ fast_most (step_bound Byte b)

@@ -4,7 +4,7 @@ ghost use Rattle.arrayvec.specs.ArrayVec.{array_vec_len};
 ghost use Rattle.cpu12_parts.specs.Cuts.{suspended, wav};
 ghost use Rattle.cpu12_isa.specs.Memory.{from, bytes_at};
 ghost use Rattle.cpu12_emul.specs.Take.{may_interrupt, frame_seen, frame_of};
-ghost use Rattle.two_level.specs.Layouts.{fast_layout};
+ghost use Rattle.two_level.specs.MemoryMaps.{fast_map};
 ghost use Rattle.two_runs.specs.Runs.{fast_run, entered};
 ghost use Rattle.two_runs.specs.Counts.{counted, counted_at, inner_frames_seen};
 
@@ -14,7 +14,7 @@ use cpu12_emul::ends::Frame;
 use cpu12_emul::machine::Machine;
 use cpu12_isa::instr::Write;
 use cpu12_isa::mem::Mem;
-use two_level::fast_layout;
+use two_level::fast_map;
 
 /// Takes an outer interrupt up to the first instruction of the fast code, with a sample's bytes at its inputs.
 pub(crate) fn enter<M: Mem>(m: &mut Machine<M>, bytes: &[u8]) -> Frame
@@ -26,7 +26,7 @@ pub(crate) fn enter<M: Mem>(m: &mut Machine<M>, bytes: &[u8]) -> Frame
     ensures flags { m.new.flags ≡ m.old.flags }
 {
     let mut writes = [Write { at: 0, value: 0 }; 8];
-    let mut next = fast_layout().inputs;
+    let mut next = fast_map().inputs;
     for (k, byte) in bytes.iter().enumerate() {
         writes[k] = Write {
             at: next,
@@ -65,10 +65,10 @@ pub(crate) fn run_inside<M: Mem>(m: &mut Machine<M>, most: u32, moments: &[u32])
 /// The answers of the fast code, in the order of the outputs, of which there are at most four.
 pub(crate) fn answers<M: Mem>(m: &Machine<M>, outputs: u8) -> ArrayVec<u16, 4>
     requires { outputs ≤ 4 }
-    ensures { result.items ≡ bytes_at m.now.state.mem (from fast_layout.outputs outputs) }
+    ensures { result.items ≡ bytes_at m.now.state.mem (from fast_map.outputs outputs) }
 {
     let mut answers = ArrayVec::new();
-    let mut next = fast_layout().outputs;
+    let mut next = fast_map().outputs;
     let mut left = outputs;
     while left > 0 {
         answers.push(u16::from(m.peek(next)));

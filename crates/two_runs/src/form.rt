@@ -45,18 +45,18 @@ impl<'a> RunForm<Level, Option<FastRow>, TwoRow> for WithLevels<'a> {
     }
 
     fn give<M: Mem>(&self, m: &mut Machine<M>, k: usize) {
-        give(&self.two.slow.layout, m, self.slow[k].bytes.as_slice());
+        give(&self.two.slow.memory_map, m, self.slow[k].bytes.as_slice());
     }
 
     fn leave<M: Mem>(&self, _m: &mut Machine<M>, _k: usize) {}
 
     fn ends<M: Mem>(&self, m: &Machine<M>) -> bool {
-        is_idle(&self.two.slow.layout, m)
+        is_idle(&self.two.slow.memory_map, m)
     }
 
     #[inline(always)]
     fn goes_on_here<M: Mem>(&self, m: &Machine<M>) -> bool {
-        is_busy_here(&self.two.slow.layout, m)
+        is_busy_here(&self.two.slow.memory_map, m)
     }
 
     #[inline(always)]

@@ -53,7 +53,7 @@ pub fn run_two(
     let form = WithLevels { two, slow, fast };
     let start = Start {
         image: &two.image,
-        wait: two.slow.layout.wait,
+        wait: two.slow.memory_map.wait,
         most: two.slow.step_bound,
     };
     let (rows, _memory): (Vec<TwoRow>, PageMem) = run_form(

@@ -14,12 +14,12 @@ use Rattle.cpu12_asm.specs.Bytes.{byte_at}
 use Rattle.cpu12_parts.specs.State.{State}
 use Rattle.cpu12_parts.specs.Executions.{Execution, all_steps}
 use Rattle.cpu12_emul.specs.Image.{image_memory}
-use Rattle.eval_code.specs.declared.layout.Layout.{Layout}
+use Rattle.eval_code.specs.declared.memory_map.MemoryMap.{MemoryMap}
 use Rattle.codegen.specs.declared.firmware.Firmware.{Firmware}
 use Rattle.watched_code.specs.declared.segments.Segment.{Segment}
 use Rattle.eval_code.specs.declared.width.Width.TheVariants.{Byte}
 use Rattle.eval_code.specs.Widths.{answer}
-use Rattle.eval_code.specs.Layouts.{main_layout}
+use Rattle.eval_code.specs.MemoryMaps.{main_map}
 use Rattle.eval_code.specs.Bounds.{instruction_bound, steps_by}
 use Rattle.eval_code.specs.Items.{block_items}
 use Rattle.codegen.specs.Images.{vector_items, IsImageOf}
@@ -27,24 +27,24 @@ use Rattle.eval_code.specs.Firing.{AreInputBytes}
 use Rattle.eval_code.specs.Evaluation.{HasAnswers}
 use Rattle.codegen.specs.Interruptible.{is_idle, IsInterruptible, IsInterruptibleStep}
 use Rattle.codegen.specs.Answers.{given, IsArrived}
-use Rattle.watched_code.specs.WatchedCode.{segments_of, fault_at, watched_front, watched_layout}
+use Rattle.watched_code.specs.WatchedCode.{segments_of, fault_at, watched_front, watched_map}
 
 -- the items of its image: those of a block with the check before EVAL, and the vectors
 abbrev pub watched_items : Block → List Item
 watched_items b =
-    block_items (watched_layout b) b Byte (watched_front main_layout b) (Rts ∷ []) ++ vector_items (watched_layout b)
+    block_items (watched_map b) b Byte (watched_front main_map b) (Rts ∷ []) ++ vector_items (watched_map b)
 
 -- what a segment adds to the instructions of a sample: three for each byte, and one
 abbrev pub segment_bound : Segment → ℕ
 segment_bound s = 1 + 3 * length s.bytes
 
 unfoldable pub watched_bound : Block → ℕ
-watched_bound b = instruction_bound Byte b + 4 + sum_by segment_bound (segments_of main_layout b)
+watched_bound b = instruction_bound Byte b + 4 + sum_by segment_bound (segments_of main_map b)
 
 -- a firmware is that of a block with watched tables
 pub record IsWatchedFirmwareOf (b : Block) (f : Firmware) : Type 0 where
   pub image : IsImageOf (watched_items b) f.image
-  pub layout : f.layout ≡ watched_layout b
+  pub memory_map : f.memory_map ≡ watched_map b
   pub inputs : f.inputs ≡ length b.inputs
   pub outputs : f.outputs ≡ length b.outputs
   pub narrow : f.wide ≡ false
@@ -70,11 +70,11 @@ pub record Watched : Type 0 where
   pub change : Option Change
 
 -- the byte is one that the image has from the tables' start up to the vectors
-abbrev pub IsTableChange : Layout → List (ℕ × ℕ) → Option Change → Type 0
+abbrev pub IsTableChange : MemoryMap → List (ℕ × ℕ) → Option Change → Type 0
 IsTableChange l image None = Unit {0}
 IsTableChange l image (Some c) = (l.tables ≤ c.0) × (c.0 < vector) × (byte_at image c.0 ≢ None) × (c.1 < 2 ^ 8)
 
-pub record IsGoodSample (b : Block) (l : Layout) (image : List (ℕ × ℕ)) (x : Watched) : Type 0 where
+pub record IsGoodSample (b : Block) (l : MemoryMap) (image : List (ℕ × ℕ)) (x : Watched) : Type 0 where
   pub bytes : AreInputBytes b x.bytes
   pub change : IsTableChange l image x.change
 
@@ -98,7 +98,7 @@ abbrev pub watched_fault : List ℕ → Watched → ℕ
 watched_fault image x = if is_upset image x.change then 1 else 0
 
 -- a sample is given: its bytes and READY are written, and the byte is changed
-abbrev pub upset_given : Layout → Watched → State → State
+abbrev pub upset_given : MemoryMap → Watched → State → State
 upset_given l x s = record s { mem = changed x.change (given l x.bytes s).mem }
 
 -- the change is taken away again: the image's byte stands there
@@ -108,7 +108,7 @@ restored image (Some c) s = record s { mem = slice_set s.mem c.0 (slice_index im
 
 -- From there at most so many whole instructions lead to where the code waits again, and memory from $2000 on is the
 -- image with the byte changed. The answers and FAULT are the sample's.
-pub record IsWatchAnswered (l : Layout) (b : Block) (most : ℕ) (image : List ℕ) (flags : ℕ) (before : ℕ → ℕ)
+pub record IsWatchAnswered (l : MemoryMap) (b : Block) (most : ℕ) (image : List ℕ) (flags : ℕ) (before : ℕ → ℕ)
     (x : Watched) (s t : State) : Type 0 where
   pub ds : List ℕ
   pub execution : Execution (IsInterruptibleStep is_free l (changed x.change image) flags) ds (upset_given l x s) t
@@ -120,7 +120,7 @@ pub record IsWatchAnswered (l : Layout) (b : Block) (most : ℕ) (image : List �
   pub steps : all_steps ds ≤ steps_by b most
 
 -- a list of samples, each answered after the one before
-abbrev pub AreWatchAnswered : Layout → Block → ℕ → List ℕ → ℕ → (ℕ → ℕ) → List Watched → State → Type 0
+abbrev pub AreWatchAnswered : MemoryMap → Block → ℕ → List ℕ → ℕ → (ℕ → ℕ) → List Watched → State → Type 0
 AreWatchAnswered l b most image flags before [] s = Unit {0}
 AreWatchAnswered l b most image flags before (x ∷ xs) s =
     (t : State) × (IsWatchAnswered l b most image flags before x s t
@@ -131,9 +131,9 @@ AreWatchAnswered l b most image flags before (x ∷ xs) s =
 -- changed in each of them or in none.
 abbrev pub AnswersWatched : Block → Firmware → Type 0
 AnswersWatched b f =
-    (flags : ℕ) (samples : List Watched) → flags < 2 ^ 8 → All (IsGoodSample b f.layout f.image.bytes) samples
-    → (s : State) × (IsArrived f.layout (image_memory f.image.bytes) flags s
-    × AreWatchAnswered f.layout b f.instr_bound (image_memory f.image.bytes) flags (λ o. 0) samples s)
+    (flags : ℕ) (samples : List Watched) → flags < 2 ^ 8 → All (IsGoodSample b f.memory_map f.image.bytes) samples
+    → (s : State) × (IsArrived f.memory_map (image_memory f.image.bytes) flags s
+    × AreWatchAnswered f.memory_map b f.instr_bound (image_memory f.image.bytes) flags (λ o. 0) samples s)
 
 -- The firmware of a block with watched tables does.
 abbrev pub WatchedAnswers : Type 0

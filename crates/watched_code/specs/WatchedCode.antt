@@ -10,9 +10,9 @@ use Rattle.rule_layout.specs.Layouts.{form_of, weights_of}
 use Rattle.cpu12_isa.specs.declared.instr.Instr.{Instr}
 use Rattle.cpu12_isa.specs.declared.instr.Instr.TheVariants.{LdabImmediate, LdxImmediate, StabExtended, ClrExtended}
 use Rattle.cpu12_isa.specs.declared.instr.Instr.TheVariants.{CpxImmediate, Bne, Rts, AddbImmediate, AddbPostIncrementX}
-use Rattle.eval_code.specs.declared.layout.Layout.{Layout}
+use Rattle.eval_code.specs.declared.memory_map.MemoryMap.{MemoryMap}
 use Rattle.watched_code.specs.declared.segments.Segment.{Segment}
-use Rattle.eval_code.specs.Layouts.{main_layout}
+use Rattle.eval_code.specs.MemoryMaps.{main_map}
 use Rattle.eval_code.specs.Code.{code_bytes}
 use Rattle.codegen.specs.Code.{frame_code}
 use Rattle.eval_code.specs.Data.{table_bytes, singleton_bytes, rule_bytes}
@@ -31,7 +31,7 @@ weight_segments at form.Rev weights = []
 weight_segments at form.Revw weights = segment at weights ∷ []
 
 -- the term tables, the singletons, the weights where there are some, and the rule list
-abbrev pub segments_of : Layout → Block → List Segment
+abbrev pub segments_of : MemoryMap → Block → List Segment
 segments_of l b =
     segment l.tables (table_bytes b) ∷ segment l.singletons (singleton_bytes b)
     ∷ (weight_segments l.weights (form_of b) (weights_of b) ++ segment l.rules (rule_bytes l.slots b) ∷ [])
@@ -62,7 +62,7 @@ defaults_code at [] = []
 defaults_code at (o ∷ os) = default_code at (option_map (nearest_byte o) o.default) ++ defaults_code (at + 1) os
 
 -- BAD: FAULT is set, and the outputs get their defaults
-abbrev pub bad_code : Layout → List Output → List Instr
+abbrev pub bad_code : MemoryMap → List Output → List Instr
 bad_code l outputs = LdabImmediate 1 ∷ StabExtended fault_at ∷ (defaults_code l.outputs outputs ++ Rts ∷ [])
 
 -- a segment's bytes are added to B, of which one at least is there: back to ADDB as long as X is not behind the last
@@ -74,38 +74,38 @@ abbrev pub segments_code : List Segment → List Instr
 segments_code segments = flat_map segment_code segments
 
 -- how many bytes are between BAD and what stands behind the branch to it
-abbrev pub back_to_bad : Layout → List Output → List Segment → ℕ
+abbrev pub back_to_bad : MemoryMap → List Output → List Segment → ℕ
 back_to_bad l outputs segments =
     code_length (bad_code l outputs) + code_length (LdabImmediate 0 ∷ segments_code segments) + 4
 
 -- the check: BAD where the segments' sum with the check byte is not 0, and else FAULT is cleared
-abbrev pub check_code : Layout → List Output → List Segment → List Instr
+abbrev pub check_code : MemoryMap → List Output → List Segment → List Instr
 check_code l outputs segments =
     LdabImmediate 0 ∷ (segments_code segments
     ++ AddbImmediate (check_byte (segment_bytes segments)) ∷ Bne (2 ^ 8 - back_to_bad l outputs segments)
     ∷ ClrExtended fault_at ∷ [])
 
 -- where BAD and the check stand: behind the frame's last instruction
-abbrev pub bad_at : Layout → ℕ
+abbrev pub bad_at : MemoryMap → ℕ
 bad_at l = l.code + code_length (frame_code l)
 
-abbrev pub check_at : Layout → List Output → ℕ
+abbrev pub check_at : MemoryMap → List Output → ℕ
 check_at l outputs = bad_at l + code_length (bad_code l outputs)
 
 -- the frame that calls the check, BAD, and the check, behind which EVAL stands
-abbrev pub watched_front_over : Layout → List Output → List Segment → List Instr
+abbrev pub watched_front_over : MemoryMap → List Output → List Segment → List Instr
 watched_front_over l outputs segments =
     frame_code (record l { eval = check_at l outputs }) ++ (bad_code l outputs ++ check_code l outputs segments)
 
-abbrev pub watched_front : Layout → Block → List Instr
+abbrev pub watched_front : MemoryMap → Block → List Instr
 watched_front l b = watched_front_over l b.outputs (segments_of l b)
 
-abbrev pub watched_layout_over : Layout → List Output → List Segment → Layout
-watched_layout_over l outputs segments = record l {
+abbrev pub watched_map_over : MemoryMap → List Output → List Segment → MemoryMap
+watched_map_over l outputs segments = record l {
   eval = l.code
       + code_length (watched_front_over l outputs segments);
 }
 
--- the layout of a watched firmware: that of one that stands alone, with EVAL behind the check
-abbrev pub watched_layout : Block → Layout
-watched_layout b = watched_layout_over main_layout b.outputs (segments_of main_layout b)
+-- the memory map of a watched firmware: that of one that stands alone, with EVAL behind the check
+abbrev pub watched_map : Block → MemoryMap
+watched_map b = watched_map_over main_map b.outputs (segments_of main_map b)

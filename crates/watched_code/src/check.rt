@@ -10,7 +10,7 @@ use byte_scaling::near;
 use codegen::frame_code;
 use cpu12_isa::encode::encode;
 use cpu12_isa::instr::Instr;
-use eval_code::Layout;
+use eval_code::MemoryMap;
 use fuzzy_meaning::Output;
 use std::alloc::{AllocError, Global};
 
@@ -49,18 +49,18 @@ fn push_defaults(code: &mut Vec<Instr>, first: u16, outputs: &[Output]) -> Resul
 /// BAD: FAULT is set, and the outputs get their defaults.
 pub(crate) fn bad_code(
     alloc: Global,
-    layout: &Layout,
+    memory_map: &MemoryMap,
     outputs: &[Output],
 ) -> Result<Vec<Instr>, AllocError>
     requires valid { All IsValidOutput outputs.now }
     requires few { length outputs.now ≤ 4 }
-    requires room { layout.now.outputs + 8 < 2 ^ 16 }
-    ensures { IfOk result (λ code. code.items ≡ bad_code layout.now outputs.now) }
+    requires room { memory_map.now.outputs + 8 < 2 ^ 16 }
+    ensures { IfOk result (λ code. code.items ≡ bad_code memory_map.now outputs.now) }
 {
     let mut code = Vec::new(alloc);
     code.push(Instr::LdabImmediate(1))?;
     code.push(Instr::StabExtended(FAULT))?;
-    push_defaults(&mut code, layout.outputs, outputs)?;
+    push_defaults(&mut code, memory_map.outputs, outputs)?;
     code.push(Instr::Rts)?;
     Ok(code)
 }
@@ -85,7 +85,7 @@ fn sum_code(alloc: Global, segments: &[Segment]) -> Result<Vec<Instr>, AllocErro
 /// cleared.
 fn check_code(
     alloc: Global,
-    layout: &Layout,
+    memory_map: &MemoryMap,
     outputs: &[Output],
     segments: &[Segment],
     bad: &[Instr],
@@ -93,8 +93,8 @@ fn check_code(
     requires few { length outputs.now ≤ 4 }
     requires few_segments { length segments.now ≤ 4 }
     requires fit { AreSegments segments.now }
-    requires bad { bad.now ≡ bad_code layout.now outputs.now }
-    ensures { IfOk result (λ code. code.items ≡ check_code layout.now outputs.now segments.now) }
+    requires bad { bad.now ≡ bad_code memory_map.now outputs.now }
+    ensures { IfOk result (λ code. code.items ≡ check_code memory_map.now outputs.now segments.now) }
 {
     let mut code = sum_code(alloc, segments)?;
     let back = code_length(bad) + code_length(&code) + 4;
@@ -107,7 +107,7 @@ fn check_code(
 /// The code before EVAL: the frame, which calls the check, BAD and the check.
 pub(crate) fn watched_front(
     alloc: Global,
-    layout: &Layout,
+    memory_map: &MemoryMap,
     outputs: &[Output],
     segments: &[Segment],
 ) -> Result<Vec<Instr>, AllocError>
@@ -115,15 +115,15 @@ pub(crate) fn watched_front(
     requires few { length outputs.now ≤ 4 }
     requires few_segments { length segments.now ≤ 4 }
     requires fit { AreSegments segments.now }
-    requires room { (layout.now.code + 64 < 2 ^ 16) × (layout.now.outputs + 8 < 2 ^ 16) }
-    ensures { IfOk result (λ code. code.items ≡ watched_front_over layout.now outputs.now segments.now) }
+    requires room { (memory_map.now.code + 64 < 2 ^ 16) × (memory_map.now.outputs + 8 < 2 ^ 16) }
+    ensures { IfOk result (λ code. code.items ≡ watched_front_over memory_map.now outputs.now segments.now) }
 {
-    let bad = bad_code(alloc, layout, outputs)?;
-    let check = check_code(alloc, layout, outputs, segments, &bad)?;
-    let bad_at = layout.code + code_length(&frame_code(layout));
-    let frame = frame_code(&Layout {
+    let bad = bad_code(alloc, memory_map, outputs)?;
+    let check = check_code(alloc, memory_map, outputs, segments, &bad)?;
+    let bad_at = memory_map.code + code_length(&frame_code(memory_map));
+    let frame = frame_code(&MemoryMap {
         eval: bad_at + code_length(&bad),
-        ..*layout
+        ..*memory_map
     });
     let mut front = Vec::new(alloc);
     front.extend_from_slice(&frame)?;

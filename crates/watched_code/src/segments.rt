@@ -9,7 +9,7 @@ ghost use Rattle.watched_code.specs.Watched.{segment_bound};
 ghost use Rattle.watched_code.specs.WatchedCode.{segment_bytes, segments_of, weight_segments};
 
 use byte_scaling::near;
-use eval_code::Layout;
+use eval_code::MemoryMap;
 use fuzzy_meaning::{Block, Output};
 use fz_list::List;
 use point_slope::table;
@@ -83,15 +83,15 @@ fn bytes_of_words(alloc: Global, words: &[u16]) -> Result<Vec<u8>, AllocError>
 }
 
 /// The rule list.
-fn rule_list(alloc: Global, layout: &Layout, flat: &Flat) -> Result<Vec<u8>, AllocError>
+fn rule_list(alloc: Global, memory_map: &MemoryMap, flat: &Flat) -> Result<Vec<u8>, AllocError>
     requires laid_out { IsLaidOut flat.now }
-    requires room { layout.now.slots + 1024 < 2 ^ 16 }
-    ensures { IfOk result (λ v. v.items ≡ rule_bytes_by layout.now.slots flat.now.form flat.now.conjunctions) }
+    requires room { memory_map.now.slots + 1024 < 2 ^ 16 }
+    ensures { IfOk result (λ v. v.items ≡ rule_bytes_by memory_map.now.slots flat.now.form flat.now.conjunctions) }
 {
     match flat.form {
         Form::Rev => flat.bytes(alloc),
         Form::Revw => {
-            let words = flat.words_from(alloc, layout.slots)?;
+            let words = flat.words_from(alloc, memory_map.slots)?;
             bytes_of_words(alloc, &words)
         }
     }
@@ -101,11 +101,11 @@ fn rule_list(alloc: Global, layout: &Layout, flat: &Flat) -> Result<Vec<u8>, All
 fn push_weights(
     alloc: Global,
     segments: &mut Vec<Segment>,
-    layout: &Layout,
+    memory_map: &MemoryMap,
     flat: &Flat,
 ) -> Result<(), AllocError>
     ensures { OnOk result (segments.new.items
-        ≡ segments.old.items ++ weight_segments layout.now.weights flat.now.form flat.now.weights) }
+        ≡ segments.old.items ++ weight_segments memory_map.now.weights flat.now.form flat.now.weights) }
 {
     match flat.form {
         Form::Rev => Ok(()),
@@ -113,7 +113,7 @@ fn push_weights(
             let mut weights = Vec::new(alloc);
             weights.extend_from_slice(flat.weights.as_slice())?;
             segments.push(Segment {
-                at: layout.weights,
+                at: memory_map.weights,
                 bytes: List::new(weights),
             })?;
             Ok(())
@@ -125,30 +125,30 @@ fn push_weights(
 /// and the rule list. `flat` is the block's rules as `spread` lays them out.
 pub(crate) fn segments(
     alloc: Global,
-    layout: &Layout,
+    memory_map: &MemoryMap,
     block: &Block,
     flat: &Flat,
 ) -> Result<Vec<Segment>, AllocError>
     requires valid { IsValid block.now }
     requires flat { flat.now ≡ flat_of block.now }
     requires laid_out { IsLaidOut flat.now }
-    requires room { layout.now.slots + 1024 < 2 ^ 16 }
-    ensures { IfOk result (λ v. v.items ≡ segments_of layout.now block.now) }
+    requires room { memory_map.now.slots + 1024 < 2 ^ 16 }
+    ensures { IfOk result (λ v. v.items ≡ segments_of memory_map.now block.now) }
 {
     flat_has_parts();
     let mut segments = Vec::new(alloc);
     segments.push(Segment {
-        at: layout.tables,
+        at: memory_map.tables,
         bytes: List::new(term_tables(alloc, block)?),
     })?;
     segments.push(Segment {
-        at: layout.singletons,
+        at: memory_map.singletons,
         bytes: List::new(singletons(alloc, block.outputs.as_slice())?),
     })?;
-    push_weights(alloc, &mut segments, layout, flat)?;
+    push_weights(alloc, &mut segments, memory_map, flat)?;
     segments.push(Segment {
-        at: layout.rules,
-        bytes: List::new(rule_list(alloc, layout, flat)?),
+        at: memory_map.rules,
+        bytes: List::new(rule_list(alloc, memory_map, flat)?),
     })?;
     Ok(segments)
 }

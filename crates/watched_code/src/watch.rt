@@ -2,11 +2,11 @@
 ghost use Rattle.std.specs.Prelude.{◌≡◌, IfOk, IfErr, OnOk};
 ghost use Rattle.fuzzy_meaning.specs.Blocks.{IsValid};
 ghost use Rattle.rule_layout.specs.Layouts.{IsWithinLimits, IsFaultOf, flat_of, IsLaidOut};
-ghost use Rattle.eval_code.specs.Layouts.{main_layout};
+ghost use Rattle.eval_code.specs.MemoryMaps.{main_map};
 ghost use Rattle.eval_code.specs.Items.{HasRoom};
 ghost use Rattle.codegen.specs.Images.{IsImageOf};
 ghost use Rattle.watched_code.specs.Watched.{AnswersWatched, IsWatchedFirmwareOf, watched_items};
-ghost use Rattle.watched_code.specs.WatchedCode.{watched_front, watched_layout};
+ghost use Rattle.watched_code.specs.WatchedCode.{watched_front, watched_map};
 
 use crate::check::{code_length, watched_front};
 use crate::laws::watched_answers;
@@ -14,15 +14,15 @@ use crate::segments::{segment_bounds, segments};
 use codegen::{Firmware, image_of, push_vectors};
 use cpu12_asm::{Image, Item};
 use cpu12_isa::instr::Instr;
-use eval_code::{Layout, Width, blocks_are_placed, instruction_bound, push_block, steps_by};
+use eval_code::{MemoryMap, Width, blocks_are_placed, instruction_bound, push_block, steps_by};
 use fuzzy_meaning::Block;
 use rule_layout::{Flat, LayoutFault, spread};
 use std::alloc::{AllocError, Global};
 
-/// The items of the image of a firmware with watched tables, at its layout and with the code before EVAL.
+/// The items of the image of a firmware with watched tables, at its memory map and with the code before EVAL.
 fn watched_items(
     alloc: Global,
-    layout: &Layout,
+    memory_map: &MemoryMap,
     block: &Block,
     flat: &Flat,
     front: &[Instr],
@@ -30,30 +30,30 @@ fn watched_items(
     requires valid { IsValid block.now }
     requires flat { flat.now ≡ flat_of block.now }
     requires laid_out { IsLaidOut flat.now }
-    requires layout { layout.now ≡ watched_layout block.now }
-    requires room { HasRoom layout.now }
-    requires front { front.now ≡ watched_front main_layout block.now }
+    requires memory_map { memory_map.now ≡ watched_map block.now }
+    requires room { HasRoom memory_map.now }
+    requires front { front.now ≡ watched_front main_map block.now }
     ensures { IfOk result (λ items. items.items ≡ watched_items block.now) }
 {
     let mut items = Vec::new(alloc);
     push_block(
         alloc,
         &mut items,
-        layout,
+        memory_map,
         Width::Byte,
         block,
         flat,
         front,
         &[Instr::Rts],
     )?;
-    push_vectors(&mut items, layout)?;
+    push_vectors(&mut items, memory_map)?;
     Ok(items)
 }
 
 /// The image of a firmware with watched tables. It wants nothing but memory.
 fn watched_image(
     alloc: Global,
-    layout: &Layout,
+    memory_map: &MemoryMap,
     block: &Block,
     flat: &Flat,
     front: &[Instr],
@@ -62,12 +62,12 @@ fn watched_image(
     requires flat { flat.now ≡ flat_of block.now }
     requires laid_out { IsLaidOut flat.now }
     requires limits { IsWithinLimits block.now }
-    requires layout { layout.now ≡ watched_layout block.now }
-    requires front { front.now ≡ watched_front main_layout block.now }
+    requires memory_map { memory_map.now ≡ watched_map block.now }
+    requires front { front.now ≡ watched_front main_map block.now }
     ensures { IfOk result (IsImageOf (watched_items block.now)) }
 {
     blocks_are_placed();
-    let items = watched_items(alloc, layout, block, flat, front)?;
+    let items = watched_items(alloc, memory_map, block, flat, front)?;
     image_of(alloc, items.as_slice())
 }
 
@@ -93,25 +93,25 @@ pub fn compile_scrub(alloc: Global, block: &Block) -> Result<Firmware, LayoutFau
         Ok(flat) => flat,
         Err(fault) => return Err(fault),
     };
-    let Ok(segments) = segments(alloc, &Layout::MAIN, block, &flat) else {
+    let Ok(segments) = segments(alloc, &MemoryMap::MAIN, block, &flat) else {
         return Err(LayoutFault::Memory);
     };
     let outputs = block.outputs.as_slice();
-    let Ok(front) = watched_front(alloc, &Layout::MAIN, outputs, &segments) else {
+    let Ok(front) = watched_front(alloc, &MemoryMap::MAIN, outputs, &segments) else {
         return Err(LayoutFault::Memory);
     };
-    let layout = Layout {
-        eval: Layout::MAIN.code + code_length(&front),
-        ..Layout::MAIN
+    let memory_map = MemoryMap {
+        eval: MemoryMap::MAIN.code + code_length(&front),
+        ..MemoryMap::MAIN
     };
-    let Ok(image) = watched_image(alloc, &layout, block, &flat, &front) else {
+    let Ok(image) = watched_image(alloc, &memory_map, block, &flat, &front) else {
         return Err(LayoutFault::Memory);
     };
     let instr_bound = instruction_bound(Width::Byte, block, &flat) + 4 + segment_bounds(&segments);
     let step_bound = steps_by(block, &flat, instr_bound);
     Ok(Firmware {
         image,
-        layout,
+        memory_map,
         inputs: block.inputs.len() as u8,
         outputs: block.outputs.len() as u8,
         wide: false,

@@ -12,7 +12,7 @@ use Rattle.cpu12_emul.specs.Image.{image_memory}
 use Rattle.interrupt_plan.specs.declared.upsets.Upset.{Upset}
 use Rattle.interrupt_plan.specs.Upsets.{is_there, IsGoodUpset}
 use Rattle.codegen.specs.declared.firmware.Firmware.{Firmware}
-use Rattle.eval_code.specs.declared.layout.Layout.{Layout}
+use Rattle.eval_code.specs.declared.memory_map.MemoryMap.{MemoryMap}
 use Rattle.codegen.specs.Interruptible.{IsInterruptible}
 use Rattle.watched_code.specs.Watched.{Change, changed, restored, IsTableChange}
 use Rattle.instruction_steps.specs.Facts.{HasImageBytes, WaitsAlone}
@@ -29,7 +29,7 @@ to_table : (at : ℕ) → nat_le at 0xFEFF ≡ true → at < 0xFFF2
 to_table at h = grind (arith, nat_tests)
 
 -- a good upset changes a byte of the tables
-table_change : (l : Layout) (image : List (ℕ × ℕ)) (u : Upset) → l.tables ≡ 0xD000 → IsGoodUpset image u
+table_change : (l : MemoryMap) (image : List (ℕ × ℕ)) (u : Upset) → l.tables ≡ 0xD000 → IsGoodUpset image u
     → IsTableChange l image (Some (u.at, u.value))
 table_change l image u tables good =
     let p = and_parts (nat_le 0xD000 u.at && nat_le u.at 0xFEFF) (is_there (byte_at image u.at)) good.table in
@@ -37,7 +37,7 @@ table_change l image u tables good =
     let from = from_table u.at q.0 in
     (omega (arith, tables, from), to_table u.at q.1, not_none (byte_at image u.at) p.1, good.value)
 
-pub good_change : (l : Layout) (image : List (ℕ × ℕ)) (k : ℕ) (us : List Upset) → l.tables ≡ 0xD000
+pub good_change : (l : MemoryMap) (image : List (ℕ × ℕ)) (k : ℕ) (us : List Upset) → l.tables ≡ 0xD000
     → All (IsGoodUpset image) us → IsTableChange l image (change_of k us)
 good_change l image k [] tables good = tt
 good_change l image k (u ∷ us) tables good =
@@ -67,7 +67,7 @@ put_back image c s lt h at from = by (is_it at c.0)
         ∙ get_or-set_other image c.0 at c.1 0 ne
 
 -- so the firmware waits over the image
-pub waits_restored : (f : Firmware) (c : Option Change) (s : State) → IsTableChange f.layout f.image.bytes c
+pub waits_restored : (f : Firmware) (c : Option Change) (s : State) → IsTableChange f.memory_map f.image.bytes c
     → IsInterruptible is_free (changed c (image_memory f.image.bytes)) s
     → WaitsAlone f (restored (image_memory f.image.bytes) c s)
 waits_restored f None s table h =

@@ -4,7 +4,7 @@ use Rattle.std.specs.Prelude.{map, Option, slice_index}
 use Rattle.cpu12_parts.specs.State.{State}
 use Rattle.run_law.specs.Forms.{Form, RowSeen, row_of, rows_from, run_from}
 use Rattle.codegen.specs.declared.firmware.Firmware.{Firmware}
-use Rattle.eval_code.specs.declared.layout.Layout.{Layout}
+use Rattle.eval_code.specs.declared.memory_map.MemoryMap.{MemoryMap}
 use Rattle.watched_code.specs.Watched.{Change, Watched, changed}
 use Rattle.watched_code.specs.WatchedCode.{fault_at}
 use Rattle.run_forms.specs.declared.sample.Tally.{Tally}
@@ -28,7 +28,7 @@ shown_plainly {T = T} g form most asks k (x ∷ rest) s =
     (shown_plainly g form most asks (suc k) rest (form.leave x r.state))
 
 -- a sample is given with its change
-pub given_is : (l : Layout) (x : Watched) (c : Option Change) (bytes : List ℕ) (old mid : State)
+pub given_is : (l : MemoryMap) (x : Watched) (c : Option Change) (bytes : List ℕ) (old mid : State)
     → mid ≡ given l bytes old → bytes ≡ x.bytes → c ≡ x.change
     → ◌≡◌ {A = State} (record mid { mem = changed c mid.mem }) (given_changed l x old)
 given_is l x c bytes old mid by_bytes same_bytes same_change =
@@ -65,8 +65,8 @@ row_is f x t end row fault bytes answers by_row by_answers by_fault same_bytes =
     let made : RowSeen (List ℕ) → ℕ → FaultSeen = λ r v. record { row = r; fault = v } in
     let here = slice_index end.mem fault_at in
     let all = answers_in f end ++ here ∷ [] in
-    let taken = take_answers f.wide f.outputs f.layout.outputs end.mem here in
-    let behind = fault_behind f.wide f.outputs f.layout.outputs end.mem here in
+    let taken = take_answers f.wide f.outputs f.memory_map.outputs end.mem here in
+    let behind = fault_behind f.wide f.outputs f.memory_map.outputs end.mem here in
     ap (λ (r : RowSeen (List ℕ)). made r fault) by_row
     ∙ ap (made (row_with t bytes answers)) (by_fault ∙ sym behind)
     ∙ ap (λ (ys : List ℕ). made (row_with t bytes ys) (slice_index all f.outputs)) (by_answers ∙ sym taken)

@@ -16,7 +16,7 @@ use Rattle.interrupt_plan.specs.declared.upsets.Upset.{Upset}
 use Rattle.interrupt_plan.specs.Plans.{IsGood}
 use Rattle.interrupt_plan.specs.Upsets.{IsGoodUpset}
 use Rattle.codegen.specs.declared.firmware.Firmware.{Firmware}
-use Rattle.eval_code.specs.declared.layout.Layout.{Layout}
+use Rattle.eval_code.specs.declared.memory_map.MemoryMap.{MemoryMap}
 use Rattle.codegen.specs.Answers.{IsArrived}
 use Rattle.eval_code.specs.Bounds.{steps_by, instruction_bound}
 use Rattle.eval_code.specs.Firing.{AreInputBytes}
@@ -24,7 +24,7 @@ use Rattle.codegen.specs.Interruptible.{is_idle}
 use Rattle.watched_code.specs.Watched.{Watched, changed, restored, upset_given, watched_answer, IsTableChange}
 use Rattle.watched_code.specs.Watched.{IsGoodSample}
 use Rattle.watched_code.specs.Watched.{IsWatchAnswered, AreWatchAnswered, IsWatchedFirmwareOf, watched_bound}
-use Rattle.watched_code.specs.WatchedCode.{fault_at, watched_layout}
+use Rattle.watched_code.specs.WatchedCode.{fault_at, watched_map}
 use Rattle.run_law.specs.Forms.{rows_from}
 use Rattle.run_law.specs.Uninterrupted.{uninterrupted}
 use Rattle.run_law.specs.Following.{Completes, AllComplete, AllWithin, AllFollow, expected_row, expected_rows}
@@ -44,9 +44,9 @@ use Rattle.watched_runs.proofs.UsedLaws.{Laws}
 
 -- what of a firmware its runs look at
 record HasPorts (b : Block) (f : Firmware) : Type 0 where
-  samples : f.layout.samples + 8 ≤ 65535
-  answers : f.layout.outputs + 4 ≤ 65535
-  tables : f.layout.tables ≡ 0xD000
+  samples : f.memory_map.samples + 8 ≤ 65535
+  answers : f.memory_map.outputs + 4 ≤ 65535
+  tables : f.memory_map.tables ≡ 0xD000
   low : IsLow f
   few : length b.outputs ≤ 4
   outputs : f.outputs ≡ length b.outputs
@@ -61,14 +61,14 @@ abbrev next : Block → Firmware → Watched → (ℕ → ℕ) → ℕ → ℕ
 next b f x before = λ o. watched_answer b (image f) x o (before o)
 
 abbrev Answered : Block → Firmware → ℕ → (ℕ → ℕ) → Watched → State → State → Type 0
-Answered b f flags before x s t = IsWatchAnswered f.layout b f.instr_bound (image f) flags before x s t
+Answered b f flags before x s t = IsWatchAnswered f.memory_map b f.instr_bound (image f) flags before x s t
 
 abbrev AllAnswered : Block → Firmware → ℕ → (ℕ → ℕ) → List Watched → State → Type 0
-AllAnswered b f flags before xs s = AreWatchAnswered f.layout b f.instr_bound (image f) flags before xs s
+AllAnswered b f flags before xs s = AreWatchAnswered f.memory_map b f.instr_bound (image f) flags before xs s
 
 -- a sample that ends below the outputs' bytes, with a change of the tables
 abbrev IsReady : Firmware → Watched → Type 0
-IsReady f x = (length x.bytes ≤ 8) × IsTableChange f.layout f.image.bytes x.change
+IsReady f x = (length x.bytes ≤ 8) × IsTableChange f.memory_map f.image.bytes x.change
 
 abbrev AllReady : Firmware → List Watched → Type 0
 AllReady f [] = Unit {0}
@@ -77,12 +77,13 @@ AllReady f (x ∷ xs) = IsReady f x × AllReady f xs
 -- the states of a sample's run
 abbrev Served : Firmware → ℕ → Watched → List ℕ → State → State → Type 0
 Served f flags x ds s t =
-    AreSteps (IsServing is_free f.layout (changed x.change (image f)) flags) flags ds (given_changed f.layout x s) t
+    AreSteps (IsServing is_free f.memory_map (changed x.change (image f)) flags) flags ds
+    (given_changed f.memory_map x s) t
 
-same_given : Laws → (f : Firmware) (x : Watched) (s : State) → f.layout.samples + 8 ≤ 65535 → length x.bytes ≤ 8
-    → given_changed f.layout x s ≡ upset_given f.layout x s
+same_given : Laws → (f : Firmware) (x : Watched) (s : State) → f.memory_map.samples + 8 ≤ 65535 → length x.bytes ≤ 8
+    → given_changed f.memory_map x s ≡ upset_given f.memory_map x s
 same_given laws f x s l few =
-    ap (λ (u : State). by u.mem) (laws.given_is_put f.layout x.bytes s (omega (arith, l, few)))
+    ap (λ (u : State). by u.mem) (laws.given_is_put f.memory_map x.bytes s (omega (arith, l, few)))
   where
     by : List ℕ → State
     by m = record s { mem = changed x.change m }
@@ -91,9 +92,9 @@ went : Laws → (b : Block) (f : Firmware) → HasPorts b f → (flags : ℕ) (b
     → flags < 2 ^ 8 → IsReady f x → (a : Answered b f flags before x s t) → Served f flags x a.ds s t
 went laws b f p flags before x s t hf r a =
     let memory = changed x.change (image f) in
-    subst (λ (u : State). AreSteps (IsServing is_free f.layout memory flags) flags a.ds u t)
+    subst (λ (u : State). AreSteps (IsServing is_free f.memory_map memory flags) flags a.ds u t)
     (sym (same_given laws f x s p.samples r.0))
-    (laws.steps is_free f.layout memory flags a.ds (upset_given f.layout x s) t hf a.execution)
+    (laws.steps is_free f.memory_map memory flags a.ds (upset_given f.memory_map x s) t hf a.execution)
 
 -- the numbers of steps of the samples
 numbers : (b : Block) (f : Firmware) (flags : ℕ) (before : ℕ → ℕ) (xs : List Watched) (s : State)
@@ -113,13 +114,13 @@ within b f flags before (x ∷ xs) s h =
 sampled : (b : Block) (f : Firmware) (flags : ℕ) (before : ℕ → ℕ) (x : Watched) (s t : State)
     → (a : Answered b f flags before x s t) → Served f flags x a.ds s t
     → Completes (FactsWatched flags) (watched_form flags f) 0 (all_steps a.ds) (all_steps a.ds)
-    (given_changed f.layout x s)
+    (given_changed f.memory_map x s)
 sampled b f flags before x s t a g =
     record {
       sum = omega arith;
       holds = λ j l. (let k = g.each j l in record { facts = k.facts; stack = k.stack });
       on = λ j from l. (let k = g.each j l in k.busy);
-      ended = ap (is_idle f.layout) g.goes ∙ a.idle;
+      ended = ap (is_idle f.memory_map) g.goes ∙ a.idle;
     }
 
 all_sampled : Laws → (b : Block) (f : Firmware) → HasPorts b f → (flags : ℕ) (before : ℕ → ℕ) (xs : List Watched)
@@ -149,15 +150,15 @@ holds_change b f flags before x s t a g j l = by (one_of j (all_steps a.ds) l)
     memory = changed x.change (image f)
 
     first : State
-    first = given_changed f.layout x s
+    first = given_changed f.memory_map x s
 
     by : (suc j ≤ all_steps a.ds) ⊎ (j ≡ all_steps a.ds)
-        → HasImageBytes (changed x.change (image f)) (uninterrupted flags j (given_changed f.layout x s))
+        → HasImageBytes (changed x.change (image f)) (uninterrupted flags j (given_changed f.memory_map x s))
     by (inl less) = let k = g.each j less in k.image
     by (inr e) =
         let end = a.interruptible in
         subst (λ (u : State). HasImageBytes (changed x.change (image f)) u)
-        (sym (ap (λ (i : ℕ). uninterrupted flags i (given_changed f.layout x s)) e ∙ g.goes)) end.same
+        (sym (ap (λ (i : ℕ). uninterrupted flags i (given_changed f.memory_map x s)) e ∙ g.goes)) end.same
 
 all_hold : Laws → (b : Block) (f : Firmware) → HasPorts b f → (flags : ℕ) (before : ℕ → ℕ) (xs : List Watched)
     → (s : State) → flags < 2 ^ 8 → AllReady f xs → WaitsAlone f s → (h : AllAnswered b f flags before xs s)
@@ -179,24 +180,25 @@ all_hold laws b f p flags before (x ∷ xs) s hf r w h =
 
 -- what stands where output o's answer is
 value_is : (b : Block) (f : Firmware) → HasPorts b f → (t : State) (o a : ℕ) → 1 ≤ o → o ≤ length b.outputs
-    → slice_index t.mem (f.layout.outputs + 1 * (o - 1)) ≡ a → slice_index (answers_in f t) (o - 1) ≡ a
+    → slice_index t.mem (f.memory_map.outputs + 1 * (o - 1)) ≡ a → slice_index (answers_in f t) (o - 1) ≡ a
 value_is b f p t o a from to e =
     let n = p.outputs in
     let few = p.few in
     let room = p.answers in
-    let at : f.layout.outputs + (o - 1) ≡ f.layout.outputs + 1 * (o - 1) = omega arith in
-    ap (λ (wide : Bool). slice_index (answers_at wide f.outputs f.layout.outputs t.mem) (o - 1)) p.narrow
-    ∙ answer_there f.outputs f.layout.outputs t.mem (o - 1) (omega (arith, n, from, to)) (omega (arith, n, few, room))
+    let at : f.memory_map.outputs + (o - 1) ≡ f.memory_map.outputs + 1 * (o - 1) = omega arith in
+    ap (λ (wide : Bool). slice_index (answers_at wide f.outputs f.memory_map.outputs t.mem) (o - 1)) p.narrow
+    ∙ answer_there f.outputs f.memory_map.outputs t.mem (o - 1) (omega (arith, n, from, to))
+    (omega (arith, n, few, room))
     ∙ ap (λ (i : ℕ). slice_index t.mem i) at ∙ e
 
 -- a sample's row
 row_is : (b : Block) (f : Firmware) → HasPorts b f → (flags : ℕ) (before : ℕ → ℕ) (x : Watched) (s t : State)
     → (qs : List Request) (a : Answered b f flags before x s t) → Served f flags x a.ds s t
     → IsWatchedRow b f before x (fault_seen f.outputs
-    (expected_row (watched_form flags f) qs (all_steps a.ds) x (given_changed f.layout x s)))
+    (expected_row (watched_form flags f) qs (all_steps a.ds) x (given_changed f.memory_map x s)))
 row_is b f p flags before x s t qs a g =
-    let end = uninterrupted flags (all_steps a.ds) (given_changed f.layout x s) in
-    let at = f.layout.outputs in
+    let end = uninterrupted flags (all_steps a.ds) (given_changed f.memory_map x s) in
+    let at = f.memory_map.outputs in
     let fault = slice_index end.mem fault_at in
     let seen : take f.outputs (answers_in f end ++ fault ∷ []) ≡ answers_in f t =
     take_answers f.wide f.outputs at end.mem fault ∙ ap (answers_in f) g.goes in
@@ -232,38 +234,39 @@ all_rows laws b f p flags before plan k (x ∷ xs) s hf r h =
 
 -- good samples
 all_ready : (b : Block) (f : Firmware) (upsets : List Upset) (k : ℕ) (samples : List (List ℕ))
-    → length b.inputs ≤ 8 → f.layout.tables ≡ 0xD000 → All (IsGoodUpset f.image.bytes) upsets
+    → length b.inputs ≤ 8 → f.memory_map.tables ≡ 0xD000 → All (IsGoodUpset f.image.bytes) upsets
     → All (AreInputBytes b) samples
     → AllReady f (changes_from k upsets samples)
 all_ready b f upsets k [] few tables good all = tt
 all_ready b f upsets k (bytes ∷ samples) few tables good all =
     let i = all 0 bytes (omega arith) in
     let count = i.count in (
-      (omega (arith, count, few), good_change f.layout f.image.bytes k upsets tables good),
+      (omega (arith, count, few), good_change f.memory_map f.image.bytes k upsets tables good),
       all_ready b f upsets (suc k) samples few tables good (λ j d lt. all (suc j) d (omega arith)),
     )
 
 all_good : (b : Block) (f : Firmware) (upsets : List Upset) (k : ℕ) (samples : List (List ℕ))
-    → f.layout.tables ≡ 0xD000 → All (IsGoodUpset f.image.bytes) upsets
+    → f.memory_map.tables ≡ 0xD000 → All (IsGoodUpset f.image.bytes) upsets
     → All (AreInputBytes b) samples
-    → All (IsGoodSample b f.layout f.image.bytes) (changes_from k upsets samples)
+    → All (IsGoodSample b f.memory_map f.image.bytes) (changes_from k upsets samples)
 all_good b f upsets k [] tables good all = λ j d lt. absurd (omega arith)
 all_good b f upsets k (bytes ∷ samples) tables good all =
-    All-cons (IsGoodSample b f.layout f.image.bytes) (record { bytes = bytes; change = change_of k upsets })
+    All-cons (IsGoodSample b f.memory_map f.image.bytes) (record { bytes = bytes; change = change_of k upsets })
     (changes_from (suc k) upsets samples)
-    (record { bytes = all 0 bytes (omega arith); change = good_change f.layout f.image.bytes k upsets tables good })
+    (record { bytes = all 0 bytes (omega arith); change = good_change f.memory_map f.image.bytes k upsets tables good })
     (all_good b f upsets (suc k) samples tables good (λ j d lt. all (suc j) d (omega arith)))
 
 -- a firmware waits first where it arrives first
 first_is : Laws → (b : Block) (f : Firmware) → HasPorts b f → (flags : ℕ) (s : State)
-    → IsArrived f.layout (image f) flags s → first_state f flags ≡ s
+    → IsArrived f.memory_map (image f) flags s → first_state f flags ≡ s
 first_is laws b f p flags s a =
-    laws.arrives_plainly flags f.layout.wait 3 f.step_bound (reset_with (image f)) s refl a.way a.wait p.enough
+    laws.arrives_plainly flags f.memory_map.wait 3 f.step_bound (reset_with (image f)) s refl a.execution a.wait
+    p.enough
 
 -- the rows of a firmware that waits first in s
 under : Laws → (b : Block) (f : Firmware) → HasPorts b f → (flags : ℕ) (samples : List (List ℕ)) (plan : List Request)
     → (upsets : List Upset) (s : State) → flags < 2 ^ 8 → IsGood plan → AllReady f (with_upsets upsets samples)
-    → IsArrived f.layout (image f) flags s → AllAnswered b f flags (λ o. 0) (with_upsets upsets samples) s
+    → IsArrived f.memory_map (image f) flags s → AllAnswered b f flags (λ o. 0) (with_upsets upsets samples) s
     → AnswersUnderUpsets b f flags samples plan upsets (faults_of f (upset_rows f samples plan upsets flags))
 under laws b f p flags samples plan upsets s hf good ready a answered =
     let g = watched_form flags f in
@@ -309,10 +312,10 @@ few_answers wide n e few =
 
 ports : (b : Block) (f : Firmware) → length b.outputs ≤ 4 → IsWatchedFirmwareOf b f → HasPorts b f
 ports b f few h =
-    let at : (g : Layout → ℕ) → g f.layout ≡ g (watched_layout b) = λ g. ap g h.layout in
-    let samples : f.layout.samples ≡ 0x1001 = at (λ l. l.samples) in
-    let outputs : f.layout.outputs ≡ 0x1010 = at (λ l. l.outputs) in
-    let ready : f.layout.ready ≡ 0x1000 = at (λ l. l.ready) in
+    let at : (g : MemoryMap → ℕ) → g f.memory_map ≡ g (watched_map b) = λ g. ap g h.memory_map in
+    let samples : f.memory_map.samples ≡ 0x1001 = at (λ l. l.samples) in
+    let outputs : f.memory_map.outputs ≡ 0x1010 = at (λ l. l.outputs) in
+    let ready : f.memory_map.ready ≡ 0x1000 = at (λ l. l.ready) in
     let n = h.outputs in
     let size = few_answers f.wide f.outputs h.narrow (omega (arith, n, few)) in
     let steps : f.step_bound ≡ steps_by b f.instr_bound = h.steps ∙ sym (ap (steps_by b) h.instructions) in

@@ -47,7 +47,7 @@ AreWatchedRows b f before (x ∷ xs) (r ∷ rs) =
 abbrev pub HoldsChange : ℕ → Firmware → ℕ → Watched → State → Type 0
 HoldsChange flags f n x s =
     (j : ℕ) → j ≤ n → HasImageBytes (changed x.change (image_memory f.image.bytes))
-    (uninterrupted flags j (given_changed f.layout x s))
+    (uninterrupted flags j (given_changed f.memory_map x s))
 
 -- So it is for all samples; and before the first and after each the firmware waits over the image as it was made.
 abbrev pub AllHoldChanges : ℕ → Firmware → List ℕ → List Watched → State → Type 0
@@ -55,7 +55,7 @@ AllHoldChanges flags f [] xs s = WaitsAlone f s
 AllHoldChanges flags f (n ∷ ns) [] s = WaitsAlone f s
 AllHoldChanges flags f (n ∷ ns) (x ∷ xs) s =
     WaitsAlone f s × HoldsChange flags f n x s × AllHoldChanges flags f ns xs
-    (restored (image_memory f.image.bytes) x.change (uninterrupted flags n (given_changed f.layout x s)))
+    (restored (image_memory f.image.bytes) x.change (uninterrupted flags n (given_changed f.memory_map x s)))
 
 -- What a block's firmware gives under a plan and upsets: rows that are the samples'; the run without interrupts from
 -- the first arrival, which answers all samples in so many steps each, and whose states keep the facts, with each

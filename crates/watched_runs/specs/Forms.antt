@@ -7,7 +7,7 @@ use Rattle.cpu12_emul.specs.Take.{framed}
 use Rattle.run_law.specs.Forms.{Form}
 use Rattle.interrupt_plan.specs.declared.Request.{Request}
 use Rattle.codegen.specs.declared.firmware.Firmware.{Firmware}
-use Rattle.eval_code.specs.declared.layout.Layout.{Layout}
+use Rattle.eval_code.specs.declared.memory_map.MemoryMap.{MemoryMap}
 use Rattle.codegen.specs.Interruptible.{is_idle}
 use Rattle.watched_code.specs.Watched.{Watched, changed, restored}
 use Rattle.watched_code.specs.WatchedCode.{fault_at}
@@ -17,16 +17,16 @@ use Rattle.firmware_ports.specs.Ports.{given, answers_in}
 use Rattle.fz_run.specs.Forms.{place_of}
 
 -- a sample is given, and then the byte is changed
-abbrev pub given_changed : Layout → Watched → State → State
+abbrev pub given_changed : MemoryMap → Watched → State → State
 given_changed l x s = record s { mem = changed x.change (given l x.bytes s).mem }
 
 -- At a sample's end, where the firmware waits, the answers are read and the byte at FAULT, and then the byte of the
 -- image stands in its place again. A handler does its request's writes, in no step of the machine, and tells nothing.
 abbrev pub watched_parts : Firmware → FormParts Watched Request (Unit {0})
 watched_parts f = record {
-  give = given_changed f.layout;
+  give = given_changed f.memory_map;
   leave = λ x s. restored (image_memory f.image.bytes) x.change s;
-  ends = λ s. is_idle f.layout s;
+  ends = λ s. is_idle f.memory_map s;
   answers = λ s. answers_in f s ++ slice_index s.mem fault_at ∷ [];
   place = place_of;
   handle = λ flags r. framed r.writes;

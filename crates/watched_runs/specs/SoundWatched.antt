@@ -43,7 +43,7 @@ sound flags f low agree quiet =
       shown = λ s p. (let facts = p.facts in facts.shown);
       gives = λ x w s l.
           (let same = beside.gives x.bytes w s l in
-          same_changed agree x.change (given f.layout x.bytes w) (given f.layout x.bytes s) same);
+          same_changed agree x.change (given f.memory_map x.bytes w) (given f.memory_map x.bytes s) same);
       leaves = λ x w s l. same_restored agree (image_memory f.image.bytes) x.change w s l;
       answers = λ w s l.
           (let shown = low_shown is_free s.regs.sp fault_at (free_opens.low fault_at (omega arith)) (omega arith) in

@@ -74,7 +74,7 @@ impl<'a> RunForm<Request, (), WatchedRow> for WithUpsets<'a> {
     }
 
     fn give<M: Mem>(&self, m: &mut Machine<M>, k: usize) {
-        give(&self.firmware.layout, m, bytes_of(self.samples, k));
+        give(&self.firmware.memory_map, m, bytes_of(self.samples, k));
         change(m, upset_of(self.upsets, number_of(self.samples, k)));
     }
 
@@ -87,18 +87,18 @@ impl<'a> RunForm<Request, (), WatchedRow> for WithUpsets<'a> {
     }
 
     fn ends<M: Mem>(&self, m: &Machine<M>) -> bool {
-        is_idle(&self.firmware.layout, m)
+        is_idle(&self.firmware.memory_map, m)
     }
 
     #[inline(always)]
     fn goes_on_here<M: Mem>(&self, m: &Machine<M>) -> bool {
-        is_busy_here(&self.firmware.layout, m)
+        is_busy_here(&self.firmware.memory_map, m)
     }
 
     #[inline(always)]
     fn plain_steps<M: Mem>(&self, m: &mut Machine<M>, most: u32) -> u32 {
         // The tables are added up while READY is not 0, and so before the sample is over.
-        let ready = m.peek(self.firmware.layout.ready);
+        let ready = m.peek(self.firmware.memory_map.ready);
         if ready == 0 {
             return 0;
         }

@@ -53,7 +53,7 @@ pub fn run_upsets(
     };
     let start = Start {
         image: &firmware.image,
-        wait: firmware.layout.wait,
+        wait: firmware.memory_map.wait,
         most: firmware.step_bound,
     };
     let (rows, _memory): (Vec<WatchedRow>, PageMem) = run_form(

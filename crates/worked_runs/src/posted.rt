@@ -13,10 +13,12 @@ use std::test::Fail;
 use trace_io::Sample;
 
 fn firmware(alloc: Global) -> Result<Firmware, Fail>
-    ensures { IfOk result (λ f. (f.outputs ≤ 4) × (f.layout.outputs + 8 < 2 ^ 16)) }
+    ensures { IfOk result (λ f. (f.outputs ≤ 4) × (f.memory_map.outputs + 8 < 2 ^ 16)) }
 {
     match compile_post(alloc, &heater(alloc)?) {
-        Ok(firmware) if firmware.outputs <= 4 && firmware.layout.outputs < 0x8000 => Ok(firmware),
+        Ok(firmware) if firmware.outputs <= 4 && firmware.memory_map.outputs < 0x8000 => Ok(
+            firmware,
+        ),
         _ => Err(Fail::new("no firmware")),
     }
 }

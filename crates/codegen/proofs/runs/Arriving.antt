@@ -10,9 +10,9 @@ use Rattle.cpu12_isa.specs.declared.instr.Instr.{Instr}
 use Rattle.cpu12_asm.specs.declared.items.Item.{Item}
 use Rattle.cpu12_asm.specs.Items.{given_by, IsRising}
 use Rattle.cpu12_parts.specs.State.{State}
-use Rattle.cpu12_parts.specs.Whole.{after_plain, PlainWay}
+use Rattle.cpu12_parts.specs.Whole.{after_plain, PlainExecution}
 use Rattle.cpu12_emul.specs.Step.{reset_with}
-use Rattle.eval_code.specs.declared.layout.Layout.{Layout}
+use Rattle.eval_code.specs.declared.memory_map.MemoryMap.{MemoryMap}
 use Rattle.eval_code.specs.declared.width.Width.{Width}
 use Rattle.eval_code.specs.declared.width.Width.TheVariants.{Byte, Word}
 use Rattle.eval_code.specs.Widths.{places, bytes_of}
@@ -36,7 +36,7 @@ use Rattle.codegen.specs.Settings.{Setting, Live}
 
 -- memory below the code is 0
 pub zero_below : ZeroBelow
-    → (image : List (ℕ × ℕ)) (l : Layout) (b : Block) (w : Width) (before behind : List Instr) (rest : List Item)
+    → (image : List (ℕ × ℕ)) (l : MemoryMap) (b : Block) (w : Width) (before behind : List Instr) (rest : List Item)
     → Holds image (given_by (block_items l b w before behind ++ rest))
     → IsRising (block_items l b w before behind ++ rest) → (q : ℕ) → q < l.code
     → q < 65536 → get_or (image_memory image) q 0 ≡ 0
@@ -56,10 +56,11 @@ none_stand Byte m p h = (h p (omega arith) (omega arith), tt)
 none_stand Word m p h = (h p (omega arith) (omega arith), (h (p + 1) (omega arith) (omega arith), tt))
 
 -- three plain instructions lead there
-pub start_way : DecodesWhereItStands → (flags : ℕ) (l : Layout) (image : List ℕ) → IsStarted l → HasBytes image 0xFFFE (bytes_of_word l.code)
+pub start_execution : DecodesWhereItStands → (flags : ℕ) (l : MemoryMap) (image : List ℕ) → IsStarted l
+    → HasBytes image 0xFFFE (bytes_of_word l.code)
     → HasBytes image l.code (code_bytes (start_code l))
-    → PlainWay flags l.wait 3 (reset_with image) (first_waiting flags l image)
-start_way decodes flags l image f vector start =
+    → PlainExecution flags l.wait 3 (reset_with image) (first_waiting flags l image)
+start_execution decodes flags l image f vector start =
     let lo = f.low in
     let hi = f.high in
     let w = f.wait in
@@ -109,7 +110,7 @@ arrive c b width before f a v start h =
     let vector = h.reset in
     let size = h.size in
     let bytes = h.bytes in
-    let l = c.layout in
+    let l = c.memory_map in
     let lo = f.low in
     let hi = f.high in
     let w = f.wait in
@@ -156,7 +157,7 @@ arrive c b width before f a v start h =
     record {
       t = s3;
       first = refl;
-      way = start_way c.decodes c.flags l c.image f vector start;
+      execution = start_execution c.decodes c.flags l c.image f vector start;
       home = record {
         live = live;
         pc_is = home;
@@ -174,10 +175,10 @@ arrive c b width before f a v start h =
 -- the arrival from a memory that agrees: where it is the same
 pub record Alike (c : Setting) (mem : List ℕ) : Type 0 where
   pub state : State
-  pub way : PlainWay c.flags c.layout.wait 3 (reset_with mem) state
-  pub regs : state.regs ≡ (first_waiting c.flags c.layout c.image).regs
-  pub temps : state.temps ≡ (first_waiting c.flags c.layout c.image).temps
-  pub bytes : Agree c.open_to state.mem (first_waiting c.flags c.layout c.image).mem
+  pub execution : PlainExecution c.flags c.memory_map.wait 3 (reset_with mem) state
+  pub regs : state.regs ≡ (first_waiting c.flags c.memory_map c.image).regs
+  pub temps : state.temps ≡ (first_waiting c.flags c.memory_map c.image).temps
+  pub bytes : Agree c.open_to state.mem (first_waiting c.flags c.memory_map c.image).mem
   pub open_bytes : (at : ℕ) → c.open_to at ≡ true → get_or state.mem at 0 ≡ get_or mem at 0
 
 -- the registers there depend on PC alone
@@ -215,14 +216,14 @@ set_agree open_to m n at v lt a =
 apart : (open_to : ℕ → Bool) (p q : ℕ) → open_to p ≡ true → open_to q ≡ false → p ≢ q
 apart open_to p q t f e = cc
 
-pub arrive_alike : (c : Setting) (mem : List ℕ) → IsStarted c.layout → c.open_to c.layout.ready ≡ false
+pub arrive_alike : (c : Setting) (mem : List ℕ) → IsStarted c.memory_map → c.open_to c.memory_map.ready ≡ false
     → ((at : ℕ) → 0xFFFE ≤ at → at < 2 ^ 16 → c.open_to at ≡ false)
-    → HasBytes c.image 0xFFFE (bytes_of_word c.layout.code)
-    → HasBytes c.image c.layout.code (code_bytes (start_code c.layout)) → length c.image ≡ 65536
+    → HasBytes c.image 0xFFFE (bytes_of_word c.memory_map.code)
+    → HasBytes c.image c.memory_map.code (code_bytes (start_code c.memory_map)) → length c.image ≡ 65536
     → Agree c.open_to mem c.image → Alike c mem
 unfolding regs_from
 arrive_alike c mem f shown reset vector start size a =
-    let l = c.layout in
+    let l = c.memory_map in
     let ready = f.ready in
     let here : HasBytes mem 0xFFFE (bytes_of_word l.code) =
     same_bytes c.image mem 0xFFFE (bytes_of_word l.code) (λ k lo hi. a.bytes k (reset k lo hi)) vector in
@@ -235,7 +236,7 @@ arrive_alike c mem f shown reset vector start size a =
     (a.bytes 65535 (reset 65535 (omega arith) (omega arith))) in
     record {
       state = first_waiting c.flags l mem;
-      way = start_way c.decodes c.flags l mem f here code;
+      execution = start_execution c.decodes c.flags l mem f here code;
       regs = ap (regs_from c.flags l.ready) pc;
       temps = refl;
       bytes = set_agree c.open_to mem c.image l.ready 0 (omega arith) a;

@@ -20,7 +20,7 @@ use Rattle.cpu12_parts.specs.Laws.{addresses}
 use Rattle.cpu12_parts.specs.Rules.{Rule, Form, concluded, all_concluded, named, raised, rules_written, rules_target}
 use Rattle.cpu12_parts.specs.Rules.{strength}
 use Rattle.cpu12_parts.specs.Whole.{after_plain}
-use Rattle.eval_code.specs.declared.layout.Layout.{Layout}
+use Rattle.eval_code.specs.declared.memory_map.MemoryMap.{MemoryMap}
 use Rattle.eval_code.specs.declared.width.Width.{Width}
 use Rattle.eval_code.specs.Data.{table_bytes, singleton_bytes, weight_bytes, rule_bytes}
 use Rattle.eval_code.specs.Items.{IsApart}
@@ -57,13 +57,13 @@ rts_run c s p ret l ep h es er =
     let r1 : is_hidden open_to s.regs.sp (plus s.regs.sp 1) ≡ false =
     high_shown open_to s.regs.sp (plus s.regs.sp 1) (c.shut.stack (plus s.regs.sp 1) (omega arith) (omega arith))
     (omega arith) in
-    plain_next c s p ret Rts l (not_at c.layout s p ep h.off) ep h.from h.to h.decoded refl tt (r0, (r1, tt)) tt
+    plain_next c s p ret Rts l (not_at c.memory_map s p ep h.off) ep h.from h.to h.decoded refl tt (r0, (r1, tt)) tt
     (λ at g. inl (ap (λ k. is_hidden open_to k at) es
     ∙ less_hidden open_to at (ap (λ k. is_hidden open_to k at) (sym e2) ∙ g))) tt (inr e2) refl
     (ap₂ (λ a b. get_or s.mem a 0 * 2 ^ 8 + get_or s.mem b 0) es e1 ∙ er)
 
 -- What is owned is not hidden.
-read_shown : (open_to : ℕ → Bool) (l : Layout) (sp at : ℕ) → IsShut open_to l → IsApart l → sp ≤ 0x2000 → Reads l at
+read_shown : (open_to : ℕ → Bool) (l : MemoryMap) (sp at : ℕ) → IsShut open_to l → IsApart l → sp ≤ 0x2000 → Reads l at
     → is_hidden open_to sp at ≡ false
 read_shown open_to l sp at u a h (inl o) = let low : at < 0x1800 = omega (arith, a.inputs, a.outputs, a.slots, o.1) in
     low_shown open_to sp at (u.reads at (inl o)) low
@@ -79,37 +79,37 @@ read_shown open_to l sp at u a h (inr (inr (inr (inr (inr (inl o)))))) =
     high_shown open_to sp at (u.reads at (inr (inr (inr (inr (inr (inl o))))))) (omega (arith, a.rules, o.0))
 read_shown open_to l sp at u a h (inr (inr (inr (inr (inr (inr o)))))) = absurd o
 
-all_read : (open_to : ℕ → Bool) (l : Layout) (sp : ℕ) (ats : List ℕ) → IsShut open_to l → IsApart l → sp ≤ 0x2000
+all_read : (open_to : ℕ → Bool) (l : MemoryMap) (sp : ℕ) (ats : List ℕ) → IsShut open_to l → IsApart l → sp ≤ 0x2000
     → Each (Reads l) ats → AllShown (is_hidden open_to sp) ats
 all_read open_to l sp [] u a h e = tt
 all_read open_to l sp (at ∷ ats) u a h e = (read_shown open_to l sp at u a h e.0, all_read open_to l sp ats u a h e.1)
 
 -- What EVAL writes lies below the free bytes.
-written_low : (l : Layout) (at : ℕ) → IsApart l → Writes l at → at < 0x1800
+written_low : (l : MemoryMap) (at : ℕ) → IsApart l → Writes l at → at < 0x1800
 written_low l at a (inl o) = omega (arith, a.outputs, a.slots, o.1)
 written_low l at a (inr (inl o)) = omega (arith, a.slots, o.1)
 written_low l at a (inr (inr o)) = absurd o
 
-writes_low : (l : Layout) (ws : List (ℕ × ℕ)) → IsApart l → Each (Writes l) (addresses ws) → WriteBelow 0x2000 ws
+writes_low : (l : MemoryMap) (ws : List (ℕ × ℕ)) → IsApart l → Each (Writes l) (addresses ws) → WriteBelow 0x2000 ws
 writes_low l [] a e = tt
 writes_low l (w ∷ ws) a e = ((let low = written_low l w.0 a e.0 in omega arith), writes_low l ws a e.1)
 
-all_written : (open_to : ℕ → Bool) (l : Layout) (sp : ℕ) (ats : List ℕ) → IsShut open_to l → IsApart l
+all_written : (open_to : ℕ → Bool) (l : MemoryMap) (sp : ℕ) (ats : List ℕ) → IsShut open_to l → IsApart l
     → Each (Writes l) ats → AllShown (is_hidden open_to sp) ats
 all_written open_to l sp [] u a e = tt
 all_written open_to l sp (at ∷ ats) u a e =
     let low = written_low l at a e.0 in
     (low_shown open_to sp at (u.writes at e.0) low, all_written open_to l sp ats u a e.1)
 
-written_below : (l : Layout) (ats : List ℕ) → IsApart l → Each (Writes l) ats → Below 0x1800 ats
+written_below : (l : MemoryMap) (ats : List ℕ) → IsApart l → Each (Writes l) ats → Below 0x1800 ats
 written_below l [] a e = tt
 written_below l (at ∷ ats) a e = (written_low l at a e.0, written_below l ats a e.1)
 
-code_above : (l : Layout) (ats : List ℕ) → IsApart l → Each (IsIn (code_region l)) ats → From 0x2000 ats
+code_above : (l : MemoryMap) (ats : List ℕ) → IsApart l → Each (IsIn (code_region l)) ats → From 0x2000 ats
 code_above l [] r e = tt
 code_above l (at ∷ ats) r e = (omega (arith, r.eval, e.0.0), code_above l ats r e.1)
 
-code_seen : (open_to : ℕ → Bool) (l : Layout) (sp : ℕ) (ats : List ℕ) → IsShut open_to l → IsApart l → IsInCode l
+code_seen : (open_to : ℕ → Bool) (l : MemoryMap) (sp : ℕ) (ats : List ℕ) → IsShut open_to l → IsApart l → IsInCode l
     → sp ≤ 0x2000 → Each (IsIn (code_region l)) ats
     → AllShown (is_hidden open_to sp) ats
 code_seen open_to l sp [] u r c h e = tt
@@ -149,7 +149,7 @@ record Alone (image : List ℕ) (s : State) : Type 0 where
   unmasked : has s.regs.ccr 4 ≡ false
   same : SameHigh image s.mem
 
-record Carried (open_to : ℕ → Bool) (l : Layout) (image : List ℕ) (flags d : ℕ) (s t : State) : Type 0 where
+record Carried (open_to : ℕ → Bool) (l : MemoryMap) (image : List ℕ) (flags d : ℕ) (s t : State) : Type 0 where
   instruction : IsShownInstruction open_to l flags d s t
   temps : t.temps ≡ Free
   same : SameHigh image t.mem
@@ -158,7 +158,7 @@ below_image : (ats : List ℕ) → Below 0x1800 ats → Each (λ at. at < 0x2000
 below_image [] b = tt
 below_image (at ∷ ats) b = ((let l = b.0 in omega arith), below_image ats b.1)
 
-over_rules : (open_to : ℕ → Bool) (l : Layout) (i : Instr) (f : Form) (flags d : ℕ) (p : Rule) (ps : List Rule)
+over_rules : (open_to : ℕ → Bool) (l : MemoryMap) (i : Instr) (f : Form) (flags d : ℕ) (p : Rule) (ps : List Rule)
     (s t : State) → IsShut open_to l → IsApart l → l.wait < l.eval → s.regs.sp ≤ 0x2000
     → Each (IsIn (code_region l)) (six_from s.regs.pc) → IsRulesOver (Reads l) (Writes l) i f flags d p ps s t
     → IsShownRules open_to l i f flags d p ps s t
@@ -172,14 +172,14 @@ over_rules open_to l i f flags d p ps s t u a w sp code h = record {
   away = (let from = code.0.0 in λ e. omega arith);
 }
 
-rules_same : (l : Layout) (image : List ℕ) (i : Instr) (f : Form) (flags d : ℕ) (p : Rule) (ps : List Rule)
+rules_same : (l : MemoryMap) (image : List ℕ) (i : Instr) (f : Form) (flags d : ℕ) (p : Rule) (ps : List Rule)
     (s t : State) → IsApart l
     → IsRulesOver (Reads l) (Writes l) i f flags d p ps s t → SameHigh image s.mem → SameHigh image t.mem
 rules_same l image i f flags d p ps s t a h same =
     subst (λ (u : State). SameHigh image u.mem) (sym h.step.after)
     (all_high f image s.mem p ps (written_below l (rules_written f p ps) a h.writes) (record { same = same })).same
 
-over : (open_to : ℕ → Bool) (l : Layout) (image : List ℕ) (flags d : ℕ) (s t : State) → IsShut open_to l → IsApart l
+over : (open_to : ℕ → Bool) (l : MemoryMap) (image : List ℕ) (flags d : ℕ) (s t : State) → IsShut open_to l → IsApart l
     → l.wait < l.eval → Alone image s → t.regs.sp ≡ s.regs.sp
     → Each (IsIn (code_region l)) (six_from s.regs.pc) → IsInstructionOver (Reads l) (Writes l) flags d s t
     → Carried open_to l image flags d s t
@@ -242,7 +242,8 @@ over open_to l image flags d s t u a w h sp code (inr (inr (inr o))) =
       same = subst (λ (u : State). SameHigh image u.mem) (sym o.step.after) h.same;
     }
 
-interruptible_step : (open_to : ℕ → Bool) (l : Layout) (image : List ℕ) (flags d : ℕ) (s t : State) → IsShut open_to l
+interruptible_step : (open_to : ℕ → Bool) (l : MemoryMap) (image : List ℕ) (flags d : ℕ) (s t : State)
+    → IsShut open_to l
     → IsApart l → l.wait < l.eval → IsInCode l → Alone image s → IsEvalStep l flags d s t
     → IsInterruptibleStep open_to l image flags d s t × Alone image t
 interruptible_step open_to l image flags d s t u a w c h e =
@@ -274,7 +275,7 @@ interruptible_step open_to l image flags d s t u a w c h e =
       },
     )
 
-interruptible_execution : (open_to : ℕ → Bool) (l : Layout) (image : List ℕ) (flags : ℕ) (ds : List ℕ) (s t : State)
+interruptible_execution : (open_to : ℕ → Bool) (l : MemoryMap) (image : List ℕ) (flags : ℕ) (ds : List ℕ) (s t : State)
     → IsShut open_to l → IsApart l → l.wait < l.eval → IsInCode l → Alone image s
     → Execution (IsEvalStep l flags) ds s t
     → Execution (IsInterruptibleStep open_to l image flags) ds s t × Alone image t
@@ -284,7 +285,8 @@ interruptible_execution open_to l image flags (d ∷ ds) s t u a w c h e =
     let rest = interruptible_execution open_to l image flags ds e.0 t u a w c one.1 e.1.1 in
     ((e.0, (one.0, rest.0)), rest.1)
 
-found : (l : Layout) (b : Block) (w : Width) (image mem : List ℕ) → IsApart l → HasEval l b w image → SameHigh image mem
+found : (l : MemoryMap) (b : Block) (w : Width) (image mem : List ℕ) → IsApart l → HasEval l b w image
+    → SameHigh image mem
     → HasEval l b w mem
 found l b w image mem a h same =
     let low = a.eval in
@@ -299,13 +301,13 @@ found l b w image mem a h same =
     }
 
 returned : (c : Setting) (b : Block) (w : Width) (back : ℕ) (bytes : List ℕ) (before : ℕ → ℕ) (s : State)
-    → IsApart c.layout → IsValid b
-    → HasRoutine c.layout b w c.image → IsCalled c.open_to c.layout b w c.image back bytes before s
-    → (t : State) → (g : IsEvaluated c.layout b w c.flags bytes before s t)
-    → Execution (IsInterruptibleStep c.open_to c.layout c.image c.flags) g.ds s t
+    → IsApart c.memory_map → IsValid b
+    → HasRoutine c.memory_map b w c.image → IsCalled c.open_to c.memory_map b w c.image back bytes before s
+    → (t : State) → (g : IsEvaluated c.memory_map b w c.flags bytes before s t)
+    → Execution (IsInterruptibleStep c.open_to c.memory_map c.image c.flags) g.ds s t
     → Alone c.image t → Back c b w back bytes before s
 returned c b w back bytes before s a v h k t g e alone =
-    let l = c.layout in
+    let l = c.memory_map in
     let p = l.eval + length (code_bytes (eval_code l b w)) in
     let size = h.room in
     let high = a.eval_end in
@@ -362,7 +364,7 @@ returned c b w back bytes before s a v h k t g e alone =
 
 pub called : EvalAnswers → CalledEvalReturns
 called go c b w back bytes before s a v limits h i k =
-    let l = c.layout in
+    let l = c.memory_map in
     let state = k.interruptible in
     let at : IsAtEval l b w bytes before s =
     record {

@@ -10,7 +10,7 @@ use Rattle.cpu12_asm.specs.declared.items.Item.{Item}
 use Rattle.cpu12_asm.specs.Bytes.{Holds}
 use Rattle.cpu12_asm.specs.Items.{given_by, IsRising}
 use Rattle.cpu12_emul.specs.Image.{image_memory}
-use Rattle.eval_code.specs.declared.layout.Layout.{Layout}
+use Rattle.eval_code.specs.declared.memory_map.MemoryMap.{MemoryMap}
 use Rattle.eval_code.specs.declared.width.Width.{Width}
 use Rattle.eval_code.specs.Code.{code_bytes}
 use Rattle.eval_code.specs.Data.{bytes_of_word}
@@ -28,7 +28,7 @@ use Rattle.codegen.specs.Calls.{HasRoutine, IsInCode}
 use Rattle.codegen.specs.Settings.{Setting, Stands}
 
 -- the reset vector stands
-pub start_stands : BytesStand → (image : List (ℕ × ℕ)) (front : List Item) (l : Layout)
+pub start_stands : BytesStand → (image : List (ℕ × ℕ)) (front : List Item) (l : MemoryMap)
     → Holds image (given_by (front ++ vector_items l)) → IsRising (front ++ vector_items l)
     → HasBytes (image_memory image) 0xFFFE (bytes_of_word l.code)
 start_stands stand image front l h rise =
@@ -39,15 +39,16 @@ start_stands stand image front l h rise =
     stand image (front ++ vector_items l) (front ++ V) [] 0xFFFE (bytes_of_word l.code) h rise e
 
 -- its frame in three pieces
-abbrev pub turn_code : Layout → List Instr
+abbrev pub turn_code : MemoryMap → List Instr
 turn_code l = Beq 0xFB ∷ JsrExtended l.eval ∷ ClrExtended l.ready ∷ Bra 0xF3 ∷ []
 
-pub record FrameBytes (image : List ℕ) (l : Layout) : Type 0 where
+pub record FrameBytes (image : List ℕ) (l : MemoryMap) : Type 0 where
   pub start : HasBytes image l.code (code_bytes (start_code l))
   pub load : HasBytes image (l.code + 8) (encode_of (LdaaExtended l.ready))
   pub turn : HasBytes image (l.code + 8 + 3) (code_bytes (turn_code l))
 
-pub frame_bytes : (image : List ℕ) (l : Layout) → HasBytes image l.code (code_bytes (frame_code l)) → FrameBytes image l
+pub frame_bytes : (image : List ℕ) (l : MemoryMap) → HasBytes image l.code (code_bytes (frame_code l))
+    → FrameBytes image l
 frame_bytes image l h =
     let rest = Rti ∷ [] in
     let h1 = bytes_back image l.code (code_bytes (start_code l))
@@ -60,10 +61,10 @@ frame_bytes image l h =
       turn = bytes_front image (l.code + 8 + 3) (code_bytes (turn_code l)) (code_bytes rest) h2;
     }
 
-pub has_frame : (c : Setting) → c.open_to c.layout.ready ≡ false → IsFramed c.layout → IsApart c.layout
-    → FrameBytes c.image c.layout → HasFrame c
+pub has_frame : (c : Setting) → c.open_to c.memory_map.ready ≡ false → IsFramed c.memory_map → IsApart c.memory_map
+    → FrameBytes c.image c.memory_map → HasFrame c
 has_frame c shown f a h =
-    let l = c.layout in
+    let l = c.memory_map in
     let w = f.started.wait in
     let lo = f.started.low in
     let hi = f.started.high in
@@ -87,7 +88,7 @@ has_frame c shown f a h =
     }
 
 -- EVAL and a return behind it
-pub has_routine : (l : Layout) (b : Block) (w : Width) (before : List Instr) (image : List ℕ) → l.wait < l.eval
+pub has_routine : (l : MemoryMap) (b : Block) (w : Width) (before : List Instr) (image : List ℕ) → l.wait < l.eval
     → IsInCode l
     → length (slots_of b) ≤ 300 → StandsBetween l b w before (Rts ∷ []) image → HasRoutine l b w image
 has_routine l b w before image above inside few h = record {
@@ -102,7 +103,7 @@ has_routine l b w before image above inside few h = record {
 -- the frame leads to what it calls, and back
 pub frame_calls_and_leaves : FrameCallsAndLeaves
 frame_calls_and_leaves c shown f a h =
-    let frame = has_frame c shown f a (frame_bytes c.image c.layout h) in
+    let frame = has_frame c shown f a (frame_bytes c.image c.memory_map h) in
     let low = f.started.ready in
     record {
       calls = λ s l pc sp ready. call_run c s frame low l pc sp ready;

@@ -8,10 +8,10 @@ use Rattle.cpu12_asm.specs.Bytes.{Holds}
 use Rattle.cpu12_asm.specs.Items.{given_by, IsRising}
 use Rattle.cpu12_parts.specs.State.{State}
 use Rattle.cpu12_emul.specs.Image.{image_memory}
-use Rattle.eval_code.specs.declared.layout.Layout.{Layout}
+use Rattle.eval_code.specs.declared.memory_map.MemoryMap.{MemoryMap}
 use Rattle.eval_code.specs.declared.width.Width.{Width}
 use Rattle.eval_code.specs.Widths.{width_of}
-use Rattle.eval_code.specs.Layouts.{main_layout}
+use Rattle.eval_code.specs.MemoryMaps.{main_map}
 use Rattle.codegen.specs.Code.{frame_code}
 use Rattle.eval_code.specs.Bounds.{instruction_bound}
 use Rattle.codegen.specs.Images.{firmware_items}
@@ -19,7 +19,7 @@ use Rattle.eval_code.specs.Items.{IsApart}
 use Rattle.eval_code.specs.Firing.{AreInputBytes}
 use Rattle.eval_code.specs.Evaluation.{HasBytes, Reads, Writes}
 use Rattle.eval_code.specs.Placed.{IsInOrder, BlockRises, BlockIsShort}
-use Rattle.codegen.specs.Answers.{IsArrivedBeside, AreAnsweredBeside, FirmwareAnswers, LeavesLayout, FreeBytesLeave}
+use Rattle.codegen.specs.Answers.{IsArrivedBeside, AreAnsweredBeside, FirmwareAnswers, LeavesMapped, FreeBytesLeave}
 use Rattle.codegen.specs.Answers.{FirmwareAnswersBeside, ArrivesAlike, FirmwareArrivesAlike}
 use Rattle.eval_code.specs.Code.{code_bytes, FitCode}
 use Rattle.codegen.specs.Laws.{LowerLaws}
@@ -39,10 +39,10 @@ use Rattle.codegen.specs.Calls.{IsInCode}
 use Rattle.codegen.specs.Frames.{IsStarted, IsFramed, start_code, Arrived}
 use Rattle.codegen.specs.Settings.{IsShut, Setting}
 
-pub main_apart : IsApart main_layout
+pub main_apart : IsApart main_map
 main_apart = search arith
 
-main_framed : IsFramed main_layout
+main_framed : IsFramed main_map
 main_framed = record {
   started = record {
     low = omega arith;
@@ -57,8 +57,8 @@ main_framed = record {
   eval = omega arith;
 }
 
--- what leaves the layout alone
-pub main_shut : (open_to : ℕ → Bool) → LeavesLayout open_to main_layout → IsShut open_to main_layout
+-- what leaves the memory map alone
+pub main_shut : (open_to : ℕ → Bool) → LeavesMapped open_to main_map → IsShut open_to main_map
 main_shut open_to h = record {
   reads = h.reads;
   writes = h.writes;
@@ -73,7 +73,7 @@ pub not_free : (at : ℕ) → (at < 0x1800) ⊎ (0x1FE0 ≤ at) → is_free at �
 not_free at (inl h) = grind (arith, nat_tests)
 not_free at (inr h) = grind (arith, nat_tests)
 
-free_read : (at : ℕ) → Reads main_layout at → is_free at ≡ false
+free_read : (at : ℕ) → Reads main_map at → is_free at ≡ false
 free_read at (inl o) = not_free at (inl (omega (arith, o.1)))
 free_read at (inr (inl o)) = not_free at (inl (omega (arith, o.1)))
 free_read at (inr (inr (inl o))) = not_free at (inr (omega (arith, o.0)))
@@ -82,7 +82,7 @@ free_read at (inr (inr (inr (inr (inl o))))) = not_free at (inr (omega (arith, o
 free_read at (inr (inr (inr (inr (inr (inl o)))))) = not_free at (inr (omega (arith, o.0)))
 free_read at (inr (inr (inr (inr (inr (inr o)))))) = absurd o
 
-free_written : (at : ℕ) → Writes main_layout at → is_free at ≡ false
+free_written : (at : ℕ) → Writes main_map at → is_free at ≡ false
 free_written at (inl o) = not_free at (inl (omega (arith, o.1)))
 free_written at (inr (inl o)) = not_free at (inl (omega (arith, o.1)))
 free_written at (inr (inr o)) = absurd o
@@ -97,22 +97,22 @@ free_leaves = record {
   reset = λ at from to. not_free at (inr (omega arith));
 }
 
-main_inside : IsInCode main_layout
+main_inside : IsInCode main_map
 main_inside = record { from = omega arith; to = omega arith }
 
-main_frame_fits : FitCode (frame_code main_layout)
+main_frame_fits : FitCode (frame_code main_map)
 main_frame_fits =
     (omega arith, (omega arith, (omega arith, (omega arith, (omega arith, (omega arith, (omega arith, (omega arith, (tt, tt)))))))))
 
 -- what runs are under that are beside handlers to which these bytes are open
-abbrev over_main : LowerLaws → (open_to : ℕ → Bool) → LeavesLayout open_to main_layout → List ℕ → (flags : ℕ)
+abbrev over_main : LowerLaws → (open_to : ℕ → Bool) → LeavesMapped open_to main_map → List ℕ → (flags : ℕ)
     → flags < 2 ^ 8 → Setting
 over_main laws open_to leaves image flags fits =
     record {
       stays_fit = laws.stays_fit;
       decodes = laws.decodes;
       open_to = open_to;
-      layout = main_layout;
+      memory_map = main_map;
       shut =
           main_shut open_to leaves;
       image = image;
@@ -123,37 +123,37 @@ over_main laws open_to leaves image flags fits =
 -- what they stand on, and the first arrival
 record Founded (c : Setting) (b : Block) (w : Width) : Type 0 where
   samples : Samples c b w
-  firmware : HasFirmware c.layout b w (frame_code c.layout) c.image
-  start : HasBytes c.image c.layout.code (code_bytes (start_code c.layout))
+  firmware : HasFirmware c.memory_map b w (frame_code c.memory_map) c.image
+  start : HasBytes c.image c.memory_map.code (code_bytes (start_code c.memory_map))
   arrived : Arrived c b w
 
 -- its items are in order, can be placed, and are few
-main_in_order : IsInOrder main_layout (frame_code main_layout) (Rts ∷ [])
+main_in_order : IsInOrder main_map (frame_code main_map) (Rts ∷ [])
 main_in_order = search arith
 
 pub main_rises : BlockRises → (b : Block) (w : Width) → IsValid b → IsWithinLimits b
-    → IsRising (firmware_items main_layout b w)
+    → IsRising (firmware_items main_map b w)
 main_rises rises b w v limits =
-    whole_rises rises main_layout b w (frame_code main_layout) (Rts ∷ []) main_in_order v limits (omega arith)
+    whole_rises rises main_map b w (frame_code main_map) (Rts ∷ []) main_in_order v limits (omega arith)
 
 pub length-main_items : BlockIsShort → (b : Block) (w : Width) → IsValid b → IsWithinLimits b
-    → length (firmware_items main_layout b w) < 2 ^ 32
+    → length (firmware_items main_map b w) < 2 ^ 32
 length-main_items short b w v limits =
-    whole_is_short short main_layout b w (frame_code main_layout) (Rts ∷ []) v limits (omega arith)
+    whole_is_short short main_map b w (frame_code main_map) (Rts ∷ []) v limits (omega arith)
 
 founded : (laws : LowerLaws)
-    → (open_to : ℕ → Bool) (leaves : LeavesLayout open_to main_layout) (b : Block) (w : Width) (image : List (ℕ × ℕ))
+    → (open_to : ℕ → Bool) (leaves : LeavesMapped open_to main_map) (b : Block) (w : Width) (image : List (ℕ × ℕ))
     (flags : ℕ) (fits : flags < 2 ^ 8)
-    → IsValid b → IsWithinLimits b → Holds image (given_by (firmware_items main_layout b w))
+    → IsValid b → IsWithinLimits b → Holds image (given_by (firmware_items main_map b w))
     → Founded (over_main laws open_to leaves (image_memory image) flags fits) b w
 founded laws open_to leaves b w image flags fits v limits h =
-    let frame = frame_code main_layout in
+    let frame = frame_code main_map in
     let mem = image_memory image in
     let c : Setting = over_main laws open_to leaves mem flags fits in
-    let firmware : HasFirmware main_layout b w frame mem =
-    has_firmware laws image main_layout b w frame main_in_order main_apart main_inside (omega arith)
+    let firmware : HasFirmware main_map b w frame mem =
+    has_firmware laws image main_map b w frame main_in_order main_apart main_inside (omega arith)
     (laws.code_is_bytes frame main_frame_fits) (omega arith) (omega arith) v limits h in
-    let fb = frame_bytes mem main_layout firmware.stands.front in
+    let fb = frame_bytes mem main_map firmware.stands.front in
     record {
       samples = record {
         apart = main_apart;
@@ -169,28 +169,28 @@ founded laws open_to leaves b w image flags fits v limits h =
     }
 
 arrived_at : (c : Setting) (b : Block) (w : Width) → HasFrame c → (a : Arrived c b w)
-    → IsArrivedBeside c.open_to c.layout c.image c.flags a.t
+    → IsArrivedBeside c.open_to c.memory_map c.image c.flags a.t
 arrived_at c b w h a =
     let from = h.from in
     let to = h.to in
     let at = a.home.pc_is in
     record {
-      way = a.way;
+      execution = a.execution;
       wait = at;
-      idle = waits c.layout a.t at a.home.ready_is;
+      idle = waits c.memory_map a.t at a.home.ready_is;
       interruptible =
           interruptible_of c a.t a.home.live (omega arith) (omega arith);
     }
 
 -- from the first arrival on, the samples are answered within a bound
-abbrev pub Answers : (ℕ → Bool) → Layout → Block → Width → ℕ → List ℕ → ℕ → List (List ℕ) → Type 0
+abbrev pub Answers : (ℕ → Bool) → MemoryMap → Block → Width → ℕ → List ℕ → ℕ → List (List ℕ) → Type 0
 Answers open_to l b w most image flags samples =
     (s : State) × (IsArrivedBeside open_to l image flags s × AreAnsweredBeside open_to l b w most image flags
     (λ o. 0) samples s)
 
 from_arrival : (c : Setting) (b : Block) (w : Width) (samples : List (List ℕ)) → Founded c b w
     → All (AreInputBytes b) samples
-    → Answers c.open_to c.layout b w (instruction_bound w b) c.image c.flags samples
+    → Answers c.open_to c.memory_map b w (instruction_bound w b) c.image c.flags samples
 from_arrival c b w samples h all =
     let a = h.arrived in
     (a.t, (arrived_at c b w h.samples.frame a, are_answered c b w samples (λ o. 0) a.t h.samples a.home all))
@@ -199,20 +199,20 @@ pub firmware_answers_beside : LowerLaws → FirmwareAnswersBeside
 firmware_answers_beside laws open_to b f leaves v limits h flags samples fits all =
     let w = width_of f.wide in
     let image = image_memory f.image.bytes in
-    let mine : LeavesLayout open_to main_layout = subst (λ (l : Layout). LeavesLayout open_to l) h.layout leaves in
+    let mine : LeavesMapped open_to main_map = subst (λ (l : MemoryMap). LeavesMapped open_to l) h.memory_map leaves in
     let c = over_main laws open_to mine image flags fits in
-    subst (λ (l : Layout). Answers open_to l b w f.instr_bound image flags samples) (sym h.layout)
-    (subst (λ (most : ℕ). Answers open_to main_layout b w most image flags samples) (sym h.instructions)
+    subst (λ (l : MemoryMap). Answers open_to l b w f.instr_bound image flags samples) (sym h.memory_map)
+    (subst (λ (most : ℕ). Answers open_to main_map b w most image flags samples) (sym h.instructions)
     (from_arrival c b w samples (founded laws open_to mine b w f.image.bytes flags fits v limits h.image.bytes) all))
 
 pub firmware_answers : FirmwareAnswersBeside → FirmwareAnswers
 firmware_answers beside b f v limits h =
-    beside is_free b f (subst (λ (l : Layout). LeavesLayout is_free l) (sym h.layout) free_leaves) v limits h
+    beside is_free b f (subst (λ (l : MemoryMap). LeavesMapped is_free l) (sym h.memory_map) free_leaves) v limits h
 
 -- the arrival over a memory that agrees
-alike : (c : Setting) (b : Block) (w : Width) (mem : List ℕ) → Founded c b w → IsStarted c.layout
+alike : (c : Setting) (b : Block) (w : Width) (mem : List ℕ) → Founded c b w → IsStarted c.memory_map
     → ((at : ℕ) → 0xFFFE ≤ at → at < 2 ^ 16 → c.open_to at ≡ false)
-    → Agree c.open_to mem c.image → ArrivesAlike c.open_to c.layout c.image mem c.flags
+    → Agree c.open_to mem c.image → ArrivesAlike c.open_to c.memory_map c.image mem c.flags
 alike c b w mem h started reset agree =
     let a = h.arrived in
     let r = arrive_alike c mem started h.samples.frame.shown reset h.firmware.reset h.start h.firmware.size agree in
@@ -220,7 +220,7 @@ alike c b w mem h started reset agree =
       image_state = a.t;
       state = r.state;
       image_arrived = arrived_at c b w h.samples.frame a;
-      way = r.way;
+      execution = r.execution;
       regs = r.regs ∙ ap (λ (s : State). s.regs) (sym a.first);
       temps = r.temps ∙ ap (λ (s : State). s.temps) (sym a.first);
       bytes = subst (λ (s : State). Agree c.open_to r.state.mem s.mem) (sym a.first) r.bytes;
@@ -231,8 +231,8 @@ pub firmware_arrives_alike : LowerLaws → FirmwareArrivesAlike
 firmware_arrives_alike laws open_to b f mem flags fits leaves v limits h agree =
     let w = width_of f.wide in
     let image = image_memory f.image.bytes in
-    let mine : LeavesLayout open_to main_layout = subst (λ (l : Layout). LeavesLayout open_to l) h.layout leaves in
+    let mine : LeavesMapped open_to main_map = subst (λ (l : MemoryMap). LeavesMapped open_to l) h.memory_map leaves in
     let c = over_main laws open_to mine image flags fits in
-    subst (λ (l : Layout). ArrivesAlike open_to l image mem flags) (sym h.layout)
+    subst (λ (l : MemoryMap). ArrivesAlike open_to l image mem flags) (sym h.memory_map)
     (alike c b w mem (founded laws open_to mine b w f.image.bytes flags fits v limits h.image.bytes) main_framed.started
     mine.reset agree)

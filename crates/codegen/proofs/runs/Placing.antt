@@ -1,4 +1,4 @@
--- A block's items with the vectors behind them, by the laws of blocks at a layout.
+-- A block's items with the vectors behind them, by the laws of blocks at a memory map.
 use Rattle.std.proofs.Common.{ℕ, ◌+◌, ◌/◌, ◌%◌, ◌^◌, ◌<◌, ◌≤◌, List, [], ◌∷◌, ◌++◌, length, All, refl, sym, subst}
 use Rattle.std.proofs.Common.{arith, length-append}
 use Rattle.std.proofs.lemmas.List.Elements.{All-nil, All-cons, All-append}
@@ -10,7 +10,7 @@ use Rattle.cpu12_isa.specs.declared.instr.Instr.{Instr}
 use Rattle.cpu12_asm.specs.Bytes.{Holds}
 use Rattle.cpu12_asm.specs.Items.{given_by, IsRising}
 use Rattle.cpu12_emul.specs.Image.{image_memory}
-use Rattle.eval_code.specs.declared.layout.Layout.{Layout}
+use Rattle.eval_code.specs.declared.memory_map.MemoryMap.{MemoryMap}
 use Rattle.eval_code.specs.declared.width.Width.{Width}
 use Rattle.eval_code.specs.Code.{code_bytes}
 use Rattle.eval_code.specs.Items.{block_items, IsApart}
@@ -19,19 +19,19 @@ use Rattle.eval_code.specs.Placed.{BlockRises, BlockIsShort, BlockStands}
 use Rattle.codegen.specs.Images.{vector_items}
 use Rattle.codegen.specs.Laws.{LowerLaws}
 
--- a layout has room for the slots of a valid block
+-- a memory map has room for the slots of a valid block
 pub few_slots : LayoutLaw → (b : Block) → IsValid b → length (slots_of b) ≤ 300
 unfolding flat_of
 few_slots law b v = (law b v).few_slots
 
 -- the items can be placed, and are few
-pub whole_rises : BlockRises → (l : Layout) (b : Block) (w : Width) (before behind : List Instr)
+pub whole_rises : BlockRises → (l : MemoryMap) (b : Block) (w : Width) (before behind : List Instr)
     → IsInOrder l before behind → IsValid b → IsWithinLimits b
     → l.rules + 9984 ≤ 0xFFF2 → IsRising (block_items l b w before behind ++ vector_items l)
 whole_rises rises l b w before behind o v limits top =
     rises 0 l b w before behind (vector_items l) o v limits (omega arith) (omega arith, (omega arith, omega arith))
 
-pub whole_is_short : BlockIsShort → (l : Layout) (b : Block) (w : Width) (before behind : List Instr) → IsValid b
+pub whole_is_short : BlockIsShort → (l : MemoryMap) (b : Block) (w : Width) (before behind : List Instr) → IsValid b
     → IsWithinLimits b
     → length (code_bytes before) + length (code_bytes behind) ≤ 1000
     → length (block_items l b w before behind ++ vector_items l) < 2 ^ 32
@@ -40,7 +40,7 @@ whole_is_short short l b w before behind v limits few =
 
 -- EVAL stands among them
 pub whole_stands : BlockStands
-    → (image : List (ℕ × ℕ)) (l : Layout) (b : Block) (w : Width) (before behind : List Instr)
+    → (image : List (ℕ × ℕ)) (l : MemoryMap) (b : Block) (w : Width) (before behind : List Instr)
     → IsInOrder l before behind
     → IsValid b → IsWithinLimits b → Holds image (given_by (block_items l b w before behind ++ vector_items l))
     → IsRising (block_items l b w before behind ++ vector_items l)
@@ -57,13 +57,14 @@ four a b c d p q r s =
     All-cons Fits a (b ∷ c ∷ d ∷ []) p
     (All-cons Fits b (c ∷ d ∷ []) q (All-cons Fits c (d ∷ []) r (All-cons Fits d [] s (All-nil Fits))))
 
-vectors_fit : (l : Layout) → l.interrupt < 65536 → l.code < 65536 → GiveBytes (given_by (vector_items l))
+vectors_fit : (l : MemoryMap) → l.interrupt < 65536 → l.code < 65536 → GiveBytes (given_by (vector_items l))
 vectors_fit l i c =
     four (0xFFF2, l.interrupt / 2 ^ 8) (0xFFF3, l.interrupt % 2 ^ 8) (0xFFFE, l.code / 2 ^ 8) (0xFFFF, l.code % 2 ^ 8)
     (omega arith) (omega arith) (omega arith) (omega arith)
 
 -- what they give are bytes, where those of the code around EVAL are
-pub whole_fits : LowerLaws → (l : Layout) (b : Block) (w : Width) (before behind : List Instr) → IsApart l → IsValid b
+pub whole_fits : LowerLaws → (l : MemoryMap) (b : Block) (w : Width) (before behind : List Instr) → IsApart l
+    → IsValid b
     → All (λ v. v < 2 ^ 8) (code_bytes before)
     → All (λ v. v < 2 ^ 8) (code_bytes behind) → l.interrupt < 65536 → l.code < 65536
     → GiveBytes (given_by (block_items l b w before behind ++ vector_items l))

@@ -13,8 +13,8 @@ use Rattle.codegen.specs.Frames.{Home}
 use Rattle.codegen.specs.Settings.{Setting}
 
 answered : (c : Setting) (b : Block) (w : Width) (bytes : List ℕ) (before : ℕ → ℕ) (s : State) → Samples c b w
-    → (r : Sampled c b w bytes before (given c.layout bytes s))
-    → IsAnsweredBeside c.open_to c.layout b w (instruction_bound w b) c.image c.flags before bytes s r.t
+    → (r : Sampled c b w bytes before (given c.memory_map bytes s))
+    → IsAnsweredBeside c.open_to c.memory_map b w (instruction_bound w b) c.image c.flags before bytes s r.t
 answered c b w bytes before s h r =
     let lo = h.frame.from in
     let hi = h.frame.to in
@@ -22,7 +22,7 @@ answered c b w bytes before s h r =
     record {
       ds = r.ds;
       execution = r.execution;
-      idle = waits c.layout r.t r.home.pc_is r.home.ready_is;
+      idle = waits c.memory_map r.t r.home.pc_is r.home.ready_is;
       interruptible = interruptible_of c r.t r.home.live (omega arith) (omega arith);
       answers = r.home.outs;
       instructions = r.instructions;
@@ -31,7 +31,7 @@ answered c b w bytes before s h r =
 
 pub are_answered : (c : Setting) (b : Block) (w : Width) (samples : List (List ℕ)) (before : ℕ → ℕ) (s : State)
     → Samples c b w → Home c b w before s → All (AreInputBytes b) samples
-    → AreAnsweredBeside c.open_to c.layout b w (instruction_bound w b) c.image c.flags before samples s
+    → AreAnsweredBeside c.open_to c.memory_map b w (instruction_bound w b) c.image c.flags before samples s
 are_answered c b w [] before s h home all = tt
 are_answered c b w (bytes ∷ samples) before s h home all =
     let r = sample_run c b w bytes before s h (all 0 bytes (omega arith)) home in (

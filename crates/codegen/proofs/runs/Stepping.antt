@@ -16,7 +16,7 @@ use Rattle.cpu12_parts.specs.State.{State}
 use Rattle.cpu12_parts.specs.Laws.{addresses}
 use Rattle.cpu12_parts.specs.Touching.{Each}
 use Rattle.cpu12_parts.specs.Whole.{after_plain}
-use Rattle.eval_code.specs.declared.layout.Layout.{Layout}
+use Rattle.eval_code.specs.declared.memory_map.MemoryMap.{MemoryMap}
 use Rattle.cpu12_isa.specs.Regions.{is_hidden}
 use Rattle.eval_code.specs.Masks.{interrupt_masks}
 use Rattle.codegen.specs.Interruptible.{is_idle, IsSteady, IsShownPlain, IsInterruptibleStep}
@@ -44,7 +44,7 @@ high_shown open_to sp at a h =
     rw (a, b)
 
 -- so are the bytes of code
-pub code_shown : (open_to : ℕ → Bool) (l : Layout) (sp pc : ℕ) → IsShut open_to l → sp ≤ 0x2000 → l.code ≤ pc
+pub code_shown : (open_to : ℕ → Bool) (l : MemoryMap) (sp pc : ℕ) → IsShut open_to l → sp ≤ 0x2000 → l.code ≤ pc
     → pc + 6 ≤ l.code + code_room
     → AllShown (is_hidden open_to sp) (six_from pc)
 code_shown open_to l sp pc shut a b c =
@@ -59,8 +59,8 @@ code_shown open_to l sp pc shut a b c =
       ),
     )
 
-pub steady_of : (c : Setting) (masked : Bool) (s : State) → Lives c.image masked s → c.layout.code ≤ s.regs.pc
-    → s.regs.pc + 6 ≤ c.layout.code + code_room → IsSteady c.open_to masked c.image s
+pub steady_of : (c : Setting) (masked : Bool) (s : State) → Lives c.image masked s → c.memory_map.code ≤ s.regs.pc
+    → s.regs.pc + 6 ≤ c.memory_map.code + code_room → IsSteady c.open_to masked c.image s
 steady_of c masked s l lo hi = record {
   temps = l.temps;
   size = l.size;
@@ -69,7 +69,7 @@ steady_of c masked s l lo hi = record {
   stack = l.stack;
   mask = l.mask;
   same = l.same;
-  code = code_shown c.open_to c.layout s.regs.sp s.regs.pc c.shut (sp_high s l.stack) lo hi;
+  code = code_shown c.open_to c.memory_map s.regs.sp s.regs.pc c.shut (sp_high s l.stack) lo hi;
 }
 
 pub interruptible_of : LiveIsInterruptible
@@ -89,7 +89,7 @@ pub record Went (c : Setting) (later : Bool) (i : Instr) (s t : State) (q : ℕ)
 
 -- one that stands in the image and leaves the stack as the code has it
 pub plain_went : (c : Setting) (masked later : Bool) (s : State) (p q : ℕ) (i : Instr) → Lives c.image masked s
-    → s.regs.pc ≡ p → c.layout.code ≤ p → p + 6 ≤ c.layout.code + code_room
+    → s.regs.pc ≡ p → c.memory_map.code ≤ p → p + 6 ≤ c.memory_map.code + code_room
     → decode_at c.image p ≡ Ok i → is_plain i ≡ true → FitsOperands i
     → AllShown (is_hidden c.open_to s.regs.sp) (read_by (act_of c.flags i s.regs) s.mem)
     → AllShown (is_hidden c.open_to (min s.regs.sp (effect c.flags i s.regs s.mem).regs.sp))
@@ -129,8 +129,9 @@ plain_went c masked later s p q i l ep lo hi de pl fo reads writes uncovers belo
     }
 
 -- the same where I stays 0, and the code does not wait
-pub plain_next : (c : Setting) (s : State) (p q : ℕ) (i : Instr) → Live c s → is_idle c.layout s ≡ false → s.regs.pc ≡ p
-    → c.layout.code ≤ p → p + 6 ≤ c.layout.code + code_room
+pub plain_next : (c : Setting) (s : State) (p q : ℕ) (i : Instr) → Live c s → is_idle c.memory_map s ≡ false
+    → s.regs.pc ≡ p
+    → c.memory_map.code ≤ p → p + 6 ≤ c.memory_map.code + code_room
     → decode_at c.image p ≡ Ok i → is_plain i ≡ true → FitsOperands i
     → AllShown (is_hidden c.open_to s.regs.sp) (read_by (act_of c.flags i s.regs) s.mem)
     → AllShown (is_hidden c.open_to (min s.regs.sp (effect c.flags i s.regs s.mem).regs.sp))
@@ -156,7 +157,7 @@ plain_next c s p q i l busy ep lo hi de pl fo reads writes uncovers below stack 
       pc_is = pc;
     }
 
-pub not_at : (l : Layout) (s : State) (p : ℕ) → s.regs.pc ≡ p → p ≢ l.wait → is_idle l s ≡ false
+pub not_at : (l : MemoryMap) (s : State) (p : ℕ) → s.regs.pc ≡ p → p ≢ l.wait → is_idle l s ≡ false
 not_at l s p e h = let a : (s.regs.pc == l.wait) ≡ false = grind (arith, nat_tests) in rw a
 
 -- one that leaves SP, and writes below FREE alone
@@ -171,7 +172,7 @@ pub next : (c : Setting) (s : State) (p q : ℕ) (i : Instr) → Live c s → s.
     → Next c s (after_plain c.flags i s) q
 next c s p q i l ep h pl fo reads below shut esp masks pc =
     let e = effect c.flags i s.regs s.mem in
-    plain_next c s p q i l (not_at c.layout s p ep h.off) ep h.from h.to h.decoded pl fo reads
+    plain_next c s p q i l (not_at c.memory_map s p ep h.off) ep h.from h.to h.decoded pl fo reads
     (writes_shown c.open_to (min s.regs.sp e.regs.sp) e.writes below shut)
     (λ at g. inl (ap (λ k. is_hidden c.open_to k at) (sym esp) ∙ g))
     (below_more 0x1800 0x2000 e.writes (omega arith) below)
@@ -189,13 +190,13 @@ instruction_goes_on c s p q i l ep h pl reads below shut esp masks pc =
 
 -- executions of at most n instructions, with at most k parts beyond their first
 abbrev pub Goes : Setting → ℕ → ℕ → State → State → Type 0
-Goes c = Bounded (IsInterruptibleStep c.open_to c.layout c.image c.flags)
+Goes c = Bounded (IsInterruptibleStep c.open_to c.memory_map c.image c.flags)
 
 pub goes_on : (c : Setting) (n k m j : ℕ) (s t u : State) → Goes c n k s t → Goes c m j t u → Goes c (n + m) (k + j) s u
-goes_on c = bounded_on (IsInterruptibleStep c.open_to c.layout c.image c.flags)
+goes_on c = bounded_on (IsInterruptibleStep c.open_to c.memory_map c.image c.flags)
 
 pub goes_one : (c : Setting) (s t : State) (q : ℕ) → Next c s t q → Goes c 1 0 s t
-goes_one c s t q h = bounded_one (IsInterruptibleStep c.open_to c.layout c.image c.flags) 0 s t h.step
+goes_one c s t q h = bounded_one (IsInterruptibleStep c.open_to c.memory_map c.image c.flags) 0 s t h.step
 
 pub clr : (c : Setting) (s : State) (p at : ℕ) → Live c s → s.regs.pc ≡ p → Here c p (ClrExtended at) → at < 0x1800
     → c.open_to at ≡ false

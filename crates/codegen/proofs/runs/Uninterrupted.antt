@@ -7,11 +7,11 @@ use Rattle.fuzzy_meaning.specs.declared.block.Block.{Block}
 use Rattle.cpu12_isa.specs.Memory.{word_of}
 use Rattle.cpu12_isa.specs.Regions.{is_free}
 use Rattle.cpu12_parts.specs.State.{State}
-use Rattle.cpu12_parts.specs.Whole.{PlainWay, IsWholeStep}
+use Rattle.cpu12_parts.specs.Whole.{PlainExecution, IsWholeStep}
 use Rattle.cpu12_parts.specs.Executions.{Execution, IsStepBefore, IsUntil, ExecutionsAreOne}
 use Rattle.cpu12_emul.specs.Image.{image_memory}
 use Rattle.cpu12_emul.specs.Step.{reset_with}
-use Rattle.eval_code.specs.declared.layout.Layout.{Layout}
+use Rattle.eval_code.specs.declared.memory_map.MemoryMap.{MemoryMap}
 use Rattle.eval_code.specs.declared.width.Width.{Width}
 use Rattle.eval_code.specs.declared.width.Width.TheVariants.{Byte, Word}
 use Rattle.codegen.specs.declared.firmware.Firmware.{Firmware}
@@ -37,8 +37,8 @@ answers_are_one one f flags [] (x ∷ xs) ys s a b = absurd a
 answers_are_one one f flags (bytes ∷ samples) [] ys s a b = absurd a
 answers_are_one one f flags (bytes ∷ samples) (x ∷ xs) [] s a b = absurd b
 answers_are_one one f flags (bytes ∷ samples) (x ∷ xs) (y ∷ ys) s a b =
-    let g = given f.layout bytes s in
-    let same = one (is_idle f.layout) flags a.1.0.ds b.1.0.ds g a.0 b.0 a.1.0.until b.1.0.until in
+    let g = given f.memory_map bytes s in
+    let same = one (is_idle f.memory_map) flags a.1.0.ds b.1.0.ds g a.0 b.0 a.1.0.until b.1.0.until in
     let values : x.values ≡ y.values = a.1.0.values ∙ ap (values_in f) same.1 ∙ sym b.1.0.values in
     let count : x.instructions ≡ y.instructions = a.1.0.instructions ∙ ap length same.0 ∙ sym b.1.0.instructions in
     let rest = answers_are_one one f flags samples xs ys a.0 a.1.1
@@ -47,20 +47,20 @@ answers_are_one one f flags (bytes ∷ samples) (x ∷ xs) (y ∷ ys) s a b =
 
 pub uninterrupted_are_one : ExecutionsAreOne → UninterruptedAreOne
 uninterrupted_are_one one f flags samples xs ys a b =
-    let same = one (is_waiting f.layout) flags a.ds b.ds (reset_with (image_memory f.image.bytes)) a.first b.first
+    let same = one (is_waiting f.memory_map) flags a.ds b.ds (reset_with (image_memory f.image.bytes)) a.first b.first
     a.arrived b.arrived in
     answers_are_one one f flags samples xs ys a.first a.each
     (subst (AreAnswersTo f flags samples ys) (sym same.1) b.each)
 
 -- a step on which an interrupt may come is a whole instruction
-whole : (open_to : ℕ → Bool) (l : Layout) (flags d : ℕ) (s t : State) → IsShownInstruction open_to l flags d s t
+whole : (open_to : ℕ → Bool) (l : MemoryMap) (flags d : ℕ) (s t : State) → IsShownInstruction open_to l flags d s t
     → IsWholeStep flags d s t
 whole open_to l flags d s t (inl p) = inl (p.0, (p.1.0.step, p.1.1))
 whole open_to l flags d s t (inr (inl p)) = inr (inl (p.0, p.1, p.2.step))
 whole open_to l flags d s t (inr (inr (inl p))) = inr (inr (inl (p.0, p.1, p.2.step)))
 whole open_to l flags d s t (inr (inr (inr p))) = inr (inr (inr p.step))
 
-pub uninterrupted : (open_to : ℕ → Bool) (l : Layout) (image : List ℕ) (flags : ℕ) (ds : List ℕ) (s t : State)
+pub uninterrupted : (open_to : ℕ → Bool) (l : MemoryMap) (image : List ℕ) (flags : ℕ) (ds : List ℕ) (s t : State)
     → Execution (IsInterruptibleStep open_to l image flags) ds s t
     → Execution (IsStepBefore (is_idle l) flags) ds s t
 uninterrupted open_to l image flags [] s t e = e
@@ -73,17 +73,17 @@ uninterrupted open_to l image flags (d ∷ ds) s t e = (
 )
 
 -- so is the way to the first arrival
-pub waits : (l : Layout) (s : State) → s.regs.pc ≡ l.wait → is_waiting l s ≡ true
+pub waits : (l : MemoryMap) (s : State) → s.regs.pc ≡ l.wait → is_waiting l s ≡ true
 waits l s h = grind (arith, nat_tests)
 
-off : (l : Layout) (s : State) → s.regs.pc ≢ l.wait → is_waiting l s ≡ false
+off : (l : MemoryMap) (s : State) → s.regs.pc ≢ l.wait → is_waiting l s ≡ false
 off l s h = grind (arith, nat_tests)
 
 abbrev pub plain_parts : ℕ → List ℕ
 plain_parts zero = []
 plain_parts (suc n) = 0 ∷ plain_parts n
 
-pub arrival : (l : Layout) (flags n : ℕ) (s t : State) → PlainWay flags l.wait n s t
+pub arrival : (l : MemoryMap) (flags n : ℕ) (s t : State) → PlainExecution flags l.wait n s t
     → Execution (IsStepBefore (is_waiting l) flags) (plain_parts n) s t
 arrival l flags zero s t h = h
 arrival l flags (suc n) s t h =
@@ -111,7 +111,7 @@ value_from w m at (suc n) (suc k) v lt h =
 -- the answers of samples that are answered
 seen : (b : Block) (f : Firmware) (image : List ℕ) (flags : ℕ) (before : ℕ → ℕ) (samples : List (List ℕ)) (s : State)
     → f.outputs ≡ length b.outputs
-    → (h : AreAnswered f.layout b (width_of f.wide) f.instr_bound image flags before samples s)
+    → (h : AreAnswered f.memory_map b (width_of f.wide) f.instr_bound image flags before samples s)
     → AreAnswersTo f flags samples (answers_by b f image flags before samples s h) s
     × AreAnswersOf (width_of f.wide) b f.instr_bound before samples (answers_by b f image flags before samples s h)
 seen b f image flags before [] s e h = (tt, tt)
@@ -119,19 +119,20 @@ seen b f image flags before (bytes ∷ samples) s e h =
     let w = width_of f.wide in
     let one = h.1.0 in
     let rest = seen b f image flags (λ o. answer w b o bytes (before o)) samples h.0 e h.1.1 in
-    let until : IsUntil (is_idle f.layout) flags one.ds (given f.layout bytes s) h.0 =
+    let until : IsUntil (is_idle f.memory_map) flags one.ds (given f.memory_map bytes s) h.0 =
     record {
       execution =
-          uninterrupted is_free f.layout image flags one.ds (given f.layout bytes s) h.0 one.execution;
+          uninterrupted is_free f.memory_map image flags one.ds (given f.memory_map bytes s) h.0 one.execution;
       stopped =
           one.idle;
     } in (
       (h.0, (record { ds = one.ds; until = until; values = refl; instructions = refl }, rest.0)),
       (
         record {
-          values = λ o lo hi. value_from w h.0.mem f.layout.outputs f.outputs (o - 1) (answer w b o bytes (before o))
+          values = λ o lo hi. value_from w h.0.mem f.memory_map.outputs f.outputs (o - 1)
+              (answer w b o bytes (before o))
               (omega arith) (one.answers o lo hi);
-          count = count_from w h.0.mem f.layout.outputs f.outputs ∙ e;
+          count = count_from w h.0.mem f.memory_map.outputs f.outputs ∙ e;
           instructions = one.instructions;
         },
         rest.1,
@@ -140,11 +141,11 @@ seen b f image flags before (bytes ∷ samples) s e h =
 
 pub answered_are_uninterrupted : AnsweredAreUninterrupted
 answered_are_uninterrupted b f flags samples s e a h =
-    let l = f.layout in
+    let l = f.memory_map in
     let image = image_memory f.image.bytes in
     let both = seen b f image flags (λ o. 0) samples s e h in
     let arrived : IsUntil (is_waiting l) flags (plain_parts 3) (reset_with image) s =
-    record { execution = arrival l flags 3 (reset_with image) s a.way; stopped = waits l s a.wait } in
+    record { execution = arrival l flags 3 (reset_with image) s a.execution; stopped = waits l s a.wait } in
     (record { first = s; ds = plain_parts 3; arrived = arrived; each = both.0 }, both.1)
 
 pub firmware_is_uninterrupted : FirmwareAnswers → FirmwareIsUninterrupted

@@ -15,7 +15,7 @@ use Rattle.cpu12_emul.specs.Image.{image_memory}
 use Rattle.cpu12_emul.specs.Step.{reset_with}
 use Rattle.eval_code.specs.Standing.{DecodesWhereItStands}
 use Rattle.codegen.specs.declared.firmware.Firmware.{Firmware}
-use Rattle.eval_code.specs.declared.layout.Layout.{Layout}
+use Rattle.eval_code.specs.declared.memory_map.MemoryMap.{MemoryMap}
 use Rattle.eval_code.specs.declared.width.Width.{Width}
 use Rattle.eval_code.specs.Widths.{width_of, places, bytes_of, answer}
 use Rattle.eval_code.specs.Firing.{AreInputBytes}
@@ -24,7 +24,7 @@ use Rattle.codegen.specs.Interruptible.{is_idle}
 use Rattle.eval_code.specs.Evaluation.{put}
 use Rattle.codegen.specs.Answers.{given}
 use Rattle.codegen.specs.Uninterrupted.{Answer, values_in, AreAnswersTo, AreAnswersOf}
-use Rattle.codegen.specs.Mailboxes.{is_postable, mailbox_layout}
+use Rattle.codegen.specs.Mailboxes.{is_postable, mailbox_map}
 use Rattle.codegen.specs.Turns.{IsAt, IsMaskedStep, IsCopied, IsLook, IsChoice, TakesTurns, MailboxTakesPosts}
 use Rattle.codegen.specs.Turns.{MailboxIsUninterrupted, call_of}
 use Rattle.codegen.specs.SampleTurns.{IsSampleTurn, TakesSamples, MailboxTakesSamples}
@@ -38,17 +38,17 @@ use Rattle.codegen.proofs.runs.Uninterrupted.{uninterrupted, waits, arrival, cou
 use Rattle.codegen.proofs.turns.Posting.{Post, post_ctx, lives_of, at_of}
 
 abbrev Before : Post → ℕ → State → State → Type 0
-Before p = IsStepBefore (is_idle (mailbox_layout p.n)) p.flags
+Before p = IsStepBefore (is_idle (mailbox_map p.n)) p.flags
 
 -- masked steps are whole instructions of a code that does not wait
-masked : (p : Post) (ds : List ℕ) (s t : State) → Execution (IsMaskedStep (mailbox_layout p.n) p.image p.flags) ds s t
+masked : (p : Post) (ds : List ℕ) (s t : State) → Execution (IsMaskedStep (mailbox_map p.n) p.image p.flags) ds s t
     → Execution (Before p) ds s t
 masked p [] s t e = e
 masked p (d ∷ ds) s t e = (
   e.0,
   (
     record {
-      on = not_at (mailbox_layout p.n) s s.regs.pc refl e.1.0.away;
+      on = not_at (mailbox_map p.n) s s.regs.pc refl e.1.0.away;
       step =
           inl (e.1.0.instruction, (e.1.0.shown.step, e.1.0.single));
     },
@@ -61,14 +61,14 @@ record Posted (p : Post) (b : Block) (w : Width) (bytes : List ℕ) (before : �
   at : IsAt p.image 0xC008 g
   posted : get_or g.mem 0x1028 0 ≡ 1
   mail : HasBytes g.mem 0x1020 bytes
-  outputs : HasAnswers (mailbox_layout p.n) b w before g.mem
+  outputs : HasAnswers (mailbox_map p.n) b w before g.mem
 
 posted_in : (p : Post) (b : Block) (w : Width) (bytes : List ℕ) (before : ℕ → ℕ) (s : State) → length bytes ≤ 8
     → All (λ v. v < 2 ^ 8) bytes → length b.outputs ≤ 4
-    → IsAt p.image 0xC008 s → HasAnswers (mailbox_layout p.n) b w before s.mem
-    → Posted p b w bytes before (given (mailbox_layout p.n) bytes s)
+    → IsAt p.image 0xC008 s → HasAnswers (mailbox_map p.n) b w before s.mem
+    → Posted p b w bytes before (given (mailbox_map p.n) bytes s)
 posted_in p b w bytes before s few fit outs at answers =
-    let g = given (mailbox_layout p.n) bytes s in
+    let g = given (mailbox_map p.n) bytes s in
     let m = put s.mem 0x1020 bytes in
     let size = at.steady.size in
     let lm : length m ≡ 65536 = length-put s.mem 0x1020 bytes ∙ size in
@@ -102,22 +102,22 @@ copied_bytes m n from to bytes h e = bytes_by n to bytes (λ k lt. e k lt ∙ at
 record Fetched (p : Post) (b : Block) (w : Width) (bytes : List ℕ) (before : ℕ → ℕ) (ds : List ℕ)
     (g t : State) : Type 0 where
   execution : Execution (Before p) (0 ∷ 0 ∷ 0 ∷ ds) g t
-  at : IsAt p.image (call_of (mailbox_layout p.n) (length b.inputs)) t
+  at : IsAt p.image (call_of (mailbox_map p.n) (length b.inputs)) t
   cleared : get_or t.mem 0x1028 0 ≡ 0
   inputs : HasBytes t.mem 0x1001 bytes
-  outputs : HasAnswers (mailbox_layout p.n) b w before t.mem
+  outputs : HasAnswers (mailbox_map p.n) b w before t.mem
 
 abbrev chosen : Bool → ℕ
 chosen z = if z then 0xC008 else 0xC00D
 
 fetched : (p : Post) (b : Block) (w : Width) (bytes : List ℕ) (before : ℕ → ℕ) (g s1 s2 s4 : State)
     → length b.inputs ≤ 8 → length b.outputs ≤ 4 → length bytes ≡ length b.inputs → Posted p b w bytes before g
-    → IsLook (mailbox_layout p.n) p.image p.flags g s1 → IsChoice (mailbox_layout p.n) p.image p.flags s1 s2
+    → IsLook (mailbox_map p.n) p.image p.flags g s1 → IsChoice (mailbox_map p.n) p.image p.flags s1 s2
     → s2.regs.pc ≡ 0xC00D
-    → (copy : IsCopied (mailbox_layout p.n) (length b.inputs) p.image p.flags s2 s4)
+    → (copy : IsCopied (mailbox_map p.n) (length b.inputs) p.image p.flags s2 s4)
     → Fetched p b w bytes before copy.ds g s4
 fetched p b w bytes before g s1 s2 s4 few outs count h look choice at2 copy =
-    let l = mailbox_layout p.n in
+    let l = mailbox_map p.n in
     let s3 = copy.masked in
     let mem2 : s2.mem ≡ g.mem = choice.mem ∙ look.mem in
     let on1 : Before p 0 g s1 =
@@ -147,12 +147,12 @@ fetched p b w bytes before g s1 s2 s4 few outs count h look choice at2 copy =
 
 -- from where the code waits back to there
 answered : (p : Post) (b : Block) (w : Width) (most : ℕ) (before : ℕ → ℕ) (bytes : List ℕ) (s : State)
-    → TakesTurns (mailbox_layout p.n) b w most p.image p.flags
+    → TakesTurns (mailbox_map p.n) b w most p.image p.flags
     → length b.inputs ≤ 8 → length b.outputs ≤ 4 → AreInputBytes b bytes → IsAt p.image 0xC008 s
-    → HasAnswers (mailbox_layout p.n) b w before s.mem
-    → (t : State) × IsSampleTurn (mailbox_layout p.n) b w most p.image p.flags before bytes s t
+    → HasAnswers (mailbox_map p.n) b w before s.mem
+    → (t : State) × IsSampleTurn (mailbox_map p.n) b w most p.image p.flags before bytes s t
 answered p b w most before bytes s turns few outs i at answers =
-    let l = mailbox_layout p.n in
+    let l = mailbox_map p.n in
     let g = given l bytes s in
     let count = i.count in
     let h = posted_in p b w bytes before s (omega arith) i.fit outs at answers in
@@ -186,18 +186,18 @@ answered p b w most before bytes s turns few outs i at answers =
     )
 
 -- from the first arrival
-takes_samples : (p : Post) (b : Block) (w : Width) (most : ℕ) → TakesTurns (mailbox_layout p.n) b w most p.image p.flags
+takes_samples : (p : Post) (b : Block) (w : Width) (most : ℕ) → TakesTurns (mailbox_map p.n) b w most p.image p.flags
     → IsValid b
-    → TakesSamples (mailbox_layout p.n) b w most p.image p.flags
+    → TakesSamples (mailbox_map p.n) b w most p.image p.flags
 takes_samples p b w most turns v =
     let r = turns.arrives in
     record {
       first = r.0;
       ready = r.1;
       arrived = record {
-        execution = arrival (mailbox_layout p.n) p.flags 3 (reset_with p.image) r.0 r.1.way;
+        execution = arrival (mailbox_map p.n) p.flags 3 (reset_with p.image) r.0 r.1.execution;
         stopped =
-            waits (mailbox_layout p.n) r.0 r.1.at.pc;
+            waits (mailbox_map p.n) r.0 r.1.at.pc;
       };
       answers = λ before bytes s i at outs. answered p b w most before bytes s turns v.few_inputs
           v.few_outputs i at outs;
@@ -216,9 +216,10 @@ mailbox_takes_samples stays_fit decodes law b f flags v limits h fits =
       flags = flags;
       fits = fits;
     } in
-    let turns : TakesTurns (mailbox_layout (length b.inputs)) b w f.instr_bound image flags =
-    subst (λ (k : Layout). TakesTurns k b w f.instr_bound image flags) h.layout (law b f v limits h flags fits) in
-    subst (λ (k : Layout). TakesSamples k b w f.instr_bound image flags) (sym h.layout)
+    let turns : TakesTurns (mailbox_map (length b.inputs)) b w f.instr_bound image flags =
+    subst (λ (k : MemoryMap). TakesTurns k b w f.instr_bound image flags) h.memory_map (law b f v limits h flags fits)
+    in
+    subst (λ (k : MemoryMap). TakesSamples k b w f.instr_bound image flags) (sym h.memory_map)
     (takes_samples p b w f.instr_bound turns v)
 
 -- a list of samples
@@ -228,7 +229,7 @@ Both f b flags before samples s answers =
 
 more : (f : Firmware) (b : Block) (flags : ℕ) (before : ℕ → ℕ) (bytes : List ℕ) (samples : List (List ℕ)) (s t : State)
     → f.outputs ≡ length b.outputs
-    → IsSampleTurn f.layout b (width_of f.wide) f.instr_bound (image_memory f.image.bytes) flags before bytes s t
+    → IsSampleTurn f.memory_map b (width_of f.wide) f.instr_bound (image_memory f.image.bytes) flags before bytes s t
     → (rest : List Answer) → Both f b flags (λ o. answer (width_of f.wide) b o bytes (before o)) samples t rest
     → (answers : List Answer) × Both f b flags before (bytes ∷ samples) s answers
 more f b flags before bytes samples s t e one rest both =
@@ -241,9 +242,10 @@ more f b flags before bytes samples s t e one rest both =
         (t, (record { ds = ds; until = one.until; values = refl; instructions = refl }, both.0)),
         (
           record {
-            values = λ o lo hi. value_from w t.mem f.layout.outputs f.outputs (o - 1) (answer w b o bytes (before o))
+            values = λ o lo hi. value_from w t.mem f.memory_map.outputs f.outputs (o - 1)
+                (answer w b o bytes (before o))
                 (omega arith) (turned.answers o lo hi);
-            count = count_from w t.mem f.layout.outputs f.outputs ∙ e;
+            count = count_from w t.mem f.memory_map.outputs f.outputs ∙ e;
             instructions = omega (arith, length-append copy.ds turned.ds, copy.count, turned.instructions);
           },
           both.1,
@@ -253,9 +255,9 @@ more f b flags before bytes samples s t e one rest both =
 
 all_answered : (f : Firmware) (b : Block) (flags : ℕ) (before : ℕ → ℕ) (samples : List (List ℕ)) (s : State)
     → f.outputs ≡ length b.outputs
-    → TakesSamples f.layout b (width_of f.wide) f.instr_bound (image_memory f.image.bytes) flags
+    → TakesSamples f.memory_map b (width_of f.wide) f.instr_bound (image_memory f.image.bytes) flags
     → All (AreInputBytes b) samples
-    → IsAt (image_memory f.image.bytes) f.layout.wait s → HasAnswers f.layout b (width_of f.wide) before s.mem
+    → IsAt (image_memory f.image.bytes) f.memory_map.wait s → HasAnswers f.memory_map b (width_of f.wide) before s.mem
     → (answers : List Answer) × Both f b flags before samples s answers
 all_answered f b flags before [] s e takes all at outs = ([], (tt, tt))
 all_answered f b flags before (bytes ∷ samples) s e takes all at outs =

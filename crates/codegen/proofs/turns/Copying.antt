@@ -9,7 +9,7 @@ use Rattle.cpu12_isa.specs.Regions.{is_free}
 use Rattle.cpu12_parts.specs.State.{State}
 use Rattle.cpu12_parts.specs.Whole.{after_plain}
 use Rattle.cpu12_parts.specs.Executions.{Execution}
-use Rattle.codegen.specs.Mailboxes.{is_postable, mailbox_layout, copy_code, call_code}
+use Rattle.codegen.specs.Mailboxes.{is_postable, mailbox_map, copy_code, call_code}
 use Rattle.codegen.specs.Turns.{IsAt, IsMaskedStep, IsCopied}
 use Rattle.cpu12_parts.proofs.Algebra.{execution_on}
 use Rattle.std.proofs.Common.{length-append}
@@ -19,7 +19,7 @@ use Rattle.codegen.proofs.turns.Posting.{Post, HasTurn, free_ctx, post_ctx, live
 use Rattle.codegen.specs.Settings.{Here, Lives, Stands}
 
 abbrev Masked : Post → ℕ → State → State → Type 0
-Masked p = IsMaskedStep (mailbox_layout p.n) p.image p.flags
+Masked p = IsMaskedStep (mailbox_map p.n) p.image p.flags
 
 -- one instruction of the copy
 masked_step : (p : Post) (i : Instr) (s t : State) (at q : ℕ) → Lives p.image true s → s.regs.pc ≡ at
@@ -149,12 +149,12 @@ allow_run p at s l e h =
     (λ at g. inl g) tt l.stack (unmasked s.regs.ccr.0) (omega arith)
 
 pub copies_run : (p : Post) → HasTurn p → (s : State) → IsAt p.image 0xC00D s
-    → (t : State) × IsCopied (mailbox_layout p.n) p.n p.image p.flags s t
+    → (t : State) × IsCopied (mailbox_map p.n) p.n p.image p.flags s t
 copies_run p h s at =
     let few = p.few in
     let s1 = after_plain p.flags (Orcc 0x10) s in
     let w1 = set_run p h s at in
-    let r = copy_run p p.n 0xC00F 0x1020 0x1001 (call_code (mailbox_layout p.n) p.n) s1 w1.lives w1.pc_is h.rest.1.1
+    let r = copy_run p p.n 0xC00F 0x1020 0x1001 (call_code (mailbox_map p.n) p.n) s1 w1.lives w1.pc_is h.rest.1.1
     (omega arith) (omega arith) in
     let s2 = r.t in
     let m2 = s2.mem in

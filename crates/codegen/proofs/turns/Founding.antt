@@ -13,7 +13,7 @@ use Rattle.eval_code.specs.declared.width.Width.{Width}
 use Rattle.eval_code.specs.Items.{IsApart}
 use Rattle.eval_code.specs.Evaluation.{HasBytes}
 use Rattle.eval_code.specs.Placed.{IsInOrder, BlockRises, BlockIsShort}
-use Rattle.codegen.specs.Mailboxes.{mailbox_layout, copy_code, call_code, mailbox_code, mailbox_items}
+use Rattle.codegen.specs.Mailboxes.{mailbox_map, copy_code, call_code, mailbox_code, mailbox_items}
 use Rattle.eval_code.specs.Code.{code_bytes, FitCode}
 use Rattle.eval_code.proofs.Algebra.{length-code_bytes, code_size, code_size-append}
 use Rattle.eval_code.proofs.Algebra.{fit_append, bytes_front}
@@ -44,16 +44,16 @@ code_size-copy : (from to n : ℕ) → code_size (copy_code from to n) ≡ 6 * n
 code_size-copy from to zero = refl
 code_size-copy from to (suc n) = omega (arith, code_size-copy (from + 1) (to + 1) n)
 
-pub code_size-mailbox : (n : ℕ) → code_size (mailbox_code (mailbox_layout n) n) ≡ 26 + 6 * n
+pub code_size-mailbox : (n : ℕ) → code_size (mailbox_code (mailbox_map n) n) ≡ 26 + 6 * n
 code_size-mailbox n =
     omega (
       arith,
-      code_size-append (copy_code 0x1020 0x1001 n) (call_code (mailbox_layout n) n),
+      code_size-append (copy_code 0x1020 0x1001 n) (call_code (mailbox_map n) n),
       code_size-copy 0x1020 0x1001 n,
     )
 
--- the layout
-pub mailbox_apart : (n : ℕ) → n ≤ 8 → IsApart (mailbox_layout n)
+-- the memory map
+pub mailbox_apart : (n : ℕ) → n ≤ 8 → IsApart (mailbox_map n)
 mailbox_apart n few = record {
   inputs = omega arith;
   outputs = omega arith;
@@ -70,16 +70,16 @@ mailbox_apart n few = record {
   rules_end = omega arith;
 }
 
-pub mailbox_started : (n : ℕ) → IsStarted (mailbox_layout n)
+pub mailbox_started : (n : ℕ) → IsStarted (mailbox_map n)
 mailbox_started n = record
     { low = omega arith; high = omega arith; wait = refl; ready = omega arith; apart = inr (omega arith) }
 
-pub mailbox_inside : (n : ℕ) → n ≤ 8 → IsInCode (mailbox_layout n)
+pub mailbox_inside : (n : ℕ) → n ≤ 8 → IsInCode (mailbox_map n)
 mailbox_inside n few = record { from = omega arith; to = omega arith }
 
-pub mailbox_in_order : (n : ℕ) → n ≤ 8 → IsInOrder (mailbox_layout n) (mailbox_code (mailbox_layout n) n) (Rts ∷ [])
+pub mailbox_in_order : (n : ℕ) → n ≤ 8 → IsInOrder (mailbox_map n) (mailbox_code (mailbox_map n) n) (Rts ∷ [])
 mailbox_in_order n few =
-    let size = length-code_bytes (mailbox_code (mailbox_layout n) n) ∙ code_size-mailbox n in
+    let size = length-code_bytes (mailbox_code (mailbox_map n) n) ∙ code_size-mailbox n in
     record {
       eval = omega arith;
       code = omega arith;
@@ -91,17 +91,17 @@ mailbox_in_order n few =
 
 -- its items can be placed, and are few
 pub mailbox_rises : BlockRises → (b : Block) (w : Width) → IsValid b → IsWithinLimits b
-    → IsRising (mailbox_items (mailbox_layout (length b.inputs)) b w)
+    → IsRising (mailbox_items (mailbox_map (length b.inputs)) b w)
 mailbox_rises rises b w v limits =
     let n = length b.inputs in
-    let l = mailbox_layout n in
+    let l = mailbox_map n in
     whole_rises rises l b w (mailbox_code l n) (Rts ∷ []) (mailbox_in_order n v.few_inputs) v limits (omega arith)
 
 pub length-mailbox_items : BlockIsShort → (b : Block) (w : Width) → IsValid b → IsWithinLimits b
-    → length (mailbox_items (mailbox_layout (length b.inputs)) b w) < 2 ^ 32
+    → length (mailbox_items (mailbox_map (length b.inputs)) b w) < 2 ^ 32
 length-mailbox_items short b w v limits =
     let n = length b.inputs in
-    let l = mailbox_layout n in
+    let l = mailbox_map n in
     let few = v.few_inputs in
     let size = length-code_bytes (mailbox_code l n) ∙ code_size-mailbox n in
     whole_is_short short l b w (mailbox_code l n) (Rts ∷ []) v limits (omega arith)
@@ -112,44 +112,44 @@ fit_copy from to zero f t = tt
 fit_copy from to (suc n) f t =
     ((omega arith, omega arith), fit_copy (from + 1) (to + 1) n (omega arith) (omega arith))
 
-fit_call : (n : ℕ) → n ≤ 8 → FitCode (call_code (mailbox_layout n) n)
+fit_call : (n : ℕ) → n ≤ 8 → FitCode (call_code (mailbox_map n) n)
 fit_call n few = (omega arith, (omega arith, (omega arith, (omega arith, (tt, tt)))))
 
 abbrev turn_code : ℕ → List Instr
-turn_code n = Beq 0xFB ∷ Orcc 0x10 ∷ (copy_code 0x1020 0x1001 n ++ call_code (mailbox_layout n) n)
+turn_code n = Beq 0xFB ∷ Orcc 0x10 ∷ (copy_code 0x1020 0x1001 n ++ call_code (mailbox_map n) n)
 
 fit_turn : (n : ℕ) → n ≤ 8 → FitCode (turn_code n)
 fit_turn n few = (
   omega arith,
   (
     omega arith,
-    fit_append (copy_code 0x1020 0x1001 n) (call_code (mailbox_layout n) n)
+    fit_append (copy_code 0x1020 0x1001 n) (call_code (mailbox_map n) n)
         (fit_copy 0x1020 0x1001 n (omega arith) (omega arith)) (fit_call n few),
   ),
 )
 
-pub fit_mailbox : (n : ℕ) → n ≤ 8 → FitCode (mailbox_code (mailbox_layout n) n)
+pub fit_mailbox : (n : ℕ) → n ≤ 8 → FitCode (mailbox_code (mailbox_map n) n)
 fit_mailbox n few = (omega arith, (omega arith, (omega arith, (omega arith, fit_turn n few))))
 
 -- the code of a turn
-pub start_bytes : (p : Post) → HasBytes p.image 0xC000 (code_bytes (mailbox_code (mailbox_layout p.n) p.n))
-    → HasBytes p.image 0xC000 (code_bytes (start_code (mailbox_layout p.n)))
-start_bytes p h = bytes_front p.image 0xC000 (code_bytes (start_code (mailbox_layout p.n)))
+pub start_bytes : (p : Post) → HasBytes p.image 0xC000 (code_bytes (mailbox_code (mailbox_map p.n) p.n))
+    → HasBytes p.image 0xC000 (code_bytes (start_code (mailbox_map p.n)))
+start_bytes p h = bytes_front p.image 0xC000 (code_bytes (start_code (mailbox_map p.n)))
     (code_bytes (LdaaExtended 0x1028 ∷ turn_code p.n)) h
 
-pub has_turn : (p : Post) → HasBytes p.image 0xC000 (code_bytes (mailbox_code (mailbox_layout p.n) p.n)) → HasTurn p
+pub has_turn : (p : Post) → HasBytes p.image 0xC000 (code_bytes (mailbox_code (mailbox_map p.n) p.n)) → HasTurn p
 has_turn p h =
     let few = p.few in
     let h1 : HasBytes p.image 0xC008 (code_bytes (LdaaExtended 0x1028 ∷ turn_code p.n)) =
-    bytes_back p.image 0xC000 (code_bytes (start_code (mailbox_layout p.n)))
+    bytes_back p.image 0xC000 (code_bytes (start_code (mailbox_map p.n)))
     (code_bytes (LdaaExtended 0x1028 ∷ turn_code p.n)) h in
     let h2 : HasBytes p.image 0xC00B (code_bytes (turn_code p.n)) =
     bytes_back p.image 0xC008 (encode_of (LdaaExtended 0x1028)) (code_bytes (turn_code p.n)) h1 in
     let size : length (code_bytes (turn_code p.n)) ≡ 15 + 6 * p.n =
     omega (
       arith,
-      length-code_bytes (copy_code 0x1020 0x1001 p.n ++ call_code (mailbox_layout p.n) p.n),
-      code_size-append (copy_code 0x1020 0x1001 p.n) (call_code (mailbox_layout p.n) p.n),
+      length-code_bytes (copy_code 0x1020 0x1001 p.n ++ call_code (mailbox_map p.n) p.n),
+      code_size-append (copy_code 0x1020 0x1001 p.n) (call_code (mailbox_map p.n) p.n),
       code_size-copy 0x1020 0x1001 p.n,
     ) in
     record {
@@ -178,7 +178,7 @@ pub record HasCall (p : Post) : Type 0 where
 pub has_call : (p : Post) → HasTurn p → HasCall p
 has_call p h =
     let size = code_size-copy 0x1020 0x1001 p.n in
-    let k = stands_back (free_ctx p) 0xC00F (copy_code 0x1020 0x1001 p.n) (call_code (mailbox_layout p.n) p.n)
+    let k = stands_back (free_ctx p) 0xC00F (copy_code 0x1020 0x1001 p.n) (call_code (mailbox_map p.n) p.n)
     h.rest.1.1 in
     record {
       call = here_too p (0xC00F + code_size (copy_code 0x1020 0x1001 p.n) + 3 + 2) (0xC014 + 6 * p.n)

@@ -6,10 +6,10 @@ use Rattle.rule_layout.specs.Layouts.{IsWithinLimits}
 use Rattle.cpu12_asm.specs.Bytes.{Holds}
 use Rattle.cpu12_asm.specs.Items.{given_by}
 use Rattle.cpu12_emul.specs.Image.{image_memory}
-use Rattle.eval_code.specs.declared.layout.Layout.{Layout}
+use Rattle.eval_code.specs.declared.memory_map.MemoryMap.{MemoryMap}
 use Rattle.eval_code.specs.declared.width.Width.{Width}
 use Rattle.eval_code.specs.Widths.{width_of}
-use Rattle.codegen.specs.Mailboxes.{mailbox_layout, mailbox_code, mailbox_items, mailbox_bound}
+use Rattle.codegen.specs.Mailboxes.{mailbox_map, mailbox_code, mailbox_items, mailbox_bound}
 use Rattle.codegen.specs.Turns.{TakesTurns, MailboxTakesPosts}
 use Rattle.codegen.specs.Laws.{LowerLaws}
 use Rattle.codegen.proofs.runs.Arriving.{arrive}
@@ -38,12 +38,12 @@ post_of laws b few image flags fits =
 -- from what stands in memory
 with_code : (laws : LowerLaws) → (b : Block) (w : Width) (image : List ℕ) (flags : ℕ) (fits : flags < 2 ^ 8)
     → (v : IsValid b) → IsWithinLimits b
-    → (let l = mailbox_layout (length b.inputs) in HasFirmware l b w (mailbox_code l (length b.inputs)) image)
-    → TakesTurns (mailbox_layout (length b.inputs)) b w (mailbox_bound w b) image flags
+    → (let l = mailbox_map (length b.inputs) in HasFirmware l b w (mailbox_code l (length b.inputs)) image)
+    → TakesTurns (mailbox_map (length b.inputs)) b w (mailbox_bound w b) image flags
 with_code laws b w image flags fits v limits firmware =
     let n = length b.inputs in
     let few = v.few_inputs in
-    let l = mailbox_layout n in
+    let l = mailbox_map n in
     let p = post_of laws b few image flags fits in
     let front = firmware.stands.front in
     let turn = has_turn p front in
@@ -67,7 +67,7 @@ with_code laws b w image flags fits v limits firmware =
       arrives = (
         arrived.t,
         record {
-          way = arrived.way;
+          execution = arrived.execution;
           at =
               at_of p 0xC008 arrived.t home.live home.pc_is (omega arith) (omega arith) home.sp_is;
           cleared =
@@ -83,12 +83,12 @@ with_code laws b w image flags fits v limits firmware =
 
 with_items : LowerLaws → (b : Block) (w : Width) (image : List (ℕ × ℕ)) (flags : ℕ) (fits : flags < 2 ^ 8) → IsValid b
     → IsWithinLimits b
-    → Holds image (given_by (mailbox_items (mailbox_layout (length b.inputs)) b w))
-    → TakesTurns (mailbox_layout (length b.inputs)) b w (mailbox_bound w b) (image_memory image) flags
+    → Holds image (given_by (mailbox_items (mailbox_map (length b.inputs)) b w))
+    → TakesTurns (mailbox_map (length b.inputs)) b w (mailbox_bound w b) (image_memory image) flags
 with_items laws b w image flags fits v limits h =
     let n = length b.inputs in
     let few = v.few_inputs in
-    let l = mailbox_layout n in
+    let l = mailbox_map n in
     let before = mailbox_code l n in
     with_code laws b w (image_memory image) flags fits v limits
     (has_firmware laws image l b w before (mailbox_in_order n few) (mailbox_apart n few) (mailbox_inside n few)
@@ -96,9 +96,9 @@ with_items laws b w image flags fits v limits h =
 
 pub mailbox_takes_posts : LowerLaws → MailboxTakesPosts
 mailbox_takes_posts laws b f v limits h flags fits =
-    let l = mailbox_layout (length b.inputs) in
+    let l = mailbox_map (length b.inputs) in
     let w = width_of f.wide in
     let image = image_memory f.image.bytes in
     let takes = with_items laws b w f.image.bytes flags fits v limits h.image.bytes in
-    subst (λ (k : Layout). TakesTurns k b w f.instr_bound image flags) (sym h.layout)
+    subst (λ (k : MemoryMap). TakesTurns k b w f.instr_bound image flags) (sym h.memory_map)
     (subst (λ (most : ℕ). TakesTurns l b w most image flags) (sym h.instructions) takes)

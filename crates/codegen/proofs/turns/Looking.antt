@@ -7,14 +7,14 @@ use Rattle.cpu12_isa.specs.Memory.{plus}
 use Rattle.cpu12_isa.specs.Regions.{is_free}
 use Rattle.cpu12_parts.specs.State.{State}
 use Rattle.cpu12_parts.specs.Whole.{after_plain}
-use Rattle.codegen.specs.Mailboxes.{is_postable, mailbox_layout}
+use Rattle.codegen.specs.Mailboxes.{is_postable, mailbox_map}
 use Rattle.codegen.specs.Turns.{IsAt, IsLook, IsChoice}
 use Rattle.eval_code.proofs.Algebra.{masked_tested, zero_tested}
 use Rattle.codegen.proofs.runs.Stepping.{low_shown, plain_went}
 use Rattle.codegen.proofs.turns.Posting.{Post, HasTurn, free_ctx, lives_of, at_of}
 
 pub look_run : (p : Post) → HasTurn p → (s : State) → IsAt p.image 0xC008 s
-    → (t : State) × IsLook (mailbox_layout p.n) p.image p.flags s t
+    → (t : State) × IsLook (mailbox_map p.n) p.image p.flags s t
 look_run p h s at =
     let l = lives_of is_postable false p.image s at.steady in
     let w =
@@ -47,7 +47,7 @@ jump_high true = omega arith
 jump_high false = omega arith
 
 pub choose_run : (p : Post) → HasTurn p → (s : State) → IsAt p.image 0xC00B s
-    → (t : State) × IsChoice (mailbox_layout p.n) p.image p.flags s t
+    → (t : State) × IsChoice (mailbox_map p.n) p.image p.flags s t
 choose_run p h s at =
     let l = lives_of is_postable false p.image s at.steady in
     let z = has s.regs.ccr 2 in

@@ -9,7 +9,7 @@ use Rattle.cpu12_parts.specs.State.{State}
 use Rattle.eval_code.specs.Evaluation.{Reads, Writes}
 use Rattle.eval_code.specs.Standing.{DecodesWhereItStands}
 use Rattle.codegen.specs.Interruptible.{IsSteady}
-use Rattle.codegen.specs.Mailboxes.{is_postable, mailbox_layout, copy_code, call_code}
+use Rattle.codegen.specs.Mailboxes.{is_postable, mailbox_map, copy_code, call_code}
 use Rattle.codegen.specs.Turns.{IsAt}
 use Rattle.codegen.proofs.runs.Law.{free_leaves}
 use Rattle.codegen.proofs.runs.Stepping.{steady_of}
@@ -25,7 +25,7 @@ pub record Post : Type 0 where
   pub flags : ℕ
   pub fits : flags < 2 ^ 8
 
-pub free_shut : (n : ℕ) → IsShut is_free (mailbox_layout n)
+pub free_shut : (n : ℕ) → IsShut is_free (mailbox_map n)
 free_shut n = record {
   reads = free_leaves.reads;
   writes = free_leaves.writes;
@@ -41,7 +41,7 @@ not_postable at (inl h) = grind (arith, nat_tests)
 not_postable at (inr (inl h)) = let lo = h.0 in let hi = h.1 in grind (arith, nat_tests)
 not_postable at (inr (inr h)) = grind (arith, nat_tests)
 
-read_else : (n at : ℕ) → Reads (mailbox_layout n) at → is_postable at ≡ false
+read_else : (n at : ℕ) → Reads (mailbox_map n) at → is_postable at ≡ false
 read_else n at (inl o) = not_postable at (inl (omega (arith, o.1)))
 read_else n at (inr (inl o)) = not_postable at (inr (inl (omega (arith, o.0), omega (arith, o.1))))
 read_else n at (inr (inr (inl o))) = not_postable at (inr (inr (omega (arith, o.0))))
@@ -50,12 +50,12 @@ read_else n at (inr (inr (inr (inr (inl o))))) = not_postable at (inr (inr (omeg
 read_else n at (inr (inr (inr (inr (inr (inl o)))))) = not_postable at (inr (inr (omega (arith, o.0))))
 read_else n at (inr (inr (inr (inr (inr (inr o)))))) = absurd o
 
-written_else : (n at : ℕ) → Writes (mailbox_layout n) at → is_postable at ≡ false
+written_else : (n at : ℕ) → Writes (mailbox_map n) at → is_postable at ≡ false
 written_else n at (inl o) = not_postable at (inl (omega (arith, o.1)))
 written_else n at (inr (inl o)) = not_postable at (inr (inl (omega (arith, o.0), omega (arith, o.1))))
 written_else n at (inr (inr o)) = absurd o
 
-pub postable_shut : (n : ℕ) → IsShut is_postable (mailbox_layout n)
+pub postable_shut : (n : ℕ) → IsShut is_postable (mailbox_map n)
 postable_shut n = record {
   reads = read_else n;
   writes = written_else n;
@@ -71,7 +71,7 @@ free_ctx p = record {
   stays_fit = p.stays_fit;
   decodes = p.decodes;
   open_to = is_free;
-  layout = mailbox_layout p.n;
+  memory_map = mailbox_map p.n;
   shut =
       free_shut p.n;
   image = p.image;
@@ -84,7 +84,7 @@ post_ctx p = record {
   stays_fit = p.stays_fit;
   decodes = p.decodes;
   open_to = is_postable;
-  layout = mailbox_layout p.n;
+  memory_map = mailbox_map p.n;
   shut =
       postable_shut p.n;
   image = p.image;
@@ -96,7 +96,7 @@ post_ctx p = record {
 pub record HasTurn (p : Post) : Type 0 where
   pub look : decode_at p.image 0xC008 ≡ Ok (LdaaExtended 0x1028)
   pub rest : Stands (free_ctx p) 0xC00B
-      (Beq 0xFB ∷ Orcc 0x10 ∷ (copy_code 0x1020 0x1001 p.n ++ call_code (mailbox_layout p.n) p.n))
+      (Beq 0xFB ∷ Orcc 0x10 ∷ (copy_code 0x1020 0x1001 p.n ++ call_code (mailbox_map p.n) p.n))
 
 -- what a state keeps
 pub lives_of : (open_to : ℕ → Bool) (masked : Bool) (image : List ℕ) (s : State) → IsSteady open_to masked image s

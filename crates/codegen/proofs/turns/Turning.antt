@@ -18,7 +18,7 @@ use Rattle.eval_code.specs.Firing.{AreInputBytes}
 use Rattle.eval_code.specs.Items.{IsApart}
 use Rattle.eval_code.specs.Evaluation.{HasBytes, HasAnswers, EvalAnswers}
 use Rattle.codegen.specs.Interruptible.{IsInterruptibleStep}
-use Rattle.codegen.specs.Mailboxes.{is_postable, mailbox_layout, mailbox_bound}
+use Rattle.codegen.specs.Mailboxes.{is_postable, mailbox_map, mailbox_bound}
 use Rattle.codegen.specs.Turns.{IsAt, IsTurned}
 use Rattle.cpu12_parts.proofs.Algebra.{execution_on, steps_append}
 use Rattle.std.proofs.Common.{length-append}
@@ -32,17 +32,17 @@ use Rattle.codegen.specs.Settings.{Here, Live, Next}
 
 -- what a turn stands on
 pub record Turns (p : Post) (b : Block) (w : Width) : Type 0 where
-  pub apart : IsApart (mailbox_layout p.n)
+  pub apart : IsApart (mailbox_map p.n)
   pub inputs : length b.inputs ≡ p.n
   pub valid : IsValid b
   pub limits : IsWithinLimits b
   pub eval_answers : EvalAnswers
-  pub routine : HasRoutine (mailbox_layout p.n) b w p.image
+  pub routine : HasRoutine (mailbox_map p.n) b w p.image
   pub call : Here (post_ctx p) (0xC014 + 6 * p.n) (JsrExtended (0xC01A + 6 * p.n))
   pub back : Here (post_ctx p) (0xC017 + 6 * p.n) (Bra (239 - 6 * p.n))
 
 abbrev Step : Post → ℕ → State → State → Type 0
-Step p = IsInterruptibleStep is_postable (mailbox_layout p.n) p.image p.flags
+Step p = IsInterruptibleStep is_postable (mailbox_map p.n) p.image p.flags
 
 -- BRA
 back_to : (n pc : ℕ) → n ≤ 8 → pc ≡ 0xC017 + 6 * n
@@ -97,7 +97,7 @@ enough b w few = omega arith
 left : (p : Post) (b : Block) (w : Width) (bytes : List ℕ) (before : ℕ → ℕ) (s : State) → Turns p b w
     → IsAt p.image (0xC014 + 6 * p.n) s
     → (r : Entered p s) → Back (post_ctx p) b w (0xC017 + 6 * p.n) bytes before r.t
-    → (t : State) × IsTurned (mailbox_layout p.n) b w (mailbox_bound w b) p.image p.flags before bytes s t
+    → (t : State) × IsTurned (mailbox_map p.n) b w (mailbox_bound w b) p.image p.flags before bytes s t
 unfolding steps_by
 left p b w bytes before s h at r e =
     let few = p.few in
@@ -127,15 +127,15 @@ left p b w bytes before s h at r e =
 
 pub turn_run : (p : Post) (b : Block) (w : Width) (bytes : List ℕ) (before : ℕ → ℕ) (s : State) → Turns p b w
     → AreInputBytes b bytes → IsAt p.image (0xC014 + 6 * p.n) s
-    → HasBytes s.mem 0x1001 bytes → HasAnswers (mailbox_layout p.n) b w before s.mem
-    → (t : State) × IsTurned (mailbox_layout p.n) b w (mailbox_bound w b) p.image p.flags before bytes s t
+    → HasBytes s.mem 0x1001 bytes → HasAnswers (mailbox_map p.n) b w before s.mem
+    → (t : State) × IsTurned (mailbox_map p.n) b w (mailbox_bound w b) p.image p.flags before bytes s t
 turn_run p b w bytes before s h i at hi ho =
     let few = p.few in
     let inputs = h.inputs in
     let count = i.count in
     let outs = h.valid.few_outputs in
     let ret = 0xC017 + 6 * p.n in
-    let l = mailbox_layout p.n in
+    let l = mailbox_map p.n in
     let size = at.steady.size in
     let r = enter_run p s at h.call in
     let m1 = set s.mem 0x1FFE (ret / 2 ^ 8) in

@@ -88,8 +88,9 @@ pub record Averaged (c : Ctx) (k : ℕ) (s : State) (pc : ℕ) (us vs : List ℕ
 pub wav_run : (c : Ctx) (s : State) (p sx sy : ℕ) (us vs : List ℕ) → Live c s → s.regs.pc ≡ p → Here c p Wav
     → s.regs.x ≡ sx → s.regs.y ≡ sy
     → s.regs.b ≡ length us → length vs ≡ length us → 1 ≤ length us → length us ≤ 15 → HasBytes c.image sx us
-    → HasBytes s.mem sy vs → c.layout.singletons ≤ sx
-    → sx + length us ≤ c.layout.singletons + 60 → c.layout.slots ≤ sy → sy + length us ≤ c.layout.slots + 300
+    → HasBytes s.mem sy vs → c.memory_map.singletons ≤ sx
+    → sx + length us ≤ c.memory_map.singletons + 60 → c.memory_map.slots ≤ sy → sy + length us ≤ c.memory_map.slots
+    + 300
     → Averaged c (length us - 1) s (p + 2) us vs
 wav_run c s p sx sy us vs l ep h ex ey eb ev some few hu hv lo hi slo low =
     let a1 = c.apart.singletons in
@@ -111,11 +112,12 @@ wav_run c s p sx sy us vs l ep h ex ey eb ev some few hu hv lo hi slo low =
     let t : State = wav_whole c.flags s.regs s.mem in
     let d : decode_at s.mem s.regs.pc ≡ Ok Wav =
     ap (decode_at s.mem) ep ∙ decode_same c.image s.mem p h.low h.high l.same ∙ h.decoded in
-    let r1 : Each (Reads c.layout) (from s.regs.x s.regs.b) =
-    each_from (Reads c.layout) s.regs.x s.regs.b (omega arith)
+    let r1 : Each (Reads c.memory_map) (from s.regs.x s.regs.b) =
+    each_from (Reads c.memory_map) s.regs.x s.regs.b (omega arith)
     (λ k from to. inr (inr (inr (inl (omega arith, omega arith))))) in
-    let r2 : Each (Reads c.layout) (from s.regs.y s.regs.b) =
-    each_from (Reads c.layout) s.regs.y s.regs.b (omega arith) (λ k from to. inr (inl (omega arith, omega arith))) in
+    let r2 : Each (Reads c.memory_map) (from s.regs.y s.regs.b) =
+    each_from (Reads c.memory_map) s.regs.y s.regs.b (omega arith) (λ k from to. inr (inl (omega arith, omega arith)))
+    in
     let masks = masked_put (opened s.regs.ccr 43 c.flags) 2 true (omega arith) ∙ masked_open_hnvc s.regs.ccr c.flags in
     record {
       t = t;
@@ -125,7 +127,7 @@ wav_run c s p sx sy us vs l ep h ex ey eb ev some few hu hv lo hi slo low =
         instruction = inr (inr (inr (record {
           step = record { decoded = d; off = l.off; parts = ap (λ n. n - 1) (sym eb); after = refl };
           some = omega arith;
-          reads = each_append (Reads c.layout) (from s.regs.x s.regs.b) (from s.regs.y s.regs.b) r1 r2;
+          reads = each_append (Reads c.memory_map) (from s.regs.x s.regs.b) (from s.regs.y s.regs.b) r1 r2;
         })));
         stack = refl;
         masks = masks;

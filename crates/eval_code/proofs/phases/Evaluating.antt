@@ -12,7 +12,7 @@ use Rattle.rule_layout.specs.declared.flat.Slot.{Slot}
 use Rattle.rule_layout.specs.Lists.{marked, list_words}
 use Rattle.rule_layout.specs.Slots.{singleton_count, slots_of, input_terms, term_slot}
 use Rattle.rule_layout.specs.Layouts.{conjunctions_of, weights_of, form_of, list_size, element_width, IsWithinLimits}
-use Rattle.eval_code.specs.declared.layout.Layout.{Layout}
+use Rattle.eval_code.specs.declared.memory_map.MemoryMap.{MemoryMap}
 use Rattle.eval_code.specs.Code.{slots_code, input_slots, fuzzify_code, rules_code, outputs_code, eval_code}
 use Rattle.eval_code.specs.Firing.{slot_before, slots_before, slots_after, AreInputBytes, fired}
 use Rattle.eval_code.specs.Evaluation.{put}
@@ -84,14 +84,14 @@ no_code base inputs at [] rest = let e : at ≡ at + 0 = omega arith in ap (λ k
 no_code base inputs at (p ∷ ps) rest = let e : at + 1 + length ps ≡ at + suc (length ps) = omega arith in
     no_code base inputs (at + 1) ps rest ∙ ap (λ k. slots_code base inputs k rest) e
 
-pub slots_code_is : (l : Layout) (b : Block)
+pub slots_code_is : (l : MemoryMap) (b : Block)
     → slots_code l.slots b.inputs l.slots (slots_of b) ≡ slots_code l.slots b.inputs (l.slots + length (input_terms b))
     (further_slots b)
 slots_code_is l b = ap (slots_code l.slots b.inputs l.slots) (slots_are b)
     ∙ no_code l.slots b.inputs l.slots (input_terms b) (further_slots b)
 
 -- what stands in memory for EVAL
-pub record HasParts (c : Ctx) (l : Layout) (b : Block) (w : Width) : Type 0 where
+pub record HasParts (c : Ctx) (l : MemoryMap) (b : Block) (w : Width) : Type 0 where
   pub tables : HasBytes c.image l.tables (table_bytes b)
   pub singletons : HasBytes c.image l.singletons (singleton_bytes b)
   pub weights : HasBytes c.image l.weights (weight_bytes b)
@@ -99,12 +99,12 @@ pub record HasParts (c : Ctx) (l : Layout) (b : Block) (w : Width) : Type 0 wher
   pub code : Stands c l.eval (eval_code l b w)
 
 -- memory after EVAL
-abbrev pub evaluated : Layout → Block → Width → List ℕ → List ℕ → List ℕ → List ℕ
+abbrev pub evaluated : MemoryMap → Block → Width → List ℕ → List ℕ → List ℕ → List ℕ
 evaluated l b w bytes bs m =
     put (put m l.slots (slots_after b bytes)) l.outputs (all_bytes w (output_answers w b.outputs (masses b bytes) bs))
 
 -- what EVAL's theorem stands on
-pub record Evals (c : Ctx) (l : Layout) (b : Block) (w : Width) (bytes bs : List ℕ) : Type 0 where
+pub record Evals (c : Ctx) (l : MemoryMap) (b : Block) (w : Width) (bytes bs : List ℕ) : Type 0 where
   pub valid : IsValid b
   pub facts : BlockFacts b
   pub limits : IsWithinLimits b
@@ -122,17 +122,20 @@ behind c code rest n k m j s p t mem g es r =
     (reaches_after c n k m j s t _ mem g es r)
 
 -- the outputs
-abbrev outputs_part : Layout → Block → Width → List Instr
+abbrev outputs_part : MemoryMap → Block → Width → List Instr
 outputs_part l b w = outputs_code w l.singletons (l.slots + input_slots (slots_of b) b.outputs) l.outputs b.outputs
 
-outputs_on : (c : Ctx) (b : Block) (w : Width) (bytes bs m : List ℕ) (s : State) (p : ℕ) → Evals c c.layout b w bytes bs
+outputs_on : (c : Ctx) (b : Block) (w : Width) (bytes bs m : List ℕ) (s : State) (p : ℕ) → Evals c c.memory_map b w
+    bytes bs
     → Live c s → s.regs.pc ≡ p
-    → Stands c p (outputs_part c.layout b w) → length m ≡ 65536 → s.mem ≡ put m c.layout.slots (slots_after b bytes)
-    → HasBytes m c.layout.outputs (all_bytes w bs)
-    → Reaches c (sum_by (output_most w) b.outputs) (output_parts b.outputs) s (p + code_size (outputs_part c.layout b w))
-    (evaluated c.layout b w bytes bs m)
+    → Stands c p (outputs_part c.memory_map b w) → length m ≡ 65536 → s.mem ≡ put m c.memory_map.slots
+    (slots_after b bytes)
+    → HasBytes m c.memory_map.outputs (all_bytes w bs)
+    → Reaches c (sum_by (output_most w) b.outputs) (output_parts b.outputs) s
+    (p + code_size (outputs_part c.memory_map b w))
+    (evaluated c.memory_map b w bytes bs m)
 outputs_on c b w bytes bs m s p h live ep st lm em hb =
-    let l = c.layout in
+    let l = c.memory_map in
     let n = input_slots (slots_of b) b.outputs in
     let la = length-after b bytes in
     let ls = length-slots b in
@@ -166,23 +169,23 @@ record RulesHere (c : Ctx) (m ss : List ℕ) (f : Form) (s : State) (p : ℕ) (c
     (ws : List ℕ) : Type 0 where
   live : Live c s
   pc_is : s.regs.pc ≡ p
-  code : Stands c p (rules_code c.layout f)
-  mem_is : s.mem ≡ put m c.layout.slots ss
+  code : Stands c p (rules_code c.memory_map f)
+  mem_is : s.mem ≡ put m c.memory_map.slots ss
   size : length m ≡ 65536
   below : AllBelow (length ss) cs
   light : Below 256 ws
   plain : f ≡ form.Rev → (length ss ≤ 254) × AreFull ws
   few : length ss ≤ 300
-  rules : HasBytes c.image c.layout.rules (rule_bytes_by c.layout.slots f cs)
-  weights : HasBytes c.image c.layout.weights (weight_bytes_by f ws)
+  rules : HasBytes c.image c.memory_map.rules (rule_bytes_by c.memory_map.slots f cs)
+  weights : HasBytes c.image c.memory_map.weights (weight_bytes_by f ws)
   rules_few : element_width f * length (marked 0xFE 0xFF cs) ≤ 9984
   weights_few : length ws ≤ 512
 
 rules_at : (c : Ctx) (m ss : List ℕ) (f : Form) (s : State) (p : ℕ) (k : Conjunction) (ks : List Conjunction) (w : ℕ)
     (vs : List ℕ) → length vs ≡ length ks
     → RulesHere c m ss f s p (k ∷ ks) (w ∷ vs)
-    → Reaches c (5 + form_bound f) (sum_by entry_count (k ∷ ks) - 1) s (p + code_size (rules_code c.layout f))
-    (put m c.layout.slots (fired ss (k ∷ ks) (w ∷ vs)))
+    → Reaches c (5 + form_bound f) (sum_by entry_count (k ∷ ks) - 1) s (p + code_size (rules_code c.memory_map f))
+    (put m c.memory_map.slots (fired ss (k ∷ ks) (w ∷ vs)))
 rules_at c m ss form.Rev s p k ks w vs e h =
     let plain = h.plain refl in
     let at : AtRules c m ss k ks w vs s =
@@ -192,8 +195,8 @@ rules_at c m ss form.Rev s p k ks w vs e h =
 rules_at c m ss form.Revw s p k ks w vs e h =
     let at : AtRules c m ss k ks w vs s =
     record { live = h.live; mem_is = h.mem_is; size = h.size; below = h.below; weights = e; few = h.few } in
-    let n : length (list_words c.layout.slots (k ∷ ks)) ≡ length (marked 0xFE 0xFF (k ∷ ks)) =
-    length-renamed 65534 65535 (address c.layout.slots) (k ∷ ks) ∙ sym (length-marked 0xFE 0xFF (k ∷ ks)) in
+    let n : length (list_words c.memory_map.slots (k ∷ ks)) ≡ length (marked 0xFE 0xFF (k ∷ ks)) =
+    length-renamed 65534 65535 (address c.memory_map.slots) (k ∷ ks) ∙ sym (length-marked 0xFE 0xFF (k ∷ ks)) in
     reaches_at c _ _ _ _ s _ _ _ _ (omega arith) (omega arith) refl refl
     (revw_run c m ss k ks w vs s p at h.pc_is h.code h.light h.rules (omega (arith, h.rules_few)) h.weights
     h.weights_few)
@@ -201,8 +204,8 @@ rules_at c m ss form.Revw s p k ks w vs e h =
 abbrev RulesRun : Ctx → List ℕ → List ℕ → Form → State → ℕ → List Conjunction → List ℕ → Type 0
 RulesRun c m ss f s p cs ws =
     RulesHere c m ss f s p cs ws
-    → Reaches c (5 + form_bound f) (sum_by entry_count cs - 1) s (p + code_size (rules_code c.layout f))
-    (put m c.layout.slots (fired ss cs ws))
+    → Reaches c (5 + form_bound f) (sum_by entry_count cs - 1) s (p + code_size (rules_code c.memory_map f))
+    (put m c.memory_map.slots (fired ss cs ws))
 
 rules_run : (c : Ctx) (m ss : List ℕ) (f : Form) (s : State) (p : ℕ) (cs : List Conjunction) (ws : List ℕ)
     → HasRules cs ws → RulesRun c m ss f s p cs ws
@@ -210,10 +213,11 @@ rules_run c m ss f s p cs ws h =
     subst₂ (λ (a : List Conjunction) (b : List ℕ). RulesRun c m ss f s p a b) (sym h.conjunctions_are)
     (sym h.weights_are) (rules_at c m ss f s p h.k h.ks h.w h.vs h.same)
 
-rules_here : (c : Ctx) (b : Block) (w : Width) (bytes bs m : List ℕ) (s : State) (p : ℕ) → Evals c c.layout b w bytes bs
+rules_here : (c : Ctx) (b : Block) (w : Width) (bytes bs m : List ℕ) (s : State) (p : ℕ) → Evals c c.memory_map b w
+    bytes bs
     → Live c s → s.regs.pc ≡ p
-    → Stands c p (rules_code c.layout (form_of b)) → length m ≡ 65536
-    → s.mem ≡ put m c.layout.slots (slots_before b bytes)
+    → Stands c p (rules_code c.memory_map (form_of b)) → length m ≡ 65536
+    → s.mem ≡ put m c.memory_map.slots (slots_before b bytes)
     → RulesHere c m (slots_before b bytes) (form_of b) s p (conjunctions_of b) (weights_of b)
 rules_here c b w bytes bs m s p h live ep st lm em =
     let lb : length (slots_before b bytes) ≡ length (slots_of b) = length-map (slots_of b) (slot_before b bytes) in
@@ -235,43 +239,46 @@ rules_here c b w bytes bs m s p h live ep st lm em =
     }
 
 -- the rules and the outputs
-abbrev rules_part : Layout → Block → Width → List Instr
+abbrev rules_part : MemoryMap → Block → Width → List Instr
 rules_part l b w = rules_code l (form_of b) ++ outputs_part l b w
 
-rules_on : (c : Ctx) (b : Block) (w : Width) (bytes bs m : List ℕ) (s : State) (p : ℕ) → Evals c c.layout b w bytes bs
+rules_on : (c : Ctx) (b : Block) (w : Width) (bytes bs m : List ℕ) (s : State) (p : ℕ) → Evals c c.memory_map b w bytes
+    bs
     → Live c s → s.regs.pc ≡ p
-    → Stands c p (rules_part c.layout b w) → length m ≡ 65536 → s.mem ≡ put m c.layout.slots (slots_before b bytes)
-    → HasBytes m c.layout.outputs (all_bytes w bs)
+    → Stands c p (rules_part c.memory_map b w) → length m ≡ 65536 → s.mem ≡ put m c.memory_map.slots
+    (slots_before b bytes)
+    → HasBytes m c.memory_map.outputs (all_bytes w bs)
     → Reaches c (5 + form_bound (form_of b) + sum_by (output_most w) b.outputs)
-    (element_count b - 1 + output_parts b.outputs) s (p + code_size (rules_part c.layout b w))
-    (evaluated c.layout b w bytes bs m)
+    (element_count b - 1 + output_parts b.outputs) s (p + code_size (rules_part c.memory_map b w))
+    (evaluated c.memory_map b w bytes bs m)
 rules_on c b w bytes bs m s p h live ep st lm em hb =
-    let code = rules_code c.layout (form_of b) in
-    let rest = outputs_part c.layout b w in
+    let code = rules_code c.memory_map (form_of b) in
+    let rest = outputs_part c.memory_map b w in
     let r =
     rules_run c m (slots_before b bytes) (form_of b) s p (conjunctions_of b) (weights_of b) (has_rules b h.facts)
     (rules_here c b w bytes bs m s p h live ep (stands_front c p code rest st) lm em) in
     let q = outputs_on c b w bytes bs m r.t (p + code_size code) h r.live r.pc_is
     (stands_back c p code rest st) lm r.mem_is hb in
     behind c code rest (5 + form_bound (form_of b)) (element_count b - 1) (sum_by (output_most w) b.outputs)
-    (output_parts b.outputs) s p r.t (evaluated c.layout b w bytes bs m) r.goes r.sp_is q
+    (output_parts b.outputs) s p r.t (evaluated c.memory_map b w bytes bs m) r.goes r.sp_is q
 
 -- the complements and the cleared slots
-fill_run : (c : Ctx) (b : Block) (w : Width) (bytes bs m : List ℕ) (s : State) (p : ℕ) → Evals c c.layout b w bytes bs
+fill_run : (c : Ctx) (b : Block) (w : Width) (bytes bs m : List ℕ) (s : State) (p : ℕ) → Evals c c.memory_map b w bytes
+    bs
     → Live c s → s.regs.pc ≡ p
-    → Stands c p (slots_code c.layout.slots b.inputs c.layout.slots (slots_of b)) → length m ≡ 65536
-    → s.mem ≡ put m c.layout.slots (grades bytes b.inputs)
+    → Stands c p (slots_code c.memory_map.slots b.inputs c.memory_map.slots (slots_of b)) → length m ≡ 65536
+    → s.mem ≡ put m c.memory_map.slots (grades bytes b.inputs)
     → Reaches c (3 * complement_count b + output_term_count b) 0 s
-    (p + code_size (slots_code c.layout.slots b.inputs c.layout.slots (slots_of b)))
-    (put m c.layout.slots (slots_before b bytes))
+    (p + code_size (slots_code c.memory_map.slots b.inputs c.memory_map.slots (slots_of b)))
+    (put m c.memory_map.slots (slots_before b bytes))
 fill_run c b w bytes bs m s p h live ep st lm em =
     let gs = grades bytes b.inputs in
-    let code = slots_code_is c.layout b in
+    let code = slots_code_is c.memory_map b in
     let lg : length gs ≡ input_term_count b = length-grades bytes b.inputs h.input.count in
     let li = length-input_terms b in
     let ls = length-slots b in
     let few = h.facts.few_slots in
-    let at : c.layout.slots + length (input_terms b) ≡ c.layout.slots + length (gs ++ []) =
+    let at : c.memory_map.slots + length (input_terms b) ≡ c.memory_map.slots + length (gs ++ []) =
     omega (arith, length-append gs []) in
     let lf : length (input_terms b) + length (further_slots b) ≡ length (slots_of b) =
     omega (
@@ -281,58 +288,62 @@ fill_run c b w bytes bs m s p h live ep st lm em =
       length-map (input_terms b) term_slot,
     ) in
     let r =
-    slots_run c b bytes b.inputs gs m c.layout.slots (further_slots b) [] s p (c.layout.slots + length (input_terms b))
+    slots_run c b bytes b.inputs gs m c.memory_map.slots (further_slots b) [] s p
+    (c.memory_map.slots + length (input_terms b))
     live ep (subst (Stands c p) code st) (further_fill b bytes h.input.count) at
-    (em ∙ ap (put m c.layout.slots) (sym (append-nil gs))) lm refl (omega arith) in
+    (em ∙ ap (put m c.memory_map.slots) (sym (append-nil gs))) lm refl (omega arith) in
     reaches_at c (fill_count (further_slots b)) 0 _ _ s _ _ _ _ (omega (arith, count_further b)) (omega arith)
-    (ap (λ k. p + code_size k) (sym code)) (ap (put m c.layout.slots) (sym (before_are b bytes h.input.count))) r
+    (ap (λ k. p + code_size k) (sym code)) (ap (put m c.memory_map.slots) (sym (before_are b bytes h.input.count))) r
 
-abbrev slots_part : Layout → Block → Width → List Instr
+abbrev slots_part : MemoryMap → Block → Width → List Instr
 slots_part l b w = slots_code l.slots b.inputs l.slots (slots_of b) ++ rules_part l b w
 
-slots_on : (c : Ctx) (b : Block) (w : Width) (bytes bs m : List ℕ) (s : State) (p : ℕ) → Evals c c.layout b w bytes bs
+slots_on : (c : Ctx) (b : Block) (w : Width) (bytes bs m : List ℕ) (s : State) (p : ℕ) → Evals c c.memory_map b w bytes
+    bs
     → Live c s → s.regs.pc ≡ p
-    → Stands c p (slots_part c.layout b w) → length m ≡ 65536 → s.mem ≡ put m c.layout.slots (grades bytes b.inputs)
-    → HasBytes m c.layout.outputs (all_bytes w bs)
+    → Stands c p (slots_part c.memory_map b w) → length m ≡ 65536 → s.mem ≡ put m c.memory_map.slots
+    (grades bytes b.inputs)
+    → HasBytes m c.memory_map.outputs (all_bytes w bs)
     → Reaches c (3 * complement_count b + output_term_count
     b + (5 + form_bound (form_of b) + sum_by (output_most w) b.outputs))
-    (0 + (element_count b - 1 + output_parts b.outputs)) s (p + code_size (slots_part c.layout b w))
-    (evaluated c.layout b w bytes bs m)
+    (0 + (element_count b - 1 + output_parts b.outputs)) s (p + code_size (slots_part c.memory_map b w))
+    (evaluated c.memory_map b w bytes bs m)
 slots_on c b w bytes bs m s p h live ep st lm em hb =
-    let code = slots_code c.layout.slots b.inputs c.layout.slots (slots_of b) in
-    let rest = rules_part c.layout b w in
+    let code = slots_code c.memory_map.slots b.inputs c.memory_map.slots (slots_of b) in
+    let rest = rules_part c.memory_map b w in
     let r = fill_run c b w bytes bs m s p h live ep (stands_front c p code rest st) lm em in
     let q = rules_on c b w bytes bs m r.t (p + code_size code) h r.live r.pc_is
     (stands_back c p code rest st) lm r.mem_is hb in
     behind c code rest (3 * complement_count b + output_term_count b) 0
     (5 + form_bound (form_of b) + sum_by (output_most w) b.outputs) (element_count b - 1 + output_parts b.outputs) s
-    p r.t (evaluated c.layout b w bytes bs m) r.goes r.sp_is q
+    p r.t (evaluated c.memory_map b w bytes bs m) r.goes r.sp_is q
 
 -- the grades, and what follows
-abbrev inputs_part : Layout → Block → Width → List Instr
+abbrev inputs_part : MemoryMap → Block → Width → List Instr
 inputs_part l b w = fuzzify_code l.inputs b.inputs ++ slots_part l b w
 
-inputs_on : (c : Ctx) (b : Block) (w : Width) (bytes bs : List ℕ) (s : State) (p : ℕ) → Evals c c.layout b w bytes bs
+inputs_on : (c : Ctx) (b : Block) (w : Width) (bytes bs : List ℕ) (s : State) (p : ℕ) → Evals c c.memory_map b w bytes
+    bs
     → Live c s → s.regs.pc ≡ p
-    → s.regs.x ≡ c.layout.tables → s.regs.y ≡ c.layout.slots → Stands c p (inputs_part c.layout b w)
-    → HasBytes s.mem c.layout.inputs bytes
-    → HasBytes s.mem c.layout.outputs (all_bytes w bs)
+    → s.regs.x ≡ c.memory_map.tables → s.regs.y ≡ c.memory_map.slots → Stands c p (inputs_part c.memory_map b w)
+    → HasBytes s.mem c.memory_map.inputs bytes
+    → HasBytes s.mem c.memory_map.outputs (all_bytes w bs)
     → Reaches c (length b.inputs + input_term_count
     b + (3 * complement_count b + output_term_count
     b + (5 + form_bound (form_of b) + sum_by (output_most w) b.outputs)))
-    (0 + (0 + (element_count b - 1 + output_parts b.outputs))) s (p + code_size (inputs_part c.layout b w))
-    (evaluated c.layout b w bytes bs s.mem)
+    (0 + (0 + (element_count b - 1 + output_parts b.outputs))) s (p + code_size (inputs_part c.memory_map b w))
+    (evaluated c.memory_map b w bytes bs s.mem)
 inputs_on c b w bytes bs s p h live ep ex ey st hi hb =
-    let code = fuzzify_code c.layout.inputs b.inputs in
-    let rest = slots_part c.layout b w in
+    let code = fuzzify_code c.memory_map.inputs b.inputs in
+    let rest = slots_part c.memory_map b w in
     let t = sum_by-term_count b.inputs h.valid.few_inputs h.valid.inputs in
     let r =
-    fuzzify_run c b.inputs bytes c.layout.inputs s p c.layout.tables c.layout.slots live ep
+    fuzzify_run c b.inputs bytes c.memory_map.inputs s p c.memory_map.tables c.memory_map.slots live ep
     (stands_front c p code rest st) ex ey h.input.count hi h.rom.tables (omega arith) (omega arith) (omega arith)
     (omega (arith, h.input.count, h.valid.few_inputs)) (omega arith) (omega arith) in
     let q = slots_on c b w bytes bs s.mem r.t (p + code_size code) h r.live r.pc_is (stands_back c p code rest st) live.size
     r.mem_is hb in
-    behind c code rest (length b.inputs + input_term_count b) 0 _ _ s p r.t (evaluated c.layout b w bytes bs s.mem)
+    behind c code rest (length b.inputs + input_term_count b) 0 _ _ s p r.t (evaluated c.memory_map b w bytes bs s.mem)
     r.goes r.sp_is q
 
 -- how many instructions EVAL takes at most, and how many parts beyond their first
@@ -345,19 +356,19 @@ abbrev pub eval_parts : Block → ℕ
 eval_parts b = element_count b - 1 + output_parts b.outputs
 
 -- EVAL: the answers stand where the outputs are
-pub eval_run : (c : Ctx) (b : Block) (w : Width) (bytes bs : List ℕ) (s : State) → Evals c c.layout b w bytes bs
-    → Live c s → s.regs.pc ≡ c.layout.eval
-    → HasBytes s.mem c.layout.inputs bytes → HasBytes s.mem c.layout.outputs (all_bytes w bs)
-    → Reaches c (eval_most w b) (eval_parts b) s (c.layout.eval + code_size (eval_code c.layout b w))
-    (evaluated c.layout b w bytes bs s.mem)
+pub eval_run : (c : Ctx) (b : Block) (w : Width) (bytes bs : List ℕ) (s : State) → Evals c c.memory_map b w bytes bs
+    → Live c s → s.regs.pc ≡ c.memory_map.eval
+    → HasBytes s.mem c.memory_map.inputs bytes → HasBytes s.mem c.memory_map.outputs (all_bytes w bs)
+    → Reaches c (eval_most w b) (eval_parts b) s (c.memory_map.eval + code_size (eval_code c.memory_map b w))
+    (evaluated c.memory_map b w bytes bs s.mem)
 eval_run c b w bytes bs s h live ep hi hb =
     let st = h.rom.code in
-    let s1 = after_plain c.flags (LdxImmediate c.layout.tables) s in
-    let s2 = after_plain c.flags (LdyImmediate c.layout.slots) s1 in
-    let n1 = ldx c s c.layout.eval c.layout.tables live ep st.0 st.0.fits in
-    let n2 = ldy c s1 (c.layout.eval + 3) c.layout.slots n1.live n1.pc_is st.1.0 st.1.0.fits in
-    let q = inputs_on c b w bytes bs s2 (c.layout.eval + 3 + 3) h n2.live n2.pc_is refl refl st.1.1 hi hb in
-    let g = goes_on c 1 0 1 0 s s1 s2 (goes_one c s s1 (c.layout.eval + 3) n1)
-    (goes_one c s1 s2 (c.layout.eval + 3 + 3) n2) in
+    let s1 = after_plain c.flags (LdxImmediate c.memory_map.tables) s in
+    let s2 = after_plain c.flags (LdyImmediate c.memory_map.slots) s1 in
+    let n1 = ldx c s c.memory_map.eval c.memory_map.tables live ep st.0 st.0.fits in
+    let n2 = ldy c s1 (c.memory_map.eval + 3) c.memory_map.slots n1.live n1.pc_is st.1.0 st.1.0.fits in
+    let q = inputs_on c b w bytes bs s2 (c.memory_map.eval + 3 + 3) h n2.live n2.pc_is refl refl st.1.1 hi hb in
+    let g = goes_on c 1 0 1 0 s s1 s2 (goes_one c s s1 (c.memory_map.eval + 3) n1)
+    (goes_one c s1 s2 (c.memory_map.eval + 3 + 3) n2) in
     reaches_at c _ _ _ _ s _ _ _ _ (omega arith) (omega arith) (omega arith) refl
-    (reaches_after c 2 0 _ _ s s2 _ (evaluated c.layout b w bytes bs s.mem) g refl q)
+    (reaches_after c 2 0 _ _ s s2 _ (evaluated c.memory_map b w bytes bs s.mem) g refl q)

@@ -56,7 +56,7 @@ next_place base at gs done v e =
 pub slots_run : (c : Ctx) (b : Block) (bytes : List ℕ) (inputs : List Input) (gs m : List ℕ) (base : ℕ) (ss : List Slot)
     (done : List ℕ) (s : State) (p at : ℕ) → Live c s → s.regs.pc ≡ p → Stands c p (slots_code base inputs at ss)
     → AllCanFill b bytes inputs gs ss → at ≡ base + length (gs ++ done) → s.mem ≡ put m base (gs ++ done)
-    → length m ≡ 65536 → base ≡ c.layout.slots → at + length ss ≤ c.layout.slots + 300
+    → length m ≡ 65536 → base ≡ c.memory_map.slots → at + length ss ≤ c.memory_map.slots + 300
     → Reaches c (fill_count ss) 0 s (p + code_size (slots_code base inputs at ss))
     (put m base (gs ++ (done ++ map (slot_before b bytes) ss)))
 slots_run c b bytes inputs gs m base [] done s p at l ep st can ea em lm eb le =

@@ -83,8 +83,8 @@ graded_after c n m k s t pc pc' x x' y y' mem mem' g es le ep ex ey em r = recor
 -- MEM for each term of an input
 mems_run : (c : Ctx) (i : Input) (ts : List Trapezoid) (s : State) (p x y : ℕ) → Live c s → s.regs.pc ≡ p
     → Stands c p (replicate (length ts) Mem) → s.regs.x ≡ x → s.regs.y ≡ y → HasBytes c.image x (row_bytes i ts)
-    → c.layout.tables ≤ x → x + 4 * length ts ≤ c.layout.tables + 480 → c.layout.slots ≤ y
-    → y + length ts ≤ c.layout.slots + 300
+    → c.memory_map.tables ≤ x → x + 4 * length ts ≤ c.memory_map.tables + 480 → c.memory_map.slots ≤ y
+    → y + length ts ≤ c.memory_map.slots + 300
     → Graded c (length ts) s (p + length ts) (x + 4 * length ts) (y + length ts)
     (put s.mem y (map (λ t. grade_of (row_of i t) s.regs.a) ts))
 mems_run c i [] s p x y l ep st ex ey hb lo hi ylo le =
@@ -119,9 +119,10 @@ mems_run c i (t ∷ ts) s p x y l ep st ex ey hb lo hi ylo le =
 -- each input's byte, and then its terms
 pub fuzzify_run : (c : Ctx) (is : List Input) (vs : List ℕ) (at : ℕ) (s : State) (p x y : ℕ) → Live c s → s.regs.pc ≡ p
     → Stands c p (fuzzify_code at is) → s.regs.x ≡ x → s.regs.y ≡ y → length vs ≡ length is → HasBytes s.mem at vs
-    → HasBytes c.image x (input_rows is) → c.layout.tables ≤ x → x + 4 * sum_by term_count is ≤ c.layout.tables + 480
-    → c.layout.inputs ≤ at → at + length vs ≤ c.layout.inputs + 8 → c.layout.slots ≤ y
-    → y + sum_by term_count is ≤ c.layout.slots + 300
+    → HasBytes c.image x (input_rows is) → c.memory_map.tables ≤ x → x + 4 * sum_by term_count is ≤ c.memory_map.tables
+    + 480
+    → c.memory_map.inputs ≤ at → at + length vs ≤ c.memory_map.inputs + 8 → c.memory_map.slots ≤ y
+    → y + sum_by term_count is ≤ c.memory_map.slots + 300
     → Graded c (length is + sum_by term_count is) s (p + code_size (fuzzify_code at is)) (x + 4 * sum_by term_count is)
     (y + sum_by term_count is) (put s.mem y (grades vs is))
 fuzzify_run c [] vs at s p x y l ep st ex ey el hv hb lo hi a0 a1 b0 b1 =

@@ -43,8 +43,8 @@ use Rattle.eval_code.proofs.steps.Stepping.{Ctx, Live, Stands, Reaches, between_
 
 -- code that stands in memory among EVAL's
 stands_of : DecodesWhereItStands → (c : Ctx) (p : ℕ) (is : List Instr) → FitCode is → HasBytes c.image p (code_bytes is)
-    → c.layout.eval ≤ p
-    → p + code_size is + 6 ≤ c.layout.eval + 2432
+    → c.memory_map.eval ≤ p
+    → p + code_size is + 6 ≤ c.memory_map.eval + 2432
     → Stands c p is
 stands_of decodes c p [] u h lo hi = tt
 stands_of decodes c p (i ∷ is) u h lo hi =
@@ -62,15 +62,17 @@ stands_of decodes c p (i ∷ is) u h lo hi =
           (omega arith),
     )
 
-parts_of : DecodesWhereItStands → NearestIsByte → (c : Ctx) (b : Block) (w : Width) → IsValid b → BlockFacts b → HasEval c.layout b w c.image
-    → HasParts c c.layout b w
+parts_of : DecodesWhereItStands → NearestIsByte → (c : Ctx) (b : Block) (w : Width) → IsValid b → BlockFacts b
+    → HasEval c.memory_map b w c.image
+    → HasParts c c.memory_map b w
 parts_of decodes near c b w v facts h = record {
   tables = h.tables;
   singletons = h.singletons;
   weights = h.weights;
   rules = h.rules;
-  code = stands_of decodes c c.layout.eval (eval_code c.layout b w) (fit_answer near c.layout b w c.apart v facts) h.code
-      (omega arith) (omega (arith, answer_size c.layout b w v facts));
+  code = stands_of decodes c c.memory_map.eval (eval_code c.memory_map b w)
+      (fit_answer near c.memory_map b w c.apart v facts) h.code
+      (omega arith) (omega (arith, answer_size c.memory_map b w v facts));
 }
 
 -- the bounds are those of the parts
@@ -115,12 +117,12 @@ steps_fit w b v facts n h =
 
 -- where EVAL leads
 gone : RulesGiveMasses → (c : Ctx) (b : Block) (w : Width) (bytes : List ℕ) (before : ℕ → ℕ) (s : State)
-    → Evals c c.layout b w bytes (listed before 1 (length b.outputs)) → Live c s
-    → (r : Reaches c (eval_most w b) (eval_parts b) s (c.layout.eval + code_size (eval_code c.layout b w))
-    (evaluated c.layout b w bytes (listed before 1 (length b.outputs)) s.mem))
-    → IsEvaluated c.layout b w c.flags bytes before s r.t
+    → Evals c c.memory_map b w bytes (listed before 1 (length b.outputs)) → Live c s
+    → (r : Reaches c (eval_most w b) (eval_parts b) s (c.memory_map.eval + code_size (eval_code c.memory_map b w))
+    (evaluated c.memory_map b w bytes (listed before 1 (length b.outputs)) s.mem))
+    → IsEvaluated c.memory_map b w c.flags bytes before s r.t
 gone masses_law c b w bytes before s h live r =
-    let l = c.layout in
+    let l = c.memory_map in
     let n = length b.outputs in
     let bs = listed before 1 n in
     let a3 = c.apart.outputs in
@@ -166,12 +168,12 @@ gone masses_law c b w bytes before s h live r =
 
 begun : DecodesWhereItStands → RulesGiveMasses → NearestIsByte
     → (c : Ctx) (b : Block) (w : Width) (bytes : List ℕ) (before : ℕ → ℕ) (s : State) → IsValid b → BlockFacts b
-    → IsWithinLimits b → AreInputBytes b bytes → HasEval c.layout b w c.image → Live c s
-    → IsAtEval c.layout b w bytes before s
-    → (t : State) × IsEvaluated c.layout b w c.flags bytes before s t
+    → IsWithinLimits b → AreInputBytes b bytes → HasEval c.memory_map b w c.image → Live c s
+    → IsAtEval c.memory_map b w bytes before s
+    → (t : State) × IsEvaluated c.memory_map b w c.flags bytes before s t
 begun decodes masses_law near c b w bytes before s v facts lim i rom live k =
     let n = length b.outputs in
-    let e : Evals c c.layout b w bytes (listed before 1 n) =
+    let e : Evals c c.memory_map b w bytes (listed before 1 n) =
     record {
       valid = v;
       facts = facts;
@@ -183,8 +185,8 @@ begun decodes masses_law near c b w bytes before s v facts lim i rom live k =
     } in
     let z : (j : ℕ) → 1 + j - 1 ≡ j = λ j. omega arith in
     let was =
-    listed_stand s.mem w c.layout.outputs before 1 n
-    (λ j lt. subst (λ q. HasBytes s.mem (c.layout.outputs + places w * q) (bytes_of w (before (1 + j)))) (z j)
+    listed_stand s.mem w c.memory_map.outputs before 1 n
+    (λ j lt. subst (λ q. HasBytes s.mem (c.memory_map.outputs + places w * q) (bytes_of w (before (1 + j)))) (z j)
     (k.outputs (1 + j) (omega arith) (omega arith))) in
     let r = eval_run c b w bytes (listed before 1 n) s e live k.pc k.inputs was in
     (r.t, gone masses_law c b w bytes before s e live r)
@@ -201,7 +203,7 @@ pub eval_answers : EvalLaws → EvalAnswers
 eval_answers laws l b w flags bytes before s a v lim fits i k =
     let c : Ctx = record {
       stays_fit = laws.stays_fit;
-      layout = l;
+      memory_map = l;
       apart = a;
       image = s.mem;
       flags = flags;

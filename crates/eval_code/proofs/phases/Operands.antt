@@ -18,7 +18,7 @@ use Rattle.rule_layout.specs.Slots.{slots_of, singleton_count, input_terms, term
 use Rattle.rule_layout.specs.Layouts.{form_of}
 use Rattle.eval_code.proofs.phases.RuleFacts.{BlockFacts}
 use Rattle.cpu12_isa.specs.declared.instr.Instr.TheVariants.{Mem}
-use Rattle.eval_code.specs.declared.layout.Layout.{Layout}
+use Rattle.eval_code.specs.declared.memory_map.MemoryMap.{MemoryMap}
 use Rattle.eval_code.specs.Code.{fuzzify_code, slots_code, rules_code, input_slots, quotient_code, output_code}
 use Rattle.eval_code.specs.Code.{outputs_code, eval_code, FitCode}
 use Rattle.eval_code.specs.declared.width.Width.{Width}
@@ -58,7 +58,7 @@ fit_slots b bytes inputs gs base at (Out o t ∷ ss) h lo hi =
 fit_slots b bytes inputs gs base at (Complement i t ∷ ss) h lo hi = let k = h.0.0 in
     (omega arith, (tt, (omega arith, fit_slots b bytes inputs gs base (at + 1) ss h.1 lo (omega arith))))
 
-fit_rules : (l : Layout) (f : Form) → IsApart l → FitCode (rules_code l f)
+fit_rules : (l : MemoryMap) (f : Form) → IsApart l → FitCode (rules_code l f)
 fit_rules l form.Rev a = let s = a.slots in let r = a.rules_end in
     (omega arith, (omega arith, (omega arith, (omega arith, (tt, tt)))))
 fit_rules l form.Revw a = let w = a.weights_end in let r = a.rules_end in
@@ -124,7 +124,7 @@ fit_outputs near w sx sy at (o ∷ os) v hx hy h =
     (fit_outputs near w (sx + length o.singletons) (sy + length o.singletons) (at + places w) os
     (λ k d lt. v (suc k) d (omega arith)) (omega arith) (omega arith) (omega arith))
 
-pub fit_answer : NearestIsByte → (l : Layout) (b : Block) (w : Width) → IsApart l → IsValid b → BlockFacts b
+pub fit_answer : NearestIsByte → (l : MemoryMap) (b : Block) (w : Width) → IsApart l → IsValid b → BlockFacts b
     → FitCode (eval_code l b w)
 fit_answer near l b w a v facts =
     let zs = replicate (length b.inputs) 0 in
@@ -164,7 +164,8 @@ fit_answer near l b w a v facts =
     )
 
 -- the code of a block, which leaves room for a fetch and a return
-pub answer_size : (l : Layout) (b : Block) (w : Width) → IsValid b → BlockFacts b → code_size (eval_code l b w) ≤ 2420
+pub answer_size : (l : MemoryMap) (b : Block) (w : Width) → IsValid b → BlockFacts b → code_size (eval_code l b w) ≤
+    2420
 answer_size l b w v facts =
     omega (
       arith,

@@ -40,7 +40,8 @@ length-bytes_of Word a = refl
 abbrev Quotient : Ctx → Width → Type 0
 Quotient c w = (at p n m : ℕ) (d : Option ℕ) (before : ℕ) (s : State) → Live c s → s.regs.pc ≡ p
     → Stands c p (quotient_code w at d) → s.regs.x ≡ m → s.regs.y * 2 ^ 16 + (s.regs.a * 2 ^ 8 + s.regs.b) ≡ n
-    → n ≤ 255 * m → HasBytes s.mem at (bytes_of w before) → c.layout.outputs ≤ at → at + places w ≤ c.layout.outputs + 8
+    → n ≤ 255 * m → HasBytes s.mem at (bytes_of w before) → c.memory_map.outputs ≤ at → at
+    + places w ≤ c.memory_map.outputs + 8
     → Reaches c (quotient_most w d) 0 s (p + code_size (quotient_code w at d))
     (put s.mem at (bytes_of w (quotient_of w m n d before)))
 
@@ -62,8 +63,8 @@ pub output_run : (c : Ctx) (w : Width) (o : Output) (sx sy at : ℕ) (vs : List 
     → Live c s → s.regs.pc ≡ p → Stands c p (output_code w sx sy at o) → IsValidOutput o
     → HasBytes c.image sx (singleton_bytes_of o) → HasBytes s.mem sy vs → length vs ≡ length o.singletons
     → HasBytes s.mem at (bytes_of w before)
-    → c.layout.singletons ≤ sx → sx + length vs ≤ c.layout.singletons + 60 → c.layout.slots ≤ sy
-    → sy + length vs ≤ c.layout.slots + 300 → c.layout.outputs ≤ at → at + places w ≤ c.layout.outputs + 8
+    → c.memory_map.singletons ≤ sx → sx + length vs ≤ c.memory_map.singletons + 60 → c.memory_map.slots ≤ sy
+    → sy + length vs ≤ c.memory_map.slots + 300 → c.memory_map.outputs ≤ at → at + places w ≤ c.memory_map.outputs + 8
     → Reaches c (output_most w o) (length o.singletons - 1) s (p + code_size (output_code w sx sy at o))
     (put s.mem at (bytes_of w (output_answer w o vs before)))
 output_run c w o sx sy at vs before s p l ep st valid hs hv ev hb lo hi slo low alo apart =
@@ -173,9 +174,9 @@ pub record AtOutputs (c : Ctx) (w : Width) (sx sy at : ℕ) (vs bs : List ℕ) (
 pub outputs_run : (c : Ctx) (w : Width) (os : List Output) (sx sy at : ℕ) (vs bs : List ℕ) (s : State) (p : ℕ)
     → AtOutputs c w sx sy at vs bs os p s → All IsValidOutput os → length vs ≡ sum_by singleton_count os
     → length bs ≡ length os
-    → c.layout.singletons ≤ sx → sx + length vs ≤ c.layout.singletons + 60 → c.layout.slots ≤ sy
-    → sy + length vs ≤ c.layout.slots + 300 → c.layout.outputs ≤ at
-    → at + places w * length os ≤ c.layout.outputs + 8
+    → c.memory_map.singletons ≤ sx → sx + length vs ≤ c.memory_map.singletons + 60 → c.memory_map.slots ≤ sy
+    → sy + length vs ≤ c.memory_map.slots + 300 → c.memory_map.outputs ≤ at
+    → at + places w * length os ≤ c.memory_map.outputs + 8
     → Reaches c (sum_by (output_most w) os) (output_parts os) s (p + code_size (outputs_code w sx sy at os))
     (put s.mem at (all_bytes w (output_answers w os vs bs)))
 outputs_run c w [] sx sy at vs bs s p h valid ev eb lo hi slo low alo apart =

@@ -78,7 +78,7 @@ divided_run c at p n w s rest l ep st ex en le =
 -- from CPX on: the default, or none, where the sum of the masses is 0, and else the quotient
 pub quotient_run : (c : Ctx) (at p n w : ℕ) (d : Option ℕ) (s : State) → Live c s → s.regs.pc ≡ p
     → Stands c p (quotient_code Byte at d) → s.regs.x ≡ w → s.regs.y * 2 ^ 16 + (s.regs.a * 2 ^ 8 + s.regs.b) ≡ n
-    → n ≤ 255 * w → Writes c.layout at
+    → n ≤ 255 * w → Writes c.memory_map at
     → Reaches c (quotient_most Byte d) 0 s (p + code_size (quotient_code Byte at d))
     (set s.mem at (quotient_of Byte w n d (get_or s.mem at 0)))
 quotient_run c at p n zero (Some d) s l ep st ex en le lt =

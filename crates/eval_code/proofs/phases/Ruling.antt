@@ -174,7 +174,7 @@ weights_each P false y (p ∷ ps) hi h = tt
 
 -- the whole instruction, where it is ready, keeps what each state keeps
 record Ruled (c : Ctx) (i : Instr) (f : Form) (d : ℕ) (p : Rule) (ps : List Rule) (s : State) : Type 0 where
-  over : IsRulesOver (Reads c.layout) (Writes c.layout) i f c.flags d p ps s
+  over : IsRulesOver (Reads c.memory_map) (Writes c.memory_map) i f c.flags d p ps s
       (rules_whole f c.flags s.regs s.temps s.mem p ps)
   live : Live c (rules_whole f c.flags s.regs s.temps s.mem p ps)
   masks : interrupt_masks (rules_whole f c.flags s.regs s.temps s.mem p ps).regs.ccr ≡ interrupt_masks s.regs.ccr
@@ -182,10 +182,11 @@ record Ruled (c : Ctx) (i : Instr) (f : Form) (d : ℕ) (p : Rule) (ps : List Ru
 rules_next : (c : Ctx) (s : State) (i : Instr) (f : Form) (d : ℕ) (p : Rule) (ps : List Rule) → Live c s
     → decode_at s.mem s.regs.pc ≡ Ok i
     → AreReady f s.regs s.mem p ps → length (elements_of f p ps) ≡ suc d
-    → LightRules (p ∷ ps) → Below 0x1800 (rules_target f (p ∷ ps)) → Each (Writes c.layout) (rules_target f (p ∷ ps))
-    → Each (Reads c.layout) (rules_named f (p ∷ ps))
-    → Each (Reads c.layout) (element_bytes f s.regs.x (elements_of f p ps))
-    → Each (Reads c.layout) (weight_bytes (f.weighs s.regs.ccr) s.regs.y (p ∷ ps))
+    → LightRules (p ∷ ps) → Below 0x1800 (rules_target f (p ∷ ps)) → Each (Writes c.memory_map)
+    (rules_target f (p ∷ ps))
+    → Each (Reads c.memory_map) (rules_named f (p ∷ ps))
+    → Each (Reads c.memory_map) (element_bytes f s.regs.x (elements_of f p ps))
+    → Each (Reads c.memory_map) (weight_bytes (f.weighs s.regs.ccr) s.regs.y (p ∷ ps))
     → interrupt_masks (opened s.regs.ccr f.mask c.flags) ≡ interrupt_masks s.regs.ccr
     → Ruled c i f d p ps s
 rules_next c s i f d p ps l de ready el light target writes names elements weights masks =
@@ -194,8 +195,8 @@ rules_next c s i f d p ps l de ready el light target writes names elements weigh
     record {
       over = record {
         step = record { decoded = de; ready = ready; parts = el; after = refl };
-        reads = each_append (Reads c.layout) (element_bytes f s.regs.x (elements_of f p ps)) _ elements
-            (each_append (Reads c.layout) (rules_named f (p ∷ ps))
+        reads = each_append (Reads c.memory_map) (element_bytes f s.regs.x (elements_of f p ps)) _ elements
+            (each_append (Reads c.memory_map) (rules_named f (p ∷ ps))
             (weight_bytes (f.weighs s.regs.ccr) s.regs.y (p ∷ ps)) names weights);
         writes = writes;
       };
@@ -224,7 +225,7 @@ rules_next c s i f d p ps l de ready el light target writes names elements weigh
 pub record AtRules (c : Ctx) (m ss : List ℕ) (k : Conjunction) (ks : List Conjunction) (w : ℕ) (ws : List ℕ)
     (s : State) : Type 0 where
   pub live : Live c s
-  pub mem_is : s.mem ≡ put m c.layout.slots ss
+  pub mem_is : s.mem ≡ put m c.memory_map.slots ss
   pub size : length m ≡ 65536
   pub below : AllBelow (length ss) (k ∷ ks)
   pub weights : length ws ≡ length ks
@@ -233,9 +234,10 @@ pub record AtRules (c : Ctx) (m ss : List ℕ) (k : Conjunction) (ks : List Conj
 -- REV itself
 rev_step : (c : Ctx) (m ss : List ℕ) (k : Conjunction) (ks : List Conjunction) (w : ℕ) (ws : List ℕ) (s : State)
     → AtRules c m ss k ks w ws s
-    → decode_at s.mem s.regs.pc ≡ Ok Rev → s.regs.x ≡ c.layout.rules → s.regs.y ≡ c.layout.slots → s.regs.a ≡ 255
+    → decode_at s.mem s.regs.pc ≡ Ok Rev → s.regs.x ≡ c.memory_map.rules → s.regs.y ≡ c.memory_map.slots → s.regs.a
+    ≡ 255
     → has s.regs.ccr 1 ≡ false
-    → AreFull (w ∷ ws) → length ss ≤ 254 → HasBytes c.image c.layout.rules (list_bytes (k ∷ ks))
+    → AreFull (w ∷ ws) → length ss ≤ 254 → HasBytes c.image c.memory_map.rules (list_bytes (k ∷ ks))
     → length (list_bytes (k ∷ ks)) ≤ 9984
     → Ruled c Rev (rev_form s.regs.y) (sum_by entry_count (k ∷ ks) - 1) (rule_by number k w) (rules_by number ks ws) s
 rev_step c m ss k ks w ws s h de ex ey ea ev full few hl le =
@@ -243,13 +245,13 @@ rev_step c m ss k ks w ws s h de ex ey ea ev full few hl le =
     let list_low = c.apart.rules in
     let list_end = c.apart.rules_end in
     let most = h.few in
-    let slot : (P : ℕ → Type 0) → ((k : ℕ) → c.layout.slots ≤ k → k < c.layout.slots + 300 → P k) → (k : ℕ)
+    let slot : (P : ℕ → Type 0) → ((k : ℕ) → c.memory_map.slots ≤ k → k < c.memory_map.slots + 300 → P k) → (k : ℕ)
     → s.regs.y ≤ k → k < s.regs.y + length ss → P k =
     λ P e k a b. e k (omega arith) (omega arith) in
-    let read : (k : ℕ) → s.regs.y ≤ k → k < s.regs.y + length ss → Reads c.layout k =
-    slot (Reads c.layout) (λ k a b. inr (inl (a, b))) in
-    let write : (k : ℕ) → s.regs.y ≤ k → k < s.regs.y + length ss → Writes c.layout k =
-    slot (Writes c.layout) (λ k a b. inr (inl (a, b))) in
+    let read : (k : ℕ) → s.regs.y ≤ k → k < s.regs.y + length ss → Reads c.memory_map k =
+    slot (Reads c.memory_map) (λ k a b. inr (inl (a, b))) in
+    let write : (k : ℕ) → s.regs.y ≤ k → k < s.regs.y + length ss → Writes c.memory_map k =
+    slot (Writes c.memory_map) (λ k a b. inr (inl (a, b))) in
     let f = rev_form s.regs.y in
     let n = length ss in
     let names : NamesSlots f s.regs.y n number = rev_names s.regs.y n few (omega arith) in
@@ -260,7 +262,7 @@ rev_step c m ss k ks w ws s h de ex ey ea ev full few hl le =
     ap (marked 254 255) (sym (renamed_number (k ∷ ks))) ∙ sym (elements_are f number k ks w ws h.weights) in
     let hm : HasBytes s.mem s.regs.x (list_bytes (k ∷ ks)) =
     subst (λ x. HasBytes s.mem x (list_bytes (k ∷ ks))) (sym ex)
-    (same_bytes c.image s.mem c.layout.rules (list_bytes (k ∷ ks)) (λ at a b. h.live.same at (omega arith)) hl) in
+    (same_bytes c.image s.mem c.memory_map.rules (list_bytes (k ∷ ks)) (λ at a b. h.live.same at (omega arith)) hl) in
     let listed : Listed f s.mem s.regs.x (elements_of f (rule_by number k w) (rules_by number ks ws)) =
     subst (Listed f s.mem s.regs.x) ee (rev_listed s.regs.y s.mem s.regs.x (list_bytes (k ∷ ks)) hm (omega arith)) in
     let len : length (elements_of f (rule_by number k w) (rules_by number ks ws)) ≡ length (list_bytes (k ∷ ks)) =
@@ -269,9 +271,10 @@ rev_step c m ss k ks w ws s h de ex ey ea ev full few hl le =
     element_bytes_high f s.regs.x (elements_of f (rule_by number k w) (rules_by number ks ws)) (omega arith)
     (omega (arith, rev_span s.regs.y (elements_of f (rule_by number k w) (rules_by number ks ws)))) in
     let span_is = rev_span s.regs.y (elements_of f (rule_by number k w) (rules_by number ks ws)) in
-    let elements_in : Each (Reads c.layout)
+    let elements_in : Each (Reads c.memory_map)
     (element_bytes f s.regs.x (elements_of f (rule_by number k w) (rules_by number ks ws))) =
-    elements_each (Reads c.layout) f s.regs.x (elements_of f (rule_by number k w) (rules_by number ks ws)) (omega arith)
+    elements_each (Reads c.memory_map) f s.regs.x (elements_of f (rule_by number k w) (rules_by number ks ws))
+    (omega arith)
     (λ j a b. inr (inr (inr (inr (inr (inl (omega arith, omega arith))))))) in
     let target = rules_target_low f s.regs.y n number names (k ∷ ks) (w ∷ ws) h.below in
     rules_next c s Rev f (sum_by entry_count (k ∷ ks) - 1) (rule_by number k w)
@@ -284,21 +287,23 @@ rev_step c m ss k ks w ws s h de ex ey ea ev full few hl le =
       list_stays = apart_by (rules_target f (rules_by number (k ∷ ks) (w ∷ ws))) _ target elements;
       weights_stay = apart_by (rules_target f (rules_by number (k ∷ ks) (w ∷ ws))) [] target tt;
     }) (omega arith) (light_by number (k ∷ ks) (w ∷ ws) (full_below (w ∷ ws) full)) target
-    (target_each (Writes c.layout) f s.regs.y n number names write (k ∷ ks) (w ∷ ws) h.below)
-    (named_each (Reads c.layout) f s.regs.y n number names read (k ∷ ks) (w ∷ ws) h.below) elements_in tt
+    (target_each (Writes c.memory_map) f s.regs.y n number names write (k ∷ ks) (w ∷ ws) h.below)
+    (named_each (Reads c.memory_map) f s.regs.y n number names read (k ∷ ks) (w ∷ ws) h.below) elements_in tt
     (masked_open_hnzc s.regs.ccr c.flags)
 
 -- REVW itself
 revw_step : (c : Ctx) (m ss : List ℕ) (k : Conjunction) (ks : List Conjunction) (w : ℕ) (ws : List ℕ) (s : State)
     → AtRules c m ss k ks w ws s
-    → decode_at s.mem s.regs.pc ≡ Ok Revw → s.regs.x ≡ c.layout.rules → s.regs.y ≡ c.layout.weights → s.regs.a ≡ 255
+    → decode_at s.mem s.regs.pc ≡ Ok Revw → s.regs.x ≡ c.memory_map.rules → s.regs.y ≡ c.memory_map.weights → s.regs.a
+    ≡ 255
     → has s.regs.ccr 1 ≡ false
     → has s.regs.ccr 0 ≡ true
-    → Below 256 (w ∷ ws) → HasBytes c.image c.layout.rules (flat_map bytes_of_word (list_words c.layout.slots (k ∷ ks)))
-    → 2 * length (list_words c.layout.slots (k ∷ ks)) ≤ 9984 → HasBytes c.image c.layout.weights (w ∷ ws)
+    → Below 256 (w ∷ ws) → HasBytes c.image c.memory_map.rules
+    (flat_map bytes_of_word (list_words c.memory_map.slots (k ∷ ks)))
+    → 2 * length (list_words c.memory_map.slots (k ∷ ks)) ≤ 9984 → HasBytes c.image c.memory_map.weights (w ∷ ws)
     → length (w ∷ ws) ≤ 512
-    → Ruled c Revw revw_form (sum_by entry_count (k ∷ ks) - 1) (rule_by (address c.layout.slots) k w)
-    (rules_by (address c.layout.slots) ks ws) s
+    → Ruled c Revw revw_form (sum_by entry_count (k ∷ ks) - 1) (rule_by (address c.memory_map.slots) k w)
+    (rules_by (address c.memory_map.slots) ks ws) s
 revw_step c m ss k ks w ws s h de ex ey ea ev ec light hl le hw whi =
     let low = c.apart.slots in
     let list_low = c.apart.rules in
@@ -306,76 +311,76 @@ revw_step c m ss k ks w ws s h de ex ey ea ev ec light hl le hw whi =
     let weights_low = c.apart.weights in
     let weights_end = c.apart.weights_end in
     let most = h.few in
-    let read : (k : ℕ) → c.layout.slots ≤ k → k < c.layout.slots + length ss → Reads c.layout k =
+    let read : (k : ℕ) → c.memory_map.slots ≤ k → k < c.memory_map.slots + length ss → Reads c.memory_map k =
     λ k a b. inr (inl (omega arith, omega arith)) in
-    let write : (k : ℕ) → c.layout.slots ≤ k → k < c.layout.slots + length ss → Writes c.layout k =
+    let write : (k : ℕ) → c.memory_map.slots ≤ k → k < c.memory_map.slots + length ss → Writes c.memory_map k =
     λ k a b. inr (inl (omega arith, omega arith)) in
     let f = revw_form in
     let n = length ss in
-    let name = address c.layout.slots in
-    let names : NamesSlots f c.layout.slots n name = revw_names c.layout.slots n (omega arith) in
+    let name = address c.memory_map.slots in
+    let names : NamesSlots f c.memory_map.slots n name = revw_names c.memory_map.slots n (omega arith) in
     let some = entries_some k ks in
-    let lr : length (list_words c.layout.slots (k ∷ ks)) ≡ sum_by entry_count (k ∷ ks) =
+    let lr : length (list_words c.memory_map.slots (k ∷ ks)) ≡ sum_by entry_count (k ∷ ks) =
     length-renamed 65534 65535 name (k ∷ ks) in
-    let ee : list_words c.layout.slots (k ∷ ks) ≡ elements_of f (rule_by name k w) (rules_by name ks ws) =
+    let ee : list_words c.memory_map.slots (k ∷ ks) ≡ elements_of f (rule_by name k w) (rules_by name ks ws) =
     sym (elements_are f name k ks w ws h.weights) in
-    let hm : HasBytes s.mem s.regs.x (flat_map bytes_of_word (list_words c.layout.slots (k ∷ ks))) =
-    subst (λ x. HasBytes s.mem x (flat_map bytes_of_word (list_words c.layout.slots (k ∷ ks)))) (sym ex)
-    (same_bytes c.image s.mem c.layout.rules (flat_map bytes_of_word (list_words c.layout.slots (k ∷ ks)))
+    let hm : HasBytes s.mem s.regs.x (flat_map bytes_of_word (list_words c.memory_map.slots (k ∷ ks))) =
+    subst (λ x. HasBytes s.mem x (flat_map bytes_of_word (list_words c.memory_map.slots (k ∷ ks)))) (sym ex)
+    (same_bytes c.image s.mem c.memory_map.rules (flat_map bytes_of_word (list_words c.memory_map.slots (k ∷ ks)))
     (λ at a b. h.live.same at (omega arith)) hl) in
     let listed : Listed f s.mem s.regs.x (elements_of f (rule_by name k w) (rules_by name ks ws)) =
     subst (Listed f s.mem s.regs.x) ee
-    (revw_listed s.mem s.regs.x (list_words c.layout.slots (k ∷ ks)) hm (omega arith)) in
+    (revw_listed s.mem s.regs.x (list_words c.memory_map.slots (k ∷ ks)) hm (omega arith)) in
     let len : length (elements_of f (rule_by name k w) (rules_by name ks ws)) ≡ length
-    (list_words c.layout.slots (k ∷ ks)) = ap length (sym ee) in
+    (list_words c.memory_map.slots (k ∷ ks)) = ap length (sym ee) in
     let elements =
     element_bytes_high f s.regs.x (elements_of f (rule_by name k w) (rules_by name ks ws)) (omega arith)
     (omega (arith, revw_span (elements_of f (rule_by name k w) (rules_by name ks ws)))) in
     let span_is = revw_span (elements_of f (rule_by name k w) (rules_by name ks ws)) in
-    let elements_in : Each (Reads c.layout)
+    let elements_in : Each (Reads c.memory_map)
     (element_bytes f s.regs.x (elements_of f (rule_by name k w) (rules_by name ks ws))) =
-    elements_each (Reads c.layout) f s.regs.x (elements_of f (rule_by name k w) (rules_by name ks ws)) (omega arith)
+    elements_each (Reads c.memory_map) f s.regs.x (elements_of f (rule_by name k w) (rules_by name ks ws)) (omega arith)
     (λ j a b. inr (inr (inr (inr (inr (inl (omega arith, omega arith))))))) in
-    let target = rules_target_low f c.layout.slots n name names (k ∷ ks) (w ∷ ws) h.below in
+    let target = rules_target_low f c.memory_map.slots n name names (k ∷ ks) (w ∷ ws) h.below in
     let hv : HasBytes s.mem s.regs.y (w ∷ ws) =
     subst (λ y. HasBytes s.mem y (w ∷ ws)) (sym ey)
-    (same_bytes c.image s.mem c.layout.weights (w ∷ ws) (λ at a b. h.live.same at (omega arith)) hw) in
+    (same_bytes c.image s.mem c.memory_map.weights (w ∷ ws) (λ at a b. h.live.same at (omega arith)) hw) in
     let lw = length-rules_by name (k ∷ ks) (w ∷ ws) (let e = h.weights in omega arith) in
     let high = weight_bytes_high (has s.regs.ccr 0) s.regs.y (rules_by name (k ∷ ks) (w ∷ ws)) (omega arith)
     (omega (arith, h.weights)) in
-    let weights_in : Each (Reads c.layout)
+    let weights_in : Each (Reads c.memory_map)
     (weight_bytes (has s.regs.ccr 0) s.regs.y (rules_by name (k ∷ ks) (w ∷ ws))) =
-    weights_each (Reads c.layout) (has s.regs.ccr 0) s.regs.y (rules_by name (k ∷ ks) (w ∷ ws))
+    weights_each (Reads c.memory_map) (has s.regs.ccr 0) s.regs.y (rules_by name (k ∷ ks) (w ∷ ws))
     (omega (arith, h.weights)) (λ j a b. inr (inr (inr (inr (inl (omega arith, omega arith)))))) in
     rules_next c s Revw f (sum_by entry_count (k ∷ ks) - 1) (rule_by name k w) (rules_by name ks ws) h.live de (record {
       a = ea;
       v = ev;
-      rules = rules_are f c.layout.slots n name names (k ∷ ks) (w ∷ ws) h.below;
+      rules = rules_are f c.memory_map.slots n name names (k ∷ ks) (w ∷ ws) h.below;
       listed = listed;
       weights = subst (λ b. AreWeights b s.mem s.regs.y (rules_by name (k ∷ ks) (w ∷ ws))) (sym ec)
           (read_weights name s.mem s.regs.y (k ∷ ks) (w ∷ ws) hv (omega arith));
       list_stays = apart_by (rules_target f (rules_by name (k ∷ ks) (w ∷ ws))) _ target elements;
       weights_stay = apart_by (rules_target f (rules_by name (k ∷ ks) (w ∷ ws))) _ target high;
     }) (omega arith) (light_by name (k ∷ ks) (w ∷ ws) light) target
-    (target_each (Writes c.layout) f c.layout.slots n name names write (k ∷ ks) (w ∷ ws) h.below)
-    (named_each (Reads c.layout) f c.layout.slots n name names read (k ∷ ks) (w ∷ ws) h.below) elements_in
+    (target_each (Writes c.memory_map) f c.memory_map.slots n name names write (k ∷ ks) (w ∷ ws) h.below)
+    (named_each (Reads c.memory_map) f c.memory_map.slots n name names read (k ∷ ks) (w ∷ ws) h.below) elements_in
     weights_in (masked_open_hnz s.regs.ccr c.flags)
 
 -- the rules by REV
 pub rev_run : (c : Ctx) (m ss : List ℕ) (k : Conjunction) (ks : List Conjunction) (w : ℕ) (ws : List ℕ) (s : State)
     (p : ℕ) → AtRules c m ss k ks w ws s
-    → s.regs.pc ≡ p → Stands c p (rules_code c.layout form.Rev)
-    → AreFull (w ∷ ws) → length ss ≤ 254 → HasBytes c.image c.layout.rules (list_bytes (k ∷ ks))
+    → s.regs.pc ≡ p → Stands c p (rules_code c.memory_map form.Rev)
+    → AreFull (w ∷ ws) → length ss ≤ 254 → HasBytes c.image c.memory_map.rules (list_bytes (k ∷ ks))
     → length (list_bytes (k ∷ ks)) ≤ 9984
-    → Reaches c 5 (sum_by entry_count (k ∷ ks) - 1) s (p + code_size (rules_code c.layout form.Rev))
-    (put m c.layout.slots (fired ss (k ∷ ks) (w ∷ ws)))
+    → Reaches c 5 (sum_by entry_count (k ∷ ks) - 1) s (p + code_size (rules_code c.memory_map form.Rev))
+    (put m c.memory_map.slots (fired ss (k ∷ ks) (w ∷ ws)))
 rev_run c m ss k ks w ws s p h ep st full few hl le =
-    let s1 = after_plain c.flags (LdxImmediate c.layout.rules) s in
-    let s2 = after_plain c.flags (LdyImmediate c.layout.slots) s1 in
+    let s1 = after_plain c.flags (LdxImmediate c.memory_map.rules) s in
+    let s2 = after_plain c.flags (LdyImmediate c.memory_map.slots) s1 in
     let s3 = after_plain c.flags (LdaaImmediate 0xFF) s2 in
     let s4 = after_plain c.flags (Andcc 0xFD) s3 in
-    let n1 = ldx c s p c.layout.rules h.live ep st.0 st.0.fits in
-    let n2 = ldy c s1 (p + 3) c.layout.slots n1.live n1.pc_is st.1.0 st.1.0.fits in
+    let n1 = ldx c s p c.memory_map.rules h.live ep st.0 st.0.fits in
+    let n2 = ldy c s1 (p + 3) c.memory_map.slots n1.live n1.pc_is st.1.0 st.1.0.fits in
     let n3 = ldaa_byte c s2 (p + 3 + 3) 0xFF n2.live n2.pc_is st.1.1.0 st.1.1.0.fits in
     let n4 = andcc_v c s3 (p + 3 + 3 + 2) n3.live n3.pc_is st.1.1.1.0 in
     let h4 : AtRules c m ss k ks w ws s4 =
@@ -413,12 +418,12 @@ rev_run c m ss k ks w ws s p h ep st full few hl le =
     (goes_on c 1 0 2 0 s1 s2 s4 (goes_one c s1 s2 (p + 3 + 3) n2)
     (goes_on c 1 0 1 0 s2 s3 s4 (goes_one c s2 s3 (p + 3 + 3 + 2) n3) (goes_one c s3 s4 (p + 3 + 3 + 2 + 2) n4))) in
     let g = goes_on c 4 0 1 (sum_by entry_count (k ∷ ks) - 1) s s4 t g4 g5 in
-    let em : t.mem ≡ put m c.layout.slots (fired ss (k ∷ ks) (w ∷ ws)) =
+    let em : t.mem ≡ put m c.memory_map.slots (fired ss (k ∷ ks) (w ∷ ws)) =
     ap
-    (λ (x : List ℕ). (rules_whole (rev_form c.layout.slots) c.flags s4.regs s4.temps x (rule_by number k w)
+    (λ (x : List ℕ). (rules_whole (rev_form c.memory_map.slots) c.flags s4.regs s4.temps x (rule_by number k w)
     (rules_by number ks ws)).mem) h.mem_is
-    ∙ all_is (rev_form c.layout.slots) c.layout.slots (length ss) number m
-    (rev_names c.layout.slots (length ss) few (omega (arith, c.apart.slots, h.few))) h.size ss k ks w ws refl
+    ∙ all_is (rev_form c.memory_map.slots) c.memory_map.slots (length ss) number m
+    (rev_names c.memory_map.slots (length ss) few (omega (arith, c.apart.slots, h.few))) h.size ss k ks w ws refl
     h.below h.weights in
     reaches_at c 5 (0 + (sum_by entry_count (k ∷ ks) - 1)) 5 (sum_by entry_count (k ∷ ks) - 1) s _ _ _ _ (omega arith)
     (omega arith) refl refl
@@ -427,22 +432,23 @@ rev_run c m ss k ks w ws s p h ep st full few hl le =
 -- and by REVW
 pub revw_run : (c : Ctx) (m ss : List ℕ) (k : Conjunction) (ks : List Conjunction) (w : ℕ) (ws : List ℕ) (s : State)
     (p : ℕ) → AtRules c m ss k ks w ws s
-    → s.regs.pc ≡ p → Stands c p (rules_code c.layout form.Revw)
-    → Below 256 (w ∷ ws) → HasBytes c.image c.layout.rules (flat_map bytes_of_word (list_words c.layout.slots (k ∷ ks)))
-    → 2 * length (list_words c.layout.slots (k ∷ ks)) ≤ 9984 → HasBytes c.image c.layout.weights (w ∷ ws)
+    → s.regs.pc ≡ p → Stands c p (rules_code c.memory_map form.Revw)
+    → Below 256 (w ∷ ws) → HasBytes c.image c.memory_map.rules
+    (flat_map bytes_of_word (list_words c.memory_map.slots (k ∷ ks)))
+    → 2 * length (list_words c.memory_map.slots (k ∷ ks)) ≤ 9984 → HasBytes c.image c.memory_map.weights (w ∷ ws)
     → length (w ∷ ws) ≤ 512
-    → Reaches c 6 (sum_by entry_count (k ∷ ks) - 1) s (p + code_size (rules_code c.layout form.Revw))
-    (put m c.layout.slots (fired ss (k ∷ ks) (w ∷ ws)))
+    → Reaches c 6 (sum_by entry_count (k ∷ ks) - 1) s (p + code_size (rules_code c.memory_map form.Revw))
+    (put m c.memory_map.slots (fired ss (k ∷ ks) (w ∷ ws)))
 revw_run c m ss k ks w ws s p h ep st light hl le hw whi =
     let j = sum_by entry_count (k ∷ ks) - 1 in
-    let name = address c.layout.slots in
-    let s1 = after_plain c.flags (LdxImmediate c.layout.rules) s in
-    let s2 = after_plain c.flags (LdyImmediate c.layout.weights) s1 in
+    let name = address c.memory_map.slots in
+    let s1 = after_plain c.flags (LdxImmediate c.memory_map.rules) s in
+    let s2 = after_plain c.flags (LdyImmediate c.memory_map.weights) s1 in
     let s3 = after_plain c.flags (LdaaImmediate 0xFF) s2 in
     let s4 = after_plain c.flags (Andcc 0xFD) s3 in
     let s5 = after_plain c.flags (Orcc 0x01) s4 in
-    let n1 = ldx c s p c.layout.rules h.live ep st.0 st.0.fits in
-    let n2 = ldy c s1 (p + 3) c.layout.weights n1.live n1.pc_is st.1.0 st.1.0.fits in
+    let n1 = ldx c s p c.memory_map.rules h.live ep st.0 st.0.fits in
+    let n2 = ldy c s1 (p + 3) c.memory_map.weights n1.live n1.pc_is st.1.0 st.1.0.fits in
     let n3 = ldaa_byte c s2 (p + 3 + 3) 0xFF n2.live n2.pc_is st.1.1.0 st.1.1.0.fits in
     let n4 = andcc_v c s3 (p + 3 + 3 + 2) n3.live n3.pc_is st.1.1.1.0 in
     let n5 = orcc_c c s4 (p + 3 + 3 + 2 + 2) n4.live n4.pc_is st.1.1.1.1.0 in
@@ -484,11 +490,11 @@ revw_run c m ss k ks w ws s p h ep st light hl le hw whi =
     (goes_on c 1 0 1 0 s3 s4 s5 (goes_one c s3 s4 (p + 3 + 3 + 2 + 2) n4)
     (goes_one c s4 s5 (p + 3 + 3 + 2 + 2 + 2) n5)))) in
     let g = goes_on c 5 0 1 j s s5 t g5 g6 in
-    let em : t.mem ≡ put m c.layout.slots (fired ss (k ∷ ks) (w ∷ ws)) =
+    let em : t.mem ≡ put m c.memory_map.slots (fired ss (k ∷ ks) (w ∷ ws)) =
     ap (λ (x : List ℕ). (rules_whole revw_form c.flags s5.regs s5.temps x (rule_by name k w) (rules_by name ks ws)).mem)
     h.mem_is
-    ∙ all_is revw_form c.layout.slots (length ss) name m
-    (revw_names c.layout.slots (length ss) (omega (arith, c.apart.slots, h.few))) h.size ss k ks w ws refl h.below
+    ∙ all_is revw_form c.memory_map.slots (length ss) name m
+    (revw_names c.memory_map.slots (length ss) (omega (arith, c.apart.slots, h.few))) h.size ss k ks w ws refl h.below
     h.weights in
     reaches_at c 6 (0 + j) 6 j s _ _ _ _ (omega arith) (omega arith) refl refl
     (record { t = t; goes = g; live = r.live; pc_is = omega (arith, n5.pc_is); mem_is = em; sp_is = refl })

@@ -115,7 +115,7 @@ record Stored (c : Ctx) (s : State) (pc at high low : ℕ) : Type 0 where
 
 stored : (c : Ctx) (at p high low : ℕ) (s : State) (rest : List Instr) → Live c s → s.regs.pc ≡ p
     → Stands c p (TransferYD ∷ StabExtended at ∷ TransferXD ∷ StaaExtended (at + 1) ∷ rest) → s.regs.y ≡ high
-    → high < 256 → s.regs.x / 2 ^ 8 ≡ low → Writes c.layout at → Writes c.layout (at + 1)
+    → high < 256 → s.regs.x / 2 ^ 8 ≡ low → Writes c.memory_map at → Writes c.memory_map (at + 1)
     → Stored c s (p + 2 + 3 + 2 + 3) at high low
 stored c at p high low s rest l ep st ey lt ex wa wb =
     let s1 = after_plain c.flags TransferYD s in
@@ -170,7 +170,7 @@ word w n d before = quotient_of Word w n d before
 
 pub word_run : (c : Ctx) (at p n w : ℕ) (d : Option ℕ) (before : ℕ) (s : State) → Live c s → s.regs.pc ≡ p
     → Stands c p (quotient_code Word at d) → s.regs.x ≡ w → s.regs.y * 2 ^ 16 + (s.regs.a * 2 ^ 8 + s.regs.b) ≡ n
-    → n ≤ 255 * w → HasBytes s.mem at (bytes_of Word before) → Writes c.layout at → Writes c.layout (at + 1)
+    → n ≤ 255 * w → HasBytes s.mem at (bytes_of Word before) → Writes c.memory_map at → Writes c.memory_map (at + 1)
     → Reaches c (quotient_most Word d) 0 s (p + code_size (quotient_code Word at d))
     (put s.mem at (bytes_of Word (word w n d before)))
 word_run c at p n zero (Some d) before s l ep st ex en le hb wa wb =

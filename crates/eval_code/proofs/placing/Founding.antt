@@ -6,7 +6,7 @@ use Rattle.cpu12_isa.specs.declared.instr.Instr.{Instr}
 use Rattle.cpu12_isa.specs.Code.{encode_of}
 use Rattle.cpu12_asm.specs.declared.items.Item.{Item}
 use Rattle.cpu12_asm.specs.Items.{given_by, IsRising}
-use Rattle.eval_code.specs.declared.layout.Layout.{Layout}
+use Rattle.eval_code.specs.declared.memory_map.MemoryMap.{MemoryMap}
 use Rattle.eval_code.specs.declared.width.Width.{Width}
 use Rattle.eval_code.specs.Code.{code_bytes, eval_code, block_code}
 use Rattle.eval_code.specs.Data.{table_bytes, singleton_bytes, weight_bytes, rule_bytes}
@@ -22,7 +22,7 @@ pub bytes_append : (a b : List Instr) → code_bytes (a ++ b) ≡ code_bytes a +
 bytes_append a b = flat_map-append encode_of a b
 
 -- the parts of a block stand
-pub record Stood (image : List ℕ) (l : Layout) (b : Block) (w : Width) (before behind : List Instr) : Type 0 where
+pub record Stood (image : List ℕ) (l : MemoryMap) (b : Block) (w : Width) (before behind : List Instr) : Type 0 where
   pub code : HasBytes image l.code (code_bytes (block_code l b w before behind))
   pub tables : HasBytes image l.tables (table_bytes b)
   pub singletons : HasBytes image l.singletons (singleton_bytes b)
@@ -30,7 +30,7 @@ pub record Stood (image : List ℕ) (l : Layout) (b : Block) (w : Width) (before
   pub rules : HasBytes image l.rules (rule_bytes l.slots b)
 
 -- so they do among rising items
-pub stood : Rises → (image : List ℕ) (front rest : List Item) (l : Layout) (b : Block) (w : Width)
+pub stood : Rises → (image : List ℕ) (front rest : List Item) (l : MemoryMap) (b : Block) (w : Width)
     (before behind : List Instr)
     → HasGiven image (given_by (front ++ (block_items l b w before behind ++ rest)))
     → IsRising (front ++ (block_items l b w before behind ++ rest))
@@ -65,12 +65,13 @@ stood rises image front rest l b w before behind h rise =
     }
 
 -- the code before EVAL, EVAL with its data, and the code behind it
-pub record AroundEval (image : List ℕ) (l : Layout) (b : Block) (w : Width) (before behind : List Instr) : Type 0 where
-  pub front : HasBytes image l.code (code_bytes before)
-  pub eval : HasEval l b w image
-  pub back : HasBytes image (l.eval + length (eval_bytes l b w)) (code_bytes behind)
+pub record AroundEval (image : List ℕ) (l : MemoryMap) (b : Block) (w : Width) (before behind : List Instr) : Type 0
+  where
+    pub front : HasBytes image l.code (code_bytes before)
+    pub eval : HasEval l b w image
+    pub back : HasBytes image (l.eval + length (eval_bytes l b w)) (code_bytes behind)
 
-pub around_eval : (image : List ℕ) (l : Layout) (b : Block) (w : Width) (before behind : List Instr)
+pub around_eval : (image : List ℕ) (l : MemoryMap) (b : Block) (w : Width) (before behind : List Instr)
     → l.eval ≡ l.code + code_size before → Stood image l b w before behind
     → AroundEval image l b w before behind
 around_eval image l b w before behind at h =

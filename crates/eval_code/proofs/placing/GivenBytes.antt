@@ -30,7 +30,7 @@ use Rattle.eval_code.specs.Code.{code_bytes, eval_code, block_code}
 use Rattle.eval_code.specs.Data.{table_bytes, singleton_bytes, singleton_bytes_of, weight_bytes, weight_bytes_by}
 use Rattle.eval_code.specs.Data.{rule_bytes, rule_bytes_by, bytes_of_word}
 use Rattle.eval_code.specs.Items.{block_items, IsApart}
-use Rattle.eval_code.specs.declared.layout.Layout.{Layout}
+use Rattle.eval_code.specs.declared.memory_map.MemoryMap.{MemoryMap}
 use Rattle.eval_code.proofs.Joins.{block_then, block_items-then}
 use Rattle.eval_code.proofs.phases.RuleMemory.{Below, below_all, below_append}
 use Rattle.eval_code.proofs.phases.RuleFacts.{BlockFacts, weights_below, rev_is_plain}
@@ -178,7 +178,7 @@ joined xs ys a b = subst ItemsFit (sym (map-append (λ i. Op i) xs ys)) (fit_app
 
 -- a block's items give bytes, with code before and behind that gives bytes
 pub block_fits_between : EncodedAreBytes → NearestIsByte
-    → (l : Layout) (b : Block) (w : Width) (before behind : List Instr) (rest : List Item) → IsValid b → BlockFacts b
+    → (l : MemoryMap) (b : Block) (w : Width) (before behind : List Instr) (rest : List Item) → IsValid b → BlockFacts b
     → IsApart l
     → ItemsFit (map Op before) → ItemsFit (map Op behind) → ItemsFit rest
     → ItemsFit (block_items l b w before behind ++ rest)

@@ -34,7 +34,8 @@ divided_is flags r n en nz small =
     let b : nat_le 65536 (n / r.x) ≡ false = grind (arith, nat_tests) in
     rw (en, a, b)
 
-pub ldaa : (c : Ctx) (s : State) (p at : ℕ) → Live c s → s.regs.pc ≡ p → Here c p (LdaaExtended at) → Reads c.layout at
+pub ldaa : (c : Ctx) (s : State) (p at : ℕ) → Live c s → s.regs.pc ≡ p → Here c p (LdaaExtended at)
+    → Reads c.memory_map at
     → Next c s (after_plain c.flags (LdaaExtended at) s) (p + 3)
 ldaa c s p at l ep h lt =
     next c s p (p + 3) (LdaaExtended at) l ep h refl (omega arith) (lt, tt) tt refl (masked_tested s.regs.ccr _ _)
@@ -62,19 +63,22 @@ pub ldy : (c : Ctx) (s : State) (p v : ℕ) → Live c s → s.regs.pc ≡ p →
 ldy c s p v l ep h lt =
     next c s p (p + 3) (LdyImmediate v) l ep h refl lt tt tt refl (masked_tested s.regs.ccr _ _) (omega (arith, h.high))
 
-pub staa : (c : Ctx) (s : State) (p at : ℕ) → Live c s → s.regs.pc ≡ p → Here c p (StaaExtended at) → Writes c.layout at
+pub staa : (c : Ctx) (s : State) (p at : ℕ) → Live c s → s.regs.pc ≡ p → Here c p (StaaExtended at)
+    → Writes c.memory_map at
     → Next c s (after_plain c.flags (StaaExtended at) s) (p + 3)
 staa c s p at l ep h lt =
     next c s p (p + 3) (StaaExtended at) l ep h refl (omega arith) tt (lt, tt) refl (masked_tested s.regs.ccr _ _)
     (omega (arith, h.high))
 
-pub stab : (c : Ctx) (s : State) (p at : ℕ) → Live c s → s.regs.pc ≡ p → Here c p (StabExtended at) → Writes c.layout at
+pub stab : (c : Ctx) (s : State) (p at : ℕ) → Live c s → s.regs.pc ≡ p → Here c p (StabExtended at)
+    → Writes c.memory_map at
     → Next c s (after_plain c.flags (StabExtended at) s) (p + 3)
 stab c s p at l ep h lt =
     next c s p (p + 3) (StabExtended at) l ep h refl (omega arith) tt (lt, tt) refl (masked_tested s.regs.ccr _ _)
     (omega (arith, h.high))
 
-pub clr : (c : Ctx) (s : State) (p at : ℕ) → Live c s → s.regs.pc ≡ p → Here c p (ClrExtended at) → Writes c.layout at
+pub clr : (c : Ctx) (s : State) (p at : ℕ) → Live c s → s.regs.pc ≡ p → Here c p (ClrExtended at)
+    → Writes c.memory_map at
     → Next c s (after_plain c.flags (ClrExtended at) s) (p + 3)
 clr c s p at l ep h lt =
     next c s p (p + 3) (ClrExtended at) l ep h refl (omega arith) tt (lt, tt) refl
@@ -157,11 +161,13 @@ grade_same p q s t a =
     least u v = omega arith
 
 -- MEM with a row among the tables at X
-pub mem : (c : Ctx) (s : State) (p x : ℕ) → Live c s → s.regs.pc ≡ p → Here c p Mem → s.regs.x ≡ x → c.layout.tables ≤ x
-    → x + 4 ≤ c.layout.tables + 480 → Writes c.layout s.regs.y → Next c s (after_plain c.flags Mem s) (p + 1)
+pub mem : (c : Ctx) (s : State) (p x : ℕ) → Live c s → s.regs.pc ≡ p → Here c p Mem → s.regs.x ≡ x
+    → c.memory_map.tables ≤ x
+    → x + 4 ≤ c.memory_map.tables + 480 → Writes c.memory_map s.regs.y → Next c s (after_plain c.flags Mem s) (p + 1)
 mem c s p x l ep h ex lo hi own =
     let end = c.apart.tables_end in
-    let at : (k : ℕ) → k ≤ 3 → Reads c.layout (plus s.regs.x k) = λ k le. inr (inr (inl (omega arith, omega arith))) in
+    let at : (k : ℕ) → k ≤ 3 → Reads c.memory_map (plus s.regs.x k) = λ k le. inr
+    (inr (inl (omega arith, omega arith))) in
     next c s p (p + 1) Mem l ep h refl tt (
       inr (inr (inl (omega arith, omega arith))),
       (at 1 (omega arith), (at 2 (omega arith), (at 3 (omega arith), tt))),

@@ -11,7 +11,7 @@ use Rattle.cpu12_isa.proofs.Algebra.{length_writes}
 use Rattle.cpu12_parts.specs.State.{State}
 use Rattle.cpu12_parts.specs.Laws.{addresses, IsOff}
 use Rattle.cpu12_parts.specs.Whole.{after_plain}
-use Rattle.eval_code.specs.declared.layout.Layout.{Layout}
+use Rattle.eval_code.specs.declared.memory_map.MemoryMap.{MemoryMap}
 use Rattle.eval_code.specs.Items.{IsApart}
 use Rattle.cpu12_parts.specs.Touching.{IsIn, Each, IsBetween}
 use Rattle.eval_code.specs.Masks.{interrupt_masks}
@@ -21,11 +21,11 @@ use Rattle.eval_code.proofs.Sizes.{code_size}
 use Rattle.eval_code.proofs.steps.Decoding.{decode_same}
 use Rattle.cpu12_parts.proofs.Algebra.{Bounded, bounded_none, bounded_one, bounded_on, bounded_more}
 
--- what a run is under: the layout, memory where EVAL begins and the open flags, and SP, I and X as they stay
+-- what a run is under: the memory map, memory where EVAL begins and the open flags, and SP, I and X as they stay
 pub record Ctx : Type 0 where
   pub stays_fit : StaysFit
-  pub layout : Layout
-  pub apart : IsApart layout
+  pub memory_map : MemoryMap
+  pub apart : IsApart memory_map
   pub image : List ℕ
   pub flags : ℕ
   pub fits : flags < 2 ^ 8
@@ -36,8 +36,8 @@ pub record Ctx : Type 0 where
 pub record Here (c : Ctx) (p : ℕ) (i : Instr) : Type 0 where
   pub low : 0x2000 ≤ p
   pub high : p + 6 < 65536
-  pub above : c.layout.eval ≤ p
-  pub below : p + 6 ≤ c.layout.eval + 2432
+  pub above : c.memory_map.eval ≤ p
+  pub below : p + 6 ≤ c.memory_map.eval + 2432
   pub fits : FitsOperands i
   pub decoded : decode_at c.image p ≡ Ok i
 
@@ -73,10 +73,10 @@ pub between_of : (c : Ctx) (s : State) → Live c s → IsBetween s
 between_of c s l = record { off = l.off; size = l.size; bytes = l.bytes; fits = l.fits }
 
 -- an address of the code, and those that a fetch looks at
-pub code_in : (c : Ctx) (pc : ℕ) → c.layout.eval ≤ pc → pc + 6 ≤ c.layout.eval + 2432 → pc + 6 < 65536
-    → Each (IsIn (code_region c.layout)) (six_from pc)
+pub code_in : (c : Ctx) (pc : ℕ) → c.memory_map.eval ≤ pc → pc + 6 ≤ c.memory_map.eval + 2432 → pc + 6 < 65536
+    → Each (IsIn (code_region c.memory_map)) (six_from pc)
 code_in c pc a b h =
-    let at : (k : ℕ) → k ≤ 5 → IsIn (code_region c.layout) (plus pc k) = λ k le. (omega arith, omega arith) in (
+    let at : (k : ℕ) → k ≤ 5 → IsIn (code_region c.memory_map) (plus pc k) = λ k le. (omega arith, omega arith) in (
       (omega arith, omega arith),
       (
         at 1 (omega arith),
@@ -85,26 +85,26 @@ code_in c pc a b h =
     )
 
 -- what EVAL writes is RAM
-pub written_low : (l : Layout) (at : ℕ) → IsApart l → Writes l at → at < 0x1800
+pub written_low : (l : MemoryMap) (at : ℕ) → IsApart l → Writes l at → at < 0x1800
 written_low l at a (inl o) = omega (arith, a.outputs, a.slots, o.1)
 written_low l at a (inr (inl o)) = omega (arith, a.slots, o.1)
 written_low l at a (inr (inr o)) = absurd o
 
-pub writes_low : (l : Layout) (ws : List (ℕ × ℕ)) → IsApart l → Each (Writes l) (addresses ws) → WriteBelow 0x2000 ws
+pub writes_low : (l : MemoryMap) (ws : List (ℕ × ℕ)) → IsApart l → Each (Writes l) (addresses ws) → WriteBelow 0x2000 ws
 writes_low l [] a h = tt
 writes_low l (w ∷ ws) a h = ((let q = written_low l w.0 a h.0 in omega arith), writes_low l ws a h.1)
 
 -- one instruction on
 pub record Next (c : Ctx) (s t : State) (q : ℕ) : Type 0 where
-  pub step : IsEvalStep c.layout c.flags 0 s t
+  pub step : IsEvalStep c.memory_map c.flags 0 s t
   pub live : Live c t
   pub pc_is : t.regs.pc ≡ q
 
 -- a plain instruction of the code that touches what is owned alone
 pub next : (c : Ctx) (s : State) (p q : ℕ) (i : Instr) → Live c s → s.regs.pc ≡ p → Here c p i → is_plain i ≡ true
     → FitsOperands i
-    → Each (Reads c.layout) (read_by (act_of c.flags i s.regs) s.mem)
-    → Each (Writes c.layout) (addresses (effect c.flags i s.regs s.mem).writes)
+    → Each (Reads c.memory_map) (read_by (act_of c.flags i s.regs) s.mem)
+    → Each (Writes c.memory_map) (addresses (effect c.flags i s.regs s.mem).writes)
     → (effect c.flags i s.regs s.mem).regs.sp ≡ s.regs.sp
     → interrupt_masks (effect c.flags i s.regs s.mem).regs.ccr ≡ interrupt_masks s.regs.ccr
     → (effect c.flags i s.regs s.mem).regs.pc ≡ q
@@ -132,26 +132,26 @@ next c s p q i l ep h pl fo reads writes esp masks pc =
         fits = fit.0;
         stack = esp ∙ l.stack;
         masks = masks ∙ l.masks;
-        same = high_writes c.image s.mem e.writes (writes_low c.layout e.writes c.apart writes) l.same;
+        same = high_writes c.image s.mem e.writes (writes_low c.memory_map e.writes c.apart writes) l.same;
       };
       pc_is = pc;
     }
 
 -- executions of at most n instructions, with at most k parts beyond their first
 abbrev pub Goes : Ctx → ℕ → ℕ → State → State → Type 0
-Goes c = Bounded (IsEvalStep c.layout c.flags)
+Goes c = Bounded (IsEvalStep c.memory_map c.flags)
 
 pub goes_none : (c : Ctx) (s : State) → Goes c 0 0 s s
-goes_none c = bounded_none (IsEvalStep c.layout c.flags)
+goes_none c = bounded_none (IsEvalStep c.memory_map c.flags)
 
-pub goes_part : (c : Ctx) (d : ℕ) (s t : State) → IsEvalStep c.layout c.flags d s t → Goes c 1 d s t
-goes_part c = bounded_one (IsEvalStep c.layout c.flags)
+pub goes_part : (c : Ctx) (d : ℕ) (s t : State) → IsEvalStep c.memory_map c.flags d s t → Goes c 1 d s t
+goes_part c = bounded_one (IsEvalStep c.memory_map c.flags)
 
 pub goes_on : (c : Ctx) (n k m j : ℕ) (s t u : State) → Goes c n k s t → Goes c m j t u → Goes c (n + m) (k + j) s u
-goes_on c = bounded_on (IsEvalStep c.layout c.flags)
+goes_on c = bounded_on (IsEvalStep c.memory_map c.flags)
 
 pub goes_most : (c : Ctx) (n k m j : ℕ) (s t : State) → n ≤ m → k ≤ j → Goes c n k s t → Goes c m j s t
-goes_most c = bounded_more (IsEvalStep c.layout c.flags)
+goes_most c = bounded_more (IsEvalStep c.memory_map c.flags)
 
 pub goes_one : (c : Ctx) (s t : State) (q : ℕ) → Next c s t q → Goes c 1 0 s t
 goes_one c s t q h = goes_part c 0 s t h.step

@@ -55,12 +55,12 @@ module _ (text : List ℕ) (b : FunctionBlock) where
 -- ---- the block
 
 pub found_block : OffsetsAscend → SpelledTreesHaveBlocks
-found_block offsets_ascend text b small spelled sound =
+found_block offsets_ascend text b small spelled well_formed =
     let letters = str_to_ascii_lowercase text in
     let items = b.rules.rules.items in
     let few = few_within 0 (length text) (offsets (block_text (view b))) (offsets_ascend text (view b) spelled) in
-    let inputs = found_inputs letters b sound in
-    let outputs = found_outputs letters b sound in
+    let inputs = found_inputs letters b well_formed in
+    let outputs = found_outputs letters b well_formed in
     let rules = found_items (IsRuleOf letters b) items
     (found_rules letters b items (omega (arith, count-rules b, few, small))) in (
       record { inputs = inputs.0; outputs = outputs.0; rules = rules.0 },

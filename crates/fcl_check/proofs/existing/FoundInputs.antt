@@ -1,4 +1,4 @@
--- A sound section of an input makes one.
+-- A well-formed section of an input makes one.
 use Rattle.std.proofs.Common.{◌≡◌, true, not, [], Option, Some, None, option_map, refl, ap, sym}
 use Rattle.std.specs.List.{filter, take_while}
 use Rattle.fz_num.specs.declared.dec.Dec.{Dec}
@@ -11,7 +11,7 @@ use Rattle.fcl_check.specs.Loaded.{IsInputOf, IsTermOf, abscissa_of, input_range
 use Rattle.fcl_check.specs.Names.{terms_of}
 use Rattle.fcl_check.specs.Places.{at_if, drop_while, first, last}
 use Rattle.fcl_check.specs.Sections.{has_one, has_shape, has_zero, points_of, x_of}
-use Rattle.fcl_check.specs.Sound.{IsSoundFuzzify}
+use Rattle.fcl_check.specs.WellFormed.{IsWellFormedFuzzify}
 use Rattle.fcl_check.proofs.lists.Elements.{all_weaker}
 use Rattle.fcl_check.proofs.faultless.Faultless.{nowhere, shaped}
 use Rattle.fcl_check.proofs.existing.FoundItems.{found_items, last_there}
@@ -46,10 +46,11 @@ found_term t shape =
 
 -- ---- inputs
 
-pub found_input : (s : Fuzzify) → IsSoundFuzzify s → (x : Input) × IsInputOf s x
-found_input s sound =
-    let range = found_value (input_range s) (input_range_there s sound.some) in
-    let shaped_terms = nowhere (λ (t : Term). at_if (not (has_shape (points_of t))) t.at) (terms_of s) sound.shaped in
+pub found_input : (s : Fuzzify) → IsWellFormedFuzzify s → (x : Input) × IsInputOf s x
+found_input s well_formed =
+    let range = found_value (input_range s) (input_range_there s well_formed.some) in
+    let shaped_terms = nowhere (λ (t : Term). at_if (not (has_shape (points_of t))) t.at) (terms_of s)
+    well_formed.shaped in
     let terms = found_items IsTermOf (terms_of s)
     (all_weaker (λ (t : Term). at_if (not (has_shape (points_of t))) t.at ≡ [])
     (λ (t : Term). (z : Trapezoid) × IsTermOf t z) (λ t none. found_term t (shaped (has_shape (points_of t)) t.at none))

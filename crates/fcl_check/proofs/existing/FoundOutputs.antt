@@ -1,4 +1,4 @@
--- A sound section of an output makes one.
+-- A well-formed section of an output makes one.
 use Rattle.std.proofs.Common.{◌≡◌, List, [], ◌∷◌, Option, Some, None, map, option_map, refl, ap, sym, ◌∙◌}
 use Rattle.fz_num.specs.declared.dec.Dec.{Dec}
 use Rattle.fuzzy_meaning.specs.declared.block.Output.{Output}
@@ -8,7 +8,7 @@ use Rattle.fcl_syntax.specs.declared.tree.Singleton.{Singleton}
 use Rattle.fcl_check.specs.Loaded.{IsOutputOf, default_number, number_of, output_range}
 use Rattle.fcl_check.specs.Names.{singletons_of}
 use Rattle.fcl_check.specs.Sections.{default_of, fallback_number, value}
-use Rattle.fcl_check.specs.Sound.{IsSoundDefuzzify}
+use Rattle.fcl_check.specs.WellFormed.{IsWellFormedDefuzzify}
 use Rattle.fcl_check.proofs.faultless.Present.{default_there, found_value, output_range_there}
 
 abbrev pub decimal_of : SignedNumber → Dec
@@ -24,10 +24,10 @@ singleton_numbers : (ts : List Singleton)
 singleton_numbers [] = refl
 singleton_numbers (t ∷ ts) = ap (◌∷◌ (value t.value)) (singleton_numbers ts)
 
-pub found_output : (s : Defuzzify) → IsSoundDefuzzify s → (y : Output) × IsOutputOf s y
-found_output s sound =
-    let range = found_value (output_range s) (output_range_there s sound.some) in
-    let d = found_value (default_of s) (default_there s sound.complete) in
+pub found_output : (s : Defuzzify) → IsWellFormedDefuzzify s → (y : Output) × IsOutputOf s y
+found_output s well_formed =
+    let range = found_value (output_range s) (output_range_there s well_formed.some) in
+    let d = found_value (default_of s) (default_there s well_formed.complete) in
     let number = fallback_number d.0.value in (
       record {
         lo = record { 0 = range.0.0 };

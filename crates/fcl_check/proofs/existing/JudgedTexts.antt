@@ -19,17 +19,17 @@ module _ (valid : SpelledBlocksAreValid) (have : SpelledTreesHaveBlocks) (text :
       → first_fault (str_to_ascii_lowercase text) b ≡ o
       → ((f : LoadFault) × HasLoadFault text f) ⊎ ((block : Block) × SpellsBlock text block)
   judged_tree b spelled (Some f) is = inl (f, record { tree = b; spelled = spelled; first = is })
-  judged_tree b spelled None sound =
-      let found = have text b small spelled sound in
+  judged_tree b spelled None well_formed =
+      let found = have text b small spelled well_formed in
       inr (
         found.0,
         record {
           tree = b;
           spelled = spelled;
-          sound = sound;
+          well_formed = well_formed;
           loaded = found.1;
           valid =
-              valid text b found.0 small spelled sound found.1;
+              valid text b found.0 small spelled well_formed found.1;
         },
       )
 
@@ -55,7 +55,7 @@ module _ (trees_are_one : TreesAreOne) (text : List ℕ) where
   no_block : (f : LoadFault) (block : Block) → HasLoadFault text f → SpellsBlock text block → ⊥
   no_block f block p q =
       let faultless : ◌≡◌ {A = Option LoadFault} (Some f) None =
-      sym p.first ∙ same_spelled p.tree q.tree p.spelled q.spelled ∙ q.sound in
+      sym p.first ∙ same_spelled p.tree q.tree p.spelled q.spelled ∙ q.well_formed in
       cc
 
 pub one_load_fault : TreesAreOne → LoadFaultsAreOne

@@ -21,7 +21,7 @@ use Rattle.fcl_check.specs.Faults.{wrong_side}
 use Rattle.fcl_check.specs.Names.{as_defuzzify, as_fuzzify, defuzzify_of, fuzzify_of, is_direction, is_named, letters}
 use Rattle.fcl_check.specs.Names.{section_of, section_name, term_number}
 use Rattle.fcl_check.specs.Places.{at_if, at_some, first}
-use Rattle.fcl_check.specs.Sound.{IsKnown, IsSoundRule}
+use Rattle.fcl_check.specs.WellFormed.{IsKnown, IsWellFormedRule}
 use Rattle.fcl_check.specs.Sections.{bad_range, falling_points, incomplete, numbers_outside, points_outside}
 use Rattle.fcl_check.specs.Sections.{shapeless_terms, terms_over_limit, without_terms}
 
@@ -112,9 +112,9 @@ module _ (text : List ℕ) (b : FunctionBlock) where
       let sided = no_items (mistaken text b side (v x)) _ k in
       (known side (v x) (t x) here.0 sided.0, all_known side v t xs here.1 sided.1)
 
-  sound_rule : (r : Rule) → unknown_in text b r ≡ [] → mistaken_in text b r ≡ [] → weight_outside r ≡ []
-      → IsSoundRule text b r
-  sound_rule r h k w =
+  well_formed_rule : (r : Rule) → unknown_in text b r ≡ [] → mistaken_in text b r ≡ [] → weight_outside r ≡ []
+      → IsWellFormedRule text b r
+  well_formed_rule r h k w =
       let pairs = condition_pairs r in
       let ends = conclusions_of r in
       let here = no_items (flat_map (λ (p : Pair). unknown_pair text b Input p.variable p.term) pairs) _ h in
@@ -126,19 +126,19 @@ module _ (text : List ℕ) (b : FunctionBlock) where
         weight = w;
       }
 
-  all_sound : (rs : List Rule) → flat_map (unknown_in text b) rs ≡ [] → flat_map (mistaken_in text b) rs ≡ []
+  all_well_formed : (rs : List Rule) → flat_map (unknown_in text b) rs ≡ [] → flat_map (mistaken_in text b) rs ≡ []
       → flat_map weight_outside rs ≡ []
-      → AllByRecursion (IsSoundRule text b) rs
-  all_sound [] h k w = tt
-  all_sound (r ∷ rs) h k w =
+      → AllByRecursion (IsWellFormedRule text b) rs
+  all_well_formed [] h k w = tt
+  all_well_formed (r ∷ rs) h k w =
       let here = no_items (unknown_in text b r) _ h in
       let sided = no_items (mistaken_in text b r) _ k in
       let weighed = no_items (weight_outside r) _ w in
-      (sound_rule r here.0 sided.0 weighed.0, all_sound rs here.1 sided.1 weighed.1)
+      (well_formed_rule r here.0 sided.0 weighed.0, all_well_formed rs here.1 sided.1 weighed.1)
 
   -- ---- sections
 
-  pub record IsSoundPart (p : Part) : Type 0 where
+  pub record IsWellFormedPart (p : Part) : Type 0 where
     pub known : unknown_section text b p ≡ []
     pub some : without_terms p ≡ []
     pub few : terms_over_limit p ≡ []
@@ -168,8 +168,8 @@ module _ (text : List ℕ) (b : FunctionBlock) where
     pub missing : missing_part text b ≡ []
 
   pub faultless : first_fault text b ≡ None → IsFaultless
-  faultless sound =
-      let none = no_kind (kinds text b) sound in
+  faultless well_formed =
+      let none = no_kind (kinds text b) well_formed in
       record {
         once = none.0;
         names = none.1.0;
@@ -185,37 +185,40 @@ module _ (text : List ℕ) (b : FunctionBlock) where
         missing = none.1.1.1.1.1.1.1.1.1.1.1.0;
       }
 
-  module _ (sound : IsFaultless) where
+  module _ (well_formed : IsFaultless) where
     -- the section of a name
-    pub sound_part : (ls : List ℕ) (p : Part) → section_of text b ls ≡ Some p → IsSoundPart p
-    sound_part ls p found =
+    pub part_well_formed : (ls : List ℕ) (p : Part) → section_of text b ls ≡ Some p → IsWellFormedPart p
+    part_well_formed ls p found =
         let parts = b.parts.items in
         let test = λ (q : Part). is_named text ls (section_name q) in
-        let names = no_items (flat_map (unknown_section text b) parts) _ sound.names in
-        let counts = no_items (flat_map terms_over_limit parts) _ (no_items _ _ sound.counts).1 in
-        let sides = no_items (flat_map (mistaken_section text b) parts) _ sound.sides in
-        let whole = no_items (flat_map incomplete parts) _ (no_items _ _ sound.missing).1 in
+        let names = no_items (flat_map (unknown_section text b) parts) _ well_formed.names in
+        let counts = no_items (flat_map terms_over_limit parts) _ (no_items _ _ well_formed.counts).1 in
+        let sides = no_items (flat_map (mistaken_section text b) parts) _ well_formed.sides in
+        let whole = no_items (flat_map incomplete parts) _ (no_items _ _ well_formed.missing).1 in
         record {
           known = not_at (unknown_section text b) test parts p names.0 found;
-          some = not_at without_terms test parts p sound.terms found;
+          some = not_at without_terms test parts p well_formed.terms found;
           few = not_at terms_over_limit test parts p counts.0 found;
-          ascending = not_at falling_points test parts p sound.falls found;
-          shaped = not_at shapeless_terms test parts p sound.shapes found;
-          inside = not_at points_outside test parts p sound.points found;
-          range = not_at (bad_range (is_declared_as text b Input)) test parts p sound.ranges found;
-          numbers = not_at numbers_outside test parts p sound.numbers found;
+          ascending = not_at falling_points test parts p well_formed.falls found;
+          shaped = not_at shapeless_terms test parts p well_formed.shapes found;
+          inside = not_at points_outside test parts p well_formed.points found;
+          range = not_at (bad_range (is_declared_as text b Input)) test parts p well_formed.ranges found;
+          numbers = not_at numbers_outside test parts p well_formed.numbers found;
           sided = not_at (mistaken_section text b) test parts p sides.0 found;
           complete = not_at incomplete test parts p whole.0 found;
         }
 
-    pub sound_input : (ls : List ℕ) (s : Fuzzify) → fuzzify_of text b ls ≡ Some s → IsSoundPart (part.Fuzzify s)
-    sound_input ls s found = sound_part ls (part.Fuzzify s) (fuzzify_found (section_of text b ls) s found)
+    pub well_formed_input : (ls : List ℕ) (s : Fuzzify) → fuzzify_of text b ls ≡ Some s
+        → IsWellFormedPart (part.Fuzzify s)
+    well_formed_input ls s found = part_well_formed ls (part.Fuzzify s) (fuzzify_found (section_of text b ls) s found)
 
-    pub sound_output : (ls : List ℕ) (s : Defuzzify) → defuzzify_of text b ls ≡ Some s → IsSoundPart (part.Defuzzify s)
-    sound_output ls s found = sound_part ls (part.Defuzzify s) (defuzzify_found (section_of text b ls) s found)
+    pub well_formed_output : (ls : List ℕ) (s : Defuzzify) → defuzzify_of text b ls ≡ Some s
+        → IsWellFormedPart (part.Defuzzify s)
+    well_formed_output ls s found = part_well_formed ls (part.Defuzzify s)
+        (defuzzify_found (section_of text b ls) s found)
 
-    pub sound_rules : AllByRecursion (IsSoundRule text b) b.rules.rules.items
-    sound_rules =
-        let names = no_items (flat_map (unknown_section text b) b.parts.items) _ sound.names in
-        let sides = no_items (flat_map (mistaken_section text b) b.parts.items) _ sound.sides in
-        all_sound b.rules.rules.items names.1 sides.1 sound.weights
+    pub well_formed_rules : AllByRecursion (IsWellFormedRule text b) b.rules.rules.items
+    well_formed_rules =
+        let names = no_items (flat_map (unknown_section text b) b.parts.items) _ well_formed.names in
+        let sides = no_items (flat_map (mistaken_section text b) b.parts.items) _ well_formed.sides in
+        all_well_formed b.rules.rules.items names.1 sides.1 well_formed.weights

@@ -30,9 +30,9 @@ use Rattle.fcl_check.specs.Places.{at_each, at_if, drop_while, first}
 use Rattle.fcl_check.specs.Sections.{Ends, default_of, defuzzy_range, fallback_number, fuzzy_range, has_one, has_shape}
 use Rattle.fcl_check.specs.Sections.{has_zero, hull_of, incomplete, method_line, number_line, points_of, value}
 use Rattle.fcl_check.specs.Sections.{without_terms, x_of}
-use Rattle.fcl_check.specs.Sound.{HasSection, IsSoundDefuzzify, IsSoundFuzzify}
-use Rattle.fcl_check.proofs.faultless.Faultless.{IsSoundPart, faultless, no_items, no_place, nowhere, shaped}
-use Rattle.fcl_check.proofs.faultless.Faultless.{sound_part}
+use Rattle.fcl_check.specs.WellFormed.{HasSection, IsWellFormedDefuzzify, IsWellFormedFuzzify}
+use Rattle.fcl_check.proofs.faultless.Faultless.{IsWellFormedPart, faultless, no_items, no_place, nowhere, shaped}
+use Rattle.fcl_check.proofs.faultless.Faultless.{part_well_formed}
 use Rattle.fcl_check.proofs.lists.Pushes.{drop_while-all, none-passes}
 
 pub mapped_there : {X Y : Type 0} (f : X → Y) (o : Option X) (p : Option Y) → option_map f o ≡ p → IsSome p → IsSome o
@@ -180,7 +180,7 @@ module _ {X : Type 0} (same : X → X → Bool) (at : X → ℕ) (itself : (x : 
       let other = (neither_test (same (get_or xs i d) x) _ (not-before (x ∷ before) xs i d rest (omega arith))).0 in
       rw other (first-same (x ∷ before) xs i d rest (omega arith))
 
-module _ (text : List ℕ) (b : FunctionBlock) (sound : first_fault text b ≡ None) where
+module _ (text : List ℕ) (b : FunctionBlock) (well_formed : first_fault text b ≡ None) where
   module _ (i : ℕ) (d : Declared) (within : i < length (declared_in b)) where
     abbrev here : Declared
     here = get_or (declared_in b) i d
@@ -188,7 +188,7 @@ module _ (text : List ℕ) (b : FunctionBlock) (sound : first_fault text b ≡ N
     direction_there : direction text b here.1 ≡ Some here.0
     direction_there =
         let once = (no_items (repeated (same_declared text b) (λ (e : Declared). e.1.at) (declared_in b)) _
-        (faultless text b sound).once).0 in
+        (faultless text b well_formed).once).0 in
         let found = first-same (same_declared text b) (λ (e : Declared). e.1.at) (λ e.
         (bytes_eq-Decides (letters text e.1) (letters text e.1)).1 refl) [] (declared_in b) i d once within in
         ap (option_map (λ (e : Declared). e.0)) found
@@ -196,7 +196,7 @@ module _ (text : List ℕ) (b : FunctionBlock) (sound : first_fault text b ≡ N
     section_there : IsSome (section_of text b (letters text here.1))
     section_there =
         let none = All-from_recursion (λ (e : Declared). without_section text b e ≡ []) (declared_in b)
-        (nowhere (without_section text b) (declared_in b) (no_items _ _ (faultless text b sound).missing).0) i
+        (nowhere (without_section text b) (declared_in b) (no_items _ _ (faultless text b well_formed).missing).0) i
         d within in
         elim (section_of text b (letters text here.1)) as (λ o. at_if (is_none o) here.1.at ≡ [] → IsSome o)
         [ None ↦ λ h. absurd cc | Some p ↦ λ h. refl ] none
@@ -214,40 +214,41 @@ module _ (text : List ℕ) (b : FunctionBlock) (sound : first_fault text b ≡ N
     same_side : (p : Part) → section_of text b (letters text here.1) ≡ Some p
         → is_direction (section_side p) here.0 ≡ true
     same_side p found =
-        let sided = (sound_part text b (faultless text b sound) (letters text here.1) p found).sided in
+        let sided = (part_well_formed text b (faultless text b well_formed) (letters text here.1) p found).sided in
         shaped (is_direction (section_side p) here.0) (section_name p).at
         (rw (same_direction p found) at (rw (sided_section text b p) at sided))
 
-  -- the sound section of each declared variable of a side
-  module _ {S : Type 0} (side : Direction) (as_section : Part → Option S) (IsSound : S → Type 0)
-      (of_side : (p : Part) → section_side p ≡ side → IsSoundPart text b p
-      → (s : S) × (as_section p ≡ Some s) × IsSound s) where
-    side_sections : All (HasSection side as_section IsSound text b) (declared_in b)
+  -- the well-formed section of each declared variable of a side
+  module _ {S : Type 0} (side : Direction) (as_section : Part → Option S) (IsWellFormed : S → Type 0)
+      (of_side : (p : Part) → section_side p ≡ side → IsWellFormedPart text b p
+      → (s : S) × (as_section p ≡ Some s) × IsWellFormed s) where
+    side_sections : All (HasSection side as_section IsWellFormed text b) (declared_in b)
     side_sections i d within is =
         let ls = letters text (here i d within).1 in
         let p = found_value (section_of text b ls) (section_there i d within) in
         let same : section_side p.0 ≡ side =
         sym (as_side (section_side p.0) (here i d within).0 (same_side i d within p.0 p.1))
         ∙ as_side side (here i d within).0 is in
-        let s = of_side p.0 same (sound_part text b (faultless text b sound) ls p.0 p.1) in
+        let s = of_side p.0 same (part_well_formed text b (faultless text b well_formed) ls p.0 p.1) in
         (s.0, ap (option_and_then as_section) p.1 ∙ s.1, s.2)
 
-  pub input_sections : All (HasSection Input as_fuzzify IsSoundFuzzify text b) (declared_in b)
-  input_sections = side_sections Input as_fuzzify IsSoundFuzzify of_input
+  pub input_sections : All (HasSection Input as_fuzzify IsWellFormedFuzzify text b) (declared_in b)
+  input_sections = side_sections Input as_fuzzify IsWellFormedFuzzify of_input
     where
-      of_input : (p : Part) → section_side p ≡ Input → IsSoundPart text b p
-          → (s : Fuzzify) × (as_fuzzify p ≡ Some s) × IsSoundFuzzify s
-      of_input (part.Fuzzify s) is part_sound = (s, refl, record { some = part_sound.some; shaped = part_sound.shaped })
-      of_input (part.Defuzzify s) is part_sound = absurd cc
+      of_input : (p : Part) → section_side p ≡ Input → IsWellFormedPart text b p
+          → (s : Fuzzify) × (as_fuzzify p ≡ Some s) × IsWellFormedFuzzify s
+      of_input (part.Fuzzify s) is well_formed_part =
+          (s, refl, record { some = well_formed_part.some; shaped = well_formed_part.shaped })
+      of_input (part.Defuzzify s) is well_formed_part = absurd cc
 
-  pub output_sections : All (HasSection Output as_defuzzify IsSoundDefuzzify text b) (declared_in b)
-  output_sections = side_sections Output as_defuzzify IsSoundDefuzzify of_output
+  pub output_sections : All (HasSection Output as_defuzzify IsWellFormedDefuzzify text b) (declared_in b)
+  output_sections = side_sections Output as_defuzzify IsWellFormedDefuzzify of_output
     where
-      of_output : (p : Part) → section_side p ≡ Output → IsSoundPart text b p
-          → (s : Defuzzify) × (as_defuzzify p ≡ Some s) × IsSoundDefuzzify s
-      of_output (part.Fuzzify s) is part_sound = absurd cc
-      of_output (part.Defuzzify s) is part_sound =
-          (s, refl, record { some = part_sound.some; complete = part_sound.complete })
+      of_output : (p : Part) → section_side p ≡ Output → IsWellFormedPart text b p
+          → (s : Defuzzify) × (as_defuzzify p ≡ Some s) × IsWellFormedDefuzzify s
+      of_output (part.Fuzzify s) is well_formed_part = absurd cc
+      of_output (part.Defuzzify s) is well_formed_part =
+          (s, refl, record { some = well_formed_part.some; complete = well_formed_part.complete })
 
 -- ---- the section of a declared variable that is read
 
@@ -256,11 +257,14 @@ pub part_there : {S : Type 0} (f : Part → Option S) (o : Option Part) (s : S) 
 part_there f None s h = absurd cc
 part_there f (Some p) s h = (p, refl, h)
 
-pub section_read : {S : Type 0} (side : Direction) (as_section : Part → Option S) (IsSound : S → Type 0) (text : List ℕ)
+pub section_read : {S : Type 0} (side : Direction) (as_section : Part → Option S) (IsWellFormed : S → Type 0)
+    (text : List ℕ)
     (b : FunctionBlock)
-    → All (HasSection side as_section IsSound text b) (declared_in b) → (read : List Declared) (i : ℕ) (d : Declared)
+    → All (HasSection side as_section IsWellFormed text b) (declared_in b) → (read : List Declared) (i : ℕ)
+    (d : Declared)
     → read ≡ declared_in b
     → i < length read → is_direction side (get_or read i d).0 ≡ true
-    → (s : S) × (option_and_then as_section (section_of text b (letters text (get_or read i d).1)) ≡ Some s) × IsSound s
-section_read side as_section IsSound text b have read i d same within is =
-    subst (All (HasSection side as_section IsSound text b)) (sym same) have i d within is
+    → (s : S) × (option_and_then as_section (section_of text b (letters text (get_or read i d).1)) ≡ Some s)
+    × IsWellFormed s
+section_read side as_section IsWellFormed text b have read i d same within is =
+    subst (All (HasSection side as_section IsWellFormed text b)) (sym same) have i d within is

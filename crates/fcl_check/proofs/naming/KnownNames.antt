@@ -20,10 +20,10 @@ use Rattle.fcl_check.specs.Loaded.{or_zero}
 use Rattle.fcl_check.specs.Names.{declared_as, declared_in, defuzzify_of, fuzzify_of, letters, number_in}
 use Rattle.fcl_check.specs.Names.{singleton_names, singletons_of, term_names, term_number, terms_of, variable_number}
 use Rattle.fcl_check.specs.Places.{at_each}
-use Rattle.fcl_check.specs.Sound.{IsKnown}
+use Rattle.fcl_check.specs.WellFormed.{IsKnown}
 use Rattle.fcl_check.proofs.lists.Counts.{few_items, few_names, over}
 use Rattle.fcl_check.proofs.lists.Elements.{parts_of}
-use Rattle.fcl_check.proofs.faultless.Faultless.{faultless, no_items, sound_input, sound_output}
+use Rattle.fcl_check.proofs.faultless.Faultless.{faultless, no_items, well_formed_input, well_formed_output}
 use Rattle.fcl_check.proofs.naming.NumberedNames.{number_within}
 use Rattle.fcl_check.proofs.faultless.Present.{as_side}
 
@@ -65,10 +65,10 @@ few_in : {X : Type 0} (text : List ℕ) (ls : List ℕ) (names : X → List Name
 few_in text ls names None n few e = absurd cc
 few_in text ls names (Some x) n few e = omega (arith, few x refl, (number_within text (names x) ls n e).1)
 
-module _ (text : List ℕ) (b : FunctionBlock) (sound : first_fault text b ≡ None) where
+module _ (text : List ℕ) (b : FunctionBlock) (well_formed : first_fault text b ≡ None) where
   variable_few : (side : Direction) (ls : List ℕ) → or_zero (variable_number text b side ls) ≤ 8
   variable_few side ls =
-      let many = no_items (at_each over [] (declared_in b)) _ (faultless text b sound).counts in
+      let many = no_items (at_each over [] (declared_in b)) _ (faultless text b well_formed).counts in
       let few = few_names side [] (declared_in b) (omega arith) many.0 in
       or_zero-le (variable_number text b side ls) 8
       (λ k e. omega (arith, (number_within text (declared_as side b) ls k e).1, few, most-le side))
@@ -76,14 +76,15 @@ module _ (text : List ℕ) (b : FunctionBlock) (sound : first_fault text b ≡ N
   pub term_few : (side : Direction) (ls ts : List ℕ) (n : ℕ) → term_number text b side ls ts ≡ Some n → n ≤ 15
   term_few Input ls ts n e = few_in text ts term_names (fuzzify_of text b ls) n (λ s h. omega (
     arith,
-    few_items 15 (λ (t : Term). t.name.at) (terms_of s) (sound_input text b (faultless text b sound) ls s h).few,
+    few_items 15 (λ (t : Term). t.name.at) (terms_of s) (well_formed_input text b (faultless text b well_formed) ls s
+        h).few,
     length-map (terms_of s) (λ (t : Term). t.name),
   )) e
   term_few Output ls ts n e = few_in text ts singleton_names (defuzzify_of text b ls) n
       (λ s h. omega (
         arith,
         few_items 15 (λ (t : Singleton). t.name.at) (singletons_of s)
-            (sound_output text b (faultless text b sound) ls s h).few,
+            (well_formed_output text b (faultless text b well_formed) ls s h).few,
         length-map (singletons_of s) (λ (t : Singleton). t.name),
       )) e
 

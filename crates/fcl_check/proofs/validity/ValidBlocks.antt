@@ -28,12 +28,19 @@ use Rattle.fcl_check.specs.Names.{declared_as, declared_in, letters}
 use Rattle.fcl_check.specs.Places.{at_each}
 use Rattle.fcl_check.specs.Sections.{incomplete, terms_over_limit}
 use Rattle.fcl_check.specs.Texts.{SpelledBlocksAreValid}
-use Rattle.fcl_check.specs.Sound.{IsSoundRule}
+use Rattle.fcl_check.specs.WellFormed.{IsWellFormedRule}
 use Rattle.fcl_check.proofs.trees.ConditionSizes.{few_within}
 use Rattle.fcl_check.proofs.lists.Counts.{few_items, few_names, over, some_at_all, some_names}
 use Rattle.fcl_check.proofs.lists.Elements.{all_images, all_related}
-use Rattle.fcl_check.proofs.faultless.Faultless.{IsFaultless, faultless, no_items, no_place, sound_input, sound_output}
-use Rattle.fcl_check.proofs.faultless.Faultless.{sound_rules}
+use Rattle.fcl_check.proofs.faultless.Faultless.{
+  IsFaultless,
+  faultless,
+  no_items,
+  no_place,
+  well_formed_input,
+  well_formed_output,
+}
+use Rattle.fcl_check.proofs.faultless.Faultless.{well_formed_rules}
 use Rattle.fcl_check.proofs.trees.RuleSizes.{IsShallow, clean-rules, count-rules, rule_sizes, shallow_rules}
 use Rattle.fcl_check.proofs.validity.ValidInputs.{valid_input}
 use Rattle.fcl_check.proofs.validity.ValidOutputs.{valid_output}
@@ -47,35 +54,35 @@ all_three false q r h = absurd cc
 
 -- ---- the block
 
-module _ (text : List ℕ) (b : FunctionBlock) (block : Block) (sound : IsFaultless text b)
+module _ (text : List ℕ) (b : FunctionBlock) (block : Block) (well_formed : IsFaultless text b)
     (of : IsBlockOf text b block) where
   named_input : (n : Name) (x : Input) → IsInputNamed text b n x → IsValidInput x
   named_input n x named =
       let s : Fuzzify = named.0 in
-      valid_input text b s x (sound_input text b sound (letters text n) s named.1) named.2
+      valid_input text b s x (well_formed_input text b well_formed (letters text n) s named.1) named.2
 
   named_output : (n : Name) (y : Output) → IsOutputNamed text b n y → IsValidOutput y
   named_output n y named =
       let s : Defuzzify = named.0 in
-      valid_output text b s y (sound_output text b sound (letters text n) s named.1) named.2
+      valid_output text b s y (well_formed_output text b well_formed (letters text n) s named.1) named.2
 
   sized_block : All IsShallow block.rules → sum_by rule_size block.rules ≤ 1048576 → IsValid block
   sized_block deep small =
       let rules = b.rules.rules.items in
       let ins = declared_as side.Input b in
       let outs = declared_as side.Output b in
-      let missing = no_items (flat_map (without_section text b) (declared_in b)) _ sound.missing in
+      let missing = no_items (flat_map (without_section text b) (declared_in b)) _ well_formed.missing in
       let whole = all_three (has_direction text b side.Input) (has_direction text b side.Output)
       (is_none (slice_get rules 0))
       (no_place (not (is_whole text b)) b.end (no_items (flat_map incomplete b.parts.items) _ missing.1).1) in
-      let many = no_items (at_each over [] (declared_in b)) _ sound.counts in
+      let many = no_items (at_each over [] (declared_in b)) _ well_formed.counts in
       let long_ins = AllZip-long (IsInputNamed text b) ins block.inputs of.inputs in
       let long_outs = AllZip-long (IsOutputNamed text b) outs block.outputs of.outputs in
       let long_rules = AllZip-long (IsRuleOf text b) rules block.rules of.rules in
       let valid_rules = All-from_recursion (λ q. IsShallow q → IsValidRule block q) block.rules
-      (all_related (IsSoundRule text b) (IsRuleOf text b) (λ q. IsShallow q → IsValidRule block q)
+      (all_related (IsWellFormedRule text b) (IsRuleOf text b) (λ q. IsShallow q → IsValidRule block q)
       (valid_rule text b block of) rules block.rules
-      (sound_rules text b sound) of.rules) in
+      (well_formed_rules text b well_formed) of.rules) in
       record {
         some_input = omega (arith, long_ins, some_names side.Input (declared_in b) whole.0);
         few_inputs = omega (arith, long_ins, few_names side.Input [] (declared_in b) (omega arith) many.0);
@@ -99,26 +106,26 @@ module _ (text : List ℕ) (b : FunctionBlock) (block : Block) (sound : IsFaultl
 pub valid_block : (text : List ℕ) (b : FunctionBlock) (block : Block) → first_fault text b ≡ None
     → IsBlockOf text b block → All IsShallow block.rules
     → sum_by rule_size block.rules ≤ 1048576 → IsValid block
-valid_block text b block sound of = sized_block text b block (faultless text b sound) of
+valid_block text b block well_formed of = sized_block text b block (faultless text b well_formed) of
 
 pub spelled_blocks : OffsetsAscend → SpelledBlocksAreValid
-spelled_blocks offsets_ascend text b block small spelled sound of =
+spelled_blocks offsets_ascend text b block small spelled well_formed of =
     let letters = str_to_ascii_lowercase text in
     let rules = b.rules.rules.items in
     let few = few_within 0 (length text) (offsets (block_text (view b))) (offsets_ascend text (view b) spelled) in
     let sizes = rule_sizes letters b rules block.rules of.rules in
     let deep = shallow_rules letters b rules block.rules (clean-rules b spelled.spells.clean) of.rules in
-    valid_block letters b block sound of deep (omega (arith, sizes, count-rules b, few, small))
+    valid_block letters b block well_formed of deep (omega (arith, sizes, count-rules b, few, small))
 
 -- a tree that is kept has a text, and its blocks keep what the law gives to the blocks of that text
 pub kept_block : SpelledBlocksAreValid → (letters : List ℕ) (b : FunctionBlock) (block : Block)
     → ∥ IsSpelled letters b ∥₁ → first_fault letters b ≡ None
     → IsBlockOf letters b block → IsValid block
-kept_block valid letters b block kept sound of =
+kept_block valid letters b block kept well_formed of =
     let limits : All IsShallow block.rules × (sum_by rule_size block.rules ≤ 1048576) =
     ∥∥₁_elim kept (hlevel props) (λ (s : IsSpelled letters b).
     let whole : IsValid block =
-    valid s.text b block s.small s.spelled (subst (λ (l : List ℕ). first_fault l b ≡ None) s.letters_are sound)
+    valid s.text b block s.small s.spelled (subst (λ (l : List ℕ). first_fault l b ≡ None) s.letters_are well_formed)
     (subst (λ (l : List ℕ). IsBlockOf l b block) s.letters_are of) in
     (λ k d h. (whole.rules k d h).deep, whole.size)) in
-    valid_block letters b block sound of limits.0 limits.1
+    valid_block letters b block well_formed of limits.0 limits.1

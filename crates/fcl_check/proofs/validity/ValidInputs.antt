@@ -23,7 +23,7 @@ use Rattle.fcl_check.specs.Sections.{Ends, abscissas, bad_fuzzy_range, ends_of, 
 use Rattle.fcl_check.specs.Sections.{hull_of, is_empty_range, outside, outside_in, points_of, x_of}
 use Rattle.fcl_check.proofs.lists.Counts.{few_items, some_item}
 use Rattle.fcl_check.proofs.lists.Elements.{all_related, all_unmapped, all_weaker, parts_of}
-use Rattle.fcl_check.proofs.faultless.Faultless.{IsSoundPart, known_side, no_items, no_place, nowhere, shaped}
+use Rattle.fcl_check.proofs.faultless.Faultless.{IsWellFormedPart, known_side, no_items, no_place, nowhere, shaped}
 use Rattle.fcl_check.proofs.ranges.Ranges.{AllIn, In, all_inside, hull-over, not_empty}
 use Rattle.fcl_check.proofs.ranges.Scales.{input_range-in}
 use Rattle.fcl_check.proofs.validity.ValidTerms.{valid_term}
@@ -62,7 +62,7 @@ range_of s (Some r) e is inside range =
 -- ---- the input
 
 -- what is known of each term of a section without faults
-record IsSoundTerm (e : Ends) (t : Term) : Type 0 where
+record IsWellFormedTerm (e : Ends) (t : Term) : Type 0 where
   falls : falling_in t ≡ []
   shape : has_shape (points_of t) ≡ true
   inside : AllIn e (points_of t)
@@ -70,38 +70,41 @@ record IsSoundTerm (e : Ends) (t : Term) : Type 0 where
 abbrev unshaped : Term → List ℕ
 unshaped t = at_if (not (has_shape (points_of t))) t.at
 
-sound_terms : (e : Ends) (ts : List Term) → flat_map falling_in ts ≡ [] → flat_map unshaped ts ≡ [] → AllTermsIn e ts
-    → AllByRecursion (IsSoundTerm e) ts
-sound_terms e [] falls shapes inside = tt
-sound_terms e (t ∷ ts) falls shapes inside =
+well_formed_terms : (e : Ends) (ts : List Term) → flat_map falling_in ts ≡ [] → flat_map unshaped ts ≡ []
+    → AllTermsIn e ts
+    → AllByRecursion (IsWellFormedTerm e) ts
+well_formed_terms e [] falls shapes inside = tt
+well_formed_terms e (t ∷ ts) falls shapes inside =
     let fall = no_items (falling_in t) _ falls in
     let shape = no_items (unshaped t) _ shapes in (
       record { falls = fall.0; shape = shaped (has_shape (points_of t)) t.at shape.0; inside = inside.0 },
-      sound_terms e ts fall.1 shape.1 inside.1,
+      well_formed_terms e ts fall.1 shape.1 inside.1,
     )
 
-valid_one : (lo hi : Dec) (t : Term) (z : Trapezoid) → IsSoundTerm (lo.0, hi.0) t → IsTermOf t z → IsValidTerm lo hi z
-valid_one lo hi t z sound of = valid_term lo hi z t of sound.falls sound.shape sound.inside
+valid_one : (lo hi : Dec) (t : Term) (z : Trapezoid) → IsWellFormedTerm (lo.0, hi.0) t → IsTermOf t z
+    → IsValidTerm lo hi z
+valid_one lo hi t z well_formed of = valid_term lo hi z t of well_formed.falls well_formed.shape well_formed.inside
 
 module _ (text : List ℕ) (b : FunctionBlock) where
-  pub valid_input : (s : Fuzzify) (x : Input) → IsSoundPart text b (part.Fuzzify s) → IsInputOf s x → IsValidInput x
-  valid_input s x sound of =
+  pub valid_input : (s : Fuzzify) (x : Input) → IsWellFormedPart text b (part.Fuzzify s) → IsInputOf s x
+      → IsValidInput x
+  valid_input s x well_formed of =
       let e : Ends = (x.lo.0, x.hi.0) in
       let terms = terms_of s in
       let declared : is_declared_as text b side.Input s.name ≡ true =
-      known_side side.Input (direction text b s.name) s.name.at sound.known sound.sided in
-      let proper : bad_fuzzy_range true s (fuzzy_range s) ≡ [] = rw declared at sound.range in
-      let range = range_of s (fuzzy_range s) e of.range sound.inside proper in
+      known_side side.Input (direction text b s.name) s.name.at well_formed.known well_formed.sided in
+      let proper : bad_fuzzy_range true s (fuzzy_range s) ≡ [] = rw declared at well_formed.range in
+      let range = range_of s (fuzzy_range s) e of.range well_formed.inside proper in
       let scale = input_range-in s e of.range in
-      let all = sound_terms e terms sound.ascending sound.shaped range.1 in
+      let all = well_formed_terms e terms well_formed.ascending well_formed.shaped range.1 in
       let long = AllZip-long IsTermOf terms x.terms of.terms in
       record {
         lo_in = scale.lo;
         hi_in = scale.hi;
         range = range.0;
-        some_term = omega (arith, long, some_item terms s.end sound.some);
-        few_terms = omega (arith, long, few_items 15 (λ (t : Term). t.name.at) terms sound.few);
+        some_term = omega (arith, long, some_item terms s.end well_formed.some);
+        few_terms = omega (arith, long, few_items 15 (λ (t : Term). t.name.at) terms well_formed.few);
         terms = All-from_recursion (IsValidTerm x.lo x.hi) x.terms
-            (all_related (IsSoundTerm e) IsTermOf (IsValidTerm x.lo x.hi)
+            (all_related (IsWellFormedTerm e) IsTermOf (IsValidTerm x.lo x.hi)
             (valid_one x.lo x.hi) terms x.terms all of.terms);
       }

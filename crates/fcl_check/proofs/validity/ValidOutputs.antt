@@ -27,7 +27,7 @@ use Rattle.fcl_check.specs.Sections.{Ends, default_line, default_of, defuzzy_ran
 use Rattle.fcl_check.specs.Sections.{fallback_number, is_empty_range, lies_in, number_line, output_numbers, outside}
 use Rattle.fcl_check.specs.Sections.{value}
 use Rattle.fcl_check.proofs.lists.Elements.{all_mapped, all_unmapped, all_weaker, rest_of}
-use Rattle.fcl_check.proofs.faultless.Faultless.{IsSoundPart, no_place}
+use Rattle.fcl_check.proofs.faultless.Faultless.{IsWellFormedPart, no_place}
 use Rattle.fcl_check.proofs.ranges.Ranges.{In, all_inside, hull-ordered, hull-over, not_empty, widened-ordered}
 use Rattle.fcl_check.proofs.ranges.Ranges.{widened-over}
 use Rattle.fcl_check.proofs.ranges.Scales.{AreInScale, IsWide, IsWide-widened, IsInScale-between, ends_of-in}
@@ -137,12 +137,12 @@ range_of s (Some r) e is inside range =
 -- ---- the output
 
 module _ (text : List ℕ) (b : FunctionBlock) where
-  pub valid_output : (s : Defuzzify) (y : Output) → IsSoundPart text b (part.Defuzzify s) → IsOutputOf s y
+  pub valid_output : (s : Defuzzify) (y : Output) → IsWellFormedPart text b (part.Defuzzify s) → IsOutputOf s y
       → IsValidOutput y
-  valid_output s y sound of =
+  valid_output s y well_formed of =
       let e : Ends = (y.lo.0, y.hi.0) in
       let singles = singletons_of s in
-      let range = range_of s (defuzzy_range s) e of.range sound.numbers sound.range in
+      let range = range_of s (defuzzy_range s) e of.range well_formed.numbers well_formed.range in
       let all : AllByRecursion (λ (n : ℤ × ℕ). Here n.0) (output_numbers s) = range.numbers in
       let values : AllByRecursion Here (map (λ (d : Dec). d.0) y.singletons) =
       rw (of.singletons) (all_mapped Here (λ (t : Singleton). value t.value) singles
@@ -158,8 +158,8 @@ module _ (text : List ℕ) (b : FunctionBlock) where
         lo_in = range.wide.lo;
         hi_in = range.wide.hi;
         range = range.ordered;
-        some_term = omega (arith, long, some_item singles s.end sound.some);
-        few_terms = omega (arith, long, few_items 15 (λ (t : Singleton). t.name.at) singles sound.few);
+        some_term = omega (arith, long, some_item singles s.end well_formed.some);
+        few_terms = omega (arith, long, few_items 15 (λ (t : Singleton). t.name.at) singles well_formed.few);
         singletons = All-from_recursion (IsWithin y.lo y.hi) y.singletons
             (all_weaker (λ (d : Dec). Here d.0) (IsWithin y.lo y.hi)
             (λ (d : Dec) h. record { low = h.0.0; high = h.0.1 }) y.singletons found);

@@ -35,7 +35,7 @@ use Rattle.fcl_check.specs.Names.{as_defuzzify, as_fuzzify, declared_as, declare
 use Rattle.fcl_check.specs.Names.{singleton_names, singletons_of, term_names, term_number, terms_of, variable_number}
 use Rattle.fcl_check.specs.Places.{at_if, at_some}
 use Rattle.fcl_check.specs.Sections.{value}
-use Rattle.fcl_check.specs.Sound.{IsKnown, IsSoundRule}
+use Rattle.fcl_check.specs.WellFormed.{IsKnown, IsWellFormedRule}
 use Rattle.fcl_check.proofs.trees.RuleSizes.{IsShallow}
 use Rattle.fcl_check.proofs.lists.Elements.{all_mapped, all_weaker}
 use Rattle.fcl_check.proofs.faultless.Faultless.{no_place}
@@ -147,23 +147,23 @@ module _ (text : List ℕ) (b : FunctionBlock) (block : Block) (of : IsBlockOf t
       of.outputs v t known.number known.declared known.numbered in
       rw term (record { output_from = has.variable_from; term_from = has.term_from; term_to = has.term_to })
 
-  pub valid_rule : (r : RuleNode) (q : Rule) → IsSoundRule text b r → IsRuleOf text b r q → IsShallow q
+  pub valid_rule : (r : RuleNode) (q : Rule) → IsWellFormedRule text b r → IsRuleOf text b r q → IsShallow q
       → IsValidRule block q
-  valid_rule r q sound rule deep =
+  valid_rule r q well_formed rule deep =
       let known = valid_or block (literal_of text b) (λ (p : Pair). IsKnown text b side.Input p.variable p.term)
       (λ v t h. has_term v t h) (view_or r.condition)
-      (whole r.condition) sound.condition in
+      (whole r.condition) well_formed.condition in
       let ends : AllByRecursion (λ (c : ℕ × ℕ). HasSingleton block c.0 c.1)
       (map (conclusion_of text b) (conclusions_of r)) = all_mapped
       (λ (c : ℕ × ℕ). HasSingleton block c.0 c.1) (conclusion_of text b) (conclusions_of r)
       (all_weaker (λ (c : Conclusion). IsKnown text b side.Output c.variable c.term)
       (λ (c : Conclusion). HasSingleton block (conclusion_of text b c).0 (conclusion_of text b c).1)
       (λ c h. has_singleton c.variable c.term h)
-      (conclusions_of r) sound.conclusions) in
+      (conclusions_of r) well_formed.conclusions) in
       record {
         condition = rw (rule.condition) known;
         deep = deep;
-        weight = valid_weight r.weight q.weight sound.weight rule.weight;
+        weight = valid_weight r.weight q.weight well_formed.weight rule.weight;
         some_conclusion = rw (rule.conclusions) (omega arith);
         conclusions = All-from_recursion (λ (c : ℕ × ℕ). HasSingleton block c.0 c.1) q.concl
             (rw (rule.conclusions) ends);

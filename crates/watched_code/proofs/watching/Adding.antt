@@ -76,7 +76,7 @@ addb_zero c s v = zero_five s.regs.ccr _ _ ((s.regs.b + v) % 2 ^ 8 == 0) _ _
 -- no byte that stands high is open
 -- one step of the code around EVAL
 abbrev pub Step : Setting → ℕ → State → State → Type 0
-Step c = IsInterruptibleStep c.open_to c.layout c.image c.flags
+Step c = IsInterruptibleStep c.open_to c.memory_map c.image c.flags
 
 abbrev pub IsShutAbove : Setting → Type 0
 IsShutAbove c = (at : ℕ) → 0x2000 ≤ at → c.open_to at ≡ false

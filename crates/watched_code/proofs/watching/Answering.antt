@@ -11,16 +11,16 @@ use Rattle.cpu12_asm.specs.Bytes.{Holds}
 use Rattle.cpu12_asm.specs.Items.{given_by, IsRising}
 use Rattle.cpu12_parts.specs.State.{State}
 use Rattle.cpu12_emul.specs.Image.{image_memory}
-use Rattle.eval_code.specs.declared.layout.Layout.{Layout}
+use Rattle.eval_code.specs.declared.memory_map.MemoryMap.{MemoryMap}
 use Rattle.eval_code.specs.declared.width.Width.TheVariants.{Byte}
-use Rattle.eval_code.specs.Layouts.{main_layout}
+use Rattle.eval_code.specs.MemoryMaps.{main_map}
 use Rattle.eval_code.specs.Code.{code_bytes, eval_code, block_code}
 use Rattle.eval_code.specs.Placed.{IsInOrder, HasParts, BlockRises, BlockIsShort}
 use Rattle.eval_code.specs.Bounds.{instruction_bound}
 use Rattle.eval_code.specs.Items.{IsApart, block_items}
 use Rattle.codegen.specs.Images.{vector_items}
 use Rattle.codegen.specs.Answers.{IsArrived}
-use Rattle.watched_code.specs.WatchedCode.{segments_of, watched_front, watched_layout, code_length}
+use Rattle.watched_code.specs.WatchedCode.{segments_of, watched_front, watched_map, code_length}
 use Rattle.watched_code.specs.Watched.{watched_items, watched_bound, Change, Watched, IsTableChange, IsGoodSample}
 use Rattle.watched_code.specs.Watched.{AreWatchAnswered, WatchedAnswers}
 use Rattle.eval_code.specs.Code.{FitCode}
@@ -28,7 +28,7 @@ use Rattle.codegen.specs.Answers.{FreeBytesLeave}
 use Rattle.codegen.specs.Standing.{HasFirmware}
 use Rattle.codegen.proofs.Algebra.{not_free}
 use Rattle.watched_code.proofs.watching.Adding.{count_in}
-use Rattle.watched_code.proofs.watching.Fronts.{IsWatchedLayout, length-more, length-bad, length-front, fits_front}
+use Rattle.watched_code.proofs.watching.Fronts.{IsWatchedMap, length-more, length-bad, length-front, fits_front}
 use Rattle.watched_code.proofs.watching.Fronts.{fit_defaults, start_bytes}
 use Rattle.watched_code.proofs.watching.Laws.{WatchingLaws}
 use Rattle.watched_code.proofs.watching.Tables.{are_segments, are_apart, are_few, stand, counted}
@@ -38,15 +38,15 @@ use Rattle.codegen.specs.Frames.{Arrived}
 use Rattle.codegen.specs.Settings.{Setting, IsShut}
 
 -- the code before EVAL is short
-pub short_front : (b : Block) → IsValid b → code_length (watched_front main_layout b) ≤ 97
+pub short_front : (b : Block) → IsValid b → code_length (watched_front main_map b) ≤ 97
 short_front b v = omega (
   arith,
-  length-front main_layout b.outputs (segments_of main_layout b),
-  length-bad main_layout b.outputs v.few_outputs,
+  length-front main_map b.outputs (segments_of main_map b),
+  length-bad main_map b.outputs v.few_outputs,
   are_few b,
 )
 
-watched_apart : (b : Block) → IsValid b → IsApart (watched_layout b)
+watched_apart : (b : Block) → IsValid b → IsApart (watched_map b)
 watched_apart b v =
     let short = short_front b v in
     record {
@@ -65,8 +65,8 @@ watched_apart b v =
       rules_end = omega arith;
     }
 
-is_watched_layout : (b : Block) → IsValid b → IsWatchedLayout (watched_layout b) b.outputs (segments_of main_layout b)
-is_watched_layout b v = record {
+is_watched_map : (b : Block) → IsValid b → IsWatchedMap (watched_map b) b.outputs (segments_of main_map b)
+is_watched_map b v = record {
   started = record {
     low = omega arith;
     high = omega arith;
@@ -83,7 +83,7 @@ is_watched_layout b v = record {
   few_segments = are_few b;
 }
 
-watched_in_order : (b : Block) → IsValid b → IsInOrder (watched_layout b) (watched_front main_layout b) (Rts ∷ [])
+watched_in_order : (b : Block) → IsValid b → IsInOrder (watched_map b) (watched_front main_map b) (Rts ∷ [])
 watched_in_order b v =
     let short = short_front b v in
     record {
@@ -98,15 +98,15 @@ watched_in_order b v =
 -- its items can be placed, and are few
 pub watched_rise : BlockRises → (b : Block) → IsValid b → IsWithinLimits b → IsRising (watched_items b)
 watched_rise rises b v limits =
-    let l = watched_layout b in
-    rises 0 l b Byte (watched_front main_layout b) (Rts ∷ []) (vector_items l) (watched_in_order b v) v limits
+    let l = watched_map b in
+    rises 0 l b Byte (watched_front main_map b) (Rts ∷ []) (vector_items l) (watched_in_order b v) v limits
     (omega arith) (omega arith, (omega arith, omega arith))
 
 pub length-watched_items : BlockIsShort → (b : Block) → IsValid b → IsWithinLimits b → length (watched_items b) < 2 ^ 32
 length-watched_items brief b v limits =
     let short = short_front b v in
-    let l = watched_layout b in
-    let front = watched_front main_layout b in
+    let l = watched_map b in
+    let front = watched_front main_map b in
     omega (
       arith,
       length-append (block_items l b Byte front (Rts ∷ [])) (vector_items l),
@@ -119,33 +119,33 @@ record Founded (laws : WatchingLaws) (b : Block) (image : List (ℕ × ℕ)) : T
   limits : IsWithinLimits b
   holds : Holds image (given_by (watched_items b))
 
-parts : (laws : WatchingLaws) (b : Block) (image : List (ℕ × ℕ)) → Founded laws b image → HasParts main_layout b
-parts laws b image h = laws.parts main_layout b h.valid h.limits
+parts : (laws : WatchingLaws) (b : Block) (image : List (ℕ × ℕ)) → Founded laws b image → HasParts main_map b
+parts laws b image h = laws.parts main_map b h.valid h.limits
 
 fits : (laws : WatchingLaws) (b : Block) (image : List (ℕ × ℕ)) → Founded laws b image
-    → FitCode (watched_front main_layout b)
+    → FitCode (watched_front main_map b)
 fits laws b image h =
     let few = h.valid.few_outputs in
-    let bad = length-bad main_layout b.outputs few in
-    fits_front main_layout b.outputs (segments_of main_layout b) (omega arith) (omega arith)
+    let bad = length-bad main_map b.outputs few in
+    fits_front main_map b.outputs (segments_of main_map b) (omega arith) (omega arith)
     (fit_defaults laws.nearest_is_byte b.outputs h.valid.outputs) (omega arith)
     (are_segments b (parts laws b image h))
 
 -- what stands in its memory
 firmware : (laws : WatchingLaws) (b : Block) (image : List (ℕ × ℕ)) → Founded laws b image
-    → HasFirmware (watched_layout b) b Byte (watched_front main_layout b) (image_memory image)
+    → HasFirmware (watched_map b) b Byte (watched_front main_map b) (image_memory image)
 firmware laws b image h =
     let short = short_front b h.valid in
-    let front = watched_front main_layout b in
-    laws.firmware image (watched_layout b) b Byte front (watched_in_order b h.valid) (watched_apart b h.valid)
+    let front = watched_front main_map b in
+    laws.firmware image (watched_map b) b Byte front (watched_in_order b h.valid) (watched_apart b h.valid)
     (record { from = omega arith; to = omega arith }) (omega arith)
     (laws.code_is_bytes front (fits laws b image h)) (omega arith) (omega arith) h.valid h.limits h.holds
 
-bound_is : (b : Block) → instruction_bound Byte b + 4 + count_in (segments_of main_layout b) ≡ watched_bound b
+bound_is : (b : Block) → instruction_bound Byte b + 4 + count_in (segments_of main_map b) ≡ watched_bound b
 unfolding watched_bound
-bound_is b = ap (λ (n : ℕ). instruction_bound Byte b + 4 + n) (counted (segments_of main_layout b))
+bound_is b = ap (λ (n : ℕ). instruction_bound Byte b + 4 + n) (counted (segments_of main_map b))
 
-shut : FreeBytesLeave → (b : Block) → IsShut is_free (watched_layout b)
+shut : FreeBytesLeave → (b : Block) → IsShut is_free (watched_map b)
 shut free b = record {
   reads = free.reads;
   writes = free.writes;
@@ -162,7 +162,7 @@ over laws b image flags fits =
       stays_fit = laws.stays_fit;
       decodes = laws.decodes;
       open_to = is_free;
-      layout = watched_layout b;
+      memory_map = watched_map b;
       shut = shut laws.free b;
       image =
           image;
@@ -172,7 +172,7 @@ over laws b image flags fits =
 
 grounds : (laws : WatchingLaws) (b : Block) (image : List (ℕ × ℕ)) (flags : ℕ) (fits : flags < 2 ^ 8)
     → Founded laws b image
-    → Grounds (over laws b (image_memory image) flags fits) b (segments_of main_layout b) (watched_bound b)
+    → Grounds (over laws b (image_memory image) flags fits) b (segments_of main_map b) (watched_bound b)
 grounds laws b image flags fits h =
     let mem = image_memory image in
     let data_parts = parts laws b image h in
@@ -183,7 +183,7 @@ grounds laws b image flags fits h =
       valid = h.valid;
       limits = h.limits;
       laws = laws;
-      layout = is_watched_layout b h.valid;
+      memory_map = is_watched_map b h.valid;
       outputs_end = omega arith;
       slots_from = omega arith;
       free = refl;
@@ -205,21 +205,21 @@ grounds laws b image flags fits h =
 arrived : (laws : WatchingLaws) (b : Block) (image : List (ℕ × ℕ)) (flags : ℕ) (fits : flags < 2 ^ 8)
     → Founded laws b image → Arrived (over laws b (image_memory image) flags fits) b Byte
 arrived laws b image flags fits h =
-    let l = watched_layout b in
+    let l = watched_map b in
     let mem = image_memory image in
-    let front = watched_front main_layout b in
+    let front = watched_front main_map b in
     let all = firmware laws b image h in
-    laws.arrives (over laws b mem flags fits) b Byte front (is_watched_layout b h.valid).started
+    laws.arrives (over laws b mem flags fits) b Byte front (is_watched_map b h.valid).started
     (watched_apart b h.valid) h.valid
-    (start_bytes mem l b.outputs (segments_of main_layout b) all.stands.front) all
+    (start_bytes mem l b.outputs (segments_of main_map b) all.stands.front) all
 
 -- the code ends below the tables
 code_end : (laws : WatchingLaws) (b : Block) (image : List (ℕ × ℕ)) → Founded laws b image
-    → (let l = watched_layout b in
-    l.code + length (code_bytes (block_code l b Byte (watched_front main_layout b) (Rts ∷ []))) ≤ l.tables)
+    → (let l = watched_map b in
+    l.code + length (code_bytes (block_code l b Byte (watched_front main_map b) (Rts ∷ []))) ≤ l.tables)
 code_end laws b image h =
-    let l = watched_layout b in
-    let front = watched_front main_layout b in
+    let l = watched_map b in
+    let front = watched_front main_map b in
     let eval = eval_code l b Byte in
     let room = (firmware laws b image h).stands.room in
     omega (arith, short_front b h.valid, length-more front (eval ++ Rts ∷ []), length-more eval (Rts ∷ []), room)
@@ -227,12 +227,12 @@ code_end laws b image h =
 -- good samples of the definition
 may_change : (laws : WatchingLaws) (b : Block) (image : List (ℕ × ℕ)) (flags : ℕ) (fits : flags < 2 ^ 8)
     (change : Option Change) → Founded laws b image
-    → IsTableChange (watched_layout b) image change
-    → MayChange (over laws b (image_memory image) flags fits) (segments_of main_layout b) change
+    → IsTableChange (watched_map b) image change
+    → MayChange (over laws b (image_memory image) flags fits) (segments_of main_map b) change
 may_change laws b image flags fits None h x = tt
 may_change laws b image flags fits (Some c) h x =
-    let l = watched_layout b in
-    let front = watched_front main_layout b in
+    let l = watched_map b in
+    let front = watched_front main_map b in
     let end = code_end laws b image h in
     let low = x.0 in
     let high = x.1 in
@@ -244,35 +244,35 @@ may_change laws b image flags fits (Some c) h x =
     }
 
 -- from the first arrival on, the samples are answered within a bound
-abbrev Answers : Layout → Block → ℕ → List ℕ → ℕ → List Watched → Type 0
+abbrev Answers : MemoryMap → Block → ℕ → List ℕ → ℕ → List Watched → Type 0
 Answers l b most image flags samples =
     (s : State) × (IsArrived l image flags s × AreWatchAnswered l b most image flags (λ o. 0) samples s)
 
 from_arrival : (laws : WatchingLaws) (b : Block) (image : List ℕ) (flags : ℕ) (fits : flags < 2 ^ 8)
     (samples : List Watched)
-    → Grounds (over laws b image flags fits) b (segments_of main_layout b) (watched_bound b)
-    → AreGood (over laws b image flags fits) b (segments_of main_layout b) samples
-    → Arrived (over laws b image flags fits) b Byte → Answers (watched_layout b) b (watched_bound b) image flags samples
+    → Grounds (over laws b image flags fits) b (segments_of main_map b) (watched_bound b)
+    → AreGood (over laws b image flags fits) b (segments_of main_map b) samples
+    → Arrived (over laws b image flags fits) b Byte → Answers (watched_map b) b (watched_bound b) image flags samples
 from_arrival laws b image flags fits samples h all a =
     let c = over laws b image flags fits in
     let at = a.home.pc_is in (
       a.t,
       (
         record {
-          way = a.way;
+          execution = a.execution;
           wait = at;
           idle = laws.idle c a.t a.home.live at a.home.ready_is;
           interruptible =
               laws.interruptible c a.t a.home.live (omega arith) (omega arith);
         },
-        are_answered c b (segments_of main_layout b) (watched_bound b) samples (λ o. 0) a.t h a.home all,
+        are_answered c b (segments_of main_map b) (watched_bound b) samples (λ o. 0) a.t h a.home all,
       ),
     )
 
 main_answers : (laws : WatchingLaws) (b : Block) (image : List (ℕ × ℕ)) (flags : ℕ) (samples : List Watched) → IsValid b
     → IsWithinLimits b
-    → Holds image (given_by (watched_items b)) → flags < 2 ^ 8 → All (IsGoodSample b (watched_layout b) image) samples
-    → Answers (watched_layout b) b (watched_bound b) (image_memory image) flags samples
+    → Holds image (given_by (watched_items b)) → flags < 2 ^ 8 → All (IsGoodSample b (watched_map b) image) samples
+    → Answers (watched_map b) b (watched_bound b) (image_memory image) flags samples
 main_answers laws b image flags samples v limits h fits all =
     let founded : Founded laws b image = record { valid = v; limits = limits; holds = h } in
     from_arrival laws b (image_memory image) flags fits samples (grounds laws b image flags fits founded)
@@ -282,8 +282,8 @@ main_answers laws b image flags samples v limits h fits all =
 pub watched_answers : WatchingLaws → WatchedAnswers
 watched_answers laws b f v limits h flags samples fits all =
     let image = f.image.bytes in
-    let good : All (IsGoodSample b (watched_layout b) image) samples =
-    subst (λ (l : Layout). All (IsGoodSample b l image) samples) h.layout all in
-    subst (λ (l : Layout). Answers l b f.instr_bound (image_memory image) flags samples) (sym h.layout)
-    (subst (λ (most : ℕ). Answers (watched_layout b) b most (image_memory image) flags samples) (sym h.instructions)
+    let good : All (IsGoodSample b (watched_map b) image) samples =
+    subst (λ (l : MemoryMap). All (IsGoodSample b l image) samples) h.memory_map all in
+    subst (λ (l : MemoryMap). Answers l b f.instr_bound (image_memory image) flags samples) (sym h.memory_map)
+    (subst (λ (most : ℕ). Answers (watched_map b) b most (image_memory image) flags samples) (sym h.instructions)
     (main_answers laws b image flags samples v limits h.image.bytes fits good))

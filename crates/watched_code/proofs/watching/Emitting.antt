@@ -6,10 +6,10 @@ use Rattle.rule_layout.specs.declared.flat.Flat.{Flat}
 use Rattle.rule_layout.specs.declared.flat.Form.{Form}
 use Rattle.rule_layout.specs.declared.flat.Form.TheVariants as form
 use Rattle.rule_layout.specs.Layouts.{flat_of, form_of, weights_of, FlatHasParts}
-use Rattle.eval_code.specs.declared.layout.Layout.{Layout}
+use Rattle.eval_code.specs.declared.memory_map.MemoryMap.{MemoryMap}
 use Rattle.watched_code.specs.declared.segments.Segment.{Segment}
 use Rattle.eval_code.specs.declared.width.Width.TheVariants.{Byte}
-use Rattle.eval_code.specs.Layouts.{main_layout}
+use Rattle.eval_code.specs.MemoryMaps.{main_map}
 use Rattle.eval_code.specs.Data.{table_bytes, singleton_bytes, rule_bytes_by, rule_bytes}
 use Rattle.eval_code.specs.Bounds.{instruction_bound}
 use Rattle.eval_code.specs.Placed.{HasParts}
@@ -28,7 +28,8 @@ pub is_segment : (gs : List Segment) (i : ℕ) (g : Segment) → i < length gs �
 is_segment gs i g lt e h = subst (λ (x : Segment). IsSegment x) (sym e) (segment_at gs i g lt h)
 
 -- the segments, pushed one after another
-pub segments_made : FlatHasParts → (l : Layout) (b : Block) (flat : Flat) (i0 i1 i2 i3 i4 : List Segment) (t s r : List ℕ)
+pub segments_made : FlatHasParts → (l : MemoryMap) (b : Block) (flat : Flat) (i0 i1 i2 i3 i4 : List Segment)
+    (t s r : List ℕ)
     → flat ≡ flat_of b → i0 ≡ [] → t ≡ table_bytes b → s ≡ singleton_bytes b
     → r ≡ rule_bytes_by l.slots flat.form flat.conjunctions → i1 ≡ i0 ++ segment l.tables t ∷ []
     → i2 ≡ i1 ++ segment l.singletons s ∷ []
@@ -58,7 +59,7 @@ later_short form.Revw at to ws rs a b =
     All-cons IsShort (segment at ws) (segment to rs ∷ []) (omega arith)
     (All-cons IsShort (segment to rs) [] b (All-nil IsShort))
 
-pub are_short : (b : Block) → HasParts main_layout b → All (λ g. length g.bytes ≤ 9984) (segments_of main_layout b)
+pub are_short : (b : Block) → HasParts main_map b → All (λ g. length g.bytes ≤ 9984) (segments_of main_map b)
 are_short b h =
     let t = h.tables in
     let s = h.singletons in
@@ -69,6 +70,6 @@ are_short b h =
 
 -- the bound, from its parts
 pub bound_made : (b : Block) (n s : ℕ) → n ≡ instruction_bound Byte b
-    → s ≡ sum_by segment_bound (segments_of main_layout b) → n + 4 + s ≡ watched_bound b
+    → s ≡ sum_by segment_bound (segments_of main_map b) → n + 4 + s ≡ watched_bound b
 unfolding watched_bound
 bound_made b n s en es = ap₂ (λ (x y : ℕ). x + 4 + y) en es

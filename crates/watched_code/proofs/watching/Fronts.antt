@@ -11,7 +11,7 @@ use Rattle.cpu12_isa.specs.declared.instr.Instr.{Instr}
 use Rattle.cpu12_isa.specs.declared.instr.Instr.TheVariants.{LdaaExtended, LdabImmediate, ClrExtended, Beq, Bra}
 use Rattle.cpu12_isa.specs.declared.instr.Instr.TheVariants.{JsrExtended, Rts, Rti}
 use Rattle.cpu12_isa.specs.Code.{encode_of}
-use Rattle.eval_code.specs.declared.layout.Layout.{Layout}
+use Rattle.eval_code.specs.declared.memory_map.MemoryMap.{MemoryMap}
 use Rattle.watched_code.specs.declared.segments.Segment.{Segment}
 use Rattle.watched_code.specs.Checksums.{check_byte}
 use Rattle.codegen.specs.Code.{frame_code}
@@ -52,23 +52,23 @@ length-defaults at (o ∷ os) =
       length-defaults (at + 1) os,
     )
 
-pub length-bad : (l : Layout) (os : List Output) → length os ≤ 4 → code_length (bad_code l os) ≤ 26
+pub length-bad : (l : MemoryMap) (os : List Output) → length os ≤ 4 → code_length (bad_code l os) ≤ 26
 length-bad l os few =
     omega (arith, length-defaults l.outputs os, length-more (defaults_code l.outputs os) (Rts ∷ []))
 
 pub length-sum : (gs : List Segment) → code_length (LdabImmediate 0 ∷ segments_code gs) ≡ 2 + 10 * length gs
 length-sum gs = omega (arith, length-segments gs)
 
-length-check : (l : Layout) (os : List Output) (gs : List Segment)
+length-check : (l : MemoryMap) (os : List Output) (gs : List Segment)
     → code_length (check_code l os gs) ≡ 9 + 10 * length gs
 length-check l os gs =
     let tail = decision (check_byte (segment_bytes gs)) (2 ^ 8 - back_to_bad l os gs) in
     omega (arith, length-segments gs, length-more (segments_code gs) tail)
 
-pub length-front : (l : Layout) (os : List Output) (gs : List Segment)
+pub length-front : (l : MemoryMap) (os : List Output) (gs : List Segment)
     → code_length (watched_front_over l os gs) ≡ 22 + (code_length (bad_code l os) + (9 + 10 * length gs))
 length-front l os gs =
-    let r : Layout = record l { eval = check_at l os } in
+    let r : MemoryMap = record l { eval = check_at l os } in
     omega (
       arith,
       length-more (frame_code r) (bad_code l os ++ check_code l os gs),
@@ -91,7 +91,7 @@ fits_defaults at (o ∷ os) fit lt =
     fit_append (default_code at (default_byte o)) (defaults_code (at + 1) os)
     (fits_default at (default_byte o) fit.0 (omega arith)) (fits_defaults (at + 1) os fit.1 (omega arith))
 
-pub fits_bad : (l : Layout) (os : List Output) → FitDefaults os → l.outputs + length os < 65536
+pub fits_bad : (l : MemoryMap) (os : List Output) → FitDefaults os → l.outputs + length os < 65536
     → FitCode (bad_code l os)
 fits_bad l os fit lt = (
   omega arith,
@@ -107,7 +107,7 @@ fits_segments (g ∷ gs) h =
     let top = h.0.2 in
     (omega arith, (tt, (omega arith, (omega arith, fits_segments gs h.1))))
 
-pub fits_check : (l : Layout) (os : List Output) (gs : List Segment) → AreSegments gs → FitCode (check_code l os gs)
+pub fits_check : (l : MemoryMap) (os : List Output) (gs : List Segment) → AreSegments gs → FitCode (check_code l os gs)
 fits_check l os gs h =
     let some : 1 ≤ back_to_bad l os gs = omega arith in (
       omega arith,
@@ -116,7 +116,7 @@ fits_check l os gs h =
           (omega arith, (omega arith, (omega arith, tt))),
     )
 
-fits_frame : (l : Layout) → l.ready < 65536 → l.eval < 65536 → FitCode (frame_code l)
+fits_frame : (l : MemoryMap) → l.ready < 65536 → l.eval < 65536 → FitCode (frame_code l)
 fits_frame l ready eval = (
   omega arith,
   (
@@ -125,11 +125,11 @@ fits_frame l ready eval = (
   ),
 )
 
-pub fits_front : (l : Layout) (os : List Output) (gs : List Segment) → l.ready < 65536 → check_at l os < 65536
+pub fits_front : (l : MemoryMap) (os : List Output) (gs : List Segment) → l.ready < 65536 → check_at l os < 65536
     → FitDefaults os → l.outputs + length os < 65536 → AreSegments gs
     → FitCode (watched_front_over l os gs)
 fits_front l os gs ready at fit room h =
-    let r : Layout = record l { eval = check_at l os } in
+    let r : MemoryMap = record l { eval = check_at l os } in
     fit_append (frame_code r) (bad_code l os ++ check_code l os gs) (fits_frame r ready at)
     (fit_append (bad_code l os) (check_code l os gs) (fits_bad l os fit room) (fits_check l os gs h))
 
@@ -143,8 +143,8 @@ fit_defaults near (o ∷ os) v = let w = v 0 o (omega arith) in
     by_default None h = tt
     by_default (Some d) h = let q = near o d (v 0 o (omega arith)).range h in omega arith
 
--- what the code before EVAL asks of a layout
-pub record IsWatchedLayout (l : Layout) (os : List Output) (gs : List Segment) : Type 0 where
+-- what the code before EVAL asks of a memory map
+pub record IsWatchedMap (l : MemoryMap) (os : List Output) (gs : List Segment) : Type 0 where
   pub started : IsStarted l
   pub ready : l.ready < l.inputs
   pub samples : l.samples ≡ l.inputs
@@ -153,10 +153,10 @@ pub record IsWatchedLayout (l : Layout) (os : List Output) (gs : List Segment) :
   pub few : length os ≤ 4
   pub few_segments : length gs ≤ 4
 
-abbrev pub calls : Layout → List Output → Layout
+abbrev pub calls : MemoryMap → List Output → MemoryMap
 calls l os = record l { eval = check_at l os }
 
-called_apart : (l : Layout) (os : List Output) (gs : List Segment) → IsWatchedLayout l os gs → IsApart (calls l os)
+called_apart : (l : MemoryMap) (os : List Output) (gs : List Segment) → IsWatchedMap l os gs → IsApart (calls l os)
 called_apart l os gs h =
     let a = h.apart in
     let low = h.started.low in
@@ -178,7 +178,7 @@ called_apart l os gs h =
       rules_end = a.rules_end;
     }
 
-called_framed : (l : Layout) (os : List Output) (gs : List Segment) → IsWatchedLayout l os gs → IsFramed (calls l os)
+called_framed : (l : MemoryMap) (os : List Output) (gs : List Segment) → IsWatchedMap l os gs → IsFramed (calls l os)
 called_framed l os gs h =
     let high = h.started.high in
     let bad = length-bad l os h.few in
@@ -197,12 +197,12 @@ called_framed l os gs h =
     }
 
 -- its three pieces
-pub record FrontBytes (m : List ℕ) (l : Layout) (os : List Output) (gs : List Segment) : Type 0 where
+pub record FrontBytes (m : List ℕ) (l : MemoryMap) (os : List Output) (gs : List Segment) : Type 0 where
   pub frame : HasBytes m l.code (code_bytes (frame_code (calls l os)))
   pub bad : HasBytes m (bad_at l) (code_bytes (bad_code l os))
   pub check : HasBytes m (check_at l os) (code_bytes (check_code l os gs))
 
-pub front_bytes : (m : List ℕ) (l : Layout) (os : List Output) (gs : List Segment)
+pub front_bytes : (m : List ℕ) (l : MemoryMap) (os : List Output) (gs : List Segment)
     → HasBytes m l.code (code_bytes (watched_front_over l os gs)) → FrontBytes m l os gs
 front_bytes m l os gs h =
     let a = frame_code (calls l os) in
@@ -220,18 +220,19 @@ front_bytes m l os gs h =
     }
 
 -- the frame starts as any does
-pub start_bytes : (m : List ℕ) (l : Layout) (os : List Output) (gs : List Segment)
+pub start_bytes : (m : List ℕ) (l : MemoryMap) (os : List Output) (gs : List Segment)
     → HasBytes m l.code (code_bytes (watched_front_over l os gs)) → HasBytes m l.code (code_bytes (start_code l))
 start_bytes m l os gs h =
     let rest = LdaaExtended l.ready ∷ Beq 0xFB ∷ JsrExtended (check_at l os) ∷ ClrExtended l.ready ∷ Bra 0xF3
     ∷ Rti ∷ [] in
     bytes_front m l.code (code_bytes (start_code l)) (code_bytes rest) (front_bytes m l os gs h).frame
 
-bad_found : InstructionsStand → (c : Setting) (os : List Output) (gs : List Segment) → IsWatchedLayout c.layout os gs → FitDefaults os
-    → HasBytes c.image (bad_at c.layout) (code_bytes (bad_code c.layout os))
-    → Stands c (bad_at c.layout) (bad_code c.layout os)
+bad_found : InstructionsStand → (c : Setting) (os : List Output) (gs : List Segment) → IsWatchedMap c.memory_map os gs
+    → FitDefaults os
+    → HasBytes c.image (bad_at c.memory_map) (code_bytes (bad_code c.memory_map os))
+    → Stands c (bad_at c.memory_map) (bad_code c.memory_map os)
 bad_found stand c os gs h fit bytes =
-    let l = c.layout in
+    let l = c.memory_map in
     let low = h.started.low in
     let high = h.started.high in
     let wait = h.started.wait in
@@ -242,13 +243,13 @@ bad_found stand c os gs h fit bytes =
     stand c (bad_at l) (bad_code l os) (fits_bad l os fit (omega arith)) bytes (omega arith) (omega arith)
     (omega arith)
 
-check_found : InstructionsStand → (c : Setting) (os : List Output) (gs : List Segment) → IsWatchedLayout c.layout os gs
+check_found : InstructionsStand → (c : Setting) (os : List Output) (gs : List Segment) → IsWatchedMap c.memory_map os gs
     → c.open_to fault_at ≡ false → IsShutAbove c → AreSegments gs
-    → HasBytes c.image (check_at c.layout os) (code_bytes (check_code c.layout os gs))
-    → HasCheck c (check_at c.layout os) (bad_at c.layout) (check_byte (segment_bytes gs))
-    (2 ^ 8 - back_to_bad c.layout os gs) gs
+    → HasBytes c.image (check_at c.memory_map os) (code_bytes (check_code c.memory_map os gs))
+    → HasCheck c (check_at c.memory_map os) (bad_at c.memory_map) (check_byte (segment_bytes gs))
+    (2 ^ 8 - back_to_bad c.memory_map os gs) gs
 check_found stand c os gs h shown above are bytes =
-    let l = c.layout in
+    let l = c.memory_map in
     let low = h.started.low in
     let high = h.started.high in
     let wait = h.started.wait in
@@ -268,11 +269,12 @@ check_found stand c os gs h shown above are bytes =
     }
 
 pub has_front : InstructionsStand → FrameCallsAndLeaves → (c : Setting) (os : List Output) (gs : List Segment)
-    → IsWatchedLayout c.layout os gs → c.open_to c.layout.ready ≡ false → c.open_to fault_at ≡ false → IsShutAbove c
+    → IsWatchedMap c.memory_map os gs → c.open_to c.memory_map.ready ≡ false → c.open_to fault_at ≡ false
+    → IsShutAbove c
     → FitDefaults os → AreSegments gs
-    → HasBytes c.image c.layout.code (code_bytes (watched_front_over c.layout os gs)) → HasFront c os gs
+    → HasBytes c.image c.memory_map.code (code_bytes (watched_front_over c.memory_map os gs)) → HasFront c os gs
 has_front stand turns c os gs h ready shown above fit are bytes =
-    let l = c.layout in
+    let l = c.memory_map in
     let at = check_at l os in
     let parts = front_bytes c.image l os gs bytes in
     let eval = h.eval in

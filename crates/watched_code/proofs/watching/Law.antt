@@ -33,7 +33,7 @@ use Rattle.watched_code.proofs.watching.Adding.{IsShutAbove, AreSegments, sum_in
 use Rattle.watched_code.proofs.watching.Segments.{Apart, In, Stand, stand_passes, change_fails}
 use Rattle.watched_code.proofs.watching.Defaults.{FitDefaults}
 use Rattle.watched_code.proofs.watching.Sampling.{Watches, IsGiven, WatchSampled, answered_well, answered_badly}
-use Rattle.watched_code.proofs.watching.Fronts.{IsWatchedLayout, has_front}
+use Rattle.watched_code.proofs.watching.Fronts.{IsWatchedMap, has_front}
 use Rattle.watched_code.proofs.watching.Tables.{sum_high}
 use Rattle.codegen.specs.Calls.{HasRoutine}
 use Rattle.codegen.specs.Frames.{Home}
@@ -60,12 +60,12 @@ pub record Grounds (c : Setting) (b : Block) (gs : List Segment) (most : ℕ) : 
   pub valid : IsValid b
   pub limits : IsWithinLimits b
   pub laws : WatchingLaws
-  pub layout : IsWatchedLayout c.layout b.outputs gs
-  pub outputs_end : c.layout.outputs + 8 ≤ fault_at
-  pub slots_from : fault_at < c.layout.slots
+  pub memory_map : IsWatchedMap c.memory_map b.outputs gs
+  pub outputs_end : c.memory_map.outputs + 8 ≤ fault_at
+  pub slots_from : fault_at < c.memory_map.slots
   pub free : c.open_to ≡ is_free
   pub above : IsShutAbove c
-  pub ready_shown : c.open_to c.layout.ready ≡ false
+  pub ready_shown : c.open_to c.memory_map.ready ≡ false
   pub fault_shown : c.open_to fault_at ≡ false
   pub defaults : FitDefaults b.outputs
   pub are : AreSegments gs
@@ -73,9 +73,9 @@ pub record Grounds (c : Setting) (b : Block) (gs : List Segment) (most : ℕ) : 
   pub most_is : instruction_bound Byte b + 4 + count_in gs ≡ most
   pub size : length c.image ≡ 65536
   pub bytes : AreBytes c.image
-  pub front : HasBytes c.image c.layout.code (code_bytes (watched_front_over c.layout b.outputs gs))
-  pub front_end : c.layout.code + code_length (watched_front_over c.layout b.outputs gs) ≤ 0xD000
-  pub routine : HasRoutine c.layout b Byte c.image
+  pub front : HasBytes c.image c.memory_map.code (code_bytes (watched_front_over c.memory_map b.outputs gs))
+  pub front_end : c.memory_map.code + code_length (watched_front_over c.memory_map b.outputs gs) ≤ 0xD000
+  pub routine : HasRoutine c.memory_map b Byte c.image
   pub stands : Stand c.image gs
 
 front_stays : (m : List ℕ) (p : ℕ) (bs : List ℕ) (change : Option Change) (c : Setting) (gs : List Segment)
@@ -86,18 +86,19 @@ front_stays m p bs (Some x) c gs t le h = let low = t.low in bytes_set_out m x.0
 watches : (c : Setting) (b : Block) (gs : List Segment) (most : ℕ) (change : Option Change) → Grounds c b gs most
     → MayChange c gs change → Watches (under c (changed change c.image)) b gs most
 watches c b gs most change h x = record {
-  apart = h.layout.apart;
+  apart = h.memory_map.apart;
   valid = h.valid;
   limits = h.limits;
   laws = h.laws;
-  ready = h.layout.ready;
+  ready = h.memory_map.ready;
   outputs_end = h.outputs_end;
   slots_from = h.slots_from;
   fault_shown = h.fault_shown;
   most_is = h.most_is;
-  front = has_front h.laws.stand h.laws.turns (under c (changed change c.image)) b.outputs gs h.layout h.ready_shown h.fault_shown
+  front = has_front h.laws.stand h.laws.turns (under c (changed change c.image)) b.outputs gs h.memory_map
+      h.ready_shown h.fault_shown
       h.above h.defaults h.are
-      (front_stays c.image c.layout.code (code_bytes (watched_front_over c.layout b.outputs gs)) change c gs x
+      (front_stays c.image c.memory_map.code (code_bytes (watched_front_over c.memory_map b.outputs gs)) change c gs x
       h.front_end h.front);
 }
 
@@ -146,7 +147,7 @@ live_changed c gs (Some x) s size t l =
 
 -- the machine waits again, with the image's byte
 home_restored : (c : Setting) (b : Block) (gs : List Segment) (change : Option Change) (answers : ℕ → ℕ) (s : State)
-    → IsApart c.layout → length b.outputs ≤ 4 → c.layout.ready < 0x1800 → AreBytes c.image
+    → IsApart c.memory_map → length b.outputs ≤ 4 → c.memory_map.ready < 0x1800 → AreBytes c.image
     → MayChange c gs change → Home (under c (changed change c.image)) b Byte answers s
     → Home c b Byte answers (restored c.image change s)
 home_restored c b gs None answers s a few low bytes x h = record {
@@ -184,9 +185,10 @@ home_restored c b gs (Some x) answers s a few low bytes t h =
       };
       pc_is = h.pc_is;
       sp_is = h.sp_is;
-      outs = λ o lo hi. bytes_set_out s.mem x.0 v (c.layout.outputs + 1 * (o - 1)) (answers o ∷ []) (inl (omega arith))
+      outs = λ o lo hi. bytes_set_out s.mem x.0 v (c.memory_map.outputs + 1 * (o - 1)) (answers o ∷ [])
+          (inl (omega arith))
           (h.outs o lo hi);
-      ready_is = get_or-set_other s.mem x.0 c.layout.ready v 0 (λ e. omega arith) ∙ h.ready_is;
+      ready_is = get_or-set_other s.mem x.0 c.memory_map.ready v 0 (λ e. omega arith) ∙ h.ready_is;
     }
 
 -- ---- a sample
@@ -197,18 +199,19 @@ kept m p bs change c gs x le h = front_stays m p bs change c gs x (omega arith) 
 
 is_given : (c : Setting) (b : Block) (gs : List Segment) (most : ℕ) (before : ℕ → ℕ) (x : Watched) (s : State)
     → Grounds c b gs most → AreInputBytes b x.bytes → MayChange c gs x.change
-    → Home c b Byte before s → IsGiven (under c (changed x.change c.image)) b x.bytes before (upset_given c.layout x s)
+    → Home c b Byte before s → IsGiven (under c (changed x.change c.image)) b x.bytes before
+    (upset_given c.memory_map x s)
 is_given c b gs most before x s h i t home =
-    let l = c.layout in
+    let l = c.memory_map in
     let m = put s.mem l.samples x.bytes in
     let few = h.valid.few_outputs in
     let few_inputs = h.valid.few_inputs in
     let count = i.count in
-    let a1 = h.layout.apart.inputs in
-    let a2 = h.layout.apart.outputs in
-    let a3 = h.layout.apart.slots in
-    let ready = h.layout.ready in
-    let at = h.layout.samples in
+    let a1 = h.memory_map.apart.inputs in
+    let a2 = h.memory_map.apart.outputs in
+    let a3 = h.memory_map.apart.slots in
+    let ready = h.memory_map.ready in
+    let at = h.memory_map.samples in
     let sized = home.live.size in
     let lm : length m ≡ 65536 = length-put s.mem l.samples x.bytes ∙ home.live.size in
     let one : HasBytes (given l x.bytes s).mem l.ready (1 ∷ []) = (get_or-set_same m l.ready 1 0 (omega arith), tt) in
@@ -272,32 +275,33 @@ sample_by c b gs most before x s h i m g false e =
     let fine : ((sum_in u.image gs + check_byte (segment_bytes gs)) % 2 ^ 8 == 0) ≡ true =
     stand_passes u.image gs (subst (λ (n : List ℕ). Stand n gs) back h.stands) in
     answered_well u b gs most x.bytes before s (watches c b gs most x.change h m) h.apart
-    (subst (HasRoutine c.layout b Byte) back h.routine) i g
+    (subst (HasRoutine c.memory_map b Byte) back h.routine) i g
     (ap (λ (n : ℕ). (n + check_byte (segment_bytes gs)) % 2 ^ 8 == 0) same ∙ fine)
 
 sampled : (c : Setting) (b : Block) (gs : List Segment) (most : ℕ) (before : ℕ → ℕ) (x : Watched) (s : State)
     → Grounds c b gs most → AreInputBytes b x.bytes → MayChange c gs x.change
     → Home c b Byte before s
     → WatchSampled (under c (changed x.change c.image)) b most (λ o. watched_answer b c.image x o (before o))
-    (watched_fault c.image x) (upset_given c.layout x s)
+    (watched_fault c.image x) (upset_given c.memory_map x s)
 sampled c b gs most before x s h i m home =
-    sample_by c b gs most before x (upset_given c.layout x s) h i m (is_given c b gs most before x s h i m home)
+    sample_by c b gs most before x (upset_given c.memory_map x s) h i m (is_given c b gs most before x s h i m home)
     (is_upset c.image x.change) refl
 
 answered : (c : Setting) (b : Block) (gs : List Segment) (most : ℕ) (before : ℕ → ℕ) (x : Watched) (s : State)
     → Grounds c b gs most
     → (r : WatchSampled (under c (changed x.change c.image)) b most (λ o. watched_answer b c.image x o (before o))
-    (watched_fault c.image x) (upset_given c.layout x s))
-    → IsWatchAnswered c.layout b most c.image c.flags before x s r.t
+    (watched_fault c.image x) (upset_given c.memory_map x s))
+    → IsWatchAnswered c.memory_map b most c.image c.flags before x s r.t
 answered c b gs most before x s h r =
-    let lo = h.layout.started.low in
-    let hi = h.layout.started.high in
-    let wait = h.layout.started.wait in
+    let lo = h.memory_map.started.low in
+    let hi = h.memory_map.started.high in
+    let wait = h.memory_map.started.wait in
     let ep = r.home.pc_is in
     record {
       ds = r.ds;
-      execution = subst (λ (o : ℕ → Bool). Execution (IsInterruptibleStep o c.layout (changed x.change c.image) c.flags)
-          r.ds (upset_given c.layout x s) r.t) h.free r.execution;
+      execution = subst (λ (o : ℕ → Bool). Execution (IsInterruptibleStep o c.memory_map (changed x.change c.image)
+          c.flags)
+          r.ds (upset_given c.memory_map x s) r.t) h.free r.execution;
       idle = h.laws.idle (under c (changed x.change c.image)) r.t r.home.live r.home.pc_is r.home.ready_is;
       interruptible = subst (λ (o : ℕ → Bool). IsInterruptible o (changed x.change c.image) r.t) h.free
           (h.laws.interruptible (under c (changed x.change c.image)) r.t r.home.live (omega arith) (omega arith));
@@ -313,16 +317,16 @@ AreGood c b gs xs = All (λ x. AreInputBytes b x.bytes × MayChange c gs x.chang
 
 pub are_answered : (c : Setting) (b : Block) (gs : List Segment) (most : ℕ) (xs : List Watched) (before : ℕ → ℕ)
     (s : State) → Grounds c b gs most → Home c b Byte before s → AreGood c b gs xs
-    → AreWatchAnswered c.layout b most c.image c.flags before xs s
+    → AreWatchAnswered c.memory_map b most c.image c.flags before xs s
 are_answered c b gs most [] before s h home all = tt
 are_answered c b gs most (x ∷ xs) before s h home all =
     let good = all 0 x (omega arith) in
     let r = sampled c b gs most before x s h good.0 good.1 home in
-    let a1 = h.layout.apart.inputs in
-    let a2 = h.layout.apart.outputs in
-    let a3 = h.layout.apart.slots in
-    let ready = h.layout.ready in
-    let next = home_restored c b gs x.change (λ o. watched_answer b c.image x o (before o)) r.t h.layout.apart
+    let a1 = h.memory_map.apart.inputs in
+    let a2 = h.memory_map.apart.outputs in
+    let a3 = h.memory_map.apart.slots in
+    let ready = h.memory_map.ready in
+    let next = home_restored c b gs x.change (λ o. watched_answer b c.image x o (before o)) r.t h.memory_map.apart
     h.valid.few_outputs (omega arith) h.bytes good.1 r.home in (
       r.t,
       (

@@ -11,7 +11,7 @@ use Rattle.cpu12_isa.specs.declared.instr.Instr.{Instr}
 use Rattle.cpu12_asm.specs.declared.items.Item.TheVariants.{Byte}
 use Rattle.cpu12_asm.specs.Bytes.{byte_at}
 use Rattle.cpu12_asm.specs.Items.{given_by}
-use Rattle.eval_code.specs.declared.layout.Layout.{Layout}
+use Rattle.eval_code.specs.declared.memory_map.MemoryMap.{MemoryMap}
 use Rattle.watched_code.specs.declared.segments.Segment.{Segment}
 use Rattle.eval_code.specs.declared.width.Width.{Width}
 use Rattle.eval_code.specs.Code.{block_code, code_bytes}
@@ -23,7 +23,7 @@ use Rattle.watched_code.specs.WatchedCode.{segment, weight_segments, segments_of
 use Rattle.watched_code.proofs.watching.Segments.{Within, In}
 
 -- nothing below the vectors is one of their bytes
-no_vector : (q : ℕ) (l : Layout) → q < 0xFFF2 → byte_at (given_by (vector_items l)) q ≡ None
+no_vector : (q : ℕ) (l : MemoryMap) → q < 0xFFF2 → byte_at (given_by (vector_items l)) q ≡ None
 no_vector q l lt =
     let a : is_at (nat_cmp q) 0xFFF2 ≡ false = grind (arith, nat_tests) in
     let b : is_at (nat_cmp q) 0xFFF3 ≡ false = grind (arith, nat_tests) in
@@ -32,20 +32,20 @@ no_vector q l lt =
     rw (a, b, c, d) refl
 
 -- the segments behind the singletons
-abbrev later : Layout → Block → Form → List Segment
+abbrev later : MemoryMap → Block → Form → List Segment
 later l b f = weight_segments l.weights f (weights_of b) ++ segment l.rules (rule_bytes l.slots b) ∷ []
 
-in_rules : (q : ℕ) (l : Layout) (b : Block) (f : Form) → Within q (segment l.rules (rule_bytes l.slots b))
+in_rules : (q : ℕ) (l : MemoryMap) (b : Block) (f : Form) → Within q (segment l.rules (rule_bytes l.slots b))
     → In q (later l b f)
 in_rules q l b form.Rev i = inl i
 in_rules q l b form.Revw i = inr (inl i)
 
-in_weights : (q : ℕ) (l : Layout) (b : Block) (f : Form) → l.weights ≤ q
+in_weights : (q : ℕ) (l : MemoryMap) (b : Block) (f : Form) → l.weights ≤ q
     → q < l.weights + length (weight_bytes_by f (weights_of b)) → In q (later l b f)
 in_weights q l b form.Rev lo hi = absurd (omega arith)
 in_weights q l b form.Revw lo hi = inl (lo, hi)
 
-pub located : BlockGivesAtParts → (q : ℕ) (l : Layout) (b : Block) (w : Width) (before behind : List Instr)
+pub located : BlockGivesAtParts → (q : ℕ) (l : MemoryMap) (b : Block) (w : Width) (before behind : List Instr)
     → l.code + length (code_bytes (block_code l b w before behind)) ≤ q → q < 0xFFF2
     → byte_at (given_by (block_items l b w before behind ++ vector_items l)) q ≢ None → In q (segments_of l b)
 located at_parts q l b w before behind le lt h =

@@ -16,7 +16,7 @@ use Rattle.cpu12_parts.specs.State.{State}
 use Rattle.cpu12_parts.specs.Rules.{Rule, Form}
 use Rattle.cpu12_parts.specs.Whole.{after_plain}
 use Rattle.cpu12_parts.specs.Executions.{Execution, all_steps}
-use Rattle.eval_code.specs.declared.layout.Layout.{Layout}
+use Rattle.eval_code.specs.declared.memory_map.MemoryMap.{MemoryMap}
 use Rattle.watched_code.specs.declared.segments.Segment.{Segment}
 use Rattle.eval_code.specs.declared.width.Width.TheVariants.{Byte}
 use Rattle.eval_code.specs.Widths.{answer}
@@ -41,7 +41,7 @@ use Rattle.watched_code.proofs.watching.Laws.{WatchingLaws}
 use Rattle.codegen.specs.Settings.{Setting, Live, Stands, InstructionGoesOn}
 
 -- the same run with another address called; the steps are the same
-abbrev pub calls_at : Layout → ℕ → Layout
+abbrev pub calls_at : MemoryMap → ℕ → MemoryMap
 calls_at l at = record l { eval = at }
 
 abbrev pub calling : Setting → ℕ → Setting
@@ -49,7 +49,7 @@ calling c at = record {
   stays_fit = c.stays_fit;
   decodes = c.decodes;
   open_to = c.open_to;
-  layout = calls_at c.layout at;
+  memory_map = calls_at c.memory_map at;
   shut = record {
     reads = c.shut.reads;
     writes = c.shut.writes;
@@ -65,16 +65,16 @@ calling c at = record {
 }
 
 as_rules : (c : Setting) (at : ℕ) (i : Instr) (f : Form) (d : ℕ) (p : Rule) (ps : List Rule) (s t : State)
-    → IsShownRules c.open_to (calling c at).layout i f c.flags d p ps s t
-    → IsShownRules c.open_to c.layout i f c.flags d p ps s t
+    → IsShownRules c.open_to (calling c at).memory_map i f c.flags d p ps s t
+    → IsShownRules c.open_to c.memory_map i f c.flags d p ps s t
 as_rules c at i f d p ps s t h =
     record { step = h.step; reads = h.reads; writes = h.writes; below = h.below; itself = h.itself; away = h.away }
 
 as_step : (c : Setting) (at d : ℕ) (s t : State) → Step (calling c at) d s t → Step c d s t
 as_step c at d s t h = record { busy = h.busy; interruptible = h.interruptible; instruction = same h.instruction }
   where
-    same : IsShownInstruction c.open_to (calling c at).layout c.flags d s t
-        → IsShownInstruction c.open_to c.layout c.flags d s t
+    same : IsShownInstruction c.open_to (calling c at).memory_map c.flags d s t
+        → IsShownInstruction c.open_to c.memory_map c.flags d s t
     same (inl p) = inl p
     same (inr (inl q)) = inr (inl (q.0, q.1, as_rules c at _ _ d q.0 q.1 s t q.2))
     same (inr (inr (inl q))) = inr (inr (inl (q.0, q.1, as_rules c at _ _ d q.0 q.1 s t q.2)))
@@ -92,18 +92,18 @@ pub record HasFront (c : Setting) (outputs : List Output) (gs : List Segment) : 
   pub to : ℕ
   pub frame : CallsAndLeaves (calling c at)
   pub check : HasCheck c at bad (check_byte (segment_bytes gs)) to gs
-  pub bad_stands : Stands c bad (bad_code c.layout outputs)
-  pub behind : at + 10 * length gs + 9 ≡ c.layout.eval
+  pub bad_stands : Stands c bad (bad_code c.memory_map outputs)
+  pub behind : at + 10 * length gs + 9 ≡ c.memory_map.eval
 
 -- what a sample stands on; its instructions are at most so many
 pub record Watches (c : Setting) (b : Block) (gs : List Segment) (most : ℕ) : Type 0 where
-  pub apart : IsApart c.layout
+  pub apart : IsApart c.memory_map
   pub valid : IsValid b
   pub limits : IsWithinLimits b
   pub laws : WatchingLaws
-  pub ready : c.layout.ready < c.layout.inputs
-  pub outputs_end : c.layout.outputs + 8 ≤ fault_at
-  pub slots_from : fault_at < c.layout.slots
+  pub ready : c.memory_map.ready < c.memory_map.inputs
+  pub outputs_end : c.memory_map.outputs + 8 ≤ fault_at
+  pub slots_from : fault_at < c.memory_map.slots
   pub fault_shown : c.open_to fault_at ≡ false
   pub most_is : instruction_bound Byte b + 4 + count_in gs ≡ most
   pub front : HasFront c b.outputs gs
@@ -143,8 +143,8 @@ record AtCheck (c : Setting) (b : Block) (at back : ℕ) (bytes : List ℕ) (bef
   pc_is : s.regs.pc ≡ at
   sp_is : s.regs.sp ≡ 0x1FFE
   back_is : get_or s.mem 0x1FFE 0 * 2 ^ 8 + get_or s.mem 0x1FFF 0 ≡ back
-  inputs : HasBytes s.mem c.layout.inputs bytes
-  outputs : HasAnswers c.layout b Byte before s.mem
+  inputs : HasBytes s.mem c.memory_map.inputs bytes
+  outputs : HasAnswers c.memory_map b Byte before s.mem
 
 -- behind the return, with the answers and FAULT
 record Ended (c : Setting) (b : Block) (most back : ℕ) (answers : ℕ → ℕ) (fault : ℕ) (s : State) : Type 0 where
@@ -154,7 +154,7 @@ record Ended (c : Setting) (b : Block) (most back : ℕ) (answers : ℕ → ℕ)
   live : Live c t
   pc_is : t.regs.pc ≡ back
   sp_is : t.regs.sp ≡ 0x2000
-  answers_are : HasAnswers c.layout b Byte answers t.mem
+  answers_are : HasAnswers c.memory_map b Byte answers t.mem
   fault_is : get_or t.mem fault_at 0 ≡ fault
   instructions : length ds + 5 ≤ most
   steps : all_steps ds + 5 ≤ steps_by b most
@@ -162,11 +162,11 @@ record Ended (c : Setting) (b : Block) (most back : ℕ) (answers : ℕ → ℕ)
 -- ---- the tables are what they were: EVAL
 
 eval_called : (c : Setting) (b : Block) (gs : List Segment) (most at back n : ℕ) (bytes : List ℕ) (before : ℕ → ℕ)
-    (s : State) → Watches c b gs most → IsInCode c.layout → AreInputBytes b bytes
-    → AtCheck c b at back bytes before s → (r : Leads c n s c.layout.eval (set s.mem fault_at 0))
-    → IsCalled c.open_to c.layout b Byte c.image back bytes before r.t
+    (s : State) → Watches c b gs most → IsInCode c.memory_map → AreInputBytes b bytes
+    → AtCheck c b at back bytes before s → (r : Leads c n s c.memory_map.eval (set s.mem fault_at 0))
+    → IsCalled c.open_to c.memory_map b Byte c.image back bytes before r.t
 eval_called c b gs most at back n bytes before s h inside i k r =
-    let l = c.layout in
+    let l = c.memory_map in
     let from = inside.from in
     let to = inside.to in
     let a1 = h.apart.inputs in
@@ -196,7 +196,7 @@ eval_called c b gs most at back n bytes before s h inside i k r =
 
 evaluated_by : (c : Setting) (b : Block) (gs : List Segment) (most back : ℕ) (bytes : List ℕ) (before : ℕ → ℕ)
     (s : State) → Watches c b gs most → length s.mem ≡ 65536
-    → (r : Leads c (4 + count_in gs) s c.layout.eval (set s.mem fault_at 0)) → Back c b Byte back bytes before r.t
+    → (r : Leads c (4 + count_in gs) s c.memory_map.eval (set s.mem fault_at 0)) → Back c b Byte back bytes before r.t
     → Ended c b most back (λ o. answer Byte b o bytes (before o)) 0 s
 evaluated_by c b gs most back bytes before s h size r e =
     let ds = r.goes.ds ++ e.ds in
@@ -223,14 +223,14 @@ evaluated_by c b gs most back bytes before s h size r e =
     }
 
 ended_well : (c : Setting) (b : Block) (gs : List Segment) (most back : ℕ) (bytes : List ℕ) (before : ℕ → ℕ) (s : State)
-    → (h : Watches c b gs most) → HasRoutine c.layout b Byte c.image
+    → (h : Watches c b gs most) → HasRoutine c.memory_map b Byte c.image
     → AreInputBytes b bytes → AtCheck c b h.front.at back bytes before s
     → ((sum_in s.mem gs + check_byte (segment_bytes gs)) % 2 ^ 8 == 0) ≡ true
     → Ended c b most back (λ o. answer Byte b o bytes (before o)) 0 s
 ended_well c b gs most back bytes before s h routine i k fine =
     let f = h.front in
     let p = passed h.laws.plain c s f.at f.bad (check_byte (segment_bytes gs)) f.to gs f.check k.live k.pc_is fine in
-    let r : Leads c (4 + count_in gs) s c.layout.eval (set s.mem fault_at 0) =
+    let r : Leads c (4 + count_in gs) s c.memory_map.eval (set s.mem fault_at 0) =
     record { t = p.t; goes = p.goes; live = p.live; pc_is = p.pc_is ∙ f.behind; sp_is = p.sp_is; mem_is = p.mem_is } in
     evaluated_by c b gs most back bytes before s h k.live.size r
     (h.laws.called c b Byte back bytes before r.t h.apart h.valid h.limits routine i
@@ -245,7 +245,7 @@ marked : InstructionGoesOn → (c : Setting) (s : State) (bad : ℕ) (rest : Lis
 marked go c s bad rest shown l ep h = stored go c s bad fault_at 1 rest l ep h (omega arith) shown
 
 -- what memory holds behind them
-defaults_stand : (l : Layout) (b : Block) (before : ℕ → ℕ) (m : List ℕ) → length b.outputs ≤ 4
+defaults_stand : (l : MemoryMap) (b : Block) (before : ℕ → ℕ) (m : List ℕ) → length b.outputs ≤ 4
     → l.outputs + 8 ≤ fault_at → length m ≡ 65536 → HasAnswers l b Byte before m
     → HasAnswers l b Byte (λ o. default_of (output_at b o) (before o))
     (all_defaulted (set m fault_at 1) l.outputs b.outputs)
@@ -266,11 +266,11 @@ defaults_stand l b before m few end size h o lo hi =
 defaulted_by : (c : Setting) (b : Block) (gs : List Segment) (most at back : ℕ) (bytes : List ℕ) (before : ℕ → ℕ)
     (s : State) → Watches c b gs most → AtCheck c b at back bytes before s
     → (bad : ℕ) → (r : Leads c (3 + count_in gs) s bad s.mem)
-    → (m : Stored c 2 r.t (set r.t.mem fault_at 1) (defaults_code c.layout.outputs b.outputs ++ Rts ∷ []))
-    → Stored c (2 * length b.outputs) m.t (all_defaulted m.t.mem c.layout.outputs b.outputs) (Rts ∷ [])
+    → (m : Stored c 2 r.t (set r.t.mem fault_at 1) (defaults_code c.memory_map.outputs b.outputs ++ Rts ∷ []))
+    → Stored c (2 * length b.outputs) m.t (all_defaulted m.t.mem c.memory_map.outputs b.outputs) (Rts ∷ [])
     → Ended c b most back (λ o. default_of (output_at b o) (before o)) 1 s
 defaulted_by c b gs most at back bytes before s h k bad r m d =
-    let l = c.layout in
+    let l = c.memory_map in
     let os = b.outputs in
     let few = h.valid.few_outputs in
     let a1 = h.outputs_end in
@@ -317,7 +317,7 @@ ended_badly : (c : Setting) (b : Block) (gs : List Segment) (most back : ℕ) (b
     → Ended c b most back (λ o. default_of (output_at b o) (before o)) 1 s
 ended_badly c b gs most back bytes before s h k wrong =
     let f = h.front in
-    let l = c.layout in
+    let l = c.memory_map in
     let few = h.valid.few_outputs in
     let a1 = h.outputs_end in
     let r = failed h.laws.plain c s f.at f.bad (check_byte (segment_bytes gs)) f.to gs f.check k.live k.pc_is wrong in
@@ -347,11 +347,11 @@ pushed_bytes m r p bs le h =
 
 at_check : (c : Setting) (b : Block) (gs : List Segment) (most : ℕ) (bytes : List ℕ) (before : ℕ → ℕ) (s : State)
     → (h : Watches c b gs most) → AreInputBytes b bytes → Live c s
-    → HasBytes s.mem c.layout.inputs bytes → HasAnswers c.layout b Byte before s.mem
+    → HasBytes s.mem c.memory_map.inputs bytes → HasAnswers c.memory_map b Byte before s.mem
     → (r : Called (calling c h.front.at) s)
-    → AtCheck c b h.front.at (c.layout.wait + 8) bytes before r.t
+    → AtCheck c b h.front.at (c.memory_map.wait + 8) bytes before r.t
 at_check c b gs most bytes before s h i l hi ho r =
-    let ret = c.layout.wait + 8 in
+    let ret = c.memory_map.wait + 8 in
     let few = h.valid.few_outputs in
     let few_inputs = h.valid.few_inputs in
     let count = i.count in
@@ -363,16 +363,16 @@ at_check c b gs most bytes before s h i l hi ho r =
       sp_is = r.sp_is;
       back_is = ap (λ (x : List ℕ). get_or x 0x1FFE 0 * 2 ^ 8 + get_or x 0x1FFF 0) r.mem_is
           ∙ pushed_word s.mem ret l.size;
-      inputs = subst (λ (m : List ℕ). HasBytes m c.layout.inputs bytes) (sym r.mem_is)
-          (pushed_bytes s.mem ret c.layout.inputs bytes (omega arith) hi);
-      outputs = λ o lo le. subst (λ (m : List ℕ). HasBytes m (c.layout.outputs + 1 * (o - 1)) (before o ∷ []))
+      inputs = subst (λ (m : List ℕ). HasBytes m c.memory_map.inputs bytes) (sym r.mem_is)
+          (pushed_bytes s.mem ret c.memory_map.inputs bytes (omega arith) hi);
+      outputs = λ o lo le. subst (λ (m : List ℕ). HasBytes m (c.memory_map.outputs + 1 * (o - 1)) (before o ∷ []))
           (sym r.mem_is)
-          (pushed_bytes s.mem ret (c.layout.outputs + 1 * (o - 1)) (before o ∷ []) (omega arith) (ho o lo le));
+          (pushed_bytes s.mem ret (c.memory_map.outputs + 1 * (o - 1)) (before o ∷ []) (omega arith) (ho o lo le));
     }
 
 returned : (c : Setting) (b : Block) (gs : List Segment) (most : ℕ) (answers : ℕ → ℕ) (fault : ℕ) (s : State)
     → (h : Watches c b gs most) → (r : Called (calling c h.front.at) s)
-    → (e : Ended c b most (c.layout.wait + 8) answers fault r.t) → Left (calling c h.front.at) e.t
+    → (e : Ended c b most (c.memory_map.wait + 8) answers fault r.t) → Left (calling c h.front.at) e.t
     → WatchSampled c b most answers fault s
 returned c b gs most answers fault s h r e f =
     let at = h.front.at in
@@ -394,14 +394,15 @@ returned c b gs most answers fault s h r e f =
         live = f.live;
         pc_is = f.pc_is;
         sp_is = f.sp_is ∙ e.sp_is;
-        outs = λ o lo hi. subst (λ (m : List ℕ). HasBytes m (c.layout.outputs + 1 * (o - 1)) (answers o ∷ [])) (sym mem)
-            (bytes_set_out e.t.mem c.layout.ready 0 (c.layout.outputs + 1 * (o - 1)) (answers o ∷ [])
+        outs = λ o lo hi. subst (λ (m : List ℕ). HasBytes m (c.memory_map.outputs + 1 * (o - 1)) (answers o ∷ []))
+            (sym mem)
+            (bytes_set_out e.t.mem c.memory_map.ready 0 (c.memory_map.outputs + 1 * (o - 1)) (answers o ∷ [])
             (inr (omega arith)) (e.answers_are o lo hi));
-        ready_is = ap (λ (x : List ℕ). get_or x c.layout.ready 0) mem
-            ∙ get_or-set_same e.t.mem c.layout.ready 0 0 (omega arith);
+        ready_is = ap (λ (x : List ℕ). get_or x c.memory_map.ready 0) mem
+            ∙ get_or-set_same e.t.mem c.memory_map.ready 0 0 (omega arith);
       };
       fault_is = ap (λ (x : List ℕ). get_or x fault_at 0) mem
-          ∙ get_or-set_other e.t.mem c.layout.ready fault_at 0 0 (λ q. omega arith) ∙ e.fault_is;
+          ∙ get_or-set_other e.t.mem c.memory_map.ready fault_at 0 0 (λ q. omega arith) ∙ e.fault_is;
       instructions = omega
           (arith, length-append r.ds ds, length-append e.ds f.ds, r.instructions, e.instructions, f.instructions);
       steps = omega (arith, steps_append r.ds ds, steps_append e.ds f.ds, r.steps, e.steps, f.steps);
@@ -410,11 +411,11 @@ returned c b gs most answers fault s h r e f =
 -- where a sample is given: READY is 1, and the bytes stand
 pub record IsGiven (c : Setting) (b : Block) (bytes : List ℕ) (before : ℕ → ℕ) (s : State) : Type 0 where
   pub live : Live c s
-  pub pc_is : s.regs.pc ≡ c.layout.wait
+  pub pc_is : s.regs.pc ≡ c.memory_map.wait
   pub sp_is : s.regs.sp ≡ 0x2000
-  pub ready_is : get_or s.mem c.layout.ready 0 ≡ 1
-  pub inputs : HasBytes s.mem c.layout.inputs bytes
-  pub outputs : HasAnswers c.layout b Byte before s.mem
+  pub ready_is : get_or s.mem c.memory_map.ready 0 ≡ 1
+  pub inputs : HasBytes s.mem c.memory_map.inputs bytes
+  pub outputs : HasAnswers c.memory_map b Byte before s.mem
 
 call : (c : Setting) (b : Block) (gs : List Segment) (most : ℕ) (bytes : List ℕ) (before : ℕ → ℕ) (s : State)
     → (h : Watches c b gs most) → IsGiven c b bytes before s → Called (calling c h.front.at) s
@@ -423,7 +424,7 @@ call c b gs most bytes before s h g =
 
 leave : (c : Setting) (b : Block) (gs : List Segment) (most : ℕ) (answers : ℕ → ℕ) (fault : ℕ) (s : State)
     → (h : Watches c b gs most)
-    → (e : Ended c b most (c.layout.wait + 8) answers fault s) → Left (calling c h.front.at) e.t
+    → (e : Ended c b most (c.memory_map.wait + 8) answers fault s) → Left (calling c h.front.at) e.t
 leave c b gs most answers fault s h e =
     h.front.frame.leaves e.t e.live e.pc_is
 
@@ -431,21 +432,21 @@ leave c b gs most answers fault s h e =
 called_sum : (c : Setting) (at : ℕ) (s : State) (gs : List Segment) → Apart 0x2000 gs → (r : Called (calling c at) s)
     → sum_in r.t.mem gs ≡ sum_in s.mem gs
 called_sum c at s gs apart r =
-    let ret = c.layout.wait + 8 in
+    let ret = c.memory_map.wait + 8 in
     ap (λ (m : List ℕ). sum_in m gs) r.mem_is
     ∙ sum_below (set s.mem 0x1FFE (ret / 2 ^ 8)) 0x1FFF (ret % 2 ^ 8) 0x2000 gs apart (omega arith)
     ∙ sum_below s.mem 0x1FFE (ret / 2 ^ 8) 0x2000 gs apart (omega arith)
 
 pub answered_well : (c : Setting) (b : Block) (gs : List Segment) (most : ℕ) (bytes : List ℕ) (before : ℕ → ℕ)
     (s : State) → (h : Watches c b gs most) → Apart 0x2000 gs
-    → HasRoutine c.layout b Byte c.image → AreInputBytes b bytes → IsGiven c b bytes before s
+    → HasRoutine c.memory_map b Byte c.image → AreInputBytes b bytes → IsGiven c b bytes before s
     → ((sum_in s.mem gs + check_byte (segment_bytes gs)) % 2 ^ 8 == 0) ≡ true
     → WatchSampled c b most (λ o. answer Byte b o bytes (before o)) 0 s
 answered_well c b gs most bytes before s h apart routine i g fine =
     let r = call c b gs most bytes before s h g in
     let k = at_check c b gs most bytes before s h i g.live g.inputs g.outputs r in
     let same = called_sum c h.front.at s gs apart r in
-    let e = ended_well c b gs most (c.layout.wait + 8) bytes before r.t h routine i k
+    let e = ended_well c b gs most (c.memory_map.wait + 8) bytes before r.t h routine i k
     (ap (λ (n : ℕ). (n + check_byte (segment_bytes gs)) % 2 ^ 8 == 0) same ∙ fine) in
     returned c b gs most (λ o. answer Byte b o bytes (before o)) 0 s h r e (leave c b gs most _ 0 r.t h e)
 
@@ -458,6 +459,6 @@ answered_badly c b gs most bytes before s h apart i g wrong =
     let r = call c b gs most bytes before s h g in
     let k = at_check c b gs most bytes before s h i g.live g.inputs g.outputs r in
     let same = called_sum c h.front.at s gs apart r in
-    let e = ended_badly c b gs most (c.layout.wait + 8) bytes before r.t h k
+    let e = ended_badly c b gs most (c.memory_map.wait + 8) bytes before r.t h k
     (ap (λ (n : ℕ). (n + check_byte (segment_bytes gs)) % 2 ^ 8 == 0) same ∙ wrong) in
     returned c b gs most (λ o. default_of (output_at b o) (before o)) 1 s h r e (leave c b gs most _ 1 r.t h e)

@@ -6,7 +6,7 @@ use Rattle.rule_layout.specs.declared.flat.Form.{Form}
 use Rattle.rule_layout.specs.declared.flat.Form.TheVariants as form
 use Rattle.rule_layout.specs.Layouts.{form_of, weights_of}
 use Rattle.watched_code.specs.declared.segments.Segment.{Segment}
-use Rattle.eval_code.specs.Layouts.{main_layout}
+use Rattle.eval_code.specs.MemoryMaps.{main_map}
 use Rattle.eval_code.specs.Data.{table_bytes, singleton_bytes, weight_bytes_by, weight_bytes, rule_bytes}
 use Rattle.eval_code.specs.Evaluation.{HasBytes}
 use Rattle.eval_code.specs.Placed.{HasParts}
@@ -36,8 +36,8 @@ later_few : (f : Form) (ws rs : List ℕ) → length (weight_segments 0xD300 f w
 later_few form.Rev ws rs = omega arith
 later_few form.Revw ws rs = omega arith
 
-module _ (b : Block) (h : HasParts main_layout b) where
-  pub are_segments : AreSegments (segments_of main_layout b)
+module _ (b : Block) (h : HasParts main_map b) where
+  pub are_segments : AreSegments (segments_of main_map b)
   are_segments =
       let t = h.tables in
       let s = h.singletons in (
@@ -48,7 +48,7 @@ module _ (b : Block) (h : HasParts main_layout b) where
         ),
       )
 
-  pub are_apart : Apart 0x2000 (segments_of main_layout b)
+  pub are_apart : Apart 0x2000 (segments_of main_map b)
   are_apart = let t = h.tables in let s = h.singletons in (
     omega arith,
     (
@@ -58,12 +58,12 @@ module _ (b : Block) (h : HasParts main_layout b) where
     ),
   )
 
-pub are_few : (b : Block) → length (segments_of main_layout b) ≤ 4
+pub are_few : (b : Block) → length (segments_of main_map b) ≤ 4
 are_few b = let n = later_few (form_of b) (weights_of b) (rule_bytes 0x1100 b) in omega arith
 
 pub stand : (m : List ℕ) (b : Block) → HasBytes m 0xD000 (table_bytes b) → HasBytes m 0xD200 (singleton_bytes b)
     → HasBytes m 0xD300 (weight_bytes b) → HasBytes m 0xD800 (rule_bytes 0x1100 b)
-    → Stand m (segments_of main_layout b)
+    → Stand m (segments_of main_map b)
 stand m b t s w r = (t, (s, later_stand m (form_of b) (weights_of b) (rule_bytes 0x1100 b) w r))
 
 -- what they take

@@ -4,7 +4,7 @@ use Rattle.cpu12_asm.specs.Items.{IsRising}
 use Rattle.eval_code.specs.declared.width.Width.{Width}
 use Rattle.eval_code.specs.declared.width.Width.TheVariants.{Byte, Word}
 use Rattle.eval_code.specs.Widths.{width_of, is_wide}
-use Rattle.eval_code.specs.Layouts.{main_layout}
+use Rattle.eval_code.specs.MemoryMaps.{main_map}
 use Rattle.codegen.specs.Images.{firmware_items, IsImageOf}
 use Rattle.eval_code.specs.Bounds.{instruction_bound, steps_by}
 use Rattle.codegen.proofs.runs.Law.{main_rises, length-main_items}
@@ -34,9 +34,9 @@ returns-clause-firmware c =
     let e = c.as_slice.ensures.value ∙ c.in-Ok-firmware_items.ensures in
     record {
       image =
-          subst (λ (k : Width). IsImageOf (firmware_items main_layout b k) c.in-Ok-image_of.image) same
+          subst (λ (k : Width). IsImageOf (firmware_items main_map b k) c.in-Ok-image_of.image) same
           (subst (λ (xs : List Item). IsImageOf xs c.in-Ok-image_of.image) e c.in-Ok-image_of.ensures);
-      layout = refl;
+      memory_map = refl;
       inputs = search rules;
       outputs = search rules;
       instructions = c.instruction_bound-instr_bound.ensures.value ∙ ap (λ (k : Width). instruction_bound k b) same;

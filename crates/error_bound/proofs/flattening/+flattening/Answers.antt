@@ -18,6 +18,7 @@ push_group-returns t c =
 
 pub push_pieces-returns-in_ok-push-in-Is : goal.push_pieces-returns-in_ok-push-in-Is
 push_pieces-returns-in_ok-push-in-Is t c =
-    pushed_literal c.args.any c.args.odd _ _ c.in_ok-literal-in-Is.literal c.args.cond.now c.in-Is.input c.in-Is.term
+    pushed_literal c.args.any c.args.odd _ _ c.in_ok-literal-in-Is.literal c.args.condition.now c.in-Is.input
+    c.in-Is.term
     c.in_ok-push-in-Is.ensures.items
     c.in_ok-literal-in-Is.ensures c.in-Is.is

@@ -36,14 +36,16 @@ pub error_of-error_among-requires : goal.error_of-error_among-requires
 error_of-error_among-requires t c =
     let b = c.args.block.now in
     let items = c.in-And.parts.items in
-    let same : condition_of c.args.cond.now ≡ all (conditions (map condition_of items)) = search (rules, the_lemmas) in
-    let valid = subst (λ x. IsValidCondition b x) same c.requires.cond in
+    let same : condition_of c.args.condition.now ≡ all (conditions (map condition_of items)) = search
+    (rules, the_lemmas) in
+    let valid = subst (λ x. IsValidCondition b x) same c.requires.condition in
     (search (rules, the_lemmas), (rw c.as_slice.ensures.value valid, (c.requires.block, c.requires.terms)))
 
 pub error_of-error_among-requires-in-Or : goal.error_of-error_among-requires-in-Or
 error_of-error_among-requires-in-Or t c =
     let b = c.args.block.now in
     let items = c.in-Or.parts.items in
-    let same : condition_of c.args.cond.now ≡ any (conditions (map condition_of items)) = search (rules, the_lemmas) in
-    let valid = subst (λ x. IsValidCondition b x) same c.requires.cond in
+    let same : condition_of c.args.condition.now ≡ any (conditions (map condition_of items)) = search
+    (rules, the_lemmas) in
+    let valid = subst (λ x. IsValidCondition b x) same c.requires.condition in
     (search (rules, the_lemmas), (rw c.as_slice-in-Or.ensures.value valid, (c.requires.block, c.requires.terms)))

@@ -17,7 +17,7 @@ loop-rule-preserved c =
     let rs = c.args.block.now.rules in
     let t = c.loop-rule.rule-index in
     let r0 = c.rule-item.result in
-    let cond = c.in_ok-cond.cond in
+    let condition = c.in_ok-condition.condition in
     let P = λ (_ : ℕ) (r : Rule) (d : Cond). condition_of d ≡ flat (condition_of r.cond) in
     let i = c.loop-rule.invariant in
     let items = c.in_ok-push.ensures.items in
@@ -25,12 +25,12 @@ loop-rule-preserved c =
     let here = λ (r : Rule) (e : slice_get rs t ≡ Some r).
     let same : r0 ≡ r = c.rule-item.is ∙ ap (λ l. get_or l t r0) c.as_slice-rule-items.ensures
     ∙ get_or_from_slice_get rs t r r0 e in
-    subst (λ z. condition_of cond ≡ flat (condition_of z.cond)) same c.in_ok-cond.ensures in
-    let longer : length (c.loop-rule.conditions.items ++ cond ∷ []) ≡ t + 1 =
-    let l = length-append c.loop-rule.conditions.items (cond ∷ []) in omega (arith, l, count) in (
+    subst (λ z. condition_of condition ≡ flat (condition_of z.cond)) same c.in_ok-condition.ensures in
+    let longer : length (c.loop-rule.conditions.items ++ condition ∷ []) ≡ t + 1 =
+    let l = length-append c.loop-rule.conditions.items (condition ∷ []) in omega (arith, l, count) in (
       ap length items ∙ longer,
       subst (λ ys. AreFilled P rs ys (t + 1)) (sym items)
-          (AreFilled-push P rs c.loop-rule.conditions.items t cond count i.1 here),
+          (AreFilled-push P rs c.loop-rule.conditions.items t condition count i.1 here),
     )
 
 pub returns : goal.returns

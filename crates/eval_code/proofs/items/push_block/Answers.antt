@@ -7,7 +7,7 @@ use Rattle.eval_code.proofs.items.push_block.Goals as goal
 
 pub returns : goal.returns
 returns c =
-    let l = c.args.layout.now in
+    let l = c.args.memory_map.now in
     let b = c.args.block.now in
     let w = c.args.width in
     let flat = c.args.flat.now in

@@ -10,7 +10,7 @@ push_slots-requires-clause-few c = sum_by-term_count c.args.inputs.now c.require
 
 pub returns : goal.returns
 returns c =
-    let l = c.args.layout.now in
+    let l = c.args.memory_map.now in
     let inputs = c.args.inputs.now in
     let outputs = c.args.outputs.now in
     let slots = c.args.slots.now in

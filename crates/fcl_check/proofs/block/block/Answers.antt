@@ -1,11 +1,13 @@
 use Rattle.fcl_check.proofs.faultless.Present.{input_sections, output_sections}
 use Rattle.fcl_check.proofs.block.block.Goals as goal
 
-pub variables-requires-clause-sound : goal.variables-requires-clause-sound
-variables-requires-clause-sound c = input_sections c.args.tree.now.text.items c.args.tree.now.block c.requires.sound
+pub variables-requires-clause-well_formed : goal.variables-requires-clause-well_formed
+variables-requires-clause-well_formed c = input_sections c.args.tree.now.text.items c.args.tree.now.block
+    c.requires.well_formed
 
-pub variables-requires-2-clause-sound : goal.variables-requires-2-clause-sound
-variables-requires-2-clause-sound c = output_sections c.args.tree.now.text.items c.args.tree.now.block c.requires.sound
+pub variables-requires-2-clause-well_formed : goal.variables-requires-2-clause-well_formed
+variables-requires-2-clause-well_formed c = output_sections c.args.tree.now.text.items c.args.tree.now.block
+    c.requires.well_formed
 
 pub returns : goal.returns
 returns c = record {

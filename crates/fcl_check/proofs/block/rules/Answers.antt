@@ -1,8 +1,8 @@
 use Rattle.std.proofs.Common.{take, refl, subst, sym}
 use Rattle.std.proofs.lemmas.List.Elements.{All-from_recursion}
 use Rattle.fcl_check.specs.Loaded.{IsRuleOf}
-use Rattle.fcl_check.specs.Sound.{IsSoundRule}
-use Rattle.fcl_check.proofs.faultless.Faultless.{faultless, sound_rules}
+use Rattle.fcl_check.specs.WellFormed.{IsWellFormedRule}
+use Rattle.fcl_check.proofs.faultless.Faultless.{faultless, well_formed_rules}
 use Rattle.fcl_check.proofs.places.FirstPlaces.{one_further}
 use Rattle.fcl_check.proofs.lists.OneByOne.{all_related_more}
 use Rattle.fcl_check.proofs.block.rules.Goals as goal
@@ -24,7 +24,7 @@ rule-requires c =
     let text = source.tree.now.text.items in
     let block = source.tree.now.block in
     let value = c.deref-next-items.ensures.value in
-    let sound = All-from_recursion (IsSoundRule text block) block.rules.rules.items
-    (sound_rules text block (faultless text block source.sound)) in
-    subst (IsSoundRule text block) (sym (rw value at c.next-item.is))
-    (sound c.each.next-index c.next-item.result (rw value at c.each-test.true))
+    let well_formed = All-from_recursion (IsWellFormedRule text block) block.rules.rules.items
+    (well_formed_rules text block (faultless text block source.well_formed)) in
+    subst (IsWellFormedRule text block) (sym (rw value at c.next-item.is))
+    (well_formed c.each.next-index c.next-item.result (rw value at c.each-test.true))

@@ -9,7 +9,8 @@ overflow_cast-result c =
     let block = source.tree.now.block in
     omega (
       arith,
-      number_few text block source.sound c.args.side c.args.variable c.args.term _ c.unwrap-declared.result c.requires
+      number_few text block source.well_formed c.args.side c.args.variable c.args.term _ c.unwrap-declared.result
+          c.requires
           c.letters-letters.ensures
           (sym c.unwrap-declared.ensures ∙ c.variable.ensures source.tree.now source.known),
     )
@@ -21,6 +22,6 @@ overflow_cast-result-2 c =
     let block = source.tree.now.block in
     omega (
       arith,
-      term_few text block source.sound c.args.side _ _ c.unwrap-term.result
+      term_few text block source.well_formed c.args.side _ _ c.unwrap-term.result
           (sym (c.term.ensures source.tree.now source.known) ∙ c.unwrap-term.ensures),
     )

@@ -35,9 +35,9 @@ each-preserved g c =
 pub unwrap-part-requires : goal.unwrap-part-requires
 unwrap-part-requires g c =
     let read = c.deref-direction-items in
-    let there = section_read g.V.FromSection.side g.V.FromSection.as_section g.V.FromSection.IsSound
+    let there = section_read g.V.FromSection.side g.V.FromSection.as_section g.V.FromSection.IsWellFormed
     c.args.tree.now.text.items c.args.tree.now.block
-    c.requires.sound read.result.now c.each.direction-index _ (read.ensures.value ∙ c.requires.known.declared)
+    c.requires.well_formed read.result.now c.each.direction-index _ (read.ensures.value ∙ c.requires.known.declared)
     (omega arith)
     (same-direction _ g.V.FromSection.side ∙ sym (rw c.direction.ensures at c.eq.ensures) ∙ c.if-eq.true) in
     let p = part_there g.V.FromSection.as_section _ there.0 there.1 in
@@ -47,9 +47,9 @@ unwrap-part-requires g c =
 pub unwrap-section-requires : goal.unwrap-section-requires
 unwrap-section-requires g c =
     let read = c.deref-direction-items in
-    let there = section_read g.V.FromSection.side g.V.FromSection.as_section g.V.FromSection.IsSound
+    let there = section_read g.V.FromSection.side g.V.FromSection.as_section g.V.FromSection.IsWellFormed
     c.args.tree.now.text.items c.args.tree.now.block
-    c.requires.sound read.result.now c.each.direction-index _ (read.ensures.value ∙ c.requires.known.declared)
+    c.requires.well_formed read.result.now c.each.direction-index _ (read.ensures.value ∙ c.requires.known.declared)
     (omega arith)
     (same-direction _ g.V.FromSection.side ∙ sym (rw c.direction.ensures at c.eq.ensures) ∙ c.if-eq.true) in
     let found = section-at g.V.FromSection.as_section c.args.tree.now.text.items c.args.tree.now.block _ _
@@ -60,9 +60,9 @@ unwrap-section-requires g c =
 pub from_section-requires : goal.from_section-requires
 from_section-requires g c =
     let read = c.deref-direction-items in
-    let there = section_read g.V.FromSection.side g.V.FromSection.as_section g.V.FromSection.IsSound
+    let there = section_read g.V.FromSection.side g.V.FromSection.as_section g.V.FromSection.IsWellFormed
     c.args.tree.now.text.items c.args.tree.now.block
-    c.requires.sound read.result.now c.each.direction-index _ (read.ensures.value ∙ c.requires.known.declared)
+    c.requires.well_formed read.result.now c.each.direction-index _ (read.ensures.value ∙ c.requires.known.declared)
     (omega arith)
     (same-direction _ g.V.FromSection.side ∙ sym (rw c.direction.ensures at c.eq.ensures) ∙ c.if-eq.true) in
     let found = section-at g.V.FromSection.as_section c.args.tree.now.text.items c.args.tree.now.block _ _
@@ -70,4 +70,4 @@ from_section-requires g c =
     c.letters.ensures (c.section.ensures c.args.tree.now c.requires.known) c.unwrap-part.ensures in
     let same = same_Some there.0 c.unwrap-section.result.now
     (sym there.1 ∙ found ∙ sym (rw c.unwrap-section.ensures at c.section-then-eq.ensures)) in
-    subst g.V.FromSection.IsSound same there.2
+    subst g.V.FromSection.IsWellFormed same there.2

@@ -7,7 +7,7 @@ use Rattle.firmware_ports.proofs.ports.answers.Given as goal
 abbrev pub invariant-loop-left : goal.invariant-loop-left
 invariant-loop-left g l = record {
   answers : l.answers.items ++ answers_at l.firmware.wide l.left l.at l.m.state.mem ≡ answers_at l.firmware.wide
-      l.firmware.outputs l.firmware.layout.outputs l.m.state.mem;
+      l.firmware.outputs l.firmware.memory_map.outputs l.m.state.mem;
   room : array_vec_len l.answers + l.left ≡ l.firmware.outputs;
 }
 

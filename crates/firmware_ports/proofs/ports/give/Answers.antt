@@ -9,7 +9,7 @@ use Rattle.firmware_ports.proofs.ports.give.Goals as goal
 pub returns-clause-state : goal.returns-clause-state
 returns-clause-state g c =
     let l = c.loop-byte in
-    let b = c.args.layout.now in
+    let b = c.args.memory_map.now in
     let bytes = c.args.bytes.now in
     let mem = c.args.m.now.state.mem in
     let none : l.m.state.mem ≡ write_all (placed b.samples bytes) mem =

@@ -7,7 +7,7 @@ use Rattle.firmware_ports.proofs.ports.give.Given as goal
 abbrev pub invariant-loop-byte : goal.invariant-loop-byte
 invariant-loop-byte g l = record {
   mem : write_all (placed l.at (drop l.byte-index l.bytes)) l.m.state.mem ≡ write_all
-      (placed l.layout.samples l.bytes) l.fn.m.state.mem;
+      (placed l.memory_map.samples l.bytes) l.fn.m.state.mem;
   regs : l.m.state.regs ≡ l.fn.m.state.regs;
   temps : l.m.state.temps ≡ l.fn.m.state.temps;
   flags : l.m.flags ≡ l.fn.m.flags;

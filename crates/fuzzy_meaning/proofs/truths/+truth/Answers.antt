@@ -10,8 +10,9 @@ pub truth-requires-in-loop-k : goal.truth-requires-in-loop-k
 truth-requires-in-loop-k t c =
     let b = c.args.block.now in
     let items = c.in-And.parts.items in
-    let same : condition_of c.args.cond.now ≡ all (conditions (map condition_of items)) = search (rules, the_lemmas) in
-    let valid = subst (λ x. IsValidCondition b x) same c.requires.cond in
+    let same : condition_of c.args.condition.now ≡ all (conditions (map condition_of items)) = search
+    (rules, the_lemmas) in
+    let valid = subst (λ x. IsValidCondition b x) same c.requires.condition in
     let within : c.loop-k.k - 1 < length items = search rules in
     let part = slice_get_read items (length items) (c.loop-k.k - 1) c.index.result.now refl within c.index.ensures in (
       search (rules, the_lemmas),
@@ -22,8 +23,9 @@ pub truth-requires-in-loop-k-2 : goal.truth-requires-in-loop-k-2
 truth-requires-in-loop-k-2 t c =
     let b = c.args.block.now in
     let items = c.in-Or.parts.items in
-    let same : condition_of c.args.cond.now ≡ any (conditions (map condition_of items)) = search (rules, the_lemmas) in
-    let valid = subst (λ x. IsValidCondition b x) same c.requires.cond in
+    let same : condition_of c.args.condition.now ≡ any (conditions (map condition_of items)) = search
+    (rules, the_lemmas) in
+    let valid = subst (λ x. IsValidCondition b x) same c.requires.condition in
     let within : c.loop-k-2.k - 1 < length items = search rules in
     let part = slice_get_read items (length items) (c.loop-k-2.k - 1) c.index-in-loop-k-2.result.now refl within
     c.index-in-loop-k-2.ensures in (

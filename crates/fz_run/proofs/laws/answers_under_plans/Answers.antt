@@ -3,7 +3,7 @@ use Rattle.fz_run.proofs.laws.answers_under_plans.Goals as goal
 
 pub returns : goal.returns
 returns c = answers_under_plans (record {
-  ways = record {
+  executions = record {
     steps = c.instructions_are_steps.ensures;
     given_is_put = c.given_is_put.ensures;
     arrives_plainly = c.arrives_plainly.ensures;

@@ -7,7 +7,7 @@ pub loop-number-init : goal.loop-number-init
 loop-number-init g c = record {
   putting = begun _ _;
   faults = refl;
-  sound = λ s. s;
+  reliable = λ s. s;
 }
 
 pub loop-number-preserved : goal.loop-number-preserved
@@ -15,7 +15,7 @@ loop-number-preserved g c = record {
   putting = next_at behind_blank c.args.numbers.now c.loop-number.number-index _ c.loop-number-test.true
       c.loop-number.invariant.putting _ c.in_ok-put_behind_blank.ensures.whole;
   faults = c.in_ok-put_behind_blank.ensures.cause.stays ∙ c.loop-number.invariant.faults;
-  sound = λ s. c.in_ok-put_behind_blank.ensures.sound (c.loop-number.invariant.sound s);
+  reliable = λ s. c.in_ok-put_behind_blank.ensures.reliable (c.loop-number.invariant.reliable s);
 }
 
 pub returns-in_err-put_behind_blank-clause-part : goal.returns-in_err-put_behind_blank-clause-part

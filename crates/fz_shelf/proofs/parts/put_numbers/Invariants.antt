@@ -9,5 +9,5 @@ invariant-loop-number g l = record {
   putting : Putting (g.S.Sink.told l.initial.sink) (g.S.Sink.told l.sink) (flat_map behind_blank l.numbers)
       (flat_map behind_blank (drop l.number-index l.numbers));
   faults : g.S.Sink.faults l.sink ≡ g.S.Sink.faults l.initial.sink;
-  sound : g.S.Sink.sound l.initial.sink → g.S.Sink.sound l.sink;
+  reliable : g.S.Sink.reliable l.initial.sink → g.S.Sink.reliable l.sink;
 }

@@ -7,7 +7,7 @@ pub loop-part-init : goal.loop-part-init
 loop-part-init g c = record {
   putting = begun _ _;
   faults = refl;
-  sound = λ s. s;
+  reliable = λ s. s;
 }
 
 pub loop-part-preserved : goal.loop-part-preserved
@@ -15,7 +15,7 @@ loop-part-preserved g c = record {
   putting = next_at part_text c.args.parts.now c.loop-part.part-index _ c.loop-part-test.true
       c.loop-part.invariant.putting _ c.in_ok-put_part.ensures.whole;
   faults = c.in_ok-put_part.ensures.cause.stays ∙ c.loop-part.invariant.faults;
-  sound = λ s. c.in_ok-put_part.ensures.sound (c.loop-part.invariant.sound s);
+  reliable = λ s. c.in_ok-put_part.ensures.reliable (c.loop-part.invariant.reliable s);
 }
 
 pub returns-in_err-put_part-clause-part : goal.returns-in_err-put_part-clause-part

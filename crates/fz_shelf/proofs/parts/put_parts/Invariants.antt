@@ -8,5 +8,5 @@ invariant-loop-part g l = record {
   putting : Putting (g.S.Sink.told l.initial.sink) (g.S.Sink.told l.sink) (parts_text l.parts)
       (parts_text (drop l.part-index l.parts));
   faults : g.S.Sink.faults l.sink ≡ g.S.Sink.faults l.initial.sink;
-  sound : g.S.Sink.sound l.initial.sink → g.S.Sink.sound l.sink;
+  reliable : g.S.Sink.reliable l.initial.sink → g.S.Sink.reliable l.sink;
 }

@@ -6,12 +6,12 @@ pub loop-rest-init : goal.loop-rest-init
 loop-rest-init g c = record {
   putting = begun _ _;
   faults = refl;
-  sound = λ s. s;
+  reliable = λ s. s;
 }
 
 pub loop-rest-preserved : goal.loop-rest-preserved
 loop-rest-preserved g c = record {
   putting = goes_on c.loop-rest.invariant.putting c.in_ok-count.count _ c.in_ok-count.ensures.told;
   faults = c.in_ok-count.ensures.cause.stays ∙ c.loop-rest.invariant.faults;
-  sound = λ s. c.in_ok-count.ensures.sound (c.loop-rest.invariant.sound s);
+  reliable = λ s. c.in_ok-count.ensures.reliable (c.loop-rest.invariant.reliable s);
 }

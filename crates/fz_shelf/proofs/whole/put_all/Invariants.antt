@@ -6,7 +6,7 @@ abbrev pub invariant-loop-rest : goal.invariant-loop-rest
 invariant-loop-rest g l = record {
   putting : Putting (g.S.Sink.told l.initial.sink) (g.S.Sink.told l.sink) l.bytes l.rest;
   faults : g.S.Sink.faults l.sink ≡ g.S.Sink.faults l.initial.sink;
-  sound : g.S.Sink.sound l.initial.sink → g.S.Sink.sound l.sink;
+  reliable : g.S.Sink.reliable l.initial.sink → g.S.Sink.reliable l.sink;
 }
 
 abbrev pub decreases-loop-rest : goal.decreases-loop-rest

@@ -7,7 +7,7 @@ pub loop-line-init : goal.loop-line-init
 loop-line-init g c = record {
   putting = begun _ _;
   faults = refl;
-  sound = λ s. s;
+  reliable = λ s. s;
 }
 
 pub loop-line-preserved : goal.loop-line-preserved
@@ -16,7 +16,7 @@ loop-line-preserved g c = record {
       c.loop-line-test.true c.line-item.is c.as_bytes.ensures.value c.loop-line.invariant.putting _
       c.in_ok-put_all.ensures.whole;
   faults = c.in_ok-put_all.ensures.cause.stays ∙ c.loop-line.invariant.faults;
-  sound = λ s. c.in_ok-put_all.ensures.sound (c.loop-line.invariant.sound s);
+  reliable = λ s. c.in_ok-put_all.ensures.reliable (c.loop-line.invariant.reliable s);
 }
 
 pub returns-in_err-put_all-clause-part : goal.returns-in_err-put_all-clause-part

@@ -8,5 +8,5 @@ invariant-loop-line g l = record {
   putting : Putting (g.S.Sink.told l.initial.sink) (g.S.Sink.told l.sink) (text_of l.lines)
       (text_of (drop l.line-index l.lines));
   faults : g.S.Sink.faults l.sink ≡ g.S.Sink.faults l.initial.sink;
-  sound : g.S.Sink.sound l.initial.sink → g.S.Sink.sound l.sink;
+  reliable : g.S.Sink.reliable l.initial.sink → g.S.Sink.reliable l.sink;
 }

@@ -48,11 +48,12 @@ returns-clause-done g c = λ command contents output can why.
     elim why [
       | inl none ↦ does c.outputs_have_no_fault.ensures words old _ command contents output can _ run.runs
           (no_read_fault words old _ none _ run.runs) (no_write_fault words old _ none _ run.runs)
-      | inr sound ↦
-          let ready : IsReady words old command contents = record { is = can.is; known = can.known; room = sound.2 } in
+      | inr reliable ↦
+          let ready : IsReady words old command contents = record { is = can.is; known = can.known; room = reliable.2 }
+          in
           does c.outputs_have_no_fault.ensures words old _ command contents output can _ run.runs
-          (run.reads_steady sound.0 command can.is (there words old old command contents can.is can.known))
-          (run.writes_steady sound.0 sound.1 command contents ready)
+          (run.reads_steady reliable.0 command can.is (there words old old command contents can.is can.known))
+          (run.writes_steady reliable.0 reliable.1 command contents ready)
     ]
 
 pub returns-clause-carried : goal.returns-clause-carried

@@ -18,14 +18,14 @@ returns-clause-runs g c =
     c.in-Err-deliver.ensures.failed
 
 pub returns-clause-writes_steady : goal.returns-clause-writes_steady
-returns-clause-writes_steady g c = λ shelf_sound out_sound command contents ready fault.
+returns-clause-writes_steady g c = λ shelf_reliable out_reliable command contents ready fault.
     let made = make _ _ _ _ _ _ _ c.in-Ok.command _ c.in-Ok-read_all.contents.items _ _
     (sym c.in-Ok.ensures.value) c.in-Ok-read_all.ensures.files c.inputs.ensures c.in-Ok-read_all.ensures.whole
     c.deref.ensures.value c.in-Ok-work.ensures in
     let room = room_of _ _ _ _ _ _ _ (g.O.Sink.told c.args.out.now) (g.O.Sink.faults c.args.out.now) _ made command
     contents ready in
     let ok : false ≡ true =
-    c.in-Err-deliver.ensures.steady (c.in-Ok-read_all.ensures.sound shelf_sound) out_sound room.0 room.1 in
+    c.in-Err-deliver.ensures.steady (c.in-Ok-read_all.ensures.reliable shelf_reliable) out_reliable room.0 room.1 in
     cc
 
 pub returns-in-Err-clause-runs : goal.returns-in-Err-clause-runs

@@ -8,8 +8,8 @@ returns-in-Err-clause-stops g c =
     c.loop-place.invariant.files c.in-Err.ensures.stops
 
 pub returns-in-Err-clause-steady : goal.returns-in-Err-clause-steady
-returns-in-Err-clause-steady g c = λ sound there.
-    c.in-Err.ensures.steady (c.loop-place.invariant.sound sound)
+returns-in-Err-clause-steady g c = λ reliable there.
+    c.in-Err.ensures.steady (c.loop-place.invariant.reliable reliable)
     (there_later _ _ _ _ c.loop-place.place-index _ c.loop-place-test.true c.loop-place.invariant.files there)
 
 pub loop-place-preserved : goal.loop-place-preserved
@@ -18,7 +18,7 @@ loop-place-preserved g c =
       files = c.in-Ok.ensures.files ∙ c.loop-place.invariant.files;
       whole = read_more _ _ _ _ _ _ _ _ _ c.loop-place.place-index _ c.loop-place-test.true _ _ _ _
           c.loop-place.invariant.whole c.loop-place.invariant.files c.in-Ok.ensures.whole c.in-Ok-push.ensures.items;
-      sound = λ s. c.in-Ok.ensures.sound (c.loop-place.invariant.sound s);
+      reliable = λ s. c.in-Ok.ensures.reliable (c.loop-place.invariant.reliable s);
     }
 
 pub returns-clause-small : goal.returns-clause-small

@@ -10,5 +10,5 @@ invariant-loop-place g l = record {
   whole : ReadsWhole (texts_of l.words) (take l.place-index l.places) (g.S.Shelf.files l.initial.shelf)
       (g.S.Shelf.counts l.initial.shelf) (g.S.Shelf.counts l.shelf)
       (g.S.Shelf.asked l.initial.shelf) (g.S.Shelf.asked l.shelf) (bytes_of l.contents.items);
-  sound : g.S.Shelf.sound l.initial.shelf → g.S.Shelf.sound l.shelf;
+  reliable : g.S.Shelf.reliable l.initial.shelf → g.S.Shelf.reliable l.shelf;
 }

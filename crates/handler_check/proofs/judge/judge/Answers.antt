@@ -3,7 +3,7 @@ use Rattle.cpu12_isa.specs.declared.instr.Instr.{Instr}
 use Rattle.cpu12_isa.specs.declared.instr.Instr.TheVariants.{LdaaImmediate}
 use Rattle.handler_check.specs.Cut.{size_of, code_bytes, code_end, IsAt}
 use Rattle.handler_check.specs.Judging.{AreJudged}
-use Rattle.handler_check.specs.Ways.{way_at}
+use Rattle.handler_check.specs.PathSummaries.{summary_at}
 use Rattle.handler_check.proofs.Places.{below_end, is_at-here, bytes-more, bytes-under, take-whole}
 use Rattle.handler_check.proofs.Onward.{behind_first, accepted_end}
 use Rattle.handler_check.proofs.judge.judge.Goals as goal
@@ -56,7 +56,7 @@ loop-instr-preserved c =
     record {
       place = omega (arith, b, z);
       judged = subst (λ (n : ℕ). AreJudged c.args.cut.now.code.items c.args.cut.now.trapped
-          (c.loop-instr.at + n) c.in_ok-best.best (way_at c.judge_one.new.ways.places.items))
+          (c.loop-instr.at + n) c.in_ok-best.best (summary_at c.judge_one.new.summaries.places.items))
           (sym c.size-at.ensures.size) c.in_ok-best.ensures.judged;
       size = c.in_ok-best.ensures.size ∙ c.loop-instr.invariant.size;
     }
@@ -70,9 +70,9 @@ returns-then-cut-clause-fault c =
     ∙ ap (λ (n : ℕ). 16384 + length (code_bytes (take n c.args.cut.now.code.items))) k
     ∙ ap (λ (l : List Instr). 16384 + length (code_bytes l)) (take-whole c.args.cut.now.code.items) in
     λ _. behind_first c.args.cut.now.code.items c.args.cut.now.trapped c.loop-instr.best
-    (way_at c.loop-instr.ways.places.items) c.loop-instr.at c.fault_behind.result at c.if-cut.true
+    (summary_at c.loop-instr.summaries.places.items) c.loop-instr.at c.fault_behind.result at c.if-cut.true
     c.loop-instr.invariant.judged
-    (way_at c.loop-instr.ways.places.items c.loop-instr.at) refl c.fault_behind.ensures
+    (summary_at c.loop-instr.summaries.places.items c.loop-instr.at) refl c.fault_behind.ensures
 
 pub returns-clause-accepted : goal.returns-clause-accepted
 returns-clause-accepted c =
@@ -83,5 +83,5 @@ returns-clause-accepted c =
     ∙ ap (λ (n : ℕ). 16384 + length (code_bytes (take n c.args.cut.now.code.items))) k
     ∙ ap (λ (l : List Instr). 16384 + length (code_bytes l)) (take-whole c.args.cut.now.code.items) in
     accepted_end c.args.cut.now.code.items c.args.cut.now.trapped c.args.cut.now.firsts.items c.loop-instr.best
-    (way_at c.loop-instr.ways.places.items) c.loop-instr.at c.requires.table c.requires.some c.requires.fits
+    (summary_at c.loop-instr.summaries.places.items) c.loop-instr.at c.requires.table c.requires.some c.requires.fits
     c.if-cut.false at c.loop-instr.invariant.judged

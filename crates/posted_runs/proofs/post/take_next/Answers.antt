@@ -17,7 +17,7 @@ returns-clause-takes g c =
     ∙ ap (λ r. if is_ok r then t.frames.items ++ (t.moment, c.interrupt-frame.result) ∷ [] else t.frames.items)
     c.unwrap.ensures in
     let writes = c.as_slice.ensures.value ∙ c.write_post.ensures.writes
-    ∙ ap (post_writes a.firmware.now.layout samples) c.index-posts-t.is in
+    ∙ ap (post_writes a.firmware.now.memory_map samples) c.index-posts-t.is in
     one_taken m.flags a.firmware.now samples t.begun t.moment a.posts.now t.next c.index-posts-t.result m.state
     c.interrupt-frame.new.self.state
     t.frames.items c.push.new.self.items c.interrupt-frame.result

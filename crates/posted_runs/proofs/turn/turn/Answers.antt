@@ -19,7 +19,7 @@ returns-then-regs-firmware-clause-turned g c =
     let past = l.invariant.past in
     let begins = c.requires.begins in
     let moment = c.pass.ensures.moment c.if-not-pass.false in
-    let waits = waits_at a.t.now.begun p.t.moment p.m.state.regs.pc a.firmware.now.layout.wait
+    let waits = waits_at a.t.now.begun p.t.moment p.m.state.regs.pc a.firmware.now.memory_map.wait
     (omega (arith, past, begins, moment))
     (sym (ap (λ (r : Regs). r.pc) c.regs.ensures) ∙ c.if-regs-firmware.true) in
     sym (waits_there form a.last a.posts.now p.t p.m.state waits)

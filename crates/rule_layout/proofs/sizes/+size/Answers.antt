@@ -45,40 +45,44 @@ size_in_turn-loop-part-preserved t c =
 
 pub size_of-size_in_turn-requires : goal.size_of-size_in_turn-requires
 size_of-size_in_turn-requires t c =
-    let all_parts = nodes-And c.args.cond.now c.in-And.parts c.in-And.is in (
+    let all_parts = nodes-And c.args.condition.now c.in-And.parts c.in-And.is in (
       search (rules, the_lemmas),
       (
-        rw c.deref-then-odd.ensures.value (AllFitGrid-And c.args.cond.now c.in-And.parts c.in-And.is c.requires.fits),
+        rw c.deref-then-odd.ensures.value (AllFitGrid-And c.args.condition.now c.in-And.parts c.in-And.is
+            c.requires.fits),
         rw c.deref-then-odd.ensures.value (omega (arith, all_parts, c.requires.few)),
       ),
     )
 
 pub size_of-size_of_choices-requires : goal.size_of-size_of_choices-requires
 size_of-size_of_choices-requires t c =
-    let all_parts = nodes-And c.args.cond.now c.in-And.parts c.in-And.is in (
+    let all_parts = nodes-And c.args.condition.now c.in-And.parts c.in-And.is in (
       search (rules, the_lemmas),
       (
-        rw c.deref-else-odd.ensures.value (AllFitGrid-And c.args.cond.now c.in-And.parts c.in-And.is c.requires.fits),
+        rw c.deref-else-odd.ensures.value (AllFitGrid-And c.args.condition.now c.in-And.parts c.in-And.is
+            c.requires.fits),
         rw c.deref-else-odd.ensures.value (omega (arith, all_parts, c.requires.few)),
       ),
     )
 
 pub size_of-size_of_choices-requires-then-odd-2 : goal.size_of-size_of_choices-requires-then-odd-2
 size_of-size_of_choices-requires-then-odd-2 t c =
-    let all_parts = nodes-Or c.args.cond.now c.in-Or.parts c.in-Or.is in (
+    let all_parts = nodes-Or c.args.condition.now c.in-Or.parts c.in-Or.is in (
       search (rules, the_lemmas),
       (
-        rw c.deref-then-odd-2.ensures.value (AllFitGrid-Or c.args.cond.now c.in-Or.parts c.in-Or.is c.requires.fits),
+        rw c.deref-then-odd-2.ensures.value (AllFitGrid-Or c.args.condition.now c.in-Or.parts c.in-Or.is
+            c.requires.fits),
         rw c.deref-then-odd-2.ensures.value (omega (arith, all_parts, c.requires.few)),
       ),
     )
 
 pub size_of-size_in_turn-requires-else-odd-2 : goal.size_of-size_in_turn-requires-else-odd-2
 size_of-size_in_turn-requires-else-odd-2 t c =
-    let all_parts = nodes-Or c.args.cond.now c.in-Or.parts c.in-Or.is in (
+    let all_parts = nodes-Or c.args.condition.now c.in-Or.parts c.in-Or.is in (
       search (rules, the_lemmas),
       (
-        rw c.deref-else-odd-2.ensures.value (AllFitGrid-Or c.args.cond.now c.in-Or.parts c.in-Or.is c.requires.fits),
+        rw c.deref-else-odd-2.ensures.value (AllFitGrid-Or c.args.condition.now c.in-Or.parts c.in-Or.is
+            c.requires.fits),
         rw c.deref-else-odd-2.ensures.value (omega (arith, all_parts, c.requires.few)),
       ),
     )

@@ -7,25 +7,25 @@ use Rattle.rule_layout.proofs.spreading.+spread.Goals as goal
 pub conjunctions-in_turn-requires : goal.conjunctions-in_turn-requires
 conjunctions-in_turn-requires t c = (
   search (rules, the_lemmas),
-  rw c.deref-then-odd-2.ensures.value (AllFitGrid-And c.args.cond.now c.in-And.parts c.in-And.is c.requires),
+  rw c.deref-then-odd-2.ensures.value (AllFitGrid-And c.args.condition.now c.in-And.parts c.in-And.is c.requires),
 )
 
 pub conjunctions-by_choice-requires : goal.conjunctions-by_choice-requires
 conjunctions-by_choice-requires t c = (
   search (rules, the_lemmas),
-  rw c.deref-else-odd-2.ensures.value (AllFitGrid-And c.args.cond.now c.in-And.parts c.in-And.is c.requires),
+  rw c.deref-else-odd-2.ensures.value (AllFitGrid-And c.args.condition.now c.in-And.parts c.in-And.is c.requires),
 )
 
 pub conjunctions-by_choice-requires-then-odd-3 : goal.conjunctions-by_choice-requires-then-odd-3
 conjunctions-by_choice-requires-then-odd-3 t c = (
   search (rules, the_lemmas),
-  rw c.deref-then-odd-3.ensures.value (AllFitGrid-Or c.args.cond.now c.in-Or.parts c.in-Or.is c.requires),
+  rw c.deref-then-odd-3.ensures.value (AllFitGrid-Or c.args.condition.now c.in-Or.parts c.in-Or.is c.requires),
 )
 
 pub conjunctions-in_turn-requires-else-odd-3 : goal.conjunctions-in_turn-requires-else-odd-3
 conjunctions-in_turn-requires-else-odd-3 t c = (
   search (rules, the_lemmas),
-  rw c.deref-else-odd-3.ensures.value (AllFitGrid-Or c.args.cond.now c.in-Or.parts c.in-Or.is c.requires),
+  rw c.deref-else-odd-3.ensures.value (AllFitGrid-Or c.args.condition.now c.in-Or.parts c.in-Or.is c.requires),
 )
 
 pub in_turn-conjunctions-requires : goal.in_turn-conjunctions-requires

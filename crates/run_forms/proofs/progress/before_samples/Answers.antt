@@ -3,8 +3,8 @@ use Rattle.run_forms.specs.Slices.{HaveRoom}
 use Rattle.run_forms.proofs.Outlooks.{steady_before}
 use Rattle.run_forms.proofs.progress.before_samples.Goals as goal
 
-pub returns-clause-way : goal.returns-clause-way
-returns-clause-way g c =
+pub returns-clause-under_way : goal.returns-clause-under_way
+returns-clause-under_way g c =
     let a = c.args in
     let h = g.F.RunForm.harness a.form.now in
     let samples = h.samples in

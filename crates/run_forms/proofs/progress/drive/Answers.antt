@@ -24,17 +24,17 @@ pub loop-m-preserved : goal.loop-m-preserved
 loop-m-preserved g c =
     let l = c.loop-m in
     let on = further g c in
-    let way = c.advance.ensures.way in
+    let under_way = c.advance.ensures.under_way in
     record {
-      way = record {
-        few = way.few;
-        number = way.number;
-        first = way.first;
-        behind = way.behind;
-        follow = way.follow;
-        rooms = way.rooms;
-        rows = way.rows;
-        room = way.room;
+      under_way = record {
+        few = under_way.few;
+        number = under_way.number;
+        first = under_way.first;
+        behind = under_way.behind;
+        follow = under_way.follow;
+        rooms = under_way.rooms;
+        rows = under_way.rows;
+        room = under_way.room;
         stand = c.pass_at_once.ensures.steady;
       };
       rows = on.rows ∙ l.invariant.rows;

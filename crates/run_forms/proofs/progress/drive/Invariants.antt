@@ -5,7 +5,7 @@ use Rattle.run_forms.proofs.progress.drive.Given as goal
 -- the rows and the last state to come are those of the whole run
 abbrev pub invariant-loop-m : goal.invariant-loop-m
 invariant-loop-m g l = record {
-  way : IsUnderWay (g.F.RunForm.harness l.form) l.plan l.p;
+  under_way : IsUnderWay (g.F.RunForm.harness l.form) l.plan l.p;
   rows : (outlook_at l.fn.m.flags (g.F.RunForm.harness l.form) l.plan l.p l.m.state).rows
       ≡ (outlook_at l.fn.m.flags (g.F.RunForm.harness l.form) l.plan l.fn.p l.fn.m.state).rows;
   state : (outlook_at l.fn.m.flags (g.F.RunForm.harness l.form) l.plan l.p l.m.state).state

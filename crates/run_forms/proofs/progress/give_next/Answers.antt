@@ -17,7 +17,7 @@ left_there : (g : Over) (c : After-count_of g)
 left_there g c =
     let p = c.args.p.now in
     let h = g.F.RunForm.harness c.args.form.now in
-    let w = c.requires.way in
+    let w = c.requires.under_way in
     let more = c.requires.left in
     next_room h.parts.place c.args.plan.now (p.number + 1) p.behind c.count_of.result (length h.samples - p.number)
     c.in-Some.room c.pop_front.new.self.items p.rooms.items c.replace-stand.new.dest.tally c.count_of.ensures
@@ -44,18 +44,18 @@ returns-clause-outlook g c =
     given_next a.m.now.flags given.flags past.m.flags h a.plan.now a.p.now c.count_of.result c.in-Some.room
     c.pop_front.new.self.items
     stand.result stand.new.dest came.st a.m.now.state past.m.state given.state came.m.state (map h.seen past.rows.items)
-    c.requires.way c.requires.left c.in-Some.ensures.items c.count_of.ensures stand.ensures.value
+    c.requires.under_way c.requires.left c.in-Some.ensures.items c.count_of.ensures stand.ensures.value
     (ap (λ s. s.tally) stand.ensures.after ∙ c.fresh_stand.ensures.tally)
     (ap (λ s. s.left) stand.ensures.after ∙ c.fresh_stand.ensures.left)
     c.give.ensures.flags c.end_sample.ensures.flags c.end_sample.ensures.rows c.end_sample.ensures.state
     c.give.ensures.state
     c.come.ensures.coming c.come.ensures.moment
 
-pub returns-clause-way : goal.returns-clause-way
-returns-clause-way g c =
+pub returns-clause-under_way : goal.returns-clause-under_way
+returns-clause-under_way g c =
     let a = c.args in
     let p = a.p.now in
-    let w = c.requires.way in
+    let w = c.requires.under_way in
     let k = p.number + 1 in
     let plan = a.plan.now in
     let rest = drop p.behind plan in
@@ -98,7 +98,7 @@ returns-clause-way g c =
 
 pub end_sample-requires-clause-few : goal.end_sample-requires-clause-few
 end_sample-requires-clause-few g c =
-    let w = c.requires.way in
+    let w = c.requires.under_way in
     let stand = w.stand in
     let few = stand.few in
     let same = ap (λ s. vec_len s.tally.told) c.replace-stand.ensures.value in

@@ -8,7 +8,7 @@ pub returns-then-regs-loop_at-clause-state : goal.returns-then-regs-loop_at-clau
 returns-then-regs-loop_at-clause-state g c =
     let l = c.loop-left in
     sym (arrives l.m.flags c.args.loop_at l.left l.m.state
-    (sym (ap (λ r. r.pc) c.regs.ensures) ∙ c.if-regs-loop_at.true)) ∙ l.invariant.way
+    (sym (ap (λ r. r.pc) c.regs.ensures) ∙ c.if-regs-loop_at.true)) ∙ l.invariant.same
 
 pub returns-in-Err-clause-state : goal.returns-in-Err-clause-state
 returns-in-Err-clause-state g c =
@@ -16,18 +16,18 @@ returns-in-Err-clause-state g c =
     ap (λ w. w.state) c.in-Err.ensures.next.2
     ∙ sym (arrives_never l.m.flags c.args.loop_at l.left l.m.state c.in-Err.field-0.byte
     (λ e. c.if-regs-loop_at.false (ap (λ r. r.pc) c.regs.ensures ∙ e)) c.in-Err.ensures.next.0)
-    ∙ l.invariant.way
+    ∙ l.invariant.same
 
 pub loop-left-preserved : goal.loop-left-preserved
 loop-left-preserved g c =
     let l = c.loop-left in
     let next : Next = record { state = c.step.new.self.state; kind = c.in-Ok.field-0 } in
     record {
-      way = ap (λ (f : ℕ). arrival f c.args.loop_at (l.left - 1) c.step.new.self.state) c.step.ensures.flags
+      same = ap (λ (f : ℕ). arrival f c.args.loop_at (l.left - 1) c.step.new.self.state) c.step.ensures.flags
           ∙ sym (arrives_later l.m.flags c.args.loop_at l.left l.m.state next
           (λ e. c.if-regs-loop_at.false (ap (λ r. r.pc) c.regs.ensures ∙ e)) c.loop-left-test.true
           c.in-Ok.ensures.next)
-          ∙ l.invariant.way;
+          ∙ l.invariant.same;
       flags = c.step.ensures.flags ∙ l.invariant.flags;
       noted = c.step.ensures.noted ∙ l.invariant.noted;
     }
@@ -35,4 +35,4 @@ loop-left-preserved g c =
 pub returns-clause-state : goal.returns-clause-state
 returns-clause-state g c =
     let l = c.loop-left in
-    sym (arrives_spent l.m.flags c.args.loop_at l.left l.m.state (omega arith)) ∙ l.invariant.way
+    sym (arrives_spent l.m.flags c.args.loop_at l.left l.m.state (omega arith)) ∙ l.invariant.same

@@ -5,7 +5,7 @@ use Rattle.run_forms.proofs.runs.arrive.Given as goal
 -- what is left of the way leads to the same state as all of it
 abbrev pub invariant-loop-left : goal.invariant-loop-left
 invariant-loop-left g l = record {
-  way : arrival l.m.flags l.loop_at l.left l.m.state ≡ arrival l.fn.m.flags l.loop_at l.budget l.fn.m.state;
+  same : arrival l.m.flags l.loop_at l.left l.m.state ≡ arrival l.fn.m.flags l.loop_at l.budget l.fn.m.state;
   flags : l.m.flags ≡ l.fn.m.flags;
   noted : l.m.noted ≡ l.fn.m.noted;
 }

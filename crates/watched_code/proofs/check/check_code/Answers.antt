@@ -6,12 +6,12 @@ use Rattle.watched_code.proofs.check.check_code.Goals as goal
 
 pub code_length-requires : goal.code_length-requires
 code_length-requires c =
-    let bad = bad_code c.args.layout.now c.args.outputs.now in
+    let bad = bad_code c.args.memory_map.now c.args.outputs.now in
     omega (
       arith,
       ap length c.requires.bad,
       length-le bad,
-      length-bad c.args.layout.now c.args.outputs.now c.requires.few,
+      length-bad c.args.memory_map.now c.args.outputs.now c.requires.few,
     )
 
 pub code_length-requires-2 : goal.code_length-requires-2
@@ -34,7 +34,7 @@ overflow_add-back c =
       arith,
       bad,
       sum,
-      length-bad c.args.layout.now c.args.outputs.now c.requires.few,
+      length-bad c.args.memory_map.now c.args.outputs.now c.requires.few,
       length-sum c.args.segments.now,
     )
 
@@ -47,7 +47,7 @@ overflow_add-back-2 c =
       arith,
       bad,
       sum,
-      length-bad c.args.layout.now c.args.outputs.now c.requires.few,
+      length-bad c.args.memory_map.now c.args.outputs.now c.requires.few,
       length-sum c.args.segments.now,
     )
 
@@ -60,6 +60,6 @@ overflow_sub-back c =
       arith,
       bad,
       sum,
-      length-bad c.args.layout.now c.args.outputs.now c.requires.few,
+      length-bad c.args.memory_map.now c.args.outputs.now c.requires.few,
       length-sum c.args.segments.now,
     )

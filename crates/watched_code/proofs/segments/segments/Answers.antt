@@ -5,7 +5,8 @@ use Rattle.watched_code.proofs.segments.segments.Goals as goal
 
 pub returns : goal.returns
 returns c =
-    segments_made c.flat_has_parts.ensures c.args.layout.now c.args.block.now c.args.flat.now _ _ _ _ _ _ _ _ c.requires.flat
+    segments_made c.flat_has_parts.ensures c.args.memory_map.now c.args.block.now c.args.flat.now _ _ _ _ _ _ _ _
+    c.requires.flat
     c.new-segments.ensures.items
     (c.new.ensures ∙ c.in_ok-term_tables.ensures)
     (c.new-2.ensures ∙ c.in_ok-singletons.ensures

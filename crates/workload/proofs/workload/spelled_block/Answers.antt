@@ -9,7 +9,8 @@ returns-in-Ok-load c =
     record {
       tree = tree.block;
       spelled = c.in-Ok.ensures.found;
-      sound = subst (λ (ls : List ℕ). first_fault ls tree.block ≡ None) c.in-Ok.ensures.kept c.in-Ok-load.ensures.fault;
+      well_formed = subst (λ (ls : List ℕ). first_fault ls tree.block ≡ None) c.in-Ok.ensures.kept
+          c.in-Ok-load.ensures.fault;
       loaded = subst (λ (ls : List ℕ). IsBlockOf ls tree.block c.in-Ok-load.block) c.in-Ok.ensures.kept
           c.in-Ok-load.ensures.block;
       valid = c.in-Ok-load.ensures.valid;

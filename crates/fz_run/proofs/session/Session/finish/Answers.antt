@@ -27,7 +27,7 @@ returns-clause-memory g c =
 
 pub into_rows-rows-requires-clause-few : goal.into_rows-rows-requires-clause-few
 into_rows-rows-requires-clause-few g c =
-    let w = c.drive.ensures.way in
+    let w = c.drive.ensures.under_way in
     let stand = w.stand in
     let few = stand.few in
     omega (arith, few)

@@ -13,5 +13,5 @@ returns-clause-state g c x e =
     let count : length x ≡ length c.as_slice.result.now = ap (λ (v : List ℕ). length v) same in
     let few : length x ≤ 8 = omega (arith, count, c.as_slice.ensures.fits) in
     c.give.ensures.state
-    ∙ ap (λ (v : List ℕ). given c.args.self.now.firmware.now.layout v c.args.m.now.state)
+    ∙ ap (λ (v : List ℕ). given c.args.self.now.firmware.now.memory_map v c.args.m.now.state)
     (sym same ∙ sym (take_all 8 x few))

@@ -15,7 +15,7 @@ add-requires-in-loop-part t c =
     c.part-item.is in
     let fits = subst (λ (w : List Cond). AllFitGrid (conditions (map condition_of w)))
     (sym c.deref-part-items.ensures.value)
-    (AllFitGrid-parts c.args.cond.now c.in-And.parts c.in-And.is c.requires) in
+    (AllFitGrid-parts c.args.condition.now c.in-And.parts c.in-And.is c.requires) in
     (search (rules, the_lemmas), part_fits at fits)
 
 pub loop-part-preserved : goal.loop-part-preserved
@@ -35,6 +35,6 @@ returns-after-loop-part t c = record {
       let whole = take_all c.loop-part.part-index c.deref-part-items.result.now c.loop-part-test.false
       ∙ c.deref-part-items.ensures.value in
       let parts = ap (λ (w : List Cond). some_has_complement i u c.args.odd (conditions (map condition_of w))) whole
-      ∙ sym (has_complement-parts c.args.cond.now c.in-And.parts c.in-And.is i u c.args.odd) in
+      ∙ sym (has_complement-parts c.args.condition.now c.in-And.parts c.in-And.is i u c.args.odd) in
       c.loop-part.invariant i u h ∙ ap (λ (b : Bool). is_marked c.args.self.now.table i u || b) parts;
 }

@@ -10,4 +10,4 @@ returns-clause-state g c x e =
     got input_bytes c.args.self.now.slow.now c.args.k c.index-self-k.result x c.requires e
     ∙ sym c.as_slice.ensures.value in
     c.give.ensures.state
-    ∙ ap (λ (v : List ℕ). given c.args.self.now.two.now.slow.layout v c.args.m.now.state) (sym same)
+    ∙ ap (λ (v : List ℕ). given c.args.self.now.two.now.slow.memory_map v c.args.m.now.state) (sym same)

@@ -21,5 +21,5 @@ returns-clause-state g c = λ x is.
     let change = c.upset_of.ensures ∙ ap (λ (n : ℕ). change_of n upsets) c.number_of.ensures
     ∙ sym (change_there 1 upsets _ a.k x is) in
     c.change.ensures.state
-    ∙ given_is a.self.now.firmware.now.layout x _ _ a.m.now.state c.give.new.m.state c.give.ensures.state
+    ∙ given_is a.self.now.firmware.now.memory_map x _ _ a.m.now.state c.give.new.m.state c.give.ensures.state
     (c.bytes_of.ensures.bytes x.bytes (bytes_there 1 upsets _ a.k x is)) change

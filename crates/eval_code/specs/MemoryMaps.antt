@@ -1,8 +1,8 @@
--- The layout of a firmware that stands alone.
-use Rattle.eval_code.specs.declared.layout.Layout.{Layout}
+-- The memory map of a firmware that stands alone.
+use Rattle.eval_code.specs.declared.memory_map.MemoryMap.{MemoryMap}
 
-abbrev pub main_layout : Layout
-main_layout = record {
+abbrev pub main_map : MemoryMap
+main_map = record {
   code = 0xC000;
   wait = 0xC008;
   interrupt = 0xC015;

@@ -17,19 +17,19 @@ use Rattle.fcl_check.specs.Sections.{incomplete, shapeless_terms, without_terms}
 
 -- ---- sections
 
-pub record IsSoundFuzzify (s : Fuzzify) : Type 0 where
+pub record IsWellFormedFuzzify (s : Fuzzify) : Type 0 where
   pub some : without_terms (part.Fuzzify s) ≡ []
   pub shaped : shapeless_terms (part.Fuzzify s) ≡ []
 
-pub record IsSoundDefuzzify (s : Defuzzify) : Type 0 where
+pub record IsWellFormedDefuzzify (s : Defuzzify) : Type 0 where
   pub some : without_terms (part.Defuzzify s) ≡ []
   pub complete : incomplete (part.Defuzzify s) ≡ []
 
--- a variable that is declared on this side has a sound section of one sort
+-- a variable that is declared on this side has a well-formed section of one sort
 abbrev pub HasSection : {S : Type 0} → Direction → (Part → Option S) → (S → Type 0) → List ℕ → FunctionBlock
     → Declared → Type 0
-HasSection {S} side as_section IsSound text b d = is_direction side d.0 ≡ true
-    → (s : S) × (option_and_then as_section (section_of text b (letters text d.1)) ≡ Some s) × IsSound s
+HasSection {S} side as_section IsWellFormed text b d = is_direction side d.0 ≡ true
+    → (s : S) × (option_and_then as_section (section_of text b (letters text d.1)) ≡ Some s) × IsWellFormed s
 
 -- ---- rules
 
@@ -48,7 +48,7 @@ module _ (text : List ℕ) (b : FunctionBlock) where
   abbrev pub AreConcluded : List Conclusion → Type 0
   AreConcluded conclusions = AllByRecursion (λ (c : Conclusion). IsKnown Output c.variable c.term) conclusions
 
-  pub record IsSoundRule (r : Rule) : Type 0 where
+  pub record IsWellFormedRule (r : Rule) : Type 0 where
     pub condition : AreKnown (condition_pairs r)
     pub conclusions : AreConcluded (conclusions_of r)
     pub weight : weight_outside r ≡ []

@@ -3,8 +3,8 @@ use Rattle.std.specs.Prelude.{ℕ, ◌+◌, ◌-◌, List, [], ◌∷◌, nat_le
 use Rattle.cpu12_isa.specs.declared.instr.Instr.{Instr}
 use Rattle.cpu12_isa.specs.declared.instr.Instr.TheVariants.{Andcc, Rti}
 use Rattle.cpu12_isa.specs.Regions.{is_free, is_vector}
-use Rattle.eval_code.specs.declared.layout.Layout.{Layout}
-use Rattle.eval_code.specs.Layouts.{main_layout}
+use Rattle.eval_code.specs.declared.memory_map.MemoryMap.{MemoryMap}
+use Rattle.eval_code.specs.MemoryMaps.{main_map}
 
 -- a place in ROM, and one in RAM, of a firmware that stands alone: where the fast block has it
 abbrev pub lowered : ℕ → ℕ
@@ -20,41 +20,41 @@ fast_front = Andcc 0xEF ∷ []
 abbrev pub fast_back : List Instr
 fast_back = Rti ∷ []
 
--- the layout of a fast block, which waits for nothing: the interrupt's vector holds its first instruction
-abbrev pub fast_layout : Layout
-fast_layout = record {
-  code = lowered main_layout.code;
-  wait = lowered main_layout.wait;
-  interrupt = lowered main_layout.code;
-  eval = lowered main_layout.code + 2;
-  tables = lowered main_layout.tables;
-  singletons = lowered main_layout.singletons;
-  weights = lowered main_layout.weights;
-  rules = lowered main_layout.rules;
-  ready = raised main_layout.ready;
-  samples = raised main_layout.samples;
-  inputs = raised main_layout.inputs;
-  outputs = raised main_layout.outputs;
-  slots = raised main_layout.slots;
+-- the memory map of a fast block, which waits for nothing: the interrupt's vector holds its first instruction
+abbrev pub fast_map : MemoryMap
+fast_map = record {
+  code = lowered main_map.code;
+  wait = lowered main_map.wait;
+  interrupt = lowered main_map.code;
+  eval = lowered main_map.code + 2;
+  tables = lowered main_map.tables;
+  singletons = lowered main_map.singletons;
+  weights = lowered main_map.weights;
+  rules = lowered main_map.rules;
+  ready = raised main_map.ready;
+  samples = raised main_map.samples;
+  inputs = raised main_map.inputs;
+  outputs = raised main_map.outputs;
+  slots = raised main_map.slots;
 }
 
 -- the slow firmware's where a fast block stands beside it
-abbrev pub slow_layout : Layout
-slow_layout = record main_layout { interrupt = fast_layout.interrupt }
+abbrev pub slow_map : MemoryMap
+slow_map = record main_map { interrupt = fast_map.interrupt }
 
 -- the address behind the fast block's ROM, $7F00, and behind its RAM
 abbrev pub fast_rom_end : ℕ
-fast_rom_end = fast_layout.rules + 9984
+fast_rom_end = fast_map.rules + 9984
 
 abbrev pub fast_ram_end : ℕ
-fast_ram_end = fast_layout.slots + 300
+fast_ram_end = fast_map.slots + 300
 
 -- the fast block's RAM: READY, the inputs, the outputs and the slots; and its ROM
 abbrev pub is_fast_ram : ℕ → Bool
-is_fast_ram at = nat_le fast_layout.ready at && nat_lt at fast_ram_end
+is_fast_ram at = nat_le fast_map.ready at && nat_lt at fast_ram_end
 
 abbrev pub is_fast_rom : ℕ → Bool
-is_fast_rom at = nat_le fast_layout.code at && nat_lt at fast_rom_end
+is_fast_rom at = nat_le fast_map.code at && nat_lt at fast_rom_end
 
 -- Beside the run of the slow firmware both belong to its interrupts, with their vector and the free bytes.
 abbrev pub is_open_to_fast : ℕ → Bool

@@ -2,7 +2,7 @@
 
 /// The addresses of a firmware's parts.
 #[derive(Clone, Copy, Debug, PartialEq, Eq)]
-pub struct Layout {
+pub struct MemoryMap {
     /// The first instruction, which the reset vector holds.
     pub code: u16,
     /// Where the code waits for READY.
@@ -31,9 +31,9 @@ pub struct Layout {
     pub slots: u16,
 }
 
-impl Layout {
-    /// The layout of a firmware that stands alone.
-    pub const MAIN: Layout = Layout {
+impl MemoryMap {
+    /// The memory map of a firmware that stands alone.
+    pub const MAIN: MemoryMap = MemoryMap {
         code: 0xC000,
         wait: 0xC008,
         interrupt: 0xC015,

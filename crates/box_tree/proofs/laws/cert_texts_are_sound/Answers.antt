@@ -1,5 +1,0 @@
-use Rattle.box_tree.proofs.StopLemmas as lemmas
-use Rattle.box_tree.proofs.laws.cert_texts_are_sound.Goals as goal
-
-pub returns : goal.returns
-returns c = lemmas.cert_texts_are_sound
