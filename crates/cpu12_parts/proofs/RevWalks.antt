@@ -1,5 +1,6 @@
 -- What one part of REV and one of REVW do.
 use Rattle.std.proofs.Common.{◌≡◌, ℕ, ◌^◌, ◌<◌, min, max, Bool, true, false, List, [], ◌∷◌, get_or, refl, ap, ap₂, ◌∙◌}
+use Rattle.std.proofs.Common.{◌⊎◌, inl, inr}
 use Rattle.std.proofs.Common.{subst, arith, get_or-set_other}
 use Rattle.std.proofs.lemmas.Bool.{ne_eqb, false≢true}
 use Rattle.cpu12_isa.specs.declared.instr.Regs.{Regs}
@@ -83,80 +84,52 @@ revw_raise flags r t a x y e c mem is l v =
     revw_by flags r t a x y e c mem (gives r t a (plus x 2) y (opened c hnz flags) ((e, max (get_or mem e 0) a) ∷ []))
     (e ∷ []) is (rw (h5, h4, v)) (rw (h5, h4, v))
 
--- the flags
-rev_again : (c : Ccr) (flags : ℕ) → c.0 < 2 ^ 8 → flags < 2 ^ 8
-    → put (opened (opened c hnzc flags) hnzc flags) overflow true ≡ put (opened c hnzc flags) overflow true
-rev_again c flags f g =
-    same_ccr (put (opened (opened c hnzc flags) hnzc flags) overflow true) (put (opened c hnzc flags) overflow true)
-    (fits_put (opened (opened c hnzc flags) hnzc flags) overflow true (omega arith)
-    (fits_opened (opened c hnzc flags) hnzc flags (fits_opened c hnzc flags f g) g))
-    (fits_put (opened c hnzc flags) overflow true (omega arith) (fits_opened c hnzc flags f g))
-    (simp (bit_or_is, bit_and_is))
+-- the flags that REV's part opens, or those that REVW's does
+abbrev IsMask : ℕ → Type 0
+IsMask mask = (mask ≡ hnzc) ⊎ (mask ≡ hnz)
 
-rev_put_again : (c : Ccr) (flags : ℕ) (b : Bool) → c.0 < 2 ^ 8 → flags < 2 ^ 8
-    → put (opened (put (opened c hnzc flags) overflow b) hnzc flags) overflow true ≡ put
-    (opened c hnzc flags) overflow true
-rev_put_again c flags true f g =
-    same_ccr (put (opened (put (opened c hnzc flags) overflow true) hnzc flags) overflow true)
-    (put (opened c hnzc flags) overflow true)
-    (fits_put (opened (put (opened c hnzc flags) overflow true) hnzc flags) overflow true (omega arith)
-    (fits_opened (put (opened c hnzc flags) overflow true) hnzc flags
-    (fits_put (opened c hnzc flags) overflow true (omega arith) (fits_opened c hnzc flags f g)) g))
-    (fits_put (opened c hnzc flags) overflow true (omega arith) (fits_opened c hnzc flags f g))
-    (simp (bit_or_is, bit_and_is))
-rev_put_again c flags false f g =
-    same_ccr (put (opened (put (opened c hnzc flags) overflow false) hnzc flags) overflow true)
-    (put (opened c hnzc flags) overflow true)
-    (fits_put (opened (put (opened c hnzc flags) overflow false) hnzc flags) overflow true (omega arith)
-    (fits_opened (put (opened c hnzc flags) overflow false) hnzc flags
-    (fits_put (opened c hnzc flags) overflow false (omega arith) (fits_opened c hnzc flags f g)) g))
-    (fits_put (opened c hnzc flags) overflow true (omega arith) (fits_opened c hnzc flags f g))
-    (simp (bit_or_is, bit_and_is))
+-- the flags behind a list's last part
+abbrev last : ℕ → ℕ → Ccr → Ccr
+last mask flags c = put (opened c mask flags) overflow true
 
-rev_set : (c : Ccr) (flags : ℕ) → c.0 < 2 ^ 8 → flags < 2 ^ 8 → has c overflow ≡ true
-    → opened c hnzc flags ≡ put (opened c hnzc flags) overflow true
-rev_set c flags f g v =
+fits_put_opened : (mask flags : ℕ) (c : Ccr) (b : Bool) → c.0 < 2 ^ 8 → flags < 2 ^ 8
+    → (put (opened c mask flags) overflow b).0 < 2 ^ 8
+fits_put_opened mask flags c b f g = fits_put (opened c mask flags) overflow b (omega arith) (fits_opened c mask flags f g)
+
+fits_last : (mask flags : ℕ) (c : Ccr) → c.0 < 2 ^ 8 → flags < 2 ^ 8 → (last mask flags c).0 < 2 ^ 8
+fits_last mask flags c f g = fits_put_opened mask flags c true f g
+
+-- they are those flags too where they were opened before, with V put or not
+last_opened : (mask flags : ℕ) (c : Ccr) → IsMask mask → c.0 < 2 ^ 8 → flags < 2 ^ 8
+    → last mask flags (opened c mask flags) ≡ last mask flags c
+last_opened mask flags c is f g =
+    same_ccr (last mask flags (opened c mask flags)) (last mask flags c)
+    (fits_last mask flags (opened c mask flags) (fits_opened c mask flags f g) g) (fits_last mask flags c f g)
+    (elim is [ inl e ↦ rw e (simp (bit_or_is, bit_and_is)) | inr e ↦ rw e (simp (bit_or_is, bit_and_is)) ])
+
+last_put : (mask flags : ℕ) (c : Ccr) (b : Bool) → IsMask mask → c.0 < 2 ^ 8 → flags < 2 ^ 8
+    → last mask flags (put (opened c mask flags) overflow b) ≡ last mask flags c
+last_put mask flags c true is f g =
+    same_ccr (last mask flags (put (opened c mask flags) overflow true)) (last mask flags c)
+    (fits_last mask flags (put (opened c mask flags) overflow true) (fits_put_opened mask flags c true f g) g)
+    (fits_last mask flags c f g)
+    (elim is [ inl e ↦ rw e (simp (bit_or_is, bit_and_is)) | inr e ↦ rw e (simp (bit_or_is, bit_and_is)) ])
+last_put mask flags c false is f g =
+    same_ccr (last mask flags (put (opened c mask flags) overflow false)) (last mask flags c)
+    (fits_last mask flags (put (opened c mask flags) overflow false) (fits_put_opened mask flags c false f g) g)
+    (fits_last mask flags c f g)
+    (elim is [ inl e ↦ rw e (simp (bit_or_is, bit_and_is)) | inr e ↦ rw e (simp (bit_or_is, bit_and_is)) ])
+
+-- where V is set, they are the opened ones
+opened_last : (mask flags : ℕ) (c : Ccr) → IsMask mask → c.0 < 2 ^ 8 → flags < 2 ^ 8 → has c overflow ≡ true
+    → opened c mask flags ≡ last mask flags c
+opened_last mask flags c is f g v =
     let b : bit c.0 1 ≡ true = v in
-    same_ccr (opened c hnzc flags) (put (opened c hnzc flags) overflow true) (fits_opened c hnzc flags f g)
-    (fits_put (opened c hnzc flags) overflow true (omega arith) (fits_opened c hnzc flags f g))
-    (simp (bit_or_is, bit_and_is) (rw b refl))
-
-revw_again : (c : Ccr) (flags : ℕ) → c.0 < 2 ^ 8 → flags < 2 ^ 8
-    → put (opened (opened c hnz flags) hnz flags) overflow true ≡ put (opened c hnz flags) overflow true
-revw_again c flags f g =
-    same_ccr (put (opened (opened c hnz flags) hnz flags) overflow true) (put (opened c hnz flags) overflow true)
-    (fits_put (opened (opened c hnz flags) hnz flags) overflow true (omega arith)
-    (fits_opened (opened c hnz flags) hnz flags (fits_opened c hnz flags f g) g))
-    (fits_put (opened c hnz flags) overflow true (omega arith) (fits_opened c hnz flags f g))
-    (simp (bit_or_is, bit_and_is))
-
-revw_put_again : (c : Ccr) (flags : ℕ) (b : Bool) → c.0 < 2 ^ 8 → flags < 2 ^ 8
-    → put (opened (put (opened c hnz flags) overflow b) hnz flags) overflow true ≡ put
-    (opened c hnz flags) overflow true
-revw_put_again c flags true f g =
-    same_ccr (put (opened (put (opened c hnz flags) overflow true) hnz flags) overflow true)
-    (put (opened c hnz flags) overflow true)
-    (fits_put (opened (put (opened c hnz flags) overflow true) hnz flags) overflow true (omega arith)
-    (fits_opened (put (opened c hnz flags) overflow true) hnz flags
-    (fits_put (opened c hnz flags) overflow true (omega arith) (fits_opened c hnz flags f g)) g))
-    (fits_put (opened c hnz flags) overflow true (omega arith) (fits_opened c hnz flags f g))
-    (simp (bit_or_is, bit_and_is))
-revw_put_again c flags false f g =
-    same_ccr (put (opened (put (opened c hnz flags) overflow false) hnz flags) overflow true)
-    (put (opened c hnz flags) overflow true)
-    (fits_put (opened (put (opened c hnz flags) overflow false) hnz flags) overflow true (omega arith)
-    (fits_opened (put (opened c hnz flags) overflow false) hnz flags
-    (fits_put (opened c hnz flags) overflow false (omega arith) (fits_opened c hnz flags f g)) g))
-    (fits_put (opened c hnz flags) overflow true (omega arith) (fits_opened c hnz flags f g))
-    (simp (bit_or_is, bit_and_is))
-
-revw_set : (c : Ccr) (flags : ℕ) → c.0 < 2 ^ 8 → flags < 2 ^ 8 → has c overflow ≡ true
-    → opened c hnz flags ≡ put (opened c hnz flags) overflow true
-revw_set c flags f g v =
-    let b : bit c.0 1 ≡ true = v in
-    same_ccr (opened c hnz flags) (put (opened c hnz flags) overflow true) (fits_opened c hnz flags f g)
-    (fits_put (opened c hnz flags) overflow true (omega arith) (fits_opened c hnz flags f g))
-    (simp (bit_or_is, bit_and_is) (rw b refl))
+    same_ccr (opened c mask flags) (last mask flags c) (fits_opened c mask flags f g) (fits_last mask flags c f g)
+    (elim is [
+      | inl e ↦ rw e (simp (bit_or_is, bit_and_is) (rw b refl))
+      | inr e ↦ rw e (simp (bit_or_is, bit_and_is) (rw b refl))
+    ])
 
 revw_weighing : (c : Ccr) (b : Bool) → has (put c overflow b) carry ≡ has c carry
 revw_weighing c true = simp bit_or_is
@@ -183,9 +156,9 @@ rev_walks flags r t = record {
   v_opened = λ c. simp (bit_or_is, bit_and_is);
   weighs_opened = λ c. refl;
   weighs_put = λ c b. refl;
-  ends_opened = λ c f g. rev_again c flags f g;
-  ends_put = λ c b f g. rev_put_again c flags b f g;
-  ends_set = λ c f g v. rev_set c flags f g v;
+  ends_opened = λ c f g. last_opened hnzc flags c (inl refl) f g;
+  ends_put = λ c b f g. last_put hnzc flags c b (inl refl) f g;
+  ends_set = λ c f g v. opened_last hnzc flags c (inl refl) f g v;
 }
 
 pub revw_walks : (flags : ℕ) (r : Regs) (t : Temps) → Walks revw flags revw_form r t
@@ -206,9 +179,9 @@ revw_walks flags r t = record {
   v_opened = λ c. simp (bit_or_is, bit_and_is);
   weighs_opened = λ c. simp (bit_or_is, bit_and_is);
   weighs_put = revw_weighing;
-  ends_opened = λ c f g. revw_again c flags f g;
-  ends_put = λ c b f g. revw_put_again c flags b f g;
-  ends_set = λ c f g v. revw_set c flags f g v;
+  ends_opened = λ c f g. last_opened hnz flags c (inr refl) f g;
+  ends_put = λ c b f g. last_put hnz flags c b (inr refl) f g;
+  ends_set = λ c f g v. opened_last hnz flags c (inr refl) f g v;
 }
 
 pub rev_is_whole : RevIsWhole
