@@ -21,22 +21,22 @@ use Rattle.codegen.specs.declared.firmware.Firmware.{Firmware}
 use Rattle.eval_code.specs.declared.memory_map.MemoryMap.{MemoryMap}
 use Rattle.codegen.specs.Turns.{IsMaskedStep}
 use Rattle.posted_runs.specs.UninterruptedTurns.{IsAnswerRun}
-use Rattle.posted_runs.specs.UsedLaws.{StepLaws}
+use Rattle.posted_runs.specs.UsedLaws.{PlainStepLaws}
 use Rattle.posted_runs.proofs.Passing.{plain_next}
 use Rattle.posted_runs.proofs.TwoSteps.{IsHere, here_at}
 
 -- a plain step
-pub kind_plain : StepLaws → (flags : ℕ) (i : Instr) (s t : State) → s.temps ≡ Free → IsPlainStep flags i s t
+pub kind_plain : PlainStepLaws → (flags : ℕ) (i : Instr) (s t : State) → s.temps ≡ Free → IsPlainStep flags i s t
     → kind_at flags s ≡ Plain
 kind_plain laws flags i s t free p = ap kind_by (plain_next laws.plain_is_step flags i s t free p)
 
-to_plain : StepLaws → (flags : ℕ) (i : Instr) (s t : State) → s.temps ≡ Free → IsPlainStep flags i s t
+to_plain : PlainStepLaws → (flags : ℕ) (i : Instr) (s t : State) → s.temps ≡ Free → IsPlainStep flags i s t
     → stepped flags s ≡ t
 to_plain laws flags i s t free p =
     ap (λ (o : Result Next ℕ). state_by s o) (plain_next laws.plain_is_step flags i s t free p)
 
 -- while I is 1
-masked_at : StepLaws → (l : MemoryMap) (image : List ℕ) (flags : ℕ) (ds : List ℕ) (s t : State)
+masked_at : PlainStepLaws → (l : MemoryMap) (image : List ℕ) (flags : ℕ) (ds : List ℕ) (s t : State)
     → Execution (IsMaskedStep l image flags) ds s t → (i : ℕ) → i < length ds
     → (may_interrupt (uninterrupted flags i s) ≡ false) × (kind_at flags (uninterrupted flags i s) ≡ Plain)
 masked_at laws l image flags [] s t e i lt = absurd (omega arith)
@@ -78,7 +78,7 @@ pub record IsCopyRun (flags n all : ℕ) (u : State) : Type 0 where
   pub counts : counted flags (n + 5) u ≡ n + 5
   pub outside : (j : ℕ) → j ≤ n + 5 → is_inside flags u j ≡ false
 
-module _ (laws : StepLaws) (flags : ℕ) (f : Firmware) (n all : ℕ) (inputs : f.inputs ≡ n) (u : State) (here : IsHere u)
+module _ (laws : PlainStepLaws) (flags : ℕ) (f : Firmware) (n all : ℕ) (inputs : f.inputs ≡ n) (u : State) (here : IsHere u)
     (run : IsAnswerRun f flags all u) where
   later : (j : ℕ) → 3 ≤ j → j < n + 5
       → (may_interrupt (uninterrupted flags j u) ≡ false) × (kind_at flags (uninterrupted flags j u) ≡ Plain)

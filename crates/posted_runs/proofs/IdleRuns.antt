@@ -14,11 +14,11 @@ use Rattle.posted_runs.specs.Turns.{up_to, behind, waiting}
 use Rattle.posted_runs.specs.Runs.{TurnForm, turn_form}
 use Rattle.posted_runs.specs.Postings.{mailed, posted}
 use Rattle.posted_runs.specs.PostedTurns.{TurnEnds, plain_frame, IdleTurnsFollow}
-use Rattle.posted_runs.specs.UsedLaws.{StepLaws, TakingLaws}
+use Rattle.posted_runs.specs.UsedLaws.{PlainStepLaws, TakingLaws}
 use Rattle.posted_runs.proofs.Passing.{ends_there, pass_end}
 use Rattle.posted_runs.proofs.TwoSteps.{here_at, two_steps}
 
-pub idle_turns_follow : StepLaws → TakingLaws → IdleTurnsFollow
+pub idle_turns_follow : PlainStepLaws → TakingLaws → IdleTurnsFollow
 idle_turns_follow steps taking flags f samples n g most s v qs box size fuel at end good none l run =
     let image = image_memory f.image.bytes in
     let form : TurnForm = turn_form flags f samples g in

@@ -33,7 +33,7 @@ use Rattle.codegen.specs.Turns.{IsMaskedStep}
 use Rattle.posted_runs.specs.Runs.{TurnForm, turn_form}
 use Rattle.posted_runs.specs.PostedTurns.{TurnEnds}
 use Rattle.posted_runs.specs.Postings.{IsBox, AreOfSize}
-use Rattle.posted_runs.specs.UsedLaws.{StepLaws, TakingLaws}
+use Rattle.posted_runs.specs.UsedLaws.{PlainStepLaws, TakingLaws}
 use Rattle.posted_runs.proofs.Posting.{took_none}
 
 abbrev pub plainly : State → Result Next ℕ
@@ -46,7 +46,7 @@ plain_next law flags i s t free p =
     ∙ ap plainly (sym p.after)
 
 -- a plain instruction that writes nothing does the same on memory that agrees where it reads
-pub quiet_plain : StepLaws → (flags : ℕ) (hidden : ℕ → Bool) (i : Instr) (y t v : State) → y.temps ≡ Free
+pub quiet_plain : PlainStepLaws → (flags : ℕ) (hidden : ℕ → Bool) (i : Instr) (y t v : State) → y.temps ≡ Free
     → IsPlainStep flags i y t
     → (effect flags i y.regs y.mem).writes ≡ [] → AllShown hidden (six_from y.regs.pc)
     → AllShown hidden (read_by (act_of flags i y.regs) y.mem)
@@ -86,7 +86,7 @@ room_of masked image s h = let near = near_top s.regs.sp h.stack in
     record { size = h.size; fits = h.fits; low = near.0; high = near.1 }
 
 -- a step that reads what is shown
-shown_plain : StepLaws → (masked : Bool) (image : List ℕ) (flags : ℕ) (i : Instr) (s t : State)
+shown_plain : PlainStepLaws → (masked : Bool) (image : List ℕ) (flags : ℕ) (i : Instr) (s t : State)
     → IsSteady is_postable masked image s
     → IsShownPlain is_free flags i s t → IsShownStep is_free flags s
 shown_plain laws masked image flags i s t h k =
@@ -112,7 +112,7 @@ pub record Goes (flags : ℕ) (v t : State) : Type 0 where
   pub goes : next_of flags v ≡ plainly next
   pub same : Same is_free next t
 
-pub plain_follows : StepLaws → (masked : Bool) (image : List ℕ) (flags : ℕ) (i : Instr) (s t v : State)
+pub plain_follows : PlainStepLaws → (masked : Bool) (image : List ℕ) (flags : ℕ) (i : Instr) (s t v : State)
     → IsSteady is_postable masked image s
     → IsShownPlain is_free flags i s t → Same is_free v s → Goes flags v t
 plain_follows laws masked image flags i s t v h k l =
@@ -209,7 +209,7 @@ pub record Masked (flags : ℕ) (f : Firmware) (samples : List (List ℕ)) (g j 
       → TurnEnds (run_from (turn_form flags f samples g) k (m + j) false qs next) n c res fs ts l z
       → TurnEnds (run_from (turn_form flags f samples g) (j + k) m false qs v) (j + n) (j + c) res fs ts l z
 
-pub masked_run : StepLaws → (flags : ℕ) (f : Firmware) (samples : List (List ℕ)) (n g : ℕ) → IsBox f.memory_map n
+pub masked_run : PlainStepLaws → (flags : ℕ) (f : Firmware) (samples : List (List ℕ)) (n g : ℕ) → IsBox f.memory_map n
     → AreOfSize n samples → TakingLaws → (image : List ℕ) (ds : List ℕ) (m : ℕ) (qs : List Post) (s t v : State)
     → Execution (IsMaskedStep f.memory_map image flags) ds s t → Same is_free v s
     → Masked flags f samples g (length ds) m qs v t

@@ -28,7 +28,7 @@ use Rattle.fz_run.specs.Rows.{bytes_of}
 use Rattle.posted_runs.specs.Runs.{TurnForm, turn_form}
 use Rattle.posted_runs.specs.Postings.{mailed, posted, last_of, IsBox, AreOfSize}
 use Rattle.posted_runs.specs.PostedTurns.{TurnEnds, plain_frame}
-use Rattle.posted_runs.specs.UsedLaws.{StepLaws, TakingLaws}
+use Rattle.posted_runs.specs.UsedLaws.{PlainStepLaws, TakingLaws}
 use Rattle.posted_runs.proofs.LastOnes.{split}
 use Rattle.posted_runs.proofs.Mailing.{wide, is_boxed, mailed_apart, mailed_over}
 use Rattle.posted_runs.proofs.Posting.{IsReady, ready_as, same_with, waiting_last, waits_within, took_all}
@@ -83,7 +83,7 @@ here_at image at s h =
       sp = sp;
     }
 
-module _ (steps : StepLaws) (laws : TakingLaws) (flags : ℕ) (f : Firmware) (samples : List (List ℕ)) (n g : ℕ)
+module _ (steps : PlainStepLaws) (laws : TakingLaws) (flags : ℕ) (f : Firmware) (samples : List (List ℕ)) (n g : ℕ)
     (image : List ℕ) (box : IsBox f.memory_map n) (size : AreOfSize n samples)
     (base : List ℕ) (base_size : length base ≡ 65536) where
   abbrev form : TurnForm

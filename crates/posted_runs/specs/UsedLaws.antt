@@ -22,7 +22,7 @@ pub record TakingLaws : Type 0 where
   pub pushes_none : PushesNone
 
 -- steps of the run without interrupts
-pub record StepLaws : Type 0 where
+pub record PlainStepLaws : Type 0 where
   pub step_agrees : StepAgrees
   pub step_keeps : StepKeeps
   pub plain_is_step : PlainIsStep
@@ -37,7 +37,7 @@ pub record Stepping : Type 0 where
 
 -- what is known where posts come
 pub record PostingLaws : Type 0 where
-  pub steps : StepLaws
+  pub steps : PlainStepLaws
   pub taking : TakingLaws
   pub stepping : Stepping
 
