@@ -213,11 +213,7 @@ pub(crate) fn command_of<'a>(alloc: Global, words: &'a [String]) -> Result<Comma
     ensures usage { IsErrOf result Refusal.Usage → command_in (texts_of words.now) ≡ None }
     ensures law { (command_in (texts_of words.now) ≡ None) ↔ IsUsage (texts_of words.now) }
 {
-    let name = match name_of(alloc, words) {
-        Ok(name) => name,
-        Err(Refusal::Usage) => return Err(Refusal::Usage),
-        Err(Refusal::Memory) => return Err(Refusal::Memory),
-    };
+    let name = name_of(alloc, words)?;
     match formed(name, words) {
         Some(command) => Ok(command),
         None => Err(Refusal::Usage),

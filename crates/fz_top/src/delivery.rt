@@ -12,33 +12,30 @@ use fz_status::word;
 /// Writes the file, if there is one, and then puts the lines.
 pub(crate) fn deliver<S: Shelf, O: Sink>(
     words: &[String],
-    work: &Output,
+    output: &Output,
     shelf: &mut S,
     out: &mut O,
 ) -> Result<(), Failed>
-    ensures others { ChangesOnly (texts_of words.now) (seen_output work.now).file
+    ensures others { ChangesOnly (texts_of words.now) (seen_output output.now).file
         (S.files shelf.old) (S.files shelf.new) }
     ensures asked { S.asked shelf.new ≡ S.asked shelf.old }
-    ensures done { OnOk result (Delivered (texts_of words.now) (seen_output work.now)
+    ensures done { OnOk result (Delivered (texts_of words.now) (seen_output output.now)
         (world (S.files shelf.old) (S.counts shelf.old) (S.asked shelf.old) (O.told out.old) (O.faults out.old))
         (world (S.files shelf.new) (S.counts shelf.new) (S.asked shelf.new) (O.told out.new) (O.faults out.new))) }
-    ensures failed { OnErr result (WriteFailed (seen_output work.now)
+    ensures failed { OnErr result (WriteFailed (seen_output output.now)
         (world (S.files shelf.old) (S.counts shelf.old) (S.asked shelf.old) (O.told out.old) (O.faults out.old))
         (world (S.files shelf.new) (S.counts shelf.new) (S.asked shelf.new) (O.told out.new) (O.faults out.new))
-        ⊎ PutFailed (texts_of words.now) (seen_output work.now)
+        ⊎ PutFailed (texts_of words.now) (seen_output output.now)
         (world (S.files shelf.old) (S.counts shelf.old) (S.asked shelf.old) (O.told out.old) (O.faults out.old))
         (world (S.files shelf.new) (S.counts shelf.new) (S.asked shelf.new) (O.told out.new) (O.faults out.new))) }
     ensures shelf_reliable { S.reliable shelf.old → S.reliable shelf.new }
     ensures out_reliable { O.reliable out.old → O.reliable out.new }
     ensures steady { S.reliable shelf.old → O.reliable out.old
-        → FileFits (texts_of words.now) (seen_output work.now).file (S.files shelf.old)
-        → HasRoom (O.told out.old) (length (seen_output work.now).text) → IsOk result }
+        → FileFits (texts_of words.now) (seen_output output.now).file (S.files shelf.old)
+        → HasRoom (O.told out.old) (length (seen_output output.now).text) → IsOk result }
 {
-    match &work.file {
-        Some((place, bytes)) => match shelf.write(word(words, *place), bytes) {
-            Ok(()) => put_lines(out, &work.lines),
-            Err(failed) => Err(failed),
-        },
-        None => put_lines(out, &work.lines),
+    if let Some((place, bytes)) = &output.file {
+        shelf.write(word(words, *place), bytes)?;
     }
+    put_lines(out, &output.lines)
 }

@@ -48,11 +48,11 @@ fn run<S: Shelf, O: Sink>(alloc: Global, words: &[String], shelf: &mut S, out: &
         Err(Stop::TooLong(place)) => return Status::TooLong(place),
         Err(Stop::Memory) => return Status::Memory,
     };
-    let work = match command.work(alloc, &contents) {
-        Ok(work) => work,
+    let output = match command.work(alloc, &contents) {
+        Ok(output) => output,
         Err(status) => return status,
     };
-    match deliver(words, &work, shelf, out) {
+    match deliver(words, &output, shelf, out) {
         Ok(()) => Status::Ok,
         Err(_) => Status::WriteFault,
     }

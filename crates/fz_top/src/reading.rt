@@ -4,11 +4,12 @@ ghost use Rattle.std.specs.List.{All};
 ghost use Rattle.fz_shelf.specs.Files.{IsThere};
 ghost use Rattle.fz_status.specs.Words.{texts_of, word_at};
 ghost use Rattle.build_commands.specs.Contents.{bytes_of};
+ghost use Rattle.fz_top.specs.declared.reading.Stop.TheVariants.{Memory};
 ghost use Rattle.fz_top.specs.Reads.{ReadsWhole, StopsBy, AreThere, IsFailedRead, names_at, ReadsOne, StopsAt};
 
 use fz_shelf::{ReadError, Shelf};
 use fz_status::word;
-use std::alloc::Global;
+use std::alloc::{AllocFailed, Global};
 
 /// Why reading stopped, with the word of the file.
 #[derive(Clone, Copy)]
@@ -16,6 +17,14 @@ pub(crate) enum Stop {
     Failed(u32),
     TooLong(u32),
     Memory,
+}
+
+impl<T: Drop> From<AllocFailed<T>> for Stop {
+    ghost from_gives = { λ _ stop. stop ≡ Memory };
+
+    fn from(_: AllocFailed<T>) -> Stop {
+        Stop::Memory
+    }
 }
 
 /// Reads the file of the word at this place.
@@ -62,14 +71,7 @@ pub(crate) fn read_all<S: Shelf>(
 {
     let mut contents = Vec::new(alloc);
     for place in places {
-        let bytes = match read_one(alloc, shelf, words, *place) {
-            Ok(bytes) => bytes,
-            Err(stop) => return Err(stop),
-        };
-        match contents.push(bytes) {
-            Ok(()) => {}
-            Err(_) => return Err(Stop::Memory),
-        }
+        contents.push(read_one(alloc, shelf, words, *place)?)?;
     }
     Ok(contents)
 }
