@@ -1,17 +1,36 @@
 -- What a valid block has at its numbers.
-use Rattle.std.proofs.Common.{◌≡◌, ℕ, ◌-◌, ◌<◌, ◌≤◌, List, length, get_or, Option, Some, None, slice_get, refl, arith}
-use Rattle.std.specs.Prelude.{IfSome, ◌≤ℤ◌}
+use Rattle.std.proofs.Common.{◌≡◌, ℕ, ◌-◌, ◌<◌, ◌≤◌, List, length, get_or, Option, Some, None, slice_get, refl, arith, sym}
+use Rattle.std.proofs.Common.{subst}
+use Rattle.std.specs.Prelude.{IfSome, ◌≤ℤ◌, pos}
 use Rattle.std.proofs.lemmas.Int.{ints}
 use Rattle.std.proofs.lemmas.Option.{slice_get_read, slice_get-get_or}
 use Rattle.fz_num.specs.declared.dec.Dec.{Dec}
 use Rattle.fuzzy_meaning.specs.declared.block.Block.{Block}
 use Rattle.fuzzy_meaning.specs.declared.block.Input.{Input}
+use Rattle.fuzzy_meaning.specs.declared.block.Output.{Output}
 use Rattle.fuzzy_meaning.specs.declared.block.Trapezoid.{Trapezoid}
 use Rattle.fuzzy_meaning.specs.Blocks.{IsValid, IsValidInput, IsValidTerm, IsTrapezoid, IsInScale, IsWithin, HasTerm}
-use Rattle.fuzzy_meaning.specs.Blocks.{AreInputs}
+use Rattle.fuzzy_meaning.specs.Blocks.{AreInputs, IsValidOutput, output_at}
 use Rattle.fuzzy_meaning.specs.Degrees.{degree}
 use Rattle.fuzzy_meaning.specs.Meaning.{literal_degree}
 use Rattle.fz_list.proofs.Algebra.{All-slice_get, IsSomeAnd-some, IsSomeAnd-within}
+
+-- what is read beyond a list's end
+abbrev pub zero_dec : Dec
+zero_dec = record { 0 = pos 0 }
+
+abbrev pub zero_term : Trapezoid
+zero_term = record { a = None; b = zero_dec; c = zero_dec; d = None }
+
+-- the output that a number names
+pub IsValidOutput-found : (b : Block) (o : ℕ) (x : Output) → IsValid b → output_at b o ≡ Some x → IsValidOutput x
+IsValidOutput-found b o x v found = All-slice_get IsValidOutput b.outputs (o - 1) x v.outputs found
+
+pub output_at-read : (b : Block) (o : ℕ) (x : Output) → 1 ≤ o → o ≤ length b.outputs → x ≡ get_or b.outputs (o - 1) x
+    → output_at b o ≡ Some x
+output_at-read b o x from upto is =
+    let within : o - 1 < length b.outputs = omega arith in
+    slice_get_read b.outputs (length b.outputs) (o - 1) x refl within is
 
 in_scale : (lo hi x : Dec) → IsInScale lo.0 → IsInScale hi.0 → lo.0 ≤ℤ x.0 → x.0 ≤ℤ hi.0 → IsInScale x.0
 in_scale lo hi x l h from to = record { low = omega (arith, ints); high = omega (arith, ints) }
@@ -65,10 +84,10 @@ IsInScale-literal b xs i t input term x v are l =
     (are.within (i - 1) input x l.input_is l.x_is)
 
 -- what is read there
-pub IsLiteral-read : (b : Block) (xs : List Dec) (i t : ℕ) (input : Input) (e : Trapezoid) (y : Dec) → HasTerm b i t
-    → AreInputs b xs → input ≡ get_or b.inputs (i - 1) input
-    → IsLiteral b xs i t input (get_or input.terms (t - 1) e) (get_or xs (i - 1) y)
-IsLiteral-read b xs i t input e y has are is =
+pub IsLiteral-read : (b : Block) (xs : List Dec) (i t : ℕ) (input : Input) → HasTerm b i t → AreInputs b xs
+    → input ≡ get_or b.inputs (i - 1) input
+    → IsLiteral b xs i t input (get_or input.terms (t - 1) zero_term) (get_or xs (i - 1) zero_dec)
+IsLiteral-read b xs i t input has are is =
     let in_block : i - 1 < length b.inputs = IsSomeAnd-within (λ x. t ≤ length x.terms) b.inputs (i - 1) has.term_to in
     let input_is = slice_get_read b.inputs (length b.inputs) (i - 1) input refl in_block is in
     let few : t ≤ length input.terms =
@@ -79,7 +98,28 @@ IsLiteral-read b xs i t input e y has are is =
     let in_xs : i - 1 < length xs = omega arith in
     record {
       input_is = input_is;
-      term_is = slice_get-get_or input.terms (t - 1) e in_terms;
+      term_is = slice_get-get_or input.terms (t - 1) zero_term in_terms;
       x_is =
-          slice_get-get_or xs (i - 1) y in_xs;
+          slice_get-get_or xs (i - 1) zero_dec in_xs;
     }
+
+-- what `degree` asks for where a literal's term is read, and what it gives
+pub record HasDegree (b : Block) (xs : List Dec) (i t : ℕ) (term : Trapezoid) (x : Dec) : Type 0 where
+  pub term_in : IsTrapezoid term
+  pub x_in : IsInScale x.0
+  pub value : literal_degree b xs i t ≡ degree term x
+
+pub HasDegree-read : (b : Block) (xs : List Dec) (i t : ℕ) (input : Input) (terms : List Trapezoid) → IsValid b
+    → HasTerm b i t → AreInputs b xs → input ≡ get_or b.inputs (i - 1) input → terms ≡ input.terms
+    → HasDegree b xs i t (get_or terms (t - 1) zero_term) (get_or xs (i - 1) zero_dec)
+HasDegree-read b xs i t input terms v has are is same =
+    let term = get_or input.terms (t - 1) zero_term in
+    let x = get_or xs (i - 1) zero_dec in
+    let l = IsLiteral-read b xs i t input has are is in
+    let made : HasDegree b xs i t term x =
+    record {
+      term_in = IsTrapezoid-literal b xs i t input term x v l;
+      x_in = IsInScale-literal b xs i t input term x v are l;
+      value = literal_degree-found b xs i t input term x l;
+    } in
+    subst (λ ts. HasDegree b xs i t (get_or ts (t - 1) zero_term) x) (sym same) made

@@ -4,3 +4,4 @@ pub mod ShareLemmas
 pub mod ExampleLemmas
 pub mod DegreeLemmas
 pub mod PlaceLemmas
+pub mod HeldLemmas

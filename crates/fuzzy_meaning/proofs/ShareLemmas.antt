@@ -133,7 +133,7 @@ crossed w v k t e =
     let s : (up w + k * down v) * t ≡ (down w + k * up v) * t = ap (λ m. m * t) r in
     omega (arith, ints)
 
-pub centre-reduced : (ss hs : List Share) (q : Quotient) (f : Frac) → Reduces ss hs → 0 < total_mass hs
+centre-reduced : (ss hs : List Share) (q : Quotient) (f : Frac) → Reduces ss hs → 0 < total_mass hs
     → f.num ≡ weighted_sum hs → f.den ≡ pos (total_mass hs * 10000) → IsValueOf (centre ss q) f
 centre-reduced ss hs q f r some num den =
     let t = total_mass hs in
@@ -148,13 +148,13 @@ centre-reduced ss hs q f r some num den =
     let den_from : pos 0 <ℤ f.den = omega (arith, ints, den) in
     subst (λ c. IsValueOf c f) (sym is) (record { den_from = den_from; cross = cross })
 
-pub centre-massless : (ss : List Share) (q : Quotient) → Reduces ss [] → centre ss q ≡ q
+centre-massless : (ss : List Share) (q : Quotient) → Reduces ss [] → centre ss q ≡ q
 centre-massless ss q r =
     let none : (total_mass ss == 0) ≡ true = grind (arith, nat_tests, r.total) in
     ap (λ b. cond b q (record { num = weighted_sum ss; den = total_mass ss * 10000 })) none
 
 -- the terms that are held have a mass
-pub total_mass-held : (h : Held) → AreSmall h → (shares_of h ≡ [] → ⊥) → 0 < total_mass (shares_of h)
+total_mass-held : (h : Held) → AreSmall h → (shares_of h ≡ [] → ⊥) → 0 < total_mass (shares_of h)
 total_mass-held Nothing small some = absurd (some refl)
 total_mass-held (One a) small some = let n = small.some in omega (arith, ints)
 total_mass-held (Two a b) small some =
@@ -165,10 +165,31 @@ total_mass-held (Two a b) small some =
     let both : 0 < unsigned_abs a.mass.num * unsigned_abs b.mass.den = mul-pos na db in
     omega (arith, both)
 
-pub answer_after-found : (b : Block) (o : ℕ) (q : Quotient) (xs : List Dec) (x : Output) → output_at b o ≡ Some x
+answer_after-found : (b : Block) (o : ℕ) (q : Quotient) (xs : List Dec) (x : Output) → output_at b o ≡ Some x
     → answer_after b o q xs ≡ centre (shares b xs o x) (resting x q)
 answer_after-found b o q xs x e = ap (λ y. option_map_or (λ x. centre (shares b xs o x) (resting x q)) y q) e
 
-pub heavy_terms-found : (b : Block) (o : ℕ) (xs : List Dec) (x : Output) → output_at b o ≡ Some x
+heavy_terms-found : (b : Block) (o : ℕ) (xs : List Dec) (x : Output) → output_at b o ≡ Some x
     → heavy_terms b o xs ≡ length (heavy_shares (shares b xs o x))
 heavy_terms-found b o xs x e = ap (λ y. option_map_or (λ x. length (heavy_shares (shares b xs o x))) y 0) e
+
+-- an output some of whose terms have a mass
+pub answer_after-held : (b : Block) (o : ℕ) (q : Quotient) (xs : List Dec) (x : Output) (h : Held) (f : Frac)
+    → output_at b o ≡ Some x → Reduces (shares b xs o x) (shares_of h) → AreSmall h → (shares_of h ≡ [] → ⊥)
+    → f.num ≡ weighted_sum (shares_of h) → f.den ≡ pos (total_mass (shares_of h) * 10000)
+    → IsValueOf (answer_after b o q xs) f
+answer_after-held b o q xs x h f found sums small some num den =
+    subst (λ a. IsValueOf a f) (sym (answer_after-found b o q xs x found))
+    (centre-reduced (shares b xs o x) (shares_of h) (resting x q) f sums (total_mass-held h small some) num den)
+
+-- an output none of whose terms has a mass
+pub answer_after-massless : (b : Block) (o : ℕ) (q : Quotient) (xs : List Dec) (x : Output) (h : Held)
+    → output_at b o ≡ Some x → Reduces (shares b xs o x) (shares_of h) → shares_of h ≡ []
+    → answer_after b o q xs ≡ resting x q
+answer_after-massless b o q xs x h found sums none =
+    answer_after-found b o q xs x found
+    ∙ centre-massless (shares b xs o x) (resting x q) (subst (Reduces (shares b xs o x)) none sums)
+
+pub heavy_terms-massless : (b : Block) (o : ℕ) (xs : List Dec) (x : Output) (h : Held) → output_at b o ≡ Some x
+    → shares_of h ≡ heavy_shares (shares b xs o x) → shares_of h ≡ [] → heavy_terms b o xs ≡ 0
+heavy_terms-massless b o xs x h found terms none = heavy_terms-found b o xs x found ∙ ap length (sym terms ∙ none)
