@@ -1,6 +1,6 @@
 -- The conditions of the code as trees.
-use Rattle.std.proofs.Common.{◌≡◌, ℕ, ◌+◌, ◌<◌, List, [], ◌∷◌, ◌++◌, length, get_or, take, drop, map, Vec, Global, sym}
-use Rattle.std.proofs.Common.{ap, ◌∙◌, subst, arith, ◌⊎◌, ⊎_elim, Bool}
+use Rattle.std.proofs.Common.{◌≡◌, ℕ, ◌+◌, ◌<◌, ◌≤◌, List, [], ◌∷◌, ◌++◌, length, get_or, take, drop, map, Vec, Global}
+use Rattle.std.proofs.Common.{sym, ap, ◌∙◌, subst, arith, ◌⊎◌, ⊎_elim, Bool}
 use Rattle.std.proofs.lemmas.List.{take-append-drop, drop_more, map-append, map_more}
 use Rattle.fuzzy_meaning.specs.declared.block.Cond.{Cond}
 use Rattle.fuzzy_meaning.specs.declared.block.Cond.TheVariants.{And, Or, rolls-And, rolls-Or}
@@ -87,6 +87,18 @@ part_nodes {cs} {i} {p} at =
     ap (λ (w : List Condition). total_nodes (conditions w)) (at.split)
     ∙ total_nodes-append (map condition_of (take i cs)) (condition_of p ∷ map condition_of (drop (i + 1) cs))
 
+-- what is asked of a part, where it is asked of all
+pub part_asked : {cs : List Cond} {i : ℕ} {p : Cond} → PartOf cs i p → AllFitGrid (conditions (map condition_of cs))
+    → total_nodes (conditions (map condition_of cs)) ≤ 1048576
+    → FitsGrid (condition_of p) × (nodes (condition_of p) ≤ 1048576)
+part_asked at fits few = (part_fits at fits, omega (arith, part_nodes at, few))
+
+-- the parts before one have few nodes where all have
+pub front_few : {cs : List Cond} {i : ℕ} {p : Cond} → PartOf cs i p
+    → total_nodes (conditions (map condition_of cs)) ≤ 1048576
+    → total_nodes (conditions (map condition_of (take i cs))) ≤ 1048576
+front_few at few = omega (arith, part_nodes at, few)
+
 -- of a condition with parts, whichever sort it is
 pub AllFitGrid-parts : (c : Cond) (v : Vec Cond Global) → (c ≡ And v) ⊎ (c ≡ Or v) → FitsGrid (condition_of c)
     → AllFitGrid (conditions (map condition_of v.items))
@@ -97,3 +109,12 @@ pub has_complement-parts : (c : Cond) (v : Vec Cond Global) → (c ≡ And v) �
 has_complement-parts c v e i t odd =
     ⊎_elim (λ p. ap (has_complement i t odd) (ap condition_of p ∙ condition_of-And v))
     (λ p. ap (has_complement i t odd) (ap condition_of p ∙ condition_of-Or v)) e
+
+-- what is asked of all parts that are read, where it is asked of their condition
+pub all_asked : {c : Cond} (v : Vec Cond Global) {read : List Cond} → (c ≡ And v) ⊎ (c ≡ Or v) → read ≡ v.items
+    → FitsGrid (condition_of c) → nodes (condition_of c) ≤ 1048576
+    → AllFitGrid (conditions (map condition_of read)) × (total_nodes (conditions (map condition_of read)) ≤ 1048576)
+all_asked {c} v sort same fits few =
+    let count : nodes (condition_of c) ≡ 1 + total_nodes (conditions (map condition_of v.items)) =
+    ⊎_elim (λ p. nodes-And c v p) (λ p. nodes-Or c v p) sort in
+    rw same (AllFitGrid-parts c v sort fits, omega (arith, count, few))

@@ -1,6 +1,6 @@
 -- The layout of a valid block.
 use Rattle.std.proofs.Common.{◌≡◌, ℕ, ◌+◌, ◌*◌, ◌<◌, ◌≤◌, Bool, List, [], ◌∷◌, ◌++◌, length, map, filter, get_or, refl}
-use Rattle.std.proofs.Common.{sym, ap, ap₂, ◌∙◌, arith}
+use Rattle.std.proofs.Common.{sym, ap, ap₂, ◌∙◌, subst, arith}
 use Rattle.std.specs.Prelude.{All, flat_map, sum_by, IfSome, Ok, nat_le, true, false}
 use Rattle.std.proofs.lemmas.List.{length-map, length-append}
 use Rattle.std.proofs.lemmas.List.FromFn.{length-range_with_len}
@@ -25,6 +25,7 @@ use Rattle.rule_layout.specs.Tables.{IsInTable, IsNumbering, table_number, table
 use Rattle.rule_layout.specs.Sizes.{IsCountable, rule_entries, entry_count, IsSizeOfRules}
 use Rattle.rule_layout.specs.Layouts.{rule_spread, conjunction_of, rule_conjunctions, conjunctions_of, IsBelow}
 use Rattle.rule_layout.specs.Layouts.{element_width, form_by, form_of, rule_weights, weights_of, flat_of, list_size}
+use Rattle.rule_layout.specs.Layouts.{conjunction_count, IsTooLong, IsWithinLimits}
 use Rattle.rule_layout.specs.Steps.{table_conjunction, table_conjunctions, IsSpreadable}
 use Rattle.rule_layout.proofs.BlockLemmas.{input_terms_in_grid, output_terms_in_table, few_terms, few_singletons}
 use Rattle.rule_layout.proofs.BlockLemmas.{rule_fits}
@@ -216,28 +217,48 @@ width_le : (f : Form) → element_width f ≤ 2
 width_le Rev = omega arith
 width_le Revw = omega arith
 
-pub entries_fit : (rules : List Rule) (s : Size) → All IsCountable rules → IsSizeOfRules rules (Ok s)
+entries_fit : (rules : List Rule) (s : Size) → All IsCountable rules → IsSizeOfRules rules (Ok s)
     → s.entries ≤ 1073741824
 entries_fit rules s h k = omega (arith, k.0, k.1, k.2, entry_count_le rules h)
 
-pub bytes_fit : (f : Form) (w e : ℕ) → w ≡ element_width f → e ≤ 1073741824 → w * e ≤ 2147483648
-bytes_fit f w e h small =
+-- the bytes of a valid block's list can be counted
+pub bytes_fit : {b : Block} {rules : List Rule} {s : Size} (f : Form) (w : ℕ) → IsValid b → rules ≡ b.rules
+    → IsSizeOfRules rules (Ok s) → w ≡ element_width f → w * s.entries ≤ 2147483648
+bytes_fit {b} {rules} {s} f w v all size h =
+    let small = entries_fit rules s (subst (All IsCountable) (sym all) (rules_countable b v)) size in
     let width = width_le f in
     let few : w ≤ 2 = omega arith in
-    let wide : w * e ≤ 2 * e = mul-le-mul_right e few in
-    omega (arith, wide)
+    let wide : w * s.entries ≤ 2 * s.entries = mul-le-mul_right s.entries few in
+    omega (arith, wide, small)
 
-pub form_made : (b : Block) (n : ℕ) (ss : List Slot) (rules : List Rule) → n ≡ length ss → ss ≡ slots_of b
-    → rules ≡ b.rules → form_by n rules ≡ form_of b
+-- the form that is found by what is read of the slots and the rules
+pub form_found : (b : Block) {f : Form} {n : ℕ} {ss : List Slot} {rules : List Rule} → f ≡ form_by n rules
+    → n ≡ length ss → ss ≡ slots_of b → rules ≡ b.rules → f ≡ form_of b
 unfolding form_of
-form_made b n ss rules size same all =
-    ap₂ (λ (m : ℕ) (w : List Rule). form_by m w) (size ∙ ap (λ (w : List Slot). length w) same) all
+form_found b found size same all =
+    found ∙ ap₂ (λ (m : ℕ) (w : List Rule). form_by m w) (size ∙ ap (λ (w : List Slot). length w) same) all
 
-pub list_size_made : (b : Block) (f : Form) (w e : ℕ) → f ≡ form_of b → w ≡ element_width f → e ≡ entry_count b.rules
-    → w * e ≡ list_size b
+-- the size of the list that is found by that of the rules
+pub record IsListSize (b : Block) (n : ℕ) : Type 0 where
+  pub few_conjunctions : conjunction_count b.rules ≤ 512
+  pub bytes : n ≡ list_size b
+
+pub IsListSize-found : (b : Block) {f : Form} {w : ℕ} {rules : List Rule} {s : Size} → rules ≡ b.rules
+    → IsSizeOfRules rules (Ok s) → f ≡ form_of b → w ≡ element_width f → IsListSize b (w * s.entries)
 unfolding list_size
-list_size_made b f w e form width entries =
-    ap₂ (λ (v n : ℕ). v * n) (width ∙ ap element_width form) (entries ∙ sym (length-list b))
+IsListSize-found b {f} {w} {rules} {s} all size form width =
+    let here = subst (λ (r : List Rule). IsSizeOfRules r (Ok s)) all size in
+    record {
+      few_conjunctions = here.0;
+      bytes = ap₂ (λ (v n : ℕ). v * n) (width ∙ ap element_width form) (here.2 ∙ sym (length-list b));
+    }
+
+pub IsTooLong-found : {b : Block} {n : ℕ} → IsListSize b n → 9984 < n → IsTooLong b n
+IsTooLong-found size over = record { few_conjunctions = size.few_conjunctions; bytes = size.bytes; over = over }
+
+pub IsWithinLimits-found : {b : Block} {n : ℕ} → IsListSize b n → n ≤ 9984 → IsWithinLimits b
+IsWithinLimits-found size short =
+    record { few_conjunctions = size.few_conjunctions; short_list = rw (← size.bytes) short }
 
 pub flat_made : (b : Block) (f : Flat) → f.slots ≡ slots_of b → f.conjunctions ≡ conjunctions_of b
     → f.weights ≡ weights_of b → f.form ≡ form_of b → f ≡ flat_of b

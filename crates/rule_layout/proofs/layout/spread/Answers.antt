@@ -1,13 +1,13 @@
 use Rattle.std.proofs.Common.{◌≤◌, List, length, ap, ◌∙◌, sym, subst, arith}
-use Rattle.std.specs.Prelude.{All, flat_map, Ok}
+use Rattle.std.specs.Prelude.{All, flat_map}
 use Rattle.fuzzy_meaning.specs.declared.block.Rule.{Rule}
 use Rattle.rule_layout.specs.declared.flat.Slot.{Slot}
 use Rattle.rule_layout.specs.Tables.{IsInTable, IsNumbering}
-use Rattle.rule_layout.specs.Sizes.{IsCountable, IsSizeOfRules}
+use Rattle.rule_layout.specs.Sizes.{IsCountable}
 use Rattle.rule_layout.specs.Steps.{IsSpreadable, table_conjunctions}
-use Rattle.rule_layout.proofs.LayoutLemmas.{slots_in_table, few_slots, rules_countable, rules_spreadable, entries_fit}
-use Rattle.rule_layout.proofs.LayoutLemmas.{bytes_fit, form_made, list_size_made, flat_made, conjunctions_by_table}
-use Rattle.rule_layout.proofs.LayoutLemmas.{weights_made}
+use Rattle.rule_layout.proofs.LayoutLemmas.{slots_in_table, few_slots, rules_countable, rules_spreadable}
+use Rattle.rule_layout.proofs.LayoutLemmas.{bytes_fit, form_found, IsListSize-found, IsTooLong-found, IsWithinLimits-found}
+use Rattle.rule_layout.proofs.LayoutLemmas.{flat_made, conjunctions_by_table, weights_made}
 use Rattle.rule_layout.proofs.LaidOutLemmas.{laid_out_made}
 use Rattle.rule_layout.proofs.layout.spread.Goals as goal
 
@@ -31,53 +31,38 @@ spread_rules-requires-clause-spreadable c =
 
 pub overflow_mul-bytes : goal.overflow_mul-bytes
 overflow_mul-bytes c =
-    let countable = subst (All IsCountable) (sym c.as_slice-rules.ensures)
-    (rules_countable c.args.block.now c.requires) in
-    let small = entries_fit c.as_slice-rules.result.now c.in_ok-size.size countable c.in_ok-size.ensures in
-    let bytes = bytes_fit c.form_of-form.result c.element_width.result c.in_ok-size.size.entries
-    c.element_width.ensures small in
-    omega (arith, bytes)
+    omega (
+      arith,
+      bytes_fit c.form_of-form.result c.element_width.result c.requires c.as_slice-rules.ensures
+          c.in_ok-size.ensures c.element_width.ensures,
+    )
 
 pub returns-then-bytes-gt-MOST_LIST_BYTES-clause-fault : goal.returns-then-bytes-gt-MOST_LIST_BYTES-clause-fault
 returns-then-bytes-gt-MOST_LIST_BYTES-clause-fault c =
-    let size = subst (λ (w : List Rule). IsSizeOfRules w (Ok c.in_ok-size.size)) c.as_slice-rules.ensures
-    c.in_ok-size.ensures in
-    let form = c.form_of-form.ensures
-    ∙ form_made c.args.block.now c.len.result c.in_ok-slots.slots.items c.as_slice-rules.result.now
-    (c.len.ensures ∙ c.in_ok-slots.slots.ok.0) c.in_ok-slots.ensures c.as_slice-rules.ensures in
-    record {
-      few_conjunctions = size.0;
-      bytes = list_size_made c.args.block.now c.form_of-form.result c.element_width.result c.in_ok-size.size.entries
-          form c.element_width.ensures size.2;
-      over = c.if-bytes-gt-MOST_LIST_BYTES.true;
-    }
+    let form = form_found c.args.block.now c.form_of-form.ensures (c.len.ensures ∙ c.in_ok-slots.slots.ok.0)
+    c.in_ok-slots.ensures c.as_slice-rules.ensures in
+    IsTooLong-found (IsListSize-found c.args.block.now c.as_slice-rules.ensures c.in_ok-size.ensures form
+    c.element_width.ensures) c.if-bytes-gt-MOST_LIST_BYTES.true
 
 pub returns-clause-value : goal.returns-clause-value
 returns-clause-value c =
     let b = c.args.block.now in
-    let form = c.form_of-form.ensures
-    ∙ form_made b c.len.result c.in_ok-slots.slots.items c.as_slice-rules.result.now
-    (c.len.ensures ∙ c.in_ok-slots.slots.ok.0) c.in_ok-slots.ensures c.as_slice-rules.ensures in
+    let form = form_found c.args.block.now c.form_of-form.ensures (c.len.ensures ∙ c.in_ok-slots.slots.ok.0)
+    c.in_ok-slots.ensures c.as_slice-rules.ensures in
     let numbering = subst (λ (w : List Slot). IsNumbering w c.new-numbers.result.table)
     (c.deref.ensures.value ∙ c.in_ok-slots.ensures) c.new-numbers.ensures in
-    let conjunctions = c.in_ok-conjunctions.ensures.conjunctions
-    ∙ (ap (λ (w : List Rule). flat_map (table_conjunctions c.new-numbers.result.table) w) c.as_slice-rules.ensures
-    ∙ conjunctions_by_table b c.new-numbers.result.table numbering c.requires) in
-    let weights = c.in_ok-conjunctions.ensures.weights
-    ∙ weights_made b c.as_slice-rules.result.now c.as_slice-rules.ensures in
-    flat_made b _ (c.new.ensures ∙ c.in_ok-slots.ensures) (c.new-2.ensures ∙ conjunctions)
-    (c.new-3.ensures ∙ weights) form
+    let conjunctions = ap (λ (w : List Rule). flat_map (table_conjunctions c.new-numbers.result.table) w)
+    c.as_slice-rules.ensures ∙ conjunctions_by_table b c.new-numbers.result.table numbering c.requires in
+    flat_made b _ (c.new.ensures ∙ c.in_ok-slots.ensures)
+    (c.new-2.ensures ∙ c.in_ok-conjunctions.ensures.conjunctions ∙ conjunctions)
+    (c.new-3.ensures ∙ c.in_ok-conjunctions.ensures.weights ∙ weights_made b _ c.as_slice-rules.ensures) form
 
 pub returns-clause-limits : goal.returns-clause-limits
 returns-clause-limits c =
-    let size = subst (λ (w : List Rule). IsSizeOfRules w (Ok c.in_ok-size.size)) c.as_slice-rules.ensures
-    c.in_ok-size.ensures in
-    let form = c.form_of-form.ensures
-    ∙ form_made c.args.block.now c.len.result c.in_ok-slots.slots.items c.as_slice-rules.result.now
-    (c.len.ensures ∙ c.in_ok-slots.slots.ok.0) c.in_ok-slots.ensures c.as_slice-rules.ensures in
-    let bytes = list_size_made c.args.block.now c.form_of-form.result c.element_width.result c.in_ok-size.size.entries
-    form c.element_width.ensures size.2 in
-    record { few_conjunctions = size.0; short_list = rw (← bytes) c.if-bytes-gt-MOST_LIST_BYTES.false }
+    let form = form_found c.args.block.now c.form_of-form.ensures (c.len.ensures ∙ c.in_ok-slots.slots.ok.0)
+    c.in_ok-slots.ensures c.as_slice-rules.ensures in
+    IsWithinLimits-found (IsListSize-found c.args.block.now c.as_slice-rules.ensures c.in_ok-size.ensures form
+    c.element_width.ensures) c.if-bytes-gt-MOST_LIST_BYTES.false
 
 pub returns-clause-laid_out : goal.returns-clause-laid_out
 returns-clause-laid_out c = laid_out_made c.args.block.now _ c.requires (returns-clause-value c)
