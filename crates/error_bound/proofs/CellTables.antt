@@ -1,9 +1,10 @@
 -- What a term's cells have at the bytes of an interval.
 use Rattle.std.proofs.Common.{◌≡◌, ⊎_elim, ℕ, zero, suc, ◌+◌, ◌-◌, ◌<◌, ◌≤◌, min, max, List, length, get_or-set_other}
-use Rattle.std.proofs.Common.{refl, sym, ap, ap₂, ◌∙◌, subst, arith}
+use Rattle.std.proofs.Common.{replicate, refl, sym, ap, ap₂, ◌∙◌, subst, arith}
 use Rattle.std.specs.Prelude.{slice_index, slice_set}
 use Rattle.std.proofs.lemmas.Bool.{cases_lt}
 use Rattle.std.proofs.lemmas.Grind.{get_or-set_at}
+use Rattle.std.proofs.lemmas.List.{length-set}
 use Rattle.fz_num.specs.Decimals.{distance}
 use Rattle.fuzzy_meaning.specs.declared.block.Input.{Input}
 use Rattle.fuzzy_meaning.specs.declared.block.Trapezoid.{Trapezoid}
@@ -17,7 +18,7 @@ use Rattle.error_bound.specs.Errors.{billion}
 use Rattle.error_bound.specs.Reaches.{AreTermCells}
 
 -- numbers that are set place by place, from one place on
-pub kept_more : (P : ℕ → ℕ → Type 0) (xs : List ℕ) (from b y : ℕ) → b < length xs → P b y
+kept_more : (P : ℕ → ℕ → Type 0) (xs : List ℕ) (from b y : ℕ) → b < length xs → P b y
     → ((n : ℕ) → from ≤ n → n < b → P n (slice_index xs n))
     → (n : ℕ) → from ≤ n → n < b + 1 → P n (slice_index (slice_set xs b y) n)
 kept_more P xs from b y within here before n l u = ⊎_elim
@@ -26,6 +27,43 @@ kept_more P xs from b y within here before n l u = ⊎_elim
     let same : n ≡ b = omega arith in
     subst (P n) (sym (get_or-set_at xs b n y 0 same within)) (subst (λ k. P k y) (sym same) here))
     (cases_lt n b)
+
+-- the grades and errors at the bytes from one on and before b
+pub record AreCellsBefore (x : Input) (term : Trapezoid) (row : List ℕ) (from b : ℕ) (c : TermCells) : Type 0 where
+  pub grades_count : length c.grades ≡ 256
+  pub errors_count : length c.errors ≡ 256
+  pub grades : (n : ℕ) → from ≤ n → n < b → slice_index c.grades n ≡ grade_of row n
+  pub errors : (n : ℕ) → from ≤ n → n < b
+      → slice_index c.errors n ≡ cell_error billion (points_of x term) (distance x.lo x.hi) (grade_of row) n
+  pub small : (n : ℕ) → from ≤ n → n < b → slice_index c.errors n ≤ billion
+
+pub AreCellsBefore-none : (x : Input) (term : Trapezoid) (row : List ℕ) (from b : ℕ) → b ≡ from
+    → AreCellsBefore x term row from b (record { grades = replicate 256 0; errors = replicate 256 0 })
+AreCellsBefore-none x term row from b start = record {
+  grades_count = refl;
+  errors_count = refl;
+  grades = λ n l u. absurd (omega arith);
+  errors = λ n l u. absurd (omega arith);
+  small = λ n l u. absurd (omega arith);
+}
+
+-- of one byte more
+pub AreCellsBefore-more : (x : Input) (term : Trapezoid) (row : List ℕ) (from b : ℕ) (c : TermCells) (grade error : ℕ)
+    → AreCellsBefore x term row from b c → b < 256 → grade ≡ grade_of row b
+    → error ≡ cell_error billion (points_of x term) (distance x.lo x.hi) (grade_of row) b → error ≤ billion
+    → AreCellsBefore x term row from (b + 1)
+    (record { grades = slice_set c.grades b grade; errors = slice_set c.errors b error })
+AreCellsBefore-more x term row from b c grade error cells few grade_is error_is small =
+    let grades_count = cells.grades_count in
+    let errors_count = cells.errors_count in
+    record {
+      grades_count = length-set c.grades b grade ∙ grades_count;
+      errors_count = length-set c.errors b error ∙ errors_count;
+      grades = kept_more (λ n y. y ≡ grade_of row n) c.grades from b grade (omega arith) grade_is cells.grades;
+      errors = kept_more (λ n y. y ≡ cell_error billion (points_of x term) (distance x.lo x.hi) (grade_of row) n)
+          c.errors from b error (omega arith) error_is cells.errors;
+      small = kept_more (λ n y. y ≤ billion) c.errors from b error (omega arith) small cells.small;
+    }
 
 -- least and greatest of numbers that are the same there
 pub least_same : (f g : ℕ → ℕ) (p n : ℕ) → ((k : ℕ) → p ≤ k → k ≤ p + n → f k ≡ g k)

@@ -26,4 +26,9 @@ pub mod FaultLemmas
 pub mod BestLemmas
 pub mod Groups
 pub mod Values
+pub mod ListLemmas
+pub mod LeafLemmas
+pub mod Candidates
+pub mod FirstFiring
+pub mod ConditionParts
 pub mod FlatteningLemmas

@@ -1,7 +1,7 @@
 -- What a table has of literals and rules.
 use Rattle.std.proofs.Common.{◌≡◌, ℕ, ◌+◌, ◌-◌, ◌*◌, ◌/◌, ◌<◌, ◌≤◌, Bool, true, false, List, length, get_or, Some, refl}
-use Rattle.std.proofs.Common.{sym, ap, ◌∙◌, subst, arith}
-use Rattle.std.specs.Prelude.{slice_get}
+use Rattle.std.proofs.Common.{[], None, sym, ap, ◌∙◌, subst, arith}
+use Rattle.std.specs.Prelude.{slice_get, pos}
 use Rattle.std.proofs.lemmas.Option.{get_or_from_slice_get}
 use Rattle.fz_num.specs.Fractions.{times}
 use Rattle.fuzzy_meaning.specs.declared.block.Block.{Block}
@@ -14,18 +14,35 @@ use Rattle.fuzzy_meaning.specs.Meaning.{weight_of}
 use Rattle.byte_scaling.specs.Weights.{weight_byte_of}
 use Rattle.fz_list.proofs.Algebra.{IsSomeAnd-some, IsSomeAnd-within, some_at}
 use Rattle.error_bound.specs.declared.boxes.Interval.{Interval}
+use Rattle.error_bound.specs.declared.cells.TermCells.{TermCells}
 use Rattle.error_bound.specs.declared.ends.End.{End}
 use Rattle.error_bound.specs.declared.reaches.Reach.{Reach}
+use Rattle.error_bound.specs.declared.tables.InputCells.{InputCells}
 use Rattle.error_bound.specs.declared.tables.Row.{Row}
 use Rattle.error_bound.specs.declared.tables.BoxTerms.{BoxTerms}
 use Rattle.error_bound.specs.Boxes.{literal_span, literal_byte_span, rule_span, rule_byte_span}
 use Rattle.error_bound.specs.Ratios.{value_of, IsRatio}
 use Rattle.error_bound.specs.Spans.{Span, span, byte_span, end_of, byte_end_of}
 use Rattle.error_bound.specs.Flattening.{IsSame, AreSame, ReachesAlike}
+use Rattle.error_bound.specs.Reaches.{AreTermCells, AreInputCells}
 use Rattle.error_bound.specs.Reaches.{AreBoxTerms, IsReachOfTerm, IsReachOfLiteral, IsEndOfCondition, IsEndOfRule}
 use Rattle.error_bound.specs.Reaches.{IsErrorOfRule, AreEndsOfRules, AreErrorsOfRules}
 use Rattle.error_bound.proofs.Values.{times_same}
 use Rattle.error_bound.proofs.FlatteningLemmas.{span_to_itself}
+
+abbrev pub no_term : Trapezoid
+no_term = record { a = None; b = record { 0 = pos 0 }; c = record { 0 = pos 0 }; d = None }
+
+abbrev pub no_cells : TermCells
+no_cells = record { grades = []; errors = [] }
+
+-- what the cells of an input have of a term
+pub term_cells_at : (x : Input) (v : Interval) (cells : InputCells) (t : ℕ) (term : Trapezoid) (otherwise : TermCells)
+    → AreInputCells x v cells → slice_get x.terms t ≡ Some term
+    → AreTermCells x term v (get_or cells.terms t otherwise)
+term_cells_at x v cells t term otherwise all e =
+    let q = all t term e in
+    subst (AreTermCells x term v) (sym (get_or_from_slice_get cells.terms t q.0 otherwise q.1)) q.2
 
 as_literal : (b : Block) (box : List Interval) (i t : ℕ) (x : Input) (term : Trapezoid) (v : Interval) (r : Reach)
     → input_at b i ≡ Some x → slice_get x.terms (t - 1) ≡ Some term → slice_get box (i - 1) ≡ Some v
