@@ -1,6 +1,7 @@
 -- A walk's first moment and its last.
-use Rattle.std.proofs.Common.{◌≡◌, ◌≤◌, ℕ, ◌+◌, List, [], ◌∷◌, length, get_or, replicate, false, Option, Some, None}
-use Rattle.std.proofs.Common.{refl, sym, ◌∙◌, subst, arith, vec_capacity}
+use Rattle.std.proofs.Common.{◌≡◌, ◌≤◌, ℕ, ◌+◌, List, [], ◌∷◌, ◌++◌, length, get_or, replicate, false, Option, Some}
+use Rattle.std.proofs.Common.{None, refl, sym, ◌∙◌, subst, arith, vec_capacity}
+use Rattle.std.specs.Prelude.{MatchOption}
 use Rattle.std.specs.Option.{is_some}
 use Rattle.std.proofs.lemmas.List.{append-nil}
 use Rattle.std.proofs.lemmas.Option.{get_or_from_slice_get}
@@ -19,6 +20,25 @@ use Rattle.cert_check.proofs.TakeLemmas.{as_fault}
 pub none_from_is_some : {A : Type 0} (o : Option A) → false ≡ is_some o → o ≡ None
 none_from_is_some None e = refl
 none_from_is_some (Some x) e = absurd (let z : ⊥ = cc in z)
+
+-- what a walk has met so far that has met no fault
+pub so_far-behind : (w : Walk) (nodes : List Node) → w.fault ≡ None → IsBehind nodes w
+    → MatchOption w.fault (IsBehind nodes w)
+    (λ fault. (rest : List Node) → HasCheckFault w.block.now w.parts (cert_over w (nodes ++ rest)) fault)
+so_far-behind w nodes none behind =
+    subst (λ g. MatchOption g (IsBehind nodes w)
+    (λ fault. (rest : List Node) → HasCheckFault w.block.now w.parts (cert_over w (nodes ++ rest)) fault)) (sym none)
+    behind
+
+-- or one
+pub so_far-fault : (w : Walk) (nodes : List Node) (f : CheckFault) → w.fault ≡ Some f
+    → ((rest : List Node) → HasCheckFault w.block.now w.parts (cert_over w (nodes ++ rest)) f)
+    → MatchOption w.fault (IsBehind nodes w)
+    (λ fault. (rest : List Node) → HasCheckFault w.block.now w.parts (cert_over w (nodes ++ rest)) fault)
+so_far-fault w nodes f some faulty =
+    subst (λ g. MatchOption g (IsBehind nodes w)
+    (λ fault. (rest : List Node) → HasCheckFault w.block.now w.parts (cert_over w (nodes ++ rest)) fault)) (sym some)
+    faulty
 
 pub behind_none : (w : Walk) → length w.block.now.inputs ≤ 8 → length w.claims.now ≡ length w.block.now.outputs
     → stack_of w.boxes.items ≡ whole w.block.now ∷ []

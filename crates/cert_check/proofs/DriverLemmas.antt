@@ -1,7 +1,8 @@
 -- A walk that is driven over a tree, or over a text.
 use Rattle.std.proofs.Common.{◌≡◌, ℕ, zero, suc, ◌+◌, ◌<◌, ◌≤◌, List, [], ◌∷◌, ◌++◌, length, take, drop, get_or}
 use Rattle.std.proofs.Common.{take-append-drop, add-one, Some, refl, sym, ap, ◌∙◌, subst, arith}
-use Rattle.std.specs.Prelude.{All, Result, Ok, Err, IfOk, IfErr}
+use Rattle.std.specs.Prelude.{◌≢◌, All, Result, Ok, Err, IfOk, IfErr}
+use Rattle.std.specs.Global.{Vec}
 use Rattle.std.proofs.Math.Seq.{take-suc}
 use Rattle.fuzzy_meaning.specs.declared.block.Block.{Block}
 use Rattle.box_tree.specs.declared.cert.Node.{Node}
@@ -12,10 +13,11 @@ use Rattle.box_tree.specs.Certificates.{IsNode, IsCert}
 use Rattle.box_tree.specs.Reading.{HasRead, claims_of}
 use Rattle.box_tree.specs.Trees.{open_from, leaf_count}
 use Rattle.cert_check.specs.declared.checker.CheckFault.{CheckFault}
+use Rattle.cert_check.specs.declared.checker.CheckFault.TheVariants as fault
 use Rattle.cert_check.specs.declared.walk.Walk.{Walk}
 use Rattle.cert_check.specs.Acceptance.{IsAccepted}
 use Rattle.cert_check.specs.Faults.{HasCheckFault}
-use Rattle.cert_check.specs.Walks.{cert_over, AreFirst, IsSameTask}
+use Rattle.cert_check.specs.Walks.{cert_over, AreFirst, HasTaken, IsSameTask}
 use Rattle.cert_check.proofs.WalkLemmas.{leaves-front}
 
 -- the walk is over a certificate with these claims
@@ -70,7 +72,7 @@ All-take P [] (suc k) all j d l = absurd (omega arith)
 All-take P (x ∷ xs) (suc k) all zero d l = all 0 d (omega arith)
 All-take P (x ∷ xs) (suc k) all (suc j) d l = All-take P xs k (λ i e m. all (suc i) e (omega arith)) j d (omega arith)
 
-pub are_first : (cert : Cert) (k : ℕ) → IsCert cert → AreFirst (length cert.claims) (take k cert.nodes)
+are_first : (cert : Cert) (k : ℕ) → IsCert cert → AreFirst (length cert.claims) (take k cert.nodes)
 are_first cert k good =
     let parts : take k cert.nodes ++ drop k cert.nodes ≡ cert.nodes = take-append-drop k cert.nodes in
     let leaves = leaves-front (take k cert.nodes) (drop k cert.nodes) in
@@ -81,12 +83,12 @@ are_first cert k good =
       few_leaves = omega (arith, leaves, few, ap leaf_count parts);
     }
 
-pub take_next : (nodes : List Node) (k : ℕ) (node : Node) → k < length nodes → node ≡ get_or nodes k node
+take_next : (nodes : List Node) (k : ℕ) (node : Node) → k < length nodes → node ≡ get_or nodes k node
     → take (k + 1) nodes ≡ take k nodes ++ node ∷ []
 take_next nodes k node within is = ap (λ n. take n nodes) (add-one k) ∙ take-suc nodes k node within
     ∙ ap (λ (n : Node). take k nodes ++ n ∷ []) (sym is)
 
-pub take_all : (nodes : List Node) (k : ℕ) → length nodes ≤ k → take k nodes ≡ nodes
+take_all : (nodes : List Node) (k : ℕ) → length nodes ≤ k → take k nodes ≡ nodes
 take_all [] zero l = refl
 take_all [] (suc k) l = refl
 take_all (node ∷ nodes) zero l = absurd (omega arith)
@@ -104,19 +106,58 @@ first_of_text version text nodes lines read =
           read.begins.few_leaves;
     }
 
--- a walk that may take the next node
-pub next_first : (cert : Cert) (w : Walk) (k : ℕ) (node : Node) → IsCert cert → w.claims.now ≡ cert.claims
-    → k < length cert.nodes → node ≡ get_or cert.nodes k node
-    → AreFirst (length w.claims.now) (take k cert.nodes ++ node ∷ [])
-next_first cert w k node good claims within is =
-    subst (λ cs. AreFirst (length cs) (take k cert.nodes ++ node ∷ [])) (sym claims)
-    (subst (λ ns. AreFirst (length cert.claims) ns) (take_next cert.nodes k node within is)
-    (are_first cert (k + 1) good))
-
-pub IfOk-then : {A E : Type 0} (P Q : A → Type 0) (r : Result A E) → ((x : A) → P x → Q x) → IfOk r P → IfOk r Q
+IfOk-then : {A E : Type 0} (P Q : A → Type 0) (r : Result A E) → ((x : A) → P x → Q x) → IfOk r P → IfOk r Q
 IfOk-then P Q (Ok x) f p = f x p
 IfOk-then P Q (Err e) f p = tt
 
-pub IfErr-then : {A E : Type 0} (P Q : E → Type 0) (r : Result A E) → ((e : E) → P e → Q e) → IfErr r P → IfErr r Q
+IfErr-then : {A E : Type 0} (P Q : E → Type 0) (r : Result A E) → ((e : E) → P e → Q e) → IfErr r P → IfErr r Q
 IfErr-then P Q (Ok x) f p = tt
 IfErr-then P Q (Err e) f p = f e p
+
+-- ---- a walk over a certificate, behind its first k nodes
+
+module _ (b : Block) (h : ℕ) (cert : Cert) (w : Walk) (over : IsWalkOver b cert.claims h w) (good : IsCert cert)
+    (k : ℕ) where
+  -- the next node, which is read of a slice
+  module _ (nodes : List Node) (node : Node) (same : nodes ≡ cert.nodes) (within : k < length nodes)
+      (is : node ≡ get_or nodes k node) where
+    take-next : take (k + 1) cert.nodes ≡ take k cert.nodes ++ node ∷ []
+    take-next = take_next cert.nodes k node (subst (λ (ns : List Node). k < length ns) same within)
+        (subst (λ (ns : List Node). node ≡ get_or ns k node) same is)
+
+    -- the walk may take it
+    pub AreFirst-next : AreFirst (length w.claims.now) (take k cert.nodes ++ node ∷ [])
+    AreFirst-next = subst (λ cs. AreFirst (length cs) (take k cert.nodes ++ node ∷ [])) (sym over.claims_are)
+        (subst (λ ns. AreFirst (length cert.claims) ns) take-next (are_first cert (k + 1) good))
+
+    pub HasTaken-next : (v : Walk) → HasTaken (take k cert.nodes ++ node ∷ []) v → HasTaken (take (k + 1) cert.nodes) v
+    HasTaken-next v taken = subst (λ ns. HasTaken ns v) (sym take-next) taken
+
+  -- the last node is behind it
+  module _ (nodes : List Node) (same : nodes ≡ cert.nodes) (end : length nodes ≤ k)
+      (taken : HasTaken (take k cert.nodes) w) where
+    HasTaken-all : HasTaken cert.nodes w
+    HasTaken-all =
+        let all = take_all cert.nodes k (subst (λ (ns : List Node). length ns ≤ k) same end) in
+        subst (λ ns. HasTaken ns w) all taken
+
+    -- what it answers is of the certificate
+    pub IsAccepted-all : (r : Result (Vec ℕ) CheckFault)
+        → ((ns : List Node) → HasTaken ns w → IsCert (cert_over w ns)
+        → IfOk r (λ es. IsAccepted w.block.now w.parts (cert_over w ns) es.items))
+        → IfOk r (λ es. IsAccepted b h cert es.items)
+    IsAccepted-all r accepted =
+        IfOk-then (λ (es : Vec ℕ). IsAccepted w.block.now w.parts (cert_over w cert.nodes) es.items)
+        (λ es. IsAccepted b h cert es.items) r
+        (λ es a. accepted_over b cert.claims h w over cert.nodes es.items a)
+        (accepted cert.nodes HasTaken-all (is_cert b cert.claims h w over cert.nodes good))
+
+    pub HasCheckFault-all : (r : Result (Vec ℕ) CheckFault)
+        → ((ns : List Node) → HasTaken ns w → IsCert (cert_over w ns)
+        → IfErr r (HasCheckFault w.block.now w.parts (cert_over w ns)))
+        → IfErr r (λ f. f ≢ fault.Memory → HasCheckFault b h cert f)
+    HasCheckFault-all r faulty =
+        IfErr-then (λ (f : CheckFault). HasCheckFault w.block.now w.parts (cert_over w cert.nodes) f)
+        (λ f. f ≢ fault.Memory → HasCheckFault b h cert f) r
+        (λ f a real. fault_over b cert.claims h w over cert.nodes f a)
+        (faulty cert.nodes HasTaken-all (is_cert b cert.claims h w over cert.nodes good))

@@ -9,6 +9,7 @@ pub mod WalkLemmas
 pub mod TakeLemmas
 pub mod CheckLemmas
 pub mod DriverLemmas
+pub mod TextWalks
 pub mod FaultLemmas
 pub mod FirstFaults
 pub mod SameBlocks

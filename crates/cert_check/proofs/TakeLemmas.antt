@@ -1,6 +1,6 @@
 -- A walk that takes one more node.
 use Rattle.std.proofs.Common.{◌≡◌, ℕ, ◌+◌, ◌-◌, ◌≤◌, List, [], ◌∷◌, ◌++◌, length, length-append, Some, None, sym, ◌∙◌}
-use Rattle.std.proofs.Common.{subst, arith, vec_capacity}
+use Rattle.std.proofs.Common.{ap, subst, arith, vec_capacity}
 use Rattle.std.specs.Prelude.{Result, Ok, Err, OnOk, IfErr, MatchOption}
 use Rattle.std.specs.Global.{Vec}
 use Rattle.std.specs.Vec.{with_items}
@@ -83,21 +83,15 @@ module _ (w : Walk) (bytes : ByteBox) (left : Vec ByteBox) (popped : w.boxes.ite
         behind.claims_count behind.line (at_box nodes behind) i c h.1))
 
   module _ (pairs : ArrayVec (ℕ × ℕ)) (node : Node) (is : node ≡ Leaf pairs) where
-    pub pairs_count : (nodes : List Node) → IsBehind nodes w → AreFirst (length w.claims.now) (nodes ++ node ∷ [])
-        → length pairs.items ≡ length w.block.now.outputs
-    pairs_count nodes behind first =
-        (subst (IsNode (length w.claims.now)) is (last_good (length w.claims.now) nodes node first)).0
-        ∙ behind.claims_count
-
-    pub leaf_behind : {A : Type 0} (errors : List ℕ) (r : Result A CheckFault) → OpenBoxesGoOn
+    leaf_taken : {A : Type 0} (errors : List ℕ) (r : Result A CheckFault) → OpenBoxesGoOn
         → OnOk r (AllHold w.block.now (part_of bytes.0.items pairs.items))
         → OnOk r (Raises w.block.now w.parts (part_of bytes.0.items pairs.items) w.errors.items errors)
         → vec_capacity left ≡ vec_capacity w.boxes
         → OnOk r ((nodes : List Node) → IsBehind nodes w → AreFirst (length w.claims.now) (nodes ++ node ∷ [])
         → IsBehind (nodes ++ node ∷ [])
         (record w { boxes = left; errors = with_items w.errors errors; line = w.line + 1 }))
-    leaf_behind errors (Err f) goes_on hold raised room = tt
-    leaf_behind errors (Ok u) goes_on hold raised room = λ nodes behind first. record {
+    leaf_taken errors (Err f) goes_on hold raised room = tt
+    leaf_taken errors (Ok u) goes_on hold raised room = λ nodes behind first. record {
       claims_count = behind.claims_count;
       walked = subst (λ es. HasWalked w.block.now w.parts (nodes ++ node ∷ []) (stack_of left.items) es)
           (sym (with_items_is w.errors errors (raised.count ∙ sym w.errors.ok.0)))
@@ -108,16 +102,44 @@ module _ (w : Walk) (bytes : ByteBox) (left : Vec ByteBox) (popped : w.boxes.ite
       room = let r = behind.room in omega (arith, r, room);
     }
 
-    pub pair_fault : {A : Type 0} (r : Result A CheckFault)
+    fault_met : {A : Type 0} (r : Result A CheckFault)
         → IfErr r (HasPartFault w.block.now (part_of bytes.0.items pairs.items) w.line)
         → IfErr r (λ f. (nodes rest : List Node) → IsBehind nodes w
         → AreFirst (length w.claims.now) (nodes ++ node ∷ [])
         → HasCheckFault w.block.now w.parts (cert_over w (nodes ++ node ∷ rest)) f)
-    pair_fault (Ok u) h = tt
-    pair_fault (Err f) h = λ nodes rest behind first.
+    fault_met (Ok u) h = tt
+    fault_met (Err f) h = λ nodes rest behind first.
         subst (λ n. HasCheckFault w.block.now w.parts (cert_over w (nodes ++ n ∷ rest)) f) (sym is)
         (leaf_fault w.block.now w.parts w.claims.now nodes bytes.0.items (stack_of left.items) w.errors.items w.line
         rest behind.claims_count behind.line (at_box nodes behind) pairs f h)
+
+    -- where its pairs are read as a slice
+    module _ (slice : List (ℕ × ℕ)) (same : slice ≡ pairs.items) where
+      pub pairs_count : (nodes : List Node) → IsBehind nodes w → AreFirst (length w.claims.now) (nodes ++ node ∷ [])
+          → length slice ≡ length w.block.now.outputs
+      pairs_count nodes behind first = ap length same
+          ∙ (subst (IsNode (length w.claims.now)) is (last_good (length w.claims.now) nodes node first)).0
+          ∙ behind.claims_count
+
+      pub leaf_behind : {A : Type 0} (old errors : List ℕ) (r : Result A CheckFault) → OpenBoxesGoOn
+          → old ≡ w.errors.items → OnOk r (AllHold w.block.now (part_of bytes.0.items slice))
+          → OnOk r (Raises w.block.now w.parts (part_of bytes.0.items slice) old errors)
+          → vec_capacity left ≡ vec_capacity w.boxes
+          → OnOk r ((nodes : List Node) → IsBehind nodes w → AreFirst (length w.claims.now) (nodes ++ node ∷ [])
+          → IsBehind (nodes ++ node ∷ [])
+          (record w { boxes = left; errors = with_items w.errors errors; line = w.line + 1 }))
+      leaf_behind old errors r goes_on held hold raised = leaf_taken errors r goes_on
+          (subst (λ ps. OnOk r (AllHold w.block.now (part_of bytes.0.items ps))) same hold)
+          (subst (λ es. OnOk r (Raises w.block.now w.parts (part_of bytes.0.items pairs.items) es errors)) held
+          (subst (λ ps. OnOk r (Raises w.block.now w.parts (part_of bytes.0.items ps) old errors)) same raised))
+
+      pub pair_fault : {A : Type 0} (r : Result A CheckFault)
+          → IfErr r (HasPartFault w.block.now (part_of bytes.0.items slice) w.line)
+          → IfErr r (λ f. (nodes rest : List Node) → IsBehind nodes w
+          → AreFirst (length w.claims.now) (nodes ++ node ∷ [])
+          → HasCheckFault w.block.now w.parts (cert_over w (nodes ++ node ∷ rest)) f)
+      pair_fault r fault = fault_met r
+          (subst (λ ps. IfErr r (HasPartFault w.block.now (part_of bytes.0.items ps) w.line)) same fault)
 
 -- where a node may follow, the stack is not empty
 pub none_popped : (w : Walk) (nodes : List Node) (node : Node) → OpenBoxesGoOn → w.boxes.items ≡ [] → IsBehind nodes w

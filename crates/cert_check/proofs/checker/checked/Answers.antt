@@ -1,55 +1,39 @@
-use Rattle.std.proofs.Common.{◌≡◌, ◌≢◌, ◌<◌, ◌≤◌, ℕ, List, length, get_or, sym, ◌∙◌, subst}
-use Rattle.std.specs.Global.{Vec}
-use Rattle.box_tree.specs.declared.cert.Node.{Node}
-use Rattle.cert_check.specs.declared.checker.CheckFault.{CheckFault}
-use Rattle.cert_check.specs.declared.checker.CheckFault.TheVariants as fault
-use Rattle.cert_check.specs.Acceptance.{IsAccepted}
-use Rattle.cert_check.specs.Faults.{HasCheckFault}
-use Rattle.cert_check.specs.Walks.{HasTaken, cert_over}
-use Rattle.cert_check.proofs.DriverLemmas.{still_over, is_cert, accepted_over, fault_over, next_first, take_next}
-use Rattle.cert_check.proofs.DriverLemmas.{take_all, IfOk-then, IfErr-then}
+use Rattle.std.proofs.Common.{◌∙◌}
+use Rattle.cert_check.proofs.DriverLemmas.{still_over, AreFirst-next, HasTaken-next, IsAccepted-all, HasCheckFault-all}
 use Rattle.cert_check.proofs.checker.checked.Goals as goal
 
 pub loop-node-init : goal.loop-node-init
-loop-node-init c = record {
-  over = record {
-    block = c.in-Ok.ensures.block;
-    claims_are = c.in-Ok.ensures.claims ∙ c.as_slice.ensures;
-    parts =
-        c.in-Ok.ensures.parts;
-  };
-  taken = c.in-Ok.ensures.begun;
-}
+loop-node-init c =
+    let i = c.in-Ok.ensures in
+    record {
+      over = record { block = i.block; claims_are = i.claims ∙ c.as_slice.ensures; parts = i.parts };
+      taken = i.begun;
+    }
 
 pub take-requires : goal.take-requires
 take-requires c =
     let i = c.loop-node.invariant in
-    let within = subst (λ (xs : List Node). c.loop-node.node-index < length xs) c.as_slice-node-items.ensures
-    c.loop-node-test.true in
-    let is = subst (λ (xs : List Node). c.node-item.result ≡ get_or xs c.loop-node.node-index c.node-item.result)
-    c.as_slice-node-items.ensures c.node-item.is in (
-      _,
-      i.taken,
-      next_first c.args.cert.now c.loop-node.walk c.loop-node.node-index c.node-item.result c.requires.cert
-          i.over.claims_are within is,
-    )
+    let next = AreFirst-next c.args.block.now c.args.parts c.args.cert.now c.loop-node.walk i.over c.requires.cert
+    c.loop-node.node-index c.as_slice-node-items.result.now c.node-item.result c.as_slice-node-items.ensures
+    c.loop-node-test.true c.node-item.is in
+    (_, i.taken, next)
 
 pub loop-node-preserved : goal.loop-node-preserved
 loop-node-preserved c =
-    let i = c.loop-node.invariant in
+    let b = c.args.block.now in
     let cert = c.args.cert.now in
-    let within = subst (λ (xs : List Node). c.loop-node.node-index < length xs) c.as_slice-node-items.ensures
-    c.loop-node-test.true in
-    let is = subst (λ (xs : List Node). c.node-item.result ≡ get_or xs c.loop-node.node-index c.node-item.result)
-    c.as_slice-node-items.ensures c.node-item.is in
+    let w = c.loop-node.walk in
+    let i = c.loop-node.invariant in
+    let k = c.loop-node.node-index in
+    let nodes = c.as_slice-node-items.result.now in
+    let same = c.as_slice-node-items.ensures in
+    let test = c.loop-node-test.true in
+    let next = AreFirst-next b c.args.parts cert w i.over c.requires.cert k nodes c.node-item.result same test
+    c.node-item.is in
     record {
-      over = still_over c.args.block.now cert.claims c.args.parts c.loop-node.walk c.take.new.self i.over
-          c.take.ensures.same;
-      taken = subst (λ ns. HasTaken ns c.take.new.self)
-          (sym (take_next cert.nodes c.loop-node.node-index c.node-item.result within is))
-          (c.take.ensures.taken _ i.taken
-          (next_first cert c.loop-node.walk c.loop-node.node-index c.node-item.result c.requires.cert
-          i.over.claims_are within is));
+      over = still_over b cert.claims c.args.parts w c.take.new.self i.over c.take.ensures.same;
+      taken = HasTaken-next b c.args.parts cert w i.over c.requires.cert k nodes c.node-item.result same test
+          c.node-item.is c.take.new.self (c.take.ensures.taken _ i.taken next);
     }
 
 pub finish-requires : goal.finish-requires
@@ -57,30 +41,12 @@ finish-requires c = (_, c.loop-node.invariant.taken)
 
 pub returns-clause-accepted : goal.returns-clause-accepted
 returns-clause-accepted c =
-    let cert = c.args.cert.now in
-    let w = c.loop-node.walk in
-    let i = c.loop-node.invariant in
-    let all = take_all cert.nodes c.loop-node.node-index
-    (subst (λ (xs : List Node). length xs ≤ c.loop-node.node-index) c.as_slice-node-items.ensures
-    c.loop-node-test.false) in
-    let taken = subst (λ ns. HasTaken ns w) all i.taken in
-    IfOk-then (λ (es : Vec ℕ). IsAccepted w.block.now w.parts (cert_over w cert.nodes) es.items)
-    (λ es. IsAccepted c.args.block.now c.args.parts cert es.items) c.finish.result
-    (λ es a. accepted_over c.args.block.now cert.claims c.args.parts w i.over cert.nodes es.items a)
-    (c.finish.ensures.accepted cert.nodes taken
-    (is_cert c.args.block.now cert.claims c.args.parts w i.over cert.nodes c.requires.cert))
+    IsAccepted-all c.args.block.now c.args.parts c.args.cert.now c.loop-node.walk c.loop-node.invariant.over
+    c.requires.cert c.loop-node.node-index c.as_slice-node-items.result.now c.as_slice-node-items.ensures
+    c.loop-node-test.false c.loop-node.invariant.taken c.finish.result c.finish.ensures.accepted
 
 pub returns-clause-fault : goal.returns-clause-fault
 returns-clause-fault c =
-    let cert = c.args.cert.now in
-    let w = c.loop-node.walk in
-    let i = c.loop-node.invariant in
-    let all = take_all cert.nodes c.loop-node.node-index
-    (subst (λ (xs : List Node). length xs ≤ c.loop-node.node-index) c.as_slice-node-items.ensures
-    c.loop-node-test.false) in
-    let taken = subst (λ ns. HasTaken ns w) all i.taken in
-    IfErr-then (λ (f : CheckFault). HasCheckFault w.block.now w.parts (cert_over w cert.nodes) f)
-    (λ f. f ≢ fault.Memory → HasCheckFault c.args.block.now c.args.parts cert f) c.finish.result
-    (λ f a real. fault_over c.args.block.now cert.claims c.args.parts w i.over cert.nodes f a)
-    (c.finish.ensures.fault cert.nodes taken
-    (is_cert c.args.block.now cert.claims c.args.parts w i.over cert.nodes c.requires.cert))
+    HasCheckFault-all c.args.block.now c.args.parts c.args.cert.now c.loop-node.walk c.loop-node.invariant.over
+    c.requires.cert c.loop-node.node-index c.as_slice-node-items.result.now c.as_slice-node-items.ensures
+    c.loop-node-test.false c.loop-node.invariant.taken c.finish.result c.finish.ensures.fault

@@ -1,12 +1,9 @@
-use Rattle.std.proofs.Common.{◌∷◌, [], List, ap, ap₂, sym, ◌∙◌, subst, refl, arith, replicate}
-use Rattle.std.specs.Prelude.{MatchOption}
+use Rattle.std.proofs.Common.{◌∷◌, [], List, ap, ap₂, ◌∙◌, refl, arith, replicate}
 use Rattle.error_bound.specs.declared.boxes.Interval.{Interval}
 use Rattle.error_bound.specs.declared.boxes.ByteBox.{ByteBox}
-use Rattle.box_tree.specs.declared.cert.Node.{Node}
 use Rattle.cert_check.specs.declared.walk.Walk.{Walk}
-use Rattle.cert_check.specs.Faults.{HasCheckFault}
-use Rattle.cert_check.specs.Walks.{stack_of, cert_over, IsBehind}
-use Rattle.cert_check.proofs.CheckLemmas.{behind_none, count_fault}
+use Rattle.cert_check.specs.Walks.{stack_of}
+use Rattle.cert_check.proofs.CheckLemmas.{so_far-behind, so_far-fault, behind_none, count_fault}
 use Rattle.cert_check.proofs.walk.Walk.new.Goals.{then-claims-outputs, else-claims-outputs}
 use Rattle.cert_check.proofs.walk.Walk.new.Goals as goal
 
@@ -17,8 +14,7 @@ returns-clause-begun c =
       claims = c.args.claims;
       parts = c.args.parts;
       table = c.in_ok-table.table;
-      boxes =
-          c.push.new.boxes;
+      boxes = c.push.new.boxes;
       errors = c.in_ok-errors.errors;
       line = 3;
       fault = c.if-claims-outputs.fault;
@@ -36,14 +32,10 @@ returns-clause-begun c =
       parts_from = c.requires.parts_from;
       parts_to = c.requires.parts_to;
       so_far = elim c.if-claims-outputs.branch [
-        | then-claims-outputs v ↦ subst
-            (λ f. MatchOption f (IsBehind [] w)
-            (λ g. (rest : List Node) → HasCheckFault w.block.now w.parts (cert_over w rest) g)) (sym v.fault-is)
+        | then-claims-outputs v ↦ so_far-behind w [] v.fault-is
             (behind_none w c.requires.block.few_inputs (v.if-claims-outputs.true ∙ c.len-outputs.ensures) stack zeros
             refl (omega (arith, room, exact)))
-        | else-claims-outputs v ↦ subst
-            (λ f. MatchOption f (IsBehind [] w)
-            (λ g. (rest : List Node) → HasCheckFault w.block.now w.parts (cert_over w rest) g)) (sym v.fault-is)
+        | else-claims-outputs v ↦ so_far-fault w [] _ v.fault-is
             (count_fault w c.len-outputs.result c.len-outputs.ensures v.if-claims-outputs.false)
       ];
     }

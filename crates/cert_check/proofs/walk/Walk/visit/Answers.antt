@@ -1,9 +1,5 @@
-use Rattle.std.proofs.Common.{sym, subst, ◌∙◌}
-use Rattle.std.specs.Prelude.{OnOk, IfErr}
+use Rattle.std.proofs.Common.{sym, ◌∙◌}
 use Rattle.std.proofs.lemmas.List.{nil_from_length}
-use Rattle.cert_check.specs.Trees.{part_of}
-use Rattle.cert_check.specs.Faults.{AllHold, HasPartFault}
-use Rattle.cert_check.specs.Walks.{Raises}
 use Rattle.cert_check.proofs.TakeLemmas.{next_box, split_behind, split_fault, pairs_count, leaf_behind, pair_fault}
 use Rattle.cert_check.proofs.TakeLemmas.{none_popped}
 use Rattle.cert_check.proofs.walk.Walk.visit.Goals as goal
@@ -24,43 +20,29 @@ raise_errors-requires-clause-bytes c =
     next_box c.args.self.now c.in-Some.bytes c.pop.new.self c.in-Some.ensures.items c.requires.0 c.requires.2
 
 pub raise_errors-requires-clause-pairs : goal.raise_errors-requires-clause-pairs
-raise_errors-requires-clause-pairs c = rw c.as_slice.ensures.value
-    (pairs_count c.args.self.now c.in-Some.bytes c.pop.new.self c.in-Some.ensures.items c.in-Leaf.pairs c.args.node.now
-    c.in-Leaf.is c.requires.0 c.requires.2 c.requires.3)
+raise_errors-requires-clause-pairs c =
+    pairs_count c.args.self.now c.in-Some.bytes c.pop.new.self c.in-Some.ensures.items c.in-Leaf.pairs c.args.node.now
+    c.in-Leaf.is c.as_slice.result.now c.as_slice.ensures.value c.requires.0 c.requires.2 c.requires.3
 
 pub returns-in-Split-clause-behind : goal.returns-in-Split-clause-behind
 returns-in-Split-clause-behind c =
     split_behind c.args.self.now c.in-Some.bytes c.pop.new.self c.in-Some.ensures.items c.in-Split.input c.in-Split.cut
-    c.args.node.now c.in-Split.is
-    c.push_halves.new.boxes c.push_halves.result c.open_boxes_go_on.ensures c.push_halves.ensures.cut
-    c.push_halves.ensures.boxes c.push_halves.ensures.room
+    c.args.node.now c.in-Split.is c.push_halves.new.boxes c.push_halves.result c.open_boxes_go_on.ensures
+    c.push_halves.ensures.cut c.push_halves.ensures.boxes c.push_halves.ensures.room
 
 pub returns-in-Split-clause-fault : goal.returns-in-Split-clause-fault
 returns-in-Split-clause-fault c =
     split_fault c.args.self.now c.in-Some.bytes c.pop.new.self c.in-Some.ensures.items c.in-Split.input c.in-Split.cut
-    c.args.node.now c.in-Split.is
-    c.push_halves.result c.push_halves.ensures.fault
+    c.args.node.now c.in-Split.is c.push_halves.result c.push_halves.ensures.fault
 
 pub returns-in-Leaf-clause-behind : goal.returns-in-Leaf-clause-behind
 returns-in-Leaf-clause-behind c =
-    let w = c.args.self.now in
-    let box = c.in-Some.bytes.0.items in
-    let r = c.raise_errors.result in
-    let new = c.raise_errors.new.errors in
-    let hold = subst (λ xs. OnOk r (AllHold w.block.now (part_of box xs))) c.as_slice.ensures.value
-    c.raise_errors.ensures.hold in
-    let raised = subst (λ xs. OnOk r (Raises w.block.now w.parts (part_of box xs) w.errors.items new))
-    c.as_slice.ensures.value
-    (subst (λ es. OnOk r (Raises w.block.now w.parts (part_of box c.as_slice.result.now) es new))
-    c.deref_mut.ensures.value c.raise_errors.ensures.raised) in
-    leaf_behind w c.in-Some.bytes c.pop.new.self c.in-Some.ensures.items c.in-Leaf.pairs c.args.node.now c.in-Leaf.is
-    new r c.open_boxes_go_on.ensures hold raised c.pop.ensures.capacity
+    leaf_behind c.args.self.now c.in-Some.bytes c.pop.new.self c.in-Some.ensures.items c.in-Leaf.pairs c.args.node.now
+    c.in-Leaf.is c.as_slice.result.now c.as_slice.ensures.value _ c.raise_errors.new.errors c.raise_errors.result
+    c.open_boxes_go_on.ensures c.deref_mut.ensures.value c.raise_errors.ensures.hold c.raise_errors.ensures.raised
+    c.pop.ensures.capacity
 
 pub returns-in-Leaf-clause-fault : goal.returns-in-Leaf-clause-fault
 returns-in-Leaf-clause-fault c =
-    let w = c.args.self.now in
-    let r = c.raise_errors.result in
-    let part = subst (λ xs. IfErr r (HasPartFault w.block.now (part_of c.in-Some.bytes.0.items xs) w.line))
-    c.as_slice.ensures.value c.raise_errors.ensures.fault in
-    pair_fault w c.in-Some.bytes c.pop.new.self c.in-Some.ensures.items c.in-Leaf.pairs c.args.node.now
-    c.in-Leaf.is r part
+    pair_fault c.args.self.now c.in-Some.bytes c.pop.new.self c.in-Some.ensures.items c.in-Leaf.pairs c.args.node.now
+    c.in-Leaf.is c.as_slice.result.now c.as_slice.ensures.value c.raise_errors.result c.raise_errors.ensures.fault
