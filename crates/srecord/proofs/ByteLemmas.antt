@@ -10,18 +10,27 @@ use Rattle.srecord.specs.declared.fields.Kind.{Kind}
 use Rattle.srecord.specs.declared.fields.Kind.TheVariants.{Count}
 use Rattle.srecord.specs.declared.reader.Reader.{Reader}
 use Rattle.srecord.specs.Lines.{HasGoodFields, Opens}
-use Rattle.srecord.specs.Texts.{Give, Given, HasFault, IsRecord, IsTaken, LineFails, RecordFails, at_line}
-use Rattle.srecord.specs.Texts.{count_differs, no_end, none, nothing_given}
-use Rattle.srecord.specs.Reading.{HasRead}
+use Rattle.srecord.specs.Texts.{Give, Given, HasFault, IsRecord, IsTaken, LineFails, MayFollow, RecordFails, at_line}
+use Rattle.srecord.specs.Texts.{count_differs, given_with, more, no_end, none, nothing_given}
+use Rattle.srecord.specs.Reading.{Has, HasRead}
 
-pub is_record_there : (line : List ℕ) (kind : Kind) (at : ℕ) (payload bytes seen : List ℕ) → seen ≡ bytes
+-- a line whose bytes, as they were seen, have good fields is a record
+pub is_record_there : {line : List ℕ} {kind : Kind} {at : ℕ} {payload bytes seen : List ℕ} → seen ≡ bytes
     → Opens line kind bytes → HasGoodFields kind seen at payload
     → IsRecord line kind at payload
-is_record_there line kind at payload bytes seen same opens fields = record {
+is_record_there {kind = kind} {at = at} {payload = payload} {bytes = bytes} same opens fields = record {
   bytes = bytes;
   opens = opens;
   fields = subst (λ (b : List ℕ). HasGoodFields kind b at payload) same fields;
 }
+
+-- what a reader has that has taken a line's record is given by the lines up to that one
+pub given_more : (before : List (List ℕ)) (g : Given) {line : List ℕ} {kind : Kind} {at : ℕ} {payload : List ℕ}
+    {reader : Reader} → Give before g → g.start ≡ None → IsRecord line kind at payload
+    → MayFollow g kind at payload × Has reader (given_with g kind at payload)
+    → (h : Given) × Give (before ++ line ∷ []) h × Has reader h
+given_more before g {line = line} {kind = kind} {at = at} {payload = payload} give no_start is_record taken =
+    (given_with g kind at payload, more before g line kind at payload give no_start is_record taken.0, taken.1)
 
 pub taken_too : (bytes given : ℕ → Option ℕ) → ((q : ℕ) → bytes q ≡ given q) → (at : ℕ) (payload : List ℕ)
     → IsTaken bytes at payload → IsTaken given at payload
@@ -35,13 +44,20 @@ counted_otherwise g n at count records payload count_is records_are other =
     (subst (λ (r : ℕ). RecordFails g n Count at payload (CountDiffers at r)) (sym records_are)
     (count_differs at payload (λ same. other (count_is ∙ same ∙ sym records_are))))
 
-pub has_start : (o p : Option ℕ) → true ≡ is_some o → o ≡ p → p ≢ None
-has_start None p some same = absurd (cc)
-has_start (Some x) p some same = λ nothing. (let bad = same ∙ nothing in cc)
+some_start : (o p : Option ℕ) → true ≡ is_some o → o ≡ p → p ≢ None
+some_start None p some same = absurd (cc)
+some_start (Some x) p some same = λ nothing. (let bad = same ∙ nothing in cc)
 
-pub has_no_start : (o p : Option ℕ) → false ≡ is_some o → o ≡ p → p ≡ None
-has_no_start None p some same = sym same
-has_no_start (Some x) p some same = absurd (cc)
+none_start : (o p : Option ℕ) → false ≡ is_some o → o ≡ p → p ≡ None
+none_start None p some same = sym same
+none_start (Some x) p some same = absurd (cc)
+
+-- whether a start is given, as the reader has one
+pub has_start : {reader : Reader} {g : Given} → true ≡ is_some reader.start → Has reader g → g.start ≢ None
+has_start {reader = reader} {g = g} some h = some_start reader.start g.start some h.start
+
+pub has_no_start : {reader : Reader} {g : Given} → false ≡ is_some reader.start → Has reader g → g.start ≡ None
+has_no_start {reader = reader} {g = g} without h = none_start reader.start g.start without h.start
 
 pub nothing_read : (text : List ℕ) (reader : Reader) → ((q : ℕ) → byte_at reader.bytes q ≡ None) → reader.records ≡ 0
     → reader.start ≡ None → HasRead text 0 text reader

@@ -47,11 +47,13 @@ run_placed at (b ∷ bytes) run =
 abbrev pub piece_of : ℕ → List (ℕ × ℕ) → Piece
 piece_of n bytes = record { at = address_at bytes 0; bytes = bytes_only (take n bytes) }
 
-pub cut_more : (n : ℕ) (bytes : List (ℕ × ℕ)) (pieces : List Piece) → 1 ≤ n → n ≤ 32 → n ≤ length bytes
+-- where the first n bytes are a record's, and what is behind them is cut into pieces, all of them are
+pub cut_more : (n : ℕ) (bytes front back : List (ℕ × ℕ)) (pieces : List Piece) → 1 ≤ n → n ≤ 32 → n ≤ length bytes
     → IsRun (address_at bytes 0) (take n bytes) → (n ≡ 32) ⊎ (StartsAt (address_at bytes 0 + n) (drop n bytes) → ⊥)
-    → address_at bytes 0 + n ≤ 65536 → IsBytes (bytes_only (take n bytes)) → AreCut (drop n bytes) pieces
+    → address_at bytes 0 + n ≤ 65536 → front ≡ take n bytes → back ≡ drop n bytes → IsBytes (bytes_only front)
+    → AreCut back pieces
     → AreCut bytes (piece_of n bytes ∷ pieces)
-cut_more n bytes pieces some few within run ends fits are cut =
+cut_more n bytes front back pieces some few within run ends fits front_is back_is are cut =
     let count : length (bytes_only (take n bytes)) ≡ n = rw length-map (length-take-le n bytes within) in
     let whole : placed (address_at bytes 0) (bytes_only (take n bytes)) ++ drop n bytes ≡ bytes =
     ap (λ (l : List (ℕ × ℕ)). l ++ drop n bytes) (run_placed (address_at bytes 0) (take n bytes) run)
@@ -60,22 +62,28 @@ cut_more n bytes pieces some few within run ends fits are cut =
       some = omega (arith, count);
       few = omega (arith, count);
       fits = omega (arith, count, fits);
-      are_bytes = are;
+      are_bytes = subst (λ (l : List (ℕ × ℕ)). IsBytes (bytes_only l)) front_is are;
       ends = subst (λ (k : ℕ). (k ≡ 32) ⊎ (StartsAt (address_at bytes 0 + k) (drop n bytes) → ⊥)) (sym count) ends;
     } in
     subst (λ (l : List (ℕ × ℕ)). AreCut l (piece_of n bytes ∷ pieces)) whole
-    (next (piece_of n bytes) (drop n bytes) pieces good cut)
+    (next (piece_of n bytes) (drop n bytes) pieces good (subst (λ (l : List (ℕ × ℕ)). AreCut l pieces) back_is cut))
 
-pub text_more : (before after : List ℕ) (pieces : List Piece) (p : Piece)
-    → after ≡ before ++ record_text 49 p.at p.bytes → before ++ data_text (p ∷ pieces) ≡ after ++ data_text pieces
-text_more before after pieces p added =
-    sym (append_assoc before (record_text 49 p.at p.bytes) (data_text pieces))
-    ∙ ap (λ (t : List ℕ). t ++ data_text pieces) (sym added)
-
-pub first_kept : (n : ℕ) (bytes : List (ℕ × ℕ)) → 1 ≤ n → address_at (take n bytes) 0 ≡ address_at bytes 0
+first_kept : (n : ℕ) (bytes : List (ℕ × ℕ)) → 1 ≤ n → address_at (take n bytes) 0 ≡ address_at bytes 0
 first_kept zero bytes some = absurd (omega arith)
 first_kept (suc n) [] some = refl
 first_kept (suc n) (b ∷ bytes) some = refl
+
+-- a text with the record of the first n bytes, behind which those of further pieces come
+pub text_more : (before after : List ℕ) (n : ℕ) (bytes front : List (ℕ × ℕ)) (pieces : List Piece) → 1 ≤ n
+    → front ≡ take n bytes → after ≡ before ++ record_text 49 (address_at front 0) (bytes_only front)
+    → before ++ data_text (piece_of n bytes ∷ pieces) ≡ after ++ data_text pieces
+text_more before after n bytes front pieces some front_is added =
+    let first = piece_of n bytes in
+    let record_is : after ≡ before ++ record_text 49 first.at first.bytes = added
+    ∙ ap (λ (l : List (ℕ × ℕ)). before ++ record_text 49 (address_at l 0) (bytes_only l)) front_is
+    ∙ ap (λ (at : ℕ). before ++ record_text 49 at first.bytes) (first_kept n bytes some) in
+    sym (append_assoc before (record_text 49 first.at first.bytes) (data_text pieces))
+    ∙ ap (λ (t : List ℕ). t ++ data_text pieces) (sym record_is)
 
 pub is_nothing : {X : Type 0} (xs : List X) → true ≡ (length xs == 0) → xs ≡ []
 is_nothing [] empty = refl

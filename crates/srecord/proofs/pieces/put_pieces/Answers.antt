@@ -1,10 +1,6 @@
-use Rattle.std.proofs.Common.{◌++◌, List, ℕ, [], ◌∷◌, take, length, subst, arith, refl, sym, ap, ◌∙◌}
+use Rattle.std.proofs.Common.{[], ◌∷◌, length, arith, refl, sym, ap, ◌∙◌}
 use Rattle.std.proofs.lemmas.List.{append-nil, length-drop}
-use Rattle.hex.specs.Hex.{IsBytes}
-use Rattle.srecord.specs.Images.{AreCut}
-use Rattle.srecord.specs.Records.{record_text}
-use Rattle.srecord.specs.Runs.{address_at, bytes_only}
-use Rattle.srecord.proofs.RunLemmas.{cut_more, first_kept, is_nothing, nothing_is_cut, piece_of, text_more}
+use Rattle.srecord.proofs.RunLemmas.{cut_more, is_nothing, nothing_is_cut, piece_of, text_more}
 use Rattle.srecord.proofs.pieces.put_pieces.Goals as goal
 
 pub loop-rest-init : goal.loop-rest-init
@@ -14,30 +10,25 @@ pub loop-rest-preserved : goal.loop-rest-preserved
 loop-rest-preserved c =
     let rest = c.loop-rest.rest.now in
     let n = c.piece_len.result in
-    let text = c.loop-rest.text.items in
-    let added = c.in_ok-put_piece.ensures.record
-    ∙ ap (λ (l : List (ℕ × ℕ)). text ++ record_text 49 (address_at l 0) (bytes_only l)) c.split_at.ensures.front
-    ∙ ap (λ (a : ℕ). text ++ record_text 49 a (bytes_only (take n rest)))
-    (first_kept n rest c.piece_len.ensures.some) in
-    let are = subst (λ (l : List (ℕ × ℕ)). IsBytes (bytes_only l)) c.split_at.ensures.front
-    c.in_ok-put_piece.ensures.bytes in
+    let len = c.piece_len.ensures in
+    let split = c.split_at.ensures in
+    let put = c.in_ok-put_piece.ensures in
     record {
       counted = omega (
         arith,
-        ap length c.split_at.ensures.back,
+        ap length split.back,
         length-drop n rest,
-        c.piece_len.ensures.some,
-        c.piece_len.ensures.within,
+        len.some,
+        len.within,
         c.loop-rest.invariant.counted,
       );
       more = λ pieces cut.
-          let behind = subst (λ (l : List (ℕ × ℕ)). AreCut l pieces) c.split_at.ensures.back cut in
           let all = c.loop-rest.invariant.more (piece_of n rest ∷ pieces)
-          (cut_more n rest pieces c.piece_len.ensures.some c.piece_len.ensures.few c.piece_len.ensures.within
-          c.piece_len.ensures.run c.piece_len.ensures.ends c.piece_len.ensures.fits are behind) in (
+          (cut_more n rest _ _ pieces len.some len.few len.within len.run len.ends len.fits split.front split.back
+          put.bytes cut) in (
             all.0,
             all.1,
-            all.2 ∙ text_more text c.put_piece.new.text.items pieces (piece_of n rest) added,
+            all.2 ∙ text_more _ _ n rest _ pieces len.some split.front put.record,
             omega (arith, all.3),
           );
     }
