@@ -8,7 +8,7 @@ use Rattle.std.proofs.lemmas.Bool.Decides.{nat_tests}
 use Rattle.cpu12_parts.specs.State.{State}
 use Rattle.cpu12_emul.specs.declared.ends.Stepped.{Stepped}
 use Rattle.cpu12_emul.specs.Run.{StepsOf}
-use Rattle.cpu12_emul.specs.Step.{next_of, is_part}
+use Rattle.cpu12_emul.specs.Step.{Whole, next_of, is_part}
 use Rattle.cpu12_emul.specs.Take.{may_interrupt}
 use Rattle.run_law.specs.Forms.{one_if}
 use Rattle.run_forms.specs.declared.boundary.Stand.{Stand}
@@ -17,10 +17,10 @@ use Rattle.run_forms.specs.Forms.{Harness, moment_in, plan_form}
 use Rattle.run_forms.specs.Rest.{is_due, shown_by}
 use Rattle.run_forms.specs.Rows.{frames_seen}
 use Rattle.run_forms.specs.Positions.{Position, numbered}
-use Rattle.run_forms.specs.Sessions.{Coming, after_states, after_takes, after_state, at_end, by_step, moved}
+use Rattle.run_forms.specs.Sessions.{Coming, after_states, after_takes, after_state, moved}
 use Rattle.run_forms.specs.Sessions.{stepped_tally, IsSteady, NoneDue}
 use Rattle.run_forms.specs.Outlooks.{Ahead, Outlook, ahead, at_position, from_here, left_by, outlook, outlook_at}
-use Rattle.run_forms.specs.Outlooks.{requests_at, sample_at, with_row}
+use Rattle.run_forms.specs.Outlooks.{requests_at, rows_here, sample_at, state_here, with_row, IsUnderWay}
 use Rattle.run_forms.proofs.Comings.{Takes, stepped_here, taken_here}
 use Rattle.run_forms.proofs.Takings.{takes_end}
 
@@ -113,9 +113,7 @@ one_step {U = U} kind flags h qs st s u on alive left e busy due =
     let takes = takes_end (plan_form flags h.parts) (t.moment + 1) (drop t.next qs) u (frames_seen t.frames.items)
     (map h.told t.told.items) due in
     stepped_here flags h qs st st1 s u kind on e refl
-    ∙ ap (after_state s) (sym (
-    ap (λ (b : Bool). if b then at_end h.told st2.tally u else by_step flags h qs st2 u (next_of flags u)) on
-    ∙ taken_here flags h qs st1 st2 u u false busy k takes))
+    ∙ ap (after_state s) (sym (taken_here flags h qs st1 st2 u u false on busy k takes))
 
 -- many of them
 steps_on : {A U R S B T : Type 0} (kind : Stepped) (P : State → Type 0) (flags : ℕ) (h : Harness A U R S B T)
@@ -247,3 +245,41 @@ passes_on flags i j h plan l p st r s t at states ei ej goes on =
     (subst (λ (k : ℕ). outlook_at k h plan l r ≡ at_position at (from_here (outlook_at k h plan p s))) ei goes)
     (subst (λ (k : ℕ). after_takes k h (requests_at plan p) p.stand s ≡ after_states states
     (after_takes k h (requests_at plan p) st t)) ej on)
+
+-- a run is under way where a stand further on may go on
+pub under_way_on : {A U R S B T : Type 0} {h : Harness A U R S B T} {plan : List A} {p : Progress U R} {st : Stand U}
+    → IsUnderWay h plan p → IsSteady (requests_at plan p) st → IsUnderWay h plan (record p { stand = st })
+under_way_on under_way steady = record {
+  few = under_way.few;
+  number = under_way.number;
+  first = under_way.first;
+  behind = under_way.behind;
+  follow = under_way.follow;
+  rooms = under_way.rooms;
+  rows = under_way.rows;
+  room = under_way.room;
+  stand = steady;
+}
+
+-- these are the rows and the state that an outlook has
+pub record HasAll {T : Type 0} (rows : List T) (state : State) (o : Outlook T) : Type 0 where
+  pub rows_are : rows ≡ o.rows
+  pub state_is : state ≡ o.state
+
+-- so they are those of a run that has no position further, and stays
+pub stays_here : {A U R S B T : Type 0} (flags : ℕ) (h : Harness A U R S B T) (plan : List A) (p q : Progress U R)
+    (m n : Whole) (at : Position) → q ≡ p → n ≡ m → m.flags ≡ flags
+    → outlook_at m.flags h plan p m.state
+    ≡ record { here = at; later = []; rows = rows_here h p m.state; state = state_here h p m.state }
+    → HasAll (rows_here h q n.state) (state_here h q n.state) (outlook_at flags h plan p m.state)
+stays_here {U = U} {R = R} {T = T} flags h plan p q m n at same_progress same_machine same_flags ends =
+    let all : outlook_at flags h plan p m.state
+    ≡ record { here = at; later = []; rows = rows_here h p m.state; state = state_here h p m.state } =
+    subst (λ (k : ℕ). outlook_at k h plan p m.state
+    ≡ record { here = at; later = []; rows = rows_here h p m.state; state = state_here h p m.state }) same_flags ends in
+    record {
+      rows_are = ap₂ (λ (k : Progress U R) (l : Whole). rows_here h k l.state) same_progress same_machine
+          ∙ sym (ap (λ (o : Outlook T). o.rows) all);
+      state_is = ap₂ (λ (k : Progress U R) (l : Whole). state_here h k l.state) same_progress same_machine
+          ∙ sym (ap (λ (o : Outlook T). o.state) all);
+    }

@@ -1,12 +1,13 @@
 -- What is to come of a sample is the same before and after what is taken at a boundary.
-use Rattle.std.proofs.Common.{◌≡◌, ℕ, suc, ◌+◌, Bool, true, false, ◌&&◌, nat_lt, Result, Ok, Err, List, length, drop}
-use Rattle.std.proofs.Common.{map, refl, ap, ap₂, sym, ◌∙◌}
+use Rattle.std.proofs.Common.{◌≡◌, ◌<◌, ℕ, suc, ◌+◌, ◌-◌, Bool, true, false, ◌&&◌, nat_lt, Result, Ok, Err, List}
+use Rattle.std.proofs.Common.{length, drop, map, refl, ap, ap₂, sym, ◌∙◌, arith}
 use Rattle.std.specs.Prelude.{if◌then◌else◌}
 use Rattle.cpu12_parts.specs.State.{State}
 use Rattle.cpu12_emul.specs.Step.{Next, next_of, is_part}
 use Rattle.cpu12_emul.specs.declared.ends.Stepped.{Stepped}
 use Rattle.run_law.specs.Forms.{Form, Ran, takes, one_if}
 use Rattle.run_forms.specs.declared.boundary.Stand.{Stand}
+use Rattle.run_forms.specs.declared.sample.Tally.{Tally}
 use Rattle.run_forms.specs.Rest.{Brief, with_before, counted_at}
 use Rattle.run_forms.specs.Rows.{frames_seen}
 use Rattle.run_forms.specs.Sessions.{Coming, before_takes, after_takes, after_state, at_end, by_step, stepped_tally}
@@ -52,8 +53,35 @@ pub record Takes {U : Type 0} (st st2 : Stand U) (taken : Bool) : Type 0 where
   pub taken_is : taken ≡ nat_lt (length (frames_seen st.tally.frames.items))
       (length (frames_seen st2.tally.frames.items))
 
+-- a stand with this tally of what was taken there, so many boundaries resumed more, and a step less to go
+abbrev pub with_taken : {U : Type 0} → Stand U → Tally U → ℕ → Stand U
+with_taken st t resumed = record {
+  tally = record t { resumed = t.resumed + resumed };
+  left = st.left - 1;
+  over = st.over;
+}
+
+pub takes_are : {U : Type 0} (st : Stand U) (t : Tally U) (resumed : ℕ) (taken : Bool)
+    → t ≡ record (st.tally) { next = t.next; frames = t.frames; told = t.told } → st.tally.arrived ≡ false
+    → 0 < st.left → resumed ≡ one_if (t.inside && taken)
+    → taken ≡ nat_lt (length (frames_seen st.tally.frames.items)) (length (frames_seen t.frames.items))
+    → Takes st (with_taken st t resumed) taken
+takes_are {U = U} st t resumed taken rest alive some resumes taken_is =
+    let inside : t.inside ≡ st.tally.inside = ap (λ (k : Tally U). k.inside) rest in
+    record {
+      left = omega (arith, some);
+      moment = ap (λ (k : Tally U). k.moment) rest;
+      inside = inside;
+      instrs = ap (λ (k : Tally U). k.instrs) rest;
+      arrived = ap (λ (k : Tally U). k.arrived) rest ∙ alive;
+      resumed = ap₂ (λ (x y : ℕ). x + y) (ap (λ (k : Tally U). k.resumed) rest)
+          (resumes ∙ ap (λ (b : Bool). one_if (b && taken)) inside);
+      taken_is = taken_is;
+    }
+
+-- what is to come is the same after what is taken
 pub taken_here : {A U R S B T : Type 0} (flags : ℕ) (h : Harness A U R S B T) (qs : List A) (st st2 : Stand U)
-    (s s2 : State) (taken : Bool) → h.parts.ends s ≡ false → Takes st st2 taken
+    (s s2 : State) (taken : Bool) → st2.over ≡ false → h.parts.ends s ≡ false → Takes st st2 taken
     → with_before (frames_seen st.tally.frames.items) (map h.told st.tally.told.items)
     (takes (plan_form flags h.parts) st.tally.moment (drop st.tally.next qs) s)
     ≡ record {
@@ -63,9 +91,11 @@ pub taken_here : {A U R S B T : Type 0} (flags : ℕ) (h : Harness A U R S B T) 
       left =
           drop st2.tally.next qs;
     }
-    → by_step flags h qs st2 s2 (next_of flags s2) ≡ before_takes flags h qs st s
+    → after_takes flags h qs st2 s2 ≡ before_takes flags h qs st s
 unfolding coming
-taken_here {A = A} {S = S} {B = B} flags h qs st st2 s s2 taken on k te = by (next_of flags s2) refl
+taken_here {A = A} {S = S} {B = B} flags h qs st st2 s s2 taken goes_on on k te =
+    ap (λ (b : Bool). if b then at_end h.told st2.tally s2 else by_step flags h qs st2 s2 (next_of flags s2)) goes_on
+    ∙ by (next_of flags s2) refl
   where
     g : Form S A B
     g = plan_form flags h.parts

@@ -6,4 +6,5 @@ pub mod PlanSlices
 pub mod RowSteps
 pub mod Comings
 pub mod Outlooks
+pub mod NextSamples
 pub mod AtOnce

@@ -1,7 +1,8 @@
 -- What is ahead of a run, by its next position.
 use Rattle.std.proofs.Common.{◌≡◌, ◌≤◌, ◌<◌, ℕ, zero, suc, ◌+◌, ◌-◌, Bool, true, false, Result, Ok, Err, List, [], ◌∷◌}
-use Rattle.std.proofs.Common.{◌++◌, length, take, drop, refl, ap, ap₂, sym, ◌∙◌, subst, vec_len, vec_capacity, arith}
+use Rattle.std.proofs.Common.{◌++◌, length, drop, refl, ap, ap₂, sym, ◌∙◌, subst, vec_len, vec_capacity, arith}
 use Rattle.std.proofs.Common.{append_assoc, append-nil}
+use Rattle.std.proofs.lemmas.List.{drop_all}
 use Rattle.std.specs.Prelude.{if◌then◌else◌, Option, Some, slice_get, map}
 use Rattle.cpu12_parts.specs.State.{State}
 use Rattle.cpu12_emul.specs.declared.ends.Frame.{Frame}
@@ -12,14 +13,13 @@ use Rattle.run_forms.specs.declared.sample.Tally.{Tally}
 use Rattle.run_forms.specs.declared.sample.Room.{Room}
 use Rattle.run_forms.specs.declared.progress.Progress.{Progress}
 use Rattle.run_forms.specs.Forms.{plan_form, Harness}
-use Rattle.run_forms.specs.Rest.{Brief, brief, after, rest_at, counted_at, shown_by}
+use Rattle.run_forms.specs.Rest.{Brief, brief, after, rest_at, shown_by}
 use Rattle.run_forms.specs.Rows.{frames_seen, tellings, shown}
-use Rattle.run_forms.specs.Slices.{Follow, requests_first, HasRoom, HaveRoom}
+use Rattle.run_forms.specs.Slices.{Follow, requests_first, HasRoom}
 use Rattle.run_forms.specs.Positions.{Position, numbered, all_numbered, positions_or, positions}
 use Rattle.run_forms.specs.Sessions.{Coming, before_takes, after_takes, after_state, at_end, by_step, IsSteady}
 use Rattle.run_forms.specs.Outlooks.{Ahead, Outlook, from_here, at_position, shown_run, ahead, sample_at, with_row}
-use Rattle.run_forms.specs.Outlooks.{left_by, outlook, rows_here, state_here, IsUnderWay}
-use Rattle.run_forms.proofs.PlanSlices.{room_first, slice_first, count_there, few_there, rest_further}
+use Rattle.run_forms.specs.Outlooks.{left_by, outlook, outlook_at, requests_at, rows_here, state_here}
 use Rattle.run_forms.proofs.Onward.{from_nothing}
 use Rattle.run_forms.proofs.RowSteps.{rows_under, one_row, no_row}
 
@@ -31,6 +31,10 @@ coming_of r = coming (brief r) r.states
 
 abbrev pub made : {T : Type 0} → List Position → List T → State → Ahead T
 made ps rows s = record { left = ps; rows = rows; state = s }
+
+-- the position of a run under way
+abbrev pub standing : {U R : Type 0} → Progress U R → State → Position
+standing p s = record { sample = p.number; moment = p.stand.tally.moment; state = s }
 
 -- where a session stands is the first of the states to come
 pub states_here : {A U R S B T : Type 0} (flags : ℕ) (h : Harness A U R S B T) (qs : List A) (st : Stand U) (s : State)
@@ -57,7 +61,7 @@ fresh room = record {
 }
 
 -- all of a sample's run is to come
-fresh_coming : {A U R S B T : Type 0} (flags : ℕ) (h : Harness A U R S B T) (n : ℕ) (qs : List A) (room : Room U)
+pub fresh_coming : {A U R S B T : Type 0} (flags : ℕ) (h : Harness A U R S B T) (n : ℕ) (qs : List A) (room : Room U)
     (st : Stand U) (s : State) → st.tally ≡ fresh room → st.left ≡ n
     → room.frames.items ≡ [] → room.told.items ≡ []
     → before_takes flags h qs st s ≡ coming_of (run_from (plan_form flags h.parts) n 0 false qs s)
@@ -71,50 +75,79 @@ fresh_coming {A = A} {U = U} {S = S} {B = B} flags h n qs room st s et el ef eu 
     ∙ ap (λ (b : Brief B). coming b r.states) (from_nothing (brief r))
 
 -- a sample that ends here
-pub outlook_ends : {A U R S B T : Type 0} (flags : ℕ) (h : Harness A U R S B T) (most k m : ℕ) (x : Option S)
-    (s : State) (t : Tally U) (c : Coming B) (plan : List A) (rest : List S) (rows : List T) → c ≡ at_end h.told t s
-    → outlook flags h most k m x s c plan rest rows
-    ≡ at_position (record { sample = k; moment = m; state = s })
-    (ahead flags h most (k + 1) plan rest (with_row rows (shown_by h.shows h.parts.answers (counted_at h.told t s)) x)
-    (left_by h.parts.leave x s))
-outlook_ends {B = B} flags h most k m x s t c plan rest rows e =
-    ap (λ (d : Coming B). outlook flags h most k m x s d plan rest rows) e
+pub ends_here : {A U R S B T : Type 0} (flags : ℕ) (h : Harness A U R S B T) (plan : List A) (p : Progress U R)
+    (s : State) → after_takes flags h (requests_at plan p) p.stand s ≡ at_end h.told p.stand.tally s
+    → outlook_at flags h plan p s ≡ at_position (standing p s)
+    (ahead flags h p.most (p.number + 1) (drop p.behind plan) (drop p.number h.samples) (rows_here h p s)
+    (state_here h p s))
+ends_here {B = B} flags h plan p s e =
+    ap (λ (c : Coming B). outlook flags h p.most p.number p.stand.tally.moment (sample_at p.number h.samples) s c
+    (drop p.behind plan) (drop p.number h.samples) (map h.seen p.rows.items)) e
 
--- the last sample
-pub outlook_last : {A U R S B T : Type 0} (flags : ℕ) (h : Harness A U R S B T) (most k m : ℕ) (x : Option S)
-    (s : State) (t : Tally U) (c : Coming B) (plan : List A) (rest : List S) (rows : List T) → c ≡ at_end h.told t s
-    → rest ≡ []
-    → outlook flags h most k m x s c plan rest rows
-    ≡ at_position (record { sample = k; moment = m; state = s })
-    (made [] (with_row rows (shown_by h.shows h.parts.answers (counted_at h.told t s)) x) (left_by h.parts.leave x s))
-outlook_last {A = A} {S = S} {B = B} {T = T} flags h most k m x s t c plan rest rows e none =
-    let here : Position = record { sample = k; moment = m; state = s } in
-    let rows2 : List T = with_row rows (shown_by h.shows h.parts.answers (counted_at h.told t s)) x in
-    let u : State = left_by h.parts.leave x s in
-    outlook_ends flags h most k m x s t c plan rest rows e
-    ∙ ap (λ (l : List S). at_position here (ahead flags h most (k + 1) plan l rows2 u)) none
+-- the last sample, at its end
+pub last_here : {A U R S B T : Type 0} (flags : ℕ) (h : Harness A U R S B T) (plan : List A) (p : Progress U R)
+    (s : State) → after_takes flags h (requests_at plan p) p.stand s ≡ at_end h.told p.stand.tally s
+    → length h.samples ≤ p.number
+    → outlook_at flags h plan p s ≡ at_position (standing p s) (made [] (rows_here h p s) (state_here h p s))
+last_here {A = A} {S = S} {B = B} {T = T} flags h plan p s e last =
+    let here = standing p s in
+    let k = p.number + 1 in
+    let rest : List A = drop p.behind plan in
+    let rows : List T = rows_here h p s in
+    let u : State = state_here h p s in
+    ends_here flags h plan p s e
+    ∙ ap (λ (l : List S). at_position here (ahead flags h p.most k rest l rows u)) (drop_all p.number h.samples last)
     ∙ ap (λ (all : Rows S A B). at_position here
-    (made (all_numbered (k + 1) all.states) (rows2 ++ shown h.shows all) all.state))
-    (no_row (plan_form flags h.parts) h.parts.place most plan (k + 1) u)
-    ∙ ap (λ (l : List T). at_position here (made [] l u)) (append-nil rows2)
+    (made (all_numbered k all.states) (rows ++ shown h.shows all) all.state))
+    (no_row (plan_form flags h.parts) h.parts.place p.most rest k u)
+    ∙ ap (λ (l : List T). at_position here (made [] l u)) (append-nil rows)
+
+-- a sample that ends here, and the next at its first boundary, to which a run comes from what is the same
+pub next_here : {A U R S B T : Type 0} (flags j : ℕ) (h : Harness A U R S B T) (plan : List A) (p q : Progress U R)
+    (st : Stand U) (s u t : State) → after_takes flags h (requests_at plan p) p.stand s ≡ at_end h.told p.stand.tally s
+    → st ≡ p.stand → u ≡ s → j ≡ flags
+    → from_here (outlook_at j h plan q t)
+    ≡ ahead j h p.most (p.number + 1) (drop p.behind plan) (drop p.number h.samples)
+    (rows_here h (record p { stand = st }) u) (state_here h p u)
+    → outlook_at flags h plan p s ≡ at_position (standing p s) (from_here (outlook_at flags h plan q t))
+next_here {U = U} flags j h plan p q st s u t e same_stand same_state same_flags comes =
+    let here = standing p s in
+    ends_here flags h plan p s e
+    ∙ ap₂ (λ (k : Stand U) (v : State). at_position here (ahead flags h p.most (p.number + 1) (drop p.behind plan)
+    (drop p.number h.samples) (rows_here h (record p { stand = k }) v) (state_here h p v)))
+    (sym same_stand) (sym same_state)
+    ∙ ap (at_position here) (sym
+    (subst (λ (k : ℕ). from_here (outlook_at k h plan q t)
+    ≡ ahead k h p.most (p.number + 1) (drop p.behind plan) (drop p.number h.samples)
+    (rows_here h (record p { stand = st }) u) (state_here h p u)) same_flags comes))
 
 -- a sample that goes on
-pub outlook_goes : {A U R S B T : Type 0} (flags : ℕ) (h : Harness A U R S B T) (most k m m2 : ℕ) (x : Option S)
-    (s s2 : State) (c c2 : Coming B) (plan : List A) (rest : List S) (rows : List T) → c ≡ after_state s c2
-    → c2.states ≡ s2 ∷ drop 1 c2.states → m2 ≡ m + 1
-    → outlook flags h most k m x s c plan rest rows ≡ at_position (record { sample = k; moment = m; state = s })
-    (from_here (outlook flags h most k m2 x s2 c2 plan rest rows))
-outlook_goes {B = B} {T = T} flags h most k m m2 x s s2 c c2 plan rest rows e here em =
+pub goes_here : {A U R S B T : Type 0} (flags : ℕ) (h : Harness A U R S B T) (plan : List A) (p : Progress U R)
+    (st : Stand U) (s t : State)
+    → after_takes flags h (requests_at plan p) p.stand s ≡ after_state s
+    (after_takes flags h (requests_at plan p) st t)
+    → st.tally.moment ≡ p.stand.tally.moment + 1
+    → outlook_at flags h plan p s ≡ at_position (standing p s)
+    (from_here (outlook_at flags h plan (record p { stand = st }) t))
+goes_here {A = A} {B = B} {T = T} flags h plan p st s t e next_moment =
+    let k = p.number in
+    let m = p.stand.tally.moment in
+    let x = sample_at k h.samples in
+    let later : List A = drop p.behind plan in
+    let rest = drop k h.samples in
+    let rows : List T = map h.seen p.rows.items in
+    let c : Coming B = after_takes flags h (requests_at plan p) st t in
     let next : Ahead T =
-    ahead flags h most (k + 1) plan rest (with_row rows (shown_by h.shows h.parts.answers c2.brief) x)
-    (left_by h.parts.leave x c2.brief.state) in
-    let one : suc m ≡ m2 = omega (arith, em) in
-    ap (λ (d : Coming B). outlook flags h most k m x s d plan rest rows) e
-    ∙ ap₂ (λ (j : ℕ) (ws : List State). at_position (record { sample = k; moment = m; state = s })
-    (made (numbered k j ws ++ next.left) next.rows next.state)) one here
+    ahead flags h p.most (k + 1) later rest (with_row rows (shown_by h.shows h.parts.answers c.brief) x)
+    (left_by h.parts.leave x c.brief.state) in
+    let one : suc m ≡ st.tally.moment = omega (arith, next_moment) in
+    ap (λ (d : Coming B). outlook flags h p.most k m x s d later rest rows) e
+    ∙ ap₂ (λ (j : ℕ) (ws : List State). at_position (standing p s)
+    (made (numbered k j ws ++ next.left) next.rows next.state)) one
+    (states_here flags h (requests_at plan p) st t)
 
 -- the first boundary of a sample that was given
-given_ahead : {A U R S B T : Type 0} (flags : ℕ) (h : Harness A U R S B T) (most n m : ℕ) (plan plan2 qs : List A)
+pub given_ahead : {A U R S B T : Type 0} (flags : ℕ) (h : Harness A U R S B T) (most n m : ℕ) (plan plan2 qs : List A)
     (o : Option S) (y : S) (rest : List S) (rows : List T) (s t : State) (c : Coming B)
     → Follow h.parts.place (n + 1) plan
     → qs ≡ requests_first h.parts.place (n + 1) plan
@@ -203,69 +236,6 @@ given_room {U = U} qs first room t et h eq few =
       told = omega (arith, told.0, none_told, wide_told, same);
       few = omega (arith, told.0, none_told, few);
     })
-
--- the room of the next sample, of which there are n requests
-pub next_room : {A U : Type 0} (place : A → ℕ × ℕ) (plan : List A) (k behind n left : ℕ) (room : Room U)
-    (rooms all : List (Room U)) (t : Tally U)
-    → n ≡ length (requests_first place k (take (length plan - behind) (drop behind plan))) → all ≡ room ∷ rooms
-    → HaveRoom place k left (drop behind plan) all → 0 < left → t ≡ fresh room → length plan ≤ 10000
-    → HasRoomLeft (length (take (behind + n - behind) (drop behind plan)) - t.next) t
-next_room {A = A} {U = U} place plan k behind n left room rooms all t count items have more et few =
-    let rest : List A = drop behind plan in
-    let here : n ≡ length (requests_first place k rest) = count_there place k behind n plan count in
-    let first = room_first place k left rest room rooms more
-    (subst (λ (l : List (Room U)). HaveRoom place k left rest l) items have) in
-    given_room (take (behind + n - behind) rest) (requests_first place k rest) room t et first.0
-    (slice_first place k behind n rest here)
-    (few_there plan behind (behind + n - behind) few)
-
--- the next sample, where the one before was at an end: what is counted of it begins afresh
-pub given_next : {A U R S B T : Type 0} (flags i j : ℕ) (h : Harness A U R S B T) (plan : List A) (p : Progress U R)
-    (n : ℕ) (room : Room U) (rooms : List (Room U))
-    (old st st2 : Stand U) (s past given t : State) (rows : List T) → IsUnderWay h plan p → p.number < length h.samples
-    → p.rooms.items ≡ room ∷ rooms
-    → n ≡ length (requests_first h.parts.place (p.number + 1) (take (length plan - p.behind) (drop p.behind plan)))
-    → old ≡ p.stand
-    → st.tally ≡ fresh room → st.left ≡ p.most → i ≡ j → j ≡ flags
-    → rows ≡ with_row (map h.seen p.rows.items) (shown_by h.shows h.parts.answers (counted_at h.told old.tally s))
-    (sample_at p.number h.samples)
-    → past ≡ state_here h p s → ((x : S) → slice_get h.samples p.number ≡ Some x → given ≡ h.parts.give x past)
-    → after_takes i h (take (p.behind + n - p.behind) (drop p.behind plan)) st2 t
-    ≡ before_takes i h (take (p.behind + n - p.behind) (drop p.behind plan)) st given
-    → st2.tally.moment ≡ st.tally.moment
-    → from_here (outlook flags h p.most (p.number + 1) st2.tally.moment (sample_at (p.number + 1) h.samples) t
-    (after_takes flags h (take (p.behind + n - p.behind) (drop p.behind plan)) st2 t) (drop (p.behind + n) plan)
-    (drop (p.number + 1) h.samples) rows)
-    ≡ ahead flags h p.most (p.number + 1) (drop p.behind plan) (drop p.number h.samples) (rows_here h p s)
-    (state_here h p s)
-given_next {A = A} {U = U} {R = R} {S = S} {B = B} {T = T} flags i j h plan p n room rooms old st st2 s past given t
-    rows under_way more items count was tally left eij ej erow epast egiven came moment =
-    let form : Form S A B = plan_form flags h.parts in
-    let place = h.parts.place in
-    let k = p.number + 1 in
-    let rest : List A = drop p.behind plan in
-    let qs : List A = take (p.behind + n - p.behind) rest in
-    let here : n ≡ length (requests_first place k rest) = count_there place k p.behind n plan count in
-    let y = is_there h.samples p.number more in
-    let have = subst (λ (l : List (Room U)). HaveRoom place k (length h.samples - p.number) rest l) items
-    under_way.rooms in
-    let empty = (room_first place k (length h.samples - p.number) rest room rooms (omega (arith, more)) have).0 in
-    let same : i ≡ flags = eij ∙ ej in
-    let comes : after_takes flags h qs st2 t ≡ coming_of (run_from form p.most 0 false qs (form.give y.sample past)) =
-    subst (λ (l : ℕ). after_takes l h qs st2 t ≡ before_takes l h qs st given) same came
-    ∙ fresh_coming flags h p.most qs room st given tally left empty.no_frames empty.none_told
-    ∙ ap (λ (u : State). coming_of (run_from form p.most 0 false qs u)) (egiven y.sample y.at) in
-    let begins : st2.tally.moment ≡ 0 = moment ∙ ap (λ (t : Tally U). t.moment) tally in
-    let rows_are : rows ≡ rows_here h p s =
-    erow ∙ ap (λ (st : Stand U). with_row (map h.seen p.rows.items)
-    (shown_by h.shows h.parts.answers (counted_at h.told st.tally s)) (sample_at p.number h.samples)) was in
-    let further = rest_further place k p.behind n plan here in
-    given_ahead flags h p.most p.number st2.tally.moment rest (drop (p.behind + n) plan) qs
-    (sample_at k h.samples) y.sample (drop k h.samples) rows past t (after_takes flags h qs st2 t) under_way.follow
-    (slice_first place k p.behind n rest here) further comes (states_here flags h qs st2 t) begins
-    (sample_next p.number h.samples ∙ y.at)
-    ∙ ap (λ (l : List S). ahead flags h p.most k rest l rows past) (sym y.rest)
-    ∙ ap₂ (λ (rs : List T) (u : State). ahead flags h p.most k rest (drop p.number h.samples) rs u) rows_are epast
 
 -- the first position of a run, behind the one before its samples
 pub first_goes : {S A B T : Type 0} (shows : RowSeen S → List B → T) (first : State) (o n : Outlook T) (p q : Position)
