@@ -26,7 +26,7 @@ use Rattle.cpu12_isa.specs.Meaning.{act_of, effect}
 use Rattle.cpu12_isa.proofs.Algebra.{bit, bit_or_is, bit_and_is}
 use Rattle.cpu12_parts.specs.Laws.{addresses}
 use Rattle.handler_check.specs.Cut.{size_of}
-use Rattle.handler_check.specs.Paths.{IsIn, written_by, target, leads, GoesForward}
+use Rattle.handler_check.specs.Paths.{IsIn, written_by, target, leads, GoesForward, height_after, FitsHeight}
 use Rattle.handler_check.proofs.Decoding.{is_stepping}
 
 -- whatever bytes are read, the value is of this kind
@@ -49,6 +49,13 @@ there b P w e = subst (λ (c : Bool). Where c P) e w
 choice : (P : Regs → Type 0) (b : Bool) (x y : Regs) → P x → P y → P (if b then x else y)
 choice P true x y p q = p
 choice P false x y p q = q
+
+-- at most 15 bytes are pushed
+pub height_after-low : (i : Instr) (h : ℕ) → FitsHeight i h → h ≤ 15 → height_after i h ≤ 15
+height_after-low (LdaaImmediate v) h f l = l
+height_after-low Psha h f l = omega arith
+height_after-low Pula h f l = omega arith
+height_after-low i h f l = l
 
 -- EDIV does one of three things
 divided_is : (P : Regs → Type 0) (flags : ℕ) (r : Regs)

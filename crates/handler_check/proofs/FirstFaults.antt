@@ -198,6 +198,7 @@ no_path is trapped at best summaries m e n h p = let a = m.complete n at h (belo
     none_some : (w : PathSummary) → None ≡ Some w → ⊥
     none_some w e = cc
 
+-- no path leads to a first byte
 pub dead_first : (is : List Instr) (trapped : Bool) (at best : ℕ) (summaries : ℕ → Option PathSummary)
     → AreJudged is trapped at best summaries → at ≤ code_end is → IsFirst is trapped at → summaries at ≡ None
     → IsFirstFault is trapped (Dead at)

@@ -12,7 +12,7 @@ use Rattle.handler_check.specs.Faults.{IsFirst}
 use Rattle.handler_check.specs.PathSummaries.{led_all, IsSummary}
 use Rattle.handler_check.specs.Judging.{Passes, PathBelow, Has, Judged, AreJudged}
 use Rattle.handler_check.proofs.Decoding.{size_low, is_stepping, rti_or}
-use Rattle.handler_check.proofs.Acts.{leads_on, target_is}
+use Rattle.handler_check.proofs.Acts.{height_after-low, leads_on, target_is}
 use Rattle.handler_check.proofs.Places.{within, below_end, apart_places}
 use Rattle.handler_check.proofs.Leading.{one_summary, all_kept, all_has, all_new, all_is, in_either}
 
@@ -25,13 +25,20 @@ below_of is below (suc n) at h l p =
     (p.0, p.1, p.2, (p.3.0, p.3.1, p.3.2, p.3.3, omega arith))
 
 -- paths are short
-pub short : (is : List Instr) (n at h : ℕ) → Path is n at h → n + 16384 ≤ at
+short : (is : List Instr) (n at h : ℕ) → Path is n at h → n + 16384 ≤ at
 short is zero at h p = omega (arith, p.0)
 short is (suc n) at h p =
     let r = short is n p.0 p.1 p.3.0 in
     let z = size_low p.2 in
     let l = leads_on p.2 p.0 at z.0 p.3.2 in
     omega (arith, r, l)
+
+-- a path that does not meet another is short
+pub summary-short : (is : List Instr) (trapped : Bool) (at best : ℕ) (summaries : ℕ → Option PathSummary)
+    (summary : PathSummary) → AreJudged is trapped at best summaries → summaries at ≡ Some summary
+    → summary.meets ≡ false → summary.most + 16384 ≤ at
+summary-short is trapped at best summaries summary m e apart =
+    short is summary.most at summary.height ((m.tell at summary e).one apart)
 
 -- what was seen of an instruction to which no fault applies, with its summary and the summary that it leads on
 pub record Seen (is : List Instr) (trapped : Bool) (at best more : ℕ) (summaries : ℕ → Option PathSummary) (i : Instr)
@@ -43,10 +50,9 @@ pub record Seen (is : List Instr) (trapped : Bool) (at best more : ℕ) (summari
   pub height : v.height ≡ height_after i summary.height
   pub most : v.most ≡ suc summary.most
   pub meets : v.meets ≡ false
-  pub low : v.height ≤ 15
   pub over : best ≤ more
-  pub few : i ≡ Rti → suc summary.most ≤ more
-  pub longest : (more ≡ best) ⊎ ((i ≡ Rti) × (suc summary.most ≡ more))
+  pub few : i ≡ Rti → v.most ≤ more
+  pub longest : (more ≡ best) ⊎ ((i ≡ Rti) × (v.most ≡ more))
 
 here_path : (is : List Instr) (trapped : Bool) (at best more : ℕ) (summaries : ℕ → Option PathSummary) (i : Instr)
     (summary v : PathSummary)
@@ -69,7 +75,12 @@ mark_on is trapped at best more summaries later i summary v s on = record {
   longest = elim s.longest [
     | inl e ↦ subst (λ (m : ℕ). (m ≡ 0) ⊎ ((n : ℕ) × (q : ℕ) × (h : ℕ) × (Path is n q h × IsAt is q Rti × (suc n ≡ m))))
         (sym e) s.judged.longest
-    | inr e ↦ inr (summary.most, at, summary.height, (path, subst (λ (j : Instr). IsAt is at j) e.0 s.here, e.1))
+    | inr e ↦ inr (
+      summary.most,
+      at,
+      summary.height,
+      (path, subst (λ (j : Instr). IsAt is at j) e.0 s.here, sym s.most ∙ e.1),
+    )
   ];
 }
   where
@@ -80,13 +91,17 @@ mark_on is trapped at best more summaries later i summary v s on = record {
     next_path q k = subst (λ (n : ℕ). Path is n q v.height) (sym s.most)
         (at, summary.height, i, (path, s.here, k, s.height))
 
+    low : v.height ≤ 15
+    low = subst (λ (h : ℕ). h ≤ 15) (sym s.height)
+        (height_after-low i summary.height (s.passes.height (omega arith)) (s.judged.tell at summary s.summary_is).low)
+
     next_summary : (q : ℕ) → IsIn (leads at i) q → IsSummary is q v
     next_summary q k = record {
       one = λ e. next_path q k;
       two = λ e. absurd (false≢true (sym s.meets ∙ e));
       some =
           (v.most, v.height, next_path q k);
-      low = s.low;
+      low = low;
     }
 
     tell : (q : ℕ) (w : PathSummary) → led_all summaries (leads at i) v q ≡ Some w → IsSummary is q w
@@ -134,7 +149,7 @@ mark_on is trapped at best more summaries later i summary v s on = record {
       summary = summary;
       is_marked = kept at (omega arith) ∙ s.summary_is;
       passes = s.passes;
-      few = s.few;
+      few = λ e. (let f = s.few e in let most = s.most in omega arith);
     }
 
     each : (q : ℕ) (k : Instr) → IsAt is q k → q < at + size_of i → Judged is trapped more later q k

@@ -4,28 +4,22 @@ use Rattle.std.proofs.Common.{zero, nat_le, nat_lt, get_or, unwrap_or, replicate
 use Rattle.std.proofs.Common.{arith, inl, inr}
 use Rattle.std.specs.Prelude.{IfSome, MatchOption, slice_get, if◌then◌else◌}
 use Rattle.cpu12_isa.specs.declared.instr.Instr.{Instr}
-use Rattle.cpu12_isa.specs.declared.instr.Instr.TheVariants.{LdaaImmediate, Psha, Pula}
+use Rattle.cpu12_isa.specs.declared.instr.Instr.TheVariants.{LdaaImmediate}
 use Rattle.std.proofs.lemmas.Bool.Decides.{nat_tests}
 use Rattle.handler_check.specs.declared.faults.HandlerFault.{HandlerFault}
 use Rattle.handler_check.specs.declared.faults.HandlerFault.TheVariants.{Dead, Trap}
 use Rattle.handler_check.specs.declared.path_summaries.PathSummary.{PathSummary}
-use Rattle.handler_check.specs.Cut.{code_end, AllFit}
-use Rattle.handler_check.specs.Paths.{IsIn, leads, falls_to, branches_to, height_after, FitsHeight}
+use Rattle.handler_check.specs.Cut.{code_end, AllFit, IsAt}
+use Rattle.handler_check.specs.Paths.{IsIn, leads, falls_to, branches_to}
 use Rattle.handler_check.specs.Faults.{IsFirst, IsFirstFault}
 use Rattle.handler_check.specs.Accepted.{IsAccepted}
 use Rattle.handler_check.specs.PathSummaries.{summary_at, led_all, list_of}
 use Rattle.handler_check.specs.Judging.{AreFirsts, AreJudged}
-use Rattle.handler_check.proofs.Places.{is_at-here}
+use Rattle.handler_check.proofs.Places.{below_end, is_at-here}
 use Rattle.handler_check.proofs.Marking.{accepted_of}
 use Rattle.handler_check.proofs.FirstFaults.{dead_first, trap_first}
 use Rattle.handler_check.proofs.Leading.{all_append, all_same}
 use Rattle.handler_check.proofs.Tables.{first_within}
-
-pub height_low : (i : Instr) (h : ℕ) → FitsHeight i h → h ≤ 15 → height_after i h ≤ 15
-height_low (LdaaImmediate v) h f l = l
-height_low Psha h f l = omega arith
-height_low Pula h f l = omega arith
-height_low i h f l = l
 
 -- a place, if there is one, is one of the table's
 pub to_within : (is : List Instr) (trapped : Bool) (firsts : List Bool) (o : Option ℕ) (tos : List ℕ) (n : ℕ)
@@ -74,19 +68,27 @@ pub first_on : (xs : List (Option PathSummary)) (n : ℕ) (later : ℕ → Optio
     → later q ≡ led_all (λ at. None) (16384 ∷ []) first q
 first_on xs n later first e on q = on q ∙ all_same (summary_at xs) (λ at. None) (16384 ∷ []) first (none_at xs n e) q
 
+-- no path leads to an instruction
+pub dead_at : (is : List Instr) (trapped : Bool) (at best : ℕ) (summaries : ℕ → Option PathSummary) (i : Instr)
+    → AreJudged is trapped at best summaries → IsAt is at i → summaries at ≡ None → IsFirstFault is trapped (Dead at)
+dead_at is trapped at best summaries i m here none =
+    let b = below_end is at i here in
+    dead_first is trapped at best summaries m (omega (arith, b.1)) (inl (i, here)) none
+
 -- behind the last instruction
 pub behind_first : (is : List Instr) (trapped : Bool) (best : ℕ) (summaries : ℕ → Option PathSummary) (at : ℕ)
-    (f : HandlerFault)
-    → at ≡ code_end is → trapped ≡ true → AreJudged is trapped at best summaries
-    → (o : Option PathSummary) → summaries at ≡ o → MatchOption o (f ≡ Dead at) (λ w. f ≡ Trap at)
-    → IsFirstFault is trapped f
-behind_first is trapped best summaries at f e t m None w r =
-    subst (λ (g : HandlerFault). IsFirstFault is trapped g) (sym r)
-    (dead_first is trapped at best summaries m (omega arith) (inr (t, e)) w)
-behind_first is trapped best summaries at f e t m (Some summary) w r =
-    subst (λ (g : HandlerFault). IsFirstFault is trapped g) (sym (r ∙ ap (λ (k : ℕ). Trap k) e))
-    (trap_first is trapped best summaries summary (subst (λ (k : ℕ). AreJudged is trapped k best summaries) e m) t
-    (ap summaries (sym e) ∙ w))
+    (f : HandlerFault) → at ≡ code_end is → trapped ≡ true → AreJudged is trapped at best summaries
+    → MatchOption (summaries at) (f ≡ Dead at) (λ w. f ≡ Trap at) → IsFirstFault is trapped f
+behind_first is trapped best summaries at f e t m told = by (summaries at) refl told
+  where
+    by : (o : Option PathSummary) → summaries at ≡ o → MatchOption o (f ≡ Dead at) (λ w. f ≡ Trap at)
+        → IsFirstFault is trapped f
+    by None w r = subst (λ (g : HandlerFault). IsFirstFault is trapped g) (sym r)
+        (dead_first is trapped at best summaries m (omega arith) (inr (t, e)) w)
+    by (Some summary) w r =
+        subst (λ (g : HandlerFault). IsFirstFault is trapped g) (sym (r ∙ ap (λ (k : ℕ). Trap k) e))
+        (trap_first is trapped best summaries summary (subst (λ (k : ℕ). AreJudged is trapped k best summaries) e m) t
+        (ap summaries (sym e) ∙ w))
 
 some_code : (is : List Instr) → 16384 < code_end is → 0 < length is
 some_code [] l = absurd (omega arith)

@@ -58,7 +58,7 @@ pub is_at-here : (is : List Instr) (k : ℕ) (d : Instr) → k < length is
     → IsAt is (16384 + length (code_bytes (take k is))) (get_or is k d)
 is_at-here is k d l = is_from-more 16384 is k d l
 
-pub bytes-more : (is : List Instr) (k : ℕ) (d : Instr) → k < length is
+bytes-more : (is : List Instr) (k : ℕ) (d : Instr) → k < length is
     → length (code_bytes (take (k + 1) is)) ≡ length (code_bytes (take k is)) + size_of (get_or is k d)
 bytes-more [] k d l = absurd (omega arith)
 bytes-more (i ∷ is) zero d l = let a = length-append (encode_of i) [] in omega (arith, a)
@@ -71,7 +71,7 @@ bytes-more (i ∷ is) (suc k) d l =
     ap (λ (n : ℕ). length (code_bytes (take n (i ∷ is)))) n in
     omega (arith, a, b, r, e)
 
-pub bytes-under : (is : List Instr) (k : ℕ) → length (code_bytes (take k is)) ≤ length (code_bytes is)
+bytes-under : (is : List Instr) (k : ℕ) → length (code_bytes (take k is)) ≤ length (code_bytes is)
 bytes-under [] zero = omega arith
 bytes-under [] (suc k) = omega arith
 bytes-under (i ∷ is) zero = omega arith
@@ -81,9 +81,45 @@ bytes-under (i ∷ is) (suc k) =
     let r = bytes-under is k in
     omega (arith, a, b, r)
 
-pub take-whole : (is : List Instr) → take (length is) is ≡ is
+take-whole : (is : List Instr) → take (length is) is ≡ is
 take-whole [] = refl
 take-whole (i ∷ is) = ap (λ (l : List Instr). i ∷ l) (take-whole is)
+
+-- i stands at a place, behind k instructions, and behind it there are k + 1
+pub record StandsBehind (is : List Instr) (k at : ℕ) (i : Instr) : Type 0 where
+  pub here : IsAt is at i
+  pub below : at < code_end is
+  pub next : at + size_of i ≡ code_end (take (k + 1) is)
+  pub ends : at + size_of i ≤ code_end is
+
+-- the next instruction of a list that equals the code's, where one is left
+pub stands_behind : (is xs : List Instr) (k at : ℕ) (d : Instr) → xs ≡ is → k < length xs → at ≡ code_end (take k is)
+    → StandsBehind is k at (get_or xs k d)
+stands_behind is xs k at d same l place =
+    subst (λ (ys : List Instr). StandsBehind is k at (get_or ys k d)) (sym same)
+    (of (subst (λ (ys : List Instr). k < length ys) same l))
+  where
+    of : k < length is → StandsBehind is k at (get_or is k d)
+    of l =
+        let here : IsAt is at (get_or is k d) =
+        subst (λ (p : ℕ). IsAt is p (get_or is k d)) (sym place) (is_at-here is k d l) in
+        let b = below_end is at (get_or is k d) here in
+        let more = bytes-more is k d l in
+        let under = bytes-under is (k + 1) in
+        record {
+          here = here;
+          below = b.1;
+          next = omega (arith, place, more);
+          ends = omega (arith, place, more, under);
+        }
+
+-- the place behind all instructions, where none is left
+pub code_end-all : (is xs : List Instr) (k at : ℕ) → xs ≡ is → k ≡ length xs → at ≡ code_end (take k is)
+    → at ≡ code_end is
+code_end-all is xs k at same all place =
+    place
+    ∙ ap (λ (n : ℕ). code_end (take n is)) (all ∙ ap length same)
+    ∙ ap code_end (take-whole is)
 
 -- one instruction more
 pub bytes-push : (is : List Instr) (i : Instr) → length (code_bytes (is ++ i ∷ [])) ≡ length (code_bytes is) + size_of i

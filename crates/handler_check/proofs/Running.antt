@@ -24,7 +24,7 @@ use Rattle.handler_check.specs.Accepted.{May, IsAccepted}
 use Rattle.handler_check.proofs.Grounds.{Grounds}
 use Rattle.handler_check.proofs.Decoding.{is_stepping, first_byte, plain_of, size_low, rti_or}
 use Rattle.handler_check.proofs.Acts.{Always, always_outcome, there, sp_after, sp_moves, written_at, writes_are}
-use Rattle.handler_check.proofs.Acts.{pc_leads, leads_on, x_kept}
+use Rattle.handler_check.proofs.Acts.{height_after-low, pc_leads, leads_on, x_kept}
 use Rattle.handler_check.proofs.Places.{within}
 use Rattle.handler_check.proofs.Bytes.{under, IsFine, AllFine, fine_by, shadow, code_stays, write_append, open_append}
 use Rattle.handler_check.proofs.Back.{ToRti}
@@ -66,12 +66,6 @@ sp_goes base (LdaaImmediate v) sp h f lo hi l e = e
 sp_goes base Psha sp h f lo hi l e = omega arith
 sp_goes base Pula sp h f lo hi l e = omega arith
 sp_goes base i sp h f lo hi l e = e
-
-height_low : (i : Instr) (h : ℕ) → FitsHeight i h → h ≤ 15 → height_after i h ≤ 15
-height_low (LdaaImmediate v) h f l = l
-height_low Psha h f l = omega arith
-height_low Pula h f l = omega arith
-height_low i h f l = l
 
 -- what it writes is free or below SP
 fine_at : (base : ℕ) (i : Instr) (sp h : ℕ) → ((at : ℕ) → IsIn (written_by i) at → is_free at ≡ true) → FitsHeight i h
@@ -214,5 +208,5 @@ arrives k is instrs flags base t x acc o lo hi (suc left) n at h s m l path low 
           then_on is instrs flags base t x n at h found.0 s m on
           (arrives k is instrs flags base t x acc o lo hi left (suc n) on.next.state.regs.pc
           (height_after found.0 h) on.next.state (write_all (pairs_of on.writes) m) (omega arith)
-          (at, h, found.0, (path, found.1, on.leads, refl)) (height_low found.0 h may.height low) on.stage))
+          (at, h, found.0, (path, found.1, on.leads, refl)) (height_after-low found.0 h may.height low) on.stage))
     ]

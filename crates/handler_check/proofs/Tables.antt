@@ -9,7 +9,7 @@ use Rattle.std.proofs.lemmas.List.{length-set}
 use Rattle.std.proofs.lemmas.Option.{slice_get_within}
 use Rattle.std.proofs.Math.ListN.{set}
 use Rattle.cpu12_isa.specs.declared.instr.Instr.{Instr}
-use Rattle.handler_check.specs.Cut.{code_end, IsAt}
+use Rattle.handler_check.specs.Cut.{code_limit, code_end, IsAt}
 use Rattle.handler_check.specs.Faults.{IsFirst}
 use Rattle.handler_check.specs.Judging.{AreFirsts}
 use Rattle.handler_check.proofs.Places.{below_end, at-push, at-front, at-last}
@@ -95,6 +95,11 @@ table_trap is firsts j t e l m = record {
       | inr p ↦ subst (λ (n : ℕ). slice_get (set firsts j true) n ≡ Some true)
           (let q = p.1 in let h : j ≡ k = omega arith in h) here
     ]
+
+-- the place behind code is at most the limit
+pub code_end-low : (is : List Instr) (trapped : Bool) (firsts : List Bool) → AreFirsts is trapped firsts
+    → code_end is ≤ code_limit
+code_end-low is trapped firsts t = omega (arith, t.ends, t.limit)
 
 -- a first byte is one of the table's places
 pub first_within : (is : List Instr) (trapped : Bool) (firsts : List Bool) (q : ℕ) → AreFirsts is trapped firsts

@@ -1,12 +1,12 @@
-use Rattle.std.proofs.Common.{◌≡◌, ◌+◌, length, take}
-use Rattle.handler_check.specs.Cut.{code_start, code_bytes}
+use Rattle.std.proofs.Common.{◌≡◌, length, take}
+use Rattle.handler_check.specs.Cut.{code_end}
 use Rattle.handler_check.specs.Judging.{AreJudged}
 use Rattle.handler_check.specs.PathSummaries.{summary_at}
 use Rattle.handler_check.proofs.judge.judge.Given as goal
 
 abbrev pub invariant-loop-instr : goal.invariant-loop-instr
 invariant-loop-instr l = record {
-  place : l.at ≡ code_start + length (code_bytes (take l.instr-index l.cut.code.items));
+  place : l.at ≡ code_end (take l.instr-index l.cut.code.items);
   judged : AreJudged l.cut.code.items l.cut.trapped l.at l.best (summary_at l.summaries.places.items);
   size : length l.summaries.places.items ≡ length l.cut.firsts.items;
 }
