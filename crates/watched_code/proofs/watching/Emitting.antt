@@ -1,11 +1,14 @@
 -- What the calls that make the image rest on.
 use Rattle.std.proofs.Common.{◌≡◌, ℕ, zero, suc, ◌+◌, ◌<◌, ◌≤◌, List, [], ◌∷◌, ◌++◌, length, sum_by, All, get_or, sym}
-use Rattle.std.proofs.Common.{ap₂, ◌∙◌, subst, arith}
+use Rattle.std.proofs.Common.{ap, ap₂, ◌∙◌, subst, arith}
 use Rattle.fuzzy_meaning.specs.declared.block.Block.{Block}
+use Rattle.fuzzy_meaning.specs.declared.block.Output.{Output}
+use Rattle.fuzzy_meaning.specs.Blocks.{IsValid}
 use Rattle.rule_layout.specs.declared.flat.Flat.{Flat}
 use Rattle.rule_layout.specs.declared.flat.Form.{Form}
 use Rattle.rule_layout.specs.declared.flat.Form.TheVariants as form
 use Rattle.rule_layout.specs.Layouts.{flat_of, form_of, weights_of, FlatHasParts}
+use Rattle.cpu12_isa.specs.declared.instr.Instr.{Instr}
 use Rattle.eval_code.specs.declared.memory_map.MemoryMap.{MemoryMap}
 use Rattle.watched_code.specs.declared.segments.Segment.{Segment}
 use Rattle.eval_code.specs.declared.width.Width.TheVariants.{Byte}
@@ -15,6 +18,9 @@ use Rattle.eval_code.specs.Bounds.{instruction_bound}
 use Rattle.eval_code.specs.Placed.{HasParts}
 use Rattle.watched_code.specs.Watched.{segment_bound, watched_bound}
 use Rattle.watched_code.specs.WatchedCode.{IsSegment, AreSegments, segment, weight_segments, segments_of}
+use Rattle.watched_code.specs.WatchedCode.{code_length, watched_front, watched_front_over}
+use Rattle.watched_code.proofs.watching.Answering.{short_front}
+use Rattle.watched_code.proofs.watching.Fronts.{length-le}
 use Rattle.std.proofs.lemmas.List.Elements.{All-cons, All-nil}
 
 segment_at : (gs : List Segment) (i : ℕ) (g : Segment) → i < length gs → AreSegments gs → IsSegment (get_or gs i g)
@@ -69,7 +75,22 @@ are_short b h =
     (later_short (form_of b) 0xD300 0xD800 (weights_of b) (rule_bytes 0x1100 b) h.weights.1 h.rules.1))
 
 -- the bound, from its parts
-pub bound_made : (b : Block) (n s : ℕ) → n ≡ instruction_bound Byte b
-    → s ≡ sum_by segment_bound (segments_of main_map b) → n + 4 + s ≡ watched_bound b
+pub bound_made : (b : Block) (gs : List Segment) (n s : ℕ) → gs ≡ segments_of main_map b → n ≡ instruction_bound Byte b
+    → s ≡ sum_by segment_bound gs → n + 4 + s ≡ watched_bound b
 unfolding watched_bound
-bound_made b n s en es = ap₂ (λ (x y : ℕ). x + 4 + y) en es
+bound_made b gs n s is en es =
+    ap₂ (λ (x y : ℕ). x + 4 + y) en (es ∙ ap (λ (x : List Segment). sum_by segment_bound x) is)
+
+-- the code before EVAL as it was made: it is the block's, and short
+pub record IsFront (b : Block) (front : List Instr) : Type 0 where
+  pub same : front ≡ watched_front main_map b
+  pub few : length front ≤ 97
+  pub short : code_length front ≤ 97
+
+pub front_made : (b : Block) (front : List Instr) (os : List Output) (gs : List Segment) → IsValid b
+    → os ≡ b.outputs → gs ≡ segments_of main_map b → front ≡ watched_front_over main_map os gs → IsFront b front
+front_made b front os gs valid outputs segments made =
+    let same : front ≡ watched_front main_map b =
+    made ∙ ap₂ (λ (os : List Output) (gs : List Segment). watched_front_over main_map os gs) outputs segments in
+    let short : code_length front ≤ 97 = omega (arith, ap code_length same, short_front b valid) in
+    record { same = same; few = omega (arith, length-le front, short); short = short }

@@ -56,7 +56,7 @@ pub length-bad : (l : MemoryMap) (os : List Output) → length os ≤ 4 → code
 length-bad l os few =
     omega (arith, length-defaults l.outputs os, length-more (defaults_code l.outputs os) (Rts ∷ []))
 
-pub length-sum : (gs : List Segment) → code_length (LdabImmediate 0 ∷ segments_code gs) ≡ 2 + 10 * length gs
+length-sum : (gs : List Segment) → code_length (LdabImmediate 0 ∷ segments_code gs) ≡ 2 + 10 * length gs
 length-sum gs = omega (arith, length-segments gs)
 
 length-check : (l : MemoryMap) (os : List Output) (gs : List Segment)
@@ -79,6 +79,15 @@ length-front l os gs =
 -- no instruction is without a byte
 pub length-le : (code : List Instr) → length code ≤ code_length code
 length-le code = omega (arith, length-le-code_size code, length-code_bytes code)
+
+-- code that is BAD, or the sum of at most four segments, is short
+pub short_bad : (code : List Instr) (l : MemoryMap) (os : List Output) → code ≡ bad_code l os → length os ≤ 4
+    → code_length code ≤ 26
+short_bad code l os is few = omega (arith, ap code_length is, length-bad l os few)
+
+pub short_sum : (code : List Instr) (gs : List Segment) → code ≡ LdabImmediate 0 ∷ segments_code gs → length gs ≤ 4
+    → code_length code ≤ 42
+short_sum code gs is few = omega (arith, ap code_length is, length-sum gs)
 
 -- the operands fit
 fits_default : (at : ℕ) (byte : Option ℕ) → FitDefault byte → at < 65536 → FitCode (default_code at byte)
