@@ -210,7 +210,7 @@ stuck_counted flags outputs sp most inner c s byte none some e =
     (resumes_none c.inside s qs) refl
 
 -- where the run does not end, and where it ends
-pub goes_past : (flags outputs sp most : ℕ) (inner : List ℕ) (c : Counts) (s : State) → nat_lt sp s.regs.sp ≡ false
+goes_past : (flags outputs sp most : ℕ) (inner : List ℕ) (c : Counts) (s : State) → nat_lt sp s.regs.sp ≡ false
     → rest_of (fast_form flags outputs sp) most inner c s ≡ past_of (fast_form flags outputs sp) most inner c s
 unfolding run_from
 goes_past flags outputs sp most inner c s e =
@@ -222,7 +222,7 @@ goes_past flags outputs sp most inner c s e =
     by zero m inside qs = rw e refl
     by (suc n) m inside qs = rw e refl
 
-pub ends_counted : (flags outputs sp most : ℕ) (inner : List ℕ) (c : Counts) (s : State) → nat_lt sp s.regs.sp ≡ true
+ends_counted : (flags outputs sp most : ℕ) (inner : List ℕ) (c : Counts) (s : State) → nat_lt sp s.regs.sp ≡ true
     → rest_of (fast_form flags outputs sp) most inner c s ≡ counted_at c s
 unfolding run_from
 ends_counted flags outputs sp most inner c s e =
@@ -247,10 +247,10 @@ spent_counted flags outputs sp most inner c s e =
     (ended false qs s) refl refl refl refl refl
 
 -- the return is done, or it is not
-pub is_past : (sp at : ℕ) → sp < at → nat_lt sp at ≡ true
+is_past : (sp at : ℕ) → sp < at → nat_lt sp at ≡ true
 is_past sp at less = grind (arith, nat_tests)
 
-pub is_not_past : (sp at : ℕ) → at ≤ sp → nat_lt sp at ≡ false
+is_not_past : (sp at : ℕ) → at ≤ sp → nat_lt sp at ≡ false
 is_not_past sp at le = grind (arith, nat_tests)
 
 -- where this many parts are done, at whose boundaries none is due, and SP stays
@@ -295,11 +295,72 @@ from_nothing flags outputs sp most inner c s steps instrs resumed inside frames 
     let left : most - c.steps ≡ most = omega arith in
     cc
 
-pub begins : (flags outputs sp most : ℕ) (inner : List ℕ) (c : Counts) (s : State) → sp ≡ s.regs.sp → c.steps ≡ 0
-    → c.instrs ≡ 0 → c.resumed ≡ 0 → c.inside ≡ false → c.frames.items ≡ []
-    → past_of (fast_form flags outputs sp) most inner c s ≡ counted (fast_run flags outputs most inner s)
-begins flags outputs sp most inner c s at steps instrs resumed inside frames =
-    let low : nat_lt s.regs.sp s.regs.sp ≡ false = grind (arith, nat_tests) in
-    ap (λ sp. past_of (fast_form flags outputs sp) most inner c s) at
-    ∙ sym (goes_past flags outputs s.regs.sp most inner c s low)
-    ∙ from_nothing flags outputs s.regs.sp most inner c s steps instrs resumed inside frames
+-- ---- the loop's turns
+
+-- what is left of a run, of which this was counted up to a state, leads to the same as all of it from its first state
+abbrev pub Leads : (flags sp most : ℕ) → List ℕ → State → Counts → State → Type 0
+Leads flags sp most inner first c s =
+    (outputs : ℕ) → past_of (fast_form flags outputs sp) most inner c s
+    ≡ counted (fast_run flags outputs most inner first)
+
+-- a step leads from counts and a state to others, where the run may end
+abbrev StepGoes : (flags sp most : ℕ) → List ℕ → Counts → State → Counts → State → Type 0
+StepGoes flags sp most inner c s c2 t =
+    (outputs : ℕ) → past_of (fast_form flags outputs sp) most inner c s
+    ≡ rest_of (fast_form flags outputs sp) most inner c2 t
+
+module _ (flags sp most : ℕ) (inner : List ℕ) (first : State) where
+  pub leads_first : (c : Counts) → sp ≡ first.regs.sp → (c.steps ≡ 0) × (c.instrs ≡ 0) × (c.resumed ≡ 0)
+      → c.inside ≡ false → c.frames.items ≡ [] → Leads flags sp most inner first c first
+  leads_first c at none inside frames outputs =
+      let low : nat_lt first.regs.sp first.regs.sp ≡ false = grind (arith, nat_tests) in
+      ap (λ sp. past_of (fast_form flags outputs sp) most inner c first) at
+      ∙ sym (goes_past flags outputs first.regs.sp most inner c first low)
+      ∙ from_nothing flags outputs first.regs.sp most inner c first none.0 none.1 none.2 inside frames
+
+  module _ (c c2 : Counts) (s t : State) (leads : Leads flags sp most inner first c s) (flags_then : ℕ)
+      (same : flags_then ≡ flags) (goes : StepGoes flags_then sp most inner c s c2 t) where
+    goes_alike : StepGoes flags sp most inner c s c2 t
+    goes_alike = subst (λ (k : ℕ). StepGoes k sp most inner c s c2 t) same goes
+
+    -- a step behind which SP is above ends the run
+    pub step_ends : sp < t.regs.sp → (outputs : ℕ)
+        → counted_at c2 t ≡ counted (fast_run flags outputs most inner first)
+    step_ends high outputs =
+        sym (ends_counted flags outputs sp most inner c2 t (is_past sp t.regs.sp high)) ∙ sym (goes_alike outputs)
+        ∙ leads outputs
+
+    -- and else the run goes on
+    pub step_leads : t.regs.sp ≤ sp → Leads flags sp most inner first c2 t
+    step_leads low outputs =
+        sym (goes_past flags outputs sp most inner c2 t (is_not_past sp t.regs.sp low)) ∙ sym (goes_alike outputs)
+        ∙ leads outputs
+
+  -- so it does behind parts that are done at once
+  pub parts_lead : (c c2 : Counts) (s t : State) → Leads flags sp most inner first c s → (flags_then : ℕ)
+      → flags_then ≡ flags
+      → ((outputs : ℕ) → past_of (fast_form flags_then outputs sp) most inner c s
+      ≡ past_of (fast_form flags_then outputs sp) most inner c2 t) → Leads flags sp most inner first c2 t
+  parts_lead c c2 s t leads flags_then same goes outputs =
+      sym
+      (subst (λ (k : ℕ). past_of (fast_form k outputs sp) most inner c s
+      ≡ past_of (fast_form k outputs sp) most inner c2 t) same (goes outputs))
+      ∙ leads outputs
+
+-- counts after more steps than others, where all else is as before: what was at most the steps stays so
+pub record AreFurther (c c2 : Counts) : Type 0 where
+  pub instrs : c2.instrs ≤ c2.steps
+  pub resumed : c2.resumed + one_if c2.inside ≤ c2.steps
+  pub frames : array_vec_len c2.frames ≡ array_vec_len c.frames
+
+pub are_further : (c c2 : Counts) → c.instrs ≤ c.steps → c.resumed + one_if c.inside ≤ c.steps → c.steps ≤ c2.steps
+    → c2 ≡ record c { steps = c2.steps } → AreFurther c c2
+are_further c c2 instrs resumed more same =
+    let i : c2.instrs ≡ c.instrs = ap (λ (d : Counts). d.instrs) same in
+    let r : c2.resumed ≡ c.resumed = ap (λ (d : Counts). d.resumed) same in
+    let inside : one_if c2.inside ≡ one_if c.inside = ap (λ (d : Counts). one_if d.inside) same in
+    record {
+      instrs = omega (arith, instrs, more, i);
+      resumed = omega (arith, resumed, more, r, inside);
+      frames = ap (λ (d : Counts). array_vec_len d.frames) same;
+    }

@@ -1,15 +1,13 @@
-use Rattle.std.proofs.Common.{◌≡◌, ℕ, ◌≤◌, ◌+◌, ◌-◌, length}
+use Rattle.std.proofs.Common.{◌≡◌, ◌≤◌, ◌+◌, ◌-◌, length}
 use Rattle.arrayvec.specs.ArrayVec.{array_vec_len}
 use Rattle.run_law.specs.Forms.{one_if}
-use Rattle.two_runs.specs.Runs.{fast_form, fast_run}
-use Rattle.two_runs.specs.Counts.{counted, past_of}
+use Rattle.two_runs.proofs.Counting.{Leads}
 use Rattle.two_runs.proofs.fast.run_inside.Given as goal
 
 -- what is left of the run leads to the same as all of it
 abbrev pub invariant-loop-counts : goal.invariant-loop-counts
 invariant-loop-counts g l = record {
-  rest : (outputs : ℕ) → past_of (fast_form l.fn.m.flags outputs l.entered) l.most l.moments l.counts l.m.state
-      ≡ counted (fast_run l.fn.m.flags outputs l.most l.moments l.fn.m.state);
+  rest : Leads l.fn.m.flags l.entered l.most l.moments l.fn.m.state l.counts l.m.state;
   frames : array_vec_len l.counts.frames ≤ length l.moments;
   instrs : l.counts.instrs ≤ l.counts.steps;
   resumed : l.counts.resumed + one_if l.counts.inside ≤ l.counts.steps;
