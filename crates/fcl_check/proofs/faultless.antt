@@ -3,3 +3,4 @@ pub mod Limits
 pub mod Standing
 pub mod Faultless
 pub mod Present
+pub mod ReadSections

@@ -1,3 +1,4 @@
+pub mod JoinedParts
 pub mod ConditionTrees
 pub mod ConditionSizes
 pub mod RuleSizes

@@ -1,6 +1,6 @@
 -- Terms with their numbers, and what a section has twice, as one more line is read.
-use Rattle.std.proofs.Common.{◌≡◌, ℕ, suc, ◌+◌, ◌<◌, Bool, true, false, cond, ◌||◌, List, [], ◌∷◌, ◌++◌, length, map}
-use Rattle.std.proofs.Common.{take, get_or, Some, None, is_some, option_map, refl, ap, ◌∙◌, sym, arith, length-append}
+use Rattle.std.proofs.Common.{◌≡◌, ℕ, suc, ◌+◌, Bool, true, false, cond, ◌||◌, List, [], ◌∷◌, ◌++◌, length, map}
+use Rattle.std.proofs.Common.{take, Some, None, is_some, option_map, refl, ap, ◌∙◌, sym, arith, length-append}
 use Rattle.std.proofs.lemmas.List.{append-nil, map-append}
 use Rattle.std.proofs.lemmas.List.Elements.{filter-append, filter_map-append}
 use Rattle.std.proofs.lemmas.List.Folds.{list_any-append}
@@ -25,7 +25,7 @@ use Rattle.fcl_check.specs.Faults.{repeated, same_kind, same_line, line_at, same
 use Rattle.fcl_check.specs.Names.{is_named, letters, number_in, singleton_of}
 use Rattle.fcl_check.specs.Places.{at_if, first}
 use Rattle.fcl_check.proofs.naming.LetterMaps.{number_any, number_push}
-use Rattle.fcl_check.proofs.places.FirstPlaces.{Says, one_further, or_false, or_true, passed_by, place_here}
+use Rattle.fcl_check.proofs.places.FirstPlaces.{Says, or_false, or_true, passed_by, place_here}
 use Rattle.fcl_check.proofs.places.FirstPlaces.{repeated_here, repeated_more}
 
 -- ---- numbers
@@ -152,13 +152,23 @@ names_with_other lines x h =
     (filter_map singleton_of (x ∷ [])) ∙ ap (λ ns. names_of_singletons lines ++ ns) (no_name x h)
     ∙ append-nil (names_of_singletons lines)
 
+-- a name is added to a map, with the next number
+pub record IsAdded (text : List ℕ) (name : Name) (m n : BTreeMap (Bor (List ℕ)) ℕ) : Type 0 where
+  pub fault : option_map load.Twice (first (at_if (is_some (at_letters m (letters text name))) name.at)) ≡ None
+  pub added : (ls : List ℕ) → at_letters n ls ≡ option_or (at_letters m ls)
+      (cond (is_named text ls name) (Some (btree_map_len m + 1)) None)
+  pub len : btree_map_len n ≡ btree_map_len m + 1
+
 -- ---- steps over the lines of an input's section
 
-module _ (text : List ℕ) (b : FunctionBlock) (lines : List FuzzyLine) (i : ℕ) (x : FuzzyLine) (h : i < length lines)
-    (here : x ≡ get_or lines i x)
+module _ (text : List ℕ) (b : FunctionBlock) (lines : List FuzzyLine) (i : ℕ) (x : FuzzyLine)
+    (more : take (i + 1) lines ≡ take i lines ++ x ∷ [])
     (once : first (repeated (same_line text b) line_at (take i lines)) ≡ None) where
   module _ (t : Term) (is : x ≡ fuzzy.Term t) (m : BTreeMap (Bor (List ℕ)) ℕ)
       (holds : Numbers text (names_of_terms (take i lines)) m) where
+    term_more : take (i + 1) lines ≡ take i lines ++ fuzzy.Term t ∷ []
+    term_more = more ∙ ap (λ y. take i lines ++ y ∷ []) is
+
     term_taken : is_some (at_letters m (letters text t.name)) ≡ list_any (same_line text b (fuzzy.Term t))
         (take i lines)
     term_taken = number_taken text (names_of_terms (take i lines)) t.name m holds
@@ -168,51 +178,80 @@ module _ (text : List ℕ) (b : FunctionBlock) (lines : List FuzzyLine) (i : ℕ
         → Says e (option_map load.Twice (first (at_if (is_some (at_letters m (letters text t.name))) t.name.at)))
         → Says e (option_map load.Twice (first (repeated (same_line text b) line_at lines)))
     term_twice e found =
-        place_here (same_line text b) line_at lines i (fuzzy.Term t) (one_further lines i x (fuzzy.Term t) h here is)
-        once _ e term_taken found
+        place_here (same_line text b) line_at lines i (fuzzy.Term t) term_more once _ e term_taken found
 
-    pub term_once : option_map load.Twice
+    term_once : option_map load.Twice
         (first (at_if (is_some (at_letters m (letters text t.name))) t.name.at)) ≡ None
         → first (repeated (same_line text b) line_at (take (i + 1) lines)) ≡ None
-    term_once nothing = passed_by (same_line text b) line_at lines i (fuzzy.Term t)
-        (one_further lines i x (fuzzy.Term t) h here is) once _ term_taken nothing
+    term_once nothing =
+        passed_by (same_line text b) line_at lines i (fuzzy.Term t) term_more once _ term_taken nothing
 
-    pub term_numbers : (n : BTreeMap (Bor (List ℕ)) ℕ) → ((ls : List ℕ) → at_letters n ls ≡ option_or (at_letters m ls)
+    term_numbers : (n : BTreeMap (Bor (List ℕ)) ℕ) → ((ls : List ℕ) → at_letters n ls ≡ option_or (at_letters m ls)
         (cond (is_named text ls t.name) (Some (btree_map_len m + 1)) None))
         → btree_map_len n ≡ btree_map_len m + 1 → Numbers text (names_of_terms (take (i + 1) lines)) n
-    term_numbers n added grown = rw (one_further lines i x (fuzzy.Term t) h here is, names_with_term (take i lines) t)
+    term_numbers n added grown = rw (term_more, names_with_term (take i lines) t)
         (numbers_more text (names_of_terms (take i lines)) t.name m n holds added grown)
 
-    pub term_range : (has_range : Bool) → has_range ≡ list_any is_range (take i lines)
+    term_range : (has_range : Bool) → has_range ≡ list_any is_range (take i lines)
         → has_range ≡ list_any is_range (take (i + 1) lines)
     term_range has_range had =
-        rw (one_further lines i x (fuzzy.Term t) h here is, list_any-append is_range (take i lines) (fuzzy.Term t ∷ []))
+        rw (term_more, list_any-append is_range (take i lines) (fuzzy.Term t ∷ []))
         (had ∙ sym (or_false (list_any is_range (take i lines))))
 
   module _ (q : Range) (is : x ≡ fuzzy.Range q) where
+    range_more : take (i + 1) lines ≡ take i lines ++ fuzzy.Range q ∷ []
+    range_more = more ∙ ap (λ y. take i lines ++ y ∷ []) is
+
     pub range_twice : true ≡ list_any is_range (take i lines)
         → first (repeated (same_line text b) line_at lines) ≡ Some q.at
     range_twice found = repeated_here (same_line text b) line_at lines i (fuzzy.Range q)
-        (one_further lines i x (fuzzy.Range q) h here is) once
+        range_more once
         (any_ranges text b q (take i lines) ∙ sym found)
 
-    pub range_once : false ≡ list_any is_range (take i lines)
+    range_once : false ≡ list_any is_range (take i lines)
         → first (repeated (same_line text b) line_at (take (i + 1) lines)) ≡ None
     range_once found = repeated_more (same_line text b) line_at lines i (fuzzy.Range q)
-        (one_further lines i x (fuzzy.Range q) h here is) once
+        range_more once
         (any_ranges text b q (take i lines) ∙ sym found)
 
-    pub range_numbers : (m : BTreeMap (Bor (List ℕ)) ℕ) → Numbers text (names_of_terms (take i lines)) m
+    range_numbers : (m : BTreeMap (Bor (List ℕ)) ℕ) → Numbers text (names_of_terms (take i lines)) m
         → Numbers text (names_of_terms (take (i + 1) lines)) m
     range_numbers m holds =
-        rw (one_further lines i x (fuzzy.Range q) h here is, names_with_range (take i lines) q) holds
+        rw (range_more, names_with_range (take i lines) q) holds
 
-    pub range_seen : true ≡ list_any is_range (take (i + 1) lines)
+    range_seen : true ≡ list_any is_range (take (i + 1) lines)
     range_seen = rw (
-      one_further lines i x (fuzzy.Range q) h here is,
+      range_more,
       list_any-append is_range (take i lines) (fuzzy.Range q ∷ []),
     )
         (sym (or_true (list_any is_range (take i lines))))
+
+-- what is known of the lines of an input's section, as far as they are read
+abbrev pub KnowsTerms : List ℕ → FunctionBlock → List FuzzyLine → BTreeMap (Bor (List ℕ)) ℕ → Bool → Type 0
+KnowsTerms text b lines m has_range = record {
+  numbers : Numbers text (names_of_terms lines) m;
+  range : has_range ≡ list_any is_range lines;
+  once : first (repeated (same_line text b) line_at lines) ≡ None;
+}
+
+module _ (text : List ℕ) (b : FunctionBlock) (lines : List FuzzyLine) (i : ℕ) (x : FuzzyLine)
+    (more : take (i + 1) lines ≡ take i lines ++ x ∷ []) (m : BTreeMap (Bor (List ℕ)) ℕ) (has_range : Bool)
+    (known : KnowsTerms text b (take i lines) m has_range) where
+  pub KnowsTerms-term : (t : Term) (n : BTreeMap (Bor (List ℕ)) ℕ) → x ≡ fuzzy.Term t → IsAdded text t.name m n
+      → KnowsTerms text b (take (i + 1) lines) n has_range
+  KnowsTerms-term t n is added = record {
+    numbers = term_numbers text b lines i x more known.once t is m known.numbers n added.added added.len;
+    range = term_range text b lines i x more known.once t is m known.numbers has_range known.range;
+    once = term_once text b lines i x more known.once t is m known.numbers added.fault;
+  }
+
+  pub KnowsTerms-range : (q : Range) → x ≡ fuzzy.Range q → has_range ≡ false
+      → KnowsTerms text b (take (i + 1) lines) m true
+  KnowsTerms-range q is none = record {
+    numbers = range_numbers text b lines i x more known.once q is m known.numbers;
+    range = range_seen text b lines i x more known.once q is;
+    once = range_once text b lines i x more known.once q is (sym none ∙ known.range);
+  }
 
 -- ---- steps over the lines of an output's section
 
@@ -236,14 +275,14 @@ module _ (text : List ℕ) (b : FunctionBlock) (lines : List DefuzzyLine) (i : �
         place_here (same_output_line text b) output_line_at lines i (defuzzy.Singleton t) singleton_more once _ e
         singleton_taken found
 
-    pub singleton_once : option_map load.Twice
+    singleton_once : option_map load.Twice
         (first (at_if (is_some (at_letters m (letters text t.name))) t.name.at)) ≡ None
         → first (repeated (same_output_line text b) output_line_at (take (i + 1) lines)) ≡ None
     singleton_once nothing =
         passed_by (same_output_line text b) output_line_at lines i (defuzzy.Singleton t) singleton_more once _
         singleton_taken nothing
 
-    pub singleton_numbers : (n : BTreeMap (Bor (List ℕ)) ℕ)
+    singleton_numbers : (n : BTreeMap (Bor (List ℕ)) ℕ)
         → ((ls : List ℕ) → at_letters n ls ≡ option_or (at_letters m ls)
         (cond (is_named text ls t.name) (Some (btree_map_len m + 1)) None))
         → btree_map_len n ≡ btree_map_len m + 1 → Numbers text (names_of_singletons (take (i + 1) lines)) n
@@ -251,7 +290,7 @@ module _ (text : List ℕ) (b : FunctionBlock) (lines : List DefuzzyLine) (i : �
         rw (singleton_more, names_with_singleton (take i lines) t)
         (numbers_more text (names_of_singletons (take i lines)) t.name m n holds added grown)
 
-    pub singleton_others : filter is_other (take (i + 1) lines) ≡ filter is_other (take i lines)
+    singleton_others : filter is_other (take (i + 1) lines) ≡ filter is_other (take i lines)
     singleton_others = rw (singleton_more, filter-append is_other (take i lines) (defuzzy.Singleton t ∷ []))
         (append-nil (filter is_other (take i lines)))
 
@@ -263,13 +302,41 @@ module _ (text : List ℕ) (b : FunctionBlock) (lines : List DefuzzyLine) (i : �
         → first (repeated (same_output_line text b) output_line_at lines) ≡ Some (output_line_at x)
     other_twice found = repeated_here (same_output_line text b) output_line_at lines i x more once (seen ∙ sym found)
 
-    pub other_once : false ≡ list_any (same_kind x) (filter is_other (take i lines))
+    other_once : false ≡ list_any (same_kind x) (filter is_other (take i lines))
         → first (repeated (same_output_line text b) output_line_at (take (i + 1) lines)) ≡ None
     other_once found = repeated_more (same_output_line text b) output_line_at lines i x more once (seen ∙ sym found)
 
-    pub other_numbers : (m : BTreeMap (Bor (List ℕ)) ℕ) → Numbers text (names_of_singletons (take i lines)) m
+    other_numbers : (m : BTreeMap (Bor (List ℕ)) ℕ) → Numbers text (names_of_singletons (take i lines)) m
         → Numbers text (names_of_singletons (take (i + 1) lines)) m
     other_numbers m holds = rw (more, names_with_other (take i lines) x other) holds
 
-    pub others_more : filter is_other (take (i + 1) lines) ≡ filter is_other (take i lines) ++ x ∷ []
+    others_more : filter is_other (take (i + 1) lines) ≡ filter is_other (take i lines) ++ x ∷ []
     others_more = rw (more, filter-append is_other (take i lines) (x ∷ []), other) refl
+
+-- what is known of the lines of an output's section, as far as they are read
+abbrev pub KnowsSingletons : List ℕ → FunctionBlock → List DefuzzyLine → BTreeMap (Bor (List ℕ)) ℕ → List DefuzzyLine
+    → Type 0
+KnowsSingletons text b lines m others = record {
+  numbers : Numbers text (names_of_singletons lines) m;
+  others : others ≡ filter is_other lines;
+  once : first (repeated (same_output_line text b) output_line_at lines) ≡ None;
+}
+
+module _ (text : List ℕ) (b : FunctionBlock) (lines : List DefuzzyLine) (i : ℕ) (x : DefuzzyLine)
+    (more : take (i + 1) lines ≡ take i lines ++ x ∷ []) (m : BTreeMap (Bor (List ℕ)) ℕ) (others : List DefuzzyLine)
+    (known : KnowsSingletons text b (take i lines) m others) where
+  pub KnowsSingletons-singleton : (t : Singleton) (n : BTreeMap (Bor (List ℕ)) ℕ) → x ≡ defuzzy.Singleton t
+      → IsAdded text t.name m n → KnowsSingletons text b (take (i + 1) lines) n others
+  KnowsSingletons-singleton t n is added = record {
+    numbers = singleton_numbers text b lines i x more known.once t is m known.numbers n added.added added.len;
+    others = known.others ∙ sym (singleton_others text b lines i x more known.once t is m known.numbers);
+    once = singleton_once text b lines i x more known.once t is m known.numbers added.fault;
+  }
+
+  pub KnowsSingletons-other : is_other x ≡ true → list_any (same_kind x) others ≡ false
+      → KnowsSingletons text b (take (i + 1) lines) m (others ++ x ∷ [])
+  KnowsSingletons-other other none = record {
+    numbers = other_numbers text b lines i x more known.once other m known.numbers;
+    others = rw (known.others) (sym (others_more text b lines i x more known.once other));
+    once = other_once text b lines i x more known.once other (rw (known.others) at (sym none));
+  }

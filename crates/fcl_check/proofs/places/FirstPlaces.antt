@@ -90,6 +90,11 @@ pub one_further : {A : Type 0} (xs : List A) (i : ℕ) (x y : A) → i < length 
     → take (i + 1) xs ≡ take i xs ++ y ∷ []
 one_further xs i x y h here is = take_more xs i x h ∙ ap (λ z. take i xs ++ z ∷ []) (sym here ∙ is)
 
+-- the same of an item that is read
+pub read_further : {A : Type 0} (xs read : List A) (i : ℕ) (x : A) → read ≡ xs → i < length read → x ≡ get_or read i x
+    → take (i + 1) xs ≡ take i xs ++ x ∷ []
+read_further xs read i x same h here = one_further xs i x x (rw same at h) (rw same at here) refl
+
 -- the same of what is repeated
 module _ {A : Type 0} (same : A → A → Bool) (at : A → ℕ) (xs : List A) (i : ℕ) (x : A)
     (more : take (i + 1) xs ≡ take i xs ++ x ∷ [])
