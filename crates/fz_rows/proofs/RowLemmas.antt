@@ -1,9 +1,14 @@
 -- The first rows of a text.
-use Rattle.std.proofs.Common.{arith, ◌≡◌, ◌⊎◌, inl, inr, ◌<◌, ◌-◌, ℕ, List, [], ◌∷◌, length, refl, sym, ◌∙◌, ap, subst}
-use Rattle.std.specs.Prelude.{Option, Some, None}
+use Rattle.std.proofs.Common.{arith, ◌≡◌, ◌⊎◌, inl, inr, ◌<◌, ◌-◌, ℕ, List, [], ◌∷◌, ◌++◌, length, map, refl, sym, ◌∙◌}
+use Rattle.std.proofs.Common.{ap, subst, Bor}
+use Rattle.std.proofs.lemmas.List.{map-append}
+use Rattle.std.specs.Prelude.{Option, Some, None, true, false}
+use Rattle.csv.proofs.ReadFacts.{rows-end, rows-more}
 use Rattle.csv.specs.Machine.{Read, next_record}
-use Rattle.csv.specs.Reading.{Reached, default_config}
+use Rattle.csv.specs.Reading.{ReadRecord, Reached, default_config, source_of, strip_bom}
 use Rattle.csv.specs.declared.parser.State.{State}
+use Rattle.csv.specs.declared.parser.State.TheVariants as st
+use Rattle.csv.specs.declared.reader.Reader.{Reader}
 use Rattle.fz_rows.specs.FirstRows.{AreFirstRows, Fields}
 use Rattle.fz_rows.specs.Laws.{FirstRowsAreOne}
 
@@ -47,3 +52,33 @@ one_list text rows others first few other = go first.enough
     go : (next_record default_config first.state [] [] first.rest ≡ None) ⊎ (length rows ≡ 10001) → others ≡ rows
     go (inr full) = absurd (omega (arith, full, few))
     go (inl end) = all_rows 10001 _ _ _ _ _ _ rows others first.cut end few other.cut other.enough
+
+-- what a reader has given of a text is these rows, and what it has left is the rest
+abbrev pub HasRead : List ℕ → Reader (Bor (List ℕ)) → List Fields → Type 0
+HasRead text r rows =
+    (y : List ℕ) × (source_of (λ (s : Bor (List ℕ)). Some s.now) r ≡ Some y)
+    × Reached default_config st.StartRecord (strip_bom text) rows r.state y
+
+pub HasRead-more : {X : Type 0} (f : X → Fields) (text : List ℕ) (a b : Reader (Bor (List ℕ))) (rows more : List X)
+    (row : X) → a.config ≡ default_config → HasRead text a (map f rows)
+    → ReadRecord (λ (s : Bor (List ℕ)). Some s.now) a b true (f row) → more ≡ rows ++ row ∷ []
+    → HasRead text b (map f more)
+HasRead-more f text a b rows more row config so_far read pushed =
+    rw (pushed, map-append f rows (row ∷ []))
+    (rows-more (λ (s : Bor (List ℕ)). Some s.now) a b (f row) default_config st.StartRecord (strip_bom text) so_far.0
+    (map f rows) config so_far.1 so_far.2 read)
+
+pub AreFirstRows-full : (text : List ℕ) (r : Reader (Bor (List ℕ))) (rows : List Fields) → HasRead text r rows
+    → length rows ≡ 10001 → AreFirstRows text rows
+AreFirstRows-full text r rows so_far full =
+    record { state = r.state; rest = so_far.0; cut = so_far.2; enough = inr full }
+
+-- where no row is left
+pub AreFirstRows-all : (text : List ℕ) (a b : Reader (Bor (List ℕ))) (rows : List Fields) → a.config ≡ default_config
+    → HasRead text a rows → ReadRecord (λ (s : Bor (List ℕ)). Some s.now) a b false [] → AreFirstRows text rows
+AreFirstRows-all text a b rows config so_far read = record {
+  state = a.state;
+  rest = so_far.0;
+  cut = so_far.2;
+  enough = inl (rows-end (λ (s : Bor (List ℕ)). Some s.now) a b [] default_config so_far.0 config so_far.1 read);
+}

@@ -1,9 +1,8 @@
-use Rattle.std.proofs.Common.{arith, Bor, List, ℕ, ◌∙◌, sym, refl, inl, inr, map, Some, ◌∷◌, []}
-use Rattle.std.proofs.lemmas.List.{length-map, map-append}
-use Rattle.csv.specs.Reading.{Reached, default_config, strip_bom}
+use Rattle.std.proofs.Common.{arith, ◌∙◌, sym, refl, inl, inr}
+use Rattle.std.proofs.lemmas.List.{length-map}
+use Rattle.csv.specs.Reading.{Reached, strip_bom}
 use Rattle.csv.specs.Records.{fields_of}
-use Rattle.csv.specs.declared.parser.State.TheVariants as st
-use Rattle.csv.proofs.ReadFacts.{rows-end, rows-more}
+use Rattle.fz_rows.proofs.RowLemmas.{AreFirstRows-all, AreFirstRows-full, HasRead-more}
 use Rattle.fz_rows.proofs.rows.first_rows.Goals as goal
 
 pub loop-row-init : goal.loop-row-init
@@ -29,40 +28,21 @@ pub loop-row-preserved : goal.loop-row-preserved
 loop-row-preserved c =
     let inv = c.loop-row.invariant in
     let s = rw (c.in-Some.is, c.in-Ok.is) at ((c.next.ensures.steps inv.2 inv.0).0 inv.1) in
-    let m = rows-more (λ (s : Bor (List ℕ)). Some s.now) c.loop-row.row-iterator.rdr c.next.new.self.rdr
-    (fields_of c.in-Ok.row) default_config st.StartRecord (strip_bom c.args.text.now) inv.4
-    (map fields_of c.loop-row.rows.items) inv.3 inv.5 inv.6 s.0 in (
-      s.0.3 ∙ inv.0,
-      inl s.1,
-      s.2,
-      s.0.2 ∙ inv.3,
-      m.0,
-      m.1,
-      rw (c.in_ok-push-in-Ok.ensures.items, map-append fields_of c.loop-row.rows.items (c.in-Ok.row ∷ [])) m.2,
-    )
+    let more = HasRead-more fields_of c.args.text.now c.loop-row.row-iterator.rdr c.next.new.self.rdr
+    c.loop-row.rows.items _ c.in-Ok.row inv.3 (inv.4, inv.5, inv.6) s.0 c.in_ok-push-in-Ok.ensures.items in
+    (s.0.3 ∙ inv.0, inl s.1, s.2, s.0.2 ∙ inv.3, more.0, more.1, more.2)
 
 pub returns-then-len-eq-MOST : goal.returns-then-len-eq-MOST
 returns-then-len-eq-MOST c =
     let inv = c.loop-row.invariant in
     let s = rw (c.in-Some.is, c.in-Ok.is) at ((c.next.ensures.steps inv.2 inv.0).0 inv.1) in
-    let m = rows-more (λ (s : Bor (List ℕ)). Some s.now) c.loop-row.row-iterator.rdr c.next.new.self.rdr
-    (fields_of c.in-Ok.row) default_config st.StartRecord (strip_bom c.args.text.now) inv.4
-    (map fields_of c.loop-row.rows.items) inv.3 inv.5 inv.6 s.0 in
-    record {
-      state = c.next.new.self.rdr.state;
-      rest = m.0;
-      cut = rw (c.in_ok-push-in-Ok.ensures.items, map-append fields_of c.loop-row.rows.items (c.in-Ok.row ∷ [])) m.2;
-      enough = inr (rw length-map (omega (arith, c.len.ensures, c.if-len-eq-MOST.true, c.push.new.self.ok.0)));
-    }
+    let more = HasRead-more fields_of c.args.text.now c.loop-row.row-iterator.rdr c.next.new.self.rdr
+    c.loop-row.rows.items _ c.in-Ok.row inv.3 (inv.4, inv.5, inv.6) s.0 c.in_ok-push-in-Ok.ensures.items in
+    AreFirstRows-full c.args.text.now c.next.new.self.rdr _ more
+    (rw length-map (omega (arith, c.len.ensures, c.if-len-eq-MOST.true, c.push.new.self.ok.0)))
 
 pub returns : goal.returns
 returns c =
     let inv = c.loop-row.invariant in
     let s = rw c.in-None.is at ((c.next.ensures.steps inv.2 inv.0).0 inv.1) in
-    record {
-      state = c.loop-row.row-iterator.rdr.state;
-      rest = inv.4;
-      cut = inv.6;
-      enough = inl (rows-end (λ (s : Bor (List ℕ)). Some s.now) c.loop-row.row-iterator.rdr c.next.new.self.rdr []
-          default_config inv.4 inv.3 inv.5 s);
-    }
+    AreFirstRows-all c.args.text.now c.loop-row.row-iterator.rdr c.next.new.self.rdr _ inv.3 (inv.4, inv.5, inv.6) s
