@@ -112,7 +112,8 @@ module _ (b : Block) (xs : List Dec) (o : ℕ) (us : List Dec) where
     pub heavy-third : (h : Held) → HoldsFrom k h → pos 0 <ℤ m.num → length (shares_of h) ≡ 2
         → 2 < length (heavy_shares (shares_from b xs o 1 us))
     heavy-third h holds some two =
-        let all : length (heavy_shares (shares_from b xs o (k - 1 + 1) (drop (k - 1) us))) ≡ suc (length (shares_of h)) =
+        let all : length (heavy_shares (shares_from b xs o (k - 1 + 1) (drop (k - 1) us))) ≡ suc
+        (length (shares_of h)) =
         ap length (heavy_before some) ∙ ap (λ hs. suc (length hs)) (sym holds.1) in
         let place : 1 + (k - 1) ≡ k - 1 + 1 = omega arith in
         let longer = subst (λ n. length (heavy_shares (shares_from b xs o n (drop (k - 1) us))) ≤ length

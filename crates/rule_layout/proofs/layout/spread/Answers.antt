@@ -6,8 +6,8 @@ use Rattle.rule_layout.specs.Tables.{IsInTable, IsNumbering}
 use Rattle.rule_layout.specs.Sizes.{IsCountable}
 use Rattle.rule_layout.specs.Steps.{IsSpreadable, table_conjunctions}
 use Rattle.rule_layout.proofs.LayoutLemmas.{slots_in_table, few_slots, rules_countable, rules_spreadable}
-use Rattle.rule_layout.proofs.LayoutLemmas.{bytes_fit, form_found, IsListSize-found, IsTooLong-found, IsWithinLimits-found}
-use Rattle.rule_layout.proofs.LayoutLemmas.{flat_made, conjunctions_by_table, weights_made}
+use Rattle.rule_layout.proofs.LayoutLemmas.{bytes_fit, form_found, IsListSize-found, IsTooLong-found}
+use Rattle.rule_layout.proofs.LayoutLemmas.{IsWithinLimits-found, flat_made, conjunctions_by_table, weights_made}
 use Rattle.rule_layout.proofs.LaidOutLemmas.{laid_out_made}
 use Rattle.rule_layout.proofs.layout.spread.Goals as goal
 
@@ -31,11 +31,9 @@ spread_rules-requires-clause-spreadable c =
 
 pub overflow_mul-bytes : goal.overflow_mul-bytes
 overflow_mul-bytes c =
-    omega (
-      arith,
-      bytes_fit c.form_of-form.result c.element_width.result c.requires c.as_slice-rules.ensures
-          c.in_ok-size.ensures c.element_width.ensures,
-    )
+    let bytes = bytes_fit c.form_of-form.result c.element_width.result c.requires c.as_slice-rules.ensures
+    c.in_ok-size.ensures c.element_width.ensures in
+    omega (arith, bytes)
 
 pub returns-then-bytes-gt-MOST_LIST_BYTES-clause-fault : goal.returns-then-bytes-gt-MOST_LIST_BYTES-clause-fault
 returns-then-bytes-gt-MOST_LIST_BYTES-clause-fault c =
@@ -46,16 +44,16 @@ returns-then-bytes-gt-MOST_LIST_BYTES-clause-fault c =
 
 pub returns-clause-value : goal.returns-clause-value
 returns-clause-value c =
-    let b = c.args.block.now in
     let form = form_found c.args.block.now c.form_of-form.ensures (c.len.ensures ∙ c.in_ok-slots.slots.ok.0)
     c.in_ok-slots.ensures c.as_slice-rules.ensures in
     let numbering = subst (λ (w : List Slot). IsNumbering w c.new-numbers.result.table)
     (c.deref.ensures.value ∙ c.in_ok-slots.ensures) c.new-numbers.ensures in
     let conjunctions = ap (λ (w : List Rule). flat_map (table_conjunctions c.new-numbers.result.table) w)
-    c.as_slice-rules.ensures ∙ conjunctions_by_table b c.new-numbers.result.table numbering c.requires in
-    flat_made b _ (c.new.ensures ∙ c.in_ok-slots.ensures)
+    c.as_slice-rules.ensures ∙ conjunctions_by_table c.args.block.now c.new-numbers.result.table numbering c.requires in
+    flat_made c.args.block.now _ (c.new.ensures ∙ c.in_ok-slots.ensures)
     (c.new-2.ensures ∙ c.in_ok-conjunctions.ensures.conjunctions ∙ conjunctions)
-    (c.new-3.ensures ∙ c.in_ok-conjunctions.ensures.weights ∙ weights_made b _ c.as_slice-rules.ensures) form
+    (c.new-3.ensures ∙ c.in_ok-conjunctions.ensures.weights ∙ weights_made c.args.block.now _ c.as_slice-rules.ensures)
+    form
 
 pub returns-clause-limits : goal.returns-clause-limits
 returns-clause-limits c =
