@@ -27,7 +27,7 @@ same_items (x ∷ xs) (y ∷ ys) e h =
 
 -- ---- halves
 
-middle_inside : (f t : ℕ) → f < t → (f < f + (t - f + 1) / 2) × (f + (t - f + 1) / 2 ≤ t)
+pub middle_inside : (f t : ℕ) → f < t → (f < f + (t - f + 1) / 2) × (f + (t - f + 1) / 2 ≤ t)
 middle_inside f t h = (omega arith, omega arith)
 
 pub halves_of : CutsHaveHalves → (box : List Interval) (k c : ℕ) (at : IsHalvedAt box k c)
