@@ -130,8 +130,12 @@ module _ (b : Block) (h : ℕ) (cert : Cert) (w : Walk) (over : IsWalkOver b cer
     AreFirst-next = subst (λ cs. AreFirst (length cs) (take k cert.nodes ++ node ∷ [])) (sym over.claims_are)
         (subst (λ ns. AreFirst (length cert.claims) ns) take-next (are_first cert (k + 1) good))
 
-    pub HasTaken-next : (v : Walk) → HasTaken (take k cert.nodes ++ node ∷ []) v → HasTaken (take (k + 1) cert.nodes) v
-    HasTaken-next v taken = subst (λ ns. HasTaken ns v) (sym take-next) taken
+    -- and is behind it then
+    pub HasTaken-next : (v : Walk) → HasTaken (take k cert.nodes) w
+        → ((ns : List Node) → HasTaken ns w → AreFirst (length w.claims.now) (ns ++ node ∷ [])
+        → HasTaken (ns ++ node ∷ []) v) → HasTaken (take (k + 1) cert.nodes) v
+    HasTaken-next v taken more =
+        subst (λ ns. HasTaken ns v) (sym take-next) (more (take k cert.nodes) taken AreFirst-next)
 
   -- the last node is behind it
   module _ (nodes : List Node) (same : nodes ≡ cert.nodes) (end : length nodes ≤ k)

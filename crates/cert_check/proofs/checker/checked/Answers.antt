@@ -20,20 +20,13 @@ take-requires c =
 
 pub loop-node-preserved : goal.loop-node-preserved
 loop-node-preserved c =
-    let b = c.args.block.now in
-    let cert = c.args.cert.now in
-    let w = c.loop-node.walk in
     let i = c.loop-node.invariant in
-    let k = c.loop-node.node-index in
-    let nodes = c.as_slice-node-items.result.now in
-    let same = c.as_slice-node-items.ensures in
-    let test = c.loop-node-test.true in
-    let next = AreFirst-next b c.args.parts cert w i.over c.requires.cert k nodes c.node-item.result same test
-    c.node-item.is in
     record {
-      over = still_over b cert.claims c.args.parts w c.take.new.self i.over c.take.ensures.same;
-      taken = HasTaken-next b c.args.parts cert w i.over c.requires.cert k nodes c.node-item.result same test
-          c.node-item.is c.take.new.self (c.take.ensures.taken _ i.taken next);
+      over = still_over c.args.block.now c.args.cert.now.claims c.args.parts c.loop-node.walk c.take.new.self i.over
+          c.take.ensures.same;
+      taken = HasTaken-next c.args.block.now c.args.parts c.args.cert.now c.loop-node.walk i.over c.requires.cert
+          c.loop-node.node-index c.as_slice-node-items.result.now c.node-item.result c.as_slice-node-items.ensures
+          c.loop-node-test.true c.node-item.is c.take.new.self i.taken c.take.ensures.taken;
     }
 
 pub finish-requires : goal.finish-requires
