@@ -20,6 +20,7 @@ pub mod Instances
 pub mod Takings
 pub mod Turnings
 pub mod Running
+pub mod NextTurns
 pub mod HavingSteps
 pub mod WholeTurns
 pub mod Alone

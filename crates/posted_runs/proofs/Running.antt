@@ -1,7 +1,7 @@
 -- What is told of posts, and a run by its next turn.
 use Rattle.std.proofs.Common.{◌≡◌, ℕ, zero, suc, ◌+◌, ◌-◌, ◌≤◌, ◌==◌, Bool, true, false, ◌&&◌, nat_le, Result, Ok, Err}
 use Rattle.std.proofs.Common.{List, [], ◌∷◌, ◌++◌, length, take, drop}
-use Rattle.std.proofs.Common.{refl, ap, ap₂, sym, ◌∙◌, arith, append_assoc, append-nil, length-append, length-drop}
+use Rattle.std.proofs.Common.{refl, ap, ap₂, sym, ◌∙◌, arith, append_assoc, length-append, length-drop}
 use Rattle.std.specs.Prelude.{slice_index}
 use Rattle.std.proofs.lemmas.Bool.Decides.{nat_tests}
 use Rattle.std.proofs.lemmas.List.{map-append}
@@ -12,13 +12,12 @@ use Rattle.run_law.specs.Forms.{Taking, Ran, takes, taken, is_empty, then_rest, 
 use Rattle.run_law.specs.Following.{asked}
 use Rattle.interrupt_plan.specs.declared.Post.{Post}
 use Rattle.codegen.specs.declared.firmware.Firmware.{Firmware}
-use Rattle.posted_runs.specs.declared.tally.Tally.{Tally}
 use Rattle.codegen.specs.Uninterrupted.{values_in}
 use Rattle.posted_runs.specs.Turns.{up_to, behind, waiting}
 use Rattle.fz_run.specs.Rows.{bytes_of}
-use Rattle.posted_runs.specs.Runs.{TurnForm, turn_form, AnswerSeen, RunSeen, no_turn, before_turns, answers_by}
-use Rattle.posted_runs.specs.Runs.{waits_by, then_turns, is_over, turns_from, frames_seen}
-use Rattle.posted_runs.specs.Tallies.{Brought, with_frames, turned, rest_of, Counted, counted_at, with_rest}
+use Rattle.posted_runs.specs.Runs.{TurnForm, turn_form, AnswerSeen, no_turn, answers_by}
+use Rattle.posted_runs.specs.Runs.{waits_by, then_turns, is_over, turns_from}
+use Rattle.posted_runs.specs.Tallies.{Brought, with_frames}
 
 -- those that are taken come before those that are left
 takes_by : (b : Bool) (flags : ℕ) (f : Firmware) (samples : List (List ℕ)) (g m : ℕ) (q : Post) (qs : List Post)
@@ -32,7 +31,7 @@ unfolding takes
 takes_by true flags f samples g m q qs s e r = rw e (ap (λ (xs : List Post). q ∷ xs) r)
 takes_by false flags f samples g m q qs s e r = rw e refl
 
-pub taken_told : (flags : ℕ) (f : Firmware) (samples : List (List ℕ)) (g m : ℕ) (qs : List Post) (s : State)
+taken_told : (flags : ℕ) (f : Firmware) (samples : List (List ℕ)) (g m : ℕ) (qs : List Post) (s : State)
     → asked (takes (turn_form flags f samples g) m qs s).told ++ (takes (turn_form flags f samples g) m qs s).left ≡ qs
 unfolding takes
 taken_told flags f samples g m [] s = refl
@@ -93,6 +92,19 @@ slice_is posts xs i j le lt e =
     let n : j - i ≡ length xs = omega (arith, a, b, c, d, le, lt) in
     ap₂ (λ (k : ℕ) (l : List Post). take k l) n (sym e) ∙ front_of xs (drop j posts)
 
+-- what is taken at a boundary is the slice of them up to those that are left
+pub taken_slice : (flags : ℕ) (f : Firmware) (samples : List (List ℕ)) (g m : ℕ) (posts : List Post) (s s1 : State)
+    (fs fs1 : List (ℕ × FrameSeen)) (i j : ℕ)
+    → with_frames fs (takes (turn_form flags f samples g) m (drop i posts) s)
+    ≡ record { state = s1; frames = fs1; left = drop j posts }
+    → (i ≤ j) × (j ≤ length posts)
+    → take (j - i) (drop i posts) ≡ asked (takes (turn_form flags f samples g) m (drop i posts) s).told
+taken_slice flags f samples g m posts s s1 fs fs1 i j te next =
+    let b : Taking Post (Unit {0}) = takes (turn_form flags f samples g) m (drop i posts) s in
+    slice_is posts (asked b.told) i j next.0 next.1
+    (ap (λ (l : List Post). asked b.told ++ l) (sym (ap (λ (k : Brought). k.left) te))
+    ∙ taken_told flags f samples g m (drop i posts) s)
+
 -- a run that is over
 pub run_over : (flags : ℕ) (f : Firmware) (samples : List (List ℕ)) (last n g w : ℕ) (qs : List Post) (s : State)
     → is_over f.memory_map (takes (turn_form flags f samples g) g qs s) ≡ true
@@ -132,111 +144,6 @@ run_turn flags f samples last n g w v qs qs1 s s1 fs fs1 te ve e =
     ∙ ap₂ (λ (x : ℕ) (r : Ran Post (Unit {0})). then_turns f samples g x b.frames r (turns_from flags f samples last n))
     (sym ve)
     (ap₂ (λ (l : List Post) (u : State). run_from form (last - g) g false l u) el es)
-
-counted : List AnswerSeen → List (ℕ × FrameSeen) → ℕ → Counted
-counted answers frames resumed = record { answers = answers; frames = frames; resumed = resumed }
-
--- the run is over here
-pub over_here : (flags : ℕ) (f : Firmware) (samples : List (List ℕ)) (last n g w : ℕ) (qs qs1 : List Post)
-    (s s1 : State) (t t1 : Tally) (answers : List AnswerSeen)
-    → with_frames (frames_seen t.frames.items) (takes (turn_form flags f samples g) g qs s)
-    ≡ record { state = s1; frames = frames_seen t1.frames.items; left = qs1 }
-    → t1.resumed ≡ t.resumed → (is_empty qs1 && (slice_index s1.mem f.memory_map.ready == 0)) ≡ true
-    → with_rest answers t (turns_from flags f samples last (suc n) g w qs s) ≡ counted_at answers t1
-unfolding counted
-over_here flags f samples last n g w qs qs1 s s1 t t1 answers te re e =
-    let b : Taking Post (Unit {0}) = takes (turn_form flags f samples g) g qs s in
-    let es : b.state ≡ s1 = ap (λ (k : Brought). k.state) te in
-    let ef : frames_seen t.frames.items ++ b.frames ≡ frames_seen t1.frames.items = ap (λ (k : Brought). k.frames) te in
-    let el : b.left ≡ qs1 = ap (λ (k : Brought). k.left) te in
-    let on : is_over f.memory_map b ≡ true =
-    ap₂ (λ (l : List Post) (u : State). is_empty l && (slice_index u.mem f.memory_map.ready == 0)) el es ∙ e in
-    let r : t.resumed + 0 ≡ t1.resumed = omega (arith, re) in
-    ap (with_rest answers t) (run_over flags f samples last n g w qs s on)
-    ∙ ap (λ (xs : List AnswerSeen). counted xs (frames_seen t.frames.items ++ b.frames) (t.resumed + 0))
-    (append-nil answers)
-    ∙ ap₂ (λ (fs : List (ℕ × FrameSeen)) (k : ℕ). counted answers fs k) ef r
-
--- frames of a turn, behind those of its first boundary
-all_frames : (fs bs rs ks fs1 fs2 : List (ℕ × FrameSeen)) → fs ++ bs ≡ fs1 → fs1 ++ rs ≡ fs2
-    → fs ++ ((bs ++ rs) ++ ks) ≡ fs2 ++ ks
-all_frames fs bs rs ks fs1 fs2 a b =
-    ap (λ (l : List (ℕ × FrameSeen)). fs ++ l) (append_assoc bs rs ks)
-    ∙ sym (append_assoc fs bs (rs ++ ks))
-    ∙ ap (λ (l : List (ℕ × FrameSeen)). l ++ (rs ++ ks)) a
-    ∙ sym (append_assoc fs1 rs ks)
-    ∙ ap (λ (l : List (ℕ × FrameSeen)). l ++ ks) b
-
--- a turn comes to no end
-pub stuck_here : (f : Firmware) (samples : List (List ℕ)) (g v : ℕ) (bs fs1 : List (ℕ × FrameSeen))
-    (r : Ran Post (Unit {0})) (rest : ℕ → ℕ → List Post → State → RunSeen) (t t2 : Tally) (answers : List AnswerSeen)
-    → r.arrived ≡ false → frames_seen t.frames.items ++ bs ≡ fs1 → fs1 ++ r.frames ≡ frames_seen t2.frames.items
-    → t.resumed + r.resumed ≡ t2.resumed
-    → with_rest answers t (then_turns f samples g v bs r rest) ≡ counted_at answers t2
-unfolding counted
-stuck_here f samples g v bs fs1 r rest t t2 answers stays a b re =
-    let go : then_turns f samples g v bs r rest ≡ no_turn false (bs ++ r.frames) r.resumed = rw stays refl in
-    let fr : frames_seen t.frames.items ++ (bs ++ r.frames) ≡ frames_seen t2.frames.items =
-    sym (append_assoc (frames_seen t.frames.items) bs r.frames)
-    ∙ ap (λ (l : List (ℕ × FrameSeen)). l ++ r.frames) a ∙ b in
-    ap (with_rest answers t) go
-    ∙ ap (λ (xs : List AnswerSeen). counted xs (frames_seen t.frames.items ++ (bs ++ r.frames)) (t.resumed + r.resumed))
-    (append-nil answers)
-    ∙ ap₂ (λ (fs : List (ℕ × FrameSeen)) (k : ℕ). counted answers fs k) fr re
-
--- a turn comes to its end
-pub turn_here : (f : Firmware) (samples : List (List ℕ)) (g v : ℕ) (bs fs1 : List (ℕ × FrameSeen))
-    (r : Ran Post (Unit {0})) (rest : ℕ → ℕ → List Post → State → RunSeen) (t t2 : Tally)
-    (answers answers2 : List AnswerSeen)
-    (at w2 : ℕ) (qs2 : List Post) (s2 : State)
-    → r.arrived ≡ true → frames_seen t.frames.items ++ bs ≡ fs1 → fs1 ++ r.frames ≡ frames_seen t2.frames.items
-    → t.resumed + r.resumed ≡ t2.resumed
-    → answers2 ≡ answers ++ answers_by f samples g v (asked r.told) (g + r.steps) r.instrs r.state
-    → g + r.steps ≡ at → waits_by g v (asked r.told) ≡ w2 → r.left ≡ qs2 → r.state ≡ s2
-    → with_rest answers t (then_turns f samples g v bs r rest) ≡ with_rest answers2 t2 (rest at w2 qs2 s2)
-unfolding counted
-turn_here f samples g v bs fs1 r rest t t2 answers answers2 at w2 qs2 s2 comes a b re an ea ew el es =
-    let k : RunSeen = rest (g + r.steps) (waits_by g v (asked r.told)) r.left r.state in
-    let k2 : RunSeen = rest at w2 qs2 s2 in
-    let same : k ≡ k2 =
-    ap₂ (λ (x y : ℕ). rest x y r.left r.state) ea ew ∙ ap₂ (λ (l : List Post) (u : State). rest at w2 l u) el es in
-    let ans = answers_by f samples g v (asked r.told) (g + r.steps) r.instrs r.state in
-    let go : then_turns f samples g v bs r rest ≡ before_turns ans (bs ++ r.frames) r.resumed k = rw comes refl in
-    let fr : frames_seen t.frames.items ++ ((bs ++ r.frames) ++ k.frames) ≡ frames_seen t2.frames.items ++ k.frames =
-    all_frames (frames_seen t.frames.items) bs r.frames k.frames fs1 (frames_seen t2.frames.items) a b in
-    let rs : t.resumed + (r.resumed + k.resumed) ≡ t2.resumed + k.resumed = omega (arith, re) in
-    let ax : answers ++ (ans ++ k.answers) ≡ answers2 ++ k.answers =
-    sym (append_assoc answers ans k.answers) ∙ ap (λ (l : List AnswerSeen). l ++ k.answers) (sym an) in
-    ap (with_rest answers t) go
-    ∙ ap (λ (xs : List AnswerSeen). counted xs (frames_seen t.frames.items ++ ((bs ++ r.frames) ++ k.frames))
-    (t.resumed + (r.resumed + k.resumed))) ax
-    ∙ ap₂ (λ (fs : List (ℕ × FrameSeen)) (j : ℕ). counted (answers2 ++ k.answers) fs j) fr rs
-    ∙ ap (λ (x : RunSeen). with_rest answers2 t2 x) same
-
--- what a turn's tally says of its run
-pub turn_is : (flags flags1 : ℕ) (f : Firmware) (samples : List (List ℕ)) (last g res : ℕ) (posts : List Post)
-    (t1 : Tally) (s1 : State)
-    → flags1 ≡ flags → t1.begun ≡ g → t1.moment ≡ g → t1.inside ≡ false → t1.instrs ≡ 0 → t1.resumed ≡ res
-    → rest_of (turn_form flags1 f samples t1.begun) last posts t1 s1
-    ≡ turned g 0 res (frames_seen t1.frames.items)
-    (run_from (turn_form flags f samples g) (last - g) g false (drop t1.next posts) s1)
-turn_is flags flags1 f samples last g res posts t1 s1 ef eb em ei en er =
-    ap₂ (λ (k b : ℕ). rest_of (turn_form k f samples b) last posts t1 s1) ef eb
-    ∙ ap₂ (λ (m : ℕ) (i : Bool). turned m t1.instrs t1.resumed (frames_seen t1.frames.items)
-    (run_from (turn_form flags f samples g) (last - m) m i (drop t1.next posts) s1)) em ei
-    ∙ ap₂ (λ (n r : ℕ). turned g n r (frames_seen t1.frames.items)
-    (run_from (turn_form flags f samples g) (last - g) g false (drop t1.next posts) s1)) en er
-
--- no turn more
-pub none_left : (flags : ℕ) (f : Firmware) (samples : List (List ℕ)) (last n g w : ℕ) (qs : List Post) (s : State)
-    (t : Tally) (answers : List AnswerSeen) → n ≡ 0
-    → with_rest answers t (turns_from flags f samples last n g w qs s) ≡ counted_at answers t
-unfolding turns_from counted
-none_left flags f samples last zero g w qs s t answers z =
-    let r : t.resumed + 0 ≡ t.resumed = omega arith in
-    ap (λ (xs : List AnswerSeen). counted xs (frames_seen t.frames.items ++ []) (t.resumed + 0)) (append-nil answers)
-    ∙ ap₂ (λ (fs : List (ℕ × FrameSeen)) (k : ℕ). counted answers fs k) (append-nil (frames_seen t.frames.items)) r
-none_left flags f samples last (suc n) g w qs s t answers z = absurd (omega arith)
 
 -- whether no post is left
 pub none_behind : (posts : List Post) (i : ℕ) → i ≡ length posts → is_empty (drop i posts) ≡ true

@@ -92,53 +92,64 @@ no_step g n m inside qs qs2 s t byte i r fs fs2 on te ne =
     let rs = taken_there inside b fs fs2 ef in
     ap (turned m i r fs) (one ∙ two) ∙ cc
 
--- a tally after a boundary and a step
-pub record Passed (t t2 t3 : Tally) (next : Next) : Type 0 where
-  pub moment : t3.moment ≡ t.moment + 1
-  pub inside : t3.inside ≡ is_part next.kind
-  pub instrs : t3.instrs ≡ t.instrs + one_if (not (is_part next.kind))
-  pub resumed : t3.resumed ≡ t.resumed + one_if
-      (t.inside && nat_lt (length (frames_seen t.frames.items)) (length (frames_seen t2.frames.items)))
-  pub frames : t3.frames ≡ t2.frames
-  pub next_is : t3.next ≡ t2.next
+-- What is taken at a boundary makes tally t2 of t, and r is 1 where that is inside an instruction, else 0.
+pub record Takes (t t2 : Tally) (r : ℕ) : Type 0 where
+  pub rest : t2 ≡ record t { next = t2.next; frames = t2.frames; writes = t2.writes }
+  pub resumes : r ≡ one_if
+      (t2.inside && nat_lt (length (frames_seen t.frames.items)) (length (frames_seen t2.frames.items)))
 
-pub passes : (g : TurnForm) (last : ℕ) (posts : List Post) (t t2 t3 : Tally) (s s2 : State) (next : Next)
-    → g.ends t.moment s ≡ false → t.moment < last
+resumed_there : (t t2 : Tally) (r : ℕ) → Takes t t2 r
+    → t2.resumed + r ≡ t.resumed + one_if
+    (t.inside && nat_lt (length (frames_seen t.frames.items)) (length (frames_seen t2.frames.items)))
+resumed_there t t2 r k =
+    ap₂ (λ (x y : ℕ). x + y) (ap (λ (u : Tally). u.resumed) k.rest)
+    (k.resumes ∙ ap (λ (b : Bool). one_if
+    (b && nat_lt (length (frames_seen t.frames.items)) (length (frames_seen t2.frames.items))))
+    (ap (λ (u : Tally). u.inside) k.rest))
+
+-- the tally behind that, and behind a step from there, which is a part of an instruction or ends so many
+abbrev pub behind_takes : Tally → ℕ → Tally
+behind_takes t2 r = record t2 { resumed = t2.resumed + r }
+
+abbrev pub behind_step : Tally → ℕ → Bool → ℕ → Tally
+behind_step t2 r part instrs =
+    record t2 { moment = t2.moment + 1; inside = part; instrs = t2.instrs + instrs; resumed = t2.resumed + r }
+
+pub passes : (g : TurnForm) (last : ℕ) (posts : List Post) (t t2 : Tally) (r instrs : ℕ) (part : Bool) (s s2 : State)
+    (next : Next) → g.ends t.moment s ≡ false → t.moment < last
     → with_frames (frames_seen t.frames.items) (takes g t.moment (drop t.next posts) s)
     ≡ record { state = s2; frames = frames_seen t2.frames.items; left = drop t2.next posts }
-    → next_of g.flags s2 ≡ Ok next → Passed t t2 t3 next → rest_of g last posts t s ≡ rest_of g last posts t3 next.state
-passes g last posts t t2 t3 s s2 next on lt te ne p =
+    → Takes t t2 r → next_of g.flags s2 ≡ Ok next → part ≡ is_part next.kind
+    → instrs ≡ one_if (not (is_part next.kind))
+    → rest_of g last posts t s ≡ rest_of g last posts (behind_step t2 r part instrs) next.state
+passes g last posts t t2 r instrs part s s2 next on lt te k ne part_is instrs_are =
     let m = t.moment in
     let fs = frames_seen t.frames.items in
     let fuel : last - m ≡ suc (last - (m + 1)) = omega arith in
     let a = onward g (last - (m + 1)) m t.inside (drop t.next posts) (drop t2.next posts) s s2 next t.instrs t.resumed
     fs (frames_seen t2.frames.items) on te ne in
-    let moment = p.moment in let inside = p.inside in let instrs = p.instrs in let resumed = p.resumed in
-    let frames = p.frames in let next_is = p.next_is in
-    ap (λ (k : ℕ). turned m t.instrs t.resumed fs (run_from g k m t.inside (drop t.next posts) s)) fuel ∙ a ∙ cc
+    let moment : t2.moment + 1 ≡ t.moment + 1 = ap (λ (u : Tally). u.moment + 1) k.rest in
+    let counted : t2.instrs + instrs ≡ t.instrs + one_if (not (is_part next.kind)) =
+    ap₂ (λ (x y : ℕ). x + y) (ap (λ (u : Tally). u.instrs) k.rest) instrs_are in
+    let resumed = resumed_there t t2 r k in
+    ap (λ (j : ℕ). turned m t.instrs t.resumed fs (run_from g j m t.inside (drop t.next posts) s)) fuel ∙ a ∙ cc
 
-pub record Stops (t t2 t3 : Tally) : Type 0 where
-  pub moment : t3.moment ≡ t.moment
-  pub instrs : t3.instrs ≡ t.instrs
-  pub resumed : t3.resumed ≡ t.resumed + one_if
-      (t.inside && nat_lt (length (frames_seen t.frames.items)) (length (frames_seen t2.frames.items)))
-  pub frames : t3.frames ≡ t2.frames
-  pub next_is : t3.next ≡ t2.next
-
-pub stops : (g : TurnForm) (last : ℕ) (posts : List Post) (t t2 t3 : Tally) (s s2 : State) (byte : ℕ)
+pub stops : (g : TurnForm) (last : ℕ) (posts : List Post) (t t2 : Tally) (r : ℕ) (s s2 : State) (byte : ℕ)
     → g.ends t.moment s ≡ false → t.moment < last
     → with_frames (frames_seen t.frames.items) (takes g t.moment (drop t.next posts) s)
     ≡ record { state = s2; frames = frames_seen t2.frames.items; left = drop t2.next posts }
-    → next_of g.flags s2 ≡ Err byte → Stops t t2 t3 → rest_of g last posts t s ≡ turned_at false posts t3 s2
-stops g last posts t t2 t3 s s2 byte on lt te ne p =
+    → Takes t t2 r → next_of g.flags s2 ≡ Err byte
+    → rest_of g last posts t s ≡ turned_at false posts (behind_takes t2 r) s2
+stops g last posts t t2 r s s2 byte on lt te k ne =
     let m = t.moment in
     let fs = frames_seen t.frames.items in
     let fuel : last - m ≡ suc (last - (m + 1)) = omega arith in
     let a = no_step g (last - (m + 1)) m t.inside (drop t.next posts) (drop t2.next posts) s s2 byte t.instrs t.resumed
     fs (frames_seen t2.frames.items) on te ne in
-    let moment = p.moment in let instrs = p.instrs in let resumed = p.resumed in let frames = p.frames in
-    let next_is = p.next_is in
-    ap (λ (k : ℕ). turned m t.instrs t.resumed fs (run_from g k m t.inside (drop t.next posts) s)) fuel ∙ a ∙ cc
+    let moment : t2.moment ≡ t.moment = ap (λ (u : Tally). u.moment) k.rest in
+    let instrs : t2.instrs ≡ t.instrs = ap (λ (u : Tally). u.instrs) k.rest in
+    let resumed = resumed_there t t2 r k in
+    ap (λ (j : ℕ). turned m t.instrs t.resumed fs (run_from g j m t.inside (drop t.next posts) s)) fuel ∙ a ∙ cc
 
 at_end : (g : TurnForm) (n m : ℕ) (inside : Bool) (qs : List Post) (s : State) → g.ends m s ≡ true
     → run_from g n m inside qs s ≡ ended true qs s

@@ -1,7 +1,7 @@
 use Rattle.std.proofs.Common.{◌≡◌, ◌-◌, ◌∙◌, ℕ, suc, map, drop, ap₂, sym, arith}
 use Rattle.posted_runs.specs.Runs.{input_bytes, answer_seen, turns_from}
 use Rattle.posted_runs.specs.Tallies.{with_rest}
-use Rattle.posted_runs.proofs.Running.{none_left}
+use Rattle.posted_runs.proofs.NextTurns.{none_left}
 use Rattle.posted_runs.proofs.turns.run_turns.Goals as goal
 
 pub returns-then-not-next_turn : goal.returns-then-not-next_turn
