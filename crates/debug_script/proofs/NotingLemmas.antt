@@ -175,15 +175,15 @@ stops_there marks old there kept long notes =
     (ap (λ (l : List (Option ℕ)). any_changed l (bytes_here there)) kept
     ∙ watched_differ marks.watches (bytes_here old) (bytes_here there) old.noted long notes)
 
--- and where it notes the bytes there, it stays
-pub stops_at_next : (marks : Marks) (old there new : SessionSeen) → there.noted ≡ old.noted
+-- and where it notes the bytes there, what was told stays true
+pub stops_at_next : (marks : Marks) (old there new : SessionSeen) (told : Bool) → there.noted ≡ old.noted
     → length (bytes_here there) ≡ 65536 → new.outlook ≡ there.outlook → NotesBytes marks.watches old
-    → (contains_by (nat_cmp there.outlook.here.state.regs.pc) marks.breaks || any_changed there.noted
+    → told ≡ (contains_by (nat_cmp there.outlook.here.state.regs.pc) marks.breaks || any_changed there.noted
     (bytes_here there))
-    ≡ stops marks old.outlook.here new.outlook.here
-stops_at_next marks old there new kept long same notes =
-    stops_there marks old there kept long notes
-    ∙ ap (λ (o : Outlook (RowSeen (List ℕ))). stops marks old.outlook.here o.here) (sym same)
+    → stops marks old.outlook.here new.outlook.here ≡ told
+stops_at_next marks old there new told kept long same notes is =
+    ap (λ (o : Outlook (RowSeen (List ℕ))). stops marks old.outlook.here o.here) same
+    ∙ sym (is ∙ stops_there marks old there kept long notes)
 
 -- at first none is
 pub notes_nothing : (marks : Marks) (s : SessionSeen) → marks ≡ no_marks → s.noted ≡ nothing_noted → NothingIsWatched

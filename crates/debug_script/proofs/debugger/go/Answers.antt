@@ -1,6 +1,5 @@
-use Rattle.std.proofs.Common.{◌≡◌, ◌∙◌, true, false, refl, sym}
-use Rattle.debug_script.specs.Showing.{stops}
-use Rattle.debug_script.proofs.GoingLemmas.{GoesOn, further_place, goes_on, leads_more, stopped_place}
+use Rattle.std.proofs.Common.{◌∙◌, refl, sym}
+use Rattle.debug_script.proofs.GoingLemmas.{further_place, goes_on, leads_more, stopped_place}
 use Rattle.debug_script.proofs.NotingLemmas.{notes_there, stops_at_next}
 use Rattle.debug_script.proofs.debugger.go.Goals as goal
 
@@ -10,20 +9,16 @@ returns-then-stops-clause-place g c =
     let old = c.loop-session.session in
     let there = c.advance.new.self in
     let new = c.note.new.self in
-    let e : GoesOn old new = goes_on old there new (c.loop-session-test.ensures.goes refl) c.note.ensures.outlook in
-    let is : stops marks old.outlook.here new.outlook.here ≡ true =
-    sym (stops_at_next marks old there new c.loop-session-test.ensures.noted c.has_all_bytes.ensures
-    c.note.ensures.outlook
-    c.loop-session.invariant.notes)
-    ∙ sym c.is_stopped-stops.ensures ∙ c.if-stops.true in
+    let e = goes_on old there new (c.loop-session-test.ensures.goes refl) c.note.ensures.outlook in
+    let is = stops_at_next marks old there new _ c.loop-session-test.ensures.noted c.has_all_bytes.ensures
+    c.note.ensures.outlook c.loop-session.invariant.notes c.is_stopped-stops.ensures ∙ c.if-stops.true in
     sym (stopped_place marks old new e is) ∙ c.loop-session.invariant.place
 
 pub returns-then-stops-clause-leads : goal.returns-then-stops-clause-leads
 returns-then-stops-clause-leads g c =
     let old = c.loop-session.session in
     let new = c.note.new.self in
-    let e : GoesOn old new =
-    goes_on old c.advance.new.self new (c.loop-session-test.ensures.goes refl) c.note.ensures.outlook in
+    let e = goes_on old c.advance.new.self new (c.loop-session-test.ensures.goes refl) c.note.ensures.outlook in
     leads_more c.args.session.now old new e c.loop-session.invariant.leads
 
 pub returns-then-stops-clause-notes : goal.returns-then-stops-clause-notes
@@ -38,12 +33,9 @@ loop-session-preserved g c =
     let old = c.loop-session.session in
     let there = c.advance.new.self in
     let new = c.note.new.self in
-    let e : GoesOn old new = goes_on old there new (c.loop-session-test.ensures.goes refl) c.note.ensures.outlook in
-    let off : stops marks old.outlook.here new.outlook.here ≡ false =
-    sym (stops_at_next marks old there new c.loop-session-test.ensures.noted c.has_all_bytes.ensures
-    c.note.ensures.outlook
-    c.loop-session.invariant.notes)
-    ∙ sym c.is_stopped-stops.ensures ∙ c.if-stops.false in
+    let e = goes_on old there new (c.loop-session-test.ensures.goes refl) c.note.ensures.outlook in
+    let off = stops_at_next marks old there new _ c.loop-session-test.ensures.noted c.has_all_bytes.ensures
+    c.note.ensures.outlook c.loop-session.invariant.notes c.is_stopped-stops.ensures ∙ c.if-stops.false in
     record {
       place = sym (further_place marks old new e off) ∙ c.loop-session.invariant.place;
       leads = leads_more c.args.session.now old new e c.loop-session.invariant.leads;
