@@ -1,10 +1,11 @@
 -- The way of a handler to its RTI, by its next step.
-use Rattle.std.proofs.Common.{◌≡◌, ℕ, zero, suc, ◌-◌, ◌<◌, true, false, Ok, Err, get_or, refl, arith}
+use Rattle.std.proofs.Common.{◌≡◌, ◌∙◌, ℕ, zero, suc, ◌+◌, ◌-◌, ◌<◌, true, false, Ok, Err, get_or, refl, sym, ap, arith}
 use Rattle.std.specs.Prelude.{◌==◌}
 use Rattle.std.proofs.lemmas.Bool.Decides.{nat_tests}
+use Rattle.cpu12_isa.specs.declared.instr.Regs.{Regs}
 use Rattle.cpu12_parts.specs.State.{State}
 use Rattle.cpu12_emul.specs.Step.{Next, next_of}
-use Rattle.handler_check.specs.Running.{one_step, until_rti}
+use Rattle.handler_check.specs.Running.{Returned, one_step, until_rti}
 
 is_rti : (v : ℕ) → v ≡ 11 → (v == 11) ≡ true
 is_rti v e = grind (arith, nat_tests)
@@ -12,21 +13,32 @@ is_rti v e = grind (arith, nat_tests)
 not_rti : (v : ℕ) → (v ≡ 11 → ⊥) → (v == 11) ≡ false
 not_rti v e = grind (arith, nat_tests)
 
-pub back_now : (flags n : ℕ) (s : State) (next : Next) → 0 < n → next_of flags s ≡ Ok next
-    → get_or s.mem s.regs.pc 0 ≡ 11
-    → until_rti flags n s ≡ record { state = next.state; steps = 1; done = true }
-unfolding until_rti
-back_now flags zero s next l o b = absurd (omega arith)
-back_now flags (suc n) s next l o b = let t = is_rti (get_or s.mem s.regs.pc 0) b in rw (o, t) refl
+-- What is left of the way, by the step that is done: its byte was read at PC, with the registers before it.
+module _ (flags n : ℕ) (s : State) (next : Next) (regs : Regs) (byte : ℕ) (some : 0 < n)
+    (goes : next_of flags s ≡ Ok next) (before : regs ≡ s.regs) (read : byte ≡ get_or s.mem regs.pc 0) where
+  stands : byte ≡ get_or s.mem s.regs.pc 0
+  stands = read ∙ ap (λ (r : Regs). get_or s.mem r.pc 0) before
 
-pub back_later : (flags n : ℕ) (s : State) (next : Next) → 0 < n → next_of flags s ≡ Ok next
-    → (get_or s.mem s.regs.pc 0 ≡ 11 → ⊥)
-    → until_rti flags n s ≡ one_step (until_rti flags (n - 1) next.state)
-unfolding until_rti
-back_later flags zero s next l o b = absurd (omega arith)
-back_later flags (suc n) s next l o b = let t = not_rti (get_or s.mem s.regs.pc 0) b in
-    let m : suc n - 1 ≡ n = omega arith in rw (o, t, m) refl
+  -- an RTI ends it
+  pub back_now : byte ≡ 11 → until_rti flags n s ≡ record { state = next.state; steps = 1; done = true }
+  unfolding until_rti
+  back_now is = by n some
+    where
+      by : (n : ℕ) → 0 < n → until_rti flags n s ≡ record { state = next.state; steps = 1; done = true }
+      by zero l = absurd (omega arith)
+      by (suc n) l = let t = is_rti (get_or s.mem s.regs.pc 0) (sym stands ∙ is) in rw (goes, t) refl
 
+  -- and else it goes on
+  pub back_later : (byte ≡ 11 → ⊥) → until_rti flags n s ≡ one_step (until_rti flags (n - 1) next.state)
+  unfolding until_rti
+  back_later not = by n some
+    where
+      by : (n : ℕ) → 0 < n → until_rti flags n s ≡ one_step (until_rti flags (n - 1) next.state)
+      by zero l = absurd (omega arith)
+      by (suc n) l = let t = not_rti (get_or s.mem s.regs.pc 0) (λ e. not (stands ∙ e)) in
+          let m : suc n - 1 ≡ n = omega arith in rw (goes, t, m) refl
+
+-- no step is defined, or none is left
 pub back_never : (flags n : ℕ) (s : State) (byte : ℕ) → next_of flags s ≡ Err byte
     → until_rti flags n s ≡ record { state = s; steps = 0; done = false }
 unfolding until_rti
@@ -37,3 +49,16 @@ pub back_spent : (flags n : ℕ) (s : State) → n ≡ 0 → until_rti flags n s
 unfolding until_rti
 back_spent flags zero s z = refl
 back_spent flags (suc n) s z = absurd (omega arith)
+
+-- what is left leads to a state, in so many steps with those that were done
+pub record Leads (done : ℕ) (left : Returned) (state : State) (steps : ℕ) : Type 0 where
+  pub ends : left.state ≡ state
+  pub counts : done + left.steps ≡ steps
+
+-- so it does where it is known
+pub leads_by : (done : ℕ) (left known : Returned) (state : State) (steps : ℕ) → left ≡ known → left.state ≡ state
+    → done + left.steps ≡ steps → Leads done known state steps
+leads_by done left known state steps is ends counts = record {
+  ends = sym (ap (λ (r : Returned). r.state) is) ∙ ends;
+  counts = ap (λ (r : Returned). done + r.steps) (sym is) ∙ counts;
+}
