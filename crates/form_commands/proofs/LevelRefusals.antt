@@ -13,6 +13,7 @@ use Rattle.fz_status.specs.Refusals.{IsRefusal, of_fast}
 use Rattle.fz_status.specs.declared.status.FastFault.TheVariants as told
 use Rattle.fz_status.specs.declared.status.Status.{Status}
 use Rattle.fz_status.specs.declared.status.Status.TheVariants as status
+use Rattle.build_commands.proofs.Algebra.{refused}
 use Rattle.run_reports.specs.Inputs.{trace_refusals}
 use Rattle.form_commands.specs.LevelRun.{AcceptsCerts, LevelFiles, SpellTraces}
 use Rattle.form_commands.specs.Lrun.{certs_refusals, level_input_refusals, level_sample_refusals, levels_refusals}
@@ -55,16 +56,24 @@ module _ (files : LevelFiles) (slow fast : Block) where
   by_samples errors fast_errors accept (status.Fast (told.Cert f)) r = absurd r
   by_samples errors fast_errors accept s r = (errors, fast_errors, accept, r)
 
+-- each reading's refusals are the command's
 module _ (files : LevelFiles) where
-  pub by_two : (s : Status) → two_refusals files.slow files.fast s → lrun_refusals files s
+  by_two : (s : Status) → two_refusals files.slow files.fast s → lrun_refusals files s
   by_two (status.Fcl f) r = r
   by_two (status.Fast (told.Fcl f)) r = r
   by_two s r = absurd r
 
+  pub two_refused : (s : Status) → IsRefusal (two_refusals files.slow files.fast) s → IsRefusal (lrun_refusals files) s
+  two_refused = refused (two_refusals files.slow files.fast) (lrun_refusals files) by_two
+
   module _ (slow fast : Block) (two : Two) (gives : GivesTwo files.slow files.fast slow fast two) where
-    pub by_image : (s : Status) → image_refusals files.image two.image s → lrun_refusals files s
+    by_image : (s : Status) → image_refusals files.image two.image s → lrun_refusals files s
     by_image (status.Image f) r = (slow, fast, two, gives, r)
     by_image s r = absurd r
+
+    pub image_refused : (s : Status) → IsRefusal (image_refusals files.image two.image) s
+        → IsRefusal (lrun_refusals files) s
+    image_refused = refused (image_refusals files.image two.image) (lrun_refusals files) by_image
 
     module _ (image : GivesImage files.image two.image) where
       by_inputs : (s : Status) → level_input_refusals files slow fast s → lrun_refusals files s
@@ -73,17 +82,22 @@ module _ (files : LevelFiles) where
       by_inputs (status.Image f) r = absurd r.3
       by_inputs s r = (slow, fast, two, gives, (image, r))
 
-      pub certs_refused : (s : Status) → certs_refusals files slow fast s → lrun_refusals files s
-      certs_refused s r = by_inputs s (by_certs files slow fast s r)
+      pub certs_refused : (s : Status) → IsRefusal (certs_refusals files slow fast) s
+          → IsRefusal (lrun_refusals files) s
+      certs_refused = refused (certs_refusals files slow fast) (lrun_refusals files)
+          (λ s r. by_inputs s (by_certs files slow fast s r))
 
       module _ (errors fast_errors : List ℕ) (accept : AcceptsCerts files slow fast errors fast_errors) where
-        pub traces_refused : (s : Status) → traces_refusals files slow fast s → lrun_refusals files s
-        traces_refused s r =
-            by_inputs s (by_samples files slow fast errors fast_errors accept s (by_traces files slow fast s r))
+        pub traces_refused : (s : Status) → IsRefusal (traces_refusals files slow fast) s
+            → IsRefusal (lrun_refusals files) s
+        traces_refused = refused (traces_refusals files slow fast) (lrun_refusals files)
+            (λ s r. by_inputs s (by_samples files slow fast errors fast_errors accept s
+            (by_traces files slow fast s r)))
 
         pub levels_refused : (samples fast_samples : List Sample)
             → SpellTraces files slow fast samples fast_samples → (s : Status)
-            → levels_refusals (length fast_samples) files.levels s → lrun_refusals files s
-        levels_refused samples fast_samples spell s r =
-            by_inputs s (by_samples files slow fast errors fast_errors accept s
-            (by_levels files slow fast samples fast_samples spell s r))
+            → IsRefusal (levels_refusals (length fast_samples) files.levels) s → IsRefusal (lrun_refusals files) s
+        levels_refused samples fast_samples spell =
+            refused (levels_refusals (length fast_samples) files.levels) (lrun_refusals files)
+            (λ s r. by_inputs s (by_samples files slow fast errors fast_errors accept s
+            (by_levels files slow fast samples fast_samples spell s r)))
