@@ -187,7 +187,8 @@ room_of words f0 f1 k0 k1 a0 a1 t0 e0 output made command contents ready =
     (Ok output) made.is made.whole.held made.outcome) in
     (subst (λ (f : Names). FileFits words output.file f) (sym made.files) room.0, room.1)
 
-known_there : (files : Names) (ns : List Text) (cs : List (List ℕ)) → AreKnown files ns cs → AreThere files ns
+-- files that the shelf tells are there
+pub known_there : (files : Names) (ns : List Text) (cs : List (List ℕ)) → AreKnown files ns cs → AreThere files ns
 known_there files [] [] known = tt
 known_there files [] (c ∷ cs) known = absurd known
 known_there files (n ∷ ns) [] known = absurd known
@@ -234,9 +235,6 @@ module _ (words : List Text) (old new : World) (command : Command) (contents : L
       → IsMade (Makes command contents) s ⊎ (s ≡ status.Memory)
   completes s runs no_read no_write =
       ⊎_elim inl (⊎_elim inr (⊎_elim (λ r. absurd (no_read r)) (λ w. absurd (no_write w)))) (settles s runs)
-
-  pub there : AreThere old.files (names_at words (inputs_of command))
-  there = known_there old.files (names_at words (inputs_of command)) contents known
 
 -- ---- what can be done is done
 
