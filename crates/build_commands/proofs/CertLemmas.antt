@@ -23,8 +23,6 @@ use Rattle.cert_check.specs.Faults.{IsPairFault, bad_rule, fails, HasTreeFault, 
 use Rattle.cert_check.specs.Faults.{outputs, tree, claimed}
 use Rattle.cert_check.specs.Laws.{TextAnswersAreOne}
 use Rattle.cert_check.specs.TextFaults.{HasTextFault, of_text, of_cert}
-use Rattle.fuzzy_meaning.specs.SameBlocks.{IsSameBlock}
-use Rattle.cert_check.specs.SameBlocks.{SameBlocksAnswerAlike}
 use Rattle.build_commands.specs.Certs.{AcceptsCert, HasCertFault, cert_refusals, version, status_of}
 use Rattle.fz_status.specs.Refusals.{IsRefusal}
 use Rattle.fz_status.specs.declared.status.CertRefusal.{CertRefusal}
@@ -44,12 +42,10 @@ has_refusal : (width : Width) (block : Block) (text : List ℕ) (f : CertRefusal
 has_refusal width block text (told.Text f) h = h
 has_refusal width block text (told.Check f) h = h
 
-pub cert_apart : TextAnswersAreOne → SameBlocksAnswerAlike → (width : Width) (text errors : List ℕ)
-    (block other : Block) → IsValid block → IsSameBlock other block
-    → AcceptsCert width block text errors → (f : CertRefusal) → HasCertFault width other text f → ⊥
-cert_apart answers alike width text errors block other valid blocks accepts f fault =
-    let refused = alike other block (parts width) (version width) text (Err (refusal_of f)) blocks
-    (has_refusal width other text f fault) in
+pub cert_apart : TextAnswersAreOne → (width : Width) (text errors : List ℕ) (block : Block) → IsValid block
+    → AcceptsCert width block text errors → (f : CertRefusal) → HasCertFault width block text f → ⊥
+cert_apart answers width text errors block valid accepts f fault =
+    let refused = has_refusal width block text f fault in
     let same : Ok errors ≡ Err (refusal_of f) =
     answers block (parts width) (version width) text (Ok errors) (Err (refusal_of f)) valid
     (few_versions width) accepts refused in

@@ -1,7 +1,6 @@
 -- The commands `certify FCL TARGET OUT` and `certify16 FCL TARGET OUT`.
 use Rattle.std.specs.Prelude.{◌≡◌, ◌≤◌, ℕ, List, [], ◌∷◌, ◌++◌, All, codes, Option, Some, option_map, Result, Ok, Err}
 use Rattle.fuzzy_meaning.specs.Blocks.{IsValid}
-use Rattle.fuzzy_meaning.specs.SameBlocks.{IsSameBlock}
 use Rattle.fuzzy_meaning.specs.declared.block.Block.{Block}
 use Rattle.eval_code.specs.Widths.{parts}
 use Rattle.codegen.specs.declared.firmware.Firmware.{Firmware}
@@ -75,9 +74,8 @@ abbrev pub CertifyMakes : Certify → List ℕ → Result SeenOutput Status → 
 CertifyMakes certify text (Ok output) = CertifyGives certify text output
 CertifyMakes certify text (Err s) = Refuses (certify_refusals certify text) s
 
--- halving does not stop at a block that is the same as one with a certificate of it
+-- halving does not stop at a block with a certificate of it
 abbrev pub HalvedBlocksDoNotStop : Type 0
 HalvedBlocksDoNotStop =
-    (width : Width) (target : ℕ) (block other : Block) (cert : Cert) (stop : NotReached)
-    → IsValid block → IsSameBlock other block
-    → IsHalving block (parts width) target cert → StopsHalving width target other stop → ⊥
+    (width : Width) (target : ℕ) (block : Block) (cert : Cert) (stop : NotReached) → IsValid block
+    → IsHalving block (parts width) target cert → StopsHalving width target block stop → ⊥

@@ -19,7 +19,7 @@ use crate::lines::{labelled, push_errors};
 use crate::output::Output;
 use crate::words::{Number, number_in};
 use box_tree::{Cert, Node};
-use error_certifier::{NotReached, answers_are_one, same_blocks_stop_alike};
+use error_certifier::{NotReached, answers_are_one};
 use eval_code::Width;
 use fcl_check::spelled_blocks_are_one;
 use fuzzy_meaning::Block;
@@ -128,11 +128,10 @@ fn lines(alloc: Global, cert: &Cert) -> Result<Vec<String>, AllocError>
     Ok(lines)
 }
 
-/// Halving does not stop at a block that is the same as one with a certificate of it.
+/// Halving does not stop at a block with a certificate of it.
 pub fn halved_blocks_do_not_stop()
     ensures { HalvedBlocksDoNotStop }
 {
-    same_blocks_stop_alike();
     answers_are_one()
 }
 

@@ -5,9 +5,7 @@ ghost use Rattle.cert_check.specs.declared.text.TextFault.{TextFault as TheRefus
 ghost use Rattle.build_commands.specs.Certs.{AcceptedCertsHaveNoFault, AcceptsCert, cert_refusals, status_of};
 ghost use Rattle.fz_status.specs.Refusals.{IsRefusal};
 
-use cert_check::{
-    TextFault as Refusal, check_text, check_text16, same_blocks_answer_alike, text_answers_are_one,
-};
+use cert_check::{TextFault as Refusal, check_text, check_text16, text_answers_are_one};
 use eval_code::Width;
 use fcl_check::spelled_blocks_are_one;
 use fuzzy_meaning::Block;
@@ -52,6 +50,5 @@ pub fn accepted_certs_have_no_fault()
     ensures { AcceptedCertsHaveNoFault }
 {
     spelled_blocks_are_one();
-    same_blocks_answer_alike();
     text_answers_are_one()
 }

@@ -11,7 +11,7 @@ use fcl_check::{LoadFault, load, load_faults_are_one, spelled_blocks_are_one};
 use fcl_syntax::{SyntaxFault, first_faults_are_one, parse};
 use fuzzy_meaning::Block;
 use fz_status::{FclFault, Status};
-use rule_layout::{LayoutFault, layouts_are_one, limits_have_no_fault, spread};
+use rule_layout::{LayoutFault, limits_have_no_fault, spread};
 use std::alloc::Global;
 use watched_code::compile_scrub;
 
@@ -112,6 +112,5 @@ pub fn spelled_texts_have_no_fault()
     first_faults_are_one();
     load_faults_are_one();
     spelled_blocks_are_one();
-    layouts_are_one();
     limits_have_no_fault()
 }

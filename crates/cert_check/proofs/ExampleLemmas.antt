@@ -1,15 +1,13 @@
 -- Certificates that are accepted.
-use Rattle.std.proofs.Common.{◌≡◌, ℕ, zero, suc, ◌-◌, ◌≤◌, List, [], ◌∷◌, Some, None, refl, subst, arith, rules}
+use Rattle.std.proofs.Common.{◌≡◌, ℕ, zero, suc, ◌-◌, ◌≤◌, List, [], ◌∷◌, Some, None, refl, subst, arith}
 use Rattle.std.specs.Prelude.{slice_get, All, IsTrue, pos}
-use Rattle.std.specs.Global.{Box}
 use Rattle.fz_num.specs.Fractions.{over, AtMost}
 use Rattle.fuzzy_meaning.specs.declared.block.Block.{Block}
 use Rattle.fuzzy_meaning.specs.declared.block.Output.{Output}
 use Rattle.fuzzy_meaning.specs.declared.block.Rule.{Rule}
 use Rattle.fuzzy_meaning.specs.Rules.{concludes}
-use Rattle.fuzzy_meaning.specs.Conditions.{is, negation, condition_of}
+use Rattle.fuzzy_meaning.specs.Conditions.{is, negation}
 use Rattle.fuzzy_meaning.specs.Blocks.{IsValid, output_at}
-use Rattle.fuzzy_meaning.specs.declared.block.Cond.{Cond, Is, Not', the_lemmas}
 use Rattle.fuzzy_meaning.specs.Examples.{dec, heater, latch, ExamplesAreValid}
 use Rattle.error_bound.specs.declared.boxes.Interval.{Interval}
 use Rattle.error_bound.specs.declared.boxes.Leaf as the
@@ -23,12 +21,6 @@ use Rattle.cert_check.specs.Trees.{Part, IsTree, leaf, split, whole}
 use Rattle.cert_check.specs.Acceptance.{HasBound, IsGreatestBound, IsAccepted}
 use Rattle.cert_check.specs.Examples.{leaf_node, heater_cert, latch_cert, ExamplesAreAccepted}
 use Rattle.fz_list.proofs.Algebra.{All-cons, All-none}
-
-condition_of-Is : (i t : ℕ) → condition_of (Is i t) ≡ is i t
-condition_of-Is i t = search (rules, the_lemmas)
-
-condition_of-Not : (p : Box (Unit {0})) (c : Cond) → condition_of (Not' p c) ≡ negation (condition_of c)
-condition_of-Not p c = search (rules, the_lemmas)
 
 abbrev pair : ℕ → ℕ → the.Leaf
 pair r k = record { rule = r; k = k }
@@ -50,10 +42,10 @@ heater_tree = split (whole heater) 1 128 (leaf_node 1 127 ∷ leaf_node 2 127 �
     (leaf hot_box (record { items = (2, 127) ∷ [] }) [])
 
 abbrev cold_rule : Rule
-cold_rule = record { cond = Is 1 1; weight = None; concl = (1, 1) ∷ [] }
+cold_rule = record { cond = is 1 1; weight = None; concl = (1, 1) ∷ [] }
 
 abbrev hot_rule : Rule
-hot_rule = record { cond = Is 1 2; weight = None; concl = (1, 2) ∷ [] }
+hot_rule = record { cond = is 1 2; weight = None; concl = (1, 2) ∷ [] }
 
 abbrev power : Output
 power = record {
@@ -65,10 +57,10 @@ power = record {
 }
 
 cold_low : AtMost (over 127 255) (rule_span heater cold_box cold_rule).low
-cold_low = rw (condition_of-Is 1 1) (record { cross = omega arith })
+cold_low = (record { cross = omega arith })
 
 cold_byte_low : 1 ≤ (rule_byte_span heater cold_box cold_rule).low
-cold_byte_low = rw (condition_of-Is 1 1) (omega arith)
+cold_byte_low = (omega arith)
 
 cold_strong : IsStrong heater cold_box 1 cold_rule 127
 cold_strong = record { term = 1; concludes_it = refl; low = cold_low; byte_low = cold_byte_low }
@@ -83,25 +75,25 @@ box_valid f t h k = record { some = at f t h k }
     at f t h k (suc n) v e = absurd (let z : ⊥ = cc in z)
 
 cold_bound : 19609 ≡ bound heater (term_errors heater cold_box) 1 power 1 (pair 1 127)
-cold_bound = rw (condition_of-Is 1 1, condition_of-Is 1 2) refl
+cold_bound = refl
 
 cold_wide_bound : 15702 ≡ bound heater (term_errors heater cold_box) 1 power 256 (pair 1 127)
-cold_wide_bound = rw (condition_of-Is 1 1, condition_of-Is 1 2) refl
+cold_wide_bound = refl
 
 hot_low : AtMost (over 127 255) (rule_span heater hot_box hot_rule).low
-hot_low = rw (condition_of-Is 1 2) (record { cross = omega arith })
+hot_low = (record { cross = omega arith })
 
 hot_byte_low : 1 ≤ (rule_byte_span heater hot_box hot_rule).low
-hot_byte_low = rw (condition_of-Is 1 2) (omega arith)
+hot_byte_low = (omega arith)
 
 hot_strong : IsStrong heater hot_box 1 hot_rule 127
 hot_strong = record { term = 2; concludes_it = refl; low = hot_low; byte_low = hot_byte_low }
 
 hot_bound : 19609 ≡ bound heater (term_errors heater hot_box) 1 power 1 (pair 2 127)
-hot_bound = rw (condition_of-Is 1 1, condition_of-Is 1 2) refl
+hot_bound = refl
 
 hot_wide_bound : 15702 ≡ bound heater (term_errors heater hot_box) 1 power 256 (pair 2 127)
-hot_wide_bound = rw (condition_of-Is 1 1, condition_of-Is 1 2) refl
+hot_wide_bound = refl
 
 bound_of : TermErrorsAre → (b : Block) (box : List Interval) (o : ℕ) (x : Output) (h : ℕ) (l : the.Leaf) (n : ℕ)
     → IsValid b → IsBox box → n ≡ bound b (term_errors b box) o x h l → IsBound b box o x h l n
@@ -213,66 +205,63 @@ keeper = record {
   default = None;
 }
 
-abbrev on_rule : Box (Unit {0}) → Rule
-on_rule p = record { cond = Not' p (Is 1 1); weight = None; concl = (1, 2) ∷ [] }
+abbrev on_rule : Rule
+on_rule = record { cond = negation (is 1 1); weight = None; concl = (1, 2) ∷ [] }
 
 abbrev off_rule : Rule
-off_rule = record { cond = Is 1 2; weight = None; concl = (1, 1) ∷ [] }
+off_rule = record { cond = is 1 2; weight = None; concl = (1, 1) ∷ [] }
 
 abbrev span_of : ℕ → ℕ → List Interval
 span_of f t = record { from = f; to = t } ∷ []
 
-on_strong : (p : Box (Unit {0})) → IsStrong (latch p) (span_of 0 63) 1 (on_rule p) 255
-on_strong p = record { term = 2; concludes_it = refl; low = on_low p; byte_low = on_byte_low p }
+on_strong : IsStrong latch (span_of 0 63) 1 on_rule 255
+on_strong = record { term = 2; concludes_it = refl; low = on_low; byte_low = on_byte_low }
   where
-    on_low : (p : Box (Unit {0})) → AtMost (over 255 255) (rule_span (latch p) (span_of 0 63) (on_rule p)).low
-    on_low p = rw (condition_of-Not p (Is 1 1), condition_of-Is 1 1) (record { cross = omega arith })
+    on_low : AtMost (over 255 255) (rule_span latch (span_of 0 63) on_rule).low
+    on_low = (record { cross = omega arith })
 
-    on_byte_low : (p : Box (Unit {0})) → 1 ≤ (rule_byte_span (latch p) (span_of 0 63) (on_rule p)).low
-    on_byte_low p = rw (condition_of-Not p (Is 1 1), condition_of-Is 1 1) (omega arith)
+    on_byte_low : 1 ≤ (rule_byte_span latch (span_of 0 63) on_rule).low
+    on_byte_low = (omega arith)
 
-off_strong : (p : Box (Unit {0})) → IsStrong (latch p) (span_of 192 255) 1 off_rule 255
-off_strong p = record { term = 1; concludes_it = refl; low = off_low p; byte_low = off_byte_low p }
+off_strong : IsStrong latch (span_of 192 255) 1 off_rule 255
+off_strong = record { term = 1; concludes_it = refl; low = off_low; byte_low = off_byte_low }
   where
-    off_low : (p : Box (Unit {0})) → AtMost (over 255 255) (rule_span (latch p) (span_of 192 255) off_rule).low
-    off_low p = rw (condition_of-Is 1 2) (record { cross = omega arith })
+    off_low : AtMost (over 255 255) (rule_span latch (span_of 192 255) off_rule).low
+    off_low = (record { cross = omega arith })
 
-    off_byte_low : (p : Box (Unit {0})) → 1 ≤ (rule_byte_span (latch p) (span_of 192 255) off_rule).low
-    off_byte_low p = rw (condition_of-Is 1 2) (omega arith)
+    off_byte_low : 1 ≤ (rule_byte_span latch (span_of 192 255) off_rule).low
+    off_byte_low = (omega arith)
 
 -- between the two, neither fires
-silent_between : (p : Box (Unit {0}))
-    → All (λ r. (t : ℕ) → IsTrue (concludes r 1 t) → IsStill (latch p) (span_of 64 191) r) (latch p).rules
-silent_between p =
-    let P : Rule → Type 0 = λ r. (t : ℕ) → IsTrue (concludes r 1 t) → IsStill (latch p) (span_of 64 191) r in
-    All-cons P (on_rule p) (off_rule ∷ []) (λ t _. record { high = on_high p; byte_high = on_byte_high p })
-    (All-cons P off_rule [] (λ t _. record { high = off_high p; byte_high = off_byte_high p }) (All-none P))
+silent_between : All (λ r. (t : ℕ) → IsTrue (concludes r 1 t) → IsStill latch (span_of 64 191) r) latch.rules
+silent_between =
+    let P : Rule → Type 0 = λ r. (t : ℕ) → IsTrue (concludes r 1 t) → IsStill latch (span_of 64 191) r in
+    All-cons P on_rule (off_rule ∷ []) (λ t _. record { high = on_high; byte_high = on_byte_high })
+    (All-cons P off_rule [] (λ t _. record { high = off_high; byte_high = off_byte_high }) (All-none P))
   where
-    on_high : (p : Box (Unit {0})) → (rule_span (latch p) (span_of 64 191) (on_rule p)).high.num ≡ 0
-    on_high p = rw (condition_of-Not p (Is 1 1), condition_of-Is 1 1) refl
+    on_high : (rule_span latch (span_of 64 191) on_rule).high.num ≡ 0
+    on_high = refl
 
-    on_byte_high : (p : Box (Unit {0})) → (rule_byte_span (latch p) (span_of 64 191) (on_rule p)).high ≡ 0
-    on_byte_high p = rw (condition_of-Not p (Is 1 1), condition_of-Is 1 1) refl
+    on_byte_high : (rule_byte_span latch (span_of 64 191) on_rule).high ≡ 0
+    on_byte_high = refl
 
-    off_high : (p : Box (Unit {0})) → (rule_span (latch p) (span_of 64 191) off_rule).high.num ≡ 0
-    off_high p = rw (condition_of-Is 1 2) refl
+    off_high : (rule_span latch (span_of 64 191) off_rule).high.num ≡ 0
+    off_high = refl
 
-    off_byte_high : (p : Box (Unit {0})) → (rule_byte_span (latch p) (span_of 64 191) off_rule).high ≡ 0
-    off_byte_high p = rw (condition_of-Is 1 2) refl
+    off_byte_high : (rule_byte_span latch (span_of 64 191) off_rule).high ≡ 0
+    off_byte_high = refl
 
-on_bound : (p : Box (Unit {0})) → 3922 ≡ bound (latch p) (term_errors (latch p) (span_of 0 63)) 1 keeper 1 (pair 1 255)
-on_bound p = rw (condition_of-Not p (Is 1 1), condition_of-Is 1 1, condition_of-Is 1 2) refl
+on_bound : 3922 ≡ bound latch (term_errors latch (span_of 0 63)) 1 keeper 1 (pair 1 255)
+on_bound = refl
 
-off_bound : (p : Box (Unit {0}))
-    → 3922 ≡ bound (latch p) (term_errors (latch p) (span_of 192 255)) 1 keeper 1 (pair 2 255)
-off_bound p = rw (condition_of-Not p (Is 1 1), condition_of-Is 1 1, condition_of-Is 1 2) refl
+off_bound : 3922 ≡ bound latch (term_errors latch (span_of 192 255)) 1 keeper 1 (pair 2 255)
+off_bound = refl
 
 abbrev part : ℕ → ℕ → ℕ → ℕ → Part
 part f t r k = record { box = span_of f t; pairs = pair r k ∷ [] }
 
-latch_tree : (p : Box (Unit {0}))
-    → IsTree (whole (latch p)) latch_cert.nodes (part 0 63 1 255 ∷ part 64 191 0 0 ∷ part 192 255 2 255 ∷ []) []
-latch_tree p = split (span_of 0 255) 1 64 (leaf_node 1 255 ∷ Split 1 192 ∷ leaf_node 0 0 ∷ leaf_node 2 255 ∷ [])
+latch_tree : IsTree (whole latch) latch_cert.nodes (part 0 63 1 255 ∷ part 64 191 0 0 ∷ part 192 255 2 255 ∷ []) []
+latch_tree = split (span_of 0 255) 1 64 (leaf_node 1 255 ∷ Split 1 192 ∷ leaf_node 0 0 ∷ leaf_node 2 255 ∷ [])
     (Split 1 192 ∷ leaf_node 0 0 ∷ leaf_node 2 255 ∷ []) [] (part 0 63 1 255 ∷ [])
     (part 64 191 0 0 ∷ part 192 255 2 255 ∷ []) (omega arith) (omega arith, omega arith)
     (leaf (span_of 0 63) (record { items = (1, 255) ∷ [] }) (Split 1 192 ∷ leaf_node 0 0 ∷ leaf_node 2 255 ∷ []))
@@ -281,38 +270,38 @@ latch_tree p = split (span_of 0 255) 1 64 (leaf_node 1 255 ∷ Split 1 192 ∷ l
     (leaf (span_of 64 191) (record { items = (0, 0) ∷ [] }) (leaf_node 2 255 ∷ []))
     (leaf (span_of 192 255) (record { items = (2, 255) ∷ [] }) []))
 
-latch_greatest : TermErrorsAre → (p : Box (Unit {0})) → IsValid (latch p)
-    → IsGreatestBound (latch p) 1 keeper 1 (part 0 63 1 255 ∷ part 64 191 0 0 ∷ part 192 255 2 255 ∷ []) 3922
-latch_greatest errors p v =
-    let P : Part → Type 0 = λ q. (m : ℕ) × HasBound (latch p) 1 keeper 1 q m × (m ≤ 3922) in
-    let first : HasBound (latch p) 1 keeper 1 (part 0 63 1 255) 3922 =
+latch_greatest : TermErrorsAre → IsValid latch
+    → IsGreatestBound latch 1 keeper 1 (part 0 63 1 255 ∷ part 64 191 0 0 ∷ part 192 255 2 255 ∷ []) 3922
+latch_greatest errors v =
+    let P : Part → Type 0 = λ q. (m : ℕ) × HasBound latch 1 keeper 1 q m × (m ≤ 3922) in
+    let first : HasBound latch 1 keeper 1 (part 0 63 1 255) 3922 =
     record {
       leaf = pair 1 255;
       pair_is = refl;
       holds =
-          strong (on_rule p) (omega arith) (omega arith) (omega arith) refl (on_strong p);
+          strong on_rule (omega arith) (omega arith) (omega arith) refl on_strong;
       bound_is =
-          bound_of errors (latch p) (span_of 0 63) 1 keeper 1 (pair 1 255) 3922 v
-          (box_valid 0 63 (omega arith) (omega arith)) (on_bound p);
+          bound_of errors latch (span_of 0 63) 1 keeper 1 (pair 1 255) 3922 v
+          (box_valid 0 63 (omega arith) (omega arith)) on_bound;
     } in
-    let second : HasBound (latch p) 1 keeper 1 (part 64 191 0 0) 0 =
+    let second : HasBound latch 1 keeper 1 (part 64 191 0 0) 0 =
     record {
       leaf = pair 0 0;
       pair_is = refl;
-      holds = silent refl refl (silent_between p);
+      holds = silent refl refl silent_between;
       bound_is =
-          bound_of errors (latch p) (span_of 64 191) 1 keeper 1 (pair 0 0) 0 v
+          bound_of errors latch (span_of 64 191) 1 keeper 1 (pair 0 0) 0 v
           (box_valid 64 191 (omega arith) (omega arith)) refl;
     } in
-    let third : HasBound (latch p) 1 keeper 1 (part 192 255 2 255) 3922 =
+    let third : HasBound latch 1 keeper 1 (part 192 255 2 255) 3922 =
     record {
       leaf = pair 2 255;
       pair_is = refl;
       holds =
-          strong off_rule (omega arith) (omega arith) (omega arith) refl (off_strong p);
+          strong off_rule (omega arith) (omega arith) (omega arith) refl off_strong;
       bound_is =
-          bound_of errors (latch p) (span_of 192 255) 1 keeper 1 (pair 2 255) 3922 v
-          (box_valid 192 255 (omega arith) (omega arith)) (off_bound p);
+          bound_of errors latch (span_of 192 255) 1 keeper 1 (pair 2 255) 3922 v
+          (box_valid 192 255 (omega arith) (omega arith)) off_bound;
     } in
     record {
       each = All-cons P (part 0 63 1 255) (part 64 191 0 0 ∷ part 192 255 2 255 ∷ []) (3922, first, omega arith)
@@ -321,21 +310,21 @@ latch_greatest errors p v =
       some = (0, part 0 63 1 255, omega arith, refl, first);
     }
 
-latch_accepted : TermErrorsAre → (p : Box (Unit {0})) → IsValid (latch p)
-    → IsAccepted (latch p) 1 latch_cert (3922 ∷ [])
-latch_accepted errors p valid =
+latch_accepted : TermErrorsAre → IsValid latch
+    → IsAccepted latch 1 latch_cert (3922 ∷ [])
+latch_accepted errors valid =
     record {
       claims_count = refl;
       errors_count = refl;
       parts =
           part 0 63 1 255 ∷ part 64 191 0 0 ∷ part 192 255 2 255 ∷ [];
-      tree = latch_tree p;
+      tree = latch_tree;
       greatest =
-          only (latch p) 1 3922 keeper (part 0 63 1 255 ∷ part 64 191 0 0 ∷ part 192 255 2 255 ∷ []) refl
-          (latch_greatest errors p valid);
+          only latch 1 3922 keeper (part 0 63 1 255 ∷ part 64 191 0 0 ∷ part 192 255 2 255 ∷ []) refl
+          (latch_greatest errors valid);
       claimed = claimed_one 3922 3922 (omega arith);
     }
 
 pub examples_accepted : ExamplesAreValid → TermErrorsAre → ExamplesAreAccepted
 examples_accepted valid errors =
-    (heater_accepted errors valid.0, heater_accepted_wide errors valid.0, λ p. latch_accepted errors p (valid.1 p).0)
+    (heater_accepted errors valid.0, heater_accepted_wide errors valid.0, latch_accepted errors valid.1)

@@ -12,6 +12,4 @@ pub mod DriverLemmas
 pub mod TextWalks
 pub mod FaultLemmas
 pub mod FirstFaults
-pub mod SameBlocks
 pub mod BoxLemmas
-pub mod SameLeaves

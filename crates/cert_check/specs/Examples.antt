@@ -1,6 +1,5 @@
 -- Certificates that are accepted.
 use Rattle.std.specs.Prelude.{ℕ, [], ◌∷◌}
-use Rattle.std.specs.Global.{Box}
 use Rattle.fuzzy_meaning.specs.Examples.{heater, latch}
 use Rattle.box_tree.specs.declared.cert.Cert.{Cert}
 use Rattle.box_tree.specs.declared.cert.Node.{Node}
@@ -24,4 +23,4 @@ latch_cert = record {
 abbrev pub ExamplesAreAccepted : Type 0
 ExamplesAreAccepted =
     IsAccepted heater 1 heater_cert (19609 ∷ []) × IsAccepted heater 256 heater_cert (15702 ∷ [])
-    × ((p : Box (Unit {0})) → IsAccepted (latch p) 1 latch_cert (3922 ∷ []))
+    × IsAccepted latch 1 latch_cert (3922 ∷ [])

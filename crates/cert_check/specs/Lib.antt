@@ -4,7 +4,5 @@ pub mod Faults
 pub mod Walks
 pub mod TextFaults
 pub mod Laws
-pub mod SameBlocks
 pub mod Examples
 pub mod BoxLaws
-pub mod SameLeaves

@@ -1,7 +1,6 @@
 //! Laws of the definitions.
 ghost use Rattle.cert_check.specs.Laws.{OneLeafHasTheBytes, AcceptedAnswersAreNear, ErrorsAreDetermined};
 ghost use Rattle.cert_check.specs.Laws.{FaultyCertsFail, WideIsAccepted, CheckFaultsAreOne, TextAnswersAreOne};
-ghost use Rattle.cert_check.specs.SameBlocks.{SameBlocksAnswerAlike};
 ghost use Rattle.cert_check.specs.Examples.{ExamplesAreAccepted};
 
 use box_tree::{cert_texts_have_no_fault, certs_are_one, faults_are_one};
@@ -76,8 +75,3 @@ pub fn text_answers_are_one()
     cert_texts_have_no_fault();
     check_faults_are_one();
 }
-
-/// A text has the same answer for blocks that differ only in where their conditions lie in memory.
-pub fn same_blocks_answer_alike()
-    ensures { SameBlocksAnswerAlike }
-{}

@@ -12,7 +12,6 @@ mod boxes;
 mod checker;
 mod laws;
 mod pairs;
-mod same_leaves;
 mod text;
 mod walk;
 
@@ -21,8 +20,6 @@ pub use boxes::whole_box;
 pub use checker::{CheckFault, check, check16};
 pub use laws::{
     accepted_answers_are_near, check_faults_are_one, errors_are_determined, examples_are_accepted,
-    faulty_certs_fail, one_leaf_has_the_bytes, same_blocks_answer_alike, text_answers_are_one,
-    wide_is_accepted,
+    faulty_certs_fail, one_leaf_has_the_bytes, text_answers_are_one, wide_is_accepted,
 };
-pub use same_leaves::{same_blocks_have_best_leaves, same_blocks_have_bounds};
 pub use text::{TextFault, check_text, check_text16};

@@ -1,5 +1,5 @@
 //! Laws of the forms of firmware.
-ghost use Rattle.codegen.specs.Alike.{FirmwaresAreOne, ImagesAreOne, ItemsAreOne, MailboxesAreOne};
+ghost use Rattle.codegen.specs.Alike.{FirmwaresAreOne, ImagesAreOne, MailboxesAreOne};
 ghost use Rattle.codegen.specs.Answers.{FirmwareAnswers, FirmwareAnswersBeside, FirmwareArrivesAlike, FreeBytesLeave};
 ghost use Rattle.codegen.specs.Calls.{CalledEvalReturns};
 ghost use Rattle.codegen.specs.Frames.{FrameCallsAndLeaves, StartArrives};
@@ -18,7 +18,7 @@ use cpu12_parts::executions::executions_are_one;
 use eval_code::laws::{
     blocks_are_placed, bounds_are_few, code_is_decoded, eval_answers, placed_items_stand,
 };
-use rule_layout::{flat_has_parts, layout_law, layouts_are_one};
+use rule_layout::layout_law;
 
 /// What the laws on the forms of firmware rest on.
 fn lower_laws()
@@ -151,27 +151,17 @@ pub fn uninterrupted_are_one()
     executions_are_one();
 }
 
-/// Blocks that are the same have the same items at a memory map; images of the same items are one.
-pub fn items_are_one()
-    ensures items { ItemsAreOne }
-    ensures images { ImagesAreOne }
-{
-    layouts_are_one();
-    flat_has_parts();
-}
+/// Images of the same items are one.
+pub fn images_are_one()
+    ensures { ImagesAreOne }
+{}
 
-/// Blocks that are the same, wherever their conditions lie in memory, have firmware with one image.
+/// In one width a block has firmware with one image.
 pub fn firmwares_are_one()
     ensures { FirmwaresAreOne }
-{
-    layouts_are_one();
-    flat_has_parts();
-}
+{}
 
-/// And so they have in the mailbox form.
+/// And so it has in the mailbox form.
 pub fn mailboxes_are_one()
     ensures { MailboxesAreOne }
-{
-    layouts_are_one();
-    flat_has_parts();
-}
+{}

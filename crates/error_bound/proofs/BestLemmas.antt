@@ -13,7 +13,7 @@ use Rattle.fuzzy_meaning.specs.declared.block.Output.{Output}
 use Rattle.fuzzy_meaning.specs.declared.block.Rule.{Rule}
 use Rattle.fuzzy_meaning.specs.declared.block.Trapezoid.{Trapezoid}
 use Rattle.fuzzy_meaning.specs.Blocks.{IsValid, IsValidOutput, input_at}
-use Rattle.fuzzy_meaning.specs.Conditions.{Condition, is, negation, all, any, Conditions, end, also, condition_of}
+use Rattle.fuzzy_meaning.specs.Conditions.{Condition, is, negation, all, any, Conditions, end, also}
 use Rattle.fuzzy_meaning.specs.Places.{points_of}
 use Rattle.fuzzy_meaning.specs.Rules.{concludes}
 use Rattle.byte_scaling.specs.Cells.{cell_start, cell_end}
@@ -132,7 +132,7 @@ module _ (b : Block) (box : List Interval) where
 
   rule_ordered : (r : Rule) → IsOrdered (rule_span b box r) (rule_byte_span b box r)
   rule_ordered r =
-      let c = condition_of r.cond in
+      let c = r.cond in
       let h = ordered (literal_span b box) (literal_byte_span b box) (λ i t. by_input i t (input_at b i) refl) c in
       let m = byte_span (literal_byte_span b box) c in
       let v = weight_byte_of r.weight + 1 in

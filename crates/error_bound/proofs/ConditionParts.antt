@@ -1,26 +1,25 @@
 -- The parts of a valid AND or OR are valid.
-use Rattle.std.proofs.Common.{◌≡◌, ℕ, ◌-◌, ◌≤◌, List, length, map, get_or, refl, subst, arith}
+use Rattle.std.proofs.Common.{◌≡◌, ℕ, ◌-◌, ◌≤◌, List, length, get_or, refl, subst, arith}
 use Rattle.fuzzy_meaning.specs.declared.block.Block.{Block}
-use Rattle.fuzzy_meaning.specs.declared.block.Cond.{Cond}
 use Rattle.fuzzy_meaning.specs.Blocks.{IsValidCondition, AreValidConditions, PartsAreValid}
-use Rattle.fuzzy_meaning.specs.Conditions.{condition_of, all, any, conditions}
+use Rattle.fuzzy_meaning.specs.Conditions.{Condition, all, any, conditions}
 use Rattle.error_bound.proofs.ListLemmas.{slice_get-read}
 
 -- an AND
-pub AreValidConditions-all : (b : Block) (c : Cond) (parts : List Cond)
-    → condition_of c ≡ all (conditions (map condition_of parts)) → IsValidCondition b (condition_of c)
-    → AreValidConditions b (conditions (map condition_of parts))
+pub AreValidConditions-all : (b : Block) (c : Condition) (parts : List Condition)
+    → c ≡ all (conditions parts) → IsValidCondition b c
+    → AreValidConditions b (conditions parts)
 AreValidConditions-all b c parts same valid = subst (IsValidCondition b) same valid
 
 -- an OR
-pub AreValidConditions-any : (b : Block) (c : Cond) (parts : List Cond)
-    → condition_of c ≡ any (conditions (map condition_of parts)) → IsValidCondition b (condition_of c)
-    → AreValidConditions b (conditions (map condition_of parts))
+pub AreValidConditions-any : (b : Block) (c : Condition) (parts : List Condition)
+    → c ≡ any (conditions parts) → IsValidCondition b c
+    → AreValidConditions b (conditions parts)
 AreValidConditions-any b c parts same valid = subst (IsValidCondition b) same valid
 
 -- the part number k
-pub IsValidCondition-part : PartsAreValid → (b : Block) (parts : List Cond) (k : ℕ) (part : Cond) → 1 ≤ k
-    → k ≤ length parts → part ≡ get_or parts (k - 1) part → AreValidConditions b (conditions (map condition_of parts))
-    → IsValidCondition b (condition_of part)
+pub IsValidCondition-part : PartsAreValid → (b : Block) (parts : List Condition) (k : ℕ) (part : Condition) → 1 ≤ k
+    → k ≤ length parts → part ≡ get_or parts (k - 1) part → AreValidConditions b (conditions parts)
+    → IsValidCondition b part
 IsValidCondition-part parts_are_valid b parts k part from to is valid =
     parts_are_valid b parts (k - 1) part valid (slice_get-read parts parts (k - 1) part refl (omega arith) is)

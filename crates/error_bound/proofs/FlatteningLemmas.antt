@@ -1,24 +1,19 @@
 -- A flat condition reaches as far as the one that it is made of.
 use Rattle.std.proofs.Common.{◌≡◌, ℕ, zero, suc, ◌+◌, ◌-◌, ◌*◌, ◌<◌, ◌≤◌, max, Bool, true, false, List, [], ◌∷◌, ◌++◌}
-use Rattle.std.proofs.Common.{length, get_or, take, map, Vec, Global, Option, Some, None, refl, sym, ap, ap₂, ◌∙◌}
+use Rattle.std.proofs.Common.{length, get_or, take, Option, Some, None, refl, sym, ap, ap₂, ◌∙◌}
 use Rattle.std.proofs.Common.{subst, arith}
 use mathlib.Core.Bool.{beq}
 use Rattle.std.specs.Prelude.{if◌then◌else◌, nat_le, not, ◌==◌, slice_get}
 use Rattle.std.specs.Option.{option_map_or}
-use Rattle.std.proofs.lemmas.List.{map-append, map_more}
+use Rattle.std.proofs.lemmas.List.{take_more}
 use Rattle.fz_num.specs.Fractions.{Fraction, over, IsProper, AtMost, one}
 use Rattle.fz_num.specs.Decimals.{distance}
 use Rattle.fz_num.proofs.Algebra.{AtMost-refl, IsProper-lesser, IsProper-greater}
 use Rattle.fuzzy_meaning.specs.declared.block.Block.{Block}
-use Rattle.fuzzy_meaning.specs.declared.block.Cond.{Cond}
-use Rattle.fuzzy_meaning.specs.declared.block.Cond.TheVariants.{Is, And, Or, rolls-Is, rolls-And, rolls-Or}
-use Rattle.fuzzy_meaning.specs.declared.block.Cond.TheOpen.{Cond-F}
-use Rattle.fuzzy_meaning.specs.declared.block.Cond.TheFolds.{fold-roll-Cond}
 use Rattle.fuzzy_meaning.specs.declared.block.Input.{Input}
 use Rattle.fuzzy_meaning.specs.declared.block.Trapezoid.{Trapezoid}
 use Rattle.fuzzy_meaning.specs.Blocks.{input_at, IsValidCondition, AreValidConditions, AllValidConditions}
 use Rattle.fuzzy_meaning.specs.Conditions.{Condition, is, negation, all, any, Conditions, end, also, conditions}
-use Rattle.fuzzy_meaning.specs.Conditions.{condition_step, condition_of}
 use Rattle.fuzzy_meaning.specs.Places.{points_of, rise_at, fall_at}
 use Rattle.byte_scaling.specs.Cells.{cell_start, cell_end}
 use Rattle.point_slope.specs.Tables.{row_of, grade_of}
@@ -42,12 +37,6 @@ use Rattle.error_bound.proofs.Values.{greater_greater, lesser_minus, greater_min
 
 -- ---- the code's lists
 
-pub condition_of-And : (v : Vec Cond Global) → condition_of (And v) ≡ all (conditions (map condition_of v.items))
-condition_of-And v = ap condition_of (sym (rolls-And v)) ∙ fold-roll-Cond Condition condition_step (Cond-F.And v)
-
-pub condition_of-Or : (v : Vec Cond Global) → condition_of (Or v) ≡ any (conditions (map condition_of v.items))
-condition_of-Or v = ap condition_of (sym (rolls-Or v)) ∙ fold-roll-Cond Condition condition_step (Cond-F.Or v)
-
 moved : (xs ys zs : List Condition) → (xs ++ ys) ++ zs ≡ xs ++ (ys ++ zs)
 moved [] ys zs = refl
 moved (x ∷ xs) ys zs = ap (λ l. x ∷ l) (moved xs ys zs)
@@ -65,21 +54,21 @@ none_more [] = refl
 none_more (x ∷ xs) = ap (λ l. x ∷ l) (none_more xs)
 
 -- what the parts before place k have come to, behind what was there
-abbrev pub come_to : Bool → Bool → List Condition → List Cond → ℕ → List Condition
-come_to or odd old parts k = old ++ each_pieces or odd (conditions (map condition_of (take k parts)))
+abbrev pub come_to : Bool → Bool → List Condition → List Condition → ℕ → List Condition
+come_to or odd old parts k = old ++ each_pieces or odd (conditions (take k parts))
 
-pub come_to_more : (or odd : Bool) (old : List Condition) (parts : List Cond) (k : ℕ) (p : Cond)
+pub come_to_more : (or odd : Bool) (old : List Condition) (parts : List Condition) (k : ℕ) (p : Condition)
     (now new : List Condition) → k < length parts → p ≡ get_or parts k p → now ≡ come_to or odd old parts k
-    → new ≡ now ++ pieces or odd (condition_of p) → new ≡ come_to or odd old parts (k + 1)
+    → new ≡ now ++ pieces or odd p → new ≡ come_to or odd old parts (k + 1)
 come_to_more or odd old parts k p now new lt at before made =
-    let before_k = map condition_of (take k parts) in
-    let here : map condition_of (take (k + 1) parts) ≡ before_k ++ condition_of p ∷ [] =
-    map_more condition_of parts k p lt ∙ ap (λ (q : Cond). before_k ++ condition_of q ∷ []) (sym at) in
-    made ∙ ap (λ xs. xs ++ pieces or odd (condition_of p)) before
-    ∙ moved old (each_pieces or odd (conditions before_k)) (pieces or odd (condition_of p))
+    let before_k = take k parts in
+    let here : take (k + 1) parts ≡ before_k ++ p ∷ [] =
+    take_more parts k p lt ∙ ap (λ (q : Condition). before_k ++ q ∷ []) (sym at) in
+    made ∙ ap (λ xs. xs ++ pieces or odd p) before
+    ∙ moved old (each_pieces or odd (conditions before_k)) (pieces or odd p)
     ∙ ap (λ xs. old ++ xs)
-    (sym (ap (λ cs. each_pieces or odd (conditions cs)) here ∙ each_more or odd before_k (condition_of p ∷ [])
-    ∙ ap (λ xs. each_pieces or odd (conditions before_k) ++ xs) (none_more (pieces or odd (condition_of p)))))
+    (sym (ap (λ cs. each_pieces or odd (conditions cs)) here ∙ each_more or odd before_k (p ∷ [])
+    ∙ ap (λ xs. each_pieces or odd (conditions before_k) ++ xs) (none_more (pieces or odd p))))
 
 -- ---- what is pushed
 
@@ -90,27 +79,21 @@ one_group true false xs h = refl
 one_group false true xs h = refl
 one_group false false xs h = absurd (let z : ⊥ = cc in z)
 
-pub pushed : (old new : List Cond) (l : Cond) (c : Condition) → new ≡ old ++ l ∷ [] → condition_of l ≡ c
-    → map condition_of new ≡ map condition_of old ++ c ∷ []
-pushed old new l c made named = ap (map condition_of) made ∙ map-append condition_of old (l ∷ [])
-    ∙ ap (λ x. map condition_of old ++ x ∷ []) named
+pub pushed : (old new : List Condition) (l : Condition) (c : Condition) → new ≡ old ++ l ∷ [] → l ≡ c
+    → new ≡ old ++ c ∷ []
+pushed old new l c made named = made ∙ ap (λ x. old ++ x ∷ []) named
 
-pub pushed_group : (or kind : Bool) (old new inner : List Cond) (g : Cond) (xs : List Condition) → beq kind or ≡ false
-    → new ≡ old ++ g ∷ [] → condition_of g ≡ group kind (conditions (map condition_of inner))
-    → map condition_of inner ≡ xs → map condition_of new ≡ map condition_of old ++ within or kind xs
+pub pushed_group : (or kind : Bool) (old new inner : List Condition) (g : Condition) (xs : List Condition) → beq kind or ≡ false
+    → new ≡ old ++ g ∷ [] → g ≡ group kind (conditions inner)
+    → inner ≡ xs → new ≡ old ++ within or kind xs
 pushed_group or kind old new inner g xs apart made named parts =
     pushed old new g (group kind (conditions xs)) made (named ∙ ap (λ ys. group kind (conditions ys)) parts)
-    ∙ ap (λ ys. map condition_of old ++ ys) (sym (one_group or kind xs apart))
+    ∙ ap (λ ys. old ++ ys) (sym (one_group or kind xs apart))
 
-condition_of-Is : (i t : ℕ) → condition_of (Is i t) ≡ is i t
-condition_of-Is i t = ap condition_of (sym (rolls-Is i t)) ∙ fold-roll-Cond Condition condition_step (Cond-F.Is i t)
-
-pub pushed_literal : (or odd : Bool) (old new : List Cond) (l cond : Cond) (i t : ℕ) → new ≡ old ++ l ∷ []
-    → condition_of l ≡ under odd (condition_of (Is i t)) → cond ≡ Is i t
-    → map condition_of new ≡ map condition_of old ++ pieces or odd (condition_of cond)
+pub pushed_literal : (or odd : Bool) (old new : List Condition) (l cond : Condition) (i t : ℕ) → new ≡ old ++ l ∷ []
+    → l ≡ under odd (is i t) → cond ≡ is i t → new ≡ old ++ pieces or odd cond
 pushed_literal or odd old new l cond i t made as_literal at =
-    pushed old new l (under odd (is i t)) made (as_literal ∙ ap (under odd) (condition_of-Is i t))
-    ∙ ap (λ c. map condition_of old ++ pieces or odd c) (sym (ap condition_of at ∙ condition_of-Is i t))
+    pushed old new l (under odd (is i t)) made as_literal ∙ ap (λ c. old ++ pieces or odd c) (sym at)
 
 -- ---- terms
 

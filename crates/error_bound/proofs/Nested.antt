@@ -12,7 +12,7 @@ use Rattle.fuzzy_meaning.specs.declared.block.Input.{Input}
 use Rattle.fuzzy_meaning.specs.declared.block.Rule.{Rule}
 use Rattle.fuzzy_meaning.specs.declared.block.Trapezoid.{Trapezoid}
 use Rattle.fuzzy_meaning.specs.Blocks.{IsValid, IsValidInput, IsValidTerm, input_at}
-use Rattle.fuzzy_meaning.specs.Conditions.{Condition, is, negation, all, any, Conditions, end, also, condition_of}
+use Rattle.fuzzy_meaning.specs.Conditions.{Condition, is, negation, all, any, Conditions, end, also}
 use Rattle.fuzzy_meaning.specs.Meaning.{weight_of}
 use Rattle.fz_list.proofs.Algebra.{All-slice_get, some_at}
 use Rattle.byte_scaling.specs.Cells.{cell_start, cell_end}
@@ -219,7 +219,7 @@ module _ (b : Block) (small box : List Interval) (valid : IsValid b) (count : le
   rule_narrow : (r : Rule)
       → IsNarrow (rule_span b small r) (rule_span b box r) (rule_byte_span b small r) (rule_byte_span b box r)
   rule_narrow r =
-      let c = condition_of r.cond in
+      let c = r.cond in
       let w = weight_of r.weight in
       let z = weight_byte_of r.weight + 1 in
       let h = narrow (literal_span b small) (literal_span b box) (literal_byte_span b small) (literal_byte_span b box)

@@ -11,7 +11,7 @@ use Rattle.fuzzy_meaning.specs.declared.block.Output.{Output}
 use Rattle.fuzzy_meaning.specs.declared.block.Rule.{Rule}
 use Rattle.fuzzy_meaning.specs.Blocks.{IsValid, IsValidRule, HasTerm, IsValidCondition, AllValidConditions}
 use Rattle.fuzzy_meaning.specs.Blocks.{IsValidOutput, AreValidConditions}
-use Rattle.fuzzy_meaning.specs.Conditions.{Condition, is, negation, all, any, Conditions, end, also, condition_of}
+use Rattle.fuzzy_meaning.specs.Conditions.{Condition, is, negation, all, any, Conditions, end, also}
 use Rattle.fuzzy_meaning.specs.Rules.{concludes}
 use Rattle.fz_list.proofs.Algebra.{IsSomeAnd-some, IsSomeAnd-within, some_at, All-slice_get}
 use Rattle.error_bound.specs.declared.boxes.Interval.{Interval}
@@ -69,7 +69,7 @@ module _ (b : Block) (small box : List Interval) (e f : ℕ → ℕ → ℕ) (co
   less_output o t [] h = omega arith
   less_output o t (r ∷ rs) h =
       by_bool (more (weight_error r) (floor_error r)
-      (less_greatest (condition_of r.cond) (h 0 r (omega arith)).condition))
+      (less_greatest r.cond (h 0 r (omega arith)).condition))
       (less_output o t rs (λ k d l. h (suc k) d (omega arith))) (concludes r o t)
     where
       more : {p q : ℕ} (w z : ℕ) → p ≤ q → p + w + z ≤ q + w + z

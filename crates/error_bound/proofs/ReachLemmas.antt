@@ -1,10 +1,10 @@
 -- The ends of the reaches of the parts of an AND or OR, from the last on.
-use Rattle.std.proofs.Common.{◌≡◌, ℕ, suc, ◌-◌, ◌<◌, ◌≤◌, Bool, true, false, List, [], ◌∷◌, length, map, drop, get_or}
+use Rattle.std.proofs.Common.{◌≡◌, ℕ, suc, ◌-◌, ◌<◌, ◌≤◌, Bool, true, false, List, [], ◌∷◌, length, drop, get_or}
 use Rattle.std.proofs.Common.{refl, ap, ap₂, sym, ◌∙◌, subst, arith}
 use Rattle.std.proofs.Math.Seq.{drop-cons}
 use Rattle.fuzzy_meaning.specs.declared.block.Block.{Block}
-use Rattle.fuzzy_meaning.specs.declared.block.Cond.{Cond}
-use Rattle.fuzzy_meaning.specs.Conditions.{condition_of, also, conditions}
+use Rattle.fuzzy_meaning.specs.Conditions.{Condition}
+use Rattle.fuzzy_meaning.specs.Conditions.{also, conditions}
 use Rattle.error_bound.specs.declared.boxes.Interval.{Interval}
 use Rattle.error_bound.specs.declared.ends.End.{End}
 use Rattle.error_bound.specs.Ratios.{value_of, IsRatio}
@@ -47,31 +47,31 @@ byte_end-none false false = refl
 -- ---- of conditions
 
 -- the conditions from a place on: that of the place, and those behind
-from_place : (parts : List Cond) (k : ℕ) (part : Cond) → 1 ≤ k → k ≤ length parts → part ≡ get_or parts (k - 1) part
-    → conditions (map condition_of (drop (k - 1) parts))
-    ≡ also (condition_of part) (conditions (map condition_of (drop k parts)))
+from_place : (parts : List Condition) (k : ℕ) (part : Condition) → 1 ≤ k → k ≤ length parts → part ≡ get_or parts (k - 1) part
+    → conditions (drop (k - 1) parts)
+    ≡ also part (conditions (drop k parts))
 from_place parts k part from to here_is =
     let within : k - 1 < length parts = omega arith in
     let back : suc (k - 1) ≡ k = omega arith in
     let here : drop (k - 1) parts ≡ part ∷ drop k parts =
     drop-cons parts (k - 1) part within ∙ ap₂ (λ x n. x ∷ drop n parts) (sym here_is) back in
-    ap (λ l. conditions (map condition_of l)) here
+    ap (λ l. conditions l) here
 
-drop-length : (ps : List Cond) → drop (length ps) ps ≡ []
+drop-length : (ps : List Condition) → drop (length ps) ps ≡ []
 drop-length [] = refl
 drop-length (p ∷ ps) = drop-length ps
 
-pub end_from : (b : Block) (box : List Interval) (or upper : Bool) (parts : List Cond) (k : ℕ) (part : Cond)
+pub end_from : (b : Block) (box : List Interval) (or upper : Bool) (parts : List Condition) (k : ℕ) (part : Condition)
     (p r s : End)
     → 1 ≤ k → k ≤ length parts → part ≡ get_or parts (k - 1) part
-    → IsEndOfCondition b box (condition_of part) upper p
-    → IsEndOfCondition b box (group or (conditions (map condition_of (drop k parts)))) upper r
+    → IsEndOfCondition b box part upper p
+    → IsEndOfCondition b box (group or (conditions (drop k parts))) upper r
     → value_of s.truth ≡ joined_ends or (value_of p.truth) (value_of r.truth)
     → s.byte ≡ joined_byte_ends or p.byte r.byte → IsRatio 1000000000000 s.truth
-    → IsEndOfCondition b box (group or (conditions (map condition_of (drop (k - 1) parts)))) upper s
+    → IsEndOfCondition b box (group or (conditions (drop (k - 1) parts))) upper s
 end_from b box or upper parts k part p r s from to here_is hp hr value byte small =
-    let c = condition_of part in
-    let cs = conditions (map condition_of (drop k parts)) in
+    let c = part in
+    let cs = conditions (drop k parts) in
     let spans = literal_span b box in
     let bytes = literal_byte_span b box in
     subst (λ ds. IsEndOfCondition b box (group or ds) upper s) (sym (from_place parts k part from to here_is)) (record {
@@ -84,12 +84,12 @@ end_from b box or upper parts k part p r s from to here_is hp hr value byte smal
       small = small;
     })
 
-pub end_from_none : (b : Block) (box : List Interval) (or upper : Bool) (parts : List Cond) (r : End)
+pub end_from_none : (b : Block) (box : List Interval) (or upper : Bool) (parts : List Condition) (r : End)
     → value_of r.truth ≡ end_of_none or
     → r.byte ≡ byte_end_of_none or → IsRatio 1000000000000 r.truth
-    → IsEndOfCondition b box (group or (conditions (map condition_of (drop (length parts) parts)))) upper r
+    → IsEndOfCondition b box (group or (conditions (drop (length parts) parts))) upper r
 end_from_none b box or upper parts r value byte small =
-    subst (λ ps. IsEndOfCondition b box (group or (conditions (map condition_of ps))) upper r)
+    subst (λ ps. IsEndOfCondition b box (group or (conditions ps)) upper r)
     (sym (drop-length parts)) (record {
       value = value ∙ sym (ap (end_of upper) (group_span_none (literal_span b box) or) ∙ end-none upper or);
       byte = byte ∙ sym (ap (byte_end_of upper) (group_bytes_none (literal_byte_span b box) or)

@@ -11,7 +11,6 @@ use Rattle.fz_num.proofs.Algebra.{AtMost-trans, AtMost-greater_left, AtMost-grea
 use Rattle.fuzzy_meaning.specs.declared.block.Block.{Block}
 use Rattle.fuzzy_meaning.specs.declared.block.Rule.{Rule}
 use Rattle.fuzzy_meaning.specs.Blocks.{IsWeight}
-use Rattle.fuzzy_meaning.specs.Conditions.{condition_of}
 use Rattle.fuzzy_meaning.specs.Meaning.{literal_degree, truth, weight_of, strength, mass_among}
 use Rattle.fuzzy_meaning.specs.Rules.{concludes}
 use Rattle.byte_scaling.specs.Weights.{weight_byte_of}
@@ -115,7 +114,7 @@ module _ (b : Block) (box : List Interval) (bytes : List ℕ) (xs : List Dec) (e
       → IsWithinSpans billion (strength b xs r) (byte_strength b bytes r) (rule_error e r) (rule_span b box r)
       (rule_byte_span b box r)
   rule_within r hw =
-      let c = condition_of r.cond in
+      let c = r.cond in
       let h = within_spans billion (literal_degree b xs) (literal_grade b bytes) e (literal_span b box)
       (literal_byte_span b box) l c in
       let w = weight_of r.weight in

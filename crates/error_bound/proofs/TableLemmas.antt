@@ -9,7 +9,7 @@ use Rattle.fuzzy_meaning.specs.declared.block.Input.{Input}
 use Rattle.fuzzy_meaning.specs.declared.block.Rule.{Rule}
 use Rattle.fuzzy_meaning.specs.declared.block.Trapezoid.{Trapezoid}
 use Rattle.fuzzy_meaning.specs.Blocks.{HasTerm, input_at}
-use Rattle.fuzzy_meaning.specs.Conditions.{Condition, condition_of}
+use Rattle.fuzzy_meaning.specs.Conditions.{Condition}
 use Rattle.fuzzy_meaning.specs.Meaning.{weight_of}
 use Rattle.byte_scaling.specs.Weights.{weight_byte_of}
 use Rattle.fz_list.proofs.Algebra.{IsSomeAnd-some, IsSomeAnd-within, some_at}
@@ -99,24 +99,24 @@ same_ends true s r h = h.high
 same_ends false s r h = h.low
 
 end_of_rule_span : (b : Block) (box : List Interval) (r : Rule) (upper : Bool)
-    → end_of upper (rule_span b box r) ≡ times (end_of upper (span (literal_span b box) (condition_of r.cond)))
+    → end_of upper (rule_span b box r) ≡ times (end_of upper (span (literal_span b box) r.cond))
     (weight_of r.weight)
 end_of_rule_span b box r true = refl
 end_of_rule_span b box r false = refl
 
 end_of_rule_bytes : (b : Block) (box : List Interval) (r : Rule) (upper : Bool)
     → byte_end_of upper (rule_byte_span b box r) ≡ byte_end_of upper
-    (byte_span (literal_byte_span b box) (condition_of r.cond)) * (weight_byte_of r.weight + 1) / 256
+    (byte_span (literal_byte_span b box) r.cond) * (weight_byte_of r.weight + 1) / 256
 end_of_rule_bytes b box r true = refl
 end_of_rule_bytes b box r false = refl
 
 pub end_weighted : (b : Block) (box : List Interval) (r : Rule) (upper : Bool) (d : Condition) (e f : End) (w : ℕ)
-    → ReachesAlike b (condition_of r.cond) d
+    → ReachesAlike b r.cond d
     → IsEndOfCondition b box d upper e → w ≡ weight_of r.weight → value_of f.truth ≡ times (value_of e.truth) w
     → f.byte ≡ e.byte * (weight_byte_of r.weight + 1) / 256 → IsRatio 10000000000000000 f.truth
     → IsEndOfRule b box r upper f
 end_weighted b box r upper d e f w alike h weight value byte small =
-    let s = span (literal_span b box) (condition_of r.cond) in
+    let s = span (literal_span b box) r.cond in
     let s' = span (literal_span b box) d in
     let same : IsSame (value_of e.truth) (end_of upper s) =
     subst (λ x. IsSame x (end_of upper s)) (sym h.value) (same_ends upper s' s (alike.spans box)) in

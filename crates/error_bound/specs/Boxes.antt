@@ -9,7 +9,6 @@ use Rattle.fuzzy_meaning.specs.declared.block.Input.{Input}
 use Rattle.fuzzy_meaning.specs.declared.block.Rule.{Rule}
 use Rattle.fuzzy_meaning.specs.declared.block.Trapezoid.{Trapezoid}
 use Rattle.fuzzy_meaning.specs.Blocks.{input_at, AreInputs}
-use Rattle.fuzzy_meaning.specs.Conditions.{condition_of}
 use Rattle.fuzzy_meaning.specs.Meaning.{weight_of}
 use Rattle.byte_scaling.specs.Cells.{cell_start, cell_end, LiesInCell}
 use Rattle.byte_scaling.specs.Weights.{weight_byte_of}
@@ -80,12 +79,12 @@ literal_byte_span b box i t = at_literal grades_over (record { low = 0; high = 0
 -- a rule's strengths: the truth times the weight
 abbrev pub rule_span : Block → List Interval → Rule → Span
 rule_span b box r =
-    let s = span (literal_span b box) (condition_of r.cond) in
+    let s = span (literal_span b box) r.cond in
     record { low = times s.low (weight_of r.weight); high = times s.high (weight_of r.weight) }
 
 -- its strengths over bytes: the truth scaled by the weight byte
 abbrev pub rule_byte_span : Block → List Interval → Rule → ByteSpan
 rule_byte_span b box r =
-    let s = byte_span (literal_byte_span b box) (condition_of r.cond) in
+    let s = byte_span (literal_byte_span b box) r.cond in
     let v = weight_byte_of r.weight + 1 in
     record { low = s.low * v / 256; high = s.high * v / 256 }

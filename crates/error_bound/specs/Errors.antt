@@ -7,7 +7,6 @@ use Rattle.fuzzy_meaning.specs.declared.block.Input.{Input}
 use Rattle.fuzzy_meaning.specs.declared.block.Rule.{Rule}
 use Rattle.fuzzy_meaning.specs.declared.block.Trapezoid.{Trapezoid}
 use Rattle.fuzzy_meaning.specs.Blocks.{input_at}
-use Rattle.fuzzy_meaning.specs.Conditions.{condition_of}
 use Rattle.fuzzy_meaning.specs.Meaning.{weight_of}
 use Rattle.fuzzy_meaning.specs.Rules.{concludes}
 use Rattle.byte_scaling.specs.Cells.{IsInCell}
@@ -49,7 +48,7 @@ abbrev pub floor_error : Rule → ℕ
 floor_error r = if weight_byte_of r.weight == 255 then 0 else up_div billion 255
 
 abbrev pub rule_error : (ℕ → ℕ → ℕ) → Rule → ℕ
-rule_error e r = greatest_literal e (condition_of r.cond) + weight_error r + floor_error r
+rule_error e r = greatest_literal e r.cond + weight_error r + floor_error r
 
 -- of term t of output o: the greatest of those of the rules that conclude it, or 0
 abbrev pub output_error_among : (ℕ → ℕ → ℕ) → ℕ → ℕ → List Rule → ℕ

@@ -5,8 +5,8 @@ use Rattle.fuzzy_meaning.specs.declared.block.Block.{Block}
 use Rattle.fuzzy_meaning.specs.declared.block.Input.{Input}
 use Rattle.fuzzy_meaning.specs.declared.block.Rule.{Rule}
 use Rattle.fuzzy_meaning.specs.declared.block.Trapezoid.{Trapezoid}
-use Rattle.fuzzy_meaning.specs.declared.block.Cond.{Cond}
-use Rattle.fuzzy_meaning.specs.Conditions.{Condition, condition_of}
+use Rattle.fuzzy_meaning.specs.Conditions.{Condition}
+use Rattle.fuzzy_meaning.specs.Conditions.{Condition}
 use Rattle.fuzzy_meaning.specs.Places.{points_of}
 use Rattle.point_slope.specs.Tables.{row_of, grade_of}
 use Rattle.error_bound.specs.declared.boxes.Interval.{Interval}
@@ -56,11 +56,11 @@ AreAllCells b cells =
     → (c : InputCells) × (slice_get cells i ≡ Some c) × AreInputCells x all_bytes c
 
 -- at a place a condition that reaches as far as a rule's
-abbrev pub HasAlike : Block → Rule → ℕ → List Cond → Type 0
-HasAlike b r k conds = (c : Cond) × (slice_get conds k ≡ Some c) × ReachesAlike b (condition_of r.cond) (condition_of c)
+abbrev pub HasAlike : Block → Rule → ℕ → List Condition → Type 0
+HasAlike b r k conds = (c : Condition) × (slice_get conds k ≡ Some c) × ReachesAlike b r.cond c
 
 -- one for each rule
-abbrev pub AreRuleConditions : Block → List Cond → Type 0
+abbrev pub AreRuleConditions : Block → List Condition → Type 0
 AreRuleConditions b conds = (k : ℕ) (r : Rule) → slice_get b.rules k ≡ Some r → HasAlike b r k conds
 
 -- what boxes need of a block

@@ -2,7 +2,7 @@
 ghost use Rattle.std.specs.Prelude.{◌≡◌, ◌-◌, map};
 ghost use Rattle.fz_num.specs.Fractions.{one_minus};
 ghost use Rattle.fuzzy_meaning.specs.Blocks.{IsValid, IsValidCondition, AreValidConditions};
-ghost use Rattle.fuzzy_meaning.specs.Conditions.{condition_of, conditions, is};
+ghost use Rattle.fuzzy_meaning.specs.Conditions.{conditions, is};
 ghost use Rattle.error_bound.specs.Spans.{end_of as end_of_span, byte_end_of, joined_ends, joined_byte_ends};
 ghost use Rattle.error_bound.specs.Spans.{end_of_none, byte_end_of_none};
 ghost use Rattle.error_bound.specs.Ratios.{value_of, IsRatio};
@@ -12,7 +12,7 @@ ghost use Rattle.error_bound.specs.Flattening.{group, under};
 use crate::ratio::Ratio;
 use crate::reaches::{Literal, Reach, literal_in, reach_of_literal};
 use crate::tables::BoxTerms;
-use fuzzy_meaning::{Block, Cond, parts_are_valid};
+use fuzzy_meaning::{Block, Condition, Node, parts_are_valid};
 
 /// The greatest truth of a reach, or the least: of degrees, and over bytes.
 #[derive(Clone, Copy)]
@@ -103,30 +103,30 @@ impl End {
 
 /// The upper end of a condition's reach over a box, or the lower.
 #[cycle(ends)]
-pub(crate) fn end_of(condition: &Cond, upper: bool, block: &Block, terms: &BoxTerms) -> End
-    requires condition { IsValidCondition block.now (condition_of condition.now) }
+pub(crate) fn end_of(condition: &Condition, upper: bool, block: &Block, terms: &BoxTerms) -> End
+    requires condition { IsValidCondition block.now condition.now }
     requires block { IsValid block.now }
     requires terms { AreBoxTerms block.now terms.now }
-    ensures { IsEndOfCondition block.now terms.now.bytes.0.items (condition_of condition.now) upper result }
+    ensures { IsEndOfCondition block.now terms.now.bytes.0.items condition.now upper result }
 {
-    match condition {
-        Cond::Is(input, term) => {
+    match &condition.node {
+        Node::Is(input, term) => {
             End::of_reach(reach_of_literal(block, *input, *term, terms), upper)
         }
-        Cond::Not(inner) => end_of(inner, !upper, block, terms).one_minus(),
-        Cond::And(parts) => end_among(parts.as_slice(), false, upper, block, terms),
-        Cond::Or(parts) => end_among(parts.as_slice(), true, upper, block, terms),
+        Node::Not(inner) => end_of(inner, !upper, block, terms).one_minus(),
+        Node::And(parts) => end_among(parts.as_slice(), false, upper, block, terms),
+        Node::Or(parts) => end_among(parts.as_slice(), true, upper, block, terms),
     }
 }
 
 /// That of an OR's parts, or of an AND's. Most parts are literals, which take no further call.
 #[cycle(ends)]
-fn end_among(parts: &[Cond], any: bool, upper: bool, block: &Block, terms: &BoxTerms) -> End
-    requires parts { AreValidConditions block.now (conditions (map condition_of parts.now)) }
+fn end_among(parts: &[Condition], any: bool, upper: bool, block: &Block, terms: &BoxTerms) -> End
+    requires parts { AreValidConditions block.now (conditions parts.now) }
     requires block { IsValid block.now }
     requires terms { AreBoxTerms block.now terms.now }
     ensures { IsEndOfCondition block.now terms.now.bytes.0.items
-        (group any (conditions (map condition_of parts.now))) upper result }
+        (group any (conditions parts.now)) upper result }
 {
     parts_are_valid();
     let mut joined = End::of_none(any);

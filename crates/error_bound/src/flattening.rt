@@ -4,20 +4,20 @@
 //! place, and a walk through that takes a call for each. A flat condition has NOT at literals alone, and no AND
 //! right in an AND nor OR right in an OR, so that most of its walk is one loop over literals.
 ghost use Rattle.std.specs.Prelude.{◌≡◌, ◌++◌, IfOk, OnOk, map, false};
-ghost use Rattle.fuzzy_meaning.specs.Conditions.{condition_of, conditions};
+ghost use Rattle.fuzzy_meaning.specs.Conditions.{conditions};
 ghost use Rattle.error_bound.specs.Flattening.{under as under_of, group, within as within_of, pieces as pieces_of};
 ghost use Rattle.error_bound.specs.Flattening.{each_pieces as each_pieces_of, flat, FlatteningKeepsReaches};
 
-use fuzzy_meaning::Cond;
+use fuzzy_meaning::{Condition, Node};
 use std::alloc::{AllocError, Global};
 
 /// The flat condition of a condition.
-pub(crate) fn flattened(alloc: Global, condition: &Cond) -> Result<Cond, AllocError>
-    ensures { IfOk result (λ c. condition_of c ≡ flat (condition_of condition.now)) }
+pub(crate) fn flattened(alloc: Global, condition: &Condition) -> Result<Condition, AllocError>
+    ensures { IfOk result (λ c. c ≡ flat condition.now) }
 {
     let mut pieces = Vec::new(alloc);
     push_pieces(alloc, condition, false, false, &mut pieces)?;
-    Ok(Cond::And(pieces))
+    Ok(Condition::all(pieces))
 }
 
 /// Puts what a condition comes to behind the parts of an OR or an AND. `odd` says that it stands behind
@@ -25,23 +25,23 @@ pub(crate) fn flattened(alloc: Global, condition: &Cond) -> Result<Cond, AllocEr
 #[cycle(flattening)]
 fn push_pieces(
     alloc: Global,
-    condition: &Cond,
+    condition: &Condition,
     any: bool,
     odd: bool,
-    pieces: &mut Vec<Cond>,
+    pieces: &mut Vec<Condition>,
 ) -> Result<(), AllocError>
-    ensures { OnOk result (map condition_of pieces.new.items
-        ≡ map condition_of pieces.old.items ++ pieces_of any odd (condition_of condition.now)) }
+    ensures { OnOk result (pieces.new.items
+        ≡ pieces.old.items ++ pieces_of any odd condition.now) }
 {
-    match condition {
-        Cond::Is(input, term) => {
-            let literal = under(alloc, Cond::Is(*input, *term), odd)?;
+    match &condition.node {
+        Node::Is(input, term) => {
+            let literal = under(alloc, Condition::is(*input, *term), odd)?;
             pieces.push(literal)?;
             Ok(())
         }
-        Cond::Not(part) => push_pieces(alloc, part, any, !odd, pieces),
-        Cond::And(parts) => push_group(alloc, parts, any, odd, odd, pieces),
-        Cond::Or(parts) => push_group(alloc, parts, any, !odd, odd, pieces),
+        Node::Not(part) => push_pieces(alloc, part, any, !odd, pieces),
+        Node::And(parts) => push_group(alloc, parts, any, odd, odd, pieces),
+        Node::Or(parts) => push_group(alloc, parts, any, !odd, odd, pieces),
     }
 }
 
@@ -49,14 +49,14 @@ fn push_pieces(
 #[cycle(flattening)]
 fn push_group(
     alloc: Global,
-    parts: &[Cond],
+    parts: &[Condition],
     any: bool,
     kind: bool,
     odd: bool,
-    pieces: &mut Vec<Cond>,
+    pieces: &mut Vec<Condition>,
 ) -> Result<(), AllocError>
-    ensures { OnOk result (map condition_of pieces.new.items ≡ map condition_of pieces.old.items
-        ++ within_of any kind (each_pieces_of kind odd (conditions (map condition_of parts.now)))) }
+    ensures { OnOk result (pieces.new.items ≡ pieces.old.items
+        ++ within_of any kind (each_pieces_of kind odd (conditions parts.now))) }
 {
     if kind == any {
         return push_each(alloc, parts, kind, odd, pieces);
@@ -68,13 +68,13 @@ fn push_group(
 }
 
 /// An OR of parts, or an AND.
-fn grouped(parts: Vec<Cond>, any: bool) -> Cond
-    ensures { condition_of result ≡ group any (conditions (map condition_of parts.items)) }
+fn grouped(parts: Vec<Condition>, any: bool) -> Condition
+    ensures { result ≡ group any (conditions parts.items) }
 {
     if any {
-        Cond::Or(parts)
+        Condition::any(parts)
     } else {
-        Cond::And(parts)
+        Condition::all(parts)
     }
 }
 
@@ -82,13 +82,13 @@ fn grouped(parts: Vec<Cond>, any: bool) -> Cond
 #[cycle(flattening)]
 fn push_each(
     alloc: Global,
-    parts: &[Cond],
+    parts: &[Condition],
     any: bool,
     odd: bool,
-    pieces: &mut Vec<Cond>,
+    pieces: &mut Vec<Condition>,
 ) -> Result<(), AllocError>
-    ensures { OnOk result (map condition_of pieces.new.items ≡ map condition_of pieces.old.items
-        ++ each_pieces_of any odd (conditions (map condition_of parts.now))) }
+    ensures { OnOk result (pieces.new.items ≡ pieces.old.items
+        ++ each_pieces_of any odd (conditions parts.now)) }
 {
     for part in parts {
         push_pieces(alloc, part, any, odd, pieces)?;
@@ -97,14 +97,13 @@ fn push_each(
 }
 
 /// A condition, or where `odd` its negation.
-fn under(alloc: Global, condition: Cond, odd: bool) -> Result<Cond, AllocError>
-    ensures { IfOk result (λ c. condition_of c ≡ under_of odd (condition_of condition)) }
+fn under(alloc: Global, condition: Condition, odd: bool) -> Result<Condition, AllocError>
+    ensures { IfOk result (λ c. c ≡ under_of odd condition) }
 {
     if !odd {
         return Ok(condition);
     }
-    let condition = Box::new(alloc, condition)?;
-    Ok(Cond::Not(condition))
+    Condition::not(alloc, condition)
 }
 
 /// A flat condition reaches as far over each box as the one that it is made of.

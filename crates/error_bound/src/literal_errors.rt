@@ -1,41 +1,41 @@
 //! The greatest error of a condition's literals over a box.
 ghost use Rattle.std.specs.Prelude.{◌≡◌, ◌≤◌, map};
 ghost use Rattle.fuzzy_meaning.specs.Blocks.{IsValid, IsValidCondition, AreValidConditions};
-ghost use Rattle.fuzzy_meaning.specs.Conditions.{condition_of, conditions};
+ghost use Rattle.fuzzy_meaning.specs.Conditions.{conditions};
 ghost use Rattle.error_bound.specs.Spans.{greatest_literal, greatest_among};
 ghost use Rattle.error_bound.specs.CellErrors.{term_errors};
 ghost use Rattle.error_bound.specs.Reaches.{AreBoxTerms};
 
 use crate::reaches::{literal_in, reach_of_literal};
 use crate::tables::BoxTerms;
-use fuzzy_meaning::{Block, Cond, parts_are_valid};
+use fuzzy_meaning::{Block, Condition, Node, parts_are_valid};
 
 /// In parts of 10^9.
 #[cycle(errors)]
-pub(crate) fn error_of(condition: &Cond, block: &Block, terms: &BoxTerms) -> u64
-    requires condition { IsValidCondition block.now (condition_of condition.now) }
+pub(crate) fn error_of(condition: &Condition, block: &Block, terms: &BoxTerms) -> u64
+    requires condition { IsValidCondition block.now condition.now }
     requires block { IsValid block.now }
     requires terms { AreBoxTerms block.now terms.now }
     ensures value { result
-        ≡ greatest_literal (term_errors block.now terms.now.bytes.0.items) (condition_of condition.now) }
+        ≡ greatest_literal (term_errors block.now terms.now.bytes.0.items) condition.now }
     ensures small { result ≤ 1000000000 }
 {
-    match condition {
-        Cond::Is(input, term) => reach_of_literal(block, *input, *term, terms).error,
-        Cond::Not(inner) => error_of(inner, block, terms),
-        Cond::And(parts) => error_among(parts.as_slice(), block, terms),
-        Cond::Or(parts) => error_among(parts.as_slice(), block, terms),
+    match &condition.node {
+        Node::Is(input, term) => reach_of_literal(block, *input, *term, terms).error,
+        Node::Not(inner) => error_of(inner, block, terms),
+        Node::And(parts) => error_among(parts.as_slice(), block, terms),
+        Node::Or(parts) => error_among(parts.as_slice(), block, terms),
     }
 }
 
 /// Most parts are literals, which take no further call.
 #[cycle(errors)]
-fn error_among(parts: &[Cond], block: &Block, terms: &BoxTerms) -> u64
-    requires parts { AreValidConditions block.now (conditions (map condition_of parts.now)) }
+fn error_among(parts: &[Condition], block: &Block, terms: &BoxTerms) -> u64
+    requires parts { AreValidConditions block.now (conditions parts.now) }
     requires block { IsValid block.now }
     requires terms { AreBoxTerms block.now terms.now }
     ensures value { result
-        ≡ greatest_among (term_errors block.now terms.now.bytes.0.items) (conditions (map condition_of parts.now)) }
+        ≡ greatest_among (term_errors block.now terms.now.bytes.0.items) (conditions parts.now) }
     ensures small { result ≤ 1000000000 }
 {
     parts_are_valid();

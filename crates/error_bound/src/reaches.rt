@@ -1,14 +1,14 @@
 //! How far the truths of literals reach over a box.
 ghost use Rattle.std.specs.Prelude.{◌≡◌, IfSome};
 ghost use Rattle.fuzzy_meaning.specs.Blocks.{IsValid, HasTerm};
-ghost use Rattle.fuzzy_meaning.specs.Conditions.{condition_of, is};
+ghost use Rattle.fuzzy_meaning.specs.Conditions.{is};
 ghost use Rattle.error_bound.specs.Reaches.{AreBoxTerms, IsReachOfLiteral};
 ghost use Rattle.error_bound.specs.Flattening.{under};
 
 use crate::degrees::Degrees;
 use crate::ratio::Ratio;
 use crate::tables::BoxTerms;
-use fuzzy_meaning::{Block, Cond};
+use fuzzy_meaning::{Block, Condition, Node};
 
 /// From the least to the greatest truth, of degrees and over bytes, and how far these may be apart,
 /// in parts of 10^9.
@@ -43,23 +43,26 @@ pub(crate) struct Literal {
 
 /// The literal that a condition is, which may stand behind one NOT.
 #[inline]
-pub(crate) fn literal_in(condition: &Cond) -> Option<Literal>
-    ensures { IfSome result (λ l. condition_of condition.now ≡ under l.negated (is l.input l.term)) }
+pub(crate) fn literal_in(condition: &Condition) -> Option<Literal>
+    ensures { IfSome result (λ l. condition.now ≡ under l.negated (is l.input l.term)) }
 {
-    match condition {
-        Cond::Is(input, term) => Some(Literal {
+    match &condition.node {
+        Node::Is(input, term) => Some(Literal {
             input: *input,
             term: *term,
             negated: false,
         }),
-        Cond::Not(inner) => match &**inner {
-            Cond::Is(input, term) => Some(Literal {
-                input: *input,
-                term: *term,
-                negated: true,
-            }),
-            _ => None,
-        },
+        Node::Not(inner) => {
+            let inner: &Condition = inner;
+            match &inner.node {
+                Node::Is(input, term) => Some(Literal {
+                    input: *input,
+                    term: *term,
+                    negated: true,
+                }),
+                _ => None,
+            }
+        }
         _ => None,
     }
 }

@@ -4,7 +4,6 @@ ghost use Rattle.std.specs.Prelude.{IfSome, Some, false, true, slice_get};
 ghost use Rattle.fz_num.specs.Fractions.{up_div};
 ghost use Rattle.fuzzy_meaning.specs.declared.block.Rule.{Rule as TheRule};
 ghost use Rattle.fuzzy_meaning.specs.Blocks.{IsValid, IsValidRule};
-ghost use Rattle.fuzzy_meaning.specs.Conditions.{condition_of};
 ghost use Rattle.error_bound.specs.Boxes.{IsBoxOf};
 ghost use Rattle.error_bound.specs.Errors.{apart};
 ghost use Rattle.error_bound.specs.Reaches.{HasAlike, IsBlockTable, AreBoxTerms, IsEndOfRule, IsErrorOfRule};
@@ -16,7 +15,7 @@ use crate::ends::{End, end_of};
 use crate::literal_errors::error_of;
 use crate::tables::{BlockTable, BoxTerms};
 use byte_scaling::weight_byte;
-use fuzzy_meaning::{Block, Cond, Rule};
+use fuzzy_meaning::{Block, Condition, Rule};
 use fz_num::Dec;
 
 /// The leaves that a table is made for.
@@ -289,9 +288,9 @@ fn condition_in<'a>(
     place: usize,
     rule: &'a Rule,
     block: &Block,
-) -> &'a Cond
+) -> &'a Condition
     requires kept { IfSome kept (λ table. HasAlike block.now rule.now place table.now.conditions.items) }
-    ensures { ReachesAlike block.now (condition_of rule.now.cond) (condition_of result.now) }
+    ensures { ReachesAlike block.now rule.now.cond result.now }
 {
     match kept {
         Some(table) => &table.conditions[place],

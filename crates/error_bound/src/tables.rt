@@ -11,7 +11,7 @@ use crate::cells::TermCells;
 use crate::degrees::degrees_of;
 use crate::flattening::{flattened, flattening_keeps_reaches};
 use crate::reaches::Reach;
-use fuzzy_meaning::{Block, Cond, Input, Trapezoid};
+use fuzzy_meaning::{Block, Condition, Input, Trapezoid};
 use std::alloc::{AllocError, Global};
 
 /// The cells of an input's terms.
@@ -40,7 +40,7 @@ pub struct BlockTable {
     /// The cells of the inputs' terms.
     pub(crate) inputs: Vec<InputCells>,
     /// The rules' conditions, flat.
-    pub(crate) conditions: Vec<Cond>,
+    pub(crate) conditions: Vec<Condition>,
 }
 
 impl BlockTable {
@@ -70,7 +70,7 @@ fn all_cells(alloc: Global, block: &Block) -> Result<Vec<InputCells>, AllocError
 }
 
 /// The flat conditions of a block's rules.
-fn flat_conditions(alloc: Global, block: &Block) -> Result<Vec<Cond>, AllocError>
+fn flat_conditions(alloc: Global, block: &Block) -> Result<Vec<Condition>, AllocError>
     ensures { IfOk result (λ v. AreRuleConditions block.now v.items) }
 {
     flattening_keeps_reaches();

@@ -5,4 +5,3 @@ pub mod HalveLemmas
 pub mod CertLemmas
 pub mod OneAnswer
 pub mod OutOfReach
-pub mod SameHalving

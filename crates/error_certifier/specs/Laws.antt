@@ -2,7 +2,6 @@
 use Rattle.std.specs.Prelude.{◌≡◌, ℕ, ◌-◌, ◌<◌, ◌≤◌, List, Some, slice_get, Result, Ok, Err}
 use Rattle.fuzzy_meaning.specs.declared.block.Block.{Block}
 use Rattle.fuzzy_meaning.specs.Blocks.{IsValid}
-use Rattle.fuzzy_meaning.specs.SameBlocks.{IsSameBlock}
 use Rattle.box_tree.specs.declared.cert.Cert.{Cert}
 use Rattle.cert_check.specs.Acceptance.{IsAccepted}
 use Rattle.error_certifier.specs.declared.certifier.NotReached.{NotReached}
@@ -13,12 +12,6 @@ use Rattle.error_certifier.specs.Halving.{IsHalving, StopsAt}
 abbrev pub IsAnswer : Block → ℕ → ℕ → Result Cert NotReached → Type 0
 IsAnswer b h target (Ok cert) = IsHalving b h target cert
 IsAnswer b h target (Err stop) = StopsAt b h target stop
-
--- halving stops alike for blocks that are the same but for where their conditions lie in memory
-abbrev pub SameBlocksStopAlike : Type 0
-SameBlocksStopAlike =
-    (p q : Block) (h target : ℕ) (stop : NotReached) → IsSameBlock p q → StopsAt p h target stop
-    → StopsAt q h target stop
 
 -- a block has at most one answer for a target
 abbrev pub AnswersAreOne : Type 0

@@ -1,10 +1,7 @@
 //! Laws of the definitions.
-ghost use Rattle.error_certifier.specs.Laws.{AnswersAreOne, CellsAreOutOfReach, SameBlocksStopAlike};
+ghost use Rattle.error_certifier.specs.Laws.{AnswersAreOne, CellsAreOutOfReach};
 
-use cert_check::{
-    cuts_have_halves, errors_are_determined, leaves_are_around, same_blocks_have_best_leaves,
-    same_blocks_have_bounds,
-};
+use cert_check::{cuts_have_halves, errors_are_determined, leaves_are_around};
 use error_bound::{best_bounds_are_least, best_leaves_are_one, bounds_are_determined};
 
 /// A block has at most one answer for a target: a certificate, or why there is none.
@@ -25,12 +22,4 @@ pub fn cells_are_out_of_reach()
     cuts_have_halves();
     leaves_are_around();
     best_bounds_are_least();
-}
-
-/// Halving stops alike for blocks that differ only in where their conditions lie in memory.
-pub fn same_blocks_stop_alike()
-    ensures { SameBlocksStopAlike }
-{
-    same_blocks_have_best_leaves();
-    same_blocks_have_bounds();
 }

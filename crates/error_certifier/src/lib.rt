@@ -14,4 +14,4 @@ mod laws;
 mod leaves;
 
 pub use certifier::{NotReached, certify, certify16};
-pub use laws::{answers_are_one, cells_are_out_of_reach, same_blocks_stop_alike};
+pub use laws::{answers_are_one, cells_are_out_of_reach};

@@ -1,5 +1,4 @@
 pub mod FoundItems
-pub mod FoundConditions
 pub mod FoundInputs
 pub mod FoundOutputs
 pub mod FoundVariables

@@ -4,7 +4,6 @@ use Rattle.std.specs.Ordering.{int_eq}
 use Rattle.std.specs.List.{AllZip, filter, take_while}
 use Rattle.fz_num.specs.declared.dec.Dec.{Dec}
 use Rattle.fuzzy_meaning.specs.Conditions.{Condition, is as literal, negation, all, any, Conditions, end, also}
-use Rattle.fuzzy_meaning.specs.Conditions.{condition_of}
 use Rattle.fuzzy_meaning.specs.declared.block.Block.{Block}
 use Rattle.fuzzy_meaning.specs.declared.block.Input.{Input}
 use Rattle.fuzzy_meaning.specs.declared.block.Output.{Output}
@@ -148,7 +147,7 @@ module _ (text : List ℕ) (b : FunctionBlock) where
   conclusion_of c = numbers_of side.Output c.variable c.term
 
   pub record IsRuleOf (r : RuleNode) (q : Rule) : Type 0 where
-    pub condition : condition_of q.cond ≡ or_condition literal_of (view_or r.condition)
+    pub condition : q.cond ≡ or_condition literal_of (view_or r.condition)
     pub weight : number_of q.weight ≡ option_map (λ (w : Weight). value w.value) r.weight
     pub conclusions : q.concl ≡ map conclusion_of (conclusions_of r)
 

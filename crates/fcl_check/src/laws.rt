@@ -42,12 +42,12 @@ pub fn numbers_are_kept()
     numbers_in_scale()
 }
 
-/// A tree has at most one block: two that it has are the same but for where they lie in memory.
+/// A tree has at most one block: two that it has are equal.
 pub fn blocks_are_one()
     ensures { BlocksAreOne }
 {}
 
-/// A text spells at most one block: two that it spells are the same but for where they lie in memory.
+/// A text spells at most one block: two that it spells are equal.
 pub fn spelled_blocks_are_one()
     ensures { SpelledBlocksAreOne }
 {

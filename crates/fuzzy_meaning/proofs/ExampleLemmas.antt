@@ -1,7 +1,6 @@
 -- The examples are valid.
-use Rattle.std.proofs.Common.{◌≡◌, ℕ, zero, suc, ◌+◌, ◌≤◌, [], ◌∷◌, length, None, sym, ap, ◌∙◌, subst, arith, rules}
+use Rattle.std.proofs.Common.{◌≡◌, ℕ, zero, suc, ◌+◌, ◌≤◌, [], ◌∷◌, length, None, arith}
 use Rattle.std.specs.Prelude.{All, IfSome, sum_by, pos}
-use Rattle.std.specs.Global.{Box}
 use Rattle.std.proofs.lemmas.Int.{ints}
 use Rattle.std.proofs.lemmas.List.{length-replicate}
 use Rattle.std.proofs.lemmas.List.Elements.{All-replicate}
@@ -9,19 +8,12 @@ use Rattle.std.proofs.lemmas.List.Folds.{sum_by-replicate}
 use Rattle.fz_num.specs.declared.dec.Dec.{Dec}
 use Rattle.fuzzy_meaning.specs.declared.block.Block.{Block}
 use Rattle.fuzzy_meaning.specs.declared.block.Rule.{Rule}
-use Rattle.fuzzy_meaning.specs.declared.block.Cond.{Cond, Is, Not', the_lemmas}
 use Rattle.fuzzy_meaning.specs.Blocks.{IsValid, IsValidInput, IsValidOutput, IsValidTerm, IsValidRule, IsValidCondition}
 use Rattle.fuzzy_meaning.specs.Blocks.{IsInScale, IsWithin, IsWeight, HasSingleton, rule_size}
-use Rattle.fuzzy_meaning.specs.Conditions.{Condition, is, negation, condition_of, depth, nodes}
+use Rattle.fuzzy_meaning.specs.Conditions.{Condition, is, negation, depth, nodes}
 use Rattle.fuzzy_meaning.specs.Examples.{dec, cold, hot, heater, step_at, latch, nots, full_term, full_input}
 use Rattle.fuzzy_meaning.specs.Examples.{full_output, full_rule, full, ExamplesAreValid}
 use Rattle.fz_list.proofs.Algebra.{All-cons, All-none}
-
-pub condition_of-Is : (i t : ℕ) → condition_of (Is i t) ≡ is i t
-condition_of-Is i t = search (rules, the_lemmas)
-
-pub condition_of-Not : (p : Box (Unit {0})) (c : Cond) → condition_of (Not' p c) ≡ negation (condition_of c)
-condition_of-Not p c = search (rules, the_lemmas)
 
 scale : (n : ℕ) → n ≤ 1000000000 → IsInScale (pos n)
 scale n h = record { low = omega (arith, ints); high = omega (arith, ints) }
@@ -59,13 +51,12 @@ step_valid n h = record {
 within : (lo hi x : ℕ) → lo ≤ x → x ≤ hi → IsWithin (dec (pos lo)) (dec (pos hi)) (dec (pos x))
 within lo hi x l h = record { low = omega (arith, ints); high = omega (arith, ints) }
 
--- a rule with one literal
-plain_rule : (b : Block) (r : Rule) (c : Condition) → condition_of r.cond ≡ c → IsValidCondition b c → depth c ≤ 256
-    → IfSome r.weight IsWeight → 1 ≤ length r.concl → All (λ (c : ℕ × ℕ). HasSingleton b c.0 c.1) r.concl
-    → IsValidRule b r
-plain_rule b r c e valid deep weight some conclusions = record {
-  condition = subst (IsValidCondition b) (sym e) valid;
-  deep = subst (λ x. depth x ≤ 256) (sym e) deep;
+-- a rule with few conditions
+plain_rule : (b : Block) (r : Rule) → IsValidCondition b r.cond → depth r.cond ≤ 256 → IfSome r.weight IsWeight
+    → 1 ≤ length r.concl → All (λ (c : ℕ × ℕ). HasSingleton b c.0 c.1) r.concl → IsValidRule b r
+plain_rule b r valid deep weight some conclusions = record {
+  condition = valid;
+  deep = deep;
   weight = weight;
   some_conclusion = some;
   conclusions = conclusions;
@@ -88,8 +79,8 @@ ends_in_scale =
 
 pub heater_valid : IsValid heater
 heater_valid =
-    let cold_rule : Rule = record { cond = Is 1 1; weight = None; concl = (1, 1) ∷ [] } in
-    let hot_rule : Rule = record { cond = Is 1 2; weight = None; concl = (1, 2) ∷ [] } in
+    let cold_rule : Rule = record { cond = is 1 1; weight = None; concl = (1, 1) ∷ [] } in
+    let hot_rule : Rule = record { cond = is 1 2; weight = None; concl = (1, 2) ∷ [] } in
     record {
       some_input = omega arith;
       few_inputs = omega arith;
@@ -131,29 +122,26 @@ heater_valid =
           })
           (All-none IsValidOutput);
       rules = All-cons (IsValidRule heater) cold_rule (hot_rule ∷ [])
-          (plain_rule heater cold_rule (is 1 1) (condition_of-Is 1 1)
+          (plain_rule heater cold_rule
           (record { input_from = omega arith; term_from = omega arith; term_to = omega arith }) (omega arith) tt
           (omega arith) (one_conclusion heater 1 1
           (record { output_from = omega arith; term_from = omega arith; term_to = omega arith })))
           (All-cons (IsValidRule heater) hot_rule []
-          (plain_rule heater hot_rule (is 1 2) (condition_of-Is 1 2)
+          (plain_rule heater hot_rule
           (record { input_from = omega arith; term_from = omega arith; term_to = omega arith }) (omega arith) tt
           (omega arith) (one_conclusion heater 1 2
           (record { output_from = omega arith; term_from = omega arith; term_to = omega arith })))
           (All-none (IsValidRule heater)));
-      size = size_of_two cold_rule hot_rule (let n = ap nodes (condition_of-Is 1 1) in omega (arith, n))
-          (let n = ap nodes (condition_of-Is 1 2) in omega (arith, n));
+      size = size_of_two cold_rule hot_rule (omega arith) (omega arith);
     }
 
-pub latch_valid : (p : Box (Unit {0})) → IsValid (latch p)
-latch_valid p =
-    let b = latch p in
-    let on_rule : Rule = record { cond = Not' p (Is 1 1); weight = None; concl = (1, 2) ∷ [] } in
-    let off_rule : Rule = record { cond = Is 1 2; weight = None; concl = (1, 1) ∷ [] } in
+pub latch_valid : IsValid latch
+latch_valid =
+    let b = latch in
+    let on_rule : Rule = record { cond = negation (is 1 1); weight = None; concl = (1, 2) ∷ [] } in
+    let off_rule : Rule = record { cond = is 1 2; weight = None; concl = (1, 1) ∷ [] } in
     let IsTerm = IsValidTerm (dec (pos 0)) (dec (pos 2560000)) in
     let IsPoint = IsWithin (dec (pos 0)) (dec (pos 1000000)) in
-    let not_mid : condition_of (Not' p (Is 1 1)) ≡ negation (is 1 1) = condition_of-Not p (Is 1 1)
-    ∙ ap negation (condition_of-Is 1 1) in
     record {
       some_input = omega arith;
       few_inputs = omega arith;
@@ -192,38 +180,34 @@ latch_valid p =
           })
           (All-none IsValidOutput);
       rules = All-cons (IsValidRule b) on_rule (off_rule ∷ [])
-          (plain_rule b on_rule (negation (is 1 1)) not_mid
+          (plain_rule b on_rule
           (record { input_from = omega arith; term_from = omega arith; term_to = omega arith }) (omega arith) tt
           (omega arith) (one_conclusion b 1 2
           (record { output_from = omega arith; term_from = omega arith; term_to = omega arith })))
           (All-cons (IsValidRule b) off_rule []
-          (plain_rule b off_rule (is 1 2) (condition_of-Is 1 2)
+          (plain_rule b off_rule
           (record { input_from = omega arith; term_from = omega arith; term_to = omega arith }) (omega arith) tt
           (omega arith) (one_conclusion b 1 1
           (record { output_from = omega arith; term_from = omega arith; term_to = omega arith })))
           (All-none (IsValidRule b)));
-      size = size_of_two on_rule off_rule (let n = ap nodes not_mid in omega (arith, n))
-          (let n = ap nodes (condition_of-Is 1 2) in omega (arith, n));
+      size = size_of_two on_rule off_rule (omega arith) (omega arith);
     }
 
 -- conditions one in another
-depth-nots : (p : Box (Unit {0})) (n : ℕ) (c : Cond) → depth (condition_of (nots p n c)) ≡ n + depth (condition_of c)
+depth-nots : (n : ℕ) (c : Condition) → depth (nots n c) ≡ n + depth c
 unfolding nots
-depth-nots p zero c = omega arith
-depth-nots p (suc n) c = let e = ap depth (condition_of-Not p (nots p n c)) in let h = depth-nots p n c in
-    omega (arith, e, h)
+depth-nots zero c = omega arith
+depth-nots (suc n) c = let h = depth-nots n c in omega (arith, h)
 
-nodes-nots : (p : Box (Unit {0})) (n : ℕ) (c : Cond) → nodes (condition_of (nots p n c)) ≡ n + nodes (condition_of c)
+nodes-nots : (n : ℕ) (c : Condition) → nodes (nots n c) ≡ n + nodes c
 unfolding nots
-nodes-nots p zero c = omega arith
-nodes-nots p (suc n) c = let e = ap nodes (condition_of-Not p (nots p n c)) in let h = nodes-nots p n c in
-    omega (arith, e, h)
+nodes-nots zero c = omega arith
+nodes-nots (suc n) c = let h = nodes-nots n c in omega (arith, h)
 
-nots_valid : (b : Block) (p : Box (Unit {0})) (n : ℕ) (c : Cond) → IsValidCondition b (condition_of c)
-    → IsValidCondition b (condition_of (nots p n c))
+nots_valid : (b : Block) (n : ℕ) (c : Condition) → IsValidCondition b c → IsValidCondition b (nots n c)
 unfolding nots
-nots_valid b p zero c h = h
-nots_valid b p (suc n) c h = subst (IsValidCondition b) (sym (condition_of-Not p (nots p n c))) (nots_valid b p n c h)
+nots_valid b zero c h = h
+nots_valid b (suc n) c h = nots_valid b n c h
 
 full_input_valid : IsValidInput full_input
 full_input_valid = record {
@@ -258,34 +242,32 @@ full_output_valid = record {
   default_in_scale = scale 1000000000 (omega arith);
 }
 
-full_rule_valid : (p : Box (Unit {0})) → IsValidRule (full p) (full_rule p)
+full_rule_valid : IsValidRule full full_rule
 unfolding full_rule
-full_rule_valid p =
-    let literal : IsValidCondition (full p) (condition_of (Is 8 15)) =
-    subst (IsValidCondition (full p)) (sym (condition_of-Is 8 15))
-    (record { input_from = omega arith; term_from = omega arith; term_to = omega arith }) in
+full_rule_valid =
+    let literal : IsValidCondition full (is 8 15) =
+    record { input_from = omega arith; term_from = omega arith; term_to = omega arith } in
     record {
-      condition = nots_valid (full p) p 255 (Is 8 15) literal;
-      deep = let e = depth-nots p 255 (Is 8 15) in let i = ap depth (condition_of-Is 8 15) in omega (arith, e, i);
+      condition = nots_valid full 255 (is 8 15) literal;
+      deep = let e = depth-nots 255 (is 8 15) in omega (arith, e);
       weight = record { low = omega (arith, ints); high = omega (arith, ints) };
       some_conclusion = let e = length-replicate {A = ℕ × ℕ} 3840 (4, 15) in omega (arith, e);
-      conclusions = All-replicate (λ (c : ℕ × ℕ). HasSingleton (full p) c.0 c.1) 3840 (4, 15)
+      conclusions = All-replicate (λ (c : ℕ × ℕ). HasSingleton full c.0 c.1) 3840 (4, 15)
           (record { output_from = omega arith; term_from = omega arith; term_to = omega arith });
     }
 
-full_rule_size : (p : Box (Unit {0})) → rule_size (full_rule p) ≡ 4096
+full_rule_size : rule_size full_rule ≡ 4096
 unfolding full_rule
-full_rule_size p =
-    let e = nodes-nots p 255 (Is 8 15) in
-    let i = ap nodes (condition_of-Is 8 15) in
+full_rule_size =
+    let e = nodes-nots 255 (is 8 15) in
     let l = length-replicate {A = ℕ × ℕ} 3840 (4, 15) in
-    omega (arith, e, i, l)
+    omega (arith, e, l)
 
-full_valid : (p : Box (Unit {0})) → IsValid (full p)
-full_valid p =
+full_valid : IsValid full
+full_valid =
     let inputs = length-replicate 8 full_input in
     let outputs = length-replicate 4 full_output in
-    let rules = length-replicate 256 (full_rule p) in
+    let rules = length-replicate 256 full_rule in
     record {
       some_input = omega (arith, inputs);
       few_inputs = omega (arith, inputs);
@@ -295,9 +277,9 @@ full_valid p =
       few_rules = omega (arith, rules);
       inputs = All-replicate IsValidInput 8 full_input full_input_valid;
       outputs = All-replicate IsValidOutput 4 full_output full_output_valid;
-      rules = All-replicate (IsValidRule (full p)) 256 (full_rule p) (full_rule_valid p);
-      size = let e = sum_by-replicate rule_size 256 (full_rule p) in let s = full_rule_size p in omega (arith, e, s);
+      rules = All-replicate (IsValidRule full) 256 full_rule full_rule_valid;
+      size = let e = sum_by-replicate rule_size 256 full_rule in let s = full_rule_size in omega (arith, e, s);
     }
 
 pub examples_are_valid : ExamplesAreValid
-examples_are_valid = (heater_valid, λ p. (latch_valid p, full_valid p))
+examples_are_valid = (heater_valid, latch_valid, full_valid)

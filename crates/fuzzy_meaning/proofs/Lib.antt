@@ -1,5 +1,6 @@
 pub mod BlockLemmas
 pub mod ConditionLemmas
+pub mod Parts
 pub mod ShareLemmas
 pub mod ExampleLemmas
 pub mod DegreeLemmas

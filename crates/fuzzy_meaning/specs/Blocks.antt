@@ -1,15 +1,14 @@
 -- Valid blocks.
-use Rattle.std.specs.Prelude.{◌≡◌, ℕ, ◌+◌, ◌-◌, ◌≤◌, List, length, All, sum_by, map, slice_get, Option, Some, IfSome}
+use Rattle.std.specs.Prelude.{◌≡◌, ℕ, ◌+◌, ◌-◌, ◌≤◌, List, length, All, sum_by, slice_get, Option, Some, IfSome}
 use Rattle.std.specs.Prelude.{IsSomeAnd, option_and_then, ℤ, pos, neg_ℤ, ◌≤ℤ◌, ◌<ℤ◌}
 use Rattle.fz_num.specs.declared.dec.Dec.{Dec}
 use Rattle.fuzzy_meaning.specs.declared.block.Block.{Block}
 use Rattle.fuzzy_meaning.specs.declared.block.Input.{Input}
 use Rattle.fuzzy_meaning.specs.declared.block.Output.{Output}
 use Rattle.fuzzy_meaning.specs.declared.block.Rule.{Rule}
-use Rattle.fuzzy_meaning.specs.declared.block.Cond.{Cond}
 use Rattle.fuzzy_meaning.specs.declared.block.Trapezoid.{Trapezoid}
 use Rattle.fuzzy_meaning.specs.Conditions.{Condition, is, negation, all, any, Conditions, end, also, conditions}
-use Rattle.fuzzy_meaning.specs.Conditions.{condition_of, depth, nodes}
+use Rattle.fuzzy_meaning.specs.Conditions.{depth, nodes}
 
 -- inputs, outputs and terms count from 1
 abbrev pub input_at : Block → ℕ → Option Input
@@ -101,15 +100,15 @@ pub record IsWeight (w : Dec) : Type 0 where
   pub high : w.0 ≤ℤ pos 10000
 
 pub record IsValidRule (b : Block) (r : Rule) : Type 0 where
-  pub condition : IsValidCondition b (condition_of r.cond)
-  pub deep : depth (condition_of r.cond) ≤ 256
+  pub condition : IsValidCondition b r.cond
+  pub deep : depth r.cond ≤ 256
   pub weight : IfSome r.weight IsWeight
   pub some_conclusion : 1 ≤ length r.concl
   pub conclusions : All (λ c. HasSingleton b c.0 c.1) r.concl
 
 -- how many conditions and conclusions a rule has in all
 abbrev pub rule_size : Rule → ℕ
-rule_size r = nodes (condition_of r.cond) + length r.concl
+rule_size r = nodes r.cond + length r.concl
 
 pub record IsValid (b : Block) : Type 0 where
   pub some_input : 1 ≤ length b.inputs
@@ -132,5 +131,5 @@ pub record AreInputs (b : Block) (xs : List Dec) : Type 0 where
 -- each part of a valid AND or OR is valid
 abbrev pub PartsAreValid : Type 0
 PartsAreValid =
-    (b : Block) (parts : List Cond) (k : ℕ) (c : Cond) → AreValidConditions b (conditions (map condition_of parts))
-    → slice_get parts k ≡ Some c → IsValidCondition b (condition_of c)
+    (b : Block) (parts : List Condition) (k : ℕ) (c : Condition) → AreValidConditions b (conditions parts)
+    → slice_get parts k ≡ Some c → IsValidCondition b c

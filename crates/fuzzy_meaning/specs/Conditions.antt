@@ -1,7 +1,5 @@
 -- Conditions as trees.
-use Rattle.std.specs.Prelude.{ℕ, ◌+◌, ◌-◌, min, max, List, [], ◌∷◌, box_value}
-use Rattle.fuzzy_meaning.specs.declared.block.Cond.{Cond, fold-Cond}
-use Rattle.fuzzy_meaning.specs.declared.block.Cond.TheOpen.{Cond-F}
+use Rattle.std.specs.Prelude.{ℕ, ◌+◌, ◌-◌, min, max, List, [], ◌∷◌}
 
 mutual
   -- input i is term t; not; all of; any of
@@ -18,16 +16,6 @@ mutual
 abbrev pub conditions : List Condition → Conditions
 conditions [] = end
 conditions (c ∷ cs) = also c (conditions cs)
-
-abbrev pub condition_step : Cond-F Condition → Condition
-condition_step (Cond-F.Is i t) = is i t
-condition_step (Cond-F.Not c) = negation (box_value c)
-condition_step (Cond-F.And v) = all (conditions v.items)
-condition_step (Cond-F.Or v) = any (conditions v.items)
-
--- the tree that a condition of the code is
-abbrev pub condition_of : Cond → Condition
-condition_of = fold-Cond Condition condition_step
 
 -- how many conditions lie one in another
 abbrev mutual

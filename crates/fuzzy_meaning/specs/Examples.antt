@@ -1,13 +1,12 @@
 -- Blocks that are valid.
 use Rattle.std.specs.Prelude.{ℕ, zero, suc, [], ◌∷◌, Some, None, ℤ, pos, neg_ℤ, replicate}
-use Rattle.std.specs.Global.{Box}
 use Rattle.fz_num.specs.declared.dec.Dec.{Dec}
 use Rattle.fuzzy_meaning.specs.declared.block.Block.{Block}
 use Rattle.fuzzy_meaning.specs.declared.block.Input.{Input}
 use Rattle.fuzzy_meaning.specs.declared.block.Output.{Output}
 use Rattle.fuzzy_meaning.specs.declared.block.Rule.{Rule}
 use Rattle.fuzzy_meaning.specs.declared.block.Trapezoid.{Trapezoid}
-use Rattle.fuzzy_meaning.specs.declared.block.Cond.{Cond, Is, Not'}
+use Rattle.fuzzy_meaning.specs.Conditions.{Condition, is, negation}
 use Rattle.fuzzy_meaning.specs.Blocks.{IsValid}
 
 abbrev pub dec : ℤ → Dec
@@ -30,16 +29,16 @@ heater = record {
     default = Some (dec (pos 0));
   } ∷ [];
   rules =
-      record { cond = Is 1 1; weight = None; concl = (1, 1) ∷ [] } ∷
-      record { cond = Is 1 2; weight = None; concl = (1, 2) ∷ [] } ∷ [];
+      record { cond = is 1 1; weight = None; concl = (1, 1) ∷ [] } ∷
+      record { cond = is 1 2; weight = None; concl = (1, 2) ∷ [] } ∷ [];
 }
 
--- with vertical edges, a complement and DEFAULT := NC; p is where the condition under NOT lies
+-- with vertical edges, a complement and DEFAULT := NC
 abbrev pub step_at : ℕ → Trapezoid
 step_at n = record { a = Some (dec (pos n)); b = dec (pos n); c = dec (pos n); d = None }
 
-abbrev pub latch : Box (Unit {0}) → Block
-latch p = record {
+abbrev pub latch : Block
+latch = record {
   inputs = record { lo = dec (pos 0); hi = dec (pos 2560000); terms = step_at 640000 ∷ step_at 1920000 ∷ [] } ∷ [];
   outputs = record {
     lo = dec (pos 0);
@@ -48,14 +47,14 @@ latch p = record {
     default = None;
   } ∷ [];
   rules =
-      record { cond = Not' p (Is 1 1); weight = None; concl = (1, 2) ∷ [] } ∷
-      record { cond = Is 1 2; weight = None; concl = (1, 1) ∷ [] } ∷ [];
+      record { cond = negation (is 1 1); weight = None; concl = (1, 2) ∷ [] } ∷
+      record { cond = is 1 2; weight = None; concl = (1, 1) ∷ [] } ∷ [];
 }
 
 -- every limit is met: counts, depth, size and magnitudes
-unfoldable pub nots : Box (Unit {0}) → ℕ → Cond → Cond
-nots p zero c = c
-nots p (suc n) c = Not' p (nots p n c)
+unfoldable pub nots : ℕ → Condition → Condition
+nots zero c = c
+nots (suc n) c = negation (nots n c)
 
 abbrev pub full_term : Trapezoid
 full_term = record {
@@ -76,15 +75,15 @@ full_output = record {
   default = Some (dec (pos 1000000000));
 }
 
-unfoldable pub full_rule : Box (Unit {0}) → Rule
-full_rule p = record { cond = nots p 255 (Is 8 15); weight = Some (dec (pos 10000)); concl = replicate 3840 (4, 15) }
+unfoldable pub full_rule : Rule
+full_rule = record { cond = nots 255 (is 8 15); weight = Some (dec (pos 10000)); concl = replicate 3840 (4, 15) }
 
-abbrev pub full : Box (Unit {0}) → Block
-full p = record {
+abbrev pub full : Block
+full = record {
   inputs = replicate 8 full_input;
   outputs = replicate 4 full_output;
-  rules = replicate 256 (full_rule p);
+  rules = replicate 256 full_rule;
 }
 
 abbrev pub ExamplesAreValid : Type 0
-ExamplesAreValid = IsValid heater × ((p : Box (Unit {0})) → IsValid (latch p) × IsValid (full p))
+ExamplesAreValid = IsValid heater × IsValid latch × IsValid full

@@ -1,9 +1,11 @@
 pub mod Conditions
+pub mod Codes
+pub mod Trees
+pub mod TreeFalls
 pub mod Blocks
 pub mod Rules
 pub mod Degrees
 pub mod Places
 pub mod Meaning
 pub mod Holding
-pub mod SameBlocks
 pub mod Examples

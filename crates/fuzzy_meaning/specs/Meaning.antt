@@ -9,7 +9,7 @@ use Rattle.fuzzy_meaning.specs.declared.block.Block.{Block}
 use Rattle.fuzzy_meaning.specs.declared.block.Output.{Output}
 use Rattle.fuzzy_meaning.specs.declared.block.Rule.{Rule}
 use Rattle.fuzzy_meaning.specs.Blocks.{term_at, output_at}
-use Rattle.fuzzy_meaning.specs.Conditions.{Condition, is, negation, all, any, Conditions, end, also, condition_of}
+use Rattle.fuzzy_meaning.specs.Conditions.{Condition, is, negation, all, any, Conditions, end, also}
 use Rattle.fuzzy_meaning.specs.Degrees.{degree}
 use Rattle.fuzzy_meaning.specs.Rules.{concludes}
 
@@ -41,7 +41,7 @@ weight_of (Some w) = unsigned_abs w.0
 
 -- the truth of a rule's condition times its weight
 abbrev pub strength : Block → List Dec → Rule → Fraction
-strength b xs r = times (truth (literal_degree b xs) (condition_of r.cond)) (weight_of r.weight)
+strength b xs r = times (truth (literal_degree b xs) r.cond) (weight_of r.weight)
 
 -- the greatest strength of those of the rules that conclude term t of output o, or 0
 abbrev pub mass_among : Block → List Dec → ℕ → ℕ → List Rule → Fraction

@@ -1,4 +1,5 @@
 //! Function blocks as plain data.
+use crate::condition::Condition;
 use fz_list::List;
 use fz_num::Dec;
 
@@ -42,16 +43,7 @@ pub struct Output {
 /// a term of it.
 #[derive(Drop)]
 pub struct Rule {
-    pub cond: Cond,
+    pub cond: Condition,
     pub weight: Option<Dec>,
     pub concl: List<(u8, u8)>,
-}
-
-/// A condition. `Is` names an input and a term of it.
-#[derive(Drop)]
-pub enum Cond {
-    Is(u8, u8),
-    Not(Box<Cond>),
-    And(Vec<Cond>),
-    Or(Vec<Cond>),
 }

@@ -3,7 +3,8 @@ ghost use Rattle.std.specs.Prelude.{◌≡◌, IfOk, [], ◌∷◌, None};
 ghost use Rattle.fuzzy_meaning.specs.Blocks.{IsValid};
 ghost use Rattle.fuzzy_meaning.specs.Examples.{heater as heater_block, ExamplesAreValid};
 
-use crate::block::{Block, Cond, Input, Output, Rule, Trapezoid};
+use crate::block::{Block, Input, Output, Rule, Trapezoid};
+use crate::condition::Condition;
 use fz_list::List;
 use fz_num::Dec;
 use std::alloc::{AllocError, Global};
@@ -55,8 +56,8 @@ fn make_heater(alloc: Global) -> Result<Block, AllocError>
     let mut outputs = Vec::new(alloc);
     outputs.push(output)?;
     let mut rules = Vec::new(alloc);
-    rules.push(rule(alloc, Cond::Is(1, 1), 1)?)?;
-    rules.push(rule(alloc, Cond::Is(1, 2), 2)?)?;
+    rules.push(rule(alloc, Condition::is(1, 1), 1)?)?;
+    rules.push(rule(alloc, Condition::is(1, 2), 2)?)?;
     Ok(Block {
         inputs: List::new(inputs),
         outputs: List::new(outputs),
@@ -64,7 +65,7 @@ fn make_heater(alloc: Global) -> Result<Block, AllocError>
     })
 }
 
-fn rule(alloc: Global, condition: Cond, term: u8) -> Result<Rule, AllocError>
+fn rule(alloc: Global, condition: Condition, term: u8) -> Result<Rule, AllocError>
     ensures { IfOk result (λ r. r ≡ record { cond = condition; weight = None; concl = (1, term) ∷ [] }) }
 {
     Ok(Rule {

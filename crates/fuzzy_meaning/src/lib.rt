@@ -8,6 +8,7 @@
 
 mod answers;
 mod block;
+mod condition;
 mod degrees;
 mod examples;
 mod laws;
@@ -15,7 +16,8 @@ mod masses;
 mod truths;
 
 pub use answers::exact;
-pub use block::{Block, Cond, Input, Output, Rule, Trapezoid};
+pub use block::{Block, Input, Output, Rule, Trapezoid};
+pub use condition::{Condition, Node};
 pub use degrees::{degree, numbers_have_their_degrees};
 pub use examples::{examples_are_valid, heater};
 pub use laws::parts_are_valid;

@@ -7,7 +7,7 @@ use Rattle.fuzzy_meaning.specs.declared.block.Block.{Block}
 use Rattle.fuzzy_meaning.specs.declared.block.Output.{Output}
 use Rattle.fuzzy_meaning.specs.declared.block.Rule.{Rule}
 use Rattle.fuzzy_meaning.specs.Blocks.{input_at, output_at, IsValid}
-use Rattle.fuzzy_meaning.specs.Conditions.{Condition, level, condition_of}
+use Rattle.fuzzy_meaning.specs.Conditions.{Condition, level}
 use Rattle.fuzzy_meaning.specs.Rules.{concludes}
 use Rattle.byte_scaling.specs.Cells.{nearest_byte}
 use Rattle.byte_scaling.specs.Weights.{weight_byte_of}
@@ -25,7 +25,7 @@ byte_truth b bytes c = level 255 (literal_grade b bytes) c
 
 -- the truth scaled by the weight byte
 abbrev pub byte_strength : Block → List ℕ → Rule → ℕ
-byte_strength b bytes r = byte_truth b bytes (condition_of r.cond) * (weight_byte_of r.weight + 1) / 256
+byte_strength b bytes r = byte_truth b bytes r.cond * (weight_byte_of r.weight + 1) / 256
 
 -- the greatest strength of those of the rules that conclude term t of output o, or 0
 abbrev pub byte_mass_among : Block → List ℕ → ℕ → ℕ → List Rule → ℕ

@@ -9,7 +9,7 @@ use Rattle.fuzzy_meaning.specs.declared.block.Block.{Block}
 use Rattle.fuzzy_meaning.specs.declared.block.Rule.{Rule}
 use Rattle.fuzzy_meaning.specs.Blocks.{IsValid, IsValidInput, IsValidOutput, IsValidRule, IsValidCondition}
 use Rattle.fuzzy_meaning.specs.Blocks.{AreValidConditions, AllValidConditions, HasTerm, HasSingleton}
-use Rattle.fuzzy_meaning.specs.Conditions.{Condition, is, negation, all, any, Conditions, end, also, condition_of}
+use Rattle.fuzzy_meaning.specs.Conditions.{Condition, is, negation, all, any, Conditions, end, also}
 use Rattle.rule_layout.specs.Grid.{IsInGrid, FitsGrid, SomeFitGrid, AllFitGrid}
 use Rattle.rule_layout.specs.declared.flat.Slot.{Slot}
 use Rattle.rule_layout.specs.Slots.{terms_from, term_count, singleton_count, input_terms, output_terms, term_slot}
@@ -60,8 +60,8 @@ mutual
   all_fit_from_valid b end v h = tt
   all_fit_from_valid b (also c cs) v h = (fits_from_valid b c v h.0, all_fit_from_valid b cs v h.1)
 
-pub rule_fits : (b : Block) (r : Rule) → IsValid b → IsValidRule b r → FitsGrid (condition_of r.cond)
-rule_fits b r v h = fits_from_valid b (condition_of r.cond) v h.condition
+pub rule_fits : (b : Block) (r : Rule) → IsValid b → IsValidRule b r → FitsGrid r.cond
+rule_fits b r v h = fits_from_valid b r.cond v h.condition
 
 -- a pair of a variable from i up to, not with, j, and one of at most 15 terms
 pub record IsTermBetween (i j : ℕ) (p : ℕ × ℕ) : Type 0 where

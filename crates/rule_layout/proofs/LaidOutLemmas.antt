@@ -13,7 +13,6 @@ use Rattle.fz_num.specs.declared.dec.Dec.{Dec}
 use Rattle.fuzzy_meaning.specs.declared.block.Block.{Block}
 use Rattle.fuzzy_meaning.specs.declared.block.Rule.{Rule}
 use Rattle.fuzzy_meaning.specs.Blocks.{IsValid, IsWeight}
-use Rattle.fuzzy_meaning.specs.Conditions.{condition_of}
 use Rattle.byte_scaling.specs.Weights.{weight_byte_of}
 use Rattle.rule_layout.specs.declared.flat.Slot.{Slot}
 use Rattle.rule_layout.specs.declared.flat.Slot.TheVariants.{Term, Complement, Out}
@@ -236,7 +235,7 @@ laid_out_made b f v same =
     let some = flat_map_some (rule_conjunctions (slots_of b)) b.rules v.some_rule
     (λ k d lt. omega (
       arith,
-      some_conjunction false (condition_of ((get_or b.rules k d).cond))
+      some_conjunction false ((get_or b.rules k d).cond)
           (rule_fits b (get_or b.rules k d) v (v.rules k d lt)),
       length-map (rule_spread (get_or b.rules k d)) (conjunction_of (slots_of b) (get_or b.rules k d)),
     )) in

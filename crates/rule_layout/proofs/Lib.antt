@@ -14,4 +14,4 @@ pub mod TruthLemmas
 pub mod MassLemmas
 pub mod LaidOutLemmas
 pub mod PlaceLemmas
-pub mod AlikeLemmas
+pub mod FaultLemmas

@@ -11,7 +11,6 @@ use Rattle.std.proofs.Math.Nat.{mul-le-mul_right}
 use Rattle.fuzzy_meaning.specs.declared.block.Block.{Block}
 use Rattle.fuzzy_meaning.specs.declared.block.Rule.{Rule}
 use Rattle.fuzzy_meaning.specs.Blocks.{IsValid, HasSingleton, input_at}
-use Rattle.fuzzy_meaning.specs.Conditions.{condition_of}
 use Rattle.fuzzy_meaning.specs.Rules.{concludes}
 use Rattle.byte_scaling.specs.Weights.{weight_byte_of}
 use Rattle.point_slope.specs.Tables.{row_of, grade_of, grade_under, side}
@@ -176,7 +175,7 @@ module _ (b : Block) (v : IsValid b) (o t : ℕ) (given : HasSingleton b o t) wh
       ∙ sym (length-map (rule_spread r) (conjunction_of (slots_of b) r))) in
       let rule = left_in-rule b g (weight_byte_of r.weight) place r (concludes r o t) (rule_spread r)
       (raised_as_concluded r.concl here.conclusions) here.literals in
-      let truth = spreading_law_lem 255 g (condition_of r.cond) (omega arith) (literal_grade_le b bytes) in
+      let truth = spreading_law_lem 255 g r.cond (omega arith) (literal_grade_le b bytes) in
       let later = rules_left bytes rs (All-tail (RuleHasSlots b) r rs h) in
       whole ∙ (ap₂ (λ (m n : ℕ). max m n)
       (rule ∙ ap (λ (m : ℕ). if concludes r o t then scaled (weight_byte_of r.weight) m else 0) truth) later

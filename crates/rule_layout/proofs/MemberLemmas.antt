@@ -11,7 +11,7 @@ use Rattle.fuzzy_meaning.specs.declared.block.Block.{Block}
 use Rattle.fuzzy_meaning.specs.declared.block.Rule.{Rule}
 use Rattle.fuzzy_meaning.specs.Blocks.{IsValid, IsValidCondition, AreValidConditions, AllValidConditions, HasTerm}
 use Rattle.fuzzy_meaning.specs.Blocks.{HasSingleton}
-use Rattle.fuzzy_meaning.specs.Conditions.{Condition, is, negation, all, any, Conditions, end, also, condition_of}
+use Rattle.fuzzy_meaning.specs.Conditions.{Condition, is, negation, all, any, Conditions, end, also}
 use Rattle.rule_layout.specs.declared.flat.Slot.{Slot}
 use Rattle.rule_layout.specs.declared.flat.Slot.TheVariants.{Term, Complement, Out}
 use Rattle.rule_layout.specs.Spreading.{Literal, literal, choices, spread_of, one_after_another, each_choice}
@@ -240,8 +240,8 @@ rules_have_slots b v = λ k d lt.
     let r = get_or b.rules k d in
     let valid = v.rules k d lt in
     let made : RuleHasSlots b r = record {
-      literals = literals_have_slots b v false (condition_of r.cond) valid.condition
-          (λ i t e. list_any-at (λ (q : Rule). has_complement i t false (condition_of q.cond)) b.rules k d lt e);
+      literals = literals_have_slots b v false r.cond valid.condition
+          (λ i t e. list_any-at (λ (q : Rule). has_complement i t false q.cond) b.rules k d lt e);
       conclusions = λ j p here. record {
         known = singleton_in_table b _ _ v (valid.conclusions j p here);
         found = number_in-lt (slots_of b) _ (out_in_slots b v _ _ (valid.conclusions j p here));

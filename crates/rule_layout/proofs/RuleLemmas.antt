@@ -7,7 +7,7 @@ use Rattle.std.proofs.lemmas.List.Sums.{sum_by_more, sum_by-cons}
 use Rattle.std.proofs.lemmas.List.Elements.{All-head, All-tail}
 use Rattle.std.proofs.Math.Nat.{mul-le-mul_left}
 use Rattle.fuzzy_meaning.specs.declared.block.Rule.{Rule}
-use Rattle.fuzzy_meaning.specs.Conditions.{condition_of, nodes}
+use Rattle.fuzzy_meaning.specs.Conditions.{nodes}
 use Rattle.rule_layout.specs.declared.sizes.Size.{Size}
 use Rattle.rule_layout.specs.Spreading.{Literal, total_length}
 use Rattle.rule_layout.specs.Sizes.{IsCountable, rule_entries, entry_count, IsSizeOfRule, IsSizeOfRules, IsSum, IsSmall}
@@ -25,8 +25,8 @@ entries_bound e m n k h few =
 
 rule_entries_le : (r : Rule) → IsCountable r → rule_entries r ≤ length (rule_spread r) * 2097152
 rule_entries_le r h =
-    entries_bound (total_length (rule_spread r)) (length (rule_spread r)) (nodes (condition_of r.cond)) (length r.concl)
-    (entries_le false (condition_of r.cond)) h.few
+    entries_bound (total_length (rule_spread r)) (length (rule_spread r)) (nodes r.cond) (length r.concl)
+    (entries_le false r.cond) h.few
 
 pub entry_count_le : (rules : List Rule) → All IsCountable rules → entry_count rules ≤ conjunction_count rules * 2097152
 entry_count_le [] h = omega arith

@@ -1,10 +1,9 @@
 -- The sizes of lists of conjunctions, part by part.
-use Rattle.std.proofs.Common.{◌≡◌, ℕ, ◌+◌, ◌*◌, ◌<◌, ◌≤◌, Bool, List, [], ◌∷◌, ◌++◌, length, map, take, drop, Some}
+use Rattle.std.proofs.Common.{◌≡◌, ℕ, ◌+◌, ◌*◌, ◌<◌, ◌≤◌, Bool, List, [], ◌∷◌, ◌++◌, length, take, drop, Some}
 use Rattle.std.proofs.Common.{None, ap, ◌∙◌, subst, arith}
 use Rattle.std.proofs.lemmas.List.{length-append, append-nil}
 use Rattle.std.proofs.Math.Nat.{mul-le-mul_left, mul-le-mul_right}
-use Rattle.fuzzy_meaning.specs.declared.block.Cond.{Cond}
-use Rattle.fuzzy_meaning.specs.Conditions.{Condition, conditions, condition_of, nodes, total_nodes}
+use Rattle.fuzzy_meaning.specs.Conditions.{Condition, conditions, nodes, total_nodes}
 use Rattle.rule_layout.specs.declared.sizes.Size.{Size}
 use Rattle.rule_layout.specs.Spreading.{choices, spread_of, one_after_another, each_choice}
 use Rattle.rule_layout.specs.Grid.{AllFitGrid}
@@ -139,51 +138,51 @@ module _ (odd : Bool) (front : List Condition) (c : Condition) (back : List Cond
       (length (each_choice odd (conditions back))) some_back in
       omega (arith, over, a, length-each_choice odd front c back)
 
-module _ {cs : List Cond} {i : ℕ} {p : Cond} (at : PartOf cs i p) (odd : Bool) where
+module _ {cs : List Condition} {i : ℕ} {p : Condition} (at : PartOf cs i p) (odd : Bool) where
   pub in_turn_more : (t s r : Size)
-      → IsSizeOf (one_after_another odd (conditions (map condition_of (take i cs)))) (Some t)
-      → IsSizeOf (spread_of odd (condition_of p)) (Some s) → IsSum t s (Some r)
-      → IsSizeOf (one_after_another odd (conditions (map condition_of (take (i + 1) cs)))) (Some r)
+      → IsSizeOf (one_after_another odd (conditions (take i cs))) (Some t)
+      → IsSizeOf (spread_of odd p) (Some s) → IsSum t s (Some r)
+      → IsSizeOf (one_after_another odd (conditions (take (i + 1) cs))) (Some r)
   in_turn_more t s r h k sum =
-      rw (at.more) (in_turn_step odd (map condition_of (take i cs)) (condition_of p) t s r h k sum)
+      rw (at.more) (in_turn_step odd (take i cs) p t s r h k sum)
 
-  pub in_turn_over_by_part : IsSizeOf (spread_of odd (condition_of p)) None
-      → IsSizeOf (one_after_another odd (conditions (map condition_of cs))) None
+  pub in_turn_over_by_part : IsSizeOf (spread_of odd p) None
+      → IsSizeOf (one_after_another odd (conditions cs)) None
   in_turn_over_by_part k =
       rw (at.split) (omega (
         arith,
         k,
-        length-in_turn odd (map condition_of (take i cs)) (condition_of p)
-            (map condition_of (drop (i + 1) cs)),
+        length-in_turn odd (take i cs) p
+            (drop (i + 1) cs),
       ))
 
   pub in_turn_over_by_sum : (t s : Size)
-      → IsSizeOf (one_after_another odd (conditions (map condition_of (take i cs)))) (Some t)
-      → IsSizeOf (spread_of odd (condition_of p)) (Some s) → IsSum t s None
-      → IsSizeOf (one_after_another odd (conditions (map condition_of cs))) None
+      → IsSizeOf (one_after_another odd (conditions (take i cs))) (Some t)
+      → IsSizeOf (spread_of odd p) (Some s) → IsSum t s None
+      → IsSizeOf (one_after_another odd (conditions cs)) None
   in_turn_over_by_sum t s h k sum =
-      rw (at.split) (in_turn_sum_over odd (map condition_of (take i cs)) (condition_of p) t s
-      (map condition_of (drop (i + 1) cs)) h k sum)
+      rw (at.split) (in_turn_sum_over odd (take i cs) p t s
+      (drop (i + 1) cs) h k sum)
 
-  pub choices_more : (t s r : Size) → IsSizeOf (each_choice odd (conditions (map condition_of (take i cs)))) (Some t)
-      → IsSizeOf (spread_of odd (condition_of p)) (Some s) → IsProduct t s (Some r)
-      → IsSizeOf (each_choice odd (conditions (map condition_of (take (i + 1) cs)))) (Some r)
+  pub choices_more : (t s r : Size) → IsSizeOf (each_choice odd (conditions (take i cs))) (Some t)
+      → IsSizeOf (spread_of odd p) (Some s) → IsProduct t s (Some r)
+      → IsSizeOf (each_choice odd (conditions (take (i + 1) cs))) (Some r)
   choices_more t s r h k product =
-      rw (at.more) (choice_step odd (map condition_of (take i cs)) (condition_of p) t s r h k product)
+      rw (at.more) (choice_step odd (take i cs) p t s r h k product)
 
-  pub choices_over_by_part : AllFitGrid (conditions (map condition_of cs))
-      → IsSizeOf (spread_of odd (condition_of p)) None
-      → IsSizeOf (each_choice odd (conditions (map condition_of cs))) None
+  pub choices_over_by_part : AllFitGrid (conditions cs)
+      → IsSizeOf (spread_of odd p) None
+      → IsSizeOf (each_choice odd (conditions cs)) None
   choices_over_by_part fits k =
-      rw (at.split) (choice_part_over odd (map condition_of (take i cs)) (condition_of p)
-      (map condition_of (drop (i + 1) cs))
+      rw (at.split) (choice_part_over odd (take i cs) p
+      (drop (i + 1) cs)
       (subst (λ (w : List Condition). AllFitGrid (conditions w)) (at.split) fits) k)
 
-  pub choices_over_by_product : AllFitGrid (conditions (map condition_of cs)) → (t s : Size)
-      → IsSizeOf (each_choice odd (conditions (map condition_of (take i cs)))) (Some t)
-      → IsSizeOf (spread_of odd (condition_of p)) (Some s) → IsProduct t s None
-      → IsSizeOf (each_choice odd (conditions (map condition_of cs))) None
+  pub choices_over_by_product : AllFitGrid (conditions cs) → (t s : Size)
+      → IsSizeOf (each_choice odd (conditions (take i cs))) (Some t)
+      → IsSizeOf (spread_of odd p) (Some s) → IsProduct t s None
+      → IsSizeOf (each_choice odd (conditions cs)) None
   choices_over_by_product fits t s h k product =
-      rw (at.split) (choice_product_over odd (map condition_of (take i cs)) (condition_of p)
-      (map condition_of (drop (i + 1) cs))
+      rw (at.split) (choice_product_over odd (take i cs) p
+      (drop (i + 1) cs)
       (subst (λ (w : List Condition). AllFitGrid (conditions w)) (at.split) fits) t s h k product)

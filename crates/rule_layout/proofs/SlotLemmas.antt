@@ -6,7 +6,7 @@ use Rattle.std.proofs.lemmas.List.{map_more, append-nil, take_more, length-map, 
 use Rattle.std.proofs.lemmas.List.FromFn.{map-range_with_len_more}
 use Rattle.std.proofs.lemmas.List.Folds.{list_any-append}
 use Rattle.fuzzy_meaning.specs.declared.block.Rule.{Rule}
-use Rattle.fuzzy_meaning.specs.Conditions.{Condition, conditions, condition_of}
+use Rattle.fuzzy_meaning.specs.Conditions.{Condition, conditions}
 use Rattle.rule_layout.specs.Slots.{terms_from, has_complement, some_has_complement, is_complemented}
 
 pub terms_push : (v n j : ℕ) (front : List (ℕ × ℕ)) → 1 + n ≡ j →
@@ -65,13 +65,13 @@ marks_more old now new front part h k = k ∙ (ap (λ (b : Bool). b || part) h �
 
 pub is_complemented_more : (rules : List Rule) (k : ℕ) (r : Rule) (i t : ℕ) → k < length rules → r ≡ get_or rules k r →
     is_complemented (take (k + 1) rules) i t
-    ≡ (is_complemented (take k rules) i t || has_complement i t false (condition_of r.cond))
+    ≡ (is_complemented (take k rules) i t || has_complement i t false r.cond)
 is_complemented_more rules k r i t lt here =
     let more = take_more rules k r lt ∙ ap (λ (q : Rule). take k rules ++ q ∷ []) (sym here) in
     ap (λ (w : List Rule). is_complemented w i t) more
-    ∙ (list_any-append (λ (q : Rule). has_complement i t false (condition_of q.cond)) (take k rules) (r ∷ [])
+    ∙ (list_any-append (λ (q : Rule). has_complement i t false q.cond) (take k rules) (r ∷ [])
     ∙ ap (λ (b : Bool). is_complemented (take k rules) i t || b)
-    (or_false (has_complement i t false (condition_of r.cond))))
+    (or_false (has_complement i t false r.cond)))
 
 -- a table without marks
 pub no_marks : (k n : ℕ) → get_or (replicate k false) n false ≡ false

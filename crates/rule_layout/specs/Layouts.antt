@@ -6,7 +6,6 @@ use Rattle.fz_num.specs.declared.dec.Dec.{Dec}
 use Rattle.fuzzy_meaning.specs.declared.block.Block.{Block}
 use Rattle.fuzzy_meaning.specs.declared.block.Rule.{Rule}
 use Rattle.fuzzy_meaning.specs.Blocks.{IsValid}
-use Rattle.fuzzy_meaning.specs.Conditions.{condition_of}
 use Rattle.rule_layout.specs.declared.flat.Slot.{Slot}
 use Rattle.rule_layout.specs.declared.flat.Conjunction.{Conjunction}
 use Rattle.rule_layout.specs.declared.flat.Form.{Form}
@@ -21,7 +20,7 @@ use Rattle.byte_scaling.specs.Weights.{weight_byte_of}
 
 -- a rule's condition spread
 abbrev pub rule_spread : Rule → List (List Literal)
-rule_spread r = spread_of false (condition_of r.cond)
+rule_spread r = spread_of false r.cond
 
 -- a conjunction of a rule, by the numbers of the slots
 abbrev pub conjunction_of : List Slot → Rule → List Literal → Conjunction

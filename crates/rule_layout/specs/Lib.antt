@@ -2,7 +2,7 @@ pub mod Spreading
 pub mod Slots
 pub mod Lists
 pub mod Layouts
-pub mod Alike
+pub mod Faults
 pub mod Grid
 pub mod Sizes
 pub mod Tables

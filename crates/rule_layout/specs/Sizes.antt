@@ -1,7 +1,6 @@
 -- What the sizes of lists of conjunctions say.
 use Rattle.std.specs.Prelude.{◌≡◌, ℕ, ◌+◌, ◌*◌, ◌<◌, ◌≤◌, List, length, sum_by, Option, Some, None, Result, Ok, Err}
 use Rattle.fuzzy_meaning.specs.declared.block.Rule.{Rule}
-use Rattle.fuzzy_meaning.specs.Conditions.{condition_of}
 use Rattle.fuzzy_meaning.specs.Blocks.{rule_size}
 use Rattle.rule_layout.specs.declared.flat.LayoutFault.{LayoutFault}
 use Rattle.rule_layout.specs.declared.flat.LayoutFault.TheVariants.{TooManyRules, ListTooLong, Memory}
@@ -33,7 +32,7 @@ IsProduct s o (Some r) =
 
 -- a rule whose size can be counted
 pub record IsCountable (r : Rule) : Type 0 where
-  pub fits : FitsGrid (condition_of r.cond)
+  pub fits : FitsGrid r.cond
   pub few : rule_size r ≤ 1048576
 
 -- the elements of the list that a rule gives: each conjunction has the rule's conclusions and two

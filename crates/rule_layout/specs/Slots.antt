@@ -6,7 +6,7 @@ use Rattle.fuzzy_meaning.specs.declared.block.Block.{Block}
 use Rattle.fuzzy_meaning.specs.declared.block.Input.{Input}
 use Rattle.fuzzy_meaning.specs.declared.block.Output.{Output}
 use Rattle.fuzzy_meaning.specs.declared.block.Rule.{Rule}
-use Rattle.fuzzy_meaning.specs.Conditions.{Condition, is, negation, all, any, Conditions, end, also, condition_of}
+use Rattle.fuzzy_meaning.specs.Conditions.{Condition, is, negation, all, any, Conditions, end, also}
 use Rattle.rule_layout.specs.declared.flat.Slot.{Slot}
 use Rattle.rule_layout.specs.declared.flat.Slot.TheVariants.{Term, Complement, Out}
 use Rattle.rule_layout.specs.Spreading.{Literal}
@@ -43,7 +43,7 @@ abbrev mutual
 
 -- some rule uses the complement of input i's term t
 abbrev pub is_complemented : List Rule → ℕ → ℕ → Bool
-is_complemented rules i t = list_any (λ r. has_complement i t false (condition_of r.cond)) rules
+is_complemented rules i t = list_any (λ r. has_complement i t false r.cond) rules
 
 abbrev pub term_slot : ℕ × ℕ → Slot
 term_slot p = Term p.0 p.1

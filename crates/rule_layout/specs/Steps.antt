@@ -1,7 +1,6 @@
 -- What the steps of laying out rules make, by a table of the slots' numbers.
 use Rattle.std.specs.Prelude.{ℕ, List, map, All}
 use Rattle.fuzzy_meaning.specs.declared.block.Rule.{Rule}
-use Rattle.fuzzy_meaning.specs.Conditions.{condition_of}
 use Rattle.rule_layout.specs.declared.flat.Conjunction.{Conjunction}
 use Rattle.rule_layout.specs.Spreading.{Literal}
 use Rattle.rule_layout.specs.Grid.{FitsGrid}
@@ -21,7 +20,7 @@ table_conjunctions table r = map (table_conjunction table r) (rule_spread r)
 
 -- a rule that can be spread by a table
 pub record IsSpreadable (r : Rule) : Type 0 where
-  pub fits : FitsGrid (condition_of r.cond)
+  pub fits : FitsGrid r.cond
   pub conclusions : All (λ p. IsInTable (out_slot p)) r.concl
 
 -- a conjunction with these conclusions

@@ -1,5 +1,5 @@
 //! Laws of the layout, each the contract of a function that does nothing.
-ghost use Rattle.rule_layout.specs.Alike.{LayoutsAreOne, LimitsHaveNoFault};
+ghost use Rattle.rule_layout.specs.Faults.{LimitsHaveNoFault};
 ghost use Rattle.rule_layout.specs.Layouts.{LayoutLaw, FlatHasParts};
 ghost use Rattle.rule_layout.specs.Masses.{MassLaw};
 ghost use Rattle.rule_layout.specs.Numbers.{TermNumberLaw, OutNumberLaw};
@@ -33,12 +33,6 @@ pub fn slot_number_laws()
 /// for each a weight byte, which for REV is 255.
 pub fn layout_law()
     ensures { LayoutLaw }
-{}
-
-/// Where the conditions of a block lie in memory decides nothing: blocks that are the same have
-/// one layout, the same limits, and the same faults.
-pub fn layouts_are_one()
-    ensures { LayoutsAreOne }
 {}
 
 /// A block within its limits has no fault.

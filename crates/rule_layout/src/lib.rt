@@ -20,7 +20,6 @@ mod spreading;
 
 pub use flat::{Conjunction, Flat, Form, LayoutFault, Slot};
 pub use laws::{
-    flat_has_parts, layout_law, layouts_are_one, limits_have_no_fault, mass_law, slot_number_laws,
-    spreading_law,
+    flat_has_parts, layout_law, limits_have_no_fault, mass_law, slot_number_laws, spreading_law,
 };
 pub use layout::spread;

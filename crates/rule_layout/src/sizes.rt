@@ -1,11 +1,11 @@
 //! How much conditions spread into, found without spreading them.
 ghost use Rattle.std.specs.Prelude.{ℕ, ◌+◌, ◌*◌, ◌<◌, ◌≤◌, ◌^◌, map, MatchOption};
-ghost use Rattle.fuzzy_meaning.specs.Conditions.{condition_of, conditions, nodes, total_nodes};
+ghost use Rattle.fuzzy_meaning.specs.Conditions.{conditions, nodes, total_nodes};
 ghost use Rattle.rule_layout.specs.Spreading.{spread_of, one_after_another, each_choice};
 ghost use Rattle.rule_layout.specs.Sizes.{IsSizeOf};
 ghost use Rattle.rule_layout.specs.Grid.{FitsGrid, AllFitGrid};
 
-use fuzzy_meaning::Cond;
+use fuzzy_meaning::{Condition, Node};
 
 /// The most conjunctions that rules may have in all.
 pub const MOST_CONJUNCTIONS: u32 = 512;
@@ -73,22 +73,22 @@ impl Size {
 /// What a condition spreads into, or None where that is more than 512 conjunctions. `odd` says
 /// that it stands under an odd number of NOTs.
 #[cycle(size)]
-pub fn size_of(condition: &Cond, odd: bool) -> Option<Size>
-    requires fits { FitsGrid (condition_of condition.now) }
-    requires few { nodes (condition_of condition.now) ≤ 1048576 }
-    ensures { IsSizeOf (spread_of odd (condition_of condition.now)) result }
+pub fn size_of(condition: &Condition, odd: bool) -> Option<Size>
+    requires fits { FitsGrid condition.now }
+    requires few { nodes condition.now ≤ 1048576 }
+    ensures { IsSizeOf (spread_of odd condition.now) result }
 {
-    match condition {
-        Cond::Is(_, _) => Some(Size::LITERAL),
-        Cond::Not(part) => size_of(part, !odd),
-        Cond::And(parts) => {
+    match &condition.node {
+        Node::Is(_, _) => Some(Size::LITERAL),
+        Node::Not(part) => size_of(part, !odd),
+        Node::And(parts) => {
             if odd {
                 size_in_turn(parts, odd)
             } else {
                 size_of_choices(parts, odd)
             }
         }
-        Cond::Or(parts) => {
+        Node::Or(parts) => {
             if odd {
                 size_of_choices(parts, odd)
             } else {
@@ -100,10 +100,10 @@ pub fn size_of(condition: &Cond, odd: bool) -> Option<Size>
 
 /// What the lists of some conditions are one after another.
 #[cycle(size)]
-fn size_in_turn(parts: &[Cond], odd: bool) -> Option<Size>
-    requires fits { AllFitGrid (conditions (map condition_of parts.now)) }
-    requires few { total_nodes (conditions (map condition_of parts.now)) ≤ 1048576 }
-    ensures { IsSizeOf (one_after_another odd (conditions (map condition_of parts.now))) result }
+fn size_in_turn(parts: &[Condition], odd: bool) -> Option<Size>
+    requires fits { AllFitGrid (conditions parts.now) }
+    requires few { total_nodes (conditions parts.now) ≤ 1048576 }
+    ensures { IsSizeOf (one_after_another odd (conditions parts.now)) result }
 {
     let mut total = Size::NONE;
     for part in parts {
@@ -115,10 +115,10 @@ fn size_in_turn(parts: &[Cond], odd: bool) -> Option<Size>
 
 /// What each choice of one conjunction per condition is.
 #[cycle(size)]
-fn size_of_choices(parts: &[Cond], odd: bool) -> Option<Size>
-    requires fits { AllFitGrid (conditions (map condition_of parts.now)) }
-    requires few { total_nodes (conditions (map condition_of parts.now)) ≤ 1048576 }
-    ensures { IsSizeOf (each_choice odd (conditions (map condition_of parts.now))) result }
+fn size_of_choices(parts: &[Condition], odd: bool) -> Option<Size>
+    requires fits { AllFitGrid (conditions parts.now) }
+    requires few { total_nodes (conditions parts.now) ≤ 1048576 }
+    ensures { IsSizeOf (each_choice odd (conditions parts.now)) result }
 {
     let mut total = Size::EMPTY;
     for part in parts {

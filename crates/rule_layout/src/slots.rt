@@ -1,7 +1,6 @@
 //! The slots of a block and their numbers.
 ghost use Rattle.std.specs.Prelude.{◌≡◌, ◌+◌, ◌<◌, ◌≤◌, ◌++◌, map, filter, length, IfOk, OnOk, All};
 ghost use Rattle.std.specs.List.{range_with_len};
-ghost use Rattle.fuzzy_meaning.specs.Conditions.{condition_of};
 ghost use Rattle.fuzzy_meaning.specs.Blocks.{IsValid};
 ghost use Rattle.rule_layout.specs.Slots.{slots_of, terms_from, term_count, singleton_count, term_slot};
 ghost use Rattle.rule_layout.specs.Slots.{complement_slot, out_slot};
@@ -10,7 +9,7 @@ ghost use Rattle.rule_layout.specs.Tables.{IsInTable, place_of, table_number, Is
 ghost use Rattle.rule_layout.specs.Tables.{AreUsed};
 
 use crate::flat::Slot;
-use fuzzy_meaning::{Block, Cond, Input, Output, Rule};
+use fuzzy_meaning::{Block, Condition, Input, Node, Output, Rule};
 use std::alloc::{AllocError, Global};
 
 /// The most terms of a variable.
@@ -71,7 +70,7 @@ struct Complements {
 
 impl Complements {
     fn new(rules: &[Rule]) -> Complements
-        requires { All (λ r. FitsGrid (condition_of r.cond)) rules.now }
+        requires { All (λ r. FitsGrid r.cond) rules.now }
         ensures { AreUsed rules.now result.table }
     {
         let mut complements = Complements {
@@ -84,18 +83,18 @@ impl Complements {
     }
 
     /// Adds those of a condition; `odd` says that it stands under an odd number of NOTs.
-    fn add(&mut self, condition: &Cond, odd: bool)
-        requires { FitsGrid (condition_of condition.now) }
-        ensures { AreAdded odd (condition_of condition.now) self.old.table self.new.table }
+    fn add(&mut self, condition: &Condition, odd: bool)
+        requires { FitsGrid condition.now }
+        ensures { AreAdded odd condition.now self.old.table self.new.table }
     {
-        match condition {
-            Cond::Is(input, term) => {
+        match &condition.node {
+            Node::Is(input, term) => {
                 if odd {
                     self.table[place(Slot::Complement(*input, *term))] = true;
                 }
             }
-            Cond::Not(part) => self.add(part, !odd),
-            Cond::And(parts) | Cond::Or(parts) => {
+            Node::Not(part) => self.add(part, !odd),
+            Node::And(parts) | Node::Or(parts) => {
                 for part in parts {
                     self.add(part, odd);
                 }

@@ -1,13 +1,13 @@
 //! Conditions spread into conjunctions.
 ghost use Rattle.std.specs.Prelude.{◌≡◌, ◌++◌, ◌∷◌, [], map, IfOk, OnOk};
-ghost use Rattle.fuzzy_meaning.specs.Conditions.{condition_of, conditions};
+ghost use Rattle.fuzzy_meaning.specs.Conditions.{conditions};
 ghost use Rattle.rule_layout.specs.Spreading.{spread_of, one_after_another, each_choice, choices, literal};
 ghost use Rattle.rule_layout.specs.Grid.{FitsGrid, AllFitGrid};
 ghost use Rattle.rule_layout.specs.Tables.{table_literals};
 
 use crate::flat::Slot;
 use crate::slots::SlotNumbers;
-use fuzzy_meaning::Cond;
+use fuzzy_meaning::{Condition, Node};
 use fz_list::List;
 use std::alloc::{AllocError, Global};
 
@@ -17,15 +17,15 @@ use std::alloc::{AllocError, Global};
 pub fn conjunctions(
     alloc: Global,
     numbers: &SlotNumbers,
-    condition: &Cond,
+    condition: &Condition,
     odd: bool,
 ) -> Result<Vec<List<u16>>, AllocError>
-    requires { FitsGrid (condition_of condition.now) }
+    requires { FitsGrid condition.now }
     ensures { IfOk result
-        (λ v. v.items ≡ table_literals numbers.now.table (spread_of odd (condition_of condition.now))) }
+        (λ v. v.items ≡ table_literals numbers.now.table (spread_of odd condition.now)) }
 {
-    match condition {
-        Cond::Is(input, term) => {
+    match &condition.node {
+        Node::Is(input, term) => {
             let slot = if odd {
                 Slot::Complement(*input, *term)
             } else {
@@ -34,15 +34,15 @@ pub fn conjunctions(
             let literals = vec![in alloc; numbers.number(slot)]?;
             single(alloc, List::new(literals))
         }
-        Cond::Not(part) => conjunctions(alloc, numbers, part, !odd),
-        Cond::And(parts) => {
+        Node::Not(part) => conjunctions(alloc, numbers, part, !odd),
+        Node::And(parts) => {
             if odd {
                 in_turn(alloc, numbers, parts, odd)
             } else {
                 by_choice(alloc, numbers, parts, odd)
             }
         }
-        Cond::Or(parts) => {
+        Node::Or(parts) => {
             if odd {
                 by_choice(alloc, numbers, parts, odd)
             } else {
@@ -57,12 +57,12 @@ pub fn conjunctions(
 fn in_turn(
     alloc: Global,
     numbers: &SlotNumbers,
-    parts: &[Cond],
+    parts: &[Condition],
     odd: bool,
 ) -> Result<Vec<List<u16>>, AllocError>
-    requires { AllFitGrid (conditions (map condition_of parts.now)) }
+    requires { AllFitGrid (conditions parts.now) }
     ensures { IfOk result (λ v. v.items
-        ≡ table_literals numbers.now.table (one_after_another odd (conditions (map condition_of parts.now)))) }
+        ≡ table_literals numbers.now.table (one_after_another odd (conditions parts.now))) }
 {
     let mut all = Vec::new(alloc);
     for part in parts {
@@ -77,12 +77,12 @@ fn in_turn(
 fn by_choice(
     alloc: Global,
     numbers: &SlotNumbers,
-    parts: &[Cond],
+    parts: &[Condition],
     odd: bool,
 ) -> Result<Vec<List<u16>>, AllocError>
-    requires { AllFitGrid (conditions (map condition_of parts.now)) }
+    requires { AllFitGrid (conditions parts.now) }
     ensures { IfOk result (λ v. v.items
-        ≡ table_literals numbers.now.table (each_choice odd (conditions (map condition_of parts.now)))) }
+        ≡ table_literals numbers.now.table (each_choice odd (conditions parts.now))) }
 {
     let mut chosen = single(alloc, List::new(Vec::new(alloc)))?;
     for part in parts {

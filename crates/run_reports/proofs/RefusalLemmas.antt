@@ -42,7 +42,7 @@ pub samples_stand : SpelledBlocksAreOne → SpelledTracesHaveNoFault → Spelled
 samples_stand one traces plans text trace plan block other samples requests
     (status.Trace f) spelled also in_range good r =
     traces other.inputs trace samples f
-    (subst (λ (is : List Input). SpellsTrace is trace samples) (sym (one text other block also spelled).inputs)
+    (subst (λ (b : Block). SpellsTrace b.inputs trace samples) (sym (one text other block also spelled))
     in_range) r
 samples_stand one traces plans text trace plan block other samples requests
     (status.Plan f) spelled also in_range good r =

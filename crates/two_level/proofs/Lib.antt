@@ -3,4 +3,3 @@ mod FastCode
 mod Leaving
 mod Entering
 mod Standing
-mod Alike

@@ -1,2 +1,1 @@
 pub mod watching
-pub mod AlikeLemmas

@@ -5,12 +5,11 @@ ghost use Rattle.watched_code.specs.Watched.{WatchedAnswers};
 
 use byte_scaling::nearest_is_byte;
 use codegen::laws::{
-    called_eval_returns, frames_lead, free_bytes_leave, image_has_firmware, instructions_go_on,
-    items_are_one, live_states_wait,
+    called_eval_returns, frames_lead, free_bytes_leave, image_has_firmware, images_are_one,
+    instructions_go_on, live_states_wait,
 };
 use cpu12_isa::laws::stays_fit;
 use eval_code::laws::{blocks_are_placed, code_is_decoded};
-use rule_layout::layouts_are_one;
 
 /// With its check byte the sum of bytes is 0. Where one byte is changed to another it is not; where
 /// two are it may be.
@@ -38,11 +37,9 @@ pub fn watched_answers()
     free_bytes_leave();
 }
 
-/// Blocks that are the same, wherever their conditions lie in memory, have one image with watched
-/// tables.
+/// A block has one image with watched tables.
 pub fn watched_firmwares_are_one()
     ensures { WatchedFirmwaresAreOne }
 {
-    layouts_are_one();
-    items_are_one();
+    images_are_one();
 }

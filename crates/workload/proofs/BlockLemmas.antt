@@ -5,9 +5,7 @@ use Rattle.std.proofs.Common.{length-append}
 use Rattle.std.proofs.lemmas.List.{length-map}
 use Rattle.std.proofs.lemmas.List.Concat.{length-flat_map}
 use Rattle.std.specs.Prelude.{Some, slice_get, false, flat_map}
-use Rattle.std.specs.List.{AllZip}
-use Rattle.fuzzy_meaning.specs.Conditions.{condition_of, is, all, also, end}
-use Rattle.fuzzy_meaning.specs.SameBlocks.{IsSameRule}
+use Rattle.fuzzy_meaning.specs.Conditions.{is, all, also, end}
 use Rattle.fuzzy_meaning.specs.declared.block.Block.{Block}
 use Rattle.fuzzy_meaning.specs.declared.block.Rule.{Rule}
 use Rattle.rule_layout.specs.declared.flat.Conjunction.{Conjunction}
@@ -24,28 +22,30 @@ use Rattle.workload.specs.Laws.{DrawnBlocksAreOne, DrawnBlocksAreWithinLimits}
 
 -- ---- one block for a shift
 
-by_places : {X : Type 0} (R : X → X → Type 0) (xs ys : List X) → length xs ≡ length ys
-    → ((n : ℕ) (x y : X) → slice_get xs n ≡ Some x → slice_get ys n ≡ Some y → R x y) → AllZip R xs ys
-by_places R [] [] count at = tt
-by_places R [] (y ∷ ys) count at = absurd (omega arith)
-by_places R (x ∷ xs) [] count at = absurd (omega arith)
-by_places R (x ∷ xs) (y ∷ ys) count at =
-    (at 0 x y refl refl, by_places R xs ys (omega arith) (λ n u v eu ev. at (suc n) u v eu ev))
+by_places : {X : Type 0} (xs ys : List X) → length xs ≡ length ys
+    → ((n : ℕ) (x y : X) → slice_get xs n ≡ Some x → slice_get ys n ≡ Some y → x ≡ y) → xs ≡ ys
+by_places [] [] count at = refl
+by_places [] (y ∷ ys) count at = absurd (omega arith)
+by_places (x ∷ xs) [] count at = absurd (omega arith)
+by_places (x ∷ xs) (y ∷ ys) count at =
+    let first = at 0 x y refl refl in
+    let rest = by_places xs ys (omega arith) (λ n u v eu ev. at (suc n) u v eu ev) in
+    λ i. first i ∷ rest i
 
-same_rule : (shift n : ℕ) (r s : Rule) → IsDrawnRule shift n r → IsDrawnRule shift n s → IsSameRule r s
-same_rule shift n r s a b = record {
-  condition = a.condition ∙ sym b.condition;
-  weight = a.weight ∙ sym b.weight;
-  conclusions = a.conclusion ∙ sym b.conclusion;
-}
+same_rule : (shift n : ℕ) (r s : Rule) → IsDrawnRule shift n r → IsDrawnRule shift n s → r ≡ s
+same_rule shift n r s a b =
+    let cond = a.condition ∙ sym b.condition in
+    let weight = a.weight ∙ sym b.weight in
+    let concl = a.conclusion ∙ sym b.conclusion in
+    λ i. record { cond = cond i; weight = weight i; concl = concl i }
 
 pub drawn_alike : DrawnBlocksAreOne
-drawn_alike shift p q a b = record {
-  inputs = a.inputs ∙ sym b.inputs;
-  outputs = a.outputs ∙ sym b.outputs;
-  rules = by_places IsSameRule p.rules q.rules (a.count ∙ sym b.count)
-      (λ n r s er es. same_rule shift n r s (a.rules n r er) (b.rules n s es));
-}
+drawn_alike shift p q a b =
+    let inputs = a.inputs ∙ sym b.inputs in
+    let outputs = a.outputs ∙ sym b.outputs in
+    let rules = by_places p.rules q.rules (a.count ∙ sym b.count)
+    (λ n r s er es. same_rule shift n r s (a.rules n r er) (b.rules n s es)) in
+    λ i. record { inputs = inputs i; outputs = outputs i; rules = rules i }
 
 -- ---- its rule list
 
@@ -53,7 +53,7 @@ drawn_alike shift p q a b = record {
 record IsPlain (r : Rule) : Type 0 where
   i : ℕ
   j : ℕ
-  condition : condition_of r.cond ≡ all (also (is 1 i) (also (is 2 j) end))
+  condition : r.cond ≡ all (also (is 1 i) (also (is 2 j) end))
   conclusions : length r.concl ≡ 1
 
 -- each of them is one

@@ -2,7 +2,7 @@
 use Rattle.std.specs.Prelude.{◌≡◌, ℕ, ◌+◌, ◌-◌, ◌*◌, ◌/◌, ◌%◌, ◌==◌, if◌then◌else◌, [], ◌∷◌, length, map, Some, None}
 use Rattle.std.specs.Prelude.{slice_get, pos}
 use Rattle.fz_num.specs.declared.dec.Dec.{Dec}
-use Rattle.fuzzy_meaning.specs.Conditions.{is, all, also, end, condition_of}
+use Rattle.fuzzy_meaning.specs.Conditions.{is, all, also, end}
 use Rattle.fuzzy_meaning.specs.declared.block.Block.{Block}
 use Rattle.fuzzy_meaning.specs.declared.block.Input.{Input}
 use Rattle.fuzzy_meaning.specs.declared.block.Output.{Output}
@@ -35,7 +35,7 @@ drawn_output = record {
 
 -- rule number n, from 0, under a shift: where x is term n / 9 and y is term n % 9
 pub record IsDrawnRule (shift n : ℕ) (r : Rule) : Type 0 where
-  pub condition : condition_of r.cond ≡ all (also (is 1 (n / 9 + 1)) (also (is 2 (n % 9 + 1)) end))
+  pub condition : r.cond ≡ all (also (is 1 (n / 9 + 1)) (also (is 2 (n % 9 + 1)) end))
   pub weight : r.weight ≡ None
   pub conclusion : r.concl ≡ (1, (n / 9 + 2 * (n % 9) + shift) % 5 + 1) ∷ []
 

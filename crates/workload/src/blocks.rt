@@ -1,9 +1,9 @@
 //! Whether a block, samples and requests are those that a number draws.
 ghost use Rattle.std.specs.Prelude.{◌≡◌, ◌<◌, ◌≤◌, ℕ, [], ◌∷◌, true, length, map, Some, slice_get};
-ghost use Rattle.fuzzy_meaning.specs.Conditions.{is, all, also, end, condition_of};
+ghost use Rattle.fuzzy_meaning.specs.Conditions.{is, all, also, end};
 ghost use Rattle.workload.specs.Blocks.{IsDrawnBlock, IsDrawnRule, drawn_input, drawn_output, term_number, whole};
 
-use fuzzy_meaning::{Block, Cond, Input, Output, Rule, Trapezoid};
+use fuzzy_meaning::{Block, Condition, Input, Node, Output, Rule, Trapezoid};
 use fz_num::Dec;
 
 fn same(a: Option<Dec>, b: Option<Dec>) -> bool
@@ -77,17 +77,27 @@ fn is_output(output: &Output) -> bool
         && same(output.default, Some(Dec(0)))
 }
 
-/// Whether the condition is that input 1 is term i and input 2 is term j.
-fn is_pair(condition: &Cond, i: u8, j: u8) -> bool
-    ensures { result ≡ true → condition_of condition.now ≡ all (also (is 1 i) (also (is 2 j) end)) }
+/// Whether the condition is that the input is the term.
+fn is_literal(condition: &Condition, input: u8, term: u8) -> bool
+    ensures { result ≡ true → condition.now ≡ is input term }
 {
-    let Cond::And(parts) = condition else {
+    match &condition.node {
+        Node::Is(i, t) => *i == input && *t == term,
+        _ => false,
+    }
+}
+
+/// Whether the condition is that input 1 is term i and input 2 is term j.
+fn is_pair(condition: &Condition, i: u8, j: u8) -> bool
+    ensures { result ≡ true → condition.now ≡ all (also (is 1 i) (also (is 2 j) end)) }
+{
+    let Node::And(parts) = &condition.node else {
         return false;
     };
-    let [Cond::Is(1, first), Cond::Is(2, second)] = parts.as_slice() else {
+    let [first, second] = parts.as_slice() else {
         return false;
     };
-    *first == i && *second == j
+    is_literal(first, 1, i) && is_literal(second, 2, j)
 }
 
 /// Whether it is rule number n, from 0, under a shift.

@@ -1,7 +1,7 @@
 //! Laws of the blocks that are drawn, each the contract of a function that does nothing.
 ghost use Rattle.workload.specs.Laws.{DrawnBlocksAreOne, DrawnBlocksAreWithinLimits};
 
-/// A number draws one block, wherever its conditions lie in memory.
+/// A number draws one block.
 pub fn drawn_blocks_are_one()
     ensures { DrawnBlocksAreOne }
 {}

@@ -25,7 +25,6 @@ use Rattle.fcl_syntax.specs.declared.tree.Rule.{Rule as RuleNode}
 use Rattle.fcl_syntax.specs.declared.tree.Singleton.{Singleton}
 use Rattle.fcl_syntax.specs.declared.tree.Term.{Term}
 use Rattle.fcl_syntax.specs.declared.tree.Weight.{Weight}
-use Rattle.fuzzy_meaning.specs.SameBlocks.{IsSameRule, IsSameBlock}
 use Rattle.fcl_check.specs.Loaded.{IsBlockOf, IsInputNamed, IsInputOf, IsOutputNamed, IsOutputOf, IsRuleOf, IsTermOf}
 use Rattle.fcl_check.specs.Loaded.{abscissa_of, default_number, given_or, input_range, number_of, or_condition}
 use Rattle.fcl_check.specs.Loaded.{output_range, widened}
@@ -123,37 +122,36 @@ module _ (text : List ℕ) (b c : FunctionBlock) (same : view b ≡ view c) wher
       same_output p.0 q.0 x y (same_lines p.0 q.0 views) p.2 q.2
 
   same_rules : (r s : RuleNode) (x y : Rule) → view_rule_item r ≡ view_rule_item s → IsRuleOf text b r x
-      → IsRuleOf text c s y → IsSameRule x y
+      → IsRuleOf text c s y → x ≡ y
   same_rules r s x y h p q =
       let inner : view_rule r ≡ view_rule s = cc in
       let condition : view_or r.condition ≡ view_or s.condition = ap (λ (t : TRule). t.condition) inner in
       let weight = same_weight r.weight s.weight (ap (λ (t : TRule). t.weight) inner) in
       let conclusions = ap (λ (t : TRule). t.conclusions) inner in
-      record {
-        condition = p.condition
-            ∙ ap₂ (λ (f : Name → Name → Condition) (o : TOr). or_condition f o) (same_literals text b c same) condition
-            ∙ sym q.condition;
-        weight = same_number x.weight y.weight
-            (p.weight ∙ ap (option_map (λ (w : Weight). value w.value)) weight ∙ sym q.weight);
-        conclusions = p.conclusions
-            ∙ ap₂ (λ (f : Conclusion → ℕ × ℕ) (cs : Conclusion × List Conclusion). map f (cs.0 ∷ cs.1))
-            (same_conclusions text b c same) conclusions ∙ sym q.conclusions;
-      }
+      let cond = p.condition
+      ∙ ap₂ (λ (f : Name → Name → Condition) (o : TOr). or_condition f o) (same_literals text b c same) condition
+      ∙ sym q.condition in
+      let weight = same_number x.weight y.weight
+      (p.weight ∙ ap (option_map (λ (w : Weight). value w.value)) weight ∙ sym q.weight) in
+      let concl = p.conclusions
+      ∙ ap₂ (λ (f : Conclusion → ℕ × ℕ) (cs : Conclusion × List Conclusion). map f (cs.0 ∷ cs.1))
+      (same_conclusions text b c same) conclusions ∙ sym q.conclusions in
+      λ i. record { cond = cond i; weight = weight i; concl = concl i }
 
-  pub same_blocks : (p q : Block) → IsBlockOf text b p → IsBlockOf text c q → IsSameBlock p q
+  pub same_blocks : (p q : Block) → IsBlockOf text b p → IsBlockOf text c q → p ≡ q
   same_blocks p q of_b of_c =
-      record {
-        inputs = same_items p.inputs q.inputs
-            (same_zips (λ (n : Name). n) (IsInputNamed text b) (IsInputNamed text c)
-            (λ (x y : Input). x ≡ y) same_input_named
-            (declared_as side.Input b) (declared_as side.Input c) p.inputs q.inputs
-            (ap (map (λ (n : Name). n)) (same_declared text b c same side.Input)) of_b.inputs of_c.inputs);
-        outputs = same_items p.outputs q.outputs
-            (same_zips (λ (n : Name). n) (IsOutputNamed text b) (IsOutputNamed text c)
-            (λ (x y : Output). x ≡ y) same_output_named (declared_as side.Output b)
-            (declared_as side.Output c) p.outputs q.outputs
-            (ap (map (λ (n : Name). n)) (same_declared text b c same side.Output)) of_b.outputs of_c.outputs);
-        rules = same_zips view_rule_item (IsRuleOf text b) (IsRuleOf text c) IsSameRule same_rules b.rules.rules.items
-            c.rules.rules.items p.rules q.rules
-            (ap (λ (t : TBlock). t.rules.rules) same) of_b.rules of_c.rules;
-      }
+      let inputs = same_items p.inputs q.inputs
+      (same_zips (λ (n : Name). n) (IsInputNamed text b) (IsInputNamed text c)
+      (λ (x y : Input). x ≡ y) same_input_named
+      (declared_as side.Input b) (declared_as side.Input c) p.inputs q.inputs
+      (ap (map (λ (n : Name). n)) (same_declared text b c same side.Input)) of_b.inputs of_c.inputs) in
+      let outputs = same_items p.outputs q.outputs
+      (same_zips (λ (n : Name). n) (IsOutputNamed text b) (IsOutputNamed text c)
+      (λ (x y : Output). x ≡ y) same_output_named (declared_as side.Output b)
+      (declared_as side.Output c) p.outputs q.outputs
+      (ap (map (λ (n : Name). n)) (same_declared text b c same side.Output)) of_b.outputs of_c.outputs) in
+      let rules = same_items p.rules q.rules
+      (same_zips view_rule_item (IsRuleOf text b) (IsRuleOf text c) (λ (x y : Rule). x ≡ y) same_rules
+      b.rules.rules.items c.rules.rules.items p.rules q.rules
+      (ap (λ (t : TBlock). t.rules.rules) same) of_b.rules of_c.rules) in
+      λ i. record { inputs = inputs i; outputs = outputs i; rules = rules i }

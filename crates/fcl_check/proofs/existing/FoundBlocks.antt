@@ -15,7 +15,6 @@ use Rattle.fcl_check.specs.Loaded.{IsRuleOf, conclusion_of, literal_of, number_o
 use Rattle.fcl_check.specs.Sections.{value}
 use Rattle.fcl_check.specs.Texts.{SpelledTreesHaveBlocks}
 use Rattle.fcl_check.proofs.trees.ConditionSizes.{count, count-append, few_within}
-use Rattle.fcl_check.proofs.existing.FoundConditions.{found_condition}
 use Rattle.fcl_check.proofs.existing.FoundItems.{found_items}
 use Rattle.fcl_check.proofs.existing.FoundOutputs.{decimal_of}
 use Rattle.fcl_check.proofs.existing.FoundVariables.{found_inputs, found_outputs}
@@ -29,40 +28,28 @@ number_of-weight None = refl
 number_of-weight (Some w) = refl
 
 module _ (text : List ℕ) (b : FunctionBlock) where
-  found_rule : (r : RuleNode) → nodes (or_condition (literal_of text b) (view_or r.condition)) < 2 ^ 63
-      → (q : Rule) × IsRuleOf text b r q
-  found_rule r small =
-      let condition = found_condition b.variables.alloc
-      (or_condition (literal_of text b) (view_or r.condition)) small in (
-        record {
-          cond = condition.0;
-          weight = option_map (λ (w : Weight). decimal_of w.value) r.weight;
-          concl =
-              map (conclusion_of text b) (conclusions_of r);
-        },
-        record { condition = condition.1; weight = number_of-weight r.weight; conclusions = refl },
-      )
+  found_rule : (r : RuleNode) → (q : Rule) × IsRuleOf text b r q
+  found_rule r = (
+    record {
+      cond = or_condition (literal_of text b) (view_or r.condition);
+      weight = option_map (λ (w : Weight). decimal_of w.value) r.weight;
+      concl = map (conclusion_of text b) (conclusions_of r);
+    },
+    record { condition = refl; weight = number_of-weight r.weight; conclusions = refl },
+  )
 
-  found_rules : (rs : List RuleNode) → count (each rule_item_text (map view_rule_item rs)) < 2 ^ 63
-      → AllByRecursion (λ r. (q : Rule) × IsRuleOf text b r q) rs
-  found_rules [] small = tt
-  found_rules (r ∷ rs) small =
-      let parts = count-append (rule_item_text (view_rule_item r)) (each rule_item_text (map view_rule_item rs)) in (
-        found_rule r (omega (arith, condition_size text b r, parts, small)),
-        found_rules rs (omega (arith, parts, small)),
-      )
+  found_rules : (rs : List RuleNode) → AllByRecursion (λ r. (q : Rule) × IsRuleOf text b r q) rs
+  found_rules [] = tt
+  found_rules (r ∷ rs) = (found_rule r, found_rules rs)
 
 -- ---- the block
 
-pub found_block : OffsetsAscend → SpelledTreesHaveBlocks
-found_block offsets_ascend text b small spelled well_formed =
+pub found_block : SpelledTreesHaveBlocks
+found_block text b small spelled well_formed =
     let letters = str_to_ascii_lowercase text in
-    let items = b.rules.rules.items in
-    let few = few_within 0 (length text) (offsets (block_text (view b))) (offsets_ascend text (view b) spelled) in
     let inputs = found_inputs letters b well_formed in
     let outputs = found_outputs letters b well_formed in
-    let rules = found_items (IsRuleOf letters b) items
-    (found_rules letters b items (omega (arith, count-rules b, few, small))) in (
+    let rules = found_items (IsRuleOf letters b) b.rules.rules.items (found_rules letters b b.rules.rules.items) in (
       record { inputs = inputs.0; outputs = outputs.0; rules = rules.0 },
       record { inputs = inputs.1; outputs = outputs.1; rules = rules.1 },
     )

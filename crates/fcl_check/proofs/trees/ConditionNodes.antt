@@ -1,8 +1,7 @@
 -- The nodes of a condition's tree: what they come to, and that what they name is known.
 use Rattle.std.proofs.Common.{◌≡◌, ℕ, ◌<◌, List, length, get_or, map, rules, sym, subst, ap, ◌∙◌}
 use Rattle.std.specs.List.{AllByRecursion}
-use Rattle.fuzzy_meaning.specs.declared.block.Cond.{Cond}
-use Rattle.fuzzy_meaning.specs.Conditions.{Condition, all, any, condition_of}
+use Rattle.fuzzy_meaning.specs.Conditions.{Condition, all, any}
 use Rattle.fcl_syntax.specs.Grammar.{TNot, TAnd, and_of, or_of}
 use Rattle.fcl_syntax.specs.View.{view_not, view_and, view_or, view_conjunct, view_alternative, nots_of, ands_of}
 use Rattle.fcl_syntax.specs.declared.tree.Alternative.{Alternative, out-Alternative}
@@ -52,13 +51,13 @@ module _ (tree : Tree) where
       (λ x. and_condition f (view_alternative x).1) (out-Or o).more.items
   or_joined o = rw (or_seen o) (any_joined f view_alternative (view_and (out-Or o).first) (out-Or o).more.items)
 
-  pub conjunct_is : (x : Conjunct) (c : Cond) → condition_of c ≡ not_condition f (view_not x.not)
-      → condition_of c ≡ not_condition f (view_conjunct x).1
+  pub conjunct_is : (x : Conjunct) (c : Condition) → c ≡ not_condition f (view_not x.not)
+      → c ≡ not_condition f (view_conjunct x).1
   conjunct_is x c same = same ∙ ap (λ (u : ℕ × TNot). not_condition f u.1) (sym (conjunct_seen x))
 
-  pub alternative_is : (x : Alternative) (c : Cond)
-      → condition_of c ≡ and_condition f (view_and (out-Alternative x).and)
-      → condition_of c ≡ and_condition f (view_alternative x).1
+  pub alternative_is : (x : Alternative) (c : Condition)
+      → c ≡ and_condition f (view_and (out-Alternative x).and)
+      → c ≡ and_condition f (view_alternative x).1
   alternative_is x c same = same ∙ ap (λ (u : ℕ × TAnd). and_condition f u.1) (sym (alternative_seen x))
 
 -- ---- what they name

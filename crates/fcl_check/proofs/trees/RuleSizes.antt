@@ -7,7 +7,7 @@ use Rattle.std.proofs.lemmas.List.Elements.{All-from_recursion}
 use Rattle.std.proofs.lemmas.List.Sums.{sum_by-cons}
 use Rattle.fuzzy_meaning.specs.declared.block.Rule.{Rule}
 use Rattle.fuzzy_meaning.specs.Blocks.{rule_size}
-use Rattle.fuzzy_meaning.specs.Conditions.{condition_of, depth, nodes}
+use Rattle.fuzzy_meaning.specs.Conditions.{depth, nodes}
 use Rattle.fcl_syntax.specs.declared.token.Keyword.TheVariants as key
 use Rattle.fcl_syntax.specs.declared.token.Token.TheVariants as tok
 use Rattle.fcl_syntax.specs.declared.tree.Conclusion.{Conclusion}
@@ -49,7 +49,7 @@ module _ (text : List ℕ) (b : FunctionBlock) where
   rule_size-le r q rule =
       let o = view_or r.condition in
       let literal = literal_of text b in
-      let conditions : nodes (condition_of q.cond) ≤ count (or_text o 64) =
+      let conditions : nodes q.cond ≤ count (or_text o 64) =
       rw (rule.condition) (nodes_or literal (λ v t. refl) o 64) in
       let ends : length q.concl ≡ length (conclusions_of r) = ap length rule.conclusions
       ∙ length-map (conclusions_of r) (conclusion_of text b) in
@@ -122,7 +122,7 @@ module _ (b : FunctionBlock) where
 
 -- at most 256 conditions lie one in another
 abbrev pub IsShallow : Rule → Type 0
-IsShallow q = depth (condition_of q.cond) ≤ 256
+IsShallow q = depth q.cond ≤ 256
 
 -- the text of each condition is clean
 abbrev HasCleanCondition : RuleNode → Type 0

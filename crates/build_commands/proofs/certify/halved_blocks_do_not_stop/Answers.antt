@@ -6,10 +6,9 @@ use Rattle.error_certifier.specs.declared.certifier.NotReached.{NotReached}
 use Rattle.build_commands.proofs.certify.halved_blocks_do_not_stop.Goals as goal
 
 pub returns : goal.returns
-returns c = λ width target block other cert stop valid same halving stops.
-    let h = parts width in
-    let here = c.same_blocks_stop_alike.ensures other block h target stop same stops.stops in
+returns c = λ width target block cert stop valid halving stops.
     let halved : Result Cert NotReached = Ok cert in
     let stopped : Result Cert NotReached = Err stop in
-    let one : halved ≡ stopped = c.answers_are_one.ensures block h target halved stopped valid halving here in
+    let one : halved ≡ stopped = c.answers_are_one.ensures block (parts width) target halved stopped valid
+    halving stops.stops in
     cc

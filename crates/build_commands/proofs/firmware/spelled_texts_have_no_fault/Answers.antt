@@ -1,3 +1,6 @@
+use Rattle.std.proofs.Common.{subst}
+use Rattle.fuzzy_meaning.specs.declared.block.Block.{Block}
+use Rattle.rule_layout.specs.Layouts.{IsFaultOf}
 use Rattle.fcl_syntax.specs.View.{view}
 use Rattle.fz_status.specs.declared.status.FclFault.TheVariants as fcl
 use Rattle.build_commands.proofs.firmware.spelled_texts_have_no_fault.Goals as goal
@@ -9,5 +12,4 @@ returns c text block (fcl.Load f) spelled within carries refuses =
     (c.load_faults_are_one.ensures text).1 f block refuses spelled
 returns c text block (fcl.Layout f) spelled within carries refuses =
     let same = c.spelled_blocks_are_one.ensures text refuses.0 block refuses.1 spelled in
-    c.limits_have_no_fault.ensures block f within carries
-    (c.layouts_are_one.ensures.fault refuses.0 block f same refuses.2)
+    c.limits_have_no_fault.ensures block f within carries (subst (λ (b : Block). IsFaultOf b f) same refuses.2)

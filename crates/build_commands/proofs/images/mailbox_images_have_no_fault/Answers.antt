@@ -1,12 +1,14 @@
-use Rattle.std.proofs.Common.{◌∙◌, sym}
+use Rattle.std.proofs.Common.{◌∙◌, sym, subst}
+use Rattle.fuzzy_meaning.specs.declared.block.Block.{Block}
+use Rattle.codegen.specs.Mailboxes.{IsMailboxOf}
 use Rattle.build_commands.proofs.ImageLemmas.{images_apart}
 use Rattle.build_commands.proofs.images.mailbox_images_have_no_fault.Goals as goal
 
 pub returns : goal.returns
 returns c text records block other firmware others f gives gives_other is why =
-    let same = c.spelled_blocks_are_one.ensures text block other gives.spelled gives_other.spelled in
-    let one = c.mailboxes_are_one.ensures block other firmware others same (gives.narrow ∙ sym gives_other.narrow)
-    gives.compiled gives_other.compiled in
+    let same = c.spelled_blocks_are_one.ensures text other block gives_other.spelled gives.spelled in
+    let one = c.mailboxes_are_one.ensures block firmware others (gives.narrow ∙ sym gives_other.narrow) gives.compiled
+    (subst (λ (b : Block). IsMailboxOf b others) same gives_other.compiled) in
     images_apart c.images_are_one.ensures.one c.images_are_one.ensures.no_fault records firmware.image
     others.image f one
     is why

@@ -1,8 +1,8 @@
-use Rattle.std.proofs.Common.{subst, rules}
-use Rattle.fuzzy_meaning.specs.declared.block.Cond.{the_lemmas}
+use Rattle.std.proofs.Common.{◌-◌, inl, inr, sym, ap, ◌∙◌, subst, rules}
 use Rattle.fuzzy_meaning.specs.Blocks.{IsValidCondition}
-use Rattle.fuzzy_meaning.specs.Conditions.{condition_of}
+use Rattle.fuzzy_meaning.specs.Trees.{tree}
 use Rattle.error_bound.specs.Reaches.{IsEndOfCondition}
+use Rattle.fuzzy_meaning.proofs.Parts.{part_falls, parts_fall}
 use Rattle.error_bound.proofs.ConditionParts.{AreValidConditions-all, AreValidConditions-any, IsValidCondition-part}
 use Rattle.error_bound.proofs.ReachLemmas.{end_from, end_from_none}
 use Rattle.error_bound.proofs.ends.+ends.Goals as goal
@@ -18,7 +18,7 @@ pub end_among-end_of-end-requires : goal.end_among-end_of-end-requires
 end_among-end_of-end-requires t c =
     let valid = IsValidCondition-part c.parts_are_valid.ensures c.args.block.now c.args.parts.now c.loop-k.k
     c.index-parts-k.result (search rules) (search rules) c.index-parts-k.is c.requires.parts in
-    (search (rules, the_lemmas), (valid, (c.requires.block, c.requires.terms)))
+    (search (rules, part_falls c.args.parts.now (c.loop-k.k - 1) c.index-parts-k.result (search rules) c.index-parts-k.is), (valid, (c.requires.block, c.requires.terms)))
 
 pub end_among-joined-joined-requires-clause-left : goal.end_among-joined-joined-requires-clause-left
 end_among-joined-joined-requires-clause-left t c = elim c.match-literal_in.branch [
@@ -32,7 +32,7 @@ end_among-loop-k-preserved t c =
     let box = c.args.terms.now.bytes.0.items in
     let part = c.index-parts-k.result in
     let q = c.match-literal_in.end in
-    let made : IsEndOfCondition b box (condition_of part) c.args.upper q = elim c.match-literal_in.branch [
+    let made : IsEndOfCondition b box part c.args.upper q = elim c.match-literal_in.branch [
       | end_among-in-Some w ↦ rw (w.end-is, w.in-Some.ensures) w.end_of_literal-end.ensures
       | end_among-in-None w ↦ rw w.end-is w.end_of-end.ensures
     ] in
@@ -49,11 +49,11 @@ end_among-loop-k-init t c =
 pub end_of-end_among-requires : goal.end_of-end_among-requires
 end_of-end_among-requires t c =
     let valid = AreValidConditions-all c.args.block.now c.args.condition.now c.in-And.parts.items
-    (search (rules, the_lemmas)) c.requires.condition in
-    (search (rules, the_lemmas), (rw c.as_slice.ensures.value valid, (c.requires.block, c.requires.terms)))
+    (sym c.condition.view_is ∙ ap tree c.in-And.is) c.requires.condition in
+    (search (rules, parts_fall c.condition.view_is (inl c.in-And.is) c.as_slice.ensures.value), (rw c.as_slice.ensures.value valid, (c.requires.block, c.requires.terms)))
 
 pub end_of-end_among-requires-in-Or : goal.end_of-end_among-requires-in-Or
 end_of-end_among-requires-in-Or t c =
     let valid = AreValidConditions-any c.args.block.now c.args.condition.now c.in-Or.parts.items
-    (search (rules, the_lemmas)) c.requires.condition in
-    (search (rules, the_lemmas), (rw c.as_slice-in-Or.ensures.value valid, (c.requires.block, c.requires.terms)))
+    (sym c.condition.view_is ∙ ap tree c.in-Or.is) c.requires.condition in
+    (search (rules, parts_fall c.condition.view_is (inr c.in-Or.is) c.as_slice-in-Or.ensures.value), (rw c.as_slice-in-Or.ensures.value valid, (c.requires.block, c.requires.terms)))

@@ -1,10 +1,10 @@
-use Rattle.std.proofs.Common.{map, drop}
-use Rattle.fuzzy_meaning.specs.Conditions.{condition_of, conditions}
+use Rattle.std.proofs.Common.{drop}
+use Rattle.fuzzy_meaning.specs.Conditions.{conditions}
 use Rattle.error_bound.specs.Flattening.{group}
 use Rattle.error_bound.specs.Reaches.{IsEndOfCondition}
 use Rattle.error_bound.proofs.ends.+ends.Given as goal
 
 abbrev pub invariant-end_among-loop-k : goal.invariant-end_among-loop-k
 invariant-end_among-loop-k l =
-    IsEndOfCondition l.block l.terms.bytes.0.items (group l.any (conditions (map condition_of (drop l.k l.parts))))
+    IsEndOfCondition l.block l.terms.bytes.0.items (group l.any (conditions (drop l.k l.parts)))
     l.upper l.joined

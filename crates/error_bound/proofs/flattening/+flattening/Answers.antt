@@ -1,6 +1,8 @@
-use Rattle.std.proofs.Common.{◌++◌, map, ap, ◌∙◌}
-use Rattle.fuzzy_meaning.specs.Conditions.{condition_of, conditions}
+use Rattle.std.proofs.Common.{◌++◌, inl, inr, sym, ap, ◌∙◌, rules}
+use Rattle.fuzzy_meaning.specs.Conditions.{conditions}
+use Rattle.fuzzy_meaning.specs.Trees.{tree}
 use Rattle.error_bound.specs.Flattening.{each_pieces}
+use Rattle.fuzzy_meaning.proofs.Parts.{parts_fall}
 use Rattle.error_bound.proofs.FlatteningLemmas.{come_to_more, pushed_group, pushed_literal}
 use Rattle.error_bound.proofs.flattening.+flattening.Goals as goal
 
@@ -11,14 +13,22 @@ push_each-loop-part-preserved t c =
 
 pub push_group-returns : goal.push_group-returns
 push_group-returns t c =
-    let parts = each_pieces c.args.kind c.args.odd (conditions (map condition_of c.args.parts.now)) in
+    let parts = each_pieces c.args.kind c.args.odd (conditions c.args.parts.now) in
     pushed_group c.args.any c.args.kind _ _ _ c.grouped.result parts c.if-kind-any.false c.in_ok-push.ensures.items
     c.grouped.ensures
-    (c.in_ok-push_each.ensures ∙ ap (λ xs. map condition_of xs ++ parts) c.new-inner.ensures.items)
+    (c.in_ok-push_each.ensures ∙ ap (λ xs. xs ++ parts) c.new-inner.ensures.items)
 
 pub push_pieces-returns-in_ok-push-in-Is : goal.push_pieces-returns-in_ok-push-in-Is
 push_pieces-returns-in_ok-push-in-Is t c =
     pushed_literal c.args.any c.args.odd _ _ c.in_ok-literal-in-Is.literal c.args.condition.now c.in-Is.input
     c.in-Is.term
     c.in_ok-push-in-Is.ensures.items
-    c.in_ok-literal-in-Is.ensures c.in-Is.is
+    c.in_ok-literal-in-Is.ensures (sym c.condition.view_is ∙ ap tree c.in-Is.is)
+
+pub push_pieces-push_group-requires : goal.push_pieces-push_group-requires
+push_pieces-push_group-requires t c =
+    (search (rules, parts_fall c.condition.view_is (inl c.in-And.is) c.deref-in-And.ensures.value), tt)
+
+pub push_pieces-push_group-requires-in-Or : goal.push_pieces-push_group-requires-in-Or
+push_pieces-push_group-requires-in-Or t c =
+    (search (rules, parts_fall c.condition.view_is (inr c.in-Or.is) c.deref-in-Or.ensures.value), tt)

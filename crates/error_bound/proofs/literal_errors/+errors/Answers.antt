@@ -1,9 +1,10 @@
-use Rattle.std.proofs.Common.{Bool, true, false, subst, rules}
+use Rattle.std.proofs.Common.{Bool, true, false, ◌-◌, inl, inr, sym, ap, ◌∙◌, subst, rules}
 use Rattle.fuzzy_meaning.specs.declared.block.Block.{Block}
-use Rattle.fuzzy_meaning.specs.declared.block.Cond.{the_lemmas}
 use Rattle.fuzzy_meaning.specs.Blocks.{IsValidCondition}
 use Rattle.fuzzy_meaning.specs.Conditions.{Condition, is}
+use Rattle.fuzzy_meaning.specs.Trees.{tree}
 use Rattle.error_bound.specs.Flattening.{under}
+use Rattle.fuzzy_meaning.proofs.Parts.{part_falls, parts_fall}
 use Rattle.error_bound.proofs.ConditionParts.{AreValidConditions-all, AreValidConditions-any, IsValidCondition-part}
 use Rattle.error_bound.proofs.literal_errors.+errors.Goals as goal
 
@@ -23,16 +24,16 @@ pub error_among-error_of-error-requires : goal.error_among-error_of-error-requir
 error_among-error_of-error-requires t c =
     let valid = IsValidCondition-part c.parts_are_valid.ensures c.args.block.now c.args.parts.now c.loop-k.k
     c.index-parts-k.result (search rules) (search rules) c.index-parts-k.is c.requires.parts in
-    (search (rules, the_lemmas), (valid, (c.requires.block, c.requires.terms)))
+    (search (rules, part_falls c.args.parts.now (c.loop-k.k - 1) c.index-parts-k.result (search rules) c.index-parts-k.is), (valid, (c.requires.block, c.requires.terms)))
 
 pub error_of-error_among-requires : goal.error_of-error_among-requires
 error_of-error_among-requires t c =
     let valid = AreValidConditions-all c.args.block.now c.args.condition.now c.in-And.parts.items
-    (search (rules, the_lemmas)) c.requires.condition in
-    (search (rules, the_lemmas), (rw c.as_slice.ensures.value valid, (c.requires.block, c.requires.terms)))
+    (sym c.condition.view_is ∙ ap tree c.in-And.is) c.requires.condition in
+    (search (rules, parts_fall c.condition.view_is (inl c.in-And.is) c.as_slice.ensures.value), (rw c.as_slice.ensures.value valid, (c.requires.block, c.requires.terms)))
 
 pub error_of-error_among-requires-in-Or : goal.error_of-error_among-requires-in-Or
 error_of-error_among-requires-in-Or t c =
     let valid = AreValidConditions-any c.args.block.now c.args.condition.now c.in-Or.parts.items
-    (search (rules, the_lemmas)) c.requires.condition in
-    (search (rules, the_lemmas), (rw c.as_slice-in-Or.ensures.value valid, (c.requires.block, c.requires.terms)))
+    (sym c.condition.view_is ∙ ap tree c.in-Or.is) c.requires.condition in
+    (search (rules, parts_fall c.condition.view_is (inr c.in-Or.is) c.as_slice-in-Or.ensures.value), (rw c.as_slice-in-Or.ensures.value valid, (c.requires.block, c.requires.terms)))

@@ -1,5 +1,5 @@
-use Rattle.std.proofs.Common.{◌≡◌, ◌≤◌, map, drop}
-use Rattle.fuzzy_meaning.specs.Conditions.{condition_of, conditions}
+use Rattle.std.proofs.Common.{◌≡◌, ◌≤◌, drop}
+use Rattle.fuzzy_meaning.specs.Conditions.{conditions}
 use Rattle.error_bound.specs.CellErrors.{term_errors}
 use Rattle.error_bound.specs.Spans.{greatest_among}
 use Rattle.error_bound.proofs.literal_errors.+errors.Given as goal
@@ -7,4 +7,4 @@ use Rattle.error_bound.proofs.literal_errors.+errors.Given as goal
 abbrev pub invariant-error_among-loop-k : goal.invariant-error_among-loop-k
 invariant-error_among-loop-k l =
     (l.greatest ≡ greatest_among (term_errors l.block l.terms.bytes.0.items)
-    (conditions (map condition_of (drop l.k l.parts)))) × (l.greatest ≤ 1000000000)
+    (conditions (drop l.k l.parts))) × (l.greatest ≤ 1000000000)

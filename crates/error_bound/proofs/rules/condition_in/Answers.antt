@@ -1,6 +1,5 @@
-use Rattle.fuzzy_meaning.specs.Conditions.{condition_of}
 use Rattle.error_bound.proofs.TableLemmas.{reaches_alike_itself}
 use Rattle.error_bound.proofs.rules.condition_in.Goals as goal
 
 pub returns-in-None : goal.returns-in-None
-returns-in-None c = reaches_alike_itself c.args.block.now (condition_of c.args.rule.now.cond)
+returns-in-None c = reaches_alike_itself c.args.block.now c.args.rule.now.cond

@@ -1,6 +1,5 @@
 use Rattle.std.proofs.Common.{◌≡◌, rules}
 use Rattle.std.specs.Prelude.{unsigned_abs}
-use Rattle.fuzzy_meaning.specs.Conditions.{condition_of}
 use Rattle.fuzzy_meaning.specs.Meaning.{weight_of}
 use Rattle.error_bound.proofs.TableLemmas.{end_weighted}
 use Rattle.error_bound.proofs.rules.end_of_strength.Goals as goal
@@ -13,6 +12,6 @@ returns c =
     let rule = c.args.rule.now in
     let weight : unsigned_abs c.unwrap_or-weight.result.0 ≡ weight_of rule.weight = search rules in
     end_weighted c.args.block.now c.args.terms.now.bytes.0.items rule c.args.upper
-    (condition_of c.condition_in-condition.result.now) c.end_of-end.result _ _
+    c.condition_in-condition.result.now c.end_of-end.result _ _
     c.condition_in-condition.ensures c.end_of-end.ensures weight c.times.ensures.value (search rules)
     c.times.ensures.ratio

@@ -1,5 +1,4 @@
 use Rattle.std.proofs.Common.{◌≡◌, ◌∙◌, rules}
-use Rattle.fuzzy_meaning.specs.Conditions.{condition_of}
 use Rattle.error_bound.specs.CellErrors.{term_errors}
 use Rattle.error_bound.specs.Spans.{greatest_literal}
 use Rattle.error_bound.proofs.rules.error_of_strength.Goals as goal
@@ -10,7 +9,7 @@ error_of-requires-clause-condition c = c.condition_in-condition.ensures.valid c.
 pub returns : goal.returns
 returns c =
     let e = term_errors c.args.block.now c.args.terms.now.bytes.0.items in
-    let literals : c.error_of.result ≡ greatest_literal e (condition_of c.args.rule.now.cond) = c.error_of.ensures.value
+    let literals : c.error_of.result ≡ greatest_literal e c.args.rule.now.cond = c.error_of.ensures.value
     ∙ c.condition_in-condition.ensures.errors e in
     record {
       value = search (rules, literals);

@@ -2,9 +2,8 @@ use Rattle.std.proofs.Common.{◌≡◌, ℕ, ◌+◌, [], ◌∷◌, ◌++◌, 
 use Rattle.std.proofs.Common.{arith}
 use Rattle.std.specs.Prelude.{slice_get}
 use Rattle.std.proofs.lemmas.Option.{slice_get_within, get_or_from_slice_get}
-use Rattle.fuzzy_meaning.specs.declared.block.Cond.{Cond}
+use Rattle.fuzzy_meaning.specs.Conditions.{Condition}
 use Rattle.fuzzy_meaning.specs.declared.block.Rule.{Rule}
-use Rattle.fuzzy_meaning.specs.Conditions.{condition_of}
 use Rattle.error_bound.specs.Flattening.{flat, ReachesAlike}
 use Rattle.fz_list.proofs.Algebra.{AreFilled, AreFilled-push}
 use Rattle.error_bound.proofs.tables.flat_conditions.Goals as goal
@@ -18,14 +17,14 @@ loop-rule-preserved c =
     let t = c.loop-rule.rule-index in
     let r0 = c.rule-item.result in
     let condition = c.in_ok-condition.condition in
-    let P = λ (_ : ℕ) (r : Rule) (d : Cond). condition_of d ≡ flat (condition_of r.cond) in
+    let P = λ (_ : ℕ) (r : Rule) (d : Condition). d ≡ flat r.cond in
     let i = c.loop-rule.invariant in
     let items = c.in_ok-push.ensures.items in
     let count = i.0 in
     let here = λ (r : Rule) (e : slice_get rs t ≡ Some r).
     let same : r0 ≡ r = c.rule-item.is ∙ ap (λ l. get_or l t r0) c.as_slice-rule-items.ensures
     ∙ get_or_from_slice_get rs t r r0 e in
-    subst (λ z. condition_of condition ≡ flat (condition_of z.cond)) same c.in_ok-condition.ensures in
+    subst (λ z. condition ≡ flat z.cond) same c.in_ok-condition.ensures in
     let longer : length (c.loop-rule.conditions.items ++ condition ∷ []) ≡ t + 1 =
     let l = length-append c.loop-rule.conditions.items (condition ∷ []) in omega (arith, l, count) in (
       ap length items ∙ longer,
@@ -39,5 +38,5 @@ returns c k r e =
     let lens = ap length c.as_slice-rule-items.ensures in
     let end = c.loop-rule-test.false in
     let found = c.loop-rule.invariant.1 k r (omega (arith, l, lens, end)) e in
-    let alike = c.flattening_keeps_reaches.ensures c.args.block.now (condition_of r.cond) in
-    (found.0, found.1, subst (ReachesAlike c.args.block.now (condition_of r.cond)) (sym found.2) alike)
+    let alike = c.flattening_keeps_reaches.ensures c.args.block.now r.cond in
+    (found.0, found.1, subst (ReachesAlike c.args.block.now r.cond) (sym found.2) alike)

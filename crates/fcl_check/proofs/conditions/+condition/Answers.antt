@@ -1,5 +1,4 @@
 use Rattle.std.proofs.Common.{rules, refl}
-use Rattle.fuzzy_meaning.specs.declared.block.Cond.{the_lemmas}
 use Rattle.fcl_syntax.specs.declared.tree.And.{out-And}
 use Rattle.fcl_syntax.specs.declared.tree.Or.{out-Or}
 use Rattle.fcl_syntax.specs.declared.tree.Not.{the_lemmas as tree_lemmas}
@@ -40,13 +39,13 @@ pub and-returns : goal.and-returns
 and-returns t c =
     whole_of_all (and_joined c.args.source.now.tree.now c.args.and.now) (out-And c.args.and.now).more.ok.0
     c.is_empty.ensures c.each.parts.items _ c.if-is_empty.false c.deref-conjunct-items.ensures.value
-    c.each-test.false c.each.invariant (search (rules, the_lemmas))
+    c.each-test.false c.each.invariant refl
 
 pub or-returns : goal.or-returns
 or-returns t c =
     whole_of_all (or_joined c.args.source.now.tree.now c.args.or.now) (out-Or c.args.or.now).more.ok.0
     c.is_empty.ensures c.each.parts.items _ c.if-is_empty.false c.deref-alternative-items.ensures.value
-    c.each-test.false c.each.invariant (search (rules, the_lemmas))
+    c.each-test.false c.each.invariant refl
 
 pub and-not-requires : goal.and-not-requires
 and-not-requires t c = (search (rules, tree_lemmas), and_first _ c.args.and.now c.requires)

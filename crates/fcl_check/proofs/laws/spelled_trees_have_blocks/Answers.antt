@@ -2,4 +2,4 @@ use Rattle.fcl_check.proofs.existing.FoundBlocks.{found_block}
 use Rattle.fcl_check.proofs.laws.spelled_trees_have_blocks.Goals as goal
 
 pub returns : goal.returns
-returns c = found_block c.offsets_ascend.ensures
+returns c = found_block

@@ -1,5 +1,5 @@
 use Rattle.std.proofs.Common.{ℕ, List, sym, subst}
-use Rattle.fuzzy_meaning.specs.declared.block.Input.{Input}
+use Rattle.fuzzy_meaning.specs.declared.block.Block.{Block}
 use Rattle.trace_io.specs.Traces.{Spells}
 use Rattle.interrupt_plan.specs.Levels.{LevelsHaveFault}
 use Rattle.eval_code.specs.declared.width.Width.TheVariants.{Byte}
@@ -33,14 +33,14 @@ returns c lrun files output (status.Trace f) gives (carries, (slow, fast, two, g
     let same = c.spelled_blocks_are_one.ensures files.slow slow r.slow gives_other.slow_is.spelled
     r.accepts.compiled.slow_is.spelled in
     c.spelled_traces_have_no_fault.ensures slow.inputs files.slow_trace r.samples f
-    (subst (λ (is : List Input). Spells is files.slow_trace r.samples) (sym same.inputs) r.accepts.traces.slow_in_range)
+    (subst (λ (b : Block). Spells b.inputs files.slow_trace r.samples) (sym same) r.accepts.traces.slow_in_range)
     refuses.1.3
 returns c lrun files output (status.Fast (told.Trace f)) gives (carries, (slow, fast, two, gives_other, refuses)) =
     let r = gives.at_levels in
     let same = c.spelled_blocks_are_one.ensures files.fast fast r.fast gives_other.fast_is.spelled
     r.accepts.compiled.fast_is.spelled in
     c.spelled_traces_have_no_fault.ensures fast.inputs files.fast_trace r.fast_samples f
-    (subst (λ (is : List Input). Spells is files.fast_trace r.fast_samples) (sym same.inputs)
+    (subst (λ (b : Block). Spells b.inputs files.fast_trace r.fast_samples) (sym same)
     r.accepts.traces.fast_in_range) refuses.1.3.1
 returns c lrun files output (status.Plan f) gives (carries, (slow, fast, two, gives_other, refuses)) =
     let r = gives.at_levels in

@@ -1,5 +1,5 @@
 use Rattle.std.proofs.Common.{ℕ, List, sym, subst}
-use Rattle.fuzzy_meaning.specs.declared.block.Input.{Input}
+use Rattle.fuzzy_meaning.specs.declared.block.Block.{Block}
 use Rattle.trace_io.specs.Traces.{Spells}
 use Rattle.interrupt_plan.specs.Posts.{PostsHaveFault}
 use Rattle.eval_code.specs.declared.width.Width.TheVariants.{Byte}
@@ -24,7 +24,7 @@ returns c mrun files output (status.Trace f) gives (carries, (other, others, giv
     let same = c.spelled_blocks_are_one.ensures files.fcl other r.block gives_other.spelled
     r.accepts.compiled.spelled in
     c.spelled_traces_have_no_fault.ensures other.inputs files.trace r.samples f
-    (subst (λ (is : List Input). Spells is files.trace r.samples) (sym same.inputs) r.accepts.in_range) refuses.3
+    (subst (λ (b : Block). Spells b.inputs files.trace r.samples) (sym same) r.accepts.in_range) refuses.3
 returns c mrun files output (status.Plan f) gives (carries, (other, others, gives_other, refuses)) =
     let r = gives.posted in
     let count = c.spelled_traces_are_one_long.ensures other.inputs r.block.inputs files.trace refuses.3

@@ -1,6 +1,6 @@
-use Rattle.std.proofs.Common.{◌≡◌, map, drop}
+use Rattle.std.proofs.Common.{◌≡◌, drop}
 use Rattle.fz_num.specs.Fracs.{fraction_of, IsTruth}
-use Rattle.fuzzy_meaning.specs.Conditions.{condition_of, conditions}
+use Rattle.fuzzy_meaning.specs.Conditions.{conditions}
 use Rattle.fuzzy_meaning.specs.Meaning.{literal_degree, least_truth, greatest_truth}
 use Rattle.fuzzy_meaning.proofs.truths.+truth.Given as goal
 
@@ -11,10 +11,10 @@ abbrev pub invariant-loop-k : goal.invariant-loop-k
 invariant-loop-k l =
     IsTruth 4000000000 l.least
     × (fraction_of l.least ≡ least_truth (literal_degree l.block l.xs)
-    (conditions (map condition_of (drop l.k l.parts.items))))
+    (conditions (drop l.k l.parts.items)))
 
 abbrev pub invariant-loop-k-2 : goal.invariant-loop-k-2
 invariant-loop-k-2 l =
     IsTruth 4000000000 l.greatest
     × (fraction_of l.greatest ≡ greatest_truth (literal_degree l.block l.xs)
-    (conditions (map condition_of (drop l.k l.parts.items))))
+    (conditions (drop l.k l.parts.items)))

@@ -1,6 +1,5 @@
 use Rattle.std.proofs.Common.{inl, inr, rules}
-use Rattle.fuzzy_meaning.specs.declared.block.Cond.{the_lemmas}
-use Rattle.fuzzy_meaning.specs.Conditions.{condition_of}
+use Rattle.fuzzy_meaning.proofs.Parts.{part_falls, parts_fall}
 use Rattle.rule_layout.proofs.CondLemmas.{all_asked, front_few, part_asked, part_of}
 use Rattle.rule_layout.proofs.SizeLemmas.{part_small, in_turn_small, choice_small, in_turn_more, in_turn_over_by_part}
 use Rattle.rule_layout.proofs.SizeLemmas.{in_turn_over_by_sum, choices_more, choices_over_by_part}
@@ -10,7 +9,7 @@ use Rattle.rule_layout.proofs.sizes.+size.Goals as goal
 pub size_in_turn-size_of-requires : goal.size_in_turn-size_of-requires
 size_in_turn-size_of-requires t c =
     let at = part_of _ _ c.part-item.result c.loop-part-test.true c.part-item.is in
-    (search (rules, the_lemmas), part_asked at c.requires.fits c.requires.few)
+    (search (rules, part_falls _ _ c.part-item.result c.loop-part-test.true c.part-item.is), part_asked at c.requires.fits c.requires.few)
 
 pub size_in_turn-returns-in_err-size : goal.size_in_turn-returns-in_err-size
 size_in_turn-returns-in_err-size t c =
@@ -26,7 +25,7 @@ pub size_in_turn-plus-requires-clause-other_small : goal.size_in_turn-plus-requi
 size_in_turn-plus-requires-clause-other_small t c =
     let at = part_of _ _ c.part-item.result c.loop-part-test.true c.part-item.is in
     let asked = part_asked at c.requires.fits c.requires.few in
-    part_small c.args.odd (condition_of c.part-item.result) _ asked.1 c.in_ok-size.ensures
+    part_small c.args.odd c.part-item.result _ asked.1 c.in_ok-size.ensures
 
 pub size_in_turn-returns-in_err-total : goal.size_in_turn-returns-in_err-total
 size_in_turn-returns-in_err-total t c =
@@ -43,28 +42,28 @@ size_in_turn-loop-part-preserved t c =
 
 pub size_of-size_in_turn-requires : goal.size_of-size_in_turn-requires
 size_of-size_in_turn-requires t c =
-    let asked = all_asked _ (inl c.in-And.is) c.deref-then-odd.ensures.value c.requires.fits c.requires.few in
-    (search (rules, the_lemmas), asked)
+    let asked = all_asked c.condition.view_is (inl c.in-And.is) c.deref-then-odd.ensures.value c.requires.fits c.requires.few in
+    (search (rules, parts_fall c.condition.view_is (inl c.in-And.is) c.deref-then-odd.ensures.value), asked)
 
 pub size_of-size_of_choices-requires : goal.size_of-size_of_choices-requires
 size_of-size_of_choices-requires t c =
-    let asked = all_asked _ (inl c.in-And.is) c.deref-else-odd.ensures.value c.requires.fits c.requires.few in
-    (search (rules, the_lemmas), asked)
+    let asked = all_asked c.condition.view_is (inl c.in-And.is) c.deref-else-odd.ensures.value c.requires.fits c.requires.few in
+    (search (rules, parts_fall c.condition.view_is (inl c.in-And.is) c.deref-else-odd.ensures.value), asked)
 
 pub size_of-size_of_choices-requires-then-odd-2 : goal.size_of-size_of_choices-requires-then-odd-2
 size_of-size_of_choices-requires-then-odd-2 t c =
-    let asked = all_asked _ (inr c.in-Or.is) c.deref-then-odd-2.ensures.value c.requires.fits c.requires.few in
-    (search (rules, the_lemmas), asked)
+    let asked = all_asked c.condition.view_is (inr c.in-Or.is) c.deref-then-odd-2.ensures.value c.requires.fits c.requires.few in
+    (search (rules, parts_fall c.condition.view_is (inr c.in-Or.is) c.deref-then-odd-2.ensures.value), asked)
 
 pub size_of-size_in_turn-requires-else-odd-2 : goal.size_of-size_in_turn-requires-else-odd-2
 size_of-size_in_turn-requires-else-odd-2 t c =
-    let asked = all_asked _ (inr c.in-Or.is) c.deref-else-odd-2.ensures.value c.requires.fits c.requires.few in
-    (search (rules, the_lemmas), asked)
+    let asked = all_asked c.condition.view_is (inr c.in-Or.is) c.deref-else-odd-2.ensures.value c.requires.fits c.requires.few in
+    (search (rules, parts_fall c.condition.view_is (inr c.in-Or.is) c.deref-else-odd-2.ensures.value), asked)
 
 pub size_of_choices-size_of-requires : goal.size_of_choices-size_of-requires
 size_of_choices-size_of-requires t c =
     let at = part_of _ _ c.part-item.result c.loop-part-test.true c.part-item.is in
-    (search (rules, the_lemmas), part_asked at c.requires.fits c.requires.few)
+    (search (rules, part_falls _ _ c.part-item.result c.loop-part-test.true c.part-item.is), part_asked at c.requires.fits c.requires.few)
 
 pub size_of_choices-returns-in_err-size : goal.size_of_choices-returns-in_err-size
 size_of_choices-returns-in_err-size t c =
@@ -80,7 +79,7 @@ pub size_of_choices-times-requires-clause-other_small : goal.size_of_choices-tim
 size_of_choices-times-requires-clause-other_small t c =
     let at = part_of _ _ c.part-item.result c.loop-part-test.true c.part-item.is in
     let asked = part_asked at c.requires.fits c.requires.few in
-    part_small c.args.odd (condition_of c.part-item.result) _ asked.1 c.in_ok-size.ensures
+    part_small c.args.odd c.part-item.result _ asked.1 c.in_ok-size.ensures
 
 pub size_of_choices-returns-in_err-total : goal.size_of_choices-returns-in_err-total
 size_of_choices-returns-in_err-total t c =

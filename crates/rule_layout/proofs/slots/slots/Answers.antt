@@ -3,7 +3,6 @@ use Rattle.std.specs.Prelude.{All}
 use Rattle.fuzzy_meaning.specs.declared.block.Input.{Input}
 use Rattle.fuzzy_meaning.specs.declared.block.Output.{Output}
 use Rattle.fuzzy_meaning.specs.declared.block.Rule.{Rule}
-use Rattle.fuzzy_meaning.specs.Conditions.{condition_of}
 use Rattle.rule_layout.specs.Grid.{FitsGrid, IsInGrid}
 use Rattle.rule_layout.specs.Slots.{terms_from, term_count, singleton_count}
 use Rattle.rule_layout.specs.Tables.{AreUsed}
@@ -12,7 +11,7 @@ use Rattle.rule_layout.proofs.slots.slots.Goals as goal
 
 pub new-used-requires : goal.new-used-requires
 new-used-requires c =
-    subst (λ (w : List Rule). All (λ r. FitsGrid (condition_of r.cond)) w) (sym c.as_slice-2.ensures)
+    subst (λ (w : List Rule). All (λ r. FitsGrid r.cond) w) (sym c.as_slice-2.ensures)
     (λ k d lt. rule_fits c.args.block.now _ c.requires (c.requires.rules k d lt))
 
 pub push_complement_slots-requires : goal.push_complement_slots-requires

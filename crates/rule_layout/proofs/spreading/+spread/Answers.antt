@@ -1,42 +1,46 @@
-use Rattle.std.proofs.Common.{◌∙◌, rules}
-use Rattle.fuzzy_meaning.specs.declared.block.Cond.{the_lemmas}
-use Rattle.rule_layout.proofs.CondLemmas.{part_of, part_fits, AllFitGrid-And, AllFitGrid-Or}
+use Rattle.std.proofs.Common.{◌∙◌, inl, inr, rules}
+use Rattle.fuzzy_meaning.proofs.Parts.{part_falls, parts_fall}
+use Rattle.rule_layout.proofs.CondLemmas.{part_of, part_fits, AllFitGrid-parts}
 use Rattle.rule_layout.proofs.TableLemmas.{in_turn_numbers_more, choice_numbers_more}
 use Rattle.rule_layout.proofs.spreading.+spread.Goals as goal
 
 pub conjunctions-in_turn-requires : goal.conjunctions-in_turn-requires
 conjunctions-in_turn-requires t c = (
-  search (rules, the_lemmas),
-  rw c.deref-then-odd-2.ensures.value (AllFitGrid-And c.args.condition.now c.in-And.parts c.in-And.is c.requires),
+  search (rules, parts_fall c.condition.view_is (inl c.in-And.is) c.deref-then-odd-2.ensures.value),
+  rw c.deref-then-odd-2.ensures.value (AllFitGrid-parts c.condition.view_is (inl c.in-And.is) c.requires),
 )
 
 pub conjunctions-by_choice-requires : goal.conjunctions-by_choice-requires
 conjunctions-by_choice-requires t c = (
-  search (rules, the_lemmas),
-  rw c.deref-else-odd-2.ensures.value (AllFitGrid-And c.args.condition.now c.in-And.parts c.in-And.is c.requires),
+  search (rules, parts_fall c.condition.view_is (inl c.in-And.is) c.deref-else-odd-2.ensures.value),
+  rw c.deref-else-odd-2.ensures.value (AllFitGrid-parts c.condition.view_is (inl c.in-And.is) c.requires),
 )
 
 pub conjunctions-by_choice-requires-then-odd-3 : goal.conjunctions-by_choice-requires-then-odd-3
 conjunctions-by_choice-requires-then-odd-3 t c = (
-  search (rules, the_lemmas),
-  rw c.deref-then-odd-3.ensures.value (AllFitGrid-Or c.args.condition.now c.in-Or.parts c.in-Or.is c.requires),
+  search (rules, parts_fall c.condition.view_is (inr c.in-Or.is) c.deref-then-odd-3.ensures.value),
+  rw c.deref-then-odd-3.ensures.value (AllFitGrid-parts c.condition.view_is (inr c.in-Or.is) c.requires),
 )
 
 pub conjunctions-in_turn-requires-else-odd-3 : goal.conjunctions-in_turn-requires-else-odd-3
 conjunctions-in_turn-requires-else-odd-3 t c = (
-  search (rules, the_lemmas),
-  rw c.deref-else-odd-3.ensures.value (AllFitGrid-Or c.args.condition.now c.in-Or.parts c.in-Or.is c.requires),
+  search (rules, parts_fall c.condition.view_is (inr c.in-Or.is) c.deref-else-odd-3.ensures.value),
+  rw c.deref-else-odd-3.ensures.value (AllFitGrid-parts c.condition.view_is (inr c.in-Or.is) c.requires),
 )
 
 pub in_turn-conjunctions-requires : goal.in_turn-conjunctions-requires
 in_turn-conjunctions-requires t c =
-    let at = part_of c.args.parts.now c.loop-part.part-index c.part-item.result c.loop-part-test.true c.part-item.is in
-    (search (rules, the_lemmas), part_fits at c.requires)
+    let at = part_of c.args.parts.now c.loop-part.part-index c.part-item.result c.loop-part-test.true c.part-item.is in (
+      search (rules, part_falls c.args.parts.now c.loop-part.part-index c.part-item.result c.loop-part-test.true c.part-item.is),
+      part_fits at c.requires,
+    )
 
 pub by_choice-conjunctions-requires : goal.by_choice-conjunctions-requires
 by_choice-conjunctions-requires t c =
-    let at = part_of c.args.parts.now c.loop-part.part-index c.part-item.result c.loop-part-test.true c.part-item.is in
-    (search (rules, the_lemmas), part_fits at c.requires)
+    let at = part_of c.args.parts.now c.loop-part.part-index c.part-item.result c.loop-part-test.true c.part-item.is in (
+      search (rules, part_falls c.args.parts.now c.loop-part.part-index c.part-item.result c.loop-part-test.true c.part-item.is),
+      part_fits at c.requires,
+    )
 
 pub in_turn-loop-part-preserved : goal.in_turn-loop-part-preserved
 in_turn-loop-part-preserved t c =

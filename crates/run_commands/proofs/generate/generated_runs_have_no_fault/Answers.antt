@@ -1,3 +1,6 @@
+use Rattle.std.proofs.Common.{subst}
+use Rattle.fuzzy_meaning.specs.declared.block.Block.{Block}
+use Rattle.build_commands.specs.Certify.{StopsHalving}
 use Rattle.eval_code.specs.declared.width.Width.TheVariants.{Byte}
 use Rattle.workload.specs.Draws.{draw}
 use Rattle.run_commands.specs.Generate.{generated_target}
@@ -8,7 +11,6 @@ pub returns : goal.returns
 returns c generate output (status.NotReached stop) gives (carries, (other, drawn_other, stops)) =
     let same = c.drawn_blocks_are_one.ensures (draw generate.number 0 5) other gives.block drawn_other
     gives.workload.drawn_block in
-    c.halved_blocks_do_not_stop.ensures Byte generated_target gives.block other gives.cert stop
-    gives.gives.spelled.valid
-    same gives.halving stops
+    c.halved_blocks_do_not_stop.ensures Byte generated_target gives.block gives.cert stop gives.gives.spelled.valid
+    gives.halving (subst (λ (b : Block). StopsHalving Byte generated_target b stop) same stops)
 returns c generate output s gives is = is.1

@@ -1,5 +1,5 @@
-use Rattle.two_level.proofs.Alike.{one_image}
+use Rattle.two_level.specs.Images.{two_items}
 use Rattle.two_level.proofs.laws.twos_are_one.Goals as goal
 
 pub returns : goal.returns
-returns c = one_image c.items_are_one.ensures.items c.items_are_one.ensures.images
+returns c slow fast f g of_f of_g = c.images_are_one.ensures (two_items slow fast) f.image g.image of_f.image of_g.image

@@ -1,5 +1,5 @@
-use Rattle.std.proofs.Common.{◌≡◌, ◌||◌, ℕ, map, take}
-use Rattle.fuzzy_meaning.specs.Conditions.{condition_of, conditions}
+use Rattle.std.proofs.Common.{◌≡◌, ◌||◌, ℕ, take}
+use Rattle.fuzzy_meaning.specs.Conditions.{conditions}
 use Rattle.rule_layout.specs.Grid.{IsInGrid}
 use Rattle.rule_layout.specs.Slots.{some_has_complement}
 use Rattle.rule_layout.specs.Tables.{is_marked}
@@ -10,4 +10,4 @@ invariant-loop-part l =
     (i t : ℕ) → IsInGrid i t
     → is_marked l.self.table i t
     ≡ (is_marked l.initial.self.table i t || some_has_complement i t l.odd
-    (conditions (map condition_of (take l.part-index l.part-items))))
+    (conditions (take l.part-index l.part-items)))

@@ -1,0 +1,30 @@
+-- The parts of an AND or an OR, to which a recursion goes down.
+use Rattle.std.proofs.Common.{◌≡◌, ℕ, ◌+◌, ◌*◌, ◌≤◌, ◌<◌, List, [], ◌∷◌, length, get_or, sym, ap, ◌∙◌, arith}
+use Rattle.std.proofs.Common.{◌⊎◌, ⊎_elim, inl, inr, Vec, Global}
+use denote.Param.Weighed.{most, at_most}
+use Rattle.fuzzy_meaning.specs.declared.condition.Condition.TheDeep.{size-Condition}
+use Rattle.fuzzy_meaning.specs.declared.condition.Node.{Node}
+use Rattle.fuzzy_meaning.specs.declared.condition.Node.TheVariants.{And, Or}
+use Rattle.fuzzy_meaning.specs.Conditions.{Condition, all, any, conditions, nodes, total_nodes}
+use Rattle.fuzzy_meaning.specs.Trees.{tree}
+
+-- of a slice
+pub part_falls : (cs : List Condition) (i : ℕ) (p : Condition) → i < length cs → p ≡ get_or cs i p
+    → size-Condition p ≤ most size-Condition cs
+part_falls cs i p lt is = let h = at_most size-Condition cs i p lt in rw (← is) at h
+
+most_parts : (cs : List Condition) → most size-Condition cs ≤ 2 * (total_nodes (conditions cs) + 1)
+most_parts [] = omega arith
+most_parts (c ∷ cs) = omega (arith, most_parts cs)
+
+-- of a condition with parts, whichever sort it is
+module _ {n : Node} {c : Condition} (seen : tree n ≡ c) {v : Vec Condition Global} (sort : (n ≡ And v) ⊎ (n ≡ Or v))
+  where
+    pub parts_tree : (c ≡ all (conditions v.items)) ⊎ (c ≡ any (conditions v.items))
+    parts_tree = ⊎_elim (λ p. inl (sym seen ∙ ap tree p)) (λ p. inr (sym seen ∙ ap tree p)) sort
+
+    pub parts_nodes : nodes c ≡ 1 + total_nodes (conditions v.items)
+    parts_nodes = ⊎_elim (ap nodes) (ap nodes) parts_tree
+
+    pub parts_fall : {read : List Condition} → read ≡ v.items → most size-Condition read ≤ 2 * nodes c
+    parts_fall same = rw same (omega (arith, most_parts v.items, parts_nodes))

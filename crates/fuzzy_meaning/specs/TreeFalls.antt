@@ -1,0 +1,14 @@
+-- Each part of a condition has fewer conditions than the whole.
+use Rattle.std.specs.Prelude.{◌≤◌, max}
+use Rattle.std.proofs.Common.{arith}
+use Rattle.fuzzy_meaning.specs.declared.condition.Node.{Node}
+use Rattle.fuzzy_meaning.specs.declared.condition.Node.TheVariants.{Is, Not, And, Or}
+use Rattle.fuzzy_meaning.specs.declared.condition.Condition.TheDeep.{deep-Node}
+use Rattle.fuzzy_meaning.specs.Conditions.{nodes}
+use Rattle.fuzzy_meaning.specs.Trees.{tree, most-nodes}
+
+pub parts_are_smaller : (n : Node) → max (deep-Node n) 0 ≤ nodes (tree n)
+parts_are_smaller (Is i t) = omega arith
+parts_are_smaller (Not c) = omega arith
+parts_are_smaller (And v) = omega (arith, most-nodes v.items)
+parts_are_smaller (Or v) = omega (arith, most-nodes v.items)
