@@ -127,3 +127,21 @@ module _ {A : Type 0} {Good : A → Type 0} {Same : A → A → Type 0} {minus :
     complements-same or (also c cs) =
         m.trans _ _ _ (m.join_same or _ _ _ _ (evaluate_pushed-same true c) (complements-same or cs))
         (m.join_minus or _ _ (evaluate-good c) (evaluate_parts-good (not or) cs))
+
+-- ---- any condition, where all literals are related
+
+module _ {A B : Type 0} (R : A → B → Type 0) {j : Joins A} {k : Joins B} (joins : AreJoinsRelated R j k)
+    {minus : A → A} {opposite : B → B} (of_not : (a : A) (b : B) → R a b → R (minus a) (opposite b))
+    {v : ℕ → ℕ → A} {w : ℕ → ℕ → B} (literal : (i t : ℕ) → R (v i t) (w i t)) where
+  mutual
+    pub evaluate-alike : (c : Condition) → R (evaluate minus j v c) (evaluate opposite k w c)
+    evaluate-alike (is i t) = literal i t
+    evaluate-alike (negation c) = of_not _ _ (evaluate-alike c)
+    evaluate-alike (all cs) = evaluate_parts-alike false cs
+    evaluate-alike (any cs) = evaluate_parts-alike true cs
+
+    evaluate_parts-alike : (or : Bool) (cs : Conditions)
+        → R (evaluate_parts minus j v or cs) (evaluate_parts opposite k w or cs)
+    evaluate_parts-alike or end = joins.none or
+    evaluate_parts-alike or (also c cs) =
+        joins.join or _ _ _ _ (evaluate-alike c) (evaluate_parts-alike or cs)
