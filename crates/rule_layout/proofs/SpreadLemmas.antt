@@ -21,8 +21,8 @@ pub spread_parts-take : (odd or : Bool) (cs : List Condition) (i : ℕ) (p : Con
     ≡ spreads.join or (spread_parts odd or (conditions (take i cs))) (spread_of odd p)
 spread_parts-take odd or = evaluate_pushed_parts-take spreads_are_monoids spread_literal odd or
 
-product_from_one : (m n : ℕ) → 1 ≤ m → 1 ≤ n → 1 ≤ m * n
-product_from_one m n p q = grind arith
+some_choices : {A : Type 0} (xs ys : List (List A)) → 1 ≤ length xs → 1 ≤ length ys → 1 ≤ length (choices xs ys)
+some_choices xs ys h k = omega (arith, h, mul-le-mul_left (length xs) k, length-choices xs ys)
 
 -- a condition without empty lists spreads into one conjunction at least
 mutual
@@ -38,14 +38,23 @@ mutual
   some_of_parts odd true (also c cs) h =
       omega (arith, some_conjunction odd c h.0, length-append (spread_of odd c) (spread_parts odd true cs))
   some_of_parts odd false (also c cs) h =
-      let p = product_from_one _ _ (some_conjunction odd c h.0) (some_choice odd cs h.1) in
-      omega (arith, length-choices (spread_of odd c) (spread_parts odd false cs), p)
+      some_choices (spread_of odd c) (spread_parts odd false cs) (some_conjunction odd c h.0) (some_choice odd cs h.1)
 
   some_choice : (odd : Bool) (cs : Conditions) → AllFitGrid cs → 1 ≤ length (spread_parts odd false cs)
   some_choice odd end h = omega arith
   some_choice odd (also c cs) h =
-      let p = product_from_one _ _ (some_conjunction odd c h.0) (some_choice odd cs h.1) in
-      omega (arith, length-choices (spread_of odd c) (spread_parts odd false cs), p)
+      some_choices (spread_of odd c) (spread_parts odd false cs) (some_conjunction odd c h.0) (some_choice odd cs h.1)
+
+join_le_right : {A : Type 0} (or : Bool) (xs ys : List (List A)) → 1 ≤ length xs
+    → length ys ≤ length (spreads.join or xs ys)
+join_le_right true xs ys some = omega (arith, length-append xs ys)
+join_le_right false xs ys some = omega (arith, length-choices xs ys, mul-le-mul_right (length ys) some)
+
+join_monotone : {A : Type 0} (or : Bool) (xs ys zs : List (List A)) → length ys ≤ length zs
+    → length (spreads.join or xs ys) ≤ length (spreads.join or xs zs)
+join_monotone true xs ys zs le = omega (arith, le, length-append xs ys, length-append xs zs)
+join_monotone false xs ys zs le =
+    omega (arith, length-choices xs ys, length-choices xs zs, mul-le-mul_left (length xs) le)
 
 -- the first parts, and each part alone, spread into no more than all
 pub take_le : (odd or : Bool) (cs : List Condition) (i : ℕ) → AllFitGrid (conditions cs)
@@ -53,20 +62,7 @@ pub take_le : (odd or : Bool) (cs : List Condition) (i : ℕ) → AllFitGrid (co
 take_le odd true cs zero h = omega arith
 take_le odd false cs zero h = some_choice odd (conditions cs) h
 take_le odd or [] (suc i) h = omega arith
-take_le odd true (c ∷ cs) (suc i) h =
-    omega (
-      arith,
-      length-append (spread_of odd c) (spread_parts odd true (conditions (take i cs))),
-      length-append (spread_of odd c) (spread_parts odd true (conditions cs)),
-      take_le odd true cs i h.1,
-    )
-take_le odd false (c ∷ cs) (suc i) h =
-    omega (
-      arith,
-      length-choices (spread_of odd c) (spread_parts odd false (conditions (take i cs))),
-      length-choices (spread_of odd c) (spread_parts odd false (conditions cs)),
-      mul-le-mul_left (length (spread_of odd c)) (take_le odd false cs i h.1),
-    )
+take_le odd or (c ∷ cs) (suc i) h = join_monotone or (spread_of odd c) _ _ (take_le odd or cs i h.1)
 
 pub part_le : (odd or : Bool) (cs : List Condition) (i : ℕ) (p : Condition) → AllFitGrid (conditions cs)
     → i < length cs → p ≡ get_or cs i p → length (spread_of odd p) ≤ length (spread_parts odd or (conditions cs))
@@ -76,19 +72,10 @@ part_le odd true (c ∷ cs) zero p h lt same =
 part_le odd false (c ∷ cs) zero p h lt same =
     let wide = mul-le-mul_left (length (spread_of odd c)) (some_choice odd (conditions cs) h.1) in
     rw same (omega (arith, wide, length-choices (spread_of odd c) (spread_parts odd false (conditions cs))))
-part_le odd true (c ∷ cs) (suc i) p h lt same =
-    omega (
-      arith,
-      length-append (spread_of odd c) (spread_parts odd true (conditions cs)),
-      part_le odd true cs i p h.1 (omega arith) same,
-    )
-part_le odd false (c ∷ cs) (suc i) p h lt same =
-    omega (
-      arith,
-      length-choices (spread_of odd c) (spread_parts odd false (conditions cs)),
-      mul-le-mul_right (length (spread_parts odd false (conditions cs))) (some_conjunction odd c h.0),
-      part_le odd false cs i p h.1 (omega arith) same,
-    )
+part_le odd or (c ∷ cs) (suc i) p h lt same =
+    let part = part_le odd or cs i p h.1 (omega arith) same in
+    let all = spread_parts odd or (conditions cs) in
+    omega (arith, part, join_le_right or (spread_of odd c) all (some_conjunction odd c h.0))
 
 sum_bound : (a b m n p q : ℕ) → a ≤ m * p → b ≤ n * q → a + b ≤ (m + n) * (p + q)
 sum_bound a b m n p q h k = omega arith

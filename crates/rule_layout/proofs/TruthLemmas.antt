@@ -11,19 +11,15 @@ levels_are_De_Morgan : (n : ℕ) → IsDeMorgan (λ a. a ≤ n) (λ a b. a ≡ b
 levels_are_De_Morgan n = record {
   alike = λ a h. refl;
   trans = λ a b c e f. e ∙ f;
-  good_none = good_none;
+  good_none = λ or. grind arith;
   good_join = good_join;
   good_minus = λ a h. omega arith;
   join_same = λ or a b c d e f. ap₂ ((levels n).join or) e f;
   join_minus = join_minus;
-  none_minus = none_minus;
+  none_minus = λ or. grind arith;
   twice = λ a h. omega arith;
 }
   where
-    good_none : (or : Bool) → (levels n).none or ≤ n
-    good_none true = omega arith
-    good_none false = omega arith
-
     good_join : (or : Bool) (a b : ℕ) → a ≤ n → b ≤ n → (levels n).join or a b ≤ n
     good_join true a b h k = omega arith
     good_join false a b h k = omega arith
@@ -32,10 +28,6 @@ levels_are_De_Morgan n = record {
         → (levels n).join or (n - a) (n - b) ≡ n - (levels n).join (not or) a b
     join_minus true a b h k = omega arith
     join_minus false a b h k = omega arith
-
-    none_minus : (or : Bool) → (levels n).none or ≡ n - (levels n).none (not or)
-    none_minus true = omega arith
-    none_minus false = omega arith
 
 module _ (n : ℕ) (v : ℕ → ℕ → ℕ) where
   least_literal_le : (ls : List Literal) → least_literal n v ls ≤ n
