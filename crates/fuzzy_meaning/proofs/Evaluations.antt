@@ -1,8 +1,10 @@
 -- Conditions evaluated by operations.
-use Rattle.std.proofs.Common.{ℕ, Bool, true, false, not}
+use Rattle.std.proofs.Common.{◌≡◌, ℕ, ◌+◌, ◌<◌, Bool, true, false, not, List, [], ◌∷◌, ◌++◌, length, get_or, take}
+use Rattle.std.proofs.Common.{sym, ap, ◌∙◌}
+use Rattle.std.proofs.lemmas.List.{take_more}
 use Rattle.fuzzy_meaning.specs.Conditions.{Condition, is, negation, all, any, Conditions, end, also, HasLiterals}
 use Rattle.fuzzy_meaning.specs.Conditions.{SomeHaveLiterals, AllHaveLiterals, Joins, evaluate, evaluate_parts}
-use Rattle.fuzzy_meaning.specs.Conditions.{evaluate_pushed, evaluate_pushed_parts}
+use Rattle.fuzzy_meaning.specs.Conditions.{conditions, evaluate_pushed, evaluate_pushed_parts}
 
 -- ---- literals
 
@@ -145,3 +147,26 @@ module _ {A B : Type 0} (R : A → B → Type 0) {j : Joins A} {k : Joins B} (jo
     evaluate_parts-alike or end = joins.none or
     evaluate_parts-alike or (also c cs) =
         joins.join or _ _ _ _ (evaluate-alike c) (evaluate_parts-alike or cs)
+
+-- ---- parts, from the first on
+
+pub record IsMonoid {A : Type 0} (none : A) (join : A → A → A) : Type 0 where
+  pub left : (a : A) → join none a ≡ a
+  pub right : (a : A) → join a none ≡ a
+  pub assoc : (a b c : A) → join (join a b) c ≡ join a (join b c)
+
+module _ {A : Type 0} {j : Joins A} (monoid : (or : Bool) → IsMonoid (j.none or) (j.join or))
+    (v : Bool → ℕ → ℕ → A) (odd or : Bool) where
+  push : (cs : List Condition) (c : Condition) → evaluate_pushed_parts j v odd or (conditions (cs ++ c ∷ []))
+      ≡ j.join or (evaluate_pushed_parts j v odd or (conditions cs)) (evaluate_pushed j v odd c)
+  push [] c = (monoid or).right _ ∙ sym ((monoid or).left _)
+  push (d ∷ cs) c = ap (j.join or (evaluate_pushed j v odd d)) (push cs c) ∙ sym ((monoid or).assoc _ _ _)
+
+  -- those up to one with it
+  pub evaluate_pushed_parts-take : (cs : List Condition) (k : ℕ) (c : Condition) → k < length cs → c ≡ get_or cs k c
+      → evaluate_pushed_parts j v odd or (conditions (take (k + 1) cs))
+      ≡ j.join or (evaluate_pushed_parts j v odd or (conditions (take k cs))) (evaluate_pushed j v odd c)
+  evaluate_pushed_parts-take cs k c lt same =
+      ap (λ (ds : List Condition). evaluate_pushed_parts j v odd or (conditions ds))
+      (take_more cs k c lt ∙ ap (λ (d : Condition). take k cs ++ d ∷ []) (sym same))
+      ∙ push (take k cs) c
