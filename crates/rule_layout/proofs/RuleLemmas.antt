@@ -17,6 +17,7 @@ use Rattle.rule_layout.specs.Tables.{table_number, table_literal, table_literals
 use Rattle.rule_layout.specs.Layouts.{rule_spread, conjunction_count, IsFirstTooMany}
 use Rattle.rule_layout.specs.Steps.{table_conjunction, table_conjunctions, with_conclusions}
 use Rattle.rule_layout.proofs.SpreadLemmas.{entries_le}
+use Rattle.rule_layout.proofs.SizeLemmas.{small_from}
 
 entries_bound : (e m n k : ℕ) → e ≤ m * n → n + k ≤ 1048576 → e + m * (k + 2) ≤ m * 2097152
 entries_bound e m n k h few =
@@ -53,11 +54,7 @@ module _ (rules : List Rule) (i : ℕ) (r : Rule) (lt : i < length rules) (here 
 
   pub rules_more : (t s u : Size) → IsSizeOfRules (take i rules) (Ok t) → IsSizeOfRule r (Some s) → IsSum t s (Some u)
       → IsSizeOfRules (take (i + 1) rules) (Ok u)
-  rules_more t s u h k sum = (
-    omega (arith, count_more, h.0, h.1, h.2, k.0, k.1, k.2, sum.0, sum.1, sum.2),
-    omega (arith, count_more, h.0, h.1, h.2, k.0, k.1, k.2, sum.0, sum.1, sum.2),
-    omega (arith, entries_more, h.0, h.1, h.2, k.0, k.1, k.2, sum.0, sum.1, sum.2),
-  )
+  rules_more t s u h k sum = rw (entries_more, ← k.2, count_more, ← k.1, ← h.1, ← h.2) sum
 
   pub too_many_by_rule : (t : Size) (n : ℕ) → n ≡ i + 1 → IsSizeOfRules (take i rules) (Ok t) → IsSizeOfRule r None
       → IsFirstTooMany rules n
@@ -79,13 +76,11 @@ module _ (rules : List Rule) (i : ℕ) (r : Rule) (lt : i < length rules) (here 
 
 pub rules_small : (rules : List Rule) (i : ℕ) (t : Size) → All IsCountable rules → IsSizeOfRules (take i rules) (Ok t)
     → IsSmall t
-rules_small rules i t h k = record {
-  few = omega (arith, k.0, k.1);
-  short = omega (arith, k.0, k.1, k.2, entry_count_le (take i rules) (All-take IsCountable rules i h));
-}
+rules_small rules i t h k =
+    small_from _ _ t 2097152 (entry_count_le (take i rules) (All-take IsCountable rules i h)) (omega arith) k
 
 pub rule_small : (r : Rule) (s : Size) → IsCountable r → IsSizeOfRule r (Some s) → IsSmall s
-rule_small r s h k = record { few = omega (arith, k.0, k.1); short = omega (arith, k.0, k.1, k.2, rule_entries_le r h) }
+rule_small r s h k = small_from _ _ s 2097152 (rule_entries_le r h) (omega arith) k
 
 pub replicate_as_map : {X : Type 0} (w n : ℕ) (xs : List X) → n ≡ length xs → replicate n w ≡ map (λ _. w) xs
 replicate_as_map w n [] e = rw e refl

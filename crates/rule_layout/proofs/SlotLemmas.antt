@@ -1,7 +1,6 @@
 -- Lists of slots, their terms and their complements.
 use Rattle.std.proofs.Common.{◌≡◌, ℕ, zero, suc, ◌+◌, ◌<◌, ◌||◌, Bool, true, false, List, [], ◌∷◌, ◌++◌, length, map}
 use Rattle.std.proofs.Common.{take, get_or, replicate, refl, sym, ap, not, Vec, Global, ◌⊎◌, ⊎_elim, ◌∙◌, arith, append_assoc}
-use Rattle.std.specs.Prelude.{◌==◌, ◌&&◌}
 use Rattle.std.specs.List.{range_with_len}
 use Rattle.std.proofs.lemmas.List.{map_more, append-nil, take_more, length-map, length-take}
 use Rattle.std.proofs.lemmas.List.FromFn.{map-range_with_len_more}
@@ -13,7 +12,7 @@ use Rattle.fuzzy_meaning.specs.declared.condition.Node.TheVariants.{And, Or}
 use Rattle.fuzzy_meaning.specs.Trees.{tree}
 use Rattle.fuzzy_meaning.proofs.Parts.{parts_tree}
 use Rattle.fuzzy_meaning.proofs.Evaluations.{IsMonoid, evaluate_pushed_parts-take}
-use Rattle.rule_layout.specs.Slots.{terms_from, in_some_part, has_complement, is_complemented}
+use Rattle.rule_layout.specs.Slots.{terms_from, in_some_part, is_complement, has_complement, is_complemented}
 
 pub terms_push : (v n j : ℕ) (front : List (ℕ × ℕ)) → 1 + n ≡ j →
     (front ++ map (λ t. (v, t)) (range_with_len 1 n)) ++ (v, j) ∷ [] ≡ front
@@ -58,9 +57,6 @@ or_false false = refl
 some_part_is_monoid : (any : Bool) → IsMonoid (in_some_part.none any) (in_some_part.join any)
 some_part_is_monoid true = record { left = λ a. refl; right = or_false; assoc = or_assoc }
 some_part_is_monoid false = record { left = λ a. refl; right = or_false; assoc = or_assoc }
-
-abbrev pub is_complement : ℕ → ℕ → Bool → ℕ → ℕ → Bool
-is_complement i t odd j u = odd && (i == j && t == u)
 
 -- some part of an OR, `any`, or of an AND does
 abbrev pub some_has_complement : ℕ → ℕ → Bool → Bool → Conditions → Bool
