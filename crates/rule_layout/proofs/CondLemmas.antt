@@ -1,5 +1,5 @@
 -- What is asked of a condition's parts.
-use Rattle.std.proofs.Common.{◌≡◌, ℕ, ◌<◌, ◌≤◌, List, length, get_or, Vec, Global, ap, refl, arith, ◌⊎◌, Some, slice_get}
+use Rattle.std.proofs.Common.{◌≡◌, ℕ, ◌<◌, ◌≤◌, List, length, get_or, Vec, Global, refl, arith, ◌⊎◌, Some, slice_get}
 use Rattle.std.proofs.lemmas.Option.{slice_get_read}
 use Rattle.fuzzy_meaning.specs.declared.condition.Node.{Node}
 use Rattle.fuzzy_meaning.specs.declared.condition.Node.TheVariants.{And, Or}
@@ -27,3 +27,8 @@ module _ {n : Node} {c : Condition} (seen : tree n ≡ c) {v : Vec Condition Glo
 
   pub all_nodes_lt : total_nodes (conditions cs) < nodes c
   all_nodes_lt = rw same (omega (arith, parts_nodes seen sort))
+
+  -- what is asked to count them, where it is asked of their condition
+  pub parts_asked : FitsGrid c → nodes c ≤ 1048576
+      → AllFitGrid (conditions cs) × (total_nodes (conditions cs) ≤ 1048576)
+  parts_asked fits few = (parts_fit fits, omega (arith, all_nodes_lt, few))

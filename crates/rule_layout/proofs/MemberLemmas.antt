@@ -1,5 +1,5 @@
 -- Every literal and conclusion of a valid block has its slot.
-use Rattle.std.proofs.Common.{◌≡◌, ℕ, zero, suc, ◌+◌, ◌-◌, ◌<◌, ◌≤◌, ◌||◌, ◌⊎◌, ⊎_elim, Bool, true, false, not, List}
+use Rattle.std.proofs.Common.{◌≡◌, ℕ, zero, suc, ◌+◌, ◌-◌, ◌<◌, ◌≤◌, ◌||◌, ⊎_elim, Bool, true, false, not, List}
 use Rattle.std.proofs.Common.{[], ◌∷◌, ◌++◌, length, get_or, map, filter, refl, ap, ap₂, ◌∙◌, subst, arith}
 use Rattle.std.specs.Prelude.{◌==◌, ◌&&◌, All, IsSomeAnd, slice_get}
 use Rattle.std.specs.List.{range_with_len, list_any}
@@ -26,10 +26,6 @@ use Rattle.rule_layout.proofs.SlotLemmas.{some_has_complement}
 -- whether the slot is in the list
 abbrev pub is_in : Slot → List Slot → Bool
 is_in s ss = list_any (is_same_slot s) ss
-
-or_true : (a b : Bool) → (a ≡ true) ⊎ (b ≡ true) → (a || b) ≡ true
-or_true true b h = refl
-or_true false b h = ⊎_elim (λ e. absurd (false≢true e)) (λ e. e) h
 
 or_left : (a b : Bool) → a ≡ true → (a || b) ≡ true
 or_left true b e = refl

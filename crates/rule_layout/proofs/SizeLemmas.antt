@@ -5,15 +5,15 @@ use Rattle.std.proofs.lemmas.List.{length-append}
 use Rattle.std.proofs.Math.Nat.{mul-le-mul_left}
 use Rattle.fuzzy_meaning.specs.Conditions.{Condition, conditions}
 use Rattle.rule_layout.specs.declared.sizes.Size.{Size}
-use Rattle.rule_layout.specs.Spreading.{Literal, spreads, spread_of, spread_parts, total_length}
+use Rattle.rule_layout.specs.Spreading.{Literal, spreads, spread_of, spread_parts}
 use Rattle.rule_layout.specs.Grid.{AllFitGrid}
-use Rattle.rule_layout.specs.Sizes.{IsSizeOf, IsJoined, IsSmall}
+use Rattle.rule_layout.specs.Sizes.{IsSizeIfFew, IsSizeOf, IsJoined, IsSmall}
 use Rattle.rule_layout.proofs.ChoicesLemmas.{length-choices, total_length-append, total_length-choices}
 use Rattle.rule_layout.proofs.SpreadLemmas.{spread_parts-take, take_le, part_le}
 
-pub small_from : (xs : List (List Literal)) (s : Size) (n : ℕ) → total_length xs ≤ length xs * n → n ≤ 1048576
-    → IsSizeOf xs (Some s) → IsSmall s
-small_from xs s n short few h = let wide = mul-le-mul_left (length xs) few in record {
+pub small_from : (conjunctions entries : ℕ) (s : Size) (n : ℕ) → entries ≤ conjunctions * n → n ≤ 2097152
+    → IsSizeIfFew conjunctions entries (Some s) → IsSmall s
+small_from conjunctions entries s n short few h = let wide = mul-le-mul_left conjunctions few in record {
   few = omega (arith, h.0, h.1);
   short = omega (arith, h.1, h.2, short, wide);
 }

@@ -1,7 +1,7 @@
 -- Spreading keeps the truth of a condition.
 use Rattle.std.proofs.Common.{◌≡◌, ℕ, ◌-◌, ◌≤◌, min, max, Bool, true, false, not, List, [], ◌∷◌, ◌++◌, map}
-use Rattle.std.proofs.Common.{refl, ap, ap₂, ◌∙◌, arith}
-use Rattle.fuzzy_meaning.specs.Conditions.{Condition, Joins, levels, level}
+use Rattle.std.proofs.Common.{refl, ap₂, ◌∙◌, arith}
+use Rattle.fuzzy_meaning.specs.Conditions.{levels}
 use Rattle.fuzzy_meaning.proofs.Evaluations.{AreJoinsRelated, IsDeMorgan, turned, evaluate_pushed-related}
 use Rattle.fuzzy_meaning.proofs.Evaluations.{evaluate_pushed-same}
 use Rattle.rule_layout.specs.Spreading.{Literal, choices, spreads, spread_literal}

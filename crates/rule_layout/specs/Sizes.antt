@@ -53,8 +53,7 @@ abbrev pub IsSizeOfRule : Rule → Option Size → Type 0
 IsSizeOfRule r = IsSizeIfFew (length (rule_spread r)) (rule_entries r)
 
 abbrev pub IsSizeOfRules : List Rule → Result Size LayoutFault → Type 0
-IsSizeOfRules rules (Ok s) =
-    (conjunction_count rules ≤ 512) × (s.conjunctions ≡ conjunction_count rules) × (s.entries ≡ entry_count rules)
+IsSizeOfRules rules (Ok s) = IsSizeIfFew (conjunction_count rules) (entry_count rules) (Some s)
 IsSizeOfRules rules (Err (TooManyRules n)) = IsFirstTooMany rules n
 IsSizeOfRules rules (Err (ListTooLong n)) = ⊥
 IsSizeOfRules rules (Err Memory) = ⊥

@@ -29,13 +29,17 @@ input_terms b = terms_from 1 (map term_count b.inputs)
 abbrev pub output_terms : Block → List (ℕ × ℕ)
 output_terms b = terms_from 1 (map singleton_count b.outputs)
 
--- some part does, of an OR or of an AND
+-- OR and AND alike: some part does
 abbrev pub in_some_part : Joins Bool
 in_some_part = joins false (λ a b. a || b) false (λ a b. a || b)
 
+-- the literal j, u is the complement of input i's term t
+abbrev pub is_complement : ℕ → ℕ → Bool → ℕ → ℕ → Bool
+is_complement i t odd j u = odd && (i == j && t == u)
+
 -- input i and term t stand in the condition under an odd number of NOTs
 abbrev pub has_complement : ℕ → ℕ → Bool → Condition → Bool
-has_complement i t = evaluate_pushed in_some_part (λ odd j u. odd && (i == j && t == u))
+has_complement i t = evaluate_pushed in_some_part (is_complement i t)
 
 -- some rule uses the complement of input i's term t
 abbrev pub is_complemented : List Rule → ℕ → ℕ → Bool

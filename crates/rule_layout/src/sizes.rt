@@ -53,19 +53,6 @@ impl Size {
         })
     }
 
-    /// The conjunctions of an OR, `any`, or of an AND of both, where they are few enough.
-    fn joined(self, other: Size, any: bool) -> Option<Size>
-        requires self_small { IsSmall self }
-        requires other_small { IsSmall other }
-        ensures { IsJoined any self other result }
-    {
-        if any {
-            self.plus(other)
-        } else {
-            self.times(other)
-        }
-    }
-
     /// Each conjunction followed by each of the other's, where they are few enough.
     fn times(self, other: Size) -> Option<Size>
         requires self_small { IsSmall self }
@@ -80,6 +67,19 @@ impl Size {
             conjunctions,
             entries: self.entries * other.conjunctions + self.conjunctions * other.entries,
         })
+    }
+
+    /// The conjunctions of an OR, `any`, or of an AND of both, where they are few enough.
+    fn joined(self, other: Size, any: bool) -> Option<Size>
+        requires self_small { IsSmall self }
+        requires other_small { IsSmall other }
+        ensures { IsJoined any self other result }
+    {
+        if any {
+            self.plus(other)
+        } else {
+            self.times(other)
+        }
     }
 }
 

@@ -82,11 +82,12 @@ fn joined(
 ) -> Result<Vec<List<u16>>, AllocError>
     ensures { IfOk result (λ v. v.items ≡ spreads.join any front.items back.items) }
 {
-    if !any {
-        return extended(alloc, front, &back);
+    if any {
+        front.append(&mut back)?;
+        Ok(front)
+    } else {
+        extended(alloc, front, &back)
     }
-    front.append(&mut back)?;
-    Ok(front)
 }
 
 fn single(alloc: Global, literals: List<u16>) -> Result<Vec<List<u16>>, AllocError>

@@ -6,18 +6,16 @@ use Rattle.rule_layout.proofs.spreading.+spread.Goals as goal
 
 pub conjunctions-conjunctions_of_parts-requires : goal.conjunctions-conjunctions_of_parts-requires
 conjunctions-conjunctions_of_parts-requires t c =
-    let sort = inl c.in-And.is in
-    let same = c.deref-in-And.ensures.value in (
-      search (rules, parts_fall c.condition.view_is sort same),
-      parts_fit c.condition.view_is sort same c.requires,
+    let sort = inl c.in-And.is in (
+      search (rules, parts_fall c.condition.view_is sort c.deref-in-And.ensures.value),
+      parts_fit c.condition.view_is sort c.deref-in-And.ensures.value c.requires,
     )
 
 pub conjunctions-conjunctions_of_parts-requires-in-Or : goal.conjunctions-conjunctions_of_parts-requires-in-Or
 conjunctions-conjunctions_of_parts-requires-in-Or t c =
-    let sort = inr c.in-Or.is in
-    let same = c.deref-in-Or.ensures.value in (
-      search (rules, parts_fall c.condition.view_is sort same),
-      parts_fit c.condition.view_is sort same c.requires,
+    let sort = inr c.in-Or.is in (
+      search (rules, parts_fall c.condition.view_is sort c.deref-in-Or.ensures.value),
+      parts_fit c.condition.view_is sort c.deref-in-Or.ensures.value c.requires,
     )
 
 pub conjunctions_of_parts-conjunctions-requires : goal.conjunctions_of_parts-conjunctions-requires
