@@ -11,14 +11,13 @@ use Rattle.fuzzy_meaning.specs.declared.block.Block.{Block}
 use Rattle.fuzzy_meaning.specs.declared.block.Output.{Output}
 use Rattle.fuzzy_meaning.specs.declared.block.Rule.{Rule}
 use Rattle.fuzzy_meaning.specs.Blocks.{IsValid, IsValidOutput}
-use Rattle.fuzzy_meaning.specs.Conditions.{Condition}
 use Rattle.fuzzy_meaning.specs.Rules.{concludes}
 use Rattle.point_slope.specs.Tables.{row_of, grade_of}
 use Rattle.error_bound.specs.declared.boxes.Interval.{Interval}
 use Rattle.error_bound.specs.declared.boxes.Leaf.{Leaf}
 use Rattle.error_bound.specs.Boxes.{least_from, greatest_from, grades_over, literal_byte_span, rule_span}
 use Rattle.error_bound.specs.Boxes.{rule_byte_span}
-use Rattle.error_bound.specs.Spans.{Span, only, byte_span}
+use Rattle.error_bound.specs.Spans.{only}
 use Rattle.error_bound.specs.Leaves.{Holds, strong, silent, IsStrong, IsStill, rule_at}
 use Rattle.error_bound.specs.Best.{IsBest, silent as best_silent, strong as best_strong, nothing, IsCandidate}
 use Rattle.error_bound.specs.Best.{silent_leaf}
@@ -43,24 +42,18 @@ least_to_greatest : (g : ℕ → ℕ) (p n : ℕ) → least_from g p n ≤ great
 least_to_greatest g p zero = omega arith
 least_to_greatest g p (suc n) = let h = least_to_greatest g p n in omega arith
 
--- over bytes the low is at most the high, and the denominators are above 0
-record IsOrdered (s : Span Fraction) (m : Span ℕ) : Type 0 where
-  low : IsProper s.low
-  bytes : m.low ≤ m.high
-
 module _ (b : Block) (box : List Interval) where
-  bytes_ordered : (c : Condition) → (byte_span (literal_byte_span b box) c).low ≤ (byte_span (literal_byte_span b box) c).high
-  bytes_ordered c =
+  low_proper : (r : Rule) → IsProper (rule_span b box r).low
+  low_proper r = times_proper _ _ (span_good b box r.cond).low.proper
+
+  -- over bytes the low is at most the high
+  bytes_ordered : (r : Rule) → (rule_byte_span b box r).low ≤ (rule_byte_span b box r).high
+  bytes_ordered r =
       let literal = at_literal-holds b box (λ m. m.low ≤ m.high) grades_over (only 0) (omega arith)
       (λ x term v. least_to_greatest (grade_of (row_of x term)) v.from (v.to - v.from)) in
       let h = between levels_monotone {s = literal_byte_span b box} {v = λ i t. (literal_byte_span b box i t).low}
-      (λ i t. record { low = omega arith; high = literal i t }) c in
-      omega (arith, h.low, h.high)
-
-  rule_ordered : (r : Rule) → IsOrdered (rule_span b box r) (rule_byte_span b box r)
-  rule_ordered r =
-      let p = (span_good b box r.cond).low.proper in
-      record { low = times_proper _ _ p; bytes = scaled-mono _ _ _ (bytes_ordered r.cond) }
+      (λ i t. record { low = omega arith; high = literal i t }) r.cond in
+      scaled-mono _ _ _ (omega (arith, h.low, h.high))
 
 -- ---- strong leaves and candidates
 
@@ -86,7 +79,7 @@ outdone : (b : Block) (box : List Interval) (o n k : ℕ) (r : Rule) → 1 ≤ n
     → IsOutdone b box o n k
 outdone b box o n k r from some er s =
     let f = (rule_span b box r).low in
-    let above = part_above k f.num f.den (rule_ordered b box r).low.pos s.low.cross in
+    let above = part_above k f.num f.den (low_proper b box r).pos s.low.cross in
     record {
       part = 255 * f.num / f.den;
       candidate = record {
@@ -111,7 +104,7 @@ silent_not_strong b box o n k r (silent z y every) er s =
     All-slice_get (λ q. (t : ℕ) → IsTrue (concludes q o t) → IsStill b box q) b.rules (n - 1) r every er in
     let none = (still s.term s.concludes_it).byte_high in
     let some = s.byte_low in
-    let order = (rule_ordered b box r).bytes in
+    let order = bytes_ordered b box r in
     absurd (omega arith)
 
 -- a leaf that holds is silent or has a candidate
@@ -159,7 +152,7 @@ best_holds b box o _ to (best_silent h) = (
 )
 best_holds b box o _ to (best_strong n k quiet c first) =
     let f = (rule_span b box c.rule).low in
-    let below = part_below f.num f.den (rule_ordered b box c.rule).low.pos in
+    let below = part_below f.num f.den (low_proper b box c.rule).pos in
     let t = any-term o c.rule.concl c.concludes_one in
     let e = c.part in
     let some = c.some in

@@ -1,21 +1,9 @@
 -- The parts of a valid AND or OR are valid.
-use Rattle.std.proofs.Common.{◌≡◌, ℕ, ◌-◌, ◌≤◌, List, length, get_or, refl, subst, arith}
+use Rattle.std.proofs.Common.{◌≡◌, ℕ, ◌-◌, ◌≤◌, List, length, get_or, refl, arith}
 use Rattle.fuzzy_meaning.specs.declared.block.Block.{Block}
 use Rattle.fuzzy_meaning.specs.Blocks.{IsValidCondition, AreValidConditions, PartsAreValid}
-use Rattle.fuzzy_meaning.specs.Conditions.{Condition, all, any, conditions}
+use Rattle.fuzzy_meaning.specs.Conditions.{Condition, conditions}
 use Rattle.error_bound.proofs.ListLemmas.{slice_get-read}
-
--- an AND
-pub AreValidConditions-all : (b : Block) (c : Condition) (parts : List Condition)
-    → c ≡ all (conditions parts) → IsValidCondition b c
-    → AreValidConditions b (conditions parts)
-AreValidConditions-all b c parts same valid = subst (IsValidCondition b) same valid
-
--- an OR
-pub AreValidConditions-any : (b : Block) (c : Condition) (parts : List Condition)
-    → c ≡ any (conditions parts) → IsValidCondition b c
-    → AreValidConditions b (conditions parts)
-AreValidConditions-any b c parts same valid = subst (IsValidCondition b) same valid
 
 -- the part number k
 pub IsValidCondition-part : PartsAreValid → (b : Block) (parts : List Condition) (k : ℕ) (part : Condition) → 1 ≤ k

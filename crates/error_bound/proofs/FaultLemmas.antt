@@ -55,7 +55,8 @@ one_strong leaf s m _ _ (weak l) (still k none) = absurd (below_not s.low (over 
 one_strong leaf s m _ _ (still l none) (weak k) = absurd (below_not s.low (over leaf.k 255) k l)
 one_strong leaf s m _ _ (still l none) (still k also) = refl
 
-one_silent : (n : ℕ) (s : Span Fraction) (m : Span ℕ) (f g : LeafFault) → IsSilentFault n s m f → IsSilentFault n s m g → f ≡ g
+one_silent : (n : ℕ) (s : Span Fraction) (m : Span ℕ) (f g : LeafFault) → IsSilentFault n s m f
+    → IsSilentFault n s m g → f ≡ g
 one_silent n s m _ _ (firing some) (firing also) = refl
 one_silent n s m _ _ (firing some) (loud none high) = absurd (omega arith)
 one_silent n s m _ _ (loud none high) (firing some) = absurd (omega arith)

@@ -30,8 +30,8 @@ use Rattle.error_bound.specs.Flattening.{FlatteningKeepsReaches}
 use Rattle.error_bound.proofs.CellErrors.{low_proper, high_proper}
 use Rattle.error_bound.proofs.Limits.{rise_all, fall_all, end_all}
 use Rattle.error_bound.proofs.Literals.{grade-le}
-use Rattle.error_bound.proofs.Operations.{IsGrouping, AreGood, IsDegree, nothing_degree, spans_de_morgan, spans_grouping}
-use Rattle.error_bound.proofs.Operations.{truths_de_morgan, truths_grouping, levels_de_morgan, levels_grouping}
+use Rattle.error_bound.proofs.Operations.{IsGrouping, AreGood, IsDegree, nothing_degree, spans_de_morgan}
+use Rattle.error_bound.proofs.Operations.{spans_grouping, truths_de_morgan, truths_grouping, levels_de_morgan, levels_grouping}
 use Rattle.error_bound.proofs.Operations.{errors_de_morgan, errors_grouping}
 
 -- ---- the code's lists
@@ -58,7 +58,8 @@ parts-group true cs = refl
 parts-group false cs = refl
 
 -- a group of the other kind is one part
-parts-other : (or kind : Bool) (cs : Conditions) → beq kind or ≡ false → parts or (group kind cs) ≡ also (group kind cs) end
+parts-other : (or kind : Bool) (cs : Conditions) → beq kind or ≡ false
+    → parts or (group kind cs) ≡ also (group kind cs) end
 parts-other true true cs h = absurd (let z : ⊥ = cc in z)
 parts-other true false cs h = refl
 parts-other false true cs h = refl

@@ -1,17 +1,17 @@
 -- De Morgan's laws of truths, of grades and of spans of them, and how their ORs and ANDs are grouped.
-use Rattle.std.proofs.Common.{◌≡◌, ℕ, ◌-◌, ◌≤◌, max, Bool, true, false, refl, ap₂, ◌∙◌, arith}
+use Rattle.std.proofs.Common.{◌≡◌, ℕ, ◌-◌, ◌≤◌, max, Bool, true, false, refl, sym, ap₂, ◌∙◌, subst, arith}
 use Rattle.std.specs.Prelude.{not}
-use Rattle.fz_num.specs.Fractions.{Fraction, IsProper, AtMost, one_minus, one, none}
-use Rattle.fz_num.proofs.Algebra.{AtMost-refl, AtMost-greater, IsProper-lesser, IsProper-greater, by_lesser}
+use Rattle.fz_num.specs.Fractions.{Fraction, over, IsProper, AtMost, lesser, greater, one_minus, one, none}
+use Rattle.fz_num.proofs.Algebra.{AtMost-refl, AtMost-trans, IsProper-lesser, IsProper-greater, by_lesser, by_greater}
+use Rattle.fz_num.proofs.Algebra.{AtMost-lesser, AtMost-lesser_left, AtMost-lesser_right, AtMost-greater}
+use Rattle.fz_num.proofs.Algebra.{AtMost-greater_left, AtMost-greater_right, AtMost-one_minus}
 use Rattle.fuzzy_meaning.specs.Conditions.{Joins, levels}
 use Rattle.fuzzy_meaning.specs.Meaning.{truths}
 use Rattle.fuzzy_meaning.proofs.Evaluations.{IsDeMorgan}
 use Rattle.error_bound.specs.Flattening.{IsSame, AreSame}
 use Rattle.error_bound.specs.Spans.{Span, reversed, spans}
 use Rattle.error_bound.proofs.Sides.{none_least}
-use Rattle.error_bound.proofs.Values.{one_proper, none_proper, same, same_trans, lesser_same, greater_same}
-use Rattle.error_bound.proofs.Values.{lesser_one, one_lesser, greater_none, none_greater, lesser_lesser}
-use Rattle.error_bound.proofs.Values.{greater_greater, lesser_minus, greater_minus, twice_minus}
+use Rattle.error_bound.proofs.SpanLemmas.{AreOrdered, truths_ordered}
 
 -- of good values, no parts count for nothing, and parts may be put into groups
 pub record IsGrouping {A : Type 0} (Good : A → Type 0) (Same : A → A → Type 0) (j : Joins A) : Type 0 where
@@ -68,8 +68,8 @@ pub record IsDegree (f : Fraction) : Type 0 where
   pub to_one : AtMost f one
 
 pub nothing_degree : (or : Bool) → IsDegree (truths.none or)
-nothing_degree true = record { proper = none_proper; to_one = none_least one }
-nothing_degree false = record { proper = one_proper; to_one = AtMost-refl one }
+nothing_degree true = record { proper = record { pos = omega arith }; to_one = none_least one }
+nothing_degree false = record { proper = record { pos = omega arith }; to_one = AtMost-refl one }
 
 joined_degree : (or : Bool) (f g : Fraction) → IsDegree f → IsDegree g → IsDegree (truths.join or f g)
 joined_degree true f g a b = record {
@@ -81,19 +81,67 @@ joined_degree false f g a b = record {
   to_one = by_lesser (λ h. AtMost h one) f g (λ _. a.to_one) (λ _. b.to_one);
 }
 
+minus_degree : (f : Fraction) → IsDegree f → IsDegree (one_minus f)
+minus_degree f a = record { proper = record { pos = a.proper.pos }; to_one = record { cross = omega arith } }
+
+same : (f : Fraction) → IsProper f → IsSame f f
+same f p = record { left = p; right = p; below = AtMost-refl f; above = AtMost-refl f }
+
+same_trans : (f g h : Fraction) → IsSame f g → IsSame g h → IsSame f h
+same_trans f g h a b = record {
+  left = a.left;
+  right = b.right;
+  below = AtMost-trans f g h a.right a.below b.below;
+  above = AtMost-trans h g f a.right b.above a.above;
+}
+
 truths_same : (or : Bool) (f g h k : Fraction) → IsSame f h → IsSame g k
     → IsSame (truths.join or f g) (truths.join or h k)
-truths_same true = greater_same
-truths_same false = lesser_same
+truths_same or f g h k a b =
+    let there = truths_ordered or f g h k (fore a) (fore b) in
+    let again = truths_ordered or h k f g (back a) (back b) in
+    record { left = there.left; right = again.left; below = there.below; above = again.below }
+  where
+    fore : {p q : Fraction} → IsSame p q → AreOrdered p q
+    fore c = record { left = c.left; right = c.right; below = c.below }
 
+    back : {p q : Fraction} → IsSame p q → AreOrdered q p
+    back c = record { left = c.right; right = c.left; below = c.above }
+
+-- NOT of an OR, and of an AND
 truths_minus : (or : Bool) (f g : Fraction) → IsDegree f → IsDegree g
     → IsSame (truths.join or (one_minus f) (one_minus g)) (one_minus (truths.join (not or) f g))
-truths_minus true f g a b = greater_minus f g a.proper b.proper
-truths_minus false f g a b = lesser_minus f g a.proper b.proper
+truths_minus or f g a b = record {
+  left = (joined_degree or _ _ (minus_degree f a) (minus_degree g b)).proper;
+  right = (minus_degree _ (joined_degree (not or) f g a b)).proper;
+  below = below or;
+  above = above or;
+}
+  where
+    below : (or : Bool)
+        → AtMost (truths.join or (one_minus f) (one_minus g)) (one_minus (truths.join (not or) f g))
+    below true = AtMost-greater (one_minus f) (one_minus g) (one_minus (lesser f g))
+        (AtMost-one_minus (lesser f g) f (AtMost-lesser_left f g))
+        (AtMost-one_minus (lesser f g) g (AtMost-lesser_right f g))
+    below false = by_greater (λ h. AtMost (lesser (one_minus f) (one_minus g)) (one_minus h)) f g
+        (λ _. AtMost-lesser_left (one_minus f) (one_minus g)) (λ _. AtMost-lesser_right (one_minus f) (one_minus g))
+
+    above : (or : Bool)
+        → AtMost (one_minus (truths.join (not or) f g)) (truths.join or (one_minus f) (one_minus g))
+    above true = by_lesser (λ h. AtMost (one_minus h) (greater (one_minus f) (one_minus g))) f g
+        (λ _. AtMost-greater_left (one_minus f) (one_minus g)) (λ _. AtMost-greater_right (one_minus f) (one_minus g))
+    above false = AtMost-lesser (one_minus (greater f g)) (one_minus f) (one_minus g)
+        (AtMost-one_minus f (greater f g) (AtMost-greater_left f g))
+        (AtMost-one_minus g (greater f g) (AtMost-greater_right f g))
 
 nothing_minus : (or : Bool) → IsSame (truths.none or) (one_minus (truths.none (not or)))
-nothing_minus true = same none none_proper
-nothing_minus false = same one one_proper
+nothing_minus true = same none (nothing_degree true).proper
+nothing_minus false = same one (nothing_degree false).proper
+
+twice_minus : (f : Fraction) → IsDegree f → IsSame f (one_minus (one_minus f))
+twice_minus f a =
+    let back : f.den - (f.den - f.num) ≡ f.num = (let l = a.to_one.cross in omega arith) in
+    subst (λ n. IsSame f (over n f.den)) (sym back) (same f a.proper)
 
 pub truths_de_morgan : IsDeMorgan IsDegree IsSame one_minus truths
 truths_de_morgan = record {
@@ -101,25 +149,79 @@ truths_de_morgan = record {
   trans = same_trans;
   good_none = nothing_degree;
   good_join = joined_degree;
-  good_minus = λ f a. record { proper = record { pos = a.proper.pos }; to_one = record { cross = omega arith } };
+  good_minus = minus_degree;
   join_same = truths_same;
   join_minus = truths_minus;
   none_minus = nothing_minus;
-  twice = λ f a. twice_minus f a.proper a.to_one;
+  twice = twice_minus;
 }
 
 truth_nothing : (or : Bool) (f : Fraction) → IsDegree f → IsSame (truths.join or f (truths.none or)) f
-truth_nothing true f a = greater_none f a.proper
-truth_nothing false f a = lesser_one f a.proper a.to_one
+truth_nothing true f a = record {
+  left = (joined_degree true f none a (nothing_degree true)).proper;
+  right = a.proper;
+  below = AtMost-greater f none f (AtMost-refl f) (none_least f);
+  above = AtMost-greater_left f none;
+}
+truth_nothing false f a = record {
+  left = (joined_degree false f one a (nothing_degree false)).proper;
+  right = a.proper;
+  below = AtMost-lesser_left f one;
+  above = AtMost-lesser f f one (AtMost-refl f) a.to_one;
+}
 
 nothing_truth : (or : Bool) (f : Fraction) → IsDegree f → IsSame f (truths.join or (truths.none or) f)
-nothing_truth true f a = none_greater f a.proper
-nothing_truth false f a = one_lesser f a.proper a.to_one
+nothing_truth true f a = record {
+  left = a.proper;
+  right = (joined_degree true none f (nothing_degree true) a).proper;
+  below = AtMost-greater_right none f;
+  above = AtMost-greater none f f (none_least f) (AtMost-refl f);
+}
+nothing_truth false f a = record {
+  left = a.proper;
+  right = (joined_degree false one f (nothing_degree false) a).proper;
+  below = AtMost-lesser f one f a.to_one (AtMost-refl f);
+  above = AtMost-lesser_right one f;
+}
 
 truths_joined : (or : Bool) (f g h : Fraction) → IsDegree f → IsDegree g → IsDegree h
     → IsSame (truths.join or f (truths.join or g h)) (truths.join or (truths.join or f g) h)
-truths_joined true f g h a b c = greater_greater f g h a.proper b.proper c.proper
-truths_joined false f g h a b c = lesser_lesser f g h a.proper b.proper c.proper
+truths_joined true f g h a b c =
+    let x = greater f g in
+    let y = greater g h in
+    let px = (joined_degree true f g a b).proper in
+    let py = (joined_degree true g h b c).proper in
+    let l = greater f y in
+    let r = greater x h in
+    let in_l = AtMost-greater_right f y in
+    let in_r = AtMost-greater_left x h in
+    record {
+      left = IsProper-greater f y a.proper py;
+      right = IsProper-greater x h px c.proper;
+      below = AtMost-greater f y r (AtMost-trans f x r px (AtMost-greater_left f g) in_r)
+          (AtMost-greater g h r (AtMost-trans g x r px (AtMost-greater_right f g) in_r) (AtMost-greater_right x h));
+      above = AtMost-greater x h l
+          (AtMost-greater f g l (AtMost-greater_left f y) (AtMost-trans g y l py (AtMost-greater_left g h) in_l))
+          (AtMost-trans h y l py (AtMost-greater_right g h) in_l);
+    }
+truths_joined false f g h a b c =
+    let x = lesser f g in
+    let y = lesser g h in
+    let px = (joined_degree false f g a b).proper in
+    let py = (joined_degree false g h b c).proper in
+    let l = lesser f y in
+    let r = lesser x h in
+    let l_in = AtMost-lesser_right f y in
+    let r_in = AtMost-lesser_left x h in
+    record {
+      left = IsProper-lesser f y a.proper py;
+      right = IsProper-lesser x h px c.proper;
+      below = AtMost-lesser l x h
+          (AtMost-lesser l f g (AtMost-lesser_left f y) (AtMost-trans l y g py l_in (AtMost-lesser_left g h)))
+          (AtMost-trans l y h py l_in (AtMost-lesser_right g h));
+      above = AtMost-lesser r f y (AtMost-trans r x f px r_in (AtMost-lesser_left f g))
+          (AtMost-lesser r g h (AtMost-trans r x g px r_in (AtMost-lesser_right f g)) (AtMost-lesser_right x h));
+    }
 
 pub truths_grouping : IsGrouping IsDegree IsSame truths
 truths_grouping = record { join_none = truth_nothing; none_join = nothing_truth; join_join = truths_joined }

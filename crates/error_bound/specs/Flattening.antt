@@ -10,6 +10,7 @@ use Rattle.error_bound.specs.declared.boxes.Interval.{Interval}
 use Rattle.error_bound.specs.Spans.{Span, span, byte_span, greatest_literal}
 use Rattle.error_bound.specs.Boxes.{literal_span, literal_byte_span}
 
+-- the second behind the first
 abbrev pub followed : Conditions → Conditions → Conditions
 followed end ds = ds
 followed (also c cs) ds = also c (followed cs ds)

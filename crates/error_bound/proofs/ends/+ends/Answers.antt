@@ -3,7 +3,7 @@ use Rattle.fuzzy_meaning.specs.Blocks.{IsValidCondition}
 use Rattle.fuzzy_meaning.specs.Trees.{tree}
 use Rattle.error_bound.specs.Reaches.{IsEndOfCondition}
 use Rattle.fuzzy_meaning.proofs.Parts.{part_falls, parts_fall}
-use Rattle.error_bound.proofs.ConditionParts.{AreValidConditions-all, AreValidConditions-any, IsValidCondition-part}
+use Rattle.error_bound.proofs.ConditionParts.{IsValidCondition-part}
 use Rattle.error_bound.proofs.ReachLemmas.{end_from, end_from_none}
 use Rattle.error_bound.proofs.ends.+ends.Goals as goal
 use Rattle.error_bound.proofs.ends.+ends.Goals.{end_among-in-Some, end_among-in-None}
@@ -17,8 +17,13 @@ end_among-end_of_literal-end-requires-clause-literal t c =
 pub end_among-end_of-end-requires : goal.end_among-end_of-end-requires
 end_among-end_of-end-requires t c =
     let valid = IsValidCondition-part c.parts_are_valid.ensures c.args.block.now c.args.parts.now c.loop-k.k
-    c.index-parts-k.result (search rules) (search rules) c.index-parts-k.is c.requires.parts in
-    (search (rules, part_falls c.args.parts.now (c.loop-k.k - 1) c.index-parts-k.result (search rules) c.index-parts-k.is), (valid, (c.requires.block, c.requires.terms)))
+    c.index-parts-k.result (search rules) (search rules) c.index-parts-k.is c.requires.parts in (
+      search (
+        rules,
+        part_falls c.args.parts.now (c.loop-k.k - 1) c.index-parts-k.result (search rules) c.index-parts-k.is,
+      ),
+      (valid, (c.requires.block, c.requires.terms)),
+    )
 
 pub end_among-joined-joined-requires-clause-left : goal.end_among-joined-joined-requires-clause-left
 end_among-joined-joined-requires-clause-left t c = elim c.match-literal_in.branch [
@@ -48,12 +53,18 @@ end_among-loop-k-init t c =
 
 pub end_of-end_among-requires : goal.end_of-end_among-requires
 end_of-end_among-requires t c =
-    let valid = AreValidConditions-all c.args.block.now c.args.condition.now c.in-And.parts.items
-    (sym c.condition.view_is ∙ ap tree c.in-And.is) c.requires.condition in
-    (search (rules, parts_fall c.condition.view_is (inl c.in-And.is) c.as_slice.ensures.value), (rw c.as_slice.ensures.value valid, (c.requires.block, c.requires.terms)))
+    let parts = c.as_slice.ensures.value in
+    let valid = subst (IsValidCondition c.args.block.now) (sym c.condition.view_is ∙ ap tree c.in-And.is)
+    c.requires.condition in (
+      search (rules, parts_fall c.condition.view_is (inl c.in-And.is) parts),
+      (rw parts valid, (c.requires.block, c.requires.terms)),
+    )
 
 pub end_of-end_among-requires-in-Or : goal.end_of-end_among-requires-in-Or
 end_of-end_among-requires-in-Or t c =
-    let valid = AreValidConditions-any c.args.block.now c.args.condition.now c.in-Or.parts.items
-    (sym c.condition.view_is ∙ ap tree c.in-Or.is) c.requires.condition in
-    (search (rules, parts_fall c.condition.view_is (inr c.in-Or.is) c.as_slice-in-Or.ensures.value), (rw c.as_slice-in-Or.ensures.value valid, (c.requires.block, c.requires.terms)))
+    let parts = c.as_slice-in-Or.ensures.value in
+    let valid = subst (IsValidCondition c.args.block.now) (sym c.condition.view_is ∙ ap tree c.in-Or.is)
+    c.requires.condition in (
+      search (rules, parts_fall c.condition.view_is (inr c.in-Or.is) parts),
+      (rw parts valid, (c.requires.block, c.requires.terms)),
+    )

@@ -6,7 +6,7 @@ use Rattle.fuzzy_meaning.specs.Trees.{tree}
 use Rattle.error_bound.specs.CellErrors.{term_errors}
 use Rattle.error_bound.specs.Spans.{greatest_literal}
 use Rattle.fuzzy_meaning.proofs.Parts.{part_falls, parts_fall}
-use Rattle.error_bound.proofs.ConditionParts.{AreValidConditions-all, AreValidConditions-any, IsValidCondition-part}
+use Rattle.error_bound.proofs.ConditionParts.{IsValidCondition-part}
 use Rattle.error_bound.proofs.literal_errors.+errors.Goals as goal
 
 valid_under : (b : Block) (odd : Bool) (c : Condition) → IsValidCondition b (under odd c) → IsValidCondition b c
@@ -36,17 +36,28 @@ error_among-reach_of_literal-requires-clause-term t c =
 pub error_among-error_of-error-requires : goal.error_among-error_of-error-requires
 error_among-error_of-error-requires t c =
     let valid = IsValidCondition-part c.parts_are_valid.ensures c.args.block.now c.args.parts.now c.loop-k.k
-    c.index-parts-k.result (search rules) (search rules) c.index-parts-k.is c.requires.parts in
-    (search (rules, part_falls c.args.parts.now (c.loop-k.k - 1) c.index-parts-k.result (search rules) c.index-parts-k.is), (valid, (c.requires.block, c.requires.terms)))
+    c.index-parts-k.result (search rules) (search rules) c.index-parts-k.is c.requires.parts in (
+      search (
+        rules,
+        part_falls c.args.parts.now (c.loop-k.k - 1) c.index-parts-k.result (search rules) c.index-parts-k.is,
+      ),
+      (valid, (c.requires.block, c.requires.terms)),
+    )
 
 pub error_of-error_among-requires : goal.error_of-error_among-requires
 error_of-error_among-requires t c =
-    let valid = AreValidConditions-all c.args.block.now c.args.condition.now c.in-And.parts.items
-    (sym c.condition.view_is ∙ ap tree c.in-And.is) c.requires.condition in
-    (search (rules, parts_fall c.condition.view_is (inl c.in-And.is) c.as_slice.ensures.value), (rw c.as_slice.ensures.value valid, (c.requires.block, c.requires.terms)))
+    let parts = c.as_slice.ensures.value in
+    let valid = subst (IsValidCondition c.args.block.now) (sym c.condition.view_is ∙ ap tree c.in-And.is)
+    c.requires.condition in (
+      search (rules, parts_fall c.condition.view_is (inl c.in-And.is) parts),
+      (rw parts valid, (c.requires.block, c.requires.terms)),
+    )
 
 pub error_of-error_among-requires-in-Or : goal.error_of-error_among-requires-in-Or
 error_of-error_among-requires-in-Or t c =
-    let valid = AreValidConditions-any c.args.block.now c.args.condition.now c.in-Or.parts.items
-    (sym c.condition.view_is ∙ ap tree c.in-Or.is) c.requires.condition in
-    (search (rules, parts_fall c.condition.view_is (inr c.in-Or.is) c.as_slice-in-Or.ensures.value), (rw c.as_slice-in-Or.ensures.value valid, (c.requires.block, c.requires.terms)))
+    let parts = c.as_slice-in-Or.ensures.value in
+    let valid = subst (IsValidCondition c.args.block.now) (sym c.condition.view_is ∙ ap tree c.in-Or.is)
+    c.requires.condition in (
+      search (rules, parts_fall c.condition.view_is (inr c.in-Or.is) parts),
+      (rw parts valid, (c.requires.block, c.requires.terms)),
+    )
