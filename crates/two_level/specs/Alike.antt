@@ -1,8 +1,8 @@
--- The image of two blocks at two levels is one.
+-- The firmware of two blocks at two levels is one.
+use Rattle.std.specs.Prelude.{◌≡◌}
 use Rattle.fuzzy_meaning.specs.declared.block.Block.{Block}
-use Rattle.codegen.specs.Alike.{AreOneImage}
 use Rattle.two_level.specs.declared.two.Two.{Two}
 use Rattle.two_level.specs.Images.{IsTwoOf}
 
 abbrev pub TwosAreOne : Type 0
-TwosAreOne = (slow fast : Block) (f g : Two) → IsTwoOf slow fast f → IsTwoOf slow fast g → AreOneImage f.image g.image
+TwosAreOne = (slow fast : Block) (f g : Two) → IsTwoOf slow fast f → IsTwoOf slow fast g → f ≡ g

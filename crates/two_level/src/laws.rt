@@ -4,7 +4,9 @@ ghost use Rattle.two_level.specs.Images.{AloneHasByteBounds};
 ghost use Rattle.two_level.specs.Running.{FastAnswersEntered};
 ghost use Rattle.two_level.specs.Standing.{TwoStandBeside};
 
-use codegen::laws::{firmware_answers_beside, firmware_arrives_alike, images_are_one};
+use codegen::laws::{
+    firmware_answers_beside, firmware_arrives_alike, firmwares_are_one, images_are_one,
+};
 use cpu12_emul::laws::holds_image;
 use cpu12_isa::decode::decodes_encoded;
 use cpu12_isa::laws::{stays_fit, writes_stay};
@@ -40,9 +42,10 @@ pub fn alone_has_byte_bounds()
     ensures { AloneHasByteBounds }
 {}
 
-/// Two blocks have one image at two levels.
+/// Two blocks have one firmware at two levels.
 pub fn twos_are_one()
     ensures { TwosAreOne }
 {
     images_are_one();
+    firmwares_are_one();
 }

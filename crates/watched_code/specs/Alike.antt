@@ -1,9 +1,8 @@
 -- The firmware of a block with watched tables is one.
+use Rattle.std.specs.Prelude.{◌≡◌}
 use Rattle.fuzzy_meaning.specs.declared.block.Block.{Block}
-use Rattle.codegen.specs.Alike.{HaveOneImage}
 use Rattle.codegen.specs.declared.firmware.Firmware.{Firmware}
 use Rattle.watched_code.specs.Watched.{IsWatchedFirmwareOf}
 
 abbrev pub WatchedFirmwaresAreOne : Type 0
-WatchedFirmwaresAreOne =
-    (b : Block) (f g : Firmware) → IsWatchedFirmwareOf b f → IsWatchedFirmwareOf b g → HaveOneImage f g
+WatchedFirmwaresAreOne = (b : Block) (f g : Firmware) → IsWatchedFirmwareOf b f → IsWatchedFirmwareOf b g → f ≡ g

@@ -37,7 +37,7 @@ pub fn watched_answers()
     free_bytes_leave();
 }
 
-/// A block has one image with watched tables.
+/// A block has one firmware with watched tables.
 pub fn watched_firmwares_are_one()
     ensures { WatchedFirmwaresAreOne }
 {

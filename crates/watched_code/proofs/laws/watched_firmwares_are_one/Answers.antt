@@ -1,5 +1,11 @@
+use Rattle.std.proofs.Common.{sym, ◌∙◌}
+use Rattle.codegen.proofs.Parts.{of_parts}
 use Rattle.watched_code.specs.Watched.{watched_items}
 use Rattle.watched_code.proofs.laws.watched_firmwares_are_one.Goals as goal
 
 pub returns : goal.returns
-returns c b f g of_f of_g = c.images_are_one.ensures (watched_items b) f.image g.image of_f.image of_g.image
+returns c b f g of_f of_g =
+    let image = c.images_are_one.ensures (watched_items b) f.image g.image of_f.image of_g.image in
+    of_parts f g image (of_f.memory_map ∙ sym of_g.memory_map) (of_f.inputs ∙ sym of_g.inputs)
+    (of_f.outputs ∙ sym of_g.outputs) (of_f.narrow ∙ sym of_g.narrow) (of_f.instructions ∙ sym of_g.instructions)
+    (of_f.steps ∙ sym of_g.steps)
