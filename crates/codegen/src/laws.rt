@@ -151,12 +151,12 @@ pub fn uninterrupted_are_one()
     executions_are_one();
 }
 
-/// Images of the same items are one.
+/// Items have one image.
 pub fn images_are_one()
     ensures { ImagesAreOne }
 {}
 
-/// In one width a block has firmware with one image.
+/// In one width a block has one firmware.
 pub fn firmwares_are_one()
     ensures { FirmwaresAreOne }
 {}

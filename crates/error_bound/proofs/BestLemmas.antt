@@ -1,30 +1,24 @@
 -- The best leaf of a box, and the leaves that hold there.
-use Rattle.std.proofs.Common.{◌≡◌, ⊎_elim, ℕ, zero, suc, ◌+◌, ◌-◌, ◌*◌, ◌/◌, ◌<◌, ◌≤◌, Bool, true, false, List, length}
-use Rattle.std.proofs.Common.{Option, Some, None, refl, sym, ◌∙◌, subst, arith, mul-le-mul_right, mul-pos}
-use Rattle.std.specs.Prelude.{IsTrue, slice_get, ◌==◌, ◌⊎◌, if◌then◌else◌, nat_le, ◌<ℤ◌}
+use Rattle.std.proofs.Common.{◌≡◌, ⊎_elim, ℕ, zero, suc, ◌+◌, ◌-◌, ◌*◌, ◌/◌, ◌<◌, ◌≤◌, List, length}
+use Rattle.std.proofs.Common.{Some, None, refl, sym, ◌∙◌, subst, arith, mul-le-mul_right, mul-pos}
+use Rattle.std.specs.Prelude.{IsTrue, ◌⊎◌, ◌<ℤ◌}
 use Rattle.std.proofs.lemmas.Int.{ints}
 use Rattle.std.proofs.lemmas.Bool.{cases_lt}
 use Rattle.fz_list.proofs.Algebra.{All-slice_get}
-use Rattle.fz_num.specs.Fractions.{Fraction, over, IsProper, AtMost, lesser, greater}
+use Rattle.fz_num.specs.Fractions.{Fraction, over, IsProper, AtMost}
 use Rattle.fz_num.specs.Decimals.{distance}
 use Rattle.fuzzy_meaning.specs.declared.block.Block.{Block}
-use Rattle.fuzzy_meaning.specs.declared.block.Input.{Input}
 use Rattle.fuzzy_meaning.specs.declared.block.Output.{Output}
 use Rattle.fuzzy_meaning.specs.declared.block.Rule.{Rule}
-use Rattle.fuzzy_meaning.specs.declared.block.Trapezoid.{Trapezoid}
-use Rattle.fuzzy_meaning.specs.Blocks.{IsValid, IsValidOutput, input_at}
-use Rattle.fuzzy_meaning.specs.Conditions.{Condition, is, negation, all, any, Conditions, end, also}
-use Rattle.fuzzy_meaning.specs.Places.{points_of}
+use Rattle.fuzzy_meaning.specs.Blocks.{IsValid, IsValidOutput}
+use Rattle.fuzzy_meaning.specs.Conditions.{Condition}
 use Rattle.fuzzy_meaning.specs.Rules.{concludes}
-use Rattle.byte_scaling.specs.Cells.{cell_start, cell_end}
-use Rattle.byte_scaling.specs.Weights.{weight_byte_of}
 use Rattle.point_slope.specs.Tables.{row_of, grade_of}
 use Rattle.error_bound.specs.declared.boxes.Interval.{Interval}
 use Rattle.error_bound.specs.declared.boxes.Leaf.{Leaf}
-use Rattle.error_bound.specs.Boxes.{least_from, greatest_from, literal_span, literal_byte_span, rule_span}
+use Rattle.error_bound.specs.Boxes.{least_from, greatest_from, grades_over, literal_byte_span, rule_span}
 use Rattle.error_bound.specs.Boxes.{rule_byte_span}
-use Rattle.error_bound.specs.Spans.{Span, ByteSpan, span, least_span, greatest_span, byte_span, least_byte_span}
-use Rattle.error_bound.specs.Spans.{greatest_byte_span}
+use Rattle.error_bound.specs.Spans.{Span, only, byte_span}
 use Rattle.error_bound.specs.Leaves.{Holds, strong, silent, IsStrong, IsStill, rule_at}
 use Rattle.error_bound.specs.Best.{IsBest, silent as best_silent, strong as best_strong, nothing, IsCandidate}
 use Rattle.error_bound.specs.Best.{silent_leaf}
@@ -33,115 +27,40 @@ use Rattle.error_bound.specs.Bounds.{plus, bound, IsBound, greatest_offset, stro
 use Rattle.error_bound.specs.BestLeaves.{IsBestBound, of_leaf, of_none, BestLeavesAreOne, BestLeavesHold}
 use Rattle.error_bound.specs.BestLeaves.{BestBoundsAreLeast}
 use Rattle.error_bound.proofs.AnswerLemmas.{bound_strong, bound_silent}
-use Rattle.error_bound.proofs.CellErrors.{low_proper, high_proper}
 use Rattle.error_bound.proofs.ConclusionLemmas.{any-some, any-term}
+use Rattle.error_bound.proofs.FlatteningLemmas.{at_literal-holds, span_good}
 use Rattle.error_bound.proofs.LawLemmas.{term_errors-are}
 use Rattle.error_bound.specs.CellErrors.{term_errors}
 use Rattle.error_bound.proofs.Nested.{leaves_hold_inside}
 use Rattle.error_bound.proofs.NestedBounds.{bounds_fall, bounds_unique}
+use Rattle.error_bound.proofs.RuleLemmas.{times_proper, scaled-mono}
+use Rattle.error_bound.proofs.SpanLemmas.{between, levels_monotone}
 use Rattle.error_bound.proofs.WideLemmas.{in_millionths-mono}
 
 -- ---- how far a rule's strengths reach
-
--- over bytes the low is at most the high, and the denominators are above 0
-record IsOrdered (s : Span) (m : ByteSpan) : Type 0 where
-  low : IsProper s.low
-  high : IsProper s.high
-  bytes : m.low ≤ m.high
-
-chosen_proper : (c : Bool) (f g : Fraction) → IsProper f → IsProper g → IsProper (if c then f else g)
-chosen_proper true f g pf pg = pf
-chosen_proper false f g pf pg = pg
-
-lesser_proper : (f g : Fraction) → IsProper f → IsProper g → IsProper (lesser f g)
-lesser_proper f g = chosen_proper (nat_le (f.num * g.den) (g.num * f.den)) f g
-
-greater_proper : (f g : Fraction) → IsProper f → IsProper g → IsProper (greater f g)
-greater_proper f g pf pg = chosen_proper (nat_le (f.num * g.den) (g.num * f.den)) g f pg pf
 
 least_to_greatest : (g : ℕ → ℕ) (p n : ℕ) → least_from g p n ≤ greatest_from g p n
 least_to_greatest g p zero = omega arith
 least_to_greatest g p (suc n) = let h = least_to_greatest g p n in omega arith
 
-same_ordered : (f : Fraction) (n : ℕ) → IsProper f
-    → IsOrdered (record { low = f; high = f }) (record { low = n; high = n })
-same_ordered f n p = record { low = p; high = p; bytes = omega arith }
-
-module _ (s : ℕ → ℕ → Span) (m : ℕ → ℕ → ByteSpan) (literal : (i t : ℕ) → IsOrdered (s i t) (m i t)) where
-  mutual
-    ordered : (c : Condition) → IsOrdered (span s c) (byte_span m c)
-    ordered (is i t) = literal i t
-    ordered (negation c) =
-        let h = ordered c in
-        record {
-          low = record { pos = h.high.pos };
-          high = record { pos = h.low.pos };
-          bytes =
-              (let l = h.bytes in omega arith);
-        }
-    ordered (all cs) = ordered_least cs
-    ordered (any cs) = ordered_greatest cs
-
-    ordered_least : (cs : Conditions) → IsOrdered (least_span s cs) (least_byte_span m cs)
-    ordered_least end = same_ordered (over 1 1) 255 (record { pos = omega arith })
-    ordered_least (also c cs) =
-        let h = ordered c in
-        let k = ordered_least cs in
-        record {
-          low = lesser_proper (span s c).low (least_span s cs).low h.low k.low;
-          high = lesser_proper (span s c).high (least_span s cs).high h.high k.high;
-          bytes = (let l = h.bytes in let r = k.bytes in omega arith);
-        }
-
-    ordered_greatest : (cs : Conditions) → IsOrdered (greatest_span s cs) (greatest_byte_span m cs)
-    ordered_greatest end = same_ordered (over 0 1) 0 (record { pos = omega arith })
-    ordered_greatest (also c cs) =
-        let h = ordered c in
-        let k = ordered_greatest cs in
-        record {
-          low = greater_proper (span s c).low (greatest_span s cs).low h.low k.low;
-          high = greater_proper (span s c).high (greatest_span s cs).high h.high k.high;
-          bytes = (let l = h.bytes in let r = k.bytes in omega arith);
-        }
+-- over bytes the low is at most the high, and the denominators are above 0
+record IsOrdered (s : Span Fraction) (m : Span ℕ) : Type 0 where
+  low : IsProper s.low
+  bytes : m.low ≤ m.high
 
 module _ (b : Block) (box : List Interval) where
-  by_interval : (i t : ℕ) (x : Input) (term : Trapezoid) → input_at b i ≡ Some x → slice_get x.terms (t - 1) ≡ Some term
-      → (v : Option Interval) → slice_get box (i - 1) ≡ v
-      → IsOrdered (literal_span b box i t) (literal_byte_span b box i t)
-  by_interval i t x term ex et None ev = rw (ex, et, ev) (same_ordered (over 0 1) 0 (record { pos = omega arith }))
-  by_interval i t x term ex et (Some v) ev =
-      let k = points_of x term in
-      let w = distance x.lo x.hi in
-      let start : IsProper (cell_start w v.from) = record { pos = omega arith } in
-      let ends : IsProper (cell_end w v.to) = record { pos = omega arith } in
-      rw (ex, et, ev) (record {
-        low = low_proper k (cell_start w v.from) (cell_end w v.to) start ends;
-        high = high_proper k (cell_start w v.from) (cell_end w v.to) (v.to == 255) start ends;
-        bytes = least_to_greatest (grade_of (row_of x term)) v.from (v.to - v.from);
-      })
-
-  by_term : (i t : ℕ) (x : Input) → input_at b i ≡ Some x → (o : Option Trapezoid) → slice_get x.terms (t - 1) ≡ o
-      → IsOrdered (literal_span b box i t) (literal_byte_span b box i t)
-  by_term i t x ex None et = rw (ex, et) (same_ordered (over 0 1) 0 (record { pos = omega arith }))
-  by_term i t x ex (Some term) et = by_interval i t x term ex et (slice_get box (i - 1)) refl
-
-  by_input : (i t : ℕ) (o : Option Input) → input_at b i ≡ o
-      → IsOrdered (literal_span b box i t) (literal_byte_span b box i t)
-  by_input i t None ex = rw ex (same_ordered (over 0 1) 0 (record { pos = omega arith }))
-  by_input i t (Some x) ex = by_term i t x ex (slice_get x.terms (t - 1)) refl
+  bytes_ordered : (c : Condition) → (byte_span (literal_byte_span b box) c).low ≤ (byte_span (literal_byte_span b box) c).high
+  bytes_ordered c =
+      let literal = at_literal-holds b box (λ m. m.low ≤ m.high) grades_over (only 0) (omega arith)
+      (λ x term v. least_to_greatest (grade_of (row_of x term)) v.from (v.to - v.from)) in
+      let h = between levels_monotone {s = literal_byte_span b box} {v = λ i t. (literal_byte_span b box i t).low}
+      (λ i t. record { low = omega arith; high = literal i t }) c in
+      omega (arith, h.low, h.high)
 
   rule_ordered : (r : Rule) → IsOrdered (rule_span b box r) (rule_byte_span b box r)
   rule_ordered r =
-      let c = r.cond in
-      let h = ordered (literal_span b box) (literal_byte_span b box) (λ i t. by_input i t (input_at b i) refl) c in
-      let m = byte_span (literal_byte_span b box) c in
-      let v = weight_byte_of r.weight + 1 in
-      let scaled : m.low * v ≤ m.high * v = mul-le-mul_right v h.bytes in
-      record {
-        low = record { pos = mul-pos h.low.pos (omega arith) };
-        high = record { pos = mul-pos h.high.pos (omega arith) };
-        bytes = omega arith;
-      }
+      let p = (span_good b box r.cond).low.proper in
+      record { low = times_proper _ _ p; bytes = scaled-mono _ _ _ (bytes_ordered r.cond) }
 
 -- ---- strong leaves and candidates
 

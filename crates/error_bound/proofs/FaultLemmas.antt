@@ -10,7 +10,7 @@ use Rattle.fuzzy_meaning.specs.Rules.{concludes}
 use Rattle.error_bound.specs.declared.boxes.Interval.{Interval}
 use Rattle.error_bound.specs.declared.boxes.Leaf as the
 use Rattle.error_bound.specs.declared.boxes.LeafFault.{LeafFault}
-use Rattle.error_bound.specs.Spans.{Span, ByteSpan}
+use Rattle.error_bound.specs.Spans.{Span}
 use Rattle.error_bound.specs.Boxes.{rule_span, rule_byte_span}
 use Rattle.error_bound.specs.Leaves.{rule_at, strong, silent, IsStrong, IsStill}
 use Rattle.error_bound.specs.Faults.{IsStrongFault, weak, still, IsFirstFiring, IsSilentFault, silent as firing, loud}
@@ -20,12 +20,12 @@ use Rattle.error_bound.proofs.ConclusionLemmas.{any-term}
 below_not : (f g : Fraction) → IsBelow f g → AtMost g f → ⊥
 below_not f g l h = let a = l.cross in let b = h.cross in absurd (omega arith)
 
-strong_fails : (leaf : the.Leaf) (s : Span) (m : ByteSpan) (f : LeafFault) → IsStrongFault leaf s m f
+strong_fails : (leaf : the.Leaf) (s : Span Fraction) (m : Span ℕ) (f : LeafFault) → IsStrongFault leaf s m f
     → AtMost (over leaf.k 255) s.low → 1 ≤ m.low → ⊥
 strong_fails leaf s m f (weak l) low some = below_not s.low (over leaf.k 255) l low
 strong_fails leaf s m f (still l none) low some = absurd (omega arith)
 
-silent_fails : (n : ℕ) (s : Span) (m : ByteSpan) (f : LeafFault) → IsSilentFault n s m f → s.high.num ≡ 0
+silent_fails : (n : ℕ) (s : Span Fraction) (m : Span ℕ) (f : LeafFault) → IsSilentFault n s m f → s.high.num ≡ 0
     → m.high ≡ 0 → ⊥
 silent_fails n s m f (firing some) none byte_none = absurd (omega arith)
 silent_fails n s m f (loud none' some) none byte_none = absurd (omega arith)
@@ -48,14 +48,14 @@ faulty_fail b box o leaf f (of_silent n r none first fault) (silent z k all) =
 
 -- ---- one first fault
 
-one_strong : (leaf : the.Leaf) (s : Span) (m : ByteSpan) (f g : LeafFault) → IsStrongFault leaf s m f
+one_strong : (leaf : the.Leaf) (s : Span Fraction) (m : Span ℕ) (f g : LeafFault) → IsStrongFault leaf s m f
     → IsStrongFault leaf s m g → f ≡ g
 one_strong leaf s m _ _ (weak l) (weak k) = refl
 one_strong leaf s m _ _ (weak l) (still k none) = absurd (below_not s.low (over leaf.k 255) l k)
 one_strong leaf s m _ _ (still l none) (weak k) = absurd (below_not s.low (over leaf.k 255) k l)
 one_strong leaf s m _ _ (still l none) (still k also) = refl
 
-one_silent : (n : ℕ) (s : Span) (m : ByteSpan) (f g : LeafFault) → IsSilentFault n s m f → IsSilentFault n s m g → f ≡ g
+one_silent : (n : ℕ) (s : Span Fraction) (m : Span ℕ) (f g : LeafFault) → IsSilentFault n s m f → IsSilentFault n s m g → f ≡ g
 one_silent n s m _ _ (firing some) (firing also) = refl
 one_silent n s m _ _ (firing some) (loud none high) = absurd (omega arith)
 one_silent n s m _ _ (loud none high) (firing some) = absurd (omega arith)

@@ -16,7 +16,7 @@ use Rattle.error_bound.specs.Faults.{IsFirstFiring, IsSilentFault, HasLeafFault,
 use Rattle.error_bound.specs.Leaves.{concludes_some, IsStill}
 use Rattle.error_bound.specs.Ratios.{value_of}
 use Rattle.error_bound.specs.Reaches.{IsEndOfRule}
-use Rattle.error_bound.specs.Spans.{only_truth, only_byte}
+use Rattle.error_bound.specs.Spans.{only}
 use Rattle.error_bound.proofs.ConclusionLemmas.{any-some}
 use Rattle.error_bound.proofs.Values.{silent_same, none_same}
 
@@ -49,7 +49,7 @@ module _ (b : Block) (box : List Interval) (o n : ℕ) (r : Rule) (found : slice
 
   -- where it fires the silent leaf has the fault of its upper end
   pub HasLeafFault-firing : (high : End) (f : LeafFault) → IsEndOfRule b box r true high → concludes_some r o ≡ true
-      → IsSilentFault (n + 1) (only_truth (value_of high.truth)) (only_byte high.byte) f
+      → IsSilentFault (n + 1) (only (value_of high.truth)) (only high.byte) f
       → HasLeafFault b box o silent_leaf f
   HasLeafFault-firing high f end one fault =
       of_silent (n + 1) r refl (IsFirstFiring-next one) (silent_same (n + 1) (value_of high.truth) high.byte

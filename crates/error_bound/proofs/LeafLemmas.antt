@@ -22,7 +22,7 @@ use Rattle.error_bound.specs.Faults.{HasLeafFault, IsStrongFault, of_strong, of_
 use Rattle.error_bound.specs.Leaves.{concludes_some, rule_at, IsPairFor, Holds, strong}
 use Rattle.error_bound.specs.Ratios.{value_of, IsRatio}
 use Rattle.error_bound.specs.Reaches.{IsTable, IsEndOfRule}
-use Rattle.error_bound.specs.Spans.{only_truth, only_byte}
+use Rattle.error_bound.specs.Spans.{only}
 use Rattle.error_bound.proofs.AnswerLemmas.{bound_strong, bound_silent}
 use Rattle.error_bound.proofs.ConclusionLemmas.{any-term}
 use Rattle.error_bound.proofs.LawLemmas.{term_errors-are}
@@ -89,7 +89,7 @@ module _ (b : Block) (o : ℕ) (leaf : Leaf) (pair : IsPairFor b o leaf) (some :
 
     -- and have the fault of that end
     pub HasLeafFault-strong : (f : LeafFault)
-        → IsStrongFault leaf (only_truth (value_of low.truth)) (only_byte low.byte) f → HasLeafFault b box o leaf f
+        → IsStrongFault leaf (only (value_of low.truth)) (only low.byte) f → HasLeafFault b box o leaf f
     HasLeafFault-strong f fault =
         let r = named_rule.0 in
         of_strong r k_some named_rule.1 (strong_same leaf (value_of low.truth) low.byte (rule_span b box r)

@@ -4,6 +4,7 @@ pub mod Sums
 pub mod Quotients
 pub mod CellErrors
 pub mod CellTables
+pub mod SpanLemmas
 pub mod ConditionLemmas
 pub mod PlaceLemmas
 pub mod Literals
@@ -24,11 +25,11 @@ pub mod ConclusionLemmas
 pub mod PairLemmas
 pub mod FaultLemmas
 pub mod BestLemmas
-pub mod Groups
 pub mod Values
 pub mod ListLemmas
 pub mod LeafLemmas
 pub mod Candidates
 pub mod FirstFiring
 pub mod ConditionParts
+pub mod Operations
 pub mod FlatteningLemmas

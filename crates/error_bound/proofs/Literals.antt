@@ -111,11 +111,16 @@ at_place i t v n e x er hw h1 h2 c =
         near = er.covers n h1 h2 x c;
       };
       between = record {
-        l_proper = low_proper k s f ps pf;
-        proper = degree_proper k x px;
-        h_proper = high_proper k s f (v.to == 255) ps pf;
-        below = low_bounds k s f x (v.to == 255) ps pf px inn;
-        over = high_bounds k s f x (v.to == 255) ps pf px inn;
+        low = record {
+          left = low_proper k s f ps pf;
+          right = degree_proper k x px;
+          below = low_bounds k s f x (v.to == 255) ps pf px inn;
+        };
+        high = record {
+          left = degree_proper k x px;
+          right = high_proper k s f (v.to == 255) ps pf;
+          below = high_bounds k s f x (v.to == 255) ps pf px inn;
+        };
       };
       ordered = record {
         low = least_le g v.from (v.to - v.from) n h1 (omega arith);

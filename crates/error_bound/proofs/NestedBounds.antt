@@ -9,23 +9,19 @@ use Rattle.fz_num.specs.Decimals.{distance}
 use Rattle.fuzzy_meaning.specs.declared.block.Block.{Block}
 use Rattle.fuzzy_meaning.specs.declared.block.Output.{Output}
 use Rattle.fuzzy_meaning.specs.declared.block.Rule.{Rule}
-use Rattle.fuzzy_meaning.specs.Blocks.{IsValid, IsValidRule, HasTerm, IsValidCondition, AllValidConditions}
-use Rattle.fuzzy_meaning.specs.Blocks.{IsValidOutput, AreValidConditions}
-use Rattle.fuzzy_meaning.specs.Conditions.{Condition, is, negation, all, any, Conditions, end, also}
+use Rattle.fuzzy_meaning.specs.Blocks.{IsValid, IsValidRule, HasTerm, IsValidCondition, IsValidOutput}
+use Rattle.fuzzy_meaning.specs.Conditions.{Condition}
 use Rattle.fuzzy_meaning.specs.Rules.{concludes}
+use Rattle.fuzzy_meaning.proofs.Evaluations.{evaluate-related}
 use Rattle.fz_list.proofs.Algebra.{IsSomeAnd-some, IsSomeAnd-within, some_at, All-slice_get}
 use Rattle.error_bound.specs.declared.boxes.Interval.{Interval}
 use Rattle.error_bound.specs.declared.boxes.Leaf.{Leaf}
-use Rattle.error_bound.specs.Spans.{greatest_literal, greatest_among}
+use Rattle.error_bound.specs.Spans.{greatest_literal}
 use Rattle.error_bound.specs.Errors.{billion, AreTermErrors, rule_error, weight_error, floor_error, output_error_among}
 use Rattle.error_bound.specs.Bounds.{plus, errors_from, IsBound, greatest_offset, silent_bound, strong_bound}
 use Rattle.error_bound.proofs.AnswerLemmas.{bound_strong}
 use Rattle.error_bound.proofs.WideLemmas.{in_millionths-mono}
 use Rattle.error_bound.specs.Laws.{IsInside, BoundsFallInside, BoundsAreDetermined}
-
-all_parts : (b : Block) (cs : Conditions) → AreValidConditions b cs → AllValidConditions b cs
-all_parts b end h = absurd h
-all_parts b (also c cs) h = h
 
 max-mono : (a b c d : ℕ) → a ≤ c → b ≤ d → max a b ≤ max c d
 max-mono a b c d h k = omega arith
@@ -51,18 +47,10 @@ module _ (b : Block) (small box : List Interval) (e f : ℕ → ℕ → ℕ) (co
       let q = fs.error i t x.0 term.0 v.0 x.1 term.1 v.1 in
       p.least (f i t) (λ m l h y inn. q.covers m (omega arith) (omega arith) y inn)
 
-  mutual
-    less_greatest : (c : Condition) → IsValidCondition b c → greatest_literal e c ≤ greatest_literal f c
-    less_greatest (is i t) h = less_literal i t h
-    less_greatest (negation c) h = less_greatest c h
-    less_greatest (all cs) h = less_among cs (all_parts b cs h)
-    less_greatest (any cs) h = less_among cs (all_parts b cs h)
-
-    less_among : (cs : Conditions) → AllValidConditions b cs → greatest_among e cs ≤ greatest_among f cs
-    less_among end h = omega arith
-    less_among (also c cs) h =
-        max-mono (greatest_literal e c) (greatest_among e cs) (greatest_literal f c) (greatest_among f cs)
-        (less_greatest c h.0) (less_among cs h.1)
+  less_greatest : (c : Condition) → IsValidCondition b c → greatest_literal e c ≤ greatest_literal f c
+  less_greatest = evaluate-related (λ m n. m ≤ n)
+      (record { none = λ or. omega arith; join = λ or k m l n h i. max-mono k m l n h i })
+      (λ m n h. h) less_literal
 
   less_output : (o t : ℕ) (rs : List Rule) → All (IsValidRule b) rs
       → output_error_among e o t rs ≤ output_error_among f o t rs

@@ -20,6 +20,7 @@ use Rattle.error_bound.specs.Spans.{span, byte_span, greatest_literal}
 use Rattle.error_bound.specs.Boxes.{literal_span, literal_byte_span, rule_span, rule_byte_span}
 use Rattle.error_bound.specs.Errors.{billion, apart, weight_error, rule_error, output_error_among}
 use Rattle.error_bound.proofs.ConditionLemmas.{IsHeld, IsWithinSpans, within_spans, held_greater, within_none}
+use Rattle.error_bound.proofs.SpanLemmas.{AreOrdered}
 
 -- q parts for g (v + 1)/256
 pub weighted_near : (t g e v w ew er q : ℕ) (f : Fraction) → v ≤ 256 → w ≤ 10000 → AtMost f one → IsNear t g f e
@@ -54,8 +55,15 @@ times_mono f g w l = record { cross = (let p = mul-le-mul_right (w * 10000) l.cr
 pub times_proper : (f : Fraction) (w : ℕ) → IsProper f → IsProper (times f w)
 times_proper f w p = record { pos = mul-pos p.pos (omega arith) }
 
+pub times_ordered : (f g : Fraction) (w : ℕ) → AreOrdered f g → AreOrdered (times f w) (times g w)
+times_ordered f g w a = record {
+  left = times_proper f w a.left;
+  right = times_proper g w a.right;
+  below = times_mono f g w a.below;
+}
+
 -- 256 and a weight byte
-scaled-mono : (a b v : ℕ) → a ≤ b → a * v / 256 ≤ b * v / 256
+pub scaled-mono : (a b v : ℕ) → a ≤ b → a * v / 256 ≤ b * v / 256
 scaled-mono a b v h = let p : a * v ≤ b * v = mul-le-mul_right v h in omega arith
 
 byte_floor : (t g b : ℕ) → g ≤ 255 → (b + 1) * g * t ≤ 256 * (g * (b + 1) / 256) * t + up_div t 255 * 256 * 255
@@ -126,11 +134,8 @@ module _ (b : Block) (box : List Interval) (bytes : List ℕ) (xs : List Dec) (e
         held = scaled_held billion (byte_truth b bytes c) (greatest_literal e c) v w (weight_error r)
             (truth (literal_degree b xs) c) (byte_in r.weight hw) (weight_in r.weight hw) p.0 p.1 h.held;
         between = record {
-          l_proper = times_proper s.low w h.between.l_proper;
-          proper = times_proper (truth (literal_degree b xs) c) w h.between.proper;
-          h_proper = times_proper s.high w h.between.h_proper;
-          below = times_mono s.low (truth (literal_degree b xs) c) w h.between.below;
-          over = times_mono (truth (literal_degree b xs) c) s.high w h.between.over;
+          low = times_ordered s.low (truth (literal_degree b xs) c) w h.between.low;
+          high = times_ordered (truth (literal_degree b xs) c) s.high w h.between.high;
         };
         ordered = record {
           low = scaled-mono m.low (byte_truth b bytes c) (v + 1) h.ordered.low;

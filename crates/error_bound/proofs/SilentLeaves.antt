@@ -51,7 +51,7 @@ module _ (b : Block) (box : List Interval) (bytes : List ℕ) (xs : List Dec) (e
       let bt = rule_within b box bytes xs e l r hw in
       let m1 : byte_strength b bytes r ≤ (rule_byte_span b box r).high = bt.ordered.high in
       let m0 : (rule_byte_span b box r).high ≡ 0 = s.byte_high in
-      (none_below (strength b xs r) (rule_span b box r).high bt.between.h_proper bt.between.over s.high, none_at m1 m0)
+      (none_below (strength b xs r) (rule_span b box r).high bt.between.high.right bt.between.high.below s.high, none_at m1 m0)
     where
       none_at : {a c : ℕ} → a ≤ c → c ≡ 0 → a ≡ 0
       none_at h1 h2 = omega arith

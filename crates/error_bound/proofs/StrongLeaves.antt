@@ -69,9 +69,9 @@ module _ (b : Block) (box : List Interval) (bytes : List ℕ) (xs : List Dec) (e
       IsSomeAnd-some (λ y. s.term ≤ length y.singletons) (output_at b o) x ex hs.term_to in
       let bt = rule_within b box bytes xs e l r vr.weight in
       let ml = mass_least b box bytes xs e l o s.term b.rules n r hw er s.concludes_it in
-      let a1 = AtMost-trans (over k 255) (rule_span b box r).low (strength b xs r) bt.between.l_proper s.low
-      bt.between.below in
-      let a2 = AtMost-trans (over k 255) (strength b xs r) (mass b xs o s.term) bt.between.proper a1 ml.0 in
+      let a1 = AtMost-trans (over k 255) (rule_span b box r).low (strength b xs r) bt.between.low.left s.low
+      bt.between.low.below in
+      let a2 = AtMost-trans (over k 255) (strength b xs r) (mass b xs o s.term) bt.between.low.right a1 ml.0 in
       let m1 : (rule_byte_span b box r).low ≤ byte_strength b bytes r = bt.ordered.low in
       let m2 : byte_strength b bytes r ≤ byte_mass b bytes o s.term = ml.1 in
       let m0 : 1 ≤ (rule_byte_span b box r).low = s.byte_low in

@@ -3,7 +3,7 @@ use Rattle.std.proofs.Common.{◌≡◌, ℕ, ◌+◌, ◌-◌, ◌*◌, ◌/◌
 use Rattle.std.proofs.Common.{[], None, sym, ap, ◌∙◌, subst, arith}
 use Rattle.std.specs.Prelude.{slice_get, pos}
 use Rattle.std.proofs.lemmas.Option.{get_or_from_slice_get}
-use Rattle.fz_num.specs.Fractions.{times}
+use Rattle.fz_num.specs.Fractions.{Fraction, times}
 use Rattle.fuzzy_meaning.specs.declared.block.Block.{Block}
 use Rattle.fuzzy_meaning.specs.declared.block.Input.{Input}
 use Rattle.fuzzy_meaning.specs.declared.block.Rule.{Rule}
@@ -22,7 +22,7 @@ use Rattle.error_bound.specs.declared.tables.Row.{Row}
 use Rattle.error_bound.specs.declared.tables.BoxTerms.{BoxTerms}
 use Rattle.error_bound.specs.Boxes.{literal_span, literal_byte_span, rule_span, rule_byte_span}
 use Rattle.error_bound.specs.Ratios.{value_of, IsRatio}
-use Rattle.error_bound.specs.Spans.{Span, span, byte_span, end_of, byte_end_of}
+use Rattle.error_bound.specs.Spans.{Span, span, byte_span, end_of}
 use Rattle.error_bound.specs.Flattening.{IsSame, AreSame, ReachesAlike}
 use Rattle.error_bound.specs.Reaches.{AreTermCells, AreInputCells}
 use Rattle.error_bound.specs.Reaches.{AreBoxTerms, IsReachOfTerm, IsReachOfLiteral, IsEndOfCondition, IsEndOfRule}
@@ -94,7 +94,7 @@ rule_end_at b box upper ends n r all e =
     subst (IsEndOfRule b box r upper) (sym (get_or_from_slice_get ends n q.0 no_end q.1)) q.2
 
 -- of a rule by a condition that reaches as far as its own
-same_ends : (upper : Bool) (s r : Span) → AreSame s r → IsSame (end_of upper s) (end_of upper r)
+same_ends : (upper : Bool) (s r : Span Fraction) → AreSame IsSame s r → IsSame (end_of upper s) (end_of upper r)
 same_ends true s r h = h.high
 same_ends false s r h = h.low
 
@@ -105,7 +105,7 @@ end_of_rule_span b box r true = refl
 end_of_rule_span b box r false = refl
 
 end_of_rule_bytes : (b : Block) (box : List Interval) (r : Rule) (upper : Bool)
-    → byte_end_of upper (rule_byte_span b box r) ≡ byte_end_of upper
+    → end_of upper (rule_byte_span b box r) ≡ end_of upper
     (byte_span (literal_byte_span b box) r.cond) * (weight_byte_of r.weight + 1) / 256
 end_of_rule_bytes b box r true = refl
 end_of_rule_bytes b box r false = refl
@@ -127,7 +127,7 @@ end_weighted b box r upper d e f w alike h weight value byte small =
       value = subst (λ x. IsSame x (end_of upper (rule_span b box r))) (sym value)
           (subst (λ x. IsSame (times (value_of e.truth) w) x) (sym (end_of_rule_span b box r upper)) scaled);
       byte = byte ∙ ap (λ n. n * (weight_byte_of r.weight + 1) / 256)
-          (h.byte ∙ ap (byte_end_of upper) (alike.byte_spans box)) ∙ sym (end_of_rule_bytes b box r upper);
+          (h.byte ∙ ap (end_of upper) (alike.byte_spans box)) ∙ sym (end_of_rule_bytes b box r upper);
       small = small;
     }
 

@@ -13,7 +13,7 @@ use Rattle.error_bound.specs.Errors.{billion}
 use Rattle.error_bound.specs.declared.boxes.Leaf.{Leaf}
 use Rattle.error_bound.specs.declared.boxes.LeafFault.{LeafFault}
 use Rattle.error_bound.specs.declared.boxes.LeafFault.TheVariants.{Weak, Silent, Loud}
-use Rattle.error_bound.specs.Spans.{Span, ByteSpan, only_truth, only_byte}
+use Rattle.error_bound.specs.Spans.{Span, only}
 use Rattle.error_bound.specs.Faults.{parts_down, parts_up, IsStrongFault, weak, still, IsSilentFault, silent, loud}
 use Rattle.error_bound.specs.Flattening.{IsSame}
 use Rattle.error_bound.proofs.RuleLemmas.{times_mono, times_proper}
@@ -241,16 +241,16 @@ some_same f g a some = ⊎_elim
 
 -- ---- faults
 
-pub strong_same : (leaf : Leaf) (f : Fraction) (n : ℕ) (r : Span) (m : ByteSpan) (fault : LeafFault) → IsSame f r.low
-    → n ≡ m.low → IsStrongFault leaf (only_truth f) (only_byte n) fault → IsStrongFault leaf r m fault
+pub strong_same : (leaf : Leaf) (f : Fraction) (n : ℕ) (r : Span Fraction) (m : Span ℕ) (fault : LeafFault) → IsSame f r.low
+    → n ≡ m.low → IsStrongFault leaf (only f) (only n) fault → IsStrongFault leaf r m fault
 strong_same leaf f n r m fault a e (weak l) =
     subst (λ k. IsStrongFault leaf r m (Weak leaf.rule leaf.k (record { 0 = k }))) (sym (down_same f r.low a))
     (weak (below_same f r.low (over leaf.k 255) a l))
 strong_same leaf f n r m fault a e (still l none) =
     still (AtMost-trans (over leaf.k 255) f r.low a.left l a.below) (sym e ∙ none)
 
-pub silent_same : (k : ℕ) (f : Fraction) (n : ℕ) (r : Span) (m : ByteSpan) (fault : LeafFault) → IsSame f r.high
-    → n ≡ m.high → IsSilentFault k (only_truth f) (only_byte n) fault → IsSilentFault k r m fault
+pub silent_same : (k : ℕ) (f : Fraction) (n : ℕ) (r : Span Fraction) (m : Span ℕ) (fault : LeafFault) → IsSame f r.high
+    → n ≡ m.high → IsSilentFault k (only f) (only n) fault → IsSilentFault k r m fault
 silent_same k f n r m fault a e (silent some) =
     subst (λ j. IsSilentFault k r m (Silent k (record { 0 = j }))) (sym (up_same f r.high a))
     (silent (some_same f r.high a some))

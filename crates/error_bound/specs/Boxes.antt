@@ -2,7 +2,7 @@
 use Rattle.std.specs.Prelude.{◌≡◌, ℕ, zero, suc, ◌+◌, ◌-◌, ◌*◌, ◌/◌, ◌≤◌, ◌==◌, min, max, List, length, slice_get, Some}
 use Rattle.std.specs.Option.{option_map_or}
 use Rattle.fz_num.specs.declared.dec.Dec.{Dec}
-use Rattle.fz_num.specs.Fractions.{times, none}
+use Rattle.fz_num.specs.Fractions.{Fraction, times, none}
 use Rattle.fz_num.specs.Decimals.{distance}
 use Rattle.fuzzy_meaning.specs.declared.block.Block.{Block}
 use Rattle.fuzzy_meaning.specs.declared.block.Input.{Input}
@@ -16,7 +16,7 @@ use Rattle.point_slope.specs.Tables.{row_of, grade_of}
 use Rattle.error_bound.specs.declared.boxes.Interval.{Interval}
 use Rattle.fuzzy_meaning.specs.Places.{points_of}
 use Rattle.error_bound.specs.Places.{low, high}
-use Rattle.error_bound.specs.Spans.{Span, ByteSpan, span, byte_span}
+use Rattle.error_bound.specs.Spans.{Span, only, span, byte_span}
 
 -- each interval has at least one byte
 pub record IsBox (box : List Interval) : Type 0 where
@@ -41,7 +41,7 @@ pub record LieInCells (b : Block) (bytes : List ℕ) (xs : List Dec) : Type 0 wh
       → slice_get xs k ≡ Some x → LiesInCell i n x
 
 -- the degrees of a term over the cells of an interval
-abbrev pub degrees_over : Input → Trapezoid → Interval → Span
+abbrev pub degrees_over : Input → Trapezoid → Interval → Span Fraction
 degrees_over i t v =
     let w = distance i.lo i.hi in
     record {
@@ -59,7 +59,7 @@ greatest_from g p zero = g p
 greatest_from g p (suc n) = max (greatest_from g p n) (g (p + suc n))
 
 -- its grades over the bytes of an interval
-abbrev pub grades_over : Input → Trapezoid → Interval → ByteSpan
+abbrev pub grades_over : Input → Trapezoid → Interval → Span ℕ
 grades_over i t v =
     let g = grade_of (row_of i t) in
     record { low = least_from g v.from (v.to - v.from); high = greatest_from g v.from (v.to - v.from) }
@@ -70,20 +70,20 @@ at_literal f otherwise b box i t =
     option_map_or (λ x. option_map_or (λ term. option_map_or (f x term) (slice_get box (i - 1)) otherwise)
     (slice_get x.terms (t - 1)) otherwise) (input_at b i) otherwise
 
-abbrev pub literal_span : Block → List Interval → ℕ → ℕ → Span
-literal_span b box i t = at_literal degrees_over (record { low = none; high = none }) b box i t
+abbrev pub literal_span : Block → List Interval → ℕ → ℕ → Span Fraction
+literal_span b box i t = at_literal degrees_over (only none) b box i t
 
-abbrev pub literal_byte_span : Block → List Interval → ℕ → ℕ → ByteSpan
-literal_byte_span b box i t = at_literal grades_over (record { low = 0; high = 0 }) b box i t
+abbrev pub literal_byte_span : Block → List Interval → ℕ → ℕ → Span ℕ
+literal_byte_span b box i t = at_literal grades_over (only 0) b box i t
 
 -- a rule's strengths: the truth times the weight
-abbrev pub rule_span : Block → List Interval → Rule → Span
+abbrev pub rule_span : Block → List Interval → Rule → Span Fraction
 rule_span b box r =
     let s = span (literal_span b box) r.cond in
     record { low = times s.low (weight_of r.weight); high = times s.high (weight_of r.weight) }
 
 -- its strengths over bytes: the truth scaled by the weight byte
-abbrev pub rule_byte_span : Block → List Interval → Rule → ByteSpan
+abbrev pub rule_byte_span : Block → List Interval → Rule → Span ℕ
 rule_byte_span b box r =
     let s = byte_span (literal_byte_span b box) r.cond in
     let v = weight_byte_of r.weight + 1 in

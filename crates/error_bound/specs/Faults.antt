@@ -9,7 +9,7 @@ use Rattle.error_bound.specs.declared.boxes.Leaf as the
 use Rattle.error_bound.specs.declared.boxes.LeafFault.{LeafFault}
 use Rattle.error_bound.specs.declared.boxes.LeafFault.TheVariants.{Weak, Still, Silent, Loud}
 use Rattle.error_bound.specs.Boxes.{rule_span, rule_byte_span}
-use Rattle.error_bound.specs.Spans.{Span, ByteSpan}
+use Rattle.error_bound.specs.Spans.{Span}
 use Rattle.error_bound.specs.Errors.{billion}
 use Rattle.error_bound.specs.Leaves.{rule_at, concludes_some, IsStill, Holds}
 
@@ -29,13 +29,13 @@ pub record IsFirstFiring (b : Block) (box : List Interval) (o n : ℕ) (r : Rule
       → IsStill b box q
 
 -- from s and over bytes from m on, a strength goes below k/255, or else over bytes to 0
-pub data IsStrongFault (leaf : the.Leaf) (s : Span) (m : ByteSpan) : LeafFault → Type 0 where
+pub data IsStrongFault (leaf : the.Leaf) (s : Span Fraction) (m : Span ℕ) : LeafFault → Type 0 where
   weak : IsBelow s.low (over leaf.k 255)
       → IsStrongFault leaf s m (Weak leaf.rule leaf.k (record { 0 = parts_down s.low }))
   still : AtMost (over leaf.k 255) s.low → m.low ≡ 0 → IsStrongFault leaf s m (Still leaf.rule)
 
 -- up to s and over bytes up to m, rule number n has a strength, or else one over bytes
-pub data IsSilentFault (n : ℕ) (s : Span) (m : ByteSpan) : LeafFault → Type 0 where
+pub data IsSilentFault (n : ℕ) (s : Span Fraction) (m : Span ℕ) : LeafFault → Type 0 where
   silent : 0 < s.high.num → IsSilentFault n s m (Silent n (record { 0 = parts_up s.high }))
   loud : s.high.num ≡ 0 → 0 < m.high → IsSilentFault n s m (Loud n m.high)
 

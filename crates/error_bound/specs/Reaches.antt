@@ -1,11 +1,11 @@
 -- What the code's reaches stand for.
 use Rattle.std.specs.Prelude.{◌≡◌, ℕ, ◌≤◌, Bool, true, false, List, length, IfSome, Some, slice_get, slice_index}
 use Rattle.fz_num.specs.Decimals.{distance}
+use Rattle.fz_num.specs.Fractions.{Fraction}
 use Rattle.fuzzy_meaning.specs.declared.block.Block.{Block}
 use Rattle.fuzzy_meaning.specs.declared.block.Input.{Input}
 use Rattle.fuzzy_meaning.specs.declared.block.Rule.{Rule}
 use Rattle.fuzzy_meaning.specs.declared.block.Trapezoid.{Trapezoid}
-use Rattle.fuzzy_meaning.specs.Conditions.{Condition}
 use Rattle.fuzzy_meaning.specs.Conditions.{Condition}
 use Rattle.fuzzy_meaning.specs.Places.{points_of}
 use Rattle.point_slope.specs.Tables.{row_of, grade_of}
@@ -20,17 +20,17 @@ use Rattle.error_bound.specs.declared.tables.Row.{Row}
 use Rattle.error_bound.specs.declared.tables.BoxTerms.{BoxTerms}
 use Rattle.error_bound.specs.declared.rules.BoxTable.{BoxTable}
 use Rattle.error_bound.specs.Ratios.{value_of, IsRatio}
-use Rattle.error_bound.specs.Spans.{Span, ByteSpan, span, byte_span, end_of, byte_end_of}
+use Rattle.error_bound.specs.Spans.{Span, span, byte_span, end_of}
 use Rattle.error_bound.specs.Boxes.{IsBoxOf, degrees_over, grades_over, literal_span, literal_byte_span, rule_span}
 use Rattle.error_bound.specs.Boxes.{rule_byte_span}
 use Rattle.error_bound.specs.Errors.{billion, rule_error}
 use Rattle.error_bound.specs.Flattening.{IsSame, ReachesAlike}
 use Rattle.error_bound.specs.CellErrors.{cell_error, term_error, term_errors}
 
-abbrev pub span_of : Degrees → Span
+abbrev pub span_of : Degrees → Span Fraction
 span_of d = record { low = value_of d.low; high = value_of d.high }
 
-abbrev pub byte_span_of : Reach → ByteSpan
+abbrev pub byte_span_of : Reach → Span ℕ
 byte_span_of r = record { low = r.least; high = r.greatest }
 
 -- a term's grades and their errors at the bytes of an interval
@@ -107,13 +107,13 @@ pub record IsReachOfLiteral (b : Block) (box : List Interval) (i t : ℕ) (r : R
 -- an end of the reach of a condition, the upper one or the lower
 pub record IsEndOfCondition (b : Block) (box : List Interval) (c : Condition) (upper : Bool) (e : End) : Type 0 where
   pub value : value_of e.truth ≡ end_of upper (span (literal_span b box) c)
-  pub byte : e.byte ≡ byte_end_of upper (byte_span (literal_byte_span b box) c)
+  pub byte : e.byte ≡ end_of upper (byte_span (literal_byte_span b box) c)
   pub small : IsRatio 1000000000000 e.truth
 
 -- of the reach of a rule's strength
 pub record IsEndOfRule (b : Block) (box : List Interval) (r : Rule) (upper : Bool) (e : End) : Type 0 where
   pub value : IsSame (value_of e.truth) (end_of upper (rule_span b box r))
-  pub byte : e.byte ≡ byte_end_of upper (rule_byte_span b box r)
+  pub byte : e.byte ≡ end_of upper (rule_byte_span b box r)
   pub small : IsRatio 10000000000000000 e.truth
 
 -- how far a rule's strength over bytes may be from the exact one

@@ -1,13 +1,12 @@
 //! How far up or down truths reach over a box.
-ghost use Rattle.std.specs.Prelude.{◌≡◌, ◌-◌, map};
+ghost use Rattle.std.specs.Prelude.{◌≡◌, ◌-◌};
 ghost use Rattle.fz_num.specs.Fractions.{one_minus};
 ghost use Rattle.fuzzy_meaning.specs.Blocks.{IsValid, IsValidCondition, AreValidConditions};
-ghost use Rattle.fuzzy_meaning.specs.Conditions.{conditions, is};
-ghost use Rattle.error_bound.specs.Spans.{end_of as end_of_span, byte_end_of, joined_ends, joined_byte_ends};
-ghost use Rattle.error_bound.specs.Spans.{end_of_none, byte_end_of_none};
+ghost use Rattle.fuzzy_meaning.specs.Conditions.{conditions, group, is, levels, under};
+ghost use Rattle.fuzzy_meaning.specs.Meaning.{truths};
+ghost use Rattle.error_bound.specs.Spans.{end_of as end_of_span};
 ghost use Rattle.error_bound.specs.Ratios.{value_of, IsRatio};
 ghost use Rattle.error_bound.specs.Reaches.{span_of, byte_span_of, IsSmall, AreBoxTerms, IsEndOfCondition};
-ghost use Rattle.error_bound.specs.Flattening.{group, under};
 
 use crate::ratio::Ratio;
 use crate::reaches::{Literal, Reach, literal_in, reach_of_literal};
@@ -39,7 +38,7 @@ impl End {
     fn of_reach(reach: &Reach, upper: bool) -> End
         requires { IsSmall reach.now }
         ensures value { value_of result.truth ≡ end_of_span upper (span_of reach.now.degrees) }
-        ensures byte { result.byte ≡ byte_end_of upper (byte_span_of reach.now) }
+        ensures byte { result.byte ≡ end_of_span upper (byte_span_of reach.now) }
         ensures small { IsRatio 1000000000000 result.truth }
     {
         if upper {
@@ -71,8 +70,8 @@ impl End {
     /// That of an OR of no parts, or of an AND.
     #[inline]
     fn of_none(any: bool) -> End
-        ensures value { value_of result.truth ≡ end_of_none any }
-        ensures byte { result.byte ≡ byte_end_of_none any }
+        ensures value { value_of result.truth ≡ truths.none any }
+        ensures byte { result.byte ≡ (levels 255).none any }
         ensures small { IsRatio 1000000000000 result.truth }
     {
         if any { End::NOTHING } else { End::ALL }
@@ -83,8 +82,8 @@ impl End {
     fn joined(self, any: bool, other: End) -> End
         requires left { IsRatio 1000000000000 self.truth }
         requires right { IsRatio 1000000000000 other.truth }
-        ensures value { value_of result.truth ≡ joined_ends any (value_of self.truth) (value_of other.truth) }
-        ensures byte { result.byte ≡ joined_byte_ends any self.byte other.byte }
+        ensures value { value_of result.truth ≡ truths.join any (value_of self.truth) (value_of other.truth) }
+        ensures byte { result.byte ≡ (levels 255).join any self.byte other.byte }
         ensures small { IsRatio 1000000000000 result.truth }
     {
         if any {

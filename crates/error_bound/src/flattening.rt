@@ -3,10 +3,10 @@
 //! AND and OR spread into the rule list, which has little room. But a text may nest them 64 deep and put a NOT at each
 //! place, and a walk through that takes a call for each. A flat condition has NOT at literals alone, and no AND
 //! right in an AND nor OR right in an OR, so that most of its walk is one loop over literals.
-ghost use Rattle.std.specs.Prelude.{◌≡◌, ◌++◌, IfOk, OnOk, map, false};
-ghost use Rattle.fuzzy_meaning.specs.Conditions.{conditions};
-ghost use Rattle.error_bound.specs.Flattening.{under as under_of, group, within as within_of, pieces as pieces_of};
-ghost use Rattle.error_bound.specs.Flattening.{each_pieces as each_pieces_of, flat, FlatteningKeepsReaches};
+ghost use Rattle.std.specs.Prelude.{◌≡◌, IfOk, OnOk};
+ghost use Rattle.fuzzy_meaning.specs.Conditions.{conditions, group, under as under_of};
+ghost use Rattle.error_bound.specs.Flattening.{followed, parts as parts_of, flat_under, flat_parts, flat};
+ghost use Rattle.error_bound.specs.Flattening.{FlatteningKeepsReaches};
 
 use fuzzy_meaning::{Condition, Node};
 use std::alloc::{AllocError, Global};
@@ -30,8 +30,8 @@ fn push_pieces(
     odd: bool,
     pieces: &mut Vec<Condition>,
 ) -> Result<(), AllocError>
-    ensures { OnOk result (pieces.new.items
-        ≡ pieces.old.items ++ pieces_of any odd condition.now) }
+    ensures { OnOk result (conditions pieces.new.items
+        ≡ followed (conditions pieces.old.items) (parts_of any (flat_under odd condition.now))) }
 {
     match &condition.node {
         Node::Is(input, term) => {
@@ -55,8 +55,8 @@ fn push_group(
     odd: bool,
     pieces: &mut Vec<Condition>,
 ) -> Result<(), AllocError>
-    ensures { OnOk result (pieces.new.items ≡ pieces.old.items
-        ++ within_of any kind (each_pieces_of kind odd (conditions parts.now))) }
+    ensures { OnOk result (conditions pieces.new.items ≡ followed (conditions pieces.old.items)
+        (parts_of any (flat_parts odd kind (conditions parts.now)))) }
 {
     if kind == any {
         return push_each(alloc, parts, kind, odd, pieces);
@@ -87,8 +87,8 @@ fn push_each(
     odd: bool,
     pieces: &mut Vec<Condition>,
 ) -> Result<(), AllocError>
-    ensures { OnOk result (pieces.new.items ≡ pieces.old.items
-        ++ each_pieces_of any odd (conditions parts.now)) }
+    ensures { OnOk result (conditions pieces.new.items ≡ followed (conditions pieces.old.items)
+        (parts_of any (flat_parts odd any (conditions parts.now)))) }
 {
     for part in parts {
         push_pieces(alloc, part, any, odd, pieces)?;

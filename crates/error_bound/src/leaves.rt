@@ -10,7 +10,7 @@ ghost use Rattle.error_bound.specs.Bounds.{IsBound};
 ghost use Rattle.error_bound.specs.Faults.{HasLeafFault, IsStrongFault, IsSilentFault};
 ghost use Rattle.error_bound.specs.Leaves.{rule_at, Holds, IsStill, concludes_some as concludes_any, IsPairFor};
 ghost use Rattle.error_bound.specs.Ratios.{value_of, IsRatio};
-ghost use Rattle.error_bound.specs.Spans.{only_truth, only_byte};
+ghost use Rattle.error_bound.specs.Spans.{only};
 ghost use Rattle.error_bound.specs.Reaches.{IsTable};
 
 use crate::bounds::{silent_bound, strong_bound};
@@ -108,7 +108,7 @@ fn strong_fault(low: End, leaf: Leaf) -> Option<LeafFault>
     requires { IsRatio 10000000000000000 low.truth }
     ensures low { IfNone result (AtMost (over leaf.k 255) (value_of low.truth)) }
     ensures byte_low { IfNone result (1 ≤ low.byte) }
-    ensures fault { IfSome result (IsStrongFault leaf (only_truth (value_of low.truth)) (only_byte low.byte)) }
+    ensures fault { IfSome result (IsStrongFault leaf (only (value_of low.truth)) (only low.byte)) }
 {
     if low.truth.is_below(leaf.k) {
         Some(LeafFault::Weak(leaf.rule, leaf.k, low.truth.floor_nano()))
@@ -124,7 +124,7 @@ fn firing_fault(high: End, n: u16) -> Option<LeafFault>
     requires { IsRatio 10000000000000000 high.truth }
     ensures high { IfNone result ((value_of high.truth).num ≡ 0) }
     ensures byte_high { IfNone result (high.byte ≡ 0) }
-    ensures fault { IfSome result (IsSilentFault n (only_truth (value_of high.truth)) (only_byte high.byte)) }
+    ensures fault { IfSome result (IsSilentFault n (only (value_of high.truth)) (only high.byte)) }
 {
     if high.truth.num > 0 {
         Some(LeafFault::Silent(n, high.truth.up_nano()))

@@ -1,8 +1,8 @@
 //! The greatest error of a condition's literals over a box.
-ghost use Rattle.std.specs.Prelude.{◌≡◌, ◌≤◌, map};
+ghost use Rattle.std.specs.Prelude.{◌≡◌, ◌≤◌};
 ghost use Rattle.fuzzy_meaning.specs.Blocks.{IsValid, IsValidCondition, AreValidConditions};
-ghost use Rattle.fuzzy_meaning.specs.Conditions.{conditions};
-ghost use Rattle.error_bound.specs.Spans.{greatest_literal, greatest_among};
+ghost use Rattle.fuzzy_meaning.specs.Conditions.{all, conditions};
+ghost use Rattle.error_bound.specs.Spans.{greatest_literal};
 ghost use Rattle.error_bound.specs.CellErrors.{term_errors};
 ghost use Rattle.error_bound.specs.Reaches.{AreBoxTerms};
 
@@ -28,14 +28,14 @@ pub(crate) fn error_of(condition: &Condition, block: &Block, terms: &BoxTerms) -
     }
 }
 
-/// Most parts are literals, which take no further call.
+/// That of an AND's parts, or as well of an OR's. Most parts are literals, which take no further call.
 #[cycle(errors)]
 fn error_among(parts: &[Condition], block: &Block, terms: &BoxTerms) -> u64
     requires parts { AreValidConditions block.now (conditions parts.now) }
     requires block { IsValid block.now }
     requires terms { AreBoxTerms block.now terms.now }
     ensures value { result
-        ≡ greatest_among (term_errors block.now terms.now.bytes.0.items) (conditions parts.now) }
+        ≡ greatest_literal (term_errors block.now terms.now.bytes.0.items) (all (conditions parts.now)) }
     ensures small { result ≤ 1000000000 }
 {
     parts_are_valid();

@@ -1,9 +1,8 @@
 //! How far the truths of literals reach over a box.
 ghost use Rattle.std.specs.Prelude.{◌≡◌, IfSome};
 ghost use Rattle.fuzzy_meaning.specs.Blocks.{IsValid, HasTerm};
-ghost use Rattle.fuzzy_meaning.specs.Conditions.{is};
+ghost use Rattle.fuzzy_meaning.specs.Conditions.{is, under};
 ghost use Rattle.error_bound.specs.Reaches.{AreBoxTerms, IsReachOfLiteral};
-ghost use Rattle.error_bound.specs.Flattening.{under};
 
 use crate::degrees::Degrees;
 use crate::ratio::Ratio;

@@ -1,6 +1,7 @@
 pub mod BlockLemmas
 pub mod ConditionLemmas
 pub mod Parts
+pub mod Evaluations
 pub mod ShareLemmas
 pub mod ExampleLemmas
 pub mod DegreeLemmas

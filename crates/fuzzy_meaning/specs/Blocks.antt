@@ -7,8 +7,8 @@ use Rattle.fuzzy_meaning.specs.declared.block.Input.{Input}
 use Rattle.fuzzy_meaning.specs.declared.block.Output.{Output}
 use Rattle.fuzzy_meaning.specs.declared.block.Rule.{Rule}
 use Rattle.fuzzy_meaning.specs.declared.block.Trapezoid.{Trapezoid}
-use Rattle.fuzzy_meaning.specs.Conditions.{Condition, is, negation, all, any, Conditions, end, also, conditions}
-use Rattle.fuzzy_meaning.specs.Conditions.{depth, nodes}
+use Rattle.fuzzy_meaning.specs.Conditions.{Condition, Conditions, conditions, depth, nodes, HasLiterals}
+use Rattle.fuzzy_meaning.specs.Conditions.{SomeHaveLiterals}
 
 -- inputs, outputs and terms count from 1
 abbrev pub input_at : Block → ℕ → Option Input
@@ -78,21 +78,12 @@ pub record IsValidOutput (x : Output) : Type 0 where
   pub default_in_scale : IfSome x.default (λ d. IsInScale d.0)
 
 -- each literal names a term of the block, and no list is empty
-abbrev mutual
-  pub IsValidCondition : Block → Condition → Type 0
-  IsValidCondition b (is i t) = HasTerm b i t
-  IsValidCondition b (negation c) = IsValidCondition b c
-  IsValidCondition b (all cs) = AreValidConditions b cs
-  IsValidCondition b (any cs) = AreValidConditions b cs
+abbrev pub IsValidCondition : Block → Condition → Type 0
+IsValidCondition b = HasLiterals (HasTerm b)
 
-  -- one at least
-  pub AreValidConditions : Block → Conditions → Type 0
-  AreValidConditions b end = ⊥
-  AreValidConditions b (also c cs) = IsValidCondition b c × AllValidConditions b cs
-
-  pub AllValidConditions : Block → Conditions → Type 0
-  AllValidConditions b end = Unit {0}
-  AllValidConditions b (also c cs) = IsValidCondition b c × AllValidConditions b cs
+-- one at least
+abbrev pub AreValidConditions : Block → Conditions → Type 0
+AreValidConditions b = SomeHaveLiterals (HasTerm b)
 
 -- from 0 to 1, in 1/10000
 pub record IsWeight (w : Dec) : Type 0 where

@@ -60,7 +60,12 @@ mutual
 
   run-all_written : (cs : Conditions) (k : List Token) (s : Stacks) → run (all_written cs k) s ≡ run k (s.0, cs ∷ s.1)
   run-all_written end k s = refl
-  run-all_written (also c cs) k s = rw (run-all_written cs (written c ((5, (0, 0)) ∷ k)) s, run-written c ((5, (0, 0)) ∷ k) (s.0, cs ∷ s.1)) refl
+  run-all_written (also c cs) k s =
+      rw (
+        run-all_written cs (written c ((5, (0, 0)) ∷ k)) s,
+        run-written c ((5, (0, 0)) ∷ k) (s.0, cs ∷ s.1),
+      )
+      refl
 
 abbrev to : Condition → List Token
 to c = written c []

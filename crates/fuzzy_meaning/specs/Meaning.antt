@@ -9,7 +9,7 @@ use Rattle.fuzzy_meaning.specs.declared.block.Block.{Block}
 use Rattle.fuzzy_meaning.specs.declared.block.Output.{Output}
 use Rattle.fuzzy_meaning.specs.declared.block.Rule.{Rule}
 use Rattle.fuzzy_meaning.specs.Blocks.{term_at, output_at}
-use Rattle.fuzzy_meaning.specs.Conditions.{Condition, is, negation, all, any, Conditions, end, also}
+use Rattle.fuzzy_meaning.specs.Conditions.{Condition, Joins, joins, evaluate}
 use Rattle.fuzzy_meaning.specs.Degrees.{degree}
 use Rattle.fuzzy_meaning.specs.Rules.{concludes}
 
@@ -18,21 +18,13 @@ abbrev pub literal_degree : Block → List Dec → ℕ → ℕ → Fraction
 literal_degree b xs i t =
     option_map_or (λ term. option_map_or (degree term) (slice_get xs (i - 1)) none) (term_at b i t) none
 
+-- OR is the greatest, AND the least
+abbrev pub truths : Joins Fraction
+truths = joins none greater one lesser
+
 -- the truth of a condition where d gives the degrees
-abbrev mutual
-  pub truth : (ℕ → ℕ → Fraction) → Condition → Fraction
-  truth d (is i t) = d i t
-  truth d (negation c) = one_minus (truth d c)
-  truth d (all cs) = least_truth d cs
-  truth d (any cs) = greatest_truth d cs
-
-  pub least_truth : (ℕ → ℕ → Fraction) → Conditions → Fraction
-  least_truth d end = one
-  least_truth d (also c cs) = lesser (truth d c) (least_truth d cs)
-
-  pub greatest_truth : (ℕ → ℕ → Fraction) → Conditions → Fraction
-  greatest_truth d end = none
-  greatest_truth d (also c cs) = greater (truth d c) (greatest_truth d cs)
+abbrev pub truth : (ℕ → ℕ → Fraction) → Condition → Fraction
+truth = evaluate one_minus truths
 
 -- in 1/10000; 1 without a WITH
 abbrev pub weight_of : Option Dec → ℕ

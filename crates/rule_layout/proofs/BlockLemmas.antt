@@ -7,10 +7,9 @@ use Rattle.std.proofs.lemmas.List.{length-map, append_assoc}
 use Rattle.std.proofs.lemmas.List.Elements.{All-append, All-map, All-head, All-tail, All-cons, All-nil}
 use Rattle.fuzzy_meaning.specs.declared.block.Block.{Block}
 use Rattle.fuzzy_meaning.specs.declared.block.Rule.{Rule}
-use Rattle.fuzzy_meaning.specs.Blocks.{IsValid, IsValidInput, IsValidOutput, IsValidRule, IsValidCondition}
-use Rattle.fuzzy_meaning.specs.Blocks.{AreValidConditions, AllValidConditions, HasTerm, HasSingleton}
-use Rattle.fuzzy_meaning.specs.Conditions.{Condition, is, negation, all, any, Conditions, end, also}
-use Rattle.rule_layout.specs.Grid.{IsInGrid, FitsGrid, SomeFitGrid, AllFitGrid}
+use Rattle.fuzzy_meaning.specs.Blocks.{IsValid, IsValidInput, IsValidOutput, IsValidRule, HasTerm, HasSingleton}
+use Rattle.fuzzy_meaning.proofs.Evaluations.{HasLiterals-map}
+use Rattle.rule_layout.specs.Grid.{IsInGrid, FitsGrid}
 use Rattle.rule_layout.specs.declared.flat.Slot.{Slot}
 use Rattle.rule_layout.specs.Slots.{terms_from, term_count, singleton_count, input_terms, output_terms, term_slot}
 use Rattle.rule_layout.specs.Slots.{complement_slot, out_slot, is_complemented, slots_of}
@@ -45,23 +44,8 @@ singleton_in_table b o t v h =
       omega (arith, found.3, found.2.few_terms),
     )
 
-mutual
-  pub fits_from_valid : (b : Block) (c : Condition) → IsValid b → IsValidCondition b c → FitsGrid c
-  fits_from_valid b (is i t) v h = term_in_grid b i t v h
-  fits_from_valid b (negation c) v h = fits_from_valid b c v h
-  fits_from_valid b (all cs) v h = some_fit_from_valid b cs v h
-  fits_from_valid b (any cs) v h = some_fit_from_valid b cs v h
-
-  some_fit_from_valid : (b : Block) (cs : Conditions) → IsValid b → AreValidConditions b cs → SomeFitGrid cs
-  some_fit_from_valid b end v h = absurd h
-  some_fit_from_valid b (also c cs) v h = (fits_from_valid b c v h.0, all_fit_from_valid b cs v h.1)
-
-  all_fit_from_valid : (b : Block) (cs : Conditions) → IsValid b → AllValidConditions b cs → AllFitGrid cs
-  all_fit_from_valid b end v h = tt
-  all_fit_from_valid b (also c cs) v h = (fits_from_valid b c v h.0, all_fit_from_valid b cs v h.1)
-
 pub rule_fits : (b : Block) (r : Rule) → IsValid b → IsValidRule b r → FitsGrid r.cond
-rule_fits b r v h = fits_from_valid b r.cond v h.condition
+rule_fits b r v h = HasLiterals-map (λ i t. term_in_grid b i t v) r.cond h.condition
 
 -- a pair of a variable from i up to, not with, j, and one of at most 15 terms
 pub record IsTermBetween (i j : ℕ) (p : ℕ × ℕ) : Type 0 where

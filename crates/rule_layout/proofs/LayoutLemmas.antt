@@ -1,7 +1,7 @@
 -- The layout of a valid block.
 use Rattle.std.proofs.Common.{◌≡◌, ℕ, ◌+◌, ◌*◌, ◌<◌, ◌≤◌, Bool, List, [], ◌∷◌, ◌++◌, length, map, filter, get_or, refl}
 use Rattle.std.proofs.Common.{sym, ap, ap₂, ◌∙◌, subst, arith}
-use Rattle.std.specs.Prelude.{All, flat_map, sum_by, IfSome, Ok, nat_le, true, false}
+use Rattle.std.specs.Prelude.{All, flat_map, sum_by, Ok, nat_le, true, false}
 use Rattle.std.proofs.lemmas.List.{length-map, length-append}
 use Rattle.std.proofs.lemmas.List.FromFn.{length-range_with_len}
 use Rattle.std.proofs.lemmas.List.Sums.{sum_by-append, sum_by-cons, length-filter, count_by-le-length, get_or-le-sum_by}
@@ -9,7 +9,7 @@ use Rattle.std.proofs.lemmas.List.Elements.{All-append, All-map, All-head, All-t
 use Rattle.std.specs.List.{range_with_len}
 use Rattle.fuzzy_meaning.specs.declared.block.Block.{Block}
 use Rattle.fuzzy_meaning.specs.declared.block.Rule.{Rule}
-use Rattle.fuzzy_meaning.specs.Blocks.{IsValid, IsWeight, rule_size}
+use Rattle.fuzzy_meaning.specs.Blocks.{IsValid, rule_size}
 use Rattle.rule_layout.specs.declared.flat.Slot.{Slot}
 use Rattle.rule_layout.specs.declared.flat.Conjunction.{Conjunction}
 use Rattle.rule_layout.specs.declared.flat.Form.{Form}
@@ -209,9 +209,6 @@ rules_spreadable b v = λ k d lt.
           λ j p here. ((rules_have_slots b v k d lt).conclusions j p here).known;
     } in
     made
-
-pub rules_weighed : (b : Block) → IsValid b → All (λ r. IfSome r.weight IsWeight) b.rules
-rules_weighed b v = λ k d lt. (v.rules k d lt).weight
 
 width_le : (f : Form) → element_width f ≤ 2
 width_le Rev = omega arith

@@ -1,5 +1,5 @@
 -- Every literal and conclusion of a valid block has its slot.
-use Rattle.std.proofs.Common.{◌≡◌, ℕ, zero, suc, ◌+◌, ◌-◌, ◌<◌, ◌≤◌, ◌||◌, ◌⊎◌, ⊎_elim, Bool, true, false, not, List}
+use Rattle.std.proofs.Common.{◌≡◌, ℕ, zero, suc, ◌+◌, ◌-◌, ◌<◌, ◌≤◌, ◌||◌, ⊎_elim, Bool, true, false, not, List}
 use Rattle.std.proofs.Common.{[], ◌∷◌, ◌++◌, length, get_or, map, filter, refl, ap, ap₂, ◌∙◌, subst, arith}
 use Rattle.std.specs.Prelude.{◌==◌, ◌&&◌, All, IsSomeAnd, slice_get}
 use Rattle.std.specs.List.{range_with_len, list_any}
@@ -9,26 +9,23 @@ use Rattle.std.proofs.lemmas.Bool.Decides.{nat_tests}
 use Rattle.std.proofs.lemmas.List.Elements.{All-append, All-map, All-head, All-tail, All-cons, All-nil}
 use Rattle.fuzzy_meaning.specs.declared.block.Block.{Block}
 use Rattle.fuzzy_meaning.specs.declared.block.Rule.{Rule}
-use Rattle.fuzzy_meaning.specs.Blocks.{IsValid, IsValidCondition, AreValidConditions, AllValidConditions, HasTerm}
-use Rattle.fuzzy_meaning.specs.Blocks.{HasSingleton}
-use Rattle.fuzzy_meaning.specs.Conditions.{Condition, is, negation, all, any, Conditions, end, also}
+use Rattle.fuzzy_meaning.specs.Blocks.{IsValid, IsValidCondition, HasTerm, HasSingleton}
+use Rattle.fuzzy_meaning.specs.Conditions.{Condition, is, negation, all, any, Conditions, end, also, AllHaveLiterals}
+use Rattle.fuzzy_meaning.proofs.Evaluations.{AllHaveLiterals-some}
 use Rattle.rule_layout.specs.declared.flat.Slot.{Slot}
 use Rattle.rule_layout.specs.declared.flat.Slot.TheVariants.{Term, Complement, Out}
-use Rattle.rule_layout.specs.Spreading.{Literal, literal, choices, spread_of, one_after_another, each_choice}
+use Rattle.rule_layout.specs.Spreading.{Literal, literal, choices, spread_of, spread_parts}
 use Rattle.rule_layout.specs.Slots.{terms_from, term_count, singleton_count, input_terms, output_terms, term_slot}
-use Rattle.rule_layout.specs.Slots.{complement_slot, out_slot, has_complement, some_has_complement, is_complemented}
+use Rattle.rule_layout.specs.Slots.{complement_slot, out_slot, has_complement, is_complemented}
 use Rattle.rule_layout.specs.Slots.{slots_of, is_same_slot, number_in, literal_slot}
 use Rattle.rule_layout.specs.Tables.{IsInTable}
 use Rattle.rule_layout.specs.Layouts.{rule_spread}
 use Rattle.rule_layout.proofs.BlockLemmas.{term_in_grid, singleton_in_table}
+use Rattle.rule_layout.proofs.SlotLemmas.{some_has_complement}
 
 -- whether the slot is in the list
 abbrev pub is_in : Slot → List Slot → Bool
 is_in s ss = list_any (is_same_slot s) ss
-
-or_true : (a b : Bool) → (a ≡ true) ⊎ (b ≡ true) → (a || b) ≡ true
-or_true true b h = refl
-or_true false b h = ⊎_elim (λ e. absurd (false≢true e)) (λ e. e) h
 
 or_left : (a b : Bool) → a ≡ true → (a || b) ≡ true
 or_left true b e = refl
@@ -175,9 +172,6 @@ All-choices P (x ∷ xs) ys h k =
 abbrev AreUsedBy : Block → Bool → Condition → Type 0
 AreUsedBy b odd c = (i t : ℕ) → has_complement i t odd c ≡ true → is_complemented b.rules i t ≡ true
 
-abbrev AreAllUsedBy : Block → Bool → Conditions → Type 0
-AreAllUsedBy b odd cs = (i t : ℕ) → some_has_complement i t odd cs ≡ true → is_complemented b.rules i t ≡ true
-
 leaf_has_slot : (b : Block) (v : IsValid b) (odd : Bool) (i t : ℕ) → HasTerm b i t → AreUsedBy b odd (is i t)
     → LiteralHasSlot b (literal odd i t)
 leaf_has_slot b v true i t h used = record {
@@ -190,39 +184,34 @@ leaf_has_slot b v false i t h used = record {
   found = number_in-lt (slots_of b) (Term i t) (term_in_slots b v i t h);
 }
 
-mutual
-  pub literals_have_slots : (b : Block) (v : IsValid b) (odd : Bool) (c : Condition) → IsValidCondition b c
-      → AreUsedBy b odd c → All (All (LiteralHasSlot b)) (spread_of odd c)
-  literals_have_slots b v odd (is i t) h used =
-      All-cons (All (LiteralHasSlot b)) (literal odd i t ∷ []) []
-      (All-cons (LiteralHasSlot b) (literal odd i t) [] (leaf_has_slot b v odd i t h used)
-      (All-nil (LiteralHasSlot b))) (All-nil (All (LiteralHasSlot b)))
-  literals_have_slots b v odd (negation c) h used = literals_have_slots b v (not odd) c h used
-  literals_have_slots b v true (all cs) h used = in_turn_have_slots b v true cs (all_from_some b cs h) used
-  literals_have_slots b v false (all cs) h used = choices_have_slots b v false cs (all_from_some b cs h) used
-  literals_have_slots b v true (any cs) h used = choices_have_slots b v true cs (all_from_some b cs h) used
-  literals_have_slots b v false (any cs) h used = in_turn_have_slots b v false cs (all_from_some b cs h) used
+module _ (b : Block) (v : IsValid b) where
+  mutual
+    pub literals_have_slots : (odd : Bool) (c : Condition) → IsValidCondition b c → AreUsedBy b odd c
+        → All (All (LiteralHasSlot b)) (spread_of odd c)
+    literals_have_slots odd (is i t) h used =
+        All-cons (All (LiteralHasSlot b)) (literal odd i t ∷ []) []
+        (All-cons (LiteralHasSlot b) (literal odd i t) [] (leaf_has_slot b v odd i t h used)
+        (All-nil (LiteralHasSlot b))) (All-nil (All (LiteralHasSlot b)))
+    literals_have_slots odd (negation c) h used = literals_have_slots (not odd) c h used
+    literals_have_slots odd (all cs) h used =
+        parts_have_slots odd odd cs (AllHaveLiterals-some (HasTerm b) cs h) used
+    literals_have_slots odd (any cs) h used =
+        parts_have_slots odd (not odd) cs (AllHaveLiterals-some (HasTerm b) cs h) used
 
-  in_turn_have_slots : (b : Block) (v : IsValid b) (odd : Bool) (cs : Conditions) → AllValidConditions b cs
-      → AreAllUsedBy b odd cs → All (All (LiteralHasSlot b)) (one_after_another odd cs)
-  in_turn_have_slots b v odd end h used = All-nil (All (LiteralHasSlot b))
-  in_turn_have_slots b v odd (also c cs) h used =
-      All-append (All (LiteralHasSlot b)) (spread_of odd c) (one_after_another odd cs)
-      (literals_have_slots b v odd c h.0 (λ i t e. used i t (or_left _ _ e)))
-      (in_turn_have_slots b v odd cs h.1 (λ i t e. used i t (or_right _ _ e)))
-
-  choices_have_slots : (b : Block) (v : IsValid b) (odd : Bool) (cs : Conditions) → AllValidConditions b cs
-      → AreAllUsedBy b odd cs → All (All (LiteralHasSlot b)) (each_choice odd cs)
-  choices_have_slots b v odd end h used =
-      All-cons (All (LiteralHasSlot b)) [] [] (All-nil (LiteralHasSlot b)) (All-nil (All (LiteralHasSlot b)))
-  choices_have_slots b v odd (also c cs) h used =
-      All-choices (LiteralHasSlot b) (spread_of odd c) (each_choice odd cs)
-      (literals_have_slots b v odd c h.0 (λ i t e. used i t (or_left _ _ e)))
-      (choices_have_slots b v odd cs h.1 (λ i t e. used i t (or_right _ _ e)))
-
-  all_from_some : (b : Block) (cs : Conditions) → AreValidConditions b cs → AllValidConditions b cs
-  all_from_some b end h = absurd h
-  all_from_some b (also c cs) h = h
+    parts_have_slots : (odd any : Bool) (cs : Conditions) → AllHaveLiterals (HasTerm b) cs
+        → ((i t : ℕ) → some_has_complement i t odd any cs ≡ true → is_complemented b.rules i t ≡ true)
+        → All (All (LiteralHasSlot b)) (spread_parts odd any cs)
+    parts_have_slots odd true end h used = All-nil (All (LiteralHasSlot b))
+    parts_have_slots odd false end h used =
+        All-cons (All (LiteralHasSlot b)) [] [] (All-nil (LiteralHasSlot b)) (All-nil (All (LiteralHasSlot b)))
+    parts_have_slots odd true (also c cs) h used =
+        All-append (All (LiteralHasSlot b)) (spread_of odd c) (spread_parts odd true cs)
+        (literals_have_slots odd c h.0 (λ i t e. used i t (or_left _ _ e)))
+        (parts_have_slots odd true cs h.1 (λ i t e. used i t (or_right _ _ e)))
+    parts_have_slots odd false (also c cs) h used =
+        All-choices (LiteralHasSlot b) (spread_of odd c) (spread_parts odd false cs)
+        (literals_have_slots odd c h.0 (λ i t e. used i t (or_left _ _ e)))
+        (parts_have_slots odd false cs h.1 (λ i t e. used i t (or_right _ _ e)))
 
 list_any-at : {X : Type 0} (p : X → Bool) (xs : List X) (k : ℕ) (d : X) → k < length xs → p (get_or xs k d) ≡ true
     → list_any p xs ≡ true

@@ -1,22 +1,23 @@
 -- The sizes of rules, one after another.
 use Rattle.std.proofs.Common.{◌≡◌, ℕ, ◌+◌, ◌*◌, ◌<◌, ◌≤◌, false, List, [], ◌∷◌, ◌++◌, length, map, get_or, take}
-use Rattle.std.proofs.Common.{replicate, Some, None, Ok, refl, sym, ap, ap₂, ◌∙◌, subst, arith}
+use Rattle.std.proofs.Common.{replicate, Some, Ok, refl, sym, ap, ap₂, ◌∙◌, subst, arith}
 use Rattle.std.specs.Prelude.{All, flat_map}
 use Rattle.std.proofs.lemmas.List.{take_more, get_or-take, length-take, flat_map_more}
-use Rattle.std.proofs.lemmas.List.Sums.{sum_by_more, sum_by-cons}
+use Rattle.std.proofs.lemmas.List.Sums.{sum_by-cons}
 use Rattle.std.proofs.lemmas.List.Elements.{All-head, All-tail}
 use Rattle.std.proofs.Math.Nat.{mul-le-mul_left}
 use Rattle.fuzzy_meaning.specs.declared.block.Rule.{Rule}
 use Rattle.fuzzy_meaning.specs.Conditions.{nodes}
 use Rattle.rule_layout.specs.declared.sizes.Size.{Size}
 use Rattle.rule_layout.specs.Spreading.{Literal, total_length}
-use Rattle.rule_layout.specs.Sizes.{IsCountable, rule_entries, entry_count, IsSizeOfRule, IsSizeOfRules, IsSum, IsSmall}
+use Rattle.rule_layout.specs.Sizes.{IsCountable, rule_entries, entry_count, IsSizeOfRule, IsSizeOfRules, IsSmall}
 use Rattle.rule_layout.specs.declared.flat.Conjunction.{Conjunction}
 use Rattle.rule_layout.specs.Slots.{out_slot}
 use Rattle.rule_layout.specs.Tables.{table_number, table_literal, table_literals}
-use Rattle.rule_layout.specs.Layouts.{rule_spread, conjunction_count, IsFirstTooMany}
+use Rattle.rule_layout.specs.Layouts.{rule_spread, conjunction_count}
 use Rattle.rule_layout.specs.Steps.{table_conjunction, table_conjunctions, with_conclusions}
 use Rattle.rule_layout.proofs.SpreadLemmas.{entries_le}
+use Rattle.rule_layout.proofs.SizeLemmas.{small_from}
 
 entries_bound : (e m n k : ℕ) → e ≤ m * n → n + k ≤ 1048576 → e + m * (k + 2) ≤ m * 2097152
 entries_bound e m n k h few =
@@ -42,50 +43,13 @@ All-take P xs i h = λ k d lt.
     let inside : k < i = omega (arith, lt, length-take i xs) in
     subst P (sym (get_or-take i xs k d inside)) (h k d (omega (arith, lt, length-take i xs)))
 
-module _ (rules : List Rule) (i : ℕ) (r : Rule) (lt : i < length rules) (here : r ≡ get_or rules i r) where
-  pub count_more : conjunction_count (take (i + 1) rules) ≡ conjunction_count (take i rules) + length (rule_spread r)
-  count_more = sum_by_more (λ (q : Rule). length (rule_spread q)) rules i r lt
-      ∙ ap (λ (q : Rule). conjunction_count (take i rules) + length (rule_spread q)) (sym here)
-
-  pub entries_more : entry_count (take (i + 1) rules) ≡ entry_count (take i rules) + rule_entries r
-  entries_more = sum_by_more rule_entries rules i r lt
-      ∙ ap (λ (q : Rule). entry_count (take i rules) + rule_entries q) (sym here)
-
-  pub rules_more : (t s u : Size) → IsSizeOfRules (take i rules) (Ok t) → IsSizeOfRule r (Some s) → IsSum t s (Some u)
-      → IsSizeOfRules (take (i + 1) rules) (Ok u)
-  rules_more t s u h k sum = (
-    omega (arith, count_more, h.0, h.1, h.2, k.0, k.1, k.2, sum.0, sum.1, sum.2),
-    omega (arith, count_more, h.0, h.1, h.2, k.0, k.1, k.2, sum.0, sum.1, sum.2),
-    omega (arith, entries_more, h.0, h.1, h.2, k.0, k.1, k.2, sum.0, sum.1, sum.2),
-  )
-
-  pub too_many_by_rule : (t : Size) (n : ℕ) → n ≡ i + 1 → IsSizeOfRules (take i rules) (Ok t) → IsSizeOfRule r None
-      → IsFirstTooMany rules n
-  too_many_by_rule t n e h k = record {
-    from = omega arith;
-    to = omega arith;
-    before = subst (λ (m : ℕ). conjunction_count (take m rules) ≤ 512) (omega arith) h.0;
-    over = subst (λ (m : ℕ). 512 < conjunction_count (take m rules)) (sym e) (omega (arith, count_more, k));
-  }
-
-  pub too_many_by_sum : (t s : Size) (n : ℕ) → n ≡ i + 1 → IsSizeOfRules (take i rules) (Ok t) → IsSizeOfRule r (Some s)
-      → IsSum t s None → IsFirstTooMany rules n
-  too_many_by_sum t s n e h k sum = record {
-    from = omega arith;
-    to = omega arith;
-    before = subst (λ (m : ℕ). conjunction_count (take m rules) ≤ 512) (omega arith) h.0;
-    over = subst (λ (m : ℕ). 512 < conjunction_count (take m rules)) (sym e) (omega (arith, count_more, h.1, k.1, sum));
-  }
-
 pub rules_small : (rules : List Rule) (i : ℕ) (t : Size) → All IsCountable rules → IsSizeOfRules (take i rules) (Ok t)
     → IsSmall t
-rules_small rules i t h k = record {
-  few = omega (arith, k.0, k.1);
-  short = omega (arith, k.0, k.1, k.2, entry_count_le (take i rules) (All-take IsCountable rules i h));
-}
+rules_small rules i t h k =
+    small_from _ _ t 2097152 (entry_count_le (take i rules) (All-take IsCountable rules i h)) (omega arith) k
 
 pub rule_small : (r : Rule) (s : Size) → IsCountable r → IsSizeOfRule r (Some s) → IsSmall s
-rule_small r s h k = record { few = omega (arith, k.0, k.1); short = omega (arith, k.0, k.1, k.2, rule_entries_le r h) }
+rule_small r s h k = small_from _ _ s 2097152 (rule_entries_le r h) (omega arith) k
 
 pub replicate_as_map : {X : Type 0} (w n : ℕ) (xs : List X) → n ≡ length xs → replicate n w ≡ map (λ _. w) xs
 replicate_as_map w n [] e = rw e refl

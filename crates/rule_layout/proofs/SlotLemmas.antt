@@ -1,13 +1,16 @@
 -- Lists of slots, their terms and their complements.
 use Rattle.std.proofs.Common.{◌≡◌, ℕ, zero, suc, ◌+◌, ◌<◌, ◌||◌, Bool, true, false, List, [], ◌∷◌, ◌++◌, length, map}
-use Rattle.std.proofs.Common.{take, get_or, replicate, refl, sym, ap, ◌∙◌, arith, append_assoc}
+use Rattle.std.proofs.Common.{take, get_or, replicate, refl, sym, ap, not, Vec, Global, ◌⊎◌, ⊎_elim, ◌∙◌, arith, append_assoc}
 use Rattle.std.specs.List.{range_with_len}
-use Rattle.std.proofs.lemmas.List.{map_more, append-nil, take_more, length-map, length-take}
+use Rattle.std.proofs.lemmas.List.{map_more, append-nil, length-map, length-take}
 use Rattle.std.proofs.lemmas.List.FromFn.{map-range_with_len_more}
-use Rattle.std.proofs.lemmas.List.Folds.{list_any-append}
-use Rattle.fuzzy_meaning.specs.declared.block.Rule.{Rule}
-use Rattle.fuzzy_meaning.specs.Conditions.{Condition, conditions}
-use Rattle.rule_layout.specs.Slots.{terms_from, has_complement, some_has_complement, is_complemented}
+use Rattle.fuzzy_meaning.specs.Conditions.{Condition, Conditions, end, also, conditions, evaluate_pushed_parts}
+use Rattle.fuzzy_meaning.specs.declared.condition.Node.{Node}
+use Rattle.fuzzy_meaning.specs.declared.condition.Node.TheVariants.{And, Or}
+use Rattle.fuzzy_meaning.specs.Trees.{tree}
+use Rattle.fuzzy_meaning.proofs.Parts.{parts_tree}
+use Rattle.fuzzy_meaning.proofs.Evaluations.{IsMonoid, evaluate_pushed_parts-take}
+use Rattle.rule_layout.specs.Slots.{terms_from, in_some_part, is_complement, has_complement}
 
 pub terms_push : (v n j : ℕ) (front : List (ℕ × ℕ)) → 1 + n ≡ j →
     (front ++ map (λ t. (v, t)) (range_with_len 1 n)) ++ (v, j) ∷ [] ≡ front
@@ -49,29 +52,39 @@ or_false : (a : Bool) → (a || false) ≡ a
 or_false true = refl
 or_false false = refl
 
-pub some_has_complement_push : (i t : ℕ) (odd : Bool) (cs : List Condition) (c : Condition) →
-    some_has_complement i t odd (conditions (cs ++ c ∷ []))
-    ≡ (some_has_complement i t odd (conditions cs) || has_complement i t odd c)
-some_has_complement_push i t odd [] c = or_false (has_complement i t odd c)
-some_has_complement_push i t odd (d ∷ cs) c =
-    ap (λ (b : Bool). has_complement i t odd d || b) (some_has_complement_push i t odd cs c)
-    ∙ sym (or_assoc (has_complement i t odd d) (some_has_complement i t odd (conditions cs))
-    (has_complement i t odd c))
+some_part_is_monoid : (any : Bool) → IsMonoid (in_some_part.none any) (in_some_part.join any)
+some_part_is_monoid true = record { left = λ a. refl; right = or_false; assoc = or_assoc }
+some_part_is_monoid false = record { left = λ a. refl; right = or_false; assoc = or_assoc }
+
+-- some part of an OR, `any`, or of an AND does
+abbrev pub some_has_complement : ℕ → ℕ → Bool → Bool → Conditions → Bool
+some_has_complement i t = evaluate_pushed_parts in_some_part (is_complement i t)
+
+some_has_complement-sort : (i t : ℕ) (odd any : Bool) (cs : Conditions)
+    → some_has_complement i t odd any cs ≡ some_has_complement i t odd true cs
+some_has_complement-sort i t odd true cs = refl
+some_has_complement-sort i t odd false end = refl
+some_has_complement-sort i t odd false (also c cs) =
+    ap (λ (b : Bool). has_complement i t odd c || b) (some_has_complement-sort i t odd false cs)
+
+-- of a condition with parts, whichever sort it is
+pub has_complement-parts : {n : Node} {c : Condition} (seen : tree n ≡ c) {v : Vec Condition Global}
+    (sort : (n ≡ And v) ⊎ (n ≡ Or v)) (i t : ℕ) (odd : Bool)
+    → has_complement i t odd c ≡ some_has_complement i t odd true (conditions v.items)
+has_complement-parts seen {v} sort i t odd =
+    ⊎_elim (λ e. ap (has_complement i t odd) e ∙ some_has_complement-sort i t odd odd (conditions v.items))
+    (λ e. ap (has_complement i t odd) e ∙ some_has_complement-sort i t odd (not odd) (conditions v.items))
+    (parts_tree seen sort)
+
+pub some_has_complement-take : (i t : ℕ) (odd : Bool) (cs : List Condition) (k : ℕ) (c : Condition) → k < length cs
+    → c ≡ get_or cs k c → some_has_complement i t odd true (conditions (take (k + 1) cs))
+    ≡ (some_has_complement i t odd true (conditions (take k cs)) || has_complement i t odd c)
+some_has_complement-take i t odd = evaluate_pushed_parts-take some_part_is_monoid (is_complement i t) odd true
 
 -- marks that hold those of some parts, after one part more
 pub marks_more : (old now new front part : Bool) → now ≡ (old || front) → new ≡ (now || part)
     → new ≡ (old || (front || part))
 marks_more old now new front part h k = k ∙ (ap (λ (b : Bool). b || part) h ∙ or_assoc old front part)
-
-pub is_complemented_more : (rules : List Rule) (k : ℕ) (r : Rule) (i t : ℕ) → k < length rules → r ≡ get_or rules k r →
-    is_complemented (take (k + 1) rules) i t
-    ≡ (is_complemented (take k rules) i t || has_complement i t false r.cond)
-is_complemented_more rules k r i t lt here =
-    let more = take_more rules k r lt ∙ ap (λ (q : Rule). take k rules ++ q ∷ []) (sym here) in
-    ap (λ (w : List Rule). is_complemented w i t) more
-    ∙ (list_any-append (λ (q : Rule). has_complement i t false q.cond) (take k rules) (r ∷ [])
-    ∙ ap (λ (b : Bool). is_complemented (take k rules) i t || b)
-    (or_false (has_complement i t false r.cond)))
 
 -- a table without marks
 pub no_marks : (k n : ℕ) → get_or (replicate k false) n false ≡ false

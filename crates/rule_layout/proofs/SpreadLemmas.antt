@@ -1,60 +1,81 @@
 -- How conditions spread.
-use Rattle.std.proofs.Common.{◌≡◌, ℕ, ◌+◌, ◌*◌, ◌≤◌, Bool, true, false, not, List, [], ◌∷◌, ◌++◌, length, refl, sym, ap}
-use Rattle.std.proofs.Common.{◌∙◌, arith, append_assoc}
-use Rattle.std.proofs.lemmas.List.{length-append}
-use Rattle.fuzzy_meaning.specs.Conditions.{Condition, is, negation, all, any, Conditions, end, also, conditions, nodes}
-use Rattle.fuzzy_meaning.specs.Conditions.{total_nodes}
-use Rattle.rule_layout.specs.Spreading.{choices, spread_of, one_after_another, each_choice, total_length}
-use Rattle.rule_layout.specs.Grid.{FitsGrid, SomeFitGrid, AllFitGrid}
+use Rattle.std.proofs.Common.{◌≡◌, ℕ, zero, suc, ◌+◌, ◌*◌, ◌<◌, ◌≤◌, Bool, true, false, not, List, [], ◌∷◌, length}
+use Rattle.std.proofs.Common.{get_or, take, refl, arith, append_assoc}
+use Rattle.std.proofs.lemmas.List.{length-append, append-nil}
 use Rattle.std.proofs.Math.Nat.{mul-le-mul_left, mul-le-mul_right}
+use Rattle.fuzzy_meaning.specs.Conditions.{Condition, is, negation, all, any, Conditions, end, also, conditions, nodes}
+use Rattle.fuzzy_meaning.specs.Conditions.{total_nodes, SomeHaveLiterals}
+use Rattle.fuzzy_meaning.proofs.Evaluations.{IsMonoid, evaluate_pushed_parts-take}
+use Rattle.rule_layout.specs.Spreading.{choices, spreads, spread_literal, spread_of, spread_parts, total_length}
+use Rattle.rule_layout.specs.Grid.{IsInGrid, FitsGrid, AllFitGrid}
 use Rattle.rule_layout.proofs.ChoicesLemmas.{length-choices, total_length-append, total_length-choices, choices_assoc}
-use Rattle.rule_layout.proofs.ChoicesLemmas.{nil-choices}
+use Rattle.rule_layout.proofs.ChoicesLemmas.{nil-choices, choices-nil}
 
-pub one_after_another-append : (odd : Bool) (cs ds : List Condition)
-    → one_after_another odd (conditions (cs ++ ds)) ≡ one_after_another odd (conditions cs)
-    ++ one_after_another odd (conditions ds)
-one_after_another-append odd [] ds = refl
-one_after_another-append odd (c ∷ cs) ds =
-    ap (λ w. spread_of odd c ++ w) (one_after_another-append odd cs ds)
-    ∙ sym (append_assoc (spread_of odd c) (one_after_another odd (conditions cs))
-    (one_after_another odd (conditions ds)))
+spreads_are_monoids : {A : Type 0} (or : Bool) → IsMonoid {A = List (List A)} (spreads.none or) (spreads.join or)
+spreads_are_monoids true = record { left = λ xs. refl; right = append-nil; assoc = append_assoc }
+spreads_are_monoids false = record { left = nil-choices; right = choices-nil; assoc = choices_assoc }
 
-pub each_choice-append : (odd : Bool) (cs ds : List Condition)
-    → each_choice odd (conditions (cs ++ ds)) ≡ choices (each_choice odd (conditions cs))
-    (each_choice odd (conditions ds))
-each_choice-append odd [] ds = sym (nil-choices (each_choice odd (conditions ds)))
-each_choice-append odd (c ∷ cs) ds =
-    ap (λ w. choices (spread_of odd c) w) (each_choice-append odd cs ds)
-    ∙ sym (choices_assoc (spread_of odd c) (each_choice odd (conditions cs)) (each_choice odd (conditions ds)))
+-- the parts up to one with it
+pub spread_parts-take : (odd or : Bool) (cs : List Condition) (i : ℕ) (p : Condition) → i < length cs
+    → p ≡ get_or cs i p → spread_parts odd or (conditions (take (i + 1) cs))
+    ≡ spreads.join or (spread_parts odd or (conditions (take i cs))) (spread_of odd p)
+spread_parts-take odd or = evaluate_pushed_parts-take spreads_are_monoids spread_literal odd or
 
-product_from_one : (m n : ℕ) → 1 ≤ m → 1 ≤ n → 1 ≤ m * n
-product_from_one m n p q = grind arith
+some_choices : {A : Type 0} (xs ys : List (List A)) → 1 ≤ length xs → 1 ≤ length ys → 1 ≤ length (choices xs ys)
+some_choices xs ys h k = omega (arith, h, mul-le-mul_left (length xs) k, length-choices xs ys)
 
 -- a condition without empty lists spreads into one conjunction at least
 mutual
   pub some_conjunction : (odd : Bool) (c : Condition) → FitsGrid c → 1 ≤ length (spread_of odd c)
   some_conjunction odd (is i t) h = omega arith
   some_conjunction odd (negation c) h = some_conjunction (not odd) c h
-  some_conjunction true (all cs) h = some_in_turn true cs h
-  some_conjunction false (all cs) h = some_choice false cs (all_from_some cs h)
-  some_conjunction true (any cs) h = some_choice true cs (all_from_some cs h)
-  some_conjunction false (any cs) h = some_in_turn false cs h
+  some_conjunction odd (all cs) h = some_of_parts odd odd cs h
+  some_conjunction odd (any cs) h = some_of_parts odd (not odd) cs h
 
-  some_in_turn : (odd : Bool) (cs : Conditions) → SomeFitGrid cs → 1 ≤ length (one_after_another odd cs)
-  some_in_turn odd end h = absurd h
-  some_in_turn odd (also c cs) h =
-      let first = some_conjunction odd c h.0 in
-      omega (arith, length-append (spread_of odd c) (one_after_another odd cs))
+  some_of_parts : (odd or : Bool) (cs : Conditions) → SomeHaveLiterals IsInGrid cs
+      → 1 ≤ length (spread_parts odd or cs)
+  some_of_parts odd or end h = absurd h
+  some_of_parts odd true (also c cs) h =
+      omega (arith, some_conjunction odd c h.0, length-append (spread_of odd c) (spread_parts odd true cs))
+  some_of_parts odd false (also c cs) h =
+      some_choices (spread_of odd c) (spread_parts odd false cs) (some_conjunction odd c h.0) (some_choice odd cs h.1)
 
-  pub some_choice : (odd : Bool) (cs : Conditions) → AllFitGrid cs → 1 ≤ length (each_choice odd cs)
+  some_choice : (odd : Bool) (cs : Conditions) → AllFitGrid cs → 1 ≤ length (spread_parts odd false cs)
   some_choice odd end h = omega arith
   some_choice odd (also c cs) h =
-      let p = product_from_one _ _ (some_conjunction odd c h.0) (some_choice odd cs h.1) in
-      omega (arith, length-choices (spread_of odd c) (each_choice odd cs), p)
+      some_choices (spread_of odd c) (spread_parts odd false cs) (some_conjunction odd c h.0) (some_choice odd cs h.1)
 
-  all_from_some : (cs : Conditions) → SomeFitGrid cs → AllFitGrid cs
-  all_from_some end h = absurd h
-  all_from_some (also c cs) h = h
+join_le_right : {A : Type 0} (or : Bool) (xs ys : List (List A)) → 1 ≤ length xs
+    → length ys ≤ length (spreads.join or xs ys)
+join_le_right true xs ys some = omega (arith, length-append xs ys)
+join_le_right false xs ys some = omega (arith, length-choices xs ys, mul-le-mul_right (length ys) some)
+
+join_monotone : {A : Type 0} (or : Bool) (xs ys zs : List (List A)) → length ys ≤ length zs
+    → length (spreads.join or xs ys) ≤ length (spreads.join or xs zs)
+join_monotone true xs ys zs le = omega (arith, le, length-append xs ys, length-append xs zs)
+join_monotone false xs ys zs le =
+    omega (arith, length-choices xs ys, length-choices xs zs, mul-le-mul_left (length xs) le)
+
+-- the first parts, and each part alone, spread into no more than all
+pub take_le : (odd or : Bool) (cs : List Condition) (i : ℕ) → AllFitGrid (conditions cs)
+    → length (spread_parts odd or (conditions (take i cs))) ≤ length (spread_parts odd or (conditions cs))
+take_le odd true cs zero h = omega arith
+take_le odd false cs zero h = some_choice odd (conditions cs) h
+take_le odd or [] (suc i) h = omega arith
+take_le odd or (c ∷ cs) (suc i) h = join_monotone or (spread_of odd c) _ _ (take_le odd or cs i h.1)
+
+pub part_le : (odd or : Bool) (cs : List Condition) (i : ℕ) (p : Condition) → AllFitGrid (conditions cs)
+    → i < length cs → p ≡ get_or cs i p → length (spread_of odd p) ≤ length (spread_parts odd or (conditions cs))
+part_le odd or [] i p h lt same = absurd (omega arith)
+part_le odd true (c ∷ cs) zero p h lt same =
+    rw same (omega (arith, length-append (spread_of odd c) (spread_parts odd true (conditions cs))))
+part_le odd false (c ∷ cs) zero p h lt same =
+    let wide = mul-le-mul_left (length (spread_of odd c)) (some_choice odd (conditions cs) h.1) in
+    rw same (omega (arith, wide, length-choices (spread_of odd c) (spread_parts odd false (conditions cs))))
+part_le odd or (c ∷ cs) (suc i) p h lt same =
+    let part = part_le odd or cs i p h.1 (omega arith) same in
+    let all = spread_parts odd or (conditions cs) in
+    omega (arith, part, join_le_right or (spread_of odd c) all (some_conjunction odd c h.0))
 
 sum_bound : (a b m n p q : ℕ) → a ≤ m * p → b ≤ n * q → a + b ≤ (m + n) * (p + q)
 sum_bound a b m n p q h k = omega arith
@@ -73,31 +94,26 @@ mutual
   pub entries_le : (odd : Bool) (c : Condition) → total_length (spread_of odd c) ≤ length (spread_of odd c) * nodes c
   entries_le odd (is i t) = omega arith
   entries_le odd (negation c) = widened _ (length (spread_of (not odd) c)) (nodes c) (entries_le (not odd) c)
-  entries_le true (all cs) =
-      widened _ (length (one_after_another true cs)) (total_nodes cs) (in_turn_entries_le true cs)
-  entries_le false (all cs) = widened _ (length (each_choice false cs)) (total_nodes cs) (choice_entries_le false cs)
-  entries_le true (any cs) = widened _ (length (each_choice true cs)) (total_nodes cs) (choice_entries_le true cs)
-  entries_le false (any cs) =
-      widened _ (length (one_after_another false cs)) (total_nodes cs) (in_turn_entries_le false cs)
+  entries_le odd (all cs) =
+      widened _ (length (spread_parts odd odd cs)) (total_nodes cs) (parts_entries_le odd odd cs)
+  entries_le odd (any cs) =
+      widened _ (length (spread_parts odd (not odd) cs)) (total_nodes cs) (parts_entries_le odd (not odd) cs)
 
-  pub in_turn_entries_le : (odd : Bool) (cs : Conditions)
-      → total_length (one_after_another odd cs) ≤ length (one_after_another odd cs) * total_nodes cs
-  in_turn_entries_le odd end = omega arith
-  in_turn_entries_le odd (also c cs) =
+  pub parts_entries_le : (odd or : Bool) (cs : Conditions)
+      → total_length (spread_parts odd or cs) ≤ length (spread_parts odd or cs) * total_nodes cs
+  parts_entries_le odd true end = omega arith
+  parts_entries_le odd false end = omega arith
+  parts_entries_le odd true (also c cs) =
       rw (
-        total_length-append (spread_of odd c) (one_after_another odd cs),
-        length-append (spread_of odd c) (one_after_another odd cs),
+        total_length-append (spread_of odd c) (spread_parts odd true cs),
+        length-append (spread_of odd c) (spread_parts odd true cs),
       )
-      (sum_bound _ _ (length (spread_of odd c)) (length (one_after_another odd cs)) (nodes c) (total_nodes cs)
-      (entries_le odd c) (in_turn_entries_le odd cs))
-
-  pub choice_entries_le : (odd : Bool) (cs : Conditions)
-      → total_length (each_choice odd cs) ≤ length (each_choice odd cs) * total_nodes cs
-  choice_entries_le odd end = omega arith
-  choice_entries_le odd (also c cs) =
+      (sum_bound _ _ (length (spread_of odd c)) (length (spread_parts odd true cs)) (nodes c) (total_nodes cs)
+      (entries_le odd c) (parts_entries_le odd true cs))
+  parts_entries_le odd false (also c cs) =
       rw (
-        total_length-choices (spread_of odd c) (each_choice odd cs),
-        length-choices (spread_of odd c) (each_choice odd cs),
+        total_length-choices (spread_of odd c) (spread_parts odd false cs),
+        length-choices (spread_of odd c) (spread_parts odd false cs),
       )
-      (product_bound _ _ (length (spread_of odd c)) (length (each_choice odd cs)) (nodes c) (total_nodes cs)
-      (entries_le odd c) (choice_entries_le odd cs))
+      (product_bound _ _ (length (spread_of odd c)) (length (spread_parts odd false cs)) (nodes c) (total_nodes cs)
+      (entries_le odd c) (parts_entries_le odd false cs))

@@ -1,27 +1,36 @@
 -- Spreading keeps the truth of a condition.
-use Rattle.std.proofs.Common.{◌≡◌, ℕ, ◌-◌, ◌≤◌, min, max, true, false, List, [], ◌∷◌, ◌++◌, map, refl, arith}
-use Rattle.fuzzy_meaning.specs.Conditions.{Condition, is, negation, all, any, Conditions, end, also, level, least_level}
-use Rattle.fuzzy_meaning.specs.Conditions.{greatest_level}
-use Rattle.rule_layout.specs.Spreading.{Literal, choices, spread_of, one_after_another, each_choice}
+use Rattle.std.proofs.Common.{◌≡◌, ℕ, ◌-◌, ◌≤◌, min, max, Bool, true, false, not, List, [], ◌∷◌, ◌++◌, map}
+use Rattle.std.proofs.Common.{refl, ap₂, ◌∙◌, arith}
+use Rattle.fuzzy_meaning.specs.Conditions.{levels}
+use Rattle.fuzzy_meaning.proofs.Evaluations.{AreJoinsRelated, IsDeMorgan, turned, evaluate_pushed-related}
+use Rattle.fuzzy_meaning.proofs.Evaluations.{evaluate_pushed-same}
+use Rattle.rule_layout.specs.Spreading.{Literal, choices, spreads, spread_literal}
 use Rattle.rule_layout.specs.Truths.{least_literal, greatest_conjunction, SpreadingLaw}
 
-module _ (n : ℕ) (v : ℕ → ℕ → ℕ) (within : (i t : ℕ) → v i t ≤ n) where
-  mutual
-    pub level_le : (c : Condition) → level n v c ≤ n
-    level_le (is i t) = within i t
-    level_le (negation c) = omega arith
-    level_le (all cs) = least_level_le cs
-    level_le (any cs) = greatest_level_le cs
+levels_are_De_Morgan : (n : ℕ) → IsDeMorgan (λ a. a ≤ n) (λ a b. a ≡ b) (λ a. n - a) (levels n)
+levels_are_De_Morgan n = record {
+  alike = λ a h. refl;
+  trans = λ a b c e f. e ∙ f;
+  good_none = λ or. grind arith;
+  good_join = good_join;
+  good_minus = λ a h. omega arith;
+  join_same = λ or a b c d e f. ap₂ ((levels n).join or) e f;
+  join_minus = join_minus;
+  none_minus = λ or. grind arith;
+  twice = λ a h. omega arith;
+}
+  where
+    good_join : (or : Bool) (a b : ℕ) → a ≤ n → b ≤ n → (levels n).join or a b ≤ n
+    good_join true a b h k = omega arith
+    good_join false a b h k = omega arith
 
-    least_level_le : (cs : Conditions) → least_level n v cs ≤ n
-    least_level_le end = omega arith
-    least_level_le (also c cs) = omega (arith, least_level_le cs)
+    join_minus : (or : Bool) (a b : ℕ) → a ≤ n → b ≤ n
+        → (levels n).join or (n - a) (n - b) ≡ n - (levels n).join (not or) a b
+    join_minus true a b h k = omega arith
+    join_minus false a b h k = omega arith
 
-    greatest_level_le : (cs : Conditions) → greatest_level n v cs ≤ n
-    greatest_level_le end = omega arith
-    greatest_level_le (also c cs) = omega (arith, level_le c, greatest_level_le cs)
-
-  pub least_literal_le : (ls : List Literal) → least_literal n v ls ≤ n
+module _ (n : ℕ) (v : ℕ → ℕ → ℕ) where
+  least_literal_le : (ls : List Literal) → least_literal n v ls ≤ n
   least_literal_le [] = omega arith
   least_literal_le (l ∷ ls) = omega (arith, least_literal_le ls)
 
@@ -30,7 +39,7 @@ module _ (n : ℕ) (v : ℕ → ℕ → ℕ) (within : (i t : ℕ) → v i t ≤
   least_literal-append [] ls = omega (arith, least_literal_le ls)
   least_literal-append (k ∷ ks) ls = omega (arith, least_literal-append ks ls)
 
-  pub greatest_conjunction-append : (xs ys : List (List Literal))
+  greatest_conjunction-append : (xs ys : List (List Literal))
       → greatest_conjunction n v (xs ++ ys) ≡ max (greatest_conjunction n v xs) (greatest_conjunction n v ys)
   greatest_conjunction-append [] ys = omega arith
   greatest_conjunction-append (x ∷ xs) ys = omega (arith, greatest_conjunction-append xs ys)
@@ -47,60 +56,27 @@ module _ (n : ℕ) (v : ℕ → ℕ → ℕ) (within : (i t : ℕ) → v i t ≤
       let front = greatest_conjunction-append (map (λ y. x ++ y) ys) (choices xs ys) in
       omega (arith, front, greatest_conjunction-headed x ys, greatest_conjunction-choices xs ys)
 
-  mutual
-    truth_kept : (c : Condition) → greatest_conjunction n v (spread_of false c) ≡ level n v c
-    truth_kept (is i t) = omega (arith, within i t)
-    truth_kept (negation c) = complement_kept c
-    truth_kept (all cs) = least_kept cs
-    truth_kept (any cs) = greatest_kept cs
+  abbrev HasLevel : List (List Literal) → ℕ → Type 0
+  HasLevel xs l = greatest_conjunction n v xs ≡ l
 
-    complement_kept : (c : Condition) → greatest_conjunction n v (spread_of true c) ≡ n - level n v c
-    complement_kept (is i t) = omega arith
-    complement_kept (negation c) = omega (arith, truth_kept c, level_le c)
-    complement_kept (all cs) = complements_in_turn cs
-    complement_kept (any cs) = complements_by_choice cs
+  levels_kept : AreJoinsRelated HasLevel spreads (levels n)
+  levels_kept = record { none = none; join = join }
+    where
+      none : (or : Bool) → HasLevel (spreads.none or) ((levels n).none or)
+      none true = refl
+      none false = omega arith
 
-    least_kept : (cs : Conditions) → greatest_conjunction n v (each_choice false cs) ≡ least_level n v cs
-    least_kept end = omega arith
-    least_kept (also c cs) =
-        omega (
-          arith,
-          greatest_conjunction-choices (spread_of false c) (each_choice false cs),
-          truth_kept c,
-          least_kept cs,
-        )
+      join : (or : Bool) (xs ys : List (List Literal)) (a b : ℕ) → HasLevel xs a → HasLevel ys b
+          → HasLevel (spreads.join or xs ys) ((levels n).join or a b)
+      join true xs ys a b h k = greatest_conjunction-append xs ys ∙ ap₂ max h k
+      join false xs ys a b h k = greatest_conjunction-choices xs ys ∙ ap₂ min h k
 
-    greatest_kept : (cs : Conditions) → greatest_conjunction n v (one_after_another false cs) ≡ greatest_level n v cs
-    greatest_kept end = refl
-    greatest_kept (also c cs) =
-        omega (
-          arith,
-          greatest_conjunction-append (spread_of false c) (one_after_another false cs),
-          truth_kept c,
-          greatest_kept cs,
-        )
-
-    complements_in_turn : (cs : Conditions)
-        → greatest_conjunction n v (one_after_another true cs) ≡ n - least_level n v cs
-    complements_in_turn end = omega arith
-    complements_in_turn (also c cs) =
-        omega (
-          arith,
-          greatest_conjunction-append (spread_of true c) (one_after_another true cs),
-          complement_kept c,
-          complements_in_turn cs,
-        )
-
-    complements_by_choice : (cs : Conditions)
-        → greatest_conjunction n v (each_choice true cs) ≡ n - greatest_level n v cs
-    complements_by_choice end = omega arith
-    complements_by_choice (also c cs) =
-        omega (
-          arith,
-          greatest_conjunction-choices (spread_of true c) (each_choice true cs),
-          complement_kept c,
-          complements_by_choice cs,
-        )
+  literal_kept : ((i t : ℕ) → v i t ≤ n) → (odd : Bool) (i t : ℕ)
+      → HasLevel (spread_literal odd i t) (turned (λ a. n - a) odd (v i t))
+  literal_kept within true i t = omega arith
+  literal_kept within false i t = omega (arith, within i t)
 
 pub spreading_law_lem : SpreadingLaw
-spreading_law_lem n v c _ within = truth_kept n v within c
+spreading_law_lem n v c _ within =
+    evaluate_pushed-related (HasLevel n v) (levels_kept n v) (literal_kept n v within) false c
+    ∙ evaluate_pushed-same (levels_are_De_Morgan n) within false c

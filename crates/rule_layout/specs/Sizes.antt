@@ -1,5 +1,6 @@
 -- What the sizes of lists of conjunctions say.
 use Rattle.std.specs.Prelude.{◌≡◌, ℕ, ◌+◌, ◌*◌, ◌<◌, ◌≤◌, List, length, sum_by, Option, Some, None, Result, Ok, Err}
+use Rattle.std.specs.Prelude.{Bool, true, false}
 use Rattle.fuzzy_meaning.specs.declared.block.Rule.{Rule}
 use Rattle.fuzzy_meaning.specs.Blocks.{rule_size}
 use Rattle.rule_layout.specs.declared.flat.LayoutFault.{LayoutFault}
@@ -14,21 +15,26 @@ pub record IsSmall (s : Size) : Type 0 where
   pub few : s.conjunctions ≤ 512
   pub short : s.entries ≤ s.conjunctions * 2097152
 
--- the list's numbers of conjunctions and entries, or none where there are more than 512
+-- these numbers of conjunctions and of entries, or none where there are more than 512 conjunctions
+abbrev pub IsSizeIfFew : ℕ → ℕ → Option Size → Type 0
+IsSizeIfFew conjunctions entries None = 512 < conjunctions
+IsSizeIfFew conjunctions entries (Some s) =
+    (conjunctions ≤ 512) × (s.conjunctions ≡ conjunctions) × (s.entries ≡ entries)
+
 abbrev pub IsSizeOf : {A : Type 0} → List (List A) → Option Size → Type 0
-IsSizeOf xs None = 512 < length xs
-IsSizeOf xs (Some s) = (length xs ≤ 512) × (s.conjunctions ≡ length xs) × (s.entries ≡ total_length xs)
+IsSizeOf xs = IsSizeIfFew (length xs) (total_length xs)
 
 abbrev pub IsSum : Size → Size → Option Size → Type 0
-IsSum s o None = 512 < s.conjunctions + o.conjunctions
-IsSum s o (Some r) =
-    (r.conjunctions ≡ s.conjunctions + o.conjunctions) × (r.conjunctions ≤ 512) × (r.entries ≡ s.entries + o.entries)
+IsSum s o = IsSizeIfFew (s.conjunctions + o.conjunctions) (s.entries + o.entries)
 
 abbrev pub IsProduct : Size → Size → Option Size → Type 0
-IsProduct s o None = 512 < s.conjunctions * o.conjunctions
-IsProduct s o (Some r) =
-    (r.conjunctions ≡ s.conjunctions * o.conjunctions) × (r.conjunctions ≤ 512)
-    × (r.entries ≡ s.entries * o.conjunctions + s.conjunctions * o.entries)
+IsProduct s o =
+    IsSizeIfFew (s.conjunctions * o.conjunctions) (s.entries * o.conjunctions + s.conjunctions * o.entries)
+
+-- of an OR, or of an AND
+abbrev pub IsJoined : Bool → Size → Size → Option Size → Type 0
+IsJoined true = IsSum
+IsJoined false = IsProduct
 
 -- a rule whose size can be counted
 pub record IsCountable (r : Rule) : Type 0 where
@@ -44,13 +50,10 @@ abbrev pub entry_count : List Rule → ℕ
 entry_count rules = sum_by rule_entries rules
 
 abbrev pub IsSizeOfRule : Rule → Option Size → Type 0
-IsSizeOfRule r None = 512 < length (rule_spread r)
-IsSizeOfRule r (Some s) =
-    (length (rule_spread r) ≤ 512) × (s.conjunctions ≡ length (rule_spread r)) × (s.entries ≡ rule_entries r)
+IsSizeOfRule r = IsSizeIfFew (length (rule_spread r)) (rule_entries r)
 
 abbrev pub IsSizeOfRules : List Rule → Result Size LayoutFault → Type 0
-IsSizeOfRules rules (Ok s) =
-    (conjunction_count rules ≤ 512) × (s.conjunctions ≡ conjunction_count rules) × (s.entries ≡ entry_count rules)
+IsSizeOfRules rules (Ok s) = IsSizeIfFew (conjunction_count rules) (entry_count rules) (Some s)
 IsSizeOfRules rules (Err (TooManyRules n)) = IsFirstTooMany rules n
 IsSizeOfRules rules (Err (ListTooLong n)) = ⊥
 IsSizeOfRules rules (Err Memory) = ⊥

@@ -1,12 +1,12 @@
 -- The slots of a block, and their numbers.
-use Rattle.std.specs.Prelude.{ℕ, ◌+◌, ◌==◌, ◌&&◌, ◌||◌, Bool, false, not, List, [], ◌∷◌, ◌++◌, map, filter, length}
+use Rattle.std.specs.Prelude.{ℕ, ◌+◌, ◌==◌, ◌&&◌, ◌||◌, Bool, false, List, [], ◌∷◌, ◌++◌, map, filter, length}
 use Rattle.std.specs.Prelude.{if◌then◌else◌}
 use Rattle.std.specs.List.{range_with_len, list_any}
 use Rattle.fuzzy_meaning.specs.declared.block.Block.{Block}
 use Rattle.fuzzy_meaning.specs.declared.block.Input.{Input}
 use Rattle.fuzzy_meaning.specs.declared.block.Output.{Output}
 use Rattle.fuzzy_meaning.specs.declared.block.Rule.{Rule}
-use Rattle.fuzzy_meaning.specs.Conditions.{Condition, is, negation, all, any, Conditions, end, also}
+use Rattle.fuzzy_meaning.specs.Conditions.{Condition, Joins, joins, evaluate_pushed}
 use Rattle.rule_layout.specs.declared.flat.Slot.{Slot}
 use Rattle.rule_layout.specs.declared.flat.Slot.TheVariants.{Term, Complement, Out}
 use Rattle.rule_layout.specs.Spreading.{Literal}
@@ -29,17 +29,17 @@ input_terms b = terms_from 1 (map term_count b.inputs)
 abbrev pub output_terms : Block → List (ℕ × ℕ)
 output_terms b = terms_from 1 (map singleton_count b.outputs)
 
--- input i and term t stand in the condition under an odd number of NOTs
-abbrev mutual
-  pub has_complement : ℕ → ℕ → Bool → Condition → Bool
-  has_complement i t odd (is j u) = odd && (i == j && t == u)
-  has_complement i t odd (negation c) = has_complement i t (not odd) c
-  has_complement i t odd (all cs) = some_has_complement i t odd cs
-  has_complement i t odd (any cs) = some_has_complement i t odd cs
+-- OR and AND alike: some part does
+abbrev pub in_some_part : Joins Bool
+in_some_part = joins false (λ a b. a || b) false (λ a b. a || b)
 
-  pub some_has_complement : ℕ → ℕ → Bool → Conditions → Bool
-  some_has_complement i t odd end = false
-  some_has_complement i t odd (also c cs) = has_complement i t odd c || some_has_complement i t odd cs
+-- the literal j, u is the complement of input i's term t
+abbrev pub is_complement : ℕ → ℕ → Bool → ℕ → ℕ → Bool
+is_complement i t odd j u = odd && (i == j && t == u)
+
+-- input i and term t stand in the condition under an odd number of NOTs
+abbrev pub has_complement : ℕ → ℕ → Bool → Condition → Bool
+has_complement i t = evaluate_pushed in_some_part (is_complement i t)
 
 -- some rule uses the complement of input i's term t
 abbrev pub is_complemented : List Rule → ℕ → ℕ → Bool

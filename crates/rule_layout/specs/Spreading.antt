@@ -1,6 +1,6 @@
 -- A condition spread into conjunctions: the list of them, each the list of its literals.
-use Rattle.std.specs.Prelude.{ℕ, Bool, not, List, [], ◌∷◌, ◌++◌, map, length, sum_by, if◌then◌else◌}
-use Rattle.fuzzy_meaning.specs.Conditions.{Condition, is, negation, all, any, Conditions, end, also}
+use Rattle.std.specs.Prelude.{ℕ, Bool, List, [], ◌∷◌, ◌++◌, map, length, sum_by}
+use Rattle.fuzzy_meaning.specs.Conditions.{Condition, Conditions, Joins, joins, evaluate_pushed, evaluate_pushed_parts}
 
 -- input i is term t, or its complement
 pub record Literal : Type 0 where
@@ -16,22 +16,20 @@ abbrev pub choices : {A : Type 0} → List (List A) → List (List A) → List (
 choices [] ys = []
 choices (x ∷ xs) ys = map (λ y. x ++ y) ys ++ choices xs ys
 
+-- OR is the conjunctions one after another, AND each choice of one conjunction of each part
+abbrev pub spreads : {A : Type 0} → Joins (List (List A))
+spreads = joins [] (λ xs ys. xs ++ ys) ([] ∷ []) choices
+
+abbrev pub spread_literal : Bool → ℕ → ℕ → List (List Literal)
+spread_literal odd i t = (literal odd i t ∷ []) ∷ []
+
 -- `odd`: the condition stands under an odd number of NOTs
-abbrev mutual
-  pub spread_of : Bool → Condition → List (List Literal)
-  spread_of odd (is i t) = (literal odd i t ∷ []) ∷ []
-  spread_of odd (negation c) = spread_of (not odd) c
-  spread_of odd (all cs) = if odd then one_after_another odd cs else each_choice odd cs
-  spread_of odd (any cs) = if odd then each_choice odd cs else one_after_another odd cs
+abbrev pub spread_of : Bool → Condition → List (List Literal)
+spread_of = evaluate_pushed spreads spread_literal
 
-  pub one_after_another : Bool → Conditions → List (List Literal)
-  one_after_another odd end = []
-  one_after_another odd (also c cs) = spread_of odd c ++ one_after_another odd cs
-
-  -- one conjunction of each part, in order
-  pub each_choice : Bool → Conditions → List (List Literal)
-  each_choice odd end = [] ∷ []
-  each_choice odd (also c cs) = choices (spread_of odd c) (each_choice odd cs)
+-- the parts of an OR, `any`, or of an AND
+abbrev pub spread_parts : Bool → Bool → Conditions → List (List Literal)
+spread_parts = evaluate_pushed_parts spreads spread_literal
 
 -- how many items the lists have in all
 abbrev pub total_length : {A : Type 0} → List (List A) → ℕ

@@ -1,7 +1,7 @@
 //! How much conditions spread into, found without spreading them.
 ghost use Rattle.std.specs.Prelude.{ℕ, ◌+◌, ◌*◌, ◌<◌, ◌≤◌, ◌^◌, map, MatchOption};
 ghost use Rattle.fuzzy_meaning.specs.Conditions.{conditions, nodes, total_nodes};
-ghost use Rattle.rule_layout.specs.Spreading.{spread_of, one_after_another, each_choice};
+ghost use Rattle.rule_layout.specs.Spreading.{spread_of, spread_parts};
 ghost use Rattle.rule_layout.specs.Sizes.{IsSizeOf};
 ghost use Rattle.rule_layout.specs.Grid.{FitsGrid, AllFitGrid};
 
@@ -18,7 +18,7 @@ pub struct Size {
 }
 
 impl Size {
-    ghost use Rattle.rule_layout.specs.Sizes.{IsSum, IsProduct, IsSmall};
+    ghost use Rattle.rule_layout.specs.Sizes.{IsSum, IsProduct, IsJoined, IsSmall};
 
     pub const NONE: Size = Size {
         conjunctions: 0,
@@ -68,10 +68,23 @@ impl Size {
             entries: self.entries * other.conjunctions + self.conjunctions * other.entries,
         })
     }
+
+    /// The conjunctions of an OR, `any`, or of an AND of both, where they are few enough.
+    fn joined(self, other: Size, any: bool) -> Option<Size>
+        requires self_small { IsSmall self }
+        requires other_small { IsSmall other }
+        ensures { IsJoined any self other result }
+    {
+        if any {
+            self.plus(other)
+        } else {
+            self.times(other)
+        }
+    }
 }
 
 /// What a condition spreads into, or None where that is more than 512 conjunctions. `odd` says
-/// that it stands under an odd number of NOTs.
+/// that it stands under an odd number of NOTs, where an AND is an OR and an OR an AND.
 #[cycle(size)]
 pub fn size_of(condition: &Condition, odd: bool) -> Option<Size>
     requires fits { FitsGrid condition.now }
@@ -81,49 +94,22 @@ pub fn size_of(condition: &Condition, odd: bool) -> Option<Size>
     match &condition.node {
         Node::Is(_, _) => Some(Size::LITERAL),
         Node::Not(part) => size_of(part, !odd),
-        Node::And(parts) => {
-            if odd {
-                size_in_turn(parts, odd)
-            } else {
-                size_of_choices(parts, odd)
-            }
-        }
-        Node::Or(parts) => {
-            if odd {
-                size_of_choices(parts, odd)
-            } else {
-                size_in_turn(parts, odd)
-            }
-        }
+        Node::And(parts) => size_of_parts(parts, odd, odd),
+        Node::Or(parts) => size_of_parts(parts, odd, !odd),
     }
 }
 
-/// What the lists of some conditions are one after another.
+/// The same of the parts of an OR, `any`, or of an AND.
 #[cycle(size)]
-fn size_in_turn(parts: &[Condition], odd: bool) -> Option<Size>
+fn size_of_parts(parts: &[Condition], odd: bool, any: bool) -> Option<Size>
     requires fits { AllFitGrid (conditions parts.now) }
     requires few { total_nodes (conditions parts.now) ≤ 1048576 }
-    ensures { IsSizeOf (one_after_another odd (conditions parts.now)) result }
+    ensures { IsSizeOf (spread_parts odd any (conditions parts.now)) result }
 {
-    let mut total = Size::NONE;
+    let mut total = if any { Size::NONE } else { Size::EMPTY };
     for part in parts {
         let size = size_of(part, odd)?;
-        total = total.plus(size)?;
-    }
-    Some(total)
-}
-
-/// What each choice of one conjunction per condition is.
-#[cycle(size)]
-fn size_of_choices(parts: &[Condition], odd: bool) -> Option<Size>
-    requires fits { AllFitGrid (conditions parts.now) }
-    requires few { total_nodes (conditions parts.now) ≤ 1048576 }
-    ensures { IsSizeOf (each_choice odd (conditions parts.now)) result }
-{
-    let mut total = Size::EMPTY;
-    for part in parts {
-        let size = size_of(part, odd)?;
-        total = total.times(size)?;
+        total = total.joined(size, any)?;
     }
     Some(total)
 }

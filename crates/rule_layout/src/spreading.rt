@@ -1,7 +1,7 @@
 //! Conditions spread into conjunctions.
 ghost use Rattle.std.specs.Prelude.{◌≡◌, ◌++◌, ◌∷◌, [], map, IfOk, OnOk};
 ghost use Rattle.fuzzy_meaning.specs.Conditions.{conditions};
-ghost use Rattle.rule_layout.specs.Spreading.{spread_of, one_after_another, each_choice, choices, literal};
+ghost use Rattle.rule_layout.specs.Spreading.{spread_of, spread_parts, spreads, choices, literal};
 ghost use Rattle.rule_layout.specs.Grid.{FitsGrid, AllFitGrid};
 ghost use Rattle.rule_layout.specs.Tables.{table_literals};
 
@@ -12,7 +12,8 @@ use fz_list::List;
 use std::alloc::{AllocError, Global};
 
 /// The conjunctions that a condition spreads into, by the numbers of their literals' slots.
-/// `odd` says that the condition stands under an odd number of NOTs.
+/// `odd` says that the condition stands under an odd number of NOTs, where an AND is an OR and an
+/// OR an AND.
 #[cycle(spread)]
 pub fn conjunctions(
     alloc: Global,
@@ -35,61 +36,58 @@ pub fn conjunctions(
             single(alloc, List::new(literals))
         }
         Node::Not(part) => conjunctions(alloc, numbers, part, !odd),
-        Node::And(parts) => {
-            if odd {
-                in_turn(alloc, numbers, parts, odd)
-            } else {
-                by_choice(alloc, numbers, parts, odd)
-            }
-        }
-        Node::Or(parts) => {
-            if odd {
-                by_choice(alloc, numbers, parts, odd)
-            } else {
-                in_turn(alloc, numbers, parts, odd)
-            }
-        }
+        Node::And(parts) => conjunctions_of_parts(alloc, numbers, parts, odd, odd),
+        Node::Or(parts) => conjunctions_of_parts(alloc, numbers, parts, odd, !odd),
     }
 }
 
-/// The conjunctions of some conditions one after another.
+/// The same of the parts of an OR, `any`, or of an AND.
 #[cycle(spread)]
-fn in_turn(
+fn conjunctions_of_parts(
     alloc: Global,
     numbers: &SlotNumbers,
     parts: &[Condition],
     odd: bool,
+    any: bool,
 ) -> Result<Vec<List<u16>>, AllocError>
     requires { AllFitGrid (conditions parts.now) }
     ensures { IfOk result (λ v. v.items
-        ≡ table_literals numbers.now.table (one_after_another odd (conditions parts.now))) }
+        ≡ table_literals numbers.now.table (spread_parts odd any (conditions parts.now))) }
 {
-    let mut all = Vec::new(alloc);
+    let mut all = of_no_parts(alloc, any)?;
     for part in parts {
-        let mut more = conjunctions(alloc, numbers, part, odd)?;
-        all.append(&mut more)?;
+        let more = conjunctions(alloc, numbers, part, odd)?;
+        all = joined(alloc, all, more, any)?;
     }
     Ok(all)
 }
 
-/// Each choice of one conjunction per condition, the first condition's changing slowest.
-#[cycle(spread)]
-fn by_choice(
-    alloc: Global,
-    numbers: &SlotNumbers,
-    parts: &[Condition],
-    odd: bool,
-) -> Result<Vec<List<u16>>, AllocError>
-    requires { AllFitGrid (conditions parts.now) }
-    ensures { IfOk result (λ v. v.items
-        ≡ table_literals numbers.now.table (each_choice odd (conditions parts.now))) }
+/// An OR of nothing, `any`, has no conjunction, and an AND of nothing the empty one.
+fn of_no_parts(alloc: Global, any: bool) -> Result<Vec<List<u16>>, AllocError>
+    ensures { IfOk result (λ v. v.items ≡ spreads.none any) }
 {
-    let mut chosen = single(alloc, List::new(Vec::new(alloc)))?;
-    for part in parts {
-        let tails = conjunctions(alloc, numbers, part, odd)?;
-        chosen = extended(alloc, chosen, &tails)?;
+    if any {
+        Ok(Vec::new(alloc))
+    } else {
+        single(alloc, List::new(Vec::new(alloc)))
     }
-    Ok(chosen)
+}
+
+/// The conjunctions of an OR, `any`, or of an AND of two conditions with these.
+fn joined(
+    alloc: Global,
+    mut front: Vec<List<u16>>,
+    mut back: Vec<List<u16>>,
+    any: bool,
+) -> Result<Vec<List<u16>>, AllocError>
+    ensures { IfOk result (λ v. v.items ≡ spreads.join any front.items back.items) }
+{
+    if any {
+        front.append(&mut back)?;
+        Ok(front)
+    } else {
+        extended(alloc, front, &back)
+    }
 }
 
 fn single(alloc: Global, literals: List<u16>) -> Result<Vec<List<u16>>, AllocError>

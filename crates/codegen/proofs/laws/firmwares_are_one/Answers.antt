@@ -1,5 +1,5 @@
-use Rattle.codegen.proofs.AlikeLemmas.{one_image}
+use Rattle.codegen.proofs.AlikeLemmas.{one_firmware}
 use Rattle.codegen.proofs.laws.firmwares_are_one.Goals as goal
 
 pub returns : goal.returns
-returns c = one_image
+returns c = one_firmware

@@ -1,5 +1,5 @@
-use Rattle.codegen.proofs.AlikeLemmas.{one_mailbox_image}
+use Rattle.codegen.proofs.AlikeLemmas.{one_mailbox}
 use Rattle.codegen.proofs.laws.mailboxes_are_one.Goals as goal
 
 pub returns : goal.returns
-returns c = one_mailbox_image
+returns c = one_mailbox

@@ -1,6 +1,5 @@
 use Rattle.std.proofs.Common.{drop}
-use Rattle.fuzzy_meaning.specs.Conditions.{conditions}
-use Rattle.error_bound.specs.Flattening.{group}
+use Rattle.fuzzy_meaning.specs.Conditions.{conditions, group}
 use Rattle.error_bound.specs.Reaches.{IsEndOfCondition}
 use Rattle.error_bound.proofs.ends.+ends.Given as goal
 

@@ -4,14 +4,14 @@ use Rattle.fz_num.specs.Fractions.{Fraction, AtMost, IsBelow}
 use Rattle.error_bound.specs.declared.boxes.LeafFault.TheVariants.{Weak}
 use Rattle.error_bound.specs.Faults.{IsStrongFault, weak, still}
 use Rattle.error_bound.specs.Ratios.{value_of}
-use Rattle.error_bound.specs.Spans.{only_truth, only_byte}
+use Rattle.error_bound.specs.Spans.{only}
 use Rattle.error_bound.proofs.leaves.strong_fault.Goals as goal
 
 pub returns-then-is_below-clause-fault : goal.returns-then-is_below-clause-fault
 returns-then-is_below-clause-fault c =
     let low = c.args.low in
     let leaf = c.args.leaf in
-    subst (λ (k : ℕ). IsStrongFault leaf (only_truth (value_of low.truth)) (only_byte low.byte)
+    subst (λ (k : ℕ). IsStrongFault leaf (only (value_of low.truth)) (only low.byte)
     (Weak leaf.rule leaf.k (record { 0 = k }))) (sym c.floor_nano.ensures)
     (weak (c.is_below.ensures.0 c.if-is_below.true))
 

@@ -1,9 +1,10 @@
-use Rattle.std.proofs.Common.{Bool, true, false, ◌-◌, inl, inr, sym, ap, ◌∙◌, subst, rules}
+use Rattle.std.proofs.Common.{◌≡◌, ℕ, Bool, true, false, ◌-◌, max, inl, inr, refl, sym, ap, ◌∙◌, subst, rules}
 use Rattle.fuzzy_meaning.specs.declared.block.Block.{Block}
 use Rattle.fuzzy_meaning.specs.Blocks.{IsValidCondition}
-use Rattle.fuzzy_meaning.specs.Conditions.{Condition, is}
+use Rattle.fuzzy_meaning.specs.Conditions.{Condition, is, all, any, Conditions, end, also, conditions, under}
 use Rattle.fuzzy_meaning.specs.Trees.{tree}
-use Rattle.error_bound.specs.Flattening.{under}
+use Rattle.error_bound.specs.CellErrors.{term_errors}
+use Rattle.error_bound.specs.Spans.{greatest_literal}
 use Rattle.fuzzy_meaning.proofs.Parts.{part_falls, parts_fall}
 use Rattle.error_bound.proofs.ConditionParts.{AreValidConditions-all, AreValidConditions-any, IsValidCondition-part}
 use Rattle.error_bound.proofs.literal_errors.+errors.Goals as goal
@@ -11,6 +12,18 @@ use Rattle.error_bound.proofs.literal_errors.+errors.Goals as goal
 valid_under : (b : Block) (odd : Bool) (c : Condition) → IsValidCondition b (under odd c) → IsValidCondition b c
 valid_under b true c v = v
 valid_under b false c v = v
+
+-- the parts of an AND and of an OR have one greatest
+all-any : (e : ℕ → ℕ → ℕ) (cs : Conditions) → greatest_literal e (all cs) ≡ greatest_literal e (any cs)
+all-any e end = refl
+all-any e (also c cs) = ap (max (greatest_literal e c)) (all-any e cs)
+
+pub error_of-returns-in-Or-clause-value : goal.error_of-returns-in-Or-clause-value
+error_of-returns-in-Or-clause-value t c =
+    let e = term_errors c.args.block.now c.args.terms.now.bytes.0.items in
+    c.error_among-in-Or.ensures.value ∙ all-any e _
+    ∙ ap (λ ps. greatest_literal e (any (conditions ps))) c.as_slice-in-Or.ensures.value
+    ∙ ap (greatest_literal e) (ap tree (sym c.in-Or.is) ∙ c.condition.view_is)
 
 pub error_among-reach_of_literal-requires-clause-term : goal.error_among-reach_of_literal-requires-clause-term
 error_among-reach_of_literal-requires-clause-term t c =

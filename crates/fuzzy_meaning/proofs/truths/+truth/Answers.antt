@@ -3,7 +3,8 @@ use Rattle.std.proofs.lemmas.Option.{slice_get_read}
 use Rattle.fuzzy_meaning.specs.Blocks.{IsValidCondition}
 use Rattle.fuzzy_meaning.specs.Conditions.{all, any, conditions, nodes}
 use Rattle.fuzzy_meaning.specs.Trees.{tree}
-use Rattle.fuzzy_meaning.proofs.ConditionLemmas.{part_nodes, parts_valid}
+use Rattle.fuzzy_meaning.proofs.ConditionLemmas.{parts_valid}
+use Rattle.fuzzy_meaning.proofs.Parts.{part_nodes}
 use Rattle.fuzzy_meaning.proofs.truths.+truth.Goals as goal
 
 pub truth-requires-in-loop-k : goal.truth-requires-in-loop-k

@@ -1,7 +1,8 @@
-use Rattle.std.proofs.Common.{◌≡◌, drop}
+use Rattle.std.proofs.Common.{◌≡◌, true, false, drop}
 use Rattle.fz_num.specs.Fracs.{fraction_of, IsTruth}
-use Rattle.fuzzy_meaning.specs.Conditions.{conditions}
-use Rattle.fuzzy_meaning.specs.Meaning.{literal_degree, least_truth, greatest_truth}
+use Rattle.fz_num.specs.Fractions.{one_minus}
+use Rattle.fuzzy_meaning.specs.Conditions.{conditions, evaluate_parts}
+use Rattle.fuzzy_meaning.specs.Meaning.{literal_degree, truths}
 use Rattle.fuzzy_meaning.proofs.truths.+truth.Given as goal
 
 abbrev pub decreases-truth : goal.decreases-truth
@@ -10,11 +11,11 @@ decreases-truth l = goal.size-truth l
 abbrev pub invariant-loop-k : goal.invariant-loop-k
 invariant-loop-k l =
     IsTruth 4000000000 l.least
-    × (fraction_of l.least ≡ least_truth (literal_degree l.block l.xs)
+    × (fraction_of l.least ≡ evaluate_parts one_minus truths (literal_degree l.block l.xs) false
     (conditions (drop l.k l.parts.items)))
 
 abbrev pub invariant-loop-k-2 : goal.invariant-loop-k-2
 invariant-loop-k-2 l =
     IsTruth 4000000000 l.greatest
-    × (fraction_of l.greatest ≡ greatest_truth (literal_degree l.block l.xs)
+    × (fraction_of l.greatest ≡ evaluate_parts one_minus truths (literal_degree l.block l.xs) true
     (conditions (drop l.k l.parts.items)))

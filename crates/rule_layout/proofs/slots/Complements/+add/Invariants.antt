@@ -1,7 +1,7 @@
-use Rattle.std.proofs.Common.{◌≡◌, ◌||◌, ℕ, take}
+use Rattle.std.proofs.Common.{◌≡◌, ◌||◌, ℕ, true, take}
 use Rattle.fuzzy_meaning.specs.Conditions.{conditions}
 use Rattle.rule_layout.specs.Grid.{IsInGrid}
-use Rattle.rule_layout.specs.Slots.{some_has_complement}
+use Rattle.rule_layout.proofs.SlotLemmas.{some_has_complement}
 use Rattle.rule_layout.specs.Tables.{is_marked}
 use Rattle.rule_layout.proofs.slots.Complements.+add.Given as goal
 
@@ -9,5 +9,5 @@ abbrev pub invariant-loop-part : goal.invariant-loop-part
 invariant-loop-part l =
     (i t : ℕ) → IsInGrid i t
     → is_marked l.self.table i t
-    ≡ (is_marked l.initial.self.table i t || some_has_complement i t l.odd
+    ≡ (is_marked l.initial.self.table i t || some_has_complement i t l.odd true
     (conditions (take l.part-index l.part-items)))

@@ -1,0 +1,198 @@
+-- De Morgan's laws of truths, of grades and of spans of them, and how their ORs and ANDs are grouped.
+use Rattle.std.proofs.Common.{◌≡◌, ℕ, ◌-◌, ◌≤◌, max, Bool, true, false, refl, ap₂, ◌∙◌, arith}
+use Rattle.std.specs.Prelude.{not}
+use Rattle.fz_num.specs.Fractions.{Fraction, IsProper, AtMost, one_minus, one, none}
+use Rattle.fz_num.proofs.Algebra.{AtMost-refl, AtMost-greater, IsProper-lesser, IsProper-greater, by_lesser}
+use Rattle.fuzzy_meaning.specs.Conditions.{Joins, levels}
+use Rattle.fuzzy_meaning.specs.Meaning.{truths}
+use Rattle.fuzzy_meaning.proofs.Evaluations.{IsDeMorgan}
+use Rattle.error_bound.specs.Flattening.{IsSame, AreSame}
+use Rattle.error_bound.specs.Spans.{Span, reversed, spans}
+use Rattle.error_bound.proofs.Sides.{none_least}
+use Rattle.error_bound.proofs.Values.{one_proper, none_proper, same, same_trans, lesser_same, greater_same}
+use Rattle.error_bound.proofs.Values.{lesser_one, one_lesser, greater_none, none_greater, lesser_lesser}
+use Rattle.error_bound.proofs.Values.{greater_greater, lesser_minus, greater_minus, twice_minus}
+
+-- of good values, no parts count for nothing, and parts may be put into groups
+pub record IsGrouping {A : Type 0} (Good : A → Type 0) (Same : A → A → Type 0) (j : Joins A) : Type 0 where
+  pub join_none : (or : Bool) (a : A) → Good a → Same (j.join or a (j.none or)) a
+  pub none_join : (or : Bool) (a : A) → Good a → Same a (j.join or (j.none or) a)
+  pub join_join : (or : Bool) (a b c : A) → Good a → Good b → Good c
+      → Same (j.join or a (j.join or b c)) (j.join or (j.join or a b) c)
+
+-- ---- spans
+
+-- both ends are
+pub record AreGood {A : Type 0} (Good : A → Type 0) (s : Span A) : Type 0 where
+  pub low : Good s.low
+  pub high : Good s.high
+
+module _ {A : Type 0} {Good : A → Type 0} {Same : A → A → Type 0} where
+  pub spans_de_morgan : {minus : A → A} {j : Joins A} → IsDeMorgan Good Same minus j
+      → IsDeMorgan (AreGood Good) (AreSame Same) (reversed minus) (spans j)
+  spans_de_morgan m = record {
+    alike = λ s g. record { low = m.alike _ g.low; high = m.alike _ g.high };
+    trans = λ s r q a b. record { low = m.trans _ _ _ a.low b.low; high = m.trans _ _ _ a.high b.high };
+    good_none = λ or. record { low = m.good_none or; high = m.good_none or };
+    good_join = λ or s r g h. record {
+      low = m.good_join or _ _ g.low h.low;
+      high = m.good_join or _ _ g.high h.high;
+    };
+    good_minus = λ s g. record { low = m.good_minus _ g.high; high = m.good_minus _ g.low };
+    join_same = λ or s r q p a b. record {
+      low = m.join_same or _ _ _ _ a.low b.low;
+      high = m.join_same or _ _ _ _ a.high b.high;
+    };
+    join_minus = λ or s r g h. record {
+      low = m.join_minus or _ _ g.high h.high;
+      high = m.join_minus or _ _ g.low h.low;
+    };
+    none_minus = λ or. record { low = m.none_minus or; high = m.none_minus or };
+    twice = λ s g. record { low = m.twice _ g.low; high = m.twice _ g.high };
+  }
+
+  pub spans_grouping : {j : Joins A} → IsGrouping Good Same j → IsGrouping (AreGood Good) (AreSame Same) (spans j)
+  spans_grouping m = record {
+    join_none = λ or s g. record { low = m.join_none or _ g.low; high = m.join_none or _ g.high };
+    none_join = λ or s g. record { low = m.none_join or _ g.low; high = m.none_join or _ g.high };
+    join_join = λ or s r q g h k. record {
+      low = m.join_join or _ _ _ g.low h.low k.low;
+      high = m.join_join or _ _ _ g.high h.high k.high;
+    };
+  }
+
+-- ---- truths
+
+pub record IsDegree (f : Fraction) : Type 0 where
+  pub proper : IsProper f
+  pub to_one : AtMost f one
+
+pub nothing_degree : (or : Bool) → IsDegree (truths.none or)
+nothing_degree true = record { proper = none_proper; to_one = none_least one }
+nothing_degree false = record { proper = one_proper; to_one = AtMost-refl one }
+
+joined_degree : (or : Bool) (f g : Fraction) → IsDegree f → IsDegree g → IsDegree (truths.join or f g)
+joined_degree true f g a b = record {
+  proper = IsProper-greater f g a.proper b.proper;
+  to_one = AtMost-greater f g one a.to_one b.to_one;
+}
+joined_degree false f g a b = record {
+  proper = IsProper-lesser f g a.proper b.proper;
+  to_one = by_lesser (λ h. AtMost h one) f g (λ _. a.to_one) (λ _. b.to_one);
+}
+
+truths_same : (or : Bool) (f g h k : Fraction) → IsSame f h → IsSame g k
+    → IsSame (truths.join or f g) (truths.join or h k)
+truths_same true = greater_same
+truths_same false = lesser_same
+
+truths_minus : (or : Bool) (f g : Fraction) → IsDegree f → IsDegree g
+    → IsSame (truths.join or (one_minus f) (one_minus g)) (one_minus (truths.join (not or) f g))
+truths_minus true f g a b = greater_minus f g a.proper b.proper
+truths_minus false f g a b = lesser_minus f g a.proper b.proper
+
+nothing_minus : (or : Bool) → IsSame (truths.none or) (one_minus (truths.none (not or)))
+nothing_minus true = same none none_proper
+nothing_minus false = same one one_proper
+
+pub truths_de_morgan : IsDeMorgan IsDegree IsSame one_minus truths
+truths_de_morgan = record {
+  alike = λ f a. same f a.proper;
+  trans = same_trans;
+  good_none = nothing_degree;
+  good_join = joined_degree;
+  good_minus = λ f a. record { proper = record { pos = a.proper.pos }; to_one = record { cross = omega arith } };
+  join_same = truths_same;
+  join_minus = truths_minus;
+  none_minus = nothing_minus;
+  twice = λ f a. twice_minus f a.proper a.to_one;
+}
+
+truth_nothing : (or : Bool) (f : Fraction) → IsDegree f → IsSame (truths.join or f (truths.none or)) f
+truth_nothing true f a = greater_none f a.proper
+truth_nothing false f a = lesser_one f a.proper a.to_one
+
+nothing_truth : (or : Bool) (f : Fraction) → IsDegree f → IsSame f (truths.join or (truths.none or) f)
+nothing_truth true f a = none_greater f a.proper
+nothing_truth false f a = one_lesser f a.proper a.to_one
+
+truths_joined : (or : Bool) (f g h : Fraction) → IsDegree f → IsDegree g → IsDegree h
+    → IsSame (truths.join or f (truths.join or g h)) (truths.join or (truths.join or f g) h)
+truths_joined true f g h a b c = greater_greater f g h a.proper b.proper c.proper
+truths_joined false f g h a b c = lesser_lesser f g h a.proper b.proper c.proper
+
+pub truths_grouping : IsGrouping IsDegree IsSame truths
+truths_grouping = record { join_none = truth_nothing; none_join = nothing_truth; join_join = truths_joined }
+
+-- ---- grades
+
+nothing_to_255 : (or : Bool) → (levels 255).none or ≤ 255
+nothing_to_255 true = omega arith
+nothing_to_255 false = omega arith
+
+joined_to_255 : (or : Bool) (m n : ℕ) → m ≤ 255 → n ≤ 255 → (levels 255).join or m n ≤ 255
+joined_to_255 true m n g h = omega arith
+joined_to_255 false m n g h = omega arith
+
+levels_minus : (or : Bool) (m n : ℕ) → m ≤ 255 → n ≤ 255
+    → (levels 255).join or (255 - m) (255 - n) ≡ 255 - (levels 255).join (not or) m n
+levels_minus true m n g h = omega arith
+levels_minus false m n g h = omega arith
+
+no_levels_minus : (or : Bool) → (levels 255).none or ≡ 255 - (levels 255).none (not or)
+no_levels_minus true = refl
+no_levels_minus false = refl
+
+pub levels_de_morgan : IsDeMorgan (λ n. n ≤ 255) (λ m n. m ≡ n) (λ n. 255 - n) (levels 255)
+levels_de_morgan = record {
+  alike = λ n g. refl;
+  trans = λ k m n p q. p ∙ q;
+  good_none = nothing_to_255;
+  good_join = joined_to_255;
+  good_minus = λ n g. omega arith;
+  join_same = λ or k l m n p q. ap₂ ((levels 255).join or) p q;
+  join_minus = levels_minus;
+  none_minus = no_levels_minus;
+  twice = λ n g. omega arith;
+}
+
+level_nothing : (or : Bool) (n : ℕ) → n ≤ 255 → (levels 255).join or n ((levels 255).none or) ≡ n
+level_nothing true n g = omega arith
+level_nothing false n g = omega arith
+
+nothing_level : (or : Bool) (n : ℕ) → n ≤ 255 → n ≡ (levels 255).join or ((levels 255).none or) n
+nothing_level true n g = omega arith
+nothing_level false n g = omega arith
+
+levels_joined : (or : Bool) (k m n : ℕ) → k ≤ 255 → m ≤ 255 → n ≤ 255
+    → (levels 255).join or k ((levels 255).join or m n) ≡ (levels 255).join or ((levels 255).join or k m) n
+levels_joined true k m n g h i = omega arith
+levels_joined false k m n g h i = omega arith
+
+pub levels_grouping : IsGrouping (λ n. n ≤ 255) (λ m n. m ≡ n) (levels 255)
+levels_grouping = record { join_none = level_nothing; none_join = nothing_level; join_join = levels_joined }
+
+-- ---- errors
+
+abbrev greatest : Joins ℕ
+greatest = record { none = λ any. 0; join = λ any. max }
+
+pub errors_de_morgan : IsDeMorgan (λ _. Unit {0}) (λ m n. m ≡ n) (λ n. n) greatest
+errors_de_morgan = record {
+  alike = λ n g. refl;
+  trans = λ k m n p q. p ∙ q;
+  good_none = λ or. tt;
+  good_join = λ or m n g h. tt;
+  good_minus = λ n g. tt;
+  join_same = λ or k l m n p q. ap₂ max p q;
+  join_minus = λ or m n g h. refl;
+  none_minus = λ or. refl;
+  twice = λ n g. refl;
+}
+
+pub errors_grouping : IsGrouping (λ _. Unit {0}) (λ m n. m ≡ n) greatest
+errors_grouping = record {
+  join_none = λ or n g. omega arith;
+  none_join = λ or n g. omega arith;
+  join_join = λ or k m n g h i. omega arith;
+}
