@@ -1,19 +1,17 @@
 -- Each block in a text is one of the program, so each text spells one or has a first fault.
-use Rattle.std.proofs.Common.{◌≡◌, ℕ, ◌<◌, ◌≤◌, ◌^◌, ◌⊎◌, inl, inr, List, [], ◌∷◌, ◌++◌, length, Some, None, Result, Ok}
-use Rattle.std.proofs.Common.{Err, refl, ap, sym, subst, ◌∙◌, arith}
+use Rattle.std.proofs.Common.{◌≡◌, ℕ, ◌⊎◌, inl, inr, [], ◌∷◌, ◌++◌, Some, None, Result, Ok}
+use Rattle.std.proofs.Common.{Err, refl, ap, sym, subst, ◌∙◌}
 use Rattle.fcl_syntax.specs.declared.fault.Kind.TheVariants.{Unsupported}
 use Rattle.fcl_syntax.specs.declared.text.SyntaxFault.{SyntaxFault}
 use Rattle.fcl_syntax.specs.declared.token.Keyword.TheVariants as key
 use Rattle.fcl_syntax.specs.declared.token.Token.TheVariants as tok
 use Rattle.fcl_syntax.specs.declared.token.Word.TheVariants as word
 use Rattle.fcl_syntax.specs.declared.tree.ActWord.TheVariants as act
-use Rattle.fcl_syntax.specs.declared.tree.Conclusion.{Conclusion}
 use Rattle.fcl_syntax.specs.declared.tree.FunctionBlock.{FunctionBlock}
-use Rattle.fcl_syntax.specs.declared.tree.Name.{Name}
 use Rattle.fcl_syntax.specs.declared.tree.RuleLine.TheVariants as line
-use Rattle.fcl_syntax.specs.Grammar.{TDeclaration, names_text, name_text, behind, each, type_text, word_text}
+use Rattle.fcl_syntax.specs.Grammar.{TDeclaration, names_text, each, type_text, word_text}
 use Rattle.fcl_syntax.specs.Grammar.{declaration_text, TVariables, variables_text, key_text, TSection, section_text}
-use Rattle.fcl_syntax.specs.Grammar.{or_text, TRule, rule_text, conclusion_text, conclusions_text, TWeight, weight_text}
+use Rattle.fcl_syntax.specs.Grammar.{or_text, TRule, rule_text, conclusions_text, TWeight, weight_text}
 use Rattle.fcl_syntax.specs.Grammar.{semicolon_text, signed_number_text, TRuleItem, rule_item_text, TAct, TRuleLine}
 use Rattle.fcl_syntax.specs.Grammar.{rule_line_text, and_classes, or_classes, accu_classes, TRulebase, rulebase_text}
 use Rattle.fcl_syntax.specs.Grammar.{TEnd, end_text, part_text, TBlock, block_text}
@@ -21,14 +19,12 @@ use Rattle.fcl_syntax.specs.TokenClasses.{name_classes, other_type_classes}
 use Rattle.fcl_syntax.specs.Annotations.{IsClean, plain, either_text, or_refused}
 use Rattle.fcl_syntax.specs.Text.{SpellsTree, IsFirstFault}
 use Rattle.fcl_syntax.specs.TextReading.{read_text}
-use Rattle.fcl_syntax.specs.Offsets.{offsets}
 use Rattle.fcl_syntax.specs.Readings.{EachTextIsRead}
 use Rattle.fcl_syntax.specs.View.{view_signed_number, view_declaration, view_variables, view_section, view_part}
 use Rattle.fcl_syntax.specs.View.{view_weight, view_rule, view_rule_item, view_act_word, view_act, view_rule_line}
 use Rattle.fcl_syntax.specs.View.{view_rulebase, view}
 use Rattle.fcl_syntax.proofs.KeptLists.{HasTree, accepted, clean_back, clean_front, each_tree, no_annotation}
 use Rattle.fcl_syntax.proofs.KeptTerms.{signed_number_tree, part_tree, setting_tree}
-use Rattle.fcl_syntax.proofs.Offsets.{offsets_ascend_lem}
 use Rattle.fcl_syntax.proofs.Theorem.{read_faults, read_spells}
 
 act_word_tree : (w : ℕ ⊎ ℕ) → HasTree view_act_word w

@@ -1,5 +1,5 @@
 -- Each part in a text, with its terms and ranges, is one of the program.
-use Rattle.std.proofs.Common.{◌≡◌, ℕ, ◌<◌, ◌^◌, ◌⊎◌, inl, inr, List, [], ◌∷◌, ◌++◌, map, refl, ap, ◌∙◌, arith}
+use Rattle.std.proofs.Common.{◌≡◌, ℕ, ◌⊎◌, inl, inr, List, [], ◌∷◌, ◌++◌, map, refl, ap, ◌∙◌}
 use Rattle.fcl_syntax.specs.declared.fault.Kind.TheVariants.{Unsupported}
 use Rattle.fcl_syntax.specs.declared.token.Keyword.{Keyword}
 use Rattle.fcl_syntax.specs.declared.token.Keyword.TheVariants as key
@@ -187,4 +187,3 @@ pub part_tree : (p : TPart) → IsClean (part_text p) → HasTree view_part p
 part_tree (inl x) h = absurd (no_annotation (Unsupported 7) h.0)
 part_tree (inr (inl f)) h = let found = fuzzify_tree f h in (part.Fuzzify found.0, λ i. inr (inl (found.1 i)))
 part_tree (inr (inr d)) h = let found = defuzzify_tree d h in (part.Defuzzify found.0, λ i. inr (inr (found.1 i)))
-

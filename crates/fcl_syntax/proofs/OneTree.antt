@@ -1,50 +1,37 @@
 -- Trees of the program with one view are one: each is what its view gives back.
 use Rattle.std.proofs.Common.{◌≡◌, ℕ, false, ◌⊎◌, inl, inr, List, [], ◌∷◌, map, Option, Some, None, refl, sym, ap, ◌∙◌}
 use Rattle.fcl_syntax.specs.declared.token.Amount.TheVariants as amount
-use Rattle.fcl_syntax.specs.declared.token.Word.TheVariants as word
 use Rattle.fcl_syntax.specs.declared.tree.ActWord.{ActWord}
 use Rattle.fcl_syntax.specs.declared.tree.ActWord.TheVariants as act
-use Rattle.fcl_syntax.specs.declared.tree.Activation.{Activation}
-use Rattle.fcl_syntax.specs.declared.tree.Declaration.{Declaration}
-use Rattle.fcl_syntax.specs.declared.tree.Defuzzify.{Defuzzify}
 use Rattle.fcl_syntax.specs.declared.tree.DefuzzyLine.{DefuzzyLine}
 use Rattle.fcl_syntax.specs.declared.tree.DefuzzyLine.TheVariants as defuzzy
 use Rattle.fcl_syntax.specs.declared.tree.Degree.{Degree}
 use Rattle.fcl_syntax.specs.declared.tree.Degree.TheVariants as degree
-use Rattle.fcl_syntax.specs.declared.tree.Direction.TheVariants.{Input}
 use Rattle.fcl_syntax.specs.declared.tree.FallbackValue.{FallbackValue}
 use Rattle.fcl_syntax.specs.declared.tree.FallbackValue.TheVariants as fallback
 use Rattle.fcl_syntax.specs.declared.tree.FunctionBlock.{FunctionBlock}
-use Rattle.fcl_syntax.specs.declared.tree.Fuzzify.{Fuzzify}
 use Rattle.fcl_syntax.specs.declared.tree.FuzzyLine.{FuzzyLine}
 use Rattle.fcl_syntax.specs.declared.tree.FuzzyLine.TheVariants as fuzzy
-use Rattle.fcl_syntax.specs.declared.tree.Name.{Name}
 use Rattle.fcl_syntax.specs.declared.tree.Number.{Number}
 use Rattle.fcl_syntax.specs.declared.tree.Part.{Part}
 use Rattle.fcl_syntax.specs.declared.tree.Part.TheVariants as part
-use Rattle.fcl_syntax.specs.declared.tree.Point.{Point}
-use Rattle.fcl_syntax.specs.declared.tree.Range.{Range}
-use Rattle.fcl_syntax.specs.declared.tree.Rule.{Rule}
 use Rattle.fcl_syntax.specs.declared.tree.RuleLine.{RuleLine}
 use Rattle.fcl_syntax.specs.declared.tree.RuleLine.TheVariants as line
-use Rattle.fcl_syntax.specs.declared.tree.Rulebase.{Rulebase}
 use Rattle.fcl_syntax.specs.declared.tree.SignedNumber.{SignedNumber}
 use Rattle.fcl_syntax.specs.declared.tree.SignedNumber.TheVariants as signed
 use Rattle.fcl_syntax.specs.declared.tree.Setting.{Setting}
-use Rattle.fcl_syntax.specs.declared.tree.Term.{Term}
-use Rattle.fcl_syntax.specs.declared.tree.Variables.{Variables}
 use Rattle.fcl_syntax.specs.declared.tree.UnitNumber.{UnitNumber}
 use Rattle.fcl_syntax.specs.declared.tree.Weight.{Weight}
 use Rattle.fcl_syntax.specs.declared.tree.ZeroNumber.{ZeroNumber}
-use Rattle.fcl_syntax.specs.Grammar.{TSigned, plus, minus, bare, TSignedNumber, TDeclaration, TVariables, TSection}
-use Rattle.fcl_syntax.specs.Grammar.{TCoordinate, TUnit, TZero, TPoint, TTerm, TRange, TFuzzify, TSetting, TSingleton}
-use Rattle.fcl_syntax.specs.Grammar.{TDefuzzyLine, TDefuzzify, TPart, TOr, TWeight, TRule, TRuleItem, TAct, TRuleLine}
-use Rattle.fcl_syntax.specs.Grammar.{TRulebase, TBlock, option_classes, var_classes}
+use Rattle.fcl_syntax.specs.Grammar.{TSigned, plus, minus, bare, TSignedNumber}
+use Rattle.fcl_syntax.specs.Grammar.{TUnit, TZero, TPoint, TTerm, TRange, TFuzzify, TSetting}
+use Rattle.fcl_syntax.specs.Grammar.{TDefuzzyLine, TDefuzzify, TWeight, TRuleLine}
+use Rattle.fcl_syntax.specs.Grammar.{TBlock, option_classes, var_classes}
 use Rattle.fcl_syntax.specs.TokenClasses.{Among}
 use Rattle.fcl_syntax.specs.View.{view_declaration, view_variables, view_section, view_signed_number, view_coordinate}
 use Rattle.fcl_syntax.specs.View.{view_degree, view_point, view_term, view_range, view_fuzzy_line, view_fuzzify}
 use Rattle.fcl_syntax.specs.View.{view_singleton, view_value, view_defuzzy_line, view_defuzzify, view_part, view_weight}
-use Rattle.fcl_syntax.specs.View.{view_rule, view_rule_item, view_act_word, view_rule_line, view_rulebase, view}
+use Rattle.fcl_syntax.specs.View.{view_rule, view_act_word, view_rule_line, view_rulebase, view}
 
 -- what undoes a view
 record IsUndone {A T : Type 0} (view : A → T) : Type 0 where
@@ -103,7 +90,9 @@ coordinate_is (signed.Minus n) = refl
 coordinate_is (signed.Bare n) = refl
 
 abbrev unit : TUnit → UnitNumber
-unit u = let none : UnitNumber = record { at = 0; is_one = false; whole = false } in right_or none (right_or (inr none) u)
+unit u =
+    let none : UnitNumber = record { at = 0; is_one = false; whole = false } in
+    right_or none (right_or (inr none) u)
 
 abbrev zero : TZero → ZeroNumber
 zero z = let none : ZeroNumber = record { at = 0; whole = false } in right_or none (right_or (inr none) z)
@@ -149,7 +138,11 @@ point_undone = record {
 term_undone : IsUndone view_term
 term_undone =
     let each = each_undone point_undone in
-    let none : TPoint = record { open_at = 0; x = bare (inr number); degree = minus (inr (inr (record { at = 0; whole = false }))) } in
+    let none : TPoint = record {
+      open_at = 0;
+      x = bare (inr number);
+      degree = minus (inr (inr (record { at = 0; whole = false })));
+    } in
     record {
       back = λ t. let points = right_or (none, []) t.points in
           record { at = t.at; name = t.name; first = point_undone.back points.0; more = each.back points.1 };
@@ -290,7 +283,13 @@ rulebase_undone =
     let lines = each_undone (record { back = rule_line_back; is = rule_line_is }) in
     let rules = kept_undone rule_undone (Among option_classes) in
     record {
-      back = λ r. record { at = r.at; name = r.name; lines = lines.back r.lines; rules = rules.back r.rules; end = r.end };
+      back = λ r. record {
+        at = r.at;
+        name = r.name;
+        lines = lines.back r.lines;
+        rules = rules.back r.rules;
+        end = r.end;
+      };
       is = λ r i. record {
         at = r.at;
         name = r.name;

@@ -1,5 +1,5 @@
 -- A tree of the program as a tree of the grammar, where nothing is refused.
-use Rattle.std.specs.Prelude.{ℕ, List, [], ◌∷◌, map, Option, Some, None, ◌⊎◌}
+use Rattle.std.specs.Prelude.{ℕ, List, map, Option, Some, None, ◌⊎◌}
 use Rattle.std.proofs.Common.{inl, inr}
 use Rattle.fcl_syntax.specs.declared.tree.ActWord.{ActWord}
 use Rattle.fcl_syntax.specs.declared.tree.ActWord.TheVariants as act
@@ -34,8 +34,8 @@ use Rattle.fcl_syntax.specs.declared.tree.Variables.{Variables}
 use Rattle.fcl_syntax.specs.declared.tree.Weight.{Weight}
 use Rattle.fcl_syntax.specs.Grammar.{TSigned, plus, minus, bare, TSignedNumber, TDeclaration, TVariables, TSection}
 use Rattle.fcl_syntax.specs.Grammar.{TCoordinate, TUnit, TZero, TPoint, TTerm, TRange, TFuzzify, TSetting, TSingleton}
-use Rattle.fcl_syntax.specs.Grammar.{TFallback, TDefuzzyLine, TDefuzzify, TPart, TNot, neg, group, is, TNots, no_nots}
-use Rattle.fcl_syntax.specs.Grammar.{more_nots, TAnd, and_of, TAnds, no_ands, more_ands, TOr, or_of, TWeight, TRule}
+use Rattle.fcl_syntax.specs.Grammar.{TFallback, TDefuzzyLine, TDefuzzify, TPart}
+use Rattle.fcl_syntax.specs.Grammar.{TWeight, TRule}
 use Rattle.fcl_syntax.specs.Grammar.{TRuleItem, TAct, TRuleLine, TRulebase, TBlock}
 
 -- ---- variables, terms and ranges

@@ -92,13 +92,23 @@ fn opened(alloc: Global, room: u8, tokens: &[Token]) -> Result<(Not, &[Token]), 
         let (at, rest) = keyword(tokens, Keyword::Not)?;
         let (part, rest) = not(alloc, room, rest)?;
         let part = Box::new(alloc, part)?;
-        return Ok((Not { node: Node::Not(at, part) }, rest));
+        return Ok((
+            Not {
+                node: Node::Not(at, part),
+            },
+            rest,
+        ));
     }
     let (at, rest) = open(tokens)?;
     let (group, rest) = or(alloc, room, rest)?;
     let rest = expect(rest, Token::Close)?;
     let group = Box::new(alloc, group)?;
-    Ok((Not { node: Node::Group(at, group) }, rest))
+    Ok((
+        Not {
+            node: Node::Group(at, group),
+        },
+        rest,
+    ))
 }
 
 #[cycle(condition)]

@@ -1,7 +1,8 @@
 //! The tree of a text: a node for each production of the grammar, its parts in their order.
 //!
 //! A keyword, a name, a number and an opening parenthesis have their offset in the text, a keyword
-//! mostly as the `at` of the node that it begins.
+//! mostly as the `at` of the node that it begins. A contract sees a condition as a tree of the
+//! grammar, and a list as its items, so two trees of one text are equal.
 
 ghost use Rattle.std.specs.Prelude.{◌≡◌, drop};
 ghost use Rattle.std.specs.List.{take_while};
@@ -262,7 +263,7 @@ pub struct Label {
     pub amount: Amount,
 }
 
-/// Parts of a condition with OR between them, those behind the first with the offset of the OR before them.
+/// Parts of a condition with OR between them, each behind the first with the offset of its OR.
 #[derive(Drop)]
 #[cycle(condition)]
 pub struct Or {
@@ -285,12 +286,12 @@ impl Model for Or {
     ghost size = { or_size };
 
     ghost use Rattle.std.proofs.Common.{arith};
-    ghost use Rattle.fcl_syntax.specs.ConditionsFall.{most-ands};
+    ghost use Rattle.fcl_syntax.specs.ConditionsFall.{weight-ands};
 
-    ghost size_decreases = { λ o h. omega (arith, most-ands o.more) };
+    ghost size_decreases = { λ o h. omega (arith, weight-ands o.more) };
 }
 
-/// Parts of a condition with AND between them, those behind the first with the offset of the AND before them.
+/// Parts of a condition with AND between them, each behind the first with the offset of its AND.
 #[derive(Drop)]
 #[cycle(condition)]
 pub struct And {
@@ -313,9 +314,9 @@ impl Model for And {
     ghost size = { and_size };
 
     ghost use Rattle.std.proofs.Common.{arith};
-    ghost use Rattle.fcl_syntax.specs.ConditionsFall.{most-nots};
+    ghost use Rattle.fcl_syntax.specs.ConditionsFall.{weight-nots};
 
-    ghost size_decreases = { λ a h. omega (arith, most-nots a.more) };
+    ghost size_decreases = { λ a h. omega (arith, weight-nots a.more) };
 }
 
 /// A part of a condition.

@@ -1,5 +1,5 @@
 -- A tree without load faults has a block.
-use Rattle.std.proofs.Common.{◌≡◌, ℕ, ◌^◌, ◌<◌, List, [], ◌∷◌, Option, Some, None, length, map, option_map, refl, arith}
+use Rattle.std.proofs.Common.{◌≡◌, ℕ, List, [], ◌∷◌, Option, Some, None, map, option_map, refl}
 use Rattle.std.specs.List.{AllByRecursion}
 use Rattle.fuzzy_meaning.specs.declared.block.Rule.{Rule}
 use Rattle.fcl_syntax.specs.declared.tree.FunctionBlock.{FunctionBlock}

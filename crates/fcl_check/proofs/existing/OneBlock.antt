@@ -1,5 +1,5 @@
 -- A tree has at most one block.
-use Rattle.std.proofs.Common.{◌≡◌, ℕ, List, [], ◌∷◌, map, Option, Some, None, option_and_then, refl, sym, subst, ◌∙◌}
+use Rattle.std.proofs.Common.{◌≡◌, ℕ, List, [], ◌∷◌, map, Option, Some, None, refl, sym, subst, ◌∙◌}
 use Rattle.std.specs.List.{AllZip}
 use Rattle.std.proofs.lemmas.Option.{same_Some, some_pair_parts}
 use Rattle.fz_num.specs.declared.dec.Dec.{Dec}

@@ -57,8 +57,7 @@ module _ {whole : TAnd} {first : TNot} (more : List (ℕ × TNot)) (seen : and_o
       → not_size x.1 < and_size whole
   and_part_falls {read} {i} {x} same within is =
       let here = nots_size-get more i x (rw same at within) in
-      let mine : not_size x.1 ≤ nots_size (nots_of more) = subst (λ (t : ℕ × TNot). not_size t.1 ≤ nots_size (nots_of more))
-      (sym (rw same at is)) here in
+      let mine = subst (λ (t : ℕ × TNot). not_size t.1 ≤ nots_size (nots_of more)) (sym (rw same at is)) here in
       rw (← seen) (omega (arith, mine))
 
   module _ (P : Pair → Type 0) (known : AllByRecursion P (and_pairs whole)) where
@@ -93,8 +92,7 @@ module _ {whole : TOr} {first : TAnd} (more : List (ℕ × TAnd)) (seen : or_of 
       → and_size x.1 < or_size whole
   or_part_falls {read} {i} {x} same within is =
       let here = ands_size-get more i x (rw same at within) in
-      let mine : and_size x.1 ≤ ands_size (ands_of more) = subst (λ (a : ℕ × TAnd). and_size a.1 ≤ ands_size (ands_of more))
-      (sym (rw same at is)) here in
+      let mine = subst (λ (a : ℕ × TAnd). and_size a.1 ≤ ands_size (ands_of more)) (sym (rw same at is)) here in
       rw (← seen) (omega (arith, mine))
 
   module _ (P : Pair → Type 0) (known : AllByRecursion P (or_pairs whole)) where

@@ -1,9 +1,8 @@
 -- The size of the rules of a text is no more than its offsets, and they are not too deep.
 use Rattle.std.proofs.Common.{◌≡◌, ℕ, ◌≤◌, List, [], ◌∷◌, ◌++◌, length, map, refl, ap, ◌∙◌, arith}
-use Rattle.std.specs.Prelude.{All, sum_by}
+use Rattle.std.specs.Prelude.{sum_by}
 use Rattle.std.specs.List.{AllByRecursion, AllZip}
 use Rattle.std.proofs.lemmas.List.{length-map}
-use Rattle.std.proofs.lemmas.List.Elements.{All-from_recursion}
 use Rattle.std.proofs.lemmas.List.Sums.{sum_by-cons}
 use Rattle.fuzzy_meaning.specs.declared.block.Rule.{Rule}
 use Rattle.fuzzy_meaning.specs.Blocks.{rule_size}
@@ -21,7 +20,6 @@ use Rattle.fcl_syntax.specs.View.{view, view_part, view_rule_item, view_rule_lin
 use Rattle.fcl_check.specs.Faults.{conclusions_of}
 use Rattle.fcl_check.specs.Loaded.{IsRuleOf, conclusion_of, literal_of, or_condition}
 use Rattle.fcl_check.proofs.trees.ConditionSizes.{clean_parts, count, count-append, depth_or, nodes_or}
-use Rattle.fcl_check.proofs.lists.Elements.{all_related}
 
 -- ---- a rule
 

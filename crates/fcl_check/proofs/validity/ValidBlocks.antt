@@ -1,6 +1,7 @@
 -- The block of a tree without load faults is valid, where it is not too deep and not too large: as it is
 -- where a text spells the tree.
-use Rattle.std.proofs.Common.{◌≡◌, ℕ, ◌≤◌, Bool, true, false, not, ◌&&◌, List, [], ◌∷◌, length, None, refl, subst, arith}
+use Rattle.std.proofs.Common.{◌≡◌, ℕ, ◌≤◌, Bool, true, false, not, ◌&&◌, List, [], ◌∷◌, length, None, refl, subst}
+use Rattle.std.proofs.Common.{arith}
 use Rattle.std.proofs.Math.Logic.{∥∥₁_elim}
 use Rattle.std.specs.Coded.{Coded-set, Unit-prop, coded_option, le_prop, ×_prop}
 use Rattle.std.specs.Prelude.{is_none, sum_by}

@@ -1,4 +1,4 @@
-use Rattle.std.proofs.Common.{◌<◌, Some, None, length, not, arith, rules, ap, sym, ◌∙◌}
+use Rattle.std.proofs.Common.{◌<◌, Some, None, length, not, rules, ap, sym, ◌∙◌}
 use Rattle.std.proofs.lemmas.List.{append-nil}
 use Rattle.std.proofs.lemmas.Slice.Zip.{all_zipped_more}
 use Rattle.fcl_syntax.specs.declared.tree.Term.{Term}

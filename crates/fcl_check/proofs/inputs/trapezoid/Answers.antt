@@ -1,4 +1,4 @@
-use Rattle.std.proofs.Common.{◌≡◌, [], ◌∷◌, take, refl, arith}
+use Rattle.std.proofs.Common.{◌≡◌, [], ◌∷◌, take, refl}
 use Rattle.std.proofs.lemmas.List.{take_all}
 use Rattle.fcl_check.proofs.courses.CornerSteps.{AreCornersOf-more}
 use Rattle.fcl_check.proofs.faultless.Present.{top_there}
