@@ -7,4 +7,3 @@ pub mod lists
 pub mod trees
 pub mod validity
 pub mod existing
-pub mod alike

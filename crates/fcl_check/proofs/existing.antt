@@ -4,3 +4,4 @@ pub mod FoundOutputs
 pub mod FoundVariables
 pub mod FoundBlocks
 pub mod JudgedTexts
+pub mod OneBlock

@@ -2,5 +2,4 @@ pub mod JoinedParts
 pub mod ConditionTrees
 pub mod ConditionSizes
 pub mod RuleSizes
-pub mod WholeConditions
 pub mod ConditionNodes

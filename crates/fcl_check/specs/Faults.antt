@@ -4,7 +4,6 @@ use Rattle.std.specs.Prelude.{length, map, Result, Ok, Err, Option, Some, None, 
 use Rattle.std.specs.List.{filter, flat_map, list_any}
 use Rattle.fcl_syntax.specs.Grammar.{TNot, neg, group, is, lone, TNots, no_nots, more_nots, TAnd, and_of, TAnds}
 use Rattle.fcl_syntax.specs.Grammar.{no_ands, more_ands, TOr, or_of}
-use Rattle.fcl_syntax.specs.View.{view_or}
 use Rattle.fcl_syntax.specs.declared.tree.Conclusion.{Conclusion}
 use Rattle.fcl_syntax.specs.declared.tree.DefuzzyLine.{DefuzzyLine}
 use Rattle.fcl_syntax.specs.declared.tree.DefuzzyLine.TheVariants as defuzzy
@@ -58,10 +57,10 @@ abbrev mutual
   or_pairs (or_of a items) = and_pairs a ++ ands_pairs items
 
 abbrev pub condition_pairs : Rule → List Pair
-condition_pairs r = or_pairs (view_or r.condition)
+condition_pairs r = or_pairs r.condition
 
 abbrev pub conclusions_of : Rule → List Conclusion
-conclusions_of r = r.first ∷ r.more.items
+conclusions_of r = r.first ∷ r.more
 
 -- ---- lines that may stand once in their section
 
@@ -141,8 +140,8 @@ module _ (text : List ℕ) (b : FunctionBlock) where
   same_output_line l m = same_kind l m
 
   abbrev pub repeated_lines : Part → List ℕ
-  repeated_lines (part.Fuzzify s) = repeated same_line line_at s.lines.items
-  repeated_lines (part.Defuzzify s) = repeated same_output_line output_line_at s.lines.items
+  repeated_lines (part.Fuzzify s) = repeated same_line line_at s.lines
+  repeated_lines (part.Defuzzify s) = repeated same_output_line output_line_at s.lines
 
   abbrev pub same_section : Part → Part → Bool
   same_section p q = same_name (section_name p) (section_name q)
@@ -153,8 +152,8 @@ module _ (text : List ℕ) (b : FunctionBlock) where
 
   abbrev pub twice : List ℕ
   twice = repeated same_declared (λ (d : Declared). d.1.at) (declared_in b)
-      ++ (at_each repeated_section [] b.parts.items
-      ++ repeated same_rule_line rule_line_at b.rules.lines.items)
+      ++ (at_each repeated_section [] b.parts
+      ++ repeated same_rule_line rule_line_at b.rules.lines)
 
   -- ---- Unknown
 
@@ -177,15 +176,15 @@ module _ (text : List ℕ) (b : FunctionBlock) where
   unknown_section p = at_if (is_none (direction (section_name p))) (section_name p).at
 
   abbrev pub unknown : List ℕ
-  unknown = flat_map unknown_section b.parts.items ++ flat_map unknown_in b.rules.rules.items
+  unknown = flat_map unknown_section b.parts ++ flat_map unknown_in b.rules.rules
 
   -- ---- TooMany: the inputs behind 8 others, the outputs behind 4, the terms behind 15 and the rules
   -- behind 256
 
   abbrev pub too_many : List ℕ
   too_many = at_each (λ (before : List Declared) (d : Declared). at_if (is_over before d) d.1.at) [] (declared_in b)
-      ++ (flat_map terms_over_limit b.parts.items
-      ++ map (λ (r : Rule). r.at) (drop 256 b.rules.rules.items))
+      ++ (flat_map terms_over_limit b.parts
+      ++ map (λ (r : Rule). r.at) (drop 256 b.rules.rules))
 
   -- ---- WrongSide: names that are declared, but in the other direction
 
@@ -201,7 +200,7 @@ module _ (text : List ℕ) (b : FunctionBlock) where
       ++ flat_map (λ (c : Conclusion). mistaken Output c.variable) (conclusions_of r)
 
   abbrev pub wrong_side : List ℕ
-  wrong_side = flat_map mistaken_section b.parts.items ++ flat_map mistaken_in b.rules.rules.items
+  wrong_side = flat_map mistaken_section b.parts ++ flat_map mistaken_in b.rules.rules
 
   -- ---- MissingPart: a variable without its section, at its declared name; METHOD or DEFAULT; an
   -- input, an output or a rule, at END_FUNCTION_BLOCK
@@ -213,11 +212,11 @@ module _ (text : List ℕ) (b : FunctionBlock) where
   has_direction side = list_any (λ (d : Declared). is_direction side d.0) (declared_in b)
 
   abbrev pub is_whole : Bool
-  is_whole = has_direction Input && has_direction Output && not (is_none (slice_get b.rules.rules.items 0))
+  is_whole = has_direction Input && has_direction Output && not (is_none (slice_get b.rules.rules 0))
 
   abbrev pub missing_part : List ℕ
   missing_part = flat_map without_section (declared_in b)
-      ++ (flat_map incomplete b.parts.items
+      ++ (flat_map incomplete b.parts
       ++ at_if (not is_whole) b.end)
 
   -- ---- the kinds in their order, each with all its places in the text's order
@@ -226,14 +225,14 @@ module _ (text : List ℕ) (b : FunctionBlock) where
   kinds =
       (load.Twice, twice)
       ∷ (load.Unknown, unknown)
-      ∷ (load.NoTerms, flat_map without_terms b.parts.items)
+      ∷ (load.NoTerms, flat_map without_terms b.parts)
       ∷ (load.TooMany, too_many)
-      ∷ (load.PointsNotAscending, flat_map falling_points b.parts.items)
-      ∷ (load.TermShape, flat_map shapeless_terms b.parts.items)
-      ∷ (load.TermOutside, flat_map points_outside b.parts.items)
-      ∷ (load.BadRange, flat_map (bad_range (is_declared_as Input)) b.parts.items)
-      ∷ (load.SingletonOutside, flat_map numbers_outside b.parts.items)
-      ∷ (load.WeightOutside, flat_map weight_outside b.rules.rules.items)
+      ∷ (load.PointsNotAscending, flat_map falling_points b.parts)
+      ∷ (load.TermShape, flat_map shapeless_terms b.parts)
+      ∷ (load.TermOutside, flat_map points_outside b.parts)
+      ∷ (load.BadRange, flat_map (bad_range (is_declared_as Input)) b.parts)
+      ∷ (load.SingletonOutside, flat_map numbers_outside b.parts)
+      ∷ (load.WeightOutside, flat_map weight_outside b.rules.rules)
       ∷ (load.WrongSide, wrong_side)
       ∷ (load.MissingPart, missing_part)
       ∷ []

@@ -9,4 +9,4 @@ pub record Knows (tree : Tree) (names : Names) : Type 0 where
   pub declared : names.declared.items ≡ declared_in tree.block
   pub variables : (ls : List ℕ) → at_letters names.variables ls ≡
       variable_in tree.text.items (declared_in tree.block) ls
-  pub sections : HoldsSections tree.text.items tree.block.parts.items names.sections
+  pub sections : HoldsSections tree.text.items tree.block.parts names.sections

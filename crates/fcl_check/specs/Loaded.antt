@@ -11,7 +11,6 @@ use Rattle.fuzzy_meaning.specs.declared.block.Rule.{Rule}
 use Rattle.fuzzy_meaning.specs.declared.block.Trapezoid.{Trapezoid}
 use Rattle.fcl_syntax.specs.Grammar.{TNot, neg, group, is, lone, TNots, no_nots, more_nots, TAnd, and_of, TAnds}
 use Rattle.fcl_syntax.specs.Grammar.{no_ands, more_ands, TOr, or_of}
-use Rattle.fcl_syntax.specs.View.{view_or}
 use Rattle.fcl_syntax.specs.declared.tree.Conclusion.{Conclusion}
 use Rattle.fcl_syntax.specs.declared.tree.Defuzzify.{Defuzzify}
 use Rattle.fcl_syntax.specs.declared.tree.Direction.{Direction}
@@ -147,7 +146,7 @@ module _ (text : List ℕ) (b : FunctionBlock) where
   conclusion_of c = numbers_of side.Output c.variable c.term
 
   pub record IsRuleOf (r : RuleNode) (q : Rule) : Type 0 where
-    pub condition : q.cond ≡ or_condition literal_of (view_or r.condition)
+    pub condition : q.cond ≡ or_condition literal_of r.condition
     pub weight : number_of q.weight ≡ option_map (λ (w : Weight). value w.value) r.weight
     pub conclusions : q.concl ≡ map conclusion_of (conclusions_of r)
 
@@ -163,4 +162,4 @@ module _ (text : List ℕ) (b : FunctionBlock) where
   pub record IsBlockOf (block : Block) : Type 0 where
     pub inputs : AllZip IsInputNamed (declared_as side.Input b) block.inputs
     pub outputs : AllZip IsOutputNamed (declared_as side.Output b) block.outputs
-    pub rules : AllZip IsRuleOf b.rules.rules.items block.rules
+    pub rules : AllZip IsRuleOf b.rules.rules block.rules

@@ -45,14 +45,14 @@ term_of (fuzzy.Term t) = Some t
 term_of (fuzzy.Range r) = None
 
 abbrev pub terms_of : Fuzzify → List Term
-terms_of s = filter_map term_of s.lines.items
+terms_of s = filter_map term_of s.lines
 
 abbrev pub singleton_of : DefuzzyLine → Option Singleton
 singleton_of (defuzzy.Singleton s) = Some s
 singleton_of _ = None
 
 abbrev pub singletons_of : Defuzzify → List Singleton
-singletons_of s = filter_map singleton_of s.lines.items
+singletons_of s = filter_map singleton_of s.lines
 
 abbrev pub section_name : Part → Name
 section_name (part.Fuzzify s) = s.name
@@ -67,10 +67,10 @@ singleton_names s = map (λ (t : Singleton). t.name) (singletons_of s)
 -- the declared variables in the text's order
 abbrev pub declared_by : Variables → List Declared
 declared_by v = flat_map
-    (λ (d : Declaration). map (λ (n : Name). (v.direction, n)) (d.first ∷ d.more.items)) v.declarations.items
+    (λ (d : Declaration). map (λ (n : Name). (v.direction, n)) (d.first ∷ d.more)) v.declarations
 
 abbrev pub declared_in : FunctionBlock → List Declared
-declared_in b = flat_map declared_by b.variables.items
+declared_in b = flat_map declared_by b.variables
 
 abbrev pub declared_as : Direction → FunctionBlock → List Name
 declared_as direction b =
@@ -99,7 +99,7 @@ module _ (text : List ℕ) where
 
   -- the first section of a name
   abbrev pub section_of : FunctionBlock → List ℕ → Option Part
-  section_of b ls = find (λ p. is_named ls (section_name p)) b.parts.items
+  section_of b ls = find (λ p. is_named ls (section_name p)) b.parts
 
   -- the section of a name, of the sort that inputs have or of the sort that outputs have
   abbrev pub fuzzify_of : FunctionBlock → List ℕ → Option Fuzzify

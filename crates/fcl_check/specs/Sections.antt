@@ -53,7 +53,7 @@ is_one (degree.Minus n) = false
 is_one (degree.Bare n) = n.is_one
 
 abbrev pub points_of : Term → List Point
-points_of t = t.first ∷ t.more.items
+points_of t = t.first ∷ t.more
 
 abbrev pub x_of : Point → ℤ
 x_of p = value p.x
@@ -94,14 +94,14 @@ range_line (fuzzy.Range r) = Some r
 
 -- the RANGE of a section, where it has one
 abbrev pub fuzzy_range : Fuzzify → Option Range
-fuzzy_range s = first (filter_map range_line s.lines.items)
+fuzzy_range s = first (filter_map range_line s.lines)
 
 abbrev pub output_range_line : DefuzzyLine → Option Range
 output_range_line (defuzzy.Range r) = Some r
 output_range_line _ = None
 
 abbrev pub defuzzy_range : Defuzzify → Option Range
-defuzzy_range s = first (filter_map output_range_line s.lines.items)
+defuzzy_range s = first (filter_map output_range_line s.lines)
 
 -- the numbers of all points
 abbrev pub abscissas : Fuzzify → List ℤ
@@ -118,7 +118,7 @@ number_line (defuzzy.Default d) = option_map (λ (n : SignedNumber). (value n, d
 number_line _ = None
 
 abbrev pub output_numbers : Defuzzify → List (ℤ × ℕ)
-output_numbers s = filter_map number_line s.lines.items
+output_numbers s = filter_map number_line s.lines
 
 -- ---- faults of one section
 
@@ -199,9 +199,9 @@ default_line (defuzzy.Default d) = Some d
 default_line _ = None
 
 abbrev pub default_of : Defuzzify → Option Fallback
-default_of s = first (filter_map default_line s.lines.items)
+default_of s = first (filter_map default_line s.lines)
 
 abbrev pub incomplete : Part → List ℕ
 incomplete (part.Fuzzify s) = []
 incomplete (part.Defuzzify s) =
-    at_if (is_none (first (filter_map method_line s.lines.items)) || is_none (default_of s)) s.end
+    at_if (is_none (first (filter_map method_line s.lines)) || is_none (default_of s)) s.end

@@ -31,11 +31,10 @@ SpelledBlocksAreValid = (text : List ℕ) (b : FunctionBlock) (block : Block) �
     → SpellsTree text (view b) → first_fault (str_to_ascii_lowercase text) b ≡ None
     → IsBlockOf (str_to_ascii_lowercase text) b block → IsValid block
 
--- A tree that a text of at most 1048576 bytes spells and that has no load fault has a block.
-abbrev pub SpelledTreesHaveBlocks : Type 0
-SpelledTreesHaveBlocks = (text : List ℕ) (b : FunctionBlock) → length text ≤ 1048576 → SpellsTree text (view b)
-    → first_fault (str_to_ascii_lowercase text) b ≡ None
-    → (block : Block) × IsBlockOf (str_to_ascii_lowercase text) b block
+-- A tree that has no load fault has a block.
+abbrev pub TreesHaveBlocks : Type 0
+TreesHaveBlocks =
+    (letters : List ℕ) (b : FunctionBlock) → first_fault letters b ≡ None → (block : Block) × IsBlockOf letters b block
 
 -- A text has at most one load fault, and none where it spells a block.
 abbrev pub LoadFaultsAreOne : Type 0

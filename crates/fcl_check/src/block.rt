@@ -53,7 +53,7 @@ fn conclusions(
 {
     let mut places = Vec::new(source.alloc);
     places.push(conclusion(source, &rule.first))?;
-    'each: for more in &rule.more {
+    'each: for more in rule.more.as_slice() {
         places.push(conclusion(source, more))?;
     }
     Ok(places)
@@ -74,10 +74,10 @@ fn rule(source: &Source<'_, '_>, rule: &fcl_syntax::Rule) -> Result<fuzzy_meanin
 
 fn rules(source: &Source<'_, '_>) -> Result<Vec<fuzzy_meaning::Rule>, AllocError>
     ensures { IfOk result (λ v. AllZip (IsRuleOf source.now.tree.now.text.items source.now.tree.now.block)
-        source.now.tree.now.block.rules.rules.items v.items) }
+        source.now.tree.now.block.rules.rules v.items) }
 {
     let mut rules = Vec::new(source.alloc);
-    'each: for next in &source.tree.block.rules.rules {
+    'each: for next in source.tree.block.rules.rules.as_slice() {
         let next = rule(source, next)?;
         rules.push(next)?;
     }

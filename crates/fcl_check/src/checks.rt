@@ -46,14 +46,14 @@ fn first_in<S: Fn(&Part) -> Option<u32>, R: Fn(&RuleNames<'_>) -> Option<u32>>(
 ) -> Option<u32>
     requires section { S.IsAlwaysCallable section }
     requires rule { R.IsAlwaysCallable rule }
-    requires rules { map (λ (n : RuleNames). n.rule.now) rules.now ≡ tree.now.block.rules.rules.items }
+    requires rules { map (λ (n : RuleNames). n.rule.now) rules.now ≡ tree.now.block.rules.rules }
     ensures { (in_section : PartNode → List ℕ) (in_rule : RuleNode → List ℕ)
         → ((p : PartNode) (at : Option ℕ) → FnReturnsAt S.Fn section p at → at ≡ first (in_section p))
         → ((n : RuleNames) (at : Option ℕ) → FnReturnsAt R.Fn rule n at → at ≡ first (in_rule n.rule.now))
-        → result ≡ first (flat_map in_section tree.now.block.parts.items ++ flat_map in_rule
-        tree.now.block.rules.rules.items) }
+        → result ≡ first (flat_map in_section tree.now.block.parts ++ flat_map in_rule
+        tree.now.block.rules.rules) }
 {
-    match first_at(&tree.block.parts, section) {
+    match first_at(tree.block.parts.as_slice(), section) {
         Some(at) => Some(at),
         None => first_at(rules, rule),
     }
@@ -62,7 +62,7 @@ fn first_in<S: Fn(&Part) -> Option<u32>, R: Fn(&RuleNames<'_>) -> Option<u32>>(
 /// A name of a section or of a rule that is unknown.
 pub fn unknown(names: &Names<'_>, tree: &Tree, rules: &[RuleNames<'_>]) -> Option<u32>
     requires known { Knows tree.now names.now }
-    requires rules { map (λ (n : RuleNames). n.rule.now) rules.now ≡ tree.now.block.rules.rules.items }
+    requires rules { map (λ (n : RuleNames). n.rule.now) rules.now ≡ tree.now.block.rules.rules }
     ensures { result ≡ first (unknown tree.now.text.items tree.now.block) }
 {
     first_in(
@@ -141,8 +141,8 @@ pub fn too_many(names: &Names<'_>, tree: &Tree) -> Option<u32>
     ensures { result ≡ first (too_many tree.now.text.items tree.now.block) }
 {
     declared_over_limit(&names.declared)
-        .or_else(|| terms_over_limit(&tree.block.parts))
-        .or_else(|| rule_over_limit(&tree.block.rules.rules))
+        .or_else(|| terms_over_limit(tree.block.parts.as_slice()))
+        .or_else(|| rule_over_limit(tree.block.rules.rules.as_slice()))
 }
 
 /// A point that lies below the one before it.
@@ -170,9 +170,12 @@ pub fn term_outside(parts: &[Part]) -> Option<u32>
 pub fn bad_ranges(names: &Names<'_>, tree: &Tree) -> Option<u32>
     requires { Knows tree.now names.now }
     ensures { result ≡ first (flat_map (bad_range
-        (is_declared_as tree.now.text.items tree.now.block side.Input)) tree.now.block.parts.items) }
+        (is_declared_as tree.now.text.items tree.now.block side.Input)) tree.now.block.parts) }
 {
-    first_at(&tree.block.parts, |part| bad_range(names, tree, part))
+    first_at(
+        tree.block.parts.as_slice(),
+        |part| bad_range(names, tree, part),
+    )
 }
 
 /// A singleton or DEFAULT outside its RANGE.
@@ -192,7 +195,7 @@ pub fn weights_outside(rules: &[Rule]) -> Option<u32>
 /// An output where an input belongs, or the other way round.
 pub fn wrong_side(names: &Names<'_>, tree: &Tree, rules: &[RuleNames<'_>]) -> Option<u32>
     requires known { Knows tree.now names.now }
-    requires rules { map (λ (n : RuleNames). n.rule.now) rules.now ≡ tree.now.block.rules.rules.items }
+    requires rules { map (λ (n : RuleNames). n.rule.now) rules.now ≡ tree.now.block.rules.rules }
     ensures { result ≡ first (wrong_side tree.now.text.items tree.now.block) }
 {
     first_in(
@@ -239,7 +242,7 @@ fn is_whole(names: &Names<'_>, tree: &Tree) -> bool
 {
     has_direction(&names.declared, Direction::Input)
         && has_direction(&names.declared, Direction::Output)
-        && !tree.block.rules.rules.is_empty()
+        && !tree.block.rules.rules.as_slice().is_empty()
 }
 
 /// A section, a line of one, an input, an output or a rule that is missing.
@@ -251,7 +254,7 @@ pub fn missing_part(names: &Names<'_>, tree: &Tree) -> Option<u32>
     if let Some(at) = without_section(names, tree) {
         return Some(at);
     }
-    match first_at(&tree.block.parts, incomplete) {
+    match first_at(tree.block.parts.as_slice(), incomplete) {
         None if !is_whole(names, tree) => Some(tree.block.end),
         at => at,
     }

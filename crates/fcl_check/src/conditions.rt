@@ -3,15 +3,13 @@
 //! The recursion goes down with what is open at once, which is at most 64 in the tree of a text.
 
 ghost use Rattle.std.specs.Prelude.{◌≡◌, IfOk};
-ghost use Rattle.fuzzy_meaning.specs.Conditions.{negation};
-ghost use Rattle.fcl_syntax.specs.View.{view_not, view_and, view_or};
 ghost use Rattle.fcl_check.specs.Faults.{and_pairs, not_pairs, or_pairs};
 ghost use Rattle.fcl_check.specs.Loaded.{literal_of, negated, not_condition, and_condition, or_condition};
 ghost use Rattle.fcl_check.specs.WellFormed.{AreKnown, IsKnown};
 ghost use Rattle.fcl_syntax.specs.declared.tree.Direction.TheVariants.{Input as InputSide};
 
 use crate::source::{Source, numbers};
-use fcl_syntax::{And, Direction, Not, Operand, Or};
+use fcl_syntax::{And, Direction, Node, Not, Operand, Or};
 use fuzzy_meaning::Condition;
 use std::alloc::AllocError;
 
@@ -30,33 +28,23 @@ fn literal(source: &Source<'_, '_>, operand: &Operand) -> Result<Condition, Allo
 }
 
 #[cycle(condition)]
-fn not(source: &Source<'_, '_>, not: &Not) -> Result<Condition, AllocError>
-    requires { AreKnown source.now.tree.now.text.items source.now.tree.now.block (not_pairs (view_not not.now)) }
+fn not(source: &Source<'_, '_>, part: &Not) -> Result<Condition, AllocError>
+    requires { AreKnown source.now.tree.now.text.items source.now.tree.now.block (not_pairs part.now) }
     ensures { IfOk result (λ c. c ≡
-        not_condition (literal_of source.now.tree.now.text.items source.now.tree.now.block) (view_not not.now)) }
+        not_condition (literal_of source.now.tree.now.text.items source.now.tree.now.block) part.now) }
 {
-    match not {
-        Not::Is(operand) => literal(source, operand),
-        Not::Not(_, part) => negated(source, part),
-        Not::Group(_, group) => or(source, group),
+    match &part.node {
+        Node::Is(operand) => literal(source, operand),
+        Node::Not(_, inner) => Condition::not(source.alloc, not(source, inner)?),
+        Node::Group(_, group) => or(source, group),
     }
 }
 
 #[cycle(condition)]
-fn negated(source: &Source<'_, '_>, part: &Not) -> Result<Condition, AllocError>
-    requires { AreKnown source.now.tree.now.text.items source.now.tree.now.block (not_pairs (view_not part.now)) }
-    ensures { IfOk result (λ c. c ≡ negation (not_condition
-        (literal_of source.now.tree.now.text.items source.now.tree.now.block) (view_not part.now))) }
-{
-    let part = not(source, part)?;
-    Condition::not(source.alloc, part)
-}
-
-#[cycle(condition)]
 fn and(source: &Source<'_, '_>, and: &And) -> Result<Condition, AllocError>
-    requires { AreKnown source.now.tree.now.text.items source.now.tree.now.block (and_pairs (view_and and.now)) }
+    requires { AreKnown source.now.tree.now.text.items source.now.tree.now.block (and_pairs and.now) }
     ensures { IfOk result (λ c. c ≡
-        and_condition (literal_of source.now.tree.now.text.items source.now.tree.now.block) (view_and and.now)) }
+        and_condition (literal_of source.now.tree.now.text.items source.now.tree.now.block) and.now) }
 {
     let first = not(source, &and.first)?;
     if and.more.is_empty() {
@@ -64,8 +52,8 @@ fn and(source: &Source<'_, '_>, and: &And) -> Result<Condition, AllocError>
     }
     let mut parts = Vec::new(source.alloc);
     parts.push(first)?;
-    'each: for conjunct in &and.more {
-        let part = not(source, &conjunct.not)?;
+    'each: for (_, conjunct) in &and.more {
+        let part = not(source, conjunct)?;
         parts.push(part)?;
     }
     Ok(Condition::all(parts))
@@ -74,9 +62,9 @@ fn and(source: &Source<'_, '_>, and: &And) -> Result<Condition, AllocError>
 /// The condition of a rule: its parts with OR between them, or the one part that it has.
 #[cycle(condition)]
 pub fn or(source: &Source<'_, '_>, or: &Or) -> Result<Condition, AllocError>
-    requires { AreKnown source.now.tree.now.text.items source.now.tree.now.block (or_pairs (view_or or.now)) }
+    requires { AreKnown source.now.tree.now.text.items source.now.tree.now.block (or_pairs or.now) }
     ensures { IfOk result (λ c. c ≡
-        or_condition (literal_of source.now.tree.now.text.items source.now.tree.now.block) (view_or or.now)) }
+        or_condition (literal_of source.now.tree.now.text.items source.now.tree.now.block) or.now) }
 {
     let first = and(source, &or.first)?;
     if or.more.is_empty() {
@@ -84,8 +72,8 @@ pub fn or(source: &Source<'_, '_>, or: &Or) -> Result<Condition, AllocError>
     }
     let mut parts = Vec::new(source.alloc);
     parts.push(first)?;
-    'each: for alternative in &or.more {
-        let part = and(source, &alternative.and)?;
+    'each: for (_, alternative) in &or.more {
+        let part = and(source, alternative)?;
         parts.push(part)?;
     }
     Ok(Condition::any(parts))

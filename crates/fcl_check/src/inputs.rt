@@ -62,7 +62,7 @@ fn trapezoid(term: &Term) -> Trapezoid
         d: None,
     };
     let mut corners = none.with(&term.first);
-    for point in &term.more {
+    for point in term.more.as_slice() {
         corners = corners.with(point);
     }
     let (b, c) = corners.top.unwrap();
@@ -79,7 +79,7 @@ fn terms(alloc: Global, section: &Fuzzify) -> Result<Vec<Trapezoid>, AllocError>
     ensures same { IfOk result (λ v. AllZip IsTermOf (terms_of section.now) v.items) }
 {
     let mut terms = Vec::new(alloc);
-    'each: for line in &section.lines {
+    'each: for line in section.lines.as_slice() {
         if let FuzzyLine::Term(term) = line {
             terms.push(trapezoid(term))?;
         }

@@ -4,8 +4,7 @@ ghost use Rattle.fcl_check.specs.OneBlock.{BlocksAreOne, SpelledBlocksAreOne};
 ghost use Rattle.fcl_check.specs.Courses.{CourseLaw};
 ghost use Rattle.fcl_check.specs.Kept.{NumbersAreKept};
 ghost use Rattle.fcl_check.specs.Order.{PlacesAscend};
-ghost use Rattle.fcl_check.specs.Texts.{EachTextIsJudged, LoadFaultsAreOne, SpelledBlocksAreValid};
-ghost use Rattle.fcl_check.specs.Texts.{SpelledTreesHaveBlocks};
+ghost use Rattle.fcl_check.specs.Texts.{EachTextIsJudged, LoadFaultsAreOne, SpelledBlocksAreValid, TreesHaveBlocks};
 
 use fcl_syntax::{each_text_is_read, numbers_in_scale, offsets_ascend, trees_are_one};
 
@@ -26,13 +25,11 @@ pub fn spelled_blocks_are_valid()
     offsets_ascend()
 }
 
-/// A tree of a text of at most 1048576 bytes lacks nothing that a block needs unless it has a load
-/// fault: without one it has a block, which [`load`](crate::load) builds.
-pub fn spelled_trees_have_blocks()
-    ensures { SpelledTreesHaveBlocks }
-{
-    offsets_ascend()
-}
+/// A tree lacks nothing that a block needs unless it has a load fault: without one it has a block,
+/// which [`load`](crate::load) builds.
+pub fn trees_have_blocks()
+    ensures { TreesHaveBlocks }
+{}
 
 /// A loaded number is the token's number with its sign: no text has one beyond the scale, where it
 /// would be taken for the end of the scale.
@@ -51,7 +48,8 @@ pub fn blocks_are_one()
 pub fn spelled_blocks_are_one()
     ensures { SpelledBlocksAreOne }
 {
-    trees_are_one()
+    trees_are_one();
+    blocks_are_one()
 }
 
 /// A text has at most one load fault, and none where it spells a block: neither hangs on the tree that
@@ -69,7 +67,7 @@ pub fn each_text_is_judged()
 {
     each_text_is_read();
     spelled_blocks_are_valid();
-    spelled_trees_have_blocks()
+    trees_have_blocks()
 }
 
 /// Where the points of a term ascend and their degrees are zeros, then ones, then zeros, the degree

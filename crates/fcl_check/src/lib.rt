@@ -26,6 +26,6 @@ mod walk;
 pub use fault::LoadFault;
 pub use laws::{
     blocks_are_one, course_law, each_text_is_judged, load_faults_are_one, numbers_are_kept,
-    places_ascend, spelled_blocks_are_one, spelled_blocks_are_valid, spelled_trees_have_blocks,
+    places_ascend, spelled_blocks_are_one, spelled_blocks_are_valid, trees_have_blocks,
 };
 pub use loading::load;

@@ -34,11 +34,11 @@ macro_rules! refuse {
 #[tactic(auto, using(crate::proofs::faultless::FaultKinds::first_fault_by_kinds))]
 fn first_fault(names: &Names<'_>, tree: &Tree, rules: &[RuleNames<'_>]) -> Option<LoadFault>
     requires known { Knows tree.now names.now }
-    requires rules { map (λ (n : RuleNames). n.rule.now) rules.now ≡ tree.now.block.rules.rules.items }
+    requires rules { map (λ (n : RuleNames). n.rule.now) rules.now ≡ tree.now.block.rules.rules }
     requires once { twice tree.now.text.items tree.now.block ≡ [] }
     ensures { result ≡ first_fault tree.now.text.items tree.now.block }
 {
-    let parts = &tree.block.parts;
+    let parts = tree.block.parts.as_slice();
     refuse!(unknown(names, tree, rules), LoadFault::Unknown);
     refuse!(no_terms(parts), LoadFault::NoTerms);
     refuse!(too_many(names, tree), LoadFault::TooMany);
@@ -48,7 +48,7 @@ fn first_fault(names: &Names<'_>, tree: &Tree, rules: &[RuleNames<'_>]) -> Optio
     refuse!(bad_ranges(names, tree), LoadFault::BadRange);
     refuse!(singletons_outside(parts), LoadFault::SingletonOutside);
     refuse!(
-        weights_outside(&tree.block.rules.rules),
+        weights_outside(tree.block.rules.rules.as_slice()),
         LoadFault::WeightOutside
     );
     refuse!(wrong_side(names, tree, rules), LoadFault::WrongSide);
@@ -66,7 +66,7 @@ pub fn load(alloc: Global, tree: &Tree) -> Result<Block, LoadFault>
     ensures valid { IfOk result IsValid }
 {
     let names = Names::of(alloc, tree)?;
-    let rules = operands(alloc, &tree.block.rules.rules)?;
+    let rules = operands(alloc, tree.block.rules.rules.as_slice())?;
     if let Some(fault) = first_fault(&names, tree, &rules) {
         return Err(fault);
     }

@@ -53,10 +53,10 @@ impl<'a> Names<'a> {
         ensures names { IfOk result (Knows tree.now) }
         ensures fault { Answers result (option_map load.Twice (first (twice tree.now.text.items tree.now.block))) }
     {
-        let declared = declared(alloc, &tree.block.variables)?;
+        let declared = declared(alloc, tree.block.variables.as_slice())?;
         let variables = variables(alloc, tree, &declared)?;
         let sections = sections(alloc, tree)?;
-        rule_lines(&tree.block.rules.lines)?;
+        rule_lines(tree.block.rules.lines.as_slice())?;
         Ok(Names {
             declared,
             variables,
@@ -120,10 +120,10 @@ fn push_declaration(
     declaration: &Declaration,
 ) -> Result<(), AllocError>
     ensures { OnOk result (into.new.items ≡ into.old.items ++ map
-        (λ n. (direction, n)) (declaration.now.first ∷ declaration.now.more.items)) }
+        (λ n. (direction, n)) (declaration.now.first ∷ declaration.now.more)) }
 {
     into.push((direction, declaration.first))?;
-    'each: for name in &declaration.more {
+    'each: for name in declaration.more.as_slice() {
         into.push((direction, *name))?;
     }
     Ok(())
@@ -135,7 +135,7 @@ fn push_variables(
 ) -> Result<(), AllocError>
     ensures { OnOk result (into.new.items ≡ into.old.items ++ declared_by variables.now) }
 {
-    'each: for declaration in &variables.declarations {
+    'each: for declaration in variables.declarations.as_slice() {
         push_declaration(into, variables.direction, declaration)?;
     }
     Ok(())
@@ -255,7 +255,7 @@ fn fuzzy_terms<'a>(
 {
     let mut terms = BTreeMap::new(alloc);
     let mut has_range = false;
-    'each: for line in &section.lines {
+    'each: for line in section.lines.as_slice() {
         match line {
             FuzzyLine::Term(term) => add_term(&mut terms, tree, term.name)?,
             FuzzyLine::Range(range) => {
@@ -312,7 +312,7 @@ fn defuzzy_terms<'a>(
     let mut terms = BTreeMap::new(alloc);
     // The other lines, at most one of each kind.
     let mut others: Vec<DefuzzyLine> = Vec::new(alloc);
-    'each: for line in &section.lines {
+    'each: for line in section.lines.as_slice() {
         if let DefuzzyLine::Singleton(singleton) = line {
             add_term(&mut terms, tree, singleton.name)?;
         } else {
@@ -343,12 +343,12 @@ fn terms<'a>(
 
 // The sections by the letters of their names.
 fn sections(alloc: Global, tree: &Tree) -> Result<BTreeMap<&[u8], Section<'_>>, LoadFault>
-    ensures sections { IfOk result (HoldsSections tree.now.text.items tree.now.block.parts.items) }
+    ensures sections { IfOk result (HoldsSections tree.now.text.items tree.now.block.parts) }
     ensures fault { Answers result (option_map load.Twice (first (at_each
-        (repeated_section tree.now.text.items tree.now.block) [] tree.now.block.parts.items))) }
+        (repeated_section tree.now.text.items tree.now.block) [] tree.now.block.parts))) }
 {
     let mut sections = BTreeMap::new(alloc);
-    'each: for part in &tree.block.parts {
+    'each: for part in tree.block.parts.as_slice() {
         let name = section_name(part);
         if sections.contains_key(tree.letters(name)) {
             return Err(LoadFault::Twice(name.at));

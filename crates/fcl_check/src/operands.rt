@@ -1,11 +1,10 @@
 //! The names in the conditions of rules.
 
 ghost use Rattle.std.specs.Prelude.{◌≡◌, ◌++◌, map, IfOk, OnOk};
-ghost use Rattle.fcl_syntax.specs.View.{view_and, view_not, view_or};
 ghost use Rattle.fcl_check.specs.Faults.{and_pairs, condition_pairs, not_pairs, or_pairs};
 ghost use Rattle.fcl_check.specs.Steps.{pair_of};
 
-use fcl_syntax::{And, Not, Operand, Or, Rule};
+use fcl_syntax::{And, Node, Not, Operand, Or, Rule};
 use std::alloc::{AllocError, Global};
 
 /// A rule with the operands of its condition in the text's order.
@@ -28,34 +27,34 @@ impl<'a> RuleNames<'a> {
 
 #[cycle(operands)]
 fn push_or(into: &mut Vec<Operand>, or: &Or) -> Result<(), AllocError>
-    ensures { OnOk result (map pair_of into.new.items ≡ map pair_of into.old.items ++ or_pairs (view_or or.now)) }
+    ensures { OnOk result (map pair_of into.new.items ≡ map pair_of into.old.items ++ or_pairs or.now) }
 {
     push_and(into, &or.first)?;
-    for alternative in &or.more {
-        push_and(into, &alternative.and)?;
+    for (_, alternative) in &or.more {
+        push_and(into, alternative)?;
     }
     Ok(())
 }
 
 #[cycle(operands)]
 fn push_and(into: &mut Vec<Operand>, and: &And) -> Result<(), AllocError>
-    ensures { OnOk result (map pair_of into.new.items ≡ map pair_of into.old.items ++ and_pairs (view_and and.now)) }
+    ensures { OnOk result (map pair_of into.new.items ≡ map pair_of into.old.items ++ and_pairs and.now) }
 {
     push_not(into, &and.first)?;
-    for conjunct in &and.more {
-        push_not(into, &conjunct.not)?;
+    for (_, conjunct) in &and.more {
+        push_not(into, conjunct)?;
     }
     Ok(())
 }
 
 #[cycle(operands)]
 fn push_not(into: &mut Vec<Operand>, not: &Not) -> Result<(), AllocError>
-    ensures { OnOk result (map pair_of into.new.items ≡ map pair_of into.old.items ++ not_pairs (view_not not.now)) }
+    ensures { OnOk result (map pair_of into.new.items ≡ map pair_of into.old.items ++ not_pairs not.now) }
 {
-    match not {
-        Not::Not(_, part) => push_not(into, part),
-        Not::Group(_, group) => push_or(into, group),
-        Not::Is(operand) => {
+    match &not.node {
+        Node::Not(_, part) => push_not(into, part),
+        Node::Group(_, group) => push_or(into, group),
+        Node::Is(operand) => {
             into.push(*operand)?;
             Ok(())
         }

@@ -24,7 +24,7 @@ use std::alloc::{AllocError, Global};
 fn fallback(section: &Defuzzify) -> Option<Fallback>
     ensures { result ≡ default_of section.now }
 {
-    for line in &section.lines {
+    for line in section.lines.as_slice() {
         if let DefuzzyLine::Default(fallback) = line {
             return Some(*fallback);
         }
@@ -33,9 +33,9 @@ fn fallback(section: &Defuzzify) -> Option<Fallback>
 }
 
 fn has_method(section: &Defuzzify) -> bool
-    ensures { not result ≡ is_none (first (filter_map method_line section.now.lines.items)) }
+    ensures { not result ≡ is_none (first (filter_map method_line section.now.lines)) }
 {
-    for line in &section.lines {
+    for line in section.lines.as_slice() {
         if let DefuzzyLine::Method(_) = line {
             return true;
         }
@@ -45,7 +45,7 @@ fn has_method(section: &Defuzzify) -> bool
 
 /// Whether a section has the lines that it needs beside its terms.
 pub fn is_complete(section: &Defuzzify) -> bool
-    ensures { not result ≡ (is_none (first (filter_map method_line section.now.lines.items)) || is_none
+    ensures { not result ≡ (is_none (first (filter_map method_line section.now.lines)) || is_none
         (default_of section.now)) }
 {
     has_method(section) && fallback(section).is_some()
@@ -77,7 +77,7 @@ fn hull(section: &Defuzzify) -> Option<Span>
     ensures { option_map ends_in result ≡ output_hull section.now }
 {
     let mut hull: Option<Span> = None;
-    for line in &section.lines {
+    for line in section.lines.as_slice() {
         if let Some(x) = number_in(line) {
             hull = Some(match hull {
                 Some(span) => span.with(x),
@@ -112,7 +112,7 @@ fn singletons(alloc: Global, section: &Defuzzify) -> Result<Vec<Dec>, AllocError
     ensures same { IfOk result (λ v. map (λ d. d.0) v.items ≡ map (λ t. value t.value) (singletons_of section.now)) }
 {
     let mut singletons = Vec::new(alloc);
-    'each: for line in &section.lines {
+    'each: for line in section.lines.as_slice() {
         if let DefuzzyLine::Singleton(singleton) = line {
             singletons.push(value(singleton.value))?;
         }

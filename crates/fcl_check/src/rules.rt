@@ -105,7 +105,7 @@ fn unknown_conclusions(names: &Names<'_>, tree: &Tree, rule: &Rule) -> Option<u3
     if let Some(at) = unknown_conclusion(names, tree, &rule.first) {
         return Some(at);
     }
-    first_at(&rule.more, |conclusion| {
+    first_at(rule.more.as_slice(), |conclusion| {
         unknown_conclusion(names, tree, conclusion)
     })
 }
@@ -179,7 +179,7 @@ fn mistaken_conclusion(names: &Names<'_>, tree: &Tree, rule: &Rule) -> Option<u3
     if let Some(at) = mistaken(names, tree, Direction::Output, rule.first.variable) {
         return Some(at);
     }
-    first_at(&rule.more, |conclusion| {
+    first_at(rule.more.as_slice(), |conclusion| {
         mistaken(names, tree, Direction::Output, conclusion.variable)
     })
 }

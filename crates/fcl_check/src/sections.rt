@@ -34,7 +34,7 @@ const TERMS: usize = 15;
 pub fn fuzzy_range(section: &Fuzzify) -> Option<Range>
     ensures { result ≡ fuzzy_range section.now }
 {
-    for line in &section.lines {
+    for line in section.lines.as_slice() {
         if let FuzzyLine::Range(range) = line {
             return Some(*range);
         }
@@ -46,7 +46,7 @@ pub fn fuzzy_range(section: &Fuzzify) -> Option<Range>
 pub fn defuzzy_range(section: &Defuzzify) -> Option<Range>
     ensures { result ≡ defuzzy_range section.now }
 {
-    for line in &section.lines {
+    for line in section.lines.as_slice() {
         if let DefuzzyLine::Range(range) = line {
             return Some(*range);
         }
@@ -82,7 +82,11 @@ fn singleton_at(line: &DefuzzyLine) -> Option<u32>
 fn has_term(section: &Fuzzify) -> bool
     ensures { result ≡ is_some (first (terms_of section.now)) }
 {
-    section.lines.iter().any(|line| term_at(line).is_some())
+    section
+        .lines
+        .as_slice()
+        .iter()
+        .any(|line| term_at(line).is_some())
 }
 
 fn has_singleton(section: &Defuzzify) -> bool
@@ -90,6 +94,7 @@ fn has_singleton(section: &Defuzzify) -> bool
 {
     section
         .lines
+        .as_slice()
         .iter()
         .any(|line| singleton_at(line).is_some())
 }
@@ -110,8 +115,18 @@ pub fn term_over_limit(part: &Part) -> Option<u32>
     ensures { result ≡ first (terms_over_limit part.now) }
 {
     match part {
-        Part::Fuzzify(section) => section.lines.iter().filter_map(term_at).nth(TERMS),
-        Part::Defuzzify(section) => section.lines.iter().filter_map(singleton_at).nth(TERMS),
+        Part::Fuzzify(section) => section
+            .lines
+            .as_slice()
+            .iter()
+            .filter_map(term_at)
+            .nth(TERMS),
+        Part::Defuzzify(section) => section
+            .lines
+            .as_slice()
+            .iter()
+            .filter_map(singleton_at)
+            .nth(TERMS),
     }
 }
 
@@ -121,7 +136,7 @@ fn falling_in(term: &Term) -> Option<u32>
     ensures { result ≡ first (falling_in term.now) }
 {
     let mut before = value(term.first.x);
-    for point in &term.more {
+    for point in term.more.as_slice() {
         let x = value(point.x);
         if x.0 < before.0 {
             return Some(point.open_at);
@@ -146,7 +161,10 @@ fn outside(point: &Point, span: Span) -> Option<u32>
 fn outside_in(term: &Term, span: Span) -> Option<u32>
     ensures { result ≡ first (outside_in (ends_in span) term.now) }
 {
-    outside(&term.first, span).or_else(|| first_at(&term.more, |point| outside(point, span)))
+    outside(&term.first, span).or_else(|| first_at(
+        term.more.as_slice(),
+        |point| outside(point, span),
+    ))
 }
 
 // Where the degrees of a term have come to.
@@ -174,7 +192,7 @@ fn has_shape(term: &Term) -> bool
     ensures { result ≡ has_shape (points_of term.now) }
 {
     let mut course = step(Course::Rising, &term.first);
-    for point in &term.more {
+    for point in term.more.as_slice() {
         course = step(course, point);
     }
     matches!(course, Course::Top | Course::Falling)
@@ -187,7 +205,7 @@ pub fn falling_point(part: &Part) -> Option<u32>
     let Part::Fuzzify(section) = part else {
         return None;
     };
-    first_at(&section.lines, |line| falling_in(as_term(line)?))
+    first_at(section.lines.as_slice(), |line| falling_in(as_term(line)?))
 }
 
 // A term whose degrees have not the shape of a trapezoid.
@@ -204,7 +222,7 @@ pub fn shapeless_term(part: &Part) -> Option<u32>
     let Part::Fuzzify(section) = part else {
         return None;
     };
-    first_at(&section.lines, |line| shapeless(as_term(line)?))
+    first_at(section.lines.as_slice(), |line| shapeless(as_term(line)?))
 }
 
 /// The first point outside the given RANGE of an input's section.
@@ -215,7 +233,10 @@ pub fn point_outside(part: &Part) -> Option<u32>
         return None;
     };
     let span = Span::of(fuzzy_range(section)?);
-    first_at(&section.lines, |line| outside_in(as_term(line)?, span))
+    first_at(
+        section.lines.as_slice(),
+        |line| outside_in(as_term(line)?, span),
+    )
 }
 
 fn with_points(span: Span, points: &[Point]) -> Span
@@ -236,7 +257,7 @@ fn with_term(hull: Option<Span>, term: &Term) -> Span
         Some(span) => span.with(first),
         None => Span::at(first),
     };
-    with_points(span, &term.more)
+    with_points(span, term.more.as_slice())
 }
 
 /// From the least to the greatest of all points of a section; none where it has no term.
@@ -244,7 +265,7 @@ pub fn hull(section: &Fuzzify) -> Option<Span>
     ensures { option_map ends_in result ≡ hull_of (abscissas section.now) }
 {
     let mut hull: Option<Span> = None;
-    for line in &section.lines {
+    for line in section.lines.as_slice() {
         if let FuzzyLine::Term(term) = line {
             hull = Some(with_term(hull, term));
         }
@@ -306,7 +327,7 @@ pub fn number_outside(part: &Part) -> Option<u32>
         return None;
     };
     let span = Span::of(defuzzy_range(section)?);
-    first_at(&section.lines, |line| match number_line(line) {
+    first_at(section.lines.as_slice(), |line| match number_line(line) {
         Some((x, at)) if !span.holds(x) => Some(at),
         _ => None,
     })

@@ -16,7 +16,7 @@ use Rattle.fcl_syntax.specs.Grammar.{TNot, neg, group, is, lone, TNots, no_nots,
 use Rattle.fcl_syntax.specs.Grammar.{no_ands, more_ands, TOr, or_of, not_text, nots_text, and_text, ands_text, or_text}
 use Rattle.fcl_syntax.specs.Reading.{key_at, name_at, not_word_at, operand_at, conjunct_in, and_in, alternative_in}
 use Rattle.fcl_syntax.specs.Reading.{or_in, neg_in, group_in, opened_in, not_at}
-use Rattle.fcl_syntax.specs.View.{nots_of, ands_of}
+use Rattle.fcl_syntax.specs.Conditions.{nots_of, ands_of}
 use Rattle.fcl_syntax.proofs.Ahead.{Ahead, ahead}
 use Rattle.fcl_syntax.proofs.Chains.{bind_assoc, bind_cond, chain2}
 use Rattle.fcl_syntax.proofs.SingleTokens.{name_single}

@@ -21,11 +21,11 @@ pub mod CutLists
 pub mod CutPieces
 pub mod CutSpellings
 pub mod CutTexts
+pub mod OneTree
 pub mod Theorem
 pub mod Cutting
 pub mod Scale
 pub mod Offsets
 pub mod KeptLists
-pub mod KeptConditions
 pub mod KeptTerms
 pub mod KeptBlocks

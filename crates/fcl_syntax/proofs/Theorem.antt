@@ -28,6 +28,7 @@ use Rattle.fcl_syntax.specs.Reading.{all_of}
 use Rattle.fcl_syntax.specs.Readings.{FirstFaultsAreOne, TreesAreOne}
 use Rattle.fcl_syntax.specs.View.{view}
 use Rattle.fcl_syntax.proofs.CutTexts.{cut_has_tokens, cut_has_fault, tokens_are_cut, fault_is_cut}
+use Rattle.fcl_syntax.proofs.OneTree.{one_tree}
 use Rattle.fcl_syntax.proofs.Exact.{whole, whole_spells, spells_whole, whole_faults, faults_whole}
 use Rattle.fcl_syntax.proofs.RuleForms.{block_form}
 
@@ -214,8 +215,11 @@ only_fault text (Err d) h e f =
 
 -- ---- one reading
 
+one_spelled : (text : List ℕ) (t u : TBlock) → SpellsTree text t → SpellsTree text u → t ≡ u
+one_spelled text t u p q = same_ok (read_text text) t u (spells_read text t p) (spells_read text u q)
+
 pub trees_are_one_lem : TreesAreOne
-trees_are_one_lem text t u p q = same_ok (read_text text) t u (spells_read text t p) (spells_read text u q)
+trees_are_one_lem text = (one_spelled text, λ p q s t. one_tree p q (one_spelled text (view p) (view q) s t))
 
 pub first_faults_are_one_lem : FirstFaultsAreOne
 first_faults_are_one_lem text = (

@@ -2,6 +2,9 @@ pub mod TokenClasses
 pub mod Annotations
 pub mod First
 pub mod Grammar
+pub mod Conditions
+pub mod ConditionCodes
+pub mod ConditionsFall
 pub mod View
 pub mod Meanings
 pub mod Tokens

@@ -31,7 +31,7 @@ use Rattle.fcl_syntax.specs.Grammar.{TFuzzify, TSetting, accu_classes, TAccu, me
 use Rattle.fcl_syntax.specs.Grammar.{TFallback, TDefuzzyLine, TDefuzzify, option_classes, TPart, TNot, neg, group, is}
 use Rattle.fcl_syntax.specs.Grammar.{TAnd, and_of, TOr, or_of, TWeight, TRule, TRuleItem, and_classes, or_classes, TAct}
 use Rattle.fcl_syntax.specs.Grammar.{TRuleLine, TRulebase, ruleblock_classes, TEnd, TBlock}
-use Rattle.fcl_syntax.specs.View.{nots_of, ands_of}
+use Rattle.fcl_syntax.specs.Conditions.{nots_of, ands_of}
 
 abbrev pub unit : Unit {0}
 unit = tt

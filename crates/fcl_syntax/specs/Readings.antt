@@ -11,9 +11,10 @@ abbrev pub EachTextIsRead : Type 0
 EachTextIsRead = (text : List ℕ) → length text ≤ 1048576 → ((b : FunctionBlock) × SpellsTree text (view b)) ⊎
     ((e : SyntaxFault) × IsFirstFault text e)
 
--- A text spells at most one tree.
+-- A text spells at most one tree of the grammar, and at most one of the program.
 abbrev pub TreesAreOne : Type 0
-TreesAreOne = (text : List ℕ) (t u : TBlock) → SpellsTree text t → SpellsTree text u → t ≡ u
+TreesAreOne = (text : List ℕ) → ((t u : TBlock) → SpellsTree text t → SpellsTree text u → t ≡ u) ×
+    ((p q : FunctionBlock) → SpellsTree text (view p) → SpellsTree text (view q) → p ≡ q)
 
 -- A text has at most one first fault, and none where it spells a tree.
 abbrev pub FirstFaultsAreOne : Type 0

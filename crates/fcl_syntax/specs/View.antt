@@ -1,12 +1,9 @@
 -- A tree of the program as a tree of the grammar, where nothing is refused.
-use Rattle.std.specs.Prelude.{ℕ, List, [], ◌∷◌, map, Option, Some, None, ◌⊎◌}
+use Rattle.std.specs.Prelude.{ℕ, List, map, Option, Some, None, ◌⊎◌}
 use Rattle.std.proofs.Common.{inl, inr}
 use Rattle.fcl_syntax.specs.declared.tree.ActWord.{ActWord}
 use Rattle.fcl_syntax.specs.declared.tree.ActWord.TheVariants as act
 use Rattle.fcl_syntax.specs.declared.tree.Activation.{Activation}
-use Rattle.fcl_syntax.specs.declared.tree.Alternative.{Alternative, Alternative-F, fold-Alternative}
-use Rattle.fcl_syntax.specs.declared.tree.And.{And, And-F, fold-And}
-use Rattle.fcl_syntax.specs.declared.tree.Conjunct.{Conjunct, Conjunct-F, fold-Conjunct}
 use Rattle.fcl_syntax.specs.declared.tree.Declaration.{Declaration}
 use Rattle.fcl_syntax.specs.declared.tree.Defuzzify.{Defuzzify}
 use Rattle.fcl_syntax.specs.declared.tree.DefuzzyLine.{DefuzzyLine}
@@ -20,11 +17,8 @@ use Rattle.fcl_syntax.specs.declared.tree.FunctionBlock.{FunctionBlock}
 use Rattle.fcl_syntax.specs.declared.tree.Fuzzify.{Fuzzify}
 use Rattle.fcl_syntax.specs.declared.tree.FuzzyLine.{FuzzyLine}
 use Rattle.fcl_syntax.specs.declared.tree.FuzzyLine.TheVariants as fuzzy
-use Rattle.fcl_syntax.specs.declared.tree.Not.{Not, Not-F, fold-Not}
-use Rattle.fcl_syntax.specs.declared.tree.Not.TheOpen as open_not
 use Rattle.fcl_syntax.specs.declared.tree.SignedNumber.{SignedNumber}
 use Rattle.fcl_syntax.specs.declared.tree.SignedNumber.TheVariants as signed
-use Rattle.fcl_syntax.specs.declared.tree.Or.{Or, Or-F, fold-Or}
 use Rattle.fcl_syntax.specs.declared.tree.Part.{Part}
 use Rattle.fcl_syntax.specs.declared.tree.Part.TheVariants as part
 use Rattle.fcl_syntax.specs.declared.tree.Point.{Point}
@@ -40,21 +34,21 @@ use Rattle.fcl_syntax.specs.declared.tree.Variables.{Variables}
 use Rattle.fcl_syntax.specs.declared.tree.Weight.{Weight}
 use Rattle.fcl_syntax.specs.Grammar.{TSigned, plus, minus, bare, TSignedNumber, TDeclaration, TVariables, TSection}
 use Rattle.fcl_syntax.specs.Grammar.{TCoordinate, TUnit, TZero, TPoint, TTerm, TRange, TFuzzify, TSetting, TSingleton}
-use Rattle.fcl_syntax.specs.Grammar.{TFallback, TDefuzzyLine, TDefuzzify, TPart, TNot, neg, group, is, TNots, no_nots}
-use Rattle.fcl_syntax.specs.Grammar.{more_nots, TAnd, and_of, TAnds, no_ands, more_ands, TOr, or_of, TWeight, TRule}
+use Rattle.fcl_syntax.specs.Grammar.{TFallback, TDefuzzyLine, TDefuzzify, TPart}
+use Rattle.fcl_syntax.specs.Grammar.{TWeight, TRule}
 use Rattle.fcl_syntax.specs.Grammar.{TRuleItem, TAct, TRuleLine, TRulebase, TBlock}
 
 -- ---- variables, terms and ranges
 
 abbrev pub view_declaration : Declaration → TDeclaration
-view_declaration d = record { names = (d.first, d.more.items); type = inr d.real }
+view_declaration d = record { names = (d.first, d.more); type = inr d.real }
 
 abbrev pub view_variables : Variables → TVariables
 view_variables v = record {
   at = v.at;
   direction = v.direction;
   declarations =
-      map view_declaration v.declarations.items;
+      map view_declaration v.declarations;
   end = v.end;
 }
 
@@ -80,7 +74,7 @@ abbrev pub view_point : Point → TPoint
 view_point p = record { open_at = p.open_at; x = view_coordinate p.x; degree = view_degree p.degree }
 
 abbrev pub view_term : Term → TTerm
-view_term t = record { at = t.at; name = t.name; points = inr (view_point t.first, map view_point t.more.items) }
+view_term t = record { at = t.at; name = t.name; points = inr (view_point t.first, map view_point t.more) }
 
 abbrev pub view_range : Range → TRange
 view_range r = record {
@@ -96,7 +90,7 @@ view_fuzzy_line (fuzzy.Term t) = inl (view_term t)
 view_fuzzy_line (fuzzy.Range r) = inr (view_range r)
 
 abbrev pub view_fuzzify : Fuzzify → TFuzzify
-view_fuzzify f = record { at = f.at; name = f.name; lines = map view_fuzzy_line f.lines.items; end = f.end }
+view_fuzzify f = record { at = f.at; name = f.name; lines = map view_fuzzy_line f.lines; end = f.end }
 
 abbrev pub view_setting : {classes : List ℕ} → Setting → TSetting classes
 view_setting s = record { at = s.at; word = inr s.word }
@@ -119,55 +113,11 @@ view_defuzzy_line (defuzzy.Default d) = inr (inr (inr (inl (view_fallback d))))
 view_defuzzy_line (defuzzy.Range r) = inr (inr (inr (inr (view_range r))))
 
 abbrev pub view_defuzzify : Defuzzify → TDefuzzify
-view_defuzzify d = record { at = d.at; name = d.name; lines = map view_defuzzy_line d.lines.items; end = d.end }
+view_defuzzify d = record { at = d.at; name = d.name; lines = map view_defuzzy_line d.lines; end = d.end }
 
 abbrev pub view_part : Part → TPart
 view_part (part.Fuzzify f) = inr (inl (view_fuzzify f))
 view_part (part.Defuzzify d) = inr (inr (view_defuzzify d))
-
--- ---- conditions
-
-abbrev pub nots_of : List (ℕ × TNot) → TNots
-nots_of [] = no_nots
-nots_of (t ∷ ts) = more_nots t.0 t.1 (nots_of ts)
-
-abbrev pub ands_of : List (ℕ × TAnd) → TAnds
-ands_of [] = no_ands
-ands_of (a ∷ items) = more_ands a.0 a.1 (ands_of items)
-
-abbrev pub not_step : Not-F TNot (ℕ × TAnd) TAnd (ℕ × TNot) TOr → TNot
-not_step (open_not.Not at t) = neg at t.value
-not_step (open_not.Group at o) = group at o.value
-not_step (open_not.Is o) = is o.variable o.is_at o.not_at o.term
-
-abbrev pub alternative_step : Alternative-F TNot (ℕ × TAnd) TAnd (ℕ × TNot) TOr → ℕ × TAnd
-alternative_step a = (a.at, a.and)
-
-abbrev pub and_step : And-F TNot (ℕ × TAnd) TAnd (ℕ × TNot) TOr → TAnd
-and_step a = and_of a.first (nots_of a.more.items)
-
-abbrev pub conjunct_step : Conjunct-F TNot (ℕ × TAnd) TAnd (ℕ × TNot) TOr → ℕ × TNot
-conjunct_step c = (c.at, c.not)
-
-abbrev pub or_step : Or-F TNot (ℕ × TAnd) TAnd (ℕ × TNot) TOr → TOr
-or_step o = or_of o.first (ands_of o.more.items)
-
-abbrev pub view_not : Not → TNot
-view_not = fold-Not TNot (ℕ × TAnd) TAnd (ℕ × TNot) TOr not_step alternative_step and_step conjunct_step or_step
-
-abbrev pub view_alternative : Alternative → ℕ × TAnd
-view_alternative =
-    fold-Alternative TNot (ℕ × TAnd) TAnd (ℕ × TNot) TOr not_step alternative_step and_step conjunct_step or_step
-
-abbrev pub view_and : And → TAnd
-view_and = fold-And TNot (ℕ × TAnd) TAnd (ℕ × TNot) TOr not_step alternative_step and_step conjunct_step or_step
-
-abbrev pub view_conjunct : Conjunct → ℕ × TNot
-view_conjunct =
-    fold-Conjunct TNot (ℕ × TAnd) TAnd (ℕ × TNot) TOr not_step alternative_step and_step conjunct_step or_step
-
-abbrev pub view_or : Or → TOr
-view_or = fold-Or TNot (ℕ × TAnd) TAnd (ℕ × TNot) TOr not_step alternative_step and_step conjunct_step or_step
 
 -- ---- rules
 
@@ -183,9 +133,9 @@ view_rule r = record {
   at = r.at;
   label = r.label;
   if_at = r.if_at;
-  condition = view_or r.condition;
+  condition = r.condition;
   then_at = r.then_at;
-  conclusions = (r.first, r.more.items);
+  conclusions = (r.first, r.more);
   weight = view_weight r.weight;
 }
 
@@ -209,8 +159,8 @@ abbrev pub view_rulebase : Rulebase → TRulebase
 view_rulebase r = record {
   at = r.at;
   name = r.name;
-  lines = map view_rule_line r.lines.items;
-  rules = map view_rule_item r.rules.items;
+  lines = map view_rule_line r.lines;
+  rules = map view_rule_item r.rules;
   end = r.end;
 }
 
@@ -218,8 +168,8 @@ abbrev pub view : FunctionBlock → TBlock
 view b = record {
   at = b.at;
   name = b.name;
-  variables = map view_section b.variables.items;
-  parts = map view_part b.parts.items;
+  variables = map view_section b.variables;
+  parts = map view_part b.parts;
   rules = view_rulebase b.rules;
   end = inr (inr b.end);
 }

@@ -1,16 +1,15 @@
 //! Conditions, with a bound on what is open at once.
 
-ghost use Rattle.std.specs.Prelude.{◌≡◌, [], ◌∷◌, length, map};
+ghost use Rattle.std.specs.Prelude.{◌≡◌, [], ◌∷◌, length};
 ghost use Rattle.fcl_syntax.specs.TokenClasses.{follow_classes, keyword_class, opener_classes};
 ghost use Rattle.fcl_syntax.specs.Readers.{Gives, loop, starts};
 ghost use Rattle.fcl_syntax.specs.Reading.{not_word_at, operand_at, not_at, opened_in, conjunct_in, and_in};
 ghost use Rattle.fcl_syntax.specs.Reading.{alternative_in, or_in};
-ghost use Rattle.fcl_syntax.specs.View.{view_not, view_conjunct, view_and, view_alternative, view_or};
 
 use crate::fault::{Fault, Kind, ParseError};
 use crate::single::{expect, fault, is_keyword, is_next, is_open, keyword, name, open};
 use crate::token::{Keyword, Token};
-use crate::tree::{Alternative, And, Conjunct, Not, Operand, Or};
+use crate::tree::{And, Node, Not, Operand, Or};
 use std::alloc::Global;
 
 // [NOT]
@@ -38,7 +37,7 @@ fn is_behind_operand(tokens: &[Token]) -> bool
 // name IS [NOT] name, unless a condition's operand ends behind the first name.
 #[tactic(auto, unfolding(crate::specs::Reading::operand_at))]
 fn operand(tokens: &[Token]) -> Result<(Not, &[Token]), ParseError>
-    ensures { Gives (λ x. (view_not x.0, x.1.now)) result (operand_at tokens.now) }
+    ensures { Gives (λ x. (x.0, x.1.now)) result (operand_at tokens.now) }
 {
     let (variable, rest) = name(tokens)?;
     if is_behind_operand(rest) {
@@ -51,12 +50,14 @@ fn operand(tokens: &[Token]) -> Result<(Not, &[Token]), ParseError>
     let (not_at, rest) = not_word(rest)?;
     let (term, rest) = name(rest)?;
     Ok((
-        Not::Is(Operand {
-            variable,
-            is_at,
-            not_at,
-            term,
-        }),
+        Not {
+            node: Node::Is(Operand {
+                variable,
+                is_at,
+                not_at,
+                term,
+            }),
+        },
         rest,
     ))
 }
@@ -71,7 +72,7 @@ fn is_opener(tokens: &[Token]) -> bool
 // A part of a condition, where `room` more "(" and NOT may be open.
 #[cycle(condition)]
 fn not(alloc: Global, room: u8, tokens: &[Token]) -> Result<(Not, &[Token]), ParseError>
-    ensures { Gives (λ x. (view_not x.0, x.1.now)) result (not_at room tokens.now) }
+    ensures { Gives (λ x. (x.0, x.1.now)) result (not_at room tokens.now) }
 {
     if !is_opener(tokens) {
         return operand(tokens);
@@ -85,29 +86,39 @@ fn not(alloc: Global, room: u8, tokens: &[Token]) -> Result<(Not, &[Token]), Par
 #[cycle(condition)]
 #[tactic(auto, unfolding(crate::specs::Reading::opened_in, crate::specs::Reading::neg_in, crate::specs::Reading::group_in))]
 fn opened(alloc: Global, room: u8, tokens: &[Token]) -> Result<(Not, &[Token]), ParseError>
-    ensures { Gives (λ x. (view_not x.0, x.1.now)) result (opened_in (not_at room) tokens.now) }
+    ensures { Gives (λ x. (x.0, x.1.now)) result (opened_in (not_at room) tokens.now) }
 {
     if is_keyword(tokens, Keyword::Not) {
         let (at, rest) = keyword(tokens, Keyword::Not)?;
         let (part, rest) = not(alloc, room, rest)?;
         let part = Box::new(alloc, part)?;
-        return Ok((Not::Not(at, part), rest));
+        return Ok((
+            Not {
+                node: Node::Not(at, part),
+            },
+            rest,
+        ));
     }
     let (at, rest) = open(tokens)?;
     let (group, rest) = or(alloc, room, rest)?;
     let rest = expect(rest, Token::Close)?;
     let group = Box::new(alloc, group)?;
-    Ok((Not::Group(at, group), rest))
+    Ok((
+        Not {
+            node: Node::Group(at, group),
+        },
+        rest,
+    ))
 }
 
 #[cycle(condition)]
 #[tactic(auto, unfolding(crate::specs::Reading::conjunct_in))]
-fn conjunct(alloc: Global, room: u8, tokens: &[Token]) -> Result<(Conjunct, &[Token]), ParseError>
-    ensures { Gives (λ x. (view_conjunct x.0, x.1.now)) result (conjunct_in (not_at room) tokens.now) }
+fn conjunct(alloc: Global, room: u8, tokens: &[Token]) -> Result<((u32, Not), &[Token]), ParseError>
+    ensures { Gives (λ x. (x.0, x.1.now)) result (conjunct_in (not_at room) tokens.now) }
 {
     let (at, rest) = keyword(tokens, Keyword::And)?;
     let (not, rest) = not(alloc, room, rest)?;
-    Ok((Conjunct { at, not }, rest))
+    Ok(((at, not), rest))
 }
 
 #[cycle(condition)]
@@ -115,8 +126,8 @@ fn conjuncts(
     alloc: Global,
     room: u8,
     tokens: &[Token],
-) -> Result<(Vec<Conjunct>, &[Token]), ParseError>
-    ensures { Gives (λ x. (map view_conjunct x.0.items, x.1.now)) result
+) -> Result<(Vec<(u32, Not)>, &[Token]), ParseError>
+    ensures { Gives (λ x. (x.0.items, x.1.now)) result
         (loop (keyword_class Keyword.And ∷ []) (conjunct_in (not_at room)) (length tokens.now) tokens.now) }
 {
     let mut more = Vec::new(alloc);
@@ -132,7 +143,7 @@ fn conjuncts(
 #[cycle(condition)]
 #[tactic(auto, unfolding(crate::specs::Reading::and_in))]
 fn and(alloc: Global, room: u8, tokens: &[Token]) -> Result<(And, &[Token]), ParseError>
-    ensures { Gives (λ x. (view_and x.0, x.1.now)) result (and_in (not_at room) tokens.now) }
+    ensures { Gives (λ x. (x.0, x.1.now)) result (and_in (not_at room) tokens.now) }
 {
     let (first, rest) = not(alloc, room, tokens)?;
     let (more, rest) = conjuncts(alloc, room, rest)?;
@@ -145,12 +156,12 @@ fn alternative(
     alloc: Global,
     room: u8,
     tokens: &[Token],
-) -> Result<(Alternative, &[Token]), ParseError>
-    ensures { Gives (λ x. (view_alternative x.0, x.1.now)) result (alternative_in (not_at room) tokens.now) }
+) -> Result<((u32, And), &[Token]), ParseError>
+    ensures { Gives (λ x. (x.0, x.1.now)) result (alternative_in (not_at room) tokens.now) }
 {
     let (at, rest) = keyword(tokens, Keyword::Or)?;
     let (and, rest) = and(alloc, room, rest)?;
-    Ok((Alternative { at, and }, rest))
+    Ok(((at, and), rest))
 }
 
 #[cycle(condition)]
@@ -158,8 +169,8 @@ fn alternatives(
     alloc: Global,
     room: u8,
     tokens: &[Token],
-) -> Result<(Vec<Alternative>, &[Token]), ParseError>
-    ensures { Gives (λ x. (map view_alternative x.0.items, x.1.now)) result
+) -> Result<(Vec<(u32, And)>, &[Token]), ParseError>
+    ensures { Gives (λ x. (x.0.items, x.1.now)) result
         (loop (keyword_class Keyword.Or ∷ []) (alternative_in (not_at room)) (length tokens.now) tokens.now) }
 {
     let mut more = Vec::new(alloc);
@@ -176,7 +187,7 @@ fn alternatives(
 #[cycle(condition)]
 #[tactic(auto, unfolding(crate::specs::Reading::or_in))]
 pub fn or(alloc: Global, room: u8, tokens: &[Token]) -> Result<(Or, &[Token]), ParseError>
-    ensures { Gives (λ x. (view_or x.0, x.1.now)) result (or_in (not_at room) tokens.now) }
+    ensures { Gives (λ x. (x.0, x.1.now)) result (or_in (not_at room) tokens.now) }
 {
     let (first, rest) = and(alloc, room, tokens)?;
     let (more, rest) = alternatives(alloc, room, rest)?;

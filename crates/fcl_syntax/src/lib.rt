@@ -26,8 +26,8 @@ pub use laws::{
 pub use text::{SyntaxFault, parse};
 pub use token::{Amount, Word};
 pub use tree::{
-    ActWord, Activation, Alternative, And, Conclusion, Conjunct, Declaration, Defuzzify,
-    DefuzzyLine, Degree, Direction, Fallback, FallbackValue, FunctionBlock, Fuzzify, FuzzyLine,
-    Label, Name, Not, Number, Operand, Or, Part, Point, Range, Rule, RuleLine, Rulebase, Setting,
-    SignedNumber, Singleton, Term, Tree, UnitNumber, Variables, Weight, ZeroNumber,
+    ActWord, Activation, And, Conclusion, Declaration, Defuzzify, DefuzzyLine, Degree, Direction,
+    Fallback, FallbackValue, FunctionBlock, Fuzzify, FuzzyLine, Label, Name, Node, Not, Number,
+    Operand, Or, Part, Point, Range, Rule, RuleLine, Rulebase, Setting, SignedNumber, Singleton,
+    Term, Tree, UnitNumber, Variables, Weight, ZeroNumber,
 };

@@ -1,11 +1,12 @@
 //! What the grammar repeats.
 
-ghost use Rattle.std.specs.Prelude.{◌≡◌, ℕ, ◌<◌, List, length, map, IfOk};
+ghost use Rattle.std.specs.Prelude.{◌≡◌, ℕ, ◌<◌, List as Items, length, map, IfOk};
 ghost use Rattle.fcl_syntax.specs.declared.token.Token.{Token};
 ghost use Rattle.fcl_syntax.specs.Readers.{Read, Gives, loop, starts};
 
 use crate::fault::ParseError;
 use crate::token::Token;
+use fz_list::List;
 use std::alloc::Global;
 
 /// A part of the grammar that stands any number of times, one behind the other.
@@ -14,10 +15,10 @@ pub trait Repeated: Sized + Drop {
     ghost Tree: { Type 0 };
 
     /// The classes of tokens that one begins with.
-    ghost first: { List ℕ };
+    ghost first: { Items ℕ };
 
     /// The reading of one.
-    ghost read_at: { List Token → Read Tree };
+    ghost read_at: { Items Token → Read Tree };
 
     /// The tree of one.
     ghost view: { Self → Tree };
@@ -33,8 +34,8 @@ pub trait Repeated: Sized + Drop {
 }
 
 /// As many as there are, and what is behind them.
-pub fn many<R: Repeated>(alloc: Global, tokens: &[Token]) -> Result<(Vec<R>, &[Token]), ParseError>
-    ensures { Gives (λ x. (map R.view x.0.items, x.1.now)) result
+pub fn many<R: Repeated>(alloc: Global, tokens: &[Token]) -> Result<(List<R>, &[Token]), ParseError>
+    ensures { Gives (λ x. (map R.view x.0, x.1.now)) result
         (loop R.first R.read_at (length tokens.now) tokens.now) }
 {
     let mut items = Vec::new(alloc);
@@ -44,5 +45,5 @@ pub fn many<R: Repeated>(alloc: Global, tokens: &[Token]) -> Result<(Vec<R>, &[T
         items.push(next)?;
         rest = after;
     }
-    Ok((items, rest))
+    Ok((List::new(items), rest))
 }

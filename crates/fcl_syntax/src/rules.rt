@@ -23,6 +23,7 @@ use crate::token::{Keyword, Token, Word};
 use crate::tree::{
     ActWord, Activation, Conclusion, Rule, RuleLine, Rulebase, Setting, SignedNumber, Weight,
 };
+use fz_list::List;
 use std::alloc::Global;
 
 /// How many "(" and NOT may be open at once.
@@ -77,8 +78,8 @@ impl Repeated for Conclusion {
 fn conclusions(
     alloc: Global,
     tokens: &[Token],
-) -> Result<((Conclusion, Vec<Conclusion>), &[Token]), ParseError>
-    ensures { Gives (λ x. ((x.0.0, x.0.1.items), x.1.now)) result (conclusions_at tokens.now) }
+) -> Result<((Conclusion, List<Conclusion>), &[Token]), ParseError>
+    ensures { Gives (λ x. ((x.0.0, x.0.1), x.1.now)) result (conclusions_at tokens.now) }
 {
     let (first, rest) = conclusion(tokens)?;
     let (more, rest) = many::<Conclusion>(alloc, rest)?;

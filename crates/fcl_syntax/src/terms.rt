@@ -26,6 +26,7 @@ use crate::tree::{
     Defuzzify, DefuzzyLine, Degree, Fallback, FallbackValue, Fuzzify, FuzzyLine, Number, Part,
     Point, Range, Setting, SignedNumber, Singleton, Term, UnitNumber, ZeroNumber,
 };
+use fz_list::List;
 use std::alloc::Global;
 
 // ---- numbers
@@ -159,8 +160,8 @@ impl Repeated for Point {
 fn some_points(
     alloc: Global,
     tokens: &[Token],
-) -> Result<((Point, Vec<Point>), &[Token]), ParseError>
-    ensures { Gives (λ x. ((view_point x.0.0, map view_point x.0.1.items), x.1.now)) result
+) -> Result<((Point, List<Point>), &[Token]), ParseError>
+    ensures { Gives (λ x. ((view_point x.0.0, map view_point x.0.1), x.1.now)) result
         (some_points_at tokens.now) }
 {
     let (first, rest) = point(tokens)?;
@@ -170,8 +171,8 @@ fn some_points(
 
 // The points of a term, where a number and a sign are refused.
 #[tactic(auto, unfolding(crate::specs::Reading::points_at))]
-fn points(alloc: Global, tokens: &[Token]) -> Result<((Point, Vec<Point>), &[Token]), ParseError>
-    ensures { Gives (λ x. (inr (view_point x.0.0, map view_point x.0.1.items), x.1.now)) result (points_at tokens.now) }
+fn points(alloc: Global, tokens: &[Token]) -> Result<((Point, List<Point>), &[Token]), ParseError>
+    ensures { Gives (λ x. (inr (view_point x.0.0, map view_point x.0.1), x.1.now)) result (points_at tokens.now) }
 {
     if is_signed(tokens) {
         return Err(fault(Kind::Unsupported(14), tokens));

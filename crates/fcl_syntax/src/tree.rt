@@ -1,7 +1,8 @@
 //! The tree of a text: a node for each production of the grammar, its parts in their order.
 //!
 //! A keyword, a name, a number and an opening parenthesis have their offset in the text, a keyword
-//! mostly as the `at` of the node that it begins.
+//! mostly as the `at` of the node that it begins. A contract sees a condition as a tree of the
+//! grammar, and a list as its items, so two trees of one text are equal.
 
 ghost use Rattle.std.specs.Prelude.{◌≡◌, drop};
 ghost use Rattle.std.specs.List.{take_while};
@@ -10,6 +11,8 @@ ghost use Rattle.fcl_syntax.specs.Text.{IsSpelled};
 
 use crate::lexer::name_len;
 use crate::token::{Amount, Word};
+use fz_list::List;
+use std::marker::Model;
 
 /// The tree of a text, with a copy of the text in small letters.
 ///
@@ -46,8 +49,8 @@ pub struct Name {
 pub struct FunctionBlock {
     pub at: u32,
     pub name: Name,
-    pub variables: Vec<Variables>,
-    pub parts: Vec<Part>,
+    pub variables: List<Variables>,
+    pub parts: List<Part>,
     pub rules: Rulebase,
     pub end: u32,
 }
@@ -63,7 +66,7 @@ pub enum Direction {
 pub struct Variables {
     pub at: u32,
     pub direction: Direction,
-    pub declarations: Vec<Declaration>,
+    pub declarations: List<Declaration>,
     pub end: u32,
 }
 
@@ -71,7 +74,7 @@ pub struct Variables {
 #[derive(Drop)]
 pub struct Declaration {
     pub first: Name,
-    pub more: Vec<Name>,
+    pub more: List<Name>,
     pub real: u32,
 }
 
@@ -86,7 +89,7 @@ pub enum Part {
 pub struct Fuzzify {
     pub at: u32,
     pub name: Name,
-    pub lines: Vec<FuzzyLine>,
+    pub lines: List<FuzzyLine>,
     pub end: u32,
 }
 
@@ -102,7 +105,7 @@ pub struct Term {
     pub at: u32,
     pub name: Name,
     pub first: Point,
-    pub more: Vec<Point>,
+    pub more: List<Point>,
 }
 
 /// A point of a term. `open_at` is the offset of its parenthesis.
@@ -167,7 +170,7 @@ pub struct Range {
 pub struct Defuzzify {
     pub at: u32,
     pub name: Name,
-    pub lines: Vec<DefuzzyLine>,
+    pub lines: List<DefuzzyLine>,
     pub end: u32,
 }
 
@@ -214,8 +217,8 @@ pub enum FallbackValue {
 pub struct Rulebase {
     pub at: u32,
     pub name: Name,
-    pub lines: Vec<RuleLine>,
-    pub rules: Vec<Rule>,
+    pub lines: List<RuleLine>,
+    pub rules: List<Rule>,
     pub end: u32,
 }
 
@@ -249,7 +252,7 @@ pub struct Rule {
     pub condition: Or,
     pub then_at: u32,
     pub first: Conclusion,
-    pub more: Vec<Conclusion>,
+    pub more: List<Conclusion>,
     pub weight: Option<Weight>,
 }
 
@@ -260,45 +263,95 @@ pub struct Label {
     pub amount: Amount,
 }
 
-/// Parts of a condition with OR between them.
+/// Parts of a condition with OR between them, each behind the first with the offset of its OR.
 #[derive(Drop)]
 #[cycle(condition)]
 pub struct Or {
     pub first: And,
-    pub more: Vec<Alternative>,
+    pub more: Vec<(u32, And)>,
 }
 
-/// OR, and the part behind it.
-#[derive(Drop)]
-#[cycle(condition)]
-pub struct Alternative {
-    pub at: u32,
-    pub and: And,
+impl Model for Or {
+    ghost use Rattle.fcl_syntax.specs.Grammar.{TOr, or_of};
+    ghost use Rattle.fcl_syntax.specs.ConditionCodes.{or_code};
+
+    ghost Value = { TOr };
+
+    ghost coded = { or_code };
+
+    ghost use Rattle.fcl_syntax.specs.Conditions.{ands_of, or_size};
+
+    ghost view = { λ o. or_of o.first (ands_of o.more.items) };
+
+    ghost size = { or_size };
+
+    ghost use Rattle.std.proofs.Common.{arith};
+    ghost use Rattle.fcl_syntax.specs.ConditionsFall.{weight-ands};
+
+    ghost size_decreases = { λ o h. omega (arith, weight-ands o.more) };
 }
 
-/// Parts of a condition with AND between them.
+/// Parts of a condition with AND between them, each behind the first with the offset of its AND.
 #[derive(Drop)]
 #[cycle(condition)]
 pub struct And {
     pub first: Not,
-    pub more: Vec<Conjunct>,
+    pub more: Vec<(u32, Not)>,
 }
 
-/// AND, and the part behind it.
-#[derive(Drop)]
-#[cycle(condition)]
-pub struct Conjunct {
-    pub at: u32,
-    pub not: Not,
+impl Model for And {
+    ghost use Rattle.fcl_syntax.specs.Grammar.{TAnd, and_of};
+    ghost use Rattle.fcl_syntax.specs.ConditionCodes.{and_code};
+
+    ghost Value = { TAnd };
+
+    ghost coded = { and_code };
+
+    ghost use Rattle.fcl_syntax.specs.Conditions.{nots_of, and_size};
+
+    ghost view = { λ a. and_of a.first (nots_of a.more.items) };
+
+    ghost size = { and_size };
+
+    ghost use Rattle.std.proofs.Common.{arith};
+    ghost use Rattle.fcl_syntax.specs.ConditionsFall.{weight-nots};
+
+    ghost size_decreases = { λ a h. omega (arith, weight-nots a.more) };
 }
 
-/// A part of a condition: NOT with what it negates, a parenthesis with its content, or an operand.
+/// A part of a condition.
 #[derive(Drop)]
 #[cycle(condition)]
-pub enum Not {
+pub struct Not {
+    pub node: Node,
+}
+
+/// NOT with what it negates, a parenthesis with its content, or an operand.
+#[derive(Drop)]
+#[cycle(condition)]
+pub enum Node {
     Not(u32, Box<Not>),
     Group(u32, Box<Or>),
     Is(Operand),
+}
+
+impl Model for Not {
+    ghost use Rattle.fcl_syntax.specs.Grammar.{TNot};
+    ghost use Rattle.fcl_syntax.specs.ConditionCodes.{not_code};
+
+    ghost Value = { TNot };
+
+    ghost coded = { not_code };
+
+    ghost use Rattle.fcl_syntax.specs.Conditions.{not_of, not_size};
+
+    ghost view = { λ n. not_of n.node };
+
+    ghost size = { not_size };
+
+    ghost use Rattle.fcl_syntax.specs.ConditionsFall.{parts_are_smaller};
+
+    ghost size_decreases = { λ n h. parts_are_smaller n.node };
 }
 
 /// `name IS [NOT] name`, with the offsets of IS and NOT.

@@ -16,6 +16,7 @@ use crate::single::{
 };
 use crate::token::{Keyword, Token, Word};
 use crate::tree::{Declaration, Name, Variables};
+use fz_list::List;
 use std::alloc::Global;
 
 #[tactic(auto, unfolding(crate::specs::Reading::comma_name_at))]
@@ -45,8 +46,8 @@ impl Repeated for Name {
 }
 
 #[tactic(auto, unfolding(crate::specs::Reading::names_at))]
-fn names(alloc: Global, tokens: &[Token]) -> Result<((Name, Vec<Name>), &[Token]), ParseError>
-    ensures { Gives (λ x. ((x.0.0, x.0.1.items), x.1.now)) result (names_at tokens.now) }
+fn names(alloc: Global, tokens: &[Token]) -> Result<((Name, List<Name>), &[Token]), ParseError>
+    ensures { Gives (λ x. ((x.0.0, x.0.1), x.1.now)) result (names_at tokens.now) }
 {
     let (first, rest) = name(tokens)?;
     let (more, rest) = many::<Name>(alloc, rest)?;

@@ -18,5 +18,5 @@ falling_behind q before [] = refl
 falling_behind q before (p ∷ points) =
     ap (λ ns. at_if (int_lt (x_of p) (x_of q)) p.open_at ++ ns) (falling_behind p (q ∷ before) points)
 
-pub falling_in_first : (t : Term) → falling_in t ≡ falling_from (x_of t.first) t.more.items
-falling_in_first t = falling_behind t.first [] t.more.items
+pub falling_in_first : (t : Term) → falling_in t ≡ falling_from (x_of t.first) t.more
+falling_in_first t = falling_behind t.first [] t.more

@@ -1,24 +1,17 @@
--- A tree that a text spells has a block, where it has no load fault and is not too large.
-use Rattle.std.proofs.Common.{◌≡◌, ℕ, ◌^◌, ◌<◌, List, [], ◌∷◌, Option, Some, None, length, map, option_map, refl, arith}
+-- A tree without load faults has a block.
+use Rattle.std.proofs.Common.{◌≡◌, ℕ, List, [], ◌∷◌, Option, Some, None, map, option_map, refl}
 use Rattle.std.specs.List.{AllByRecursion}
-use Rattle.std.specs.Str.{str_to_ascii_lowercase}
 use Rattle.fuzzy_meaning.specs.declared.block.Rule.{Rule}
-use Rattle.fuzzy_meaning.specs.Conditions.{nodes}
 use Rattle.fcl_syntax.specs.declared.tree.FunctionBlock.{FunctionBlock}
 use Rattle.fcl_syntax.specs.declared.tree.Rule.{Rule as RuleNode}
 use Rattle.fcl_syntax.specs.declared.tree.Weight.{Weight}
-use Rattle.fcl_syntax.specs.Grammar.{block_text, each, rule_item_text}
-use Rattle.fcl_syntax.specs.Offsets.{OffsetsAscend, offsets}
-use Rattle.fcl_syntax.specs.View.{view, view_or, view_rule_item}
 use Rattle.fcl_check.specs.Faults.{conclusions_of}
 use Rattle.fcl_check.specs.Loaded.{IsRuleOf, conclusion_of, literal_of, number_of, or_condition}
 use Rattle.fcl_check.specs.Sections.{value}
-use Rattle.fcl_check.specs.Texts.{SpelledTreesHaveBlocks}
-use Rattle.fcl_check.proofs.trees.ConditionSizes.{count, count-append, few_within}
+use Rattle.fcl_check.specs.Texts.{TreesHaveBlocks}
 use Rattle.fcl_check.proofs.existing.FoundItems.{found_items}
 use Rattle.fcl_check.proofs.existing.FoundOutputs.{decimal_of}
 use Rattle.fcl_check.proofs.existing.FoundVariables.{found_inputs, found_outputs}
-use Rattle.fcl_check.proofs.trees.RuleSizes.{condition_size, count-rules}
 
 -- ---- rules
 
@@ -31,7 +24,7 @@ module _ (text : List ℕ) (b : FunctionBlock) where
   found_rule : (r : RuleNode) → (q : Rule) × IsRuleOf text b r q
   found_rule r = (
     record {
-      cond = or_condition (literal_of text b) (view_or r.condition);
+      cond = or_condition (literal_of text b) r.condition;
       weight = option_map (λ (w : Weight). decimal_of w.value) r.weight;
       concl = map (conclusion_of text b) (conclusions_of r);
     },
@@ -44,12 +37,11 @@ module _ (text : List ℕ) (b : FunctionBlock) where
 
 -- ---- the block
 
-pub found_block : SpelledTreesHaveBlocks
-found_block text b small spelled well_formed =
-    let letters = str_to_ascii_lowercase text in
+pub found_block : TreesHaveBlocks
+found_block letters b well_formed =
     let inputs = found_inputs letters b well_formed in
     let outputs = found_outputs letters b well_formed in
-    let rules = found_items (IsRuleOf letters b) b.rules.rules.items (found_rules letters b b.rules.rules.items) in (
+    let rules = found_items (IsRuleOf letters b) b.rules.rules (found_rules letters b b.rules.rules) in (
       record { inputs = inputs.0; outputs = outputs.0; rules = rules.0 },
       record { inputs = inputs.1; outputs = outputs.1; rules = rules.1 },
     )

@@ -1,5 +1,5 @@
 -- Each text has a fault or a block, and not two of them.
-use Rattle.std.proofs.Common.{◌≡◌, ℕ, ◌≤◌, ◌⊎◌, inl, inr, List, length, Option, Some, None, refl, sym, ◌∙◌}
+use Rattle.std.proofs.Common.{◌≡◌, ℕ, ◌≤◌, ◌⊎◌, inl, inr, List, length, Option, Some, None, refl, sym, ap, ◌∙◌}
 use Rattle.std.specs.Str.{str_to_ascii_lowercase}
 use Rattle.std.proofs.lemmas.Option.{same_Some}
 use Rattle.fuzzy_meaning.specs.declared.block.Block.{Block}
@@ -9,18 +9,17 @@ use Rattle.fcl_syntax.specs.View.{view}
 use Rattle.fcl_syntax.specs.declared.tree.FunctionBlock.{FunctionBlock}
 use Rattle.fcl_check.specs.Faults.{first_fault}
 use Rattle.fcl_check.specs.Texts.{EachTextIsJudged, HasLoadFault, LoadFaultsAreOne, SpelledBlocksAreValid}
-use Rattle.fcl_check.specs.Texts.{SpelledTreesHaveBlocks, SpellsBlock}
+use Rattle.fcl_check.specs.Texts.{TreesHaveBlocks, SpellsBlock}
 use Rattle.fcl_check.specs.declared.fault.LoadFault.{LoadFault}
-use Rattle.fcl_check.proofs.alike.SameFaults.{same_first_fault}
 
-module _ (valid : SpelledBlocksAreValid) (have : SpelledTreesHaveBlocks) (text : List ℕ)
+module _ (valid : SpelledBlocksAreValid) (have : TreesHaveBlocks) (text : List ℕ)
     (small : length text ≤ 1048576) where
   judged_tree : (b : FunctionBlock) → SpellsTree text (view b) → (o : Option LoadFault)
       → first_fault (str_to_ascii_lowercase text) b ≡ o
       → ((f : LoadFault) × HasLoadFault text f) ⊎ ((block : Block) × SpellsBlock text block)
   judged_tree b spelled (Some f) is = inl (f, record { tree = b; spelled = spelled; first = is })
   judged_tree b spelled None well_formed =
-      let found = have text b small spelled well_formed in
+      let found = have (str_to_ascii_lowercase text) b well_formed in
       inr (
         found.0,
         record {
@@ -33,7 +32,7 @@ module _ (valid : SpelledBlocksAreValid) (have : SpelledTreesHaveBlocks) (text :
         },
       )
 
-pub judged_texts : EachTextIsRead → SpelledBlocksAreValid → SpelledTreesHaveBlocks → EachTextIsJudged
+pub judged_texts : EachTextIsRead → SpelledBlocksAreValid → TreesHaveBlocks → EachTextIsJudged
 judged_texts read valid have text small =
     elim (read text small) [
       | inl tree ↦ inr (judged_tree valid have text small tree.0 tree.1
@@ -47,7 +46,7 @@ module _ (trees_are_one : TreesAreOne) (text : List ℕ) where
   same_spelled : (b c : FunctionBlock) → SpellsTree text (view b) → SpellsTree text (view c)
       → first_fault (str_to_ascii_lowercase text) b ≡ first_fault (str_to_ascii_lowercase text) c
   same_spelled b c of_b of_c =
-      same_first_fault (str_to_ascii_lowercase text) b c (trees_are_one text (view b) (view c) of_b of_c)
+      ap (first_fault (str_to_ascii_lowercase text)) ((trees_are_one text).1 b c of_b of_c)
 
   same_load_fault : (f g : LoadFault) → HasLoadFault text f → HasLoadFault text g → f ≡ g
   same_load_fault f g p q = same_Some f g (sym p.first ∙ same_spelled p.tree q.tree p.spelled q.spelled ∙ q.first)

@@ -156,14 +156,14 @@ module _ (text : List ℕ) (b : FunctionBlock) where
   pub record IsFaultless : Type 0 where
     pub once : twice text b ≡ []
     pub names : unknown text b ≡ []
-    pub terms : flat_map without_terms b.parts.items ≡ []
+    pub terms : flat_map without_terms b.parts ≡ []
     pub counts : too_many text b ≡ []
-    pub falls : flat_map falling_points b.parts.items ≡ []
-    pub shapes : flat_map shapeless_terms b.parts.items ≡ []
-    pub points : flat_map points_outside b.parts.items ≡ []
-    pub ranges : flat_map (bad_range (is_declared_as text b Input)) b.parts.items ≡ []
-    pub numbers : flat_map numbers_outside b.parts.items ≡ []
-    pub weights : flat_map weight_outside b.rules.rules.items ≡ []
+    pub falls : flat_map falling_points b.parts ≡ []
+    pub shapes : flat_map shapeless_terms b.parts ≡ []
+    pub points : flat_map points_outside b.parts ≡ []
+    pub ranges : flat_map (bad_range (is_declared_as text b Input)) b.parts ≡ []
+    pub numbers : flat_map numbers_outside b.parts ≡ []
+    pub weights : flat_map weight_outside b.rules.rules ≡ []
     pub sides : wrong_side text b ≡ []
     pub missing : missing_part text b ≡ []
 
@@ -189,7 +189,7 @@ module _ (text : List ℕ) (b : FunctionBlock) where
     -- the section of a name
     pub part_well_formed : (ls : List ℕ) (p : Part) → section_of text b ls ≡ Some p → IsWellFormedPart p
     part_well_formed ls p found =
-        let parts = b.parts.items in
+        let parts = b.parts in
         let test = λ (q : Part). is_named text ls (section_name q) in
         let names = no_items (flat_map (unknown_section text b) parts) _ well_formed.names in
         let counts = no_items (flat_map terms_over_limit parts) _ (no_items _ _ well_formed.counts).1 in
@@ -217,8 +217,8 @@ module _ (text : List ℕ) (b : FunctionBlock) where
     well_formed_output ls s found = part_well_formed ls (part.Defuzzify s)
         (defuzzify_found (section_of text b ls) s found)
 
-    pub well_formed_rules : AllByRecursion (IsWellFormedRule text b) b.rules.rules.items
+    pub well_formed_rules : AllByRecursion (IsWellFormedRule text b) b.rules.rules
     well_formed_rules =
-        let names = no_items (flat_map (unknown_section text b) b.parts.items) _ well_formed.names in
-        let sides = no_items (flat_map (mistaken_section text b) b.parts.items) _ well_formed.sides in
-        all_well_formed b.rules.rules.items names.1 sides.1 well_formed.weights
+        let names = no_items (flat_map (unknown_section text b) b.parts) _ well_formed.names in
+        let sides = no_items (flat_map (mistaken_section text b) b.parts) _ well_formed.sides in
+        all_well_formed b.rules.rules names.1 sides.1 well_formed.weights

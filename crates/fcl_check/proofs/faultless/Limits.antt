@@ -54,11 +54,11 @@ over_first ds = sym (over_is 8 4 [] ds refl refl)
 
 pub too_many_first : (text : List ℕ) (b : FunctionBlock)
     → first (too_many text b) ≡ option_or (first (at_each over_places [] (declared_in b)))
-    (option_or (first (flat_map terms_over_limit b.parts.items))
-    (option_map (λ (r : Rule). r.at) (slice_get b.rules.rules.items 256)))
+    (option_or (first (flat_map terms_over_limit b.parts))
+    (option_map (λ (r : Rule). r.at) (slice_get b.rules.rules 256)))
 too_many_first text b =
     let names = at_each over_places [] (declared_in b) in
-    let terms = flat_map terms_over_limit b.parts.items in
-    let rules = map (λ (r : Rule). r.at) (drop 256 b.rules.rules.items) in
+    let terms = flat_map terms_over_limit b.parts in
+    let rules = map (λ (r : Rule). r.at) (drop 256 b.rules.rules) in
     first-append names (terms ++ rules) ∙ ap (option_or (first names)) (first-append terms rules
-    ∙ ap (option_or (first terms)) (first-map-drop (λ (r : Rule). r.at) 256 b.rules.rules.items))
+    ∙ ap (option_or (first terms)) (first-map-drop (λ (r : Rule). r.at) 256 b.rules.rules))

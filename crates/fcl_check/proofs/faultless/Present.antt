@@ -115,7 +115,7 @@ widened_there (Some e) h = refl
 
 pub output_range_there : (s : Defuzzify) → without_terms (part.Defuzzify s) ≡ [] → IsSome (output_range s)
 output_range_there s h =
-    given_there _ (defuzzy_range s) (widened_there (output_hull s) (numbers_there s.lines.items s.end h))
+    given_there _ (defuzzy_range s) (widened_there (output_hull s) (numbers_there s.lines s.end h))
 
 -- ---- DEFAULT
 
@@ -125,7 +125,7 @@ neither false None h = cc
 neither false (Some x) h = refl
 
 pub default_there : (s : Defuzzify) → incomplete (part.Defuzzify s) ≡ [] → IsSome (default_of s)
-default_there s h = neither (is_none (first (filter_map method_line s.lines.items))) (default_of s) (no_place _ s.end h)
+default_there s h = neither (is_none (first (filter_map method_line s.lines))) (default_of s) (no_place _ s.end h)
 
 -- ---- the sections of declared names
 
@@ -208,7 +208,7 @@ module _ (text : List ℕ) (b : FunctionBlock) (well_formed : first_fault text b
         let ls = letters text here.1 in
         let equal : ls ≡ letters text (section_name p) =
         (bytes_eq-Decides ls (letters text (section_name p))).0
-        (found-passes (λ (q : Part). is_named text ls (section_name q)) b.parts.items p found) in
+        (found-passes (λ (q : Part). is_named text ls (section_name q)) b.parts p found) in
         subst (λ (ms : List ℕ). direction_of text b ms ≡ Some here.0) equal direction_there
 
     same_side : (p : Part) → section_of text b (letters text here.1) ≡ Some p

@@ -91,7 +91,7 @@ ascends-on q before (p ∷ points) h =
     ] refl h
 
 pub ascends : (t : Term) → falling_in t ≡ [] → Ascends (points_of t)
-ascends t h = ascends-on t.first [] t.more.items h
+ascends t h = ascends-on t.first [] t.more h
 
 -- ---- zeros
 

@@ -19,6 +19,11 @@ pub all_weaker : {X : Type 0} (P Q : X → Type 0) → ((x : X) → P x → Q x)
 all_weaker P Q weaker [] h = tt
 all_weaker P Q weaker (x ∷ xs) h = (weaker x h.0, all_weaker P Q weaker xs h.1)
 
+pub all_both : {X : Type 0} (P Q : X → Type 0) (xs : List X) → AllByRecursion P xs → AllByRecursion Q xs
+    → AllByRecursion (λ x. P x × Q x) xs
+all_both P Q [] p q = tt
+all_both P Q (x ∷ xs) p q = ((p.0, q.0), all_both P Q xs p.1 q.1)
+
 pub all_mapped : {X Y : Type 0} (P : Y → Type 0) (f : X → Y) (xs : List X) → AllByRecursion (λ x. P (f x)) xs
     → AllByRecursion P (map f xs)
 all_mapped P f [] h = tt

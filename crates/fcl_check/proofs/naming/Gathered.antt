@@ -15,7 +15,7 @@ use Rattle.fcl_check.specs.Names.{Declared, singleton_of, term_of}
 -- the names that some declarations declare
 abbrev pub names_declared : Direction → List Declaration → List Declared
 names_declared side declarations =
-    flat_map (λ (d : Declaration). map (λ (n : Name). (side, n)) (d.first ∷ d.more.items)) declarations
+    flat_map (λ (d : Declaration). map (λ (n : Name). (side, n)) (d.first ∷ d.more)) declarations
 
 -- the names of the terms among some lines
 abbrev pub names_of_terms : List FuzzyLine → List Name

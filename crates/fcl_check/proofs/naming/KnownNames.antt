@@ -1,49 +1,25 @@
 -- The numbers of known names: they are there, and bytes.
-use Rattle.std.proofs.Common.{◌≡◌, ℕ, zero, suc, ◌≤◌, ◌<◌, true, List, [], ◌∷◌, get_or, length, map, Option, Some, None}
+use Rattle.std.proofs.Common.{◌≡◌, ℕ, ◌≤◌, true, List, [], length, Option, Some, None}
 use Rattle.std.proofs.Common.{option_and_then, option_map, refl, ap, ◌∙◌, arith}
-use Rattle.std.specs.List.{AllByRecursion}
 use Rattle.std.proofs.lemmas.List.{length-map}
-use Rattle.fcl_syntax.specs.declared.tree.Alternative.{Alternative}
-use Rattle.fcl_syntax.specs.declared.tree.Conjunct.{Conjunct}
 use Rattle.fcl_syntax.specs.declared.tree.Direction.{Direction}
 use Rattle.fcl_syntax.specs.declared.tree.Direction.TheVariants.{Input, Output}
 use Rattle.fcl_syntax.specs.declared.tree.FunctionBlock.{FunctionBlock}
 use Rattle.fcl_syntax.specs.declared.tree.Name.{Name}
 use Rattle.fcl_syntax.specs.declared.tree.Singleton.{Singleton}
 use Rattle.fcl_syntax.specs.declared.tree.Term.{Term}
-use Rattle.fcl_syntax.specs.View.{ands_of, nots_of, view_alternative, view_conjunct}
 use Rattle.fcl_check.specs.declared.names.Variable.{Variable}
 use Rattle.fcl_check.specs.ByLetters.{names_of, variable_in}
-use Rattle.fcl_check.specs.Faults.{Pair, and_pairs, ands_pairs, direction, first_fault, is_some_direction, most_of}
-use Rattle.fcl_check.specs.Faults.{not_pairs, nots_pairs}
+use Rattle.fcl_check.specs.Faults.{direction, first_fault, is_some_direction, most_of}
 use Rattle.fcl_check.specs.Loaded.{or_zero}
 use Rattle.fcl_check.specs.Names.{declared_as, declared_in, defuzzify_of, fuzzify_of, letters, number_in}
 use Rattle.fcl_check.specs.Names.{singleton_names, singletons_of, term_names, term_number, terms_of, variable_number}
 use Rattle.fcl_check.specs.Places.{at_each}
 use Rattle.fcl_check.specs.WellFormed.{IsKnown}
 use Rattle.fcl_check.proofs.lists.Counts.{few_items, few_names, over}
-use Rattle.fcl_check.proofs.lists.Elements.{parts_of}
 use Rattle.fcl_check.proofs.faultless.Faultless.{faultless, no_items, well_formed_input, well_formed_output}
 use Rattle.fcl_check.proofs.naming.NumberedNames.{number_within}
 use Rattle.fcl_check.proofs.faultless.Present.{as_side}
-
--- ---- one of several parts
-
-pub pairs_of-conjunct : (P : Pair → Type 0) (xs : List Conjunct) (i : ℕ) (d : Conjunct)
-    → AllByRecursion P (nots_pairs (nots_of (map view_conjunct xs)))
-    → i < length xs → AllByRecursion P (not_pairs (view_conjunct (get_or xs i d)).1)
-pairs_of-conjunct P [] i d all within = absurd (omega arith)
-pairs_of-conjunct P (x ∷ xs) zero d all within = (parts_of P (not_pairs (view_conjunct x).1) _ all).0
-pairs_of-conjunct P (x ∷ xs) (suc i) d all within =
-    pairs_of-conjunct P xs i d (parts_of P (not_pairs (view_conjunct x).1) _ all).1 (omega arith)
-
-pub pairs_of-alternative : (P : Pair → Type 0) (xs : List Alternative) (i : ℕ) (d : Alternative)
-    → AllByRecursion P (ands_pairs (ands_of (map view_alternative xs))) → i < length xs
-    → AllByRecursion P (and_pairs (view_alternative (get_or xs i d)).1)
-pairs_of-alternative P [] i d all within = absurd (omega arith)
-pairs_of-alternative P (x ∷ xs) zero d all within = (parts_of P (and_pairs (view_alternative x).1) _ all).0
-pairs_of-alternative P (x ∷ xs) (suc i) d all within =
-    pairs_of-alternative P xs i d (parts_of P (and_pairs (view_alternative x).1) _ all).1 (omega arith)
 
 -- ---- numbers
 

@@ -192,10 +192,10 @@ pub names_declared_more : (side : Direction) (declarations : List Declaration) (
     → i < length declarations
     → declaration ≡ get_or declarations i declaration
     → old ≡ before ++ names_declared side (take i declarations)
-    → new ≡ old ++ map (λ (n : Name). (side, n)) (declaration.first ∷ declaration.more.items)
+    → new ≡ old ++ map (λ (n : Name). (side, n)) (declaration.first ∷ declaration.more)
     → new ≡ before ++ names_declared side (take (i + 1) declarations)
 names_declared_more side declarations i declaration before old new h is so_far pushed =
-    let names = λ (d : Declaration). map (λ (n : Name). (side, n)) (d.first ∷ d.more.items) in
+    let names = λ (d : Declaration). map (λ (n : Name). (side, n)) (d.first ∷ d.more) in
     let more = flat_map_more names before (take i declarations) declaration in
     rw (take_more declarations i declaration h, ← is) (pushed ∙ ap (λ ds. ds ++ names declaration) so_far ∙ more)
 

@@ -9,7 +9,7 @@ use Rattle.fcl_syntax.specs.Grammar.{no_ands, more_ands, TOr, or_of, less, name_
 use Rattle.fcl_syntax.specs.Grammar.{and_text, ands_text, or_text, conclusion_text, conclusions_text, weight_text}
 use Rattle.fcl_syntax.specs.Grammar.{semicolon_text, rule_item_text, rule_line_text}
 use Rattle.fcl_syntax.specs.Annotations.{Sym, plain, either_text}
-use Rattle.fcl_syntax.specs.View.{view_or, view_with, view_weight, view_rule_item, view_rule_line}
+use Rattle.fcl_syntax.specs.View.{view_with, view_weight, view_rule_item, view_rule_line}
 use Rattle.fcl_syntax.specs.declared.token.Keyword.TheVariants as key
 use Rattle.fcl_syntax.specs.declared.token.Token.TheVariants as tok
 use Rattle.fcl_syntax.specs.declared.tree.Conclusion.{Conclusion}
@@ -75,13 +75,13 @@ module _ (f : Name → Name → List ℕ) (d : AtPair f) where
 
   in_conclusions : (r : Rule)
       → StandIn (flat_map (λ (c : Conclusion). f c.variable c.term) (conclusions_of r))
-      (conclusions_text (r.first, r.more.items))
-  in_conclusions r = join (in_conclusion r.first) (in_row tok.Comma conclusion_text _ r.more.items in_conclusion)
+      (conclusions_text (r.first, r.more))
+  in_conclusions r = join (in_conclusion r.first) (in_row tok.Comma conclusion_text _ r.more in_conclusion)
 
 -- ---- rules
 
-in_rule : (ms ns : List ℕ) (r : Rule) → StandIn ms (or_text (view_or r.condition) 64)
-    → StandIn ns (conclusions_text (r.first, r.more.items))
+in_rule : (ms ns : List ℕ) (r : Rule) → StandIn ms (or_text r.condition 64)
+    → StandIn ns (conclusions_text (r.first, r.more))
     → StandIn (ms ++ ns) (rule_item_text (view_rule_item r))
 in_rule ms ns r d e = passed (passed (passed (passed (join d (passed (in_front _ e))))))
 
@@ -95,7 +95,7 @@ in_weight f (Some w) d = d w
 
 pub weight_outside_in_rule : (r : Rule) → StandIn (weight_outside r) (rule_item_text (view_rule_item r))
 weight_outside_in_rule r =
-    passed (passed (passed (passed (in_back _ (passed (in_back (conclusions_text (r.first, r.more.items))
+    passed (passed (passed (passed (in_back _ (passed (in_back (conclusions_text (r.first, r.more))
     (in_weight _ r.weight
     (λ w. at_head (int_lt (value w.value) (pos 0) || int_lt (pos 10000) (value w.value)) w.at refl))))))))
 
@@ -104,7 +104,7 @@ module _ (text : List ℕ) (b : FunctionBlock) where
   at_unknown side v t between = at_head_and (is_none (direction text b v)) v.at refl (in_back between (search at_head))
 
   pub unknown_in_rule : (r : Rule) → StandIn (unknown_in text b r) (rule_item_text (view_rule_item r))
-  unknown_in_rule r = in_rule _ _ r (in_or _ (at_unknown Input) (view_or r.condition) 64)
+  unknown_in_rule r = in_rule _ _ r (in_or _ (at_unknown Input) r.condition 64)
       (in_conclusions _ (at_unknown Output) r)
 
   at_mistaken : (side : Direction) → AtPair (λ v t. mistaken text b side v)
@@ -112,7 +112,7 @@ module _ (text : List ℕ) (b : FunctionBlock) where
 
   pub mistaken_in_rule : (r : Rule) → StandIn (mistaken_in text b r) (rule_item_text (view_rule_item r))
   mistaken_in_rule r =
-      in_rule _ _ r (in_or _ (at_mistaken Input) (view_or r.condition) 64) (in_conclusions _ (at_mistaken Output) r)
+      in_rule _ _ r (in_or _ (at_mistaken Input) r.condition 64) (in_conclusions _ (at_mistaken Output) r)
 
 -- ---- lines before the rules
 

@@ -47,7 +47,7 @@ at_open : (test : Bool) (p : Point) → StandIn (at_if test p.open_at) (point_te
 at_open test p = at_head test p.open_at refl
 
 in_points : (t : Term) (ms ns : List ℕ) → StandIn ms (point_text (view_point t.first))
-    → StandIn ns (each point_text (map view_point t.more.items))
+    → StandIn ns (each point_text (map view_point t.more))
     → StandIn (ms ++ ns) (term_text (view_term t))
 in_points t ms ns d e = passed (passed (passed (in_front _ (join d e))))
 
@@ -55,13 +55,13 @@ in_points_after : (f : List Point → Point → List ℕ) (t : Term)
     → ((before : List Point) (p : Point) → StandIn (f before p) (point_text (view_point p)))
     → StandIn (at_each f [] (points_of t)) (term_text (view_term t))
 in_points_after f t d =
-    in_points t _ _ (d [] t.first) (in_each_after point_text view_point f (t.first ∷ []) t.more.items d)
+    in_points t _ _ (d [] t.first) (in_each_after point_text view_point f (t.first ∷ []) t.more d)
 
 falling_in_term : (t : Term) → StandIn (falling_in t) (term_text (view_term t))
 falling_in_term t = search (in_points_after, at_open)
 
 outside_in_term : (e : Ends) (t : Term) → StandIn (outside_in e t) (term_text (view_term t))
-outside_in_term e t = in_points t _ _ (search at_open) (in_each point_text view_point _ t.more.items (search at_open))
+outside_in_term e t = in_points t _ _ (search at_open) (in_each point_text view_point _ t.more (search at_open))
 
 -- ---- sections
 
@@ -69,8 +69,8 @@ abbrev fuzzy_line_text : TTerm ⊎ TRange → List Sym
 fuzzy_line_text = either_text term_text range_text
 
 abbrev lines_text : Part → List Sym
-lines_text (part.Fuzzify s) = each fuzzy_line_text (map view_fuzzy_line s.lines.items)
-lines_text (part.Defuzzify s) = each defuzzy_line_text (map view_defuzzy_line s.lines.items)
+lines_text (part.Fuzzify s) = each fuzzy_line_text (map view_fuzzy_line s.lines)
+lines_text (part.Defuzzify s) = each defuzzy_line_text (map view_defuzzy_line s.lines)
 
 in_lines : {ns : List ℕ} (p : Part) → StandIn ns (lines_text p) → StandIn ns (part_text (view_part p))
 in_lines (part.Fuzzify s) d = passed (passed (in_front _ d))
@@ -108,7 +108,7 @@ at_output_line test (defuzzy.Range r) = at_head test r.at refl
 in_terms : (f : Term → List ℕ) (s : Fuzzify) → ((t : Term) → StandIn (f t) (term_text (view_term t)))
     → StandIn (flat_map f (terms_of s)) (part_text (view_part (part.Fuzzify s)))
 in_terms f s d = in_lines (part.Fuzzify s)
-    (in_each_kept fuzzy_line_text view_fuzzy_line term_of f s.lines.items at_term)
+    (in_each_kept fuzzy_line_text view_fuzzy_line term_of f s.lines at_term)
   where
     at_term : (l : FuzzyLine) → StandIn (at_some f (term_of l)) (fuzzy_line_text (view_fuzzy_line l))
     at_term (fuzzy.Term t) = d t
@@ -119,14 +119,14 @@ in_singletons : (f : Singleton → List ℕ) (s : Defuzzify)
     → StandIn (flat_map f (singletons_of s)) (part_text (view_part (part.Defuzzify s)))
 in_singletons f s d =
     in_lines (part.Defuzzify s)
-    (in_each_kept defuzzy_line_text view_defuzzy_line singleton_of f s.lines.items at_singleton)
+    (in_each_kept defuzzy_line_text view_defuzzy_line singleton_of f s.lines at_singleton)
   where
     at_singleton : (l : DefuzzyLine) → StandIn (at_some f (singleton_of l)) (defuzzy_line_text (view_defuzzy_line l))
     at_singleton (defuzzy.Singleton t) = d t
     at_singleton _ = no_places _
 
 in_range : (s : Fuzzify) → StandIn (at_some empty_range (fuzzy_range s)) (lines_text (part.Fuzzify s))
-in_range s = in_first_kept fuzzy_line_text view_fuzzy_line range_line empty_range s.lines.items at_range
+in_range s = in_first_kept fuzzy_line_text view_fuzzy_line range_line empty_range s.lines at_range
   where
     at_range : (l : FuzzyLine) → StandIn (at_some empty_range (range_line l)) (fuzzy_line_text (view_fuzzy_line l))
     at_range (fuzzy.Term t) = no_places _
@@ -134,7 +134,7 @@ in_range s = in_first_kept fuzzy_line_text view_fuzzy_line range_line empty_rang
 
 in_output_range : (s : Defuzzify) → StandIn (at_some empty_range (defuzzy_range s)) (lines_text (part.Defuzzify s))
 in_output_range s = in_first_kept defuzzy_line_text view_defuzzy_line output_range_line empty_range
-    s.lines.items at_range
+    s.lines at_range
   where
     at_range : (l : DefuzzyLine)
         → StandIn (at_some empty_range (output_range_line l)) (defuzzy_line_text (view_defuzzy_line l))
@@ -144,7 +144,7 @@ in_output_range s = in_first_kept defuzzy_line_text view_defuzzy_line output_ran
 in_numbers : (e : Ends) (s : Defuzzify)
     → StandIn (flat_map (outside_number e) (output_numbers s)) (part_text (view_part (part.Defuzzify s)))
 in_numbers e s = in_lines (part.Defuzzify s)
-    (in_each_kept defuzzy_line_text view_defuzzy_line number_line _ s.lines.items at_number)
+    (in_each_kept defuzzy_line_text view_defuzzy_line number_line _ s.lines at_number)
   where
     at_default : (at : ℕ) (v : FallbackValue)
         → StandIn (at_some (outside_number e) (option_map (λ (n : SignedNumber). (value n, at)) (fallback_number v)))
@@ -164,9 +164,9 @@ in_numbers e s = in_lines (part.Defuzzify s)
 pub repeated_in_section : (text : List ℕ) (b : FunctionBlock) (test : Bool) (p : Part)
     → StandIn (at_if test (section_name p).at ++ repeated_lines text b p) (part_text (view_part p))
 repeated_in_section text b test (part.Fuzzify s) =
-    at_name_and test (part.Fuzzify s) (in_repeated _ view_fuzzy_line _ line_at s.lines.items at_line)
+    at_name_and test (part.Fuzzify s) (in_repeated _ view_fuzzy_line _ line_at s.lines at_line)
 repeated_in_section text b test (part.Defuzzify s) =
-    at_name_and test (part.Defuzzify s) (in_repeated _ view_defuzzy_line _ output_line_at s.lines.items at_output_line)
+    at_name_and test (part.Defuzzify s) (in_repeated _ view_defuzzy_line _ output_line_at s.lines at_output_line)
 
 pub without_terms_in_section : (p : Part) → StandIn (without_terms p) (part_text (view_part p))
 without_terms_in_section (part.Fuzzify s) = search at_fuzzify_end

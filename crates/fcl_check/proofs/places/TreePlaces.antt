@@ -43,7 +43,7 @@ use Rattle.fcl_check.proofs.places.TextPlaces.{AscendWithin-places}
 -- ---- declared names
 
 abbrev names_of : Direction → Declaration → List Declared
-names_of side d = map (λ (n : Name). (side, n)) (d.first ∷ d.more.items)
+names_of side d = map (λ (n : Name). (side, n)) (d.first ∷ d.more)
 
 -- places at declared names, which look at those before them, the nearest first
 module _ (f : List Declared → Declared → List ℕ)
@@ -58,18 +58,18 @@ module _ (f : List Declared → Declared → List ℕ)
       → StandIn (at_each f before (names_of side declaration)) (declaration_text (view_declaration declaration))
   in_declaration side before declaration =
       in_front _ (join (d before (side, declaration.first))
-      (in_names side ((side, declaration.first) ∷ before) declaration.more.items))
+      (in_names side ((side, declaration.first) ∷ before) declaration.more))
 
   in_variables : (before : List Declared) (v : Variables)
       → StandIn (at_each f before (declared_by v)) (section_text (view_section v))
   in_variables before v =
       passed
       (in_front _ (in_each_of_each declaration_text view_declaration f
-      (names_of v.direction) before v.declarations.items (in_declaration v.direction)))
+      (names_of v.direction) before v.declarations (in_declaration v.direction)))
 
   in_declared : (b : FunctionBlock)
-      → StandIn (at_each f [] (declared_in b)) (each section_text (map view_section b.variables.items))
-  in_declared b = in_each_of_each section_text view_section f declared_by [] b.variables.items in_variables
+      → StandIn (at_each f [] (declared_in b)) (each section_text (map view_section b.variables))
+  in_declared b = in_each_of_each section_text view_section f declared_by [] b.variables in_variables
 
 -- places that do not look at the items before theirs
 at_each-constant : {X : Type 0} (f : X → List ℕ) (before xs : List X)
@@ -79,23 +79,23 @@ at_each-constant f before (x ∷ xs) = ap (λ (ns : List ℕ). f x ++ ns) (at_ea
 
 -- ---- a block
 
-in_block : {ls ms ns : List ℕ} (b : FunctionBlock) → StandIn ls (each section_text (map view_section b.variables.items))
-    → StandIn ms (each part_text (map view_part b.parts.items))
+in_block : {ls ms ns : List ℕ} (b : FunctionBlock) → StandIn ls (each section_text (map view_section b.variables))
+    → StandIn ms (each part_text (map view_part b.parts))
     → StandIn ns (rulebase_text (view_rulebase b.rules) ++ end_text (view b).end)
     → StandIn (ls ++ (ms ++ ns)) (block_text (view b))
 in_block b d e g = passed (passed (join d (join e g)))
 
 in_parts : (f : Part → List ℕ) (b : FunctionBlock) → ((p : Part) → StandIn (f p) (part_text (view_part p)))
-    → StandIn (flat_map f b.parts.items) (block_text (view b))
+    → StandIn (flat_map f b.parts) (block_text (view b))
 in_parts f b d = passed
-    (passed (in_back (each section_text (map view_section b.variables.items))
-    (in_front _ (in_each part_text view_part f b.parts.items d))))
+    (passed (in_back (each section_text (map view_section b.variables))
+    (in_front _ (in_each part_text view_part f b.parts d))))
 
-in_lines : {ns : List ℕ} (b : FunctionBlock) → StandIn ns (each rule_line_text (map view_rule_line b.rules.lines.items))
+in_lines : {ns : List ℕ} (b : FunctionBlock) → StandIn ns (each rule_line_text (map view_rule_line b.rules.lines))
     → StandIn ns (rulebase_text (view_rulebase b.rules) ++ end_text (view b).end)
 in_lines b d = passed (passed (in_front _ (in_front _ d)))
 
-in_rules : {ns : List ℕ} (b : FunctionBlock) → StandIn ns (each rule_item_text (map view_rule_item b.rules.rules.items))
+in_rules : {ns : List ℕ} (b : FunctionBlock) → StandIn ns (each rule_item_text (map view_rule_item b.rules.rules))
     → StandIn ns (rulebase_text (view_rulebase b.rules) ++ end_text (view b).end)
 in_rules b d = passed (passed (in_front _ (in_back _ (in_front _ d))))
 
@@ -122,44 +122,44 @@ module _ (text : List ℕ) (b : FunctionBlock) where
   twice_in_block : StandIn (twice text b) (block_text (view b))
   twice_in_block = in_block b
       (in_declared _ (λ before e. at_head (list_any (same_declared text b e) before) e.1.at refl) b)
-      (in_each_after part_text view_part (repeated_section text b) [] b.parts.items
+      (in_each_after part_text view_part (repeated_section text b) [] b.parts
       (λ before p. repeated_in_section text b (list_any (same_section text b p) before) p))
-      (in_lines b (in_repeated rule_line_text view_rule_line same_rule_line rule_line_at b.rules.lines.items
+      (in_lines b (in_repeated rule_line_text view_rule_line same_rule_line rule_line_at b.rules.lines
       at_rule_line))
 
   unknown_in_block : StandIn (unknown text b) (block_text (view b))
   unknown_in_block = in_block b
       (no_places _)
-      (in_each part_text view_part (unknown_section text b) b.parts.items
+      (in_each part_text view_part (unknown_section text b) b.parts
       (λ p. at_name (is_none (direction text b (section_name p))) p))
-      (in_rules b (in_each rule_item_text view_rule_item (unknown_in text b) b.rules.rules.items
+      (in_rules b (in_each rule_item_text view_rule_item (unknown_in text b) b.rules.rules
       (unknown_in_rule text b)))
 
   too_many_in_block : StandIn (too_many text b) (block_text (view b))
   too_many_in_block = in_block b
       (in_declared _ (λ before e. at_head (is_over before e) e.1.at refl) b)
-      (in_each part_text view_part terms_over_limit b.parts.items terms_over_limit_in_section)
-      (in_rules b (dropped_items (λ (r : Rule). r.at) 256 b.rules.rules.items
-      (in_each rule_item_text view_rule_item _ b.rules.rules.items at_rule)))
+      (in_each part_text view_part terms_over_limit b.parts terms_over_limit_in_section)
+      (in_rules b (dropped_items (λ (r : Rule). r.at) 256 b.rules.rules
+      (in_each rule_item_text view_rule_item _ b.rules.rules at_rule)))
 
-  weight_outside_in_block : StandIn (flat_map weight_outside b.rules.rules.items) (block_text (view b))
+  weight_outside_in_block : StandIn (flat_map weight_outside b.rules.rules) (block_text (view b))
   weight_outside_in_block = in_block b
       (no_places _)
       (no_places _)
-      (in_rules b (in_each rule_item_text view_rule_item weight_outside b.rules.rules.items weight_outside_in_rule))
+      (in_rules b (in_each rule_item_text view_rule_item weight_outside b.rules.rules weight_outside_in_rule))
 
   wrong_side_in_block : StandIn (wrong_side text b) (block_text (view b))
   wrong_side_in_block = in_block b
       (no_places _)
-      (in_each part_text view_part (mistaken_section text b) b.parts.items (mistaken_in_section text b))
-      (in_rules b (in_each rule_item_text view_rule_item (mistaken_in text b) b.rules.rules.items
+      (in_each part_text view_part (mistaken_section text b) b.parts (mistaken_in_section text b))
+      (in_rules b (in_each rule_item_text view_rule_item (mistaken_in text b) b.rules.rules
       (mistaken_in_rule text b)))
 
   missing_part_in_block : StandIn (missing_part text b) (block_text (view b))
   missing_part_in_block = in_block b
       (rw (← at_each-constant (without_section text b) [] (declared_in b)) (in_declared _
       (λ before e. at_head (is_none (section_of text b (letters text e.1))) e.1.at refl) b))
-      (in_each part_text view_part incomplete b.parts.items incomplete_in_section)
+      (in_each part_text view_part incomplete b.parts incomplete_in_section)
       (in_back (rulebase_text (view_rulebase b.rules)) (at_head (not (is_whole text b)) b.end refl))
 
   all_in_block : EachStandsIn (block_text (view b)) (kinds text b)

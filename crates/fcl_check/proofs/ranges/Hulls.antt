@@ -22,7 +22,7 @@ reach-append e (p ∷ points) rest = reach-append (int_min e.0 (x_of p), int_max
 pub extended_term : (hull : Option Ends) (t : Term) (rest : List Point)
     → extended hull (map x_of (points_of t ++ rest)) ≡ extended
     (extended hull (map x_of (points_of t))) (map x_of rest)
-extended_term None t rest = ap Some (reach-append (x_of t.first, x_of t.first) t.more.items rest)
+extended_term None t rest = ap Some (reach-append (x_of t.first, x_of t.first) t.more rest)
 extended_term (Some e) t rest = ap Some (reach-append e (points_of t) rest)
 
 abbrev pub numbers_of : List FuzzyLine → List ℤ

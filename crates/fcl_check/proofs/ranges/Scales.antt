@@ -99,7 +99,7 @@ numbers-in (defuzzy.Range x ∷ lines) = numbers-in lines
 
 -- all numbers of an output's section are
 pub output_numbers-in : (s : Defuzzify) → AllByRecursion IsInScale (map (λ (n : ℤ × ℕ). n.0) (output_numbers s))
-output_numbers-in s = numbers-in s.lines.items
+output_numbers-in s = numbers-in s.lines
 
 pub output_hull-in : (s : Defuzzify) (e : Ends) → Some e ≡ output_hull s → AreInScale e
 output_hull-in s e h = hull_of-in (map (λ (n : ℤ × ℕ). n.0) (output_numbers s)) e (output_numbers-in s) h

@@ -1,96 +1,109 @@
--- The nodes of a condition's tree: what they come to, and that what they name is known.
-use Rattle.std.proofs.Common.{◌≡◌, ℕ, ◌<◌, List, length, get_or, map, rules, sym, subst, ap, ◌∙◌}
+-- The parts of an AND or an OR: what they come to, and that what they name is known.
+use Rattle.std.proofs.Common.{◌≡◌, ℕ, zero, suc, ◌<◌, ◌≤◌, List, [], ◌∷◌, length, get_or, sym, subst, arith}
 use Rattle.std.specs.List.{AllByRecursion}
 use Rattle.fuzzy_meaning.specs.Conditions.{Condition, all, any}
-use Rattle.fcl_syntax.specs.Grammar.{TNot, TAnd, and_of, or_of}
-use Rattle.fcl_syntax.specs.View.{view_not, view_and, view_or, view_conjunct, view_alternative, nots_of, ands_of}
-use Rattle.fcl_syntax.specs.declared.tree.Alternative.{Alternative, out-Alternative}
-use Rattle.fcl_syntax.specs.declared.tree.And.{And, out-And}
-use Rattle.fcl_syntax.specs.declared.tree.Conjunct.{Conjunct}
 use Rattle.fcl_syntax.specs.declared.tree.Name.{Name}
-use Rattle.fcl_syntax.specs.declared.tree.Or.{Or, out-Or}
-use Rattle.fcl_syntax.specs.declared.tree.Not.{the_lemmas as tree_lemmas}
-use Rattle.fcl_syntax.specs.declared.tree.Tree.{Tree}
-use Rattle.fcl_check.specs.Faults.{Pair, and_pairs, not_pairs, or_pairs}
-use Rattle.fcl_check.specs.Loaded.{literal_of, not_condition, and_condition, or_condition}
+use Rattle.fcl_syntax.specs.Grammar.{TNot, TAnd, TOr, and_of, or_of}
+use Rattle.fcl_syntax.specs.Conditions.{nots_of, ands_of, not_size, nots_size, and_size, ands_size, or_size}
+use Rattle.fcl_check.specs.Faults.{Pair, and_pairs, ands_pairs, not_pairs, nots_pairs, or_pairs}
+use Rattle.fcl_check.specs.Loaded.{not_condition, and_condition, or_condition}
 use Rattle.fcl_check.proofs.lists.Elements.{parts_of}
-use Rattle.fcl_check.proofs.naming.KnownNames.{pairs_of-alternative, pairs_of-conjunct}
 use Rattle.fcl_check.proofs.trees.ConditionTrees.{all_joined, any_joined}
 use Rattle.fcl_check.proofs.trees.JoinedParts.{IsJoined}
 
--- ---- how nodes are seen
+pairs_of-nots : (P : Pair → Type 0) (ts : List (ℕ × TNot)) (i : ℕ) (d : ℕ × TNot)
+    → AllByRecursion P (nots_pairs (nots_of ts)) → i < length ts → AllByRecursion P (not_pairs (get_or ts i d).1)
+pairs_of-nots P [] i d known within = absurd (omega arith)
+pairs_of-nots P (t ∷ ts) zero d known within = (parts_of P (not_pairs t.1) _ known).0
+pairs_of-nots P (t ∷ ts) (suc i) d known within =
+    pairs_of-nots P ts i d (parts_of P (not_pairs t.1) _ known).1 (omega arith)
 
-pub and_seen : (a : And)
-    → view_and a ≡ and_of (view_not (out-And a).first) (nots_of (map view_conjunct (out-And a).more.items))
-and_seen a = search (rules, tree_lemmas)
+pairs_of-ands : (P : Pair → Type 0) (items : List (ℕ × TAnd)) (i : ℕ) (d : ℕ × TAnd)
+    → AllByRecursion P (ands_pairs (ands_of items)) → i < length items
+    → AllByRecursion P (and_pairs (get_or items i d).1)
+pairs_of-ands P [] i d known within = absurd (omega arith)
+pairs_of-ands P (a ∷ items) zero d known within = (parts_of P (and_pairs a.1) _ known).0
+pairs_of-ands P (a ∷ items) (suc i) d known within =
+    pairs_of-ands P items i d (parts_of P (and_pairs a.1) _ known).1 (omega arith)
 
-pub or_seen : (o : Or)
-    → view_or o ≡ or_of (view_and (out-Or o).first) (ands_of (map view_alternative (out-Or o).more.items))
-or_seen o = search (rules, tree_lemmas)
+nots_size-get : (ts : List (ℕ × TNot)) (i : ℕ) (d : ℕ × TNot) → i < length ts
+    → not_size (get_or ts i d).1 ≤ nots_size (nots_of ts)
+nots_size-get [] i d within = absurd (omega arith)
+nots_size-get (t ∷ ts) zero d within = omega arith
+nots_size-get (t ∷ ts) (suc i) d within = omega (arith, nots_size-get ts i d (omega arith))
 
-pub conjunct_seen : (x : Conjunct) → view_conjunct x ≡ (x.at, view_not x.not)
-conjunct_seen x = search (rules, tree_lemmas)
+ands_size-get : (items : List (ℕ × TAnd)) (i : ℕ) (d : ℕ × TAnd) → i < length items
+    → and_size (get_or items i d).1 ≤ ands_size (ands_of items)
+ands_size-get [] i d within = absurd (omega arith)
+ands_size-get (a ∷ items) zero d within = omega arith
+ands_size-get (a ∷ items) (suc i) d within = omega (arith, ands_size-get items i d (omega arith))
 
-pub alternative_seen : (x : Alternative)
-    → view_alternative x ≡ ((out-Alternative x).at, view_and (out-Alternative x).and)
-alternative_seen x = search (rules, tree_lemmas)
+-- ---- an AND
 
--- ---- what they come to
+abbrev pub first_not : TAnd → TNot
+first_not (and_of t ts) = t
 
-module _ (tree : Tree) where
-  abbrev f : Name → Name → Condition
-  f = literal_of tree.text.items tree.block
+module _ {whole : TAnd} {first : TNot} (more : List (ℕ × TNot)) (seen : and_of first (nots_of more) ≡ whole) where
+  pub and_joined : (f : Name → Name → Condition)
+      → IsJoined (and_condition f whole) all (not_condition f (first_not whole)) (λ (t : ℕ × TNot). not_condition f t.1)
+      more
+  and_joined f = rw (← seen) (all_joined f first more)
 
-  pub and_joined : (a : And)
-      → IsJoined (and_condition f (view_and a)) all (not_condition f (view_not (out-And a).first))
-      (λ x. not_condition f (view_conjunct x).1) (out-And a).more.items
-  and_joined a = rw (and_seen a) (all_joined f view_conjunct (view_not (out-And a).first) (out-And a).more.items)
+  pub and_falls : not_size first < and_size whole
+  and_falls = rw (← seen) (omega arith)
 
-  pub or_joined : (o : Or)
-      → IsJoined (or_condition f (view_or o)) any (and_condition f (view_and (out-Or o).first))
-      (λ x. and_condition f (view_alternative x).1) (out-Or o).more.items
-  or_joined o = rw (or_seen o) (any_joined f view_alternative (view_and (out-Or o).first) (out-Or o).more.items)
+  pub and_part_falls : {read : List (ℕ × TNot)} {i : ℕ} {x : ℕ × TNot} → read ≡ more → i < length read
+      → x ≡ get_or read i x
+      → not_size x.1 < and_size whole
+  and_part_falls {read} {i} {x} same within is =
+      let here = nots_size-get more i x (rw same at within) in
+      let mine = subst (λ (t : ℕ × TNot). not_size t.1 ≤ nots_size (nots_of more)) (sym (rw same at is)) here in
+      rw (← seen) (omega (arith, mine))
 
-  pub conjunct_is : (x : Conjunct) (c : Condition) → c ≡ not_condition f (view_not x.not)
-      → c ≡ not_condition f (view_conjunct x).1
-  conjunct_is x c same = same ∙ ap (λ (u : ℕ × TNot). not_condition f u.1) (sym (conjunct_seen x))
+  module _ (P : Pair → Type 0) (known : AllByRecursion P (and_pairs whole)) where
+    and_known : AllByRecursion P (not_pairs first) × AllByRecursion P (nots_pairs (nots_of more))
+    and_known = parts_of P (not_pairs first) _ (subst (λ (a : TAnd). AllByRecursion P (and_pairs a)) (sym seen) known)
 
-  pub alternative_is : (x : Alternative) (c : Condition)
-      → c ≡ and_condition f (view_and (out-Alternative x).and)
-      → c ≡ and_condition f (view_alternative x).1
-  alternative_is x c same = same ∙ ap (λ (u : ℕ × TAnd). and_condition f u.1) (sym (alternative_seen x))
+    pub and_first : AllByRecursion P (not_pairs first)
+    and_first = and_known.0
 
--- ---- what they name
+    pub and_part : {read : List (ℕ × TNot)} {i : ℕ} {x : ℕ × TNot} → read ≡ more → i < length read → x ≡ get_or read i x
+        → AllByRecursion P (not_pairs x.1)
+    and_part {read} {i} {x} same within is =
+        let here = pairs_of-nots P more i x and_known.1 (rw same at within) in
+        subst (λ (t : ℕ × TNot). AllByRecursion P (not_pairs t.1)) (sym (rw same at is)) here
 
-module _ (P : Pair → Type 0) where
-  pub and_first : (a : And) → AllByRecursion P (and_pairs (view_and a))
-      → AllByRecursion P (not_pairs (view_not (out-And a).first))
-  and_first a h = (parts_of P (not_pairs (view_not (out-And a).first)) _
-      (subst (λ (t : TAnd). AllByRecursion P (and_pairs t)) (and_seen a) h)).0
+-- ---- an OR
 
-  pub and_conjunct : (a : And) {read : List Conjunct} {i : ℕ} {x : Conjunct} → AllByRecursion P (and_pairs (view_and a))
-      → read ≡ (out-And a).more.items → i < length read → x ≡ get_or read i x
-      → AllByRecursion P (not_pairs (view_not x.not))
-  and_conjunct a {read} {i} {x} h same within is =
-      let rest = (parts_of P (not_pairs (view_not (out-And a).first)) _
-      (subst (λ (t : TAnd). AllByRecursion P (and_pairs t)) (and_seen a) h)).1 in
-      let here = pairs_of-conjunct P (out-And a).more.items i x rest (rw same at within) in
-      let mine : AllByRecursion P (not_pairs (view_conjunct x).1) =
-      subst (λ (y : Conjunct). AllByRecursion P (not_pairs (view_conjunct y).1)) (sym (rw same at is)) here in
-      subst (λ (u : ℕ × TNot). AllByRecursion P (not_pairs u.1)) (conjunct_seen x) mine
+abbrev pub first_and : TOr → TAnd
+first_and (or_of a items) = a
 
-  pub or_first : (o : Or) → AllByRecursion P (or_pairs (view_or o))
-      → AllByRecursion P (and_pairs (view_and (out-Or o).first))
-  or_first o h = (parts_of P (and_pairs (view_and (out-Or o).first)) _
-      (subst (λ t. AllByRecursion P (or_pairs t)) (or_seen o) h)).0
+module _ {whole : TOr} {first : TAnd} (more : List (ℕ × TAnd)) (seen : or_of first (ands_of more) ≡ whole) where
+  pub or_joined : (f : Name → Name → Condition)
+      → IsJoined (or_condition f whole) any (and_condition f (first_and whole)) (λ (a : ℕ × TAnd). and_condition f a.1)
+      more
+  or_joined f = rw (← seen) (any_joined f first more)
 
-  pub or_alternative : (o : Or) {read : List Alternative} {i : ℕ} {x : Alternative}
-      → AllByRecursion P (or_pairs (view_or o)) → read ≡ (out-Or o).more.items → i < length read → x ≡ get_or read i x
-      → AllByRecursion P (and_pairs (view_and (out-Alternative x).and))
-  or_alternative o {read} {i} {x} h same within is =
-      let rest = (parts_of P (and_pairs (view_and (out-Or o).first)) _
-      (subst (λ t. AllByRecursion P (or_pairs t)) (or_seen o) h)).1 in
-      let here = pairs_of-alternative P (out-Or o).more.items i x rest (rw same at within) in
-      let mine : AllByRecursion P (and_pairs (view_alternative x).1) =
-      subst (λ (y : Alternative). AllByRecursion P (and_pairs (view_alternative y).1)) (sym (rw same at is)) here in
-      subst (λ (u : ℕ × TAnd). AllByRecursion P (and_pairs u.1)) (alternative_seen x) mine
+  pub or_falls : and_size first < or_size whole
+  or_falls = rw (← seen) (omega arith)
+
+  pub or_part_falls : {read : List (ℕ × TAnd)} {i : ℕ} {x : ℕ × TAnd} → read ≡ more → i < length read
+      → x ≡ get_or read i x
+      → and_size x.1 < or_size whole
+  or_part_falls {read} {i} {x} same within is =
+      let here = ands_size-get more i x (rw same at within) in
+      let mine = subst (λ (a : ℕ × TAnd). and_size a.1 ≤ ands_size (ands_of more)) (sym (rw same at is)) here in
+      rw (← seen) (omega (arith, mine))
+
+  module _ (P : Pair → Type 0) (known : AllByRecursion P (or_pairs whole)) where
+    or_known : AllByRecursion P (and_pairs first) × AllByRecursion P (ands_pairs (ands_of more))
+    or_known = parts_of P (and_pairs first) _ (subst (λ (o : TOr). AllByRecursion P (or_pairs o)) (sym seen) known)
+
+    pub or_first : AllByRecursion P (and_pairs first)
+    or_first = or_known.0
+
+    pub or_part : {read : List (ℕ × TAnd)} {i : ℕ} {x : ℕ × TAnd} → read ≡ more → i < length read → x ≡ get_or read i x
+        → AllByRecursion P (and_pairs x.1)
+    or_part {read} {i} {x} same within is =
+        let here = pairs_of-ands P more i x or_known.1 (rw same at within) in
+        subst (λ (a : ℕ × TAnd). AllByRecursion P (and_pairs a.1)) (sym (rw same at is)) here

@@ -39,7 +39,7 @@ token-opener : (n : ℕ) (x : Token) → (opener n x).token ≡ x
 token-opener zero x = refl
 token-opener (suc n) x = refl
 
-no_annotation : (k : Kind) → Some k ≡ None → ⊥
+pub no_annotation : (k : Kind) → Some k ≡ None → ⊥
 no_annotation k h = cc
 
 module _ (f : Name → Name → Condition) where

@@ -1,9 +1,10 @@
 -- The block of a tree without load faults is valid, where it is not too deep and not too large: as it is
 -- where a text spells the tree.
-use Rattle.std.proofs.Common.{◌≡◌, ℕ, ◌≤◌, Bool, true, false, not, ◌&&◌, List, [], length, None, refl, subst, arith}
+use Rattle.std.proofs.Common.{◌≡◌, ℕ, ◌≤◌, Bool, true, false, not, ◌&&◌, List, [], ◌∷◌, length, None, refl, subst}
+use Rattle.std.proofs.Common.{arith}
 use Rattle.std.proofs.Math.Logic.{∥∥₁_elim}
-use Rattle.std.proofs.Props.{props}
-use Rattle.std.specs.Prelude.{All, is_none, sum_by}
+use Rattle.std.specs.Coded.{Coded-set, Unit-prop, coded_option, le_prop, ×_prop}
+use Rattle.std.specs.Prelude.{is_none, sum_by}
 use Rattle.std.specs.List.{flat_map, slice_get}
 use Rattle.std.specs.Str.{str_to_ascii_lowercase}
 use Rattle.std.proofs.lemmas.List.Elements.{All-from_recursion}
@@ -12,6 +13,8 @@ use Rattle.fuzzy_meaning.specs.declared.block.Block.{Block}
 use Rattle.fuzzy_meaning.specs.declared.block.Input.{Input}
 use Rattle.fuzzy_meaning.specs.declared.block.Output.{Output}
 use Rattle.fuzzy_meaning.specs.Blocks.{IsValid, IsValidInput, IsValidOutput, IsValidRule, rule_size}
+use Rattle.fcl_syntax.specs.contracts.fault.Kind as kind
+use Rattle.fcl_syntax.specs.Annotations.{IsClean, Sym}
 use Rattle.fcl_syntax.specs.Grammar.{block_text}
 use Rattle.fcl_syntax.specs.Offsets.{OffsetsAscend, offsets}
 use Rattle.fcl_syntax.specs.Text.{IsSpelled}
@@ -31,7 +34,7 @@ use Rattle.fcl_check.specs.Texts.{SpelledBlocksAreValid}
 use Rattle.fcl_check.specs.WellFormed.{IsWellFormedRule}
 use Rattle.fcl_check.proofs.trees.ConditionSizes.{few_within}
 use Rattle.fcl_check.proofs.lists.Counts.{few_items, few_names, over, some_at_all, some_names}
-use Rattle.fcl_check.proofs.lists.Elements.{all_images, all_related}
+use Rattle.fcl_check.proofs.lists.Elements.{all_both, all_images, all_related}
 use Rattle.fcl_check.proofs.faultless.Faultless.{
   IsFaultless,
   faultless,
@@ -41,7 +44,7 @@ use Rattle.fcl_check.proofs.faultless.Faultless.{
   well_formed_output,
 }
 use Rattle.fcl_check.proofs.faultless.Faultless.{well_formed_rules}
-use Rattle.fcl_check.proofs.trees.RuleSizes.{IsShallow, clean-rules, count-rules, rule_sizes, shallow_rules}
+use Rattle.fcl_check.proofs.trees.RuleSizes.{HasCleanCondition, clean_rules, count-rules, rule_sizes}
 use Rattle.fcl_check.proofs.validity.ValidInputs.{valid_input}
 use Rattle.fcl_check.proofs.validity.ValidOutputs.{valid_output}
 use Rattle.fcl_check.proofs.validity.ValidRules.{valid_rule}
@@ -66,23 +69,21 @@ module _ (text : List ℕ) (b : FunctionBlock) (block : Block) (well_formed : Is
       let s : Defuzzify = named.0 in
       valid_output text b s y (well_formed_output text b well_formed (letters text n) s named.1) named.2
 
-  sized_block : All IsShallow block.rules → sum_by rule_size block.rules ≤ 1048576 → IsValid block
-  sized_block deep small =
-      let rules = b.rules.rules.items in
+  sized_block : IsClean (block_text (view b)) → sum_by rule_size block.rules ≤ 1048576 → IsValid block
+  sized_block clean small =
+      let rules = b.rules.rules in
       let ins = declared_as side.Input b in
       let outs = declared_as side.Output b in
       let missing = no_items (flat_map (without_section text b) (declared_in b)) _ well_formed.missing in
       let whole = all_three (has_direction text b side.Input) (has_direction text b side.Output)
       (is_none (slice_get rules 0))
-      (no_place (not (is_whole text b)) b.end (no_items (flat_map incomplete b.parts.items) _ missing.1).1) in
+      (no_place (not (is_whole text b)) b.end (no_items (flat_map incomplete b.parts) _ missing.1).1) in
       let many = no_items (at_each over [] (declared_in b)) _ well_formed.counts in
       let long_ins = AllZip-long (IsInputNamed text b) ins block.inputs of.inputs in
       let long_outs = AllZip-long (IsOutputNamed text b) outs block.outputs of.outputs in
       let long_rules = AllZip-long (IsRuleOf text b) rules block.rules of.rules in
-      let valid_rules = All-from_recursion (λ q. IsShallow q → IsValidRule block q) block.rules
-      (all_related (IsWellFormedRule text b) (IsRuleOf text b) (λ q. IsShallow q → IsValidRule block q)
-      (valid_rule text b block of) rules block.rules
-      (well_formed_rules text b well_formed) of.rules) in
+      let fit = all_both (IsWellFormedRule text b) HasCleanCondition rules (well_formed_rules text b well_formed)
+      (clean_rules b clean) in
       record {
         some_input = omega (arith, long_ins, some_names side.Input (declared_in b) whole.0);
         few_inputs = omega (arith, long_ins, few_names side.Input [] (declared_in b) (omega arith) many.0);
@@ -93,39 +94,43 @@ module _ (text : List ℕ) (b : FunctionBlock) (block : Block) (well_formed : Is
           arith,
           long_rules,
           few_items 256 (λ (r : RuleNode). r.at) rules
-              (no_items (flat_map terms_over_limit b.parts.items) _ many.1).1,
+              (no_items (flat_map terms_over_limit b.parts) _ many.1).1,
         );
         inputs = All-from_recursion IsValidInput block.inputs
             (all_images (IsInputNamed text b) IsValidInput named_input ins block.inputs of.inputs);
         outputs = All-from_recursion IsValidOutput block.outputs
             (all_images (IsOutputNamed text b) IsValidOutput named_output outs block.outputs of.outputs);
-        rules = λ k d h. valid_rules k d h (deep k d h);
+        rules = All-from_recursion (IsValidRule block) block.rules
+            (all_related (λ r. IsWellFormedRule text b r × HasCleanCondition r) (IsRuleOf text b) (IsValidRule block)
+            (valid_rule text b block of) rules block.rules fit of.rules);
         size = small;
       }
 
 pub valid_block : (text : List ℕ) (b : FunctionBlock) (block : Block) → first_fault text b ≡ None
-    → IsBlockOf text b block → All IsShallow block.rules
+    → IsBlockOf text b block → IsClean (block_text (view b))
     → sum_by rule_size block.rules ≤ 1048576 → IsValid block
 valid_block text b block well_formed of = sized_block text b block (faultless text b well_formed) of
 
 pub spelled_blocks : OffsetsAscend → SpelledBlocksAreValid
 spelled_blocks offsets_ascend text b block small spelled well_formed of =
     let letters = str_to_ascii_lowercase text in
-    let rules = b.rules.rules.items in
     let few = few_within 0 (length text) (offsets (block_text (view b))) (offsets_ascend text (view b) spelled) in
-    let sizes = rule_sizes letters b rules block.rules of.rules in
-    let deep = shallow_rules letters b rules block.rules (clean-rules b spelled.spells.clean) of.rules in
-    valid_block letters b block well_formed of deep (omega (arith, sizes, count-rules b, few, small))
+    let sizes = rule_sizes letters b b.rules.rules block.rules of.rules in
+    valid_block letters b block well_formed of spelled.spells.clean (omega (arith, sizes, count-rules b, few, small))
+
+clean_prop : (symbols : List Sym) → IsProp (IsClean symbols)
+clean_prop [] = Unit-prop
+clean_prop (s ∷ symbols) = ×_prop (Coded-set (coded_option kind.the_row.coded) s.annotation None) (clean_prop symbols)
 
 -- a tree that is kept has a text, and its blocks keep what the law gives to the blocks of that text
 pub kept_block : SpelledBlocksAreValid → (letters : List ℕ) (b : FunctionBlock) (block : Block)
     → ∥ IsSpelled letters b ∥₁ → first_fault letters b ≡ None
     → IsBlockOf letters b block → IsValid block
 kept_block valid letters b block kept well_formed of =
-    let limits : All IsShallow block.rules × (sum_by rule_size block.rules ≤ 1048576) =
-    ∥∥₁_elim kept (hlevel props) (λ (s : IsSpelled letters b).
+    let limits : IsClean (block_text (view b)) × (sum_by rule_size block.rules ≤ 1048576) =
+    ∥∥₁_elim kept (×_prop (clean_prop (block_text (view b))) le_prop) (λ (s : IsSpelled letters b).
     let whole : IsValid block =
     valid s.text b block s.small s.spelled (subst (λ (l : List ℕ). first_fault l b ≡ None) s.letters_are well_formed)
     (subst (λ (l : List ℕ). IsBlockOf l b block) s.letters_are of) in
-    (λ k d h. (whole.rules k d h).deep, whole.size)) in
+    (s.spelled.spells.clean, whole.size)) in
     valid_block letters b block well_formed of limits.0 limits.1

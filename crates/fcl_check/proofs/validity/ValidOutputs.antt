@@ -146,14 +146,14 @@ module _ (text : List ℕ) (b : FunctionBlock) where
       let all : AllByRecursion (λ (n : ℤ × ℕ). Here n.0) (output_numbers s) = range.numbers in
       let values : AllByRecursion Here (map (λ (d : Dec). d.0) y.singletons) =
       rw (of.singletons) (all_mapped Here (λ (t : Singleton). value t.value) singles
-      (all_singletons Here s.lines.items all)) in
+      (all_singletons Here s.lines all)) in
       let long : length y.singletons ≡ length singles =
       sym (length-map y.singletons (λ (d : Dec). d.0)) ∙ ap length of.singletons
       ∙ length-map singles (λ (t : Singleton). value t.value) in
       let found = all_unmapped Here (λ (d : Dec). d.0) y.singletons values in
       let default : IfSome y.default (λ (d : Dec). Here d.0) =
       default_in Here (default_of s) y.default of.default
-      (λ d n found is. at_default Here s.lines.items d n all found is) in
+      (λ d n found is. at_default Here s.lines d n all found is) in
       record {
         lo_in = range.wide.lo;
         hi_in = range.wide.hi;

@@ -27,7 +27,6 @@ use Rattle.fcl_syntax.specs.declared.tree.Rule.{Rule as RuleNode}
 use Rattle.fcl_syntax.specs.declared.tree.Singleton.{Singleton}
 use Rattle.fcl_syntax.specs.declared.tree.Term.{Term}
 use Rattle.fcl_syntax.specs.declared.tree.Weight.{Weight}
-use Rattle.fcl_syntax.specs.View.{view_or}
 use Rattle.fcl_check.specs.Faults.{Pair, conclusions_of, is_declared_as}
 use Rattle.fcl_check.specs.Loaded.{IsBlockOf, IsInputOf, IsOutputOf, IsRuleOf, IsTermOf, IsVariableNamed, conclusion_of}
 use Rattle.fcl_check.specs.Loaded.{literal_of, number_of, or_zero}
@@ -36,12 +35,11 @@ use Rattle.fcl_check.specs.Names.{singleton_names, singletons_of, term_names, te
 use Rattle.fcl_check.specs.Places.{at_if, at_some}
 use Rattle.fcl_check.specs.Sections.{value}
 use Rattle.fcl_check.specs.WellFormed.{IsKnown, IsWellFormedRule}
-use Rattle.fcl_check.proofs.trees.RuleSizes.{IsShallow}
+use Rattle.fcl_check.proofs.trees.RuleSizes.{HasCleanCondition, shallow_rule}
 use Rattle.fcl_check.proofs.lists.Elements.{all_mapped, all_weaker}
 use Rattle.fcl_check.proofs.faultless.Faultless.{no_place}
 use Rattle.fcl_check.proofs.naming.NumberedNames.{declared_any, number_within, numbered}
 use Rattle.fcl_check.proofs.validity.ValidConditions.{valid_or}
-use Rattle.fcl_check.proofs.trees.WholeConditions.{whole}
 
 -- ---- what names stand for
 
@@ -147,12 +145,13 @@ module _ (text : List ℕ) (b : FunctionBlock) (block : Block) (of : IsBlockOf t
       of.outputs v t known.number known.declared known.numbered in
       rw term (record { output_from = has.variable_from; term_from = has.term_from; term_to = has.term_to })
 
-  pub valid_rule : (r : RuleNode) (q : Rule) → IsWellFormedRule text b r → IsRuleOf text b r q → IsShallow q
+  pub valid_rule : (r : RuleNode) (q : Rule) → IsWellFormedRule text b r × HasCleanCondition r → IsRuleOf text b r q
       → IsValidRule block q
-  valid_rule r q well_formed rule deep =
+  valid_rule r q both rule =
+      let well_formed = both.0 in
       let known = valid_or block (literal_of text b) (λ (p : Pair). IsKnown text b side.Input p.variable p.term)
-      (λ v t h. has_term v t h) (view_or r.condition)
-      (whole r.condition) well_formed.condition in
+      (λ v t h. has_term v t h) r.condition 64 both.1
+      well_formed.condition in
       let ends : AllByRecursion (λ (c : ℕ × ℕ). HasSingleton block c.0 c.1)
       (map (conclusion_of text b) (conclusions_of r)) = all_mapped
       (λ (c : ℕ × ℕ). HasSingleton block c.0 c.1) (conclusion_of text b) (conclusions_of r)
@@ -162,7 +161,7 @@ module _ (text : List ℕ) (b : FunctionBlock) (block : Block) (of : IsBlockOf t
       (conclusions_of r) well_formed.conclusions) in
       record {
         condition = rw (rule.condition) known;
-        deep = deep;
+        deep = shallow_rule text b r q both.1 rule;
         weight = valid_weight r.weight q.weight well_formed.weight rule.weight;
         some_conclusion = rw (rule.conclusions) (omega arith);
         conclusions = All-from_recursion (λ (c : ℕ × ℕ). HasSingleton block c.0 c.1) q.concl

@@ -111,7 +111,7 @@ module _ (lo hi : Dec) (z : Trapezoid) where
       → AllIn (lo.0, hi.0) (points_of t) → IsValidTerm lo hi z
   valid_term t of falls shape all =
       let p = t.first in
-      let points = t.more.items in
+      let points = t.more in
       let up = ascends t falls in
       elim (cases_Bool (has_one p)) [
         | inl f ↦

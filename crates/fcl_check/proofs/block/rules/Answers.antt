@@ -9,8 +9,8 @@ use Rattle.fcl_check.proofs.block.rules.Goals as goal
 
 pub each-preserved : goal.each-preserved
 each-preserved c =
-    let value = c.deref-next-items.ensures.value in
-    let nodes = c.args.source.now.tree.now.block.rules.rules.items in
+    let value = c.as_slice-next-items.ensures in
+    let nodes = c.args.source.now.tree.now.block.rules.rules in
     let node = c.next-item.result in
     let more = one_further nodes c.each.next-index node node (rw value at c.each-test.true)
     (rw value at c.next-item.is) refl in
@@ -23,8 +23,8 @@ rule-requires c =
     let source = c.args.source.now in
     let text = source.tree.now.text.items in
     let block = source.tree.now.block in
-    let value = c.deref-next-items.ensures.value in
-    let well_formed = All-from_recursion (IsWellFormedRule text block) block.rules.rules.items
+    let value = c.as_slice-next-items.ensures in
+    let well_formed = All-from_recursion (IsWellFormedRule text block) block.rules.rules
     (well_formed_rules text block (faultless text block source.well_formed)) in
     subst (IsWellFormedRule text block) (sym (rw value at c.next-item.is))
     (well_formed c.each.next-index c.next-item.result (rw value at c.each-test.true))

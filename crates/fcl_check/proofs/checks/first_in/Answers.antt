@@ -8,11 +8,11 @@ use Rattle.fcl_check.proofs.checks.first_in.Goals as goal
 
 pub returns-in-None : goal.returns-in-None
 returns-in-None g c = λ in_section in_rule section_says rule_says.
-    let parts = c.args.tree.now.block.parts.items in
+    let parts = c.args.tree.now.block.parts in
     let front : first (flat_map in_section parts) ≡ None =
-    sym (rw c.deref.ensures.value at (c.first_at.ensures in_section section_says)) ∙ c.in-None.is in
+    sym (rw c.as_slice.ensures at (c.first_at.ensures in_section section_says)) ∙ c.in-None.is in
     rw (
-      first-append (flat_map in_section parts) (flat_map in_rule c.args.tree.now.block.rules.rules.items),
+      first-append (flat_map in_section parts) (flat_map in_rule c.args.tree.now.block.rules.rules),
       front,
       ← c.requires.rules,
       flat_map-map in_rule (λ (n : RuleNames). n.rule.now) c.args.rules.now,

@@ -1,66 +1,78 @@
-use Rattle.std.proofs.Common.{rules, refl}
-use Rattle.fcl_syntax.specs.declared.tree.And.{out-And}
-use Rattle.fcl_syntax.specs.declared.tree.Or.{out-Or}
-use Rattle.fcl_syntax.specs.declared.tree.Not.{the_lemmas as tree_lemmas}
-use Rattle.fcl_check.proofs.trees.ConditionNodes.{alternative_is, and_conjunct, and_first, and_joined, conjunct_is}
-use Rattle.fcl_check.proofs.trees.ConditionNodes.{or_alternative, or_first, or_joined}
+use Rattle.std.proofs.Common.{rules, refl, ap, ◌∙◌}
+use Rattle.fcl_check.specs.Loaded.{and_condition, literal_of, not_condition}
+use Rattle.fcl_check.proofs.trees.ConditionNodes.{and_falls, and_first, and_joined, and_part, and_part_falls, first_and}
+use Rattle.fcl_check.proofs.trees.ConditionNodes.{first_not, or_falls, or_first, or_joined, or_part, or_part_falls}
 use Rattle.fcl_check.proofs.trees.JoinedParts.{parts_further, whole_of_all, whole_of_one}
 use Rattle.fcl_check.proofs.conditions.+condition.Goals as goal
 
 pub and-returns-then-is_empty : goal.and-returns-then-is_empty
 and-returns-then-is_empty t c =
-    whole_of_one (and_joined c.args.source.now.tree.now c.args.and.now) (out-And c.args.and.now).more.ok.0
-    c.is_empty.ensures c.in_ok-first.first c.if-is_empty.true c.in_ok-first.ensures
-
-pub or-returns-then-is_empty : goal.or-returns-then-is_empty
-or-returns-then-is_empty t c =
-    whole_of_one (or_joined c.args.source.now.tree.now c.args.or.now) (out-Or c.args.or.now).more.ok.0
-    c.is_empty.ensures c.in_ok-first.first c.if-is_empty.true c.in_ok-first.ensures
+    let f = literal_of c.args.source.now.tree.now.text.items c.args.source.now.tree.now.block in
+    whole_of_one (and_joined c.and.inside.more.items c.and.view_is f) c.and.inside.more.ok.0 c.is_empty.ensures
+    c.in_ok-first.first c.if-is_empty.true
+    (c.in_ok-first.ensures ∙ ap (λ x. not_condition f (first_not x)) c.and.view_is)
 
 pub and-each-init : goal.and-each-init
-and-each-init t c = rw (c.in_ok-push.ensures.items, c.new-parts.ensures.items, c.in_ok-first.ensures) refl
-
-pub or-each-init : goal.or-each-init
-or-each-init t c = rw (c.in_ok-push.ensures.items, c.new-parts.ensures.items, c.in_ok-first.ensures) refl
+and-each-init t c =
+    rw (c.in_ok-push.ensures.items, c.new-parts.ensures.items, c.in_ok-first.ensures, ← c.and.view_is) refl
 
 pub and-each-preserved : goal.and-each-preserved
 and-each-preserved t c =
-    parts_further _ _ c.each.parts.items c.in_ok-part.part c.deref-conjunct-items.ensures.value c.each-test.true
-    c.conjunct-item.is c.each.invariant (conjunct_is c.args.source.now.tree.now c.conjunct-item.result
-    c.in_ok-part.part c.in_ok-part.ensures) c.in_ok-push-2.ensures.items
-
-pub or-each-preserved : goal.or-each-preserved
-or-each-preserved t c =
-    parts_further _ _ c.each.parts.items c.in_ok-part.part c.deref-alternative-items.ensures.value c.each-test.true
-    c.alternative-item.is c.each.invariant (alternative_is c.args.source.now.tree.now c.alternative-item.result
-    c.in_ok-part.part c.in_ok-part.ensures) c.in_ok-push-2.ensures.items
+    parts_further _ _ c.each.parts.items c.in_ok-part.part refl c.each-test.true c.each-item.is c.each.invariant
+    c.in_ok-part.ensures c.in_ok-push-2.ensures.items
 
 pub and-returns : goal.and-returns
 and-returns t c =
-    whole_of_all (and_joined c.args.source.now.tree.now c.args.and.now) (out-And c.args.and.now).more.ok.0
-    c.is_empty.ensures c.each.parts.items _ c.if-is_empty.false c.deref-conjunct-items.ensures.value
-    c.each-test.false c.each.invariant refl
-
-pub or-returns : goal.or-returns
-or-returns t c =
-    whole_of_all (or_joined c.args.source.now.tree.now c.args.or.now) (out-Or c.args.or.now).more.ok.0
-    c.is_empty.ensures c.each.parts.items _ c.if-is_empty.false c.deref-alternative-items.ensures.value
-    c.each-test.false c.each.invariant refl
+    let f = literal_of c.args.source.now.tree.now.text.items c.args.source.now.tree.now.block in
+    let same = c.deref-conjunct-items.ensures.value in
+    whole_of_all (and_joined c.and.inside.more.items c.and.view_is f) c.and.inside.more.ok.0 c.is_empty.ensures
+    c.each.parts.items _ c.if-is_empty.false same c.each-test.false (rw same at c.each.invariant) c.all.ensures
 
 pub and-not-requires : goal.and-not-requires
-and-not-requires t c = (search (rules, tree_lemmas), and_first _ c.args.and.now c.requires)
-
-pub or-and-requires : goal.or-and-requires
-or-and-requires t c = (search (rules, tree_lemmas), or_first _ c.args.or.now c.requires)
+and-not-requires t c =
+    let more = c.and.inside.more.items in
+    (search (rules, and_falls more c.and.view_is), and_first more c.and.view_is _ c.requires)
 
 pub and-not-requires-in-each : goal.and-not-requires-in-each
 and-not-requires-in-each t c =
-    let is = and_conjunct _ c.args.and.now c.requires c.deref-conjunct-items.ensures.value c.each-test.true
-    c.conjunct-item.is in
-    (search (rules, tree_lemmas), is)
+    let more = c.and.inside.more.items in
+    let same = c.deref-conjunct-items.ensures.value in (
+      search (rules, and_part_falls more c.and.view_is same c.each-test.true c.each-item.is),
+      and_part more c.and.view_is _ c.requires same c.each-test.true c.each-item.is,
+    )
+
+pub or-returns-then-is_empty : goal.or-returns-then-is_empty
+or-returns-then-is_empty t c =
+    let f = literal_of c.args.source.now.tree.now.text.items c.args.source.now.tree.now.block in
+    whole_of_one (or_joined c.or.inside.more.items c.or.view_is f) c.or.inside.more.ok.0 c.is_empty.ensures
+    c.in_ok-first.first c.if-is_empty.true
+    (c.in_ok-first.ensures ∙ ap (λ x. and_condition f (first_and x)) c.or.view_is)
+
+pub or-each-init : goal.or-each-init
+or-each-init t c =
+    rw (c.in_ok-push.ensures.items, c.new-parts.ensures.items, c.in_ok-first.ensures, ← c.or.view_is) refl
+
+pub or-each-preserved : goal.or-each-preserved
+or-each-preserved t c =
+    parts_further _ _ c.each.parts.items c.in_ok-part.part refl c.each-test.true c.each-item.is c.each.invariant
+    c.in_ok-part.ensures c.in_ok-push-2.ensures.items
+
+pub or-returns : goal.or-returns
+or-returns t c =
+    let f = literal_of c.args.source.now.tree.now.text.items c.args.source.now.tree.now.block in
+    let same = c.deref-alternative-items.ensures.value in
+    whole_of_all (or_joined c.or.inside.more.items c.or.view_is f) c.or.inside.more.ok.0 c.is_empty.ensures
+    c.each.parts.items _ c.if-is_empty.false same c.each-test.false (rw same at c.each.invariant) c.any.ensures
+
+pub or-and-requires : goal.or-and-requires
+or-and-requires t c =
+    let more = c.or.inside.more.items in
+    (search (rules, or_falls more c.or.view_is), or_first more c.or.view_is _ c.requires)
 
 pub or-and-requires-in-each : goal.or-and-requires-in-each
 or-and-requires-in-each t c =
-    let is = or_alternative _ c.args.or.now c.requires c.deref-alternative-items.ensures.value c.each-test.true
-    c.alternative-item.is in
-    (search (rules, tree_lemmas), is)
+    let more = c.or.inside.more.items in
+    let same = c.deref-alternative-items.ensures.value in (
+      search (rules, or_part_falls more c.or.view_is same c.each-test.true c.each-item.is),
+      or_part more c.or.view_is _ c.requires same c.each-test.true c.each-item.is,
+    )

@@ -1,4 +1,4 @@
-use Rattle.std.proofs.Common.{◌<◌, Some, None, length, not, arith, rules, ap, sym, ◌∙◌}
+use Rattle.std.proofs.Common.{◌<◌, Some, None, length, not, rules, ap, sym, ◌∙◌}
 use Rattle.std.proofs.lemmas.List.{append-nil}
 use Rattle.std.proofs.lemmas.Slice.Zip.{all_zipped_more}
 use Rattle.fcl_syntax.specs.declared.tree.Term.{Term}
@@ -14,20 +14,20 @@ use Rattle.fcl_check.proofs.inputs.terms.Goals.{in-Term+in_ok-push, in_default}
 
 pub each-preserved : goal.each-preserved
 each-preserved c =
-    let lines = c.args.section.now.lines.items in
-    let within : c.each.line-index < length lines = omega arith in
+    let lines = c.args.section.now.lines in
+    let within : c.each.line-index < length lines = rw c.as_slice-line-items.ensures at c.each-test.true in
     elim c.match-line.branch [
       | in-Term+in_ok-push w ↦ rw (
         w.terms-is,
         w.in_ok-push.ensures.items,
-        filter_map-more term_of lines c.deref-line-items.result.now c.each.line-index c.line-item.result
-            (Some w.in-Term.term) c.deref-line-items.ensures.value within c.line-item.is (ap term_of w.in-Term.is),
+        filter_map-more term_of lines c.as_slice-line-items.result.now c.each.line-index c.line-item.result
+            (Some w.in-Term.term) c.as_slice-line-items.ensures within c.line-item.is (ap term_of w.in-Term.is),
       )
           (all_zipped_more IsTermOf _ _ _ _ c.each.invariant w.trapezoid.ensures)
       | in_default w ↦ rw (
         w.terms-is,
-        filter_map-more term_of lines c.deref-line-items.result.now c.each.line-index c.line-item.result None
-            c.deref-line-items.ensures.value within
+        filter_map-more term_of lines c.as_slice-line-items.result.now c.each.line-index c.line-item.result None
+            c.as_slice-line-items.ensures within
             c.line-item.is (search rules),
         append-nil,
       ) c.each.invariant
@@ -35,8 +35,9 @@ each-preserved c =
 
 pub trapezoid-requires : goal.trapezoid-requires
 trapezoid-requires c =
-    let lines = c.args.section.now.lines.items in
+    let lines = c.args.section.now.lines in
     let t = c.in-Term.term in
-    let is = ap term_of (sym (rw c.deref-line-items.ensures.value at c.line-item.is) ∙ c.in-Term.is) in
+    let is = ap term_of (sym (rw c.as_slice-line-items.ensures at c.line-item.is) ∙ c.in-Term.is) in
     shaped (has_shape (points_of t)) t.at (none_at (λ (t : Term). at_if (not (has_shape
-    (points_of t))) t.at) term_of lines c.each.line-index c.line-item.result t c.requires (omega arith) is)
+    (points_of t))) t.at) term_of lines c.each.line-index c.line-item.result t c.requires
+    (rw c.as_slice-line-items.ensures at c.each-test.true) is)

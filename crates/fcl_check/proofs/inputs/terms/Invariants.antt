@@ -5,4 +5,4 @@ use Rattle.fcl_check.specs.Names.{term_of}
 use Rattle.fcl_check.proofs.inputs.terms.Given as goal
 
 abbrev pub invariant-each : goal.invariant-each
-invariant-each l = AllZip IsTermOf (filter_map term_of (take l.line-index l.section.lines.items)) l.terms.items
+invariant-each l = AllZip IsTermOf (filter_map term_of (take l.line-index l.section.lines)) l.terms.items

@@ -3,4 +3,4 @@ use Rattle.fcl_check.specs.Corners.{AreCornersOf}
 use Rattle.fcl_check.proofs.inputs.trapezoid.Given as goal
 
 abbrev pub invariant-loop-point : goal.invariant-loop-point
-invariant-loop-point l = AreCornersOf (l.term.first ∷ take l.point-index l.term.more.items) l.corners
+invariant-loop-point l = AreCornersOf (l.term.first ∷ take l.point-index l.term.more) l.corners

@@ -1,6 +1,5 @@
-use Rattle.std.proofs.Common.{refl}
-use Rattle.fcl_check.proofs.alike.SameBlocks.{same_blocks}
+use Rattle.fcl_check.proofs.existing.OneBlock.{one_block}
 use Rattle.fcl_check.proofs.laws.blocks_are_one.Goals as goal
 
 pub returns : goal.returns
-returns c = λ text b p q of_p of_q. same_blocks text b b refl p q of_p of_q
+returns c = one_block

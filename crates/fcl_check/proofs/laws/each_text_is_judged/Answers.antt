@@ -3,4 +3,4 @@ use Rattle.fcl_check.proofs.laws.each_text_is_judged.Goals as goal
 
 pub returns : goal.returns
 returns c = judged_texts c.each_text_is_read.ensures c.spelled_blocks_are_valid.ensures
-    c.spelled_trees_have_blocks.ensures
+    c.trees_have_blocks.ensures

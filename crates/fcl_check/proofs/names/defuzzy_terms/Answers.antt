@@ -8,19 +8,19 @@ use Rattle.fcl_check.proofs.names.defuzzy_terms.Goals.{in-Singleton+in_ok-add_te
 pub returns-in_err-add_term-clause-fault : goal.returns-in_err-add_term-clause-fault
 returns-in_err-add_term-clause-fault c =
     let passed : c.from_residual.result ≡ Err c.in_err-add_term.field-0.0 = search rules in
-    let value = c.deref-line-items.ensures.value in
-    let more = take_more c.args.section.now.lines.items c.each.line-index _ (rw value at c.each-test.true) in
-    rw passed (singleton_twice c.args.tree.now.text.items c.args.tree.now.block c.args.section.now.lines.items
+    let value = c.as_slice-line-items.ensures in
+    let more = take_more c.args.section.now.lines c.each.line-index _ (rw value at c.each-test.true) in
+    rw passed (singleton_twice c.args.tree.now.text.items c.args.tree.now.block c.args.section.now.lines
     c.each.line-index _ more c.each.invariant.once c.in-Singleton.singleton (rw value at c.in-Singleton.is) c.each.terms
     c.each.invariant.numbers c.in_err-add_term.field-0.0 c.in_err-add_term.ensures.fault)
 
 pub returns-then-has_kind : goal.returns-then-has_kind
 returns-then-has_kind c =
-    let value = c.deref-line-items.ensures.value in
+    let value = c.as_slice-line-items.ensures in
     let other = is_no_singleton _ (λ t e. c.in_default.not-Singleton t e) in
-    let more = take_more c.args.section.now.lines.items c.each.line-index _ (rw value at c.each-test.true) in
+    let more = take_more c.args.section.now.lines c.each.line-index _ (rw value at c.each-test.true) in
     let found = sym c.if-has_kind.true ∙ c.has_kind.ensures in
-    let here = other_twice c.args.tree.now.text.items c.args.tree.now.block c.args.section.now.lines.items
+    let here = other_twice c.args.tree.now.text.items c.args.tree.now.block c.args.section.now.lines
     c.each.line-index _ more c.each.invariant.once
     (rw value at other) (rw (value, c.deref.ensures.value, c.each.invariant.others) at found) in
     record { terms = tt; fault = λ h. rw (here, c.line_at.ensures, value) refl }
@@ -29,8 +29,8 @@ pub each-preserved : goal.each-preserved
 each-preserved c =
     let text = c.args.tree.now.text.items in
     let b = c.args.tree.now.block in
-    let lines = c.args.section.now.lines.items in
-    let value = c.deref-line-items.ensures.value in
+    let lines = c.args.section.now.lines in
+    let value = c.as_slice-line-items.ensures in
     let more = take_more lines c.each.line-index _ (rw value at c.each-test.true) in
     elim c.match-line.branch [
       | in-Singleton+in_ok-add_term w ↦ rw (w.terms-is, w.others-is) (KnowsSingletons-singleton text b lines _ _ more

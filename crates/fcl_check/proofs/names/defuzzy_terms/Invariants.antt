@@ -4,4 +4,4 @@ use Rattle.fcl_check.proofs.names.defuzzy_terms.Given as goal
 
 abbrev pub invariant-each : goal.invariant-each
 invariant-each l =
-    KnowsSingletons l.tree.text.items l.tree.block (take l.line-index l.section.lines.items) l.terms l.others.items
+    KnowsSingletons l.tree.text.items l.tree.block (take l.line-index l.section.lines) l.terms l.others.items

@@ -7,8 +7,8 @@ use Rattle.fcl_check.proofs.names.fuzzy_terms.Goals.{in-Term+in_ok-add_term-in-T
 pub returns-in_err-add_term-in-Term-clause-fault : goal.returns-in_err-add_term-in-Term-clause-fault
 returns-in_err-add_term-in-Term-clause-fault c =
     let passed : c.from_residual.result ≡ Err c.in_err-add_term-in-Term.field-0.0 = search rules in
-    let lines = c.args.section.now.lines.items in
-    let more = read_further lines _ c.each.line-index c.line-item.result c.deref-line-items.ensures.value
+    let lines = c.args.section.now.lines in
+    let more = read_further lines _ c.each.line-index c.line-item.result c.as_slice-line-items.ensures
     c.each-test.true c.line-item.is in
     rw passed (term_twice c.args.tree.now.text.items c.args.tree.now.block lines c.each.line-index c.line-item.result
     more c.each.invariant.once c.in-Term.term c.in-Term.is c.each.terms c.each.invariant.numbers
@@ -16,8 +16,8 @@ returns-in_err-add_term-in-Term-clause-fault c =
 
 pub returns-then-has_range-clause-fault : goal.returns-then-has_range-clause-fault
 returns-then-has_range-clause-fault c =
-    let lines = c.args.section.now.lines.items in
-    let more = read_further lines _ c.each.line-index c.line-item.result c.deref-line-items.ensures.value
+    let lines = c.args.section.now.lines in
+    let more = read_further lines _ c.each.line-index c.line-item.result c.as_slice-line-items.ensures
     c.each-test.true c.line-item.is in
     let here = range_twice c.args.tree.now.text.items c.args.tree.now.block lines c.each.line-index c.line-item.result
     more c.each.invariant.once c.in-Range.range c.in-Range.is (sym c.if-has_range.true ∙ c.each.invariant.range) in
@@ -27,8 +27,8 @@ pub each-preserved : goal.each-preserved
 each-preserved c =
     let text = c.args.tree.now.text.items in
     let b = c.args.tree.now.block in
-    let lines = c.args.section.now.lines.items in
-    let more = read_further lines _ c.each.line-index c.line-item.result c.deref-line-items.ensures.value
+    let lines = c.args.section.now.lines in
+    let more = read_further lines _ c.each.line-index c.line-item.result c.as_slice-line-items.ensures
     c.each-test.true c.line-item.is in
     elim c.match-line.branch [
       | in-Term+in_ok-add_term-in-Term w ↦ rw (w.terms-is, w.has_range-is) (KnowsTerms-term text b lines _ _ more

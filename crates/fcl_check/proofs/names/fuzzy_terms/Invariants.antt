@@ -4,4 +4,4 @@ use Rattle.fcl_check.proofs.names.fuzzy_terms.Given as goal
 
 abbrev pub invariant-each : goal.invariant-each
 invariant-each l =
-    KnowsTerms l.tree.text.items l.tree.block (take l.line-index l.section.lines.items) l.terms l.has_range
+    KnowsTerms l.tree.text.items l.tree.block (take l.line-index l.section.lines) l.terms l.has_range

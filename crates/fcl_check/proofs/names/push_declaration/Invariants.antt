@@ -3,4 +3,4 @@ use Rattle.fcl_check.proofs.names.push_declaration.Given as goal
 
 abbrev pub invariant-each : goal.invariant-each
 invariant-each l = l.into.items ≡ l.fn.into.items
-    ++ map (λ n. (l.direction, n)) (l.declaration.first ∷ take l.name-index l.declaration.more.items)
+    ++ map (λ n. (l.direction, n)) (l.declaration.first ∷ take l.name-index l.declaration.more)

@@ -4,4 +4,4 @@ use Rattle.fcl_check.proofs.names.push_variables.Given as goal
 
 abbrev pub invariant-each : goal.invariant-each
 invariant-each l = l.into.items ≡ l.fn.into.items ++ names_declared l.variables.direction
-    (take l.declaration-index l.variables.declarations.items)
+    (take l.declaration-index l.variables.declarations)

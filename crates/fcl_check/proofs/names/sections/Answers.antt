@@ -6,9 +6,9 @@ use Rattle.fcl_check.proofs.names.sections.Goals as goal
 pub returns-then-contains_key-clause-fault : goal.returns-then-contains_key-clause-fault
 returns-then-contains_key-clause-fault c =
     let b = c.args.tree.now.block in
-    let more = read_further b.parts.items _ c.each.part-index c.part-item.result c.deref-part-items.ensures.value
+    let more = read_further b.parts _ c.each.part-index c.part-item.result c.as_slice-part-items.ensures
     c.each-test.true c.part-item.is in
-    let here = section_twice c.args.tree.now.text.items b b.parts.items c.each.part-index c.part-item.result more
+    let here = section_twice c.args.tree.now.text.items b b.parts c.each.part-index c.part-item.result more
     c.each.sections c.each.invariant.sections c.section_name-name.result c.section_name-name.ensures
     c.each.invariant.once (sym (rw c.letters.ensures at c.if-contains_key.ensures)) in
     λ h. rw here refl
@@ -17,9 +17,9 @@ pub returns-in_err-terms-clause-fault : goal.returns-in_err-terms-clause-fault
 returns-in_err-terms-clause-fault c =
     let passed : c.from_residual.result ≡ Err c.in_err-terms.field-0.0 = search rules in
     let b = c.args.tree.now.block in
-    let more = read_further b.parts.items _ c.each.part-index c.part-item.result c.deref-part-items.ensures.value
+    let more = read_further b.parts _ c.each.part-index c.part-item.result c.as_slice-part-items.ensures
     c.each-test.true c.part-item.is in
-    rw passed (line_twice c.args.tree.now.text.items b b.parts.items c.each.part-index c.part-item.result more
+    rw passed (line_twice c.args.tree.now.text.items b b.parts c.each.part-index c.part-item.result more
     c.each.sections c.each.invariant.sections c.section_name-name.result c.section_name-name.ensures
     c.each.invariant.once (sym (rw c.letters.ensures at c.if-contains_key.ensures)) c.in_err-terms.field-0.0
     c.in_err-terms.ensures.fault)
@@ -27,13 +27,13 @@ returns-in_err-terms-clause-fault c =
 pub each-preserved : goal.each-preserved
 each-preserved c =
     let b = c.args.tree.now.block in
-    let more = read_further b.parts.items _ c.each.part-index c.part-item.result c.deref-part-items.ensures.value
+    let more = read_further b.parts _ c.each.part-index c.part-item.result c.as_slice-part-items.ensures
     c.each-test.true c.part-item.is in
     record {
-      sections = sections_more c.args.tree.now.text.items b b.parts.items c.each.part-index c.part-item.result more
+      sections = sections_more c.args.tree.now.text.items b b.parts c.each.part-index c.part-item.result more
           c.each.sections c.each.invariant.sections c.section_name-name.result c.section_name-name.ensures _ _ refl
           c.in_ok-terms.ensures.terms c.in_ok-add.ensures.added;
-      once = section_once c.args.tree.now.text.items b b.parts.items c.each.part-index c.part-item.result more
+      once = section_once c.args.tree.now.text.items b b.parts c.each.part-index c.part-item.result more
           c.each.sections c.each.invariant.sections c.section_name-name.result c.section_name-name.ensures
           c.each.invariant.once (sym (rw c.letters.ensures at c.if-contains_key.ensures)) c.in_ok-terms.ensures.fault;
     }

@@ -6,7 +6,7 @@ use Rattle.fcl_check.proofs.names.sections.Given as goal
 
 abbrev pub invariant-each : goal.invariant-each
 invariant-each l = record {
-  sections : HoldsSections l.tree.text.items (take l.part-index l.tree.block.parts.items) l.sections;
+  sections : HoldsSections l.tree.text.items (take l.part-index l.tree.block.parts) l.sections;
   once : first (at_each (repeated_section l.tree.text.items l.tree.block) []
-      (take l.part-index l.tree.block.parts.items)) ≡ None;
+      (take l.part-index l.tree.block.parts)) ≡ None;
 }

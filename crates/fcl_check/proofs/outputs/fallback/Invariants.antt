@@ -5,4 +5,4 @@ use Rattle.fcl_check.specs.Sections.{default_line, default_of}
 use Rattle.fcl_check.proofs.outputs.fallback.Given as goal
 
 abbrev pub invariant-loop-line : goal.invariant-loop-line
-invariant-loop-line l = first (filter_map default_line (drop l.line-index l.section.lines.items)) ≡ default_of l.section
+invariant-loop-line l = first (filter_map default_line (drop l.line-index l.section.lines)) ≡ default_of l.section

@@ -1,4 +1,3 @@
-use Rattle.std.proofs.Common.{arith}
 use Rattle.fcl_check.proofs.lists.Lines.{no-singleton}
 use Rattle.fcl_check.proofs.ranges.OutputLines.{singletons-more, singletons-passed}
 use Rattle.fcl_check.proofs.outputs.singletons.Goals as goal
@@ -6,15 +5,17 @@ use Rattle.fcl_check.proofs.outputs.singletons.Goals.{in-Singleton+in_ok-push, i
 
 pub each-preserved : goal.each-preserved
 each-preserved c =
-    let lines = c.args.section.now.lines.items in
-    let read = c.deref-line-items in
+    let lines = c.args.section.now.lines in
+    let read = c.as_slice-line-items in
     elim c.match-line.branch [
       | in-Singleton+in_ok-push w ↦ rw (w.singletons-is, w.in_ok-push.ensures.items)
-          (singletons-more lines read.result.now c.each.line-index _ read.ensures.value
-          (omega arith) c.each.singletons.items w.value.result w.in-Singleton.singleton w.in-Singleton.is
+          (singletons-more lines read.result.now c.each.line-index _ read.ensures
+          (rw read.ensures at c.each-test.true)
+          c.each.singletons.items w.value.result w.in-Singleton.singleton w.in-Singleton.is
           w.value.ensures c.each.invariant)
       | in_default w ↦ rw w.singletons-is
-          (singletons-passed lines read.result.now c.each.line-index _ read.ensures.value
-          (omega arith) c.each.singletons.items
+          (singletons-passed lines read.result.now c.each.line-index _ read.ensures
+          (rw read.ensures at c.each-test.true)
+          c.each.singletons.items
           (no-singleton _ w.in_default.not-Singleton) c.each.invariant)
     ]

@@ -6,4 +6,4 @@ use Rattle.fcl_check.proofs.sections.defuzzy_range.Given as goal
 
 abbrev pub invariant-loop-line : goal.invariant-loop-line
 invariant-loop-line l =
-    first (filter_map output_range_line (drop l.line-index l.section.lines.items)) ≡ defuzzy_range l.section
+    first (filter_map output_range_line (drop l.line-index l.section.lines)) ≡ defuzzy_range l.section

@@ -6,4 +6,4 @@ use Rattle.fcl_check.proofs.sections.falling_in.Given as goal
 
 abbrev pub invariant-loop-point : goal.invariant-loop-point
 invariant-loop-point l =
-    first (falling_from l.before.0 (drop l.point-index l.term.more.items)) ≡ first (falling_in l.term)
+    first (falling_from l.before.0 (drop l.point-index l.term.more)) ≡ first (falling_in l.term)

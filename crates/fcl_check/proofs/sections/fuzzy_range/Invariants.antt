@@ -5,4 +5,4 @@ use Rattle.fcl_check.specs.Sections.{fuzzy_range, range_line}
 use Rattle.fcl_check.proofs.sections.fuzzy_range.Given as goal
 
 abbrev pub invariant-loop-line : goal.invariant-loop-line
-invariant-loop-line l = first (filter_map range_line (drop l.line-index l.section.lines.items)) ≡ fuzzy_range l.section
+invariant-loop-line l = first (filter_map range_line (drop l.line-index l.section.lines)) ≡ fuzzy_range l.section

@@ -9,7 +9,7 @@ use Rattle.fcl_check.proofs.sections.has_term.Goals as goal
 
 pub returns : goal.returns
 returns c =
-    let lines = c.args.section.now.lines.items in
+    let lines = c.args.section.now.lines in
     any_from_yields_List (λ (l : FuzzyLine). is_some (term_of l)) _ _ _ c.any.ensures.ran
     (YieldsList-from_slice lines cc) (λ x b q k. search (rules, tests))
     ∙ any_found term_of lines

@@ -10,7 +10,7 @@ pub loop-line-preserved : goal.loop-line-preserved
 loop-line-preserved c =
     elim c.match-line.branch [
       | in-Term w ↦ rw w.hull-is (hull_term (option_map ends_in c.loop-line.hull)
-          (ends_in w.with_term.result) c.args.section.now.lines.items c.loop-line.line-index c.line-item.result
+          (ends_in w.with_term.result) c.args.section.now.lines c.loop-line.line-index c.line-item.result
           w.in-Term.term (search rules)
           (search rules) w.in-Term.is w.with_term.ensures ∙ c.loop-line.invariant)
       | in_default w ↦ grind (arith, common_steps)

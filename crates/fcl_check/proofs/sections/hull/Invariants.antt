@@ -9,4 +9,4 @@ use Rattle.fcl_check.proofs.sections.hull.Given as goal
 
 abbrev pub invariant-loop-line : goal.invariant-loop-line
 invariant-loop-line l = extended (option_map ends_in l.hull) (map x_of (flat_map points_of
-    (filter_map term_of (drop l.line-index l.section.lines.items)))) ≡ hull_of (abscissas l.section)
+    (filter_map term_of (drop l.line-index l.section.lines)))) ≡ hull_of (abscissas l.section)

@@ -12,7 +12,7 @@ use Rattle.fcl_check.proofs.sections.term_over_limit.Goals as goal
 
 pub returns-in-Fuzzify : goal.returns-in-Fuzzify
 returns-in-Fuzzify c =
-    let lines = c.in-Fuzzify.section.lines.items in
+    let lines = c.in-Fuzzify.section.lines in
     rw (c.in-Fuzzify.is, first-map-drop-filter_map (λ (t : Term). t.name.at) term_of 15 lines)
     (sym (option_map_id c.nth.result) ∙ nth_from_yields_List _ _ 15 c.nth.ensures.ran
     (YieldsList-from_filter_map _ (λ (l : FuzzyLine). option_map (λ (t : Term). t.name.at) (term_of l))
@@ -20,7 +20,7 @@ returns-in-Fuzzify c =
 
 pub returns-in-Defuzzify : goal.returns-in-Defuzzify
 returns-in-Defuzzify c =
-    let lines = c.in-Defuzzify.section.lines.items in
+    let lines = c.in-Defuzzify.section.lines in
     rw (c.in-Defuzzify.is, first-map-drop-filter_map (λ (t : Singleton). t.name.at) singleton_of 15 lines)
     (sym (option_map_id c.nth-in-Defuzzify.result) ∙ nth_from_yields_List _ _ 15 c.nth-in-Defuzzify.ensures.ran
     (YieldsList-from_filter_map _ (λ (l : DefuzzyLine). option_map (λ (t : Singleton). t.name.at) (singleton_of l))

@@ -1,9 +1,8 @@
-use Rattle.std.proofs.Common.{length, [], ◌∷◌, map, ◌+◌, ◌*◌}
+use Rattle.std.proofs.Common.{length, [], ◌∷◌, ◌+◌, ◌*◌}
 use Rattle.fcl_syntax.specs.declared.token.Keyword.TheVariants as key
 use Rattle.fcl_syntax.specs.TokenClasses.{keyword_class}
 use Rattle.fcl_syntax.specs.Readers.{loop}
 use Rattle.fcl_syntax.specs.Reading.{not_at, conjunct_in, alternative_in}
-use Rattle.fcl_syntax.specs.View.{view_conjunct, view_alternative}
 use Rattle.fcl_syntax.proofs.Run.{Going}
 use Rattle.fcl_syntax.proofs.conditions.+condition.Given as goal
 
@@ -33,7 +32,7 @@ decreases-opened l = 8 * l.room + 7
 
 abbrev pub invariant-alternatives-each : goal.invariant-alternatives-each
 invariant-alternatives-each l =
-    Going (keyword_class key.Or ∷ []) (alternative_in (not_at l.room)) (map view_alternative l.more.items) l.rest
+    Going (keyword_class key.Or ∷ []) (alternative_in (not_at l.room)) l.more.items l.rest
     (loop (keyword_class key.Or ∷ []) (alternative_in (not_at l.room)) (length l.tokens) l.tokens)
 
 abbrev pub decreases-alternatives-each : goal.decreases-alternatives-each
@@ -41,7 +40,7 @@ decreases-alternatives-each l = length l.rest
 
 abbrev pub invariant-conjuncts-each : goal.invariant-conjuncts-each
 invariant-conjuncts-each l =
-    Going (keyword_class key.And ∷ []) (conjunct_in (not_at l.room)) (map view_conjunct l.more.items) l.rest
+    Going (keyword_class key.And ∷ []) (conjunct_in (not_at l.room)) l.more.items l.rest
     (loop (keyword_class key.And ∷ []) (conjunct_in (not_at l.room)) (length l.tokens) l.tokens)
 
 abbrev pub decreases-conjuncts-each : goal.decreases-conjuncts-each

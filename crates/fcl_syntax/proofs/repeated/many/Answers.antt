@@ -1,5 +1,5 @@
-use Rattle.std.proofs.Common.{sym}
-use Rattle.fcl_syntax.proofs.Run.{pushed}
+use Rattle.std.proofs.Common.{map, sym, ◌∙◌}
+use Rattle.fcl_syntax.proofs.Run.{is_done, pushed}
 use Rattle.fcl_syntax.proofs.repeated.many.Goals as goal
 
 pub each-preserved : goal.each-preserved
@@ -8,3 +8,9 @@ each-preserved g c =
     c.each.rest.now c.in_ok-next.after.now _
     c.in_ok-push.ensures.items (sym c.each-test.ensures) c.in_ok-next.ensures.read c.in_ok-next.ensures.shorter
     c.each.invariant
+
+pub returns : goal.returns
+returns g c =
+    rw c.new.ensures
+    (is_done g.R.Repeated.first g.R.Repeated.read_at (map g.R.Repeated.view c.each.items.items) c.each.rest.now _
+    (sym c.is_next.ensures ∙ c.each-test.false) c.each.invariant)

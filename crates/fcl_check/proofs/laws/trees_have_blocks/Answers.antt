@@ -1,5 +1,5 @@
 use Rattle.fcl_check.proofs.existing.FoundBlocks.{found_block}
-use Rattle.fcl_check.proofs.laws.spelled_trees_have_blocks.Goals as goal
+use Rattle.fcl_check.proofs.laws.trees_have_blocks.Goals as goal
 
 pub returns : goal.returns
 returns c = found_block

@@ -1,9 +1,0 @@
-pub mod SameImages
-pub mod SameParts
-pub mod SameSections
-pub mod SameNames
-pub mod SameBlocks
-pub mod SamePlaces
-pub mod SameSectionFaults
-pub mod SameTwice
-pub mod SameFaults
