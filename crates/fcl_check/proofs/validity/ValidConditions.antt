@@ -2,8 +2,8 @@
 use Rattle.std.proofs.Common.{ℕ, [], ◌∷◌, Some, None}
 use Rattle.std.specs.List.{AllByRecursion}
 use Rattle.fuzzy_meaning.specs.declared.block.Block.{Block}
-use Rattle.fuzzy_meaning.specs.Blocks.{AllValidConditions, IsValidCondition}
-use Rattle.fuzzy_meaning.specs.Conditions.{Condition}
+use Rattle.fuzzy_meaning.specs.Blocks.{HasTerm, IsValidCondition}
+use Rattle.fuzzy_meaning.specs.Conditions.{Condition, AllHaveLiterals}
 use Rattle.fcl_syntax.specs.declared.fault.Kind.TheVariants.{Unsupported}
 use Rattle.fcl_syntax.specs.declared.token.Token.TheVariants as tok
 use Rattle.fcl_syntax.specs.declared.tree.Name.{Name}
@@ -30,7 +30,7 @@ module _ (block : Block) (f : Name → Name → Condition) (P : Pair → Type 0)
     valid_not (lone v x) n clean all = absurd (no_annotation (Unsupported 12) clean.0)
 
     valid_nots : (ts : TNots) (n : ℕ) → IsClean (nots_text ts n) → AllByRecursion P (nots_pairs ts)
-        → AllValidConditions block (nots_conditions f ts)
+        → AllHaveLiterals (HasTerm block) (nots_conditions f ts)
     valid_nots no_nots n clean all = tt
     valid_nots (more_nots at t ts) n clean all =
         let both = clean_parts (not_text t n) (nots_text ts n) clean.1 in
@@ -47,7 +47,7 @@ module _ (block : Block) (f : Name → Name → Condition) (P : Pair → Type 0)
         (valid_not t n both.0 pairs.0, valid_nots (more_nots at u ts) n both.1 pairs.1)
 
     valid_ands : (items : TAnds) (n : ℕ) → IsClean (ands_text items n) → AllByRecursion P (ands_pairs items)
-        → AllValidConditions block (ands_conditions f items)
+        → AllHaveLiterals (HasTerm block) (ands_conditions f items)
     valid_ands no_ands n clean all = tt
     valid_ands (more_ands at a items) n clean all =
         let both = clean_parts (and_text a n) (ands_text items n) clean.1 in
