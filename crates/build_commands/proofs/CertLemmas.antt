@@ -1,9 +1,8 @@
--- A certificate that one block of a text accepts is refused by none.
+-- A certificate that a block accepts is not refused.
 use Rattle.std.proofs.Common.{◌≡◌, ◌≢◌, ◌≤◌, ℕ, List, sym, subst, arith}
 use Rattle.std.specs.Prelude.{Result, Ok, Err, IfOk, IfErr}
 use Rattle.std.specs.Global.{Vec}
 use Rattle.fuzzy_meaning.specs.declared.block.Block.{Block}
-use Rattle.fuzzy_meaning.specs.Blocks.{IsValid}
 use Rattle.eval_code.specs.Widths.{parts}
 use Rattle.eval_code.specs.declared.width.Width.{Width}
 use Rattle.eval_code.specs.declared.width.Width.TheVariants.{Byte, Word}
@@ -23,7 +22,7 @@ use Rattle.cert_check.specs.Faults.{IsPairFault, bad_rule, fails, HasTreeFault, 
 use Rattle.cert_check.specs.Faults.{outputs, tree, claimed}
 use Rattle.cert_check.specs.Laws.{TextAnswersAreOne}
 use Rattle.cert_check.specs.TextFaults.{HasTextFault, of_text, of_cert}
-use Rattle.build_commands.specs.Certs.{AcceptsCert, HasCertFault, cert_refusals, version, status_of}
+use Rattle.build_commands.specs.Certs.{AcceptedCertsHaveNoFault, HasCertFault, cert_refusals, version, status_of}
 use Rattle.fz_status.specs.Refusals.{IsRefusal}
 use Rattle.fz_status.specs.declared.status.CertRefusal.{CertRefusal}
 use Rattle.fz_status.specs.declared.status.CertRefusal.TheVariants as told
@@ -42,9 +41,8 @@ has_refusal : (width : Width) (block : Block) (text : List ℕ) (f : CertRefusal
 has_refusal width block text (told.Text f) h = h
 has_refusal width block text (told.Check f) h = h
 
-pub cert_apart : TextAnswersAreOne → (width : Width) (text errors : List ℕ) (block : Block) → IsValid block
-    → AcceptsCert width block text errors → (f : CertRefusal) → HasCertFault width block text f → ⊥
-cert_apart answers width text errors block valid accepts f fault =
+pub certs_apart : TextAnswersAreOne → AcceptedCertsHaveNoFault
+certs_apart answers width block text errors f valid accepts fault =
     let refused = has_refusal width block text f fault in
     let same : Ok errors ≡ Err (refusal_of f) =
     answers block (parts width) (version width) text (Ok errors) (Err (refusal_of f)) valid

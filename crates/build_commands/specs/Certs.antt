@@ -1,5 +1,6 @@
 -- Certificates of a text's block.
 use Rattle.std.specs.Prelude.{ℕ, List}
+use Rattle.fuzzy_meaning.specs.Blocks.{IsValid}
 use Rattle.fuzzy_meaning.specs.declared.block.Block.{Block}
 use Rattle.eval_code.specs.Widths.{parts}
 use Rattle.eval_code.specs.declared.width.Width.{Width}
@@ -7,7 +8,6 @@ use Rattle.eval_code.specs.declared.width.Width.TheVariants.{Byte, Word}
 use Rattle.cert_check.specs.TextFaults.{IsAcceptedText, HasTextFault}
 use Rattle.cert_check.specs.declared.text.TextFault.{TextFault as TheRefusal}
 use Rattle.cert_check.specs.declared.text.TextFault.TheVariants as refusal
-use Rattle.fcl_check.specs.Texts.{SpellsBlock}
 use Rattle.build_commands.specs.Firmwares.{OfFirmware}
 use Rattle.fz_status.specs.Refusals.{Refusals}
 use Rattle.fz_status.specs.declared.status.CertRefusal.{CertRefusal}
@@ -43,9 +43,7 @@ status_of (refusal.Text f) = status.Cert (told.Text f)
 status_of (refusal.Check f) = status.Cert (told.Check f)
 status_of refusal.Memory = status.Memory
 
--- a certificate that one block of a text accepts is refused by none
+-- a certificate that a block accepts is not refused
 abbrev pub AcceptedCertsHaveNoFault : Type 0
-AcceptedCertsHaveNoFault =
-    (width : Width) (text cert errors : List ℕ) (block other : Block) (f : CertRefusal)
-    → SpellsBlock text block → SpellsBlock text other
-    → AcceptsCert width block cert errors → HasCertFault width other cert f → ⊥
+AcceptedCertsHaveNoFault = (width : Width) (block : Block) (cert errors : List ℕ) (f : CertRefusal) → IsValid block
+    → AcceptsCert width block cert errors → HasCertFault width block cert f → ⊥

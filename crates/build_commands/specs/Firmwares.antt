@@ -55,6 +55,22 @@ abbrev pub text_refusals : List ℕ → Refusals
 text_refusals text (status.Fcl f) = RefusesText text f
 text_refusals text s = ⊥
 
+-- a text gives one block, and one firmware of a width
+abbrev pub GivenFirmwaresAreOne : Type 0
+GivenFirmwaresAreOne = (width : Width) (text : List ℕ) (block other : Block) (firmware others : Firmware)
+    → GivesFirmware width text block firmware → GivesFirmware width text other others
+    → (block ≡ other) × (firmware ≡ others)
+
+-- one in the mailbox form
+abbrev pub GivenMailboxesAreOne : Type 0
+GivenMailboxesAreOne = (text : List ℕ) (block other : Block) (firmware others : Firmware)
+    → GivesMailbox text block firmware → GivesMailbox text other others → (block ≡ other) × (firmware ≡ others)
+
+-- and one that watches its tables
+abbrev pub GivenWatchedAreOne : Type 0
+GivenWatchedAreOne = (text : List ℕ) (block other : Block) (firmware others : Firmware)
+    → GivesWatched text block firmware → GivesWatched text other others → (block ≡ other) × (firmware ≡ others)
+
 -- a text that spells a block within the limits is not refused
 abbrev pub SpelledTextsHaveNoFault : Type 0
 SpelledTextsHaveNoFault =

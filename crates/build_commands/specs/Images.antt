@@ -3,10 +3,6 @@ use Rattle.std.specs.Prelude.{◌≡◌, ◌≢◌, ℕ, List}
 use Rattle.cpu12_asm.specs.Bytes.{IsFirstDifference, byte_at}
 use Rattle.cpu12_asm.specs.declared.image.Image.{Image}
 use Rattle.srecord.specs.Texts.{GivesImage, HasFault}
-use Rattle.fuzzy_meaning.specs.declared.block.Block.{Block}
-use Rattle.codegen.specs.declared.firmware.Firmware.{Firmware}
-use Rattle.eval_code.specs.declared.width.Width.{Width}
-use Rattle.build_commands.specs.Firmwares.{GivesFirmware, GivesMailbox, GivesWatched}
 use Rattle.fz_status.specs.Refusals.{Refusals}
 use Rattle.fz_status.specs.declared.status.ImageFault.{ImageFault}
 use Rattle.fz_status.specs.declared.status.ImageFault.TheVariants as image
@@ -36,23 +32,7 @@ abbrev pub image_refusals : List ℕ → Image → Refusals
 image_refusals text wanted (status.Image f) = RefusesImage text wanted f
 image_refusals text wanted s = ⊥
 
--- records that give the image of one firmware of a text are not refused for another's
-abbrev pub FirmwareImagesHaveNoFault : Type 0
-FirmwareImagesHaveNoFault =
-    (width : Width) (text records : List ℕ) (block other : Block) (firmware others : Firmware) (f : ImageFault)
-    → GivesFirmware width text block firmware → GivesFirmware width text other others
-    → GivesImage records firmware.image → RefusesImage records others.image f → ⊥
-
--- so it is with watched tables
-abbrev pub WatchedImagesHaveNoFault : Type 0
-WatchedImagesHaveNoFault =
-    (text records : List ℕ) (block other : Block) (firmware others : Firmware) (f : ImageFault)
-    → GivesWatched text block firmware → GivesWatched text other others
-    → GivesImage records firmware.image → RefusesImage records others.image f → ⊥
-
--- and in the mailbox form
-abbrev pub MailboxImagesHaveNoFault : Type 0
-MailboxImagesHaveNoFault =
-    (text records : List ℕ) (block other : Block) (firmware others : Firmware) (f : ImageFault)
-    → GivesMailbox text block firmware → GivesMailbox text other others
-    → GivesImage records firmware.image → RefusesImage records others.image f → ⊥
+-- records that give an image are not refused for it
+abbrev pub GivenImagesHaveNoFault : Type 0
+GivenImagesHaveNoFault =
+    (records : List ℕ) (wanted : Image) (f : ImageFault) → GivesImage records wanted → RefusesImage records wanted f → ⊥

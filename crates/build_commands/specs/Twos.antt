@@ -1,14 +1,11 @@
 -- The blocks of two texts, and the firmware of both at two levels.
-use Rattle.std.specs.Prelude.{ℕ, List}
+use Rattle.std.specs.Prelude.{◌≡◌, ℕ, List}
 use Rattle.fuzzy_meaning.specs.declared.block.Block.{Block}
 use Rattle.two_level.specs.Images.{IsTwoOf}
 use Rattle.two_level.specs.declared.two.Two.{Two}
-use Rattle.srecord.specs.Texts.{GivesImage}
 use Rattle.build_commands.specs.Firmwares.{GivesBlock, RefusesText}
-use Rattle.build_commands.specs.Images.{RefusesImage}
 use Rattle.fz_status.specs.Refusals.{Refusals}
 use Rattle.fz_status.specs.declared.status.FastFault.TheVariants as told
-use Rattle.fz_status.specs.declared.status.ImageFault.{ImageFault}
 use Rattle.fz_status.specs.declared.status.Status.TheVariants as status
 
 -- the blocks are those of the texts, they can be laid out, and the firmware is that of both
@@ -23,9 +20,8 @@ two_refusals slow fast (status.Fcl f) = RefusesText slow f
 two_refusals slow fast (status.Fast (told.Fcl f)) = ((block : Block) × GivesBlock slow block) × RefusesText fast f
 two_refusals slow fast s = ⊥
 
--- records that give the image of one firmware of two texts are not refused for another's
-abbrev pub TwoImagesHaveNoFault : Type 0
-TwoImagesHaveNoFault =
-    (slow_text fast_text records : List ℕ) (slow fast p q : Block) (two others : Two) (f : ImageFault)
+-- two texts give two blocks, and one firmware of both
+abbrev pub GivenTwosAreOne : Type 0
+GivenTwosAreOne = (slow_text fast_text : List ℕ) (slow fast p q : Block) (two others : Two)
     → GivesTwo slow_text fast_text slow fast two → GivesTwo slow_text fast_text p q others
-    → GivesImage records two.image → RefusesImage records others.image f → ⊥
+    → (slow ≡ p) × (fast ≡ q) × (two ≡ others)

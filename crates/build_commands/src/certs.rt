@@ -7,7 +7,6 @@ ghost use Rattle.fz_status.specs.Refusals.{IsRefusal};
 
 use cert_check::{TextFault as Refusal, check_text, check_text16, text_answers_are_one};
 use eval_code::Width;
-use fcl_check::spelled_blocks_are_one;
 use fuzzy_meaning::Block;
 use fz_status::{CertRefusal, Status};
 use std::alloc::Global;
@@ -45,10 +44,9 @@ fn told(answer: Result<Vec<u32>, Refusal>) -> Result<Vec<u32>, Status>
     }
 }
 
-/// A certificate that one block of a text accepts is refused by none.
+/// A certificate that a block accepts is not refused.
 pub fn accepted_certs_have_no_fault()
     ensures { AcceptedCertsHaveNoFault }
 {
-    spelled_blocks_are_one();
     text_answers_are_one()
 }

@@ -10,6 +10,7 @@ use crate::firmware::{firmware_of, spelled_texts_have_no_fault};
 use crate::lines::{labelled, push_errors};
 use crate::output::Output;
 use eval_code::Width;
+use fcl_check::spelled_blocks_are_one;
 use fz_status::Status;
 use std::alloc::{AllocError, Global};
 
@@ -53,5 +54,6 @@ pub fn checked_certs_have_no_fault()
     ensures { (check : TheCheck) (text cert : List ℕ) → OutputHasNoFault (CheckMakes check text cert) }
 {
     spelled_texts_have_no_fault();
+    spelled_blocks_are_one();
     accepted_certs_have_no_fault()
 }

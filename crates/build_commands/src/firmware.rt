@@ -2,10 +2,11 @@
 ghost use Rattle.std.specs.Prelude.{◌≡◌, ◌≤◌, length, IfOk, IfErr};
 ghost use Rattle.fcl_check.specs.Texts.{SpellsBlock};
 ghost use Rattle.build_commands.specs.Firmwares.{GivesBlock, GivesFirmware, GivesMailbox, GivesWatched, text_refusals};
+ghost use Rattle.build_commands.specs.Firmwares.{GivenFirmwaresAreOne, GivenMailboxesAreOne, GivenWatchedAreOne};
 ghost use Rattle.build_commands.specs.Firmwares.{SpelledTextsHaveNoFault};
 ghost use Rattle.fz_status.specs.Refusals.{IsRefusal};
 
-use codegen::{Firmware, compile, compile_post, compile16};
+use codegen::{Firmware, compile, compile_post, compile16, firmwares_are_one, mailboxes_are_one};
 use eval_code::Width;
 use fcl_check::{LoadFault, load, load_faults_are_one, spelled_blocks_are_one};
 use fcl_syntax::{SyntaxFault, first_faults_are_one, parse};
@@ -13,7 +14,7 @@ use fuzzy_meaning::Block;
 use fz_status::{FclFault, Status};
 use rule_layout::{LayoutFault, limits_have_no_fault, spread};
 use std::alloc::Global;
-use watched_code::compile_scrub;
+use watched_code::{compile_scrub, watched_firmwares_are_one};
 
 /// A block with its firmware.
 #[derive(Drop)]
@@ -113,4 +114,28 @@ pub fn spelled_texts_have_no_fault()
     load_faults_are_one();
     spelled_blocks_are_one();
     limits_have_no_fault()
+}
+
+/// A text gives one block, and one firmware of each width.
+pub fn given_firmwares_are_one()
+    ensures { GivenFirmwaresAreOne }
+{
+    spelled_blocks_are_one();
+    firmwares_are_one()
+}
+
+/// It gives one in the mailbox form.
+pub fn given_mailboxes_are_one()
+    ensures { GivenMailboxesAreOne }
+{
+    spelled_blocks_are_one();
+    mailboxes_are_one()
+}
+
+/// It gives one with watched tables.
+pub fn given_watched_are_one()
+    ensures { GivenWatchedAreOne }
+{
+    spelled_blocks_are_one();
+    watched_firmwares_are_one()
 }

@@ -1,13 +1,12 @@
 //! From two texts to their blocks, and to the firmware of both at two levels.
 ghost use Rattle.std.specs.Prelude.{◌≤◌, length, IfOk, IfErr};
-ghost use Rattle.build_commands.specs.Twos.{GivesTwo, TwoImagesHaveNoFault, two_refusals};
+ghost use Rattle.build_commands.specs.Twos.{GivenTwosAreOne, GivesTwo, two_refusals};
 ghost use Rattle.fz_status.specs.Refusals.{IsRefusal};
 
 use crate::firmware::laid_out_block_of;
 use fcl_check::spelled_blocks_are_one;
 use fuzzy_meaning::Block;
 use fz_status::Status;
-use srecord::images_are_one;
 use std::alloc::Global;
 use two_level::{Two, compile_two, twos_are_one};
 
@@ -46,11 +45,10 @@ pub fn two_of(alloc: Global, slow: &[u8], fast: &[u8]) -> Result<CompiledTwo, St
     }
 }
 
-/// Records that give the image of one firmware of two texts have no fault for another's.
-pub fn two_images_have_no_fault()
-    ensures { TwoImagesHaveNoFault }
+/// Two texts give two blocks, and one firmware of both.
+pub fn given_twos_are_one()
+    ensures { GivenTwosAreOne }
 {
     spelled_blocks_are_one();
-    twos_are_one();
-    images_are_one()
+    twos_are_one()
 }

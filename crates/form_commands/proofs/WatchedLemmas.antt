@@ -1,16 +1,13 @@
 -- What a run under upsets gives.
-use Rattle.std.proofs.Common.{◌≡◌, ◌≤◌, ◌∙◌, ℕ, Bool, List, [], ◌∷◌, ap, sym, subst}
-use Rattle.std.specs.Prelude.{◌&&◌, All, map, nat_le}
+use Rattle.std.proofs.Common.{◌≡◌, ◌≤◌, ℕ, List, [], ◌∷◌, subst}
+use Rattle.std.specs.Prelude.{All, map}
 use Rattle.std.proofs.lemmas.List.Elements.{All-cons, All-nil}
 use Rattle.fuzzy_meaning.specs.declared.block.Block.{Block}
-use Rattle.cpu12_asm.specs.Bytes.{byte_at}
 use Rattle.cpu12_emul.specs.Image.{image_memory}
 use Rattle.watched_code.specs.Watched.{Watched, watched_answer}
 use Rattle.codegen.specs.declared.firmware.Firmware.{Firmware}
 use Rattle.eval_code.specs.declared.width.Width.TheVariants.{Byte}
 use Rattle.srecord.specs.Texts.{GivesImage}
-use Rattle.interrupt_plan.specs.UpsetTexts.{SpellsUpsets}
-use Rattle.interrupt_plan.specs.Upsets.{IsGoodUpset, is_there}
 use Rattle.interrupt_plan.specs.declared.Request.{Request}
 use Rattle.interrupt_plan.specs.declared.upsets.Upset.{Upset}
 use Rattle.trace_io.specs.declared.sample.Sample.{Sample}
@@ -92,28 +89,3 @@ module _ (files : WatchedFiles) (block : Block) (firmware : Firmware) (gives : G
   upsets_refused errors samples plan inputs (status.Upset f) r =
       (block, firmware, gives, (image, errors, samples, plan, inputs, r))
   upsets_refused errors samples plan inputs s r = absurd r
-
--- ---- upsets of images that are one
-
-module _ (a b : List (ℕ × ℕ)) (one : (at : ℕ) → byte_at a at ≡ byte_at b at) where
-  good_there : (u : Upset) → IsGoodUpset a u → IsGoodUpset b u
-  good_there u good = record {
-    sample_from = good.sample_from;
-    sample_to = good.sample_to;
-    table = ap (λ (o : Bool). nat_le 0xD000 u.at && nat_le u.at 0xFEFF && o) (ap is_there (sym (one u.at)))
-        ∙ good.table;
-    value = good.value;
-  }
-
-  pub spelled_there : (text : List ℕ) (upsets : List Upset) → SpellsUpsets a text upsets → SpellsUpsets b text upsets
-  spelled_there text upsets spells = record {
-    rows = spells.rows;
-    first = spells.first;
-    few = spells.few;
-    spelled = spells.spelled;
-    good = record {
-      few = spells.good.few;
-      each = λ k d lt. good_there _ (spells.good.each k d lt);
-      ascend = spells.good.ascend;
-    };
-  }

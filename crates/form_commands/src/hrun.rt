@@ -19,6 +19,7 @@ use build_commands::hcheck::{AcceptedHandler, given_handlers_have_no_fault, hand
 use build_commands::output::Output;
 use build_commands::words::flags;
 use eval_code::Width;
+use fcl_check::spelled_blocks_are_one;
 use fz_run::laws::answers_under_plans;
 use fz_status::{Status, word};
 use handled_runs::{HandledRow, run_handler};
@@ -121,5 +122,6 @@ pub fn handled_runs_have_no_fault()
 {
     spelled_texts_have_no_fault();
     given_handlers_have_no_fault();
+    spelled_blocks_are_one();
     accepted_inputs_have_no_fault()
 }

@@ -16,13 +16,12 @@ use crate::level_lines::lines;
 use build_commands::certs::{accepted_certs_have_no_fault, errors_under};
 use build_commands::contents::content;
 use build_commands::firmware::spelled_texts_have_no_fault;
-use build_commands::images::require_image;
+use build_commands::images::{given_images_have_no_fault, require_image};
 use build_commands::output::Output;
-use build_commands::twos::{CompiledTwo, two_images_have_no_fault, two_of};
+use build_commands::twos::{CompiledTwo, given_twos_are_one, two_of};
 use build_commands::words::flags;
 use certified_run::posted_answers_are_near;
 use eval_code::Width;
-use fcl_check::spelled_blocks_are_one;
 use fuzzy_meaning::Block;
 use fz_run::laws::answers_under_plans;
 use fz_status::{Status, word};
@@ -207,9 +206,9 @@ pub fn level_runs_have_no_fault()
     ensures { (lrun : TheLrun) (files : LevelFiles) → OutputHasNoFault (LrunMakes lrun files) }
 {
     spelled_texts_have_no_fault();
-    two_images_have_no_fault();
+    given_twos_are_one();
+    given_images_have_no_fault();
     accepted_certs_have_no_fault();
-    spelled_blocks_are_one();
     spelled_traces_have_no_fault();
     spelled_traces_are_one_long();
     spelled_levels_have_no_fault()

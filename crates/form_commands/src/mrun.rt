@@ -14,13 +14,14 @@ ghost use Rattle.form_commands.specs.declared.mrun.Mrun.{Mrun as TheMrun};
 use crate::posted_lines::lines;
 use build_commands::certs::{accepted_certs_have_no_fault, errors_under};
 use build_commands::contents::content;
-use build_commands::firmware::{Compiled, mailbox_of, spelled_texts_have_no_fault};
-use build_commands::images::{mailbox_images_have_no_fault, require_image};
+use build_commands::firmware::{
+    Compiled, given_mailboxes_are_one, mailbox_of, spelled_texts_have_no_fault,
+};
+use build_commands::images::{given_images_have_no_fault, require_image};
 use build_commands::output::Output;
 use build_commands::words::flags;
 use certified_run::posted_answers_are_near;
 use eval_code::Width;
-use fcl_check::spelled_blocks_are_one;
 use fz_status::{Status, word};
 use interrupt_plan::{PlanFault, Posts, read_posts, spelled_posts_have_no_fault};
 use posted_runs::{last_is_answered, run_posts};
@@ -125,9 +126,9 @@ pub fn posted_runs_have_no_fault()
     ensures { (mrun : TheMrun) (files : PostedFiles) → OutputHasNoFault (MrunMakes mrun files) }
 {
     spelled_texts_have_no_fault();
-    mailbox_images_have_no_fault();
+    given_mailboxes_are_one();
+    given_images_have_no_fault();
     accepted_certs_have_no_fault();
-    spelled_blocks_are_one();
     spelled_traces_have_no_fault();
     spelled_traces_are_one_long();
     spelled_posts_have_no_fault()

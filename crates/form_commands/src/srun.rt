@@ -17,8 +17,10 @@ ghost use Rattle.form_commands.specs.WatchedRun.{WatchedFiles};
 ghost use Rattle.form_commands.specs.declared.srun.Srun.{Srun as TheSrun};
 
 use build_commands::contents::content;
-use build_commands::firmware::{Compiled, spelled_texts_have_no_fault, watched_firmware_of};
-use build_commands::images::{require_image, watched_images_have_no_fault};
+use build_commands::firmware::{
+    Compiled, given_watched_are_one, spelled_texts_have_no_fault, watched_firmware_of,
+};
+use build_commands::images::{given_images_have_no_fault, require_image};
 use build_commands::output::Output;
 use build_commands::words::flags;
 use certified_run::faultless_answers_are_near;
@@ -29,7 +31,6 @@ use interrupt_plan::{UpsetFault, Upsets, read_upsets, spelled_upsets_have_no_fau
 use run_reports::inputs::{Inputs, inputs_of};
 use run_reports::laws::{accepted_inputs_have_no_fault, spelled_bytes_fit};
 use run_reports::row_lines::{begun, push_labelled_row};
-use srecord::images_are_one;
 use std::alloc::{AllocError, Global};
 use watched_runs::{WatchedRow, run_upsets};
 
@@ -139,8 +140,8 @@ pub fn watched_runs_have_no_fault()
     ensures { (srun : TheSrun) (files : WatchedFiles) → OutputHasNoFault (SrunMakes srun files) }
 {
     spelled_texts_have_no_fault();
-    watched_images_have_no_fault();
+    given_watched_are_one();
+    given_images_have_no_fault();
     accepted_inputs_have_no_fault();
-    images_are_one();
     spelled_upsets_have_no_fault()
 }

@@ -10,7 +10,7 @@ use Rattle.error_certifier.specs.Halving.{IsHalving}
 use Rattle.interrupt_plan.specs.declared.Request.{Request}
 use Rattle.trace_io.specs.declared.sample.Sample.{Sample}
 use Rattle.run_law.specs.Forms.{RowSeen}
-use Rattle.workload.specs.Blocks.{IsDrawnBlock}
+use Rattle.workload.specs.Blocks.{drawn_block}
 use Rattle.workload.specs.Draws.{draw}
 use Rattle.workload.specs.Workloads.{IsWorkload}
 use Rattle.fz_status.specs.Refusals.{Refusals, Refuses}
@@ -83,10 +83,10 @@ pub record GenerateGives (number : ℕ) (output : SeenOutput) : Type 0 where
   pub reported : IsReportOf Byte 0 block firmware samples requests report
   pub output_is : output ≡ record { text = generate_lines number report.errors report.bound report.rows; file = None }
 
--- there is none where halving stops at a block that the number draws
+-- there is none where halving stops at the block that the number draws
 abbrev pub generate_refusals : ℕ → Refusals
 generate_refusals number (status.NotReached stop) =
-    (block : Block) × IsDrawnBlock (draw number 0 5) block × StopsHalving Byte generated_target block stop
+    StopsHalving Byte generated_target (drawn_block (draw number 0 5)) stop
 generate_refusals number s = ⊥
 
 abbrev pub GenerateMakes : Generate → Result SeenOutput Status → Type 0

@@ -10,8 +10,10 @@ ghost use Rattle.run_commands.specs.declared.debug.DebugRun.{DebugRun as TheDebu
 
 use crate::shown_lines::lines;
 use build_commands::contents::content;
-use build_commands::firmware::{Compiled, firmware_of, spelled_texts_have_no_fault};
-use build_commands::images::{firmware_images_have_no_fault, require_image};
+use build_commands::firmware::{
+    Compiled, firmware_of, given_firmwares_are_one, spelled_texts_have_no_fault,
+};
+use build_commands::images::{given_images_have_no_fault, require_image};
 use build_commands::output::Output;
 use build_commands::words::flags;
 use debug_script::{Script, ScriptFault, debug, read_script};
@@ -107,6 +109,7 @@ pub fn debugged_runs_have_no_fault()
     ensures { (debug : TheDebug) (files : DebugFiles) → OutputHasNoFault (DebugMakes debug files) }
 {
     spelled_texts_have_no_fault();
-    firmware_images_have_no_fault();
+    given_firmwares_are_one();
+    given_images_have_no_fault();
     spelled_samples_have_no_fault()
 }

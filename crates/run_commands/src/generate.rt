@@ -24,7 +24,7 @@ use fz_status::{Status, word};
 use rule_layout::{LayoutFault, limits_have_no_fault};
 use run_reports::laws::answers_are_reported;
 use std::alloc::{AllocError, Global};
-use workload::{drawn_blocks_are_one, drawn_blocks_are_within_limits};
+use workload::drawn_blocks_are_within_limits;
 
 /// `gen NUMBER`.
 #[derive(Clone, Copy, Debug, PartialEq, Eq)]
@@ -154,6 +154,5 @@ fn lines(
 pub fn generated_runs_have_no_fault()
     ensures { (generate : TheGenerate) → OutputHasNoFault (GenerateMakes generate) }
 {
-    drawn_blocks_are_one();
     halved_blocks_do_not_stop()
 }

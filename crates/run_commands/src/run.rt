@@ -13,8 +13,10 @@ ghost use Rattle.run_commands.specs.Run.{Accepts, RunMakes, files_in, run_in, ru
 ghost use Rattle.run_commands.specs.declared.run.Run.{Run as TheRun};
 
 use build_commands::contents::content;
-use build_commands::firmware::{Compiled, firmware_of, spelled_texts_have_no_fault};
-use build_commands::images::{firmware_images_have_no_fault, require_image};
+use build_commands::firmware::{
+    Compiled, firmware_of, given_firmwares_are_one, spelled_texts_have_no_fault,
+};
+use build_commands::images::{given_images_have_no_fault, require_image};
 use build_commands::lines::labelled;
 use build_commands::output::Output;
 use build_commands::words::flags;
@@ -130,6 +132,7 @@ pub fn certified_runs_have_no_fault()
     ensures { (run : TheRun) (files : Files) → OutputHasNoFault (RunMakes run files) }
 {
     spelled_texts_have_no_fault();
-    firmware_images_have_no_fault();
+    given_firmwares_are_one();
+    given_images_have_no_fault();
     accepted_inputs_have_no_fault()
 }

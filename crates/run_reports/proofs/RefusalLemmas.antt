@@ -1,9 +1,7 @@
 -- What refuses the files that all runs share, and that nothing refuses accepted ones.
-use Rattle.std.proofs.Common.{ℕ, List, sym, subst}
+use Rattle.std.proofs.Common.{ℕ, List}
 use Rattle.fuzzy_meaning.specs.declared.block.Block.{Block}
-use Rattle.fuzzy_meaning.specs.declared.block.Input.{Input}
 use Rattle.eval_code.specs.declared.width.Width.{Width}
-use Rattle.fcl_check.specs.OneBlock.{SpelledBlocksAreOne}
 use Rattle.interrupt_plan.specs.OneReading.{SpelledPlansHaveNoFault}
 use Rattle.trace_io.specs.OneReading.{SpelledTracesHaveNoFault}
 use Rattle.trace_io.specs.Traces.{Spells as SpellsTrace}
@@ -38,20 +36,15 @@ module _ (block : Block) (trace plan : List ℕ) where
 
 -- ---- nothing refuses files that are accepted
 
-pub samples_stand : SpelledBlocksAreOne → SpelledTracesHaveNoFault → SpelledPlansHaveNoFault → SpelledSamplesHaveNoFault
-samples_stand one traces plans text trace plan block other samples requests
-    (status.Trace f) spelled also in_range good r =
-    traces other.inputs trace samples f
-    (subst (λ (b : Block). SpellsTrace b.inputs trace samples) (sym (one text other block also spelled))
-    in_range) r
-samples_stand one traces plans text trace plan block other samples requests
-    (status.Plan f) spelled also in_range good r =
+pub samples_stand : SpelledTracesHaveNoFault → SpelledPlansHaveNoFault → SpelledSamplesHaveNoFault
+samples_stand traces plans block trace plan samples requests (status.Trace f) in_range good r =
+    traces block.inputs trace samples f in_range r
+samples_stand traces plans block trace plan samples requests (status.Plan f) in_range good r =
     plans plan requests f good r.2
-samples_stand one traces plans text trace plan block other samples requests s spelled also in_range good r = r
+samples_stand traces plans block trace plan samples requests s in_range good r = r
 
 pub inputs_stand : AcceptedCertsHaveNoFault → SpelledSamplesHaveNoFault → AcceptedInputsHaveNoFault
-inputs_stand certs stand width text cert trace plan block other errors samples requests
-    (status.Cert f) spelled also a r =
-    certs width text cert errors block other f spelled also a.accepted r
-inputs_stand certs stand width text cert trace plan block other errors samples requests s spelled also a r =
-    stand text trace plan block other samples requests s spelled also a.in_range a.good_plan r.2
+inputs_stand certs stand width block cert trace plan errors samples requests (status.Cert f) valid a r =
+    certs width block cert errors f valid a.accepted r
+inputs_stand certs stand width block cert trace plan errors samples requests s valid a r =
+    stand block trace plan samples requests s a.in_range a.good_plan r.2

@@ -1,8 +1,8 @@
 -- What is so of every run and of every run's files.
 use Rattle.std.specs.Prelude.{◌≡◌, ℕ, ◌≤◌, List, All, length, map}
+use Rattle.fuzzy_meaning.specs.Blocks.{IsValid}
 use Rattle.fuzzy_meaning.specs.declared.block.Block.{Block}
 use Rattle.fuzzy_meaning.specs.declared.block.Input.{Input}
-use Rattle.fcl_check.specs.Texts.{SpellsBlock}
 use Rattle.box_tree.specs.declared.cert.Cert.{Cert}
 use Rattle.cert_check.specs.Acceptance.{IsAccepted}
 use Rattle.eval_code.specs.Firing.{AreInputBytes}
@@ -54,17 +54,15 @@ AnswersAreReported = (width : Width) (flags : ℕ) (text : List ℕ) (block : Bl
     → AnswersItsBlock firmware flags (map input_bytes samples) plan rows
     → IsReportOf width flags block firmware samples plan (report_of errors firmware.instr_bound rows)
 
--- a trace and a plan that are accepted with one block of a text are refused with none
+-- a trace and a plan that are accepted are not refused
 abbrev pub SpelledSamplesHaveNoFault : Type 0
-SpelledSamplesHaveNoFault = (text trace plan : List ℕ) (block other : Block) (samples : List Sample)
-    (requests : List Request) (s : Status)
-    → SpellsBlock text block → SpellsBlock text other
-    → SpellsTrace block.inputs trace samples → SpellsPlan plan requests → sample_refusals other trace plan s → ⊥
+SpelledSamplesHaveNoFault = (block : Block) (trace plan : List ℕ) (samples : List Sample) (requests : List Request)
+    (s : Status)
+    → SpellsTrace block.inputs trace samples → SpellsPlan plan requests → sample_refusals block trace plan s → ⊥
 
 -- and so it is with a certificate before them
 abbrev pub AcceptedInputsHaveNoFault : Type 0
-AcceptedInputsHaveNoFault = (width : Width) (text cert trace plan : List ℕ) (block other : Block) (errors : List ℕ)
-    (samples : List Sample) (requests : List Request) (s : Status)
-    → SpellsBlock text block → SpellsBlock text other
+AcceptedInputsHaveNoFault = (width : Width) (block : Block) (cert trace plan errors : List ℕ) (samples : List Sample)
+    (requests : List Request) (s : Status) → IsValid block
     → AcceptsInputs width block cert trace plan errors samples requests
-    → input_refusals width other cert trace plan s → ⊥
+    → input_refusals width block cert trace plan s → ⊥

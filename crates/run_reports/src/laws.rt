@@ -5,7 +5,6 @@ ghost use Rattle.run_reports.specs.Laws.{SpelledTracesAreShort};
 
 use build_commands::certs::accepted_certs_have_no_fault;
 use certified_run::answers_are_within_errors;
-use fcl_check::spelled_blocks_are_one;
 use fz_rows::first_rows_are_one;
 use interrupt_plan::spelled_plans_have_no_fault;
 use trace_io::spelled_traces_have_no_fault;
@@ -39,16 +38,15 @@ pub fn answers_are_reported()
     answers_are_within_errors()
 }
 
-/// A trace and a plan that are accepted with one block of a text are refused with none.
+/// A trace and a plan that are accepted are not refused.
 pub fn spelled_samples_have_no_fault()
     ensures { SpelledSamplesHaveNoFault }
 {
-    spelled_blocks_are_one();
     spelled_traces_have_no_fault();
     spelled_plans_have_no_fault()
 }
 
-/// A certificate, a trace and a plan that are accepted with one block of a text are refused with none.
+/// A certificate, a trace and a plan that are accepted are not refused.
 pub fn accepted_inputs_have_no_fault()
     ensures { AcceptedInputsHaveNoFault }
 {

@@ -1,6 +1,6 @@
 -- The block that is drawn: nine terms over each of two inputs, and a rule for each pair of them.
-use Rattle.std.specs.Prelude.{◌≡◌, ℕ, ◌+◌, ◌-◌, ◌*◌, ◌/◌, ◌%◌, ◌==◌, if◌then◌else◌, [], ◌∷◌, length, map, Some, None}
-use Rattle.std.specs.Prelude.{slice_get, pos}
+use Rattle.std.specs.Prelude.{ℕ, ◌+◌, ◌-◌, ◌*◌, ◌/◌, ◌%◌, ◌==◌, if◌then◌else◌, List, [], ◌∷◌, map, Some, None, pos}
+use Rattle.std.specs.List.{range_with_len}
 use Rattle.fz_num.specs.declared.dec.Dec.{Dec}
 use Rattle.fuzzy_meaning.specs.Conditions.{is, all, also, end}
 use Rattle.fuzzy_meaning.specs.declared.block.Block.{Block}
@@ -34,13 +34,19 @@ drawn_output = record {
 }
 
 -- rule number n, from 0, under a shift: where x is term n / 9 and y is term n % 9
-pub record IsDrawnRule (shift n : ℕ) (r : Rule) : Type 0 where
-  pub condition : r.cond ≡ all (also (is 1 (n / 9 + 1)) (also (is 2 (n % 9 + 1)) end))
-  pub weight : r.weight ≡ None
-  pub conclusion : r.concl ≡ (1, (n / 9 + 2 * (n % 9) + shift) % 5 + 1) ∷ []
+abbrev pub drawn_rule : ℕ → ℕ → Rule
+drawn_rule shift n = record {
+  cond = all (also (is 1 (n / 9 + 1)) (also (is 2 (n % 9 + 1)) end));
+  weight = None;
+  concl = (1, (n / 9 + 2 * (n % 9) + shift) % 5 + 1) ∷ [];
+}
 
-pub record IsDrawnBlock (shift : ℕ) (block : Block) : Type 0 where
-  pub inputs : block.inputs ≡ drawn_input ∷ drawn_input ∷ []
-  pub outputs : block.outputs ≡ drawn_output ∷ []
-  pub count : length block.rules ≡ 81
-  pub rules : (n : ℕ) (r : Rule) → slice_get block.rules n ≡ Some r → IsDrawnRule shift n r
+unfoldable pub drawn_rules : ℕ → List Rule
+drawn_rules shift = map (drawn_rule shift) (range_with_len 0 81)
+
+abbrev pub drawn_block : ℕ → Block
+drawn_block shift = record {
+  inputs = drawn_input ∷ drawn_input ∷ [];
+  outputs = drawn_output ∷ [];
+  rules = drawn_rules shift;
+}

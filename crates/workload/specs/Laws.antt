@@ -1,13 +1,8 @@
 -- What holds of every block that is drawn.
-use Rattle.std.specs.Prelude.{◌≡◌, ℕ}
-use Rattle.fuzzy_meaning.specs.declared.block.Block.{Block}
+use Rattle.std.specs.Prelude.{ℕ}
 use Rattle.rule_layout.specs.Layouts.{IsWithinLimits}
-use Rattle.workload.specs.Blocks.{IsDrawnBlock}
-
--- a shift draws one block
-abbrev pub DrawnBlocksAreOne : Type 0
-DrawnBlocksAreOne = (shift : ℕ) (p q : Block) → IsDrawnBlock shift p → IsDrawnBlock shift q → p ≡ q
+use Rattle.workload.specs.Blocks.{drawn_block}
 
 -- each can be laid out
 abbrev pub DrawnBlocksAreWithinLimits : Type 0
-DrawnBlocksAreWithinLimits = (shift : ℕ) (block : Block) → IsDrawnBlock shift block → IsWithinLimits block
+DrawnBlocksAreWithinLimits = (shift : ℕ) → IsWithinLimits (drawn_block shift)

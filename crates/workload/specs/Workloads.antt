@@ -8,7 +8,7 @@ use Rattle.interrupt_plan.specs.declared.Request.{Request}
 use Rattle.trace_io.specs.Traces.{Spells as SpellsTrace}
 use Rattle.trace_io.specs.declared.sample.Sample.{Sample}
 use Rattle.fz_num.specs.declared.dec.Dec.{Dec}
-use Rattle.workload.specs.Blocks.{IsDrawnBlock}
+use Rattle.workload.specs.Blocks.{drawn_block}
 use Rattle.workload.specs.Draws.{draw}
 
 -- The block's shift is the first draw. Then come two draws a sample and three draws a request.
@@ -38,7 +38,7 @@ pub record AreDrawnRequests (number : ℕ) (plan : List Request) : Type 0 where
 pub record IsWorkload (number : ℕ) (text trace plan : List ℕ) (block : Block) (samples : List Sample)
     (requests : List Request) : Type 0 where
   pub spelled : SpellsBlock text block
-  pub drawn_block : IsDrawnBlock (draw number 0 5) block
+  pub block_is : block ≡ drawn_block (draw number 0 5)
   pub in_trace : SpellsTrace block.inputs trace samples
   pub drawn_samples : AreDrawnSamples number samples
   pub in_plan : SpellsPlan plan requests

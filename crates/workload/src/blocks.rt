@@ -1,7 +1,8 @@
 //! Whether a block, samples and requests are those that a number draws.
-ghost use Rattle.std.specs.Prelude.{◌≡◌, ◌<◌, ◌≤◌, ℕ, [], ◌∷◌, true, length, map, Some, slice_get};
+ghost use Rattle.std.specs.Prelude.{◌≡◌, ◌<◌, ◌≤◌, [], ◌∷◌, true, length, map};
 ghost use Rattle.fuzzy_meaning.specs.Conditions.{is, all, also, end};
-ghost use Rattle.workload.specs.Blocks.{IsDrawnBlock, IsDrawnRule, drawn_input, drawn_output, term_number, whole};
+ghost use Rattle.workload.specs.Blocks.{drawn_block, drawn_input, drawn_output, drawn_rule, drawn_rules};
+ghost use Rattle.workload.specs.Blocks.{term_number, whole};
 
 use fuzzy_meaning::{Block, Condition, Input, Node, Output, Rule, Trapezoid};
 use fz_num::Dec;
@@ -104,7 +105,7 @@ fn is_pair(condition: &Condition, i: u8, j: u8) -> bool
 fn is_drawn_rule(rule: &Rule, shift: u8, n: u8) -> bool
     requires number { n < 81 }
     requires shift { shift < 5 }
-    ensures { result ≡ true → IsDrawnRule shift n rule.now }
+    ensures { result ≡ true → rule.now ≡ drawn_rule shift n }
 {
     let [(output, singleton)] = rule.concl.as_slice() else {
         return false;
@@ -118,9 +119,11 @@ fn is_drawn_rule(rule: &Rule, shift: u8, n: u8) -> bool
 
 fn are_drawn_rules(rules: &[Rule], shift: u8) -> bool
     requires shift { shift < 5 }
-    requires count { length rules.now ≡ 81 }
-    ensures { result ≡ true → (n : ℕ) (r : Rule) → slice_get rules.now n ≡ Some r → IsDrawnRule shift n r }
+    ensures { result ≡ true → rules.now ≡ drawn_rules shift }
 {
+    if rules.len() != 81 {
+        return false;
+    }
     for (n, rule) in rules.iter().enumerate() {
         if !is_drawn_rule(rule, shift, n as u8) {
             return false;
@@ -132,7 +135,7 @@ fn are_drawn_rules(rules: &[Rule], shift: u8) -> bool
 /// Whether it is the block that is drawn with this shift.
 pub(crate) fn is_drawn_block(block: &Block, shift: u8) -> bool
     requires { shift < 5 }
-    ensures { result ≡ true → IsDrawnBlock shift block.now }
+    ensures { result ≡ true → block.now ≡ drawn_block shift }
 {
     let [x, y] = block.inputs.as_slice() else {
         return false;
@@ -140,6 +143,5 @@ pub(crate) fn is_drawn_block(block: &Block, shift: u8) -> bool
     let [z] = block.outputs.as_slice() else {
         return false;
     };
-    let rules = block.rules.as_slice();
-    is_input(x) && is_input(y) && is_output(z) && rules.len() == 81 && are_drawn_rules(rules, shift)
+    is_input(x) && is_input(y) && is_output(z) && are_drawn_rules(block.rules.as_slice(), shift)
 }

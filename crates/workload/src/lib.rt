@@ -12,5 +12,5 @@ mod laws;
 mod texts;
 mod workload;
 
-pub use laws::{drawn_blocks_are_one, drawn_blocks_are_within_limits};
+pub use laws::drawn_blocks_are_within_limits;
 pub use workload::{Workload, generate};

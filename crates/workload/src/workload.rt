@@ -8,7 +8,7 @@ ghost use Rattle.interrupt_plan.specs.declared.Request.{Request as TheRequest};
 ghost use Rattle.trace_io.specs.Traces.{Spells as SpellsTrace};
 ghost use Rattle.trace_io.specs.declared.sample.Sample.{Sample as TheSample};
 ghost use Rattle.cpu12_isa.specs.Regions.{free_start};
-ghost use Rattle.workload.specs.Blocks.{IsDrawnBlock};
+ghost use Rattle.workload.specs.Blocks.{drawn_block};
 ghost use Rattle.workload.specs.Draws.{draw, state_after};
 ghost use Rattle.workload.specs.Workloads.{AreDrawnRequests, AreDrawnSamples, IsWorkload};
 
@@ -110,7 +110,7 @@ fn block_of(alloc: Global, text: &[u8], shift: u8) -> Result<Block, Memory>
     requires shift { shift < 5 }
     requires text { length text.now ≤ 1048576 }
     ensures spelled { IfOk result (SpellsBlock text.now) }
-    ensures drawn { IfOk result (IsDrawnBlock shift) }
+    ensures drawn { IfOk result (λ block. block ≡ drawn_block shift) }
 {
     let block = spelled_block(alloc, text)?;
     if is_drawn_block(&block, shift) {

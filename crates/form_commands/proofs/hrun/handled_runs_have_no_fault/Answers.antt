@@ -1,4 +1,7 @@
+use Rattle.std.proofs.Common.{subst}
+use Rattle.fuzzy_meaning.specs.declared.block.Block.{Block}
 use Rattle.eval_code.specs.declared.width.Width.TheVariants.{Byte}
+use Rattle.run_reports.specs.Inputs.{input_refusals}
 use Rattle.fz_status.specs.declared.status.Status.TheVariants as status
 use Rattle.form_commands.proofs.hrun.handled_runs_have_no_fault.Goals as goal
 
@@ -16,6 +19,8 @@ returns c hrun files output (status.Handler f) gives (carries, (other, others, g
     (carries, refuses)
 returns c hrun files output s gives (carries, (other, others, gives_other, refuses)) =
     let r = gives.certified in
-    c.accepted_inputs_have_no_fault.ensures Byte files.fcl files.cert files.trace files.plan r.block other
-    gives.report.errors r.samples r.plan s r.compiled.spelled gives_other.spelled
-    (record { accepted = r.accepted; in_range = r.in_range; good_plan = r.good_plan }) refuses.3
+    let same = c.spelled_blocks_are_one.ensures files.fcl other r.block gives_other.spelled r.compiled.spelled in
+    c.accepted_inputs_have_no_fault.ensures Byte r.block files.cert files.trace files.plan gives.report.errors r.samples
+    r.plan s r.compiled.spelled.valid
+    (record { accepted = r.accepted; in_range = r.in_range; good_plan = r.good_plan })
+    (subst (λ (b : Block). input_refusals Byte b files.cert files.trace files.plan s) same refuses.3)

@@ -1,7 +1,10 @@
-use Rattle.std.proofs.Common.{ℕ, List, sym, subst}
+use Rattle.std.proofs.Common.{ℕ, subst}
 use Rattle.fuzzy_meaning.specs.declared.block.Block.{Block}
-use Rattle.trace_io.specs.Traces.{Spells}
+use Rattle.two_level.specs.declared.two.Two.{Two}
+use Rattle.trace_io.specs.Traces.{HasFault as TraceHasFault}
 use Rattle.interrupt_plan.specs.Levels.{LevelsHaveFault}
+use Rattle.build_commands.specs.Certs.{HasCertFault}
+use Rattle.build_commands.specs.Images.{RefusesImage}
 use Rattle.eval_code.specs.declared.width.Width.TheVariants.{Byte}
 use Rattle.fz_status.specs.declared.status.FastFault.TheVariants as told
 use Rattle.fz_status.specs.declared.status.Status.TheVariants as status
@@ -18,30 +21,37 @@ returns c lrun files output (status.Fast (told.Fcl f)) gives is =
     c.spelled_texts_have_no_fault.ensures files.fast _ f own.spelled own.limits is.0 is.1.1
 returns c lrun files output (status.Image f) gives (carries, (slow, fast, two, gives_other, refuses)) =
     let r = gives.at_levels in
-    c.two_images_have_no_fault.ensures files.slow files.fast files.image r.slow r.fast slow fast r.two two f
-    r.accepts.compiled gives_other r.accepts.image refuses
+    let one = c.given_twos_are_one.ensures files.slow files.fast slow fast r.slow r.fast two r.two gives_other
+    r.accepts.compiled in
+    c.given_images_have_no_fault.ensures files.image r.two.image f r.accepts.image
+    (subst (λ (t : Two). RefusesImage files.image t.image f) one.2 refuses)
 returns c lrun files output (status.Cert f) gives (carries, (slow, fast, two, gives_other, refuses)) =
     let r = gives.at_levels in
-    c.accepted_certs_have_no_fault.ensures Byte files.slow files.slow_cert gives.report.errors r.slow slow f
-    r.accepts.compiled.slow_is.spelled gives_other.slow_is.spelled r.accepts.certs.slow_accepted refuses.1
+    let one = c.given_twos_are_one.ensures files.slow files.fast slow fast r.slow r.fast two r.two gives_other
+    r.accepts.compiled in
+    c.accepted_certs_have_no_fault.ensures Byte r.slow files.slow_cert gives.report.errors f
+    r.accepts.compiled.slow_is.spelled.valid r.accepts.certs.slow_accepted
+    (subst (λ (b : Block). HasCertFault Byte b files.slow_cert f) one.0 refuses.1)
 returns c lrun files output (status.Fast (told.Cert f)) gives (carries, (slow, fast, two, gives_other, refuses)) =
     let r = gives.at_levels in
-    c.accepted_certs_have_no_fault.ensures Byte files.fast files.fast_cert gives.report.fast_errors r.fast fast f
-    r.accepts.compiled.fast_is.spelled gives_other.fast_is.spelled r.accepts.certs.fast_accepted refuses.1.1
+    let one = c.given_twos_are_one.ensures files.slow files.fast slow fast r.slow r.fast two r.two gives_other
+    r.accepts.compiled in
+    c.accepted_certs_have_no_fault.ensures Byte r.fast files.fast_cert gives.report.fast_errors f
+    r.accepts.compiled.fast_is.spelled.valid r.accepts.certs.fast_accepted
+    (subst (λ (b : Block). HasCertFault Byte b files.fast_cert f) one.1 refuses.1.1)
 returns c lrun files output (status.Trace f) gives (carries, (slow, fast, two, gives_other, refuses)) =
     let r = gives.at_levels in
-    let same = c.spelled_blocks_are_one.ensures files.slow slow r.slow gives_other.slow_is.spelled
-    r.accepts.compiled.slow_is.spelled in
-    c.spelled_traces_have_no_fault.ensures slow.inputs files.slow_trace r.samples f
-    (subst (λ (b : Block). Spells b.inputs files.slow_trace r.samples) (sym same) r.accepts.traces.slow_in_range)
-    refuses.1.3
+    let one = c.given_twos_are_one.ensures files.slow files.fast slow fast r.slow r.fast two r.two gives_other
+    r.accepts.compiled in
+    c.spelled_traces_have_no_fault.ensures r.slow.inputs files.slow_trace r.samples f r.accepts.traces.slow_in_range
+    (subst (λ (b : Block). TraceHasFault b.inputs files.slow_trace f) one.0 refuses.1.3)
 returns c lrun files output (status.Fast (told.Trace f)) gives (carries, (slow, fast, two, gives_other, refuses)) =
     let r = gives.at_levels in
-    let same = c.spelled_blocks_are_one.ensures files.fast fast r.fast gives_other.fast_is.spelled
-    r.accepts.compiled.fast_is.spelled in
-    c.spelled_traces_have_no_fault.ensures fast.inputs files.fast_trace r.fast_samples f
-    (subst (λ (b : Block). Spells b.inputs files.fast_trace r.fast_samples) (sym same)
-    r.accepts.traces.fast_in_range) refuses.1.3.1
+    let one = c.given_twos_are_one.ensures files.slow files.fast slow fast r.slow r.fast two r.two gives_other
+    r.accepts.compiled in
+    c.spelled_traces_have_no_fault.ensures r.fast.inputs files.fast_trace r.fast_samples f
+    r.accepts.traces.fast_in_range
+    (subst (λ (b : Block). TraceHasFault b.inputs files.fast_trace f) one.1 refuses.1.3.1)
 returns c lrun files output (status.Plan f) gives (carries, (slow, fast, two, gives_other, refuses)) =
     let r = gives.at_levels in
     let behind = refuses.1.3 in

@@ -1,8 +1,11 @@
-use Rattle.std.proofs.Common.{ℕ, List, sym, subst}
+use Rattle.std.proofs.Common.{ℕ, subst}
 use Rattle.fuzzy_meaning.specs.declared.block.Block.{Block}
-use Rattle.trace_io.specs.Traces.{Spells}
+use Rattle.codegen.specs.declared.firmware.Firmware.{Firmware}
+use Rattle.trace_io.specs.Traces.{HasFault as TraceHasFault}
 use Rattle.interrupt_plan.specs.Posts.{PostsHaveFault}
 use Rattle.eval_code.specs.declared.width.Width.TheVariants.{Byte}
+use Rattle.build_commands.specs.Certs.{HasCertFault}
+use Rattle.build_commands.specs.Images.{RefusesImage}
 use Rattle.fz_status.specs.declared.status.Status.TheVariants as status
 use Rattle.form_commands.proofs.mrun.posted_runs_have_no_fault.Goals as goal
 
@@ -13,18 +16,23 @@ returns c mrun files output (status.Fcl f) gives is =
     r.accepts.compiled.limits is.0 is.1
 returns c mrun files output (status.Image f) gives (carries, (other, others, gives_other, refuses)) =
     let r = gives.posted in
-    c.mailbox_images_have_no_fault.ensures files.fcl files.image r.block other r.firmware others f r.accepts.compiled
-    gives_other r.accepts.image refuses
+    let one = c.given_mailboxes_are_one.ensures files.fcl other r.block others r.firmware gives_other
+    r.accepts.compiled in
+    c.given_images_have_no_fault.ensures files.image r.firmware.image f r.accepts.image
+    (subst (λ (g : Firmware). RefusesImage files.image g.image f) one.1 refuses)
 returns c mrun files output (status.Cert f) gives (carries, (other, others, gives_other, refuses)) =
     let r = gives.posted in
-    c.accepted_certs_have_no_fault.ensures Byte files.fcl files.cert gives.report.errors r.block other f
-    r.accepts.compiled.spelled gives_other.spelled r.accepts.accepted refuses.1
+    let one = c.given_mailboxes_are_one.ensures files.fcl other r.block others r.firmware gives_other
+    r.accepts.compiled in
+    c.accepted_certs_have_no_fault.ensures Byte r.block files.cert gives.report.errors f
+    r.accepts.compiled.spelled.valid r.accepts.accepted
+    (subst (λ (b : Block). HasCertFault Byte b files.cert f) one.0 refuses.1)
 returns c mrun files output (status.Trace f) gives (carries, (other, others, gives_other, refuses)) =
     let r = gives.posted in
-    let same = c.spelled_blocks_are_one.ensures files.fcl other r.block gives_other.spelled
-    r.accepts.compiled.spelled in
-    c.spelled_traces_have_no_fault.ensures other.inputs files.trace r.samples f
-    (subst (λ (b : Block). Spells b.inputs files.trace r.samples) (sym same) r.accepts.in_range) refuses.3
+    let one = c.given_mailboxes_are_one.ensures files.fcl other r.block others r.firmware gives_other
+    r.accepts.compiled in
+    c.spelled_traces_have_no_fault.ensures r.block.inputs files.trace r.samples f r.accepts.in_range
+    (subst (λ (b : Block). TraceHasFault b.inputs files.trace f) one.0 refuses.3)
 returns c mrun files output (status.Plan f) gives (carries, (other, others, gives_other, refuses)) =
     let r = gives.posted in
     let count = c.spelled_traces_are_one_long.ensures other.inputs r.block.inputs files.trace refuses.3

@@ -1,6 +1,10 @@
-use Rattle.std.proofs.Common.{◌≡◌, Err}
+use Rattle.std.proofs.Common.{◌≡◌, Err, subst}
+use Rattle.fuzzy_meaning.specs.declared.block.Block.{Block}
+use Rattle.codegen.specs.declared.firmware.Firmware.{Firmware}
 use Rattle.eval_code.specs.declared.width.Width.TheVariants.{Byte}
 use Rattle.debug_script.specs.Scripts.{script_of}
+use Rattle.build_commands.specs.Images.{RefusesImage}
+use Rattle.run_reports.specs.Inputs.{sample_refusals}
 use Rattle.fz_status.specs.declared.status.Status.TheVariants as status
 use Rattle.run_commands.proofs.debug.debugged_runs_have_no_fault.Goals as goal
 
@@ -10,15 +14,17 @@ returns c debug files output (status.Fcl f) gives is =
     c.spelled_texts_have_no_fault.ensures files.fcl gives.block f a.compiled.spelled a.compiled.limits is.0 is.1
 returns c debug files output (status.Image f) gives (carries, (other, others, gives_other, refuses)) =
     let a = gives.accepts in
-    c.firmware_images_have_no_fault.ensures Byte files.fcl files.image gives.block other gives.firmware others
-    f a.compiled
-    gives_other a.image refuses
+    let one = c.given_firmwares_are_one.ensures Byte files.fcl other gives.block others gives.firmware gives_other
+    a.compiled in
+    c.given_images_have_no_fault.ensures files.image gives.firmware.image f a.image
+    (subst (λ (g : Firmware). RefusesImage files.image g.image f) one.1 refuses)
 returns c debug files output (status.Script n) gives (carries, (other, others, gives_other, refuses)) =
     let yes = gives.accepts.spelled in
     let no : script_of files.script ≡ Err n = refuses.5 in
     cc
 returns c debug files output s gives (carries, (other, others, gives_other, refuses)) =
     let a = gives.accepts in
-    c.spelled_samples_have_no_fault.ensures files.fcl files.trace files.plan gives.block other gives.samples
-    gives.plan s
-    a.compiled.spelled gives_other.spelled a.in_range a.good_plan refuses.1
+    let one = c.given_firmwares_are_one.ensures Byte files.fcl other gives.block others gives.firmware gives_other
+    a.compiled in
+    c.spelled_samples_have_no_fault.ensures gives.block files.trace files.plan gives.samples gives.plan s a.in_range
+    a.good_plan (subst (λ (b : Block). sample_refusals b files.trace files.plan s) one.0 refuses.1)

@@ -1,16 +1,14 @@
-use Rattle.std.proofs.Common.{subst}
+use Rattle.std.proofs.Common.{sym, subst}
 use Rattle.fuzzy_meaning.specs.declared.block.Block.{Block}
 use Rattle.build_commands.specs.Certify.{StopsHalving}
 use Rattle.eval_code.specs.declared.width.Width.TheVariants.{Byte}
-use Rattle.workload.specs.Draws.{draw}
 use Rattle.run_commands.specs.Generate.{generated_target}
 use Rattle.fz_status.specs.declared.status.Status.TheVariants as status
 use Rattle.run_commands.proofs.generate.generated_runs_have_no_fault.Goals as goal
 
 pub returns : goal.returns
-returns c generate output (status.NotReached stop) gives (carries, (other, drawn_other, stops)) =
-    let same = c.drawn_blocks_are_one.ensures (draw generate.number 0 5) other gives.block drawn_other
-    gives.workload.drawn_block in
+returns c generate output (status.NotReached stop) gives (carries, stops) =
     c.halved_blocks_do_not_stop.ensures Byte generated_target gives.block gives.cert stop gives.gives.spelled.valid
-    gives.halving (subst (λ (b : Block). StopsHalving Byte generated_target b stop) same stops)
+    gives.halving
+    (subst (λ (b : Block). StopsHalving Byte generated_target b stop) (sym gives.workload.block_is) stops)
 returns c generate output s gives is = is.1

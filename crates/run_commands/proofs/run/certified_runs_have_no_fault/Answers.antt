@@ -1,3 +1,8 @@
+use Rattle.std.proofs.Common.{subst}
+use Rattle.fuzzy_meaning.specs.declared.block.Block.{Block}
+use Rattle.codegen.specs.declared.firmware.Firmware.{Firmware}
+use Rattle.build_commands.specs.Images.{RefusesImage}
+use Rattle.run_reports.specs.Inputs.{input_refusals}
 use Rattle.fz_status.specs.declared.status.Status.TheVariants as status
 use Rattle.run_commands.proofs.run.certified_runs_have_no_fault.Goals as goal
 
@@ -7,10 +12,15 @@ returns c run files output (status.Fcl f) gives is =
     c.spelled_texts_have_no_fault.ensures files.fcl r.block f r.compiled.spelled r.compiled.limits is.0 is.1
 returns c run files output (status.Image f) gives (carries, (other, others, gives_other, refuses)) =
     let r = gives.certified in
-    c.firmware_images_have_no_fault.ensures run.width files.fcl files.image r.block other r.firmware others f r.compiled
-    gives_other r.image refuses
+    let one = c.given_firmwares_are_one.ensures run.width files.fcl other r.block others r.firmware gives_other
+    r.compiled in
+    c.given_images_have_no_fault.ensures files.image r.firmware.image f r.image
+    (subst (λ (g : Firmware). RefusesImage files.image g.image f) one.1 refuses)
 returns c run files output s gives (carries, (other, others, gives_other, refuses)) =
     let r = gives.certified in
-    c.accepted_inputs_have_no_fault.ensures run.width files.fcl files.cert files.trace files.plan r.block other
-    gives.report.errors r.samples r.plan s r.compiled.spelled gives_other.spelled
-    (record { accepted = r.accepted; in_range = r.in_range; good_plan = r.good_plan }) refuses.1
+    let one = c.given_firmwares_are_one.ensures run.width files.fcl other r.block others r.firmware gives_other
+    r.compiled in
+    c.accepted_inputs_have_no_fault.ensures run.width r.block files.cert files.trace files.plan gives.report.errors
+    r.samples r.plan s r.compiled.spelled.valid
+    (record { accepted = r.accepted; in_range = r.in_range; good_plan = r.good_plan })
+    (subst (λ (b : Block). input_refusals run.width b files.cert files.trace files.plan s) one.0 refuses.1)

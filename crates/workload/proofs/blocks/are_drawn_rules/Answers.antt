@@ -1,15 +1,11 @@
-use Rattle.std.proofs.Common.{arith, ℕ, refl}
+use Rattle.std.proofs.Common.{arith, ap, ◌∙◌}
 use Rattle.std.proofs.lemmas.Option.{slice_get_within}
-use Rattle.fuzzy_meaning.specs.declared.block.Rule.{Rule}
-use Rattle.workload.specs.Blocks.{IsDrawnRule}
-use Rattle.workload.proofs.ListLemmas.{more}
+use Rattle.workload.specs.Blocks.{drawn_rule, drawn_rules}
+use Rattle.workload.proofs.ListLemmas.{numbered}
 use Rattle.workload.proofs.blocks.are_drawn_rules.Goals as goal
 
-pub loop-n-preserved : goal.loop-n-preserved
-loop-n-preserved c =
-    more (λ (k : ℕ) (r : Rule). IsDrawnRule c.args.shift k r) c.args.rules.now c.loop-n.n c.index-rules-n.result
-    c.index-rules-n.is (c.if-not-is_drawn_rule.ensures refl) c.loop-n.invariant
-
 pub returns : goal.returns
-returns c = λ yes n r at.
-    c.loop-n.invariant n r (omega (arith, slice_get_within c.args.rules.now n r at, c.loop-n-test.false)) at
+unfolding drawn_rules
+returns c = λ yes. numbered (drawn_rule c.args.shift) 81 0 c.args.rules.now c.if-rules-ne81.false (λ k r at.
+    c.loop-n.invariant k r (omega (arith, slice_get_within c.args.rules.now k r at, c.loop-n-test.false)) at
+    ∙ ap (drawn_rule c.args.shift) (omega arith))

@@ -1,10 +1,10 @@
-use Rattle.std.proofs.Common.{◌≡◌, ℕ, List, refl, subst, ◌∙◌}
+use Rattle.std.proofs.Common.{◌≡◌, ℕ, List, refl, ap, subst, ◌∙◌}
 use Rattle.fcl_check.specs.Texts.{SpellsBlock}
 use Rattle.interrupt_plan.specs.PlanTexts.{Spells as SpellsPlan}
 use Rattle.interrupt_plan.specs.declared.Request.{Request}
 use Rattle.trace_io.specs.Traces.{Spells as SpellsTrace}
 use Rattle.trace_io.specs.declared.sample.Sample.{Sample}
-use Rattle.workload.specs.Blocks.{IsDrawnBlock}
+use Rattle.workload.specs.Blocks.{drawn_block}
 use Rattle.workload.specs.Draws.{state_after}
 use Rattle.workload.specs.Workloads.{AreDrawnRequests, AreDrawnSamples}
 use Rattle.workload.proofs.DrawLemmas.{state_after_none}
@@ -18,9 +18,7 @@ returns-then-are_drawn_requests-clause-workload c =
     record {
       spelled = subst (λ (text : List ℕ). SpellsBlock text c.in_ok-block.block) c.deref.ensures.value
           c.in_ok-block.ensures.spelled;
-      drawn_block = subst (λ (shift : ℕ). IsDrawnBlock shift c.in_ok-block.block)
-          (c.shift-shift.ensures.value number 0 begun)
-          c.in_ok-block.ensures.drawn;
+      block_is = c.in_ok-block.ensures.drawn ∙ ap drawn_block (c.shift-shift.ensures.value number 0 begun);
       in_trace = subst (λ (text : List ℕ). SpellsTrace c.in_ok-block.block.inputs text c.in_ok-samples.samples.items)
           c.deref-2.ensures.value c.in_ok-samples.ensures;
       drawn_samples = subst (λ (samples : List Sample). AreDrawnSamples number samples) c.deref-4.ensures.value

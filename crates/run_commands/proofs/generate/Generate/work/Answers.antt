@@ -1,12 +1,19 @@
-use Rattle.std.proofs.Common.{ℕ, List, ap, ap₂, ◌∙◌, map, refl}
-use Rattle.std.specs.Prelude.{None}
+use Rattle.std.proofs.Common.{◌≡◌, ℕ, List, ap, ap₂, ◌∙◌, map, refl, sym, subst}
+use Rattle.std.specs.Prelude.{Err, None}
+use Rattle.fuzzy_meaning.specs.declared.block.Block.{Block}
 use Rattle.eval_code.specs.declared.width.Width.TheVariants.{Byte}
+use Rattle.rule_layout.specs.Layouts.{IsWithinLimits}
 use Rattle.fz_run.specs.Rows.{row_seen}
 use Rattle.fz_run.specs.declared.rows.Row.{Row}
+use Rattle.workload.specs.Blocks.{drawn_block}
 use Rattle.workload.specs.Draws.{draw}
-use Rattle.build_commands.specs.SeenOutputs.{SeenOutput}
+use Rattle.fz_status.specs.Refusals.{IsRefusal}
+use Rattle.fz_status.specs.declared.status.Status.{Status}
+use Rattle.fz_status.specs.declared.status.Status.TheVariants as status
+use Rattle.build_commands.specs.Certify.{StopsHalving, target_refusals}
+use Rattle.build_commands.specs.SeenOutputs.{IsFaultOf, SeenOutput}
 use Rattle.build_commands.specs.Firmwares.{GivesFirmware}
-use Rattle.run_commands.specs.Generate.{generate_lines}
+use Rattle.run_commands.specs.Generate.{GenerateMakes, generate_lines, generate_with, generated_target}
 use Rattle.run_reports.specs.Reports.{report_of}
 use Rattle.run_commands.proofs.generate.Generate.work.Goals as goal
 
@@ -15,8 +22,22 @@ only_text t = record { text = t; file = None }
 
 pub compiled-requires-clause-limits : goal.compiled-requires-clause-limits
 compiled-requires-clause-limits c =
-    c.drawn_blocks_are_within_limits.ensures (draw c.args.self.number 0 5) c.in_ok-workload.workload.block
-    c.in_ok-workload.ensures.workload.drawn_block
+    subst IsWithinLimits (sym c.in_ok-workload.ensures.workload.block_is)
+    (c.drawn_blocks_are_within_limits.ensures (draw c.args.self.number 0 5))
+
+-- where halving stops at the block, it stops at the one that is drawn
+stopped : (number : ℕ) (block : Block) → block ≡ drawn_block (draw number 0 5) → (s : Status)
+    → IsRefusal (target_refusals Byte generated_target block) s → IsFaultOf (GenerateMakes (generate_with number)) s
+stopped number block same status.Memory r = tt
+stopped number block same (status.NotReached stop) r =
+    (r.0, subst (λ (b : Block). StopsHalving Byte generated_target b stop) same r.1)
+stopped number block same s r = absurd r.1
+
+pub returns-in_err-cert : goal.returns-in_err-cert
+returns-in_err-cert c =
+    let passed : c.from_residual-in_err-cert.result ≡ Err c.in_err-cert.field-0.0 = search rules in
+    rw passed (stopped c.args.self.number c.in_ok-workload.workload.block c.in_ok-workload.ensures.workload.block_is
+    c.in_err-cert.field-0.0 c.in_err-cert.ensures.stops)
 
 pub returns : goal.returns
 returns c =
@@ -30,7 +51,7 @@ returns c =
     let rows = map row_seen c.in_ok-rows.rows.items in
     let gives : GivesFirmware Byte w.text.items w.block firmware = record {
       spelled = drawn.spelled;
-      limits = c.drawn_blocks_are_within_limits.ensures (draw number 0 5) w.block drawn.drawn_block;
+      limits = subst IsWithinLimits (sym drawn.block_is) (c.drawn_blocks_are_within_limits.ensures (draw number 0 5));
       compiled = c.in_ok-firmware.ensures.firmware;
       wide = c.in_ok-firmware.ensures.narrow;
     } in
