@@ -6,6 +6,9 @@
 ghost use Rattle.std.specs.Prelude.{◌≡◌, string_bytes, IfOk};
 ghost use Rattle.worked_texts.specs.Parts.{text_of_parts};
 
+mod faults;
+
+pub use faults::{FAULTS, Flaw, LOAD_FAULTS, with_load_fault};
 use std::alloc::{AllocError, Global};
 
 /// The parts of a text as one.

@@ -24,3 +24,5 @@ mod grades;
 mod halving;
 #[cfg(test)]
 mod layouts;
+#[cfg(test)]
+mod texts;
