@@ -27,4 +27,6 @@ mod halving;
 #[cfg(test)]
 mod layouts;
 #[cfg(test)]
+mod leaves;
+#[cfg(test)]
 mod texts;
