@@ -8,7 +8,7 @@ use thiserror::Error;
 
 /// Why a tree is no block, with the offset of the place. The kinds are tried in this order; the
 /// first that occurs is answered, at its first place.
-#[derive(Debug, Drop, Error)]
+#[derive(PartialEq, Debug, Drop, Error)]
 pub enum LoadFault {
     /// A second variable, section of a variable or term of a section, at its name, or a second
     /// line of one kind, at its keyword.

@@ -17,7 +17,7 @@ use std::alloc::Global;
 use thiserror::Error;
 
 /// Why a text has no tree, with the offset of the place.
-#[derive(Debug, Drop, Error)]
+#[derive(PartialEq, Debug, Drop, Error)]
 pub enum SyntaxFault {
     /// A byte that begins no token.
     #[error("at {0}: a byte that begins no token")]

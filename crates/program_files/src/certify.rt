@@ -4,7 +4,7 @@ use program_calls::{
 };
 use std::alloc::Global;
 use std::test::Fail;
-use worked_texts::{BACK, BLOCK, FRONT, LATCH, MIDDLE};
+use worked_texts::{BACK, BLOCK, FRONT, LATCH, MIDDLE, TWO_OUTPUTS};
 
 /// The parts of a text, TARGET, what comes of them, and what OUT holds then.
 #[derive(Clone, Copy)]
@@ -25,7 +25,7 @@ const HEATER: Search = Search {
     out: "FZC 1\nclaim 19609\nsplit 1 128\nleaf 1 127\nleaf 2 127\n",
 };
 
-static SEARCHES: [Search; 9] = [
+static SEARCHES: [Search; 11] = [
     HEATER,
     Search {
         target: "0019609",
@@ -56,6 +56,30 @@ static SEARCHES: [Search; 9] = [
         target: "3922",
         left: Left::Lines("error 1 3922\nleaves 4\n"),
         out: "FZC 1\nclaim 3922\nsplit 1 128\nsplit 1 64\nleaf 1 255\nleaf 0 0\nsplit 1 192\nleaf 0 0\nleaf 2 255\n",
+        ..HEATER
+    },
+    Search {
+        fcl: &[TWO_OUTPUTS],
+        target: "21569",
+        left: Left::Lines("error 1 19609\nerror 2 21569\nleaves 4\n"),
+        out: "FZC 1
+claim 19609 21569
+split 1 128
+split 2 128
+leaf 1 127 3 127
+leaf 1 127 4 127
+split 2 128
+leaf 2 127 3 127
+leaf 2 127 4 127
+",
+        ..HEATER
+    },
+    // A target of 14000 needs 2944 leaves.
+    Search {
+        fcl: &[TWO_OUTPUTS],
+        target: "13757",
+        left: Left::Refused(8, "not reached: leaf limit\n"),
+        out: BEFORE,
         ..HEATER
     },
     Search {

@@ -1,10 +1,12 @@
 //! Certificates from files: worked errors and faults.
 ghost use Rattle.std.specs.Prelude.{◌≤◌};
 
-use program_calls::{Left, call_over};
+use program_calls::{Difference, Left, call_over};
 use std::alloc::{AllocError, Global};
 use std::test::Fail;
-use worked_texts::{BLOCK, HALF_WEIGHT, HALVES, LATCH, NODES_OF_THE_LATCH};
+use worked_texts::{
+    BLOCK, HALF_WEIGHT, HALVES, LATCH, NODES_OF_THE_LATCH, QUARTERS, ROUNDED, TWO_OUTPUTS,
+};
 
 /// A command over the parts of a text and those of a certificate, and what it leaves.
 #[derive(Clone, Copy)]
@@ -23,6 +25,15 @@ const HEATER: Certificate = Certificate {
     fcl: &[BLOCK],
     cert: &["FZC 1\nclaim 19609\n", HALVES],
     left: CERTIFIED,
+};
+
+/// The certificate of a block of two outputs. The singleton 30 has the byte 77, which stands for 30.196 of 100: the
+/// second output's error is by 0.00196 of its range above the heater's.
+const BOTH: Certificate = Certificate {
+    fcl: &[TWO_OUTPUTS],
+    cert: &["FZC 1\nclaim 19609 21569\n", QUARTERS],
+    left: Left::Lines("error 1 19609\nerror 2 21569\ninstructions 43\n"),
+    ..HEATER
 };
 
 static CERTIFICATES: [Certificate; 17] = [
@@ -115,12 +126,69 @@ static CERTIFICATES: [Certificate; 17] = [
     },
 ];
 
+static OTHERS: [Certificate; 9] = [
+    BOTH,
+    Certificate {
+        cert: &["FZC 1\nclaim 19609 21568\n", QUARTERS],
+        left: Left::Refused(6, "cert: output 2 claims 21568, computed 21569\n"),
+        ..BOTH
+    },
+    Certificate {
+        cert: &["FZC 1\nclaim 19608 21568\n", QUARTERS],
+        left: Left::Refused(6, "cert: output 1 claims 19608, computed 19609\n"),
+        ..BOTH
+    },
+    Certificate {
+        cert: &[
+            "FZC 1\nclaim 19609 21569\nsplit 1 128\nsplit 2 128\nleaf 1 127 3 128\nleaf 1 128 4 127\n",
+            "leaf 1 127 3 127\n",
+        ],
+        left: Left::Refused(6, "cert: line 5: weak rule 3 k 128 low 500000000\n"),
+        ..BOTH
+    },
+    Certificate {
+        cert: &["FZC 1\nclaim 19609\nsplit 1 128\nleaf 3 127\nleaf 2 127\n"],
+        left: Left::Refused(6, "cert: line 4: bad rule\n"),
+        ..HEATER
+    },
+    Certificate {
+        fcl: &[ROUNDED],
+        cert: &["FZC 1\nclaim 19609\nsplit 1 56\nleaf 2 1\nleaf 0 0\n"],
+        left: Left::Refused(6, "cert: line 4: still rule 2\n"),
+        ..HEATER
+    },
+    Certificate {
+        fcl: &[ROUNDED],
+        cert: &["FZC 1\nclaim 19609\nsplit 1 56\nleaf 2 2\nleaf 0 0\n"],
+        left: Left::Refused(6, "cert: line 4: weak rule 2 k 2 low 5000000\n"),
+        ..HEATER
+    },
+    Certificate {
+        fcl: &[ROUNDED],
+        cert: &["FZC 1\nclaim 19609\nsplit 1 56\nleaf 0 0\nleaf 0 0\n"],
+        left: Left::Refused(6, "cert: line 4: loud rule 1 byte 55\n"),
+        ..HEATER
+    },
+    Certificate {
+        fcl: &[ROUNDED],
+        cert: &["FZC 1\nclaim 19609\nsplit 1 57\nleaf 0 0\nleaf 0 0\n"],
+        left: Left::Refused(6, "cert: line 4: silent rule 1 high 5000000\n"),
+        ..HEATER
+    },
+];
+
+fn judge(alloc: Global, rows: &[Certificate]) -> Result<(), Difference> {
+    for row in rows {
+        let line = ["fuzz12", row.command, "first", "second"];
+        call_over(alloc, &line, row.fcl, row.cert, &row.left)?;
+    }
+    Ok(())
+}
+
 #[test]
 fn certificates(rt: HostRuntime) -> Result<(), Fail> {
-    for row in CERTIFICATES.iter() {
-        let line = ["fuzz12", row.command, "first", "second"];
-        call_over(rt.alloc(), &line, row.fcl, row.cert, &row.left)?;
-    }
+    judge(rt.alloc(), &CERTIFICATES)?;
+    judge(rt.alloc(), &OTHERS)?;
     Ok(())
 }
 
@@ -159,22 +227,6 @@ fn each_byte(alloc: Global, first: u32, leaves: u32) -> Result<String, AllocErro
     Ok(text)
 }
 
-#[test]
-fn a_leaf_for_each_byte(rt: HostRuntime) -> Result<(), Fail> {
-    let text = each_byte(rt.alloc(), 255, 256)?;
-    let left = Left::Lines("error 1 11796\ninstructions 28\n");
-    call_over(rt.alloc(), &CHECK, &[BLOCK], &[text.as_str()], &left)?;
-    Ok(())
-}
-
-#[test]
-fn a_leaf_too_few(rt: HostRuntime) -> Result<(), Fail> {
-    let text = each_byte(rt.alloc(), 0, 255)?;
-    let left = Left::Refused(6, "cert: early\n");
-    call_over(rt.alloc(), &CHECK, &[BLOCK], &[text.as_str()], &left)?;
-    Ok(())
-}
-
 /// As many leaves as there may be, each behind a cut, and one more.
 fn a_leaf_more(alloc: Global) -> Result<String, AllocError> {
     let mut text = String::from_str(alloc, "FZC 1\nclaim 0\n")?;
@@ -185,10 +237,18 @@ fn a_leaf_more(alloc: Global) -> Result<String, AllocError> {
     Ok(text)
 }
 
+fn judge_heater(alloc: Global, cert: &str, left: &Left) -> Result<(), Difference> {
+    call_over(alloc, &CHECK, &[BLOCK], &[cert], left)
+}
+
 #[test]
-fn a_leaf_too_many(rt: HostRuntime) -> Result<(), Fail> {
-    let text = a_leaf_more(rt.alloc())?;
+fn long_certificates(rt: HostRuntime) -> Result<(), Fail> {
+    let alloc = rt.alloc();
+    let left = Left::Lines("error 1 11796\ninstructions 28\n");
+    judge_heater(alloc, &each_byte(alloc, 255, 256)?, &left)?;
+    let left = Left::Refused(6, "cert: early\n");
+    judge_heater(alloc, &each_byte(alloc, 0, 255)?, &left)?;
     let left = Left::Refused(6, "cert: line 8195: too many leaves\n");
-    call_over(rt.alloc(), &CHECK, &[BLOCK], &[text.as_str()], &left)?;
+    judge_heater(alloc, &a_leaf_more(alloc)?, &left)?;
     Ok(())
 }

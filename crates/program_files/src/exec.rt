@@ -30,7 +30,7 @@ const TEN_STEPS: Execution = Execution {
     left: ARRIVED,
 };
 
-static EXECUTIONS: [Execution; 23] = [
+static EXECUTIONS: [Execution; 24] = [
     TEN_STEPS,
     Execution {
         steps: "2",
@@ -92,6 +92,11 @@ static EXECUTIONS: [Execution; 23] = [
     Execution {
         records: "S105FFFF0000FC",
         left: Left::Refused(5, "image: line 1: bad line\n"),
+        ..TEN_STEPS
+    },
+    Execution {
+        records: "S0030000FC\nS804000000FB\n",
+        left: Left::Refused(5, "image: line 2: wide\n"),
         ..TEN_STEPS
     },
     Execution {

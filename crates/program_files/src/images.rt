@@ -4,7 +4,9 @@ use program_calls::{
 };
 use std::alloc::Global;
 use std::test::Fail;
-use worked_texts::{BLOCK, MAILBOX_RECORDS, RECORDS, SOURCE, SOURCE_RECORDS, WATCHED_RECORDS};
+use worked_texts::{
+    BLOCK, MAILBOX_RECORDS, RECORDS, SOURCE, SOURCE_RECORDS, TWO_OUTPUTS, WATCHED_RECORDS,
+};
 
 /// A command, the text of its file, what it leaves, and what the file OUT holds then, if that is said.
 #[derive(Clone, Copy)]
@@ -22,11 +24,17 @@ const COMPILED: Written = Written {
     records: Some(RECORDS),
 };
 
-static WRITTEN: [Written; 8] = [
+static WRITTEN: [Written; 9] = [
     COMPILED,
     Written {
         command: "compile16",
         left: Left::Lines("instructions 31\nsteps 39\nbytes 112\n"),
+        records: None,
+        ..COMPILED
+    },
+    Written {
+        source: TWO_OUTPUTS,
+        left: Left::Lines("instructions 43\nsteps 60\nbytes 153\n"),
         records: None,
         ..COMPILED
     },

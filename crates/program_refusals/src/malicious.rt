@@ -49,6 +49,10 @@ const RAN: Leaves = Leaves::Lines(&[(BOUNDS, 1), (SAMPLE, 1), ("0\nleft 208\n", 
 
 const COLD_TERM: &str = "t IS cold";
 
+const EITHER: &str = "(t IS cold OR t IS hot)";
+
+const EITHER_AND: &str = "(t IS cold OR t IS hot) AND ";
+
 const OFF: &str =
     " THEN power IS off;\nRULE 2 : IF t IS hot THEN power IS on;\nEND_RULEBLOCK\nEND_FUNCTION_BLOCK\n";
 
@@ -69,7 +73,7 @@ const ASM: Given = Given {
     ..RUN
 };
 
-static BLOCKS: [Given; 10] = [
+static BLOCKS: [Given; 14] = [
     Given {
         text: &[(BLOCK, 1), (" ", 1_048_202)],
         ..CHECK
@@ -144,11 +148,64 @@ static BLOCKS: [Given; 10] = [
         left: Leaves::Refused(4, "fcl: at 10757: load 4\n"),
         ..CHECK
     },
+    // Nine choices of two make all 512 conjunctions, and with a weight 12 words each.
+    Given {
+        text: &[
+            (FRONT, 1),
+            (OPENED, 1),
+            (EITHER_AND, 8),
+            (EITHER, 1),
+            (" THEN power IS off", 1),
+            (BACK, 1),
+        ],
+        cert: &[("FZC 1\nclaim 0\nleaf 1 128\n", 1)],
+        left: Leaves::Refused(6, "cert: line 3: weak rule 1 k 128 low 0\n"),
+        ..CHECK
+    },
+    Given {
+        text: &[
+            (FRONT, 1),
+            (OPENED, 1),
+            (EITHER_AND, 8),
+            (EITHER, 1),
+            (" THEN power IS off WITH 0.5", 1),
+            (BACK, 1),
+        ],
+        left: Leaves::Refused(4, "fcl: list too long 12288\n"),
+        ..CHECK
+    },
+    Given {
+        text: &[
+            (FRONT, 1),
+            (OPENED, 1),
+            (EITHER_AND, 8),
+            (EITHER, 1),
+            (OFF, 1),
+        ],
+        left: Leaves::Refused(4, "fcl: too many rules at rule 2\n"),
+        ..CHECK
+    },
+    Given {
+        text: &[
+            (FRONT, 1),
+            (OPENED, 1),
+            (EITHER_AND, 9),
+            (EITHER, 1),
+            (OFF, 1),
+        ],
+        left: Leaves::Refused(4, "fcl: too many rules at rule 1\n"),
+        ..CHECK
+    },
 ];
 
-static IMAGES: [Given; 7] = [
+static IMAGES: [Given; 8] = [
     Given {
-        image: &[(FALLING, 1)],
+        image: &[(FALLING, 1), ("S903C0003C\n", 1)],
+        ..RUN
+    },
+    Given {
+        image: &[(FALLING, 1), ("S903C0013B\n", 1)],
+        left: Leaves::Refused(5, "image: start C001, compile gives C000\n"),
         ..RUN
     },
     Given {
@@ -391,7 +448,7 @@ inner 1 4002 1FEE 9
     },
 ];
 
-static SOURCES: [Given; 5] = [
+static SOURCES: [Given; 10] = [
     Given {
         text: &[(" ORG $FFFE\n FDB 0\n", 1)],
         left: Leaves::Lines(&[("bytes 2\n", 1)]),
@@ -413,13 +470,38 @@ static SOURCES: [Given; 5] = [
         ..ASM
     },
     Given {
+        text: &[(" NOP\n", 999), (" COMA 1\n", 1)],
+        left: Leaves::Refused(11, "asm: line 1000: bad line\n"),
+        ..ASM
+    },
+    Given {
+        text: &[(" FDB B\n", 1000)],
+        left: Leaves::Refused(11, "asm: line 1: unknown name\n"),
+        ..ASM
+    },
+    Given {
+        text: &[("A\n", 1), (" NOP\n", 126), (" BRA A\n", 1)],
+        left: Leaves::Lines(&[("bytes 128\n", 1)]),
+        ..ASM
+    },
+    Given {
+        text: &[("A\n", 1), (" NOP\n", 127), (" BRA A\n", 1)],
+        left: Leaves::Refused(11, "asm: line 129: branch far\n"),
+        ..ASM
+    },
+    Given {
+        text: &[(" FCB 1\n", 1000), (" ORG 999\n FCB 2\n", 1)],
+        left: Leaves::Refused(11, "asm: line 1002: overlap\n"),
+        ..ASM
+    },
+    Given {
         text: &[("A\n", 1000)],
         left: Leaves::Refused(11, "asm: line 2: twice\n"),
         ..ASM
     },
 ];
 
-// The block's records from the last address to the first, in small letters, with the header among them.
+// The block's records from the last address to the first, in small letters, with the header among them and no end.
 const FALLING: &str = "s5030000fc
 S105FFFEC0003D
 s105fff2c01534
@@ -430,7 +512,6 @@ S10BD00000FF000100FF010024
 S110C040270511B7642002C6007B10103DD7
 S123C02001791102791103CED800CD110086FF10FD183ACED200CD1102C602183C8E000050
 S123C000CF200079100010EFB6100027FB16C01679100020F30BCED000CD1100B6100101E6
-S903C0003C
 ";
 
 fn push_times(text: &mut String, part: &str, times: u32) -> Result<(), AllocError> {

@@ -1,5 +1,5 @@
 //! Commands over five files and flags.
-use program_calls::{Difference, Left, NONE, USAGE, call, push_file, shelf_of};
+use program_calls::{Difference, Left, NONE, call, push_file, shelf_of};
 use std::alloc::Global;
 
 /// What a command over five files is given with the flags 00, and what it leaves.
@@ -35,11 +35,4 @@ pub(crate) fn run_each(alloc: Global, command: &str, rows: &[FiveFiles]) -> Resu
         run(alloc, command, given)?;
     }
     Ok(())
-}
-
-/// Whether the command refuses flags that are no byte.
-pub(crate) fn refuse_flags(alloc: Global, command: &str) -> Result<(), Difference> {
-    let mut shelf = shelf_of(alloc, Vec::new(alloc), &NONE)?;
-    let line = ["fuzz12", command, "a", "b", "c", "d", "e", "0G"];
-    call(alloc, &line, &mut shelf, &NONE, &USAGE)
 }

@@ -1,5 +1,5 @@
 //! Runs whose interrupts run a handler's code.
-use super::five_files::{FiveFiles, refuse_flags, run_each};
+use super::five_files::{FiveFiles, run_each};
 use program_calls::Left;
 use std::test::Fail;
 use worked_texts::{BLOCK, HALVES};
@@ -26,11 +26,37 @@ sample 1 bytes 64 answers 64 instructions 28 steps 36 resumed 0 frames 0 handler
 };
 
 // The lines are those of `run` under the same plan, and each interrupt does the steps of the handler's path.
-static RUNS: [FiveFiles; 15] = [
+static RUNS: [FiveFiles; 17] = [
     HEATER,
     FiveFiles {
         trace: "",
         left: Left::Lines("error 1 19609\ninstructions 28\n"),
+        ..HEATER
+    },
+    // inside REV
+    FiveFiles {
+        requests: "1,17\n",
+        left: Left::Lines(
+            "error 1 19609
+instructions 28
+sample 1 bytes 64 answers 64 instructions 28 steps 36 resumed 1 frames 1 handler 2
+frame 1 17 C031 1FF5 9
+",
+        ),
+        ..HEATER
+    },
+    // behind its first part and before its last
+    FiveFiles {
+        records: COUNT_WIDE,
+        requests: "1,15\n1,21\n",
+        left: Left::Lines(
+            "error 1 19609
+instructions 28
+sample 1 bytes 64 answers 64 instructions 28 steps 36 resumed 2 frames 2 handler 10
+frame 1 15 C031 1FF5 9
+frame 1 21 C031 1FF5 9
+",
+        ),
         ..HEATER
     },
     FiveFiles {
@@ -143,11 +169,5 @@ frame 2 26 C03C 1FEF 9
 #[test]
 fn handled_runs(rt: HostRuntime) -> Result<(), Fail> {
     run_each(rt.alloc(), "hrun", &RUNS)?;
-    Ok(())
-}
-
-#[test]
-fn flags_of_a_handled_run(rt: HostRuntime) -> Result<(), Fail> {
-    refuse_flags(rt.alloc(), "hrun")?;
     Ok(())
 }

@@ -1,6 +1,6 @@
 //! Runs of two blocks at two levels: fast runs inside the interrupts of a slow block.
 use fz_shelf::MemShelf;
-use program_calls::{Difference, Left, NONE, USAGE, call, code_of, push_file, push_room, shelf_of};
+use program_calls::{Difference, Left, NONE, call, code_of, push_file, push_room, shelf_of};
 use std::alloc::Global;
 use std::test::Fail;
 use worked_texts::{
@@ -378,16 +378,5 @@ fn refused_runs_at_two_levels(rt: HostRuntime) -> Result<(), Fail> {
     for run in REFUSED.iter() {
         case(rt.alloc(), run)?;
     }
-    Ok(())
-}
-
-#[test]
-fn flags_of_a_run_at_two_levels(rt: HostRuntime) -> Result<(), Fail> {
-    let alloc = rt.alloc();
-    let mut shelf = shelf_of(alloc, Vec::new(alloc), &NONE)?;
-    let line = [
-        "fuzz12", "lrun", "a", "b", "c", "d", "e", "f", "g", "h", "0G",
-    ];
-    call(alloc, &line, &mut shelf, &NONE, &USAGE)?;
     Ok(())
 }

@@ -1,5 +1,5 @@
 //! Runs of the mailbox form, to which interrupts post samples.
-use super::five_files::{FiveFiles, refuse_flags, run_each};
+use super::five_files::{FiveFiles, run_each};
 use program_calls::Left;
 use std::test::Fail;
 use worked_texts::{BLOCK, HALVES, MAILBOX_RECORDS, RECORDS};
@@ -165,11 +165,5 @@ resumed 0
 #[test]
 fn posted_runs(rt: HostRuntime) -> Result<(), Fail> {
     run_each(rt.alloc(), "mrun", &RUNS)?;
-    Ok(())
-}
-
-#[test]
-fn flags_of_a_posted_run(rt: HostRuntime) -> Result<(), Fail> {
-    refuse_flags(rt.alloc(), "mrun")?;
     Ok(())
 }

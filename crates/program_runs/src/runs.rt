@@ -5,7 +5,8 @@ use program_calls::{Difference, Left, NONE, call, code_of, push_file, push_room,
 use std::alloc::Global;
 use std::test::Fail;
 use worked_texts::{
-    BACK, BLOCK, COLD, FRONT, HALF_WEIGHT, HALVES, LATCH, NODES_OF_THE_LATCH, NOTS, OPENED, SECOND,
+    BACK, BLOCK, COLD, FRONT, HALF_WEIGHT, HALVES, LATCH, NODES_OF_THE_LATCH, NOTS, OPENED,
+    QUARTERS, SECOND, TWO_OUTPUTS,
 };
 
 /// What `run` or `run16` is given, and what it leaves.
@@ -31,7 +32,7 @@ const HEATER: Ran = Ran {
 
 // The frames are worked out from the registers before and after the instructions at their places, and the last
 // lines from the bytes that JSR and the interrupts leave on the stack, and those that they write.
-static RUNS: [Ran; 20] = [
+static RUNS: [Ran; 22] = [
     HEATER,
     Ran {
         trace: "0\n256\n",
@@ -202,6 +203,31 @@ sample 4 bytes 128 answers 0 instructions 27 steps 35 resumed 0 frames 0
 left 208
 ",
         ),
+        ..HEATER
+    },
+    // The request comes inside the second output's WAV.
+    Ran {
+        fcl: &[TWO_OUTPUTS],
+        cert: &["FZC 1\nclaim 19609 21569\n", QUARTERS],
+        trace: "64,128\n0,255\n",
+        plan: "1,50\n",
+        left: Left::Lines(
+            "error 1 19609
+error 2 21569
+instructions 43
+sample 1 bytes 64 128 answers 64 38 instructions 43 steps 60 resumed 1 frames 1
+frame 1 50 C060 1FEF 15
+sample 2 bytes 0 255 answers 0 0 instructions 43 steps 60 resumed 0 frames 0
+left 1054
+",
+        ),
+        ..HEATER
+    },
+    Ran {
+        fcl: &[TWO_OUTPUTS],
+        cert: &["FZC 1\nclaim 19609 21568\n", QUARTERS],
+        trace: "64,128\n",
+        left: Left::Refused(6, "cert: output 2 claims 21568, computed 21569\n"),
         ..HEATER
     },
 ];

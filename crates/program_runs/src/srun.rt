@@ -8,14 +8,14 @@ use worked_texts::{BLOCK, HALF_WEIGHT, HALVES, LATCH, NODES_OF_THE_LATCH};
 
 /// What `srun` is given, with the command that writes its image, and what it leaves.
 #[derive(Clone, Copy)]
-struct Ran {
+struct Ran<'a> {
     image_by: &'static str,
     fcl: &'static [&'static str],
     cert: &'static [&'static str],
-    trace: &'static str,
+    trace: &'a str,
     plan: &'static str,
-    upsets: &'static str,
-    left: Left<'static>,
+    upsets: &'a str,
+    left: Left<'a>,
 }
 
 const ANSWERED: Left<'static> = Left::Lines(
@@ -33,7 +33,7 @@ sample 1 bytes 64 answers 0 instructions 70 steps 70 resumed 0 frames 0 fault 1
 );
 
 /// The heater's run with no plan and no upset.
-const HEATER: Ran = Ran {
+const HEATER: Ran<'static> = Ran {
     image_by: "scompile",
     fcl: &[BLOCK],
     cert: &["FZC 1\nclaim 19609\n", HALVES],
@@ -45,7 +45,7 @@ const HEATER: Ran = Ran {
 
 /// The check takes 61 instructions more than the heater's 28: 3 for each of 18 bytes, 1 for each of 3 segments, and 4.
 /// Where it fails, BAD follows after 63: 5 with the return, and 2 to LOOP.
-static RUNS: [Ran; 24] = [
+static RUNS: [Ran<'static>; 25] = [
     HEATER,
     Ran {
         upsets: "1,D201,FE\n",
@@ -219,6 +219,11 @@ sample 1 bytes 64 answers 0 instructions 101 steps 101 resumed 0 frames 0 fault 
         ..HEATER
     },
     Ran {
+        upsets: "1,D201,FE\n2,D201\n",
+        left: Left::Refused(7, "upset: row 2: bad row\n"),
+        ..HEATER
+    },
+    Ran {
         upsets: "1,D201,FE\n1,D200,01\n",
         left: Left::Refused(7, "upset: row 2: not ascending\n"),
         ..HEATER
@@ -261,11 +266,33 @@ fn run(alloc: Global, ran: &Ran) -> Result<(), Difference> {
     call(alloc, &SRUN, &mut shelf, &NONE, &ran.left)
 }
 
+/// The heater's run with so many upsets, each to the byte that stands there.
+fn run_with(alloc: Global, upsets: u32, left: Left) -> Result<(), Difference> {
+    let mut text = String::new(alloc);
+    for sample in 0..upsets {
+        write!(&mut text, "{},D201,FF\n", sample + 1)?;
+    }
+    run(
+        alloc,
+        &Ran {
+            upsets: text.as_str(),
+            left,
+            ..HEATER
+        },
+    )
+}
+
 #[test]
 fn runs_under_upsets(rt: HostRuntime) -> Result<(), Fail> {
     for ran in RUNS.iter() {
         run(rt.alloc(), ran)?;
     }
+    run_with(rt.alloc(), 10_000, ANSWERED)?;
+    run_with(
+        rt.alloc(),
+        10_001,
+        Left::Refused(7, "upset: too many rows\n"),
+    )?;
     Ok(())
 }
 
@@ -389,16 +416,15 @@ fn flips_of(alloc: Global, byte: Byte) -> Result<Flips, AllocError> {
 /// The heater's run with each bit of a byte flipped in turn.
 fn run_flipped(alloc: Global, byte: Byte) -> Result<(), Difference> {
     let flips = flips_of(alloc, byte)?;
-    let mut files = Vec::new(alloc);
-    push_file(alloc, &mut files, "n.fcl", HEATER.fcl)?;
-    push_room(alloc, &mut files, "n.s19")?;
-    push_file(alloc, &mut files, "n.cert", HEATER.cert)?;
-    push_file(alloc, &mut files, "n.csv", &[flips.trace.as_str()])?;
-    push_file(alloc, &mut files, "n.plan", &[])?;
-    push_file(alloc, &mut files, "n.upsets", &[flips.upsets.as_str()])?;
-    let mut shelf = shelf_of(alloc, files, &NONE)?;
-    write_image(alloc, HEATER.image_by, &mut shelf)?;
-    call(alloc, &SRUN, &mut shelf, &NONE, &Left::Lines(&flips.lines))
+    run(
+        alloc,
+        &Ran {
+            trace: flips.trace.as_str(),
+            upsets: flips.upsets.as_str(),
+            left: Left::Lines(flips.lines.as_str()),
+            ..HEATER
+        },
+    )
 }
 
 #[test]

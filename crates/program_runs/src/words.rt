@@ -19,7 +19,7 @@ fn no_flags(rt: HostRuntime) -> Result<(), Fail> {
     Ok(())
 }
 
-static OF_NO_COMMAND: [&[&str]; 9] = [
+static OF_NO_COMMAND: [&[&str]; 12] = [
     &[],
     &["fuzz12", ""],
     &["fuzz12", "run"],
@@ -31,6 +31,11 @@ static OF_NO_COMMAND: [&[&str]; 9] = [
         "fuzz12", "run", "-a", "a.s19", "a.cert", "a.csv", "empty", "00",
     ],
     &["fuzz12", "run", "a.fcl", "a.csv", "00"],
+    &["fuzz12", "hrun", "a", "b", "c", "d", "e", "0G"],
+    &["fuzz12", "mrun", "a", "b", "c", "d", "e", "0G"],
+    &[
+        "fuzz12", "lrun", "a", "b", "c", "d", "e", "f", "g", "h", "0G",
+    ],
 ];
 
 #[test]

@@ -9,6 +9,8 @@ mod handlers;
 #[cfg(test)]
 mod instructions;
 #[cfg(test)]
+mod items;
+#[cfg(test)]
 mod levels;
 #[cfg(test)]
 mod machines;

@@ -16,3 +16,5 @@ mod posted;
 mod runs;
 #[cfg(test)]
 mod scripts;
+#[cfg(test)]
+mod workloads;

@@ -122,13 +122,38 @@ fn interrupts_push_registers_and_sums(rt: HostRuntime) -> Result<(), Fail> {
     Ok(())
 }
 
+/// Whether a page, by its high byte, has a byte other than 0.
+fn is_written(memory: &PageMem, page: u8) -> bool {
+    (0..=255u8).any(|low| memory.read(u16::from_be_bytes([page, low])) != 0)
+}
+
+fn written_pages(alloc: Global, memory: &PageMem) -> Result<Vec<u8>, AllocError> {
+    let mut pages = Vec::new(alloc);
+    for page in 0..=255u8 {
+        if is_written(memory, page) {
+            pages.push(page)?;
+        }
+    }
+    Ok(pages)
+}
+
+// READY with the input and the answer, the slots, the stack, the code, the tables, the singletons, the rule list and
+// the vectors; and of what a request writes one byte on a page of its own, and one on the stack's.
+static PAGES: [(&[u8], &[u8]); 2] = [
+    (b"", &[0x10, 0x11, 0x1F, 0xC0, 0xD0, 0xD2, 0xD8, 0xFF]),
+    (
+        b"1,0,1800,FF,1FDF,01\n",
+        &[0x10, 0x11, 0x18, 0x1F, 0xC0, 0xD0, 0xD2, 0xD8, 0xFF],
+    ),
+];
+
 #[test]
 fn pages_are_given_as_they_are_written(rt: HostRuntime) -> Result<(), Fail> {
     let alloc = rt.alloc();
-    let plans: [(&[u8], u16); 2] = [(b"", 8), (b"1,0,1800,FF,1FDF,01\n", 9)];
-    for (text, pages) in plans {
+    for (text, pages) in PAGES.iter() {
         let (_rows, memory) = run_of(alloc, &plan_of(alloc, text)?)?;
-        assert!(rt; memory.pages() == pages);
+        assert!(rt; usize::from(memory.pages()) == pages.len());
+        assert!(rt; written_pages(alloc, &memory)?.as_slice() == *pages);
     }
     Ok(())
 }

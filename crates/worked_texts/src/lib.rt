@@ -6,6 +6,9 @@
 ghost use Rattle.std.specs.Prelude.{◌≡◌, string_bytes, IfOk};
 ghost use Rattle.worked_texts.specs.Parts.{text_of_parts};
 
+mod faults;
+
+pub use faults::{FAULTS, Flaw, LOAD_FAULTS, with_load_fault};
 use std::alloc::{AllocError, Global};
 
 /// The parts of a text as one.
@@ -183,3 +186,50 @@ pub const HALF_WEIGHT: [&str; 6] = [FRONT, "0", MIDDLE, " WITH 0.5", SECOND, BAC
 
 /// The lines of the certificate of [`LATCH`] behind its first two.
 pub const NODES_OF_THE_LATCH: &str = "split 1 64\nleaf 1 255\nsplit 1 192\nleaf 0 0\nleaf 2 255\n";
+
+/// A block of two inputs and two outputs: `power` goes by `t` as the heater's, and `valve` by `u`, up to 30 of 100.
+pub const TWO_OUTPUTS: &str = "FUNCTION_BLOCK b
+VAR_INPUT t, u : REAL; END_VAR
+VAR_OUTPUT power, valve : REAL; END_VAR
+FUZZIFY t TERM cold := (0, 1) (256, 0); TERM hot := (0, 0) (256, 1); END_FUZZIFY
+FUZZIFY u TERM dry := (0, 1) (256, 0); TERM wet := (0, 0) (256, 1); END_FUZZIFY
+DEFUZZIFY power TERM off := 0; TERM on := 100; METHOD : COGS; DEFAULT := 0; END_DEFUZZIFY
+DEFUZZIFY valve
+  RANGE := (0 .. 100);
+  TERM shut := 0;
+  TERM open := 30;
+  METHOD : COGS;
+  DEFAULT := 0;
+END_DEFUZZIFY
+RULEBLOCK r
+RULE 1 : IF t IS cold THEN power IS off;
+RULE 2 : IF t IS hot THEN power IS on;
+RULE 3 : IF u IS dry THEN valve IS open;
+RULE 4 : IF u IS wet THEN valve IS shut;
+END_RULEBLOCK
+END_FUNCTION_BLOCK
+";
+
+/// The lines of its certificate behind the first two.
+pub const QUARTERS: &str = "split 1 128
+split 2 128
+leaf 1 127 3 127
+leaf 1 127 4 127
+split 2 128
+leaf 2 127 3 127
+leaf 2 127 4 127
+";
+
+/// A block in which bytes tell other than degrees. The slope of `cold` is rounded down, so that where it is wholly
+/// true, below 56, its grade goes from 255 down to 200 only; and the weight of the second rule is no byte above 0.
+pub const ROUNDED: &str = "FUNCTION_BLOCK c
+VAR_INPUT t : REAL; END_VAR
+VAR_OUTPUT power : REAL; END_VAR
+FUZZIFY t RANGE := (0 .. 256); TERM cold := (56, 1) (256, 0); END_FUZZIFY
+DEFUZZIFY power TERM off := 0; TERM on := 100; METHOD : COGS; DEFAULT := 0; END_DEFUZZIFY
+RULEBLOCK r
+RULE 1 : IF t IS NOT cold THEN power IS on;
+RULE 2 : IF t IS cold THEN power IS off WITH 0.005;
+END_RULEBLOCK
+END_FUNCTION_BLOCK
+";

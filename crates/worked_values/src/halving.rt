@@ -1,8 +1,10 @@
-//! The heater's certificates, worked by hand.
+//! Certificates that halving gives, and targets that it does not reach.
+use super::blocks::block_of;
 use box_tree::{write, write16};
 use error_certifier::{NotReached, certify, certify16};
 use fuzzy_meaning::heater;
 use std::test::Fail;
+use worked_texts::TWO_OUTPUTS;
 
 #[test]
 fn a_heater_is_halved_once(rt: HostRuntime) -> Result<(), Fail> {
@@ -18,7 +20,10 @@ fn a_heater_is_halved_once(rt: HostRuntime) -> Result<(), Fail> {
 }
 
 #[test]
-fn a_cell_above_the_target_is_told(rt: HostRuntime) -> Result<(), Fail> {
+fn a_target_is_not_reached(rt: HostRuntime) -> Result<(), Fail> {
+    let block = block_of(rt.alloc(), TWO_OUTPUTS.as_bytes())?;
+    let stop = certify(rt.alloc(), &block, 13_757).err();
+    assert!(rt; stop == Some(NotReached::LeafLimit));
     let block = heater(rt.alloc())?;
     match certify(rt.alloc(), &block, 5_000) {
         Err(NotReached::Cell(bytes, output, bound)) => {

@@ -3,38 +3,27 @@ ghost use Rattle.std.specs.Prelude.{IfOk};
 ghost use Rattle.fuzzy_meaning.specs.Blocks.{IsValid};
 ghost use Rattle.rule_layout.specs.Layouts.{IsLaidOut};
 
-use fcl_check::load;
-use fcl_syntax::parse;
+use super::blocks::block_of;
 use fuzzy_meaning::Block;
 use rule_layout::{Flat, Form, LayoutFault, Slot, spread};
 use std::alloc::{AllocError, Global};
 use std::process::Abort;
 use std::test::Fail;
-
-/// The block of a text.
-fn block_of(alloc: Global, text: &[u8]) -> Result<Block, Fail>
-    ensures { IfOk result IsValid }
-{
-    if text.len() > 1_048_576 {
-        return Err(Fail::new("too long"));
-    }
-    let tree = parse(alloc, text)?;
-    Ok(load(alloc, &tree)?)
-}
+use worked_texts::{HALF_WEIGHT, joined};
 
 /// What stands around the rules of a block with three terms, of which each is 1 everywhere.
-const HEAD: &[u8] = b"FUNCTION_BLOCK a VAR_INPUT x : REAL; END_VAR VAR_OUTPUT y : REAL; END_VAR
+const HEAD: &str = "FUNCTION_BLOCK a VAR_INPUT x : REAL; END_VAR VAR_OUTPUT y : REAL; END_VAR
 FUZZIFY x RANGE (0 .. 1); TERM a := (0, 1); TERM b := (0, 1); TERM c := (0, 1); END_FUZZIFY
 DEFUZZIFY y RANGE (0 .. 1); TERM p := 1; METHOD : COGS; DEFAULT := NC; END_DEFUZZIFY
 RULEBLOCK r RULE 1 : IF ";
 
-const TAIL: &[u8] = b"; END_RULEBLOCK END_FUNCTION_BLOCK";
+const TAIL: &str = "; END_RULEBLOCK END_FUNCTION_BLOCK";
 
 /// The block whose one rule has this condition, this often behind AND, and a weight.
 fn ruled(alloc: Global, condition: &[u8], times: u32, weight: &[u8]) -> Result<Block, Fail>
     ensures { IfOk result IsValid }
 {
-    let mut text = Vec::from_slice(alloc, HEAD)?;
+    let mut text = Vec::from_slice(alloc, HEAD.as_bytes())?;
     text.extend_from_slice(condition)?;
     for _ in 1..times {
         text.extend_from_slice(b" AND ")?;
@@ -42,7 +31,7 @@ fn ruled(alloc: Global, condition: &[u8], times: u32, weight: &[u8]) -> Result<B
     }
     text.extend_from_slice(b" THEN y IS p ")?;
     text.extend_from_slice(weight)?;
-    text.extend_from_slice(TAIL)?;
+    text.extend_from_slice(TAIL.as_bytes())?;
     block_of(alloc, &text)
 }
 
@@ -68,29 +57,76 @@ fn list_is(
     Ok(())
 }
 
+/// The parts of a text, and the layout of its rules.
+struct Laid {
+    fcl: &'static [&'static str],
+    slots: &'static [Slot],
+    weights: &'static [u8],
+    words: &'static [u16],
+    /// The list in bytes, where the form has one.
+    bytes: Option<&'static [u8]>,
+}
+
+// The OR under the AND makes two rules. The heater with half the weight on its first rule has its list in words.
+static LAID: [Laid; 2] = [
+    Laid {
+        fcl: &[HEAD, "(x IS a OR x IS b) AND x IS NOT c THEN y IS p", TAIL],
+        slots: &[
+            Slot::Term(1, 1),
+            Slot::Term(1, 2),
+            Slot::Term(1, 3),
+            Slot::Complement(1, 3),
+            Slot::Out(1, 1),
+        ],
+        weights: &[255, 255],
+        words: &[
+            0x1100, 0x1103, 0xFFFE, 0x1104, 0xFFFE, 0x1101, 0x1103, 0xFFFE, 0x1104, 0xFFFF,
+        ],
+        bytes: Some(&[0, 3, 0xFE, 4, 0xFE, 1, 3, 0xFE, 4, 0xFF]),
+    },
+    Laid {
+        fcl: &HALF_WEIGHT,
+        slots: &[
+            Slot::Term(1, 1),
+            Slot::Term(1, 2),
+            Slot::Out(1, 1),
+            Slot::Out(1, 2),
+        ],
+        weights: &[127, 255],
+        words: &[
+            0x1100, 0xFFFE, 0x1102, 0xFFFE, 0x1101, 0xFFFE, 0x1103, 0xFFFF,
+        ],
+        bytes: None,
+    },
+];
+
+/// Fails where the rules are laid out otherwise.
+fn is_laid(rt: &impl Abort, alloc: Global, flat: &Flat, laid: &Laid) -> Result<(), Fail>
+    requires { IsLaidOut flat.now }
+{
+    assert!(rt; flat.slots.as_slice() == laid.slots);
+    assert!(rt; flat.weights.as_slice() == laid.weights);
+    assert!(rt; flat.words(alloc)?.as_slice() == laid.words);
+    match laid.bytes {
+        Some(bytes) => list_is(rt, alloc, flat, bytes.len(), (bytes, bytes)),
+        None => {
+            assert!(rt; flat.form == Form::Revw);
+            Ok(())
+        }
+    }
+}
+
 #[test]
-fn spreads_an_or_under_an_and(rt: HostRuntime) -> Result<(), Fail> {
+fn rules_are_laid_out(rt: HostRuntime) -> Result<(), Fail> {
     let alloc = rt.alloc();
-    let block = ruled(alloc, b"(x IS a OR x IS b) AND x IS NOT c", 1, b"")?;
-    let Ok(flat) = spread(alloc, &block) else {
-        panic!(rt; "a fault");
-    };
-    let slots = [
-        Slot::Term(1, 1),
-        Slot::Term(1, 2),
-        Slot::Term(1, 3),
-        Slot::Complement(1, 3),
-        Slot::Out(1, 1),
-    ];
-    assert!(rt; flat.slots.as_slice() == slots.as_slice());
-    assert!(rt; flat.weights.as_slice() == [255, 255].as_slice());
-    let words = flat.words(alloc)?;
-    let wanted = [
-        0x1100, 0x1103, 0xFFFE, 0x1104, 0xFFFE, 0x1101, 0x1103, 0xFFFE, 0x1104, 0xFFFF,
-    ];
-    assert!(rt; words.as_slice() == wanted.as_slice());
-    let list = [0, 3, 0xFE, 4, 0xFE, 1, 3, 0xFE, 4, 0xFF];
-    list_is(&rt, alloc, &flat, 10, (list.as_slice(), list.as_slice()))
+    for laid in LAID.iter() {
+        let block = block_of(alloc, joined(alloc, laid.fcl)?.as_bytes())?;
+        let Ok(flat) = spread(alloc, &block) else {
+            panic!(rt; "a fault");
+        };
+        is_laid(&rt, alloc, &flat, laid)?;
+    }
+    Ok(())
 }
 
 const EITHER: &[u8] = b"(x IS a OR x IS b)";

@@ -7,6 +7,8 @@
 #[cfg(test)]
 mod answers;
 #[cfg(test)]
+mod blocks;
+#[cfg(test)]
 mod bounds;
 #[cfg(test)]
 mod bytes;
@@ -24,3 +26,7 @@ mod grades;
 mod halving;
 #[cfg(test)]
 mod layouts;
+#[cfg(test)]
+mod leaves;
+#[cfg(test)]
+mod texts;
