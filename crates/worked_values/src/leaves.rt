@@ -1,7 +1,7 @@
 //! Leaves over the bytes of one input: their Bounds, or why they do not hold, and the best ones.
 ghost use Rattle.std.specs.Prelude.{◌≡◌, ◌≤◌, length};
 ghost use Rattle.fuzzy_meaning.specs.Blocks.{IsValid};
-ghost use Rattle.error_bound.specs.Boxes.{IsBox, IsBoxOf};
+ghost use Rattle.error_bound.specs.Boxes.{IsBoxOf};
 
 use super::blocks::block_of;
 use arrayvec::ArrayVec;
