@@ -8,9 +8,9 @@ STYLE = {
     ".grid": "stroke: #e4e4e4", ".input": "fill: none; stroke: #555; stroke-width: 1.5",
     ".band": "fill: #9ecae1; fill-opacity: .55", ".exact": "fill: none; stroke: #08519c; stroke-width: 1.5",
     ".answer": "fill: #d94801", ".fault": "fill: none; stroke: #cb181d; stroke-width: 1.5",
-    ".interrupt": "stroke: #6a51a3; stroke-dasharray: 3 3", ".box": "fill: none; stroke: #222; stroke-width: .5",
+    ".interrupt": "stroke: #6a51a3; stroke-dasharray: 3 3", ".box": "fill: none; stroke: #222; stroke-width: .5; stroke-opacity: .7",
     ".level": "font-size: 9px; fill: #222; stroke: white; stroke-width: 2; stroke-opacity: .7; paint-order: stroke",
-    ".contour": "fill: none; stroke: #222; stroke-width: .8; stroke-opacity: .6",
+    ".contour": "fill: none; stroke: #222; stroke-width: 1.1",
 }
 COLOURS = ["#1f77b4", "#d94801", "#2ca02c", "#9467bd", "#8c564b", "#e377c2", "#7f7f7f", "#bcbd22", "#17becf", "#222"]
 
