@@ -1,4 +1,4 @@
-"""Bytes, cells, tables and Bounds, by the definitions of docs/FIRMWARE.md and docs/CERTIFICATES.md, in exact fractions."""
+"""Bytes, cells, tables and Bounds in exact fractions, as docs/FIRMWARE.md and docs/CERTIFICATES.md define them."""
 from dataclasses import dataclass
 from fractions import Fraction
 from math import ceil, floor
@@ -153,7 +153,8 @@ def span_of(condition, found):
 def weight_errors(rule):
     """What the weight byte and the rounding down of a weighted strength add, in parts of 10^9."""
     byte = weight_byte(rule.weight)
-    return ceil(abs(Fraction(byte + 1, 256) - rule.weight) * BILLION), 0 if byte == 255 else ceil(Fraction(BILLION, 255))
+    rounding = 0 if byte == 255 else ceil(Fraction(BILLION, 255))
+    return ceil(abs(Fraction(byte + 1, 256) - rule.weight) * BILLION), rounding
 
 
 def rule_on(rule, found):

@@ -1,4 +1,4 @@
-"""FCL as a reader and a writer of its own, and what a block answers by exact fractions. Nothing here calls the program."""
+"""FCL: a reader and a writer of its own, and what a block answers, by exact fractions. It doesn't call the program."""
 import re
 from dataclasses import dataclass, field
 from fractions import Fraction
@@ -330,7 +330,10 @@ def samples_of(block, text):
     for number, row in enumerate(filter(None, map(str.strip, text.splitlines())), start=1):
         fields = [it.strip().strip('"') for it in row.split(",")]
         try:
-            samples.append(dict(zip(names, map(Fraction, fields), strict=True)))
+            numbers = [Fraction(it) for it in fields]
         except ValueError:
-            raise Wrong(f"trace: row {number} has not one number for each input") from None
+            numbers = []
+        if len(numbers) != len(names):
+            raise Wrong(f"trace: row {number} has not one number for each input")
+        samples.append(dict(zip(names, numbers)))
     return samples

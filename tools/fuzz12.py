@@ -131,7 +131,6 @@ class Row:
     bytes: list
     answers: list
     steps: list
-    resumed: list
     end: list  # the boundary at which a turn ends
     fault: list
 
@@ -156,7 +155,7 @@ class Lines:
 
 
 def row_of(line, sample):
-    return Row(sample, *(numbers_behind(line, word) for word in ("bytes", "answers", "steps", "resumed", "at", "fault")))
+    return Row(sample, *(numbers_behind(line, word) for word in ("bytes", "answers", "steps", "at", "fault")))
 
 
 def read_lines(text, fast=False):
@@ -230,7 +229,7 @@ LONG = {0x3A: "REV", 0x3B: "REVW", 0x3C: "WAV", 0x0C: "MOVB", 0x11: "FDIV"}
 
 
 def instruction_at(image, address):
-    """The name and the length of the instruction at an address; a part of WAV that goes on stands at its second byte."""
+    """The name and the length of the instruction at an address; WAV goes on at its second byte."""
     opcode = image.get(address)
     if opcode == 0x18:
         name = LONG.get(image.get(address + 1), "")
@@ -239,7 +238,7 @@ def instruction_at(image, address):
 
 
 def instructions_from(image, address):
-    """The instructions that stand one behind the other, as triples of address, name and length, up to a byte that is none."""
+    """The instructions that stand one behind the other, as triples of address, name and length."""
     while address in image:
         name, length = instruction_at(image, address)
         if not name:

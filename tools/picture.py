@@ -4,11 +4,13 @@ from math import floor, log10
 
 STYLE = {
     "text": "font: 12px sans-serif; fill: #222", ".title": "font-weight: bold", ".note": "fill: #555",
-    ".small": "font-size: 9px; fill: #6a51a3; stroke: white; stroke-width: 3; paint-order: stroke", ".frame": "fill: none; stroke: #999",
+    ".small": "font-size: 9px; fill: #6a51a3; stroke: white; stroke-width: 3; paint-order: stroke",
+    ".frame": "fill: none; stroke: #999",
     ".grid": "stroke: #e4e4e4", ".input": "fill: none; stroke: #555; stroke-width: 1.5",
     ".band": "fill: #9ecae1; fill-opacity: .55", ".exact": "fill: none; stroke: #08519c; stroke-width: 1.5",
     ".answer": "fill: #d94801", ".fault": "fill: none; stroke: #cb181d; stroke-width: 1.5",
-    ".interrupt": "stroke: #6a51a3; stroke-dasharray: 3 3", ".box": "fill: none; stroke: #222; stroke-width: .5; stroke-opacity: .7",
+    ".interrupt": "stroke: #6a51a3; stroke-dasharray: 3 3",
+    ".box": "fill: none; stroke: #222; stroke-width: .5; stroke-opacity: .7",
     ".level": "font-size: 9px; fill: #222; stroke: white; stroke-width: 2; stroke-opacity: .7; paint-order: stroke",
     ".contour": "fill: none; stroke: #222; stroke-width: 1.1",
 }
