@@ -38,10 +38,16 @@ class Words(argparse.ArgumentParser):
 def start(main):
     """Runs a script: what is wrong is said in one line on standard error."""
     name = os.path.basename(sys.argv[0])
+    sys.stdout.reconfigure(encoding="utf-8")
     try:
-        sys.exit(main())
+        status = main()
+        sys.stdout.flush()
+        sys.exit(status)
     except Wrong as wrong:
         said = str(wrong)
+    except BrokenPipeError:
+        os.dup2(os.open(os.devnull, os.O_WRONLY), sys.stdout.fileno())
+        said = "output: not all was taken"
     except OSError as fault:
         said = f"{fault.filename or 'output'}: {fault.strerror}"
     except RecursionError:

@@ -26,7 +26,7 @@ def text(x, y, words, kind="", anchor="start", turn=0):
     turned = f' transform="rotate({turn} {short(x)} {short(y)})"' if turn else ""
     named = f' class="{kind}"' if kind else ""
     placed = "" if anchor == "start" else f' text-anchor="{anchor}"'
-    return f'<text{named} x="{short(x)}" y="{short(y)}"{placed}{turned}>{escape(words)}</text>'
+    return f'<text{named} x="{short(x)}" y="{short(y)}"{placed}{turned}>{escape(words, quote=False)}</text>'
 
 
 def line(x1, y1, x2, y2, kind):
