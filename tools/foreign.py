@@ -1,5 +1,6 @@
 """What fuzzylite and jFuzzyLogic write, FLL and their FCL, read as an engine."""
 import re
+from contextlib import contextmanager
 from dataclasses import dataclass, field
 from fractions import Fraction
 
@@ -49,6 +50,15 @@ class Engine:
     operators: list = field(default_factory=list)  # pairs of what, and its name
     left_out: list = field(default_factory=list)  # what the reader passed over, as text
     blocks: int = 0
+
+
+@contextmanager
+def named(place):
+    """Says where a text has another form than is wanted."""
+    try:
+        yield
+    except (IndexError, KeyError, ValueError, TypeError, ArithmeticError):
+        raise Wrong(f"{place}: not of the form that is wanted") from None
 
 
 def number(text):
@@ -147,7 +157,7 @@ class Rules:
 
 def read_fll(text):
     engine, here, enabled = Engine("engine"), None, True
-    for line in text.splitlines():
+    for line_number, line in enumerate(text.splitlines(), start=1):
         key, _, value = (it.strip() for it in line.partition("#")[0].partition(":"))
         if key in ("InputVariable", "OutputVariable"):
             here, enabled = Variable(value), True
@@ -160,7 +170,8 @@ def read_fll(text):
             enabled = False
             engine.left_out.append(f"{here.name if here else 'a rule block'} is not enabled")
         elif enabled and isinstance(here, Variable):
-            read_line_of_variable(here, key, value)
+            with named(f"line {line_number}"):
+                read_line_of_variable(here, key, value)
         elif enabled and engine.blocks:
             read_line_of_rules(engine, key, value)
     return engine
@@ -252,7 +263,8 @@ class Fcl:
             key = self.next().lower()
             if not self.tokens:
                 raise Wrong(f"{variable.name}: END_{word.upper()} is missing")
-            self.setting(variable, key, [it for it in self.line() if it not in (":=", ":")])
+            with named(f"{variable.name}: {key}"):
+                self.setting(variable, key, [it for it in self.line() if it not in (":=", ":")])
         self.next()
 
     def setting(self, variable, key, words):
@@ -286,7 +298,8 @@ class Fcl:
                 raise Wrong("END_RULEBLOCK is missing")
             word = self.next().lower()
             if word in ("and", "or", "accu") and self.peek() == ":":
-                self.operator(word, self.line()[-1].lower())
+                with named(word):
+                    self.operator(word, self.line()[-1].lower())
             elif word == "rule":
                 words = []
                 while self.peek() not in (*ends, ";", ""):

@@ -3,18 +3,9 @@ from fractions import Fraction
 from math import cos, exp, pi
 
 from cells import Trapezoid
+from fcl import degree
 
 STEPS = 2000
-
-
-def piecewise(points, x):
-    """The course through points in ascending order, its ends extended."""
-    below = [it for it in points if it[0] <= x]
-    above = [it for it in points if it[0] > x]
-    if not below or not above:
-        return (below[-1] if below else above[0])[1]
-    (a, start), (b, end) = below[-1], above[0]
-    return start + (end - start) * (x - a) / (b - a)
 
 
 def sigmoid(x, inflection, slope):
@@ -111,7 +102,7 @@ def course(shape, numbers):
     if exact:
         return lambda x: float(min(exact.rise(x), exact.fall(x)))
     if shape == "discrete":
-        return lambda x: float(piecewise(pairs(numbers), x))
+        return lambda x: float(degree(pairs(numbers), x))
     curve = CURVES.get(shape)
     values = [float(it) for it in numbers]
     return curve and (lambda x: curve(float(x), *values))
@@ -119,12 +110,12 @@ def course(shape, numbers):
 
 def hedged(degrees, hedges):
     """A course under hedges, the last of which comes first."""
-    def degree(x):
+    def under_hedges(x):
         y = degrees(x)
         for it in reversed(hedges):
             y = HEDGES[it](y)
         return y
-    return degree
+    return under_hedges
 
 
 def crossing(degrees, start, end, level):
