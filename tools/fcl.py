@@ -193,8 +193,33 @@ class Reader:
         return ("is", name, self.next_name())
 
 
+def is_term(points):
+    """Whether points go from left to right, with the degrees 0 and 1, and at least one 1."""
+    places, degrees = [x for x, _ in points], [y for _, y in points]
+    return places == sorted(places) and set(degrees) <= {0, 1} and 1 in degrees
+
+
+def check_block(block):
+    """What a block has to be so that its answers can be told."""
+    for it in block.inputs + block.outputs:
+        if it.span is None or not it.terms or it.width <= 0:
+            raise Wrong(f"no text of FCL: {it.name} has no range or no term")
+    for it in block.inputs:
+        if not all(map(is_term, it.terms.values())):
+            raise Wrong(f"no text of FCL: a term of {it.name} is none")
+    known = {(it.name, term) for it in block.inputs for term in it.terms}
+    concluded = {(it.name, term) for it in block.outputs for term in it.terms}
+    for rule in block.rules:
+        for pairs, found in ((literals(rule.condition), known), (rule.conclusions, concluded)):
+            for name, term in pairs:
+                if (name, term) not in found:
+                    raise Wrong(f"no text of FCL: there is no {name} IS {term}")
+
+
 def block_of(text):
-    return Reader(text).block()
+    block = Reader(text).block()
+    check_block(block)
+    return block
 
 
 # ---------------------------------------------------------------------------------------------------------------------

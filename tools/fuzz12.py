@@ -45,9 +45,9 @@ def start(main):
         sys.exit(status)
     except Wrong as wrong:
         said = str(wrong)
-    except BrokenPipeError:
+    except BrokenPipeError:  # as of `| head`
         os.dup2(os.open(os.devnull, os.O_WRONLY), sys.stdout.fileno())
-        said = "output: not all was taken"
+        sys.exit(1)
     except OSError as fault:
         said = f"{fault.filename or 'output'}: {fault.strerror}"
     except RecursionError:
@@ -190,8 +190,10 @@ def read_lines(text, fast=False):
 
 def place_posted(lines, posted):
     """Gives each interrupt of `mrun`, whose moments count over the whole run, to the turn in which it comes."""
+    if posted and not all(row.end for row in lines.rows):
+        raise Wrong("no lines of a run")
+    ends = [row.end[0] for row in lines.rows if row.end]
     for frame in posted:
-        ends = [row.end[0] for row in lines.rows]
         row = next((k for k, end in enumerate(ends) if frame.moment < end), len(ends) - 1)
         begin = ends[row - 1] if row > 0 else 0
         lines.rows[row].steps = [ends[row] - begin]
