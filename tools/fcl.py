@@ -254,7 +254,8 @@ def spell_rule(rule):
 def spell_variables(word, variables):
     yield word
     for it in variables:
-        yield f"    {it.name} : REAL;" + (f"  (* {it.comment} *)" if it.comment else "")
+        comment = it.comment.replace("*)", "* )")
+        yield f"    {it.name} : REAL;" + (f"  (* {comment} *)" if comment else "")
     yield "END_VAR"
 
 
