@@ -1,0 +1,117 @@
+"""Pictures as SVG: panels with axes, and what the scripts draw into them."""
+from html import escape
+from math import floor, log10
+
+STYLE = {
+    "text": "font: 12px sans-serif; fill: #222", ".title": "font-weight: bold", ".note": "fill: #555",
+    ".small": "font-size: 9px; fill: #6a51a3; stroke: white; stroke-width: 3; paint-order: stroke",
+    ".frame": "fill: none; stroke: #999",
+    ".grid": "stroke: #e4e4e4", ".input": "fill: none; stroke: #555; stroke-width: 1.5",
+    ".band": "fill: #9ecae1; fill-opacity: .55", ".exact": "fill: none; stroke: #08519c; stroke-width: 1.5",
+    ".answer": "fill: #d94801", ".fault": "fill: none; stroke: #cb181d; stroke-width: 1.5",
+    ".interrupt": "stroke: #6a51a3; stroke-dasharray: 3 3",
+    ".box": "fill: none; stroke: #222; stroke-width: .5; stroke-opacity: .7",
+    ".level": "font-size: 9px; fill: #222; stroke: white; stroke-width: 2; stroke-opacity: .7; paint-order: stroke",
+    ".contour": "fill: none; stroke: #222; stroke-width: 1.1",
+}
+COLOURS = ["#1f77b4", "#d94801", "#2ca02c", "#9467bd", "#8c564b", "#e377c2", "#7f7f7f", "#bcbd22", "#17becf", "#222"]
+
+
+def short(number):
+    """A coordinate or a number as text, without zeros that say nothing."""
+    return f"{float(number):.1f}".rstrip("0").rstrip(".") if "." in f"{float(number):.1f}" else f"{float(number):.1f}"
+
+
+def text(x, y, words, kind="", anchor="start", turn=0):
+    turned = f' transform="rotate({turn} {short(x)} {short(y)})"' if turn else ""
+    named = f' class="{kind}"' if kind else ""
+    placed = "" if anchor == "start" else f' text-anchor="{anchor}"'
+    return f'<text{named} x="{short(x)}" y="{short(y)}"{placed}{turned}>{escape(words, quote=False)}</text>'
+
+
+def line(x1, y1, x2, y2, kind):
+    return f'<line class="{kind}" x1="{short(x1)}" y1="{short(y1)}" x2="{short(x2)}" y2="{short(y2)}"/>'
+
+
+def path(points, kind, colour=None, closed=False):
+    """A course through points of the picture."""
+    drawn = "M" + " ".join(f"{short(x)},{short(y)}" for x, y in points) + ("Z" if closed else "")
+    coloured = f' style="stroke: {colour}"' if colour else ""
+    return f'<path class="{kind}" d="{drawn}"{coloured}/>'
+
+
+def round_numbers(low, high, most):
+    """Some round numbers from low to high, hardly more than the most; at least the two ends."""
+    low, high = float(low), float(high)
+    rough = (high - low) / most
+    ten = 10 ** floor(log10(rough))
+    step = next(it * ten for it in (1, 2, 2.5, 5, 10) if it * ten >= rough * 0.999)
+    first = -floor(-low / step + 1e-9)
+    found = [k * step for k in range(first, floor(high / step + 1e-9) + 1)]
+    return found if len(found) > 1 else [low, high]
+
+
+class Panel:
+    """A part of the picture with axes of its own: `across` and `up` are the numbers from the left and from below."""
+
+    def __init__(self, left, top, width, height, across, up):
+        self.left, self.top, self.width, self.height = left, top, width, height
+        self.across, self.up = [float(it) for it in across], [float(it) for it in up]
+
+    @property
+    def right(self):
+        return self.left + self.width
+
+    @property
+    def bottom(self):
+        return self.top + self.height
+
+    def x(self, number):
+        low, high = self.across
+        return self.left + self.width * (min(max(float(number), low), high) - low) / (high - low)
+
+    def y(self, number):
+        low, high = self.up
+        return self.bottom - self.height * (min(max(float(number), low), high) - low) / (high - low)
+
+    def at(self, points):
+        return [(self.x(x), self.y(y)) for x, y in points]
+
+    def course(self, points, kind, colour=None, closed=False):
+        return path(self.at(points), kind, colour, closed)
+
+    def frame(self, title, note=""):
+        yield f'<rect class="frame" x="{self.left}" y="{self.top}" width="{self.width}" height="{self.height}"/>'
+        yield text(self.left, self.top - 6, title, "title")
+        if note:
+            yield text(self.right, self.top - 6, note, "note", "end")
+
+    def scale(self, most=4):
+        """The numbers at the left side."""
+        for number in round_numbers(*self.up, most):
+            yield line(self.left, self.y(number), self.right, self.y(number), "grid")
+            yield text(self.left - 6, self.y(number) + 4, f"{number:g}", anchor="end")
+
+    def ruler(self, name, most=8):
+        """The numbers below it."""
+        for number in round_numbers(*self.across, most):
+            yield line(self.x(number), self.bottom, self.x(number), self.bottom + 4, "frame")
+            yield text(self.x(number), self.bottom + 16, f"{number:g}", anchor="middle")
+        yield text(self.right, self.bottom + 32, name, "note", "end")
+
+
+def svg(width, height, title, parts):
+    """The whole picture; of the styles it has those that its parts use."""
+    parts = list(parts)
+    drawn = "\n".join(parts)
+    used = [(name, rule) for name, rule in STYLE.items() if name == "text" or f'class="{name[1:]}"' in drawn]
+    style = " ".join(f"{name} {{ {rule} }}" for name, rule in [*used, (".title", STYLE[".title"])])
+    return "\n".join([
+        f'<svg xmlns="http://www.w3.org/2000/svg" viewBox="0 0 {width} {height}" width="{width}" height="{height}">',
+        f"<style>{style}</style>", f'<rect width="{width}" height="{height}" fill="white"/>',
+        text(12, 20, title, "title"), drawn, "</svg>"]) + "\n"
+
+
+def labelled(variable):
+    """A variable's name with what its comment says of it."""
+    return f"{variable.name}, {variable.comment}" if variable.comment else variable.name

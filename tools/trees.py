@@ -1,0 +1,87 @@
+"""Certificates as trees: read, written, and joined."""
+from fuzz12 import Wrong
+
+MOST_LEAVES = 4096
+
+
+def read_tree(text):
+    """The version line, and the tree: a leaf is a list of pairs, a cut a tuple of input, byte, lower and upper part."""
+    lines = text.splitlines()
+    try:
+        nodes = iter([line.split() for line in lines[2:]])
+        return lines[0], next_node(nodes)
+    except (IndexError, ValueError, StopIteration):
+        raise Wrong("no certificate") from None
+
+
+def next_node(nodes):
+    word, *numbers = next(nodes)
+    numbers = [int(it) for it in numbers]
+    if word == "leaf":
+        return list(zip(numbers[::2], numbers[1::2]))
+    place, byte = numbers
+    lower = next_node(nodes)
+    return place, byte, lower, next_node(nodes)
+
+
+def spell_tree(tree):
+    if isinstance(tree, list):
+        yield "leaf " + " ".join(f"{rule} {k}" for rule, k in tree)
+        return
+    place, byte, lower, upper = tree
+    yield f"split {place} {byte}"
+    yield from spell_tree(lower)
+    yield from spell_tree(upper)
+
+
+def spell_certificate(version, claims, tree):
+    return "\n".join([version, "claim " + " ".join(map(str, claims)), *spell_tree(tree)]) + "\n"
+
+
+def halves(box, place, byte):
+    """A box, which is a list of intervals of bytes, cut at a byte: below it, and from it on."""
+    low, high = box[place - 1]
+    lower, upper = list(box), list(box)
+    lower[place - 1], upper[place - 1] = (low, byte - 1), (byte, high)
+    return lower, upper
+
+
+def boxes(tree, box):
+    """The leaves with their boxes."""
+    if isinstance(tree, list):
+        yield box, tree
+        return
+    place, byte, *parts = tree
+    for part, half in zip(parts, halves(box, place, byte)):
+        yield from boxes(part, half)
+
+
+def within(tree, box, add):
+    """The part of a tree that a box meets, with each leaf changed by a function."""
+    if isinstance(tree, list):
+        return add(tree)
+    place, byte, lower, upper = tree
+    low, high = box[place - 1]
+    if high < byte:
+        return within(lower, box, add)
+    if low >= byte:
+        return within(upper, box, add)
+    parts = (within(part, half, add) for part, half in zip((lower, upper), halves(box, place, byte)))
+    return (place, byte, *parts)
+
+
+def joined(trees, box):
+    """One tree whose leaves have the pairs of all of these, one tree behind the other."""
+    first, *others = trees
+    if not others:
+        return first
+    def graft(part, half):
+        if isinstance(part, list):
+            return within(joined(others, half), half, lambda pairs: part + pairs)
+        place, byte, *parts = part
+        return (place, byte, *(graft(it, inner) for it, inner in zip(parts, halves(half, place, byte))))
+    return graft(first, box)
+
+
+def count(tree):
+    return 1 if isinstance(tree, list) else count(tree[2]) + count(tree[3])
