@@ -58,7 +58,7 @@ fn a_text_without_a_tree_has_a_fault(rt: HostRuntime) -> Result<(), Fail> {
     for (front, back, flaw) in FAULTS.iter() {
         let mut text = Vec::from_slice(rt.alloc(), front)?;
         text.extend_from_slice(back)?;
-        let wanted = syntax_fault(front.len() as u32, *flaw);
+        let wanted = syntax_fault(u32::try_from(front.len())?, *flaw);
         assert!(rt;
             parse_fault_of(rt.alloc(), &text) == Some(wanted),
             "{text:?}"
@@ -71,7 +71,7 @@ fn a_text_without_a_tree_has_a_fault(rt: HostRuntime) -> Result<(), Fail> {
 fn a_tree_without_a_block_has_a_load_fault(rt: HostRuntime) -> Result<(), Fail> {
     for (front, back, kind) in LOAD_FAULTS.iter() {
         let (text, at) = with_load_fault(rt.alloc(), front, back)?;
-        let wanted = load_fault(at as u32, *kind);
+        let wanted = load_fault(u32::try_from(at)?, *kind);
         assert!(rt; load_fault_of(rt.alloc(), &text)? == wanted, "{text:?}");
     }
     Ok(())
