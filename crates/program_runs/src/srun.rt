@@ -267,7 +267,7 @@ fn run(alloc: Global, ran: &Ran) -> Result<(), Difference> {
 }
 
 /// The heater's run with so many upsets, each to the byte that stands there.
-fn run_with(alloc: Global, upsets: u32, left: Left) -> Result<(), Difference> {
+fn run_with(alloc: Global, upsets: u32, left: Left<'static>) -> Result<(), Difference> {
     let mut text = String::new(alloc);
     for sample in 0..upsets {
         write!(&mut text, "{},D201,FF\n", sample + 1)?;
