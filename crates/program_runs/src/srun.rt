@@ -8,14 +8,14 @@ use worked_texts::{BLOCK, HALF_WEIGHT, HALVES, LATCH, NODES_OF_THE_LATCH};
 
 /// What `srun` is given, with the command that writes its image, and what it leaves.
 #[derive(Clone, Copy)]
-struct Ran<'a> {
+struct Ran {
     image_by: &'static str,
     fcl: &'static [&'static str],
     cert: &'static [&'static str],
-    trace: &'a str,
+    trace: &'static str,
     plan: &'static str,
-    upsets: &'a str,
-    left: Left<'a>,
+    upsets: &'static str,
+    left: Left<'static>,
 }
 
 const ANSWERED: Left<'static> = Left::Lines(
@@ -33,7 +33,7 @@ sample 1 bytes 64 answers 0 instructions 70 steps 70 resumed 0 frames 0 fault 1
 );
 
 /// The heater's run with no plan and no upset.
-const HEATER: Ran<'static> = Ran {
+const HEATER: Ran = Ran {
     image_by: "scompile",
     fcl: &[BLOCK],
     cert: &["FZC 1\nclaim 19609\n", HALVES],
@@ -45,7 +45,7 @@ const HEATER: Ran<'static> = Ran {
 
 /// The check takes 61 instructions more than the heater's 28: 3 for each of 18 bytes, 1 for each of 3 segments, and 4.
 /// Where it fails, BAD follows after 63: 5 with the return, and 2 to LOOP.
-static RUNS: [Ran<'static>; 25] = [
+static RUNS: [Ran; 25] = [
     HEATER,
     Ran {
         upsets: "1,D201,FE\n",
@@ -236,14 +236,14 @@ sample 1 bytes 64 answers 0 instructions 101 steps 101 resumed 0 frames 0 fault 
 ];
 
 /// The six files, the image being empty.
-fn shelf(alloc: Global, ran: &Ran) -> Result<MemShelf, Difference> {
+fn shelf(alloc: Global, ran: &Ran, trace: &str, upsets: &str) -> Result<MemShelf, Difference> {
     let mut files = Vec::new(alloc);
     push_file(alloc, &mut files, "n.fcl", ran.fcl)?;
     push_room(alloc, &mut files, "n.s19")?;
     push_file(alloc, &mut files, "n.cert", ran.cert)?;
-    push_file(alloc, &mut files, "n.csv", &[ran.trace])?;
+    push_file(alloc, &mut files, "n.csv", &[trace])?;
     push_file(alloc, &mut files, "n.plan", &[ran.plan])?;
-    push_file(alloc, &mut files, "n.upsets", &[ran.upsets])?;
+    push_file(alloc, &mut files, "n.upsets", &[upsets])?;
     shelf_of(alloc, files, &NONE)
 }
 
@@ -259,27 +259,30 @@ const SRUN: [&str; 9] = [
     "fuzz12", "srun", "n.fcl", "n.s19", "n.cert", "n.csv", "n.plan", "n.upsets", "FF",
 ];
 
-/// A run of the image that is written before it.
-fn run(alloc: Global, ran: &Ran) -> Result<(), Difference> {
-    let mut shelf = shelf(alloc, ran)?;
+/// A run of the image that is written before it, over another trace and other upsets.
+fn run_over(
+    alloc: Global,
+    ran: &Ran,
+    trace: &str,
+    upsets: &str,
+    left: &Left,
+) -> Result<(), Difference> {
+    let mut shelf = shelf(alloc, ran, trace, upsets)?;
     write_image(alloc, ran.image_by, &mut shelf)?;
-    call(alloc, &SRUN, &mut shelf, &NONE, &ran.left)
+    call(alloc, &SRUN, &mut shelf, &NONE, left)
+}
+
+fn run(alloc: Global, ran: &Ran) -> Result<(), Difference> {
+    run_over(alloc, ran, ran.trace, ran.upsets, &ran.left)
 }
 
 /// The heater's run with so many upsets, each to the byte that stands there.
-fn run_with(alloc: Global, upsets: u32, left: Left<'static>) -> Result<(), Difference> {
+fn run_with(alloc: Global, upsets: u32, left: &Left) -> Result<(), Difference> {
     let mut text = String::new(alloc);
     for sample in 0..upsets {
         write!(&mut text, "{},D201,FF\n", sample + 1)?;
     }
-    run(
-        alloc,
-        &Ran {
-            upsets: text.as_str(),
-            left,
-            ..HEATER
-        },
-    )
+    run_over(alloc, &HEATER, HEATER.trace, text.as_str(), left)
 }
 
 #[test]
@@ -287,11 +290,11 @@ fn runs_under_upsets(rt: HostRuntime) -> Result<(), Fail> {
     for ran in RUNS.iter() {
         run(rt.alloc(), ran)?;
     }
-    run_with(rt.alloc(), 10_000, ANSWERED)?;
+    run_with(rt.alloc(), 10_000, &ANSWERED)?;
     run_with(
         rt.alloc(),
         10_001,
-        Left::Refused(7, "upset: too many rows\n"),
+        &Left::Refused(7, "upset: too many rows\n"),
     )?;
     Ok(())
 }
@@ -416,14 +419,13 @@ fn flips_of(alloc: Global, byte: Byte) -> Result<Flips, AllocError> {
 /// The heater's run with each bit of a byte flipped in turn.
 fn run_flipped(alloc: Global, byte: Byte) -> Result<(), Difference> {
     let flips = flips_of(alloc, byte)?;
-    run(
+    let left = Left::Lines(flips.lines.as_str());
+    run_over(
         alloc,
-        &Ran {
-            trace: flips.trace.as_str(),
-            upsets: flips.upsets.as_str(),
-            left: Left::Lines(flips.lines.as_str()),
-            ..HEATER
-        },
+        &HEATER,
+        flips.trace.as_str(),
+        flips.upsets.as_str(),
+        &left,
     )
 }
 
