@@ -3,7 +3,8 @@
 //! exact answer (IEC 61131-7:2000: linear terms, MIN, MAX, NOT, WITH, COGS).
 //!
 //! Each call on a block asks for a valid one and gives the value of its definition, which knows
-//! nothing of bytes, tables or machines. No call takes memory but [`heater`], an example for tests.
+//! nothing of bytes, tables or machines. No call takes memory but [`Condition::not`], which boxes what it
+//! negates, and [`heater`], an example for tests.
 #![tactic(auto)]
 
 mod answers;
