@@ -16,8 +16,8 @@ use Rattle.fuzzy_meaning.specs.Conditions.{Condition, is, negation, all, any, Co
 use Rattle.fuzzy_meaning.specs.Conditions.{under, HasLiterals, SomeHaveLiterals, AllHaveLiterals, Joins, evaluate}
 use Rattle.fuzzy_meaning.specs.Conditions.{evaluate_parts}
 use Rattle.fuzzy_meaning.specs.Places.{points_of, rise_at, fall_at}
-use Rattle.fuzzy_meaning.proofs.Evaluations.{AllHaveLiterals-some, AreJoinsRelated, evaluate_pushed-related, IsDeMorgan}
-use Rattle.fuzzy_meaning.proofs.Evaluations.{turned, evaluate-good, evaluate_parts-good, evaluate_pushed-same}
+use Rattle.fuzzy_meaning.proofs.Algebra.{AllHaveLiterals-some, AreJoinsRelated, evaluate_pushed-related, IsDeMorgan}
+use Rattle.fuzzy_meaning.proofs.Algebra.{turned, evaluate-good, evaluate_parts-good, evaluate_pushed-same}
 use Rattle.byte_scaling.specs.Cells.{cell_start, cell_end}
 use Rattle.point_slope.specs.Tables.{row_of, grade_of}
 use Rattle.error_bound.specs.declared.boxes.Interval.{Interval}

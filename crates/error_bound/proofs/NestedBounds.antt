@@ -12,7 +12,7 @@ use Rattle.fuzzy_meaning.specs.declared.block.Rule.{Rule}
 use Rattle.fuzzy_meaning.specs.Blocks.{IsValid, IsValidRule, HasTerm, IsValidCondition, IsValidOutput}
 use Rattle.fuzzy_meaning.specs.Conditions.{Condition}
 use Rattle.fuzzy_meaning.specs.Rules.{concludes}
-use Rattle.fuzzy_meaning.proofs.Evaluations.{evaluate-related}
+use Rattle.fuzzy_meaning.proofs.Algebra.{evaluate-related}
 use Rattle.fz_list.proofs.Algebra.{IsSomeAnd-some, IsSomeAnd-within, some_at, All-slice_get}
 use Rattle.error_bound.specs.declared.boxes.Interval.{Interval}
 use Rattle.error_bound.specs.declared.boxes.Leaf.{Leaf}

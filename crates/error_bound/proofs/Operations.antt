@@ -7,7 +7,7 @@ use Rattle.fz_num.proofs.Algebra.{AtMost-lesser, AtMost-lesser_left, AtMost-less
 use Rattle.fz_num.proofs.Algebra.{AtMost-greater_left, AtMost-greater_right, AtMost-one_minus}
 use Rattle.fuzzy_meaning.specs.Conditions.{Joins, levels}
 use Rattle.fuzzy_meaning.specs.Meaning.{truths}
-use Rattle.fuzzy_meaning.proofs.Evaluations.{IsDeMorgan}
+use Rattle.fuzzy_meaning.proofs.Algebra.{IsDeMorgan}
 use Rattle.error_bound.specs.Flattening.{IsSame, AreSame}
 use Rattle.error_bound.specs.Spans.{Span, reversed, spans}
 use Rattle.error_bound.proofs.Sides.{none_least}

@@ -5,7 +5,7 @@ use Rattle.fz_num.proofs.Algebra.{AtMost-refl, IsProper-lesser, IsProper-greater
 use Rattle.fz_num.proofs.Algebra.{AtMost-one_minus}
 use Rattle.fuzzy_meaning.specs.Conditions.{Condition, Joins, levels, evaluate}
 use Rattle.fuzzy_meaning.specs.Meaning.{truths}
-use Rattle.fuzzy_meaning.proofs.Evaluations.{evaluate-alike}
+use Rattle.fuzzy_meaning.proofs.Algebra.{evaluate-alike}
 use Rattle.error_bound.specs.Spans.{Span, reversed, spans}
 
 -- the first span lies within the second

@@ -1,8 +1,7 @@
 -- Conditions and their parts.
 use Rattle.fuzzy_meaning.specs.Blocks.{PartsAreValid, HasTerm}
 use Rattle.fuzzy_meaning.specs.Conditions.{conditions}
-use Rattle.fuzzy_meaning.proofs.Evaluations.{AllHaveLiterals-some}
-use Rattle.fuzzy_meaning.proofs.Parts.{HasLiterals-part}
+use Rattle.fuzzy_meaning.proofs.Algebra.{AllHaveLiterals-some, HasLiterals-part}
 
 pub parts_valid : PartsAreValid
 parts_valid b parts k c h e =

@@ -1,7 +1,6 @@
 pub mod BlockLemmas
 pub mod ConditionLemmas
-pub mod Parts
-pub mod Evaluations
+pub mod Algebra
 pub mod ShareLemmas
 pub mod ExampleLemmas
 pub mod DegreeLemmas

@@ -8,7 +8,7 @@ use Rattle.std.proofs.lemmas.List.Elements.{All-append, All-map, All-head, All-t
 use Rattle.fuzzy_meaning.specs.declared.block.Block.{Block}
 use Rattle.fuzzy_meaning.specs.declared.block.Rule.{Rule}
 use Rattle.fuzzy_meaning.specs.Blocks.{IsValid, IsValidInput, IsValidOutput, IsValidRule, HasTerm, HasSingleton}
-use Rattle.fuzzy_meaning.proofs.Evaluations.{HasLiterals-map}
+use Rattle.fuzzy_meaning.proofs.Algebra.{HasLiterals-map}
 use Rattle.rule_layout.specs.Grid.{IsInGrid, FitsGrid}
 use Rattle.rule_layout.specs.declared.flat.Slot.{Slot}
 use Rattle.rule_layout.specs.Slots.{terms_from, term_count, singleton_count, input_terms, output_terms, term_slot}

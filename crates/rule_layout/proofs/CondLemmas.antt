@@ -5,7 +5,7 @@ use Rattle.fuzzy_meaning.specs.declared.condition.Node.{Node}
 use Rattle.fuzzy_meaning.specs.declared.condition.Node.TheVariants.{And, Or}
 use Rattle.fuzzy_meaning.specs.Conditions.{Condition, conditions, nodes, total_nodes}
 use Rattle.fuzzy_meaning.specs.Trees.{tree}
-use Rattle.fuzzy_meaning.proofs.Parts.{parts_nodes, part_nodes, HasLiterals-part, AllHaveLiterals-parts}
+use Rattle.fuzzy_meaning.proofs.Algebra.{parts_nodes, part_nodes, HasLiterals-part, AllHaveLiterals-parts}
 use Rattle.rule_layout.specs.Grid.{IsInGrid, FitsGrid, AllFitGrid}
 
 -- of one of them

@@ -11,7 +11,7 @@ use Rattle.fuzzy_meaning.specs.declared.block.Block.{Block}
 use Rattle.fuzzy_meaning.specs.declared.block.Rule.{Rule}
 use Rattle.fuzzy_meaning.specs.Blocks.{IsValid, IsValidCondition, HasTerm, HasSingleton}
 use Rattle.fuzzy_meaning.specs.Conditions.{Condition, is, negation, all, any, Conditions, end, also, AllHaveLiterals}
-use Rattle.fuzzy_meaning.proofs.Evaluations.{AllHaveLiterals-some}
+use Rattle.fuzzy_meaning.proofs.Algebra.{AllHaveLiterals-some}
 use Rattle.rule_layout.specs.declared.flat.Slot.{Slot}
 use Rattle.rule_layout.specs.declared.flat.Slot.TheVariants.{Term, Complement, Out}
 use Rattle.rule_layout.specs.Spreading.{Literal, literal, choices, spread_of, spread_parts}

@@ -8,8 +8,7 @@ use Rattle.fuzzy_meaning.specs.Conditions.{Condition, Conditions, end, also, con
 use Rattle.fuzzy_meaning.specs.declared.condition.Node.{Node}
 use Rattle.fuzzy_meaning.specs.declared.condition.Node.TheVariants.{And, Or}
 use Rattle.fuzzy_meaning.specs.Trees.{tree}
-use Rattle.fuzzy_meaning.proofs.Parts.{parts_tree}
-use Rattle.fuzzy_meaning.proofs.Evaluations.{IsMonoid, evaluate_pushed_parts-take}
+use Rattle.fuzzy_meaning.proofs.Algebra.{parts_tree, IsMonoid, evaluate_pushed_parts-take}
 use Rattle.rule_layout.specs.Slots.{terms_from, in_some_part, is_complement, has_complement}
 
 pub terms_push : (v n j : ℕ) (front : List (ℕ × ℕ)) → 1 + n ≡ j →

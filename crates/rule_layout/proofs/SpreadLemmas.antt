@@ -5,7 +5,7 @@ use Rattle.std.proofs.lemmas.List.{length-append, append-nil}
 use Rattle.std.proofs.Math.Nat.{mul-le-mul_left, mul-le-mul_right}
 use Rattle.fuzzy_meaning.specs.Conditions.{Condition, is, negation, all, any, Conditions, end, also, conditions, nodes}
 use Rattle.fuzzy_meaning.specs.Conditions.{total_nodes, SomeHaveLiterals}
-use Rattle.fuzzy_meaning.proofs.Evaluations.{IsMonoid, evaluate_pushed_parts-take}
+use Rattle.fuzzy_meaning.proofs.Algebra.{IsMonoid, evaluate_pushed_parts-take}
 use Rattle.rule_layout.specs.Spreading.{choices, spreads, spread_literal, spread_of, spread_parts, total_length}
 use Rattle.rule_layout.specs.Grid.{IsInGrid, FitsGrid, AllFitGrid}
 use Rattle.rule_layout.proofs.ChoicesLemmas.{length-choices, total_length-append, total_length-choices, choices_assoc}

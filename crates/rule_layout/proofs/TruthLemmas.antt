@@ -2,8 +2,8 @@
 use Rattle.std.proofs.Common.{◌≡◌, ℕ, ◌-◌, ◌≤◌, min, max, Bool, true, false, not, List, [], ◌∷◌, ◌++◌, map}
 use Rattle.std.proofs.Common.{refl, ap₂, ◌∙◌, arith}
 use Rattle.fuzzy_meaning.specs.Conditions.{levels}
-use Rattle.fuzzy_meaning.proofs.Evaluations.{AreJoinsRelated, IsDeMorgan, turned, evaluate_pushed-related}
-use Rattle.fuzzy_meaning.proofs.Evaluations.{evaluate_pushed-same}
+use Rattle.fuzzy_meaning.proofs.Algebra.{AreJoinsRelated, IsDeMorgan, turned, evaluate_pushed-related}
+use Rattle.fuzzy_meaning.proofs.Algebra.{evaluate_pushed-same}
 use Rattle.rule_layout.specs.Spreading.{Literal, choices, spreads, spread_literal}
 use Rattle.rule_layout.specs.Truths.{least_literal, greatest_conjunction, SpreadingLaw}
 

@@ -5,7 +5,7 @@ use Rattle.fuzzy_meaning.specs.Conditions.{Condition, is, all, any, Conditions, 
 use Rattle.fuzzy_meaning.specs.Trees.{tree}
 use Rattle.error_bound.specs.CellErrors.{term_errors}
 use Rattle.error_bound.specs.Spans.{greatest_literal}
-use Rattle.fuzzy_meaning.proofs.Parts.{part_falls, parts_fall}
+use Rattle.fuzzy_meaning.proofs.Algebra.{part_falls, parts_fall}
 use Rattle.error_bound.proofs.ConditionParts.{IsValidCondition-part}
 use Rattle.error_bound.proofs.literal_errors.+errors.Goals as goal
 
