@@ -1,6 +1,7 @@
 -- Memory as pages of 256 bytes, each with a place in a pool.
-use Rattle.std.specs.Prelude.{◌≡◌, ◌≢◌, ◌<◌, ◌≤◌, ℕ, suc, zero, ◌+◌, ◌*◌, ◌%◌, ◌/◌, Bool, not, ◌==◌, List, [], ◌∷◌}
-use Rattle.std.specs.Prelude.{◌++◌, length, map, count_by, slice_index}
+use Rattle.std.specs.Prelude.{◌≡◌, ◌≢◌, ◌<◌, ◌≤◌, ℕ, suc, zero, ◌+◌, ◌*◌, ◌%◌, ◌/◌, Bool, true, false, not, ◌&&◌, ◌==◌}
+use Rattle.std.specs.Prelude.{List, [], ◌∷◌, ◌++◌, length, map, count_by, replicate, slice_index, slice_set, if◌then◌else◌}
+use Rattle.std.specs.List.{list_any, range_with_len}
 
 -- the byte at an address: the table has for each page of the memory the place of its bytes
 abbrev pub byte_in : List ℕ → List ℕ → ℕ → ℕ
@@ -26,3 +27,22 @@ pub record ArePages (table pool : List ℕ) (used : ℕ) : Type 0 where
       → slice_index table page ≡ slice_index table other → page ≡ other
   pub zero_page : (n : ℕ) → n < 256 → slice_index pool n ≡ 0
   pub rest : (n : ℕ) → used * 256 + 256 ≤ n → slice_index pool n ≡ 0
+
+-- of pages, which have a place of their own after a byte is written: a byte other than 0 gives its page one
+abbrev pub given_with : List Bool → ℕ → ℕ → List Bool
+given_with given at value = (if value == 0 then given else slice_set given (at / 256) true)
+
+-- the same after writes, each an address and a byte, in their order
+abbrev pub given_after : List (ℕ × ℕ) → List Bool → List Bool
+given_after [] given = given
+given_after (w ∷ ws) given = given_after ws (given_with given w.0 w.1)
+
+-- a byte other than 0 is written into a page
+abbrev pub is_page_written : List (ℕ × ℕ) → ℕ → Bool
+is_page_written ws page = list_any (λ w. not (w.1 == 0) && (w.0 / 256 == page)) ws
+
+-- where no page has a place at first, as many have one after writes as a byte other than 0 was ever written into
+abbrev pub GivenAreWritten : Type 0
+GivenAreWritten =
+    (ws : List (ℕ × ℕ)) → count_by (λ is_given. is_given) (given_after ws (replicate 256 false))
+    ≡ count_by (is_page_written ws) (range_with_len 0 256)

@@ -5,6 +5,7 @@ ghost use Rattle.cpu12_isa.specs.Fits.{StaysFit, BytesStay, DecodedFits, Encoded
 ghost use Rattle.cpu12_isa.specs.Agreement.{ReadsAlone, WritesAgree, WritesStay};
 ghost use Rattle.cpu12_isa.specs.Interrupts.{FrameComesBack, HidesMoreAbove, ShowsFromSp, HidesPushed};
 ghost use Rattle.cpu12_isa.specs.Watching.{NothingIsWatched};
+ghost use Rattle.cpu12_isa.specs.Pages.{GivenAreWritten};
 
 /// What an instruction does depends on the bytes that it reads alone.
 pub fn reads_alone()
@@ -34,6 +35,11 @@ pub fn bytes_stay()
 /// A memory that notes nothing watches no address.
 pub fn nothing_is_watched()
     ensures { NothingIsWatched }
+{}
+
+/// A fresh `PageMem` counts after writes the pages that a byte other than 0 was ever written into.
+pub fn given_are_written()
+    ensures { GivenAreWritten }
 {}
 
 /// What is decoded has operands that fit.

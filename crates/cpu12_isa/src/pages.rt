@@ -1,7 +1,7 @@
 // Memory of which only the pages that are written to take bytes of their own.
 ghost use Rattle.std.specs.Prelude.{ℕ, ◌≡◌, ◌≢◌, ◌==◌, ◌/◌, ◌<◌, true, false, if◌then◌else◌, count_by, length};
 ghost use Rattle.std.specs.Prelude.{replicate, slice_index, slice_set, IfOk};
-ghost use Rattle.cpu12_isa.specs.Pages.{ArePages, bytes_in, given_in};
+ghost use Rattle.cpu12_isa.specs.Pages.{ArePages, bytes_in, given_in, given_with};
 ghost use Rattle.cpu12_isa.specs.Memory.{zeros};
 ghost use Rattle.cpu12_isa.specs.Watching.{nothing_noted, length_nothing_noted};
 
@@ -58,8 +58,7 @@ impl PageMem {
     /// Sets the byte at an address.
     pub fn set(&mut self, at: u16, value: u8)
         ensures bytes { ⟦<PageMem as Mem>⟧.bytes self.new ≡ slice_set (⟦<PageMem as Mem>⟧.bytes self.old) at value }
-        ensures zero { value ≡ 0 → given self.new ≡ given self.old }
-        ensures other { value ≢ 0 → given self.new ≡ slice_set (given self.old) (at / 256) true }
+        ensures given { given self.new ≡ given_with (given self.old) at value }
     {
         let page = (at / 256) as u8;
         if value != 0 {
@@ -102,7 +101,14 @@ impl Mem for PageMem {
 
     ghost noted_size = { λ m. length_nothing_noted };
 
-    fn fresh(alloc: Global) -> Result<Self, Memory> {
+    ghost use Rattle.cpu12_isa.specs.PageMemory.{given};
+
+    /// All bytes 0, and no page with a place of its own.
+    fn fresh(alloc: Global) -> Result<Self, Memory>
+        ensures bytes { IfOk result (λ m. ⟦<PageMem as Mem>⟧.bytes m ≡ zeros 65536) }
+        ensures noted { IfOk result (λ m. ⟦<PageMem as Mem>⟧.noted m ≡ nothing_noted) }
+        ensures none { IfOk result (λ m. given m ≡ replicate 256 false) }
+    {
         PageMem::new(alloc)
     }
 
@@ -111,7 +117,12 @@ impl Mem for PageMem {
         self.pool[place * 256 + (at % 256) as usize]
     }
 
-    fn write(&mut self, at: u16, value: u8) {
+    /// Sets the byte at an address. A byte other than 0 gives its page a place of its own.
+    fn write(&mut self, at: u16, value: u8)
+        ensures bytes { ⟦<PageMem as Mem>⟧.bytes self.new ≡ slice_set (⟦<PageMem as Mem>⟧.bytes self.old) at value }
+        ensures noted { ⟦<PageMem as Mem>⟧.noted self.new ≡ ⟦<PageMem as Mem>⟧.noted self.old }
+        ensures given { given self.new ≡ given_with (given self.old) at value }
+    {
         self.set(at, value)
     }
 }
