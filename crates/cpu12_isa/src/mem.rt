@@ -1,6 +1,7 @@
 // Memory, and words in it.
 ghost use Rattle.std.specs.Prelude.{ℕ, ◌≡◌, List, Option, length, slice_index, slice_set, IfOk};
 ghost use Rattle.cpu12_isa.specs.Memory.{zeros, word_of, high_of, low_of};
+ghost use Rattle.cpu12_isa.specs.Regions.{is_free};
 ghost use Rattle.cpu12_isa.specs.Watching.{nothing_noted, length_nothing_noted};
 
 use fz_list::Memory;
@@ -8,6 +9,19 @@ use std::alloc::{AllocError, Global};
 
 /// The address of the interrupt's vector.
 pub const VECTOR: u16 = 0xFFF2;
+
+/// The first of the free bytes, which go up to the stack.
+pub const FREE_START: u16 = 0x1800;
+
+/// The first byte of the stack.
+pub const STACK_START: u16 = 0x1FE0;
+
+/// Whether a byte is free: the firmware neither reads nor writes it, so a handler may write it.
+pub fn is_free(at: u16) -> bool
+    ensures { result ≡ is_free at }
+{
+    FREE_START <= at && at < STACK_START
+}
 
 /// What an instruction reads and writes: 65536 bytes by their addresses.
 pub trait Mem: Sized {

@@ -9,6 +9,7 @@ ghost use Rattle.handler_check.specs.PathSummaries.{list_of};
 
 use cpu12_isa::encode::encode;
 use cpu12_isa::instr::Instr;
+use cpu12_isa::mem::is_free;
 
 /// Whether a handler may have an instruction.
 pub(crate) fn may_stand(instr: Instr) -> bool
@@ -43,13 +44,6 @@ fn written(instr: Instr) -> Option<u16>
         | Instr::MovbExtended(_, at) => Some(at),
         _ => None,
     }
-}
-
-/// Whether handlers may write an address.
-fn is_free(at: u16) -> bool
-    ensures { result ≡ is_free at }
-{
-    0x1800 <= at && at < 0x1FE0
 }
 
 /// The address that an instruction writes, where it is not free.

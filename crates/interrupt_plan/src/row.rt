@@ -5,12 +5,12 @@ ghost use Rattle.csv.specs.Records.{fields_of};
 ghost use Rattle.fz_num.specs.Decimals.{are_digits, is_digit, number};
 ghost use Rattle.std.specs.List.{list_all};
 ghost use Rattle.hex.specs.Hex.{decode_sized};
-ghost use Rattle.cpu12_isa.specs.Regions.{is_free};
 ghost use Rattle.cpu12_isa.specs.declared.instr.Write.{Write as TheWrite};
 ghost use Rattle.interrupt_plan.specs.Rows.{AreFree, HasNumbers, IsFirstTaken, SpellsRow, byte_of, count_of, word_of};
 ghost use Rattle.interrupt_plan.specs.Rows.{write_of, writes_of};
 
 use cpu12_isa::instr::Write;
+use cpu12_isa::mem::is_free;
 use csv::ByteRecord;
 use fz_list::List;
 use hex::FromHex;
@@ -24,11 +24,6 @@ const TOO_GREAT: u32 = 1_000_000_000;
 
 /// The most fields of a row: two numbers, and eight writes.
 const MOST_FIELDS: usize = 18;
-
-/// The free region.
-const FREE_FROM: u16 = 0x1800;
-
-const FREE_TO: u16 = 0x1FDF;
 
 fn has_digits_only(field: &[u8]) -> bool
     ensures { result ≡ list_all is_digit field.now }
@@ -157,12 +152,6 @@ fn numbers_in(row: &ByteRecord) -> Option<(u32, u32)>
     let first = count_in(field_at(row, 0))?;
     let second = count_in(field_at(row, 1))?;
     Some((first, second))
-}
-
-fn is_free(at: u16) -> bool
-    ensures { result ≡ is_free at }
-{
-    FREE_FROM <= at && at <= FREE_TO
 }
 
 /// The address of the first write to a byte that is not free.

@@ -2,11 +2,9 @@
 ghost use Rattle.std.specs.Prelude.{◌≤◌, ◌<◌, ◌+◌, length, IfOk, OnOk};
 
 use crate::draws::Draws;
+use cpu12_isa::mem::FREE_START;
 use itoa::Buffer;
 use std::alloc::{AllocError, Global};
-
-/// The first byte that a request may write.
-pub(crate) const FIRST_FREE: u32 = 0x1800;
 
 /// Inputs, outputs and terms; the rules follow.
 static VARIABLES: &str = "FUNCTION_BLOCK generated
@@ -88,7 +86,7 @@ pub(crate) fn plan_of(alloc: Global, draws: &mut Draws) -> Result<Vec<u8>, Alloc
         plan.push(b',')?;
         push_number(&mut plan, moment)?;
         plan.push(b',')?;
-        push_hex(&mut plan, FIRST_FREE + at, 4)?;
+        push_hex(&mut plan, u32::from(FREE_START) + at, 4)?;
         plan.push(b',')?;
         push_hex(&mut plan, value, 2)?;
         plan.push(b'\n')?;

@@ -14,7 +14,7 @@ ghost use Rattle.workload.specs.Workloads.{AreDrawnRequests, AreDrawnSamples, Is
 
 use crate::blocks::is_drawn_block;
 use crate::draws::Draws;
-use crate::texts::{FIRST_FREE, plan_of, text_of, trace_of};
+use crate::texts::{plan_of, text_of, trace_of};
 use fcl_check::load;
 use fcl_syntax::parse;
 use fuzzy_meaning::Block;
@@ -191,7 +191,7 @@ fn asks_for(request: &Request, sample: u32, moment: u32, at: u32, value: u32) ->
         [write] => {
             request.sample == sample
                 && request.moment == moment
-                && u32::from(write.at) == FIRST_FREE + at
+                && u32::from(write.at) == u32::from(FREE_START) + at
                 && u32::from(write.value) == value
         }
         _ => false,
