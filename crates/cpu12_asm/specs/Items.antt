@@ -1,6 +1,8 @@
 -- Where items put their bytes, and which of them can't be put.
 use Rattle.std.specs.Prelude.{◌≡◌, ℕ, ◌+◌, ◌^◌, ◌<◌, ◌≤◌, List, [], ◌∷◌, ◌++◌, length, IsSome}
 use Rattle.cpu12_isa.specs.Code.{encode_of}
+use Rattle.cpu12_asm.specs.declared.items.AsmFault.{AsmFault}
+use Rattle.cpu12_asm.specs.declared.items.AsmFault.TheVariants.{Range, Overlap, Memory}
 use Rattle.cpu12_asm.specs.declared.items.Item.{Item}
 use Rattle.cpu12_asm.specs.declared.items.Item.TheVariants.{Place, Byte, Op}
 use Rattle.cpu12_asm.specs.Bytes.{byte_at, placed, IsGivenOnce, FitsMemory}
@@ -59,6 +61,13 @@ pub record FailsFirst (Fails : List Item → Item → Type 0) (items : List Item
   pub number : n ≡ length before + 1
   pub placed_before : CanBePlaced before
   pub fails : Fails before item
+
+-- items are refused for these faults alone
+abbrev pub IsItemFault : AsmFault → Type 0
+IsItemFault (Range n) = Unit {0}
+IsItemFault (Overlap n) = Unit {0}
+IsItemFault Memory = Unit {0}
+IsItemFault _ = ⊥
 
 -- items that never go back to a lower place, of which the first stands at a place, and that end within the memory
 abbrev pub IsRisingFrom : ℕ → List Item → Type 0

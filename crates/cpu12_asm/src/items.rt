@@ -2,7 +2,7 @@
 ghost use Rattle.std.specs.Prelude.{◌≡◌, ◌<◌, ◌≤◌, ◌+◌, ◌^◌, ℕ, List, ◌++◌, length, IfOk, IfErr, OnOk, IsSome, Ok, Err};
 ghost use Rattle.cpu12_asm.specs.Bytes.{byte_at, start_of, placed, Holds, IsAscending};
 ghost use Rattle.cpu12_asm.specs.Items.{given_by, item_bytes, place_after, CanBePlaced, FailsFirst, IsRising};
-ghost use Rattle.cpu12_asm.specs.Items.{PassesEnd, WritesOver};
+ghost use Rattle.cpu12_asm.specs.Items.{IsItemFault, PassesEnd, WritesOver};
 
 use crate::image::{ByteMap, Image, Refusal};
 use cpu12_isa::encode::encode;
@@ -54,6 +54,7 @@ pub fn assemble_items(alloc: Global, items: &[Item]) -> Result<Image, AsmFault>
     ensures bytes { IfOk result (λ image. Holds image.bytes (given_by items.now)) }
     ensures ascending { IfOk result (λ image. IsAscending image.bytes) }
     ensures start { IfOk result (λ image. image.start ≡ start_of image.bytes) }
+    ensures fault { IfErr result IsItemFault }
     ensures range { (n : ℕ) → result ≡ Err (AsmFault.Range n) → FailsFirst PassesEnd items.now n }
     ensures overlap { (n : ℕ) → result ≡ Err (AsmFault.Overlap n) → FailsFirst WritesOver items.now n }
     // Items that never go back can be placed.
