@@ -1,57 +1,62 @@
 -- The first rows of a text.
-use Rattle.std.proofs.Common.{arith, ◌≡◌, ◌⊎◌, inl, inr, ◌<◌, ◌-◌, ℕ, List, [], ◌∷◌, ◌++◌, length, map, refl, sym, ◌∙◌}
+use Rattle.std.proofs.Common.{arith, ◌≡◌, ◌⊎◌, inl, inr, ◌<◌, ◌≤◌, ◌-◌, ℕ, List, [], ◌∷◌, ◌++◌, length, map, refl, sym, ◌∙◌}
 use Rattle.std.proofs.Common.{ap, subst, Bor}
+use Rattle.std.proofs.lemmas.Bool.{false≢true}
 use Rattle.std.proofs.lemmas.List.{map-append}
 use Rattle.std.specs.Prelude.{Option, Some, None, true, false}
 use Rattle.csv.proofs.ReadFacts.{rows-end, rows-more}
 use Rattle.csv.specs.Machine.{Read, next_record}
-use Rattle.csv.specs.Reading.{ReadRecord, Reached, default_config, source_of, strip_bom}
+use Rattle.csv.specs.Reading.{ExplainsRead, ReadRecord, Reached, default_config, source_of, strip_bom}
+use Rattle.csv.specs.declared.error.ErrorKind.{ErrorKind}
+use Rattle.csv.specs.declared.error.ErrorKind.TheVariants as kind
 use Rattle.csv.specs.declared.parser.State.{State}
 use Rattle.csv.specs.declared.parser.State.TheVariants as st
 use Rattle.csv.specs.declared.reader.Reader.{Reader}
-use Rattle.fz_rows.specs.FirstRows.{AreFirstRows, Fields}
+use Rattle.fz_rows.specs.FirstRows.{AreFirstRows, Fields, is_want_of_memory}
 use Rattle.fz_rows.specs.Laws.{FirstRowsAreOne}
 
 some_none : {X : Type 0} {o : Option X} {x : X} → o ≡ Some x → o ≡ None → ⊥
 some_none {X} {o} {x} some none = let bad : Some x ≡ None = sym some ∙ none in cc
 
--- where all rows are fewer than k, first rows that are all of them or k of them are all of them
-all_rows : (k : ℕ) (s s2 s3 : State) (xs ys zs : List ℕ) (rows rows' : List Fields)
-    → Reached default_config s xs rows s2 ys
-    → next_record default_config s2 [] [] ys ≡ None → length rows < k
-    → Reached default_config s xs rows' s3 zs → (next_record default_config s3 [] [] zs ≡ None) ⊎ (length rows' ≡ k)
-    → rows' ≡ rows
+-- no row is left, or there are k
+abbrev AreEnough : ℕ → State → List ℕ → List Fields → Type 0
+AreEnough k s xs rows = (next_record default_config s [] [] xs ≡ None) ⊎ (length rows ≡ k)
+
+enough_behind : (k : ℕ) (s : State) (xs : List ℕ) (r : List (List ℕ)) (rows : List Fields)
+    → AreEnough k s xs (r ∷ rows) → AreEnough (k - 1) s xs rows
+enough_behind k s xs r rows (inl none) = inl none
+enough_behind k s xs r rows (inr full) = inr (omega (arith, full))
+
+-- at most k first rows that are all of them or k of them are one list
+one_list_of : (k : ℕ) (s s2 s3 : State) (xs ys zs : List ℕ) (rows others : List Fields)
+    → Reached default_config s xs rows s2 ys → length rows ≤ k → AreEnough k s2 ys rows
+    → Reached default_config s xs others s3 zs → length others ≤ k → AreEnough k s3 zs others
+    → others ≡ rows
 unfolding Reached
-all_rows k s s2 s3 xs ys zs [] [] cut end few cut' enough = refl
-all_rows k s s2 s3 xs ys zs [] (r' ∷ rows') cut end few cut' enough =
+one_list_of k s s2 s3 xs ys zs [] [] cut few enough cut' few' enough' = refl
+one_list_of k s s2 s3 xs ys zs [] (r' ∷ rows') cut few (inl end) cut' few' enough' =
     let here : next_record default_config s [] [] xs ≡ None =
     (λ i. next_record default_config (cut.0 i) [] [] (cut.1 i)) ∙ end in
     absurd (some_none cut'.1 here)
-all_rows k s s2 s3 xs ys zs (r ∷ rows) [] cut end few cut' (inl none) =
+one_list_of k s s2 s3 xs ys zs [] (r' ∷ rows') cut few (inr full) cut' few' enough' =
+    absurd (omega (arith, few', full))
+one_list_of k s s2 s3 xs ys zs (r ∷ rows) [] cut few enough cut' few' (inl none) =
     let here : next_record default_config s [] [] xs ≡ None =
     (λ i. next_record default_config (cut'.0 i) [] [] (cut'.1 i)) ∙ none in
     absurd (some_none cut.1 here)
-all_rows k s s2 s3 xs ys zs (r ∷ rows) [] cut end few cut' (inr full) = absurd (omega (arith, few, full))
-all_rows k s s2 s3 xs ys zs (r ∷ rows) (r' ∷ rows') cut end few cut' enough =
+one_list_of k s s2 s3 xs ys zs (r ∷ rows) [] cut few enough cut' few' (inr full) = absurd (omega (arith, few, full))
+one_list_of k s s2 s3 xs ys zs (r ∷ rows) (r' ∷ rows') cut few enough cut' few' enough' =
     let same : cut'.0 ≡ cut.0 = let e : Some cut'.0 ≡ Some cut.0 = sym cut'.1 ∙ cut.1 in cc in
     let first : r' ≡ r = cut'.2 ∙ ap (λ (p : Read). p.0) same ∙ sym cut.2 in
     let after : Reached default_config cut.0.1 cut.0.2 rows' s3 zs =
     subst (λ (p : Read). Reached default_config p.1 p.2 rows' s3 zs) same cut'.3 in
-    let rest = all_rows (k - 1) cut.0.1 s2 s3 cut.0.2 ys zs rows rows' cut.3 end (omega (arith, few)) after
-    (less enough) in
+    let rest = one_list_of (k - 1) cut.0.1 s2 s3 cut.0.2 ys zs rows rows' cut.3 (omega (arith, few))
+    (enough_behind k s2 ys r rows enough) after (omega (arith, few')) (enough_behind k s3 zs r' rows' enough') in
     (λ i. first i ∷ rest i)
-  where
-    less : (next_record default_config s3 [] [] zs ≡ None) ⊎ (length (r' ∷ rows') ≡ k)
-        → (next_record default_config s3 [] [] zs ≡ None) ⊎ (length rows' ≡ k - 1)
-    less (inl none) = inl none
-    less (inr full) = inr (omega (arith, full))
 
 pub one_list : FirstRowsAreOne
-one_list text rows others first few other = go first.enough
-  where
-    go : (next_record default_config first.state [] [] first.rest ≡ None) ⊎ (length rows ≡ 10001) → others ≡ rows
-    go (inr full) = absurd (omega (arith, full, few))
-    go (inl end) = all_rows 10001 _ _ _ _ _ _ rows others first.cut end few other.cut other.enough
+one_list text rows others first other =
+    one_list_of 10001 _ _ _ _ _ _ rows others first.cut first.few first.enough other.cut other.few other.enough
 
 -- what a reader has given of a text is these rows, and what it has left is the rest
 abbrev pub HasRead : List ℕ → Reader (Bor (List ℕ)) → List Fields → Type 0
@@ -71,14 +76,27 @@ HasRead-more f text a b rows more row config so_far read pushed =
 pub AreFirstRows-full : (text : List ℕ) (r : Reader (Bor (List ℕ))) (rows : List Fields) → HasRead text r rows
     → length rows ≡ 10001 → AreFirstRows text rows
 AreFirstRows-full text r rows so_far full =
-    record { state = r.state; rest = so_far.0; cut = so_far.2; enough = inr full }
+    record { state = r.state; rest = so_far.0; cut = so_far.2; few = omega (arith, full); enough = inr full }
 
 -- where no row is left
 pub AreFirstRows-all : (text : List ℕ) (a b : Reader (Bor (List ℕ))) (rows : List Fields) → a.config ≡ default_config
-    → HasRead text a rows → ReadRecord (λ (s : Bor (List ℕ)). Some s.now) a b false [] → AreFirstRows text rows
-AreFirstRows-all text a b rows config so_far read = record {
+    → HasRead text a rows → length rows < 10001 → ReadRecord (λ (s : Bor (List ℕ)). Some s.now) a b false []
+    → AreFirstRows text rows
+AreFirstRows-all text a b rows config so_far few read = record {
   state = a.state;
   rest = so_far.0;
   cut = so_far.2;
+  few = omega (arith, few);
   enough = inl (rows-end (λ (s : Bor (List ℕ)). Some s.now) a b [] default_config so_far.0 config so_far.1 read);
 }
+
+-- where rows may be of unequal widths, a read of bytes fails for want of memory alone
+pub is_want_of_memory-flexible : {R : Type 0} (rem : R → Option (List ℕ)) (a b : Reader R) (k : ErrorKind)
+    → a.flexible ≡ true → ExplainsRead rem a b false k → is_want_of_memory k ≡ true
+is_want_of_memory-flexible rem a b (kind.Io e) flexible why = refl
+is_want_of_memory-flexible rem a b kind.OutOfMemory flexible why = refl
+is_want_of_memory-flexible rem a b (kind.UnequalLengths pos expected len) flexible why =
+    absurd (false≢true (sym why.0 ∙ flexible))
+is_want_of_memory-flexible rem a b (kind.Utf8 pos err) flexible why = absurd (false≢true why.0)
+is_want_of_memory-flexible rem a b (kind.Serialize text) flexible why = absurd why
+is_want_of_memory-flexible rem a b (kind.Deserialize pos err) flexible why = absurd why

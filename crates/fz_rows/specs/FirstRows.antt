@@ -1,7 +1,9 @@
 -- The rows of comma-separated text.
-use Rattle.std.specs.Prelude.{◌≡◌, ◌⊎◌, ℕ, List, [], length, None}
+use Rattle.std.specs.Prelude.{◌≡◌, ◌≤◌, ◌⊎◌, ℕ, Bool, true, false, List, [], length, None}
 use Rattle.csv.specs.Machine.{next_record}
 use Rattle.csv.specs.Reading.{Reached, default_config, strip_bom}
+use Rattle.csv.specs.declared.error.ErrorKind.{ErrorKind}
+use Rattle.csv.specs.declared.error.ErrorKind.TheVariants.{Io, OutOfMemory}
 use Rattle.csv.specs.declared.parser.State.{State}
 use Rattle.csv.specs.declared.parser.State.TheVariants as st
 
@@ -14,4 +16,11 @@ pub record AreFirstRows (text : List ℕ) (rows : List Fields) : Type 0 where
   pub state : State
   pub rest : List ℕ
   pub cut : Reached default_config st.StartRecord (strip_bom text) rows state rest
+  pub few : length rows ≤ 10001
   pub enough : (next_record default_config state [] [] rest ≡ None) ⊎ (length rows ≡ 10001)
+
+-- a fault that tells nothing of the text
+abbrev pub is_want_of_memory : ErrorKind → Bool
+is_want_of_memory (Io e) = true
+is_want_of_memory OutOfMemory = true
+is_want_of_memory _ = false

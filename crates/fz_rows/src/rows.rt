@@ -1,13 +1,20 @@
 //! Rows of comma-separated text.
 ghost use Rattle.std.specs.Prelude.{◌≡◌, IfOk, map};
 ghost use Rattle.csv.specs.Records.{fields_of};
-ghost use Rattle.fz_rows.specs.FirstRows.{AreFirstRows};
+ghost use Rattle.fz_rows.specs.FirstRows.{AreFirstRows, is_want_of_memory};
 
-use csv::{ByteRecord, ReaderBuilder};
+use csv::{ByteRecord, ErrorKind, ReaderBuilder};
 use std::alloc::{AllocError, Global};
 
 /// One row more than a caller takes.
 const MOST: usize = 10001;
+
+/// Whether a fault tells nothing of the text: memory ran out, or the source failed, which bytes in memory don't.
+fn is_want_of_memory(kind: &ErrorKind) -> bool
+    ensures { result ≡ is_want_of_memory kind.now }
+{
+    matches!(kind, ErrorKind::OutOfMemory | ErrorKind::Io(_))
+}
 
 /// The rows of a text without a header row, at most 10001 of them.
 pub fn first_rows(alloc: Global, text: &[u8]) -> Result<Vec<ByteRecord>, AllocError>
@@ -21,7 +28,10 @@ pub fn first_rows(alloc: Global, text: &[u8]) -> Result<Vec<ByteRecord>, AllocEr
     for row in reader.into_byte_records() {
         match row {
             Ok(row) => rows.push(row)?,
-            Err(_) => return Err(AllocError),
+            Err(fault) => {
+                prove!(is_want_of_memory(fault.kind()));
+                return Err(AllocError);
+            }
         }
         if rows.len() == MOST {
             return Ok(rows);

@@ -1,8 +1,10 @@
-use Rattle.std.proofs.Common.{arith, ◌∙◌, sym, refl, inl, inr}
-use Rattle.std.proofs.lemmas.List.{length-map}
-use Rattle.csv.specs.Reading.{Reached, strip_bom}
+use Rattle.std.proofs.Common.{arith, ◌≡◌, ◌<◌, ◌∙◌, ℕ, Bor, List, [], ◌∷◌, Some, true, true≢false, ap, length}
+use Rattle.std.proofs.Common.{sym, refl, inl, inr}
+use Rattle.std.proofs.lemmas.List.{length-append, length-map}
+use Rattle.csv.specs.Reading.{Reached, builder_is_flexible, strip_bom}
 use Rattle.csv.specs.Records.{fields_of}
-use Rattle.fz_rows.proofs.RowLemmas.{AreFirstRows-all, AreFirstRows-full, HasRead-more}
+use Rattle.fz_rows.specs.FirstRows.{is_want_of_memory}
+use Rattle.fz_rows.proofs.RowLemmas.{AreFirstRows-all, AreFirstRows-full, HasRead-more, is_want_of_memory-flexible}
 use Rattle.fz_rows.proofs.rows.first_rows.Goals as goal
 
 pub loop-row-init : goal.loop-row-init
@@ -19,6 +21,8 @@ loop-row-init c =
       inr (inr (rw (f, e) at fr.has_headers, fr.headers)),
       left,
       rw (f, e) at fr.config ∙ c.new.ensures.config,
+      fr.flexible ∙ ap builder_is_flexible f,
+      omega arith,
       strip_bom c.args.text.now,
       fr.source,
       (sym fr.state, refl),
@@ -29,15 +33,19 @@ loop-row-preserved c =
     let inv = c.loop-row.invariant in
     let s = rw (c.in-Some.is, c.in-Ok.is) at ((c.next.ensures.steps inv.2 inv.0).0 inv.1) in
     let more = HasRead-more fields_of c.args.text.now c.loop-row.row-iterator.rdr c.next.new.self.rdr
-    c.loop-row.rows.items _ c.in-Ok.row inv.3 (inv.4, inv.5, inv.6) s.0 c.in_ok-push-in-Ok.ensures.items in
-    (s.0.3 ∙ inv.0, inl s.1, s.2, s.0.2 ∙ inv.3, more.0, more.1, more.2)
+    c.loop-row.rows.items _ c.in-Ok.row inv.3 (inv.6, inv.7, inv.8) s.0 c.in_ok-push-in-Ok.ensures.items in
+    let still = rw (c.in-Some.is, c.in-Ok.is) at ((c.next.ensures.steps inv.2 inv.0).3) in
+    let fewer : length c.push.new.self.items < 10001 =
+    omega (arith, c.len.ensures, c.if-len-eq-MOST.false, c.push.new.self.ok.0, inv.5,
+    ap length c.in_ok-push-in-Ok.ensures.items, length-append c.loop-row.rows.items (c.in-Ok.row ∷ [])) in
+    (s.0.3 ∙ inv.0, inl s.1, s.2, s.0.2 ∙ inv.3, still ∙ inv.4, fewer, more.0, more.1, more.2)
 
 pub returns-then-len-eq-MOST : goal.returns-then-len-eq-MOST
 returns-then-len-eq-MOST c =
     let inv = c.loop-row.invariant in
     let s = rw (c.in-Some.is, c.in-Ok.is) at ((c.next.ensures.steps inv.2 inv.0).0 inv.1) in
     let more = HasRead-more fields_of c.args.text.now c.loop-row.row-iterator.rdr c.next.new.self.rdr
-    c.loop-row.rows.items _ c.in-Ok.row inv.3 (inv.4, inv.5, inv.6) s.0 c.in_ok-push-in-Ok.ensures.items in
+    c.loop-row.rows.items _ c.in-Ok.row inv.3 (inv.6, inv.7, inv.8) s.0 c.in_ok-push-in-Ok.ensures.items in
     AreFirstRows-full c.args.text.now c.next.new.self.rdr _ more
     (rw length-map (omega (arith, c.len.ensures, c.if-len-eq-MOST.true, c.push.new.self.ok.0)))
 
@@ -45,4 +53,15 @@ pub returns : goal.returns
 returns c =
     let inv = c.loop-row.invariant in
     let s = rw c.in-None.is at ((c.next.ensures.steps inv.2 inv.0).0 inv.1) in
-    AreFirstRows-all c.args.text.now c.loop-row.row-iterator.rdr c.next.new.self.rdr _ inv.3 (inv.4, inv.5, inv.6) s
+    AreFirstRows-all c.args.text.now c.loop-row.row-iterator.rdr c.next.new.self.rdr _ inv.3 (inv.6, inv.7, inv.8)
+    (rw length-map inv.5) s
+
+pub prove-unreachable-requires : goal.prove-unreachable-requires
+prove-unreachable-requires c =
+    let inv = c.loop-row.invariant in
+    let why = rw (c.in-Some.is, c.in-Err.is) at ((c.next.ensures.steps inv.2 inv.0).0 inv.1) in
+    let is : c.is_want_of_memory.result ≡ true =
+    c.is_want_of_memory.ensures ∙ ap is_want_of_memory c.kind.ensures
+    ∙ is_want_of_memory-flexible (λ (s : Bor (List ℕ)). Some s.now) c.loop-row.row-iterator.rdr c.next.new.self.rdr
+    c.in-Err.fault.kind inv.4 why in
+    true≢false (sym is ∙ c.if-prove.true)

@@ -1,4 +1,4 @@
-use Rattle.std.proofs.Common.{◌≡◌, ◌<◌, ℕ, List, Some, map}
+use Rattle.std.proofs.Common.{◌≡◌, ◌<◌, ℕ, List, Some, length, map, true}
 use Rattle.csv.specs.Reading.{Reached, Ready, default_config, source_of, strip_bom}
 use Rattle.csv.specs.Records.{fields_of}
 use Rattle.csv.specs.declared.parser.State.TheVariants as st
@@ -7,7 +7,8 @@ use Rattle.fz_rows.proofs.rows.first_rows.Given as goal
 
 abbrev pub invariant-loop-row : goal.invariant-loop-row
 invariant-loop-row l = (l.row-iterator.rdr.trim ≡ trim.None) × Ready l.row-iterator.rdr × (0 < l.row-iterator.left)
-    × (l.row-iterator.rdr.config ≡ default_config)
+    × (l.row-iterator.rdr.config ≡ default_config) × (l.row-iterator.rdr.flexible ≡ true)
+    × (length l.rows.items < 10001)
     × (y : List ℕ) × (source_of (λ s. Some s.now) l.row-iterator.rdr ≡ Some y)
     × Reached default_config st.StartRecord (strip_bom l.fn.text)
     (map fields_of l.rows.items) l.row-iterator.rdr.state y

@@ -1,0 +1,54 @@
+-- Lists that are cut at one of their elements.
+use Rattle.std.proofs.Common.{arith, ◌≡◌, ◌<◌, ◌+◌, List, [], ◌∷◌, ◌++◌, length, refl, sym, ap, ◌∙◌, subst, inl, inr}
+use Rattle.std.proofs.lemmas.Bool.{cases_lt}
+
+-- of two cuts of a list, the element of the earlier stands before that of the later
+pub cut_within : {X : Type 0} (before : List X) (x : X) (after others : List X) (y : X) (rest : List X)
+    → before ++ x ∷ after ≡ others ++ y ∷ rest → length before < length others
+    → (between : List X) × (others ≡ before ++ x ∷ between)
+cut_within before x after [] y rest e l = absurd (omega arith)
+cut_within [] x after (z ∷ others) y rest e l = (others, let same : z ≡ x = cc in ap (λ w. w ∷ others) same)
+cut_within (b ∷ before) x after (z ∷ others) y rest e l =
+    let same : z ≡ b = cc in
+    let tails : before ++ x ∷ after ≡ others ++ y ∷ rest = cc in
+    let inner = cut_within before x after others y rest tails (omega arith) in
+    (inner.0, (λ i. same i ∷ inner.1 i))
+
+-- two cuts at one place are one
+pub one_cut : {X : Type 0} (before : List X) (x : X) (after others : List X) (y : X) (rest : List X)
+    → before ++ x ∷ after ≡ others ++ y ∷ rest → length before ≡ length others → (before ≡ others) × (x ≡ y)
+one_cut [] x after [] y rest e l = (refl, cc)
+one_cut [] x after (z ∷ others) y rest e l = absurd (omega arith)
+one_cut (b ∷ before) x after [] y rest e l = absurd (omega arith)
+one_cut (b ∷ before) x after (z ∷ others) y rest e l =
+    let same : b ≡ z = cc in
+    let tails : before ++ x ∷ after ≡ others ++ y ∷ rest = cc in
+    let inner = one_cut before x after others y rest tails (omega arith) in
+    ((λ i. same i ∷ inner.0 i), inner.1)
+
+-- elements that fail behind others, with what: none fails that stands in a list that passes, and each fails with one
+-- thing. Then a list has one element that fails first.
+module _ {X F : Type 0} (Pass : List X → Type 0) (Fails : List X → X → F → Type 0)
+    (apart : (before : List X) (x : X) (after : List X) (f : F) → Fails before x f → Pass (before ++ x ∷ after) → ⊥)
+    where
+  pub none_fails_before : (before : List X) (x : X) (after others : List X) (y : X) (rest : List X) (f : F)
+      → before ++ x ∷ after ≡ others ++ y ∷ rest → length before < length others → Fails before x f → Pass others → ⊥
+  none_fails_before before x after others y rest f e l fails pass =
+      let inner = cut_within before x after others y rest e l in
+      apart before x inner.0 f fails (subst Pass inner.1 pass)
+
+  pub one_fails_first : ((before : List X) (x : X) (f g : F) → Fails before x f → Fails before x g → f ≡ g)
+      → (before : List X) (x : X) (after : List X) (f : F) (others : List X) (y : X) (rest : List X) (g : F)
+      → before ++ x ∷ after ≡ others ++ y ∷ rest → Pass before → Fails before x f → Pass others → Fails others y g
+      → f ≡ g
+  one_fails_first one before x after f others y rest g e pass fails pass' fails' =
+      elim (cases_lt (length before) (length others)) [
+        | inl l ↦ absurd (none_fails_before before x after others y rest f e l fails pass')
+        | inr r ↦ elim (cases_lt (length others) (length before)) [
+          | inl l ↦ absurd (none_fails_before others y rest before x after g (sym e) l fails' pass)
+          | inr s ↦
+              let same = one_cut before x after others y rest e (omega arith) in
+              one others y f g (subst (λ (z : X). Fails others z f) same.1
+              (subst (λ (bs : List X). Fails bs x f) same.0 fails)) fails'
+        ]
+      ]
