@@ -1,59 +1,35 @@
 -- The best leaf of a box, and the leaves that hold there.
-use Rattle.std.proofs.Common.{◌≡◌, ⊎_elim, ℕ, zero, suc, ◌+◌, ◌-◌, ◌*◌, ◌/◌, ◌<◌, ◌≤◌, List, length}
-use Rattle.std.proofs.Common.{Some, None, refl, sym, ◌∙◌, subst, arith, mul-le-mul_right, mul-pos}
+use Rattle.std.proofs.Common.{◌≡◌, ⊎_elim, ℕ, ◌+◌, ◌-◌, ◌*◌, ◌/◌, ◌<◌, ◌≤◌, List, length}
+use Rattle.std.proofs.Common.{Some, None, refl, sym, ◌∙◌, subst, arith, mul-le-mul_right}
 use Rattle.std.specs.Prelude.{IsTrue, ◌⊎◌, ◌<ℤ◌}
 use Rattle.std.proofs.lemmas.Int.{ints}
 use Rattle.std.proofs.lemmas.Bool.{cases_lt}
 use Rattle.fz_list.proofs.Algebra.{All-slice_get}
-use Rattle.fz_num.specs.Fractions.{Fraction, over, IsProper, AtMost}
+use Rattle.fz_num.specs.Fractions.{over, AtMost}
 use Rattle.fz_num.specs.Decimals.{distance}
 use Rattle.fuzzy_meaning.specs.declared.block.Block.{Block}
 use Rattle.fuzzy_meaning.specs.declared.block.Output.{Output}
 use Rattle.fuzzy_meaning.specs.declared.block.Rule.{Rule}
 use Rattle.fuzzy_meaning.specs.Blocks.{IsValid, IsValidOutput}
 use Rattle.fuzzy_meaning.specs.Rules.{concludes}
-use Rattle.point_slope.specs.Tables.{row_of, grade_of}
 use Rattle.error_bound.specs.declared.boxes.Interval.{Interval}
 use Rattle.error_bound.specs.declared.boxes.Leaf.{Leaf}
-use Rattle.error_bound.specs.Boxes.{least_from, greatest_from, grades_over, literal_byte_span, rule_span}
-use Rattle.error_bound.specs.Boxes.{rule_byte_span}
-use Rattle.error_bound.specs.Spans.{only}
+use Rattle.error_bound.specs.Boxes.{rule_span}
 use Rattle.error_bound.specs.Leaves.{Holds, strong, silent, IsStrong, IsStill, rule_at}
 use Rattle.error_bound.specs.Best.{IsBest, silent as best_silent, strong as best_strong, nothing, IsCandidate}
 use Rattle.error_bound.specs.Best.{silent_leaf}
 use Rattle.error_bound.specs.Errors.{billion}
-use Rattle.error_bound.specs.Bounds.{plus, bound, IsBound, greatest_offset, strong_bound, errors_from}
+use Rattle.error_bound.specs.Bounds.{bound, IsBound, greatest_offset, strong_bound, errors_from}
 use Rattle.error_bound.specs.BestLeaves.{IsBestBound, of_leaf, of_none, BestLeavesAreOne, BestLeavesHold}
 use Rattle.error_bound.specs.BestLeaves.{BestBoundsAreLeast}
-use Rattle.error_bound.proofs.AnswerLemmas.{bound_strong, bound_silent}
+use Rattle.error_bound.proofs.BoundLemmas.{bound_strong, bound_silent, ratio-mono}
 use Rattle.error_bound.proofs.ConclusionLemmas.{any-some, any-term}
 use Rattle.error_bound.proofs.FlatteningLemmas.{at_literal-holds, span_good}
 use Rattle.error_bound.proofs.LawLemmas.{term_errors-are}
 use Rattle.error_bound.specs.CellErrors.{term_errors}
 use Rattle.error_bound.proofs.Nested.{leaves_hold_inside}
 use Rattle.error_bound.proofs.NestedBounds.{bounds_fall, bounds_unique}
-use Rattle.error_bound.proofs.RuleLemmas.{times_proper, scaled-mono}
-use Rattle.error_bound.proofs.SpanLemmas.{between, levels_monotone}
-use Rattle.error_bound.proofs.WideLemmas.{in_millionths-mono}
-
--- ---- how far a rule's strengths reach
-
-least_to_greatest : (g : ℕ → ℕ) (p n : ℕ) → least_from g p n ≤ greatest_from g p n
-least_to_greatest g p zero = omega arith
-least_to_greatest g p (suc n) = let h = least_to_greatest g p n in omega arith
-
-module _ (b : Block) (box : List Interval) where
-  low_proper : (r : Rule) → IsProper (rule_span b box r).low
-  low_proper r = times_proper _ _ (span_good b box r.cond).low.proper
-
-  -- over bytes the low is at most the high
-  bytes_ordered : (r : Rule) → (rule_byte_span b box r).low ≤ (rule_byte_span b box r).high
-  bytes_ordered r =
-      let literal = at_literal-holds b box (λ m. m.low ≤ m.high) grades_over (only 0) (omega arith)
-      (λ x term v. least_to_greatest (grade_of (row_of x term)) v.from (v.to - v.from)) in
-      let h = between levels_monotone {s = literal_byte_span b box} {v = λ i t. (literal_byte_span b box i t).low}
-      (λ i t. record { low = omega arith; high = literal i t }) r.cond in
-      scaled-mono _ _ _ (omega (arith, h.low, h.high))
+use Rattle.error_bound.proofs.RuleOrder.{low_proper, bytes_ordered}
 
 -- ---- strong leaves and candidates
 
@@ -95,7 +71,7 @@ outdone b box o n k r from some er s =
     }
 
 -- where the silent leaf holds no rule is strong
-silent_not_strong : (b : Block) (box : List Interval) (o n k : ℕ) (r : Rule) → Holds b box o silent_leaf
+pub silent_not_strong : (b : Block) (box : List Interval) (o n k : ℕ) (r : Rule) → Holds b box o silent_leaf
     → rule_at b n ≡ Some r
     → IsStrong b box o r k → ⊥
 silent_not_strong b box o n k r (strong r' from some to e' s') er s = absurd (omega arith)
@@ -173,24 +149,13 @@ strong-falls : (x : Output) (h s j k : ℕ) → x.lo.0 <ℤ x.hi.0 → 1 ≤ h �
     → strong_bound x h s k ≤ strong_bound x h s j
 strong-falls x h s j k range hh hj le =
     let w = distance x.lo x.hi in
+    let d = greatest_offset x x.singletons in
     let wp : 0 < w = omega (arith, ints) in
-    let f : Fraction = plus (over (greatest_offset x x.singletons) (255 * w)) (over 1 (255 * h)) in
-    let a : Fraction = over (s * 255) (billion * k) in
-    let c : Fraction = over (s * 255) (billion * j) in
-    let jp : 0 < billion * j = mul-pos (omega arith) hj in
-    let kp : 0 < billion * k = mul-pos (omega arith) (omega arith) in
-    let fp : 0 < 255 * w * (255 * h) = mul-pos (mul-pos (omega arith) wp) (mul-pos (omega arith) hh) in
-    in_millionths-mono (plus a f) (plus c f) (record {
-      pos =
-          mul-pos kp fp;
-    }) (record { pos = mul-pos jp fp }) (record { cross = crossed s j k f.num f.den le })
-  where
-    crossed : (s j k n d : ℕ) → j ≤ k
-        → (s * 255 * d + n * (billion * k)) * (billion * j * d) ≤ (s * 255 * d + n * (billion * j)) * (billion * k * d)
-    crossed s j k n d le =
-        let m : j * (s * 255 * billion * d * d) ≤ k * (s * 255 * billion * d * d) =
-        mul-le-mul_right (s * 255 * billion * d * d) le in
-        omega arith
+    let jp : 0 < billion * j = omega arith in
+    let kp : 0 < billion * k = omega arith in
+    let m : j * (s * 255 * billion) ≤ k * (s * 255 * billion) = mul-le-mul_right (s * 255 * billion) le in
+    ratio-mono w h h (s * 255) (billion * k) (s * 255) (billion * j) d d wp hh (omega arith) kp jp (omega arith)
+    (omega arith)
 
 moved : {a b c d : ℕ} → a ≡ c → b ≡ d → c ≤ d → a ≤ b
 moved e f h = omega arith

@@ -1,21 +1,22 @@
 -- Laws of boxes and their errors.
-use Rattle.std.proofs.Common.{ℕ, ◌+◌, ◌-◌, ◌*◌, ◌<◌, ◌≤◌, arith, mul-le-mul_right}
-use Rattle.std.specs.Prelude.{◌==◌}
+use Rattle.std.proofs.Common.{◌≡◌, ℕ, ◌+◌, ◌-◌, ◌*◌, ◌<◌, ◌≤◌, List, Some, arith, mul-le-mul_right}
+use Rattle.std.specs.Prelude.{◌==◌, slice_get}
 use Rattle.fz_num.specs.Decimals.{distance}
 use Rattle.fz_num.specs.Fractions.{IsProper}
 use Rattle.fuzzy_meaning.specs.declared.block.Input.{Input}
 use Rattle.fuzzy_meaning.specs.declared.block.Trapezoid.{Trapezoid}
-use Rattle.fuzzy_meaning.specs.Blocks.{IsValidInput, IsValidTerm}
+use Rattle.fuzzy_meaning.specs.declared.block.Block.{Block}
+use Rattle.fuzzy_meaning.specs.Blocks.{IsValid, IsValidInput, IsValidTerm}
 use Rattle.fz_list.proofs.Algebra.{All-slice_get}
 use Rattle.byte_scaling.specs.Cells.{cell_start, cell_end}
 use Rattle.point_slope.specs.Tables.{row_of, grade_of}
 use Rattle.error_bound.specs.declared.boxes.Interval.{Interval}
 use Rattle.fuzzy_meaning.specs.Places.{points_of}
-use Rattle.error_bound.specs.Errors.{billion, IsTermError}
+use Rattle.error_bound.specs.Errors.{billion, IsTermError, AreTermErrors}
 use Rattle.error_bound.specs.Laws.{CellsHaveBounds, TermErrorsAre}
 use Rattle.error_bound.proofs.Sides.{low_bounds, high_bounds}
 use Rattle.error_bound.proofs.Limits.{low_greatest, high_least}
-use Rattle.error_bound.specs.CellErrors.{term_error}
+use Rattle.error_bound.specs.CellErrors.{term_error, term_errors}
 use Rattle.error_bound.proofs.CellErrors.{cells_bounds, cells_least}
 use Rattle.error_bound.proofs.Literals.{width_pos}
 use Rattle.error_bound.proofs.PlaceLemmas.{IsPeaked-points}
@@ -53,10 +54,15 @@ term_error-is i t v vi vt h =
           (omega arith) (λ n h1 h2 x inn. c n h1 (omega arith) x inn);
     }
 
-pub term_errors-are : TermErrorsAre
-term_errors-are b box valid some = record {
+-- where each interval has a byte
+pub term_errors-from : (b : Block) (box : List Interval) → IsValid b
+    → ((k : ℕ) (v : Interval) → slice_get box k ≡ Some v → v.from ≤ v.to) → AreTermErrors b box (term_errors b box)
+term_errors-from b box valid some = record {
   error = λ i t x term v ex et ev.
       let vx : IsValidInput x = All-slice_get IsValidInput b.inputs (i - 1) x valid.inputs ex in
       let vt : IsValidTerm x.lo x.hi term = All-slice_get (IsValidTerm x.lo x.hi) x.terms (t - 1) term vx.terms et in
-      rw (ex, et, ev) (term_error-is x term v vx vt (some.some (i - 1) v ev).0);
+      rw (ex, et, ev) (term_error-is x term v vx vt (some (i - 1) v ev));
 }
+
+pub term_errors-are : TermErrorsAre
+term_errors-are b box valid some = term_errors-from b box valid (λ k v e. (some.some k v e).0)

@@ -23,7 +23,7 @@ use Rattle.error_bound.specs.Leaves.{concludes_some, rule_at, IsPairFor, Holds, 
 use Rattle.error_bound.specs.Ratios.{value_of, IsRatio}
 use Rattle.error_bound.specs.Reaches.{IsTable, IsEndOfRule}
 use Rattle.error_bound.specs.Spans.{only}
-use Rattle.error_bound.proofs.AnswerLemmas.{bound_strong, bound_silent}
+use Rattle.error_bound.proofs.BoundLemmas.{bound_strong, bound_silent}
 use Rattle.error_bound.proofs.ConclusionLemmas.{any-term}
 use Rattle.error_bound.proofs.LawLemmas.{term_errors-are}
 use Rattle.error_bound.proofs.ListLemmas.{slice_get-read}

@@ -10,10 +10,14 @@ pub mod PlaceLemmas
 pub mod Literals
 pub mod RuleLemmas
 pub mod Rows
+pub mod RuleOrder
 pub mod Shares
+pub mod BoundLemmas
+pub mod TightLemmas
 pub mod Closeness
-pub mod StrongLeaves
+pub mod SureBoxes
 pub mod SilentLeaves
+pub mod TermReaches
 pub mod AnswerLemmas
 pub mod LawLemmas
 pub mod WideLemmas
@@ -25,6 +29,9 @@ pub mod ConclusionLemmas
 pub mod PairLemmas
 pub mod FaultLemmas
 pub mod BestLemmas
+pub mod TightLawLemmas
+pub mod MassLemmas
+pub mod ClaimLemmas
 pub mod Values
 pub mod ListLemmas
 pub mod LeafLemmas
@@ -33,3 +40,4 @@ pub mod FirstFiring
 pub mod ConditionParts
 pub mod Operations
 pub mod FlatteningLemmas
+pub mod MassEndLemmas

@@ -44,9 +44,9 @@ greatest_le g p (suc n) m h = let a = greatest_le g p n m (λ v l k. h v l (omeg
     let c = h (p + suc n) (omega arith) (omega arith) in omega arith
 
 -- a span and a byte span within others
-record IsNarrow (s r : Span Fraction) (m q : Span ℕ) : Type 0 where
-  span : IsNarrower AreOrdered s r
-  byte_span : IsNarrower (λ m n. m ≤ n) m q
+pub record IsNarrow (s r : Span Fraction) (m q : Span ℕ) : Type 0 where
+  pub span : IsNarrower AreOrdered s r
+  pub byte_span : IsNarrower (λ m n. m ≤ n) m q
 
 only_none : IsNarrow (only none) (only none) (only 0) (only 0)
 only_none =
@@ -123,7 +123,7 @@ module _ (b : Block) (small box : List Interval) (valid : IsValid b) (count : le
   by_input i t None ex = rw ex only_none
   by_input i t (Some x) ex = by_term i t x ex (slice_get x.terms (t - 1)) refl
 
-  rule_narrow : (r : Rule)
+  pub rule_narrow : (r : Rule)
       → IsNarrow (rule_span b small r) (rule_span b box r) (rule_byte_span b small r) (rule_byte_span b box r)
   rule_narrow r =
       let w = weight_of r.weight in

@@ -1,10 +1,9 @@
 -- On a smaller box no eps rises, and no Bound.
 use Rattle.std.proofs.Common.{◌≡◌, ℕ, zero, suc, ◌+◌, ◌-◌, ◌*◌, ◌<◌, ◌≤◌, max, Bool, true, false, List, [], ◌∷◌, length}
-use Rattle.std.proofs.Common.{arith, mul-le-mul_right, mul-pos, refl, sym, ap, ◌∙◌, Some}
+use Rattle.std.proofs.Common.{arith, mul-le-mul_right, refl, sym, ap, ◌∙◌, Some}
 use Rattle.std.specs.Prelude.{All, slice_get, ◌==◌, if◌then◌else◌, ◌<ℤ◌}
 use Rattle.std.proofs.lemmas.Int.{ints}
 use Rattle.fz_num.specs.declared.dec.Dec.{Dec}
-use Rattle.fz_num.specs.Fractions.{Fraction, over, AtMost}
 use Rattle.fz_num.specs.Decimals.{distance}
 use Rattle.fuzzy_meaning.specs.declared.block.Block.{Block}
 use Rattle.fuzzy_meaning.specs.declared.block.Output.{Output}
@@ -18,9 +17,8 @@ use Rattle.error_bound.specs.declared.boxes.Interval.{Interval}
 use Rattle.error_bound.specs.declared.boxes.Leaf.{Leaf}
 use Rattle.error_bound.specs.Spans.{greatest_literal}
 use Rattle.error_bound.specs.Errors.{billion, AreTermErrors, rule_error, weight_error, floor_error, output_error_among}
-use Rattle.error_bound.specs.Bounds.{plus, errors_from, IsBound, greatest_offset, silent_bound, strong_bound}
-use Rattle.error_bound.proofs.AnswerLemmas.{bound_strong}
-use Rattle.error_bound.proofs.WideLemmas.{in_millionths-mono}
+use Rattle.error_bound.specs.Bounds.{errors_from, IsBound, greatest_offset, silent_bound, strong_bound}
+use Rattle.error_bound.proofs.BoundLemmas.{bound_strong, ratio-mono}
 use Rattle.error_bound.specs.Laws.{IsInside, BoundsFallInside, BoundsAreDetermined}
 
 max-mono : (a b c d : ℕ) → a ≤ c → b ≤ d → max a b ≤ max c d
@@ -52,17 +50,19 @@ module _ (b : Block) (small box : List Interval) (e f : ℕ → ℕ → ℕ) (co
       (record { none = λ or. omega arith; join = λ or k m l n h i. max-mono k m l n h i })
       (λ m n h. h) less_literal
 
-  less_output : (o t : ℕ) (rs : List Rule) → All (IsValidRule b) rs
-      → output_error_among e o t rs ≤ output_error_among f o t rs
-  less_output o t [] h = omega arith
-  less_output o t (r ∷ rs) h =
-      by_bool (more (weight_error r) (floor_error r)
-      (less_greatest r.cond (h 0 r (omega arith)).condition))
-      (less_output o t rs (λ k d l. h (suc k) d (omega arith))) (concludes r o t)
+  pub less_rule : (r : Rule) → IsValidRule b r → rule_error e r ≤ rule_error f r
+  less_rule r h = more (weight_error r) (floor_error r) (less_greatest r.cond h.condition)
     where
       more : {p q : ℕ} (w z : ℕ) → p ≤ q → p + w + z ≤ q + w + z
       more w z h = omega arith
 
+  less_output : (o t : ℕ) (rs : List Rule) → All (IsValidRule b) rs
+      → output_error_among e o t rs ≤ output_error_among f o t rs
+  less_output o t [] h = omega arith
+  less_output o t (r ∷ rs) h =
+      by_bool (less_rule r (h 0 r (omega arith))) (less_output o t rs (λ k d l. h (suc k) d (omega arith)))
+      (concludes r o t)
+    where
       by_bool : rule_error e r ≤ rule_error f r → output_error_among e o t rs ≤ output_error_among f o t rs → (c : Bool)
           → (if c then max (rule_error e r) (output_error_among e o t rs) else output_error_among e o t rs)
           ≤ (if c then max (rule_error f r) (output_error_among f o t rs) else output_error_among f o t rs)
@@ -77,24 +77,16 @@ module _ (b : Block) (small box : List Interval) (e f : ℕ → ℕ → ℕ) (co
       sum : {p q w z : ℕ} → p ≤ q → w ≤ z → p + w ≤ q + z
       sum h k = omega arith
 
-plus-less : (f g h : Fraction) → AtMost f g → AtMost (plus f h) (plus g h)
-plus-less f g h l =
-    let m : (f.num * g.den) * (h.den * h.den) ≤ (g.num * f.den) * (h.den * h.den) =
-    mul-le-mul_right (h.den * h.den) l.cross in
-    record { cross = omega arith }
-
 strong-less : (x : Output) (h s r k : ℕ) → x.lo.0 <ℤ x.hi.0 → 1 ≤ h → 1 ≤ k → s ≤ r
     → strong_bound x h s k ≤ strong_bound x h r k
 strong-less x h s r k range hh hk le =
     let w = distance x.lo x.hi in
+    let d = greatest_offset x x.singletons in
     let wp : 0 < w = omega (arith, ints) in
-    let f : Fraction = plus (over (greatest_offset x x.singletons) (255 * w)) (over 1 (255 * h)) in
-    let kp : 0 < billion * k = mul-pos (omega arith) hk in
-    let fp : 0 < 255 * w * (255 * h) = mul-pos (mul-pos (omega arith) wp) (mul-pos (omega arith) hh) in
+    let kp : 0 < billion * k = omega arith in
     let m : s * (255 * (billion * k)) ≤ r * (255 * (billion * k)) = mul-le-mul_right (255 * (billion * k)) le in
-    in_millionths-mono (plus (over (s * 255) (billion * k)) f) (plus (over (r * 255) (billion * k)) f)
-    (record { pos = mul-pos kp fp }) (record { pos = mul-pos kp fp })
-    (plus-less (over (s * 255) (billion * k)) (over (r * 255) (billion * k)) f (record { cross = omega arith }))
+    ratio-mono w h h (s * 255) (billion * k) (r * 255) (billion * k) d d wp hh (omega arith) kp kp (omega arith)
+    (omega arith)
 
 moved : {a b c d : ℕ} → a ≡ c → b ≡ d → c ≤ d → a ≤ b
 moved e f h = omega arith
@@ -119,7 +111,7 @@ bounds_fall b small box o x h leaf n m valid ex hh count ins p q =
     bound_inside b small box o x h leaf n m valid
     (All-slice_get IsValidOutput b.outputs (o - 1) x valid.outputs ex).range hh count ins p q
 
-inside_itself : (box : List Interval) → IsInside box box
+pub inside_itself : (box : List Interval) → IsInside box box
 inside_itself box = record { count = refl; within = at }
   where
     at : (k : ℕ) (u v : Interval) → slice_get box k ≡ Some u → slice_get box k ≡ Some v

@@ -1,22 +1,24 @@
--- A strong leaf's bound, over the rows of an output's terms.
-use Rattle.std.proofs.Common.{◌≡◌, ⊎_elim, ℕ, ◌+◌, ◌*◌, ◌<◌, ◌≤◌, max, List, [], ◌∷◌, sym, subst, arith}
+-- A box's Bound, over the rows of an output's terms.
+use Rattle.std.proofs.Common.{◌≡◌, ⊎_elim, ℕ, zero, suc, ◌+◌, ◌*◌, ◌<◌, ◌≤◌, List, [], ◌∷◌, sym, subst, arith}
 use Rattle.std.proofs.Common.{mul-le-mul_right, le_of_mul-le-mul_right, mul-pos}
 use Rattle.std.proofs.lemmas.Bool.{cases_lt}
-use Rattle.fz_num.specs.Fractions.{Fraction, IsProper, IsNear, over, up_div}
+use Rattle.fz_num.specs.Fractions.{Fraction, IsProper, AtMost, IsNear, over, up_div}
 use Rattle.fz_num.proofs.Algebra.{le-up_div}
 use Rattle.error_bound.specs.Errors.{apart}
-use Rattle.error_bound.specs.Bounds.{plus, in_millionths}
+use Rattle.error_bound.specs.Bounds.{ratio_bound}
 use Rattle.error_bound.proofs.Sums.{Apart, term_le}
 use Rattle.error_bound.proofs.Quotients.{Parts, within}
 
--- one term of an output: how far its singleton stands above lo, the singleton's byte, its mass, the bytes' mass, and
--- its error in parts of t
+-- one term of an output: how far its singleton stands above lo, the singleton's byte, its mass, the bytes' mass, its
+-- error in parts of t, how far it may be from the answer, and a number of parts of 255 t that its mass has at least
 pub record Row : Type 0 where
   pub u : ℕ
   pub s : ℕ
   pub f : Fraction
   pub g : ℕ
   pub e : ℕ
+  pub w : ℕ
+  pub l : ℕ
 
 -- the masses' common denominator
 abbrev pub dens : List Row → ℕ
@@ -45,185 +47,179 @@ abbrev pub dot_s : List Row → ℕ
 dot_s [] = 0
 dot_s (r ∷ rs) = r.s * r.g + dot_s rs
 
-abbrev pub errors : List Row → ℕ
-errors [] = 0
-errors (r ∷ rs) = r.e + errors rs
+-- the errors by how far the terms may be from the answer, and what the masses have at least
+abbrev pub gaps : List Row → ℕ
+gaps [] = 0
+gaps (r ∷ rs) = r.w * r.e + gaps rs
 
--- |s/255 - u/w| by cross product, and the greatest
+abbrev pub lows : List Row → ℕ
+lows [] = 0
+lows (r ∷ rs) = r.l + lows rs
+
+-- |s/255 - u/w| by cross product
 abbrev pub off : ℕ → Row → ℕ
 off w r = apart (r.s * w) (r.u * 255)
 
-abbrev pub delta : ℕ → List Row → ℕ
-delta w [] = 0
-delta w (r ∷ rs) = max (off w r) (delta w rs)
-
--- S 255/k + delta + 1/(255 h), in millionths
-abbrev pub bound : ℕ → ℕ → ℕ → ℕ → List Row → ℕ
-bound t h w k rs = in_millionths
-    (plus (over (errors rs * 255) (t * k)) (plus (over (delta w rs) (255 * w)) (over 1 (255 * h))))
-
-pub record RowOk (t w : ℕ) (r : Row) : Type 0 where
+-- in parts of t, for a range of width w, where aa/gg is the answer from the machine's degrees
+pub record RowOk (t w d gg aa : ℕ) (r : Row) : Type 0 where
   pub u_in : r.u ≤ w
   pub s_in : r.s ≤ 255
   pub proper : IsProper r.f
   pub near : IsNear t r.g r.f r.e
+  pub low : AtMost (over r.l (255 * t)) r.f
+  pub offset : 0 < r.g → off w r ≤ d
+  pub reach : Apart (gg * r.u) aa (gg * r.w)
 
-abbrev pub AllOk : ℕ → ℕ → List Row → Type 0
-AllOk t w [] = Unit {0}
-AllOk t w (r ∷ rs) = RowOk t w r × AllOk t w rs
+abbrev pub AllOk : (t w d gg aa : ℕ) → List Row → Type 0
+AllOk t w d gg aa [] = Unit {0}
+AllOk t w d gg aa (r ∷ rs) = RowOk t w d gg aa r × AllOk t w d gg aa rs
 
--- some mass is at least k/255
-pub data Heavy (k : ℕ) : List Row → Type 0 where
-  here : {r : Row} {rs : List Row} → k * r.f.den ≤ r.f.num * 255 → Heavy k (r ∷ rs)
-  there : {r : Row} {rs : List Row} → Heavy k rs → Heavy k (r ∷ rs)
+module _ (t w d gg aa : ℕ) where
+  rows_up : (rs : List Row) → AllOk t w d gg aa rs
+      → gg * (weighted rs * 255 * t) + aa * (dens rs * total_g rs * t)
+      ≤ aa * (mass_sum rs * 255 * t) + gg * (dens rs * dot_u rs * t) + gg * (gaps rs * 255 * dens rs)
+  rows_up [] h = omega arith
+  rows_up (r ∷ rs) h =
+      let tail = mul-le-mul_right r.f.den (rows_up rs h.1) in
+      let one = term_le gg aa r.u r.w (r.f.num * 255 * t) (r.g * r.f.den * t) (r.e * 255 * r.f.den) h.0.reach
+      h.0.near.up h.0.near.down in
+      let head = mul-le-mul_right (dens rs) one in
+      omega arith
 
-rows_up : (t w gg aa : ℕ) (rs : List Row) → AllOk t w rs → aa ≤ w * gg
-    → gg * (weighted rs * 255 * t) + aa * (dens rs * total_g rs * t)
-    ≤ aa * (mass_sum rs * 255 * t) + gg * (dens rs * dot_u rs * t) + w * gg * (errors rs * 255 * dens rs)
-rows_up t w gg aa [] h ha = omega arith
-rows_up t w gg aa (r ∷ rs) h ha =
-    let tail = mul-le-mul_right r.f.den (rows_up t w gg aa rs h.1 ha) in
-    let one = term_le w gg aa r.u (r.f.num * 255 * t) (r.g * r.f.den * t) (r.e * 255 * r.f.den) h.0.u_in ha h.0.near.up
-    h.0.near.down in
-    let head = mul-le-mul_right (dens rs) one in
-    omega arith
+  rows_down : (rs : List Row) → AllOk t w d gg aa rs
+      → gg * (dens rs * dot_u rs * t) + aa * (mass_sum rs * 255 * t)
+      ≤ aa * (dens rs * total_g rs * t) + gg * (weighted rs * 255 * t) + gg * (gaps rs * 255 * dens rs)
+  rows_down [] h = omega arith
+  rows_down (r ∷ rs) h =
+      let tail = mul-le-mul_right r.f.den (rows_down rs h.1) in
+      let one = term_le gg aa r.u r.w (r.g * r.f.den * t) (r.f.num * 255 * t) (r.e * 255 * r.f.den) h.0.reach
+      h.0.near.down h.0.near.up in
+      let head = mul-le-mul_right (dens rs) one in
+      omega arith
 
-rows_down : (t w gg aa : ℕ) (rs : List Row) → AllOk t w rs → aa ≤ w * gg
-    → gg * (dens rs * dot_u rs * t) + aa * (mass_sum rs * 255 * t)
-    ≤ aa * (dens rs * total_g rs * t) + gg * (weighted rs * 255 * t) + w * gg * (errors rs * 255 * dens rs)
-rows_down t w gg aa [] h ha = omega arith
-rows_down t w gg aa (r ∷ rs) h ha =
-    let tail = mul-le-mul_right r.f.den (rows_down t w gg aa rs h.1 ha) in
-    let one = term_le w gg aa r.u (r.g * r.f.den * t) (r.f.num * 255 * t)
-    (r.e * 255 * r.f.den) h.0.u_in ha h.0.near.down h.0.near.up in
-    let head = mul-le-mul_right (dens rs) one in
-    omega arith
+  pub dens_pos : (rs : List Row) → AllOk t w d gg aa rs → 0 < dens rs
+  dens_pos [] h = omega arith
+  dens_pos (r ∷ rs) h = mul-pos h.0.proper.pos (dens_pos rs h.1)
 
-dot_u_le : (t w : ℕ) (rs : List Row) → AllOk t w rs → dot_u rs ≤ w * total_g rs
-dot_u_le t w [] h = omega arith
-dot_u_le t w (r ∷ rs) h = let a = dot_u_le t w rs h.1 in let p = mul-le-mul_right r.g h.0.u_in in omega arith
+  lows_sum : (rs : List Row) → AllOk t w d gg aa rs → lows rs * dens rs ≤ mass_sum rs * (255 * t)
+  lows_sum [] h = omega arith
+  lows_sum (r ∷ rs) h =
+      let head = mul-le-mul_right (dens rs) h.0.low.cross in
+      let tail = mul-le-mul_right r.f.den (lows_sum rs h.1) in
+      omega arith
 
-pub dens_pos : (t w : ℕ) (rs : List Row) → AllOk t w rs → 0 < dens rs
-dens_pos t w [] h = omega arith
-dens_pos t w (r ∷ rs) h = mul-pos h.0.proper.pos (dens_pos t w rs h.1)
+  pub mass_pos : (rs : List Row) → AllOk t w d gg aa rs → 0 < lows rs → 0 < mass_sum rs
+  mass_pos rs h some = positive (mass_sum rs) (255 * t) (lows rs * dens rs) (mul-pos some (dens_pos rs h)) (lows_sum rs h)
+    where
+      positive : (m n k : ℕ) → 0 < k → k ≤ m * n → 0 < m
+      positive zero n k p l = absurd (omega arith)
+      positive (suc m) n k p l = omega arith
 
-heavy_sum : (k : ℕ) (rs : List Row) → Heavy k rs → k * dens rs ≤ mass_sum rs * 255
-heavy_sum k [] h = elim h [ ]
-heavy_sum k (r ∷ rs) (here h) = let p = mul-le-mul_right (dens rs) h in omega arith
-heavy_sum k (r ∷ rs) (there h) = let p = mul-le-mul_right r.f.den (heavy_sum k rs h) in omega arith
+  -- the singletons' bytes
+  one_off : (r : Row) → (0 < r.g → off w r ≤ d) → Apart (r.s * w * r.g) (r.u * 255 * r.g) (d * r.g)
+  one_off r h = ⊎_elim
+      (λ (p : 0 < r.g). (
+      let o = h p in
+      let up : (r.s * w) * r.g ≤ (r.u * 255 + d) * r.g = mul-le-mul_right r.g (omega arith) in
+      let down : (r.u * 255) * r.g ≤ (r.s * w + d) * r.g = mul-le-mul_right r.g (omega arith) in
+      let both : Apart (r.s * w * r.g) (r.u * 255 * r.g) (d * r.g) =
+      record { up = omega arith; down = omega arith } in
+      both))
+      (λ (z : r.g ≤ 0). (
+      let e : r.g ≡ 0 = omega arith in
+      subst (λ g. Apart (r.s * w * g) (r.u * 255 * g) (d * g)) (sym e)
+      (record { up = omega arith; down = omega arith })))
+      (cases_lt 0 r.g)
 
--- the singletons' bytes
-off_up : (w : ℕ) (rs : List Row) (d : ℕ) → delta w rs ≤ d → dot_s rs * w ≤ dot_u rs * 255 + d * total_g rs
-off_up w [] d h = omega arith
-off_up w (r ∷ rs) d h =
-    let a = off_up w rs d (omega arith) in
-    let b : (r.s * w) * r.g ≤ (r.u * 255 + d) * r.g = mul-le-mul_right r.g (omega arith) in
-    omega arith
+  offs : (rs : List Row) → AllOk t w d gg aa rs → Apart (dot_s rs * w) (dot_u rs * 255) (d * total_g rs)
+  offs [] h = record { up = omega arith; down = omega arith }
+  offs (r ∷ rs) h =
+      let a = offs rs h.1 in
+      let b = one_off r h.0.offset in
+      record { up = omega (arith, a.up, b.up); down = omega (arith, a.down, b.down) }
 
-off_down : (w : ℕ) (rs : List Row) (d : ℕ) → delta w rs ≤ d → dot_u rs * 255 ≤ dot_s rs * w + d * total_g rs
-off_down w [] d h = omega arith
-off_down w (r ∷ rs) d h =
-    let a = off_down w rs d (omega arith) in
-    let b : (r.u * 255) * r.g ≤ (r.s * w + d) * r.g = mul-le-mul_right r.g (omega arith) in
-    omega arith
+  -- the exact answer stands within the range, and so does the bytes'
+  weighted_le : (rs : List Row) → AllOk t w d gg aa rs → weighted rs ≤ w * mass_sum rs
+  weighted_le [] h = omega arith
+  weighted_le (r ∷ rs) h =
+      let a = mul-le-mul_right r.f.den (weighted_le rs h.1) in
+      let b : r.u * (r.f.num * dens rs) ≤ w * (r.f.num * dens rs) = mul-le-mul_right (r.f.num * dens rs) h.0.u_in in
+      omega arith
 
-parts : (t h w k : ℕ) (rs : List Row) (q : ℕ) → 0 < t → 0 < k → AllOk t w rs → Heavy k rs → 0 < total_g rs
-    → q * total_g rs ≤ h * dot_s rs → h * dot_s rs ≤ (q + 1) * total_g rs
-    → Parts w h k t (errors rs) (delta w rs) q (dens rs * dot_s rs * t) (dens rs * dot_u rs * t)
-    (dens rs * total_g rs * t) (weighted rs * 255 * t) (mass_sum rs * 255 * t) (errors rs * 255 * dens rs)
-    (255 * dens rs * t)
-parts t h w k rs q ht hk ok heavy hg f1 f2 =
-    let dp = dens_pos t w rs ok in
-    let dt = dens rs * t in
-    let ul : dens rs * dot_u rs * t ≤ w * (dens rs * total_g rs * t) =
-    (let p : dot_u rs * dt ≤ (w * total_g rs) * dt = mul-le-mul_right dt (dot_u_le t w rs ok) in omega arith) in
-    let up = rows_up t w (dens rs * total_g rs * t) (dens rs * dot_u rs * t) rs ok ul in
-    let down = rows_down t w (dens rs * total_g rs * t) (dens rs * dot_u rs * t) rs ok ul in
-    record {
-      k_pos = hk;
-      n_pos = ht;
-      g_pos = mul-pos (mul-pos dp hg) ht;
-      sums = record { up = omega arith; down = omega arith };
-      gaps = omega arith;
-      mass = (let p : (k * dens rs) * (255 * t) ≤ (mass_sum rs * 255) * (255 * t) =
-          mul-le-mul_right (255 * t) (heavy_sum k rs heavy) in omega arith);
-      singles = record {
-        up = (let p : (dot_s rs * w) * dt ≤ (dot_u rs * 255 + delta w rs * total_g rs) * dt =
-            mul-le-mul_right dt (off_up w rs (delta w rs) (omega arith)) in omega arith);
-        down = (let p : (dot_u rs * 255) * dt ≤ (dot_s rs * w + delta w rs * total_g rs) * dt =
-            mul-le-mul_right dt (off_down w rs (delta w rs) (omega arith)) in omega arith);
-      };
-      floor_low = (let p : (q * total_g rs) * dt ≤ (h * dot_s rs) * dt = mul-le-mul_right dt f1 in omega arith);
-      floor_high = (let p : (h * dot_s rs) * dt ≤ ((q + 1) * total_g rs) * dt = mul-le-mul_right dt f2 in omega arith);
-    }
+  dot_s_le : (rs : List Row) → AllOk t w d gg aa rs → dot_s rs ≤ 255 * total_g rs
+  dot_s_le [] h = omega arith
+  dot_s_le (r ∷ rs) h = let a = dot_s_le rs h.1 in let p = mul-le-mul_right r.g h.0.s_in in omega arith
 
-pub mass_pos : (k : ℕ) (rs : List Row) → 0 < k → 0 < dens rs → Heavy k rs → 0 < mass_sum rs
-mass_pos k rs hk hd h = let a = heavy_sum k rs h in let b : 0 < k * dens rs = mul-pos hk hd in omega arith
+module _ (t w d : ℕ) (rs : List Row) (tp : 0 < t) (wp : 0 < w) (ok : AllOk t w d (total_g rs) (dot_u rs) rs)
+    (some : 0 < lows rs) (gp : 0 < total_g rs) (h q : ℕ) (hp : 0 < h) (f1 : q * total_g rs ≤ h * dot_s rs)
+    (f2 : h * dot_s rs ≤ (q + 1) * total_g rs) where
+  parts : Parts w h (255 * gaps rs) (w * lows rs) d q (dot_s rs) (dot_u rs) (total_g rs) (weighted rs * 255 * t)
+      (mass_sum rs * 255 * t) (gaps rs * 255 * dens rs)
+  parts =
+      let up = rows_up t w d (total_g rs) (dot_u rs) rs ok in
+      let down = rows_down t w d (total_g rs) (dot_u rs) rs ok in
+      let mass = mul-le-mul_right (w * (255 * gaps rs)) (lows_sum t w d (total_g rs) (dot_u rs) rs ok) in
+      record {
+        den_pos = mul-pos wp some;
+        g_pos = gp;
+        sums = record { up = omega (arith, up); down = omega (arith, down) };
+        gaps = omega (arith, mass);
+        singles = offs t w d (total_g rs) (dot_u rs) rs ok;
+        floor_low = f1;
+        floor_high = f2;
+      }
 
--- the exact answer stands within the range, and so does the bytes'
-weighted_le : (t w : ℕ) (rs : List Row) → AllOk t w rs → weighted rs ≤ w * mass_sum rs
-weighted_le t w [] h = omega arith
-weighted_le t w (r ∷ rs) h =
-    let a = mul-le-mul_right r.f.den (weighted_le t w rs h.1) in
-    let b : r.u * (r.f.num * dens rs) ≤ w * (r.f.num * dens rs) = mul-le-mul_right (r.f.num * dens rs) h.0.u_in in
-    omega arith
+  abbrev bound : ℕ
+  bound = ratio_bound w h (255 * gaps rs) (w * lows rs) d
 
-dot_s_le : (t w : ℕ) (rs : List Row) → AllOk t w rs → dot_s rs ≤ 255 * total_g rs
-dot_s_le t w [] h = omega arith
-dot_s_le t w (r ∷ rs) h = let a = dot_s_le t w rs h.1 in let p = mul-le-mul_right r.g h.0.s_in in omega arith
+  abbrev x : ℕ
+  x = 255 * gaps rs * (255 * w * (255 * h)) + (d * (255 * h) + 1 * (255 * w)) * (w * lows rs)
 
--- value (over 255 h, from lo) against the exact answer (weighted over mass_sum, from lo), in 10^6 parts of the range
-pub strong : (t h w k : ℕ) (rs : List Row) (q : ℕ) → 0 < t → 0 < h → 0 < w → 0 < k → AllOk t w rs → Heavy k rs
-    → 0 < total_g rs → q * total_g rs ≤ h * dot_s rs → h * dot_s rs ≤ (q + 1) * total_g rs
-    → Apart (q * w * mass_sum rs * 1000000) (weighted rs * (255 * h) * 1000000)
-    (bound t h w k rs * w * (255 * h) * mass_sum rs)
-strong t h w k rs q ht hh hw hk ok heavy hg f1 f2 =
-    ⊎_elim whole capped (cases_lt b 1000000)
-  where
-    x : ℕ
-    x = errors rs * 255 * (255 * w * (255 * h)) + (delta w rs * (255 * h) + 1 * (255 * w)) * (t * k)
+  abbrev y : ℕ
+  y = w * lows rs * (255 * w * (255 * h))
 
-    y : ℕ
-    y = t * k * (255 * w * (255 * h))
+  abbrev b : ℕ
+  b = up_div (1000000 * x) y
 
-    b : ℕ
-    b = up_div (1000000 * x) y
+  y_pos : 0 < y
+  y_pos = mul-pos (mul-pos wp some) (mul-pos (mul-pos (omega arith) wp) (mul-pos (omega arith) hp))
 
-    y_pos : 0 < y
-    y_pos = mul-pos (mul-pos ht hk) (mul-pos (mul-pos (omega arith) hw) (mul-pos (omega arith) hh))
+  all : Apart (q * w * (mass_sum rs * 255 * t) * 1000000) (255 * h * (weighted rs * 255 * t) * 1000000)
+      (b * w * 255 * h * (mass_sum rs * 255 * t))
+  all = within 1000000 b w h (255 * gaps rs) (w * lows rs) d q (dot_s rs) (dot_u rs) (total_g rs)
+      (weighted rs * 255 * t) (mass_sum rs * 255 * t) (gaps rs * 255 * dens rs) parts
+      (let z = le-up_div (1000000 * x) y y_pos in omega arith)
 
-    all : Apart (q * w * (mass_sum rs * 255 * t) * 1000000) (255 * h * (weighted rs * 255 * t) * 1000000)
-        (b * w * 255 * h * (mass_sum rs * 255 * t))
-    all = within 1000000 b w h k t (errors rs) (delta w rs) q (dens rs * dot_s rs * t) (dens rs * dot_u rs * t)
-        (dens rs * total_g rs * t) (weighted rs * 255 * t) (mass_sum rs * 255 * t) (errors rs * 255 * dens rs)
-        (255 * dens rs * t) (parts t h w k rs q ht hk ok heavy hg f1 f2)
-        (let z = le-up_div (1000000 * x) y y_pos in omega arith)
+  q_le : q ≤ 255 * h
+  q_le = le_of_mul-le-mul_right {k = total_g rs}
+      (let a = dot_s_le t w d (total_g rs) (dot_u rs) rs ok in let p = mul-le-mul_right h a in omega arith) gp
 
-    q_le : q ≤ 255 * h
-    q_le = le_of_mul-le-mul_right {k = total_g rs}
-        (let a = dot_s_le t w rs ok in let p = mul-le-mul_right h a in omega arith) hg
+  -- value (over 255 h, from lo) against the exact answer (weighted over mass_sum, from lo), in 10^6 parts of the range
+  pub rows_near : Apart (q * w * mass_sum rs * 1000000) (weighted rs * (255 * h) * 1000000)
+      (ratio_bound w h (255 * gaps rs) (w * lows rs) d * w * (255 * h) * mass_sum rs)
+  rows_near = ⊎_elim whole capped (cases_lt b 1000000)
+    where
+      whole : b < 1000000 → Apart (q * w * mass_sum rs * 1000000) (weighted rs * (255 * h) * 1000000)
+          (bound * w * (255 * h) * mass_sum rs)
+      whole l =
+          let e : bound ≡ b = omega arith in
+          let u : (q * w * mass_sum rs * 1000000) * (255 * t)
+          ≤ (weighted rs * (255 * h) * 1000000 + b * w * (255 * h) * mass_sum rs) * (255 * t) =
+          (let a = all.up in omega arith) in
+          let v : (weighted rs * (255 * h) * 1000000) * (255 * t)
+          ≤ (q * w * mass_sum rs * 1000000 + b * w * (255 * h) * mass_sum rs) * (255 * t) =
+          (let a = all.down in omega arith) in
+          let t5 : 0 < 255 * t = omega arith in
+          subst (λ n. Apart (q * w * mass_sum rs * 1000000) (weighted rs * (255 * h) * 1000000)
+          (n * w * (255 * h) * mass_sum rs)) (sym e)
+          (record { up = le_of_mul-le-mul_right u t5; down = le_of_mul-le-mul_right v t5 })
 
-    whole : b < 1000000 → Apart (q * w * mass_sum rs * 1000000) (weighted rs * (255 * h) * 1000000)
-        (bound t h w k rs * w * (255 * h) * mass_sum rs)
-    whole l =
-        let e : bound t h w k rs ≡ b = omega arith in
-        let u : (q * w * mass_sum rs * 1000000) * (255 * t)
-        ≤ (weighted rs * (255 * h) * 1000000 + b * w * (255 * h) * mass_sum rs) * (255 * t) =
-        (let a = all.up in omega arith) in
-        let d : (weighted rs * (255 * h) * 1000000) * (255 * t)
-        ≤ (q * w * mass_sum rs * 1000000 + b * w * (255 * h) * mass_sum rs) * (255 * t) =
-        (let a = all.down in omega arith) in
-        let t5 : 0 < 255 * t = omega arith in
-        subst (λ n. Apart (q * w * mass_sum rs * 1000000) (weighted rs * (255 * h) * 1000000)
-        (n * w * (255 * h) * mass_sum rs)) (sym e)
-        (record { up = le_of_mul-le-mul_right u t5; down = le_of_mul-le-mul_right d t5 })
-
-    capped : 1000000 ≤ b
-        → Apart (q * w * mass_sum rs * 1000000) (weighted rs * (255 * h) * 1000000)
-        (bound t h w k rs * w * (255 * h) * mass_sum rs)
-    capped l =
-        let e : bound t h w k rs ≡ 1000000 = omega arith in
-        let p : q * (w * mass_sum rs) ≤ (255 * h) * (w * mass_sum rs) = mul-le-mul_right (w * mass_sum rs) q_le in
-        let m : weighted rs * h ≤ (w * mass_sum rs) * h = mul-le-mul_right h (weighted_le t w rs ok) in
-        subst (λ n. Apart (q * w * mass_sum rs * 1000000) (weighted rs * (255 * h) * 1000000)
-        (n * w * (255 * h) * mass_sum rs)) (sym e) (record { up = omega arith; down = omega arith })
+      capped : 1000000 ≤ b → Apart (q * w * mass_sum rs * 1000000) (weighted rs * (255 * h) * 1000000)
+          (bound * w * (255 * h) * mass_sum rs)
+      capped l =
+          let e : bound ≡ 1000000 = omega arith in
+          let p : q * (w * mass_sum rs) ≤ (255 * h) * (w * mass_sum rs) = mul-le-mul_right (w * mass_sum rs) q_le in
+          let m : weighted rs * h ≤ (w * mass_sum rs) * h =
+          mul-le-mul_right h (weighted_le t w d (total_g rs) (dot_u rs) rs ok) in
+          subst (λ n. Apart (q * w * mass_sum rs * 1000000) (weighted rs * (255 * h) * 1000000)
+          (n * w * (255 * h) * mass_sum rs)) (sym e) (record { up = omega arith; down = omega arith })

@@ -1,25 +1,24 @@
 -- The strength of a rule and the mass of a term: errors and spans.
-use Rattle.std.proofs.Common.{◌≡◌, ℕ, zero, suc, ◌+◌, ◌-◌, ◌*◌, ◌/◌, ◌≤◌, max, List, [], ◌∷◌, Bool, true, false, Option}
+use Rattle.std.proofs.Common.{◌≡◌, ℕ, ◌+◌, ◌-◌, ◌*◌, ◌/◌, ◌≤◌, List, Option}
 use Rattle.std.proofs.Common.{Some, None, sym, subst, arith, mul-le-mul_right, mul-pos}
-use Rattle.std.specs.Prelude.{All, IfSome, ◌==◌, if◌then◌else◌, slice_get}
+use Rattle.std.specs.Prelude.{IfSome, ◌==◌, if◌then◌else◌}
 use Rattle.std.proofs.lemmas.Bool.{cond_both}
 use Rattle.std.proofs.lemmas.Bool.Decides.{nat_tests}
 use Rattle.std.proofs.lemmas.Int.{ints}
 use Rattle.fz_num.specs.declared.dec.Dec.{Dec}
-use Rattle.fz_num.specs.Fractions.{Fraction, IsProper, AtMost, greater, times, one, IsNear, up_div}
-use Rattle.fz_num.proofs.Algebra.{AtMost-trans, AtMost-greater_left, AtMost-greater_right, le-up_div}
+use Rattle.fz_num.specs.Fractions.{Fraction, IsProper, AtMost, times, one, IsNear, up_div}
+use Rattle.fz_num.proofs.Algebra.{le-up_div}
 use Rattle.fuzzy_meaning.specs.declared.block.Block.{Block}
 use Rattle.fuzzy_meaning.specs.declared.block.Rule.{Rule}
 use Rattle.fuzzy_meaning.specs.Blocks.{IsWeight}
-use Rattle.fuzzy_meaning.specs.Meaning.{literal_degree, truth, weight_of, strength, mass_among}
-use Rattle.fuzzy_meaning.specs.Rules.{concludes}
+use Rattle.fuzzy_meaning.specs.Meaning.{literal_degree, truth, weight_of, strength}
 use Rattle.byte_scaling.specs.Weights.{weight_byte_of}
-use Rattle.point_slope.specs.Bytes.{literal_grade, byte_truth, byte_strength, byte_mass_among}
+use Rattle.point_slope.specs.Bytes.{literal_grade, byte_truth, byte_strength}
 use Rattle.error_bound.specs.declared.boxes.Interval.{Interval}
 use Rattle.error_bound.specs.Spans.{span, byte_span, greatest_literal}
 use Rattle.error_bound.specs.Boxes.{literal_span, literal_byte_span, rule_span, rule_byte_span}
-use Rattle.error_bound.specs.Errors.{billion, apart, weight_error, rule_error, output_error_among}
-use Rattle.error_bound.proofs.ConditionLemmas.{IsHeld, IsWithinSpans, within_spans, held_greater, within_none}
+use Rattle.error_bound.specs.Errors.{billion, apart, weight_error, rule_error}
+use Rattle.error_bound.proofs.ConditionLemmas.{IsHeld, IsWithinSpans, within_spans}
 use Rattle.error_bound.proofs.SpanLemmas.{AreOrdered}
 
 -- q parts for g (v + 1)/256
@@ -143,51 +142,3 @@ module _ (b : Block) (box : List Interval) (bytes : List ℕ) (xs : List Dec) (e
               scaled-mono (byte_truth b bytes c) m.high (v + 1) h.ordered.high;
         };
       }
-
-  -- a term's mass
-  pub mass_held : (o t : ℕ) (rs : List Rule) → All (λ r. IfSome r.weight IsWeight) rs
-      → IsHeld billion (byte_mass_among b bytes o t rs) (mass_among b xs o t rs) (output_error_among e o t rs)
-  mass_held o t [] h = (within_none billion 0).held
-  mass_held o t (r ∷ rs) h = by_bool (mass_held o t rs (λ k d l. h (suc k) d (omega arith))) (concludes r o t)
-    where
-      by_bool : IsHeld billion (byte_mass_among b bytes o t rs) (mass_among b xs o t rs) (output_error_among e o t rs)
-          → (c : Bool) → IsHeld billion
-          (if c then max (byte_strength b bytes r) (byte_mass_among b bytes o t rs) else byte_mass_among b bytes o t rs)
-          (if c then greater (strength b xs r) (mass_among b xs o t rs) else mass_among b xs o t rs)
-          (if c then max (rule_error e r) (output_error_among e o t rs) else output_error_among e o t rs)
-      by_bool rest true = held_greater billion (byte_strength b bytes r) (byte_mass_among b bytes o t rs)
-          (rule_error e r) (output_error_among e o t rs) (strength b xs r) (mass_among b xs o t rs)
-          (rule_within r (h 0 r (omega arith))).held rest
-      by_bool rest false = rest
-
-  -- a rule of the list that concludes the term is at most its mass
-  pub mass_least : (o t : ℕ) (rs : List Rule) (n : ℕ) (r : Rule) → All (λ r. IfSome r.weight IsWeight) rs
-      → slice_get rs n ≡ Some r → concludes r o t ≡ true
-      → AtMost (strength b xs r) (mass_among b xs o t rs) × (byte_strength b bytes r ≤ byte_mass_among b bytes o t rs)
-  mass_least o t [] n r h e c = absurd (let x : ⊥ = cc in x)
-  mass_least o t (s ∷ rs) zero r h e c =
-      let same : r ≡ s = cc in
-      subst (λ q. AtMost (strength b xs q) (mass_among b xs o t (s ∷ rs))
-      × (byte_strength b bytes q ≤ byte_mass_among b bytes o t (s ∷ rs))) (sym same)
-      (let cs : concludes s o t ≡ true = subst (λ q. concludes q o t ≡ true) same c in
-      rw cs (AtMost-greater_left (strength b xs s) (mass_among b xs o t rs), omega arith))
-  mass_least o t (s ∷ rs) (suc n) r h e c =
-      more (mass_least o t rs n r (λ k d l. h (suc k) d (omega arith)) e c) (concludes s o t)
-    where
-      pm : IsProper (mass_among b xs o t rs)
-      pm = (mass_held o t rs (λ k d l. h (suc k) d (omega arith))).proper
-
-      more : AtMost (strength b xs r) (mass_among b xs o t rs)
-          × (byte_strength b bytes r ≤ byte_mass_among b bytes o t rs) → (c : Bool)
-          → AtMost (strength b xs r)
-          (if c then greater (strength b xs s) (mass_among b xs o t rs) else mass_among b xs o t rs)
-          × (byte_strength b bytes r
-          ≤ (if c then max (byte_strength b bytes s) (byte_mass_among b bytes o t rs) else byte_mass_among b
-          bytes o t rs))
-      more p true = (
-        AtMost-trans (strength b xs r) (mass_among b xs o t rs)
-            (greater (strength b xs s) (mass_among b xs o t rs)) pm p.0
-            (AtMost-greater_right (strength b xs s) (mass_among b xs o t rs)),
-        (let a = p.1 in omega arith),
-      )
-      more p false = p

@@ -1,7 +1,7 @@
 -- The rows of an output's terms, and the sums over its shares and over its byte shares.
-use Rattle.std.proofs.Common.{◌≡◌, ⊎_elim, ℕ, suc, ◌+◌, ◌*◌, ◌<◌, ◌≤◌, max, Bool, true, false, List, [], ◌∷◌, length}
-use Rattle.std.proofs.Common.{refl, ap, ap₂, ◌∙◌, subst, arith}
-use Rattle.std.specs.Prelude.{All, IfSome, ◌==◌, ◌&&◌, ◌||◌, ℤ, pos, ◌+ℤ◌, ◌*ℤ◌, ◌≤ℤ◌, ◌<ℤ◌}
+use Rattle.std.proofs.Common.{◌≡◌, ⊎_elim, ℕ, suc, ◌+◌, ◌*◌, ◌<◌, ◌≤◌, max, Bool, true, false, List, [], ◌∷◌}
+use Rattle.std.proofs.Common.{refl, ap, ap₂, ◌∙◌, subst, arith, mul-le-mul_right}
+use Rattle.std.specs.Prelude.{All, IfSome, if◌then◌else◌, ◌==◌, ◌&&◌, ◌||◌, ℤ, pos, ◌+ℤ◌, ◌*ℤ◌, ◌≤ℤ◌, ◌<ℤ◌}
 use Rattle.std.specs.List.{list_any}
 use Rattle.std.proofs.lemmas.Bool.{cases_lt}
 use Rattle.std.proofs.lemmas.Bool.Decides.{nat_tests}
@@ -9,7 +9,6 @@ use Rattle.std.proofs.lemmas.Int.{ints}
 use Rattle.std.proofs.lemmas.List.Sums.{sum_by-cons}
 use borrow.Author.Differences.{up, down}
 use Rattle.fz_num.specs.declared.dec.Dec.{Dec}
-use Rattle.fz_num.specs.Fractions.{over, AtMost}
 use Rattle.fz_num.specs.Decimals.{distance}
 use Rattle.fuzzy_meaning.specs.declared.block.Block.{Block}
 use Rattle.fuzzy_meaning.specs.declared.block.Output.{Output}
@@ -20,25 +19,28 @@ use Rattle.point_slope.specs.Bytes.{ByteShare, literal_grade, byte_mass, byte_sh
 use Rattle.point_slope.specs.Bytes.{weighted_sum as byte_weighted}
 use Rattle.error_bound.specs.declared.boxes.Interval.{Interval}
 use Rattle.error_bound.specs.Boxes.{literal_span, literal_byte_span}
-use Rattle.error_bound.specs.Errors.{billion, output_error}
-use Rattle.error_bound.specs.Bounds.{errors_from, offset, greatest_offset}
+use Rattle.error_bound.specs.Errors.{billion, apart}
+use Rattle.error_bound.specs.Bounds.{offset}
+use Rattle.error_bound.specs.Tight.{sum_over, greatest_over, low_of, byte_low_of, byte_high_of, error_of, if_live}
+use Rattle.error_bound.specs.Tight.{farthest, live_offset}
 use Rattle.error_bound.proofs.ConditionLemmas.{IsWithinSpans}
-use Rattle.error_bound.proofs.RuleLemmas.{mass_held}
-use Rattle.error_bound.proofs.Rows.{Row, dens, mass_sum, weighted, total_g, dot_s, errors, delta, AllOk, Heavy, here}
-use Rattle.error_bound.proofs.Rows.{there}
+use Rattle.error_bound.proofs.Sums.{Apart}
+use Rattle.error_bound.proofs.TermReaches.{term_held, term_low, term_bytes}
+use Rattle.error_bound.proofs.Rows.{Row, dens, mass_sum, weighted, total_g, dot_u, dot_s, gaps, lows, AllOk}
 
 -- of the terms of output o from number t on
-abbrev pub rows_from : Block → List ℕ → List Dec → (ℕ → ℕ → ℕ) → ℕ → Output → ℕ → List Dec → List Row
-rows_from b bytes xs e o x t [] = []
-rows_from b bytes xs e o x t (u ∷ us) =
+abbrev pub rows_from : Block → List Interval → List ℕ → List Dec → (ℕ → ℕ → ℕ) → ℕ → Output → ℕ → List Dec → List Row
+rows_from b box bytes xs e o x t [] = []
+rows_from b box bytes xs e o x t (u ∷ us) =
     record {
       u = distance x.lo u;
       s = nearest_byte x u;
       f = mass b xs o t;
       g = byte_mass b bytes o t;
-      e =
-          output_error b e o t;
-    } ∷ rows_from b bytes xs e o x (t + 1) us
+      e = error_of b box e o t;
+      w = farthest b box o x u;
+      l = low_of b box o t;
+    } ∷ rows_from b box bytes xs e o x (t + 1) us
 
 step : (lo at z : ℤ) (u n d m wd : ℕ) → at ≡ lo +ℤ pos u → z ≡ lo *ℤ pos m +ℤ pos wd
     → at *ℤ pos n +ℤ pos d *ℤ z ≡ lo *ℤ pos (n + d * m) +ℤ pos (u * n + d * wd)
@@ -59,14 +61,14 @@ pub record IsSameSum (lo : Dec) (ss : List Share) (rs : List Row) : Type 0 where
   pub masses_is : total_mass ss ≡ mass_sum rs
   pub sum_is : weighted_sum ss ≡ lo.0 *ℤ pos (mass_sum rs) +ℤ pos (weighted rs)
 
-module _ (b : Block) (bytes : List ℕ) (xs : List Dec) (e : ℕ → ℕ → ℕ) (o : ℕ) (x : Output) where
+module _ (b : Block) (box : List Interval) (bytes : List ℕ) (xs : List Dec) (e : ℕ → ℕ → ℕ) (o : ℕ) (x : Output) where
   pub same_sum : (t : ℕ) (us : List Dec) → All (IsWithin x.lo x.hi) us
-      → IsSameSum x.lo (shares_from b xs o t us) (rows_from b bytes xs e o x t us)
+      → IsSameSum x.lo (shares_from b xs o t us) (rows_from b box bytes xs e o x t us)
   same_sum t [] h = record { dens_is = refl; masses_is = refl; sum_is = omega (arith, ints) }
   same_sum t (u ∷ us) h =
       let k = same_sum (t + 1) us (λ i d l. h (suc i) d (omega arith)) in
       let ss = shares_from b xs o (t + 1) us in
-      let rs = rows_from b bytes xs e o x (t + 1) us in
+      let rs = rows_from b box bytes xs e o x (t + 1) us in
       let f = mass b xs o t in
       let n1 : f.num * common_den ss ≡ f.num * dens rs = ap (λ a. f.num * a) k.dens_is in
       let n2 : f.den * total_mass ss ≡ f.den * mass_sum rs = ap (λ a. f.den * a) k.masses_is in
@@ -80,7 +82,7 @@ module _ (b : Block) (bytes : List ℕ) (xs : List Dec) (e : ℕ → ℕ → ℕ
       }
 
   pub byte_total_is : (t : ℕ) (us : List Dec)
-      → byte_total (byte_shares_from b bytes o x t us) ≡ total_g (rows_from b bytes xs e o x t us)
+      → byte_total (byte_shares_from b bytes o x t us) ≡ total_g (rows_from b box bytes xs e o x t us)
   byte_total_is t [] = refl
   byte_total_is t (u ∷ us) = let k = byte_total_is (t + 1) us in
       omega (
@@ -92,7 +94,7 @@ module _ (b : Block) (bytes : List ℕ) (xs : List Dec) (e : ℕ → ℕ → ℕ
       )
 
   pub byte_weighted_is : (t : ℕ) (us : List Dec)
-      → byte_weighted (byte_shares_from b bytes o x t us) ≡ dot_s (rows_from b bytes xs e o x t us)
+      → byte_weighted (byte_shares_from b bytes o x t us) ≡ dot_s (rows_from b box bytes xs e o x t us)
   byte_weighted_is t [] = refl
   byte_weighted_is t (u ∷ us) = let k = byte_weighted_is (t + 1) us in
       omega (
@@ -103,43 +105,118 @@ module _ (b : Block) (bytes : List ℕ) (xs : List Dec) (e : ℕ → ℕ → ℕ
             (byte_shares_from b bytes o x (t + 1) us),
       )
 
-  pub errors_is : (t : ℕ) (us : List Dec) → errors_from b e o t us ≡ errors (rows_from b bytes xs e o x t us)
-  errors_is t [] = refl
-  errors_is t (u ∷ us) = ap (λ a. output_error b e o t + a) (errors_is (t + 1) us)
+  pub gaps_is : (t : ℕ) (us : List Dec)
+      → sum_over (λ t u. farthest b box o x u * error_of b box e o t) t us ≡ gaps (rows_from b box bytes xs e o x t us)
+  gaps_is t [] = refl
+  gaps_is t (u ∷ us) = ap (λ a. farthest b box o x u * error_of b box e o t + a) (gaps_is (t + 1) us)
 
-  pub offsets_is : (t : ℕ) (us : List Dec)
-      → greatest_offset x us ≡ delta (distance x.lo x.hi) (rows_from b bytes xs e o x t us)
-  offsets_is t [] = refl
-  offsets_is t (u ∷ us) = ap (λ a. max (offset x u) a) (offsets_is (t + 1) us)
+  pub lows_is : (t : ℕ) (us : List Dec)
+      → sum_over (λ t u. low_of b box o t) t us ≡ lows (rows_from b box bytes xs e o x t us)
+  lows_is t [] = refl
+  lows_is t (u ∷ us) = ap (λ a. low_of b box o t + a) (lows_is (t + 1) us)
 
-  pub rows_heavy : (k t t' : ℕ) (us : List Dec) → t ≤ t' → t' < t + length us → AtMost (over k 255) (mass b xs o t')
-      → 1 ≤ byte_mass b bytes o t'
-      → Heavy k (rows_from b bytes xs e o x t us) × (0 < total_g (rows_from b bytes xs e o x t us))
-  rows_heavy k t t' [] h1 h2 a m = absurd (omega arith)
-  rows_heavy k t t' (u ∷ us) h1 h2 a m = ⊎_elim
-      (λ (l : t < t'). let r = rows_heavy k (t + 1) t' us (omega arith) (omega arith) a m in
-      (there r.0, (let z = r.1 in omega arith)))
-      (λ (l : t' ≤ t). let eq : t' ≡ t = omega arith in (
-        here (let c = (subst (λ j. AtMost (over k 255) (mass b xs o j)) eq a).cross in omega arith),
-        (let z = subst (λ j. 1 ≤ byte_mass b bytes o j) eq m in omega arith),
-      ))
-      (cases_lt t t')
-
-within_width : (lo hi u : Dec) → lo.0 <ℤ hi.0 → IsWithin lo hi u → distance lo u ≤ distance lo hi
+pub within_width : (lo hi u : Dec) → lo.0 <ℤ hi.0 → IsWithin lo hi u → distance lo u ≤ distance lo hi
 within_width lo hi u r h = omega (arith, ints, h.low, h.high)
+
+some_below : {a c : ℕ} → 0 < a → a ≤ c → 0 < c
+some_below h k = omega arith
+
+greatest_first : (a c d : ℕ) → max a c ≤ d → (a ≤ d) × (c ≤ d)
+greatest_first a c d h = (omega arith, omega arith)
+
+apart_is : (v u d : ℕ) → apart v u ≤ d → Apart v u d
+apart_is v u d h = record { up = omega arith; down = omega arith }
+
+one_reach : (v u g d : ℕ) → (0 < g → apart v u ≤ d) → Apart (v * g) (u * g) (d * g)
+one_reach v u g d h = ⊎_elim
+    (λ (p : 0 < g). (
+    let a = apart_is v u d (h p) in
+    let up : v * g ≤ (u + d) * g = mul-le-mul_right g a.up in
+    let down : u * g ≤ (v + d) * g = mul-le-mul_right g a.down in
+    let both : Apart (v * g) (u * g) (d * g) = record { up = omega arith; down = omega arith } in
+    both))
+    (λ (z : g ≤ 0). (
+    let e : 0 ≡ g = omega arith in
+    subst (λ k. Apart (v * k) (u * k) (d * k)) e (record { up = omega arith; down = omega arith })))
+    (cases_lt 0 g)
 
 module _ (b : Block) (box : List Interval) (bytes : List ℕ) (xs : List Dec) (e : ℕ → ℕ → ℕ)
     (l : (i t : ℕ) → IsWithinSpans billion (literal_degree b xs i t) (literal_grade b bytes i t) (e i t)
-    (literal_span b box i t) (literal_byte_span b box i t)) (hw : All (λ r. IfSome r.weight IsWeight) b.rules) where
-  pub rows_ok : NearestIsByte → (o : ℕ) (x : Output) (t : ℕ) (us : List Dec) → x.lo.0 <ℤ x.hi.0
-      → All (IsWithin x.lo x.hi) us → AllOk billion (distance x.lo x.hi) (rows_from b bytes xs e o x t us)
-  rows_ok is_byte o x t [] r h = tt
-  rows_ok is_byte o x t (u ∷ us) r h =
-      let m = mass_held b box bytes xs e l o t b.rules hw in
-      let hu = h 0 u (omega arith) in (
-        record { u_in = within_width x.lo x.hi u r hu; s_in = is_byte x u r hu; proper = m.proper; near = m.near },
-        rows_ok is_byte o x (t + 1) us r (λ i d k. h (suc i) d (omega arith)),
-      )
+    (literal_span b box i t) (literal_byte_span b box i t)) (hw : All (λ r. IfSome r.weight IsWeight) b.rules)
+    (o : ℕ) (x : Output) where
+  pub bytes_least : (t : ℕ) (us : List Dec)
+      → sum_over (λ t u. byte_low_of b box o t) t us ≤ total_g (rows_from b box bytes xs e o x t us)
+  bytes_least t [] = omega arith
+  bytes_least t (u ∷ us) =
+      let rest = bytes_least (t + 1) us in
+      let one = (term_bytes b box bytes xs e l o t b.rules hw).0 in
+      add one rest
+    where
+      add : {p q r s : ℕ} → p ≤ q → r ≤ s → p + r ≤ q + s
+      add h k = omega arith
+
+  -- a term with a mass over bytes is live
+  live : (t n d : ℕ) → 0 < byte_mass b bytes o t → if_live b box o t n ≤ d → n ≤ d
+  live t n d some h =
+      let high = (term_bytes b box bytes xs e l o t b.rules hw).1 in
+      let pos : 0 < byte_high_of b box o t = some_below some high in
+      let test : (byte_high_of b box o t == 0) ≡ false = not_none (byte_high_of b box o t) pos in
+      subst (λ c. (if c then 0 else n) ≤ d) test h
+    where
+      not_none : (m : ℕ) → 0 < m → (m == 0) ≡ false
+      not_none m p = grind (arith, nat_tests)
+
+  reach : (v d t : ℕ) (us : List Dec)
+      → greatest_over (λ t s. if_live b box o t (apart v (distance x.lo s))) t us ≤ d
+      → Apart (v * total_g (rows_from b box bytes xs e o x t us)) (dot_u (rows_from b box bytes xs e o x t us))
+      (d * total_g (rows_from b box bytes xs e o x t us))
+  reach v d t [] h = record { up = omega arith; down = omega arith }
+  reach v d t (u ∷ us) h =
+      let p = greatest_first (if_live b box o t (apart v (distance x.lo u)))
+      (greatest_over (λ t s. if_live b box o t (apart v (distance x.lo s))) (t + 1) us) d h in
+      let rest = reach v d (t + 1) us p.1 in
+      let one = one_reach v (distance x.lo u) (byte_mass b bytes o t) d
+      (λ some. live t (apart v (distance x.lo u)) d some p.0) in
+      record { up = omega (arith, rest.up, one.up); down = omega (arith, rest.down, one.down) }
+
+  module _ (is_byte : NearestIsByte) (range : x.lo.0 <ℤ x.hi.0) (gg aa d : ℕ)
+      (whole : (v : ℕ) → Apart (v * gg) aa
+      (greatest_over (λ t s. if_live b box o t (apart v (distance x.lo s))) 1 x.singletons * gg)) where
+    pub rows_ok : (t : ℕ) (us : List Dec) → All (IsWithin x.lo x.hi) us
+        → greatest_over (λ t s. if_live b box o t (offset x s)) t us ≤ d
+        → AllOk billion (distance x.lo x.hi) d gg aa (rows_from b box bytes xs e o x t us)
+    rows_ok t [] h k = tt
+    rows_ok t (u ∷ us) h k =
+        let m = term_held b box bytes xs e l o t b.rules hw in
+        let hu = h 0 u (omega arith) in
+        let p = greatest_first (if_live b box o t (offset x u))
+        (greatest_over (λ t s. if_live b box o t (offset x s)) (t + 1) us) d k in
+        let a = whole (distance x.lo u) in (
+          record {
+            u_in = within_width x.lo x.hi u range hu;
+            s_in = is_byte x u range hu;
+            proper = m.proper;
+            near = m.near;
+            low = term_low b box bytes xs e l o t b.rules hw;
+            offset = λ some. live t (offset x u) d some p.0;
+            reach = turned (distance x.lo u) (farthest b box o x u) gg aa a;
+          },
+          rows_ok (t + 1) us (λ i d k. h (suc i) d (omega arith)) p.1,
+        )
+      where
+        turned : (v d gg aa : ℕ) → Apart (v * gg) aa (d * gg) → Apart (gg * v) aa (gg * d)
+        turned v d gg aa h = record { up = omega (arith, h.up); down = omega (arith, h.down) }
+
+  -- of all terms
+  pub all_ok : NearestIsByte → x.lo.0 <ℤ x.hi.0 → All (IsWithin x.lo x.hi) x.singletons
+      → AllOk billion (distance x.lo x.hi) (live_offset b box o x)
+      (total_g (rows_from b box bytes xs e o x 1 x.singletons)) (dot_u (rows_from b box bytes xs e o x 1 x.singletons))
+      (rows_from b box bytes xs e o x 1 x.singletons)
+  all_ok is_byte range h =
+      rows_ok is_byte range (total_g (rows_from b box bytes xs e o x 1 x.singletons))
+      (dot_u (rows_from b box bytes xs e o x 1 x.singletons)) (live_offset b box o x)
+      (λ v. reach v (greatest_over (λ t s. if_live b box o t (apart v (distance x.lo s))) 1 x.singletons) 1 x.singletons
+      (omega arith)) 1 x.singletons h (omega arith)
 
 -- what a rule concludes is a term of the block
 both_true : (a c : Bool) → (a && c) ≡ true → (a ≡ true) × (c ≡ true)

@@ -45,7 +45,7 @@ centre_none ss otherwise h = let e : (total_mass ss == 0) ≡ true = grind (arit
 module _ (b : Block) (box : List Interval) (bytes : List ℕ) (xs : List Dec) (e : ℕ → ℕ → ℕ)
     (l : (i t : ℕ) → IsWithinSpans billion (literal_degree b xs i t) (literal_grade b bytes i t) (e i t)
     (literal_span b box i t) (literal_byte_span b box i t)) (o : ℕ) where
-  still_rule : (r : Rule) → IfSome r.weight IsWeight → IsStill b box r
+  pub still_rule : (r : Rule) → IfSome r.weight IsWeight → IsStill b box r
       → ((strength b xs r).num ≡ 0) × (byte_strength b bytes r ≡ 0)
   still_rule r hw s =
       let bt = rule_within b box bytes xs e l r hw in

@@ -32,11 +32,14 @@ abbrev pub greatest_offset : Output → List Dec → ℕ
 greatest_offset x [] = 0
 greatest_offset x (u ∷ us) = max (offset x u) (greatest_offset x us)
 
--- S * 255/k + delta + 1/(255 h), where answers come in h parts to a byte
+-- num/den + d/(255 w) + 1/(255 h) of a range of width w, where answers come in h parts to a byte
+abbrev pub ratio_bound : ℕ → ℕ → ℕ → ℕ → ℕ → ℕ
+ratio_bound w h num den d = in_millionths (plus (over num den) (plus (over d (255 * w)) (over 1 (255 * h))))
+
+-- S * 255/k + delta + 1/(255 h)
 abbrev pub strong_bound : Output → ℕ → ℕ → ℕ → ℕ
 strong_bound x h sum k =
-    in_millionths (plus (over (sum * 255) (billion * k))
-    (plus (over (greatest_offset x x.singletons) (255 * distance x.lo x.hi)) (over 1 (255 * h))))
+    ratio_bound (distance x.lo x.hi) h (sum * 255) (billion * k) (greatest_offset x x.singletons)
 
 -- how far the default's byte is from it; 0 with NC
 abbrev pub silent_bound : Output → ℕ

@@ -13,3 +13,8 @@ pub mod Flattening
 pub mod Ratios
 pub mod Reaches
 pub mod BestLeaves
+pub mod Tight
+pub mod TightLaws
+pub mod Masses
+pub mod Claims
+pub mod MassEnds

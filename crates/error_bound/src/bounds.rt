@@ -70,7 +70,7 @@ fn product(x: u64, bytes: u64, steps: u64) -> u128
 }
 
 /// A fraction in millionths, rounded up, and 1000000 at most.
-fn in_millionths(num: u128, den: u128) -> u32
+pub(crate) fn in_millionths(num: u128, den: u128) -> u32
     requires num { num ≤ 400000000000000000000000000000 }
     requires den_from { 0 < den }
     requires den_to { den ≤ 400000000000000000000000000000 }
@@ -80,7 +80,7 @@ fn in_millionths(num: u128, den: u128) -> u32
 }
 
 /// How far a number of an output is from the value of its byte, over `whole_bytes`.
-fn offset(output: &Output, number: Dec) -> u64
+pub(crate) fn offset(output: &Output, number: Dec) -> u64
     requires output { IsValidOutput output.now }
     requires number { IsWithin output.now.lo output.now.hi number }
     ensures value { result ≡ offset_of output.now number }
@@ -140,7 +140,7 @@ impl BoxTable<'_> {
 }
 
 /// Raises to a rule's error those of the terms of an output that it concludes.
-fn raise_terms(errors: &mut [u64; 15], rule: &Rule, out: u8, error: u64)
+pub(crate) fn raise_terms(errors: &mut [u64; 15], rule: &Rule, out: u8, error: u64)
     requires { All (λ c. (1 ≤ c.1) × (c.1 ≤ 15)) rule.now.concl }
     ensures { (t : ℕ) → t < 15 → slice_index errors.new t ≡ (if concludes_it rule.now out (t + 1)
         then max error (slice_index errors.old t) else slice_index errors.old t) }

@@ -1,0 +1,31 @@
+use Rattle.std.proofs.Common.{◌∙◌, ap, sym, subst, arith, ◌≤◌}
+use Rattle.std.specs.Prelude.{if◌then◌else◌}
+use Rattle.fz_list.proofs.Algebra.{some_at}
+use Rattle.error_bound.proofs.MassLemmas.{still-same, sure_part-end, chosen_small}
+use Rattle.error_bound.specs.Tight.{is_still}
+use Rattle.error_bound.proofs.rules.BoxTable.mass_of_rule.Goals as goal
+
+pub sure_part-requires : goal.sure_part-requires
+sure_part-requires c =
+    let r = some_at c.args.block.now.rules c.args.place c.requires.place in
+    (c.end_of_rule-low.ensures r.0 r.1).small
+
+pub returns : goal.returns
+returns c r found =
+    let b = c.args.block.now in
+    let box = c.args.self.now.bytes.0.items in
+    let low = c.end_of_rule-low.ensures r found in
+    let high = c.end_of_rule-high.ensures r found in
+    let error = c.error_of_rule-error.ensures r found in
+    let moving = c.moving_error.ensures
+    ∙ ap (λ t. if t then 0 else c.error_of_rule-error.result) (still-same b box r c.end_of_rule-high.result high) in
+    record {
+      low = c.sure_part.ensures.value ∙ sure_part-end b box r c.end_of_rule-low.result low;
+      byte_low = c.from.ensures ∙ low.byte;
+      byte_high = c.from-2.ensures ∙ high.byte;
+      error = moving ∙ ap (λ n. if is_still b box r then 0 else n) error.value;
+      low_small = c.sure_part.ensures.small;
+      byte_low_small = omega (arith, c.from.ensures);
+      byte_high_small = omega (arith, c.from-2.ensures);
+      error_small = subst (λ n. n ≤ 3000000000) (sym moving) (chosen_small (is_still b box r) error.small);
+    }

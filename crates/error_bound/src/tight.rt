@@ -1,0 +1,246 @@
+//! The tight Bound of a box, which names no rule: it comes from how far the masses of an output's terms
+//! reach there.
+ghost use Rattle.std.specs.Prelude.{◌≡◌, ◌≤◌, ◌<◌, ◌+◌, ◌*◌, ◌/◌, ℕ, ◌==◌, ◌&&◌, if◌then◌else◌, max, All, IfSome, IfNone, Some};
+ghost use Rattle.std.specs.Prelude.{length, slice_get, slice_index};
+ghost use Rattle.fz_num.specs.Decimals.{distance};
+ghost use Rattle.fuzzy_meaning.specs.declared.block.Rule.{Rule as TheRule};
+ghost use Rattle.fuzzy_meaning.specs.Blocks.{IsValid, IsValidOutput, IsWithin, output_at};
+ghost use Rattle.error_bound.specs.Bounds.{ratio_bound};
+ghost use Rattle.error_bound.specs.Errors.{apart};
+ghost use Rattle.error_bound.specs.Leaves.{Holds};
+ghost use Rattle.error_bound.specs.Masses.{IsRuleMass, AreMasses, AreSmall, sum_at, farthest_at, offset_at, swing_at};
+ghost use Rattle.error_bound.specs.Masses.{bound_at};
+ghost use Rattle.error_bound.specs.Ratios.{value_of, IsRatio};
+ghost use Rattle.error_bound.specs.Reaches.{IsTable};
+ghost use Rattle.error_bound.specs.Tight.{IsTightBound, IsSure};
+
+use crate::bounds::{in_millionths, offset, raise_terms, silent_bound};
+use crate::ends::End;
+use crate::rules::BoxTable;
+use fuzzy_meaning::{Block, Output};
+use fz_num::Dec;
+
+/// How far the strength of a rule reaches over a box: its least in parts of 255 * 10^9, over bytes its
+/// least and its greatest, and how far the two may be apart.
+#[derive(Clone, Copy)]
+pub(crate) struct RuleMass {
+    pub(crate) low: u64,
+    pub(crate) byte_low: u64,
+    pub(crate) byte_high: u64,
+    pub(crate) error: u64,
+}
+
+/// The same of the mass of each term of an output.
+#[derive(Clone, Copy)]
+pub(crate) struct Masses {
+    pub(crate) lows: [u64; 15],
+    pub(crate) byte_lows: [u64; 15],
+    pub(crate) byte_highs: [u64; 15],
+    pub(crate) errors: [u64; 15],
+}
+
+impl BoxTable<'_> {
+    /// The tight Bound of the table's box for an output, in millionths of the output's range, for
+    /// answers in so many parts to a byte, or `None` exactly where there is none.
+    pub fn tight_bound(&self, block: &Block, out: u8, parts: u16) -> Option<u32>
+        requires block { IsValid block.now }
+        requires table { IsTable block.now self.now }
+        requires out_from { 1 ≤ out }
+        requires out_to { out ≤ length block.now.outputs }
+        requires parts_from { 1 ≤ parts }
+        requires parts_to { parts ≤ 256 }
+        ensures bound { IfSome result (λ n. IfSome (output_at block.now out)
+            (λ x. IsTightBound block.now self.now.bytes.0.items out x parts n)) }
+        ensures loud { IfNone result (Holds block.now self.now.bytes.0.items out (record { rule = 0; k = 0 }) → ⊥) }
+        ensures unsure { IfNone result (IfSome (output_at block.now out)
+            (λ x. IsSure block.now self.now.bytes.0.items out x → ⊥)) }
+    {
+        let output = &block.outputs.as_slice()[out as usize - 1];
+        match self.silent_fault(block, out) {
+            None => Some(silent_bound(output)),
+            Some(_) => {
+                let masses = self.masses_by_term(block, out);
+                masses.bound(output, parts)
+            }
+        }
+    }
+
+    /// How far the masses of an output's terms reach.
+    fn masses_by_term(&self, block: &Block, out: u8) -> Masses
+        requires table { IsTable block.now self.now }
+        requires block { IsValid block.now }
+        ensures { AreMasses block.now self.now.bytes.0.items out result }
+    {
+        let mut lows = [0; 15];
+        let mut byte_lows = [0; 15];
+        let mut byte_highs = [0; 15];
+        let mut errors = [0; 15];
+        let rules = block.rules.as_slice();
+        for n in (0..rules.len()).rev() {
+            let rule = self.mass_of_rule(block, n);
+            raise_terms(&mut lows, &rules[n], out, rule.low);
+            raise_terms(&mut byte_lows, &rules[n], out, rule.byte_low);
+            raise_terms(&mut byte_highs, &rules[n], out, rule.byte_high);
+            raise_terms(&mut errors, &rules[n], out, rule.error);
+        }
+        Masses {
+            lows,
+            byte_lows,
+            byte_highs,
+            errors,
+        }
+    }
+
+    /// How far the strength of the rule at a place reaches.
+    fn mass_of_rule(&self, block: &Block, place: usize) -> RuleMass
+        requires block { IsValid block.now }
+        requires table { IsTable block.now self.now }
+        requires place { place < length block.now.rules }
+        ensures { (r : TheRule) → slice_get block.now.rules place ≡ Some r
+            → IsRuleMass block.now self.now.bytes.0.items r result }
+    {
+        let low = self.end_of_rule(block, place, false);
+        let high = self.end_of_rule(block, place, true);
+        let error = self.error_of_rule(block, place);
+        RuleMass {
+            low: sure_part(low),
+            byte_low: u64::from(low.byte),
+            byte_high: u64::from(high.byte),
+            error: moving_error(high, error),
+        }
+    }
+}
+
+/// A truth in parts of 255 * 10^9, rounded down.
+fn sure_part(low: End) -> u64
+    requires { IsRatio 10000000000000000 low.truth }
+    ensures value { result ≡ 255000000000 * (value_of low.truth).num / (value_of low.truth).den }
+    ensures small { result ≤ 255000000000 }
+{
+    (255_000_000_000 * u128::from(low.truth.num) / u128::from(low.truth.den)) as u64
+}
+
+/// The error of a rule that reaches so far up, or 0 where that is nowhere.
+fn moving_error(high: End, error: u64) -> u64
+    ensures { result ≡ (if ((value_of high.truth).num == 0) && (high.byte == 0) then 0 else error) }
+{
+    if high.truth.num == 0 && high.byte == 0 {
+        0
+    } else {
+        error
+    }
+}
+
+impl Masses {
+    /// The Bound of a box with these masses, where their sum is above 0, over bytes too.
+    fn bound(&self, output: &Output, parts: u16) -> Option<u32>
+        requires output { IsValidOutput output.now }
+        requires parts_from { 1 ≤ parts }
+        requires parts_to { parts ≤ 256 }
+        requires lows { AreSmall 255000000000 self.now.lows }
+        requires byte_lows { AreSmall 255000000000 self.now.byte_lows }
+        requires errors { AreSmall 3000000000 self.now.errors }
+        ensures value { IfSome result (λ n. n ≡ bound_at self.now output.now parts) }
+        ensures sum { IfSome result (λ n. 1 ≤ sum_at self.now.lows output.now.singletons) }
+        ensures bytes { IfSome result (λ n. 1 ≤ sum_at self.now.byte_lows output.now.singletons) }
+        ensures none { IfNone result (1 ≤ sum_at self.now.lows output.now.singletons
+            → 1 ≤ sum_at self.now.byte_lows output.now.singletons → ⊥) }
+    {
+        let sum = sum_of(&self.lows, output);
+        let bytes = sum_of(&self.byte_lows, output);
+        if sum == 0 || bytes == 0 {
+            return None;
+        }
+        let swing = swing(&self.byte_highs, &self.errors, output);
+        let offset = live_offset(&self.byte_highs, output);
+        Some(sure_bound(output, parts, swing, sum, offset))
+    }
+}
+
+/// The sum of a number for each term of an output.
+fn sum_of(values: &[u64; 15], output: &Output) -> u64
+    requires output { IsValidOutput output.now }
+    requires small { AreSmall 255000000000 values.now }
+    ensures value { result ≡ sum_at values.now output.now.singletons }
+    ensures small { result ≤ 3825000000000 }
+{
+    let mut sum = 0;
+    for k in (0..output.singletons.len()).rev() {
+        sum = values[k] + sum;
+    }
+    sum
+}
+
+/// A number of a term with a mass, or 0 where it has none.
+fn if_some(high: u64, number: u64) -> u64
+    ensures { result ≡ (if high == 0 then 0 else number) }
+{
+    if high == 0 { 0 } else { number }
+}
+
+/// How far a number is at most from the singleton of a term with a mass.
+fn farthest(highs: &[u64; 15], output: &Output, number: Dec) -> u64
+    requires output { IsValidOutput output.now }
+    requires number { IsWithin output.now.lo output.now.hi number }
+    ensures value { result ≡ farthest_at highs.now output.now number }
+    ensures small { result ≤ 2000010000 }
+{
+    let from = number.above(output.lo);
+    let singletons = output.singletons.as_slice();
+    let mut greatest = 0;
+    for k in (0..singletons.len()).rev() {
+        let apart = from.abs_diff(singletons[k].above(output.lo));
+        greatest = if_some(highs[k], apart).max(greatest);
+    }
+    greatest
+}
+
+/// How far the singleton of a term with a mass is at most from its byte.
+fn live_offset(highs: &[u64; 15], output: &Output) -> u64
+    requires output { IsValidOutput output.now }
+    ensures value { result ≡ offset_at highs.now output.now }
+    ensures small { result ≤ 510002550000 }
+{
+    let singletons = output.singletons.as_slice();
+    let mut greatest = 0;
+    for k in (0..singletons.len()).rev() {
+        greatest = if_some(highs[k], offset(output, singletons[k])).max(greatest);
+    }
+    greatest
+}
+
+/// The terms' errors, each as often as the singletons of terms with a mass are apart from its own.
+fn swing(highs: &[u64; 15], errors: &[u64; 15], output: &Output) -> u128
+    requires output { IsValidOutput output.now }
+    requires small { AreSmall 3000000000 errors.now }
+    ensures value { result ≡ swing_at highs.now errors.now output.now }
+    ensures small { result ≤ 90000450000000000000 }
+{
+    let singletons = output.singletons.as_slice();
+    let mut swing = 0;
+    for k in (0..singletons.len()).rev() {
+        let apart = farthest(highs, output, singletons[k]);
+        swing = u128::from(apart) * u128::from(errors[k]) + swing;
+    }
+    swing
+}
+
+/// The Bound by the swing of the terms and the sum of their masses.
+fn sure_bound(output: &Output, parts: u16, swing: u128, sum: u64, offset: u64) -> u32
+    requires output { IsValidOutput output.now }
+    requires parts_from { 1 ≤ parts }
+    requires parts_to { parts ≤ 256 }
+    requires swing { swing ≤ 90000450000000000000 }
+    requires sum_from { 1 ≤ sum }
+    requires sum_to { sum ≤ 3825000000000 }
+    requires offset { offset ≤ 510002550000 }
+    ensures { result ≡ ratio_bound (distance output.now.lo output.now.hi) parts (255 * swing)
+        (distance output.now.lo output.now.hi * sum) offset }
+{
+    let width = output.hi.above(output.lo);
+    let parts = u64::from(parts);
+    let ends = offset * parts + width;
+    let num = swing * u128::from(65_025 * parts) + u128::from(ends) * u128::from(sum);
+    let den = u128::from(width * (255 * parts)) * u128::from(sum);
+    in_millionths(num, den)
+}

@@ -1,0 +1,35 @@
+//! What a box's tight Bound says of the answers there, and of other Bounds.
+ghost use Rattle.error_bound.specs.TightLaws.{TightAnswersAreNear, TightBoundsAreOne, TightBoundsAreLeast};
+ghost use Rattle.error_bound.specs.TightLaws.{TightBoundsFallInside, TightBoundsFallWithParts};
+
+use byte_scaling::nearest_is_byte;
+use fuzzy_meaning::numbers_have_their_degrees;
+
+/// On a box with a tight Bound, an answer over bytes, as a byte or in 16 bits, is within it of the
+/// exact answer, or both are those before.
+pub fn tight_answers_are_near()
+    ensures { TightAnswersAreNear }
+{
+    numbers_have_their_degrees();
+    nearest_is_byte();
+}
+
+/// A box has at most one tight Bound for an output.
+pub fn tight_bounds_are_one()
+    ensures { TightBoundsAreOne }
+{}
+
+/// Where a leaf holds there is a tight Bound, and it is at most the leaf's.
+pub fn tight_bounds_are_least()
+    ensures { TightBoundsAreLeast }
+{}
+
+/// On a box inside another the tight Bound is no greater.
+pub fn tight_bounds_fall_inside()
+    ensures { TightBoundsFallInside }
+{}
+
+/// Nor is it for answers in more parts to a byte.
+pub fn tight_bounds_fall_with_parts()
+    ensures { TightBoundsFallWithParts }
+{}
