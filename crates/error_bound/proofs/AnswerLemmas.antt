@@ -29,7 +29,7 @@ use Rattle.error_bound.specs.Leaves.{Holds, strong, silent, IsStill}
 use Rattle.error_bound.specs.Bounds.{in_millionths, offset, silent_bound, strong_bound, errors_from, IsBound}
 use Rattle.error_bound.specs.Answers.{Follows, AnswersAreNear}
 use Rattle.error_bound.specs.Tight.{IsSure, sure_bound, IsTightBound, silent as tight_silent, sure}
-use Rattle.error_bound.specs.TightLaws.{TightFollows, TightAnswersAreNear}
+use Rattle.error_bound.specs.TightLaws.{IsAnsweredWithin, kept, near, TightAnswersAreNear}
 use Rattle.error_bound.proofs.Literals.{literals}
 use Rattle.error_bound.proofs.SureBoxes.{weights, firing}
 use Rattle.error_bound.proofs.TightLemmas.{strong_sure, strong_least}
@@ -127,17 +127,16 @@ module _ (of_numbers : NumbersHaveTheirDegrees) (is_byte : NearestIsByte) (b : B
       subst (IsClose (distance x.lo x.hi) (silent_bound x) (value_in h x q')) (sym ec)
       (near_default is_byte h x x.default q q' before hh vx.range vx.default_in (a.resting st.1) d)
 
-  tight_follows : (n : ℕ) → IsTightBound b box o x h n
-      → TightFollows b box o x n q q' (value_in h x q') before after
-  tight_follows n (tight_silent quiet is) = record {
-    kept = λ _ d. still_kept (quiet_rules b box o quiet) d;
-    near = λ d. subst (λ m. IsClose (distance x.lo x.hi) m (value_in h x q') after) (sym is)
-        (still_close (quiet_rules b box o quiet) (d quiet));
-  }
-  tight_follows n (sure e es s is) = record {
-    kept = λ quiet d. absurd (let z = (still_at (quiet_rules b box o quiet)).1 in let p = sure_pos e es s in omega arith);
-    near = λ _. subst (λ m. IsClose (distance x.lo x.hi) m (value_in h x q') after) (sym is) (sure_close e es s);
-  }
+  tight_answered : (n : ℕ) → IsTightBound b box o x h n → IsAnsweredWithin x n q q' (value_in h x q') before after
+  tight_answered n (tight_silent quiet is) = by_default x.default refl
+    where
+      by_default : (d : Option Dec) → x.default ≡ d → IsAnsweredWithin x n q q' (value_in h x q') before after
+      by_default None e = let k = still_kept (quiet_rules b box o quiet) e in kept e k.0 k.1
+      by_default (Some d) e =
+          near (subst (λ m. IsClose (distance x.lo x.hi) m (value_in h x q') after) (sym is)
+          (still_close (quiet_rules b box o quiet) (λ z. (let y : ⊥ = cc in y))))
+  tight_answered n (sure e es s is) =
+      near (subst (λ m. IsClose (distance x.lo x.hi) m (value_in h x q') after) (sym is) (sure_close e es s))
 
   -- a leaf's Bound is no smaller
   leaf_follows : (leaf : Leaf) (n : ℕ) → Holds b box o leaf → IsBound b box o x h leaf n
@@ -198,7 +197,7 @@ answer_is h b bytes o x before =
 pub tight_answers_near : NumbersHaveTheirDegrees → NearestIsByte → TightAnswersAreNear
 tight_answers_near of_numbers is_byte b box o x h n bytes xs before q on =
     let ex = on.output_is in
-    rw ex (tight_follows of_numbers is_byte b box o x h bytes xs on.valid ex on.parts on.cells on.box_is before q
+    rw ex (tight_answered of_numbers is_byte b box o x h bytes xs on.valid ex on.parts on.cells on.box_is before q
     (byte_centre h (byte_shares b bytes o x) (resting_answer h x q)) (answer_is h b bytes o x q) n on.bound_is)
 
 pub answers_near : NumbersHaveTheirDegrees → NearestIsByte → AnswersAreNear

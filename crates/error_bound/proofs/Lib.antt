@@ -31,7 +31,6 @@ pub mod FaultLemmas
 pub mod BestLemmas
 pub mod TightLawLemmas
 pub mod MassLemmas
-pub mod ClaimLemmas
 pub mod Values
 pub mod ListLemmas
 pub mod LeafLemmas
@@ -40,4 +39,5 @@ pub mod FirstFiring
 pub mod ConditionParts
 pub mod Operations
 pub mod FlatteningLemmas
-pub mod MassEndLemmas
+pub mod MassEnds
+pub mod RangeAnswers

@@ -1,13 +1,15 @@
 -- The masses of an output's terms as the code finds them.
 use Rattle.std.proofs.Common.{◌≡◌, ℕ, suc, ◌+◌, ◌-◌, ◌*◌, ◌/◌, ◌<◌, ◌≤◌, max, Bool, true, false, List, [], Option}
 use Rattle.std.proofs.Common.{◌∷◌, length, drop, get_or, Some, None, refl, sym, ap, ap₂, ◌∙◌, subst, arith, mul-pos}
+use Rattle.std.proofs.Common.{mul-le-mul_right, le_of_mul-le-mul_right}
 use Rattle.std.specs.Prelude.{◌==◌, ◌&&◌, if◌then◌else◌, slice_index, IfSome, IfNone}
 use Rattle.std.proofs.lemmas.Int.{ints}
 use Rattle.std.proofs.Math.Seq.{drop-cons}
 use Rattle.std.proofs.lemmas.Bool.Decides.{nat_tests}
 use Rattle.fz_num.specs.declared.dec.Dec.{Dec}
-use Rattle.fz_num.specs.Fractions.{Fraction, over, IsProper}
+use Rattle.fz_num.specs.Fractions.{Fraction, over, IsProper, AtMost, up_div}
 use Rattle.fz_num.specs.Decimals.{distance}
+use Rattle.fz_num.proofs.Algebra.{le-up_div, up_div-le}
 use Rattle.fuzzy_meaning.specs.declared.block.Block.{Block}
 use Rattle.fuzzy_meaning.specs.declared.block.Output.{Output}
 use Rattle.fuzzy_meaning.specs.declared.block.Rule.{Rule}
@@ -25,7 +27,7 @@ use Rattle.error_bound.specs.Masses.{AreGreatest, AreMasses, AreSmall, sum_at, i
 use Rattle.error_bound.specs.Masses.{offset_at, swing_at, bound_at}
 use Rattle.error_bound.specs.Ratios.{value_of}
 use Rattle.error_bound.specs.Reaches.{IsEndOfRule}
-use Rattle.error_bound.specs.Tight.{greatest_of, sum_over, greatest_over, sure_part, is_still, moving_error, sure_bound}
+use Rattle.error_bound.specs.Tight.{greatest_of, sum_over, greatest_over, low_part, high_part, is_still, moving_error, sure_bound}
 use Rattle.error_bound.specs.Tight.{sure_sum, sure_bytes, low_of, byte_low_of, error_of, swing, farthest}
 use Rattle.error_bound.specs.Tight.{live_offset, if_live, IsSure, IsTightBound, sure}
 use Rattle.error_bound.proofs.Shares.{within_width}
@@ -81,9 +83,9 @@ AreGreatest-raised f n o r rest rs value old new here is to before raised = reco
 both_ways : {m n : ℕ} → m ≤ n → n ≤ m → m ≡ n
 both_ways l k = omega arith
 
-sure_part-same : (f g : Fraction) → IsSame f g
+low_part-same : (f g : Fraction) → IsSame f g
     → 255 * billion * f.num / f.den ≡ 255 * billion * g.num / g.den
-sure_part-same f g s = both_ways (part-mono f g s.left s.right s.below) (part-mono g f s.right s.left s.above)
+low_part-same f g s = both_ways (part-mono f g s.left s.right s.below) (part-mono g f s.right s.left s.above)
 
 test-same : (n m : ℕ) → (n ≡ 0 → m ≡ 0) → (m ≡ 0 → n ≡ 0) → (n == 0) ≡ (m == 0)
 test-same n m h k = by_bool (n == 0) (m == 0) refl refl
@@ -110,9 +112,27 @@ still-same b box r high end =
     (back_same (value_of high.truth) (rule_span b box r).high end.value)))
     (ap (λ n. n == 0) end.byte)
 
-pub sure_part-end : (b : Block) (box : List Interval) (r : Rule) (low : End) → IsEndOfRule b box r false low
-    → 255000000000 * (value_of low.truth).num / (value_of low.truth).den ≡ sure_part b box r
-sure_part-end b box r low end = sure_part-same (value_of low.truth) (rule_span b box r).low end.value
+pub low_part-end : (b : Block) (box : List Interval) (r : Rule) (low : End) → IsEndOfRule b box r false low
+    → 255000000000 * (value_of low.truth).num / (value_of low.truth).den ≡ low_part b box r
+low_part-end b box r low end = low_part-same (value_of low.truth) (rule_span b box r).low end.value
+
+up-mono : (c : ℕ) (f g : Fraction) → IsProper f → IsProper g → AtMost f g
+    → up_div (c * f.num) f.den ≤ up_div (c * g.num) g.den
+up-mono c f g pf pg l =
+    let e = up_div (c * g.num) g.den in
+    let a : c * g.num ≤ e * g.den = le-up_div (c * g.num) g.den pg.pos in
+    let a1 : (c * g.num) * f.den ≤ (e * g.den) * f.den = mul-le-mul_right f.den a in
+    let a2 : (f.num * g.den) * c ≤ (g.num * f.den) * c = mul-le-mul_right c l.cross in
+    let a3 : (c * f.num) * g.den ≤ (e * f.den) * g.den = omega arith in
+    up_div-le (c * f.num) f.den e pf.pos (le_of_mul-le-mul_right a3 pg.pos)
+
+pub high_part-end : (b : Block) (box : List Interval) (r : Rule) (high : End) → IsEndOfRule b box r true high
+    → up_div (255000000000 * (value_of high.truth).num) (value_of high.truth).den ≡ high_part b box r
+high_part-end b box r high end =
+    let f = value_of high.truth in
+    let g = (rule_span b box r).high in
+    let s = end.value in
+    both_ways (up-mono (255 * billion) f g s.left s.right s.below) (up-mono (255 * billion) g f s.right s.left s.above)
 
 -- ---- the Bound
 
@@ -159,7 +179,7 @@ module _ (b : Block) (box : List Interval) (o : ℕ) (x : Output) (m : Masses) (
 
   pub sum-same : sum_at m.lows x.singletons ≡ sure_sum b box o x
   sum-same = sum_over-same (λ t u. slice_index m.lows (t - 1)) (λ t u. low_of b box o t)
-      (λ t u from to. at_term (sure_part b box) 255000000000 m.lows ms.lows t from to) 1 x.singletons (omega arith)
+      (λ t u from to. at_term (low_part b box) 255000000000 m.lows ms.lows t from to) 1 x.singletons (omega arith)
       (omega arith)
 
   pub bytes-same : sum_at m.byte_lows x.singletons ≡ sure_bytes b box o x

@@ -17,7 +17,7 @@ use Rattle.error_bound.specs.declared.boxes.Interval.{Interval}
 use Rattle.error_bound.specs.Boxes.{literal_span, literal_byte_span, rule_span, rule_byte_span}
 use Rattle.error_bound.specs.Errors.{billion, rule_error}
 use Rattle.error_bound.specs.Leaves.{IsStill}
-use Rattle.error_bound.specs.Tight.{greatest_of, sure_part, is_still, moving_error}
+use Rattle.error_bound.specs.Tight.{greatest_of, low_part, is_still, moving_error}
 use Rattle.error_bound.proofs.ConditionLemmas.{IsHeld, IsWithinSpans, held_greater, within_none}
 use Rattle.error_bound.proofs.RuleLemmas.{rule_within}
 use Rattle.error_bound.proofs.SilentLeaves.{still_rule}
@@ -103,7 +103,7 @@ module _ (b : Block) (box : List Interval) (bytes : List ℕ) (xs : List Dec) (e
 
   -- and it is at least so much
   pub term_low : (t : ℕ) (rs : List Rule) → All (λ r. IfSome r.weight IsWeight) rs
-      → AtMost (over (greatest_of (sure_part b box) o t rs) (255 * billion)) (mass_among b xs o t rs)
+      → AtMost (over (greatest_of (low_part b box) o t rs) (255 * billion)) (mass_among b xs o t rs)
   term_low t [] hw = record { cross = omega arith }
   term_low t (r ∷ rs) hw = by_bool (term_low t rs (λ k d i. hw (suc k) d (omega arith))) (concludes r o t)
     where
@@ -111,19 +111,19 @@ module _ (b : Block) (box : List Interval) (bytes : List ℕ) (xs : List Dec) (e
           (rule_byte_span b box r)
       w = rule_within b box bytes xs e l r (hw 0 r (omega arith))
 
-      part : AtMost (over (sure_part b box r) (255 * billion)) (strength b xs r)
-      part = AtMost-trans (over (sure_part b box r) (255 * billion)) (rule_span b box r).low (strength b xs r)
+      part : AtMost (over (low_part b box r) (255 * billion)) (strength b xs r)
+      part = AtMost-trans (over (low_part b box r) (255 * billion)) (rule_span b box r).low (strength b xs r)
           w.between.low.left (part_least (rule_span b box r).low w.between.low.left) w.between.low.below
 
       rest_proper : IsProper (mass_among b xs o t rs)
       rest_proper = (term_held t rs (λ k d i. hw (suc k) d (omega arith))).proper
 
-      by_bool : AtMost (over (greatest_of (sure_part b box) o t rs) (255 * billion)) (mass_among b xs o t rs)
+      by_bool : AtMost (over (greatest_of (low_part b box) o t rs) (255 * billion)) (mass_among b xs o t rs)
           → (c : Bool)
-          → AtMost (over (if c then max (sure_part b box r) (greatest_of (sure_part b box) o t rs) else
-          greatest_of (sure_part b box) o t rs) (255 * billion))
+          → AtMost (over (if c then max (low_part b box r) (greatest_of (low_part b box) o t rs) else
+          greatest_of (low_part b box) o t rs) (255 * billion))
           (if c then greater (strength b xs r) (mass_among b xs o t rs) else mass_among b xs o t rs)
-      by_bool rest true = joined_least (255 * billion) (sure_part b box r) (greatest_of (sure_part b box) o t rs)
+      by_bool rest true = joined_least (255 * billion) (low_part b box r) (greatest_of (low_part b box) o t rs)
           (strength b xs r) (mass_among b xs o t rs) w.between.low.right rest_proper part rest
       by_bool rest false = rest
 

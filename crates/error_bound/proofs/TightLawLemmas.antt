@@ -23,13 +23,16 @@ use Rattle.error_bound.specs.Bounds.{ratio_bound, offset, silent_bound, errors_f
 use Rattle.error_bound.specs.Errors.{apart, billion, AreTermErrors}
 use Rattle.error_bound.specs.Laws.{IsInside}
 use Rattle.error_bound.specs.Leaves.{Holds, strong, silent}
-use Rattle.error_bound.specs.Tight.{greatest_of, sum_over, sure_part, is_still, moving_error, low_of}
+use Rattle.error_bound.specs.Tight.{greatest_of, sum_over, low_part, is_still, moving_error, low_of}
 use Rattle.error_bound.specs.Tight.{byte_low_of, byte_high_of, error_of, if_live, farthest, live_offset, sure_sum}
 use Rattle.error_bound.specs.Tight.{sure_bytes, swing, sure_bound, IsSure, IsTightBound, silent as tight_silent, sure}
 use Rattle.error_bound.specs.Tight.{IsTightCount, of_bound, of_none}
 use Rattle.error_bound.specs.TightLaws.{TightBoundsAreLeast, TightBoundsFallInside, TightBoundsAreOne}
+use Rattle.error_bound.specs.TightLaws.{TightBoundsHoldInside}
 use Rattle.error_bound.specs.TightLaws.{TightBoundsFallWithParts}
 use Rattle.error_bound.proofs.AnswerLemmas.{quiet_rules}
+use Rattle.error_bound.specs.CellErrors.{term_errors}
+use Rattle.error_bound.proofs.LawLemmas.{term_errors-are}
 use Rattle.error_bound.proofs.BoundLemmas.{bound_strong, bound_silent, ratio-mono}
 use Rattle.error_bound.proofs.Nested.{rule_narrow, IsNarrow, leaves_hold_inside}
 use Rattle.error_bound.proofs.NestedBounds.{less_rule, inside_itself}
@@ -136,7 +139,7 @@ module _ (b : Block) (small box : List Interval) (valid : IsValid b) (count : le
       below h k = omega arith
 
   low_rises : (t : ℕ) → low_of b box o t ≤ low_of b small o t
-  low_rises t = greatest_of-mono (sure_part b box) (sure_part b small) o t b.rules (λ k d l.
+  low_rises t = greatest_of-mono (low_part b box) (low_part b small) o t b.rules (λ k d l.
       let r = get_or b.rules k d in
       let n = narrow r in
       part-mono (rule_span b box r).low (rule_span b small r).low n.span.low.left n.span.low.right n.span.low.below)
@@ -225,6 +228,21 @@ pub small_bound : (b : Block) (box : List Interval) (o : ℕ) (x : Output) (h n 
     → n ≤ 1000000
 small_bound b box o x h n (tight_silent quiet is) = moved is refl (silent_small x)
 small_bound b box o x h n (sure e es s is) = moved is refl (omega arith)
+
+pub tight_inside : TightBoundsHoldInside
+tight_inside b small box o x h m valid ex hh count ins some (tight_silent quiet is) = (
+  silent_bound x,
+  tight_silent (leaves_hold_inside b small box o silent_leaf valid count ins some quiet) refl,
+  moved refl is (omega arith),
+)
+tight_inside b small box o x h m valid ex hh count ins some (sure f fs s is) =
+    let vx : IsValidOutput x = All-slice_get IsValidOutput b.outputs (o - 1) x valid.outputs ex in
+    let e = term_errors b small in
+    let es = term_errors-are b small valid some in (
+      sure_bound b small e o x h,
+      sure e es (sure_inside b small box valid count ins some o x s) refl,
+      moved refl is (sure_falls b small box valid count ins some o x e f es fs h vx.range hh s),
+    )
 
 pub tight_falls : TightBoundsFallInside
 tight_falls b small box o x h n m valid ex hh count ins some p q = by_box p q

@@ -19,7 +19,7 @@ use Rattle.error_bound.specs.Boxes.{rule_span, rule_byte_span}
 use Rattle.error_bound.specs.Errors.{billion, apart, rule_error, output_error, output_error_among}
 use Rattle.error_bound.specs.Leaves.{IsStrong}
 use Rattle.error_bound.specs.Bounds.{errors_from, strong_bound, offset, greatest_offset}
-use Rattle.error_bound.specs.Tight.{greatest_of, sum_over, greatest_over, sure_part, is_still, moving_error, low_of}
+use Rattle.error_bound.specs.Tight.{greatest_of, sum_over, greatest_over, low_part, is_still, moving_error, low_of}
 use Rattle.error_bound.specs.Tight.{byte_low_of, byte_high_of, error_of, if_live, farthest, live_offset, sure_sum}
 use Rattle.error_bound.specs.Tight.{sure_bytes, swing, sure_bound, IsSure}
 use Rattle.error_bound.proofs.BoundLemmas.{ratio-mono}
@@ -178,9 +178,9 @@ module _ (b : Block) (box : List Interval) (e : ℕ → ℕ → ℕ) (o : ℕ) (
   sum_least : billion * k ≤ sure_sum b box o x
   sum_least =
       let a = part_above k (rule_span b box r).low (low_proper b box r) s.low in
-      let c = greatest_of-least (sure_part b box) o s.term b.rules n r er s.concludes_it in
+      let c = greatest_of-least (low_part b box) o s.term b.rules n r er s.concludes_it in
       let d = sum_over-least (λ t. low_of b box o t) 1 s.term x.singletons in_singletons.0 in_singletons.1 in
-      least (billion * k) (sure_part b box r) (low_of b box o s.term) (sure_sum b box o x) a c d
+      least (billion * k) (low_part b box r) (low_of b box o s.term) (sure_sum b box o x) a c d
     where
       least : (p q r s : ℕ) → p ≤ q → q ≤ r → r ≤ s → p ≤ s
       least p q r s h k l = omega arith

@@ -16,5 +16,4 @@ pub mod BestLeaves
 pub mod Tight
 pub mod TightLaws
 pub mod Masses
-pub mod Claims
-pub mod MassEnds
+pub mod MassRanges

@@ -12,15 +12,17 @@ use Rattle.error_bound.specs.Boxes.{rule_byte_span}
 use Rattle.error_bound.specs.Bounds.{offset, ratio_bound}
 use Rattle.error_bound.specs.CellErrors.{term_errors}
 use Rattle.error_bound.specs.Errors.{apart}
-use Rattle.error_bound.specs.Tight.{greatest_of, sum_over, greatest_over, sure_part, moving_error}
+use Rattle.error_bound.specs.Tight.{greatest_of, sum_over, greatest_over, low_part, high_part, moving_error}
 
 -- of a rule on a box
 pub record IsRuleMass (b : Block) (box : List Interval) (r : Rule) (m : RuleMass) : Type 0 where
-  pub low : m.low ≡ sure_part b box r
+  pub low : m.low ≡ low_part b box r
+  pub high : m.high ≡ high_part b box r
   pub byte_low : m.byte_low ≡ (rule_byte_span b box r).low
   pub byte_high : m.byte_high ≡ (rule_byte_span b box r).high
   pub error : m.error ≡ moving_error b box (term_errors b box) r
   pub low_small : m.low ≤ 255000000000
+  pub high_small : m.high ≤ 255000000000
   pub byte_low_small : m.byte_low ≤ 255
   pub byte_high_small : m.byte_high ≤ 255
   pub error_small : m.error ≤ 3000000000
@@ -32,7 +34,8 @@ pub record AreGreatest (f : Rule → ℕ) (n o : ℕ) (rs : List Rule) (values :
 
 -- of an output's terms
 pub record AreMasses (b : Block) (box : List Interval) (o : ℕ) (m : Masses) : Type 0 where
-  pub lows : AreGreatest (sure_part b box) 255000000000 o b.rules m.lows
+  pub lows : AreGreatest (low_part b box) 255000000000 o b.rules m.lows
+  pub highs : AreGreatest (high_part b box) 255000000000 o b.rules m.highs
   pub byte_lows : AreGreatest (λ r. (rule_byte_span b box r).low) 255 o b.rules m.byte_lows
   pub byte_highs : AreGreatest (λ r. (rule_byte_span b box r).high) 255 o b.rules m.byte_highs
   pub errors : AreGreatest (moving_error b box (term_errors b box)) 3000000000 o b.rules m.errors

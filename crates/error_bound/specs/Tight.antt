@@ -1,6 +1,7 @@
 -- The tight Bound of a box for an output: it names no rule, and comes from how far the masses reach there.
 use Rattle.std.specs.Prelude.{◌≡◌, ℕ, ◌+◌, ◌*◌, ◌/◌, ◌≤◌, ◌==◌, ◌&&◌, max, List, [], ◌∷◌, Bool, if◌then◌else◌}
 use Rattle.fz_num.specs.declared.dec.Dec.{Dec}
+use Rattle.fz_num.specs.Fractions.{up_div}
 use Rattle.fz_num.specs.Decimals.{distance}
 use Rattle.fuzzy_meaning.specs.declared.block.Block.{Block}
 use Rattle.fuzzy_meaning.specs.declared.block.Output.{Output}
@@ -29,9 +30,12 @@ greatest_over f t (u ∷ us) = max (f t u) (greatest_over f (t + 1) us)
 
 -- ---- of a rule on a box
 
--- its least strength in parts of 255 * 10^9, rounded down
-abbrev pub sure_part : Block → List Interval → Rule → ℕ
-sure_part b box r = 255 * billion * (rule_span b box r).low.num / (rule_span b box r).low.den
+-- its least strength in parts of 255 * 10^9, rounded down, and its greatest, rounded up
+abbrev pub low_part : Block → List Interval → Rule → ℕ
+low_part b box r = 255 * billion * (rule_span b box r).low.num / (rule_span b box r).low.den
+
+abbrev pub high_part : Block → List Interval → Rule → ℕ
+high_part b box r = up_div (255 * billion * (rule_span b box r).high.num) (rule_span b box r).high.den
 
 -- whether it has no strength anywhere, over bytes neither
 abbrev pub is_still : Block → List Interval → Rule → Bool
@@ -43,9 +47,12 @@ moving_error b box e r = if is_still b box r then 0 else rule_error e r
 
 -- ---- of term t of output o
 
--- its mass is at least as many parts of 255 * 10^9
+-- its mass is at least so many parts of 255 * 10^9, and at most
 abbrev pub low_of : Block → List Interval → ℕ → ℕ → ℕ
-low_of b box o t = greatest_of (sure_part b box) o t b.rules
+low_of b box o t = greatest_of (low_part b box) o t b.rules
+
+abbrev pub high_of : Block → List Interval → ℕ → ℕ → ℕ
+high_of b box o t = greatest_of (high_part b box) o t b.rules
 
 -- over bytes it is at least so much, and at most
 abbrev pub byte_low_of : Block → List Interval → ℕ → ℕ → ℕ

@@ -1,5 +1,5 @@
 -- What a box's tight Bound says of the answers there, and of other Bounds.
-use Rattle.std.specs.Prelude.{◌≡◌, ◌≢◌, ℕ, ◌≤◌, List, length, Some, None}
+use Rattle.std.specs.Prelude.{◌≡◌, ℕ, ◌≤◌, List, length, Some, None}
 use Rattle.fz_num.specs.declared.dec.Dec.{Dec}
 use Rattle.fz_num.specs.Decimals.{distance}
 use Rattle.fz_num.specs.Fracs.{Quotient, IsClose}
@@ -11,19 +11,17 @@ use Rattle.byte_scaling.specs.Cells.{value_in}
 use Rattle.point_slope.specs.Bytes.{answer_in}
 use Rattle.error_bound.specs.declared.boxes.Interval.{Interval}
 use Rattle.error_bound.specs.declared.boxes.Leaf.{Leaf}
-use Rattle.error_bound.specs.Best.{silent_leaf}
 use Rattle.error_bound.specs.Boxes.{IsBox, LieIn, LieInCells}
 use Rattle.error_bound.specs.Leaves.{Holds}
 use Rattle.error_bound.specs.Bounds.{IsBound}
 use Rattle.error_bound.specs.Laws.{IsInside}
 use Rattle.error_bound.specs.Tight.{IsTightBound, IsTightCount}
 
--- answer q' with the value p' follows answer q, and the exact answer `after` follows `before`: where no rule fires on
--- the box and NC keeps the answer both are those before, else p' is near `after`
-pub record TightFollows (b : Block) (box : List Interval) (o : ℕ) (x : Output) (n : ℕ) (q q' : ℕ)
-    (p' before after : Quotient) : Type 0 where
-  pub kept : Holds b box o silent_leaf → x.default ≡ None → (q' ≡ q) × (after ≡ before)
-  pub near : (Holds b box o silent_leaf → x.default ≢ None) → IsClose (distance x.lo x.hi) n p' after
+-- answer q' with the value p' follows answer q, and the exact answer `after` follows `before`: both are those before,
+-- as NC keeps them, or p' is near `after`
+pub data IsAnsweredWithin (x : Output) (n q q' : ℕ) (p' before after : Quotient) : Type 0 where
+  kept : x.default ≡ None → q' ≡ q → after ≡ before → IsAnsweredWithin x n q q' p' before after
+  near : IsClose (distance x.lo x.hi) n p' after → IsAnsweredWithin x n q q' p' before after
 
 -- the box has the tight Bound n; the numbers lie in the cells of their bytes, and these lie in the box
 pub record IsOnBox (b : Block) (box : List Interval) (o : ℕ) (x : Output) (h n : ℕ) (bytes : List ℕ) (xs : List Dec)
@@ -40,7 +38,7 @@ abbrev pub TightAnswersAreNear : Type 0
 TightAnswersAreNear =
     (b : Block) (box : List Interval) (o : ℕ) (x : Output) (h n : ℕ) (bytes : List ℕ) (xs : List Dec)
     (before : Quotient) (q : ℕ) → IsOnBox b box o x h n bytes xs
-    → TightFollows b box o x n q (answer_in h b o bytes q) (value_in h x (answer_in h b o bytes q)) before
+    → IsAnsweredWithin x n q (answer_in h b o bytes q) (value_in h x (answer_in h b o bytes q)) before
     (answer_after b o before xs)
 
 -- a box has one tight Bound for an output, or none
@@ -62,6 +60,13 @@ TightBoundsFallInside =
     (b : Block) (small box : List Interval) (o : ℕ) (x : Output) (h n m : ℕ) → IsValid b → output_at b o ≡ Some x
     → 1 ≤ h → length box ≡ length b.inputs → IsInside small box → IsBox small → IsTightCount b small o x h n
     → IsTightCount b box o x h m → n ≤ m
+
+-- and where the box has one, that has one
+abbrev pub TightBoundsHoldInside : Type 0
+TightBoundsHoldInside =
+    (b : Block) (small box : List Interval) (o : ℕ) (x : Output) (h m : ℕ) → IsValid b → output_at b o ≡ Some x → 1 ≤ h
+    → length box ≡ length b.inputs → IsInside small box → IsBox small → IsTightBound b box o x h m
+    → (n : ℕ) × IsTightBound b small o x h n × (n ≤ m)
 
 -- nor is it for answers in more parts to a byte than one
 abbrev pub TightBoundsFallWithParts : Type 0

@@ -36,22 +36,6 @@ pub struct Leaf {
     pub k: u8,
 }
 
-/// What a leaf says of an output: a pair, or nothing but that its Bound is the tight one.
-#[derive(Clone, Copy, PartialEq, Eq, Debug)]
-pub enum Claim {
-    Pair(Leaf),
-    Tight,
-}
-
-/// How the leaves of a certificate speak.
-#[derive(Clone, Copy, PartialEq, Eq, Debug)]
-pub enum LeafKind {
-    /// Each names a rule or silence for each output.
-    Named,
-    /// None names anything.
-    Tight,
-}
-
 /// Why a leaf does not hold on a box.
 #[derive(Clone, Copy, PartialEq, Eq, Debug)]
 pub enum LeafFault {

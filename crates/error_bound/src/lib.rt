@@ -12,14 +12,12 @@ mod bounds;
 mod boxes;
 mod cells;
 mod choosing;
-mod claims;
 mod degrees;
 mod ends;
 mod flattening;
 mod laws;
 mod leaves;
 mod literal_errors;
-mod masses;
 mod ratio;
 mod reaches;
 mod rules;
@@ -28,13 +26,9 @@ mod tight;
 mod tight_laws;
 
 pub use best_leaves::{best_bounds_are_least, best_leaves_are_one, best_leaves_hold};
-pub use boxes::{ByteBox, Claim, Interval, Leaf, LeafFault, LeafKind};
+pub use boxes::{ByteBox, Interval, Leaf, LeafFault};
 pub use cells::term_error;
 pub use choosing::best;
-pub use claims::{
-    claim_answers_are_near, claim_bounds_are_one, claim_bounds_fall_with_parts, counts_are_least,
-    counts_are_one,
-};
 pub use laws::{
     answers_are_near, bounds_are_determined, bounds_fall_inside, bounds_fall_with_parts,
     cells_have_bounds, faulty_leaves_fail, leaf_faults_are_one, leaves_hold_inside,
@@ -43,7 +37,9 @@ pub use laws::{
 pub use leaves::{is_pair_for, leaf_bound, leaf_bound16};
 pub use rules::{AskedLeaves, BoxTable};
 pub use tables::BlockTable;
+pub use tight::Masses;
 pub use tight_laws::{
-    tight_answers_are_near, tight_bounds_are_least, tight_bounds_are_one, tight_bounds_fall_inside,
-    tight_bounds_fall_with_parts,
+    answers_to_masses_are_near, tight_answers_are_near, tight_bounds_are_least,
+    tight_bounds_are_one, tight_bounds_fall_inside, tight_bounds_fall_with_parts,
+    tight_bounds_hold_inside,
 };

@@ -3,6 +3,7 @@
 ghost use Rattle.std.specs.Prelude.{◌≡◌, ◌≤◌, ◌<◌, ◌+◌, ◌*◌, ◌/◌, ℕ, ◌==◌, ◌&&◌, if◌then◌else◌, max, All, IfSome, IfNone, Some};
 ghost use Rattle.std.specs.Prelude.{length, slice_get, slice_index};
 ghost use Rattle.fz_num.specs.Decimals.{distance};
+ghost use Rattle.fz_num.specs.Fractions.{up_div};
 ghost use Rattle.fuzzy_meaning.specs.declared.block.Rule.{Rule as TheRule};
 ghost use Rattle.fuzzy_meaning.specs.Blocks.{IsValid, IsValidOutput, IsWithin, output_at};
 ghost use Rattle.error_bound.specs.Bounds.{ratio_bound};
@@ -20,23 +21,30 @@ use crate::rules::BoxTable;
 use fuzzy_meaning::{Block, Output};
 use fz_num::Dec;
 
-/// How far the strength of a rule reaches over a box: its least in parts of 255 * 10^9, over bytes its
-/// least and its greatest, and how far the two may be apart.
+/// How far the strength of a rule reaches over a box: its least and its greatest in parts of 255 * 10^9,
+/// those over bytes, and how far the two may be apart.
 #[derive(Clone, Copy)]
 pub(crate) struct RuleMass {
     pub(crate) low: u64,
+    pub(crate) high: u64,
     pub(crate) byte_low: u64,
     pub(crate) byte_high: u64,
     pub(crate) error: u64,
 }
 
-/// The same of the mass of each term of an output.
+/// How far the masses of an output's terms reach over a box, each at its term's place.
 #[derive(Clone, Copy)]
-pub(crate) struct Masses {
-    pub(crate) lows: [u64; 15],
-    pub(crate) byte_lows: [u64; 15],
-    pub(crate) byte_highs: [u64; 15],
-    pub(crate) errors: [u64; 15],
+pub struct Masses {
+    /// The least of each in parts of 255 * 10^9, rounded down.
+    pub lows: [u64; 15],
+    /// The greatest, rounded up.
+    pub highs: [u64; 15],
+    /// The least over bytes.
+    pub byte_lows: [u64; 15],
+    /// The greatest over bytes.
+    pub byte_highs: [u64; 15],
+    /// How far each may be from that over bytes, in parts of 10^9.
+    pub errors: [u64; 15],
 }
 
 impl BoxTable<'_> {
@@ -55,23 +63,40 @@ impl BoxTable<'_> {
         ensures unsure { IfNone result (IfSome (output_at block.now out)
             (λ x. IsSure block.now self.now.bytes.0.items out x → ⊥)) }
     {
+        self.tight_bound_by(block, out, parts, &self.masses(block, out))
+    }
+
+    /// The same where the masses are known.
+    pub fn tight_bound_by(&self, block: &Block, out: u8, parts: u16, masses: &Masses) -> Option<u32>
+        requires block { IsValid block.now }
+        requires table { IsTable block.now self.now }
+        requires masses { AreMasses block.now self.now.bytes.0.items out masses.now }
+        requires out_from { 1 ≤ out }
+        requires out_to { out ≤ length block.now.outputs }
+        requires parts_from { 1 ≤ parts }
+        requires parts_to { parts ≤ 256 }
+        ensures bound { IfSome result (λ n. IfSome (output_at block.now out)
+            (λ x. IsTightBound block.now self.now.bytes.0.items out x parts n)) }
+        ensures loud { IfNone result (Holds block.now self.now.bytes.0.items out (record { rule = 0; k = 0 }) → ⊥) }
+        ensures unsure { IfNone result (IfSome (output_at block.now out)
+            (λ x. IsSure block.now self.now.bytes.0.items out x → ⊥)) }
+    {
         let output = &block.outputs.as_slice()[out as usize - 1];
         match self.silent_fault(block, out) {
             None => Some(silent_bound(output)),
-            Some(_) => {
-                let masses = self.masses_by_term(block, out);
-                masses.bound(output, parts)
-            }
+            Some(_) => masses.bound(output, parts),
         }
     }
 
-    /// How far the masses of an output's terms reach.
-    fn masses_by_term(&self, block: &Block, out: u8) -> Masses
+    /// How far the masses of an output's terms reach over the table's box.
+    pub fn masses(&self, block: &Block, out: u8) -> Masses
         requires table { IsTable block.now self.now }
         requires block { IsValid block.now }
-        ensures { AreMasses block.now self.now.bytes.0.items out result }
+        ensures masses { AreMasses block.now self.now.bytes.0.items out result }
+        ensures ordered { (t : ℕ) → t < 15 → slice_index result.lows t ≤ slice_index result.highs t }
     {
         let mut lows = [0; 15];
+        let mut highs = [0; 15];
         let mut byte_lows = [0; 15];
         let mut byte_highs = [0; 15];
         let mut errors = [0; 15];
@@ -79,12 +104,14 @@ impl BoxTable<'_> {
         for n in (0..rules.len()).rev() {
             let rule = self.mass_of_rule(block, n);
             raise_terms(&mut lows, &rules[n], out, rule.low);
+            raise_terms(&mut highs, &rules[n], out, rule.high);
             raise_terms(&mut byte_lows, &rules[n], out, rule.byte_low);
             raise_terms(&mut byte_highs, &rules[n], out, rule.byte_high);
             raise_terms(&mut errors, &rules[n], out, rule.error);
         }
         Masses {
             lows,
+            highs,
             byte_lows,
             byte_highs,
             errors,
@@ -103,7 +130,8 @@ impl BoxTable<'_> {
         let high = self.end_of_rule(block, place, true);
         let error = self.error_of_rule(block, place);
         RuleMass {
-            low: sure_part(low),
+            low: low_part(low),
+            high: high_part(high),
             byte_low: u64::from(low.byte),
             byte_high: u64::from(high.byte),
             error: moving_error(high, error),
@@ -112,12 +140,22 @@ impl BoxTable<'_> {
 }
 
 /// A truth in parts of 255 * 10^9, rounded down.
-fn sure_part(low: End) -> u64
+fn low_part(low: End) -> u64
     requires { IsRatio 10000000000000000 low.truth }
     ensures value { result ≡ 255000000000 * (value_of low.truth).num / (value_of low.truth).den }
     ensures small { result ≤ 255000000000 }
 {
     (255_000_000_000 * u128::from(low.truth.num) / u128::from(low.truth.den)) as u64
+}
+
+/// The same, rounded up.
+fn high_part(high: End) -> u64
+    requires { IsRatio 10000000000000000 high.truth }
+    ensures value { result ≡ up_div (255000000000 * (value_of high.truth).num) (value_of high.truth).den }
+    ensures small { result ≤ 255000000000 }
+{
+    let den = u128::from(high.truth.den);
+    ((255_000_000_000 * u128::from(high.truth.num) + (den - 1)) / den) as u64
 }
 
 /// The error of a rule that reaches so far up, or 0 where that is nowhere.

@@ -1,6 +1,7 @@
 //! What a box's tight Bound says of the answers there, and of other Bounds.
 ghost use Rattle.error_bound.specs.TightLaws.{TightAnswersAreNear, TightBoundsAreOne, TightBoundsAreLeast};
-ghost use Rattle.error_bound.specs.TightLaws.{TightBoundsFallInside, TightBoundsFallWithParts};
+ghost use Rattle.error_bound.specs.TightLaws.{TightBoundsFallInside, TightBoundsHoldInside, TightBoundsFallWithParts};
+ghost use Rattle.error_bound.specs.MassRanges.{AnswersToMassesAreNear};
 
 use byte_scaling::nearest_is_byte;
 use fuzzy_meaning::numbers_have_their_degrees;
@@ -29,7 +30,20 @@ pub fn tight_bounds_fall_inside()
     ensures { TightBoundsFallInside }
 {}
 
+/// And where the box has one, the inner box has one.
+pub fn tight_bounds_hold_inside()
+    ensures { TightBoundsHoldInside }
+{}
+
 /// Nor is it for answers in more parts to a byte.
 pub fn tight_bounds_fall_with_parts()
     ensures { TightBoundsFallWithParts }
 {}
+
+/// An answer is within of the exact answer what covers all masses that a box's terms may have.
+pub fn answers_to_masses_are_near()
+    ensures { AnswersToMassesAreNear }
+{
+    numbers_have_their_degrees();
+    nearest_is_byte();
+}

@@ -1,14 +1,19 @@
 use Rattle.std.proofs.Common.{◌∙◌, ap, sym, subst, arith, ◌≤◌}
 use Rattle.std.specs.Prelude.{if◌then◌else◌}
 use Rattle.fz_list.proofs.Algebra.{some_at}
-use Rattle.error_bound.proofs.MassLemmas.{still-same, sure_part-end, chosen_small}
+use Rattle.error_bound.proofs.MassLemmas.{still-same, low_part-end, high_part-end, chosen_small}
 use Rattle.error_bound.specs.Tight.{is_still}
 use Rattle.error_bound.proofs.rules.BoxTable.mass_of_rule.Goals as goal
 
-pub sure_part-requires : goal.sure_part-requires
-sure_part-requires c =
+pub low_part-requires : goal.low_part-requires
+low_part-requires c =
     let r = some_at c.args.block.now.rules c.args.place c.requires.place in
     (c.end_of_rule-low.ensures r.0 r.1).small
+
+pub high_part-requires : goal.high_part-requires
+high_part-requires c =
+    let r = some_at c.args.block.now.rules c.args.place c.requires.place in
+    (c.end_of_rule-high.ensures r.0 r.1).small
 
 pub returns : goal.returns
 returns c r found =
@@ -20,11 +25,13 @@ returns c r found =
     let moving = c.moving_error.ensures
     ∙ ap (λ t. if t then 0 else c.error_of_rule-error.result) (still-same b box r c.end_of_rule-high.result high) in
     record {
-      low = c.sure_part.ensures.value ∙ sure_part-end b box r c.end_of_rule-low.result low;
+      low = c.low_part.ensures.value ∙ low_part-end b box r c.end_of_rule-low.result low;
+      high = c.high_part.ensures.value ∙ high_part-end b box r c.end_of_rule-high.result high;
       byte_low = c.from.ensures ∙ low.byte;
       byte_high = c.from-2.ensures ∙ high.byte;
       error = moving ∙ ap (λ n. if is_still b box r then 0 else n) error.value;
-      low_small = c.sure_part.ensures.small;
+      low_small = c.low_part.ensures.small;
+      high_small = c.high_part.ensures.small;
       byte_low_small = omega (arith, c.from.ensures);
       byte_high_small = omega (arith, c.from-2.ensures);
       error_small = subst (λ n. n ≤ 3000000000) (sym moving) (chosen_small (is_still b box r) error.small);

@@ -1,0 +1,5 @@
+pub mod CellAnswers
+pub mod RangeLemmas
+pub mod OneError
+pub mod BoxesOfCells
+pub mod CellLemmas

@@ -1,0 +1,5 @@
+use Rattle.cell_bounds.proofs.BoxesOfCells.{bounds_one}
+use Rattle.cell_bounds.proofs.laws.cells_bounds_are_one.Goals as goal
+
+pub returns : goal.returns
+returns c = bounds_one

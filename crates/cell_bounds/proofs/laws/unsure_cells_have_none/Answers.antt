@@ -1,0 +1,5 @@
+use Rattle.cell_bounds.proofs.OneError.{unsure_none}
+use Rattle.cell_bounds.proofs.laws.unsure_cells_have_none.Goals as goal
+
+pub returns : goal.returns
+returns c = unsure_none

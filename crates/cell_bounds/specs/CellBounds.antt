@@ -1,0 +1,97 @@
+-- The Bound of a cell, and of a leaf of cells.
+use Rattle.std.specs.Prelude.{◌≡◌, ℕ, ◌+◌, ◌-◌, ◌*◌, ◌<◌, ◌≤◌, ◌⊎◌, List, [], ◌∷◌, IfSome}
+use Rattle.fz_num.specs.declared.dec.Dec.{Dec}
+use Rattle.fz_num.specs.Fracs.{Quotient}
+use Rattle.fuzzy_meaning.specs.declared.block.Block.{Block}
+use Rattle.fuzzy_meaning.specs.declared.block.Output.{Output}
+use Rattle.fuzzy_meaning.specs.Blocks.{output_at}
+use Rattle.fuzzy_meaning.specs.Meaning.{answer_after}
+use Rattle.byte_scaling.specs.Cells.{value_in}
+use Rattle.point_slope.specs.Bytes.{answer_in}
+use Rattle.error_bound.specs.declared.boxes.Interval.{Interval}
+use Rattle.error_bound.specs.Boxes.{LieIn}
+use Rattle.error_bound.specs.Laws.{IsInside}
+use Rattle.error_bound.specs.MassRanges.{AreOverBox}
+use Rattle.error_bound.specs.Tight.{IsTightBound}
+use Rattle.error_bound.specs.TightLaws.{IsAnsweredWithin}
+use Rattle.cell_bounds.specs.Cells.{cell_of, IsErrorOnCell}
+
+-- n is the tight Bound of the cell, or its error
+pub data HasCellBound (b : Block) (cell : List Interval) (o : ℕ) (x : Output) (h n : ℕ) : Type 0 where
+  of_tight : IsTightBound b cell o x h n → HasCellBound b cell o x h n
+  of_error : IsErrorOnCell b cell o x h n → HasCellBound b cell o x h n
+
+-- n is the less of the two
+pub record IsCellBound (b : Block) (cell : List Interval) (o : ℕ) (x : Output) (h n : ℕ) : Type 0 where
+  pub bound : HasCellBound b cell o x h n
+  pub least : (m : ℕ) → HasCellBound b cell o x h m → n ≤ m
+
+-- where there is neither it counts as 1000001
+pub data IsCellCount (b : Block) (cell : List Interval) (o : ℕ) (x : Output) (h n : ℕ) : Type 0 where
+  of_bound : IsCellBound b cell o x h n → IsCellCount b cell o x h n
+  of_none : ((m : ℕ) → HasCellBound b cell o x h m → ⊥) → n ≡ 1000001 → IsCellCount b cell o x h n
+
+-- ---- of a box of cells
+
+-- each cell has a Bound of at most n
+abbrev pub IsCellWithin : Block → List ℕ → ℕ → Output → ℕ → ℕ → Type 0
+IsCellWithin b bytes o x h n = (m : ℕ) × HasCellBound b (cell_of bytes) o x h m × (m ≤ n)
+
+abbrev pub CellsAreWithin : Block → List Interval → ℕ → Output → ℕ → ℕ → Type 0
+CellsAreWithin b box o x h n = (bytes : List ℕ) → LieIn box bytes → IsCellWithin b bytes o x h n
+
+-- n is the greatest of its cells' Bounds: the least number that none of them is above
+pub record IsCellsBound (b : Block) (box : List Interval) (o : ℕ) (x : Output) (h n : ℕ) : Type 0 where
+  pub within : CellsAreWithin b box o x h n
+  pub least : (m : ℕ) → CellsAreWithin b box o x h m → n ≤ m
+
+-- the first input's byte rises slowest
+abbrev pub IsBefore : List ℕ → List ℕ → Type 0
+IsBefore [] ns = ⊥
+IsBefore (m ∷ ms) [] = ⊥
+IsBefore (m ∷ ms) (n ∷ ns) = (m < n) ⊎ ((m ≡ n) × IsBefore ms ns)
+
+-- of the outputs from number p to q, the cell of these bytes is the first in the box where one is above a limit, o is
+-- the first that is, and n is its count there
+pub record IsFirstCellAbove (b : Block) (h limit p q : ℕ) (box : List Interval) (bytes : List ℕ) (o n : ℕ) : Type 0
+  where
+    pub inside : LieIn box bytes
+    pub from : p ≤ o
+    pub to : o ≤ q
+    pub count : IfSome (output_at b o) (λ x. IsCellCount b (cell_of bytes) o x h n)
+    pub above : limit < n
+    pub outputs_before : (j : ℕ) → p ≤ j → j < o → IfSome (output_at b j) (λ x. IsCellWithin b bytes j x h limit)
+    pub cells_before : (ms : List ℕ) → LieIn box ms → IsBefore ms bytes → (j : ℕ) → p ≤ j → j ≤ q
+        → IfSome (output_at b j) (λ x. IsCellWithin b ms j x h limit)
+
+-- how many cells a box has
+abbrev pub cell_count : List Interval → ℕ
+cell_count [] = 1
+cell_count (v ∷ vs) = (v.to - v.from + 1) * cell_count vs
+
+-- ---- laws
+
+-- each answer over the box is within n
+abbrev pub BoxesOfCellsAnswer : Type 0
+BoxesOfCellsAnswer =
+    (b : Block) (box : List Interval) (o : ℕ) (x : Output) (h : ℕ) (bytes : List ℕ) (xs : List Dec) (n q : ℕ)
+    (before : Quotient) → AreOverBox b box o x h bytes xs → CellsAreWithin b box o x h n
+    → IsAnsweredWithin x n q (answer_in h b o bytes q) (value_in h x (answer_in h b o bytes q)) before
+    (answer_after b o before xs)
+
+-- a cell has one count, and a box one greatest Bound
+abbrev pub CellCountsAreOne : Type 0
+CellCountsAreOne =
+    (b : Block) (cell : List Interval) (o : ℕ) (x : Output) (h n m : ℕ) → IsCellCount b cell o x h n
+    → IsCellCount b cell o x h m → n ≡ m
+
+abbrev pub CellsBoundsAreOne : Type 0
+CellsBoundsAreOne =
+    (b : Block) (box : List Interval) (o : ℕ) (x : Output) (h n m : ℕ) → IsCellsBound b box o x h n
+    → IsCellsBound b box o x h m → n ≡ m
+
+-- on a part of a box it is no greater
+abbrev pub CellsBoundsFallInside : Type 0
+CellsBoundsFallInside =
+    (b : Block) (small box : List Interval) (o : ℕ) (x : Output) (h n m : ℕ) → IsInside small box
+    → IsCellsBound b small o x h n → IsCellsBound b box o x h m → n ≤ m

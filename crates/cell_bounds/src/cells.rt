@@ -1,0 +1,110 @@
+//! The error and the Bound of a cell.
+ghost use Rattle.std.specs.Prelude.{◌≡◌, ◌≤◌, ◌⊎◌, ℕ, length, IfSome, IfNone, Some, None};
+ghost use Rattle.fuzzy_meaning.specs.Blocks.{IsValid, output_at};
+ghost use Rattle.error_bound.specs.Reaches.{IsTable};
+ghost use Rattle.cell_bounds.specs.Cells.{IsCell, IsErrorOnCell, IsUnsure};
+ghost use Rattle.cell_bounds.specs.CellBounds.{HasCellBound, IsCellBound, IsCellCount};
+
+use crate::masses::cell_masses;
+use cell_error::covered_masses_have_errors;
+use error_bound::{BoxTable, tight_bounds_are_one};
+use fuzzy_meaning::Block;
+
+/// The error of a cell for an output, for answers in so many parts to a byte: how far its answer may be
+/// from the exact ones, in millionths of the output's range. With NC there is none where no mass is sure,
+/// or there is none over bytes.
+pub fn cell_error(block: &Block, table: &BoxTable, out: u8, parts: u16) -> Option<u32>
+    requires block { IsValid block.now }
+    requires table { IsTable block.now table.now }
+    requires cell { IsCell table.now.bytes.0.items }
+    requires out_from { 1 ≤ out }
+    requires out_to { out ≤ length block.now.outputs }
+    requires parts_from { 1 ≤ parts }
+    requires parts_to { parts ≤ 256 }
+    ensures error { IfSome result (λ n. IfSome (output_at block.now out)
+        (λ x. IsErrorOnCell block.now table.now.bytes.0.items out x parts n)) }
+    ensures none { IfNone result
+        (IfSome (output_at block.now out) (IsUnsure block.now table.now.bytes.0.items out)) }
+{
+    match cell_masses(block, table, out, parts, &table.masses(block, out)) {
+        Some(masses) => Some(masses.error()),
+        None => None,
+    }
+}
+
+/// The Bound of a cell for an output, for answers in so many parts to a byte: the less of its tight Bound and
+/// its error, or `None` exactly where it has neither.
+pub fn cell_bound(block: &Block, table: &BoxTable, out: u8, parts: u16) -> Option<u32>
+    requires block { IsValid block.now }
+    requires table { IsTable block.now table.now }
+    requires cell { IsCell table.now.bytes.0.items }
+    requires out_from { 1 ≤ out }
+    requires out_to { out ≤ length block.now.outputs }
+    requires parts_from { 1 ≤ parts }
+    requires parts_to { parts ≤ 256 }
+    ensures bound { IfSome result (λ n. IfSome (output_at block.now out)
+        (λ x. IsCellBound block.now table.now.bytes.0.items out x parts n)) }
+    ensures none { IfNone result (IfSome (output_at block.now out)
+        (λ x. (n : ℕ) → HasCellBound block.now table.now.bytes.0.items out x parts n → ⊥)) }
+{
+    tight_bounds_are_one();
+    let tight = table.tight_bound(block, out, parts);
+    let error = cell_error(block, table, out, parts);
+    less(tight, error)
+}
+
+/// How the Bound of a cell for an output counts, or `None` where it is at most a number of millionths. That is
+/// asked first, without a division.
+pub(crate) fn count_above(
+    block: &Block,
+    table: &BoxTable,
+    out: u8,
+    parts: u16,
+    so_far: u32,
+) -> Option<u32>
+    requires block { IsValid block.now }
+    requires table { IsTable block.now table.now }
+    requires cell { IsCell table.now.bytes.0.items }
+    requires out_from { 1 ≤ out }
+    requires out_to { out ≤ length block.now.outputs }
+    requires parts_from { 1 ≤ parts }
+    requires parts_to { parts ≤ 256 }
+    requires so_far { so_far ≤ 1000000 }
+    ensures count { IfSome result (λ n. IfSome (output_at block.now out)
+        (λ x. IsCellCount block.now table.now.bytes.0.items out x parts n)) }
+    ensures within { IfNone result (IfSome (output_at block.now out)
+        (λ x. (m : ℕ) × HasCellBound block.now table.now.bytes.0.items out x parts m × (m ≤ so_far))) }
+{
+    covered_masses_have_errors();
+    let masses = table.masses(block, out);
+    if let Some(cell) = cell_masses(block, table, out, parts, &masses) {
+        if cell.are_served(so_far) {
+            return None;
+        }
+    }
+    if let Some(bound) = table.tight_bound_by(block, out, parts, &masses) {
+        if bound <= so_far {
+            return None;
+        }
+    }
+    match cell_bound(block, table, out, parts) {
+        Some(bound) => Some(bound),
+        None => Some(1_000_001),
+    }
+}
+
+/// The less of two numbers of which each may be missing.
+fn less(left: Option<u32>, right: Option<u32>) -> Option<u32>
+    ensures one { IfSome result (λ n. (left ≡ Some n) ⊎ (right ≡ Some n)) }
+    ensures left { IfSome result (λ n. IfSome left (λ x. n ≤ x)) }
+    ensures right { IfSome result (λ n. IfSome right (λ y. n ≤ y)) }
+    ensures no_left { IfNone result (left ≡ None) }
+    ensures no_right { IfNone result (right ≡ None) }
+{
+    match (left, right) {
+        (Some(x), Some(y)) => { if x <= y { Some(x) } else { Some(y) } }
+        (Some(x), None) => Some(x),
+        (None, Some(y)) => Some(y),
+        (None, None) => None,
+    }
+}

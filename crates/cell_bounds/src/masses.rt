@@ -1,0 +1,198 @@
+//! The masses that an output's terms may have on a cell, and the answer there.
+ghost use Rattle.std.specs.Prelude.{◌≡◌, ◌≤◌, ◌<◌, ◌+◌, ◌*◌, ◌↔◌, ℕ, All, IsTrue, length, take, slice_index};
+ghost use Rattle.std.specs.Prelude.{IfSome, IfNone, None};
+ghost use Rattle.fz_num.specs.Decimals.{distance};
+ghost use Rattle.cell_error.specs.Errors.{IsRange, IsCellError, Covers};
+ghost use Rattle.fuzzy_meaning.specs.Blocks.{IsValid, IsValidOutput, output_at};
+ghost use Rattle.error_bound.specs.Masses.{AreMasses};
+ghost use Rattle.error_bound.specs.MassRanges.{ranges_at, sure_mass as sure_mass_of, answer_at, rest_of};
+ghost use Rattle.error_bound.specs.Reaches.{IsTable};
+ghost use Rattle.cell_bounds.specs.Cells.{IsCell, IsUnsure, mass_sum, dot_sum, answer_by};
+ghost use Rattle.cell_bounds.specs.CellMasses.{AreFit, AreCellMasses, terms_of};
+
+use byte_scaling::near;
+use cell_error::{Answer, MassRange, least_error, serves};
+use error_bound::{BoxTable, Masses};
+use fuzzy_meaning::{Block, Output};
+
+/// What the masses of an output's terms lie between on a cell, how far above the low end what stands in for an
+/// answer is where there is no mass, and the answer over bytes.
+#[derive(Clone, Copy)]
+pub(crate) struct CellMasses {
+    pub(crate) ranges: [MassRange; 15],
+    /// How many terms the output has.
+    pub(crate) count: usize,
+    pub(crate) rest: u64,
+    pub(crate) answer: Answer,
+}
+
+impl CellMasses {
+    /// How far the answer may be from the exact ones.
+    pub(crate) fn error(&self) -> u32
+        requires { AreFit self.now }
+        ensures { IsCellError self.now.answer (terms_of self.now) self.now.rest result }
+    {
+        least_error(&self.ranges[..self.count], self.rest, self.answer)
+    }
+
+    /// Whether an error serves for all masses.
+    pub(crate) fn are_served(&self, error: u32) -> bool
+        requires fit { AreFit self.now }
+        requires error { error ≤ 1000000 }
+        ensures { IsTrue result ↔ Covers self.now.answer (terms_of self.now) self.now.rest error }
+    {
+        serves(&self.ranges[..self.count], self.rest, self.answer, error)
+    }
+}
+
+/// Those of an output on a table's cell. With NC there are none where no mass is sure, or there is none over
+/// bytes.
+pub(crate) fn cell_masses(
+    block: &Block,
+    table: &BoxTable,
+    out: u8,
+    parts: u16,
+    masses: &Masses,
+) -> Option<CellMasses>
+    requires block { IsValid block.now }
+    requires table { IsTable block.now table.now }
+    requires cell { IsCell table.now.bytes.0.items }
+    requires out_from { 1 ≤ out }
+    requires out_to { out ≤ length block.now.outputs }
+    requires parts_from { 1 ≤ parts }
+    requires parts_to { parts ≤ 256 }
+    requires masses { AreMasses block.now table.now.bytes.0.items out masses.now }
+    requires ordered { (t : ℕ) → t < 15 → slice_index masses.now.lows t ≤ slice_index masses.now.highs t }
+    ensures masses { IfSome result (λ c. IfSome (output_at block.now out)
+        (λ x. AreCellMasses block.now table.now.bytes.0.items out x parts c)) }
+    ensures fit { IfSome result AreFit }
+    ensures none { IfNone result
+        (IfSome (output_at block.now out) (IsUnsure block.now table.now.bytes.0.items out)) }
+{
+    let output = &block.outputs.as_slice()[out as usize - 1];
+    let ranges = ranges_of(output, &masses.lows, &masses.highs);
+    match answer(output, &masses.byte_highs, parts) {
+        Some(value) => with_rest(output, ranges, parts, value),
+        None => None,
+    }
+}
+
+/// What the masses of an output's terms lie between, of their lower and their upper ends.
+fn ranges_of(output: &Output, lows: &[u64; 15], highs: &[u64; 15]) -> [MassRange; 15]
+    requires { IsValidOutput output.now }
+    ensures { take (length output.now.singletons) result
+        ≡ ranges_at (slice_index lows.now) (slice_index highs.now) output.now.lo 0 output.now.singletons }
+{
+    let mut ranges = [MassRange {
+        at: 0,
+        low: 0,
+        high: 0,
+    }; 15];
+    let singletons = output.singletons.as_slice();
+    for k in (0..singletons.len()).rev() {
+        ranges[k] = MassRange {
+            at: singletons[k].above(output.lo),
+            low: lows[k],
+            high: highs[k],
+        };
+    }
+    ranges
+}
+
+/// The answer by the masses over bytes. With NC there is none where they all are 0.
+fn answer(output: &Output, masses: &[u64; 15], parts: u16) -> Option<u64>
+    requires output { IsValidOutput output.now }
+    requires masses { (k : ℕ) → k < 15 → slice_index masses.now k ≤ 255 }
+    requires parts_from { 1 ≤ parts }
+    requires parts_to { parts ≤ 256 }
+    ensures some { IfSome result (λ q. (before : ℕ) → answer_by (slice_index masses.now) parts output.now before ≡ q) }
+    ensures small { IfSome result (λ q. q ≤ 255 * parts) }
+    ensures nc { IfNone result (output.now.default ≡ None) }
+    ensures none { IfNone result (mass_sum (slice_index masses.now) 0 output.now.singletons ≡ 0) }
+{
+    let (mass, dot) = byte_sums(output, masses);
+    if mass > 0 {
+        Some(u64::from(parts) * dot / mass)
+    } else {
+        match output.default {
+            Some(number) => Some(u64::from(parts) * u64::from(near(output, number))),
+            None => None,
+        }
+    }
+}
+
+/// The sum of the masses, and of the singletons' bytes by them.
+fn byte_sums(output: &Output, masses: &[u64; 15]) -> (u64, u64)
+    requires output { IsValidOutput output.now }
+    requires masses { (k : ℕ) → k < 15 → slice_index masses.now k ≤ 255 }
+    ensures mass { result.0 ≡ mass_sum (slice_index masses.now) 0 output.now.singletons }
+    ensures dot { result.1 ≡ dot_sum (slice_index masses.now) output.now 0 output.now.singletons }
+    ensures within { result.1 ≤ 255 * result.0 }
+    ensures small { result.0 ≤ 3825 }
+{
+    let singletons = output.singletons.as_slice();
+    let mut mass = 0;
+    let mut dot = 0;
+    for k in (0..singletons.len()).rev() {
+        mass = masses[k] + mass;
+        dot = u64::from(near(output, singletons[k])) * masses[k] + dot;
+    }
+    (mass, dot)
+}
+
+/// The masses with what stands in for an answer: the DEFAULT, and with NC nothing, where some mass is sure.
+fn with_rest(output: &Output, ranges: [MassRange; 15], parts: u16, value: u64) -> Option<CellMasses>
+    requires output { IsValidOutput output.now }
+    requires terms { All (IsRange (distance output.now.lo output.now.hi)) (take (length output.now.singletons) ranges) }
+    requires parts_from { 1 ≤ parts }
+    requires parts_to { parts ≤ 256 }
+    requires value { value ≤ 255 * parts }
+    ensures answer { IfSome result (λ c. c.answer ≡ answer_at parts output.now value) }
+    ensures terms { IfSome result (λ c. terms_of c ≡ take (length output.now.singletons) ranges) }
+    ensures rest { IfSome result (λ c. c.rest ≡ rest_of output.now) }
+    ensures fit { IfSome result AreFit }
+    ensures sure { IfSome result (λ c. output.now.default ≡ None
+        → 0 < sure_mass_of (take (length output.now.singletons) ranges)) }
+    ensures nc { IfNone result (output.now.default ≡ None) }
+    ensures none { IfNone result (sure_mass_of (take (length output.now.singletons) ranges) ≡ 0) }
+{
+    let count = output.singletons.len();
+    let answer = Answer {
+        value,
+        parts: 255 * u64::from(parts),
+        width: output.hi.above(output.lo),
+    };
+    match output.default {
+        Some(number) => Some(CellMasses {
+            ranges,
+            count,
+            rest: number.above(output.lo),
+            answer,
+        }),
+        None => {
+            if sure_mass(&ranges[..count], output) > 0 {
+                Some(CellMasses {
+                    ranges,
+                    count,
+                    rest: 0,
+                    answer,
+                })
+            } else {
+                None
+            }
+        }
+    }
+}
+
+/// The sum of the lows.
+fn sure_mass(terms: &[MassRange], output: &Output) -> u64
+    requires terms { All (IsRange (distance output.now.lo output.now.hi)) terms.now }
+    requires count { length terms.now ≤ 15 }
+    ensures { result ≡ sure_mass_of terms.now }
+{
+    let mut sum = 0;
+    for k in (0..terms.len()).rev() {
+        sum = terms[k].low + sum;
+    }
+    sum
+}

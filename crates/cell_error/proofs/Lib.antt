@@ -1,0 +1,5 @@
+pub mod Tilts
+pub mod Extremes
+pub mod Withins
+pub mod Covering
+pub mod Existence

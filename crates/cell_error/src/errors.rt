@@ -1,0 +1,193 @@
+//! The least error that serves for all masses.
+ghost use Rattle.std.specs.Prelude.{◌≡◌, ◌≤◌, ◌<◌, ◌*◌, ◌↔◌, ℕ, All, length, IsTrue};
+ghost use Rattle.fz_num.specs.Fractions.{over};
+ghost use Rattle.cell_error.specs.Errors.{IsAnswer, IsRange, weighted, total, answer_of, IsWithin, Covers, IsCellError};
+ghost use Rattle.cell_error.specs.Errors.{CoveredMassesHaveErrors};
+ghost use Rattle.cell_error.specs.Cuts.{is_high, masses, IsErrorAt, IsSmall};
+ghost use Rattle.cell_error.specs.declared.errors.Cut.TheVariants.{Nowhere, AtLeast, AtMost};
+
+use crate::ranges::{Answer, MassRange};
+
+/// Which masses are high: none, those from a singleton on, those up to it, or those of the singletons whose
+/// product with the first number is at least the second, or at most.
+#[derive(Clone, Copy, Debug)]
+enum Cut {
+    Nowhere,
+    From(u64),
+    UpTo(u64),
+    AtLeast(u128, u128),
+    AtMost(u128, u128),
+}
+
+/// The least number of millionths of the range that the answer is within of the answer to any
+/// masses between those given. Where there is no mass, `rest` is the answer to them.
+pub fn least_error(terms: &[MassRange], rest: u64, answer: Answer) -> u32
+    requires answer { IsAnswer answer }
+    requires terms { All (IsRange answer.width) terms.now }
+    requires count { length terms.now ≤ 15 }
+    requires rest { rest ≤ answer.width }
+    ensures error { IsCellError answer terms.now rest result }
+    ensures small { result ≤ 1000000 }
+{
+    let mut error = error_at(terms, rest, answer, Cut::Nowhere);
+    for t in terms {
+        let above = error_at(terms, rest, answer, Cut::From(t.at));
+        let below = error_at(terms, rest, answer, Cut::UpTo(t.at));
+        error = error.max(above).max(below);
+    }
+    error
+}
+
+/// Whether an error serves for all masses, which takes three passes and no division.
+pub fn serves(terms: &[MassRange], rest: u64, answer: Answer, error: u32) -> bool
+    requires answer { IsAnswer answer }
+    requires terms { All (IsRange answer.width) terms.now }
+    requires count { length terms.now ≤ 15 }
+    requires rest { rest ≤ answer.width }
+    requires error { error ≤ 1000000 }
+    ensures { IsTrue result ↔ Covers answer terms.now rest error }
+{
+    let step = u128::from(answer.parts) * 1_000_000;
+    let here = u128::from(answer.value) * 1_000_000;
+    let far = u128::from(error) * u128::from(answer.parts);
+    let width = u128::from(answer.width);
+    let top = (here + far) * width;
+    let bottom = here.saturating_sub(far) * width;
+    let up = is_up(terms, step, top, answer.width);
+    let down = is_down(terms, step, bottom, answer.width);
+    let rests = rest_serves(terms, rest, step, top, bottom, answer.width);
+    are_all(up, down, rests)
+}
+
+/// Where an error serves for all masses there is a least one, which is no greater.
+pub fn covered_masses_have_errors()
+    ensures { CoveredMassesHaveErrors }
+{}
+
+fn are_all(up: bool, down: bool, rests: bool) -> bool
+    ensures all { IsTrue result → IsTrue up × IsTrue down × IsTrue rests }
+    ensures only { IsTrue up → IsTrue down → IsTrue rests → IsTrue result }
+{
+    up && down && rests
+}
+
+/// Whether no masses give more than top/step.
+fn is_up(terms: &[MassRange], step: u128, top: u128, width: u64) -> bool
+    requires step { step ≤ 65280000000 }
+    requires top { top ≤ 300000000000000000000 }
+    requires width { width ≤ 2000010000 }
+    requires terms { All (IsRange width) terms.now }
+    requires count { length terms.now ≤ 15 }
+    ensures { IsTrue result ↔ (step * weighted terms.now (masses (AtLeast step top) terms.now)
+        ≤ top * total (masses (AtLeast step top) terms.now)) }
+{
+    let (sum, mass) = sums(terms, Cut::AtLeast(step, top), width);
+    step * sum <= top * mass
+}
+
+/// Whether no masses give less than bottom/step.
+fn is_down(terms: &[MassRange], step: u128, bottom: u128, width: u64) -> bool
+    requires step { step ≤ 65280000000 }
+    requires bottom { bottom ≤ 300000000000000000000 }
+    requires width { width ≤ 2000010000 }
+    requires terms { All (IsRange width) terms.now }
+    requires count { length terms.now ≤ 15 }
+    ensures { IsTrue result ↔ (bottom * total (masses (AtMost step bottom) terms.now)
+        ≤ step * weighted terms.now (masses (AtMost step bottom) terms.now)) }
+{
+    let (sum, mass) = sums(terms, Cut::AtMost(step, bottom), width);
+    bottom * mass <= step * sum
+}
+
+/// Whether, where there may be no mass, what stands in for it is between.
+fn rest_serves(
+    terms: &[MassRange],
+    rest: u64,
+    step: u128,
+    top: u128,
+    bottom: u128,
+    width: u64,
+) -> bool
+    requires step { step ≤ 65280000000 }
+    requires width { width ≤ 2000010000 }
+    requires terms { All (IsRange width) terms.now }
+    requires count { length terms.now ≤ 15 }
+    requires rest { rest ≤ width }
+    ensures { IsTrue result ↔ (total (masses Nowhere terms.now) ≡ 0 → (step * rest ≤ top) × (bottom ≤ step * rest)) }
+{
+    let (_, mass) = sums(terms, Cut::Nowhere, width);
+    if mass > 0 {
+        return true;
+    }
+    let there = step * u128::from(rest);
+    there <= top && bottom <= there
+}
+
+/// How far the answer is from that to the masses of a cut, rounded up.
+fn error_at(terms: &[MassRange], rest: u64, answer: Answer, cut: Cut) -> u32
+    requires cut { IsSmall cut }
+    requires answer { IsAnswer answer }
+    requires terms { All (IsRange answer.width) terms.now }
+    requires count { length terms.now ≤ 15 }
+    requires rest { rest ≤ answer.width }
+    ensures error { IsErrorAt answer (answer_of terms.now rest (masses cut terms.now)) result }
+    ensures small { result ≤ 1000000 }
+{
+    let (sum, mass) = sums(terms, cut, answer.width);
+    if mass == 0 {
+        apart(answer, u128::from(rest), 1)
+    } else {
+        apart(answer, sum, mass)
+    }
+}
+
+/// The singletons by the masses of a cut, and the sum of the masses.
+fn sums(terms: &[MassRange], cut: Cut, width: u64) -> (u128, u128)
+    requires cut { IsSmall cut }
+    requires width { width ≤ 2000010000 }
+    requires terms { All (IsRange width) terms.now }
+    requires count { length terms.now ≤ 15 }
+    ensures sum { result.0 ≡ weighted terms.now (masses cut terms.now) }
+    ensures mass { result.1 ≡ total (masses cut terms.now) }
+    ensures within { result.0 ≤ width * result.1 }
+    ensures small { result.1 ≤ 15 * 255000000000 }
+{
+    let mut sum = 0;
+    let mut mass = 0;
+    for k in (0..terms.len()).rev() {
+        let t = terms[k];
+        let m = if is_high(cut, t.at) { t.high } else { t.low };
+        sum = u128::from(t.at) * u128::from(m) + sum;
+        mass = u128::from(m) + mass;
+    }
+    (sum, mass)
+}
+
+fn is_high(cut: Cut, at: u64) -> bool
+    requires cut { IsSmall cut }
+    requires at { at ≤ 2000010000 }
+    ensures { result ≡ is_high cut at }
+{
+    match cut {
+        Cut::Nowhere => false,
+        Cut::From(c) => c <= at,
+        Cut::UpTo(c) => at <= c,
+        Cut::AtLeast(x, y) => y <= x * u128::from(at),
+        Cut::AtMost(x, y) => x * u128::from(at) <= y,
+    }
+}
+
+/// |value/parts of the range - sum/mass| in millionths of the range, rounded up.
+fn apart(answer: Answer, sum: u128, mass: u128) -> u32
+    requires answer { IsAnswer answer }
+    requires mass_from { 0 < mass }
+    requires mass_to { mass ≤ 15 * 255000000000 }
+    requires sum { sum ≤ answer.width * mass }
+    ensures error { IsErrorAt answer (over sum mass) result }
+    ensures small { result ≤ 1000000 }
+{
+    let here = u128::from(answer.value) * u128::from(answer.width) * mass;
+    let there = u128::from(answer.parts) * sum;
+    let whole = u128::from(answer.parts) * u128::from(answer.width) * mass;
+    ((here.abs_diff(there) * 1_000_000 + (whole - 1)) / whole) as u32
+}

@@ -1,0 +1,98 @@
+use Rattle.std.proofs.Common.{◌≡◌, suc, ◌+◌, ◌-◌, ◌<◌, ◌∷◌, length, drop, get_or, Some, refl, sym, ap}
+use Rattle.std.proofs.Common.{ap₂, ◌∙◌, subst, arith}
+use Rattle.std.specs.Prelude.{slice_get}
+use Rattle.std.proofs.Math.Seq.{drop-cons}
+use Rattle.std.proofs.lemmas.Option.{slice_get_read}
+use Rattle.fuzzy_meaning.specs.declared.block.Rule.{Rule}
+use Rattle.error_bound.specs.Boxes.{rule_byte_span}
+use Rattle.error_bound.specs.CellErrors.{term_errors}
+use Rattle.error_bound.specs.Tight.{low_part, high_part, moving_error}
+use Rattle.error_bound.proofs.MassEnds.{ends_ordered}
+use Rattle.error_bound.proofs.MassLemmas.{AreGreatest-raised}
+use Rattle.error_bound.proofs.rules.BoxTable.masses.Goals as goal
+
+pub loop-n-preserved : goal.loop-n-preserved
+loop-n-preserved c =
+    let b = c.args.block.now in
+    let box = c.args.self.now.bytes.0.items in
+    let rules = c.as_slice-rules.result.now in
+    let o = c.args.out in
+    let j = c.loop-n.n - 1 in
+    let all : rules ≡ b.rules = c.as_slice-rules.ensures in
+    let some = c.loop-n-test.true in
+    let upto = c.loop-n.auto.n in
+    let within : j < length rules = omega arith in
+    let back : suc j ≡ c.loop-n.n = omega arith in
+    let before = c.loop-n.invariant in
+    let of_rule = c.mass_of_rule-rule.ensures in
+    let value = c.mass_of_rule-rule.result in
+    let here : (r : Rule) → r ≡ get_or rules j r → drop j rules ≡ r ∷ drop c.loop-n.n rules =
+    λ (r : Rule) (e : r ≡ get_or rules j r). drop-cons rules j r within
+    ∙ ap₂ (λ q n. q ∷ drop n rules) (sym e) back in
+    let found : (r : Rule) → r ≡ get_or rules j r → slice_get b.rules j ≡ Some r =
+    λ (r : Rule) (e : r ≡ get_or rules j r). subst (λ l. slice_get l j ≡ Some r) all
+    (slice_get_read rules (length rules) j r refl within e) in
+    let r0 = c.index-rules-n.result in
+    let r1 = c.index-rules-n-in-loop-n.result in
+    let r2 = c.index-rules-n-in-loop-n-2.result in
+    let r3 = c.index-rules-n-in-loop-n-3.result in
+    let r4 = c.index-rules-n-in-loop-n-4.result in
+    let e0 = c.index-rules-n.is in
+    let e1 = c.index-rules-n-in-loop-n.is in
+    let e2 = c.index-rules-n-in-loop-n-2.is in
+    let e3 = c.index-rules-n-in-loop-n-3.is in
+    let e4 = c.index-rules-n-in-loop-n-4.is in
+    let q0 = of_rule r0 (found r0 e0) in
+    let q1 = of_rule r1 (found r1 e1) in
+    let q2 = of_rule r2 (found r2 e2) in
+    let q3 = of_rule r3 (found r3 e3) in
+    let q4 = of_rule r4 (found r4 e4) in
+    let rest = drop c.loop-n.n rules in
+    record {
+      lows_count = c.raise_terms.array_long;
+      highs_count = c.raise_terms-in-loop-n.array_long;
+      byte_lows_count = c.raise_terms-in-loop-n-2.array_long;
+      byte_highs_count = c.raise_terms-in-loop-n-3.array_long;
+      errors_count = c.raise_terms-in-loop-n-4.array_long;
+      lows = AreGreatest-raised (low_part b box) 255000000000 o r0 rest (drop j rules) value.low c.loop-n.lows
+          c.raise_terms.new.errors (here r0 e0) q0.low q0.low_small before.lows c.raise_terms.ensures;
+      highs = AreGreatest-raised (high_part b box) 255000000000 o r1 rest (drop j rules) value.high c.loop-n.highs
+          c.raise_terms-in-loop-n.new.errors (here r1 e1) q1.high q1.high_small before.highs
+          c.raise_terms-in-loop-n.ensures;
+      byte_lows = AreGreatest-raised (λ r. (rule_byte_span b box r).low) 255 o r2 rest (drop j rules) value.byte_low
+          c.loop-n.byte_lows c.raise_terms-in-loop-n-2.new.errors (here r2 e2) q2.byte_low q2.byte_low_small
+          before.byte_lows c.raise_terms-in-loop-n-2.ensures;
+      byte_highs = AreGreatest-raised (λ r. (rule_byte_span b box r).high) 255 o r3 rest (drop j rules)
+          value.byte_high c.loop-n.byte_highs c.raise_terms-in-loop-n-3.new.errors (here r3 e3) q3.byte_high
+          q3.byte_high_small before.byte_highs c.raise_terms-in-loop-n-3.ensures;
+      errors = AreGreatest-raised (moving_error b box (term_errors b box)) 3000000000 o r4 rest (drop j rules)
+          value.error c.loop-n.errors c.raise_terms-in-loop-n-4.new.errors (here r4 e4) q4.error q4.error_small
+          before.errors c.raise_terms-in-loop-n-4.ensures;
+    }
+
+pub returns-clause-masses : goal.returns-clause-masses
+returns-clause-masses c =
+    let all = c.as_slice-rules.ensures in
+    let i = c.loop-n.invariant in
+    let none : c.loop-n.n ≡ 0 = omega (arith, c.loop-n-test.false) in
+    let whole : drop c.loop-n.n c.as_slice-rules.result.now ≡ c.args.block.now.rules =
+    ap (λ n. drop n c.as_slice-rules.result.now) none ∙ all in
+    record {
+      lows = rw whole at i.lows;
+      highs = rw whole at i.highs;
+      byte_lows = rw whole at i.byte_lows;
+      byte_highs = rw whole at i.byte_highs;
+      errors = rw whole at i.errors;
+    }
+
+pub returns-clause-ordered : goal.returns-clause-ordered
+returns-clause-ordered c = λ t few.
+    let b = c.args.block.now in
+    let box = c.args.self.now.bytes.0.items in
+    let rules = drop c.loop-n.n c.as_slice-rules.result.now in
+    let i = c.loop-n.invariant in
+    let table = c.requires.table.box_is in
+    let low = i.lows.each t few in
+    let high = i.highs.each t few in
+    let le = ends_ordered b box c.requires.block table.count table.intervals c.args.out (t + 1) rules in
+    omega arith
