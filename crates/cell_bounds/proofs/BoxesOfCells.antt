@@ -40,7 +40,7 @@ at (n ∷ ns) zero v e =
 at (n ∷ ns) (suc k) v e = let r = at ns k v e in
     record { byte = r.byte; byte_is = r.byte_is; from_is = r.from_is; to_is = r.to_is }
 
-long : (bytes : List ℕ) → length bytes ≡ length (cell_of bytes)
+pub long : (bytes : List ℕ) → length bytes ≡ length (cell_of bytes)
 long [] = refl
 long (n ∷ ns) = ap suc (long ns)
 

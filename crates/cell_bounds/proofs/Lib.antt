@@ -3,3 +3,4 @@ pub mod RangeLemmas
 pub mod OneError
 pub mod BoxesOfCells
 pub mod CellLemmas
+pub mod ClaimLemmas

@@ -1,3 +1,4 @@
 pub mod Cells
 pub mod CellMasses
 pub mod CellBounds
+pub mod Claims

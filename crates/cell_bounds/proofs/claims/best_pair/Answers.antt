@@ -1,0 +1,48 @@
+use Rattle.std.proofs.Common.{◌≤◌, arith}
+use Rattle.fuzzy_meaning.specs.declared.block.Output.{Output}
+use Rattle.fuzzy_meaning.specs.Blocks.{output_at}
+use Rattle.error_bound.specs.BestLeaves.{IsBestBound, of_leaf, of_none}
+use Rattle.error_bound.specs.Bounds.{IsBound}
+use Rattle.cell_bounds.specs.declared.claims.Claim.TheVariants.{Pair}
+use Rattle.cell_bounds.specs.Claims.{HasClaimBound}
+use Rattle.cell_bounds.proofs.ClaimLemmas.{each_some, each_more}
+use Rattle.cell_bounds.proofs.claims.best_pair.Goals as goal
+
+pub returns-in_default-clause-count : goal.returns-in_default-clause-count
+returns-in_default-clause-count c =
+    let b = c.args.block.now in
+    let box = c.args.table.now.bytes.0.items in
+    each_some (λ (x : Output). IsBestBound b box c.args.out x c.args.parts 1000001) (output_at b c.args.out)
+    (λ x. of_none c.in_default.ensures)
+
+pub unreachable-requires : goal.unreachable-requires
+unreachable-requires c =
+    let b = c.args.block.now in
+    let box = c.args.table.now.bytes.0.items in
+    let o = c.args.out in
+    let small : c.in-Some.leaf.k ≤ 255 = omega arith in
+    let holds = (c.best_leaves_hold.ensures b box o c.in-Some.leaf small c.in-Some.ensures).0 in
+    c.faulty_leaves_fail.ensures b box o c.in-Some.leaf c.in-Err.field-0 c.in-Err.ensures.fault holds
+
+pub returns-clause-count : goal.returns-clause-count
+returns-clause-count c =
+    let b = c.args.block.now in
+    let box = c.args.table.now.bytes.0.items in
+    let o = c.args.out in
+    let leaf = c.in-Some.leaf in
+    let n = c.in-Ok.bound in
+    each_more (λ (x : Output). IsBound b box o x c.args.parts leaf n)
+    (λ (x : Output). IsBestBound b box o x c.args.parts n) (output_at b o)
+    (λ x p. of_leaf leaf n c.in-Some.ensures p) c.in-Ok.ensures.bound
+
+pub returns-clause-bound : goal.returns-clause-bound
+returns-clause-bound c =
+    let b = c.args.block.now in
+    let box = c.args.table.now.bytes.0.items in
+    let o = c.args.out in
+    let leaf = c.in-Some.leaf in
+    let n = c.in-Ok.bound in
+    let holds = c.in-Ok.ensures.holds in
+    each_more (λ (x : Output). IsBound b box o x c.args.parts leaf n)
+    (λ (x : Output). HasClaimBound b box o x c.args.parts (Pair leaf) n) (output_at b o)
+    (λ x p. (holds, p)) c.in-Ok.ensures.bound

@@ -1,0 +1,153 @@
+//! What leaves of each sort say, the best of a box, and the laws that certificates and halving stand on.
+ghost use Rattle.std.specs.Prelude.{◌≤◌, length, IfSome};
+ghost use Rattle.std.specs.Option.{option_map_or};
+ghost use Rattle.fuzzy_meaning.specs.Blocks.{IsValid, output_at};
+ghost use Rattle.error_bound.specs.Reaches.{IsTable};
+ghost use Rattle.cell_bounds.specs.Claims.{HasClaimBound, IsOfKind, IsBoxCount};
+ghost use Rattle.cell_bounds.specs.Claims.{ClaimAnswersAreNear, ClaimBoundsAreOne, ClaimBoundsFallWithParts};
+ghost use Rattle.cell_bounds.specs.Claims.{TightClaimsAreLeast, CountsAreLeast, BoxCountsAreOne, CountsAreOne};
+
+use crate::laws::boxes_of_cells_answer;
+use error_bound::{
+    BoxTable, Leaf, answers_are_near, best_bounds_are_least, best_leaves_are_one, best_leaves_hold,
+    bounds_are_determined, bounds_fall_with_parts, faulty_leaves_fail, tight_answers_are_near,
+    tight_bounds_are_least, tight_bounds_are_one, tight_bounds_fall_with_parts,
+    tight_bounds_hold_inside,
+};
+use fuzzy_meaning::Block;
+
+/// What a leaf says of an output.
+#[derive(Clone, Copy, PartialEq, Eq, Debug)]
+pub enum Claim {
+    /// That a rule is strong, or that none fires.
+    Pair(Leaf),
+    /// Nothing: its Bound is the tight one.
+    Tight,
+    /// Nothing: its Bound is the greatest of its cells'.
+    Cells,
+}
+
+/// How the leaves of a certificate speak.
+#[derive(Clone, Copy, PartialEq, Eq, Debug)]
+pub enum LeafKind {
+    /// Each names a rule or silence for each output.
+    Named,
+    /// None names anything.
+    Tight,
+}
+
+/// The best claim of a kind, but one of cells, on a table's box for an output, with its Bound for answers in so
+/// many parts to a byte, or `None` where no such claim holds.
+pub fn best_claim(
+    block: &Block,
+    table: &BoxTable,
+    kind: LeafKind,
+    out: u8,
+    parts: u16,
+) -> Option<(Claim, u32)>
+    requires block { IsValid block.now }
+    requires table { IsTable block.now table.now }
+    requires out_from { 1 ≤ out }
+    requires out_to { out ≤ length block.now.outputs }
+    requires parts_from { 1 ≤ parts }
+    requires parts_to { parts ≤ 256 }
+    ensures of_kind { IfSome result (λ best. IsOfKind kind best.0) }
+    ensures bound { IfSome result (λ best. IfSome (output_at block.now out)
+        (λ x. HasClaimBound block.now table.now.bytes.0.items out x parts best.0 best.1)) }
+    ensures count { IfSome (output_at block.now out)
+        (λ x. IsBoxCount kind block.now table.now.bytes.0.items out x parts
+        (option_map_or (λ best. best.1) result 1000001)) }
+{
+    match kind {
+        LeafKind::Named => best_pair(block, table, out, parts),
+        LeafKind::Tight => match table.tight_bound(block, out, parts) {
+            Some(bound) => Some((Claim::Tight, bound)),
+            None => None,
+        },
+    }
+}
+
+/// The best pair.
+fn best_pair(block: &Block, table: &BoxTable, out: u8, parts: u16) -> Option<(Claim, u32)>
+    requires block { IsValid block.now }
+    requires table { IsTable block.now table.now }
+    requires out_from { 1 ≤ out }
+    requires out_to { out ≤ length block.now.outputs }
+    requires parts_from { 1 ≤ parts }
+    requires parts_to { parts ≤ 256 }
+    ensures of_kind { IfSome result (λ best. IsOfKind LeafKind.Named best.0) }
+    ensures bound { IfSome result (λ best. IfSome (output_at block.now out)
+        (λ x. HasClaimBound block.now table.now.bytes.0.items out x parts best.0 best.1)) }
+    ensures count { IfSome (output_at block.now out)
+        (λ x. IsBoxCount LeafKind.Named block.now table.now.bytes.0.items out x parts
+        (option_map_or (λ best. best.1) result 1000001)) }
+{
+    best_leaves_hold();
+    faulty_leaves_fail();
+    let Some(leaf) = table.best(block, out) else {
+        return None;
+    };
+    match table.bound(block, &leaf, out, parts) {
+        Ok(bound) => Some((Claim::Pair(leaf), bound)),
+        Err(_) => unreachable!(),
+    }
+}
+
+/// Where a claim holds, an answer over bytes is within its Bound of the exact answer, or both are
+/// those before.
+pub fn claim_answers_are_near()
+    ensures { ClaimAnswersAreNear }
+{
+    answers_are_near();
+    tight_answers_are_near();
+    boxes_of_cells_answer();
+}
+
+/// A claim has one Bound on a box.
+pub fn claim_bounds_are_one()
+    ensures { ClaimBoundsAreOne }
+{
+    bounds_are_determined();
+    tight_bounds_are_one();
+}
+
+/// It is no greater for answers in more parts to a byte, but where it names cells.
+pub fn claim_bounds_fall_with_parts()
+    ensures { ClaimBoundsFallWithParts }
+{
+    bounds_fall_with_parts();
+    tight_bounds_fall_with_parts();
+}
+
+/// Where a claim that is not of cells holds, the tight one does, and its Bound is no greater.
+pub fn tight_claims_are_least()
+    ensures { TightClaimsAreLeast }
+{
+    tight_bounds_are_least();
+}
+
+/// No claim on a box around a cell has a smaller Bound than the cell's count: of the named kind no pair, of the
+/// tight kind none at all.
+pub fn counts_are_least()
+    ensures { CountsAreLeast }
+{
+    best_bounds_are_least();
+    tight_bounds_are_least();
+    tight_bounds_hold_inside();
+}
+
+/// A box has one count of a kind.
+pub fn box_counts_are_one()
+    ensures { BoxCountsAreOne }
+{
+    best_leaves_are_one();
+    bounds_are_determined();
+    tight_bounds_are_one();
+}
+
+/// A cell has one count of a kind.
+pub fn counts_are_one()
+    ensures { CountsAreOne }
+{
+    box_counts_are_one();
+}
