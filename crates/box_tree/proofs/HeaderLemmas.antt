@@ -1,35 +1,62 @@
 -- The first two lines of a text.
-use Rattle.std.proofs.Common.{◌≡◌, ◌≢◌, ◌≤◌, ℕ, List, [], ◌∷◌, ◌++◌, sym, ◌∙◌, arith}
+use Rattle.std.proofs.Common.{◌≡◌, ◌≢◌, ◌≤◌, ℕ, List, [], ◌∷◌, ◌++◌, refl, sym, ◌∙◌, arith}
 use Rattle.std.specs.Prelude.{codes}
 use Rattle.std.proofs.lemmas.List.Elements.{All-cons, All-nil}
+use Rattle.box_tree.specs.declared.cert.CertKind.{CertKind}
+use Rattle.box_tree.specs.declared.cert.AnswerWidth.{AnswerWidth}
+use Rattle.box_tree.specs.declared.cert.CertKind.TheVariants.{Named, Tight}
+use Rattle.box_tree.specs.declared.cert.AnswerWidth.TheVariants.{Byte, Word}
 use Rattle.box_tree.specs.Certificates.{AreClaims}
-use Rattle.box_tree.specs.Texts.{line, version_line, claim_line}
+use Rattle.box_tree.specs.Texts.{line, version_of, version_line, claim_line}
 use Rattle.box_tree.proofs.LineLemmas.{IsSmall}
 use Rattle.box_tree.proofs.NodeLemmas.{AreSmall, NoLine, line_is_one}
 
-version_is_small : (version : ℕ) → version ≤ 2 → AreSmall (version ∷ [])
-version_is_small version small = let within : version ≤ 1000000 = omega arith in
-    All-cons IsSmall version [] within (All-nil IsSmall)
+few_versions : (k : CertKind) (v : AnswerWidth) → version_of k v ≤ 1000000
+few_versions Named Byte = omega arith
+few_versions Named Word = omega arith
+few_versions Tight Byte = omega arith
+few_versions Tight Word = omega arith
 
-pub no_version_line : (text : List ℕ) (version : ℕ) → version ≤ 2 → NoLine (codes "FZC") text → (rest : List ℕ)
-    → text ≢ version_line version ++ rest
-no_version_line text version small none rest same =
-    none (version ∷ []) rest (omega arith) (version_is_small version small) same
+version_is_small : (k : CertKind) (v : AnswerWidth) → AreSmall (version_of k v ∷ [])
+version_is_small k v = All-cons IsSmall (version_of k v) [] (few_versions k v) (All-nil IsSmall)
 
-pub no_version : (text ns behind : List ℕ) (version : ℕ) → version ≤ 2 → text ≡ line (codes "FZC") ns ++ behind
-    → AreSmall ns → ns ≢ version ∷ [] → (rest : List ℕ) → text ≢ version_line version ++ rest
-no_version text ns behind version small found ns_small other rest same =
+pub no_version_line : (text : List ℕ) (k : CertKind) (v : AnswerWidth) → NoLine (codes "FZC") text → (rest : List ℕ)
+    → text ≢ version_line k v ++ rest
+no_version_line text k v none rest same = none (version_of k v ∷ []) rest (omega arith) (version_is_small k v) same
+
+pub no_version : (text ns behind : List ℕ) (k : CertKind) (v : AnswerWidth) → text ≡ line (codes "FZC") ns ++ behind
+    → AreSmall ns → ns ≢ version_of k v ∷ [] → (rest : List ℕ) → text ≢ version_line k v ++ rest
+no_version text ns behind k v found ns_small other rest same =
     other
-    ((line_is_one (codes "FZC") ns (version ∷ []) behind rest ns_small (version_is_small version small)
+    ((line_is_one (codes "FZC") ns (version_of k v ∷ []) behind rest ns_small (version_is_small k v)
     (sym found ∙ same)).0)
 
-pub one_version : (version other : ℕ) (a b : List ℕ) → version ≤ 2 → other ≤ 2
-    → version_line version ++ a ≡ version_line other ++ b → (version ≡ other) × (a ≡ b)
-one_version version other a b small other_small same =
-    let one = line_is_one (codes "FZC") (version ∷ []) (other ∷ []) a b (version_is_small version small)
-    (version_is_small other other_small) same in
-    let numbers : version ∷ [] ≡ other ∷ [] = one.0 in
-    (cc, one.1)
+versions_are_one : (k j : CertKind) (v w : AnswerWidth) → version_of k v ≡ version_of j w → (k ≡ j) × (v ≡ w)
+versions_are_one Named Named Byte Byte same = (refl, refl)
+versions_are_one Named Named Byte Word same = cc
+versions_are_one Named Named Word Byte same = cc
+versions_are_one Named Named Word Word same = (refl, refl)
+versions_are_one Named Tight Byte Byte same = cc
+versions_are_one Named Tight Byte Word same = cc
+versions_are_one Named Tight Word Byte same = cc
+versions_are_one Named Tight Word Word same = cc
+versions_are_one Tight Named Byte Byte same = cc
+versions_are_one Tight Named Byte Word same = cc
+versions_are_one Tight Named Word Byte same = cc
+versions_are_one Tight Named Word Word same = cc
+versions_are_one Tight Tight Byte Byte same = (refl, refl)
+versions_are_one Tight Tight Byte Word same = cc
+versions_are_one Tight Tight Word Byte same = cc
+versions_are_one Tight Tight Word Word same = (refl, refl)
+
+pub one_version : (k j : CertKind) (v w : AnswerWidth) (a b : List ℕ) → version_line k v ++ a ≡ version_line j w ++ b
+    → (k ≡ j) × (v ≡ w) × (a ≡ b)
+one_version k j v w a b same =
+    let one = line_is_one (codes "FZC") (version_of k v ∷ []) (version_of j w ∷ []) a b (version_is_small k v)
+    (version_is_small j w) same in
+    let numbers : version_of k v ∷ [] ≡ version_of j w ∷ [] = one.0 in
+    let versions = versions_are_one k j v w cc in
+    (versions.0, versions.1, one.1)
 
 pub one_claim_line : (claims others a b : List ℕ) → AreClaims claims → AreClaims others
     → claim_line claims ++ a ≡ claim_line others ++ b → (claims ≡ others) × (a ≡ b)

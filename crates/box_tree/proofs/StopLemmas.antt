@@ -3,7 +3,9 @@ use Rattle.std.proofs.Common.{◌≡◌, ◌≢◌, ◌<◌, ◌+◌, ◌≤◌,
 use Rattle.std.proofs.Common.{Option, Some, None, refl, sym, ◌∙◌, ap, subst, arith, append_assoc}
 use Rattle.std.proofs.lemmas.List.{append_cancel_left, append-nil}
 use Rattle.std.proofs.lemmas.List.Elements.{All-head, All-tail}
-use Rattle.arrayvec.specs.ArrayVec.{ArrayVec}
+use Rattle.box_tree.specs.declared.cert.CertKind.{CertKind}
+use Rattle.box_tree.specs.declared.cert.AnswerWidth.{AnswerWidth}
+use Rattle.box_tree.specs.declared.cert.LeafForm.{LeafForm}
 use Rattle.box_tree.specs.declared.cert.Node.{Node}
 use Rattle.box_tree.specs.declared.cert.Node.TheVariants.{Leaf}
 use Rattle.box_tree.specs.declared.cert.Cert.{Cert}
@@ -21,47 +23,48 @@ use Rattle.box_tree.proofs.LineLemmas.{at_seam}
 use Rattle.box_tree.proofs.TreeLemmas.{lines_behind, open_from-append, leaf_count-append}
 
 -- why no node follows those that were read, of which this many boxes are open: the tree is whole, or there is a fault
-data Stops (width : ℕ) (nodes : List Node) (n : ℕ) (rest : List ℕ) : Option CertFault → Type 0 where
-  whole : rest ≡ [] → n ≡ 0 → Stops width nodes n rest None
-  bad : HasNoNode width rest → Stops width nodes n rest (Some (BadLine (line_behind nodes)))
-  early : rest ≡ [] → 0 < n → Stops width nodes n rest (Some Early)
-  past : (node : Node) (behind : List ℕ) → n ≡ 0 → rest ≡ node_line node ++ behind → IsNode width node
-      → Stops width nodes n rest (Some (Late (line_behind nodes)))
-  full : (pairs : ArrayVec (ℕ × ℕ)) (behind : List ℕ) → 0 < n → rest ≡ node_line (Leaf pairs) ++ behind
-      → IsNode width (Leaf pairs)
-      → leaf_count nodes ≡ 4096 → Stops width nodes n rest (Some (TooManyLeaves (line_behind nodes)))
+data Stops (kind : CertKind) (width : ℕ) (nodes : List Node) (n : ℕ) (rest : List ℕ) : Option CertFault → Type 0 where
+  whole : rest ≡ [] → n ≡ 0 → Stops kind width nodes n rest None
+  bad : HasNoNode kind width rest → Stops kind width nodes n rest (Some (BadLine (line_behind nodes)))
+  early : rest ≡ [] → 0 < n → Stops kind width nodes n rest (Some Early)
+  past : (node : Node) (behind : List ℕ) → n ≡ 0 → rest ≡ node_line node ++ behind → IsNode kind width node
+      → Stops kind width nodes n rest (Some (Late (line_behind nodes)))
+  full : (leaf : LeafForm) (behind : List ℕ) → 0 < n → rest ≡ node_line (Leaf leaf) ++ behind
+      → IsNode kind width (Leaf leaf)
+      → leaf_count nodes ≡ 4096 → Stops kind width nodes n rest (Some (TooManyLeaves (line_behind nodes)))
 
 line_is_not_nothing : (node : Node) (behind rest : List ℕ) → rest ≡ [] → rest ≡ node_line node ++ behind → ⊥
 line_is_not_nothing node behind rest nothing line = line_is_some node behind (sym nothing ∙ line)
 
 -- a text stops for one reason
-one_stop : (width : ℕ) (nodes : List Node) (n : ℕ) (rest : List ℕ) (a b : Option CertFault) → Stops width nodes n rest a
-    → Stops width nodes n rest b → a ≡ b
-one_stop width nodes n rest _ _ (whole r z) (whole s y) = refl
-one_stop width nodes n rest _ _ (whole r z) (bad s) = absurd (s.0 r)
-one_stop width nodes n rest _ _ (whole r z) (early s y) = absurd (omega arith)
-one_stop width nodes n rest _ _ (whole r z) (past k c y s g) = absurd (line_is_not_nothing k c rest r s)
-one_stop width nodes n rest _ _ (whole r z) (full p c y s g l) = absurd (line_is_not_nothing (Leaf p) c rest r s)
-one_stop width nodes n rest _ _ (bad r) (whole s y) = absurd (r.0 s)
-one_stop width nodes n rest _ _ (bad r) (bad s) = refl
-one_stop width nodes n rest _ _ (bad r) (early s y) = absurd (r.0 s)
-one_stop width nodes n rest _ _ (bad r) (past k c y s g) = absurd (r.1 k c g s)
-one_stop width nodes n rest _ _ (bad r) (full p c y s g l) = absurd (r.1 (Leaf p) c g s)
-one_stop width nodes n rest _ _ (early r z) (whole s y) = absurd (omega arith)
-one_stop width nodes n rest _ _ (early r z) (bad s) = absurd (s.0 r)
-one_stop width nodes n rest _ _ (early r z) (early s y) = refl
-one_stop width nodes n rest _ _ (early r z) (past k c y s g) = absurd (omega arith)
-one_stop width nodes n rest _ _ (early r z) (full p c y s g l) = absurd (line_is_not_nothing (Leaf p) c rest r s)
-one_stop width nodes n rest _ _ (past j d z r h) (whole s y) = absurd (line_is_not_nothing j d rest s r)
-one_stop width nodes n rest _ _ (past j d z r h) (bad s) = absurd (s.1 j d h r)
-one_stop width nodes n rest _ _ (past j d z r h) (early s y) = absurd (omega arith)
-one_stop width nodes n rest _ _ (past j d z r h) (past k c y s g) = refl
-one_stop width nodes n rest _ _ (past j d z r h) (full p c y s g l) = absurd (omega arith)
-one_stop width nodes n rest _ _ (full q d z r h m) (whole s y) = absurd (omega arith)
-one_stop width nodes n rest _ _ (full q d z r h m) (bad s) = absurd (s.1 (Leaf q) d h r)
-one_stop width nodes n rest _ _ (full q d z r h m) (early s y) = absurd (line_is_not_nothing (Leaf q) d rest s r)
-one_stop width nodes n rest _ _ (full q d z r h m) (past k c y s g) = absurd (omega arith)
-one_stop width nodes n rest _ _ (full q d z r h m) (full p c y s g l) = refl
+one_stop : (kind : CertKind) (width : ℕ) (nodes : List Node) (n : ℕ) (rest : List ℕ) (a b : Option CertFault)
+    → Stops kind width nodes n rest a
+    → Stops kind width nodes n rest b → a ≡ b
+one_stop kind width nodes n rest _ _ (whole r z) (whole s y) = refl
+one_stop kind width nodes n rest _ _ (whole r z) (bad s) = absurd (s.0 r)
+one_stop kind width nodes n rest _ _ (whole r z) (early s y) = absurd (omega arith)
+one_stop kind width nodes n rest _ _ (whole r z) (past k c y s g) = absurd (line_is_not_nothing k c rest r s)
+one_stop kind width nodes n rest _ _ (whole r z) (full p c y s g l) = absurd (line_is_not_nothing (Leaf p) c rest r s)
+one_stop kind width nodes n rest _ _ (bad r) (whole s y) = absurd (r.0 s)
+one_stop kind width nodes n rest _ _ (bad r) (bad s) = refl
+one_stop kind width nodes n rest _ _ (bad r) (early s y) = absurd (r.0 s)
+one_stop kind width nodes n rest _ _ (bad r) (past k c y s g) = absurd (r.1 k c g s)
+one_stop kind width nodes n rest _ _ (bad r) (full p c y s g l) = absurd (r.1 (Leaf p) c g s)
+one_stop kind width nodes n rest _ _ (early r z) (whole s y) = absurd (omega arith)
+one_stop kind width nodes n rest _ _ (early r z) (bad s) = absurd (s.0 r)
+one_stop kind width nodes n rest _ _ (early r z) (early s y) = refl
+one_stop kind width nodes n rest _ _ (early r z) (past k c y s g) = absurd (omega arith)
+one_stop kind width nodes n rest _ _ (early r z) (full p c y s g l) = absurd (line_is_not_nothing (Leaf p) c rest r s)
+one_stop kind width nodes n rest _ _ (past j d z r h) (whole s y) = absurd (line_is_not_nothing j d rest s r)
+one_stop kind width nodes n rest _ _ (past j d z r h) (bad s) = absurd (s.1 j d h r)
+one_stop kind width nodes n rest _ _ (past j d z r h) (early s y) = absurd (omega arith)
+one_stop kind width nodes n rest _ _ (past j d z r h) (past k c y s g) = refl
+one_stop kind width nodes n rest _ _ (past j d z r h) (full p c y s g l) = absurd (omega arith)
+one_stop kind width nodes n rest _ _ (full q d z r h m) (whole s y) = absurd (omega arith)
+one_stop kind width nodes n rest _ _ (full q d z r h m) (bad s) = absurd (s.1 (Leaf q) d h r)
+one_stop kind width nodes n rest _ _ (full q d z r h m) (early s y) = absurd (line_is_not_nothing (Leaf q) d rest s r)
+one_stop kind width nodes n rest _ _ (full q d z r h m) (past k c y s g) = absurd (omega arith)
+one_stop kind width nodes n rest _ _ (full q d z r h m) (full p c y s g l) = refl
 
 -- more nodes follow the first
 record GoesOn (first nodes : List Node) (rest rest' : List ℕ) : Type 0 where
@@ -75,20 +78,21 @@ node_lines_front : (node : Node) (nodes : List Node) (rest : List ℕ)
 node_lines_front node nodes rest = append_assoc (node_line node) (node_lines nodes) rest
 
 -- of two lists of nodes that a text begins with, one begins with the other
-compared : (width : ℕ) (ns ms : List Node) (r s : List ℕ) → All (IsNode width) ns → All (IsNode width) ms
+compared : (kind : CertKind) (width : ℕ) (ns ms : List Node) (r s : List ℕ) → All (IsNode kind width) ns
+    → All (IsNode kind width) ms
     → node_lines ns ++ r ≡ node_lines ms ++ s
     → ((ns ≡ ms) × (r ≡ s)) ⊎ (GoesOn ns ms r s ⊎ GoesOn ms ns s r)
-compared width [] [] r s ns_good ms_good same = inl (refl, same)
-compared width [] (m ∷ ms) r s ns_good ms_good same =
+compared kind width [] [] r s ns_good ms_good same = inl (refl, same)
+compared kind width [] (m ∷ ms) r s ns_good ms_good same =
     inr (inl (record { node = m; more = ms; nodes_are = refl; rest_is = same ∙ node_lines_front m ms s }))
-compared width (n ∷ ns) [] r s ns_good ms_good same =
+compared kind width (n ∷ ns) [] r s ns_good ms_good same =
     inr (inr (record { node = n; more = ns; nodes_are = refl; rest_is = sym same ∙ node_lines_front n ns r }))
-compared width (n ∷ ns) (m ∷ ms) r s ns_good ms_good same =
-    let one = one_node width width n m (node_lines ns ++ r) (node_lines ms ++ s) (All-head (IsNode width) n ns ns_good)
-    (All-head (IsNode width) m ms ms_good)
+compared kind width (n ∷ ns) (m ∷ ms) r s ns_good ms_good same =
+    let one = one_node kind width width n m (node_lines ns ++ r) (node_lines ms ++ s)
+    (All-head (IsNode kind width) n ns ns_good) (All-head (IsNode kind width) m ms ms_good)
     (sym (node_lines_front n ns r) ∙ same ∙ node_lines_front m ms s) in
-    both one.0 (compared width ns ms r s (All-tail (IsNode width) n ns ns_good)
-    (All-tail (IsNode width) m ms ms_good) one.1)
+    both one.0 (compared kind width ns ms r s (All-tail (IsNode kind width) n ns ns_good)
+    (All-tail (IsNode kind width) m ms ms_good) one.1)
   where
     behind : (a b : Node) (xs ys : List Node) (x y : List ℕ) → a ≡ b → GoesOn xs ys x y → GoesOn (a ∷ xs) (b ∷ ys) x y
     behind a b xs ys x y e g = record {
@@ -105,25 +109,27 @@ compared width (n ∷ ns) (m ∷ ms) r s ns_good ms_good same =
     both e (inr (inr g)) = inr (inr (behind m n ms ns s r (sym e) g))
 
 -- what an answer about a text's nodes rests on
-record StopsAt (version : ℕ) (text : List ℕ) (answer : Option CertFault) : Type 0 where
+record StopsAt (kind : CertKind) (answers : AnswerWidth) (text : List ℕ) (answer : Option CertFault) : Type 0 where
   claims : List ℕ
   nodes : List Node
   n : ℕ
   rest : List ℕ
-  begins : Begins version text claims nodes n rest
-  stops : Stops (length claims) nodes n rest answer
+  begins : Begins kind answers text claims nodes n rest
+  stops : Stops kind (length claims) nodes n rest answer
 
-no_more : (version : ℕ) (text claims : List ℕ) (ns ms : List Node) (n m : ℕ) (r s : List ℕ) (answer : Option CertFault)
-    → Begins version text claims ns n r → Begins version text claims ms m s → Stops (length claims) ns n r answer
+no_more : (kind : CertKind) (answers : AnswerWidth) (text claims : List ℕ) (ns ms : List Node)
+    (n m : ℕ) (r s : List ℕ) (answer : Option CertFault)
+    → Begins kind answers text claims ns n r → Begins kind answers text claims ms m s
+    → Stops kind (length claims) ns n r answer
     → GoesOn ns ms r s → ⊥
-no_more version text claims ns ms n m r s answer first second stop on = by answer stop
+no_more kind answers text claims ns ms n m r s answer first second stop on = by answer stop
   where
     behind : List ℕ
     behind = node_lines on.more ++ s
 
-    good : IsNode (length claims) on.node
-    good = at_seam (IsNode (length claims)) ns on.node on.more
-        (subst (All (IsNode (length claims))) on.nodes_are second.good_nodes)
+    good : IsNode kind (length claims) on.node
+    good = at_seam (IsNode kind (length claims)) ns on.node on.more
+        (subst (All (IsNode kind (length claims))) on.nodes_are second.good_nodes)
 
     opens : open_from n (on.node ∷ on.more) ≡ Some m
     opens = sym (open_from-append 1 n ns (on.node ∷ on.more) first.left_open)
@@ -136,144 +142,162 @@ no_more version text claims ns ms n m r s answer first second stop on = by answe
     leaves : leaf_count ns + leaf_count (on.node ∷ on.more) ≤ 4096
     leaves = omega (arith, leaf_count-append ns (on.node ∷ on.more), ap leaf_count on.nodes_are, second.few_leaves)
 
-    too_many : (pairs : ArrayVec (ℕ × ℕ)) → on.node ≡ Leaf pairs → leaf_count ns ≡ 4096 → ⊥
-    too_many pairs e l = omega (arith, leaves, l, ap (λ (k : Node). leaf_count (k ∷ on.more)) e)
+    too_many : (leaf : LeafForm) → on.node ≡ Leaf leaf → leaf_count ns ≡ 4096 → ⊥
+    too_many leaf e l = omega (arith, leaves, l, ap (λ (k : Node). leaf_count (k ∷ on.more)) e)
 
-    by : (reason : Option CertFault) → Stops (length claims) ns n r reason → ⊥
+    by : (reason : Option CertFault) → Stops kind (length claims) ns n r reason → ⊥
     by _ (whole e z) = line_is_not_nothing on.node behind r e on.rest_is
     by _ (bad h) = h.1 on.node behind good on.rest_is
     by _ (early e z) = line_is_not_nothing on.node behind r e on.rest_is
     by _ (past k c z e g) = closed n on.node on.more z opens
     by _ (full p c z e g l) =
-        too_many p ((one_node (length claims) (length claims) on.node (Leaf p) behind c good g (sym on.rest_is ∙ e)).0)
-        l
+        too_many p
+        ((one_node kind (length claims) (length claims) on.node (Leaf p) behind c good g (sym on.rest_is ∙ e)).0) l
 
-stops_are_one : (version : ℕ) (text : List ℕ) (a b : Option CertFault) → StopsAt version text a
-    → StopsAt version text b → a ≡ b
-stops_are_one version text a b p q =
-    let front = append_cancel_left (version_line version) (claim_line p.claims ++ (node_lines p.nodes ++ p.rest))
+stops_are_one : (kind : CertKind) (answers : AnswerWidth) (text : List ℕ) (a b : Option CertFault)
+    → StopsAt kind answers text a
+    → StopsAt kind answers text b → a ≡ b
+stops_are_one kind answers text a b p q =
+    let front = append_cancel_left (version_line kind answers) (claim_line p.claims ++ (node_lines p.nodes ++ p.rest))
     (claim_line q.claims ++ (node_lines q.nodes ++ q.rest))
-    (sym (p.begins.lines ∙ lines_behind version p.claims p.nodes p.rest)
-    ∙ (q.begins.lines ∙ lines_behind version q.claims q.nodes q.rest)) in
+    (sym (p.begins.lines ∙ lines_behind kind answers p.claims p.nodes p.rest)
+    ∙ (q.begins.lines ∙ lines_behind kind answers q.claims q.nodes q.rest)) in
     let claims = one_claim_line p.claims q.claims (node_lines p.nodes ++ p.rest)
     (node_lines q.nodes ++ q.rest) p.begins.good_claims q.begins.good_claims front in
-    let begins = subst (λ (cs : List ℕ). Begins version text cs q.nodes q.n q.rest) (sym claims.0) q.begins in
-    let stops = subst (λ (cs : List ℕ). Stops (length cs) q.nodes q.n q.rest b) (sym claims.0) q.stops in
+    let begins = subst (λ (cs : List ℕ). Begins kind answers text cs q.nodes q.n q.rest) (sym claims.0) q.begins in
+    let stops = subst (λ (cs : List ℕ). Stops kind (length cs) q.nodes q.n q.rest b) (sym claims.0) q.stops in
     by p.claims p.nodes q.nodes p.n q.n p.rest q.rest p.begins begins p.stops stops
-    (compared (length p.claims) p.nodes q.nodes p.rest q.rest p.begins.good_nodes begins.good_nodes claims.1)
+    (compared kind (length p.claims) p.nodes q.nodes p.rest q.rest p.begins.good_nodes begins.good_nodes claims.1)
   where
-    same : (claims : List ℕ) (ns ms : List Node) (n m : ℕ) (r s : List ℕ) → Begins version text claims ns n r
-        → Begins version text claims ms m s → ns ≡ ms → n ≡ m
+    same : (claims : List ℕ) (ns ms : List Node) (n m : ℕ) (r s : List ℕ) → Begins kind answers text claims ns n r
+        → Begins kind answers text claims ms m s → ns ≡ ms → n ≡ m
     same claims ns ms n m r s first second e =
         let opens : Some n ≡ Some m = sym first.left_open ∙ ap (λ (l : List Node). open_from 1 l) e
         ∙ second.left_open in
         cc
 
-    by : (claims : List ℕ) (ns ms : List Node) (n m : ℕ) (r s : List ℕ) → Begins version text claims ns n r
-        → Begins version text claims ms m s → Stops (length claims) ns n r a → Stops (length claims) ms m s b
+    by : (claims : List ℕ) (ns ms : List Node) (n m : ℕ) (r s : List ℕ) → Begins kind answers text claims ns n r
+        → Begins kind answers text claims ms m s → Stops kind (length claims) ns n r a
+        → Stops kind (length claims) ms m s b
         → ((ns ≡ ms) × (r ≡ s)) ⊎ (GoesOn ns ms r s ⊎ GoesOn ms ns s r) → a ≡ b
     by claims ns ms n m r s first second one other (inl (e, f)) =
         let opens = same claims ns ms n m r s first second e in
-        one_stop (length claims) ms m s a b
-        (subst (λ (l : List Node). Stops (length claims) l m s a) e
-        (subst (λ (k : ℕ). Stops (length claims) ns k s a) opens
-        (subst (λ (t : List ℕ). Stops (length claims) ns n t a) f one))) other
+        one_stop kind (length claims) ms m s a b
+        (subst (λ (l : List Node). Stops kind (length claims) l m s a) e
+        (subst (λ (k : ℕ). Stops kind (length claims) ns k s a) opens
+        (subst (λ (t : List ℕ). Stops kind (length claims) ns n t a) f one))) other
     by claims ns ms n m r s first second one other (inr (inl on)) =
-        absurd (no_more version text claims ns ms n m r s a first second one on)
+        absurd (no_more kind answers text claims ns ms n m r s a first second one on)
     by claims ns ms n m r s first second one other (inr (inr on)) =
-        absurd (no_more version text claims ms ns m n s r b second first other on)
+        absurd (no_more kind answers text claims ms ns m n s r b second first other on)
 
 -- ---- the first two lines too
 
-data Ends (version : ℕ) (text : List ℕ) : Option CertFault → Type 0 where
-  other_version : text ≢ [] → ((rest : List ℕ) → text ≢ version_line version ++ rest)
-      → Ends version text (Some (BadLine 1))
-  nothing : text ≡ [] → Ends version text (Some Early)
-  other_claims : (rest : List ℕ) → text ≡ version_line version ++ rest → HasNoClaims rest
-      → Ends version text (Some (BadLine 2))
-  just_version : text ≡ version_line version → Ends version text (Some Early)
-  in_nodes : (answer : Option CertFault) → StopsAt version text answer → Ends version text answer
+data Ends (kind : CertKind) (answers : AnswerWidth) (text : List ℕ) : Option CertFault → Type 0 where
+  other_version : text ≢ [] → ((rest : List ℕ) → text ≢ version_line kind answers ++ rest)
+      → Ends kind answers text (Some (BadLine 1))
+  nothing : text ≡ [] → Ends kind answers text (Some Early)
+  other_claims : (rest : List ℕ) → text ≡ version_line kind answers ++ rest → HasNoClaims rest
+      → Ends kind answers text (Some (BadLine 2))
+  just_version : text ≡ version_line kind answers → Ends kind answers text (Some Early)
+  in_nodes : (answer : Option CertFault) → StopsAt kind answers text answer → Ends kind answers text answer
 
-version_is_some : (version : ℕ) (rest : List ℕ) → [] ≡ version_line version ++ rest → ⊥
-version_is_some version rest same = cc
+version_is_some : (kind : CertKind) (answers : AnswerWidth) (rest : List ℕ) → [] ≡ version_line kind answers ++ rest → ⊥
+version_is_some kind answers rest same = cc
 
 claims_are_some : (claims rest : List ℕ) → [] ≡ claim_line claims ++ rest → ⊥
 claims_are_some claims rest same = cc
 
-no_rest : (version : ℕ) (text : List ℕ) → text ≡ version_line version → text ≡ version_line version ++ []
-no_rest version text same = same ∙ sym (append-nil (version_line version))
+no_rest : (kind : CertKind) (answers : AnswerWidth) (text : List ℕ) → text ≡ version_line kind answers
+    → text ≡ version_line kind answers ++ []
+no_rest kind answers text same = same ∙ sym (append-nil (version_line kind answers))
 
-nodes_front : (version : ℕ) (text : List ℕ) (answer : Option CertFault) (p : StopsAt version text answer)
-    → text ≡ version_line version ++ (claim_line p.claims ++ (node_lines p.nodes ++ p.rest))
-nodes_front version text answer p = p.begins.lines ∙ lines_behind version p.claims p.nodes p.rest
+nodes_front : (kind : CertKind) (answers : AnswerWidth) (text : List ℕ) (answer : Option CertFault)
+    (p : StopsAt kind answers text answer)
+    → text ≡ version_line kind answers ++ (claim_line p.claims ++ (node_lines p.nodes ++ p.rest))
+nodes_front kind answers text answer p = p.begins.lines ∙ lines_behind kind answers p.claims p.nodes p.rest
 
-nodes_apart_nothing : (version : ℕ) (text : List ℕ) (answer : Option CertFault) → StopsAt version text answer
+nodes_apart_nothing : (kind : CertKind) (answers : AnswerWidth) (text : List ℕ) (answer : Option CertFault)
+    → StopsAt kind answers text answer
     → text ≡ [] → ⊥
-nodes_apart_nothing version text answer p none =
-    version_is_some version (claim_line p.claims ++ (node_lines p.nodes ++ p.rest))
-    (sym none ∙ nodes_front version text answer p)
+nodes_apart_nothing kind answers text answer p none =
+    version_is_some kind answers (claim_line p.claims ++ (node_lines p.nodes ++ p.rest))
+    (sym none ∙ nodes_front kind answers text answer p)
 
-nodes_apart_claims : (version : ℕ) (text : List ℕ) (answer : Option CertFault) (rest : List ℕ)
-    → StopsAt version text answer → text ≡ version_line version ++ rest → HasNoClaims rest → ⊥
-nodes_apart_claims version text answer rest p is none =
+nodes_apart_claims : (kind : CertKind) (answers : AnswerWidth) (text : List ℕ) (answer : Option CertFault)
+    (rest : List ℕ)
+    → StopsAt kind answers text answer → text ≡ version_line kind answers ++ rest → HasNoClaims rest → ⊥
+nodes_apart_claims kind answers text answer rest p is none =
     none.1 p.claims (node_lines p.nodes ++ p.rest) p.begins.good_claims
-    (append_cancel_left (version_line version) rest (claim_line p.claims ++ (node_lines p.nodes ++ p.rest))
-    (sym is ∙ nodes_front version text answer p))
+    (append_cancel_left (version_line kind answers) rest (claim_line p.claims ++ (node_lines p.nodes ++ p.rest))
+    (sym is ∙ nodes_front kind answers text answer p))
 
-nodes_apart_version : (version : ℕ) (text : List ℕ) (answer : Option CertFault) → StopsAt version text answer
-    → text ≡ version_line version → ⊥
-nodes_apart_version version text answer p is =
+nodes_apart_version : (kind : CertKind) (answers : AnswerWidth) (text : List ℕ) (answer : Option CertFault)
+    → StopsAt kind answers text answer
+    → text ≡ version_line kind answers → ⊥
+nodes_apart_version kind answers text answer p is =
     claims_are_some p.claims (node_lines p.nodes ++ p.rest)
-    (append_cancel_left (version_line version) [] (claim_line p.claims ++ (node_lines p.nodes ++ p.rest))
-    (sym (no_rest version text is) ∙ nodes_front version text answer p))
+    (append_cancel_left (version_line kind answers) [] (claim_line p.claims ++ (node_lines p.nodes ++ p.rest))
+    (sym (no_rest kind answers text is) ∙ nodes_front kind answers text answer p))
 
-claims_apart_version : (version : ℕ) (text rest : List ℕ) → text ≡ version_line version ++ rest → HasNoClaims rest
-    → text ≡ version_line version → ⊥
-claims_apart_version version text rest is none just =
-    none.0 (append_cancel_left (version_line version) rest [] (sym is ∙ no_rest version text just))
+claims_apart_version : (kind : CertKind) (answers : AnswerWidth) (text rest : List ℕ)
+    → text ≡ version_line kind answers ++ rest → HasNoClaims rest
+    → text ≡ version_line kind answers → ⊥
+claims_apart_version kind answers text rest is none just =
+    none.0 (append_cancel_left (version_line kind answers) rest [] (sym is ∙ no_rest kind answers text just))
 
-ends_are_one : (version : ℕ) (text : List ℕ) (a b : Option CertFault) → Ends version text a
-    → Ends version text b → a ≡ b
-ends_are_one version text _ _ (other_version r s) (other_version u w) = refl
-ends_are_one version text _ _ (other_version r s) (nothing u) = absurd (r u)
-ends_are_one version text _ _ (other_version r s) (other_claims t u w) = absurd (s t u)
-ends_are_one version text _ _ (other_version r s) (just_version u) = absurd (s [] (no_rest version text u))
-ends_are_one version text _ _ (other_version r s) (in_nodes b q) =
-    absurd (s (claim_line q.claims ++ (node_lines q.nodes ++ q.rest)) (nodes_front version text b q))
-ends_are_one version text _ _ (nothing r) (other_version u w) = absurd (u r)
-ends_are_one version text _ _ (nothing r) (nothing u) = refl
-ends_are_one version text _ _ (nothing r) (other_claims t u w) = absurd (version_is_some version t (sym r ∙ u))
-ends_are_one version text _ _ (nothing r) (just_version u) = refl
-ends_are_one version text _ _ (nothing r) (in_nodes b q) = absurd (nodes_apart_nothing version text b q r)
-ends_are_one version text _ _ (other_claims l r s) (other_version u w) = absurd (w l r)
-ends_are_one version text _ _ (other_claims l r s) (nothing u) = absurd (version_is_some version l (sym u ∙ r))
-ends_are_one version text _ _ (other_claims l r s) (other_claims t u w) = refl
-ends_are_one version text _ _ (other_claims l r s) (just_version u) = absurd (claims_apart_version version text l r s u)
-ends_are_one version text _ _ (other_claims l r s) (in_nodes b q) = absurd (nodes_apart_claims version text b l q r s)
-ends_are_one version text _ _ (just_version r) (other_version u w) = absurd (w [] (no_rest version text r))
-ends_are_one version text _ _ (just_version r) (nothing u) = refl
-ends_are_one version text _ _ (just_version r) (other_claims t u w) = absurd (claims_apart_version version text t u w r)
-ends_are_one version text _ _ (just_version r) (just_version u) = refl
-ends_are_one version text _ _ (just_version r) (in_nodes b q) = absurd (nodes_apart_version version text b q r)
-ends_are_one version text _ _ (in_nodes a p) (other_version u w) =
-    absurd (w (claim_line p.claims ++ (node_lines p.nodes ++ p.rest)) (nodes_front version text a p))
-ends_are_one version text _ _ (in_nodes a p) (nothing u) = absurd (nodes_apart_nothing version text a p u)
-ends_are_one version text _ _ (in_nodes a p) (other_claims t u w) = absurd (nodes_apart_claims version text a t p u w)
-ends_are_one version text _ _ (in_nodes a p) (just_version u) = absurd (nodes_apart_version version text a p u)
-ends_are_one version text _ _ (in_nodes a p) (in_nodes b q) = stops_are_one version text a b p q
+ends_are_one : (kind : CertKind) (answers : AnswerWidth) (text : List ℕ) (a b : Option CertFault)
+    → Ends kind answers text a
+    → Ends kind answers text b → a ≡ b
+ends_are_one kind answers text _ _ (other_version r s) (other_version u w) = refl
+ends_are_one kind answers text _ _ (other_version r s) (nothing u) = absurd (r u)
+ends_are_one kind answers text _ _ (other_version r s) (other_claims t u w) = absurd (s t u)
+ends_are_one kind answers text _ _ (other_version r s) (just_version u) = absurd (s [] (no_rest kind answers text u))
+ends_are_one kind answers text _ _ (other_version r s) (in_nodes b q) =
+    absurd (s (claim_line q.claims ++ (node_lines q.nodes ++ q.rest)) (nodes_front kind answers text b q))
+ends_are_one kind answers text _ _ (nothing r) (other_version u w) = absurd (u r)
+ends_are_one kind answers text _ _ (nothing r) (nothing u) = refl
+ends_are_one kind answers text _ _ (nothing r) (other_claims t u w) =
+    absurd (version_is_some kind answers t (sym r ∙ u))
+ends_are_one kind answers text _ _ (nothing r) (just_version u) = refl
+ends_are_one kind answers text _ _ (nothing r) (in_nodes b q) = absurd (nodes_apart_nothing kind answers text b q r)
+ends_are_one kind answers text _ _ (other_claims l r s) (other_version u w) = absurd (w l r)
+ends_are_one kind answers text _ _ (other_claims l r s) (nothing u) =
+    absurd (version_is_some kind answers l (sym u ∙ r))
+ends_are_one kind answers text _ _ (other_claims l r s) (other_claims t u w) = refl
+ends_are_one kind answers text _ _ (other_claims l r s) (just_version u) =
+    absurd (claims_apart_version kind answers text l r s u)
+ends_are_one kind answers text _ _ (other_claims l r s) (in_nodes b q) =
+    absurd (nodes_apart_claims kind answers text b l q r s)
+ends_are_one kind answers text _ _ (just_version r) (other_version u w) = absurd (w [] (no_rest kind answers text r))
+ends_are_one kind answers text _ _ (just_version r) (nothing u) = refl
+ends_are_one kind answers text _ _ (just_version r) (other_claims t u w) =
+    absurd (claims_apart_version kind answers text t u w r)
+ends_are_one kind answers text _ _ (just_version r) (just_version u) = refl
+ends_are_one kind answers text _ _ (just_version r) (in_nodes b q) =
+    absurd (nodes_apart_version kind answers text b q r)
+ends_are_one kind answers text _ _ (in_nodes a p) (other_version u w) =
+    absurd (w (claim_line p.claims ++ (node_lines p.nodes ++ p.rest)) (nodes_front kind answers text a p))
+ends_are_one kind answers text _ _ (in_nodes a p) (nothing u) = absurd (nodes_apart_nothing kind answers text a p u)
+ends_are_one kind answers text _ _ (in_nodes a p) (other_claims t u w) =
+    absurd (nodes_apart_claims kind answers text a t p u w)
+ends_are_one kind answers text _ _ (in_nodes a p) (just_version u) =
+    absurd (nodes_apart_version kind answers text a p u)
+ends_are_one kind answers text _ _ (in_nodes a p) (in_nodes b q) = stops_are_one kind answers text a b p q
 
-fault_ends : (version : ℕ) (text : List ℕ) (f : CertFault) → HasFault version text f → Ends version text (Some f)
-fault_ends version text _ (bad_version some none) = other_version some none
-fault_ends version text _ (no_version none) = nothing none
-fault_ends version text _ (bad_claims rest is none) = other_claims rest is none
-fault_ends version text _ (no_claims is) = just_version is
-fault_ends version text _ (bad_node claims nodes n rest begins none) =
+fault_ends : (kind : CertKind) (answers : AnswerWidth) (text : List ℕ) (f : CertFault) → HasFault kind answers text f
+    → Ends kind answers text (Some f)
+fault_ends kind answers text _ (bad_version some none) = other_version some none
+fault_ends kind answers text _ (no_version none) = nothing none
+fault_ends kind answers text _ (bad_claims rest is none) = other_claims rest is none
+fault_ends kind answers text _ (no_claims is) = just_version is
+fault_ends kind answers text _ (bad_node claims nodes n rest begins none) =
     in_nodes (Some (BadLine (line_behind nodes)))
     (record { claims = claims; nodes = nodes; n = n; rest = rest; begins = begins; stops = bad none })
-fault_ends version text _ (left_open claims nodes n begins some) =
+fault_ends kind answers text _ (left_open claims nodes n begins some) =
     in_nodes (Some Early)
     (record { claims = claims; nodes = nodes; n = n; rest = []; begins = begins; stops = early refl some })
-fault_ends version text _ (late claims nodes node behind begins good) =
+fault_ends kind answers text _ (late claims nodes node behind begins good) =
     in_nodes (Some (Late (line_behind nodes)))
     (record {
       claims = claims;
@@ -284,20 +308,21 @@ fault_ends version text _ (late claims nodes node behind begins good) =
       stops =
           past node behind refl refl good;
     })
-fault_ends version text _ (many_leaves claims nodes n pairs behind begins good some all) =
+fault_ends kind answers text _ (many_leaves claims nodes n leaf behind begins good some all) =
     in_nodes (Some (TooManyLeaves (line_behind nodes)))
     (record {
       claims = claims;
       nodes = nodes;
       n = n;
-      rest = node_line (Leaf pairs) ++ behind;
+      rest = node_line (Leaf leaf) ++ behind;
       begins = begins;
       stops =
-          full pairs behind some refl good all;
+          full leaf behind some refl good all;
     })
 
-cert_ends : (version : ℕ) (text : List ℕ) (cert : Cert) → CertText version text cert → Ends version text None
-cert_ends version text cert spelled = in_nodes None (record {
+cert_ends : (kind : CertKind) (answers : AnswerWidth) (text : List ℕ) (cert : Cert) → CertText kind answers text cert
+    → Ends kind answers text None
+cert_ends kind answers text cert spelled = in_nodes None (record {
   claims = cert.claims;
   nodes = cert.nodes;
   n = 0;
@@ -313,13 +338,13 @@ cert_ends version text cert spelled = in_nodes None (record {
 })
 
 pub faults_are_one : FaultsAreOne
-faults_are_one v text f g first second =
-    let same : Some f ≡ Some g =
-    ends_are_one v text (Some f) (Some g) (fault_ends v text f first) (fault_ends v text g second) in
+faults_are_one kind answers text f g first second =
+    let same : Some f ≡ Some g = ends_are_one kind answers text (Some f) (Some g)
+    (fault_ends kind answers text f first) (fault_ends kind answers text g second) in
     cc
 
 pub cert_texts_have_no_fault : CertTextsHaveNoFault
-cert_texts_have_no_fault v text cert f spelled fault =
-    let same : None ≡ Some f =
-    ends_are_one v text None (Some f) (cert_ends v text cert spelled) (fault_ends v text f fault) in
+cert_texts_have_no_fault kind answers text cert f spelled fault =
+    let same : None ≡ Some f = ends_are_one kind answers text None (Some f)
+    (cert_ends kind answers text cert spelled) (fault_ends kind answers text f fault) in
     cc

@@ -4,7 +4,9 @@ use Rattle.std.proofs.Common.{append_assoc, Some, None, take, get_or, add-one}
 use Rattle.std.proofs.Math.Seq.{take-suc}
 use Rattle.std.proofs.lemmas.List.{append-nil}
 use Rattle.std.proofs.lemmas.List.Elements.{All-append, All-cons, All-nil}
-use Rattle.arrayvec.specs.ArrayVec.{ArrayVec}
+use Rattle.box_tree.specs.declared.cert.CertKind.{CertKind}
+use Rattle.box_tree.specs.declared.cert.AnswerWidth.{AnswerWidth}
+use Rattle.box_tree.specs.declared.cert.LeafForm.{LeafForm}
 use Rattle.box_tree.specs.declared.cert.Node.{Node}
 use Rattle.box_tree.specs.declared.cert.Node.TheVariants.{Split, Leaf}
 use Rattle.box_tree.specs.Texts.{claim_line, lines_of, node_line, node_lines, version_line}
@@ -16,20 +18,20 @@ pub open_from-append : (k n : ℕ) (nodes more : List Node) → open_from k node
 open_from-append k n [] more is = let e : k ≡ n = cc in ap (λ (j : ℕ). open_from j more) e
 open_from-append zero n (node ∷ nodes) more is = let bad : None ≡ Some n = is in cc
 open_from-append (suc k) n (Split i c ∷ nodes) more is = open_from-append (suc (suc k)) n nodes more is
-open_from-append (suc k) n (Leaf pairs ∷ nodes) more is = open_from-append k n nodes more is
+open_from-append (suc k) n (Leaf leaf ∷ nodes) more is = open_from-append k n nodes more is
 
 pub open_split : (n i c : ℕ) → 0 < n → open_from n (Split i c ∷ []) ≡ Some (n + 1)
 open_split zero i c some = absurd (omega arith)
 open_split (suc n) i c some = let e : suc (suc n) ≡ suc n + 1 = omega arith in ap (λ (k : ℕ). Some k) e
 
-pub open_leaf : (n : ℕ) (pairs : ArrayVec (ℕ × ℕ)) → 0 < n → open_from n (Leaf pairs ∷ []) ≡ Some (n - 1)
-open_leaf zero pairs some = absurd (omega arith)
-open_leaf (suc n) pairs some = let e : n ≡ suc n - 1 = omega arith in ap (λ (k : ℕ). Some k) e
+pub open_leaf : (n : ℕ) (leaf : LeafForm) → 0 < n → open_from n (Leaf leaf ∷ []) ≡ Some (n - 1)
+open_leaf zero leaf some = absurd (omega arith)
+open_leaf (suc n) leaf some = let e : n ≡ suc n - 1 = omega arith in ap (λ (k : ℕ). Some k) e
 
 pub leaf_count-append : (nodes more : List Node) → leaf_count (nodes ++ more) ≡ leaf_count nodes + leaf_count more
 leaf_count-append [] more = omega arith
 leaf_count-append (Split i c ∷ nodes) more = leaf_count-append nodes more
-leaf_count-append (Leaf pairs ∷ nodes) more = omega (arith, leaf_count-append nodes more)
+leaf_count-append (Leaf leaf ∷ nodes) more = omega (arith, leaf_count-append nodes more)
 
 pub node_lines-snoc : (nodes : List Node) (node : Node) (rest : List ℕ)
     → node_lines (nodes ++ node ∷ []) ++ rest ≡ node_lines nodes ++ (node_line node ++ rest)
@@ -52,31 +54,34 @@ node_lines_more nodes i node text text' before lt is so_far added =
     ∙ ap node_lines (ap (λ (n : Node). take i nodes ++ n ∷ []) is ∙ sym (take-suc nodes i node lt)
     ∙ ap (λ (k : ℕ). take k nodes) (sym (add-one i))))
 
-pub lines_behind : (version : ℕ) (claims : List ℕ) (nodes : List Node) (rest : List ℕ)
-    → lines_of version claims nodes ++ rest ≡ version_line version ++ (claim_line claims ++ (node_lines nodes ++ rest))
-lines_behind version claims nodes rest =
-    append_assoc (version_line version) (claim_line claims ++ node_lines nodes) rest
-    ∙ ap (λ (t : List ℕ). version_line version ++ t) (append_assoc (claim_line claims) (node_lines nodes) rest)
+pub lines_behind : (kind : CertKind) (answers : AnswerWidth) (claims : List ℕ) (nodes : List Node) (rest : List ℕ)
+    → lines_of kind answers claims nodes ++ rest
+    ≡ version_line kind answers ++ (claim_line claims ++ (node_lines nodes ++ rest))
+lines_behind kind answers claims nodes rest =
+    append_assoc (version_line kind answers) (claim_line claims ++ node_lines nodes) rest
+    ∙ ap (λ (t : List ℕ). version_line kind answers ++ t) (append_assoc (claim_line claims) (node_lines nodes) rest)
 
-pub lines_of-snoc : (version : ℕ) (claims : List ℕ) (nodes : List Node) (node : Node) (rest : List ℕ)
-    → lines_of version claims (nodes ++ node ∷ []) ++ rest ≡ lines_of version claims nodes ++ (node_line node ++ rest)
-lines_of-snoc version claims nodes node rest =
-    lines_behind version claims (nodes ++ node ∷ []) rest
-    ∙ ap (λ (t : List ℕ). version_line version ++ (claim_line claims ++ t)) (node_lines-snoc nodes node rest)
-    ∙ sym (lines_behind version claims nodes (node_line node ++ rest))
+pub lines_of-snoc : (kind : CertKind) (answers : AnswerWidth) (claims : List ℕ) (nodes : List Node)
+    (node : Node) (rest : List ℕ)
+    → lines_of kind answers claims (nodes ++ node ∷ []) ++ rest ≡ lines_of kind answers claims nodes ++ (node_line node ++ rest)
+lines_of-snoc kind answers claims nodes node rest =
+    lines_behind kind answers claims (nodes ++ node ∷ []) rest
+    ∙ ap (λ (t : List ℕ). version_line kind answers ++ (claim_line claims ++ t)) (node_lines-snoc nodes node rest)
+    ∙ sym (lines_behind kind answers claims nodes (node_line node ++ rest))
 
 -- the nodes that a text begins with, and one more
-pub begins_more : (version : ℕ) (text claims : List ℕ) (nodes : List Node) (n m : ℕ) (rest behind : List ℕ)
-    (node : Node) → Begins version text claims nodes n rest → rest ≡ node_line node ++ behind
-    → IsNode (length claims) node
+pub begins_more : (kind : CertKind) (answers : AnswerWidth) (text claims : List ℕ) (nodes : List Node)
+    (n m : ℕ) (rest behind : List ℕ)
+    (node : Node) → Begins kind answers text claims nodes n rest → rest ≡ node_line node ++ behind
+    → IsNode kind (length claims) node
     → open_from n (node ∷ []) ≡ Some m → leaf_count nodes + leaf_count (node ∷ []) ≤ 4096
-    → Begins version text claims (nodes ++ node ∷ []) m behind
-begins_more version text claims nodes n m rest behind node begins line good left few = record {
-  lines = begins.lines ∙ ap (λ (t : List ℕ). lines_of version claims nodes ++ t) line
-      ∙ sym (lines_of-snoc version claims nodes node behind);
+    → Begins kind answers text claims (nodes ++ node ∷ []) m behind
+begins_more kind answers text claims nodes n m rest behind node begins line good left few = record {
+  lines = begins.lines ∙ ap (λ (t : List ℕ). lines_of kind answers claims nodes ++ t) line
+      ∙ sym (lines_of-snoc kind answers claims nodes node behind);
   good_claims = begins.good_claims;
-  good_nodes = All-append (IsNode (length claims)) nodes (node ∷ []) begins.good_nodes
-      (All-cons (IsNode (length claims)) node [] good (All-nil (IsNode (length claims))));
+  good_nodes = All-append (IsNode kind (length claims)) nodes (node ∷ []) begins.good_nodes
+      (All-cons (IsNode kind (length claims)) node [] good (All-nil (IsNode kind (length claims))));
   left_open = open_from-append 1 n nodes (node ∷ []) begins.left_open ∙ left;
   few_leaves = omega (arith, leaf_count-append nodes (node ∷ []), few);
 }

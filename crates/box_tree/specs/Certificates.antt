@@ -1,6 +1,10 @@
 -- Which text has which certificate, and the first fault of a text that has none.
 use Rattle.std.specs.Prelude.{◌≡◌, ◌≢◌, ◌↔◌, ℕ, ◌+◌, ◌<◌, ◌≤◌, List, [], ◌++◌, length, All, Some}
-use Rattle.arrayvec.specs.ArrayVec.{ArrayVec}
+use Rattle.box_tree.specs.declared.cert.CertKind.{CertKind}
+use Rattle.box_tree.specs.declared.cert.CertKind.TheVariants.{Named, Tight}
+use Rattle.box_tree.specs.declared.cert.AnswerWidth.{AnswerWidth}
+use Rattle.box_tree.specs.declared.cert.LeafForm.{LeafForm}
+use Rattle.box_tree.specs.declared.cert.LeafForm.TheVariants as form
 use Rattle.box_tree.specs.declared.cert.Node.{Node}
 use Rattle.box_tree.specs.declared.cert.Node.TheVariants.{Split, Leaf}
 use Rattle.box_tree.specs.declared.cert.Cert.{Cert}
@@ -27,28 +31,35 @@ pub record IsCut (input cut : ℕ) : Type 0 where
   pub few : input ≤ 8
   pub byte : cut ≤ 255
 
--- a node of a certificate with this many claims
-abbrev pub IsNode : ℕ → Node → Type 0
-IsNode width (Split input cut) = IsCut input cut
-IsNode width (Leaf pairs) = (length pairs.items ≡ width) × All IsPair pairs.items
+-- a leaf of a certificate of this kind with this many claims
+abbrev pub IsLeaf : CertKind → ℕ → LeafForm → Type 0
+IsLeaf Named width (form.Pairs pairs) = (length pairs.items ≡ width) × All IsPair pairs.items
+IsLeaf Tight width form.Tight = Unit {0}
+IsLeaf Tight width form.Cells = Unit {0}
+IsLeaf kind width leaf = ⊥
 
-pub record IsCert (cert : Cert) : Type 0 where
+-- and a node
+abbrev pub IsNode : CertKind → ℕ → Node → Type 0
+IsNode kind width (Split input cut) = IsCut input cut
+IsNode kind width (Leaf leaf) = IsLeaf kind width leaf
+
+pub record IsCert (kind : CertKind) (cert : Cert) : Type 0 where
   pub claims : AreClaims cert.claims
-  pub nodes : All (IsNode (length cert.claims)) cert.nodes
+  pub nodes : All (IsNode kind (length cert.claims)) cert.nodes
   pub tree : IsTree cert.nodes
   pub few_leaves : leaf_count cert.nodes ≤ 4096
 
--- the text is that of the certificate
-pub record CertText (version : ℕ) (text : List ℕ) (cert : Cert) : Type 0 where
-  pub good : IsCert cert
-  pub lines : text ≡ lines_of version cert.claims cert.nodes
+-- the text is that of the certificate, which is of this kind and for answers of this width
+pub record CertText (kind : CertKind) (answers : AnswerWidth) (text : List ℕ) (cert : Cert) : Type 0 where
+  pub good : IsCert kind cert
+  pub lines : text ≡ lines_of kind answers cert.claims cert.nodes
 
 -- the text begins with whole lines of claims and nodes, of which none is at fault, and leaves this many boxes open
-pub record Begins (version : ℕ) (text claims : List ℕ) (nodes : List Node) (open_boxes : ℕ)
+pub record Begins (kind : CertKind) (answers : AnswerWidth) (text claims : List ℕ) (nodes : List Node) (open_boxes : ℕ)
     (rest : List ℕ) : Type 0 where
-  pub lines : text ≡ lines_of version claims nodes ++ rest
+  pub lines : text ≡ lines_of kind answers claims nodes ++ rest
   pub good_claims : AreClaims claims
-  pub good_nodes : All (IsNode (length claims)) nodes
+  pub good_nodes : All (IsNode kind (length claims)) nodes
   pub left_open : open_behind nodes ≡ Some open_boxes
   pub few_leaves : leaf_count nodes ≤ 4096
 
@@ -56,30 +67,31 @@ pub record Begins (version : ℕ) (text claims : List ℕ) (nodes : List Node) (
 abbrev pub HasNoClaims : List ℕ → Type 0
 HasNoClaims rest = (rest ≢ []) × ((claims behind : List ℕ) → AreClaims claims → rest ≢ claim_line claims ++ behind)
 
-abbrev pub HasNoNode : ℕ → List ℕ → Type 0
-HasNoNode width rest =
-    (rest ≢ []) × ((node : Node) (behind : List ℕ) → IsNode width node → rest ≢ node_line node ++ behind)
+abbrev pub HasNoNode : CertKind → ℕ → List ℕ → Type 0
+HasNoNode kind width rest =
+    (rest ≢ []) × ((node : Node) (behind : List ℕ) → IsNode kind width node → rest ≢ node_line node ++ behind)
 
 -- the number of the line behind those of nodes
 abbrev pub line_behind : List Node → ℕ
 line_behind nodes = length nodes + 3
 
--- the text's first fault
-pub data HasFault (version : ℕ) (text : List ℕ) : CertFault → Type 0 where
-  bad_version : text ≢ [] → ((rest : List ℕ) → text ≢ version_line version ++ rest) → HasFault version text (BadLine 1)
-  no_version : text ≡ [] → HasFault version text Early
-  bad_claims : (rest : List ℕ) → text ≡ version_line version ++ rest → HasNoClaims rest
-      → HasFault version text (BadLine 2)
-  no_claims : text ≡ version_line version → HasFault version text Early
-  bad_node : (claims : List ℕ) (nodes : List Node) (n : ℕ) (rest : List ℕ) → Begins version text claims nodes n rest
-      → HasNoNode (length claims) rest
-      → HasFault version text (BadLine (line_behind nodes))
-  left_open : (claims : List ℕ) (nodes : List Node) (n : ℕ) → Begins version text claims nodes n [] → 0 < n
-      → HasFault version text Early
+-- the first fault of a text that is to have a certificate of this kind, for answers of this width
+pub data HasFault (kind : CertKind) (answers : AnswerWidth) (text : List ℕ) : CertFault → Type 0 where
+  bad_version : text ≢ [] → ((rest : List ℕ) → text ≢ version_line kind answers ++ rest)
+      → HasFault kind answers text (BadLine 1)
+  no_version : text ≡ [] → HasFault kind answers text Early
+  bad_claims : (rest : List ℕ) → text ≡ version_line kind answers ++ rest → HasNoClaims rest
+      → HasFault kind answers text (BadLine 2)
+  no_claims : text ≡ version_line kind answers → HasFault kind answers text Early
+  bad_node : (claims : List ℕ) (nodes : List Node) (n : ℕ) (rest : List ℕ)
+      → Begins kind answers text claims nodes n rest → HasNoNode kind (length claims) rest
+      → HasFault kind answers text (BadLine (line_behind nodes))
+  left_open : (claims : List ℕ) (nodes : List Node) (n : ℕ) → Begins kind answers text claims nodes n [] → 0 < n
+      → HasFault kind answers text Early
   late : (claims : List ℕ) (nodes : List Node) (node : Node) (behind : List ℕ)
-      → Begins version text claims nodes 0 (node_line node ++ behind) → IsNode (length claims) node
-      → HasFault version text (Late (line_behind nodes))
-  many_leaves : (claims : List ℕ) (nodes : List Node) (n : ℕ) (pairs : ArrayVec (ℕ × ℕ)) (behind : List ℕ)
-      → Begins version text claims nodes n (node_line (Leaf pairs) ++ behind)
-      → IsNode (length claims) (Leaf pairs) → 0 < n → leaf_count nodes ≡ 4096
-      → HasFault version text (TooManyLeaves (line_behind nodes))
+      → Begins kind answers text claims nodes 0 (node_line node ++ behind) → IsNode kind (length claims) node
+      → HasFault kind answers text (Late (line_behind nodes))
+  many_leaves : (claims : List ℕ) (nodes : List Node) (n : ℕ) (leaf : LeafForm) (behind : List ℕ)
+      → Begins kind answers text claims nodes n (node_line (Leaf leaf) ++ behind)
+      → IsNode kind (length claims) (Leaf leaf) → 0 < n → leaf_count nodes ≡ 4096
+      → HasFault kind answers text (TooManyLeaves (line_behind nodes))

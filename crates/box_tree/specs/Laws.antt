@@ -1,24 +1,28 @@
 -- What holds of every certificate's text.
-use Rattle.std.specs.Prelude.{◌≡◌, ◌≤◌, ℕ, List, ◌++◌, Some}
+use Rattle.std.specs.Prelude.{◌≡◌, ℕ, List, ◌++◌, Some}
+use Rattle.box_tree.specs.declared.cert.CertKind.{CertKind}
+use Rattle.box_tree.specs.declared.cert.AnswerWidth.{AnswerWidth}
 use Rattle.box_tree.specs.declared.cert.Node.{Node}
 use Rattle.box_tree.specs.declared.cert.Cert.{Cert}
 use Rattle.box_tree.specs.declared.cert.CertFault.{CertFault}
 use Rattle.box_tree.specs.Certificates.{CertText, HasFault}
 use Rattle.box_tree.specs.Trees.{open_from}
 
--- a text has at most one certificate, and is of one version
+-- a text has at most one certificate, of one kind and for answers of one width
 abbrev pub CertsAreOne : Type 0
 CertsAreOne =
-    (v w : ℕ) (text : List ℕ) (a b : Cert) → v ≤ 2 → w ≤ 2 → CertText v text a → CertText w text b → (v ≡ w) × (a ≡ b)
+    (k j : CertKind) (v w : AnswerWidth) (text : List ℕ) (a b : Cert) → CertText k v text a → CertText j w text b
+    → (k ≡ j) × (v ≡ w) × (a ≡ b)
 
 -- a text has at most one first fault
 abbrev pub FaultsAreOne : Type 0
-FaultsAreOne = (v : ℕ) (text : List ℕ) (f g : CertFault) → HasFault v text f → HasFault v text g → f ≡ g
+FaultsAreOne = (k : CertKind) (v : AnswerWidth) (text : List ℕ) (f g : CertFault) → HasFault k v text f
+    → HasFault k v text g → f ≡ g
 
 -- and one with a certificate has none
 abbrev pub CertTextsHaveNoFault : Type 0
-CertTextsHaveNoFault = (v : ℕ) (text : List ℕ) (cert : Cert) (f : CertFault) → CertText v text cert → HasFault v text f
-    → ⊥
+CertTextsHaveNoFault = (k : CertKind) (v : AnswerWidth) (text : List ℕ) (cert : Cert) (f : CertFault)
+    → CertText k v text cert → HasFault k v text f → ⊥
 
 -- more nodes go on with the boxes that those before left open
 abbrev pub OpenBoxesGoOn : Type 0

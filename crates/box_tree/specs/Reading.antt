@@ -1,5 +1,7 @@
 -- A reader of lines, and how far it has come.
 use Rattle.std.specs.Prelude.{◌≡◌, ℕ, ◌+◌, ◌<◌, List, [], ◌∷◌, ◌++◌, length, Some, None}
+use Rattle.box_tree.specs.declared.cert.CertKind.{CertKind}
+use Rattle.box_tree.specs.declared.cert.AnswerWidth.{AnswerWidth}
 use Rattle.box_tree.specs.declared.cert.Node.{Node}
 use Rattle.box_tree.specs.declared.cert.Cert.{Cert}
 use Rattle.box_tree.specs.declared.cert.CertFault.{CertFault}
@@ -21,8 +23,10 @@ abbrev pub cert_of : Lines → List Node → Cert
 cert_of lines nodes = record { claims = claims_of lines; nodes = nodes }
 
 -- the reader has read these nodes of the text, and has met no fault
-pub record HasRead (version : ℕ) (text : List ℕ) (nodes : List Node) (lines : Lines) : Type 0 where
-  pub begins : Begins version text (claims_of lines) nodes lines.open_boxes lines.rest.now
+pub record HasRead (kind : CertKind) (answers : AnswerWidth) (text : List ℕ) (nodes : List Node) (lines : Lines)
+    : Type 0 where
+  pub kind_is : lines.kind ≡ kind
+  pub begins : Begins kind answers text (claims_of lines) nodes lines.open_boxes lines.rest.now
   pub count : lines.read ≡ length nodes + 2
   pub leaves : lines.leaves ≡ leaf_count nodes
   pub no_fault : lines.fault ≡ None
@@ -33,7 +37,7 @@ HasFailed fault lines = lines.fault ≡ Some fault
 
 -- the next line is that of a node that may stand there, and this is behind it
 pub record StandsBefore (node : Node) (behind : List ℕ) (lines : Lines) : Type 0 where
-  pub good : IsNode (length (claims_of lines)) node
+  pub good : IsNode lines.kind (length (claims_of lines)) node
   pub line : lines.rest.now ≡ node_line node ++ behind
   pub shorter : length behind < length lines.rest.now
   pub box_open : 0 < lines.open_boxes

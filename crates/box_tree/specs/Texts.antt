@@ -1,5 +1,11 @@
 -- The lines of a certificate's text: a word, numbers, and the end of the line.
 use Rattle.std.specs.Prelude.{ℕ, List, [], ◌∷◌, ◌++◌, codes, decimal}
+use Rattle.box_tree.specs.declared.cert.CertKind.{CertKind}
+use Rattle.box_tree.specs.declared.cert.CertKind.TheVariants.{Named, Tight}
+use Rattle.box_tree.specs.declared.cert.AnswerWidth.{AnswerWidth}
+use Rattle.box_tree.specs.declared.cert.AnswerWidth.TheVariants.{Byte, Word}
+use Rattle.box_tree.specs.declared.cert.LeafForm.{LeafForm}
+use Rattle.box_tree.specs.declared.cert.LeafForm.TheVariants as form
 use Rattle.box_tree.specs.declared.cert.Node.{Node}
 use Rattle.box_tree.specs.declared.cert.Node.TheVariants.{Split, Leaf}
 
@@ -11,8 +17,15 @@ numbers (n ∷ ns) = codes " " ++ (decimal n ++ numbers ns)
 abbrev pub line : List ℕ → List ℕ → List ℕ
 line word ns = word ++ (numbers ns ++ codes "\n")
 
-abbrev pub version_line : ℕ → List ℕ
-version_line version = line (codes "FZC") (version ∷ [])
+-- the version of the texts of certificates of this kind, for answers of this width
+abbrev pub version_of : CertKind → AnswerWidth → ℕ
+version_of Named Byte = 1
+version_of Named Word = 2
+version_of Tight Byte = 3
+version_of Tight Word = 4
+
+abbrev pub version_line : CertKind → AnswerWidth → List ℕ
+version_line kind answers = line (codes "FZC") (version_of kind answers ∷ [])
 
 abbrev pub claim_line : List ℕ → List ℕ
 claim_line claims = line (codes "claim") claims
@@ -22,14 +35,20 @@ abbrev pub pair_numbers : List (ℕ × ℕ) → List ℕ
 pair_numbers [] = []
 pair_numbers (p ∷ pairs) = p.0 ∷ p.1 ∷ pair_numbers pairs
 
+-- its pairs, or a word alone
+abbrev pub leaf_line : LeafForm → List ℕ
+leaf_line (form.Pairs pairs) = line (codes "leaf") (pair_numbers pairs.items)
+leaf_line form.Tight = line (codes "leaf") []
+leaf_line form.Cells = line (codes "cells") []
+
 abbrev pub node_line : Node → List ℕ
 node_line (Split input cut) = line (codes "split") (input ∷ cut ∷ [])
-node_line (Leaf pairs) = line (codes "leaf") (pair_numbers pairs.items)
+node_line (Leaf leaf) = leaf_line leaf
 
 abbrev pub node_lines : List Node → List ℕ
 node_lines [] = []
 node_lines (node ∷ nodes) = node_line node ++ node_lines nodes
 
 -- the version, the claims, and then the nodes
-abbrev pub lines_of : ℕ → List ℕ → List Node → List ℕ
-lines_of version claims nodes = version_line version ++ (claim_line claims ++ node_lines nodes)
+abbrev pub lines_of : CertKind → AnswerWidth → List ℕ → List Node → List ℕ
+lines_of kind answers claims nodes = version_line kind answers ++ (claim_line claims ++ node_lines nodes)

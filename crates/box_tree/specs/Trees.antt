@@ -9,7 +9,7 @@ abbrev pub open_from : ℕ → List Node → Option ℕ
 open_from n [] = Some n
 open_from zero (node ∷ nodes) = None
 open_from (suc n) (Split input cut ∷ nodes) = open_from (suc (suc n)) nodes
-open_from (suc n) (Leaf pairs ∷ nodes) = open_from n nodes
+open_from (suc n) (Leaf leaf ∷ nodes) = open_from n nodes
 
 -- the same of one box
 abbrev pub open_behind : List Node → Option ℕ
@@ -22,4 +22,4 @@ IsTree nodes = open_behind nodes ≡ Some 0
 abbrev pub leaf_count : List Node → ℕ
 leaf_count [] = 0
 leaf_count (Split input cut ∷ nodes) = leaf_count nodes
-leaf_count (Leaf pairs ∷ nodes) = leaf_count nodes + 1
+leaf_count (Leaf leaf ∷ nodes) = leaf_count nodes + 1

@@ -12,15 +12,45 @@ pub struct Cert {
     pub nodes: List<Node>,
 }
 
+/// What the leaves of a certificate say.
+#[derive(Clone, Copy, PartialEq, Eq, Debug)]
+pub enum CertKind {
+    /// Each leaf names for each output a rule, and how much of its truth is counted on.
+    Named,
+    /// Each leaf is a word alone, for its box as a whole or for its cells.
+    Tight,
+}
+
+/// How wide the answers are that a certificate is for.
+#[derive(Clone, Copy, PartialEq, Eq, Debug)]
+pub enum AnswerWidth {
+    /// 8 bits.
+    Byte,
+    /// 16 bits.
+    Word,
+}
+
 /// A node of a tree of boxes.
 #[derive(Clone, PartialEq, Eq, Debug, Drop)]
 pub enum Node {
     /// The input, from 1 to 8, and the byte where its interval is cut: the left part keeps the bytes
     /// below, the right part those from there on.
     Split(u8, u8),
+    /// A box that is not cut.
+    Leaf(LeafForm),
+}
+
+/// What the line of a leaf says.
+#[derive(Clone, PartialEq, Eq, Debug, Drop)]
+pub enum LeafForm {
     /// One pair for each claim: the number of a rule, from 1 to 256, and how many 255ths of its
-    /// truth are counted on, from 1 to 255; or 0 and 0, where no rule has any.
-    Leaf(ArrayVec<(u16, u8), 4>),
+    /// truth are counted on, from 1 to 255; or 0 and 0, where no rule has any. It stands in
+    /// certificates of the kind `Named`.
+    Pairs(ArrayVec<(u16, u8), 4>),
+    /// The word `leaf` alone, for the box as a whole. It stands in those of the kind `Tight`.
+    Tight,
+    /// The word `cells` alone, for each cell of the box. It stands in those of the kind `Tight`.
+    Cells,
 }
 
 /// Why a text has no certificate. Lines count from 1.
@@ -35,7 +65,7 @@ pub enum CertFault {
     /// That line follows a whole tree.
     #[error("line {0} is too late")]
     Late(u32),
-    /// That line is leaf 4097.
+    /// That line is leaf 4097, of all forms together.
     #[error("line {0} has too many leaves")]
     TooManyLeaves(u32),
     /// There was no memory for the certificate.

@@ -1,7 +1,7 @@
 //! Laws of the definitions.
 ghost use Rattle.box_tree.specs.Laws.{CertsAreOne, FaultsAreOne, CertTextsHaveNoFault, OpenBoxesGoOn};
 
-/// A text has at most one certificate, and is of one version.
+/// A text has at most one certificate, of one kind and for answers of one width.
 pub fn certs_are_one()
     ensures { CertsAreOne }
 {}

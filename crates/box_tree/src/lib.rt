@@ -1,10 +1,11 @@
 //! Certificates as text: a claim for each output, and a tree of boxes in prefix order.
 //!
-//! A [`Cert`] holds the claims and the nodes of the tree. [`read`] answers exactly the certificate that
+//! A [`Cert`] holds the claims and the nodes of the tree. Its leaves name rules, or are tight: a [`CertKind`] says
+//! which, and an [`AnswerWidth`] which answers it is for. [`read`] answers exactly the certificate that
 //! a text spells, or exactly its first fault; [`write`] answers the text, and what is written is read
 //! to the same. [`Lines`] reads a text node by node without memory: a caller knows at each node which
 //! nodes the text begins with, at the end that they are its certificate, and at a fault that it is
-//! the text's first.
+//! the text's first. Each of these stands once for all kinds and widths.
 #![tactic(auto)]
 
 mod cert;
@@ -16,8 +17,8 @@ mod reader;
 mod text;
 mod writer;
 
-pub use cert::{Cert, CertFault, Node};
+pub use cert::{AnswerWidth, Cert, CertFault, CertKind, LeafForm, Node};
 pub use laws::{cert_texts_have_no_fault, certs_are_one, faults_are_one, open_boxes_go_on};
 pub use lines::Lines;
-pub use reader::{read, read16};
-pub use writer::{write, write16};
+pub use reader::{read, read_tight, read_tight16, read16};
+pub use writer::{write, write_tight, write_tight16, write16};

@@ -1,20 +1,23 @@
 //! A certificate's text, node by node.
 ghost use Rattle.std.specs.Prelude.{◌≡◌, ◌≢◌, ◌≤◌, ◌<◌, ◌+◌, ℕ, List, [], ◌∷◌, ◌++◌, length, MatchOption, IfSome, IfOk};
 ghost use Rattle.std.specs.Prelude.{IfErr, Err};
+ghost use Rattle.box_tree.specs.declared.cert.CertKind.{CertKind as TheKind};
+ghost use Rattle.box_tree.specs.declared.cert.AnswerWidth.{AnswerWidth as TheWidth};
 ghost use Rattle.box_tree.specs.declared.cert.Node.{Node as TheNode};
 ghost use Rattle.box_tree.specs.declared.cert.CertFault.{CertFault as TheFault};
 
-use crate::cert::{CertFault, Node};
+use crate::cert::{AnswerWidth, CertFault, CertKind, Node};
 use crate::header::{behind_version, claims_at, copy_of};
 use crate::nodes::node_at;
 use arrayvec::ArrayVec;
 
-/// The most leaves of a certificate.
+/// The most leaves of a certificate, whatever their lines say.
 const MOST_LEAVES: u32 = 4096;
 
 /// Reads a certificate's text node by node. It takes no memory.
 #[derive(Drop)]
 pub struct Lines<'a> {
+    kind: CertKind,
     /// What is not read yet.
     rest: &'a [u8],
     claims: ArrayVec<u32, 4>,
@@ -37,31 +40,53 @@ impl<'a> Lines<'a> {
     /// The reader of a text of version 1, behind its claims.
     pub fn new(text: &'a [u8]) -> Result<Lines<'a>, CertFault>
         requires { length text.now ≤ 1048576 }
-        ensures begun { IfOk result (HasRead 1 text.now []) }
-        ensures fault { IfErr result (HasFault 1 text.now) }
+        ensures begun { IfOk result (HasRead CertKind.Named AnswerWidth.Byte text.now []) }
+        ensures fault { IfErr result (HasFault CertKind.Named AnswerWidth.Byte text.now) }
     {
-        Lines::of_version(text, 1)
+        Lines::of(text, CertKind::Named, AnswerWidth::Byte)
     }
 
     /// The reader of a text of version 2, which is that of a certificate for answers of 16 bits.
     pub fn new16(text: &'a [u8]) -> Result<Lines<'a>, CertFault>
         requires { length text.now ≤ 1048576 }
-        ensures begun { IfOk result (HasRead 2 text.now []) }
-        ensures fault { IfErr result (HasFault 2 text.now) }
+        ensures begun { IfOk result (HasRead CertKind.Named AnswerWidth.Word text.now []) }
+        ensures fault { IfErr result (HasFault CertKind.Named AnswerWidth.Word text.now) }
     {
-        Lines::of_version(text, 2)
+        Lines::of(text, CertKind::Named, AnswerWidth::Word)
     }
 
-    fn of_version(text: &'a [u8], version: u32) -> Result<Lines<'a>, CertFault>
-        requires short { length text.now ≤ 1048576 }
-        requires version { version ≤ 2 }
-        ensures begun { IfOk result (HasRead version text.now []) }
-        ensures fault { IfErr result (HasFault version text.now) }
+    /// The reader of a text of version 3, which is that of a tight certificate.
+    pub fn new_tight(text: &'a [u8]) -> Result<Lines<'a>, CertFault>
+        requires { length text.now ≤ 1048576 }
+        ensures begun { IfOk result (HasRead CertKind.Tight AnswerWidth.Byte text.now []) }
+        ensures fault { IfErr result (HasFault CertKind.Tight AnswerWidth.Byte text.now) }
+    {
+        Lines::of(text, CertKind::Tight, AnswerWidth::Byte)
+    }
+
+    /// The reader of a text of version 4, which is that of a tight certificate for answers of 16 bits.
+    pub fn new_tight16(text: &'a [u8]) -> Result<Lines<'a>, CertFault>
+        requires { length text.now ≤ 1048576 }
+        ensures begun { IfOk result (HasRead CertKind.Tight AnswerWidth.Word text.now []) }
+        ensures fault { IfErr result (HasFault CertKind.Tight AnswerWidth.Word text.now) }
+    {
+        Lines::of(text, CertKind::Tight, AnswerWidth::Word)
+    }
+
+    /// The reader of a text that is to have a certificate of this kind, for answers of this width.
+    pub(crate) fn of(
+        text: &'a [u8],
+        kind: CertKind,
+        answers: AnswerWidth,
+    ) -> Result<Lines<'a>, CertFault>
+        requires { length text.now ≤ 1048576 }
+        ensures begun { IfOk result (HasRead kind answers text.now []) }
+        ensures fault { IfErr result (HasFault kind answers text.now) }
     {
         if text.is_empty() {
             return Err(CertFault::Early);
         }
-        let claim_text = match behind_version(text, version) {
+        let claim_text = match behind_version(text, kind, answers) {
             Some(rest) => rest,
             None => return Err(CertFault::BadLine(1)),
         };
@@ -70,6 +95,7 @@ impl<'a> Lines<'a> {
         }
         match claims_at(claim_text) {
             Some((claims, rest)) => Ok(Lines {
+                kind,
                 rest,
                 claims,
                 read: 2,
@@ -93,12 +119,14 @@ impl<'a> Lines<'a> {
     pub fn next(&mut self) -> Result<Option<Node>, CertFault>
         ensures less { IfOk result (λ next. IfSome next (λ _. unread_len self.new < unread_len self.old)) }
         ensures claims { claims_of self.new ≡ claims_of self.old }
-        ensures node { (version : ℕ) (text : List ℕ) (nodes : List TheNode) → HasRead version text nodes self.old
+        ensures node { (k : TheKind) (v : TheWidth) (text : List ℕ) (nodes : List TheNode)
+            → HasRead k v text nodes self.old
             → IfOk result
-            (λ next. MatchOption next (CertText version text (cert_of self.old nodes) × (self.new ≡ self.old))
-            (λ node. HasRead version text (nodes ++ node ∷ []) self.new)) }
-        ensures fault { (version : ℕ) (text : List ℕ) (nodes : List TheNode) → HasRead version text nodes self.old
-            → IfErr result (λ fault. HasFault version text fault × HasFailed fault self.new) }
+            (λ next. MatchOption next (CertText k v text (cert_of self.old nodes) × (self.new ≡ self.old))
+            (λ node. HasRead k v text (nodes ++ node ∷ []) self.new)) }
+        ensures fault { (k : TheKind) (v : TheWidth) (text : List ℕ) (nodes : List TheNode)
+            → HasRead k v text nodes self.old
+            → IfErr result (λ fault. HasFault k v text fault × HasFailed fault self.new) }
         ensures again { (fault : TheFault) → HasFailed fault self.old → (result ≡ Err fault) × (self.new ≡ self.old) }
     {
         if let Some(fault) = self.fault {
@@ -130,8 +158,9 @@ impl<'a> Lines<'a> {
     fn node_here(&self) -> Result<Option<(Node, &'a [u8])>, CertFault>
         ensures node { IfOk result (λ next. MatchOption next ((self.now.rest.now ≡ []) × (self.now.open_boxes ≡ 0))
             (λ r. StandsBefore r.0 r.1.now self.now)) }
-        ensures fault { (version : ℕ) (text : List ℕ) (nodes : List TheNode) → HasRead version text nodes self.now
-            → IfErr result (HasFault version text) }
+        ensures fault { (k : TheKind) (v : TheWidth) (text : List ℕ) (nodes : List TheNode)
+            → HasRead k v text nodes self.now
+            → IfErr result (HasFault k v text) }
     {
         if self.rest.is_empty() {
             return if self.open_boxes == 0 {
@@ -141,7 +170,7 @@ impl<'a> Lines<'a> {
             };
         }
         let line = self.read + 1;
-        let (node, behind) = match node_at(self.rest, self.claims.len()) {
+        let (node, behind) = match node_at(self.rest, self.kind, self.claims.len()) {
             Some(found) => found,
             None => return Err(CertFault::BadLine(line)),
         };

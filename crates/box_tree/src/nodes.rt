@@ -1,12 +1,13 @@
 //! The node of a line.
 ghost use Rattle.std.specs.Prelude.{◌≡◌, ◌≢◌, ◌↔◌, ◌≤◌, ◌<◌, ℕ, List, [], ◌∷◌, ◌++◌, length, MatchOption, IfSome, All};
 ghost use Rattle.std.specs.Prelude.{IsTrue};
+ghost use Rattle.box_tree.specs.declared.cert.LeafForm.{LeafForm as TheForm};
 ghost use Rattle.box_tree.specs.declared.cert.Node.{Node as TheNode};
-ghost use Rattle.box_tree.specs.Certificates.{IsCut, IsNode, IsPair};
-ghost use Rattle.box_tree.specs.Texts.{node_line, pair_numbers};
+ghost use Rattle.box_tree.specs.Certificates.{IsCut, IsLeaf, IsNode, IsPair};
+ghost use Rattle.box_tree.specs.Texts.{leaf_line, node_line, pair_numbers};
 
-use crate::cert::Node;
-use crate::text::numbers_of;
+use crate::cert::{CertKind, LeafForm, Node};
+use crate::text::{after, numbers_of};
 use arrayvec::ArrayVec;
 
 /// The cut of two numbers: an input and a byte.
@@ -51,13 +52,51 @@ fn pairs_of(numbers: &[u32], width: usize) -> Option<ArrayVec<(u16, u8), 4>>
     Some(pairs)
 }
 
+/// The leaf whose line stands at the front of a text, and what follows it, in a certificate that names rules.
+fn named_leaf_at(text: &[u8], width: usize) -> Option<(LeafForm, &[u8])>
+    requires { width ≤ 4 }
+    ensures { MatchOption result ((leaf : TheForm) (behind : List ℕ) → IsLeaf CertKind.Named width leaf
+        → text.now ≢ leaf_line leaf ++ behind)
+        (λ r. IsLeaf CertKind.Named width r.0 × (text.now ≡ leaf_line r.0 ++ r.1.now)) }
+{
+    let (numbers, behind) = numbers_of(b"leaf", text)?;
+    let pairs = pairs_of(numbers.as_slice(), width)?;
+    Some((LeafForm::Pairs(pairs), behind))
+}
+
+/// The same in one that names none.
+fn tight_leaf_at(text: &[u8]) -> Option<(LeafForm, &[u8])>
+    ensures { (width : ℕ) → MatchOption result ((leaf : TheForm) (behind : List ℕ) → IsLeaf CertKind.Tight width leaf
+        → text.now ≢ leaf_line leaf ++ behind)
+        (λ r. IsLeaf CertKind.Tight width r.0 × (text.now ≡ leaf_line r.0 ++ r.1.now)) }
+{
+    if let Some(behind) = after(b"leaf\n", text) {
+        return Some((LeafForm::Tight, behind));
+    }
+    let behind = after(b"cells\n", text)?;
+    Some((LeafForm::Cells, behind))
+}
+
+/// The same in a certificate of this kind.
+fn leaf_at(text: &[u8], kind: CertKind, width: usize) -> Option<(LeafForm, &[u8])>
+    requires { width ≤ 4 }
+    ensures { MatchOption result ((leaf : TheForm) (behind : List ℕ) → IsLeaf kind width leaf
+        → text.now ≢ leaf_line leaf ++ behind)
+        (λ r. IsLeaf kind width r.0 × (text.now ≡ leaf_line r.0 ++ r.1.now)) }
+{
+    match kind {
+        CertKind::Named => named_leaf_at(text, width),
+        CertKind::Tight => tight_leaf_at(text),
+    }
+}
+
 /// The node whose line stands at the front of a text, and what follows it.
-pub(crate) fn node_at(text: &[u8], width: usize) -> Option<(Node, &[u8])>
+pub(crate) fn node_at(text: &[u8], kind: CertKind, width: usize) -> Option<(Node, &[u8])>
     requires { width ≤ 4 }
     ensures shorter { IfSome result (λ r. length r.1.now < length text.now) }
-    ensures node { MatchOption result ((node : TheNode) (behind : List ℕ) → IsNode width node
+    ensures node { MatchOption result ((node : TheNode) (behind : List ℕ) → IsNode kind width node
         → text.now ≢ node_line node ++ behind)
-        (λ r. IsNode width r.0 × (text.now ≡ node_line r.0 ++ r.1.now)) }
+        (λ r. IsNode kind width r.0 × (text.now ≡ node_line r.0 ++ r.1.now)) }
 {
     match numbers_of(b"split", text) {
         Some((numbers, behind)) => {
@@ -65,9 +104,8 @@ pub(crate) fn node_at(text: &[u8], width: usize) -> Option<(Node, &[u8])>
             Some((Node::Split(input, cut), behind))
         }
         None => {
-            let (numbers, behind) = numbers_of(b"leaf", text)?;
-            let pairs = pairs_of(numbers.as_slice(), width)?;
-            Some((Node::Leaf(pairs), behind))
+            let (leaf, behind) = leaf_at(text, kind, width)?;
+            Some((Node::Leaf(leaf), behind))
         }
     }
 }

@@ -1,9 +1,11 @@
 //! Whole certificates from texts.
 ghost use Rattle.std.specs.Prelude.{◌≡◌, ◌≢◌, ◌≤◌, ℕ, List as Items, [], length, IfOk, IfErr};
+ghost use Rattle.box_tree.specs.declared.cert.CertKind.{CertKind as TheKind};
+ghost use Rattle.box_tree.specs.declared.cert.AnswerWidth.{AnswerWidth as TheWidth};
 ghost use Rattle.box_tree.specs.Certificates.{CertText, HasFault};
 ghost use Rattle.box_tree.specs.Reading.{HasRead};
 
-use crate::cert::{Cert, CertFault, Node};
+use crate::cert::{AnswerWidth, Cert, CertFault, CertKind, Node};
 use crate::lines::Lines;
 use arrayvec::ArrayVec;
 use fz_list::List;
@@ -12,23 +14,57 @@ use std::alloc::Global;
 /// The certificate of a text of version 1, or the text's first fault.
 pub fn read(alloc: Global, text: &[u8]) -> Result<Cert, CertFault>
     requires { length text.now ≤ 1048576 }
-    ensures cert { IfOk result (CertText 1 text.now) }
-    ensures fault { IfErr result (λ fault. fault ≢ CertFault.Memory → HasFault 1 text.now fault) }
+    ensures cert { IfOk result (CertText CertKind.Named AnswerWidth.Byte text.now) }
+    ensures fault { IfErr result (λ fault.
+        fault ≢ CertFault.Memory → HasFault CertKind.Named AnswerWidth.Byte text.now fault) }
 {
-    match Lines::new(text) {
-        Ok(lines) => cert_behind(alloc, lines),
-        Err(fault) => Err(fault),
-    }
+    cert_in(alloc, text, CertKind::Named, AnswerWidth::Byte)
 }
 
 /// The certificate of a text of version 2, which is for answers of 16 bits, or the text's first
 /// fault.
 pub fn read16(alloc: Global, text: &[u8]) -> Result<Cert, CertFault>
     requires { length text.now ≤ 1048576 }
-    ensures cert { IfOk result (CertText 2 text.now) }
-    ensures fault { IfErr result (λ fault. fault ≢ CertFault.Memory → HasFault 2 text.now fault) }
+    ensures cert { IfOk result (CertText CertKind.Named AnswerWidth.Word text.now) }
+    ensures fault { IfErr result (λ fault.
+        fault ≢ CertFault.Memory → HasFault CertKind.Named AnswerWidth.Word text.now fault) }
 {
-    match Lines::new16(text) {
+    cert_in(alloc, text, CertKind::Named, AnswerWidth::Word)
+}
+
+/// The tight certificate of a text of version 3, or the text's first fault.
+pub fn read_tight(alloc: Global, text: &[u8]) -> Result<Cert, CertFault>
+    requires { length text.now ≤ 1048576 }
+    ensures cert { IfOk result (CertText CertKind.Tight AnswerWidth.Byte text.now) }
+    ensures fault { IfErr result (λ fault.
+        fault ≢ CertFault.Memory → HasFault CertKind.Tight AnswerWidth.Byte text.now fault) }
+{
+    cert_in(alloc, text, CertKind::Tight, AnswerWidth::Byte)
+}
+
+/// The tight certificate of a text of version 4, which is for answers of 16 bits, or the text's
+/// first fault.
+pub fn read_tight16(alloc: Global, text: &[u8]) -> Result<Cert, CertFault>
+    requires { length text.now ≤ 1048576 }
+    ensures cert { IfOk result (CertText CertKind.Tight AnswerWidth.Word text.now) }
+    ensures fault { IfErr result (λ fault.
+        fault ≢ CertFault.Memory → HasFault CertKind.Tight AnswerWidth.Word text.now fault) }
+{
+    cert_in(alloc, text, CertKind::Tight, AnswerWidth::Word)
+}
+
+/// The certificate of this kind, for answers of this width, that a text has, or the text's first fault.
+fn cert_in(
+    alloc: Global,
+    text: &[u8],
+    kind: CertKind,
+    answers: AnswerWidth,
+) -> Result<Cert, CertFault>
+    requires { length text.now ≤ 1048576 }
+    ensures cert { IfOk result (CertText kind answers text.now) }
+    ensures fault { IfErr result (λ fault. fault ≢ CertFault.Memory → HasFault kind answers text.now fault) }
+{
+    match Lines::of(text, kind, answers) {
         Ok(lines) => cert_behind(alloc, lines),
         Err(fault) => Err(fault),
     }
@@ -36,10 +72,10 @@ pub fn read16(alloc: Global, text: &[u8]) -> Result<Cert, CertFault>
 
 /// The certificate of a text of which the first two lines are read.
 fn cert_behind(alloc: Global, mut lines: Lines<'_>) -> Result<Cert, CertFault>
-    ensures cert { (version : ℕ) (text : Items ℕ) → HasRead version text [] lines.entry
-        → IfOk result (CertText version text) }
-    ensures fault { (version : ℕ) (text : Items ℕ) → HasRead version text [] lines.entry
-        → IfErr result (λ fault. fault ≢ CertFault.Memory → HasFault version text fault) }
+    ensures cert { (k : TheKind) (v : TheWidth) (text : Items ℕ) → HasRead k v text [] lines.entry
+        → IfOk result (CertText k v text) }
+    ensures fault { (k : TheKind) (v : TheWidth) (text : Items ℕ) → HasRead k v text [] lines.entry
+        → IfErr result (λ fault. fault ≢ CertFault.Memory → HasFault k v text fault) }
 {
     let mut nodes = Vec::new(alloc);
     loop {

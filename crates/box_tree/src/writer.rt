@@ -4,32 +4,54 @@ ghost use Rattle.arrayvec.specs.ArrayVec.{array_vec_len};
 ghost use Rattle.box_tree.specs.Certificates.{CertText, IsCert};
 ghost use Rattle.box_tree.specs.Texts.{line, lines_of, node_line, node_lines, pair_numbers};
 
-use crate::cert::{Cert, Node};
+use crate::cert::{AnswerWidth, Cert, CertKind, LeafForm, Node};
+use crate::header::version_of;
 use arrayvec::ArrayVec;
 use itoa::Buffer;
 use std::alloc::{AllocError, Global};
 
-/// The text of a certificate, of version 1.
+/// The text of a certificate that names rules, of version 1.
 pub fn write(alloc: Global, cert: &Cert) -> Result<Vec<u8>, AllocError>
-    requires { IsCert cert.now }
-    ensures { IfOk result (λ text. CertText 1 text.items cert.now) }
+    requires { IsCert CertKind.Named cert.now }
+    ensures { IfOk result (λ text. CertText CertKind.Named AnswerWidth.Byte text.items cert.now) }
 {
-    text_of(alloc, cert, 1)
+    text_of(alloc, cert, CertKind::Named, AnswerWidth::Byte)
 }
 
-/// The text of a certificate for answers of 16 bits, of version 2.
+/// The text of a certificate that names rules, for answers of 16 bits, of version 2.
 pub fn write16(alloc: Global, cert: &Cert) -> Result<Vec<u8>, AllocError>
-    requires { IsCert cert.now }
-    ensures { IfOk result (λ text. CertText 2 text.items cert.now) }
+    requires { IsCert CertKind.Named cert.now }
+    ensures { IfOk result (λ text. CertText CertKind.Named AnswerWidth.Word text.items cert.now) }
 {
-    text_of(alloc, cert, 2)
+    text_of(alloc, cert, CertKind::Named, AnswerWidth::Word)
 }
 
-fn text_of(alloc: Global, cert: &Cert, version: u32) -> Result<Vec<u8>, AllocError>
-    ensures { IfOk result (λ text. text.items ≡ lines_of version cert.now.claims cert.now.nodes) }
+/// The text of a tight certificate, of version 3.
+pub fn write_tight(alloc: Global, cert: &Cert) -> Result<Vec<u8>, AllocError>
+    requires { IsCert CertKind.Tight cert.now }
+    ensures { IfOk result (λ text. CertText CertKind.Tight AnswerWidth.Byte text.items cert.now) }
+{
+    text_of(alloc, cert, CertKind::Tight, AnswerWidth::Byte)
+}
+
+/// The text of a tight certificate for answers of 16 bits, of version 4.
+pub fn write_tight16(alloc: Global, cert: &Cert) -> Result<Vec<u8>, AllocError>
+    requires { IsCert CertKind.Tight cert.now }
+    ensures { IfOk result (λ text. CertText CertKind.Tight AnswerWidth.Word text.items cert.now) }
+{
+    text_of(alloc, cert, CertKind::Tight, AnswerWidth::Word)
+}
+
+fn text_of(
+    alloc: Global,
+    cert: &Cert,
+    kind: CertKind,
+    answers: AnswerWidth,
+) -> Result<Vec<u8>, AllocError>
+    ensures { IfOk result (λ text. text.items ≡ lines_of kind answers cert.now.claims cert.now.nodes) }
 {
     let mut text = Vec::new(alloc);
-    put_line(&mut text, b"FZC", &[version])?;
+    put_line(&mut text, b"FZC", &[version_of(kind, answers)])?;
     put_line(&mut text, b"claim", cert.claims.as_slice())?;
     put_nodes(&mut text, cert.nodes.as_slice())?;
     Ok(text)
@@ -49,7 +71,11 @@ fn put_node(text: &mut Vec<u8>, node: &Node) -> Result<(), AllocError>
 {
     match node {
         Node::Split(input, cut) => put_line(text, b"split", &[u32::from(*input), u32::from(*cut)]),
-        Node::Leaf(pairs) => put_line(text, b"leaf", numbers_of_pairs(pairs).as_slice()),
+        Node::Leaf(LeafForm::Pairs(pairs)) => {
+            put_line(text, b"leaf", numbers_of_pairs(pairs).as_slice())
+        }
+        Node::Leaf(LeafForm::Tight) => put_line(text, b"leaf", &[]),
+        Node::Leaf(LeafForm::Cells) => put_line(text, b"cells", &[]),
     }
 }
 

@@ -5,6 +5,8 @@ use Rattle.std.specs.Prelude.{◌≢◌, All, Result, Ok, Err, IfOk, IfErr}
 use Rattle.std.specs.Global.{Vec}
 use Rattle.std.proofs.Math.Seq.{take-suc}
 use Rattle.fuzzy_meaning.specs.declared.block.Block.{Block}
+use Rattle.box_tree.specs.declared.cert.CertKind.TheVariants.{Named}
+use Rattle.box_tree.specs.declared.cert.AnswerWidth.{AnswerWidth}
 use Rattle.box_tree.specs.declared.cert.Node.{Node}
 use Rattle.box_tree.specs.declared.cert.Node.TheVariants.{Split, Leaf}
 use Rattle.box_tree.specs.declared.cert.Cert.{Cert}
@@ -41,8 +43,8 @@ module _ (b : Block) (claims : List ℕ) (h : ℕ) (w : Walk) (over : IsWalkOver
   cert_is : cert_over w nodes ≡ the_cert
   cert_is = ap (λ (cs : List ℕ). record { claims = cs; nodes = nodes }) over.claims_are
 
-  pub is_cert : IsCert the_cert → IsCert (cert_over w nodes)
-  is_cert good = subst (λ c. IsCert c) (sym cert_is) good
+  pub is_cert : IsCert Named the_cert → IsCert Named (cert_over w nodes)
+  is_cert good = subst (λ c. IsCert Named c) (sym cert_is) good
 
   pub accepted_over : (errors : List ℕ) → IsAccepted w.block.now w.parts (cert_over w nodes) errors
       → IsAccepted b h the_cert errors
@@ -64,7 +66,7 @@ opens-front : (k m : ℕ) (nodes more : List Node) → open_from k (nodes ++ mor
 opens-front k m [] more e = (k, refl)
 opens-front zero m (node ∷ nodes) more e = absurd (let z : ⊥ = cc in z)
 opens-front (suc k) m (Split i c ∷ nodes) more e = opens-front (suc (suc k)) m nodes more e
-opens-front (suc k) m (Leaf pairs ∷ nodes) more e = opens-front k m nodes more e
+opens-front (suc k) m (Leaf form ∷ nodes) more e = opens-front k m nodes more e
 
 All-take : {X : Type 0} (P : X → Type 0) (xs : List X) (k : ℕ) → All P xs → All P (take k xs)
 All-take P xs zero all j d l = absurd (omega arith)
@@ -72,13 +74,13 @@ All-take P [] (suc k) all j d l = absurd (omega arith)
 All-take P (x ∷ xs) (suc k) all zero d l = all 0 d (omega arith)
 All-take P (x ∷ xs) (suc k) all (suc j) d l = All-take P xs k (λ i e m. all (suc i) e (omega arith)) j d (omega arith)
 
-are_first : (cert : Cert) (k : ℕ) → IsCert cert → AreFirst (length cert.claims) (take k cert.nodes)
+are_first : (cert : Cert) (k : ℕ) → IsCert Named cert → AreFirst (length cert.claims) (take k cert.nodes)
 are_first cert k good =
     let parts : take k cert.nodes ++ drop k cert.nodes ≡ cert.nodes = take-append-drop k cert.nodes in
     let leaves = leaves-front (take k cert.nodes) (drop k cert.nodes) in
     let few = good.few_leaves in
     record {
-      good = All-take (IsNode (length cert.claims)) cert.nodes k good.nodes;
+      good = All-take (IsNode Named (length cert.claims)) cert.nodes k good.nodes;
       opens = opens-front 1 0 (take k cert.nodes) (drop k cert.nodes) (ap (λ ns. open_from 1 ns) parts ∙ good.tree);
       few_leaves = omega (arith, leaves, few, ap leaf_count parts);
     }
@@ -96,9 +98,10 @@ take_all (node ∷ nodes) (suc k) l = ap (λ (ns : List Node). node ∷ ns) (tak
 
 -- ---- the nodes of a text, as far as it is read
 
-pub first_of_text : (version : ℕ) (text : List ℕ) (nodes : List Node) (lines : Lines) → HasRead version text nodes lines
+pub first_of_text : (answers : AnswerWidth) (text : List ℕ) (nodes : List Node) (lines : Lines)
+    → HasRead Named answers text nodes lines
     → AreFirst (length (claims_of lines)) nodes
-first_of_text version text nodes lines read =
+first_of_text answers text nodes lines read =
     record {
       good = read.begins.good_nodes;
       opens = (lines.open_boxes, read.begins.left_open);
@@ -116,7 +119,7 @@ IfErr-then P Q (Err e) f p = f e p
 
 -- ---- a walk over a certificate, behind its first k nodes
 
-module _ (b : Block) (h : ℕ) (cert : Cert) (w : Walk) (over : IsWalkOver b cert.claims h w) (good : IsCert cert)
+module _ (b : Block) (h : ℕ) (cert : Cert) (w : Walk) (over : IsWalkOver b cert.claims h w) (good : IsCert Named cert)
     (k : ℕ) where
   -- the next node, which is read of a slice
   module _ (nodes : List Node) (node : Node) (same : nodes ≡ cert.nodes) (within : k < length nodes)
@@ -147,7 +150,7 @@ module _ (b : Block) (h : ℕ) (cert : Cert) (w : Walk) (over : IsWalkOver b cer
 
     -- what it answers is of the certificate
     pub IsAccepted-all : (r : Result (Vec ℕ) CheckFault)
-        → ((ns : List Node) → HasTaken ns w → IsCert (cert_over w ns)
+        → ((ns : List Node) → HasTaken ns w → IsCert Named (cert_over w ns)
         → IfOk r (λ es. IsAccepted w.block.now w.parts (cert_over w ns) es.items))
         → IfOk r (λ es. IsAccepted b h cert es.items)
     IsAccepted-all r accepted =
@@ -157,7 +160,7 @@ module _ (b : Block) (h : ℕ) (cert : Cert) (w : Walk) (over : IsWalkOver b cer
         (accepted cert.nodes HasTaken-all (is_cert b cert.claims h w over cert.nodes good))
 
     pub HasCheckFault-all : (r : Result (Vec ℕ) CheckFault)
-        → ((ns : List Node) → HasTaken ns w → IsCert (cert_over w ns)
+        → ((ns : List Node) → HasTaken ns w → IsCert Named (cert_over w ns)
         → IfErr r (HasCheckFault w.block.now w.parts (cert_over w ns)))
         → IfErr r (λ f. f ≢ fault.Memory → HasCheckFault b h cert f)
     HasCheckFault-all r faulty =

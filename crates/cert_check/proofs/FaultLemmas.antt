@@ -10,6 +10,7 @@ use Rattle.error_bound.specs.Leaves.{Holds, strong, silent, IsPairFor, rule_at, 
 use Rattle.fz_list.proofs.Algebra.{some_at, IsSomeAnd-at, list_any-left}
 use Rattle.error_bound.specs.Faults.{FaultyLeavesFail}
 use Rattle.error_bound.specs.Laws.{BoundsAreDetermined}
+use Rattle.box_tree.specs.declared.cert.LeafForm.TheVariants.{Pairs}
 use Rattle.box_tree.specs.declared.cert.Node.{Node}
 use Rattle.box_tree.specs.declared.cert.Node.TheVariants.{Split, Leaf}
 use Rattle.box_tree.specs.declared.cert.Cert.{Cert}
@@ -43,7 +44,7 @@ halves box nodes parts rest (split x j d n m r left right some cut tl tr) i c be
 
 one_part : (box : List Interval) (nodes : List Node) (parts : List Part) (rest : List Node)
     → IsTree box nodes parts rest
-    → (pairs : ArrayVec (ℕ × ℕ)) (below : List Node) → nodes ≡ Leaf pairs ∷ below
+    → (pairs : ArrayVec (ℕ × ℕ)) (below : List Node) → nodes ≡ Leaf (Pairs pairs) ∷ below
     → record { box = box; pairs = leaves_of pairs.items } ∷ [] ≡ parts
 one_part box nodes parts rest (leaf x pairs' r) pairs below e = let s : pairs ≡ pairs' = cc in ap
     (λ (a : ArrayVec (ℕ × ℕ)). record { box = x; pairs = leaves_of a.items } ∷ []) s
@@ -125,10 +126,10 @@ tree_fails fail b h cert errors f (bad_leaf box pairs rest g reach fault) a =
     let e = some_at errors (o - 1) (omega arith) in
     let P : Part → Type 0 = λ p. (n : ℕ) × HasBound b o x.0 h p n × (n ≤ e.0) in
     let each : All P a.parts = (a.greatest o x.0 e.0 from x.1 e.1).each in
-    let t = inside b P (whole b) cert.nodes box (Leaf pairs ∷ rest) reach a.parts [] a.tree each in
+    let t = inside b P (whole b) cert.nodes box (Leaf (Pairs pairs) ∷ rest) reach a.parts [] a.tree each in
     let p : Part = record { box = box; pairs = leaves_of pairs.items } in
-    let here : P p = only_part P p t.0 (one_part box (Leaf pairs ∷ rest) t.0 t.1 t.2 pairs rest refl) t.3 in
-    part_fails fail b h p (line_at cert.nodes (Leaf pairs ∷ rest)) g x.0 here.0 fault here.1
+    let here : P p = only_part P p t.0 (one_part box (Leaf (Pairs pairs) ∷ rest) t.0 t.1 t.2 pairs rest refl) t.3 in
+    part_fails fail b h p (line_at cert.nodes (Leaf (Pairs pairs) ∷ rest)) g x.0 here.0 fault here.1
 
 pub certs_fail : FaultyLeavesFail → BoundsAreDetermined → FaultyCertsFail
 certs_fail fail one b h cert errors f v (outputs differ) a = differ a.claims_count

@@ -8,6 +8,8 @@ use Rattle.error_bound.specs.declared.boxes.Interval.{Interval}
 use Rattle.error_bound.specs.declared.boxes.Leaf as the
 use Rattle.error_bound.specs.declared.boxes.LeafFault.{LeafFault}
 use Rattle.error_bound.specs.Faults.{LeafFaultsAreOne, FaultyLeavesFail}
+use Rattle.box_tree.specs.declared.cert.CertKind.TheVariants.{Named}
+use Rattle.box_tree.specs.declared.cert.LeafForm.TheVariants.{Pairs}
 use Rattle.box_tree.specs.declared.cert.Node.{Node}
 use Rattle.box_tree.specs.declared.cert.Node.TheVariants.{Split, Leaf}
 use Rattle.box_tree.specs.declared.cert.Cert.{Cert}
@@ -67,7 +69,7 @@ one_part_fault one fail b p line f g first second =
 data Stops (b : Block) (box : List Interval) (rest : List Node) (line : ℕ) : CheckFault → Type 0 where
   at_cut : (i c : ℕ) (after : List Node) → rest ≡ Split i c ∷ after → (IsCut (i - 1) c box → ⊥)
       → Stops b box rest line (fault.BadCut line)
-  at_leaf : (pairs : ArrayVec (ℕ × ℕ)) (after : List Node) (f : CheckFault) → rest ≡ Leaf pairs ∷ after
+  at_leaf : (pairs : ArrayVec (ℕ × ℕ)) (after : List Node) (f : CheckFault) → rest ≡ Leaf (Pairs pairs) ∷ after
       → HasPartFault b (part_of box pairs.items) line f → Stops b box rest line f
 
 no_cut : (b : Block) (box : List Interval) (rest : List Node) (line : ℕ) (f : CheckFault) (i c : ℕ) (nodes : List Node)
@@ -78,11 +80,11 @@ no_cut b box rest line _ i c nodes (at_cut j d after e none) same cut =
     let cs : d ≡ c = cc in
     none (subst (λ k. IsCut (k - 1) d box) (sym is) (subst (λ k. IsCut (i - 1) k box) (sym cs) cut))
 no_cut b box rest line _ i c nodes (at_leaf pairs after f e part) same cut =
-    absurd (let both : Leaf pairs ∷ after ≡ Split i c ∷ nodes = sym e ∙ same in let z : ⊥ = cc in z)
+    absurd (let both : Leaf (Pairs pairs) ∷ after ≡ Split i c ∷ nodes = sym e ∙ same in let z : ⊥ = cc in z)
 
 no_leaf : FaultyLeavesFail
     → (b : Block) (box : List Interval) (pairs : ArrayVec (ℕ × ℕ)) (rest : List Node) (line : ℕ) (f : CheckFault)
-    → Stops b box (Leaf pairs ∷ rest) line f → AllHold b (part_of box pairs.items) → ⊥
+    → Stops b box (Leaf (Pairs pairs) ∷ rest) line f → AllHold b (part_of box pairs.items) → ⊥
 no_leaf fail b box pairs rest line _ (at_cut j d after e none) hold = absurd (let z : ⊥ = cc in z)
 no_leaf fail b box pairs rest line _ (at_leaf others after f e part) hold =
     let same : others ≡ pairs = cc in
@@ -176,18 +178,18 @@ stops_at : (b : Block) (nodes : List Node) (f : CheckFault) → HasTreeFault b n
 stops_at b nodes _ (bad_cut box i c rest reach none) =
     record { box = box; rest = Split i c ∷ rest; reached = reach; stops = at_cut i c rest refl none }
 stops_at b nodes f (bad_leaf box pairs rest g reach part) =
-    record { box = box; rest = Leaf pairs ∷ rest; reached = reach; stops = at_leaf pairs rest f refl part }
+    record { box = box; rest = Leaf (Pairs pairs) ∷ rest; reached = reach; stops = at_leaf pairs rest f refl part }
 
 one_stop : LeafFaultsAreOne → FaultyLeavesFail
     → (b : Block) (box : List Interval) (rest : List Node) (line : ℕ) (f g : CheckFault) → Stops b box rest line f
     → Stops b box rest line g → f ≡ g
 one_stop one fail b box rest line _ _ (at_cut i c after e none) (at_cut j d after' e' none') = refl
 one_stop one fail b box rest line _ _ (at_cut i c after e none) (at_leaf pairs after' g e' part) =
-    absurd (let both : Split i c ∷ after ≡ Leaf pairs ∷ after' = sym e ∙ e' in let z : ⊥ = cc in z)
+    absurd (let both : Split i c ∷ after ≡ Leaf (Pairs pairs) ∷ after' = sym e ∙ e' in let z : ⊥ = cc in z)
 one_stop one fail b box rest line _ _ (at_leaf pairs after f e part) (at_cut j d after' e' none') =
-    absurd (let both : Leaf pairs ∷ after ≡ Split j d ∷ after' = sym e ∙ e' in let z : ⊥ = cc in z)
+    absurd (let both : Leaf (Pairs pairs) ∷ after ≡ Split j d ∷ after' = sym e ∙ e' in let z : ⊥ = cc in z)
 one_stop one fail b box rest line _ _ (at_leaf pairs after f e part) (at_leaf others after' g e' part') =
-    let both : Leaf pairs ∷ after ≡ Leaf others ∷ after' = sym e ∙ e' in
+    let both : Leaf (Pairs pairs) ∷ after ≡ Leaf (Pairs others) ∷ after' = sym e ∙ e' in
     let same : pairs ≡ others = cc in
     one_part_fault one fail b (part_of box others.items) line f g
     (subst (λ (a : ArrayVec (ℕ × ℕ)). HasPartFault b (part_of box a.items) line f) same part) part'
@@ -263,32 +265,32 @@ check_faults_are_one one fail unique b h cert _ _ v (claimed es k over count acc
 
 pub text_answers_are_one : FaultyLeavesFail → BoundsAreDetermined → CertsAreOne → FaultsAreOne → CertTextsHaveNoFault
     → CheckFaultsAreOne → TextAnswersAreOne
-text_answers_are_one fail unique certs faults faultless checks b h version text (Ok es) (Ok fs) v small x y =
-    let same = (certs version version text x.cert y.cert small small x.spelled y.spelled).1 in
+text_answers_are_one fail unique certs faults faultless checks b h answers text (Ok es) (Ok fs) v x y =
+    let same = (certs Named Named answers answers text x.cert y.cert x.spelled y.spelled).2 in
     ap (λ (l : List ℕ). Ok l)
     (errors_unique unique b h x.cert y.cert es fs (ap (λ (c : Cert). c.nodes) same) v x.accepted y.accepted)
-text_answers_are_one fail unique certs faults faultless checks b h version text (Ok es) (Err _) v small x
+text_answers_are_one fail unique certs faults faultless checks b h answers text (Ok es) (Err _) v x
     (of_text f h') =
-    absurd (faultless version text x.cert f x.spelled h')
-text_answers_are_one fail unique certs faults faultless checks b h version text (Ok es) (Err _) v small x
+    absurd (faultless Named answers text x.cert f x.spelled h')
+text_answers_are_one fail unique certs faults faultless checks b h answers text (Ok es) (Err _) v x
     (of_cert cert f spelled h') =
-    let same = (certs version version text cert x.cert small small spelled x.spelled).1 in
+    let same = (certs Named Named answers answers text cert x.cert spelled x.spelled).2 in
     absurd (certs_fail fail unique b h x.cert es f v (subst (λ c. HasCheckFault b h c f) same h') x.accepted)
-text_answers_are_one fail unique certs faults faultless checks b h version text (Err _) (Ok fs) v small (of_text f h')
+text_answers_are_one fail unique certs faults faultless checks b h answers text (Err _) (Ok fs) v (of_text f h')
     y =
-    absurd (faultless version text y.cert f y.spelled h')
-text_answers_are_one fail unique certs faults faultless checks b h version text (Err _) (Ok fs) v small
+    absurd (faultless Named answers text y.cert f y.spelled h')
+text_answers_are_one fail unique certs faults faultless checks b h answers text (Err _) (Ok fs) v
     (of_cert cert f spelled h') y =
-    let same = (certs version version text cert y.cert small small spelled y.spelled).1 in
+    let same = (certs Named Named answers answers text cert y.cert spelled y.spelled).2 in
     absurd (certs_fail fail unique b h y.cert fs f v (subst (λ c. HasCheckFault b h c f) same h') y.accepted)
-text_answers_are_one fail unique certs faults faultless checks b h version text (Err _) (Err _) v small (of_text f h')
-    (of_text g k') = ap (λ (l : CertFault). Err (refusal.Text l)) (faults version text f g h' k')
-text_answers_are_one fail unique certs faults faultless checks b h version text (Err _) (Err _) v small (of_text f h')
-    (of_cert cert g spelled k') = absurd (faultless version text cert f spelled h')
-text_answers_are_one fail unique certs faults faultless checks b h version text (Err _) (Err _) v small
-    (of_cert cert f spelled h') (of_text g k') = absurd (faultless version text cert g spelled k')
-text_answers_are_one fail unique certs faults faultless checks b h version text (Err _) (Err _) v small
+text_answers_are_one fail unique certs faults faultless checks b h answers text (Err _) (Err _) v (of_text f h')
+    (of_text g k') = ap (λ (l : CertFault). Err (refusal.Text l)) (faults Named answers text f g h' k')
+text_answers_are_one fail unique certs faults faultless checks b h answers text (Err _) (Err _) v (of_text f h')
+    (of_cert cert g spelled k') = absurd (faultless Named answers text cert f spelled h')
+text_answers_are_one fail unique certs faults faultless checks b h answers text (Err _) (Err _) v
+    (of_cert cert f spelled h') (of_text g k') = absurd (faultless Named answers text cert g spelled k')
+text_answers_are_one fail unique certs faults faultless checks b h answers text (Err _) (Err _) v
     (of_cert cert f spelled h') (of_cert other g spelled' k') =
-    let same = (certs version version text cert other small small spelled spelled').1 in
+    let same = (certs Named Named answers answers text cert other spelled spelled').2 in
     ap (λ (l : CheckFault). Err (refusal.Check l))
     (checks b h other f g v (subst (λ c. HasCheckFault b h c f) same h') k')

@@ -9,9 +9,12 @@ use Rattle.std.proofs.Math.Seq.{get_or-append_seam}
 use Rattle.arrayvec.specs.ArrayVec.{ArrayVec}
 use Rattle.error_bound.specs.declared.boxes.ByteBox.{ByteBox}
 use Rattle.error_bound.specs.Boxes.{IsBoxOf}
+use Rattle.box_tree.specs.declared.cert.LeafForm.{LeafForm}
+use Rattle.box_tree.specs.declared.cert.LeafForm.TheVariants.{Pairs}
+use Rattle.box_tree.specs.declared.cert.CertKind.TheVariants.{Named}
 use Rattle.box_tree.specs.declared.cert.Node.{Node}
 use Rattle.box_tree.specs.declared.cert.Node.TheVariants.{Split, Leaf}
-use Rattle.box_tree.specs.Certificates.{IsNode, IsCut as IsNodeCut}
+use Rattle.box_tree.specs.Certificates.{IsLeaf, IsNode, IsCut as IsNodeCut}
 use Rattle.box_tree.specs.Laws.{OpenBoxesGoOn}
 use Rattle.cert_check.specs.declared.checker.CheckFault.{CheckFault}
 use Rattle.cert_check.specs.declared.checker.CheckFault.TheVariants as fault
@@ -23,9 +26,21 @@ use Rattle.cert_check.proofs.WalkLemmas.{walked_split, walked_leaf, cut_fault, l
 use Rattle.cert_check.proofs.WalkLemmas.{few_lines}
 
 -- the node that was added is that of a certificate
-last_good : (width : ℕ) (nodes : List Node) (node : Node) → AreFirst width (nodes ++ node ∷ []) → IsNode width node
-last_good width nodes node first = subst (IsNode width) (get_or-append_seam nodes node [] node)
+last_good : (width : ℕ) (nodes : List Node) (node : Node) → AreFirst width (nodes ++ node ∷ [])
+    → IsNode Named width node
+last_good width nodes node first = subst (IsNode Named width) (get_or-append_seam nodes node [] node)
     (first.good (length nodes) node (let l = length-append nodes (node ∷ []) in omega (arith, l)))
+
+-- a leaf's node, and its form
+pub form_is : {node : Node} {leaf form : LeafForm} → node ≡ Leaf leaf → leaf ≡ form → node ≡ Leaf form
+form_is is same = is ∙ ap (λ l. Leaf l) same
+
+-- no leaf of another kind was added
+pub none_tight : (form : LeafForm) (w : Walk) (nodes : List Node) (node : Node)
+    → (IsLeaf Named (length w.claims.now) form → ⊥) → node ≡ Leaf form
+    → AreFirst (length w.claims.now) (nodes ++ node ∷ []) → ⊥
+none_tight form w nodes node other is first =
+    other (subst (IsNode Named (length w.claims.now)) is (last_good (length w.claims.now) nodes node first))
 
 line_more : (nodes : List Node) (node : Node) (line : ℕ) → line ≡ length nodes + 3
     → line + 1 ≡ length (nodes ++ node ∷ []) + 3
@@ -48,7 +63,7 @@ module _ (w : Walk) (bytes : ByteBox) (left : Vec ByteBox) (popped : w.boxes.ite
     input_is_some : (nodes : List Node) → AreFirst (length w.claims.now) (nodes ++ node ∷ []) → 1 ≤ i
     input_is_some nodes first =
         let cut : IsNodeCut i c =
-        subst (IsNode (length w.claims.now)) is (last_good (length w.claims.now) nodes node first) in cut.some
+        subst (IsNode Named (length w.claims.now)) is (last_good (length w.claims.now) nodes node first) in cut.some
 
     pub split_behind : {A : Type 0} (boxes : Vec ByteBox) (r : Result A CheckFault) → OpenBoxesGoOn
         → OnOk r (IsCut (i - 1) c bytes.0.items)
@@ -82,7 +97,7 @@ module _ (w : Walk) (bytes : ByteBox) (left : Vec ByteBox) (popped : w.boxes.ite
         (cut_fault w.block.now w.parts w.claims.now nodes bytes.0.items (stack_of left.items) w.errors.items w.line rest
         behind.claims_count behind.line (at_box nodes behind) i c h.1))
 
-  module _ (pairs : ArrayVec (ℕ × ℕ)) (node : Node) (is : node ≡ Leaf pairs) where
+  module _ (pairs : ArrayVec (ℕ × ℕ)) (node : Node) (is : node ≡ Leaf (Pairs pairs)) where
     leaf_taken : {A : Type 0} (errors : List ℕ) (r : Result A CheckFault) → OpenBoxesGoOn
         → OnOk r (AllHold w.block.now (part_of bytes.0.items pairs.items))
         → OnOk r (Raises w.block.now w.parts (part_of bytes.0.items pairs.items) w.errors.items errors)
@@ -118,7 +133,7 @@ module _ (w : Walk) (bytes : ByteBox) (left : Vec ByteBox) (popped : w.boxes.ite
       pub pairs_count : (nodes : List Node) → IsBehind nodes w → AreFirst (length w.claims.now) (nodes ++ node ∷ [])
           → length slice ≡ length w.block.now.outputs
       pairs_count nodes behind first = ap length same
-          ∙ (subst (IsNode (length w.claims.now)) is (last_good (length w.claims.now) nodes node first)).0
+          ∙ (subst (IsNode Named (length w.claims.now)) is (last_good (length w.claims.now) nodes node first)).0
           ∙ behind.claims_count
 
       pub leaf_behind : {A : Type 0} (old errors : List ℕ) (r : Result A CheckFault) → OpenBoxesGoOn

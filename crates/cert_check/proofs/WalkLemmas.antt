@@ -14,6 +14,7 @@ use Rattle.fuzzy_meaning.specs.declared.block.Output.{Output}
 use Rattle.error_bound.specs.declared.boxes.Interval.{Interval}
 use Rattle.error_bound.specs.declared.boxes.ByteBox.{ByteBox}
 use Rattle.error_bound.specs.Boxes.{IsBoxOf}
+use Rattle.box_tree.specs.declared.cert.LeafForm.TheVariants.{Pairs}
 use Rattle.box_tree.specs.declared.cert.Node.{Node}
 use Rattle.box_tree.specs.declared.cert.Node.TheVariants.{Split, Leaf}
 use Rattle.box_tree.specs.Trees.{open_from, leaf_count}
@@ -66,7 +67,7 @@ one_of P x h (suc k) d l = absurd (omega arith)
 
 reached_leaf : (b : Block) (box : List Interval) (boxes : List (List Interval)) (pairs : ArrayVec (ℕ × ℕ))
     (nodes : List Node) (found : List Interval) (rest : List Node) → AllHold b (part_of box pairs.items)
-    → AreReached b boxes nodes found rest → AreReached b (box ∷ boxes) (Leaf pairs ∷ nodes) found rest
+    → AreReached b boxes nodes found rest → AreReached b (box ∷ boxes) (Leaf (Pairs pairs) ∷ nodes) found rest
 reached_leaf b box boxes pairs nodes found rest hold more = inr
     (part_of box pairs.items ∷ [], nodes, leaf box pairs nodes, one_of (AllHold b) (part_of box pairs.items) hold, more)
 
@@ -210,22 +211,22 @@ walked_split b h nodes box boxes errors i c goes_on some cut w =
 pub walked_leaf : (b : Block) (h : ℕ) (nodes : List Node) (box : List Interval) (boxes : List (List Interval))
     (errors new : List ℕ) (pairs : ArrayVec (ℕ × ℕ)) → OpenBoxesGoOn → AllHold b (part_of box pairs.items)
     → Raises b h (part_of box pairs.items) errors new
-    → HasWalked b h nodes (box ∷ boxes) errors → HasWalked b h (nodes ++ Leaf pairs ∷ []) boxes new
+    → HasWalked b h nodes (box ∷ boxes) errors → HasWalked b h (nodes ++ Leaf (Pairs pairs) ∷ []) boxes new
 walked_leaf b h nodes box boxes errors new pairs goes_on hold raised w =
     let p = part_of box pairs.items in
     record {
       are_boxes = All-tail (IsBoxOf b) box boxes w.are_boxes;
       cut_out = w.cut_out.1;
-      open_count = goes_on 1 (length (box ∷ boxes)) nodes (Leaf pairs ∷ []) w.open_count;
+      open_count = goes_on 1 (length (box ∷ boxes)) nodes (Leaf (Pairs pairs) ∷ []) w.open_count;
       parts = w.parts ++ p ∷ [];
       trees = λ rest ps t. subst (λ ns. AreTrees (whole b ∷ []) ns ((w.parts ++ p ∷ []) ++ ps) [])
-          (sym (append_assoc nodes (Leaf pairs ∷ []) rest))
-          (subst (λ xs. AreTrees (whole b ∷ []) (nodes ++ Leaf pairs ∷ rest) xs [])
+          (sym (append_assoc nodes (Leaf (Pairs pairs) ∷ []) rest))
+          (subst (λ xs. AreTrees (whole b ∷ []) (nodes ++ Leaf (Pairs pairs) ∷ rest) xs [])
           (sym (append_assoc w.parts (p ∷ []) ps))
-          (w.trees (Leaf pairs ∷ rest) (p ∷ ps) (p ∷ [], ps, rest, leaf box pairs rest, t, refl)));
+          (w.trees (Leaf (Pairs pairs) ∷ rest) (p ∷ ps) (p ∷ [], ps, rest, leaf box pairs rest, t, refl)));
       reached = λ rest found after r. subst (λ ns. AreReached b (whole b ∷ []) ns found after)
-          (sym (append_assoc nodes (Leaf pairs ∷ []) rest))
-          (w.reached (Leaf pairs ∷ rest) found after (reached_leaf b box boxes pairs rest found after hold r));
+          (sym (append_assoc nodes (Leaf (Pairs pairs) ∷ []) rest))
+          (w.reached (Leaf (Pairs pairs) ∷ rest) found after (reached_leaf b box boxes pairs rest found after hold r));
       count = raised.count ∙ w.count;
       greatest = λ k x e.
           let r = raised.each k x e in
@@ -310,10 +311,10 @@ module _ (b : Block) (h : ℕ) (claims : List ℕ) (nodes : List Node) (box : Li
       (bad_cut box i c rest (walked_to b h nodes box boxes errors (Split i c ∷ rest) w) none))
 
   pub leaf_fault : (pairs : ArrayVec (ℕ × ℕ)) (f : CheckFault) → HasPartFault b (part_of box pairs.items) line f
-      → HasCheckFault b h (record { claims = claims; nodes = nodes ++ Leaf pairs ∷ rest }) f
+      → HasCheckFault b h (record { claims = claims; nodes = nodes ++ Leaf (Pairs pairs) ∷ rest }) f
   leaf_fault pairs f part =
-      let same = at ∙ sym (line-here nodes rest (Leaf pairs)) in
-      tree f count (bad_leaf box pairs rest f (walked_to b h nodes box boxes errors (Leaf pairs ∷ rest) w)
+      let same = at ∙ sym (line-here nodes rest (Leaf (Pairs pairs))) in
+      tree f count (bad_leaf box pairs rest f (walked_to b h nodes box boxes errors (Leaf (Pairs pairs) ∷ rest) w)
       (subst (λ n. HasPartFault b (part_of box pairs.items) n f) same part))
 
 -- as many nodes as leaves and boxes ask for
@@ -321,7 +322,7 @@ nodes_count : (n m : ℕ) (nodes : List Node) → open_from n nodes ≡ Some m �
 nodes_count n m [] e = let s : n ≡ m = cc in omega arith
 nodes_count zero m (node ∷ nodes) e = absurd (let z : ⊥ = cc in z)
 nodes_count (suc n) m (Split i c ∷ nodes) e = let r = nodes_count (suc (suc n)) m nodes e in omega (arith, r)
-nodes_count (suc n) m (Leaf pairs ∷ nodes) e = let r = nodes_count n m nodes e in omega (arith, r)
+nodes_count (suc n) m (Leaf form ∷ nodes) e = let r = nodes_count n m nodes e in omega (arith, r)
 
 stack-last : (boxes : List ByteBox) (x : ByteBox) → stack_of (boxes ++ x ∷ []) ≡ x.0.items ∷ stack_of boxes
 stack-last boxes x = ap (λ (xs : List ByteBox). map (λ (y : ByteBox). y.0.items) xs) (reverse-append boxes (x ∷ []))
@@ -333,7 +334,7 @@ stack-pop boxes left x popped = ap stack_of popped ∙ stack-last left x
 pub leaves-front : (nodes more : List Node) → leaf_count nodes ≤ leaf_count (nodes ++ more)
 leaves-front [] more = omega arith
 leaves-front (Split i c ∷ nodes) more = leaves-front nodes more
-leaves-front (Leaf pairs ∷ nodes) more = let l = leaves-front nodes more in omega (arith, l)
+leaves-front (Leaf form ∷ nodes) more = let l = leaves-front nodes more in omega (arith, l)
 
 -- the lines of a walk that has met no fault are few
 pub few_lines : (b : Block) (h : ℕ) (nodes more : List Node) (boxes : List (List Interval)) (errors : List ℕ)

@@ -2,12 +2,13 @@
 use Rattle.std.specs.Prelude.{ℕ, [], ◌∷◌}
 use Rattle.fuzzy_meaning.specs.Examples.{heater, latch}
 use Rattle.box_tree.specs.declared.cert.Cert.{Cert}
+use Rattle.box_tree.specs.declared.cert.LeafForm.TheVariants.{Pairs}
 use Rattle.box_tree.specs.declared.cert.Node.{Node}
 use Rattle.box_tree.specs.declared.cert.Node.TheVariants.{Split, Leaf}
 use Rattle.cert_check.specs.Acceptance.{IsAccepted}
 
 abbrev pub leaf_node : ℕ → ℕ → Node
-leaf_node r k = Leaf (record { items = (r, k) ∷ [] })
+leaf_node r k = Leaf (Pairs (record { items = (r, k) ∷ [] }))
 
 -- a leaf for each term
 abbrev pub heater_cert : Cert

@@ -7,6 +7,7 @@ use Rattle.error_bound.specs.declared.boxes.Leaf as the
 use Rattle.error_bound.specs.declared.boxes.LeafFault.{LeafFault}
 use Rattle.error_bound.specs.Leaves.{Holds, IsPairFor}
 use Rattle.error_bound.specs.Faults.{HasLeafFault}
+use Rattle.box_tree.specs.declared.cert.LeafForm.TheVariants.{Pairs}
 use Rattle.box_tree.specs.declared.cert.Node.{Node}
 use Rattle.box_tree.specs.declared.cert.Node.TheVariants.{Split, Leaf}
 use Rattle.box_tree.specs.declared.cert.Cert.{Cert}
@@ -62,8 +63,8 @@ pub data HasTreeFault (b : Block) (nodes : List Node) : CheckFault → Type 0 wh
       → (IsCut (i - 1) c box → ⊥)
       → HasTreeFault b nodes (fault.BadCut (line_at nodes (Split i c ∷ rest)))
   bad_leaf : (box : List Interval) (pairs : ArrayVec (ℕ × ℕ)) (rest : List Node) (f : CheckFault)
-      → Reaches b (whole b) nodes box (Leaf pairs ∷ rest)
-      → HasPartFault b (part_of box pairs.items) (line_at nodes (Leaf pairs ∷ rest)) f
+      → Reaches b (whole b) nodes box (Leaf (Pairs pairs) ∷ rest)
+      → HasPartFault b (part_of box pairs.items) (line_at nodes (Leaf (Pairs pairs) ∷ rest)) f
       → HasTreeFault b nodes f
 
 -- no error is greater than its claim

@@ -10,6 +10,7 @@ use Rattle.fuzzy_meaning.specs.Meaning.{exact_answer}
 use Rattle.byte_scaling.specs.Cells.{bytes_of, value_in}
 use Rattle.point_slope.specs.Bytes.{answer_in}
 use Rattle.error_bound.specs.declared.boxes.Interval.{Interval}
+use Rattle.box_tree.specs.declared.cert.AnswerWidth.{AnswerWidth}
 use Rattle.box_tree.specs.declared.cert.Node.{Node}
 use Rattle.box_tree.specs.declared.cert.Cert.{Cert}
 use Rattle.cert_check.specs.Trees.{Part, IsTree, lies, leaves_with}
@@ -64,12 +65,12 @@ CheckFaultsAreOne =
     → HasCheckFault b h cert g → f ≡ g
 
 -- the errors that a text is accepted with, or why it is refused
-abbrev pub IsTextAnswer : Block → ℕ → ℕ → List ℕ → Result (List ℕ) TextFault → Type 0
-IsTextAnswer b h version text (Ok errors) = IsAcceptedText b h version text errors
-IsTextAnswer b h version text (Err refusal) = HasTextFault b h version text refusal
+abbrev pub IsTextAnswer : Block → ℕ → AnswerWidth → List ℕ → Result (List ℕ) TextFault → Type 0
+IsTextAnswer b h answers text (Ok errors) = IsAcceptedText b h answers text errors
+IsTextAnswer b h answers text (Err refusal) = HasTextFault b h answers text refusal
 
--- a text of a version has at most one answer
+-- a text has at most one answer
 abbrev pub TextAnswersAreOne : Type 0
 TextAnswersAreOne =
-    (b : Block) (h version : ℕ) (text : List ℕ) (x y : Result (List ℕ) TextFault) → IsValid b → version ≤ 2
-    → IsTextAnswer b h version text x → IsTextAnswer b h version text y → x ≡ y
+    (b : Block) (h : ℕ) (answers : AnswerWidth) (text : List ℕ) (x y : Result (List ℕ) TextFault) → IsValid b
+    → IsTextAnswer b h answers text x → IsTextAnswer b h answers text y → x ≡ y

@@ -1,6 +1,8 @@
 -- Texts whose certificates are accepted, and why others are refused.
 use Rattle.std.specs.Prelude.{ℕ, List}
 use Rattle.fuzzy_meaning.specs.declared.block.Block.{Block}
+use Rattle.box_tree.specs.declared.cert.CertKind.TheVariants.{Named}
+use Rattle.box_tree.specs.declared.cert.AnswerWidth.{AnswerWidth}
 use Rattle.box_tree.specs.declared.cert.Cert.{Cert}
 use Rattle.box_tree.specs.declared.cert.CertFault.{CertFault}
 use Rattle.box_tree.specs.Certificates.{CertText, HasFault}
@@ -10,14 +12,15 @@ use Rattle.cert_check.specs.declared.text.TextFault.TheVariants as refusal
 use Rattle.cert_check.specs.Acceptance.{IsAccepted}
 use Rattle.cert_check.specs.Faults.{HasCheckFault}
 
--- the text is that of a certificate that is accepted, with these errors, for answers in h parts to a byte
-pub record IsAcceptedText (b : Block) (h version : ℕ) (text errors : List ℕ) : Type 0 where
+-- the text is that of a certificate that is accepted, with these errors, for answers of this width, in h parts to a
+-- byte
+pub record IsAcceptedText (b : Block) (h : ℕ) (answers : AnswerWidth) (text errors : List ℕ) : Type 0 where
   pub cert : Cert
-  pub spelled : CertText version text cert
+  pub spelled : CertText Named answers text cert
   pub accepted : IsAccepted b h cert errors
 
 -- the text has a first fault, or it is that of a certificate that has one
-pub data HasTextFault (b : Block) (h version : ℕ) (text : List ℕ) : TextFault → Type 0 where
-  of_text : (f : CertFault) → HasFault version text f → HasTextFault b h version text (refusal.Text f)
-  of_cert : (cert : Cert) (f : CheckFault) → CertText version text cert → HasCheckFault b h cert f
-      → HasTextFault b h version text (refusal.Check f)
+pub data HasTextFault (b : Block) (h : ℕ) (answers : AnswerWidth) (text : List ℕ) : TextFault → Type 0 where
+  of_text : (f : CertFault) → HasFault Named answers text f → HasTextFault b h answers text (refusal.Text f)
+  of_cert : (cert : Cert) (f : CheckFault) → CertText Named answers text cert → HasCheckFault b h cert f
+      → HasTextFault b h answers text (refusal.Check f)

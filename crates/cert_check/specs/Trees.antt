@@ -5,6 +5,7 @@ use Rattle.arrayvec.specs.ArrayVec.{ArrayVec}
 use Rattle.fuzzy_meaning.specs.declared.block.Block.{Block}
 use Rattle.error_bound.specs.declared.boxes.Interval.{Interval}
 use Rattle.error_bound.specs.declared.boxes.Leaf as the
+use Rattle.box_tree.specs.declared.cert.LeafForm.TheVariants.{Pairs}
 use Rattle.box_tree.specs.declared.cert.Node.{Node}
 use Rattle.box_tree.specs.declared.cert.Node.TheVariants.{Split, Leaf}
 
@@ -51,7 +52,7 @@ part_of box pairs = record { box = box; pairs = leaves_of pairs }
 -- nodes begin with a tree over the box that has these leaves, from the left; the rest follows it. Inputs count from 1
 pub data IsTree : List Interval → List Node → List Part → List Node → Type 0 where
   leaf : (box : List Interval) (pairs : ArrayVec (ℕ × ℕ)) (rest : List Node)
-      → IsTree box (Leaf pairs ∷ rest) (record { box = box; pairs = leaves_of pairs.items } ∷ []) rest
+      → IsTree box (Leaf (Pairs pairs) ∷ rest) (record { box = box; pairs = leaves_of pairs.items } ∷ []) rest
   split : (box : List Interval) (i c : ℕ) (nodes mid rest : List Node) (left right : List Part) → 1 ≤ i
       → IsCut (i - 1) c box → IsTree (left_of (i - 1) c box) nodes left mid
       → IsTree (right_of (i - 1) c box) mid right rest → IsTree box (Split i c ∷ nodes) (left ++ right) rest

@@ -9,6 +9,7 @@ use Rattle.error_bound.specs.declared.boxes.Interval.{Interval}
 use Rattle.error_bound.specs.declared.boxes.ByteBox.{ByteBox}
 use Rattle.error_bound.specs.Boxes.{IsBoxOf}
 use Rattle.error_bound.specs.Reaches.{IsBlockTable}
+use Rattle.box_tree.specs.declared.cert.CertKind.TheVariants.{Named}
 use Rattle.box_tree.specs.declared.cert.Node.{Node}
 use Rattle.box_tree.specs.declared.cert.Cert.{Cert}
 use Rattle.box_tree.specs.Certificates.{AreClaims, IsNode}
@@ -96,7 +97,7 @@ pub record HasTaken (nodes : List Node) (w : Walk) : Type 0 where
 
 -- nodes that a certificate with so many claims may begin with
 pub record AreFirst (width : ℕ) (nodes : List Node) : Type 0 where
-  pub good : All (IsNode width) nodes
+  pub good : All (IsNode Named width) nodes
   pub opens : (n : ℕ) × (open_behind nodes ≡ Some n)
   pub few_leaves : leaf_count nodes ≤ 4096
 

@@ -2,6 +2,7 @@
 ghost use Rattle.std.specs.Prelude.{◌≡◌, ◌≢◌, ◌≤◌, ◌<◌, ◌+◌, ℕ, List, length, IfOk, IfErr, IfSome, IfNone, Some};
 ghost use Rattle.std.specs.Prelude.{slice_get};
 ghost use Rattle.fuzzy_meaning.specs.Blocks.{IsValid};
+ghost use Rattle.box_tree.specs.declared.cert.CertKind.TheVariants.{Named};
 ghost use Rattle.box_tree.specs.Certificates.{IsCert};
 ghost use Rattle.cert_check.specs.Acceptance.{IsAccepted};
 ghost use Rattle.cert_check.specs.Faults.{HasCheckFault, IsFirstOver, AreClaimed};
@@ -42,7 +43,7 @@ pub enum CheckFault {
 /// its claims last.
 pub fn check(alloc: Global, block: &Block, cert: &Cert) -> Result<Vec<u32>, CheckFault>
     requires block { IsValid block.now }
-    requires cert { IsCert cert.now }
+    requires cert { IsCert Named cert.now }
     ensures accepted { IfOk result (λ errors. IsAccepted block.now 1 cert.now errors.items) }
     ensures fault { IfErr result (λ fault.
         fault ≢ CheckFault.Memory → HasCheckFault block.now 1 cert.now fault) }
@@ -53,7 +54,7 @@ pub fn check(alloc: Global, block: &Block, cert: &Cert) -> Result<Vec<u32>, Chec
 /// The same for answers of 16 bits.
 pub fn check16(alloc: Global, block: &Block, cert: &Cert) -> Result<Vec<u32>, CheckFault>
     requires block { IsValid block.now }
-    requires cert { IsCert cert.now }
+    requires cert { IsCert Named cert.now }
     ensures accepted { IfOk result (λ errors. IsAccepted block.now 256 cert.now errors.items) }
     ensures fault { IfErr result (λ fault.
         fault ≢ CheckFault.Memory → HasCheckFault block.now 256 cert.now fault) }
@@ -64,7 +65,7 @@ pub fn check16(alloc: Global, block: &Block, cert: &Cert) -> Result<Vec<u32>, Ch
 /// The same for answers in so many parts to a byte.
 fn checked(alloc: Global, block: &Block, cert: &Cert, parts: u16) -> Result<Vec<u32>, CheckFault>
     requires block { IsValid block.now }
-    requires cert { IsCert cert.now }
+    requires cert { IsCert Named cert.now }
     requires parts_from { 1 ≤ parts }
     requires parts_to { parts ≤ 256 }
     ensures accepted { IfOk result (λ errors. IsAccepted block.now parts cert.now errors.items) }

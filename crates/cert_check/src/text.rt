@@ -1,6 +1,9 @@
 //! Certificates that are checked as their text is read, node by node.
 ghost use Rattle.std.specs.Prelude.{◌≡◌, ◌≢◌, ◌≤◌, ℕ, List as Items, [], length, IfOk, IfErr};
 ghost use Rattle.fuzzy_meaning.specs.Blocks.{IsValid};
+ghost use Rattle.box_tree.specs.declared.cert.AnswerWidth.{AnswerWidth as TheWidth};
+ghost use Rattle.box_tree.specs.declared.cert.AnswerWidth.TheVariants.{Byte, Word};
+ghost use Rattle.box_tree.specs.declared.cert.CertKind.TheVariants.{Named};
 ghost use Rattle.box_tree.specs.Reading.{HasRead};
 ghost use Rattle.cert_check.specs.TextFaults.{IsAcceptedText, HasTextFault};
 
@@ -32,9 +35,9 @@ pub enum TextFault {
 pub fn check_text(alloc: Global, block: &Block, text: &[u8]) -> Result<Vec<u32>, TextFault>
     requires block { IsValid block.now }
     requires text { length text.now ≤ 1048576 }
-    ensures accepted { IfOk result (λ errors. IsAcceptedText block.now 1 1 text.now errors.items) }
+    ensures accepted { IfOk result (λ errors. IsAcceptedText block.now 1 Byte text.now errors.items) }
     ensures refused { IfErr result (λ refusal. refusal ≢ TextFault.Memory
-        → HasTextFault block.now 1 1 text.now refusal) }
+        → HasTextFault block.now 1 Byte text.now refusal) }
 {
     match Lines::new(text) {
         Ok(lines) => errors_of(alloc, block, lines, 1),
@@ -46,9 +49,9 @@ pub fn check_text(alloc: Global, block: &Block, text: &[u8]) -> Result<Vec<u32>,
 pub fn check_text16(alloc: Global, block: &Block, text: &[u8]) -> Result<Vec<u32>, TextFault>
     requires block { IsValid block.now }
     requires text { length text.now ≤ 1048576 }
-    ensures accepted { IfOk result (λ errors. IsAcceptedText block.now 256 2 text.now errors.items) }
+    ensures accepted { IfOk result (λ errors. IsAcceptedText block.now 256 Word text.now errors.items) }
     ensures refused { IfErr result (λ refusal. refusal ≢ TextFault.Memory
-        → HasTextFault block.now 256 2 text.now refusal) }
+        → HasTextFault block.now 256 Word text.now refusal) }
 {
     match Lines::new16(text) {
         Ok(lines) => errors_of(alloc, block, lines, 256),
@@ -65,13 +68,13 @@ fn errors_of(
     parts: u16,
 ) -> Result<Vec<u32>, TextFault>
     requires block { IsValid block.now }
-    requires lines { (version : ℕ) × (text : Items ℕ) × HasRead version text [] lines }
+    requires lines { (answers : TheWidth) × (text : Items ℕ) × HasRead Named answers text [] lines }
     requires parts_from { 1 ≤ parts }
     requires parts_to { parts ≤ 256 }
-    ensures accepted { (version : ℕ) (text : Items ℕ) → HasRead version text [] lines.entry
-        → IfOk result (λ errors. IsAcceptedText block.now parts version text errors.items) }
-    ensures refused { (version : ℕ) (text : Items ℕ) → HasRead version text [] lines.entry
-        → IfErr result (λ refusal. refusal ≢ TextFault.Memory → HasTextFault block.now parts version text refusal) }
+    ensures accepted { (answers : TheWidth) (text : Items ℕ) → HasRead Named answers text [] lines.entry
+        → IfOk result (λ errors. IsAcceptedText block.now parts answers text errors.items) }
+    ensures refused { (answers : TheWidth) (text : Items ℕ) → HasRead Named answers text [] lines.entry
+        → IfErr result (λ refusal. refusal ≢ TextFault.Memory → HasTextFault block.now parts answers text refusal) }
 {
     let claims = lines.claims();
     let mut walk = match Walk::new(alloc, block, claims.as_slice(), parts) {

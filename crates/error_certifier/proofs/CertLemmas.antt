@@ -10,6 +10,7 @@ use Rattle.fuzzy_meaning.specs.declared.block.Block.{Block}
 use Rattle.fuzzy_meaning.specs.declared.block.Output.{Output}
 use Rattle.fuzzy_meaning.specs.Blocks.{IsValid, output_at}
 use Rattle.error_bound.specs.declared.boxes.Interval.{Interval}
+use Rattle.box_tree.specs.declared.cert.CertKind.TheVariants.{Named}
 use Rattle.box_tree.specs.declared.cert.Node.{Node}
 use Rattle.box_tree.specs.declared.cert.Node.TheVariants.{Split, Leaf}
 use Rattle.box_tree.specs.declared.cert.Cert.{Cert}
@@ -27,7 +28,7 @@ use Rattle.error_certifier.specs.Trees.{RisesTo, Grows}
 leaf_count-append : (xs ys : List Node) → leaf_count (xs ++ ys) ≡ leaf_count xs + leaf_count ys
 leaf_count-append [] ys = omega arith
 leaf_count-append (Split i c ∷ xs) ys = leaf_count-append xs ys
-leaf_count-append (Leaf pairs ∷ xs) ys = let r = leaf_count-append xs ys in omega arith
+leaf_count-append (Leaf form ∷ xs) ys = let r = leaf_count-append xs ys in omega arith
 
 halved_open : OpenBoxesGoOn → (b : Block) (h target : ℕ) (box : List Interval) (n m : ℕ) (nodes : List Node)
     → Halves b h target box n nodes m → (i : ℕ) → open_from (suc i) nodes ≡ Some i
@@ -143,7 +144,7 @@ module _ (b : Block) (h target : ℕ) (old new : Tree) (cert : Cert) (valid : Is
       let most = r.within (omega arith) in
       omega arith
 
-  pub is_cert : OpenBoxesGoOn → target ≤ 1000000 → IsCert cert
+  pub is_cert : OpenBoxesGoOn → target ≤ 1000000 → IsCert Named cert
   is_cert on small =
       let leaves = halved_leaves b h target (whole b) 0 new.leaves cert.nodes halved in
       let leaves0 = leaves.0 in
@@ -157,8 +158,8 @@ module _ (b : Block) (h target : ℕ) (old new : Tree) (cert : Cert) (valid : Is
           few = omega arith;
           millionths = λ k d l. (let w = claims_within k d l in omega arith);
         };
-        nodes = subst (λ n. All (IsNode n) cert.nodes) (sym count)
-            (subst (λ (xs : List Node). All (IsNode (length b.outputs)) xs) all_added g.good);
+        nodes = subst (λ n. All (IsNode Named n) cert.nodes) (sym count)
+            (subst (λ (xs : List Node). All (IsNode Named (length b.outputs)) xs) all_added g.good);
         tree = halved_open on b h target (whole b) 0 new.leaves cert.nodes halved 0;
         few_leaves = omega arith;
       }

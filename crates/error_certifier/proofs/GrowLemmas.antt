@@ -14,6 +14,8 @@ use Rattle.error_bound.specs.declared.boxes.Interval.{Interval}
 use Rattle.error_bound.specs.declared.boxes.Leaf as the
 use Rattle.error_bound.specs.Boxes.{IsBoxOf}
 use Rattle.error_bound.specs.BestLeaves.{BestLeavesHold}
+use Rattle.box_tree.specs.declared.cert.CertKind.TheVariants.{Named}
+use Rattle.box_tree.specs.declared.cert.LeafForm.TheVariants.{Pairs}
 use Rattle.box_tree.specs.declared.cert.Node.{Node}
 use Rattle.box_tree.specs.declared.cert.Node.TheVariants.{Split, Leaf}
 use Rattle.box_tree.specs.Certificates.{IsPair, IsNode}
@@ -131,18 +133,18 @@ module _ (hold : BestLeavesHold) (b : Block) (h target : ℕ) (box : List Interv
 
   -- by a leaf
   pub grows_leaf : (old new : Tree) → length old.errors.items ≡ length b.outputs
-      → new.nodes.items ≡ old.nodes.items ++ Leaf leaves.pairs ∷ []
+      → new.nodes.items ≡ old.nodes.items ++ Leaf (Pairs leaves.pairs) ∷ []
       → AreRaised leaves.bounds.items old.errors.items new.errors.items → new.leaves ≡ old.leaves + 1
       → old.leaves < 4096
       → Grows b h target box old new
   grows_leaf old new count nodes raised more few = record {
-    added = Leaf leaves.pairs ∷ [];
+    added = Leaf (Pairs leaves.pairs) ∷ [];
     parts = part_of box leaves.pairs.items ∷ [];
     nodes = nodes;
-    halves = subst (λ m. Halves b h target box old.leaves (Leaf leaves.pairs ∷ []) m) (sym more)
+    halves = subst (λ m. Halves b h target box old.leaves (Leaf (Pairs leaves.pairs) ∷ []) m) (sym more)
         (halved_leaf box old.leaves leaves.pairs within_target few);
     tree = λ rest. leaf box leaves.pairs rest;
-    good = All-one (IsNode (length b.outputs)) (Leaf leaves.pairs) (best.count, best.good);
+    good = All-one (IsNode Named (length b.outputs)) (Leaf (Pairs leaves.pairs)) (best.count, best.good);
     count = raised.count;
     errors = λ k x e.
         let p = best.each k x e in
@@ -178,7 +180,7 @@ split_tree box k c ls rs rest ps qs cut l r =
 
 split_node : (b : Block) (box : List Interval) (k c : ℕ) → length b.inputs ≤ 8 → IsBoxOf b box
     → (at : IsHalvedAt box k c)
-    → c ≤ 255 → IsNode (length b.outputs) (Split (k + 1) c)
+    → c ≤ 255 → IsNode Named (length b.outputs) (Split (k + 1) c)
 split_node b box k c few is at small =
     let inside = slice_get_within box k at.interval at.widest.is_at in
     let count = is.count in
@@ -204,9 +206,9 @@ grows_split cuts b h target box k c out above old pushed mid new few is first at
           (subst (λ n. Halves b h target (left_of k c box) n l.added mid.leaves) leaves l.halves) r.halves;
       tree = λ rest. split_tree box k c l.added r.added rest l.parts r.parts cut (l.tree (r.added ++ rest))
           (r.tree rest);
-      good = All-cons (IsNode (length b.outputs)) (Split (k + 1) c) (l.added ++ r.added)
+      good = All-cons (IsNode Named (length b.outputs)) (Split (k + 1) c) (l.added ++ r.added)
           (split_node b box k c few is at small)
-          (All-append (IsNode (length b.outputs)) l.added r.added l.good r.good);
+          (All-append (IsNode Named (length b.outputs)) l.added r.added l.good r.good);
       count = r.count ∙ l.count ∙ ap (λ (v : Vec ℕ). length v.items) errors;
       errors = λ j x e. rises_on b h target (j + 1) x l.parts r.parts (slice_index old.errors.items j)
           (slice_index mid.errors.items j) (slice_index new.errors.items j)

@@ -11,6 +11,7 @@ use Rattle.fuzzy_meaning.specs.Blocks.{IsValid}
 use Rattle.error_bound.specs.declared.boxes.Interval.{Interval}
 use Rattle.error_bound.specs.BestLeaves.{BestLeavesHold}
 use Rattle.error_bound.specs.Boxes.{IsBoxOf}
+use Rattle.box_tree.specs.declared.cert.LeafForm.TheVariants.{Pairs}
 use Rattle.box_tree.specs.declared.cert.Node.{Node}
 use Rattle.box_tree.specs.declared.cert.Node.TheVariants.{Split, Leaf}
 use Rattle.cert_check.specs.BoxLaws.{CutsHaveHalves}
@@ -58,7 +59,7 @@ IsWidest-place {b} {box} {k} {v} valid is widest =
 module _ {b : Block} {h target : ℕ} {box : List Interval} {leaves : BestLeaves} (hold : BestLeavesHold)
     (best : AreBestLeaves b h target box leaves) where
   pub Grows-leaf : {T : Type 0} (old new : Tree) (r : Result T NotReached) → IsTreeFor b old
-      → OnOk r (new.nodes.items ≡ old.nodes.items ++ Leaf leaves.pairs ∷ [])
+      → OnOk r (new.nodes.items ≡ old.nodes.items ++ Leaf (Pairs leaves.pairs) ∷ [])
       → OnOk r (AreRaised leaves.bounds.items old.errors.items new.errors.items)
       → OnOk r (new.leaves ≡ old.leaves + 1) → OnOk r (old.leaves < 4096) → OnOk r (Grows b h target box old new)
   Grows-leaf old new r tree nodes errors more few =

@@ -14,6 +14,7 @@ use Rattle.error_bound.specs.Boxes.{IsBoxOf}
 use Rattle.error_bound.specs.Bounds.{IsBound}
 use Rattle.error_bound.specs.BestLeaves.{IsBestBound, of_leaf, of_none, BestLeavesAreOne}
 use Rattle.error_bound.specs.Laws.{BoundsAreDetermined}
+use Rattle.box_tree.specs.declared.cert.LeafForm.TheVariants.{Pairs}
 use Rattle.box_tree.specs.declared.cert.Node.{Node}
 use Rattle.box_tree.specs.declared.cert.Node.TheVariants.{Split, Leaf}
 use Rattle.box_tree.specs.declared.cert.Cert.{Cert}
@@ -157,7 +158,7 @@ module _ (best_one : BestLeavesAreOne) (bound_one : BoundsAreDetermined) (b : Bl
         → box ≡ other → n ≡ o → (ns ≡ ks) × (m ≡ r)
     one_tree _ _ _ _ _ _ _ _ is (leaf box n p w few) (leaf other o q v also) e f =
         let same = one_leaf box p q w (moved_within box other (leaves_of q.items) e v) in
-        (ap (λ (x : ArrayVec (ℕ × ℕ)). let y : List Node = Leaf x ∷ [] in y) same, ap (λ x. x + 1) f)
+        (ap (λ (x : ArrayVec (ℕ × ℕ)). let y : List Node = Leaf (Pairs x) ∷ [] in y) same, ap (λ x. x + 1) f)
     one_tree _ _ _ _ _ _ _ _ is (leaf box n p w few) (split other j d o m' r' out up left right a at l t) e f =
         absurd (not_both box (leaves_of p.items) out up is w (moved_above box other out up e a))
     one_tree _ _ _ _ _ _ _ _ is (split box k c n m r out up left right a at l t) (leaf other o q v few) e f =

@@ -9,6 +9,7 @@ use Rattle.error_bound.specs.declared.boxes.Leaf as the
 use Rattle.error_bound.specs.Best.{IsBest}
 use Rattle.error_bound.specs.BestLeaves.{IsBestBound}
 use Rattle.error_bound.specs.Bounds.{IsBound}
+use Rattle.box_tree.specs.declared.cert.LeafForm.TheVariants.{Pairs}
 use Rattle.box_tree.specs.declared.cert.Node.{Node}
 use Rattle.box_tree.specs.declared.cert.Node.TheVariants.{Split, Leaf}
 use Rattle.box_tree.specs.declared.cert.Cert.{Cert}
@@ -70,7 +71,7 @@ cell_of bytes = map (λ n. record { from = n; to = n }) bytes
 pub data Halves (b : Block) (h target : ℕ) : List Interval → ℕ → List Node → ℕ → Type 0 where
   leaf : (box : List Interval) (n : ℕ) (pairs : ArrayVec (ℕ × ℕ))
       → AreWithinTarget b h target box (leaves_of pairs.items) → n < 4096
-      → Halves b h target box n (Leaf pairs ∷ []) (n + 1)
+      → Halves b h target box n (Leaf (Pairs pairs) ∷ []) (n + 1)
   split : (box : List Interval) (k c n m r : ℕ) (output above : ℕ) (left right : List Node)
       → IsFirstAbove b h target box output above → IsHalvedAt box k c
       → Halves b h target (left_of k c box) n left m → Halves b h target (right_of k c box) m right r

@@ -6,6 +6,7 @@ use Rattle.fuzzy_meaning.specs.declared.block.Output.{Output}
 use Rattle.fuzzy_meaning.specs.Blocks.{IsValid}
 use Rattle.error_bound.specs.declared.boxes.Interval.{Interval}
 use Rattle.error_bound.specs.Reaches.{IsBlockTable}
+use Rattle.box_tree.specs.declared.cert.CertKind.TheVariants.{Named}
 use Rattle.box_tree.specs.declared.cert.Node.{Node}
 use Rattle.box_tree.specs.Certificates.{IsPair, IsNode}
 use Rattle.cert_check.specs.Trees.{Part, IsTree}
@@ -62,7 +63,7 @@ pub record Grows (b : Block) (h target : ℕ) (box : List Interval) (old new : T
   pub nodes : new.nodes.items ≡ old.nodes.items ++ added
   pub halves : Halves b h target box old.leaves added new.leaves
   pub tree : (rest : List Node) → IsTree box (added ++ rest) parts rest
-  pub good : All (IsNode (length b.outputs)) added
+  pub good : All (IsNode Named (length b.outputs)) added
   pub count : length new.errors.items ≡ length old.errors.items
   pub errors : (k : ℕ) (x : Output) → slice_get b.outputs k ≡ Some x
       → RisesTo b h target (k + 1) x parts (slice_index old.errors.items k) (slice_index new.errors.items k)

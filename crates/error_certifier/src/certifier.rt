@@ -1,6 +1,7 @@
 //! Certificates for a target, or why it is not reached.
 ghost use Rattle.std.specs.Prelude.{◌≡◌, ◌≢◌, ◌≤◌, All, IfOk, IfErr};
 ghost use Rattle.fuzzy_meaning.specs.Blocks.{IsValid};
+ghost use Rattle.box_tree.specs.declared.cert.CertKind.TheVariants.{Named};
 ghost use Rattle.box_tree.specs.Certificates.{IsCert};
 ghost use Rattle.error_certifier.specs.Halving.{IsHalving, StopsAt};
 ghost use Rattle.error_certifier.specs.Laws.{SaysOutOfReach};
@@ -36,7 +37,7 @@ pub fn certify(alloc: Global, block: &Block, target: u32) -> Result<Cert, NotRea
     requires target { target ≤ 1000000 }
     ensures halved { IfOk result (IsHalving block.now 1 target) }
     ensures within { IfOk result (λ cert. All (λ error. error ≤ target) cert.claims) }
-    ensures cert { IfOk result IsCert }
+    ensures cert { IfOk result (IsCert Named) }
     ensures stops { IfErr result (λ stop. stop ≢ NotReached.Memory → StopsAt block.now 1 target stop) }
     ensures out_of_reach { IfErr result (SaysOutOfReach block.now 1 target) }
 {
@@ -49,7 +50,7 @@ pub fn certify16(alloc: Global, block: &Block, target: u32) -> Result<Cert, NotR
     requires target { target ≤ 1000000 }
     ensures halved { IfOk result (IsHalving block.now 256 target) }
     ensures within { IfOk result (λ cert. All (λ error. error ≤ target) cert.claims) }
-    ensures cert { IfOk result IsCert }
+    ensures cert { IfOk result (IsCert Named) }
     ensures stops { IfErr result (λ stop. stop ≢ NotReached.Memory → StopsAt block.now 256 target stop) }
     ensures out_of_reach { IfErr result (SaysOutOfReach block.now 256 target) }
 {
@@ -64,7 +65,7 @@ fn certified(alloc: Global, block: &Block, target: u32, parts: u16) -> Result<Ce
     requires parts_to { parts ≤ 256 }
     ensures halved { IfOk result (IsHalving block.now parts target) }
     ensures within { IfOk result (λ cert. All (λ error. error ≤ target) cert.claims) }
-    ensures cert { IfOk result IsCert }
+    ensures cert { IfOk result (IsCert Named) }
     ensures stops { IfErr result (λ stop. stop ≢ NotReached.Memory → StopsAt block.now parts target stop) }
     ensures out_of_reach { IfErr result (SaysOutOfReach block.now parts target) }
 {

@@ -2,6 +2,7 @@
 ghost use Rattle.std.specs.Prelude.{◌≡◌, ◌≢◌, ◌≤◌, ◌<◌, ◌+◌, ◌++◌, ◌∷◌, [], length, replicate, OnOk, IfOk, IfErr};
 ghost use Rattle.fuzzy_meaning.specs.Blocks.{IsValid};
 ghost use Rattle.error_bound.specs.Boxes.{IsBoxOf};
+ghost use Rattle.box_tree.specs.declared.cert.LeafForm.TheVariants as form;
 ghost use Rattle.box_tree.specs.declared.cert.Node.TheVariants as node;
 ghost use Rattle.error_certifier.specs.Halving.{Stops, IsFirstAbove};
 ghost use Rattle.error_certifier.specs.Trees.{AreBestLeaves, IsTask, IsTreeFor, Grows, AreRaised};
@@ -9,7 +10,7 @@ ghost use Rattle.error_certifier.specs.Trees.{AreBestLeaves, IsTask, IsTreeFor, 
 use crate::boxes::{halves, low_bytes, middle, widest};
 use crate::certifier::NotReached;
 use crate::leaves::{Above, BestLeaves};
-use box_tree::{Cert, Node};
+use box_tree::{Cert, LeafForm, Node};
 use cert_check::cuts_have_halves;
 use error_bound::{BlockTable, BoxTable, ByteBox, best_leaves_hold};
 use fuzzy_meaning::Block;
@@ -126,7 +127,8 @@ impl Tree {
     /// Puts a leaf behind the nodes, and raises the errors to its Bounds.
     fn push_leaf(&mut self, leaves: BestLeaves) -> Result<(), NotReached>
         requires { length leaves.bounds.items ≡ length self.old.errors.items }
-        ensures nodes { OnOk result (self.new.nodes.items ≡ self.old.nodes.items ++ node.Leaf leaves.pairs ∷ []) }
+        ensures nodes { OnOk result
+            (self.new.nodes.items ≡ self.old.nodes.items ++ node.Leaf (form.Pairs leaves.pairs) ∷ []) }
         ensures errors { OnOk result (AreRaised leaves.bounds.items self.old.errors.items self.new.errors.items) }
         ensures leaves { OnOk result (self.new.leaves ≡ self.old.leaves + 1) }
         ensures few { OnOk result (self.old.leaves < 4096) }
@@ -137,7 +139,7 @@ impl Tree {
             return Err(NotReached::LeafLimit);
         }
         let BestLeaves { pairs, bounds } = leaves;
-        if self.nodes.push(Node::Leaf(pairs)).is_err() {
+        if self.nodes.push(Node::Leaf(LeafForm::Pairs(pairs))).is_err() {
             return Err(NotReached::Memory);
         }
         self.leaves += 1;

@@ -3,7 +3,7 @@ use Rattle.box_tree.specs.Texts.{version_line}
 use Rattle.std.proofs.lemmas.List.{append-nil}
 use Rattle.box_tree.specs.Certificates.{bad_claims, bad_version, no_claims, no_version}
 use Rattle.box_tree.proofs.Emptiness.{is_nothing, is_something}
-use Rattle.box_tree.proofs.lines.Lines.of_version.Goals as goal
+use Rattle.box_tree.proofs.lines.Lines.of.Goals as goal
 
 pub returns-then-is_empty-clause-fault : goal.returns-then-is_empty-clause-fault
 returns-then-is_empty-clause-fault c = no_version (is_nothing c.args.text.now c.if-is_empty.ensures)
@@ -14,7 +14,8 @@ returns-in-None-clause-fault c = bad_version (is_something c.args.text.now c.if-
 pub returns-then-is_empty-2-clause-fault : goal.returns-then-is_empty-2-clause-fault
 returns-then-is_empty-2-clause-fault c =
     no_claims (c.in-Some.ensures.line
-    ∙ ap (λ (t : List ℕ). version_line c.args.version ++ t) (is_nothing c.in-Some.rest.now c.if-is_empty-2.ensures)
+    ∙ ap (λ (t : List ℕ). version_line c.args.kind c.args.answers ++ t)
+    (is_nothing c.in-Some.rest.now c.if-is_empty-2.ensures)
     ∙ append-nil _)
 
 pub returns-in-None-claims_at-clause-fault : goal.returns-in-None-claims_at-clause-fault
