@@ -8,3 +8,4 @@ pub mod Log
 pub mod MemFiles
 pub mod Reading
 pub mod Told
+pub mod Writers

@@ -1,6 +1,6 @@
 -- What a read and a write do to a shelf's bytes and counts.
 use Rattle.std.specs.Prelude.{◌≡◌, ◌≤◌, ℕ, List, length, Result, Ok, Err}
-use Rattle.fz_shelf.specs.Faults.{Rose}
+use Rattle.fz_shelf.specs.Faults.{Rose, faults_after, one_fault_more}
 use Rattle.fz_shelf.specs.Files.{File, Holds, IsLong}
 use Rattle.fz_shelf.specs.declared.errors.ReadError.{ReadError}
 use Rattle.fz_shelf.specs.declared.errors.ReadError.TheVariants as error
@@ -33,3 +33,13 @@ abbrev pub WriteCounts : {E : Type 0} → Counts → Counts → Result Unit E �
 WriteCounts old new (Ok u) = new ≡ old
 WriteCounts old new (Err e) =
     (new ≡ record old { writes = new.writes }) × (old.writes ≤ new.writes) × Rose old.writes new.writes
+
+-- the counts after calls of a shelf that counts each fault once
+abbrev pub counts_after_read : Counts → Result Unit ReadError → Counts
+counts_after_read old (Ok u) = old
+counts_after_read old (Err error.Failed) = record old { reads = one_fault_more old.reads }
+counts_after_read old (Err error.TooLong) = record old { longs = one_fault_more old.longs }
+counts_after_read old (Err error.Memory) = old
+
+abbrev pub counts_after_write : {E : Type 0} → Counts → Result Unit E → Counts
+counts_after_write old result = record old { writes = faults_after old.writes result }

@@ -1,5 +1,6 @@
 //! A shelf of real files, which tells nothing of them.
-ghost use Rattle.std.specs.Prelude.{◌≡◌, ◌≤◌, ◌<◌, [], length, OnOk, vec_len, vec_capacity, string_bytes};
+ghost use Rattle.std.specs.Prelude.{◌≡◌, ◌≤◌, ◌<◌, [], length, IfSome, IsErrOf, OnOk, vec_len, vec_capacity};
+ghost use Rattle.std.specs.Prelude.{string_bytes};
 ghost use Rattle.fz_shelf.specs.Files.{untold};
 ghost use Rattle.fz_shelf.specs.Log.{asked_of, asked_after};
 
@@ -7,7 +8,7 @@ use crate::log::{entry_for, record};
 use crate::{Answer, Asked, Failed, MOST_BYTES, ReadError, Shelf};
 use std::alloc::Global;
 use std::fs::File;
-use std::io::Read;
+use std::io::{ErrorKind, Read};
 use std::rt::Files;
 
 /// The files of the system by their paths. It is never reliable.
@@ -38,32 +39,31 @@ impl<R: Files + Drop> FileShelf<R> {
     }
 }
 
-/// Reads the file to its end, in turns that each take at least one byte.
-fn read_to_end<R: Files>(rt: &R, name: &str, into: &mut Vec<u8>) -> Result<(), ReadError>
+/// All that a reader gives, as far as one byte more than a file may have, in pieces of any size.
+fn read_whole<R: Read + Drop>(reader: R, into: &mut Vec<u8>) -> Result<(), ReadError>
+    requires { into.old.items ≡ [] }
+    ensures small { OnOk result (length into.new.items ≤ 1048576) }
+    ensures whole { OnOk result (IfSome (R.remaining reader) (λ bytes. into.new.items ≡ bytes)) }
+    ensures long { IsErrOf result ReadError.TooLong
+        → IfSome (R.remaining reader) (λ bytes. 1048576 < length bytes) }
+{
+    match reader.take(MOST_BYTES as u64 + 1).read_to_end(into) {
+        Ok(count) if count <= MOST_BYTES => Ok(()),
+        Ok(_) => Err(ReadError::TooLong),
+        Err(fault) if fault.kind() == ErrorKind::OutOfMemory => Err(ReadError::Memory),
+        Err(_) => Err(ReadError::Failed),
+    }
+}
+
+/// The whole file of a name.
+fn read_file<R: Files>(rt: &R, name: &str, into: &mut Vec<u8>) -> Result<(), ReadError>
     requires { into.old.items ≡ [] }
     ensures { OnOk result (length into.new.items ≤ 1048576) }
 {
-    let mut file = match File::open(rt, name) {
-        Ok(file) => file,
-        Err(_) => return Err(ReadError::Failed),
-    };
-    let mut buffer = [0u8; 4096];
-    for _turn in 0..MOST_BYTES + 1 {
-        let count = match file.read(&mut buffer) {
-            Ok(count) => count,
-            Err(_) => return Err(ReadError::Failed),
-        };
-        if count == 0 {
-            return Ok(());
-        }
-        if count > MOST_BYTES - into.len() {
-            return Err(ReadError::TooLong);
-        }
-        if into.extend_from_slice(&buffer[..count]).is_err() {
-            return Err(ReadError::Memory);
-        }
+    match File::open(rt, name) {
+        Ok(file) => read_whole(file, into),
+        Err(_) => Err(ReadError::Failed),
     }
-    Err(ReadError::TooLong)
 }
 
 /// Reads the file once, and adds that to the list of reads.
@@ -82,7 +82,7 @@ fn read_once<R: Files>(
         Ok(entry) => entry,
         Err(_) => return Err(ReadError::Memory),
     };
-    match read_to_end(rt, name, into) {
+    match read_file(rt, name, into) {
         Ok(()) => {
             record(asked, entry, Answer::Whole);
             Ok(())

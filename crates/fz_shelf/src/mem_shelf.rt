@@ -5,7 +5,7 @@ ghost use Rattle.std.specs.List.{All};
 ghost use Rattle.fz_shelf.specs.Calls.{IsListed, one_more};
 ghost use Rattle.fz_shelf.specs.Files.{Fits, IsThere, Written, absent};
 ghost use Rattle.fz_shelf.specs.Log.{asked_after, asked_of};
-ghost use Rattle.fz_shelf.specs.Reading.{ReadCounts, ReadTells, WriteCounts};
+ghost use Rattle.fz_shelf.specs.Reading.{ReadCounts, ReadTells, WriteCounts, counts_after_read, counts_after_write};
 ghost use Rattle.fz_shelf.specs.MemFiles.{file_in, is_named, IsPlace};
 
 use crate::log::{entry_for, record};
@@ -149,6 +149,8 @@ impl Shelf for MemShelf {
             → IsThere (⟦<MemShelf as Shelf>⟧.files self.old name.now)
             → IsErrOf result ReadError.Failed → ⊥ }
 
+        ensures counted { ⟦<MemShelf as Shelf>⟧.counts self.new
+            ≡ counts_after_read (⟦<MemShelf as Shelf>⟧.counts self.old) result }
         ensures listed { IsListed (failing_reads_of self.old) (reads_of self.old)
             → IsErrOf result ReadError.Failed ⊎ IsErrOf result ReadError.Memory }
         ensures unlisted { (IsListed (failing_reads_of self.old) (reads_of self.old) → ⊥)
@@ -203,6 +205,8 @@ impl Shelf for MemShelf {
         ensures steady { ⟦<MemShelf as Shelf>⟧.reliable self.old
             → Fits (⟦<MemShelf as Shelf>⟧.files self.old name.now) (length bytes.now) → IsOk result }
 
+        ensures counted { ⟦<MemShelf as Shelf>⟧.counts self.new
+            ≡ counts_after_write (⟦<MemShelf as Shelf>⟧.counts self.old) result }
         ensures listed { IsListed (failing_writes_of self.old) (writes_of self.old) → IsErr result }
         ensures unlisted { (IsListed (failing_writes_of self.old) (writes_of self.old) → ⊥)
             → Fits (⟦<MemShelf as Shelf>⟧.files self.old name.now) (length bytes.now) → IsOk result }

@@ -3,7 +3,7 @@ ghost use Rattle.std.specs.Prelude.{◌≡◌, ◌≤◌, ◌+◌, [], Some, IfO
 ghost use Rattle.std.specs.Prelude.{vec_capacity};
 ghost use Rattle.std.specs.List.{All};
 ghost use Rattle.fz_shelf.specs.Calls.{IsListed, one_more};
-ghost use Rattle.fz_shelf.specs.Faults.{HasCause};
+ghost use Rattle.fz_shelf.specs.Faults.{HasCause, faults_after};
 ghost use Rattle.fz_shelf.specs.Told.{after_put, HasRoom, IsPart, IsWithinRoom};
 
 use crate::mem_shelf::is_listed;
@@ -85,6 +85,8 @@ impl Sink for MemSink {
         ensures steady { ⟦<MemSink as Sink>⟧.reliable self.old
             → HasRoom (⟦<MemSink as Sink>⟧.told self.old) (length bytes.now) → IsOk result }
 
+        ensures counted { ⟦<MemSink as Sink>⟧.faults self.new
+            ≡ faults_after (⟦<MemSink as Sink>⟧.faults self.old) result }
         ensures listed { IsListed (failing_puts_of self.old) (puts_of self.old) → IsErr result }
         ensures over { IfOk result (λ n. IsWithinRoom (⟦<MemSink as Sink>⟧.told self.old) (length bytes.now)) }
         ensures unlisted { (IsListed (failing_puts_of self.old) (puts_of self.old) → ⊥)

@@ -1,5 +1,8 @@
 //! Standard output and standard error as sinks.
-ghost use Rattle.std.specs.Prelude.{◌≡◌, None};
+ghost use Rattle.std.specs.Prelude.{◌≡◌, IfOk, IsOk, None, length};
+ghost use Rattle.std.specs.Io.KnownBytes.{WriteAppends};
+ghost use Rattle.fz_shelf.specs.Faults.{HasCause};
+ghost use Rattle.fz_shelf.specs.Told.{after_put, HasRoom, IsPart, IsWithinRoom};
 
 use crate::{Failed, Sink};
 use std::io::Write;
@@ -20,6 +23,18 @@ impl<W: Write + Drop> StdSink<W> {
     }
 }
 
+/// How many bytes a writer takes of a piece in one write, at least one where there is one.
+fn write_once<W: Write>(writer: &mut W, bytes: &[u8]) -> Result<usize, Failed>
+    ensures part { IfOk result (λ n. IsPart n (length bytes.now)) }
+    ensures given { WriteAppends (W.contents writer.old) (W.contents writer.new) result bytes.now }
+{
+    match writer.write(bytes) {
+        Ok(0) if !bytes.is_empty() => Err(Failed),
+        Ok(count) => Ok(count),
+        Err(_) => Err(Failed),
+    }
+}
+
 impl<W: Write + Drop> Sink for StdSink<W> {
     ghost told = { λ s. None };
 
@@ -27,10 +42,26 @@ impl<W: Write + Drop> Sink for StdSink<W> {
 
     ghost reliable = { λ s. ⊥ };
 
-    fn put(&mut self, bytes: &[u8]) -> Result<usize, Failed> {
-        match self.writer.write(bytes) {
-            Ok(count) if count > 0 || bytes.is_empty() => Ok(count),
-            _ => {
+    ghost use Rattle.fz_shelf.specs.Writers.{writer_of};
+
+    /// One write. Where the writer's bytes are known, it has those that the answer tells, and no other.
+    fn put(&mut self, bytes: &[u8]) -> Result<usize, Failed>
+        ensures part { IfOk result (λ n. IsPart n (length bytes.now)) }
+        ensures fits { IfOk result (IsWithinRoom (⟦<StdSink<W> as Sink>⟧.told self.old)) }
+        ensures told { ⟦<StdSink<W> as Sink>⟧.told self.new
+            ≡ after_put (⟦<StdSink<W> as Sink>⟧.told self.old) bytes.now result }
+        ensures cause { HasCause (⟦<StdSink<W> as Sink>⟧.faults self.old)
+            (⟦<StdSink<W> as Sink>⟧.faults self.new) result }
+        ensures reliable { ⟦<StdSink<W> as Sink>⟧.reliable self.old → ⟦<StdSink<W> as Sink>⟧.reliable self.new }
+        ensures steady { ⟦<StdSink<W> as Sink>⟧.reliable self.old
+            → HasRoom (⟦<StdSink<W> as Sink>⟧.told self.old) (length bytes.now) → IsOk result }
+
+        ensures given { WriteAppends (W.contents (writer_of self.old)) (W.contents (writer_of self.new))
+            result bytes.now }
+    {
+        match write_once(&mut self.writer, bytes) {
+            Ok(count) => Ok(count),
+            Err(Failed) => {
                 self.faults = self.faults.saturating_add(1);
                 Err(Failed)
             }
