@@ -1,19 +1,23 @@
--- A text that spells a plan, posts or levels has no fault.
-use Rattle.std.proofs.Common.{arith, ◌≡◌, ◌<◌, ◌+◌, ℕ, true, false, List, ◌∷◌, ◌++◌, length, sym, ◌∙◌, ap, subst}
+-- A text that spells a plan, posts or levels has no fault, and none has two first faults.
+use Rattle.std.proofs.Common.{arith, ◌≡◌, ◌<◌, ◌+◌, ℕ, true, false, List, ◌∷◌, ◌++◌, length, refl, sym, ◌∙◌, ap, subst}
 use Rattle.std.specs.Prelude.{All, Option, Some}
 use Rattle.std.proofs.lemmas.List.{length-append}
 use Rattle.fz_rows.specs.FirstRows.{Fields}
 use Rattle.fz_rows.specs.Laws.{FirstRowsAreOne}
+use Rattle.fz_rows.proofs.Algebra.{none_fails_before, one_fails_first}
 use Rattle.cpu12_isa.specs.Regions.{is_free}
 use Rattle.cpu12_isa.specs.declared.instr.Write.{Write}
+use Rattle.interrupt_plan.specs.OneReading.{LevelFaultsAreOne, PlanFaultsAreOne, PostFaultsAreOne}
 use Rattle.interrupt_plan.specs.OneReading.{SpelledLevelsHaveNoFault, SpelledPlansHaveNoFault, SpelledPostsHaveNoFault}
 use Rattle.interrupt_plan.specs.Levels.{AreGoodLevels, LevelNotAfter, SpellsLevel, no_writes, numbers_of}
 use Rattle.interrupt_plan.specs.Plans.{IsGood, NotAfter}
 use Rattle.interrupt_plan.specs.Posts.{AreGoodPosts, NoLater, SpellsPost, writes_in}
 use Rattle.interrupt_plan.specs.PlanTexts.{SpellsRequest, writes_by}
-use Rattle.interrupt_plan.specs.Rows.{AreFree, AreInOrder, FirstFault, HasFirstFault, HasNumbers, RowFails, SpellAll}
-use Rattle.interrupt_plan.specs.Rows.{SpellsText, at_row, count_of, more, not_ascending, not_free, unread}
+use Rattle.interrupt_plan.specs.Rows.{AreFree, AreInOrder, FirstFault, HasFirstFault, HasNumbers, IsFirstTaken}
+use Rattle.interrupt_plan.specs.Rows.{RowFails, SpellAll, SpellsText, at_row, count_of, more, not_ascending, not_free}
+use Rattle.interrupt_plan.specs.Rows.{unread}
 use Rattle.interrupt_plan.specs.declared.PlanFault.{PlanFault}
+use Rattle.interrupt_plan.specs.declared.PlanFault.TheVariants.{NotFree}
 use Rattle.interrupt_plan.specs.declared.levels.Level.{Level}
 use Rattle.interrupt_plan.specs.declared.Post.{Post}
 use Rattle.interrupt_plan.specs.declared.Request.{Request}
@@ -58,6 +62,30 @@ level_one fast fields q r one other =
     let inner : q.inner.items ≡ r.inner.items = cc in
     (λ i. record { sample = sample i; moment = moment i; fast = answered i; inner = record { items = inner i } })
 
+-- ---- of writes one is the first that is not free
+
+taken_apart : (ws : List Write) (at : ℕ) → IsFirstTaken ws at → AreFree ws → ⊥
+taken_apart ws at first free =
+    let own = own_of (λ (v : Write). is_free v.at ≡ true) first.before first.write first.after
+    (subst AreFree first.writes_are free) in
+    let bad : true ≡ false = sym own ∙ first.taken in
+    cc
+
+abbrev IsTaken : List Write → Write → ℕ → Type 0
+IsTaken before w at = (is_free w.at ≡ false) × (at ≡ w.at)
+
+one_taken : (ws : List Write) (at other : ℕ) → IsFirstTaken ws at → IsFirstTaken ws other → at ≡ other
+one_taken ws at other first first' =
+    one_fails_first AreFree IsTaken
+    (λ before w after a taken free.
+    let own = own_of (λ (v : Write). is_free v.at ≡ true) before w after free in
+    let bad : true ≡ false = sym own ∙ taken.0 in
+    let no : ⊥ = cc in no)
+    (λ before w a b one two. one.1 ∙ sym two.1)
+    first.before first.write first.after at first'.before first'.write first'.after other
+    (sym first.writes_are ∙ first'.writes_are) first.free (first.taken, first.address) first'.free
+    (first'.taken, first'.address)
+
 -- ---- entries that are spelled in one way do not fail
 
 module _ {E : Type 0} (Spells : Fields → E → Type 0) (writes : E → List Write) (Follows : E → E → Type 0)
@@ -73,11 +101,7 @@ module _ {E : Type 0} (Spells : Fields → E → Type 0) (writes : E → List Wr
     row_apart n fault (unread none) = none at.own at.own_is
     row_apart n fault (not_free r address spells first) =
         let same : writes r ≡ writes at.own = ap writes (entry_one row r at.own spells at.own_is) in
-        let parts : writes at.own ≡ first.before ++ first.write ∷ first.after = sym same ∙ first.writes_are in
-        let free = own_of (λ (v : Write). is_free v.at ≡ true) first.before first.write first.after
-        (subst (λ (l : List Write). All (λ v. is_free v.at ≡ true) l) parts own_free) in
-        let bad : true ≡ false = sym free ∙ first.taken in
-        cc
+        taken_apart (writes r) address first (subst AreFree (sym same) own_free)
     row_apart n fault (not_ascending r spells free falls) =
         let own : r ≡ at.own = entry_one row r at.own spells at.own_is in
         let up = follows_last Spells entry_one Follows before row others all at spelled order.ascends falls.front
@@ -99,9 +123,66 @@ module _ {E : Type 0} (Spells : Fields → E → Type 0) (writes : E → List Wr
       → (text : List ℕ) (all : List E) (fault : PlanFault) → SpellsText Spells Good text all
       → HasFirstFault Spells writes Follows text fault → ⊥
   texts_apart one Good order text all fault spells has =
-      let same : has.rows ≡ spells.rows = one text spells.rows has.rows spells.first spells.few has.first in
+      let same : has.rows ≡ spells.rows = one text spells.rows has.rows spells.first has.first in
       rows_apart spells.rows all fault spells.few (order all spells.good) spells.spelled
       (subst (λ (rs : List Fields). FirstFault Spells writes Follows rs fault) same has.fault_is)
+
+  -- ---- rows have one first fault
+
+  row_fault_one : (es others : List E) (n : ℕ) (row : Fields) (f g : PlanFault)
+      → RowFails Spells writes Follows es n row f → RowFails Spells writes Follows others n row g → f ≡ g
+  row_fault_one es others n row f g (unread none) (unread none') = refl
+  row_fault_one es others n row f g (unread none) (not_free e at spells first) = absurd (none e spells)
+  row_fault_one es others n row f g (unread none) (not_ascending e spells free falls) = absurd (none e spells)
+  row_fault_one es others n row f g (not_free e at spells first) (unread none) = absurd (none e spells)
+  row_fault_one es others n row f g (not_free e at spells first) (not_free e' at' spells' first') =
+      let same : writes e' ≡ writes e = ap writes (entry_one row e' e spells' spells) in
+      ap (NotFree n) (one_taken (writes e) at at' first (subst (λ (ws : List Write). IsFirstTaken ws at') same first'))
+  row_fault_one es others n row f g (not_free e at spells first) (not_ascending e' spells' free falls) =
+      let same : writes e' ≡ writes e = ap writes (entry_one row e' e spells' spells) in
+      absurd (taken_apart (writes e) at first (subst AreFree same free))
+  row_fault_one es others n row f g (not_ascending e spells free falls) (unread none) = absurd (none e spells)
+  row_fault_one es others n row f g (not_ascending e spells free falls) (not_free e' at spells' first) =
+      let same : writes e ≡ writes e' = ap writes (entry_one row e e' spells spells') in
+      absurd (taken_apart (writes e') at first (subst AreFree same free))
+  row_fault_one es others n row f g (not_ascending e spells free falls) (not_ascending e' spells' free' falls') = refl
+
+  abbrev Pass : List Fields → Type 0
+  Pass rows = (es : List E) × SpellAll Spells rows es × AreInOrder writes Follows es
+
+  abbrev Fails : List Fields → Fields → PlanFault → Type 0
+  Fails before row fault =
+      (es : List E) × SpellAll Spells before es × RowFails Spells writes Follows es (length before + 1) row fault
+
+  fails_apart : (before : List Fields) (row : Fields) (after : List Fields) (fault : PlanFault)
+      → Fails before row fault → Pass (before ++ row ∷ after) → ⊥
+  fails_apart before row after fault fails pass =
+      row_apart before row fails.0 pass.0 pass.2 (split_at Spells before row after pass.0 pass.1) fails.1
+      (length before + 1) fault fails.2
+
+  fault_one : (rows : List Fields) (f g : PlanFault) → FirstFault Spells writes Follows rows f
+      → FirstFault Spells writes Follows rows g → f ≡ g
+  fault_one rows f g (at_row b r a es f' split lt front order fails)
+      (at_row b2 r2 a2 es2 g' split2 lt2 front2 order2 fails2) =
+      one_fails_first Pass Fails fails_apart
+      (λ before row f g fails others.
+      row_fault_one fails.0 others.0 (length before + 1) row f g fails.2 others.2)
+      b r a f b2 r2 a2 g (sym split ∙ split2) (es, front, order) (es, front, fails) (es2, front2, order2)
+      (es2, front2, fails2)
+  fault_one rows f g (at_row b r a es f' split lt front order fails) (more b2 r2 a2 es2 split2 full2 front2 order2) =
+      absurd (none_fails_before Pass Fails fails_apart b r a b2 r2 a2 f (sym split ∙ split2) (omega arith)
+      (es, front, fails) (es2, front2, order2))
+  fault_one rows f g (more b r a es split full front order) (at_row b2 r2 a2 es2 g' split2 lt2 front2 order2 fails2) =
+      absurd (none_fails_before Pass Fails fails_apart b2 r2 a2 b r a g (sym split2 ∙ split) (omega arith)
+      (es2, front2, fails2) (es, front, order))
+  fault_one rows f g (more b r a es split full front order) (more b2 r2 a2 es2 split2 full2 front2 order2) = refl
+
+  text_fault_one : FirstRowsAreOne → (text : List ℕ) (fault other : PlanFault)
+      → HasFirstFault Spells writes Follows text fault → HasFirstFault Spells writes Follows text other → fault ≡ other
+  text_fault_one one text fault other has has' =
+      let same : has'.rows ≡ has.rows = one text has.rows has'.rows has.first has'.first in
+      fault_one has.rows fault other has.fault_is
+      (subst (λ (rs : List Fields). FirstFault Spells writes Follows rs other) same has'.fault_is)
 
 -- ---- plans, posts and levels
 
@@ -130,3 +211,12 @@ pub levels_apart : FirstRowsAreOne → SpelledLevelsHaveNoFault
 levels_apart one fast text levels fault spells has =
     texts_apart (SpellsLevel fast) no_writes LevelNotAfter (level_one fast) one (AreGoodLevels fast)
     (levels_order fast) text levels fault spells has
+
+pub one_plan_fault : FirstRowsAreOne → PlanFaultsAreOne
+one_plan_fault = text_fault_one SpellsRequest writes_by NotAfter request_one
+
+pub one_post_fault : FirstRowsAreOne → PostFaultsAreOne
+one_post_fault one samples = text_fault_one (SpellsPost samples) writes_in NoLater (post_one samples) one
+
+pub one_level_fault : FirstRowsAreOne → LevelFaultsAreOne
+one_level_fault one fast = text_fault_one (SpellsLevel fast) no_writes LevelNotAfter (level_one fast) one

@@ -1,16 +1,19 @@
 -- Rows and upsets, one by one.
-use Rattle.std.proofs.Common.{◌≡◌, ◌<◌, ◌+◌, ℕ, suc, true, false, List, [], ◌∷◌, ◌++◌, length, take, drop, get_or, sym}
+use Rattle.std.proofs.Common.{◌≡◌, ◌<◌, ◌+◌, ℕ, suc, Bool, true, false, List, [], ◌∷◌, ◌++◌, length, take, drop, get_or, refl, sym}
 use Rattle.std.proofs.Common.{◌∙◌, ap, ap₂, subst, arith}
 use Rattle.std.specs.Prelude.{map, All}
+use Rattle.std.proofs.lemmas.Bool.{false≢true}
 use Rattle.std.proofs.lemmas.List.{length-append}
 use Rattle.std.proofs.lemmas.List.Elements.{All-append, All-cons, All-nil}
 use Rattle.csv.specs.Records.{Row, fields_of}
 use Rattle.cpu12_isa.specs.declared.instr.Write.{Write}
 use Rattle.fz_rows.specs.FirstRows.{Fields}
 use Rattle.fz_rows.specs.Laws.{FirstRowsAreOne}
+use Rattle.fz_rows.proofs.Algebra.{none_fails_before, one_fails_first}
 use Rattle.interrupt_plan.specs.declared.upsets.Upset.{Upset}
 use Rattle.interrupt_plan.specs.declared.upsets.UpsetFault.{UpsetFault}
-use Rattle.interrupt_plan.specs.declared.upsets.UpsetFault.TheVariants.{TooMany}
+use Rattle.interrupt_plan.specs.declared.upsets.UpsetFault.TheVariants.{NotTable, TooMany}
+use Rattle.interrupt_plan.specs.OneReading.{UpsetFaultsAreOne}
 use Rattle.interrupt_plan.specs.Rows.{count_of, write_of}
 use Rattle.interrupt_plan.specs.Upsets.{AreGoodUpsets, IsBefore, IsGoodUpset, is_table}
 use Rattle.interrupt_plan.specs.UpsetTexts.{FirstUpsetFault, SpellUpsets, SpellsUpset, SpelledUpsetsHaveNoFault}
@@ -123,6 +126,65 @@ rows_apart image rows upsets fault few good spelled (more before row after us sp
 
 pub upsets_apart : FirstRowsAreOne → SpelledUpsetsHaveNoFault
 upsets_apart one image text upsets fault spells has =
-    let same : has.rows ≡ spells.rows = one text spells.rows has.rows spells.first spells.few has.first in
+    let same : has.rows ≡ spells.rows = one text spells.rows has.rows spells.first has.first in
     rows_apart image spells.rows upsets fault spells.few spells.good spells.spelled
     (subst (λ (rs : List Fields). FirstUpsetFault image rs fault) same has.fault_is)
+
+-- ---- a text has one first fault
+
+module _ (image : List (ℕ × ℕ)) where
+  one_place : (row : Fields) (u v : Upset) (a b : Bool) → SpellsUpset row u → SpellsUpset row v
+      → is_table image u.at ≡ a → is_table image v.at ≡ b → a ≡ b
+  one_place row u v a b one other at at' =
+      sym at ∙ ap (λ (x : Upset). is_table image x.at) (upset_one row u v one other) ∙ at'
+
+  row_fault_one : (us vs : List Upset) (n : ℕ) (row : Fields) (f g : UpsetFault) → UpsetRowFails image us n row f
+      → UpsetRowFails image vs n row g → f ≡ g
+  row_fault_one us vs n row f g (unread none) (unread none') = refl
+  row_fault_one us vs n row f g (unread none) (not_table u spells outside) = absurd (none u spells)
+  row_fault_one us vs n row f g (unread none) (not_ascending u spells inside falls) = absurd (none u spells)
+  row_fault_one us vs n row f g (not_table u spells outside) (unread none) = absurd (none u spells)
+  row_fault_one us vs n row f g (not_table u spells outside) (not_table v spells' outside') =
+      ap (λ (x : Upset). NotTable n x.at) (upset_one row u v spells spells')
+  row_fault_one us vs n row f g (not_table u spells outside) (not_ascending v spells' inside falls) =
+      absurd (false≢true (one_place row u v false true spells spells' outside inside))
+  row_fault_one us vs n row f g (not_ascending u spells inside falls) (unread none) = absurd (none u spells)
+  row_fault_one us vs n row f g (not_ascending u spells inside falls) (not_table v spells' outside) =
+      absurd (false≢true (one_place row v u false true spells' spells outside inside))
+  row_fault_one us vs n row f g (not_ascending u spells inside falls) (not_ascending v spells' inside' falls') = refl
+
+  abbrev Pass : List Fields → Type 0
+  Pass rows = (us : List Upset) × SpellUpsets rows us × AreGoodUpsets image us
+
+  abbrev Fails : List Fields → Fields → UpsetFault → Type 0
+  Fails before row fault =
+      (us : List Upset) × SpellUpsets before us × UpsetRowFails image us (length before + 1) row fault
+
+  fails_apart : (before : List Fields) (row : Fields) (after : List Fields) (fault : UpsetFault)
+      → Fails before row fault → Pass (before ++ row ∷ after) → ⊥
+  fails_apart before row after fault fails pass =
+      row_apart image before row fails.0 pass.0 pass.2 (split_at SpellsUpset before row after pass.0 pass.1) fails.1
+      (length before + 1) fault fails.2
+
+  fault_one : (rows : List Fields) (f g : UpsetFault) → FirstUpsetFault image rows f → FirstUpsetFault image rows g
+      → f ≡ g
+  fault_one rows f g (at_row b r a us f' split lt front good fails)
+      (at_row b2 r2 a2 us2 g' split2 lt2 front2 good2 fails2) =
+      one_fails_first Pass Fails fails_apart
+      (λ before row f g fails others.
+      row_fault_one fails.0 others.0 (length before + 1) row f g fails.2 others.2)
+      b r a f b2 r2 a2 g (sym split ∙ split2) (us, front, good) (us, front, fails) (us2, front2, good2)
+      (us2, front2, fails2)
+  fault_one rows f g (at_row b r a us f' split lt front good fails) (more b2 r2 a2 us2 split2 full2 front2 good2) =
+      absurd (none_fails_before Pass Fails fails_apart b r a b2 r2 a2 f (sym split ∙ split2) (omega arith)
+      (us, front, fails) (us2, front2, good2))
+  fault_one rows f g (more b r a us split full front good) (at_row b2 r2 a2 us2 g' split2 lt2 front2 good2 fails2) =
+      absurd (none_fails_before Pass Fails fails_apart b2 r2 a2 b r a g (sym split2 ∙ split) (omega arith)
+      (us2, front2, fails2) (us, front, good))
+  fault_one rows f g (more b r a us split full front good) (more b2 r2 a2 us2 split2 full2 front2 good2) = refl
+
+pub one_upset_fault : FirstRowsAreOne → UpsetFaultsAreOne
+one_upset_fault one image text fault other has has' =
+    let same : has'.rows ≡ has.rows = one text has.rows has'.rows has.first has'.first in
+    fault_one image has.rows fault other has.fault_is
+    (subst (λ (rs : List Fields). FirstUpsetFault image rs other) same has'.fault_is)

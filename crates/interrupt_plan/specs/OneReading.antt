@@ -1,5 +1,5 @@
--- A text spells entries or has a fault, and not both.
-use Rattle.std.specs.Prelude.{ℕ, List}
+-- A text spells entries or has a first fault, not both, and it has one.
+use Rattle.std.specs.Prelude.{◌≡◌, ℕ, List}
 use Rattle.interrupt_plan.specs.Levels.{LevelsHaveFault, SpellsLevels}
 use Rattle.interrupt_plan.specs.PlanTexts.{HasFault, Spells}
 use Rattle.interrupt_plan.specs.Posts.{PostsHaveFault, SpellsPosts}
@@ -7,6 +7,8 @@ use Rattle.interrupt_plan.specs.declared.PlanFault.{PlanFault}
 use Rattle.interrupt_plan.specs.declared.levels.Level.{Level}
 use Rattle.interrupt_plan.specs.declared.Post.{Post}
 use Rattle.interrupt_plan.specs.declared.Request.{Request}
+use Rattle.interrupt_plan.specs.declared.upsets.UpsetFault.{UpsetFault}
+use Rattle.interrupt_plan.specs.UpsetTexts.{HasUpsetFault}
 
 -- A text that spells a plan has no fault.
 abbrev pub SpelledPlansHaveNoFault : Type 0
@@ -24,3 +26,19 @@ abbrev pub SpelledLevelsHaveNoFault : Type 0
 SpelledLevelsHaveNoFault =
     (fast : ℕ) (text : List ℕ) (levels : List Level) (fault : PlanFault) → SpellsLevels fast text levels
     → LevelsHaveFault fast text fault → ⊥
+
+-- A text has one first fault: as a plan, as posts, as levels, and as upsets of an image.
+abbrev pub PlanFaultsAreOne : Type 0
+PlanFaultsAreOne = (text : List ℕ) (fault other : PlanFault) → HasFault text fault → HasFault text other → fault ≡ other
+
+abbrev pub PostFaultsAreOne : Type 0
+PostFaultsAreOne = (samples : ℕ) (text : List ℕ) (fault other : PlanFault) → PostsHaveFault samples text fault
+    → PostsHaveFault samples text other → fault ≡ other
+
+abbrev pub LevelFaultsAreOne : Type 0
+LevelFaultsAreOne = (fast : ℕ) (text : List ℕ) (fault other : PlanFault) → LevelsHaveFault fast text fault
+    → LevelsHaveFault fast text other → fault ≡ other
+
+abbrev pub UpsetFaultsAreOne : Type 0
+UpsetFaultsAreOne = (image : List (ℕ × ℕ)) (text : List ℕ) (fault other : UpsetFault)
+    → HasUpsetFault image text fault → HasUpsetFault image text other → fault ≡ other

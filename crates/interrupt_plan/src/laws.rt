@@ -1,6 +1,7 @@
 //! Laws of plans, each the contract of a function that does nothing.
+ghost use Rattle.interrupt_plan.specs.OneReading.{LevelFaultsAreOne, PlanFaultsAreOne, PostFaultsAreOne};
 ghost use Rattle.interrupt_plan.specs.OneReading.{SpelledLevelsHaveNoFault, SpelledPlansHaveNoFault};
-ghost use Rattle.interrupt_plan.specs.OneReading.{SpelledPostsHaveNoFault};
+ghost use Rattle.interrupt_plan.specs.OneReading.{SpelledPostsHaveNoFault, UpsetFaultsAreOne};
 ghost use Rattle.interrupt_plan.specs.UpsetTexts.{SpelledUpsetsHaveNoFault};
 
 /// A text that spells a plan has no fault.
@@ -27,6 +28,16 @@ pub fn spelled_levels_have_no_fault()
 /// A text that spells upsets of an image has no fault for it.
 pub fn spelled_upsets_have_no_fault()
     ensures { SpelledUpsetsHaveNoFault }
+{
+    fz_rows::first_rows_are_one();
+}
+
+/// A text has one first fault: as a plan, as posts, as levels, and as upsets of an image.
+pub fn first_faults_are_one()
+    ensures plans { PlanFaultsAreOne }
+    ensures posts { PostFaultsAreOne }
+    ensures levels { LevelFaultsAreOne }
+    ensures upsets { UpsetFaultsAreOne }
 {
     fz_rows::first_rows_are_one();
 }

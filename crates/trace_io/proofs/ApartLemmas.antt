@@ -1,16 +1,20 @@
--- A text that spells samples has no fault.
-use Rattle.std.proofs.Common.{arith, ◌≡◌, ◌<◌, ◌+◌, ◌-◌, ℕ, List, [], ◌∷◌, ◌++◌, length, sym, ◌∙◌, ap, subst}
+-- A text that spells samples has no fault, and none has two first faults.
+use Rattle.std.proofs.Common.{arith, ◌≡◌, ◌<◌, ◌+◌, ◌-◌, ℕ, List, [], ◌∷◌, ◌++◌, length, refl, sym, ◌∙◌, ap, subst}
+use Rattle.std.proofs.Common.{inl, inr}
 use Rattle.std.specs.Prelude.{Some, None}
+use Rattle.std.proofs.lemmas.Bool.{cases_lt}
 use Rattle.std.proofs.lemmas.List.{length-append}
 use Rattle.fz_num.specs.declared.dec.Dec.{Dec}
 use Rattle.fz_rows.specs.Laws.{FirstRowsAreOne}
+use Rattle.fz_rows.proofs.Algebra.{cut_within, none_fails_before, one_fails_first}
 use Rattle.fuzzy_meaning.specs.Blocks.{IsWithin}
 use Rattle.fuzzy_meaning.specs.declared.block.Input.{Input}
-use Rattle.trace_io.specs.OneReading.{SpelledTracesHaveNoFault}
-use Rattle.trace_io.specs.Traces.{AreWithin, Fields, FirstFault, RowFails, SpellSamples, SpellsSample, at_row}
-use Rattle.trace_io.specs.Traces.{miscounted, more, outside, unread}
+use Rattle.trace_io.specs.OneReading.{FirstFaultsAreOne, SpelledTracesHaveNoFault}
+use Rattle.trace_io.specs.Traces.{AreWithin, Fields, FirstFault, IsFirstOutside, RowFails, SpellSamples}
+use Rattle.trace_io.specs.Traces.{SpellsSample, at_row, miscounted, more, outside, unread}
 use Rattle.trace_io.specs.declared.sample.Sample.{Sample}
 use Rattle.trace_io.specs.declared.sample.TraceFault.{TraceFault}
+use Rattle.trace_io.specs.declared.sample.TraceFault.TheVariants.{OutOfRange}
 
 -- ---- a row that is spelled does not fail
 
@@ -55,6 +59,88 @@ rows_apart inputs rows samples fault few spelled (more before row after ss split
 
 pub spelled_apart : FirstRowsAreOne → SpelledTracesHaveNoFault
 spelled_apart one inputs text samples fault spells has =
-    let same : has.rows ≡ spells.rows = one text spells.rows has.rows spells.first spells.few has.first in
+    let same : has.rows ≡ spells.rows = one text spells.rows has.rows spells.first has.first in
     rows_apart inputs spells.rows samples fault spells.few spells.spelled
     (subst (λ (rs : List Fields). FirstFault inputs rs fault) same has.fault_is)
+
+-- ---- a text has one first fault
+
+within_length : (inputs : List Input) (values : List Dec) → AreWithin inputs values → length inputs ≡ length values
+within_length [] [] all = refl
+within_length [] (v ∷ vs) all = absurd all
+within_length (i ∷ is) [] all = absurd all
+within_length (i ∷ is) (v ∷ vs) all = omega (arith, within_length is vs all.1)
+
+-- no value before one that is first outside is outside
+outside_apart : (inputs : List Input) (values : List Dec) (n m : ℕ) → (first : IsFirstOutside inputs values n)
+    → (later : IsFirstOutside inputs values m) → length first.inputs_before < length later.inputs_before → ⊥
+outside_apart inputs values n m first later l =
+    let is = cut_within first.inputs_before first.input first.inputs_after later.inputs_before later.input
+    later.inputs_after (sym first.inputs_are ∙ later.inputs_are) l in
+    let vs = cut_within first.values_before first.value first.values_after later.values_before later.value
+    later.values_after (sym first.values_are ∙ later.values_are)
+    (omega (arith, l, within_length first.inputs_before first.values_before first.within,
+    within_length later.inputs_before later.values_before later.within)) in
+    let inputs : AreWithin (first.inputs_before ++ first.input ∷ is.0) later.values_before =
+    subst (λ (xs : List Input). AreWithin xs later.values_before) is.1 later.within in
+    let all : AreWithin (first.inputs_before ++ first.input ∷ is.0) (first.values_before ++ first.value ∷ vs.0) =
+    subst (λ (xs : List Dec). AreWithin (first.inputs_before ++ first.input ∷ is.0) xs) vs.1 inputs in
+    first.outside (within_at first.inputs_before first.input is.0 first.values_before first.value vs.0 first.within all)
+
+one_outside : (inputs : List Input) (values : List Dec) (n m : ℕ) → IsFirstOutside inputs values n
+    → IsFirstOutside inputs values m → n ≡ m
+one_outside inputs values n m first other = elim (cases_lt (length first.inputs_before) (length other.inputs_before)) [
+  | inl l ↦ absurd (outside_apart inputs values n m first other l)
+  | inr r ↦ elim (cases_lt (length other.inputs_before) (length first.inputs_before)) [
+    | inl l ↦ absurd (outside_apart inputs values m n other first l)
+    | inr s ↦ omega (arith, r, s, first.number, other.number)
+  ]
+]
+
+one_row_fault : (inputs : List Input) (n : ℕ) (row : Fields) (f g : TraceFault) → RowFails inputs n row f
+    → RowFails inputs n row g → f ≡ g
+one_row_fault inputs n row f g (miscounted wrong) (miscounted wrong') = refl
+one_row_fault inputs n row f g (miscounted wrong) (unread count none) = refl
+one_row_fault inputs n row f g (miscounted wrong) (outside values i count are first) = absurd (wrong count)
+one_row_fault inputs n row f g (unread count none) (miscounted wrong) = refl
+one_row_fault inputs n row f g (unread count none) (unread count' none') = refl
+one_row_fault inputs n row f g (unread count none) (outside values i count' are first) =
+    absurd (let bad : Some values ≡ None = sym are ∙ none in let no : ⊥ = cc in no)
+one_row_fault inputs n row f g (outside values i count are first) (miscounted wrong) = absurd (wrong count)
+one_row_fault inputs n row f g (outside values i count are first) (unread count' none) =
+    absurd (let bad : Some values ≡ None = sym are ∙ none in let no : ⊥ = cc in no)
+one_row_fault inputs n row f g (outside values i count are first) (outside others j count' are' first') =
+    let same : others ≡ values = let e : Some others ≡ Some values = sym are' ∙ are in cc in
+    ap (OutOfRange n) (one_outside inputs values i j first
+    (subst (λ (vs : List Dec). IsFirstOutside inputs vs j) same first'))
+
+module _ (inputs : List Input) where
+  abbrev Pass : List Fields → Type 0
+  Pass rows = (samples : List Sample) × SpellSamples inputs rows samples
+
+  abbrev Fails : List Fields → Fields → TraceFault → Type 0
+  Fails before row fault = RowFails inputs (length before + 1) row fault
+
+  fails_apart : (before : List Fields) (row : Fields) (after : List Fields) (fault : TraceFault)
+      → Fails before row fault → Pass (before ++ row ∷ after) → ⊥
+  fails_apart before row after fault fails pass =
+      let at = row_at inputs before row after pass.0 pass.1 in
+      row_apart inputs (length before + 1) row fault at.0 fails at.1
+
+  one_fault : (rows : List Fields) (f g : TraceFault) → FirstFault inputs rows f → FirstFault inputs rows g → f ≡ g
+  one_fault rows f g (at_row b r a ss f' split lt front fails) (at_row b2 r2 a2 ss2 g' split2 lt2 front2 fails2) =
+      one_fails_first Pass Fails fails_apart (λ before row. one_row_fault inputs (length before + 1) row) b r a f b2 r2 a2 g
+      (sym split ∙ split2) (ss, front) fails (ss2, front2) fails2
+  one_fault rows f g (at_row b r a ss f' split lt front fails) (more b2 r2 a2 ss2 split2 full front2) =
+      absurd (none_fails_before Pass Fails fails_apart b r a b2 r2 a2 f (sym split ∙ split2) (omega arith) fails
+      (ss2, front2))
+  one_fault rows f g (more b r a ss split full front) (at_row b2 r2 a2 ss2 g' split2 lt2 front2 fails2) =
+      absurd (none_fails_before Pass Fails fails_apart b2 r2 a2 b r a g (sym split2 ∙ split) (omega arith) fails2
+      (ss, front))
+  one_fault rows f g (more b r a ss split full front) (more b2 r2 a2 ss2 split2 full2 front2) = refl
+
+pub one_first_fault : FirstRowsAreOne → FirstFaultsAreOne
+one_first_fault one inputs text fault other has has' =
+    let same : has'.rows ≡ has.rows = one text has.rows has'.rows has.first has'.first in
+    one_fault inputs has.rows fault other has.fault_is
+    (subst (λ (rs : List Fields). FirstFault inputs rs other) same has'.fault_is)

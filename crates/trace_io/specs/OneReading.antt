@@ -1,5 +1,5 @@
--- A text is a trace or has a fault, and not both.
-use Rattle.std.specs.Prelude.{ℕ, List}
+-- A text is a trace or has a first fault, not both, and it has one.
+use Rattle.std.specs.Prelude.{◌≡◌, ℕ, List}
 use Rattle.fuzzy_meaning.specs.declared.block.Input.{Input}
 use Rattle.trace_io.specs.Traces.{HasFault, Spells}
 use Rattle.trace_io.specs.declared.sample.Sample.{Sample}
@@ -9,3 +9,8 @@ use Rattle.trace_io.specs.declared.sample.TraceFault.{TraceFault}
 abbrev pub SpelledTracesHaveNoFault : Type 0
 SpelledTracesHaveNoFault = (inputs : List Input) (text : List ℕ) (samples : List Sample) (fault : TraceFault)
     → Spells inputs text samples → HasFault inputs text fault → ⊥
+
+-- A text has one first fault.
+abbrev pub FirstFaultsAreOne : Type 0
+FirstFaultsAreOne = (inputs : List Input) (text : List ℕ) (fault other : TraceFault) → HasFault inputs text fault
+    → HasFault inputs text other → fault ≡ other

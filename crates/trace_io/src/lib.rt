@@ -9,6 +9,6 @@ mod laws;
 mod sample;
 mod trace;
 
-pub use laws::spelled_traces_have_no_fault;
+pub use laws::{first_faults_are_one, spelled_traces_have_no_fault};
 pub use sample::{Sample, TraceFault};
 pub use trace::read_trace;
