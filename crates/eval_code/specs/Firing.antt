@@ -7,7 +7,7 @@ use Rattle.rule_layout.specs.declared.flat.Slot.{Slot}
 use Rattle.rule_layout.specs.declared.flat.Conjunction.{Conjunction}
 use Rattle.rule_layout.specs.Slots.{slots_of, output_terms}
 use Rattle.rule_layout.specs.Layouts.{conjunctions_of, weights_of}
-use Rattle.rule_layout.specs.Masses.{slot_byte}
+use Rattle.rule_layout.specs.Truths.{slot_value}
 use Rattle.cpu12_parts.specs.Parts.{weighted}
 use Rattle.eval_code.specs.Code.{input_slots}
 
@@ -18,7 +18,7 @@ pub record AreInputBytes (b : Block) (bytes : List ℕ) : Type 0 where
 
 -- what a slot holds before the rules: a term's its grade, a complement's 255 minus that, an output's term's 0
 abbrev pub slot_before : Block → List ℕ → Slot → ℕ
-slot_before b bytes = slot_byte (literal_grade b bytes)
+slot_before b bytes = slot_value 255 (literal_grade b bytes)
 
 abbrev pub slots_before : Block → List ℕ → List ℕ
 slots_before b bytes = map (slot_before b bytes) (slots_of b)

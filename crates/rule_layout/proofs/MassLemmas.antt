@@ -11,6 +11,7 @@ use Rattle.std.proofs.Math.Nat.{mul-le-mul_right}
 use Rattle.fuzzy_meaning.specs.declared.block.Block.{Block}
 use Rattle.fuzzy_meaning.specs.declared.block.Rule.{Rule}
 use Rattle.fuzzy_meaning.specs.Blocks.{IsValid, HasSingleton, input_at}
+use Rattle.fuzzy_meaning.specs.Conditions.{level}
 use Rattle.fuzzy_meaning.specs.Rules.{concludes}
 use Rattle.byte_scaling.specs.Weights.{weight_byte_of}
 use Rattle.point_slope.specs.Tables.{row_of, grade_of, grade_under, side}
@@ -19,12 +20,13 @@ use Rattle.rule_layout.specs.declared.flat.Slot.{Slot}
 use Rattle.rule_layout.specs.declared.flat.Slot.TheVariants.{Term, Out}
 use Rattle.rule_layout.specs.declared.flat.Conjunction.{Conjunction}
 use Rattle.rule_layout.specs.Spreading.{Literal}
-use Rattle.rule_layout.specs.Truths.{literal_value, least_literal, greatest_conjunction}
+use Rattle.rule_layout.specs.Truths.{literal_value, least_literal, greatest_conjunction, slot_value, slot_values}
+use Rattle.rule_layout.specs.Truths.{least_value, greatest_value, RuleTruthLaw}
 use Rattle.rule_layout.specs.Slots.{slots_of, is_same_slot, number_in, literal_slot, literal_number, conclusion_number}
 use Rattle.rule_layout.specs.Slots.{out_slot}
 use Rattle.rule_layout.specs.Layouts.{rule_spread, conjunction_of, rule_conjunctions, rule_weights, conjunctions_of}
 use Rattle.rule_layout.specs.Layouts.{weights_of, flat_of}
-use Rattle.rule_layout.specs.Masses.{slot_byte, slot_bytes, least_byte, scaled, left_in, MassLaw}
+use Rattle.rule_layout.specs.Masses.{slot_bytes, scaled, left_in, MassLaw}
 use Rattle.rule_layout.proofs.NumberLemmas.{slot_from_same}
 use Rattle.rule_layout.proofs.MemberLemmas.{HasSlot, LiteralHasSlot, RuleHasSlots, rules_have_slots, number_in-lt}
 use Rattle.rule_layout.proofs.MemberLemmas.{out_in_slots}
@@ -42,17 +44,50 @@ slot_at_number (x ∷ xs) s d lt = by_test (is_same_slot s x) refl (slot_at_numb
         let later : number_in xs s < length xs = omega (arith, rw e at lt) in
         rw (e, add-one) (ind later)
 
-byte_at_number : (g : ℕ → ℕ → ℕ) (ss : List Slot) (s : Slot) → number_in ss s < length ss
-    → get_or (slot_bytes g ss) (number_in ss s) 0 ≡ slot_byte g s
-byte_at_number g ss s lt = get_or-map (slot_byte g) ss (number_in ss s) (Term 0 0) 0 lt
-    ∙ ap (slot_byte g) (slot_at_number ss s (Term 0 0) lt)
+value_at_number : (n : ℕ) (v : ℕ → ℕ → ℕ) (ss : List Slot) (s : Slot) → number_in ss s < length ss
+    → get_or (slot_values n v ss) (number_in ss s) 0 ≡ slot_value n v s
+value_at_number n v ss s lt = get_or-map (slot_value n v) ss (number_in ss s) (Term 0 0) 0 lt
+    ∙ ap (slot_value n v) (slot_at_number ss s (Term 0 0) lt)
 
-slot_byte-literal : (g : ℕ → ℕ → ℕ) (l : Literal) → slot_byte g (literal_slot l) ≡ literal_value 255 g l
-slot_byte-literal g l = by_sort l.complement refl
+slot_value-literal : (n : ℕ) (v : ℕ → ℕ → ℕ) (l : Literal) → slot_value n v (literal_slot l) ≡ literal_value n v l
+slot_value-literal n v l = by_sort l.complement refl
   where
-    by_sort : (t : Bool) → l.complement ≡ t → slot_byte g (literal_slot l) ≡ literal_value 255 g l
+    by_sort : (t : Bool) → l.complement ≡ t → slot_value n v (literal_slot l) ≡ literal_value n v l
     by_sort true e = rw e refl
     by_sort false e = rw e refl
+
+module _ (b : Block) (n : ℕ) (v : ℕ → ℕ → ℕ) where
+  abbrev values : List ℕ
+  values = slot_values n v (slots_of b)
+
+  least_value-literals : (ls : List Literal) → All (LiteralHasSlot b) ls
+      → least_value n values (map (literal_number (slots_of b)) ls) ≡ least_literal n v ls
+  least_value-literals [] h = refl
+  least_value-literals (l ∷ ls) h =
+      let here = value_at_number n v (slots_of b) (literal_slot l) (All-head (LiteralHasSlot b) l ls h).found
+      ∙ slot_value-literal n v l in
+      ap₂ (λ (a c : ℕ). min a c) here (least_value-literals ls (All-tail (LiteralHasSlot b) l ls h))
+
+  greatest_value-spread : (r : Rule) (cs : List (List Literal)) → All (All (LiteralHasSlot b)) cs
+      → greatest_value n values (map (conjunction_of (slots_of b) r) cs) ≡ greatest_conjunction n v cs
+  greatest_value-spread r [] h = refl
+  greatest_value-spread r (c ∷ cs) h =
+      ap₂ (λ (a d : ℕ). max a d) (least_value-literals c (All-head (All (LiteralHasSlot b)) c cs h))
+      (greatest_value-spread r cs (All-tail (All (LiteralHasSlot b)) c cs h))
+
+  rule_truths : 1 ≤ n → ((i t : ℕ) → v i t ≤ n) → (rules : List Rule) → All (RuleHasSlots b) rules
+      → map (λ r. greatest_value n values (rule_conjunctions (slots_of b) r)) rules ≡ map (λ r. level n v r.cond) rules
+  rule_truths from within [] h = refl
+  rule_truths from within (r ∷ rs) h =
+      let here = All-head (RuleHasSlots b) r rs h in
+      ap₂ (λ (a : ℕ) (d : List ℕ). a ∷ d)
+      (greatest_value-spread r (rule_spread r) here.literals ∙ spreading_law_lem n v r.cond from within)
+      (rule_truths from within rs (All-tail (RuleHasSlots b) r rs h))
+
+pub rule_truth_law_lem : RuleTruthLaw
+unfolding flat_of conjunctions_of
+rule_truth_law_lem b n v valid from within =
+    record { conjunctions = refl; truths = rule_truths b n v from within b.rules (rules_have_slots b valid) }
 
 scaled_max : (w a c : ℕ) → scaled w (max a c) ≡ max (scaled w a) (scaled w c)
 scaled_max w a c = by_order (nat_le a c) refl
@@ -73,14 +108,6 @@ module _ (b : Block) (g : ℕ → ℕ → ℕ) where
   abbrev bytes : List ℕ
   bytes = slot_bytes g (slots_of b)
 
-  least_byte-literals : (ls : List Literal) → All (LiteralHasSlot b) ls
-      → least_byte bytes (map (literal_number (slots_of b)) ls) ≡ least_literal 255 g ls
-  least_byte-literals [] h = refl
-  least_byte-literals (l ∷ ls) h =
-      let here = byte_at_number g (slots_of b) (literal_slot l) (All-head (LiteralHasSlot b) l ls h).found
-      ∙ slot_byte-literal g l in
-      ap₂ (λ (m n : ℕ). min m n) here (least_byte-literals ls (All-tail (LiteralHasSlot b) l ls h))
-
   -- a rule's conjunctions raise a slot to the rule's strength, if the rule concludes it
   left_in-rule : (w n : ℕ) (r : Rule) (raised : Bool) (cs : List (List Literal))
       → list_any (λ e. e == n) (map (conclusion_number (slots_of b)) r.concl) ≡ raised
@@ -90,7 +117,7 @@ module _ (b : Block) (g : ℕ → ℕ → ℕ) where
   left_in-rule w n r true [] e h = omega arith
   left_in-rule w n r false [] e h = refl
   left_in-rule w n r true (c ∷ cs) e h =
-      let here = least_byte-literals c (All-head (All (LiteralHasSlot b)) c cs h) in
+      let here = least_value-literals b 255 g c (All-head (All (LiteralHasSlot b)) c cs h) in
       let later = left_in-rule w n r true cs e (All-tail (All (LiteralHasSlot b)) c cs h) in
       rw (e, here, later) (sym (scaled_max w (least_literal 255 g c) (greatest_conjunction 255 g cs)))
   left_in-rule w n r false (c ∷ cs) e h =

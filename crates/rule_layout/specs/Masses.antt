@@ -1,29 +1,23 @@
 -- What the rule list leaves in the slots of the output terms.
-use Rattle.std.specs.Prelude.{◌≡◌, ℕ, ◌+◌, ◌*◌, ◌/◌, ◌-◌, min, max, ◌==◌, Bool, List, [], ◌∷◌, map, get_or}
+use Rattle.std.specs.Prelude.{◌≡◌, ℕ, ◌+◌, ◌*◌, ◌/◌, max, ◌==◌, Bool, List, [], ◌∷◌}
 use Rattle.std.specs.Prelude.{if◌then◌else◌}
 use Rattle.std.specs.List.{list_any}
 use Rattle.fuzzy_meaning.specs.declared.block.Block.{Block}
 use Rattle.fuzzy_meaning.specs.Blocks.{IsValid, HasSingleton}
 use Rattle.point_slope.specs.Bytes.{literal_grade, byte_mass}
 use Rattle.rule_layout.specs.declared.flat.Slot.{Slot}
-use Rattle.rule_layout.specs.declared.flat.Slot.TheVariants.{Term, Complement, Out}
 use Rattle.rule_layout.specs.declared.flat.Conjunction.{Conjunction}
 use Rattle.rule_layout.specs.Slots.{slots_of, conclusion_number}
 use Rattle.rule_layout.specs.Layouts.{flat_of}
+use Rattle.rule_layout.specs.Truths.{slot_values, least_value}
 
--- what a slot holds before the rules, by the grades of the input terms
-abbrev pub slot_byte : (ℕ → ℕ → ℕ) → Slot → ℕ
-slot_byte g (Term i t) = g i t
-slot_byte g (Complement i t) = 255 - g i t
-slot_byte g (Out o t) = 0
-
+-- what the slots hold before the rules, by the grades of the input terms
 abbrev pub slot_bytes : (ℕ → ℕ → ℕ) → List Slot → List ℕ
-slot_bytes g ss = map (slot_byte g) ss
+slot_bytes g ss = slot_values 255 g ss
 
 -- the least byte of the slots with these numbers
 abbrev pub least_byte : List ℕ → List ℕ → ℕ
-least_byte bytes [] = 255
-least_byte bytes (n ∷ ns) = min (get_or bytes n 0) (least_byte bytes ns)
+least_byte bytes ns = least_value 255 bytes ns
 
 abbrev pub scaled : ℕ → ℕ → ℕ
 scaled w t = t * (w + 1) / 256

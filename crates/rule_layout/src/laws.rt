@@ -3,13 +3,15 @@ ghost use Rattle.rule_layout.specs.Faults.{LimitsHaveNoFault};
 ghost use Rattle.rule_layout.specs.Layouts.{LayoutLaw, FlatHasParts};
 ghost use Rattle.rule_layout.specs.Masses.{MassLaw};
 ghost use Rattle.rule_layout.specs.Numbers.{TermNumberLaw, OutNumberLaw};
-ghost use Rattle.rule_layout.specs.Truths.{SpreadingLaw};
+ghost use Rattle.rule_layout.specs.Truths.{RuleTruthLaw, SpreadingLaw};
 
 /// Spreading keeps the truth: where each input term has a whole number from 0 to n, a complement
 /// counts n minus it, and a conjunction counts the least of its literals, the greatest of the
-/// conjunctions that a condition spreads into is the truth of the condition.
+/// conjunctions that a condition spreads into is the truth of the condition. So is the greatest of
+/// the conjunctions that the layout of a valid block has for a rule, by the values of their slots.
 pub fn spreading_law()
-    ensures { SpreadingLaw }
+    ensures conditions { SpreadingLaw }
+    ensures rules { RuleTruthLaw }
 {}
 
 /// The rule list computes the masses: where the slots of a valid block hold the grades of its

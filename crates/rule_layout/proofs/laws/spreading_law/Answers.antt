@@ -1,5 +1,9 @@
+use Rattle.rule_layout.proofs.MassLemmas.{rule_truth_law_lem}
 use Rattle.rule_layout.proofs.TruthLemmas.{spreading_law_lem}
 use Rattle.rule_layout.proofs.laws.spreading_law.Goals as goal
 
-pub returns : goal.returns
-returns c = spreading_law_lem
+pub returns-clause-conditions : goal.returns-clause-conditions
+returns-clause-conditions c = spreading_law_lem
+
+pub returns-clause-rules : goal.returns-clause-rules
+returns-clause-rules c = rule_truth_law_lem
