@@ -1,221 +1,97 @@
--- How many words a command takes, for every count at once.
-use Rattle.std.proofs.Common.{arith, ◌≡◌, ◌≤◌, ℕ, zero, suc, false, List, [], ◌∷◌, length, refl, sym, ◌∙◌, ap}
-use Rattle.clap.specs.Walk.{Text, Held, arg_by_index, is_empty, nothing_held, to_positional}
-use Rattle.std.specs.Option.{option_map_or}
-use Rattle.clap.specs.Simple.{Shape}
-use Rattle.clap.specs.Faults.{positional_fault, stray_fault}
-use Rattle.clap.specs.Kinds.{Kinds}
+-- How many words clap takes for a command, for every count at once.
+use Rattle.std.proofs.Common.{◌≡◌, ◌==◌, ◌&&◌, ◌<◌, ℕ, zero, suc, Bool, true, false, cond, nat_lt, List, [], ◌∷◌, ◌++◌, length}
+use Rattle.std.proofs.Common.{refl, sym, ◌∙◌, ap, append_assoc, append-nil, arith}
+use Rattle.std.specs.Prelude.{Some, codes}
+use Rattle.std.proofs.Math.Bool.{and-false}
+use Rattle.std.proofs.lemmas.Bool.{and_right, eq-eqb, lt-ltb, ne_eqb}
+use Rattle.clap.specs.Walk.{Text, Held, Rule, idle, positional, is_empty, is_multiple, nothing_held, takes_several, walk_from}
+use Rattle.clap.specs.Simple.{Shape, built_leaf, filled, inherited, is_ready_leaf, marked_built, new_shape, with_index}
+use Rattle.clap.specs.Simple.{with_leaf_noted}
+use Rattle.clap.specs.Kinds.{Kinds, or_else, range_kinds, values_kinds}
+use Rattle.clap.specs.declared.error.kind.ErrorKind.TheVariants as kind
+use Rattle.clap.specs.declared.builder.value_parser.ValueParser.TheVariants as vp
 use Rattle.clap.proofs.OnLiterals.{clap_on_literals}
 use Rattle.fz_words.specs.Table.{has_hyphen}
-use Rattle.fz_words.proofs.UpToNine.{up_to_nine}
-use Rattle.fz_words.proofs.Plain.{ArePlain, at, leaf_of, next, level_from, takes_one, refuses_one}
+use Rattle.fz_words.specs.App.{leaf_app, open_top, words_rule}
+use Rattle.fz_words.proofs.Plain.{ArePlain, at, level_from, takes_one, refuses_one}
 
--- what a word does at this place, where it is no flag
-abbrev word_fault_at : Shape → Held → ℕ → Kinds
-word_fault_at s h p =
-    option_map_or (λ a. positional_fault s.rules s.args_override_self a h) (arg_by_index s.rules p) (stray_fault s)
+-- a subcommand with so many words as clap builds it
+abbrev pub leaf_of : Text → ℕ → Shape
+leaf_of w n = built_leaf (inherited (with_leaf_noted (marked_built open_top)) (leaf_app w n).top)
 
--- just so many words more are taken
-abbrev Wants : Shape → ℕ → Held → ℕ → Type 0
-Wants s zero h p = (level_from s (at h p) [] ≡ []) × (is_empty (word_fault_at s h p) ≡ false)
-Wants s (suc m) h p = (is_empty (level_from s (at h p) []) ≡ false) × ((v : Text) → (word_fault_at s h p ≡ [])
-    × (to_positional s.rules (arg_by_index s.rules p) v (at h p) h ≡ at (next s h p v) (suc p))
-    × Wants s m (next s h p v) (suc p))
+-- its argument
+abbrev built_rule : ℕ → Rule
+built_rule n = with_index 1 (filled (words_rule n))
 
-not_empty : (k : Kinds) → is_empty k ≡ false → k ≡ [] → ⊥
-not_empty [] full e = cc
-not_empty (x ∷ k) full e = cc
+abbrev pub leaf_fault : Text → ℕ → List Text → Kinds
+leaf_fault w n ws = level_from (leaf_of w n) (walk_from nothing_held) ws
 
-refused : (s : Shape) (h : Held) (p : ℕ) (v : Text) (rest : List Text) → has_hyphen v ≡ false → (k : Kinds)
-    → word_fault_at s h p ≡ k → is_empty k ≡ false → level_from s (at h p) (v ∷ rest) ≡ [] → ⊥
-refused s h p v rest plain [] is full e = cc
-refused s h p v rest plain (x ∷ k) is full e = let f = refuses_one s h p v rest plain x k is in let g = sym f ∙ e in cc
+-- these words are the argument's so far
+abbrev given : List Text → Held
+given vs = record nothing_held { pending = Some (codes "words", vs) }
 
-taken_by : (s : Shape) (m : ℕ) (h : Held) (p : ℕ) (ws : List Text) → Wants s m h p → ArePlain ws
-    → level_from s (at h p) ws ≡ [] → length ws ≡ m
-taken_by s zero h p [] wants plain e = refl
-taken_by s zero h p (v ∷ ws) wants plain e = absurd (refused s h p v ws plain.0 (word_fault_at s h p) refl wants.1 e)
-taken_by s (suc m) h p [] wants plain e = absurd (not_empty (level_from s (at h p) []) wants.0 e)
-taken_by s (suc m) h p (v ∷ ws) wants plain e =
-    let step = takes_one s h p v ws plain.0 (at (next s h p v) (suc p)) (wants.1 v).0 (wants.1 v).1 in
-    ap suc (taken_by s m (next s h p v) (suc p) ws (wants.1 v).2 plain.1 (sym step ∙ e))
+texts_taken : (vs : List Text) → values_kinds false vp.String vs ≡ []
+texts_taken [] = refl
+texts_taken (v ∷ vs) = texts_taken vs
 
-takes_by : (s : Shape) (m : ℕ) (h : Held) (p : ℕ) (ws : List Text) → Wants s m h p → ArePlain ws → length ws ≡ m
-    → level_from s (at h p) ws ≡ []
-takes_by s zero h p [] wants plain len = wants.0
-takes_by s zero h p (v ∷ ws) wants plain len = absurd (omega arith)
-takes_by s (suc m) h p [] wants plain len = absurd (omega arith)
-takes_by s (suc m) h p (v ∷ ws) wants plain len =
-    takes_one s h p v ws plain.0 (at (next s h p v) (suc p)) (wants.1 v).0 (wants.1 v).1
-    ∙ takes_by s m (next s h p v) (suc p) ws (wants.1 v).2 plain.1 (omega arith)
+by_count : (b : Bool) → is_empty (or_else (or_else (cond b [] (kind.WrongNumberOfValues ∷ [])) []) []) ≡ b
+by_count true = refl
+by_count false = refl
 
--- a command wants as many words as it has, at most nine
-wants_all : (w : Text) (n : ℕ) → n ≤ 9 → Wants (leaf_of w n) n nothing_held 1
+range_count : (n k : ℕ) → is_empty (or_else (or_else (range_kinds (suc n) (suc n) (suc k)) []) []) ≡ (suc n == suc k)
+range_count n k =
+    rw (and_right (nat_lt 0 (suc n)) (suc k == 0) (ne_eqb (suc k) 0 (λ e. omega arith)), eq-eqb (suc n) (suc n) refl)
+    (by_count (suc n == suc k))
+
+-- two words or more
+module _ (w : Text) (m : ℕ) where
+  several : takes_several (built_rule (suc (suc m))) ≡ true
+  several = rw (eq-eqb (suc (suc m)) (suc (suc m)) refl) (lt-ltb 1 (suc (suc m)) (omega arith))
+
+  ended : (v : Text) (vs : List Text)
+      → is_empty (level_from (leaf_of w (suc (suc m))) (at positional (given (v ∷ vs)) 1) [])
+      ≡ (suc (suc m) == length (v ∷ vs))
+  unfolding clap_on_literals
+  ended v vs = rw (texts_taken vs) (range_count (suc m) (length vs))
+
+  more : (v u : Text) (vs ws : List Text) → has_hyphen u ≡ false
+      → level_from (leaf_of w (suc (suc m))) (at positional (given (v ∷ vs)) 1) (u ∷ ws)
+      ≡ level_from (leaf_of w (suc (suc m))) (at positional (given (v ∷ vs ++ u ∷ [])) 1) ws
+  more v u vs ws plain =
+      takes_one (leaf_of w (suc (suc m))) positional (given (v ∷ vs)) 1 u ws plain refl refl
+      (at positional (given (v ∷ vs ++ u ∷ [])) 1) (rw several refl) (rw several refl)
+
+  all_given : (v : Text) (vs ws : List Text) → ArePlain ws
+      → is_empty (level_from (leaf_of w (suc (suc m))) (at positional (given (v ∷ vs)) 1) ws)
+      ≡ (suc (suc m) == length (v ∷ vs ++ ws))
+  all_given v vs [] plain = ended v vs ∙ ap (λ (l : List Text). suc (suc m) == suc (length l)) (sym (append-nil vs))
+  all_given v vs (u ∷ ws) plain = ap is_empty (more v u vs ws plain.0) ∙ all_given v (vs ++ u ∷ []) ws plain.1
+      ∙ ap (λ (l : List Text). suc (suc m) == suc (length l)) (append_assoc vs (u ∷ []) ws)
+
+  first : (v : Text) (ws : List Text) → has_hyphen v ≡ false
+      → leaf_fault w (suc (suc m)) (v ∷ ws) ≡ level_from (leaf_of w (suc (suc m))) (at positional (given (v ∷ [])) 1) ws
+  first v ws plain =
+      takes_one (leaf_of w (suc (suc m))) idle nothing_held 1 v ws plain refl refl (at positional (given (v ∷ [])) 1) refl
+      (rw several refl)
+
+-- clap takes as many words as the command has, and no other number
+pub count_taken : (w : Text) (n : ℕ) (ws : List Text) → ArePlain ws → is_empty (leaf_fault w n ws) ≡ (n == length ws)
 unfolding clap_on_literals
-wants_all w = up_to_nine (λ n. Wants (leaf_of w n) n nothing_held 1)
-    (refl, refl)
-    (refl, λ a. (refl, refl, (refl, refl)))
-    (refl, λ a. (refl, refl, (refl, λ b. (refl, refl, (refl, refl)))))
-    (refl, λ a. (refl, refl, (refl, λ b. (refl, refl, (refl, λ c. (refl, refl, (refl, refl))))))) (
-      refl,
-      λ a. (
-        refl,
-        refl,
-        (refl, λ b. (refl, refl, (refl, λ c. (refl, refl, (refl, λ d. (refl, refl, (refl, refl))))))),
-      ),
-    ) (
-      refl,
-      λ a. (
-        refl,
-        refl,
-        (
-          refl,
-          λ b. (
-            refl,
-            refl,
-            (refl, λ c. (refl, refl, (refl, λ d. (refl, refl, (refl, λ e. (refl, refl, (refl, refl))))))),
-          ),
-        ),
-      ),
-    ) (
-      refl,
-      λ a. (
-        refl,
-        refl,
-        (
-          refl,
-          λ b. (
-            refl,
-            refl,
-            (
-              refl,
-              λ c. (
-                refl,
-                refl,
-                (refl, λ d. (refl, refl, (refl, λ e. (refl, refl, (refl, λ f. (refl, refl, (refl, refl))))))),
-              ),
-            ),
-          ),
-        ),
-      ),
-    ) (
-      refl,
-      λ a. (
-        refl,
-        refl,
-        (
-          refl,
-          λ b. (
-            refl,
-            refl,
-            (
-              refl,
-              λ c. (
-                refl,
-                refl,
-                (
-                  refl,
-                  λ d. (
-                    refl,
-                    refl,
-                    (refl, λ e. (refl, refl, (refl, λ f. (refl, refl, (refl, λ g. (refl, refl, (refl, refl))))))),
-                  ),
-                ),
-              ),
-            ),
-          ),
-        ),
-      ),
-    ) (
-      refl,
-      λ a. (
-        refl,
-        refl,
-        (
-          refl,
-          λ b. (
-            refl,
-            refl,
-            (
-              refl,
-              λ c. (
-                refl,
-                refl,
-                (
-                  refl,
-                  λ d. (
-                    refl,
-                    refl,
-                    (
-                      refl,
-                      λ e. (
-                        refl,
-                        refl,
-                        (refl, λ f. (refl, refl, (refl, λ g. (refl, refl, (refl, λ h. (refl, refl, (refl, refl))))))),
-                      ),
-                    ),
-                  ),
-                ),
-              ),
-            ),
-          ),
-        ),
-      ),
-    ) (
-      refl,
-      λ a. (
-        refl,
-        refl,
-        (
-          refl,
-          λ b. (
-            refl,
-            refl,
-            (
-              refl,
-              λ c. (
-                refl,
-                refl,
-                (
-                  refl,
-                  λ d. (
-                    refl,
-                    refl,
-                    (
-                      refl,
-                      λ e. (
-                        refl,
-                        refl,
-                        (
-                          refl,
-                          λ f. (
-                            refl,
-                            refl,
-                            (
-                              refl,
-                              λ g. (
-                                refl,
-                                refl,
-                                (refl, λ h. (refl, refl, (refl, λ i. (refl, refl, (refl, refl))))),
-                              ),
-                            ),
-                          ),
-                        ),
-                      ),
-                    ),
-                  ),
-                ),
-              ),
-            ),
-          ),
-        ),
-      ),
-    )
+count_taken w zero [] plain = refl
+count_taken w zero (v ∷ ws) plain =
+    ap is_empty (refuses_one (leaf_of w 0) idle nothing_held 1 v ws plain.0 refl refl kind.UnknownArgument [] refl)
+    ∙ sym (ne_eqb 0 (suc (length ws)) (λ e. omega arith))
+count_taken w (suc zero) [] plain = refl
+count_taken w (suc zero) (v ∷ []) plain =
+    ap is_empty (takes_one (leaf_of w 1) idle nothing_held 1 v [] plain.0 refl refl (at idle (given (v ∷ [])) 2) refl refl)
+count_taken w (suc zero) (v ∷ u ∷ ws) plain =
+    ap is_empty (takes_one (leaf_of w 1) idle nothing_held 1 v (u ∷ ws) plain.0 refl refl
+    (at idle (given (v ∷ [])) 2) refl refl
+    ∙ refuses_one (leaf_of w 1) idle (given (v ∷ [])) 2 u ws plain.1.0 refl refl kind.UnknownArgument [] refl)
+    ∙ sym (ne_eqb 1 (suc (suc (length ws))) (λ e. omega arith))
+count_taken w (suc (suc m)) [] plain = sym (ne_eqb (suc (suc m)) 0 (λ e. omega arith))
+count_taken w (suc (suc m)) (v ∷ ws) plain = ap is_empty (first w m v ws plain.0) ∙ all_given w m v [] ws plain.1
 
-pub taken : (w : Text) (n : ℕ) (ws : List Text) → n ≤ 9 → ArePlain ws
-    → level_from (leaf_of w n) (at nothing_held 1) ws ≡ [] → length ws ≡ n
-taken w n ws le plain free = taken_by (leaf_of w n) n nothing_held 1 ws (wants_all w n le) plain free
-
-pub takes : (w : Text) (n : ℕ) (ws : List Text) → n ≤ 9 → ArePlain ws → length ws ≡ n
-    → level_from (leaf_of w n) (at nothing_held 1) ws ≡ []
-takes w n ws le plain len = takes_by (leaf_of w n) n nothing_held 1 ws (wants_all w n le) plain len
+pub ready : (w : Text) (n : ℕ) → is_ready_leaf (leaf_of w n) ≡ true
+ready w zero = refl
+ready w (suc n) = rw (and-false (is_multiple (built_rule (suc n)))) refl

@@ -1,4 +1,3 @@
-pub mod UpToNine
 pub mod Plain
 pub mod Rows
 pub mod Counts

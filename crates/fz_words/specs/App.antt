@@ -1,27 +1,29 @@
 -- The command line, as clap sees it.
-use Rattle.std.specs.Prelude.{◌≡◌, ◌≢◌, ◌⊎◌, ℕ, true, false, List, [], ◌∷◌, map, codes, take, min}
-use Rattle.clap.specs.Words.{App, Shape, Rule, Text, fault_of, new_app, new_rule, with_rule}
+use Rattle.std.specs.Prelude.{◌≡◌, ◌≢◌, ◌⊎◌, ℕ, zero, suc, true, false, List, [], ◌∷◌, Some, map, codes}
+use Rattle.clap.specs.Words.{App, Shape, Rule, Text, fault_of, new_rule}
 use Rattle.clap.specs.Simple.{new_shape}
+use Rattle.clap.specs.declared.builder.action.ArgAction.TheVariants.{Set}
 use Rattle.fz_words.specs.Table.{Row, any_hyphen}
 
--- a word that has to be there
-abbrev pub positional : Text → Rule
-positional id = record (new_rule id) { required = true }
+-- the argument that takes so many words
+abbrev pub words_rule : ℕ → Rule
+words_rule n = record (new_rule (codes "words")) {
+  action = Some Set;
+  range = Some (record { start_inclusive = n; end_inclusive = n });
+  required = true;
+}
 
-abbrev pub ids : List Text
-ids = codes "1" ∷ codes "2" ∷ codes "3" ∷ codes "4" ∷ codes "5" ∷ codes "6" ∷ codes "7" ∷ codes "8" ∷ codes "9" ∷ []
+-- a command that takes no words has no argument
+abbrev pub rules_for : ℕ → List Rule
+rules_for zero = []
+rules_for (suc n) = words_rule (suc n) ∷ []
 
-abbrev pub with_all : App → List Text → App
-with_all a [] = a
-with_all a (id ∷ rest) = with_all (with_rule a (positional id)) rest
-
--- a command with so many words
+-- a command that takes so many words
 abbrev pub leaf_app : Text → ℕ → App
-leaf_app name n = with_all (new_app name) (take (min n 9) ids)
+leaf_app name n = record { top = record (new_shape name) { rules = rules_for n }; subs = [] }
 
--- the same, with its rules at once
 abbrev pub sub_of : {T : Type 0} → Row T → Shape
-sub_of r = record (new_shape r.word) { rules = map positional (take r.count ids) }
+sub_of r = (leaf_app r.word r.count).top
 
 -- subcommands alone, one of them required, and no help
 abbrev pub open_top : Shape

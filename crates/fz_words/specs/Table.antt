@@ -1,5 +1,5 @@
 -- Tables of commands, and which row words are of.
-use Rattle.std.specs.Prelude.{◌==◌, ◌≤◌, ℕ, Bool, false, List, [], ◌∷◌, length, drop, find, map, option_and_then}
+use Rattle.std.specs.Prelude.{◌==◌, ℕ, Bool, false, List, [], ◌∷◌, length, drop, find, map, option_and_then}
 use Rattle.std.specs.Prelude.{option_map, if◌then◌else◌, Option, Some, None}
 use Rattle.std.specs.Borrow.{Bor}
 use Rattle.std.specs.List.{list_any}
@@ -20,11 +20,6 @@ row word count command = record { word = word; count = count; command = command 
 -- the rows of a table as the code keeps it
 abbrev pub rows_of : {T : Type 0} → List (Bor Text × ℕ × T) → List (Row T)
 rows_of = map (λ r. row r.0.now r.1 r.2)
-
--- no command takes more than nine words
-abbrev pub AreFew : {T : Type 0} → List (Row T) → Type 0
-AreFew [] = Unit {0}
-AreFew (r ∷ rows) = (r.count ≤ 9) × AreFew rows
 
 abbrev pub row_with : {T : Type 0} → List (Row T) → Text → Option (Row T)
 row_with rows w = find (λ r. bytes_eq r.word w) rows

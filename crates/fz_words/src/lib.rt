@@ -1,7 +1,7 @@
 //! The words of the command line: which command they name, by `clap`.
 //!
 //! The caller gives a table of the commands, each with its name, the number of words that follow
-//! it, nine at most, and what the caller calls it. Every word after the program's own is taken as
+//! it, and what the caller calls it. Every word after the program's own is taken as
 //! it stands, so none may begin with a hyphen. [`command_of`] answers the command of a row exactly
 //! where the words are the program's name, the row's name and as many words as the row has; it
 //! refuses exactly the words that `clap` refuses, or of which one begins with a hyphen.
@@ -10,17 +10,14 @@
 ghost use Rattle.std.specs.Prelude.{◌≡◌, ◌≢◌, ◌↔◌, ◌+◌, ◌<◌, [], length, map, string_bytes, false, IfOk, OnOk, IsErrOf};
 ghost use Rattle.std.specs.Prelude.{None, Some, option_map};
 ghost use Rattle.std.specs.List.{list_any};
-ghost use Rattle.clap.specs.Words.{app_of, with_rule, fault_of};
+ghost use Rattle.clap.specs.Words.{app_of, fault_of, rule_of};
 ghost use Rattle.clap.specs.declared.Command.TheViews.{out-Command as fields_of};
-ghost use Rattle.fz_words.specs.App.{IsRefused, app_with, leaf_app, positional};
-ghost use Rattle.fz_words.specs.Table.{AreFew, has_hyphen, any_hyphen, command_in, row_by_form, row_with, rows_of};
+ghost use Rattle.fz_words.specs.App.{IsRefused, app_with, leaf_app, words_rule};
+ghost use Rattle.fz_words.specs.Table.{has_hyphen, any_hyphen, command_in, row_by_form, row_with, rows_of};
 
 use clap::error::ErrorKind;
-use clap::{Arg, Command};
+use clap::{Arg, ArgAction, Command};
 use std::alloc::{AllocError, Global};
-
-/// What `clap` calls the words after a command's name.
-static IDS: [&str; 9] = ["1", "2", "3", "4", "5", "6", "7", "8", "9"];
 
 /// Why words name no command.
 #[derive(Clone, Copy, Debug, PartialEq, Eq)]
@@ -31,16 +28,15 @@ pub enum Refusal {
     Memory,
 }
 
-fn with_positional<'a>(
-    alloc: Global,
-    command: Command<'a>,
-    id: &'a str,
-) -> Result<Command<'a>, AllocError>
-    ensures app { IfOk result (λ c. app_of c ≡ with_rule (app_of command.entry) (positional id.entry.now)) }
-    ensures local { (fields_of command.entry).has_globals ≡ false
-        → IfOk result (λ c. (fields_of c).has_globals ≡ false) }
+/// The argument that takes so many words.
+fn argument<'a>(alloc: Global, count: usize) -> Arg<'a>
+    ensures rule { rule_of result ≡ words_rule count }
+    ensures local { result.global ≡ false }
 {
-    command.arg(Arg::new(alloc, id).required(true))
+    Arg::new(alloc, "words")
+        .required(true)
+        .action(ArgAction::Set)
+        .num_args(count)
 }
 
 /// The subcommand of a name with so many words.
@@ -48,11 +44,11 @@ fn subcommand<'a>(alloc: Global, name: &'a str, count: usize) -> Result<Command<
     ensures app { IfOk result (λ c. app_of c ≡ leaf_app name.entry.now count) }
     ensures local { IfOk result (λ c. (fields_of c).has_globals ≡ false) }
 {
-    let mut command = Command::new(alloc, name);
-    for id in IDS[..count.min(9)].iter() {
-        command = with_positional(alloc, command, id)?;
+    let command = Command::new(alloc, name);
+    if count == 0 {
+        return Ok(command);
     }
-    Ok(command)
+    command.arg(argument(alloc, count))
 }
 
 /// The command line as `clap` sees it: one level of subcommands with required words, and no help.
@@ -61,7 +57,6 @@ fn command<'a, T: Copy>(
     rows: &'a [(&'a str, usize, T)],
 ) -> Result<Command<'a>, AllocError>
     requires some { 0 < length rows.now }
-    requires few { AreFew (rows_of rows.now) }
     ensures { IfOk result (λ c. app_of c ≡ app_with (rows_of rows.entry.now)) }
 {
     let mut command = Command::new(alloc, "fuzz12")
@@ -82,7 +77,6 @@ fn takes_words<'a, T: Copy>(
     words: &'a [String],
 ) -> Result<(), Refusal>
     requires some { 0 < length rows.now }
-    requires few { AreFew (rows_of rows.now) }
     ensures taken { OnOk result (fault_of (app_with (rows_of rows.now)) (map string_bytes words.now) ≡ []) }
     ensures refused { IsErrOf result Refusal.Usage
         → fault_of (app_with (rows_of rows.now)) (map string_bytes words.now) ≢ [] }
@@ -159,7 +153,6 @@ pub fn command_of<'a, T: Copy>(
     words: &'a [String],
 ) -> Result<T, Refusal>
     requires some { 0 < length rows.now }
-    requires few { AreFew (rows_of rows.now) }
     ensures named { IfOk result (λ c. command_in (rows_of rows.now) (map string_bytes words.now) ≡ Some c) }
     ensures usage { IsErrOf result Refusal.Usage → command_in (rows_of rows.now) (map string_bytes words.now) ≡ None }
 
