@@ -1,11 +1,11 @@
 -- How many words clap takes for a command, for every count at once.
-use Rattle.std.proofs.Common.{◌≡◌, ◌==◌, ◌&&◌, ◌<◌, ℕ, zero, suc, Bool, true, false, cond, nat_lt, List, [], ◌∷◌, ◌++◌, length}
+use Rattle.std.proofs.Common.{◌≡◌, ◌==◌, ℕ, zero, suc, Bool, true, false, cond, nat_lt, List, [], ◌∷◌, ◌++◌, length}
 use Rattle.std.proofs.Common.{refl, sym, ◌∙◌, ap, append_assoc, append-nil, arith}
 use Rattle.std.specs.Prelude.{Some, codes}
 use Rattle.std.proofs.Math.Bool.{and-false}
 use Rattle.std.proofs.lemmas.Bool.{and_right, eq-eqb, lt-ltb, ne_eqb}
 use Rattle.clap.specs.Walk.{Text, Held, Rule, idle, positional, is_empty, is_multiple, nothing_held, takes_several, walk_from}
-use Rattle.clap.specs.Simple.{Shape, built_leaf, filled, inherited, is_ready_leaf, marked_built, new_shape, with_index}
+use Rattle.clap.specs.Simple.{Shape, built_leaf, filled, inherited, is_ready_leaf, marked_built, with_index}
 use Rattle.clap.specs.Simple.{with_leaf_noted}
 use Rattle.clap.specs.Kinds.{Kinds, or_else, range_kinds, values_kinds}
 use Rattle.clap.specs.declared.error.kind.ErrorKind.TheVariants as kind
@@ -45,34 +45,37 @@ range_count n k =
 
 -- two words or more
 module _ (w : Text) (m : ℕ) where
-  several : takes_several (built_rule (suc (suc m))) ≡ true
-  several = rw (eq-eqb (suc (suc m)) (suc (suc m)) refl) (lt-ltb 1 (suc (suc m)) (omega arith))
+  abbrev count : ℕ
+  count = suc (suc m)
 
-  ended : (v : Text) (vs : List Text)
-      → is_empty (level_from (leaf_of w (suc (suc m))) (at positional (given (v ∷ vs)) 1) [])
-      ≡ (suc (suc m) == length (v ∷ vs))
+  abbrev leaf : Shape
+  leaf = leaf_of w count
+
+  abbrev level : List Text → List Text → Kinds
+  level vs ws = level_from leaf (at positional (given vs) 1) ws
+
+  several : takes_several (built_rule count) ≡ true
+  several = rw (eq-eqb count count refl) (lt-ltb 1 count (omega arith))
+
+  ended : (v : Text) (vs : List Text) → is_empty (level (v ∷ vs) []) ≡ (count == length (v ∷ vs))
   unfolding clap_on_literals
   ended v vs = rw (texts_taken vs) (range_count (suc m) (length vs))
 
   more : (v u : Text) (vs ws : List Text) → has_hyphen u ≡ false
-      → level_from (leaf_of w (suc (suc m))) (at positional (given (v ∷ vs)) 1) (u ∷ ws)
-      ≡ level_from (leaf_of w (suc (suc m))) (at positional (given (v ∷ vs ++ u ∷ [])) 1) ws
+      → level (v ∷ vs) (u ∷ ws) ≡ level (v ∷ vs ++ u ∷ []) ws
   more v u vs ws plain =
-      takes_one (leaf_of w (suc (suc m))) positional (given (v ∷ vs)) 1 u ws plain refl refl
+      takes_one leaf positional (given (v ∷ vs)) 1 u ws plain refl refl
       (at positional (given (v ∷ vs ++ u ∷ [])) 1) (rw several refl) (rw several refl)
 
   all_given : (v : Text) (vs ws : List Text) → ArePlain ws
-      → is_empty (level_from (leaf_of w (suc (suc m))) (at positional (given (v ∷ vs)) 1) ws)
-      ≡ (suc (suc m) == length (v ∷ vs ++ ws))
-  all_given v vs [] plain = ended v vs ∙ ap (λ (l : List Text). suc (suc m) == suc (length l)) (sym (append-nil vs))
+      → is_empty (level (v ∷ vs) ws) ≡ (count == length (v ∷ vs ++ ws))
+  all_given v vs [] plain = ended v vs ∙ ap (λ (l : List Text). count == suc (length l)) (sym (append-nil vs))
   all_given v vs (u ∷ ws) plain = ap is_empty (more v u vs ws plain.0) ∙ all_given v (vs ++ u ∷ []) ws plain.1
-      ∙ ap (λ (l : List Text). suc (suc m) == suc (length l)) (append_assoc vs (u ∷ []) ws)
+      ∙ ap (λ (l : List Text). count == suc (length l)) (append_assoc vs (u ∷ []) ws)
 
-  first : (v : Text) (ws : List Text) → has_hyphen v ≡ false
-      → leaf_fault w (suc (suc m)) (v ∷ ws) ≡ level_from (leaf_of w (suc (suc m))) (at positional (given (v ∷ [])) 1) ws
+  first : (v : Text) (ws : List Text) → has_hyphen v ≡ false → leaf_fault w count (v ∷ ws) ≡ level (v ∷ []) ws
   first v ws plain =
-      takes_one (leaf_of w (suc (suc m))) idle nothing_held 1 v ws plain refl refl (at positional (given (v ∷ [])) 1) refl
-      (rw several refl)
+      takes_one leaf idle nothing_held 1 v ws plain refl refl (at positional (given (v ∷ [])) 1) refl (rw several refl)
 
 -- clap takes as many words as the command has, and no other number
 pub count_taken : (w : Text) (n : ℕ) (ws : List Text) → ArePlain ws → is_empty (leaf_fault w n ws) ≡ (n == length ws)

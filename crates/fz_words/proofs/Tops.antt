@@ -1,8 +1,8 @@
 -- Which words clap takes, whatever the commands of the table are.
-use Rattle.std.proofs.Common.{◌≡◌, ◌≢◌, ◌⊎◌, inl, inr, ℕ, zero, suc, Bool, true, false, cond, List, [], ◌∷◌, ◌++◌, length}
+use Rattle.std.proofs.Common.{◌≡◌, ◌≢◌, inl, inr, ℕ, zero, suc, Bool, true, false, cond, List, [], ◌∷◌, ◌++◌, length}
 use Rattle.std.proofs.Common.{refl, sym, ◌∙◌, ap, ap₂, append_assoc, subst}
 use Rattle.std.specs.Prelude.{Option, Some, None, codes, find, fold, is_some, drop, map, option_map, option_and_then}
-use Rattle.std.specs.Prelude.{◌==◌, ◌&&◌, ◌||◌, String, string_bytes, Err, Ok}
+use Rattle.std.specs.Prelude.{◌==◌, ◌||◌, String, string_bytes, Err, Ok}
 use Rattle.std.specs.List.{list_all, list_any}
 use Rattle.std.specs.declared.alloc.Global.{Global}
 use Rattle.std.specs.Str.{bytes_eq}
@@ -253,12 +253,12 @@ module _ {T : Type 0} (rows : List (Row T)) (words : List Text) where
   law = elim (cases_Bool (any_hyphen words)) [
     | inl hyphen ↦ (λ none. inl hyphen, λ refused. by_hyphen true hyphen)
     | inr plain ↦ (
-        λ none. inr (plain_refused plain (sym (by_hyphen false plain) ∙ none)),
-        λ refused. elim refused [
-          | inl hyphen ↦ by_hyphen true hyphen
-          | inr fault ↦ by_hyphen false plain ∙ plain_none plain fault
-        ],
-      )
+      λ none. inr (plain_refused plain (sym (by_hyphen false plain) ∙ none)),
+      λ refused. elim refused [
+        | inl hyphen ↦ by_hyphen true hyphen
+        | inr fault ↦ by_hyphen false plain ∙ plain_none plain fault
+      ],
+    )
   ]
 
   pub never_none : any_hyphen words ≡ false → fault_of (app_with rows) words ≡ []

@@ -1,10 +1,10 @@
 //! The words of the command line: which command they name, by `clap`.
 //!
 //! The caller gives a table of the commands, each with its name, the number of words that follow
-//! it, and what the caller calls it. Every word after the program's own is taken as
-//! it stands, so none may begin with a hyphen. [`command_of`] answers the command of a row exactly
-//! where the words are the program's name, the row's name and as many words as the row has; it
-//! refuses exactly the words that `clap` refuses, or of which one begins with a hyphen.
+//! it, and what the caller calls it. Every word after the program's own is taken as it stands, so
+//! none may begin with a hyphen. [`command_of`] answers the command of a row exactly where the words
+//! are the program's name, the row's name and as many words as the row has; it refuses exactly the
+//! words that `clap` refuses, or of which one begins with a hyphen.
 #![tactic(auto)]
 
 ghost use Rattle.std.specs.Prelude.{◌≡◌, ◌≢◌, ◌↔◌, ◌+◌, ◌<◌, [], length, map, string_bytes, false, IfOk, OnOk, IsErrOf};
