@@ -1,5 +1,3 @@
-pub mod JoinedParts
-pub mod ConditionTrees
+pub mod ConditionParts
 pub mod ConditionSizes
 pub mod RuleSizes
-pub mod ConditionNodes

@@ -49,8 +49,8 @@ first-map-drop-filter_map f h n xs =
 
 -- a walk over the items, in which none before this one has a place
 module _ {A B : Type 0} (f : A → List B) (xs : List A) (i : ℕ) (x : A) (r : Option B) (h : i < length xs)
-    (is : x ≡ get_or xs i x) (here : r ≡ first (f x))
-    (before : first (flat_map f (drop i xs)) ≡ first (flat_map f xs)) where
+    (is : x ≡ get_or xs i x) (here : r ≡ first (f x)) {whole : Option B}
+    (before : first (flat_map f (drop i xs)) ≡ whole) where
   abbrev after : List B
   after = flat_map f (drop (i + 1) xs)
 
@@ -59,10 +59,10 @@ module _ {A B : Type 0} (f : A → List B) (xs : List A) (i : ℕ) (x : A) (r : 
       ∙ ap (λ y. first (flat_map f (y ∷ drop (i + 1) xs))) (sym is) ∙ first-append (f x) after
       ∙ ap (λ o. option_or o (first after)) (sym here)
 
-  pub found_here : (y : B) → r ≡ Some y → Some y ≡ first (flat_map f xs)
+  pub found_here : (y : B) → r ≡ Some y → Some y ≡ whole
   found_here y found = sym (ap (λ o. option_or o (first after)) found) ∙ sym first-behind ∙ before
 
-  pub none_here : r ≡ None → first (flat_map f (drop (i + 1) xs)) ≡ first (flat_map f xs)
+  pub none_here : r ≡ None → first (flat_map f (drop (i + 1) xs)) ≡ whole
   none_here none = sym (ap (λ o. option_or o (first after)) none) ∙ sym first-behind ∙ before
 
 flat_map-cons_option : {X : Type 0} (f : X → List ℕ) (o : Option X) (xs : List X)
