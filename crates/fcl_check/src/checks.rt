@@ -1,6 +1,6 @@
 //! The kinds of faults over a whole tree, each at its first place.
 
-ghost use Rattle.std.specs.Prelude.{◌≡◌, ◌++◌, ℕ, List, [], Option, map, option_map, slice_get};
+ghost use Rattle.std.specs.Prelude.{◌≡◌, ◌++◌, ℕ, List, [], Option, option_map, slice_get};
 ghost use Rattle.std.specs.Fn.{FnReturnsAt};
 ghost use Rattle.std.specs.List.{flat_map, list_any};
 ghost use Rattle.fcl_syntax.specs.declared.tree.Direction.TheVariants as side;
@@ -14,10 +14,8 @@ ghost use Rattle.fcl_check.specs.Places.{at_each, at_if, first};
 ghost use Rattle.fcl_check.specs.Sections.{bad_range, falling_points, incomplete, numbers_outside, points_outside};
 ghost use Rattle.fcl_check.specs.Sections.{shapeless_terms, terms_over_limit, without_terms};
 ghost use Rattle.fcl_check.specs.Steps.{room_behind};
-ghost use Rattle.fcl_check.specs.declared.operands.RuleNames.{RuleNames};
 
 use crate::names::Names;
-use crate::operands::RuleNames;
 use crate::outputs::is_complete;
 use crate::rules::{
     mistaken_name, mistaken_section, unknown_name, unknown_section, weight_outside,
@@ -38,36 +36,32 @@ const RULES: usize = 256;
 
 // The first place at a section, or else at a rule.
 #[tactic(auto, using(crate::proofs::places::Places::firsts))]
-fn first_in<S: Fn(&Part) -> Option<u32>, R: Fn(&RuleNames<'_>) -> Option<u32>>(
+fn first_in<S: Fn(&Part) -> Option<u32>, R: Fn(&Rule) -> Option<u32>>(
     tree: &Tree,
-    rules: &[RuleNames<'_>],
     section: S,
     rule: R,
 ) -> Option<u32>
     requires section { S.IsAlwaysCallable section }
     requires rule { R.IsAlwaysCallable rule }
-    requires rules { map (λ (n : RuleNames). n.rule.now) rules.now ≡ tree.now.block.rules.rules }
     ensures { (in_section : PartNode → List ℕ) (in_rule : RuleNode → List ℕ)
         → ((p : PartNode) (at : Option ℕ) → FnReturnsAt S.Fn section p at → at ≡ first (in_section p))
-        → ((n : RuleNames) (at : Option ℕ) → FnReturnsAt R.Fn rule n at → at ≡ first (in_rule n.rule.now))
+        → ((r : RuleNode) (at : Option ℕ) → FnReturnsAt R.Fn rule r at → at ≡ first (in_rule r))
         → result ≡ first (flat_map in_section tree.now.block.parts ++ flat_map in_rule
         tree.now.block.rules.rules) }
 {
     match first_at(tree.block.parts.as_slice(), section) {
         Some(at) => Some(at),
-        None => first_at(rules, rule),
+        None => first_at(tree.block.rules.rules.as_slice(), rule),
     }
 }
 
 /// A name of a section or of a rule that is unknown.
-pub fn unknown(names: &Names<'_>, tree: &Tree, rules: &[RuleNames<'_>]) -> Option<u32>
-    requires known { Knows tree.now names.now }
-    requires rules { map (λ (n : RuleNames). n.rule.now) rules.now ≡ tree.now.block.rules.rules }
+pub fn unknown(names: &Names<'_>, tree: &Tree) -> Option<u32>
+    requires { Knows tree.now names.now }
     ensures { result ≡ first (unknown tree.now.text.items tree.now.block) }
 {
     first_in(
         tree,
-        rules,
         |part| unknown_section(names, tree, part),
         |rule| unknown_name(names, tree, rule),
     )
@@ -193,14 +187,12 @@ pub fn weights_outside(rules: &[Rule]) -> Option<u32>
 }
 
 /// An output where an input belongs, or the other way round.
-pub fn wrong_side(names: &Names<'_>, tree: &Tree, rules: &[RuleNames<'_>]) -> Option<u32>
-    requires known { Knows tree.now names.now }
-    requires rules { map (λ (n : RuleNames). n.rule.now) rules.now ≡ tree.now.block.rules.rules }
+pub fn wrong_side(names: &Names<'_>, tree: &Tree) -> Option<u32>
+    requires { Knows tree.now names.now }
     ensures { result ≡ first (wrong_side tree.now.text.items tree.now.block) }
 {
     first_in(
         tree,
-        rules,
         |part| mistaken_section(names, tree, part),
         |rule| mistaken_name(names, tree, rule),
     )

@@ -1,11 +1,10 @@
 //! Trees to blocks.
 
-ghost use Rattle.std.specs.Prelude.{◌≡◌, [], map, IfOk};
+ghost use Rattle.std.specs.Prelude.{◌≡◌, [], IfOk};
 ghost use Rattle.fuzzy_meaning.specs.Blocks.{IsValid};
 ghost use Rattle.fcl_check.specs.Faults.{Answers, first_fault, twice};
 ghost use Rattle.fcl_check.specs.Known.{Knows};
 ghost use Rattle.fcl_check.specs.Loaded.{IsBlockOf};
-ghost use Rattle.fcl_check.specs.declared.operands.RuleNames.{RuleNames};
 
 use crate::block::block;
 use crate::checks::{
@@ -15,8 +14,6 @@ use crate::checks::{
 use crate::fault::LoadFault;
 use crate::laws::spelled_blocks_are_valid;
 use crate::names::Names;
-use crate::operands::RuleNames;
-use crate::rules::operands;
 use fcl_syntax::Tree;
 use fuzzy_meaning::Block;
 use std::alloc::Global;
@@ -32,14 +29,13 @@ macro_rules! refuse {
 
 // The first fault, where nothing is given twice.
 #[tactic(auto, using(crate::proofs::faultless::FaultKinds::first_fault_by_kinds))]
-fn first_fault(names: &Names<'_>, tree: &Tree, rules: &[RuleNames<'_>]) -> Option<LoadFault>
+fn first_fault(names: &Names<'_>, tree: &Tree) -> Option<LoadFault>
     requires known { Knows tree.now names.now }
-    requires rules { map (λ (n : RuleNames). n.rule.now) rules.now ≡ tree.now.block.rules.rules }
     requires once { twice tree.now.text.items tree.now.block ≡ [] }
     ensures { result ≡ first_fault tree.now.text.items tree.now.block }
 {
     let parts = tree.block.parts.as_slice();
-    refuse!(unknown(names, tree, rules), LoadFault::Unknown);
+    refuse!(unknown(names, tree), LoadFault::Unknown);
     refuse!(no_terms(parts), LoadFault::NoTerms);
     refuse!(too_many(names, tree), LoadFault::TooMany);
     refuse!(points_not_ascending(parts), LoadFault::PointsNotAscending);
@@ -51,7 +47,7 @@ fn first_fault(names: &Names<'_>, tree: &Tree, rules: &[RuleNames<'_>]) -> Optio
         weights_outside(tree.block.rules.rules.as_slice()),
         LoadFault::WeightOutside
     );
-    refuse!(wrong_side(names, tree, rules), LoadFault::WrongSide);
+    refuse!(wrong_side(names, tree), LoadFault::WrongSide);
     refuse!(missing_part(names, tree), LoadFault::MissingPart);
     None
 }
@@ -66,8 +62,7 @@ pub fn load(alloc: Global, tree: &Tree) -> Result<Block, LoadFault>
     ensures valid { IfOk result IsValid }
 {
     let names = Names::of(alloc, tree)?;
-    let rules = operands(alloc, tree.block.rules.rules.as_slice())?;
-    if let Some(fault) = first_fault(&names, tree, &rules) {
+    if let Some(fault) = first_fault(&names, tree) {
         return Err(fault);
     }
     // A text spells the tree, so its block is valid without a test.

@@ -1,62 +1,59 @@
-//! The names in the conditions of rules.
+//! The operands of a condition in the text's order.
 
-ghost use Rattle.std.specs.Prelude.{◌≡◌, ◌++◌, map, IfOk, OnOk};
-ghost use Rattle.fcl_check.specs.Faults.{and_pairs, condition_pairs, not_pairs, or_pairs};
+ghost use Rattle.std.specs.Prelude.{◌≡◌, ℕ, List, Option};
+ghost use Rattle.std.specs.Fn.{FnReturnsAt};
+ghost use Rattle.std.specs.List.{flat_map};
+ghost use Rattle.fcl_check.specs.Faults.{Pair, and_pairs, not_pairs, or_pairs};
+ghost use Rattle.fcl_check.specs.Places.{first};
 ghost use Rattle.fcl_check.specs.Steps.{pair_of};
+ghost use Rattle.fcl_syntax.specs.declared.tree.Operand.{Operand};
 
-use fcl_syntax::{And, Node, Not, Operand, Or, Rule};
-use std::alloc::{AllocError, Global};
+use fcl_syntax::{And, Node, Not, Operand, Or};
 
-/// A rule with the operands of its condition in the text's order.
-#[derive(Drop)]
-pub struct RuleNames<'a> {
-    pub rule: &'a Rule,
-    pub operands: Vec<Operand>,
-    ghost all: { map pair_of operands.items ≡ condition_pairs rule.now },
-}
-
-impl<'a> RuleNames<'a> {
-    pub fn of(alloc: Global, rule: &'a Rule) -> Result<RuleNames<'a>, AllocError>
-        ensures { IfOk result (λ names. names.rule.now ≡ rule.now) }
-    {
-        let mut operands = Vec::new(alloc);
-        push_or(&mut operands, &rule.condition)?;
-        Ok(RuleNames { rule, operands })
-    }
-}
-
+/// The first place that is found at an operand of a condition.
 #[cycle(operands)]
-fn push_or(into: &mut Vec<Operand>, or: &Or) -> Result<(), AllocError>
-    ensures { OnOk result (map pair_of into.new.items ≡ map pair_of into.old.items ++ or_pairs or.now) }
+pub fn first_in_or<F: Fn(&Operand) -> Option<u32>>(or: &Or, place: &F) -> Option<u32>
+    requires { F.IsAlwaysCallable place.now }
+    ensures { (places : Pair → List ℕ) → ((o : Operand) (at : Option ℕ) → FnReturnsAt F.Fn place.now o at → at ≡
+        first (places (pair_of o))) → result ≡ first (flat_map places (or_pairs or.now)) }
 {
-    push_and(into, &or.first)?;
+    if let Some(at) = first_in_and(&or.first, place) {
+        return Some(at);
+    }
     for (_, alternative) in &or.more {
-        push_and(into, alternative)?;
+        if let Some(at) = first_in_and(alternative, place) {
+            return Some(at);
+        }
     }
-    Ok(())
+    None
 }
 
 #[cycle(operands)]
-fn push_and(into: &mut Vec<Operand>, and: &And) -> Result<(), AllocError>
-    ensures { OnOk result (map pair_of into.new.items ≡ map pair_of into.old.items ++ and_pairs and.now) }
+fn first_in_and<F: Fn(&Operand) -> Option<u32>>(and: &And, place: &F) -> Option<u32>
+    requires { F.IsAlwaysCallable place.now }
+    ensures { (places : Pair → List ℕ) → ((o : Operand) (at : Option ℕ) → FnReturnsAt F.Fn place.now o at → at ≡
+        first (places (pair_of o))) → result ≡ first (flat_map places (and_pairs and.now)) }
 {
-    push_not(into, &and.first)?;
-    for (_, conjunct) in &and.more {
-        push_not(into, conjunct)?;
+    if let Some(at) = first_in_not(&and.first, place) {
+        return Some(at);
     }
-    Ok(())
+    for (_, conjunct) in &and.more {
+        if let Some(at) = first_in_not(conjunct, place) {
+            return Some(at);
+        }
+    }
+    None
 }
 
 #[cycle(operands)]
-fn push_not(into: &mut Vec<Operand>, not: &Not) -> Result<(), AllocError>
-    ensures { OnOk result (map pair_of into.new.items ≡ map pair_of into.old.items ++ not_pairs not.now) }
+fn first_in_not<F: Fn(&Operand) -> Option<u32>>(not: &Not, place: &F) -> Option<u32>
+    requires { F.IsAlwaysCallable place.now }
+    ensures { (places : Pair → List ℕ) → ((o : Operand) (at : Option ℕ) → FnReturnsAt F.Fn place.now o at → at ≡
+        first (places (pair_of o))) → result ≡ first (flat_map places (not_pairs not.now)) }
 {
     match &not.node {
-        Node::Not(_, part) => push_not(into, part),
-        Node::Group(_, group) => push_or(into, group),
-        Node::Is(operand) => {
-            into.push(*operand)?;
-            Ok(())
-        }
+        Node::Not(_, part) => first_in_not(part, place),
+        Node::Group(_, group) => first_in_or(group, place),
+        Node::Is(operand) => place(operand),
     }
 }

@@ -1,33 +1,19 @@
 //! What is wrong with the names and weights of rules.
 
-ghost use Rattle.std.specs.Prelude.{◌≡◌, map, IfOk};
+ghost use Rattle.std.specs.Prelude.{◌≡◌};
 ghost use Rattle.std.specs.List.{flat_map};
 ghost use Rattle.fcl_syntax.specs.declared.tree.Conclusion.{Conclusion};
 ghost use Rattle.fcl_syntax.specs.declared.tree.Direction.TheVariants as side;
 ghost use Rattle.fcl_check.specs.Faults.{Pair, conclusions_of, direction, mistaken, mistaken_in, mistaken_section};
-ghost use Rattle.fcl_check.specs.Faults.{unknown_in, unknown_pair, unknown_section, weight_outside};
+ghost use Rattle.fcl_check.specs.Faults.{or_pairs, unknown_in, unknown_pair, unknown_section, weight_outside};
 ghost use Rattle.fcl_check.specs.Known.{Knows};
 ghost use Rattle.fcl_check.specs.Places.{first};
-ghost use Rattle.fcl_check.specs.Steps.{pair_of};
-ghost use Rattle.fcl_check.specs.declared.operands.RuleNames.{RuleNames};
 
 use crate::names::{Names, section_name};
 use crate::numbers::value;
-use crate::operands::RuleNames;
+use crate::operands::first_in_or;
 use crate::walk::first_at;
-use fcl_syntax::{Conclusion, Direction, Name, Operand, Part, Rule, Tree};
-use std::alloc::{AllocError, Global};
-
-/// The operands of all rules.
-pub fn operands(alloc: Global, rules: &[Rule]) -> Result<Vec<RuleNames<'_>>, AllocError>
-    ensures { IfOk result (λ all. map (λ (n : RuleNames). n.rule.now) all.items ≡ rules.now) }
-{
-    let mut all = Vec::new(alloc);
-    for rule in rules {
-        all.push(RuleNames::of(alloc, rule)?)?;
-    }
-    Ok(all)
-}
+use fcl_syntax::{Conclusion, Direction, Name, Operand, Or, Part, Rule, Tree};
 
 // The direction in which a name is declared.
 fn direction(names: &Names<'_>, tree: &Tree, name: Name) -> Option<Direction>
@@ -74,16 +60,17 @@ fn unknown_pair(
     }
 }
 
-fn unknown_operand(names: &Names<'_>, tree: &Tree, operands: &[Operand]) -> Option<u32>
+fn unknown_operand(names: &Names<'_>, tree: &Tree, condition: &Or) -> Option<u32>
     requires { Knows tree.now names.now }
     ensures { result ≡ first (flat_map
         (λ (p : Pair). unknown_pair tree.now.text.items tree.now.block side.Input p.variable p.term)
-        (map pair_of operands.now)) }
+        (or_pairs condition.now)) }
 {
-    first_at(operands, |operand| {
+    let place = |operand: &Operand| {
         let (variable, term) = (operand.variable, operand.term);
         unknown_pair(names, tree, Direction::Input, variable, term)
-    })
+    };
+    first_in_or(condition, &place)
 }
 
 fn unknown_conclusion(names: &Names<'_>, tree: &Tree, conclusion: &Conclusion) -> Option<u32>
@@ -112,13 +99,13 @@ fn unknown_conclusions(names: &Names<'_>, tree: &Tree, rule: &Rule) -> Option<u3
 
 /// The first name of a rule that is unknown.
 #[tactic(auto, using(crate::proofs::places::Places::firsts))]
-pub fn unknown_name(names: &Names<'_>, tree: &Tree, rule: &RuleNames<'_>) -> Option<u32>
+pub fn unknown_name(names: &Names<'_>, tree: &Tree, rule: &Rule) -> Option<u32>
     requires { Knows tree.now names.now }
-    ensures { result ≡ first (unknown_in tree.now.text.items tree.now.block rule.now.rule.now) }
+    ensures { result ≡ first (unknown_in tree.now.text.items tree.now.block rule.now) }
 {
-    match unknown_operand(names, tree, &rule.operands) {
+    match unknown_operand(names, tree, &rule.condition) {
         Some(at) => Some(at),
-        None => unknown_conclusions(names, tree, rule.rule),
+        None => unknown_conclusions(names, tree, rule),
     }
 }
 
@@ -158,15 +145,14 @@ pub fn mistaken_section(names: &Names<'_>, tree: &Tree, part: &Part) -> Option<u
     }
 }
 
-fn mistaken_operand(names: &Names<'_>, tree: &Tree, operands: &[Operand]) -> Option<u32>
+fn mistaken_operand(names: &Names<'_>, tree: &Tree, condition: &Or) -> Option<u32>
     requires { Knows tree.now names.now }
     ensures { result ≡ first (flat_map
         (λ (p : Pair). mistaken tree.now.text.items tree.now.block side.Input p.variable)
-        (map pair_of operands.now)) }
+        (or_pairs condition.now)) }
 {
-    first_at(operands, |operand| {
-        mistaken(names, tree, Direction::Input, operand.variable)
-    })
+    let place = |operand: &Operand| mistaken(names, tree, Direction::Input, operand.variable);
+    first_in_or(condition, &place)
 }
 
 #[tactic(auto, using(crate::proofs::places::Places::firsts))]
@@ -186,12 +172,12 @@ fn mistaken_conclusion(names: &Names<'_>, tree: &Tree, rule: &Rule) -> Option<u3
 
 /// The first variable of a rule that stands on the wrong side.
 #[tactic(auto, using(crate::proofs::places::Places::firsts))]
-pub fn mistaken_name(names: &Names<'_>, tree: &Tree, rule: &RuleNames<'_>) -> Option<u32>
+pub fn mistaken_name(names: &Names<'_>, tree: &Tree, rule: &Rule) -> Option<u32>
     requires { Knows tree.now names.now }
-    ensures { result ≡ first (mistaken_in tree.now.text.items tree.now.block rule.now.rule.now) }
+    ensures { result ≡ first (mistaken_in tree.now.text.items tree.now.block rule.now) }
 {
-    match mistaken_operand(names, tree, &rule.operands) {
+    match mistaken_operand(names, tree, &rule.condition) {
         Some(at) => Some(at),
-        None => mistaken_conclusion(names, tree, rule.rule),
+        None => mistaken_conclusion(names, tree, rule),
     }
 }

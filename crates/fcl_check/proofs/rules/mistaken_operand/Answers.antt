@@ -1,6 +1,0 @@
-use Rattle.std.proofs.Common.{rules}
-use Rattle.std.proofs.lemmas.List.Folds.{flat_map-map}
-use Rattle.fcl_check.proofs.rules.mistaken_operand.Goals as goal
-
-pub returns : goal.returns
-returns c = rw flat_map-map (search rules)
