@@ -1,12 +1,12 @@
 //! The numbers of a tree.
 
-ghost use Rattle.std.specs.Prelude.{◌≡◌, pos, ◌≤ℤ◌};
+ghost use Rattle.std.specs.Prelude.{◌≡◌, pos, ◌≤ℤ◌, option_map};
 ghost use Rattle.std.specs.Int.{int_min, int_max};
 ghost use Rattle.fcl_check.specs.Spans.{ends_in};
-ghost use Rattle.fcl_check.specs.Loaded.{widened};
-ghost use Rattle.fcl_check.specs.Sections.{magnitude, value, is_one, ends_of, lies_in, is_empty_range};
+ghost use Rattle.fcl_check.specs.Loaded.{number_of, widened};
+ghost use Rattle.fcl_check.specs.Sections.{magnitude, value, fallback_number, is_one, ends_of, lies_in, is_empty_range};
 
-use fcl_syntax::{Amount, Degree, Number, Range, SignedNumber};
+use fcl_syntax::{Amount, Degree, FallbackValue, Number, Range, SignedNumber};
 use fz_num::Dec;
 
 /// The greatest magnitude of a number, in 1/10000. A tree that was read has none above it.
@@ -33,6 +33,16 @@ pub fn value(number: SignedNumber) -> Dec
         SignedNumber::Minus(number) => 0_i64.saturating_sub(magnitude(number)),
     };
     Dec(value.max(-GREATEST).min(GREATEST))
+}
+
+/// The number of DEFAULT, none for NC.
+pub fn fallback_number(value_or_nc: FallbackValue) -> Option<Dec>
+    ensures { number_of result ≡ option_map value (fallback_number value_or_nc) }
+{
+    match value_or_nc {
+        FallbackValue::Number(number) => Some(value(number)),
+        FallbackValue::Nc(_) => None,
+    }
 }
 
 /// Whether a degree is 1 rather than 0.

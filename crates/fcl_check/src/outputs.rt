@@ -8,13 +8,13 @@ ghost use Rattle.fcl_check.specs.Spans.{ends_in};
 ghost use Rattle.fcl_check.specs.Loaded.{IsOutputOf, default_number, number_of, output_hull, output_range, widened};
 ghost use Rattle.fcl_check.specs.Names.{as_defuzzify, singletons_of};
 ghost use Rattle.fcl_check.specs.Places.{first};
-ghost use Rattle.fcl_check.specs.Sections.{default_of, fallback_number, incomplete, method_line, number_line, value};
+ghost use Rattle.fcl_check.specs.Sections.{default_of, incomplete, method_line, value};
 ghost use Rattle.fcl_check.specs.WellFormed.{IsWellFormedDefuzzify};
 
-use crate::numbers::{Span, value};
-use crate::sections::defuzzy_range;
+use crate::numbers::{Span, fallback_number, value};
+use crate::sections::{defuzzy_range, number_line};
 use crate::variables::FromSection;
-use fcl_syntax::{Defuzzify, DefuzzyLine, Direction, Fallback, FallbackValue, Part};
+use fcl_syntax::{Defuzzify, DefuzzyLine, Direction, Fallback, Part};
 use fuzzy_meaning::Output;
 use fz_list::List;
 use fz_num::Dec;
@@ -51,34 +51,13 @@ pub fn is_complete(section: &Defuzzify) -> bool
     has_method(section) && fallback(section).is_some()
 }
 
-// The number of DEFAULT, none for NC.
-fn fallback_number(value_or_nc: FallbackValue) -> Option<Dec>
-    ensures { number_of result ≡ option_map value (fallback_number value_or_nc) }
-{
-    match value_or_nc {
-        FallbackValue::Number(number) => Some(value(number)),
-        FallbackValue::Nc(_) => None,
-    }
-}
-
-// The number of a singleton or of DEFAULT.
-fn number_in(line: &DefuzzyLine) -> Option<Dec>
-    ensures { number_of result ≡ option_map (λ n. n.0) (number_line line.now) }
-{
-    match line {
-        DefuzzyLine::Singleton(singleton) => Some(value(singleton.value)),
-        DefuzzyLine::Default(fallback) => fallback_number(fallback.value),
-        _ => None,
-    }
-}
-
 // From the least to the greatest number of a section; none where it has no number.
 fn hull(section: &Defuzzify) -> Option<Span>
     ensures { option_map ends_in result ≡ output_hull section.now }
 {
     let mut hull: Option<Span> = None;
     for line in section.lines.as_slice() {
-        if let Some(x) = number_in(line) {
+        if let Some((x, _)) = number_line(line) {
             hull = Some(match hull {
                 Some(span) => span.with(x),
                 None => Span::at(x),

@@ -19,11 +19,10 @@ ghost use Rattle.fcl_check.specs.Sections.{numbers_outside, outside_in, points_o
 ghost use Rattle.fcl_check.specs.Sections.{shapeless_terms, terms_over_limit, without_terms, x_of};
 
 use crate::names::Names;
-use crate::numbers::{Span, is_one, value};
+use crate::numbers::{Span, fallback_number, is_one, value};
 use crate::walk::first_at;
 use fcl_syntax::{
-    Defuzzify, DefuzzyLine, Direction, FallbackValue, Fuzzify, FuzzyLine, Part, Point, Range, Term,
-    Tree,
+    Defuzzify, DefuzzyLine, Direction, Fuzzify, FuzzyLine, Part, Point, Range, Term, Tree,
 };
 use fz_num::Dec;
 
@@ -305,16 +304,13 @@ fn empty_range(range: Range) -> Option<u32>
     }
 }
 
-// The number of a line of an output's section and the place where it is refused.
-fn number_line(line: &DefuzzyLine) -> Option<(Dec, u32)>
+/// The number of a line of an output's section and the place where it is refused.
+pub fn number_line(line: &DefuzzyLine) -> Option<(Dec, u32)>
     ensures { option_map (λ (n : Dec × ℕ). (n.0.0, n.1)) result ≡ number_line line.now }
 {
     match line {
         DefuzzyLine::Singleton(singleton) => Some((value(singleton.value), singleton.at)),
-        DefuzzyLine::Default(fallback) => match fallback.value {
-            FallbackValue::Number(number) => Some((value(number), fallback.at)),
-            FallbackValue::Nc(_) => None,
-        },
+        DefuzzyLine::Default(fallback) => Some((fallback_number(fallback.value)?, fallback.at)),
         _ => None,
     }
 }

@@ -1,4 +1,4 @@
-use Rattle.std.proofs.Common.{None, Some, ap, ◌∙◌}
+use Rattle.std.proofs.Common.{None, Some, ap, option_map, ◌∙◌}
 use Rattle.fcl_check.specs.Spans.{ends_in}
 use Rattle.fcl_check.proofs.ranges.OutputLines.{hull-found, hull-passed}
 use Rattle.fcl_check.proofs.outputs.hull.Goals as goal
@@ -8,17 +8,17 @@ pub loop-line-preserved : goal.loop-line-preserved
 loop-line-preserved c =
     let lines = c.args.section.now.lines in
     let read = c.as_slice-line-items in
-    elim c.match-number_in.branch [
+    elim c.match-number_line.branch [
       | in-Some+in-Some-hull w ↦ rw w.hull-is
           (ap Some w.with.ensures ∙ hull-found lines read.result.now c.loop-line.line-index _ read.ensures
           (rw read.ensures at c.loop-line-test.true)
           (Some (ends_in w.in-Some-hull.span)) w.in-Some.x.0
-          (rw w.in-Some-hull.is at c.loop-line.invariant) w.in-Some.ensures)
+          (rw w.in-Some-hull.is at c.loop-line.invariant) (ap (option_map (λ n. n.0)) w.in-Some.ensures))
       | in-Some+in-None w ↦ rw w.hull-is
           (ap Some w.at.ensures ∙ hull-found lines read.result.now c.loop-line.line-index _ read.ensures
           (rw read.ensures at c.loop-line-test.true)
-          None w.in-Some.x.0 (rw w.in-None.is at c.loop-line.invariant) w.in-Some.ensures)
+          None w.in-Some.x.0 (rw w.in-None.is at c.loop-line.invariant) (ap (option_map (λ n. n.0)) w.in-Some.ensures))
       | in_default w ↦ rw w.hull-is (hull-passed lines read.result.now c.loop-line.line-index _ read.ensures
           (rw read.ensures at c.loop-line-test.true)
-          _ c.loop-line.invariant w.in_default.ensures)
+          _ c.loop-line.invariant (ap (option_map (λ n. n.0)) w.in_default.ensures))
     ]
