@@ -1,4 +1,4 @@
--- What the builder of inputs keeps of a term's points.
+-- What the builder of inputs keeps of a term's points. No public clause cites it.
 use Rattle.std.specs.Prelude.{◌≡◌, List, option_map}
 use Rattle.std.specs.List.{filter, take_while}
 use Rattle.fcl_syntax.specs.declared.tree.Point.{Point}

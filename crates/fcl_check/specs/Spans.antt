@@ -1,4 +1,4 @@
--- What a span of the code stands for.
+-- What a span of the code stands for. No public clause cites it.
 use Rattle.fcl_check.specs.declared.numbers.Span.{Span}
 use Rattle.fcl_check.specs.Sections.{Ends}
 

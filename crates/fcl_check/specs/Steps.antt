@@ -1,4 +1,4 @@
--- What the checks of a tree keep on their way.
+-- What the checks of a tree keep on their way. No public clause cites it.
 use Rattle.std.proofs.Common.{zero}
 use Rattle.std.specs.Prelude.{ℕ, suc, Bool, false, List, Option, Some, None, option_map, ℤ}
 use Rattle.std.specs.List.{list_all}
