@@ -1,4 +1,5 @@
--- The conditions of the grammar as stored values.
+-- The conditions of the grammar as stored values. It serves the prover alone: a type that contracts see as a
+-- condition owes a `Coded` of conditions.
 use Rattle.std.specs.Prelude.{◌≡◌, ℕ, true, refl}
 use Rattle.std.proofs.Common.{ap}
 use Rattle.std.specs.Coded.{Coded, Coded-set, coded_bool}
@@ -76,26 +77,14 @@ mutual
   not_one (lone v f) (lone w g) p =
       λ i. lone (name.the_row.coded.inj v w (ap (λ g. left (right g)) p) i)
       (follow_one f g (token.the_row.coded.inj f.token g.token (ap (λ g. right (right g)) p)) i)
-  not_one (neg a t) (group b u) p = absurd (let e = ap first p in let x : ⊥ = cc in x)
-  not_one (neg a t) (is w j c u) p = absurd (let e = ap first p in let x : ⊥ = cc in x)
-  not_one (neg a t) (lone w g) p = absurd (let e = ap first p in let x : ⊥ = cc in x)
-  not_one (group a t) (neg b u) p = absurd (let e = ap first p in let x : ⊥ = cc in x)
-  not_one (group a t) (is w j c u) p = absurd (let e = ap first p in let x : ⊥ = cc in x)
-  not_one (group a t) (lone w g) p = absurd (let e = ap first p in let x : ⊥ = cc in x)
-  not_one (is v i b t) (neg c u) p = absurd (let e = ap first p in let x : ⊥ = cc in x)
-  not_one (is v i b t) (group c u) p = absurd (let e = ap first p in let x : ⊥ = cc in x)
-  not_one (is v i b t) (lone w g) p = absurd (let e = ap first p in let x : ⊥ = cc in x)
-  not_one (lone v f) (neg b u) p = absurd (let e = ap first p in let x : ⊥ = cc in x)
-  not_one (lone v f) (group b u) p = absurd (let e = ap first p in let x : ⊥ = cc in x)
-  not_one (lone v f) (is w j c u) p = absurd (let e = ap first p in let x : ⊥ = cc in x)
+  not_one _ _ p = absurd (let e = ap first p in let x : ⊥ = cc in x)
 
   nots_one : (x y : TNots) → nots_stored x ≡ nots_stored y → x ≡ y
   nots_one no_nots no_nots p = refl
   nots_one (more_nots a t ts) (more_nots b u us) p =
       λ i. more_nots (first (p i)) (not_one t u (ap (λ g. left (right g)) p) i)
       (nots_one ts us (ap (λ g. right (right g)) p) i)
-  nots_one no_nots (more_nots b u us) p = absurd (let e = ap is_pair p in let x : ⊥ = cc in x)
-  nots_one (more_nots a t ts) no_nots p = absurd (let e = ap is_pair p in let x : ⊥ = cc in x)
+  nots_one _ _ p = absurd (let e = ap is_pair p in let x : ⊥ = cc in x)
 
   pub and_one : (x y : TAnd) → and_stored x ≡ and_stored y → x ≡ y
   and_one (and_of t ts) (and_of u us) p = λ i. and_of (not_one t u (ap left p) i) (nots_one ts us (ap right p) i)
@@ -105,8 +94,7 @@ mutual
   ands_one (more_ands a t ts) (more_ands b u us) p =
       λ i. more_ands (first (p i)) (and_one t u (ap (λ g. left (right g)) p) i)
       (ands_one ts us (ap (λ g. right (right g)) p) i)
-  ands_one no_ands (more_ands b u us) p = absurd (let e = ap is_pair p in let x : ⊥ = cc in x)
-  ands_one (more_ands a t ts) no_ands p = absurd (let e = ap is_pair p in let x : ⊥ = cc in x)
+  ands_one _ _ p = absurd (let e = ap is_pair p in let x : ⊥ = cc in x)
 
   pub or_one : (x y : TOr) → or_stored x ≡ or_stored y → x ≡ y
   or_one (or_of t ts) (or_of u us) p = λ i. or_of (and_one t u (ap left p) i) (ands_one ts us (ap right p) i)

@@ -1,4 +1,4 @@
--- Reading a text: its tokens, and then all of them.
+-- Reading a text: its tokens, and then all of them. No public clause cites it.
 use Rattle.std.specs.Prelude.{◌≡◌, ℕ, ◌-◌, List, length, drop, Result, Ok, Err}
 use Rattle.fcl_syntax.specs.declared.fault.Fault.{Fault}
 use Rattle.fcl_syntax.specs.declared.fault.Kind.{Kind}
