@@ -3,6 +3,7 @@ use Rattle.std.proofs.Common.{◌≡◌, ℕ, zero, suc, true, false, List, [], 
 use Rattle.std.proofs.Common.{sym, ap, ◌∙◌, inl, inr, ◌⊎◌}
 use Rattle.fcl_syntax.specs.declared.fault.Kind.TheVariants.{Deep}
 use Rattle.fcl_syntax.specs.declared.token.Amount.TheVariants as amount
+use Rattle.fcl_syntax.specs.declared.token.Keyword.{Keyword}
 use Rattle.fcl_syntax.specs.declared.token.Keyword.TheVariants as key
 use Rattle.fcl_syntax.specs.declared.token.Token.{Token}
 use Rattle.fcl_syntax.specs.declared.token.Token.TheVariants as tok
@@ -14,8 +15,8 @@ use Rattle.fcl_syntax.specs.Readers.{◌>>=◌, loop}
 use Rattle.fcl_syntax.proofs.Form.{disjoint, Form}
 use Rattle.fcl_syntax.specs.Grammar.{TNot, neg, group, is, lone, TNots, no_nots, more_nots, TAnd, and_of, TAnds}
 use Rattle.fcl_syntax.specs.Grammar.{no_ands, more_ands, TOr, or_of, not_text, nots_text, and_text, ands_text, or_text}
-use Rattle.fcl_syntax.specs.Reading.{key_at, name_at, not_word_at, operand_at, conjunct_in, and_in, alternative_in}
-use Rattle.fcl_syntax.specs.Reading.{or_in, neg_in, group_in, opened_in, not_at}
+use Rattle.fcl_syntax.specs.Reading.{name_at, not_word_at, operand_at, behind_key_in, joined_in}
+use Rattle.fcl_syntax.specs.Reading.{neg_in, group_in, opened_in, not_at}
 use Rattle.fcl_syntax.specs.Conditions.{nots_of, ands_of}
 use Rattle.fcl_syntax.proofs.Ahead.{Ahead, ahead}
 use Rattle.fcl_syntax.proofs.Chains.{bind_assoc, bind_cond, chain2}
@@ -101,10 +102,34 @@ from_or (or_of t ts) = (t, list_of_ands ts)
 pub or_round : (a : TOr) → or_of (from_or a).0 (ands_of (from_or a).1) ≡ a
 or_round (or_of t ts) = ap (λ (l : TAnds). or_of t l) (ands_round ts)
 
-module _ (n : ℕ) (p : Part n) where
-  pub apart_one : (x : ℕ) → disjoint p.form.goes (x ∷ []) ≡ true
-  apart_one x = rw p.goes refl
+-- parts with a keyword between them
+module _ {A : Type 0} (k : Keyword) (p : Form A) where
+  pub behind_key_is : (ts : List Token) → behind_key_in k p.read ts ≡ (seq (key_form k) p refl).read ts
+  unfolding behind_key_in
+  behind_key_is ts = refl
 
+  abbrev pub behind_key_form : Form (ℕ × A)
+  behind_key_form = named (seq (key_form k) p refl) (behind_key_in k p.read) behind_key_is
+
+  module _ (apart : disjoint p.goes (keyword_class k ∷ []) ≡ true) where
+    abbrev pub joined_seq : Form (A × List (ℕ × A))
+    joined_seq = then_rep p behind_key_form apart refl
+
+    module _ {W : Type 0} (whole : A → List (ℕ × A) → W) (parts : W → A × List (ℕ × A))
+        (round : (w : W) → whole (parts w).0 (parts w).1 ≡ w) (text : W → List Sym)
+        (same : (t : A × List (ℕ × A)) → text (whole t.0 t.1) ≡ joined_seq.text t) where
+      abbrev pub joined_raw : Form W
+      joined_raw = via joined_seq (λ t. whole t.0 t.1) parts text round same
+
+      pub joined_is : (ts : List Token) → joined_in k p.read whole ts ≡ joined_raw.read ts
+      unfolding joined_in
+      joined_is ts = chain2 p.read (λ l. loop (keyword_class k ∷ []) (behind_key_in k p.read) (length l) l)
+          (λ t. whole t.0 t.1) ts
+
+      abbrev pub joined_form : Form W
+      joined_form = named joined_raw (joined_in k p.read whole) joined_is
+
+module _ (n : ℕ) (p : Part n) where
   -- the part, read by the parser's own reader
   pub inner_is : (ts : List Token) → not_at n ts ≡ p.form.read ts
   inner_is ts = rw (← p.read) refl
@@ -112,80 +137,44 @@ module _ (n : ℕ) (p : Part n) where
   abbrev pub inner : Form TNot
   inner = named p.form (not_at n) inner_is
 
-  abbrev pub conjunct_text : ℕ × TNot → List Sym
-  conjunct_text t = plain (tok.Word t.0 key.And) ∷ not_text t.1 n
-
-  abbrev pub conjunct_raw : Form (ℕ × TNot)
-  conjunct_raw = via (seq (key_form key.And) inner refl) (λ t. t) (λ t. t) conjunct_text (λ t. refl)
-      (λ t. ap (λ (l : List Sym). plain (tok.Word t.0 key.And) ∷ l) (sym (p.text t.1)))
-
-  pub conjunct_is : (ts : List Token) → conjunct_in (not_at n) ts ≡ conjunct_raw.read ts
-  unfolding conjunct_in
-  conjunct_is ts = chain2 (key_at key.And) (not_at n) (λ t. t) ts
-
   abbrev pub conjunct_form : Form (ℕ × TNot)
-  conjunct_form = named conjunct_raw (conjunct_in (not_at n)) conjunct_is
+  conjunct_form = behind_key_form key.And inner
+
+  pub and_apart : disjoint p.form.goes (keyword_class key.And ∷ []) ≡ true
+  and_apart = rw p.goes refl
 
   pub nots_same : (ts : List (ℕ × TNot)) → nots_text (nots_of ts) n ≡ texts conjunct_form ts
   nots_same [] = refl
-  nots_same (t ∷ ts) = ap (λ (l : List Sym). plain (tok.Word t.0 key.And) ∷ (not_text t.1 n ++ l)) (nots_same ts)
+  nots_same (t ∷ ts) =
+      ap (λ (l : List Sym). plain (tok.Word t.0 key.And) ∷ (l ++ nots_text (nots_of ts) n)) (sym (p.text t.1))
+      ∙ ap (λ (l : List Sym). plain (tok.Word t.0 key.And) ∷ (p.form.text t.1 ++ l)) (nots_same ts)
 
-  abbrev pub to_and : TNot × List (ℕ × TNot) → TAnd
-  to_and t = and_of t.0 (nots_of t.1)
-
-  abbrev pub and_seq : Form (TNot × List (ℕ × TNot))
-  and_seq = then_rep inner conjunct_form (apart_one 23) refl
-
-  pub and_same : (t : TNot × List (ℕ × TNot)) → and_text (to_and t) n ≡ and_seq.text t
+  pub and_same : (t : TNot × List (ℕ × TNot))
+      → and_text (and_of t.0 (nots_of t.1)) n ≡ (joined_seq key.And inner and_apart).text t
   and_same t = ap (λ (l : List Sym). l ++ nots_text (nots_of t.1) n) (sym (p.text t.0))
       ∙ ap (λ (l : List Sym). p.form.text t.0 ++ l) (nots_same t.1)
 
-  abbrev pub and_raw : Form TAnd
-  and_raw = via and_seq to_and from_and (λ a. and_text a n) and_round and_same
-
-  pub and_is : (ts : List Token) → and_in (not_at n) ts ≡ and_raw.read ts
-  unfolding and_in
-  and_is ts = chain2 (not_at n) (λ l. loop (keyword_class key.And ∷ []) (conjunct_in (not_at n)) (length l) l) to_and ts
-
   abbrev pub and_form : Form TAnd
-  and_form = named and_raw (and_in (not_at n)) and_is
-
-  abbrev pub alternative_text : ℕ × TAnd → List Sym
-  alternative_text t = plain (tok.Word t.0 key.Or) ∷ and_text t.1 n
-
-  abbrev pub alternative_raw : Form (ℕ × TAnd)
-  alternative_raw = via (seq (key_form key.Or) and_form refl) (λ t. t) (λ t. t) alternative_text (λ t. refl) (λ t. refl)
-
-  pub alternative_is : (ts : List Token) → alternative_in (not_at n) ts ≡ alternative_raw.read ts
-  unfolding alternative_in
-  alternative_is ts = chain2 (key_at key.Or) (and_in (not_at n)) (λ t. t) ts
+  and_form = joined_form key.And inner and_apart (λ t ts. and_of t (nots_of ts)) from_and and_round
+      (λ a. and_text a n) and_same
 
   abbrev pub alternative_form : Form (ℕ × TAnd)
-  alternative_form = named alternative_raw (alternative_in (not_at n)) alternative_is
+  alternative_form = behind_key_form key.Or and_form
+
+  pub or_apart : disjoint and_form.goes (keyword_class key.Or ∷ []) ≡ true
+  or_apart = rw p.goes refl
 
   pub ands_same : (ts : List (ℕ × TAnd)) → ands_text (ands_of ts) n ≡ texts alternative_form ts
   ands_same [] = refl
   ands_same (t ∷ ts) = ap (λ (l : List Sym). plain (tok.Word t.0 key.Or) ∷ (and_text t.1 n ++ l)) (ands_same ts)
 
-  abbrev pub to_or : TAnd × List (ℕ × TAnd) → TOr
-  to_or t = or_of t.0 (ands_of t.1)
-
-  abbrev pub or_seq : Form (TAnd × List (ℕ × TAnd))
-  or_seq = then_rep and_form alternative_form (rw p.goes refl) refl
-
-  pub or_same : (t : TAnd × List (ℕ × TAnd)) → or_text (to_or t) n ≡ or_seq.text t
+  pub or_same : (t : TAnd × List (ℕ × TAnd))
+      → or_text (or_of t.0 (ands_of t.1)) n ≡ (joined_seq key.Or and_form or_apart).text t
   or_same t = ap (λ (l : List Sym). and_text t.0 n ++ l) (ands_same t.1)
 
-  abbrev pub or_raw : Form TOr
-  or_raw = via or_seq to_or from_or (λ a. or_text a n) or_round or_same
-
-  pub or_is : (ts : List Token) → or_in (not_at n) ts ≡ or_raw.read ts
-  unfolding or_in
-  or_is ts = chain2 (and_in (not_at n))
-      (λ l. loop (keyword_class key.Or ∷ []) (alternative_in (not_at n)) (length l) l) to_or ts
-
   abbrev pub or_form : Form TOr
-  or_form = named or_raw (or_in (not_at n)) or_is
+  or_form = joined_form key.Or and_form or_apart (λ a items. or_of a (ands_of items)) from_or or_round
+      (λ o. or_text o n) or_same
 
   -- NOT not, and "(" or ")"
   abbrev pub OpenedRaw : Type 0

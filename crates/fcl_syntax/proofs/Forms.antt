@@ -1,6 +1,8 @@
 -- The forms of variables, terms and ranges.
-use Rattle.std.proofs.Common.{◌≡◌, ℕ, true, List, [], ◌∷◌, ◌++◌, length, refl, ap, ◌∙◌, inl, inr, ◌⊎◌}
+use Rattle.std.proofs.Common.{◌≡◌, ℕ, true, List, [], ◌∷◌, ◌++◌, length, Ok, refl, ap, ◌∙◌, inl, inr, ◌⊎◌}
 use Rattle.fcl_syntax.specs.declared.fault.Kind.TheVariants.{Unsupported}
+use Rattle.fcl_syntax.specs.declared.terms.Sign.{Sign}
+use Rattle.fcl_syntax.specs.declared.terms.Sign.TheVariants as sign
 use Rattle.fcl_syntax.specs.declared.token.Keyword.{Keyword}
 use Rattle.fcl_syntax.specs.declared.token.Keyword.TheVariants as key
 use Rattle.fcl_syntax.specs.declared.token.Token.{Token}
@@ -15,13 +17,13 @@ use Rattle.fcl_syntax.specs.declared.tree.ZeroNumber.{ZeroNumber}
 use Rattle.fcl_syntax.specs.TokenClasses.{name_classes, other_type_classes, beyond_unit_classes, beyond_zero_classes}
 use Rattle.fcl_syntax.specs.TokenClasses.{class_of, comma_classes}
 use Rattle.fcl_syntax.specs.Annotations.{Sym, plain}
-use Rattle.fcl_syntax.specs.Readers.{loop}
+use Rattle.fcl_syntax.specs.Readers.{◌>>=◌, Read, loop}
 use Rattle.fcl_syntax.proofs.Form.{disjoint, Form}
 use Rattle.fcl_syntax.specs.Grammar.{behind, each, key_text, name_text, names_text, TSigned, plus, minus, bare}
 use Rattle.fcl_syntax.specs.Grammar.{signed_text, TSignedNumber, TType, TDeclaration, declaration_text, direction_key}
 use Rattle.fcl_syntax.specs.Grammar.{TVariables, variables_text, var_classes, TSection, TCoordinate, TUnit, TZero}
 use Rattle.fcl_syntax.specs.Reading.{IsBare, expect_at, key_at, word_at, open_at, name_at, number_at, unit_number_at}
-use Rattle.fcl_syntax.specs.Reading.{zero_number_at, direction_at, signed_at, coordinate_number_at, unit_at, zero_at}
+use Rattle.fcl_syntax.specs.Reading.{zero_number_at, direction_at, behind_sign, sign_at, signed, signed_at, coordinate_number_at, unit_at, zero_at}
 use Rattle.fcl_syntax.specs.Reading.{comma_name_at, names_at, type_at, declaration_at, declarations_at, variables_at}
 use Rattle.fcl_syntax.specs.Reading.{section_at}
 use Rattle.fcl_syntax.proofs.Chains.{bind_assoc, bind_cond, second, chain2, chain3, chain4}
@@ -100,6 +102,13 @@ direction_form = named (one single.direction_single) direction_at direction_is
 
 -- ---- one with or without a sign
 
+-- where all signs have the same behind them
+pub behind_sign_alike : {A : Type 0} (f : List Token → Read A) (s : Sign) (ts : List Token)
+    → behind_sign f f s ts ≡ (f ts >>= λ n. Ok (signed s n.0, n.1))
+behind_sign_alike f sign.Plus ts = refl
+behind_sign_alike f sign.Minus ts = refl
+behind_sign_alike f sign.Bare ts = refl
+
 abbrev pub SignedRaw : Type 0 → Type 0 → Type 0
 SignedRaw A B = (Unit {0} × A) ⊎ ((Unit {0} × B) ⊎ A)
 
@@ -132,7 +141,7 @@ module _ {A B : Type 0} (p : Form A) (q : Form B)
 
   pub signed_is : (ts : List Token) → signed_at p.read q.read ts ≡ (via signed_raw to_signed from_signed
       (signed_text p.text q.text) signed_round signed_same).read ts
-  unfolding signed_at
+  unfolding signed_at sign_at
   signed_is ts = simp (bind_cond, bind_assoc)
 
   abbrev pub signed_form : Form (TSigned A B)

@@ -44,10 +44,12 @@ if_itself : (b : Bool) → b ≡ cond b true false
 if_itself true = refl
 if_itself false = refl
 
-pub same_key : (r : Bool) (k j : Keyword) → r ≡ sameb the_type j k → r ≡ mem (keyword_class j) (keyword_class k ∷ [])
-same_key r k j e =
+pub same_class : (r : Bool) (k j : Keyword) → r ≡ sameb the_type j k → r ≡ eqb (keyword_class j) (keyword_class k)
+same_class r k j e =
     e ∙ ap (λ (n : ℕ). eqb n (tag_of the_type k)) (tag-key j) ∙ ap (λ (n : ℕ). eqb (keyword_class j) n) (tag-key k)
-    ∙ if_itself (eqb (keyword_class j) (keyword_class k))
+
+pub same_key : (r : Bool) (k j : Keyword) → r ≡ sameb the_type j k → r ≡ mem (keyword_class j) (keyword_class k ∷ [])
+same_key r k j e = same_class r k j e ∙ if_itself (eqb (keyword_class j) (keyword_class k))
 
 pub key_one : (j k : Keyword) → keyword_class j ≡ keyword_class k → j ≡ k
 key_one j k e = tag_one the_type tt j k (tag-key j ∙ e ∙ sym (tag-key k))

@@ -1,4 +1,4 @@
--- What reads a list of tokens from the left, and how such are put together.
+-- What reads a list of tokens from the left, and how such are put together. No public clause cites it.
 use Rattle.std.specs.Prelude.{◌≡◌, ℕ, zero, suc, Bool, true, false, List, [], ◌∷◌, length, Option, Some, None, Result}
 use Rattle.std.specs.Prelude.{Ok, Err}
 use Rattle.fcl_syntax.specs.declared.fault.Fault.{Fault}
@@ -53,6 +53,10 @@ Read A = Result (A × List Token) Fault
 
 abbrev pub expected : {A : Type 0} → List Token → Read A
 expected ts = Err (fault_at Expected (length ts))
+
+abbrev pub or_expected : {A : Type 0} → List Token → Option (A × List Token) → Read A
+or_expected ts None = expected ts
+or_expected ts (Some x) = Ok x
 
 abbrev pub cond_read : {A : Type 0} → Bool → A → A → A
 cond_read true a b = a

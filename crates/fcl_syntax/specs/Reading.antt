@@ -1,9 +1,12 @@
--- Reading from left to right, one function for each function of the parser.
+-- Reading from left to right, one function for each function of the parser. The contracts of these alone cite it, and
+-- no public clause.
 use Rattle.std.specs.Prelude.{◌≡◌, ℕ, zero, suc, Bool, true, false, List, [], ◌∷◌, length, Option, Some, None, Result}
 use Rattle.std.specs.Prelude.{Ok, Err, ◌==◌, if◌then◌else◌, ◌⊎◌}
 use Rattle.std.proofs.Common.{inl, inr}
 use Rattle.fcl_syntax.specs.declared.fault.Fault.{Fault}
 use Rattle.fcl_syntax.specs.declared.fault.Kind.TheVariants.{Deep, Unsupported}
+use Rattle.fcl_syntax.specs.declared.terms.Sign.{Sign}
+use Rattle.fcl_syntax.specs.declared.terms.Sign.TheVariants as sign
 use Rattle.fcl_syntax.specs.declared.token.Amount.TheVariants as amount
 use Rattle.fcl_syntax.specs.declared.token.Keyword.{Keyword}
 use Rattle.fcl_syntax.specs.declared.token.Keyword.TheVariants as key
@@ -138,17 +141,29 @@ direction_at ts = one_at direction_want ts
 
 -- ---- numbers
 
+unfoldable pub sign_at : List Token → Read Sign
+sign_at ts = cond_read (starts (class_of tok.Plus ∷ []) ts) (do
+  x ← expect_at tok.Plus ts
+  Ok (sign.Plus, x.1)) (cond_read (starts (class_of tok.Minus ∷ []) ts) (do
+    x ← expect_at tok.Minus ts
+    Ok (sign.Minus, x.1)) (Ok (sign.Bare, ts)))
+
+abbrev pub signed : {A : Type 0} → Sign → A → TSigned A A
+signed sign.Plus n = plus n
+signed sign.Minus n = minus n
+signed sign.Bare n = bare n
+
+abbrev pub behind_sign : {A B : Type 0} → (List Token → Read A) → (List Token → Read B) → Sign → List Token
+    → Read (TSigned A B)
+behind_sign f g sign.Plus ts = f ts >>= λ n. Ok (plus n.0, n.1)
+behind_sign f g sign.Minus ts = g ts >>= λ n. Ok (minus n.0, n.1)
+behind_sign f g sign.Bare ts = f ts >>= λ n. Ok (bare n.0, n.1)
+
 unfoldable pub signed_at : {A B : Type 0} → (List Token → Read A) → (List Token → Read B) → List Token
     → Read (TSigned A B)
-signed_at f g ts = cond_read (starts (class_of tok.Plus ∷ []) ts) (do
-  x ← expect_at tok.Plus ts
-  n ← f x.1
-  Ok (plus n.0, n.1)) (cond_read (starts (class_of tok.Minus ∷ []) ts) (do
-    x ← expect_at tok.Minus ts
-    n ← g x.1
-    Ok (minus n.0, n.1)) (do
-      n ← f ts
-      Ok (bare n.0, n.1)))
+signed_at f g ts = do
+  s ← sign_at ts
+  behind_sign f g s.0 s.1
 
 abbrev pub signed_number_at : List Token → Read TSignedNumber
 signed_number_at = signed_at number_at number_at
@@ -391,29 +406,26 @@ operand_at ts = do
     t ← name_at n.1
     Ok (is v.0 i.0 n.0 t.0, t.1))
 
-unfoldable pub conjunct_in : (List Token → Read TNot) → List Token → Read (ℕ × TNot)
-conjunct_in inner ts = do
-  x ← key_at key.And ts
+-- a keyword, and what is behind it
+unfoldable pub behind_key_in : {A : Type 0} → Keyword → (List Token → Read A) → List Token → Read (ℕ × A)
+behind_key_in k inner ts = do
+  x ← key_at k ts
   t ← inner x.1
   Ok ((x.0, t.0), t.1)
 
-unfoldable pub and_in : (List Token → Read TNot) → List Token → Read TAnd
-and_in inner ts = do
+-- one, and more of them, each behind the keyword
+unfoldable pub joined_in : {A W : Type 0} → Keyword → (List Token → Read A) → (A → List (ℕ × A) → W) → List Token
+    → Read W
+joined_in k inner whole ts = do
   t ← inner ts
-  more ← loop (keyword_class key.And ∷ []) (conjunct_in inner) (length t.1) t.1
-  Ok (and_of t.0 (nots_of more.0), more.1)
+  more ← loop (keyword_class k ∷ []) (behind_key_in k inner) (length t.1) t.1
+  Ok (whole t.0 more.0, more.1)
 
-unfoldable pub alternative_in : (List Token → Read TNot) → List Token → Read (ℕ × TAnd)
-alternative_in inner ts = do
-  x ← key_at key.Or ts
-  a ← and_in inner x.1
-  Ok ((x.0, a.0), a.1)
+abbrev pub and_in : (List Token → Read TNot) → List Token → Read TAnd
+and_in inner = joined_in key.And inner (λ t ts. and_of t (nots_of ts))
 
-unfoldable pub or_in : (List Token → Read TNot) → List Token → Read TOr
-or_in inner ts = do
-  a ← and_in inner ts
-  more ← loop (keyword_class key.Or ∷ []) (alternative_in inner) (length a.1) a.1
-  Ok (or_of a.0 (ands_of more.0), more.1)
+abbrev pub or_in : (List Token → Read TNot) → List Token → Read TOr
+or_in inner = joined_in key.Or (and_in inner) (λ a items. or_of a (ands_of items))
 
 unfoldable pub neg_in : (List Token → Read TNot) → List Token → Read TNot
 neg_in inner ts = do

@@ -3,11 +3,13 @@
 ghost use Rattle.std.specs.Prelude.{◌≡◌, [], ◌∷◌, length};
 ghost use Rattle.fcl_syntax.specs.TokenClasses.{follow_classes, keyword_class, opener_classes};
 ghost use Rattle.fcl_syntax.specs.Readers.{Gives, loop, starts};
-ghost use Rattle.fcl_syntax.specs.Reading.{not_word_at, operand_at, not_at, opened_in, conjunct_in, and_in};
-ghost use Rattle.fcl_syntax.specs.Reading.{alternative_in, or_in};
+ghost use Rattle.fcl_syntax.specs.Reading.{not_word_at, operand_at, not_at, opened_in, behind_key_in, and_in};
+ghost use Rattle.fcl_syntax.specs.Reading.{or_in};
 
 use crate::fault::{Fault, Kind, ParseError};
-use crate::single::{expect, fault, is_keyword, is_next, is_open, keyword, name, open};
+use crate::single::{
+    expect, fault, is_keyword, is_next, is_open, keyword, name, open, optional_keyword,
+};
 use crate::token::{Keyword, Token};
 use crate::tree::{And, Node, Not, Operand, Or};
 use std::alloc::Global;
@@ -17,11 +19,10 @@ use std::alloc::Global;
 fn not_word(tokens: &[Token]) -> Result<(Option<u32>, &[Token]), ParseError>
     ensures { Gives (λ x. (x.0, x.1.now)) result (not_word_at tokens.now) }
 {
-    if is_keyword(tokens, Keyword::Not) {
-        let (at, rest) = keyword(tokens, Keyword::Not)?;
-        return Ok((Some(at), rest));
+    match optional_keyword(tokens, Keyword::Not) {
+        Some((at, rest)) => Ok((Some(at), rest)),
+        None => Ok((None, tokens)),
     }
-    Ok((None, tokens))
 }
 
 // Whether what may follow an operand is next.
@@ -88,8 +89,7 @@ fn not(alloc: Global, room: u8, tokens: &[Token]) -> Result<(Not, &[Token]), Par
 fn opened(alloc: Global, room: u8, tokens: &[Token]) -> Result<(Not, &[Token]), ParseError>
     ensures { Gives (λ x. (x.0, x.1.now)) result (opened_in (not_at room) tokens.now) }
 {
-    if is_keyword(tokens, Keyword::Not) {
-        let (at, rest) = keyword(tokens, Keyword::Not)?;
+    if let Some((at, rest)) = optional_keyword(tokens, Keyword::Not) {
         let (part, rest) = not(alloc, room, rest)?;
         let part = Box::new(alloc, part)?;
         return Ok((
@@ -112,36 +112,26 @@ fn opened(alloc: Global, room: u8, tokens: &[Token]) -> Result<(Not, &[Token]), 
 }
 
 #[cycle(condition)]
-#[tactic(auto, unfolding(crate::specs::Reading::conjunct_in))]
-fn conjunct(alloc: Global, room: u8, tokens: &[Token]) -> Result<((u32, Not), &[Token]), ParseError>
-    ensures { Gives (λ x. (x.0, x.1.now)) result (conjunct_in (not_at room) tokens.now) }
-{
-    let (at, rest) = keyword(tokens, Keyword::And)?;
-    let (not, rest) = not(alloc, room, rest)?;
-    Ok(((at, not), rest))
-}
-
-#[cycle(condition)]
 fn conjuncts(
     alloc: Global,
     room: u8,
     tokens: &[Token],
 ) -> Result<(Vec<(u32, Not)>, &[Token]), ParseError>
     ensures { Gives (λ x. (x.0.items, x.1.now)) result
-        (loop (keyword_class Keyword.And ∷ []) (conjunct_in (not_at room)) (length tokens.now) tokens.now) }
+        (loop (keyword_class Keyword.And ∷ []) (behind_key_in Keyword.And (not_at room)) (length tokens.now) tokens.now) }
 {
     let mut more = Vec::new(alloc);
     let mut rest = tokens;
-    'each: while is_keyword(rest, Keyword::And) {
-        let (next, after) = conjunct(alloc, room, rest)?;
-        more.push(next)?;
+    'each: while let Some((at, after)) = optional_keyword(rest, Keyword::And) {
+        let (part, after) = not(alloc, room, after)?;
+        more.push((at, part))?;
         rest = after;
     }
     Ok((more, rest))
 }
 
 #[cycle(condition)]
-#[tactic(auto, unfolding(crate::specs::Reading::and_in))]
+#[tactic(auto, unfolding(crate::specs::Reading::joined_in))]
 fn and(alloc: Global, room: u8, tokens: &[Token]) -> Result<(And, &[Token]), ParseError>
     ensures { Gives (λ x. (x.0, x.1.now)) result (and_in (not_at room) tokens.now) }
 {
@@ -151,33 +141,20 @@ fn and(alloc: Global, room: u8, tokens: &[Token]) -> Result<(And, &[Token]), Par
 }
 
 #[cycle(condition)]
-#[tactic(auto, unfolding(crate::specs::Reading::alternative_in))]
-fn alternative(
-    alloc: Global,
-    room: u8,
-    tokens: &[Token],
-) -> Result<((u32, And), &[Token]), ParseError>
-    ensures { Gives (λ x. (x.0, x.1.now)) result (alternative_in (not_at room) tokens.now) }
-{
-    let (at, rest) = keyword(tokens, Keyword::Or)?;
-    let (and, rest) = and(alloc, room, rest)?;
-    Ok(((at, and), rest))
-}
-
-#[cycle(condition)]
 fn alternatives(
     alloc: Global,
     room: u8,
     tokens: &[Token],
 ) -> Result<(Vec<(u32, And)>, &[Token]), ParseError>
     ensures { Gives (λ x. (x.0.items, x.1.now)) result
-        (loop (keyword_class Keyword.Or ∷ []) (alternative_in (not_at room)) (length tokens.now) tokens.now) }
+        (loop (keyword_class Keyword.Or ∷ []) (behind_key_in Keyword.Or (and_in (not_at room))) (length tokens.now)
+        tokens.now) }
 {
     let mut more = Vec::new(alloc);
     let mut rest = tokens;
-    'each: while is_keyword(rest, Keyword::Or) {
-        let (next, after) = alternative(alloc, room, rest)?;
-        more.push(next)?;
+    'each: while let Some((at, after)) = optional_keyword(rest, Keyword::Or) {
+        let (part, after) = and(alloc, room, after)?;
+        more.push((at, part))?;
         rest = after;
     }
     Ok((more, rest))
@@ -185,7 +162,7 @@ fn alternatives(
 
 /// A condition, where `room` more "(" and NOT may be open.
 #[cycle(condition)]
-#[tactic(auto, unfolding(crate::specs::Reading::or_in))]
+#[tactic(auto, unfolding(crate::specs::Reading::joined_in))]
 pub fn or(alloc: Global, room: u8, tokens: &[Token]) -> Result<(Or, &[Token]), ParseError>
     ensures { Gives (λ x. (x.0, x.1.now)) result (or_in (not_at room) tokens.now) }
 {

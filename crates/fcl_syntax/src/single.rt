@@ -1,10 +1,10 @@
 //! Single tokens: whether one is next, and what is behind it.
 
-ghost use Rattle.std.specs.Prelude.{◌≡◌, [], ◌∷◌, length};
+ghost use Rattle.std.specs.Prelude.{◌≡◌, ◌==◌, [], ◌∷◌, length, is_some, option_map};
 ghost use Rattle.fcl_syntax.specs.TokenClasses.{mem, class_of, keyword_class, word_class, name_classes, number_classes};
 ghost use Rattle.fcl_syntax.specs.TokenClasses.{signed_classes, other_type_classes, beyond_unit_classes};
 ghost use Rattle.fcl_syntax.specs.TokenClasses.{beyond_zero_classes, open_classes};
-ghost use Rattle.fcl_syntax.specs.Readers.{Gives, starts};
+ghost use Rattle.fcl_syntax.specs.Readers.{Gives, or_expected, starts};
 ghost use Rattle.fcl_syntax.specs.Reading.{IsBare, unit, expect_at, key_at, word_at, open_at, name_at, number_at};
 ghost use Rattle.fcl_syntax.specs.Reading.{unit_number_at, zero_number_at, label_at, direction_at};
 
@@ -21,14 +21,27 @@ pub fn fault(kind: Kind, tokens: &[Token]) -> ParseError
     })
 }
 
+/// What is behind this token, where it is next.
 #[tactic(auto, unfolding(crate::specs::Reading::expect_at))]
+pub fn optional(tokens: &[Token], token: Token) -> Option<&[Token]>
+    requires { IsBare token }
+    ensures next { is_some result ≡ starts (class_of token ∷ []) tokens.now }
+    ensures read { expect_at token tokens.now ≡
+        or_expected tokens.now (option_map (λ rest. (unit, rest.now)) result) }
+{
+    match tokens {
+        [first, rest @ ..] if *first == token => Some(rest),
+        _ => None,
+    }
+}
+
 pub fn expect(tokens: &[Token], token: Token) -> Result<&[Token], ParseError>
     requires { IsBare token }
     ensures { Gives (λ x. (unit, x.now)) result (expect_at token tokens.now) }
 {
-    match tokens {
-        [first, rest @ ..] if *first == token => Ok(rest),
-        _ => Err(fault(Kind::Expected, tokens)),
+    match optional(tokens, token) {
+        Some(rest) => Ok(rest),
+        None => Err(fault(Kind::Expected, tokens)),
     }
 }
 
@@ -36,35 +49,42 @@ pub fn is_next(tokens: &[Token], token: Token) -> bool
     requires { IsBare token }
     ensures { result ≡ starts (class_of token ∷ []) tokens.now }
 {
-    match tokens {
-        [first, ..] => *first == token,
-        [] => false,
-    }
-}
-
-#[tactic(auto, unfolding(crate::specs::Reading::key_at))]
-pub fn keyword(tokens: &[Token], wanted: Keyword) -> Result<(u32, &[Token]), ParseError>
-    ensures { Gives (λ x. (x.0, x.1.now)) result (key_at wanted tokens.now) }
-{
-    match tokens {
-        [Token::Word(at, word), rest @ ..] if *word == wanted => Ok((*at, rest)),
-        _ => Err(fault(Kind::Expected, tokens)),
-    }
+    optional(tokens, token).is_some()
 }
 
 fn same_keyword(word: Keyword, wanted: Keyword) -> bool
-    ensures { result ≡ mem (keyword_class word) (keyword_class wanted ∷ []) }
+    ensures same { result ≡ (keyword_class word == keyword_class wanted) }
+    ensures among { result ≡ mem (keyword_class word) (keyword_class wanted ∷ []) }
 {
     word == wanted
+}
+
+/// The place of this keyword and what is behind it, where it is next.
+#[tactic(auto, unfolding(crate::specs::Reading::key_at))]
+pub fn optional_keyword(tokens: &[Token], wanted: Keyword) -> Option<(u32, &[Token])>
+    ensures next { is_some result ≡ starts (keyword_class wanted ∷ []) tokens.now }
+    ensures read { key_at wanted tokens.now ≡
+        or_expected tokens.now (option_map (λ x. (x.0, x.1.now)) result) }
+{
+    match tokens {
+        [Token::Word(at, word), rest @ ..] if same_keyword(*word, wanted) => Some((*at, rest)),
+        _ => None,
+    }
+}
+
+pub fn keyword(tokens: &[Token], wanted: Keyword) -> Result<(u32, &[Token]), ParseError>
+    ensures { Gives (λ x. (x.0, x.1.now)) result (key_at wanted tokens.now) }
+{
+    match optional_keyword(tokens, wanted) {
+        Some(found) => Ok(found),
+        None => Err(fault(Kind::Expected, tokens)),
+    }
 }
 
 pub fn is_keyword(tokens: &[Token], wanted: Keyword) -> bool
     ensures { result ≡ starts (keyword_class wanted ∷ []) tokens.now }
 {
-    match tokens {
-        [Token::Word(_, word), ..] => same_keyword(*word, wanted),
-        _ => false,
-    }
+    optional_keyword(tokens, wanted).is_some()
 }
 
 #[tactic(auto, unfolding(crate::specs::Reading::word_at))]

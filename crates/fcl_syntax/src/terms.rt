@@ -1,12 +1,12 @@
 //! FUZZIFY and DEFUZZIFY.
 
-ghost use Rattle.std.specs.Prelude.{◌≡◌, ◌⊎◌, [], ◌∷◌, map};
+ghost use Rattle.std.specs.Prelude.{◌≡◌, ◌⊎◌, [], ◌∷◌, map, Ok};
 ghost use Rattle.std.proofs.Common.{inl, inr};
 ghost use Rattle.fcl_syntax.specs.TokenClasses.{open_classes, fuzzy_line_classes, defuzzy_line_classes, part_classes};
 ghost use Rattle.fcl_syntax.specs.TokenClasses.{word_class};
 ghost use Rattle.fcl_syntax.specs.Grammar.{TPoint, TTerm, TRange, TDefuzzyLine, TPart};
 ghost use Rattle.fcl_syntax.specs.Readers.{Gives};
-ghost use Rattle.fcl_syntax.specs.Reading.{signed_number_at, coordinate_number_at, coordinate_at, unit_at, zero_at};
+ghost use Rattle.fcl_syntax.specs.Reading.{sign_at, signed, signed_number_at, coordinate_number_at, coordinate_at, unit_at, zero_at};
 ghost use Rattle.fcl_syntax.specs.Reading.{degree_at, point_at, some_points_at, points_at, term_at, opening_at};
 ghost use Rattle.fcl_syntax.specs.Reading.{range_at, fuzzy_line_at, fuzzify_at, choice_at, setting_at, accu_at};
 ghost use Rattle.fcl_syntax.specs.Reading.{method_at, singleton_value_at, singleton_at, fallback_value_at, fallback_at};
@@ -18,8 +18,8 @@ ghost use Rattle.fcl_syntax.specs.View.{view_value, view_fallback, view_defuzzy_
 use crate::fault::{Kind, ParseError};
 use crate::repeated::{Repeated, many};
 use crate::single::{
-    expect, fault, is_beyond_unit, is_beyond_zero, is_keyword, is_name, is_next, is_open,
-    is_signed, is_word, keyword, name, number, open, unit_number, word, zero_number,
+    expect, fault, is_beyond_unit, is_beyond_zero, is_keyword, is_name, is_open, is_signed,
+    is_word, keyword, name, number, open, optional, unit_number, word, zero_number,
 };
 use crate::token::{Keyword, Token, Word};
 use crate::tree::{
@@ -31,22 +31,46 @@ use std::alloc::Global;
 
 // ---- numbers
 
-#[tactic(auto, unfolding(crate::specs::Reading::signed_at))]
+// The sign of a number.
+#[derive(Clone, Copy)]
+enum Sign {
+    Plus,
+    Minus,
+    Bare,
+}
+
+// The sign that is next, and what is behind it.
+#[tactic(auto, unfolding(crate::specs::Reading::sign_at))]
+fn next_sign(tokens: &[Token]) -> (Sign, &[Token])
+    ensures { sign_at tokens.now ≡ Ok (result.0, result.1.now) }
+{
+    if let Some(rest) = optional(tokens, Token::Plus) {
+        return (Sign::Plus, rest);
+    }
+    if let Some(rest) = optional(tokens, Token::Minus) {
+        return (Sign::Minus, rest);
+    }
+    (Sign::Bare, tokens)
+}
+
+fn signed(sign: Sign, number: Number) -> SignedNumber
+    ensures number { view_signed_number result ≡ signed sign number }
+    ensures coordinate { view_coordinate result ≡ signed sign (inr number) }
+{
+    match sign {
+        Sign::Plus => SignedNumber::Plus(number),
+        Sign::Minus => SignedNumber::Minus(number),
+        Sign::Bare => SignedNumber::Bare(number),
+    }
+}
+
+#[tactic(auto, unfolding(crate::specs::Reading::signed_at), using(crate::proofs::Forms::behind_sign_alike))]
 pub fn signed_number(tokens: &[Token]) -> Result<(SignedNumber, &[Token]), ParseError>
     ensures { Gives (λ x. (view_signed_number x.0, x.1.now)) result (signed_number_at tokens.now) }
 {
-    if is_next(tokens, Token::Plus) {
-        let rest = expect(tokens, Token::Plus)?;
-        let (number, rest) = number(rest)?;
-        return Ok((SignedNumber::Plus(number), rest));
-    }
-    if is_next(tokens, Token::Minus) {
-        let rest = expect(tokens, Token::Minus)?;
-        let (number, rest) = number(rest)?;
-        return Ok((SignedNumber::Minus(number), rest));
-    }
-    let (number, rest) = number(tokens)?;
-    Ok((SignedNumber::Bare(number), rest))
+    let (sign, rest) = next_sign(tokens);
+    let (number, rest) = number(rest)?;
+    Ok((signed(sign, number), rest))
 }
 
 // A number of a point, where a name is refused.
@@ -60,22 +84,13 @@ fn coordinate_number(tokens: &[Token]) -> Result<(Number, &[Token]), ParseError>
     number(tokens)
 }
 
-#[tactic(auto, unfolding(crate::specs::Reading::signed_at))]
+#[tactic(auto, unfolding(crate::specs::Reading::signed_at), using(crate::proofs::Forms::behind_sign_alike))]
 fn coordinate(tokens: &[Token]) -> Result<(SignedNumber, &[Token]), ParseError>
     ensures { Gives (λ x. (view_coordinate x.0, x.1.now)) result (coordinate_at tokens.now) }
 {
-    if is_next(tokens, Token::Plus) {
-        let rest = expect(tokens, Token::Plus)?;
-        let (number, rest) = coordinate_number(rest)?;
-        return Ok((SignedNumber::Plus(number), rest));
-    }
-    if is_next(tokens, Token::Minus) {
-        let rest = expect(tokens, Token::Minus)?;
-        let (number, rest) = coordinate_number(rest)?;
-        return Ok((SignedNumber::Minus(number), rest));
-    }
-    let (number, rest) = coordinate_number(tokens)?;
-    Ok((SignedNumber::Bare(number), rest))
+    let (sign, rest) = next_sign(tokens);
+    let (number, rest) = coordinate_number(rest)?;
+    Ok((signed(sign, number), rest))
 }
 
 // 0 or 1, where a name and another number are refused.
@@ -110,18 +125,20 @@ fn zero(tokens: &[Token]) -> Result<(ZeroNumber, &[Token]), ParseError>
 fn degree(tokens: &[Token]) -> Result<(Degree, &[Token]), ParseError>
     ensures { Gives (λ x. (view_degree x.0, x.1.now)) result (degree_at tokens.now) }
 {
-    if is_next(tokens, Token::Plus) {
-        let rest = expect(tokens, Token::Plus)?;
-        let (number, rest) = zero_or_one(rest)?;
-        return Ok((Degree::Plus(number), rest));
+    match next_sign(tokens) {
+        (Sign::Plus, rest) => {
+            let (number, rest) = zero_or_one(rest)?;
+            Ok((Degree::Plus(number), rest))
+        }
+        (Sign::Minus, rest) => {
+            let (number, rest) = zero(rest)?;
+            Ok((Degree::Minus(number), rest))
+        }
+        (Sign::Bare, rest) => {
+            let (number, rest) = zero_or_one(rest)?;
+            Ok((Degree::Bare(number), rest))
+        }
     }
-    if is_next(tokens, Token::Minus) {
-        let rest = expect(tokens, Token::Minus)?;
-        let (number, rest) = zero(rest)?;
-        return Ok((Degree::Minus(number), rest));
-    }
-    let (number, rest) = zero_or_one(tokens)?;
-    Ok((Degree::Bare(number), rest))
 }
 
 // ---- terms of an input
@@ -207,8 +224,7 @@ fn term(alloc: Global, tokens: &[Token]) -> Result<(Term, &[Token]), ParseError>
 fn opening(tokens: &[Token]) -> Result<((bool, u32), &[Token]), ParseError>
     ensures { Gives (λ x. (x.0, x.1.now)) result (opening_at tokens.now) }
 {
-    if is_next(tokens, Token::Assign) {
-        let rest = expect(tokens, Token::Assign)?;
+    if let Some(rest) = optional(tokens, Token::Assign) {
         let (at, rest) = open(rest)?;
         return Ok(((true, at), rest));
     }

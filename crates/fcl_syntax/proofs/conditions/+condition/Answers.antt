@@ -1,37 +1,61 @@
-use Rattle.std.proofs.Common.{[], ◌∷◌, refl, sym, ◌∙◌}
+use Rattle.std.proofs.Common.{◌≡◌, [], ◌∷◌, Err, rules, refl, sym, ◌∙◌}
 use Rattle.fcl_syntax.specs.declared.token.Keyword.TheVariants as key
-use Rattle.fcl_syntax.specs.Reading.{not_at, conjunct_in, alternative_in}
-use Rattle.fcl_syntax.proofs.Run.{goes_on, shorter_by}
-use Rattle.fcl_syntax.proofs.Rooms.{not_at-leaf, not_at-deep, not_at-opened}
-use Rattle.fcl_syntax.proofs.ConditionForms.{part, conjunct_form, alternative_form}
-use Rattle.fcl_syntax.proofs.conditions.+condition.Goals as goal
 use Rattle.fcl_syntax.specs.TokenClasses.{keyword_class}
-
-pub alternatives-each-smaller : goal.alternatives-each-smaller
-alternatives-each-smaller t c =
-    shorter_by (alternative_form c.args.room (part c.args.room)) (alternative_in (not_at c.args.room))
-    (λ ts. refl) c.each.rest.now
-    c.in_ok-next.next c.in_ok-next.after.now c.in_ok-next.ensures
-
-pub alternatives-each-preserved : goal.alternatives-each-preserved
-alternatives-each-preserved t c =
-    rw c.in_ok-push.ensures.items
-    (goes_on (keyword_class key.Or ∷ []) (alternative_in (not_at c.args.room)) c.each.more.items c.each.rest.now
-    c.in_ok-next.next c.in_ok-next.after.now _ (sym c.each-test.ensures) c.in_ok-next.ensures
-    (alternatives-each-smaller t c) c.each.invariant)
+use Rattle.fcl_syntax.specs.Reading.{and_in, behind_key_in, not_at}
+use Rattle.fcl_syntax.proofs.ConditionForms.{part, conjunct_form, alternative_form}
+use Rattle.fcl_syntax.proofs.Rooms.{behind_key-Ok, behind_key-Err, not_at-leaf, not_at-deep, not_at-opened}
+use Rattle.fcl_syntax.proofs.Run.{fails_in, goes_on, shorter_by}
+use Rattle.fcl_syntax.proofs.conditions.+condition.Goals as goal
 
 pub conjuncts-each-smaller : goal.conjuncts-each-smaller
 conjuncts-each-smaller t c =
-    shorter_by (conjunct_form c.args.room (part c.args.room)) (conjunct_in (not_at c.args.room))
-    (λ ts. refl) c.each.rest.now
-    c.in_ok-next.next c.in_ok-next.after.now c.in_ok-next.ensures
+    shorter_by (conjunct_form c.args.room (part c.args.room)) (behind_key_in key.And (not_at c.args.room)) (λ ts. refl) c.each.rest.now
+    (c.in-Some.at, c.in_ok-part.part) c.in_ok-part.after.now
+    (behind_key-Ok key.And (not_at c.args.room) c.each.rest.now c.in-Some.at c.in-Some.after.now c.in-Some.ensures.read
+    c.in_ok-part.part c.in_ok-part.after.now c.in_ok-part.ensures)
 
 pub conjuncts-each-preserved : goal.conjuncts-each-preserved
 conjuncts-each-preserved t c =
     rw c.in_ok-push.ensures.items
-    (goes_on (keyword_class key.And ∷ []) (conjunct_in (not_at c.args.room)) c.each.more.items c.each.rest.now
-    c.in_ok-next.next c.in_ok-next.after.now _ (sym c.each-test.ensures) c.in_ok-next.ensures
+    (goes_on (keyword_class key.And ∷ []) (behind_key_in key.And (not_at c.args.room)) c.each.more.items c.each.rest.now
+    (c.in-Some.at, c.in_ok-part.part) c.in_ok-part.after.now _ (sym c.in-Some.ensures.next)
+    (behind_key-Ok key.And (not_at c.args.room) c.each.rest.now c.in-Some.at c.in-Some.after.now c.in-Some.ensures.read
+    c.in_ok-part.part c.in_ok-part.after.now c.in_ok-part.ensures)
     (conjuncts-each-smaller t c) c.each.invariant)
+
+pub conjuncts-returns-in_err-part : goal.conjuncts-returns-in_err-part
+conjuncts-returns-in_err-part t c =
+    let passed : c.from_residual.result ≡ Err c.in_err-part.field-0.0 = search rules in
+    rw passed
+    (fails_in (keyword_class key.And ∷ []) (behind_key_in key.And (not_at c.args.room)) c.each.more.items c.each.rest.now
+    c.in_err-part.field-0.0 _ (sym c.in-Some.ensures.next)
+    (behind_key-Err key.And (not_at c.args.room) c.each.rest.now c.in-Some.at c.in-Some.after.now c.in-Some.ensures.read
+    c.in_err-part.field-0.0 c.in_err-part.ensures) c.each.invariant)
+
+pub alternatives-each-smaller : goal.alternatives-each-smaller
+alternatives-each-smaller t c =
+    shorter_by (alternative_form c.args.room (part c.args.room)) (behind_key_in key.Or (and_in (not_at c.args.room))) (λ ts. refl) c.each.rest.now
+    (c.in-Some.at, c.in_ok-part.part) c.in_ok-part.after.now
+    (behind_key-Ok key.Or (and_in (not_at c.args.room)) c.each.rest.now c.in-Some.at c.in-Some.after.now c.in-Some.ensures.read
+    c.in_ok-part.part c.in_ok-part.after.now c.in_ok-part.ensures)
+
+pub alternatives-each-preserved : goal.alternatives-each-preserved
+alternatives-each-preserved t c =
+    rw c.in_ok-push.ensures.items
+    (goes_on (keyword_class key.Or ∷ []) (behind_key_in key.Or (and_in (not_at c.args.room))) c.each.more.items c.each.rest.now
+    (c.in-Some.at, c.in_ok-part.part) c.in_ok-part.after.now _ (sym c.in-Some.ensures.next)
+    (behind_key-Ok key.Or (and_in (not_at c.args.room)) c.each.rest.now c.in-Some.at c.in-Some.after.now c.in-Some.ensures.read
+    c.in_ok-part.part c.in_ok-part.after.now c.in_ok-part.ensures)
+    (alternatives-each-smaller t c) c.each.invariant)
+
+pub alternatives-returns-in_err-part : goal.alternatives-returns-in_err-part
+alternatives-returns-in_err-part t c =
+    let passed : c.from_residual.result ≡ Err c.in_err-part.field-0.0 = search rules in
+    rw passed
+    (fails_in (keyword_class key.Or ∷ []) (behind_key_in key.Or (and_in (not_at c.args.room))) c.each.more.items c.each.rest.now
+    c.in_err-part.field-0.0 _ (sym c.in-Some.ensures.next)
+    (behind_key-Err key.Or (and_in (not_at c.args.room)) c.each.rest.now c.in-Some.at c.in-Some.after.now c.in-Some.ensures.read
+    c.in_err-part.field-0.0 c.in_err-part.ensures) c.each.invariant)
 
 pub not-returns-then-not-is_opener : goal.not-returns-then-not-is_opener
 not-returns-then-not-is_opener t c =
