@@ -1,13 +1,14 @@
 -- A certificate that a block accepts is not refused.
-use Rattle.std.proofs.Common.{◌≡◌, ◌≢◌, ◌≤◌, ℕ, List, sym, subst, arith}
+use Rattle.std.proofs.Common.{◌≡◌, ◌≢◌, ℕ, List, sym, subst}
 use Rattle.std.specs.Prelude.{Result, Ok, Err, IfOk, IfErr}
 use Rattle.std.specs.Global.{Vec}
 use Rattle.fuzzy_meaning.specs.declared.block.Block.{Block}
 use Rattle.eval_code.specs.Widths.{parts}
 use Rattle.eval_code.specs.declared.width.Width.{Width}
-use Rattle.eval_code.specs.declared.width.Width.TheVariants.{Byte, Word}
 use Rattle.box_tree.specs.Certificates.{HasFault, bad_version, no_version, bad_claims, no_claims, bad_node, left_open}
 use Rattle.box_tree.specs.Certificates.{late, many_leaves}
+use Rattle.box_tree.specs.declared.cert.AnswerWidth.{AnswerWidth}
+use Rattle.box_tree.specs.declared.cert.CertKind.TheVariants.{Named}
 use Rattle.box_tree.specs.declared.cert.CertFault.{CertFault}
 use Rattle.box_tree.specs.declared.cert.CertFault.TheVariants as cert
 use Rattle.box_tree.specs.declared.cert.Cert.{Cert}
@@ -22,22 +23,18 @@ use Rattle.cert_check.specs.Faults.{IsPairFault, bad_rule, fails, HasTreeFault, 
 use Rattle.cert_check.specs.Faults.{outputs, tree, claimed}
 use Rattle.cert_check.specs.Laws.{TextAnswersAreOne}
 use Rattle.cert_check.specs.TextFaults.{HasTextFault, of_text, of_cert}
-use Rattle.build_commands.specs.Certs.{AcceptedCertsHaveNoFault, HasCertFault, cert_refusals, version, status_of}
+use Rattle.build_commands.specs.Certs.{AcceptedCertsHaveNoFault, HasCertFault, answer_width, cert_refusals, status_of}
 use Rattle.fz_status.specs.Refusals.{IsRefusal}
 use Rattle.fz_status.specs.declared.status.CertRefusal.{CertRefusal}
 use Rattle.fz_status.specs.declared.status.CertRefusal.TheVariants as told
 use Rattle.fz_status.specs.declared.status.Status.{Status}
-
-few_versions : (width : Width) → version width ≤ 2
-few_versions Byte = omega arith
-few_versions Word = omega arith
 
 abbrev refusal_of : CertRefusal → TheRefusal
 refusal_of (told.Text f) = refusal.Text f
 refusal_of (told.Check f) = refusal.Check f
 
 has_refusal : (width : Width) (block : Block) (text : List ℕ) (f : CertRefusal) → HasCertFault width block text f
-    → HasTextFault block (parts width) (version width) text (refusal_of f)
+    → HasTextFault block (parts width) (answer_width width) text (refusal_of f)
 has_refusal width block text (told.Text f) h = h
 has_refusal width block text (told.Check f) h = h
 
@@ -45,13 +42,13 @@ pub certs_apart : TextAnswersAreOne → AcceptedCertsHaveNoFault
 certs_apart answers width block text errors f valid accepts fault =
     let refused = has_refusal width block text f fault in
     let same : Ok errors ≡ Err (refusal_of f) =
-    answers block (parts width) (version width) text (Ok errors) (Err (refusal_of f)) valid
-    (few_versions width) accepts refused in
+    answers block (parts width) (answer_width width) text (Ok errors) (Err (refusal_of f)) valid
+    accepts refused in
     cc
 
 -- ---- a refusal is no want of memory
 
-text_carries : (v : ℕ) (text : List ℕ) (f : CertFault) → HasFault v text f → f ≢ cert.Memory
+text_carries : (v : AnswerWidth) (text : List ℕ) (f : CertFault) → HasFault Named v text f → f ≢ cert.Memory
 text_carries v text _ (bad_version some none) e = cc
 text_carries v text _ (no_version none) e = cc
 text_carries v text _ (bad_claims rest is none) e = cc
@@ -83,27 +80,27 @@ as_errors P answer (Err s) same h = tt
 as_errors P answer (Ok es) same h = subst (λ a. IfOk a (λ fs. P fs.items)) same h
 
 as_refusal : (width : Width) (block : Block) (text : List ℕ) (r : TheRefusal)
-    → (r ≢ refusal.Memory → HasTextFault block (parts width) (version width) text r)
+    → (r ≢ refusal.Memory → HasTextFault block (parts width) (answer_width width) text r)
     → IsRefusal (cert_refusals width block text) (status_of r)
 as_refusal width block text refusal.Memory h = tt
 as_refusal width block text (refusal.Text f) h = let is = h (λ e. let z : ⊥ = cc in z) in (text_is is, is)
   where
-    text_is : HasTextFault block (parts width) (version width) text (refusal.Text f) → f ≢ cert.Memory
-    text_is (of_text g fault) = text_carries (version width) text g fault
+    text_is : HasTextFault block (parts width) (answer_width width) text (refusal.Text f) → f ≢ cert.Memory
+    text_is (of_text g fault) = text_carries (answer_width width) text g fault
 as_refusal width block text (refusal.Check f) h = let is = h (λ e. let z : ⊥ = cc in z) in (check_is is, is)
   where
-    check_is : HasTextFault block (parts width) (version width) text (refusal.Check f) → f ≢ check.Memory
+    check_is : HasTextFault block (parts width) (answer_width width) text (refusal.Check f) → f ≢ check.Memory
     check_is (of_cert c g spelled fault) = check_carries block (parts width) c g fault
 
 pub as_status : (width w : Width) (block : Block) (text : List ℕ) (answer : Result (Vec ℕ) TheRefusal)
     (result : Result (Vec ℕ) Status) → w ≡ width
     → IfErr result (λ s. (r : TheRefusal) × (answer ≡ Err r) × (s ≡ status_of r))
-    → IfErr answer (λ r. r ≢ refusal.Memory → HasTextFault block (parts width) (version width) text r)
+    → IfErr answer (λ r. r ≢ refusal.Memory → HasTextFault block (parts width) (answer_width width) text r)
     → IfErr result (IsRefusal (cert_refusals w block text))
 as_status width w block text answer (Ok es) at same h = tt
 as_status width w block text answer (Err s) at (r, is, told) h =
     subst (λ v. IsRefusal (cert_refusals v block text) s) (sym at)
     (subst (λ x. IsRefusal (cert_refusals width block text) x) (sym told)
     (as_refusal width block text r
-    (subst (λ a. IfErr a (λ q. q ≢ refusal.Memory → HasTextFault block (parts width) (version width) text q)) is
+    (subst (λ a. IfErr a (λ q. q ≢ refusal.Memory → HasTextFault block (parts width) (answer_width width) text q)) is
     h)))

@@ -7,6 +7,7 @@ use Rattle.codegen.specs.declared.firmware.Firmware.{Firmware}
 use Rattle.eval_code.specs.declared.width.Width.{Width}
 use Rattle.box_tree.specs.Certificates.{CertText}
 use Rattle.box_tree.specs.Trees.{leaf_count}
+use Rattle.box_tree.specs.declared.cert.CertKind.TheVariants.{Named}
 use Rattle.box_tree.specs.declared.cert.Cert.{Cert}
 use Rattle.error_certifier.specs.Halving.{IsHalving, StopsAt}
 use Rattle.error_certifier.specs.Laws.{SaysOutOfReach}
@@ -15,7 +16,7 @@ use Rattle.fz_status.specs.Refusals.{Refusals, Refuses}
 use Rattle.fz_status.specs.Words.{Text, word_at}
 use Rattle.fz_status.specs.declared.status.Status.{Status}
 use Rattle.fz_status.specs.declared.status.Status.TheVariants as status
-use Rattle.build_commands.specs.Certs.{version}
+use Rattle.build_commands.specs.Certs.{answer_width}
 use Rattle.build_commands.specs.SeenOutputs.{SeenOutput}
 use Rattle.build_commands.specs.Firmwares.{GivesFirmware, RefusesText}
 use Rattle.build_commands.specs.Lines.{counted, error_line, line}
@@ -50,7 +51,7 @@ pub record CertifyGives (certify : Certify) (text : List ℕ) (output : SeenOutp
   pub halving : IsHalving block (parts certify.width) certify.target cert
   pub within : All (λ error. error ≤ certify.target) cert.claims
   pub out : List ℕ
-  pub spelled : CertText (version certify.width) out cert
+  pub spelled : CertText Named (answer_width certify.width) out cert
   pub output_is : output ≡ record { text = certify_lines cert.claims (leaf_count cert.nodes); file = Some (4, out) }
 
 -- halving stops so, and for a cell no certificate that is accepted has a smaller error

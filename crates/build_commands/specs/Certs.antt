@@ -5,6 +5,8 @@ use Rattle.fuzzy_meaning.specs.declared.block.Block.{Block}
 use Rattle.eval_code.specs.Widths.{parts}
 use Rattle.eval_code.specs.declared.width.Width.{Width}
 use Rattle.eval_code.specs.declared.width.Width.TheVariants.{Byte, Word}
+use Rattle.box_tree.specs.declared.cert.AnswerWidth.{AnswerWidth}
+use Rattle.box_tree.specs.declared.cert.AnswerWidth.TheVariants as answers
 use Rattle.cert_check.specs.TextFaults.{IsAcceptedText, HasTextFault}
 use Rattle.cert_check.specs.declared.text.TextFault.{TextFault as TheRefusal}
 use Rattle.cert_check.specs.declared.text.TextFault.TheVariants as refusal
@@ -15,19 +17,21 @@ use Rattle.fz_status.specs.declared.status.CertRefusal.TheVariants as told
 use Rattle.fz_status.specs.declared.status.Status.{Status}
 use Rattle.fz_status.specs.declared.status.Status.TheVariants as status
 
--- the version of the texts of certificates for answers of this width
-abbrev pub version : Width → ℕ
-version Byte = 1
-version Word = 2
+-- the width, as certificates have it
+abbrev pub answer_width : Width → AnswerWidth
+answer_width Byte = answers.Byte
+answer_width Word = answers.Word
 
 -- CERT is a certificate that is accepted for the block's answers of this width, with these errors
 abbrev pub AcceptsCert : Width → Block → List ℕ → List ℕ → Type 0
-AcceptsCert width block cert errors = IsAcceptedText block (parts width) (version width) cert errors
+AcceptsCert width block cert errors = IsAcceptedText block (parts width) (answer_width width) cert errors
 
 -- why the block refuses it
 abbrev pub HasCertFault : Width → Block → List ℕ → CertRefusal → Type 0
-HasCertFault width block cert (told.Text f) = HasTextFault block (parts width) (version width) cert (refusal.Text f)
-HasCertFault width block cert (told.Check f) = HasTextFault block (parts width) (version width) cert (refusal.Check f)
+HasCertFault width block cert (told.Text f) =
+    HasTextFault block (parts width) (answer_width width) cert (refusal.Text f)
+HasCertFault width block cert (told.Check f) =
+    HasTextFault block (parts width) (answer_width width) cert (refusal.Check f)
 
 abbrev pub cert_refusals : Width → Block → List ℕ → Refusals
 cert_refusals width block cert (status.Cert f) = HasCertFault width block cert f

@@ -2,13 +2,14 @@
 ghost use Rattle.std.specs.Prelude.{◌≡◌, ◌≤◌, length, All, IfOk, IfErr, List, ℕ};
 ghost use Rattle.fuzzy_meaning.specs.Blocks.{IsValid};
 ghost use Rattle.eval_code.specs.Widths.{parts};
+ghost use Rattle.box_tree.specs.declared.cert.CertKind.TheVariants.{Named};
 ghost use Rattle.box_tree.specs.Certificates.{CertText, IsCert};
 ghost use Rattle.box_tree.specs.Trees.{leaf_count};
 ghost use Rattle.error_certifier.specs.Halving.{IsHalving};
 ghost use Rattle.fz_shelf.specs.Lines.{text_of};
 ghost use Rattle.fz_status.specs.Refusals.{IsRefusal};
 ghost use Rattle.fz_status.specs.Words.{texts_of};
-ghost use Rattle.build_commands.specs.Certs.{version};
+ghost use Rattle.build_commands.specs.Certs.{answer_width};
 ghost use Rattle.build_commands.specs.Certify.{CertifyMakes, certify_in, certify_lines, target_refusals};
 ghost use Rattle.build_commands.specs.Certify.{HalvedBlocksDoNotStop};
 ghost use Rattle.build_commands.specs.SeenOutputs.{OutputHasNoFault, IsResultOf};
@@ -74,7 +75,7 @@ pub fn halved(alloc: Global, width: Width, target: u32, block: &Block) -> Result
     requires target { target ≤ 1000000 }
     ensures halving { IfOk result (IsHalving block.now (parts width) target) }
     ensures within { IfOk result (λ cert. All (λ error. error ≤ target) cert.claims) }
-    ensures cert { IfOk result IsCert }
+    ensures cert { IfOk result (IsCert Named) }
     ensures stops { IfErr result (IsRefusal (target_refusals width target block.now)) }
 {
     let answer = match width {
@@ -90,8 +91,8 @@ pub fn halved(alloc: Global, width: Width, target: u32, block: &Block) -> Result
 
 /// The text of a certificate for answers of this width.
 fn text_of_cert(alloc: Global, width: Width, cert: &Cert) -> Result<Vec<u8>, Status>
-    requires { IsCert cert.now }
-    ensures text { IfOk result (λ text. CertText (version width) text.items cert.now) }
+    requires { IsCert Named cert.now }
+    ensures text { IfOk result (λ text. CertText Named (answer_width width) text.items cert.now) }
     ensures memory { IfErr result (λ status. status ≡ Status.Memory) }
 {
     let text = match width {
@@ -116,7 +117,7 @@ fn count_of_leaves(nodes: &[Node]) -> u64
 
 /// The error of each output, and the number of leaves.
 fn lines(alloc: Global, cert: &Cert) -> Result<Vec<String>, AllocError>
-    requires { IsCert cert.now }
+    requires { IsCert Named cert.now }
     ensures { IfOk result (λ lines. text_of lines.items ≡
         certify_lines cert.now.claims (leaf_count cert.now.nodes)) }
 {

@@ -1,6 +1,11 @@
-//! Texts of both versions: the nodes of their certificates, which are written again as they were
+//! Texts of all versions: the nodes of their certificates, which are written again as they were
 //! read, or their first faults, which are told again.
-use box_tree::{CertFault, Lines, read, read16, write, write16};
+ghost use Rattle.std.specs.Prelude.{◌≤◌, length};
+
+use box_tree::{
+    CertFault, Lines, read, read_tight, read_tight16, read16, write, write_tight, write_tight16,
+    write16,
+};
 use std::alloc::{AllocError, Global};
 use std::test::Fail;
 
@@ -86,30 +91,70 @@ static ROWS: [(u8, &[u8], Told); 25] = [
     ),
 ];
 
-/// What `read` tells of a text. What it read is written the same again.
-fn read_again(alloc: Global, text: &[u8]) -> Result<Told, Fail> {
-    if text.len() > 1_048_576 {
-        return Ok(Err(CertFault::Memory));
+/// The same of tight certificates.
+static TIGHT_ROWS: [(u8, &[u8], Told); 14] = [
+    (
+        3,
+        b"FZC 3\nclaim 11724\nsplit 1 128\nsplit 1 64\ncells\nleaf\nsplit 1 192\nleaf\ncells\n",
+        Ok(7),
+    ),
+    (4, b"FZC 4\nclaim 0 7\ncells\n", Ok(1)),
+    (1, b"FZC 3\nclaim 1\nleaf\n", Err(CertFault::BadLine(1))),
+    (3, HEATER, Err(CertFault::BadLine(1))),
+    (3, b"FZC 4\nclaim 1\nleaf\n", Err(CertFault::BadLine(1))),
+    (4, b"FZC 3\nclaim 1\nleaf\n", Err(CertFault::BadLine(1))),
+    (1, b"FZC 1\nclaim 1\nleaf\n", Err(CertFault::BadLine(3))),
+    (2, b"FZC 2\nclaim 1\ncells\n", Err(CertFault::BadLine(3))),
+    (3, b"FZC 3\nclaim 1\nleaf 0 0\n", Err(CertFault::BadLine(3))),
+    (3, b"FZC 3\nclaim 1\ncells 1\n", Err(CertFault::BadLine(3))),
+    (3, b"FZC 3\nclaim 1\nleaf \n", Err(CertFault::BadLine(3))),
+    (4, b"FZC 4\nclaim 1\ncell\n", Err(CertFault::BadLine(3))),
+    (3, b"FZC 3\nclaim 1\nleaf\ncells\n", Err(CertFault::Late(4))),
+    (
+        4,
+        b"FZC 4\nclaim 1\nsplit 1 1\ncells\n",
+        Err(CertFault::Early),
+    ),
+];
+
+/// How many nodes the certificate of a text of this version has, and what is written of it, or the
+/// text's first fault.
+fn written_again(
+    alloc: Global,
+    version: u8,
+    text: &[u8],
+) -> Result<Result<(usize, Vec<u8>), CertFault>, AllocError>
+    requires { length text.now ≤ 1048576 }
+{
+    match version {
+        1 => match read(alloc, text) {
+            Ok(cert) => Ok(Ok((cert.nodes.len(), write(alloc, &cert)?))),
+            Err(fault) => Ok(Err(fault)),
+        },
+        2 => match read16(alloc, text) {
+            Ok(cert) => Ok(Ok((cert.nodes.len(), write16(alloc, &cert)?))),
+            Err(fault) => Ok(Err(fault)),
+        },
+        3 => match read_tight(alloc, text) {
+            Ok(cert) => Ok(Ok((cert.nodes.len(), write_tight(alloc, &cert)?))),
+            Err(fault) => Ok(Err(fault)),
+        },
+        _ => match read_tight16(alloc, text) {
+            Ok(cert) => Ok(Ok((cert.nodes.len(), write_tight16(alloc, &cert)?))),
+            Err(fault) => Ok(Err(fault)),
+        },
     }
-    let cert = match read(alloc, text) {
-        Ok(cert) => cert,
-        Err(fault) => return Ok(Err(fault)),
-    };
-    let again = write(alloc, &cert)?;
-    Ok(told(cert.nodes.len(), again.as_slice() == text))
 }
 
-/// The same of `read16`.
-fn read16_again(alloc: Global, text: &[u8]) -> Result<Told, Fail> {
+/// What is told of a text of this version. What is read of it is written the same again.
+fn read_again(alloc: Global, version: u8, text: &[u8]) -> Result<Told, Fail> {
     if text.len() > 1_048_576 {
         return Ok(Err(CertFault::Memory));
     }
-    let cert = match read16(alloc, text) {
-        Ok(cert) => cert,
-        Err(fault) => return Ok(Err(fault)),
-    };
-    let again = write16(alloc, &cert)?;
-    Ok(told(cert.nodes.len(), again.as_slice() == text))
+    match written_again(alloc, version, text)? {
+        Ok((nodes, again)) => Ok(told(nodes, again.as_slice() == text)),
+        Err(fault) => Ok(Err(fault)),
+    }
 }
 
 /// So many nodes, if they were written the same again.
@@ -118,6 +163,18 @@ fn told(nodes: usize, same: bool) -> Told {
         Ok(nodes)
     } else {
         Err(CertFault::Early)
+    }
+}
+
+/// The reader of a text of this version.
+fn begun(version: u8, text: &[u8]) -> Result<Lines<'_>, CertFault>
+    requires { length text.now ≤ 1048576 }
+{
+    match version {
+        1 => Lines::new(text),
+        2 => Lines::new16(text),
+        3 => Lines::new_tight(text),
+        _ => Lines::new_tight16(text),
     }
 }
 
@@ -137,28 +194,48 @@ fn walk_twice(begun: Result<Lines<'_>, CertFault>) -> Option<Told> {
     None
 }
 
+/// Whether what is told of a row's text is what the row says, read as a whole and node by node.
+fn is_told(alloc: Global, row: &(u8, &[u8], Told)) -> Result<bool, Fail> {
+    let (version, text, want) = *row;
+    if text.len() > 1_048_576 {
+        return Ok(false);
+    }
+    let whole = read_again(alloc, version, text)?;
+    Ok(whole == want && walk_twice(begun(version, text)) == Some(want))
+}
+
 #[test]
 fn a_text_has_a_certificate_or_a_first_fault(rt: HostRuntime) -> Result<(), Fail> {
-    for (version, text, want) in ROWS.iter() {
-        assert!(rt; text.len() <= 1_048_576);
-        if *version == 1 {
-            assert!(rt; read_again(rt.alloc(), text)? == *want, "{text:?}");
-            assert!(rt; walk_twice(Lines::new(text)) == Some(*want), "{text:?}");
-        } else {
-            assert!(rt; read16_again(rt.alloc(), text)? == *want, "{text:?}");
-            assert!(rt; walk_twice(Lines::new16(text)) == Some(*want), "{text:?}");
-        }
+    for row in ROWS.iter() {
+        let text = row.1;
+        assert!(rt; is_told(rt.alloc(), row)?, "{text:?}");
     }
     Ok(())
 }
 
-/// A tree with this many splits, each with a leaf to its left.
-fn comb(alloc: Global, splits: usize) -> Result<Vec<u8>, AllocError> {
-    let mut text = Vec::from_slice(alloc, b"FZC 1\nclaim 0\n")?;
-    for _ in 0..splits {
-        text.extend_from_slice(b"split 1 1\nleaf 0 0\n")?;
+#[test]
+fn a_text_has_a_tight_certificate_or_a_first_fault(rt: HostRuntime) -> Result<(), Fail> {
+    for row in TIGHT_ROWS.iter() {
+        let text = row.1;
+        assert!(rt; is_told(rt.alloc(), row)?, "{text:?}");
     }
-    text.extend_from_slice(b"leaf 0 0\n")?;
+    Ok(())
+}
+
+/// The first two lines, this many splits with a leaf to the left of each, and the last leaf.
+fn comb(
+    alloc: Global,
+    header: &[u8],
+    leaf: &[u8],
+    last: &[u8],
+    splits: usize,
+) -> Result<Vec<u8>, AllocError> {
+    let mut text = Vec::from_slice(alloc, header)?;
+    for _ in 0..splits {
+        text.extend_from_slice(b"split 1 1\n")?;
+        text.extend_from_slice(leaf)?;
+    }
+    text.extend_from_slice(last)?;
     Ok(text)
 }
 
@@ -168,8 +245,11 @@ fn a_tree_has_4096_leaves_at_most(rt: HostRuntime) -> Result<(), Fail> {
         (4095, Ok(8191)),
         (4096, Err(CertFault::TooManyLeaves(8195))),
     ] {
-        let text = comb(rt.alloc(), splits)?;
-        assert!(rt; read_again(rt.alloc(), &text)? == want);
+        let (alloc, leaf) = (rt.alloc(), b"leaf 0 0\n");
+        let named = comb(alloc, b"FZC 1\nclaim 0\n", leaf, leaf, splits)?;
+        assert!(rt; read_again(alloc, 1, &named)? == want);
+        let tight = comb(alloc, b"FZC 3\nclaim 0\n", b"leaf\n", b"cells\n", splits)?;
+        assert!(rt; read_again(alloc, 3, &tight)? == want);
     }
     Ok(())
 }

@@ -8,7 +8,7 @@ leaf_count-drop : (k : ℕ) (nodes : List Node) → leaf_count (drop k nodes) �
 leaf_count-drop zero nodes = omega arith
 leaf_count-drop (suc k) [] = omega arith
 leaf_count-drop (suc k) (Split input cut ∷ nodes) = leaf_count-drop k nodes
-leaf_count-drop (suc k) (Leaf pairs ∷ nodes) = omega (arith, leaf_count-drop k nodes)
+leaf_count-drop (suc k) (Leaf form ∷ nodes) = omega (arith, leaf_count-drop k nodes)
 
 pub overflow_add-count : goal.overflow_add-count
 overflow_add-count c =
