@@ -130,10 +130,10 @@ boxes_answer near_tight near_cells b box o x h bytes xs n q before on cells =
 -- ---- one count, one greatest Bound
 
 pub counts_one : CellCountsAreOne
-counts_one b cell o x h n m (of_bound p) (of_bound q) =
+counts_one b cell o x h n m (of_bound p _) (of_bound q _) =
     let k = p.least m q.bound in let l = q.least n p.bound in omega arith
-counts_one b cell o x h n m (of_bound p) (of_none none is) = absurd (none n p.bound)
-counts_one b cell o x h n m (of_none none is) (of_bound q) = absurd (none m q.bound)
+counts_one b cell o x h n m (of_bound p _) (of_none none is) = absurd (none n p.bound)
+counts_one b cell o x h n m (of_none none is) (of_bound q _) = absurd (none m q.bound)
 counts_one b cell o x h n m (of_none _ is) (of_none _ are) = is ∙ sym are
 
 pub bounds_one : CellsBoundsAreOne

@@ -11,7 +11,7 @@ use Rattle.error_bound.specs.Best.{silent_leaf}
 use Rattle.error_bound.specs.Boxes.{IsBoxOf}
 use Rattle.error_bound.specs.Leaves.{Holds}
 use Rattle.error_bound.specs.Tight.{IsTightBound, IsSure, silent as tight_silent, sure, of_bound as count_of}
-use Rattle.error_bound.specs.TightLaws.{TightBoundsAreOne}
+use Rattle.error_bound.specs.TightLaws.{TightBoundsAreOne, TightBoundsAreSmall}
 use Rattle.cell_bounds.specs.declared.masses.CellMasses.{CellMasses}
 use Rattle.cell_bounds.specs.Cells.{IsErrorOnCell, IsUnsure}
 use Rattle.cell_bounds.specs.CellBounds.{HasCellBound, of_tight, of_error, IsCellBound, IsCellCount, of_bound, of_none}
@@ -119,6 +119,24 @@ module _ (b : Block) (cell : List Interval) (o h : ℕ) (from : 1 ≤ o) (to : o
       less_is b cell o x h valid is ex ones l r n
       (tight_side b cell o x h valid is ex ones l bound loud no_sure)
       (error_side b cell o x h valid is ex ones r error unsure) one le le')
+
+  small_side : (s : Option ℕ) → IfSome s (λ n. n ≤ 1000000) → (n : ℕ) → s ≡ Some n → n ≤ 1000000
+  small_side None h n e = absurd (let z : ⊥ = cc in z)
+  small_side (Some m) h n e = let same : m ≡ n = cc in omega arith
+
+  small_left : TightBoundsAreSmall → (s : Option ℕ)
+      → IfSome s (λ n. IfSome (output_at b o) (λ x. IsTightBound b cell o x h n)) → IfSome s (λ n. n ≤ 1000000)
+  small_left small None p = tt
+  small_left small (Some n) p =
+      let x = some_at b.outputs (o - 1) (omega arith) in
+      let e : output_at b o ≡ Some x.0 = x.1 in
+      small b cell o x.0 h n (subst (λ r. IfSome r (λ x. IsTightBound b cell o x h n)) e p)
+
+  pub small_found : TightBoundsAreSmall → IfSome r (λ n. n ≤ 1000000) → (s : Option ℕ)
+      → IfSome s (λ n. (l ≡ Some n) ⊎ (r ≡ Some n)) → IfSome s (λ n. n ≤ 1000000)
+  small_found small small_r None one = tt
+  small_found small small_r (Some n) one = ⊎_elim (λ (e : l ≡ Some n). small_side l (small_left small l bound) n e)
+      (λ (e : r ≡ Some n). small_side r small_r n e) one
 
   pub none_found : (s : Option ℕ) → IfNone s (l ≡ None) → IfNone s (r ≡ None)
       → IfNone s (IfSome (output_at b o) (λ x. (n : ℕ) → HasCellBound b cell o x h n → ⊥))

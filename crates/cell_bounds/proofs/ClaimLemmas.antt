@@ -84,7 +84,7 @@ claims_tight least b box o x h Cells m valid ex hh none p = absurd none
 -- what a cell's count is at most
 count_le : (b : Block) (cell : List Interval) (o : ℕ) (x : Output) (h n m k : ℕ) → IsCellCount b cell o x h n
     → HasCellBound b cell o x h k → k ≤ m → n ≤ m
-count_le b cell o x h n m k (of_bound p) q l = let a = p.least k q in omega arith
+count_le b cell o x h n m k (of_bound p _) q l = let a = p.least k q in omega arith
 count_le b cell o x h n m k (no_bound none is) q l = absurd (none k q)
 
 pub counts_least : BestBoundsAreLeast → TightBoundsAreLeast → TightBoundsHoldInside → CountsAreLeast

@@ -4,3 +4,5 @@ pub mod OneError
 pub mod BoxesOfCells
 pub mod CellLemmas
 pub mod ClaimLemmas
+pub mod Lists
+pub mod WalkLemmas

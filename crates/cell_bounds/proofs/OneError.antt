@@ -1,5 +1,5 @@
 -- A cell's error is one.
-use Rattle.std.proofs.Common.{◌≡◌, ℕ, zero, suc, ◌*◌, ◌/◌, List, [], ◌∷◌, length, Some, None, refl, sym, subst}
+use Rattle.std.proofs.Common.{◌≡◌, ℕ, zero, suc, ◌*◌, ◌/◌, List, [], ◌∷◌, length, map, Some, None, refl, sym, subst}
 use Rattle.std.proofs.Common.{ap, ◌∙◌, cond, true, arith}
 use Rattle.std.specs.Prelude.{slice_get, ◌==◌}
 use Rattle.std.specs.Option.{option_map_or}
@@ -16,23 +16,20 @@ use Rattle.error_bound.specs.MassRanges.{ranges, answer_at, rest_of}
 use Rattle.cell_bounds.specs.Cells.{unsure, silent, ErrorsOnCellsAreOne, UnsureCellsHaveNone}
 
 -- some bytes lie in each box
-lowest : List Interval → List ℕ
-lowest [] = []
-lowest (v ∷ vs) = v.from ∷ lowest vs
+abbrev pub lowest : List Interval → List ℕ
+lowest box = map (λ (v : Interval). v.from) box
 
 lowest_long : (box : List Interval) → length (lowest box) ≡ length box
-unfolding lowest
 lowest_long [] = refl
 lowest_long (v ∷ vs) = ap suc (lowest_long vs)
 
 lowest_at : (box : List Interval) (k : ℕ) (v : Interval) (n : ℕ) → slice_get box k ≡ Some v → slice_get (lowest box) k ≡ Some n
     → v.from ≡ n
-unfolding lowest
 lowest_at [] k v n e f = absurd (let z : ⊥ = cc in z)
 lowest_at (w ∷ vs) zero v n e f = let s : w ≡ v = cc in let t : w.from ≡ n = cc in sym (ap (λ (i : Interval). i.from) s) ∙ t
 lowest_at (w ∷ vs) (suc k) v n e f = lowest_at vs k v n e f
 
-lowest_in : (box : List Interval) → IsBox box → LieIn box (lowest box)
+pub lowest_in : (box : List Interval) → IsBox box → LieIn box (lowest box)
 lowest_in box h = record {
   count = lowest_long box;
   within = λ k v n e f.

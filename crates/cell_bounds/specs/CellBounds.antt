@@ -1,5 +1,5 @@
 -- The Bound of a cell, and of a leaf of cells.
-use Rattle.std.specs.Prelude.{◌≡◌, ℕ, ◌+◌, ◌-◌, ◌*◌, ◌<◌, ◌≤◌, ◌⊎◌, List, [], ◌∷◌, IfSome}
+use Rattle.std.specs.Prelude.{◌≡◌, ℕ, ◌+◌, ◌-◌, ◌*◌, ◌<◌, ◌≤◌, ◌⊎◌, List, [], ◌∷◌, length, IfSome}
 use Rattle.fz_num.specs.declared.dec.Dec.{Dec}
 use Rattle.fz_num.specs.Fracs.{Quotient}
 use Rattle.fuzzy_meaning.specs.declared.block.Block.{Block}
@@ -26,9 +26,9 @@ pub record IsCellBound (b : Block) (cell : List Interval) (o : ℕ) (x : Output)
   pub bound : HasCellBound b cell o x h n
   pub least : (m : ℕ) → HasCellBound b cell o x h m → n ≤ m
 
--- where there is neither it counts as 1000001
+-- it is at most the whole range; where there is neither it counts as 1000001
 pub data IsCellCount (b : Block) (cell : List Interval) (o : ℕ) (x : Output) (h n : ℕ) : Type 0 where
-  of_bound : IsCellBound b cell o x h n → IsCellCount b cell o x h n
+  of_bound : IsCellBound b cell o x h n → n ≤ 1000000 → IsCellCount b cell o x h n
   of_none : ((m : ℕ) → HasCellBound b cell o x h m → ⊥) → n ≡ 1000001 → IsCellCount b cell o x h n
 
 -- ---- of a box of cells
@@ -63,6 +63,19 @@ pub record IsFirstCellAbove (b : Block) (h limit p q : ℕ) (box : List Interval
     pub outputs_before : (j : ℕ) → p ≤ j → j < o → IfSome (output_at b j) (λ x. IsCellWithin b bytes j x h limit)
     pub cells_before : (ms : List ℕ) → LieIn box ms → IsBefore ms bytes → (j : ℕ) → p ≤ j → j ≤ q
         → IfSome (output_at b j) (λ x. IsCellWithin b ms j x h limit)
+
+-- on some cell of the box output o has no Bound
+abbrev pub IsUnsureOn : Block → ℕ → List Interval → ℕ → Type 0
+IsUnsureOn b h box o =
+    (bytes : List ℕ) × LieIn box bytes
+    × IfSome (output_at b o) (λ x. (n : ℕ) → HasCellBound b (cell_of bytes) o x h n → ⊥)
+
+-- o is the first such output
+pub record IsFirstUnsure (b : Block) (h : ℕ) (box : List Interval) (o : ℕ) : Type 0 where
+  pub from : 1 ≤ o
+  pub to : o ≤ length b.outputs
+  pub unsure : IsUnsureOn b h box o
+  pub before : (j : ℕ) → 1 ≤ j → j < o → IfSome (output_at b j) (λ x. CellsAreWithin b box j x h 1000000)
 
 -- how many cells a box has
 abbrev pub cell_count : List Interval → ℕ

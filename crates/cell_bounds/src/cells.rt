@@ -7,7 +7,7 @@ ghost use Rattle.cell_bounds.specs.CellBounds.{HasCellBound, IsCellBound, IsCell
 
 use crate::masses::cell_masses;
 use cell_error::covered_masses_have_errors;
-use error_bound::{BoxTable, tight_bounds_are_one};
+use error_bound::{BoxTable, tight_bounds_are_one, tight_bounds_are_small};
 use fuzzy_meaning::Block;
 
 /// The error of a cell for an output, for answers in so many parts to a byte: how far its answer may be
@@ -23,6 +23,7 @@ pub fn cell_error(block: &Block, table: &BoxTable, out: u8, parts: u16) -> Optio
     requires parts_to { parts ≤ 256 }
     ensures error { IfSome result (λ n. IfSome (output_at block.now out)
         (λ x. IsErrorOnCell block.now table.now.bytes.0.items out x parts n)) }
+    ensures small { IfSome result (λ n. n ≤ 1000000) }
     ensures none { IfNone result
         (IfSome (output_at block.now out) (IsUnsure block.now table.now.bytes.0.items out)) }
 {
@@ -44,10 +45,12 @@ pub fn cell_bound(block: &Block, table: &BoxTable, out: u8, parts: u16) -> Optio
     requires parts_to { parts ≤ 256 }
     ensures bound { IfSome result (λ n. IfSome (output_at block.now out)
         (λ x. IsCellBound block.now table.now.bytes.0.items out x parts n)) }
+    ensures small { IfSome result (λ n. n ≤ 1000000) }
     ensures none { IfNone result (IfSome (output_at block.now out)
         (λ x. (n : ℕ) → HasCellBound block.now table.now.bytes.0.items out x parts n → ⊥)) }
 {
     tight_bounds_are_one();
+    tight_bounds_are_small();
     let tight = table.tight_bound(block, out, parts);
     let error = cell_error(block, table, out, parts);
     less(tight, error)

@@ -30,7 +30,8 @@ impl CellMasses {
     /// How far the answer may be from the exact ones.
     pub(crate) fn error(&self) -> u32
         requires { AreFit self.now }
-        ensures { IsCellError self.now.answer (terms_of self.now) self.now.rest result }
+        ensures error { IsCellError self.now.answer (terms_of self.now) self.now.rest result }
+        ensures small { result ≤ 1000000 }
     {
         least_error(&self.ranges[..self.count], self.rest, self.answer)
     }

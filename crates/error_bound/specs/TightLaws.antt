@@ -47,6 +47,11 @@ TightBoundsAreOne =
     (b : Block) (box : List Interval) (o : ℕ) (x : Output) (h n m : ℕ) → IsValid b → length box ≡ length b.inputs
     → IsTightCount b box o x h n → IsTightCount b box o x h m → n ≡ m
 
+-- it is at most the whole range
+abbrev pub TightBoundsAreSmall : Type 0
+TightBoundsAreSmall =
+    (b : Block) (box : List Interval) (o : ℕ) (x : Output) (h n : ℕ) → IsTightBound b box o x h n → n ≤ 1000000
+
 -- where a leaf holds there is one, and it is at most the leaf's Bound
 abbrev pub TightBoundsAreLeast : Type 0
 TightBoundsAreLeast =

@@ -40,6 +40,6 @@ pub use tables::BlockTable;
 pub use tight::Masses;
 pub use tight_laws::{
     answers_to_masses_are_near, tight_answers_are_near, tight_bounds_are_least,
-    tight_bounds_are_one, tight_bounds_fall_inside, tight_bounds_fall_with_parts,
-    tight_bounds_hold_inside,
+    tight_bounds_are_one, tight_bounds_are_small, tight_bounds_fall_inside,
+    tight_bounds_fall_with_parts, tight_bounds_hold_inside,
 };

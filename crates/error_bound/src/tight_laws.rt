@@ -1,5 +1,6 @@
 //! What a box's tight Bound says of the answers there, and of other Bounds.
 ghost use Rattle.error_bound.specs.TightLaws.{TightAnswersAreNear, TightBoundsAreOne, TightBoundsAreLeast};
+ghost use Rattle.error_bound.specs.TightLaws.{TightBoundsAreSmall};
 ghost use Rattle.error_bound.specs.TightLaws.{TightBoundsFallInside, TightBoundsHoldInside, TightBoundsFallWithParts};
 ghost use Rattle.error_bound.specs.MassRanges.{AnswersToMassesAreNear};
 
@@ -18,6 +19,11 @@ pub fn tight_answers_are_near()
 /// A box has at most one tight Bound for an output.
 pub fn tight_bounds_are_one()
     ensures { TightBoundsAreOne }
+{}
+
+/// It is at most 1000000, the whole range.
+pub fn tight_bounds_are_small()
+    ensures { TightBoundsAreSmall }
 {}
 
 /// Where a leaf holds there is a tight Bound, and it is at most the leaf's.

@@ -1,0 +1,38 @@
+-- The cells of a box, gone through one after the other.
+use Rattle.std.specs.Prelude.{◌≡◌, ℕ, ◌+◌, ◌-◌, ◌<◌, ◌≤◌, List, length, IfSome, slice_index}
+use Rattle.std.specs.List.{sum_by}
+use Rattle.fuzzy_meaning.specs.declared.block.Block.{Block}
+use Rattle.fuzzy_meaning.specs.declared.block.Output.{Output}
+use Rattle.fuzzy_meaning.specs.Blocks.{IsValid, output_at}
+use Rattle.error_bound.specs.declared.boxes.Interval.{Interval}
+use Rattle.error_bound.specs.Reaches.{IsBlockTable}
+use Rattle.cell_bounds.specs.declared.walks.Walk.{Walk}
+use Rattle.cell_bounds.specs.CellBounds.{CellsAreWithin}
+
+-- a walk over outputs of a valid block
+pub record IsWalk (w : Walk) : Type 0 where
+  pub block : IsValid w.block.now
+  pub table : IsBlockTable w.block.now w.table.now
+  pub parts_from : 1 ≤ w.parts
+  pub parts_to : w.parts ≤ 256
+  pub limit : w.limit ≤ 1000000
+  pub end : w.end ≤ length w.block.now.outputs
+
+-- a number is raised to the greatest of itself and the Bounds of a box's cells
+pub record IsRaised (b : Block) (box : List Interval) (o : ℕ) (x : Output) (h old new : ℕ) : Type 0 where
+  pub within : CellsAreWithin b box o x h new
+  pub above : old ≤ new
+  pub least : (m : ℕ) → CellsAreWithin b box o x h m → old ≤ m → new ≤ m
+
+-- those of the outputs at the places from p to below q
+abbrev pub AreRaised : Block → ℕ → ℕ → ℕ → List Interval → List ℕ → List ℕ → Type 0
+AreRaised b h p q box olds news =
+    (k : ℕ) → p ≤ k → k < q
+    → IfSome (output_at b (k + 1)) (λ x. IsRaised b box (k + 1) x h (slice_index olds k) (slice_index news k))
+
+abbrev pub AreAtMost : ℕ → List ℕ → Type 0
+AreAtMost n values = (k : ℕ) → k < 4 → slice_index values k ≤ n
+
+-- how often a box may be cut
+abbrev pub cuts_of : List Interval → ℕ
+cuts_of box = sum_by (λ v. v.to - v.from) box

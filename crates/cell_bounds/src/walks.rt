@@ -1,0 +1,264 @@
+//! The cells of a box, gone through one after the other.
+ghost use Rattle.std.specs.Prelude.{◌≡◌, ◌≢◌, ◌≤◌, ◌<◌, ◌+◌, ℕ, IfSome, IfNone, IfOk, IfErr, IsTrue, ◌↔◌, Some};
+ghost use Rattle.std.specs.Prelude.{length, map, set, slice_get, slice_index};
+ghost use Rattle.fuzzy_meaning.specs.Blocks.{IsValid, output_at};
+ghost use Rattle.error_bound.specs.declared.boxes.Interval.{Interval as TheInterval};
+ghost use Rattle.error_bound.specs.Boxes.{IsBox, IsBoxOf};
+ghost use Rattle.error_bound.specs.Reaches.{IsBlockTable, IsTable};
+ghost use Rattle.cell_bounds.specs.Cells.{IsCell};
+ghost use Rattle.cell_bounds.specs.CellBounds.{IsCellCount, IsCellsBound, IsFirstCellAbove, cell_count};
+ghost use Rattle.cell_bounds.specs.CellBounds.{IsUnsureOn, IsFirstUnsure};
+ghost use Rattle.cell_bounds.specs.Walks.{IsWalk, IsRaised, AreRaised, AreAtMost};
+
+use crate::cells::count_above;
+use arrayvec::ArrayVec;
+use error_bound::{BlockTable, BoxTable, ByteBox, Interval};
+use fuzzy_meaning::Block;
+
+/// The most cells that the box of a leaf of cells has.
+pub const MOST_CELLS: u32 = 64;
+
+/// A cell, by its bytes, on which an output, from 1, counts more than a limit.
+#[derive(Clone, PartialEq, Eq, Debug, Drop)]
+pub struct CellAbove {
+    pub bytes: ArrayVec<u8, 8>,
+    pub out: u8,
+    pub bound: u32,
+}
+
+/// What is looked for on each cell: Bounds above a limit, of the outputs at the places from `first` to below
+/// `end`, for answers in so many parts to a byte.
+#[derive(Clone, Copy)]
+pub(crate) struct Walk<'a> {
+    block: &'a Block,
+    table: &'a BlockTable,
+    parts: u16,
+    limit: u32,
+    first: u8,
+    end: u8,
+}
+
+/// The greatest Bound of a box's cells for each output at its place, for answers in so many parts to a byte; or
+/// the first cell with one above a limit, the first input's byte rising slowest, and its first such output.
+pub fn cells_bounds(
+    block: &Block,
+    table: &BlockTable,
+    bytes: &ByteBox,
+    parts: u16,
+    limit: u32,
+) -> Result<[u32; 4], CellAbove>
+    requires block { IsValid block.now }
+    requires table { IsBlockTable block.now table.now }
+    requires bytes { IsBoxOf block.now bytes.now.0.items }
+    requires parts_from { 1 ≤ parts }
+    requires parts_to { parts ≤ 256 }
+    requires limit { limit ≤ 1000000 }
+    ensures bounds { IfOk result (λ bounds. (k : ℕ) → k < length block.now.outputs
+        → IfSome (output_at block.now (k + 1))
+        (λ x. IsCellsBound block.now bytes.now.0.items (k + 1) x parts (slice_index bounds k))) }
+    ensures within { IfOk result (AreAtMost limit) }
+    ensures above { IfErr result (λ a. IsFirstCellAbove block.now parts limit 1 (length block.now.outputs)
+        bytes.now.0.items a.bytes.items a.out a.bound) }
+{
+    let walk = Walk {
+        block,
+        table,
+        parts,
+        limit,
+        first: 0,
+        end: block.outputs.len() as u8,
+    };
+    walk.over(bytes.copied(), [0; 4])
+}
+
+/// The same, or the first output that has no Bound on some cell.
+pub fn sure_cells_bounds(
+    block: &Block,
+    table: &BlockTable,
+    bytes: &ByteBox,
+    parts: u16,
+) -> Result<[u32; 4], u8>
+    requires block { IsValid block.now }
+    requires table { IsBlockTable block.now table.now }
+    requires bytes { IsBoxOf block.now bytes.now.0.items }
+    requires parts_from { 1 ≤ parts }
+    requires parts_to { parts ≤ 256 }
+    ensures bounds { IfOk result (λ bounds. (k : ℕ) → k < length block.now.outputs
+        → IfSome (output_at block.now (k + 1))
+        (λ x. IsCellsBound block.now bytes.now.0.items (k + 1) x parts (slice_index bounds k))) }
+    ensures within { IfOk result (AreAtMost 1000000) }
+    ensures unsure { IfErr result (IsFirstUnsure block.now parts bytes.now.0.items) }
+{
+    match cells_bounds(block, table, bytes, parts, 1_000_000) {
+        Ok(bounds) => Ok(bounds),
+        Err(above) => Err(first_unsure(block, table, bytes, parts, above.out)),
+    }
+}
+
+/// The first output that has no Bound on some cell of a box, where one is known.
+fn first_unsure(block: &Block, table: &BlockTable, bytes: &ByteBox, parts: u16, known: u8) -> u8
+    requires block { IsValid block.now }
+    requires table { IsBlockTable block.now table.now }
+    requires bytes { IsBoxOf block.now bytes.now.0.items }
+    requires parts_from { 1 ≤ parts }
+    requires parts_to { parts ≤ 256 }
+    requires known_from { 1 ≤ known }
+    requires known_to { known ≤ length block.now.outputs }
+    requires known { IsUnsureOn block.now parts bytes.now.0.items known }
+    ensures { IsFirstUnsure block.now parts bytes.now.0.items result }
+{
+    for place in 0..known - 1 {
+        let walk = Walk {
+            block,
+            table,
+            parts,
+            limit: 1_000_000,
+            first: place,
+            end: place + 1,
+        };
+        match walk.over(bytes.copied(), [0; 4]) {
+            Ok(_) => {}
+            Err(above) => return above.out,
+        }
+    }
+    known
+}
+
+impl Walk<'_> {
+    /// The numbers raised to the Bounds of a box's cells, or the first cell above the limit.
+    fn over(&self, bytes: ByteBox, so_far: [u32; 4]) -> Result<[u32; 4], CellAbove>
+        requires walk { IsWalk self.now }
+        requires bytes { IsBoxOf self.now.block.now bytes.0.items }
+        requires so_far { AreAtMost self.now.limit so_far }
+        ensures raised { IfOk result (AreRaised self.now.block.now self.now.parts self.now.first self.now.end
+            bytes.0.items so_far) }
+        ensures within { IfOk result (AreAtMost self.now.limit) }
+        ensures above { IfErr result (λ a. IsFirstCellAbove self.now.block.now self.now.parts self.now.limit
+            (self.now.first + 1) self.now.end bytes.0.items a.bytes.items a.out a.bound) }
+    {
+        let Some(place) = first_wide(&bytes) else {
+            return self.at_cell(&bytes, so_far);
+        };
+        let (left, right) = parted(bytes, place);
+        let raised = self.over(left, so_far)?;
+        self.over(right, raised)
+    }
+
+    /// The same for a box that is a cell.
+    fn at_cell(&self, bytes: &ByteBox, so_far: [u32; 4]) -> Result<[u32; 4], CellAbove>
+        requires walk { IsWalk self.now }
+        requires bytes { IsBoxOf self.now.block.now bytes.now.0.items }
+        requires cell { IsCell bytes.now.0.items }
+        requires so_far { AreAtMost self.now.limit so_far }
+        ensures raised { IfOk result (AreRaised self.now.block.now self.now.parts self.now.first self.now.end
+            bytes.now.0.items so_far) }
+        ensures within { IfOk result (AreAtMost self.now.limit) }
+        ensures above { IfErr result (λ a. IsFirstCellAbove self.now.block.now self.now.parts self.now.limit
+            (self.now.first + 1) self.now.end bytes.now.0.items a.bytes.items a.out a.bound) }
+    {
+        let table = BoxTable::over(self.block, self.table, bytes.copied());
+        let mut raised = so_far;
+        for place in self.first..self.end {
+            let old = raised[place as usize];
+            match self.raised(&table, place, old) {
+                Ok(new) => raised[place as usize] = new,
+                Err(bound) => {
+                    return Err(CellAbove {
+                        bytes: low_bytes(bytes),
+                        out: place + 1,
+                        bound,
+                    });
+                }
+            }
+        }
+        Ok(raised)
+    }
+
+    /// A number raised to the Bound of a table's cell for the output at a place, or how that counts where it is
+    /// above the limit.
+    fn raised(&self, table: &BoxTable, place: u8, so_far: u32) -> Result<u32, u32>
+        requires walk { IsWalk self.now }
+        requires table { IsTable self.now.block.now table.now }
+        requires cell { IsCell table.now.bytes.0.items }
+        requires place { place < self.now.end }
+        requires so_far { so_far ≤ self.now.limit }
+        ensures raised { IfOk result (λ n. IfSome (output_at self.now.block.now (place + 1))
+            (λ x. IsRaised self.now.block.now table.now.bytes.0.items (place + 1) x self.now.parts so_far n)) }
+        ensures within { IfOk result (λ n. n ≤ self.now.limit) }
+        ensures count { IfErr result (λ n. IfSome (output_at self.now.block.now (place + 1))
+            (λ x. IsCellCount self.now.block.now table.now.bytes.0.items (place + 1) x self.now.parts n)) }
+        ensures above { IfErr result (λ n. self.now.limit < n) }
+    {
+        match count_above(self.block, table, place + 1, self.parts, so_far) {
+            None => Ok(so_far),
+            Some(count) => {
+                if count > self.limit {
+                    Err(count)
+                } else {
+                    Ok(count.max(so_far))
+                }
+            }
+        }
+    }
+}
+
+/// The place of the first interval of more than one byte.
+fn first_wide(bytes: &ByteBox) -> Option<usize>
+    requires { IsBox bytes.now.0.items }
+    ensures wide { IfSome result (λ k. (v : TheInterval) → slice_get bytes.now.0.items k ≡ Some v → v.from < v.to) }
+    ensures there { IfSome result (λ k. k < length bytes.now.0.items) }
+    ensures first { IfSome result (λ k. (j : ℕ) (v : TheInterval) → j < k → slice_get bytes.now.0.items j ≡ Some v
+        → v.from ≡ v.to) }
+    ensures cell { IfNone result (IsCell bytes.now.0.items) }
+{
+    let intervals = bytes.0.as_slice();
+    for k in 0..intervals.len() {
+        if intervals[k].from < intervals[k].to {
+            return Some(k);
+        }
+    }
+    None
+}
+
+/// A box without the later bytes of the interval at a place, and without its first one.
+fn parted(bytes: ByteBox, place: usize) -> (ByteBox, ByteBox)
+    requires bytes { IsBox bytes.0.items }
+    requires there { place < length bytes.0.items }
+    requires wide { (v : TheInterval) → slice_get bytes.0.items place ≡ Some v → v.from < v.to }
+    ensures left { (v : TheInterval) → slice_get bytes.0.items place ≡ Some v
+        → result.0.0.items ≡ set bytes.0.items place (record { from = v.from; to = v.from }) }
+    ensures right { (v : TheInterval) → slice_get bytes.0.items place ≡ Some v
+        → result.1.0.items ≡ set bytes.0.items place (record { from = v.from + 1; to = v.to }) }
+{
+    let Interval { from, to } = bytes.0[place];
+    let mut left = bytes.copied();
+    left.0[place] = Interval { from, to: from };
+    let mut right = bytes;
+    right.0[place] = Interval { from: from + 1, to };
+    (left, right)
+}
+
+/// The low bytes of a box.
+fn low_bytes(bytes: &ByteBox) -> ArrayVec<u8, 8>
+    ensures { result.items ≡ map (λ v. v.from) bytes.now.0.items }
+{
+    let mut low = ArrayVec::new();
+    for interval in bytes.0.as_slice() {
+        low.push(interval.from);
+    }
+    low
+}
+
+/// Whether a box has as few cells as a leaf of cells may have.
+pub fn has_few_cells(bytes: &ByteBox) -> bool
+    requires { IsBox bytes.now.0.items }
+    ensures { IsTrue result ↔ (cell_count bytes.now.0.items ≤ 64) }
+{
+    let mut count = 1;
+    let intervals = bytes.0.as_slice();
+    for k in (0..intervals.len()).rev() {
+        let width = u32::from(intervals[k].to - intervals[k].from) + 1;
+        count = (width * count).min(MOST_CELLS + 1);
+    }
+    count <= MOST_CELLS
+}
