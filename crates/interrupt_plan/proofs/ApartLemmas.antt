@@ -4,7 +4,7 @@ use Rattle.std.specs.Prelude.{All, Option, Some}
 use Rattle.std.proofs.lemmas.List.{length-append}
 use Rattle.fz_rows.specs.FirstRows.{Fields}
 use Rattle.fz_rows.specs.Laws.{FirstRowsAreOne}
-use Rattle.fz_rows.proofs.Algebra.{none_fails_before, one_fails_first}
+use Rattle.fz_rows.proofs.Algebra.{FailsFirst, at_element, more_elements, one_fails_first, one_first_failure}
 use Rattle.cpu12_isa.specs.Regions.{is_free}
 use Rattle.cpu12_isa.specs.declared.instr.Write.{Write}
 use Rattle.interrupt_plan.specs.OneReading.{LevelFaultsAreOne, PlanFaultsAreOne, PostFaultsAreOne}
@@ -17,7 +17,7 @@ use Rattle.interrupt_plan.specs.Rows.{AreFree, AreInOrder, FirstFault, HasFirstF
 use Rattle.interrupt_plan.specs.Rows.{RowFails, SpellAll, SpellsText, at_row, count_of, more, not_ascending, not_free}
 use Rattle.interrupt_plan.specs.Rows.{unread}
 use Rattle.interrupt_plan.specs.declared.PlanFault.{PlanFault}
-use Rattle.interrupt_plan.specs.declared.PlanFault.TheVariants.{NotFree}
+use Rattle.interrupt_plan.specs.declared.PlanFault.TheVariants.{NotFree, TooMany}
 use Rattle.interrupt_plan.specs.declared.levels.Level.{Level}
 use Rattle.interrupt_plan.specs.declared.Post.{Post}
 use Rattle.interrupt_plan.specs.declared.Request.{Request}
@@ -160,22 +160,18 @@ module _ {E : Type 0} (Spells : Fields → E → Type 0) (writes : E → List Wr
       row_apart before row fails.0 pass.0 pass.2 (split_at Spells before row after pass.0 pass.1) fails.1
       (length before + 1) fault fails.2
 
+  fails_first : (rows : List Fields) (fault : PlanFault) → FirstFault Spells writes Follows rows fault
+      → FailsFirst Pass Fails 10000 TooMany rows fault
+  fails_first rows fault (at_row b r a es f split lt front order fails) =
+      at_element b r a fault split lt (es, front, order) (es, front, fails)
+  fails_first rows fault (more b r a es split full front order) = more_elements b r a split full (es, front, order)
+
   fault_one : (rows : List Fields) (f g : PlanFault) → FirstFault Spells writes Follows rows f
       → FirstFault Spells writes Follows rows g → f ≡ g
-  fault_one rows f g (at_row b r a es f' split lt front order fails)
-      (at_row b2 r2 a2 es2 g' split2 lt2 front2 order2 fails2) =
-      one_fails_first Pass Fails fails_apart
-      (λ before row f g fails others.
-      row_fault_one fails.0 others.0 (length before + 1) row f g fails.2 others.2)
-      b r a f b2 r2 a2 g (sym split ∙ split2) (es, front, order) (es, front, fails) (es2, front2, order2)
-      (es2, front2, fails2)
-  fault_one rows f g (at_row b r a es f' split lt front order fails) (more b2 r2 a2 es2 split2 full2 front2 order2) =
-      absurd (none_fails_before Pass Fails fails_apart b r a b2 r2 a2 f (sym split ∙ split2) (omega arith)
-      (es, front, fails) (es2, front2, order2))
-  fault_one rows f g (more b r a es split full front order) (at_row b2 r2 a2 es2 g' split2 lt2 front2 order2 fails2) =
-      absurd (none_fails_before Pass Fails fails_apart b2 r2 a2 b r a g (sym split2 ∙ split) (omega arith)
-      (es2, front2, fails2) (es, front, order))
-  fault_one rows f g (more b r a es split full front order) (more b2 r2 a2 es2 split2 full2 front2 order2) = refl
+  fault_one rows f g first other =
+      one_first_failure Pass Fails fails_apart
+      (λ before row f g fails others. row_fault_one fails.0 others.0 (length before + 1) row f g fails.2 others.2)
+      10000 TooMany rows f g (fails_first rows f first) (fails_first rows g other)
 
   text_fault_one : FirstRowsAreOne → (text : List ℕ) (fault other : PlanFault)
       → HasFirstFault Spells writes Follows text fault → HasFirstFault Spells writes Follows text other → fault ≡ other

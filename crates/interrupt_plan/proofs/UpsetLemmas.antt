@@ -1,6 +1,6 @@
 -- Rows and upsets, one by one.
-use Rattle.std.proofs.Common.{◌≡◌, ◌<◌, ◌+◌, ℕ, suc, Bool, true, false, List, [], ◌∷◌, ◌++◌, length, take, drop, get_or, refl, sym}
-use Rattle.std.proofs.Common.{◌∙◌, ap, ap₂, subst, arith}
+use Rattle.std.proofs.Common.{◌≡◌, ◌<◌, ◌+◌, ℕ, suc, Bool, true, false, List, [], ◌∷◌, ◌++◌, length, take, drop}
+use Rattle.std.proofs.Common.{get_or, refl, sym, ◌∙◌, ap, ap₂, subst, arith}
 use Rattle.std.specs.Prelude.{map, All}
 use Rattle.std.proofs.lemmas.Bool.{false≢true}
 use Rattle.std.proofs.lemmas.List.{length-append}
@@ -9,7 +9,7 @@ use Rattle.csv.specs.Records.{Row, fields_of}
 use Rattle.cpu12_isa.specs.declared.instr.Write.{Write}
 use Rattle.fz_rows.specs.FirstRows.{Fields}
 use Rattle.fz_rows.specs.Laws.{FirstRowsAreOne}
-use Rattle.fz_rows.proofs.Algebra.{none_fails_before, one_fails_first}
+use Rattle.fz_rows.proofs.Algebra.{FailsFirst, at_element, more_elements, one_first_failure}
 use Rattle.interrupt_plan.specs.declared.upsets.Upset.{Upset}
 use Rattle.interrupt_plan.specs.declared.upsets.UpsetFault.{UpsetFault}
 use Rattle.interrupt_plan.specs.declared.upsets.UpsetFault.TheVariants.{NotTable, TooMany}
@@ -166,22 +166,18 @@ module _ (image : List (ℕ × ℕ)) where
       row_apart image before row fails.0 pass.0 pass.2 (split_at SpellsUpset before row after pass.0 pass.1) fails.1
       (length before + 1) fault fails.2
 
+  fails_first : (rows : List Fields) (fault : UpsetFault) → FirstUpsetFault image rows fault
+      → FailsFirst Pass Fails 10000 TooMany rows fault
+  fails_first rows fault (at_row b r a us f split lt front good fails) =
+      at_element b r a fault split lt (us, front, good) (us, front, fails)
+  fails_first rows fault (more b r a us split full front good) = more_elements b r a split full (us, front, good)
+
   fault_one : (rows : List Fields) (f g : UpsetFault) → FirstUpsetFault image rows f → FirstUpsetFault image rows g
       → f ≡ g
-  fault_one rows f g (at_row b r a us f' split lt front good fails)
-      (at_row b2 r2 a2 us2 g' split2 lt2 front2 good2 fails2) =
-      one_fails_first Pass Fails fails_apart
-      (λ before row f g fails others.
-      row_fault_one fails.0 others.0 (length before + 1) row f g fails.2 others.2)
-      b r a f b2 r2 a2 g (sym split ∙ split2) (us, front, good) (us, front, fails) (us2, front2, good2)
-      (us2, front2, fails2)
-  fault_one rows f g (at_row b r a us f' split lt front good fails) (more b2 r2 a2 us2 split2 full2 front2 good2) =
-      absurd (none_fails_before Pass Fails fails_apart b r a b2 r2 a2 f (sym split ∙ split2) (omega arith)
-      (us, front, fails) (us2, front2, good2))
-  fault_one rows f g (more b r a us split full front good) (at_row b2 r2 a2 us2 g' split2 lt2 front2 good2 fails2) =
-      absurd (none_fails_before Pass Fails fails_apart b2 r2 a2 b r a g (sym split2 ∙ split) (omega arith)
-      (us2, front2, fails2) (us, front, good))
-  fault_one rows f g (more b r a us split full front good) (more b2 r2 a2 us2 split2 full2 front2 good2) = refl
+  fault_one rows f g first other =
+      one_first_failure Pass Fails fails_apart
+      (λ before row f g fails others. row_fault_one fails.0 others.0 (length before + 1) row f g fails.2 others.2)
+      10000 TooMany rows f g (fails_first rows f first) (fails_first rows g other)
 
 pub one_upset_fault : FirstRowsAreOne → UpsetFaultsAreOne
 one_upset_fault one image text fault other has has' =

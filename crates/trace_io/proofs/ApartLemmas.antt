@@ -1,12 +1,12 @@
 -- A text that spells samples has no fault, and none has two first faults.
-use Rattle.std.proofs.Common.{arith, ◌≡◌, ◌<◌, ◌+◌, ◌-◌, ℕ, List, [], ◌∷◌, ◌++◌, length, refl, sym, ◌∙◌, ap, subst}
+use Rattle.std.proofs.Common.{arith, ◌≡◌, ◌<◌, ◌+◌, ℕ, List, [], ◌∷◌, ◌++◌, length, refl, sym, ◌∙◌, ap, subst}
 use Rattle.std.proofs.Common.{inl, inr}
 use Rattle.std.specs.Prelude.{Some, None}
 use Rattle.std.proofs.lemmas.Bool.{cases_lt}
 use Rattle.std.proofs.lemmas.List.{length-append}
 use Rattle.fz_num.specs.declared.dec.Dec.{Dec}
 use Rattle.fz_rows.specs.Laws.{FirstRowsAreOne}
-use Rattle.fz_rows.proofs.Algebra.{cut_within, none_fails_before, one_fails_first}
+use Rattle.fz_rows.proofs.Algebra.{FailsFirst, at_element, cut_within, more_elements, one_first_failure}
 use Rattle.fuzzy_meaning.specs.Blocks.{IsWithin}
 use Rattle.fuzzy_meaning.specs.declared.block.Input.{Input}
 use Rattle.trace_io.specs.OneReading.{FirstFaultsAreOne, SpelledTracesHaveNoFault}
@@ -14,7 +14,7 @@ use Rattle.trace_io.specs.Traces.{AreWithin, Fields, FirstFault, IsFirstOutside,
 use Rattle.trace_io.specs.Traces.{SpellsSample, at_row, miscounted, more, outside, unread}
 use Rattle.trace_io.specs.declared.sample.Sample.{Sample}
 use Rattle.trace_io.specs.declared.sample.TraceFault.{TraceFault}
-use Rattle.trace_io.specs.declared.sample.TraceFault.TheVariants.{OutOfRange}
+use Rattle.trace_io.specs.declared.sample.TraceFault.TheVariants.{OutOfRange, TooMany}
 
 -- ---- a row that is spelled does not fail
 
@@ -79,8 +79,12 @@ outside_apart inputs values n m first later l =
     later.inputs_after (sym first.inputs_are ∙ later.inputs_are) l in
     let vs = cut_within first.values_before first.value first.values_after later.values_before later.value
     later.values_after (sym first.values_are ∙ later.values_are)
-    (omega (arith, l, within_length first.inputs_before first.values_before first.within,
-    within_length later.inputs_before later.values_before later.within)) in
+    (omega (
+      arith,
+      l,
+      within_length first.inputs_before first.values_before first.within,
+      within_length later.inputs_before later.values_before later.within,
+    )) in
     let inputs : AreWithin (first.inputs_before ++ first.input ∷ is.0) later.values_before =
     subst (λ (xs : List Input). AreWithin xs later.values_before) is.1 later.within in
     let all : AreWithin (first.inputs_before ++ first.input ∷ is.0) (first.values_before ++ first.value ∷ vs.0) =
@@ -127,17 +131,15 @@ module _ (inputs : List Input) where
       let at = row_at inputs before row after pass.0 pass.1 in
       row_apart inputs (length before + 1) row fault at.0 fails at.1
 
+  fails_first : (rows : List Fields) (fault : TraceFault) → FirstFault inputs rows fault
+      → FailsFirst Pass Fails 10000 TooMany rows fault
+  fails_first rows fault (at_row b r a ss f split lt front fails) = at_element b r a fault split lt (ss, front) fails
+  fails_first rows fault (more b r a ss split full front) = more_elements b r a split full (ss, front)
+
   one_fault : (rows : List Fields) (f g : TraceFault) → FirstFault inputs rows f → FirstFault inputs rows g → f ≡ g
-  one_fault rows f g (at_row b r a ss f' split lt front fails) (at_row b2 r2 a2 ss2 g' split2 lt2 front2 fails2) =
-      one_fails_first Pass Fails fails_apart (λ before row. one_row_fault inputs (length before + 1) row) b r a f b2 r2 a2 g
-      (sym split ∙ split2) (ss, front) fails (ss2, front2) fails2
-  one_fault rows f g (at_row b r a ss f' split lt front fails) (more b2 r2 a2 ss2 split2 full front2) =
-      absurd (none_fails_before Pass Fails fails_apart b r a b2 r2 a2 f (sym split ∙ split2) (omega arith) fails
-      (ss2, front2))
-  one_fault rows f g (more b r a ss split full front) (at_row b2 r2 a2 ss2 g' split2 lt2 front2 fails2) =
-      absurd (none_fails_before Pass Fails fails_apart b2 r2 a2 b r a g (sym split2 ∙ split) (omega arith) fails2
-      (ss, front))
-  one_fault rows f g (more b r a ss split full front) (more b2 r2 a2 ss2 split2 full2 front2) = refl
+  one_fault rows f g first other =
+      one_first_failure Pass Fails fails_apart (λ before row. one_row_fault inputs (length before + 1) row)
+      10000 TooMany rows f g (fails_first rows f first) (fails_first rows g other)
 
 pub one_first_fault : FirstRowsAreOne → FirstFaultsAreOne
 one_first_fault one inputs text fault other has has' =

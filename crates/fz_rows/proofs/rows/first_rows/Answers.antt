@@ -36,8 +36,15 @@ loop-row-preserved c =
     c.loop-row.rows.items _ c.in-Ok.row inv.3 (inv.6, inv.7, inv.8) s.0 c.in_ok-push-in-Ok.ensures.items in
     let still = rw (c.in-Some.is, c.in-Ok.is) at ((c.next.ensures.steps inv.2 inv.0).3) in
     let fewer : length c.push.new.self.items < 10001 =
-    omega (arith, c.len.ensures, c.if-len-eq-MOST.false, c.push.new.self.ok.0, inv.5,
-    ap length c.in_ok-push-in-Ok.ensures.items, length-append c.loop-row.rows.items (c.in-Ok.row ∷ [])) in
+    omega (
+      arith,
+      c.len.ensures,
+      c.if-len-eq-MOST.false,
+      c.push.new.self.ok.0,
+      inv.5,
+      ap length c.in_ok-push-in-Ok.ensures.items,
+      length-append c.loop-row.rows.items (c.in-Ok.row ∷ []),
+    ) in
     (s.0.3 ∙ inv.0, inl s.1, s.2, s.0.2 ∙ inv.3, still ∙ inv.4, fewer, more.0, more.1, more.2)
 
 pub returns-then-len-eq-MOST : goal.returns-then-len-eq-MOST

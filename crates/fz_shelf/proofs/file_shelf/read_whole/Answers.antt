@@ -1,4 +1,4 @@
-use Rattle.std.proofs.Common.{arith, ◌≡◌, List, ℕ, length, take, ap, subst}
+use Rattle.std.proofs.Common.{arith, ◌≡◌, length, take, ap}
 use Rattle.std.specs.Prelude.{IfSome, option_map}
 use Rattle.fz_shelf.proofs.KnownBytes.{all_of_taken}
 use Rattle.fz_shelf.proofs.file_shelf.read_whole.Goals as goal
