@@ -12,10 +12,11 @@ use Rattle.std.proofs.lemmas.Simd.{map-map}
 use Rattle.cpu12_isa.specs.Pages.{given_with, given_after, is_page_written, GivenAreWritten}
 
 length_given_with : (given : List Bool) (at v : ℕ) → length (given_with given at v) ≡ length given
-length_given_with given at v = elim (v == 0) as (λ b. length (cond b given (set given (at / 256) true)) ≡ length given) [
-  | true ↦ refl
-  | false ↦ length-set given (at / 256) true
-]
+length_given_with given at v =
+    elim (v == 0) as (λ b. length (cond b given (set given (at / 256) true)) ≡ length given) [
+      | true ↦ refl
+      | false ↦ length-set given (at / 256) true
+    ]
 
 length_given_after : (ws : List (ℕ × ℕ)) (given : List Bool) → length (given_after ws given) ≡ length given
 length_given_after [] given = refl
