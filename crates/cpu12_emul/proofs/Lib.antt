@@ -5,5 +5,4 @@ pub mod Taking
 mod Bytes
 pub mod Fitting
 pub mod Endings
-pub mod Turns
 pub mod RuleParts

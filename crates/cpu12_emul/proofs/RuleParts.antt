@@ -1,8 +1,8 @@
 -- Parts of REV and REVW that go on, and leave the instruction where it stands, are steps.
-use Rattle.std.proofs.Common.{◌≡◌, ◌≢◌, ◌==◌, ◌<◌, ℕ, ◌+◌, min, max, Bool, true, false, Result, Ok, List, [], ◌∷◌}
-use Rattle.std.proofs.Common.{get_or, get_or-set_other, refl, ap, sym, ◌∙◌, subst, arith}
+use Rattle.std.proofs.Common.{◌≡◌, ◌≢◌, ◌==◌, ℕ, ◌+◌, min, max, Bool, true, false, Result, Ok, List, [], ◌∷◌}
+use Rattle.std.proofs.Common.{get_or, get_or-set_other, refl, ap, sym, ◌∙◌, subst}
 use Rattle.std.specs.Prelude.{if◌then◌else◌}
-use Rattle.std.proofs.lemmas.Bool.{eqb-true, ne_eqb}
+use Rattle.std.proofs.lemmas.Bool.{eqb-true}
 use Rattle.cpu12_isa.specs.declared.instr.Regs.{Regs}
 use Rattle.cpu12_isa.specs.declared.instr.Instr.{Instr}
 use Rattle.cpu12_isa.specs.declared.instr.Instr.TheVariants.{Rev, Revw}
@@ -10,7 +10,6 @@ use Rattle.cpu12_isa.specs.Act.{Act, outcome, write_all}
 use Rattle.cpu12_isa.specs.Code.{decode_at, decode_of}
 use Rattle.cpu12_isa.specs.Flags.{has, put, opened, carry, overflow, hnzc, hnz}
 use Rattle.cpu12_isa.specs.Memory.{plus, word_of, bytes_at}
-use Rattle.cpu12_isa.proofs.Algebra.{bit, bit_or_is, bit_and_is}
 use Rattle.cpu12_parts.specs.declared.temps.Temps.{Temps}
 use Rattle.cpu12_parts.specs.declared.temps.PartEnd.{PartEnd}
 use Rattle.cpu12_parts.specs.declared.temps.PartEnd.TheVariants.{More, Done}
@@ -18,12 +17,12 @@ use Rattle.cpu12_parts.specs.Cuts.{Kind, rev, revw, part_of, after_part}
 use Rattle.cpu12_parts.specs.Inside.{own_address, GoesOnAt, LeavesSums}
 use Rattle.cpu12_parts.specs.Laws.{IsOff, IsSteady, Any, state_of}
 use Rattle.cpu12_parts.specs.Parts.{leaving, met, rev_element, revw_element}
-use Rattle.cpu12_parts.specs.State.{State, Outcome, state_after}
+use Rattle.cpu12_parts.specs.State.{State, Outcome}
 use Rattle.cpu12_emul.specs.declared.ends.Stepped.TheVariants.{Part}
-use Rattle.cpu12_emul.specs.Ruling.{Stands, GoesOnBeside, RevGoesOn, RevwGoesOn, Ruled, met_by_rev}
+use Rattle.cpu12_emul.specs.Ruling.{Stands, GoesOnBeside, RevGoesOn, RevwGoesOn, Ruled}
 use Rattle.cpu12_emul.specs.Simulation.{PartIsStep}
 use Rattle.cpu12_emul.specs.Step.{Left, kind_of, applied, next_of}
-use Rattle.cpu12_emul.proofs.Runs.{StepsOf-append}
+use Rattle.cpu12_emul.proofs.Runs.{PartsTo-append}
 use Rattle.cpu12_emul.proofs.Stepping.{rev_is_step, revw_is_step}
 
 -- The part goes on, and writes at most the byte at one address.
@@ -187,7 +186,7 @@ Ruled-then opcode flags s t u n k off is further =
     let more : Ruled opcode flags t u k =
     further (subst IsOff (sym is.temps) off) (subst (λ (p : ℕ). Stands opcode p t.mem) (sym is.pc) is.stands) in
     record {
-      parts = StepsOf-append Part (λ v. (v.regs.pc ≡ s.regs.pc) × (v.regs.sp ≡ s.regs.sp))
+      parts = PartsTo-append (λ v. (v.regs.pc ≡ s.regs.pc) × (v.regs.sp ≡ s.regs.sp))
           (λ v. (v.regs.pc ≡ t.regs.pc) × (v.regs.sp ≡ t.regs.sp))
           (λ v at. (at.0 ∙ is.pc, at.1 ∙ is.sp)) flags n k s t u is.parts more.parts;
       pc = more.pc ∙ is.pc;
@@ -195,42 +194,3 @@ Ruled-then opcode flags s t u n k off is further =
       temps = more.temps ∙ is.temps;
       stands = subst (λ (p : ℕ). Stands opcode p u.mem) is.pc more.stands;
     }
-
--- an antecedent of REV
-abbrev met_outcome : ℕ → State → Outcome
-met_outcome flags s = record { regs = met_by_rev flags s.mem s.regs; temps = s.temps; writes = []; end = More }
-
-met_by_element : (flags : ℕ) (r : Regs) (t : Temps) (e : ℕ) (m : List ℕ) (o : Outcome) → e < 254
-    → has r.ccr overflow ≡ false
-    → record {
-      regs = record r { a = min r.a (get_or m (plus r.y e) 0); x = plus r.x 1; ccr = opened r.ccr hnzc flags };
-      temps = t;
-      writes = [];
-      end = More;
-    } ≡ o
-    → outcome (rev_element flags r t e) m ≡ o
-met_by_element flags r t e m o l v is =
-    let h5 = ne_eqb e 255 (λ q. omega arith) in
-    let h4 = ne_eqb e 254 (λ q. omega arith) in
-    rw (h5, h4, v) is
-
-met_by_part : (flags : ℕ) (s : State) → get_or s.mem s.regs.x 0 < 254 → has s.regs.ccr overflow ≡ false
-    → part_of rev flags s ≡ met_outcome flags s
-met_by_part flags s l v =
-    met_by_element flags s.regs s.temps (get_or s.mem s.regs.x 0) s.mem (met_outcome flags s) l v refl
-
-pub Ruled-antecedent : (flags : ℕ) (s : State) → Ruling Rev rev 0x3A RevGoesOn → get_or s.mem s.regs.x 0 < 254
-    → has s.regs.ccr overflow ≡ false
-    → IsOff s.temps → Stands 0x3A s.regs.pc s.mem
-    → Ruled 0x3A flags s (state_of (met_by_rev flags s.mem s.regs) s.temps s.mem) 1
-Ruled-antecedent flags s law l v off stands =
-    let is : part_of rev flags s ≡ met_outcome flags s = met_by_part flags s l v in
-    subst (λ (o : Outcome). Ruled 0x3A flags s (state_after o s.mem) 1) is
-    (Ruled-one flags s law
-    (subst (λ (o : Outcome). Keeps s.regs.pc s.mem o) (sym is) (record { end = refl; prebyte = refl; code = refl }))
-    off stands)
-
--- V after it
-pub overflow_met : (flags : ℕ) (mem : List ℕ) (r : Regs)
-    → has (met_by_rev flags mem r).ccr overflow ≡ has r.ccr overflow
-overflow_met flags mem r = let v : bit (opened r.ccr hnzc flags).0 1 ≡ bit r.ccr.0 1 = simp (bit_or_is, bit_and_is) in v

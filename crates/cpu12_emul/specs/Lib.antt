@@ -4,5 +4,4 @@ pub mod Take
 pub mod Run
 pub mod Simulation
 pub mod Fits
-pub mod Adding
 pub mod Ruling

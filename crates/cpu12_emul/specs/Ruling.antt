@@ -1,7 +1,6 @@
 -- Parts of REV and REVW that go on, and leave the instruction where it stands.
-use Rattle.std.specs.Prelude.{◌≡◌, ◌≢◌, ℕ, min, List, slice_index}
+use Rattle.std.specs.Prelude.{◌≡◌, ◌≢◌, ℕ, List, slice_index}
 use Rattle.cpu12_isa.specs.declared.instr.Regs.{Regs}
-use Rattle.cpu12_isa.specs.Flags.{opened, hnzc}
 use Rattle.cpu12_isa.specs.Memory.{plus, word_of}
 use Rattle.cpu12_parts.specs.State.{State}
 use Rattle.cpu12_emul.specs.Run.{PartsTo}
@@ -24,14 +23,6 @@ RevGoesOn mem r = let e = slice_index mem r.x in GoesOnBeside 255 e (plus r.y e)
 abbrev pub RevwGoesOn : List ℕ → Regs → Type 0
 RevwGoesOn mem r =
     let e = word_of (slice_index mem r.x) (slice_index mem (plus r.x 1)) in GoesOnBeside 65535 e e r.pc
-
--- the registers after an antecedent of REV
-abbrev pub met_by_rev : ℕ → List ℕ → Regs → Regs
-met_by_rev flags mem r = record r {
-  a = min r.a (slice_index mem (plus r.y (slice_index mem r.x)));
-  x = plus r.x 1;
-  ccr = opened r.ccr hnzc flags;
-}
 
 -- n parts lead from s to t, and leave PC, SP and the instruction that stands there
 pub record Ruled (opcode flags : ℕ) (s t : State) (n : ℕ) : Type 0 where

@@ -4,8 +4,7 @@ use Rattle.cpu12_isa.specs.Memory.{plus}
 use Rattle.cpu12_parts.specs.State.{State}
 use Rattle.cpu12_emul.specs.declared.ends.RunEnd.{RunEnd}
 use Rattle.cpu12_emul.specs.declared.ends.RunEnd.TheVariants.{Arrived, Trap, Budget}
-use Rattle.cpu12_emul.specs.declared.ends.Stepped.{Stepped}
-use Rattle.cpu12_emul.specs.declared.ends.Stepped.TheVariants.{Plain, Part}
+use Rattle.cpu12_emul.specs.declared.ends.Stepped.TheVariants.{Part}
 use Rattle.cpu12_emul.specs.Step.{Next, next_of}
 
 -- PC is at 20 FE
@@ -31,16 +30,8 @@ abbrev pub RunsEndOnce : Type 0
 RunsEndOnce =
     (flags n : ℕ) (s t u : State) (e f : RunEnd) → EndsRun flags n s e t → EndsRun flags n s f u → (e ≡ f) × (t ≡ u)
 
--- n steps of a kind lead from s to t, and P holds wherever one leads
-abbrev pub StepsOf : Stepped → (State → Type 0) → ℕ → ℕ → State → State → Type 0
-StepsOf kind P flags zero s t = s ≡ t
-StepsOf kind P flags (suc n) s t =
-    (u : State) × ((next_of flags s ≡ Ok (record { state = u; kind = kind })) × P u × StepsOf kind P flags n u t)
-
--- n plain instructions
-abbrev pub PlainlyTo : (State → Type 0) → ℕ → ℕ → State → State → Type 0
-PlainlyTo = StepsOf Plain
-
--- n parts of instructions that go on
+-- n parts of instructions that go on lead from s to t, and P holds wherever one leads
 abbrev pub PartsTo : (State → Type 0) → ℕ → ℕ → State → State → Type 0
-PartsTo = StepsOf Part
+PartsTo P flags zero s t = s ≡ t
+PartsTo P flags (suc n) s t =
+    (u : State) × ((next_of flags s ≡ Ok (record { state = u; kind = Part })) × P u × PartsTo P flags n u t)

@@ -8,7 +8,6 @@
 //! changed.
 #![tactic(auto)]
 
-mod adding;
 pub mod ends;
 mod fetch;
 pub mod interrupt;

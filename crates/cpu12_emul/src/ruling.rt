@@ -1,15 +1,12 @@
 // Many parts of REV or REVW at once.
-ghost use Rattle.std.specs.Prelude.{ℕ, ◌≡◌, ◌≢◌, ◌≤◌, ◌<◌, true, false, slice_index, IfSome};
-ghost use Rattle.cpu12_isa.specs.Flags.{has, overflow};
+ghost use Rattle.std.specs.Prelude.{◌≡◌, ◌≢◌, ◌≤◌, true};
 ghost use Rattle.cpu12_isa.specs.Memory.{plus};
-ghost use Rattle.cpu12_parts.specs.declared.temps.Temps.{Temps};
 ghost use Rattle.cpu12_parts.specs.Laws.{IsOff, state_of};
-ghost use Rattle.cpu12_emul.specs.Ruling.{Stands, RevGoesOn, RevwGoesOn, Ruled, met_by_rev};
+ghost use Rattle.cpu12_emul.specs.Ruling.{Stands, RevGoesOn, RevwGoesOn, Ruled};
 ghost use Rattle.cpu12_emul.specs.Run.{PartsTo};
 
 use crate::fetch::{is_rev, is_revw};
 use crate::machine::Machine;
-use cpu12_isa::ccr::{HNZC, OVERFLOW};
 use cpu12_isa::instr::Regs;
 use cpu12_isa::mem::{Mem, word_of};
 use cpu12_parts::laws::{rev_stays, rev_steady, revw_stays, revw_steady};
@@ -43,48 +40,6 @@ fn revw_goes_on<M: Mem>(m: &M, r: Regs) -> bool
     e != 0xFFFF && is_beside(e, r.pc)
 }
 
-/// The registers after the part of REV at X, where it is of an antecedent.
-#[inline(always)]
-fn antecedent<M: Mem>(m: &M, regs: Regs, flags: u8) -> Option<Regs>
-    ensures { IfSome result (λ next. (slice_index (M.bytes m.now) regs.x < 254)
-        × (next ≡ met_by_rev flags (M.bytes m.now) regs)) }
-{
-    let e = m.read(regs.x);
-    if e >= 0xFE {
-        return None;
-    }
-    let mut r = regs;
-    r.a = r.a.min(m.read(r.y.wrapping_add(e as u16)));
-    r.x = r.x.wrapping_add(1);
-    r.ccr = r.ccr.opened(HNZC, flags);
-    Some(r)
-}
-
-/// Does the parts of REV whose antecedents stand at X, at most `most`. None writes, so where their bytes
-/// are does not matter. Answers the registers after them, and how many they were.
-#[inline(always)]
-fn antecedents<M: Mem>(m: &M, regs: Regs, flags: u8, most: u32) -> (Regs, u32)
-    ensures parts { (t : Temps) → IsOff t → Stands 0x3A regs.pc (M.bytes m.now)
-        → Ruled 0x3A flags (state_of regs t (M.bytes m.now)) (state_of result.0 t (M.bytes m.now)) result.1 }
-    ensures most { result.1 ≤ most }
-{
-    rev_stays();
-    rev_steady();
-    if regs.ccr.has(OVERFLOW) {
-        return (regs, 0);
-    }
-    let mut r = regs;
-    let mut done = 0;
-    while done < most {
-        let Some(next) = antecedent(m, r, flags) else {
-            return (r, done);
-        };
-        r = next;
-        done += 1;
-    }
-    (r, done)
-}
-
 /// Does parts of REV that go on and leave it where it stands, at most `most`. Answers the registers after
 /// them, and how many they were.
 fn rev_parts<M: Mem>(m: &mut M, regs: Regs, temps: Temps, flags: u8, most: u32) -> (Regs, u32)
@@ -103,9 +58,6 @@ fn rev_parts<M: Mem>(m: &mut M, regs: Regs, temps: Temps, flags: u8, most: u32) 
         let mut t = temps;
         let _ = Rev.part(&mut r, m, &mut t, flags);
         done += 1;
-        let (next, more) = antecedents(m, r, flags, most - done);
-        r = next;
-        done += more;
     }
     (r, done)
 }

@@ -17,10 +17,4 @@ loop-done-preserved g c =
     let ruled : Ruled 0x3A a.flags s u (l.done + 1) =
     Ruled-then 0x3A a.flags s t u l.done 1 c.requires.off l.invariant.ruled
     (Ruled-part a.flags t u.regs u.mem law on c.part.ensures.regs c.part.ensures.mem) in
-    let v : State = state_of c.antecedents-more.result.0 a.temps u.mem in
-    record {
-      ruled = Ruled-then 0x3A a.flags s u v (l.done + 1) c.antecedents-more.result.1 c.requires.off ruled
-          (c.antecedents-more.ensures.parts a.temps);
-      within = omega arith;
-      noted = c.part.ensures.noted ∙ l.invariant.noted;
-    }
+    record { ruled = ruled; within = omega arith; noted = c.part.ensures.noted ∙ l.invariant.noted }
