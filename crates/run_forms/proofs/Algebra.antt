@@ -1,13 +1,18 @@
--- What holds of all that was told, where placed bytes stand, the requests of a sample, and parts of what is shown.
-use Rattle.std.proofs.Common.{◌≡◌, ℕ, suc, ◌+◌, ◌<◌, ◌≤◌, inl, inr, true, false, Bool, List, [], ◌∷◌}
-use Rattle.std.proofs.Common.{map, length, refl, ap, arith}
+-- What holds of all that was told, where placed bytes stand, the requests of a sample, parts of what is shown, and
+-- requests that are taken and left.
+use Rattle.std.proofs.Common.{◌≡◌, ℕ, zero, suc, ◌+◌, ◌<◌, ◌≤◌, ◌&&◌, nat_le, inl, inr, true, false, Bool, Result, Ok, Err}
+use Rattle.std.proofs.Common.{List, [], ◌∷◌, ◌++◌, map, length, append_assoc, refl, ap, ◌∙◌, arith}
 use Rattle.std.specs.Prelude.{All, if◌then◌else◌}
 use Rattle.std.proofs.lemmas.Bool.Decides.{nat_tests}
 use Rattle.std.proofs.lemmas.List.Elements.{All-cons}
+use Rattle.std.proofs.lemmas.List.{map-append}
 use Rattle.cpu12_isa.specs.Agreement.{IsWritten}
 use Rattle.cpu12_isa.specs.Memory.{plus, placed}
-use Rattle.run_law.specs.Forms.{RowSeen}
-use Rattle.run_law.specs.Following.{onto, all_onto}
+use Rattle.cpu12_parts.specs.State.{State}
+use Rattle.cpu12_emul.specs.Step.{Next, next_of, is_part}
+use Rattle.cpu12_emul.specs.Take.{may_interrupt}
+use Rattle.run_law.specs.Forms.{Form, Taking, Ran, takes, taken, then_rest, run_from, RowSeen}
+use Rattle.run_law.specs.Following.{asked, onto, all_onto}
 use Rattle.run_forms.specs.Forms.{sample_in}
 use Rattle.run_forms.specs.Rows.{is_of, of_sample, shown_rows, tellings}
 
@@ -64,3 +69,50 @@ map-shown_rows part shows [] tss = refl
 map-shown_rows part shows (row ∷ rows) [] = refl
 map-shown_rows {C = C} part shows (row ∷ rows) (ts ∷ tss) =
     ap (λ (cs : List C). part (shows row (tellings ts)) ∷ cs) (map-shown_rows part shows rows tss)
+
+-- the requests that are taken at a boundary come before those that are left
+takes_by : {S A B : Type 0} (b : Bool) (f : Form S A B) (m : ℕ) (q : A) (qs : List A) (s : State)
+    → (may_interrupt s && nat_le (f.moment q) m) ≡ b
+    → asked (takes f m qs (taken f q s)).told ++ (takes f m qs (taken f q s)).left ≡ qs
+    → asked (takes f m (q ∷ qs) s).told ++ (takes f m (q ∷ qs) s).left ≡ q ∷ qs
+unfolding takes
+takes_by {A = A} true f m q qs s e r = rw e (ap (λ (xs : List A). q ∷ xs) r)
+takes_by false f m q qs s e r = rw e refl
+
+pub taken_told : {S A B : Type 0} (f : Form S A B) (m : ℕ) (qs : List A) (s : State)
+    → asked (takes f m qs s).told ++ (takes f m qs s).left ≡ qs
+unfolding takes
+taken_told f m [] s = refl
+taken_told f m (q ∷ qs) s =
+    takes_by (may_interrupt s && nat_le (f.moment q) m) f m q qs s refl (taken_told f m qs (taken f q s))
+
+-- so do those that are taken in a run
+rest_told : {A B : Type 0} (inside : Bool) (b : Taking A B) (rest : Bool → State → Ran A B) (o : Result Next ℕ)
+    (qs : List A) → asked b.told ++ b.left ≡ qs
+    → ((i : Bool) (u : State) → asked (rest i u).told ++ (rest i u).left ≡ b.left)
+    → asked (then_rest inside b rest o).told ++ (then_rest inside b rest o).left ≡ qs
+rest_told {A = A} {B = B} inside b rest (Ok next) qs e r =
+    let k : Ran A B = rest (is_part next.kind) next.state in
+    ap (λ (xs : List A). xs ++ k.left) (map-append (λ (t : A × B). t.0) b.told k.told)
+    ∙ append_assoc (asked b.told) (asked k.told) k.left
+    ∙ ap (λ (xs : List A). asked b.told ++ xs) (r (is_part next.kind) next.state) ∙ e
+rest_told inside b rest (Err byte) qs e r = e
+
+ran_by : {S A B : Type 0} (e : Bool) (f : Form S A B) (n m : ℕ) (inside : Bool) (qs : List A) (s : State)
+    → f.ends m s ≡ e
+    → ((qs2 : List A) (i : Bool) (u : State)
+    → asked (run_from f n (suc m) i qs2 u).told ++ (run_from f n (suc m) i qs2 u).left ≡ qs2)
+    → asked (run_from f (suc n) m inside qs s).told ++ (run_from f (suc n) m inside qs s).left ≡ qs
+unfolding run_from
+ran_by true f n m inside qs s e r = rw e refl
+ran_by {A = A} {B = B} false f n m inside qs s e r =
+    let b : Taking A B = takes f m qs s in
+    rw e (rest_told inside b (λ i u. run_from f n (suc m) i b.left u) (next_of f.flags b.state) qs
+    (taken_told f m qs s) (r b.left))
+
+pub ran_told : {S A B : Type 0} (f : Form S A B) (n m : ℕ) (inside : Bool) (qs : List A) (s : State)
+    → asked (run_from f n m inside qs s).told ++ (run_from f n m inside qs s).left ≡ qs
+unfolding run_from
+ran_told f zero m inside qs s = refl
+ran_told f (suc n) m inside qs s =
+    ran_by (f.ends m s) f n m inside qs s refl (λ qs2 i u. ran_told f n (suc m) i qs2 u)

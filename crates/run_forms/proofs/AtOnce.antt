@@ -1,23 +1,20 @@
--- Steps that are done at once: parts of instructions that go on, or plain instructions.
-use Rattle.std.proofs.Common.{◌≡◌, ℕ, zero, suc, ◌+◌, ◌-◌, ◌<◌, ◌≤◌, Bool, true, false, ◌&&◌, nat_le, Ok, List, [], ◌∷◌}
+-- Parts of an instruction that are done at once.
+use Rattle.std.proofs.Common.{◌≡◌, ℕ, zero, suc, ◌+◌, ◌-◌, ◌<◌, ◌≤◌, true, false, nat_le, Ok, List, [], ◌∷◌}
 use Rattle.std.proofs.Common.{◌++◌, length, length-append, length-drop, map, drop, refl, ap, ap₂, sym, ◌∙◌, subst}
 use Rattle.std.proofs.Common.{arith}
-use Rattle.std.specs.Prelude.{◌==◌, not, if◌then◌else◌}
 use Rattle.std.proofs.lemmas.Bool.{and_right}
 use Rattle.std.proofs.lemmas.Bool.Decides.{nat_tests}
 use Rattle.cpu12_parts.specs.State.{State}
-use Rattle.cpu12_emul.specs.declared.ends.Stepped.{Stepped}
-use Rattle.cpu12_emul.specs.Run.{StepsOf}
-use Rattle.cpu12_emul.specs.Step.{Whole, next_of, is_part}
+use Rattle.cpu12_emul.specs.declared.ends.Stepped.TheVariants.{Part}
+use Rattle.cpu12_emul.specs.Run.{PartsTo}
+use Rattle.cpu12_emul.specs.Step.{Whole, next_of}
 use Rattle.cpu12_emul.specs.Take.{may_interrupt}
-use Rattle.run_law.specs.Forms.{one_if}
 use Rattle.run_forms.specs.declared.boundary.Stand.{Stand}
 use Rattle.run_forms.specs.declared.progress.Progress.{Progress}
 use Rattle.run_forms.specs.Forms.{Harness, moment_in, plan_form}
 use Rattle.run_forms.specs.Rest.{is_due, shown_by}
-use Rattle.run_forms.specs.Rows.{frames_seen}
 use Rattle.run_forms.specs.Positions.{Position, numbered}
-use Rattle.run_forms.specs.Sessions.{Coming, after_states, after_takes, after_state, moved}
+use Rattle.run_forms.specs.Sessions.{Coming, after_states, after_takes, after_state, after_parts}
 use Rattle.run_forms.specs.Sessions.{stepped_tally, IsSteady, NoneDue}
 use Rattle.run_forms.specs.Outlooks.{Ahead, Outlook, ahead, at_position, from_here, left_by, outlook, outlook_at}
 use Rattle.run_forms.specs.Outlooks.{requests_at, rows_here, sample_at, state_here, with_row, IsUnderWay}
@@ -44,143 +41,108 @@ none_fewer moment m n k [] few none = tt
 none_fewer moment m n k (q ∷ qs) few none =
     λ h. (let l : m + k < moment q = none (omega (arith, h, few)) in omega (arith, l, few))
 
-made : {U : Type 0} → Stand U → ℕ → Bool → ℕ → ℕ → Stand U
-made st m i k l = record {
-  tally = record (st.tally) { moment = m; inside = i; instrs = k };
-  left = l;
-  over = st.over;
-}
+made : {U : Type 0} → Stand U → ℕ → ℕ → Stand U
+made st m l = record st { tally = record (st.tally) { moment = m }; left = l }
 
-same_either : {C : Type 0} (b : Bool) (x : C) → (if b then x else x) ≡ x
-same_either true x = refl
-same_either false x = refl
-
-one_instr : (part : Bool) → (if part then 0 else 1) ≡ one_if (not part)
-one_instr true = refl
-one_instr false = refl
-
-more_instrs : (part : Bool) (k n : ℕ)
-    → k + (if part then 0 else 1) + (if part then 0 else n) ≡ k + (if part then 0 else suc n)
-more_instrs true k n = omega arith
-more_instrs false k n = omega arith
-
-moved_none : {U : Type 0} (part : Bool) (st : Stand U) → moved part 0 st ≡ st
+parts_none : {U : Type 0} (st : Stand U) → after_parts 0 st ≡ st
 unfolding made
-moved_none part st =
-    let t = st.tally in
-    let m : t.moment + 0 ≡ t.moment = omega arith in
-    let none = same_either {C = ℕ} part 0 in
-    let k : t.instrs + (if part then 0 else 0) ≡ t.instrs = omega (arith, none) in
+parts_none st =
+    let m : st.tally.moment + 0 ≡ st.tally.moment = omega arith in
     let l : st.left - 0 ≡ st.left = omega arith in
-    ap₂ (λ (m k : ℕ). made st m t.inside k (st.left - 0)) m k ∙ ap (made st t.moment t.inside t.instrs) l
+    ap₂ (λ (m l : ℕ). made st m l) m l
 
-moved_more : {U : Type 0} (part : Bool) (n : ℕ) (st : Stand U) → moved part n (moved part 1 st) ≡ moved part (suc n) st
+parts_more : {U : Type 0} (n : ℕ) (st : Stand U) → after_parts n (after_parts 1 st) ≡ after_parts (suc n) st
 unfolding made
-moved_more part n st =
-    let t = st.tally in
-    let m : t.moment + 1 + n ≡ t.moment + suc n = omega arith in
-    let k = more_instrs part t.instrs n in
+parts_more n st =
+    let m : st.tally.moment + 1 + n ≡ st.tally.moment + suc n = omega arith in
     let l : st.left - 1 - n ≡ st.left - suc n = omega arith in
-    let some : (suc n == 0) ≡ false = grind (arith, nat_tests) in
-    let i : (if n == 0 then part else part) ≡ (if suc n == 0 then t.inside else part) =
-    same_either (n == 0) part ∙ sym (ap (λ (b : Bool). if b then t.inside else part) some) in
-    ap₂ (λ (m k : ℕ). made st m (if n == 0 then part else part) k (st.left - 1 - n)) m k
-    ∙ ap₂ (λ (i : Bool) (l : ℕ). made st (t.moment + suc n) i (t.instrs + (if part then 0 else suc n)) l) i l
+    ap₂ (λ (m l : ℕ). made st m l) m l
 
--- a step at whose end nothing comes
-one_step : {A U R S B T : Type 0} (kind : Stepped) (flags : ℕ) (h : Harness A U R S B T) (qs : List A) (st : Stand U)
-    (s u : State)
-    → st.over ≡ false → st.tally.arrived ≡ false → 1 ≤ st.left
-    → next_of flags s ≡ Ok (record { state = u; kind = kind })
-    → h.parts.ends u ≡ false
+-- a part at whose end nothing comes
+one_part : {A U R S B T : Type 0} (flags : ℕ) (h : Harness A U R S B T) (qs : List A) (st : Stand U) (s u : State)
+    → st.over ≡ false → st.tally.inside ≡ true → st.tally.arrived ≡ false → 1 ≤ st.left
+    → next_of flags s ≡ Ok (record { state = u; kind = Part })
+    → h.parts.ends (st.tally.moment + 1) u ≡ false
     → is_due (moment_in h.parts.place) (st.tally.moment + 1) (drop st.tally.next qs) u ≡ false
-    → after_takes flags h qs st s ≡ after_state s (after_takes flags h qs (moved (is_part kind) 1 st) u)
-one_step {U = U} kind flags h qs st s u on alive left e busy due =
+    → after_takes flags h qs st s ≡ after_state s (after_takes flags h qs (after_parts 1 st) u)
+one_part {U = U} flags h qs st s u on inside alive left e busy due =
     let t = st.tally in
-    let part = is_part kind in
-    let st1 : Stand U = record st { tally = stepped_tally t part } in
-    let st2 : Stand U = moved part 1 st in
-    let none : one_if (part && false) ≡ 0 = ap one_if (and_right part false refl) in
-    let k : Takes st1 st2 false = record {
+    let st1 : Stand U = record st { tally = stepped_tally t true } in
+    let st2 : Stand U = after_parts 1 st in
+    let instrs : t.instrs ≡ t.instrs + 0 = omega arith in
+    let resumed : t.resumed ≡ t.resumed + 0 = omega arith in
+    let k : Takes h.notes st1 st2 false = record {
       left = omega (arith, left);
       moment = refl;
-      inside = refl;
-      instrs = ap (λ (k : ℕ). t.instrs + k) (one_instr part);
+      inside = inside;
+      instrs = instrs;
       arrived = alive;
-      resumed = omega (arith, none);
+      resumed = resumed;
       taken_is = grind (arith, nat_tests);
     } in
-    let takes = takes_end (plan_form flags h.parts) (t.moment + 1) (drop t.next qs) u (frames_seen t.frames.items)
-    (map h.told t.told.items) due in
-    stepped_here flags h qs st st1 s u kind on e refl
+    let takes = takes_end (plan_form flags h.parts) (t.moment + 1) (drop t.next qs) u (h.notes.frames t.notes)
+    (h.notes.told t.notes) due in
+    stepped_here flags h qs st st1 s u Part on e refl
     ∙ ap (after_state s) (sym (taken_here flags h qs st1 st2 u u false on busy k takes))
 
 -- many of them
-steps_on : {A U R S B T : Type 0} (kind : Stepped) (P : State → Type 0) (flags : ℕ) (h : Harness A U R S B T)
-    (qs : List A) (n : ℕ)
-    (st : Stand U) (s t : State) → ((u : State) → P u → h.parts.ends u ≡ false) → st.over ≡ false
-    → st.tally.arrived ≡ false → n ≤ st.left
-    → NoneDue (moment_in h.parts.place) st.tally.moment n (drop st.tally.next qs) → StepsOf kind P flags n s t
+parts_on : {A U R S B T : Type 0} (P : State → Type 0) (flags : ℕ) (h : Harness A U R S B T) (qs : List A) (n : ℕ)
+    (st : Stand U) (s t : State) → ((k : ℕ) (u : State) → P u → h.parts.ends k u ≡ false) → st.over ≡ false
+    → st.tally.inside ≡ true → st.tally.arrived ≡ false → n ≤ st.left
+    → NoneDue (moment_in h.parts.place) st.tally.moment n (drop st.tally.next qs) → PartsTo P flags n s t
     → (states : List State)
-    × (after_takes flags h qs st s ≡ after_states states (after_takes flags h qs (moved (is_part kind) n st) t))
-steps_on {U = U} kind P flags h qs zero st s t busy on alive left none to =
-    ([], ap₂ (λ (k : Stand U) (u : State). after_takes flags h qs k u) (sym (moved_none (is_part kind) st)) to)
-steps_on {U = U} kind P flags h qs (suc n) st s t busy on alive left none to =
+    × (after_takes flags h qs st s ≡ after_states states (after_takes flags h qs (after_parts n st) t))
+parts_on {U = U} P flags h qs zero st s t busy on inside alive left none to =
+    ([], ap₂ (λ (k : Stand U) (u : State). after_takes flags h qs k u) (sym (parts_none st)) to)
+parts_on {U = U} P flags h qs (suc n) st s t busy on inside alive left none to =
     let u : State = to.0 in
     let m : ℕ = st.tally.moment in
     let moment = moment_in h.parts.place in
-    let st1 : Stand U = moved (is_part kind) 1 st in
+    let st1 : Stand U = after_parts 1 st in
     let due = not_due moment m (suc n) (drop st.tally.next qs) u (omega arith) none in
-    let one = one_step kind flags h qs st s u on alive (omega (arith, left)) to.1.0 (busy u to.1.1) due in
-    let rest = steps_on kind P flags h qs n st1 u t busy on alive (omega (arith, left))
+    let one = one_part flags h qs st s u on inside alive (omega (arith, left)) to.1.0 (busy (m + 1) u to.1.1) due in
+    let rest = parts_on P flags h qs n st1 u t busy on inside alive (omega (arith, left))
     (none_later moment m n (drop st.tally.next qs) none) to.1.2 in (
       s ∷ rest.0,
       one ∙ ap (after_state s) rest.1
-          ∙ ap (λ (k : Stand U). after_states (s ∷ rest.0) (after_takes flags h qs k t))
-          (moved_more (is_part kind) n st),
+          ∙ ap (λ (k : Stand U). after_states (s ∷ rest.0) (after_takes flags h qs k t)) (parts_more n st),
     )
 
-fewer_instrs : (part : Bool) (n : ℕ) → (if part then 0 else n) ≤ n
-fewer_instrs true n = omega arith
-fewer_instrs false n = omega arith
-
-steady_moved : {A U : Type 0} (qs : List A) (part : Bool) (n : ℕ) (st : Stand U) → n ≤ st.left → IsSteady qs st
-    → IsSteady qs (moved part n st)
-steady_moved qs part n st left steady =
+steady_parts : {A U : Type 0} (fits : U → ℕ → Type 0) (qs : List A) (n : ℕ) (st : Stand U) → n ≤ st.left
+    → IsSteady fits qs st → IsSteady fits qs (after_parts n st)
+steady_parts fits qs n st left steady =
     let instrs = steady.instrs in
     let resumed = steady.resumed in
-    let few = fewer_instrs part n in
     record {
+      next = steady.next;
       room = steady.room;
-      told = steady.told;
-      few = steady.few;
-      instrs = omega (arith, instrs, few);
+      instrs = omega (arith, instrs);
       resumed = omega (arith, resumed);
       on = λ e. (let on = steady.on e in (on.0, (let sum = on.1 in omega (arith, left, sum))));
     }
 
--- what is to come is the same from a stand as after steps from there, which may go on too
-pub record PassesTo {A U R S B T : Type 0} (flags : ℕ) (h : Harness A U R S B T) (qs : List A) (st st2 : Stand U)
-    (s t : State) : Type 0 where
+-- what is to come is the same from a stand as after parts from there, which may go on too
+pub record PassesTo {A U R S B T : Type 0} (fits : U → ℕ → Type 0) (flags : ℕ) (h : Harness A U R S B T) (qs : List A)
+    (st st2 : Stand U) (s t : State) : Type 0 where
   pub coming : (states : List State)
       × (after_takes flags h qs st s ≡ after_states states (after_takes flags h qs st2 t))
-  pub steady : IsSteady qs st2
+  pub steady : IsSteady fits qs st2
 
--- steps of a kind, of which no more are done than come before a request and are left
-pub passes_to : {A U R S B T : Type 0} (kind : Stepped) (P : State → Type 0) (flags : ℕ) (h : Harness A U R S B T)
-    (qs : List A) (most n : ℕ)
-    (st st2 : Stand U) (s t : State) → ((u : State) → P u → h.parts.ends u ≡ false) → st.over ≡ false → IsSteady qs st
-    → most ≤ st.left
+-- parts, of which no more are done than come before a request and are left
+pub passes_to : {A U R S B T : Type 0} (fits : U → ℕ → Type 0) (P : State → Type 0) (flags : ℕ)
+    (h : Harness A U R S B T) (qs : List A) (most n : ℕ) (st st2 : Stand U) (s t : State)
+    → ((k : ℕ) (u : State) → P u → h.parts.ends k u ≡ false) → st.over ≡ false → st.tally.inside ≡ true
+    → IsSteady fits qs st → most ≤ st.left
     → NoneDue (moment_in h.parts.place) st.tally.moment most (drop st.tally.next qs) → n ≤ most
-    → StepsOf kind P flags n s t
-    → st2 ≡ moved (is_part kind) n st → PassesTo flags h qs st st2 s t
-passes_to {U = U} kind P flags h qs most n st st2 s t busy on steady left none few to is =
+    → PartsTo P flags n s t
+    → st2 ≡ after_parts n st → PassesTo fits flags h qs st st2 s t
+passes_to {U = U} fits P flags h qs most n st st2 s t busy on inside steady left none few to is =
     let within : n ≤ st.left = omega (arith, left, few) in
     let fewer = none_fewer (moment_in h.parts.place) st.tally.moment n most (drop st.tally.next qs) few none in
-    let go = steps_on kind P flags h qs n st s t busy on (steady.on on).0 within fewer to in
+    let go = parts_on P flags h qs n st s t busy on inside (steady.on on).0 within fewer to in
     record {
       coming = (go.0, go.1 ∙ ap (λ (k : Stand U). after_states go.0 (after_takes flags h qs k t)) (sym is));
-      steady = subst (λ (k : Stand U). IsSteady qs k) (sym is) (steady_moved qs (is_part kind) n st within steady);
+      steady = subst (λ (k : Stand U). IsSteady fits qs k) (sym is) (steady_parts fits qs n st within steady);
     }
 
 length_numbered : (k m : ℕ) (ws : List State) → length (numbered k m ws) ≡ length ws
@@ -205,27 +167,27 @@ pub record PassesOn {T : Type 0} (o o2 : Outlook T) : Type 0 where
   pub state : o2.state ≡ o.state
   pub less : length o2.later < length o.later
 
--- a position further, and then by steps that were done at once
+-- a position further, and then by parts that were done at once
 passed : {A U R S B T : Type 0} (flags : ℕ) (h : Harness A U R S B T) (plan : List A) (p : Progress U R) (st : Stand U)
     (o : Outlook T)
     (s t : State) (at : Position) (states : List State) → o ≡ at_position at (from_here (outlook_at flags h plan p s))
     → after_takes flags h (requests_at plan p) p.stand s ≡ after_states states
     (after_takes flags h (requests_at plan p) st t)
     → PassesOn o (outlook_at flags h plan (record p { stand = st }) t)
-passed {B = B} {T = T} flags h plan p st o s t at states goes on =
+passed {A = A} {B = B} {T = T} flags h plan p st o s t at states goes on =
     let x = sample_at p.number h.samples in
     let later = drop p.behind plan in
     let rest = drop p.number h.samples in
     let rows : List T = map h.seen p.rows.items in
     let k : ℕ = p.number in
     let m : ℕ = p.stand.tally.moment in
-    let c : Coming B = after_takes flags h (requests_at plan p) st t in
+    let c : Coming A B = after_takes flags h (requests_at plan p) st t in
     let next : Ahead T =
     ahead flags h p.most (k + 1) later rest (with_row rows (shown_by h.shows h.parts.answers c.brief) x)
     (left_by h.parts.leave x c.brief.state) in
-    let by : Coming B → Outlook T = λ d. outlook flags h p.most k m x s d later rest rows in
+    let by : Coming A B → Outlook T = λ d. outlook flags h p.most k m x s d later rest rows in
     let here : o ≡ at_position at (from_here (by (after_states states c))) =
-    goes ∙ ap (λ (d : Coming B). at_position at (from_here (by d))) on in
+    goes ∙ ap (λ (d : Coming A B). at_position at (from_here (by d))) on in
     let all = ap (λ (q : Outlook T). length q.later) here in
     let few = fewer k m st.tally.moment states c.states next.left in
     record {
@@ -247,8 +209,8 @@ passes_on flags i j h plan l p st r s t at states ei ej goes on =
     (after_takes k h (requests_at plan p) st t)) ej on)
 
 -- a run is under way where a stand further on may go on
-pub under_way_on : {A U R S B T : Type 0} {h : Harness A U R S B T} {plan : List A} {p : Progress U R} {st : Stand U}
-    → IsUnderWay h plan p → IsSteady (requests_at plan p) st → IsUnderWay h plan (record p { stand = st })
+pub under_way_on : {A U R S B T : Type 0} {fits : U → ℕ → Type 0} {h : Harness A U R S B T} {plan : List A} {p : Progress U R} {st : Stand U}
+    → IsUnderWay fits h plan p → IsSteady fits (requests_at plan p) st → IsUnderWay fits h plan (record p { stand = st })
 under_way_on under_way steady = record {
   few = under_way.few;
   number = under_way.number;

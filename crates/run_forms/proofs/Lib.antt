@@ -8,3 +8,4 @@ pub mod Comings
 pub mod Outlooks
 pub mod NextSamples
 pub mod AtOnce
+pub mod Counts

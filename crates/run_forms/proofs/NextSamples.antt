@@ -6,7 +6,6 @@ use Rattle.cpu12_parts.specs.State.{State}
 use Rattle.run_law.specs.Forms.{Form, run_from}
 use Rattle.run_forms.specs.declared.boundary.Stand.{Stand}
 use Rattle.run_forms.specs.declared.sample.Tally.{Tally}
-use Rattle.run_forms.specs.declared.sample.Room.{Room}
 use Rattle.run_forms.specs.declared.progress.Progress.{Progress}
 use Rattle.run_forms.specs.Forms.{plan_form, Harness}
 use Rattle.run_forms.specs.Rest.{counted_at, shown_by}
@@ -16,7 +15,7 @@ use Rattle.run_forms.specs.Outlooks.{from_here, ahead, sample_at, with_row, outl
 use Rattle.run_forms.specs.Outlooks.{IsUnderWay}
 use Rattle.run_forms.proofs.PlanSlices.{room_first, slice_first, count_there, few_there, rest_further, first_few}
 use Rattle.run_forms.proofs.PlanSlices.{later_follow}
-use Rattle.run_forms.proofs.Outlooks.{HasRoomLeft, coming_of, fresh, fresh_coming, given_ahead, given_room, is_there}
+use Rattle.run_forms.proofs.Outlooks.{coming_of, fresh, fresh_coming, given_ahead, given_room, is_there}
 use Rattle.run_forms.proofs.Outlooks.{sample_next, states_here}
 
 -- its requests, of the plan that is left
@@ -24,9 +23,9 @@ abbrev pub next_requests : {A U R S B T : Type 0} → Harness A U R S B T → Li
 next_requests h plan p = requests_first h.parts.place (p.number + 1) (drop p.behind plan)
 
 -- A run under way has one more sample: its room stands before these, it has n requests, and it begins at this stand.
-pub record HasNext {A U R S B T : Type 0} (h : Harness A U R S B T) (plan : List A) (p : Progress U R) (n : ℕ)
-    (room : Room U) (rooms : List (Room U)) (st : Stand U) : Type 0 where
-  pub under_way : IsUnderWay h plan p
+pub record HasNext {A U R S B T : Type 0} (fits : U → ℕ → Type 0) (h : Harness A U R S B T) (plan : List A) (p : Progress U R) (n : ℕ)
+    (room : U) (rooms : List U) (st : Stand U) : Type 0 where
+  pub under_way : IsUnderWay fits h plan p
   pub more : p.number < length h.samples
   pub items : p.rooms.items ≡ room ∷ rooms
   pub count : n ≡ length
@@ -47,45 +46,45 @@ with_next n p q = record q {
 abbrev pub requests_from : {A : Type 0} → List A → ℕ → ℕ → List A
 requests_from plan first n = take (first + n - first) (drop first plan)
 
-module _ {A U R S B T : Type 0} {h : Harness A U R S B T} {plan : List A} {p : Progress U R} {n : ℕ} {room : Room U}
-    {rooms : List (Room U)} {st : Stand U} (next : HasNext h plan p n room rooms st) where
+module _ {A U R S B T : Type 0} {fits : U → ℕ → Type 0} {h : Harness A U R S B T} {plan : List A} {p : Progress U R} {n : ℕ} {room : U}
+    {rooms : List U} {st : Stand U} (next : HasNext fits h plan p n room rooms st) where
   counted : n ≡ length (next_requests h plan p)
   counted = count_there h.parts.place (p.number + 1) p.behind n plan next.count
 
   -- its room, and those behind it for the samples behind it
-  next_rooms : HasRoom (next_requests h plan p) room
-      × HaveRoom h.parts.place (p.number + 1 + 1) (length h.samples - p.number - 1)
+  next_rooms : HasRoom fits h.notes (next_requests h plan p) room
+      × HaveRoom fits h.notes h.parts.place (p.number + 1 + 1) (length h.samples - p.number - 1)
       (drop (length (next_requests h plan p)) (drop p.behind plan)) rooms
   next_rooms =
       let more = next.more in
       let k = p.number + 1 in
       let left = length h.samples - p.number in
       let rest : List A = drop p.behind plan in
-      room_first h.parts.place k left rest room rooms (omega (arith, more))
-      (subst (λ (l : List (Room U)). HaveRoom h.parts.place k left rest l) next.items next.under_way.rooms)
+      room_first fits h.notes h.parts.place k left rest room rooms (omega (arith, more))
+      (subst (λ (l : List U). HaveRoom fits h.notes h.parts.place k left rest l) next.items next.under_way.rooms)
 
-  later_rooms : HaveRoom h.parts.place (p.number + 1 + 1) (length h.samples - (p.number + 1))
+  later_rooms : HaveRoom fits h.notes h.parts.place (p.number + 1 + 1) (length h.samples - (p.number + 1))
       (drop (p.behind + n) plan) rooms
   later_rooms =
       let k = p.number + 1 in
       let place = h.parts.place in
       let further = rest_further place k p.behind n plan counted in
       let fewer : length h.samples - p.number - 1 ≡ length h.samples - k = omega arith in
-      subst (λ (l : List A). HaveRoom place (k + 1) (length h.samples - k) l rooms) (sym further)
-      (subst (λ (j : ℕ). HaveRoom place (k + 1) j (drop (length (next_requests h plan p)) (drop p.behind plan)) rooms)
+      subst (λ (l : List A). HaveRoom fits h.notes place (k + 1) (length h.samples - k) l rooms) (sym further)
+      (subst (λ (j : ℕ). HaveRoom fits h.notes place (k + 1) j (drop (length (next_requests h plan p)) (drop p.behind plan)) rooms)
       fewer next_rooms.1)
 
   -- what is left of its room before its first boundary
-  pub next_room : HasRoomLeft (length (requests_from plan p.behind n) - st.tally.next) st.tally
+  pub next_room : fits st.tally.notes (length (requests_from plan p.behind n) - st.tally.next)
   next_room =
-      given_room (requests_from plan p.behind n) (next_requests h plan p) room st.tally next.tally next_rooms.0
+      given_room fits h.notes (requests_from plan p.behind n) (next_requests h plan p) room st.tally next.tally next_rooms.0
       (slice_first h.parts.place (p.number + 1) p.behind n (drop p.behind plan) counted)
       (few_there plan p.behind (p.behind + n - p.behind) next.under_way.few)
 
   -- at its first boundary the run is under way, with one row more
   pub under_way_next : (q : Progress U R) → q.rooms.items ≡ rooms → vec_len q.rows ≡ p.number
-      → vec_capacity p.rows ≤ vec_capacity q.rows → IsSteady (requests_from plan p.behind n) q.stand
-      → IsUnderWay h plan (with_next n p q)
+      → vec_capacity p.rows ≤ vec_capacity q.rows → IsSteady fits (requests_from plan p.behind n) q.stand
+      → IsUnderWay fits h plan (with_next n p q)
   under_way_next q rooms_are len room_kept steady =
       let w = next.under_way in
       let more = next.more in
@@ -100,7 +99,7 @@ module _ {A U R S B T : Type 0} {h : Harness A U R S B T} {plan : List A} {p : P
         behind = (let few = first_few place k rest in let left = length-drop p.behind plan in let inv = w.behind in
             let count = counted in omega (arith, few, left, inv, count));
         follow = subst (λ (l : List A). Follow place (k + 1) l) (sym further) (later_follow place k rest w.follow);
-        rooms = subst (λ (l : List (Room U)). HaveRoom place (k + 1) (length h.samples - k)
+        rooms = subst (λ (l : List U). HaveRoom fits h.notes place (k + 1) (length h.samples - k)
             (drop (p.behind + n) plan) l) (sym rooms_are) later_rooms;
         rows = omega (arith, len);
         room = (let inv = w.room in omega (arith, room_kept, inv));
@@ -111,7 +110,7 @@ module _ {A U R S B T : Type 0} {h : Harness A U R S B T} {plan : List A} {p : P
   pub given_next : (flags i j : ℕ) (q : Progress U R) (old : Stand U) (s past given t : State) → old ≡ p.stand
       → i ≡ j → j ≡ flags
       → map h.seen q.rows.items ≡ with_row (map h.seen p.rows.items)
-      (shown_by h.shows h.parts.answers (counted_at h.told old.tally s)) (sample_at p.number h.samples)
+      (shown_by h.shows h.parts.answers (counted_at h.notes old.tally s)) (sample_at p.number h.samples)
       → past ≡ state_here h p s → ((x : S) → slice_get h.samples p.number ≡ Some x → given ≡ h.parts.give x past)
       → after_takes i h (requests_from plan p.behind n) q.stand t
       ≡ before_takes i h (requests_from plan p.behind n) st given
@@ -136,7 +135,7 @@ module _ {A U R S B T : Type 0} {h : Harness A U R S B T} {plan : List A} {p : P
       let begins : st2.tally.moment ≡ 0 = moment ∙ ap (λ (t : Tally U). t.moment) next.tally in
       let rows_are : seen ≡ rows_here h p s =
       erow ∙ ap (λ (st : Stand U). with_row (map h.seen p.rows.items)
-      (shown_by h.shows h.parts.answers (counted_at h.told st.tally s)) (sample_at p.number h.samples)) was in
+      (shown_by h.shows h.parts.answers (counted_at h.notes st.tally s)) (sample_at p.number h.samples)) was in
       given_ahead flags h p.most p.number st2.tally.moment rest (drop (p.behind + n) plan) qs
       (sample_at k h.samples) y.sample (drop k h.samples) seen past t (after_takes flags h qs st2 t)
       next.under_way.follow (slice_first place k p.behind n rest counted)

@@ -165,14 +165,16 @@ from_nothing {B = B} b =
       frames = b.frames;
     }
 
--- the states at the boundaries, by the first of them
-pub states_onward : {S A B : Type 0} (g : Form S A B) (n m : ℕ) (inside : Bool) (qs qs2 : List A) (s t : State)
+-- what is left and the states at the boundaries, by the first of them
+pub runs_onward : {S A B : Type 0} (g : Form S A B) (n m : ℕ) (inside : Bool) (qs qs2 : List A) (s t : State)
     (next : Next) (fs fs2 : List (ℕ × FrameSeen)) (ts ts2 : List B) → g.ends m s ≡ false
     → with_before fs ts (takes g m qs s) ≡ record { state = t; frames = fs2; told = ts2; left = qs2 }
     → next_of g.flags t ≡ Ok next
-    → (run_from g (suc n) m inside qs s).states ≡ t ∷ (run_from g n (m + 1) (is_part next.kind) qs2 next.state).states
+    → ((run_from g (suc n) m inside qs s).left ≡ (run_from g n (m + 1) (is_part next.kind) qs2 next.state).left)
+    × ((run_from g (suc n) m inside qs s).states
+    ≡ t ∷ (run_from g n (m + 1) (is_part next.kind) qs2 next.state).states)
 unfolding run_from
-states_onward {A = A} {B = B} g n m inside qs qs2 s t next fs fs2 ts ts2 on te ne =
+runs_onward {A = A} {B = B} g n m inside qs qs2 s t next fs fs2 ts ts2 on te ne =
     let b : Taking A B = takes g m qs s in
     let es : b.state ≡ t = ap (λ (k : Brought A B). k.state) te in
     let el : b.left ≡ qs2 = ap (λ (k : Brought A B). k.left) te in
@@ -182,21 +184,25 @@ states_onward {A = A} {B = B} g n m inside qs qs2 s t next fs fs2 ts ts2 on te n
     let two : then_rest inside b rest (next_of g.flags b.state) ≡ before_rest inside b next.kind
     (run_from g n (suc m) (is_part next.kind) b.left next.state) =
     ap (then_rest inside b rest) (ap (next_of g.flags) es ∙ ne) in
-    ap (λ (r : Ran A B). r.states) (one ∙ two)
-    ∙ ap₂ (λ (u : State) (r : Ran A B). u ∷ r.states) es
-    (ap₂ (λ (k : ℕ) (l : List A). run_from g n k (is_part next.kind) l next.state) m1 el)
+    let same = ap₂ (λ (k : ℕ) (l : List A). run_from g n k (is_part next.kind) l next.state) m1 el in (
+      ap (λ (r : Ran A B). r.left) (one ∙ two) ∙ ap (λ (r : Ran A B). r.left) same,
+      ap (λ (r : Ran A B). r.states) (one ∙ two) ∙ ap₂ (λ (u : State) (r : Ran A B). u ∷ r.states) es same,
+    )
 
-pub states_stuck : {S A B : Type 0} (g : Form S A B) (n m : ℕ) (inside : Bool) (qs qs2 : List A) (s t : State)
+pub runs_stuck : {S A B : Type 0} (g : Form S A B) (n m : ℕ) (inside : Bool) (qs qs2 : List A) (s t : State)
     (byte : ℕ) (fs fs2 : List (ℕ × FrameSeen)) (ts ts2 : List B) → g.ends m s ≡ false
     → with_before fs ts (takes g m qs s) ≡ record { state = t; frames = fs2; told = ts2; left = qs2 }
     → next_of g.flags t ≡ Err byte
-    → (run_from g (suc n) m inside qs s).states ≡ t ∷ []
+    → ((run_from g (suc n) m inside qs s).left ≡ qs2) × ((run_from g (suc n) m inside qs s).states ≡ t ∷ [])
 unfolding run_from
-states_stuck {A = A} {B = B} g n m inside qs qs2 s t byte fs fs2 ts ts2 on te ne =
+runs_stuck {A = A} {B = B} g n m inside qs qs2 s t byte fs fs2 ts ts2 on te ne =
     let b : Taking A B = takes g m qs s in
     let es : b.state ≡ t = ap (λ (k : Brought A B). k.state) te in
+    let el : b.left ≡ qs2 = ap (λ (k : Brought A B). k.left) te in
     let rest : Bool → State → Ran A B = λ k u. run_from g n (suc m) k b.left u in
     let one : run_from g (suc n) m inside qs s ≡ then_rest inside b rest (next_of g.flags b.state) = rw on refl in
     let two : then_rest inside b rest (next_of g.flags b.state) ≡ stuck inside b =
-    ap (then_rest inside b rest) (ap (next_of g.flags) es ∙ ne) in
-    ap (λ (r : Ran A B). r.states) (one ∙ two) ∙ ap (λ (u : State). u ∷ []) es
+    ap (then_rest inside b rest) (ap (next_of g.flags) es ∙ ne) in (
+      ap (λ (r : Ran A B). r.left) (one ∙ two) ∙ el,
+      ap (λ (r : Ran A B). r.states) (one ∙ two) ∙ ap (λ (u : State). u ∷ []) es,
+    )

@@ -1,20 +1,19 @@
 -- What is ahead of a run, by its next position.
 use Rattle.std.proofs.Common.{◌≡◌, ◌≤◌, ◌<◌, ℕ, zero, suc, ◌+◌, ◌-◌, Bool, true, false, Result, Ok, Err, List, [], ◌∷◌}
-use Rattle.std.proofs.Common.{◌++◌, length, drop, refl, ap, ap₂, sym, ◌∙◌, subst, vec_len, vec_capacity, arith}
+use Rattle.std.proofs.Common.{◌++◌, length, drop, refl, ap, ap₂, sym, ◌∙◌, subst, arith}
 use Rattle.std.proofs.Common.{append_assoc, append-nil}
 use Rattle.std.proofs.lemmas.List.{drop_all}
 use Rattle.std.specs.Prelude.{if◌then◌else◌, Option, Some, slice_get, map}
 use Rattle.cpu12_parts.specs.State.{State}
-use Rattle.cpu12_emul.specs.declared.ends.Frame.{Frame}
+use Rattle.cpu12_emul.specs.Take.{FrameSeen}
 use Rattle.cpu12_emul.specs.Step.{Next, next_of}
 use Rattle.run_law.specs.Forms.{Form, Ran, run_from, RowSeen, row_of, Rows}
 use Rattle.run_forms.specs.declared.boundary.Stand.{Stand}
 use Rattle.run_forms.specs.declared.sample.Tally.{Tally}
-use Rattle.run_forms.specs.declared.sample.Room.{Room}
 use Rattle.run_forms.specs.declared.progress.Progress.{Progress}
-use Rattle.run_forms.specs.Forms.{plan_form, Harness}
+use Rattle.run_forms.specs.Forms.{plan_form, Notes, Harness}
 use Rattle.run_forms.specs.Rest.{Brief, brief, after, rest_at, shown_by}
-use Rattle.run_forms.specs.Rows.{frames_seen, tellings, shown}
+use Rattle.run_forms.specs.Rows.{tellings, shown}
 use Rattle.run_forms.specs.Slices.{Follow, requests_first, HasRoom}
 use Rattle.run_forms.specs.Positions.{Position, numbered, all_numbered, positions_or, positions}
 use Rattle.run_forms.specs.Sessions.{Coming, before_takes, after_takes, after_state, at_end, by_step, IsSteady}
@@ -23,11 +22,11 @@ use Rattle.run_forms.specs.Outlooks.{left_by, outlook, outlook_at, requests_at, 
 use Rattle.run_forms.proofs.Onward.{from_nothing}
 use Rattle.run_forms.proofs.RowSteps.{rows_under, one_row, no_row}
 
-abbrev pub coming : {B : Type 0} → Brief B → List State → Coming B
-coming b ss = record { brief = b; states = ss }
+abbrev pub coming : {A B : Type 0} → Brief B → List A → List State → Coming A B
+coming b qs ss = record { brief = b; requests = qs; states = ss }
 
-abbrev pub coming_of : {A B : Type 0} → Ran A B → Coming B
-coming_of r = coming (brief r) r.states
+abbrev pub coming_of : {A B : Type 0} → Ran A B → Coming A B
+coming_of r = coming (brief r) r.left r.states
 
 abbrev pub made : {T : Type 0} → List Position → List T → State → Ahead T
 made ps rows s = record { left = ps; rows = rows; state = s }
@@ -41,14 +40,14 @@ pub states_here : {A U R S B T : Type 0} (flags : ℕ) (h : Harness A U R S B T)
     → (after_takes flags h qs st s).states ≡ s ∷ drop 1 (after_takes flags h qs st s).states
 states_here flags h qs st s = by st.over (next_of flags s)
   where
-    by : (b : Bool) (o : Result Next ℕ) → (if b then at_end h.told st.tally s else by_step flags h qs st s o).states ≡ s
-        ∷ drop 1 (if b then at_end h.told st.tally s else by_step flags h qs st s o).states
+    by : (b : Bool) (o : Result Next ℕ) → (if b then at_end h.notes qs st.tally s else by_step flags h qs st s o).states ≡ s
+        ∷ drop 1 (if b then at_end h.notes qs st.tally s else by_step flags h qs st s o).states
     by true o = refl
     by false (Ok next) = refl
     by false (Err byte) = refl
 
 -- what is counted before the first boundary
-abbrev pub fresh : {U : Type 0} → Room U → Tally U
+abbrev pub fresh : {U : Type 0} → U → Tally U
 fresh room = record {
   arrived = false;
   moment = 0;
@@ -56,37 +55,40 @@ fresh room = record {
   next = 0;
   instrs = 0;
   resumed = 0;
-  frames = room.frames;
-  told = room.told;
+  notes = room;
 }
 
 -- all of a sample's run is to come
-pub fresh_coming : {A U R S B T : Type 0} (flags : ℕ) (h : Harness A U R S B T) (n : ℕ) (qs : List A) (room : Room U)
+pub fresh_coming : {A U R S B T : Type 0} (flags : ℕ) (h : Harness A U R S B T) (n : ℕ) (qs : List A) (room : U)
     (st : Stand U) (s : State) → st.tally ≡ fresh room → st.left ≡ n
-    → room.frames.items ≡ [] → room.told.items ≡ []
+    → h.notes.frames room ≡ [] → h.notes.told room ≡ []
     → before_takes flags h qs st s ≡ coming_of (run_from (plan_form flags h.parts) n 0 false qs s)
 fresh_coming {A = A} {U = U} {S = S} {B = B} flags h n qs room st s et el ef eu =
     let g : Form S A B = plan_form flags h.parts in
     let r : Ran A B = run_from g n 0 false qs s in
-    ap₂ (λ (t : Tally U) (k : ℕ). coming (rest_at h.told g k qs t s)
-    (run_from g k t.moment t.inside (drop t.next qs) s).states) et el
-    ∙ ap₂ (λ (fs : List (ℕ × Frame)) (us : List U). coming (after 0 0 0 (map h.told us) (frames_seen fs) (brief r))
-    r.states) ef eu
-    ∙ ap (λ (b : Brief B). coming b r.states) (from_nothing (brief r))
+    ap₂ (λ (t : Tally U) (k : ℕ). at g t k) et el
+    ∙ ap₂ (λ (fs : List (ℕ × FrameSeen)) (us : List B). coming (after 0 0 0 us fs (brief r))
+    r.left r.states) ef eu
+    ∙ ap (λ (b : Brief B). coming b r.left r.states) (from_nothing (brief r))
+  where
+    at : Form S A B → Tally U → ℕ → Coming A B
+    at g t k =
+        let r = run_from g k t.moment t.inside (drop t.next qs) s in
+        coming (rest_at h.notes g k qs t s) r.left r.states
 
 -- a sample that ends here
 pub ends_here : {A U R S B T : Type 0} (flags : ℕ) (h : Harness A U R S B T) (plan : List A) (p : Progress U R)
-    (s : State) → after_takes flags h (requests_at plan p) p.stand s ≡ at_end h.told p.stand.tally s
+    (s : State) → after_takes flags h (requests_at plan p) p.stand s ≡ at_end h.notes (requests_at plan p) p.stand.tally s
     → outlook_at flags h plan p s ≡ at_position (standing p s)
     (ahead flags h p.most (p.number + 1) (drop p.behind plan) (drop p.number h.samples) (rows_here h p s)
     (state_here h p s))
-ends_here {B = B} flags h plan p s e =
-    ap (λ (c : Coming B). outlook flags h p.most p.number p.stand.tally.moment (sample_at p.number h.samples) s c
+ends_here {A = A} {B = B} flags h plan p s e =
+    ap (λ (c : Coming A B). outlook flags h p.most p.number p.stand.tally.moment (sample_at p.number h.samples) s c
     (drop p.behind plan) (drop p.number h.samples) (map h.seen p.rows.items)) e
 
 -- the last sample, at its end
 pub last_here : {A U R S B T : Type 0} (flags : ℕ) (h : Harness A U R S B T) (plan : List A) (p : Progress U R)
-    (s : State) → after_takes flags h (requests_at plan p) p.stand s ≡ at_end h.told p.stand.tally s
+    (s : State) → after_takes flags h (requests_at plan p) p.stand s ≡ at_end h.notes (requests_at plan p) p.stand.tally s
     → length h.samples ≤ p.number
     → outlook_at flags h plan p s ≡ at_position (standing p s) (made [] (rows_here h p s) (state_here h p s))
 last_here {A = A} {S = S} {B = B} {T = T} flags h plan p s e last =
@@ -104,7 +106,7 @@ last_here {A = A} {S = S} {B = B} {T = T} flags h plan p s e last =
 
 -- a sample that ends here, and the next at its first boundary, to which a run comes from what is the same
 pub next_here : {A U R S B T : Type 0} (flags j : ℕ) (h : Harness A U R S B T) (plan : List A) (p q : Progress U R)
-    (st : Stand U) (s u t : State) → after_takes flags h (requests_at plan p) p.stand s ≡ at_end h.told p.stand.tally s
+    (st : Stand U) (s u t : State) → after_takes flags h (requests_at plan p) p.stand s ≡ at_end h.notes (requests_at plan p) p.stand.tally s
     → st ≡ p.stand → u ≡ s → j ≡ flags
     → from_here (outlook_at j h plan q t)
     ≡ ahead j h p.most (p.number + 1) (drop p.behind plan) (drop p.number h.samples)
@@ -136,19 +138,19 @@ goes_here {A = A} {B = B} {T = T} flags h plan p st s t e next_moment =
     let later : List A = drop p.behind plan in
     let rest = drop k h.samples in
     let rows : List T = map h.seen p.rows.items in
-    let c : Coming B = after_takes flags h (requests_at plan p) st t in
+    let c : Coming A B = after_takes flags h (requests_at plan p) st t in
     let next : Ahead T =
     ahead flags h p.most (k + 1) later rest (with_row rows (shown_by h.shows h.parts.answers c.brief) x)
     (left_by h.parts.leave x c.brief.state) in
     let one : suc m ≡ st.tally.moment = omega (arith, next_moment) in
-    ap (λ (d : Coming B). outlook flags h p.most k m x s d later rest rows) e
+    ap (λ (d : Coming A B). outlook flags h p.most k m x s d later rest rows) e
     ∙ ap₂ (λ (j : ℕ) (ws : List State). at_position (standing p s)
     (made (numbered k j ws ++ next.left) next.rows next.state)) one
     (states_here flags h (requests_at plan p) st t)
 
 -- the first boundary of a sample that was given
 pub given_ahead : {A U R S B T : Type 0} (flags : ℕ) (h : Harness A U R S B T) (most n m : ℕ) (plan plan2 qs : List A)
-    (o : Option S) (y : S) (rest : List S) (rows : List T) (s t : State) (c : Coming B)
+    (o : Option S) (y : S) (rest : List S) (rows : List T) (s t : State) (c : Coming A B)
     → Follow h.parts.place (n + 1) plan
     → qs ≡ requests_first h.parts.place (n + 1) plan
     → plan2 ≡ drop (length (requests_first h.parts.place (n + 1) plan)) plan
@@ -170,13 +172,13 @@ given_ahead {A = A} {S = S} {B = B} {T = T} flags h most n m plan plan2 qs o y r
     ap first em
     ∙ ap (λ (ws : List State). started ws) (sym here)
     ∙ ap (λ (x : Option S). full c plan2 x) eo
-    ∙ ap₂ (λ (d : Coming B) (p : List A). full d p (Some y)) same ep
+    ∙ ap₂ (λ (d : Coming A B) (p : List A). full d p (Some y)) same ep
     ∙ ap₂ (λ (j : ℕ) (l : List T). made (numbered k 0 r.states ++ all_numbered j all.states) l all.state) (sym next)
     (append_assoc rows (row ∷ []) (shown h.shows all))
     ∙ ap (λ (rs : Rows S A B). made (all_numbered k rs.states) (rows ++ shown h.shows rs) rs.state)
     (sym (one_row g h.parts.place most plan k y rest s r follow refl))
   where
-    full : Coming B → List A → Option S → Ahead T
+    full : Coming A B → List A → Option S → Ahead T
     full d p x =
         let next = ahead flags h most (n + 1 + 1) p rest (with_row rows (shown_by h.shows h.parts.answers d.brief) x)
         (left_by h.parts.leave x d.brief.state) in
@@ -213,29 +215,14 @@ pub sample_before : {S : Type 0} (n : ℕ) (samples : List S) → 0 < n → samp
 sample_before zero samples h = absurd (omega (arith, h))
 sample_before (suc n) samples h = let e : n ≡ suc n - 1 = omega arith in ap (λ (k : ℕ). slice_get samples k) e
 
--- there is room for what so many more requests push and tell, and these are few
-pub record HasRoomLeft {U : Type 0} (left : ℕ) (t : Tally U) : Type 0 where
-  pub frames : vec_len t.frames + left ≤ vec_capacity t.frames
-  pub told : vec_len t.told + left ≤ vec_capacity t.told
-  pub few : vec_len t.told + left ≤ 10000
-
--- so it is before a sample's first boundary
-pub given_room : {A U : Type 0} (qs first : List A) (room : Room U) (t : Tally U) → t ≡ fresh room → HasRoom first room
-    → qs ≡ first → length qs ≤ 10000
-    → HasRoomLeft (length qs - t.next) t
-given_room {U = U} qs first room t et h eq few =
-    let frames = room.frames.ok in
-    let told = room.told.ok in
-    let no_frames : length room.frames.items ≡ 0 = ap length h.no_frames in
-    let none_told : length room.told.items ≡ 0 = ap length h.none_told in
-    let wide = h.frames in
-    let wide_told = h.told in
-    let same : length qs ≡ length first = ap length eq in
-    subst (λ (u : Tally U). HasRoomLeft (length qs - u.next) u) (sym et) (record {
-      frames = omega (arith, frames.0, no_frames, wide, same);
-      told = omega (arith, told.0, none_told, wide_told, same);
-      few = omega (arith, told.0, none_told, few);
-    })
+-- there is room before a sample's first boundary
+pub given_room : {A U B : Type 0} (fits : U → ℕ → Type 0) (seen : Notes U B) (qs first : List A) (room : U) (t : Tally U) → t ≡ fresh room
+    → HasRoom fits seen first room → qs ≡ first → length qs ≤ 10000 → fits t.notes (length qs - t.next)
+given_room {A = A} {U = U} fits seen qs first room t et h eq few =
+    let all : length qs - 0 ≡ length qs = omega arith in
+    subst (λ (u : Tally U). fits u.notes (length qs - u.next)) (sym et)
+    (subst (λ (k : ℕ). fits room k) (sym all)
+    (subst (λ (l : List A). length l ≤ 10000 → fits room (length l)) (sym eq) h.enough few))
 
 -- the first position of a run, behind the one before its samples
 pub first_goes : {S A B T : Type 0} (shows : RowSeen S → List B → T) (first : State) (o n : Outlook T) (p q : Position)
@@ -263,21 +250,17 @@ first_stays {T = T} shows first o all e none =
     ∙ ap (λ (ps : List Position). made (positions_or first ps) rows all.state) there
 
 -- the stand before the first sample
-pub steady_before : {A U : Type 0} (room : Room U) (st : Stand U) → st.tally ≡ fresh room → room.frames.items ≡ []
-    → room.told.items ≡ []
-    → IsSteady {A = A} [] (record st { over = true })
-steady_before {A = A} {U = U} room st et ef eu =
+pub steady_before : {A U B : Type 0} (fits : U → ℕ → Type 0) (seen : Notes U B) (room : U) (st : Stand U) → st.tally ≡ fresh room
+    → HasRoom {A = A} fits seen [] room → IsSteady {A = A} fits [] (record st { over = true })
+steady_before {A = A} {U = U} fits seen room st et empty =
     let t : Tally U = st.tally in
     let moment : t.moment ≡ 0 = ap (λ (u : Tally U). u.moment) et in
     let instrs : t.instrs ≡ 0 = ap (λ (u : Tally U). u.instrs) et in
     let resumed : t.resumed ≡ 0 = ap (λ (u : Tally U). u.resumed) et in
     let none : List A = [] in
-    let left = given_room none none room t et
-    (record { no_frames = ef; none_told = eu; frames = omega arith; told = omega arith }) refl (omega arith) in
     record {
-      room = left.frames;
-      told = left.told;
-      few = left.few;
+      next = (let next : t.next ≡ 0 = ap (λ (u : Tally U). u.next) et in omega (arith, next));
+      room = given_room fits seen none none room t et empty refl (omega arith);
       instrs = omega (arith, moment, instrs);
       resumed = omega (arith, moment, resumed);
       on = λ e. absurd (let no : true ≡ false = e in cc);

@@ -4,8 +4,7 @@ use Rattle.std.proofs.Common.{length-drop, take, drop, drop-drop, refl, ap, sym,
 use Rattle.std.specs.Prelude.{if◌then◌else◌}
 use Rattle.std.proofs.Math.Seq.{take-length}
 use Rattle.std.proofs.lemmas.List.Sums.{take_while-cons}
-use Rattle.run_forms.specs.declared.sample.Room.{Room}
-use Rattle.run_forms.specs.Forms.{sample_in}
+use Rattle.run_forms.specs.Forms.{Notes, sample_in}
 use Rattle.run_forms.specs.Rows.{is_of, of_sample}
 use Rattle.run_forms.specs.Slices.{Follow, requests_first, requests_after, HasRoom, HaveRoom}
 use Rattle.run_forms.proofs.Algebra.{is_other, one_is, other_is, of_here, of_not}
@@ -114,36 +113,36 @@ after_more place k (suc n) plan =
     let f : k + suc n ≡ suc k + n = omega arith in
     rw (e, f) (after_more place (suc k) n (drop (length (requests_first place k plan)) plan))
 
-pub room_more : {A U : Type 0} (place : A → ℕ × ℕ) (k n : ℕ) (plan : List A) (rooms : List (Room U)) (room : Room U)
-    → HaveRoom place k n plan rooms
-    → HasRoom (requests_first place (k + n) (requests_after place k n plan)) room
-    → HaveRoom place k (n + 1) plan (rooms ++ room ∷ [])
-room_more {U = U} place k zero plan rooms room h r =
+pub room_more : {A U B : Type 0} (fits : U → ℕ → Type 0) (seen : Notes U B) (place : A → ℕ × ℕ) (k n : ℕ) (plan : List A) (rooms : List U) (room : U)
+    → HaveRoom fits seen place k n plan rooms
+    → HasRoom fits seen (requests_first place (k + n) (requests_after place k n plan)) room
+    → HaveRoom fits seen place k (n + 1) plan (rooms ++ room ∷ [])
+room_more {U = U} fits seen place k zero plan rooms room h r =
     let e : k + 0 ≡ k = omega arith in
-    let here : HasRoom (requests_first place k plan) room =
-    subst (λ (j : ℕ). HasRoom (requests_first place j plan) room) e r in
-    subst (λ (l : List (Room U)). HaveRoom place k 1 plan (l ++ room ∷ [])) (sym h) (here, refl)
-room_more place k (suc n) plan [] room h r = absurd h
-room_more place k (suc n) plan (first ∷ rooms) room h r =
+    let here : HasRoom fits seen (requests_first place k plan) room =
+    subst (λ (j : ℕ). HasRoom fits seen (requests_first place j plan) room) e r in
+    subst (λ (l : List U). HaveRoom fits seen place k 1 plan (l ++ room ∷ [])) (sym h) (here, refl)
+room_more fits seen place k (suc n) plan [] room h r = absurd h
+room_more fits seen place k (suc n) plan (first ∷ rooms) room h r =
     let e : suc (n + 1) ≡ suc n + 1 = omega arith in
     let f : k + suc n ≡ suc k + n = omega arith in
-    let there : HasRoom (requests_first place (suc k + n) (requests_after place k (suc n) plan)) room =
-    subst (λ (j : ℕ). HasRoom (requests_first place j (requests_after place k (suc n) plan)) room) f r in
-    subst (λ (j : ℕ). HaveRoom place k j plan (first ∷ (rooms ++ room ∷ []))) e
-    (h.0, room_more place (suc k) n (drop (length (requests_first place k plan)) plan) rooms room h.1 there)
+    let there : HasRoom fits seen (requests_first place (suc k + n) (requests_after place k (suc n) plan)) room =
+    subst (λ (j : ℕ). HasRoom fits seen (requests_first place j (requests_after place k (suc n) plan)) room) f r in
+    subst (λ (j : ℕ). HaveRoom fits seen place k j plan (first ∷ (rooms ++ room ∷ []))) e
+    (h.0, room_more fits seen place (suc k) n (drop (length (requests_first place k plan)) plan) rooms room h.1 there)
 
 -- the first room, and those that are left
-pub room_first : {A U : Type 0} (place : A → ℕ × ℕ) (k n : ℕ) (plan : List A) (room : Room U) (rooms : List (Room U))
-    → 0 < n → HaveRoom place k n plan (room ∷ rooms)
-    → HasRoom (requests_first place k plan) room
-    × HaveRoom place (k + 1) (n - 1) (drop (length (requests_first place k plan)) plan) rooms
-room_first place k zero plan room rooms l h = absurd (omega arith)
-room_first place k (suc n) plan room rooms l h =
+pub room_first : {A U B : Type 0} (fits : U → ℕ → Type 0) (seen : Notes U B) (place : A → ℕ × ℕ) (k n : ℕ) (plan : List A) (room : U) (rooms : List U)
+    → 0 < n → HaveRoom fits seen place k n plan (room ∷ rooms)
+    → HasRoom fits seen (requests_first place k plan) room
+    × HaveRoom fits seen place (k + 1) (n - 1) (drop (length (requests_first place k plan)) plan) rooms
+room_first fits seen place k zero plan room rooms l h = absurd (omega arith)
+room_first fits seen place k (suc n) plan room rooms l h =
     let e : suc n - 1 ≡ n = omega arith in
     let f : suc k ≡ k + 1 = omega arith in (
       h.0,
-      subst (λ (j : ℕ). HaveRoom place (k + 1) j (drop (length (requests_first place k plan)) plan) rooms) (sym e)
-          (subst (λ (j : ℕ). HaveRoom place j n (drop (length (requests_first place k plan)) plan) rooms) f h.1),
+      subst (λ (j : ℕ). HaveRoom fits seen place (k + 1) j (drop (length (requests_first place k plan)) plan) rooms) (sym e)
+          (subst (λ (j : ℕ). HaveRoom fits seen place j n (drop (length (requests_first place k plan)) plan) rooms) f h.1),
     )
 
 pub slice_first : {A : Type 0} (place : A → ℕ × ℕ) (k first count : ℕ) (rest : List A)

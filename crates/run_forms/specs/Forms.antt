@@ -1,16 +1,17 @@
 -- What a form of firmware is, as a form of the law on runs, and what a run in Rust is of.
 use Rattle.std.specs.Prelude.{ℕ, Bool, List}
 use Rattle.cpu12_parts.specs.State.{State}
+use Rattle.cpu12_emul.specs.Take.{FrameSeen}
 use Rattle.run_law.specs.Forms.{Form, RowSeen}
 
 -- What a form of firmware is, whatever the open flags are: how a sample is given, and taken away again at its end; when
--- it ends; what it answers there; the place of a request, which is its sample, counted from 1, and its moment; and, by
--- the byte from which open flags are taken, what a request's handler does to a state in which no sums run, from the
--- push of the frame up to the return, and what it tells.
+-- it ends, by the moment and the state; what it answers there; the place of a request, which is its sample, counted
+-- from 1, and its moment; and, by the byte from which open flags are taken, what a request's handler does to a state in
+-- which no sums run, from the push of the frame up to the return, and what it tells.
 pub record FormParts (S A B : Type 0) : Type 0 where
   pub give : S → State → State
   pub leave : S → State → State
-  pub ends : State → Bool
+  pub ends : ℕ → State → Bool
   pub answers : State → List ℕ
   pub place : A → ℕ × ℕ
   pub handle : ℕ → A → State → State
@@ -29,19 +30,24 @@ plan_form flags parts = record {
   flags = flags;
   give = parts.give;
   leave = parts.leave;
-  ends = λ m s. parts.ends s;
+  ends = parts.ends;
   answers = parts.answers;
   moment = moment_in parts.place;
   handle = parts.handle flags;
   tells = parts.tells flags;
 }
 
--- What a run in Rust is of, whose requests are of type A, whose handlers' tellings are of type U and whose rows are of
--- type R: the samples; the form's parts; what is seen of a telling; what a row is to show of the run of its sample and
--- of what all its handlers told; and what a row shows.
+-- What is seen of the notes U of a sample's interrupts: the frames with their boundaries, and what was told.
+pub record Notes (U B : Type 0) : Type 0 where
+  pub frames : U → List (ℕ × FrameSeen)
+  pub told : U → List B
+
+-- What a run in Rust is of, whose requests are of type A, which takes notes of type U and whose rows are of type R: the
+-- samples; the form's parts; what is seen of notes; what a row is to show of the run of its sample and of what all its
+-- handlers told; and what a row shows.
 pub record Harness (A U R S B T : Type 0) : Type 0 where
   pub samples : List S
   pub parts : FormParts S A B
-  pub told : U → B
+  pub notes : Notes U B
   pub shows : RowSeen S → List B → T
   pub seen : R → T

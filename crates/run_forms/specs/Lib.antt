@@ -5,5 +5,6 @@ pub mod Slices
 pub mod Positions
 pub mod Sessions
 pub mod Outlooks
+pub mod Rooms
 pub mod Showing
 pub mod Arrival

@@ -62,7 +62,7 @@ left_by leave None s = s
 left_by leave (Some x) s = leave x s
 
 -- at a boundary of sample number k, where `c` is to come of the sample
-abbrev pub outlook : {A U R S B T : Type 0} → ℕ → Harness A U R S B T → ℕ → ℕ → ℕ → Option S → State → Coming B
+abbrev pub outlook : {A U R S B T : Type 0} → ℕ → Harness A U R S B T → ℕ → ℕ → ℕ → Option S → State → Coming A B
     → List A → List S → List T → Outlook T
 outlook flags h most k moment x s c plan rest rows =
     let with_this = with_row rows (shown_by h.shows h.parts.answers c.brief) x in
@@ -87,7 +87,7 @@ outlook_at flags h plan p s =
 -- the rows of a run under way, where its sample ends here, and the state after that
 abbrev pub rows_here : {A U R S B T : Type 0} → Harness A U R S B T → Progress U R → State → List T
 rows_here h p s =
-    let row = shown_by h.shows h.parts.answers (counted_at h.told p.stand.tally s) in
+    let row = shown_by h.shows h.parts.answers (counted_at h.notes p.stand.tally s) in
     with_row (map h.seen p.rows.items) row (sample_at p.number h.samples)
 
 abbrev pub state_here : {A U R S B T : Type 0} → Harness A U R S B T → Progress U R → State → State
@@ -95,14 +95,15 @@ state_here h p s = left_by h.parts.leave (sample_at p.number h.samples) s
 
 -- A run under way: the plan from `behind` on is that of the samples that are left, and there is room
 -- for what they push and tell, and for their rows.
-pub record IsUnderWay {A U R S B T : Type 0} (h : Harness A U R S B T) (plan : List A) (p : Progress U R) : Type 0 where
+pub record IsUnderWay {A U R S B T : Type 0} (fits : U → ℕ → Type 0) (h : Harness A U R S B T) (plan : List A)
+    (p : Progress U R) : Type 0 where
   pub few : length plan ≤ 10000
   pub number : p.number ≤ length h.samples
   pub first : p.first ≤ p.behind
   pub behind : p.behind ≤ length plan
   pub follow : Follow h.parts.place (p.number + 1) (drop p.behind plan)
   pub rooms :
-      HaveRoom h.parts.place (p.number + 1) (length h.samples - p.number) (drop p.behind plan) p.rooms.items
+      HaveRoom fits h.notes h.parts.place (p.number + 1) (length h.samples - p.number) (drop p.behind plan) p.rooms.items
   pub rows : vec_len p.rows ≡ p.number - 1
   pub room : length h.samples ≤ vec_capacity p.rows
-  pub stand : IsSteady (requests_at plan p) p.stand
+  pub stand : IsSteady fits (requests_at plan p) p.stand

@@ -1,10 +1,11 @@
 -- What was counted of a run, and what is left of it.
-use Rattle.std.specs.Prelude.{ℕ, ◌+◌, ◌&&◌, nat_le, Bool, false, List, [], ◌∷◌, ◌++◌, drop, map}
+use Rattle.std.specs.Prelude.{ℕ, ◌+◌, ◌&&◌, nat_le, Bool, false, List, [], ◌∷◌, ◌++◌, drop}
 use Rattle.cpu12_parts.specs.State.{State}
 use Rattle.cpu12_emul.specs.Take.{FrameSeen, may_interrupt}
 use Rattle.run_forms.specs.declared.sample.Tally.{Tally}
 use Rattle.run_law.specs.Forms.{Form, Taking, Ran, run_from, RowSeen}
-use Rattle.run_forms.specs.Rows.{frames_seen, tellings}
+use Rattle.run_forms.specs.Forms.{Notes}
+use Rattle.run_forms.specs.Rows.{tellings}
 
 -- whether the next request is due at boundary m and may be taken
 abbrev pub is_due : {A : Type 0} → (A → ℕ) → ℕ → List A → State → Bool
@@ -66,22 +67,22 @@ abbrev pub rest_of : {S A B : Type 0} → Form S A B → ℕ → ℕ → Bool �
 rest_of g n m inside qs s instrs steps resumed told frames =
     after instrs steps resumed told frames (brief (run_from g n m inside qs s))
 
--- the same of a tally, where this is seen of what was told
-abbrev pub rest_at : {S A U B : Type 0} → (U → B) → Form S A B → ℕ → List A → Tally U → State → Brief B
+-- the same of a tally, where this is seen of its notes
+abbrev pub rest_at : {S A U B : Type 0} → Notes U B → Form S A B → ℕ → List A → Tally U → State → Brief B
 rest_at seen g n qs t s =
-    rest_of g n t.moment t.inside (drop t.next qs) s t.instrs t.moment t.resumed (map seen t.told.items)
-    (frames_seen t.frames.items)
+    rest_of g n t.moment t.inside (drop t.next qs) s t.instrs t.moment t.resumed (seen.told t.notes)
+    (seen.frames t.notes)
 
 -- what a tally says at the end
-abbrev pub counted_at : {U B : Type 0} → (U → B) → Tally U → State → Brief B
+abbrev pub counted_at : {U B : Type 0} → Notes U B → Tally U → State → Brief B
 counted_at seen t s = record {
   arrived = t.arrived;
   state = s;
   instrs = t.instrs;
   steps = t.moment;
   resumed = t.resumed;
-  told = map seen t.told.items;
-  frames = frames_seen t.frames.items;
+  told = seen.told t.notes;
+  frames = seen.frames t.notes;
 }
 
 -- the row of a sample, of which this was counted

@@ -1,27 +1,27 @@
 -- The requests of a plan, sample by sample, and room for what they push and tell.
-use Rattle.std.specs.Prelude.{◌≡◌, ◌≤◌, ℕ, zero, suc, List, [], ◌∷◌, length, drop, take_while, vec_capacity}
-use Rattle.run_forms.specs.declared.sample.Room.{Room}
-use Rattle.run_forms.specs.Forms.{sample_in}
+use Rattle.std.specs.Prelude.{◌≡◌, ◌≤◌, ℕ, zero, suc, List, [], ◌∷◌, length, drop, take_while}
+use Rattle.run_forms.specs.Forms.{Notes, sample_in}
 use Rattle.run_forms.specs.Rows.{is_of}
 
 -- the requests of sample k that come first
 abbrev pub requests_first : {A : Type 0} → (A → ℕ × ℕ) → ℕ → List A → List A
 requests_first place k plan = take_while (is_of place k) plan
 
--- empty, with room for what these requests push and tell
-pub record HasRoom {A U : Type 0} (requests : List A) (room : Room U) : Type 0 where
-  pub no_frames : room.frames.items ≡ []
-  pub none_told : room.told.items ≡ []
-  pub frames : length requests ≤ vec_capacity room.frames
-  pub told : length requests ≤ vec_capacity room.told
+-- empty, with room for these requests
+pub record HasRoom {A U B : Type 0} (fits : U → ℕ → Type 0) (seen : Notes U B) (requests : List A)
+    (room : U) : Type 0 where
+  pub no_frames : seen.frames room ≡ []
+  pub none_told : seen.told room ≡ []
+  pub enough : length requests ≤ 10000 → fits room (length requests)
 
 -- a room for each of n samples from number k on
-abbrev pub HaveRoom : {A U : Type 0} → (A → ℕ × ℕ) → ℕ → ℕ → List A → List (Room U) → Type 0
-HaveRoom place k zero plan rooms = rooms ≡ []
-HaveRoom place k (suc n) plan [] = ⊥
-HaveRoom place k (suc n) plan (room ∷ rooms) =
-    HasRoom (requests_first place k plan) room
-    × HaveRoom place (suc k) n (drop (length (requests_first place k plan)) plan) rooms
+abbrev pub HaveRoom : {A U B : Type 0} → (U → ℕ → Type 0) → Notes U B → (A → ℕ × ℕ) → ℕ → ℕ → List A → List U
+    → Type 0
+HaveRoom fits seen place k zero plan rooms = rooms ≡ []
+HaveRoom fits seen place k (suc n) plan [] = ⊥
+HaveRoom fits seen place k (suc n) plan (room ∷ rooms) =
+    HasRoom fits seen (requests_first place k plan) room
+    × HaveRoom fits seen place (suc k) n (drop (length (requests_first place k plan)) plan) rooms
 
 -- the requests that are left after n samples from number k on
 abbrev pub requests_after : {A : Type 0} → (A → ℕ × ℕ) → ℕ → ℕ → List A → List A

@@ -1,13 +1,14 @@
 // A boundary of a sample: what is taken there, and the step after it. What is done at each is inlined into the loop
 // over all of them, what is seldom done is not.
-ghost use Rattle.std.specs.Prelude.{ℕ, ◌≡◌, ◌≤◌, ◌<◌, ◌+◌, ◌-◌};
-ghost use Rattle.std.specs.Prelude.{◌^◌, true, false, Ok, Err, length, vec_len, vec_capacity};
+ghost use Rattle.std.specs.Prelude.{ℕ, ◌≡◌, ◌≤◌, ◌<◌, ◌+◌, ◌-◌, ◌&&◌, nat_lt};
+ghost use Rattle.std.specs.Prelude.{◌^◌, All, true, false, Ok, Err, length};
 ghost use Rattle.cpu12_emul.specs.declared.ends.Stepped.{Stepped as Kind};
 ghost use Rattle.cpu12_emul.specs.Step.{next_of, is_part};
+ghost use Rattle.run_law.specs.Forms.{one_if};
 ghost use Rattle.run_forms.specs.Sessions.{before_takes, after_takes, after_state, at_end, stepped_tally, IsSteady};
 
-use crate::form::RunForm;
-use crate::sample::{Tally, both, count, less, one_if, take_due};
+use crate::form::SampleForm;
+use crate::sample::{Tally, take_due};
 use cpu12_emul::machine::Machine;
 use cpu12_isa::mem::Mem;
 
@@ -22,38 +23,52 @@ pub struct Stand<U> {
     pub over: bool,
 }
 
+#[inline(always)]
+fn one_if(b: bool) -> u32
+    ensures one { result ≡ one_if b }
+    ensures most { result ≤ 1 }
+{
+    if b { 1 } else { 0 }
+}
+
+/// 1 at a boundary inside an instruction where requests are taken, which leads from request `before` to `next`, else 0.
+#[inline(always)]
+fn resumed_here(inside: bool, before: usize, next: usize) -> u32
+    ensures one { result ≡ one_if (inside && nat_lt before next) }
+    ensures most { result ≤ 1 }
+{
+    if inside && before < next { 1 } else { 0 }
+}
+
 /// Comes to a boundary: the sample is over where the firmware waits or no step is left, else what is
 /// due is taken.
 #[inline(always)]
-pub(crate) fn come<M: Mem, A, U, R, F: RunForm<A, U, R>>(
+pub(crate) fn come<M: Mem, A, U, R, F: SampleForm<A, U, R>>(
     m: &mut Machine<M>,
     form: &F,
     requests: &[A],
     st: &mut Stand<U>,
 )
+    requires served { All (F.serves form.now) requests.now }
     requires on { (st.old.over ≡ false) × (st.old.tally.arrived ≡ false) }
-    requires room { vec_len st.old.tally.frames + (length requests.now - st.old.tally.next)
-        ≤ vec_capacity st.old.tally.frames }
-    requires told { vec_len st.old.tally.told + (length requests.now - st.old.tally.next)
-        ≤ vec_capacity st.old.tally.told }
-    requires few { vec_len st.old.tally.told + (length requests.now - st.old.tally.next) ≤ 10000 }
+    requires next { st.old.tally.next ≤ length requests.now }
+    requires room { F.fits st.old.tally.notes
+        (length requests.now - st.old.tally.next) }
     requires counts { (st.old.tally.instrs ≤ st.old.tally.moment) × (st.old.tally.resumed ≤ st.old.tally.moment) }
     requires sum { st.old.tally.moment + st.old.left < 2 ^ 32 }
     ensures coming { after_takes m.old.flags (F.harness form.now) requests.now st.new m.new.state
         ≡ before_takes m.old.flags (F.harness form.now) requests.now st.old m.old.state }
     ensures moment { st.new.tally.moment ≡ st.old.tally.moment }
-    ensures room { vec_len st.new.tally.frames + (length requests.now - st.new.tally.next)
-        ≤ vec_capacity st.new.tally.frames }
-    ensures told { vec_len st.new.tally.told + (length requests.now - st.new.tally.next)
-        ≤ vec_capacity st.new.tally.told }
-    ensures few { vec_len st.new.tally.told + (length requests.now - st.new.tally.next) ≤ 10000 }
+    ensures next { st.new.tally.next ≤ length requests.now }
+    ensures room { F.fits st.new.tally.notes
+        (length requests.now - st.new.tally.next) }
     ensures counts { (st.new.tally.instrs ≤ st.new.tally.moment) × (st.new.tally.resumed ≤ st.new.tally.moment + 1) }
     ensures on { st.new.over ≡ false → (st.new.tally.arrived ≡ false)
         × (st.new.tally.moment + st.new.left + 1 < 2 ^ 32) }
     ensures noted { m.new.noted ≡ m.old.noted }
     ensures flags { m.new.flags ≡ m.old.flags }
 {
-    if form.ends(m) {
+    if form.ends(m, st.tally.moment) {
         st.tally.arrived = true;
         st.over = true;
         return;
@@ -62,10 +77,9 @@ pub(crate) fn come<M: Mem, A, U, R, F: RunForm<A, U, R>>(
         st.over = true;
         return;
     }
-    let before = count(&st.tally.frames);
+    let before = st.tally.next;
     take_due(m, form, requests, &mut st.tally);
-    let taken = less(before, count(&st.tally.frames));
-    st.tally.resumed += one_if(both(st.tally.inside, taken));
+    st.tally.resumed += resumed_here(st.tally.inside, before, st.tally.next);
     st.left -= 1;
 }
 
@@ -105,22 +119,23 @@ pub(crate) fn step_on<M: Mem, U>(m: &mut Machine<M>, st: &mut Stand<U>) -> bool
 
 /// Goes on to the next boundary of the sample. Answers whether there is one.
 #[inline(always)]
-pub(crate) fn pass<M: Mem, A, U, R, F: RunForm<A, U, R>>(
+pub(crate) fn pass<M: Mem, A, U, R, F: SampleForm<A, U, R>>(
     m: &mut Machine<M>,
     form: &F,
     requests: &[A],
     st: &mut Stand<U>,
 ) -> bool
-    requires steady { IsSteady requests.now st.old }
+    requires served { All (F.serves form.now) requests.now }
+    requires steady { IsSteady F.fits requests.now st.old }
     ensures goes { result ≡ true
         → after_takes m.old.flags (F.harness form.now) requests.now st.old m.old.state
         ≡ after_state m.old.state (after_takes m.old.flags (F.harness form.now) requests.now st.new m.new.state) }
     ensures ends { result ≡ false
         → after_takes m.old.flags (F.harness form.now) requests.now st.old m.old.state
-        ≡ at_end (F.harness form.now).told st.old.tally m.old.state }
+        ≡ at_end (F.harness form.now).notes requests.now st.old.tally m.old.state }
     ensures same { result ≡ false → (st.new ≡ st.old) × (m.new ≡ m.old) }
     ensures moment { result ≡ true → st.new.tally.moment ≡ st.old.tally.moment + 1 }
-    ensures steady { IsSteady requests.now st.new }
+    ensures steady { IsSteady F.fits requests.now st.new }
     ensures noted { m.new.noted ≡ m.old.noted }
     ensures flags { m.new.flags ≡ m.old.flags }
 {

@@ -21,9 +21,11 @@ pub mod laws;
 mod progress;
 mod runs;
 mod sample;
+mod sample_run;
 
 pub use boundary::Stand;
-pub use form::RunForm;
-pub use progress::{Progress, advance, drive, into_rows};
-pub use runs::{Start, begun, run_form};
-pub use sample::{Room, Tally};
+pub use form::{RunForm, SampleForm};
+pub use progress::{Progress, advance, drive, fresh_stand, into_rows};
+pub use runs::{Start, begun, room_for, run_form};
+pub use sample::{Room, Tally, take_due};
+pub use sample_run::run_sample;

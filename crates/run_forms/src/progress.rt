@@ -1,21 +1,20 @@
 // A run under way, sample after sample.
 ghost use Rattle.std.specs.Prelude.{ℕ, ◌≡◌, ◌≤◌, ◌<◌, ◌+◌, ◌-◌, ◌^◌, List};
-ghost use Rattle.std.specs.Prelude.{[], true, false, length, map, drop, vec_len, vec_capacity};
+ghost use Rattle.std.specs.Prelude.{[], All, true, false, length, map, drop, vec_len, vec_capacity};
 ghost use Rattle.cpu12_parts.specs.State.{State};
 ghost use Rattle.run_forms.specs.Rest.{counted_at, shown_by};
 ghost use Rattle.run_forms.specs.Rows.{harness_rows};
-ghost use Rattle.run_forms.specs.Slices.{HaveRoom, IsInOrder};
+ghost use Rattle.run_forms.specs.Slices.{HasRoom, HaveRoom, IsInOrder};
 ghost use Rattle.run_forms.specs.Outlooks.{ahead, at_position, from_here, left_by, outlook_at};
 ghost use Rattle.run_forms.specs.Outlooks.{rows_here, sample_at, shown_run, state_here, with_row, IsUnderWay};
 
-use crate::at_once::pass_at_once;
+use crate::at_once::pass_parts;
 use crate::boundary::{Stand, come, pass};
 use crate::form::RunForm;
 use crate::runs::count_of;
-use crate::sample::{Room, Tally};
+use crate::sample::Tally;
 use cpu12_emul::machine::Machine;
 use cpu12_isa::mem::Mem;
-use std::alloc::Global;
 use std::collections::VecDeque;
 use std::mem;
 
@@ -33,13 +32,13 @@ pub struct Progress<U, R> {
     /// Where those of the next begin.
     pub behind: usize,
     /// Room for what the requests of each sample that is left push and tell.
-    pub rooms: VecDeque<Room<U>>,
+    pub rooms: VecDeque<U>,
     /// The rows of the samples before.
     pub rows: Vec<R>,
 }
 
 /// Before the first boundary of a sample that may take `budget` steps.
-fn fresh_stand<U>(budget: u32, room: Room<U>) -> Stand<U>
+pub fn fresh_stand<U>(budget: u32, notes: U) -> Stand<U>
     ensures tally { result.tally ≡ record {
       arrived = false;
       moment = 0;
@@ -47,8 +46,7 @@ fn fresh_stand<U>(budget: u32, room: Room<U>) -> Stand<U>
       next = 0;
       instrs = 0;
       resumed = 0;
-      frames = room.frames;
-      told = room.told;
+      notes = notes;
     } }
     ensures left { result.left ≡ budget }
     ensures on { result.over ≡ false }
@@ -61,8 +59,7 @@ fn fresh_stand<U>(budget: u32, room: Room<U>) -> Stand<U>
         next: 0,
         instrs: 0,
         resumed: 0,
-        frames: room.frames,
-        told: room.told,
+        notes,
     };
     Stand {
         tally,
@@ -82,12 +79,12 @@ fn end_sample<M: Mem, A, U: Drop, R, F: RunForm<A, U, R>>(
 )
     requires number { number ≤ length (F.harness form.now).samples }
     requires len { vec_len rows.old ≡ number - 1 }
-    requires few { vec_len tally.told ≤ 10000 }
+    requires few { (n : ℕ) × F.fits tally.notes n }
     requires room { number ≤ vec_capacity rows.old }
     ensures rows { map (F.harness form.now).seen rows.new.items
         ≡ with_row (map (F.harness form.now).seen rows.old.items)
         (shown_by (F.harness form.now).shows (F.harness form.now).parts.answers
-        (counted_at (F.harness form.now).told tally m.old.state))
+        (counted_at (F.harness form.now).notes tally m.old.state))
         (sample_at number (F.harness form.now).samples) }
     ensures state { m.new.state ≡ left_by (F.harness form.now).parts.leave
         (sample_at number (F.harness form.now).samples) m.old.state }
@@ -112,13 +109,14 @@ fn give_next<M: Mem, A, U: Drop, R, F: RunForm<A, U, R>>(
     plan: &[A],
     p: &mut Progress<U, R>,
 )
-    requires under_way { IsUnderWay (F.harness form.now) plan.now p.old }
+    requires served { All (F.serves form.now) plan.now }
+    requires under_way { IsUnderWay F.fits (F.harness form.now) plan.now p.old }
     requires left { p.old.number < length (F.harness form.now).samples }
     ensures outlook { from_here (outlook_at m.old.flags (F.harness form.now) plan.now p.new m.new.state)
         ≡ ahead m.old.flags (F.harness form.now) p.old.most (p.old.number + 1) (drop p.old.behind plan.now)
         (drop p.old.number (F.harness form.now).samples)
         (rows_here (F.harness form.now) p.old m.old.state) (state_here (F.harness form.now) p.old m.old.state) }
-    ensures under_way { IsUnderWay (F.harness form.now) plan.now p.new }
+    ensures under_way { IsUnderWay F.fits (F.harness form.now) plan.now p.new }
     ensures noted { m.new.noted ≡ m.old.noted }
     ensures flags { m.new.flags ≡ m.old.flags }
 {
@@ -142,7 +140,8 @@ pub fn advance<M: Mem, A, U: Drop, R, F: RunForm<A, U, R>>(
     plan: &[A],
     p: &mut Progress<U, R>,
 ) -> bool
-    requires under_way { IsUnderWay (F.harness form.now) plan.now p.old }
+    requires served { All (F.serves form.now) plan.now }
+    requires under_way { IsUnderWay F.fits (F.harness form.now) plan.now p.old }
     ensures goes { result ≡ true → outlook_at m.old.flags (F.harness form.now) plan.now p.old m.old.state
         ≡ at_position (record { sample = p.old.number; moment = p.old.stand.tally.moment; state = m.old.state })
         (from_here (outlook_at m.old.flags (F.harness form.now) plan.now p.new m.new.state)) }
@@ -154,7 +153,7 @@ pub fn advance<M: Mem, A, U: Drop, R, F: RunForm<A, U, R>>(
           state = state_here (F.harness form.now) p.old m.old.state;
         } }
     ensures same { result ≡ false → (p.new ≡ p.old) × (m.new ≡ m.old) }
-    ensures under_way { IsUnderWay (F.harness form.now) plan.now p.new }
+    ensures under_way { IsUnderWay F.fits (F.harness form.now) plan.now p.new }
     ensures noted { m.new.noted ≡ m.old.noted }
     ensures flags { m.new.flags ≡ m.old.flags }
 {
@@ -170,28 +169,25 @@ pub fn advance<M: Mem, A, U: Drop, R, F: RunForm<A, U, R>>(
 
 /// Before the first sample of a run each of whose samples may take `most` steps.
 pub(crate) fn before_samples<A, U, R, F: RunForm<A, U, R>>(
-    alloc: Global,
     form: &F,
     most: u32,
     plan: &[A],
-    rooms: VecDeque<Room<U>>,
+    none: U,
+    rooms: VecDeque<U>,
     rows: Vec<R>,
 ) -> Progress<U, R>
     requires order { IsInOrder (F.harness form.now).parts.place plan.now }
-    requires rooms { HaveRoom (F.harness form.now).parts.place 1 (length (F.harness form.now).samples) plan.now
-        rooms.items }
+    requires rooms { HaveRoom F.fits (F.harness form.now).notes (F.harness form.now).parts.place 1
+        (length (F.harness form.now).samples) plan.now rooms.items }
     requires none { rows.items ≡ [] }
+    requires empty { HasRoom {A = A} F.fits (F.harness form.now).notes [] none }
     requires room { length (F.harness form.now).samples ≤ vec_capacity rows }
     ensures outlook { (flags : ℕ) (s : State) → outlook_at flags (F.harness form.now) plan.now result s
         ≡ at_position (record { sample = 0; moment = 0; state = s })
         (ahead flags (F.harness form.now) most 1 plan.now (F.harness form.now).samples [] s) }
     ensures most { result.most ≡ most }
-    ensures under_way { IsUnderWay (F.harness form.now) plan.now result }
+    ensures under_way { IsUnderWay F.fits (F.harness form.now) plan.now result }
 {
-    let none = Room {
-        frames: Vec::new(alloc),
-        told: Vec::new(alloc),
-    };
     let mut stand = fresh_stand(0, none);
     stand.over = true;
     Progress {
@@ -212,14 +208,15 @@ pub(crate) fn begin<M: Mem, A, U: Drop, R, F: RunForm<A, U, R>>(
     plan: &[A],
     p: &mut Progress<U, R>,
 )
-    requires under_way { IsUnderWay (F.harness form.now) plan.now p.old }
+    requires served { All (F.serves form.now) plan.now }
+    requires under_way { IsUnderWay F.fits (F.harness form.now) plan.now p.old }
     requires before { outlook_at m.old.flags (F.harness form.now) plan.now p.old m.old.state
         ≡ at_position (record { sample = 0; moment = 0; state = m.old.state })
         (ahead m.old.flags (F.harness form.now) p.old.most 1 plan.now (F.harness form.now).samples [] m.old.state) }
     ensures first { from_here (outlook_at m.old.flags (F.harness form.now) plan.now p.new m.new.state)
         ≡ shown_run (F.harness form.now).shows m.old.state
         (harness_rows m.old.flags (F.harness form.now) p.old.most plan.now m.old.state) }
-    ensures under_way { IsUnderWay (F.harness form.now) plan.now p.new }
+    ensures under_way { IsUnderWay F.fits (F.harness form.now) plan.now p.new }
     ensures noted { m.new.noted ≡ m.old.noted }
     ensures flags { m.new.flags ≡ m.old.flags }
 {
@@ -233,15 +230,16 @@ pub fn drive<M: Mem, A, U: Drop, R, F: RunForm<A, U, R>>(
     plan: &[A],
     p: &mut Progress<U, R>,
 )
-    requires under_way { IsUnderWay (F.harness form.now) plan.now p.old }
+    requires served { All (F.serves form.now) plan.now }
+    requires under_way { IsUnderWay F.fits (F.harness form.now) plan.now p.old }
     ensures rows { rows_here (F.harness form.now) p.new m.new.state
         ≡ (outlook_at m.old.flags (F.harness form.now) plan.now p.old m.old.state).rows }
     ensures state { state_here (F.harness form.now) p.new m.new.state
         ≡ (outlook_at m.old.flags (F.harness form.now) plan.now p.old m.old.state).state }
-    ensures under_way { IsUnderWay (F.harness form.now) plan.now p.new }
+    ensures under_way { IsUnderWay F.fits (F.harness form.now) plan.now p.new }
 {
     while advance(m, form, plan, p) {
-        pass_at_once(m, form, &plan[p.first..p.behind], &mut p.stand);
+        pass_parts(m, form, &plan[p.first..p.behind], &mut p.stand);
     }
 }
 
@@ -252,7 +250,7 @@ pub fn into_rows<M: Mem, A, U: Drop, R, F: RunForm<A, U, R>>(
     p: Progress<U, R>,
 ) -> Vec<R>
     requires number { p.number ≤ length (F.harness form.now).samples }
-    requires few { vec_len p.stand.tally.told ≤ 10000 }
+    requires few { (n : ℕ) × F.fits p.stand.tally.notes n }
     requires len { vec_len p.rows ≡ p.number - 1 }
     requires room { p.number ≤ vec_capacity p.rows }
     ensures rows { map (F.harness form.now).seen result.items ≡ rows_here (F.harness form.now) p m.old.state }

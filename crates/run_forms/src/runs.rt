@@ -1,7 +1,8 @@
 //! The run of any form over its samples under a plan.
-ghost use Rattle.std.specs.Prelude.{ℕ, ◌≡◌, ◌≤◌, ◌+◌, [], length, map, vec_capacity, IfOk};
+ghost use Rattle.std.specs.Prelude.{ℕ, ◌≡◌, ◌≤◌, ◌+◌, [], All, length, map, IfOk};
 ghost use Rattle.cpu12_isa.specs.Watching.{nothing_noted};
-ghost use Rattle.run_forms.specs.Rows.{arrival, arrived_at, harness_rows, shown};
+ghost use Rattle.run_forms.specs.Rows.{arrival, arrived_at, frames_seen, harness_rows, shown};
+ghost use Rattle.run_forms.specs.Rooms.{Fits};
 ghost use Rattle.run_forms.specs.Slices.{HaveRoom, IsInOrder, requests_first};
 ghost use Rattle.run_forms.specs.Outlooks.{from_here, shown_run, outlook_at, IsUnderWay};
 
@@ -36,6 +37,7 @@ pub fn run_form<M: Mem, A, U: Drop, R: Drop, F: RunForm<A, U, R>>(
     plan: &[A],
     flags: u8,
 ) -> Result<(Vec<R>, M), Memory>
+    requires served { All (F.serves form.now) plan.now }
     requires order { IsInOrder (F.harness form.now).parts.place plan.now }
     ensures rows { IfOk result (λ r. map (F.harness form.now).seen r.0.items
         ≡ shown (F.harness form.now).shows (harness_rows flags (F.harness form.now) start.now.most plan.now
@@ -58,24 +60,26 @@ pub fn begun<M: Mem, A, U: Drop, R: Drop, F: RunForm<A, U, R>>(
     plan: &[A],
     flags: u8,
 ) -> Result<(Machine<M>, Progress<U, R>), Memory>
+    requires served { All (F.serves form.now) plan.now }
     requires order { IsInOrder (F.harness form.now).parts.place plan.now }
     ensures first { IfOk result (λ r. from_here (outlook_at flags (F.harness form.now) plan.now r.1 r.0.state)
         ≡ shown_run (F.harness form.now).shows
         (arrived_at flags start.now.wait start.now.most start.now.image.now.bytes)
         (harness_rows flags (F.harness form.now) start.now.most plan.now
         (arrived_at flags start.now.wait start.now.most start.now.image.now.bytes))) }
-    ensures under_way { IfOk result (λ r. IsUnderWay (F.harness form.now) plan.now r.1) }
+    ensures under_way { IfOk result (λ r. IsUnderWay F.fits (F.harness form.now) plan.now r.1) }
     ensures noted { IfOk result (λ r. r.0.noted ≡ nothing_noted) }
     ensures flags { IfOk result (λ r. r.0.flags ≡ flags) }
 {
     let count = form.count();
+    let none = form.room(alloc, 0)?;
     let rooms = make_rooms(alloc, form, count, plan)?;
     let Ok(rows) = Vec::with_capacity(alloc, count) else {
         return Err(Memory);
     };
     let mut machine = Machine::new(alloc, start.image, flags)?;
     arrive(&mut machine, start.wait, start.most);
-    let mut progress = before_samples(alloc, form, start.most, plan, rooms, rows);
+    let mut progress = before_samples(form, start.most, plan, none, rooms, rows);
     begin(&mut machine, form, plan, &mut progress);
     Ok((machine, progress))
 }
@@ -113,9 +117,10 @@ pub(crate) fn count_of<A, U, R, F: RunForm<A, U, R>>(form: &F, requests: &[A], k
 }
 
 /// Room for what so many requests push and tell.
-fn room_for<U: Drop>(alloc: Global, count: usize) -> Result<Room<U>, Memory>
-    ensures { IfOk result (λ room. (room.frames.items ≡ []) × (room.told.items ≡ [])
-        × (count ≤ vec_capacity room.frames) × (count ≤ vec_capacity room.told)) }
+pub fn room_for<U: Drop>(alloc: Global, count: usize) -> Result<Room<U>, Memory>
+    ensures frames { IfOk result (λ room. frames_seen room.frames.items ≡ []) }
+    ensures told { IfOk result (λ room. room.told.items ≡ []) }
+    ensures fits { IfOk result (λ room. count ≤ 10000 → Fits room count) }
 {
     let Ok(frames) = Vec::with_capacity(alloc, count) else {
         return Err(Memory);
@@ -126,14 +131,15 @@ fn room_for<U: Drop>(alloc: Global, count: usize) -> Result<Room<U>, Memory>
     Ok(Room { frames, told })
 }
 
-/// Room for what the requests of each sample push and tell.
+/// Room for notes of the requests of each sample.
 fn make_rooms<A, U: Drop, R, F: RunForm<A, U, R>>(
     alloc: Global,
     form: &F,
     samples: usize,
     plan: &[A],
-) -> Result<VecDeque<Room<U>>, Memory>
-    ensures { IfOk result (λ rooms. HaveRoom (F.harness form.now).parts.place 1 samples plan.now rooms.items) }
+) -> Result<VecDeque<U>, Memory>
+    ensures { IfOk result (λ rooms. HaveRoom F.fits (F.harness form.now).notes (F.harness form.now).parts.place 1
+        samples plan.now rooms.items) }
 {
     let Ok(mut rooms) = VecDeque::with_capacity(alloc, samples) else {
         return Err(Memory);
@@ -143,7 +149,7 @@ fn make_rooms<A, U: Drop, R, F: RunForm<A, U, R>>(
     while next < samples {
         next += 1;
         let count = count_of(form, &plan[first..], next);
-        let room = room_for(alloc, count)?;
+        let room = form.room(alloc, count)?;
         match rooms.push_back(room) {
             Ok(()) => {}
             Err(_) => return Err(Memory),

@@ -1,24 +1,30 @@
 use Rattle.std.proofs.Common.{◌≡◌, [], refl}
-use Rattle.cpu12_emul.specs.declared.ends.Stepped.TheVariants.{Part}
 use Rattle.cpu12_parts.specs.State.{State}
 use Rattle.run_forms.proofs.AtOnce.{PassesTo, passes_to}
 use Rattle.run_forms.proofs.at_once.pass_parts.Given.{Over}
-use Rattle.run_forms.proofs.at_once.pass_parts.Goals.{After-count_steps}
+use Rattle.run_forms.proofs.at_once.pass_parts.Goals.{After-count_parts}
 use Rattle.run_forms.proofs.at_once.pass_parts.Goals as goal
 
-passes : (g : Over) (c : After-count_steps g)
-    → PassesTo c.args.m.now.flags (g.F.RunForm.harness c.args.form.now) c.args.requests.now
-    c.args.st.now c.count_steps.new.st c.args.m.now.state c.rule_parts-done.new.self.state
+passes : (g : Over) (c : After-count_parts g)
+    → PassesTo g.F.SampleForm.fits c.args.m.now.flags (g.F.SampleForm.harness c.args.form.now) c.args.requests.now
+    c.args.st.now c.count_parts.new.st c.args.m.now.state c.rule_parts-done.new.self.state
 passes g c =
     let a = c.args in
-    let h = g.F.RunForm.harness a.form.now in
-    passes_to Part (λ (s : State). (s.regs.pc ≡ a.m.now.state.regs.pc) × (s.regs.sp ≡ a.m.now.state.regs.sp))
-    a.m.now.flags h a.requests.now c.steps_alone-most.result c.rule_parts-done.result
-    a.st.now c.count_steps.new.st a.m.now.state c.rule_parts-done.new.self.state
-    (λ s stays. c.goes_on_here.ensures c.if-not-goes_on_here.false s stays.0) c.requires.on c.requires.steady
-    c.steps_alone-most.ensures.left c.steps_alone-most.ensures.none c.rule_parts-done.ensures.most
-    c.rule_parts-done.ensures.steps
-    c.count_steps.ensures
+    let h = g.F.SampleForm.harness a.form.now in
+    let done = c.rule_parts-done in
+    passes_to g.F.SampleForm.fits
+    (λ (s : State). (s.regs.pc ≡ a.m.now.state.regs.pc) × (s.regs.sp ≡ a.m.now.state.regs.sp))
+    a.m.now.flags h a.requests.now c.steps_alone-most.result done.result a.st.now c.count_parts.new.st a.m.now.state
+    done.new.self.state
+    (λ k s stays. c.goes_on_here.ensures c.if-not-goes_on_here.false k s stays.0 stays.1) c.if-st.false c.if-not-st.false
+    c.requires.steady c.steps_alone-most.ensures.left c.steps_alone-most.ensures.none done.ensures.most
+    done.ensures.steps c.count_parts.ensures
+
+pub returns-then-st-clause-coming : goal.returns-then-st-clause-coming
+returns-then-st-clause-coming g c = ([], refl)
+
+pub returns-then-not-st-clause-coming : goal.returns-then-not-st-clause-coming
+returns-then-not-st-clause-coming g c = ([], refl)
 
 pub returns-then-not-goes_on_here-clause-coming : goal.returns-then-not-goes_on_here-clause-coming
 returns-then-not-goes_on_here-clause-coming g c = ([], refl)

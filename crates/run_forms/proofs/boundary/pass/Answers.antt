@@ -6,19 +6,19 @@ use Rattle.run_forms.proofs.boundary.pass.Goals as goal
 pub returns-then-st-clause-ends : goal.returns-then-st-clause-ends
 returns-then-st-clause-ends g c =
     let a = c.args in
-    λ e. over_there a.m.now.flags (g.F.RunForm.harness a.form.now) a.requests.now a.st.now a.m.now.state c.if-st.true
+    λ e. over_there a.m.now.flags (g.F.SampleForm.harness a.form.now) a.requests.now a.st.now a.m.now.state c.if-st.true
 
 pub returns-then-not-step_on-clause-ends : goal.returns-then-not-step_on-clause-ends
 returns-then-not-step_on-clause-ends g c =
     let a = c.args in
     let w = c.step_on.ensures.stuck c.if-not-step_on.true in
-    λ e. stuck_here a.m.now.flags (g.F.RunForm.harness a.form.now) a.requests.now a.st.now a.m.now.state w.0
+    λ e. stuck_here a.m.now.flags (g.F.SampleForm.harness a.form.now) a.requests.now a.st.now a.m.now.state w.0
     c.if-st.false w.1
 
 pub returns-clause-goes : goal.returns-clause-goes
 returns-clause-goes g c =
     let a = c.args in
-    let h = g.F.RunForm.harness a.form.now in
+    let h = g.F.SampleForm.harness a.form.now in
     let flags = a.m.now.flags in
     let qs = a.requests.now in
     let s = a.m.now.state in

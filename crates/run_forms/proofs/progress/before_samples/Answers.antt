@@ -6,7 +6,7 @@ use Rattle.run_forms.proofs.progress.before_samples.Goals as goal
 pub returns-clause-under_way : goal.returns-clause-under_way
 returns-clause-under_way g c =
     let a = c.args in
-    let h = g.F.RunForm.harness a.form.now in
+    let h = g.F.SampleForm.harness a.form.now in
     let samples = h.samples in
     let none = ap length c.requires.none in
     let len = a.rows.ok in
@@ -18,10 +18,9 @@ returns-clause-under_way g c =
       first = omega arith;
       behind = omega arith;
       follow = order.follow;
-      rooms = subst (λ (n : ℕ). HaveRoom h.parts.place 1 n a.plan.now a.rooms.items) (sym all) c.requires.rooms;
+      rooms = subst (λ (n : ℕ). HaveRoom g.F.SampleForm.fits h.notes h.parts.place 1 n a.plan.now a.rooms.items) (sym all) c.requires.rooms;
       rows = omega (arith, len.0, none);
       room = c.requires.room;
-      stand = steady_before (record { frames = c.new.result; told = c.new-2.result }) c.fresh_stand-stand.result
-          c.fresh_stand-stand.ensures.tally
-          c.new.ensures.items c.new-2.ensures.items;
+      stand = steady_before g.F.SampleForm.fits h.notes a.none c.fresh_stand-stand.result c.fresh_stand-stand.ensures.tally
+          c.requires.empty;
     }

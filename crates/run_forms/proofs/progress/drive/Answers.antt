@@ -2,21 +2,21 @@ use Rattle.std.proofs.Common.{◌∙◌}
 use Rattle.run_forms.specs.Outlooks.{outlook_at}
 use Rattle.run_forms.proofs.AtOnce.{PassesOn, passes_on, stays_here, under_way_on}
 use Rattle.run_forms.proofs.progress.drive.Given.{Over}
-use Rattle.run_forms.proofs.progress.drive.Goals.{After-pass_at_once}
+use Rattle.run_forms.proofs.progress.drive.Goals.{After-pass_parts}
 use Rattle.run_forms.proofs.progress.drive.Goals as goal
 
 -- what is to come, after a position and the steps that were done at once from there
-further : (g : Over) (c : After-pass_at_once g)
-    → PassesOn (outlook_at c.args.m.now.flags (g.F.RunForm.harness c.args.form.now) c.args.plan.now c.loop-m.p
+further : (g : Over) (c : After-pass_parts g)
+    → PassesOn (outlook_at c.args.m.now.flags (g.F.SampleForm.harness c.args.form.now) c.args.plan.now c.loop-m.p
     c.loop-m.m.state)
-    (outlook_at c.args.m.now.flags (g.F.RunForm.harness c.args.form.now) c.args.plan.now
-    (record (c.advance.new.p) { stand = c.pass_at_once.new.st }) c.pass_at_once.new.m.state)
+    (outlook_at c.args.m.now.flags (g.F.SampleForm.harness c.args.form.now) c.args.plan.now
+    (record (c.advance.new.p) { stand = c.pass_parts.new.st }) c.pass_parts.new.m.state)
 further g c =
     let l = c.loop-m in
     let n = c.advance.new in
-    let q = c.pass_at_once.new in
-    let coming = c.pass_at_once.ensures.coming in
-    passes_on c.args.m.now.flags l.m.flags n.m.flags (g.F.RunForm.harness c.args.form.now) c.args.plan.now l.p n.p q.st
+    let q = c.pass_parts.new in
+    let coming = c.pass_parts.ensures.coming in
+    passes_on c.args.m.now.flags l.m.flags n.m.flags (g.F.SampleForm.harness c.args.form.now) c.args.plan.now l.p n.p q.st
     l.m.state n.m.state q.m.state _ coming.0
     l.invariant.flags (c.advance.ensures.flags ∙ l.invariant.flags) (c.advance.ensures.goes c.loop-m-test.true) coming.1
 
@@ -25,10 +25,10 @@ loop-m-preserved g c =
     let l = c.loop-m in
     let on = further g c in
     record {
-      under_way = under_way_on c.advance.ensures.under_way c.pass_at_once.ensures.steady;
+      under_way = under_way_on c.advance.ensures.under_way c.pass_parts.ensures.steady;
       rows = on.rows ∙ l.invariant.rows;
       state = on.state ∙ l.invariant.state;
-      flags = c.pass_at_once.ensures.flags ∙ c.advance.ensures.flags ∙ l.invariant.flags;
+      flags = c.pass_parts.ensures.flags ∙ c.advance.ensures.flags ∙ l.invariant.flags;
     }
 
 pub loop-m-smaller : goal.loop-m-smaller
@@ -39,7 +39,7 @@ returns-clause-rows g c =
     let l = c.loop-m in
     let n = c.advance.new in
     let same = c.advance.ensures.same c.loop-m-test.false in
-    (stays_here c.args.m.now.flags (g.F.RunForm.harness c.args.form.now) c.args.plan.now l.p n.p l.m n.m _ same.0
+    (stays_here c.args.m.now.flags (g.F.SampleForm.harness c.args.form.now) c.args.plan.now l.p n.p l.m n.m _ same.0
     same.1 l.invariant.flags (c.advance.ensures.ends c.loop-m-test.false)).rows_are
     ∙ l.invariant.rows
 
@@ -48,6 +48,6 @@ returns-clause-state g c =
     let l = c.loop-m in
     let n = c.advance.new in
     let same = c.advance.ensures.same c.loop-m-test.false in
-    (stays_here c.args.m.now.flags (g.F.RunForm.harness c.args.form.now) c.args.plan.now l.p n.p l.m n.m _ same.0
+    (stays_here c.args.m.now.flags (g.F.SampleForm.harness c.args.form.now) c.args.plan.now l.p n.p l.m n.m _ same.0
     same.1 l.invariant.flags (c.advance.ensures.ends c.loop-m-test.false)).state_is
     ∙ l.invariant.state

@@ -9,7 +9,7 @@ use Rattle.run_forms.proofs.progress.end_sample.Goals as goal
 pub returns-clause-rows : goal.returns-clause-rows
 returns-clause-rows g c =
     let a = c.args in
-    let h = g.F.RunForm.harness a.form.now in
+    let h = g.F.SampleForm.harness a.form.now in
     let rows = a.rows.now.items in
     let row = c.row-row.result in
     let some : 0 < a.number = (let n = c.if-number-eq0.false in omega (arith, n)) in
@@ -21,13 +21,13 @@ returns-clause-rows g c =
     ap (map h.seen) items
     ∙ map-append h.seen rows (row ∷ [])
     ∙ ap (λ x. map h.seen rows ++ x ∷ []) (c.row-row.ensures y.sample y.at)
-    ∙ ap (λ o. with_row (map h.seen rows) (shown_by h.shows h.parts.answers (counted_at h.told a.tally a.m.now.state))
+    ∙ ap (λ o. with_row (map h.seen rows) (shown_by h.shows h.parts.answers (counted_at h.notes a.tally a.m.now.state))
     o) (sym at)
 
 pub returns-clause-state : goal.returns-clause-state
 returns-clause-state g c =
     let a = c.args in
-    let h = g.F.RunForm.harness a.form.now in
+    let h = g.F.SampleForm.harness a.form.now in
     let some : 0 < a.number = (let n = c.if-number-eq0.false in omega (arith, n)) in
     let within : a.number - 1 < length h.samples = (let n = c.requires.number in omega (arith, some, n)) in
     let y = is_there h.samples (a.number - 1) within in

@@ -1,4 +1,5 @@
-use Rattle.std.proofs.Common.{◌∙◌, vec_len, refl, ap, arith}
+use Rattle.std.proofs.Common.{◌∙◌, ◌-◌, length, refl, ap, sym, subst}
+use Rattle.run_forms.specs.Outlooks.{requests_at}
 use Rattle.run_forms.proofs.NextSamples.{HasNext, given_next, next_room, under_way_next}
 use Rattle.run_forms.proofs.progress.give_next.Given.{Over}
 use Rattle.run_forms.proofs.progress.give_next.Goals.{After-count_of}
@@ -6,7 +7,7 @@ use Rattle.run_forms.proofs.progress.give_next.Goals as goal
 
 -- the sample that is given, where it begins
 next_there : (g : Over) (c : After-count_of g)
-    → HasNext (g.F.RunForm.harness c.args.form.now) c.args.plan.now c.args.p.now c.count_of.result c.in-Some.room
+    → HasNext g.F.SampleForm.fits (g.F.SampleForm.harness c.args.form.now) c.args.plan.now c.args.p.now c.count_of.result c.in-Some.room
     c.pop_front.new.self.items c.replace-stand.new.dest
 next_there g c = record {
   under_way = c.requires.under_way;
@@ -18,13 +19,7 @@ next_there g c = record {
 }
 
 pub come-requires-clause-room : goal.come-requires-clause-room
-come-requires-clause-room g c = (next_room (next_there g (goal.at.come-requires-clause-room g c).After-count_of)).frames
-
-pub come-requires-clause-told : goal.come-requires-clause-told
-come-requires-clause-told g c = (next_room (next_there g (goal.at.come-requires-clause-told g c).After-count_of)).told
-
-pub come-requires-clause-few : goal.come-requires-clause-few
-come-requires-clause-few g c = (next_room (next_there g (goal.at.come-requires-clause-few g c).After-count_of)).few
+come-requires-clause-room g c = next_room (next_there g (goal.at.come-requires-clause-room g c).After-count_of)
 
 pub returns-clause-outlook : goal.returns-clause-outlook
 returns-clause-outlook g c =
@@ -43,9 +38,8 @@ returns-clause-under_way g c =
     under_way_next (next_there g (goal.at.returns-clause-under_way g c).After-count_of)
     (record (c.args.p.now) { stand = c.come.new.st; rooms = c.pop_front.new.self; rows = past.new.rows })
     refl past.ensures.len past.ensures.room (record {
+      next = came.next;
       room = came.room;
-      told = came.told;
-      few = came.few;
       instrs = came.counts.0;
       resumed = came.counts.1;
       on = came.on;
@@ -53,4 +47,9 @@ returns-clause-under_way g c =
 
 pub end_sample-requires-clause-few : goal.end_sample-requires-clause-few
 end_sample-requires-clause-few g c =
-    omega (arith, c.requires.under_way.stand.few, ap (λ s. vec_len s.tally.told) c.replace-stand.ensures.value)
+    let p = c.args.p.now in
+    let left = length (requests_at c.args.plan.now p) - p.stand.tally.next in (
+      left,
+      subst (λ st. g.F.SampleForm.fits st.tally.notes left) (sym c.replace-stand.ensures.value)
+          c.requires.under_way.stand.room,
+    )

@@ -7,7 +7,7 @@ use Rattle.run_forms.proofs.runs.begun.Goals as goal
 
 pub begin-requires-clause-before : goal.begin-requires-clause-before
 begin-requires-clause-before g c =
-    let h = g.F.RunForm.harness c.args.form.now in
+    let h = g.F.SampleForm.harness c.args.form.now in
     let m = c.arrive.new.m in
     let before = c.before_samples-progress in
     let plan = c.args.plan.now in
@@ -19,7 +19,7 @@ begin-requires-clause-before g c =
 pub returns-clause-first : goal.returns-clause-first
 returns-clause-first g c =
     let a = c.args in
-    let h = g.F.RunForm.harness a.form.now in
+    let h = g.F.SampleForm.harness a.form.now in
     let start = a.start.now in
     let m = c.arrive.new.m in
     let n = c.begin.new in

@@ -1,4 +1,4 @@
-use Rattle.std.proofs.Common.{◌∙◌, ℕ, ap, arith}
+use Rattle.std.proofs.Common.{◌∙◌, ℕ, ap}
 use Rattle.cpu12_parts.specs.State.{State}
 use Rattle.run_forms.specs.Outlooks.{Ahead, outlook_at}
 use Rattle.run_forms.proofs.runs.run_form.Goals as goal
@@ -6,26 +6,25 @@ use Rattle.run_forms.proofs.runs.run_form.Goals as goal
 pub returns-clause-rows : goal.returns-clause-rows
 returns-clause-rows g c =
     let a = c.args in
-    let h = g.F.RunForm.harness a.form.now in
+    let h = g.F.SampleForm.harness a.form.now in
     let r = c.in_ok-machine in
     c.into_rows-rows.ensures.rows
     ∙ c.drive.ensures.rows
     ∙ ap (λ (k : ℕ). (outlook_at k h a.plan.now r.progress r.machine.state).rows) r.ensures.flags
-    ∙ ap (λ (x : Ahead g.F.RunForm.Shown). x.rows) r.ensures.first
+    ∙ ap (λ (x : Ahead g.F.SampleForm.Shown). x.rows) r.ensures.first
 
 pub returns-clause-memory : goal.returns-clause-memory
 returns-clause-memory g c =
     let a = c.args in
-    let h = g.F.RunForm.harness a.form.now in
+    let h = g.F.SampleForm.harness a.form.now in
     let r = c.in_ok-machine in
     c.into_mem.ensures.bytes
     ∙ ap (λ (s : State). s.mem) (c.into_rows-rows.ensures.state ∙ c.drive.ensures.state)
     ∙ ap (λ (k : ℕ). (outlook_at k h a.plan.now r.progress r.machine.state).state.mem) r.ensures.flags
-    ∙ ap (λ (x : Ahead g.F.RunForm.Shown). x.state.mem) r.ensures.first
+    ∙ ap (λ (x : Ahead g.F.SampleForm.Shown). x.state.mem) r.ensures.first
 
 pub into_rows-rows-requires-clause-few : goal.into_rows-rows-requires-clause-few
 into_rows-rows-requires-clause-few g c =
     let w = c.drive.ensures.under_way in
     let stand = w.stand in
-    let few = stand.few in
-    omega (arith, few)
+    (_, stand.room)

@@ -1,5 +1,4 @@
-use Rattle.std.proofs.Common.{◌≡◌, ◌∙◌, ℕ, false, drop, map, ap, sym, subst}
-use Rattle.run_forms.specs.Rows.{frames_seen}
+use Rattle.std.proofs.Common.{◌≡◌, ◌∙◌, ℕ, false, drop, ap, sym, subst}
 use Rattle.run_forms.specs.Forms.{moment_in, plan_form}
 use Rattle.run_forms.specs.Rest.{is_due}
 use Rattle.run_forms.proofs.Takings.{takes_end}
@@ -9,7 +8,7 @@ pub returns-clause-takes : goal.returns-clause-takes
 returns-clause-takes g c =
     let l = c.loop-m in
     let a = c.args in
-    let h = g.F.RunForm.harness a.form.now in
+    let h = g.F.SampleForm.harness a.form.now in
     let moment = moment_in h.parts.place in
     let left = drop l.t.next a.requests.now in
     let same : l.t.moment ≡ a.t.now.moment = ap (λ t. t.moment) l.invariant.rest in
@@ -17,4 +16,4 @@ returns-clause-takes g c =
     subst (λ (k : ℕ). is_due moment k left l.m.state ≡ false) same (sym c.is_due.ensures ∙ c.loop-m-test.false) in
     l.invariant.takes
     ∙ takes_end (plan_form a.m.now.flags h.parts) a.t.now.moment left l.m.state
-    (frames_seen l.t.frames.items) (map h.told l.t.told.items) off
+    (h.notes.frames l.t.notes) (h.notes.told l.t.notes) off
