@@ -21,7 +21,8 @@ use Rattle.trace_io.specs.Traces.{Spells as SpellsTrace}
 use Rattle.trace_io.specs.declared.sample.Sample.{Sample}
 use Rattle.fz_run.specs.Rows.{input_bytes, bytes_of}
 use Rattle.posted_runs.specs.Answering.{AnswersItsPosts, AnswersUnderPosts, answer_in, ended, run_of_turns}
-use Rattle.posted_runs.specs.Runs.{AnswerSeen, RunSeen, answer_seen, arrival, boundary_seen, frames_seen}
+use Rattle.run_forms.specs.Rows.{boundary_seen, frames_seen}
+use Rattle.posted_runs.specs.Runs.{AnswerSeen, RunSeen, answer_seen, arrival}
 use Rattle.posted_runs.specs.Runs.{run_under_posts}
 use Rattle.posted_runs.specs.Turns.{AreTurns, LastIsAnswered, Turn, behind, over, idle, answers, samples_of, up_to}
 use Rattle.posted_runs.specs.Turns.{waiting}

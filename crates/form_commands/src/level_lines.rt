@@ -4,7 +4,7 @@ ghost use Rattle.std.specs.List.{slice_index_or};
 ghost use Rattle.fz_shelf.specs.Lines.{text_of};
 ghost use Rattle.run_forms.specs.Rows.{boundary_seen};
 ghost use Rattle.two_level.specs.Images.{fast_most};
-ghost use Rattle.two_runs.specs.Counts.{inner_seen};
+ghost use Rattle.two_runs.specs.InnerNotes.{inner_seen};
 ghost use Rattle.two_runs.specs.Harness.{fast_seen, row_seen};
 ghost use Rattle.build_commands.specs.Lines.{counted};
 ghost use Rattle.form_commands.specs.Lrun.{fast_error_line, fast_line, fast_lines, inner_line};

@@ -1,7 +1,8 @@
 //! The lines of a run under posts.
 ghost use Rattle.std.specs.Prelude.{◌≡◌, ◌++◌, map, string_bytes, IfOk, OnOk};
 ghost use Rattle.fz_shelf.specs.Lines.{text_of};
-ghost use Rattle.posted_runs.specs.Runs.{answer_seen, frames_seen};
+ghost use Rattle.run_forms.specs.Rows.{frames_seen};
+ghost use Rattle.posted_runs.specs.Runs.{answer_seen};
 ghost use Rattle.build_commands.specs.Lines.{counted};
 ghost use Rattle.form_commands.specs.Mrun.{answer_line, mrun_lines, posted_report};
 

@@ -15,7 +15,7 @@ abbrev pub stand_alone : {A B : Type 0} → Firmware → (A → ℕ × ℕ) → 
 stand_alone f place handle tells = record {
   give = given f.memory_map;
   leave = λ x s. s;
-  ends = λ s. is_idle f.memory_map s;
+  ends = λ m s. is_idle f.memory_map s;
   answers = answers_in f;
   place = place;
   handle = handle;

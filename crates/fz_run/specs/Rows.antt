@@ -5,6 +5,8 @@ use Rattle.run_law.specs.Forms.{RowSeen, Rows, rows_from}
 use Rattle.interrupt_plan.specs.declared.Request.{Request}
 use Rattle.trace_io.specs.declared.sample.Sample.{Sample}
 use Rattle.codegen.specs.declared.firmware.Firmware.{Firmware}
+use Rattle.run_forms.specs.declared.sample.Room.{Room}
+use Rattle.run_forms.specs.Rooms.{room_notes}
 use Rattle.run_forms.specs.Forms.{Harness}
 use Rattle.run_forms.specs.Rows.{of_sample, frames_seen, arrived_at}
 use Rattle.fz_run.specs.declared.rows.Row as declared
@@ -42,11 +44,11 @@ firmware_rows f samples plan flags =
 
 -- a firmware that stands alone, with samples and requests that list writes: nothing is told of these
 abbrev pub writes_harness : Firmware → List Sample
-    → Harness Request (Unit {0}) declared.Row (List ℕ) (Unit {0}) (RowSeen (List ℕ))
+    → Harness Request (Room (Unit {0})) declared.Row (List ℕ) (Unit {0}) (RowSeen (List ℕ))
 writes_harness f samples = record {
   samples = map input_bytes samples;
   parts = listed_writes f;
-  told = λ u. u;
+  notes = room_notes (λ u. u);
   shows = λ row told. row;
   seen = row_seen;
 }

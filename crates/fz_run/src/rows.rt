@@ -15,7 +15,7 @@ use cpu12_isa::pages::PageMem;
 use firmware_ports::copy_of;
 use fz_list::{List, Memory};
 use interrupt_plan::Plan;
-use run_forms::Tally;
+use run_forms::{Room, Tally};
 use std::alloc::Global;
 use trace_io::Sample;
 
@@ -39,7 +39,7 @@ pub struct Row {
 }
 
 /// The row of a sample of at most eight bytes, of which this was counted.
-pub fn row_of<U: Drop>(bytes: &[u8], answers: ArrayVec<u16, 4>, tally: Tally<U>) -> Row
+pub fn row_of<U: Drop>(bytes: &[u8], answers: ArrayVec<u16, 4>, tally: Tally<Room<U>>) -> Row
     requires { length bytes.now ≤ 8 }
     ensures { row_seen result ≡ record {
       sample = bytes.now;
@@ -47,16 +47,26 @@ pub fn row_of<U: Drop>(bytes: &[u8], answers: ArrayVec<u16, 4>, tally: Tally<U>)
       instrs = tally.instrs;
       steps = tally.moment;
       resumed = tally.resumed;
-      frames = frames_seen tally.frames.items;
+      frames = frames_seen tally.notes.frames.items;
     } }
 {
+    let Tally {
+        arrived: _,
+        moment,
+        inside: _,
+        next: _,
+        instrs,
+        resumed,
+        notes,
+    } = tally;
+    let Room { frames, told: _ } = notes;
     Row {
         bytes: copy_of(bytes),
         answers,
-        instrs: tally.instrs,
-        steps: tally.moment,
-        resumed: tally.resumed,
-        frames: List::new(tally.frames),
+        instrs,
+        steps: moment,
+        resumed,
+        frames: List::new(frames),
     }
 }
 

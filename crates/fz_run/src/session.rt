@@ -16,7 +16,7 @@ use cpu12_isa::watching::WatchedMem;
 use fz_list::Memory;
 use interrupt_plan::{Plan, Request};
 use run_forms::laws::rows_are_shown;
-use run_forms::{Progress, Start, advance, begun, drive, into_rows};
+use run_forms::{Progress, Room, Start, advance, begun, drive, into_rows};
 use std::alloc::Global;
 use std::marker::Model;
 use trace_io::Sample;
@@ -30,11 +30,12 @@ pub struct Session<'a, M: Mem> {
     machine: Machine<M>,
     form: WithWrites<'a>,
     plan: &'a Plan,
-    progress: Progress<(), Row>,
+    progress: Progress<Room<()>, Row>,
 }
 
 impl<'a, M: Mem> Model for Session<'a, M> {
     ghost use Rattle.run_forms.specs.Outlooks.{outlook_at, IsUnderWay};
+    ghost use Rattle.run_forms.specs.Rooms.{Fits};
     ghost use Rattle.fz_run.specs.Rows.{writes_harness};
     ghost use Rattle.fz_run.specs.Sessions.{SessionSeen};
 
@@ -46,7 +47,8 @@ impl<'a, M: Mem> Model for Session<'a, M> {
       noted = a.machine.noted;
     } };
 
-    ghost invariant = { λ a. IsUnderWay (writes_harness a.form.firmware.now a.form.samples.now) a.plan.now a.progress };
+    ghost invariant = { λ a. IsUnderWay Fits (writes_harness a.form.firmware.now a.form.samples.now) a.plan.now
+        a.progress };
 }
 
 impl<'a, M: Mem> Session<'a, M> {
@@ -65,7 +67,7 @@ impl<'a, M: Mem> Session<'a, M> {
             (firmware_rows firmware.now (map input_bytes samples.now) plan.now flags)) }
         ensures noted { IfOk result (λ s. s.noted ≡ nothing_noted) }
     {
-        rows_are_shown::<Request, (), Row, WithWrites>();
+        rows_are_shown::<Request, Room<()>, Row, WithWrites>();
         let form = WithWrites { firmware, samples };
         let start = Start {
             image: &firmware.image,

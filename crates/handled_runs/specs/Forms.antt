@@ -6,6 +6,8 @@ use Rattle.handler_check.specs.Running.{Returned, until_rti, at_code}
 use Rattle.interrupt_plan.specs.declared.Request.{Request}
 use Rattle.codegen.specs.declared.firmware.Firmware.{Firmware}
 use Rattle.trace_io.specs.declared.sample.Sample.{Sample}
+use Rattle.run_forms.specs.declared.sample.Room.{Room}
+use Rattle.run_forms.specs.Rooms.{room_notes}
 use Rattle.run_forms.specs.Forms.{FormParts, plan_form, Harness}
 use Rattle.firmware_ports.specs.Ports.{given}
 use Rattle.fz_run.specs.Forms.{place_of, stand_alone}
@@ -58,11 +60,11 @@ abbrev pub row_seen : declared.HandledRow → HandledSeen
 row_seen r = record { row = rows.row_seen r.row; handler = r.handler }
 
 abbrev pub code_harness : Firmware → ℕ → List Sample
-    → Harness Request ℕ declared.HandledRow (List ℕ) ℕ HandledSeen
+    → Harness Request (Room ℕ) declared.HandledRow (List ℕ) ℕ HandledSeen
 code_harness f most samples = record {
   samples = map input_bytes samples;
   parts = code_parts f most;
-  told = λ steps. steps;
+  notes = room_notes (λ steps. steps);
   shows = with_steps;
   seen = row_seen;
 }

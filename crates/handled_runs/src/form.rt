@@ -1,18 +1,20 @@
 // A firmware whose interrupts run code, as a form of runs.
-ghost use Rattle.std.specs.Prelude.{ℕ, ◌≡◌, ◌≤◌, ◌<◌, List, Some, length, slice_get, sum, vec_len};
+ghost use Rattle.std.specs.Prelude.{ℕ, ◌≡◌, ◌≤◌, ◌<◌, List, Some, length, slice_get, sum};
 ghost use Rattle.run_forms.specs.Rest.{counted_at, shown_by};
+ghost use Rattle.run_forms.specs.Rooms.{Fits};
 ghost use Rattle.handled_runs.specs.Forms.{HandledSeen, code_harness};
 
 use crate::back::until_rti;
 use crate::rows::HandledRow;
 use codegen::Firmware;
-use cpu12_emul::ends::Frame;
 use cpu12_emul::machine::Machine;
 use cpu12_isa::mem::Mem;
 use firmware_ports::{answers, give, is_busy_here, is_idle};
+use fz_list::Memory;
 use fz_run::row_of;
 use interrupt_plan::Request;
-use run_forms::{RunForm, Tally};
+use run_forms::{Room, RunForm, SampleForm, Tally, room_for};
+use std::alloc::Global;
 use trace_io::Sample;
 
 /// A firmware that stands alone beside a handler in memory, with a trace.
@@ -35,7 +37,7 @@ fn steps_in(told: &[u16]) -> u32
     told.iter().map(|steps| u32::from(*steps)).sum()
 }
 
-impl<'a> RunForm<Request, u16, HandledRow> for WithCode<'a> {
+impl<'a> SampleForm<Request, Room<u16>, HandledRow> for WithCode<'a> {
     ghost Given = { List ℕ };
 
     ghost Told = { ℕ };
@@ -44,6 +46,37 @@ impl<'a> RunForm<Request, u16, HandledRow> for WithCode<'a> {
 
     ghost harness = { λ x. code_harness x.firmware.now x.most x.samples.now };
 
+    ghost fits = { Fits };
+
+    ghost serves = { λ _ _. Unit {0} };
+
+    fn ends<M: Mem>(&self, m: &Machine<M>, _moment: u32) -> bool {
+        is_idle(&self.firmware.memory_map, m)
+    }
+
+    #[inline(always)]
+    fn goes_on_here<M: Mem>(&self, m: &Machine<M>) -> bool {
+        is_busy_here(&self.firmware.memory_map, m)
+    }
+
+    fn place(&self, request: &Request) -> (u32, u32) {
+        (request.sample, request.moment)
+    }
+
+    fn take<M: Mem>(
+        &self,
+        m: &mut Machine<M>,
+        request: &Request,
+        moment: u32,
+        notes: &mut Room<u16>,
+    ) {
+        let frame = m.enter(request.writes.as_slice());
+        let steps = until_rti(m, self.most);
+        notes.put(moment, frame, steps);
+    }
+}
+
+impl<'a> RunForm<Request, Room<u16>, HandledRow> for WithCode<'a> {
     fn count(&self) -> usize {
         self.samples.len()
     }
@@ -58,42 +91,22 @@ impl<'a> RunForm<Request, u16, HandledRow> for WithCode<'a> {
 
     fn leave<M: Mem>(&self, _m: &mut Machine<M>, _k: usize) {}
 
-    fn ends<M: Mem>(&self, m: &Machine<M>) -> bool {
-        is_idle(&self.firmware.memory_map, m)
+    fn room(&self, alloc: Global, count: usize) -> Result<Room<u16>, Memory> {
+        room_for(alloc, count)
     }
 
-    #[inline(always)]
-    fn goes_on_here<M: Mem>(&self, m: &Machine<M>) -> bool {
-        is_busy_here(&self.firmware.memory_map, m)
-    }
-
-    #[inline(always)]
-    fn plain_steps<M: Mem>(&self, _m: &mut Machine<M>, _most: u32) -> u32 {
-        0
-    }
-
-    fn place(&self, request: &Request) -> (u32, u32) {
-        (request.sample, request.moment)
-    }
-
-    fn take<M: Mem>(&self, m: &mut Machine<M>, request: &Request) -> (Frame, u16) {
-        let frame = m.enter(request.writes.as_slice());
-        let steps = until_rti(m, self.most);
-        (frame, steps)
-    }
-
-    fn row<M: Mem>(&self, m: &Machine<M>, k: usize, tally: Tally<u16>) -> HandledRow
+    fn row<M: Mem>(&self, m: &Machine<M>, k: usize, tally: Tally<Room<u16>>) -> HandledRow
         requires sample { k < length (code_harness self.now.firmware.now self.now.most self.now.samples.now).samples }
-        requires few { vec_len tally.told ≤ 10000 }
+        requires few { (n : ℕ) × Fits tally.notes n }
         ensures { (x : List ℕ)
             → slice_get (code_harness self.now.firmware.now self.now.most self.now.samples.now).samples k ≡ Some x
             → (code_harness self.now.firmware.now self.now.most self.now.samples.now).seen result
             ≡ shown_by (code_harness self.now.firmware.now self.now.most self.now.samples.now).shows
             (code_harness self.now.firmware.now self.now.most self.now.samples.now).parts.answers
-            (counted_at (code_harness self.now.firmware.now self.now.most self.now.samples.now).told tally
+            (counted_at (code_harness self.now.firmware.now self.now.most self.now.samples.now).notes tally
             m.now.state) x }
     {
-        let handler = steps_in(tally.told.as_slice());
+        let handler = steps_in(tally.notes.told.as_slice());
         let bytes = self.samples[k].bytes.as_slice();
         let row = row_of(bytes, answers(self.firmware, m), tally);
         HandledRow { row, handler }

@@ -20,7 +20,7 @@ use handler_check::Handler;
 use handler_check::laws::handlers_are_short;
 use interrupt_plan::{Plan, Request};
 use run_forms::laws::rows_are_shown;
-use run_forms::{Start, run_form};
+use run_forms::{Room, Start, run_form};
 use std::alloc::Global;
 use trace_io::Sample;
 
@@ -93,7 +93,7 @@ pub fn run_handler(
         (map input_bytes samples.now) plan.now (map row_seen rows.items)) }
 {
     handled_answers();
-    rows_are_shown::<Request, u16, HandledRow, WithCode>();
+    rows_are_shown::<Request, Room<u16>, HandledRow, WithCode>();
     let rows = joint_rows(alloc, firmware, image, handler, samples, plan, flags)?;
     Ok(rows)
 }

@@ -17,8 +17,6 @@ pub mod AllTurns
 pub mod WholeAnswers
 pub mod LastOnes
 pub mod Instances
-pub mod Takings
-pub mod Turnings
 pub mod Running
 pub mod NextTurns
 pub mod HavingSteps

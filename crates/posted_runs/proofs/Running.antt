@@ -1,14 +1,12 @@
 -- What is told of posts, and a run by its next turn.
-use Rattle.std.proofs.Common.{◌≡◌, ℕ, zero, suc, ◌+◌, ◌-◌, ◌≤◌, ◌==◌, Bool, true, false, ◌&&◌, nat_le, Result, Ok, Err}
+use Rattle.std.proofs.Common.{◌≡◌, ℕ, zero, suc, ◌+◌, ◌-◌, ◌≤◌, ◌==◌, Bool, true, false, ◌&&◌}
 use Rattle.std.proofs.Common.{List, [], ◌∷◌, ◌++◌, length, take, drop}
-use Rattle.std.proofs.Common.{refl, ap, ap₂, sym, ◌∙◌, arith, append_assoc, length-append, length-drop}
+use Rattle.std.proofs.Common.{refl, ap, ap₂, sym, ◌∙◌, arith, length-append, length-drop}
 use Rattle.std.specs.Prelude.{slice_index}
 use Rattle.std.proofs.lemmas.Bool.Decides.{nat_tests}
-use Rattle.std.proofs.lemmas.List.{map-append}
 use Rattle.cpu12_parts.specs.State.{State}
-use Rattle.cpu12_emul.specs.Step.{Next, next_of, is_part}
-use Rattle.cpu12_emul.specs.Take.{FrameSeen, may_interrupt}
-use Rattle.run_law.specs.Forms.{Taking, Ran, takes, taken, is_empty, then_rest, run_from}
+use Rattle.cpu12_emul.specs.Take.{FrameSeen}
+use Rattle.run_law.specs.Forms.{Taking, Ran, takes, is_empty, run_from}
 use Rattle.run_law.specs.Following.{asked}
 use Rattle.interrupt_plan.specs.declared.Post.{Post}
 use Rattle.codegen.specs.declared.firmware.Firmware.{Firmware}
@@ -17,67 +15,10 @@ use Rattle.posted_runs.specs.Turns.{up_to, behind, waiting}
 use Rattle.fz_run.specs.Rows.{bytes_of}
 use Rattle.posted_runs.specs.Runs.{TurnForm, turn_form, AnswerSeen, no_turn, answers_by}
 use Rattle.posted_runs.specs.Runs.{waits_by, then_turns, is_over, turns_from}
-use Rattle.posted_runs.specs.Tallies.{Brought, with_frames}
+use Rattle.run_forms.specs.Rest.{Brought, with_before}
+use Rattle.run_forms.proofs.Algebra.{taken_told}
 
--- those that are taken come before those that are left
-takes_by : (b : Bool) (flags : ℕ) (f : Firmware) (samples : List (List ℕ)) (g m : ℕ) (q : Post) (qs : List Post)
-    (s : State)
-    → (may_interrupt s && nat_le q.moment m) ≡ b
-    → asked (takes (turn_form flags f samples g) m qs (taken (turn_form flags f samples g) q s)).told
-    ++ (takes (turn_form flags f samples g) m qs (taken (turn_form flags f samples g) q s)).left ≡ qs
-    → asked (takes (turn_form flags f samples g) m (q ∷ qs) s).told
-    ++ (takes (turn_form flags f samples g) m (q ∷ qs) s).left ≡ q ∷ qs
-unfolding takes
-takes_by true flags f samples g m q qs s e r = rw e (ap (λ (xs : List Post). q ∷ xs) r)
-takes_by false flags f samples g m q qs s e r = rw e refl
-
-taken_told : (flags : ℕ) (f : Firmware) (samples : List (List ℕ)) (g m : ℕ) (qs : List Post) (s : State)
-    → asked (takes (turn_form flags f samples g) m qs s).told ++ (takes (turn_form flags f samples g) m qs s).left ≡ qs
-unfolding takes
-taken_told flags f samples g m [] s = refl
-taken_told flags f samples g m (q ∷ qs) s =
-    takes_by (may_interrupt s && nat_le q.moment m) flags f samples g m q qs s refl
-    (taken_told flags f samples g m qs (taken (turn_form flags f samples g) q s))
-
--- the same of a step and the rest
-rest_told : (inside : Bool) (b : Taking Post (Unit {0})) (rest : Bool → State → Ran Post (Unit {0})) (o : Result Next ℕ)
-    (qs : List Post)
-    → asked b.told ++ b.left ≡ qs → ((i : Bool) (u : State) → asked (rest i u).told ++ (rest i u).left ≡ b.left)
-    → asked (then_rest inside b rest o).told ++ (then_rest inside b rest o).left ≡ qs
-rest_told inside b rest (Ok next) qs e r =
-    let k : Ran Post (Unit {0}) = rest (is_part next.kind) next.state in
-    ap (λ (xs : List Post). xs ++ k.left) (map-append (λ (t : Post × Unit {0}). t.0) b.told k.told)
-    ∙ append_assoc (asked b.told) (asked k.told) k.left
-    ∙ ap (λ (xs : List Post). asked b.told ++ xs) (r (is_part next.kind) next.state) ∙ e
-rest_told inside b rest (Err byte) qs e r = e
-
-ran_by : (e : Bool) (flags : ℕ) (f : Firmware) (samples : List (List ℕ)) (g n m : ℕ) (inside : Bool) (qs : List Post)
-    (s : State)
-    → (turn_form flags f samples g).ends m s ≡ e
-    → ((qs2 : List Post) (i : Bool) (u : State)
-    → asked (run_from (turn_form flags f samples g) n (suc m) i qs2 u).told
-    ++ (run_from (turn_form flags f samples g) n (suc m) i qs2 u).left ≡ qs2)
-    → asked (run_from (turn_form flags f samples g) (suc n) m inside qs s).told
-    ++ (run_from (turn_form flags f samples g) (suc n) m inside qs s).left ≡ qs
-unfolding run_from
-ran_by true flags f samples g n m inside qs s e r = rw e refl
-ran_by false flags f samples g n m inside qs s e r =
-    let form : TurnForm = turn_form flags f samples g in
-    let b : Taking Post (Unit {0}) = takes form m qs s in
-    rw e (rest_told inside b (λ i u. run_from form n (suc m) i b.left u) (next_of flags b.state) qs
-    (taken_told flags f samples g m qs s) (r b.left))
-
-pub ran_told : (flags : ℕ) (f : Firmware) (samples : List (List ℕ)) (g n m : ℕ) (inside : Bool) (qs : List Post)
-    (s : State)
-    → asked (run_from (turn_form flags f samples g) n m inside qs s).told
-    ++ (run_from (turn_form flags f samples g) n m inside qs s).left ≡ qs
-unfolding run_from
-ran_told flags f samples g zero m inside qs s = refl
-ran_told flags f samples g (suc n) m inside qs s =
-    ran_by ((turn_form flags f samples g).ends m s) flags f samples g n m inside qs s refl
-    (λ qs2 i u. ran_told flags f samples g n (suc m) i qs2 u)
-
--- so they are a slice of the posts
+-- posts before those that are left are a slice of them
 front_of : (xs ys : List Post) → take (length xs) (xs ++ ys) ≡ xs
 front_of [] ys = refl
 front_of (x ∷ xs) ys = ap (λ (l : List Post). x ∷ l) (front_of xs ys)
@@ -94,16 +35,16 @@ slice_is posts xs i j le lt e =
 
 -- what is taken at a boundary is the slice of them up to those that are left
 pub taken_slice : (flags : ℕ) (f : Firmware) (samples : List (List ℕ)) (g m : ℕ) (posts : List Post) (s s1 : State)
-    (fs fs1 : List (ℕ × FrameSeen)) (i j : ℕ)
-    → with_frames fs (takes (turn_form flags f samples g) m (drop i posts) s)
-    ≡ record { state = s1; frames = fs1; left = drop j posts }
+    (fs fs1 : List (ℕ × FrameSeen)) (us us1 : List (Unit {0})) (i j : ℕ)
+    → with_before fs us (takes (turn_form flags f samples g) m (drop i posts) s)
+    ≡ record { state = s1; frames = fs1; told = us1; left = drop j posts }
     → (i ≤ j) × (j ≤ length posts)
     → take (j - i) (drop i posts) ≡ asked (takes (turn_form flags f samples g) m (drop i posts) s).told
-taken_slice flags f samples g m posts s s1 fs fs1 i j te next =
+taken_slice flags f samples g m posts s s1 fs fs1 us us1 i j te next =
     let b : Taking Post (Unit {0}) = takes (turn_form flags f samples g) m (drop i posts) s in
     slice_is posts (asked b.told) i j next.0 next.1
-    (ap (λ (l : List Post). asked b.told ++ l) (sym (ap (λ (k : Brought). k.left) te))
-    ∙ taken_told flags f samples g m (drop i posts) s)
+    (ap (λ (l : List Post). asked b.told ++ l) (sym (ap (λ (k : Brought Post (Unit {0})). k.left) te))
+    ∙ taken_told (turn_form flags f samples g) m (drop i posts) s)
 
 -- a run that is over
 pub run_over : (flags : ℕ) (f : Firmware) (samples : List (List ℕ)) (last n g w : ℕ) (qs : List Post) (s : State)
@@ -126,18 +67,19 @@ run_on flags f samples last n g w qs s e = rw e refl
 
 -- where what is taken leaves these, the sample that waits is v, and the turn is r
 pub run_turn : (flags : ℕ) (f : Firmware) (samples : List (List ℕ)) (last n g w v : ℕ) (qs qs1 : List Post)
-    (s s1 : State) (fs fs1 : List (ℕ × FrameSeen))
-    → with_frames fs (takes (turn_form flags f samples g) g qs s) ≡ record { state = s1; frames = fs1; left = qs1 }
+    (s s1 : State) (fs fs1 : List (ℕ × FrameSeen)) (us us1 : List (Unit {0}))
+    → with_before fs us (takes (turn_form flags f samples g) g qs s)
+    ≡ record { state = s1; frames = fs1; told = us1; left = qs1 }
     → v ≡ waiting w (asked (takes (turn_form flags f samples g) g qs s).told)
     → (is_empty qs1 && (slice_index s1.mem f.memory_map.ready == 0)) ≡ false
     → turns_from flags f samples last (suc n) g w qs s
     ≡ then_turns f samples g v (takes (turn_form flags f samples g) g qs s).frames
     (run_from (turn_form flags f samples g) (last - g) g false qs1 s1) (turns_from flags f samples last n)
-run_turn flags f samples last n g w v qs qs1 s s1 fs fs1 te ve e =
+run_turn flags f samples last n g w v qs qs1 s s1 fs fs1 us us1 te ve e =
     let form : TurnForm = turn_form flags f samples g in
     let b : Taking Post (Unit {0}) = takes form g qs s in
-    let es : b.state ≡ s1 = ap (λ (k : Brought). k.state) te in
-    let el : b.left ≡ qs1 = ap (λ (k : Brought). k.left) te in
+    let es : b.state ≡ s1 = ap (λ (k : Brought Post (Unit {0})). k.state) te in
+    let el : b.left ≡ qs1 = ap (λ (k : Brought Post (Unit {0})). k.left) te in
     let on : is_over f.memory_map b ≡ false =
     ap₂ (λ (l : List Post) (u : State). is_empty l && (slice_index u.mem f.memory_map.ready == 0)) el es ∙ e in
     run_on flags f samples last n g w qs s on

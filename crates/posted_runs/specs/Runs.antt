@@ -1,15 +1,17 @@
 -- The run of the mailbox form under posts, turn by turn.
 use Rattle.std.specs.Prelude.{ℕ, zero, suc, ◌+◌, ◌-◌, ◌*◌, ◌==◌, ◌&&◌, nat_lt, min, Bool, true, false, if◌then◌else◌}
-use Rattle.std.specs.Prelude.{List, [], ◌∷◌, ◌++◌, map, slice_index}
+use Rattle.std.specs.Prelude.{List, [], ◌∷◌, ◌++◌, slice_index}
 use Rattle.cpu12_isa.specs.declared.instr.Write.{Write}
 use Rattle.cpu12_isa.specs.Memory.{plus}
 use Rattle.cpu12_parts.specs.State.{State}
-use Rattle.cpu12_emul.specs.declared.ends.Frame.{Frame}
 use Rattle.cpu12_emul.specs.Image.{image_memory}
 use Rattle.cpu12_emul.specs.Step.{reset_with}
-use Rattle.cpu12_emul.specs.Take.{FrameSeen, framed, frame_seen}
+use Rattle.cpu12_emul.specs.Take.{FrameSeen, framed}
 use Rattle.run_law.specs.Forms.{Form, Taking, takes, is_empty, Ran, run_from}
 use Rattle.run_law.specs.Following.{asked}
+use Rattle.run_forms.specs.declared.sample.Room.{Room}
+use Rattle.run_forms.specs.Rooms.{room_notes}
+use Rattle.run_forms.specs.Forms.{FormParts, plan_form, Harness}
 use Rattle.interrupt_plan.specs.declared.Post.{Post}
 use Rattle.trace_io.specs.declared.sample.Sample.{Sample}
 use Rattle.codegen.specs.declared.firmware.Firmware.{Firmware}
@@ -33,17 +35,31 @@ post_writes l samples p =
 abbrev pub TurnForm : Type 0
 TurnForm = Form (Unit {0}) Post (Unit {0})
 
--- A turn that begins at boundary g ends at the next boundary at which PC is where the code waits.
-abbrev pub turn_form : ℕ → Firmware → List (List ℕ) → ℕ → TurnForm
-turn_form flags f samples g = record {
-  flags = flags;
+-- A turn that begins at boundary g ends at the next boundary at which PC is where the code waits. It is given nothing,
+-- and its posts have no sample but the moment from which on they are due.
+abbrev pub turn_parts : Firmware → List (List ℕ) → ℕ → FormParts (Unit {0}) Post (Unit {0})
+turn_parts f samples g = record {
   give = λ x s. s;
   leave = λ x s. s;
   ends = λ m s. nat_lt g m && is_waiting f.memory_map s;
   answers = values_in f;
-  moment = λ p. p.moment;
-  handle = λ p. framed (post_writes f.memory_map samples p);
-  tells = λ p s. tt;
+  place = λ p. (0, p.moment);
+  handle = λ flags p. framed (post_writes f.memory_map samples p);
+  tells = λ flags p s. tt;
+}
+
+abbrev pub turn_form : ℕ → Firmware → List (List ℕ) → ℕ → TurnForm
+turn_form flags f samples g = plan_form flags (turn_parts f samples g)
+
+-- the run of one turn alone, which has no row
+abbrev pub turn_harness : Firmware → List (List ℕ) → ℕ
+    → Harness Post (Room (Unit {0})) (Unit {0}) (Unit {0}) (Unit {0}) (Unit {0})
+turn_harness f samples g = record {
+  samples = [];
+  parts = turn_parts f samples g;
+  notes = room_notes (λ u. u);
+  shows = λ row told. tt;
+  seen = λ r. tt;
 }
 
 -- an answer: the sample, the boundary where its turn ends, its input bytes, the values of the outputs there, and the
@@ -130,12 +146,6 @@ run_under_posts f samples posts flags =
 
 abbrev pub input_bytes : Sample → List ℕ
 input_bytes s = s.bytes.items
-
-abbrev pub boundary_seen : ℕ × Frame → ℕ × FrameSeen
-boundary_seen f = (f.0, frame_seen f.1)
-
-abbrev pub frames_seen : List (ℕ × Frame) → List (ℕ × FrameSeen)
-frames_seen fs = map boundary_seen fs
 
 -- an answer of the code, as it is seen
 abbrev pub answer_seen : declared.Answer → AnswerSeen

@@ -24,10 +24,9 @@
 #![tactic(auto)]
 
 mod copied;
+mod form;
 mod laws;
-mod post;
 mod run;
-mod tally;
 mod turn;
 mod turns;
 

@@ -1,21 +1,22 @@
 // The run of a firmware under posts.
 ghost use Rattle.std.specs.Prelude.{◌≡◌, ◌≤◌, ◌<◌, ◌+◌, ◌*◌, ◌^◌, false, length, map, min, IfOk};
+ghost use Rattle.run_forms.specs.Rows.{frames_seen};
 ghost use Rattle.interrupt_plan.specs.Posts.{AreGoodPosts};
 ghost use Rattle.posted_runs.specs.Answering.{AnswersItsPosts};
-ghost use Rattle.posted_runs.specs.Runs.{run_under_posts, last_boundary, input_bytes, answer_seen, frames_seen};
+ghost use Rattle.posted_runs.specs.Runs.{run_under_posts, last_boundary, input_bytes, answer_seen};
 
+use crate::form::WithPosts;
 use crate::laws::posts_are_answered;
-use crate::tally::Tally;
 use crate::turn::turn;
 use crate::turns::run_turns;
 use arrayvec::ArrayVec;
 use codegen::Firmware;
 use cpu12_emul::ends::Frame;
 use cpu12_emul::machine::Machine;
-use cpu12_isa::instr::Write;
 use cpu12_isa::pages::PageMem;
 use fz_list::Memory;
 use interrupt_plan::Posts;
+use run_forms::{Room, Tally, fresh_stand, room_for};
 use std::alloc::Global;
 use trace_io::Sample;
 
@@ -24,9 +25,6 @@ const LAST_BOUNDARY: u32 = 4_000_000_000;
 
 /// The last moment of a post.
 const LAST_MOMENT: u32 = 1_000_000;
-
-/// The most writes of a post: eight inputs, POSTED, and eight of its own.
-const MOST_WRITES: usize = 17;
 
 /// The answer of a turn.
 #[derive(Drop)]
@@ -56,62 +54,20 @@ pub struct PostRun {
     pub resumed: u32,
 }
 
-/// Before the first step.
-fn fresh_tally(frames: Vec<(u32, Frame)>, writes: Vec<Write>) -> Tally
-    ensures { result ≡ record {
-      begun = 0;
-      moment = 0;
-      inside = false;
-      next = 0;
-      instrs = 0;
-      resumed = 0;
-      frames = frames;
-      writes = writes;
-    } }
-{
-    Tally {
-        begun: 0,
-        moment: 0,
-        inside: false,
-        next: 0,
-        instrs: 0,
-        resumed: 0,
-        frames,
-        writes,
-    }
-}
-
-/// The room for the writes of a post.
-fn room_of(t: Tally) -> Vec<Write>
-    ensures { result ≡ t.writes }
-{
-    let Tally {
-        begun: _,
-        moment: _,
-        inside: _,
-        next: _,
-        instrs: _,
-        resumed: _,
-        frames: _,
-        writes,
-    } = t;
-    writes
-}
-
 /// What a run gave that ends here.
-fn run_of(answers: Vec<Answer>, t: Tally) -> PostRun
-    ensures { result ≡ record { answers = answers; frames = t.frames; resumed = t.resumed } }
+fn run_of(answers: Vec<Answer>, t: Tally<Room<()>>) -> PostRun
+    ensures { result ≡ record { answers = answers; frames = t.notes.frames; resumed = t.resumed } }
 {
     let Tally {
-        begun: _,
+        arrived: _,
         moment: _,
         inside: _,
         next: _,
         instrs: _,
         resumed,
-        frames,
-        writes: _,
+        notes,
     } = t;
+    let Room { frames, told: _ } = notes;
     PostRun {
         answers,
         frames,
@@ -155,23 +111,17 @@ pub fn run_posts(
     let Ok(mut answers) = Vec::with_capacity(alloc, posts.len()) else {
         return Err(Memory);
     };
-    let Ok(frames) = Vec::with_capacity(alloc, posts.len()) else {
-        return Err(Memory);
-    };
-    let Ok(writes) = Vec::with_capacity(alloc, MOST_WRITES) else {
-        return Err(Memory);
-    };
+    let room = room_for(alloc, posts.len())?;
     let mut m: Machine<PageMem> = Machine::new(alloc, &firmware.image, flags)?;
-    let mut arrival = fresh_tally(Vec::new(alloc), writes);
-    let waits = turn(
-        &mut m,
+    let none = room_for(alloc, 0)?;
+    let form = WithPosts {
         firmware,
         samples,
-        &[],
-        &mut arrival,
-        firmware.step_bound,
-    );
-    let mut t = fresh_tally(frames, room_of(arrival));
+        begun: 0,
+    };
+    let mut arrival = fresh_stand(0, none);
+    let waits = turn(&mut m, &form, &[], &mut arrival, firmware.step_bound);
+    let mut st = fresh_stand(0, room);
     if waits {
         let last = last_boundary(firmware);
         run_turns(
@@ -179,10 +129,10 @@ pub fn run_posts(
             firmware,
             samples,
             posts.as_slice(),
-            &mut t,
+            &mut st,
             &mut answers,
             last,
         );
     }
-    Ok(run_of(answers, t))
+    Ok(run_of(answers, st.tally))
 }

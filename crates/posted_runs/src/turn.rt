@@ -1,94 +1,51 @@
 // A turn: from one arrival where the code waits to the next.
-ghost use Rattle.std.specs.Prelude.{ℕ, ◌≡◌, ◌≤◌, ◌<◌, ◌+◌, ◌-◌, true, false, length, vec_len, vec_capacity};
-ghost use Rattle.interrupt_plan.specs.Posts.{AreGoodPosts};
-ghost use Rattle.posted_runs.specs.Tallies.{form_of, rest_of, turned_at};
+ghost use Rattle.std.specs.Prelude.{◌≡◌, ◌≤◌, ◌<◌, ◌+◌, ◌-◌, ◌^◌, All, true, false, length, map, drop};
+ghost use Rattle.run_law.specs.Forms.{run_from};
+ghost use Rattle.run_forms.specs.Rest.{rest_at, counted_at};
+ghost use Rattle.run_forms.specs.Rooms.{Fits};
+ghost use Rattle.run_forms.specs.Sessions.{IsSteady};
+ghost use Rattle.interrupt_plan.specs.Posts.{IsGoodPost};
+ghost use Rattle.posted_runs.specs.Runs.{input_bytes, turn_form};
+ghost use Rattle.posted_runs.specs.Tallies.{notes_of};
 
-use crate::post::take_due;
-use crate::tally::{Tally, count, instructions, resumes};
-use codegen::Firmware;
+use crate::form::WithPosts;
 use cpu12_emul::machine::Machine;
 use cpu12_isa::mem::Mem;
 use interrupt_plan::Post;
-use trace_io::Sample;
-
-/// Takes what is due at a boundary, and does a step. Answers whether one was defined.
-#[inline(always)]
-fn pass<M: Mem>(
-    m: &mut Machine<M>,
-    firmware: &Firmware,
-    samples: &[Sample],
-    posts: &[Post],
-    t: &mut Tally,
-) -> bool
-    requires good { AreGoodPosts (length samples.now) posts.now }
-    requires on { (form_of m.old.flags firmware.now samples.now t.old).ends t.old.moment m.old.state ≡ false }
-    requires next { t.old.next ≤ length posts.now }
-    requires room { vec_len t.old.frames + (length posts.now - t.old.next) ≤ vec_capacity t.old.frames }
-    requires writes { 17 ≤ vec_capacity t.old.writes }
-    requires counts { (t.old.instrs ≤ t.old.moment) × (t.old.resumed ≤ t.old.moment) }
-    requires most { t.old.moment < 4294967295 }
-    ensures goes { result ≡ true → (last : ℕ) → t.old.moment < last
-        → rest_of (form_of m.old.flags firmware.now samples.now t.old) last posts.now t.old m.old.state
-        ≡ rest_of (form_of m.old.flags firmware.now samples.now t.old) last posts.now t.new m.new.state }
-    ensures stuck { result ≡ false → (last : ℕ) → t.old.moment < last
-        → rest_of (form_of m.old.flags firmware.now samples.now t.old) last posts.now t.old m.old.state
-        ≡ turned_at false posts.now t.new m.new.state }
-    ensures moment { result ≡ true → t.new.moment ≡ t.old.moment + 1 }
-    ensures still { result ≡ false → t.new.moment ≡ t.old.moment }
-    ensures begun { t.new.begun ≡ t.old.begun }
-    ensures next { (t.old.next ≤ t.new.next) × (t.new.next ≤ length posts.now) }
-    ensures room { vec_len t.new.frames + (length posts.now - t.new.next) ≤ vec_capacity t.new.frames }
-    ensures writes { 17 ≤ vec_capacity t.new.writes }
-    ensures counts { result ≡ true → (t.new.instrs ≤ t.new.moment) × (t.new.resumed ≤ t.new.moment) }
-    ensures flags { m.new.flags ≡ m.old.flags }
-{
-    let before = count(&t.frames);
-    take_due(m, firmware, samples, posts, t);
-    t.resumed += resumes(t.inside, before, count(&t.frames));
-    match m.step() {
-        Ok(kind) => {
-            t.inside = kind.is_part();
-            t.instrs += instructions(kind);
-            t.moment += 1;
-            true
-        }
-        Err(_) => false,
-    }
-}
+use run_forms::{Room, Stand, run_sample};
 
 /// Goes on until the code waits again, or up to boundary `last`. Answers whether it waits.
 pub(crate) fn turn<M: Mem>(
     m: &mut Machine<M>,
-    firmware: &Firmware,
-    samples: &[Sample],
+    form: &WithPosts,
     posts: &[Post],
-    t: &mut Tally,
+    st: &mut Stand<Room<()>>,
     last: u32,
 ) -> bool
-    requires good { AreGoodPosts (length samples.now) posts.now }
-    requires begins { t.old.begun ≡ t.old.moment }
-    requires next { t.old.next ≤ length posts.now }
-    requires room { vec_len t.old.frames + (length posts.now - t.old.next) ≤ vec_capacity t.old.frames }
-    requires writes { 17 ≤ vec_capacity t.old.writes }
-    requires counts { (t.old.instrs ≤ t.old.moment) × (t.old.resumed ≤ t.old.moment) }
-    requires most { t.old.moment ≤ last }
-    ensures turned { turned_at result posts.now t.new m.new.state
-        ≡ rest_of (form_of m.old.flags firmware.now samples.now t.old) last posts.now t.old m.old.state }
-    ensures next { (t.old.next ≤ t.new.next) × (t.new.next ≤ length posts.now) }
-    ensures room { vec_len t.new.frames + (length posts.now - t.new.next) ≤ vec_capacity t.new.frames }
-    ensures writes { 17 ≤ vec_capacity t.new.writes }
-    ensures begun { t.new.begun ≡ t.old.begun }
-    ensures counts { result ≡ true → (t.new.instrs ≤ t.new.moment) × (t.new.resumed ≤ t.new.moment) }
-    ensures most { t.new.moment ≤ last }
+    requires good { All (IsGoodPost (length form.now.samples.now)) posts.now }
+    requires next { st.old.tally.next ≤ length posts.now }
+    requires room { Fits st.old.tally.notes (length posts.now - st.old.tally.next) }
+    requires counts { (st.old.tally.instrs ≤ st.old.tally.moment) × (st.old.tally.resumed ≤ st.old.tally.moment) }
+    requires most { st.old.tally.moment ≤ last }
+    ensures arrived { result ≡ st.new.tally.arrived }
+    ensures counted { counted_at notes_of st.new.tally m.new.state
+        ≡ rest_at notes_of
+        (turn_form m.old.flags form.now.firmware.now (map input_bytes form.now.samples.now) form.now.begun)
+        (last - st.old.tally.moment) posts.now st.old.tally m.old.state }
+    ensures left { drop st.new.tally.next posts.now
+        ≡ (run_from
+        (turn_form m.old.flags form.now.firmware.now (map input_bytes form.now.samples.now) form.now.begun)
+        (last - st.old.tally.moment) st.old.tally.moment st.old.tally.inside (drop st.old.tally.next posts.now)
+        m.old.state).left }
+    ensures next { st.old.tally.next ≤ st.new.tally.next }
+    ensures steady { IsSteady Fits posts.now st.new }
+    ensures most { st.new.tally.moment ≤ last }
+    ensures resumed { result ≡ true → st.new.tally.resumed ≤ st.new.tally.moment }
     ensures flags { m.new.flags ≡ m.old.flags }
 {
-    while t.moment < last {
-        if !pass(m, firmware, samples, posts, t) {
-            return false;
-        }
-        if m.regs().pc == firmware.memory_map.wait {
-            return true;
-        }
-    }
-    false
+    st.tally.arrived = false;
+    st.left = last - st.tally.moment;
+    st.over = false;
+    run_sample(m, form, posts, st);
+    st.tally.arrived
 }

@@ -7,13 +7,15 @@ ghost use Rattle.interrupt_plan.specs.Posts.{IsGoodPost, AreGoodPosts};
 ghost use Rattle.codegen.specs.Uninterrupted.{values_in};
 ghost use Rattle.posted_runs.specs.Turns.{up_to, behind, waiting};
 ghost use Rattle.fz_run.specs.Rows.{bytes_of};
-ghost use Rattle.posted_runs.specs.Runs.{turn_form, answers_by, waits_by, input_bytes, answer_seen, frames_seen};
+ghost use Rattle.run_forms.specs.Rest.{with_before};
+ghost use Rattle.run_forms.specs.Rooms.{Fits};
+ghost use Rattle.run_forms.specs.Sessions.{IsSteady};
+ghost use Rattle.posted_runs.specs.Runs.{turn_form, answers_by, waits_by, input_bytes, answer_seen};
 ghost use Rattle.posted_runs.specs.Runs.{turns_from, most_turns};
-ghost use Rattle.posted_runs.specs.Tallies.{with_frames, counted_at, with_rest};
+ghost use Rattle.posted_runs.specs.Tallies.{notes_of, counted_at, with_rest};
 
-use crate::post::take_due;
+use crate::form::WithPosts;
 use crate::run::Answer;
-use crate::tally::Tally;
 use crate::turn::turn;
 use arrayvec::ArrayVec;
 use codegen::Firmware;
@@ -21,6 +23,7 @@ use cpu12_emul::machine::Machine;
 use cpu12_isa::mem::Mem;
 use firmware_ports::{answers, answers_are_values, copy_of};
 use interrupt_plan::Post;
+use run_forms::{Room, Stand, Tally, take_due};
 use trace_io::Sample;
 
 /// The most turns: each takes a step at least.
@@ -68,7 +71,7 @@ fn answer_of<M: Mem>(
     m: &Machine<M>,
     firmware: &Firmware,
     samples: &[Sample],
-    t: &Tally,
+    t: &Tally<Room<()>>,
     sample: u32,
 ) -> Answer
     requires outputs { (firmware.now.outputs ≤ 4) × (firmware.now.memory_map.outputs + 8 < 2 ^ 16) }
@@ -99,19 +102,20 @@ fn end_turn<M: Mem>(
     firmware: &Firmware,
     samples: &[Sample],
     taken: &[Post],
-    t: &Tally,
+    begun: u32,
+    t: &Tally<Room<()>>,
     waits: u32,
     answers: &mut Vec<Answer>,
 ) -> u32
     requires outputs { (firmware.now.outputs ≤ 4) × (firmware.now.memory_map.outputs + 8 < 2 ^ 16) }
     requires waits { waits ≤ length samples.now }
     requires good { All (IsGoodPost (length samples.now)) taken.now }
-    requires begun { t.now.begun + 2 < 2 ^ 32 }
+    requires begun { begun + 2 < 2 ^ 32 }
     requires room { vec_len answers.old + min waits 1 ≤ vec_capacity answers.old }
     ensures answers { map answer_seen answers.new.items ≡ map answer_seen answers.old.items
-        ++ answers_by firmware.now (map input_bytes samples.now) t.now.begun waits taken.now t.now.moment t.now.instrs
+        ++ answers_by firmware.now (map input_bytes samples.now) begun waits taken.now t.now.moment t.now.instrs
         m.now.state }
-    ensures waits { result ≡ waits_by t.now.begun waits taken.now }
+    ensures waits { result ≡ waits_by begun waits taken.now }
     ensures few { (result ≤ length samples.now) × (min result 1 ≤ length taken.now) }
     ensures len { vec_len answers.new ≡ vec_len answers.old + min waits 1 }
     ensures room { vec_capacity answers.old ≤ vec_capacity answers.new }
@@ -119,7 +123,7 @@ fn end_turn<M: Mem>(
     if waits == 0 {
         return posted_last(0, taken);
     }
-    let early = count_up_to(t.begun + 2, taken);
+    let early = count_up_to(begun + 2, taken);
     let sample = posted_last(waits, &taken[..early]);
     answers
         .push(answer_of(m, firmware, samples, t, sample))
@@ -131,42 +135,44 @@ fn end_turn<M: Mem>(
 /// one did before.
 fn look<M: Mem>(
     m: &mut Machine<M>,
-    firmware: &Firmware,
-    samples: &[Sample],
+    form: &WithPosts,
     posts: &[Post],
-    t: &mut Tally,
+    t: &mut Tally<Room<()>>,
     waits: u32,
 ) -> u32
-    requires good { AreGoodPosts (length samples.now) posts.now }
+    requires good { AreGoodPosts (length form.now.samples.now) posts.now }
     requires next { t.old.next ≤ length posts.now }
-    requires room { vec_len t.old.frames + (length posts.now - t.old.next) ≤ vec_capacity t.old.frames }
-    requires writes { 17 ≤ vec_capacity t.old.writes }
-    requires waits { waits ≤ length samples.now }
-    ensures takes { with_frames (frames_seen t.old.frames.items)
-        (takes (turn_form m.old.flags firmware.now (map input_bytes samples.now) t.old.moment) t.old.moment
-        (drop t.old.next posts.now) m.old.state)
-        ≡ record { state = m.new.state; frames = frames_seen t.new.frames.items; left = drop t.new.next posts.now } }
+    requires room { Fits t.old.notes (length posts.now - t.old.next) }
+    requires waits { waits ≤ length form.now.samples.now }
+    ensures takes { with_before (notes_of.frames t.old.notes) (notes_of.told t.old.notes)
+        (takes (turn_form m.old.flags form.now.firmware.now (map input_bytes form.now.samples.now) form.now.begun)
+        t.old.moment (drop t.old.next posts.now) m.old.state)
+        ≡ record {
+          state = m.new.state;
+          frames = notes_of.frames t.new.notes;
+          told = notes_of.told t.new.notes;
+          left = drop t.new.next posts.now;
+        } }
     ensures waits { result ≡ waiting waits
-        (asked (takes (turn_form m.old.flags firmware.now (map input_bytes samples.now) t.old.moment) t.old.moment
+        (asked (takes
+        (turn_form m.old.flags form.now.firmware.now (map input_bytes form.now.samples.now) form.now.begun) t.old.moment
         (drop t.old.next posts.now) m.old.state).told) }
-    ensures few { (result ≤ length samples.now) × (min result 1 + t.old.next ≤ min waits 1 + t.new.next) }
+    ensures few { (result ≤ length form.now.samples.now) × (min result 1 + t.old.next ≤ min waits 1 + t.new.next) }
     ensures next { (t.old.next ≤ t.new.next) × (t.new.next ≤ length posts.now) }
-    ensures room { vec_len t.new.frames + (length posts.now - t.new.next) ≤ vec_capacity t.new.frames }
-    ensures writes { 17 ≤ vec_capacity t.new.writes }
-    ensures begins { (t.new.begun ≡ t.old.moment) × (t.new.moment ≡ t.old.moment) }
+    ensures room { Fits t.new.notes (length posts.now - t.new.next) }
+    ensures begins { t.new.moment ≡ t.old.moment }
     ensures fresh { (t.new.inside ≡ false) × (t.new.instrs ≡ 0) × (t.new.resumed ≡ t.old.resumed) }
     ensures flags { m.new.flags ≡ m.old.flags }
 {
-    t.begun = t.moment;
     t.inside = false;
     t.instrs = 0;
     let before = t.next;
-    take_due(m, firmware, samples, posts, t);
+    take_due(m, form, posts, t);
     posted_last(waits, &posts[before..t.next])
 }
 
 /// Whether no sample is posted and no post is left.
-fn is_over<M: Mem>(m: &Machine<M>, firmware: &Firmware, posts: &[Post], t: &Tally) -> bool
+fn is_over<M: Mem>(m: &Machine<M>, firmware: &Firmware, posts: &[Post], t: &Tally<Room<()>>) -> bool
     requires { t.now.next ≤ length posts.now }
     ensures { result ≡ (is_empty (drop t.now.next posts.now)
         && (slice_index m.now.state.mem firmware.now.memory_map.ready == 0)) }
@@ -184,57 +190,60 @@ fn next_turn<M: Mem>(
     firmware: &Firmware,
     samples: &[Sample],
     posts: &[Post],
-    t: &mut Tally,
+    st: &mut Stand<Room<()>>,
     waits: &mut u32,
     answers: &mut Vec<Answer>,
     last: u32,
 ) -> bool
     requires outputs { (firmware.now.outputs ≤ 4) × (firmware.now.memory_map.outputs + 8 < 2 ^ 16) }
     requires good { AreGoodPosts (length samples.now) posts.now }
-    requires next { t.old.next ≤ length posts.now }
-    requires room { vec_len t.old.frames + (length posts.now - t.old.next) ≤ vec_capacity t.old.frames }
-    requires writes { 17 ≤ vec_capacity t.old.writes }
-    requires resumed { t.old.resumed ≤ t.old.moment }
-    requires most { (t.old.moment ≤ last) × (last ≤ 4000000000) }
+    requires steady { IsSteady Fits posts.now st.old }
+    requires resumed { st.old.tally.resumed ≤ st.old.tally.moment }
+    requires most { (st.old.tally.moment ≤ last) × (last ≤ 4000000000) }
     requires waits { waits.old ≤ length samples.now }
-    requires answers { (vec_len answers.old + min waits.old 1 ≤ t.old.next)
+    requires answers { (vec_len answers.old + min waits.old 1 ≤ st.old.tally.next)
         × (length posts.now ≤ vec_capacity answers.old) }
     ensures goes { result ≡ true → (n : ℕ)
-        → with_rest (map answer_seen answers.old.items) t.old
-        (turns_from m.old.flags firmware.now (map input_bytes samples.now) last (suc n) t.old.moment waits.old
-        (drop t.old.next posts.now) m.old.state)
-        ≡ with_rest (map answer_seen answers.new.items) t.new
-        (turns_from m.old.flags firmware.now (map input_bytes samples.now) last n t.new.moment waits.new
-        (drop t.new.next posts.now) m.new.state) }
+        → with_rest (map answer_seen answers.old.items) st.old.tally
+        (turns_from m.old.flags firmware.now (map input_bytes samples.now) last (suc n) st.old.tally.moment waits.old
+        (drop st.old.tally.next posts.now) m.old.state)
+        ≡ with_rest (map answer_seen answers.new.items) st.new.tally
+        (turns_from m.old.flags firmware.now (map input_bytes samples.now) last n st.new.tally.moment waits.new
+        (drop st.new.tally.next posts.now) m.new.state) }
     ensures ends { result ≡ false → (n : ℕ)
-        → with_rest (map answer_seen answers.old.items) t.old
-        (turns_from m.old.flags firmware.now (map input_bytes samples.now) last (suc n) t.old.moment waits.old
-        (drop t.old.next posts.now) m.old.state)
-        ≡ counted_at (map answer_seen answers.new.items) t.new }
-    ensures next { t.new.next ≤ length posts.now }
-    ensures room { vec_len t.new.frames + (length posts.now - t.new.next) ≤ vec_capacity t.new.frames }
-    ensures writes { 17 ≤ vec_capacity t.new.writes }
-    ensures resumed { result ≡ true → t.new.resumed ≤ t.new.moment }
-    ensures most { t.new.moment ≤ last }
+        → with_rest (map answer_seen answers.old.items) st.old.tally
+        (turns_from m.old.flags firmware.now (map input_bytes samples.now) last (suc n) st.old.tally.moment waits.old
+        (drop st.old.tally.next posts.now) m.old.state)
+        ≡ counted_at (map answer_seen answers.new.items) st.new.tally }
+    ensures steady { result ≡ true → IsSteady Fits posts.now st.new }
+    ensures resumed { result ≡ true → st.new.tally.resumed ≤ st.new.tally.moment }
+    ensures most { st.new.tally.moment ≤ last }
     ensures waits { waits.new ≤ length samples.now }
-    ensures answers { (vec_len answers.new + min waits.new 1 ≤ t.new.next)
+    ensures answers { result ≡ true → (vec_len answers.new + min waits.new 1 ≤ st.new.tally.next)
         × (length posts.now ≤ vec_capacity answers.new) }
     ensures flags { m.new.flags ≡ m.old.flags }
 {
-    let seen = look(m, firmware, samples, posts, t, *waits);
-    if is_over(m, firmware, posts, t) {
+    let begun = st.tally.moment;
+    let form = WithPosts {
+        firmware,
+        samples,
+        begun,
+    };
+    let seen = look(m, &form, posts, &mut st.tally, *waits);
+    if is_over(m, firmware, posts, &st.tally) {
         return false;
     }
-    let looked = t.next;
-    if !turn(m, firmware, samples, posts, t, last) {
+    let looked = st.tally.next;
+    if !turn(m, &form, posts, st, last) {
         return false;
     }
     *waits = end_turn(
         m,
         firmware,
         samples,
-        &posts[looked..t.next],
-        t,
+        &posts[looked..st.tally.next],
+        begun,
+        &st.tally,
         seen,
         answers,
     );
@@ -247,25 +256,24 @@ pub(crate) fn run_turns<M: Mem>(
     firmware: &Firmware,
     samples: &[Sample],
     posts: &[Post],
-    t: &mut Tally,
+    st: &mut Stand<Room<()>>,
     answers: &mut Vec<Answer>,
     last: u32,
 )
     requires outputs { (firmware.now.outputs ≤ 4) × (firmware.now.memory_map.outputs + 8 < 2 ^ 16) }
     requires good { AreGoodPosts (length samples.now) posts.now }
-    requires begins { (t.old.moment ≡ 0) × (t.old.next ≡ 0) × (t.old.resumed ≡ 0) }
-    requires room { vec_len t.old.frames + length posts.now ≤ vec_capacity t.old.frames }
-    requires writes { 17 ≤ vec_capacity t.old.writes }
+    requires begins { (st.old.tally.moment ≡ 0) × (st.old.tally.next ≡ 0) × (st.old.tally.resumed ≡ 0) }
+    requires steady { IsSteady Fits posts.now st.old }
     requires most { last ≤ 4000000000 }
     requires answers { (vec_len answers.old ≡ 0) × (length posts.now ≤ vec_capacity answers.old) }
-    ensures { counted_at (map answer_seen answers.new.items) t.new
-        ≡ with_rest (map answer_seen answers.old.items) t.old
+    ensures { counted_at (map answer_seen answers.new.items) st.new.tally
+        ≡ with_rest (map answer_seen answers.old.items) st.old.tally
         (turns_from m.old.flags firmware.now (map input_bytes samples.now) last most_turns 0 0 posts.now m.old.state) }
 {
     let mut waits = 0;
     let mut left = MOST_TURNS;
     while left > 0 {
-        if !next_turn(m, firmware, samples, posts, t, &mut waits, answers, last) {
+        if !next_turn(m, firmware, samples, posts, st, &mut waits, answers, last) {
             return;
         }
         left -= 1;

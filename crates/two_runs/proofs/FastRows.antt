@@ -11,32 +11,35 @@ use Rattle.run_law.specs.Forms.{Ran}
 use Rattle.trace_io.specs.declared.sample.Sample.{Sample}
 use Rattle.fz_run.specs.Rows.{input_bytes}
 use Rattle.two_level.specs.MemoryMaps.{fast_map}
-use Rattle.two_runs.specs.declared.counts.Counts.{Counts}
+use Rattle.arrayvec.specs.ArrayVec.{ArrayVec}
+use Rattle.run_forms.specs.declared.sample.Tally.{Tally}
+use Rattle.run_forms.specs.Rest.{Brief, brief, counted_at}
+use Rattle.two_runs.specs.declared.fast_code.InnerFrame.{InnerFrame}
 use Rattle.two_runs.specs.Runs.{FastSeen, fast_run, seen_of}
-use Rattle.two_runs.specs.Counts.{Counted, counted, counted_at, inner_frames_seen}
+use Rattle.two_runs.specs.InnerNotes.{inner_frames_seen, inner_notes}
 use Rattle.two_runs.specs.Rows.{sample_of}
 
 -- what is seen of a run of which this was counted
-abbrev pub seen : ℕ → List ℕ → Counts → FastSeen
+abbrev pub seen : ℕ → List ℕ → Tally (ArrayVec InnerFrame) → FastSeen
 seen number answers c = record {
   number = number;
   answers = answers;
   instrs = c.instrs;
-  steps = c.steps;
+  steps = c.moment;
   resumed = c.resumed;
-  frames = inner_frames_seen c.frames.items;
+  frames = inner_frames_seen c.notes.items;
 }
 
-pub seen_by_counts : (number outputs : ℕ) (c : Counts) (s : State) (r : Ran ℕ (Unit {0})) (answers : List ℕ)
-    → counted_at c s ≡ counted r
+pub seen_by_counts : (number outputs : ℕ) (c : Tally (ArrayVec InnerFrame)) (s : State) (r : Ran ℕ (Unit {0})) (answers : List ℕ)
+    → counted_at inner_notes c s ≡ brief r
     → answers ≡ bytes_at s.mem (from fast_map.outputs outputs)
     → seen number answers c ≡ seen_of number outputs r
 seen_by_counts number outputs c s r answers e are =
     let state : s ≡ r.state = ap (λ k. k.state) e in
     let instrs : c.instrs ≡ r.instrs = ap (λ k. k.instrs) e in
-    let steps : c.steps ≡ r.steps = ap (λ k. k.steps) e in
+    let steps : c.moment ≡ r.steps = ap (λ k. k.steps) e in
     let resumed : c.resumed ≡ r.resumed = ap (λ k. k.resumed) e in
-    let frames : inner_frames_seen c.frames.items ≡ r.frames = ap (λ k. k.frames) e in
+    let frames : inner_frames_seen c.notes.items ≡ r.frames = ap (λ k. k.frames) e in
     let read : answers ≡ bytes_at r.state.mem (from fast_map.outputs outputs) =
     are ∙ ap (λ (u : State). bytes_at u.mem (from fast_map.outputs outputs)) state in
     cc
@@ -65,9 +68,9 @@ sample_got samples number (Some s) some got =
     sample_there (map input_bytes samples) number some ∙ bytes_there samples (number - 1) s.now got.3.0 (got.3.1 s.now)
 
 -- a run by equal parts
-pub same_run : (outputs k k2 most most2 : ℕ) (inner : List ℕ) (u u2 : State) (x : Counted)
-    → x ≡ counted (fast_run k outputs most inner u)
-    → k ≡ k2 → most ≡ most2 → u ≡ u2 → x ≡ counted (fast_run k2 outputs most2 inner u2)
+pub same_run : (outputs k k2 most most2 : ℕ) (inner : List ℕ) (u u2 : State) (x : Brief (Unit {0}))
+    → x ≡ brief (fast_run k outputs most inner u)
+    → k ≡ k2 → most ≡ most2 → u ≡ u2 → x ≡ brief (fast_run k2 outputs most2 inner u2)
 same_run outputs k k2 most most2 inner u u2 x e flags bound state =
-    e ∙ ap₂ (λ (j n : ℕ). counted (fast_run j outputs n inner u)) flags bound
-    ∙ ap (λ (v : State). counted (fast_run k2 outputs most2 inner v)) state
+    e ∙ ap₂ (λ (j n : ℕ). brief (fast_run j outputs n inner u)) flags bound
+    ∙ ap (λ (v : State). brief (fast_run k2 outputs most2 inner v)) state

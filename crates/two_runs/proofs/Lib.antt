@@ -24,7 +24,6 @@ pub mod FastRuns
 pub mod Arriving
 pub mod LevelAnswers
 pub mod Servable
-pub mod Counting
 pub mod Writing
 pub mod Ordering
 pub mod FastRows

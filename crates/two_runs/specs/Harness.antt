@@ -2,14 +2,16 @@
 use Rattle.std.specs.Prelude.{ℕ, Option, None, Some, List, map}
 use Rattle.interrupt_plan.specs.declared.levels.Level.{Level}
 use Rattle.trace_io.specs.declared.sample.Sample.{Sample}
+use Rattle.run_forms.specs.declared.sample.Room.{Room}
 use Rattle.run_forms.specs.Forms.{Harness}
+use Rattle.run_forms.specs.Rooms.{room_notes}
 use Rattle.fz_run.specs.Rows as plain
 use Rattle.fz_run.specs.Rows.{input_bytes}
 use Rattle.two_level.specs.declared.two.Two.{Two}
 use Rattle.two_runs.specs.declared.serve.FastRow.{FastRow}
 use Rattle.two_runs.specs.declared.rows.TwoRow.{TwoRow}
 use Rattle.two_runs.specs.Runs.{FastSeen}
-use Rattle.two_runs.specs.Counts.{inner_frames_seen}
+use Rattle.two_runs.specs.InnerNotes.{inner_frames_seen}
 use Rattle.two_runs.specs.Rows.{TwoSeen, level_parts, with_fast}
 
 -- a fast run of the code as it is seen, and what an interrupt told
@@ -33,11 +35,11 @@ row_seen r = record { row = plain.row_seen r.row; fast = map fast_told r.fast.it
 
 -- the form with its samples
 abbrev pub level_harness : Two → List Sample → List Sample
-    → Harness Level (Option FastRow) TwoRow (List ℕ) (Option FastSeen) TwoSeen
+    → Harness Level (Room (Option FastRow)) TwoRow (List ℕ) (Option FastSeen) TwoSeen
 level_harness two slow fast = record {
   samples = map input_bytes slow;
   parts = level_parts two (map input_bytes fast);
-  told = fast_told;
+  notes = room_notes fast_told;
   shows = with_fast;
   seen = row_seen;
 }

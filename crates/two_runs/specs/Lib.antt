@@ -1,5 +1,5 @@
 pub mod Runs
-pub mod Counts
+pub mod InnerNotes
 pub mod Rows
 pub mod Harness
 pub mod Order

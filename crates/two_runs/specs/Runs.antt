@@ -6,6 +6,7 @@ use Rattle.cpu12_parts.specs.State.{State}
 use Rattle.cpu12_emul.specs.Take.{FrameSeen, pushed, vectored, framed}
 use Rattle.two_level.specs.MemoryMaps.{fast_map}
 use Rattle.run_law.specs.Forms.{Form, Ran, run_from}
+use Rattle.run_forms.specs.Forms.{FormParts, plan_form}
 
 -- bytes of a sample at the fast inputs
 abbrev pub sampled : List ℕ → State → State
@@ -18,17 +19,19 @@ entered bytes v = vectored (sampled bytes (pushed v))
 
 -- A form whose run begins where the fast code was entered with this SP. A request is a moment, at which the nine bytes
 -- are pushed and pulled. It ends when the return is done: SP is higher. It answers this number of outputs.
-abbrev pub fast_form : ℕ → ℕ → ℕ → Form (Unit {0}) ℕ (Unit {0})
-fast_form flags outputs sp = record {
-  flags = flags;
+abbrev pub fast_parts : ℕ → ℕ → FormParts (Unit {0}) ℕ (Unit {0})
+fast_parts outputs sp = record {
   give = λ x s. s;
   leave = λ x s. s;
   ends = λ m s. nat_lt sp s.regs.sp;
   answers = λ s. bytes_at s.mem (from fast_map.outputs outputs);
-  moment = λ q. q;
-  handle = λ q s. framed [] s;
-  tells = λ q s. tt;
+  place = λ q. (0, q);
+  handle = λ flags q s. framed [] s;
+  tells = λ flags q s. tt;
 }
+
+abbrev pub fast_form : ℕ → ℕ → ℕ → Form (Unit {0}) ℕ (Unit {0})
+fast_form flags outputs sp = plan_form flags (fast_parts outputs sp)
 
 -- its run of at most so many steps, under inner requests, from the state in which it was entered
 abbrev pub fast_run : ℕ → ℕ → ℕ → List ℕ → State → Ran ℕ (Unit {0})

@@ -1,19 +1,20 @@
 // The run of the fast code inside an interrupt.
 ghost use Rattle.std.specs.Prelude.{ℕ, ◌≡◌, ◌≤◌, length, IsTrue};
-ghost use Rattle.arrayvec.specs.ArrayVec.{array_vec_len};
 ghost use Rattle.cpu12_parts.specs.Cuts.{suspended, wav};
 ghost use Rattle.cpu12_isa.specs.Memory.{from, bytes_at};
 ghost use Rattle.cpu12_emul.specs.Take.{may_interrupt, frame_seen, frame_of};
 ghost use Rattle.two_level.specs.MemoryMaps.{fast_map};
 ghost use Rattle.two_runs.specs.Runs.{fast_run, entered};
-ghost use Rattle.two_runs.specs.Counts.{counted, counted_at, inner_frames_seen};
+ghost use Rattle.run_forms.specs.Rest.{brief, counted_at};
+ghost use Rattle.two_runs.specs.InnerNotes.{inner_notes};
 
-use crate::counts::Counts;
+use crate::fast_code::{FastCode, InnerFrame};
 use arrayvec::ArrayVec;
 use cpu12_emul::ends::Frame;
 use cpu12_emul::machine::Machine;
 use cpu12_isa::instr::Write;
 use cpu12_isa::mem::Mem;
+use run_forms::{Tally, fresh_stand, run_sample};
 use two_level::fast_map;
 
 /// Takes an outer interrupt up to the first instruction of the fast code, with a sample's bytes at its inputs.
@@ -39,27 +40,25 @@ pub(crate) fn enter<M: Mem>(m: &mut Machine<M>, bytes: &[u8]) -> Frame
 
 /// Runs the fast code, which was just entered, up to its return: at most so many steps, and as long as one
 /// is defined. From each of these moments on, which are at most eight, an inner interrupt is due.
-pub(crate) fn run_inside<M: Mem>(m: &mut Machine<M>, most: u32, moments: &[u32]) -> Counts
+pub(crate) fn run_inside<M: Mem>(
+    m: &mut Machine<M>,
+    outputs: u8,
+    most: u32,
+    moments: &[u32],
+) -> Tally<ArrayVec<InnerFrame, 8>>
     requires { length moments.now ≤ 8 }
-    ensures counted { (outputs : ℕ) → counted_at result m.new.state
-        ≡ counted (fast_run m.old.flags outputs most moments.now m.old.state) }
+    ensures counted { counted_at inner_notes result m.new.state
+        ≡ brief (fast_run m.old.flags outputs most moments.now m.old.state) }
     ensures noted { m.new.noted ≡ m.old.noted }
     ensures flags { m.new.flags ≡ m.old.flags }
 {
-    let entered = m.regs().sp;
-    let mut counts = Counts::new();
-    while counts.steps < most {
-        if counts.is_due(m, moments) {
-            counts.take(m);
-        } else if !counts.step(m) {
-            return counts;
-        } else if m.regs().sp > entered {
-            return counts;
-        } else {
-            counts.pass_parts(m, most, moments);
-        }
-    }
-    counts
+    let form = FastCode {
+        entered: m.regs().sp,
+        outputs,
+    };
+    let mut stand = fresh_stand(most, ArrayVec::new());
+    run_sample(m, &form, moments, &mut stand);
+    stand.tally
 }
 
 /// The answers of the fast code, in the order of the outputs, of which there are at most four.

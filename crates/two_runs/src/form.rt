@@ -1,20 +1,21 @@
 // A slow firmware with a fast block beside it, as a form of runs.
-ghost use Rattle.std.specs.Prelude.{ℕ, ◌≡◌, ◌≤◌, ◌<◌, List, Option, Some, length, slice_get, vec_len};
+ghost use Rattle.std.specs.Prelude.{ℕ, ◌≡◌, ◌≤◌, ◌<◌, List, Option, Some, length, slice_get};
 ghost use Rattle.run_forms.specs.Rest.{counted_at, shown_by};
+ghost use Rattle.run_forms.specs.Rooms.{Fits};
 ghost use Rattle.two_runs.specs.Runs.{FastSeen};
 ghost use Rattle.two_runs.specs.Rows.{TwoSeen};
 ghost use Rattle.two_runs.specs.Harness.{level_harness};
 
 use crate::rows::TwoRow;
 use crate::serve::{FastRow, serve};
-use cpu12_emul::ends::Frame;
 use cpu12_emul::machine::Machine;
 use cpu12_isa::mem::Mem;
 use firmware_ports::{answers, copy_of, give, is_busy_here, is_idle};
-use fz_list::List as Items;
+use fz_list::{List as Items, Memory};
 use fz_run::Row;
 use interrupt_plan::Level;
-use run_forms::{RunForm, Tally};
+use run_forms::{Room, RunForm, SampleForm, Tally, room_for};
+use std::alloc::Global;
 use trace_io::Sample;
 use two_level::Two;
 
@@ -31,7 +32,7 @@ pub(crate) struct WithLevels<'a> {
     ghost fast_outputs: { two.now.fast.outputs ≤ 4 },
 }
 
-impl<'a> RunForm<Level, Option<FastRow>, TwoRow> for WithLevels<'a> {
+impl<'a> SampleForm<Level, Room<Option<FastRow>>, TwoRow> for WithLevels<'a> {
     ghost Given = { List ℕ };
 
     ghost Told = { Option FastSeen };
@@ -40,6 +41,36 @@ impl<'a> RunForm<Level, Option<FastRow>, TwoRow> for WithLevels<'a> {
 
     ghost harness = { λ x. level_harness x.two.now x.slow.now x.fast.now };
 
+    ghost fits = { Fits };
+
+    ghost serves = { λ _ _. Unit {0} };
+
+    fn ends<M: Mem>(&self, m: &Machine<M>, _moment: u32) -> bool {
+        is_idle(&self.two.slow.memory_map, m)
+    }
+
+    #[inline(always)]
+    fn goes_on_here<M: Mem>(&self, m: &Machine<M>) -> bool {
+        is_busy_here(&self.two.slow.memory_map, m)
+    }
+
+    fn place(&self, level: &Level) -> (u32, u32) {
+        (level.sample, level.moment)
+    }
+
+    fn take<M: Mem>(
+        &self,
+        m: &mut Machine<M>,
+        level: &Level,
+        moment: u32,
+        notes: &mut Room<Option<FastRow>>,
+    ) {
+        let (frame, told) = serve(m, self.two, self.fast, level);
+        notes.put(moment, frame, told);
+    }
+}
+
+impl<'a> RunForm<Level, Room<Option<FastRow>>, TwoRow> for WithLevels<'a> {
     fn count(&self) -> usize {
         self.slow.len()
     }
@@ -50,49 +81,39 @@ impl<'a> RunForm<Level, Option<FastRow>, TwoRow> for WithLevels<'a> {
 
     fn leave<M: Mem>(&self, _m: &mut Machine<M>, _k: usize) {}
 
-    fn ends<M: Mem>(&self, m: &Machine<M>) -> bool {
-        is_idle(&self.two.slow.memory_map, m)
+    fn room(&self, alloc: Global, count: usize) -> Result<Room<Option<FastRow>>, Memory> {
+        room_for(alloc, count)
     }
 
-    #[inline(always)]
-    fn goes_on_here<M: Mem>(&self, m: &Machine<M>) -> bool {
-        is_busy_here(&self.two.slow.memory_map, m)
-    }
-
-    #[inline(always)]
-    fn plain_steps<M: Mem>(&self, _m: &mut Machine<M>, _most: u32) -> u32 {
-        0
-    }
-
-    fn place(&self, level: &Level) -> (u32, u32) {
-        (level.sample, level.moment)
-    }
-
-    fn take<M: Mem>(&self, m: &mut Machine<M>, level: &Level) -> (Frame, Option<FastRow>) {
-        serve(m, self.two, self.fast, level)
-    }
-
-    fn row<M: Mem>(&self, m: &Machine<M>, k: usize, tally: Tally<Option<FastRow>>) -> TwoRow
+    fn row<M: Mem>(&self, m: &Machine<M>, k: usize, tally: Tally<Room<Option<FastRow>>>) -> TwoRow
         requires sample { k < length (level_harness self.now.two.now self.now.slow.now self.now.fast.now).samples }
-        requires few { vec_len tally.told ≤ 10000 }
+        requires few { (n : ℕ) × Fits tally.notes n }
         ensures { (x : List ℕ)
             → slice_get (level_harness self.now.two.now self.now.slow.now self.now.fast.now).samples k ≡ Some x
             → (level_harness self.now.two.now self.now.slow.now self.now.fast.now).seen result
             ≡ shown_by (level_harness self.now.two.now self.now.slow.now self.now.fast.now).shows
             (level_harness self.now.two.now self.now.slow.now self.now.fast.now).parts.answers
-            (counted_at (level_harness self.now.two.now self.now.slow.now self.now.fast.now).told tally m.now.state) x }
+            (counted_at (level_harness self.now.two.now self.now.slow.now self.now.fast.now).notes tally
+            m.now.state) x }
     {
+        let Tally {
+            arrived: _,
+            moment,
+            inside: _,
+            next: _,
+            instrs,
+            resumed,
+            notes,
+        } = tally;
+        let Room { frames, told } = notes;
         let row = Row {
             bytes: copy_of(self.slow[k].bytes.as_slice()),
             answers: answers(&self.two.slow, m),
-            instrs: tally.instrs,
-            steps: tally.moment,
-            resumed: tally.resumed,
-            frames: Items::new(tally.frames),
+            instrs,
+            steps: moment,
+            resumed,
+            frames: Items::new(frames),
         };
-        TwoRow {
-            row,
-            fast: tally.told,
-        }
+        TwoRow { row, fast: told }
     }
 }

@@ -8,8 +8,8 @@
 //! says: its slow rows are those of the slow firmware alone, and its fast runs answer their samples.
 #![tactic(auto)]
 
-mod counts;
 mod fast;
+mod fast_code;
 mod form;
 mod inside;
 pub mod laws;
@@ -17,7 +17,7 @@ mod levels;
 mod rows;
 mod serve;
 
-pub use counts::InnerFrame;
+pub use fast_code::InnerFrame;
 pub use laws::{
     answers_under_levels, fast_is_entered, fast_runs_exist, fast_runs_follow, fast_steps_return,
     levels_make_a_plan, outer_enters, outer_is_quiet, outer_is_servable, outer_serves,

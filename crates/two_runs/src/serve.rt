@@ -8,8 +8,8 @@ ghost use Rattle.two_runs.specs.Runs.{served, told, served_by, told_by};
 ghost use Rattle.two_runs.specs.Rows.{sample_of, outer_of};
 ghost use Rattle.two_runs.specs.Harness.{fast_seen, fast_told};
 
-use crate::counts::InnerFrame;
 use crate::fast::{answers, enter, run_inside};
+use crate::fast_code::InnerFrame;
 use arrayvec::ArrayVec;
 use cpu12_emul::ends::Frame;
 use cpu12_emul::machine::Machine;
@@ -69,14 +69,14 @@ fn run_fast<M: Mem>(
     ensures flags { m.new.flags ≡ m.old.flags }
 {
     let frame = enter(m, bytes);
-    let counts = run_inside(m, two.fast_step_bound(), moments);
+    let counts = run_inside(m, two.fast.outputs, two.fast_step_bound(), moments);
     let row = FastRow {
         number,
         answers: answers(m, two.fast.outputs),
         instrs: counts.instrs,
-        steps: counts.steps,
+        steps: counts.moment,
         resumed: counts.resumed,
-        frames: counts.frames,
+        frames: counts.notes,
     };
     (frame, row)
 }

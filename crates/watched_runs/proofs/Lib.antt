@@ -5,4 +5,3 @@ pub mod WatchedRows
 pub mod Places
 pub mod Samples
 pub mod Shown
-pub mod Busy

@@ -7,7 +7,9 @@ use Rattle.codegen.specs.declared.firmware.Firmware.{Firmware}
 use Rattle.eval_code.specs.declared.memory_map.MemoryMap.{MemoryMap}
 use Rattle.watched_code.specs.Watched.{Change, Watched, changed}
 use Rattle.watched_code.specs.WatchedCode.{fault_at}
+use Rattle.run_forms.specs.declared.sample.Room.{Room}
 use Rattle.run_forms.specs.declared.sample.Tally.{Tally}
+use Rattle.run_forms.specs.Rooms.{room_notes}
 use Rattle.firmware_ports.specs.Ports.{given, answers_in}
 use Rattle.run_forms.specs.Rest.{counted_at, shown_by}
 use Rattle.run_forms.specs.Rows.{frames_seen, shown}
@@ -37,29 +39,29 @@ given_is l x c bytes old mid by_bytes same_bytes same_change =
     ∙ ap (λ (d : Option Change). made d (given l x.bytes old)) same_change
 
 -- a row, by its parts
-row_with : Tally (Unit {0}) → List ℕ → List ℕ → RowSeen (List ℕ)
+row_with : Tally (Room (Unit {0})) → List ℕ → List ℕ → RowSeen (List ℕ)
 row_with t bytes answers = record {
   sample = bytes;
   answers = answers;
   instrs = t.instrs;
   steps = t.moment;
   resumed = t.resumed;
-  frames = frames_seen t.frames.items;
+  frames = frames_seen t.notes.frames.items;
 }
 
 -- a row with FAULT is what is shown
-pub row_is : (f : Firmware) (x : Watched) (t : Tally (Unit {0})) (end : State) (row : RowSeen (List ℕ)) (fault : ℕ)
+pub row_is : (f : Firmware) (x : Watched) (t : Tally (Room (Unit {0}))) (end : State) (row : RowSeen (List ℕ)) (fault : ℕ)
     → (bytes answers : List ℕ) → row ≡ record {
       sample = bytes;
       answers = answers;
       instrs = t.instrs;
       steps = t.moment;
       resumed = t.resumed;
-      frames = frames_seen t.frames.items;
+      frames = frames_seen t.notes.frames.items;
     } → answers ≡ answers_in f end → fault ≡ slice_index end.mem fault_at → bytes ≡ x.bytes
     → ◌≡◌ {A = FaultSeen} (record { row = row; fault = fault })
     (shown_by (λ (r : RowSeen Watched) (told : List (Unit {0})). fault_seen f.outputs r) (watched_parts f).answers
-    (counted_at (λ (u : Unit {0}). u) t end) x)
+    (counted_at (room_notes (λ (u : Unit {0}). u)) t end) x)
 unfolding row_with
 row_is f x t end row fault bytes answers by_row by_answers by_fault same_bytes =
     let made : RowSeen (List ℕ) → ℕ → FaultSeen = λ r v. record { row = r; fault = v } in

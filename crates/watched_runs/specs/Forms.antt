@@ -26,7 +26,7 @@ abbrev pub watched_parts : Firmware → FormParts Watched Request (Unit {0})
 watched_parts f = record {
   give = given_changed f.memory_map;
   leave = λ x s. restored (image_memory f.image.bytes) x.change s;
-  ends = λ s. is_idle f.memory_map s;
+  ends = λ m s. is_idle f.memory_map s;
   answers = λ s. answers_in f s ++ slice_index s.mem fault_at ∷ [];
   place = place_of;
   handle = λ flags r. framed r.writes;

@@ -6,6 +6,8 @@ use Rattle.interrupt_plan.specs.declared.upsets.Upset.{Upset}
 use Rattle.codegen.specs.declared.firmware.Firmware.{Firmware}
 use Rattle.watched_code.specs.Watched.{Watched}
 use Rattle.trace_io.specs.declared.sample.Sample.{Sample}
+use Rattle.run_forms.specs.declared.sample.Room.{Room}
+use Rattle.run_forms.specs.Rooms.{room_notes}
 use Rattle.run_forms.specs.Forms.{Harness}
 use Rattle.fz_run.specs.Rows as rows
 use Rattle.fz_run.specs.Rows.{requests_of, first_state, input_bytes}
@@ -49,11 +51,11 @@ row_seen r = record { row = rows.row_seen r.row; fault = r.fault }
 
 -- a firmware with a trace and upsets: its handlers tell nothing
 abbrev pub watched_harness : Firmware → List Sample → List Upset
-    → Harness Request (Unit {0}) declared.WatchedRow Watched (Unit {0}) FaultSeen
+    → Harness Request (Room (Unit {0})) declared.WatchedRow Watched (Unit {0}) FaultSeen
 watched_harness f samples upsets = record {
   samples = with_upsets upsets (map input_bytes samples);
   parts = watched_parts f;
-  told = λ u. u;
+  notes = room_notes (λ u. u);
   shows = λ row told. fault_seen f.outputs row;
   seen = row_seen;
 }

@@ -1,6 +1,7 @@
 //! A firmware with watched tables, as a form of runs.
-ghost use Rattle.std.specs.Prelude.{ℕ, ◌≡◌, ◌<◌, ◌≤◌, ◌+◌, List, Some, length, map, slice_get, vec_len};
+ghost use Rattle.std.specs.Prelude.{ℕ, ◌≡◌, ◌<◌, ◌≤◌, ◌+◌, List, Some, length, map, slice_get};
 ghost use Rattle.run_forms.specs.Rest.{counted_at, shown_by};
+ghost use Rattle.run_forms.specs.Rooms.{Fits};
 ghost use Rattle.fz_run.specs.Rows.{input_bytes};
 ghost use Rattle.watched_code.specs.Watched as tables;
 ghost use Rattle.watched_runs.specs.Rows.{FaultSeen, watched_harness};
@@ -8,13 +9,14 @@ ghost use Rattle.watched_runs.specs.Samples.{AscendThroughout};
 
 use crate::upsets::{change, restore, upset_of};
 use codegen::Firmware;
-use cpu12_emul::ends::Frame;
 use cpu12_emul::machine::Machine;
 use cpu12_isa::mem::Mem;
 use firmware_ports::{answers, give, is_busy_here, is_idle};
+use fz_list::Memory;
 use fz_run::{Row, row_of};
 use interrupt_plan::{Request, Upset};
-use run_forms::{RunForm, Tally};
+use run_forms::{Room, RunForm, SampleForm, Tally, room_for};
+use std::alloc::Global;
 use trace_io::Sample;
 
 /// What a sample's run gave, and what FAULT held at its end.
@@ -60,7 +62,7 @@ fn number_of(samples: &[Sample], k: usize) -> usize
     k + 1
 }
 
-impl<'a> RunForm<Request, (), WatchedRow> for WithUpsets<'a> {
+impl<'a> SampleForm<Request, Room<()>, WatchedRow> for WithUpsets<'a> {
     ghost Given = { tables.Watched };
 
     ghost Told = { Unit {0} };
@@ -69,6 +71,36 @@ impl<'a> RunForm<Request, (), WatchedRow> for WithUpsets<'a> {
 
     ghost harness = { λ x. watched_harness x.firmware.now x.samples.now x.upsets.now };
 
+    ghost fits = { Fits };
+
+    ghost serves = { λ _ _. Unit {0} };
+
+    fn ends<M: Mem>(&self, m: &Machine<M>, _moment: u32) -> bool {
+        is_idle(&self.firmware.memory_map, m)
+    }
+
+    #[inline(always)]
+    fn goes_on_here<M: Mem>(&self, m: &Machine<M>) -> bool {
+        is_busy_here(&self.firmware.memory_map, m)
+    }
+
+    fn place(&self, request: &Request) -> (u32, u32) {
+        (request.sample, request.moment)
+    }
+
+    fn take<M: Mem>(
+        &self,
+        m: &mut Machine<M>,
+        request: &Request,
+        moment: u32,
+        notes: &mut Room<()>,
+    ) {
+        let frame = m.interrupt(request.writes.as_slice());
+        notes.put(moment, frame, ());
+    }
+}
+
+impl<'a> RunForm<Request, Room<()>, WatchedRow> for WithUpsets<'a> {
     fn count(&self) -> usize {
         self.samples.len()
     }
@@ -86,44 +118,21 @@ impl<'a> RunForm<Request, (), WatchedRow> for WithUpsets<'a> {
         );
     }
 
-    fn ends<M: Mem>(&self, m: &Machine<M>) -> bool {
-        is_idle(&self.firmware.memory_map, m)
+    fn room(&self, alloc: Global, count: usize) -> Result<Room<()>, Memory> {
+        room_for(alloc, count)
     }
 
-    #[inline(always)]
-    fn goes_on_here<M: Mem>(&self, m: &Machine<M>) -> bool {
-        is_busy_here(&self.firmware.memory_map, m)
-    }
-
-    #[inline(always)]
-    fn plain_steps<M: Mem>(&self, m: &mut Machine<M>, most: u32) -> u32 {
-        // The tables are added up while READY is not 0, and so before the sample is over.
-        let ready = m.peek(self.firmware.memory_map.ready);
-        if ready == 0 {
-            return 0;
-        }
-        m.add_up(most)
-    }
-
-    fn place(&self, request: &Request) -> (u32, u32) {
-        (request.sample, request.moment)
-    }
-
-    fn take<M: Mem>(&self, m: &mut Machine<M>, request: &Request) -> (Frame, ()) {
-        (m.interrupt(request.writes.as_slice()), ())
-    }
-
-    fn row<M: Mem>(&self, m: &Machine<M>, k: usize, tally: Tally<()>) -> WatchedRow
+    fn row<M: Mem>(&self, m: &Machine<M>, k: usize, tally: Tally<Room<()>>) -> WatchedRow
         requires sample { k
             < length (watched_harness self.now.firmware.now self.now.samples.now self.now.upsets.now).samples }
-        requires few { vec_len tally.told ≤ 10000 }
+        requires few { (n : ℕ) × Fits tally.notes n }
         ensures { (x : tables.Watched)
             → slice_get (watched_harness self.now.firmware.now self.now.samples.now self.now.upsets.now).samples k
             ≡ Some x
             → (watched_harness self.now.firmware.now self.now.samples.now self.now.upsets.now).seen result
             ≡ shown_by (watched_harness self.now.firmware.now self.now.samples.now self.now.upsets.now).shows
             (watched_harness self.now.firmware.now self.now.samples.now self.now.upsets.now).parts.answers
-            (counted_at (watched_harness self.now.firmware.now self.now.samples.now self.now.upsets.now).told tally
+            (counted_at (watched_harness self.now.firmware.now self.now.samples.now self.now.upsets.now).notes tally
             m.now.state) x }
     {
         let answers = answers(self.firmware, m);

@@ -1,6 +1,6 @@
 use Rattle.std.proofs.Common.{◌∙◌, ◌++◌, ℕ, List, ap, sym}
 use Rattle.fz_shelf.specs.Lines.{text_of}
-use Rattle.two_runs.specs.Counts.{inner_seen}
+use Rattle.two_runs.specs.InnerNotes.{inner_seen}
 use Rattle.two_runs.specs.Harness.{fast_seen}
 use Rattle.build_commands.proofs.Algebra.{flat-map}
 use Rattle.form_commands.specs.Lrun.{fast_line, inner_line}

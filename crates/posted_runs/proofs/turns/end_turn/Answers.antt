@@ -15,9 +15,9 @@ answer_of-requires-clause-some g c =
     let a = c.args in
     let early = c.count_up_to-early in
     let sample = c.posted_last-sample in
-    first_is_one (length a.samples.now) a.waits (a.t.now.begun + 2) sample.result a.taken.now c.if-waits-eq0.false
+    first_is_one (length a.samples.now) a.waits (a.begun + 2) sample.result a.taken.now c.if-waits-eq0.false
     c.requires.waits c.requires.good
-    (first_wait a.waits (a.t.now.begun + 2) early.result sample.result a.taken.now early.ensures.value sample.ensures)
+    (first_wait a.waits (a.begun + 2) early.result sample.result a.taken.now early.ensures.value sample.ensures)
 
 pub returns-clause-answers : goal.returns-clause-answers
 returns-clause-answers g c =
@@ -29,9 +29,9 @@ returns-clause-answers g c =
     let put = c.push.ensures.items
     ∙ ap (λ r. if is_ok r then before ++ c.answer_of.result ∷ [] else before) c.unwrap.ensures in
     ap (map answer_seen) put ∙ map-append answer_seen before (c.answer_of.result ∷ [])
-    ∙ answered a.firmware.now (map input_bytes a.samples.now) t.begun a.waits a.taken.now t.moment t.instrs
+    ∙ answered a.firmware.now (map input_bytes a.samples.now) a.begun a.waits a.taken.now t.moment t.instrs
     a.m.now.state (map answer_seen before) sample.result (answer_seen c.answer_of.result) c.if-waits-eq0.false
-    (first_wait a.waits (t.begun + 2) early.result sample.result a.taken.now early.ensures.value sample.ensures)
+    (first_wait a.waits (a.begun + 2) early.result sample.result a.taken.now early.ensures.value sample.ensures)
     c.answer_of.ensures
 
 pub returns-clause-waits : goal.returns-clause-waits
@@ -39,13 +39,13 @@ returns-clause-waits g c =
     let a = c.args in
     let early = c.count_up_to-early in
     let last = c.posted_last-2 in
-    wait_behind (a.t.now.begun + 2) early.result last.result a.taken.now early.ensures.value last.ensures
-    ∙ sym (waits_behind a.t.now.begun a.waits a.taken.now c.if-waits-eq0.false)
+    wait_behind (a.begun + 2) early.result last.result a.taken.now early.ensures.value last.ensures
+    ∙ sym (waits_behind a.begun a.waits a.taken.now c.if-waits-eq0.false)
 
 pub returns-clause-few : goal.returns-clause-few
 returns-clause-few g c =
     let a = c.args in
-    let k = a.t.now.begun + 2 in
+    let k = a.begun + 2 in
     let early = c.count_up_to-early in
     let last = c.posted_last-2 in
     few_wait_behind (length a.samples.now) k last.result a.taken.now c.requires.good

@@ -12,8 +12,8 @@ returns-then-not-next_turn g c =
     let some = c.loop-left-test.true in
     let more : suc (l.left - 1) ≡ l.left = omega (arith, some) in
     sym (c.next_turn.ensures.ends c.if-not-next_turn.true (l.left - 1))
-    ∙ ap₂ (λ (k n : ℕ). with_rest (map answer_seen l.answers.items) l.t
-    (turns_from k a.firmware.now samples a.last n l.t.moment l.waits (drop l.t.next a.posts.now) l.m.state))
+    ∙ ap₂ (λ (k n : ℕ). with_rest (map answer_seen l.answers.items) l.st.tally
+    (turns_from k a.firmware.now samples a.last n l.st.tally.moment l.waits (drop l.st.tally.next a.posts.now) l.m.state))
     l.invariant.flags more
     ∙ l.invariant.rest
 
@@ -22,7 +22,7 @@ returns g c =
     let a = c.args in
     let l = c.loop-left in
     let none = c.loop-left-test.false in
-    sym (none_left a.m.now.flags a.firmware.now (map input_bytes a.samples.now) a.last l.left l.t.moment l.waits
-    (drop l.t.next a.posts.now) l.m.state l.t (map answer_seen l.answers.items)
+    sym (none_left a.m.now.flags a.firmware.now (map input_bytes a.samples.now) a.last l.left l.st.tally.moment l.waits
+    (drop l.st.tally.next a.posts.now) l.m.state l.st.tally (map answer_seen l.answers.items)
     (omega (arith, none)))
     ∙ l.invariant.rest

@@ -3,7 +3,8 @@ use Rattle.std.specs.Prelude.{Some}
 use Rattle.cpu12_parts.specs.Cuts.{suspended, wav}
 use Rattle.two_level.specs.Images.{fast_most}
 use Rattle.two_runs.specs.Runs.{FastSeen, fast_run, entered}
-use Rattle.two_runs.specs.Counts.{Counted, counted_at}
+use Rattle.run_forms.specs.Rest.{Brief, counted_at}
+use Rattle.two_runs.specs.InnerNotes.{inner_notes}
 use Rattle.two_runs.proofs.FastRows.{same_run, seen_by_counts}
 use Rattle.two_runs.proofs.serve.run_fast.Goals as goal
 
@@ -12,11 +13,11 @@ returns-clause-state g c =
     let a = c.args in
     let f = a.two.now.fast in
     let n = c.enter-frame.new.m in
-    ap (λ (k : Counted). k.state)
+    ap (λ (k : Brief (Unit {0})). k.state)
     (same_run f.outputs n.flags a.m.now.flags c.fast_step_bound.result (fast_most f.step_bound) a.moments.now n.state
     (entered a.bytes.now (suspended wav a.m.now.state))
-    (counted_at c.run_inside-counts.result c.run_inside-counts.new.m.state)
-    (c.run_inside-counts.ensures.counted f.outputs) c.enter-frame.ensures.flags
+    (counted_at inner_notes c.run_inside-counts.result c.run_inside-counts.new.m.state)
+    c.run_inside-counts.ensures.counted c.enter-frame.ensures.flags
     c.fast_step_bound.ensures c.enter-frame.ensures.state)
 
 pub returns-clause-row : goal.returns-clause-row
@@ -30,6 +31,6 @@ returns-clause-row g c =
     (fast_run a.m.now.flags f.outputs (fast_most f.step_bound) a.moments.now v)
     c.answers.result.items
     (same_run f.outputs n.flags a.m.now.flags c.fast_step_bound.result (fast_most f.step_bound) a.moments.now n.state v
-    (counted_at c.run_inside-counts.result c.run_inside-counts.new.m.state)
-    (c.run_inside-counts.ensures.counted f.outputs) c.enter-frame.ensures.flags
+    (counted_at inner_notes c.run_inside-counts.result c.run_inside-counts.new.m.state)
+    c.run_inside-counts.ensures.counted c.enter-frame.ensures.flags
     c.fast_step_bound.ensures c.enter-frame.ensures.state) c.answers.ensures)

@@ -17,6 +17,7 @@ use Rattle.watched_runs.proofs.run.run_upsets.Goals as goal
 pub run_form-requires : goal.run_form-requires
 run_form-requires c =
     record {
+      served = λ k q within. tt;
       order = subst (IsInOrder place_of) (sym c.as_slice.ensures)
           (c.plans_are_in_order.ensures c.args.plan.now c.requires.plan);
     }

@@ -1,9 +1,10 @@
-use Rattle.std.proofs.Common.{◌∙◌, List, ap, arith}
+use Rattle.std.proofs.Common.{◌∙◌, List, ap, sym, subst}
 use Rattle.cpu12_parts.specs.State.{State}
 use Rattle.interrupt_plan.specs.declared.Request.{Request}
 use Rattle.fz_run.specs.Rows.{writes_harness}
 use Rattle.fz_run.specs.Sessions.{SessionSeen}
-use Rattle.run_forms.specs.Outlooks.{outlook_at}
+use Rattle.run_forms.specs.Outlooks.{outlook_at, IsUnderWay}
+use Rattle.run_forms.specs.Rooms.{Fits}
 use Rattle.fz_run.proofs.session.Session.finish.Goals as goal
 
 pub returns-clause-rows : goal.returns-clause-rows
@@ -29,5 +30,10 @@ pub into_rows-rows-requires-clause-few : goal.into_rows-rows-requires-clause-few
 into_rows-rows-requires-clause-few g c =
     let w = c.drive.ensures.under_way in
     let stand = w.stand in
-    let few = stand.few in
-    omega (arith, few)
+    (_, stand.room)
+
+pub drive-requires-clause-under_way : goal.drive-requires-clause-under_way
+drive-requires-clause-under_way g c =
+    let i = c.self.inside in
+    subst (λ (l : List Request). IsUnderWay Fits (writes_harness i.form.firmware.now i.form.samples.now) l i.progress)
+    (sym c.as_slice.ensures) c.self.invariant

@@ -6,16 +6,24 @@ use Rattle.fz_run.specs.Forms.{place_of, with_writes}
 use Rattle.fz_run.specs.Rows.{requests_of, input_bytes, first_state, firmware_rows, writes_harness}
 use Rattle.run_forms.specs.Positions.{positions}
 use Rattle.run_forms.specs.Slices.{IsInOrder}
-use Rattle.run_forms.specs.Outlooks.{Ahead, from_here, outlook_at, shown_run}
+use Rattle.run_forms.specs.Outlooks.{Ahead, from_here, outlook_at, shown_run, IsUnderWay}
+use Rattle.run_forms.specs.Rooms.{Fits}
 use Rattle.fz_run.proofs.Requests.{plans_are_in_order}
 use Rattle.fz_run.proofs.session.Session.new.Goals as goal
 
 pub begun-requires : goal.begun-requires
 begun-requires g c =
     record {
+      served = λ k q within. tt;
       order = subst (IsInOrder place_of) (sym c.as_slice.ensures)
           (plans_are_in_order c.args.plan.now c.requires.plan);
     }
+
+pub invariant_of-result : goal.invariant_of-result
+invariant_of-result g c =
+    let a = c.args in
+    subst (λ (l : List Request). IsUnderWay Fits (writes_harness a.firmware.now a.samples.now) l
+    c.in_ok-machine.progress) c.as_slice.ensures c.in_ok-machine.ensures.under_way
 
 pub returns-clause-outlook : goal.returns-clause-outlook
 returns-clause-outlook g c =
