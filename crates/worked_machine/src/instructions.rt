@@ -1,12 +1,12 @@
 //! The vectors, each decoded, encoded and done.
 use crate::vectors::{
-    BRANCHES, CONJUNCTIONS_AND_DEGREES, LOADS_AND_STORES, Registers, STEPS_AND_COMPARISONS, SUMS,
+    BRANCHES, CONJUNCTIONS_AND_DEGREES, LOADS_AND_STORES, STEPS_AND_COMPARISONS, SUMS,
     TRANSFERS_AND_DIVISIONS, Vector,
 };
 use cpu12_isa::decode::decode;
 use cpu12_isa::encode::encode;
 use cpu12_isa::exec::exec;
-use cpu12_isa::instr::{Ccr, Regs, Trap};
+use cpu12_isa::instr::Trap;
 use cpu12_isa::mem::{FlatMem, Mem};
 use cpu12_isa::stack::place;
 use std::alloc::Global;
@@ -15,18 +15,6 @@ use std::test::Fail;
 
 /// The flags that the manual leaves open: H, N and V 1, Z and C 0.
 const FLAGS: u8 = 0x2A;
-
-fn regs(v: &Registers, pc: u16) -> Regs {
-    Regs {
-        a: v.0,
-        b: v.1,
-        x: v.2,
-        y: v.3,
-        sp: v.4,
-        pc,
-        ccr: Ccr(v.5),
-    }
-}
 
 /// Gives these bytes to memory.
 fn give(m: &mut FlatMem, given: &[(u16, u8)]) {
@@ -49,9 +37,9 @@ fn leads(m: &mut FlatMem, v: &Vector) -> Result<bool, Trap> {
     if !i.is_plain() {
         return Ok(false);
     }
-    let mut r = regs(&v.before, 0xC000);
+    let mut r = v.before;
     exec(&i, &mut r, m, FLAGS);
-    Ok(r == regs(&v.after, v.pc))
+    Ok(r == v.after)
 }
 
 fn agree(rt: &impl Abort, alloc: Global, vectors: &[Vector]) -> Result<(), Fail> {
