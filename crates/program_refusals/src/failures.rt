@@ -43,184 +43,84 @@ struct Accepted {
     start: &'static str,
 }
 
-static COMMANDS: [Accepted; 19] = [
-    Accepted {
-        line: &["fuzz12", "asm", "small.asm", "out"],
-        reads: &["small.asm"],
-        writes: true,
-        lines: &["bytes 7\n"],
-        start: "byt",
-    },
-    Accepted {
-        line: &["fuzz12", "check", "a.fcl", "a.cert"],
-        reads: &["a.fcl", "a.cert"],
-        writes: false,
-        lines: &["error 1 19609\n", "instructions 28\n"],
-        start: "err",
-    },
-    Accepted {
-        line: &["fuzz12", "check16", "a.fcl", "wide.cert"],
-        reads: &["a.fcl", "wide.cert"],
-        writes: false,
-        lines: &["error 1 15702\n", "instructions 31\n"],
-        start: "err",
-    },
-    Accepted {
-        line: &["fuzz12", "compile", "a.fcl", "out"],
-        reads: &["a.fcl"],
-        writes: true,
-        lines: &["instructions 28\n", "steps 36\n", "bytes 99\n"],
-        start: "ins",
-    },
-    Accepted {
-        line: &["fuzz12", "compile16", "a.fcl", "out"],
-        reads: &["a.fcl"],
-        writes: true,
-        lines: &["instructions 31\n", "steps 39\n", "bytes 112\n"],
-        start: "ins",
-    },
-    Accepted {
-        line: &["fuzz12", "exec", "small.s19", "10", "00"],
-        reads: &["small.s19"],
-        writes: false,
-        lines: &["pc C003 a FA b 00 x 0000 y 0000 sp 0000 ccr D9 steps 2\n"],
-        start: "pc ",
-    },
-    Accepted {
-        line: &["fuzz12", "hcheck", "handler.s19"],
-        reads: &["handler.s19"],
-        writes: false,
-        lines: &["handler instructions 2\n"],
-        start: "han",
-    },
-    Accepted {
-        line: &[
-            "fuzz12",
-            "hrun",
-            "a.fcl",
-            "handler.s19",
-            "a.cert",
-            "a.csv",
-            "empty",
-            "00",
-        ],
-        reads: &["a.fcl", "handler.s19", "a.cert", "a.csv", "empty"],
-        writes: false,
-        lines: &[
+// A row is the words behind the program's own, and the other fields.
+macro_rules! accepted {
+    ($([$($word:literal),*] reads $reads:tt writes $writes:literal leaves $lines:tt start $start:literal;)*) => {
+        [$(Accepted {
+            line: &["fuzz12", $($word),*],
+            reads: &$reads,
+            writes: $writes,
+            lines: &$lines,
+            start: $start,
+        }),*]
+    };
+}
+
+static COMMANDS: [Accepted; 19] = accepted! {
+    ["asm", "small.asm", "out"] reads ["small.asm"] writes true
+        leaves ["bytes 7\n"] start "byt";
+    ["check", "a.fcl", "a.cert"] reads ["a.fcl", "a.cert"] writes false
+        leaves ["error 1 19609\n", "instructions 28\n"] start "err";
+    ["check16", "a.fcl", "wide.cert"] reads ["a.fcl", "wide.cert"] writes false
+        leaves ["error 1 15702\n", "instructions 31\n"] start "err";
+    ["compile", "a.fcl", "out"] reads ["a.fcl"] writes true
+        leaves ["instructions 28\n", "steps 36\n", "bytes 99\n"] start "ins";
+    ["compile16", "a.fcl", "out"] reads ["a.fcl"] writes true
+        leaves ["instructions 31\n", "steps 39\n", "bytes 112\n"] start "ins";
+    ["exec", "small.s19", "10", "00"] reads ["small.s19"] writes false
+        leaves ["pc C003 a FA b 00 x 0000 y 0000 sp 0000 ccr D9 steps 2\n"] start "pc ";
+    ["hcheck", "handler.s19"] reads ["handler.s19"] writes false
+        leaves ["handler instructions 2\n"] start "han";
+    ["hrun", "a.fcl", "handler.s19", "a.cert", "a.csv", "empty", "00"]
+        reads ["a.fcl", "handler.s19", "a.cert", "a.csv", "empty"] writes false
+        leaves [
             "error 1 19609\n",
             "instructions 28\n",
-            "sample 1 bytes 64 answers 64 instructions 28 steps 36 resumed 0 frames 0 handler 0\n",
-        ],
-        start: "err",
-    },
-    Accepted {
-        line: &["fuzz12", "mcompile", "a.fcl", "out"],
-        reads: &["a.fcl"],
-        writes: true,
-        lines: &["instructions 31\n", "steps 39\n", "bytes 109\n"],
-        start: "ins",
-    },
-    Accepted {
-        line: &[
-            "fuzz12",
-            "mrun",
-            "a.fcl",
-            "mailbox.s19",
-            "a.cert",
-            "a.csv",
-            "posts",
-            "00",
-        ],
-        reads: &["a.fcl", "mailbox.s19", "a.cert", "a.csv", "posts"],
-        writes: false,
-        lines: &[
+            "sample 1 bytes 64 answers 64 instructions 28 steps 36 resumed 0 frames 0 handler 0\n"
+        ] start "err";
+    ["mcompile", "a.fcl", "out"] reads ["a.fcl"] writes true
+        leaves ["instructions 31\n", "steps 39\n", "bytes 109\n"] start "ins";
+    ["mrun", "a.fcl", "mailbox.s19", "a.cert", "a.csv", "posts", "00"]
+        reads ["a.fcl", "mailbox.s19", "a.cert", "a.csv", "posts"] writes false
+        leaves [
             "error 1 19609\n",
             "instructions 31\n",
             "answer 1 sample 1 at 39 bytes 64 answers 64 instructions 31\n",
             "frame 0 C008 1FF7 9\n",
-            "resumed 0\n",
-        ],
-        start: "err",
-    },
-    Accepted {
-        line: &[
-            "fuzz12", "run", "a.fcl", "a.s19", "a.cert", "a.csv", "empty", "00",
-        ],
-        reads: &["a.fcl", "a.s19", "a.cert", "a.csv", "empty"],
-        writes: false,
-        lines: &[
+            "resumed 0\n"
+        ] start "err";
+    ["run", "a.fcl", "a.s19", "a.cert", "a.csv", "empty", "00"]
+        reads ["a.fcl", "a.s19", "a.cert", "a.csv", "empty"] writes false
+        leaves [
             "error 1 19609\n",
             "instructions 28\n",
             "sample 1 bytes 64 answers 64 instructions 28 steps 36 resumed 0 frames 0\n",
-            "left 208\n",
-        ],
-        start: "err",
-    },
-    Accepted {
-        line: &[
-            "fuzz12",
-            "run16",
-            "a.fcl",
-            "wide.s19",
-            "wide.cert",
-            "a.csv",
-            "empty",
-            "00",
-        ],
-        reads: &["a.fcl", "wide.s19", "wide.cert", "a.csv", "empty"],
-        writes: false,
-        lines: &[
+            "left 208\n"
+        ] start "err";
+    ["run16", "a.fcl", "wide.s19", "wide.cert", "a.csv", "empty", "00"]
+        reads ["a.fcl", "wide.s19", "wide.cert", "a.csv", "empty"] writes false
+        leaves [
             "error 1 15702\n",
             "instructions 31\n",
             "sample 1 bytes 64 answers 16384 instructions 31 steps 39 resumed 0 frames 0\n",
-            "left 208\n",
-        ],
-        start: "err",
-    },
-    Accepted {
-        line: &["fuzz12", "certify", "a.fcl", "20000", "out"],
-        reads: &["a.fcl"],
-        writes: true,
-        lines: &["error 1 19609\n", "leaves 2\n"],
-        start: "err",
-    },
-    Accepted {
-        line: &["fuzz12", "certify16", "a.fcl", "15702", "out"],
-        reads: &["a.fcl"],
-        writes: true,
-        lines: &["error 1 15702\n", "leaves 2\n"],
-        start: "err",
-    },
-    Accepted {
-        line: &[
-            "fuzz12", "debug", "a.fcl", "a.s19", "a.csv", "empty", "00", "script",
-        ],
-        reads: &["a.fcl", "a.s19", "a.csv", "empty", "script"],
-        writes: false,
-        lines: &[
+            "left 208\n"
+        ] start "err";
+    ["certify", "a.fcl", "20000", "out"] reads ["a.fcl"] writes true
+        leaves ["error 1 19609\n", "leaves 2\n"] start "err";
+    ["certify16", "a.fcl", "15702", "out"] reads ["a.fcl"] writes true
+        leaves ["error 1 15702\n", "leaves 2\n"] start "err";
+    ["debug", "a.fcl", "a.s19", "a.csv", "empty", "00", "script"]
+        reads ["a.fcl", "a.s19", "a.csv", "empty", "script"] writes false
+        leaves [
             "stop 1 1 C00B\n",
             "pc C00B a 01 b 00 x 0000 y 0000 sp 2000 ccr C0\n",
-            "sample 1 bytes 64 answers 64 instructions 28 steps 36 resumed 0 frames 0\n",
-        ],
-        start: "sto",
-    },
-    Accepted {
-        line: &["fuzz12", "lcompile", "a.fcl", "a.fcl", "out"],
-        reads: &["a.fcl", "a.fcl"],
-        writes: true,
-        lines: &["instructions 28\n", "fast 24\n", "bytes 174\n"],
-        start: "ins",
-    },
-    Accepted {
-        line: &[
-            "fuzz12", "lrun", "a.fcl", "a.fcl", "both.s19", "a.cert", "a.cert", "a.csv", "a.csv",
-            "levels", "00",
-        ],
-        reads: &[
-            "a.fcl", "a.fcl", "both.s19", "a.cert", "a.cert", "a.csv", "a.csv", "levels",
-        ],
-        writes: false,
-        lines: &[
+            "sample 1 bytes 64 answers 64 instructions 28 steps 36 resumed 0 frames 0\n"
+        ] start "sto";
+    ["lcompile", "a.fcl", "a.fcl", "out"] reads ["a.fcl", "a.fcl"] writes true
+        leaves ["instructions 28\n", "fast 24\n", "bytes 174\n"] start "ins";
+    ["lrun", "a.fcl", "a.fcl", "both.s19", "a.cert", "a.cert", "a.csv", "a.csv", "levels", "00"]
+        reads ["a.fcl", "a.fcl", "both.s19", "a.cert", "a.cert", "a.csv", "a.csv", "levels"] writes false
+        leaves [
             "error 1 19609\n",
             "fast error 1 19609\n",
             "instructions 28\n",
@@ -228,56 +128,32 @@ static COMMANDS: [Accepted; 19] = [
             "sample 1 bytes 64 answers 64 instructions 28 steps 36 resumed 1 frames 1\n",
             "frame 1 26 C03C 1FEF 15\n",
             "fast 1 answers 64 instructions 24 steps 32 resumed 1\n",
-            "inner 24 4028 1FE0 15\n",
-        ],
-        start: "err",
-    },
-    Accepted {
-        line: &["fuzz12", "scompile", "a.fcl", "out"],
-        reads: &["a.fcl"],
-        writes: true,
-        lines: &["instructions 89\n", "steps 97\n", "bytes 149\n"],
-        start: "ins",
-    },
-    Accepted {
-        line: &[
-            "fuzz12",
-            "srun",
-            "a.fcl",
-            "watched.s19",
-            "a.cert",
-            "a.csv",
-            "empty",
-            "empty",
-            "00",
-        ],
-        reads: &["a.fcl", "watched.s19", "a.cert", "a.csv", "empty", "empty"],
-        writes: false,
-        lines: &[
+            "inner 24 4028 1FE0 15\n"
+        ] start "err";
+    ["scompile", "a.fcl", "out"] reads ["a.fcl"] writes true
+        leaves ["instructions 89\n", "steps 97\n", "bytes 149\n"] start "ins";
+    ["srun", "a.fcl", "watched.s19", "a.cert", "a.csv", "empty", "empty", "00"]
+        reads ["a.fcl", "watched.s19", "a.cert", "a.csv", "empty", "empty"] writes false
+        leaves [
             "error 1 19609\n",
             "instructions 89\n",
-            "sample 1 bytes 64 answers 64 instructions 89 steps 97 resumed 0 frames 0 fault 0\n",
-        ],
-        start: "err",
-    },
-];
+            "sample 1 bytes 64 answers 64 instructions 89 steps 97 resumed 0 frames 0 fault 0\n"
+        ] start "err";
+};
 
 // The command that reads no file.
-static WORKLOAD: [Accepted; 1] = [Accepted {
-    line: &["fuzz12", "gen", "7"],
-    reads: &[],
-    writes: false,
-    lines: &[
-        "gen 7\n",
-        "error 1 357753\n",
-        "instructions 48\n",
-        "samples 1000\n",
-        "frames 1000\n",
-        "resumed 900\n",
-        "sum 127051\n",
-    ],
-    start: "gen",
-}];
+static WORKLOAD: [Accepted; 1] = accepted! {
+    ["gen", "7"] reads [] writes false
+        leaves [
+            "gen 7\n",
+            "error 1 357753\n",
+            "instructions 48\n",
+            "samples 1000\n",
+            "frames 1000\n",
+            "resumed 900\n",
+            "sum 127051\n"
+        ] start "gen";
+};
 
 /// The files that stand on the shelf, with these records of 16 bits.
 fn house(alloc: Global, wide: &[u8], faults: &Faults) -> Result<MemShelf, Difference> {

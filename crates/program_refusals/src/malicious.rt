@@ -73,318 +73,109 @@ const ASM: Given = Given {
     ..RUN
 };
 
-static BLOCKS: [Given; 14] = [
-    Given {
-        text: &[(BLOCK, 1), (" ", 1_048_202)],
-        ..CHECK
-    },
-    Given {
-        text: &[(BLOCK, 1), (" ", 1_048_203)],
-        left: Leaves::Refused(10, "too long: text\n"),
-        ..CHECK
-    },
-    Given {
-        text: &[("(*", 1000)],
-        left: Leaves::Refused(4, "fcl: at 0: open comment\n"),
-        ..CHECK
-    },
-    Given {
-        text: &[("9", 1000)],
-        left: Leaves::Refused(4, "fcl: at 0: number\n"),
-        ..CHECK
-    },
-    Given {
-        text: &[("0", 1000)],
-        left: Leaves::Refused(4, "fcl: at 0: expected\n"),
-        ..CHECK
-    },
-    Given {
-        text: &[
-            (FRONT, 1),
-            (OPENED, 1),
-            ("(", 64),
-            (COLD_TERM, 1),
-            (")", 64),
-            (OFF, 1),
-        ],
-        ..CHECK
-    },
-    Given {
-        text: &[
-            (FRONT, 1),
-            (OPENED, 1),
-            ("NOT (", 32),
-            (COLD_TERM, 1),
-            (")", 32),
-            (OFF, 1),
-        ],
-        ..CHECK
-    },
-    Given {
-        text: &[(FRONT, 1), (OPENED, 1), ("(", 1000)],
-        left: Leaves::Refused(4, "fcl: at 337: too deep\n"),
-        ..CHECK
-    },
-    Given {
-        text: &[
+// A row is the call that it changes, the files that are others, and what is left where that is another.
+macro_rules! calls {
+    ($($call:ident { $($file:ident: $parts:tt),* }
+        $(refused $code:literal $line:literal)? $(leaves $lines:tt)?;)*) => {
+        [$(Given {
+            $($file: &$parts,)*
+            $(left: Leaves::Refused($code, $line),)?
+            $(left: Leaves::Lines(&$lines),)?
+            ..$call
+        }),*]
+    };
+}
+
+static BLOCKS: [Given; 14] = calls! {
+    CHECK { text: [(BLOCK, 1), (" ", 1_048_202)] };
+    CHECK { text: [(BLOCK, 1), (" ", 1_048_203)] } refused 10 "too long: text\n";
+    CHECK { text: [("(*", 1000)] } refused 4 "fcl: at 0: open comment\n";
+    CHECK { text: [("9", 1000)] } refused 4 "fcl: at 0: number\n";
+    CHECK { text: [("0", 1000)] } refused 4 "fcl: at 0: expected\n";
+    CHECK { text: [(FRONT, 1), (OPENED, 1), ("(", 64), (COLD_TERM, 1), (")", 64), (OFF, 1)] };
+    CHECK { text: [(FRONT, 1), (OPENED, 1), ("NOT (", 32), (COLD_TERM, 1), (")", 32), (OFF, 1)] };
+    CHECK { text: [(FRONT, 1), (OPENED, 1), ("(", 1000)] } refused 4 "fcl: at 337: too deep\n";
+    CHECK {
+        text: [
             ("FUNCTION_BLOCK a VAR_INPUT x", 1),
             (",x", 1000),
-            (
-                " : REAL; END_VAR RULEBLOCK r END_RULEBLOCK END_FUNCTION_BLOCK",
-                1,
-            ),
-        ],
-        left: Leaves::Refused(4, "fcl: at 29: load 1\n"),
-        ..CHECK
-    },
-    Given {
-        text: &[
+            (" : REAL; END_VAR RULEBLOCK r END_RULEBLOCK END_FUNCTION_BLOCK", 1)
+        ]
+    } refused 4 "fcl: at 29: load 1\n";
+    CHECK {
+        text: [
             (FRONT, 1),
             ("0; END_DEFUZZIFY\nRULEBLOCK r\n", 1),
             ("RULE 1 : IF t IS cold THEN power IS off;\n", 25_000),
             ("RULE 1 : IF t IS cold THEN power IS off", 1),
-            (BACK, 1),
-        ],
-        left: Leaves::Refused(4, "fcl: at 10757: load 4\n"),
-        ..CHECK
-    },
+            (BACK, 1)
+        ]
+    } refused 4 "fcl: at 10757: load 4\n";
     // Nine choices of two make all 512 conjunctions, and with a weight 12 words each.
-    Given {
-        text: &[
-            (FRONT, 1),
-            (OPENED, 1),
-            (EITHER_AND, 8),
-            (EITHER, 1),
-            (" THEN power IS off", 1),
-            (BACK, 1),
-        ],
-        cert: &[("FZC 1\nclaim 0\nleaf 1 128\n", 1)],
-        left: Leaves::Refused(6, "cert: line 3: weak rule 1 k 128 low 0\n"),
-        ..CHECK
-    },
-    Given {
-        text: &[
-            (FRONT, 1),
-            (OPENED, 1),
-            (EITHER_AND, 8),
-            (EITHER, 1),
-            (" THEN power IS off WITH 0.5", 1),
-            (BACK, 1),
-        ],
-        left: Leaves::Refused(4, "fcl: list too long 12288\n"),
-        ..CHECK
-    },
-    Given {
-        text: &[
-            (FRONT, 1),
-            (OPENED, 1),
-            (EITHER_AND, 8),
-            (EITHER, 1),
-            (OFF, 1),
-        ],
-        left: Leaves::Refused(4, "fcl: too many rules at rule 2\n"),
-        ..CHECK
-    },
-    Given {
-        text: &[
-            (FRONT, 1),
-            (OPENED, 1),
-            (EITHER_AND, 9),
-            (EITHER, 1),
-            (OFF, 1),
-        ],
-        left: Leaves::Refused(4, "fcl: too many rules at rule 1\n"),
-        ..CHECK
-    },
-];
+    CHECK {
+        text: [(FRONT, 1), (OPENED, 1), (EITHER_AND, 8), (EITHER, 1), (" THEN power IS off", 1), (BACK, 1)],
+        cert: [("FZC 1\nclaim 0\nleaf 1 128\n", 1)]
+    } refused 6 "cert: line 3: weak rule 1 k 128 low 0\n";
+    CHECK {
+        text: [(FRONT, 1), (OPENED, 1), (EITHER_AND, 8), (EITHER, 1), (" THEN power IS off WITH 0.5", 1), (BACK, 1)]
+    } refused 4 "fcl: list too long 12288\n";
+    CHECK { text: [(FRONT, 1), (OPENED, 1), (EITHER_AND, 8), (EITHER, 1), (OFF, 1)] }
+        refused 4 "fcl: too many rules at rule 2\n";
+    CHECK { text: [(FRONT, 1), (OPENED, 1), (EITHER_AND, 9), (EITHER, 1), (OFF, 1)] }
+        refused 4 "fcl: too many rules at rule 1\n";
+};
 
-static IMAGES: [Given; 8] = [
-    Given {
-        image: &[(FALLING, 1), ("S903C0003C\n", 1)],
-        ..RUN
-    },
-    Given {
-        image: &[(FALLING, 1), ("S903C0013B\n", 1)],
-        left: Leaves::Refused(5, "image: start C001, compile gives C000\n"),
-        ..RUN
-    },
-    Given {
-        image: &[("S0030000FC\n", 1000)],
-        left: Leaves::Refused(5, "image: no end\n"),
-        ..EXEC
-    },
-    Given {
-        image: &[("S0030000FC\r\n", 1000), ("S903C0003C", 1)],
-        ..EXEC
-    },
-    Given {
-        image: &[("S0030000FC\n", 1000), ("S5030001FB\n", 1)],
-        left: Leaves::Refused(5, "image: count 1 0\n"),
-        ..EXEC
-    },
-    Given {
-        image: &[("S105FFFEC0003D\n", 1000)],
-        left: Leaves::Refused(5, "image: line 2: overlap\n"),
-        ..EXEC
-    },
-    Given {
-        image: &[("S", 1000)],
-        left: Leaves::Refused(5, "image: line 1: bad line\n"),
-        ..EXEC
-    },
-    Given {
-        image: &[("S903C0003C\n", 1000)],
-        left: Leaves::Refused(5, "image: line 2: after end\n"),
-        ..EXEC
-    },
-];
+static IMAGES: [Given; 8] = calls! {
+    RUN { image: [(FALLING, 1), ("S903C0003C\n", 1)] };
+    RUN { image: [(FALLING, 1), ("S903C0013B\n", 1)] } refused 5 "image: start C001, compile gives C000\n";
+    EXEC { image: [("S0030000FC\n", 1000)] } refused 5 "image: no end\n";
+    EXEC { image: [("S0030000FC\r\n", 1000), ("S903C0003C", 1)] };
+    EXEC { image: [("S0030000FC\n", 1000), ("S5030001FB\n", 1)] } refused 5 "image: count 1 0\n";
+    EXEC { image: [("S105FFFEC0003D\n", 1000)] } refused 5 "image: line 2: overlap\n";
+    EXEC { image: [("S", 1000)] } refused 5 "image: line 1: bad line\n";
+    EXEC { image: [("S903C0003C\n", 1000)] } refused 5 "image: line 2: after end\n";
+};
 
-static CERTIFICATES: [Given; 6] = [
-    Given {
-        cert: &[(
-            "FZC 1\nclaim 19609\nsplit 1 255\nleaf 1 127\nleaf 2 127\n",
-            1,
-        )],
-        left: Leaves::Refused(6, "cert: line 4: weak rule 1 k 127 low 3906250\n"),
-        ..CHECK
-    },
-    Given {
-        cert: &[("FZC 1\nclaim 19609\n", 1), ("split 1 1\n", 10_000)],
-        left: Leaves::Refused(6, "cert: early\n"),
-        ..CHECK
-    },
-    Given {
-        cert: &[("FZC 1\nclaim 19609\n", 1), ("split 8 255\n", 3)],
-        left: Leaves::Refused(6, "cert: early\n"),
-        ..CHECK
-    },
-    Given {
-        cert: &[("FZC 1\nclaim 19609\nleaf 1 ", 1), ("1", 1000), ("\n", 1)],
-        left: Leaves::Refused(6, "cert: line 3: bad line\n"),
-        ..CHECK
-    },
-    Given {
-        cert: &[("FZC 1\nclaim", 1), (" 1", 1000), ("\n", 1)],
-        left: Leaves::Refused(6, "cert: line 2: bad line\n"),
-        ..CHECK
-    },
-    Given {
-        cert: &[
-            ("FZC 1\nclaim 19609\n", 1),
-            (HALVES, 1),
-            ("leaf 0 0\n", 1000),
-        ],
-        left: Leaves::Refused(6, "cert: line 6: late\n"),
-        ..CHECK
-    },
-];
+static CERTIFICATES: [Given; 6] = calls! {
+    CHECK { cert: [("FZC 1\nclaim 19609\nsplit 1 255\nleaf 1 127\nleaf 2 127\n", 1)] }
+        refused 6 "cert: line 4: weak rule 1 k 127 low 3906250\n";
+    CHECK { cert: [("FZC 1\nclaim 19609\n", 1), ("split 1 1\n", 10_000)] } refused 6 "cert: early\n";
+    CHECK { cert: [("FZC 1\nclaim 19609\n", 1), ("split 8 255\n", 3)] } refused 6 "cert: early\n";
+    CHECK { cert: [("FZC 1\nclaim 19609\nleaf 1 ", 1), ("1", 1000), ("\n", 1)] } refused 6 "cert: line 3: bad line\n";
+    CHECK { cert: [("FZC 1\nclaim", 1), (" 1", 1000), ("\n", 1)] } refused 6 "cert: line 2: bad line\n";
+    CHECK { cert: [("FZC 1\nclaim 19609\n", 1), (HALVES, 1), ("leaf 0 0\n", 1000)] } refused 6 "cert: line 6: late\n";
+};
 
-static TRACES: [Given; 7] = [
-    Given {
-        trace: &[("\"\"\n", 10_001)],
-        left: Leaves::Refused(7, "trace: row 1: bad row\n"),
-        ..RUN
-    },
-    Given {
-        trace: &[("\n", 20_000)],
-        left: Leaves::Lines(&[(BOUNDS, 1), ("left 0\n", 1)]),
-        ..RUN
-    },
-    Given {
-        trace: &[("\"", 1), ("0", 1000), ("64\"", 1), ("\n", 1)],
-        ..RUN
-    },
-    Given {
-        trace: &[("64.", 1), ("0", 1000)],
-        ..RUN
-    },
-    Given {
-        trace: &[(",", 20_000)],
-        left: Leaves::Refused(7, "trace: row 1: bad row\n"),
-        ..RUN
-    },
-    Given {
-        trace: &[("64\n", 10_000), ("x\n", 1)],
-        left: Leaves::Refused(7, "trace: too many rows\n"),
-        ..RUN
-    },
-    Given {
-        trace: &[("64\n", 9_999), ("x\n", 2)],
-        left: Leaves::Refused(7, "trace: row 10000: bad row\n"),
-        ..RUN
-    },
-];
+static TRACES: [Given; 7] = calls! {
+    RUN { trace: [("\"\"\n", 10_001)] } refused 7 "trace: row 1: bad row\n";
+    RUN { trace: [("\n", 20_000)] } leaves [(BOUNDS, 1), ("left 0\n", 1)];
+    RUN { trace: [("\"", 1), ("0", 1000), ("64\"", 1), ("\n", 1)] };
+    RUN { trace: [("64.", 1), ("0", 1000)] };
+    RUN { trace: [(",", 20_000)] } refused 7 "trace: row 1: bad row\n";
+    RUN { trace: [("64\n", 10_000), ("x\n", 1)] } refused 7 "trace: too many rows\n";
+    RUN { trace: [("64\n", 9_999), ("x\n", 2)] } refused 7 "trace: row 10000: bad row\n";
+};
 
 // A frame at the first boundary of the first sample has PC `$C008` and CCR `$C4` (S and X of reset, and Z of
 // the byte that was cleared), and zeros else. JSR then leaves C0 10 in the place of PC: the sum is 404.
-static PLANS: [Given; 10] = [
-    Given {
-        plan: &[("1,0\n", 10_000)],
-        left: Leaves::Lines(&[
-            (BOUNDS, 1),
-            (SAMPLE, 1),
-            ("10000\n", 1),
-            ("frame 1 0 C008 1FF7 9\n", 10_000),
-            ("left 404\n", 1),
-        ]),
-        ..RUN
-    },
-    Given {
-        plan: &[
-            (
-                "000000001,000000000,1fdf,01,1fdf,02,1fdf,03,1fdf,04,1fdf,05,1fdf,06,1fdf,07,1fdf,fF\n",
-                10_000,
-            ),
-            ("\n", 208_576),
-        ],
-        left: Leaves::Lines(&[
-            (BOUNDS, 1),
-            (SAMPLE, 1),
-            ("10000\n", 1),
-            ("frame 1 0 C008 1FF7 9\n", 10_000),
-            ("left 659\n", 1),
-        ]),
-        ..RUN
-    },
-    Given {
-        plan: &[("1,0\n", 10_001)],
-        left: Leaves::Refused(7, "plan: too many rows\n"),
-        ..RUN
-    },
-    Given {
-        plan: &[("1,0\n", 10_000), ("x\n", 1)],
-        left: Leaves::Refused(7, "plan: too many rows\n"),
-        ..RUN
-    },
-    Given {
-        plan: &[("1,0\n", 9_999), ("0,0\n", 2)],
-        left: Leaves::Refused(7, "plan: row 10000: bad row\n"),
-        ..RUN
-    },
-    Given {
-        plan: &[("1,0", 1), (",1800,00", 8), ("\n1,0", 1), (",1800,00", 9)],
-        left: Leaves::Refused(7, "plan: row 2: bad row\n"),
-        ..RUN
-    },
-    Given {
-        plan: &[("0,0\n", 1)],
-        left: Leaves::Refused(7, "plan: row 1: bad row\n"),
-        ..RUN
-    },
-    Given {
-        plan: &[("1,0000000000\n", 1)],
-        left: Leaves::Refused(7, "plan: row 1: bad row\n"),
-        ..RUN
-    },
-    Given {
-        plan: &[("2,0,1800,FF\n", 10_000)],
-        ..RUN
-    },
-    Given {
-        plan: &[("1,999999999,1800,FF\n", 10_000)],
-        ..RUN
-    },
-];
+static PLANS: [Given; 10] = calls! {
+    RUN { plan: [("1,0\n", 10_000)] }
+        leaves [(BOUNDS, 1), (SAMPLE, 1), ("10000\n", 1), ("frame 1 0 C008 1FF7 9\n", 10_000), ("left 404\n", 1)];
+    RUN {
+        plan: [
+            ("000000001,000000000,1fdf,01,1fdf,02,1fdf,03,1fdf,04,1fdf,05,1fdf,06,1fdf,07,1fdf,fF\n", 10_000),
+            ("\n", 208_576)
+        ]
+    } leaves [(BOUNDS, 1), (SAMPLE, 1), ("10000\n", 1), ("frame 1 0 C008 1FF7 9\n", 10_000), ("left 659\n", 1)];
+    RUN { plan: [("1,0\n", 10_001)] } refused 7 "plan: too many rows\n";
+    RUN { plan: [("1,0\n", 10_000), ("x\n", 1)] } refused 7 "plan: too many rows\n";
+    RUN { plan: [("1,0\n", 9_999), ("0,0\n", 2)] } refused 7 "plan: row 10000: bad row\n";
+    RUN { plan: [("1,0", 1), (",1800,00", 8), ("\n1,0", 1), (",1800,00", 9)] } refused 7 "plan: row 2: bad row\n";
+    RUN { plan: [("0,0\n", 1)] } refused 7 "plan: row 1: bad row\n";
+    RUN { plan: [("1,0000000000\n", 1)] } refused 7 "plan: row 1: bad row\n";
+    RUN { plan: [("2,0,1800,FF\n", 10_000)] };
+    RUN { plan: [("1,999999999,1800,FF\n", 10_000)] };
+};
 
 /// The heater at both levels, over the same files.
 const LEVELS: Given = Given {
@@ -398,29 +189,11 @@ const LEVELS: Given = Given {
 const LEVEL_BOUNDS: &str =
     "error 1 19609\nfast error 1 19609\ninstructions 28\nfast instructions 24\n";
 
-// As many fast runs as there may be; and as many as out has room for, each with the most interrupts.
-static LEVEL_ROWS: [Given; 4] = [
-    Given {
-        plan: &[("1,0,1\n", 10_000)],
-        left: Leaves::Lines(&[
-            (LEVEL_BOUNDS, 1),
-            (SAMPLE, 1),
-            ("10000\n", 1),
-            (
-                "frame 1 0 C008 1FF7 9\nfast 1 answers 64 instructions 24 steps 32 resumed 0\n",
-                10_000,
-            ),
-        ]),
-        ..LEVELS
-    },
-    Given {
-        plan: &[("1,0,1,0,0,0,0,0,0,0,0\n", 4_000)],
-        left: Leaves::Lines(&[
-            (LEVEL_BOUNDS, 1),
-            (SAMPLE, 1),
-            ("4000\n", 1),
-            (
-                "frame 1 0 C008 1FF7 9
+const FAST_RUN: &str =
+    "frame 1 0 C008 1FF7 9\nfast 1 answers 64 instructions 24 steps 32 resumed 0\n";
+
+/// A fast run with the most interrupts.
+const BUSY_RUN: &str = "frame 1 0 C008 1FF7 9
 fast 1 answers 64 instructions 24 steps 32 resumed 0
 inner 1 4002 1FEE 9
 inner 1 4002 1FEE 9
@@ -430,76 +203,30 @@ inner 1 4002 1FEE 9
 inner 1 4002 1FEE 9
 inner 1 4002 1FEE 9
 inner 1 4002 1FEE 9
-",
-                4_000,
-            ),
-        ]),
-        ..LEVELS
-    },
-    Given {
-        plan: &[("1,0,1\n", 10_000), ("x\n", 1)],
-        left: Leaves::Refused(7, "plan: too many rows\n"),
-        ..LEVELS
-    },
-    Given {
-        plan: &[("1,0,1\n", 9_999), ("1,0,2\n", 2)],
-        left: Leaves::Refused(7, "plan: row 10000: bad row\n"),
-        ..LEVELS
-    },
-];
+";
 
-static SOURCES: [Given; 10] = [
-    Given {
-        text: &[(" ORG $FFFE\n FDB 0\n", 1)],
-        left: Leaves::Lines(&[("bytes 2\n", 1)]),
-        ..ASM
-    },
-    Given {
-        text: &[(" ORG $FFFF\n FDB 0\n", 1)],
-        left: Leaves::Refused(11, "asm: line 2: range\n"),
-        ..ASM
-    },
-    Given {
-        text: &[(" FCB 1", 1), ("+1-1", 1000)],
-        left: Leaves::Lines(&[("bytes 1\n", 1)]),
-        ..ASM
-    },
-    Given {
-        text: &[(" FDB 0", 1), ("+9999", 7)],
-        left: Leaves::Refused(11, "asm: line 1: range\n"),
-        ..ASM
-    },
-    Given {
-        text: &[(" NOP\n", 999), (" COMA 1\n", 1)],
-        left: Leaves::Refused(11, "asm: line 1000: bad line\n"),
-        ..ASM
-    },
-    Given {
-        text: &[(" FDB B\n", 1000)],
-        left: Leaves::Refused(11, "asm: line 1: unknown name\n"),
-        ..ASM
-    },
-    Given {
-        text: &[("A\n", 1), (" NOP\n", 126), (" BRA A\n", 1)],
-        left: Leaves::Lines(&[("bytes 128\n", 1)]),
-        ..ASM
-    },
-    Given {
-        text: &[("A\n", 1), (" NOP\n", 127), (" BRA A\n", 1)],
-        left: Leaves::Refused(11, "asm: line 129: branch far\n"),
-        ..ASM
-    },
-    Given {
-        text: &[(" FCB 1\n", 1000), (" ORG 999\n FCB 2\n", 1)],
-        left: Leaves::Refused(11, "asm: line 1002: overlap\n"),
-        ..ASM
-    },
-    Given {
-        text: &[("A\n", 1000)],
-        left: Leaves::Refused(11, "asm: line 2: twice\n"),
-        ..ASM
-    },
-];
+// As many fast runs as there may be; and as many as out has room for, each with the most interrupts.
+static LEVEL_ROWS: [Given; 4] = calls! {
+    LEVELS { plan: [("1,0,1\n", 10_000)] }
+        leaves [(LEVEL_BOUNDS, 1), (SAMPLE, 1), ("10000\n", 1), (FAST_RUN, 10_000)];
+    LEVELS { plan: [("1,0,1,0,0,0,0,0,0,0,0\n", 4_000)] }
+        leaves [(LEVEL_BOUNDS, 1), (SAMPLE, 1), ("4000\n", 1), (BUSY_RUN, 4_000)];
+    LEVELS { plan: [("1,0,1\n", 10_000), ("x\n", 1)] } refused 7 "plan: too many rows\n";
+    LEVELS { plan: [("1,0,1\n", 9_999), ("1,0,2\n", 2)] } refused 7 "plan: row 10000: bad row\n";
+};
+
+static SOURCES: [Given; 10] = calls! {
+    ASM { text: [(" ORG $FFFE\n FDB 0\n", 1)] } leaves [("bytes 2\n", 1)];
+    ASM { text: [(" ORG $FFFF\n FDB 0\n", 1)] } refused 11 "asm: line 2: range\n";
+    ASM { text: [(" FCB 1", 1), ("+1-1", 1000)] } leaves [("bytes 1\n", 1)];
+    ASM { text: [(" FDB 0", 1), ("+9999", 7)] } refused 11 "asm: line 1: range\n";
+    ASM { text: [(" NOP\n", 999), (" COMA 1\n", 1)] } refused 11 "asm: line 1000: bad line\n";
+    ASM { text: [(" FDB B\n", 1000)] } refused 11 "asm: line 1: unknown name\n";
+    ASM { text: [("A\n", 1), (" NOP\n", 126), (" BRA A\n", 1)] } leaves [("bytes 128\n", 1)];
+    ASM { text: [("A\n", 1), (" NOP\n", 127), (" BRA A\n", 1)] } refused 11 "asm: line 129: branch far\n";
+    ASM { text: [(" FCB 1\n", 1000), (" ORG 999\n FCB 2\n", 1)] } refused 11 "asm: line 1002: overlap\n";
+    ASM { text: [("A\n", 1000)] } refused 11 "asm: line 2: twice\n";
+};
 
 // The block's records from the last address to the first, in small letters, with the header among them and no end.
 const FALLING: &str = "s5030000fc
