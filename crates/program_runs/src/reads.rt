@@ -67,63 +67,25 @@ struct Read {
     left: Left<'static>,
 }
 
-static READS: [Read; 11] = [
-    Read {
-        names: ["b.fcl", "a.s19", "a.cert", "a.csv", "empty"],
-        reads: 1,
-        left: Left::Refused(2, "read fault: b.fcl\n"),
-    },
-    Read {
-        names: ["long", "a.s19", "a.cert", "a.csv", "empty"],
-        reads: 1,
-        left: Left::Refused(10, "too long: long\n"),
-    },
-    Read {
-        names: ["empty", "empty", "empty", "over.csv", "a.csv"],
-        reads: 5,
-        left: Left::Refused(4, "fcl: at 0: expected\n"),
-    },
-    Read {
-        names: ["a.fcl", "b.s19", "a.cert", "a.csv", "empty"],
-        reads: 2,
-        left: Left::Refused(2, "read fault: b.s19\n"),
-    },
-    Read {
-        names: ["a.fcl", "empty", "empty", "over.csv", "a.csv"],
-        reads: 5,
-        left: Left::Refused(5, "image: no end\n"),
-    },
-    Read {
-        names: ["a.fcl", "other.s19", "a.cert", "a.csv", "empty"],
-        reads: 5,
-        left: Left::Refused(5, "image: D201: FE, compile gives FF\n"),
-    },
-    Read {
-        names: ["a.fcl", "a.s19", "", "a.csv", "empty"],
-        reads: 3,
-        left: Left::Refused(2, "read fault: \n"),
-    },
-    Read {
-        names: ["a.fcl", "a.s19", "empty", "over.csv", "a.csv"],
-        reads: 5,
-        left: Left::Refused(6, "cert: early\n"),
-    },
-    Read {
-        names: ["a.fcl", "a.s19", "a.cert", "long", "empty"],
-        reads: 4,
-        left: Left::Refused(10, "too long: long\n"),
-    },
-    Read {
-        names: ["a.fcl", "a.s19", "a.cert", "over.csv", "a.csv"],
-        reads: 5,
-        left: Left::Refused(7, "trace: row 1: input 1 out of range\n"),
-    },
-    Read {
-        names: ["a.fcl", "a.s19", "a.cert", "a.csv", "a.csv"],
-        reads: 5,
-        left: Left::Refused(7, "plan: row 1: bad row\n"),
-    },
-];
+macro_rules! refusals {
+    ($($names:tt reads $reads:literal refused $code:literal $line:literal;)*) => {
+        [$(Read { names: $names, reads: $reads, left: Left::Refused($code, $line) }),*]
+    };
+}
+
+static READS: [Read; 11] = refusals! {
+    ["b.fcl", "a.s19", "a.cert", "a.csv", "empty"] reads 1 refused 2 "read fault: b.fcl\n";
+    ["long", "a.s19", "a.cert", "a.csv", "empty"] reads 1 refused 10 "too long: long\n";
+    ["empty", "empty", "empty", "over.csv", "a.csv"] reads 5 refused 4 "fcl: at 0: expected\n";
+    ["a.fcl", "b.s19", "a.cert", "a.csv", "empty"] reads 2 refused 2 "read fault: b.s19\n";
+    ["a.fcl", "empty", "empty", "over.csv", "a.csv"] reads 5 refused 5 "image: no end\n";
+    ["a.fcl", "other.s19", "a.cert", "a.csv", "empty"] reads 5 refused 5 "image: D201: FE, compile gives FF\n";
+    ["a.fcl", "a.s19", "", "a.csv", "empty"] reads 3 refused 2 "read fault: \n";
+    ["a.fcl", "a.s19", "empty", "over.csv", "a.csv"] reads 5 refused 6 "cert: early\n";
+    ["a.fcl", "a.s19", "a.cert", "long", "empty"] reads 4 refused 10 "too long: long\n";
+    ["a.fcl", "a.s19", "a.cert", "over.csv", "a.csv"] reads 5 refused 7 "trace: row 1: input 1 out of range\n";
+    ["a.fcl", "a.s19", "a.cert", "a.csv", "a.csv"] reads 5 refused 7 "plan: row 1: bad row\n";
+};
 
 #[test]
 fn reads(rt: HostRuntime) -> Result<(), Fail> {
