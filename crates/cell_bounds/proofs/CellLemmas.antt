@@ -1,8 +1,8 @@
 -- The Bound of a cell, by what the code finds.
-use Rattle.std.proofs.Common.{◌≡◌, ◌⊎◌, ⊎_elim, ℕ, ◌-◌, ◌≤◌, List, length, Option, Some, None, refl, sym, subst, arith}
+use Rattle.std.proofs.Common.{◌≡◌, ◌⊎◌, ⊎_elim, ℕ, ◌-◌, ◌≤◌, List, length, Option, Some, None, sym, subst, arith}
 use Rattle.std.specs.Prelude.{IfSome, IfNone}
 use Rattle.fz_list.proofs.Algebra.{some_at}
-use Rattle.cell_error.specs.Errors.{IsCellError, Covers, CoveredMassesHaveErrors}
+use Rattle.cell_error.specs.Errors.{Covers, CoveredMassesHaveErrors}
 use Rattle.fuzzy_meaning.specs.declared.block.Block.{Block}
 use Rattle.fuzzy_meaning.specs.declared.block.Output.{Output}
 use Rattle.fuzzy_meaning.specs.Blocks.{IsValid, output_at}
@@ -14,7 +14,7 @@ use Rattle.error_bound.specs.Tight.{IsTightBound, IsSure, silent as tight_silent
 use Rattle.error_bound.specs.TightLaws.{TightBoundsAreOne, TightBoundsAreSmall}
 use Rattle.cell_bounds.specs.declared.masses.CellMasses.{CellMasses}
 use Rattle.cell_bounds.specs.Cells.{IsErrorOnCell, IsUnsure}
-use Rattle.cell_bounds.specs.CellBounds.{HasCellBound, of_tight, of_error, IsCellBound, IsCellCount, of_bound, of_none}
+use Rattle.cell_bounds.specs.CellBounds.{HasCellBound, of_tight, of_error, IsCellBound}
 use Rattle.cell_bounds.specs.CellMasses.{AreFit, AreCellMasses, terms_of}
 use Rattle.cell_bounds.proofs.OneError.{errors_one, unsure_none}
 use Rattle.cell_bounds.proofs.RangeLemmas.{error_on}

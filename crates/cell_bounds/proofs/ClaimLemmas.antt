@@ -16,7 +16,7 @@ use Rattle.error_bound.specs.Answers.{Follows, AnswersAreNear}
 use Rattle.error_bound.specs.BestLeaves.{IsBestBound, of_leaf, of_none, BestLeavesAreOne, BestBoundsAreLeast}
 use Rattle.error_bound.specs.Bounds.{IsBound}
 use Rattle.error_bound.specs.Laws.{BoundsAreDetermined, BoundsFallWithParts}
-use Rattle.error_bound.specs.Tight.{IsTightBound, IsTightCount, of_bound as tight_of_bound}
+use Rattle.error_bound.specs.Tight.{of_bound as tight_of_bound}
 use Rattle.error_bound.specs.TightLaws.{IsAnsweredWithin, kept, near, TightAnswersAreNear, TightBoundsAreOne}
 use Rattle.error_bound.specs.TightLaws.{TightBoundsAreLeast, TightBoundsHoldInside, TightBoundsFallWithParts}
 use Rattle.cell_bounds.specs.declared.claims.Claim.TheVariants.{Pair, Tight, Cells}

@@ -1,7 +1,7 @@
 -- Numbers raised to the Bounds of a box's cells, part by part.
 use Rattle.std.proofs.Common.{◌≡◌, ◌⊎◌, inl, inr, ⊎_elim, ℕ, zero, suc, ◌+◌, ◌-◌, ◌*◌, ◌<◌, ◌≤◌, min, max, List, [], ◌∷◌, length, Option, Some}
 use Rattle.std.proofs.Common.{None, refl, sym, subst, ap, ap₂, ◌∙◌, arith, mul-le-mul_right}
-use Rattle.std.specs.Prelude.{IfSome, IfOk, IfErr, Result, Ok, Err, slice_get, slice_index, slice_set, map}
+use Rattle.std.specs.Prelude.{IfSome, IfOk, IfErr, Result, Ok, Err, slice_get, slice_index, slice_set}
 use Rattle.std.proofs.lemmas.Bool.{cases_lt, cases_eq}
 use Rattle.std.proofs.lemmas.List.{get_or-set_same, get_or-set_other}
 use Rattle.fuzzy_meaning.specs.declared.block.Block.{Block}
@@ -10,7 +10,7 @@ use Rattle.fuzzy_meaning.specs.Blocks.{output_at}
 use Rattle.error_bound.specs.declared.boxes.Interval.{Interval}
 use Rattle.error_bound.specs.Boxes.{IsBox, LieIn}
 use Rattle.cell_bounds.specs.Cells.{IsCell, cell_of}
-use Rattle.cell_bounds.specs.CellBounds.{HasCellBound, IsCellBound, IsCellCount, of_bound, of_none, IsCellWithin}
+use Rattle.cell_bounds.specs.CellBounds.{HasCellBound, IsCellCount, of_bound, of_none, IsCellWithin}
 use Rattle.cell_bounds.specs.CellBounds.{CellsAreWithin, IsCellsBound, IsBefore, IsFirstCellAbove, IsUnsureOn}
 use Rattle.cell_bounds.specs.Walks.{IsRaised, AreRaised, AreAtMost}
 use Rattle.cell_bounds.proofs.BoxesOfCells.{lie_around}

@@ -6,8 +6,8 @@ use Rattle.cell_error.specs.declared.ranges.MassRange.{MassRange}
 use Rattle.cell_error.specs.declared.ranges.Answer.{Answer}
 use Rattle.cell_error.specs.declared.errors.Cut.TheVariants.{Nowhere, AtLeast, AtMost}
 use Rattle.cell_error.specs.Cuts.{masses}
-use Rattle.cell_error.specs.Errors.{IsRange, total, weighted, answer_of, Covers, IsCellError, CoveredMassesHaveErrors}
-use Rattle.cell_error.proofs.Covering.{Serves, covers_of_serves, serves_of_covers, cases_zero}
+use Rattle.cell_error.specs.Errors.{IsRange, total, weighted, answer_of, Covers, CoveredMassesHaveErrors}
+use Rattle.cell_error.proofs.Covering.{covers_of_serves, serves_of_covers, cases_zero}
 use Rattle.cell_error.proofs.Withins.{step, top, bottom, within_more}
 
 decide : (m n : ℕ) → (m ≤ n) ⊎ (m ≤ n → ⊥)

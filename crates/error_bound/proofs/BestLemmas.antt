@@ -24,7 +24,6 @@ use Rattle.error_bound.specs.BestLeaves.{IsBestBound, of_leaf, of_none, BestLeav
 use Rattle.error_bound.specs.BestLeaves.{BestBoundsAreLeast}
 use Rattle.error_bound.proofs.BoundLemmas.{bound_strong, bound_silent, ratio-mono}
 use Rattle.error_bound.proofs.ConclusionLemmas.{any-some, any-term}
-use Rattle.error_bound.proofs.FlatteningLemmas.{at_literal-holds, span_good}
 use Rattle.error_bound.proofs.LawLemmas.{term_errors-are}
 use Rattle.error_bound.specs.CellErrors.{term_errors}
 use Rattle.error_bound.proofs.Nested.{leaves_hold_inside}

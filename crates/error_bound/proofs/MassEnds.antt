@@ -24,7 +24,7 @@ use Rattle.error_bound.specs.Boxes.{IsBox, literal_span, literal_byte_span, rule
 use Rattle.error_bound.specs.CellErrors.{term_error, term_errors}
 use Rattle.error_bound.specs.Errors.{billion, IsTermError, AreTermErrors}
 use Rattle.error_bound.specs.Tight.{greatest_of, low_part, high_part}
-use Rattle.error_bound.proofs.ConditionLemmas.{IsWithinSpans, within_none}
+use Rattle.error_bound.proofs.ConditionLemmas.{IsWithinSpans}
 use Rattle.error_bound.proofs.LawLemmas.{term_errors-are}
 use Rattle.error_bound.proofs.Literals.{at_place, width_pos}
 use Rattle.error_bound.proofs.RuleLemmas.{rule_within, times_ordered}

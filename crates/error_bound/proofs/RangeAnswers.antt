@@ -17,7 +17,7 @@ use Rattle.cell_error.specs.Errors.{AreBetween, total, weighted, answer_of, IsWi
 use Rattle.fuzzy_meaning.specs.declared.block.Block.{Block}
 use Rattle.fuzzy_meaning.specs.declared.block.Output.{Output}
 use Rattle.fuzzy_meaning.specs.Blocks.{IsWithin as IsInRange, IsValidOutput}
-use Rattle.fuzzy_meaning.specs.Meaning.{mass, shares, total_mass, weighted_sum, centre, quotient_of, answer_after}
+use Rattle.fuzzy_meaning.specs.Meaning.{mass, shares, total_mass, weighted_sum, centre, quotient_of}
 use Rattle.fuzzy_meaning.specs.Places.{NumbersHaveTheirDegrees}
 use Rattle.byte_scaling.specs.Cells.{NearestIsByte, value_in}
 use Rattle.error_bound.specs.declared.boxes.Interval.{Interval}

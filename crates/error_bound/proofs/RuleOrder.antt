@@ -1,5 +1,5 @@
 -- A rule's strengths over a box: the low's denominator is above 0, and over bytes the low is at most the high.
-use Rattle.std.proofs.Common.{ℕ, zero, suc, ◌+◌, ◌-◌, ◌≤◌, List, arith}
+use Rattle.std.proofs.Common.{ℕ, zero, suc, ◌-◌, ◌≤◌, List, arith}
 use Rattle.fz_num.specs.Fractions.{IsProper}
 use Rattle.fuzzy_meaning.specs.declared.block.Block.{Block}
 use Rattle.fuzzy_meaning.specs.declared.block.Rule.{Rule}

@@ -1,7 +1,7 @@
 //! The tight Bound of a box, which names no rule: it comes from how far the masses of an output's terms
 //! reach there.
-ghost use Rattle.std.specs.Prelude.{◌≡◌, ◌≤◌, ◌<◌, ◌+◌, ◌*◌, ◌/◌, ℕ, ◌==◌, ◌&&◌, if◌then◌else◌, max, All, IfSome, IfNone, Some};
-ghost use Rattle.std.specs.Prelude.{length, slice_get, slice_index};
+ghost use Rattle.std.specs.Prelude.{◌≡◌, ◌≤◌, ◌<◌, ◌+◌, ◌*◌, ◌/◌, ℕ, ◌==◌, ◌&&◌, if◌then◌else◌, max, All};
+ghost use Rattle.std.specs.Prelude.{IfSome, IfNone, Some, length, slice_get, slice_index};
 ghost use Rattle.fz_num.specs.Decimals.{distance};
 ghost use Rattle.fz_num.specs.Fractions.{up_div};
 ghost use Rattle.fuzzy_meaning.specs.declared.block.Rule.{Rule as TheRule};

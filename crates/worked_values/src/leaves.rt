@@ -117,7 +117,7 @@ static BOXES: [Boxed; 8] = [
 ];
 
 /// The box from one byte to another of a block's only input.
-fn box_of(block: &Block, from: u8, to: u8) -> ByteBox
+pub(crate) fn box_of(block: &Block, from: u8, to: u8) -> ByteBox
     requires input { length block.now.inputs ≡ 1 }
     requires bytes { from ≤ to }
     ensures { IsBoxOf block.now result.0.items }

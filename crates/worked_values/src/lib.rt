@@ -13,6 +13,8 @@ mod bounds;
 #[cfg(test)]
 mod bytes;
 #[cfg(test)]
+mod cells;
+#[cfg(test)]
 mod certificates;
 #[cfg(test)]
 mod checks;

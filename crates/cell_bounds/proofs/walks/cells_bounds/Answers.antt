@@ -1,4 +1,4 @@
-use Rattle.std.proofs.Common.{◌≡◌, ℕ, ◌<◌, List, [], ◌∷◌, length, sym, subst, ap, ◌∙◌, arith}
+use Rattle.std.proofs.Common.{◌≡◌, ℕ, List, [], ◌∷◌, length, subst, arith}
 use Rattle.cell_bounds.specs.Walks.{AreRaised}
 use Rattle.cell_bounds.proofs.WalkLemmas.{more_ok, bounds_are, no_numbers}
 use Rattle.cell_bounds.proofs.walks.cells_bounds.Goals as goal

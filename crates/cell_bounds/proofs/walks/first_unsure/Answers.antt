@@ -1,8 +1,8 @@
-use Rattle.std.proofs.Common.{◌≡◌, ◌⊎◌, ⊎_elim, ℕ, [], ◌∷◌, ◌+◌, ◌-◌, ◌<◌, ◌≤◌, sym, subst, arith}
+use Rattle.std.proofs.Common.{◌≡◌, ⊎_elim, [], ◌∷◌, ◌+◌, ◌<◌, ◌≤◌, subst, arith}
 use Rattle.std.specs.Prelude.{IfSome}
 use Rattle.std.proofs.lemmas.Bool.{cases_lt}
 use Rattle.fuzzy_meaning.specs.Blocks.{output_at}
-use Rattle.cell_bounds.specs.CellBounds.{CellsAreWithin, IsUnsureOn, IsFirstCellAbove}
+use Rattle.cell_bounds.specs.CellBounds.{CellsAreWithin, IsFirstCellAbove}
 use Rattle.cell_bounds.proofs.WalkLemmas.{unsure_above, sure_next}
 use Rattle.cell_bounds.proofs.walks.first_unsure.Goals as goal
 
