@@ -1,3 +1,10 @@
 pub mod DrawLemmas
 pub mod ListLemmas
 pub mod BlockLemmas
+pub mod NumberLemmas
+pub mod RowLemmas
+pub mod TraceLemmas
+pub mod PlanLemmas
+pub mod TreeOfText
+pub mod RuleLemmas
+pub mod FclLemmas

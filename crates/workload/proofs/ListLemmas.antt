@@ -1,29 +1,39 @@
 -- Lists by their places.
-use Rattle.std.proofs.Common.{arith, ◌≡◌, ◌<◌, ◌+◌, ℕ, zero, suc, List, [], ◌∷◌, length, get_or, map, refl, sym, ap}
-use Rattle.std.proofs.Common.{ap₂, subst, ◌∙◌, inl, inr}
+use Rattle.std.proofs.Common.{arith, ◌≡◌, ◌+◌, ℕ, zero, suc, List, [], ◌∷◌, ◌++◌, map, sym, ap, ◌∙◌}
 use Rattle.std.specs.List.{range_with_len}
-use Rattle.std.specs.Prelude.{Some, slice_get}
-use Rattle.std.proofs.lemmas.Bool.{cases_lt}
-use Rattle.std.proofs.lemmas.Option.{get_or_from_slice_get}
+use Rattle.std.specs.Prelude.{Some, flat_map, slice_get, unwrap_or}
+use Rattle.std.proofs.lemmas.Grind.{flat_map-append}
+use Rattle.std.proofs.lemmas.List.{append-nil}
+use Rattle.std.proofs.lemmas.List.FromFn.{map-range_with_len_more}
 
-pub numbered : {X : Type 0} (f : ℕ → X) (n from : ℕ) (xs : List X) → length xs ≡ n
-    → ((k : ℕ) (x : X) → slice_get xs k ≡ Some x → x ≡ f (from + k)) → xs ≡ map f (range_with_len from n)
-numbered f zero from [] count at = refl
-numbered f zero from (x ∷ xs) count at = absurd (omega arith)
-numbered f (suc n) from [] count at = absurd (omega arith)
-numbered {X} f (suc n) from (x ∷ xs) count at =
-    let first : x ≡ f from = at 0 x refl ∙ ap f (omega arith) in
-    ap₂ (λ (y : X) (ys : List X). y ∷ ys) first
-    (numbered f n (from + 1) xs (omega arith) (λ k y e. at (suc k) y e ∙ ap f (omega arith)))
+drawn_from : {X : Type 0} (f : ℕ → X) (a n k : ℕ) (x : X) → slice_get (map f (range_with_len a n)) k ≡ Some x
+    → x ≡ f (a + k)
+drawn_from f a zero k x at = absurd cc
+drawn_from f a (suc n) zero x at = sym (ap (λ o. unwrap_or o x) at) ∙ ap f (omega arith)
+drawn_from f a (suc n) (suc k) x at = drawn_from f (a + 1) n k x at ∙ ap f (omega arith)
 
--- what holds of the items before one, and of it, holds of those before the next
-pub more : {X : Type 0} (P : ℕ → X → Type 0) (xs : List X) (n : ℕ) (x : X) → x ≡ get_or xs n x → P n x
-    → ((k : ℕ) (y : X) → k < n → slice_get xs k ≡ Some y → P k y)
-    → (k : ℕ) (y : X) → k < n + 1 → slice_get xs k ≡ Some y → P k y
-more {X} P xs n x is here before k y l at = elim (cases_lt k n) [
-  | inl b ↦ before k y b at
-  | inr b ↦
-      let e : k ≡ n = omega arith in
-      let same : x ≡ y = is ∙ get_or_from_slice_get xs n y x (subst (λ (j : ℕ). slice_get xs j ≡ Some y) e at) in
-      subst (λ (j : ℕ). P j y) (sym e) (subst (P n) same here)
-]
+pub drawn_at : {X : Type 0} (f : ℕ → X) (n k : ℕ) (x : X) → slice_get (map f (range_with_len 0 n)) k ≡ Some x → x ≡ f k
+drawn_at f n k x at = drawn_from f 0 n k x at ∙ ap f (omega arith)
+
+-- what is made of the numbers before the next one
+pub made_more : {X : Type 0} (f : ℕ → X) (n : ℕ)
+    → map f (range_with_len 0 (n + 1)) ≡ map f (range_with_len 0 n) ++ (f n ∷ [])
+made_more f n = map-range_with_len_more f 0 n n (omega arith)
+
+range_next : (a n : ℕ) → range_with_len a (suc n) ≡ range_with_len a n ++ ((a + n) ∷ [])
+range_next a zero = ap (λ (k : ℕ). k ∷ []) (omega arith)
+range_next a (suc n) =
+    let same : a + 1 + n ≡ a + suc n = omega arith in
+    ap (λ (ks : List ℕ). a ∷ ks)
+    (range_next (a + 1) n ∙ ap (λ (k : ℕ). range_with_len (a + 1) n ++ (k ∷ [])) same)
+
+-- what is written for the numbers before the next one
+pub written_more : {A : Type 0} (f : ℕ → List A) (n : ℕ)
+    → flat_map f (range_with_len 0 (n + 1)) ≡ flat_map f (range_with_len 0 n) ++ f n
+written_more {A} f n =
+    let next : n + 1 ≡ suc n = omega arith in
+    let last : 0 + n ≡ n = omega arith in
+    ap (λ (k : ℕ). flat_map f (range_with_len 0 k)) next ∙ ap (flat_map f) (range_next 0 n)
+    ∙ ap (λ (k : ℕ). flat_map f (range_with_len 0 n ++ (k ∷ []))) last
+    ∙ flat_map-append f (range_with_len 0 n) (n ∷ [])
+    ∙ ap (λ (t : List A). flat_map f (range_with_len 0 n) ++ t) (append-nil (f n))

@@ -1,4 +1,5 @@
 pub mod Draws
 pub mod Blocks
+pub mod Texts
 pub mod Workloads
 pub mod Laws

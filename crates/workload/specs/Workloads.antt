@@ -17,10 +17,12 @@ use Rattle.workload.specs.Draws.{draw}
 abbrev pub place : ℕ → ℕ → Dec
 place number n = record { 0 = pos (draw number n 2560001) }
 
+abbrev pub drawn_values : ℕ → ℕ → List Dec
+drawn_values number k = place number (1 + 2 * k) ∷ place number (2 + 2 * k) ∷ []
+
 pub record AreDrawnSamples (number : ℕ) (samples : List Sample) : Type 0 where
   pub count : length samples ≡ 1000
-  pub values : (k : ℕ) (s : Sample) → slice_get samples k ≡ Some s
-      → s.values ≡ place number (1 + 2 * k) ∷ place number (2 + 2 * k) ∷ []
+  pub values : (k : ℕ) (s : Sample) → slice_get samples k ≡ Some s → s.values ≡ drawn_values number k
 
 -- one in each sample, which writes one free byte
 abbrev pub drawn_request : ℕ → ℕ → Request

@@ -48,6 +48,7 @@ impl Draws {
             → self.new.state ≡ state_after number (n + 2) }
         ensures value { (number n : ℕ) → self.old.state ≡ state_after number n
             → result ≡ (draw number n 2560001, draw number (n + 1) 2560001) }
+        ensures small { (result.0 ≤ 2560000) × (result.1 ≤ 2560000) }
     {
         let x = self.below(2_560_001);
         let y = self.below(2_560_001);
@@ -60,7 +61,7 @@ impl Draws {
             → self.new.state ≡ state_after number (n + 3) }
         ensures value { (number n : ℕ) → self.old.state ≡ state_after number n
             → result ≡ (draw number n 456, draw number (n + 1) 2016, draw number (n + 2) 256) }
-        ensures small { result.1 < 2016 }
+        ensures small { (result.0 < 456) × (result.1 < 2016) × (result.2 < 256) }
     {
         let moment = self.below(456);
         let at = self.below(2016);

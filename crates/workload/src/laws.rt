@@ -1,7 +1,18 @@
 //! Laws of the blocks that are drawn, each the contract of a function that does nothing.
-ghost use Rattle.workload.specs.Laws.{DrawnBlocksAreWithinLimits};
+ghost use Rattle.workload.specs.Laws.{DrawnBlocksAreWithinLimits, DrawnTextsSpellBlocks};
+
+use fcl_check::spelled_blocks_are_valid;
+use fcl_syntax::cuts_are_tokens;
 
 /// The rules of a block that is drawn can be laid out.
 pub fn drawn_blocks_are_within_limits()
     ensures { DrawnBlocksAreWithinLimits }
 {}
+
+/// The text with a shift spells the block with this shift.
+pub(crate) fn drawn_texts_spell_blocks()
+    ensures { DrawnTextsSpellBlocks }
+{
+    cuts_are_tokens();
+    spelled_blocks_are_valid()
+}

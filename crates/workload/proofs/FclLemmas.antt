@@ -1,0 +1,212 @@
+-- The FCL text of each shift spells the block that is drawn.
+use Rattle.std.proofs.Common.{arith, ◌≡◌, ◌<◌, ◌≤◌, ℕ, zero, suc, true, List, [], ◌∷◌, ◌++◌, length, map, refl}
+use Rattle.std.proofs.Common.{Option, Some, None, Ok, Err, ◌∙◌}
+use Rattle.std.specs.Fmt.{digits}
+use Rattle.std.specs.List.{AllZip, flat_map, list_all, range_with_len}
+use Rattle.std.specs.Prelude.{codes, is_none}
+use Rattle.std.specs.Str.{str_to_ascii_lowercase}
+use Rattle.std.proofs.lemmas.Bool.{and_parts}
+use Rattle.fuzzy_meaning.specs.declared.block.Rule.{Rule}
+use Rattle.fcl_syntax.specs.Annotations.{IsClean, Sym, tokens_of}
+use Rattle.fcl_syntax.specs.Cuts.{CutsAreTokens}
+use Rattle.fcl_syntax.specs.First.{Spells}
+use Rattle.fcl_syntax.specs.Grammar.{block_text}
+use Rattle.fcl_syntax.specs.Lexing.{Lexed, colon_piece, delimiter_piece, lexed, number_len, number_piece, open_piece}
+use Rattle.fcl_syntax.specs.Lexing.{point_piece, slash_piece, tokenization, word_token}
+use Rattle.fcl_syntax.specs.Text.{SpellsTree}
+use Rattle.fcl_syntax.specs.View.{view}
+use Rattle.fcl_syntax.specs.declared.fault.Kind.{Kind}
+use Rattle.fcl_syntax.specs.declared.token.Token.{Token}
+use Rattle.fcl_syntax.specs.declared.tree.Direction.TheVariants.{Input}
+use Rattle.fcl_syntax.specs.declared.tree.Rule.{Rule as RuleNode}
+use Rattle.fcl_check.specs.Faults.{first_fault, is_declared_as, missing_part, mistaken_in, mistaken_section, too_many}
+use Rattle.fcl_check.specs.Faults.{twice, unknown_in, unknown_section, weight_outside}
+use Rattle.fcl_check.specs.Loaded.{IsBlockOf, IsInputOf, IsOutputOf, IsRuleOf, IsTermOf}
+use Rattle.fcl_check.specs.Places.{first}
+use Rattle.fcl_check.specs.Sections.{bad_range, falling_points, numbers_outside, points_outside, shapeless_terms}
+use Rattle.fcl_check.specs.Sections.{without_terms}
+use Rattle.fcl_check.specs.Texts.{SpelledBlocksAreValid, SpellsBlock}
+use Rattle.fcl_check.specs.declared.fault.LoadFault.{LoadFault}
+use Rattle.fcl_check.specs.declared.fault.LoadFault.TheVariants as load
+use Rattle.workload.specs.Blocks.{drawn_block, drawn_input, drawn_output, drawn_rules, term_number}
+use Rattle.workload.specs.Laws.{DrawnTextsSpellBlocks}
+use Rattle.workload.specs.Texts.{fcl_text, rule_text}
+use Rattle.workload.proofs.RuleLemmas.{IsDrawn, are_drawn, each_five, letters_before, named_by, named_in}
+use Rattle.workload.proofs.TreeOfText.{defuzzify_at, fuzzify_at, term_at, tree}
+
+-- ---- the tokens
+
+abbrev tokens : List Token
+tokens = tokens_of (block_text (view tree))
+
+abbrev places_in : Lexed → List ℕ
+places_in (Ok l) = l.1
+places_in (Err e) = []
+
+abbrev IsCutInto : List Token → ℕ → Type 0
+IsCutInto ts shift = tokenization (fcl_text shift) ≡ Ok (ts, places_in (tokenization (fcl_text shift)))
+
+cut : (shift : ℕ) → shift < 5 → IsCutInto tokens shift
+unfolding fcl_text digits lexed number_len number_piece word_token open_piece slash_piece point_piece colon_piece
+    delimiter_piece
+cut = each_five (IsCutInto tokens) refl refl refl refl refl
+
+short : (shift : ℕ) → shift < 5 → length (fcl_text shift) ≡ 4795
+unfolding fcl_text digits
+short = each_five (λ (shift : ℕ). length (fcl_text shift) ≡ 4795) refl refl refl refl refl
+
+unannotated : (o : Option Kind) → is_none o ≡ true → o ≡ None
+unannotated None h = refl
+unannotated (Some k) h = absurd cc
+
+clean : (ss : List Sym) → list_all (λ (s : Sym). is_none s.annotation) ss ≡ true → IsClean ss
+clean [] h = tt
+clean (s ∷ ss) h =
+    let parts = and_parts (is_none s.annotation) (list_all (λ (s : Sym). is_none s.annotation) ss) h in
+    (unannotated s.annotation parts.0, clean ss parts.1)
+
+spells : Spells block_text tokens (view tree)
+spells = record { parts = refl; clean = clean (block_text (view tree)) refl }
+
+spelled : CutsAreTokens → (shift : ℕ) → shift < 5 → SpellsTree (fcl_text shift) (view tree)
+spelled cuts shift h = record {
+  tokens = tokens;
+  places = places_in (tokenization (fcl_text shift));
+  cut = (cuts.tokens (fcl_text shift) tokens (places_in (tokenization (fcl_text shift)))).0 (cut shift h);
+  spells = spells;
+}
+
+-- ---- the block
+
+abbrev letters_of : ℕ → List ℕ
+letters_of shift = str_to_ascii_lowercase (fcl_text shift)
+
+-- what stands behind the variables
+abbrev rest_of : ℕ → List ℕ
+rest_of shift = flat_map (rule_text shift) (range_with_len 0 81) ++ codes "END_RULEBLOCK\nEND_FUNCTION_BLOCK\n"
+
+abbrev NamesRules : ℕ → Type 0
+NamesRules shift = map (named_by (rest_of shift)) tree.rules.rules ≡ map (named_in (rest_of shift) shift) (range_with_len 0 81)
+
+named_0 : NamesRules 0
+unfolding digits
+named_0 = refl
+
+named_1 : NamesRules 1
+unfolding digits
+named_1 = refl
+
+named_2 : NamesRules 2
+unfolding digits
+named_2 = refl
+
+named_3 : NamesRules 3
+unfolding digits
+named_3 = refl
+
+named_4 : NamesRules 4
+unfolding digits
+named_4 = refl
+
+drawn : (shift : ℕ) → shift < 5 → AllZip (IsDrawn (rest_of shift)) tree.rules.rules (drawn_rules shift)
+unfolding drawn_rules
+drawn shift h =
+    are_drawn (rest_of shift) shift 81 0 964 (omega arith)
+    (each_five NamesRules named_0 named_1 named_2 named_3 named_4 shift h)
+
+module _ (rest : List ℕ) where
+  abbrev ls : List ℕ
+  ls = letters_before rest
+
+  rules_are : (rs : List RuleNode) (qs : List Rule) → AllZip (IsDrawn rest) rs qs → AllZip (IsRuleOf ls tree) rs qs
+  rules_are [] [] h = tt
+  rules_are [] (q ∷ qs) h = h
+  rules_are (r ∷ rs) [] h = h
+  rules_are (r ∷ rs) (q ∷ qs) h = (h.0.drawn, rules_are rs qs h.1)
+
+  no_unknown : (rs : List RuleNode) (qs : List Rule) → AllZip (IsDrawn rest) rs qs
+      → flat_map (unknown_in ls tree) rs ≡ []
+  no_unknown [] [] h = refl
+  no_unknown [] (q ∷ qs) h = absurd h
+  no_unknown (r ∷ rs) [] h = absurd h
+  no_unknown (r ∷ rs) (q ∷ qs) h = λ i. h.0.known i ++ no_unknown rs qs h.1 i
+
+  no_mistaken : (rs : List RuleNode) (qs : List Rule) → AllZip (IsDrawn rest) rs qs
+      → flat_map (mistaken_in ls tree) rs ≡ []
+  no_mistaken [] [] h = refl
+  no_mistaken [] (q ∷ qs) h = absurd h
+  no_mistaken (r ∷ rs) [] h = absurd h
+  no_mistaken (r ∷ rs) (q ∷ qs) h = λ i. h.0.right i ++ no_mistaken rs qs h.1 i
+
+  -- the first fault, where these names are unknown and those on the wrong side in rules
+  abbrev fault_with : List ℕ → List ℕ → Option LoadFault
+  fault_with unknown mistaken = first (flat_map (λ (k : (ℕ → LoadFault) × List ℕ). map k.0 k.1) (
+    (load.Twice, twice ls tree)
+    ∷ (load.Unknown, flat_map (unknown_section ls tree) tree.parts ++ unknown)
+    ∷ (load.NoTerms, flat_map without_terms tree.parts)
+    ∷ (load.TooMany, too_many ls tree)
+    ∷ (load.PointsNotAscending, flat_map falling_points tree.parts)
+    ∷ (load.TermShape, flat_map shapeless_terms tree.parts)
+    ∷ (load.TermOutside, flat_map points_outside tree.parts)
+    ∷ (load.BadRange, flat_map (bad_range (is_declared_as ls tree Input)) tree.parts)
+    ∷ (load.SingletonOutside, flat_map numbers_outside tree.parts)
+    ∷ (load.WeightOutside, flat_map weight_outside tree.rules.rules)
+    ∷ (load.WrongSide, flat_map (mistaken_section ls tree) tree.parts ++ mistaken)
+    ∷ (load.MissingPart, missing_part ls tree)
+    ∷ []))
+
+  nothing_else : fault_with [] [] ≡ None
+  nothing_else = refl
+
+  faultless : (qs : List Rule) → AllZip (IsDrawn rest) tree.rules.rules qs → first_fault ls tree ≡ None
+  faultless qs h =
+      (λ i. fault_with (no_unknown tree.rules.rules qs h i) (no_mistaken tree.rules.rules qs h i)) ∙ nothing_else
+
+is_term : (at j : ℕ) → j < 9 → IsTermOf (term_at at j) (term_number j)
+is_term at zero h = record { a = refl; b = refl; c = refl; d = refl }
+is_term at (suc zero) h = record { a = refl; b = refl; c = refl; d = refl }
+is_term at (suc (suc zero)) h = record { a = refl; b = refl; c = refl; d = refl }
+is_term at (suc (suc (suc zero))) h = record { a = refl; b = refl; c = refl; d = refl }
+is_term at (suc (suc (suc (suc zero)))) h = record { a = refl; b = refl; c = refl; d = refl }
+is_term at (suc (suc (suc (suc (suc zero))))) h = record { a = refl; b = refl; c = refl; d = refl }
+is_term at (suc (suc (suc (suc (suc (suc zero)))))) h = record { a = refl; b = refl; c = refl; d = refl }
+is_term at (suc (suc (suc (suc (suc (suc (suc zero))))))) h = record { a = refl; b = refl; c = refl; d = refl }
+is_term at (suc (suc (suc (suc (suc (suc (suc (suc zero)))))))) h = record { a = refl; b = refl; c = refl; d = refl }
+is_term at (suc (suc (suc (suc (suc (suc (suc (suc (suc j))))))))) h = absurd (omega arith)
+
+is_input : (at : ℕ) → IsInputOf (fuzzify_at at) drawn_input
+is_input at = record {
+  range = refl;
+  terms = (is_term _ 0 (omega arith), (is_term _ 1 (omega arith), (is_term _ 2 (omega arith),
+      (is_term _ 3 (omega arith), (is_term _ 4 (omega arith), (is_term _ 5 (omega arith),
+      (is_term _ 6 (omega arith), (is_term _ 7 (omega arith), (is_term _ 8 (omega arith), tt)))))))));
+}
+
+is_output : (at : ℕ) → IsOutputOf (defuzzify_at at) drawn_output
+is_output at = record { range = refl; singletons = refl; default = refl }
+
+loaded : (rest : List ℕ) (shift : ℕ) → AllZip (IsDrawn rest) tree.rules.rules (drawn_rules shift)
+    → IsBlockOf (letters_before rest) tree (drawn_block shift)
+loaded rest shift h = record {
+  inputs = ((fuzzify_at 92, refl, is_input 92), ((fuzzify_at 455, refl, is_input 455), tt));
+  outputs = ((defuzzify_at 818, refl, is_output 818), tt);
+  rules = rules_are rest tree.rules.rules (drawn_rules shift) h;
+}
+
+pub drawn_texts : CutsAreTokens → SpelledBlocksAreValid → DrawnTextsSpellBlocks
+unfolding fcl_text
+drawn_texts cuts valid shift h =
+    let small : length (fcl_text shift) ≤ 1048576 = omega (arith, short shift h) in
+    let spells = spelled cuts shift h in
+    let rules = drawn shift h in
+    let none = faultless (rest_of shift) (drawn_rules shift) rules in
+    let is = loaded (rest_of shift) shift rules in (
+      record {
+        tree = tree;
+        spelled = spells;
+        well_formed = none;
+        loaded = is;
+        valid = valid (fcl_text shift) tree (drawn_block shift) small spells none is;
+      },
+      small,
+    )
