@@ -25,7 +25,7 @@ use Rattle.fcl_check.specs.Loaded.{IsBlockOf, IsInputOf, IsOutputOf, IsRuleOf, I
 use Rattle.fcl_check.specs.Places.{first}
 use Rattle.fcl_check.specs.Sections.{bad_range, falling_points, numbers_outside, points_outside, shapeless_terms}
 use Rattle.fcl_check.specs.Sections.{without_terms}
-use Rattle.fcl_check.specs.Texts.{SpelledBlocksAreValid, SpellsBlock}
+use Rattle.fcl_check.specs.Texts.{SpelledBlocksAreValid}
 use Rattle.fcl_check.specs.declared.fault.LoadFault.{LoadFault}
 use Rattle.fcl_check.specs.declared.fault.LoadFault.TheVariants as load
 use Rattle.workload.specs.Blocks.{drawn_block, drawn_input, drawn_output, drawn_rules, term_number}
@@ -141,19 +141,19 @@ module _ (rest : List ℕ) where
   -- the first fault, where these names are unknown and those on the wrong side in rules
   abbrev fault_with : List ℕ → List ℕ → Option LoadFault
   fault_with unknown mistaken = first (flat_map (λ (k : (ℕ → LoadFault) × List ℕ). map k.0 k.1) (
-    (load.Twice, twice ls tree)
-    ∷ (load.Unknown, flat_map (unknown_section ls tree) tree.parts ++ unknown)
-    ∷ (load.NoTerms, flat_map without_terms tree.parts)
-    ∷ (load.TooMany, too_many ls tree)
-    ∷ (load.PointsNotAscending, flat_map falling_points tree.parts)
-    ∷ (load.TermShape, flat_map shapeless_terms tree.parts)
-    ∷ (load.TermOutside, flat_map points_outside tree.parts)
-    ∷ (load.BadRange, flat_map (bad_range (is_declared_as ls tree Input)) tree.parts)
-    ∷ (load.SingletonOutside, flat_map numbers_outside tree.parts)
-    ∷ (load.WeightOutside, flat_map weight_outside tree.rules.rules)
-    ∷ (load.WrongSide, flat_map (mistaken_section ls tree) tree.parts ++ mistaken)
-    ∷ (load.MissingPart, missing_part ls tree)
-    ∷ []))
+      (load.Twice, twice ls tree)
+      ∷ (load.Unknown, flat_map (unknown_section ls tree) tree.parts ++ unknown)
+      ∷ (load.NoTerms, flat_map without_terms tree.parts)
+      ∷ (load.TooMany, too_many ls tree)
+      ∷ (load.PointsNotAscending, flat_map falling_points tree.parts)
+      ∷ (load.TermShape, flat_map shapeless_terms tree.parts)
+      ∷ (load.TermOutside, flat_map points_outside tree.parts)
+      ∷ (load.BadRange, flat_map (bad_range (is_declared_as ls tree Input)) tree.parts)
+      ∷ (load.SingletonOutside, flat_map numbers_outside tree.parts)
+      ∷ (load.WeightOutside, flat_map weight_outside tree.rules.rules)
+      ∷ (load.WrongSide, flat_map (mistaken_section ls tree) tree.parts ++ mistaken)
+      ∷ (load.MissingPart, missing_part ls tree)
+      ∷ []))
 
   nothing_else : fault_with [] [] ≡ None
   nothing_else = refl
@@ -177,9 +177,25 @@ is_term at (suc (suc (suc (suc (suc (suc (suc (suc (suc j))))))))) h = absurd (o
 is_input : (at : ℕ) → IsInputOf (fuzzify_at at) drawn_input
 is_input at = record {
   range = refl;
-  terms = (is_term _ 0 (omega arith), (is_term _ 1 (omega arith), (is_term _ 2 (omega arith),
-      (is_term _ 3 (omega arith), (is_term _ 4 (omega arith), (is_term _ 5 (omega arith),
-      (is_term _ 6 (omega arith), (is_term _ 7 (omega arith), (is_term _ 8 (omega arith), tt)))))))));
+  terms = (
+    is_term _ 0 (omega arith),
+    (
+      is_term _ 1 (omega arith),
+      (
+        is_term _ 2 (omega arith),
+        (
+          is_term _ 3 (omega arith),
+          (
+            is_term _ 4 (omega arith),
+            (
+              is_term _ 5 (omega arith),
+              (is_term _ 6 (omega arith), (is_term _ 7 (omega arith), (is_term _ 8 (omega arith), tt))),
+            ),
+          ),
+        ),
+      ),
+    ),
+  );
 }
 
 is_output : (at : ℕ) → IsOutputOf (defuzzify_at at) drawn_output

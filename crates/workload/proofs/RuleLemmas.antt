@@ -1,8 +1,8 @@
 -- What the rules of an FCL text name.
-use Rattle.std.proofs.Common.{arith, ◌≡◌, ◌<◌, ◌≤◌, ◌+◌, ◌*◌, ◌/◌, ◌%◌, ℕ, zero, suc, Bool, true, false, List, [], ◌∷◌, ◌++◌}
-use Rattle.std.proofs.Common.{length, map, drop, get_or, refl, sym, ap, subst, ◌∙◌, Option, Some, None}
+use Rattle.std.proofs.Common.{arith, ◌≡◌, ◌<◌, ◌≤◌, ◌+◌, ◌*◌, ◌/◌, ◌%◌, ℕ, zero, suc, false, List, [], ◌∷◌, ◌++◌}
+use Rattle.std.proofs.Common.{map, drop, get_or, refl, sym, ap, ◌∙◌, Some}
 use Rattle.std.specs.List.{AllZip, flat_map, range_with_len}
-use Rattle.std.specs.Prelude.{codes, is_none, not, option_map, ◌&&◌}
+use Rattle.std.specs.Prelude.{codes, is_none, not, ◌&&◌}
 use Rattle.std.specs.Str.{str_to_ascii_lowercase}
 use Rattle.fuzzy_meaning.specs.Conditions.{Condition, all, also, end, is as literal}
 use Rattle.fuzzy_meaning.specs.declared.block.Rule.{Rule}
@@ -80,8 +80,10 @@ module _ (rest : List ℕ) where
   numbers_known : (side : Direction) (v t : Name) (a b : ℕ) → IsKnownPair side v t a b
       → numbers_of ls tree side v t ≡ (a, b)
   numbers_known side v t a b k =
-      (λ i. (or_zero (variable_number ls tree side (k.variable_is i)),
-      or_zero (term_number ls tree side (k.variable_is i) (k.term_is i))))
+      (λ i. (
+        or_zero (variable_number ls tree side (k.variable_is i)),
+        or_zero (term_number ls tree side (k.variable_is i) (k.term_is i)),
+      ))
       ∙ (λ i. (or_zero (k.variable_at i), or_zero (k.term_at i)))
 
   term_known : (side : Direction) (v t : Name) (a b : ℕ) → IsKnownPair side v t a b

@@ -1,5 +1,5 @@
 -- Traces of samples that are drawn.
-use Rattle.std.proofs.Common.{arith, ◌≡◌, ◌≤◌, ◌<◌, ◌+◌, ◌*◌, ◌/◌, ◌^◌, ℕ, true, List, [], ◌∷◌, ◌++◌, length, map, refl, sym, ap}
+use Rattle.std.proofs.Common.{arith, ◌≡◌, ◌≤◌, ◌<◌, ◌+◌, ◌/◌, ◌^◌, ℕ, List, [], ◌∷◌, ◌++◌, length, map, refl, sym, ap}
 use Rattle.std.proofs.Common.{subst, ◌∙◌, pos, Some, length-append}
 use Rattle.std.specs.List.{range_with_len}
 use Rattle.std.specs.Prelude.{slice_get, option_map}
@@ -39,7 +39,7 @@ pub spells_drawn : (x y : ℕ) (s : Sample) → x ≤ 2560000 → y ≤ 2560000 
 spells_drawn x y s hx hy values bytes = record {
   count = refl;
   values = (λ i. with_decimal (decimal-decimal_text x (omega arith) i)
-          (with_decimal (decimal-decimal_text y (omega arith) i) (Some [])))
+      (with_decimal (decimal-decimal_text y (omega arith) i) (Some [])))
       ∙ ap (λ (ds : List Dec). Some ds) (sym values);
   within = subst (AreWithin pair) (sym values) (within x hx, (within y hy, tt));
   bytes = bytes ∙ ap (bytes_of pair) (sym values);

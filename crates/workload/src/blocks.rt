@@ -46,18 +46,10 @@ fn term(j: u8) -> Trapezoid
 {
     let top = 32 * u16::from(j);
     Trapezoid {
-        a: if j == 0 {
-            None
-        } else {
-            Some(whole(top - 32))
-        },
+        a: if j == 0 { None } else { Some(whole(top - 32)) },
         b: whole(top),
         c: whole(top),
-        d: if j == 8 {
-            None
-        } else {
-            Some(whole(top + 32))
-        },
+        d: if j == 8 { None } else { Some(whole(top + 32)) },
     }
 }
 

@@ -1,8 +1,7 @@
-use Rattle.std.proofs.Common.{arith, ◌≡◌, ◌+◌, ◌*◌, ◌++◌, ℕ, List, [], ◌∷◌, length, length-append, map, sym, ap, subst, ◌∙◌}
+use Rattle.std.proofs.Common.{arith, ◌≡◌, ◌+◌, ◌*◌, ◌++◌, ℕ, [], ◌∷◌, length, length-append, map, sym, ap, subst, ◌∙◌}
 use Rattle.std.specs.List.{range_with_len}
 use Rattle.csv.specs.Writing.{default_writer, row_text}
 use Rattle.interrupt_plan.specs.PlanTexts.{SpellsRequest}
-use Rattle.interrupt_plan.specs.declared.Request.{Request}
 use Rattle.workload.specs.Draws.{draw, state_after}
 use Rattle.workload.specs.Texts.{request_fields}
 use Rattle.workload.specs.Workloads.{drawn_request}
@@ -55,7 +54,7 @@ returns c =
     let inv = c.loop-k.invariant in
     let all : c.loop-k.k ≡ 1000 = omega (arith, c.loop-k-test.false, c.loop-k.auto.k-end) in
     let drawn : (number : ℕ) → c.args.draws.now.state ≡ state_after number 2001
-        → c.loop-k.requests.items ≡ map (drawn_request number) (range_with_len 0 1000) =
+    → c.loop-k.requests.items ≡ map (drawn_request number) (range_with_len 0 1000) =
     λ number begun. inv.requests number begun
     ∙ ap (λ (n : ℕ). map (drawn_request number) (range_with_len 0 n)) all in
     let same : c.new.result ≡ c.loop-k.requests.items = c.new.ensures in

@@ -3,8 +3,15 @@ use Rattle.workload.proofs.texts.push_rule.Goals as goal
 
 pub returns : goal.returns
 returns c =
-    rw (c.in_ok-extend_from_slice-5.ensures.items, c.in_ok-push_number-4.ensures,
-    c.in_ok-extend_from_slice-4.ensures.items, c.in_ok-push_number-3.ensures,
-    c.in_ok-extend_from_slice-3.ensures.items, c.in_ok-push_number-2.ensures,
-    c.in_ok-extend_from_slice-2.ensures.items, c.in_ok-push_number.ensures,
-    c.in_ok-extend_from_slice.ensures.items, c.from.ensures) (simp append_assoc refl)
+    rw (
+      c.in_ok-extend_from_slice-5.ensures.items,
+      c.in_ok-push_number-4.ensures,
+      c.in_ok-extend_from_slice-4.ensures.items,
+      c.in_ok-push_number-3.ensures,
+      c.in_ok-extend_from_slice-3.ensures.items,
+      c.in_ok-push_number-2.ensures,
+      c.in_ok-extend_from_slice-2.ensures.items,
+      c.in_ok-push_number.ensures,
+      c.in_ok-extend_from_slice.ensures.items,
+      c.from.ensures,
+    ) (simp append_assoc refl)

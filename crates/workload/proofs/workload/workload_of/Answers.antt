@@ -34,7 +34,7 @@ returns-clause-workload c =
           (subst (λ (b : Block). SpellsBlock (fcl_text shift) b) (sym block) law.0);
       block_is = block ∙ ap drawn_block (c.shift-shift.ensures.value number 0 begun);
       in_trace = subst (λ (inputs : List Input). Spells inputs c.in_ok-trace.field-0.text.items
-              c.in_ok-trace.field-0.samples.items)
+          c.in_ok-trace.field-0.samples.items)
           (sym (ap (λ (b : Block). b.inputs) block)) c.in_ok-trace.ensures.spelled;
       drawn_samples = c.in_ok-trace.ensures.drawn number behind;
       in_plan = c.in_ok-plan.ensures.spelled number traced;
