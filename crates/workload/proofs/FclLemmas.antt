@@ -1,8 +1,8 @@
 -- The FCL text of each shift spells the block that is drawn.
-use Rattle.std.proofs.Common.{arith, ◌≡◌, ◌<◌, ◌≤◌, ℕ, zero, suc, true, List, [], ◌∷◌, ◌++◌, length, map, refl}
-use Rattle.std.proofs.Common.{Option, Some, None, Ok, Err, ◌∙◌}
+use Rattle.std.proofs.Common.{arith, ◌≡◌, ◌<◌, ◌≤◌, ℕ, zero, suc, true, List, [], ◌∷◌, ◌++◌, length, map, refl, ap}
+use Rattle.std.proofs.Common.{Option, Some, None, Ok, Err}
 use Rattle.std.specs.Fmt.{digits}
-use Rattle.std.specs.List.{AllZip, flat_map, list_all, range_with_len}
+use Rattle.std.specs.List.{AllByRecursion, AllZip, flat_map, list_all, range_with_len}
 use Rattle.std.specs.Prelude.{codes, is_none}
 use Rattle.std.specs.Str.{str_to_ascii_lowercase}
 use Rattle.std.proofs.lemmas.Bool.{and_parts}
@@ -17,17 +17,13 @@ use Rattle.fcl_syntax.specs.Text.{SpellsTree}
 use Rattle.fcl_syntax.specs.View.{view}
 use Rattle.fcl_syntax.specs.declared.fault.Kind.{Kind}
 use Rattle.fcl_syntax.specs.declared.token.Token.{Token}
-use Rattle.fcl_syntax.specs.declared.tree.Direction.TheVariants.{Input}
 use Rattle.fcl_syntax.specs.declared.tree.Rule.{Rule as RuleNode}
-use Rattle.fcl_check.specs.Faults.{first_fault, is_declared_as, missing_part, mistaken_in, mistaken_section, too_many}
-use Rattle.fcl_check.specs.Faults.{twice, unknown_in, unknown_section, weight_outside}
+use Rattle.fcl_check.specs.Faults.{first_fault, kinds, mistaken_in, mistaken_section, unknown, unknown_in}
+use Rattle.fcl_check.specs.Faults.{unknown_section, wrong_side}
 use Rattle.fcl_check.specs.Loaded.{IsBlockOf, IsInputOf, IsOutputOf, IsRuleOf, IsTermOf}
 use Rattle.fcl_check.specs.Places.{first}
-use Rattle.fcl_check.specs.Sections.{bad_range, falling_points, numbers_outside, points_outside, shapeless_terms}
-use Rattle.fcl_check.specs.Sections.{without_terms}
 use Rattle.fcl_check.specs.Texts.{SpelledBlocksAreValid}
 use Rattle.fcl_check.specs.declared.fault.LoadFault.{LoadFault}
-use Rattle.fcl_check.specs.declared.fault.LoadFault.TheVariants as load
 use Rattle.workload.specs.Blocks.{drawn_block, drawn_input, drawn_output, drawn_rules, term_number}
 use Rattle.workload.specs.Laws.{DrawnTextsSpellBlocks}
 use Rattle.workload.specs.Texts.{fcl_text, rule_text}
@@ -86,7 +82,8 @@ abbrev rest_of : ℕ → List ℕ
 rest_of shift = flat_map (rule_text shift) (range_with_len 0 81) ++ codes "END_RULEBLOCK\nEND_FUNCTION_BLOCK\n"
 
 abbrev NamesRules : ℕ → Type 0
-NamesRules shift = map (named_by (rest_of shift)) tree.rules.rules ≡ map (named_in (rest_of shift) shift) (range_with_len 0 81)
+NamesRules shift =
+    map (named_by (rest_of shift)) tree.rules.rules ≡ map (named_in (rest_of shift) shift) (range_with_len 0 81)
 
 named_0 : NamesRules 0
 unfolding digits
@@ -114,6 +111,12 @@ drawn shift h =
     are_drawn (rest_of shift) shift 81 0 964 (omega arith)
     (each_five NamesRules named_0 named_1 named_2 named_3 named_4 shift h)
 
+-- kinds of faults that have no place are no fault
+no_places : (ks : List ((ℕ → LoadFault) × List ℕ)) → AllByRecursion (λ (k : (ℕ → LoadFault) × List ℕ). k.1 ≡ []) ks
+    → flat_map (λ (k : (ℕ → LoadFault) × List ℕ). map k.0 k.1) ks ≡ []
+no_places [] h = refl
+no_places (k ∷ ks) h = λ i. map k.0 (h.0 i) ++ no_places ks h.1 i
+
 module _ (rest : List ℕ) where
   abbrev ls : List ℕ
   ls = letters_before rest
@@ -124,43 +127,55 @@ module _ (rest : List ℕ) where
   rules_are (r ∷ rs) [] h = h
   rules_are (r ∷ rs) (q ∷ qs) h = (h.0.drawn, rules_are rs qs h.1)
 
-  no_unknown : (rs : List RuleNode) (qs : List Rule) → AllZip (IsDrawn rest) rs qs
-      → flat_map (unknown_in ls tree) rs ≡ []
-  no_unknown [] [] h = refl
-  no_unknown [] (q ∷ qs) h = absurd h
-  no_unknown (r ∷ rs) [] h = absurd h
-  no_unknown (r ∷ rs) (q ∷ qs) h = λ i. h.0.known i ++ no_unknown rs qs h.1 i
+  -- what has no place in such a rule has none in such rules
+  none_in : (places : RuleNode → List ℕ) → ((r : RuleNode) (q : Rule) → IsDrawn rest r q → places r ≡ [])
+      → (rs : List RuleNode) (qs : List Rule) → AllZip (IsDrawn rest) rs qs → flat_map places rs ≡ []
+  none_in places none [] [] h = refl
+  none_in places none [] (q ∷ qs) h = absurd h
+  none_in places none (r ∷ rs) [] h = absurd h
+  none_in places none (r ∷ rs) (q ∷ qs) h = λ i. none r q h.0 i ++ none_in places none rs qs h.1 i
 
-  no_mistaken : (rs : List RuleNode) (qs : List Rule) → AllZip (IsDrawn rest) rs qs
-      → flat_map (mistaken_in ls tree) rs ≡ []
-  no_mistaken [] [] h = refl
-  no_mistaken [] (q ∷ qs) h = absurd h
-  no_mistaken (r ∷ rs) [] h = absurd h
-  no_mistaken (r ∷ rs) (q ∷ qs) h = λ i. h.0.right i ++ no_mistaken rs qs h.1 i
+  unknown_none : (qs : List Rule) → AllZip (IsDrawn rest) tree.rules.rules qs → unknown ls tree ≡ []
+  unknown_none qs h = ap (λ (places : List ℕ). flat_map (unknown_section ls tree) tree.parts ++ places)
+      (none_in (unknown_in ls tree) (λ r q d. d.known) tree.rules.rules qs h)
 
-  -- the first fault, where these names are unknown and those on the wrong side in rules
-  abbrev fault_with : List ℕ → List ℕ → Option LoadFault
-  fault_with unknown mistaken = first (flat_map (λ (k : (ℕ → LoadFault) × List ℕ). map k.0 k.1) (
-      (load.Twice, twice ls tree)
-      ∷ (load.Unknown, flat_map (unknown_section ls tree) tree.parts ++ unknown)
-      ∷ (load.NoTerms, flat_map without_terms tree.parts)
-      ∷ (load.TooMany, too_many ls tree)
-      ∷ (load.PointsNotAscending, flat_map falling_points tree.parts)
-      ∷ (load.TermShape, flat_map shapeless_terms tree.parts)
-      ∷ (load.TermOutside, flat_map points_outside tree.parts)
-      ∷ (load.BadRange, flat_map (bad_range (is_declared_as ls tree Input)) tree.parts)
-      ∷ (load.SingletonOutside, flat_map numbers_outside tree.parts)
-      ∷ (load.WeightOutside, flat_map weight_outside tree.rules.rules)
-      ∷ (load.WrongSide, flat_map (mistaken_section ls tree) tree.parts ++ mistaken)
-      ∷ (load.MissingPart, missing_part ls tree)
-      ∷ []))
+  wrong_none : (qs : List Rule) → AllZip (IsDrawn rest) tree.rules.rules qs → wrong_side ls tree ≡ []
+  wrong_none qs h = ap (λ (places : List ℕ). flat_map (mistaken_section ls tree) tree.parts ++ places)
+      (none_in (mistaken_in ls tree) (λ r q d. d.right) tree.rules.rules qs h)
 
-  nothing_else : fault_with [] [] ≡ None
-  nothing_else = refl
-
+  -- all kinds but two come from the variables and the sections alone
   faultless : (qs : List Rule) → AllZip (IsDrawn rest) tree.rules.rules qs → first_fault ls tree ≡ None
-  faultless qs h =
-      (λ i. fault_with (no_unknown tree.rules.rules qs h i) (no_mistaken tree.rules.rules qs h i)) ∙ nothing_else
+  faultless qs h = ap first (no_places (kinds ls tree) (
+    refl,
+    (
+      unknown_none qs h,
+      (
+        refl,
+        (
+          refl,
+          (
+            refl,
+            (
+              refl,
+              (
+                refl,
+                (
+                  refl,
+                  (
+                    refl,
+                    (
+                      refl,
+                      (wrong_none qs h, (refl, tt)),
+                    ),
+                  ),
+                ),
+              ),
+            ),
+          ),
+        ),
+      ),
+    ),
+  ))
 
 is_term : (at j : ℕ) → j < 9 → IsTermOf (term_at at j) (term_number j)
 is_term at zero h = record { a = refl; b = refl; c = refl; d = refl }

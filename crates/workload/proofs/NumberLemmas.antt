@@ -210,7 +210,8 @@ pub write_of-encoded : (at value : ℕ) → at < 65536 → value < 256
     → write_of (encode_upper (at / 256 ∷ at % 256 ∷ [])) (encode_upper (value ∷ []))
     ≡ Some (record { at = at; value = value })
 write_of-encoded at value word byte =
-    let address = read_back (at / 256 ∷ at % 256 ∷ []) (bytes_of_two (at / 256) (at % 256) (omega arith) (omega arith)) in
+    let address =
+    read_back (at / 256 ∷ at % 256 ∷ []) (bytes_of_two (at / 256) (at % 256) (omega arith) (omega arith)) in
     let written = read_back (value ∷ []) (bytes_of_one value byte) in
     let whole : at / 256 * 256 + at % 256 ≡ at = omega arith in
     (λ i. the_write (word_of (address i)) (byte_of (written i)))

@@ -107,9 +107,9 @@ more_spelled Spells [] (x ∷ es) row e h is = absurd h
 more_spelled Spells (r ∷ rows) [] row e h is = absurd h
 more_spelled Spells (r ∷ rows) (x ∷ es) row e h is = (h.0, more_spelled Spells rows es row e h.1 is)
 
-pub writes_more : {E : Type 0} (Spells : Fields → E → Type 0) (text next : List ℕ) (es more : List E) (row : Fields) (e : E)
-    → Writes Spells text es → IsRow row → Spells row e → next ≡ text ++ row_text default_writer row → more ≡ es ++ (e ∷ [])
-    → Writes Spells next more
+pub writes_more : {E : Type 0} (Spells : Fields → E → Type 0) (text next : List ℕ) (es more : List E) (row : Fields)
+    (e : E) → Writes Spells text es → IsRow row → Spells row e → next ≡ text ++ row_text default_writer row
+    → more ≡ es ++ (e ∷ []) → Writes Spells next more
 writes_more Spells text next es more row e h is spells next_is more_is = record {
   rows = h.rows ++ (row ∷ []);
   are = more_rows h.rows row h.are is;

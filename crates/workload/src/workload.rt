@@ -41,6 +41,7 @@ pub fn generate(alloc: Global, number: u32) -> Result<Workload, Memory>
     workload_of(alloc, number).map_err(|_| Memory)
 }
 
+/// The same, where what wants memory says so.
 fn workload_of(alloc: Global, number: u32) -> Result<Workload, AllocError>
     ensures workload { IfOk result (λ w.
         IsWorkload number w.text.items w.trace.items w.plan.items w.block w.samples.items w.requests) }

@@ -7,7 +7,8 @@ use Rattle.workload.specs.Draws.{state_after}
 use Rattle.workload.specs.Texts.{sample_fields}
 use Rattle.workload.specs.Workloads.{drawn_values, place}
 use Rattle.workload.proofs.RowLemmas.{writes_more}
-use Rattle.workload.proofs.TraceLemmas.{pair, sample_length, sample_row, samples_drawn, spells_drawn, trace_spells, values_more}
+use Rattle.workload.proofs.TraceLemmas.{pair, sample_length, sample_row, samples_drawn, spells_drawn, trace_spells}
+use Rattle.workload.proofs.TraceLemmas.{values_more}
 use Rattle.workload.proofs.traces.drawn_trace.Goals as goal
 
 abbrev pair_of : ℕ × ℕ → List Dec
