@@ -3,3 +3,6 @@ pub mod ReadLemmas
 pub mod RunLemmas
 pub mod StatusLemmas
 pub mod UsageLemmas
+pub mod KeepsLemmas
+pub mod CompletenessLemmas
+pub mod FlagsLemmas

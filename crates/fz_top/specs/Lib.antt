@@ -1,3 +1,4 @@
 pub mod Commands
+pub mod Keeping
 pub mod Reads
 pub mod Runs

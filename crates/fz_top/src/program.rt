@@ -4,6 +4,7 @@ ghost use Rattle.fz_shelf.specs.Told.{gained, HasRoom};
 ghost use Rattle.fz_status.specs.Words.{texts_of};
 ghost use Rattle.fz_top.specs.Commands.{command_in, inputs_of, IsUsage, Makes};
 ghost use Rattle.build_commands.specs.SeenOutputs.{SeenOutput};
+ghost use Rattle.fz_top.specs.Keeping.{AcceptedIsDone, OkKeepsPromise};
 ghost use Rattle.fz_top.specs.Reads.{names_at, AreThere};
 ghost use Rattle.fz_top.specs.Runs.{world, Runs, IsReady, IsReadFault, IsWriteFault, IsTooLong, AreKnown, CanBeDone};
 ghost use Rattle.fz_top.specs.Runs.{HasNoFault, IsMade, RoomFor, Settles};
@@ -18,6 +19,7 @@ use crate::reading::{Stop, read_all};
 use fz_shelf::{Shelf, Sink};
 use fz_status::{Status, report};
 use fz_words::Refusal;
+use promise::{accepted_files_make_output, certified_runs_keep_promise};
 use std::alloc::Global;
 
 /// Does what the words ask for.
@@ -74,6 +76,12 @@ pub fn fuzz12<S: Shelf, O: Sink, F: Sink>(
         (world (S.files shelf.new) (S.counts shelf.new) (S.asked shelf.new) (O.told out.new) (O.faults out.new))
         result }
 
+    // with the words of `run` or `run16` and Ok the program's one sentence holds
+    ensures promise { OkKeepsPromise (texts_of words.now)
+        (world (S.files shelf.old) (S.counts shelf.old) (S.asked shelf.old) (O.told out.old) (O.faults out.old))
+        (world (S.files shelf.new) (S.counts shelf.new) (S.asked shelf.new) (O.told out.new) (O.faults out.new))
+        result }
+
     // want of memory has the status of its own alone
     ensures carried { CarriesNoMemory result }
 
@@ -106,6 +114,12 @@ pub fn fuzz12<S: Shelf, O: Sink, F: Sink>(
         × RoomFor (texts_of words.now) (S.files shelf.old) (O.told out.old) (Makes command contents))
         → (result ≡ Status.Ok) ⊎ (result ≡ Status.Memory) }
 
+    // and a run whose files are accepted is done, unless a count rose
+    ensures accepted { AcceptedIsDone (texts_of words.now)
+        (world (S.files shelf.old) (S.counts shelf.old) (S.asked shelf.old) (O.told out.old) (O.faults out.old))
+        (world (S.files shelf.new) (S.counts shelf.new) (S.asked shelf.new) (O.told out.new) (O.faults out.new))
+        (S.reliable shelf.old × O.reliable out.old) result }
+
     // err
     ensures quiet { result ≡ Status.Ok → (F.told err.new ≡ F.told err.old) × (F.faults err.new ≡ F.faults err.old) }
     ensures line { (result ≡ Status.Ok → ⊥)
@@ -120,6 +134,8 @@ pub fn fuzz12<S: Shelf, O: Sink, F: Sink>(
     ensures err_reliable { F.reliable err.old → F.reliable err.new }
 {
     outputs_have_no_fault();
+    certified_runs_keep_promise();
+    accepted_files_make_output();
     let status = run(alloc, words, shelf, out);
     report(err, words, &status);
     status

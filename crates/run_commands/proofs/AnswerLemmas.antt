@@ -1,12 +1,12 @@
 -- A certified run, and what refuses one.
-use Rattle.std.proofs.Common.{◌≡◌, ℕ, List, subst}
+use Rattle.std.proofs.Common.{◌≡◌, ℕ, List, refl, subst}
 use Rattle.std.specs.Prelude.{map}
 use Rattle.fuzzy_meaning.specs.declared.block.Block.{Block}
 use Rattle.codegen.specs.declared.firmware.Firmware.{Firmware}
 use Rattle.interrupt_plan.specs.declared.Request.{Request}
 use Rattle.trace_io.specs.declared.sample.Sample.{Sample}
 use Rattle.run_law.specs.Forms.{RowSeen}
-use Rattle.fz_run.specs.Answering.{AnswersItsBlock}
+use Rattle.fz_run.specs.Answering.{AnswersItsBlock, AnswersUnderPlans}
 use Rattle.fz_run.specs.Rows.{firmware_rows, input_bytes}
 use Rattle.srecord.specs.Texts.{GivesImage}
 use Rattle.fz_status.specs.declared.status.Status.{Status}
@@ -16,7 +16,7 @@ use Rattle.run_reports.specs.Inputs.{input_refusals}
 use Rattle.run_reports.specs.Laws.{AnswersAreReported}
 use Rattle.run_reports.specs.Reports.{report_of}
 use Rattle.run_commands.specs.CertifiedRun.{CertifiedRun, Files, left_of}
-use Rattle.run_commands.specs.Run.{Accepts, run_refusals}
+use Rattle.run_commands.specs.Run.{AcceptedRunsMakeOutput, Accepts, run_refusals}
 use Rattle.run_commands.specs.declared.run.Run.{Run}
 
 -- what it answers of accepted files is a certified run
@@ -49,6 +49,21 @@ certifies reported run files block firmware errors samples slice plan rows left 
       left_is = subst (λ (ss : List Sample). left
           ≡ left_of (firmware_rows firmware (map input_bytes ss) plan run.flags).state.mem) same left_is;
     }
+
+-- accepted files make an output
+pub accepted_made : AnswersAreReported → AnswersUnderPlans → AcceptedRunsMakeOutput
+accepted_made reported under run files block firmware errors samples plan byte a =
+    let bytes = map input_bytes samples in
+    let all = firmware_rows firmware bytes plan run.flags in (
+      _,
+      record {
+        report = report_of errors firmware.instr_bound all.rows;
+        certified = certifies reported run files block firmware errors samples samples plan all.rows
+            (left_of all.state.mem) a refl refl (under firmware run.flags bytes plan byte a.inputs.good_plan.good) refl;
+        output_is = refl;
+      },
+      refl,
+    )
 
 -- what refuses the files behind IMAGE refuses the run
 pub run_refused : (run : Run) (files : Files) (block : Block) (firmware : Firmware)

@@ -1,5 +1,5 @@
 -- The commands `run FCL IMAGE CERT TRACE PLAN FLAGS` and `run16`, with answers of 16 bits.
-use Rattle.std.specs.Prelude.{◌≡◌, ℕ, List, [], ◌∷◌, ◌++◌, codes, Option, None, option_map}
+use Rattle.std.specs.Prelude.{◌≡◌, ◌<◌, ◌^◌, ℕ, List, [], ◌∷◌, ◌++◌, codes, Option, None, option_map}
 use Rattle.std.specs.Prelude.{Result, Ok, Err}
 use Rattle.fuzzy_meaning.specs.declared.block.Block.{Block}
 use Rattle.codegen.specs.declared.firmware.Firmware.{Firmware}
@@ -75,3 +75,10 @@ run_refusals run files s = OfFirmware run.width files.fcl (λ block firmware.
 abbrev pub RunMakes : Run → Files → Result SeenOutput Status → Type 0
 RunMakes run files (Ok output) = RunGives run files output
 RunMakes run files (Err s) = Refuses (run_refusals run files) s
+
+-- files that are accepted make an output, with the errors that the certificate is accepted with
+abbrev pub AcceptedRunsMakeOutput : Type 0
+AcceptedRunsMakeOutput = (run : Run) (files : Files) (block : Block) (firmware : Firmware) (errors : List ℕ)
+    (samples : List Sample) (plan : List Request) → run.flags < 2 ^ 8
+    → Accepts run.width files block firmware errors samples plan
+    → (output : SeenOutput) × (gives : RunGives run files output) × (gives.report.errors ≡ errors)

@@ -9,7 +9,7 @@ ghost use Rattle.build_commands.specs.Contents.{bytes_of};
 ghost use Rattle.build_commands.specs.SeenOutputs.{OutputHasNoFault, IsResultOf};
 ghost use Rattle.run_reports.specs.Reports.{report_of};
 ghost use Rattle.run_commands.specs.CertifiedRun.{Files, left_of};
-ghost use Rattle.run_commands.specs.Run.{Accepts, RunMakes, files_in, run_in, run_lines, run_refusals};
+ghost use Rattle.run_commands.specs.Run.{Accepts, AcceptedRunsMakeOutput, RunMakes, files_in, run_in, run_lines, run_refusals};
 ghost use Rattle.run_commands.specs.declared.run.Run.{Run as TheRun};
 
 use build_commands::contents::content;
@@ -23,6 +23,7 @@ use build_commands::words::flags;
 use cpu12_isa::mem::Mem;
 use cpu12_isa::pages::PageMem;
 use eval_code::Width;
+use fz_run::laws::answers_under_plans;
 use fz_run::{Row, run_on};
 use fz_status::{Status, word};
 use run_reports::inputs::{Inputs, inputs_of};
@@ -135,4 +136,12 @@ pub fn certified_runs_have_no_fault()
     given_firmwares_are_one();
     given_images_have_no_fault();
     accepted_inputs_have_no_fault()
+}
+
+/// Files that are accepted make an output.
+pub fn accepted_runs_make_output()
+    ensures { AcceptedRunsMakeOutput }
+{
+    answers_are_reported();
+    answers_under_plans()
 }

@@ -1,6 +1,9 @@
-use Rattle.std.proofs.Common.{inl, inr}
-use Rattle.fz_status.specs.Words.{texts_of}
+use Rattle.std.proofs.Common.{inl, inr, ⊎_elim}
+use Rattle.fz_status.specs.Words.{texts_of, word_at}
+use Rattle.fz_top.proofs.FlagsLemmas.{flags_small}
+use Rattle.fz_top.proofs.CompletenessLemmas.{asked, can, contents_of, room_for}
 use Rattle.fz_top.proofs.FaultLemmas.{carries}
+use Rattle.fz_top.proofs.KeepsLemmas.{ok_keeps}
 use Rattle.fz_top.proofs.RunLemmas.{does, no_read_fault, no_write_fault, settles, completes, known_there, long_status}
 use Rattle.fz_top.proofs.RunLemmas.{usage_status, usage_cause}
 use Rattle.fz_top.proofs.program.fuzz12.Goals as goal
@@ -42,3 +45,17 @@ returns-clause-done g c = λ command contents output can why.
 
 pub returns-clause-carried : goal.returns-clause-carried
 returns-clause-carried g c = carries (texts_of c.args.words.now) _ _ _ c.run-status.ensures.runs
+
+pub returns-clause-promise : goal.returns-clause-promise
+returns-clause-promise g c =
+    ok_keeps c.certified_runs_keep_promise.ensures (texts_of c.args.words.now) _ _ _ c.run-status.ensures.runs
+
+pub returns-clause-accepted : goal.returns-clause-accepted
+returns-clause-accepted g c = λ width flags files are told accepted why.
+    let words = texts_of c.args.words.now in
+    let byte = flags_small (word_at words 7) flags are.run.flags_are in
+    let keep = c.certified_runs_keep_promise.ensures in
+    let made = c.accepted_files_make_output.ensures width flags files byte accepted in
+    let it = can words width flags files _ made.0 are told made.1 in
+    returns-clause-done g c (asked width flags) (contents_of files) made.0 it
+    (⊎_elim inl (λ r. inr (r.0.0, r.0.1, room_for keep words width flags files _ _ byte r.1)) why)

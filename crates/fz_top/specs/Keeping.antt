@@ -1,0 +1,81 @@
+-- The promise of the call, and when it is kept.
+use Rattle.build_commands.specs.Words.{flags_of}
+use Rattle.eval_code.specs.declared.width.Width.{Width}
+use Rattle.eval_code.specs.declared.width.Width.TheVariants.{Byte, Word}
+use Rattle.fz_shelf.specs.Files.{File, Names, known, Holds}
+use Rattle.fz_shelf.specs.Told.{HasRoom, Taken, gained}
+use Rattle.fz_status.specs.Words.{Text, word_at}
+use Rattle.fz_status.specs.declared.status.Status.{Status}
+use Rattle.fz_top.specs.Runs.{HasNoFault, World}
+use Rattle.fz_words.specs.Table.{any_hyphen}
+use Rattle.promise.specs.Laws.{AreAccepted}
+use Rattle.promise.specs.Promise.{Promise}
+use Rattle.run_commands.specs.CertifiedRun.{Files}
+use Rattle.run_reports.specs.Reports.{Report}
+use Rattle.std.specs.Prelude.{◌≡◌, ◌≤◌, ℕ, List, codes, length, Some, ◌⊎◌, false, Option}
+use Rattle.fz_status.specs.declared.status.Status.TheVariants as status
+
+-- ---- the promise of the call
+
+abbrev pub run_name : Width → Text
+run_name Byte = codes "run"
+run_name Word = codes "run16"
+
+-- the words are `run FCL IMAGE CERT TRACE PLAN FLAGS`, or `run16 ..`
+pub record IsRun (words : List Text) (width : Width) (flags : ℕ) : Type 0 where
+  pub name : word_at words 1 ≡ run_name width
+  pub flags_are : flags_of (word_at words 7) ≡ Some flags
+
+-- the contents are those of the files that the words name, where the shelf tells them
+pub record AreOf (words : List Text) (names : Names) (files : Files) : Type 0 where
+  pub fcl : Holds (names (word_at words 2)) files.fcl
+  pub image : Holds (names (word_at words 3)) files.image
+  pub cert : Holds (names (word_at words 4)) files.cert
+  pub trace : Holds (names (word_at words 5)) files.trace
+  pub plan : Holds (names (word_at words 6)) files.plan
+
+-- out has gained lines that keep the promise over the files' contents
+pub record KeepsPromise (words : List Text) (width : Width) (flags : ℕ) (old new : World) : Type 0 where
+  pub files : Files
+  pub are : AreOf words old.files files
+  pub text : List ℕ
+  pub put : new.told ≡ gained old.told text
+  pub report : Report
+  pub promise : Promise width flags files report text
+
+-- so it is where a run is Ok
+abbrev pub OkKeepsPromise : List Text → World → World → Status → Type 0
+OkKeepsPromise words old new s = s ≡ status.Ok → (width : Width) (flags : ℕ) → IsRun words width flags
+    → KeepsPromise words width flags old new
+
+-- the words are those of a run, eight with the program's name, and none behind that begins with a hyphen
+pub record AreRunWords (words : List Text) (width : Width) (flags : ℕ) : Type 0 where
+  pub run : IsRun words width flags
+  pub count : length words ≡ 8
+  pub plain : any_hyphen words ≡ false
+
+-- the shelf tells a file of these bytes, not too long
+pub record IsTold (file : File) (bytes : List ℕ) : Type 0 where
+  pub room : ℕ
+  pub told : file ≡ known bytes room
+  pub short : length bytes ≤ 1048576
+
+pub record AreTold (words : List Text) (names : Names) (files : Files) : Type 0 where
+  pub fcl : IsTold (names (word_at words 2)) files.fcl
+  pub image : IsTold (names (word_at words 3)) files.image
+  pub cert : IsTold (names (word_at words 4)) files.cert
+  pub trace : IsTold (names (word_at words 5)) files.trace
+  pub plan : IsTold (names (word_at words 6)) files.plan
+
+-- there is room for the lines, whichever keep the promise
+abbrev pub HasRoomForLines : Width → ℕ → Files → Option Taken → Type 0
+HasRoomForLines width flags files told =
+    (report : Report) (text : List ℕ) → Promise width flags files report text → HasRoom told (length text)
+
+-- Then the status is Ok, or Memory, where no count rose; and also where shelf and out are reliable with room.
+abbrev pub AcceptedIsDone : List Text → World → World → Type 0 → Status → Type 0
+AcceptedIsDone words old new Reliable s =
+    (width : Width) (flags : ℕ) (files : Files) → AreRunWords words width flags
+    → AreTold words old.files files → AreAccepted width files
+    → HasNoFault old new ⊎ (Reliable × HasRoomForLines width flags files old.told)
+    → (s ≡ status.Ok) ⊎ (s ≡ status.Memory)

@@ -1,0 +1,61 @@
+-- Accepted files make an output.
+use Rattle.std.proofs.Common.{length, refl}
+use Rattle.fuzzy_meaning.specs.declared.block.Block.{Block}
+use Rattle.cpu12_asm.specs.declared.image.Image.{Image}
+use Rattle.codegen.specs.Firmwares.{IsFirmwareOf}
+use Rattle.codegen.specs.Images.{IsImageOf, firmware_items}
+use Rattle.codegen.specs.declared.firmware.Firmware.{Firmware}
+use Rattle.eval_code.specs.Bounds.{instruction_bound, step_bound}
+use Rattle.eval_code.specs.MemoryMaps.{main_map}
+use Rattle.eval_code.specs.Widths.{is_wide}
+use Rattle.eval_code.specs.declared.width.Width.{Width}
+use Rattle.eval_code.specs.declared.width.Width.TheVariants.{Byte, Word}
+use Rattle.run_commands.specs.CertifiedRun.{Files}
+use Rattle.run_commands.specs.Run.{AcceptedRunsMakeOutput, Accepts, run_lines, run_with}
+use Rattle.promise.specs.Laws.{AcceptedFilesKeepPromise, AcceptedFilesMakeOutput, AreAccepted, CertifiedRunsKeepPromise}
+
+-- ---- the firmware of accepted files
+
+abbrev firmware_with : Width → Block → Image → Firmware
+firmware_with width b image = record {
+  image = image;
+  memory_map = main_map;
+  inputs = length b.inputs;
+  outputs = length b.outputs;
+  wide = is_wide width;
+  instr_bound = instruction_bound width b;
+  step_bound = step_bound width b;
+}
+
+is_firmware : (width : Width) (b : Block) (image : Image) → IsImageOf (firmware_items main_map b width) image
+    → IsFirmwareOf b (firmware_with width b image)
+is_firmware Byte b image is =
+    record { image = is; memory_map = refl; inputs = refl; outputs = refl; instructions = refl; steps = refl }
+is_firmware Word b image is =
+    record { image = is; memory_map = refl; inputs = refl; outputs = refl; instructions = refl; steps = refl }
+
+pub accepts : (width : Width) (files : Files) (a : AreAccepted width files)
+    → Accepts width files a.block (firmware_with width a.block a.image) a.errors a.samples a.plan
+accepts width files a = record {
+  compiled = record {
+    spelled = a.spelled;
+    limits = a.limits;
+    compiled = is_firmware width a.block a.image a.image_is;
+    wide = refl;
+  };
+  image = a.records;
+  inputs = record { accepted = a.accepted; in_range = a.in_range; good_plan = a.good_plan };
+}
+
+-- what a run of them gives
+pub made_of : AcceptedRunsMakeOutput → AcceptedFilesMakeOutput
+made_of made width flags files byte a =
+    made (run_with width flags) files a.block (firmware_with width a.block a.image) a.errors a.samples a.plan byte
+    (accepts width files a)
+
+pub accepted_keep : CertifiedRunsKeepPromise → AcceptedFilesMakeOutput → AcceptedFilesKeepPromise
+accepted_keep keep made width flags files byte a =
+    let gives = made width flags files byte a in
+    let run = gives.1 in
+    let report = run.report in
+    (report, gives.2, run_lines report run.certified.left, keep width flags files report run.certified byte)

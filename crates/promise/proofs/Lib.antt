@@ -1,0 +1,5 @@
+pub mod AcceptedLemmas
+pub mod BenchLemmas
+pub mod OtherLemmas
+pub mod PrintedLemmas
+pub mod PromiseLemmas

@@ -1,0 +1,80 @@
+-- The other runs keep the promise.
+use Rattle.std.proofs.Common.{◌∙◌, refl, sym, arith}
+use Rattle.eval_code.specs.declared.width.Width.TheVariants.{Byte}
+use Rattle.two_runs.specs.Answering.{plan_of}
+use Rattle.std.proofs.Common.{List, map, subst}
+use Rattle.run_law.specs.Forms.{RowSeen}
+use Rattle.run_law.specs.Moments.{TakenAtOnce}
+use Rattle.watched_code.specs.Watched.{Watched}
+use Rattle.watched_runs.specs.Forms.{FactsWatched, watched_form}
+use Rattle.watched_runs.specs.Rows.{upset_rows}
+use Rattle.watched_runs.specs.Samples.{with_upsets}
+use Rattle.fz_run.specs.Rows.{first_state, input_bytes}
+use Rattle.promise.specs.Bench.{AreReadOff, requests_in}
+use Rattle.promise.proofs.BenchLemmas.{read_off_expected}
+use Rattle.promise.specs.OtherRuns.{DebuggedRunsServe, WatchedRunsServe, GeneratedRunsServe, HandledRunsServe, OtherRunsServe, SlowRunsServe}
+use Rattle.promise.specs.Laws.{AnswersServe}
+
+generated : AnswersServe → GeneratedRunsServe
+generated keep number output g =
+    keep Byte 0 g.block g.firmware (map input_bytes g.samples) g.requests g.report.rows (omega arith) g.gives.spelled.valid g.gives.limits
+    g.gives.compiled g.gives.wide g.reported.ran g.reported.follows
+
+debugged : AnswersServe → DebuggedRunsServe
+debugged keep debug files output d byte =
+    keep Byte debug.flags d.block d.firmware (map input_bytes d.samples) d.plan d.rows byte
+    d.accepts.compiled.spelled.valid d.accepts.compiled.limits d.accepts.compiled.compiled d.accepts.compiled.wide d.ran
+    d.follows
+
+handled : AnswersServe → HandledRunsServe
+handled keep flags files report h byte = record {
+  serves = keep Byte flags h.block h.firmware (map input_bytes h.samples) h.plan (map (λ row. row.row) report.rows) byte h.compiled.spelled.valid
+      h.compiled.limits h.compiled.compiled h.compiled.wide h.reported.ran h.reported.follows;
+  last = _;
+  ran = record {
+    most = h.firmware.step_bound;
+    arrived = h.interrupts.arrived;
+    rows_are = h.reported.ran ∙ sym h.interrupts.rows_are;
+    last_is = refl;
+  };
+}
+
+slow : AnswersServe → SlowRunsServe
+slow keep flags files report l byte = record {
+  serves = keep Byte flags l.slow l.two.slow (map input_bytes l.samples) (plan_of l.levels) (map (λ row. row.row) report.rows) byte
+      l.accepts.compiled.slow_is.spelled.valid l.accepts.compiled.slow_is.limits
+      l.accepts.compiled.both.slow_alone.firmware l.accepts.compiled.both.slow_alone.narrow l.reported.ran l.reported.follows;
+  last = _;
+  ran = record {
+    most = l.two.slow.step_bound;
+    arrived = l.answers.arrived;
+    rows_are = l.reported.ran ∙ sym l.answers.rows_are;
+    last_is = refl;
+  };
+}
+
+watched : TakenAtOnce → WatchedRunsServe
+watched law flags files report w =
+    let form = watched_form flags w.firmware in
+    let samples = with_upsets w.upsets (map input_bytes w.samples) in
+    let first = first_state w.firmware flags in
+    let all = upset_rows w.firmware (map input_bytes w.samples) w.plan w.upsets flags in
+    record {
+      rows = all.rows;
+      seen = w.ran;
+      last = all.state;
+      ran = record {
+        most = w.firmware.step_bound;
+        arrived = w.answers.follows.arrived;
+        rows_are = refl;
+        last_is = refl;
+      };
+      without = subst (λ (rows : List (RowSeen Watched)). AreReadOff form (requests_in w.plan) 1 samples rows first)
+          (sym w.answers.follows.rows_are)
+          (read_off_expected law (FactsWatched flags) (λ u p. p.facts.unmasked) form (requests_in w.plan) 1
+          w.answers.steps samples first w.answers.complete);
+    }
+
+pub others_serve : TakenAtOnce → AnswersServe → OtherRunsServe
+others_serve law keep =
+    record { debugged = debugged keep; generated = generated keep; handled = handled keep; slow = slow keep; watched = watched law }

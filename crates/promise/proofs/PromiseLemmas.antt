@@ -1,0 +1,164 @@
+-- A certified run keeps its promise.
+use Rattle.std.proofs.Common.{◌≡◌, ◌<◌, ◌≤◌, ◌^◌, ◌∙◌, ℕ, List, [], refl, sym, ap, subst, arith}
+use Rattle.std.specs.Prelude.{length, map, min, All, Bool, true, false, if◌then◌else◌, Option, Some, None, slice_get}
+use Rattle.std.specs.Prelude.{slice_index_or, ◌==◌, ◌*◌, ◌+◌, ◌-◌}
+use Rattle.std.proofs.Common.{inl, inr}
+use Rattle.std.specs.Option.{option_map_or}
+use Rattle.std.proofs.lemmas.Option.{slice_get-get_or, slice_get_cases}
+use Rattle.fz_num.specs.declared.dec.Dec.{Dec}
+use Rattle.fz_num.specs.Decimals.{distance}
+use Rattle.fz_num.specs.Fractions.{over}
+use Rattle.fuzzy_meaning.specs.declared.block.Output.{Output}
+use Rattle.box_tree.specs.declared.cert.Cert.{Cert}
+use Rattle.error_bound.specs.declared.boxes.Leaf.{Leaf}
+use Rattle.error_bound.specs.Bounds.{bound as leaf_bound, errors_from, in_millionths, offset, silent_bound, strong_bound}
+use Rattle.cert_check.specs.Acceptance.{IsAccepted}
+use Rattle.eval_code.specs.Widths.{parts}
+use Rattle.std.proofs.lemmas.List.Elements.{All-nil}
+use Rattle.fuzzy_meaning.specs.Blocks.{IsValid}
+use Rattle.rule_layout.specs.Layouts.{IsWithinLimits}
+use Rattle.fuzzy_meaning.specs.declared.block.Block.{Block}
+use Rattle.cpu12_parts.specs.State.{State}
+use Rattle.cpu12_emul.specs.Image.{image_memory}
+use Rattle.cpu12_emul.specs.Step.{reset_with}
+use Rattle.codegen.specs.Answers.{FirmwareAnswers}
+use Rattle.codegen.specs.Firmwares.{IsFirmwareOf}
+use Rattle.codegen.specs.declared.firmware.Firmware.{Firmware}
+use Rattle.eval_code.specs.Bounds.{BoundsAreFew, instruction_bound, step_bound, steps_by}
+use Rattle.eval_code.specs.Widths.{is_wide, width_of}
+use Rattle.eval_code.specs.declared.memory_map.MemoryMap.{MemoryMap}
+use Rattle.eval_code.specs.declared.width.Width.{Width}
+use Rattle.interrupt_plan.specs.declared.Request.{Request}
+use Rattle.run_law.specs.Forms.{Form, RowSeen}
+use Rattle.run_forms.specs.Arrival.{ArrivesPlainly, PlainIsOneStep}
+use Rattle.fz_run.specs.Answering.{AnswersUnder}
+use Rattle.fz_run.specs.Forms.{with_writes}
+use Rattle.fz_run.specs.Rows.{firmware_rows, first_state, input_bytes}
+use Rattle.run_commands.specs.Run.{run_lines}
+use Rattle.promise.specs.Bench.{AreReadOff, IsFirstAtLoop, IsRunOf, bench, loop, requests_in}
+use Rattle.promise.specs.Laws.{AnswersServe, CertifiedRunsKeepPromise}
+use Rattle.promise.specs.Promise.{Serves}
+use Rattle.promise.proofs.BenchLemmas.{bench_is, reaches, read_off}
+
+enough_steps : (w : Width) (b : Block) → length b.outputs ≤ 4 → 3 ≤ step_bound w b
+unfolding steps_by instruction_bound
+enough_steps w b few = omega arith
+
+module _ (answers : FirmwareAnswers) (one : PlainIsOneStep) (arrives : ArrivesPlainly) (width : Width) (flags : ℕ)
+    (b : Block) (f : Firmware) (bytes : List (List ℕ)) (plan : List Request) (rows : List (RowSeen (List ℕ)))
+    (byte : flags < 2 ^ 8) (valid : IsValid b) (limits : IsWithinLimits b) (compiled : IsFirmwareOf b f)
+    (wide : f.wide ≡ is_wide width) (ran_so : rows ≡ (firmware_rows f bytes plan flags).rows)
+    (r : AnswersUnder b f flags bytes plan rows) where
+  abbrev start : State
+  start = reset_with (image_memory f.image.bytes)
+
+  abbrev first : State
+  first = first_state f flags
+
+  form : with_writes flags f ≡ bench width (length b.outputs) flags
+  form = bench_is flags f width (length b.outputs) compiled.memory_map wide compiled.outputs
+
+  waits : IsFirstAtLoop flags f.image first
+  waits =
+      let from_reset = answers b f valid limits compiled flags [] byte (All-nil _) in
+      let arrived = from_reset.1.0 in
+      let wait = f.memory_map.wait in
+      let enough : 3 ≤ f.step_bound =
+      subst (λ (n : ℕ). 3 ≤ n) (sym compiled.steps) (enough_steps (width_of f.wide) b valid.few_outputs) in
+      let there : first ≡ from_reset.0 =
+      arrives flags wait 3 f.step_bound start from_reset.0 refl arrived.execution arrived.wait enough in
+      let at_loop : wait ≡ loop = ap (λ (m : MemoryMap). m.wait) compiled.memory_map in
+      let reached = reaches one flags wait 3 start from_reset.0 refl arrived.execution in
+      record {
+        steps = 3;
+        state = there ∙ reached.state;
+        there = ap (λ (s : State). s.regs.pc) there ∙ (arrived.wait ∙ at_loop);
+        before = λ j lt is. reached.before j lt (is ∙ sym at_loop);
+      }
+
+  abbrev last : State
+  last = (firmware_rows f bytes plan flags).state
+
+  ran : IsRunOf (bench width (length b.outputs) flags) (requests_in plan) bytes first rows last
+  ran = subst (λ (g : Form (List ℕ) Request (Unit {0})). IsRunOf g (requests_in plan) bytes first rows last)
+      form (record {
+        most = f.step_bound;
+        arrived = r.follows.arrived;
+        rows_are = ran_so;
+        last_is = refl;
+      })
+
+  without : AreReadOff (bench width (length b.outputs) flags) (requests_in plan) 1 bytes rows first
+  without = subst (λ (g : Form (List ℕ) Request (Unit {0})). AreReadOff g (requests_in plan) 1 bytes rows first)
+      form (subst (λ (rows : List (RowSeen (List ℕ))).
+      AreReadOff (with_writes flags f) (requests_in plan) 1 bytes rows first) (sym r.rows_are)
+      (read_off _ flags f plan 1 r.ns bytes first r.complete))
+
+  pub served : Serves width (length b.outputs) flags f.image bytes plan rows
+  served = record { first = first; waits = waits; last = last; ran = ran; without = without }
+
+pub answers_serve : FirmwareAnswers → PlainIsOneStep → ArrivesPlainly → AnswersServe
+answers_serve answers one arrives = λ width flags b f bytes plan rows byte valid limits compiled wide ran r.
+    served answers one arrives width flags b f bytes plan rows byte valid limits compiled wide ran r
+
+-- ---- the printed numbers are small
+
+min_le : (n m : ℕ) → min n m ≤ n
+min_le n m = omega arith
+
+either_le : (c : Bool) (p q n : ℕ) → p ≤ n → q ≤ n → (if c then p else q) ≤ n
+either_le true p q n a b = a
+either_le false p q n a b = b
+
+some_le : (f : Dec → ℕ) (n : ℕ) → ((d : Dec) → f d ≤ n) → (o : Option Dec) → option_map_or f o 0 ≤ n
+some_le f n each None = omega arith
+some_le f n each (Some d) = each d
+
+capped : (b : Block) (e : ℕ → ℕ → ℕ) (o : ℕ) (x : Output) (h : ℕ) (leaf : Leaf) → leaf_bound b e o x h leaf ≤ 1000000
+capped b e o x h leaf = either_le (leaf.k == 0) (silent_bound x)
+    (strong_bound x h (errors_from b e o 1 x.singletons) leaf.k) 1000000
+    (some_le (λ d. in_millionths (over (offset x d) (255 * distance x.lo x.hi))) 1000000 (λ d. min_le 1000000 _) x.default)
+    (min_le 1000000 _)
+
+plus_one : (k : ℕ) → k + 1 - 1 ≡ k
+plus_one k = omega arith
+
+errors_capped : (b : Block) (h : ℕ) (cert : Cert) (errors : List ℕ) → IsAccepted b h cert errors
+    → All (λ e. e ≤ 1000000) errors
+errors_capped b h cert errors a = λ k d lt.
+    let e = slice_index_or errors k d in
+    let at : slice_get errors (k + 1 - 1) ≡ Some e =
+    ap (slice_get errors) (plus_one k) ∙ slice_get-get_or errors k d lt in
+    elim (slice_get_cases b.outputs (k + 1 - 1)).1 [
+      | inl there ↦ (
+          let some = (a.greatest (k + 1) there.0 e (omega arith) there.2 at).some in
+          let has = some.4 in
+          subst (λ (n : ℕ). n ≤ 1000000) (sym has.bound_is.is)
+          (capped b has.bound_is.errors (k + 1) there.0 h has.leaf)
+          )
+      | inr past ↦ absurd (omega (arith, past.0, a.errors_count, lt))
+    ]
+
+pub certified_keep : FirmwareAnswers → PlainIsOneStep → ArrivesPlainly → BoundsAreFew → CertifiedRunsKeepPromise
+unfolding served
+certified_keep answers one arrives few width flags files report r byte = record {
+  block = r.block;
+  spelled = r.compiled.spelled;
+  image = r.firmware.image;
+  records = r.image;
+  samples = r.samples;
+  in_range = r.in_range;
+  plan = r.plan;
+  free_writes = r.good_plan;
+  serves = served answers one arrives width flags r.block r.firmware (map input_bytes r.samples) r.plan report.rows byte
+      r.compiled.spelled.valid r.compiled.limits r.compiled.compiled r.compiled.wide r.reported.ran r.reported.follows;
+  within = r.reported.within;
+  instructions = r.reported.instructions;
+  printable = record {
+    count = r.accepted.accepted.errors_count;
+    errors = errors_capped r.block (parts width) r.accepted.cert report.errors r.accepted.accepted;
+    bound = subst (λ (n : ℕ). n ≤ 2000) (sym r.reported.bound)
+        (few r.block width 0 r.compiled.spelled.valid r.compiled.limits).1;
+  };
+  printed = ap (run_lines report) r.left_is;
+}

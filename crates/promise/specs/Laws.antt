@@ -1,0 +1,75 @@
+-- Laws of the promise.
+use Rattle.build_commands.specs.Certs.{AcceptsCert}
+use Rattle.build_commands.specs.SeenOutputs.{SeenOutput}
+use Rattle.codegen.specs.Firmwares.{IsFirmwareOf}
+use Rattle.codegen.specs.Images.{IsImageOf, firmware_items}
+use Rattle.codegen.specs.declared.firmware.Firmware.{Firmware}
+use Rattle.cpu12_asm.specs.declared.image.Image.{Image}
+use Rattle.eval_code.specs.MemoryMaps.{main_map}
+use Rattle.eval_code.specs.Widths.{is_wide}
+use Rattle.eval_code.specs.declared.width.Width.{Width}
+use Rattle.fcl_check.specs.Texts.{SpellsBlock}
+use Rattle.fuzzy_meaning.specs.Blocks.{IsValid}
+use Rattle.fuzzy_meaning.specs.declared.block.Block.{Block}
+use Rattle.interrupt_plan.specs.PlanTexts.{Spells as SpellsPlan}
+use Rattle.interrupt_plan.specs.declared.Request.{Request}
+use Rattle.promise.specs.Promise.{IsPrintable, Promise, Serves}
+use Rattle.rule_layout.specs.Layouts.{IsWithinLimits}
+use Rattle.run_commands.specs.CertifiedRun.{CertifiedRun, Files}
+use Rattle.run_commands.specs.Run.{RunGives, run_lines, run_with}
+use Rattle.fz_run.specs.Answering.{AnswersUnder}
+use Rattle.fz_run.specs.Rows.{firmware_rows}
+use Rattle.run_law.specs.Forms.{RowSeen}
+use Rattle.run_reports.specs.Reports.{Report}
+use Rattle.srecord.specs.Texts.{GivesImage}
+use Rattle.std.specs.Prelude.{◌≡◌, ◌<◌, ◌^◌, ℕ, List, length}
+use Rattle.trace_io.specs.Traces.{Spells as SpellsTrace}
+use Rattle.trace_io.specs.declared.sample.Sample.{Sample}
+
+-- What a block's firmware answers under a plan is served by its image.
+abbrev pub AnswersServe : Type 0
+AnswersServe = (width : Width) (flags : ℕ) (block : Block) (firmware : Firmware) (samples : List (List ℕ))
+    (plan : List Request) (rows : List (RowSeen (List ℕ))) → flags < 2 ^ 8 → IsValid block → IsWithinLimits block
+    → IsFirmwareOf block firmware → firmware.wide ≡ is_wide width
+    → rows ≡ (firmware_rows firmware samples plan flags).rows
+    → AnswersUnder block firmware flags samples plan rows
+    → Serves width (length block.outputs) flags firmware.image samples plan rows
+
+-- A certified run keeps it.
+abbrev pub CertifiedRunsKeepPromise : Type 0
+CertifiedRunsKeepPromise = (width : Width) (flags : ℕ) (files : Files) (report : Report)
+    (certified : CertifiedRun width flags files report)
+    → flags < 2 ^ 8 → Promise width flags files report (run_lines report certified.left)
+
+-- The text has one list of errors and one bound, whatever report it is of.
+abbrev pub PrintedNumbersAreOne : Type 0
+PrintedNumbersAreOne = (block other : Block) (r s : Report) (left more : ℕ) → IsPrintable block r → IsPrintable other s
+    → run_lines r left ≡ run_lines s more → (r.errors ≡ s.errors) × (r.bound ≡ s.bound)
+
+-- FCL spells a block within the limits, IMAGE holds exactly its image, CERT is a certificate that is accepted, TRACE
+-- spells samples within their ranges, and PLAN a good plan.
+pub record AreAccepted (width : Width) (files : Files) : Type 0 where
+  pub block : Block
+  pub spelled : SpellsBlock files.fcl block
+  pub limits : IsWithinLimits block
+  pub image : Image
+  pub image_is : IsImageOf (firmware_items main_map block width) image
+  pub records : GivesImage files.image image
+  pub errors : List ℕ
+  pub accepted : AcceptsCert width block files.cert errors
+  pub samples : List Sample
+  pub in_range : SpellsTrace block.inputs files.trace samples
+  pub plan : List Request
+  pub good_plan : SpellsPlan files.plan plan
+
+-- Files that are accepted make an output, with the errors that the certificate is accepted with.
+abbrev pub AcceptedFilesMakeOutput : Type 0
+AcceptedFilesMakeOutput = (width : Width) (flags : ℕ) (files : Files) → flags < 2 ^ 8 → (a : AreAccepted width files)
+    → (output : SeenOutput) × (gives : RunGives (run_with width flags) files output) × (gives.report.errors ≡ a.errors)
+
+-- The sentence with no program: accepted files have lines that keep the promise, with the errors that the certificate
+-- is accepted with.
+abbrev pub AcceptedFilesKeepPromise : Type 0
+AcceptedFilesKeepPromise = (width : Width) (flags : ℕ) (files : Files) → flags < 2 ^ 8
+    → (a : AreAccepted width files)
+    → (report : Report) × (report.errors ≡ a.errors) × (text : List ℕ) × Promise width flags files report text

@@ -1,0 +1,4 @@
+pub mod Bench
+pub mod Laws
+pub mod OtherRuns
+pub mod Promise
