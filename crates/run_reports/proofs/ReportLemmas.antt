@@ -8,7 +8,7 @@ use Rattle.fuzzy_meaning.specs.declared.block.Input.{Input}
 use Rattle.box_tree.specs.declared.cert.Cert.{Cert}
 use Rattle.byte_scaling.specs.Cells.{byte_of, bytes_of}
 use Rattle.cert_check.specs.Acceptance.{IsAccepted}
-use Rattle.eval_code.specs.Bounds.{instruction_bound, step_bound}
+use Rattle.eval_code.specs.Bounds.{instruction_bound}
 use Rattle.eval_code.specs.Firing.{AreInputBytes}
 use Rattle.codegen.specs.Uninterrupted.{Answer, AreAnswersOf}
 use Rattle.eval_code.specs.Widths.{answer, is_wide, parts, width_of}
@@ -102,13 +102,10 @@ module _ (near : AnswersAreWithinErrors) (w : Width) (flags : ℕ) (text : List 
   pub reports : IsReportOf w flags block firmware samples plan (report_of errors firmware.instr_bound rows)
   reports = record {
     ran = ran;
-    uninterrupted = under.answers.uninterrupted;
     within = within;
     bound = gives.compiled.instructions ∙ ap (λ (v : Width). instruction_bound v block) width;
     instructions = of_seen (λ a. a.instructions ≤ firmware.instr_bound) answer_of_row rows
         (instructions_within (width_of firmware.wide) block firmware.instr_bound (λ o. 0) (map input_bytes samples)
         (map answer_of_row rows) under.answers.answers);
-    steps = subst (λ (v : Width). All (λ (r : RowSeen (List ℕ)). r.steps ≤ step_bound v block) rows) width
-        under.answers.steps;
     follows = under;
   }

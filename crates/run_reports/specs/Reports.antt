@@ -1,15 +1,14 @@
 -- What a report of a run says.
 use Rattle.std.specs.Prelude.{◌≡◌, ℕ, ◌≤◌, List, All, map}
 use Rattle.fuzzy_meaning.specs.declared.block.Block.{Block}
-use Rattle.eval_code.specs.Bounds.{instruction_bound, step_bound}
-use Rattle.codegen.specs.Uninterrupted.{AreUninterrupted}
+use Rattle.eval_code.specs.Bounds.{instruction_bound}
 use Rattle.eval_code.specs.Widths.{parts}
 use Rattle.codegen.specs.declared.firmware.Firmware.{Firmware}
 use Rattle.eval_code.specs.declared.width.Width.{Width}
 use Rattle.trace_io.specs.declared.sample.Sample.{Sample}
 use Rattle.interrupt_plan.specs.declared.Request.{Request}
 use Rattle.run_law.specs.Forms.{RowSeen}
-use Rattle.fz_run.specs.Answering.{AnswersUnder, answer_of_row}
+use Rattle.fz_run.specs.Answering.{AnswersUnder}
 use Rattle.fz_run.specs.Rows.{firmware_rows, input_bytes}
 use Rattle.certified_run.specs.Nearness.{AreWithinErrors}
 
@@ -30,9 +29,7 @@ report_of errors bound rows = record { errors = errors; bound = bound; rows = ro
 pub record IsReportOf (width : Width) (flags : ℕ) (block : Block) (firmware : Firmware) (samples : List Sample)
     (plan : List Request) (report : Report) : Type 0 where
   pub ran : report.rows ≡ (firmware_rows firmware (map input_bytes samples) plan flags).rows
-  pub uninterrupted : AreUninterrupted firmware flags (map input_bytes samples) (map answer_of_row report.rows)
   pub within : AreWithinErrors (parts width) block report.errors samples report.rows
   pub bound : report.bound ≡ instruction_bound width block
   pub instructions : All (λ row. row.instrs ≤ report.bound) report.rows
-  pub steps : All (λ row. row.steps ≤ step_bound width block) report.rows
   pub follows : AnswersUnder block firmware flags (map input_bytes samples) plan report.rows
