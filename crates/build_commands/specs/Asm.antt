@@ -5,7 +5,7 @@ use Rattle.cpu12_asm.specs.Sources.{Assembles, assembled}
 use Rattle.cpu12_asm.specs.declared.image.Image.{Image}
 use Rattle.build_commands.specs.SeenOutputs.{SeenOutput}
 use Rattle.build_commands.specs.Lines.{line}
-use Rattle.build_commands.specs.Written.{WritesImage}
+use Rattle.build_commands.specs.Written.{HasRecords, WritesImage}
 use Rattle.fz_status.specs.Refusals.{Refusals, Refuses}
 use Rattle.fz_status.specs.declared.status.Status.{Status}
 use Rattle.fz_status.specs.declared.status.Status.TheVariants as status
@@ -30,3 +30,13 @@ source_refusals source s = ⊥
 abbrev pub AsmMakes : List ℕ → Result SeenOutput Status → Type 0
 AsmMakes source (Ok output) = AsmGives source output
 AsmMakes source (Err s) = Refuses (source_refusals source) s
+
+-- the source gives this image, which has records
+pub record AcceptsSource (source : List ℕ) (image : Image) : Type 0 where
+  pub assembles : Assembles source image.bytes
+  pub ascending : IsAscending image.bytes
+  pub start : image.start ≡ start_of image.bytes
+  pub records : HasRecords image
+
+abbrev pub AsmAccepts : List ℕ → Type 0
+AsmAccepts source = (image : Image) × AcceptsSource source image

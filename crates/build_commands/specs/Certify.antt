@@ -5,7 +5,7 @@ use Rattle.fuzzy_meaning.specs.declared.block.Block.{Block}
 use Rattle.eval_code.specs.Widths.{parts}
 use Rattle.codegen.specs.declared.firmware.Firmware.{Firmware}
 use Rattle.eval_code.specs.declared.width.Width.{Width}
-use Rattle.box_tree.specs.Certificates.{CertText}
+use Rattle.box_tree.specs.Certificates.{CertText, IsCert}
 use Rattle.box_tree.specs.Trees.{leaf_count}
 use Rattle.box_tree.specs.declared.cert.CertKind.TheVariants.{Named}
 use Rattle.box_tree.specs.declared.cert.Cert.{Cert}
@@ -80,3 +80,16 @@ abbrev pub HalvedBlocksDoNotStop : Type 0
 HalvedBlocksDoNotStop =
     (width : Width) (target : ℕ) (block : Block) (cert : Cert) (stop : NotReached) → IsValid block
     → IsHalving block (parts width) target cert → StopsHalving width target block stop → ⊥
+
+-- the text gives firmware with answers of this width, and halving its block ends with this certificate, within the
+-- target
+pub record AcceptsTarget (certify : Certify) (text : List ℕ) (block : Block) (firmware : Firmware) (cert : Cert)
+    : Type 0 where
+  pub gives : GivesFirmware certify.width text block firmware
+  pub halving : IsHalving block (parts certify.width) certify.target cert
+  pub within : All (λ error. error ≤ certify.target) cert.claims
+  pub good : IsCert cert
+
+abbrev pub CertifyAccepts : Certify → List ℕ → Type 0
+CertifyAccepts certify text =
+    (block : Block) × (firmware : Firmware) × (cert : Cert) × AcceptsTarget certify text block firmware cert

@@ -1,5 +1,5 @@
 -- Certificates of a text's block.
-use Rattle.std.specs.Prelude.{ℕ, List}
+use Rattle.std.specs.Prelude.{◌≡◌, ℕ, List}
 use Rattle.fuzzy_meaning.specs.Blocks.{IsValid}
 use Rattle.fuzzy_meaning.specs.declared.block.Block.{Block}
 use Rattle.eval_code.specs.Widths.{parts}
@@ -51,3 +51,8 @@ status_of refusal.Memory = status.Memory
 abbrev pub AcceptedCertsHaveNoFault : Type 0
 AcceptedCertsHaveNoFault = (width : Width) (block : Block) (cert errors : List ℕ) (f : CertRefusal) → IsValid block
     → AcceptsCert width block cert errors → HasCertFault width block cert f → ⊥
+
+-- a certificate is accepted with one list of errors
+abbrev pub AcceptedErrorsAreOne : Type 0
+AcceptedErrorsAreOne = (width : Width) (block : Block) (cert errors others : List ℕ) → IsValid block
+    → AcceptsCert width block cert errors → AcceptsCert width block cert others → errors ≡ others

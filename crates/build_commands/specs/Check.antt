@@ -45,3 +45,8 @@ check_refusals check text cert s = ⊥
 abbrev pub CheckMakes : Check → List ℕ → List ℕ → Result SeenOutput Status → Type 0
 CheckMakes check text cert (Ok output) = CheckGives check text cert output
 CheckMakes check text cert (Err s) = Refuses (check_refusals check text cert) s
+
+-- the text gives firmware, and CERT is accepted
+abbrev pub CheckAccepts : Check → List ℕ → List ℕ → Type 0
+CheckAccepts check text cert = (block : Block) × (firmware : Firmware) × (errors : List ℕ)
+    × GivesFirmware check.width text block firmware × AcceptsCert check.width block cert errors

@@ -4,7 +4,7 @@ use Rattle.eval_code.specs.Bounds.{instruction_bound}
 use Rattle.eval_code.specs.declared.width.Width.{Width}
 use Rattle.build_commands.specs.SeenOutputs.{SeenOutput}
 use Rattle.build_commands.specs.Firmwares.{GivesFirmware, text_refusals}
-use Rattle.build_commands.specs.Written.{WritesFirmware}
+use Rattle.build_commands.specs.Written.{GivesRecords, WritesFirmware}
 use Rattle.fz_status.specs.Refusals.{Refuses}
 use Rattle.build_commands.specs.declared.compile.Compile.{Compile}
 use Rattle.fz_status.specs.declared.status.Status.{Status}
@@ -21,3 +21,6 @@ abbrev pub CompileMakes : Compile → List ℕ → Result SeenOutput Status → 
 CompileMakes compile text (Ok output) =
     WritesFirmware (GivesFirmware compile.width text) (instruction_bound compile.width) output
 CompileMakes compile text (Err s) = Refuses (text_refusals text) s
+
+abbrev pub CompileAccepts : Compile → List ℕ → Type 0
+CompileAccepts compile text = GivesRecords (GivesFirmware compile.width text)

@@ -61,3 +61,7 @@ exec_refusals exec text s = records_refusals text s
 abbrev pub ExecMakes : Exec → List ℕ → Result SeenOutput Status → Type 0
 ExecMakes exec text (Ok output) = ExecGives exec text output
 ExecMakes exec text (Err s) = Refuses (exec_refusals exec text) s
+
+-- the text gives an image, whose run arrives
+abbrev pub ExecAccepts : Exec → List ℕ → Type 0
+ExecAccepts exec text = (steps : ℕ) × (last : State) × Ends exec text (end.Arrived steps) last

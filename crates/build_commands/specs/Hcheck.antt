@@ -39,3 +39,7 @@ pub record HcheckGives (text : List ℕ) (output : SeenOutput) : Type 0 where
 abbrev pub HcheckMakes : List ℕ → Result SeenOutput Status → Type 0
 HcheckMakes text (Ok output) = HcheckGives text output
 HcheckMakes text (Err s) = Refuses (handler_refusals text) s
+
+-- the text gives a handler
+abbrev pub HcheckAccepts : List ℕ → Type 0
+HcheckAccepts text = (image : Image) × (instrs : ℕ) × GivesHandler text image instrs

@@ -8,7 +8,7 @@ use Rattle.two_level.specs.declared.two.Two.{Two}
 use Rattle.build_commands.specs.SeenOutputs.{SeenOutput}
 use Rattle.build_commands.specs.Lines.{line}
 use Rattle.build_commands.specs.Twos.{GivesTwo, two_refusals}
-use Rattle.build_commands.specs.Written.{WritesImage}
+use Rattle.build_commands.specs.Written.{HasRecords, WritesImage}
 use Rattle.fz_status.specs.Refusals.{Refuses}
 use Rattle.fz_status.specs.declared.status.Status.{Status}
 
@@ -34,3 +34,8 @@ pub record LcompileGives (slow fast : List ℕ) (output : SeenOutput) : Type 0 w
 abbrev pub LcompileMakes : List ℕ → List ℕ → Result SeenOutput Status → Type 0
 LcompileMakes slow fast (Ok output) = LcompileGives slow fast output
 LcompileMakes slow fast (Err s) = Refuses (two_refusals slow fast) s
+
+-- the texts give blocks and these the firmware of both, whose image has records
+abbrev pub LcompileAccepts : List ℕ → List ℕ → Type 0
+LcompileAccepts slow fast = (slow_block : Block) × (fast_block : Block) × (two : Two)
+    × GivesTwo slow fast slow_block fast_block two × HasRecords two.image

@@ -1,3 +1,4 @@
+pub mod Accepted
 pub mod Asm
 pub mod Certify
 pub mod Certs

@@ -4,7 +4,7 @@ use Rattle.codegen.specs.Mailboxes.{mailbox_bound}
 use Rattle.eval_code.specs.declared.width.Width.TheVariants.{Byte}
 use Rattle.build_commands.specs.SeenOutputs.{SeenOutput}
 use Rattle.build_commands.specs.Firmwares.{GivesMailbox, text_refusals}
-use Rattle.build_commands.specs.Written.{WritesFirmware}
+use Rattle.build_commands.specs.Written.{GivesRecords, WritesFirmware}
 use Rattle.fz_status.specs.Refusals.{Refuses}
 use Rattle.fz_status.specs.declared.status.Status.{Status}
 
@@ -12,3 +12,6 @@ use Rattle.fz_status.specs.declared.status.Status.{Status}
 abbrev pub McompileMakes : List ℕ → Result SeenOutput Status → Type 0
 McompileMakes text (Ok output) = WritesFirmware (GivesMailbox text) (mailbox_bound Byte) output
 McompileMakes text (Err s) = Refuses (text_refusals text) s
+
+abbrev pub McompileAccepts : List ℕ → Type 0
+McompileAccepts text = GivesRecords (GivesMailbox text)

@@ -3,7 +3,7 @@ use Rattle.std.specs.Prelude.{ℕ, List, [], ◌∷◌, Result, Ok, Err}
 use Rattle.watched_code.specs.Watched.{watched_bound}
 use Rattle.build_commands.specs.SeenOutputs.{SeenOutput}
 use Rattle.build_commands.specs.Firmwares.{GivesWatched, text_refusals}
-use Rattle.build_commands.specs.Written.{WritesFirmware}
+use Rattle.build_commands.specs.Written.{GivesRecords, WritesFirmware}
 use Rattle.fz_status.specs.Refusals.{Refuses}
 use Rattle.fz_status.specs.declared.status.Status.{Status}
 
@@ -15,3 +15,6 @@ scompile_inputs = 2 ∷ []
 abbrev pub ScompileMakes : List ℕ → Result SeenOutput Status → Type 0
 ScompileMakes text (Ok output) = WritesFirmware (GivesWatched text) watched_bound output
 ScompileMakes text (Err s) = Refuses (text_refusals text) s
+
+abbrev pub ScompileAccepts : List ℕ → Type 0
+ScompileAccepts text = GivesRecords (GivesWatched text)

@@ -1,5 +1,5 @@
 -- What a command leaves to be written and put.
-use Rattle.std.specs.Prelude.{ℕ, List, None, Option, option_map, Result, Ok, Err}
+use Rattle.std.specs.Prelude.{◌≡◌, ℕ, List, None, Option, option_map, Result, Ok, Err}
 use Rattle.fz_shelf.specs.Lines.{text_of}
 use Rattle.fz_status.specs.declared.status.Status.{Status}
 use Rattle.fz_status.specs.declared.status.Status.TheVariants as status
@@ -16,6 +16,14 @@ only_text t = record { text = t; file = None }
 
 abbrev pub seen_output : Output → SeenOutput
 seen_output w = record { text = text_of w.lines.items; file = option_map (λ p. (p.0, p.1.items)) w.file }
+
+-- some output is made
+abbrev pub HasOutput : (Result SeenOutput Status → Type 0) → Type 0
+HasOutput makes = (output : SeenOutput) × makes (Ok output)
+
+-- and not two of them
+abbrev pub OutputsAreOne : (Result SeenOutput Status → Type 0) → Type 0
+OutputsAreOne makes = (output other : SeenOutput) → makes (Ok output) → makes (Ok other) → output ≡ other
 
 -- what makes an output makes no fault
 abbrev pub OutputHasNoFault : (Result SeenOutput Status → Type 0) → Type 0

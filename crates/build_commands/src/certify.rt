@@ -12,10 +12,10 @@ ghost use Rattle.fz_status.specs.Words.{texts_of};
 ghost use Rattle.build_commands.specs.Certs.{answer_width};
 ghost use Rattle.build_commands.specs.Certify.{CertifyMakes, certify_in, certify_lines, target_refusals};
 ghost use Rattle.build_commands.specs.Certify.{HalvedBlocksDoNotStop};
-ghost use Rattle.build_commands.specs.SeenOutputs.{OutputHasNoFault, IsResultOf};
+ghost use Rattle.build_commands.specs.SeenOutputs.{OutputHasNoFault, OutputsAreOne, IsResultOf};
 ghost use Rattle.build_commands.specs.declared.certify.Certify.{Certify as TheCertify};
 
-use crate::firmware::{firmware_of, spelled_texts_have_no_fault};
+use crate::firmware::{firmware_of, given_firmwares_are_one, spelled_texts_have_no_fault};
 use crate::lines::{labelled, push_errors};
 use crate::output::Output;
 use crate::words::{Number, number_in};
@@ -143,4 +143,12 @@ pub fn certified_texts_have_no_fault()
     spelled_texts_have_no_fault();
     spelled_blocks_are_one();
     halved_blocks_do_not_stop()
+}
+
+/// A text makes at most one output.
+pub fn certify_outputs_are_one()
+    ensures { (certify : TheCertify) (text : List ℕ) → OutputsAreOne (CertifyMakes certify text) }
+{
+    given_firmwares_are_one();
+    answers_are_one()
 }

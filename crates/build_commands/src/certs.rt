@@ -2,7 +2,8 @@
 ghost use Rattle.std.specs.Prelude.{◌≡◌, ◌≤◌, length, IfOk, IfErr, Ok, Err};
 ghost use Rattle.fuzzy_meaning.specs.Blocks.{IsValid};
 ghost use Rattle.cert_check.specs.declared.text.TextFault.{TextFault as TheRefusal};
-ghost use Rattle.build_commands.specs.Certs.{AcceptedCertsHaveNoFault, AcceptsCert, cert_refusals, status_of};
+ghost use Rattle.build_commands.specs.Certs.{AcceptedCertsHaveNoFault, AcceptedErrorsAreOne, AcceptsCert};
+ghost use Rattle.build_commands.specs.Certs.{cert_refusals, status_of};
 ghost use Rattle.fz_status.specs.Refusals.{IsRefusal};
 
 use cert_check::{TextFault as Refusal, check_text, check_text16, text_answers_are_one};
@@ -47,6 +48,13 @@ fn told(answer: Result<Vec<u32>, Refusal>) -> Result<Vec<u32>, Status>
 /// A certificate that a block accepts is not refused.
 pub fn accepted_certs_have_no_fault()
     ensures { AcceptedCertsHaveNoFault }
+{
+    text_answers_are_one()
+}
+
+/// A certificate is accepted with one list of errors.
+pub fn accepted_errors_are_one()
+    ensures { AcceptedErrorsAreOne }
 {
     text_answers_are_one()
 }

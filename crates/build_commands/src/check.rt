@@ -1,12 +1,12 @@
 //! The commands `check FCL CERT` and `check16 FCL CERT`.
 ghost use Rattle.std.specs.Prelude.{◌≡◌, ◌≤◌, length, IfOk, List, ℕ};
 ghost use Rattle.fz_shelf.specs.Lines.{text_of};
-ghost use Rattle.build_commands.specs.SeenOutputs.{OutputHasNoFault, IsResultOf};
+ghost use Rattle.build_commands.specs.SeenOutputs.{OutputHasNoFault, OutputsAreOne, IsResultOf};
 ghost use Rattle.build_commands.specs.Check.{CheckMakes, check_lines};
 ghost use Rattle.build_commands.specs.declared.check.Check.{Check as TheCheck};
 
-use crate::certs::{accepted_certs_have_no_fault, errors_under};
-use crate::firmware::{firmware_of, spelled_texts_have_no_fault};
+use crate::certs::{accepted_certs_have_no_fault, accepted_errors_are_one, errors_under};
+use crate::firmware::{firmware_of, given_firmwares_are_one, spelled_texts_have_no_fault};
 use crate::lines::{labelled, push_errors};
 use crate::output::Output;
 use eval_code::Width;
@@ -56,4 +56,12 @@ pub fn checked_certs_have_no_fault()
     spelled_texts_have_no_fault();
     spelled_blocks_are_one();
     accepted_certs_have_no_fault()
+}
+
+/// Files make at most one output.
+pub fn check_outputs_are_one()
+    ensures { (check : TheCheck) (text cert : List ℕ) → OutputsAreOne (CheckMakes check text cert) }
+{
+    given_firmwares_are_one();
+    accepted_errors_are_one()
 }

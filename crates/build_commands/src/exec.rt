@@ -1,7 +1,7 @@
 //! The command `exec IMAGE STEPS FLAGS`.
 ghost use Rattle.std.specs.Prelude.{◌≡◌, ◌≤◌, length, string_bytes, IfOk, List, ℕ};
 ghost use Rattle.fz_shelf.specs.Lines.{text_of};
-ghost use Rattle.build_commands.specs.SeenOutputs.{OutputHasNoFault, IsResultOf};
+ghost use Rattle.build_commands.specs.SeenOutputs.{OutputHasNoFault, OutputsAreOne, IsResultOf};
 ghost use Rattle.build_commands.specs.Exec.{ExecMakes, exec_in, exec_line};
 ghost use Rattle.fz_status.specs.Words.{texts_of};
 ghost use Rattle.build_commands.specs.declared.exec.Exec.{Exec as TheExec};
@@ -79,6 +79,15 @@ fn lines(alloc: Global, regs: &Regs, steps: u32) -> Result<Vec<String>, AllocErr
 /// Records that make an output make no fault.
 pub fn ended_runs_have_no_fault()
     ensures { (exec : TheExec) (text : List ℕ) → OutputHasNoFault (ExecMakes exec text) }
+{
+    images_are_one();
+    images_load_alike();
+    runs_end_once()
+}
+
+/// A text makes at most one output.
+pub fn exec_outputs_are_one()
+    ensures { (exec : TheExec) (text : List ℕ) → OutputsAreOne (ExecMakes exec text) }
 {
     images_are_one();
     images_load_alike();

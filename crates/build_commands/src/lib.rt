@@ -6,7 +6,8 @@
 //! status of their first fault. The other modules are what several commands share, those of crates
 //! above too: from a text to its firmware, images and certificates, lines, and the forms of words.
 //!
-//! Each command has a law that contents of which it makes something have no fault.
+//! Each command has a law that contents of which it makes something have no fault, and that of contents which are
+//! accepted it makes something.
 #![tactic(auto)]
 
 pub mod asm;
@@ -19,6 +20,7 @@ pub mod exec;
 pub mod firmware;
 pub mod hcheck;
 pub mod images;
+pub mod laws;
 pub mod lcompile;
 pub mod lines;
 pub mod mcompile;

@@ -7,6 +7,7 @@ use Rattle.fuzzy_meaning.specs.declared.block.Block.{Block}
 use Rattle.codegen.specs.Uninterrupted.{AreAnswersOf}
 use Rattle.eval_code.specs.declared.width.Width.TheVariants.{Byte}
 use Rattle.interrupt_plan.specs.declared.Request.{Request}
+use Rattle.interrupt_plan.specs.Levels.{AreGoodLevels}
 use Rattle.interrupt_plan.specs.declared.levels.Level.{Level}
 use Rattle.run_law.specs.Forms.{RowSeen}
 use Rattle.trace_io.specs.declared.sample.Sample.{Sample}
@@ -14,8 +15,8 @@ use Rattle.fz_run.specs.Answering.{AnswersItsBlock, AnswersUnderPlans}
 use Rattle.fz_run.specs.Rows.{bytes_of, firmware_rows, input_bytes}
 use Rattle.two_level.specs.Images.{AloneHasByteBounds, HasByteBounds, fast_most}
 use Rattle.two_level.specs.declared.two.Two.{Two}
-use Rattle.two_runs.specs.Answering.{AnswersAtTwoLevels, AnswersItsBlocks, RowsAreSeen, answer_of_fast, fast_runs}
-use Rattle.two_runs.specs.Answering.{plan_of}
+use Rattle.two_runs.specs.Answering.{AnswersAtTwoLevels, AnswersItsBlocks, AnswersUnderLevels, RowsAreSeen}
+use Rattle.two_runs.specs.Answering.{answer_of_fast, fast_runs, plan_of}
 use Rattle.two_runs.specs.Order.{LevelsMakeAPlan}
 use Rattle.two_runs.specs.Rows.{TwoSeen, two_seen}
 use Rattle.two_runs.specs.Runs.{FastSeen}
@@ -23,7 +24,7 @@ use Rattle.certified_run.specs.Posted.{IsOneOf, PostedAnswersAreNear}
 use Rattle.build_commands.specs.Firmwares.{GivesFirmware}
 use Rattle.build_commands.proofs.Algebra.{of_seen}
 use Rattle.form_commands.specs.LevelRun.{AcceptsLevels, LevelFiles, LevelRun, fast_numbers}
-use Rattle.form_commands.specs.Lrun.{level_report}
+use Rattle.form_commands.specs.Lrun.{AcceptedLevelRunsMakeOutput, level_report}
 use Rattle.run_reports.specs.Laws.{AnswersAreReported, AnswersKeepTheBound, SpelledBytesFit}
 
 map-twice : {X Y Z : Type 0} (g : Y → Z) (f : X → Y) (xs : List X) → map g (map f xs) ≡ map (λ x. g (f x)) xs
@@ -131,3 +132,23 @@ module _ (reported : AnswersAreReported) (keep : AnswersKeepTheBound) (fit : Spe
         (fast_numbers rows) (map answer_of_fast (fast_runs rows)) a.compiled.fast_is.spelled.valid
         a.traces.fast_in_range numbers of_fast a.certs.fast_accepted.accepted;
   }
+
+-- accepted files make an output
+pub levels_made : AnswersAreReported → AnswersKeepTheBound → SpelledBytesFit → PostedAnswersAreNear → AnswersUnderPlans
+    → LevelsMakeAPlan → RowsAreSeen → AloneHasByteBounds → AnswersUnderLevels → AcceptedLevelRunsMakeOutput
+levels_made reported keep fit posted plans plan_made seen bounds under lrun files byte
+    (slow, fast, two, errors, fast_errors, samples, fast_samples, levels, a) =
+    let bytes = map input_bytes samples in
+    let fast_bytes = map input_bytes fast_samples in
+    let good : AreGoodLevels (length fast_bytes) levels =
+    subst (λ (n : ℕ). AreGoodLevels n levels) (sym (length-map fast_samples input_bytes)) a.good_levels.good in (
+      _,
+      record {
+        report = level_report errors fast_errors two.slow.instr_bound (fast_most two.fast.instr_bound)
+            (two_seen two bytes fast_bytes levels lrun.flags);
+        at_levels = levels_run reported keep fit posted plans plan_made seen bounds lrun.flags byte files slow fast two
+            errors fast_errors samples fast_samples levels a (two_seen two bytes fast_bytes levels lrun.flags) refl
+            (under two lrun.flags bytes fast_bytes levels byte good);
+        output_is = refl;
+      },
+    )

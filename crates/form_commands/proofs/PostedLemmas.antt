@@ -4,6 +4,7 @@ use Rattle.std.proofs.Common.{append_assoc, refl, sym, subst, arith}
 use Rattle.std.specs.Prelude.{All, String, codes, flat_map, if◌then◌else◌, map, nat_le, string_bytes, ◌==◌}
 use Rattle.std.proofs.lemmas.List.Elements.{All-cons, All-head, All-tail}
 use Rattle.std.proofs.lemmas.Bool.Decides.{nat_tests}
+use Rattle.std.proofs.lemmas.List.{length-map}
 use Rattle.std.specs.declared.alloc.Global.{Global}
 use Rattle.fuzzy_meaning.specs.declared.block.Block.{Block}
 use Rattle.cpu12_emul.specs.Take.{FrameSeen}
@@ -16,11 +17,13 @@ use Rattle.codegen.specs.declared.firmware.Firmware.{Firmware}
 use Rattle.eval_code.specs.declared.width.Width.{Width}
 use Rattle.eval_code.specs.declared.width.Width.TheVariants.{Byte}
 use Rattle.srecord.specs.Texts.{GivesImage}
+use Rattle.interrupt_plan.specs.Posts.{AreGoodPosts}
 use Rattle.interrupt_plan.specs.declared.Post.{Post}
 use Rattle.trace_io.specs.Traces.{Spells as SpellsTrace}
 use Rattle.trace_io.specs.declared.sample.Sample.{Sample}
 use Rattle.fz_run.specs.Rows.{input_bytes, bytes_of}
-use Rattle.posted_runs.specs.Answering.{AnswersItsPosts, AnswersUnderPosts, answer_in, ended, run_of_turns}
+use Rattle.posted_runs.specs.Answering.{AnswersItsPosts, AnswersUnderAllPosts, AnswersUnderPosts, answer_in}
+use Rattle.posted_runs.specs.Answering.{ended, run_of_turns}
 use Rattle.run_forms.specs.Rows.{boundary_seen, frames_seen}
 use Rattle.posted_runs.specs.Runs.{AnswerSeen, RunSeen, answer_seen, arrival}
 use Rattle.posted_runs.specs.Runs.{run_under_posts}
@@ -36,7 +39,8 @@ use Rattle.build_commands.specs.Certs.{AcceptsCert}
 use Rattle.build_commands.specs.Firmwares.{GivesMailbox}
 use Rattle.build_commands.specs.Lines.{counted, line}
 use Rattle.build_commands.proofs.Algebra.{flat-map, of_seen, text_of-snoc}
-use Rattle.form_commands.specs.Mrun.{answer_line, mrun_lines, mrun_refusals, posted_report, posts_refusals, taken_line}
+use Rattle.form_commands.specs.Mrun.{AcceptedPostedRunsMakeOutput, answer_line, mrun_lines, mrun_refusals, posted_report}
+use Rattle.form_commands.specs.Mrun.{posts_refusals, taken_line}
 use Rattle.run_reports.specs.RowLines.{begun_lines}
 use Rattle.form_commands.specs.PostedRun.{AcceptsPosted, PostedFiles, PostedReport, PostedRun, answered_samples, run_of}
 use Rattle.run_reports.specs.Laws.{AnswersKeepTheBound, SpelledBytesFit}
@@ -235,3 +239,20 @@ posted_written begun told taken lines final es bound resumed xs frames begun_so 
     (taken_so ∙ ap₂ (λ (x y : List ℕ). x ++ y) (begun_items answer_line answer_seen begun told b xs begun_so told_so)
     (sym (flat-map taken_line boundary_seen frames))) is
     ∙ append_assoc (b ++ c) d r ∙ append_assoc b c (d ++ r)
+
+-- accepted files make an output
+pub posted_made : AnswersKeepTheBound → SpelledBytesFit → PostedAnswersAreNear → LastIsAnswered → AnswersUnderAllPosts
+    → AcceptedPostedRunsMakeOutput
+posted_made keep fit near lasts under mrun files byte (block, firmware, errors, samples, posts, a) =
+    let bytes = map input_bytes samples in
+    let run = run_under_posts firmware bytes posts mrun.flags in
+    let good : AreGoodPosts (length bytes) posts =
+    subst (λ (n : ℕ). AreGoodPosts n posts) (sym (length-map samples input_bytes)) a.good_posts.good in (
+      _,
+      record {
+        report = posted_report errors firmware.instr_bound run.answers run.frames run.resumed;
+        posted = posts_run keep fit near lasts mrun.flags files block firmware errors samples posts a run.answers
+            run.frames run.resumed refl refl refl (under firmware mrun.flags bytes posts byte good);
+        output_is = refl;
+      },
+    )

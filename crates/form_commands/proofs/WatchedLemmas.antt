@@ -1,5 +1,5 @@
 -- What a run under upsets gives.
-use Rattle.std.proofs.Common.{◌≡◌, ◌≤◌, ℕ, List, [], ◌∷◌, subst}
+use Rattle.std.proofs.Common.{◌≡◌, ◌≤◌, ℕ, List, [], ◌∷◌, refl, subst}
 use Rattle.std.specs.Prelude.{All, map}
 use Rattle.std.proofs.lemmas.List.Elements.{All-cons, All-nil}
 use Rattle.fuzzy_meaning.specs.declared.block.Block.{Block}
@@ -12,7 +12,8 @@ use Rattle.interrupt_plan.specs.declared.Request.{Request}
 use Rattle.interrupt_plan.specs.declared.upsets.Upset.{Upset}
 use Rattle.trace_io.specs.declared.sample.Sample.{Sample}
 use Rattle.fz_run.specs.Rows.{input_bytes}
-use Rattle.watched_runs.specs.Answering.{AnswersItsSamples, AnswersUnderUpsets, AreWatchedRows}
+use Rattle.watched_runs.specs.Answering.{AnswersItsSamples, AnswersUnderAllUpsets, AnswersUnderUpsets}
+use Rattle.watched_runs.specs.Answering.{AreWatchedRows}
 use Rattle.watched_runs.specs.Rows.{FaultSeen, faults_of, upset_rows}
 use Rattle.watched_runs.specs.Samples.{with_upsets}
 use Rattle.certified_run.specs.Faultless.{FaultlessAnswersAreNear}
@@ -20,7 +21,8 @@ use Rattle.fz_status.specs.declared.status.Status.{Status}
 use Rattle.fz_status.specs.declared.status.Status.TheVariants as status
 use Rattle.build_commands.specs.Firmwares.{GivesWatched}
 use Rattle.run_reports.specs.Inputs.{AcceptsInputs, input_refusals}
-use Rattle.form_commands.specs.Srun.{AcceptsWatched, srun_refusals, upset_refusals, watched_report}
+use Rattle.form_commands.specs.Srun.{AcceptedWatchedRunsMakeOutput, AcceptsWatched, srun_refusals, upset_refusals}
+use Rattle.form_commands.specs.Srun.{watched_report}
 use Rattle.form_commands.specs.WatchedRun.{WatchedFiles, WatchedRun}
 use Rattle.run_reports.specs.Laws.{SpelledBytesFit}
 
@@ -89,3 +91,17 @@ module _ (files : WatchedFiles) (block : Block) (firmware : Firmware) (gives : G
   upsets_refused errors samples plan inputs (status.Upset f) r =
       (block, firmware, gives, (image, errors, samples, plan, inputs, r))
   upsets_refused errors samples plan inputs s r = absurd r
+
+-- accepted files make an output
+pub watched_made : FaultlessAnswersAreNear → SpelledBytesFit → AnswersUnderAllUpsets → AcceptedWatchedRunsMakeOutput
+watched_made near fit under srun files byte (block, firmware, errors, samples, plan, upsets, a) =
+    let bytes = map input_bytes samples in
+    let rows = faults_of firmware (upset_rows firmware bytes plan upsets srun.flags) in (
+      _,
+      record {
+        report = watched_report errors firmware.instr_bound rows;
+        watched = watches near fit srun.flags files block firmware errors samples samples plan upsets rows a refl refl
+            (under firmware srun.flags bytes plan upsets byte a.inputs.good_plan.good a.good_upsets.good);
+        output_is = refl;
+      },
+    )

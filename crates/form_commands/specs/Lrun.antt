@@ -1,11 +1,12 @@
 -- The command `lrun SLOW FAST IMAGE SCERT FCERT STRACE FTRACE LEVELS FLAGS`.
-use Rattle.std.specs.Prelude.{◌≡◌, ℕ, ◌-◌, List, [], ◌∷◌, ◌++◌, codes, decimal, length, Option, Some, None, option_map}
-use Rattle.std.specs.Prelude.{Result, Ok, Err}
+use Rattle.std.specs.Prelude.{◌≡◌, ◌<◌, ◌^◌, ℕ, ◌-◌, List, [], ◌∷◌, ◌++◌, codes, decimal, length, Option, Some}
+use Rattle.std.specs.Prelude.{None, option_map, Result, Ok, Err}
 use Rattle.std.specs.List.{flat_map, slice_index_or}
 use Rattle.fuzzy_meaning.specs.declared.block.Block.{Block}
 use Rattle.eval_code.specs.declared.width.Width.TheVariants.{Byte}
 use Rattle.cpu12_emul.specs.Take.{FrameSeen}
 use Rattle.interrupt_plan.specs.Levels.{LevelsHaveFault}
+use Rattle.interrupt_plan.specs.declared.levels.Level.{Level}
 use Rattle.srecord.specs.Texts.{GivesImage}
 use Rattle.trace_io.specs.Traces.{HasFault as TraceHasFault, Spells as SpellsTrace}
 use Rattle.trace_io.specs.declared.sample.Sample.{Sample}
@@ -20,12 +21,12 @@ use Rattle.fz_status.specs.declared.status.Status.{Status}
 use Rattle.fz_status.specs.declared.status.Status.TheVariants as status
 use Rattle.build_commands.specs.Certs.{AcceptsCert, HasCertFault}
 use Rattle.build_commands.specs.Contents.{content_at}
-use Rattle.build_commands.specs.SeenOutputs.{SeenOutput, only_text}
+use Rattle.build_commands.specs.SeenOutputs.{HasOutput, SeenOutput, only_text}
 use Rattle.build_commands.specs.Images.{RefusesImage}
 use Rattle.build_commands.specs.Lines.{counted, error_line, line}
 use Rattle.build_commands.specs.Twos.{GivesTwo, two_refusals}
 use Rattle.build_commands.specs.Words.{flags_of}
-use Rattle.form_commands.specs.LevelRun.{AcceptsCerts, LevelFiles, LevelReport, LevelRun, SpellTraces}
+use Rattle.form_commands.specs.LevelRun.{AcceptsCerts, AcceptsLevels, LevelFiles, LevelReport, LevelRun, SpellTraces}
 use Rattle.run_reports.specs.RowLines.{answers_told, frame_line, frame_told, sample_line_with}
 use Rattle.form_commands.specs.declared.lrun.Lrun.{Lrun}
 
@@ -155,3 +156,13 @@ lrun_refusals files s = OfTwo files (λ slow fast two.
 abbrev pub LrunMakes : Lrun → LevelFiles → Result SeenOutput Status → Type 0
 LrunMakes lrun files (Ok output) = LrunGives lrun files output
 LrunMakes lrun files (Err s) = Refuses (lrun_refusals files) s
+
+abbrev pub LrunAccepts : LevelFiles → Type 0
+LrunAccepts files = (slow : Block) × (fast : Block) × (two : Two) × (errors : List ℕ) × (fast_errors : List ℕ)
+    × (samples : List Sample) × (fast_samples : List Sample) × (levels : List Level)
+    × AcceptsLevels files slow fast two errors fast_errors samples fast_samples levels
+
+-- files that are accepted make an output
+abbrev pub AcceptedLevelRunsMakeOutput : Type 0
+AcceptedLevelRunsMakeOutput =
+    (lrun : Lrun) (files : LevelFiles) → lrun.flags < 2 ^ 8 → LrunAccepts files → HasOutput (LrunMakes lrun files)

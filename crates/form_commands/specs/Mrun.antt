@@ -1,5 +1,5 @@
 -- The command `mrun FCL IMAGE CERT TRACE POSTS FLAGS`.
-use Rattle.std.specs.Prelude.{◌≡◌, ℕ, List, [], ◌∷◌, ◌++◌, codes, decimal, length, Option, option_map}
+use Rattle.std.specs.Prelude.{◌≡◌, ◌<◌, ◌^◌, ℕ, List, [], ◌∷◌, ◌++◌, codes, decimal, length, Option, option_map}
 use Rattle.std.specs.Prelude.{Result, Ok, Err}
 use Rattle.std.specs.List.{flat_map}
 use Rattle.fuzzy_meaning.specs.declared.block.Block.{Block}
@@ -7,6 +7,7 @@ use Rattle.cpu12_emul.specs.Take.{FrameSeen}
 use Rattle.codegen.specs.declared.firmware.Firmware.{Firmware}
 use Rattle.eval_code.specs.declared.width.Width.TheVariants.{Byte}
 use Rattle.interrupt_plan.specs.Posts.{PostsHaveFault}
+use Rattle.interrupt_plan.specs.declared.Post.{Post}
 use Rattle.srecord.specs.Texts.{GivesImage}
 use Rattle.trace_io.specs.Traces.{HasFault as TraceHasFault, Spells as SpellsTrace}
 use Rattle.trace_io.specs.declared.sample.Sample.{Sample}
@@ -18,12 +19,12 @@ use Rattle.fz_status.specs.declared.status.Status.{Status}
 use Rattle.fz_status.specs.declared.status.Status.TheVariants as status
 use Rattle.build_commands.specs.Certs.{AcceptsCert, HasCertFault}
 use Rattle.build_commands.specs.Contents.{content_at}
-use Rattle.build_commands.specs.SeenOutputs.{SeenOutput, only_text}
+use Rattle.build_commands.specs.SeenOutputs.{HasOutput, SeenOutput, only_text}
 use Rattle.build_commands.specs.Firmwares.{GivesMailbox, RefusesText}
 use Rattle.build_commands.specs.Images.{RefusesImage}
 use Rattle.build_commands.specs.Lines.{counted, line}
 use Rattle.build_commands.specs.Words.{flags_of}
-use Rattle.form_commands.specs.PostedRun.{PostedFiles, PostedReport, PostedRun}
+use Rattle.form_commands.specs.PostedRun.{AcceptsPosted, PostedFiles, PostedReport, PostedRun}
 use Rattle.run_reports.specs.RowLines.{answered, begun_lines, frame_told}
 use Rattle.form_commands.specs.declared.mrun.Mrun.{Mrun}
 
@@ -111,3 +112,12 @@ posts_refusals samples text s = ⊥
 abbrev pub MrunMakes : Mrun → PostedFiles → Result SeenOutput Status → Type 0
 MrunMakes mrun files (Ok output) = MrunGives mrun files output
 MrunMakes mrun files (Err s) = Refuses (mrun_refusals files) s
+
+abbrev pub MrunAccepts : PostedFiles → Type 0
+MrunAccepts files = (block : Block) × (firmware : Firmware) × (errors : List ℕ) × (samples : List Sample)
+    × (posts : List Post) × AcceptsPosted files block firmware errors samples posts
+
+-- files that are accepted make an output
+abbrev pub AcceptedPostedRunsMakeOutput : Type 0
+AcceptedPostedRunsMakeOutput =
+    (mrun : Mrun) (files : PostedFiles) → mrun.flags < 2 ^ 8 → MrunAccepts files → HasOutput (MrunMakes mrun files)

@@ -1,5 +1,5 @@
 -- The command `srun FCL IMAGE CERT TRACE PLAN UPSETS FLAGS`.
-use Rattle.std.specs.Prelude.{◌≡◌, ℕ, List, [], ◌∷◌, ◌++◌, codes, Option, option_map, Result, Ok, Err}
+use Rattle.std.specs.Prelude.{◌≡◌, ◌<◌, ◌^◌, ℕ, List, [], ◌∷◌, ◌++◌, codes, Option, option_map, Result, Ok, Err}
 use Rattle.fuzzy_meaning.specs.declared.block.Block.{Block}
 use Rattle.codegen.specs.declared.firmware.Firmware.{Firmware}
 use Rattle.eval_code.specs.declared.width.Width.TheVariants.{Byte}
@@ -14,7 +14,7 @@ use Rattle.fz_status.specs.Words.{Text, word_at}
 use Rattle.fz_status.specs.declared.status.Status.{Status}
 use Rattle.fz_status.specs.declared.status.Status.TheVariants as status
 use Rattle.build_commands.specs.Contents.{content_at}
-use Rattle.build_commands.specs.SeenOutputs.{SeenOutput, only_text}
+use Rattle.build_commands.specs.SeenOutputs.{HasOutput, SeenOutput, only_text}
 use Rattle.build_commands.specs.Firmwares.{GivesWatched, RefusesText}
 use Rattle.build_commands.specs.Images.{RefusesImage}
 use Rattle.build_commands.specs.Lines.{counted}
@@ -99,3 +99,12 @@ upset_refusals image text s = ⊥
 abbrev pub SrunMakes : Srun → WatchedFiles → Result SeenOutput Status → Type 0
 SrunMakes srun files (Ok output) = SrunGives srun files output
 SrunMakes srun files (Err s) = Refuses (srun_refusals files) s
+
+abbrev pub SrunAccepts : WatchedFiles → Type 0
+SrunAccepts files = (block : Block) × (firmware : Firmware) × (errors : List ℕ) × (samples : List Sample)
+    × (plan : List Request) × (upsets : List Upset) × AcceptsWatched files block firmware errors samples plan upsets
+
+-- files that are accepted make an output
+abbrev pub AcceptedWatchedRunsMakeOutput : Type 0
+AcceptedWatchedRunsMakeOutput =
+    (srun : Srun) (files : WatchedFiles) → srun.flags < 2 ^ 8 → SrunAccepts files → HasOutput (SrunMakes srun files)

@@ -8,7 +8,8 @@ ghost use Rattle.fz_status.specs.Words.{texts_of};
 ghost use Rattle.build_commands.specs.Contents.{bytes_of};
 ghost use Rattle.build_commands.specs.SeenOutputs.{OutputHasNoFault, IsResultOf};
 ghost use Rattle.form_commands.specs.LevelRun.{AcceptsCerts, AcceptsLevels, LevelFiles, SpellTraces};
-ghost use Rattle.form_commands.specs.Lrun.{LrunMakes, certs_refusals, level_files, levels_refusals, lrun_in};
+ghost use Rattle.form_commands.specs.Lrun.{AcceptedLevelRunsMakeOutput, LrunMakes, certs_refusals, level_files};
+ghost use Rattle.form_commands.specs.Lrun.{levels_refusals, lrun_in};
 ghost use Rattle.form_commands.specs.Lrun.{lrun_refusals, traces_refusals};
 ghost use Rattle.form_commands.specs.declared.lrun.Lrun.{Lrun as TheLrun};
 
@@ -34,7 +35,7 @@ use run_reports::laws::{
 use std::alloc::Global;
 use trace_io::{Sample, spelled_traces_have_no_fault};
 use two_level::alone_has_byte_bounds;
-use two_runs::{levels_make_a_plan, rows_are_seen, run_two};
+use two_runs::{answers_under_levels, levels_make_a_plan, rows_are_seen, run_two};
 
 /// `lrun SLOW FAST IMAGE SCERT FCERT STRACE FTRACE LEVELS FLAGS`
 #[derive(Clone, Copy, Debug, PartialEq, Eq)]
@@ -212,4 +213,19 @@ pub fn level_runs_have_no_fault()
     spelled_traces_have_no_fault();
     spelled_traces_are_one_long();
     spelled_levels_have_no_fault()
+}
+
+/// Files that are accepted make an output.
+pub fn accepted_level_runs_make_output()
+    ensures { AcceptedLevelRunsMakeOutput }
+{
+    answers_are_reported();
+    answers_keep_the_bound();
+    spelled_bytes_fit();
+    posted_answers_are_near();
+    answers_under_plans();
+    levels_make_a_plan();
+    rows_are_seen();
+    alone_has_byte_bounds();
+    answers_under_levels()
 }

@@ -7,7 +7,8 @@ ghost use Rattle.fz_status.specs.Refusals.{IsRefusal};
 ghost use Rattle.fz_status.specs.Words.{texts_of};
 ghost use Rattle.build_commands.specs.Contents.{bytes_of};
 ghost use Rattle.build_commands.specs.SeenOutputs.{OutputHasNoFault, IsResultOf};
-ghost use Rattle.form_commands.specs.Mrun.{MrunMakes, mrun_in, mrun_refusals, posted_files, posts_refusals};
+ghost use Rattle.form_commands.specs.Mrun.{AcceptedPostedRunsMakeOutput, MrunMakes, mrun_in, mrun_refusals};
+ghost use Rattle.form_commands.specs.Mrun.{posted_files, posts_refusals};
 ghost use Rattle.form_commands.specs.PostedRun.{AcceptsPosted, PostedFiles};
 ghost use Rattle.form_commands.specs.declared.mrun.Mrun.{Mrun as TheMrun};
 
@@ -24,7 +25,7 @@ use certified_run::posted_answers_are_near;
 use eval_code::Width;
 use fz_status::{Status, word};
 use interrupt_plan::{PlanFault, Posts, read_posts, spelled_posts_have_no_fault};
-use posted_runs::{last_is_answered, run_posts};
+use posted_runs::{last_is_answered, posts_are_answered, run_posts};
 use run_reports::inputs::samples_of;
 use run_reports::laws::{
     answers_keep_the_bound, spelled_bytes_fit, spelled_traces_are_one_long,
@@ -132,4 +133,15 @@ pub fn posted_runs_have_no_fault()
     spelled_traces_have_no_fault();
     spelled_traces_are_one_long();
     spelled_posts_have_no_fault()
+}
+
+/// Files that are accepted make an output.
+pub fn accepted_posted_runs_make_output()
+    ensures { AcceptedPostedRunsMakeOutput }
+{
+    answers_keep_the_bound();
+    spelled_bytes_fit();
+    posted_answers_are_near();
+    last_is_answered();
+    posts_are_answered()
 }

@@ -7,8 +7,8 @@ ghost use Rattle.fz_status.specs.Refusals.{IsRefusal};
 ghost use Rattle.fz_status.specs.Words.{texts_of};
 ghost use Rattle.build_commands.specs.Contents.{bytes_of};
 ghost use Rattle.build_commands.specs.SeenOutputs.{OutputHasNoFault, IsResultOf};
-ghost use Rattle.form_commands.specs.Srun.{AcceptsWatched, SrunMakes, srun_in, srun_refusals};
-ghost use Rattle.form_commands.specs.Srun.{upset_refusals, watched_files, watched_row_lines};
+ghost use Rattle.form_commands.specs.Srun.{AcceptedWatchedRunsMakeOutput, AcceptsWatched, SrunMakes, srun_in};
+ghost use Rattle.form_commands.specs.Srun.{srun_refusals, upset_refusals, watched_files, watched_row_lines};
 ghost use Rattle.build_commands.specs.Lines.{counted};
 ghost use Rattle.fz_shelf.specs.Lines.{text_of};
 ghost use Rattle.watched_runs.specs.Rows.{row_seen};
@@ -32,6 +32,7 @@ use run_reports::inputs::{Inputs, inputs_of};
 use run_reports::laws::{accepted_inputs_have_no_fault, spelled_bytes_fit};
 use run_reports::row_lines::{begun, push_labelled_row};
 use std::alloc::{AllocError, Global};
+use watched_runs::laws::answers_under_all_upsets;
 use watched_runs::{WatchedRow, run_upsets};
 
 /// `srun FCL IMAGE CERT TRACE PLAN UPSETS FLAGS`
@@ -144,4 +145,13 @@ pub fn watched_runs_have_no_fault()
     given_images_have_no_fault();
     accepted_inputs_have_no_fault();
     spelled_upsets_have_no_fault()
+}
+
+/// Files that are accepted make an output.
+pub fn accepted_watched_runs_make_output()
+    ensures { AcceptedWatchedRunsMakeOutput }
+{
+    faultless_answers_are_near();
+    spelled_bytes_fit();
+    answers_under_all_upsets()
 }

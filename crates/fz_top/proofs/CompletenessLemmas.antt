@@ -6,10 +6,11 @@ use Rattle.eval_code.specs.declared.width.Width.TheVariants.{Byte, Word}
 use Rattle.fz_words.specs.Table.{any_hyphen}
 use Rattle.fz_status.specs.Words.{Text}
 use Rattle.run_commands.specs.CertifiedRun.{Files}
-use Rattle.run_commands.specs.Run.{RunGives, run_inputs, run_with}
+use Rattle.run_commands.specs.Run.{RunAccepts, run_inputs, run_with}
 use Rattle.fz_shelf.specs.Files.{Names}
 use Rattle.fz_shelf.specs.Told.{Taken}
 use Rattle.build_commands.specs.SeenOutputs.{SeenOutput}
+use Rattle.fz_top.specs.Accepted.{Accepts}
 use Rattle.fz_top.specs.Commands.{Makes, command_in, form_of, inputs_of, table}
 use Rattle.fz_top.specs.Reads.{names_at}
 use Rattle.fz_top.specs.Runs.{AreKnown, CanBeDone, FileFits, RoomFor}
@@ -23,7 +24,8 @@ use Rattle.promise.specs.Promise.{Promise}
 -- ---- the words
 
 command_at : (width : Width) (p : Text) (ws : List Text) → any_hyphen (p ∷ run_name width ∷ ws) ≡ false
-    → length ws ≡ 6 → command_in (p ∷ run_name width ∷ ws) ≡ form_of (row_of_run width).command (p ∷ run_name width ∷ ws)
+    → length ws ≡ 6
+    → command_in (p ∷ run_name width ∷ ws) ≡ form_of (row_of_run width).command (p ∷ run_name width ∷ ws)
 unfolding table
 command_at Byte p ws plain count =
     ap (λ (h : Bool). command_if (p ∷ run_name Byte ∷ ws) Byte h (6 == length ws)) plain
@@ -73,25 +75,26 @@ are_known words names files told = (
 -- ---- done
 
 -- room for each text that keeps the promise is room for what the run makes
-pub room_for : CertifiedRunsKeepPromise → (words : List Text) (width : Width) (flags : ℕ) (files : Files) (names : Names)
-    (told : Option Taken) → flags < 2 ^ 8 → HasRoomForLines width flags files told
+pub room_for : CertifiedRunsKeepPromise → (words : List Text) (width : Width) (flags : ℕ) (files : Files)
+    (names : Names) (told : Option Taken) → flags < 2 ^ 8 → HasRoomForLines width flags files told
     → RoomFor words names told (Makes (command.Run (run_with width flags)) (contents_of files))
 unfolding Makes
 room_for keep words width flags files names told byte room output gives = (
   subst (λ (o : SeenOutput). FileFits words o.file names) (sym gives.output_is) tt,
-  room gives.report output.text (subst (λ (o : SeenOutput). Promise width flags files gives.report o.text) (sym gives.output_is)
+  room gives.report output.text
+      (subst (λ (o : SeenOutput). Promise width flags files gives.report o.text) (sym gives.output_is)
       (keep width flags files gives.report gives.certified byte)),
 )
 
 abbrev pub asked : Width → ℕ → Command
 asked width flags = command.Run (run_with width flags)
 
-pub can : (words : List Text) (width : Width) (flags : ℕ) (files : Files) (names : Names) (output : SeenOutput)
-    → AreRunWords words width flags → AreTold words names files → RunGives (run_with width flags) files output
-    → CanBeDone words names (asked width flags) (contents_of files) output
-unfolding inputs_of Makes
-can words width flags files names output are told gives = record {
+pub can : (words : List Text) (width : Width) (flags : ℕ) (files : Files) (names : Names)
+    → AreRunWords words width flags → AreTold words names files → RunAccepts (run_with width flags) files
+    → CanBeDone words names (asked width flags) (contents_of files)
+unfolding inputs_of Accepts
+can words width flags files names are told accepted = record {
   is = run_command words width flags are;
   known = are_known words names files told;
-  makes = gives;
+  accepted = accepted;
 }

@@ -1,10 +1,32 @@
 -- FLAGS is a byte.
-use Rattle.std.proofs.Common.{◌≡◌, ◌<◌, ◌+◌, ◌*◌, ◌/◌, ◌%◌, ℕ, suc, List, [], ◌∷◌, length, refl, subst, arith}
+use Rattle.std.proofs.Common.{◌≡◌, ◌<◌, ◌+◌, ◌*◌, ◌/◌, ◌%◌, ◌^◌, ℕ, suc, List, [], ◌∷◌, length, refl, subst, arith}
 use Rattle.std.specs.Prelude.{Bool, true, false, ◌==◌, if◌then◌else◌, Option, Some, None, Result, Ok, Err}
+use Rattle.std.specs.Prelude.{option_and_then, option_map}
 use Rattle.std.proofs.lemmas.Bool.Decides.{nat_tests}
 use Rattle.hex.specs.Hex.{decode_pairs, digit_or_error, hex_digit_value, pair_value, ◌>>=◌}
 use Rattle.hex.specs.declared.error.FromHexError.{FromHexError}
+use Rattle.eval_code.specs.declared.width.Width.TheVariants.{Byte, Word}
+use Rattle.fz_status.specs.Words.{Text, word_at}
+use Rattle.build_commands.specs.Certify.{certify_in}
+use Rattle.build_commands.specs.Check.{check_in}
+use Rattle.build_commands.specs.Compile.{compile_in}
+use Rattle.build_commands.specs.Exec.{exec_in}
 use Rattle.build_commands.specs.Words.{flags_of, only_byte}
+use Rattle.run_commands.specs.Debug.{debug_with}
+use Rattle.run_commands.specs.Generate.{generate_in}
+use Rattle.run_commands.specs.Run.{run_with}
+use Rattle.form_commands.specs.Hrun.{hrun_in}
+use Rattle.form_commands.specs.Lrun.{lrun_with}
+use Rattle.form_commands.specs.Mrun.{mrun_with}
+use Rattle.form_commands.specs.Srun.{srun_with}
+use Rattle.fz_top.specs.Accepted.{run_flags}
+use Rattle.fz_top.specs.Commands.{command_in, form_of, name_in}
+use Rattle.fz_top.specs.declared.command.Command.{Command}
+use Rattle.fz_top.specs.declared.command.Command.TheVariants.{Asm, Certify, Check, Compile, Debug, Exec, Generate}
+use Rattle.fz_top.specs.declared.command.Command.TheVariants.{Hcheck, Hrun, Lcompile, Lrun, Mcompile, Mrun}
+use Rattle.fz_top.specs.declared.command.Command.TheVariants.{Run, Scompile, Srun}
+use Rattle.fz_top.specs.declared.command.Name.{Name}
+use Rattle.fz_top.specs.declared.command.Name.TheVariants as name
 
 digit_small : (c v : ℕ) → hex_digit_value c ≡ Some v → v < 16
 digit_small c v is = grind (arith, nat_tests)
@@ -49,3 +71,59 @@ flags_small (a ∷ []) n is = absurd (let bad : None ≡ Some n = is in cc)
 flags_small (a ∷ b ∷ []) n is = two_small a b n is
 flags_small (a ∷ b ∷ c ∷ rest) n is =
     absurd (refused _ _ _ _ _ n (three (length rest)) is)
+
+-- ---- FLAGS of a command
+
+-- a command that is made of FLAGS
+of_flags : {C : Type 0} (outer : C → Command) (inner : ℕ → C) (text : List ℕ) (command : Command)
+    → ((n : ℕ) → run_flags (outer (inner n)) ≡ n) → option_map outer (option_map inner (flags_of text)) ≡ Some command
+    → run_flags command < 2 ^ 8
+of_flags {C} outer inner text command has is = go (flags_of text) refl is
+  where
+    go : (o : Option ℕ) → flags_of text ≡ o → option_map outer (option_map inner o) ≡ Some command
+        → run_flags command < 2 ^ 8
+    go None e h = absurd (let bad : None ≡ Some command = h in cc)
+    go (Some n) e h = (let same : outer (inner n) ≡ command = cc in
+        subst (λ (c : Command). run_flags c < 2 ^ 8) same (omega (arith, has n, flags_small text n e)))
+
+-- one that has none
+without : {C : Type 0} (outer : C → Command) (o : Option C) (command : Command) → ((c : C) → run_flags (outer c) ≡ 0)
+    → option_map outer o ≡ Some command → run_flags command < 2 ^ 8
+without outer None command none h = absurd (let bad : None ≡ Some command = h in cc)
+without outer (Some c) command none h = (let same : outer c ≡ command = cc in
+    subst (λ (d : Command). run_flags d < 2 ^ 8) same (omega (arith, none c)))
+
+alone : (named command : Command) → run_flags named ≡ 0 → Some named ≡ Some command → run_flags command < 2 ^ 8
+alone named command none h = (let same : named ≡ command = cc in
+    subst (λ (d : Command). run_flags d < 2 ^ 8) same (omega (arith, none)))
+
+byte_form : (n : Name) (words : List Text) (command : Command) → form_of n words ≡ Some command
+    → run_flags command < 2 ^ 8
+unfolding form_of
+byte_form name.Asm words command is = alone Asm command refl is
+byte_form name.Certify words command is = without Certify (certify_in Byte words) command (λ c. refl) is
+byte_form name.Certify16 words command is = without Certify (certify_in Word words) command (λ c. refl) is
+byte_form name.Check words command is = alone (Check (check_in Byte)) command refl is
+byte_form name.Check16 words command is = alone (Check (check_in Word)) command refl is
+byte_form name.Compile words command is = alone (Compile (compile_in Byte)) command refl is
+byte_form name.Compile16 words command is = alone (Compile (compile_in Word)) command refl is
+byte_form name.Debug words command is = of_flags Debug debug_with (word_at words 6) command (λ n. refl) is
+byte_form name.Exec words command is = without Exec (exec_in words) command (λ c. refl) is
+byte_form name.Generate words command is = without Generate (generate_in words) command (λ c. refl) is
+byte_form name.Hcheck words command is = alone Hcheck command refl is
+byte_form name.Hrun words command is = without Hrun (hrun_in words) command (λ c. refl) is
+byte_form name.Lcompile words command is = alone Lcompile command refl is
+byte_form name.Lrun words command is = of_flags Lrun lrun_with (word_at words 10) command (λ n. refl) is
+byte_form name.Mcompile words command is = alone Mcompile command refl is
+byte_form name.Mrun words command is = of_flags Mrun mrun_with (word_at words 7) command (λ n. refl) is
+byte_form name.Run words command is = of_flags Run (run_with Byte) (word_at words 7) command (λ n. refl) is
+byte_form name.Run16 words command is = of_flags Run (run_with Word) (word_at words 7) command (λ n. refl) is
+byte_form name.Scompile words command is = alone Scompile command refl is
+byte_form name.Srun words command is = of_flags Srun srun_with (word_at words 8) command (λ n. refl) is
+
+pub byte_flags : (words : List Text) (command : Command) → command_in words ≡ Some command → run_flags command < 2 ^ 8
+byte_flags words command is = go (name_in words) is
+  where
+    go : (o : Option Name) → option_and_then (λ n. form_of n words) o ≡ Some command → run_flags command < 2 ^ 8
+    go None h = absurd (let bad : None ≡ Some command = h in cc)
+    go (Some n) h = byte_form n words command h

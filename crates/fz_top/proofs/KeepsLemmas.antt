@@ -102,7 +102,8 @@ module _ (keep : CertifiedRunsKeepPromise) (words : List Text) (old new : World)
     text = output.text;
     put = done.told;
     report = gives.report;
-    promise = subst (λ (o : SeenOutput). Promise width flags (files_in contents) gives.report o.text) (sym gives.output_is)
+    promise = subst (λ (o : SeenOutput). Promise width flags (files_in contents) gives.report o.text)
+        (sym gives.output_is)
         (keep width flags (files_in contents) gives.report gives.certified byte);
   }
 

@@ -1,8 +1,9 @@
+pub mod AcceptedLemmas
+pub mod CompletenessLemmas
 pub mod FaultLemmas
+pub mod FlagsLemmas
+pub mod KeepsLemmas
 pub mod ReadLemmas
 pub mod RunLemmas
 pub mod StatusLemmas
 pub mod UsageLemmas
-pub mod KeepsLemmas
-pub mod CompletenessLemmas
-pub mod FlagsLemmas

@@ -92,7 +92,17 @@ module _ (words : List Text) (places : List ℕ) (files : Names) (c0 c1 c2 : Cou
     at.2 ∙ ap (λ (k : Counts). record k { reads = c2.reads }) so_far.counts,
     subst (λ (k : Counts). Rose k.reads c2.reads) so_far.counts at.3,
   )
-  stops_later files' cs stop.Memory so_far same at = at ∙ so_far.counts
+  stops_later files' cs stop.Memory so_far same at = (
+    at.0 ∙ so_far.counts,
+    record {
+      before = take i places;
+      after = drop i places;
+      split = take-append-drop i places;
+      contents = cs;
+      held = so_far.held;
+      asked = at.1 ∙ so_far.entries;
+    },
+  )
   stops_later files' cs (stop.TooLong p) so_far same at = (
     reads cs Long p at.0 so_far at.1,
     at.2 ∙ ap (λ (k : Counts). record k { longs = c2.longs }) so_far.counts,
@@ -100,6 +110,25 @@ module _ (words : List Text) (places : List ℕ) (files : Names) (c0 c1 c2 : Cou
     subst (λ (q : ℕ). IsLong (files (word_at words q))) (sym at.0)
         (subst (λ (f : Names). IsLong (f (word_at words (get_or places i d)))) same at.4),
   )
+
+-- memory was wanted for what was read last
+pub stops_behind : (words : List Text) (places : List ℕ) (files files' : Names) (c0 c1 c2 : Counts) (a0 a1 a2 : Log)
+    (i d : ℕ) → i < length places → (cs : List (List ℕ)) (bytes : List ℕ)
+    → ReadsWhole words (take i places) files c0 c1 a0 a1 cs → files' ≡ files
+    → ReadsOne words (get_or places i d) files' c1 c2 a1 a2 bytes
+    → StopsBy words places files c0 c2 a0 a2 stop.Memory
+stops_behind words places files files' c0 c1 c2 a0 a1 a2 i d lt cs bytes so_far same one =
+    let whole = more words places files c0 c1 c2 a0 a1 a2 i d lt files' cs bytes so_far same one in (
+      whole.counts,
+      record {
+        before = take (i + 1) places;
+        after = drop (i + 1) places;
+        split = take-append-drop (i + 1) places;
+        contents = cs ++ bytes ∷ [];
+        held = whole.held;
+        asked = whole.entries;
+      },
+    )
 
 pub there_later : (files files' : Names) (words : List Text) (places : List ℕ) (i : ℕ) (d : ℕ) → i < length places
     → files' ≡ files → AreThere files (names_at words places)

@@ -2,6 +2,7 @@
 use Rattle.std.proofs.Common.{◌≡◌, ◌⊎◌, ◌<◌, inl, inr, ⊎_elim, ℕ, List, [], ◌∷◌, ◌++◌, length, refl, sym, ◌∙◌, ap}
 use Rattle.std.proofs.Common.{subst, arith}
 use Rattle.std.specs.Prelude.{Option, Some, None, Result, Ok, Err}
+use Rattle.std.proofs.lemmas.List.{append-nil}
 use Rattle.fz_shelf.specs.Faults.{Rose}
 use Rattle.fz_shelf.specs.Told.{Taken, HasRoom}
 use Rattle.fz_shelf.specs.Files.{File, IsThere, IsLong, Holds, Names, known as known_file}
@@ -13,8 +14,8 @@ use Rattle.fz_status.specs.Words.{Text, word_at}
 use Rattle.build_commands.specs.Contents.{bytes_of}
 use Rattle.fz_top.specs.Commands.{Makes, command_in, inputs_of}
 use Rattle.fz_top.specs.Reads.{ReadsWhole, AreHeld, AreThere, names_at, StopsBy}
-use Rattle.build_commands.specs.SeenOutputs.{SeenOutput, IsFaultOf}
-use Rattle.fz_top.specs.Runs.{CanBeDone, OutputsHaveNoFault, HasNoFault, Faulted, IsMade, Untouched, IsReadFault}
+use Rattle.build_commands.specs.SeenOutputs.{HasOutput, SeenOutput, IsFaultOf}
+use Rattle.fz_top.specs.Runs.{OutputsHaveNoFault, HasNoFault, Faulted, IsMade, Untouched, IsReadFault}
 use Rattle.fz_top.specs.Runs.{IsTooLong, IsWriteFault, Settles, status_of, IsReady, AreKnown, FileFits, World, world}
 use Rattle.fz_top.specs.Runs.{Worked, Delivered, WriteFailed, PutFailed, ChangesOnly, IsWritten, Runs}
 use Rattle.fz_top.specs.declared.command.Command.{Command}
@@ -145,7 +146,25 @@ stopped words f0 f1 k0 k1 a0 a1 t0 e0 command places contents slice s is files a
     go _ no_command fault = absurd fault
     go _ (failed_read p) fault = absurd fault
     go _ failed_write fault = absurd fault
-    go _ no_memory fault = (counts, untouched)
+    go _ no_memory fault =
+        let all : ReadsWhole words (inputs_of command) f0 k0 k1 a0 a1 (bytes_of contents) =
+        subst (λ (ps : List ℕ). ReadsWhole words ps f0 k0 k1 a0 a1 (bytes_of contents)) at whole in
+        record {
+          counts = counts;
+          untouched = untouched;
+          reads = inr (
+            command,
+            sym is,
+            record {
+              before = inputs_of command;
+              after = [];
+              split = append-nil (inputs_of command);
+              contents = bytes_of contents;
+              held = all.held;
+              asked = all.entries;
+            },
+          );
+        }
     go _ (long_read p) fault = absurd fault
     go _ (of_contents t of) fault = of.runs words _ _ (faulted t (of.made command (bytes_of slice) fault))
 
@@ -242,15 +261,16 @@ abbrev IsDone : Status → Type 0
 IsDone s = (s ≡ status.Ok) ⊎ (s ≡ status.Memory)
 
 pub does : (apart : OutputsHaveNoFault) (words : List Text) (old new : World) (command : Command)
-    (contents : List (List ℕ)) (output : SeenOutput) → CanBeDone words old.files command contents output
+    (contents : List (List ℕ)) → command_in words ≡ Some command
+    → AreKnown old.files (names_at words (inputs_of command)) contents → HasOutput (Makes command contents)
     → (s : Status) → Runs words old new s → (IsReadFault s → ⊥) → (IsWriteFault s → ⊥) → IsDone s
-does apart words old new command contents output can s runs no_read no_write =
-    go (completes words old new command contents can.is can.known s runs no_read no_write)
+does apart words old new command contents named known made s runs no_read no_write =
+    go (completes words old new command contents named known s runs no_read no_write)
   where
     go : IsMade (Makes command contents) s ⊎ (s ≡ status.Memory) → IsDone s
     go (inr memory) = inr memory
-    go (inl (Ok made, makes, is)) = inl is
-    go (inl (Err t, makes, is)) = absurd (apart command contents output t can.makes makes)
+    go (inl (Ok output, makes, is)) = inl is
+    go (inl (Err t, makes, is)) = absurd (apart command contents made.0 t made.1 makes)
 
 pub no_read_fault : (words : List Text) (old new : World) → HasNoFault old new → (s : Status) → Runs words old new s
     → IsReadFault s → ⊥

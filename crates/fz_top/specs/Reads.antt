@@ -38,6 +38,15 @@ pub record Reads (words : List Text) (places : List ℕ) (place : ℕ) (kind : A
   pub held : AreHeld files (names_at words before) contents
   pub asked : new ≡ old ++ (whole_entries words before ++ (word_at words place, kind) ∷ [])
 
+-- the files of the first of these words were each read whole, and no other: the list of reads gained just these
+pub record ReadsFirst (words : List Text) (places : List ℕ) (files : Names) (old new : Log) : Type 0 where
+  pub before : List ℕ
+  pub after : List ℕ
+  pub split : before ++ after ≡ places
+  pub contents : List (List ℕ)
+  pub held : AreHeld files (names_at words before) contents
+  pub asked : new ≡ old ++ whole_entries words before
+
 -- why one read stopped
 abbrev pub StopsAt : List Text → ℕ → Names → Counts → Counts → Log → Log → Stop → Type 0
 StopsAt words place files old new asked asked' (stop.Failed p) =
@@ -46,7 +55,7 @@ StopsAt words place files old new asked asked' (stop.Failed p) =
 StopsAt words place files old new asked asked' (stop.TooLong p) =
     (p ≡ place) × (asked' ≡ asked ++ (word_at words place, Long) ∷ [])
     × (new ≡ record old { longs = new.longs }) × Rose old.longs new.longs × IsLong (files (word_at words place))
-StopsAt words place files old new asked asked' stop.Memory = new ≡ old
+StopsAt words place files old new asked asked' stop.Memory = (new ≡ old) × (asked' ≡ asked)
 
 -- one read was whole
 pub record ReadsOne (words : List Text) (place : ℕ) (files : Names) (old new : Counts) (asked asked' : Log)
@@ -56,14 +65,14 @@ pub record ReadsOne (words : List Text) (place : ℕ) (files : Names) (old new :
   pub counts : new ≡ old
   pub entry : asked' ≡ asked ++ (word_at words place, Whole) ∷ []
 
--- why the reads stopped: the count of that fault rose in this call, and no other
+-- why the reads stopped: the count of that fault rose in this call, and no other, or memory was wanted
 abbrev pub StopsBy : List Text → List ℕ → Names → Counts → Counts → Log → Log → Stop → Type 0
 StopsBy words places files old new asked asked' (stop.Failed p) =
     Reads words places p Missed files asked asked' × (new ≡ record old { reads = new.reads }) × Rose old.reads new.reads
 StopsBy words places files old new asked asked' (stop.TooLong p) =
     Reads words places p Long files asked asked'
     × (new ≡ record old { longs = new.longs }) × Rose old.longs new.longs × IsLong (files (word_at words p))
-StopsBy words places files old new asked asked' stop.Memory = new ≡ old
+StopsBy words places files old new asked asked' stop.Memory = (new ≡ old) × ReadsFirst words places files asked asked'
 
 -- the reads were all whole
 pub record ReadsWhole (words : List Text) (places : List ℕ) (files : Names) (old new : Counts) (asked asked' : Log)

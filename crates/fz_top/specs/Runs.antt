@@ -7,8 +7,9 @@ use Rattle.fz_shelf.specs.Files.{Names, Written, Fits, known}
 use Rattle.fz_shelf.specs.Log.{Log}
 use Rattle.fz_shelf.specs.Reading.{Counts}
 use Rattle.fz_status.specs.Words.{Text, word_at}
+use Rattle.fz_top.specs.Accepted.{Accepts}
 use Rattle.fz_top.specs.Commands.{Makes, command_in, inputs_of}
-use Rattle.fz_top.specs.Reads.{AreHeld, names_at, whole_entries, StopsBy}
+use Rattle.fz_top.specs.Reads.{AreHeld, ReadsFirst, names_at, whole_entries, StopsBy}
 use Rattle.build_commands.specs.SeenOutputs.{SeenOutput}
 use Rattle.fz_top.specs.declared.command.Command.{Command}
 use Rattle.fz_top.specs.declared.reading.Stop.{Stop}
@@ -93,6 +94,13 @@ pub record Faulted (words : List Text) (old new : World) (s : Status) : Type 0 w
   pub counts : new.counts ≡ old.counts
   pub untouched : Untouched old new
 
+-- memory was wanted, the command's first files, or none, being read whole
+pub record OutOfMemory (words : List Text) (old new : World) : Type 0 where
+  pub counts : new.counts ≡ old.counts
+  pub untouched : Untouched old new
+  pub reads : (new.asked ≡ old.asked) ⊎ ((command : Command) × (command_in words ≡ Some command)
+      × ReadsFirst words (inputs_of command) old.files old.asked new.asked)
+
 -- the table of statuses
 abbrev pub Runs : List Text → World → World → Status → Type 0
 Runs words old new status.Ok = (output : SeenOutput) × Worked words old new (Ok output) × Delivered words output old new
@@ -100,7 +108,7 @@ Runs words old new status.Usage = (command_in words ≡ None) × (new ≡ old)
 Runs words old new (status.ReadFault p) = Refused words old new (stop.Failed p)
 Runs words old new status.WriteFault = (output : SeenOutput) × Worked words old new (Ok output)
     × ChangesOnly words output.file old.files new.files × (WriteFailed output old new ⊎ PutFailed words output old new)
-Runs words old new status.Memory = (new.counts ≡ old.counts) × Untouched old new
+Runs words old new status.Memory = OutOfMemory words old new
 Runs words old new (status.TooLong p) = Refused words old new (stop.TooLong p)
 Runs words old new s = Faulted words old new s
 
@@ -122,12 +130,11 @@ pub record IsReady (words : List Text) (old : World) (command : Command) (conten
   pub known : AreKnown old.files (names_at words (inputs_of command)) contents
   pub room : RoomFor words old.files old.told (Makes command contents)
 
--- the words are of a command whose files are told, and the contents make an output
-pub record CanBeDone (words : List Text) (files : Names) (command : Command) (contents : List (List ℕ))
-    (output : SeenOutput) : Type 0 where
+-- the words are of a command whose files are told, and the contents are accepted
+pub record CanBeDone (words : List Text) (files : Names) (command : Command) (contents : List (List ℕ)) : Type 0 where
   pub is : command_in words ≡ Some command
   pub known : AreKnown files (names_at words (inputs_of command)) contents
-  pub makes : Makes command contents (Ok output)
+  pub accepted : Accepts command contents
 
 -- no read, write or put failed
 pub record HasNoFault (old new : World) : Type 0 where

@@ -1,4 +1,5 @@
 //! Laws of what commands make, each the contract of a function that does nothing.
+ghost use Rattle.fz_top.specs.Accepted.{AcceptedCommandsMakeOutput};
 ghost use Rattle.fz_top.specs.Runs.{OutputsHaveNoFault};
 
 use build_commands::asm::assembled_sources_have_no_fault;
@@ -7,16 +8,17 @@ use build_commands::check::checked_certs_have_no_fault;
 use build_commands::compile::compiled_texts_have_no_fault;
 use build_commands::exec::ended_runs_have_no_fault;
 use build_commands::hcheck::checked_handlers_have_no_fault;
+use build_commands::laws::accepted_contents_make_output;
 use build_commands::lcompile::two_texts_have_no_fault;
 use build_commands::mcompile::mailbox_texts_have_no_fault;
 use build_commands::scompile::watched_texts_have_no_fault;
 use form_commands::hrun::handled_runs_have_no_fault;
-use form_commands::lrun::level_runs_have_no_fault;
-use form_commands::mrun::posted_runs_have_no_fault;
-use form_commands::srun::watched_runs_have_no_fault;
-use run_commands::debug::debugged_runs_have_no_fault;
-use run_commands::generate::generated_runs_have_no_fault;
-use run_commands::run::certified_runs_have_no_fault;
+use form_commands::lrun::{accepted_level_runs_make_output, level_runs_have_no_fault};
+use form_commands::mrun::{accepted_posted_runs_make_output, posted_runs_have_no_fault};
+use form_commands::srun::{accepted_watched_runs_make_output, watched_runs_have_no_fault};
+use run_commands::debug::{accepted_debug_runs_make_output, debugged_runs_have_no_fault};
+use run_commands::generate::{accepted_numbers_make_output, generated_runs_have_no_fault};
+use run_commands::run::{accepted_runs_make_output, certified_runs_have_no_fault};
 
 /// Contents that make an output make no fault.
 pub(crate) fn outputs_have_no_fault()
@@ -38,4 +40,17 @@ pub(crate) fn outputs_have_no_fault()
     certified_runs_have_no_fault();
     watched_texts_have_no_fault();
     watched_runs_have_no_fault()
+}
+
+/// Contents that are accepted make an output.
+pub(crate) fn accepted_commands_make_output()
+    ensures { AcceptedCommandsMakeOutput }
+{
+    accepted_contents_make_output();
+    accepted_debug_runs_make_output();
+    accepted_numbers_make_output();
+    accepted_runs_make_output();
+    accepted_level_runs_make_output();
+    accepted_posted_runs_make_output();
+    accepted_watched_runs_make_output()
 }

@@ -3,7 +3,6 @@ ghost use Rattle.std.specs.Prelude.{◌≡◌, ◌⊎◌, ◌↔◌, length, Non
 ghost use Rattle.fz_shelf.specs.Told.{gained, HasRoom};
 ghost use Rattle.fz_status.specs.Words.{texts_of};
 ghost use Rattle.fz_top.specs.Commands.{command_in, inputs_of, IsUsage, Makes};
-ghost use Rattle.build_commands.specs.SeenOutputs.{SeenOutput};
 ghost use Rattle.fz_top.specs.Keeping.{AcceptedIsDone, OkKeepsPromise};
 ghost use Rattle.fz_top.specs.Reads.{names_at, AreThere};
 ghost use Rattle.fz_top.specs.Runs.{world, Runs, IsReady, IsReadFault, IsWriteFault, IsTooLong, AreKnown, CanBeDone};
@@ -14,12 +13,12 @@ ghost use Rattle.fz_top.specs.declared.command.Command.{Command};
 
 use crate::command::command_of;
 use crate::delivery::deliver;
-use crate::laws::outputs_have_no_fault;
+use crate::laws::{accepted_commands_make_output, outputs_have_no_fault};
 use crate::reading::{Stop, read_all};
 use fz_shelf::{Shelf, Sink};
 use fz_status::{Status, report};
 use fz_words::Refusal;
-use promise::{accepted_files_make_output, certified_runs_keep_promise};
+use promise::{accepted_files_give_firmware, certified_runs_keep_promise};
 use std::alloc::Global;
 
 /// Does what the words ask for.
@@ -103,10 +102,10 @@ pub fn fuzz12<S: Shelf, O: Sink, F: Sink>(
         command contents
         → IsMade (Makes command contents) result ⊎ (result ≡ Status.Memory) }
 
-    // where the contents make an output it is done, unless a count rose, and also where the shelf and
-    // out are reliable with room
-    ensures done { (command : Command) (contents : List (List ℕ)) (output : SeenOutput)
-        → CanBeDone (texts_of words.now) (S.files shelf.old) command contents output
+    // where the contents are accepted it is done, unless a count rose, and also where the shelf and out
+    // are reliable with room
+    ensures done { (command : Command) (contents : List (List ℕ))
+        → CanBeDone (texts_of words.now) (S.files shelf.old) command contents
         → HasNoFault
         (world (S.files shelf.old) (S.counts shelf.old) (S.asked shelf.old) (O.told out.old) (O.faults out.old))
         (world (S.files shelf.new) (S.counts shelf.new) (S.asked shelf.new) (O.told out.new) (O.faults out.new))
@@ -134,8 +133,9 @@ pub fn fuzz12<S: Shelf, O: Sink, F: Sink>(
     ensures err_reliable { F.reliable err.old → F.reliable err.new }
 {
     outputs_have_no_fault();
+    accepted_commands_make_output();
     certified_runs_keep_promise();
-    accepted_files_make_output();
+    accepted_files_give_firmware();
     let status = run(alloc, words, shelf, out);
     report(err, words, &status);
     status

@@ -1,4 +1,4 @@
--- Accepted files make an output.
+-- Accepted files give firmware, and keep the promise.
 use Rattle.std.proofs.Common.{length, refl}
 use Rattle.fuzzy_meaning.specs.declared.block.Block.{Block}
 use Rattle.cpu12_asm.specs.declared.image.Image.{Image}
@@ -12,7 +12,8 @@ use Rattle.eval_code.specs.declared.width.Width.{Width}
 use Rattle.eval_code.specs.declared.width.Width.TheVariants.{Byte, Word}
 use Rattle.run_commands.specs.CertifiedRun.{Files}
 use Rattle.run_commands.specs.Run.{AcceptedRunsMakeOutput, Accepts, run_lines, run_with}
-use Rattle.promise.specs.Laws.{AcceptedFilesKeepPromise, AcceptedFilesMakeOutput, AreAccepted, CertifiedRunsKeepPromise}
+use Rattle.promise.specs.Laws.{AcceptedFilesGiveFirmware, AcceptedFilesKeepPromise, AreAccepted}
+use Rattle.promise.specs.Laws.{CertifiedRunsKeepPromise}
 
 -- ---- the firmware of accepted files
 
@@ -34,7 +35,7 @@ is_firmware Byte b image is =
 is_firmware Word b image is =
     record { image = is; memory_map = refl; inputs = refl; outputs = refl; instructions = refl; steps = refl }
 
-pub accepts : (width : Width) (files : Files) (a : AreAccepted width files)
+accepts : (width : Width) (files : Files) (a : AreAccepted width files)
     → Accepts width files a.block (firmware_with width a.block a.image) a.errors a.samples a.plan
 accepts width files a = record {
   compiled = record {
@@ -47,15 +48,14 @@ accepts width files a = record {
   inputs = record { accepted = a.accepted; in_range = a.in_range; good_plan = a.good_plan };
 }
 
--- what a run of them gives
-pub made_of : AcceptedRunsMakeOutput → AcceptedFilesMakeOutput
-made_of made width flags files byte a =
-    made (run_with width flags) files a.block (firmware_with width a.block a.image) a.errors a.samples a.plan byte
-    (accepts width files a)
+pub give_firmware : AcceptedFilesGiveFirmware
+give_firmware width flags files a =
+    (a.block, firmware_with width a.block a.image, a.errors, a.samples, a.plan, accepts width files a)
 
-pub accepted_keep : CertifiedRunsKeepPromise → AcceptedFilesMakeOutput → AcceptedFilesKeepPromise
+pub accepted_keep : CertifiedRunsKeepPromise → AcceptedRunsMakeOutput → AcceptedFilesKeepPromise
 accepted_keep keep made width flags files byte a =
-    let gives = made width flags files byte a in
+    let gives = made (run_with width flags) files a.block (firmware_with width a.block a.image) a.errors a.samples
+    a.plan byte (accepts width files a) in
     let run = gives.1 in
     let report = run.report in
     (report, gives.2, run_lines report run.certified.left, keep width flags files report run.certified byte)

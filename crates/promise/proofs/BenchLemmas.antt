@@ -54,7 +54,8 @@ ends_after flags f P n s c = record {
   there = c.ended;
 }
 
-pub read_off : (P : State → Type 0) (flags : ℕ) (f : Firmware) (plan : List Request) (k : ℕ) (ns : List ℕ) (samples : List (List ℕ))
+pub read_off : (P : State → Type 0) (flags : ℕ) (f : Firmware) (plan : List Request) (k : ℕ) (ns : List ℕ)
+    (samples : List (List ℕ))
     (s : State) → AllComplete P (with_writes flags f) ns samples s
     → AreReadOff (with_writes flags f) (requests_in plan) k samples (rows_of_samples flags f plan k ns samples s) s
 read_off P flags f plan k [] [] s all = tt

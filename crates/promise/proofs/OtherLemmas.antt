@@ -12,13 +12,14 @@ use Rattle.watched_runs.specs.Samples.{with_upsets}
 use Rattle.fz_run.specs.Rows.{first_state, input_bytes}
 use Rattle.promise.specs.Bench.{AreReadOff, requests_in}
 use Rattle.promise.proofs.BenchLemmas.{read_off_expected}
-use Rattle.promise.specs.OtherRuns.{DebuggedRunsServe, WatchedRunsServe, GeneratedRunsServe, HandledRunsServe, OtherRunsServe, SlowRunsServe}
+use Rattle.promise.specs.OtherRuns.{DebuggedRunsServe, WatchedRunsServe, GeneratedRunsServe, HandledRunsServe}
+use Rattle.promise.specs.OtherRuns.{OtherRunsServe, SlowRunsServe}
 use Rattle.promise.specs.Laws.{AnswersServe}
 
 generated : AnswersServe → GeneratedRunsServe
 generated keep number output g =
-    keep Byte 0 g.block g.firmware (map input_bytes g.samples) g.requests g.report.rows (omega arith) g.gives.spelled.valid g.gives.limits
-    g.gives.compiled g.gives.wide g.reported.ran g.reported.follows
+    keep Byte 0 g.block g.firmware (map input_bytes g.samples) g.requests g.report.rows (omega arith)
+    g.gives.spelled.valid g.gives.limits g.gives.compiled g.gives.wide g.reported.ran g.reported.follows
 
 debugged : AnswersServe → DebuggedRunsServe
 debugged keep debug files output d byte =
@@ -28,8 +29,8 @@ debugged keep debug files output d byte =
 
 handled : AnswersServe → HandledRunsServe
 handled keep flags files report h byte = record {
-  serves = keep Byte flags h.block h.firmware (map input_bytes h.samples) h.plan (map (λ row. row.row) report.rows) byte h.compiled.spelled.valid
-      h.compiled.limits h.compiled.compiled h.compiled.wide h.reported.ran h.reported.follows;
+  serves = keep Byte flags h.block h.firmware (map input_bytes h.samples) h.plan (map (λ row. row.row) report.rows) byte
+      h.compiled.spelled.valid h.compiled.limits h.compiled.compiled h.compiled.wide h.reported.ran h.reported.follows;
   last = _;
   ran = record {
     most = h.firmware.step_bound;
@@ -41,9 +42,11 @@ handled keep flags files report h byte = record {
 
 slow : AnswersServe → SlowRunsServe
 slow keep flags files report l byte = record {
-  serves = keep Byte flags l.slow l.two.slow (map input_bytes l.samples) (plan_of l.levels) (map (λ row. row.row) report.rows) byte
+  serves = keep Byte flags l.slow l.two.slow (map input_bytes l.samples) (plan_of l.levels)
+      (map (λ row. row.row) report.rows) byte
       l.accepts.compiled.slow_is.spelled.valid l.accepts.compiled.slow_is.limits
-      l.accepts.compiled.both.slow_alone.firmware l.accepts.compiled.both.slow_alone.narrow l.reported.ran l.reported.follows;
+      l.accepts.compiled.both.slow_alone.firmware l.accepts.compiled.both.slow_alone.narrow l.reported.ran
+      l.reported.follows;
   last = _;
   ran = record {
     most = l.two.slow.step_bound;
@@ -77,4 +80,10 @@ watched law flags files report w =
 
 pub others_serve : TakenAtOnce → AnswersServe → OtherRunsServe
 others_serve law keep =
-    record { debugged = debugged keep; generated = generated keep; handled = handled keep; slow = slow keep; watched = watched law }
+    record {
+      debugged = debugged keep;
+      generated = generated keep;
+      handled = handled keep;
+      slow = slow keep;
+      watched = watched law;
+    }

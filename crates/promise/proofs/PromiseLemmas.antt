@@ -11,7 +11,8 @@ use Rattle.fz_num.specs.Fractions.{over}
 use Rattle.fuzzy_meaning.specs.declared.block.Output.{Output}
 use Rattle.box_tree.specs.declared.cert.Cert.{Cert}
 use Rattle.error_bound.specs.declared.boxes.Leaf.{Leaf}
-use Rattle.error_bound.specs.Bounds.{bound as leaf_bound, errors_from, in_millionths, offset, silent_bound, strong_bound}
+use Rattle.error_bound.specs.Bounds.{bound as leaf_bound, errors_from, in_millionths, offset, silent_bound}
+use Rattle.error_bound.specs.Bounds.{strong_bound}
 use Rattle.cert_check.specs.Acceptance.{IsAccepted}
 use Rattle.eval_code.specs.Widths.{parts}
 use Rattle.std.proofs.lemmas.List.Elements.{All-nil}
@@ -117,7 +118,8 @@ some_le f n each (Some d) = each d
 capped : (b : Block) (e : ℕ → ℕ → ℕ) (o : ℕ) (x : Output) (h : ℕ) (leaf : Leaf) → leaf_bound b e o x h leaf ≤ 1000000
 capped b e o x h leaf = either_le (leaf.k == 0) (silent_bound x)
     (strong_bound x h (errors_from b e o 1 x.singletons) leaf.k) 1000000
-    (some_le (λ d. in_millionths (over (offset x d) (255 * distance x.lo x.hi))) 1000000 (λ d. min_le 1000000 _) x.default)
+    (some_le (λ d. in_millionths (over (offset x d) (255 * distance x.lo x.hi))) 1000000 (λ d. min_le 1000000 _)
+    x.default)
     (min_le 1000000 _)
 
 plus_one : (k : ℕ) → k + 1 - 1 ≡ k

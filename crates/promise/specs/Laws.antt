@@ -1,6 +1,5 @@
 -- Laws of the promise.
 use Rattle.build_commands.specs.Certs.{AcceptsCert}
-use Rattle.build_commands.specs.SeenOutputs.{SeenOutput}
 use Rattle.codegen.specs.Firmwares.{IsFirmwareOf}
 use Rattle.codegen.specs.Images.{IsImageOf, firmware_items}
 use Rattle.codegen.specs.declared.firmware.Firmware.{Firmware}
@@ -16,7 +15,7 @@ use Rattle.interrupt_plan.specs.declared.Request.{Request}
 use Rattle.promise.specs.Promise.{IsPrintable, Promise, Serves}
 use Rattle.rule_layout.specs.Layouts.{IsWithinLimits}
 use Rattle.run_commands.specs.CertifiedRun.{CertifiedRun, Files}
-use Rattle.run_commands.specs.Run.{RunGives, run_lines, run_with}
+use Rattle.run_commands.specs.Run.{RunAccepts, run_lines, run_with}
 use Rattle.fz_run.specs.Answering.{AnswersUnder}
 use Rattle.fz_run.specs.Rows.{firmware_rows}
 use Rattle.run_law.specs.Forms.{RowSeen}
@@ -62,10 +61,10 @@ pub record AreAccepted (width : Width) (files : Files) : Type 0 where
   pub plan : List Request
   pub good_plan : SpellsPlan files.plan plan
 
--- Files that are accepted make an output, with the errors that the certificate is accepted with.
-abbrev pub AcceptedFilesMakeOutput : Type 0
-AcceptedFilesMakeOutput = (width : Width) (flags : ℕ) (files : Files) → flags < 2 ^ 8 → (a : AreAccepted width files)
-    → (output : SeenOutput) × (gives : RunGives (run_with width flags) files output) × (gives.report.errors ≡ a.errors)
+-- Such files are those that the command accepts.
+abbrev pub AcceptedFilesGiveFirmware : Type 0
+AcceptedFilesGiveFirmware =
+    (width : Width) (flags : ℕ) (files : Files) → AreAccepted width files → RunAccepts (run_with width flags) files
 
 -- The sentence with no program: accepted files have lines that keep the promise, with the errors that the certificate
 -- is accepted with.

@@ -52,8 +52,8 @@ abbrev pub SlowRunsServe : Type 0
 SlowRunsServe = (flags : ℕ) (files : LevelFiles) (report : LevelReport) (l : LevelRun flags files report)
     → flags < 2 ^ 8 → SlowServes flags files report l
 
--- the rows, before FAULT is taken from the answers, are those of the machine in which the tables are upset, and are read
--- off its run without interrupts
+-- the rows, before FAULT is taken from the answers, are those of the machine in which the tables are upset, and are
+-- read off its run without interrupts
 pub record WatchedServes (flags : ℕ) (files : WatchedFiles) (report : WatchedReport) (w : WatchedRun flags files report)
     : Type 0 where
   pub rows : List (RowSeen Watched)

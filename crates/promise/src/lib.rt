@@ -1,11 +1,11 @@
-//! What the program promises of a certified run (`Promise`), in the words of its one sentence: the block that FCL spells,
-//! the image that IMAGE's records give, the samples, the interrupts, the machine's run of that image, FCL's exact
+//! What the program promises of a certified run (`Promise`), in the words of its one sentence: the block that FCL
+//! spells, the image that IMAGE's records give, the samples, the interrupts, the machine's run of that image, FCL's exact
 //! answers, and the numbers that are printed. No pass of the compiler and no part of the checker stands in it.
 //!
 //! Its functions do nothing: each is a law, and its contract says it.
 #![tactic(auto)]
 
-ghost use Rattle.promise.specs.Laws.{AcceptedFilesKeepPromise, AcceptedFilesMakeOutput, CertifiedRunsKeepPromise};
+ghost use Rattle.promise.specs.Laws.{AcceptedFilesGiveFirmware, AcceptedFilesKeepPromise, CertifiedRunsKeepPromise};
 ghost use Rattle.promise.specs.Laws.{PrintedNumbersAreOne};
 ghost use Rattle.promise.specs.OtherRuns.{OtherRunsServe};
 
@@ -30,19 +30,17 @@ pub fn printed_numbers_are_one()
     ensures { PrintedNumbersAreOne }
 {}
 
-/// Files that are accepted make an output.
-pub fn accepted_files_make_output()
-    ensures { AcceptedFilesMakeOutput }
-{
-    accepted_runs_make_output()
-}
+/// Files that are accepted give firmware, and are those that the command accepts.
+pub fn accepted_files_give_firmware()
+    ensures { AcceptedFilesGiveFirmware }
+{}
 
 /// The sentence with no program: accepted files have lines that keep the promise.
 pub fn accepted_files_keep_promise()
     ensures { AcceptedFilesKeepPromise }
 {
     certified_runs_keep_promise();
-    accepted_files_make_output()
+    accepted_runs_make_output()
 }
 
 /// The machine serves the samples of the other runs that are a form's.

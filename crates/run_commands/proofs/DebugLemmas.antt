@@ -1,5 +1,5 @@
 -- What a debugged run gives.
-use Rattle.std.proofs.Common.{◌≡◌, ◌∙◌, ℕ, List, [], ◌++◌, ap, ap₂, sym, subst}
+use Rattle.std.proofs.Common.{◌≡◌, ◌∙◌, ℕ, List, [], ◌++◌, ap, ap₂, refl, sym, subst}
 use Rattle.std.specs.Prelude.{None, String, map}
 use Rattle.std.specs.List.{flat_map}
 use Rattle.std.specs.declared.alloc.Global.{Global}
@@ -8,7 +8,7 @@ use Rattle.codegen.specs.declared.firmware.Firmware.{Firmware}
 use Rattle.interrupt_plan.specs.declared.Request.{Request}
 use Rattle.trace_io.specs.declared.sample.Sample.{Sample}
 use Rattle.run_law.specs.Forms.{RowSeen}
-use Rattle.fz_run.specs.Answering.{AnswersItsBlock}
+use Rattle.fz_run.specs.Answering.{AnswersItsBlock, AnswersUnderPlans}
 use Rattle.fz_run.specs.Rows.{firmware_rows, input_bytes, row_seen}
 use Rattle.fz_run.specs.declared.rows.Row.{Row}
 use Rattle.fz_shelf.specs.Lines.{text_of}
@@ -22,7 +22,7 @@ use Rattle.fz_status.specs.declared.status.Status.TheVariants as status
 use Rattle.build_commands.specs.Firmwares.{GivesFirmware}
 use Rattle.run_reports.specs.Inputs.{sample_refusals}
 use Rattle.run_commands.specs.Debug.{DebugFiles, DebugGives, Debugs, debug_lines, debug_refusals, run_positions}
-use Rattle.run_commands.specs.Debug.{shown_line}
+use Rattle.run_commands.specs.Debug.{AcceptedDebugRunsMakeOutput, shown_line}
 use Rattle.build_commands.specs.SeenOutputs.{SeenOutput}
 use Rattle.build_commands.specs.Lines.{counted}
 use Rattle.run_reports.specs.RowLines.{row_lines}
@@ -67,6 +67,17 @@ gives fit debug files block firmware samples slice plan script orders items item
           (fit block files.trace samples a.in_range);
       output_is = ap only_text (written ∙ ap₂ debug_lines shown_is same_rows);
     }
+
+-- accepted files make an output
+pub debug_made : SpelledBytesFit → AnswersUnderPlans → AcceptedDebugRunsMakeOutput
+debug_made fit under debug files byte (block, firmware, samples, plan, script, a) =
+    let bytes = map input_bytes samples in
+    let rows = (firmware_rows firmware bytes plan debug.flags).rows in
+    let items = shown script (run_positions firmware debug.flags samples plan) in (
+      _,
+      gives fit debug files block firmware samples samples plan script script items items rows rows _ a refl refl refl
+          refl (under firmware debug.flags bytes plan byte a.good_plan.good) refl refl refl,
+    )
 
 -- what refuses the trace or the plan refuses the run
 pub debug_refused : (files : DebugFiles) (block : Block) (firmware : Firmware)

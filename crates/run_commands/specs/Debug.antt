@@ -1,5 +1,5 @@
 -- The command `debug FCL IMAGE TRACE PLAN FLAGS SCRIPT`.
-use Rattle.std.specs.Prelude.{◌≡◌, ℕ, List, [], ◌∷◌, ◌++◌, codes, decimal, map, Option, None, option_map}
+use Rattle.std.specs.Prelude.{◌≡◌, ◌<◌, ◌^◌, ℕ, List, [], ◌∷◌, ◌++◌, codes, decimal, map, Option, None, option_map}
 use Rattle.std.specs.Prelude.{Result, Ok, Err}
 use Rattle.std.specs.List.{flat_map}
 use Rattle.fuzzy_meaning.specs.declared.block.Block.{Block}
@@ -21,7 +21,7 @@ use Rattle.debug_script.specs.declared.order.Order.{Order}
 use Rattle.debug_script.specs.declared.shown.Shown.{Shown}
 use Rattle.debug_script.specs.declared.shown.Shown.TheVariants.{Stop, Registers, Bytes}
 use Rattle.build_commands.specs.Contents.{content_at}
-use Rattle.build_commands.specs.SeenOutputs.{SeenOutput}
+use Rattle.build_commands.specs.SeenOutputs.{HasOutput, SeenOutput}
 use Rattle.build_commands.specs.Firmwares.{GivesFirmware, OfFirmware, RefusesText}
 use Rattle.build_commands.specs.Images.{RefusesImage}
 use Rattle.build_commands.specs.Lines.{counted, with_registers}
@@ -130,3 +130,12 @@ debug_refusals files s = OfFirmware Byte files.fcl (λ block firmware.
 abbrev pub DebugMakes : DebugRun → DebugFiles → Result SeenOutput Status → Type 0
 DebugMakes debug files (Ok output) = DebugGives debug files output
 DebugMakes debug files (Err s) = Refuses (debug_refusals files) s
+
+abbrev pub DebugAccepts : DebugFiles → Type 0
+DebugAccepts files = (block : Block) × (firmware : Firmware) × (samples : List Sample) × (plan : List Request)
+    × (script : List Order) × Debugs files block firmware samples plan script
+
+-- files that are accepted make an output
+abbrev pub AcceptedDebugRunsMakeOutput : Type 0
+AcceptedDebugRunsMakeOutput = (debug : DebugRun) (files : DebugFiles) → debug.flags < 2 ^ 8 → DebugAccepts files
+    → HasOutput (DebugMakes debug files)

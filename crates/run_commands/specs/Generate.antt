@@ -19,7 +19,7 @@ use Rattle.fz_status.specs.declared.status.Status.{Status}
 use Rattle.fz_status.specs.declared.status.Status.TheVariants as status
 use Rattle.run_reports.specs.Reports.{IsReportOf, Report}
 use Rattle.build_commands.specs.Certify.{StopsHalving}
-use Rattle.build_commands.specs.SeenOutputs.{SeenOutput}
+use Rattle.build_commands.specs.SeenOutputs.{HasOutput, SeenOutput}
 use Rattle.build_commands.specs.Firmwares.{GivesFirmware}
 use Rattle.build_commands.specs.Lines.{counted, error_line, line}
 use Rattle.build_commands.specs.Words.{number_up_to}
@@ -92,3 +92,21 @@ generate_refusals number s = ⊥
 abbrev pub GenerateMakes : Generate → Result SeenOutput Status → Type 0
 GenerateMakes generate (Ok output) = GenerateGives generate.number output
 GenerateMakes generate (Err s) = Refuses (generate_refusals generate.number) s
+
+-- The texts spell what the number draws, the block has this firmware, and halving it ends with this certificate.
+pub record AcceptsNumber (number : ℕ) (block : Block) (firmware : Firmware) (samples : List Sample)
+    (requests : List Request) (cert : Cert) : Type 0 where
+  pub text : List ℕ
+  pub trace : List ℕ
+  pub plan : List ℕ
+  pub workload : IsWorkload number text trace plan block samples requests
+  pub gives : GivesFirmware Byte text block firmware
+  pub halving : IsHalving block (parts Byte) generated_target cert
+
+abbrev pub GenerateAccepts : Generate → Type 0
+GenerateAccepts generate = (block : Block) × (firmware : Firmware) × (samples : List Sample)
+    × (requests : List Request) × (cert : Cert) × AcceptsNumber generate.number block firmware samples requests cert
+
+-- a number that is accepted makes an output
+abbrev pub AcceptedNumbersMakeOutput : Type 0
+AcceptedNumbersMakeOutput = (generate : Generate) → GenerateAccepts generate → HasOutput (GenerateMakes generate)

@@ -82,3 +82,7 @@ AcceptedRunsMakeOutput = (run : Run) (files : Files) (block : Block) (firmware :
     (samples : List Sample) (plan : List Request) → run.flags < 2 ^ 8
     → Accepts run.width files block firmware errors samples plan
     → (output : SeenOutput) × (gives : RunGives run files output) × (gives.report.errors ≡ errors)
+
+abbrev pub RunAccepts : Run → Files → Type 0
+RunAccepts run files = (block : Block) × (firmware : Firmware) × (errors : List ℕ) × (samples : List Sample)
+    × (plan : List Request) × Accepts run.width files block firmware errors samples plan

@@ -4,8 +4,9 @@ ghost use Rattle.std.specs.List.{All};
 ghost use Rattle.fz_status.specs.Refusals.{IsRefusal};
 ghost use Rattle.fz_status.specs.Words.{texts_of};
 ghost use Rattle.build_commands.specs.Contents.{bytes_of};
-ghost use Rattle.run_commands.specs.Debug.{DebugFiles, DebugMakes, Debugs, debug_files, debug_in, debug_refusals};
-ghost use Rattle.build_commands.specs.SeenOutputs.{OutputHasNoFault, IsResultOf};
+ghost use Rattle.run_commands.specs.Debug.{AcceptedDebugRunsMakeOutput, DebugFiles, DebugMakes, Debugs};
+ghost use Rattle.run_commands.specs.Debug.{debug_files, debug_in, debug_refusals};
+ghost use Rattle.build_commands.specs.SeenOutputs.{OutputHasNoFault, OutputsAreOne, IsResultOf};
 ghost use Rattle.run_commands.specs.declared.debug.DebugRun.{DebugRun as TheDebug};
 
 use crate::shown_lines::lines;
@@ -18,11 +19,13 @@ use build_commands::output::Output;
 use build_commands::words::flags;
 use debug_script::{Script, ScriptFault, debug, read_script};
 use eval_code::Width;
+use fz_run::laws::answers_under_plans;
 use fz_status::{Status, word};
 use interrupt_plan::Plan;
 use run_reports::inputs::samples_and_plan;
 use run_reports::laws::{
-    spelled_bytes_fit, spelled_samples_have_no_fault, spelled_traces_are_short,
+    spelled_bytes_fit, spelled_inputs_are_one, spelled_samples_have_no_fault,
+    spelled_traces_are_short,
 };
 use std::alloc::Global;
 use trace_io::Sample;
@@ -112,4 +115,20 @@ pub fn debugged_runs_have_no_fault()
     given_firmwares_are_one();
     given_images_have_no_fault();
     spelled_samples_have_no_fault()
+}
+
+/// Files that are accepted make an output.
+pub fn accepted_debug_runs_make_output()
+    ensures { AcceptedDebugRunsMakeOutput }
+{
+    spelled_bytes_fit();
+    answers_under_plans()
+}
+
+/// Files make at most one output.
+pub fn debug_outputs_are_one()
+    ensures { (debug : TheDebug) (files : DebugFiles) → OutputsAreOne (DebugMakes debug files) }
+{
+    given_firmwares_are_one();
+    spelled_inputs_are_one()
 }

@@ -8,7 +8,7 @@ ghost use Rattle.fz_run.specs.Rows.{row_seen};
 ghost use Rattle.fz_shelf.specs.Lines.{text_of};
 ghost use Rattle.fz_status.specs.Words.{texts_of};
 ghost use Rattle.build_commands.specs.SeenOutputs.{OutputHasNoFault, IsResultOf};
-ghost use Rattle.run_commands.specs.Generate.{GenerateMakes, generate_in, generate_lines};
+ghost use Rattle.run_commands.specs.Generate.{AcceptedNumbersMakeOutput, GenerateMakes, generate_in, generate_lines};
 ghost use Rattle.run_commands.specs.Generate.{frames_of, resumed_of, answers_of};
 ghost use Rattle.run_commands.specs.declared.generate.Generate.{Generate as TheGenerate};
 
@@ -19,6 +19,7 @@ use build_commands::words::number32_in;
 use codegen::{Firmware, compile};
 use eval_code::Width;
 use fuzzy_meaning::Block;
+use fz_run::laws::answers_under_plans;
 use fz_run::{Row, run};
 use fz_status::{Status, word};
 use rule_layout::{LayoutFault, limits_have_no_fault};
@@ -155,4 +156,12 @@ pub fn generated_runs_have_no_fault()
     ensures { (generate : TheGenerate) → OutputHasNoFault (GenerateMakes generate) }
 {
     halved_blocks_do_not_stop()
+}
+
+/// A number that is accepted makes an output.
+pub fn accepted_numbers_make_output()
+    ensures { AcceptedNumbersMakeOutput }
+{
+    answers_are_reported();
+    answers_under_plans()
 }

@@ -6,12 +6,14 @@ ghost use Rattle.fz_shelf.specs.Lines.{text_of};
 ghost use Rattle.fz_status.specs.Refusals.{IsRefusal};
 ghost use Rattle.fz_status.specs.Words.{texts_of};
 ghost use Rattle.build_commands.specs.Contents.{bytes_of};
-ghost use Rattle.build_commands.specs.SeenOutputs.{OutputHasNoFault, IsResultOf};
+ghost use Rattle.build_commands.specs.SeenOutputs.{OutputHasNoFault, OutputsAreOne, IsResultOf};
 ghost use Rattle.run_reports.specs.Reports.{report_of};
 ghost use Rattle.run_commands.specs.CertifiedRun.{Files, left_of};
-ghost use Rattle.run_commands.specs.Run.{Accepts, AcceptedRunsMakeOutput, RunMakes, files_in, run_in, run_lines, run_refusals};
+ghost use Rattle.run_commands.specs.Run.{AcceptedRunsMakeOutput, Accepts, RunMakes, files_in, run_in, run_lines};
+ghost use Rattle.run_commands.specs.Run.{run_refusals};
 ghost use Rattle.run_commands.specs.declared.run.Run.{Run as TheRun};
 
+use build_commands::certs::accepted_errors_are_one;
 use build_commands::contents::content;
 use build_commands::firmware::{
     Compiled, firmware_of, given_firmwares_are_one, spelled_texts_have_no_fault,
@@ -27,7 +29,9 @@ use fz_run::laws::answers_under_plans;
 use fz_run::{Row, run_on};
 use fz_status::{Status, word};
 use run_reports::inputs::{Inputs, inputs_of};
-use run_reports::laws::{accepted_inputs_have_no_fault, answers_are_reported};
+use run_reports::laws::{
+    accepted_inputs_have_no_fault, answers_are_reported, spelled_inputs_are_one,
+};
 use run_reports::row_lines::{begun, push_rows};
 use std::alloc::{AllocError, Global};
 
@@ -144,4 +148,13 @@ pub fn accepted_runs_make_output()
 {
     answers_are_reported();
     answers_under_plans()
+}
+
+/// Files make at most one output.
+pub fn run_outputs_are_one()
+    ensures { (run : TheRun) (files : Files) → OutputsAreOne (RunMakes run files) }
+{
+    given_firmwares_are_one();
+    accepted_errors_are_one();
+    spelled_inputs_are_one()
 }

@@ -1,3 +1,4 @@
 pub mod LineLemmas
+pub mod OneLemmas
 pub mod RefusalLemmas
 pub mod ReportLemmas

@@ -66,3 +66,19 @@ AcceptedInputsHaveNoFault = (width : Width) (block : Block) (cert trace plan err
     (requests : List Request) (s : Status) → IsValid block
     → AcceptsInputs width block cert trace plan errors samples requests
     → input_refusals width block cert trace plan s → ⊥
+
+-- a trace spells the bytes of one list of samples
+abbrev pub SpelledSamplesAreOne : Type 0
+SpelledSamplesAreOne = (inputs : List Input) (trace : List ℕ) (samples those : List Sample)
+    → SpellsTrace inputs trace samples → SpellsTrace inputs trace those
+    → map input_bytes samples ≡ map input_bytes those
+
+-- a text spells one plan
+abbrev pub SpelledPlansAreOne : Type 0
+SpelledPlansAreOne =
+    (text : List ℕ) (plan other : List Request) → SpellsPlan text plan → SpellsPlan text other → plan ≡ other
+
+-- so it is with both
+pub record SpelledInputsAreOne : Type 0 where
+  pub samples : SpelledSamplesAreOne
+  pub plans : SpelledPlansAreOne

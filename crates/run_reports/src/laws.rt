@@ -1,7 +1,7 @@
 //! Laws of reports and of the files that runs share, each the contract of a function that does nothing.
 ghost use Rattle.run_reports.specs.Laws.{AcceptedInputsHaveNoFault, AnswersAreReported, AnswersKeepTheBound};
 ghost use Rattle.run_reports.specs.Laws.{SpelledBytesFit, SpelledSamplesHaveNoFault, SpelledTracesAreOneLong};
-ghost use Rattle.run_reports.specs.Laws.{SpelledTracesAreShort};
+ghost use Rattle.run_reports.specs.Laws.{SpelledInputsAreOne, SpelledTracesAreShort};
 
 use build_commands::certs::accepted_certs_have_no_fault;
 use certified_run::answers_are_within_errors;
@@ -52,4 +52,11 @@ pub fn accepted_inputs_have_no_fault()
 {
     accepted_certs_have_no_fault();
     spelled_samples_have_no_fault()
+}
+
+/// A trace spells the bytes of one list of samples, and a text one plan.
+pub fn spelled_inputs_are_one()
+    ensures { SpelledInputsAreOne }
+{
+    first_rows_are_one()
 }

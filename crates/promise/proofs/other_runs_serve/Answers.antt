@@ -3,4 +3,5 @@ use Rattle.promise.proofs.PromiseLemmas.{answers_serve}
 use Rattle.promise.proofs.other_runs_serve.Goals as goal
 
 pub returns : goal.returns
-returns c = others_serve c.taken_at_once.ensures (answers_serve c.firmware_answers.ensures c.plain_is_one_step.ensures c.arrives_plainly.ensures)
+returns c = others_serve c.taken_at_once.ensures
+    (answers_serve c.firmware_answers.ensures c.plain_is_one_step.ensures c.arrives_plainly.ensures)

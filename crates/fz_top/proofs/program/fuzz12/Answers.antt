@@ -1,6 +1,6 @@
 use Rattle.std.proofs.Common.{inl, inr, ⊎_elim}
 use Rattle.fz_status.specs.Words.{texts_of, word_at}
-use Rattle.fz_top.proofs.FlagsLemmas.{flags_small}
+use Rattle.fz_top.proofs.FlagsLemmas.{byte_flags, flags_small}
 use Rattle.fz_top.proofs.CompletenessLemmas.{asked, can, contents_of, room_for}
 use Rattle.fz_top.proofs.FaultLemmas.{carries}
 use Rattle.fz_top.proofs.KeepsLemmas.{ok_keeps}
@@ -32,10 +32,12 @@ returns-clause-usage_always g c = λ is.
     usage_status (texts_of c.args.words.now) _ _ _ c.run-status.ensures.runs (c.run-status.ensures.law.1 is)
 
 pub returns-clause-done : goal.returns-clause-done
-returns-clause-done g c = λ command contents output can why.
+returns-clause-done g c = λ command contents can why.
     let words = texts_of c.args.words.now in
     let run = c.run-status.ensures in
-    let ends = does c.outputs_have_no_fault.ensures words _ _ command contents output can _ run.runs in
+    let byte = byte_flags words command can.is in
+    let made = c.accepted_commands_make_output.ensures command contents byte can.accepted in
+    let ends = does c.outputs_have_no_fault.ensures words _ _ command contents can.is can.known made _ run.runs in
     elim why [
       | inl none ↦ ends (no_read_fault words _ _ none _ run.runs) (no_write_fault words _ _ none _ run.runs)
       | inr reliable ↦ ends (run.reads_steady reliable.0 command can.is (known_there _ _ contents can.known))
@@ -55,7 +57,6 @@ returns-clause-accepted g c = λ width flags files are told accepted why.
     let words = texts_of c.args.words.now in
     let byte = flags_small (word_at words 7) flags are.run.flags_are in
     let keep = c.certified_runs_keep_promise.ensures in
-    let made = c.accepted_files_make_output.ensures width flags files byte accepted in
-    let it = can words width flags files _ made.0 are told made.1 in
-    returns-clause-done g c (asked width flags) (contents_of files) made.0 it
+    let given = c.accepted_files_give_firmware.ensures width flags files accepted in
+    returns-clause-done g c (asked width flags) (contents_of files) (can words width flags files _ are told given)
     (⊎_elim inl (λ r. inr (r.0.0, r.0.1, room_for keep words width flags files _ _ byte r.1)) why)

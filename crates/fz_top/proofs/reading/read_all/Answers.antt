@@ -1,5 +1,6 @@
 use Rattle.std.proofs.Common.{◌≡◌, Err, ◌∙◌, rules}
-use Rattle.fz_top.proofs.ReadLemmas.{read_more, stops_later, there_later, held_small}
+use Rattle.fz_top.specs.declared.reading.Stop.TheVariants as stop
+use Rattle.fz_top.proofs.ReadLemmas.{read_more, stops_behind, stops_later, there_later, held_small}
 use Rattle.fz_top.proofs.reading.read_all.Goals as goal
 
 pub returns-in_err-read_one-clause-stops : goal.returns-in_err-read_one-clause-stops
@@ -13,6 +14,12 @@ returns-in_err-read_one-clause-steady g c = λ reliable there.
     let passed : c.from_residual.result ≡ Err c.in_err-read_one.field-0.0 = search rules in
     rw passed (c.in_err-read_one.ensures.steady (c.loop-place.invariant.reliable reliable)
     (there_later _ _ _ _ c.loop-place.place-index _ c.loop-place-test.true c.loop-place.invariant.files there))
+
+pub returns-in_err-push-clause-stops : goal.returns-in_err-push-clause-stops
+returns-in_err-push-clause-stops g c =
+    let passed : c.from_residual-in_err-push.result ≡ Err stop.Memory = search rules in
+    rw passed (stops_behind _ _ _ _ _ _ _ _ _ _ c.loop-place.place-index _ c.loop-place-test.true _ _
+    c.loop-place.invariant.whole c.loop-place.invariant.files c.in_ok-read_one.ensures.whole)
 
 pub loop-place-preserved : goal.loop-place-preserved
 loop-place-preserved g c =

@@ -1,0 +1,81 @@
+-- Files make at most one output.
+use Rattle.std.proofs.Common.{◌≡◌, ◌≤◌, ◌∙◌, ℕ, List, sym, ap, subst, arith}
+use Rattle.std.specs.Prelude.{Ok, Result, Some}
+use Rattle.fuzzy_meaning.specs.declared.block.Block.{Block}
+use Rattle.box_tree.specs.Texts.{lines_of}
+use Rattle.box_tree.specs.Trees.{leaf_count}
+use Rattle.box_tree.specs.declared.cert.Cert.{Cert}
+use Rattle.cert_check.specs.Laws.{TextAnswersAreOne}
+use Rattle.cert_check.specs.declared.text.TextFault.{TextFault}
+use Rattle.cpu12_emul.specs.Image.{ImagesLoadAlike, image_memory}
+use Rattle.cpu12_emul.specs.Run.{EndsRun, RunsEndOnce}
+use Rattle.cpu12_emul.specs.Step.{reset_with}
+use Rattle.cpu12_emul.specs.declared.ends.RunEnd.TheVariants as end
+use Rattle.cpu12_parts.specs.State.{State}
+use Rattle.error_certifier.specs.Halving.{IsHalving}
+use Rattle.error_certifier.specs.Laws.{AnswersAreOne}
+use Rattle.error_certifier.specs.declared.certifier.NotReached.{NotReached}
+use Rattle.eval_code.specs.Bounds.{instruction_bound}
+use Rattle.eval_code.specs.Widths.{parts}
+use Rattle.eval_code.specs.declared.width.Width.{Width}
+use Rattle.eval_code.specs.declared.width.Width.TheVariants.{Byte, Word}
+use Rattle.srecord.specs.Laws.{ImagesAreOne}
+use Rattle.build_commands.specs.Certify.{CertifyMakes, certify_lines}
+use Rattle.build_commands.specs.Certs.{AcceptedErrorsAreOne, AcceptsCert, version}
+use Rattle.build_commands.specs.Check.{CheckMakes, check_lines}
+use Rattle.build_commands.specs.Exec.{ExecMakes, exec_line}
+use Rattle.build_commands.specs.Firmwares.{GivenFirmwaresAreOne}
+use Rattle.build_commands.specs.SeenOutputs.{OutputsAreOne, only_text}
+use Rattle.build_commands.specs.declared.certify.Certify.{Certify}
+use Rattle.build_commands.specs.declared.check.Check.{Check}
+use Rattle.build_commands.specs.declared.exec.Exec.{Exec}
+
+few_versions : (width : Width) → version width ≤ 2
+few_versions Byte = omega arith
+few_versions Word = omega arith
+
+pub errors_are_one : TextAnswersAreOne → AcceptedErrorsAreOne
+errors_are_one one width block cert errors others valid a b =
+    let x : Result (List ℕ) TextFault = Ok errors in
+    let y : Result (List ℕ) TextFault = Ok others in
+    let same : x ≡ y = one block (parts width) (version width) cert x y valid (few_versions width) a b in
+    cc
+
+pub checks_once : GivenFirmwaresAreOne → AcceptedErrorsAreOne → (check : Check) (text cert : List ℕ)
+    → OutputsAreOne (CheckMakes check text cert)
+checks_once firmwares accepted check text cert output other a b =
+    let one = firmwares check.width text a.block b.block a.firmware b.firmware a.gives b.gives in
+    let errors : a.errors ≡ b.errors =
+    accepted check.width a.block cert a.errors b.errors a.gives.spelled.valid a.accepts
+    (subst (λ (c : Block). AcceptsCert check.width c cert b.errors) (sym one.0) b.accepts) in
+    a.output_is ∙ (λ i. only_text (check_lines (errors i) (instruction_bound check.width (one.0 i)))) ∙ sym b.output_is
+
+pub certifies_once : GivenFirmwaresAreOne → AnswersAreOne → (certify : Certify) (text : List ℕ)
+    → OutputsAreOne (CertifyMakes certify text)
+certifies_once firmwares answers certify text output other a b =
+    let one = firmwares certify.width text a.block b.block a.firmware b.firmware a.gives b.gives in
+    let x : Result Cert NotReached = Ok a.cert in
+    let y : Result Cert NotReached = Ok b.cert in
+    let same : x ≡ y = answers a.block (parts certify.width) certify.target x y a.gives.spelled.valid a.halving
+    (subst (λ (c : Block). IsHalving c (parts certify.width) certify.target b.cert) (sym one.0) b.halving) in
+    let cert : a.cert ≡ b.cert = cc in
+    let out : a.out ≡ b.out = a.spelled.lines
+    ∙ (λ i. lines_of (version certify.width) (cert i).claims (cert i).nodes) ∙ sym b.spelled.lines in
+    a.output_is
+    ∙ (λ i. record { text = certify_lines (cert i).claims (leaf_count (cert i).nodes); file = Some (4, out i) })
+    ∙ sym b.output_is
+
+pub ends_once : ImagesAreOne → ImagesLoadAlike → RunsEndOnce → (exec : Exec) (text : List ℕ)
+    → OutputsAreOne (ExecMakes exec text)
+ends_once images loads ends exec text output other a b =
+    let p = a.arrives in
+    let q = b.arrives in
+    let bytes = (images text p.image q.image p.spelled q.spelled).1 in
+    let same = ap reset_with (loads p.image.bytes q.image.bytes bytes) in
+    let ends_there : EndsRun exec.flags exec.steps (reset_with (image_memory q.image.bytes)) (end.Arrived a.steps) a.last =
+    subst (λ (s : State). EndsRun exec.flags exec.steps s (end.Arrived a.steps) a.last) same p.ends in
+    let one = ends exec.flags exec.steps (reset_with (image_memory q.image.bytes)) a.last b.last (end.Arrived a.steps)
+    (end.Arrived b.steps) ends_there q.ends in
+    let arrived : end.Arrived a.steps ≡ end.Arrived b.steps = one.0 in
+    let steps : a.steps ≡ b.steps = cc in
+    a.output_is ∙ (λ i. only_text (exec_line (one.1 i).regs (steps i))) ∙ sym b.output_is

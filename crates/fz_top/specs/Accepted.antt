@@ -1,0 +1,58 @@
+-- The contents that commands accept.
+use Rattle.std.specs.Prelude.{◌<◌, ◌^◌, ℕ, List}
+use Rattle.build_commands.specs.Asm.{AsmAccepts}
+use Rattle.build_commands.specs.Certify.{CertifyAccepts}
+use Rattle.build_commands.specs.Check.{CheckAccepts}
+use Rattle.build_commands.specs.Compile.{CompileAccepts}
+use Rattle.build_commands.specs.Contents.{content_at}
+use Rattle.build_commands.specs.Exec.{ExecAccepts}
+use Rattle.build_commands.specs.Hcheck.{HcheckAccepts}
+use Rattle.build_commands.specs.Lcompile.{LcompileAccepts}
+use Rattle.build_commands.specs.Mcompile.{McompileAccepts}
+use Rattle.build_commands.specs.Scompile.{ScompileAccepts}
+use Rattle.build_commands.specs.SeenOutputs.{HasOutput}
+use Rattle.run_commands.specs.Debug.{DebugAccepts, debug_files}
+use Rattle.run_commands.specs.Generate.{GenerateAccepts}
+use Rattle.run_commands.specs.Run.{RunAccepts, files_in}
+use Rattle.form_commands.specs.Hrun.{HrunMakes, handled_files}
+use Rattle.form_commands.specs.Lrun.{LrunAccepts, level_files}
+use Rattle.form_commands.specs.Mrun.{MrunAccepts, posted_files}
+use Rattle.form_commands.specs.Srun.{SrunAccepts, watched_files}
+use Rattle.fz_top.specs.Commands.{Makes}
+use Rattle.fz_top.specs.declared.command.Command.{Command}
+use Rattle.fz_top.specs.declared.command.Command.TheVariants.{Asm, Certify, Check, Compile, Debug, Exec, Generate}
+use Rattle.fz_top.specs.declared.command.Command.TheVariants.{Hcheck, Hrun, Lcompile, Lrun, Mcompile, Mrun}
+use Rattle.fz_top.specs.declared.command.Command.TheVariants.{Run, Scompile, Srun}
+
+-- the contents of a command's files, in order, are accepted; of `hrun` it is said that they make an output
+unfoldable pub Accepts : Command → List (List ℕ) → Type 0
+Accepts Asm contents = AsmAccepts (content_at contents 0)
+Accepts (Certify certify) contents = CertifyAccepts certify (content_at contents 0)
+Accepts (Check check) contents = CheckAccepts check (content_at contents 0) (content_at contents 1)
+Accepts (Compile compile) contents = CompileAccepts compile (content_at contents 0)
+Accepts (Debug debug) contents = DebugAccepts (debug_files contents)
+Accepts (Exec exec) contents = ExecAccepts exec (content_at contents 0)
+Accepts (Generate generate) contents = GenerateAccepts generate
+Accepts Hcheck contents = HcheckAccepts (content_at contents 0)
+Accepts (Hrun hrun) contents = HasOutput (HrunMakes hrun (handled_files contents))
+Accepts Lcompile contents = LcompileAccepts (content_at contents 0) (content_at contents 1)
+Accepts (Lrun lrun) contents = LrunAccepts (level_files contents)
+Accepts Mcompile contents = McompileAccepts (content_at contents 0)
+Accepts (Mrun mrun) contents = MrunAccepts (posted_files contents)
+Accepts (Run run) contents = RunAccepts run (files_in contents)
+Accepts Scompile contents = ScompileAccepts (content_at contents 0)
+Accepts (Srun srun) contents = SrunAccepts (watched_files contents)
+
+-- the condition codes that a command's run of firmware leaves open
+abbrev pub run_flags : Command → ℕ
+run_flags (Debug debug) = debug.flags
+run_flags (Lrun lrun) = lrun.flags
+run_flags (Mrun mrun) = mrun.flags
+run_flags (Run run) = run.flags
+run_flags (Srun srun) = srun.flags
+run_flags _ = 0
+
+-- contents that are accepted make an output
+abbrev pub AcceptedCommandsMakeOutput : Type 0
+AcceptedCommandsMakeOutput = (command : Command) (contents : List (List ℕ)) → run_flags command < 2 ^ 8
+    → Accepts command contents → HasOutput (Makes command contents)

@@ -1,0 +1,64 @@
+-- Files make at most one output.
+use Rattle.std.proofs.Common.{◌≡◌, ◌∙◌, ℕ, List, sym, ap, subst}
+use Rattle.std.specs.Prelude.{None, Ok, map}
+use Rattle.fuzzy_meaning.specs.declared.block.Block.{Block}
+use Rattle.codegen.specs.declared.firmware.Firmware.{Firmware}
+use Rattle.debug_script.specs.Showing.{shown}
+use Rattle.debug_script.specs.declared.order.Order.{Order}
+use Rattle.eval_code.specs.Bounds.{instruction_bound}
+use Rattle.eval_code.specs.declared.width.Width.TheVariants.{Byte}
+use Rattle.interrupt_plan.specs.declared.Request.{Request}
+use Rattle.run_forms.specs.Positions.{positions}
+use Rattle.trace_io.specs.Traces.{Spells as SpellsTrace}
+use Rattle.fz_run.specs.Rows.{firmware_rows, first_state, input_bytes}
+use Rattle.build_commands.specs.Certs.{AcceptedErrorsAreOne, AcceptsCert}
+use Rattle.build_commands.specs.Firmwares.{GivenFirmwaresAreOne}
+use Rattle.build_commands.specs.SeenOutputs.{OutputsAreOne}
+use Rattle.run_reports.specs.Laws.{SpelledInputsAreOne}
+use Rattle.run_reports.specs.Reports.{Report}
+use Rattle.run_commands.specs.CertifiedRun.{Files, left_of}
+use Rattle.run_commands.specs.Debug.{DebugFiles, DebugMakes, debug_lines}
+use Rattle.run_commands.specs.Run.{RunMakes, run_lines}
+use Rattle.run_commands.specs.declared.debug.DebugRun.{DebugRun}
+use Rattle.run_commands.specs.declared.run.Run.{Run}
+
+pub runs_once : GivenFirmwaresAreOne → AcceptedErrorsAreOne → SpelledInputsAreOne → (run : Run) (files : Files)
+    → OutputsAreOne (RunMakes run files)
+runs_once firmwares accepted inputs run files output other a b =
+    let p = a.certified in
+    let q = b.certified in
+    let one = firmwares run.width files.fcl p.block q.block p.firmware q.firmware p.compiled q.compiled in
+    let errors : a.report.errors ≡ b.report.errors =
+    accepted run.width p.block files.cert a.report.errors b.report.errors p.compiled.spelled.valid p.accepted
+    (subst (λ (c : Block). AcceptsCert run.width c files.cert b.report.errors) (sym one.0) q.accepted) in
+    let bytes : map input_bytes p.samples ≡ map input_bytes q.samples =
+    inputs.samples p.block.inputs files.trace p.samples q.samples p.in_range
+    (subst (λ (c : Block). SpellsTrace c.inputs files.trace q.samples) (sym one.0) q.in_range) in
+    let plan : p.plan ≡ q.plan = inputs.plans files.plan p.plan q.plan p.good_plan q.good_plan in
+    let rows : a.report.rows ≡ b.report.rows =
+    p.reported.ran ∙ (λ i. (firmware_rows (one.1 i) (bytes i) (plan i) run.flags).rows) ∙ sym q.reported.ran in
+    let bound : a.report.bound ≡ b.report.bound =
+    p.reported.bound ∙ ap (instruction_bound run.width) one.0 ∙ sym q.reported.bound in
+    let report : a.report ≡ b.report = (λ i. record { errors = errors i; bound = bound i; rows = rows i }) in
+    let left : p.left ≡ q.left =
+    p.left_is ∙ (λ i. left_of (firmware_rows (one.1 i) (bytes i) (plan i) run.flags).state.mem) ∙ sym q.left_is in
+    a.output_is ∙ (λ i. record { text = run_lines (report i) (left i); file = None }) ∙ sym b.output_is
+
+pub debug_runs_once : GivenFirmwaresAreOne → SpelledInputsAreOne → (debug : DebugRun) (files : DebugFiles)
+    → OutputsAreOne (DebugMakes debug files)
+debug_runs_once firmwares inputs debug files output other a b =
+    let p = a.accepts in
+    let q = b.accepts in
+    let one = firmwares Byte files.fcl a.block b.block a.firmware b.firmware p.compiled q.compiled in
+    let bytes : map input_bytes a.samples ≡ map input_bytes b.samples =
+    inputs.samples a.block.inputs files.trace a.samples b.samples p.in_range
+    (subst (λ (c : Block). SpellsTrace c.inputs files.trace b.samples) (sym one.0) q.in_range) in
+    let plan : a.plan ≡ b.plan = inputs.plans files.plan a.plan b.plan p.good_plan q.good_plan in
+    let script : a.script ≡ b.script = let e : Ok a.script ≡ Ok b.script = sym p.spelled ∙ q.spelled in cc in
+    let rows : a.rows ≡ b.rows =
+    a.ran ∙ (λ i. (firmware_rows (one.1 i) (bytes i) (plan i) debug.flags).rows) ∙ sym b.ran in
+    a.output_is ∙ (λ i. record {
+      text = debug_lines (shown (script i) (positions (first_state (one.1 i) debug.flags)
+          (firmware_rows (one.1 i) (bytes i) (plan i) debug.flags))) (rows i);
+      file = None;
+    }) ∙ sym b.output_is
