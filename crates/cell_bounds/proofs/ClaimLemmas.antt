@@ -20,7 +20,7 @@ use Rattle.error_bound.specs.Tight.{of_bound as tight_of_bound}
 use Rattle.error_bound.specs.TightLaws.{IsAnsweredWithin, kept, near, TightAnswersAreNear, TightBoundsAreOne}
 use Rattle.error_bound.specs.TightLaws.{TightBoundsAreLeast, TightBoundsHoldInside, TightBoundsFallWithParts}
 use Rattle.cell_bounds.specs.declared.claims.Claim.TheVariants.{Pair, Tight, Cells}
-use Rattle.cell_bounds.specs.declared.claims.LeafKind.TheVariants as kind
+use Rattle.box_tree.specs.declared.cert.CertKind.TheVariants as kind
 use Rattle.cell_bounds.specs.Cells.{cell_of}
 use Rattle.cell_bounds.specs.CellBounds.{HasCellBound, of_tight, IsCellCount, of_bound, of_none as no_bound}
 use Rattle.cell_bounds.specs.CellBounds.{BoxesOfCellsAnswer}

@@ -18,8 +18,8 @@ use Rattle.error_bound.specs.Tight.{IsTightBound, IsTightCount}
 use Rattle.error_bound.specs.TightLaws.{IsAnsweredWithin}
 use Rattle.cell_bounds.specs.declared.claims.Claim.{Claim}
 use Rattle.cell_bounds.specs.declared.claims.Claim.TheVariants.{Pair, Tight, Cells}
-use Rattle.cell_bounds.specs.declared.claims.LeafKind.{LeafKind}
-use Rattle.cell_bounds.specs.declared.claims.LeafKind.TheVariants as kind
+use Rattle.box_tree.specs.declared.cert.CertKind.{CertKind}
+use Rattle.box_tree.specs.declared.cert.CertKind.TheVariants as kind
 use Rattle.cell_bounds.specs.Cells.{cell_of}
 use Rattle.cell_bounds.specs.CellBounds.{IsCellCount, IsCellsBound}
 
@@ -30,7 +30,7 @@ HasClaimBound b box o x h Tight n = IsTightBound b box o x h n
 HasClaimBound b box o x h Cells n = IsCellsBound b box o x h n
 
 -- the claims of a certificate of each kind
-abbrev pub IsOfKind : LeafKind → Claim → Type 0
+abbrev pub IsOfKind : CertKind → Claim → Type 0
 IsOfKind kind.Named (Pair leaf) = Unit {0}
 IsOfKind kind.Named Tight = ⊥
 IsOfKind kind.Named Cells = ⊥
@@ -45,17 +45,17 @@ NamesNoCells Tight = Unit {0}
 NamesNoCells Cells = ⊥
 
 -- the Bound of the box's best leaf of a kind that is not one of cells; where there is none it counts as 1000001
-abbrev pub IsBoxCount : LeafKind → Block → List Interval → ℕ → Output → ℕ → ℕ → Type 0
+abbrev pub IsBoxCount : CertKind → Block → List Interval → ℕ → Output → ℕ → ℕ → Type 0
 IsBoxCount kind.Named b box o x h n = IsBestBound b box o x h n
 IsBoxCount kind.Tight b box o x h n = IsTightCount b box o x h n
 
 -- on the cell of these bytes the best leaf of a kind, one of cells too
-abbrev pub IsCountAt : LeafKind → Block → List ℕ → ℕ → Output → ℕ → ℕ → Type 0
+abbrev pub IsCountAt : CertKind → Block → List ℕ → ℕ → Output → ℕ → ℕ → Type 0
 IsCountAt kind.Named b bytes o x h n = IsBestBound b (cell_of bytes) o x h n
 IsCountAt kind.Tight b bytes o x h n = IsCellCount b (cell_of bytes) o x h n
 
 -- the claims that it is compared with: of the tight kind with all
-abbrev pub IsCompared : LeafKind → Claim → Type 0
+abbrev pub IsCompared : CertKind → Claim → Type 0
 IsCompared kind.Named claim = IsOfKind kind.Named claim
 IsCompared kind.Tight claim = Unit {0}
 
@@ -92,17 +92,17 @@ TightClaimsAreLeast =
 -- no claim on a box around a cell has a smaller Bound than the cell's count
 abbrev pub CountsAreLeast : Type 0
 CountsAreLeast =
-    (k : LeafKind) (b : Block) (bytes : List ℕ) (box : List Interval) (o : ℕ) (x : Output) (h : ℕ) (claim : Claim)
+    (k : CertKind) (b : Block) (bytes : List ℕ) (box : List Interval) (o : ℕ) (x : Output) (h : ℕ) (claim : Claim)
     (n m : ℕ) → IsValid b → output_at b o ≡ Some x → 1 ≤ h → length box ≡ length b.inputs → IsBox box → LieIn box bytes
     → IsCompared k claim → IsCountAt k b bytes o x h n → HasClaimBound b box o x h claim m → n ≤ m
 
 -- a box has one count, and a cell
 abbrev pub BoxCountsAreOne : Type 0
 BoxCountsAreOne =
-    (k : LeafKind) (b : Block) (box : List Interval) (o : ℕ) (x : Output) (h n m : ℕ) → IsValid b
+    (k : CertKind) (b : Block) (box : List Interval) (o : ℕ) (x : Output) (h n m : ℕ) → IsValid b
     → length box ≡ length b.inputs → IsBoxCount k b box o x h n → IsBoxCount k b box o x h m → n ≡ m
 
 abbrev pub CountsAreOne : Type 0
 CountsAreOne =
-    (k : LeafKind) (b : Block) (bytes : List ℕ) (o : ℕ) (x : Output) (h n m : ℕ) → IsValid b
+    (k : CertKind) (b : Block) (bytes : List ℕ) (o : ℕ) (x : Output) (h n m : ℕ) → IsValid b
     → length bytes ≡ length b.inputs → IsCountAt k b bytes o x h n → IsCountAt k b bytes o x h m → n ≡ m

@@ -8,6 +8,7 @@ ghost use Rattle.cell_bounds.specs.Claims.{ClaimAnswersAreNear, ClaimBoundsAreOn
 ghost use Rattle.cell_bounds.specs.Claims.{TightClaimsAreLeast, CountsAreLeast, BoxCountsAreOne, CountsAreOne};
 
 use crate::laws::boxes_of_cells_answer;
+use box_tree::CertKind;
 use error_bound::{
     BoxTable, Leaf, answers_are_near, best_bounds_are_least, best_leaves_are_one, best_leaves_hold,
     bounds_are_determined, bounds_fall_with_parts, faulty_leaves_fail, tight_answers_are_near,
@@ -27,21 +28,12 @@ pub enum Claim {
     Cells,
 }
 
-/// How the leaves of a certificate speak.
-#[derive(Clone, Copy, PartialEq, Eq, Debug)]
-pub enum LeafKind {
-    /// Each names a rule or silence for each output.
-    Named,
-    /// None names anything.
-    Tight,
-}
-
 /// The best claim of a kind, but one of cells, on a table's box for an output, with its Bound for answers in so
 /// many parts to a byte, or `None` where no such claim holds.
 pub fn best_claim(
     block: &Block,
     table: &BoxTable,
-    kind: LeafKind,
+    kind: CertKind,
     out: u8,
     parts: u16,
 ) -> Option<(Claim, u32)>
@@ -59,8 +51,8 @@ pub fn best_claim(
         (option_map_or (λ best. best.1) result 1000001)) }
 {
     match kind {
-        LeafKind::Named => best_pair(block, table, out, parts),
-        LeafKind::Tight => match table.tight_bound(block, out, parts) {
+        CertKind::Named => best_pair(block, table, out, parts),
+        CertKind::Tight => match table.tight_bound(block, out, parts) {
             Some(bound) => Some((Claim::Tight, bound)),
             None => None,
         },
@@ -75,11 +67,11 @@ fn best_pair(block: &Block, table: &BoxTable, out: u8, parts: u16) -> Option<(Cl
     requires out_to { out ≤ length block.now.outputs }
     requires parts_from { 1 ≤ parts }
     requires parts_to { parts ≤ 256 }
-    ensures of_kind { IfSome result (λ best. IsOfKind LeafKind.Named best.0) }
+    ensures of_kind { IfSome result (λ best. IsOfKind CertKind.Named best.0) }
     ensures bound { IfSome result (λ best. IfSome (output_at block.now out)
         (λ x. HasClaimBound block.now table.now.bytes.0.items out x parts best.0 best.1)) }
     ensures count { IfSome (output_at block.now out)
-        (λ x. IsBoxCount LeafKind.Named block.now table.now.bytes.0.items out x parts
+        (λ x. IsBoxCount CertKind.Named block.now table.now.bytes.0.items out x parts
         (option_map_or (λ best. best.1) result 1000001)) }
 {
     best_leaves_hold();

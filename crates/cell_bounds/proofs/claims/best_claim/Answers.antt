@@ -1,6 +1,6 @@
 use Rattle.std.proofs.Common.{sym, subst}
 use Rattle.std.specs.Prelude.{IfSome}
-use Rattle.cell_bounds.specs.declared.claims.LeafKind.{LeafKind}
+use Rattle.box_tree.specs.declared.cert.CertKind.{CertKind}
 use Rattle.cell_bounds.specs.Claims.{IsBoxCount}
 use Rattle.fuzzy_meaning.specs.declared.block.Output.{Output}
 use Rattle.fuzzy_meaning.specs.Blocks.{output_at}
@@ -13,7 +13,7 @@ returns-in-Some-clause-count c =
     let b = c.args.block.now in
     let box = c.args.table.now.bytes.0.items in
     let o = c.args.out in
-    subst (λ (k : LeafKind). IfSome (output_at b o) (λ x. IsBoxCount k b box o x c.args.parts c.in-Some.bound))
+    subst (λ (k : CertKind). IfSome (output_at b o) (λ x. IsBoxCount k b box o x c.args.parts c.in-Some.bound))
     (sym c.in-Tight.is)
     (each_more (λ (x : Output). IsTightBound b box o x c.args.parts c.in-Some.bound)
     (λ (x : Output). IsTightCount b box o x c.args.parts c.in-Some.bound) (output_at b o) (λ x p. of_bound p)
