@@ -74,7 +74,7 @@ impl<'a> Lines<'a> {
     }
 
     /// The reader of a text that is to have a certificate of this kind, for answers of this width.
-    pub(crate) fn of(
+    pub fn of(
         text: &'a [u8],
         kind: CertKind,
         answers: AnswerWidth,

@@ -1,7 +1,7 @@
 -- Under an accepted certificate each answer is within the error.
 use Rattle.std.proofs.Common.{◌≡◌, ℕ, zero, suc, ◌≤◌, List, [], ◌∷◌, length, map, Bool, true, Option, Some, None, refl}
 use Rattle.std.proofs.Common.{sym, ap, ap₂, ◌∙◌, subst, arith, mul-pos}
-use Rattle.std.specs.Prelude.{◌≢◌, nat_le, ◌&&◌, slice_get, fold, All}
+use Rattle.std.specs.Prelude.{nat_le, ◌&&◌, slice_get, fold, All}
 use Rattle.std.proofs.lemmas.Int.{ints}
 use Rattle.std.proofs.lemmas.Bool.Decides.{nat_tests}
 use Rattle.fz_num.specs.declared.dec.Dec.{Dec}
@@ -15,15 +15,16 @@ use Rattle.fuzzy_meaning.specs.Meaning.{answer_after, first_answer}
 use Rattle.fz_list.proofs.Algebra.{All-slice_get}
 use Rattle.byte_scaling.specs.Cells.{byte_of, bytes_of, LiesInCell, NumbersLieInTheirCells, value_in}
 use Rattle.point_slope.specs.Bytes.{answer_in}
-use Rattle.error_bound.specs.declared.boxes.Leaf.{Leaf}
-use Rattle.error_bound.specs.Boxes.{LieInCells}
-use Rattle.error_bound.specs.Answers.{Follows, IsOnLeaf, AnswersAreNear}
+use Rattle.error_bound.specs.Boxes.{IsBoxOf, LieInCells}
+use Rattle.error_bound.specs.MassRanges.{AreOverBox}
+use Rattle.error_bound.specs.TightLaws.{IsAnsweredWithin, kept, near}
+use Rattle.cell_bounds.specs.Claims.{ClaimAnswersAreNear}
 use Rattle.fz_num.proofs.Algebra.{IsClose-more}
 use Rattle.box_tree.specs.declared.cert.Cert.{Cert}
 use Rattle.cert_check.specs.Trees.{Part, IsTree, lies, whole}
 use Rattle.cert_check.specs.Acceptance.{HasBound, IsGreatestBound}
 use Rattle.cert_check.specs.Laws.{AcceptedAnswersAreNear}
-use Rattle.cert_check.proofs.TreeLemmas.{one_leaf, leaf_with, LieIn-lies}
+use Rattle.cert_check.proofs.TreeLemmas.{one_leaf, leaf_with, LieIn-lies, All-both, boxes_are, whole_is}
 
 -- the bytes of numbers within their ranges
 byte_of-le : (i : Input) (x : Dec) → byte_of i x ≤ 255
@@ -68,21 +69,13 @@ bytes-cells in_cells b xs v a = record {
 }
 
 -- what stays near stays so where both answers are kept
-still_near : (x : Output) (leaf : Leaf) (n e q q' : ℕ) (value : ℕ → Quotient) (before after : Quotient) → n ≤ e
-    → Follows x leaf n q q' (value q') before after → IsClose (distance x.lo x.hi) e (value q) before
+still_near : (x : Output) (n e q q' : ℕ) (value : ℕ → Quotient) (before after : Quotient) → n ≤ e
+    → IsAnsweredWithin x n q q' (value q') before after → IsClose (distance x.lo x.hi) e (value q) before
     → IsClose (distance x.lo x.hi) e (value q') after
-still_near x leaf n e q q' value before after h f c = by_k leaf.k refl x.default refl
-  where
-    near : (leaf.k ≡ 0 → x.default ≢ None) → IsClose (distance x.lo x.hi) e (value q') after
-    near d = IsClose-more (distance x.lo x.hi) n e (value q') after h (f.near d)
-
-    by_k : (k : ℕ) → leaf.k ≡ k → (d : Option Dec) → x.default ≡ d → IsClose (distance x.lo x.hi) e (value q') after
-    by_k (suc k) ek d ed = near (λ z. absurd (omega arith))
-    by_k zero ek (Some d) ed = near (λ _ z. absurd (let w : ⊥ = cc in w))
-    by_k zero ek None ed =
-        let p = f.kept ek ed in
-        subst (λ a. IsClose (distance x.lo x.hi) e (value q') a) (sym p.1)
-        (subst (λ m. IsClose (distance x.lo x.hi) e (value m) before) (sym p.0) c)
+still_near x n e q q' value before after h (near is) c = IsClose-more (distance x.lo x.hi) n e (value q') after h is
+still_near x n e q q' value before after h (kept nc same also) c =
+    subst (λ a. IsClose (distance x.lo x.hi) e (value q') a) (sym also)
+    (subst (λ m. IsClose (distance x.lo x.hi) e (value m) before) (sym same) c)
 
 first_close : (b : Block) (h o : ℕ) (x : Output) (e : ℕ) → 1 ≤ h → output_at b o ≡ Some x
     → IsClose (distance x.lo x.hi) e (value_in h x 0) (first_answer b o)
@@ -94,7 +87,7 @@ first_close b h o x e some ex =
           omega (arith, ints);
     })
 
-module _ (in_cells : NumbersLieInTheirCells) (near : AnswersAreNear) (b : Block) (h : ℕ) (some : 1 ≤ h)
+module _ (in_cells : NumbersLieInTheirCells) (answers : ClaimAnswersAreNear) (b : Block) (h : ℕ) (some : 1 ≤ h)
     (valid : IsValid b) (cert : Cert) (parts : List Part) (tree : IsTree (whole b) cert.nodes parts []) where
   next : (o : ℕ) (x : Output) (e : ℕ) → output_at b o ≡ Some x → IsGreatestBound b o x h parts e → (xs : List Dec)
       → AreInputs b xs → (before : Quotient) (q : ℕ) → IsClose (distance x.lo x.hi) e (value_in h x q) before
@@ -103,22 +96,23 @@ module _ (in_cells : NumbersLieInTheirCells) (near : AnswersAreNear) (b : Block)
   next o x e ex g xs a before q c =
       let bytes = bytes_of b.inputs xs in
       let one = one_leaf (whole b) cert.nodes [] parts bytes tree (bytes-lie b.inputs xs a.count) in
-      let p = leaf_with bytes parts (λ p. (n : ℕ) × HasBound b o x h p n × (n ≤ e)) (omega arith) g.each in
-      let n : ℕ = p.2.0 in
-      let hb : HasBound b o x h p.0 n = p.2.1 in
-      let on : IsOnLeaf b p.0.box o x h hb.leaf n bytes xs =
+      let P : Part → Type 0 = λ p. IsBoxOf b p.box × ((n : ℕ) × HasBound b o x h p n × (n ≤ e)) in
+      let p = leaf_with bytes parts P (omega arith)
+      (All-both (λ (p : Part). IsBoxOf b p.box) (λ p. (n : ℕ) × HasBound b o x h p n × (n ≤ e)) parts
+      (boxes_are b (whole b) cert.nodes parts [] tree (whole_is b)) g.each) in
+      let n : ℕ = p.2.1.0 in
+      let hb : HasBound b o x h p.0 n = p.2.1.1 in
+      let over : AreOverBox b p.0.box o x h bytes xs =
       record {
         valid = valid;
         output_is = ex;
         parts = some;
         cells = bytes-cells in_cells b xs valid a;
-        box_is =
-            LieIn-lies bytes p.0.box p.1;
-        holds = hb.holds;
-        bound_is = hb.bound_is;
+        box_is = p.2.0.intervals;
+        within = LieIn-lies bytes p.0.box p.1;
       } in
-      still_near x hb.leaf n e q (answer_in h b o bytes q) (value_in h x) before (answer_after b o before xs) p.2.2
-      (near b p.0.box o x h hb.leaf n bytes xs before q on) c
+      still_near x n e q (answer_in h b o bytes q) (value_in h x) before (answer_after b o before xs) p.2.1.2
+      (answers b p.0.box o x h hb.claim n bytes xs before q over hb.bound_is) c
 
   on_and_on : (o : ℕ) (x : Output) (e : ℕ) → output_at b o ≡ Some x → IsGreatestBound b o x h parts e
       → (samples : List (List Dec)) → All (AreInputs b) samples → (before : Quotient) (q : ℕ)
@@ -140,6 +134,6 @@ module _ (in_cells : NumbersLieInTheirCells) (near : AnswersAreNear) (b : Block)
   all_near o x e ex g samples all =
       on_and_on o x e ex g samples all (first_answer b o) 0 (first_close b h o x e some ex)
 
-pub accepted_near : NumbersLieInTheirCells → AnswersAreNear → AcceptedAnswersAreNear
-accepted_near in_cells near b h cert errors o x e samples valid some acc from ex ee all =
-    all_near in_cells near b h some valid cert acc.parts acc.tree o x e ex (acc.greatest o x e from ex ee) samples all
+pub accepted_near : NumbersLieInTheirCells → ClaimAnswersAreNear → AcceptedAnswersAreNear
+accepted_near in_cells answers b h cert errors o x e samples valid some acc from ex ee all =
+    all_near in_cells answers b h some valid cert acc.parts acc.tree o x e ex (acc.greatest o x e from ex ee) samples all

@@ -4,11 +4,13 @@ use Rattle.std.specs.Prelude.{All, nat_le}
 use Rattle.std.proofs.lemmas.Bool.Decides.{nat_tests}
 use Rattle.fuzzy_meaning.specs.declared.block.Input.{Input}
 use Rattle.error_bound.specs.declared.boxes.Interval.{Interval}
-use Rattle.cert_check.specs.Trees.{lies, whole}
+use Rattle.error_bound.specs.Boxes.{IsBoxOf}
+use Rattle.box_tree.specs.declared.cert.CertKind.{CertKind}
+use Rattle.cert_check.specs.Trees.{lies, whole, Part}
 use Rattle.cert_check.specs.Acceptance.{HasBound}
-use Rattle.cert_check.specs.BoxLaws.{CutsHaveHalves, LeavesAreAround}
+use Rattle.cert_check.specs.BoxLaws.{CutsHaveHalves, LeavesAreAround, IsFormOf, IsNodeOf}
 use Rattle.cert_check.proofs.CutLemmas.{cut_at, set-left, set-right, IsBox-left, IsBox-right}
-use Rattle.cert_check.proofs.TreeLemmas.{one_leaf, leaf_with, LieIn-lies}
+use Rattle.cert_check.proofs.TreeLemmas.{one_leaf, leaf_with, LieIn-lies, boxes_are, whole_is, forms_are}
 
 pub cuts_halved : CutsHaveHalves
 cuts_halved box k c v e above below =
@@ -42,17 +44,23 @@ pub leaf_around : LeavesAreAround
 leaf_around b h cert errors o x e bytes a from ex ee count small =
     let l = lies_whole b.inputs bytes count small in
     let one = one_leaf (whole b) cert.nodes [] a.parts bytes a.tree l in
-    let p = leaf_with bytes a.parts (λ p. (n : ℕ) × HasBound b o x h p n × (n ≤ e)) (omega (arith, one))
-    (a.greatest o x e from ex ee).each in
-    let bound = p.2.1 in
+    let P : Part → Type 0 = λ p. IsBoxOf b p.box × (((k : CertKind) → All (IsNodeOf k) cert.nodes → IsFormOf k p.form) × ((n : ℕ) × HasBound b o x h p n × (n ≤ e))) in
+    let boxes = boxes_are b (whole b) cert.nodes a.parts [] a.tree (whole_is b) in
+    let each = (a.greatest o x e from ex ee).each in
+    let p = leaf_with bytes a.parts P (omega (arith, one)) (λ k d l. (boxes k d l, (λ kind all.
+    forms_are (IsNodeOf kind) (whole b) cert.nodes a.parts [] a.tree all k d l, each k d l))) in
+    let bound = p.2.1.1.1 in
     let around = LieIn-lies bytes p.0.box p.1 in
     record {
       box = p.0.box;
-      leaf = bound.leaf;
-      bound = p.2.0;
+      form = p.0.form;
+      claim = bound.claim;
+      bound = p.2.1.1.0;
       count = sym around.count ∙ count;
+      is_box = p.2.0.intervals;
       around = around;
-      holds = bound.holds;
+      of_kind = p.2.1.0;
+      claim_is = bound.claim_is;
       bound_is = bound.bound_is;
-      within = p.2.2;
+      within = p.2.1.1.2;
     }

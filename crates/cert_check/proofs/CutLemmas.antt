@@ -90,6 +90,20 @@ IsBox-right zero c (w ∷ vs) b h =
     IsBox-cons (record { from = c; to = w.to }) vs h1 o1 (IsBox-tail w vs b)
 IsBox-right (suc k) c (w ∷ vs) b h = IsBox-after w vs (right_of k c vs) b (IsBox-right k c vs (IsBox-tail w vs b) h)
 
+whole_intervals : (is : List Input) (k : ℕ) (v : Interval)
+    → slice_get (map (λ (_ : Input). record { from = 0; to = 255 }) is) k ≡ Some v → (v.from ≤ v.to) × (v.to ≤ 255)
+whole_intervals [] k v e = absurd (let z : ⊥ = cc in z)
+whole_intervals (i ∷ is) zero v e =
+    let full : Interval = record { from = 0; to = 255 } in
+    let s : full ≡ v = cc in
+    let f : 0 ≡ v.from = ap (λ i. i.from) s in
+    let t : 255 ≡ v.to = ap (λ i. i.to) s in
+    (omega arith, omega arith)
+whole_intervals (i ∷ is) (suc k) v e = whole_intervals is k v e
+
+pub IsBox-whole : (is : List Input) → IsBox (map (λ (_ : Input). record { from = 0; to = 255 }) is)
+IsBox-whole is = record { some = whole_intervals is }
+
 -- all bytes of one input more
 abbrev all_bytes : List Input → List Interval
 all_bytes is = map (λ (_ : Input). record { from = 0; to = 255 }) is

@@ -3,32 +3,33 @@ use Rattle.std.proofs.Common.{◌≡◌, ℕ, zero, suc, ◌+◌, ◌-◌, ◌<�
 use Rattle.std.proofs.Common.{Some, refl, sym, ap, ap₂, ◌∙◌, subst, arith}
 use Rattle.std.specs.Prelude.{All, slice_get}
 use Rattle.std.proofs.lemmas.List.Elements.{All-append}
-use Rattle.arrayvec.specs.ArrayVec.{ArrayVec}
 use Rattle.fuzzy_meaning.specs.declared.block.Block.{Block}
 use Rattle.fuzzy_meaning.specs.declared.block.Input.{Input}
 use Rattle.fuzzy_meaning.specs.declared.block.Output.{Output}
 use Rattle.fuzzy_meaning.specs.Blocks.{IsValid, output_at}
 use Rattle.error_bound.specs.declared.boxes.Interval.{Interval}
-use Rattle.error_bound.specs.Bounds.{IsBound}
 use Rattle.fz_list.proofs.Algebra.{some_at}
-use Rattle.error_bound.specs.Laws.{BoundsAreDetermined}
+use Rattle.cell_bounds.specs.declared.claims.Claim.{Claim}
+use Rattle.cell_bounds.specs.Claims.{HasClaimBound, ClaimBoundsAreOne}
+use Rattle.box_tree.specs.declared.cert.LeafForm.{LeafForm}
 use Rattle.box_tree.specs.declared.cert.Node.{Node}
 use Rattle.box_tree.specs.declared.cert.Cert.{Cert}
-use Rattle.cert_check.specs.Trees.{left_of, right_of, Part, leaves_of, IsTree, leaf, split, whole}
+use Rattle.cert_check.specs.Trees.{left_of, right_of, Part, part_of, IsTree, leaf, split, whole}
 use Rattle.cert_check.specs.Acceptance.{HasBound, IsGreatestBound, IsAccepted}
 use Rattle.cert_check.specs.Laws.{ErrorsAreDetermined}
+use Rattle.cert_check.proofs.ClaimLemmas.{one_claim}
 use Rattle.std.proofs.lemmas.Option.{slice_get_within}
 
 -- nodes spell one tree
 pub tree_unique : (box box' : List Interval) (ns ns' : List Node) (ps qs : List Part) (r r' : List Node)
     → IsTree box ns ps r → IsTree box' ns' qs r' → box ≡ box' → ns ≡ ns' → (ps ≡ qs) × (r ≡ r')
-tree_unique box box' ns ns' ps qs r r' (leaf x pairs rest) (leaf x' pairs' rest') eb en =
-    let e1 : pairs ≡ pairs' = cc in
+tree_unique box box' ns ns' ps qs r r' (leaf x form rest) (leaf x' form' rest') eb en =
+    let e1 : form ≡ form' = cc in
     let e2 : rest ≡ rest' = cc in
-    (ap₂ (λ (a : List Interval) (c : ArrayVec (ℕ × ℕ)). record { box = a; pairs = leaves_of c.items } ∷ []) eb e1, e2)
-tree_unique box box' ns ns' ps qs r r' (leaf x pairs rest) (split x' i c n m rest' left right h cut tl tq) eb en =
+    (ap₂ (λ (a : List Interval) (c : LeafForm). part_of a c ∷ []) eb e1, e2)
+tree_unique box box' ns ns' ps qs r r' (leaf x form rest) (split x' i c n m rest' left right h cut tl tq) eb en =
     absurd (let z : ⊥ = cc in z)
-tree_unique box box' ns ns' ps qs r r' (split x i c n m rest left right h cut tl tq) (leaf x' pairs' rest') eb en =
+tree_unique box box' ns ns' ps qs r r' (split x i c n m rest left right h cut tl tq) (leaf x' form' rest') eb en =
     absurd (let z : ⊥ = cc in z)
 tree_unique box box' ns ns' ps qs r r' (split x i c n m rest left right h cut tl tq)
     (split x' i' c' n' m' rest' left' right' h' cut' tl' tq') eb en =
@@ -58,23 +59,20 @@ right_count (suc k) c (v ∷ vs) = ap suc (right_count k c vs)
 -- each box has an interval for each input
 pub boxes_count : (n : ℕ) (box : List Interval) (ns r : List Node) (ps : List Part) → IsTree box ns ps r
     → length box ≡ n → All (λ p. length p.box ≡ n) ps
-boxes_count n box ns r ps (leaf x pairs rest) e zero d l = e
-boxes_count n box ns r ps (leaf x pairs rest) e (suc k) d l = absurd (omega arith)
+boxes_count n box ns r ps (leaf x form rest) e zero d l = e
+boxes_count n box ns r ps (leaf x form rest) e (suc k) d l = absurd (omega arith)
 boxes_count n box ns r ps (split x i c m mid rest left right h cut tl tq) e k d l =
     All-append (λ p. length p.box ≡ n) left right
     (boxes_count n (left_of (i - 1) c x) m mid left tl (left_count (i - 1) c x ∙ e))
     (boxes_count n (right_of (i - 1) c x) mid rest right tq (right_count (i - 1) c x ∙ e)) k d l
 
-has_unique : BoundsAreDetermined → (b : Block) (o : ℕ) (x : Output) (h : ℕ) (p : Part) (n m : ℕ) → IsValid b
+has_unique : ClaimBoundsAreOne → (b : Block) (o : ℕ) (x : Output) (h : ℕ) (p : Part) (n m : ℕ) → IsValid b
     → length p.box ≡ length b.inputs → HasBound b o x h p n → HasBound b o x h p m → n ≡ m
 has_unique one b o x h p n m v c s t =
-    one b p.box o x h s.leaf n m v c s.bound_is
-    (subst (λ l. IsBound b p.box o x h l m) (same_leaf s.pair_is t.pair_is) t.bound_is)
-  where
-    same_leaf : {X : Type 0} {q : Option X} {y z : X} → q ≡ Some y → q ≡ Some z → z ≡ y
-    same_leaf e f = cc
+    one b p.box o x h s.claim n m v c s.bound_is
+    (subst (λ l. HasClaimBound b p.box o x h l m) (one_claim t.claim_is s.claim_is) t.bound_is)
 
-greatest_le : BoundsAreDetermined → (b : Block) (o : ℕ) (x : Output) (h : ℕ) (ps : List Part) (e f : ℕ) → IsValid b
+greatest_le : ClaimBoundsAreOne → (b : Block) (o : ℕ) (x : Output) (h : ℕ) (ps : List Part) (e f : ℕ) → IsValid b
     → All (λ p. length p.box ≡ length b.inputs) ps → IsGreatestBound b o x h ps e → IsGreatestBound b o x h ps f → e ≤ f
 greatest_le one b o x h ps e f v counts s t =
     let k = s.some.0 in
@@ -103,7 +101,7 @@ pub map_count : (is : List Input)
 map_count [] = refl
 map_count (i ∷ is) = ap suc (map_count is)
 
-pub errors_unique : BoundsAreDetermined → (b : Block) (h : ℕ) (cert cert' : Cert) (es fs : List ℕ)
+pub errors_unique : ClaimBoundsAreOne → (b : Block) (h : ℕ) (cert cert' : Cert) (es fs : List ℕ)
     → cert.nodes ≡ cert'.nodes → IsValid b → IsAccepted b h cert es → IsAccepted b h cert' fs → es ≡ fs
 errors_unique one b h cert cert' es fs en v s t = same_lists es fs (s.errors_count ∙ sym t.errors_count) each
   where
@@ -129,5 +127,5 @@ errors_unique one b h cert cert' es fs en v s t = same_lists es fs (s.errors_cou
         both_ways : {a c : ℕ} → a ≤ c → c ≤ a → a ≡ c
         both_ways h k = omega arith
 
-pub determined : BoundsAreDetermined → ErrorsAreDetermined
+pub determined : ClaimBoundsAreOne → ErrorsAreDetermined
 determined one b h cert es fs v s t = errors_unique one b h cert cert es fs refl v s t

@@ -5,7 +5,7 @@ use Rattle.std.specs.Prelude.{◌≢◌, All, Result, Ok, Err, IfOk, IfErr}
 use Rattle.std.specs.Global.{Vec}
 use Rattle.std.proofs.Math.Seq.{take-suc}
 use Rattle.fuzzy_meaning.specs.declared.block.Block.{Block}
-use Rattle.box_tree.specs.declared.cert.CertKind.TheVariants.{Named}
+use Rattle.box_tree.specs.declared.cert.CertKind.{CertKind}
 use Rattle.box_tree.specs.declared.cert.AnswerWidth.{AnswerWidth}
 use Rattle.box_tree.specs.declared.cert.Node.{Node}
 use Rattle.box_tree.specs.declared.cert.Node.TheVariants.{Split, Leaf}
@@ -13,7 +13,7 @@ use Rattle.box_tree.specs.declared.cert.Cert.{Cert}
 use Rattle.box_tree.specs.declared.lines.Lines.{Lines}
 use Rattle.box_tree.specs.Certificates.{IsNode, IsCert}
 use Rattle.box_tree.specs.Reading.{HasRead, claims_of}
-use Rattle.box_tree.specs.Trees.{open_from, leaf_count}
+use Rattle.box_tree.specs.Trees.{IsTree, open_from, leaf_count}
 use Rattle.cert_check.specs.declared.checker.CheckFault.{CheckFault}
 use Rattle.cert_check.specs.declared.checker.CheckFault.TheVariants as fault
 use Rattle.cert_check.specs.declared.walk.Walk.{Walk}
@@ -43,9 +43,6 @@ module _ (b : Block) (claims : List ℕ) (h : ℕ) (w : Walk) (over : IsWalkOver
   cert_is : cert_over w nodes ≡ the_cert
   cert_is = ap (λ (cs : List ℕ). record { claims = cs; nodes = nodes }) over.claims_are
 
-  pub is_cert : IsCert Named the_cert → IsCert Named (cert_over w nodes)
-  is_cert good = subst (λ c. IsCert Named c) (sym cert_is) good
-
   pub accepted_over : (errors : List ℕ) → IsAccepted w.block.now w.parts (cert_over w nodes) errors
       → IsAccepted b h the_cert errors
   accepted_over errors a =
@@ -74,13 +71,20 @@ All-take P [] (suc k) all j d l = absurd (omega arith)
 All-take P (x ∷ xs) (suc k) all zero d l = all 0 d (omega arith)
 All-take P (x ∷ xs) (suc k) all (suc j) d l = All-take P xs k (λ i e m. all (suc i) e (omega arith)) j d (omega arith)
 
-are_first : (cert : Cert) (k : ℕ) → IsCert Named cert → AreFirst (length cert.claims) (take k cert.nodes)
-are_first cert k good =
+-- a node of a certificate's kind, which may be either
+any_kind : (kind : CertKind) (width : ℕ) (nodes : List Node) → All (IsNode kind width) nodes
+    → All (λ node. (k : CertKind) × IsNode k width node) nodes
+any_kind kind width nodes all k d l = (kind, all k d l)
+
+are_first : (kind : CertKind) (cert : Cert) (k : ℕ) → IsCert kind cert
+    → AreFirst (length cert.claims) (take k cert.nodes)
+are_first kind cert k good =
     let parts : take k cert.nodes ++ drop k cert.nodes ≡ cert.nodes = take-append-drop k cert.nodes in
     let leaves = leaves-front (take k cert.nodes) (drop k cert.nodes) in
     let few = good.few_leaves in
     record {
-      good = All-take (IsNode Named (length cert.claims)) cert.nodes k good.nodes;
+      good = any_kind kind (length cert.claims) (take k cert.nodes)
+          (All-take (IsNode kind (length cert.claims)) cert.nodes k good.nodes);
       opens = opens-front 1 0 (take k cert.nodes) (drop k cert.nodes) (ap (λ ns. open_from 1 ns) parts ∙ good.tree);
       few_leaves = omega (arith, leaves, few, ap leaf_count parts);
     }
@@ -98,12 +102,12 @@ take_all (node ∷ nodes) (suc k) l = ap (λ (ns : List Node). node ∷ ns) (tak
 
 -- ---- the nodes of a text, as far as it is read
 
-pub first_of_text : (answers : AnswerWidth) (text : List ℕ) (nodes : List Node) (lines : Lines)
-    → HasRead Named answers text nodes lines
+pub first_of_text : (kind : CertKind) (answers : AnswerWidth) (text : List ℕ) (nodes : List Node) (lines : Lines)
+    → HasRead kind answers text nodes lines
     → AreFirst (length (claims_of lines)) nodes
-first_of_text answers text nodes lines read =
+first_of_text kind answers text nodes lines read =
     record {
-      good = read.begins.good_nodes;
+      good = any_kind kind (length (claims_of lines)) nodes read.begins.good_nodes;
       opens = (lines.open_boxes, read.begins.left_open);
       few_leaves =
           read.begins.few_leaves;
@@ -119,8 +123,8 @@ IfErr-then P Q (Err e) f p = f e p
 
 -- ---- a walk over a certificate, behind its first k nodes
 
-module _ (b : Block) (h : ℕ) (cert : Cert) (w : Walk) (over : IsWalkOver b cert.claims h w) (good : IsCert Named cert)
-    (k : ℕ) where
+module _ (b : Block) (h : ℕ) (cert : Cert) (w : Walk) (over : IsWalkOver b cert.claims h w)
+    (is_cert : (kind : CertKind) × IsCert kind cert) (k : ℕ) where
   -- the next node, which is read of a slice
   module _ (nodes : List Node) (node : Node) (same : nodes ≡ cert.nodes) (within : k < length nodes)
       (is : node ≡ get_or nodes k node) where
@@ -131,7 +135,7 @@ module _ (b : Block) (h : ℕ) (cert : Cert) (w : Walk) (over : IsWalkOver b cer
     -- the walk may take it
     pub AreFirst-next : AreFirst (length w.claims.now) (take k cert.nodes ++ node ∷ [])
     AreFirst-next = subst (λ cs. AreFirst (length cs) (take k cert.nodes ++ node ∷ [])) (sym over.claims_are)
-        (subst (λ ns. AreFirst (length cert.claims) ns) take-next (are_first cert (k + 1) good))
+        (subst (λ ns. AreFirst (length cert.claims) ns) take-next (are_first is_cert.0 cert (k + 1) is_cert.1))
 
     -- and is behind it then
     pub HasTaken-next : (v : Walk) → HasTaken (take k cert.nodes) w
@@ -150,21 +154,21 @@ module _ (b : Block) (h : ℕ) (cert : Cert) (w : Walk) (over : IsWalkOver b cer
 
     -- what it answers is of the certificate
     pub IsAccepted-all : (r : Result (Vec ℕ) CheckFault)
-        → ((ns : List Node) → HasTaken ns w → IsCert Named (cert_over w ns)
+        → ((ns : List Node) → HasTaken ns w → IsTree ns
         → IfOk r (λ es. IsAccepted w.block.now w.parts (cert_over w ns) es.items))
         → IfOk r (λ es. IsAccepted b h cert es.items)
     IsAccepted-all r accepted =
         IfOk-then (λ (es : Vec ℕ). IsAccepted w.block.now w.parts (cert_over w cert.nodes) es.items)
         (λ es. IsAccepted b h cert es.items) r
         (λ es a. accepted_over b cert.claims h w over cert.nodes es.items a)
-        (accepted cert.nodes HasTaken-all (is_cert b cert.claims h w over cert.nodes good))
+        (accepted cert.nodes HasTaken-all is_cert.1.tree)
 
     pub HasCheckFault-all : (r : Result (Vec ℕ) CheckFault)
-        → ((ns : List Node) → HasTaken ns w → IsCert Named (cert_over w ns)
+        → ((ns : List Node) → HasTaken ns w → IsTree ns
         → IfErr r (HasCheckFault w.block.now w.parts (cert_over w ns)))
         → IfErr r (λ f. f ≢ fault.Memory → HasCheckFault b h cert f)
     HasCheckFault-all r faulty =
         IfErr-then (λ (f : CheckFault). HasCheckFault w.block.now w.parts (cert_over w cert.nodes) f)
         (λ f. f ≢ fault.Memory → HasCheckFault b h cert f) r
         (λ f a real. fault_over b cert.claims h w over cert.nodes f a)
-        (faulty cert.nodes HasTaken-all (is_cert b cert.claims h w over cert.nodes good))
+        (faulty cert.nodes HasTaken-all is_cert.1.tree)

@@ -16,7 +16,10 @@ use Rattle.error_bound.specs.Leaves.{IsStrong, IsStill, strong, silent}
 use Rattle.error_bound.specs.Bounds.{IsBound, bound}
 use Rattle.error_bound.specs.CellErrors.{term_errors}
 use Rattle.error_bound.specs.Laws.{TermErrorsAre}
+use Rattle.box_tree.specs.declared.cert.LeafForm.{LeafForm}
+use Rattle.box_tree.specs.declared.cert.LeafForm.TheVariants.{Pairs}
 use Rattle.box_tree.specs.declared.cert.Node.TheVariants.{Split}
+use Rattle.cell_bounds.specs.declared.claims.Claim.TheVariants.{Pair}
 use Rattle.cert_check.specs.Trees.{Part, IsTree, leaf, split, whole}
 use Rattle.cert_check.specs.Acceptance.{HasBound, IsGreatestBound, IsAccepted}
 use Rattle.cert_check.specs.Examples.{leaf_node, heater_cert, latch_cert, ExamplesAreAccepted}
@@ -25,6 +28,9 @@ use Rattle.fz_list.proofs.Algebra.{All-cons, All-none}
 abbrev pair : ℕ → ℕ → the.Leaf
 pair r k = record { rule = r; k = k }
 
+abbrev pairs_form : ℕ → ℕ → LeafForm
+pairs_form r k = Pairs (record { items = (r, k) ∷ [] })
+
 abbrev cold_box : List Interval
 cold_box = record { from = 0; to = 127 } ∷ []
 
@@ -32,14 +38,14 @@ abbrev hot_box : List Interval
 hot_box = record { from = 128; to = 255 } ∷ []
 
 abbrev heater_parts : List Part
-heater_parts = record { box = cold_box; pairs = pair 1 127 ∷ [] }
-    ∷ record { box = hot_box; pairs = pair 2 127 ∷ [] } ∷ []
+heater_parts = record { box = cold_box; form = pairs_form 1 127 }
+    ∷ record { box = hot_box; form = pairs_form 2 127 } ∷ []
 
 heater_tree : IsTree (whole heater) heater_cert.nodes heater_parts []
 heater_tree = split (whole heater) 1 128 (leaf_node 1 127 ∷ leaf_node 2 127 ∷ []) (leaf_node 2 127 ∷ []) []
-    (record { box = cold_box; pairs = pair 1 127 ∷ [] } ∷ []) (record { box = hot_box; pairs = pair 2 127 ∷ [] } ∷ [])
-    (omega arith) (omega arith, omega arith) (leaf cold_box (record { items = (1, 127) ∷ [] }) (leaf_node 2 127 ∷ []))
-    (leaf hot_box (record { items = (2, 127) ∷ [] }) [])
+    (record { box = cold_box; form = pairs_form 1 127 } ∷ []) (record { box = hot_box; form = pairs_form 2 127 } ∷ [])
+    (omega arith) (omega arith, omega arith) (leaf cold_box (pairs_form 1 127) (leaf_node 2 127 ∷ []))
+    (leaf hot_box (pairs_form 2 127) [])
 
 abbrev cold_rule : Rule
 cold_rule = record { cond = is 1 1; weight = None; concl = (1, 1) ∷ [] }
@@ -101,30 +107,32 @@ bound_of errors b box o x h l n v ib e = record { errors = term_errors b box; ar
 
 cold_part : TermErrorsAre → IsValid heater → (h n : ℕ)
     → n ≡ bound heater (term_errors heater cold_box) 1 power h (pair 1 127)
-    → HasBound heater 1 power h (record { box = cold_box; pairs = pair 1 127 ∷ [] }) n
+    → HasBound heater 1 power h (record { box = cold_box; form = pairs_form 1 127 }) n
 cold_part errors valid h n e =
     record {
-      leaf = pair 1 127;
-      pair_is = refl;
-      holds =
-          strong cold_rule (omega arith) (omega arith) (omega arith) refl cold_strong;
-      bound_is =
+      claim = Pair (pair 1 127);
+      claim_is = refl;
+      allowed = tt;
+      bound_is = (
+          strong cold_rule (omega arith) (omega arith) (omega arith) refl cold_strong,
           bound_of errors heater cold_box 1 power h (pair 1 127) n valid
-          (box_valid 0 127 (omega arith) (omega arith)) e;
+          (box_valid 0 127 (omega arith) (omega arith)) e,
+      );
     }
 
 hot_part : TermErrorsAre → IsValid heater → (h n : ℕ)
     → n ≡ bound heater (term_errors heater hot_box) 1 power h (pair 2 127)
-    → HasBound heater 1 power h (record { box = hot_box; pairs = pair 2 127 ∷ [] }) n
+    → HasBound heater 1 power h (record { box = hot_box; form = pairs_form 2 127 }) n
 hot_part errors valid h n e =
     record {
-      leaf = pair 2 127;
-      pair_is = refl;
-      holds =
-          strong hot_rule (omega arith) (omega arith) (omega arith) refl hot_strong;
-      bound_is =
+      claim = Pair (pair 2 127);
+      claim_is = refl;
+      allowed = tt;
+      bound_is = (
+          strong hot_rule (omega arith) (omega arith) (omega arith) refl hot_strong,
           bound_of errors heater hot_box 1 power h (pair 2 127) n valid
-          (box_valid 128 255 (omega arith) (omega arith)) e;
+          (box_valid 128 255 (omega arith) (omega arith)) e,
+      );
     }
 
 heater_greatest : TermErrorsAre → IsValid heater → (h n : ℕ)
@@ -133,8 +141,8 @@ heater_greatest : TermErrorsAre → IsValid heater → (h n : ℕ)
     → IsGreatestBound heater 1 power h heater_parts n
 heater_greatest errors valid h n e f =
     let P : Part → Type 0 = λ p. (m : ℕ) × HasBound heater 1 power h p m × (m ≤ n) in
-    let cp : Part = record { box = cold_box; pairs = pair 1 127 ∷ [] } in
-    let hp : Part = record { box = hot_box; pairs = pair 2 127 ∷ [] } in
+    let cp : Part = record { box = cold_box; form = pairs_form 1 127 } in
+    let hp : Part = record { box = hot_box; form = pairs_form 2 127 } in
     record {
       each = All-cons P cp (hp ∷ []) (n, cold_part errors valid h n e, omega arith)
           (All-cons P hp [] (n, hot_part errors valid h n f, omega arith) (All-none P));
@@ -258,17 +266,17 @@ off_bound : 3922 ≡ bound latch (term_errors latch (span_of 192 255)) 1 keeper 
 off_bound = refl
 
 abbrev part : ℕ → ℕ → ℕ → ℕ → Part
-part f t r k = record { box = span_of f t; pairs = pair r k ∷ [] }
+part f t r k = record { box = span_of f t; form = pairs_form r k }
 
 latch_tree : IsTree (whole latch) latch_cert.nodes (part 0 63 1 255 ∷ part 64 191 0 0 ∷ part 192 255 2 255 ∷ []) []
 latch_tree = split (span_of 0 255) 1 64 (leaf_node 1 255 ∷ Split 1 192 ∷ leaf_node 0 0 ∷ leaf_node 2 255 ∷ [])
     (Split 1 192 ∷ leaf_node 0 0 ∷ leaf_node 2 255 ∷ []) [] (part 0 63 1 255 ∷ [])
     (part 64 191 0 0 ∷ part 192 255 2 255 ∷ []) (omega arith) (omega arith, omega arith)
-    (leaf (span_of 0 63) (record { items = (1, 255) ∷ [] }) (Split 1 192 ∷ leaf_node 0 0 ∷ leaf_node 2 255 ∷ []))
+    (leaf (span_of 0 63) (pairs_form 1 255) (Split 1 192 ∷ leaf_node 0 0 ∷ leaf_node 2 255 ∷ []))
     (split (span_of 64 255) 1 192 (leaf_node 0 0 ∷ leaf_node 2 255 ∷ []) (leaf_node 2 255 ∷ []) []
     (part 64 191 0 0 ∷ []) (part 192 255 2 255 ∷ []) (omega arith) (omega arith, omega arith)
-    (leaf (span_of 64 191) (record { items = (0, 0) ∷ [] }) (leaf_node 2 255 ∷ []))
-    (leaf (span_of 192 255) (record { items = (2, 255) ∷ [] }) []))
+    (leaf (span_of 64 191) (pairs_form 0 0) (leaf_node 2 255 ∷ []))
+    (leaf (span_of 192 255) (pairs_form 2 255) []))
 
 latch_greatest : TermErrorsAre → IsValid latch
     → IsGreatestBound latch 1 keeper 1 (part 0 63 1 255 ∷ part 64 191 0 0 ∷ part 192 255 2 255 ∷ []) 3922
@@ -276,32 +284,36 @@ latch_greatest errors v =
     let P : Part → Type 0 = λ q. (m : ℕ) × HasBound latch 1 keeper 1 q m × (m ≤ 3922) in
     let first : HasBound latch 1 keeper 1 (part 0 63 1 255) 3922 =
     record {
-      leaf = pair 1 255;
-      pair_is = refl;
-      holds =
-          strong on_rule (omega arith) (omega arith) (omega arith) refl on_strong;
-      bound_is =
+      claim = Pair (pair 1 255);
+      claim_is = refl;
+      allowed = tt;
+      bound_is = (
+          strong on_rule (omega arith) (omega arith) (omega arith) refl on_strong,
           bound_of errors latch (span_of 0 63) 1 keeper 1 (pair 1 255) 3922 v
-          (box_valid 0 63 (omega arith) (omega arith)) on_bound;
+          (box_valid 0 63 (omega arith) (omega arith)) on_bound,
+      );
     } in
     let second : HasBound latch 1 keeper 1 (part 64 191 0 0) 0 =
     record {
-      leaf = pair 0 0;
-      pair_is = refl;
-      holds = silent refl refl silent_between;
-      bound_is =
+      claim = Pair (pair 0 0);
+      claim_is = refl;
+      allowed = tt;
+      bound_is = (
+          silent refl refl silent_between,
           bound_of errors latch (span_of 64 191) 1 keeper 1 (pair 0 0) 0 v
-          (box_valid 64 191 (omega arith) (omega arith)) refl;
+          (box_valid 64 191 (omega arith) (omega arith)) refl,
+      );
     } in
     let third : HasBound latch 1 keeper 1 (part 192 255 2 255) 3922 =
     record {
-      leaf = pair 2 255;
-      pair_is = refl;
-      holds =
-          strong off_rule (omega arith) (omega arith) (omega arith) refl off_strong;
-      bound_is =
+      claim = Pair (pair 2 255);
+      claim_is = refl;
+      allowed = tt;
+      bound_is = (
+          strong off_rule (omega arith) (omega arith) (omega arith) refl off_strong,
           bound_of errors latch (span_of 192 255) 1 keeper 1 (pair 2 255) 3922 v
-          (box_valid 192 255 (omega arith) (omega arith)) off_bound;
+          (box_valid 192 255 (omega arith) (omega arith)) off_bound,
+      );
     } in
     record {
       each = All-cons P (part 0 63 1 255) (part 64 191 0 0 ∷ part 192 255 2 255 ∷ []) (3922, first, omega arith)

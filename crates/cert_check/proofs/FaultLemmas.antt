@@ -1,25 +1,23 @@
 -- A certificate with a fault is not accepted.
 use Rattle.std.proofs.Common.{◌≡◌, ℕ, zero, suc, ◌-◌, ◌≤◌, List, [], ◌∷◌, ◌++◌, Some, refl, sym, ap, ◌∙◌, subst, arith}
-use Rattle.std.specs.Prelude.{slice_get, All, IsTrue, ◌==◌}
-use Rattle.arrayvec.specs.ArrayVec.{ArrayVec}
+use Rattle.std.specs.Prelude.{slice_get, All}
 use Rattle.fuzzy_meaning.specs.declared.block.Block.{Block}
 use Rattle.fuzzy_meaning.specs.declared.block.Output.{Output}
 use Rattle.error_bound.specs.declared.boxes.Interval.{Interval}
-use Rattle.error_bound.specs.declared.boxes.Leaf as the
-use Rattle.error_bound.specs.Leaves.{Holds, strong, silent, IsPairFor, rule_at, concludes_some}
-use Rattle.fz_list.proofs.Algebra.{some_at, IsSomeAnd-at, list_any-left}
+use Rattle.fz_list.proofs.Algebra.{some_at}
 use Rattle.error_bound.specs.Faults.{FaultyLeavesFail}
-use Rattle.error_bound.specs.Laws.{BoundsAreDetermined}
-use Rattle.box_tree.specs.declared.cert.LeafForm.TheVariants.{Pairs}
+use Rattle.cell_bounds.specs.Claims.{ClaimBoundsAreOne}
+use Rattle.box_tree.specs.declared.cert.LeafForm.{LeafForm}
 use Rattle.box_tree.specs.declared.cert.Node.{Node}
 use Rattle.box_tree.specs.declared.cert.Node.TheVariants.{Split, Leaf}
 use Rattle.box_tree.specs.declared.cert.Cert.{Cert}
 use Rattle.cert_check.specs.declared.checker.CheckFault.{CheckFault}
-use Rattle.cert_check.specs.Trees.{Part, IsTree, leaf, split, leaves_of, left_of, right_of, IsCut, whole}
+use Rattle.cert_check.specs.Trees.{Part, part_of, IsTree, leaf, split, left_of, right_of, IsCut, whole}
 use Rattle.cert_check.specs.Acceptance.{HasBound, IsAccepted}
-use Rattle.cert_check.specs.Faults.{line_at, Reaches, root, in_left, in_right, HasPartFault, IsPairFault, bad_rule}
-use Rattle.cert_check.specs.Faults.{fails, HasTreeFault, bad_cut, bad_leaf, outputs, tree, claimed}
+use Rattle.cert_check.specs.Faults.{line_at, Reaches, root, in_left, in_right, HasTreeFault, bad_cut, bad_leaf}
+use Rattle.cert_check.specs.Faults.{outputs, tree, claimed}
 use Rattle.cert_check.specs.Laws.{FaultyCertsFail}
+use Rattle.cert_check.proofs.ClaimLemmas.{bound_fails}
 use Rattle.cert_check.proofs.Determined.{tree_unique, errors_unique}
 
 record Halves (box : List Interval) (i c : ℕ) (nodes : List Node) (parts : List Part) (rest : List Node) : Type 0 where
@@ -33,7 +31,7 @@ record Halves (box : List Interval) (i c : ℕ) (nodes : List Node) (parts : Lis
 
 halves : (box : List Interval) (nodes : List Node) (parts : List Part) (rest : List Node) → IsTree box nodes parts rest
     → (i c : ℕ) (below : List Node) → nodes ≡ Split i c ∷ below → Halves box i c below parts rest
-halves box nodes parts rest (leaf x pairs r) i c below e = absurd (let z : ⊥ = cc in z)
+halves box nodes parts rest (leaf x form r) i c below e = absurd (let z : ⊥ = cc in z)
 halves box nodes parts rest (split x j d n m r left right some cut tl tr) i c below e =
     let ei : j ≡ i = cc in
     let ec : d ≡ c = cc in
@@ -44,11 +42,11 @@ halves box nodes parts rest (split x j d n m r left right some cut tl tr) i c be
 
 one_part : (box : List Interval) (nodes : List Node) (parts : List Part) (rest : List Node)
     → IsTree box nodes parts rest
-    → (pairs : ArrayVec (ℕ × ℕ)) (below : List Node) → nodes ≡ Leaf (Pairs pairs) ∷ below
-    → record { box = box; pairs = leaves_of pairs.items } ∷ [] ≡ parts
-one_part box nodes parts rest (leaf x pairs' r) pairs below e = let s : pairs ≡ pairs' = cc in ap
-    (λ (a : ArrayVec (ℕ × ℕ)). record { box = x; pairs = leaves_of a.items } ∷ []) s
-one_part box nodes parts rest (split x j d n m r left right some cut tl tr) pairs below e = absurd (let z : ⊥ = cc in z)
+    → (form : LeafForm) (below : List Node) → nodes ≡ Leaf form ∷ below → part_of box form ∷ [] ≡ parts
+one_part box nodes parts rest (leaf x form' r) form below e =
+    let s : form ≡ form' = cc in
+    ap (λ (a : LeafForm). part_of x a ∷ []) s
+one_part box nodes parts rest (split x j d n m r left right some cut tl tr) form below e = absurd (let z : ⊥ = cc in z)
 
 All-front : {X : Type 0} (P : X → Type 0) (xs ys : List X) → All P (xs ++ ys) → All P xs
 All-front P [] ys a k d l = absurd (omega arith)
@@ -60,64 +58,34 @@ All-back P [] ys a = a
 All-back P (x ∷ xs) ys a = All-back P xs ys (λ j e m. a (suc j) e (omega arith))
 
 -- what is reached in a tree is a tree, whose leaves are among its leaves
-pub inside : (b : Block) (P : Part → Type 0) (box : List Interval) (nodes : List Node) (found : List Interval)
-    (rest : List Node) → Reaches b box nodes found rest → (parts : List Part) (after : List Node)
+pub inside : (b : Block) (h : ℕ) (P : Part → Type 0) (box : List Interval) (nodes : List Node) (found : List Interval)
+    (rest : List Node) → Reaches b h box nodes found rest → (parts : List Part) (after : List Node)
     → IsTree box nodes parts after → All P parts
     → (ps : List Part) × (behind : List Node) × IsTree found rest ps behind × All P ps
-inside b P box nodes found rest (root x ns) parts after t a = (parts, after, t, a)
-inside b P box nodes found rest (in_left x i c ns f r some cut reach) parts after t a =
-    let h = halves x (Split i c ∷ ns) parts after t i c ns refl in
-    inside b P (left_of (i - 1) c x) ns f r reach h.left h.mid h.left_tree
-    (All-front P h.left h.right (subst (λ ps. All P ps) (sym h.parts_are) a))
-inside b P box nodes found rest (in_right x i c ns m qs f r some cut first hold reach) parts after t a =
-    let h = halves x (Split i c ∷ ns) parts after t i c ns refl in
-    let same : h.mid ≡ m = (tree_unique (left_of (i - 1) c x) (left_of (i - 1) c x) ns ns h.left qs h.mid m h.left_tree
+inside b h P box nodes found rest (root x ns) parts after t a = (parts, after, t, a)
+inside b h P box nodes found rest (in_left x i c ns f r some cut reach) parts after t a =
+    let s = halves x (Split i c ∷ ns) parts after t i c ns refl in
+    inside b h P (left_of (i - 1) c x) ns f r reach s.left s.mid s.left_tree
+    (All-front P s.left s.right (subst (λ ps. All P ps) (sym s.parts_are) a))
+inside b h P box nodes found rest (in_right x i c ns m qs f r some cut first hold reach) parts after t a =
+    let s = halves x (Split i c ∷ ns) parts after t i c ns refl in
+    let same : s.mid ≡ m = (tree_unique (left_of (i - 1) c x) (left_of (i - 1) c x) ns ns s.left qs s.mid m s.left_tree
     first refl refl).1 in
-    inside b P (right_of (i - 1) c x) m f r reach h.right after
-    (subst (λ k. IsTree (right_of (i - 1) c x) k h.right after) same h.right_tree)
-    (All-back P h.left h.right (subst (λ ps. All P ps) (sym h.parts_are) a))
-
--- a pair that holds names a rule of its output
-Holds-pair : (b : Block) (box : List Interval) (o : ℕ) (pair : the.Leaf) → Holds b box o pair → IsPairFor b o pair
-Holds-pair b box o pair (strong r some_rule some_part small at is) = record {
-  silent = λ z. absurd (omega arith);
-  strong = λ z. some_rule;
-  part = small;
-  concludes_one = λ z. IsSomeAnd-at (λ r. IsTrue (concludes_some r o)) (rule_at b pair.rule) r at
-      (list_any-left (λ (c : ℕ × ℕ). c.0 == o) (λ (c : ℕ × ℕ). c.1 == is.term) r.concl is.concludes_it);
-}
-Holds-pair b box o pair (silent no_rule no_part still) = record {
-  silent = λ z. no_rule;
-  strong = λ z. absurd (omega arith);
-  part = omega arith;
-  concludes_one = λ z. absurd (omega arith);
-}
-
-pub pair_fails : FaultyLeavesFail
-    → (b : Block) (box : List Interval) (o : ℕ) (pair : the.Leaf) (line : ℕ) (f : CheckFault)
-    → IsPairFault b box o pair line f → Holds b box o pair → ⊥
-pair_fails fail b box o pair line f (bad_rule n) h = n (Holds-pair b box o pair h)
-pair_fails fail b box o pair line f (fails g p e) h = fail b box o pair g e h
-
-part_fails : FaultyLeavesFail → (b : Block) (h : ℕ) (p : Part) (line : ℕ) (f : CheckFault) (x : Output) (n : ℕ)
-    (fault : HasPartFault b p line f) → HasBound b fault.output x h p n → ⊥
-part_fails fail b h p line f x n fault bound =
-    let s : Some bound.leaf ≡ Some fault.leaf = sym bound.pair_is ∙ fault.pair_is in
-    let same : bound.leaf ≡ fault.leaf = cc in
-    pair_fails fail b p.box fault.output fault.leaf line f fault.is
-    (subst (λ l. Holds b p.box fault.output l) same bound.holds)
+    inside b h P (right_of (i - 1) c x) m f r reach s.right after
+    (subst (λ k. IsTree (right_of (i - 1) c x) k s.right after) same s.right_tree)
+    (All-back P s.left s.right (subst (λ ps. All P ps) (sym s.parts_are) a))
 
 only_part : (P : Part → Type 0) (p : Part) (parts : List Part) → p ∷ [] ≡ parts → All P parts → P p
 only_part P p parts e a = subst (λ ps. All P ps) (sym e) a 0 p (omega arith)
 
 pub tree_fails : FaultyLeavesFail → (b : Block) (h : ℕ) (cert : Cert) (errors : List ℕ) (f : CheckFault)
-    → HasTreeFault b cert.nodes f
+    → HasTreeFault b h cert.nodes f
     → IsAccepted b h cert errors → ⊥
 tree_fails fail b h cert errors f (bad_cut box i c rest reach outside) a =
-    let t = inside b (λ _. Unit {0}) (whole b) cert.nodes box (Split i c ∷ rest) reach a.parts [] a.tree
+    let t = inside b h (λ _. Unit {0}) (whole b) cert.nodes box (Split i c ∷ rest) reach a.parts [] a.tree
     (λ k d l. tt) in
     outside (halves box (Split i c ∷ rest) t.0 t.1 t.2 i c rest refl).cut
-tree_fails fail b h cert errors f (bad_leaf box pairs rest g reach fault) a =
+tree_fails fail b h cert errors f (bad_leaf box form rest g reach fault) a =
     let o = fault.output in
     let from = fault.from in
     let to = fault.to in
@@ -126,12 +94,13 @@ tree_fails fail b h cert errors f (bad_leaf box pairs rest g reach fault) a =
     let e = some_at errors (o - 1) (omega arith) in
     let P : Part → Type 0 = λ p. (n : ℕ) × HasBound b o x.0 h p n × (n ≤ e.0) in
     let each : All P a.parts = (a.greatest o x.0 e.0 from x.1 e.1).each in
-    let t = inside b P (whole b) cert.nodes box (Leaf (Pairs pairs) ∷ rest) reach a.parts [] a.tree each in
-    let p : Part = record { box = box; pairs = leaves_of pairs.items } in
-    let here : P p = only_part P p t.0 (one_part box (Leaf (Pairs pairs) ∷ rest) t.0 t.1 t.2 pairs rest refl) t.3 in
-    part_fails fail b h p (line_at cert.nodes (Leaf (Pairs pairs) ∷ rest)) g x.0 here.0 fault here.1
+    let t = inside b h P (whole b) cert.nodes box (Leaf form ∷ rest) reach a.parts [] a.tree each in
+    let p = part_of box form in
+    let here : P p = only_part P p t.0 (one_part box (Leaf form ∷ rest) t.0 t.1 t.2 form rest refl) t.3 in
+    bound_fails fail b h p o x.0 here.0 (line_at cert.nodes (Leaf form ∷ rest)) fault.claim g x.1 fault.claim_is
+    fault.is here.1
 
-pub certs_fail : FaultyLeavesFail → BoundsAreDetermined → FaultyCertsFail
+pub certs_fail : FaultyLeavesFail → ClaimBoundsAreOne → FaultyCertsFail
 certs_fail fail one b h cert errors f v (outputs differ) a = differ a.claims_count
 certs_fail fail one b h cert errors f v (tree g count t) a = tree_fails fail b h cert errors g t a
 certs_fail fail one b h cert errors f v (claimed es k over count accepted) a =

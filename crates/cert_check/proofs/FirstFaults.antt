@@ -2,31 +2,34 @@
 use Rattle.std.proofs.Common.{◌≡◌, ⊎_elim, ℕ, ◌+◌, ◌-◌, ◌<◌, ◌≤◌, List, ◌∷◌, Some, refl, sym, ap, ◌∙◌, subst, arith}
 use Rattle.std.specs.Prelude.{slice_get, All, Ok, Err}
 use Rattle.std.proofs.lemmas.Bool.{cases_lt}
-use Rattle.arrayvec.specs.ArrayVec.{ArrayVec}
+use Rattle.fz_list.proofs.Algebra.{some_at}
 use Rattle.fuzzy_meaning.specs.declared.block.Block.{Block}
 use Rattle.error_bound.specs.declared.boxes.Interval.{Interval}
 use Rattle.error_bound.specs.declared.boxes.Leaf as the
 use Rattle.error_bound.specs.declared.boxes.LeafFault.{LeafFault}
 use Rattle.error_bound.specs.Faults.{LeafFaultsAreOne, FaultyLeavesFail}
-use Rattle.box_tree.specs.declared.cert.CertKind.TheVariants.{Named}
-use Rattle.box_tree.specs.declared.cert.LeafForm.TheVariants.{Pairs}
+use Rattle.box_tree.specs.declared.cert.LeafForm.{LeafForm}
 use Rattle.box_tree.specs.declared.cert.Node.{Node}
 use Rattle.box_tree.specs.declared.cert.Node.TheVariants.{Split, Leaf}
 use Rattle.box_tree.specs.declared.cert.Cert.{Cert}
 use Rattle.box_tree.specs.declared.cert.CertFault.{CertFault}
+use Rattle.cell_bounds.specs.declared.claims.Claim.{Claim}
+use Rattle.cell_bounds.specs.declared.claims.Claim.TheVariants.{Pair, Tight, Cells}
+use Rattle.cell_bounds.specs.Claims.{ClaimBoundsAreOne}
 use Rattle.box_tree.specs.Laws.{CertsAreOne, FaultsAreOne, CertTextsHaveNoFault}
 use Rattle.cert_check.specs.declared.checker.CheckFault.{CheckFault}
 use Rattle.cert_check.specs.declared.checker.CheckFault.TheVariants as fault
 use Rattle.cert_check.specs.declared.text.TextFault.TheVariants as refusal
 use Rattle.cert_check.specs.Trees.{Part, IsTree, leaf, split, part_of, left_of, right_of, IsCut, whole}
-use Rattle.cert_check.specs.Faults.{AllHold, line_at, Reaches, root, in_left, in_right, HasPartFault, IsPairFault}
-use Rattle.cert_check.specs.Faults.{bad_rule, fails, HasTreeFault, bad_cut, bad_leaf, IsFirstOver, HasCheckFault}
+use Rattle.cert_check.specs.Acceptance.{claim_at}
+use Rattle.cert_check.specs.Faults.{AllHold, line_at, Reaches, root, in_left, in_right, HasPartFault, IsPairFault, IsCellsFault}
+use Rattle.cert_check.specs.Faults.{bad_rule, fails, too_many, unsure, IsClaimFault, HasTreeFault, bad_cut, bad_leaf, IsFirstOver, HasCheckFault}
 use Rattle.cert_check.specs.Faults.{outputs, tree, claimed}
 use Rattle.cert_check.specs.TextFaults.{of_text, of_cert}
 use Rattle.cert_check.specs.Laws.{CheckFaultsAreOne, TextAnswersAreOne}
+use Rattle.cert_check.proofs.ClaimLemmas.{claim_fails, one_claim}
 use Rattle.cert_check.proofs.Determined.{tree_unique, errors_unique}
-use Rattle.cert_check.proofs.FaultLemmas.{inside, pair_fails, tree_fails, certs_fail}
-use Rattle.error_bound.specs.Laws.{BoundsAreDetermined}
+use Rattle.cert_check.proofs.FaultLemmas.{inside, tree_fails, certs_fail}
 
 -- ---- a leaf's line
 
@@ -39,77 +42,95 @@ one_pair_fault one b box o pair line _ _ (fails f p e) (bad_rule m) = absurd (m 
 one_pair_fault one b box o pair line _ _ (fails f p e) (fails g q d) =
     ap (λ (l : LeafFault). fault.Leaf line l) (one b box o pair f g e d)
 
--- the pair at fault stands before no other that is the first
+one_cells_fault : (b : Block) (h : ℕ) (box : List Interval) (o line : ℕ) (f g : CheckFault)
+    → IsCellsFault b h box o line f → IsCellsFault b h box o line g → f ≡ g
+one_cells_fault b h box o line _ _ (too_many m) (too_many n) = refl
+one_cells_fault b h box o line _ _ (too_many m) (unsure few s) = absurd (omega arith)
+one_cells_fault b h box o line _ _ (unsure few s) (too_many m) = absurd (omega arith)
+one_cells_fault b h box o line _ _ (unsure few s) (unsure also t) = refl
+
+one_claim_fault : LeafFaultsAreOne
+    → (b : Block) (h : ℕ) (box : List Interval) (o line : ℕ) (claim : Claim) (f g : CheckFault)
+    → IsClaimFault b h box o line claim f → IsClaimFault b h box o line claim g → f ≡ g
+one_claim_fault one b h box o line (Pair pair) f g p q = one_pair_fault one b box o pair line f g p q
+one_claim_fault one b h box o line Tight f g p q = p.0 ∙ sym q.0
+one_claim_fault one b h box o line Cells f g p q = one_cells_fault b h box o line f g p q
+
+-- the output at fault stands before no other that is the first
 none_before : FaultyLeavesFail
-    → (b : Block) (p : Part) (line : ℕ) (f g : CheckFault) (first : HasPartFault b p line f)
-    (other : HasPartFault b p line g) → other.output ≤ first.output
-none_before fail b p line f g first other = ⊎_elim
-    (λ (l : first.output < other.output). absurd
-    (pair_fails fail b p.box first.output first.leaf line f first.is
-    (other.before first.output first.leaf first.from l first.pair_is)))
+    → (b : Block) (h : ℕ) (p : Part) (line : ℕ) (f g : CheckFault) (first : HasPartFault b h p line f)
+    (other : HasPartFault b h p line g) → other.output ≤ first.output
+none_before fail b h p line f g first other = ⊎_elim
+    (λ (l : first.output < other.output).
+    let from = first.from in
+    let to = first.to in
+    let x = some_at b.outputs (first.output - 1) (omega arith) in
+    absurd (claim_fails fail b h p.box first.output x.0 line first.claim f x.1 first.is
+    (other.before first.output first.claim first.from l first.claim_is)))
     (λ (l : other.output ≤ first.output). l)
     (cases_lt first.output other.output)
 
-one_part_fault : LeafFaultsAreOne → FaultyLeavesFail → (b : Block) (p : Part) (line : ℕ) (f g : CheckFault)
-    → HasPartFault b p line f → HasPartFault b p line g → f ≡ g
-one_part_fault one fail b p line f g first second =
-    let up = none_before fail b p line f g first second in
-    let down = none_before fail b p line g f second first in
+one_part_fault : LeafFaultsAreOne → FaultyLeavesFail → (b : Block) (h : ℕ) (p : Part) (line : ℕ) (f g : CheckFault)
+    → HasPartFault b h p line f → HasPartFault b h p line g → f ≡ g
+one_part_fault one fail b h p line f g first second =
+    let up = none_before fail b h p line f g first second in
+    let down = none_before fail b h p line g f second first in
     let same : first.output ≡ second.output = omega (arith, up, down) in
-    let pairs : Some first.leaf ≡ Some second.leaf = sym first.pair_is ∙ ap (λ o. slice_get p.pairs (o - 1)) same
-    ∙ second.pair_is in
-    let leaves : first.leaf ≡ second.leaf = cc in
-    one_pair_fault one b p.box second.output second.leaf line f g
-    (subst (λ l. IsPairFault b p.box second.output l line f) leaves
-    (subst (λ o. IsPairFault b p.box o first.leaf line f) same first.is)) second.is
+    let claims : first.claim ≡ second.claim = one_claim first.claim_is
+    (ap (λ o. claim_at p.form (o - 1)) same ∙ second.claim_is) in
+    one_claim_fault one b h p.box second.output line second.claim f g
+    (subst (λ c. IsClaimFault b h p.box second.output line c f) claims
+    (subst (λ o. IsClaimFault b h p.box o line first.claim f) same first.is)) second.is
 
 -- ---- the first node at fault
 
 -- the first of the nodes is at fault on this box
-data Stops (b : Block) (box : List Interval) (rest : List Node) (line : ℕ) : CheckFault → Type 0 where
+data Stops (b : Block) (h : ℕ) (box : List Interval) (rest : List Node) (line : ℕ) : CheckFault → Type 0 where
   at_cut : (i c : ℕ) (after : List Node) → rest ≡ Split i c ∷ after → (IsCut (i - 1) c box → ⊥)
-      → Stops b box rest line (fault.BadCut line)
-  at_leaf : (pairs : ArrayVec (ℕ × ℕ)) (after : List Node) (f : CheckFault) → rest ≡ Leaf (Pairs pairs) ∷ after
-      → HasPartFault b (part_of box pairs.items) line f → Stops b box rest line f
+      → Stops b h box rest line (fault.BadCut line)
+  at_leaf : (form : LeafForm) (after : List Node) (f : CheckFault) → rest ≡ Leaf form ∷ after
+      → HasPartFault b h (part_of box form) line f → Stops b h box rest line f
 
-no_cut : (b : Block) (box : List Interval) (rest : List Node) (line : ℕ) (f : CheckFault) (i c : ℕ) (nodes : List Node)
-    → Stops b box rest line f → rest ≡ Split i c ∷ nodes → IsCut (i - 1) c box → ⊥
-no_cut b box rest line _ i c nodes (at_cut j d after e none) same cut =
+no_cut : (b : Block) (h : ℕ) (box : List Interval) (rest : List Node) (line : ℕ) (f : CheckFault) (i c : ℕ) (nodes : List Node)
+    → Stops b h box rest line f → rest ≡ Split i c ∷ nodes → IsCut (i - 1) c box → ⊥
+no_cut b h box rest line _ i c nodes (at_cut j d after e none) same cut =
     let both : Split j d ∷ after ≡ Split i c ∷ nodes = sym e ∙ same in
     let is : j ≡ i = cc in
     let cs : d ≡ c = cc in
     none (subst (λ k. IsCut (k - 1) d box) (sym is) (subst (λ k. IsCut (i - 1) k box) (sym cs) cut))
-no_cut b box rest line _ i c nodes (at_leaf pairs after f e part) same cut =
-    absurd (let both : Leaf (Pairs pairs) ∷ after ≡ Split i c ∷ nodes = sym e ∙ same in let z : ⊥ = cc in z)
+no_cut b h box rest line _ i c nodes (at_leaf form after f e part) same cut =
+    absurd (let both : Leaf form ∷ after ≡ Split i c ∷ nodes = sym e ∙ same in let z : ⊥ = cc in z)
 
 no_leaf : FaultyLeavesFail
-    → (b : Block) (box : List Interval) (pairs : ArrayVec (ℕ × ℕ)) (rest : List Node) (line : ℕ) (f : CheckFault)
-    → Stops b box (Leaf (Pairs pairs) ∷ rest) line f → AllHold b (part_of box pairs.items) → ⊥
-no_leaf fail b box pairs rest line _ (at_cut j d after e none) hold = absurd (let z : ⊥ = cc in z)
-no_leaf fail b box pairs rest line _ (at_leaf others after f e part) hold =
-    let same : others ≡ pairs = cc in
-    let here = subst (λ (a : ArrayVec (ℕ × ℕ)). HasPartFault b (part_of box a.items) line f) same part in
+    → (b : Block) (h : ℕ) (box : List Interval) (form : LeafForm) (rest : List Node) (line : ℕ) (f : CheckFault)
+    → Stops b h box (Leaf form ∷ rest) line f → AllHold b h (part_of box form) → ⊥
+no_leaf fail b h box form rest line _ (at_cut j d after e none) hold = absurd (let z : ⊥ = cc in z)
+no_leaf fail b h box form rest line _ (at_leaf other after f e part) hold =
+    let same : other ≡ form = cc in
+    let here = subst (λ (a : LeafForm). HasPartFault b h (part_of box a) line f) same part in
+    let from = here.from in
     let to = here.to in
-    pair_fails fail b box here.output here.leaf line f here.is
-    (hold here.output here.leaf here.from (omega arith) here.pair_is)
+    let x = some_at b.outputs (here.output - 1) (omega arith) in
+    claim_fails fail b h box here.output x.0 line here.claim f x.1 here.is
+    (hold here.output here.claim here.from (omega arith) here.claim_is)
 
 -- a tree whose leaves hold has no node at fault first
 no_stop : FaultyLeavesFail
-    → (b : Block) (box : List Interval) (nodes : List Node) (parts : List Part) (after : List Node) (line : ℕ)
-    (f : CheckFault) → IsTree box nodes parts after → All (AllHold b) parts → Stops b box nodes line f → ⊥
-no_stop fail b box nodes parts after line f (leaf x pairs rest) all stop =
-    no_leaf fail b x pairs rest line f stop (all 0 (part_of x pairs.items) (omega arith))
-no_stop fail b box nodes parts after line f (split x i c n m rest left right some cut tl tr) all stop =
-    no_cut b x (Split i c ∷ n) line f i c n stop refl cut
+    → (b : Block) (h : ℕ) (box : List Interval) (nodes : List Node) (parts : List Part) (after : List Node) (line : ℕ)
+    (f : CheckFault) → IsTree box nodes parts after → All (AllHold b h) parts → Stops b h box nodes line f → ⊥
+no_stop fail b h box nodes parts after line f (leaf x form rest) all stop =
+    no_leaf fail b h x form rest line f stop (all 0 (part_of x form) (omega arith))
+no_stop fail b h box nodes parts after line f (split x i c n m rest left right some cut tl tr) all stop =
+    no_cut b h x (Split i c ∷ n) line f i c n stop refl cut
 
 none_inside : FaultyLeavesFail
-    → (b : Block) (box : List Interval) (nodes : List Node) (parts : List Part) (after : List Node)
+    → (b : Block) (h : ℕ) (box : List Interval) (nodes : List Node) (parts : List Part) (after : List Node)
     (found : List Interval) (rest : List Node) (line : ℕ) (f : CheckFault)
-    → IsTree box nodes parts after → All (AllHold b) parts → Reaches b box nodes found rest
-    → Stops b found rest line f → ⊥
-none_inside fail b box nodes parts after found rest line f t all reach stop =
-    let i = inside b (AllHold b) box nodes found rest reach parts after t all in
-    no_stop fail b found rest i.0 i.1 line f i.2 i.3 stop
+    → IsTree box nodes parts after → All (AllHold b h) parts → Reaches b h box nodes found rest
+    → Stops b h found rest line f → ⊥
+none_inside fail b h box nodes parts after found rest line f t all reach stop =
+    let i = inside b h (AllHold b h) box nodes found rest reach parts after t all in
+    no_stop fail b h found rest i.0 i.1 line f i.2 i.3 stop
 
 same_side : (side : ℕ → ℕ → List Interval → List Interval) (i j c d : ℕ) (x y : List Interval) → i ≡ j → c ≡ d → x ≡ y
     → side (i - 1) c x ≡ side (j - 1) d y
@@ -117,93 +138,93 @@ same_side side i j c d x y e1 e2 e3 = cc
 
 -- what stands first at fault in a tree stands at one place
 one_place : FaultyLeavesFail
-    → (b : Block) (x y : List Interval) (ns ms : List Node) (found found' : List Interval) (rest rest' : List Node)
+    → (b : Block) (h : ℕ) (x y : List Interval) (ns ms : List Node) (found found' : List Interval) (rest rest' : List Node)
     (line line' : ℕ) (f g : CheckFault) → x ≡ y → ns ≡ ms
-    → Reaches b x ns found rest → Stops b found rest line f → Reaches b y ms found' rest' → Stops b found' rest' line' g
+    → Reaches b h x ns found rest → Stops b h found rest line f → Reaches b h y ms found' rest' → Stops b h found' rest' line' g
     → (found ≡ found') × (rest ≡ rest')
-one_place fail b x y ns ms _ _ _ _ line line' f g ex en (root _ _) stop (root _ _) stop' = (ex, en)
-one_place fail b x y ns ms _ _ _ _ line line' f g ex en (root _ _) stop
+one_place fail b h x y ns ms _ _ _ _ line line' f g ex en (root _ _) stop (root _ _) stop' = (ex, en)
+one_place fail b h x y ns ms _ _ _ _ line line' f g ex en (root _ _) stop
     (in_left _ i c n found' rest' some cut reach) stop' =
-    absurd (no_cut b x ns line f i c n stop en (subst (λ v. IsCut (i - 1) c v) (sym ex) cut))
-one_place fail b x y ns ms _ _ _ _ line line' f g ex en (root _ _) stop
+    absurd (no_cut b h x ns line f i c n stop en (subst (λ v. IsCut (i - 1) c v) (sym ex) cut))
+one_place fail b h x y ns ms _ _ _ _ line line' f g ex en (root _ _) stop
     (in_right _ i c n m ps found' rest' some cut t hold reach) stop' =
-    absurd (no_cut b x ns line f i c n stop en (subst (λ v. IsCut (i - 1) c v) (sym ex) cut))
-one_place fail b x y ns ms _ _ _ _ line line' f g ex en (in_left _ i c n found rest some cut reach) stop
+    absurd (no_cut b h x ns line f i c n stop en (subst (λ v. IsCut (i - 1) c v) (sym ex) cut))
+one_place fail b h x y ns ms _ _ _ _ line line' f g ex en (in_left _ i c n found rest some cut reach) stop
     (root _ _) stop' =
-    absurd (no_cut b y ms line' g i c n stop' (sym en) (subst (λ v. IsCut (i - 1) c v) ex cut))
-one_place fail b x y ns ms _ _ _ _ line line' f g ex en (in_right _ i c n m ps found rest some cut t hold reach) stop
+    absurd (no_cut b h y ms line' g i c n stop' (sym en) (subst (λ v. IsCut (i - 1) c v) ex cut))
+one_place fail b h x y ns ms _ _ _ _ line line' f g ex en (in_right _ i c n m ps found rest some cut t hold reach) stop
     (root _ _) stop' =
-    absurd (no_cut b y ms line' g i c n stop' (sym en) (subst (λ v. IsCut (i - 1) c v) ex cut))
-one_place fail b x y ns ms _ _ _ _ line line' f g ex en (in_left _ i c n found rest some cut reach) stop
+    absurd (no_cut b h y ms line' g i c n stop' (sym en) (subst (λ v. IsCut (i - 1) c v) ex cut))
+one_place fail b h x y ns ms _ _ _ _ line line' f g ex en (in_left _ i c n found rest some cut reach) stop
     (in_left _ j d k found' rest' some' cut' reach') stop' =
     let is : i ≡ j = cc in
     let cs : c ≡ d = cc in
     let ks : n ≡ k = cc in
-    one_place fail b (left_of (i - 1) c x) (left_of (j - 1) d y) n k found found' rest rest' line line' f g
+    one_place fail b h (left_of (i - 1) c x) (left_of (j - 1) d y) n k found found' rest rest' line line' f g
     (same_side left_of i j c d x y is cs ex) ks reach stop reach' stop'
-one_place fail b x y ns ms _ _ _ _ line line' f g ex en (in_left _ i c n found rest some cut reach) stop
+one_place fail b h x y ns ms _ _ _ _ line line' f g ex en (in_left _ i c n found rest some cut reach) stop
     (in_right _ j d k m ps found' rest' some' cut' t hold reach') stop' =
     let is : i ≡ j = cc in
     let cs : c ≡ d = cc in
     let ks : n ≡ k = cc in
     let same = same_side left_of i j c d x y is cs ex in
-    absurd (none_inside fail b (left_of (i - 1) c x) n ps m found rest line f
+    absurd (none_inside fail b h (left_of (i - 1) c x) n ps m found rest line f
     (subst (λ v. IsTree v n ps m) (sym same) (subst (λ v. IsTree (left_of (j - 1) d y) v ps m) (sym ks) t)) hold
     reach stop)
-one_place fail b x y ns ms _ _ _ _ line line' f g ex en (in_right _ i c n m ps found rest some cut t hold reach) stop
+one_place fail b h x y ns ms _ _ _ _ line line' f g ex en (in_right _ i c n m ps found rest some cut t hold reach) stop
     (in_left _ j d k found' rest' some' cut' reach') stop' =
     let is : i ≡ j = cc in
     let cs : c ≡ d = cc in
     let ks : n ≡ k = cc in
     let same = same_side left_of i j c d x y is cs ex in
-    absurd (none_inside fail b (left_of (j - 1) d y) k ps m found' rest' line' g
+    absurd (none_inside fail b h (left_of (j - 1) d y) k ps m found' rest' line' g
     (subst (λ v. IsTree v k ps m) same (subst (λ v. IsTree (left_of (i - 1) c x) v ps m) ks t)) hold reach' stop')
-one_place fail b x y ns ms _ _ _ _ line line' f g ex en (in_right _ i c n m ps found rest some cut t hold reach) stop
+one_place fail b h x y ns ms _ _ _ _ line line' f g ex en (in_right _ i c n m ps found rest some cut t hold reach) stop
     (in_right _ j d k o qs found' rest' some' cut' t' hold' reach') stop' =
     let is : i ≡ j = cc in
     let cs : c ≡ d = cc in
     let ks : n ≡ k = cc in
     let left = same_side left_of i j c d x y is cs ex in
     let mids = (tree_unique (left_of (i - 1) c x) (left_of (j - 1) d y) n k ps qs m o t t' left ks).1 in
-    one_place fail b (right_of (i - 1) c x) (right_of (j - 1) d y) m o found found' rest rest' line line' f g
+    one_place fail b h (right_of (i - 1) c x) (right_of (j - 1) d y) m o found found' rest rest' line line' f g
     (same_side right_of i j c d x y is cs ex) mids reach stop reach' stop'
 
-record StopsAt (b : Block) (nodes : List Node) (f : CheckFault) : Type 0 where
+record StopsAt (b : Block) (h : ℕ) (nodes : List Node) (f : CheckFault) : Type 0 where
   box : List Interval
   rest : List Node
-  reached : Reaches b (whole b) nodes box rest
-  stops : Stops b box rest (line_at nodes rest) f
+  reached : Reaches b h (whole b) nodes box rest
+  stops : Stops b h box rest (line_at nodes rest) f
 
-stops_at : (b : Block) (nodes : List Node) (f : CheckFault) → HasTreeFault b nodes f → StopsAt b nodes f
-stops_at b nodes _ (bad_cut box i c rest reach none) =
+stops_at : (b : Block) (h : ℕ) (nodes : List Node) (f : CheckFault) → HasTreeFault b h nodes f → StopsAt b h nodes f
+stops_at b h nodes _ (bad_cut box i c rest reach none) =
     record { box = box; rest = Split i c ∷ rest; reached = reach; stops = at_cut i c rest refl none }
-stops_at b nodes f (bad_leaf box pairs rest g reach part) =
-    record { box = box; rest = Leaf (Pairs pairs) ∷ rest; reached = reach; stops = at_leaf pairs rest f refl part }
+stops_at b h nodes f (bad_leaf box form rest g reach part) =
+    record { box = box; rest = Leaf form ∷ rest; reached = reach; stops = at_leaf form rest f refl part }
 
 one_stop : LeafFaultsAreOne → FaultyLeavesFail
-    → (b : Block) (box : List Interval) (rest : List Node) (line : ℕ) (f g : CheckFault) → Stops b box rest line f
-    → Stops b box rest line g → f ≡ g
-one_stop one fail b box rest line _ _ (at_cut i c after e none) (at_cut j d after' e' none') = refl
-one_stop one fail b box rest line _ _ (at_cut i c after e none) (at_leaf pairs after' g e' part) =
-    absurd (let both : Split i c ∷ after ≡ Leaf (Pairs pairs) ∷ after' = sym e ∙ e' in let z : ⊥ = cc in z)
-one_stop one fail b box rest line _ _ (at_leaf pairs after f e part) (at_cut j d after' e' none') =
-    absurd (let both : Leaf (Pairs pairs) ∷ after ≡ Split j d ∷ after' = sym e ∙ e' in let z : ⊥ = cc in z)
-one_stop one fail b box rest line _ _ (at_leaf pairs after f e part) (at_leaf others after' g e' part') =
-    let both : Leaf (Pairs pairs) ∷ after ≡ Leaf (Pairs others) ∷ after' = sym e ∙ e' in
-    let same : pairs ≡ others = cc in
-    one_part_fault one fail b (part_of box others.items) line f g
-    (subst (λ (a : ArrayVec (ℕ × ℕ)). HasPartFault b (part_of box a.items) line f) same part) part'
+    → (b : Block) (h : ℕ) (box : List Interval) (rest : List Node) (line : ℕ) (f g : CheckFault) → Stops b h box rest line f
+    → Stops b h box rest line g → f ≡ g
+one_stop one fail b h box rest line _ _ (at_cut i c after e none) (at_cut j d after' e' none') = refl
+one_stop one fail b h box rest line _ _ (at_cut i c after e none) (at_leaf form after' g e' part) =
+    absurd (let both : Split i c ∷ after ≡ Leaf form ∷ after' = sym e ∙ e' in let z : ⊥ = cc in z)
+one_stop one fail b h box rest line _ _ (at_leaf form after f e part) (at_cut j d after' e' none') =
+    absurd (let both : Leaf form ∷ after ≡ Split j d ∷ after' = sym e ∙ e' in let z : ⊥ = cc in z)
+one_stop one fail b h box rest line _ _ (at_leaf form after f e part) (at_leaf other after' g e' part') =
+    let both : Leaf form ∷ after ≡ Leaf other ∷ after' = sym e ∙ e' in
+    let same : form ≡ other = cc in
+    one_part_fault one fail b h (part_of box other) line f g
+    (subst (λ (a : LeafForm). HasPartFault b h (part_of box a) line f) same part) part'
 
-one_tree_fault : LeafFaultsAreOne → FaultyLeavesFail → (b : Block) (nodes : List Node) (f g : CheckFault)
-    → HasTreeFault b nodes f → HasTreeFault b nodes g → f ≡ g
-one_tree_fault one fail b nodes f g first second =
-    let p = stops_at b nodes f first in
-    let q = stops_at b nodes g second in
-    let at = one_place fail b (whole b) (whole b) nodes nodes p.box q.box p.rest q.rest (line_at nodes p.rest)
+one_tree_fault : LeafFaultsAreOne → FaultyLeavesFail → (b : Block) (h : ℕ) (nodes : List Node) (f g : CheckFault)
+    → HasTreeFault b h nodes f → HasTreeFault b h nodes g → f ≡ g
+one_tree_fault one fail b h nodes f g first second =
+    let p = stops_at b h nodes f first in
+    let q = stops_at b h nodes g second in
+    let at = one_place fail b h (whole b) (whole b) nodes nodes p.box q.box p.rest q.rest (line_at nodes p.rest)
     (line_at nodes q.rest) f g refl refl p.reached p.stops q.reached q.stops in
-    one_stop one fail b q.box q.rest (line_at nodes q.rest) f g
-    (subst (λ x. Stops b x q.rest (line_at nodes q.rest) f) at.0
-    (subst (λ r. Stops b p.box r (line_at nodes r) f) at.1 p.stops)) q.stops
+    one_stop one fail b h q.box q.rest (line_at nodes q.rest) f g
+    (subst (λ x. Stops b h x q.rest (line_at nodes q.rest) f) at.0
+    (subst (λ r. Stops b h p.box r (line_at nodes r) f) at.1 p.stops)) q.stops
 
 -- ---- the claims come last
 
@@ -216,10 +237,10 @@ no_earlier errors claims j k first other = ⊎_elim
     (λ (l : k ≤ j). l)
     (cases_lt j k)
 
-one_claim : (errors claims : List ℕ) (j k : ℕ) (first : IsFirstOver errors claims j)
+one_claimed : (errors claims : List ℕ) (j k : ℕ) (first : IsFirstOver errors claims j)
     (second : IsFirstOver errors claims k)
     → fault.Claimed (j + 1) first.claim first.error ≡ fault.Claimed (k + 1) second.claim second.error
-one_claim errors claims j k first second =
+one_claimed errors claims j k first second =
     let up = no_earlier errors claims j k first second in
     let down = no_earlier errors claims k j second first in
     let same : j ≡ k = omega (arith, up, down) in
@@ -232,25 +253,25 @@ one_claim errors claims j k first second =
     let one_error : first.error ≡ second.error = cc in
     cc
 
-one_claim_fault : (es fs claims : List ℕ) (j k : ℕ) → es ≡ fs
+one_claimed_fault : (es fs claims : List ℕ) (j k : ℕ) → es ≡ fs
     → (first : IsFirstOver es claims j) (second : IsFirstOver fs claims k)
     → fault.Claimed (j + 1) first.claim first.error ≡ fault.Claimed (k + 1) second.claim second.error
-one_claim_fault es fs claims j k same first second =
+one_claimed_fault es fs claims j k same first second =
     subst (λ xs. (f : IsFirstOver xs claims j)
     → fault.Claimed (j + 1) f.claim f.error ≡ fault.Claimed (k + 1) second.claim second.error) (sym same)
-    (λ f. one_claim fs claims j k f second) first
+    (λ f. one_claimed fs claims j k f second) first
 
 abbrev with_claims : List ℕ → Cert → Cert
 with_claims errors cert = record { claims = errors; nodes = cert.nodes }
 
-pub check_faults_are_one : LeafFaultsAreOne → FaultyLeavesFail → BoundsAreDetermined → CheckFaultsAreOne
+pub check_faults_are_one : LeafFaultsAreOne → FaultyLeavesFail → ClaimBoundsAreOne → CheckFaultsAreOne
 check_faults_are_one one fail unique b h cert _ _ v (outputs differ) (outputs also) = refl
 check_faults_are_one one fail unique b h cert _ _ v (outputs differ) (tree g count t) = absurd (differ count)
 check_faults_are_one one fail unique b h cert _ _ v (outputs differ) (claimed es k over count accepted) =
     absurd (differ count)
 check_faults_are_one one fail unique b h cert _ _ v (tree f count t) (outputs also) = absurd (also count)
 check_faults_are_one one fail unique b h cert _ _ v (tree f count t) (tree g also s) =
-    one_tree_fault one fail b cert.nodes f g t s
+    one_tree_fault one fail b h cert.nodes f g t s
 check_faults_are_one one fail unique b h cert _ _ v (tree f count t) (claimed es k over also accepted) =
     absurd (tree_fails fail b h (with_claims es cert) es f t accepted)
 check_faults_are_one one fail unique b h cert _ _ v (claimed es k over count accepted) (outputs also) =
@@ -258,39 +279,39 @@ check_faults_are_one one fail unique b h cert _ _ v (claimed es k over count acc
 check_faults_are_one one fail unique b h cert _ _ v (claimed es k over count accepted) (tree g also t) =
     absurd (tree_fails fail b h (with_claims es cert) es g t accepted)
 check_faults_are_one one fail unique b h cert _ _ v (claimed es k over count accepted) (claimed fs j under also too) =
-    one_claim_fault es fs cert.claims k j
+    one_claimed_fault es fs cert.claims k j
     (errors_unique unique b h (with_claims es cert) (with_claims fs cert) es fs refl v accepted too) over under
 
 -- ---- a text's answer
 
-pub text_answers_are_one : FaultyLeavesFail → BoundsAreDetermined → CertsAreOne → FaultsAreOne → CertTextsHaveNoFault
+pub text_answers_are_one : FaultyLeavesFail → ClaimBoundsAreOne → CertsAreOne → FaultsAreOne → CertTextsHaveNoFault
     → CheckFaultsAreOne → TextAnswersAreOne
-text_answers_are_one fail unique certs faults faultless checks b h answers text (Ok es) (Ok fs) v x y =
-    let same = (certs Named Named answers answers text x.cert y.cert x.spelled y.spelled).2 in
+text_answers_are_one fail unique certs faults faultless checks b h k answers text (Ok es) (Ok fs) v x y =
+    let same = (certs k k answers answers text x.cert y.cert x.spelled y.spelled).2 in
     ap (λ (l : List ℕ). Ok l)
     (errors_unique unique b h x.cert y.cert es fs (ap (λ (c : Cert). c.nodes) same) v x.accepted y.accepted)
-text_answers_are_one fail unique certs faults faultless checks b h answers text (Ok es) (Err _) v x
+text_answers_are_one fail unique certs faults faultless checks b h k answers text (Ok es) (Err _) v x
     (of_text f h') =
-    absurd (faultless Named answers text x.cert f x.spelled h')
-text_answers_are_one fail unique certs faults faultless checks b h answers text (Ok es) (Err _) v x
+    absurd (faultless k answers text x.cert f x.spelled h')
+text_answers_are_one fail unique certs faults faultless checks b h k answers text (Ok es) (Err _) v x
     (of_cert cert f spelled h') =
-    let same = (certs Named Named answers answers text cert x.cert spelled x.spelled).2 in
+    let same = (certs k k answers answers text cert x.cert spelled x.spelled).2 in
     absurd (certs_fail fail unique b h x.cert es f v (subst (λ c. HasCheckFault b h c f) same h') x.accepted)
-text_answers_are_one fail unique certs faults faultless checks b h answers text (Err _) (Ok fs) v (of_text f h')
+text_answers_are_one fail unique certs faults faultless checks b h k answers text (Err _) (Ok fs) v (of_text f h')
     y =
-    absurd (faultless Named answers text y.cert f y.spelled h')
-text_answers_are_one fail unique certs faults faultless checks b h answers text (Err _) (Ok fs) v
+    absurd (faultless k answers text y.cert f y.spelled h')
+text_answers_are_one fail unique certs faults faultless checks b h k answers text (Err _) (Ok fs) v
     (of_cert cert f spelled h') y =
-    let same = (certs Named Named answers answers text cert y.cert spelled y.spelled).2 in
+    let same = (certs k k answers answers text cert y.cert spelled y.spelled).2 in
     absurd (certs_fail fail unique b h y.cert fs f v (subst (λ c. HasCheckFault b h c f) same h') y.accepted)
-text_answers_are_one fail unique certs faults faultless checks b h answers text (Err _) (Err _) v (of_text f h')
-    (of_text g k') = ap (λ (l : CertFault). Err (refusal.Text l)) (faults Named answers text f g h' k')
-text_answers_are_one fail unique certs faults faultless checks b h answers text (Err _) (Err _) v (of_text f h')
-    (of_cert cert g spelled k') = absurd (faultless Named answers text cert f spelled h')
-text_answers_are_one fail unique certs faults faultless checks b h answers text (Err _) (Err _) v
-    (of_cert cert f spelled h') (of_text g k') = absurd (faultless Named answers text cert g spelled k')
-text_answers_are_one fail unique certs faults faultless checks b h answers text (Err _) (Err _) v
+text_answers_are_one fail unique certs faults faultless checks b h k answers text (Err _) (Err _) v (of_text f h')
+    (of_text g k') = ap (λ (l : CertFault). Err (refusal.Text l)) (faults k answers text f g h' k')
+text_answers_are_one fail unique certs faults faultless checks b h k answers text (Err _) (Err _) v (of_text f h')
+    (of_cert cert g spelled k') = absurd (faultless k answers text cert f spelled h')
+text_answers_are_one fail unique certs faults faultless checks b h k answers text (Err _) (Err _) v
+    (of_cert cert f spelled h') (of_text g k') = absurd (faultless k answers text cert g spelled k')
+text_answers_are_one fail unique certs faults faultless checks b h k answers text (Err _) (Err _) v
     (of_cert cert f spelled h') (of_cert other g spelled' k') =
-    let same = (certs Named Named answers answers text cert other spelled spelled').2 in
+    let same = (certs k k answers answers text cert other spelled spelled').2 in
     ap (λ (l : CheckFault). Err (refusal.Check l))
     (checks b h other f g v (subst (λ c. HasCheckFault b h c f) same h') k')

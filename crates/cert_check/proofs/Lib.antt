@@ -2,9 +2,11 @@ pub mod TreeLemmas
 pub mod AcceptedLemmas
 pub mod ExampleLemmas
 pub mod Determined
-pub mod WideAccepted
+pub mod ClaimLemmas
+pub mod LowerErrors
+pub mod StillAccepted
 pub mod CutLemmas
-pub mod PairLemmas
+pub mod LeafLemmas
 pub mod WalkLemmas
 pub mod TakeLemmas
 pub mod CheckLemmas

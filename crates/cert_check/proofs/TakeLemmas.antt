@@ -6,12 +6,10 @@ use Rattle.std.specs.Global.{Vec}
 use Rattle.std.specs.Vec.{with_items}
 use Rattle.std.proofs.lemmas.List.{append_assoc, with_items_is}
 use Rattle.std.proofs.Math.Seq.{get_or-append_seam}
-use Rattle.arrayvec.specs.ArrayVec.{ArrayVec}
 use Rattle.error_bound.specs.declared.boxes.ByteBox.{ByteBox}
 use Rattle.error_bound.specs.Boxes.{IsBoxOf}
 use Rattle.box_tree.specs.declared.cert.LeafForm.{LeafForm}
-use Rattle.box_tree.specs.declared.cert.LeafForm.TheVariants.{Pairs}
-use Rattle.box_tree.specs.declared.cert.CertKind.TheVariants.{Named}
+use Rattle.box_tree.specs.declared.cert.CertKind.{CertKind}
 use Rattle.box_tree.specs.declared.cert.Node.{Node}
 use Rattle.box_tree.specs.declared.cert.Node.TheVariants.{Split, Leaf}
 use Rattle.box_tree.specs.Certificates.{IsLeaf, IsNode, IsCut as IsNodeCut}
@@ -20,27 +18,17 @@ use Rattle.cert_check.specs.declared.checker.CheckFault.{CheckFault}
 use Rattle.cert_check.specs.declared.checker.CheckFault.TheVariants as fault
 use Rattle.cert_check.specs.declared.walk.Walk.{Walk}
 use Rattle.cert_check.specs.Trees.{part_of, left_of, right_of, IsCut}
-use Rattle.cert_check.specs.Faults.{AllHold, HasPartFault, HasCheckFault}
+use Rattle.cert_check.specs.Faults.{HasPartFault, HasCheckFault}
 use Rattle.cert_check.specs.Walks.{stack_of, Raises, AreCutOut, HasWalked, cert_over, IsBehind, HasTaken, AreFirst}
 use Rattle.cert_check.proofs.WalkLemmas.{walked_split, walked_leaf, cut_fault, leaf_fault, stack-pop, some_open}
 use Rattle.cert_check.proofs.WalkLemmas.{few_lines}
 
 -- the node that was added is that of a certificate
 last_good : (width : ℕ) (nodes : List Node) (node : Node) → AreFirst width (nodes ++ node ∷ [])
-    → IsNode Named width node
-last_good width nodes node first = subst (IsNode Named width) (get_or-append_seam nodes node [] node)
+    → (kind : CertKind) × IsNode kind width node
+last_good width nodes node first =
+    subst (λ n. (kind : CertKind) × IsNode kind width n) (get_or-append_seam nodes node [] node)
     (first.good (length nodes) node (let l = length-append nodes (node ∷ []) in omega (arith, l)))
-
--- a leaf's node, and its form
-pub form_is : {node : Node} {leaf form : LeafForm} → node ≡ Leaf leaf → leaf ≡ form → node ≡ Leaf form
-form_is is same = is ∙ ap (λ l. Leaf l) same
-
--- no leaf of another kind was added
-pub none_tight : (form : LeafForm) (w : Walk) (nodes : List Node) (node : Node)
-    → (IsLeaf Named (length w.claims.now) form → ⊥) → node ≡ Leaf form
-    → AreFirst (length w.claims.now) (nodes ++ node ∷ []) → ⊥
-none_tight form w nodes node other is first =
-    other (subst (IsNode Named (length w.claims.now)) is (last_good (length w.claims.now) nodes node first))
 
 line_more : (nodes : List Node) (node : Node) (line : ℕ) → line ≡ length nodes + 3
     → line + 1 ≡ length (nodes ++ node ∷ []) + 3
@@ -62,8 +50,9 @@ module _ (w : Walk) (bytes : ByteBox) (left : Vec ByteBox) (popped : w.boxes.ite
   module _ (i c : ℕ) (node : Node) (is : node ≡ Split i c) where
     input_is_some : (nodes : List Node) → AreFirst (length w.claims.now) (nodes ++ node ∷ []) → 1 ≤ i
     input_is_some nodes first =
-        let cut : IsNodeCut i c =
-        subst (IsNode Named (length w.claims.now)) is (last_good (length w.claims.now) nodes node first) in cut.some
+        let good = last_good (length w.claims.now) nodes node first in
+        let cut : IsNodeCut i c = subst (IsNode good.0 (length w.claims.now)) is good.1 in
+        cut.some
 
     pub split_behind : {A : Type 0} (boxes : Vec ByteBox) (r : Result A CheckFault) → OpenBoxesGoOn
         → OnOk r (IsCut (i - 1) c bytes.0.items)
@@ -97,28 +86,38 @@ module _ (w : Walk) (bytes : ByteBox) (left : Vec ByteBox) (popped : w.boxes.ite
         (cut_fault w.block.now w.parts w.claims.now nodes bytes.0.items (stack_of left.items) w.errors.items w.line rest
         behind.claims_count behind.line (at_box nodes behind) i c h.1))
 
-  module _ (pairs : ArrayVec (ℕ × ℕ)) (node : Node) (is : node ≡ Leaf (Pairs pairs)) where
-    leaf_taken : {A : Type 0} (errors : List ℕ) (r : Result A CheckFault) → OpenBoxesGoOn
-        → OnOk r (AllHold w.block.now (part_of bytes.0.items pairs.items))
-        → OnOk r (Raises w.block.now w.parts (part_of bytes.0.items pairs.items) w.errors.items errors)
+  module _ (form : LeafForm) (node : Node) (is : node ≡ Leaf form) where
+    pub form_is_good : (nodes : List Node) → IsBehind nodes w → AreFirst (length w.claims.now) (nodes ++ node ∷ [])
+        → (kind : CertKind) × IsLeaf kind (length w.block.now.outputs) form
+    form_is_good nodes behind first =
+        let good = last_good (length w.claims.now) nodes node first in
+        (good.0, subst (λ n. IsLeaf good.0 n form) behind.claims_count
+        (subst (IsNode good.0 (length w.claims.now)) is good.1))
+
+    pub leaf_behind : {A : Type 0} (old errors : List ℕ) (r : Result A CheckFault) → OpenBoxesGoOn
+        → old ≡ w.errors.items
+        → OnOk r (Raises w.block.now w.parts (part_of bytes.0.items form) old errors)
         → vec_capacity left ≡ vec_capacity w.boxes
         → OnOk r ((nodes : List Node) → IsBehind nodes w → AreFirst (length w.claims.now) (nodes ++ node ∷ [])
         → IsBehind (nodes ++ node ∷ [])
         (record w { boxes = left; errors = with_items w.errors errors; line = w.line + 1 }))
-    leaf_taken errors (Err f) goes_on hold raised room = tt
-    leaf_taken errors (Ok u) goes_on hold raised room = λ nodes behind first. record {
-      claims_count = behind.claims_count;
-      walked = subst (λ es. HasWalked w.block.now w.parts (nodes ++ node ∷ []) (stack_of left.items) es)
-          (sym (with_items_is w.errors errors (raised.count ∙ sym w.errors.ok.0)))
-          (subst (λ n. HasWalked w.block.now w.parts (nodes ++ n ∷ []) (stack_of left.items) errors) (sym is)
-          (walked_leaf w.block.now w.parts nodes bytes.0.items (stack_of left.items) w.errors.items errors pairs goes_on
-          hold raised (at_box nodes behind)));
-      line = line_more nodes node w.line behind.line;
-      room = let r = behind.room in omega (arith, r, room);
-    }
+    leaf_behind old errors (Err f) goes_on held raises room = tt
+    leaf_behind old errors (Ok u) goes_on held raises room = λ nodes behind first.
+        let raised : Raises w.block.now w.parts (part_of bytes.0.items form) w.errors.items errors =
+        subst (λ es. Raises w.block.now w.parts (part_of bytes.0.items form) es errors) held raises in
+        record {
+          claims_count = behind.claims_count;
+          walked = subst (λ es. HasWalked w.block.now w.parts (nodes ++ node ∷ []) (stack_of left.items) es)
+              (sym (with_items_is w.errors errors (raised.raised.count ∙ sym w.errors.ok.0)))
+              (subst (λ n. HasWalked w.block.now w.parts (nodes ++ n ∷ []) (stack_of left.items) errors) (sym is)
+              (walked_leaf w.block.now w.parts nodes bytes.0.items (stack_of left.items) w.errors.items errors form
+              goes_on raised (at_box nodes behind)));
+          line = line_more nodes node w.line behind.line;
+          room = let r = behind.room in omega (arith, r, room);
+        }
 
-    fault_met : {A : Type 0} (r : Result A CheckFault)
-        → IfErr r (HasPartFault w.block.now (part_of bytes.0.items pairs.items) w.line)
+    pub fault_met : {A : Type 0} (r : Result A CheckFault)
+        → IfErr r (HasPartFault w.block.now w.parts (part_of bytes.0.items form) w.line)
         → IfErr r (λ f. (nodes rest : List Node) → IsBehind nodes w
         → AreFirst (length w.claims.now) (nodes ++ node ∷ [])
         → HasCheckFault w.block.now w.parts (cert_over w (nodes ++ node ∷ rest)) f)
@@ -126,35 +125,7 @@ module _ (w : Walk) (bytes : ByteBox) (left : Vec ByteBox) (popped : w.boxes.ite
     fault_met (Err f) h = λ nodes rest behind first.
         subst (λ n. HasCheckFault w.block.now w.parts (cert_over w (nodes ++ n ∷ rest)) f) (sym is)
         (leaf_fault w.block.now w.parts w.claims.now nodes bytes.0.items (stack_of left.items) w.errors.items w.line
-        rest behind.claims_count behind.line (at_box nodes behind) pairs f h)
-
-    -- where its pairs are read as a slice
-    module _ (slice : List (ℕ × ℕ)) (same : slice ≡ pairs.items) where
-      pub pairs_count : (nodes : List Node) → IsBehind nodes w → AreFirst (length w.claims.now) (nodes ++ node ∷ [])
-          → length slice ≡ length w.block.now.outputs
-      pairs_count nodes behind first = ap length same
-          ∙ (subst (IsNode Named (length w.claims.now)) is (last_good (length w.claims.now) nodes node first)).0
-          ∙ behind.claims_count
-
-      pub leaf_behind : {A : Type 0} (old errors : List ℕ) (r : Result A CheckFault) → OpenBoxesGoOn
-          → old ≡ w.errors.items → OnOk r (AllHold w.block.now (part_of bytes.0.items slice))
-          → OnOk r (Raises w.block.now w.parts (part_of bytes.0.items slice) old errors)
-          → vec_capacity left ≡ vec_capacity w.boxes
-          → OnOk r ((nodes : List Node) → IsBehind nodes w → AreFirst (length w.claims.now) (nodes ++ node ∷ [])
-          → IsBehind (nodes ++ node ∷ [])
-          (record w { boxes = left; errors = with_items w.errors errors; line = w.line + 1 }))
-      leaf_behind old errors r goes_on held hold raised = leaf_taken errors r goes_on
-          (subst (λ ps. OnOk r (AllHold w.block.now (part_of bytes.0.items ps))) same hold)
-          (subst (λ es. OnOk r (Raises w.block.now w.parts (part_of bytes.0.items pairs.items) es errors)) held
-          (subst (λ ps. OnOk r (Raises w.block.now w.parts (part_of bytes.0.items ps) old errors)) same raised))
-
-      pub pair_fault : {A : Type 0} (r : Result A CheckFault)
-          → IfErr r (HasPartFault w.block.now (part_of bytes.0.items slice) w.line)
-          → IfErr r (λ f. (nodes rest : List Node) → IsBehind nodes w
-          → AreFirst (length w.claims.now) (nodes ++ node ∷ [])
-          → HasCheckFault w.block.now w.parts (cert_over w (nodes ++ node ∷ rest)) f)
-      pair_fault r fault = fault_met r
-          (subst (λ ps. IfErr r (HasPartFault w.block.now (part_of bytes.0.items ps) w.line)) same fault)
+        rest behind.claims_count behind.line (at_box nodes behind) form f h)
 
 -- where a node may follow, the stack is not empty
 pub none_popped : (w : Walk) (nodes : List Node) (node : Node) → OpenBoxesGoOn → w.boxes.items ≡ [] → IsBehind nodes w

@@ -3,11 +3,16 @@ use Rattle.std.proofs.Common.{◌≡◌, ℕ, zero, suc, ◌+◌, ◌-◌, ◌<�
 use Rattle.std.proofs.Common.{◌&&◌, Some, refl, sym, ap, ap₂, ◌∙◌, arith}
 use Rattle.std.specs.Prelude.{nat_le, if◌then◌else◌, slice_get, All}
 use Rattle.std.proofs.lemmas.Bool.Decides.{nat_tests}
+use Rattle.std.proofs.lemmas.List.Elements.{All-append}
 use Rattle.error_bound.specs.declared.boxes.Interval.{Interval}
-use Rattle.error_bound.specs.Boxes.{LieIn}
+use Rattle.fuzzy_meaning.specs.declared.block.Block.{Block}
+use Rattle.error_bound.specs.Boxes.{IsBoxOf, LieIn}
 use Rattle.box_tree.specs.declared.cert.Node.{Node}
-use Rattle.cert_check.specs.Trees.{lies, left_of, right_of, IsCut, Part, IsTree, leaf, split, leaves_with}
+use Rattle.box_tree.specs.declared.cert.Node.TheVariants.{Split, Leaf}
+use Rattle.cert_check.specs.Trees.{lies, left_of, right_of, IsCut, Part, IsTree, leaf, split, leaves_with, whole}
 use Rattle.cert_check.specs.Laws.{OneLeafHasTheBytes}
+use Rattle.cert_check.proofs.CutLemmas.{IsBox-left, IsBox-right, IsBox-whole}
+use Rattle.cert_check.proofs.Determined.{left_count, right_count, map_count}
 
 abbrev num : Bool → ℕ
 num b = if b then 1 else 0
@@ -42,7 +47,7 @@ cut_num (b ∷ bs) (suc k) c (s ∷ ss) h =
 -- as many leaves hold the bytes as the box does: one, or none
 covers : (bs : List ℕ) (box : List Interval) (nodes rest : List Node) (parts : List Part) → IsTree box nodes parts rest
     → leaves_with bs parts ≡ num (lies bs box)
-covers bs box nodes rest parts (leaf box' pairs rest') = omega arith
+covers bs box nodes rest parts (leaf box' form rest') = omega arith
 covers bs box nodes rest parts (split box' i c nodes' mid rest' left right h cut l r) =
     let a = covers bs (left_of (i - 1) c box') nodes' mid left l in
     let b = covers bs (right_of (i - 1) c box') mid rest' right r in
@@ -99,3 +104,44 @@ lies_within (b ∷ bs) (w ∷ vs) h zero v n ev en =
 
 pub LieIn-lies : (bs : List ℕ) (x : List Interval) → lies bs x ≡ true → LieIn x bs
 LieIn-lies bs x h = record { count = lies_count bs x h; within = lies_within bs x h }
+
+-- ---- of all leaves
+
+pub All-both : {X : Type 0} (P Q : X → Type 0) (xs : List X) → All P xs → All Q xs → All (λ x. P x × Q x) xs
+All-both P Q xs p q k d l = (p k d l, q k d l)
+
+pub one_of : {X : Type 0} (P : X → Type 0) (x : X) → P x → All P (x ∷ [])
+one_of P x h zero d l = h
+one_of P x h (suc k) d l = absurd (omega arith)
+
+-- their boxes are boxes
+pub whole_is : (b : Block) → IsBoxOf b (whole b)
+whole_is b = record { count = map_count b.inputs; intervals = IsBox-whole b.inputs }
+
+pub boxes_are : (b : Block) (box : List Interval) (nodes : List Node) (parts : List Part) (rest : List Node)
+    → IsTree box nodes parts rest → IsBoxOf b box → All (λ p. IsBoxOf b p.box) parts
+boxes_are b _ _ _ _ (leaf box form rest) is = one_of (λ p. IsBoxOf b p.box) (record { box = box; form = form }) is
+boxes_are b _ _ _ _ (split box i c nodes mid rest left right from cut l r) is =
+    All-append (λ p. IsBoxOf b p.box) left right
+    (boxes_are b (left_of (i - 1) c box) nodes left mid l
+    (record { count = left_count (i - 1) c box ∙ is.count; intervals = IsBox-left (i - 1) c box is.intervals cut }))
+    (boxes_are b (right_of (i - 1) c box) mid right rest r
+    (record { count = right_count (i - 1) c box ∙ is.count; intervals = IsBox-right (i - 1) c box is.intervals cut }))
+
+-- they are among the nodes
+All-tail : {X : Type 0} (P : X → Type 0) (x : X) (xs : List X) → All P (x ∷ xs) → All P xs
+All-tail P x xs all k d l = all (suc k) d (omega arith)
+
+leaves_are : (P : Node → Type 0) (box : List Interval) (nodes : List Node) (parts : List Part) (rest : List Node)
+    → IsTree box nodes parts rest → All P nodes → All (λ p. P (Leaf p.form)) parts × All P rest
+leaves_are P _ _ _ _ (leaf box form rest) all =
+    (one_of (λ (p : Part). P (Leaf p.form)) (record { box = box; form = form }) (all 0 (Leaf form) (omega arith)),
+    All-tail P (Leaf form) rest all)
+leaves_are P _ _ _ _ (split box i c nodes mid rest left right from cut l r) all =
+    let lower = leaves_are P (left_of (i - 1) c box) nodes left mid l (All-tail P (Split i c) nodes all) in
+    let upper = leaves_are P (right_of (i - 1) c box) mid right rest r lower.1 in
+    (All-append (λ (p : Part). P (Leaf p.form)) left right lower.0 upper.0, upper.1)
+
+pub forms_are : (P : Node → Type 0) (box : List Interval) (nodes : List Node) (parts : List Part) (rest : List Node)
+    → IsTree box nodes parts rest → All P nodes → All (λ p. P (Leaf p.form)) parts
+forms_are P box nodes parts rest tree all = (leaves_are P box nodes parts rest tree all).0

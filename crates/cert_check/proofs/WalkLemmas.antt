@@ -6,15 +6,14 @@ use Rattle.std.specs.List.{Any}
 use Rattle.std.proofs.lemmas.Bool.{cases_lt}
 use Rattle.std.proofs.lemmas.List.{append_assoc, append-nil, reverse-append, length-map, length-reverse}
 use Rattle.std.proofs.lemmas.List.Elements.{All-append}
-use Rattle.std.proofs.lemmas.Option.{get_or_from_slice_get}
-use Rattle.arrayvec.specs.ArrayVec.{ArrayVec}
+use Rattle.std.proofs.lemmas.Option.{get_or_from_slice_get, slice_get_within}
 use Rattle.fuzzy_meaning.specs.declared.block.Block.{Block}
 use Rattle.fuzzy_meaning.specs.declared.block.Input.{Input}
 use Rattle.fuzzy_meaning.specs.declared.block.Output.{Output}
 use Rattle.error_bound.specs.declared.boxes.Interval.{Interval}
 use Rattle.error_bound.specs.declared.boxes.ByteBox.{ByteBox}
 use Rattle.error_bound.specs.Boxes.{IsBoxOf}
-use Rattle.box_tree.specs.declared.cert.LeafForm.TheVariants.{Pairs}
+use Rattle.box_tree.specs.declared.cert.LeafForm.{LeafForm}
 use Rattle.box_tree.specs.declared.cert.Node.{Node}
 use Rattle.box_tree.specs.declared.cert.Node.TheVariants.{Split, Leaf}
 use Rattle.box_tree.specs.Trees.{open_from, leaf_count}
@@ -27,8 +26,10 @@ use Rattle.cert_check.specs.Faults.{AllHold, HasPartFault, AreClaimed, HasCheckF
 use Rattle.cert_check.specs.Faults.{in_right, bad_cut, bad_leaf, tree}
 use Rattle.cert_check.specs.Walks.{stack_of, Raises, cuts_of, AreCutOut, AreTrees, AreReached, IsGreatestSoFar}
 use Rattle.cert_check.specs.Walks.{HasWalked}
+use Rattle.cert_check.proofs.ClaimLemmas.{bounds_hold}
 use Rattle.cert_check.proofs.CutLemmas.{IsBox-left, IsBox-right}
-use Rattle.cert_check.proofs.Determined.{left_count, right_count, map_count}
+use Rattle.cert_check.proofs.Determined.{left_count, right_count}
+use Rattle.cert_check.proofs.TreeLemmas.{one_of, whole_is}
 use Rattle.fz_list.proofs.Algebra.{All-cons}
 
 trees_split : (box : List Interval) (boxes : List (List Interval)) (i c : ℕ) (nodes : List Node) (parts : List Part)
@@ -51,25 +52,21 @@ trees_one box nodes parts (ps, qs, mid, t, (none, end), e) =
     let same : ps ≡ parts = sym (e ∙ ap (λ (xs : List Part). ps ++ xs) none ∙ append-nil ps) in
     subst (λ xs. IsTree box nodes xs []) same (subst (λ m. IsTree box nodes ps m) end t)
 
-reached_split : (b : Block) (box : List Interval) (boxes : List (List Interval)) (i c : ℕ) (nodes : List Node)
+reached_split : (b : Block) (h : ℕ) (box : List Interval) (boxes : List (List Interval)) (i c : ℕ) (nodes : List Node)
     (found : List Interval) (rest : List Node) → 1 ≤ i → IsCut (i - 1) c box
-    → AreReached b (left_of (i - 1) c box ∷ right_of (i - 1) c box ∷ boxes) nodes found rest
-    → AreReached b (box ∷ boxes) (Split i c ∷ nodes) found rest
-reached_split b box boxes i c nodes found rest some cut (inl t) = inl (in_left box i c nodes found rest some cut t)
-reached_split b box boxes i c nodes found rest some cut (inr (ps, mid, t, hold, inl u)) = inl
+    → AreReached b h (left_of (i - 1) c box ∷ right_of (i - 1) c box ∷ boxes) nodes found rest
+    → AreReached b h (box ∷ boxes) (Split i c ∷ nodes) found rest
+reached_split b h box boxes i c nodes found rest some cut (inl t) = inl (in_left box i c nodes found rest some cut t)
+reached_split b h box boxes i c nodes found rest some cut (inr (ps, mid, t, hold, inl u)) = inl
     (in_right box i c nodes mid ps found rest some cut t hold u)
-reached_split b box boxes i c nodes found rest some cut (inr (ps, mid, t, hold, inr (qs, mid', u, also, more))) =
-    inr (ps ++ qs, mid', split box i c nodes mid mid' ps qs some cut t u, All-append (AllHold b) ps qs hold also, more)
+reached_split b h box boxes i c nodes found rest some cut (inr (ps, mid, t, hold, inr (qs, mid', u, also, more))) =
+    inr (ps ++ qs, mid', split box i c nodes mid mid' ps qs some cut t u, All-append (AllHold b h) ps qs hold also, more)
 
-one_of : {X : Type 0} (P : X → Type 0) (x : X) → P x → All P (x ∷ [])
-one_of P x h zero d l = h
-one_of P x h (suc k) d l = absurd (omega arith)
-
-reached_leaf : (b : Block) (box : List Interval) (boxes : List (List Interval)) (pairs : ArrayVec (ℕ × ℕ))
-    (nodes : List Node) (found : List Interval) (rest : List Node) → AllHold b (part_of box pairs.items)
-    → AreReached b boxes nodes found rest → AreReached b (box ∷ boxes) (Leaf (Pairs pairs) ∷ nodes) found rest
-reached_leaf b box boxes pairs nodes found rest hold more = inr
-    (part_of box pairs.items ∷ [], nodes, leaf box pairs nodes, one_of (AllHold b) (part_of box pairs.items) hold, more)
+reached_leaf : (b : Block) (h : ℕ) (box : List Interval) (boxes : List (List Interval)) (form : LeafForm)
+    (nodes : List Node) (found : List Interval) (rest : List Node) → AllHold b h (part_of box form)
+    → AreReached b h boxes nodes found rest → AreReached b h (box ∷ boxes) (Leaf form ∷ nodes) found rest
+reached_leaf b h box boxes form nodes found rest hold more = inr
+    (part_of box form ∷ [], nodes, leaf box form nodes, one_of (AllHold b h) (part_of box form) hold, more)
 
 Any-left : {X : Type 0} (P : X → Type 0) (xs ys : List X) → Any P xs → Any P (xs ++ ys)
 Any-left P [] ys (k, x, l, e, p) = absurd (omega arith)
@@ -126,17 +123,6 @@ zeros_count : (n : ℕ) → length {A = ℕ} (replicate n 0) ≡ n
 zeros_count zero = refl
 zeros_count (suc n) = ap suc (zeros_count n)
 
-whole_intervals : (is : List Input) (k : ℕ) (v : Interval)
-    → slice_get (map (λ (_ : Input). record { from = 0; to = 255 }) is) k ≡ Some v → (v.from ≤ v.to) × (v.to ≤ 255)
-whole_intervals [] k v e = absurd (let z : ⊥ = cc in z)
-whole_intervals (i ∷ is) zero v e =
-    let full : Interval = record { from = 0; to = 255 } in
-    let s : full ≡ v = cc in
-    let f : 0 ≡ v.from = ap (λ i. i.from) s in
-    let t : 255 ≡ v.to = ap (λ i. i.to) s in
-    (omega arith, omega arith)
-whole_intervals (i ∷ is) (suc k) v e = whole_intervals is k v e
-
 -- each cut of a box leaves one less for its halves
 cuts-left : (k c : ℕ) (box : List Interval) → IsCut k c box → cuts_of (left_of k c box) + 1 ≤ cuts_of box
 cuts-left k c [] h = absurd h
@@ -165,8 +151,7 @@ few_below box boxes k c a cut = let a0 = a.0 in let l = cuts-left k c box cut in
 pub walked_none : (b : Block) (h : ℕ) → length b.inputs ≤ 8
     → HasWalked b h [] (whole b ∷ []) (replicate (length b.outputs) 0)
 walked_none b h few = record {
-  are_boxes = one_of (IsBoxOf b) (whole b) (record
-      { count = map_count b.inputs; intervals = record { some = whole_intervals b.inputs } });
+  are_boxes = one_of (IsBoxOf b) (whole b) (whole_is b);
   cut_out = (let e = cuts-whole b.inputs in omega (arith, e, few), tt);
   open_count = refl;
   parts = [];
@@ -201,44 +186,45 @@ walked_split b h nodes box boxes errors i c goes_on some cut w =
       trees = λ rest ps t. subst (λ ns. AreTrees (whole b ∷ []) ns (w.parts ++ ps) [])
           (sym (append_assoc nodes (Split i c ∷ []) rest))
           (w.trees (Split i c ∷ rest) ps (trees_split box boxes i c rest ps [] some cut t));
-      reached = λ rest found after r. subst (λ ns. AreReached b (whole b ∷ []) ns found after)
+      reached = λ rest found after r. subst (λ ns. AreReached b h (whole b ∷ []) ns found after)
           (sym (append_assoc nodes (Split i c ∷ []) rest))
-          (w.reached (Split i c ∷ rest) found after (reached_split b box boxes i c rest found after some cut r));
+          (w.reached (Split i c ∷ rest) found after (reached_split b h box boxes i c rest found after some cut r));
       count = w.count;
       greatest = w.greatest;
     }
 
 pub walked_leaf : (b : Block) (h : ℕ) (nodes : List Node) (box : List Interval) (boxes : List (List Interval))
-    (errors new : List ℕ) (pairs : ArrayVec (ℕ × ℕ)) → OpenBoxesGoOn → AllHold b (part_of box pairs.items)
-    → Raises b h (part_of box pairs.items) errors new
-    → HasWalked b h nodes (box ∷ boxes) errors → HasWalked b h (nodes ++ Leaf (Pairs pairs) ∷ []) boxes new
-walked_leaf b h nodes box boxes errors new pairs goes_on hold raised w =
-    let p = part_of box pairs.items in
+    (errors new : List ℕ) (form : LeafForm) → OpenBoxesGoOn → Raises b h (part_of box form) errors new
+    → HasWalked b h nodes (box ∷ boxes) errors → HasWalked b h (nodes ++ Leaf form ∷ []) boxes new
+walked_leaf b h nodes box boxes errors new form goes_on raises w =
+    let p = part_of box form in
+    let hold = bounds_hold b h p raises.bounds raises.are_bounds in
     record {
       are_boxes = All-tail (IsBoxOf b) box boxes w.are_boxes;
       cut_out = w.cut_out.1;
-      open_count = goes_on 1 (length (box ∷ boxes)) nodes (Leaf (Pairs pairs) ∷ []) w.open_count;
+      open_count = goes_on 1 (length (box ∷ boxes)) nodes (Leaf form ∷ []) w.open_count;
       parts = w.parts ++ p ∷ [];
       trees = λ rest ps t. subst (λ ns. AreTrees (whole b ∷ []) ns ((w.parts ++ p ∷ []) ++ ps) [])
-          (sym (append_assoc nodes (Leaf (Pairs pairs) ∷ []) rest))
-          (subst (λ xs. AreTrees (whole b ∷ []) (nodes ++ Leaf (Pairs pairs) ∷ rest) xs [])
+          (sym (append_assoc nodes (Leaf form ∷ []) rest))
+          (subst (λ xs. AreTrees (whole b ∷ []) (nodes ++ Leaf form ∷ rest) xs [])
           (sym (append_assoc w.parts (p ∷ []) ps))
-          (w.trees (Leaf (Pairs pairs) ∷ rest) (p ∷ ps) (p ∷ [], ps, rest, leaf box pairs rest, t, refl)));
-      reached = λ rest found after r. subst (λ ns. AreReached b (whole b ∷ []) ns found after)
-          (sym (append_assoc nodes (Leaf (Pairs pairs) ∷ []) rest))
-          (w.reached (Leaf (Pairs pairs) ∷ rest) found after (reached_leaf b box boxes pairs rest found after hold r));
-      count = raised.count ∙ w.count;
+          (w.trees (Leaf form ∷ rest) (p ∷ ps) (p ∷ [], ps, rest, leaf box form rest, t, refl)));
+      reached = λ rest found after r. subst (λ ns. AreReached b h (whole b ∷ []) ns found after)
+          (sym (append_assoc nodes (Leaf form ∷ []) rest))
+          (w.reached (Leaf form ∷ rest) found after (reached_leaf b h box boxes form rest found after hold r));
+      count = raises.raised.count ∙ w.count;
       greatest = λ k x e.
-          let r = raised.each k x e in
-          let s : max (slice_index errors k) r.0 ≡ slice_index new k = sym
-          (get_or_from_slice_get new k (max (slice_index errors k) r.0) 0 r.2) in
-          subst (λ m. IsGreatestSoFar b (k + 1) x h (w.parts ++ p ∷ []) m) s
-          (greatest_more b (k + 1) x h w.parts p (slice_index errors k) r.0 r.1 (w.greatest k x e));
+          let within = slice_get_within b.outputs k x e in
+          let errors_count = w.count in
+          let rises = raises.raised.each k (omega (arith, within, errors_count)) in
+          subst (λ m. IsGreatestSoFar b (k + 1) x h (w.parts ++ p ∷ []) m) (sym rises)
+          (greatest_more b (k + 1) x h w.parts p (slice_index errors k) (slice_index raises.bounds k)
+          (raises.are_bounds k x e) (w.greatest k x e));
     }
 
 tree_some : (box : List Interval) (nodes rest : List Node) (parts : List Part) → IsTree box nodes parts rest
     → 1 ≤ length parts
-tree_some box nodes rest parts (leaf x pairs r) = omega arith
+tree_some box nodes rest parts (leaf x form r) = omega arith
 tree_some box nodes rest parts (split x i c n m r left right some cut tl tr) =
     let l = tree_some (left_of (i - 1) c x) n m
     left tl in some_more left right l
@@ -287,10 +273,10 @@ walked_all b h nodes boxes claims errors is_tree count claimed w =
 -- the next open box begins with the node that comes
 walked_to : (b : Block) (h : ℕ) (nodes : List Node) (box : List Interval) (boxes : List (List Interval))
     (errors : List ℕ) (rest : List Node)
-    → HasWalked b h nodes (box ∷ boxes) errors → Reaches b (whole b) (nodes ++ rest) box rest
+    → HasWalked b h nodes (box ∷ boxes) errors → Reaches b h (whole b) (nodes ++ rest) box rest
 walked_to b h nodes box boxes errors rest w = first (w.reached rest box rest (inl (root box rest)))
   where
-    first : AreReached b (whole b ∷ []) (nodes ++ rest) box rest → Reaches b (whole b) (nodes ++ rest) box rest
+    first : AreReached b h (whole b ∷ []) (nodes ++ rest) box rest → Reaches b h (whole b) (nodes ++ rest) box rest
     first (inl r) = r
     first (inr (ps, mid, t, hold, none)) = absurd none
 
@@ -310,12 +296,12 @@ module _ (b : Block) (h : ℕ) (claims : List ℕ) (nodes : List Node) (box : Li
       (tree (fault.BadCut (line_at (nodes ++ Split i c ∷ rest) (Split i c ∷ rest))) count
       (bad_cut box i c rest (walked_to b h nodes box boxes errors (Split i c ∷ rest) w) none))
 
-  pub leaf_fault : (pairs : ArrayVec (ℕ × ℕ)) (f : CheckFault) → HasPartFault b (part_of box pairs.items) line f
-      → HasCheckFault b h (record { claims = claims; nodes = nodes ++ Leaf (Pairs pairs) ∷ rest }) f
-  leaf_fault pairs f part =
-      let same = at ∙ sym (line-here nodes rest (Leaf (Pairs pairs))) in
-      tree f count (bad_leaf box pairs rest f (walked_to b h nodes box boxes errors (Leaf (Pairs pairs) ∷ rest) w)
-      (subst (λ n. HasPartFault b (part_of box pairs.items) n f) same part))
+  pub leaf_fault : (form : LeafForm) (f : CheckFault) → HasPartFault b h (part_of box form) line f
+      → HasCheckFault b h (record { claims = claims; nodes = nodes ++ Leaf form ∷ rest }) f
+  leaf_fault form f part =
+      let same = at ∙ sym (line-here nodes rest (Leaf form)) in
+      tree f count (bad_leaf box form rest f (walked_to b h nodes box boxes errors (Leaf form ∷ rest) w)
+      (subst (λ n. HasPartFault b h (part_of box form) n f) same part))
 
 -- as many nodes as leaves and boxes ask for
 nodes_count : (n m : ℕ) (nodes : List Node) → open_from n nodes ≡ Some m → length nodes + n ≡ 2 * leaf_count nodes + m

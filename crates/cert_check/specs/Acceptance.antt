@@ -1,21 +1,45 @@
 -- Which certificates are accepted, with which errors.
-use Rattle.std.specs.Prelude.{◌≡◌, ℕ, ◌-◌, ◌≤◌, List, [], length, All, Some, slice_get}
+use Rattle.std.specs.Prelude.{◌≡◌, ℕ, ◌-◌, ◌≤◌, List, [], length, All, Option, Some, slice_get}
 use Rattle.std.specs.List.{Any}
+use Rattle.std.specs.Option.{option_map}
 use Rattle.fuzzy_meaning.specs.declared.block.Block.{Block}
 use Rattle.fuzzy_meaning.specs.declared.block.Output.{Output}
 use Rattle.fuzzy_meaning.specs.Blocks.{output_at}
-use Rattle.error_bound.specs.declared.boxes.Leaf.{Leaf}
-use Rattle.error_bound.specs.Leaves.{Holds}
-use Rattle.error_bound.specs.Bounds.{IsBound}
+use Rattle.error_bound.specs.declared.boxes.Interval.{Interval}
+use Rattle.box_tree.specs.declared.cert.AnswerWidth.{AnswerWidth}
+use Rattle.box_tree.specs.declared.cert.AnswerWidth.TheVariants.{Byte, Word}
 use Rattle.box_tree.specs.declared.cert.Cert.{Cert}
+use Rattle.box_tree.specs.declared.cert.LeafForm.{LeafForm}
+use Rattle.box_tree.specs.declared.cert.LeafForm.TheVariants as form
+use Rattle.cell_bounds.specs.declared.claims.Claim.{Claim}
+use Rattle.cell_bounds.specs.declared.claims.Claim.TheVariants.{Pair, Tight, Cells}
+use Rattle.cell_bounds.specs.CellBounds.{cell_count}
+use Rattle.cell_bounds.specs.Claims.{HasClaimBound}
 use Rattle.cert_check.specs.Trees.{Part, IsTree, whole}
 
--- the leaf's pair for output o holds on its box, with Bound n for answers in h parts to a byte
+-- how many parts an answer of a width has to a byte
+abbrev pub parts_of : AnswerWidth → ℕ
+parts_of Byte = 1
+parts_of Word = 256
+
+-- what a leaf's line says of the output at a place
+abbrev pub claim_at : LeafForm → ℕ → Option Claim
+claim_at (form.Pairs pairs) k = option_map (λ p. Pair (record { rule = p.0; k = p.1 })) (slice_get pairs.items k)
+claim_at form.Tight k = Some Tight
+claim_at form.Cells k = Some Cells
+
+-- the boxes of which it may be said: a leaf of cells has few of them
+abbrev pub IsAllowed : Claim → List Interval → Type 0
+IsAllowed (Pair leaf) box = Unit {0}
+IsAllowed Tight box = Unit {0}
+IsAllowed Cells box = cell_count box ≤ 64
+
+-- what the leaf says of output o holds on its box, with Bound n for answers in h parts to a byte
 pub record HasBound (b : Block) (o : ℕ) (x : Output) (h : ℕ) (p : Part) (n : ℕ) : Type 0 where
-  pub leaf : Leaf
-  pub pair_is : slice_get p.pairs (o - 1) ≡ Some leaf
-  pub holds : Holds b p.box o leaf
-  pub bound_is : IsBound b p.box o x h leaf n
+  pub claim : Claim
+  pub claim_is : claim_at p.form (o - 1) ≡ Some claim
+  pub allowed : IsAllowed claim p.box
+  pub bound_is : HasClaimBound b p.box o x h claim n
 
 -- e is the greatest Bound of the leaves
 pub record IsGreatestBound (b : Block) (o : ℕ) (x : Output) (h : ℕ) (parts : List Part) (e : ℕ) : Type 0 where

@@ -4,13 +4,18 @@ use Rattle.fuzzy_meaning.specs.declared.block.Block.{Block}
 use Rattle.fuzzy_meaning.specs.declared.block.Output.{Output}
 use Rattle.fuzzy_meaning.specs.Blocks.{output_at}
 use Rattle.error_bound.specs.declared.boxes.Interval.{Interval}
-use Rattle.error_bound.specs.declared.boxes.Leaf.{Leaf}
 use Rattle.error_bound.specs.Boxes.{IsBox, LieIn}
-use Rattle.error_bound.specs.Leaves.{Holds}
-use Rattle.error_bound.specs.Bounds.{IsBound}
 use Rattle.box_tree.specs.declared.cert.Cert.{Cert}
+use Rattle.box_tree.specs.declared.cert.LeafForm.{LeafForm}
+use Rattle.box_tree.specs.declared.cert.LeafForm.TheVariants.{Pairs, Tight, Cells}
+use Rattle.box_tree.specs.declared.cert.CertKind.{CertKind}
+use Rattle.box_tree.specs.declared.cert.CertKind.TheVariants as kind
+use Rattle.box_tree.specs.declared.cert.Node.{Node}
+use Rattle.box_tree.specs.declared.cert.Node.TheVariants.{Split, Leaf}
+use Rattle.cell_bounds.specs.declared.claims.Claim.{Claim}
+use Rattle.cell_bounds.specs.Claims.{HasClaimBound}
 use Rattle.cert_check.specs.Trees.{left_of, right_of, IsCut}
-use Rattle.cert_check.specs.Acceptance.{IsAccepted}
+use Rattle.cert_check.specs.Acceptance.{claim_at, IsAccepted}
 
 -- the box has halves where the interval v at place k is cut at c
 pub record HasHalves (box : List Interval) (k c : ℕ) (v : Interval) : Type 0 where
@@ -25,20 +30,36 @@ CutsHaveHalves =
     (box : List Interval) (k c : ℕ) (v : Interval) → slice_get box k ≡ Some v → v.from < c → c ≤ v.to
     → HasHalves box k c v
 
--- a leaf around the bytes holds for output o, with a Bound of at most e
-pub record IsLeafAround (b : Block) (h : ℕ) (bytes : List ℕ) (o : ℕ) (x : Output) (e : ℕ) : Type 0 where
-  pub box : List Interval
-  pub leaf : Leaf
-  pub bound : ℕ
-  pub count : length box ≡ length b.inputs
-  pub around : LieIn box bytes
-  pub holds : Holds b box o leaf
-  pub bound_is : IsBound b box o x h leaf bound
-  pub within : bound ≤ e
+-- the lines of leaves in certificates of a kind
+abbrev pub IsFormOf : CertKind → LeafForm → Type 0
+IsFormOf kind.Named (Pairs pairs) = Unit {0}
+IsFormOf kind.Tight Tight = Unit {0}
+IsFormOf kind.Tight Cells = Unit {0}
+IsFormOf k form = ⊥
+
+-- and the nodes
+abbrev pub IsNodeOf : CertKind → Node → Type 0
+IsNodeOf k (Split input cut) = Unit {0}
+IsNodeOf k (Leaf form) = IsFormOf k form
+
+-- one of the leaves is around the bytes: what it says of output o holds, with a Bound of at most e
+pub record IsLeafAround (b : Block) (h : ℕ) (nodes : List Node) (bytes : List ℕ) (o : ℕ) (x : Output) (e : ℕ) : Type 0
+  where
+    pub box : List Interval
+    pub form : LeafForm
+    pub claim : Claim
+    pub bound : ℕ
+    pub count : length box ≡ length b.inputs
+    pub is_box : IsBox box
+    pub around : LieIn box bytes
+    pub of_kind : (k : CertKind) → All (IsNodeOf k) nodes → IsFormOf k form
+    pub claim_is : claim_at form (o - 1) ≡ Some claim
+    pub bound_is : HasClaimBound b box o x h claim bound
+    pub within : bound ≤ e
 
 -- under an accepted certificate each list of bytes, one for each input, has a leaf around it
 abbrev pub LeavesAreAround : Type 0
 LeavesAreAround =
     (b : Block) (h : ℕ) (cert : Cert) (errors : List ℕ) (o : ℕ) (x : Output) (e : ℕ) (bytes : List ℕ)
     → IsAccepted b h cert errors → 1 ≤ o → output_at b o ≡ Some x → slice_get errors (o - 1) ≡ Some e
-    → length bytes ≡ length b.inputs → All (λ n. n ≤ 255) bytes → IsLeafAround b h bytes o x e
+    → length bytes ≡ length b.inputs → All (λ n. n ≤ 255) bytes → IsLeafAround b h cert.nodes bytes o x e

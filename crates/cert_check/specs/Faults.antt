@@ -1,40 +1,51 @@
 -- Why a certificate is not accepted: its first fault, in prefix order.
-use Rattle.std.specs.Prelude.{◌≡◌, ◌≢◌, ℕ, ◌+◌, ◌-◌, ◌<◌, ◌≤◌, List, ◌∷◌, length, All, Some, slice_get}
-use Rattle.arrayvec.specs.ArrayVec.{ArrayVec}
+use Rattle.std.specs.Prelude.{◌≡◌, ◌≢◌, ℕ, ◌+◌, ◌-◌, ◌<◌, ◌≤◌, List, ◌∷◌, length, All, Some, slice_get, IfSome}
 use Rattle.fuzzy_meaning.specs.declared.block.Block.{Block}
+use Rattle.fuzzy_meaning.specs.Blocks.{output_at}
 use Rattle.error_bound.specs.declared.boxes.Interval.{Interval}
 use Rattle.error_bound.specs.declared.boxes.Leaf as the
 use Rattle.error_bound.specs.declared.boxes.LeafFault.{LeafFault}
 use Rattle.error_bound.specs.Leaves.{Holds, IsPairFor}
 use Rattle.error_bound.specs.Faults.{HasLeafFault}
-use Rattle.box_tree.specs.declared.cert.LeafForm.TheVariants.{Pairs}
+use Rattle.error_bound.specs.Tight.{IsTightBound}
+use Rattle.box_tree.specs.declared.cert.LeafForm.{LeafForm}
 use Rattle.box_tree.specs.declared.cert.Node.{Node}
 use Rattle.box_tree.specs.declared.cert.Node.TheVariants.{Split, Leaf}
 use Rattle.box_tree.specs.declared.cert.Cert.{Cert}
+use Rattle.cell_bounds.specs.declared.claims.Claim.{Claim}
+use Rattle.cell_bounds.specs.declared.claims.Claim.TheVariants.{Pair, Tight, Cells}
+use Rattle.cell_bounds.specs.CellBounds.{CellsAreWithin, IsUnsureOn, cell_count}
 use Rattle.cert_check.specs.declared.checker.CheckFault.{CheckFault}
 use Rattle.cert_check.specs.declared.checker.CheckFault.TheVariants as fault
-use Rattle.cert_check.specs.Trees.{Part, IsTree, part_of, left_of, right_of, IsCut, whole}
-use Rattle.cert_check.specs.Acceptance.{IsAccepted}
+use Rattle.cert_check.specs.Trees.{Part, part_of, IsTree, left_of, right_of, IsCut, whole}
+use Rattle.cert_check.specs.Acceptance.{claim_at, IsAccepted}
 
--- a leaf's pairs hold for the outputs before number o
-abbrev pub HoldBefore : Block → Part → ℕ → Type 0
-HoldBefore b p o =
-    (n : ℕ) (leaf : the.Leaf) → 1 ≤ n → n < o → slice_get p.pairs (n - 1) ≡ Some leaf → Holds b p.box n leaf
+-- what is said of output o holds on the box, for answers in h parts to a byte
+abbrev pub ClaimHolds : Block → ℕ → List Interval → ℕ → Claim → Type 0
+ClaimHolds b h box o (Pair leaf) = Holds b box o leaf
+ClaimHolds b h box o Tight = IfSome (output_at b o) (λ x. (n : ℕ) × IsTightBound b box o x h n)
+ClaimHolds b h box o Cells =
+    (cell_count box ≤ 64) × IfSome (output_at b o) (λ x. (n : ℕ) × CellsAreWithin b box o x h n)
 
-abbrev pub AllHold : Block → Part → Type 0
-AllHold b p = HoldBefore b p (length b.outputs + 1)
+-- what a leaf says of the outputs before number o holds
+abbrev pub HoldBefore : Block → ℕ → Part → ℕ → Type 0
+HoldBefore b h p o =
+    (n : ℕ) (claim : Claim) → 1 ≤ n → n < o → claim_at p.form (n - 1) ≡ Some claim → ClaimHolds b h p.box n claim
+
+abbrev pub AllHold : Block → ℕ → Part → Type 0
+AllHold b h p = HoldBefore b h p (length b.outputs + 1)
 
 -- nodes begin with a tree over the box, in which the last of them, rest, begin with a part over the box found,
 -- and all leaves before it hold
-pub data Reaches (b : Block) : List Interval → List Node → List Interval → List Node → Type 0 where
-  root : (box : List Interval) (nodes : List Node) → Reaches b box nodes box nodes
+pub data Reaches (b : Block) (h : ℕ) : List Interval → List Node → List Interval → List Node → Type 0 where
+  root : (box : List Interval) (nodes : List Node) → Reaches b h box nodes box nodes
   in_left : (box : List Interval) (i c : ℕ) (nodes : List Node) (found : List Interval) (rest : List Node)
       → 1 ≤ i → IsCut (i - 1) c box
-      → Reaches b (left_of (i - 1) c box) nodes found rest → Reaches b box (Split i c ∷ nodes) found rest
+      → Reaches b h (left_of (i - 1) c box) nodes found rest → Reaches b h box (Split i c ∷ nodes) found rest
   in_right : (box : List Interval) (i c : ℕ) (nodes mid : List Node) (parts : List Part) (found : List Interval)
       (rest : List Node) → 1 ≤ i → IsCut (i - 1) c box
-      → IsTree (left_of (i - 1) c box) nodes parts mid → All (AllHold b) parts
-      → Reaches b (right_of (i - 1) c box) mid found rest → Reaches b box (Split i c ∷ nodes) found rest
+      → IsTree (left_of (i - 1) c box) nodes parts mid → All (AllHold b h) parts
+      → Reaches b h (right_of (i - 1) c box) mid found rest → Reaches b h box (Split i c ∷ nodes) found rest
 
 -- the line of the first of the nodes that end a certificate's
 abbrev pub line_at : List Node → List Node → ℕ
@@ -47,25 +58,37 @@ pub data IsPairFault (b : Block) (box : List Interval) (o : ℕ) (leaf : the.Lea
   fails : (f : LeafFault) → IsPairFor b o leaf → HasLeafFault b box o leaf f
       → IsPairFault b box o leaf line (fault.Leaf line f)
 
--- of a leaf on a line, the fault of its first pair that has one
-pub record HasPartFault (b : Block) (p : Part) (line : ℕ) (f : CheckFault) : Type 0 where
+-- why a leaf of cells does
+pub data IsCellsFault (b : Block) (h : ℕ) (box : List Interval) (o line : ℕ) : CheckFault → Type 0 where
+  too_many : 64 < cell_count box → IsCellsFault b h box o line (fault.TooManyCells line)
+  unsure : cell_count box ≤ 64 → IsUnsureOn b h box o → IsCellsFault b h box o line (fault.Unsure line o)
+
+-- why what a line says of output o does
+abbrev pub IsClaimFault : Block → ℕ → List Interval → ℕ → ℕ → Claim → CheckFault → Type 0
+IsClaimFault b h box o line (Pair leaf) f = IsPairFault b box o leaf line f
+IsClaimFault b h box o line Tight f =
+    (f ≡ fault.Unsure line o) × IfSome (output_at b o) (λ x. (n : ℕ) → IsTightBound b box o x h n → ⊥)
+IsClaimFault b h box o line Cells f = IsCellsFault b h box o line f
+
+-- of a leaf on a line, the fault for the first output that it has one for
+pub record HasPartFault (b : Block) (h : ℕ) (p : Part) (line : ℕ) (f : CheckFault) : Type 0 where
   pub output : ℕ
   pub from : 1 ≤ output
   pub to : output ≤ length b.outputs
-  pub leaf : the.Leaf
-  pub pair_is : slice_get p.pairs (output - 1) ≡ Some leaf
-  pub before : HoldBefore b p output
-  pub is : IsPairFault b p.box output leaf line f
+  pub claim : Claim
+  pub claim_is : claim_at p.form (output - 1) ≡ Some claim
+  pub before : HoldBefore b h p output
+  pub is : IsClaimFault b h p.box output line claim f
 
 -- the first fault of a tree over all bytes
-pub data HasTreeFault (b : Block) (nodes : List Node) : CheckFault → Type 0 where
-  bad_cut : (box : List Interval) (i c : ℕ) (rest : List Node) → Reaches b (whole b) nodes box (Split i c ∷ rest)
+pub data HasTreeFault (b : Block) (h : ℕ) (nodes : List Node) : CheckFault → Type 0 where
+  bad_cut : (box : List Interval) (i c : ℕ) (rest : List Node) → Reaches b h (whole b) nodes box (Split i c ∷ rest)
       → (IsCut (i - 1) c box → ⊥)
-      → HasTreeFault b nodes (fault.BadCut (line_at nodes (Split i c ∷ rest)))
-  bad_leaf : (box : List Interval) (pairs : ArrayVec (ℕ × ℕ)) (rest : List Node) (f : CheckFault)
-      → Reaches b (whole b) nodes box (Leaf (Pairs pairs) ∷ rest)
-      → HasPartFault b (part_of box pairs.items) (line_at nodes (Leaf (Pairs pairs) ∷ rest)) f
-      → HasTreeFault b nodes f
+      → HasTreeFault b h nodes (fault.BadCut (line_at nodes (Split i c ∷ rest)))
+  bad_leaf : (box : List Interval) (form : LeafForm) (rest : List Node) (f : CheckFault)
+      → Reaches b h (whole b) nodes box (Leaf form ∷ rest)
+      → HasPartFault b h (part_of box form) (line_at nodes (Leaf form ∷ rest)) f
+      → HasTreeFault b h nodes f
 
 -- no error is greater than its claim
 abbrev pub AreClaimed : List ℕ → List ℕ → Type 0
@@ -85,7 +108,7 @@ pub record IsFirstOver (errors claims : List ℕ) (k : ℕ) : Type 0 where
 pub data HasCheckFault (b : Block) (h : ℕ) (cert : Cert) : CheckFault → Type 0 where
   outputs : length cert.claims ≢ length b.outputs
       → HasCheckFault b h cert (fault.Outputs (length cert.claims) (length b.outputs))
-  tree : (f : CheckFault) → length cert.claims ≡ length b.outputs → HasTreeFault b cert.nodes f
+  tree : (f : CheckFault) → length cert.claims ≡ length b.outputs → HasTreeFault b h cert.nodes f
       → HasCheckFault b h cert f
   claimed : (errors : List ℕ) (k : ℕ) (over : IsFirstOver errors cert.claims k)
       → length cert.claims ≡ length b.outputs

@@ -1,5 +1,5 @@
 -- What an accepted certificate says.
-use Rattle.std.specs.Prelude.{◌≡◌, ℕ, ◌-◌, ◌≤◌, true, List, fold, All, Some, slice_get, Result, Ok, Err}
+use Rattle.std.specs.Prelude.{◌≡◌, ◌≢◌, ℕ, ◌-◌, ◌≤◌, true, List, ◌++◌, map, fold, All, Some, slice_get, Result, Ok, Err}
 use Rattle.fz_num.specs.declared.dec.Dec.{Dec}
 use Rattle.fz_num.specs.Decimals.{distance}
 use Rattle.fz_num.specs.Fracs.{IsClose}
@@ -10,9 +10,17 @@ use Rattle.fuzzy_meaning.specs.Meaning.{exact_answer}
 use Rattle.byte_scaling.specs.Cells.{bytes_of, value_in}
 use Rattle.point_slope.specs.Bytes.{answer_in}
 use Rattle.error_bound.specs.declared.boxes.Interval.{Interval}
+use Rattle.box_tree.specs.declared.cert.CertKind.{CertKind}
+use Rattle.box_tree.specs.declared.cert.CertKind.TheVariants as kind
 use Rattle.box_tree.specs.declared.cert.AnswerWidth.{AnswerWidth}
+use Rattle.box_tree.specs.declared.cert.AnswerWidth.TheVariants.{Byte, Word}
+use Rattle.box_tree.specs.declared.cert.LeafForm.{LeafForm}
+use Rattle.box_tree.specs.declared.cert.LeafForm.TheVariants.{Pairs, Tight, Cells}
 use Rattle.box_tree.specs.declared.cert.Node.{Node}
+use Rattle.box_tree.specs.declared.cert.Node.TheVariants.{Split, Leaf}
 use Rattle.box_tree.specs.declared.cert.Cert.{Cert}
+use Rattle.box_tree.specs.Certificates.{IsCert}
+use Rattle.box_tree.specs.Texts.{version_line, lines_of}
 use Rattle.cert_check.specs.Trees.{Part, IsTree, lies, leaves_with}
 use Rattle.cert_check.specs.declared.checker.CheckFault.{CheckFault}
 use Rattle.cert_check.specs.Acceptance.{IsAccepted}
@@ -45,12 +53,57 @@ ErrorsAreDetermined =
     (b : Block) (h : ℕ) (cert : Cert) (es fs : List ℕ) → IsValid b → IsAccepted b h cert es → IsAccepted b h cert fs
     → es ≡ fs
 
+-- no error is higher than the one at its place
+abbrev pub AreNoHigher : List ℕ → List ℕ → Type 0
+AreNoHigher es fs = (k e f : ℕ) → slice_get es k ≡ Some e → slice_get fs k ≡ Some f → f ≤ e
+
+-- no leaf is one of cells, as none is in a certificate that names rules
+abbrev pub HasNoCells : Cert → Type 0
+HasNoCells cert = All (λ node. node ≢ Leaf Cells) cert.nodes
+
+abbrev pub NamedCertsHaveNoCells : Type 0
+NamedCertsHaveNoCells = (cert : Cert) → IsCert kind.Named cert → HasNoCells cert
+
 -- one that is accepted for bytes is accepted for 16 bits, and no error rises
 abbrev pub WideIsAccepted : Type 0
 WideIsAccepted =
-    (b : Block) (cert : Cert) (es : List ℕ) → IsValid b → IsAccepted b 1 cert es
-    → (fs : List ℕ) × IsAccepted b 256 cert fs
-    × ((k e f : ℕ) → slice_get es k ≡ Some e → slice_get fs k ≡ Some f → f ≤ e)
+    (b : Block) (cert : Cert) (es : List ℕ) → IsValid b → HasNoCells cert → IsAccepted b 1 cert es
+    → (fs : List ℕ) × IsAccepted b 256 cert fs × AreNoHigher es fs
+
+-- and so is its text when the first line is changed
+abbrev pub WideTextsAreAccepted : Type 0
+WideTextsAreAccepted =
+    (b : Block) (k : CertKind) (rest es : List ℕ) → IsValid b
+    → (a : IsAcceptedText b 1 k Byte (version_line k Byte ++ rest) es) → HasNoCells a.cert
+    → (fs : List ℕ) × IsAcceptedText b 256 k Word (version_line k Word ++ rest) fs × AreNoHigher es fs
+
+-- a leaf that names rules becomes the word alone
+abbrev pub tight_form : LeafForm → LeafForm
+tight_form (Pairs pairs) = Tight
+tight_form Tight = Tight
+tight_form Cells = Cells
+
+abbrev pub tight_node : Node → Node
+tight_node (Split input cut) = Split input cut
+tight_node (Leaf form) = Leaf (tight_form form)
+
+abbrev pub tight_cert : Cert → Cert
+tight_cert cert = record { claims = cert.claims; nodes = map tight_node cert.nodes }
+
+-- when its leaves become tight, an accepted certificate is accepted, and no error rises
+abbrev pub TightIsAccepted : Type 0
+TightIsAccepted =
+    (b : Block) (h : ℕ) (cert : Cert) (es : List ℕ) → IsValid b → 1 ≤ h → IsAccepted b h cert es
+    → (fs : List ℕ) × IsAccepted b h (tight_cert cert) fs × AreNoHigher es fs
+
+-- and so is the text of one that names rules when the first line is changed, and each leaf becomes the word alone
+abbrev pub TightTextsAreAccepted : Type 0
+TightTextsAreAccepted =
+    (b : Block) (h : ℕ) (answers : AnswerWidth) (text es : List ℕ) → IsValid b → 1 ≤ h
+    → (a : IsAcceptedText b h kind.Named answers text es)
+    → (fs : List ℕ)
+    × IsAcceptedText b h kind.Tight answers (lines_of kind.Tight answers a.cert.claims (map tight_node a.cert.nodes)) fs
+    × AreNoHigher es fs
 
 -- a certificate with a fault is not accepted
 abbrev pub FaultyCertsFail : Type 0
@@ -65,12 +118,12 @@ CheckFaultsAreOne =
     → HasCheckFault b h cert g → f ≡ g
 
 -- the errors that a text is accepted with, or why it is refused
-abbrev pub IsTextAnswer : Block → ℕ → AnswerWidth → List ℕ → Result (List ℕ) TextFault → Type 0
-IsTextAnswer b h answers text (Ok errors) = IsAcceptedText b h answers text errors
-IsTextAnswer b h answers text (Err refusal) = HasTextFault b h answers text refusal
+abbrev pub IsTextAnswer : Block → ℕ → CertKind → AnswerWidth → List ℕ → Result (List ℕ) TextFault → Type 0
+IsTextAnswer b h k answers text (Ok errors) = IsAcceptedText b h k answers text errors
+IsTextAnswer b h k answers text (Err refusal) = HasTextFault b h k answers text refusal
 
 -- a text has at most one answer
 abbrev pub TextAnswersAreOne : Type 0
 TextAnswersAreOne =
-    (b : Block) (h : ℕ) (answers : AnswerWidth) (text : List ℕ) (x y : Result (List ℕ) TextFault) → IsValid b
-    → IsTextAnswer b h answers text x → IsTextAnswer b h answers text y → x ≡ y
+    (b : Block) (h : ℕ) (k : CertKind) (answers : AnswerWidth) (text : List ℕ) (x y : Result (List ℕ) TextFault)
+    → IsValid b → IsTextAnswer b h k answers text x → IsTextAnswer b h k answers text y → x ≡ y

@@ -1,7 +1,7 @@
 -- Texts whose certificates are accepted, and why others are refused.
 use Rattle.std.specs.Prelude.{ℕ, List}
 use Rattle.fuzzy_meaning.specs.declared.block.Block.{Block}
-use Rattle.box_tree.specs.declared.cert.CertKind.TheVariants.{Named}
+use Rattle.box_tree.specs.declared.cert.CertKind.{CertKind}
 use Rattle.box_tree.specs.declared.cert.AnswerWidth.{AnswerWidth}
 use Rattle.box_tree.specs.declared.cert.Cert.{Cert}
 use Rattle.box_tree.specs.declared.cert.CertFault.{CertFault}
@@ -12,15 +12,17 @@ use Rattle.cert_check.specs.declared.text.TextFault.TheVariants as refusal
 use Rattle.cert_check.specs.Acceptance.{IsAccepted}
 use Rattle.cert_check.specs.Faults.{HasCheckFault}
 
--- the text is that of a certificate that is accepted, with these errors, for answers of this width, in h parts to a
--- byte
-pub record IsAcceptedText (b : Block) (h : ℕ) (answers : AnswerWidth) (text errors : List ℕ) : Type 0 where
-  pub cert : Cert
-  pub spelled : CertText Named answers text cert
-  pub accepted : IsAccepted b h cert errors
+-- the text is that of a certificate of this kind that is accepted, with these errors, for answers of this width, in h
+-- parts to a byte
+pub record IsAcceptedText (b : Block) (h : ℕ) (kind : CertKind) (answers : AnswerWidth) (text errors : List ℕ) : Type 0
+  where
+    pub cert : Cert
+    pub spelled : CertText kind answers text cert
+    pub accepted : IsAccepted b h cert errors
 
 -- the text has a first fault, or it is that of a certificate that has one
-pub data HasTextFault (b : Block) (h : ℕ) (answers : AnswerWidth) (text : List ℕ) : TextFault → Type 0 where
-  of_text : (f : CertFault) → HasFault Named answers text f → HasTextFault b h answers text (refusal.Text f)
-  of_cert : (cert : Cert) (f : CheckFault) → CertText Named answers text cert → HasCheckFault b h cert f
-      → HasTextFault b h answers text (refusal.Check f)
+pub data HasTextFault (b : Block) (h : ℕ) (kind : CertKind) (answers : AnswerWidth) (text : List ℕ)
+    : TextFault → Type 0 where
+  of_text : (f : CertFault) → HasFault kind answers text f → HasTextFault b h kind answers text (refusal.Text f)
+  of_cert : (cert : Cert) (f : CheckFault) → CertText kind answers text cert → HasCheckFault b h cert f
+      → HasTextFault b h kind answers text (refusal.Check f)

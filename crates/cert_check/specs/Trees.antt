@@ -1,11 +1,9 @@
 -- Trees of boxes in prefix order.
 use Rattle.std.specs.Prelude.{ℕ, zero, suc, ◌+◌, ◌-◌, ◌<◌, ◌≤◌, List, [], ◌∷◌, ◌++◌, map, Bool, true, false, nat_le}
 use Rattle.std.specs.Prelude.{◌&&◌, if◌then◌else◌}
-use Rattle.arrayvec.specs.ArrayVec.{ArrayVec}
 use Rattle.fuzzy_meaning.specs.declared.block.Block.{Block}
 use Rattle.error_bound.specs.declared.boxes.Interval.{Interval}
-use Rattle.error_bound.specs.declared.boxes.Leaf as the
-use Rattle.box_tree.specs.declared.cert.LeafForm.TheVariants.{Pairs}
+use Rattle.box_tree.specs.declared.cert.LeafForm.{LeafForm}
 use Rattle.box_tree.specs.declared.cert.Node.{Node}
 use Rattle.box_tree.specs.declared.cert.Node.TheVariants.{Split, Leaf}
 
@@ -36,23 +34,18 @@ IsCut k c [] = ⊥
 IsCut zero c (v ∷ vs) = (v.from < c) × (c ≤ v.to)
 IsCut (suc k) c (v ∷ vs) = IsCut k c vs
 
--- a leaf: its box, and its pairs
+-- a leaf: its box, and what its line says
 pub record Part : Type 0 where
   pub box : List Interval
-  pub pairs : List the.Leaf
+  pub form : LeafForm
 
--- the pairs of a leaf's line
-abbrev pub leaves_of : List (ℕ × ℕ) → List the.Leaf
-leaves_of pairs = map (λ p. record { rule = p.0; k = p.1 }) pairs
-
--- a leaf of a tree, over its box
-abbrev pub part_of : List Interval → List (ℕ × ℕ) → Part
-part_of box pairs = record { box = box; pairs = leaves_of pairs }
+abbrev pub part_of : List Interval → LeafForm → Part
+part_of box form = record { box = box; form = form }
 
 -- nodes begin with a tree over the box that has these leaves, from the left; the rest follows it. Inputs count from 1
 pub data IsTree : List Interval → List Node → List Part → List Node → Type 0 where
-  leaf : (box : List Interval) (pairs : ArrayVec (ℕ × ℕ)) (rest : List Node)
-      → IsTree box (Leaf (Pairs pairs) ∷ rest) (record { box = box; pairs = leaves_of pairs.items } ∷ []) rest
+  leaf : (box : List Interval) (form : LeafForm) (rest : List Node)
+      → IsTree box (Leaf form ∷ rest) (record { box = box; form = form } ∷ []) rest
   split : (box : List Interval) (i c : ℕ) (nodes mid rest : List Node) (left right : List Part) → 1 ≤ i
       → IsCut (i - 1) c box → IsTree (left_of (i - 1) c box) nodes left mid
       → IsTree (right_of (i - 1) c box) mid right rest → IsTree box (Split i c ∷ nodes) (left ++ right) rest

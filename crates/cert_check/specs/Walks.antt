@@ -1,5 +1,5 @@
 -- What a walk over the nodes of a tree keeps.
-use Rattle.std.specs.Prelude.{◌≡◌, ◌⊎◌, ℕ, ◌+◌, ◌-◌, ◌≤◌, max, List, [], ◌∷◌, ◌++◌, length, map, reverse, All, Some}
+use Rattle.std.specs.Prelude.{◌≡◌, ◌⊎◌, ℕ, ◌+◌, ◌-◌, ◌<◌, ◌≤◌, max, List, [], ◌∷◌, ◌++◌, length, map, reverse, All, Some}
 use Rattle.std.specs.Prelude.{MatchOption, slice_get, slice_index, vec_capacity}
 use Rattle.std.specs.List.{Any}
 use Rattle.fuzzy_meaning.specs.declared.block.Block.{Block}
@@ -9,7 +9,7 @@ use Rattle.error_bound.specs.declared.boxes.Interval.{Interval}
 use Rattle.error_bound.specs.declared.boxes.ByteBox.{ByteBox}
 use Rattle.error_bound.specs.Boxes.{IsBoxOf}
 use Rattle.error_bound.specs.Reaches.{IsBlockTable}
-use Rattle.box_tree.specs.declared.cert.CertKind.TheVariants.{Named}
+use Rattle.box_tree.specs.declared.cert.CertKind.{CertKind}
 use Rattle.box_tree.specs.declared.cert.Node.{Node}
 use Rattle.box_tree.specs.declared.cert.Cert.{Cert}
 use Rattle.box_tree.specs.Certificates.{AreClaims, IsNode}
@@ -23,11 +23,21 @@ use Rattle.cert_check.specs.Faults.{AllHold, Reaches, HasCheckFault}
 abbrev pub stack_of : List ByteBox → List (List Interval)
 stack_of boxes = map (λ x. x.0.items) (reverse boxes)
 
+-- the leaf's Bounds, each at its output's place
+abbrev pub AreBounds : Block → ℕ → Part → List ℕ → Type 0
+AreBounds b h p bounds =
+    (k : ℕ) (x : Output) → slice_get b.outputs k ≡ Some x → HasBound b (k + 1) x h p (slice_index bounds k)
+
+-- each error rises to the Bound at its place
+pub record AreRaised (bounds old new : List ℕ) : Type 0 where
+  pub count : length new ≡ length old
+  pub each : (k : ℕ) → k < length old → slice_index new k ≡ max (slice_index old k) (slice_index bounds k)
+
 -- each output's error rises to its Bound on the leaf
 pub record Raises (b : Block) (h : ℕ) (p : Part) (old new : List ℕ) : Type 0 where
-  pub count : length new ≡ length old
-  pub each : (k : ℕ) (x : Output) → slice_get b.outputs k ≡ Some x
-      → (n : ℕ) × HasBound b (k + 1) x h p n × (slice_get new k ≡ Some (max (slice_index old k) n))
+  pub bounds : List ℕ
+  pub are_bounds : AreBounds b h p bounds
+  pub raised : AreRaised bounds old new
 
 -- how often a box can be cut: each interval as often as it has bytes but one
 abbrev pub cuts_of : List Interval → ℕ
@@ -47,11 +57,11 @@ AreTrees (box ∷ boxes) nodes parts rest =
     × AreTrees boxes mid qs rest × (parts ≡ ps ++ qs)
 
 -- in the first tree, or in a later one where the leaves of those before hold
-abbrev pub AreReached : Block → List (List Interval) → List Node → List Interval → List Node → Type 0
-AreReached b [] nodes found rest = ⊥
-AreReached b (box ∷ boxes) nodes found rest = Reaches b box nodes found rest ⊎
-    ((ps : List Part) × (mid : List Node) × IsTree box nodes ps mid × All (AllHold b) ps
-    × AreReached b boxes mid found rest)
+abbrev pub AreReached : Block → ℕ → List (List Interval) → List Node → List Interval → List Node → Type 0
+AreReached b h [] nodes found rest = ⊥
+AreReached b h (box ∷ boxes) nodes found rest = Reaches b h box nodes found rest ⊎
+    ((ps : List Part) × (mid : List Node) × IsTree box nodes ps mid × All (AllHold b h) ps
+    × AreReached b h boxes mid found rest)
 
 -- e is the greatest Bound of the leaves, or 0 where there is none
 pub record IsGreatestSoFar (b : Block) (o : ℕ) (x : Output) (h : ℕ) (parts : List Part) (e : ℕ) : Type 0 where
@@ -68,8 +78,8 @@ pub record HasWalked (b : Block) (h : ℕ) (nodes : List Node) (boxes : List (Li
   pub parts : List Part
   pub trees : (rest : List Node) (ps : List Part) → AreTrees boxes rest ps []
       → AreTrees (whole b ∷ []) (nodes ++ rest) (parts ++ ps) []
-  pub reached : (rest : List Node) (found : List Interval) (after : List Node) → AreReached b boxes rest found after
-      → AreReached b (whole b ∷ []) (nodes ++ rest) found after
+  pub reached : (rest : List Node) (found : List Interval) (after : List Node) → AreReached b h boxes rest found after
+      → AreReached b h (whole b ∷ []) (nodes ++ rest) found after
   pub count : length errors ≡ length b.outputs
   pub greatest : (k : ℕ) (x : Output) → slice_get b.outputs k ≡ Some x
       → IsGreatestSoFar b (k + 1) x h parts (slice_index errors k)
@@ -95,9 +105,9 @@ pub record HasTaken (nodes : List Node) (w : Walk) : Type 0 where
   pub so_far : MatchOption w.fault (IsBehind nodes w)
       (λ fault. (rest : List Node) → HasCheckFault w.block.now w.parts (cert_over w (nodes ++ rest)) fault)
 
--- nodes that a certificate with so many claims may begin with
+-- nodes that a certificate with so many claims may begin with, of one kind or the other
 pub record AreFirst (width : ℕ) (nodes : List Node) : Type 0 where
-  pub good : All (IsNode Named width) nodes
+  pub good : All (λ node. (kind : CertKind) × IsNode kind width node) nodes
   pub opens : (n : ℕ) × (open_behind nodes ≡ Some n)
   pub few_leaves : leaf_count nodes ≤ 4096
 

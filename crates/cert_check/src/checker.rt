@@ -2,13 +2,14 @@
 ghost use Rattle.std.specs.Prelude.{◌≡◌, ◌≢◌, ◌≤◌, ◌<◌, ◌+◌, ℕ, List, length, IfOk, IfErr, IfSome, IfNone, Some};
 ghost use Rattle.std.specs.Prelude.{slice_get};
 ghost use Rattle.fuzzy_meaning.specs.Blocks.{IsValid};
-ghost use Rattle.box_tree.specs.declared.cert.CertKind.TheVariants.{Named};
+ghost use Rattle.box_tree.specs.declared.cert.CertKind.{CertKind as TheKind};
+ghost use Rattle.box_tree.specs.declared.cert.CertKind.TheVariants.{Named, Tight};
 ghost use Rattle.box_tree.specs.Certificates.{IsCert};
-ghost use Rattle.cert_check.specs.Acceptance.{IsAccepted};
+ghost use Rattle.cert_check.specs.Acceptance.{IsAccepted, parts_of as the_parts_of};
 ghost use Rattle.cert_check.specs.Faults.{HasCheckFault, IsFirstOver, AreClaimed};
 
 use crate::walk::Walk;
-use box_tree::Cert;
+use box_tree::{AnswerWidth, Cert};
 use error_bound::LeafFault;
 use fuzzy_meaning::Block;
 use std::alloc::Global;
@@ -30,6 +31,12 @@ pub enum CheckFault {
     /// A pair on that line does not hold on its box.
     #[error("line {0} does not hold")]
     Leaf(u32, LeafFault),
+    /// The leaf on that line has no Bound for that output, or one of its cells has none.
+    #[error("line {0} is unsure of output {1}")]
+    Unsure(u32, u8),
+    /// The leaf of cells on that line has more than 64.
+    #[error("line {0} has too many cells")]
+    TooManyCells(u32),
     /// That output's claim, and its error, which is greater.
     #[error("output {0} has a claim of {1} and an error of {2}")]
     Claimed(u8, u32, u32),
@@ -40,7 +47,7 @@ pub enum CheckFault {
 
 /// The error of each output in millionths of its range, for answers that are bytes, or the
 /// certificate's first fault: in the order of its lines, on a line in the order of its pairs, and
-/// its claims last.
+/// its claims last. The certificate names rules.
 pub fn check(alloc: Global, block: &Block, cert: &Cert) -> Result<Vec<u32>, CheckFault>
     requires block { IsValid block.now }
     requires cert { IsCert Named cert.now }
@@ -48,7 +55,7 @@ pub fn check(alloc: Global, block: &Block, cert: &Cert) -> Result<Vec<u32>, Chec
     ensures fault { IfErr result (λ fault.
         fault ≢ CheckFault.Memory → HasCheckFault block.now 1 cert.now fault) }
 {
-    checked(alloc, block, cert, 1)
+    check_for(alloc, block, cert, AnswerWidth::Byte)
 }
 
 /// The same for answers of 16 bits.
@@ -59,13 +66,51 @@ pub fn check16(alloc: Global, block: &Block, cert: &Cert) -> Result<Vec<u32>, Ch
     ensures fault { IfErr result (λ fault.
         fault ≢ CheckFault.Memory → HasCheckFault block.now 256 cert.now fault) }
 {
-    checked(alloc, block, cert, 256)
+    check_for(alloc, block, cert, AnswerWidth::Word)
+}
+
+/// The same of a tight certificate, for answers that are bytes.
+pub fn check_tight(alloc: Global, block: &Block, cert: &Cert) -> Result<Vec<u32>, CheckFault>
+    requires block { IsValid block.now }
+    requires cert { IsCert Tight cert.now }
+    ensures accepted { IfOk result (λ errors. IsAccepted block.now 1 cert.now errors.items) }
+    ensures fault { IfErr result (λ fault.
+        fault ≢ CheckFault.Memory → HasCheckFault block.now 1 cert.now fault) }
+{
+    check_for(alloc, block, cert, AnswerWidth::Byte)
+}
+
+/// The same of a tight certificate, for answers of 16 bits.
+pub fn check_tight16(alloc: Global, block: &Block, cert: &Cert) -> Result<Vec<u32>, CheckFault>
+    requires block { IsValid block.now }
+    requires cert { IsCert Tight cert.now }
+    ensures accepted { IfOk result (λ errors. IsAccepted block.now 256 cert.now errors.items) }
+    ensures fault { IfErr result (λ fault.
+        fault ≢ CheckFault.Memory → HasCheckFault block.now 256 cert.now fault) }
+{
+    check_for(alloc, block, cert, AnswerWidth::Word)
+}
+
+/// The same of a certificate of either kind, for answers of this width.
+pub fn check_for(
+    alloc: Global,
+    block: &Block,
+    cert: &Cert,
+    answers: AnswerWidth,
+) -> Result<Vec<u32>, CheckFault>
+    requires block { IsValid block.now }
+    requires cert { (kind : TheKind) × IsCert kind cert.now }
+    ensures accepted { IfOk result (λ errors. IsAccepted block.now (the_parts_of answers) cert.now errors.items) }
+    ensures fault { IfErr result (λ fault.
+        fault ≢ CheckFault.Memory → HasCheckFault block.now (the_parts_of answers) cert.now fault) }
+{
+    checked(alloc, block, cert, parts_of(answers))
 }
 
 /// The same for answers in so many parts to a byte.
 fn checked(alloc: Global, block: &Block, cert: &Cert, parts: u16) -> Result<Vec<u32>, CheckFault>
     requires block { IsValid block.now }
-    requires cert { IsCert Named cert.now }
+    requires cert { (kind : TheKind) × IsCert kind cert.now }
     requires parts_from { 1 ≤ parts }
     requires parts_to { parts ≤ 256 }
     ensures accepted { IfOk result (λ errors. IsAccepted block.now parts cert.now errors.items) }
@@ -80,4 +125,16 @@ fn checked(alloc: Global, block: &Block, cert: &Cert, parts: u16) -> Result<Vec<
         walk.take(node);
     }
     walk.finish()
+}
+
+/// How many parts an answer of this width has to a byte.
+pub fn parts_of(answers: AnswerWidth) -> u16
+    ensures parts { result ≡ the_parts_of answers }
+    ensures some { 1 ≤ result }
+    ensures few { result ≤ 256 }
+{
+    match answers {
+        AnswerWidth::Byte => 1,
+        AnswerWidth::Word => 256,
+    }
 }

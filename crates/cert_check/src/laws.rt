@@ -1,14 +1,17 @@
 //! Laws of the definitions.
 ghost use Rattle.cert_check.specs.Laws.{OneLeafHasTheBytes, AcceptedAnswersAreNear, ErrorsAreDetermined};
-ghost use Rattle.cert_check.specs.Laws.{FaultyCertsFail, WideIsAccepted, CheckFaultsAreOne, TextAnswersAreOne};
+ghost use Rattle.cert_check.specs.Laws.{FaultyCertsFail, CheckFaultsAreOne, TextAnswersAreOne};
+ghost use Rattle.cert_check.specs.Laws.{NamedCertsHaveNoCells, WideIsAccepted, WideTextsAreAccepted};
+ghost use Rattle.cert_check.specs.Laws.{TightIsAccepted, TightTextsAreAccepted};
 ghost use Rattle.cert_check.specs.Examples.{ExamplesAreAccepted};
 
 use box_tree::{cert_texts_have_no_fault, certs_are_one, faults_are_one};
 use byte_scaling::numbers_lie_in_their_cells;
-use error_bound::{
-    answers_are_near, bounds_are_determined, bounds_fall_with_parts, faulty_leaves_fail,
-    leaf_faults_are_one, term_errors_are,
+use cell_bounds::{
+    claim_answers_are_near, claim_bounds_are_one, claim_bounds_fall_with_parts,
+    tight_claims_are_least,
 };
+use error_bound::{faulty_leaves_fail, leaf_faults_are_one, term_errors_are};
 use fuzzy_meaning::examples_are_valid;
 
 /// Each list of bytes of a box lies in exactly one leaf of a tree over it.
@@ -22,14 +25,14 @@ pub fn accepted_answers_are_near()
     ensures { AcceptedAnswersAreNear }
 {
     numbers_lie_in_their_cells();
-    answers_are_near();
+    claim_answers_are_near();
 }
 
 /// A certificate is accepted with one list of errors.
 pub fn errors_are_determined()
     ensures { ErrorsAreDetermined }
 {
-    bounds_are_determined();
+    claim_bounds_are_one();
 }
 
 /// A certificate with a fault is not accepted.
@@ -37,14 +40,43 @@ pub fn faulty_certs_fail()
     ensures { FaultyCertsFail }
 {
     faulty_leaves_fail();
-    bounds_are_determined();
+    claim_bounds_are_one();
 }
 
-/// A certificate that is accepted for bytes is accepted for 16 bits, and no error rises.
+/// A certificate without leaves of cells that is accepted for bytes is accepted for 16 bits, and no
+/// error rises.
 pub fn wide_is_accepted()
     ensures { WideIsAccepted }
 {
-    bounds_fall_with_parts();
+    claim_bounds_fall_with_parts();
+}
+
+/// And so is its text when the first line is changed.
+pub fn wide_texts_are_accepted()
+    ensures { WideTextsAreAccepted }
+{
+    wide_is_accepted();
+}
+
+/// No leaf of a certificate that names rules is one of cells.
+pub fn named_certs_have_no_cells()
+    ensures { NamedCertsHaveNoCells }
+{}
+
+/// A certificate that is accepted is accepted when its leaves that name rules become tight, and no
+/// error rises.
+pub fn tight_is_accepted()
+    ensures { TightIsAccepted }
+{
+    tight_claims_are_least();
+}
+
+/// And so is the text of one that names rules when its first line is changed, and each leaf becomes
+/// the word alone.
+pub fn tight_texts_are_accepted()
+    ensures { TightTextsAreAccepted }
+{
+    tight_is_accepted();
 }
 
 /// There are accepted certificates, with known errors.
@@ -61,7 +93,7 @@ pub fn check_faults_are_one()
 {
     leaf_faults_are_one();
     faulty_leaves_fail();
-    bounds_are_determined();
+    claim_bounds_are_one();
 }
 
 /// A text is accepted with one list of errors, or is refused for one reason.
@@ -69,7 +101,7 @@ pub fn text_answers_are_one()
     ensures { TextAnswersAreOne }
 {
     faulty_leaves_fail();
-    bounds_are_determined();
+    claim_bounds_are_one();
     certs_are_one();
     faults_are_one();
     cert_texts_have_no_fault();

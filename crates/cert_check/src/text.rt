@@ -3,13 +3,15 @@ ghost use Rattle.std.specs.Prelude.{◌≡◌, ◌≢◌, ◌≤◌, ℕ, List a
 ghost use Rattle.fuzzy_meaning.specs.Blocks.{IsValid};
 ghost use Rattle.box_tree.specs.declared.cert.AnswerWidth.{AnswerWidth as TheWidth};
 ghost use Rattle.box_tree.specs.declared.cert.AnswerWidth.TheVariants.{Byte, Word};
-ghost use Rattle.box_tree.specs.declared.cert.CertKind.TheVariants.{Named};
+ghost use Rattle.box_tree.specs.declared.cert.CertKind.{CertKind as TheKind};
+ghost use Rattle.box_tree.specs.declared.cert.CertKind.TheVariants.{Named, Tight};
 ghost use Rattle.box_tree.specs.Reading.{HasRead};
+ghost use Rattle.cert_check.specs.Acceptance.{parts_of as the_parts_of};
 ghost use Rattle.cert_check.specs.TextFaults.{IsAcceptedText, HasTextFault};
 
-use crate::checker::CheckFault;
+use crate::checker::{CheckFault, parts_of};
 use crate::walk::Walk;
-use box_tree::{CertFault, Lines};
+use box_tree::{AnswerWidth, CertFault, CertKind, Lines};
 use fuzzy_meaning::Block;
 use std::alloc::Global;
 use thiserror::Error;
@@ -35,26 +37,63 @@ pub enum TextFault {
 pub fn check_text(alloc: Global, block: &Block, text: &[u8]) -> Result<Vec<u32>, TextFault>
     requires block { IsValid block.now }
     requires text { length text.now ≤ 1048576 }
-    ensures accepted { IfOk result (λ errors. IsAcceptedText block.now 1 Byte text.now errors.items) }
+    ensures accepted { IfOk result (λ errors. IsAcceptedText block.now 1 Named Byte text.now errors.items) }
     ensures refused { IfErr result (λ refusal. refusal ≢ TextFault.Memory
-        → HasTextFault block.now 1 Byte text.now refusal) }
+        → HasTextFault block.now 1 Named Byte text.now refusal) }
 {
-    match Lines::new(text) {
-        Ok(lines) => errors_of(alloc, block, lines, 1),
-        Err(fault) => Err(TextFault::Text(fault)),
-    }
+    check_text_for(alloc, block, text, CertKind::Named, AnswerWidth::Byte)
 }
 
 /// The same for answers of 16 bits, and texts of version 2.
 pub fn check_text16(alloc: Global, block: &Block, text: &[u8]) -> Result<Vec<u32>, TextFault>
     requires block { IsValid block.now }
     requires text { length text.now ≤ 1048576 }
-    ensures accepted { IfOk result (λ errors. IsAcceptedText block.now 256 Word text.now errors.items) }
+    ensures accepted { IfOk result (λ errors. IsAcceptedText block.now 256 Named Word text.now errors.items) }
     ensures refused { IfErr result (λ refusal. refusal ≢ TextFault.Memory
-        → HasTextFault block.now 256 Word text.now refusal) }
+        → HasTextFault block.now 256 Named Word text.now refusal) }
 {
-    match Lines::new16(text) {
-        Ok(lines) => errors_of(alloc, block, lines, 256),
+    check_text_for(alloc, block, text, CertKind::Named, AnswerWidth::Word)
+}
+
+/// The same of a tight certificate, for answers that are bytes, and texts of version 3.
+pub fn check_text_tight(alloc: Global, block: &Block, text: &[u8]) -> Result<Vec<u32>, TextFault>
+    requires block { IsValid block.now }
+    requires text { length text.now ≤ 1048576 }
+    ensures accepted { IfOk result (λ errors. IsAcceptedText block.now 1 Tight Byte text.now errors.items) }
+    ensures refused { IfErr result (λ refusal. refusal ≢ TextFault.Memory
+        → HasTextFault block.now 1 Tight Byte text.now refusal) }
+{
+    check_text_for(alloc, block, text, CertKind::Tight, AnswerWidth::Byte)
+}
+
+/// The same of a tight certificate, for answers of 16 bits, and texts of version 4.
+pub fn check_text_tight16(alloc: Global, block: &Block, text: &[u8]) -> Result<Vec<u32>, TextFault>
+    requires block { IsValid block.now }
+    requires text { length text.now ≤ 1048576 }
+    ensures accepted { IfOk result (λ errors. IsAcceptedText block.now 256 Tight Word text.now errors.items) }
+    ensures refused { IfErr result (λ refusal. refusal ≢ TextFault.Memory
+        → HasTextFault block.now 256 Tight Word text.now refusal) }
+{
+    check_text_for(alloc, block, text, CertKind::Tight, AnswerWidth::Word)
+}
+
+/// The same of a certificate of this kind, for answers of this width.
+pub fn check_text_for(
+    alloc: Global,
+    block: &Block,
+    text: &[u8],
+    kind: CertKind,
+    answers: AnswerWidth,
+) -> Result<Vec<u32>, TextFault>
+    requires block { IsValid block.now }
+    requires text { length text.now ≤ 1048576 }
+    ensures accepted { IfOk result
+        (λ errors. IsAcceptedText block.now (the_parts_of answers) kind answers text.now errors.items) }
+    ensures refused { IfErr result (λ refusal. refusal ≢ TextFault.Memory
+        → HasTextFault block.now (the_parts_of answers) kind answers text.now refusal) }
+{
+    match Lines::of(text, kind, answers) {
+        Ok(lines) => errors_of(alloc, block, lines, parts_of(answers)),
         Err(fault) => Err(TextFault::Text(fault)),
     }
 }
@@ -68,13 +107,16 @@ fn errors_of(
     parts: u16,
 ) -> Result<Vec<u32>, TextFault>
     requires block { IsValid block.now }
-    requires lines { (answers : TheWidth) × (text : Items ℕ) × HasRead Named answers text [] lines }
+    requires lines { (kind : TheKind) × (answers : TheWidth) × (text : Items ℕ) × HasRead kind answers text [] lines }
     requires parts_from { 1 ≤ parts }
     requires parts_to { parts ≤ 256 }
-    ensures accepted { (answers : TheWidth) (text : Items ℕ) → HasRead Named answers text [] lines.entry
-        → IfOk result (λ errors. IsAcceptedText block.now parts answers text errors.items) }
-    ensures refused { (answers : TheWidth) (text : Items ℕ) → HasRead Named answers text [] lines.entry
-        → IfErr result (λ refusal. refusal ≢ TextFault.Memory → HasTextFault block.now parts answers text refusal) }
+    ensures accepted { (kind : TheKind) (answers : TheWidth) (text : Items ℕ)
+        → HasRead kind answers text [] lines.entry
+        → IfOk result (λ errors. IsAcceptedText block.now parts kind answers text errors.items) }
+    ensures refused { (kind : TheKind) (answers : TheWidth) (text : Items ℕ)
+        → HasRead kind answers text [] lines.entry
+        → IfErr result (λ refusal. refusal ≢ TextFault.Memory
+        → HasTextFault block.now parts kind answers text refusal) }
 {
     let claims = lines.claims();
     let mut walk = match Walk::new(alloc, block, claims.as_slice(), parts) {

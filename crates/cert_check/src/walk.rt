@@ -2,15 +2,15 @@
 ghost use Rattle.std.specs.Prelude.{◌≡◌, ◌≤◌, ◌<◌, ◌+◌, ℕ, List, [], ◌∷◌, ◌++◌, length, replicate, OnOk, IfOk, IfErr};
 ghost use Rattle.std.specs.Prelude.{IfSome, IfNone, None};
 ghost use Rattle.fuzzy_meaning.specs.Blocks.{IsValid};
-ghost use Rattle.box_tree.specs.Certificates.{AreClaims, IsCert};
-ghost use Rattle.box_tree.specs.declared.cert.CertKind.TheVariants.{Named};
+ghost use Rattle.box_tree.specs.Certificates.{AreClaims};
+ghost use Rattle.box_tree.specs.Trees.{IsTree};
 ghost use Rattle.box_tree.specs.declared.cert.Node.{Node as TheNode};
 ghost use Rattle.cert_check.specs.Faults.{IsFirstOver, AreClaimed};
 
 use crate::boxes::{push, push_halves, whole_box};
 use crate::checker::CheckFault;
-use crate::pairs::raise_errors;
-use box_tree::{LeafForm, Node, open_boxes_go_on};
+use crate::leaves::raise_errors;
+use box_tree::{Node, open_boxes_go_on};
 use error_bound::{BlockTable, ByteBox};
 use fuzzy_meaning::Block;
 use std::alloc::{AllocError, Global};
@@ -120,20 +120,15 @@ impl<'a> Walk<'a> {
             Node::Split(input, cut) => {
                 push_halves(&mut self.boxes, bytes, *input, *cut, self.line)
             }
-            Node::Leaf(form) => match form {
-                LeafForm::Pairs(pairs) => raise_errors(
-                    &mut self.errors,
-                    self.block,
-                    &self.table,
-                    bytes,
-                    pairs.as_slice(),
-                    self.parts,
-                    self.line,
-                ),
-                // No certificate that names rules has these.
-                LeafForm::Tight => Ok(()),
-                LeafForm::Cells => Ok(()),
-            },
+            Node::Leaf(form) => raise_errors(
+                &mut self.errors,
+                self.block,
+                &self.table,
+                bytes,
+                form,
+                self.parts,
+                self.line,
+            ),
         }
     }
 
@@ -141,9 +136,9 @@ impl<'a> Walk<'a> {
     pub(crate) fn finish(self) -> Result<Vec<u32>, CheckFault>
         requires { (nodes : List TheNode) × HasTaken nodes self }
         ensures accepted { (nodes : List TheNode) → HasTaken nodes self.entry
-            → IsCert Named (cert_over self.entry nodes) → IfOk result
+            → IsTree nodes → IfOk result
             (λ errors. IsAccepted self.entry.block.now self.entry.parts (cert_over self.entry nodes) errors.items) }
-        ensures fault { (nodes : List TheNode) → HasTaken nodes self.entry → IsCert Named (cert_over self.entry nodes)
+        ensures fault { (nodes : List TheNode) → HasTaken nodes self.entry → IsTree nodes
             → IfErr result (HasCheckFault self.entry.block.now self.entry.parts (cert_over self.entry nodes)) }
     {
         if let Some(fault) = self.fault {

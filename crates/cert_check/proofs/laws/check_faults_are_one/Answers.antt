@@ -3,4 +3,4 @@ use Rattle.cert_check.proofs.laws.check_faults_are_one.Goals as goal
 
 pub returns : goal.returns
 returns c = lemmas.check_faults_are_one c.leaf_faults_are_one.ensures c.faulty_leaves_fail.ensures
-    c.bounds_are_determined.ensures
+    c.claim_bounds_are_one.ensures

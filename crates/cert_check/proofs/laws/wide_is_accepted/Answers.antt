@@ -1,5 +1,5 @@
-use Rattle.cert_check.proofs.WideAccepted.{wide_accepted}
+use Rattle.cert_check.proofs.StillAccepted.{wide_accepted}
 use Rattle.cert_check.proofs.laws.wide_is_accepted.Goals as goal
 
 pub returns : goal.returns
-returns c = wide_accepted c.bounds_fall_with_parts.ensures
+returns c = wide_accepted c.claim_bounds_fall_with_parts.ensures

@@ -1,8 +1,7 @@
 use Rattle.std.proofs.Common.{sym, ◌∙◌}
 use Rattle.std.proofs.lemmas.List.{nil_from_length}
-use Rattle.box_tree.specs.declared.cert.LeafForm.TheVariants as form
-use Rattle.cert_check.proofs.TakeLemmas.{next_box, split_behind, split_fault, pairs_count, leaf_behind, pair_fault}
-use Rattle.cert_check.proofs.TakeLemmas.{none_popped, none_tight, form_is}
+use Rattle.cert_check.proofs.TakeLemmas.{next_box, split_behind, split_fault, form_is_good, leaf_behind, fault_met}
+use Rattle.cert_check.proofs.TakeLemmas.{none_popped}
 use Rattle.cert_check.proofs.walk.Walk.visit.Goals as goal
 
 pub returns-in_default-clause-behind : goal.returns-in_default-clause-behind
@@ -20,11 +19,10 @@ pub raise_errors-requires-clause-bytes : goal.raise_errors-requires-clause-bytes
 raise_errors-requires-clause-bytes c =
     next_box c.args.self.now c.in-Some.bytes c.pop.new.self c.in-Some.ensures.items c.requires.0 c.requires.2
 
-pub raise_errors-requires-clause-pairs : goal.raise_errors-requires-clause-pairs
-raise_errors-requires-clause-pairs c =
-    pairs_count c.args.self.now c.in-Some.bytes c.pop.new.self c.in-Some.ensures.items c.in-Pairs.pairs c.args.node.now
-    (form_is c.in-Leaf.is c.in-Pairs.is) c.as_slice.result.now c.as_slice.ensures.value c.requires.0
-    c.requires.2 c.requires.3
+pub raise_errors-requires-clause-form : goal.raise_errors-requires-clause-form
+raise_errors-requires-clause-form c =
+    form_is_good c.args.self.now c.in-Some.bytes c.pop.new.self c.in-Some.ensures.items c.in-Leaf.form c.args.node.now
+    c.in-Leaf.is c.requires.0 c.requires.2 c.requires.3
 
 pub returns-in-Split-clause-behind : goal.returns-in-Split-clause-behind
 returns-in-Split-clause-behind c =
@@ -37,25 +35,13 @@ returns-in-Split-clause-fault c =
     split_fault c.args.self.now c.in-Some.bytes c.pop.new.self c.in-Some.ensures.items c.in-Split.input c.in-Split.cut
     c.args.node.now c.in-Split.is c.push_halves.result c.push_halves.ensures.fault
 
-pub returns-in-Pairs-clause-behind : goal.returns-in-Pairs-clause-behind
-returns-in-Pairs-clause-behind c =
-    leaf_behind c.args.self.now c.in-Some.bytes c.pop.new.self c.in-Some.ensures.items c.in-Pairs.pairs c.args.node.now
-    (form_is c.in-Leaf.is c.in-Pairs.is) c.as_slice.result.now c.as_slice.ensures.value _
-    c.raise_errors.new.errors c.raise_errors.result c.open_boxes_go_on.ensures c.deref_mut.ensures.value
-    c.raise_errors.ensures.hold c.raise_errors.ensures.raised c.pop.ensures.capacity
+pub returns-in-Leaf-clause-behind : goal.returns-in-Leaf-clause-behind
+returns-in-Leaf-clause-behind c =
+    leaf_behind c.args.self.now c.in-Some.bytes c.pop.new.self c.in-Some.ensures.items c.in-Leaf.form c.args.node.now
+    c.in-Leaf.is _ c.raise_errors.new.errors c.raise_errors.result c.open_boxes_go_on.ensures c.deref_mut.ensures.value
+    c.raise_errors.ensures.raised c.pop.ensures.capacity
 
-pub returns-in-Pairs-clause-fault : goal.returns-in-Pairs-clause-fault
-returns-in-Pairs-clause-fault c =
-    pair_fault c.args.self.now c.in-Some.bytes c.pop.new.self c.in-Some.ensures.items c.in-Pairs.pairs c.args.node.now
-    (form_is c.in-Leaf.is c.in-Pairs.is) c.as_slice.result.now c.as_slice.ensures.value
-    c.raise_errors.result c.raise_errors.ensures.fault
-
-pub returns-in-Tight-clause-behind : goal.returns-in-Tight-clause-behind
-returns-in-Tight-clause-behind c = λ nodes behind first.
-    absurd (none_tight form.Tight c.args.self.now nodes c.args.node.now (λ is. is)
-    (form_is c.in-Leaf.is c.in-Tight.is) first)
-
-pub returns-in-Cells-clause-behind : goal.returns-in-Cells-clause-behind
-returns-in-Cells-clause-behind c = λ nodes behind first.
-    absurd (none_tight form.Cells c.args.self.now nodes c.args.node.now (λ is. is)
-    (form_is c.in-Leaf.is c.in-Cells.is) first)
+pub returns-in-Leaf-clause-fault : goal.returns-in-Leaf-clause-fault
+returns-in-Leaf-clause-fault c =
+    fault_met c.args.self.now c.in-Some.bytes c.pop.new.self c.in-Some.ensures.items c.in-Leaf.form c.args.node.now
+    c.in-Leaf.is c.raise_errors.result c.raise_errors.ensures.fault

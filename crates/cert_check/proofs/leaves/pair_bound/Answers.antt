@@ -1,5 +1,5 @@
 use Rattle.cert_check.specs.Faults.{bad_rule, fails}
-use Rattle.cert_check.proofs.pairs.pair_bound.Goals as goal
+use Rattle.cert_check.proofs.leaves.pair_bound.Goals as goal
 
 pub returns-then-not-is_pair_for-clause-fault : goal.returns-then-not-is_pair_for-clause-fault
 returns-then-not-is_pair_for-clause-fault c = bad_rule
