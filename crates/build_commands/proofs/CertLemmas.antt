@@ -15,12 +15,14 @@ use Rattle.box_tree.specs.declared.cert.Cert.{Cert}
 use Rattle.box_tree.specs.declared.cert.Node.{Node}
 use Rattle.error_bound.specs.declared.boxes.Interval.{Interval}
 use Rattle.error_bound.specs.declared.boxes.Leaf as the
+use Rattle.cell_bounds.specs.declared.claims.Claim.{Claim}
+use Rattle.cell_bounds.specs.declared.claims.Claim.TheVariants as claim
 use Rattle.cert_check.specs.declared.checker.CheckFault.{CheckFault}
 use Rattle.cert_check.specs.declared.checker.CheckFault.TheVariants as check
 use Rattle.cert_check.specs.declared.text.TextFault.{TextFault as TheRefusal}
 use Rattle.cert_check.specs.declared.text.TextFault.TheVariants as refusal
-use Rattle.cert_check.specs.Faults.{IsPairFault, bad_rule, fails, HasTreeFault, bad_cut, bad_leaf, HasCheckFault}
-use Rattle.cert_check.specs.Faults.{outputs, tree, claimed}
+use Rattle.cert_check.specs.Faults.{IsPairFault, bad_rule, fails, IsCellsFault, too_many, unsure, IsClaimFault}
+use Rattle.cert_check.specs.Faults.{HasTreeFault, bad_cut, bad_leaf, HasCheckFault, outputs, tree, claimed}
 use Rattle.cert_check.specs.Laws.{TextAnswersAreOne}
 use Rattle.cert_check.specs.TextFaults.{HasTextFault, of_text, of_cert}
 use Rattle.build_commands.specs.Certs.{AcceptedCertsHaveNoFault, HasCertFault, answer_width, cert_refusals, status_of}
@@ -34,7 +36,7 @@ refusal_of (told.Text f) = refusal.Text f
 refusal_of (told.Check f) = refusal.Check f
 
 has_refusal : (width : Width) (block : Block) (text : List ℕ) (f : CertRefusal) → HasCertFault width block text f
-    → HasTextFault block (parts width) (answer_width width) text (refusal_of f)
+    → HasTextFault block (parts width) Named (answer_width width) text (refusal_of f)
 has_refusal width block text (told.Text f) h = h
 has_refusal width block text (told.Check f) h = h
 
@@ -42,7 +44,7 @@ pub certs_apart : TextAnswersAreOne → AcceptedCertsHaveNoFault
 certs_apart answers width block text errors f valid accepts fault =
     let refused = has_refusal width block text f fault in
     let same : Ok errors ≡ Err (refusal_of f) =
-    answers block (parts width) (answer_width width) text (Ok errors) (Err (refusal_of f)) valid
+    answers block (parts width) Named (answer_width width) text (Ok errors) (Err (refusal_of f)) valid
     accepts refused in
     cc
 
@@ -63,13 +65,24 @@ pair_carries : (b : Block) (box : List Interval) (o : ℕ) (leaf : the.Leaf) (li
 pair_carries b box o leaf line _ (bad_rule none) e = cc
 pair_carries b box o leaf line _ (fails g pair h) e = cc
 
-tree_carries : (b : Block) (nodes : List Node) (f : CheckFault) → HasTreeFault b nodes f → f ≢ check.Memory
-tree_carries b nodes _ (bad_cut box i c rest r none) e = cc
-tree_carries b nodes f (bad_leaf box pairs rest g r h) e = pair_carries b _ h.output h.leaf _ f h.is e
+cells_carry : (b : Block) (h : ℕ) (box : List Interval) (o line : ℕ) (f : CheckFault)
+    → IsCellsFault b h box o line f → f ≢ check.Memory
+cells_carry b h box o line _ (too_many many) e = cc
+cells_carry b h box o line _ (unsure few on) e = cc
+
+claim_carries : (b : Block) (h : ℕ) (box : List Interval) (o line : ℕ) (c : Claim) (f : CheckFault)
+    → IsClaimFault b h box o line c f → f ≢ check.Memory
+claim_carries b h box o line (claim.Pair l) f fault e = pair_carries b box o l line f fault e
+claim_carries b h box o line claim.Tight f fault e = let is = fault.0 in cc
+claim_carries b h box o line claim.Cells f fault e = cells_carry b h box o line f fault e
+
+tree_carries : (b : Block) (h : ℕ) (nodes : List Node) (f : CheckFault) → HasTreeFault b h nodes f → f ≢ check.Memory
+tree_carries b h nodes _ (bad_cut box i c rest r none) e = cc
+tree_carries b h nodes f (bad_leaf box form rest g r p) e = claim_carries b h _ p.output _ p.claim f p.is e
 
 check_carries : (b : Block) (h : ℕ) (c : Cert) (f : CheckFault) → HasCheckFault b h c f → f ≢ check.Memory
 check_carries b h c _ (outputs differ) e = cc
-check_carries b h c f (tree g count t) e = tree_carries b c.nodes f t e
+check_carries b h c f (tree g count t) e = tree_carries b h c.nodes f t e
 check_carries b h c _ (claimed es k over count a) e = cc
 
 -- ---- the checker's answer as a status
@@ -80,27 +93,27 @@ as_errors P answer (Err s) same h = tt
 as_errors P answer (Ok es) same h = subst (λ a. IfOk a (λ fs. P fs.items)) same h
 
 as_refusal : (width : Width) (block : Block) (text : List ℕ) (r : TheRefusal)
-    → (r ≢ refusal.Memory → HasTextFault block (parts width) (answer_width width) text r)
+    → (r ≢ refusal.Memory → HasTextFault block (parts width) Named (answer_width width) text r)
     → IsRefusal (cert_refusals width block text) (status_of r)
 as_refusal width block text refusal.Memory h = tt
 as_refusal width block text (refusal.Text f) h = let is = h (λ e. let z : ⊥ = cc in z) in (text_is is, is)
   where
-    text_is : HasTextFault block (parts width) (answer_width width) text (refusal.Text f) → f ≢ cert.Memory
+    text_is : HasTextFault block (parts width) Named (answer_width width) text (refusal.Text f) → f ≢ cert.Memory
     text_is (of_text g fault) = text_carries (answer_width width) text g fault
 as_refusal width block text (refusal.Check f) h = let is = h (λ e. let z : ⊥ = cc in z) in (check_is is, is)
   where
-    check_is : HasTextFault block (parts width) (answer_width width) text (refusal.Check f) → f ≢ check.Memory
+    check_is : HasTextFault block (parts width) Named (answer_width width) text (refusal.Check f) → f ≢ check.Memory
     check_is (of_cert c g spelled fault) = check_carries block (parts width) c g fault
 
 pub as_status : (width w : Width) (block : Block) (text : List ℕ) (answer : Result (Vec ℕ) TheRefusal)
     (result : Result (Vec ℕ) Status) → w ≡ width
     → IfErr result (λ s. (r : TheRefusal) × (answer ≡ Err r) × (s ≡ status_of r))
-    → IfErr answer (λ r. r ≢ refusal.Memory → HasTextFault block (parts width) (answer_width width) text r)
+    → IfErr answer (λ r. r ≢ refusal.Memory → HasTextFault block (parts width) Named (answer_width width) text r)
     → IfErr result (IsRefusal (cert_refusals w block text))
 as_status width w block text answer (Ok es) at same h = tt
 as_status width w block text answer (Err s) at (r, is, told) h =
     subst (λ v. IsRefusal (cert_refusals v block text) s) (sym at)
     (subst (λ x. IsRefusal (cert_refusals width block text) x) (sym told)
     (as_refusal width block text r
-    (subst (λ a. IfErr a (λ q. q ≢ refusal.Memory → HasTextFault block (parts width) (answer_width width) text q)) is
+    (subst (λ a. IfErr a (λ q. q ≢ refusal.Memory → HasTextFault block (parts width) Named (answer_width width) text q)) is
     h)))

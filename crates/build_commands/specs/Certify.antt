@@ -48,16 +48,16 @@ pub record CertifyGives (certify : Certify) (text : List ℕ) (output : SeenOutp
   pub firmware : Firmware
   pub gives : GivesFirmware certify.width text block firmware
   pub cert : Cert
-  pub halving : IsHalving block (parts certify.width) certify.target cert
+  pub halving : IsHalving Named block (parts certify.width) certify.target cert
   pub within : All (λ error. error ≤ certify.target) cert.claims
   pub out : List ℕ
   pub spelled : CertText Named (answer_width certify.width) out cert
   pub output_is : output ≡ record { text = certify_lines cert.claims (leaf_count cert.nodes); file = Some (4, out) }
 
--- halving stops so, and for a cell no certificate that is accepted has a smaller error
+-- halving stops so, and for a cell no certificate that names rules and is accepted has a smaller error
 pub record StopsHalving (width : Width) (target : ℕ) (block : Block) (stop : NotReached) : Type 0 where
-  pub stops : StopsAt block (parts width) target stop
-  pub out_of_reach : SaysOutOfReach block (parts width) target stop
+  pub stops : StopsAt Named block (parts width) target stop
+  pub out_of_reach : SaysOutOfReach Named block (parts width) target stop
 
 -- why its file is refused: the text first
 abbrev pub target_refusals : Width → ℕ → Block → Refusals
@@ -79,17 +79,4 @@ CertifyMakes certify text (Err s) = Refuses (certify_refusals certify text) s
 abbrev pub HalvedBlocksDoNotStop : Type 0
 HalvedBlocksDoNotStop =
     (width : Width) (target : ℕ) (block : Block) (cert : Cert) (stop : NotReached) → IsValid block
-    → IsHalving block (parts width) target cert → StopsHalving width target block stop → ⊥
-
--- the text gives firmware with answers of this width, and halving its block ends with this certificate, within the
--- target
-pub record AcceptsTarget (certify : Certify) (text : List ℕ) (block : Block) (firmware : Firmware) (cert : Cert)
-    : Type 0 where
-  pub gives : GivesFirmware certify.width text block firmware
-  pub halving : IsHalving block (parts certify.width) certify.target cert
-  pub within : All (λ error. error ≤ certify.target) cert.claims
-  pub good : IsCert cert
-
-abbrev pub CertifyAccepts : Certify → List ℕ → Type 0
-CertifyAccepts certify text =
-    (block : Block) × (firmware : Firmware) × (cert : Cert) × AcceptsTarget certify text block firmware cert
+    → IsHalving Named block (parts width) target cert → StopsHalving width target block stop → ⊥

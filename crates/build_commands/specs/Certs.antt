@@ -6,6 +6,7 @@ use Rattle.eval_code.specs.Widths.{parts}
 use Rattle.eval_code.specs.declared.width.Width.{Width}
 use Rattle.eval_code.specs.declared.width.Width.TheVariants.{Byte, Word}
 use Rattle.box_tree.specs.declared.cert.AnswerWidth.{AnswerWidth}
+use Rattle.box_tree.specs.declared.cert.CertKind.TheVariants.{Named}
 use Rattle.box_tree.specs.declared.cert.AnswerWidth.TheVariants as answers
 use Rattle.cert_check.specs.TextFaults.{IsAcceptedText, HasTextFault}
 use Rattle.cert_check.specs.declared.text.TextFault.{TextFault as TheRefusal}
@@ -24,14 +25,14 @@ answer_width Word = answers.Word
 
 -- CERT is a certificate that is accepted for the block's answers of this width, with these errors
 abbrev pub AcceptsCert : Width → Block → List ℕ → List ℕ → Type 0
-AcceptsCert width block cert errors = IsAcceptedText block (parts width) (answer_width width) cert errors
+AcceptsCert width block cert errors = IsAcceptedText block (parts width) Named (answer_width width) cert errors
 
 -- why the block refuses it
 abbrev pub HasCertFault : Width → Block → List ℕ → CertRefusal → Type 0
 HasCertFault width block cert (told.Text f) =
-    HasTextFault block (parts width) (answer_width width) cert (refusal.Text f)
+    HasTextFault block (parts width) Named (answer_width width) cert (refusal.Text f)
 HasCertFault width block cert (told.Check f) =
-    HasTextFault block (parts width) (answer_width width) cert (refusal.Check f)
+    HasTextFault block (parts width) Named (answer_width width) cert (refusal.Check f)
 
 abbrev pub cert_refusals : Width → Block → List ℕ → Refusals
 cert_refusals width block cert (status.Cert f) = HasCertFault width block cert f

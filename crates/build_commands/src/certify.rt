@@ -73,7 +73,7 @@ impl Certify {
 pub fn halved(alloc: Global, width: Width, target: u32, block: &Block) -> Result<Cert, Status>
     requires block { IsValid block.now }
     requires target { target ≤ 1000000 }
-    ensures halving { IfOk result (IsHalving block.now (parts width) target) }
+    ensures halving { IfOk result (IsHalving Named block.now (parts width) target) }
     ensures within { IfOk result (λ cert. All (λ error. error ≤ target) cert.claims) }
     ensures cert { IfOk result (IsCert Named) }
     ensures stops { IfErr result (IsRefusal (target_refusals width target block.now)) }

@@ -1,17 +1,18 @@
 -- Boxes, their halves and their cells.
-use Rattle.std.proofs.Common.{◌≡◌, ⊎_elim, ℕ, zero, suc, ◌+◌, ◌-◌, ◌/◌, ◌<◌, ◌≤◌, List, [], ◌∷◌, length, map, get_or}
-use Rattle.std.proofs.Common.{Some, refl, sym, ap, ap₂, ◌∙◌, subst, arith, length-set}
+use Rattle.std.proofs.Common.{◌≡◌, ⊎_elim, ℕ, zero, suc, ◌+◌, ◌-◌, ◌*◌, ◌/◌, ◌<◌, ◌≤◌, List, [], ◌∷◌, length, map, get_or}
+use Rattle.std.proofs.Common.{Option, Some, refl, sym, ap, ap₂, ◌∙◌, subst, arith, length-set}
 use Rattle.std.specs.Prelude.{slice_get, All}
 use Rattle.std.proofs.lemmas.Bool.{cases_lt}
 use Rattle.fuzzy_meaning.specs.declared.block.Block.{Block}
 use Rattle.fuzzy_meaning.specs.declared.block.Input.{Input}
 use Rattle.error_bound.specs.declared.boxes.Interval.{Interval}
 use Rattle.error_bound.specs.Boxes.{IsBox, IsBoxOf, LieIn}
-use Rattle.error_bound.specs.Laws.{IsInside}
+use Rattle.cell_bounds.specs.Cells.{cell_of}
+use Rattle.cell_bounds.specs.CellBounds.{cell_count}
 use Rattle.cert_check.specs.Trees.{whole, left_of, right_of}
 use Rattle.cert_check.specs.Walks.{cuts_of}
 use Rattle.cert_check.specs.BoxLaws.{HasHalves, CutsHaveHalves}
-use Rattle.error_certifier.specs.Halving.{IsWidest, IsHalvedAt, middle_of, cell_of}
+use Rattle.error_certifier.specs.Halving.{IsWidest, IsHalvedAt, middle_of}
 
 pub same_items : {X : Type 0} (xs ys : List X) → length xs ≡ length ys
     → ((k : ℕ) → k < length xs → slice_get xs k ≡ slice_get ys k) → xs ≡ ys
@@ -120,8 +121,13 @@ length-cell : (bytes : List ℕ) → length (cell_of bytes) ≡ length bytes
 length-cell [] = refl
 length-cell (n ∷ ns) = ap suc (length-cell ns)
 
-pub cell_count : (b : Block) (bytes : List ℕ) → IsBoxOf b (cell_of bytes) → length bytes ≡ length b.inputs
-cell_count b bytes is = sym (length-cell bytes) ∙ is.count
+pub bytes_count : (b : Block) (bytes : List ℕ) → IsBoxOf b (cell_of bytes) → length bytes ≡ length b.inputs
+bytes_count b bytes is = sym (length-cell bytes) ∙ is.count
+
+-- a cell is one
+pub one_cell : (bytes : List ℕ) → cell_count (cell_of bytes) ≡ 1
+one_cell [] = refl
+one_cell (n ∷ ns) = ap (λ m. (n - n + 1) * m) (one_cell ns) ∙ omega arith
 
 byte_of_cell : (bytes : List ℕ) (k d : ℕ) → k < length bytes
     → slice_get (cell_of bytes) k ≡ Some (record { from = get_or bytes k d; to = get_or bytes k d })
@@ -132,18 +138,6 @@ byte_of_cell (n ∷ ns) (suc k) d h = byte_of_cell ns k d (omega arith)
 pub cell_small : (bytes : List ℕ) → IsBox (cell_of bytes) → All (λ n. n ≤ 255) bytes
 cell_small bytes is k d h =
     (is.some k (record { from = get_or bytes k d; to = get_or bytes k d }) (byte_of_cell bytes k d h)).1
-
-pub cell_inside : (bytes : List ℕ) (box : List Interval) → LieIn box bytes → IsInside (cell_of bytes) box
-cell_inside bytes box lie = record {
-  count = length-cell bytes ∙ lie.count;
-  within = λ k u v eu ev.
-      let at = cell_at bytes k u eu in
-      let w = lie.within k v u.from ev at.1 in
-      let w0 = w.0 in
-      let w1 = w.1 in
-      let same = at.0 in
-      (w0, omega arith);
-}
 
 -- ---- the widest of the first intervals
 

@@ -10,7 +10,7 @@ use Rattle.fuzzy_meaning.specs.declared.block.Block.{Block}
 use Rattle.fuzzy_meaning.specs.declared.block.Output.{Output}
 use Rattle.fuzzy_meaning.specs.Blocks.{IsValid, output_at}
 use Rattle.error_bound.specs.declared.boxes.Interval.{Interval}
-use Rattle.box_tree.specs.declared.cert.CertKind.TheVariants.{Named}
+use Rattle.box_tree.specs.declared.cert.CertKind.{CertKind}
 use Rattle.box_tree.specs.declared.cert.Node.{Node}
 use Rattle.box_tree.specs.declared.cert.Node.TheVariants.{Split, Leaf}
 use Rattle.box_tree.specs.declared.cert.Cert.{Cert}
@@ -30,20 +30,20 @@ leaf_count-append [] ys = omega arith
 leaf_count-append (Split i c ∷ xs) ys = leaf_count-append xs ys
 leaf_count-append (Leaf form ∷ xs) ys = let r = leaf_count-append xs ys in omega arith
 
-halved_open : OpenBoxesGoOn → (b : Block) (h target : ℕ) (box : List Interval) (n m : ℕ) (nodes : List Node)
-    → Halves b h target box n nodes m → (i : ℕ) → open_from (suc i) nodes ≡ Some i
-halved_open on b h target _ _ _ _ (halved_leaf box n pairs w few) i = refl
-halved_open on b h target _ _ _ _ (halved_split box k c n m r out up left right a at l t) i =
-    on (suc (suc i)) (suc i) left right (halved_open on b h target _ n m left l (suc i))
-    ∙ halved_open on b h target _ m r right t i
+halved_open : OpenBoxesGoOn → (kind : CertKind) (b : Block) (h target : ℕ) (box : List Interval) (n m : ℕ) (nodes : List Node)
+    → Halves kind b h target box n nodes m → (i : ℕ) → open_from (suc i) nodes ≡ Some i
+halved_open on kind b h target _ _ _ _ (halved_leaf box n form w few) i = refl
+halved_open on kind b h target _ _ _ _ (halved_split box k c n m r left right cut l t) i =
+    on (suc (suc i)) (suc i) left right (halved_open on kind b h target _ n m left l (suc i))
+    ∙ halved_open on kind b h target _ m r right t i
 
-halved_leaves : (b : Block) (h target : ℕ) (box : List Interval) (n m : ℕ) (nodes : List Node)
-    → Halves b h target box n nodes m
+halved_leaves : (kind : CertKind) (b : Block) (h target : ℕ) (box : List Interval) (n m : ℕ) (nodes : List Node)
+    → Halves kind b h target box n nodes m
     → (leaf_count nodes + n ≡ m) × (m ≤ 4096)
-halved_leaves b h target _ _ _ _ (halved_leaf box n pairs w few) = (omega arith, omega arith)
-halved_leaves b h target _ _ _ _ (halved_split box k c n m r out up left right a at l t) =
-    let p = halved_leaves b h target _ n m left l in
-    let q = halved_leaves b h target _ m r right t in
+halved_leaves kind b h target _ _ _ _ (halved_leaf box n form w few) = (omega arith, omega arith)
+halved_leaves kind b h target _ _ _ _ (halved_split box k c n m r left right cut l t) =
+    let p = halved_leaves kind b h target _ n m left l in
+    let q = halved_leaves kind b h target _ m r right t in
     let p0 = p.0 in
     let q0 = q.0 in
     let sum = leaf_count-append left right in
@@ -51,7 +51,7 @@ halved_leaves b h target _ _ _ _ (halved_split box k c n m r out up left right a
 
 some_part : (box : List Interval) (nodes rest : List Node) (parts : List Part) → IsTree box nodes parts rest
     → 0 < length parts
-some_part _ _ _ _ (leaf box pairs rest) = omega arith
+some_part _ _ _ _ (leaf box form rest) = omega arith
 some_part _ _ _ _ (split box i c nodes mid rest left right from cut l r) =
     let some = some_part _ nodes mid left l in
     omega (arith, length-append left right)
@@ -85,9 +85,9 @@ greatest_of b h target o x parts old e some zero_before r = record {
       r.some;
 }
 
-module _ (b : Block) (h target : ℕ) (old new : Tree) (cert : Cert) (valid : IsValid b) (no_nodes : old.nodes.items ≡ [])
+module _ (kind : CertKind) (b : Block) (h target : ℕ) (old new : Tree) (cert : Cert) (valid : IsValid b) (no_nodes : old.nodes.items ≡ [])
     (zeros : old.errors.items ≡ replicate (length b.outputs) 0)
-    (no_leaves : old.leaves ≡ 0) (g : Grows b h target (whole b) old new) (claims : cert.claims ≡ new.errors.items)
+    (no_leaves : old.leaves ≡ 0) (g : Grows kind b h target (whole b) old new) (claims : cert.claims ≡ new.errors.items)
     (nodes : cert.nodes ≡ new.nodes.items) where
   count : length cert.claims ≡ length b.outputs
   count = ap length claims ∙ g.count ∙ ap length zeros ∙ length-replicate (length b.outputs) 0
@@ -98,9 +98,9 @@ module _ (b : Block) (h target : ℕ) (old new : Tree) (cert : Cert) (valid : Is
   zero_at : (k : ℕ) → slice_index old.errors.items k ≡ 0
   zero_at k = ap (λ (xs : List ℕ). slice_index xs k) zeros ∙ no_error (length b.outputs) k
 
-  halved : Halves b h target (whole b) 0 cert.nodes new.leaves
-  halved = subst (λ (xs : List Node). Halves b h target (whole b) 0 xs new.leaves) all_added
-      (subst (λ n. Halves b h target (whole b) n g.added new.leaves) no_leaves g.halves)
+  halved : Halves kind b h target (whole b) 0 cert.nodes new.leaves
+  halved = subst (λ (xs : List Node). Halves kind b h target (whole b) 0 xs new.leaves) all_added
+      (subst (λ n. Halves kind b h target (whole b) n g.added new.leaves) no_leaves g.halves)
 
   tree : IsTree (whole b) cert.nodes g.parts []
   tree = subst (λ (xs : List Node). IsTree (whole b) xs g.parts []) (append-nil g.added ∙ all_added) (g.tree [])
@@ -130,7 +130,7 @@ module _ (b : Block) (h target : ℕ) (old new : Tree) (cert : Cert) (valid : Is
     claimed = λ k e c p q. one_value cert.claims k e c p q;
   }
 
-  pub is_halving : IsHalving b h target cert
+  pub is_halving : IsHalving kind b h target cert
   is_halving = record { leaves = new.leaves; nodes = halved; claims = accepted }
 
   pub claims_within : All (λ e. e ≤ target) cert.claims
@@ -144,9 +144,9 @@ module _ (b : Block) (h target : ℕ) (old new : Tree) (cert : Cert) (valid : Is
       let most = r.within (omega arith) in
       omega arith
 
-  pub is_cert : OpenBoxesGoOn → target ≤ 1000000 → IsCert Named cert
+  pub is_cert : OpenBoxesGoOn → target ≤ 1000000 → IsCert kind cert
   is_cert on small =
-      let leaves = halved_leaves b h target (whole b) 0 new.leaves cert.nodes halved in
+      let leaves = halved_leaves kind b h target (whole b) 0 new.leaves cert.nodes halved in
       let leaves0 = leaves.0 in
       let leaves1 = leaves.1 in
       let c = count in
@@ -158,8 +158,8 @@ module _ (b : Block) (h target : ℕ) (old new : Tree) (cert : Cert) (valid : Is
           few = omega arith;
           millionths = λ k d l. (let w = claims_within k d l in omega arith);
         };
-        nodes = subst (λ n. All (IsNode Named n) cert.nodes) (sym count)
-            (subst (λ (xs : List Node). All (IsNode Named (length b.outputs)) xs) all_added g.good);
-        tree = halved_open on b h target (whole b) 0 new.leaves cert.nodes halved 0;
+        nodes = subst (λ n. All (IsNode kind n) cert.nodes) (sym count)
+            (subst (λ (xs : List Node). All (IsNode kind (length b.outputs)) xs) all_added g.good);
+        tree = halved_open on kind b h target (whole b) 0 new.leaves cert.nodes halved 0;
         few_leaves = omega arith;
       }

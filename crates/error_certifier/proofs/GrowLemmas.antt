@@ -5,28 +5,26 @@ use Rattle.std.specs.Prelude.{◌⊎◌, slice_get, slice_index, All}
 use Rattle.std.specs.List.{Any}
 use Rattle.std.specs.Global.{Vec}
 use Rattle.std.proofs.lemmas.Bool.{cases_lt}
-use Rattle.std.proofs.lemmas.Option.{slice_get_within, get_or_from_slice_get}
+use Rattle.std.proofs.lemmas.Option.{slice_get_within}
 use Rattle.std.proofs.lemmas.List.Elements.{All-append}
-use Rattle.fz_list.proofs.Algebra.{All-cons, All-slice_get}
+use Rattle.fz_list.proofs.Algebra.{All-cons}
 use Rattle.fuzzy_meaning.specs.declared.block.Block.{Block}
 use Rattle.fuzzy_meaning.specs.declared.block.Output.{Output}
 use Rattle.error_bound.specs.declared.boxes.Interval.{Interval}
-use Rattle.error_bound.specs.declared.boxes.Leaf as the
 use Rattle.error_bound.specs.Boxes.{IsBoxOf}
-use Rattle.error_bound.specs.BestLeaves.{BestLeavesHold}
-use Rattle.box_tree.specs.declared.cert.CertKind.TheVariants.{Named}
-use Rattle.box_tree.specs.declared.cert.LeafForm.TheVariants.{Pairs}
+use Rattle.box_tree.specs.declared.cert.CertKind.{CertKind}
 use Rattle.box_tree.specs.declared.cert.Node.{Node}
 use Rattle.box_tree.specs.declared.cert.Node.TheVariants.{Split, Leaf}
-use Rattle.box_tree.specs.Certificates.{IsPair, IsNode}
-use Rattle.cert_check.specs.Trees.{Part, IsTree, leaf, split, left_of, right_of, leaves_of, part_of, IsCut}
+use Rattle.box_tree.specs.Certificates.{IsNode}
+use Rattle.cert_check.specs.Trees.{Part, IsTree, leaf, split, left_of, right_of, part_of, IsCut}
 use Rattle.cert_check.specs.Acceptance.{HasBound}
+use Rattle.cert_check.specs.Walks.{AreRaised}
 use Rattle.cert_check.specs.BoxLaws.{CutsHaveHalves}
-use Rattle.error_certifier.specs.declared.leaves.BestLeaves.{BestLeaves}
+use Rattle.error_certifier.specs.declared.leaves.FoundLeaf.{FoundLeaf}
 use Rattle.error_certifier.specs.declared.halving.Tree.{Tree}
-use Rattle.error_certifier.specs.Halving.{AreWithinTarget, IsFirstAbove, IsHalvedAt, Halves, leaf as halved_leaf}
+use Rattle.error_certifier.specs.Halving.{IsHalvedAt, IsToCut, Halves, leaf as halved_leaf}
 use Rattle.error_certifier.specs.Halving.{split as halved_split}
-use Rattle.error_certifier.specs.Trees.{IsBestPair, AreBestLeaves, AreRaised, RisesTo, Grows}
+use Rattle.error_certifier.specs.Trees.{IsFoundLeaf, RisesTo, Grows}
 use Rattle.error_certifier.proofs.BoxLemmas.{halves_of}
 
 -- ---- of some in a list
@@ -74,86 +72,49 @@ rises_on b h target o x ps qs old mid new p q =
           q.some;
     }
 
-named : (pairs : List (ℕ × ℕ)) (k : ℕ) (p : ℕ × ℕ) → slice_get pairs k ≡ Some p
-    → slice_get (leaves_of pairs) k ≡ Some (record { rule = p.0; k = p.1 })
-named [] k p e = absurd (let z : ⊥ = cc in z)
-named (q ∷ qs) zero p e = let s : q ≡ p = cc in ap (λ (r : ℕ × ℕ). Some (record { rule = r.0; k = r.1 })) s
-named (q ∷ qs) (suc k) p e = named qs k p e
-
-length-leaves : (pairs : List (ℕ × ℕ)) → length (leaves_of pairs) ≡ length pairs
-length-leaves [] = refl
-length-leaves (p ∷ ps) = ap suc (length-leaves ps)
-
-number_at : (xs : List ℕ) (k n : ℕ) → slice_get xs k ≡ Some n → slice_index xs k ≡ n
-number_at xs k n e = get_or_from_slice_get xs k n 0 e
-
-module _ (hold : BestLeavesHold) (b : Block) (h target : ℕ) (box : List Interval) (leaves : BestLeaves)
-    (best : AreBestLeaves b h target box leaves) where
-  pub within_target : AreWithinTarget b h target box (leaves_of leaves.pairs.items)
-  within_target = record {
-    count = length-leaves leaves.pairs.items ∙ best.count;
-    each = λ k x e.
-        let p = best.each k x e in
-        (record { rule = p.pair.0; k = p.pair.1 }, p.bound, named leaves.pairs.items k p.pair p.pair_is, p.within);
-  }
-
-  has_bound : (k : ℕ) (x : Output) (p : IsBestPair b h target box k x leaves)
-      → HasBound b (k + 1) x h (part_of box leaves.pairs.items) p.bound
-  has_bound k x p =
-      let leaf : the.Leaf = record { rule = p.pair.0; k = p.pair.1 } in
-      let small = (All-slice_get IsPair leaves.pairs.items k p.pair best.good p.pair_is).part in
-      let place : k ≡ k + 1 - 1 = omega arith in
-      record {
-        leaf = leaf;
-        pair_is = subst (λ j. slice_get (leaves_of leaves.pairs.items) j ≡ Some leaf) place
-            (named leaves.pairs.items k p.pair p.pair_is);
-        holds = (hold b box (k + 1) leaf small p.within.best).0;
-        bound_is = p.within.bound;
-      }
-
-  raised_one : (k : ℕ) (x : Output) (old new : ℕ) (p : IsBestPair b h target box k x leaves) → new ≡ max old p.bound
-      → RisesTo b h target (k + 1) x (part_of box leaves.pairs.items ∷ []) old new
-  raised_one k x old new p e =
-      let part = part_of box leaves.pairs.items in
-      let has = has_bound k x p in
-      let to = p.within.within in
+module _ (kind : CertKind) (b : Block) (h target : ℕ) (box : List Interval) (found : FoundLeaf)
+    (leaf_is : IsFoundLeaf kind b h target box found) where
+  raised_one : (k : ℕ) (x : Output) (old new : ℕ) → slice_get b.outputs k ≡ Some x
+      → new ≡ max old (slice_index found.bounds k)
+      → RisesTo b h target (k + 1) x (part_of box found.form ∷ []) old new
+  raised_one k x old new ex e =
+      let part = part_of box found.form in
+      let n = slice_index found.bounds k in
+      let has : HasBound b (k + 1) x h part n = leaf_is.bounds k x ex in
+      let to = leaf_is.within k (slice_get_within b.outputs k x ex) in
       record {
         rises = omega arith;
         within = λ l. omega arith;
-        each = All-one (λ r. (n : ℕ) × HasBound b (k + 1) x h r n × (n ≤ new)) part (p.bound, has, omega arith);
+        each = All-one (λ r. (m : ℕ) × HasBound b (k + 1) x h r m × (m ≤ new)) part (n, has, omega arith);
         some = ⊎_elim
-            (λ (l : old < p.bound).
-            let same : p.bound ≡ new = omega arith in
+            (λ (l : old < n).
+            let same : n ≡ new = omega arith in
             let z : (new ≡ old) ⊎ Any (λ r. HasBound b (k + 1) x h r new) (part ∷ []) = inr
             (Any-one (λ r. HasBound b (k + 1) x h r new) part (subst (λ m. HasBound b (k + 1) x h part m) same has)) in
             z)
-            (λ (l : p.bound ≤ old). inl (omega arith))
-            (cases_lt old p.bound);
+            (λ (l : n ≤ old). inl (omega arith))
+            (cases_lt old n);
       }
 
   -- by a leaf
   pub grows_leaf : (old new : Tree) → length old.errors.items ≡ length b.outputs
-      → new.nodes.items ≡ old.nodes.items ++ Leaf (Pairs leaves.pairs) ∷ []
-      → AreRaised leaves.bounds.items old.errors.items new.errors.items → new.leaves ≡ old.leaves + 1
+      → new.nodes.items ≡ old.nodes.items ++ Leaf found.form ∷ []
+      → AreRaised found.bounds old.errors.items new.errors.items → new.leaves ≡ old.leaves + 1
       → old.leaves < 4096
-      → Grows b h target box old new
+      → Grows kind b h target box old new
   grows_leaf old new count nodes raised more few = record {
-    added = Leaf (Pairs leaves.pairs) ∷ [];
-    parts = part_of box leaves.pairs.items ∷ [];
+    added = Leaf found.form ∷ [];
+    parts = part_of box found.form ∷ [];
     nodes = nodes;
-    halves = subst (λ m. Halves b h target box old.leaves (Leaf (Pairs leaves.pairs) ∷ []) m) (sym more)
-        (halved_leaf box old.leaves leaves.pairs within_target few);
-    tree = λ rest. leaf box leaves.pairs rest;
-    good = All-one (IsNode Named (length b.outputs)) (Leaf (Pairs leaves.pairs)) (best.count, best.good);
+    halves = subst (λ m. Halves kind b h target box old.leaves (Leaf found.form ∷ []) m) (sym more)
+        (halved_leaf box old.leaves found.form leaf_is.settled few);
+    tree = λ rest. leaf box found.form rest;
+    good = All-one (IsNode kind (length b.outputs)) (Leaf found.form) leaf_is.good;
     count = raised.count;
     errors = λ k x e.
-        let p = best.each k x e in
         let inside : k < length old.errors.items =
         (let w = slice_get_within b.outputs k x e in omega (arith, w, count)) in
-        let bound_is = number_at leaves.bounds.items k p.bound p.bound_is in
-        let is : slice_index new.errors.items k ≡ max (slice_index old.errors.items k) p.bound =
-        raised.each k inside ∙ ap (λ n. max (slice_index old.errors.items k) n) bound_is in
-        raised_one k x (slice_index old.errors.items k) (slice_index new.errors.items k) p is;
+        raised_one k x (slice_index old.errors.items k) (slice_index new.errors.items k) e (raised.each k inside);
   }
 
 -- ---- by a cut and its halves
@@ -178,37 +139,38 @@ split_tree box k c ls rs rest ps qs cut l r =
     (subst (λ j. IsTree (left_of j c box) ((ls ++ rs) ++ rest) ps (rs ++ rest)) place left)
     (subst (λ j. IsTree (right_of j c box) (rs ++ rest) qs rest) place r)
 
-split_node : (b : Block) (box : List Interval) (k c : ℕ) → length b.inputs ≤ 8 → IsBoxOf b box
+split_node : (kind : CertKind) (b : Block) (box : List Interval) (k c : ℕ) → length b.inputs ≤ 8 → IsBoxOf b box
     → (at : IsHalvedAt box k c)
-    → c ≤ 255 → IsNode Named (length b.outputs) (Split (k + 1) c)
-split_node b box k c few is at small =
+    → c ≤ 255 → IsNode kind (length b.outputs) (Split (k + 1) c)
+split_node kind b box k c few is at small =
     let inside = slice_get_within box k at.interval at.widest.is_at in
     let count = is.count in
     record { some = omega arith; few = omega arith; byte = small }
 
 pub grows_split : CutsHaveHalves
-    → (b : Block) (h target : ℕ) (box : List Interval) (k c out above : ℕ) (old pushed mid new : Tree)
+    → (kind : CertKind) (b : Block) (h target : ℕ) (box : List Interval) (k c : ℕ) (old pushed mid new : Tree)
     → length b.inputs ≤ 8
     → IsBoxOf b box
-    → IsFirstAbove b h target box out above → IsHalvedAt box k c → c ≤ 255
+    → IsToCut kind b h target box k c → c ≤ 255
     → pushed.nodes.items ≡ old.nodes.items ++ Split (k + 1) c ∷ [] → pushed.errors ≡ old.errors
     → pushed.leaves ≡ old.leaves
-    → Grows b h target (left_of k c box) pushed mid → Grows b h target (right_of k c box) mid new
-    → Grows b h target box old new
-grows_split cuts b h target box k c out above old pushed mid new few is first at small nodes errors leaves l r =
+    → Grows kind b h target (left_of k c box) pushed mid → Grows kind b h target (right_of k c box) mid new
+    → Grows kind b h target box old new
+grows_split cuts kind b h target box k c old pushed mid new few is cuttable small nodes errors leaves l r =
+    let at = cuttable.halved in
     let cut = (halves_of cuts box k c at).cut in
     record {
       added = Split (k + 1) c ∷ (l.added ++ r.added);
       parts = l.parts ++ r.parts;
       nodes = split_nodes old.nodes.items pushed.nodes.items mid.nodes.items new.nodes.items l.added r.added
           (Split (k + 1) c) nodes l.nodes r.nodes;
-      halves = halved_split box k c old.leaves mid.leaves new.leaves out above l.added r.added first at
-          (subst (λ n. Halves b h target (left_of k c box) n l.added mid.leaves) leaves l.halves) r.halves;
+      halves = halved_split box k c old.leaves mid.leaves new.leaves l.added r.added cuttable
+          (subst (λ n. Halves kind b h target (left_of k c box) n l.added mid.leaves) leaves l.halves) r.halves;
       tree = λ rest. split_tree box k c l.added r.added rest l.parts r.parts cut (l.tree (r.added ++ rest))
           (r.tree rest);
-      good = All-cons (IsNode Named (length b.outputs)) (Split (k + 1) c) (l.added ++ r.added)
-          (split_node b box k c few is at small)
-          (All-append (IsNode Named (length b.outputs)) l.added r.added l.good r.good);
+      good = All-cons (IsNode kind (length b.outputs)) (Split (k + 1) c) (l.added ++ r.added)
+          (split_node kind b box k c few is at small)
+          (All-append (IsNode kind (length b.outputs)) l.added r.added l.good r.good);
       count = r.count ∙ l.count ∙ ap (λ (v : Vec ℕ). length v.items) errors;
       errors = λ j x e. rises_on b h target (j + 1) x l.parts r.parts (slice_index old.errors.items j)
           (slice_index mid.errors.items j) (slice_index new.errors.items j)

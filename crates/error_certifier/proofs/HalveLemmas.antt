@@ -1,31 +1,46 @@
 -- One box is halved.
-use Rattle.std.proofs.Common.{◌≡◌, ◌≢◌, ℕ, ◌+◌, ◌<◌, ◌≤◌, List, [], ◌∷◌, ◌++◌, length, map, replicate, Result, Ok, Err}
-use Rattle.std.proofs.Common.{refl, sym, ap, ◌∙◌, subst, arith}
+use Rattle.std.proofs.Common.{◌≡◌, ◌≢◌, ⊎_elim, ℕ, ◌+◌, ◌-◌, ◌<◌, ◌≤◌, List, [], ◌∷◌, ◌++◌, length, map, replicate, Result, Ok, Err}
+use Rattle.std.proofs.Common.{Some, refl, sym, ap, ◌∙◌, subst, arith}
 use Rattle.std.proofs.lemmas.List.{length-replicate}
-use Rattle.std.proofs.lemmas.Option.{slice_get_within}
+use Rattle.std.proofs.lemmas.Option.{slice_get_within, get_or_from_slice_get}
 use Rattle.std.specs.Global.{Vec}
-use Rattle.std.specs.Prelude.{OnOk, IfErr}
+use Rattle.std.specs.Prelude.{OnOk, IfErr, IfSome, slice_get, slice_index}
+use Rattle.std.specs.Option.{option_map}
+use Rattle.std.proofs.lemmas.Bool.{cases_lt}
+use Rattle.fz_list.proofs.Algebra.{some_at, All-slice_get}
 use Rattle.arrayvec.specs.ArrayVec.{ArrayVec}
 use Rattle.fuzzy_meaning.specs.declared.block.Block.{Block}
-use Rattle.fuzzy_meaning.specs.Blocks.{IsValid}
+use Rattle.fuzzy_meaning.specs.declared.block.Output.{Output}
+use Rattle.fuzzy_meaning.specs.Blocks.{IsValid, output_at}
+use Rattle.error_bound.specs.Bounds.{IsBound}
 use Rattle.error_bound.specs.declared.boxes.Interval.{Interval}
-use Rattle.error_bound.specs.BestLeaves.{BestLeavesHold}
+use Rattle.error_bound.specs.Tight.{IsTightBound}
 use Rattle.error_bound.specs.Boxes.{IsBoxOf}
-use Rattle.box_tree.specs.declared.cert.LeafForm.TheVariants.{Pairs}
+use Rattle.box_tree.specs.declared.cert.CertKind.{CertKind}
+use Rattle.box_tree.specs.declared.cert.CertKind.TheVariants.{Named, Tight}
+use Rattle.box_tree.specs.declared.cert.LeafForm.TheVariants as form
+use Rattle.box_tree.specs.Certificates.{IsPair}
+use Rattle.cell_bounds.specs.declared.claims.Claim.TheVariants as claim
+use Rattle.cell_bounds.specs.Cells.{cell_of}
+use Rattle.cell_bounds.specs.CellBounds.{IsCellsBound, IsFirstCellAbove, cell_count}
+use Rattle.cell_bounds.specs.Walks.{AreAtMost}
 use Rattle.box_tree.specs.declared.cert.Node.{Node}
 use Rattle.box_tree.specs.declared.cert.Node.TheVariants.{Split, Leaf}
 use Rattle.cert_check.specs.BoxLaws.{CutsHaveHalves}
-use Rattle.cert_check.specs.Trees.{whole, left_of, right_of, leaves_of}
-use Rattle.cert_check.specs.Walks.{cuts_of}
+use Rattle.cert_check.specs.Trees.{whole, left_of, right_of, part_of}
+use Rattle.cert_check.specs.Acceptance.{HasBound}
+use Rattle.cert_check.specs.Walks.{cuts_of, AreRaised}
 use Rattle.error_certifier.specs.declared.certifier.NotReached.{NotReached}
 use Rattle.error_certifier.specs.declared.certifier.NotReached.TheVariants.{Cell, LeafLimit, Memory}
 use Rattle.error_certifier.specs.declared.halving.Tree.{Tree}
-use Rattle.error_certifier.specs.declared.leaves.BestLeaves.{BestLeaves}
-use Rattle.error_certifier.specs.Halving.{IsFirstAbove, IsWidest, IsHalvedAt, middle_of, cell_of, Stops, cell, limit}
-use Rattle.error_certifier.specs.Halving.{in_left, in_right}
-use Rattle.error_certifier.specs.Trees.{IsTreeFor, AreBestLeaves, AreRaised, Grows}
+use Rattle.error_certifier.specs.declared.leaves.FoundLeaf.{FoundLeaf}
+use Rattle.error_certifier.specs.Halving.{IsFirstAbove, IsAbove, IsWidest, IsHalvedAt, middle_of, IsToCut, Stops, cell}
+use Rattle.error_certifier.specs.Halving.{limit, in_left, in_right, AreWithinTarget}
+use Rattle.error_certifier.specs.Trees.{IsTreeFor, AreTightBounds, IsFoundLeaf, IsSplit, Grows}
 use Rattle.error_certifier.proofs.BoxLemmas.{whole_box, left_box, right_box, halves_fewer, middle_inside, cell_is}
-use Rattle.error_certifier.proofs.GrowLemmas.{within_target, grows_leaf, grows_split}
+use Rattle.error_certifier.proofs.BoxLemmas.{one_cell}
+use Rattle.error_certifier.proofs.GrowLemmas.{grows_leaf, grows_split}
+use Rattle.error_certifier.proofs.LeafLemmas.{at_place}
 
 on_ok : {T E P Q : Type 0} (r : Result T E) → OnOk r P → (P → Q) → OnOk r Q
 on_ok (Ok x) p f = f p
@@ -44,7 +59,7 @@ if_err P Q (Err e) p f = f e p
 
 -- of the first output above the target
 pub IsFirstAbove-place : {b : Block} {h target : ℕ} {box : List Interval} {k n : ℕ} → IsValid b
-    → IsFirstAbove b h target box k n → k < 4
+    → IsFirstAbove Named b h target box k n → k < 4
 IsFirstAbove-place {b} {h} {target} {box} {k} valid first =
     omega (arith, slice_get_within b.outputs k first.output first.output_is, valid.few_outputs)
 
@@ -54,50 +69,118 @@ pub IsWidest-place : {b : Block} {box : List Interval} {k : ℕ} {v : Interval} 
 IsWidest-place {b} {box} {k} {v} valid is widest =
     omega (arith, slice_get_within box k v widest.is_at, is.count, valid.few_inputs)
 
--- ---- a box whose best leaves are all within the target
+-- ---- a box that is a leaf
 
-module _ {b : Block} {h target : ℕ} {box : List Interval} {leaves : BestLeaves} (hold : BestLeavesHold)
-    (best : AreBestLeaves b h target box leaves) where
+module _ {kind : CertKind} {b : Block} {h target : ℕ} {box : List Interval} {found : FoundLeaf}
+    (leaf_is : IsFoundLeaf kind b h target box found) where
   pub Grows-leaf : {T : Type 0} (old new : Tree) (r : Result T NotReached) → IsTreeFor b old
-      → OnOk r (new.nodes.items ≡ old.nodes.items ++ Leaf (Pairs leaves.pairs) ∷ [])
-      → OnOk r (AreRaised leaves.bounds.items old.errors.items new.errors.items)
-      → OnOk r (new.leaves ≡ old.leaves + 1) → OnOk r (old.leaves < 4096) → OnOk r (Grows b h target box old new)
+      → OnOk r (new.nodes.items ≡ old.nodes.items ++ Leaf found.form ∷ [])
+      → OnOk r (AreRaised found.bounds old.errors.items new.errors.items)
+      → OnOk r (new.leaves ≡ old.leaves + 1) → OnOk r (old.leaves < 4096)
+      → OnOk r (Grows kind b h target box old new)
   Grows-leaf old new r tree nodes errors more few =
-      on_ok_four r nodes errors more few (grows_leaf hold b h target box leaves best old new tree.errors)
+      on_ok_four r nodes errors more few (grows_leaf kind b h target box found leaf_is old new tree.errors)
 
   pub Stops-leaf : {T : Type 0} (r : Result T NotReached) (n : ℕ)
       → IfErr r (λ stop. stop ≢ Memory → (stop ≡ LeafLimit) × (4096 ≤ n))
-      → IfErr r (λ stop. stop ≢ Memory → Stops b h target box n stop)
+      → IfErr r (λ stop. stop ≢ Memory → Stops kind b h target box n stop)
   Stops-leaf r n full = if_err (λ stop. stop ≢ Memory → (stop ≡ LeafLimit) × (4096 ≤ n))
-      (λ stop. stop ≢ Memory → Stops b h target box n stop) r full
-      (λ stop f found.
-      let p = f found in
-      subst (λ (s : NotReached). Stops b h target box n s) (sym p.0)
-      (limit box n (leaves_of leaves.pairs.items) (within_target hold b h target box leaves best) p.1))
+      (λ stop. stop ≢ Memory → Stops kind b h target box n stop) r full
+      (λ stop f at.
+      let p = f at in
+      subst (λ (s : NotReached). Stops kind b h target box n s) (sym p.0)
+      (limit box n found.form leaf_is.settled p.1))
 
--- ---- a cell
+-- a tight one
+pub tight_found : (b : Block) (h target : ℕ) (box : List Interval) (bounds : List ℕ)
+    → AreTightBounds b h target box bounds
+    → IsFoundLeaf Tight b h target box (record { form = form.Tight; bounds = bounds })
+tight_found b h target box bounds are = record {
+  settled = λ k x e. let at = are k x e in (slice_index bounds k, at.0, at.1);
+  good = tt;
+  bounds = λ k x e. record { claim = claim.Tight; claim_is = refl; allowed = tt; bound_is = (are k x e).0 };
+  within = λ k l. let x = some_at b.outputs k l in (are k x.0 x.1).1;
+}
 
-pub Stops-cell : {b : Block} {h target : ℕ} {box : List Interval} {k : ℕ} {v : Interval} {output above : ℕ}
+-- one of cells
+pub cells_found : (b : Block) (h target : ℕ) (box : List Interval) (bounds : List ℕ) → IsValid b
+    → IsAbove Tight b h target box → cell_count box ≤ 64
+    → ((k : ℕ) → k < length b.outputs → IfSome (output_at b (k + 1))
+    (λ x. IsCellsBound b box (k + 1) x h (slice_index bounds k)))
+    → AreAtMost target bounds → IsFoundLeaf Tight b h target box (record { form = form.Cells; bounds = bounds })
+cells_found b h target box bounds valid above few are small = record {
+  settled = (above, few, λ k x e. (slice_index bounds k, at k x e, within k (slice_get_within b.outputs k x e)));
+  good = tt;
+  bounds = λ k x e. record { claim = claim.Cells; claim_is = refl; allowed = few; bound_is = at k x e };
+  within = within;
+}
+  where
+    at : (k : ℕ) (x : Output) → slice_get b.outputs k ≡ Some x → IsCellsBound b box (k + 1) x h (slice_index bounds k)
+    at k x e = at_place b k x (λ y. IsCellsBound b box (k + 1) y h (slice_index bounds k)) e
+        (are k (slice_get_within b.outputs k x e))
+
+    within : (k : ℕ) → k < length b.outputs → slice_index bounds k ≤ target
+    within k l = let outputs = valid.few_outputs in small k (omega (arith, l, outputs))
+
+-- ---- one that is none
+
+pub named_stuck : {b : Block} {h target : ℕ} {box : List Interval} {k : ℕ} {v : Interval} {output above : ℕ}
     → IsBoxOf b box → IsWidest box k v → v.from ≡ v.to → (n : ℕ) (bytes : ArrayVec ℕ)
-    → bytes.items ≡ map (λ (u : Interval). u.from) box → IsFirstAbove b h target box output above
-    → Stops b h target box n (Cell bytes (output + 1) above)
-Stops-cell {b} {h} {target} {box} {k} {v} {output} {above} is widest single n bytes low first =
-    cell box n bytes output above (cell_is box k v is.intervals widest single ∙ ap cell_of (sym low)) first
+    → bytes.items ≡ map (λ (u : Interval). u.from) box → IsFirstAbove Named b h target box output above
+    → Stops Named b h target box n (Cell bytes (output + 1) above)
+named_stuck {b} {h} {target} {box} {k} {v} {output} {above} is widest single n bytes low first =
+    cell box n bytes (output + 1) above
+    (cell_is box k v is.intervals widest single ∙ ap cell_of (sym low), output, refl, first)
+
+pub named_split : {b : Block} {h target : ℕ} {box : List Interval} {k : ℕ} {v : Interval} {output above : ℕ}
+    → IsBoxOf b box → IsWidest box k v → (v.from ≡ v.to → ⊥) → IsFirstAbove Named b h target box output above
+    → IsSplit Named b h target box
+named_split {b} {h} {target} {box} {k} {v} {output} {above} is widest apart first = record {
+  above = (output, above, first);
+  large = tt;
+  wide = λ j u other.
+      let order = (is.intervals.some k v widest.is_at).0 in
+      let most = other.most k v widest.is_at in
+      let last = (is.intervals.some j u other.is_at).0 in
+      omega (arith, apart);
+}
+
+pub cells_stuck : (b : Block) (h target : ℕ) (box : List Interval) → IsAbove Tight b h target box
+    → cell_count box ≤ 64 → (bytes : ArrayVec ℕ) (o n : ℕ)
+    → IsFirstCellAbove b h target 1 (length b.outputs) box bytes.items o n
+    → (m : ℕ) → Stops Tight b h target box m (Cell bytes o n)
+cells_stuck b h target box above few bytes o n first m = cell box m bytes o n (above, few, first)
+
+pub cells_split : (b : Block) (h target : ℕ) (box : List Interval) → IsBoxOf b box → IsAbove Tight b h target box
+    → (cell_count box ≤ 64 → ⊥) → IsSplit Tight b h target box
+cells_split b h target box is above many = record {
+  above = above;
+  large = omega (arith, many);
+  wide = λ k v widest. ⊎_elim
+      (λ (l : v.from < v.to). l)
+      (λ (l : v.to ≤ v.from).
+      let order = (is.intervals.some k v widest.is_at).0 in
+      let cell = cell_is box k v is.intervals widest (omega arith) in
+      let one = ap cell_count cell ∙ one_cell (map (λ (u : Interval). u.from) box) in
+      absurd (many (omega (arith, one))))
+      (cases_lt v.from v.to);
+}
 
 -- ---- a box that is cut in the middle of its widest interval
 
-module _ {b : Block} {box : List Interval} {k c : ℕ} {v : Interval} (is : IsBoxOf b box) (widest : IsWidest box k v)
-    (apart : v.from ≡ v.to → ⊥) (middle : c ≡ middle_of v) where
+module _ {kind : CertKind} {b : Block} {h target : ℕ} {box : List Interval} {k c : ℕ} {v : Interval}
+    (is : IsBoxOf b box) (widest : IsWidest box k v) (large : IsSplit kind b h target box) (middle : c ≡ middle_of v)
+    where
   halved_at : IsHalvedAt box k c
-  halved_at =
-      let order = (is.intervals.some k v widest.is_at).0 in
-      record { interval = v; widest = widest; more = omega (arith, apart); middle = middle }
+  halved_at = record { interval = v; widest = widest; more = large.wide k v widest; middle = middle }
+
+  cuttable : IsToCut kind b h target box k c
+  cuttable = record { above = large.above; large = large.large; halved = halved_at }
 
   cut_small : c ≤ 255
   cut_small =
-      let order = (is.intervals.some k v widest.is_at).0 in
       let small = (is.intervals.some k v widest.is_at).1 in
-      let inside = (middle_inside v.from v.to (omega (arith, apart))).1 in
+      let inside = (middle_inside v.from v.to (large.wide k v widest)).1 in
       omega arith
 
   -- its halves are boxes that can be cut fewer times
@@ -112,37 +195,38 @@ module _ {b : Block} {box : List Interval} {k c : ℕ} {v : Interval} (is : IsBo
       subst (λ (x : List Interval). (cuts_of x < cuts_of box) × IsBoxOf b x) (sym right_is)
       ((halves_fewer box k c halved_at).1, right_box cuts b box k c halved_at is)
 
-  module _ {h target output above : ℕ} (first : IsFirstAbove b h target box output above) {left : List Interval}
-      (left_is : left ≡ left_of k c box) where
+  module _ {left : List Interval} (left_is : left ≡ left_of k c box) where
     -- halving stops where that of the left half does
-    pub Stops-left : {n : ℕ} {stop : NotReached} → Stops b h target left n stop → Stops b h target box n stop
-    Stops-left {n} {stop} stops = in_left box k c n output above stop first halved_at
-        (subst (λ (x : List Interval). Stops b h target x n stop) left_is stops)
+    pub Stops-left : {n : ℕ} {stop : NotReached} → Stops kind b h target left n stop
+        → Stops kind b h target box n stop
+    Stops-left {n} {stop} stops = in_left box k c n stop cuttable
+        (subst (λ (x : List Interval). Stops kind b h target x n stop) left_is stops)
 
     -- where the left half's tree has grown, it is up to the right half
     module _ {right : List Interval} (right_is : right ≡ right_of k c box) (old mid : Tree) (nodes : Vec Node)
-        (grows : Grows b h target left (record { nodes = nodes; errors = old.errors; leaves = old.leaves }) mid) where
+        (grows : Grows kind b h target left (record { nodes = nodes; errors = old.errors; leaves = old.leaves }) mid)
+        where
       abbrev pushed : Tree
       pushed = record { nodes = nodes; errors = old.errors; leaves = old.leaves }
 
-      grows_left : Grows b h target (left_of k c box) pushed mid
-      grows_left = subst (λ (x : List Interval). Grows b h target x pushed mid) left_is grows
+      grows_left : Grows kind b h target (left_of k c box) pushed mid
+      grows_left = subst (λ (x : List Interval). Grows kind b h target x pushed mid) left_is grows
 
       pub Grows-halves : {T : Type 0} (new : Tree) (r : Result T NotReached) → CutsHaveHalves → IsValid b
-          → nodes.items ≡ old.nodes.items ++ Split (k + 1) c ∷ [] → OnOk r (Grows b h target right mid new)
-          → OnOk r (Grows b h target box old new)
+          → nodes.items ≡ old.nodes.items ++ Split (k + 1) c ∷ [] → OnOk r (Grows kind b h target right mid new)
+          → OnOk r (Grows kind b h target box old new)
       Grows-halves new r cuts valid nodes_are grown = on_ok r grown
-          (λ g. grows_split cuts b h target box k c output above old pushed mid new valid.few_inputs is first halved_at
-          cut_small nodes_are refl refl grows_left
-          (subst (λ (x : List Interval). Grows b h target x mid new) right_is g))
+          (λ g. grows_split cuts kind b h target box k c old pushed mid new valid.few_inputs is cuttable cut_small
+          nodes_are refl refl grows_left
+          (subst (λ (x : List Interval). Grows kind b h target x mid new) right_is g))
 
       pub Stops-right : {T : Type 0} (r : Result T NotReached)
-          → IfErr r (λ stop. stop ≢ Memory → Stops b h target right mid.leaves stop)
-          → IfErr r (λ stop. stop ≢ Memory → Stops b h target box old.leaves stop)
-      Stops-right r stops = if_err (λ stop. stop ≢ Memory → Stops b h target right mid.leaves stop)
-          (λ stop. stop ≢ Memory → Stops b h target box old.leaves stop) r stops
-          (λ stop f found. in_right box k c old.leaves mid.leaves output above grows_left.added stop first halved_at
-          grows_left.halves (subst (λ (x : List Interval). Stops b h target x mid.leaves stop) right_is (f found)))
+          → IfErr r (λ stop. stop ≢ Memory → Stops kind b h target right mid.leaves stop)
+          → IfErr r (λ stop. stop ≢ Memory → Stops kind b h target box old.leaves stop)
+      Stops-right r stops = if_err (λ stop. stop ≢ Memory → Stops kind b h target right mid.leaves stop)
+          (λ stop. stop ≢ Memory → Stops kind b h target box old.leaves stop) r stops
+          (λ stop f found. in_right box k c old.leaves mid.leaves grows_left.added stop cuttable grows_left.halves
+          (subst (λ (x : List Interval). Stops kind b h target x mid.leaves stop) right_is (f found)))
 
 -- ---- all bytes
 
@@ -150,13 +234,14 @@ pub box_for : (a b : Block) (box : List Interval) → a ≡ b → box ≡ whole 
 box_for a b box e f =
     subst (λ (y : Block). IsBoxOf y box) (sym e) (subst (λ (x : List Interval). IsBoxOf b x) (sym f) (whole_box b))
 
-pub grows_for : (a b : Block) (g h s t : ℕ) (box : List Interval) (old new : Tree) → a ≡ b → g ≡ h → s ≡ t
-    → box ≡ whole b
-    → Grows a g s box old new → Grows b h t (whole b) old new
-grows_for a b g h s t box old new ea eg es ebox grows =
-    subst (λ (x : List Interval). Grows b h t x old new) ebox
-    (subst (λ (y : Block). Grows y h t box old new) ea
-    (subst (λ n. Grows a n t box old new) eg (subst (λ n. Grows a g n box old new) es grows)))
+pub grows_for : (j k : CertKind) (a b : Block) (g h s t : ℕ) (box : List Interval) (old new : Tree) → j ≡ k → a ≡ b
+    → g ≡ h → s ≡ t → box ≡ whole b
+    → Grows j a g s box old new → Grows k b h t (whole b) old new
+grows_for j k a b g h s t box old new ek ea eg es ebox grows =
+    subst (λ (i : CertKind). Grows i b h t (whole b) old new) ek
+    (subst (λ (x : List Interval). Grows j b h t x old new) ebox
+    (subst (λ (y : Block). Grows j y h t box old new) ea
+    (subst (λ n. Grows j a n t box old new) eg (subst (λ n. Grows j a g n box old new) es grows))))
 
 pub tree_for : (a b : Block) (tree : Tree) (n : ℕ) → a ≡ b → tree.errors.items ≡ replicate n 0 → n ≡ length b.outputs
     → tree.leaves ≡ 0 → IsTreeFor a tree

@@ -7,18 +7,38 @@ use Rattle.fuzzy_meaning.specs.declared.block.Output.{Output}
 use Rattle.error_bound.specs.declared.boxes.Interval.{Interval}
 use Rattle.error_bound.specs.declared.boxes.Leaf as the
 use Rattle.error_bound.specs.Best.{IsBest}
-use Rattle.error_bound.specs.BestLeaves.{IsBestBound}
 use Rattle.error_bound.specs.Bounds.{IsBound}
-use Rattle.box_tree.specs.declared.cert.LeafForm.TheVariants.{Pairs}
+use Rattle.error_bound.specs.Tight.{IsTightBound}
+use Rattle.box_tree.specs.declared.cert.CertKind.{CertKind}
+use Rattle.box_tree.specs.declared.cert.CertKind.TheVariants as kind
+use Rattle.box_tree.specs.declared.cert.LeafForm.{LeafForm}
+use Rattle.box_tree.specs.declared.cert.LeafForm.TheVariants.{Pairs, Tight, Cells}
 use Rattle.box_tree.specs.declared.cert.Node.{Node}
 use Rattle.box_tree.specs.declared.cert.Node.TheVariants.{Split, Leaf}
 use Rattle.box_tree.specs.declared.cert.Cert.{Cert}
-use Rattle.cert_check.specs.Trees.{whole, left_of, right_of, leaves_of}
+use Rattle.cell_bounds.specs.Cells.{cell_of}
+use Rattle.cell_bounds.specs.CellBounds.{IsCellsBound, IsFirstCellAbove, cell_count}
+use Rattle.cell_bounds.specs.Claims.{IsBoxCount}
+use Rattle.cert_check.specs.Trees.{whole, left_of, right_of}
 use Rattle.cert_check.specs.Acceptance.{IsAccepted}
 use Rattle.error_certifier.specs.declared.certifier.NotReached.{NotReached}
 use Rattle.error_certifier.specs.declared.certifier.NotReached.TheVariants.{Cell, LeafLimit}
 
 -- ---- a box and the target, in millionths of each output's range, for answers in h parts to a byte
+
+-- of the outputs the one at place k is the first whose best leaf, not one of cells, counts n on the box, above the
+-- target
+pub record IsFirstAbove (kind : CertKind) (b : Block) (h target : ℕ) (box : List Interval) (k n : ℕ) : Type 0 where
+  pub output : Output
+  pub output_is : slice_get b.outputs k ≡ Some output
+  pub bound : IsBoxCount kind b box (k + 1) output h n
+  pub above : target < n
+  pub before : (j : ℕ) (x : Output) → j < k → slice_get b.outputs j ≡ Some x
+      → (m : ℕ) × IsBoxCount kind b box (j + 1) x h m × (m ≤ target)
+
+-- some output is
+abbrev pub IsAbove : CertKind → Block → ℕ → ℕ → List Interval → Type 0
+IsAbove kind b h target box = (k : ℕ) × (n : ℕ) × IsFirstAbove kind b h target box k n
 
 -- the leaf is the best one for output o, and its Bound n is at most the target
 pub record IsWithinTarget (b : Block) (h target : ℕ) (box : List Interval) (o : ℕ) (x : Output) (leaf : the.Leaf)
@@ -28,19 +48,40 @@ pub record IsWithinTarget (b : Block) (h target : ℕ) (box : List Interval) (o 
   pub within : n ≤ target
 
 -- these are the best leaves of the box, one for each output, all within the target
-pub record AreWithinTarget (b : Block) (h target : ℕ) (box : List Interval) (leaves : List the.Leaf) : Type 0 where
-  pub count : length leaves ≡ length b.outputs
+pub record AreWithinTarget (b : Block) (h target : ℕ) (box : List Interval) (pairs : List (ℕ × ℕ)) : Type 0 where
+  pub count : length pairs ≡ length b.outputs
   pub each : (k : ℕ) (x : Output) → slice_get b.outputs k ≡ Some x
-      → (leaf : the.Leaf) × (n : ℕ) × (slice_get leaves k ≡ Some leaf) × IsWithinTarget b h target box (k + 1) x leaf n
+      → (p : ℕ × ℕ) × (n : ℕ) × (slice_get pairs k ≡ Some p)
+      × IsWithinTarget b h target box (k + 1) x (record { rule = p.0; k = p.1 }) n
 
--- of the outputs the one at place k is the first whose best Bound n on the box is above the target
-pub record IsFirstAbove (b : Block) (h target : ℕ) (box : List Interval) (k n : ℕ) : Type 0 where
-  pub output : Output
-  pub output_is : slice_get b.outputs k ≡ Some output
-  pub bound : IsBestBound b box (k + 1) output h n
-  pub above : target < n
-  pub before : (j : ℕ) (x : Output) → j < k → slice_get b.outputs j ≡ Some x
-      → (m : ℕ) × IsBestBound b box (j + 1) x h m × (m ≤ target)
+-- the tight Bounds of the box are
+abbrev pub IsTightWithin : Block → ℕ → ℕ → List Interval → Type 0
+IsTightWithin b h target box =
+    (k : ℕ) (x : Output) → slice_get b.outputs k ≡ Some x
+    → (n : ℕ) × IsTightBound b box (k + 1) x h n × (n ≤ target)
+
+-- the Bounds of all its cells are
+abbrev pub AreCellsWithin : Block → ℕ → ℕ → List Interval → Type 0
+AreCellsWithin b h target box =
+    (k : ℕ) (x : Output) → slice_get b.outputs k ≡ Some x
+    → (n : ℕ) × IsCellsBound b box (k + 1) x h n × (n ≤ target)
+
+-- the box is a leaf with this line: a tight one is one of cells only where it has few, and its tight Bounds are too
+-- high
+abbrev pub IsSettled : CertKind → Block → ℕ → ℕ → List Interval → LeafForm → Type 0
+IsSettled kind.Named b h target box (Pairs pairs) = AreWithinTarget b h target box pairs.items
+IsSettled kind.Tight b h target box Tight = IsTightWithin b h target box
+IsSettled kind.Tight b h target box Cells =
+    IsAbove kind.Tight b h target box × (cell_count box ≤ 64) × AreCellsWithin b h target box
+IsSettled kind b h target box form = ⊥
+
+-- no leaf of the box serves: this cell is the first, and o the first output there, whose count n is above the target
+abbrev pub IsStuck : CertKind → Block → ℕ → ℕ → List Interval → List ℕ → ℕ → ℕ → Type 0
+IsStuck kind.Named b h target box bytes o n =
+    (box ≡ cell_of bytes) × (k : ℕ) × (o ≡ k + 1) × IsFirstAbove kind.Named b h target box k n
+IsStuck kind.Tight b h target box bytes o n =
+    IsAbove kind.Tight b h target box × (cell_count box ≤ 64)
+    × IsFirstCellAbove b h target 1 (length b.outputs) box bytes o n
 
 -- ---- cuts
 
@@ -61,41 +102,45 @@ pub record IsHalvedAt (box : List Interval) (k c : ℕ) : Type 0 where
   pub more : interval.from < interval.to
   pub middle : c ≡ middle_of interval
 
--- a box of just these bytes
-abbrev pub cell_of : List ℕ → List Interval
-cell_of bytes = map (λ n. record { from = n; to = n }) bytes
+-- the box is to be cut, in the interval at place k, at c: a tight one only where it has many cells
+abbrev pub IsLarge : CertKind → List Interval → Type 0
+IsLarge kind.Named box = Unit {0}
+IsLarge kind.Tight box = 64 < cell_count box
+
+pub record IsToCut (kind : CertKind) (b : Block) (h target : ℕ) (box : List Interval) (k c : ℕ) : Type 0 where
+  pub above : IsAbove kind b h target box
+  pub large : IsLarge kind box
+  pub halved : IsHalvedAt box k c
 
 -- ---- halving
 
 -- where n leaves stand, the box comes to these nodes, and then m leaves stand
-pub data Halves (b : Block) (h target : ℕ) : List Interval → ℕ → List Node → ℕ → Type 0 where
-  leaf : (box : List Interval) (n : ℕ) (pairs : ArrayVec (ℕ × ℕ))
-      → AreWithinTarget b h target box (leaves_of pairs.items) → n < 4096
-      → Halves b h target box n (Leaf (Pairs pairs) ∷ []) (n + 1)
-  split : (box : List Interval) (k c n m r : ℕ) (output above : ℕ) (left right : List Node)
-      → IsFirstAbove b h target box output above → IsHalvedAt box k c
-      → Halves b h target (left_of k c box) n left m → Halves b h target (right_of k c box) m right r
-      → Halves b h target box n (Split (k + 1) c ∷ (left ++ right)) r
+pub data Halves (kind : CertKind) (b : Block) (h target : ℕ) : List Interval → ℕ → List Node → ℕ → Type 0 where
+  leaf : (box : List Interval) (n : ℕ) (form : LeafForm) → IsSettled kind b h target box form → n < 4096
+      → Halves kind b h target box n (Leaf form ∷ []) (n + 1)
+  split : (box : List Interval) (k c n m r : ℕ) (left right : List Node) → IsToCut kind b h target box k c
+      → Halves kind b h target (left_of k c box) n left m → Halves kind b h target (right_of k c box) m right r
+      → Halves kind b h target box n (Split (k + 1) c ∷ (left ++ right)) r
 
 -- or halving it stops: at the first cell that is above the target, or where another leaf would be too many
-pub data Stops (b : Block) (h target : ℕ) : List Interval → ℕ → NotReached → Type 0 where
-  cell : (box : List Interval) (n : ℕ) (bytes : ArrayVec ℕ) (output above : ℕ) → box ≡ cell_of bytes.items
-      → IsFirstAbove b h target box output above → Stops b h target box n (Cell bytes (output + 1) above)
-  limit : (box : List Interval) (n : ℕ) (leaves : List the.Leaf) → AreWithinTarget b h target box leaves → 4096 ≤ n
-      → Stops b h target box n LeafLimit
-  in_left : (box : List Interval) (k c n : ℕ) (output above : ℕ) (stop : NotReached)
-      → IsFirstAbove b h target box output above → IsHalvedAt box k c
-      → Stops b h target (left_of k c box) n stop → Stops b h target box n stop
-  in_right : (box : List Interval) (k c n m : ℕ) (output above : ℕ) (left : List Node) (stop : NotReached)
-      → IsFirstAbove b h target box output above → IsHalvedAt box k c
-      → Halves b h target (left_of k c box) n left m → Stops b h target (right_of k c box) m stop
-      → Stops b h target box n stop
+pub data Stops (kind : CertKind) (b : Block) (h target : ℕ) : List Interval → ℕ → NotReached → Type 0 where
+  cell : (box : List Interval) (n : ℕ) (bytes : ArrayVec ℕ) (output above : ℕ)
+      → IsStuck kind b h target box bytes.items output above
+      → Stops kind b h target box n (Cell bytes output above)
+  limit : (box : List Interval) (n : ℕ) (form : LeafForm) → IsSettled kind b h target box form → 4096 ≤ n
+      → Stops kind b h target box n LeafLimit
+  in_left : (box : List Interval) (k c n : ℕ) (stop : NotReached) → IsToCut kind b h target box k c
+      → Stops kind b h target (left_of k c box) n stop → Stops kind b h target box n stop
+  in_right : (box : List Interval) (k c n m : ℕ) (left : List Node) (stop : NotReached)
+      → IsToCut kind b h target box k c
+      → Halves kind b h target (left_of k c box) n left m → Stops kind b h target (right_of k c box) m stop
+      → Stops kind b h target box n stop
 
 -- the certificate of the halving of all bytes: its claims are its errors
-pub record IsHalving (b : Block) (h target : ℕ) (cert : Cert) : Type 0 where
+pub record IsHalving (kind : CertKind) (b : Block) (h target : ℕ) (cert : Cert) : Type 0 where
   pub leaves : ℕ
-  pub nodes : Halves b h target (whole b) 0 cert.nodes leaves
+  pub nodes : Halves kind b h target (whole b) 0 cert.nodes leaves
   pub claims : IsAccepted b h cert cert.claims
 
-abbrev pub StopsAt : Block → ℕ → ℕ → NotReached → Type 0
-StopsAt b h target stop = Stops b h target (whole b) 0 stop
+abbrev pub StopsAt : CertKind → Block → ℕ → ℕ → NotReached → Type 0
+StopsAt kind b h target stop = Stops kind b h target (whole b) 0 stop

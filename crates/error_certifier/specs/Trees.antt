@@ -6,31 +6,53 @@ use Rattle.fuzzy_meaning.specs.declared.block.Output.{Output}
 use Rattle.fuzzy_meaning.specs.Blocks.{IsValid}
 use Rattle.error_bound.specs.declared.boxes.Interval.{Interval}
 use Rattle.error_bound.specs.Reaches.{IsBlockTable}
-use Rattle.box_tree.specs.declared.cert.CertKind.TheVariants.{Named}
+use Rattle.error_bound.specs.Tight.{IsTightBound}
+use Rattle.box_tree.specs.declared.cert.CertKind.{CertKind}
 use Rattle.box_tree.specs.declared.cert.Node.{Node}
-use Rattle.box_tree.specs.Certificates.{IsPair, IsNode}
-use Rattle.cert_check.specs.Trees.{Part, IsTree}
+use Rattle.box_tree.specs.Certificates.{IsPair, IsLeaf, IsNode}
+use Rattle.cert_check.specs.Trees.{Part, part_of, IsTree}
 use Rattle.cert_check.specs.Acceptance.{HasBound}
-use Rattle.error_certifier.specs.declared.leaves.BestLeaves.{BestLeaves}
+use Rattle.cert_check.specs.Walks.{AreBounds}
+use Rattle.error_certifier.specs.declared.leaves.FoundLeaf.{FoundLeaf}
 use Rattle.error_certifier.specs.declared.halving.Task.{Task}
 use Rattle.error_certifier.specs.declared.halving.Tree.{Tree}
-use Rattle.error_certifier.specs.Halving.{IsWithinTarget, Halves}
+use Rattle.error_certifier.specs.Halving.{IsWithinTarget, IsSettled, IsAbove, IsLarge, IsWidest, Halves}
 
 -- the pair and the Bound at a place are those of the output's best leaf, which is within the target
-pub record IsBestPair (b : Block) (h target : ℕ) (box : List Interval) (k : ℕ) (x : Output) (leaves : BestLeaves)
-    : Type 0 where
+pub record IsBestPair (b : Block) (h target : ℕ) (box : List Interval) (k : ℕ) (x : Output) (pairs : List (ℕ × ℕ))
+    (bounds : List ℕ) : Type 0 where
   pub pair : ℕ × ℕ
   pub bound : ℕ
-  pub pair_is : slice_get leaves.pairs.items k ≡ Some pair
-  pub bound_is : slice_get leaves.bounds.items k ≡ Some bound
+  pub pair_is : slice_get pairs k ≡ Some pair
+  pub bound_is : slice_get bounds k ≡ Some bound
   pub within : IsWithinTarget b h target box (k + 1) x (record { rule = pair.0; k = pair.1 }) bound
 
 -- of each output
-pub record AreBestLeaves (b : Block) (h target : ℕ) (box : List Interval) (leaves : BestLeaves) : Type 0 where
-  pub count : length leaves.pairs.items ≡ length b.outputs
-  pub bounds_count : length leaves.bounds.items ≡ length b.outputs
-  pub each : (k : ℕ) (x : Output) → slice_get b.outputs k ≡ Some x → IsBestPair b h target box k x leaves
-  pub good : All IsPair leaves.pairs.items
+pub record AreBestPairs (b : Block) (h target : ℕ) (box : List Interval) (pairs : List (ℕ × ℕ)) (bounds : List ℕ)
+    : Type 0 where
+  pub count : length pairs ≡ length b.outputs
+  pub each : (k : ℕ) (x : Output) → slice_get b.outputs k ≡ Some x → IsBestPair b h target box k x pairs bounds
+  pub good : All IsPair pairs
+
+-- these are the tight Bounds of the box, each at its output's place, all within the target
+abbrev pub AreTightBounds : Block → ℕ → ℕ → List Interval → List ℕ → Type 0
+AreTightBounds b h target box bounds =
+    (k : ℕ) (x : Output) → slice_get b.outputs k ≡ Some x
+    → IsTightBound b box (k + 1) x h (slice_index bounds k) × (slice_index bounds k ≤ target)
+
+-- the box is a leaf of this form, with these Bounds, all within the target
+pub record IsFoundLeaf (kind : CertKind) (b : Block) (h target : ℕ) (box : List Interval) (found : FoundLeaf) : Type 0
+  where
+    pub settled : IsSettled kind b h target box found.form
+    pub good : IsLeaf kind (length b.outputs) found.form
+    pub bounds : AreBounds b h (part_of box found.form) found.bounds
+    pub within : (k : ℕ) → k < length b.outputs → slice_index found.bounds k ≤ target
+
+-- or it is to be cut somewhere
+pub record IsSplit (kind : CertKind) (b : Block) (h target : ℕ) (box : List Interval) : Type 0 where
+  pub above : IsAbove kind b h target box
+  pub large : IsLarge kind box
+  pub wide : (k : ℕ) (v : Interval) → IsWidest box k v → v.from < v.to
 
 pub record IsTask (task : Task) : Type 0 where
   pub valid : IsValid task.block.now
@@ -44,11 +66,6 @@ pub record IsTreeFor (b : Block) (tree : Tree) : Type 0 where
   pub errors : length tree.errors.items ≡ length b.outputs
   pub leaves : tree.leaves ≤ 4096
 
--- each error rises to the Bound at its place
-pub record AreRaised (bounds old new : List ℕ) : Type 0 where
-  pub count : length new ≡ length old
-  pub each : (k : ℕ) → k < length old → slice_index new k ≡ max (slice_index old k) (slice_index bounds k)
-
 -- an output's error rises to the greatest Bound of the leaves, all within the target
 pub record RisesTo (b : Block) (h target : ℕ) (o : ℕ) (x : Output) (parts : List Part) (old new : ℕ) : Type 0 where
   pub rises : old ≤ new
@@ -57,13 +74,13 @@ pub record RisesTo (b : Block) (h target : ℕ) (o : ℕ) (x : Output) (parts : 
   pub some : (new ≡ old) ⊎ Any (λ p. HasBound b o x h p new) parts
 
 -- the tree grows by a box's nodes, which are a tree over it
-pub record Grows (b : Block) (h target : ℕ) (box : List Interval) (old new : Tree) : Type 0 where
+pub record Grows (kind : CertKind) (b : Block) (h target : ℕ) (box : List Interval) (old new : Tree) : Type 0 where
   pub added : List Node
   pub parts : List Part
   pub nodes : new.nodes.items ≡ old.nodes.items ++ added
-  pub halves : Halves b h target box old.leaves added new.leaves
+  pub halves : Halves kind b h target box old.leaves added new.leaves
   pub tree : (rest : List Node) → IsTree box (added ++ rest) parts rest
-  pub good : All (IsNode Named (length b.outputs)) added
+  pub good : All (IsNode kind (length b.outputs)) added
   pub count : length new.errors.items ≡ length old.errors.items
   pub errors : (k : ℕ) (x : Output) → slice_get b.outputs k ≡ Some x
       → RisesTo b h target (k + 1) x parts (slice_index old.errors.items k) (slice_index new.errors.items k)

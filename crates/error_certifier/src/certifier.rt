@@ -1,16 +1,17 @@
 //! Certificates for a target, or why it is not reached.
 ghost use Rattle.std.specs.Prelude.{◌≡◌, ◌≢◌, ◌≤◌, All, IfOk, IfErr};
 ghost use Rattle.fuzzy_meaning.specs.Blocks.{IsValid};
-ghost use Rattle.box_tree.specs.declared.cert.CertKind.TheVariants.{Named};
+ghost use Rattle.box_tree.specs.declared.cert.CertKind.TheVariants.{Named, Tight};
 ghost use Rattle.box_tree.specs.Certificates.{IsCert};
+ghost use Rattle.cert_check.specs.Acceptance.{parts_of as the_parts_of};
 ghost use Rattle.error_certifier.specs.Halving.{IsHalving, StopsAt};
 ghost use Rattle.error_certifier.specs.Laws.{SaysOutOfReach};
 
 use crate::halving::{Task, Tree};
 use crate::laws::cells_are_out_of_reach;
 use arrayvec::ArrayVec;
-use box_tree::{Cert, open_boxes_go_on};
-use cert_check::whole_box;
+use box_tree::{AnswerWidth, Cert, CertKind, open_boxes_go_on};
+use cert_check::{parts_of, whole_box};
 use fuzzy_meaning::Block;
 use std::alloc::Global;
 use thiserror::Error;
@@ -20,6 +21,7 @@ use thiserror::Error;
 pub enum NotReached {
     /// The bytes of a cell, one for each input, the first output, from 1, that is above the target
     /// there, and the Bound of its best leaf in millionths of its range, or 1000001 where it has none.
+    /// With tight leaves it is the first such cell of a box of at most 64.
     #[error("on a cell output {1} has a Bound of {2}")]
     Cell(ArrayVec<u8, 8>, u8, u32),
     /// More than 4096 leaves would be needed. Another certificate may have fewer.
@@ -35,43 +37,95 @@ pub enum NotReached {
 pub fn certify(alloc: Global, block: &Block, target: u32) -> Result<Cert, NotReached>
     requires block { IsValid block.now }
     requires target { target ≤ 1000000 }
-    ensures halved { IfOk result (IsHalving block.now 1 target) }
+    ensures halved { IfOk result (IsHalving Named block.now 1 target) }
     ensures within { IfOk result (λ cert. All (λ error. error ≤ target) cert.claims) }
     ensures cert { IfOk result (IsCert Named) }
-    ensures stops { IfErr result (λ stop. stop ≢ NotReached.Memory → StopsAt block.now 1 target stop) }
-    ensures out_of_reach { IfErr result (SaysOutOfReach block.now 1 target) }
+    ensures stops { IfErr result (λ stop. stop ≢ NotReached.Memory → StopsAt Named block.now 1 target stop) }
+    ensures out_of_reach { IfErr result (SaysOutOfReach Named block.now 1 target) }
 {
-    certified(alloc, block, target, 1)
+    certify_for(alloc, CertKind::Named, AnswerWidth::Byte, block, target)
 }
 
 /// The same for answers of 16 bits.
 pub fn certify16(alloc: Global, block: &Block, target: u32) -> Result<Cert, NotReached>
     requires block { IsValid block.now }
     requires target { target ≤ 1000000 }
-    ensures halved { IfOk result (IsHalving block.now 256 target) }
+    ensures halved { IfOk result (IsHalving Named block.now 256 target) }
     ensures within { IfOk result (λ cert. All (λ error. error ≤ target) cert.claims) }
     ensures cert { IfOk result (IsCert Named) }
-    ensures stops { IfErr result (λ stop. stop ≢ NotReached.Memory → StopsAt block.now 256 target stop) }
-    ensures out_of_reach { IfErr result (SaysOutOfReach block.now 256 target) }
+    ensures stops { IfErr result (λ stop. stop ≢ NotReached.Memory → StopsAt Named block.now 256 target stop) }
+    ensures out_of_reach { IfErr result (SaysOutOfReach Named block.now 256 target) }
 {
-    certified(alloc, block, target, 256)
+    certify_for(alloc, CertKind::Named, AnswerWidth::Word, block, target)
+}
+
+/// The tight certificate that halving gives for a target, for answers that are bytes.
+pub fn certify_tight(alloc: Global, block: &Block, target: u32) -> Result<Cert, NotReached>
+    requires block { IsValid block.now }
+    requires target { target ≤ 1000000 }
+    ensures halved { IfOk result (IsHalving Tight block.now 1 target) }
+    ensures within { IfOk result (λ cert. All (λ error. error ≤ target) cert.claims) }
+    ensures cert { IfOk result (IsCert Tight) }
+    ensures stops { IfErr result (λ stop. stop ≢ NotReached.Memory → StopsAt Tight block.now 1 target stop) }
+    ensures out_of_reach { IfErr result (SaysOutOfReach Tight block.now 1 target) }
+{
+    certify_for(alloc, CertKind::Tight, AnswerWidth::Byte, block, target)
+}
+
+/// The same for answers of 16 bits.
+pub fn certify_tight16(alloc: Global, block: &Block, target: u32) -> Result<Cert, NotReached>
+    requires block { IsValid block.now }
+    requires target { target ≤ 1000000 }
+    ensures halved { IfOk result (IsHalving Tight block.now 256 target) }
+    ensures within { IfOk result (λ cert. All (λ error. error ≤ target) cert.claims) }
+    ensures cert { IfOk result (IsCert Tight) }
+    ensures stops { IfErr result (λ stop. stop ≢ NotReached.Memory → StopsAt Tight block.now 256 target stop) }
+    ensures out_of_reach { IfErr result (SaysOutOfReach Tight block.now 256 target) }
+{
+    certify_for(alloc, CertKind::Tight, AnswerWidth::Word, block, target)
+}
+
+/// The certificate of this kind, for answers of this width.
+pub fn certify_for(
+    alloc: Global,
+    kind: CertKind,
+    answers: AnswerWidth,
+    block: &Block,
+    target: u32,
+) -> Result<Cert, NotReached>
+    requires block { IsValid block.now }
+    requires target { target ≤ 1000000 }
+    ensures halved { IfOk result (IsHalving kind block.now (the_parts_of answers) target) }
+    ensures within { IfOk result (λ cert. All (λ error. error ≤ target) cert.claims) }
+    ensures cert { IfOk result (IsCert kind) }
+    ensures stops { IfErr result
+        (λ stop. stop ≢ NotReached.Memory → StopsAt kind block.now (the_parts_of answers) target stop) }
+    ensures out_of_reach { IfErr result (SaysOutOfReach kind block.now (the_parts_of answers) target) }
+{
+    certified(alloc, kind, block, target, parts_of(answers))
 }
 
 /// The same for answers in so many parts to a byte.
-fn certified(alloc: Global, block: &Block, target: u32, parts: u16) -> Result<Cert, NotReached>
+fn certified(
+    alloc: Global,
+    kind: CertKind,
+    block: &Block,
+    target: u32,
+    parts: u16,
+) -> Result<Cert, NotReached>
     requires block { IsValid block.now }
     requires target { target ≤ 1000000 }
     requires parts_from { 1 ≤ parts }
     requires parts_to { parts ≤ 256 }
-    ensures halved { IfOk result (IsHalving block.now parts target) }
+    ensures halved { IfOk result (IsHalving kind block.now parts target) }
     ensures within { IfOk result (λ cert. All (λ error. error ≤ target) cert.claims) }
-    ensures cert { IfOk result (IsCert Named) }
-    ensures stops { IfErr result (λ stop. stop ≢ NotReached.Memory → StopsAt block.now parts target stop) }
-    ensures out_of_reach { IfErr result (SaysOutOfReach block.now parts target) }
+    ensures cert { IfOk result (IsCert kind) }
+    ensures stops { IfErr result (λ stop. stop ≢ NotReached.Memory → StopsAt kind block.now parts target stop) }
+    ensures out_of_reach { IfErr result (SaysOutOfReach kind block.now parts target) }
 {
     cells_are_out_of_reach();
     open_boxes_go_on();
-    let Ok(task) = Task::new(alloc, block, target, parts) else {
+    let Ok(task) = Task::new(alloc, kind, block, target, parts) else {
         return Err(NotReached::Memory);
     };
     let Ok(mut tree) = Tree::new(alloc, block.outputs.len()) else {

@@ -1,18 +1,20 @@
 //! Halving, box by box.
-ghost use Rattle.std.specs.Prelude.{◌≡◌, ◌≢◌, ◌≤◌, ◌<◌, ◌+◌, ◌++◌, ◌∷◌, [], length, replicate, OnOk, IfOk, IfErr};
+ghost use Rattle.std.specs.Prelude.{◌≡◌, ◌≢◌, ◌≤◌, ◌<◌, ◌+◌, ◌++◌, ◌∷◌, ℕ, [], length, replicate, OnOk, IfOk, IfErr, MatchOption};
 ghost use Rattle.fuzzy_meaning.specs.Blocks.{IsValid};
 ghost use Rattle.error_bound.specs.Boxes.{IsBoxOf};
-ghost use Rattle.box_tree.specs.declared.cert.LeafForm.TheVariants as form;
+ghost use Rattle.box_tree.specs.declared.cert.CertKind.TheVariants as kind;
 ghost use Rattle.box_tree.specs.declared.cert.Node.TheVariants as node;
-ghost use Rattle.error_certifier.specs.Halving.{Stops, IsFirstAbove};
-ghost use Rattle.error_certifier.specs.Trees.{AreBestLeaves, IsTask, IsTreeFor, Grows, AreRaised};
+ghost use Rattle.cert_check.specs.Walks.{AreRaised};
+ghost use Rattle.error_certifier.specs.Halving.{Stops, IsAbove};
+ghost use Rattle.error_certifier.specs.Trees.{IsTask, IsTreeFor, IsFoundLeaf, IsSplit, Grows};
 
 use crate::boxes::{halves, low_bytes, middle, widest};
 use crate::certifier::NotReached;
-use crate::leaves::{Above, BestLeaves};
-use box_tree::{Cert, LeafForm, Node};
-use cert_check::cuts_have_halves;
-use error_bound::{BlockTable, BoxTable, ByteBox, best_leaves_hold};
+use crate::leaves::{FoundLeaf, best_leaf, tight_bounds};
+use box_tree::{Cert, CertKind, LeafForm, Node};
+use cell_bounds::{cells_bounds, has_few_cells};
+use cert_check::{cuts_have_halves, raise};
+use error_bound::{BlockTable, BoxTable, ByteBox};
 use fuzzy_meaning::Block;
 use fz_list::List;
 use std::alloc::{AllocError, Global};
@@ -23,6 +25,7 @@ const MOST_LEAVES: u16 = 4096;
 /// What is halved, and for which target.
 #[derive(Drop)]
 pub(crate) struct Task<'a> {
+    kind: CertKind,
     block: &'a Block,
     /// What all boxes need of the block.
     table: BlockTable,
@@ -43,6 +46,7 @@ pub(crate) struct Tree {
 impl<'a> Task<'a> {
     pub(crate) fn new(
         alloc: Global,
+        kind: CertKind,
         block: &'a Block,
         target: u32,
         parts: u16,
@@ -52,12 +56,14 @@ impl<'a> Task<'a> {
         requires parts_from { 1 ≤ parts }
         requires parts_to { parts ≤ 256 }
         ensures task { IfOk result IsTask }
+        ensures kind { IfOk result (λ task. task.kind ≡ kind) }
         ensures block { IfOk result (λ task. task.block.now ≡ block.now) }
         ensures target { IfOk result (λ task. task.target ≡ target) }
         ensures parts { IfOk result (λ task. task.parts ≡ parts) }
     {
         let table = BlockTable::new(alloc, block)?;
         Ok(Task {
+            kind,
             block,
             table,
             target,
@@ -71,21 +77,18 @@ impl<'a> Task<'a> {
         requires bytes { IsBoxOf self.now.block.now bytes.0.items }
         requires tree { IsTreeFor self.now.block.now tree.old }
         ensures tree { OnOk result (IsTreeFor self.now.block.now tree.new) }
-        ensures grows { OnOk result
-            (Grows self.now.block.now self.now.parts self.now.target bytes.0.items tree.old tree.new) }
-        ensures stops { IfErr result (λ stop. stop ≢ NotReached.Memory
-            → Stops self.now.block.now self.now.parts self.now.target bytes.0.items tree.old.leaves stop) }
+        ensures grows { OnOk result (Grows self.now.kind self.now.block.now self.now.parts self.now.target bytes.0.items
+            tree.old tree.new) }
+        ensures stops { IfErr result (λ stop. stop ≢ NotReached.Memory → Stops self.now.kind self.now.block.now
+            self.now.parts self.now.target bytes.0.items tree.old.leaves stop) }
     {
-        best_leaves_hold();
         cuts_have_halves();
-        let above = match self.best_leaves(&bytes) {
-            Ok(leaves) => return tree.push_leaf(leaves),
-            Err(above) => above,
-        };
-        let (place, interval) = widest(&bytes);
-        if interval.from == interval.to {
-            return Err(NotReached::Cell(low_bytes(&bytes), above.place + 1, above.bound));
+        match self.found(&bytes) {
+            Ok(Some(leaf)) => return tree.push_leaf(leaf),
+            Ok(None) => {}
+            Err(stop) => return Err(stop),
         }
+        let (place, interval) = widest(&bytes);
         let cut = middle(interval);
         if tree.nodes.push(Node::Split(place as u8 + 1, cut)).is_err() {
             return Err(NotReached::Memory);
@@ -95,17 +98,87 @@ impl<'a> Task<'a> {
         self.halve(right, tree)
     }
 
-    /// The best leaves of a box, if all are within the target.
-    fn best_leaves(&self, bytes: &ByteBox) -> Result<BestLeaves, Above>
+    /// The leaf of a box, `None` where it is to be cut, or the cell that is above the target.
+    fn found(&self, bytes: &ByteBox) -> Result<Option<FoundLeaf>, NotReached>
         requires task { IsTask self.now }
         requires bytes { IsBoxOf self.now.block.now bytes.now.0.items }
-        ensures leaves { IfOk result
-            (AreBestLeaves self.now.block.now self.now.parts self.now.target bytes.now.0.items) }
-        ensures above { IfErr result (λ a.
-            IsFirstAbove self.now.block.now self.now.parts self.now.target bytes.now.0.items a.place a.bound) }
+        ensures found { IfOk result (λ found. MatchOption found
+            (IsSplit self.now.kind self.now.block.now self.now.parts self.now.target bytes.now.0.items)
+            (IsFoundLeaf self.now.kind self.now.block.now self.now.parts self.now.target bytes.now.0.items)) }
+        ensures stuck { IfErr result (λ stop. (n : ℕ) → Stops self.now.kind self.now.block.now self.now.parts
+            self.now.target bytes.now.0.items n stop) }
+    {
+        match self.kind {
+            CertKind::Named => self.named_leaf(bytes),
+            CertKind::Tight => self.tight_leaf(bytes),
+        }
+    }
+
+    /// The same for a certificate that names rules.
+    fn named_leaf(&self, bytes: &ByteBox) -> Result<Option<FoundLeaf>, NotReached>
+        requires task { IsTask self.now }
+        requires bytes { IsBoxOf self.now.block.now bytes.now.0.items }
+        ensures found { IfOk result (λ found. MatchOption found
+            (IsSplit kind.Named self.now.block.now self.now.parts self.now.target bytes.now.0.items)
+            (IsFoundLeaf kind.Named self.now.block.now self.now.parts self.now.target bytes.now.0.items)) }
+        ensures stuck { IfErr result (λ stop. (n : ℕ) → Stops kind.Named self.now.block.now self.now.parts
+            self.now.target bytes.now.0.items n stop) }
     {
         let table = BoxTable::over(self.block, &self.table, bytes.copied());
-        BestLeaves::new(self.block, &table, self.target, self.parts)
+        match best_leaf(self.block, &table, self.target, self.parts) {
+            Ok(leaf) => Ok(Some(leaf)),
+            Err(above) => {
+                let (_place, interval) = widest(bytes);
+                if interval.from == interval.to {
+                    Err(NotReached::Cell(low_bytes(bytes), above.place + 1, above.bound))
+                } else {
+                    Ok(None)
+                }
+            }
+        }
+    }
+
+    /// The same for a tight one.
+    fn tight_leaf(&self, bytes: &ByteBox) -> Result<Option<FoundLeaf>, NotReached>
+        requires task { IsTask self.now }
+        requires bytes { IsBoxOf self.now.block.now bytes.now.0.items }
+        ensures found { IfOk result (λ found. MatchOption found
+            (IsSplit kind.Tight self.now.block.now self.now.parts self.now.target bytes.now.0.items)
+            (IsFoundLeaf kind.Tight self.now.block.now self.now.parts self.now.target bytes.now.0.items)) }
+        ensures stuck { IfErr result (λ stop. (n : ℕ) → Stops kind.Tight self.now.block.now self.now.parts
+            self.now.target bytes.now.0.items n stop) }
+    {
+        let table = BoxTable::over(self.block, &self.table, bytes.copied());
+        match tight_bounds(self.block, &table, self.target, self.parts) {
+            Ok(bounds) => Ok(Some(FoundLeaf {
+                form: LeafForm::Tight,
+                bounds,
+            })),
+            Err(_above) => self.cells_leaf(bytes),
+        }
+    }
+
+    /// The same where a tight leaf is above the target.
+    fn cells_leaf(&self, bytes: &ByteBox) -> Result<Option<FoundLeaf>, NotReached>
+        requires task { IsTask self.now }
+        requires bytes { IsBoxOf self.now.block.now bytes.now.0.items }
+        requires above { IsAbove kind.Tight self.now.block.now self.now.parts self.now.target bytes.now.0.items }
+        ensures found { IfOk result (λ found. MatchOption found
+            (IsSplit kind.Tight self.now.block.now self.now.parts self.now.target bytes.now.0.items)
+            (IsFoundLeaf kind.Tight self.now.block.now self.now.parts self.now.target bytes.now.0.items)) }
+        ensures stuck { IfErr result (λ stop. (n : ℕ) → Stops kind.Tight self.now.block.now self.now.parts
+            self.now.target bytes.now.0.items n stop) }
+    {
+        if !has_few_cells(bytes) {
+            return Ok(None);
+        }
+        match cells_bounds(self.block, &self.table, bytes, self.parts, self.target) {
+            Ok(bounds) => Ok(Some(FoundLeaf {
+                form: LeafForm::Cells,
+                bounds,
+            })),
+            Err(above) => Err(NotReached::Cell(above.bytes, above.out, above.bound)),
+        }
     }
 }
 
@@ -125,11 +198,10 @@ impl Tree {
     }
 
     /// Puts a leaf behind the nodes, and raises the errors to its Bounds.
-    fn push_leaf(&mut self, leaves: BestLeaves) -> Result<(), NotReached>
-        requires { length leaves.bounds.items ≡ length self.old.errors.items }
-        ensures nodes { OnOk result
-            (self.new.nodes.items ≡ self.old.nodes.items ++ node.Leaf (form.Pairs leaves.pairs) ∷ []) }
-        ensures errors { OnOk result (AreRaised leaves.bounds.items self.old.errors.items self.new.errors.items) }
+    fn push_leaf(&mut self, leaf: FoundLeaf) -> Result<(), NotReached>
+        requires { length self.old.errors.items ≤ 4 }
+        ensures nodes { OnOk result (self.new.nodes.items ≡ self.old.nodes.items ++ node.Leaf leaf.form ∷ []) }
+        ensures errors { OnOk result (AreRaised leaf.bounds self.old.errors.items self.new.errors.items) }
         ensures leaves { OnOk result (self.new.leaves ≡ self.old.leaves + 1) }
         ensures few { OnOk result (self.old.leaves < 4096) }
         ensures limit { IfErr result (λ stop.
@@ -138,12 +210,12 @@ impl Tree {
         if self.leaves >= MOST_LEAVES {
             return Err(NotReached::LeafLimit);
         }
-        let BestLeaves { pairs, bounds } = leaves;
-        if self.nodes.push(Node::Leaf(LeafForm::Pairs(pairs))).is_err() {
+        let FoundLeaf { form, bounds } = leaf;
+        if self.nodes.push(Node::Leaf(form)).is_err() {
             return Err(NotReached::Memory);
         }
         self.leaves += 1;
-        raise(&mut self.errors, bounds.as_slice());
+        raise(&mut self.errors, &bounds);
         Ok(())
     }
 
@@ -157,15 +229,5 @@ impl Tree {
             claims: List::new(errors),
             nodes: List::new(nodes),
         }
-    }
-}
-
-/// Raises each error to the Bound at its place.
-fn raise(errors: &mut [u32], bounds: &[u32])
-    requires { length bounds.now ≡ length errors.old }
-    ensures { AreRaised bounds.now errors.old errors.new }
-{
-    for o in 0..bounds.len() {
-        errors[o] = errors[o].max(bounds[o]);
     }
 }

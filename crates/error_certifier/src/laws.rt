@@ -2,7 +2,8 @@
 ghost use Rattle.error_certifier.specs.Laws.{AnswersAreOne, CellsAreOutOfReach};
 
 use cert_check::{cuts_have_halves, errors_are_determined, leaves_are_around};
-use error_bound::{best_bounds_are_least, best_leaves_are_one, bounds_are_determined};
+use cell_bounds::{box_counts_are_one, cell_counts_are_one, counts_are_least};
+use error_bound::best_leaves_are_one;
 
 /// A block has at most one answer for a target: a certificate, or why there is none.
 pub fn answers_are_one()
@@ -11,15 +12,17 @@ pub fn answers_are_one()
     cuts_have_halves();
     errors_are_determined();
     best_leaves_are_one();
-    bounds_are_determined();
+    box_counts_are_one();
+    cell_counts_are_one();
 }
 
 /// Where halving stops at a cell, no accepted certificate of the block has a smaller error for that
-/// output than the Bound of the cell's best leaf. A limit says nothing of other certificates.
+/// output than the Bound of the cell's best leaf: of the named kind none that names rules, of the tight
+/// kind none at all. A limit says nothing of other certificates.
 pub fn cells_are_out_of_reach()
     ensures { CellsAreOutOfReach }
 {
     cuts_have_halves();
     leaves_are_around();
-    best_bounds_are_least();
+    counts_are_least();
 }

@@ -1,21 +1,25 @@
-//! The best leaves of a box.
-ghost use Rattle.std.specs.Prelude.{◌≡◌, ◌≤◌, ◌<◌, ◌+◌, ℕ, length, IfOk, IfErr, Some, slice_get};
+//! The leaf of a box, of either kind.
+ghost use Rattle.std.specs.Prelude.{◌≡◌, ◌≤◌, ◌<◌, ◌+◌, ℕ, length, IfOk, IfErr, IfSome, Some, slice_get};
 ghost use Rattle.fuzzy_meaning.specs.declared.block.Output.{Output};
-ghost use Rattle.fuzzy_meaning.specs.Blocks.{IsValid};
+ghost use Rattle.fuzzy_meaning.specs.Blocks.{IsValid, output_at};
 ghost use Rattle.error_bound.specs.Reaches.{IsTable};
 ghost use Rattle.error_bound.specs.BestLeaves.{IsBestBound};
+ghost use Rattle.error_bound.specs.Tight.{IsTightBound, IsTightCount};
+ghost use Rattle.box_tree.specs.declared.cert.CertKind.TheVariants.{Named, Tight};
 ghost use Rattle.box_tree.specs.Certificates.{IsPair};
 ghost use Rattle.error_certifier.specs.Halving.{IsWithinTarget, IsFirstAbove};
+ghost use Rattle.error_certifier.specs.Trees.{AreTightBounds, IsFoundLeaf};
 
 use arrayvec::ArrayVec;
+use box_tree::LeafForm;
 use error_bound::{BoxTable, Leaf, best_leaves_hold, faulty_leaves_fail};
 use fuzzy_meaning::Block;
 
-/// The best leaves of a box, one for each output, and their Bounds.
+/// A leaf that is within the target: what its line says, and its Bound for each output at its place.
 #[derive(Drop)]
-pub(crate) struct BestLeaves {
-    pub(crate) pairs: ArrayVec<(u16, u8), 4>,
-    pub(crate) bounds: ArrayVec<u32, 4>,
+pub(crate) struct FoundLeaf {
+    pub(crate) form: LeafForm,
+    pub(crate) bounds: [u32; 4],
 }
 
 /// The place of the first output whose best leaf is above the target, and that leaf's Bound.
@@ -25,42 +29,102 @@ pub(crate) struct Above {
     pub(crate) bound: u32,
 }
 
-impl BestLeaves {
-    ghost use Rattle.error_certifier.specs.Trees.{AreBestLeaves};
-
-    /// Of a table's box, if all are within the target.
-    pub(crate) fn new(
-        block: &Block,
-        table: &BoxTable<'_>,
-        target: u32,
-        parts: u16,
-    ) -> Result<BestLeaves, Above>
-        requires block { IsValid block.now }
-        requires table { IsTable block.now table.now }
-        requires target { target ≤ 1000000 }
-        requires parts_from { 1 ≤ parts }
-        requires parts_to { parts ≤ 256 }
-        ensures leaves { IfOk result (AreBestLeaves block.now parts target table.now.bytes.0.items) }
-        ensures above { IfErr result
-            (λ a. IsFirstAbove block.now parts target table.now.bytes.0.items a.place a.bound) }
-    {
-        let mut pairs = ArrayVec::new();
-        let mut bounds = ArrayVec::new();
-        for o in 0..block.outputs.len() {
-            match best_within(block, table, o as u8, target, parts) {
-                Ok((leaf, bound)) => {
-                    pairs.push((leaf.rule, leaf.k));
-                    bounds.push(bound);
-                }
-                Err(bound) => {
-                    return Err(Above {
-                        place: o as u8,
-                        bound,
-                    });
-                }
+/// The leaf of a table's box that names its best leaves, if all are within the target.
+pub(crate) fn best_leaf(
+    block: &Block,
+    table: &BoxTable<'_>,
+    target: u32,
+    parts: u16,
+) -> Result<FoundLeaf, Above>
+    requires block { IsValid block.now }
+    requires table { IsTable block.now table.now }
+    requires target { target ≤ 1000000 }
+    requires parts_from { 1 ≤ parts }
+    requires parts_to { parts ≤ 256 }
+    ensures leaf { IfOk result (IsFoundLeaf Named block.now parts target table.now.bytes.0.items) }
+    ensures above { IfErr result
+        (λ a. IsFirstAbove Named block.now parts target table.now.bytes.0.items a.place a.bound) }
+{
+    best_leaves_hold();
+    let mut pairs = ArrayVec::new();
+    let mut bounds = [0; 4];
+    for o in 0..block.outputs.len() {
+        match best_within(block, table, o as u8, target, parts) {
+            Ok((leaf, bound)) => {
+                pairs.push((leaf.rule, leaf.k));
+                bounds[o] = bound;
+            }
+            Err(bound) => {
+                return Err(Above {
+                    place: o as u8,
+                    bound,
+                });
             }
         }
-        Ok(BestLeaves { pairs, bounds })
+    }
+    Ok(FoundLeaf {
+        form: LeafForm::Pairs(pairs),
+        bounds,
+    })
+}
+
+/// The tight Bounds of a table's box, each at its output's place, if all are within the target.
+pub(crate) fn tight_bounds(
+    block: &Block,
+    table: &BoxTable<'_>,
+    target: u32,
+    parts: u16,
+) -> Result<[u32; 4], Above>
+    requires block { IsValid block.now }
+    requires table { IsTable block.now table.now }
+    requires target { target ≤ 1000000 }
+    requires parts_from { 1 ≤ parts }
+    requires parts_to { parts ≤ 256 }
+    ensures bounds { IfOk result (AreTightBounds block.now parts target table.now.bytes.0.items) }
+    ensures above { IfErr result
+        (λ a. IsFirstAbove Tight block.now parts target table.now.bytes.0.items a.place a.bound) }
+{
+    let mut bounds = [0; 4];
+    for o in 0..block.outputs.len() {
+        match tight_within(block, table, o as u8, target, parts) {
+            Ok(bound) => bounds[o] = bound,
+            Err(bound) => {
+                return Err(Above {
+                    place: o as u8,
+                    bound,
+                });
+            }
+        }
+    }
+    Ok(bounds)
+}
+
+/// The tight Bound for the output at a place, if it is at most the target; else the Bound, which is
+/// 1000001 where there is none.
+fn tight_within(
+    block: &Block,
+    table: &BoxTable<'_>,
+    place: u8,
+    target: u32,
+    parts: u16,
+) -> Result<u32, u32>
+    requires block { IsValid block.now }
+    requires table { IsTable block.now table.now }
+    requires place { place < length block.now.outputs }
+    requires target { target ≤ 1000000 }
+    requires parts_from { 1 ≤ parts }
+    requires parts_to { parts ≤ 256 }
+    ensures bound { IfOk result (λ bound. IfSome (output_at block.now (place + 1))
+        (λ x. IsTightBound block.now table.now.bytes.0.items (place + 1) x parts bound)) }
+    ensures within { IfOk result (λ bound. bound ≤ target) }
+    ensures above { IfErr result (λ bound. target < bound) }
+    ensures count { IfErr result (λ bound. IfSome (output_at block.now (place + 1))
+        (λ x. IsTightCount block.now table.now.bytes.0.items (place + 1) x parts bound)) }
+{
+    match table.tight_bound(block, place + 1, parts) {
+        Some(bound) if bound <= target => Ok(bound),
+        Some(bound) => Err(bound),
+        None => Err(1_000_001),
     }
 }
 

@@ -165,6 +165,8 @@ check_line (check.Outputs got wanted) = with_two (codes "cert: outputs ") got (c
 check_line (check.BadCut n) = with_number (codes "cert: line ") n (codes ": bad cut")
 check_line (check.BadRule n) = with_number (codes "cert: line ") n (codes ": bad rule")
 check_line (check.Leaf n f) = leaf_line n f
+check_line (check.Unsure n output) = with_two (codes "cert: line ") n (codes ": unsure output ") output []
+check_line (check.TooManyCells n) = with_number (codes "cert: line ") n (codes ": too many cells")
 check_line (check.Claimed output claimed computed) =
     codes "cert: output " ++ (decimal output ++ (codes " claims " ++ (decimal claimed
     ++ (codes ", computed " ++ (decimal computed ++ newline)))))

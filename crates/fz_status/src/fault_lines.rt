@@ -352,6 +352,17 @@ fn put_check<F: Sink>(err: &mut F, fault: &CheckFault) -> Result<(), Failed>
         CheckFault::BadCut(line) => put_number(err, b"cert: line ", *line, b": bad cut"),
         CheckFault::BadRule(line) => put_number(err, b"cert: line ", *line, b": bad rule"),
         CheckFault::Leaf(line, fault) => put_leaf(err, *line, fault),
+        CheckFault::Unsure(line, output) => put_two(
+            err,
+            b"cert: line ",
+            *line,
+            b": unsure output ",
+            u32::from(*output),
+            b"",
+        ),
+        CheckFault::TooManyCells(line) => {
+            put_number(err, b"cert: line ", *line, b": too many cells")
+        }
         CheckFault::Claimed(output, claimed, computed) => put(
             err,
             &[

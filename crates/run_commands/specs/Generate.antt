@@ -6,6 +6,7 @@ use Rattle.eval_code.specs.Widths.{parts}
 use Rattle.codegen.specs.declared.firmware.Firmware.{Firmware}
 use Rattle.eval_code.specs.declared.width.Width.TheVariants.{Byte}
 use Rattle.box_tree.specs.declared.cert.Cert.{Cert}
+use Rattle.box_tree.specs.declared.cert.CertKind.TheVariants.{Named}
 use Rattle.error_certifier.specs.Halving.{IsHalving}
 use Rattle.interrupt_plan.specs.declared.Request.{Request}
 use Rattle.trace_io.specs.declared.sample.Sample.{Sample}
@@ -77,7 +78,7 @@ pub record GenerateGives (number : ℕ) (output : SeenOutput) : Type 0 where
   pub firmware : Firmware
   pub gives : GivesFirmware Byte text block firmware
   pub cert : Cert
-  pub halving : IsHalving block (parts Byte) generated_target cert
+  pub halving : IsHalving Named block (parts Byte) generated_target cert
   pub report : Report
   pub errors : report.errors ≡ cert.claims
   pub reported : IsReportOf Byte 0 block firmware samples requests report

@@ -2,4 +2,4 @@ use Rattle.error_certifier.proofs.OutOfReach.{cells_out_of_reach}
 use Rattle.error_certifier.proofs.laws.cells_are_out_of_reach.Goals as goal
 
 pub returns : goal.returns
-returns c = cells_out_of_reach c.leaves_are_around.ensures c.best_bounds_are_least.ensures c.cuts_have_halves.ensures
+returns c = cells_out_of_reach c.leaves_are_around.ensures c.counts_are_least.ensures c.cuts_have_halves.ensures

@@ -1,26 +1,20 @@
 use Rattle.std.proofs.Common.{rules, arith}
 use Rattle.std.proofs.lemmas.Result.{err_from_is_err_and}
-use Rattle.error_certifier.proofs.HalveLemmas.{IsFirstAbove-place, IsWidest-place, Grows-leaf, Stops-leaf, Stops-cell}
+use Rattle.error_certifier.proofs.HalveLemmas.{IsWidest-place, Grows-leaf, Stops-leaf}
 use Rattle.error_certifier.proofs.HalveLemmas.{left_half, right_half, Stops-left, Grows-halves, Stops-right}
 use Rattle.error_certifier.proofs.halving.Task.+halve.Goals as goal
 
-pub returns-in-Ok-clause-grows : goal.returns-in-Ok-clause-grows
-returns-in-Ok-clause-grows t c =
+pub returns-in-Ok-Some-clause-grows : goal.returns-in-Ok-Some-clause-grows
+returns-in-Ok-Some-clause-grows t c =
     let e = c.push_leaf.ensures in
-    Grows-leaf c.best_leaves_hold.ensures c.in-Ok.ensures.leaves c.args.tree.now c.push_leaf.new.self c.push_leaf.result
+    let found = rw c.in-Ok-Some.field-0-is at c.in-Ok-Some.ensures.found in
+    Grows-leaf found c.args.tree.now c.push_leaf.new.self c.push_leaf.result
     c.requires.tree e.nodes e.errors e.leaves e.few
 
-pub returns-in-Ok-clause-stops : goal.returns-in-Ok-clause-stops
-returns-in-Ok-clause-stops t c =
-    Stops-leaf c.best_leaves_hold.ensures c.in-Ok.ensures.leaves c.push_leaf.result _ c.push_leaf.ensures.limit
-
-pub overflow_add-result : goal.overflow_add-result
-overflow_add-result t c = omega (arith, IsFirstAbove-place c.requires.task.valid c.in-Err.ensures.above)
-
-pub returns-then-interval-clause-stops : goal.returns-then-interval-clause-stops
-returns-then-interval-clause-stops t c = λ found.
-    Stops-cell c.requires.bytes c.widest-place.ensures c.if-interval.true c.args.tree.now.leaves c.low_bytes.result
-    c.low_bytes.ensures c.in-Err.ensures.above
+pub returns-in-Ok-Some-clause-stops : goal.returns-in-Ok-Some-clause-stops
+returns-in-Ok-Some-clause-stops t c =
+    let found = rw c.in-Ok-Some.field-0-is at c.in-Ok-Some.ensures.found in
+    Stops-leaf found c.push_leaf.result _ c.push_leaf.ensures.limit
 
 pub overflow_cast-place : goal.overflow_cast-place
 overflow_cast-place t c = omega (arith, IsWidest-place c.requires.task.valid c.requires.bytes c.widest-place.ensures)
@@ -30,32 +24,37 @@ overflow_add-place t c = omega (arith, IsWidest-place c.requires.task.valid c.re
 
 pub halve-requires : goal.halve-requires
 halve-requires t c =
-    let left = left_half c.requires.bytes c.widest-place.ensures c.if-interval.false c.middle-cut.ensures.middle
+    let large = rw c.in-Ok-None.field-0-is at c.in-Ok-None.ensures.found in
+    let left = left_half c.requires.bytes c.widest-place.ensures large c.middle-cut.ensures.middle
     c.cuts_have_halves.ensures _ c.halves-left.ensures.left in
     let r = c.requires.tree in
     (omega (arith, c.decreases, left.0), (c.requires.task, (left.1, record { errors = r.errors; leaves = r.leaves })))
 
 pub returns-in_err-halve-clause-stops : goal.returns-in_err-halve-clause-stops
 returns-in_err-halve-clause-stops t c =
+    let large = rw c.in-Ok-None.field-0-is at c.in-Ok-None.ensures.found in
     let p = err_from_is_err_and c.from_residual.result c.from_residual.ensures.1 in
-    rw (p.1, p.2) (λ found. Stops-left c.requires.bytes c.widest-place.ensures c.if-interval.false
-    c.middle-cut.ensures.middle c.in-Err.ensures.above c.halves-left.ensures.left (c.in_err-halve.ensures.stops found))
+    rw (p.1, p.2) (λ found. Stops-left c.requires.bytes c.widest-place.ensures large
+    c.middle-cut.ensures.middle c.halves-left.ensures.left (c.in_err-halve.ensures.stops found))
 
 pub halve-requires-2 : goal.halve-requires-2
 halve-requires-2 t c =
-    let right = right_half c.requires.bytes c.widest-place.ensures c.if-interval.false c.middle-cut.ensures.middle
+    let large = rw c.in-Ok-None.field-0-is at c.in-Ok-None.ensures.found in
+    let right = right_half c.requires.bytes c.widest-place.ensures large c.middle-cut.ensures.middle
     c.cuts_have_halves.ensures _ c.halves-left.ensures.right in
     (omega (arith, c.decreases, right.0), (c.requires.task, (right.1, c.in_ok-halve.ensures.tree)))
 
 pub returns-clause-grows : goal.returns-clause-grows
 returns-clause-grows t c =
-    Grows-halves c.requires.bytes c.widest-place.ensures c.if-interval.false c.middle-cut.ensures.middle
-    c.in-Err.ensures.above c.halves-left.ensures.left c.halves-left.ensures.right c.args.tree.now c.halve.new.tree
+    let large = rw c.in-Ok-None.field-0-is at c.in-Ok-None.ensures.found in
+    Grows-halves c.requires.bytes c.widest-place.ensures large c.middle-cut.ensures.middle
+    c.halves-left.ensures.left c.halves-left.ensures.right c.args.tree.now c.halve.new.tree
     c.push.new.self c.in_ok-halve.ensures.grows c.halve-2.new.tree c.halve-2.result c.cuts_have_halves.ensures
     c.requires.task.valid (search rules) c.halve-2.ensures.grows
 
 pub returns-clause-stops : goal.returns-clause-stops
 returns-clause-stops t c =
-    Stops-right c.requires.bytes c.widest-place.ensures c.if-interval.false c.middle-cut.ensures.middle
-    c.in-Err.ensures.above c.halves-left.ensures.left c.halves-left.ensures.right c.args.tree.now c.halve.new.tree
+    let large = rw c.in-Ok-None.field-0-is at c.in-Ok-None.ensures.found in
+    Stops-right c.requires.bytes c.widest-place.ensures large c.middle-cut.ensures.middle
+    c.halves-left.ensures.left c.halves-left.ensures.right c.args.tree.now c.halve.new.tree
     c.push.new.self c.in_ok-halve.ensures.grows c.halve-2.result c.halve-2.ensures.stops

@@ -3,13 +3,13 @@ use Rattle.std.specs.Prelude.{slice_get, All}
 use Rattle.fuzzy_meaning.specs.declared.block.Output.{Output}
 use Rattle.box_tree.specs.Certificates.{IsPair}
 use Rattle.error_certifier.specs.Trees.{IsBestPair}
-use Rattle.error_certifier.proofs.leaves.BestLeaves.new.Given as goal
+use Rattle.error_certifier.proofs.leaves.best_leaf.Given as goal
 
 abbrev pub invariant-loop-o : goal.invariant-loop-o
 invariant-loop-o l = record {
   count : length l.pairs.items ≡ l.o;
-  bounds_count : length l.bounds.items ≡ l.o;
+  places : length l.bounds ≡ 4;
   each : (k : ℕ) (x : Output) → k < l.o → slice_get l.block.outputs k ≡ Some x
-      → IsBestPair l.block l.parts l.target l.table.bytes.0.items k x (record { pairs = l.pairs; bounds = l.bounds });
+      → IsBestPair l.block l.parts l.target l.table.bytes.0.items k x l.pairs.items l.bounds;
   good : All IsPair l.pairs.items;
 }

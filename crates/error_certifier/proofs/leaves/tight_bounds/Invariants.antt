@@ -1,0 +1,10 @@
+use Rattle.std.proofs.Common.{◌≡◌, length}
+use Rattle.fz_list.proofs.Algebra.{AreFilled}
+use Rattle.error_certifier.proofs.LeafLemmas.{IsTightAt}
+use Rattle.error_certifier.proofs.leaves.tight_bounds.Given as goal
+
+abbrev pub invariant-loop-o : goal.invariant-loop-o
+invariant-loop-o l = record {
+  places : length l.bounds ≡ 4;
+  filled : AreFilled (IsTightAt l.block l.parts l.target l.table.bytes.0.items) l.block.outputs l.bounds l.o;
+}
