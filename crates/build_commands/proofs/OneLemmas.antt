@@ -5,6 +5,7 @@ use Rattle.fuzzy_meaning.specs.declared.block.Block.{Block}
 use Rattle.box_tree.specs.Texts.{lines_of}
 use Rattle.box_tree.specs.Trees.{leaf_count}
 use Rattle.box_tree.specs.declared.cert.Cert.{Cert}
+use Rattle.box_tree.specs.declared.cert.CertKind.TheVariants.{Named}
 use Rattle.cert_check.specs.Laws.{TextAnswersAreOne}
 use Rattle.cert_check.specs.declared.text.TextFault.{TextFault}
 use Rattle.cpu12_emul.specs.Image.{ImagesLoadAlike, image_memory}
@@ -17,11 +18,9 @@ use Rattle.error_certifier.specs.Laws.{AnswersAreOne}
 use Rattle.error_certifier.specs.declared.certifier.NotReached.{NotReached}
 use Rattle.eval_code.specs.Bounds.{instruction_bound}
 use Rattle.eval_code.specs.Widths.{parts}
-use Rattle.eval_code.specs.declared.width.Width.{Width}
-use Rattle.eval_code.specs.declared.width.Width.TheVariants.{Byte, Word}
 use Rattle.srecord.specs.Laws.{ImagesAreOne}
 use Rattle.build_commands.specs.Certify.{CertifyMakes, certify_lines}
-use Rattle.build_commands.specs.Certs.{AcceptedErrorsAreOne, AcceptsCert, version}
+use Rattle.build_commands.specs.Certs.{AcceptedErrorsAreOne, AcceptsCert, answer_width}
 use Rattle.build_commands.specs.Check.{CheckMakes, check_lines}
 use Rattle.build_commands.specs.Exec.{ExecMakes, exec_line}
 use Rattle.build_commands.specs.Firmwares.{GivenFirmwaresAreOne}
@@ -30,15 +29,11 @@ use Rattle.build_commands.specs.declared.certify.Certify.{Certify}
 use Rattle.build_commands.specs.declared.check.Check.{Check}
 use Rattle.build_commands.specs.declared.exec.Exec.{Exec}
 
-few_versions : (width : Width) → version width ≤ 2
-few_versions Byte = omega arith
-few_versions Word = omega arith
-
 pub errors_are_one : TextAnswersAreOne → AcceptedErrorsAreOne
 errors_are_one one width block cert errors others valid a b =
     let x : Result (List ℕ) TextFault = Ok errors in
     let y : Result (List ℕ) TextFault = Ok others in
-    let same : x ≡ y = one block (parts width) (version width) cert x y valid (few_versions width) a b in
+    let same : x ≡ y = one block (parts width) Named (answer_width width) cert x y valid a b in
     cc
 
 pub checks_once : GivenFirmwaresAreOne → AcceptedErrorsAreOne → (check : Check) (text cert : List ℕ)
@@ -56,11 +51,11 @@ certifies_once firmwares answers certify text output other a b =
     let one = firmwares certify.width text a.block b.block a.firmware b.firmware a.gives b.gives in
     let x : Result Cert NotReached = Ok a.cert in
     let y : Result Cert NotReached = Ok b.cert in
-    let same : x ≡ y = answers a.block (parts certify.width) certify.target x y a.gives.spelled.valid a.halving
-    (subst (λ (c : Block). IsHalving c (parts certify.width) certify.target b.cert) (sym one.0) b.halving) in
+    let same : x ≡ y = answers Named a.block (parts certify.width) certify.target x y a.gives.spelled.valid a.halving
+    (subst (λ (c : Block). IsHalving Named c (parts certify.width) certify.target b.cert) (sym one.0) b.halving) in
     let cert : a.cert ≡ b.cert = cc in
     let out : a.out ≡ b.out = a.spelled.lines
-    ∙ (λ i. lines_of (version certify.width) (cert i).claims (cert i).nodes) ∙ sym b.spelled.lines in
+    ∙ (λ i. lines_of Named (answer_width certify.width) (cert i).claims (cert i).nodes) ∙ sym b.spelled.lines in
     a.output_is
     ∙ (λ i. record { text = certify_lines (cert i).claims (leaf_count (cert i).nodes); file = Some (4, out i) })
     ∙ sym b.output_is

@@ -80,3 +80,16 @@ abbrev pub HalvedBlocksDoNotStop : Type 0
 HalvedBlocksDoNotStop =
     (width : Width) (target : ℕ) (block : Block) (cert : Cert) (stop : NotReached) → IsValid block
     → IsHalving Named block (parts width) target cert → StopsHalving width target block stop → ⊥
+
+-- the text gives firmware with answers of this width, and halving its block ends with this certificate, within the
+-- target
+pub record AcceptsTarget (certify : Certify) (text : List ℕ) (block : Block) (firmware : Firmware) (cert : Cert)
+    : Type 0 where
+  pub gives : GivesFirmware certify.width text block firmware
+  pub halving : IsHalving Named block (parts certify.width) certify.target cert
+  pub within : All (λ error. error ≤ certify.target) cert.claims
+  pub good : IsCert Named cert
+
+abbrev pub CertifyAccepts : Certify → List ℕ → Type 0
+CertifyAccepts certify text =
+    (block : Block) × (firmware : Firmware) × (cert : Cert) × AcceptsTarget certify text block firmware cert

@@ -102,7 +102,7 @@ pub record AcceptsNumber (number : ℕ) (block : Block) (firmware : Firmware) (s
   pub plan : List ℕ
   pub workload : IsWorkload number text trace plan block samples requests
   pub gives : GivesFirmware Byte text block firmware
-  pub halving : IsHalving block (parts Byte) generated_target cert
+  pub halving : IsHalving Named block (parts Byte) generated_target cert
 
 abbrev pub GenerateAccepts : Generate → Type 0
 GenerateAccepts generate = (block : Block) × (firmware : Firmware) × (samples : List Sample)

@@ -32,3 +32,5 @@ mod layouts;
 mod leaves;
 #[cfg(test)]
 mod texts;
+#[cfg(test)]
+mod tight;

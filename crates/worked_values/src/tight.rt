@@ -1,0 +1,73 @@
+//! The heater's tight certificates.
+use box_tree::{write_tight, write_tight16};
+use cert_check::{CheckFault, TextFault, check_text_tight, check_text_tight16};
+use error_certifier::{NotReached, certify_tight, certify_tight16};
+use fuzzy_meaning::heater;
+use std::test::Fail;
+
+/// Targets, and the texts of the certificates that halving gives for them.
+static HALVED: [(u32, &[u8]); 3] = [
+    (
+        20_000,
+        b"FZC 3\nclaim 19547\nsplit 1 128\nleaf\nleaf\n",
+    ),
+    (
+        11_734,
+        b"FZC 3\nclaim 11724\nsplit 1 128\nsplit 1 64\ncells\nleaf\nsplit 1 192\nleaf\ncells\n",
+    ),
+    (
+        3_907,
+        b"FZC 3\nclaim 3907\nsplit 1 128\nsplit 1 64\ncells\ncells\nsplit 1 192\ncells\ncells\n",
+    ),
+];
+
+#[test]
+fn a_heater_is_halved_to_tight_leaves(rt: HostRuntime) -> Result<(), Fail> {
+    let alloc = rt.alloc();
+    let block = heater(alloc)?;
+    for (target, text) in HALVED.iter() {
+        assert!(rt; *target <= 1_000_000);
+        let cert = certify_tight(alloc, &block, *target)?;
+        assert!(rt; write_tight(alloc, &cert)?.as_slice() == *text);
+    }
+    let cert = certify_tight16(alloc, &block, 20_000)?;
+    let text = b"FZC 4\nclaim 15641\nsplit 1 128\nleaf\nleaf\n";
+    assert!(rt; write_tight16(alloc, &cert)?.as_slice() == text.as_slice());
+    let errors = check_text_tight16(alloc, &block, text)?;
+    assert!(rt; errors.as_slice() == [15641].as_slice());
+    Ok(())
+}
+
+#[test]
+fn a_cell_is_out_of_reach_for_all(rt: HostRuntime) -> Result<(), Fail> {
+    let block = heater(rt.alloc())?;
+    match certify_tight(rt.alloc(), &block, 3_906) {
+        Err(NotReached::Cell(bytes, output, bound)) => {
+            assert!(rt; bytes.as_slice() == [0].as_slice());
+            assert!(rt; output == 1 && bound == 3_907);
+            Ok(())
+        }
+        _ => Err(Fail::new("no cell")),
+    }
+}
+
+/// Texts whose certificates are refused, each with the certificate's first fault.
+static REFUSED: [(&[u8], CheckFault); 3] = [
+    (
+        b"FZC 3\nclaim 19546\nsplit 1 128\nleaf\nleaf\n",
+        CheckFault::Claimed(1, 19546, 19547),
+    ),
+    (b"FZC 3\nclaim 19547\nleaf\n", CheckFault::Unsure(3, 1)),
+    (b"FZC 3\nclaim 19547\ncells\n", CheckFault::TooManyCells(3)),
+];
+
+#[test]
+fn tight_certificates_are_refused(rt: HostRuntime) -> Result<(), Fail> {
+    let block = heater(rt.alloc())?;
+    for (text, fault) in REFUSED.iter() {
+        assert!(rt; text.len() <= 1_048_576);
+        let refused = check_text_tight(rt.alloc(), &block, text).err();
+        assert!(rt; refused == Some(TextFault::Check(*fault)));
+    }
+    Ok(())
+}
