@@ -47,8 +47,14 @@ leaf_around b h cert errors o x e bytes a from ex ee count small =
     let P : Part → Type 0 = λ p. IsBoxOf b p.box × (((k : CertKind) → All (IsNodeOf k) cert.nodes → IsFormOf k p.form) × ((n : ℕ) × HasBound b o x h p n × (n ≤ e))) in
     let boxes = boxes_are b (whole b) cert.nodes a.parts [] a.tree (whole_is b) in
     let each = (a.greatest o x e from ex ee).each in
-    let p = leaf_with bytes a.parts P (omega (arith, one)) (λ k d l. (boxes k d l, (λ kind all.
-    forms_are (IsNodeOf kind) (whole b) cert.nodes a.parts [] a.tree all k d l, each k d l))) in
+    let p = leaf_with bytes a.parts P (omega (arith, one)) (λ k d l. (
+      boxes k d l,
+      (
+        λ kind all.
+            forms_are (IsNodeOf kind) (whole b) cert.nodes a.parts [] a.tree all k d l,
+        each k d l,
+      ),
+    )) in
     let bound = p.2.1.1.1 in
     let around = LieIn-lies bytes p.0.box p.1 in
     record {

@@ -114,9 +114,9 @@ cold_part errors valid h n e =
       claim_is = refl;
       allowed = tt;
       bound_is = (
-          strong cold_rule (omega arith) (omega arith) (omega arith) refl cold_strong,
-          bound_of errors heater cold_box 1 power h (pair 1 127) n valid
-          (box_valid 0 127 (omega arith) (omega arith)) e,
+        strong cold_rule (omega arith) (omega arith) (omega arith) refl cold_strong,
+        bound_of errors heater cold_box 1 power h (pair 1 127) n valid
+            (box_valid 0 127 (omega arith) (omega arith)) e,
       );
     }
 
@@ -129,9 +129,9 @@ hot_part errors valid h n e =
       claim_is = refl;
       allowed = tt;
       bound_is = (
-          strong hot_rule (omega arith) (omega arith) (omega arith) refl hot_strong,
-          bound_of errors heater hot_box 1 power h (pair 2 127) n valid
-          (box_valid 128 255 (omega arith) (omega arith)) e,
+        strong hot_rule (omega arith) (omega arith) (omega arith) refl hot_strong,
+        bound_of errors heater hot_box 1 power h (pair 2 127) n valid
+            (box_valid 128 255 (omega arith) (omega arith)) e,
       );
     }
 
@@ -288,9 +288,9 @@ latch_greatest errors v =
       claim_is = refl;
       allowed = tt;
       bound_is = (
-          strong on_rule (omega arith) (omega arith) (omega arith) refl on_strong,
-          bound_of errors latch (span_of 0 63) 1 keeper 1 (pair 1 255) 3922 v
-          (box_valid 0 63 (omega arith) (omega arith)) on_bound,
+        strong on_rule (omega arith) (omega arith) (omega arith) refl on_strong,
+        bound_of errors latch (span_of 0 63) 1 keeper 1 (pair 1 255) 3922 v
+            (box_valid 0 63 (omega arith) (omega arith)) on_bound,
       );
     } in
     let second : HasBound latch 1 keeper 1 (part 64 191 0 0) 0 =
@@ -299,9 +299,9 @@ latch_greatest errors v =
       claim_is = refl;
       allowed = tt;
       bound_is = (
-          silent refl refl silent_between,
-          bound_of errors latch (span_of 64 191) 1 keeper 1 (pair 0 0) 0 v
-          (box_valid 64 191 (omega arith) (omega arith)) refl,
+        silent refl refl silent_between,
+        bound_of errors latch (span_of 64 191) 1 keeper 1 (pair 0 0) 0 v
+            (box_valid 64 191 (omega arith) (omega arith)) refl,
       );
     } in
     let third : HasBound latch 1 keeper 1 (part 192 255 2 255) 3922 =
@@ -310,9 +310,9 @@ latch_greatest errors v =
       claim_is = refl;
       allowed = tt;
       bound_is = (
-          strong off_rule (omega arith) (omega arith) (omega arith) refl off_strong,
-          bound_of errors latch (span_of 192 255) 1 keeper 1 (pair 2 255) 3922 v
-          (box_valid 192 255 (omega arith) (omega arith)) off_bound,
+        strong off_rule (omega arith) (omega arith) (omega arith) refl off_strong,
+        bound_of errors latch (span_of 192 255) 1 keeper 1 (pair 2 255) 3922 v
+            (box_valid 192 255 (omega arith) (omega arith)) off_bound,
       );
     } in
     record {

@@ -63,15 +63,16 @@ pub wide_texts : WideIsAccepted → WideTextsAreAccepted
 wide_texts wide b k rest es valid a none =
     let w = wide b a.cert es valid none a.accepted in
     let behind = append_cancel_left (version_line k Byte) rest
-    (claim_line a.cert.claims ++ node_lines a.cert.nodes) a.spelled.lines in
-    (w.0,
-    record {
-      cert = a.cert;
-      spelled =
-          record { good = a.spelled.good; lines = ap (λ (t : List ℕ). version_line k Word ++ t) behind };
-      accepted = w.1;
-    },
-    w.2)
+    (claim_line a.cert.claims ++ node_lines a.cert.nodes) a.spelled.lines in (
+      w.0,
+      record {
+        cert = a.cert;
+        spelled =
+            record { good = a.spelled.good; lines = ap (λ (t : List ℕ). version_line k Word ++ t) behind };
+        accepted = w.1;
+      },
+      w.2,
+    )
 
 no_cells : (width : ℕ) (node : Node) → IsNode kind.Named width node → node ≢ Leaf form.Cells
 no_cells width node good e = subst (IsNode kind.Named width) e good
@@ -148,11 +149,12 @@ tight_is_cert cert good = record {
 
 pub tight_texts : TightIsAccepted → TightTextsAreAccepted
 tight_texts tight b h answers text es valid some a =
-    let w = tight b h a.cert es valid some a.accepted in
-    (w.0,
-    record {
-      cert = tight_cert a.cert;
-      spelled = record { good = tight_is_cert a.cert a.spelled.good; lines = refl };
-      accepted = w.1;
-    },
-    w.2)
+    let w = tight b h a.cert es valid some a.accepted in (
+      w.0,
+      record {
+        cert = tight_cert a.cert;
+        spelled = record { good = tight_is_cert a.cert a.spelled.good; lines = refl };
+        accepted = w.1;
+      },
+      w.2,
+    )

@@ -90,9 +90,11 @@ module _ (w : Walk) (bytes : ByteBox) (left : Vec ByteBox) (popped : w.boxes.ite
     pub form_is_good : (nodes : List Node) → IsBehind nodes w → AreFirst (length w.claims.now) (nodes ++ node ∷ [])
         → (kind : CertKind) × IsLeaf kind (length w.block.now.outputs) form
     form_is_good nodes behind first =
-        let good = last_good (length w.claims.now) nodes node first in
-        (good.0, subst (λ n. IsLeaf good.0 n form) behind.claims_count
-        (subst (IsNode good.0 (length w.claims.now)) is good.1))
+        let good = last_good (length w.claims.now) nodes node first in (
+          good.0,
+          subst (λ n. IsLeaf good.0 n form) behind.claims_count
+              (subst (IsNode good.0 (length w.claims.now)) is good.1),
+        )
 
     pub leaf_behind : {A : Type 0} (old errors : List ℕ) (r : Result A CheckFault) → OpenBoxesGoOn
         → old ≡ w.errors.items

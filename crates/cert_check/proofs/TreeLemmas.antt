@@ -134,9 +134,10 @@ All-tail P x xs all k d l = all (suc k) d (omega arith)
 
 leaves_are : (P : Node → Type 0) (box : List Interval) (nodes : List Node) (parts : List Part) (rest : List Node)
     → IsTree box nodes parts rest → All P nodes → All (λ p. P (Leaf p.form)) parts × All P rest
-leaves_are P _ _ _ _ (leaf box form rest) all =
-    (one_of (λ (p : Part). P (Leaf p.form)) (record { box = box; form = form }) (all 0 (Leaf form) (omega arith)),
-    All-tail P (Leaf form) rest all)
+leaves_are P _ _ _ _ (leaf box form rest) all = (
+  one_of (λ (p : Part). P (Leaf p.form)) (record { box = box; form = form }) (all 0 (Leaf form) (omega arith)),
+  All-tail P (Leaf form) rest all,
+)
 leaves_are P _ _ _ _ (split box i c nodes mid rest left right from cut l r) all =
     let lower = leaves_are P (left_of (i - 1) c box) nodes left mid l (All-tail P (Split i c) nodes all) in
     let upper = leaves_are P (right_of (i - 1) c box) mid right rest r lower.1 in

@@ -170,63 +170,63 @@ cells_split b h target box is above many = record {
 
 module _ {kind : CertKind} {b : Block} {h target : ℕ} {box : List Interval} {k c : ℕ} {v : Interval}
     (is : IsBoxOf b box) (widest : IsWidest box k v) (large : IsSplit kind b h target box) (middle : c ≡ middle_of v)
-    where
-  halved_at : IsHalvedAt box k c
-  halved_at = record { interval = v; widest = widest; more = large.wide k v widest; middle = middle }
+  where
+    halved_at : IsHalvedAt box k c
+    halved_at = record { interval = v; widest = widest; more = large.wide k v widest; middle = middle }
 
-  cuttable : IsToCut kind b h target box k c
-  cuttable = record { above = large.above; large = large.large; halved = halved_at }
+    cuttable : IsToCut kind b h target box k c
+    cuttable = record { above = large.above; large = large.large; halved = halved_at }
 
-  cut_small : c ≤ 255
-  cut_small =
-      let small = (is.intervals.some k v widest.is_at).1 in
-      let inside = (middle_inside v.from v.to (large.wide k v widest)).1 in
-      omega arith
+    cut_small : c ≤ 255
+    cut_small =
+        let small = (is.intervals.some k v widest.is_at).1 in
+        let inside = (middle_inside v.from v.to (large.wide k v widest)).1 in
+        omega arith
 
-  -- its halves are boxes that can be cut fewer times
-  pub left_half : CutsHaveHalves → (left : List Interval) → left ≡ left_of k c box
-      → (cuts_of left < cuts_of box) × IsBoxOf b left
-  left_half cuts left left_is = subst (λ (x : List Interval). (cuts_of x < cuts_of box) × IsBoxOf b x) (sym left_is)
-      ((halves_fewer box k c halved_at).0, left_box cuts b box k c halved_at is)
+    -- its halves are boxes that can be cut fewer times
+    pub left_half : CutsHaveHalves → (left : List Interval) → left ≡ left_of k c box
+        → (cuts_of left < cuts_of box) × IsBoxOf b left
+    left_half cuts left left_is = subst (λ (x : List Interval). (cuts_of x < cuts_of box) × IsBoxOf b x) (sym left_is)
+        ((halves_fewer box k c halved_at).0, left_box cuts b box k c halved_at is)
 
-  pub right_half : CutsHaveHalves → (right : List Interval) → right ≡ right_of k c box
-      → (cuts_of right < cuts_of box) × IsBoxOf b right
-  right_half cuts right right_is =
-      subst (λ (x : List Interval). (cuts_of x < cuts_of box) × IsBoxOf b x) (sym right_is)
-      ((halves_fewer box k c halved_at).1, right_box cuts b box k c halved_at is)
+    pub right_half : CutsHaveHalves → (right : List Interval) → right ≡ right_of k c box
+        → (cuts_of right < cuts_of box) × IsBoxOf b right
+    right_half cuts right right_is =
+        subst (λ (x : List Interval). (cuts_of x < cuts_of box) × IsBoxOf b x) (sym right_is)
+        ((halves_fewer box k c halved_at).1, right_box cuts b box k c halved_at is)
 
-  module _ {left : List Interval} (left_is : left ≡ left_of k c box) where
-    -- halving stops where that of the left half does
-    pub Stops-left : {n : ℕ} {stop : NotReached} → Stops kind b h target left n stop
-        → Stops kind b h target box n stop
-    Stops-left {n} {stop} stops = in_left box k c n stop cuttable
-        (subst (λ (x : List Interval). Stops kind b h target x n stop) left_is stops)
+    module _ {left : List Interval} (left_is : left ≡ left_of k c box) where
+      -- halving stops where that of the left half does
+      pub Stops-left : {n : ℕ} {stop : NotReached} → Stops kind b h target left n stop
+          → Stops kind b h target box n stop
+      Stops-left {n} {stop} stops = in_left box k c n stop cuttable
+          (subst (λ (x : List Interval). Stops kind b h target x n stop) left_is stops)
 
-    -- where the left half's tree has grown, it is up to the right half
-    module _ {right : List Interval} (right_is : right ≡ right_of k c box) (old mid : Tree) (nodes : Vec Node)
-        (grows : Grows kind b h target left (record { nodes = nodes; errors = old.errors; leaves = old.leaves }) mid)
+      -- where the left half's tree has grown, it is up to the right half
+      module _ {right : List Interval} (right_is : right ≡ right_of k c box) (old mid : Tree) (nodes : Vec Node)
+          (grows : Grows kind b h target left (record { nodes = nodes; errors = old.errors; leaves = old.leaves }) mid)
         where
-      abbrev pushed : Tree
-      pushed = record { nodes = nodes; errors = old.errors; leaves = old.leaves }
+          abbrev pushed : Tree
+          pushed = record { nodes = nodes; errors = old.errors; leaves = old.leaves }
 
-      grows_left : Grows kind b h target (left_of k c box) pushed mid
-      grows_left = subst (λ (x : List Interval). Grows kind b h target x pushed mid) left_is grows
+          grows_left : Grows kind b h target (left_of k c box) pushed mid
+          grows_left = subst (λ (x : List Interval). Grows kind b h target x pushed mid) left_is grows
 
-      pub Grows-halves : {T : Type 0} (new : Tree) (r : Result T NotReached) → CutsHaveHalves → IsValid b
-          → nodes.items ≡ old.nodes.items ++ Split (k + 1) c ∷ [] → OnOk r (Grows kind b h target right mid new)
-          → OnOk r (Grows kind b h target box old new)
-      Grows-halves new r cuts valid nodes_are grown = on_ok r grown
-          (λ g. grows_split cuts kind b h target box k c old pushed mid new valid.few_inputs is cuttable cut_small
-          nodes_are refl refl grows_left
-          (subst (λ (x : List Interval). Grows kind b h target x mid new) right_is g))
+          pub Grows-halves : {T : Type 0} (new : Tree) (r : Result T NotReached) → CutsHaveHalves → IsValid b
+              → nodes.items ≡ old.nodes.items ++ Split (k + 1) c ∷ [] → OnOk r (Grows kind b h target right mid new)
+              → OnOk r (Grows kind b h target box old new)
+          Grows-halves new r cuts valid nodes_are grown = on_ok r grown
+              (λ g. grows_split cuts kind b h target box k c old pushed mid new valid.few_inputs is cuttable cut_small
+              nodes_are refl refl grows_left
+              (subst (λ (x : List Interval). Grows kind b h target x mid new) right_is g))
 
-      pub Stops-right : {T : Type 0} (r : Result T NotReached)
-          → IfErr r (λ stop. stop ≢ Memory → Stops kind b h target right mid.leaves stop)
-          → IfErr r (λ stop. stop ≢ Memory → Stops kind b h target box old.leaves stop)
-      Stops-right r stops = if_err (λ stop. stop ≢ Memory → Stops kind b h target right mid.leaves stop)
-          (λ stop. stop ≢ Memory → Stops kind b h target box old.leaves stop) r stops
-          (λ stop f found. in_right box k c old.leaves mid.leaves grows_left.added stop cuttable grows_left.halves
-          (subst (λ (x : List Interval). Stops kind b h target x mid.leaves stop) right_is (f found)))
+          pub Stops-right : {T : Type 0} (r : Result T NotReached)
+              → IfErr r (λ stop. stop ≢ Memory → Stops kind b h target right mid.leaves stop)
+              → IfErr r (λ stop. stop ≢ Memory → Stops kind b h target box old.leaves stop)
+          Stops-right r stops = if_err (λ stop. stop ≢ Memory → Stops kind b h target right mid.leaves stop)
+              (λ stop. stop ≢ Memory → Stops kind b h target box old.leaves stop) r stops
+              (λ stop f found. in_right box k c old.leaves mid.leaves grows_left.added stop cuttable grows_left.halves
+              (subst (λ (x : List Interval). Stops kind b h target x mid.leaves stop) right_is (f found)))
 
 -- ---- all bytes
 

@@ -192,6 +192,8 @@ module _ (hold : BestLeavesHold) (b : Block) (h target : ℕ) (box : List Interv
             claim = Pair leaf;
             claim_is = ap (option_map (λ (q : ℕ × ℕ). Pair (record { rule = q.0; k = q.1 }))) at;
             allowed = tt;
-            bound_is = ((hold b box (k + 1) leaf small p.within.best).0,
-                subst (λ n. IsBound b box (k + 1) x h leaf n) (sym same) p.within.bound);
+            bound_is = (
+              (hold b box (k + 1) leaf small p.within.best).0,
+              subst (λ n. IsBound b box (k + 1) x h leaf n) (sym same) p.within.bound,
+            );
           }

@@ -205,10 +205,12 @@ module _ (best_one : BestLeavesAreOne) (counts_one : BoxCountsAreOne) (cells_one
       (λ (g : o ≤ p).
       let e : o ≡ p = omega arith in
       let x = output_of o a.from a.to in
-      let moved : IsFirst box bytes o m = subst (λ j. IsFirst box bytes j m) (sym e) c in
-      (e, cells_one b (cell_of bytes) o x.0 h n m
-      (IfSome-at (λ y. IsCellCount b (cell_of bytes) o y h n) x.1 a.count)
-      (IfSome-at (λ y. IsCellCount b (cell_of bytes) o y h m) x.1 moved.count)))
+      let moved : IsFirst box bytes o m = subst (λ j. IsFirst box bytes j m) (sym e) c in (
+        e,
+        cells_one b (cell_of bytes) o x.0 h n m
+            (IfSome-at (λ y. IsCellCount b (cell_of bytes) o y h n) x.1 a.count)
+            (IfSome-at (λ y. IsCellCount b (cell_of bytes) o y h m) x.1 moved.count),
+      ))
       (cases_lt p o))
       (cases_lt o p)
 
@@ -276,9 +278,11 @@ module _ (best_one : BestLeavesAreOne) (counts_one : BoxCountsAreOne) (cells_one
   one_stuck : (kind : CertKind) (box : List Interval) (ms ns : List ℕ) (o p n m : ℕ) → IsBoxOf b box
       → IsStuck kind b h target box ms o n → IsStuck kind b h target box ns p m → (ms ≡ ns) × (o ≡ p) × (n ≡ m)
   one_stuck Named box ms ns o p n m is (single, k, number, a) (also, j, other, c) =
-      let same = one_above best_one counts_one cells_one Named b h target valid box k j n m is a c in
-      (sym (cell_bytes ms) ∙ ap lows (sym single ∙ also) ∙ cell_bytes ns,
-      number ∙ ap (λ i. i + 1) same.0 ∙ sym other, same.1)
+      let same = one_above best_one counts_one cells_one Named b h target valid box k j n m is a c in (
+        sym (cell_bytes ms) ∙ ap lows (sym single ∙ also) ∙ cell_bytes ns,
+        number ∙ ap (λ i. i + 1) same.0 ∙ sym other,
+        same.1,
+      )
   one_stuck Tight box ms ns o p n m is s t = one_cell_above box ms ns o p n m s.2 t.2
 
   -- ---- one tree, or one stop

@@ -1,8 +1,8 @@
 //! Laws of the definitions.
 ghost use Rattle.error_certifier.specs.Laws.{AnswersAreOne, CellsAreOutOfReach};
 
-use cert_check::{cuts_have_halves, errors_are_determined, leaves_are_around};
 use cell_bounds::{box_counts_are_one, cell_counts_are_one, counts_are_least};
+use cert_check::{cuts_have_halves, errors_are_determined, leaves_are_around};
 use error_bound::best_leaves_are_one;
 
 /// A block has at most one answer for a target: a certificate, or why there is none.

@@ -7,10 +7,7 @@ use std::test::Fail;
 
 /// Targets, and the texts of the certificates that halving gives for them.
 static HALVED: [(u32, &[u8]); 3] = [
-    (
-        20_000,
-        b"FZC 3\nclaim 19547\nsplit 1 128\nleaf\nleaf\n",
-    ),
+    (20_000, b"FZC 3\nclaim 19547\nsplit 1 128\nleaf\nleaf\n"),
     (
         11_734,
         b"FZC 3\nclaim 11724\nsplit 1 128\nsplit 1 64\ncells\nleaf\nsplit 1 192\nleaf\ncells\n",

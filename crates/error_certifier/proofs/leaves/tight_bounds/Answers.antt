@@ -24,8 +24,10 @@ loop-o-preserved c =
       places = omega (arith, length-set c.loop-o.bounds o n, i.places);
       filled = AreFilled-more (IsTightAt b c.args.parts c.args.target box) b.outputs c.loop-o.bounds o n
           (omega (arith, c.loop-o-test.true, c.len-o-end.ensures, few, i.places)) i.filled
-          (λ x e. (at_place b o x (λ (y : Output). IsTightBound b box (o + 1) y c.args.parts n) e c.in-Ok.ensures.bound,
-          c.in-Ok.ensures.within));
+          (λ x e. (
+            at_place b o x (λ (y : Output). IsTightBound b box (o + 1) y c.args.parts n) e c.in-Ok.ensures.bound,
+            c.in-Ok.ensures.within,
+          ));
     }
 
 pub returns-clause-bounds : goal.returns-clause-bounds
