@@ -115,5 +115,5 @@ as_status width w block text answer (Err s) at (r, is, told) h =
     subst (λ v. IsRefusal (cert_refusals v block text) s) (sym at)
     (subst (λ x. IsRefusal (cert_refusals width block text) x) (sym told)
     (as_refusal width block text r
-    (subst (λ a. IfErr a (λ q. q ≢ refusal.Memory → HasTextFault block (parts width) Named (answer_width width) text q)) is
-    h)))
+    (subst (λ a. IfErr a
+    (λ q. q ≢ refusal.Memory → HasTextFault block (parts width) Named (answer_width width) text q)) is h)))

@@ -1,5 +1,5 @@
 -- Under an accepted certificate each answer is within the error.
-use Rattle.std.proofs.Common.{◌≡◌, ℕ, zero, suc, ◌≤◌, List, [], ◌∷◌, length, map, Bool, true, Option, Some, None, refl}
+use Rattle.std.proofs.Common.{◌≡◌, ℕ, zero, suc, ◌≤◌, List, [], ◌∷◌, length, map, Bool, true, Some, refl}
 use Rattle.std.proofs.Common.{sym, ap, ap₂, ◌∙◌, subst, arith, mul-pos}
 use Rattle.std.specs.Prelude.{nat_le, ◌&&◌, slice_get, fold, All}
 use Rattle.std.proofs.lemmas.Int.{ints}
@@ -136,4 +136,5 @@ module _ (in_cells : NumbersLieInTheirCells) (answers : ClaimAnswersAreNear) (b 
 
 pub accepted_near : NumbersLieInTheirCells → ClaimAnswersAreNear → AcceptedAnswersAreNear
 accepted_near in_cells answers b h cert errors o x e samples valid some acc from ex ee all =
-    all_near in_cells answers b h some valid cert acc.parts acc.tree o x e ex (acc.greatest o x e from ex ee) samples all
+    all_near in_cells answers b h some valid cert acc.parts acc.tree o x e ex
+    (acc.greatest o x e from ex ee) samples all

@@ -44,7 +44,9 @@ pub leaf_around : LeavesAreAround
 leaf_around b h cert errors o x e bytes a from ex ee count small =
     let l = lies_whole b.inputs bytes count small in
     let one = one_leaf (whole b) cert.nodes [] a.parts bytes a.tree l in
-    let P : Part → Type 0 = λ p. IsBoxOf b p.box × (((k : CertKind) → All (IsNodeOf k) cert.nodes → IsFormOf k p.form) × ((n : ℕ) × HasBound b o x h p n × (n ≤ e))) in
+    let P : Part → Type 0 = λ p. IsBoxOf b p.box
+    × (((k : CertKind) → All (IsNodeOf k) cert.nodes → IsFormOf k p.form)
+    × ((n : ℕ) × HasBound b o x h p n × (n ≤ e))) in
     let boxes = boxes_are b (whole b) cert.nodes a.parts [] a.tree (whole_is b) in
     let each = (a.greatest o x e from ex ee).each in
     let p = leaf_with bytes a.parts P (omega (arith, one)) (λ k d l. (

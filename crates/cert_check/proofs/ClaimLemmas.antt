@@ -1,7 +1,6 @@
 -- What a leaf says of an output: where it has a Bound it holds, and then it has no fault.
-use Rattle.std.proofs.Common.{◌≡◌, ℕ, ◌+◌, ◌-◌, ◌<◌, ◌≤◌, List, length, Option, Some, sym, ap, ◌∙◌, subst, arith}
-use Rattle.std.specs.Prelude.{slice_get, slice_index, IfSome, IsTrue, ◌==◌}
-use Rattle.std.specs.Option.{option_map}
+use Rattle.std.proofs.Common.{◌≡◌, ℕ, ◌+◌, ◌-◌, List, Option, Some, sym, subst, arith}
+use Rattle.std.specs.Prelude.{slice_index, IfSome, IsTrue, ◌==◌}
 use Rattle.fz_list.proofs.Algebra.{some_at, IsSomeAnd-at, list_any-left}
 use Rattle.fuzzy_meaning.specs.declared.block.Block.{Block}
 use Rattle.fuzzy_meaning.specs.declared.block.Output.{Output}

@@ -1,5 +1,5 @@
 -- A certificate has one list of errors.
-use Rattle.std.proofs.Common.{◌≡◌, ℕ, zero, suc, ◌+◌, ◌-◌, ◌<◌, ◌≤◌, List, [], ◌∷◌, ◌++◌, length, get_or, map, Option}
+use Rattle.std.proofs.Common.{◌≡◌, ℕ, zero, suc, ◌+◌, ◌-◌, ◌<◌, ◌≤◌, List, [], ◌∷◌, ◌++◌, length, get_or, map}
 use Rattle.std.proofs.Common.{Some, refl, sym, ap, ap₂, ◌∙◌, subst, arith}
 use Rattle.std.specs.Prelude.{All, slice_get}
 use Rattle.std.proofs.lemmas.List.Elements.{All-append}
@@ -9,7 +9,6 @@ use Rattle.fuzzy_meaning.specs.declared.block.Output.{Output}
 use Rattle.fuzzy_meaning.specs.Blocks.{IsValid, output_at}
 use Rattle.error_bound.specs.declared.boxes.Interval.{Interval}
 use Rattle.fz_list.proofs.Algebra.{some_at}
-use Rattle.cell_bounds.specs.declared.claims.Claim.{Claim}
 use Rattle.cell_bounds.specs.Claims.{HasClaimBound, ClaimBoundsAreOne}
 use Rattle.box_tree.specs.declared.cert.LeafForm.{LeafForm}
 use Rattle.box_tree.specs.declared.cert.Node.{Node}

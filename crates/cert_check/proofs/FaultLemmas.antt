@@ -1,8 +1,7 @@
 -- A certificate with a fault is not accepted.
-use Rattle.std.proofs.Common.{◌≡◌, ℕ, zero, suc, ◌-◌, ◌≤◌, List, [], ◌∷◌, ◌++◌, Some, refl, sym, ap, ◌∙◌, subst, arith}
+use Rattle.std.proofs.Common.{◌≡◌, ℕ, zero, suc, ◌-◌, ◌≤◌, List, [], ◌∷◌, ◌++◌, Some, refl, sym, ap, subst, arith}
 use Rattle.std.specs.Prelude.{slice_get, All}
 use Rattle.fuzzy_meaning.specs.declared.block.Block.{Block}
-use Rattle.fuzzy_meaning.specs.declared.block.Output.{Output}
 use Rattle.error_bound.specs.declared.boxes.Interval.{Interval}
 use Rattle.fz_list.proofs.Algebra.{some_at}
 use Rattle.error_bound.specs.Faults.{FaultyLeavesFail}

@@ -22,8 +22,10 @@ use Rattle.cert_check.specs.declared.checker.CheckFault.TheVariants as fault
 use Rattle.cert_check.specs.declared.text.TextFault.TheVariants as refusal
 use Rattle.cert_check.specs.Trees.{Part, IsTree, leaf, split, part_of, left_of, right_of, IsCut, whole}
 use Rattle.cert_check.specs.Acceptance.{claim_at}
-use Rattle.cert_check.specs.Faults.{AllHold, line_at, Reaches, root, in_left, in_right, HasPartFault, IsPairFault, IsCellsFault}
-use Rattle.cert_check.specs.Faults.{bad_rule, fails, too_many, unsure, IsClaimFault, HasTreeFault, bad_cut, bad_leaf, IsFirstOver, HasCheckFault}
+use Rattle.cert_check.specs.Faults.{AllHold, line_at, Reaches, root, in_left, in_right, HasPartFault, IsPairFault}
+use Rattle.cert_check.specs.Faults.{IsCellsFault}
+use Rattle.cert_check.specs.Faults.{bad_rule, fails, too_many, unsure, IsClaimFault, HasTreeFault, bad_cut, bad_leaf}
+use Rattle.cert_check.specs.Faults.{IsFirstOver, HasCheckFault}
 use Rattle.cert_check.specs.Faults.{outputs, tree, claimed}
 use Rattle.cert_check.specs.TextFaults.{of_text, of_cert}
 use Rattle.cert_check.specs.Laws.{CheckFaultsAreOne, TextAnswersAreOne}
@@ -91,7 +93,8 @@ data Stops (b : Block) (h : ℕ) (box : List Interval) (rest : List Node) (line 
   at_leaf : (form : LeafForm) (after : List Node) (f : CheckFault) → rest ≡ Leaf form ∷ after
       → HasPartFault b h (part_of box form) line f → Stops b h box rest line f
 
-no_cut : (b : Block) (h : ℕ) (box : List Interval) (rest : List Node) (line : ℕ) (f : CheckFault) (i c : ℕ) (nodes : List Node)
+no_cut : (b : Block) (h : ℕ) (box : List Interval) (rest : List Node) (line : ℕ) (f : CheckFault) (i c : ℕ)
+    (nodes : List Node)
     → Stops b h box rest line f → rest ≡ Split i c ∷ nodes → IsCut (i - 1) c box → ⊥
 no_cut b h box rest line _ i c nodes (at_cut j d after e none) same cut =
     let both : Split j d ∷ after ≡ Split i c ∷ nodes = sym e ∙ same in
@@ -138,9 +141,11 @@ same_side side i j c d x y e1 e2 e3 = cc
 
 -- what stands first at fault in a tree stands at one place
 one_place : FaultyLeavesFail
-    → (b : Block) (h : ℕ) (x y : List Interval) (ns ms : List Node) (found found' : List Interval) (rest rest' : List Node)
+    → (b : Block) (h : ℕ) (x y : List Interval) (ns ms : List Node) (found found' : List Interval)
+    (rest rest' : List Node)
     (line line' : ℕ) (f g : CheckFault) → x ≡ y → ns ≡ ms
-    → Reaches b h x ns found rest → Stops b h found rest line f → Reaches b h y ms found' rest' → Stops b h found' rest' line' g
+    → Reaches b h x ns found rest → Stops b h found rest line f → Reaches b h y ms found' rest'
+    → Stops b h found' rest' line' g
     → (found ≡ found') × (rest ≡ rest')
 one_place fail b h x y ns ms _ _ _ _ line line' f g ex en (root _ _) stop (root _ _) stop' = (ex, en)
 one_place fail b h x y ns ms _ _ _ _ line line' f g ex en (root _ _) stop
@@ -202,7 +207,8 @@ stops_at b h nodes f (bad_leaf box form rest g reach part) =
     record { box = box; rest = Leaf form ∷ rest; reached = reach; stops = at_leaf form rest f refl part }
 
 one_stop : LeafFaultsAreOne → FaultyLeavesFail
-    → (b : Block) (h : ℕ) (box : List Interval) (rest : List Node) (line : ℕ) (f g : CheckFault) → Stops b h box rest line f
+    → (b : Block) (h : ℕ) (box : List Interval) (rest : List Node) (line : ℕ) (f g : CheckFault)
+    → Stops b h box rest line f
     → Stops b h box rest line g → f ≡ g
 one_stop one fail b h box rest line _ _ (at_cut i c after e none) (at_cut j d after' e' none') = refl
 one_stop one fail b h box rest line _ _ (at_cut i c after e none) (at_leaf form after' g e' part) =

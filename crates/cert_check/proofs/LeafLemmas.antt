@@ -1,10 +1,10 @@
 -- The Bounds of a leaf, one more at a time.
-use Rattle.std.proofs.Common.{◌≡◌, ℕ, ◌+◌, ◌-◌, ◌<◌, ◌≤◌, List, length, get_or, Some, refl, sym, ap, ◌∙◌, subst, arith}
-use Rattle.std.specs.Prelude.{slice_get, slice_index, slice_set, IfSome}
+use Rattle.std.proofs.Common.{◌≡◌, ℕ, ◌+◌, ◌-◌, ◌<◌, ◌≤◌, List, length, get_or, Some, refl, sym, ap, subst, arith}
+use Rattle.std.specs.Prelude.{slice_get, slice_index, IfSome}
 use Rattle.std.specs.Option.{option_map}
 use Rattle.std.proofs.lemmas.Option.{slice_get_within, slice_get-get_or, get_or_from_slice_get, IfSome_then}
 use Rattle.arrayvec.specs.ArrayVec.{ArrayVec}
-use Rattle.fz_list.proofs.Algebra.{AreFilled, AreFilled-more, some_at}
+use Rattle.fz_list.proofs.Algebra.{AreFilled, some_at}
 use Rattle.fuzzy_meaning.specs.declared.block.Block.{Block}
 use Rattle.fuzzy_meaning.specs.declared.block.Output.{Output}
 use Rattle.fuzzy_meaning.specs.Blocks.{output_at}
@@ -17,12 +17,12 @@ use Rattle.error_bound.specs.Tight.{IsTightBound, IsSure, silent, sure}
 use Rattle.box_tree.specs.declared.cert.LeafForm.TheVariants as form
 use Rattle.cell_bounds.specs.declared.claims.Claim.{Claim}
 use Rattle.cell_bounds.specs.declared.claims.Claim.TheVariants.{Pair, Tight, Cells}
-use Rattle.cell_bounds.specs.CellBounds.{CellsAreWithin, IsCellsBound, IsFirstUnsure, cell_count}
+use Rattle.cell_bounds.specs.CellBounds.{IsCellsBound, IsFirstUnsure, cell_count}
 use Rattle.cert_check.specs.declared.checker.CheckFault.{CheckFault}
 use Rattle.cert_check.specs.declared.checker.CheckFault.TheVariants as fault
 use Rattle.cert_check.specs.Trees.{Part, part_of}
 use Rattle.cert_check.specs.Acceptance.{claim_at, HasBound}
-use Rattle.cert_check.specs.Faults.{HoldBefore, ClaimHolds, IsPairFault, IsClaimFault, HasPartFault, too_many, unsure}
+use Rattle.cert_check.specs.Faults.{HoldBefore, ClaimHolds, IsClaimFault, HasPartFault, too_many, unsure}
 use Rattle.cert_check.specs.Walks.{AreBounds}
 use Rattle.cert_check.proofs.ClaimLemmas.{IfSome-at, bound_holds, one_claim}
 

@@ -1,5 +1,6 @@
 -- Certificates that are accepted for wider answers, or with tight leaves.
-use Rattle.std.proofs.Common.{◌≡◌, ℕ, zero, suc, ◌+◌, ◌-◌, ◌≤◌, List, [], ◌∷◌, ◌++◌, length, map, Option, Some, None, refl}
+use Rattle.std.proofs.Common.{◌≡◌, ℕ, zero, suc, ◌+◌, ◌-◌, ◌≤◌, List, [], ◌∷◌, ◌++◌, length, map, Option, Some, None}
+use Rattle.std.proofs.Common.{refl}
 use Rattle.std.proofs.Common.{sym, ap, ◌∙◌, subst, arith}
 use Rattle.std.specs.Prelude.{◌≢◌, All, slice_get}
 use Rattle.std.specs.Option.{option_map}
@@ -19,13 +20,12 @@ use Rattle.box_tree.specs.Certificates.{IsNode, IsCert}
 use Rattle.box_tree.specs.Texts.{version_line, claim_line, node_lines}
 use Rattle.box_tree.specs.Trees.{open_from, leaf_count}
 use Rattle.cell_bounds.specs.declared.claims.Claim.{Claim}
-use Rattle.cell_bounds.specs.declared.claims.Claim.TheVariants.{Pair, Tight, Cells}
+use Rattle.cell_bounds.specs.declared.claims.Claim.TheVariants.{Pair, Tight}
 use Rattle.cell_bounds.specs.Claims.{NamesNoCells, ClaimBoundsFallWithParts, TightClaimsAreLeast}
 use Rattle.cert_check.specs.Trees.{Part, IsTree, leaf, split, left_of, right_of, whole}
 use Rattle.cert_check.specs.Acceptance.{claim_at, HasBound}
 use Rattle.cert_check.specs.Laws.{NamedCertsHaveNoCells, WideIsAccepted, WideTextsAreAccepted, tight_form, tight_node}
 use Rattle.cert_check.specs.Laws.{tight_cert, TightIsAccepted, TightTextsAreAccepted}
-use Rattle.cert_check.proofs.ClaimLemmas.{one_claim}
 use Rattle.cert_check.proofs.LowerErrors.{accepted_lower}
 use Rattle.cert_check.proofs.TreeLemmas.{forms_are}
 

@@ -1,6 +1,6 @@
 -- A walk that takes one more node.
 use Rattle.std.proofs.Common.{◌≡◌, ℕ, ◌+◌, ◌-◌, ◌≤◌, List, [], ◌∷◌, ◌++◌, length, length-append, Some, None, sym, ◌∙◌}
-use Rattle.std.proofs.Common.{ap, subst, arith, vec_capacity}
+use Rattle.std.proofs.Common.{subst, arith, vec_capacity}
 use Rattle.std.specs.Prelude.{Result, Ok, Err, OnOk, IfErr, MatchOption}
 use Rattle.std.specs.Global.{Vec}
 use Rattle.std.specs.Vec.{with_items}

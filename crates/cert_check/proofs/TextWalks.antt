@@ -32,16 +32,19 @@ module _ {b : Block} {h : ℕ} {begun lines : Lines} {w : Walk} (is : IsWalkOver
   -- ---- one more node is read
 
   module _ (next : Lines) (node : Node) (claims : claims_of next ≡ claims_of lines)
-      (more : (kind : CertKind) (answers : AnswerWidth) (text : List ℕ) (nodes : List Node) → HasRead kind answers text nodes lines
+      (more : (kind : CertKind) (answers : AnswerWidth) (text : List ℕ) (nodes : List Node)
+      → HasRead kind answers text nodes lines
       → HasRead kind answers text (nodes ++ node ∷ []) next) where
-    AreFirst-read : (kind : CertKind) (answers : AnswerWidth) (text : List ℕ) (nodes : List Node) → HasRead kind answers text nodes lines
+    AreFirst-read : (kind : CertKind) (answers : AnswerWidth) (text : List ℕ) (nodes : List Node)
+        → HasRead kind answers text nodes lines
         → AreFirst (length w.claims.now) (nodes ++ node ∷ [])
     AreFirst-read kind answers text nodes read =
         subst (λ (cs : List ℕ). AreFirst (length cs) (nodes ++ node ∷ [])) (claims ∙ sym is.over.claims_are)
         (first_of_text kind answers text (nodes ++ node ∷ []) next (more kind answers text nodes read))
 
     -- the walk may take it
-    pub AreFirst-some : (kind : CertKind) × (answers : AnswerWidth) × (text : List ℕ) × HasRead kind answers text [] begun
+    pub AreFirst-some : (kind : CertKind) × (answers : AnswerWidth) × (text : List ℕ)
+        × HasRead kind answers text [] begun
         → (nodes : List Node) × HasTaken nodes w × AreFirst (length w.claims.now) (nodes ++ node ∷ [])
     AreFirst-some r = let t = is.taken r.0 r.1 r.2 r.3 in (t.0, t.2, AreFirst-read r.0 r.1 r.2 t.0 t.1)
 
@@ -60,7 +63,8 @@ module _ {b : Block} {h : ℕ} {begun lines : Lines} {w : Walk} (is : IsWalkOver
 
   -- ---- the text is read to its end
 
-  module _ (ended : (kind : CertKind) (answers : AnswerWidth) (text : List ℕ) (nodes : List Node) → HasRead kind answers text nodes lines
+  module _ (ended : (kind : CertKind) (answers : AnswerWidth) (text : List ℕ) (nodes : List Node)
+      → HasRead kind answers text nodes lines
       → CertText kind answers text (cert_of lines nodes)) (kind : CertKind) (answers : AnswerWidth) (text : List ℕ)
       (first : HasRead kind answers text [] begun) where
     IsTree-read : IsTree (is.taken kind answers text first).0
@@ -83,7 +87,8 @@ module _ {b : Block} {h : ℕ} {begun lines : Lines} {w : Walk} (is : IsWalkOver
     -- or has its fault
     pub HasTextFault-read : (f : CheckFault)
         → ((nodes : List Node) → HasTaken nodes w → IsTree nodes
-        → HasCheckFault w.block.now w.parts (cert_over w nodes) f) → HasTextFault b h kind answers text (refusal.Check f)
+        → HasCheckFault w.block.now w.parts (cert_over w nodes) f) → HasTextFault b h kind answers text
+        (refusal.Check f)
     HasTextFault-read f fault =
         let t = is.taken kind answers text first in
         of_cert (cert_of lines t.0) f (ended kind answers text t.0 t.1)

@@ -1,7 +1,7 @@
 -- How far a walk over the nodes has come: the boxes that are open, and what is known of the tree from what follows.
 use Rattle.std.proofs.Common.{◌≡◌, ⊎_elim, inl, inr, ℕ, zero, suc, ◌+◌, ◌-◌, ◌*◌, ◌<◌, ◌≤◌, List, [], ◌∷◌, ◌++◌, length}
 use Rattle.std.proofs.Common.{length-append, get_or, map, reverse, replicate, Some, refl, sym, ap, ◌∙◌, subst, arith}
-use Rattle.std.specs.Prelude.{slice_get, slice_index, All, max}
+use Rattle.std.specs.Prelude.{slice_index, All, max}
 use Rattle.std.specs.List.{Any}
 use Rattle.std.proofs.lemmas.Bool.{cases_lt}
 use Rattle.std.proofs.lemmas.List.{append_assoc, append-nil, reverse-append, length-map, length-reverse}
@@ -60,7 +60,13 @@ reached_split b h box boxes i c nodes found rest some cut (inl t) = inl (in_left
 reached_split b h box boxes i c nodes found rest some cut (inr (ps, mid, t, hold, inl u)) = inl
     (in_right box i c nodes mid ps found rest some cut t hold u)
 reached_split b h box boxes i c nodes found rest some cut (inr (ps, mid, t, hold, inr (qs, mid', u, also, more))) =
-    inr (ps ++ qs, mid', split box i c nodes mid mid' ps qs some cut t u, All-append (AllHold b h) ps qs hold also, more)
+    inr (
+      ps ++ qs,
+      mid',
+      split box i c nodes mid mid' ps qs some cut t u,
+      All-append (AllHold b h) ps qs hold also,
+      more,
+    )
 
 reached_leaf : (b : Block) (h : ℕ) (box : List Interval) (boxes : List (List Interval)) (form : LeafForm)
     (nodes : List Node) (found : List Interval) (rest : List Node) → AllHold b h (part_of box form)

@@ -1,5 +1,6 @@
 -- What a walk over the nodes of a tree keeps.
-use Rattle.std.specs.Prelude.{◌≡◌, ◌⊎◌, ℕ, ◌+◌, ◌-◌, ◌<◌, ◌≤◌, max, List, [], ◌∷◌, ◌++◌, length, map, reverse, All, Some}
+use Rattle.std.specs.Prelude.{◌≡◌, ◌⊎◌, ℕ, ◌+◌, ◌-◌, ◌<◌, ◌≤◌, max, List, [], ◌∷◌, ◌++◌, length, map, reverse, All}
+use Rattle.std.specs.Prelude.{Some}
 use Rattle.std.specs.Prelude.{MatchOption, slice_get, slice_index, vec_capacity}
 use Rattle.std.specs.List.{Any}
 use Rattle.fuzzy_meaning.specs.declared.block.Block.{Block}

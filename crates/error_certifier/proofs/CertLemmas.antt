@@ -30,7 +30,8 @@ leaf_count-append [] ys = omega arith
 leaf_count-append (Split i c ∷ xs) ys = leaf_count-append xs ys
 leaf_count-append (Leaf form ∷ xs) ys = let r = leaf_count-append xs ys in omega arith
 
-halved_open : OpenBoxesGoOn → (kind : CertKind) (b : Block) (h target : ℕ) (box : List Interval) (n m : ℕ) (nodes : List Node)
+halved_open : OpenBoxesGoOn
+    → (kind : CertKind) (b : Block) (h target : ℕ) (box : List Interval) (n m : ℕ) (nodes : List Node)
     → Halves kind b h target box n nodes m → (i : ℕ) → open_from (suc i) nodes ≡ Some i
 halved_open on kind b h target _ _ _ _ (halved_leaf box n form w few) i = refl
 halved_open on kind b h target _ _ _ _ (halved_split box k c n m r left right cut l t) i =
@@ -85,7 +86,8 @@ greatest_of b h target o x parts old e some zero_before r = record {
       r.some;
 }
 
-module _ (kind : CertKind) (b : Block) (h target : ℕ) (old new : Tree) (cert : Cert) (valid : IsValid b) (no_nodes : old.nodes.items ≡ [])
+module _ (kind : CertKind) (b : Block) (h target : ℕ) (old new : Tree) (cert : Cert) (valid : IsValid b)
+    (no_nodes : old.nodes.items ≡ [])
     (zeros : old.errors.items ≡ replicate (length b.outputs) 0)
     (no_leaves : old.leaves ≡ 0) (g : Grows kind b h target (whole b) old new) (claims : cert.claims ≡ new.errors.items)
     (nodes : cert.nodes ≡ new.nodes.items) where

@@ -1,25 +1,22 @@
 -- One box is halved.
-use Rattle.std.proofs.Common.{◌≡◌, ◌≢◌, ⊎_elim, ℕ, ◌+◌, ◌-◌, ◌<◌, ◌≤◌, List, [], ◌∷◌, ◌++◌, length, map, replicate, Result, Ok, Err}
+use Rattle.std.proofs.Common.{◌≡◌, ◌≢◌, ⊎_elim, ℕ, ◌+◌, ◌<◌, ◌≤◌, List, [], ◌∷◌, ◌++◌, length, map, replicate}
+use Rattle.std.proofs.Common.{Result, Ok, Err}
 use Rattle.std.proofs.Common.{Some, refl, sym, ap, ◌∙◌, subst, arith}
 use Rattle.std.proofs.lemmas.List.{length-replicate}
-use Rattle.std.proofs.lemmas.Option.{slice_get_within, get_or_from_slice_get}
+use Rattle.std.proofs.lemmas.Option.{slice_get_within}
 use Rattle.std.specs.Global.{Vec}
 use Rattle.std.specs.Prelude.{OnOk, IfErr, IfSome, slice_get, slice_index}
-use Rattle.std.specs.Option.{option_map}
 use Rattle.std.proofs.lemmas.Bool.{cases_lt}
-use Rattle.fz_list.proofs.Algebra.{some_at, All-slice_get}
+use Rattle.fz_list.proofs.Algebra.{some_at}
 use Rattle.arrayvec.specs.ArrayVec.{ArrayVec}
 use Rattle.fuzzy_meaning.specs.declared.block.Block.{Block}
 use Rattle.fuzzy_meaning.specs.declared.block.Output.{Output}
 use Rattle.fuzzy_meaning.specs.Blocks.{IsValid, output_at}
-use Rattle.error_bound.specs.Bounds.{IsBound}
 use Rattle.error_bound.specs.declared.boxes.Interval.{Interval}
-use Rattle.error_bound.specs.Tight.{IsTightBound}
 use Rattle.error_bound.specs.Boxes.{IsBoxOf}
 use Rattle.box_tree.specs.declared.cert.CertKind.{CertKind}
 use Rattle.box_tree.specs.declared.cert.CertKind.TheVariants.{Named, Tight}
 use Rattle.box_tree.specs.declared.cert.LeafForm.TheVariants as form
-use Rattle.box_tree.specs.Certificates.{IsPair}
 use Rattle.cell_bounds.specs.declared.claims.Claim.TheVariants as claim
 use Rattle.cell_bounds.specs.Cells.{cell_of}
 use Rattle.cell_bounds.specs.CellBounds.{IsCellsBound, IsFirstCellAbove, cell_count}
@@ -27,15 +24,14 @@ use Rattle.cell_bounds.specs.Walks.{AreAtMost}
 use Rattle.box_tree.specs.declared.cert.Node.{Node}
 use Rattle.box_tree.specs.declared.cert.Node.TheVariants.{Split, Leaf}
 use Rattle.cert_check.specs.BoxLaws.{CutsHaveHalves}
-use Rattle.cert_check.specs.Trees.{whole, left_of, right_of, part_of}
-use Rattle.cert_check.specs.Acceptance.{HasBound}
+use Rattle.cert_check.specs.Trees.{whole, left_of, right_of}
 use Rattle.cert_check.specs.Walks.{cuts_of, AreRaised}
 use Rattle.error_certifier.specs.declared.certifier.NotReached.{NotReached}
 use Rattle.error_certifier.specs.declared.certifier.NotReached.TheVariants.{Cell, LeafLimit, Memory}
 use Rattle.error_certifier.specs.declared.halving.Tree.{Tree}
 use Rattle.error_certifier.specs.declared.leaves.FoundLeaf.{FoundLeaf}
 use Rattle.error_certifier.specs.Halving.{IsFirstAbove, IsAbove, IsWidest, IsHalvedAt, middle_of, IsToCut, Stops, cell}
-use Rattle.error_certifier.specs.Halving.{limit, in_left, in_right, AreWithinTarget}
+use Rattle.error_certifier.specs.Halving.{limit, in_left, in_right}
 use Rattle.error_certifier.specs.Trees.{IsTreeFor, AreTightBounds, IsFoundLeaf, IsSplit, Grows}
 use Rattle.error_certifier.proofs.BoxLemmas.{whole_box, left_box, right_box, halves_fewer, middle_inside, cell_is}
 use Rattle.error_certifier.proofs.BoxLemmas.{one_cell}

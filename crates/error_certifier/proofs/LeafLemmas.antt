@@ -1,5 +1,6 @@
 -- The best leaves of a box, one more at a time.
-use Rattle.std.proofs.Common.{◌≡◌, ⊎_elim, ℕ, zero, suc, ◌+◌, ◌-◌, ◌<◌, ◌≤◌, List, [], ◌∷◌, ◌++◌, length, get_or, Option}
+use Rattle.std.proofs.Common.{◌≡◌, ⊎_elim, ℕ, zero, suc, ◌+◌, ◌-◌, ◌<◌, ◌≤◌, List, [], ◌∷◌, ◌++◌, length, get_or}
+use Rattle.std.proofs.Common.{Option}
 use Rattle.std.proofs.Common.{Some}
 use Rattle.std.proofs.Common.{refl, sym, ap, ◌∙◌, subst, arith}
 use Rattle.std.specs.Prelude.{slice_get, slice_index, slice_set, All, IfSome}
@@ -24,7 +25,6 @@ use Rattle.box_tree.specs.Certificates.{IsPair}
 use Rattle.cell_bounds.specs.declared.claims.Claim.TheVariants.{Pair}
 use Rattle.cert_check.specs.Trees.{part_of}
 use Rattle.cert_check.specs.Acceptance.{HasBound}
-use Rattle.error_certifier.specs.declared.leaves.FoundLeaf.{FoundLeaf}
 use Rattle.error_certifier.specs.Halving.{IsWithinTarget, IsFirstAbove}
 use Rattle.error_certifier.specs.Trees.{IsBestPair, AreBestPairs, AreTightBounds, IsFoundLeaf}
 
@@ -68,7 +68,8 @@ module _ (b : Block) (h target : ℕ) (box : List Interval) (old new : List (ℕ
   abbrev raised : List ℕ
   raised = slice_set bounds o n
 
-  pair_before : (k : ℕ) (x : Output) → k < o → IsBestPair b h target box k x old bounds → IsBestPair b h target box k x new raised
+  pair_before : (k : ℕ) (x : Output) → k < o → IsBestPair b h target box k x old bounds
+      → IsBestPair b h target box k x new raised
   pair_before k x l best = record {
     pair = best.pair;
     bound = best.bound;
@@ -79,7 +80,8 @@ module _ (b : Block) (h target : ℕ) (box : List Interval) (old new : List (ℕ
   }
 
   pair_last : (x : Output) → length old ≡ o
-      → IsWithinTarget b h target box (o + 1) x (record { rule = p.0; k = p.1 }) n → IsBestPair b h target box o x new raised
+      → IsWithinTarget b h target box (o + 1) x (record { rule = p.0; k = p.1 }) n
+      → IsBestPair b h target box o x new raised
   pair_last x ep within = record {
     pair = p;
     bound = n;

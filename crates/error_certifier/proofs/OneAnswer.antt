@@ -1,6 +1,6 @@
 -- Halving has one answer.
 use Rattle.std.proofs.Common.{◌≡◌, ⊎_elim, inl, inr, ℕ, zero, suc, ◌+◌, ◌-◌, ◌<◌, ◌≤◌, max, List, [], ◌∷◌, ◌++◌, length}
-use Rattle.std.proofs.Common.{map, Some, None, Result, Ok, Err, refl, sym, ap, ap₂, ◌∙◌, subst, arith}
+use Rattle.std.proofs.Common.{map, Some, Result, Ok, Err, refl, sym, ap, ap₂, ◌∙◌, subst, arith}
 use Rattle.std.specs.Prelude.{◌⊎◌, slice_get}
 use Rattle.std.proofs.lemmas.Bool.{cases_lt}
 use Rattle.arrayvec.specs.ArrayVec.{ArrayVec}
@@ -31,7 +31,8 @@ use Rattle.cert_check.specs.Laws.{ErrorsAreDetermined}
 use Rattle.cert_check.specs.BoxLaws.{CutsHaveHalves}
 use Rattle.error_certifier.specs.declared.certifier.NotReached.{NotReached}
 use Rattle.error_certifier.specs.declared.certifier.NotReached.TheVariants.{Cell}
-use Rattle.error_certifier.specs.Halving.{IsFirstAbove, IsAbove, AreWithinTarget, IsTightWithin, AreCellsWithin, IsSettled}
+use Rattle.error_certifier.specs.Halving.{IsFirstAbove, IsAbove, AreWithinTarget, IsTightWithin, AreCellsWithin}
+use Rattle.error_certifier.specs.Halving.{IsSettled}
 use Rattle.error_certifier.specs.Halving.{IsStuck, IsToCut, Halves, leaf, split, Stops, cell, limit, in_left, in_right}
 use Rattle.error_certifier.specs.Laws.{AnswersAreOne}
 use Rattle.error_certifier.proofs.BoxLemmas.{same_items, left_box, right_box, whole_box, one_halving, cell_bytes}
@@ -356,7 +357,8 @@ module _ (best_one : BestLeavesAreOne) (counts_one : BoxCountsAreOne) (cells_one
         let same = one_cut box other k j c d e cut cut' in
         no_stop (left_of k c box) (left_of j d other) n o m left s (left_box cuts b box k c cut.halved is) l stop
         (same_left box other k j c d e same.0 same.1) f
-    no_stop _ _ _ _ _ _ _ is (split box k c n m r left right cut l t) (in_right other j d o m' left' s cut' l' stop) e f =
+    no_stop _ _ _ _ _ _ _ is (split box k c n m r left right cut l t)
+        (in_right other j d o m' left' s cut' l' stop) e f =
         let same = one_cut box other k j c d e cut cut' in
         let lower = one_tree (left_of k c box) (left_of j d other) n o m m' left left'
         (left_box cuts b box k c cut.halved is) l l'
@@ -404,7 +406,8 @@ module _ (best_one : BestLeavesAreOne) (counts_one : BoxCountsAreOne) (cells_one
         let same = one_cut box other k j c d e cut cut' in
         absurd (no_stop (left_of k c box) (left_of j d other) n o m left t (left_box cuts b box k c cut.halved is) l
         stop' (same_left box other k j c d e same.0 same.1) f)
-    one_stop _ _ _ _ _ _ is (in_right box k c n m left s cut l stop) (in_right other j d o m' left' t cut' l' stop') e f =
+    one_stop _ _ _ _ _ _ is (in_right box k c n m left s cut l stop)
+        (in_right other j d o m' left' t cut' l' stop') e f =
         let same = one_cut box other k j c d e cut cut' in
         let lower = one_tree (left_of k c box) (left_of j d other) n o m m' left left'
         (left_box cuts b box k c cut.halved is) l l'

@@ -1,5 +1,6 @@
 //! Halving, box by box.
-ghost use Rattle.std.specs.Prelude.{◌≡◌, ◌≢◌, ◌≤◌, ◌<◌, ◌+◌, ◌++◌, ◌∷◌, ℕ, [], length, replicate, OnOk, IfOk, IfErr, MatchOption};
+ghost use Rattle.std.specs.Prelude.{◌≡◌, ◌≢◌, ◌≤◌, ◌<◌, ◌+◌, ◌++◌, ◌∷◌, ℕ, [], length, replicate, OnOk, IfOk, IfErr};
+ghost use Rattle.std.specs.Prelude.{MatchOption};
 ghost use Rattle.fuzzy_meaning.specs.Blocks.{IsValid};
 ghost use Rattle.error_bound.specs.Boxes.{IsBoxOf};
 ghost use Rattle.box_tree.specs.declared.cert.CertKind.TheVariants as kind;

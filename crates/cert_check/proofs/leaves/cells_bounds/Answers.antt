@@ -4,7 +4,10 @@ use Rattle.cert_check.proofs.leaves.cells_bounds.Goals as goal
 pub returns-then-not-has_few_cells-clause-fault : goal.returns-then-not-has_few_cells-clause-fault
 returns-then-not-has_few_cells-clause-fault c =
     too_many_cells c.args.block.now c.args.parts c.args.bytes.now.0.items c.args.line c.requires.block.some_output
-    (λ few. let t = c.has_few_cells.ensures.1 few in let f = c.if-not-has_few_cells.true in absurd (let z : ⊥ = cc in z))
+    (λ few.
+    let t = c.has_few_cells.ensures.1 few in
+    let f = c.if-not-has_few_cells.true in
+    absurd (let z : ⊥ = cc in z))
 
 pub returns-in-Ok-clause-bounds : goal.returns-in-Ok-clause-bounds
 returns-in-Ok-clause-bounds c =

@@ -19,7 +19,8 @@ loop-node-init c =
 pub take-requires : goal.take-requires
 take-requires c =
     AreFirst-some c.loop-node.invariant c.next.new.self c.in-Ok-Some.node c.next.ensures.claims
-    (λ k v text nodes read. rw c.in-Ok-Some.field-0-is at (c.in-Ok-Some.ensures.node k v text nodes read)) c.requires.lines
+    (λ k v text nodes read. rw c.in-Ok-Some.field-0-is at (c.in-Ok-Some.ensures.node k v text nodes read))
+    c.requires.lines
 
 pub loop-node-smaller : goal.loop-node-smaller
 loop-node-smaller c = rw c.in-Ok-Some.field-0-is at c.in-Ok-Some.ensures.less
@@ -41,13 +42,13 @@ finish-requires c = HasTaken-some c.loop-node.invariant c.requires.lines
 pub returns-in-Ok-finish-clause-accepted : goal.returns-in-Ok-finish-clause-accepted
 returns-in-Ok-finish-clause-accepted c = λ kind answers text first.
     IsAcceptedText-read c.loop-node.invariant
-    (λ k v read nodes r. (rw c.in-Ok-None.field-0-is at (c.in-Ok-None.ensures.node k v read nodes r)).0) kind answers text
-    first
+    (λ k v read nodes r. (rw c.in-Ok-None.field-0-is at (c.in-Ok-None.ensures.node k v read nodes r)).0)
+    kind answers text first
     _ c.in-Ok-finish.ensures.accepted
 
 pub returns-in-Err-finish-clause-refused : goal.returns-in-Err-finish-clause-refused
 returns-in-Err-finish-clause-refused c = λ kind answers text first real.
     HasTextFault-read c.loop-node.invariant
-    (λ k v read nodes r. (rw c.in-Ok-None.field-0-is at (c.in-Ok-None.ensures.node k v read nodes r)).0) kind answers text
-    first
+    (λ k v read nodes r. (rw c.in-Ok-None.field-0-is at (c.in-Ok-None.ensures.node k v read nodes r)).0)
+    kind answers text first
     c.in-Err-finish.fault c.in-Err-finish.ensures.fault

@@ -22,17 +22,21 @@ returns-in-Ok-halve c =
     let nodes = c.in-Ok-new.ensures.nodes in
     let errors = c.in-Ok-new.ensures.errors ∙ ap (λ n. replicate n 0) c.len.ensures in
     let leaves = c.in-Ok-new.ensures.leaves in
-    let grows = grows_for c.in-Ok.task.kind c.args.kind c.in-Ok.task.block.now b c.in-Ok.task.parts c.args.parts c.in-Ok.task.target c.args.target
+    let grows = grows_for c.in-Ok.task.kind c.args.kind c.in-Ok.task.block.now b c.in-Ok.task.parts c.args.parts
+    c.in-Ok.task.target c.args.target
     c.whole_box.result.0.items old new
     e.kind e.block e.parts e.target c.whole_box.ensures c.in-Ok-halve.ensures.grows in
     let claims = c.into_cert.ensures.claims in
     let made = c.into_cert.ensures.nodes in
     record {
-      halved = is_halving c.args.kind b c.args.parts c.args.target old new c.into_cert.result c.requires.block nodes errors leaves
+      halved = is_halving c.args.kind b c.args.parts c.args.target old new c.into_cert.result c.requires.block nodes
+          errors leaves
           grows claims made;
-      within = claims_within c.args.kind b c.args.parts c.args.target old new c.into_cert.result c.requires.block nodes errors
+      within = claims_within c.args.kind b c.args.parts c.args.target old new c.into_cert.result c.requires.block
+          nodes errors
           leaves grows claims made;
-      cert = is_cert c.args.kind b c.args.parts c.args.target old new c.into_cert.result c.requires.block nodes errors leaves grows
+      cert = is_cert c.args.kind b c.args.parts c.args.target old new c.into_cert.result c.requires.block nodes errors
+          leaves grows
           claims made
           c.open_boxes_go_on.ensures c.requires.target;
       stops = tt;

@@ -5,7 +5,10 @@ pub returns-then-not-has_few_cells-clause-found : goal.returns-then-not-has_few_
 returns-then-not-has_few_cells-clause-found c =
     let w = c.args.self.now in
     cells_split w.block.now w.parts w.target c.args.bytes.now.0.items c.requires.bytes c.requires.above
-    (λ few. let t = c.has_few_cells.ensures.1 few in let f = c.if-not-has_few_cells.true in absurd (let z : ⊥ = cc in z))
+    (λ few.
+    let t = c.has_few_cells.ensures.1 few in
+    let f = c.if-not-has_few_cells.true in
+    absurd (let z : ⊥ = cc in z))
 
 pub returns-in-Ok-clause-found : goal.returns-in-Ok-clause-found
 returns-in-Ok-clause-found c =

@@ -13,4 +13,5 @@ returns-then-interval-clause-stuck c = λ n.
     let same = ap (λ (x : ByteBox). x.0.items) c.over-table.ensures.same ∙ c.copied.ensures in
     let first = subst (λ (x : List Interval). IsFirstAbove Named w.block.now w.parts w.target x a.place a.bound) same
     c.in-Err.ensures.above in
-    named_stuck c.requires.bytes c.widest-place.ensures c.if-interval.true n c.low_bytes.result c.low_bytes.ensures first
+    named_stuck c.requires.bytes c.widest-place.ensures c.if-interval.true n c.low_bytes.result c.low_bytes.ensures
+    first

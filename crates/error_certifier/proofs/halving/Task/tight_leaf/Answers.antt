@@ -1,6 +1,4 @@
 use Rattle.std.proofs.Common.{List, ap, subst, ◌∙◌}
-use Rattle.box_tree.specs.declared.cert.CertKind.TheVariants.{Tight}
-use Rattle.box_tree.specs.declared.cert.LeafForm.TheVariants as form
 use Rattle.error_bound.specs.declared.boxes.ByteBox.{ByteBox}
 use Rattle.error_bound.specs.declared.boxes.Interval.{Interval}
 use Rattle.error_certifier.specs.Trees.{AreTightBounds}
