@@ -74,11 +74,7 @@ impl<'a> Lines<'a> {
     }
 
     /// The reader of a text that is to have a certificate of this kind, for answers of this width.
-    pub fn of(
-        text: &'a [u8],
-        kind: CertKind,
-        answers: AnswerWidth,
-    ) -> Result<Lines<'a>, CertFault>
+    pub fn of(text: &'a [u8], kind: CertKind, answers: AnswerWidth) -> Result<Lines<'a>, CertFault>
         requires { length text.now ≤ 1048576 }
         ensures begun { IfOk result (HasRead kind answers text.now []) }
         ensures fault { IfErr result (HasFault kind answers text.now) }
