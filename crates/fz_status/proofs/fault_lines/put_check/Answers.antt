@@ -1,5 +1,9 @@
 use Rattle.fz_status.proofs.fault_lines.put_check.Goals as goal
 
+pub returns-in-Unsure : goal.returns-in-Unsure
+returns-in-Unsure g c = rw (c.in-Unsure.is, ← c.from.ensures) c.put_two-in-Unsure.ensures
+
 pub returns-in-Claimed : goal.returns-in-Claimed
 returns-in-Claimed g c =
-    rw (c.in-Claimed.is, ← c.from.ensures, ← c.from-in-Claimed.ensures, ← c.from-in-Claimed-2.ensures) c.put.ensures
+    rw (c.in-Claimed.is, ← c.from-in-Claimed.ensures, ← c.from-in-Claimed-2.ensures, ← c.from-in-Claimed-3.ensures)
+    c.put.ensures
