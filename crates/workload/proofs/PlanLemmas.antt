@@ -107,7 +107,7 @@ module _ (number : ℕ) where
       → rs ≡ map (drawn_request number) (range_with_len 0 1000) → Spells text rs
   plan_spells text rs h drawn = record {
     rows = h.rows;
-    first = written_rows SpellsRequest text rs h;
+    first = written_rows SpellsRequest text rs h (omega (arith, drawn_count 1000 rs drawn));
     few = omega (arith, row_count SpellsRequest h.rows rs h.spelled, drawn_count 1000 rs drawn);
     spelled = h.spelled;
     good = drawn_good rs drawn;

@@ -74,13 +74,14 @@ reached ([] ∷ rows) h = absurd h.0
 reached ((f ∷ fs) ∷ rows) h =
     ((f ∷ fs, st.StartRecord, written rows), read-write (f ∷ fs) (written rows), refl, reached rows h.1)
 
-first_rows : (rows : List Fields) → AreRows rows → AreFirstRows (written rows) rows
+first_rows : (rows : List Fields) → AreRows rows → length rows ≤ 10001 → AreFirstRows (written rows) rows
 unfolding next_record
-first_rows rows h = record {
+first_rows rows h few = record {
   state = st.StartRecord;
   rest = [];
   cut = subst (λ (text : List ℕ). Reached default_config st.StartRecord text rows st.StartRecord [])
       (sym (written_unmarked rows h)) (reached rows h);
+  few = few;
   enough = inl refl;
 }
 
@@ -120,16 +121,18 @@ writes_more Spells text next es more row e h is spells next_is more_is = record 
       (more_spelled Spells h.rows es row e h.spelled spells);
 }
 
-pub written_rows : {E : Type 0} (Spells : Fields → E → Type 0) (text : List ℕ) (es : List E)
-    → (h : Writes Spells text es) → AreFirstRows text h.rows
-written_rows Spells text es h = subst (λ (t : List ℕ). AreFirstRows t h.rows) (sym h.text_is) (first_rows h.rows h.are)
-
 pub row_count : {E : Type 0} (Spells : Fields → E → Type 0) (rows : List Fields) (es : List E) → SpellAll Spells rows es
     → length rows ≡ length es
 row_count Spells [] [] h = refl
 row_count Spells [] (x ∷ es) h = absurd h
 row_count Spells (r ∷ rows) [] h = absurd h
 row_count Spells (r ∷ rows) (x ∷ es) h = ap (λ (n : ℕ). suc n) (row_count Spells rows es h.1)
+
+pub written_rows : {E : Type 0} (Spells : Fields → E → Type 0) (text : List ℕ) (es : List E)
+    → (h : Writes Spells text es) → length es ≤ 10001 → AreFirstRows text h.rows
+written_rows Spells text es h few =
+    subst (λ (t : List ℕ). AreFirstRows t h.rows) (sym h.text_is)
+    (first_rows h.rows h.are (omega (arith, row_count Spells h.rows es h.spelled)))
 
 -- ---- how long rows are
 

@@ -74,7 +74,7 @@ pub trace_spells : (text : List ℕ) (ss : List Sample) → Writes (SpellsSample
     → Spells pair text ss
 trace_spells text ss h few = record {
   rows = h.rows;
-  first = written_rows (SpellsSample pair) text ss h;
+  first = written_rows (SpellsSample pair) text ss h (omega arith);
   few = omega (arith, row_count (SpellsSample pair) h.rows ss h.spelled);
   spelled = samples_spelled pair h.rows ss h.spelled;
 }
