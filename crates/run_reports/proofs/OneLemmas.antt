@@ -29,7 +29,7 @@ samples_once is (r ∷ rs) (s ∷ ss) (t ∷ ts) a b =
 samples_are_one : FirstRowsAreOne → SpelledSamplesAreOne
 samples_are_one one inputs trace samples those a b =
     samples_once inputs a.rows samples those a.spelled
-    (subst (λ (rows : List Fields). SpellSamples inputs rows those) (one trace a.rows b.rows a.first a.few b.first)
+    (subst (λ (rows : List Fields). SpellSamples inputs rows those) (one trace a.rows b.rows a.first b.first)
     b.spelled)
 
 -- ---- plans
@@ -63,7 +63,7 @@ requests_once (r ∷ rs) (p ∷ ps) (q ∷ qs) a b =
 plans_are_one : FirstRowsAreOne → SpelledPlansAreOne
 plans_are_one one text plan other a b =
     requests_once a.rows plan other a.spelled
-    (subst (λ (rows : List Fields). SpellAll SpellsRequest rows other) (one text a.rows b.rows a.first a.few b.first)
+    (subst (λ (rows : List Fields). SpellAll SpellsRequest rows other) (one text a.rows b.rows a.first b.first)
     b.spelled)
 
 pub inputs_are_one : FirstRowsAreOne → SpelledInputsAreOne
