@@ -1,18 +1,9 @@
 -- A certified run keeps its promise.
 use Rattle.std.proofs.Common.{◌≡◌, ◌<◌, ◌≤◌, ◌^◌, ◌∙◌, ℕ, List, [], refl, sym, ap, subst, arith}
-use Rattle.std.specs.Prelude.{length, map, min, All, Bool, true, false, if◌then◌else◌, Option, Some, None, slice_get}
-use Rattle.std.specs.Prelude.{slice_index_or, ◌==◌, ◌*◌, ◌+◌, ◌-◌}
-use Rattle.std.proofs.Common.{inl, inr}
-use Rattle.std.specs.Option.{option_map_or}
-use Rattle.std.proofs.lemmas.Option.{slice_get-get_or, slice_get_cases}
-use Rattle.fz_num.specs.declared.dec.Dec.{Dec}
-use Rattle.fz_num.specs.Decimals.{distance}
-use Rattle.fz_num.specs.Fractions.{over}
-use Rattle.fuzzy_meaning.specs.declared.block.Output.{Output}
+use Rattle.std.specs.Prelude.{length, map, All, slice_index_or, ◌-◌}
+use Rattle.std.proofs.lemmas.Option.{slice_get-get_or}
+use Rattle.box_tree.specs.Certificates.{AreClaims}
 use Rattle.box_tree.specs.declared.cert.Cert.{Cert}
-use Rattle.error_bound.specs.declared.boxes.Leaf.{Leaf}
-use Rattle.error_bound.specs.Bounds.{bound as leaf_bound, errors_from, in_millionths, offset, silent_bound}
-use Rattle.error_bound.specs.Bounds.{strong_bound}
 use Rattle.cert_check.specs.Acceptance.{IsAccepted}
 use Rattle.eval_code.specs.Widths.{parts}
 use Rattle.std.proofs.lemmas.List.Elements.{All-nil}
@@ -104,42 +95,15 @@ answers_serve answers one arrives = λ width flags b f bytes plan rows byte vali
 
 -- ---- the printed numbers are small
 
-min_le : (n m : ℕ) → min n m ≤ n
-min_le n m = omega arith
-
-either_le : (c : Bool) (p q n : ℕ) → p ≤ n → q ≤ n → (if c then p else q) ≤ n
-either_le true p q n a b = a
-either_le false p q n a b = b
-
-some_le : (f : Dec → ℕ) (n : ℕ) → ((d : Dec) → f d ≤ n) → (o : Option Dec) → option_map_or f o 0 ≤ n
-some_le f n each None = omega arith
-some_le f n each (Some d) = each d
-
-capped : (b : Block) (e : ℕ → ℕ → ℕ) (o : ℕ) (x : Output) (h : ℕ) (leaf : Leaf) → leaf_bound b e o x h leaf ≤ 1000000
-capped b e o x h leaf = either_le (leaf.k == 0) (silent_bound x)
-    (strong_bound x h (errors_from b e o 1 x.singletons) leaf.k) 1000000
-    (some_le (λ d. in_millionths (over (offset x d) (255 * distance x.lo x.hi))) 1000000 (λ d. min_le 1000000 _)
-    x.default)
-    (min_le 1000000 _)
-
-plus_one : (k : ℕ) → k + 1 - 1 ≡ k
-plus_one k = omega arith
-
-errors_capped : (b : Block) (h : ℕ) (cert : Cert) (errors : List ℕ) → IsAccepted b h cert errors
+-- no error is above its claim, and a claim is at most the whole range
+errors_capped : (b : Block) (h : ℕ) (cert : Cert) (errors : List ℕ) → AreClaims cert.claims → IsAccepted b h cert errors
     → All (λ e. e ≤ 1000000) errors
-errors_capped b h cert errors a = λ k d lt.
-    let e = slice_index_or errors k d in
-    let at : slice_get errors (k + 1 - 1) ≡ Some e =
-    ap (slice_get errors) (plus_one k) ∙ slice_get-get_or errors k d lt in
-    elim (slice_get_cases b.outputs (k + 1 - 1)).1 [
-      | inl there ↦ (
-          let some = (a.greatest (k + 1) there.0 e (omega arith) there.2 at).some in
-          let has = some.4 in
-          subst (λ (n : ℕ). n ≤ 1000000) (sym has.bound_is.is)
-          (capped b has.bound_is.errors (k + 1) there.0 h has.leaf)
-          )
-      | inr past ↦ absurd (omega (arith, past.0, a.errors_count, lt))
-    ]
+errors_capped b h cert errors claims a = λ k d lt.
+    let within : k < length cert.claims = omega (arith, lt, a.errors_count, a.claims_count) in
+    let under : slice_index_or errors k d ≤ slice_index_or cert.claims k d =
+    a.claimed k (slice_index_or errors k d) (slice_index_or cert.claims k d) (slice_get-get_or errors k d lt)
+    (slice_get-get_or cert.claims k d within) in
+    omega (arith, under, claims.millionths k d within)
 
 pub certified_keep : FirmwareAnswers → PlainIsOneStep → ArrivesPlainly → BoundsAreFew → CertifiedRunsKeepPromise
 unfolding served
@@ -158,7 +122,8 @@ certified_keep answers one arrives few width flags files report r byte = record 
   instructions = r.reported.instructions;
   printable = record {
     count = r.accepted.accepted.errors_count;
-    errors = errors_capped r.block (parts width) r.accepted.cert report.errors r.accepted.accepted;
+    errors = errors_capped r.block (parts width) r.accepted.cert report.errors r.accepted.spelled.good.claims
+        r.accepted.accepted;
     bound = subst (λ (n : ℕ). n ≤ 2000) (sym r.reported.bound)
         (few r.block width 0 r.compiled.spelled.valid r.compiled.limits).1;
   };
