@@ -20,5 +20,5 @@ mod writer;
 pub use cert::{AnswerWidth, Cert, CertFault, CertKind, LeafForm, Node};
 pub use laws::{cert_texts_have_no_fault, certs_are_one, faults_are_one, open_boxes_go_on};
 pub use lines::Lines;
-pub use reader::{read, read_tight, read_tight16, read16};
-pub use writer::{write, write_tight, write_tight16, write16};
+pub use reader::{read, read_for, read16};
+pub use writer::{write, write_for, write16};

@@ -55,24 +55,6 @@ impl<'a> Lines<'a> {
         Lines::of(text, CertKind::Named, AnswerWidth::Word)
     }
 
-    /// The reader of a text of version 3, which is that of a tight certificate.
-    pub fn new_tight(text: &'a [u8]) -> Result<Lines<'a>, CertFault>
-        requires { length text.now ≤ 1048576 }
-        ensures begun { IfOk result (HasRead CertKind.Tight AnswerWidth.Byte text.now []) }
-        ensures fault { IfErr result (HasFault CertKind.Tight AnswerWidth.Byte text.now) }
-    {
-        Lines::of(text, CertKind::Tight, AnswerWidth::Byte)
-    }
-
-    /// The reader of a text of version 4, which is that of a tight certificate for answers of 16 bits.
-    pub fn new_tight16(text: &'a [u8]) -> Result<Lines<'a>, CertFault>
-        requires { length text.now ≤ 1048576 }
-        ensures begun { IfOk result (HasRead CertKind.Tight AnswerWidth.Word text.now []) }
-        ensures fault { IfErr result (HasFault CertKind.Tight AnswerWidth.Word text.now) }
-    {
-        Lines::of(text, CertKind::Tight, AnswerWidth::Word)
-    }
-
     /// The reader of a text that is to have a certificate of this kind, for answers of this width.
     pub fn of(text: &'a [u8], kind: CertKind, answers: AnswerWidth) -> Result<Lines<'a>, CertFault>
         requires { length text.now ≤ 1048576 }

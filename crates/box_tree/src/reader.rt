@@ -18,7 +18,7 @@ pub fn read(alloc: Global, text: &[u8]) -> Result<Cert, CertFault>
     ensures fault { IfErr result (λ fault.
         fault ≢ CertFault.Memory → HasFault CertKind.Named AnswerWidth.Byte text.now fault) }
 {
-    cert_in(alloc, text, CertKind::Named, AnswerWidth::Byte)
+    read_for(alloc, text, CertKind::Named, AnswerWidth::Byte)
 }
 
 /// The certificate of a text of version 2, which is for answers of 16 bits, or the text's first
@@ -29,32 +29,11 @@ pub fn read16(alloc: Global, text: &[u8]) -> Result<Cert, CertFault>
     ensures fault { IfErr result (λ fault.
         fault ≢ CertFault.Memory → HasFault CertKind.Named AnswerWidth.Word text.now fault) }
 {
-    cert_in(alloc, text, CertKind::Named, AnswerWidth::Word)
-}
-
-/// The tight certificate of a text of version 3, or the text's first fault.
-pub fn read_tight(alloc: Global, text: &[u8]) -> Result<Cert, CertFault>
-    requires { length text.now ≤ 1048576 }
-    ensures cert { IfOk result (CertText CertKind.Tight AnswerWidth.Byte text.now) }
-    ensures fault { IfErr result (λ fault.
-        fault ≢ CertFault.Memory → HasFault CertKind.Tight AnswerWidth.Byte text.now fault) }
-{
-    cert_in(alloc, text, CertKind::Tight, AnswerWidth::Byte)
-}
-
-/// The tight certificate of a text of version 4, which is for answers of 16 bits, or the text's
-/// first fault.
-pub fn read_tight16(alloc: Global, text: &[u8]) -> Result<Cert, CertFault>
-    requires { length text.now ≤ 1048576 }
-    ensures cert { IfOk result (CertText CertKind.Tight AnswerWidth.Word text.now) }
-    ensures fault { IfErr result (λ fault.
-        fault ≢ CertFault.Memory → HasFault CertKind.Tight AnswerWidth.Word text.now fault) }
-{
-    cert_in(alloc, text, CertKind::Tight, AnswerWidth::Word)
+    read_for(alloc, text, CertKind::Named, AnswerWidth::Word)
 }
 
 /// The certificate of this kind, for answers of this width, that a text has, or the text's first fault.
-fn cert_in(
+pub fn read_for(
     alloc: Global,
     text: &[u8],
     kind: CertKind,

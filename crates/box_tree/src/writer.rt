@@ -15,7 +15,7 @@ pub fn write(alloc: Global, cert: &Cert) -> Result<Vec<u8>, AllocError>
     requires { IsCert CertKind.Named cert.now }
     ensures { IfOk result (λ text. CertText CertKind.Named AnswerWidth.Byte text.items cert.now) }
 {
-    text_of(alloc, cert, CertKind::Named, AnswerWidth::Byte)
+    write_for(alloc, cert, CertKind::Named, AnswerWidth::Byte)
 }
 
 /// The text of a certificate that names rules, for answers of 16 bits, of version 2.
@@ -23,23 +23,21 @@ pub fn write16(alloc: Global, cert: &Cert) -> Result<Vec<u8>, AllocError>
     requires { IsCert CertKind.Named cert.now }
     ensures { IfOk result (λ text. CertText CertKind.Named AnswerWidth.Word text.items cert.now) }
 {
-    text_of(alloc, cert, CertKind::Named, AnswerWidth::Word)
+    write_for(alloc, cert, CertKind::Named, AnswerWidth::Word)
 }
 
-/// The text of a tight certificate, of version 3.
-pub fn write_tight(alloc: Global, cert: &Cert) -> Result<Vec<u8>, AllocError>
-    requires { IsCert CertKind.Tight cert.now }
-    ensures { IfOk result (λ text. CertText CertKind.Tight AnswerWidth.Byte text.items cert.now) }
+/// The text of a certificate of this kind, for answers of this width: of version 1 or 2 where it names rules, of version 3
+/// or 4 where it is tight.
+pub fn write_for(
+    alloc: Global,
+    cert: &Cert,
+    kind: CertKind,
+    answers: AnswerWidth,
+) -> Result<Vec<u8>, AllocError>
+    requires { IsCert kind cert.now }
+    ensures { IfOk result (λ text. CertText kind answers text.items cert.now) }
 {
-    text_of(alloc, cert, CertKind::Tight, AnswerWidth::Byte)
-}
-
-/// The text of a tight certificate for answers of 16 bits, of version 4.
-pub fn write_tight16(alloc: Global, cert: &Cert) -> Result<Vec<u8>, AllocError>
-    requires { IsCert CertKind.Tight cert.now }
-    ensures { IfOk result (λ text. CertText CertKind.Tight AnswerWidth.Word text.items cert.now) }
-{
-    text_of(alloc, cert, CertKind::Tight, AnswerWidth::Word)
+    text_of(alloc, cert, kind, answers)
 }
 
 fn text_of(

@@ -8,7 +8,7 @@ use Rattle.eval_code.specs.declared.width.Width.{Width}
 use Rattle.box_tree.specs.Certificates.{HasFault, bad_version, no_version, bad_claims, no_claims, bad_node, left_open}
 use Rattle.box_tree.specs.Certificates.{late, many_leaves}
 use Rattle.box_tree.specs.declared.cert.AnswerWidth.{AnswerWidth}
-use Rattle.box_tree.specs.declared.cert.CertKind.TheVariants.{Named}
+use Rattle.box_tree.specs.declared.cert.CertKind.{CertKind}
 use Rattle.box_tree.specs.declared.cert.CertFault.{CertFault}
 use Rattle.box_tree.specs.declared.cert.CertFault.TheVariants as cert
 use Rattle.box_tree.specs.declared.cert.Cert.{Cert}
@@ -35,30 +35,31 @@ abbrev refusal_of : CertRefusal → TheRefusal
 refusal_of (told.Text f) = refusal.Text f
 refusal_of (told.Check f) = refusal.Check f
 
-has_refusal : (width : Width) (block : Block) (text : List ℕ) (f : CertRefusal) → HasCertFault width block text f
-    → HasTextFault block (parts width) Named (answer_width width) text (refusal_of f)
-has_refusal width block text (told.Text f) h = h
-has_refusal width block text (told.Check f) h = h
+has_refusal : (kind : CertKind) (width : Width) (block : Block) (text : List ℕ) (f : CertRefusal)
+    → HasCertFault kind width block text f
+    → HasTextFault block (parts width) kind (answer_width width) text (refusal_of f)
+has_refusal kind width block text (told.Text f) h = h
+has_refusal kind width block text (told.Check f) h = h
 
 pub certs_apart : TextAnswersAreOne → AcceptedCertsHaveNoFault
-certs_apart answers width block text errors f valid accepts fault =
-    let refused = has_refusal width block text f fault in
+certs_apart answers kind width block text errors f valid accepts fault =
+    let refused = has_refusal kind width block text f fault in
     let same : Ok errors ≡ Err (refusal_of f) =
-    answers block (parts width) Named (answer_width width) text (Ok errors) (Err (refusal_of f)) valid
+    answers block (parts width) kind (answer_width width) text (Ok errors) (Err (refusal_of f)) valid
     accepts refused in
     cc
 
 -- ---- a refusal is no want of memory
 
-text_carries : (v : AnswerWidth) (text : List ℕ) (f : CertFault) → HasFault Named v text f → f ≢ cert.Memory
-text_carries v text _ (bad_version some none) e = cc
-text_carries v text _ (no_version none) e = cc
-text_carries v text _ (bad_claims rest is none) e = cc
-text_carries v text _ (no_claims is) e = cc
-text_carries v text _ (bad_node claims nodes n rest begins none) e = cc
-text_carries v text _ (left_open claims nodes n begins some) e = cc
-text_carries v text _ (late claims nodes node behind begins good) e = cc
-text_carries v text _ (many_leaves claims nodes n pairs behind begins good some all) e = cc
+text_carries : (k : CertKind) (v : AnswerWidth) (text : List ℕ) (f : CertFault) → HasFault k v text f → f ≢ cert.Memory
+text_carries k v text _ (bad_version some none) e = cc
+text_carries k v text _ (no_version none) e = cc
+text_carries k v text _ (bad_claims rest is none) e = cc
+text_carries k v text _ (no_claims is) e = cc
+text_carries k v text _ (bad_node claims nodes n rest begins none) e = cc
+text_carries k v text _ (left_open claims nodes n begins some) e = cc
+text_carries k v text _ (late claims nodes node behind begins good) e = cc
+text_carries k v text _ (many_leaves claims nodes n pairs behind begins good some all) e = cc
 
 pair_carries : (b : Block) (box : List Interval) (o : ℕ) (leaf : the.Leaf) (line : ℕ) (f : CheckFault)
     → IsPairFault b box o leaf line f → f ≢ check.Memory
@@ -92,28 +93,31 @@ pub as_errors : (P : List ℕ → Type 0) (answer : Result (Vec ℕ) TheRefusal)
 as_errors P answer (Err s) same h = tt
 as_errors P answer (Ok es) same h = subst (λ a. IfOk a (λ fs. P fs.items)) same h
 
-as_refusal : (width : Width) (block : Block) (text : List ℕ) (r : TheRefusal)
-    → (r ≢ refusal.Memory → HasTextFault block (parts width) Named (answer_width width) text r)
-    → IsRefusal (cert_refusals width block text) (status_of r)
-as_refusal width block text refusal.Memory h = tt
-as_refusal width block text (refusal.Text f) h = let is = h (λ e. let z : ⊥ = cc in z) in (text_is is, is)
+as_refusal : (kind : CertKind) (width : Width) (block : Block) (text : List ℕ) (r : TheRefusal)
+    → (r ≢ refusal.Memory → HasTextFault block (parts width) kind (answer_width width) text r)
+    → IsRefusal (cert_refusals kind width block text) (status_of r)
+as_refusal kind width block text refusal.Memory h = tt
+as_refusal kind width block text (refusal.Text f) h = let is = h (λ e. let z : ⊥ = cc in z) in (text_is is, is)
   where
-    text_is : HasTextFault block (parts width) Named (answer_width width) text (refusal.Text f) → f ≢ cert.Memory
-    text_is (of_text g fault) = text_carries (answer_width width) text g fault
-as_refusal width block text (refusal.Check f) h = let is = h (λ e. let z : ⊥ = cc in z) in (check_is is, is)
+    text_is : HasTextFault block (parts width) kind (answer_width width) text (refusal.Text f) → f ≢ cert.Memory
+    text_is (of_text g fault) = text_carries kind (answer_width width) text g fault
+as_refusal kind width block text (refusal.Check f) h = let is = h (λ e. let z : ⊥ = cc in z) in (check_is is, is)
   where
-    check_is : HasTextFault block (parts width) Named (answer_width width) text (refusal.Check f) → f ≢ check.Memory
+    check_is : HasTextFault block (parts width) kind (answer_width width) text (refusal.Check f) → f ≢ check.Memory
     check_is (of_cert c g spelled fault) = check_carries block (parts width) c g fault
 
-pub as_status : (width w : Width) (block : Block) (text : List ℕ) (answer : Result (Vec ℕ) TheRefusal)
-    (result : Result (Vec ℕ) Status) → w ≡ width
+pub as_status : (kind : CertKind) (width : Width) (h : ℕ) (v : AnswerWidth) (block : Block) (text : List ℕ)
+    (answer : Result (Vec ℕ) TheRefusal) (result : Result (Vec ℕ) Status) → h ≡ parts width → v ≡ answer_width width
     → IfErr result (λ s. (r : TheRefusal) × (answer ≡ Err r) × (s ≡ status_of r))
-    → IfErr answer (λ r. r ≢ refusal.Memory → HasTextFault block (parts width) Named (answer_width width) text r)
-    → IfErr result (IsRefusal (cert_refusals w block text))
-as_status width w block text answer (Ok es) at same h = tt
-as_status width w block text answer (Err s) at (r, is, told) h =
-    subst (λ v. IsRefusal (cert_refusals v block text) s) (sym at)
-    (subst (λ x. IsRefusal (cert_refusals width block text) x) (sym told)
-    (as_refusal width block text r
+    → IfErr answer (λ r. r ≢ refusal.Memory → HasTextFault block h kind v text r)
+    → IfErr result (IsRefusal (cert_refusals kind width block text))
+as_status kind width h v block text answer (Ok es) parts_are is_width same refused = tt
+as_status kind width h v block text answer (Err s) parts_are is_width (r, is, told) refused =
+    let at_width : IfErr answer (λ r. r ≢ refusal.Memory
+        → HasTextFault block (parts width) kind (answer_width width) text r) =
+    subst (λ w. IfErr answer (λ r. r ≢ refusal.Memory → HasTextFault block (parts width) kind w text r)) is_width
+    (subst (λ n. IfErr answer (λ r. r ≢ refusal.Memory → HasTextFault block n kind v text r)) parts_are refused) in
+    subst (λ x. IsRefusal (cert_refusals kind width block text) x) (sym told)
+    (as_refusal kind width block text r
     (subst (λ a. IfErr a
-    (λ q. q ≢ refusal.Memory → HasTextFault block (parts width) Named (answer_width width) text q)) is h)))
+    (λ q. q ≢ refusal.Memory → HasTextFault block (parts width) kind (answer_width width) text q)) is at_width))

@@ -5,7 +5,6 @@ use Rattle.fuzzy_meaning.specs.declared.block.Block.{Block}
 use Rattle.box_tree.specs.Texts.{lines_of}
 use Rattle.box_tree.specs.Trees.{leaf_count}
 use Rattle.box_tree.specs.declared.cert.Cert.{Cert}
-use Rattle.box_tree.specs.declared.cert.CertKind.TheVariants.{Named}
 use Rattle.cert_check.specs.Laws.{TextAnswersAreOne}
 use Rattle.cert_check.specs.declared.text.TextFault.{TextFault}
 use Rattle.cpu12_emul.specs.Image.{ImagesLoadAlike, image_memory}
@@ -30,10 +29,10 @@ use Rattle.build_commands.specs.declared.check.Check.{Check}
 use Rattle.build_commands.specs.declared.exec.Exec.{Exec}
 
 pub errors_are_one : TextAnswersAreOne → AcceptedErrorsAreOne
-errors_are_one one width block cert errors others valid a b =
+errors_are_one one kind width block cert errors others valid a b =
     let x : Result (List ℕ) TextFault = Ok errors in
     let y : Result (List ℕ) TextFault = Ok others in
-    let same : x ≡ y = one block (parts width) Named (answer_width width) cert x y valid a b in
+    let same : x ≡ y = one block (parts width) kind (answer_width width) cert x y valid a b in
     cc
 
 pub checks_once : GivenFirmwaresAreOne → AcceptedErrorsAreOne → (check : Check) (text cert : List ℕ)
@@ -41,8 +40,8 @@ pub checks_once : GivenFirmwaresAreOne → AcceptedErrorsAreOne → (check : Che
 checks_once firmwares accepted check text cert output other a b =
     let one = firmwares check.width text a.block b.block a.firmware b.firmware a.gives b.gives in
     let errors : a.errors ≡ b.errors =
-    accepted check.width a.block cert a.errors b.errors a.gives.spelled.valid a.accepts
-    (subst (λ (c : Block). AcceptsCert check.width c cert b.errors) (sym one.0) b.accepts) in
+    accepted check.kind check.width a.block cert a.errors b.errors a.gives.spelled.valid a.accepts
+    (subst (λ (c : Block). AcceptsCert check.kind check.width c cert b.errors) (sym one.0) b.accepts) in
     a.output_is ∙ (λ i. only_text (check_lines (errors i) (instruction_bound check.width (one.0 i)))) ∙ sym b.output_is
 
 pub certifies_once : GivenFirmwaresAreOne → AnswersAreOne → (certify : Certify) (text : List ℕ)
@@ -51,11 +50,12 @@ certifies_once firmwares answers certify text output other a b =
     let one = firmwares certify.width text a.block b.block a.firmware b.firmware a.gives b.gives in
     let x : Result Cert NotReached = Ok a.cert in
     let y : Result Cert NotReached = Ok b.cert in
-    let same : x ≡ y = answers Named a.block (parts certify.width) certify.target x y a.gives.spelled.valid a.halving
-    (subst (λ (c : Block). IsHalving Named c (parts certify.width) certify.target b.cert) (sym one.0) b.halving) in
+    let same : x ≡ y = answers certify.kind a.block (parts certify.width) certify.target x y
+    a.gives.spelled.valid a.halving
+    (subst (λ (c : Block). IsHalving certify.kind c (parts certify.width) certify.target b.cert) (sym one.0) b.halving) in
     let cert : a.cert ≡ b.cert = cc in
     let out : a.out ≡ b.out = a.spelled.lines
-    ∙ (λ i. lines_of Named (answer_width certify.width) (cert i).claims (cert i).nodes) ∙ sym b.spelled.lines in
+    ∙ (λ i. lines_of certify.kind (answer_width certify.width) (cert i).claims (cert i).nodes) ∙ sym b.spelled.lines in
     a.output_is
     ∙ (λ i. record { text = certify_lines (cert i).claims (leaf_count (cert i).nodes); file = Some (4, out i) })
     ∙ sym b.output_is

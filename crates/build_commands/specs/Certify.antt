@@ -1,4 +1,4 @@
--- The commands `certify FCL TARGET OUT` and `certify16 FCL TARGET OUT`.
+-- The commands `certify FCL TARGET OUT`, `certify16 ..`, and `tcertify ..` and `tcertify16 ..` for tight certificates.
 use Rattle.std.specs.Prelude.{◌≡◌, ◌≤◌, ℕ, List, [], ◌∷◌, ◌++◌, All, codes, Option, Some, option_map, Result, Ok, Err}
 use Rattle.fuzzy_meaning.specs.Blocks.{IsValid}
 use Rattle.fuzzy_meaning.specs.declared.block.Block.{Block}
@@ -7,7 +7,7 @@ use Rattle.codegen.specs.declared.firmware.Firmware.{Firmware}
 use Rattle.eval_code.specs.declared.width.Width.{Width}
 use Rattle.box_tree.specs.Certificates.{CertText, IsCert}
 use Rattle.box_tree.specs.Trees.{leaf_count}
-use Rattle.box_tree.specs.declared.cert.CertKind.TheVariants.{Named}
+use Rattle.box_tree.specs.declared.cert.CertKind.{CertKind}
 use Rattle.box_tree.specs.declared.cert.Cert.{Cert}
 use Rattle.error_certifier.specs.Halving.{IsHalving, StopsAt}
 use Rattle.error_certifier.specs.Laws.{SaysOutOfReach}
@@ -23,12 +23,12 @@ use Rattle.build_commands.specs.Lines.{counted, error_line, line}
 use Rattle.build_commands.specs.Words.{number_of}
 use Rattle.build_commands.specs.declared.certify.Certify.{Certify}
 
-abbrev pub certify_with : Width → ℕ → Certify
-certify_with width target = record { width = width; target = target }
+abbrev pub certify_with : CertKind → Width → ℕ → Certify
+certify_with kind width target = record { kind = kind; width = width; target = target }
 
 -- the command of the words, where TARGET is of its form
-abbrev pub certify_in : Width → List Text → Option Certify
-certify_in width words = option_map (certify_with width) (number_of (word_at words 3))
+abbrev pub certify_in : CertKind → Width → List Text → Option Certify
+certify_in kind width words = option_map (certify_with kind width) (number_of (word_at words 3))
 
 -- FCL
 abbrev pub certify_inputs : List ℕ
@@ -41,34 +41,35 @@ certify_lines errors leaves = counted error_line 1 errors ++ line (codes "leaves
 
 -- ---- what it makes of its file
 
--- the text gives firmware with answers of this width, the certificate is that of the halving of its block, with
--- errors of at most the target, and OUT is to hold the certificate's text
+-- the text gives firmware with answers of this width, the certificate is that of the halving of its block for this
+-- kind, with errors of at most the target, and OUT is to hold the certificate's text
 pub record CertifyGives (certify : Certify) (text : List ℕ) (output : SeenOutput) : Type 0 where
   pub block : Block
   pub firmware : Firmware
   pub gives : GivesFirmware certify.width text block firmware
   pub cert : Cert
-  pub halving : IsHalving Named block (parts certify.width) certify.target cert
+  pub halving : IsHalving certify.kind block (parts certify.width) certify.target cert
   pub within : All (λ error. error ≤ certify.target) cert.claims
   pub out : List ℕ
-  pub spelled : CertText Named (answer_width certify.width) out cert
+  pub spelled : CertText certify.kind (answer_width certify.width) out cert
   pub output_is : output ≡ record { text = certify_lines cert.claims (leaf_count cert.nodes); file = Some (4, out) }
 
--- halving stops so, and for a cell no certificate that names rules and is accepted has a smaller error
-pub record StopsHalving (width : Width) (target : ℕ) (block : Block) (stop : NotReached) : Type 0 where
-  pub stops : StopsAt Named block (parts width) target stop
-  pub out_of_reach : SaysOutOfReach Named block (parts width) target stop
+-- halving for this kind stops so, and for a cell no certificate that is accepted has a smaller error: for tight ones
+-- none at all, for those that name rules none that does
+pub record StopsHalving (kind : CertKind) (width : Width) (target : ℕ) (block : Block) (stop : NotReached) : Type 0 where
+  pub stops : StopsAt kind block (parts width) target stop
+  pub out_of_reach : SaysOutOfReach kind block (parts width) target stop
 
 -- why its file is refused: the text first
-abbrev pub target_refusals : Width → ℕ → Block → Refusals
-target_refusals width target block (status.NotReached stop) = StopsHalving width target block stop
-target_refusals width target block s = ⊥
+abbrev pub target_refusals : CertKind → Width → ℕ → Block → Refusals
+target_refusals kind width target block (status.NotReached stop) = StopsHalving kind width target block stop
+target_refusals kind width target block s = ⊥
 
 abbrev pub certify_refusals : Certify → List ℕ → Refusals
 certify_refusals certify text (status.Fcl f) = RefusesText text f
 certify_refusals certify text (status.NotReached stop) =
     (block : Block) × (firmware : Firmware) × GivesFirmware certify.width text block firmware
-    × StopsHalving certify.width certify.target block stop
+    × StopsHalving certify.kind certify.width certify.target block stop
 certify_refusals certify text s = ⊥
 
 abbrev pub CertifyMakes : Certify → List ℕ → Result SeenOutput Status → Type 0
@@ -78,17 +79,17 @@ CertifyMakes certify text (Err s) = Refuses (certify_refusals certify text) s
 -- halving does not stop at a block with a certificate of it
 abbrev pub HalvedBlocksDoNotStop : Type 0
 HalvedBlocksDoNotStop =
-    (width : Width) (target : ℕ) (block : Block) (cert : Cert) (stop : NotReached) → IsValid block
-    → IsHalving Named block (parts width) target cert → StopsHalving width target block stop → ⊥
+    (kind : CertKind) (width : Width) (target : ℕ) (block : Block) (cert : Cert) (stop : NotReached) → IsValid block
+    → IsHalving kind block (parts width) target cert → StopsHalving kind width target block stop → ⊥
 
 -- the text gives firmware with answers of this width, and halving its block ends with this certificate, within the
 -- target
 pub record AcceptsTarget (certify : Certify) (text : List ℕ) (block : Block) (firmware : Firmware) (cert : Cert)
     : Type 0 where
   pub gives : GivesFirmware certify.width text block firmware
-  pub halving : IsHalving Named block (parts certify.width) certify.target cert
+  pub halving : IsHalving certify.kind block (parts certify.width) certify.target cert
   pub within : All (λ error. error ≤ certify.target) cert.claims
-  pub good : IsCert Named cert
+  pub good : IsCert certify.kind cert
 
 abbrev pub CertifyAccepts : Certify → List ℕ → Type 0
 CertifyAccepts certify text =

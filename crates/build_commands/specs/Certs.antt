@@ -6,7 +6,7 @@ use Rattle.eval_code.specs.Widths.{parts}
 use Rattle.eval_code.specs.declared.width.Width.{Width}
 use Rattle.eval_code.specs.declared.width.Width.TheVariants.{Byte, Word}
 use Rattle.box_tree.specs.declared.cert.AnswerWidth.{AnswerWidth}
-use Rattle.box_tree.specs.declared.cert.CertKind.TheVariants.{Named}
+use Rattle.box_tree.specs.declared.cert.CertKind.{CertKind}
 use Rattle.box_tree.specs.declared.cert.AnswerWidth.TheVariants as answers
 use Rattle.cert_check.specs.TextFaults.{IsAcceptedText, HasTextFault}
 use Rattle.cert_check.specs.declared.text.TextFault.{TextFault as TheRefusal}
@@ -23,24 +23,24 @@ abbrev pub answer_width : Width → AnswerWidth
 answer_width Byte = answers.Byte
 answer_width Word = answers.Word
 
--- CERT is a certificate that is accepted for the block's answers of this width, with these errors
-abbrev pub AcceptsCert : Width → Block → List ℕ → List ℕ → Type 0
-AcceptsCert width block cert errors = IsAcceptedText block (parts width) Named (answer_width width) cert errors
+-- CERT is a certificate of this kind that is accepted for the block's answers of this width, with these errors
+abbrev pub AcceptsCert : CertKind → Width → Block → List ℕ → List ℕ → Type 0
+AcceptsCert kind width block cert errors = IsAcceptedText block (parts width) kind (answer_width width) cert errors
 
 -- why the block refuses it
-abbrev pub HasCertFault : Width → Block → List ℕ → CertRefusal → Type 0
-HasCertFault width block cert (told.Text f) =
-    HasTextFault block (parts width) Named (answer_width width) cert (refusal.Text f)
-HasCertFault width block cert (told.Check f) =
-    HasTextFault block (parts width) Named (answer_width width) cert (refusal.Check f)
+abbrev pub HasCertFault : CertKind → Width → Block → List ℕ → CertRefusal → Type 0
+HasCertFault kind width block cert (told.Text f) =
+    HasTextFault block (parts width) kind (answer_width width) cert (refusal.Text f)
+HasCertFault kind width block cert (told.Check f) =
+    HasTextFault block (parts width) kind (answer_width width) cert (refusal.Check f)
 
-abbrev pub cert_refusals : Width → Block → List ℕ → Refusals
-cert_refusals width block cert (status.Cert f) = HasCertFault width block cert f
-cert_refusals width block cert s = ⊥
+abbrev pub cert_refusals : CertKind → Width → Block → List ℕ → Refusals
+cert_refusals kind width block cert (status.Cert f) = HasCertFault kind width block cert f
+cert_refusals kind width block cert s = ⊥
 
 -- why CERT is refused, the text giving firmware
-abbrev pub RefusesCert : Width → List ℕ → List ℕ → CertRefusal → Type 0
-RefusesCert width text cert f = OfFirmware width text (λ block firmware. HasCertFault width block cert f)
+abbrev pub RefusesCert : CertKind → Width → List ℕ → List ℕ → CertRefusal → Type 0
+RefusesCert kind width text cert f = OfFirmware width text (λ block firmware. HasCertFault kind width block cert f)
 
 -- the status that tells a refusal
 abbrev pub status_of : TheRefusal → Status
@@ -50,10 +50,10 @@ status_of refusal.Memory = status.Memory
 
 -- a certificate that a block accepts is not refused
 abbrev pub AcceptedCertsHaveNoFault : Type 0
-AcceptedCertsHaveNoFault = (width : Width) (block : Block) (cert errors : List ℕ) (f : CertRefusal) → IsValid block
-    → AcceptsCert width block cert errors → HasCertFault width block cert f → ⊥
+AcceptedCertsHaveNoFault = (kind : CertKind) (width : Width) (block : Block) (cert errors : List ℕ) (f : CertRefusal)
+    → IsValid block → AcceptsCert kind width block cert errors → HasCertFault kind width block cert f → ⊥
 
 -- a certificate is accepted with one list of errors
 abbrev pub AcceptedErrorsAreOne : Type 0
-AcceptedErrorsAreOne = (width : Width) (block : Block) (cert errors others : List ℕ) → IsValid block
-    → AcceptsCert width block cert errors → AcceptsCert width block cert others → errors ≡ others
+AcceptedErrorsAreOne = (kind : CertKind) (width : Width) (block : Block) (cert errors others : List ℕ) → IsValid block
+    → AcceptsCert kind width block cert errors → AcceptsCert kind width block cert others → errors ≡ others

@@ -1,9 +1,10 @@
--- The commands `check FCL CERT` and `check16 FCL CERT`.
+-- The commands `check FCL CERT`, `check16 ..`, and `tcheck ..` and `tcheck16 ..` of tight certificates.
 use Rattle.std.specs.Prelude.{◌≡◌, ℕ, List, [], ◌∷◌, ◌++◌, codes, Result, Ok, Err}
 use Rattle.fuzzy_meaning.specs.declared.block.Block.{Block}
 use Rattle.eval_code.specs.Bounds.{instruction_bound}
 use Rattle.codegen.specs.declared.firmware.Firmware.{Firmware}
 use Rattle.eval_code.specs.declared.width.Width.{Width}
+use Rattle.box_tree.specs.declared.cert.CertKind.{CertKind}
 use Rattle.build_commands.specs.Certs.{AcceptsCert, RefusesCert}
 use Rattle.build_commands.specs.SeenOutputs.{SeenOutput, only_text}
 use Rattle.build_commands.specs.Firmwares.{GivesFirmware, RefusesText}
@@ -13,8 +14,8 @@ use Rattle.build_commands.specs.declared.check.Check.{Check}
 use Rattle.fz_status.specs.declared.status.Status.{Status}
 use Rattle.fz_status.specs.declared.status.Status.TheVariants as status
 
-abbrev pub check_in : Width → Check
-check_in width = record { width = width }
+abbrev pub check_in : CertKind → Width → Check
+check_in kind width = record { kind = kind; width = width }
 
 -- FCL and CERT
 abbrev pub check_inputs : List ℕ
@@ -27,19 +28,20 @@ check_lines errors instructions = counted error_line 1 errors ++ line (codes "in
 
 -- ---- what it makes of its files
 
--- the text gives firmware with answers of this width, and CERT is a certificate that is accepted with these errors
+-- the text gives firmware with answers of this width, and CERT is a certificate of this kind that is accepted with
+-- these errors
 pub record CheckGives (check : Check) (text cert : List ℕ) (output : SeenOutput) : Type 0 where
   pub block : Block
   pub firmware : Firmware
   pub gives : GivesFirmware check.width text block firmware
   pub errors : List ℕ
-  pub accepts : AcceptsCert check.width block cert errors
+  pub accepts : AcceptsCert check.kind check.width block cert errors
   pub output_is : output ≡ only_text (check_lines errors (instruction_bound check.width block))
 
 -- why its files are refused: the text first
 abbrev pub check_refusals : Check → List ℕ → List ℕ → Refusals
 check_refusals check text cert (status.Fcl f) = RefusesText text f
-check_refusals check text cert (status.Cert f) = RefusesCert check.width text cert f
+check_refusals check text cert (status.Cert f) = RefusesCert check.kind check.width text cert f
 check_refusals check text cert s = ⊥
 
 abbrev pub CheckMakes : Check → List ℕ → List ℕ → Result SeenOutput Status → Type 0
@@ -49,4 +51,4 @@ CheckMakes check text cert (Err s) = Refuses (check_refusals check text cert) s
 -- the text gives firmware, and CERT is accepted
 abbrev pub CheckAccepts : Check → List ℕ → List ℕ → Type 0
 CheckAccepts check text cert = (block : Block) × (firmware : Firmware) × (errors : List ℕ)
-    × GivesFirmware check.width text block firmware × AcceptsCert check.width block cert errors
+    × GivesFirmware check.width text block firmware × AcceptsCert check.kind check.width block cert errors

@@ -1,35 +1,36 @@
-//! The commands `certify FCL TARGET OUT` and `certify16 FCL TARGET OUT`.
+//! The commands `certify FCL TARGET OUT`, `certify16 ..`, and `tcertify ..` and `tcertify16 ..` for tight certificates.
 ghost use Rattle.std.specs.Prelude.{◌≡◌, ◌≤◌, length, All, IfOk, IfErr, List, ℕ};
 ghost use Rattle.fuzzy_meaning.specs.Blocks.{IsValid};
 ghost use Rattle.eval_code.specs.Widths.{parts};
-ghost use Rattle.box_tree.specs.declared.cert.CertKind.TheVariants.{Named};
-ghost use Rattle.box_tree.specs.Certificates.{CertText, IsCert};
+ghost use Rattle.box_tree.specs.Certificates.{IsCert};
 ghost use Rattle.box_tree.specs.Trees.{leaf_count};
 ghost use Rattle.error_certifier.specs.Halving.{IsHalving};
 ghost use Rattle.fz_shelf.specs.Lines.{text_of};
 ghost use Rattle.fz_status.specs.Refusals.{IsRefusal};
 ghost use Rattle.fz_status.specs.Words.{texts_of};
-ghost use Rattle.build_commands.specs.Certs.{answer_width};
 ghost use Rattle.build_commands.specs.Certify.{CertifyMakes, certify_in, certify_lines, target_refusals};
 ghost use Rattle.build_commands.specs.Certify.{HalvedBlocksDoNotStop};
 ghost use Rattle.build_commands.specs.SeenOutputs.{OutputHasNoFault, OutputsAreOne, IsResultOf};
 ghost use Rattle.build_commands.specs.declared.certify.Certify.{Certify as TheCertify};
 
+use crate::certs::answer_width;
 use crate::firmware::{firmware_of, given_firmwares_are_one, spelled_texts_have_no_fault};
 use crate::lines::{labelled, push_errors};
 use crate::output::Output;
 use crate::words::{Number, number_in};
-use box_tree::{Cert, Node};
-use error_certifier::{NotReached, answers_are_one};
+use box_tree::{Cert, CertKind, Node, write_for};
+use error_certifier::{NotReached, answers_are_one, certify_for};
 use eval_code::Width;
 use fcl_check::spelled_blocks_are_one;
 use fuzzy_meaning::Block;
 use fz_status::{Status, word};
 use std::alloc::{AllocError, Global};
 
-/// `certify FCL TARGET OUT`, and `certify16 FCL TARGET OUT` for answers of 16 bits.
+/// `certify FCL TARGET OUT`, `tcertify ..` for tight certificates, and both with `16` for answers of 16 bits.
 #[derive(Clone, Copy, Debug, PartialEq, Eq)]
 pub struct Certify {
+    /// What the certificate's leaves say.
+    kind: CertKind,
     /// How wide the firmware's answers are.
     width: Width,
     /// The error that no output is to pass, in millionths of its range.
@@ -44,23 +45,23 @@ const OUT: u32 = 4;
 
 impl Certify {
     /// The command of these words.
-    pub fn of(width: Width, words: &[String]) -> Option<Certify>
-        ensures { result ≡ certify_in width (texts_of words.now) }
+    pub fn of(kind: CertKind, width: Width, words: &[String]) -> Option<Certify>
+        ensures { result ≡ certify_in kind width (texts_of words.now) }
     {
         let target = number_in(word(words, 3))?;
-        Some(Certify { width, target })
+        Some(Certify { kind, width, target })
     }
 
-    /// Halves the boxes of the text's block until each has leaves within the target, and writes down
+    /// Halves the boxes of the text's block until each has a leaf within the target, and writes down
     /// the certificate, the error of each output and the number of leaves.
     pub fn work(self, alloc: Global, fcl: &[u8]) -> Result<Output, Status>
         requires { length fcl.now ≤ 1048576 }
         ensures { IsResultOf (CertifyMakes self fcl.now) result }
     {
-        let width = self.width;
+        let (kind, width) = (self.kind, self.width);
         let compiled = firmware_of(alloc, width, fcl)?;
-        let cert = halved(alloc, width, self.target.get(), &compiled.block)?;
-        let text = text_of_cert(alloc, width, &cert)?;
+        let cert = halved(alloc, kind, width, self.target.get(), &compiled.block)?;
+        let text = write_for(alloc, &cert, kind, answer_width(width))?;
         let lines = lines(alloc, &cert)?;
         Ok(Output {
             lines,
@@ -69,37 +70,26 @@ impl Certify {
     }
 }
 
-/// The certificate of a block's halving, for answers of this width.
-pub fn halved(alloc: Global, width: Width, target: u32, block: &Block) -> Result<Cert, Status>
+/// The certificate of this kind of a block's halving, for answers of this width.
+pub fn halved(
+    alloc: Global,
+    kind: CertKind,
+    width: Width,
+    target: u32,
+    block: &Block,
+) -> Result<Cert, Status>
     requires block { IsValid block.now }
     requires target { target ≤ 1000000 }
-    ensures halving { IfOk result (IsHalving Named block.now (parts width) target) }
+    ensures halving { IfOk result (IsHalving kind block.now (parts width) target) }
     ensures within { IfOk result (λ cert. All (λ error. error ≤ target) cert.claims) }
-    ensures cert { IfOk result (IsCert Named) }
-    ensures stops { IfErr result (IsRefusal (target_refusals width target block.now)) }
+    ensures cert { IfOk result (IsCert kind) }
+    ensures stops { IfErr result (IsRefusal (target_refusals kind width target block.now)) }
 {
-    let answer = match width {
-        Width::Byte => error_certifier::certify(alloc, block, target),
-        Width::Word => error_certifier::certify16(alloc, block, target),
-    };
-    match answer {
+    match certify_for(alloc, block, target, kind, answer_width(width)) {
         Ok(cert) => Ok(cert),
         Err(NotReached::Memory) => Err(Status::Memory),
         Err(stop) => Err(Status::NotReached(stop)),
     }
-}
-
-/// The text of a certificate for answers of this width.
-fn text_of_cert(alloc: Global, width: Width, cert: &Cert) -> Result<Vec<u8>, Status>
-    requires { IsCert Named cert.now }
-    ensures text { IfOk result (λ text. CertText Named (answer_width width) text.items cert.now) }
-    ensures memory { IfErr result (λ status. status ≡ Status.Memory) }
-{
-    let text = match width {
-        Width::Byte => box_tree::write(alloc, cert)?,
-        Width::Word => box_tree::write16(alloc, cert)?,
-    };
-    Ok(text)
 }
 
 fn count_of_leaves(nodes: &[Node]) -> u64
@@ -117,7 +107,7 @@ fn count_of_leaves(nodes: &[Node]) -> u64
 
 /// The error of each output, and the number of leaves.
 fn lines(alloc: Global, cert: &Cert) -> Result<Vec<String>, AllocError>
-    requires { IsCert Named cert.now }
+    requires { leaf_count cert.now.nodes ≤ 4096 }
     ensures { IfOk result (λ lines. text_of lines.items ≡
         certify_lines cert.now.claims (leaf_count cert.now.nodes)) }
 {

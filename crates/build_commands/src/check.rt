@@ -1,4 +1,4 @@
-//! The commands `check FCL CERT` and `check16 FCL CERT`.
+//! The commands `check FCL CERT`, `check16 ..`, and `tcheck ..` and `tcheck16 ..` of tight certificates.
 ghost use Rattle.std.specs.Prelude.{◌≡◌, ◌≤◌, length, IfOk, List, ℕ};
 ghost use Rattle.fz_shelf.specs.Lines.{text_of};
 ghost use Rattle.build_commands.specs.SeenOutputs.{OutputHasNoFault, OutputsAreOne, IsResultOf};
@@ -9,14 +9,17 @@ use crate::certs::{accepted_certs_have_no_fault, accepted_errors_are_one, errors
 use crate::firmware::{firmware_of, given_firmwares_are_one, spelled_texts_have_no_fault};
 use crate::lines::{labelled, push_errors};
 use crate::output::Output;
+use box_tree::CertKind;
 use eval_code::Width;
 use fcl_check::spelled_blocks_are_one;
 use fz_status::Status;
 use std::alloc::{AllocError, Global};
 
-/// `check FCL CERT`, and `check16 FCL CERT` for answers of 16 bits.
+/// `check FCL CERT`, `tcheck ..` of tight certificates, and both with `16` for answers of 16 bits.
 #[derive(Clone, Copy, Debug, PartialEq, Eq)]
 pub struct Check {
+    /// What the certificate's leaves say.
+    pub kind: CertKind,
     /// How wide the firmware's answers are.
     pub width: Width,
 }
@@ -33,7 +36,7 @@ impl Check {
         ensures { IsResultOf (CheckMakes self fcl.now cert.now) result }
     {
         let compiled = firmware_of(alloc, self.width, fcl)?;
-        let errors = errors_under(alloc, self.width, &compiled.block, cert)?;
+        let errors = errors_under(alloc, self.kind, self.width, &compiled.block, cert)?;
         let lines = lines(alloc, errors.as_slice(), compiled.firmware.instr_bound)?;
         Ok(Output { lines, file: None })
     }

@@ -3,7 +3,7 @@ ghost use Rattle.std.specs.Prelude.{◌≡◌, ◌≢◌, ◌≤◌, ◌<◌, �
 ghost use Rattle.std.specs.Prelude.{slice_get};
 ghost use Rattle.fuzzy_meaning.specs.Blocks.{IsValid};
 ghost use Rattle.box_tree.specs.declared.cert.CertKind.{CertKind as TheKind};
-ghost use Rattle.box_tree.specs.declared.cert.CertKind.TheVariants.{Named, Tight};
+ghost use Rattle.box_tree.specs.declared.cert.CertKind.TheVariants.{Named};
 ghost use Rattle.box_tree.specs.Certificates.{IsCert};
 ghost use Rattle.cert_check.specs.Acceptance.{IsAccepted, parts_of as the_parts_of};
 ghost use Rattle.cert_check.specs.Faults.{HasCheckFault, IsFirstOver, AreClaimed};
@@ -62,28 +62,6 @@ pub fn check(alloc: Global, block: &Block, cert: &Cert) -> Result<Vec<u32>, Chec
 pub fn check16(alloc: Global, block: &Block, cert: &Cert) -> Result<Vec<u32>, CheckFault>
     requires block { IsValid block.now }
     requires cert { IsCert Named cert.now }
-    ensures accepted { IfOk result (λ errors. IsAccepted block.now 256 cert.now errors.items) }
-    ensures fault { IfErr result (λ fault.
-        fault ≢ CheckFault.Memory → HasCheckFault block.now 256 cert.now fault) }
-{
-    check_for(alloc, block, cert, AnswerWidth::Word)
-}
-
-/// The same of a tight certificate, for answers that are bytes.
-pub fn check_tight(alloc: Global, block: &Block, cert: &Cert) -> Result<Vec<u32>, CheckFault>
-    requires block { IsValid block.now }
-    requires cert { IsCert Tight cert.now }
-    ensures accepted { IfOk result (λ errors. IsAccepted block.now 1 cert.now errors.items) }
-    ensures fault { IfErr result (λ fault.
-        fault ≢ CheckFault.Memory → HasCheckFault block.now 1 cert.now fault) }
-{
-    check_for(alloc, block, cert, AnswerWidth::Byte)
-}
-
-/// The same of a tight certificate, for answers of 16 bits.
-pub fn check_tight16(alloc: Global, block: &Block, cert: &Cert) -> Result<Vec<u32>, CheckFault>
-    requires block { IsValid block.now }
-    requires cert { IsCert Tight cert.now }
     ensures accepted { IfOk result (λ errors. IsAccepted block.now 256 cert.now errors.items) }
     ensures fault { IfErr result (λ fault.
         fault ≢ CheckFault.Memory → HasCheckFault block.now 256 cert.now fault) }

@@ -2,8 +2,8 @@
 //! whose leaves hold, with claims that are no less than the errors of the outputs.
 //!
 //! [`check`] answers exactly the errors that a certificate is accepted with, or exactly its first
-//! [`CheckFault`]; [`check16`] the same for answers of 16 bits, and [`check_tight`] and
-//! [`check_tight16`] of tight certificates. The laws are that an accepted certificate bounds the
+//! [`CheckFault`]; [`check16`] the same for answers of 16 bits, and [`check_for`] of a certificate of
+//! either kind, for answers of either width. The laws are that an accepted certificate bounds the
 //! answers to every list of samples in range, that its errors are determined, that one with a fault
 //! is not accepted, and that one that names rules stays accepted when its leaves become tight. Each of
 //! these stands once for all kinds of leaf.
@@ -19,7 +19,7 @@ mod walk;
 
 pub use box_laws::{cuts_have_halves, leaves_are_around};
 pub use boxes::whole_box;
-pub use checker::{CheckFault, check, check_for, check_tight, check_tight16, check16, parts_of};
+pub use checker::{CheckFault, check, check_for, check16, parts_of};
 pub use laws::{
     accepted_answers_are_near, check_faults_are_one, errors_are_determined, examples_are_accepted,
     faulty_certs_fail, named_certs_have_no_cells, one_leaf_has_the_bytes, text_answers_are_one,
@@ -27,5 +27,5 @@ pub use laws::{
 };
 pub use leaves::raise;
 pub use text::{
-    TextFault, check_text, check_text_for, check_text_tight, check_text_tight16, check_text16,
+    TextFault, check_text, check_text_for, check_text16,
 };

@@ -4,7 +4,7 @@ ghost use Rattle.fuzzy_meaning.specs.Blocks.{IsValid};
 ghost use Rattle.box_tree.specs.declared.cert.AnswerWidth.{AnswerWidth as TheWidth};
 ghost use Rattle.box_tree.specs.declared.cert.AnswerWidth.TheVariants.{Byte, Word};
 ghost use Rattle.box_tree.specs.declared.cert.CertKind.{CertKind as TheKind};
-ghost use Rattle.box_tree.specs.declared.cert.CertKind.TheVariants.{Named, Tight};
+ghost use Rattle.box_tree.specs.declared.cert.CertKind.TheVariants.{Named};
 ghost use Rattle.box_tree.specs.Reading.{HasRead};
 ghost use Rattle.cert_check.specs.Acceptance.{parts_of as the_parts_of};
 ghost use Rattle.cert_check.specs.TextFaults.{IsAcceptedText, HasTextFault};
@@ -53,28 +53,6 @@ pub fn check_text16(alloc: Global, block: &Block, text: &[u8]) -> Result<Vec<u32
         → HasTextFault block.now 256 Named Word text.now refusal) }
 {
     check_text_for(alloc, block, text, CertKind::Named, AnswerWidth::Word)
-}
-
-/// The same of a tight certificate, for answers that are bytes, and texts of version 3.
-pub fn check_text_tight(alloc: Global, block: &Block, text: &[u8]) -> Result<Vec<u32>, TextFault>
-    requires block { IsValid block.now }
-    requires text { length text.now ≤ 1048576 }
-    ensures accepted { IfOk result (λ errors. IsAcceptedText block.now 1 Tight Byte text.now errors.items) }
-    ensures refused { IfErr result (λ refusal. refusal ≢ TextFault.Memory
-        → HasTextFault block.now 1 Tight Byte text.now refusal) }
-{
-    check_text_for(alloc, block, text, CertKind::Tight, AnswerWidth::Byte)
-}
-
-/// The same of a tight certificate, for answers of 16 bits, and texts of version 4.
-pub fn check_text_tight16(alloc: Global, block: &Block, text: &[u8]) -> Result<Vec<u32>, TextFault>
-    requires block { IsValid block.now }
-    requires text { length text.now ≤ 1048576 }
-    ensures accepted { IfOk result (λ errors. IsAcceptedText block.now 256 Tight Word text.now errors.items) }
-    ensures refused { IfErr result (λ refusal. refusal ≢ TextFault.Memory
-        → HasTextFault block.now 256 Tight Word text.now refusal) }
-{
-    check_text_for(alloc, block, text, CertKind::Tight, AnswerWidth::Word)
 }
 
 /// The same of a certificate of this kind, for answers of this width.

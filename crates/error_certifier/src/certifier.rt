@@ -1,7 +1,7 @@
 //! Certificates for a target, or why it is not reached.
 ghost use Rattle.std.specs.Prelude.{◌≡◌, ◌≢◌, ◌≤◌, All, IfOk, IfErr};
 ghost use Rattle.fuzzy_meaning.specs.Blocks.{IsValid};
-ghost use Rattle.box_tree.specs.declared.cert.CertKind.TheVariants.{Named, Tight};
+ghost use Rattle.box_tree.specs.declared.cert.CertKind.TheVariants.{Named};
 ghost use Rattle.box_tree.specs.Certificates.{IsCert};
 ghost use Rattle.cert_check.specs.Acceptance.{parts_of as the_parts_of};
 ghost use Rattle.error_certifier.specs.Halving.{IsHalving, StopsAt};
@@ -43,7 +43,7 @@ pub fn certify(alloc: Global, block: &Block, target: u32) -> Result<Cert, NotRea
     ensures stops { IfErr result (λ stop. stop ≢ NotReached.Memory → StopsAt Named block.now 1 target stop) }
     ensures out_of_reach { IfErr result (SaysOutOfReach Named block.now 1 target) }
 {
-    certify_for(alloc, CertKind::Named, AnswerWidth::Byte, block, target)
+    certify_for(alloc, block, target, CertKind::Named, AnswerWidth::Byte)
 }
 
 /// The same for answers of 16 bits.
@@ -56,42 +56,16 @@ pub fn certify16(alloc: Global, block: &Block, target: u32) -> Result<Cert, NotR
     ensures stops { IfErr result (λ stop. stop ≢ NotReached.Memory → StopsAt Named block.now 256 target stop) }
     ensures out_of_reach { IfErr result (SaysOutOfReach Named block.now 256 target) }
 {
-    certify_for(alloc, CertKind::Named, AnswerWidth::Word, block, target)
+    certify_for(alloc, block, target, CertKind::Named, AnswerWidth::Word)
 }
 
-/// The tight certificate that halving gives for a target, for answers that are bytes.
-pub fn certify_tight(alloc: Global, block: &Block, target: u32) -> Result<Cert, NotReached>
-    requires block { IsValid block.now }
-    requires target { target ≤ 1000000 }
-    ensures halved { IfOk result (IsHalving Tight block.now 1 target) }
-    ensures within { IfOk result (λ cert. All (λ error. error ≤ target) cert.claims) }
-    ensures cert { IfOk result (IsCert Tight) }
-    ensures stops { IfErr result (λ stop. stop ≢ NotReached.Memory → StopsAt Tight block.now 1 target stop) }
-    ensures out_of_reach { IfErr result (SaysOutOfReach Tight block.now 1 target) }
-{
-    certify_for(alloc, CertKind::Tight, AnswerWidth::Byte, block, target)
-}
-
-/// The same for answers of 16 bits.
-pub fn certify_tight16(alloc: Global, block: &Block, target: u32) -> Result<Cert, NotReached>
-    requires block { IsValid block.now }
-    requires target { target ≤ 1000000 }
-    ensures halved { IfOk result (IsHalving Tight block.now 256 target) }
-    ensures within { IfOk result (λ cert. All (λ error. error ≤ target) cert.claims) }
-    ensures cert { IfOk result (IsCert Tight) }
-    ensures stops { IfErr result (λ stop. stop ≢ NotReached.Memory → StopsAt Tight block.now 256 target stop) }
-    ensures out_of_reach { IfErr result (SaysOutOfReach Tight block.now 256 target) }
-{
-    certify_for(alloc, CertKind::Tight, AnswerWidth::Word, block, target)
-}
-
-/// The certificate of this kind, for answers of this width.
+/// The certificate of this kind that halving gives for a target, for answers of this width.
 pub fn certify_for(
     alloc: Global,
-    kind: CertKind,
-    answers: AnswerWidth,
     block: &Block,
     target: u32,
+    kind: CertKind,
+    answers: AnswerWidth,
 ) -> Result<Cert, NotReached>
     requires block { IsValid block.now }
     requires target { target ≤ 1000000 }

@@ -2,9 +2,8 @@
 //! within the target the box is a leaf, else it is cut in the middle of its widest interval.
 //!
 //! [`certify`] answers exactly the certificate of the halving, or exactly why it stops; [`certify16`]
-//! the same for answers of 16 bits, and [`certify_tight`] and [`certify_tight16`] for tight leaves and
-//! leaves of cells. The certificate is accepted with its claims as errors, each at
-//! most the target. Where a cell is above the target, no certificate of the block that is accepted
+//! the same for answers of 16 bits, and [`certify_for`] for either kind of leaf and either width.
+//! The certificate is accepted with its claims as errors, each at most the target. Where a cell is above the target, no certificate of the block that is accepted
 //! has a smaller error for that output: then another target is to be asked for, or the rules changed.
 #![tactic(auto)]
 
@@ -14,5 +13,5 @@ mod halving;
 mod laws;
 mod leaves;
 
-pub use certifier::{NotReached, certify, certify_for, certify_tight, certify_tight16, certify16};
+pub use certifier::{NotReached, certify, certify_for, certify16};
 pub use laws::{answers_are_one, cells_are_out_of_reach};

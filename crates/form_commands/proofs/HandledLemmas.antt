@@ -4,6 +4,7 @@ use Rattle.std.specs.Prelude.{map}
 use Rattle.cpu12_asm.specs.declared.image.Image.{Image}
 use Rattle.fuzzy_meaning.specs.declared.block.Block.{Block}
 use Rattle.codegen.specs.declared.firmware.Firmware.{Firmware}
+use Rattle.box_tree.specs.declared.cert.CertKind.TheVariants.{Named}
 use Rattle.eval_code.specs.declared.width.Width.TheVariants.{Byte}
 use Rattle.interrupt_plan.specs.declared.Request.{Request}
 use Rattle.trace_io.specs.declared.sample.Sample.{Sample}
@@ -71,7 +72,7 @@ module _ (reported : AnswersAreReported) (fit : SpelledBytesFit) (all : AnswersU
 pub hrun_refused : (files : HandledFiles) (block : Block) (firmware : Firmware)
     → GivesFirmware Byte files.fcl block firmware → (handler : Image) (instrs : ℕ)
     → GivesHandler files.handler handler instrs → (s : Status)
-    → input_refusals Byte block files.cert files.trace files.plan s → hrun_refusals files s
+    → input_refusals Named Byte block files.cert files.trace files.plan s → hrun_refusals files s
 hrun_refused files block firmware gives handler instrs given (status.Fcl f) r = absurd r.2
 hrun_refused files block firmware gives handler instrs given (status.Image f) r = absurd r.2
 hrun_refused files block firmware gives handler instrs given (status.Handler f) r = absurd r.2

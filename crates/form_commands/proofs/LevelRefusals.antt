@@ -1,6 +1,7 @@
 -- What refuses the files of a run at two levels, and that nothing refuses accepted ones.
 use Rattle.std.proofs.Common.{ℕ, List, length}
 use Rattle.fuzzy_meaning.specs.declared.block.Block.{Block}
+use Rattle.box_tree.specs.declared.cert.CertKind.TheVariants.{Named}
 use Rattle.eval_code.specs.declared.width.Width.TheVariants.{Byte}
 use Rattle.srecord.specs.Texts.{GivesImage}
 use Rattle.trace_io.specs.Traces.{Spells as SpellsTrace}
@@ -22,8 +23,8 @@ use Rattle.form_commands.specs.Lrun.{lrun_refusals, traces_refusals}
 module _ (files : LevelFiles) (slow fast : Block) where
   -- ---- certificates and traces
 
-  pub by_fast_cert : (errors : List ℕ) → AcceptsCert Byte slow files.slow_cert errors → (s : Status)
-      → IsRefusal (cert_refusals Byte fast files.fast_cert) s → IsRefusal (certs_refusals files slow fast) (of_fast s)
+  pub by_fast_cert : (errors : List ℕ) → AcceptsCert Named Byte slow files.slow_cert errors → (s : Status)
+      → IsRefusal (cert_refusals Named Byte fast files.fast_cert) s → IsRefusal (certs_refusals files slow fast) (of_fast s)
   by_fast_cert errors accepts status.Memory r = tt
   by_fast_cert errors accepts (status.Cert f) r = (r.0, ((errors, accepts), r.1))
   by_fast_cert errors accepts s r = absurd r.1

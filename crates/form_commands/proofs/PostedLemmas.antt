@@ -15,6 +15,7 @@ use Rattle.codegen.specs.Uninterrupted.{AreAnswersOf}
 use Rattle.eval_code.specs.Widths.{width_of}
 use Rattle.codegen.specs.declared.firmware.Firmware.{Firmware}
 use Rattle.eval_code.specs.declared.width.Width.{Width}
+use Rattle.box_tree.specs.declared.cert.CertKind.TheVariants.{Named}
 use Rattle.eval_code.specs.declared.width.Width.TheVariants.{Byte}
 use Rattle.srecord.specs.Texts.{GivesImage}
 use Rattle.interrupt_plan.specs.Posts.{AreGoodPosts}
@@ -213,7 +214,7 @@ module _ (keep : AnswersKeepTheBound) (fit : SpelledBytesFit) (near : PostedAnsw
 pub refused_posts : (files : PostedFiles) (block : Block) (firmware : Firmware) (errors : List ℕ)
     (samples : List Sample) (s : Status)
     → GivesMailbox files.fcl block firmware → GivesImage files.image firmware.image
-    → AcceptsCert Byte block files.cert errors → SpellsTrace block.inputs files.trace samples
+    → AcceptsCert Named Byte block files.cert errors → SpellsTrace block.inputs files.trace samples
     → IsRefusal (posts_refusals (length samples) files.posts) s → IsRefusal (mrun_refusals files) s
 refused_posts files block firmware errors samples status.Memory compiled image accepted in_range refused = tt
 refused_posts files block firmware errors samples (status.Plan f) compiled image accepted in_range refused =

@@ -6,6 +6,7 @@ use Rattle.fuzzy_meaning.specs.declared.block.Block.{Block}
 use Rattle.cpu12_emul.specs.Image.{image_memory}
 use Rattle.watched_code.specs.Watched.{Watched, watched_answer}
 use Rattle.codegen.specs.declared.firmware.Firmware.{Firmware}
+use Rattle.box_tree.specs.declared.cert.CertKind.TheVariants.{Named}
 use Rattle.eval_code.specs.declared.width.Width.TheVariants.{Byte}
 use Rattle.srecord.specs.Texts.{GivesImage}
 use Rattle.interrupt_plan.specs.declared.Request.{Request}
@@ -77,7 +78,7 @@ watches near fit flags files block firmware errors samples slice plan upsets row
 module _ (files : WatchedFiles) (block : Block) (firmware : Firmware) (gives : GivesWatched files.fcl block firmware)
     (image : GivesImage files.image firmware.image) where
   -- what refuses the files behind IMAGE refuses the run
-  pub srun_refused : (s : Status) → input_refusals Byte block files.cert files.trace files.plan s
+  pub srun_refused : (s : Status) → input_refusals Named Byte block files.cert files.trace files.plan s
       → srun_refusals files s
   srun_refused (status.Fcl f) r = absurd r.2
   srun_refused (status.Image f) r = absurd r.2
@@ -86,7 +87,7 @@ module _ (files : WatchedFiles) (block : Block) (firmware : Firmware) (gives : G
 
   -- and so does what refuses UPSETS
   pub upsets_refused : (errors : List ℕ) (samples : List Sample) (plan : List Request)
-      → AcceptsInputs Byte block files.cert files.trace files.plan errors samples plan → (s : Status)
+      → AcceptsInputs Named Byte block files.cert files.trace files.plan errors samples plan → (s : Status)
       → upset_refusals firmware.image.bytes files.upsets s → srun_refusals files s
   upsets_refused errors samples plan inputs (status.Upset f) r =
       (block, firmware, gives, (image, errors, samples, plan, inputs, r))

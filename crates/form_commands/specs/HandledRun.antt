@@ -3,6 +3,7 @@ use Rattle.std.specs.Prelude.{◌≡◌, ℕ, List, map}
 use Rattle.cpu12_asm.specs.declared.image.Image.{Image}
 use Rattle.fuzzy_meaning.specs.declared.block.Block.{Block}
 use Rattle.codegen.specs.declared.firmware.Firmware.{Firmware}
+use Rattle.box_tree.specs.declared.cert.CertKind.TheVariants.{Named}
 use Rattle.eval_code.specs.declared.width.Width.TheVariants.{Byte}
 use Rattle.interrupt_plan.specs.PlanTexts.{Spells as SpellsPlan}
 use Rattle.interrupt_plan.specs.declared.Request.{Request}
@@ -42,7 +43,7 @@ pub record AcceptsHandled (files : HandledFiles) (block : Block) (firmware : Fir
     (errors : List ℕ) (samples : List Sample) (plan : List Request) : Type 0 where
   pub compiled : GivesFirmware Byte files.fcl block firmware
   pub handles : GivesHandler files.handler handler instrs
-  pub inputs : AcceptsInputs Byte block files.cert files.trace files.plan errors samples plan
+  pub inputs : AcceptsInputs Named Byte block files.cert files.trace files.plan errors samples plan
 
 -- Compile accepts the FCL text, HANDLER gives a handler that is accepted, the checker accepts the certificate, the
 -- trace spells samples within their inputs' ranges, and the plan interrupts that write only free bytes. The rows are
@@ -57,7 +58,7 @@ pub record HandledRun (flags : ℕ) (files : HandledFiles) (report : HandledRepo
   pub handler : Image
   pub instrs : ℕ
   pub handles : GivesHandler files.handler handler instrs
-  pub accepted : AcceptsCert Byte block files.cert report.errors
+  pub accepted : AcceptsCert Named Byte block files.cert report.errors
   pub samples : List Sample
   pub in_range : SpellsTrace block.inputs files.trace samples
   pub plan : List Request

@@ -2,6 +2,7 @@
 use Rattle.std.specs.Prelude.{◌≡◌, ℕ, List, [], ◌∷◌, ◌++◌, codes, Option, option_map}
 use Rattle.std.specs.Prelude.{Result, Ok, Err}
 use Rattle.cpu12_asm.specs.declared.image.Image.{Image}
+use Rattle.box_tree.specs.declared.cert.CertKind.TheVariants.{Named}
 use Rattle.eval_code.specs.declared.width.Width.TheVariants.{Byte}
 use Rattle.handled_runs.specs.Forms.{HandledSeen}
 use Rattle.build_commands.specs.Contents.{content_at}
@@ -70,7 +71,7 @@ hrun_refusals files (status.Handler f) =
     OfFirmware Byte files.fcl (λ block firmware. handler_refusals files.handler (status.Handler f))
 hrun_refusals files s = OfFirmware Byte files.fcl (λ block firmware.
     (image : Image) × (instrs : ℕ) × GivesHandler files.handler image instrs
-    × input_refusals Byte block files.cert files.trace files.plan s)
+    × input_refusals Named Byte block files.cert files.trace files.plan s)
 
 abbrev pub HrunMakes : Hrun → HandledFiles → Result SeenOutput Status → Type 0
 HrunMakes hrun files (Ok output) = HrunGives hrun files output

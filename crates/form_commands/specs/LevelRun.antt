@@ -2,6 +2,7 @@
 use Rattle.std.specs.Prelude.{◌≡◌, ℕ, ◌≤◌, List, All, length, map}
 use Rattle.fuzzy_meaning.specs.declared.block.Block.{Block}
 use Rattle.eval_code.specs.Bounds.{instruction_bound}
+use Rattle.box_tree.specs.declared.cert.CertKind.TheVariants.{Named}
 use Rattle.eval_code.specs.declared.width.Width.TheVariants.{Byte}
 use Rattle.srecord.specs.Texts.{GivesImage}
 use Rattle.trace_io.specs.Traces.{Spells as SpellsTrace}
@@ -49,8 +50,8 @@ fast_numbers rows = map (λ f. f.number) (fast_runs rows)
 
 -- both certificates are accepted, with these errors
 pub record AcceptsCerts (files : LevelFiles) (slow fast : Block) (errors fast_errors : List ℕ) : Type 0 where
-  pub slow_accepted : AcceptsCert Byte slow files.slow_cert errors
-  pub fast_accepted : AcceptsCert Byte fast files.fast_cert fast_errors
+  pub slow_accepted : AcceptsCert Named Byte slow files.slow_cert errors
+  pub fast_accepted : AcceptsCert Named Byte fast files.fast_cert fast_errors
 
 -- both traces spell samples within their inputs' ranges
 pub record SpellTraces (files : LevelFiles) (slow fast : Block) (samples fast_samples : List Sample) : Type 0 where

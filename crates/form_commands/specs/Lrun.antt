@@ -3,6 +3,7 @@ use Rattle.std.specs.Prelude.{◌≡◌, ◌<◌, ◌^◌, ℕ, ◌-◌, List, [
 use Rattle.std.specs.Prelude.{None, option_map, Result, Ok, Err}
 use Rattle.std.specs.List.{flat_map, slice_index_or}
 use Rattle.fuzzy_meaning.specs.declared.block.Block.{Block}
+use Rattle.box_tree.specs.declared.cert.CertKind.TheVariants.{Named}
 use Rattle.eval_code.specs.declared.width.Width.TheVariants.{Byte}
 use Rattle.cpu12_emul.specs.Take.{FrameSeen}
 use Rattle.interrupt_plan.specs.Levels.{LevelsHaveFault}
@@ -106,9 +107,9 @@ pub record LrunGives (lrun : Lrun) (files : LevelFiles) (output : SeenOutput) : 
 
 -- why a certificate is refused: the slow block's first
 abbrev pub certs_refusals : LevelFiles → Block → Block → Refusals
-certs_refusals files slow fast (status.Cert f) = HasCertFault Byte slow files.slow_cert f
+certs_refusals files slow fast (status.Cert f) = HasCertFault Named Byte slow files.slow_cert f
 certs_refusals files slow fast (status.Fast (told.Cert f)) =
-    ((errors : List ℕ) × AcceptsCert Byte slow files.slow_cert errors) × HasCertFault Byte fast files.fast_cert f
+    ((errors : List ℕ) × AcceptsCert Named Byte slow files.slow_cert errors) × HasCertFault Named Byte fast files.fast_cert f
 certs_refusals files slow fast s = ⊥
 
 -- why a trace is: the slow block's first

@@ -5,6 +5,7 @@ use Rattle.std.specs.List.{flat_map}
 use Rattle.fuzzy_meaning.specs.declared.block.Block.{Block}
 use Rattle.cpu12_emul.specs.Take.{FrameSeen}
 use Rattle.codegen.specs.declared.firmware.Firmware.{Firmware}
+use Rattle.box_tree.specs.declared.cert.CertKind.TheVariants.{Named}
 use Rattle.eval_code.specs.declared.width.Width.TheVariants.{Byte}
 use Rattle.interrupt_plan.specs.Posts.{PostsHaveFault}
 use Rattle.interrupt_plan.specs.declared.Post.{Post}
@@ -92,14 +93,14 @@ abbrev pub mrun_refusals : PostedFiles → Refusals
 mrun_refusals files (status.Fcl f) = RefusesText files.fcl f
 mrun_refusals files (status.Image f) = OfMailbox files.fcl (λ block firmware. RefusesImage files.image firmware.image f)
 mrun_refusals files (status.Cert f) = OfMailbox files.fcl (λ block firmware.
-    GivesImage files.image firmware.image × HasCertFault Byte block files.cert f)
+    GivesImage files.image firmware.image × HasCertFault Named Byte block files.cert f)
 mrun_refusals files (status.Trace f) = OfMailbox files.fcl (λ block firmware.
     GivesImage files.image firmware.image
-    × (errors : List ℕ) × AcceptsCert Byte block files.cert errors
+    × (errors : List ℕ) × AcceptsCert Named Byte block files.cert errors
     × TraceHasFault block.inputs files.trace f)
 mrun_refusals files (status.Plan f) = OfMailbox files.fcl (λ block firmware.
     GivesImage files.image firmware.image
-    × (errors : List ℕ) × AcceptsCert Byte block files.cert errors
+    × (errors : List ℕ) × AcceptsCert Named Byte block files.cert errors
     × (samples : List Sample) × SpellsTrace block.inputs files.trace samples
     × PostsHaveFault (length samples) files.posts f)
 mrun_refusals files s = ⊥

@@ -4,6 +4,7 @@ use Rattle.fuzzy_meaning.specs.declared.block.Block.{Block}
 use Rattle.cpu12_emul.specs.Take.{FrameSeen}
 use Rattle.codegen.specs.Mailboxes.{mailbox_bound}
 use Rattle.codegen.specs.declared.firmware.Firmware.{Firmware}
+use Rattle.box_tree.specs.declared.cert.CertKind.TheVariants.{Named}
 use Rattle.eval_code.specs.declared.width.Width.TheVariants.{Byte}
 use Rattle.srecord.specs.Texts.{GivesImage}
 use Rattle.trace_io.specs.Traces.{Spells as SpellsTrace}
@@ -48,7 +49,7 @@ pub record AcceptsPosted (files : PostedFiles) (block : Block) (firmware : Firmw
     (samples : List Sample) (posts : List Post) : Type 0 where
   pub compiled : GivesMailbox files.fcl block firmware
   pub image : GivesImage files.image firmware.image
-  pub accepted : AcceptsCert Byte block files.cert errors
+  pub accepted : AcceptsCert Named Byte block files.cert errors
   pub in_range : SpellsTrace block.inputs files.trace samples
   pub good_posts : SpellsPosts (length samples) files.posts posts
 

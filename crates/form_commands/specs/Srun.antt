@@ -2,6 +2,7 @@
 use Rattle.std.specs.Prelude.{◌≡◌, ◌<◌, ◌^◌, ℕ, List, [], ◌∷◌, ◌++◌, codes, Option, option_map, Result, Ok, Err}
 use Rattle.fuzzy_meaning.specs.declared.block.Block.{Block}
 use Rattle.codegen.specs.declared.firmware.Firmware.{Firmware}
+use Rattle.box_tree.specs.declared.cert.CertKind.TheVariants.{Named}
 use Rattle.eval_code.specs.declared.width.Width.TheVariants.{Byte}
 use Rattle.interrupt_plan.specs.UpsetTexts.{HasUpsetFault, SpellsUpsets}
 use Rattle.interrupt_plan.specs.declared.Request.{Request}
@@ -65,7 +66,7 @@ pub record AcceptsWatched (files : WatchedFiles) (block : Block) (firmware : Fir
     (samples : List Sample) (plan : List Request) (upsets : List Upset) : Type 0 where
   pub compiled : GivesWatched files.fcl block firmware
   pub image : GivesImage files.image firmware.image
-  pub inputs : AcceptsInputs Byte block files.cert files.trace files.plan errors samples plan
+  pub inputs : AcceptsInputs Named Byte block files.cert files.trace files.plan errors samples plan
   pub good_upsets : SpellsUpsets firmware.image.bytes files.upsets upsets
 
 -- the run is one of the files, and the lines are those of its report
@@ -86,10 +87,10 @@ srun_refusals files (status.Image f) = OfWatched files.fcl (λ block firmware. R
 srun_refusals files (status.Upset f) = OfWatched files.fcl (λ block firmware.
     GivesImage files.image firmware.image
     × (errors : List ℕ) × (samples : List Sample) × (plan : List Request)
-    × AcceptsInputs Byte block files.cert files.trace files.plan errors samples plan
+    × AcceptsInputs Named Byte block files.cert files.trace files.plan errors samples plan
     × HasUpsetFault firmware.image.bytes files.upsets f)
 srun_refusals files s = OfWatched files.fcl (λ block firmware.
-    GivesImage files.image firmware.image × input_refusals Byte block files.cert files.trace files.plan s)
+    GivesImage files.image firmware.image × input_refusals Named Byte block files.cert files.trace files.plan s)
 
 -- why a text gives no upsets of an image
 abbrev pub upset_refusals : List (ℕ × ℕ) → List ℕ → Refusals

@@ -3,6 +3,7 @@ use Rattle.std.specs.Prelude.{◌≡◌, ℕ, ◌≤◌, List, All, map}
 use Rattle.fuzzy_meaning.specs.declared.block.Block.{Block}
 use Rattle.watched_code.specs.Watched.{watched_bound}
 use Rattle.codegen.specs.declared.firmware.Firmware.{Firmware}
+use Rattle.box_tree.specs.declared.cert.CertKind.TheVariants.{Named}
 use Rattle.eval_code.specs.declared.width.Width.TheVariants.{Byte}
 use Rattle.srecord.specs.Texts.{GivesImage}
 use Rattle.trace_io.specs.Traces.{Spells as SpellsTrace}
@@ -45,7 +46,7 @@ pub record WatchedRun (flags : ℕ) (files : WatchedFiles) (report : WatchedRepo
   pub firmware : Firmware
   pub compiled : GivesWatched files.fcl block firmware
   pub image : GivesImage files.image firmware.image
-  pub accepted : AcceptsCert Byte block files.cert report.errors
+  pub accepted : AcceptsCert Named Byte block files.cert report.errors
   pub samples : List Sample
   pub in_range : SpellsTrace block.inputs files.trace samples
   pub plan : List Request

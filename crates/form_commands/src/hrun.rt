@@ -13,6 +13,7 @@ ghost use Rattle.form_commands.specs.Hrun.{HrunMakes, handled_files, handled_row
 ghost use Rattle.run_reports.specs.RowLines.{begun_lines};
 ghost use Rattle.form_commands.specs.declared.hrun.Hrun.{Hrun as TheHrun};
 
+use box_tree::CertKind;
 use build_commands::contents::content;
 use build_commands::firmware::{Compiled, firmware_of, spelled_texts_have_no_fault};
 use build_commands::hcheck::{AcceptedHandler, given_handlers_have_no_fault, handler_of};
@@ -89,7 +90,7 @@ impl Hrun {
     {
         let compiled = firmware_of(alloc, Width::Byte, content(contents, 0))?;
         let handler = handler_of(alloc, content(contents, 1))?;
-        let inputs = inputs_of(alloc, Width::Byte, &compiled.block, contents)?;
+        let inputs = inputs_of(alloc, CertKind::Named, Width::Byte, &compiled.block, contents)?;
         Ok(Accepted {
             compiled,
             handler,

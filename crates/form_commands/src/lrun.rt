@@ -14,6 +14,7 @@ ghost use Rattle.form_commands.specs.Lrun.{lrun_refusals, traces_refusals};
 ghost use Rattle.form_commands.specs.declared.lrun.Lrun.{Lrun as TheLrun};
 
 use crate::level_lines::lines;
+use box_tree::CertKind;
 use build_commands::certs::{accepted_certs_have_no_fault, errors_under};
 use build_commands::contents::content;
 use build_commands::firmware::spelled_texts_have_no_fault;
@@ -153,8 +154,8 @@ fn errors_of(
     ensures fault { IfErr result (IsRefusal
         (certs_refusals (level_files (bytes_of contents.now)) slow.now fast.now)) }
 {
-    let slow_errors = errors_under(alloc, Width::Byte, slow, content(contents, 3))?;
-    match errors_under(alloc, Width::Byte, fast, content(contents, 4)) {
+    let slow_errors = errors_under(alloc, CertKind::Named, Width::Byte, slow, content(contents, 3))?;
+    match errors_under(alloc, CertKind::Named, Width::Byte, fast, content(contents, 4)) {
         Ok(errors) => Ok(Errors {
             slow: slow_errors,
             fast: errors,

@@ -13,6 +13,7 @@ ghost use Rattle.form_commands.specs.PostedRun.{AcceptsPosted, PostedFiles};
 ghost use Rattle.form_commands.specs.declared.mrun.Mrun.{Mrun as TheMrun};
 
 use crate::posted_lines::lines;
+use box_tree::CertKind;
 use build_commands::certs::{accepted_certs_have_no_fault, errors_under};
 use build_commands::contents::content;
 use build_commands::firmware::{
@@ -64,7 +65,7 @@ impl Accepted {
         spelled_traces_are_short();
         let compiled = mailbox_of(alloc, content(contents, 0))?;
         require_image(alloc, content(contents, 1), &compiled.firmware.image)?;
-        let errors = errors_under(alloc, Width::Byte, &compiled.block, content(contents, 2))?;
+        let errors = errors_under(alloc, CertKind::Named, Width::Byte, &compiled.block, content(contents, 2))?;
         let samples = samples_of(alloc, &compiled.block, content(contents, 3))?;
         let posts = posts_of(alloc, content(contents, 4), &samples)?;
         Ok(Accepted {

@@ -16,6 +16,7 @@ ghost use Rattle.run_reports.specs.RowLines.{begun_lines};
 ghost use Rattle.form_commands.specs.WatchedRun.{WatchedFiles};
 ghost use Rattle.form_commands.specs.declared.srun.Srun.{Srun as TheSrun};
 
+use box_tree::CertKind;
 use build_commands::contents::content;
 use build_commands::firmware::{
     Compiled, given_watched_are_one, spelled_texts_have_no_fault, watched_firmware_of,
@@ -63,7 +64,7 @@ impl Accepted {
     {
         let compiled = watched_firmware_of(alloc, content(contents, 0))?;
         require_image(alloc, content(contents, 1), &compiled.firmware.image)?;
-        let inputs = inputs_of(alloc, Width::Byte, &compiled.block, contents)?;
+        let inputs = inputs_of(alloc, CertKind::Named, Width::Byte, &compiled.block, contents)?;
         let upsets = upsets_of(alloc, content(contents, 5), &compiled.firmware.image)?;
         Ok(Accepted {
             compiled,

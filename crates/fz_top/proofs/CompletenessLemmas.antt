@@ -1,8 +1,8 @@
 -- When a run is done.
 use Rattle.std.proofs.Common.{◌≡◌, ◌<◌, ◌^◌, ◌∙◌, ℕ, List, [], ◌∷◌, length, sym, ap, subst, arith}
 use Rattle.std.specs.Prelude.{Bool, false, ◌==◌, Option, Some}
+use Rattle.box_tree.specs.declared.cert.CertKind.{CertKind}
 use Rattle.eval_code.specs.declared.width.Width.{Width}
-use Rattle.eval_code.specs.declared.width.Width.TheVariants.{Byte, Word}
 use Rattle.fz_words.specs.Table.{any_hyphen}
 use Rattle.fz_status.specs.Words.{Text}
 use Rattle.run_commands.specs.CertifiedRun.{Files}
@@ -11,41 +11,39 @@ use Rattle.fz_shelf.specs.Files.{Names}
 use Rattle.fz_shelf.specs.Told.{Taken}
 use Rattle.build_commands.specs.SeenOutputs.{SeenOutput}
 use Rattle.fz_top.specs.Accepted.{Accepts}
-use Rattle.fz_top.specs.Commands.{Makes, command_in, form_of, inputs_of, table}
+use Rattle.fz_top.specs.Commands.{Makes, command_in, form_of, inputs_of}
 use Rattle.fz_top.specs.Reads.{names_at}
 use Rattle.fz_top.specs.Runs.{AreKnown, CanBeDone, FileFits, RoomFor}
 use Rattle.fz_top.specs.declared.command.Command.{Command}
 use Rattle.fz_top.specs.declared.command.Command.TheVariants as command
-use Rattle.fz_top.proofs.KeepsLemmas.{command_if, form_is, row_of_run}
+use Rattle.fz_top.specs.declared.command.Name.TheVariants as name
+use Rattle.fz_top.proofs.KeepsLemmas.{command_if, form_is, looked_up}
 use Rattle.fz_top.specs.Keeping.{AreRunWords, AreTold, HasRoomForLines, run_name}
 use Rattle.promise.specs.Laws.{CertifiedRunsKeepPromise}
 use Rattle.promise.specs.Promise.{Promise}
 
 -- ---- the words
 
-command_at : (width : Width) (p : Text) (ws : List Text) → any_hyphen (p ∷ run_name width ∷ ws) ≡ false
-    → length ws ≡ 6
-    → command_in (p ∷ run_name width ∷ ws) ≡ form_of (row_of_run width).command (p ∷ run_name width ∷ ws)
-unfolding table
-command_at Byte p ws plain count =
-    ap (λ (h : Bool). command_if (p ∷ run_name Byte ∷ ws) Byte h (6 == length ws)) plain
-    ∙ ap (λ (n : ℕ). command_if (p ∷ run_name Byte ∷ ws) Byte false (6 == n)) count
-command_at Word p ws plain count =
-    ap (λ (h : Bool). command_if (p ∷ run_name Word ∷ ws) Word h (6 == length ws)) plain
-    ∙ ap (λ (n : ℕ). command_if (p ∷ run_name Word ∷ ws) Word false (6 == n)) count
+command_at : (kind : CertKind) (width : Width) (p : Text) (ws : List Text)
+    → any_hyphen (p ∷ run_name kind width ∷ ws) ≡ false → length ws ≡ 6
+    → command_in (p ∷ run_name kind width ∷ ws)
+    ≡ form_of (name.Run kind width) (p ∷ run_name kind width ∷ ws)
+command_at kind width p ws plain count = looked_up kind width p ws
+    ∙ ap (λ (h : Bool). command_if (p ∷ run_name kind width ∷ ws) kind width h (6 == length ws)) plain
+    ∙ ap (λ (n : ℕ). command_if (p ∷ run_name kind width ∷ ws) kind width false (6 == n)) count
 
-pub run_command : (words : List Text) (width : Width) (flags : ℕ) → AreRunWords words width flags
-    → command_in words ≡ Some (command.Run (run_with width flags))
-run_command [] width flags are = absurd (omega (arith, are.count))
-run_command (p ∷ []) width flags are = absurd (omega (arith, are.count))
-run_command (p ∷ w ∷ ws) width flags are =
+pub run_command : (words : List Text) (kind : CertKind) (width : Width) (flags : ℕ)
+    → AreRunWords words kind width flags → command_in words ≡ Some (command.Run (run_with kind width flags))
+run_command [] kind width flags are = absurd (omega (arith, are.count))
+run_command (p ∷ []) kind width flags are = absurd (omega (arith, are.count))
+run_command (p ∷ w ∷ ws) kind width flags are =
     let six : length ws ≡ 6 = omega (arith, are.count) in
-    let plain : any_hyphen (p ∷ run_name width ∷ ws) ≡ false =
+    let plain : any_hyphen (p ∷ run_name kind width ∷ ws) ≡ false =
     subst (λ (v : Text). any_hyphen (p ∷ v ∷ ws) ≡ false) are.run.name are.plain in
-    let at : command_in (p ∷ w ∷ ws) ≡ form_of (row_of_run width).command (p ∷ w ∷ ws) =
-    subst (λ (v : Text). command_in (p ∷ v ∷ ws) ≡ form_of (row_of_run width).command (p ∷ v ∷ ws))
-    (sym are.run.name) (command_at width p ws plain six) in
-    at ∙ form_is (p ∷ w ∷ ws) width flags are.run
+    let at : command_in (p ∷ w ∷ ws) ≡ form_of (name.Run kind width) (p ∷ w ∷ ws) =
+    subst (λ (v : Text). command_in (p ∷ v ∷ ws) ≡ form_of (name.Run kind width) (p ∷ v ∷ ws))
+    (sym are.run.name) (command_at kind width p ws plain six) in
+    at ∙ form_is (p ∷ w ∷ ws) kind width flags are.run
 
 -- ---- the files
 
@@ -75,26 +73,26 @@ are_known words names files told = (
 -- ---- done
 
 -- room for each text that keeps the promise is room for what the run makes
-pub room_for : CertifiedRunsKeepPromise → (words : List Text) (width : Width) (flags : ℕ) (files : Files)
-    (names : Names) (told : Option Taken) → flags < 2 ^ 8 → HasRoomForLines width flags files told
-    → RoomFor words names told (Makes (command.Run (run_with width flags)) (contents_of files))
+pub room_for : CertifiedRunsKeepPromise → (words : List Text) (kind : CertKind) (width : Width) (flags : ℕ)
+    (files : Files) (names : Names) (told : Option Taken) → flags < 2 ^ 8 → HasRoomForLines width flags files told
+    → RoomFor words names told (Makes (command.Run (run_with kind width flags)) (contents_of files))
 unfolding Makes
-room_for keep words width flags files names told byte room output gives = (
+room_for keep words kind width flags files names told byte room output gives = (
   subst (λ (o : SeenOutput). FileFits words o.file names) (sym gives.output_is) tt,
   room gives.report output.text
       (subst (λ (o : SeenOutput). Promise width flags files gives.report o.text) (sym gives.output_is)
-      (keep width flags files gives.report gives.certified byte)),
+      (keep kind width flags files gives.report gives.certified byte)),
 )
 
-abbrev pub asked : Width → ℕ → Command
-asked width flags = command.Run (run_with width flags)
+abbrev pub asked : CertKind → Width → ℕ → Command
+asked kind width flags = command.Run (run_with kind width flags)
 
-pub can : (words : List Text) (width : Width) (flags : ℕ) (files : Files) (names : Names)
-    → AreRunWords words width flags → AreTold words names files → RunAccepts (run_with width flags) files
-    → CanBeDone words names (asked width flags) (contents_of files)
+pub can : (words : List Text) (kind : CertKind) (width : Width) (flags : ℕ) (files : Files) (names : Names)
+    → AreRunWords words kind width flags → AreTold words names files → RunAccepts (run_with kind width flags) files
+    → CanBeDone words names (asked kind width flags) (contents_of files)
 unfolding inputs_of Accepts
-can words width flags files names are told accepted = record {
-  is = run_command words width flags are;
+can words kind width flags files names are told accepted = record {
+  is = run_command words kind width flags are;
   known = are_known words names files told;
   accepted = accepted;
 }

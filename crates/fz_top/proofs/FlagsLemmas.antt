@@ -5,7 +5,6 @@ use Rattle.std.specs.Prelude.{option_and_then, option_map}
 use Rattle.std.proofs.lemmas.Bool.Decides.{nat_tests}
 use Rattle.hex.specs.Hex.{decode_pairs, digit_or_error, hex_digit_value, pair_value, ◌>>=◌}
 use Rattle.hex.specs.declared.error.FromHexError.{FromHexError}
-use Rattle.eval_code.specs.declared.width.Width.TheVariants.{Byte, Word}
 use Rattle.fz_status.specs.Words.{Text, word_at}
 use Rattle.build_commands.specs.Certify.{certify_in}
 use Rattle.build_commands.specs.Check.{check_in}
@@ -101,12 +100,10 @@ byte_form : (n : Name) (words : List Text) (command : Command) → form_of n wor
     → run_flags command < 2 ^ 8
 unfolding form_of
 byte_form name.Asm words command is = alone Asm command refl is
-byte_form name.Certify words command is = without Certify (certify_in Byte words) command (λ c. refl) is
-byte_form name.Certify16 words command is = without Certify (certify_in Word words) command (λ c. refl) is
-byte_form name.Check words command is = alone (Check (check_in Byte)) command refl is
-byte_form name.Check16 words command is = alone (Check (check_in Word)) command refl is
-byte_form name.Compile words command is = alone (Compile (compile_in Byte)) command refl is
-byte_form name.Compile16 words command is = alone (Compile (compile_in Word)) command refl is
+byte_form (name.Certify kind width) words command is =
+    without Certify (certify_in kind width words) command (λ c. refl) is
+byte_form (name.Check kind width) words command is = alone (Check (check_in kind width)) command refl is
+byte_form (name.Compile width) words command is = alone (Compile (compile_in width)) command refl is
 byte_form name.Debug words command is = of_flags Debug debug_with (word_at words 6) command (λ n. refl) is
 byte_form name.Exec words command is = without Exec (exec_in words) command (λ c. refl) is
 byte_form name.Generate words command is = without Generate (generate_in words) command (λ c. refl) is
@@ -116,8 +113,8 @@ byte_form name.Lcompile words command is = alone Lcompile command refl is
 byte_form name.Lrun words command is = of_flags Lrun lrun_with (word_at words 10) command (λ n. refl) is
 byte_form name.Mcompile words command is = alone Mcompile command refl is
 byte_form name.Mrun words command is = of_flags Mrun mrun_with (word_at words 7) command (λ n. refl) is
-byte_form name.Run words command is = of_flags Run (run_with Byte) (word_at words 7) command (λ n. refl) is
-byte_form name.Run16 words command is = of_flags Run (run_with Word) (word_at words 7) command (λ n. refl) is
+byte_form (name.Run kind width) words command is =
+    of_flags Run (run_with kind width) (word_at words 7) command (λ n. refl) is
 byte_form name.Scompile words command is = alone Scompile command refl is
 byte_form name.Srun words command is = of_flags Srun srun_with (word_at words 8) command (λ n. refl) is
 

@@ -1,5 +1,5 @@
 -- A run that is Ok keeps its promise.
-use Rattle.std.proofs.Common.{◌≡◌, ◌<◌, ◌^◌, ℕ, List, [], ◌∷◌, length, sym, ap, subst}
+use Rattle.std.proofs.Common.{◌≡◌, ◌<◌, ◌^◌, ℕ, List, [], ◌∷◌, length, sym, ap, subst, refl, ◌∙◌}
 use Rattle.std.specs.Prelude.{Bool, true, false, if◌then◌else◌, Option, Some, None, option_and_then, option_map}
 use Rattle.std.specs.Prelude.{Ok, ◌==◌}
 use Rattle.fz_shelf.specs.Files.{Names}
@@ -7,6 +7,8 @@ use Rattle.fz_words.specs.Table.{Row, any_hyphen, row}
 use Rattle.fz_status.specs.Words.{Text, word_at}
 use Rattle.fz_status.specs.declared.status.Status.{Status}
 use Rattle.fz_status.specs.declared.status.Status.TheVariants as status
+use Rattle.box_tree.specs.declared.cert.CertKind.{CertKind}
+use Rattle.box_tree.specs.declared.cert.CertKind.TheVariants.{Named, Tight}
 use Rattle.eval_code.specs.declared.width.Width.{Width}
 use Rattle.eval_code.specs.declared.width.Width.TheVariants.{Byte, Word}
 use Rattle.build_commands.specs.SeenOutputs.{SeenOutput}
@@ -26,51 +28,59 @@ use Rattle.promise.specs.Promise.{Promise}
 -- ---- the words
 
 -- the row of a run's name
-abbrev pub row_of_run : Width → Row Name
-row_of_run Byte = row (run_name Byte) 6 name.Run
-row_of_run Word = row (run_name Word) 6 name.Run16
+abbrev pub row_of_run : CertKind → Width → Row Name
+row_of_run kind width = row (run_name kind width) 6 (name.Run kind width)
 
 -- the command of words that stand behind two tests
-abbrev pub command_if : List Text → Width → Bool → Bool → Option Command
-command_if words width hyphen count = option_and_then (λ n. form_of n words) (option_map (λ (r : Row Name). r.command)
-    (if hyphen then None else (if count then Some (row_of_run width) else None)))
+abbrev pub command_if : List Text → CertKind → Width → Bool → Bool → Option Command
+command_if words kind width hyphen count =
+    option_and_then (λ n. form_of n words) (option_map (λ (r : Row Name). r.command)
+    (if hyphen then None else (if count then Some (row_of_run kind width) else None)))
 
-passes : (words : List Text) (width : Width) (command : Command) (hyphen count : Bool)
-    → command_if words width hyphen count ≡ Some command
-    → form_of (row_of_run width).command words ≡ Some command
-passes words width command true count is = absurd (let e : None ≡ Some command = is in cc)
-passes words width command false true is = is
-passes words width command false false is = absurd (let e : None ≡ Some command = is in cc)
+passes : (words : List Text) (kind : CertKind) (width : Width) (command : Command) (hyphen count : Bool)
+    → command_if words kind width hyphen count ≡ Some command
+    → form_of (name.Run kind width) words ≡ Some command
+passes words kind width command true count is = absurd (let e : None ≡ Some command = is in cc)
+passes words kind width command false true is = is
+passes words kind width command false false is = absurd (let e : None ≡ Some command = is in cc)
 
-named_at : (width : Width) (command : Command) (p : Text) (ws : List Text)
-    → command_in (p ∷ run_name width ∷ ws) ≡ Some command
-    → form_of (row_of_run width).command (p ∷ run_name width ∷ ws) ≡ Some command
+-- what a table's look-up gives for words that begin with a run's name
+pub looked_up : (kind : CertKind) (width : Width) (p : Text) (ws : List Text)
+    → command_in (p ∷ run_name kind width ∷ ws) ≡ command_if (p ∷ run_name kind width ∷ ws) kind width
+    (any_hyphen (p ∷ run_name kind width ∷ ws)) (6 == length ws)
 unfolding table
-named_at Byte command p ws at =
-    passes (p ∷ run_name Byte ∷ ws) Byte command (any_hyphen (p ∷ run_name Byte ∷ ws)) (6 == length ws) at
-named_at Word command p ws at =
-    passes (p ∷ run_name Word ∷ ws) Word command (any_hyphen (p ∷ run_name Word ∷ ws)) (6 == length ws) at
+looked_up Named Byte p ws = refl
+looked_up Named Word p ws = refl
+looked_up Tight Byte p ws = refl
+looked_up Tight Word p ws = refl
 
-pub form_is : (words : List Text) (width : Width) (flags : ℕ) → IsRun words width flags
-    → form_of (row_of_run width).command words ≡ Some (Run (run_with width flags))
+named_at : (kind : CertKind) (width : Width) (command : Command) (p : Text) (ws : List Text)
+    → command_in (p ∷ run_name kind width ∷ ws) ≡ Some command
+    → form_of (name.Run kind width) (p ∷ run_name kind width ∷ ws) ≡ Some command
+named_at kind width command p ws at = passes (p ∷ run_name kind width ∷ ws) kind width command
+    (any_hyphen (p ∷ run_name kind width ∷ ws)) (6 == length ws) (sym (looked_up kind width p ws) ∙ at)
+
+pub form_is : (words : List Text) (kind : CertKind) (width : Width) (flags : ℕ) → IsRun words kind width flags
+    → form_of (name.Run kind width) words ≡ Some (Run (run_with kind width flags))
 unfolding form_of
-form_is words Byte flags is = ap (λ o. option_map Run (option_map (run_with Byte) o)) is.flags_are
-form_is words Word flags is = ap (λ o. option_map Run (option_map (run_with Word) o)) is.flags_are
+form_is words kind width flags is =
+    ap (λ o. option_map Run (option_map (run_with kind width) o)) is.flags_are
 
-named_run : (width : Width) (command : Command) (p w : Text) (ws : List Text) → w ≡ run_name width
-    → command_in (p ∷ w ∷ ws) ≡ Some command → form_of (row_of_run width).command (p ∷ w ∷ ws) ≡ Some command
-named_run width command p w ws same at =
-    subst (λ (v : Text). form_of (row_of_run width).command (p ∷ v ∷ ws) ≡ Some command) (sym same)
-    (named_at width command p ws
+named_run : (kind : CertKind) (width : Width) (command : Command) (p w : Text) (ws : List Text)
+    → w ≡ run_name kind width → command_in (p ∷ w ∷ ws) ≡ Some command
+    → form_of (name.Run kind width) (p ∷ w ∷ ws) ≡ Some command
+named_run kind width command p w ws same at =
+    subst (λ (v : Text). form_of (name.Run kind width) (p ∷ v ∷ ws) ≡ Some command) (sym same)
+    (named_at kind width command p ws
     (subst (λ (v : Text). command_in (p ∷ v ∷ ws) ≡ Some command) same at))
 
-pub is_run : (words : List Text) (width : Width) (flags : ℕ) (command : Command) → IsRun words width flags
-    → command_in words ≡ Some command → command ≡ Run (run_with width flags)
-is_run [] width flags command is at = absurd (let e : None ≡ Some command = at in cc)
-is_run (p ∷ []) width flags command is at = absurd (let e : None ≡ Some command = at in cc)
-is_run (p ∷ w ∷ ws) width flags command is at =
-    let form = named_run width command p w ws is.name at in
-    let same = form_is (p ∷ w ∷ ws) width flags is in
+pub is_run : (words : List Text) (kind : CertKind) (width : Width) (flags : ℕ) (command : Command)
+    → IsRun words kind width flags → command_in words ≡ Some command → command ≡ Run (run_with kind width flags)
+is_run [] kind width flags command is at = absurd (let e : None ≡ Some command = at in cc)
+is_run (p ∷ []) kind width flags command is at = absurd (let e : None ≡ Some command = at in cc)
+is_run (p ∷ w ∷ ws) kind width flags command is at =
+    let form = named_run kind width command p w ws is.name at in
+    let same = form_is (p ∷ w ∷ ws) kind width flags is in
     cc (form, same)
 
 -- ---- the contents
@@ -93,10 +103,11 @@ are_of words names (a ∷ b ∷ c ∷ d ∷ e ∷ rest) held = record {
 -- ---- the promise
 
 module _ (keep : CertifiedRunsKeepPromise) (words : List Text) (old new : World) where
-  kept : (width : Width) (flags : ℕ) → flags < 2 ^ 8 → (output : SeenOutput) (contents : List (List ℕ))
+  kept : (kind : CertKind) (width : Width) (flags : ℕ) → flags < 2 ^ 8 → (output : SeenOutput)
+      (contents : List (List ℕ))
       → AreHeld old.files (names_at words run_inputs) contents → Delivered words output old new
-      → RunGives (run_with width flags) (files_in contents) output → KeepsPromise words width flags old new
-  kept width flags byte output contents held done gives = record {
+      → RunGives (run_with kind width flags) (files_in contents) output → KeepsPromise words width flags old new
+  kept kind width flags byte output contents held done gives = record {
     files = files_in contents;
     are = are_of words old.files contents held;
     text = output.text;
@@ -104,23 +115,23 @@ module _ (keep : CertifiedRunsKeepPromise) (words : List Text) (old new : World)
     report = gives.report;
     promise = subst (λ (o : SeenOutput). Promise width flags (files_in contents) gives.report o.text)
         (sym gives.output_is)
-        (keep width flags (files_in contents) gives.report gives.certified byte);
+        (keep kind width flags (files_in contents) gives.report gives.certified byte);
   }
 
-  by_command : (width : Width) (flags : ℕ) → flags < 2 ^ 8 → (output : SeenOutput) (command : Command)
-      (contents : List (List ℕ))
-      → command ≡ Run (run_with width flags) → AreHeld old.files (names_at words (inputs_of command)) contents
+  by_command : (kind : CertKind) (width : Width) (flags : ℕ) → flags < 2 ^ 8 → (output : SeenOutput)
+      (command : Command) (contents : List (List ℕ)) → command ≡ Run (run_with kind width flags)
+      → AreHeld old.files (names_at words (inputs_of command)) contents
       → Delivered words output old new → Makes command contents (Ok output) → KeepsPromise words width flags old new
   unfolding inputs_of Makes
-  by_command width flags byte output command contents same held done makes =
-      kept width flags byte output contents
+  by_command kind width flags byte output command contents same held done makes =
+      kept kind width flags byte output contents
       (subst (λ (c : Command). AreHeld old.files (names_at words (inputs_of c)) contents) same held) done
       (subst (λ (c : Command). Makes c contents (Ok output)) same makes)
 
   pub ok_keeps : (s : Status) → Runs words old new s → OkKeepsPromise words old new s
-  ok_keeps s runs is width flags run =
+  ok_keeps s runs is kind width flags run =
       let byte = flags_small (word_at words 7) flags run.flags_are in
       let ok : Runs words old new status.Ok = subst (λ (t : Status). Runs words old new t) is runs in
       let worked = ok.1 in
-      by_command width flags byte ok.0 worked.command worked.contents
-      (is_run words width flags worked.command run worked.is) worked.held ok.2 worked.outcome
+      by_command kind width flags byte ok.0 worked.command worked.contents
+      (is_run words kind width flags worked.command run worked.is) worked.held ok.2 worked.outcome

@@ -3,6 +3,7 @@ use Rattle.std.specs.Prelude.{◌≡◌, ◌⊎◌, ℕ, List, [], ◌∷◌, co
 use Rattle.std.specs.Prelude.{option_map}
 use Rattle.fz_words.specs.App.{IsRefused}
 use Rattle.fz_words.specs.Table.{Row, row, command_in as command_by}
+use Rattle.box_tree.specs.declared.cert.CertKind.TheVariants.{Named, Tight}
 use Rattle.eval_code.specs.declared.width.Width.TheVariants.{Byte, Word}
 use Rattle.build_commands.specs.Asm.{AsmMakes, asm_inputs}
 use Rattle.build_commands.specs.Certify.{CertifyMakes, certify_in, certify_inputs}
@@ -33,25 +34,26 @@ use Rattle.fz_status.specs.declared.status.Status.{Status}
 
 -- the commands by name, each with the number of words that follow
 unfoldable pub table : List (Row Name)
-table = row (codes "asm") 2 name.Asm ∷ row (codes "certify") 3 name.Certify ∷ row (codes "certify16") 3 name.Certify16
-    ∷ row (codes "check") 2 name.Check ∷ row (codes "check16") 2 name.Check16
-    ∷ row (codes "compile") 2 name.Compile ∷ row (codes "compile16") 2 name.Compile16
+table = row (codes "asm") 2 name.Asm ∷ row (codes "certify") 3 (name.Certify Named Byte)
+    ∷ row (codes "certify16") 3 (name.Certify Named Word)
+    ∷ row (codes "check") 2 (name.Check Named Byte) ∷ row (codes "check16") 2 (name.Check Named Word)
+    ∷ row (codes "compile") 2 (name.Compile Byte) ∷ row (codes "compile16") 2 (name.Compile Word)
     ∷ row (codes "debug") 6 name.Debug ∷ row (codes "exec") 3 name.Exec ∷ row (codes "gen") 1 name.Generate
     ∷ row (codes "hcheck") 1 name.Hcheck ∷ row (codes "hrun") 6 name.Hrun
     ∷ row (codes "lcompile") 3 name.Lcompile ∷ row (codes "lrun") 9 name.Lrun
     ∷ row (codes "mcompile") 2 name.Mcompile ∷ row (codes "mrun") 6 name.Mrun
-    ∷ row (codes "run") 6 name.Run ∷ row (codes "run16") 6 name.Run16
-    ∷ row (codes "scompile") 2 name.Scompile ∷ row (codes "srun") 7 name.Srun ∷ []
+    ∷ row (codes "run") 6 (name.Run Named Byte) ∷ row (codes "run16") 6 (name.Run Named Word)
+    ∷ row (codes "scompile") 2 name.Scompile ∷ row (codes "srun") 7 name.Srun
+    ∷ row (codes "tcertify") 3 (name.Certify Tight Byte) ∷ row (codes "tcertify16") 3 (name.Certify Tight Word)
+    ∷ row (codes "tcheck") 2 (name.Check Tight Byte) ∷ row (codes "tcheck16") 2 (name.Check Tight Word)
+    ∷ row (codes "trun") 6 (name.Run Tight Byte) ∷ row (codes "trun16") 6 (name.Run Tight Word) ∷ []
 
 -- the command of a name, where the words have its form
 unfoldable pub form_of : Name → List Text → Option Command
 form_of name.Asm words = Some Asm
-form_of name.Certify words = option_map Certify (certify_in Byte words)
-form_of name.Certify16 words = option_map Certify (certify_in Word words)
-form_of name.Check words = Some (Check (check_in Byte))
-form_of name.Check16 words = Some (Check (check_in Word))
-form_of name.Compile words = Some (Compile (compile_in Byte))
-form_of name.Compile16 words = Some (Compile (compile_in Word))
+form_of (name.Certify kind width) words = option_map Certify (certify_in kind width words)
+form_of (name.Check kind width) words = Some (Check (check_in kind width))
+form_of (name.Compile width) words = Some (Compile (compile_in width))
 form_of name.Debug words = option_map Debug (debug_in words)
 form_of name.Exec words = option_map Exec (exec_in words)
 form_of name.Generate words = option_map Generate (generate_in words)
@@ -61,8 +63,7 @@ form_of name.Lcompile words = Some Lcompile
 form_of name.Lrun words = option_map Lrun (lrun_in words)
 form_of name.Mcompile words = Some Mcompile
 form_of name.Mrun words = option_map Mrun (mrun_in words)
-form_of name.Run words = option_map Run (run_in Byte words)
-form_of name.Run16 words = option_map Run (run_in Word words)
+form_of (name.Run kind width) words = option_map Run (run_in kind width words)
 form_of name.Scompile words = Some Scompile
 form_of name.Srun words = option_map Srun (srun_in words)
 

@@ -1,5 +1,7 @@
 -- The promise of the call, and when it is kept.
 use Rattle.build_commands.specs.Words.{flags_of}
+use Rattle.box_tree.specs.declared.cert.CertKind.{CertKind}
+use Rattle.box_tree.specs.declared.cert.CertKind.TheVariants.{Named, Tight}
 use Rattle.eval_code.specs.declared.width.Width.{Width}
 use Rattle.eval_code.specs.declared.width.Width.TheVariants.{Byte, Word}
 use Rattle.fz_shelf.specs.Files.{File, Names, known, Holds}
@@ -17,13 +19,15 @@ use Rattle.fz_status.specs.declared.status.Status.TheVariants as status
 
 -- ---- the promise of the call
 
-abbrev pub run_name : Width → Text
-run_name Byte = codes "run"
-run_name Word = codes "run16"
+abbrev pub run_name : CertKind → Width → Text
+run_name Named Byte = codes "run"
+run_name Named Word = codes "run16"
+run_name Tight Byte = codes "trun"
+run_name Tight Word = codes "trun16"
 
--- the words are `run FCL IMAGE CERT TRACE PLAN FLAGS`, or `run16 ..`
-pub record IsRun (words : List Text) (width : Width) (flags : ℕ) : Type 0 where
-  pub name : word_at words 1 ≡ run_name width
+-- the words are `run FCL IMAGE CERT TRACE PLAN FLAGS`, `run16 ..`, `trun ..` or `trun16 ..`
+pub record IsRun (words : List Text) (kind : CertKind) (width : Width) (flags : ℕ) : Type 0 where
+  pub name : word_at words 1 ≡ run_name kind width
   pub flags_are : flags_of (word_at words 7) ≡ Some flags
 
 -- the contents are those of the files that the words name, where the shelf tells them
@@ -45,12 +49,12 @@ pub record KeepsPromise (words : List Text) (width : Width) (flags : ℕ) (old n
 
 -- so it is where a run is Ok
 abbrev pub OkKeepsPromise : List Text → World → World → Status → Type 0
-OkKeepsPromise words old new s = s ≡ status.Ok → (width : Width) (flags : ℕ) → IsRun words width flags
-    → KeepsPromise words width flags old new
+OkKeepsPromise words old new s = s ≡ status.Ok → (kind : CertKind) (width : Width) (flags : ℕ)
+    → IsRun words kind width flags → KeepsPromise words width flags old new
 
 -- the words are those of a run, eight with the program's name, and none behind that begins with a hyphen
-pub record AreRunWords (words : List Text) (width : Width) (flags : ℕ) : Type 0 where
-  pub run : IsRun words width flags
+pub record AreRunWords (words : List Text) (kind : CertKind) (width : Width) (flags : ℕ) : Type 0 where
+  pub run : IsRun words kind width flags
   pub count : length words ≡ 8
   pub plain : any_hyphen words ≡ false
 
@@ -75,7 +79,7 @@ HasRoomForLines width flags files told =
 -- Then the status is Ok, or Memory, where no count rose; and also where shelf and out are reliable with room.
 abbrev pub AcceptedIsDone : List Text → World → World → Type 0 → Status → Type 0
 AcceptedIsDone words old new Reliable s =
-    (width : Width) (flags : ℕ) (files : Files) → AreRunWords words width flags
-    → AreTold words old.files files → AreAccepted width files
+    (kind : CertKind) (width : Width) (flags : ℕ) (files : Files) → AreRunWords words kind width flags
+    → AreTold words old.files files → AreAccepted kind width files
     → HasNoFault old new ⊎ (Reliable × HasRoomForLines width flags files old.told)
     → (s ≡ status.Ok) ⊎ (s ≡ status.Memory)

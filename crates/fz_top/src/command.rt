@@ -11,6 +11,7 @@ ghost use Rattle.build_commands.specs.Contents.{bytes_of};
 ghost use Rattle.fz_top.specs.Commands.{IsUsage, Makes, command_in, form_of, inputs_of, name_in, table};
 ghost use Rattle.build_commands.specs.SeenOutputs.{IsResultOf};
 
+use box_tree::CertKind::{self, Named, Tight};
 use build_commands::certify::{self, Certify};
 use build_commands::check::{self, Check};
 use build_commands::compile::{self, Compile};
@@ -18,7 +19,7 @@ use build_commands::contents::content;
 use build_commands::exec::{self, Exec};
 use build_commands::output::Output;
 use build_commands::{asm, hcheck, lcompile, mcompile, scompile};
-use eval_code::Width;
+use eval_code::Width::{self, Byte, Word};
 use form_commands::hrun::{self, Hrun};
 use form_commands::lrun::{self, Lrun};
 use form_commands::mrun::{self, Mrun};
@@ -30,16 +31,13 @@ use run_commands::generate::{self, Generate};
 use run_commands::run::{self, Run};
 use std::alloc::Global;
 
-/// A command by its name alone.
+/// A command by its name alone, with what the name says of the certificate's leaves and of the answers.
 #[derive(Clone, Copy)]
 pub(crate) enum Name {
     Asm,
-    Certify,
-    Certify16,
-    Check,
-    Check16,
-    Compile,
-    Compile16,
+    Certify(CertKind, Width),
+    Check(CertKind, Width),
+    Compile(Width),
     Debug,
     Exec,
     Generate,
@@ -49,21 +47,20 @@ pub(crate) enum Name {
     Lrun,
     Mcompile,
     Mrun,
-    Run,
-    Run16,
+    Run(CertKind, Width),
     Scompile,
     Srun,
 }
 
 /// The commands by their names on the command line, each with the number of words that follow.
-static COMMANDS: [(&str, usize, Name); 20] = [
+static COMMANDS: [(&str, usize, Name); 26] = [
     ("asm", 2, Name::Asm),
-    ("certify", 3, Name::Certify),
-    ("certify16", 3, Name::Certify16),
-    ("check", 2, Name::Check),
-    ("check16", 2, Name::Check16),
-    ("compile", 2, Name::Compile),
-    ("compile16", 2, Name::Compile16),
+    ("certify", 3, Name::Certify(Named, Byte)),
+    ("certify16", 3, Name::Certify(Named, Word)),
+    ("check", 2, Name::Check(Named, Byte)),
+    ("check16", 2, Name::Check(Named, Word)),
+    ("compile", 2, Name::Compile(Byte)),
+    ("compile16", 2, Name::Compile(Word)),
     ("debug", 6, Name::Debug),
     ("exec", 3, Name::Exec),
     ("gen", 1, Name::Generate),
@@ -73,10 +70,16 @@ static COMMANDS: [(&str, usize, Name); 20] = [
     ("lrun", 9, Name::Lrun),
     ("mcompile", 2, Name::Mcompile),
     ("mrun", 6, Name::Mrun),
-    ("run", 6, Name::Run),
-    ("run16", 6, Name::Run16),
+    ("run", 6, Name::Run(Named, Byte)),
+    ("run16", 6, Name::Run(Named, Word)),
     ("scompile", 2, Name::Scompile),
     ("srun", 7, Name::Srun),
+    ("tcertify", 3, Name::Certify(Tight, Byte)),
+    ("tcertify16", 3, Name::Certify(Tight, Word)),
+    ("tcheck", 2, Name::Check(Tight, Byte)),
+    ("tcheck16", 2, Name::Check(Tight, Word)),
+    ("trun", 6, Name::Run(Tight, Byte)),
+    ("trun16", 6, Name::Run(Tight, Word)),
 ];
 
 /// A command with what its words give beside the names of files.
@@ -84,9 +87,9 @@ static COMMANDS: [(&str, usize, Name); 20] = [
 pub enum Command {
     /// `asm SRC OUT`
     Asm,
-    /// `certify FCL TARGET OUT`, and `certify16 FCL TARGET OUT`
+    /// `certify FCL TARGET OUT`, `certify16 ..`, `tcertify ..` and `tcertify16 ..`
     Certify(Certify),
-    /// `check FCL CERT`, and `check16 FCL CERT`
+    /// `check FCL CERT`, `check16 ..`, `tcheck ..` and `tcheck16 ..`
     Check(Check),
     /// `compile FCL OUT`, and `compile16 FCL OUT`
     Compile(Compile),
@@ -108,7 +111,7 @@ pub enum Command {
     Mcompile,
     /// `mrun FCL IMAGE CERT TRACE POSTS FLAGS`
     Mrun(Mrun),
-    /// `run FCL IMAGE CERT TRACE PLAN FLAGS`, and `run16 ..`
+    /// `run FCL IMAGE CERT TRACE PLAN FLAGS`, `run16 ..`, `trun ..` and `trun16 ..`
     Run(Run),
     /// `scompile FCL OUT`
     Scompile,
@@ -123,12 +126,9 @@ fn formed(name: Name, words: &[String]) -> Option<Command>
 {
     match name {
         Name::Asm => Some(Command::Asm),
-        Name::Certify => Certify::of(Width::Byte, words).map(Command::Certify),
-        Name::Certify16 => Certify::of(Width::Word, words).map(Command::Certify),
-        Name::Check => Some(Command::Check(Check { width: Width::Byte })),
-        Name::Check16 => Some(Command::Check(Check { width: Width::Word })),
-        Name::Compile => Some(Command::Compile(Compile { width: Width::Byte })),
-        Name::Compile16 => Some(Command::Compile(Compile { width: Width::Word })),
+        Name::Certify(kind, width) => Certify::of(kind, width, words).map(Command::Certify),
+        Name::Check(kind, width) => Some(Command::Check(Check { kind, width })),
+        Name::Compile(width) => Some(Command::Compile(Compile { width })),
         Name::Debug => DebugRun::of(words).map(Command::Debug),
         Name::Exec => Exec::of(words).map(Command::Exec),
         Name::Generate => Generate::of(words).map(Command::Generate),
@@ -138,8 +138,7 @@ fn formed(name: Name, words: &[String]) -> Option<Command>
         Name::Lrun => Lrun::of(words).map(Command::Lrun),
         Name::Mcompile => Some(Command::Mcompile),
         Name::Mrun => Mrun::of(words).map(Command::Mrun),
-        Name::Run => Run::of(Width::Byte, words).map(Command::Run),
-        Name::Run16 => Run::of(Width::Word, words).map(Command::Run),
+        Name::Run(kind, width) => Run::of(kind, width, words).map(Command::Run),
         Name::Scompile => Some(Command::Scompile),
         Name::Srun => Srun::of(words).map(Command::Srun),
     }

@@ -75,7 +75,7 @@ pub fn fuzz12<S: Shelf, O: Sink, F: Sink>(
         (world (S.files shelf.new) (S.counts shelf.new) (S.asked shelf.new) (O.told out.new) (O.faults out.new))
         result }
 
-    // with the words of `run` or `run16` and Ok the program's one sentence holds
+    // with the words of `run`, `run16`, `trun` or `trun16` and Ok the program's one sentence holds
     ensures promise { OkKeepsPromise (texts_of words.now)
         (world (S.files shelf.old) (S.counts shelf.old) (S.asked shelf.old) (O.told out.old) (O.faults out.old))
         (world (S.files shelf.new) (S.counts shelf.new) (S.asked shelf.new) (O.told out.new) (O.faults out.new))

@@ -8,6 +8,7 @@ use Rattle.codegen.specs.declared.firmware.Firmware.{Firmware}
 use Rattle.eval_code.specs.Bounds.{instruction_bound, step_bound}
 use Rattle.eval_code.specs.MemoryMaps.{main_map}
 use Rattle.eval_code.specs.Widths.{is_wide}
+use Rattle.box_tree.specs.declared.cert.CertKind.{CertKind}
 use Rattle.eval_code.specs.declared.width.Width.{Width}
 use Rattle.eval_code.specs.declared.width.Width.TheVariants.{Byte, Word}
 use Rattle.run_commands.specs.CertifiedRun.{Files}
@@ -35,9 +36,9 @@ is_firmware Byte b image is =
 is_firmware Word b image is =
     record { image = is; memory_map = refl; inputs = refl; outputs = refl; instructions = refl; steps = refl }
 
-accepts : (width : Width) (files : Files) (a : AreAccepted width files)
-    → Accepts width files a.block (firmware_with width a.block a.image) a.errors a.samples a.plan
-accepts width files a = record {
+accepts : (kind : CertKind) (width : Width) (files : Files) (a : AreAccepted kind width files)
+    → Accepts kind width files a.block (firmware_with width a.block a.image) a.errors a.samples a.plan
+accepts kind width files a = record {
   compiled = record {
     spelled = a.spelled;
     limits = a.limits;
@@ -49,13 +50,13 @@ accepts width files a = record {
 }
 
 pub give_firmware : AcceptedFilesGiveFirmware
-give_firmware width flags files a =
-    (a.block, firmware_with width a.block a.image, a.errors, a.samples, a.plan, accepts width files a)
+give_firmware kind width flags files a =
+    (a.block, firmware_with width a.block a.image, a.errors, a.samples, a.plan, accepts kind width files a)
 
 pub accepted_keep : CertifiedRunsKeepPromise → AcceptedRunsMakeOutput → AcceptedFilesKeepPromise
-accepted_keep keep made width flags files byte a =
-    let gives = made (run_with width flags) files a.block (firmware_with width a.block a.image) a.errors a.samples
-    a.plan byte (accepts width files a) in
+accepted_keep keep made kind width flags files byte a =
+    let gives = made (run_with kind width flags) files a.block (firmware_with width a.block a.image) a.errors a.samples
+    a.plan byte (accepts kind width files a) in
     let run = gives.1 in
     let report = run.report in
-    (report, gives.2, run_lines report run.certified.left, keep width flags files report run.certified byte)
+    (report, gives.2, run_lines report run.certified.left, keep kind width flags files report run.certified byte)

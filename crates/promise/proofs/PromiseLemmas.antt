@@ -107,7 +107,7 @@ errors_capped b h cert errors claims a = λ k d lt.
 
 pub certified_keep : FirmwareAnswers → PlainIsOneStep → ArrivesPlainly → BoundsAreFew → CertifiedRunsKeepPromise
 unfolding served
-certified_keep answers one arrives few width flags files report r byte = record {
+certified_keep answers one arrives few kind width flags files report r byte = record {
   block = r.block;
   spelled = r.compiled.spelled;
   image = r.firmware.image;

@@ -1,4 +1,5 @@
 -- Laws of the promise.
+use Rattle.box_tree.specs.declared.cert.CertKind.{CertKind}
 use Rattle.build_commands.specs.Certs.{AcceptsCert}
 use Rattle.codegen.specs.Firmwares.{IsFirmwareOf}
 use Rattle.codegen.specs.Images.{IsImageOf, firmware_items}
@@ -36,8 +37,8 @@ AnswersServe = (width : Width) (flags : ℕ) (block : Block) (firmware : Firmwar
 
 -- A certified run keeps it.
 abbrev pub CertifiedRunsKeepPromise : Type 0
-CertifiedRunsKeepPromise = (width : Width) (flags : ℕ) (files : Files) (report : Report)
-    (certified : CertifiedRun width flags files report)
+CertifiedRunsKeepPromise = (kind : CertKind) (width : Width) (flags : ℕ) (files : Files) (report : Report)
+    (certified : CertifiedRun kind width flags files report)
     → flags < 2 ^ 8 → Promise width flags files report (run_lines report certified.left)
 
 -- The text has one list of errors and one bound, whatever report it is of.
@@ -45,9 +46,9 @@ abbrev pub PrintedNumbersAreOne : Type 0
 PrintedNumbersAreOne = (block other : Block) (r s : Report) (left more : ℕ) → IsPrintable block r → IsPrintable other s
     → run_lines r left ≡ run_lines s more → (r.errors ≡ s.errors) × (r.bound ≡ s.bound)
 
--- FCL spells a block within the limits, IMAGE holds exactly its image, CERT is a certificate that is accepted, TRACE
--- spells samples within their ranges, and PLAN a good plan.
-pub record AreAccepted (width : Width) (files : Files) : Type 0 where
+-- FCL spells a block within the limits, IMAGE holds exactly its image, CERT is a certificate of this kind that is
+-- accepted, TRACE spells samples within their ranges, and PLAN a good plan.
+pub record AreAccepted (kind : CertKind) (width : Width) (files : Files) : Type 0 where
   pub block : Block
   pub spelled : SpellsBlock files.fcl block
   pub limits : IsWithinLimits block
@@ -55,7 +56,7 @@ pub record AreAccepted (width : Width) (files : Files) : Type 0 where
   pub image_is : IsImageOf (firmware_items main_map block width) image
   pub records : GivesImage files.image image
   pub errors : List ℕ
-  pub accepted : AcceptsCert width block files.cert errors
+  pub accepted : AcceptsCert kind width block files.cert errors
   pub samples : List Sample
   pub in_range : SpellsTrace block.inputs files.trace samples
   pub plan : List Request
@@ -64,11 +65,12 @@ pub record AreAccepted (width : Width) (files : Files) : Type 0 where
 -- Such files are those that the command accepts.
 abbrev pub AcceptedFilesGiveFirmware : Type 0
 AcceptedFilesGiveFirmware =
-    (width : Width) (flags : ℕ) (files : Files) → AreAccepted width files → RunAccepts (run_with width flags) files
+    (kind : CertKind) (width : Width) (flags : ℕ) (files : Files) → AreAccepted kind width files
+    → RunAccepts (run_with kind width flags) files
 
 -- The sentence with no program: accepted files have lines that keep the promise, with the errors that the certificate
 -- is accepted with.
 abbrev pub AcceptedFilesKeepPromise : Type 0
-AcceptedFilesKeepPromise = (width : Width) (flags : ℕ) (files : Files) → flags < 2 ^ 8
-    → (a : AreAccepted width files)
+AcceptedFilesKeepPromise = (kind : CertKind) (width : Width) (flags : ℕ) (files : Files) → flags < 2 ^ 8
+    → (a : AreAccepted kind width files)
     → (report : Report) × (report.errors ≡ a.errors) × (text : List ℕ) × Promise width flags files report text

@@ -22,11 +22,11 @@ use Rattle.run_commands.specs.declared.run.Run.{Run}
 -- what it answers of accepted files is a certified run
 abbrev pub certifies : (reported : AnswersAreReported) (run : Run) (files : Files) (block : Block) (firmware : Firmware)
     (errors : List ℕ) (samples slice : List Sample) (plan : List Request) (rows : List (RowSeen (List ℕ))) (left : ℕ)
-    → Accepts run.width files block firmware errors samples plan → slice ≡ samples
+    → Accepts run.kind run.width files block firmware errors samples plan → slice ≡ samples
     → rows ≡ (firmware_rows firmware (map input_bytes slice) plan run.flags).rows
     → AnswersItsBlock firmware run.flags (map input_bytes slice) plan rows
     → left ≡ left_of (firmware_rows firmware (map input_bytes slice) plan run.flags).state.mem
-    → CertifiedRun run.width run.flags files (report_of errors firmware.instr_bound rows)
+    → CertifiedRun run.kind run.width run.flags files (report_of errors firmware.instr_bound rows)
 certifies reported run files block firmware errors samples slice plan rows left a same ran answers left_is =
     let ran_there = subst
     (λ (ss : List Sample). rows ≡ (firmware_rows firmware (map input_bytes ss) plan run.flags).rows)
@@ -68,7 +68,7 @@ accepted_made reported under run files block firmware errors samples plan byte a
 -- what refuses the files behind IMAGE refuses the run
 pub run_refused : (run : Run) (files : Files) (block : Block) (firmware : Firmware)
     → GivesFirmware run.width files.fcl block firmware → GivesImage files.image firmware.image → (s : Status)
-    → input_refusals run.width block files.cert files.trace files.plan s → run_refusals run files s
+    → input_refusals run.kind run.width block files.cert files.trace files.plan s → run_refusals run files s
 run_refused run files block firmware gives image (status.Fcl f) r = absurd r.2
 run_refused run files block firmware gives image (status.Image f) r = absurd r.2
 run_refused run files block firmware gives image s r = (block, firmware, gives, (image, r))

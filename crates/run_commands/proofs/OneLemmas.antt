@@ -29,8 +29,8 @@ runs_once firmwares accepted inputs run files output other a b =
     let q = b.certified in
     let one = firmwares run.width files.fcl p.block q.block p.firmware q.firmware p.compiled q.compiled in
     let errors : a.report.errors ≡ b.report.errors =
-    accepted run.width p.block files.cert a.report.errors b.report.errors p.compiled.spelled.valid p.accepted
-    (subst (λ (c : Block). AcceptsCert run.width c files.cert b.report.errors) (sym one.0) q.accepted) in
+    accepted run.kind run.width p.block files.cert a.report.errors b.report.errors p.compiled.spelled.valid p.accepted
+    (subst (λ (c : Block). AcceptsCert run.kind run.width c files.cert b.report.errors) (sym one.0) q.accepted) in
     let bytes : map input_bytes p.samples ≡ map input_bytes q.samples =
     inputs.samples p.block.inputs files.trace p.samples q.samples p.in_range
     (subst (λ (c : Block). SpellsTrace c.inputs files.trace q.samples) (sym one.0) q.in_range) in

@@ -1,8 +1,9 @@
--- The certified run: what the program's answer to `run` and `run16` says.
+-- The certified run: what the program's answer to `run`, `run16`, `trun` and `trun16` says.
 use Rattle.std.specs.Prelude.{◌≡◌, ℕ, ◌-◌, List, drop, map, sum, take}
 use Rattle.cpu12_isa.specs.Regions.{free_start, stack_end}
 use Rattle.fuzzy_meaning.specs.declared.block.Block.{Block}
 use Rattle.codegen.specs.declared.firmware.Firmware.{Firmware}
+use Rattle.box_tree.specs.declared.cert.CertKind.{CertKind}
 use Rattle.eval_code.specs.declared.width.Width.{Width}
 use Rattle.srecord.specs.Texts.{GivesImage}
 use Rattle.trace_io.specs.Traces.{Spells as SpellsTrace}
@@ -29,12 +30,12 @@ left_of memory = sum (take (stack_end - free_start) (drop free_start memory))
 -- Compile accepts the FCL text, IMAGE holds exactly its firmware's image, the checker accepts the certificate, the
 -- trace spells samples within their inputs' ranges, and the plan interrupts that write only free bytes. The report is
 -- of that, and so is what the run leaves in the free bytes and the stack.
-pub record CertifiedRun (width : Width) (flags : ℕ) (files : Files) (report : Report) : Type 0 where
+pub record CertifiedRun (kind : CertKind) (width : Width) (flags : ℕ) (files : Files) (report : Report) : Type 0 where
   pub block : Block
   pub firmware : Firmware
   pub compiled : GivesFirmware width files.fcl block firmware
   pub image : GivesImage files.image firmware.image
-  pub accepted : AcceptsCert width block files.cert report.errors
+  pub accepted : AcceptsCert kind width block files.cert report.errors
   pub samples : List Sample
   pub in_range : SpellsTrace block.inputs files.trace samples
   pub plan : List Request

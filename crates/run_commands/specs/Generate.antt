@@ -87,7 +87,7 @@ pub record GenerateGives (number : ℕ) (output : SeenOutput) : Type 0 where
 -- there is none where halving stops at the block that the number draws
 abbrev pub generate_refusals : ℕ → Refusals
 generate_refusals number (status.NotReached stop) =
-    StopsHalving Byte generated_target (drawn_block (draw number 0 5)) stop
+    StopsHalving Named Byte generated_target (drawn_block (draw number 0 5)) stop
 generate_refusals number s = ⊥
 
 abbrev pub GenerateMakes : Generate → Result SeenOutput Status → Type 0

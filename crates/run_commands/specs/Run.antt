@@ -1,8 +1,10 @@
--- The commands `run FCL IMAGE CERT TRACE PLAN FLAGS` and `run16`, with answers of 16 bits.
+-- The commands `run FCL IMAGE CERT TRACE PLAN FLAGS`, `run16 ..` with answers of 16 bits, and `trun ..` and `trun16 ..`
+-- under tight certificates.
 use Rattle.std.specs.Prelude.{◌≡◌, ◌<◌, ◌^◌, ℕ, List, [], ◌∷◌, ◌++◌, codes, Option, None, option_map}
 use Rattle.std.specs.Prelude.{Result, Ok, Err}
 use Rattle.fuzzy_meaning.specs.declared.block.Block.{Block}
 use Rattle.codegen.specs.declared.firmware.Firmware.{Firmware}
+use Rattle.box_tree.specs.declared.cert.CertKind.{CertKind}
 use Rattle.eval_code.specs.declared.width.Width.{Width}
 use Rattle.interrupt_plan.specs.declared.Request.{Request}
 use Rattle.trace_io.specs.declared.sample.Sample.{Sample}
@@ -23,12 +25,12 @@ use Rattle.run_commands.specs.declared.run.Run.{Run}
 use Rattle.fz_status.specs.declared.status.Status.{Status}
 use Rattle.fz_status.specs.declared.status.Status.TheVariants as status
 
-abbrev pub run_with : Width → ℕ → Run
-run_with width flags = record { width = width; flags = flags }
+abbrev pub run_with : CertKind → Width → ℕ → Run
+run_with kind width flags = record { kind = kind; width = width; flags = flags }
 
 -- the command of the words, where the last is of the form of FLAGS
-abbrev pub run_in : Width → List Text → Option Run
-run_in width words = option_map (run_with width) (flags_of (word_at words 7))
+abbrev pub run_in : CertKind → Width → List Text → Option Run
+run_in kind width words = option_map (run_with kind width) (flags_of (word_at words 7))
 
 -- FCL, IMAGE, CERT, TRACE and PLAN
 abbrev pub run_inputs : List ℕ
@@ -52,16 +54,16 @@ run_lines r left = begun_lines r.errors r.bound ++ (counted row_lines 1 r.rows +
 -- ---- what it makes of its files
 
 -- all are accepted, and give this
-pub record Accepts (width : Width) (files : Files) (block : Block) (firmware : Firmware) (errors : List ℕ)
-    (samples : List Sample) (plan : List Request) : Type 0 where
+pub record Accepts (kind : CertKind) (width : Width) (files : Files) (block : Block) (firmware : Firmware)
+    (errors : List ℕ) (samples : List Sample) (plan : List Request) : Type 0 where
   pub compiled : GivesFirmware width files.fcl block firmware
   pub image : GivesImage files.image firmware.image
-  pub inputs : AcceptsInputs width block files.cert files.trace files.plan errors samples plan
+  pub inputs : AcceptsInputs kind width block files.cert files.trace files.plan errors samples plan
 
 -- the run is certified, and the lines are those of its report and of what it leaves
 pub record RunGives (run : Run) (files : Files) (output : SeenOutput) : Type 0 where
   pub report : Report
-  pub certified : CertifiedRun run.width run.flags files report
+  pub certified : CertifiedRun run.kind run.width run.flags files report
   pub output_is : output ≡ record { text = run_lines report certified.left; file = None }
 
 -- why FCL is refused; why IMAGE is, FCL giving firmware; and why the files behind are, IMAGE holding its image
@@ -70,7 +72,8 @@ run_refusals run files (status.Fcl f) = RefusesText files.fcl f
 run_refusals run files (status.Image f) =
     OfFirmware run.width files.fcl (λ block firmware. RefusesImage files.image firmware.image f)
 run_refusals run files s = OfFirmware run.width files.fcl (λ block firmware.
-    GivesImage files.image firmware.image × input_refusals run.width block files.cert files.trace files.plan s)
+    GivesImage files.image firmware.image
+    × input_refusals run.kind run.width block files.cert files.trace files.plan s)
 
 abbrev pub RunMakes : Run → Files → Result SeenOutput Status → Type 0
 RunMakes run files (Ok output) = RunGives run files output
@@ -80,9 +83,9 @@ RunMakes run files (Err s) = Refuses (run_refusals run files) s
 abbrev pub AcceptedRunsMakeOutput : Type 0
 AcceptedRunsMakeOutput = (run : Run) (files : Files) (block : Block) (firmware : Firmware) (errors : List ℕ)
     (samples : List Sample) (plan : List Request) → run.flags < 2 ^ 8
-    → Accepts run.width files block firmware errors samples plan
+    → Accepts run.kind run.width files block firmware errors samples plan
     → (output : SeenOutput) × (gives : RunGives run files output) × (gives.report.errors ≡ errors)
 
 abbrev pub RunAccepts : Run → Files → Type 0
 RunAccepts run files = (block : Block) × (firmware : Firmware) × (errors : List ℕ) × (samples : List Sample)
-    × (plan : List Request) × Accepts run.width files block firmware errors samples plan
+    × (plan : List Request) × Accepts run.kind run.width files block firmware errors samples plan

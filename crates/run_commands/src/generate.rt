@@ -12,6 +12,7 @@ ghost use Rattle.run_commands.specs.Generate.{AcceptedNumbersMakeOutput, Generat
 ghost use Rattle.run_commands.specs.Generate.{frames_of, resumed_of, answers_of};
 ghost use Rattle.run_commands.specs.declared.generate.Generate.{Generate as TheGenerate};
 
+use box_tree::CertKind;
 use build_commands::certify::{halved, halved_blocks_do_not_stop};
 use build_commands::lines::{labelled, push_errors};
 use build_commands::output::Output;
@@ -69,7 +70,7 @@ impl Generate {
         let workload = workload::generate(alloc, self.number)?;
         let block = &workload.block;
         let firmware = compiled(alloc, block)?;
-        let cert = halved(alloc, Width::Byte, TARGET, block)?;
+        let cert = halved(alloc, CertKind::Named, Width::Byte, TARGET, block)?;
         let samples = workload.samples.as_slice();
         let rows = run(alloc, &firmware, samples, &workload.requests, FLAGS)?;
         let errors = cert.claims.as_slice();

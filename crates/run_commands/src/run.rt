@@ -1,4 +1,4 @@
-//! The commands `run FCL IMAGE CERT TRACE PLAN FLAGS` and `run16 ..`: the certified run.
+//! The commands `run FCL IMAGE CERT TRACE PLAN FLAGS`, `run16 ..`, `trun ..` and `trun16 ..`: the certified run.
 ghost use Rattle.std.specs.Prelude.{◌≡◌, ◌≤◌, length, map, IfOk, IfErr};
 ghost use Rattle.std.specs.List.{All};
 ghost use Rattle.fz_run.specs.Rows.{row_seen};
@@ -13,6 +13,7 @@ ghost use Rattle.run_commands.specs.Run.{AcceptedRunsMakeOutput, Accepts, RunMak
 ghost use Rattle.run_commands.specs.Run.{run_refusals};
 ghost use Rattle.run_commands.specs.declared.run.Run.{Run as TheRun};
 
+use box_tree::CertKind;
 use build_commands::certs::accepted_errors_are_one;
 use build_commands::contents::content;
 use build_commands::firmware::{
@@ -35,9 +36,11 @@ use run_reports::laws::{
 use run_reports::row_lines::{begun, push_rows};
 use std::alloc::{AllocError, Global};
 
-/// `run FCL IMAGE CERT TRACE PLAN FLAGS`, and `run16 ..` with answers of 16 bits.
+/// `run FCL IMAGE CERT TRACE PLAN FLAGS`, `trun ..` under tight certificates, and both with `16` for answers of 16 bits.
 #[derive(Clone, Copy, Debug, PartialEq, Eq)]
 pub struct Run {
+    /// What the certificate's leaves say.
+    kind: CertKind,
     /// How wide the firmware's answers are.
     width: Width,
     /// The condition codes that the machine leaves open.
@@ -56,11 +59,11 @@ struct Accepted {
 
 impl Run {
     /// The command of these words.
-    pub fn of(width: Width, words: &[String]) -> Option<Run>
-        ensures { result ≡ run_in width (texts_of words.now) }
+    pub fn of(kind: CertKind, width: Width, words: &[String]) -> Option<Run>
+        ensures { result ≡ run_in kind width (texts_of words.now) }
     {
         let flags = flags(word(words, 7))?;
-        Some(Run { width, flags })
+        Some(Run { kind, width, flags })
     }
 
     /// Runs the samples of the trace under the plan, once all files are accepted, and writes down what
@@ -93,13 +96,13 @@ impl Run {
     /// What the files give, or the first fault in their order.
     fn accepted(self, alloc: Global, contents: &[Vec<u8>]) -> Result<Accepted, Status>
         requires { All (λ c. length c.items ≤ 1048576) contents.now }
-        ensures accepted { IfOk result (λ a. Accepts self.width (files_in (bytes_of contents.now))
+        ensures accepted { IfOk result (λ a. Accepts self.kind self.width (files_in (bytes_of contents.now))
             a.compiled.block a.compiled.firmware a.inputs.errors.items a.inputs.samples.items a.inputs.plan) }
         ensures fault { IfErr result (IsRefusal (run_refusals self (files_in (bytes_of contents.now)))) }
     {
         let compiled = firmware_of(alloc, self.width, content(contents, 0))?;
         require_image(alloc, content(contents, 1), &compiled.firmware.image)?;
-        let inputs = inputs_of(alloc, self.width, &compiled.block, contents)?;
+        let inputs = inputs_of(alloc, self.kind, self.width, &compiled.block, contents)?;
         Ok(Accepted { compiled, inputs })
     }
 }

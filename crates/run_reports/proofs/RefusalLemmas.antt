@@ -1,6 +1,7 @@
 -- What refuses the files that all runs share, and that nothing refuses accepted ones.
 use Rattle.std.proofs.Common.{ℕ, List}
 use Rattle.fuzzy_meaning.specs.declared.block.Block.{Block}
+use Rattle.box_tree.specs.declared.cert.CertKind.{CertKind}
 use Rattle.eval_code.specs.declared.width.Width.{Width}
 use Rattle.interrupt_plan.specs.OneReading.{SpelledPlansHaveNoFault}
 use Rattle.trace_io.specs.OneReading.{SpelledTracesHaveNoFault}
@@ -24,15 +25,15 @@ module _ (block : Block) (trace plan : List ℕ) where
   by_plan samples spells (status.Plan f) r = (samples, spells, r)
   by_plan samples spells s r = absurd r
 
-  pub by_cert : (width : Width) (cert : List ℕ) (s : Status) → cert_refusals width block cert s
-      → input_refusals width block cert trace plan s
-  by_cert width cert (status.Cert f) r = r
-  by_cert width cert s r = absurd r
+  pub by_cert : (kind : CertKind) (width : Width) (cert : List ℕ) (s : Status) → cert_refusals kind width block cert s
+      → input_refusals kind width block cert trace plan s
+  by_cert kind width cert (status.Cert f) r = r
+  by_cert kind width cert s r = absurd r
 
-  pub by_samples : (width : Width) (cert errors : List ℕ) → AcceptsCert width block cert errors → (s : Status)
-      → sample_refusals block trace plan s → input_refusals width block cert trace plan s
-  by_samples width cert errors accepts (status.Cert f) r = absurd r
-  by_samples width cert errors accepts s r = (errors, accepts, r)
+  pub by_samples : (kind : CertKind) (width : Width) (cert errors : List ℕ) → AcceptsCert kind width block cert errors
+      → (s : Status) → sample_refusals block trace plan s → input_refusals kind width block cert trace plan s
+  by_samples kind width cert errors accepts (status.Cert f) r = absurd r
+  by_samples kind width cert errors accepts s r = (errors, accepts, r)
 
 -- ---- nothing refuses files that are accepted
 
@@ -44,7 +45,7 @@ samples_stand traces plans block trace plan samples requests (status.Plan f) in_
 samples_stand traces plans block trace plan samples requests s in_range good r = r
 
 pub inputs_stand : AcceptedCertsHaveNoFault → SpelledSamplesHaveNoFault → AcceptedInputsHaveNoFault
-inputs_stand certs stand width block cert trace plan errors samples requests (status.Cert f) valid a r =
-    certs width block cert errors f valid a.accepted r
-inputs_stand certs stand width block cert trace plan errors samples requests s valid a r =
+inputs_stand certs stand kind width block cert trace plan errors samples requests (status.Cert f) valid a r =
+    certs kind width block cert errors f valid a.accepted r
+inputs_stand certs stand kind width block cert trace plan errors samples requests s valid a r =
     stand block trace plan samples requests s a.in_range a.good_plan r.2

@@ -1,6 +1,7 @@
 -- The contents of the files of a run, accepted or refused one by one.
 use Rattle.std.specs.Prelude.{ℕ, List}
 use Rattle.fuzzy_meaning.specs.declared.block.Block.{Block}
+use Rattle.box_tree.specs.declared.cert.CertKind.{CertKind}
 use Rattle.eval_code.specs.declared.width.Width.{Width}
 use Rattle.interrupt_plan.specs.PlanTexts.{HasFault as PlanHasFault, Spells as SpellsPlan}
 use Rattle.interrupt_plan.specs.declared.Request.{Request}
@@ -11,9 +12,9 @@ use Rattle.fz_status.specs.Refusals.{Refusals}
 use Rattle.fz_status.specs.declared.status.Status.TheVariants as status
 
 -- CERT, TRACE and PLAN are accepted, and give this
-pub record AcceptsInputs (width : Width) (block : Block) (cert trace plan : List ℕ) (errors : List ℕ)
-    (samples : List Sample) (requests : List Request) : Type 0 where
-  pub accepted : AcceptsCert width block cert errors
+pub record AcceptsInputs (kind : CertKind) (width : Width) (block : Block) (cert trace plan : List ℕ)
+    (errors : List ℕ) (samples : List Sample) (requests : List Request) : Type 0 where
+  pub accepted : AcceptsCert kind width block cert errors
   pub in_range : SpellsTrace block.inputs trace samples
   pub good_plan : SpellsPlan plan requests
 
@@ -33,7 +34,7 @@ sample_refusals block trace plan (status.Plan f) =
 sample_refusals block trace plan s = ⊥
 
 -- why a certificate is refused, and why a trace or a plan is, the certificate being accepted beside
-abbrev pub input_refusals : Width → Block → List ℕ → List ℕ → List ℕ → Refusals
-input_refusals width block cert trace plan (status.Cert f) = HasCertFault width block cert f
-input_refusals width block cert trace plan s =
-    (errors : List ℕ) × AcceptsCert width block cert errors × sample_refusals block trace plan s
+abbrev pub input_refusals : CertKind → Width → Block → List ℕ → List ℕ → List ℕ → Refusals
+input_refusals kind width block cert trace plan (status.Cert f) = HasCertFault kind width block cert f
+input_refusals kind width block cert trace plan s =
+    (errors : List ℕ) × AcceptsCert kind width block cert errors × sample_refusals block trace plan s

@@ -9,6 +9,7 @@ use Rattle.eval_code.specs.Firing.{AreInputBytes}
 use Rattle.codegen.specs.Uninterrupted.{Answer, AreAnswersOf}
 use Rattle.eval_code.specs.Widths.{parts}
 use Rattle.codegen.specs.declared.firmware.Firmware.{Firmware}
+use Rattle.box_tree.specs.declared.cert.CertKind.{CertKind}
 use Rattle.eval_code.specs.declared.width.Width.{Width}
 use Rattle.interrupt_plan.specs.PlanTexts.{Spells as SpellsPlan}
 use Rattle.interrupt_plan.specs.declared.Request.{Request}
@@ -62,10 +63,10 @@ SpelledSamplesHaveNoFault = (block : Block) (trace plan : List ℕ) (samples : L
 
 -- and so it is with a certificate before them
 abbrev pub AcceptedInputsHaveNoFault : Type 0
-AcceptedInputsHaveNoFault = (width : Width) (block : Block) (cert trace plan errors : List ℕ) (samples : List Sample)
-    (requests : List Request) (s : Status) → IsValid block
-    → AcceptsInputs width block cert trace plan errors samples requests
-    → input_refusals width block cert trace plan s → ⊥
+AcceptedInputsHaveNoFault = (kind : CertKind) (width : Width) (block : Block) (cert trace plan errors : List ℕ)
+    (samples : List Sample) (requests : List Request) (s : Status) → IsValid block
+    → AcceptsInputs kind width block cert trace plan errors samples requests
+    → input_refusals kind width block cert trace plan s → ⊥
 
 -- a trace spells the bytes of one list of samples
 abbrev pub SpelledSamplesAreOne : Type 0

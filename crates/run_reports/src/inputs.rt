@@ -9,6 +9,7 @@ ghost use Rattle.build_commands.specs.Contents.{bytes_of, content_at};
 ghost use Rattle.run_reports.specs.Inputs.{AcceptsInputs, input_refusals, plan_refusals};
 ghost use Rattle.run_reports.specs.Inputs.{sample_refusals, trace_refusals};
 
+use box_tree::CertKind;
 use build_commands::certs::errors_under;
 use build_commands::contents::content;
 use eval_code::Width;
@@ -32,19 +33,20 @@ pub struct Inputs {
 /// What CERT, TRACE and PLAN give, which are the third file and those behind it, or the first fault in their order.
 pub fn inputs_of(
     alloc: Global,
+    kind: CertKind,
     width: Width,
     block: &Block,
     contents: &[Vec<u8>],
 ) -> Result<Inputs, Status>
     requires block { IsValid block.now }
     requires small { All (λ c. length c.items ≤ 1048576) contents.now }
-    ensures inputs { IfOk result (λ i. AcceptsInputs width block.now (content_at (bytes_of contents.now) 2)
+    ensures inputs { IfOk result (λ i. AcceptsInputs kind width block.now (content_at (bytes_of contents.now) 2)
         (content_at (bytes_of contents.now) 3) (content_at (bytes_of contents.now) 4)
         i.errors.items i.samples.items i.plan) }
-    ensures fault { IfErr result (IsRefusal (input_refusals width block.now (content_at (bytes_of contents.now) 2)
+    ensures fault { IfErr result (IsRefusal (input_refusals kind width block.now (content_at (bytes_of contents.now) 2)
         (content_at (bytes_of contents.now) 3) (content_at (bytes_of contents.now) 4))) }
 {
-    let errors = errors_under(alloc, width, block, content(contents, 2))?;
+    let errors = errors_under(alloc, kind, width, block, content(contents, 2))?;
     let (samples, plan) = samples_and_plan(
         alloc,
         block,

@@ -2,10 +2,9 @@
 //! read, or their first faults, which are told again.
 ghost use Rattle.std.specs.Prelude.{◌≤◌, length};
 
-use box_tree::{
-    CertFault, Lines, read, read_tight, read_tight16, read16, write, write_tight, write_tight16,
-    write16,
-};
+use box_tree::AnswerWidth::{Byte, Word};
+use box_tree::CertKind::Tight;
+use box_tree::{CertFault, Lines, read, read_for, read16, write, write_for, write16};
 use std::alloc::{AllocError, Global};
 use std::test::Fail;
 
@@ -135,12 +134,12 @@ fn written_again(
             Ok(cert) => Ok(Ok((cert.nodes.len(), write16(alloc, &cert)?))),
             Err(fault) => Ok(Err(fault)),
         },
-        3 => match read_tight(alloc, text) {
-            Ok(cert) => Ok(Ok((cert.nodes.len(), write_tight(alloc, &cert)?))),
+        3 => match read_for(alloc, text, Tight, Byte) {
+            Ok(cert) => Ok(Ok((cert.nodes.len(), write_for(alloc, &cert, Tight, Byte)?))),
             Err(fault) => Ok(Err(fault)),
         },
-        _ => match read_tight16(alloc, text) {
-            Ok(cert) => Ok(Ok((cert.nodes.len(), write_tight16(alloc, &cert)?))),
+        _ => match read_for(alloc, text, Tight, Word) {
+            Ok(cert) => Ok(Ok((cert.nodes.len(), write_for(alloc, &cert, Tight, Word)?))),
             Err(fault) => Ok(Err(fault)),
         },
     }
@@ -173,8 +172,8 @@ fn begun(version: u8, text: &[u8]) -> Result<Lines<'_>, CertFault>
     match version {
         1 => Lines::new(text),
         2 => Lines::new16(text),
-        3 => Lines::new_tight(text),
-        _ => Lines::new_tight16(text),
+        3 => Lines::of(text, Tight, Byte),
+        _ => Lines::of(text, Tight, Word),
     }
 }
 

@@ -5,6 +5,7 @@ use Rattle.trace_io.specs.Traces.{HasFault as TraceHasFault}
 use Rattle.interrupt_plan.specs.Levels.{LevelsHaveFault}
 use Rattle.build_commands.specs.Certs.{HasCertFault}
 use Rattle.build_commands.specs.Images.{RefusesImage}
+use Rattle.box_tree.specs.declared.cert.CertKind.TheVariants.{Named}
 use Rattle.eval_code.specs.declared.width.Width.TheVariants.{Byte}
 use Rattle.fz_status.specs.declared.status.FastFault.TheVariants as told
 use Rattle.fz_status.specs.declared.status.Status.TheVariants as status
@@ -29,16 +30,16 @@ returns c lrun files output (status.Cert f) gives (carries, (slow, fast, two, gi
     let r = gives.at_levels in
     let one = c.given_twos_are_one.ensures files.slow files.fast slow fast r.slow r.fast two r.two gives_other
     r.accepts.compiled in
-    c.accepted_certs_have_no_fault.ensures Byte r.slow files.slow_cert gives.report.errors f
+    c.accepted_certs_have_no_fault.ensures Named Byte r.slow files.slow_cert gives.report.errors f
     r.accepts.compiled.slow_is.spelled.valid r.accepts.certs.slow_accepted
-    (subst (λ (b : Block). HasCertFault Byte b files.slow_cert f) one.0 refuses.1)
+    (subst (λ (b : Block). HasCertFault Named Byte b files.slow_cert f) one.0 refuses.1)
 returns c lrun files output (status.Fast (told.Cert f)) gives (carries, (slow, fast, two, gives_other, refuses)) =
     let r = gives.at_levels in
     let one = c.given_twos_are_one.ensures files.slow files.fast slow fast r.slow r.fast two r.two gives_other
     r.accepts.compiled in
-    c.accepted_certs_have_no_fault.ensures Byte r.fast files.fast_cert gives.report.fast_errors f
+    c.accepted_certs_have_no_fault.ensures Named Byte r.fast files.fast_cert gives.report.fast_errors f
     r.accepts.compiled.fast_is.spelled.valid r.accepts.certs.fast_accepted
-    (subst (λ (b : Block). HasCertFault Byte b files.fast_cert f) one.1 refuses.1.1)
+    (subst (λ (b : Block). HasCertFault Named Byte b files.fast_cert f) one.1 refuses.1.1)
 returns c lrun files output (status.Trace f) gives (carries, (slow, fast, two, gives_other, refuses)) =
     let r = gives.at_levels in
     let one = c.given_twos_are_one.ensures files.slow files.fast slow fast r.slow r.fast two r.two gives_other

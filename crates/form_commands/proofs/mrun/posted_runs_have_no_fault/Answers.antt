@@ -3,6 +3,7 @@ use Rattle.fuzzy_meaning.specs.declared.block.Block.{Block}
 use Rattle.codegen.specs.declared.firmware.Firmware.{Firmware}
 use Rattle.trace_io.specs.Traces.{HasFault as TraceHasFault}
 use Rattle.interrupt_plan.specs.Posts.{PostsHaveFault}
+use Rattle.box_tree.specs.declared.cert.CertKind.TheVariants.{Named}
 use Rattle.eval_code.specs.declared.width.Width.TheVariants.{Byte}
 use Rattle.build_commands.specs.Certs.{HasCertFault}
 use Rattle.build_commands.specs.Images.{RefusesImage}
@@ -24,9 +25,9 @@ returns c mrun files output (status.Cert f) gives (carries, (other, others, give
     let r = gives.posted in
     let one = c.given_mailboxes_are_one.ensures files.fcl other r.block others r.firmware gives_other
     r.accepts.compiled in
-    c.accepted_certs_have_no_fault.ensures Byte r.block files.cert gives.report.errors f
+    c.accepted_certs_have_no_fault.ensures Named Byte r.block files.cert gives.report.errors f
     r.accepts.compiled.spelled.valid r.accepts.accepted
-    (subst (λ (b : Block). HasCertFault Byte b files.cert f) one.0 refuses.1)
+    (subst (λ (b : Block). HasCertFault Named Byte b files.cert f) one.0 refuses.1)
 returns c mrun files output (status.Trace f) gives (carries, (other, others, gives_other, refuses)) =
     let r = gives.posted in
     let one = c.given_mailboxes_are_one.ensures files.fcl other r.block others r.firmware gives_other

@@ -1,6 +1,7 @@
 use Rattle.std.proofs.Common.{subst}
 use Rattle.fuzzy_meaning.specs.declared.block.Block.{Block}
 use Rattle.codegen.specs.declared.firmware.Firmware.{Firmware}
+use Rattle.box_tree.specs.declared.cert.CertKind.TheVariants.{Named}
 use Rattle.eval_code.specs.declared.width.Width.TheVariants.{Byte}
 use Rattle.interrupt_plan.specs.UpsetTexts.{HasUpsetFault}
 use Rattle.build_commands.specs.Images.{RefusesImage}
@@ -25,7 +26,8 @@ returns c srun files output (status.Upset f) gives (carries, (other, others, giv
 returns c srun files output s gives (carries, (other, others, gives_other, refuses)) =
     let r = gives.watched in
     let one = c.given_watched_are_one.ensures files.fcl other r.block others r.firmware gives_other r.compiled in
-    c.accepted_inputs_have_no_fault.ensures Byte r.block files.cert files.trace files.plan gives.report.errors r.samples
+    c.accepted_inputs_have_no_fault.ensures Named Byte r.block files.cert files.trace files.plan gives.report.errors
+    r.samples
     r.plan s r.compiled.spelled.valid
     (record { accepted = r.accepted; in_range = r.in_range; good_plan = r.good_plan })
-    (subst (λ (b : Block). input_refusals Byte b files.cert files.trace files.plan s) one.0 refuses.1)
+    (subst (λ (b : Block). input_refusals Named Byte b files.cert files.trace files.plan s) one.0 refuses.1)

@@ -1,4 +1,5 @@
 use Rattle.std.proofs.Common.{◌≡◌, Err, rules}
+use Rattle.box_tree.specs.declared.cert.CertKind.TheVariants.{Named}
 use Rattle.eval_code.specs.declared.width.Width.TheVariants.{Byte}
 use Rattle.build_commands.specs.Contents.{bytes_of}
 use Rattle.run_reports.specs.Inputs.{input_refusals}
@@ -12,7 +13,7 @@ returns-in_err-inputs-clause-fault c =
     let files = watched_files (bytes_of c.args.contents.now) in
     let compiled = c.in_ok-compiled.compiled in
     let passed : c.from_residual-in_err-inputs.result ≡ Err c.in_err-inputs.field-0.0 = search rules in
-    rw passed (refused (input_refusals Byte compiled.block files.cert files.trace files.plan) (srun_refusals files)
+    rw passed (refused (input_refusals Named Byte compiled.block files.cert files.trace files.plan) (srun_refusals files)
     (srun_refused files compiled.block compiled.firmware (rw c.content.ensures.value at c.in_ok-compiled.ensures.gives)
     (rw c.content-2.ensures.value at c.in_ok-require_image.ensures.image))
     c.in_err-inputs.field-0.0 c.in_err-inputs.ensures.fault)

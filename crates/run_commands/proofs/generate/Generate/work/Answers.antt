@@ -1,6 +1,7 @@
 use Rattle.std.proofs.Common.{◌≡◌, ℕ, List, ap, ap₂, ◌∙◌, map, refl, sym, subst, rules}
 use Rattle.std.specs.Prelude.{Err, None}
 use Rattle.fuzzy_meaning.specs.declared.block.Block.{Block}
+use Rattle.box_tree.specs.declared.cert.CertKind.TheVariants.{Named}
 use Rattle.eval_code.specs.declared.width.Width.TheVariants.{Byte}
 use Rattle.rule_layout.specs.Layouts.{IsWithinLimits}
 use Rattle.fz_run.specs.Rows.{row_seen}
@@ -27,10 +28,10 @@ compiled-requires-clause-limits c =
 
 -- where halving stops at the block, it stops at the one that is drawn
 stopped : (number : ℕ) (block : Block) → block ≡ drawn_block (draw number 0 5) → (s : Status)
-    → IsRefusal (target_refusals Byte generated_target block) s → IsFaultOf (GenerateMakes (generate_with number)) s
+    → IsRefusal (target_refusals Named Byte generated_target block) s → IsFaultOf (GenerateMakes (generate_with number)) s
 stopped number block same status.Memory r = tt
 stopped number block same (status.NotReached stop) r =
-    (r.0, subst (λ (b : Block). StopsHalving Byte generated_target b stop) same r.1)
+    (r.0, subst (λ (b : Block). StopsHalving Named Byte generated_target b stop) same r.1)
 stopped number block same s r = absurd r.1
 
 pub returns-in_err-cert : goal.returns-in_err-cert

@@ -11,7 +11,7 @@ returns-in_err-inputs-clause-fault c =
     let files = files_in (bytes_of c.args.contents.now) in
     let compiled = c.in_ok-compiled.compiled in
     let passed : c.from_residual-in_err-inputs.result ≡ Err c.in_err-inputs.field-0.0 = search rules in
-    rw passed (refused (input_refusals c.args.self.width compiled.block files.cert files.trace files.plan)
+    rw passed (refused (input_refusals c.args.self.kind c.args.self.width compiled.block files.cert files.trace files.plan)
     (run_refusals c.args.self files)
     (run_refused c.args.self files compiled.block compiled.firmware
     (rw c.content.ensures.value at c.in_ok-compiled.ensures.gives)
