@@ -10,11 +10,11 @@ use worked_texts::{
 
 /// A command over the parts of a text and those of a certificate, and what it leaves.
 #[derive(Clone, Copy)]
-struct Certificate {
-    command: &'static str,
-    fcl: &'static [&'static str],
-    cert: &'static [&'static str],
-    left: Left<'static>,
+pub(crate) struct Certificate {
+    pub(crate) command: &'static str,
+    pub(crate) fcl: &'static [&'static str],
+    pub(crate) cert: &'static [&'static str],
+    pub(crate) left: Left<'static>,
 }
 
 const CERTIFIED: Left<'static> = Left::Lines("error 1 19609\ninstructions 28\n");
@@ -177,7 +177,7 @@ static OTHERS: [Certificate; 9] = [
     },
 ];
 
-fn judge(alloc: Global, rows: &[Certificate]) -> Result<(), Difference> {
+pub(crate) fn judge(alloc: Global, rows: &[Certificate]) -> Result<(), Difference> {
     for row in rows {
         let line = ["fuzz12", row.command, "first", "second"];
         call_over(alloc, &line, row.fcl, row.cert, &row.left)?;

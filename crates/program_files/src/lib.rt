@@ -13,3 +13,4 @@ mod exec;
 mod hcheck;
 #[cfg(test)]
 mod images;
+mod tight;

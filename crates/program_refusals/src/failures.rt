@@ -12,7 +12,7 @@ use worked_texts::{
 };
 
 // The files, but for OUT and the records of 16 bits.
-static FILES: [(&str, &[&str]); 15] = [
+static FILES: [(&str, &[&str]); 17] = [
     ("a.fcl", &[BLOCK]),
     ("a.s19", &[RECORDS]),
     ("both.s19", &[RECORDS_OF_BOTH]),
@@ -20,6 +20,14 @@ static FILES: [(&str, &[&str]); 15] = [
     ("watched.s19", &[WATCHED_RECORDS]),
     ("a.cert", &["FZC 1\nclaim 19609\n", HALVES]),
     ("wide.cert", &["FZC 2\nclaim 15702\n", HALVES]),
+    (
+        "tight.cert",
+        &["FZC 3\nclaim 19547\nsplit 1 128\nleaf\nleaf\n"],
+    ),
+    (
+        "tight16.cert",
+        &["FZC 4\nclaim 15641\nsplit 1 128\nleaf\nleaf\n"],
+    ),
     ("a.csv", &["64\n"]),
     ("levels", &["1,26,1,24\n"]),
     ("posts", &["0,1\n"]),
@@ -138,6 +146,34 @@ static COMMANDS: [Accepted; 19] = accepted! {
             "error 1 19609\n",
             "instructions 89\n",
             "sample 1 bytes 64 answers 64 instructions 89 steps 97 resumed 0 frames 0 fault 0\n"
+        ] start "err";
+};
+
+// Those of tight certificates.
+static TIGHT: [Accepted; 6] = accepted! {
+    ["tcertify", "a.fcl", "20000", "out"] reads ["a.fcl"] writes true
+        leaves ["error 1 19547\n", "leaves 2\n"] start "err";
+    ["tcertify16", "a.fcl", "20000", "out"] reads ["a.fcl"] writes true
+        leaves ["error 1 15641\n", "leaves 2\n"] start "err";
+    ["tcheck", "a.fcl", "tight.cert"] reads ["a.fcl", "tight.cert"] writes false
+        leaves ["error 1 19547\n", "instructions 28\n"] start "err";
+    ["tcheck16", "a.fcl", "tight16.cert"] reads ["a.fcl", "tight16.cert"] writes false
+        leaves ["error 1 15641\n", "instructions 31\n"] start "err";
+    ["trun", "a.fcl", "a.s19", "tight.cert", "a.csv", "empty", "00"]
+        reads ["a.fcl", "a.s19", "tight.cert", "a.csv", "empty"] writes false
+        leaves [
+            "error 1 19547\n",
+            "instructions 28\n",
+            "sample 1 bytes 64 answers 64 instructions 28 steps 36 resumed 0 frames 0\n",
+            "left 208\n"
+        ] start "err";
+    ["trun16", "a.fcl", "wide.s19", "tight16.cert", "a.csv", "empty", "00"]
+        reads ["a.fcl", "wide.s19", "tight16.cert", "a.csv", "empty"] writes false
+        leaves [
+            "error 1 15641\n",
+            "instructions 31\n",
+            "sample 1 bytes 64 answers 16384 instructions 31 steps 39 resumed 0 frames 0\n",
+            "left 208\n"
         ] start "err";
 };
 
@@ -337,6 +373,7 @@ fn failing(alloc: Global, commands: &[Accepted]) -> Result<(), Difference> {
 #[test]
 fn failures(rt: HostRuntime) -> Result<(), Fail> {
     failing(rt.alloc(), COMMANDS.as_slice())?;
+    failing(rt.alloc(), TIGHT.as_slice())?;
     Ok(())
 }
 

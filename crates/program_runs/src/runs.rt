@@ -9,7 +9,7 @@ use worked_texts::{
     QUARTERS, SECOND, TWO_OUTPUTS,
 };
 
-/// What `run` or `run16` is given, and what it leaves.
+/// What `run`, `run16`, `trun` or `trun16` is given, and what it leaves.
 #[derive(Clone, Copy)]
 struct Ran {
     command: &'static str,
@@ -232,6 +232,66 @@ left 1054
     },
 ];
 
+/// The heater's run under its tight certificate.
+const TIGHT: Ran = Ran {
+    command: "trun",
+    cert: &["FZC 3\nclaim 19547\nsplit 1 128\nleaf\nleaf\n"],
+    left: Left::Lines(
+        "error 1 19547
+instructions 28
+sample 1 bytes 64 answers 64 instructions 28 steps 36 resumed 0 frames 0
+left 208
+",
+    ),
+    ..HEATER
+};
+
+static TIGHT_RUNS: [Ran; 6] = [
+    TIGHT,
+    Ran {
+        cert: &["FZC 3\nclaim 3907\nsplit 1 128\nsplit 1 64\ncells\ncells\nsplit 1 192\ncells\ncells\n"],
+        plan: "1,26\n1,26\n",
+        left: Left::Lines(
+            "error 1 3907
+instructions 28
+sample 1 bytes 64 answers 64 instructions 28 steps 36 resumed 1 frames 2
+frame 1 26 C03C 1FEF 15
+frame 1 26 C03C 1FEF 9
+left 1139
+",
+        ),
+        ..TIGHT
+    },
+    Ran {
+        command: "trun16",
+        cert: &["FZC 4\nclaim 15641\nsplit 1 128\nleaf\nleaf\n"],
+        left: Left::Lines(
+            "error 1 15641
+instructions 31
+sample 1 bytes 64 answers 16384 instructions 31 steps 39 resumed 0 frames 0
+left 208
+",
+        ),
+        ..TIGHT
+    },
+    Ran {
+        cert: &["FZC 3\nclaim 19546\nsplit 1 128\nleaf\nleaf\n"],
+        trace: "256.0001",
+        left: Left::Refused(6, "cert: output 1 claims 19546, computed 19547\n"),
+        ..TIGHT
+    },
+    Ran {
+        cert: &["FZC 1\nclaim 19609\n", HALVES],
+        left: Left::Refused(6, "cert: line 1: bad line\n"),
+        ..TIGHT
+    },
+    Ran {
+        command: "run",
+        left: Left::Refused(6, "cert: line 1: bad line\n"),
+        ..TIGHT
+    },
+];
+
 /// The five files, the image being empty.
 fn shelf(alloc: Global, ran: &Ran) -> Result<MemShelf, Difference> {
     let mut files = Vec::new(alloc);
@@ -254,7 +314,7 @@ fn compile(alloc: Global, command: &str, shelf: &mut MemShelf) -> Result<(), Dif
 /// A run of the image that `compile` writes before it.
 fn run(alloc: Global, ran: &Ran) -> Result<(), Difference> {
     let mut shelf = shelf(alloc, ran)?;
-    let wide = ran.command == "run16";
+    let wide = matches!(ran.command, "run16" | "trun16");
     let command = if wide { "compile16" } else { "compile" };
     compile(alloc, command, &mut shelf)?;
     let line = [
@@ -273,6 +333,9 @@ fn run(alloc: Global, ran: &Ran) -> Result<(), Difference> {
 #[test]
 fn runs(rt: HostRuntime) -> Result<(), Fail> {
     for ran in RUNS.iter() {
+        run(rt.alloc(), ran)?;
+    }
+    for ran in TIGHT_RUNS.iter() {
         run(rt.alloc(), ran)?;
     }
     Ok(())
