@@ -3,7 +3,7 @@ use Rattle.std.specs.Prelude.{◌≡◌, ◌⊎◌, ℕ, ◌≤◌, List, length
 use Rattle.cpu12_asm.specs.Bytes.{IsAscending, byte_at}
 use Rattle.cpu12_asm.specs.declared.image.Image.{Image}
 use Rattle.srecord.specs.declared.fault.SrecFault.{SrecFault}
-use Rattle.srecord.specs.Images.{AreCut, Piece}
+use Rattle.srecord.specs.Images.{AreCut, ImageText, Piece}
 use Rattle.srecord.specs.Texts.{GivesImage, HasFault}
 
 -- a text gives one image at most: one start, and one byte or none at each address
@@ -29,3 +29,8 @@ ImagesHaveFewRecords = (bytes : List (ℕ × ℕ)) (pieces : List Piece) → IsA
 abbrev pub EachTextIsJudged : Type 0
 EachTextIsJudged = (text : List ℕ) → ((image : Image) × GivesImage text image) ⊎
     ((fault : SrecFault) × HasFault text fault)
+
+-- the image of bytes, with this start, has one text
+abbrev pub ImageTextsAreOne : Type 0
+ImageTextsAreOne = (bytes : List (ℕ × ℕ)) (start : ℕ) (text other : List ℕ) → ImageText bytes start text
+    → ImageText bytes start other → text ≡ other

@@ -1,6 +1,6 @@
 //! Laws of the definitions.
 ghost use Rattle.srecord.specs.Laws.{EachTextIsJudged, FaultsAreOne, ImagesAreOne, ImagesHaveFewRecords};
-ghost use Rattle.srecord.specs.Laws.{ImagesHaveNoFault};
+ghost use Rattle.srecord.specs.Laws.{ImagesHaveNoFault, ImageTextsAreOne};
 
 /// A text gives at most one image, and then it has no fault.
 pub fn images_are_one()
@@ -21,4 +21,9 @@ pub fn images_have_few_records()
 /// A text gives an image, or it has a fault.
 pub fn each_text_is_judged()
     ensures { EachTextIsJudged }
+{}
+
+/// An image has one text of records.
+pub fn image_texts_are_one()
+    ensures { ImageTextsAreOne }
 {}

@@ -1,5 +1,8 @@
 //! The workload of a number: what its draws were worked out to be.
+use box_tree::AnswerWidth::Byte;
+use box_tree::CertKind::Tight;
 use cpu12_isa::instr::Write;
+use error_certifier::{NotReached, certify_for};
 use fz_num::Dec;
 use std::process::Abort;
 use std::test::Fail;
@@ -44,4 +47,31 @@ fn a_number_draws_a_workload(rt: HostRuntime) -> Result<(), Fail> {
     assert!(rt; (requests[999].sample, requests[999].moment) == (1000, 361));
     assert!(rt; requests[999].writes.as_slice() == [last].as_slice());
     Ok(())
+}
+
+/// Targets, and the error and the leaves of the tight certificates that are found for them.
+static HALVED: [(u32, u32, usize); 3] = [
+    (400_000, 244_547, 256),
+    (140_000, 139_992, 920),
+    (66_177, 66_177, 1_024),
+];
+
+#[test]
+fn a_workload_is_halved_to_cells(rt: HostRuntime) -> Result<(), Fail> {
+    let alloc = rt.alloc();
+    let block = generate(alloc, 7)?.block;
+    for (target, error, leaves) in HALVED.iter() {
+        assert!(rt; *target <= 1_000_000);
+        let cert = certify_for(alloc, &block, *target, Tight, Byte)?;
+        assert!(rt; cert.claims.as_slice() == [*error].as_slice());
+        assert!(rt; cert.nodes.len() == 2 * *leaves - 1);
+    }
+    match certify_for(alloc, &block, 66_176, Tight, Byte) {
+        Err(NotReached::Cell(bytes, output, bound)) => {
+            assert!(rt; bytes.as_slice() == [32, 0].as_slice());
+            assert!(rt; output == 1 && bound == 66_177);
+            Ok(())
+        }
+        _ => Err(Fail::new("no cell")),
+    }
 }
