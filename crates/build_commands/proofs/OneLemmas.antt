@@ -1,6 +1,6 @@
 -- Files make at most one output.
 use Rattle.std.proofs.Common.{◌≡◌, ◌≤◌, ◌∙◌, ℕ, List, sym, ap, subst, arith}
-use Rattle.std.specs.Prelude.{Ok, Result, Some}
+use Rattle.std.specs.Prelude.{Ok, Result, Some, length}
 use Rattle.fuzzy_meaning.specs.declared.block.Block.{Block}
 use Rattle.box_tree.specs.Texts.{lines_of}
 use Rattle.box_tree.specs.Trees.{leaf_count}
@@ -15,15 +15,24 @@ use Rattle.cpu12_parts.specs.State.{State}
 use Rattle.error_certifier.specs.Halving.{IsHalving}
 use Rattle.error_certifier.specs.Laws.{AnswersAreOne}
 use Rattle.error_certifier.specs.declared.certifier.NotReached.{NotReached}
-use Rattle.eval_code.specs.Bounds.{instruction_bound}
+use Rattle.eval_code.specs.Bounds.{instruction_bound, steps_by}
+use Rattle.eval_code.specs.declared.width.Width.TheVariants.{Byte}
+use Rattle.codegen.specs.declared.firmware.Firmware.{Firmware}
+use Rattle.cpu12_asm.specs.declared.image.Image.{Image}
 use Rattle.eval_code.specs.Widths.{parts}
-use Rattle.srecord.specs.Laws.{ImagesAreOne}
+use Rattle.srecord.specs.Images.{ImageText}
+use Rattle.srecord.specs.Laws.{ImageTextsAreOne, ImagesAreOne}
+use Rattle.two_level.specs.Images.{fast_most}
+use Rattle.two_level.specs.declared.two.Two.{Two}
 use Rattle.build_commands.specs.Certify.{CertifyMakes, certify_lines}
 use Rattle.build_commands.specs.Certs.{AcceptedErrorsAreOne, AcceptsCert, answer_width}
 use Rattle.build_commands.specs.Check.{CheckMakes, check_lines}
 use Rattle.build_commands.specs.Exec.{ExecMakes, exec_line}
 use Rattle.build_commands.specs.Firmwares.{GivenFirmwaresAreOne}
-use Rattle.build_commands.specs.SeenOutputs.{OutputsAreOne, only_text}
+use Rattle.build_commands.specs.Lcompile.{LcompileMakes, lcompile_lines}
+use Rattle.build_commands.specs.Twos.{GivenTwosAreOne}
+use Rattle.build_commands.specs.Written.{WritesFirmware, WritesImage, compile_lines}
+use Rattle.build_commands.specs.SeenOutputs.{OutputsAreOne, SeenOutput, only_text}
 use Rattle.build_commands.specs.declared.certify.Certify.{Certify}
 use Rattle.build_commands.specs.declared.check.Check.{Check}
 use Rattle.build_commands.specs.declared.exec.Exec.{Exec}
@@ -74,3 +83,32 @@ ends_once images loads ends exec text output other a b =
     let arrived : end.Arrived a.steps ≡ end.Arrived b.steps = one.0 in
     let steps : a.steps ≡ b.steps = cc in
     a.output_is ∙ (λ i. only_text (exec_line (one.1 i).regs (steps i))) ∙ sym b.output_is
+
+-- the same lines with the records of the same image
+writes_once : ImageTextsAreOne → (image others : Image) (place : ℕ) (text lines : List ℕ) (output other : SeenOutput)
+    → image ≡ others → text ≡ lines → WritesImage image place text output → WritesImage others place lines other
+    → output ≡ other
+writes_once texts image others place text lines output other same put a b =
+    let there : ImageText image.bytes image.start b.records =
+    subst (λ (j : Image). ImageText j.bytes j.start b.records) (sym same) b.of_image in
+    let records = texts image.bytes image.start a.records b.records a.of_image there in
+    a.output_is ∙ (λ i. record { text = put i; file = Some (place, records i) }) ∙ sym b.output_is
+
+pub compiles_once : ImageTextsAreOne → (Gives : Block → Firmware → Type 0) (bound : Block → ℕ)
+    → ((block other : Block) (firmware others : Firmware) → Gives block firmware → Gives other others
+    → (block ≡ other) × (firmware ≡ others))
+    → (output other : SeenOutput) → WritesFirmware Gives bound output → WritesFirmware Gives bound other
+    → output ≡ other
+compiles_once texts Gives bound ones output other a b =
+    let one = ones a.block b.block a.firmware b.firmware a.gives b.gives in
+    writes_once texts a.firmware.image b.firmware.image 3 _ _ output other (ap (λ (f : Firmware). f.image) one.1)
+    (λ i. compile_lines (bound (one.0 i)) (steps_by (one.0 i) (bound (one.0 i))) (length (one.1 i).image.bytes))
+    a.writes b.writes
+
+pub two_compile_once : ImageTextsAreOne → GivenTwosAreOne → (slow fast : List ℕ)
+    → OutputsAreOne (LcompileMakes slow fast)
+two_compile_once texts twos slow fast output other a b =
+    let one = twos slow fast a.slow_block a.fast_block b.slow_block b.fast_block a.two b.two a.gives b.gives in
+    writes_once texts a.two.image b.two.image 4 _ _ output other (ap (λ (t : Two). t.image) one.2)
+    (λ i. lcompile_lines (instruction_bound Byte (one.0 i)) (fast_most (instruction_bound Byte (one.1 i)))
+    (length (one.2 i).image.bytes)) a.writes b.writes

@@ -13,6 +13,7 @@ pub mod Images
 pub mod Lcompile
 pub mod Lines
 pub mod Mcompile
+pub mod OneOutput
 pub mod Scompile
 pub mod Twos
 pub mod Words

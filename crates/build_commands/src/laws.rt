@@ -1,7 +1,29 @@
 //! Laws of all commands.
 ghost use Rattle.build_commands.specs.Accepted.{AcceptedContentsMakeOutput};
+ghost use Rattle.build_commands.specs.OneOutput.{ContentsMakeOneOutput};
+
+use crate::certify::certify_outputs_are_one;
+use crate::check::check_outputs_are_one;
+use crate::exec::exec_outputs_are_one;
+use crate::firmware::{given_firmwares_are_one, given_mailboxes_are_one, given_watched_are_one};
+use crate::twos::given_twos_are_one;
+use srecord::image_texts_are_one;
 
 /// Contents that are accepted make an output.
 pub fn accepted_contents_make_output()
     ensures { AcceptedContentsMakeOutput }
 {}
+
+/// Contents make at most one output.
+pub fn contents_make_one_output()
+    ensures { ContentsMakeOneOutput }
+{
+    certify_outputs_are_one();
+    check_outputs_are_one();
+    exec_outputs_are_one();
+    given_firmwares_are_one();
+    given_mailboxes_are_one();
+    given_watched_are_one();
+    given_twos_are_one();
+    image_texts_are_one()
+}

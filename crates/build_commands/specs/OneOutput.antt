@@ -1,0 +1,24 @@
+-- Contents make one output.
+use Rattle.std.specs.Prelude.{ℕ, List}
+use Rattle.build_commands.specs.Certify.{CertifyMakes}
+use Rattle.build_commands.specs.Check.{CheckMakes}
+use Rattle.build_commands.specs.Compile.{CompileMakes}
+use Rattle.build_commands.specs.Exec.{ExecMakes}
+use Rattle.build_commands.specs.Lcompile.{LcompileMakes}
+use Rattle.build_commands.specs.Mcompile.{McompileMakes}
+use Rattle.build_commands.specs.Scompile.{ScompileMakes}
+use Rattle.build_commands.specs.SeenOutputs.{OutputsAreOne}
+use Rattle.build_commands.specs.declared.certify.Certify.{Certify}
+use Rattle.build_commands.specs.declared.check.Check.{Check}
+use Rattle.build_commands.specs.declared.compile.Compile.{Compile}
+use Rattle.build_commands.specs.declared.exec.Exec.{Exec}
+
+-- so it is with these commands
+pub record ContentsMakeOneOutput : Type 0 where
+  pub certify : (certify : Certify) (text : List ℕ) → OutputsAreOne (CertifyMakes certify text)
+  pub check : (check : Check) (text cert : List ℕ) → OutputsAreOne (CheckMakes check text cert)
+  pub compile : (compile : Compile) (text : List ℕ) → OutputsAreOne (CompileMakes compile text)
+  pub exec : (exec : Exec) (text : List ℕ) → OutputsAreOne (ExecMakes exec text)
+  pub lcompile : (slow fast : List ℕ) → OutputsAreOne (LcompileMakes slow fast)
+  pub mcompile : (text : List ℕ) → OutputsAreOne (McompileMakes text)
+  pub scompile : (text : List ℕ) → OutputsAreOne (ScompileMakes text)
