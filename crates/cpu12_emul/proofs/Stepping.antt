@@ -22,7 +22,7 @@ use Rattle.cpu12_parts.specs.Laws.{IsOff}
 use Rattle.cpu12_emul.specs.Step.{Left, Next, step_act, instruction_act, left_by_part, left_by_plain, applied, next_of}
 use Rattle.cpu12_isa.specs.Regions.{is_hidden}
 use Rattle.cpu12_emul.specs.Simulation.{Same, Parked, AreSumsReady, HasRoom, IsShownStep, StepsAlike, StepAgrees}
-use Rattle.cpu12_emul.specs.Simulation.{WavrGoesOn, StepKeeps, PlainIsStep}
+use Rattle.cpu12_emul.specs.Simulation.{OnStackOrNone, WavrGoesOn, StepKeeps, PlainIsStep}
 use Rattle.cpu12_emul.specs.Simulation.{PartIsStep, SumsAreStep, left_of}
 
 pub step_agrees : WritesAgree → StepAgrees
@@ -215,8 +215,8 @@ step_same agrees open_to flags s t l k =
     ∙ ap (λ (u : Temps). outcome (step_act flags t.regs u) s.mem) l.temps ∙ both.0)
     both.1
 
-step_parked : StepAgrees → WavrGoesOn → (open_to : ℕ → Bool) (flags : ℕ) (s t : State) → Parked open_to s t
-    → IsShownStep open_to flags t
+step_parked : StepAgrees → WavrGoesOn → (open_to : ℕ → Bool) (flags : ℕ) (s t : State)
+    → Parked OnStackOrNone open_to s t → IsShownStep open_to flags t
     → StepsAlike open_to flags s t
 step_parked agrees goes_on open_to flags s t l k =
     let good : AreSumsReady open_to t (Running l.product l.weight) =

@@ -22,7 +22,8 @@ use Rattle.cpu12_parts.specs.Laws.{IsOff}
 use Rattle.cpu12_parts.specs.Inside.{pushed_sums, PushesRunning, PushesNone}
 use Rattle.cpu12_parts.proofs.Algebra.{temps_cases}
 use Rattle.cpu12_emul.specs.Take.{pairs_of, pushed, written, framed, taken, FrameSeen, frame_size, frame_of, frame_in}
-use Rattle.cpu12_emul.specs.Simulation.{AreOpen, Same, Parked, HasRoom, TakesQuietly, TakeKeeps, FrameIsOnStack}
+use Rattle.cpu12_emul.specs.Simulation.{AreOpen, Same, Marks, Parked, HasRoom, TakesQuietly, TakeKeeps, FrameIsOnStack}
+use Rattle.cpu12_emul.proofs.Algebra.{pushed_marked, marked_off}
 
 -- writes to open bytes
 open_writes : (open_to : ℕ → Bool) (ws : List Write) (at : ℕ) → AreOpen open_to ws → IsWritten (pairs_of ws) at
@@ -72,10 +73,10 @@ fits_at : (r : Regs) (k : ℕ) → FitsRegs r → k < 2 ^ 16 → FitsRegs (recor
 fits_at r k f h = record { a = f.a; b = f.b; x = f.x; y = f.y; sp = h; pc = f.pc; ccr = f.ccr }
 
 -- an interrupt where the sums run parks them
-parks : Pushes → (open_to : ℕ → Bool) (ws : List Write) (s t : State) (p w : ℕ) → LeavesStack open_to
+parks : Pushes → (marks : Marks) (open_to : ℕ → Bool) (ws : List Write) (s t : State) (p w : ℕ) → LeavesStack open_to
     → AreOpen open_to ws → HasRoom t → Same open_to s t
-    → s.temps ≡ Running p w → Parked open_to (taken ws s) t
-parks laws open_to ws s t p w leaves good room l run =
+    → s.temps ≡ Running p w → Parked marks open_to (taken ws s) t
+parks laws marks open_to ws s t p w leaves good room l run =
     let x = pushed_sums s.regs p w s.mem in
     let fits = room.fits in
     let lo = room.low in
@@ -100,24 +101,24 @@ parks laws open_to ws s t p w leaves good room l run =
     let there : bytes_at x.mem (from (plus s.regs.sp 65530) 6) ≡ sum_bytes p w =
     read_placed (sum_bytes p w) (plus s.regs.sp 65530) s.mem (omega arith) (lit≤ tt) size in
     let at : plus s.regs.sp 65530 ≡ plus t.regs.sp 65530 = omega arith in
-    let parked : Parked open_to (framed ws x) t = record {
+    let parked : Parked marks open_to (framed ws x) t = record {
       product = p;
       weight = w;
       running = sym l.temps ∙ run;
-      temps = inr refl;
+      temps = pushed_marked marks;
       regs = u.regs ∙ ap (λ (r : Regs). record r { sp = plus r.sp 65530 }) l.regs;
       sums = subst (λ (k : ℕ). bytes_at (framed ws x).mem (from k 6) ≡ sum_bytes p w) at (got ∙ there);
       mem = agree_with (is_hidden open_to t.regs.sp) (framed ws x).mem x.mem t.mem
           (laws.more open_to (plus s.regs.sp 65530) t.regs.sp (framed ws x).mem x.mem (omega arith) u.mem)
           (agree_with (is_hidden open_to t.regs.sp) x.mem s.mem t.mem wrote l.mem);
     } in
-    subst (λ (v : State). Parked open_to (framed ws v) t) (sym (laws.running s p w run)) parked
+    subst (λ (v : State). Parked marks open_to (framed ws v) t) (sym (laws.running s p w run)) parked
 
 -- a further one leaves them
-stays_parked : Pushes → (open_to : ℕ → Bool) (ws : List Write) (s t : State) → LeavesStack open_to → AreOpen open_to ws
-    → HasRoom t → Parked open_to s t
-    → Parked open_to (taken ws s) t
-stays_parked laws open_to ws s t leaves good room l =
+stays_parked : Pushes → (marks : Marks) (open_to : ℕ → Bool) (ws : List Write) (s t : State) → LeavesStack open_to
+    → AreOpen open_to ws → HasRoom t → Parked marks open_to s t
+    → Parked marks open_to (taken ws s) t
+stays_parked laws marks open_to ws s t leaves good room l =
     let fits = room.fits in
     let lo = room.low in
     let hi = room.high in
@@ -130,7 +131,7 @@ stays_parked laws open_to ws s t leaves good room l =
     (from (plus t.regs.sp 65530) 6) =
     same_bytes (is_hidden open_to s.regs.sp) (framed ws s).mem s.mem u.mem (from (plus t.regs.sp 65530) 6)
     (laws.shown open_to s.regs.sp (plus t.regs.sp 65530) 6 leaves (omega arith) (omega arith) (omega arith)) in
-    let parked : Parked open_to (framed ws s) t = record {
+    let parked : Parked marks open_to (framed ws s) t = record {
       product = l.product;
       weight = l.weight;
       running = l.running;
@@ -140,7 +141,8 @@ stays_parked laws open_to ws s t leaves good room l =
       mem = agree_with (is_hidden open_to t.regs.sp) (framed ws s).mem s.mem t.mem
           (laws.more open_to s.regs.sp t.regs.sp (framed ws s).mem s.mem (omega arith) u.mem) l.mem;
     } in
-    subst (λ (v : State). Parked open_to (framed ws v) t) (sym (laws.none s l.temps)) parked
+    subst (λ (v : State). Parked marks open_to (framed ws v) t)
+    (sym (laws.none s (marked_off marks s.temps l.temps))) parked
 
 -- where no sums run the state stays the same
 stays_same : Pushes → (open_to : ℕ → Bool) (ws : List Write) (s t : State) → LeavesStack open_to → AreOpen open_to ws
@@ -161,11 +163,12 @@ stays_same laws open_to ws s t leaves good room l off =
     subst (λ (v : State). Same open_to (framed ws v) t) (sym (laws.none s off)) same
 
 pub take_keeps : Pushes → TakeKeeps
-take_keeps laws open_to ws s t leaves good room (inl l) = elim (temps_cases s.temps) [
+take_keeps laws marks open_to ws s t leaves good room (inl l) = elim (temps_cases s.temps) [
   | inl off ↦ inl (stays_same laws open_to ws s t leaves good room l off)
-  | inr run ↦ inr (parks laws open_to ws s t run.0 run.1 leaves good room l run.2)
+  | inr run ↦ inr (parks laws marks open_to ws s t run.0 run.1 leaves good room l run.2)
 ]
-take_keeps laws open_to ws s t leaves good room (inr l) = inr (stays_parked laws open_to ws s t leaves good room l)
+take_keeps laws marks open_to ws s t leaves good room (inr l) =
+    inr (stays_parked laws marks open_to ws s t leaves good room l)
 
 -- the nine bytes stand on the stack
 nine_there : (s : State) → length s.mem ≡ 65536

@@ -32,20 +32,29 @@ pub record Same (open_to : ℕ → Bool) (w s : State) : Type 0 where
   pub temps : w.temps ≡ s.temps
   pub mem : Agree (is_hidden open_to s.regs.sp) w.mem s.mem
 
--- s's sums run; w's lie on the stack, six bytes below s's SP
-pub record Parked (open_to : ℕ → Bool) (w s : State) : Type 0 where
+-- How sums that an interrupt pushed may be marked: as on the stack alone, or, where handlers run WAV, as none too.
+pub data Marks : Type 0 where
+  OnStackOnly : Marks
+  OnStackOrNone : Marks
+
+abbrev pub AreMarked : Marks → Temps → Type 0
+AreMarked OnStackOnly t = t ≡ OnStack
+AreMarked OnStackOrNone t = IsOff t
+
+-- s's sums run; w's lie on the stack, six bytes below s's SP, and are marked so
+pub record Parked (marks : Marks) (open_to : ℕ → Bool) (w s : State) : Type 0 where
   pub product : ℕ
   pub weight : ℕ
   pub running : s.temps ≡ Running product weight
-  pub temps : IsOff w.temps
+  pub temps : AreMarked marks w.temps
   pub regs : w.regs ≡ record (s.regs) { sp = plus s.regs.sp 65530 }
   pub sums : bytes_at w.mem (from (plus s.regs.sp 65530) 6) ≡ sum_bytes product weight
   pub mem : Agree (is_hidden open_to s.regs.sp) w.mem s.mem
 
 -- The state w of a run under interrupts simulates the state s of the run without: it is the same, or an interrupt has
 -- put the sums that run in s on the stack.
-abbrev pub Simulates : (ℕ → Bool) → State → State → Type 0
-Simulates open_to w s = Same open_to w s ⊎ Parked open_to w s
+abbrev pub Simulates : Marks → (ℕ → Bool) → State → State → Type 0
+Simulates marks open_to w s = Same open_to w s ⊎ Parked marks open_to w s
 
 -- where sums run they fit, and PC is at wavr's byte
 abbrev pub AreSumsReady : (ℕ → Bool) → State → Temps → Type 0
@@ -95,10 +104,10 @@ WavrGoesOn =
     → bytes_at m (from (plus r.sp 65530) 6) ≡ sum_bytes p w
     → outcome (step_act flags (record r { sp = plus r.sp 65530 }) t) m ≡ outcome (step_act flags r (Running p w)) m
 
--- A step keeps the simulation.
+-- A step keeps the simulation, however pushed sums are marked.
 abbrev pub StepKeeps : Type 0
 StepKeeps =
-    (open_to : ℕ → Bool) (flags : ℕ) (s t : State) → Simulates open_to s t → IsShownStep open_to flags t
+    (open_to : ℕ → Bool) (flags : ℕ) (s t : State) → Simulates OnStackOrNone open_to s t → IsShownStep open_to flags t
     → StepsAlike open_to flags s t
 
 -- The nine bytes, writes to open bytes, and back change nothing that is shown.
@@ -108,11 +117,11 @@ TakesQuietly =
     → FitsRegs s.regs → stack_start + 9 ≤ s.regs.sp → s.regs.sp ≤ stack_end
     → Same open_to (framed ws s) s
 
--- An interrupt that writes open bytes keeps the simulation.
+-- An interrupt that writes open bytes keeps the simulation, and the marks of sums on the stack.
 abbrev pub TakeKeeps : Type 0
 TakeKeeps =
-    (open_to : ℕ → Bool) (ws : List Write) (s t : State) → LeavesStack open_to → AreOpen open_to ws → HasRoom t
-    → Simulates open_to s t → Simulates open_to (taken ws s) t
+    (marks : Marks) (open_to : ℕ → Bool) (ws : List Write) (s t : State) → LeavesStack open_to → AreOpen open_to ws
+    → HasRoom t → Simulates marks open_to s t → Simulates marks open_to (taken ws s) t
 
 -- A frame on the stack is the nine bytes of the registers, and the six of the sums where they run.
 abbrev pub FrameIsOnStack : Type 0

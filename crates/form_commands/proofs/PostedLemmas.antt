@@ -27,7 +27,7 @@ use Rattle.posted_runs.specs.Answering.{AnswersItsPosts, AnswersUnderAllPosts, A
 use Rattle.posted_runs.specs.Answering.{ended, run_of_turns}
 use Rattle.run_forms.specs.Rows.{boundary_seen, frames_seen}
 use Rattle.posted_runs.specs.Runs.{AnswerSeen, RunSeen, answer_seen, arrival}
-use Rattle.posted_runs.specs.Runs.{run_under_posts}
+use Rattle.posted_runs.specs.Runs.{steps_of, run_under_posts}
 use Rattle.posted_runs.specs.Turns.{AreTurns, LastIsAnswered, Turn, behind, over, idle, answers, samples_of, up_to}
 use Rattle.posted_runs.specs.Turns.{waiting}
 use Rattle.posted_runs.specs.declared.run.Answer as declared
@@ -172,7 +172,7 @@ module _ (keep : AnswersKeepTheBound) (fit : SpelledBytesFit) (near : PostedAnsw
 
   last : waiting 0 posts ≢ 0 → (before : List ℕ) × (answered_samples report ≡ before ++ waiting 0 posts ∷ [])
   last some =
-      let at_end = lasts firmware.inputs under.steps 0 0 [] posts under.turns under.turns_are some in
+      let at_end = lasts firmware.inputs (steps_of flags firmware bytes) 0 0 [] posts under.turns under.turns_are some in
       (at_end.0, of_turns ∙ at_end.1)
 
   of_block : AreAnswersOf Byte block firmware.instr_bound (λ o. 0) (map (bytes_of bytes) (answered_samples report))
@@ -187,7 +187,7 @@ module _ (keep : AnswersKeepTheBound) (fit : SpelledBytesFit) (near : PostedAnsw
   posted =
       let good = a.good_posts.good.posts_are in
       subst (λ (ks : List ℕ). All (IsOneOf (length samples)) ks) (sym of_turns)
-      (answered_of (length samples) firmware.inputs under.steps 0 0 [] posts under.turns under.turns_are (omega arith)
+      (answered_of (length samples) firmware.inputs (steps_of flags firmware bytes) 0 0 [] posts under.turns under.turns_are (omega arith)
       (λ d k lt. (good d k lt).sample_to))
 
   pub posts_run : PostedRun flags files report

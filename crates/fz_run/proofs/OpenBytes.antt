@@ -16,7 +16,8 @@ use Rattle.cpu12_parts.specs.Cuts.{suspended, wav}
 use Rattle.cpu12_parts.specs.Inside.{PushesRunning, PushesNone}
 use Rattle.cpu12_parts.specs.Laws.{IsOff, addresses}
 use Rattle.cpu12_emul.specs.Step.{Left, Next, step_act, applied, next_of}
-use Rattle.cpu12_emul.specs.Simulation.{Simulates, AreSumsReady, HasRoom, IsShownStep, StepAgrees, WavrGoesOn}
+use Rattle.cpu12_emul.specs.Simulation.{OnStackOrNone, Simulates, AreSumsReady, HasRoom, IsShownStep, StepAgrees}
+use Rattle.cpu12_emul.specs.Simulation.{WavrGoesOn}
 use Rattle.run_law.specs.Uninterrupted.{stepped, state_by}
 use Rattle.instruction_steps.specs.Facts.{Facts, IsStackOfOneCall}
 use Rattle.fz_run.specs.OpenBytes.{AreOpenAlike, StepsLeaveOpen, GivenLeavesOpen}
@@ -61,7 +62,7 @@ sp_near : (sp : ℕ) → IsStackOfOneCall sp → (0x1FFE ≤ sp) × (sp ≤ 0x20
 sp_near sp (inl e) = (omega arith, omega arith)
 sp_near sp (inr e) = (omega arith, omega arith)
 
-sp_of : (open_to : ℕ → Bool) (w s : State) → IsStackOfOneCall s.regs.sp → Simulates open_to w s
+sp_of : (open_to : ℕ → Bool) (w s : State) → IsStackOfOneCall s.regs.sp → Simulates OnStackOrNone open_to w s
     → (0x1FF8 ≤ w.regs.sp) × (w.regs.sp ≤ 0x2000)
 sp_of open_to w s k (inl l) =
     let near = sp_near s.regs.sp k in
@@ -98,7 +99,7 @@ pushes laws open_to apart w lo hi = cases w.temps refl
 
 -- a step writes what it writes without interrupts
 step_left : OpenLaws → (open_to : ℕ → Bool) (flags : ℕ) (w s : State) → (k : IsShownStep open_to flags s)
-    → Simulates open_to w s → outcome (step_act flags w.regs w.temps) w.mem ≡ Ok k.left
+    → Simulates OnStackOrNone open_to w s → outcome (step_act flags w.regs w.temps) w.mem ≡ Ok k.left
 step_left laws open_to flags w s k (inl l) =
     let both =
     laws.step_agrees flags s.regs s.temps w.mem s.mem k.left (is_hidden open_to s.regs.sp)
@@ -128,7 +129,8 @@ shown_not hidden (x ∷ ws) at a (inr w) = shown_not hidden ws at a.1 w
 open_not : (open_to : ℕ → Bool) (sp at : ℕ) → open_to at ≡ true → is_hidden open_to sp at ≡ false → ⊥
 open_not open_to sp at is h = both (open_to at) is (or_parts (open_to at) (nat_le 0x1FE0 at && nat_lt at sp) h).0
 
-steps : OpenLaws → (open_to : ℕ → Bool) (flags : ℕ) (w s : State) → Facts open_to flags s → Simulates open_to w s
+steps : OpenLaws → (open_to : ℕ → Bool) (flags : ℕ) (w s : State) → Facts open_to flags s
+    → Simulates OnStackOrNone open_to w s
     → AreOpenAlike open_to w.mem (stepped flags w).mem
 steps laws open_to flags w s facts l at is =
     let k = facts.shown in

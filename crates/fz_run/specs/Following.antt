@@ -2,7 +2,7 @@
 use Rattle.std.specs.Prelude.{◌≡◌, ℕ, suc, ◌+◌, ◌*◌, ◌<◌, ◌≤◌, Bool, true, false, List, [], ◌∷◌}
 use Rattle.cpu12_isa.specs.Regions.{free_start, is_free, LeavesStack}
 use Rattle.cpu12_parts.specs.State.{State}
-use Rattle.cpu12_emul.specs.Simulation.{Same}
+use Rattle.cpu12_emul.specs.Simulation.{OnStackOnly, Same}
 use Rattle.run_law.specs.Forms.{RowSeen, Rows, rows_from}
 use Rattle.run_law.specs.Uninterrupted.{uninterrupted, counted, resumed_of, frames_of}
 use Rattle.run_law.specs.Following.{AllComplete, AllWithin, RowsSimulate, last_uninterrupted, RunsFollow}
@@ -79,7 +79,8 @@ pub record FollowsAlone (flags : ℕ) (f : Firmware) (most : ℕ) (plan : List R
   pub arrived : (rows_under flags f most plan samples s).arrived ≡ true
   pub rows_are : (rows_under flags f most plan samples s).rows ≡ rows_of_samples flags f plan 1 ns samples s
   pub simulates :
-      RowsSimulate is_free (with_writes flags f) ns samples (rows_under flags f most plan samples s).states s
+      RowsSimulate OnStackOnly is_free (with_writes flags f) ns samples
+      (rows_under flags f most plan samples s).states s
   pub last : Same is_free (rows_under flags f most plan samples s).state (last_of flags f ns samples s)
 
 -- So does each run under a good plan, where the states of the run without interrupts keep the facts.
@@ -93,4 +94,4 @@ RunsFollowAlone = (flags : ℕ) (f : Firmware) (most : ℕ) (plan : List Request
 -- interrupts.
 abbrev pub RunsFollowBeside : Type 0
 RunsFollowBeside = (open_to : ℕ → Bool) (flags : ℕ) (f : Firmware) → OpensFree open_to → IsLow f
-    → RunsFollow open_to (with_writes flags f) (FactsBeside open_to flags f) IsGoodRequest Nothing
+    → RunsFollow OnStackOnly open_to (with_writes flags f) (FactsBeside open_to flags f) IsGoodRequest Nothing

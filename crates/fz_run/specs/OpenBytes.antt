@@ -3,7 +3,7 @@ use Rattle.std.specs.Prelude.{◌≡◌, ℕ, ◌+◌, ◌<◌, ◌≤◌, Bool,
 use Rattle.cpu12_isa.specs.Regions.{LeavesStack}
 use Rattle.cpu12_parts.specs.State.{State}
 use Rattle.cpu12_parts.specs.Cuts.{suspended, wav}
-use Rattle.cpu12_emul.specs.Simulation.{Simulates}
+use Rattle.cpu12_emul.specs.Simulation.{OnStackOrNone, Simulates}
 use Rattle.run_law.specs.Uninterrupted.{stepped}
 use Rattle.eval_code.specs.declared.memory_map.MemoryMap.{MemoryMap}
 use Rattle.codegen.specs.declared.firmware.Firmware.{Firmware}
@@ -23,7 +23,7 @@ pub record StepLeavesOpen (open_to : ℕ → Bool) (flags : ℕ) (w : State) : T
 abbrev pub StepsLeaveOpen : Type 0
 StepsLeaveOpen =
     (open_to : ℕ → Bool) (flags : ℕ) (f : Firmware) (w s : State) → LeavesStack open_to
-    → FactsBeside open_to flags f s → Simulates open_to w s → StepLeavesOpen open_to flags w
+    → FactsBeside open_to flags f s → Simulates OnStackOrNone open_to w s → StepLeavesOpen open_to flags w
 
 -- A sample of at most eight bytes does, where its bytes and READY are not open.
 abbrev pub GivenLeavesOpen : Type 0

@@ -11,7 +11,7 @@ use Rattle.cpu12_isa.specs.Agreement.{Agree, WritesAgree}
 use Rattle.cpu12_isa.specs.Memory.{plus, placed, word_of}
 use Rattle.cpu12_isa.specs.Regions.{free_start, stack_start, is_free, is_hidden, LeavesStack}
 use Rattle.cpu12_parts.specs.State.{State}
-use Rattle.cpu12_emul.specs.Simulation.{AreOpen, Same}
+use Rattle.cpu12_emul.specs.Simulation.{AreOpen, OnStackOnly, Same}
 use Rattle.run_law.specs.Soundness.{Sound, WritesAreQuiet}
 use Rattle.interrupt_plan.specs.Plans.{IsGoodRequest}
 use Rattle.codegen.specs.declared.firmware.Firmware.{Firmware}
@@ -107,7 +107,7 @@ ended_alike open_to f ports low w s l =
 
 pub sound : (open_to : ℕ → Bool) → OpensFree open_to → (flags : ℕ) (f : Firmware) → IsLow f → WritesAgree
     → WritesAreQuiet
-    → Sound open_to (with_writes flags f) (FactsBeside open_to flags f) IsGoodRequest Nothing
+    → Sound OnStackOnly open_to (with_writes flags f) (FactsBeside open_to flags f) IsGoodRequest Nothing
 sound open_to opens flags f low agree quiet = record {
   apart = opens.apart;
   shown = λ s p. (let facts = p.facts in facts.shown);
@@ -117,8 +117,11 @@ sound open_to opens flags f low agree quiet = record {
   ends = λ m w s l. ended_alike open_to f (low_ports open_to opens f low) low w s l;
   quiet = λ done a v s good p may begins own.
       (let facts = p.facts in
-      let shown = facts.shown in
-      (quiet open_to a.writes v s opens.apart (all_open open_to opens a.writes good.free) shown.room begins, tt));
+      let shown = facts.shown in (
+        quiet OnStackOnly open_to a.writes v s opens.apart (all_open open_to opens a.writes good.free) shown.room
+            begins,
+        tt,
+      ));
   leaves_open = record {
     gives = λ done x w o. tt;
     leaves = λ done x w o. tt;

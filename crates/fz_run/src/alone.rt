@@ -1,5 +1,6 @@
 // A firmware that stands alone is a sound form.
 ghost use Rattle.std.specs.Prelude.{ℕ, List};
+ghost use Rattle.cpu12_emul.specs.Simulation.{OnStackOnly};
 ghost use Rattle.interrupt_plan.specs.Plans.{IsGoodRequest};
 ghost use Rattle.interrupt_plan.specs.declared.Request as plan;
 ghost use Rattle.fz_run.specs.Forms.{with_writes};
@@ -22,6 +23,8 @@ impl SoundForm for StandAlone {
     ghost Told = { Unit {0} };
 
     ghost form = { λ x. with_writes x.flags x.firmware };
+
+    ghost marks = { OnStackOnly };
 
     ghost open_to = { λ x. x.open_to };
 

@@ -129,5 +129,5 @@ first_stands f flags handler most mem w whole h has = record {
     bytes = λ at byte e.
         (let r = in_code handler at byte whole e in h.open_bytes at (code_open at r.0 r.1) ∙ has.bytes at byte e);
   };
-  short = λ k x lt. absurd (omega arith);
+  back = λ k x lt. absurd (omega arith);
 }

@@ -1,13 +1,16 @@
 -- The rows of a run whose interrupts run code.
 use Rattle.std.proofs.Common.{◌≡◌, ℕ, suc, ◌+◌, ◌≤◌, ◌<◌, ◌^◌, List, [], ◌∷◌, length, refl, ap, sym, ◌∙◌, subst, arith}
-use Rattle.std.specs.Prelude.{All, take, map, sum}
+use Rattle.std.specs.Prelude.{All, take, map}
 use Rattle.std.proofs.lemmas.List.{take_all}
 use Rattle.std.proofs.lemmas.Simd.{map-map}
 use Rattle.fuzzy_meaning.specs.declared.block.Block.{Block}
+use Rattle.fuzzy_meaning.specs.Blocks.{IsValid}
+use Rattle.rule_layout.specs.Layouts.{IsWithinLimits}
 use Rattle.cpu12_isa.specs.Regions.{is_hidden}
 use Rattle.cpu12_isa.proofs.Algebra.{agree_self}
 use Rattle.cpu12_parts.specs.State.{State}
 use Rattle.cpu12_emul.specs.Image.{HoldsImage}
+use Rattle.cpu12_emul.specs.Simulation.{OnStackOnly}
 use Rattle.run_law.specs.Forms.{RowSeen}
 use Rattle.run_law.specs.Uninterrupted.{uninterrupted}
 use Rattle.run_law.specs.Following.{Completes, AllComplete, RunsFollow, expected_row, expected_rows}
@@ -17,6 +20,7 @@ use Rattle.interrupt_plan.specs.Plans.{IsGoodRequest, IsGood}
 use Rattle.eval_code.specs.declared.memory_map.MemoryMap.{MemoryMap}
 use Rattle.codegen.specs.declared.firmware.Firmware.{Firmware}
 use Rattle.codegen.specs.Answers.{LeavesMapped}
+use Rattle.codegen.specs.Firmwares.{IsFirmwareOf}
 use Rattle.eval_code.specs.Firing.{AreInputBytes}
 use Rattle.firmware_ports.specs.Ports.{given}
 use Rattle.fz_run.specs.Forms.{with_writes}
@@ -30,8 +34,9 @@ use Rattle.fz_run.specs.Answering.{FirmwareRunsBeside, FirstAlike, FirstStatesAl
 use Rattle.run_forms.proofs.Algebra.{map-shown_rows, all_onto_all}
 use Rattle.handled_runs.specs.Open.{is_open_to_code}
 use Rattle.handled_runs.specs.Joint.{joint_memory}
-use Rattle.handled_runs.specs.Forms.{with_code, first_handled, handled_rows, HandledSeen, with_steps, handled_seen}
-use Rattle.handled_runs.specs.Answering.{HandledAnswers, HandlesItsBlock}
+use Rattle.handled_runs.specs.declared.back.HandlerEnd.{HandlerEnd}
+use Rattle.handled_runs.specs.Forms.{with_code, first_handled, handled_rows, steps_of, HandledSeen, with_steps}
+use Rattle.handled_runs.specs.Answering.{AnswersHandled, CameBack, HandledAnswers}
 use Rattle.handled_runs.specs.SoundHandled.{CodeLaws, Handled, HandlerStands, opens_free}
 use Rattle.handled_runs.proofs.Beginnings.{code_leaves, joint_agrees, joint_has, first_stands}
 
@@ -49,37 +54,37 @@ given_same : (l : MemoryMap) (x : List ℕ) (s : State) → length x ≤ 8 → g
 given_same l x s few = ap (λ (v : List ℕ). given l v s) (take_all 8 x few)
 
 -- the run without interrupts is that of listed writes
-complete : (P : State → Type 0) (flags : ℕ) (f : Firmware) (most : ℕ) (ns : List ℕ) (samples : List (List ℕ))
+complete : (P : State → Type 0) (flags : ℕ) (f : Firmware) (ns : List ℕ) (samples : List (List ℕ))
     (s : State) → AreFew samples
-    → AllComplete P (with_writes flags f) ns samples s → AllComplete P (with_code flags f most) ns samples s
-complete P flags f most [] [] s few h = h
-complete P flags f most (n ∷ ns) [] s few h = h
-complete P flags f most [] (x ∷ xs) s few h = h
-complete P flags f most (n ∷ ns) (x ∷ xs) s few h =
+    → AllComplete P (with_writes flags f) ns samples s → AllComplete P (with_code flags f) ns samples s
+complete P flags f [] [] s few h = h
+complete P flags f (n ∷ ns) [] s few h = h
+complete P flags f [] (x ∷ xs) s few h = h
+complete P flags f (n ∷ ns) (x ∷ xs) s few h =
     let e = given_same f.memory_map x s few.0 in
     let one = h.0 in
-    let moved : Completes P (with_code flags f most) 0 n n (given f.memory_map x s) =
+    let moved : Completes P (with_code flags f) 0 n n (given f.memory_map x s) =
     record { sum = one.sum; holds = one.holds; on = one.on; ended = one.ended } in (
-      subst (λ (u : State). Completes P (with_code flags f most) 0 n n u) (sym e) moved,
-      subst (λ (u : State). AllComplete P (with_code flags f most) ns xs (uninterrupted flags n u)) (sym e)
-          (complete P flags f most ns xs (uninterrupted flags n (given f.memory_map x s)) few.1 h.1),
+      subst (λ (u : State). Completes P (with_code flags f) 0 n n u) (sym e) moved,
+      subst (λ (u : State). AllComplete P (with_code flags f) ns xs (uninterrupted flags n u)) (sym e)
+          (complete P flags f ns xs (uninterrupted flags n (given f.memory_map x s)) few.1 h.1),
     )
 
 -- so are the rows that are expected
-expected : (flags : ℕ) (f : Firmware) (most : ℕ) (asks : ℕ → List Request) (k : ℕ) (ns : List ℕ)
+expected : (flags : ℕ) (f : Firmware) (asks : ℕ → List Request) (k : ℕ) (ns : List ℕ)
     (samples : List (List ℕ)) (s : State) → AreFew samples
-    → expected_rows (with_code flags f most) asks k ns samples s ≡ expected_rows
+    → expected_rows (with_code flags f) asks k ns samples s ≡ expected_rows
     (with_writes flags f) asks k ns samples s
-expected flags f most asks k [] samples s few = refl
-expected flags f most asks k (n ∷ ns) [] s few = refl
-expected flags f most asks k (n ∷ ns) (x ∷ xs) s few =
+expected flags f asks k [] samples s few = refl
+expected flags f asks k (n ∷ ns) [] s few = refl
+expected flags f asks k (n ∷ ns) (x ∷ xs) s few =
     let e = given_same f.memory_map x s few.0 in
-    let code = with_code flags f most in
+    let code = with_code flags f in
     ap (λ (u : State). expected_row code (asks k) n x u ∷ expected_rows code asks (suc k) ns xs
     (uninterrupted flags n u)) e
     ∙ ap (λ (rows : List (RowSeen (List ℕ))). expected_row (with_writes flags f) (asks k) n x
     (given f.memory_map x s) ∷ rows)
-    (expected flags f most asks (suc k) ns xs (uninterrupted flags n (given f.memory_map x s)) few.1)
+    (expected flags f asks (suc k) ns xs (uninterrupted flags n (given f.memory_map x s)) few.1)
 
 -- the laws of lower crates, and the law on runs
 pub record Laws : Type 0 where
@@ -90,12 +95,15 @@ pub record Laws : Type 0 where
   pub first_states_agree : FirstStatesAgree
   pub runs_follow_beside : RunsFollowBeside
   pub requests_are_good : RequestsAreGood
+  pub rows_are_shown : RowsAreShown (List ℕ) Request HandlerEnd
   pub runs_follow : (x : Handled)
-      → RunsFollow is_open_to_code (with_code x.flags x.firmware x.most)
+      → RunsFollow OnStackOnly is_open_to_code (with_code x.flags x.firmware)
       (FactsBeside is_open_to_code x.flags x.firmware) IsGoodRequest (HandlerStands x.handler x.most)
 
-pub handled_answers : Laws → HandledAnswers
-handled_answers laws b f handler most flags samples plan hf good is v limits h all =
+comes_back : Laws → (b : Block) (f : Firmware) (handler : List (ℕ × ℕ)) (most flags : ℕ) (samples : List (List ℕ))
+    (plan : List Request) → flags < 2 ^ 8 → IsGood plan → IsHandler handler most → IsValid b → IsWithinLimits b
+    → IsFirmwareOf b f → All (AreInputBytes b) samples → AnswersHandled f handler most flags samples plan
+comes_back laws b f handler most flags samples plan hf good is v limits h all =
     let leaves : LeavesMapped is_open_to_code f.memory_map =
     subst (λ (l : MemoryMap). LeavesMapped is_open_to_code l) (sym h.memory_map) code_leaves in
     let runs = laws.firmware_runs_beside is_open_to_code b f flags samples hf leaves v limits h all in
@@ -124,10 +132,9 @@ handled_answers laws b f handler most flags samples plan hf good is v limits h a
       is_handler = is;
     } in
     let asks : ℕ → List Request = λ k. requests_of k plan in
-    let P = FactsBeside is_open_to_code flags f in
+    let completes = complete (FactsBeside is_open_to_code flags f) flags f ns samples s few runs.complete in
     let code = laws.runs_follow x asks (laws.requests_are_good plan good) [] 1 f.step_bound ns samples w s runs.within
-    (complete P flags f most ns samples s few runs.complete)
-    (laws.first_states_agree is_open_to_code f flags mem w alike) stands in
+    completes (laws.first_states_agree is_open_to_code f flags mem w alike) stands in
     let listed = laws.runs_follow_beside is_open_to_code flags f opens_free runs.low asks
     (laws.requests_are_good plan good) [] 1 f.step_bound ns samples s s runs.within
     runs.complete (record { regs = refl; temps = refl; mem = agree_self (is_hidden is_open_to_code s.regs.sp) s.mem })
@@ -135,32 +142,25 @@ handled_answers laws b f handler most flags samples plan hf good is v limits h a
     let own = code.own in
     record {
       arrived = code.arrived;
-      rows_are = code.rows_are ∙ expected flags f most asks 1 ns samples s few ∙ sym listed.rows_are;
-      short = (all_onto_all (λ (t : Request × ℕ). t.1 ≤ most) (handled_rows f handler most samples plan flags).told []
-          own.short).0;
+      rows_are = code.rows_are ∙ expected flags f asks 1 ns samples s few ∙ sym listed.rows_are;
+      ns = ns;
+      complete = completes;
+      simulates = code.simulates;
+      back = (all_onto_all (CameBack most) (handled_rows f handler samples plan flags).told [] own.back).0;
     }
 
 -- the rows as they are shown
-pub handles_block : HandledAnswers → RowsAreShown (List ℕ) Request ℕ
-    → (f : Firmware) (handler : List (ℕ × ℕ)) (most flags : ℕ) (samples : List (List ℕ)) (plan : List Request)
-    (rows : List HandledSeen)
-    → flags < 2 ^ 8 → IsGood plan → IsHandler handler most → rows ≡ handled_seen f handler most samples plan flags
-    → HandlesItsBlock f handler most flags samples plan rows
-handles_block law shows f handler most flags samples plan rows hf good is same b v limits h all =
-    let run = handled_rows f handler most samples plan flags in
-    let are = shows (with_code flags f most) f.step_bound (λ k. requests_of k plan) 1 samples
+pub handled_answers : Laws → HandledAnswers
+handled_answers laws f handler most flags samples plan hf good is b v limits h all =
+    let run = handled_rows f handler samples plan flags in
+    let are = laws.rows_are_shown (with_code flags f) f.step_bound (λ k. requests_of k plan) 1 samples
     (first_handled f handler flags) in
-    let under = law b f handler most flags samples plan hf good is v limits h all in
+    let under = comes_back laws b f handler most flags samples plan hf good is v limits h all in
     record {
-      listed = ap (λ (rs : List HandledSeen). map (λ (r : HandledSeen). r.row) rs) same
-          ∙ map-shown_rows (λ (r : HandledSeen). r.row) with_steps run.rows run.told
-          ∙ are.rows
-          ∙ under.rows_are;
+      listed = map-shown_rows (λ (r : HandledSeen). r.row) with_steps run.rows run.told ∙ are.rows ∙ under.rows_are;
       run = under;
-      steps = ap (λ (rs : List HandledSeen). map (λ (r : HandledSeen). r.handler) rs) same
-          ∙ map-shown_rows (λ (r : HandledSeen). r.handler) with_steps run.rows run.told
-          ∙ sym (map-shown_rows (λ (steps : List ℕ). sum steps) (λ (row : RowSeen (List ℕ)) (steps : List ℕ). steps)
-          run.rows run.told)
-          ∙ ap (λ (steps : List (List ℕ)). map (λ (s : List ℕ). sum s) steps) are.told
-          ∙ map-map (λ (s : List ℕ). sum s) (λ (ts : List (Request × ℕ)). tellings ts) run.told;
+      steps = map-shown_rows (λ (r : HandledSeen). r.handler) with_steps run.rows run.told
+          ∙ sym (map-shown_rows steps_of (λ (row : RowSeen (List ℕ)) (ends : List HandlerEnd). ends) run.rows run.told)
+          ∙ ap (λ (ends : List (List HandlerEnd)). map steps_of ends) are.told
+          ∙ map-map steps_of (λ (ts : List (Request × HandlerEnd)). tellings ts) run.told;
     }

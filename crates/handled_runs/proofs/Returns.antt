@@ -1,11 +1,14 @@
 -- The way of a handler to its RTI, by its next step.
-use Rattle.std.proofs.Common.{◌≡◌, ◌∙◌, ℕ, zero, suc, ◌+◌, ◌-◌, ◌<◌, true, false, Ok, Err, get_or, refl, sym, ap, arith}
+use Rattle.std.proofs.Common.{◌≡◌, ◌∙◌, ℕ, zero, suc, ◌+◌, ◌-◌, ◌<◌, Bool, true, false, Ok, Err, get_or, refl}
+use Rattle.std.proofs.Common.{sym, ap, ap₂, subst, arith}
 use Rattle.std.specs.Prelude.{◌==◌}
 use Rattle.std.proofs.lemmas.Bool.Decides.{nat_tests}
 use Rattle.cpu12_isa.specs.declared.instr.Regs.{Regs}
 use Rattle.cpu12_parts.specs.State.{State}
 use Rattle.cpu12_emul.specs.Step.{Next, next_of}
 use Rattle.handler_check.specs.Running.{Returned, one_step, until_rti}
+use Rattle.handled_runs.specs.declared.back.HandlerEnd.{HandlerEnd}
+use Rattle.handled_runs.specs.Forms.{end_of}
 
 is_rti : (v : ℕ) → v ≡ 11 → (v == 11) ≡ true
 is_rti v e = grind (arith, nat_tests)
@@ -50,15 +53,20 @@ unfolding until_rti
 back_spent flags zero s z = refl
 back_spent flags (suc n) s z = absurd (omega arith)
 
--- what is left leads to a state, in so many steps with those that were done
-pub record Leads (done : ℕ) (left : Returned) (state : State) (steps : ℕ) : Type 0 where
-  pub ends : left.state ≡ state
-  pub counts : done + left.steps ≡ steps
+-- what is left of the way ends as all of it does, in as many steps with those that were done
+pub record Leads (before : ℕ) (left all : Returned) : Type 0 where
+  pub state : left.state ≡ all.state
+  pub counts : before + left.steps ≡ all.steps
+  pub done : left.done ≡ all.done
 
 -- so it does where it is known
-pub leads_by : (done : ℕ) (left known : Returned) (state : State) (steps : ℕ) → left ≡ known → left.state ≡ state
-    → done + left.steps ≡ steps → Leads done known state steps
-leads_by done left known state steps is ends counts = record {
-  ends = sym (ap (λ (r : Returned). r.state) is) ∙ ends;
-  counts = ap (λ (r : Returned). done + r.steps) (sym is) ∙ counts;
-}
+pub leads_by : (before : ℕ) (left known all : Returned) → left ≡ known → left.state ≡ all.state
+    → before + left.steps ≡ all.steps → left.done ≡ all.done → Leads before known all
+leads_by before left known all is state counts done =
+    subst (λ (r : Returned). Leads before r all) is (record { state = state; counts = counts; done = done })
+
+-- and how it ends is told
+pub told_by : (before steps : ℕ) (known all : Returned) (end : HandlerEnd)
+    → end ≡ record { steps = steps; done = known.done } → before + known.steps ≡ steps → Leads before known all → end ≡ end_of all
+told_by before steps known all end is counts leads =
+    is ∙ ap₂ (λ (n : ℕ) (d : Bool). record { steps = n; done = d }) (sym counts ∙ leads.counts) leads.done

@@ -10,16 +10,17 @@ use Rattle.std.proofs.lemmas.List.Elements.{All-cons}
 use Rattle.cpu12_isa.specs.declared.instr.Regs.{Regs}
 use Rattle.cpu12_isa.specs.declared.instr.Write.{Write}
 use Rattle.cpu12_isa.specs.Agreement.{Agree, WritesAgree}
+use Rattle.cpu12_isa.specs.Fits.{FitsRegs}
 use Rattle.cpu12_isa.specs.Memory.{word_of}
 use Rattle.cpu12_isa.specs.Regions.{is_free, is_hidden, vector, is_vector, LeavesStack}
 use Rattle.cpu12_asm.specs.Bytes.{byte_at}
 use Rattle.cpu12_parts.specs.State.{State}
 use Rattle.cpu12_parts.specs.Cuts.{suspended, wav}
-use Rattle.cpu12_emul.specs.Simulation.{AreOpen}
+use Rattle.cpu12_emul.specs.Simulation.{AreOpen, OnStackOnly}
 use Rattle.run_law.specs.Uninterrupted.{stepped}
 use Rattle.run_law.specs.Soundness.{Begins, Quiet, Sound, SumsFitBelow, WritesAreQuiet}
 use Rattle.handler_check.specs.Images.{IsWhole, IsHandler}
-use Rattle.handler_check.specs.Running.{HasImage, CanEnter, IsQuietCode, HandlersAreQuiet}
+use Rattle.handler_check.specs.Running.{HasImage, CanBegin, IsQuietCode, HandlersAreQuiet}
 use Rattle.interrupt_plan.specs.declared.Request.{Request}
 use Rattle.interrupt_plan.specs.Plans.{IsGoodRequest}
 use Rattle.codegen.specs.declared.firmware.Firmware.{Firmware}
@@ -29,8 +30,9 @@ use Rattle.fz_run.specs.Following.{IsLow, OpensFree}
 use Rattle.fz_run.specs.OpenBytes.{AreOpenAlike, StepsLeaveOpen, GivenLeavesOpen}
 use Rattle.fz_run.specs.SoundAlone.{low_ports, given_alike, answered_alike, ended_alike}
 use Rattle.handled_runs.specs.Open.{is_code, is_open_to_code}
-use Rattle.handled_runs.specs.Forms.{served, with_code}
-use Rattle.handled_runs.specs.Answering.{AreShort}
+use Rattle.handled_runs.specs.declared.back.HandlerEnd.{HandlerEnd}
+use Rattle.handled_runs.specs.Forms.{served, end_of, with_code}
+use Rattle.handled_runs.specs.Answering.{CameBack, AllCameBack}
 
 -- the laws of lower crates
 pub record CodeLaws : Type 0 where
@@ -50,10 +52,11 @@ pub record Handled : Type 0 where
   pub most : ℕ
   pub is_handler : IsHandler handler most
 
--- after interrupts the handler's bytes stand in memory, with its address in the vector, and each did few steps
-pub record HandlerStands (handler : List (ℕ × ℕ)) (most : ℕ) (done : List (Request × ℕ)) (w : State) : Type 0 where
-  pub image : HasImage handler w.mem
-  pub short : AreShort most done
+-- after interrupts the handler's bytes stand in memory, with its address in the vector, and each came back
+pub record HandlerStands (handler : List (ℕ × ℕ)) (most : ℕ) (done : List (Request × HandlerEnd)) (w : State) : Type 0
+  where
+    pub image : HasImage handler w.mem
+    pub back : AllCameBack most done
 
 -- what is open
 pub not_open : (at : ℕ)
@@ -110,12 +113,12 @@ image_stays image m n w keeps h = record {
   bytes = λ at byte e. (let r = in_code image at byte w e in keeps at r.0 (code_open at r.0 r.1) ∙ h.bytes at byte e);
 }
 
-stands : (image : List (ℕ × ℕ)) (most : ℕ) (done : List (Request × ℕ)) (w u : State) → IsWhole image
+stands : (image : List (ℕ × ℕ)) (most : ℕ) (done : List (Request × HandlerEnd)) (w u : State) → IsWhole image
     → AreOpenAlike is_open_to_code w.mem u.mem
     → HandlerStands image most done w → HandlerStands image most done u
 stands image most done w u whole alike h = record {
   image = image_stays image w.mem u.mem whole (λ at from is. alike at is) h.image;
-  short = h.short;
+  back = h.back;
 }
 
 take_few : (n : ℕ) (xs : List ℕ) → length (take n xs) ≤ n
@@ -149,42 +152,46 @@ shown_high sp at l h =
     let b : (nat_le 0x1FE0 at && nat_lt at sp) ≡ false = grind (arith, nat_tests) in
     rw (a, b)
 
-serves : (x : Handled) (done : List (Request × ℕ)) (a : Request) (v s : State) → IsGoodRequest a
+serves : (x : Handled) (done : List (Request × HandlerEnd)) (a : Request) (v s : State) → IsGoodRequest a
     → FactsBeside is_open_to_code x.flags x.firmware s → Begins is_open_to_code v s
     → HandlerStands x.handler x.most done v
-    → Quiet is_open_to_code (served x.flags x.most a v).state v s
-    × HandlerStands x.handler x.most ((a, (served x.flags x.most a v).steps) ∷ done) (served x.flags x.most a v).state
+    → Quiet OnStackOnly is_open_to_code (served x.flags a v).state v s
+    × HandlerStands x.handler x.most ((a, end_of (served x.flags a v)) ∷ done) (served x.flags a v).state
 serves x done a v s good p begins own =
     let facts = p.facts in
     let shown = facts.shown in
     let room = shown.room in
     let near = sp_near s.regs.sp p.stack in
-    let can : CanEnter s = record { size = room.size; fits = room.fits; low = near.0; high = near.1 } in
     let laws = x.laws in
+    let below = laws.sums_fit_below s.regs s.temps room.fits room.low room.high in
+    let can : CanBegin v = record {
+      temps = begins.temps;
+      size = begins.mem.size ∙ room.size;
+      fits = subst (λ (r : Regs). FitsRegs r) (sym begins.regs) below.fits;
+      low = subst (λ (r : Regs). 0x1FF8 ≤ r.sp) (sym begins.regs) (omega (arith, below.low, near.0));
+      high = subst (λ (r : Regs). r.sp ≤ 0x2000) (sym begins.regs) (omega (arith, below.high, near.1));
+    } in
     let q : IsQuietCode x.flags x.most a.writes v s =
     laws.handlers_are_quiet is_open_to_code x.handler x.most x.flags a.writes v s x.is_handler
     (all_open a.writes good.free) own.image can begins in
     let u = q.quiet in
-    let below = laws.sums_fit_below s.regs s.temps room.fits room.low room.high in
-    let sp : v.regs.sp ≤ 0x2000 =
-    subst (λ (r : Regs). r.sp ≤ 0x2000) (sym begins.regs) (omega (arith, below.high, near.1)) in
     let whole = (let k = x.is_handler in k.whole) in (
       record {
         regs = u.regs;
         temps = u.temps;
         mem =
-            more_hidden v.regs.sp (served x.flags x.most a v).state.mem v.mem u.mem;
+            more_hidden v.regs.sp (served x.flags a v).state.mem v.mem u.mem;
       },
       record {
-        image = image_stays x.handler v.mem (served x.flags x.most a v).state.mem whole
-            (λ at from is. u.mem.bytes at (shown_high v.regs.sp at sp from)) own.image;
-        short = All-cons (λ (t : Request × ℕ). t.1 ≤ x.most)
-            (a, (served x.flags x.most a v).steps) done q.steps own.short;
+        image = image_stays x.handler v.mem (served x.flags a v).state.mem whole
+            (λ at from is. u.mem.bytes at (shown_high v.regs.sp at can.high from)) own.image;
+        back = All-cons (CameBack x.most) (a, end_of (served x.flags a v)) done
+            (record { done = q.back; few = q.steps }) own.back;
       },
     )
 
 pub sound : (x : Handled) → WritesAgree → WritesAreQuiet
-    → Sound is_open_to_code (with_code x.flags x.firmware x.most)
+    → Sound OnStackOnly is_open_to_code (with_code x.flags x.firmware)
     (FactsBeside is_open_to_code x.flags x.firmware) IsGoodRequest (HandlerStands x.handler x.most)
 sound x agree quiet =
     let whole = (let k = x.is_handler in k.whole) in

@@ -1,32 +1,54 @@
 // The way of a handler to its RTI.
-ghost use Rattle.std.specs.Prelude.{◌≡◌};
-ghost use Rattle.handler_check.specs.Running.{until_rti};
+ghost use Rattle.std.specs.Prelude.{◌≡◌, ◌≤◌, ◌-◌};
+ghost use Rattle.handler_check.specs.Running.{until_rti, step_limit};
+ghost use Rattle.handled_runs.specs.Forms.{end_of};
 
 use cpu12_emul::machine::Machine;
 use cpu12_isa::mem::Mem;
+use handler_check::STEP_LIMIT;
 
 /// The byte of RTI.
 const RTI: u8 = 0x0B;
 
-/// Does steps up to the first of an RTI, at most so many and as long as one is defined. Answers how many.
-pub(crate) fn until_rti<M: Mem>(m: &mut Machine<M>, most: u16) -> u16
-    ensures state { m.new.state ≡ (until_rti m.old.flags most m.old.state).state }
-    ensures steps { result ≡ (until_rti m.old.flags most m.old.state).steps }
+/// How the steps of a handler ended.
+#[derive(Clone, Copy, Debug, PartialEq, Eq)]
+pub struct HandlerEnd {
+    /// How many there were.
+    pub steps: u16,
+    /// Whether the last was an RTI: else no step is defined where they ended, or they came to the limit.
+    pub done: bool,
+}
+
+/// The end where so many steps of the limit are left.
+fn ended(left: u16, done: bool) -> HandlerEnd
+    requires { left ≤ step_limit }
+    ensures { result ≡ record { steps = step_limit - left; done = done } }
+{
+    HandlerEnd {
+        steps: STEP_LIMIT - left,
+        done,
+    }
+}
+
+/// Does steps up to the first of an RTI, at most [`STEP_LIMIT`] and as long as one is defined.
+pub(crate) fn until_rti<M: Mem>(m: &mut Machine<M>) -> HandlerEnd
+    ensures state { m.new.state ≡ (until_rti m.old.flags step_limit m.old.state).state }
+    ensures end { result ≡ end_of (until_rti m.old.flags step_limit m.old.state) }
     ensures noted { m.new.noted ≡ m.old.noted }
     ensures flags { m.new.flags ≡ m.old.flags }
 {
-    let mut left = most;
+    let mut left = STEP_LIMIT;
     while left > 0 {
         let returns = m.peek(m.regs().pc) == RTI;
         match m.step() {
             Ok(_) => {
                 left -= 1;
                 if returns {
-                    return most - left;
+                    return ended(left, true);
                 }
             }
-            Err(_) => return most - left,
+            Err(_) => return ended(left, false),
         }
     }
-    most - left
+    ended(left, false)
 }

@@ -1,10 +1,11 @@
 // A firmware whose interrupts run code, as a form of runs.
-ghost use Rattle.std.specs.Prelude.{ℕ, ◌≡◌, ◌≤◌, ◌<◌, List, Some, length, slice_get, sum};
+ghost use Rattle.std.specs.Prelude.{ℕ, ◌≡◌, ◌≤◌, ◌<◌, List, Some, length, slice_get};
 ghost use Rattle.run_forms.specs.Rest.{counted_at, shown_by};
 ghost use Rattle.run_forms.specs.Rooms.{Fits};
-ghost use Rattle.handled_runs.specs.Forms.{HandledSeen, code_harness};
+ghost use Rattle.handled_runs.specs.Forms.{HandledSeen, code_harness, steps_of};
+ghost use Rattle.handled_runs.specs.declared.back.HandlerEnd as end;
 
-use crate::back::until_rti;
+use crate::back::{HandlerEnd, until_rti};
 use crate::rows::HandledRow;
 use codegen::Firmware;
 use cpu12_emul::machine::Machine;
@@ -24,27 +25,25 @@ pub(crate) struct WithCode<'a> {
     pub(crate) firmware: &'a Firmware,
     /// The trace.
     pub(crate) samples: &'a [Sample],
-    /// How many steps a handler does at most.
-    pub(crate) most: u16,
     ghost outputs: { firmware.now.outputs ≤ 4 },
 }
 
 /// How many steps were told of in all.
-fn steps_in(told: &[u16]) -> u32
+fn steps_in(told: &[HandlerEnd]) -> u32
     requires { length told.now ≤ 10000 }
-    ensures { result ≡ sum told.now }
+    ensures { result ≡ steps_of told.now }
 {
-    told.iter().map(|steps| u32::from(*steps)).sum()
+    told.iter().map(|end| u32::from(end.steps)).sum()
 }
 
-impl<'a> SampleForm<Request, Room<u16>, HandledRow> for WithCode<'a> {
+impl<'a> SampleForm<Request, Room<HandlerEnd>, HandledRow> for WithCode<'a> {
     ghost Given = { List ℕ };
 
-    ghost Told = { ℕ };
+    ghost Told = { end.HandlerEnd };
 
     ghost Shown = { HandledSeen };
 
-    ghost harness = { λ x. code_harness x.firmware.now x.most x.samples.now };
+    ghost harness = { λ x. code_harness x.firmware.now x.samples.now };
 
     ghost fits = { Fits };
 
@@ -68,15 +67,15 @@ impl<'a> SampleForm<Request, Room<u16>, HandledRow> for WithCode<'a> {
         m: &mut Machine<M>,
         request: &Request,
         moment: u32,
-        notes: &mut Room<u16>,
+        notes: &mut Room<HandlerEnd>,
     ) {
         let frame = m.enter(request.writes.as_slice());
-        let steps = until_rti(m, self.most);
-        notes.put(moment, frame, steps);
+        let end = until_rti(m);
+        notes.put(moment, frame, end);
     }
 }
 
-impl<'a> RunForm<Request, Room<u16>, HandledRow> for WithCode<'a> {
+impl<'a> RunForm<Request, Room<HandlerEnd>, HandledRow> for WithCode<'a> {
     fn count(&self) -> usize {
         self.samples.len()
     }
@@ -91,19 +90,19 @@ impl<'a> RunForm<Request, Room<u16>, HandledRow> for WithCode<'a> {
 
     fn leave<M: Mem>(&self, _m: &mut Machine<M>, _k: usize) {}
 
-    fn room(&self, alloc: Global, count: usize) -> Result<Room<u16>, Memory> {
+    fn room(&self, alloc: Global, count: usize) -> Result<Room<HandlerEnd>, Memory> {
         room_for(alloc, count)
     }
 
-    fn row<M: Mem>(&self, m: &Machine<M>, k: usize, tally: Tally<Room<u16>>) -> HandledRow
-        requires sample { k < length (code_harness self.now.firmware.now self.now.most self.now.samples.now).samples }
+    fn row<M: Mem>(&self, m: &Machine<M>, k: usize, tally: Tally<Room<HandlerEnd>>) -> HandledRow
+        requires sample { k < length (code_harness self.now.firmware.now self.now.samples.now).samples }
         requires few { (n : ℕ) × Fits tally.notes n }
         ensures { (x : List ℕ)
-            → slice_get (code_harness self.now.firmware.now self.now.most self.now.samples.now).samples k ≡ Some x
-            → (code_harness self.now.firmware.now self.now.most self.now.samples.now).seen result
-            ≡ shown_by (code_harness self.now.firmware.now self.now.most self.now.samples.now).shows
-            (code_harness self.now.firmware.now self.now.most self.now.samples.now).parts.answers
-            (counted_at (code_harness self.now.firmware.now self.now.most self.now.samples.now).notes tally
+            → slice_get (code_harness self.now.firmware.now self.now.samples.now).samples k ≡ Some x
+            → (code_harness self.now.firmware.now self.now.samples.now).seen result
+            ≡ shown_by (code_harness self.now.firmware.now self.now.samples.now).shows
+            (code_harness self.now.firmware.now self.now.samples.now).parts.answers
+            (counted_at (code_harness self.now.firmware.now self.now.samples.now).notes tally
             m.now.state) x }
     {
         let handler = steps_in(tally.notes.told.as_slice());

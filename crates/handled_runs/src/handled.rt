@@ -1,8 +1,10 @@
 // A firmware whose interrupts run an accepted handler is a sound form.
 ghost use Rattle.std.specs.Prelude.{ℕ, List};
+ghost use Rattle.cpu12_emul.specs.Simulation.{OnStackOnly};
 ghost use Rattle.interrupt_plan.specs.Plans.{IsGoodRequest};
 ghost use Rattle.interrupt_plan.specs.declared.Request as plan;
 ghost use Rattle.instruction_steps.specs.Facts.{FactsBeside};
+ghost use Rattle.handled_runs.specs.declared.back.HandlerEnd as end;
 ghost use Rattle.handled_runs.specs.Open.{is_open_to_code};
 ghost use Rattle.handled_runs.specs.Forms.{with_code};
 ghost use Rattle.handled_runs.specs.SoundHandled.{Handled, HandlerStands, sound};
@@ -19,9 +21,11 @@ impl SoundForm for HandledForm {
 
     ghost Request = { plan.Request };
 
-    ghost Told = { ℕ };
+    ghost Told = { end.HandlerEnd };
 
-    ghost form = { λ x. with_code x.flags x.firmware x.most };
+    ghost form = { λ x. with_code x.flags x.firmware };
+
+    ghost marks = { OnStackOnly };
 
     ghost open_to = { λ _. is_open_to_code };
 

@@ -1,18 +1,24 @@
 //! Laws of runs whose interrupts run code.
 ghost use Rattle.handled_runs.specs.Answering.{HandledAnswers};
 
+use crate::back::HandlerEnd;
+use crate::form::WithCode;
 use crate::handled::HandledForm;
+use crate::rows::HandledRow;
 use cpu12_emul::laws::holds_image;
 use fz_run::laws::{
     firmware_runs_beside, first_states_agree, first_states_alike, given_leaves_open,
     requests_are_good, runs_follow_beside, steps_leave_open,
 };
 use handler_check::laws::handlers_are_quiet;
+use interrupt_plan::Request;
+use run_forms::Room;
+use run_forms::laws::rows_are_shown;
 use run_law::laws::{runs_follow, sums_fit_below};
 
 /// Under every good plan a block's firmware whose interrupts run an accepted handler gives the rows of
-/// the run in which they do the listed writes alone, and each interrupt does at most as many steps as
-/// the handler has instructions on a path.
+/// the run in which they do the listed writes alone, and each interrupt comes to its handler's RTI after
+/// at most as many steps as the handler has instructions on a path.
 pub fn handled_answers()
     ensures { HandledAnswers }
 {
@@ -27,4 +33,5 @@ pub fn handled_answers()
     runs_follow_beside();
     requests_are_good();
     runs_follow::<HandledForm>();
+    rows_are_shown::<Request, Room<HandlerEnd>, HandledRow, WithCode>();
 }

@@ -16,11 +16,8 @@ use cpu12_isa::pages::PageMem;
 use fz_list::Memory;
 use fz_run::Row;
 use fz_run::laws::plans_are_in_order;
-use handler_check::Handler;
-use handler_check::laws::handlers_are_short;
-use interrupt_plan::{Plan, Request};
-use run_forms::laws::rows_are_shown;
-use run_forms::{Room, Start, run_form};
+use interrupt_plan::Plan;
+use run_forms::{Start, run_form};
 use std::alloc::Global;
 use trace_io::Sample;
 
@@ -36,26 +33,19 @@ fn joint_rows(
     alloc: Global,
     firmware: &Firmware,
     image: &Image,
-    handler: &Handler,
     samples: &[Sample],
     plan: &Plan,
     flags: u8,
 ) -> Result<Vec<HandledRow>, Memory>
     requires outputs { firmware.now.outputs ≤ 4 }
     requires plan { IsGood plan.now }
-    requires handler { IsHandler image.now.bytes handler.now.instrs }
     ensures { IfOk result (λ rows. map row_seen rows.items
-        ≡ handled_seen firmware.now image.now.bytes handler.now.instrs (map input_bytes samples.now) plan.now flags) }
+        ≡ handled_seen firmware.now image.now.bytes (map input_bytes samples.now) plan.now flags) }
 {
     plans_are_in_order();
-    handlers_are_short();
     images_load_alike();
     let joint = joint_image(alloc, &firmware.image, image)?;
-    let form = WithCode {
-        firmware,
-        samples,
-        most: handler.instrs as u16,
-    };
+    let form = WithCode { firmware, samples };
     let start = Start {
         image: &joint,
         wait: firmware.memory_map.wait,
@@ -71,29 +61,28 @@ fn joint_rows(
     Ok(rows)
 }
 
-/// Runs a firmware over a trace under a plan, where each interrupt runs the code of a handler that was accepted, and
-/// answers a row for each sample. Bits of `flags` give the flags that the CPU12 Reference Manual leaves undefined.
-/// Where the firmware is a block's, the rows are those of `fz_run::run`, and no interrupt does more steps than the
-/// handler has instructions on a path. Want of memory is the one error.
+/// Runs a firmware over a trace under a plan, where each interrupt runs the code of a handler's image, up to its RTI or
+/// to the one limit of all handlers, and answers a row for each sample. Bits of `flags` give the flags that the CPU12
+/// Reference Manual leaves undefined. Where the image is an accepted handler and the firmware a block's, the rows are
+/// those of `fz_run::run`, and each interrupt comes to its RTI, after at most as many steps as the handler has
+/// instructions on a path. Want of memory is the one error.
 pub fn run_handler(
     alloc: Global,
     firmware: &Firmware,
     image: &Image,
-    handler: &Handler,
     samples: &[Sample],
     plan: &Plan,
     flags: u8,
 ) -> Result<Vec<HandledRow>, Memory>
     requires outputs { firmware.now.outputs ≤ 4 }
     requires plan { IsGood plan.now }
-    requires handler { IsHandler image.now.bytes handler.now.instrs }
     ensures rows { IfOk result (λ rows. map row_seen rows.items
-        ≡ handled_seen firmware.now image.now.bytes handler.now.instrs (map input_bytes samples.now) plan.now flags) }
-    ensures answers { IfOk result (λ rows. HandlesItsBlock firmware.now image.now.bytes handler.now.instrs flags
+        ≡ handled_seen firmware.now image.now.bytes (map input_bytes samples.now) plan.now flags) }
+    ensures answers { (instrs : ℕ) → IsHandler image.now.bytes instrs
+        → IfOk result (λ rows. HandlesItsBlock firmware.now image.now.bytes instrs flags
         (map input_bytes samples.now) plan.now (map row_seen rows.items)) }
 {
     handled_answers();
-    rows_are_shown::<Request, Room<u16>, HandledRow, WithCode>();
-    let rows = joint_rows(alloc, firmware, image, handler, samples, plan, flags)?;
+    let rows = joint_rows(alloc, firmware, image, samples, plan, flags)?;
     Ok(rows)
 }

@@ -18,12 +18,14 @@ use Rattle.cpu12_emul.specs.Step.{Next}
 use Rattle.cpu12_emul.specs.Take.{pairs_of, pushed, written, returned, framed}
 use Rattle.cpu12_isa.specs.Regions.{is_free, LeavesStack}
 use Rattle.cpu12_emul.specs.Simulation.{AreOpen, Same}
-use Rattle.handler_check.specs.Running.{Returned, until_rti, at_code, CanBegin, HasHandler, AcceptedIsTake}
+use Rattle.handler_check.specs.Running.{Returned, until_rti, step_limit, at_code, CanBegin, HasHandler}
+use Rattle.handler_check.specs.Running.{AcceptedIsTake}
 use Rattle.handler_check.specs.Cut.{code_bytes, HasCode}
 use Rattle.handler_check.proofs.Grounds.{Grounds}
 use Rattle.handler_check.proofs.Bytes.{under, AllFine, free_is, stays, code_stays, open_fine, write_append, open_append}
 use Rattle.handler_check.proofs.Back.{back_in, rti_steps, pulled_alike}
 use Rattle.handler_check.proofs.Running.{Stage, arrives}
+use Rattle.handler_check.proofs.Shortness.{accepted_is_short}
 
 pub leaves : LeavesStack is_free
 leaves at h = let r = free_is at h in inl r.1
@@ -108,12 +110,13 @@ accepted_is_take k is instrs flags acc ws v good has can =
     (omega arith) (omega arith) (length (code_bytes is)) 0 16384 0 (at_code ws v) (at_code ws v).mem (omega arith)
     (refl, refl) (omega arith) stage in
     let few = a.few in
+    let short : instrs ≤ 4096 = accepted_is_short is instrs acc in
     let all : List Write = ws ++ a.writes in
     let free : AreOpen is_free (ws ++ a.writes) = open_append ws a.writes good a.free in
     let next : Next = record { state = returned a.last; kind = Plain } in
-    let went : until_rti flags instrs (at_code ws v)
+    let went : until_rti flags step_limit (at_code ws v)
     ≡ record { state = returned a.last; steps = suc a.steps; done = true } =
-    back_in flags a.steps instrs (at_code ws v) a.last next (omega arith) a.goes a.stands.0
+    back_in flags a.steps step_limit (at_code ws v) a.last next (omega arith) a.goes a.stands.0
     (rti_steps k flags a.last (subst IsOff (sym a.temps) can.temps) a.stands) in
     let mem : Agree (under (plus v.regs.sp 65527)) a.last.mem (written (ws ++ a.writes) (pushed v)).mem =
     subst (λ (l : List ℕ). Agree (under (plus v.regs.sp 65527)) a.last.mem l)

@@ -3,6 +3,7 @@ use Rattle.std.proofs.Common.{ℕ, zero, suc, ◌+◌, ◌≤◌, List, arith}
 use Rattle.cpu12_isa.specs.declared.instr.Instr.{Instr}
 use Rattle.cpu12_isa.specs.declared.instr.Instr.TheVariants.{Rti}
 use Rattle.handler_check.specs.Paths.{Path}
+use Rattle.handler_check.specs.Accepted.{IsAccepted}
 use Rattle.handler_check.specs.Running.{HandlersAreShort}
 use Rattle.handler_check.proofs.Acts.{leads_on}
 use Rattle.handler_check.proofs.Decoding.{size_low}
@@ -17,14 +18,16 @@ path_far is (suc n) at h p =
     let further = leads_on p.2 p.0 at size.0 p.3.2 in
     omega arith
 
-pub handlers_are_short : HandlersAreShort
-handlers_are_short image instrs k =
-    let acc = k.accepted in
+pub accepted_is_short : (is : List Instr) (instrs : ℕ) → IsAccepted is instrs → instrs ≤ 4096
+accepted_is_short is instrs acc =
     let longest = acc.longest in
     let n : ℕ = longest.0 in
     let at : ℕ = longest.1 in
-    let far = path_far k.code n at longest.2 longest.3.0 in
-    let r = within 16384 k.code at Rti longest.3.1 in
+    let far = path_far is n at longest.2 longest.3.0 in
+    let r = within 16384 is at Rti longest.3.1 in
     let size = size_low Rti in
     let count = longest.3.2 in
     omega (arith, r.1, acc.ends)
+
+pub handlers_are_short : HandlersAreShort
+handlers_are_short image instrs k = accepted_is_short k.code instrs k.accepted

@@ -7,12 +7,13 @@ use Rattle.cpu12_isa.specs.Fits.{FitsRegs}
 use Rattle.cpu12_isa.specs.Regions.{is_free, stack_start, stack_end, vector_word}
 use Rattle.cpu12_asm.specs.Bytes.{byte_at}
 use Rattle.cpu12_parts.specs.State.{State}
+use Rattle.cpu12_parts.specs.Cuts.{suspended, wav}
 use Rattle.cpu12_parts.specs.Laws.{IsOff}
 use Rattle.cpu12_emul.specs.Step.{Next, next_of}
 use Rattle.cpu12_emul.specs.Take.{pushed, written, vectored, framed, entered, taken}
-use Rattle.cpu12_emul.specs.Simulation.{AreOpen, Same}
+use Rattle.cpu12_emul.specs.Simulation.{AreOpen, OnStackOnly, Same}
 use Rattle.run_law.specs.Soundness.{Begins, Quiet}
-use Rattle.handler_check.specs.Cut.{code_start, code_limit, HasCode}
+use Rattle.handler_check.specs.Cut.{code_start, HasCode}
 use Rattle.handler_check.specs.Accepted.{IsAccepted}
 use Rattle.handler_check.specs.Images.{IsHandler}
 
@@ -35,15 +36,19 @@ unfoldable pub until_rti : ℕ → ℕ → State → Returned
 until_rti flags zero s = record { state = s; steps = 0; done = false }
 until_rti flags (suc n) s = then_back (slice_index s.mem s.regs.pc == 0x0B) (until_rti flags n) s (next_of flags s)
 
+-- The steps that any code is given to its RTI, whatever the code is: as many as there are bytes from $4000 to $4FFF.
+abbrev pub step_limit : ℕ
+step_limit = 0x1000
+
 -- the first instruction of code that is entered where no sums run: the nine bytes, I, the request's writes, and PC from
 -- the vector
 abbrev pub at_code : List Write → State → State
 at_code ws v = vectored (written ws (pushed v))
 
 -- An interrupt whose handler is code: sums that run go on the stack, the nine bytes are pushed, I is set, the request's
--- writes are done, and from the vector on steps are done up to an RTI, at most so many.
-abbrev pub code_taken : ℕ → ℕ → List Write → State → Returned
-code_taken flags most ws s = until_rti flags most (entered ws s)
+-- writes are done, and from the vector on steps are done up to an RTI, or up to the limit.
+abbrev pub code_taken : ℕ → List Write → State → Returned
+code_taken flags ws s = until_rti flags step_limit (entered ws s)
 
 -- a memory with code, and its address in the interrupt's vector
 pub record HasHandler (is : List Instr) (mem : List ℕ) : Type 0 where
@@ -63,57 +68,52 @@ pub record CanBegin (v : State) : Type 0 where
   pub low : stack_start + 24 ≤ v.regs.sp
   pub high : v.regs.sp ≤ stack_end
 
--- From v, code does at most so many steps up to its RTI, and leaves what some writes to free bytes leave: the same
--- registers and sums, and the same bytes but below SP on the stack.
+-- From v, code does its RTI, after at most so many steps with it, and leaves what some writes to free bytes leave: the
+-- same registers and sums, and the same bytes but below SP on the stack.
 pub record IsTake (flags most : ℕ) (ws : List Write) (v : State) : Type 0 where
   pub writes : List Write
   pub free : AreOpen is_free writes
-  pub back : (until_rti flags most (at_code ws v)).done ≡ true
-  pub steps : (until_rti flags most (at_code ws v)).steps ≤ most
-  pub same : Same (λ at. false) (until_rti flags most (at_code ws v)).state (framed writes v)
+  pub back : (until_rti flags step_limit (at_code ws v)).done ≡ true
+  pub steps : (until_rti flags step_limit (at_code ws v)).steps ≤ most
+  pub same : Same (λ at. false) (until_rti flags step_limit (at_code ws v)).state (framed writes v)
 
 abbrev pub AcceptedIsTake : Type 0
 AcceptedIsTake = (is : List Instr) (instrs flags : ℕ) → IsAccepted is instrs → (ws : List Write) (v : State)
     → AreOpen is_free ws → HasHandler is v.mem → CanBegin v → IsTake flags instrs ws v
 
--- a state in which an interrupt may enter code: SP at $1FFE or above on the stack
-pub record CanEnter (s : State) : Type 0 where
-  pub size : length s.mem ≡ 65536
-  pub fits : FitsRegs s.regs
-  pub low : 0x1FFE ≤ s.regs.sp
-  pub high : s.regs.sp ≤ stack_end
-
--- An interrupt in s whose handler is code: at most so many steps lead to its RTI, and it is an interrupt that does some
--- writes to free bytes: the same registers and sums, and the same bytes but below SP on the stack.
+-- An interrupt in s whose handler is code: its RTI is done after at most so many steps with it, and it is an interrupt
+-- that does some writes to free bytes: the same registers and sums, and the same bytes but below SP on the stack.
 pub record IsCodeTake (flags most : ℕ) (ws : List Write) (s : State) : Type 0 where
   pub writes : List Write
   pub free : AreOpen is_free writes
-  pub back : (code_taken flags most ws s).done ≡ true
-  pub steps : (code_taken flags most ws s).steps ≤ most
-  pub same : Same (λ at. false) (code_taken flags most ws s).state (taken writes s)
+  pub back : (code_taken flags ws s).done ≡ true
+  pub steps : (code_taken flags ws s).steps ≤ most
+  pub same : Same (λ at. false) (code_taken flags ws s).state (taken writes s)
 
--- Wherever SP leaves room and an image's bytes stand, with $4000 in the interrupt's vector, interrupts run as such.
+-- Wherever SP leaves room behind sums that run, and an image's bytes stand with $4000 in the interrupt's vector,
+-- interrupts run as such, the second at a boundary inside WAV as the first.
 abbrev pub RunsAsTakes : List (ℕ × ℕ) → ℕ → Type 0
 RunsAsTakes image most = (flags : ℕ) (ws : List Write) (s : State) → AreOpen is_free ws → HasImage image s.mem
-    → CanEnter s → IsCodeTake flags most ws s
+    → CanBegin (suspended wav s) → IsCodeTake flags most ws s
 
 -- The interrupts of an accepted handler are interrupts that do some writes to free bytes.
 abbrev pub HandlersRunAsTakes : Type 0
 HandlersRunAsTakes = (image : List (ℕ × ℕ)) (instrs : ℕ) → IsHandler image instrs → RunsAsTakes image instrs
 
--- from v, where the run without interrupts is in s, code leaves what a handler may leave, after at most so many steps
+-- from v, where the run without interrupts is in s, code does its RTI after at most so many steps with it, and leaves
+-- what a handler may leave that runs no WAV
 pub record IsQuietCode (flags most : ℕ) (ws : List Write) (v s : State) : Type 0 where
-  pub quiet : Quiet is_free (until_rti flags most (at_code ws v)).state v s
-  pub back : (until_rti flags most (at_code ws v)).done ≡ true
-  pub steps : (until_rti flags most (at_code ws v)).steps ≤ most
+  pub quiet : Quiet OnStackOnly is_free (until_rti flags step_limit (at_code ws v)).state v s
+  pub back : (until_rti flags step_limit (at_code ws v)).done ≡ true
+  pub steps : (until_rti flags step_limit (at_code ws v)).steps ≤ most
 
 -- An accepted handler is quiet where its bytes stand, whatever is open beside the run without interrupts.
 abbrev pub HandlersAreQuiet : Type 0
 HandlersAreQuiet =
     (open_to : ℕ → Bool) (image : List (ℕ × ℕ)) (instrs flags : ℕ) (ws : List Write) (v s : State)
-    → IsHandler image instrs → AreOpen is_free ws → HasImage image v.mem → CanEnter s → Begins open_to v s
+    → IsHandler image instrs → AreOpen is_free ws → HasImage image v.mem → CanBegin v → Begins open_to v s
     → IsQuietCode flags instrs ws v s
 
--- No path of a handler has more instructions than there are bytes from $4000 to $4FFF.
+-- No path of a handler has more instructions than the limit.
 abbrev pub HandlersAreShort : Type 0
-HandlersAreShort = (image : List (ℕ × ℕ)) (instrs : ℕ) → IsHandler image instrs → code_start + instrs ≤ code_limit
+HandlersAreShort = (image : List (ℕ × ℕ)) (instrs : ℕ) → IsHandler image instrs → instrs ≤ step_limit

@@ -76,10 +76,10 @@ fn check_in<M: Mem>(
 }
 
 /// Checks a handler: the bytes of an image, which stand from `$4000` to `$4FFF`. The answer is the greatest number of
-/// instructions on a path from `$4000` to an RTI, or the first fault. From every state whose SP is `$1FFE` to
-/// `$2000`, with the image's bytes in memory and `$4000` in the interrupt's vector, an interrupt that runs these
-/// instructions does at most so many steps, and leaves what an interrupt with some list of writes to free bytes
-/// leaves.
+/// instructions on a path from `$4000` to an RTI, or the first fault. From every state whose SP leaves 24 bytes of the
+/// stack, behind WAV's sums where they run, with the image's bytes in memory and `$4000` in the interrupt's vector, an
+/// interrupt that runs these instructions comes to its RTI after at most so many steps, and leaves what an interrupt
+/// with some list of writes to free bytes leaves.
 pub fn check_handler(alloc: Global, image: &Image) -> Result<Handler, HandlerFault>
     ensures accepted { IfOk result (λ h. IsHandler image.now.bytes h.instrs) }
     ensures fault { IfErr result (λ f. f ≢ HandlerFault.Memory → IsFault image.now.bytes f) }

@@ -54,3 +54,6 @@ pub const CODE_START: u16 = 0x4000;
 
 /// The address behind the last that a handler may have.
 pub const CODE_LIMIT: u16 = 0x5000;
+
+/// How many steps are done at most up to an RTI: no path of an accepted handler has more instructions.
+pub const STEP_LIMIT: u16 = CODE_LIMIT - CODE_START;

@@ -4,9 +4,8 @@ ghost use Rattle.handler_check.specs.Running.{AcceptedIsTake, HandlersRunAsTakes
 
 use cpu12_emul::laws::{holds_image, plain_is_step, takes_quietly};
 use cpu12_isa::decode::decodes_encoded;
-use cpu12_isa::laws::{stack_is_hidden, writes_agree};
+use cpu12_isa::laws::writes_agree;
 use cpu12_parts::laws::wav_suspends;
-use run_law::laws::sums_fit_below;
 
 /// Accepted code, entered where no sums run, leaves what some writes to free bytes leave.
 pub fn accepted_is_take()
@@ -24,8 +23,6 @@ pub fn handlers_run_as_takes()
 {
     accepted_is_take();
     wav_suspends();
-    stack_is_hidden();
-    sums_fit_below();
 }
 
 /// An accepted handler is quiet beside the run without interrupts, whatever is open there.
@@ -34,10 +31,9 @@ pub fn handlers_are_quiet()
 {
     accepted_is_take();
     takes_quietly();
-    sums_fit_below();
 }
 
-/// A path of a handler has at most 4096 instructions.
+/// A path of a handler has at most 4096 instructions, the limit of the steps that are done up to an RTI.
 pub fn handlers_are_short()
     ensures { HandlersAreShort }
 {}

@@ -15,4 +15,4 @@ pub mod laws;
 mod path_summaries;
 
 pub use check::check_handler;
-pub use faults::{Handler, HandlerFault};
+pub use faults::{Handler, HandlerFault, STEP_LIMIT};

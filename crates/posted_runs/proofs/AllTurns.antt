@@ -3,6 +3,7 @@ use Rattle.std.proofs.Common.{◌≡◌, ◌≢◌, ℕ, zero, suc, ◌+◌, ◌
 use Rattle.std.proofs.Common.{true, false, nat_le, refl, sym, ap, ◌∙◌, subst, arith, inl, inr}
 use Rattle.std.proofs.lemmas.Bool.Decides.{nat_tests}
 use Rattle.cpu12_parts.specs.State.{State}
+use Rattle.run_law.specs.Forms.{Ran}
 use Rattle.run_law.specs.Soundness.{AllGood}
 use Rattle.run_law.specs.Uninterrupted.{uninterrupted}
 use Rattle.interrupt_plan.specs.declared.Post.{Post}
@@ -10,8 +11,8 @@ use Rattle.interrupt_plan.specs.Posts.{IsGoodPost}
 use Rattle.codegen.specs.declared.firmware.Firmware.{Firmware}
 use Rattle.eval_code.specs.Widths.{width_of, places}
 use Rattle.posted_runs.specs.Turns.{Turn, AreTurns, over, idle, answers, up_to, behind, waiting, taken_from}
-use Rattle.posted_runs.specs.Runs.{RunSeen, before_turns, turns_from}
-use Rattle.posted_runs.specs.Answering.{ended, answer_of, frames_in, resumed_in, run_of_turns}
+use Rattle.posted_runs.specs.Runs.{RunSeen, before_turns, turn_from, turns_from}
+use Rattle.posted_runs.specs.Answering.{ended, answer_of, frames_in, resumed_in, run_of_turns, SimulateTurns}
 use Rattle.posted_runs.specs.UninterruptedTurns.{AllTurnRuns}
 use Rattle.posted_runs.specs.Postings.{IsBox, AreOfSize}
 use Rattle.posted_runs.specs.WholeRuns.{RunsAreTurns}
@@ -45,7 +46,20 @@ module _ (laws : TurnLaws) (flags : ℕ) (f : Firmware) (samples : List (List �
   Here = Begins laws flags f samples n box size last
 
   abbrev Goal : ℕ → ℕ → ℕ → List Post → List Turn → State → State → Type 0
-  Goal m g w posts turns s v = turns_from flags f samples last m g w posts v ≡ run_of_turns flags f samples turns s
+  Goal m g w posts turns s v =
+      (turns_from flags f samples last m g w posts v ≡ run_of_turns flags f samples turns s)
+      × SimulateTurns flags f samples last turns posts v s
+
+  -- those behind a turn, from where it ends
+  behind_turn : (turns : List Turn) (r : Ran Post (Unit {0})) (posts : List Post) (v s : State) → r.left ≡ posts
+      → r.state ≡ v → SimulateTurns flags f samples last turns posts v s
+      → SimulateTurns flags f samples last turns r.left r.state s
+  behind_turn turns r posts v s left state h =
+      subst (λ (qs : List Post). SimulateTurns flags f samples last turns qs r.state s) (sym left)
+      (subst (λ (x : State). SimulateTurns flags f samples last turns posts x s) (sym state) h)
+
+  abbrev under : ℕ → List Post → State → Ran Post (Unit {0})
+  under = turn_from flags f samples last
 
   abbrev then : Turn → State → RunSeen → RunSeen
   then t s x = before_turns (answer_of flags f samples t s) (frames_in flags f samples t s)
@@ -101,8 +115,14 @@ module _ (laws : TurnLaws) (flags : ℕ) (f : Firmware) (samples : List (List �
       ] in
       let ih = rest (g + all) w2 (done ++ k ∷ []) (behind (g + all - 1) q2) later
       (ended flags f samples (answer_of_turn g k all (g + all) posts) s) nx.state are runs.1 nx.begins fuel
-      (λ x. (let c = later_near x in omega (arith, c, within, bound_is))) in
-      nx.goes ∙ ap (λ (x : RunSeen). then (answer_of_turn g k all (g + all) posts) s x) ih
+      (λ x. (let c = later_near x in omega (arith, c, within, bound_is))) in (
+        nx.goes ∙ ap (λ (x : RunSeen). then (answer_of_turn g k all (g + all) posts) s x) ih.0,
+        (
+          nx.simulates,
+          behind_turn later (under g posts v) (behind (g + all - 1) q2) nx.state
+              (ended flags f samples (answer_of_turn g k all (g + all) posts) s) nx.left nx.ends ih.1,
+        ),
+      )
 
   all_follow : (steps : List ℕ → ℕ) (m g w : ℕ) (done : List ℕ) (posts : List Post) (turns : List Turn) (s v : State)
       → AreTurns n steps g w done posts turns → AllTurnRuns f flags samples turns s
@@ -111,8 +131,10 @@ module _ (laws : TurnLaws) (flags : ℕ) (f : Firmware) (samples : List (List �
   all_follow steps (suc m) g w done posts turns s v (over g1 w1 d1 p1 t1 none left is) runs h few near =
       let r = subst (λ (ts : List Turn). AllTurnRuns f flags samples ts s) is runs in
       let one = r.0 in
-      over_turn laws flags f samples n box size last m g w posts s v h one.at one.cleared none left
-      ∙ ap (λ (ts : List Turn). run_of_turns flags f samples ts s) (sym is)
+      subst (λ (ts : List Turn). Goal (suc m) g w posts ts s v) (sym is) (
+        over_turn laws flags f samples n box size last m g w posts s v h one.at one.cleared none left,
+        (λ some. absurd (some refl), tt),
+      )
   all_follow steps (suc m) g w done posts turns s v (idle g1 w1 d1 p1 t1 later none some rest is) runs h few near =
       let r = subst (λ (ts : List Turn). AllTurnRuns f flags samples ts s) is runs in
       let one = r.0 in
@@ -127,9 +149,15 @@ module _ (laws : TurnLaws) (flags : ℕ) (f : Firmware) (samples : List (List �
             let ih = all_follow steps m (g + 2) w2 done (behind (g + 1) posts) later
             (uninterrupted flags 2 s) nx.state rest r.1 nx.begins (omega (arith, soon, few, small))
             (λ x. omega (arith, soon, some_bound)) in
-            nx.goes ∙ ap (λ (x : RunSeen). then
-            (record { begin = g; sample = 0; steps = 2; taken = taken_from g (up_to (g + 1) posts) }) s x) ih
-            ∙ ap (λ (ts : List Turn). run_of_turns flags f samples ts s) (sym is)
+            subst (λ (ts : List Turn). Goal (suc m) g w posts ts s v) (sym is) (
+              nx.goes ∙ ap (λ (x : RunSeen). then
+                  (record { begin = g; sample = 0; steps = 2; taken = taken_from g (up_to (g + 1) posts) }) s x) ih.0,
+              (
+                nx.simulates,
+                behind_turn later (under g posts v) (behind (g + 1) posts) nx.state (uninterrupted flags 2 s) nx.left
+                    nx.ends ih.1,
+              ),
+            )
       ]
   all_follow steps (suc m) g w done posts turns s v (answers g1 w1 d1 p1 t1 later k end waits k_is end_is rest is) runs
       h few near =
@@ -142,7 +170,7 @@ module _ (laws : TurnLaws) (flags : ℕ) (f : Firmware) (samples : List (List �
       v2 are2 runs2 h2 few2 near2))) in
       let whole : Case k end =
       subst (λ (x : ℕ). end ≡ g + steps (done ++ x ∷ []) → Case x end) (sym k_is) (λ e. at_end end e) end_is in
-      whole rest r ∙ ap (λ (ts : List Turn). run_of_turns flags f samples ts s) (sym is)
+      subst (λ (ts : List Turn). Goal (suc m) g w posts ts s v) (sym is) (whole rest r)
     where
       Case : ℕ → ℕ → Type 0
       Case x j = AreTurns n steps j (waiting 0 (up_to (j - 1) (behind (g + 2) posts))) (done ++ x ∷ [])

@@ -1,6 +1,6 @@
 -- A turn that answers, under posts.
 use Rattle.std.proofs.Common.{◌≡◌, ℕ, zero, suc, ◌+◌, ◌-◌, ◌*◌, ◌<◌, ◌≤◌, max, nat_le, nat_lt, Bool, true, false, not}
-use Rattle.std.proofs.Common.{◌&&◌, None, List, [], ◌∷◌, ◌++◌, length, map, get_or, refl, sym, ap, ◌∙◌, subst, arith}
+use Rattle.std.proofs.Common.{◌&&◌, None, List, [], ◌∷◌, ◌++◌, drop, length, map, get_or, refl, sym, ap, ◌∙◌, subst, arith}
 use Rattle.std.proofs.Common.{inl, inr}
 use Rattle.std.proofs.lemmas.Bool.{or_parts, cases_lt}
 use Rattle.cpu12_isa.specs.declared.instr.Instr.TheVariants.{Orcc}
@@ -11,11 +11,11 @@ use Rattle.cpu12_isa.proofs.Algebra.{agree_self, agree_with}
 use Rattle.cpu12_parts.specs.State.{State}
 use Rattle.cpu12_emul.specs.Image.{image_memory}
 use Rattle.cpu12_emul.specs.Take.{FrameSeen}
-use Rattle.cpu12_emul.specs.Simulation.{Same}
+use Rattle.cpu12_emul.specs.Simulation.{OnStackOnly, Same}
 use Rattle.run_law.specs.Forms.{Ran, takes, run_from}
 use Rattle.run_law.specs.Following.{asked, onto, Completes}
 use Rattle.run_law.specs.Moments.{TakenAtFirstOpen}
-use Rattle.run_law.specs.Soundness.{AllGood, Ascend}
+use Rattle.run_law.specs.Soundness.{AllSimulate, AllGood, Ascend}
 use Rattle.run_law.specs.Uninterrupted.{uninterrupted, counted, is_inside, stepped, taken_at, resumed_of, frames_after}
 use Rattle.run_law.proofs.Algebra.{uninterrupted_add, counted_add}
 use Rattle.interrupt_plan.specs.declared.Post.{Post}
@@ -27,7 +27,7 @@ use Rattle.eval_code.specs.Widths.{width_of, places}
 use Rattle.instruction_steps.specs.Facts.{FactsBeside}
 use Rattle.posted_runs.specs.Turns.{up_to, behind, waiting}
 use Rattle.posted_runs.specs.Runs.{TurnForm, turn_form}
-use Rattle.posted_runs.specs.PostedTurns.{TurnEnds, plain_frame, PostedTurnsFollow}
+use Rattle.posted_runs.specs.PostedTurns.{End, TurnEnds, plain_frame, PostedTurnsFollow}
 use Rattle.posted_runs.specs.Shifts.{frames_from, ran_from}
 use Rattle.posted_runs.specs.Postings.{mailed, posted, IsBox, AreOfSize}
 use Rattle.posted_runs.specs.Behind.{part_form, posted_by, not_mail, HoldsMail}
@@ -166,17 +166,22 @@ module _ (laws : TurnLaws) (flags : ℕ) (f : Firmware) (samples : List (List �
   abbrev pub at_in : ℕ → State → Post → ℕ
   at_in all u = taken_at flags (λ p. p.moment - g) all u
 
+  -- where a turn of so many steps ends, with its states behind the copy
+  abbrev pub end_at : ℕ → State → List State → End
+  end_at all z ws = record { state = z; steps = all - (f.inputs + 5); states = ws }
+
   -- behind the copy, from boundary n + 5 of the turn on
   behind_ends : (k all : ℕ) (u v : State) (qs : List Post) → all ≤ k + (n + 5) → IsHere u → IsAnswerRun f flags all u
       → IsAt image f.memory_map.wait (uninterrupted flags all u)
       → AllGood (IsGoodPost (length samples)) qs → Rise (g + 3) qs → Same is_free v (uninterrupted flags (n + 5) u)
-      → (z : State) × (TurnEnds (run_from form k (g + (n + 5)) false qs v) (all - (n + 5))
+      → (z : State) × (ws : List State) × TurnEnds (run_from form k (g + (n + 5)) false qs v) (all - (n + 5))
       (counted flags (all - (n + 5)) (uninterrupted flags (n + 5) u))
       (resumed_of flags (at_in all u) u qs all)
       (frames_from g (frames_after flags (at_in all u) u None (up_to (g + all - 1) qs))) (up_to (g + all - 1) qs)
-      (behind (g + all - 1) qs) z
-      × (Same is_free z (posted f.memory_map samples (waiting 0 (up_to (g + all - 1) qs)) (uninterrupted flags all u))
-      × Same is_postable z (uninterrupted flags all u)))
+      (behind (g + all - 1) qs) (end_at all z ws)
+      × Same is_free z (posted f.memory_map samples (waiting 0 (up_to (g + all - 1) qs)) (uninterrupted flags all u))
+      × Same is_postable z (uninterrupted flags all u)
+      × AllSimulate OnStackOnly is_postable flags ws (uninterrupted flags (f.inputs + 5) u)
   behind_ends k all u v qs fuel here run end good rise l =
       let c = copy_run laws.posting.steps flags f n all inputs u here run in
       let later = c.behind in
@@ -225,22 +230,27 @@ module _ (laws : TurnLaws) (flags : ℕ) (f : Firmware) (samples : List (List �
       subst (λ (y : State). Agree not_mail y.mem x.mem) at_end
       (mail_stays laws.posting.stepping flags f left x facts) in (
         ran.state,
-        (
-          subst (λ (y : Ran Post (Unit {0})). TurnEnds y left (counted flags left x) (resumed_of flags at u qs all)
-              (frames_from g (frames_after flags at u None (up_to (g + all - 1) qs))) (up_to (g + all - 1) qs)
-              (behind (g + all - 1) qs) ran.state) (sym is) (record {
-                arrived = r.arrived;
-                steps = r.steps;
-                instrs_are = r.instrs;
-                resumed_is = r.resumed;
-                frames_are = ap (frames_from g)
-                    (r.frames ∙ ap (λ (ps : List Post). frames_after flags at u None ps) sorted.taken);
-                told_is = told;
-                left_is = r.left ∙ sorted.left;
-                state = refl;
-              }),
-          (joined ran.state (uninterrupted flags all u) w x.mem le r.last mail stays, r.last),
-        ),
+        ran.states,
+        subst (λ (y : Ran Post (Unit {0})). TurnEnds y left (counted flags left x) (resumed_of flags at u qs all)
+            (frames_from g (frames_after flags at u None (up_to (g + all - 1) qs))) (up_to (g + all - 1) qs)
+            (behind (g + all - 1) qs) (end_at all ran.state ran.states)) (sym is) (record {
+              arrived = r.arrived;
+              steps = r.steps;
+              instrs_are = r.instrs;
+              resumed_is = r.resumed;
+              frames_are = ap (frames_from g)
+                  (r.frames ∙ ap (λ (ps : List Post). frames_after flags at u None ps) sorted.taken);
+              told_is = told;
+              left_is = r.left ∙ sorted.left;
+              state = refl;
+              late = omega (arith, inputs);
+              states_are = ap (λ (y : ℕ). drop y ran.states)
+                  (let y : left - (all - (f.inputs + 5)) ≡ 0 = omega (arith, inputs) in y);
+            }),
+        joined ran.state (uninterrupted flags all u) w x.mem le r.last mail stays,
+        r.last,
+        subst (λ (y : ℕ). AllSimulate OnStackOnly is_postable flags ran.states (uninterrupted flags (y + 5) u))
+        (sym inputs) r.simulates,
       )
 
   -- the whole turn
@@ -250,7 +260,8 @@ module _ (laws : TurnLaws) (flags : ℕ) (f : Firmware) (samples : List (List �
       → AllGood (IsGoodPost (length samples)) qs → Rise (g + 1) qs → up_to g qs ≡ [] → Same is_free v (with_sample w s)
       → wf ≡ waiting (waiting w (up_to (g + 1) qs)) (up_to (g + 2) (behind (g + 1) qs))
       → (run : IsAnswerRun f flags all (with_sample wf s))
-      → (z : State) × (TurnEnds (run_from form k g false qs v) all (counted flags all (with_sample wf s))
+      → (z : State) × (ws : List State) × TurnEnds (run_from form k g false qs v) all
+      (counted flags all (with_sample wf s))
       (resumed_of flags (at_in all (with_sample wf s)) (with_sample wf s) (behind (g + 2) (behind (g + 1) qs)) all)
       (map (λ p. (g + 1, plain_frame (let t : State = run.looked in t.regs))) (up_to (g + 1) qs)
       ++ (map (λ p. (g + 2, plain_frame (let t : State = run.chosen in t.regs))) (up_to (g + 2) (behind (g + 1) qs))
@@ -258,11 +269,12 @@ module _ (laws : TurnLaws) (flags : ℕ) (f : Firmware) (samples : List (List �
       (up_to (g + all - 1) (behind (g + 2) (behind (g + 1) qs))))))
       (up_to (g + 1) qs ++
       (up_to (g + 2) (behind (g + 1) qs) ++ up_to (g + all - 1) (behind (g + 2) (behind (g + 1) qs))))
-      (behind (g + all - 1) (behind (g + 2) (behind (g + 1) qs))) z
-      × (Same is_free z (posted f.memory_map samples (waiting 0
+      (behind (g + all - 1) (behind (g + 2) (behind (g + 1) qs))) (end_at all z ws)
+      × Same is_free z (posted f.memory_map samples (waiting 0
       (up_to (g + all - 1) (behind (g + 2) (behind (g + 1) qs))))
       (uninterrupted flags all (with_sample wf s)))
-      × Same is_postable z (uninterrupted flags all (with_sample wf s))))
+      × Same is_postable z (uninterrupted flags all (with_sample wf s))
+      × AllSimulate OnStackOnly is_postable flags ws (uninterrupted flags (f.inputs + 5) (with_sample wf s))
   answer_run k all w wf s v qs fuel here some le somef lef end good rise none l wf_is run =
       let u = with_sample wf s in
       let taking = laws.posting.taking in
@@ -331,6 +343,7 @@ module _ (laws : TurnLaws) (flags : ℕ) (f : Firmware) (samples : List (List �
       subst (λ (x : ℕ). Rise x qs2) e
       (rise_behind (suc (g + 1)) (g + 2) qs1 (rise_behind (g + 1) (g + 1) qs rise))) in
       let rest = behind_ends j all u many.next qs2 (omega arith) here_u run end good2 rise2 same5 in
+      let z = end_at all rest.0 rest.1 in
       let e5 : g + (n + 5) ≡ suc (g + 2) + length copy.ds = omega arith in
       let left = all - (n + 5) in
       let inst = counted flags left (uninterrupted flags (n + 5) u) in
@@ -338,31 +351,31 @@ module _ (laws : TurnLaws) (flags : ℕ) (f : Firmware) (samples : List (List �
       let fs = frames_from g (frames_after flags (at_in all u) u None (up_to (g + all - 1) qs2)) in
       let ts = up_to (g + all - 1) qs2 in
       let lf = behind (g + all - 1) qs2 in
-      let r5 = subst (λ (x : ℕ). TurnEnds (run_from form j x false qs2 many.next) left inst res fs ts lf rest.0) e5
-      rest.1.0 in
-      let r3 = many.on j left inst res ts lf fs rest.0 r5 in
+      let r5 = subst (λ (x : ℕ). TurnEnds (run_from form j x false qs2 many.next) left inst res fs ts lf z) e5
+      rest.2 in
+      let r3 = many.on j left inst res ts lf fs z r5 in
       let e2 : suc (suc g) ≡ g + 2 = omega arith in
       let r2 = pass form (length copy.ds + j) (g + 2) (length copy.ds + left) (length copy.ds + inst) res qs1 ts lf fs
-      p.next o.next rest.0
+      p.next o.next z
       (not_over flags f samples g (g + 2) p.next
       (λ z. away (sym (ap (λ (x : Regs). x.pc) (let q = p.stands in q.regs)) ∙ z))) o.goes
       (subst (λ (xs : List Post). TurnEnds (run_from form (length copy.ds + j) (suc (g + 2)) false xs o.next)
-      (length copy.ds + left) (length copy.ds + inst) res fs ts lf rest.0) (sym b.left) r3) in
+      (length copy.ds + left) (length copy.ds + inst) res fs ts lf z) (sym b.left) r3) in
       let r2b = subst (λ (xs : List (ℕ × FrameSeen)). TurnEnds
       (run_from form (suc (length copy.ds + j)) (g + 2) false qs1 p.next) (suc (length copy.ds + left))
-      (suc (length copy.ds + inst)) res (xs ++ fs) (asked (takes form (g + 2) qs1 p.next).told ++ ts) lf rest.0)
+      (suc (length copy.ds + inst)) res (xs ++ fs) (asked (takes form (g + 2) qs1 p.next).told ++ ts) lf z)
       b.frames r2 in
       let r2c = subst (λ (xs : List Post). TurnEnds (run_from form (suc (length copy.ds + j)) (g + 2) false qs1 p.next)
       (suc (length copy.ds + left)) (suc (length copy.ds + inst)) res
       (map (λ q. (g + 2, plain_frame (let t : State = run.chosen in t.regs))) (up_to (g + 2) qs1) ++ fs)
-      (xs ++ ts) lf rest.0) b.told r2b in
+      (xs ++ ts) lf z) b.told r2b in
       let r1 = p.on (suc (length copy.ds + j)) (suc (length copy.ds + left)) (suc (length copy.ds + inst)) res
       (up_to (g + 2) qs1 ++ ts) lf
-      (map (λ q. (g + 2, plain_frame (let t : State = run.chosen in t.regs))) (up_to (g + 2) qs1) ++ fs) rest.0
+      (map (λ q. (g + 2, plain_frame (let t : State = run.chosen in t.regs))) (up_to (g + 2) qs1) ++ fs) z
       (subst (λ (x : ℕ). TurnEnds (run_from form (suc (length copy.ds + j)) x false qs1 p.next)
       (suc (length copy.ds + left)) (suc (length copy.ds + inst)) res
       (map (λ q. (g + 2, plain_frame (let t : State = run.chosen in t.regs))) (up_to (g + 2) qs1) ++ fs)
-      (up_to (g + 2) qs1 ++ ts) lf rest.0) (sym e2) r2c) in
+      (up_to (g + 2) qs1 ++ ts) lf z) (sym e2) r2c) in
       let ek : suc (suc (suc (length copy.ds + j))) ≡ k = omega arith in
       let en : suc (suc (suc (length copy.ds + left))) ≡ all = omega arith in
       let sum : n + 5 + left ≡ all = omega arith in
@@ -370,17 +383,18 @@ module _ (laws : TurnLaws) (flags : ℕ) (f : Firmware) (samples : List (List �
       let c5 = c.counts in
       let ei : suc (suc (suc (length copy.ds + inst))) ≡ counted flags all u = omega arith in (
         rest.0,
-        (
-          whole k all (suc (suc (suc (length copy.ds + j)))) (suc (suc (suc (length copy.ds + left))))
-              (suc (suc (suc (length copy.ds + inst)))) (counted flags all u) res _ _ lf rest.0 qs v ek en ei r1,
-          rest.1.1,
-        ),
+        rest.1,
+        whole k all (suc (suc (suc (length copy.ds + j)))) (suc (suc (suc (length copy.ds + left))))
+            (suc (suc (suc (length copy.ds + inst)))) (counted flags all u) res _ _ lf z qs v ek en ei r1,
+        rest.3,
+        rest.4,
+        rest.5,
       )
     where
       away : run.chosen.regs.pc ≡ f.memory_map.wait → ⊥
       away e = (let on = run.on in let p = on.pc in omega arith)
 
-      whole : (k all k2 all2 i2 i res : ℕ) (fs : List (ℕ × FrameSeen)) (ts lf : List Post) (z : State) (qs : List Post)
+      whole : (k all k2 all2 i2 i res : ℕ) (fs : List (ℕ × FrameSeen)) (ts lf : List Post) (z : End) (qs : List Post)
           (v : State) → k2 ≡ k → all2 ≡ all → i2 ≡ i
           → TurnEnds (run_from form k2 g false qs v) all2 i2 res fs ts lf z
           → TurnEnds (run_from form k g false qs v) all i res fs ts lf z
@@ -394,4 +408,11 @@ posted_turns_follow laws flags f samples n g most all w last s v qs box size out
     last_is end good rise none l run =
     let r = answer_run laws flags f samples n g box size outputs inputs most all w last s v qs fuel
     (here_at (image_memory f.image.bytes) f.memory_map.wait s at) some le somef lef end good rise none l last_is run in
-    record { last = r.0; ends = r.1.0; mailed = r.1.1.0; same = r.1.1.1 }
+    record {
+      last = r.0;
+      late = r.1;
+      ends = r.2;
+      simulates = r.5;
+      mailed = r.3;
+      same = r.4;
+    }

@@ -19,7 +19,7 @@ use Rattle.cpu12_parts.specs.Cuts.{suspended, wav}
 use Rattle.cpu12_parts.specs.Laws.{IsOff, addresses}
 use Rattle.cpu12_emul.specs.Step.{Left, Next, step_act, applied, next_of}
 use Rattle.cpu12_emul.specs.Take.{framed}
-use Rattle.cpu12_emul.specs.Simulation.{Simulates, AreSumsReady, HasRoom, IsShownStep}
+use Rattle.cpu12_emul.specs.Simulation.{OnStackOnly, OnStackOrNone, Simulates, AreSumsReady, HasRoom, IsShownStep}
 use Rattle.run_law.specs.Uninterrupted.{stepped, state_by}
 use Rattle.run_law.specs.Soundness.{below_sums, Begins, Sound, WritesAreQuiet}
 use Rattle.interrupt_plan.specs.declared.Post.{Post}
@@ -88,7 +88,7 @@ sp_near : (sp : ℕ) → IsStackOfOneCall sp → (0x1FFE ≤ sp) × (sp ≤ 0x20
 sp_near sp (inl e) = (omega arith, omega arith)
 sp_near sp (inr e) = (omega arith, omega arith)
 
-sp_of : (w s : State) → IsStackOfOneCall s.regs.sp → Simulates is_postable w s
+sp_of : (w s : State) → IsStackOfOneCall s.regs.sp → Simulates OnStackOrNone is_postable w s
     → (0x1FF8 ≤ w.regs.sp) × (w.regs.sp ≤ 0x2000)
 sp_of w s k (inl l) =
     let near = sp_near s.regs.sp k in
@@ -120,7 +120,8 @@ pushes_keep laws w lo hi = cases w.temps refl
         (λ at2 h. placed_high (sum_bytes p q) (plus w.regs.sp 65530) at2 at (omega arith) h))
 
 -- a step writes what it writes without interrupts
-step_left : Stepping → (flags : ℕ) (w s : State) → (k : IsShownStep is_postable flags s) → Simulates is_postable w s
+step_left : Stepping → (flags : ℕ) (w s : State) → (k : IsShownStep is_postable flags s)
+    → Simulates OnStackOrNone is_postable w s
     → outcome (step_act flags w.regs w.temps) w.mem ≡ Ok k.left
 step_left laws flags w s k (inl l) =
     let both = laws.step_agrees flags s.regs s.temps w.mem s.mem k.left (is_hidden is_postable s.regs.sp)
@@ -154,7 +155,8 @@ mail_unless sp at h = cases (is_mail at) refl
         (clash (is_postable at) (mail_open at e) (or_parts (is_postable at) (nat_le 0x1FE0 at && nat_lt at sp) h).0)
     cases false e = e
 
-pub steps_keep : Stepping → (flags : ℕ) (w s : State) → Facts is_postable flags s → Simulates is_postable w s
+pub steps_keep : Stepping → (flags : ℕ) (w s : State) → Facts is_postable flags s
+    → Simulates OnStackOrNone is_postable w s
     → Agree not_mail (stepped flags w).mem w.mem
 steps_keep laws flags w s facts l =
     let k = facts.shown in
@@ -230,8 +232,8 @@ module _ (laws : Stepping) (flags : ℕ) (f : Firmware) (samples : List (List �
       by false h k = k
 
   pub sound_behind : WritesAgree → WritesAreQuiet
-      → Sound is_postable (part_form flags f samples g) (FactsBeside is_postable flags f) (IsGoodPost (length samples))
-      (HoldsMail f.memory_map samples copied)
+      → Sound OnStackOnly is_postable (part_form flags f samples g) (FactsBeside is_postable flags f)
+      (IsGoodPost (length samples)) (HoldsMail f.memory_map samples copied)
   sound_behind agree quiet = record {
     apart = leaves_stack;
     shown = λ s p. (let facts = p.facts in facts.shown);
@@ -243,7 +245,7 @@ module _ (laws : Stepping) (flags : ℕ) (f : Firmware) (samples : List (List �
     quiet = λ done a v s good p may begins own.
         (let facts = p.facts in
         let shown = facts.shown in (
-          quiet is_postable (post_writes f.memory_map samples a) v s leaves_stack
+          quiet OnStackOnly is_postable (post_writes f.memory_map samples a) v s leaves_stack
               (open_post laws.writing f.memory_map n samples box size a good.sample_to good.free) shown.room begins,
           one_more done a v s good shown.room begins own,
         ));

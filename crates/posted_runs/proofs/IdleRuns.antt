@@ -15,7 +15,7 @@ use Rattle.posted_runs.specs.Runs.{TurnForm, turn_form}
 use Rattle.posted_runs.specs.Postings.{mailed, posted}
 use Rattle.posted_runs.specs.PostedTurns.{TurnEnds, plain_frame, IdleTurnsFollow}
 use Rattle.posted_runs.specs.UsedLaws.{PlainStepLaws, TakingLaws}
-use Rattle.posted_runs.proofs.Passing.{ends_there, pass_end}
+use Rattle.posted_runs.proofs.Passing.{ends_there, at_once, pass_end}
 use Rattle.posted_runs.proofs.TwoSteps.{here_at, two_steps}
 
 pub idle_turns_follow : PlainStepLaws → TakingLaws → IdleTurnsFollow
@@ -37,7 +37,8 @@ idle_turns_follow steps taking flags f samples n g most s v qs box size fuel at 
     let e = pass_end form (most - 2) (suc (suc g)) (behind (g + 1) qs) p.next
     (ends_there g (suc (suc g)) p.next.regs.pc f.memory_map.wait (omega arith) pc) in
     let fs = map (λ q. (g + 1, plain_frame (let t : State = run.looked in t.regs))) (up_to (g + 1) qs) in
-    let all = p.on (most - 2) 0 0 0 [] (behind (g + 1) qs) [] p.next e in
+    let ended = at_once p.next in
+    let all = p.on (most - 2) 0 0 0 [] (behind (g + 1) qs) [] ended e in
     let k : suc (suc (most - 2)) ≡ most = omega arith in
     let there : chosen.mem ≡ s.mem = choice.mem ∙ look.mem in
     let mailed_there : Same is_free p.next (posted f.memory_map samples w chosen) =
@@ -51,11 +52,11 @@ idle_turns_follow steps taking flags f samples n g most s v qs box size fuel at 
     record {
       last = p.next;
       ends = subst (λ (x : ℕ). TurnEnds (run_from form x g false qs v) 2 2 0 fs (up_to (g + 1) qs)
-          (behind (g + 1) qs) p.next) k
+          (behind (g + 1) qs) ended) k
           (subst (λ (xs : List (ℕ × FrameSeen)). TurnEnds (run_from form (suc (suc (most - 2))) g false qs v) 2 2 0 xs
-          (up_to (g + 1) qs) (behind (g + 1) qs) p.next) (append-nil fs)
+          (up_to (g + 1) qs) (behind (g + 1) qs) ended) (append-nil fs)
           (subst (λ (xs : List Post). TurnEnds (run_from form (suc (suc (most - 2))) g false qs v) 2 2 0 (fs ++ []) xs
-          (behind (g + 1) qs) p.next) (append-nil (up_to (g + 1) qs)) all));
+          (behind (g + 1) qs) ended) (append-nil (up_to (g + 1) qs)) all));
       mailed = subst (λ (x : State). Same is_free p.next (posted f.memory_map samples w x)) (sym run.second)
           mailed_there;
     }

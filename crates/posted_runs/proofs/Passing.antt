@@ -1,6 +1,7 @@
 -- A boundary of a turn, and its next step.
-use Rattle.std.proofs.Common.{◌≡◌, ◌≢◌, ℕ, zero, suc, ◌+◌, ◌<◌, ◌≤◌, nat_le, nat_lt, Bool, true, false, not, ◌&&◌, Ok}
-use Rattle.std.proofs.Common.{Result, List, [], ◌∷◌, ◌++◌, length, refl, sym, ap, ◌∙◌, subst, arith, ◌⊎◌, inl, inr}
+use Rattle.std.proofs.Common.{◌≡◌, ◌≢◌, ℕ, zero, suc, ◌+◌, ◌-◌, ◌<◌, ◌≤◌, nat_le, nat_lt, Bool, true, false, not}
+use Rattle.std.proofs.Common.{◌&&◌, Ok, Result, List, [], ◌∷◌, ◌++◌, drop, length, refl, sym, ap, ◌∙◌, subst, arith}
+use Rattle.std.proofs.Common.{◌⊎◌, inl, inr}
 use Rattle.std.specs.Prelude.{◌==◌}
 use Rattle.std.proofs.lemmas.Bool.{or_parts}
 use Rattle.std.proofs.lemmas.Bool.Decides.{nat_tests}
@@ -31,7 +32,7 @@ use Rattle.codegen.specs.Interruptible.{IsSteady, IsShownPlain}
 use Rattle.codegen.specs.Mailboxes.{is_mail, is_postable}
 use Rattle.codegen.specs.Turns.{IsMaskedStep}
 use Rattle.posted_runs.specs.Runs.{TurnForm, turn_form}
-use Rattle.posted_runs.specs.PostedTurns.{TurnEnds}
+use Rattle.posted_runs.specs.PostedTurns.{End, TurnEnds}
 use Rattle.posted_runs.specs.Postings.{IsBox, AreOfSize}
 use Rattle.posted_runs.specs.UsedLaws.{PlainStepLaws, TakingLaws}
 use Rattle.posted_runs.proofs.Posting.{took_none}
@@ -129,8 +130,8 @@ plain_follows laws masked image flags i s t v h k l =
 -- ---- the rest of a run
 
 -- one plain step more
-pub pass : (form : TurnForm) (k m n c res : ℕ) (qs ts l : List Post) (fs : List (ℕ × FrameSeen)) (v t z : State)
-    → form.ends m v ≡ false
+pub pass : (form : TurnForm) (k m n c res : ℕ) (qs ts l : List Post) (fs : List (ℕ × FrameSeen)) (v t : State)
+    (z : End) → form.ends m v ≡ false
     → next_of form.flags (takes form m qs v).state ≡ plainly t
     → TurnEnds (run_from form k (suc m) false (takes form m qs v).left t) n c res fs ts l z
     → TurnEnds (run_from form (suc k) m false qs v) (suc n) (suc c) res ((takes form m qs v).frames ++ fs)
@@ -151,11 +152,17 @@ pass form k m n c res qs ts l fs v t z on next r =
           ∙ ap (λ (x : List Post). asked b.told ++ x) r.told_is;
       left_is = r.left_is;
       state = r.state;
+      late = (let e = r.late in omega arith);
+      states_are = ap (λ (x : ℕ). drop x (b.state ∷ rest.states))
+          (let e = r.late in let x : suc n - z.steps ≡ suc (n - z.steps) = omega arith in x) ∙ r.states_are;
     })
 
 -- the end
+abbrev pub at_once : State → End
+at_once v = record { state = v; steps = 0; states = v ∷ [] }
+
 pub pass_end : (form : TurnForm) (k m : ℕ) (qs : List Post) (v : State) → form.ends m v ≡ true
-    → TurnEnds (run_from form k m false qs v) 0 0 0 [] [] qs v
+    → TurnEnds (run_from form k m false qs v) 0 0 0 [] [] qs (at_once v)
 unfolding run_from
 pass_end form zero m qs v e =
     record {
@@ -168,10 +175,12 @@ pass_end form zero m qs v e =
           refl;
       left_is = refl;
       state = refl;
+      late = omega arith;
+      states_are = refl;
     }
 pass_end form (suc k) m qs v e =
     let is : run_from form (suc k) m false qs v ≡ ended true qs v = rw e refl in
-    subst (λ (x : Ran Post (Unit {0})). TurnEnds x 0 0 0 [] [] qs v) (sym is)
+    subst (λ (x : Ran Post (Unit {0})). TurnEnds x 0 0 0 [] [] qs (at_once v)) (sym is)
     (record {
       arrived = refl;
       steps = refl;
@@ -182,6 +191,8 @@ pass_end form (suc k) m qs v e =
           refl;
       left_is = refl;
       state = refl;
+      late = omega arith;
+      states_are = refl;
     })
 
 -- ---- while I is 1
@@ -205,7 +216,7 @@ pub record Masked (flags : ℕ) (f : Firmware) (samples : List (List ℕ)) (g j 
     (v t : State) : Type 0 where
   pub next : State
   pub same : Same is_free next t
-  pub on : (k n c res : ℕ) (ts l : List Post) (fs : List (ℕ × FrameSeen)) (z : State)
+  pub on : (k n c res : ℕ) (ts l : List Post) (fs : List (ℕ × FrameSeen)) (z : End)
       → TurnEnds (run_from (turn_form flags f samples g) k (m + j) false qs next) n c res fs ts l z
       → TurnEnds (run_from (turn_form flags f samples g) (j + k) m false qs v) (j + n) (j + c) res fs ts l z
 

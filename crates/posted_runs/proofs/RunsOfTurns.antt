@@ -27,9 +27,9 @@ use Rattle.run_forms.specs.Arrival.{PlainIsOneStep}
 use Rattle.instruction_steps.specs.Instructions.{AreSteps, InstructionsAreSteps}
 use Rattle.posted_runs.specs.Turns.{Turn, samples_of}
 use Rattle.fz_run.specs.Rows.{bytes_of}
-use Rattle.posted_runs.specs.Runs.{arrival}
+use Rattle.posted_runs.specs.Runs.{arrival, steps_of}
 use Rattle.posted_runs.specs.Answering.{run_of_turns, answer_in}
-use Rattle.posted_runs.specs.UninterruptedTurns.{steps_of, HasSteps, HaveSteps, MailboxRunsTurns}
+use Rattle.posted_runs.specs.UninterruptedTurns.{HasSteps, HaveSteps, MailboxRunsTurns}
 use Rattle.posted_runs.proofs.WholeTurns.{IsBusy, no_step, one_step, steps_on}
 use Rattle.posted_runs.proofs.Alone.{IsAlone, alone}
 use Rattle.posted_runs.proofs.Looking.{alike_self}

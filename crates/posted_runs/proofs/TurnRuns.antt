@@ -15,9 +15,9 @@ use Rattle.eval_code.specs.Widths.{width_of, answer}
 use Rattle.instruction_steps.specs.Facts.{FactsBeside}
 use Rattle.posted_runs.specs.Turns.{Turn, samples_of}
 use Rattle.fz_run.specs.Rows.{bytes_of}
-use Rattle.posted_runs.specs.Runs.{AnswerSeen, arrival}
+use Rattle.posted_runs.specs.Runs.{AnswerSeen, arrival, answered_alone, steps_from, steps_of}
 use Rattle.posted_runs.specs.Answering.{begun, ended, answer_of, run_of_turns, answer_in, AllKeepFacts}
-use Rattle.posted_runs.specs.UninterruptedTurns.{answered_alone, steps_from, steps_of, HasSteps, HaveSteps, IsIdleRun}
+use Rattle.posted_runs.specs.UninterruptedTurns.{HasSteps, HaveSteps, IsIdleRun}
 use Rattle.posted_runs.specs.UninterruptedTurns.{IsAnswerRun, IsTurnRun, AllTurnRuns}
 use Rattle.posted_runs.proofs.Looking.{AreAlike, alike_self}
 use Rattle.posted_runs.proofs.TurnSteps.{Setting, Waits, idled, Answered, answered}

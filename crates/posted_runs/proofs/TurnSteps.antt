@@ -26,7 +26,8 @@ use Rattle.eval_code.specs.Widths.{width_of, answer}
 use Rattle.run_forms.specs.Arrival.{PlainIsOneStep}
 use Rattle.instruction_steps.specs.Instructions.{InstructionsAreSteps}
 use Rattle.fz_run.specs.Rows.{bytes_of}
-use Rattle.posted_runs.specs.UninterruptedTurns.{answered_alone, IsIdleRun, IsAnswerRun}
+use Rattle.posted_runs.specs.Runs.{answered_alone}
+use Rattle.posted_runs.specs.UninterruptedTurns.{IsIdleRun, IsAnswerRun}
 use Rattle.posted_runs.proofs.Alone.{IsAlone, alone, same_alone}
 use Rattle.posted_runs.proofs.Looking.{AreAlike, idle_alike, same_look}
 use Rattle.posted_runs.proofs.SampleRuns.{sample_run}

@@ -1,6 +1,6 @@
 -- The run under posts is that of its turns.
 use Rattle.std.proofs.Common.{◌≡◌, ◌≢◌, ℕ, zero, suc, ◌+◌, ◌-◌, ◌*◌, ◌<◌, ◌≤◌, max, nat_le, nat_lt, Bool, true, false}
-use Rattle.std.proofs.Common.{◌&&◌, None, List, [], ◌∷◌, ◌++◌, length, map, get_or, refl, sym, ap, ap₂, ◌∙◌, subst}
+use Rattle.std.proofs.Common.{◌&&◌, None, List, [], ◌∷◌, ◌++◌, drop, length, map, get_or, refl, sym, ap, ap₂, ◌∙◌, subst}
 use Rattle.std.proofs.Common.{arith, append-nil, append_assoc}
 use Rattle.std.specs.Prelude.{◌==◌, if◌then◌else◌}
 use Rattle.std.proofs.lemmas.Bool.Decides.{nat_tests}
@@ -8,26 +8,27 @@ use Rattle.cpu12_isa.specs.Regions.{is_free, is_hidden}
 use Rattle.cpu12_parts.specs.State.{State}
 use Rattle.cpu12_emul.specs.Image.{image_memory}
 use Rattle.cpu12_emul.specs.Take.{FrameSeen}
-use Rattle.cpu12_emul.specs.Simulation.{Same}
+use Rattle.cpu12_emul.specs.Simulation.{OnStackOnly, Same}
 use Rattle.cpu12_emul.specs.Step.{is_part}
 use Rattle.run_law.specs.Forms.{Ran, takes, is_empty, one_if, run_from}
 use Rattle.run_law.specs.Following.{asked}
-use Rattle.run_law.specs.Soundness.{AllGood}
+use Rattle.run_law.specs.Soundness.{AllSimulate, AllGood}
 use Rattle.run_law.specs.Uninterrupted.{uninterrupted, counted, is_inside, has_moment, resumed_of, frames_after}
 use Rattle.interrupt_plan.specs.declared.Post.{Post}
 use Rattle.interrupt_plan.specs.Posts.{IsGoodPost}
 use Rattle.codegen.specs.declared.firmware.Firmware.{Firmware}
 use Rattle.codegen.specs.Answers.{given}
+use Rattle.codegen.specs.Mailboxes.{is_postable}
 use Rattle.codegen.specs.Turns.{IsAt}
 use Rattle.codegen.specs.Uninterrupted.{values_in}
 use Rattle.eval_code.specs.Widths.{width_of, places}
 use Rattle.posted_runs.specs.Turns.{Turn, up_to, behind, waiting, taken_from}
 use Rattle.fz_run.specs.Rows.{bytes_of}
 use Rattle.posted_runs.specs.Runs.{turn_form, AnswerSeen, RunSeen, no_turn, before_turns, answers_by, waits_by}
-use Rattle.posted_runs.specs.Runs.{then_turns, is_over, turns_from}
-use Rattle.posted_runs.specs.Answering.{begun, ended, answer_of, frames_in, resumed_in, run_of_turns}
+use Rattle.posted_runs.specs.Runs.{then_turns, is_over, turn_from, turns_from}
+use Rattle.posted_runs.specs.Answering.{begun, ended, answer_of, frames_in, resumed_in, run_of_turns, SimulatesTurn}
 use Rattle.posted_runs.specs.UninterruptedTurns.{IsIdleRun, IsAnswerRun}
-use Rattle.posted_runs.specs.PostedTurns.{TurnEnds, plain_frame, part_taken}
+use Rattle.posted_runs.specs.PostedTurns.{End, TurnEnds, plain_frame, part_taken}
 use Rattle.posted_runs.specs.Shifts.{frames_from}
 use Rattle.posted_runs.specs.Postings.{mailed, posted, IsBox, AreOfSize}
 use Rattle.posted_runs.specs.UsedLaws.{TurnLaws}
@@ -53,9 +54,9 @@ built a b fs gs r q x y ea ef er ex =
 -- a turn that comes to its end, and the rest
 turned : (f : Firmware) (samples : List (List ℕ)) (g v : ℕ) (fs : List (ℕ × FrameSeen)) (r : Ran Post (Unit {0}))
     (rest : ℕ → ℕ → List Post → State → RunSeen)
-    (n i res : ℕ) (gs : List (ℕ × FrameSeen)) (ts l : List Post) (z : State) → TurnEnds r n i res gs ts l z
-    → then_turns f samples g v fs r rest ≡ before_turns (answers_by f samples g v ts (g + n) i z) (fs ++ gs) res
-    (rest (g + n) (waits_by g v ts) l z)
+    (n i res : ℕ) (gs : List (ℕ × FrameSeen)) (ts l : List Post) (z : End) → TurnEnds r n i res gs ts l z
+    → then_turns f samples g v fs r rest ≡ before_turns (answers_by f samples g v ts (g + n) i z.state) (fs ++ gs) res
+    (rest (g + n) (waits_by g v ts) l z.state)
 turned f samples g v fs r rest n i res gs ts l z h =
     let go : then_turns f samples g v fs r rest ≡ before_turns
     (answers_by f samples g v (asked r.told) (g + r.steps) r.instrs r.state) (fs ++ r.frames) r.resumed
@@ -178,10 +179,17 @@ module _ (laws : TurnLaws) (flags : ℕ) (f : Firmware) (samples : List (List �
       ∙ ap (λ (xs : List (ℕ × FrameSeen)). no_turn true xs 0)
       (sym fr ∙ sym (append-nil (frames_from g (frames_after flags (λ p. p.0 - g) s None (taken_from g posts)))))
 
+  -- the turn under posts
+  abbrev turn_under : ℕ → List Post → State → Ran Post (Unit {0})
+  turn_under = turn_from flags f samples last
+
   -- what a turn comes to
   pub record Next (m g w : ℕ) (posts : List Post) (s v : State) (t : Turn) (g2 w2 : ℕ)
       (posts2 : List Post) : Type 0 where
     pub state : State
+    pub ends : (turn_under g posts v).state ≡ state
+    pub left : (turn_under g posts v).left ≡ posts2
+    pub simulates : t.sample ≢ 0 → SimulatesTurn flags f t (begun f samples t s) (turn_under g posts v)
     pub begins : Begins g2 w2 posts2 (ended flags f samples t s) state
     pub goes : run (suc m) g w posts v ≡ before_turns (answer_of flags f samples t s) (frames_in flags f samples t s)
         (resumed_in flags f samples t s) (run m g2 w2 posts2 state)
@@ -221,7 +229,10 @@ module _ (laws : TurnLaws) (flags : ℕ) (f : Firmware) (samples : List (List �
       let e2 = ap₂ (λ (x : ℕ) (xs : List Post). then_turns f samples g x b.frames
       (run_from form (last - g) g false xs b.state) rest) told tk.left in
       let e3 = turned f samples g 0 b.frames (run_from form (last - g) g false q0 b.state) rest 2 2 0 _ a1
-      (behind (g + 1) q0) res.last res.ends in
+      (behind (g + 1) q0) _ res.ends in
+      let ran : turn_under g posts v ≡ run_from form (last - g) g false q0 b.state =
+      ap (λ (xs : List Post). run_from form (last - g) g false xs b.state) tk.left in
+      let ends = res.ends in
       let w_is : waiting 0 a1 ≡ waiting w (up_to (g + 1) posts) =
       sym (ap (waiting w) (further g (g + 1) posts (omega arith)) ∙ waiting_append w a0 a1
       ∙ ap (λ (x : ℕ). waiting x a1) none) in
@@ -250,6 +261,9 @@ module _ (laws : TurnLaws) (flags : ℕ) (f : Firmware) (samples : List (List �
       ∙ append-nil (map (λ p. (g + 1, plain_frame (let t : State = idle_run.looked in t.regs))) a1)) in
       record {
         state = res.last;
+        ends = ap (λ (x : Ran Post (Unit {0})). x.state) ran ∙ ends.state;
+        left = ap (λ (x : Ran Post (Unit {0})). x.left) ran ∙ ends.left_is ∙ left_is;
+        simulates = λ some_sample. absurd (some_sample refl);
         begins = record {
           within = waits_within (length samples) (g + 1) w posts h.within h.good;
           good = good_behind (IsGoodPost (length samples)) (g + 1) posts h.good;
@@ -338,14 +352,20 @@ module _ (laws : TurnLaws) (flags : ℕ) (f : Firmware) (samples : List (List �
         ++ (map (λ p. (g + 2, plain_frame (let t : State = run1.chosen in t.regs))) a2
         ++ frames_from g (frames_after flags (part_taken flags g all u) u None c2))
 
+    abbrev shown : Turn
+    shown = turn g k0 all
+        (taken_from g (up_to (g + 2) posts) ++ taken_from (g + 5 + n) (up_to e (behind (g + 2) posts)))
+
     answer_turn : 1 ≤ k0 → (run1 : IsAnswerRun f flags all u) → IsAt image f.memory_map.wait (uninterrupted flags all u)
-        → (z : State) × (Begins (g + all) (waiting 0 c2) (behind e q2) (uninterrupted flags all u) z
+        → (z : State) × (Begins (g + all) (waiting 0 c2) (behind e q2) (uninterrupted flags all u) z)
         × (run (suc m) g w posts v ≡ before_turns (seen_from u ∷ [])
         (map (λ p. (g, plain_frame s.regs)) a0
         ++ (map (λ p. (g + 1, plain_frame (let t : State = run1.looked in t.regs))) a1
         ++ (map (λ p. (g + 2, plain_frame (let t : State = run1.chosen in t.regs))) a2
         ++ frames_from g (frames_after flags (part_taken flags g all u) u None c2))))
-        (resumed_of flags (part_taken flags g all u) u q2 all) (run m (g + all) (waiting 0 c2) (behind e q2) z)))
+        (resumed_of flags (part_taken flags g all u) u q2 all) (run m (g + all) (waiting 0 c2) (behind e q2) z))
+        × ((turn_under g posts v).state ≡ z) × ((turn_under g posts v).left ≡ behind e q2)
+        × SimulatesTurn flags f shown u (turn_under g posts v)
     answer_turn some0 run1 end =
         let here = here_at image f.memory_map.wait s at in
         let r = here.ready in
@@ -382,7 +402,7 @@ module _ (laws : TurnLaws) (flags : ℕ) (f : Firmware) (samples : List (List �
         let ts = a1 ++ (a2 ++ c2) in
         let e3 = turned f samples g v0 b.frames (run_from form (last - g) g false q0 b.state) rest all
         (counted flags all u) (resumed_of flags (part_taken flags g all u) u q2 all) _ ts
-        (behind e q2) res.last res.ends in
+        (behind e q2) _ res.ends in
         let q2_is : behind (g + 2) q0 ≡ q2 = sym (behind_behind (g + 1) (g + 2) q0 (omega arith)) in
         let late = run1.behind in
         let ts_is : up_to e q0 ≡ ts = further (g + 1) e q0 (omega arith)
@@ -403,22 +423,35 @@ module _ (laws : TurnLaws) (flags : ℕ) (f : Firmware) (samples : List (List �
         k_is values in
         let wt : waits_by g v0 ts ≡ waiting 0 c2 = waits_behind g v0 ts (λ z. omega (arith, z, some))
         ∙ ap (waiting 0) second in
+        let ran : turn_under g posts v ≡ run_from form (last - g) g false q0 b.state =
+        ap (λ (xs : List Post). run_from form (last - g) g false xs b.state) tk.left in
+        let ends = res.ends in
+        let count : f.inputs + 5 ≡ all - (all - (f.inputs + 5)) = omega (arith, late) in
+        let behind_is : drop (f.inputs + 5) (run_from form (last - g) g false q0 b.state).states ≡ res.late =
+        ap (λ (k : ℕ). drop k (run_from form (last - g) g false q0 b.state).states) count ∙ ends.states_are in
         let le2 = waits_within (length samples) e 0 q2 (omega arith) good2 in (
           res.last,
-          (
-            record {
-              within = le2;
-              good = good_behind (IsGoodPost (length samples)) e q2 good2;
-              rise = (let d : suc e ≡ g + all = omega arith in
-                  subst (λ (x : ℕ). Rise x (behind e q2)) d
-                  (rise_behind (suc (g + 2)) e q2
-                  (rise_behind (suc (g + 1)) (g + 2) q1 (rise_behind (g + 1) (g + 1) q0 rise1))));
-              same = res.mailed;
-            },
-            e1 ∙ e2 ∙ e3 ∙ built _ _ _ _ _ _ _ _ ans
-                (ap (λ (xs : List (ℕ × FrameSeen)). xs ++ later_frames run1) tk.frames) refl
-                (ap (λ (x : ℕ). rest (g + all) x (behind e q2) res.last) wt),
-          ),
+          record {
+            within = le2;
+            good = good_behind (IsGoodPost (length samples)) e q2 good2;
+            rise = (let d : suc e ≡ g + all = omega arith in
+                subst (λ (x : ℕ). Rise x (behind e q2)) d
+                (rise_behind (suc (g + 2)) e q2
+                (rise_behind (suc (g + 1)) (g + 2) q1 (rise_behind (g + 1) (g + 1) q0 rise1))));
+            same = res.mailed;
+          },
+          e1 ∙ e2 ∙ e3 ∙ built _ _ _ _ _ _ _ _ ans
+              (ap (λ (xs : List (ℕ × FrameSeen)). xs ++ later_frames run1) tk.frames) refl
+              (ap (λ (x : ℕ). rest (g + all) x (behind e q2) res.last) wt),
+          ap (λ (x : Ran Post (Unit {0})). x.state) ran ∙ ends.state,
+          ap (λ (x : Ran Post (Unit {0})). x.left) ran ∙ ends.left_is,
+          subst (SimulatesTurn flags f shown u) (sym ran) (record {
+            arrived = ends.arrived;
+            steps = ends.steps;
+            simulates = subst (λ (xs : List State). AllSimulate OnStackOnly is_postable flags xs
+                (uninterrupted flags (f.inputs + 5) u)) (sym behind_is) res.simulates;
+            last = subst (λ (x : State). Same is_postable x (uninterrupted flags all u)) (sym ends.state) same;
+          }),
         )
       where
         ready_shown : (sp q : ℕ) → q ≡ 0x1028 → is_hidden is_free sp q ≡ false
@@ -438,10 +471,6 @@ module _ (laws : TurnLaws) (flags : ℕ) (f : Firmware) (samples : List (List �
               instrs = i;
             } ∷ []
         answered_by x ts i z e = rw e refl
-
-    abbrev shown : Turn
-    shown = turn g k0 all
-        (taken_from g (up_to (g + 2) posts) ++ taken_from (g + 5 + n) (up_to e (behind (g + 2) posts)))
 
     q2_is : q2 ≡ behind (g + 2) posts
     q2_is = behind_behind (g + 1) (g + 2) q0 (omega arith) ∙ behind_behind g (g + 2) posts (omega arith)
@@ -525,10 +554,14 @@ module _ (laws : TurnLaws) (flags : ℕ) (f : Firmware) (samples : List (List �
         (sym taken_is) in
         record {
           state = r.0;
+          ends = r.3;
+          left = r.4 ∙ ap (behind e) q2_is;
+          simulates = λ some_sample. subst (λ (x : State). SimulatesTurn flags f shown x (turn_under g posts v)) (sym bu)
+              r.5;
           begins = subst (λ (xs : List Post). Begins (g + all) (waiting 0 (up_to e xs)) (behind e xs)
               (ended flags f samples shown s) r.0) q2_is
-              (subst (λ (x : State). Begins (g + all) (waiting 0 c2) (behind e q2) x r.0) ended_u r.1.0);
-          goes = r.1.1 ∙ built _ _ _ _ _ _ _ _ ans frames resumed
+              (subst (λ (x : State). Begins (g + all) (waiting 0 c2) (behind e q2) x r.0) ended_u r.1);
+          goes = r.2 ∙ built _ _ _ _ _ _ _ _ ans frames resumed
               (ap (λ (xs : List Post). run m (g + all) (waiting 0 (up_to e xs)) (behind e xs) r.0) q2_is);
         }
       where

@@ -27,7 +27,7 @@ use Rattle.posted_runs.specs.Turns.{up_to, behind, waiting}
 use Rattle.fz_run.specs.Rows.{bytes_of}
 use Rattle.posted_runs.specs.Runs.{TurnForm, turn_form}
 use Rattle.posted_runs.specs.Postings.{mailed, posted, last_of, IsBox, AreOfSize}
-use Rattle.posted_runs.specs.PostedTurns.{TurnEnds, plain_frame}
+use Rattle.posted_runs.specs.PostedTurns.{End, TurnEnds, plain_frame}
 use Rattle.posted_runs.specs.UsedLaws.{PlainStepLaws, TakingLaws}
 use Rattle.posted_runs.proofs.LastOnes.{split}
 use Rattle.posted_runs.proofs.Mailing.{wide, is_boxed, mailed_apart, mailed_over}
@@ -237,7 +237,7 @@ module _ (steps : PlainStepLaws) (laws : TakingLaws) (flags : ℕ) (f : Firmware
   pub record Passed (t : State) (w : ℕ) (qs : List Post) (frames : List (ℕ × FrameSeen)) (v : State) : Type 0 where
     pub next : State
     pub stands : Stands t (waiting w (up_to (g + 1) qs)) next
-    pub on : (k i c res : ℕ) (ts l : List Post) (fs : List (ℕ × FrameSeen)) (z : State)
+    pub on : (k i c res : ℕ) (ts l : List Post) (fs : List (ℕ × FrameSeen)) (z : End)
         → TurnEnds (run_from form k (suc (suc g)) false (behind (g + 1) qs) next) i c res fs ts l z
         → TurnEnds (run_from form (suc (suc k)) g false qs v) (suc (suc i)) (suc (suc c)) res (frames ++ fs)
         (up_to (g + 1) qs ++ ts) l z

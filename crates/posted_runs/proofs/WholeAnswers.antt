@@ -17,10 +17,10 @@ use Rattle.codegen.specs.Mailboxes.{MailboxStepsAreFew}
 use Rattle.codegen.specs.Uninterrupted.{AreUninterrupted, AreAnswersOf}
 use Rattle.eval_code.specs.Widths.{width_of, places}
 use Rattle.fz_run.specs.Rows.{bytes_of}
-use Rattle.posted_runs.specs.Runs.{RunSeen, arrival, run_under_posts, last_boundary, most_turns}
+use Rattle.posted_runs.specs.Runs.{RunSeen, arrival, steps_of, run_under_posts, last_boundary, most_turns}
 use Rattle.posted_runs.specs.Turns.{samples_of}
 use Rattle.posted_runs.specs.Answering.{answer_in, run_of_turns, AnswersUnderAllPosts}
-use Rattle.posted_runs.specs.UninterruptedTurns.{steps_of, MailboxRunsTurns, TurnsHaveSteps}
+use Rattle.posted_runs.specs.UninterruptedTurns.{MailboxRunsTurns, TurnsHaveSteps}
 use Rattle.posted_runs.specs.TurnsExist.{PostsHaveTurns}
 use Rattle.posted_runs.specs.Postings.{IsBox, AreOfSize}
 use Rattle.posted_runs.specs.WholeRuns.{RunsAreTurns}
@@ -71,14 +71,14 @@ answers_under have count runs are few_steps f flags samples posts hf good b vali
     (count n (length samples) steps posts turns.0 good turns.1) in
     let s : State = (arrival f samples flags).state in
     let last : 1000000 + 2 * f.step_bound ≤ last_boundary f = omega (arith, room) in
-    let run_is : run_under_posts f samples posts flags ≡ run_of_turns flags f samples turns.0 s =
-    rw r.arrived (are flags f samples n steps (last_boundary f) most_turns 0 0 [] posts turns.0 s s box size
+    let both =
+    are flags f samples n steps (last_boundary f) most_turns 0 0 [] posts turns.0 s s box size
     (omega (arith, at_outputs, wide)) refl some last turns.1 r.runs (omega arith)
     (each_good (length samples) posts good.posts_are) (posts_rise posts good.ascends)
     (record { regs = refl; temps = refl; mem = agree_self (is_hidden is_free s.regs.sp) s.mem }) (omega arith)
-    (λ x. absurd (omega arith))) in
+    (λ x. absurd (omega arith)) in
+    let run_is : run_under_posts f samples posts flags ≡ run_of_turns flags f samples turns.0 s = rw r.arrived both.0 in
     record {
-      steps = steps;
       turns = turns.0;
       turns_are = turns.1;
       arrived = r.arrived;
@@ -89,4 +89,5 @@ answers_under have count runs are few_steps f flags samples posts hf good b vali
       of_block = subst (λ (x : RunSeen). AreAnswersOf (width_of f.wide) b f.instr_bound (λ o. 0)
           (map (bytes_of samples) (samples_of turns.0)) (map answer_in x.answers)) (sym run_is) r.of_block;
       facts = r.facts;
+      simulate = both.1;
     }

@@ -1,12 +1,15 @@
 -- A run of a block's mailbox firmware under posts, by its turns: what each answers and takes is read off its own steps
 -- without interrupts.
 use Rattle.std.specs.Prelude.{◌≡◌, ℕ, ◌+◌, ◌-◌, ◌^◌, ◌<◌, ◌≤◌, ◌≢◌, ◌==◌, true, if◌then◌else◌}
-use Rattle.std.specs.Prelude.{List, [], ◌∷◌, All, None, length, map}
+use Rattle.std.specs.Prelude.{List, [], ◌∷◌, All, None, drop, length, map}
 use Rattle.fuzzy_meaning.specs.declared.block.Block.{Block}
 use Rattle.fuzzy_meaning.specs.Blocks.{IsValid}
 use Rattle.rule_layout.specs.Layouts.{IsWithinLimits}
 use Rattle.cpu12_parts.specs.State.{State}
+use Rattle.cpu12_emul.specs.Simulation.{OnStackOnly, Same}
 use Rattle.cpu12_emul.specs.Take.{FrameSeen}
+use Rattle.run_law.specs.Forms.{Ran}
+use Rattle.run_law.specs.Soundness.{AllSimulate}
 use Rattle.run_law.specs.Uninterrupted.{uninterrupted, counted, resumed_of, frames_after}
 use Rattle.interrupt_plan.specs.declared.Post.{Post}
 use Rattle.interrupt_plan.specs.Posts.{AreGoodPosts}
@@ -19,7 +22,8 @@ use Rattle.eval_code.specs.Widths.{width_of}
 use Rattle.instruction_steps.specs.Facts.{FactsBeside}
 use Rattle.posted_runs.specs.Turns.{Turn, AreTurns, samples_of}
 use Rattle.fz_run.specs.Rows.{bytes_of}
-use Rattle.posted_runs.specs.Runs.{AnswerSeen, RunSeen, no_turn, before_turns, arrival, run_under_posts}
+use Rattle.posted_runs.specs.Runs.{AnswerSeen, RunSeen, no_turn, before_turns, turn_from, arrival, steps_of}
+use Rattle.posted_runs.specs.Runs.{last_boundary, run_under_posts}
 
 -- a turn that answers begins with its sample in the mailbox
 abbrev pub begun : Firmware → List (List ℕ) → Turn → State → State
@@ -71,23 +75,43 @@ AllKeepFacts flags f samples [] s = Unit {0}
 AllKeepFacts flags f samples (t ∷ ts) s =
     KeepsFacts flags f samples t s × AllKeepFacts flags f samples ts (ended flags f samples t s)
 
+-- A turn that answers runs under posts as r: it comes to its end in the turn's steps, and from boundary n + 5 on,
+-- behind the copy, each of its states simulates that of the turn's steps alone from s.
+pub record SimulatesTurn (flags : ℕ) (f : Firmware) (t : Turn) (s : State) (r : Ran Post (Unit {0})) : Type 0 where
+  pub arrived : r.arrived ≡ true
+  pub steps : r.steps ≡ t.steps
+  pub simulates :
+      AllSimulate OnStackOnly is_postable flags (drop (f.inputs + 5) r.states) (uninterrupted flags (f.inputs + 5) s)
+  pub last : Same is_postable r.state (uninterrupted flags t.steps s)
+
+-- So does each turn that answers, of the run from state v on with these posts left and up to boundary `last` at the
+-- most, beside the turns alone from s.
+abbrev pub SimulateTurns : ℕ → Firmware → List (List ℕ) → ℕ → List Turn → List Post → State → State → Type 0
+SimulateTurns flags f samples last [] posts v s = Unit {0}
+SimulateTurns flags f samples last (t ∷ ts) posts v s =
+    (let r = turn_from flags f samples last t.begin posts v in
+    (t.sample ≢ 0 → SimulatesTurn flags f t (begun f samples t s) r)
+    × SimulateTurns flags f samples last ts r.left r.state (ended flags f samples t s))
+
 abbrev pub answer_in : AnswerSeen → Answer
 answer_in a = record { values = a.values; instructions = a.instrs }
 
--- What a block's mailbox firmware gives under posts: the run is that of the turns, each from where the one before
--- ended; its answers are the uninterrupted ones over the samples that the turns answer, and the block's, within the
--- firmware's bound; and behind the copy no step of a turn reads or writes the mailbox.
+-- What a block's mailbox firmware gives under posts: the run is that of the turns, each as long as its steps without
+-- posts and from where the one before ended; its answers are the uninterrupted ones over the samples that the turns
+-- answer, and the block's, within the firmware's bound; behind the copy no step of a turn reads or writes the mailbox,
+-- and each state of the run simulates that of the turn's steps alone.
 pub record AnswersUnderPosts (b : Block) (f : Firmware) (flags : ℕ) (samples : List (List ℕ)) (posts : List Post)
     (run : RunSeen) : Type 0 where
-  pub steps : List ℕ → ℕ
   pub turns : List Turn
-  pub turns_are : AreTurns f.inputs steps 0 0 [] posts turns
+  pub turns_are : AreTurns f.inputs (steps_of flags f samples) 0 0 [] posts turns
   pub arrived : (arrival f samples flags).arrived ≡ true
   pub run_is : run ≡ run_of_turns flags f samples turns (arrival f samples flags).state
   pub uninterrupted : AreUninterrupted f flags (map (bytes_of samples) (samples_of turns)) (map answer_in run.answers)
   pub of_block : AreAnswersOf (width_of f.wide) b f.instr_bound (λ o. 0) (map (bytes_of samples) (samples_of turns))
       (map answer_in run.answers)
   pub facts : AllKeepFacts flags f samples turns (arrival f samples flags).state
+  pub simulate : SimulateTurns flags f samples (last_boundary f) turns posts (arrival f samples flags).state
+      (arrival f samples flags).state
 
 -- so does a run, where the firmware is one of a valid block in the mailbox form
 abbrev pub AnswersItsPosts : Firmware → ℕ → List (List ℕ) → List Post → RunSeen → Type 0

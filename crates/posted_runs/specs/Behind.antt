@@ -2,6 +2,7 @@
 use Rattle.std.specs.Prelude.{ℕ, ◌+◌, ◌*◌, ◌≤◌, not, Bool, List, [], ◌∷◌, length}
 use Rattle.cpu12_isa.specs.Agreement.{Agree, WritesAgree}
 use Rattle.cpu12_parts.specs.State.{State}
+use Rattle.cpu12_emul.specs.Simulation.{OnStackOnly}
 use Rattle.run_law.specs.Soundness.{Sound, WritesAreQuiet}
 use Rattle.run_law.specs.Following.{RunFollows}
 use Rattle.interrupt_plan.specs.declared.Post.{Post}
@@ -42,7 +43,8 @@ pub record Copied : Type 0 where
   pub samples : List (List ℕ)
   pub begin : ℕ
   pub copied : List ℕ
-  pub sound : WritesAgree → WritesAreQuiet → Sound is_postable (part_form flags firmware samples begin)
+  pub sound : WritesAgree → WritesAreQuiet
+      → Sound OnStackOnly is_postable (part_form flags firmware samples begin)
       (FactsBeside is_postable flags firmware) (IsGoodPost (length samples))
       (HoldsMail firmware.memory_map samples copied)
 
@@ -51,5 +53,5 @@ abbrev pub FollowsBehind : Type 0
 FollowsBehind = (flags : ℕ) (f : Firmware) (samples : List (List ℕ)) (n begin : ℕ) (copied : List ℕ)
     → IsBox f.memory_map n
     → AreOfSize n samples → f.memory_map.outputs + places (width_of f.wide) * f.outputs ≤ 0x1020
-    → RunFollows is_postable (part_form flags f samples begin) (FactsBeside is_postable flags f)
+    → RunFollows OnStackOnly is_postable (part_form flags f samples begin) (FactsBeside is_postable flags f)
     (IsGoodPost (length samples)) (HoldsMail f.memory_map samples copied)

@@ -1,16 +1,16 @@
 -- A turn that answers, under posts, by the turn without interrupts of the sample that was posted last before the copy.
-use Rattle.std.specs.Prelude.{◌≡◌, ℕ, ◌+◌, ◌-◌, ◌*◌, ◌≤◌, true, false, None, List, [], ◌++◌, length, map}
+use Rattle.std.specs.Prelude.{◌≡◌, ℕ, ◌+◌, ◌-◌, ◌*◌, ◌≤◌, true, false, None, List, [], ◌∷◌, ◌++◌, drop, length, map}
 use Rattle.cpu12_isa.specs.declared.instr.Regs.{Regs}
 use Rattle.cpu12_isa.specs.Memory.{plus}
 use Rattle.cpu12_isa.specs.Registers.{frame_bytes}
 use Rattle.cpu12_isa.specs.Regions.{is_free}
 use Rattle.cpu12_parts.specs.State.{State}
 use Rattle.cpu12_emul.specs.Image.{image_memory}
-use Rattle.cpu12_emul.specs.Simulation.{Same}
+use Rattle.cpu12_emul.specs.Simulation.{OnStackOnly, Same}
 use Rattle.cpu12_emul.specs.Take.{FrameSeen}
 use Rattle.run_law.specs.Forms.{Ran, run_from}
 use Rattle.run_law.specs.Following.{asked}
-use Rattle.run_law.specs.Soundness.{AllGood, Ascend}
+use Rattle.run_law.specs.Soundness.{AllSimulate, AllGood, Ascend}
 use Rattle.run_law.specs.Uninterrupted.{uninterrupted, counted, taken_at, resumed_of, frames_after}
 use Rattle.interrupt_plan.specs.declared.Post.{Post}
 use Rattle.interrupt_plan.specs.Posts.{IsGoodPost}
@@ -28,10 +28,16 @@ use Rattle.posted_runs.specs.UninterruptedTurns.{IsAnswerRun, IsIdleRun}
 abbrev pub plain_frame : Regs → FrameSeen
 plain_frame r = record { pc = r.pc; sp = plus r.sp 65527; bytes = frame_bytes r }
 
+-- where a run ends: its last state, and the states at its boundaries from this number of steps before its end on
+pub record End : Type 0 where
+  pub state : State
+  pub steps : ℕ
+  pub states : List State
+
 -- a run comes to its end: its steps, its instructions, its resumed boundaries, its frames, what it takes, what it
 -- leaves, and where it ends
 pub record TurnEnds (r : Ran Post (Unit {0})) (n instrs resumed : ℕ) (frames : List (ℕ × FrameSeen))
-    (told left : List Post) (s : State) : Type 0 where
+    (told left : List Post) (e : End) : Type 0 where
   pub arrived : r.arrived ≡ true
   pub steps : r.steps ≡ n
   pub instrs_are : r.instrs ≡ instrs
@@ -39,7 +45,9 @@ pub record TurnEnds (r : Ran Post (Unit {0})) (n instrs resumed : ℕ) (frames :
   pub frames_are : r.frames ≡ frames
   pub told_is : asked r.told ≡ told
   pub left_is : r.left ≡ left
-  pub state : r.state ≡ s
+  pub state : r.state ≡ e.state
+  pub late : e.steps ≤ n
+  pub states_are : drop (n - e.steps) r.states ≡ e.states
 
 -- the boundary of the turn at which a post is taken that waits behind the copy
 abbrev pub part_taken : ℕ → ℕ → ℕ → State → Post → ℕ
@@ -59,17 +67,21 @@ abbrev pub up_to_end : ℕ → ℕ → List Post → List Post
 up_to_end g all qs = up_to (g + all - 1) (behind_copy g qs)
 
 -- The turn r takes the steps and the instructions of the turn without interrupts from u, in which the last sample that
--- was posted before the copy is in the mailbox; posts that come behind that are taken behind the copy; and it ends in
--- the same state, but that the sample that came last is posted there.
+-- was posted before the copy is in the mailbox; posts that come behind that are taken behind the copy, from where on
+-- its states simulate those of that turn; and it ends in the same state, but that the sample that came last is posted
+-- there.
 pub record FollowsTurn (flags : ℕ) (f : Firmware) (samples : List (List ℕ)) (g all : ℕ) (qs : List Post) (u : State)
     (run : IsAnswerRun f flags all u) (r : Ran Post (Unit {0})) : Type 0 where
   pub last : State
+  pub late : List State
   pub ends : TurnEnds r all (counted flags all u)
       (resumed_of flags (part_taken flags g all u) u (behind_copy g qs) all)
       (map (λ p. (g + 1, plain_frame (let t : State = run.looked in t.regs))) (second g qs)
       ++ (map (λ p. (g + 2, plain_frame (let t : State = run.chosen in t.regs))) (third g qs)
       ++ frames_from g (frames_after flags (part_taken flags g all u) u None (up_to_end g all qs))))
-      (second g qs ++ (third g qs ++ up_to_end g all qs)) (behind (g + all - 1) (behind_copy g qs)) last
+      (second g qs ++ (third g qs ++ up_to_end g all qs)) (behind (g + all - 1) (behind_copy g qs))
+      (record { state = last; steps = all - (f.inputs + 5); states = late })
+  pub simulates : AllSimulate OnStackOnly is_postable flags late (uninterrupted flags (f.inputs + 5) u)
   pub mailed : Same is_free last
       (posted f.memory_map samples (waiting 0 (up_to_end g all qs)) (uninterrupted flags all u))
   pub same : Same is_postable last (uninterrupted flags all u)
@@ -95,7 +107,7 @@ pub record FollowsIdle (flags : ℕ) (f : Firmware) (samples : List (List ℕ)) 
     (run : IsIdleRun f flags s) (r : Ran Post (Unit {0})) : Type 0 where
   pub last : State
   pub ends : TurnEnds r 2 2 0 (map (λ p. (g + 1, plain_frame (let t : State = run.looked in t.regs))) (second g qs))
-      (second g qs) (behind (g + 1) qs) last
+      (second g qs) (behind (g + 1) qs) (record { state = last; steps = 0; states = last ∷ [] })
   pub mailed : Same is_free last (posted f.memory_map samples (waiting 0 (second g qs)) (uninterrupted flags 2 s))
 
 -- So does each turn that begins with no sample in the mailbox.

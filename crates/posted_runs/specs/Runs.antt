@@ -16,6 +16,7 @@ use Rattle.interrupt_plan.specs.declared.Post.{Post}
 use Rattle.trace_io.specs.declared.sample.Sample.{Sample}
 use Rattle.codegen.specs.declared.firmware.Firmware.{Firmware}
 use Rattle.eval_code.specs.declared.memory_map.MemoryMap.{MemoryMap}
+use Rattle.codegen.specs.Answers.{given}
 use Rattle.codegen.specs.Uninterrupted.{is_waiting, values_in}
 use Rattle.fz_run.specs.Rows.{bytes_of}
 use Rattle.posted_runs.specs.declared.run.Answer as declared
@@ -115,21 +116,43 @@ then_turns f samples g v frames r rest =
 abbrev pub is_over : MemoryMap → Taking Post (Unit {0}) → Bool
 is_over l b = is_empty b.left && (slice_index b.state.mem l.ready == 0)
 
+-- The turn that begins at boundary g, where the code waits in state s and these posts are left: what is due is taken
+-- first, and then it runs up to boundary `last` at the most.
+abbrev pub turn_from : ℕ → Firmware → List (List ℕ) → ℕ → ℕ → List Post → State → Ran Post (Unit {0})
+turn_from flags f samples last g posts s =
+    let b = takes (turn_form flags f samples g) g posts s in
+    run_from (turn_form flags f samples g) (last - g) g false b.left b.state
+
 -- At most n turns up to boundary `last`, from boundary g on, where the code waits in state s, sample w waits and these
--- posts are left. What is due is taken first.
+-- posts are left.
 unfoldable pub turns_from : ℕ → Firmware → List (List ℕ) → ℕ → ℕ → ℕ → ℕ → List Post → State → RunSeen
 turns_from flags f samples last zero g w posts s = no_turn false [] 0
 turns_from flags f samples last (suc n) g w posts s =
     let b = takes (turn_form flags f samples g) g posts s in
     if is_over f.memory_map b then no_turn true b.frames 0
-    else then_turns f samples g (waiting w (asked b.told)) b.frames
-    (run_from (turn_form flags f samples g) (last - g) g false b.left b.state)
+    else then_turns f samples g (waiting w (asked b.told)) b.frames (turn_from flags f samples last g posts s)
     (turns_from flags f samples last n)
 
 -- Boundaries are counted from the first arrival where the code waits, which is a turn from reset without posts.
 abbrev pub arrival : Firmware → List (List ℕ) → ℕ → Ran Post (Unit {0})
 arrival f samples flags =
     run_from (turn_form flags f samples 0) f.step_bound 0 false [] (reset_with (image_memory f.image.bytes))
+
+-- a turn without posts that answers sample k, from where the code waits in s
+abbrev pub answered_alone : ℕ → Firmware → List (List ℕ) → ℕ → State → Ran Post (Unit {0})
+answered_alone flags f samples k s =
+    run_from (turn_form flags f samples 0) f.step_bound 0 false [] (given f.memory_map (bytes_of samples k) s)
+
+-- how many steps the turn of the last of these samples takes, where each is answered from where the one before left
+abbrev pub steps_from : ℕ → Firmware → List (List ℕ) → State → List ℕ → ℕ
+steps_from flags f samples s [] = 0
+steps_from flags f samples s (k ∷ []) = (answered_alone flags f samples k s).steps
+steps_from flags f samples s (k ∷ j ∷ ks) =
+    steps_from flags f samples (answered_alone flags f samples k s).state (j ∷ ks)
+
+-- from the first arrival where the code waits
+abbrev pub steps_of : ℕ → Firmware → List (List ℕ) → List ℕ → ℕ
+steps_of flags f samples = steps_from flags f samples (arrival f samples flags).state
 
 -- The last post comes by boundary 1000000, in a turn within the bound, and one more answers its sample. Each turn takes
 -- a step at least.

@@ -1,12 +1,11 @@
 -- The turns of a block's mailbox firmware without interrupts: how many steps each takes, and what its steps are.
-use Rattle.std.specs.Prelude.{◌≡◌, ◌≢◌, ℕ, ◌+◌, ◌^◌, ◌<◌, ◌≤◌, ◌⊎◌, ◌==◌, true, false, if◌then◌else◌}
+use Rattle.std.specs.Prelude.{◌≡◌, ◌≢◌, ℕ, ◌+◌, ◌^◌, ◌<◌, ◌≤◌, ◌⊎◌, ◌==◌, true, if◌then◌else◌}
 use Rattle.std.specs.Prelude.{List, [], ◌∷◌, ◌++◌, All, length, map, slice_index}
 use Rattle.fuzzy_meaning.specs.declared.block.Block.{Block}
 use Rattle.fuzzy_meaning.specs.Blocks.{IsValid}
 use Rattle.rule_layout.specs.Layouts.{IsWithinLimits}
 use Rattle.cpu12_parts.specs.State.{State}
 use Rattle.cpu12_emul.specs.Image.{image_memory}
-use Rattle.run_law.specs.Forms.{Ran, run_from}
 use Rattle.run_law.specs.Uninterrupted.{uninterrupted}
 use Rattle.interrupt_plan.specs.declared.Post.{Post}
 use Rattle.interrupt_plan.specs.Posts.{AreGoodPosts}
@@ -20,24 +19,8 @@ use Rattle.eval_code.specs.Widths.{width_of}
 use Rattle.instruction_steps.specs.Facts.{FactsBeside}
 use Rattle.posted_runs.specs.Turns.{Turn, AreTurns, samples_of}
 use Rattle.fz_run.specs.Rows.{bytes_of}
-use Rattle.posted_runs.specs.Runs.{turn_form, arrival}
+use Rattle.posted_runs.specs.Runs.{arrival, steps_of}
 use Rattle.posted_runs.specs.Answering.{ended, run_of_turns, answer_in, AllKeepFacts}
-
--- a turn without posts that answers sample k, from where the code waits in s
-abbrev pub answered_alone : ℕ → Firmware → List (List ℕ) → ℕ → State → Ran Post (Unit {0})
-answered_alone flags f samples k s =
-    run_from (turn_form flags f samples 0) f.step_bound 0 false [] (given f.memory_map (bytes_of samples k) s)
-
--- how many steps the turn of the last of these samples takes, where each is answered from where the one before left
-abbrev pub steps_from : ℕ → Firmware → List (List ℕ) → State → List ℕ → ℕ
-steps_from flags f samples s [] = 0
-steps_from flags f samples s (k ∷ []) = (answered_alone flags f samples k s).steps
-steps_from flags f samples s (k ∷ j ∷ ks) =
-    steps_from flags f samples (answered_alone flags f samples k s).state (j ∷ ks)
-
--- from the first arrival where the code waits
-abbrev pub steps_of : ℕ → Firmware → List (List ℕ) → List ℕ → ℕ
-steps_of flags f samples = steps_from flags f samples (arrival f samples flags).state
 
 -- a turn that answers one of n samples, after those that are done, takes as many steps as `steps` says, another 2 or
 -- none

@@ -10,14 +10,13 @@ use Rattle.codegen.specs.declared.firmware.Firmware.{Firmware}
 use Rattle.eval_code.specs.Widths.{width_of, places}
 use Rattle.posted_runs.specs.Turns.{Turn, AreTurns}
 use Rattle.posted_runs.specs.Runs.{turns_from}
-use Rattle.posted_runs.specs.Answering.{run_of_turns}
+use Rattle.posted_runs.specs.Answering.{run_of_turns, SimulateTurns}
 use Rattle.posted_runs.specs.UninterruptedTurns.{AllTurnRuns}
 use Rattle.posted_runs.specs.Postings.{posted, IsBox, AreOfSize}
 
 -- From boundary g on, where sample w waits in the mailbox of a state that is else s, the run under good posts is that
--- of
--- its turns, each from where the one before ended without interrupts. It has room for so many turns, and up to boundary
--- `last`.
+-- of its turns, each from where the one before ended without interrupts, and behind the copy its states simulate
+-- theirs. It has room for so many turns, and up to boundary `last`.
 abbrev pub RunsAreTurns : Type 0
 RunsAreTurns =
     (flags : ℕ) (f : Firmware) (samples : List (List ℕ)) (n : ℕ) (steps : List ℕ → ℕ) (last most g w : ℕ)
@@ -28,4 +27,5 @@ RunsAreTurns =
     → w ≤ length samples → AllGood (IsGoodPost (length samples)) posts → Ascend (λ p. p.moment) g posts
     → Same is_free v (posted f.memory_map samples w s)
     → (1000001 - g) + min w 1 < most → (1 ≤ w → g ≤ 1000000 + f.step_bound)
-    → turns_from flags f samples last most g w posts v ≡ run_of_turns flags f samples turns s
+    → (turns_from flags f samples last most g w posts v ≡ run_of_turns flags f samples turns s)
+    × SimulateTurns flags f samples last turns posts v s

@@ -1,5 +1,6 @@
 // The part of a turn behind the copy is a sound form.
 ghost use Rattle.std.specs.Prelude.{length};
+ghost use Rattle.cpu12_emul.specs.Simulation.{OnStackOnly};
 ghost use Rattle.interrupt_plan.specs.Posts.{IsGoodPost};
 ghost use Rattle.interrupt_plan.specs.declared.Post as plan;
 ghost use Rattle.codegen.specs.Mailboxes.{is_postable};
@@ -21,6 +22,8 @@ impl SoundForm for BehindTheCopy {
     ghost Told = { Unit {0} };
 
     ghost form = { λ x. part_form x.flags x.firmware x.samples x.begin };
+
+    ghost marks = { OnStackOnly };
 
     ghost open_to = { λ _. is_postable };
 

@@ -107,7 +107,7 @@ fn turn_laws()
 
 /// Under posts a turn that answers is the turn without interrupts of the sample that was posted last
 /// before the copy: it takes its steps and ends in its state, but for free bytes and the mailbox, where
-/// the sample waits that was posted last behind the copy.
+/// the sample waits that was posted last behind the copy. From the copy on its states simulate those.
 pub fn posted_turns_follow()
     ensures { PostedTurnsFollow }
 {
@@ -123,14 +123,15 @@ pub fn idle_turns_follow()
 }
 
 /// The run under good posts is that of its turns, each from where the one before ended without
-/// interrupts.
+/// interrupts, and behind the copy its states simulate theirs.
 pub fn runs_are_turns()
     ensures { RunsAreTurns }
 {
     turn_laws();
 }
 
-/// The mailbox firmware of a block answers under all good posts by its turns.
+/// The mailbox firmware of a block answers under all good posts by its turns, which are as long as
+/// without posts and whose states behind the copy its own simulate.
 pub fn posts_are_answered()
     ensures { AnswersUnderAllPosts }
 {

@@ -7,9 +7,9 @@ use Rattle.cpu12_parts.specs.State.{State}
 use Rattle.cpu12_emul.specs.Take.{FrameSeen, frame_of, may_interrupt}
 use Rattle.run_law.specs.Forms.{Form, Taking, takes, taken, told, put_take}
 use Rattle.run_law.specs.Uninterrupted.{expected_frame}
-use Rattle.cpu12_emul.specs.Simulation.{Simulates}
+use Rattle.cpu12_emul.specs.Simulation.{Marks, Simulates}
 use Rattle.run_law.specs.Soundness.{AllGood}
-use Rattle.run_law.specs.Following.{onto, asked}
+use Rattle.run_law.specs.Following.{onto, asked, IsToldIn, EachTold}
 use Rattle.run_law.proofs.Grounds.{Ground}
 use Rattle.run_law.proofs.Takes.{Settled, settled_near, settled_may, took_one}
 
@@ -28,43 +28,54 @@ taken_here moment o m [] = []
 taken_here moment o m (q ∷ qs) = if o && nat_le (moment q) m then q ∷ taken_here moment o m qs else []
 
 -- at one boundary
-pub record Boundary {S A B : Type 0} (open_to : ℕ → Bool) (f : Form S A B) (Own : List (A × B) → State → Type 0)
-    (done : List (A × B)) (m : ℕ) (first : Bool) (qs : List A) (w s : State) : Type 0 where
-  pub simulates : Simulates open_to (takes f m qs w).state s
+pub record Boundary {S A B : Type 0} (marks : Marks) (open_to : ℕ → Bool) (f : Form S A B)
+    (Own : List (A × B) → State → Type 0) (done : List (A × B)) (m : ℕ) (first : Bool) (qs : List A)
+    (w s : State) : Type 0 where
+  pub simulates : Simulates marks open_to (takes f m qs w).state s
   pub left : (takes f m qs w).left ≡ drop_due f.moment (may_interrupt s) m qs
   pub frames : (takes f m qs w).frames ≡ frames_here f.moment (may_interrupt s) first m s qs
   pub taken : asked (takes f m qs w).told ≡ taken_here f.moment (may_interrupt s) m qs
+  pub told : EachTold (IsToldIn open_to f Own s) done (takes f m qs w).told
   pub own : Own (onto (takes f m qs w).told done) (takes f m qs w).state
 
 bool_cases : (b : Bool) → (b ≡ true) ⊎ (b ≡ false)
 bool_cases true = inl refl
 bool_cases false = inr refl
 
-pub boundary : {S A B : Type 0} (open_to : ℕ → Bool) (f : Form S A B) (P : State → Type 0) (Good : A → Type 0)
-    (Own : List (A × B) → State → Type 0) → Ground open_to f P Good Own
+pub boundary : {S A B : Type 0} (marks : Marks) (open_to : ℕ → Bool) (f : Form S A B) (P : State → Type 0)
+    (Good : A → Type 0) (Own : List (A × B) → State → Type 0) → Ground marks open_to f P Good Own
     → (done : List (A × B)) (m : ℕ) (first : Bool) (qs : List A) (w s : State) → AllGood Good qs → P s
-    → Settled open_to first w s → Own done w → Boundary open_to f Own done m first qs w s
+    → Settled marks open_to first w s → Own done w → Boundary marks open_to f Own done m first qs w s
 unfolding takes
-boundary open_to f P Good Own gr done m first [] w s good ps l own =
-    record { simulates = settled_near open_to first w s l; left = refl; frames = refl; taken = refl; own = own }
-boundary {S = S} {A = A} {B = B} open_to f P Good Own gr done m first (q ∷ qs) w s good ps l own =
-    let may = settled_may open_to first w s l in
+boundary marks open_to f P Good Own gr done m first [] w s good ps l own =
+    record {
+      simulates = settled_near marks open_to first w s l;
+      left = refl;
+      frames = refl;
+      taken = refl;
+      told = tt;
+      own = own;
+    }
+boundary {S = S} {A = A} {B = B} marks open_to f P Good Own gr done m first (q ∷ qs) w s good ps l own =
+    let may = settled_may marks open_to first w s l in
     elim (bool_cases (may_interrupt s && nat_le (f.moment q) m)) [
       | inl due ↦
-          let t = took_one open_to f P Good Own gr first done q w s good.0 ps
+          let t = took_one marks open_to f P Good Own gr first done q w s good.0 ps
           (and_parts (may_interrupt s) (nat_le (f.moment q) m) due).0 l own in
-          let r = boundary open_to f P Good Own gr (told f q w ∷ done) m false qs
+          let r = boundary marks open_to f P Good Own gr (told f q w ∷ done) m false qs
           (taken f q w) s good.1 ps t.after t.own in
           let both : (may_interrupt w && nat_le (f.moment q) m) ≡ true =
           ap (λ (x : Bool). x && nat_le (f.moment q) m) may ∙ due in
           let e : takes f m (q ∷ qs) w ≡ put_take (m, frame_of w) (told f q w) (takes f m qs (taken f q w)) =
           rw both refl in
           record {
-            simulates = subst (λ (k : Taking A B). Simulates open_to k.state s) (sym e) r.simulates;
+            simulates = subst (λ (k : Taking A B). Simulates marks open_to k.state s) (sym e) r.simulates;
             left = ap (λ (k : Taking A B). k.left) e ∙ r.left ∙ sym (rw due refl);
             frames = ap (λ (k : Taking A B). k.frames) e
                 ∙ ap₂ (λ (g : FrameSeen) (fs : List (ℕ × FrameSeen)). (m, g) ∷ fs) t.frame r.frames ∙ sym (rw due refl);
             taken = ap (λ (k : Taking A B). asked k.told) e ∙ ap (λ (xs : List A). q ∷ xs) r.taken ∙ sym (rw due refl);
+            told = subst (λ (k : Taking A B). EachTold (IsToldIn open_to f Own s) done k.told) (sym e)
+                (t.tells, r.told);
             own = subst (λ (k : Taking A B). Own (onto k.told done) k.state) (sym e) r.own;
           }
       | inr not_due ↦
@@ -72,11 +83,12 @@ boundary {S = S} {A = A} {B = B} open_to f P Good Own gr done m first (q ∷ qs)
           ap (λ (x : Bool). x && nat_le (f.moment q) m) may ∙ not_due in
           let e : takes f m (q ∷ qs) w ≡ record { state = w; frames = []; told = []; left = q ∷ qs } = rw both refl in
           record {
-            simulates = subst (λ (k : Taking A B). Simulates open_to k.state s) (sym e)
-                (settled_near open_to first w s l);
+            simulates = subst (λ (k : Taking A B). Simulates marks open_to k.state s) (sym e)
+                (settled_near marks open_to first w s l);
             left = ap (λ (k : Taking A B). k.left) e ∙ sym (rw not_due refl);
             frames = ap (λ (k : Taking A B). k.frames) e ∙ sym (rw not_due refl);
             taken = ap (λ (k : Taking A B). asked k.told) e ∙ sym (rw not_due refl);
+            told = subst (λ (k : Taking A B). EachTold (IsToldIn open_to f Own s) done k.told) (sym e) tt;
             own = subst (λ (k : Taking A B). Own (onto k.told done) k.state) (sym e) own;
           }
     ]

@@ -9,7 +9,7 @@ use Rattle.cpu12_parts.specs.declared.temps.Temps.TheVariants.{Free, Running, On
 use Rattle.cpu12_parts.specs.State.{State}
 use Rattle.cpu12_parts.specs.Laws.{IsOff}
 use Rattle.cpu12_emul.specs.Take.{framed}
-use Rattle.cpu12_emul.specs.Simulation.{HasRoom, TakesQuietly}
+use Rattle.cpu12_emul.specs.Simulation.{Marks, OnStackOnly, OnStackOrNone, HasRoom, TakesQuietly}
 use Rattle.run_law.specs.Soundness.{SumsFitBelow, Begins, AreLeft, WritesAreQuiet}
 
 -- registers below sums that are pushed
@@ -43,13 +43,14 @@ begun open_to v s k b =
     }
 
 -- sums that stay as they were are left
-left_same : (t u v : Temps) → IsOff v → u ≡ v → AreLeft t u v
-left_same (Running p w) u v off e = subst (λ (x : Temps). IsOff x) (sym e) off
-left_same Free u v off e = e
-left_same OnStack u v off e = e
+left_same : (marks : Marks) (t u v : Temps) → IsOff v → u ≡ v → AreLeft marks t u v
+left_same OnStackOnly t u v off e = e
+left_same OnStackOrNone (Running p w) u v off e = subst (λ (x : Temps). IsOff x) (sym e) off
+left_same OnStackOrNone Free u v off e = e
+left_same OnStackOrNone OnStack u v off e = e
 
 pub writes_are_quiet : TakesQuietly → WritesAreQuiet
-writes_are_quiet quietly open_to ws v s apart to_open k b =
+writes_are_quiet quietly marks open_to ws v s apart to_open k b =
     let g = begun open_to v s k b in
     let u = quietly open_to ws v apart to_open g.size g.fits g.low g.high in
-    record { regs = u.regs; temps = left_same s.temps (framed ws v).temps v.temps b.temps u.temps; mem = u.mem }
+    record { regs = u.regs; temps = left_same marks s.temps (framed ws v).temps v.temps b.temps u.temps; mem = u.mem }

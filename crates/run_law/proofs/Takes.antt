@@ -18,20 +18,40 @@ use Rattle.cpu12_parts.specs.Laws.{IsOff}
 use Rattle.cpu12_parts.specs.Inside.{pushed_sums}
 use Rattle.cpu12_parts.proofs.Algebra.{temps_cases}
 use Rattle.cpu12_emul.specs.Take.{FrameSeen, frame_of, frame_in, may_interrupt}
-use Rattle.cpu12_emul.specs.Simulation.{Same, Parked, Simulates, HasRoom, IsShownStep}
+use Rattle.cpu12_emul.specs.Simulation.{Same, Marks, OnStackOnly, OnStackOrNone, AreMarked, Parked, Simulates, HasRoom}
+use Rattle.cpu12_emul.specs.Simulation.{IsShownStep}
+use Rattle.cpu12_emul.proofs.Algebra.{pushed_marked, marked_off}
 use Rattle.run_law.specs.Forms.{Form, taken, told}
 use Rattle.run_law.specs.Uninterrupted.{frame_on, expected_frame}
 use Rattle.run_law.specs.Soundness.{below_sums, Begins, AreLeft, Quiet}
+use Rattle.run_law.specs.Following.{IsToldIn}
 use Rattle.run_law.proofs.Grounds.{Ground}
 use Rattle.run_law.specs.Steps.{MachineLaws}
 
 -- which sums a handler may leave
-left_running : (t u v : Temps) (p q : ℕ) → t ≡ Running p q → AreLeft t u v → IsOff u
-left_running t u v p q e l = subst (λ (x : Temps). AreLeft x u v) e l
+left_running : (marks : Marks) (t u v : Temps) (p q : ℕ) → t ≡ Running p q → AreMarked marks v → AreLeft marks t u v
+    → AreMarked marks u
+left_running OnStackOnly t u v p q e is l = l ∙ is
+left_running OnStackOrNone t u v p q e is l = subst (λ (x : Temps). AreLeft OnStackOrNone x u v) e l
 
-left_off : (t u v : Temps) → IsOff t → AreLeft t u v → u ≡ v
-left_off t u v (inl e) l = subst (λ (x : Temps). AreLeft x u v) e l
-left_off t u v (inr e) l = subst (λ (x : Temps). AreLeft x u v) e l
+left_off : (marks : Marks) (t u v : Temps) → IsOff t → AreLeft marks t u v → u ≡ v
+left_off OnStackOnly t u v off l = l
+left_off OnStackOrNone t u v (inl e) l = subst (λ (x : Temps). AreLeft OnStackOrNone x u v) e l
+left_off OnStackOrNone t u v (inr e) l = subst (λ (x : Temps). AreLeft OnStackOrNone x u v) e l
+
+-- a state that simulates does so where sums may be marked as none too
+pub simulates_loosely : (marks : Marks) (open_to : ℕ → Bool) (w s : State) → Simulates marks open_to w s
+    → Simulates OnStackOrNone open_to w s
+simulates_loosely marks open_to w s (inl l) = inl l
+simulates_loosely marks open_to w s (inr l) = inr (record {
+  product = l.product;
+  weight = l.weight;
+  running = l.running;
+  temps = marked_off marks w.temps l.temps;
+  regs = l.regs;
+  sums = l.sums;
+  mem = l.mem;
+})
 
 off_as : (t u : Temps) → t ≡ u → IsOff u → IsOff t
 off_as t u e off = subst (λ (x : Temps). IsOff x) (sym e) off
@@ -56,37 +76,39 @@ pushed_agrees laws open_to w s p q l a lo hi =
     (laws.pushed open_to s.regs.sp 6 (sum_bytes p q) w.mem hi refl (omega arith))
 
 -- the states at a boundary: before the first interrupt, and after
-pub Settled : (ℕ → Bool) → Bool → State → State → Type 0
-Settled open_to first w s =
-    (Same open_to w s × ((first ≡ true) ⊎ IsOff s.temps)) ⊎ (Parked open_to w s × (first ≡ false))
+pub Settled : Marks → (ℕ → Bool) → Bool → State → State → Type 0
+Settled marks open_to first w s =
+    (Same open_to w s × ((first ≡ true) ⊎ IsOff s.temps)) ⊎ (Parked marks open_to w s × (first ≡ false))
 
-pub settled_first : (open_to : ℕ → Bool) (w s : State) → Same open_to w s → Settled open_to true w s
+pub settled_first : (marks : Marks) (open_to : ℕ → Bool) (w s : State) → Same open_to w s
+    → Settled marks open_to true w s
 unfolding Settled
-settled_first open_to w s l = inl (l, inl refl)
+settled_first marks open_to w s l = inl (l, inl refl)
 
-pub settled_near : (open_to : ℕ → Bool) (first : Bool) (w s : State) → Settled open_to first w s → Simulates open_to w s
+pub settled_near : (marks : Marks) (open_to : ℕ → Bool) (first : Bool) (w s : State) → Settled marks open_to first w s
+    → Simulates marks open_to w s
 unfolding Settled
-settled_near open_to first w s (inl l) = inl l.0
-settled_near open_to first w s (inr l) = inr l.0
+settled_near marks open_to first w s (inl l) = inl l.0
+settled_near marks open_to first w s (inr l) = inr l.0
 
-pub settled_may : (open_to : ℕ → Bool) (first : Bool) (w s : State) → Settled open_to first w s
+pub settled_may : (marks : Marks) (open_to : ℕ → Bool) (first : Bool) (w s : State) → Settled marks open_to first w s
     → may_interrupt w ≡ may_interrupt s
 unfolding Settled
-settled_may open_to first w s (inl l) = ap (λ (r : Regs). not (has r.ccr interrupts_masked)) l.0.regs
-settled_may open_to first w s (inr l) = ap (λ (r : Regs). not (has r.ccr interrupts_masked)) l.0.regs
+settled_may marks open_to first w s (inl l) = ap (λ (r : Regs). not (has r.ccr interrupts_masked)) l.0.regs
+settled_may marks open_to first w s (inr l) = ap (λ (r : Regs). not (has r.ccr interrupts_masked)) l.0.regs
 
 -- the registers and the memory in which a handler begins, the frame, and what a quiet handler leaves
-record Taken (open_to : ℕ → Bool) (first : Bool) (w s : State) : Type 0 where
+record Taken (marks : Marks) (open_to : ℕ → Bool) (first : Bool) (w s : State) : Type 0 where
   begins : Begins open_to (suspended wav w) s
   frame : frame_of w ≡ expected_frame first s
-  after : (u : State) → Quiet open_to u (suspended wav w) s → Settled open_to false u s
+  after : (u : State) → Quiet marks open_to u (suspended wav w) s → Settled marks open_to false u s
 
 -- where sums run they are parked
-taken_running : MachineLaws → (open_to : ℕ → Bool) (w s : State) (p q : ℕ) → LeavesStack open_to → HasRoom s
-    → Same open_to w s → s.temps ≡ Running p q
-    → Taken open_to true w s
+taken_running : MachineLaws → (marks : Marks) (open_to : ℕ → Bool) (w s : State) (p q : ℕ) → LeavesStack open_to
+    → HasRoom s → Same open_to w s → s.temps ≡ Running p q
+    → Taken marks open_to true w s
 unfolding Settled
-taken_running laws open_to w s p q a k l run =
+taken_running laws marks open_to w s p q a k l run =
     let lo = k.low in
     let hi = k.high in
     let fits = k.fits in
@@ -108,13 +130,13 @@ taken_running laws open_to w s p q a k l run =
       frame = laws.frame_is_on_stack w size (omega arith) ∙ ap (frame_in w) now
           ∙ ap (λ (r : Regs). full_by r p q) l.regs
           ∙ ap (λ (t : Temps). frame_on true s t) (sym run);
-      after = λ u quiet. inr (parked_by u (subst (λ (v : State). Quiet open_to u v s) is quiet), refl);
+      after = λ u quiet. inr (parked_by u (subst (λ (v : State). Quiet marks open_to u v s) is quiet), refl);
     }
   where
     full_by : Regs → ℕ → ℕ → FrameSeen
     full_by r p q = record { pc = r.pc; sp = plus r.sp 65521; bytes = frame_bytes r ++ sum_bytes p q }
 
-    parked_by : (u : State) → Quiet open_to u (pushed_sums w.regs p q w.mem) s → Parked open_to u s
+    parked_by : (u : State) → Quiet marks open_to u (pushed_sums w.regs p q w.mem) s → Parked marks open_to u s
     parked_by u quiet =
         let lo = k.low in
         let hi = k.high in
@@ -132,7 +154,7 @@ taken_running laws open_to w s p q a k l run =
           product = p;
           weight = q;
           running = run;
-          temps = left_running s.temps u.temps x.temps p q run quiet.temps;
+          temps = left_running marks s.temps u.temps x.temps p q run (pushed_marked marks) quiet.temps;
           regs = quiet.regs ∙ ap (λ (r : Regs). record r { sp = plus r.sp 65530 }) l.regs;
           sums = subst (λ (k : ℕ). bytes_at u.mem (from k 6) ≡ sum_bytes p q) at (got ∙ put);
           mem = agree_with (is_hidden open_to s.regs.sp) u.mem x.mem s.mem
@@ -154,10 +176,10 @@ expected_off first s (inl e) = ap (λ (t : Temps). frame_on first s t) e
 expected_off first s (inr e) = ap (λ (t : Temps). frame_on first s t) e
 
 -- where none run the state stays the same
-taken_off : MachineLaws → (open_to : ℕ → Bool) (first : Bool) (w s : State) → HasRoom s → Same open_to w s
-    → IsOff s.temps → Taken open_to first w s
+taken_off : MachineLaws → (marks : Marks) (open_to : ℕ → Bool) (first : Bool) (w s : State) → HasRoom s
+    → Same open_to w s → IsOff s.temps → Taken marks open_to first w s
 unfolding Settled
-taken_off laws open_to first w s k l off =
+taken_off laws marks open_to first w s k l off =
     let fits = k.fits in
     let sp : w.regs.sp ≡ s.regs.sp = ap (λ (r : Regs). r.sp) l.regs in
     let off_w : IsOff w.temps = off_as w.temps s.temps l.temps off in
@@ -172,44 +194,45 @@ taken_off laws open_to first w s k l off =
       frame = laws.frame_is_on_stack w (l.mem.size ∙ k.size) (omega arith) ∙ frame_off w off_w
           ∙ ap (λ (r : Regs). nine_frame r (plus r.sp 65527)) l.regs
           ∙ sym (expected_off first s off);
-      after = λ u q. inl (same_by u (subst (λ (v : State). Quiet open_to u v s) is q), inr off);
+      after = λ u q. inl (same_by u (subst (λ (v : State). Quiet marks open_to u v s) is q), inr off);
     }
   where
-    same_by : (u : State) → Quiet open_to u w s → Same open_to u s
+    same_by : (u : State) → Quiet marks open_to u w s → Same open_to u s
     same_by u q =
         let sp : w.regs.sp ≡ s.regs.sp = ap (λ (r : Regs). r.sp) l.regs in
         record {
           regs = q.regs ∙ l.regs;
-          temps = left_off s.temps u.temps w.temps off q.temps ∙ l.temps;
+          temps = left_off marks s.temps u.temps w.temps off q.temps ∙ l.temps;
           mem = agree_with (is_hidden open_to s.regs.sp) u.mem w.mem s.mem
               (subst (λ (k : ℕ). Agree (is_hidden open_to k) u.mem w.mem) sp q.mem) l.mem;
         }
 
 -- where they are parked they stay so
-taken_parked : MachineLaws → (open_to : ℕ → Bool) (w s : State) → LeavesStack open_to → HasRoom s → Parked open_to w s
-    → Taken open_to false w s
+taken_parked : MachineLaws → (marks : Marks) (open_to : ℕ → Bool) (w s : State) → LeavesStack open_to → HasRoom s
+    → Parked marks open_to w s → Taken marks open_to false w s
 unfolding Settled
-taken_parked laws open_to w s a k l =
+taken_parked laws marks open_to w s a k l =
     let lo = k.low in
     let hi = k.high in
     let sp : w.regs.sp ≡ plus s.regs.sp 65530 = ap (λ (r : Regs). r.sp) l.regs in
-    let is : suspended wav w ≡ w = laws.none w l.temps in
+    let off : IsOff w.temps = marked_off marks w.temps l.temps in
+    let is : suspended wav w ≡ w = laws.none w off in
     let low : plus (plus s.regs.sp 65530) 65527 ≡ plus s.regs.sp 65521 = omega arith in
     record {
       begins = subst (λ (v : State). Begins open_to v s) (sym is) (record {
-        temps = l.temps;
+        temps = off;
         free = λ e. absurd (running_differs s.temps l.product l.weight l.running e);
         regs = l.regs ∙ ap (below_sums s.regs) (sym l.running);
         mem = l.mem;
       });
-      frame = laws.frame_is_on_stack w (l.mem.size ∙ k.size) (omega arith) ∙ frame_off w l.temps
+      frame = laws.frame_is_on_stack w (l.mem.size ∙ k.size) (omega arith) ∙ frame_off w off
           ∙ ap (λ (r : Regs). nine_frame r (plus r.sp 65527)) l.regs
           ∙ ap (nine_frame (s.regs)) low
           ∙ ap (λ (t : Temps). frame_on false s t) (sym l.running);
-      after = λ u q. inr (stays_by u (subst (λ (v : State). Quiet open_to u v s) is q), refl);
+      after = λ u q. inr (stays_by u (subst (λ (v : State). Quiet marks open_to u v s) is q), refl);
     }
   where
-    stays_by : (u : State) → Quiet open_to u w s → Parked open_to u s
+    stays_by : (u : State) → Quiet marks open_to u w s → Parked marks open_to u s
     stays_by u q =
         let lo = k.low in
         let hi = k.high in
@@ -221,44 +244,52 @@ taken_parked laws open_to w s a k l =
           product = l.product;
           weight = l.weight;
           running = l.running;
-          temps = left_running s.temps u.temps w.temps l.product l.weight l.running q.temps;
+          temps = left_running marks s.temps u.temps w.temps l.product l.weight l.running l.temps q.temps;
           regs = q.regs ∙ l.regs;
           sums = got ∙ l.sums;
           mem = agree_with (is_hidden open_to s.regs.sp) u.mem w.mem s.mem
               (laws.more open_to w.regs.sp s.regs.sp u.mem w.mem (omega arith) q.mem) l.mem;
         }
 
-taken_any : MachineLaws → (open_to : ℕ → Bool) (first : Bool) (w s : State) → LeavesStack open_to → HasRoom s
-    → Settled open_to first w s → Taken open_to first w s
+taken_any : MachineLaws → (marks : Marks) (open_to : ℕ → Bool) (first : Bool) (w s : State) → LeavesStack open_to
+    → HasRoom s → Settled marks open_to first w s → Taken marks open_to first w s
 unfolding Settled
-taken_any laws open_to first w s a k (inr l) =
-    subst (λ (b : Bool). Taken open_to b w s) (sym l.1) (taken_parked laws open_to w s a k l.0)
-taken_any laws open_to first w s a k (inl l) = elim (temps_cases s.temps) [
-  | inl off ↦ taken_off laws open_to first w s k l.0 off
+taken_any laws marks open_to first w s a k (inr l) =
+    subst (λ (b : Bool). Taken marks open_to b w s) (sym l.1) (taken_parked laws marks open_to w s a k l.0)
+taken_any laws marks open_to first w s a k (inl l) = elim (temps_cases s.temps) [
+  | inl off ↦ taken_off laws marks open_to first w s k l.0 off
   | inr r ↦ elim l.1 [
-    | inl f ↦ subst (λ (b : Bool). Taken open_to b w s) (sym f) (taken_running laws open_to w s r.0 r.1 a k l.0 r.2)
-    | inr off ↦ taken_off laws open_to first w s k l.0 off
+    | inl f ↦ subst (λ (b : Bool). Taken marks open_to b w s) (sym f)
+        (taken_running laws marks open_to w s r.0 r.1 a k l.0 r.2)
+    | inr off ↦ taken_off laws marks open_to first w s k l.0 off
   ]
 ]
 
 -- one interrupt
-pub record Took {S A B : Type 0} (open_to : ℕ → Bool) (f : Form S A B) (Own : List (A × B) → State → Type 0)
-    (first : Bool) (done : List (A × B)) (a : A) (w s : State) : Type 0 where
+pub record Took {S A B : Type 0} (marks : Marks) (open_to : ℕ → Bool) (f : Form S A B)
+    (Own : List (A × B) → State → Type 0) (first : Bool) (done : List (A × B)) (a : A) (w s : State) : Type 0 where
+  pub tells : IsToldIn open_to f Own s done (told f a w)
   pub frame : frame_of w ≡ expected_frame first s
-  pub after : Settled open_to false (taken f a w) s
+  pub after : Settled marks open_to false (taken f a w) s
   pub own : Own (told f a w ∷ done) (taken f a w)
 
-pub took_one : {S A B : Type 0} (open_to : ℕ → Bool) (f : Form S A B) (P : State → Type 0) (Good : A → Type 0)
-    (Own : List (A × B) → State → Type 0)
-    → Ground open_to f P Good Own
+pub took_one : {S A B : Type 0} (marks : Marks) (open_to : ℕ → Bool) (f : Form S A B) (P : State → Type 0)
+    (Good : A → Type 0) (Own : List (A × B) → State → Type 0)
+    → Ground marks open_to f P Good Own
     → (first : Bool) (done : List (A × B)) (a : A) (w s : State) → Good a → P s → may_interrupt s ≡ true
-    → Settled open_to first w s → Own done w
-    → Took open_to f Own first done a w s
-took_one open_to f P Good Own gr first done a w s good ps may l own =
+    → Settled marks open_to first w s → Own done w
+    → Took marks open_to f Own first done a w s
+took_one marks open_to f P Good Own gr first done a w s good ps may l own =
     let sd = gr.sound in
     let seen : IsShownStep open_to f.flags s = sd.shown s ps in
-    let t = taken_any gr.machine open_to first w s sd.apart seen.room l in
+    let t = taken_any gr.machine marks open_to first w s sd.apart seen.room l in
     let keeps = sd.leaves_open in
-    let q = sd.quiet done a (suspended wav w) s good ps may t.begins
-    (keeps.pushes done w s ps (settled_near open_to first w s l) own) in
-    record { frame = t.frame; after = t.after (taken f a w) q.0; own = q.1 }
+    let begun = keeps.pushes done w s ps
+    (simulates_loosely marks open_to w s (settled_near marks open_to first w s l)) own in
+    let q = sd.quiet done a (suspended wav w) s good ps may t.begins begun in
+    record {
+      tells = record { begun = suspended wav w; begins = t.begins; own = begun; tells = refl };
+      frame = t.frame;
+      after = t.after (taken f a w) q.0;
+      own = q.1;
+    }

@@ -1,11 +1,11 @@
 -- The law on runs: a run under requests follows the run without interrupts, for a sample and for a list of samples.
-use Rattle.std.specs.Prelude.{◌≡◌, ℕ, suc, ◌+◌, ◌≤◌, Bool, true, false, List, [], ◌∷◌, map}
+use Rattle.std.specs.Prelude.{◌≡◌, ℕ, suc, ◌+◌, ◌<◌, ◌≤◌, Bool, true, false, List, [], ◌∷◌, map}
 use Rattle.cpu12_parts.specs.State.{State}
 use Rattle.run_law.specs.Forms.{Form, Ran, run_from, RowSeen, Rows, rows_from}
 use Rattle.run_law.specs.Uninterrupted.{uninterrupted, counted, is_inside, taken_at, taken_before, left_from}
 use Rattle.run_law.specs.Uninterrupted.{resumed_of, frames_of}
-use Rattle.cpu12_emul.specs.Simulation.{Same}
-use Rattle.run_law.specs.Soundness.{Before, AllSimulate, AllGood, Ascend}
+use Rattle.cpu12_emul.specs.Simulation.{Same, Marks}
+use Rattle.run_law.specs.Soundness.{Before, Begins, AllSimulate, AllGood, Ascend}
 
 -- those of a list before others, the last first
 abbrev pub onto : {C : Type 0} → List C → List C → List C
@@ -16,6 +16,27 @@ onto (x ∷ xs) done = onto xs (x ∷ done)
 abbrev pub asked : {A B : Type 0} → List (A × B) → List A
 asked ts = map (λ t. t.0) ts
 
+-- What a request told, after these requests were done, where the run without interrupts is in s: its handler told it of
+-- a state in which it began there.
+pub record IsToldIn {S A B : Type 0} (open_to : ℕ → Bool) (f : Form S A B) (Own : List (A × B) → State → Type 0)
+    (s : State) (done : List (A × B)) (t : A × B) : Type 0 where
+  pub begun : State
+  pub begins : Begins open_to begun s
+  pub own : Own done begun
+  pub tells : t.1 ≡ f.tells t.0 begun
+
+-- It is taken before boundary `all` of the run without interrupts from s, and told there.
+abbrev pub IsToldAt : {S A B : Type 0} → (ℕ → Bool) → Form S A B → (List (A × B) → State → Type 0) → ℕ → State
+    → List (A × B) → A × B → Type 0
+IsToldAt open_to f Own all s done t =
+    let m = taken_at f.flags f.moment all s t.0 in
+    (m < all) × IsToldIn open_to f Own (uninterrupted f.flags m s) done t
+
+-- each of what was told, after these requests were done
+abbrev pub EachTold : {C : Type 0} → (List C → C → Type 0) → List C → List C → Type 0
+EachTold Told done [] = Unit {0}
+EachTold Told done (t ∷ ts) = Told done t × EachTold Told (t ∷ done) ts
+
 -- From boundary m of the run without interrupts n steps lead to boundary `all`, the form's end; P holds before each.
 pub record Completes {S A B : Type 0} (P : State → Type 0) (f : Form S A B) (m n all : ℕ) (s : State) : Type 0 where
   pub sum : m + n ≡ all
@@ -25,28 +46,30 @@ pub record Completes {S A B : Type 0} (P : State → Type 0) (f : Form S A B) (m
 
 -- A run r from boundary m on, after these requests were done, follows the run without interrupts from s, which ends at
 -- boundary `all` after n steps more.
-pub record Follows {S A B : Type 0} (open_to : ℕ → Bool) (f : Form S A B) (Own : List (A × B) → State → Type 0)
-    (done : List (A × B)) (m n all : ℕ) (qs : List A) (s : State) (r : Ran A B) : Type 0 where
+pub record Follows {S A B : Type 0} (marks : Marks) (open_to : ℕ → Bool) (f : Form S A B)
+    (Own : List (A × B) → State → Type 0) (done : List (A × B)) (m n all : ℕ) (qs : List A) (s : State)
+    (r : Ran A B) : Type 0 where
   pub arrived : r.arrived ≡ true
   pub steps : r.steps ≡ n
   pub instrs : r.instrs ≡ counted f.flags n (uninterrupted f.flags m s)
   pub resumed : r.resumed ≡ resumed_of f.flags (taken_at f.flags f.moment all s) s qs all
   pub frames : r.frames ≡ frames_of f.flags (taken_at f.flags f.moment all s) s qs all
   pub taken : asked r.told ≡ taken_before (taken_at f.flags f.moment all s) all qs
+  pub told : EachTold (IsToldAt open_to f Own all s) done r.told
   pub left : r.left ≡ left_from (taken_at f.flags f.moment all s) all qs
-  pub simulates : AllSimulate open_to f.flags r.states (uninterrupted f.flags m s)
+  pub simulates : AllSimulate marks open_to f.flags r.states (uninterrupted f.flags m s)
   pub last : Same open_to r.state (uninterrupted f.flags all s)
   pub own : Own (onto r.told done) r.state
 
 -- The run of one sample from any boundary m on follows the run without interrupts from s, the state at boundary 0,
 -- where none of its good requests is taken before m.
-abbrev pub RunFollows : {S A B : Type 0} → (ℕ → Bool) → Form S A B → (State → Type 0) → (A → Type 0)
+abbrev pub RunFollows : {S A B : Type 0} → Marks → (ℕ → Bool) → Form S A B → (State → Type 0) → (A → Type 0)
     → (List (A × B) → State → Type 0) → Type 0
-RunFollows {S = S} {A = A} {B = B} open_to f P Good Own =
+RunFollows {S = S} {A = A} {B = B} marks open_to f P Good Own =
     (done : List (A × B)) (m n all most : ℕ) (qs : List A) (w s : State) → n ≤ most → AllGood Good qs
     → Ascend (taken_at f.flags f.moment all s) m qs → Same open_to w (uninterrupted f.flags m s) → Own done w
     → Completes P f m n all s
-    → Follows open_to f Own done m n all qs s (run_from f most m (is_inside f.flags s m) qs w)
+    → Follows marks open_to f Own done m n all qs s (run_from f most m (is_inside f.flags s m) qs w)
 
 -- the numbers of steps of the samples without interrupts
 abbrev pub AllComplete : {S A B : Type 0} → (State → Type 0) → Form S A B → List ℕ → List S → State → Type 0
@@ -92,36 +115,48 @@ last_uninterrupted f (n ∷ ns) [] s = s
 last_uninterrupted f (n ∷ ns) (x ∷ rest) s =
     last_uninterrupted f ns rest (f.leave x (uninterrupted f.flags n (f.give x s)))
 
-abbrev pub RowsSimulate : {S A B : Type 0} → (ℕ → Bool) → Form S A B → List ℕ → List S → List (List State) → State
-    → Type 0
-RowsSimulate open_to f [] samples wss s = Unit {0}
-RowsSimulate open_to f (n ∷ ns) [] wss s = Unit {0}
-RowsSimulate open_to f (n ∷ ns) (x ∷ rest) [] s = ⊥
-RowsSimulate open_to f (n ∷ ns) (x ∷ rest) (ws ∷ wss) s =
-    AllSimulate open_to f.flags ws (f.give x s)
-    × RowsSimulate open_to f ns rest wss (f.leave x (uninterrupted f.flags n (f.give x s)))
+abbrev pub RowsSimulate : {S A B : Type 0} → Marks → (ℕ → Bool) → Form S A B → List ℕ → List S → List (List State)
+    → State → Type 0
+RowsSimulate marks open_to f [] samples wss s = Unit {0}
+RowsSimulate marks open_to f (n ∷ ns) [] wss s = Unit {0}
+RowsSimulate marks open_to f (n ∷ ns) (x ∷ rest) [] s = ⊥
+RowsSimulate marks open_to f (n ∷ ns) (x ∷ rest) (ws ∷ wss) s =
+    AllSimulate marks open_to f.flags ws (f.give x s)
+    × RowsSimulate marks open_to f ns rest wss (f.leave x (uninterrupted f.flags n (f.give x s)))
+
+-- of each sample what its requests told, after these were done
+abbrev pub RowsTold : {S A B : Type 0} → (ℕ → Bool) → Form S A B → (List (A × B) → State → Type 0) → List (A × B)
+    → List (List (A × B)) → List ℕ → List S → State → Type 0
+RowsTold open_to f Own done [] ns samples s = Unit {0}
+RowsTold open_to f Own done (ts ∷ tss) [] samples s = ⊥
+RowsTold open_to f Own done (ts ∷ tss) (n ∷ ns) [] s = ⊥
+RowsTold open_to f Own done (ts ∷ tss) (n ∷ ns) (x ∷ rest) s =
+    EachTold (IsToldAt open_to f Own n (f.give x s)) done ts
+    × RowsTold open_to f Own (onto ts done) tss ns rest (f.leave x (uninterrupted f.flags n (f.give x s)))
 
 abbrev pub all_onto : {C : Type 0} → List (List C) → List C → List C
 all_onto [] done = done
 all_onto (xs ∷ xss) done = all_onto xss (onto xs done)
 
 -- the runs of a list of samples, after these requests were done, follow the runs without interrupts from s
-pub record AllFollow {S A B : Type 0} (open_to : ℕ → Bool) (f : Form S A B) (Own : List (A × B) → State → Type 0)
-    (done : List (A × B)) (asks : ℕ → List A) (k : ℕ) (ns : List ℕ) (samples : List S) (s : State) (all : Rows S A B)
+pub record AllFollow {S A B : Type 0} (marks : Marks) (open_to : ℕ → Bool) (f : Form S A B)
+    (Own : List (A × B) → State → Type 0) (done : List (A × B)) (asks : ℕ → List A) (k : ℕ) (ns : List ℕ)
+    (samples : List S) (s : State) (all : Rows S A B)
     : Type 0 where
   pub arrived : all.arrived ≡ true
   pub rows_are : all.rows ≡ expected_rows f asks k ns samples s
   pub taken : map (λ ts. asked ts) all.told ≡ expected_taken f asks k ns samples s
-  pub simulates : RowsSimulate open_to f ns samples all.states s
+  pub told : RowsTold open_to f Own done all.told ns samples s
+  pub simulates : RowsSimulate marks open_to f ns samples all.states s
   pub last : Same open_to all.state (last_uninterrupted f ns samples s)
   pub own : Own (all_onto all.told done) all.state
 
 -- The runs of a list of samples follow the runs without interrupts, whatever good requests `asks` gives each, where
 -- these ascend and no sample takes more steps than `most`.
-abbrev pub RunsFollow : {S A B : Type 0} → (ℕ → Bool) → Form S A B → (State → Type 0) → (A → Type 0)
+abbrev pub RunsFollow : {S A B : Type 0} → Marks → (ℕ → Bool) → Form S A B → (State → Type 0) → (A → Type 0)
     → (List (A × B) → State → Type 0) → Type 0
-RunsFollow {S = S} {A = A} {B = B} open_to f P Good Own =
+RunsFollow {S = S} {A = A} {B = B} marks open_to f P Good Own =
     (asks : ℕ → List A) → ((k : ℕ) → AllGood Good (asks k) × Ascend f.moment 0 (asks k))
     → (done : List (A × B)) (k most : ℕ) (ns : List ℕ) (samples : List S) (w s : State) → AllWithin most ns
     → AllComplete P f ns samples s → Same open_to w s → Own done w
-    → AllFollow open_to f Own done asks k ns samples s (rows_from f most asks k samples w)
+    → AllFollow marks open_to f Own done asks k ns samples s (rows_from f most asks k samples w)

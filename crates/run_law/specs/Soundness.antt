@@ -12,7 +12,8 @@ use Rattle.cpu12_parts.specs.State.{State}
 use Rattle.cpu12_parts.specs.Cuts.{suspended, wav}
 use Rattle.cpu12_parts.specs.Laws.{IsOff}
 use Rattle.cpu12_emul.specs.Take.{may_interrupt, framed}
-use Rattle.cpu12_emul.specs.Simulation.{AreOpen, Same, Simulates, HasRoom, IsShownStep}
+use Rattle.cpu12_emul.specs.Simulation.{AreOpen, Same, Marks, OnStackOnly, OnStackOrNone, Simulates, HasRoom}
+use Rattle.cpu12_emul.specs.Simulation.{IsShownStep}
 use Rattle.run_law.specs.Forms.{Form}
 use Rattle.run_law.specs.Uninterrupted.{stepped, uninterrupted}
 
@@ -21,9 +22,10 @@ abbrev pub Before : (State → Type 0) → ℕ → ℕ → State → Type 0
 Before P flags n s = (k : ℕ) → k < n → P (uninterrupted flags k s)
 
 -- each state of a list simulates that of the run without interrupts
-abbrev pub AllSimulate : (ℕ → Bool) → ℕ → List State → State → Type 0
-AllSimulate open_to flags [] s = Unit {0}
-AllSimulate open_to flags (w ∷ ws) s = Simulates open_to w s × AllSimulate open_to flags ws (stepped flags s)
+abbrev pub AllSimulate : Marks → (ℕ → Bool) → ℕ → List State → State → Type 0
+AllSimulate marks open_to flags [] s = Unit {0}
+AllSimulate marks open_to flags (w ∷ ws) s =
+    Simulates marks open_to w s × AllSimulate marks open_to flags ws (stepped flags s)
 
 -- registers with SP below WAV's sums, where these run
 abbrev pub below_sums : Regs → Temps → Regs
@@ -49,16 +51,18 @@ pub record Begins (open_to : ℕ → Bool) (v s : State) : Type 0 where
   pub regs : v.regs ≡ below_sums s.regs s.temps
   pub mem : Agree (is_hidden open_to s.regs.sp) v.mem s.mem
 
--- The sums u that a handler may leave of the sums v with which it began: where they were pushed none that run, else v.
-abbrev pub AreLeft : Temps → Temps → Temps → Type 0
-AreLeft (Running p w) u v = IsOff u
-AreLeft Free u v = u ≡ v
-AreLeft OnStack u v = u ≡ v
+-- The sums u that a handler may leave of the sums v with which it began: v, or, where it may run WAV and they were
+-- pushed, none that run.
+abbrev pub AreLeft : Marks → Temps → Temps → Temps → Type 0
+AreLeft OnStackOnly t u v = u ≡ v
+AreLeft OnStackOrNone (Running p w) u v = IsOff u
+AreLeft OnStackOrNone Free u v = u ≡ v
+AreLeft OnStackOrNone OnStack u v = u ≡ v
 
 -- u is a state that a handler may leave that began in v: the registers as they were, and the bytes that are not hidden
-pub record Quiet (open_to : ℕ → Bool) (u v s : State) : Type 0 where
+pub record Quiet (marks : Marks) (open_to : ℕ → Bool) (u v s : State) : Type 0 where
   pub regs : u.regs ≡ v.regs
-  pub temps : AreLeft s.temps u.temps v.temps
+  pub temps : AreLeft marks s.temps u.temps v.temps
   pub mem : Agree (is_hidden open_to v.regs.sp) u.mem v.mem
 
 -- The open bytes belong to the handlers: Own says what stands there after these requests, the last first, with what
@@ -67,15 +71,15 @@ pub record LeavesOpen {S A B : Type 0} (open_to : ℕ → Bool) (f : Form S A B)
     (Own : List (A × B) → State → Type 0) : Type 0 where
   pub gives : (done : List (A × B)) (x : S) (w : State) → Own done w → Own done (f.give x w)
   pub leaves : (done : List (A × B)) (x : S) (w : State) → Own done w → Own done (f.leave x w)
-  pub pushes : (done : List (A × B)) (w s : State) → P s → Simulates open_to w s → Own done w
+  pub pushes : (done : List (A × B)) (w s : State) → P s → Simulates OnStackOrNone open_to w s → Own done w
       → Own done (suspended wav w)
-  pub steps : (done : List (A × B)) (w s : State) → P s → Simulates open_to w s → Own done w
+  pub steps : (done : List (A × B)) (w s : State) → P s → Simulates OnStackOrNone open_to w s → Own done w
       → Own done (stepped f.flags w)
 
 -- A form is sound beside runs without interrupts whose states keep P: a step reads and writes what is shown; samples
 -- are given, taken away and answered alike, and the end looks the same; and where I is 0 a good request is quiet.
-pub record Sound {S A B : Type 0} (open_to : ℕ → Bool) (f : Form S A B) (P : State → Type 0) (Good : A → Type 0)
-    (Own : List (A × B) → State → Type 0) : Type 0 where
+pub record Sound {S A B : Type 0} (marks : Marks) (open_to : ℕ → Bool) (f : Form S A B) (P : State → Type 0)
+    (Good : A → Type 0) (Own : List (A × B) → State → Type 0) : Type 0 where
   pub apart : LeavesStack open_to
   pub shown : (s : State) → P s → IsShownStep open_to f.flags s
   pub gives : (x : S) (w s : State) → Same open_to w s → Same open_to (f.give x w) (f.give x s)
@@ -83,7 +87,7 @@ pub record Sound {S A B : Type 0} (open_to : ℕ → Bool) (f : Form S A B) (P :
   pub answers : (w s : State) → Same open_to w s → f.answers w ≡ f.answers s
   pub ends : (m : ℕ) (w s : State) → Same open_to w s → f.ends m w ≡ f.ends m s
   pub quiet : (done : List (A × B)) (a : A) (v s : State) → Good a → P s → may_interrupt s ≡ true → Begins open_to v s
-      → Own done v → Quiet open_to (f.handle a v) v s × Own ((a, f.tells a v) ∷ done) (f.handle a v)
+      → Own done v → Quiet marks open_to (f.handle a v) v s × Own ((a, f.tells a v) ∷ done) (f.handle a v)
   pub leaves_open : LeavesOpen open_to f P Own
 
 -- each request is good
@@ -96,7 +100,8 @@ abbrev pub Ascend : {A : Type 0} → (A → ℕ) → ℕ → List A → Type 0
 Ascend moment m [] = Unit {0}
 Ascend moment m (q ∷ qs) = (m ≤ moment q) × Ascend moment (moment q) qs
 
--- A handler that does writes to open bytes is quiet.
+-- A handler that does writes to open bytes is quiet, and keeps the marks.
 abbrev pub WritesAreQuiet : Type 0
-WritesAreQuiet = (open_to : ℕ → Bool) (ws : List Write) (v s : State) → LeavesStack open_to → AreOpen open_to ws
-    → HasRoom s → Begins open_to v s → Quiet open_to (framed ws v) v s
+WritesAreQuiet =
+    (marks : Marks) (open_to : ℕ → Bool) (ws : List Write) (v s : State) → LeavesStack open_to → AreOpen open_to ws
+    → HasRoom s → Begins open_to v s → Quiet marks open_to (framed ws v) v s

@@ -2,6 +2,7 @@
 ghost use Rattle.std.specs.Prelude.{ℕ, Bool, List};
 ghost use Rattle.cpu12_isa.specs.Agreement.{WritesAgree};
 ghost use Rattle.cpu12_parts.specs.State.{State};
+ghost use Rattle.cpu12_emul.specs.Simulation.{Marks};
 ghost use Rattle.run_law.specs.Forms.{Form};
 ghost use Rattle.run_law.specs.Soundness.{Sound, SumsFitBelow, WritesAreQuiet};
 ghost use Rattle.run_law.specs.Following.{RunFollows, RunsFollow};
@@ -36,6 +37,9 @@ pub trait SoundForm {
     /// How it is given samples, ends, answers and serves requests.
     ghost form: { Setting → Form Sample Request Told };
 
+    /// How sums that its interrupts pushed may be marked: as on the stack alone, unless its handler runs WAV.
+    ghost marks: { Marks };
+
     /// The bytes that are open to the handler.
     ghost open_to: { Setting → ℕ → Bool };
 
@@ -51,7 +55,7 @@ pub trait SoundForm {
     /// The form is sound. Its proof may use that the same writes keep memories agreed, and that listed
     /// writes are quiet.
     ghost sound: { (x : Setting) → WritesAgree → WritesAreQuiet
-        → Sound (open_to x) (form x) (holds x) (good x) (own x) };
+        → Sound marks (open_to x) (form x) (holds x) (good x) (own x) };
 }
 
 /// What is known of a step beside hidden bytes, of what an interrupt pushes and of what is hidden then.
@@ -64,9 +68,10 @@ fn machine_laws()
     wav_suspends();
 }
 
-/// The run of one sample, from any boundary on, follows the run without interrupts.
+/// The run of one sample, from any boundary on, follows the run without interrupts, and each handler tells
+/// of a state in which it began where the run without interrupts is at that boundary.
 pub fn run_follows<F: SoundForm>()
-    ensures { (x : F.Setting) → RunFollows (F.open_to x) (F.form x) (F.holds x) (F.good x) (F.own x) }
+    ensures { (x : F.Setting) → RunFollows F.marks (F.open_to x) (F.form x) (F.holds x) (F.good x) (F.own x) }
 {
     machine_laws();
     writes_agree();
@@ -75,10 +80,10 @@ pub fn run_follows<F: SoundForm>()
 
 /// The runs of a list of samples follow the runs without interrupts: the same number of steps and of
 /// instructions, the same answers, the frames and resumed boundaries that are read off the states
-/// without interrupts, a state that simulates at every boundary, and the same last memory but for
-/// the bytes that interrupts may change.
+/// without interrupts, a state that simulates at every boundary, handlers that tell of states in which
+/// they began there, and the same last memory but for the bytes that interrupts may change.
 pub fn runs_follow<F: SoundForm>()
-    ensures { (x : F.Setting) → RunsFollow (F.open_to x) (F.form x) (F.holds x) (F.good x) (F.own x) }
+    ensures { (x : F.Setting) → RunsFollow F.marks (F.open_to x) (F.form x) (F.holds x) (F.good x) (F.own x) }
 {
     machine_laws();
     writes_agree();
@@ -100,7 +105,7 @@ pub fn sums_fit_below()
     ensures { SumsFitBelow }
 {}
 
-/// A handler that does writes to open bytes is quiet.
+/// A handler that does writes to open bytes is quiet, and keeps the marks of pushed sums.
 pub fn writes_are_quiet()
     ensures { WritesAreQuiet }
 {

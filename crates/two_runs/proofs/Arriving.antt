@@ -54,7 +54,7 @@ reset_fits mem bytes = record {
 pub first_stands : StepFits → (fast : Block) (two : Two) (flags : ℕ) (samples : List (List ℕ)) → flags < 2 ^ 8
     → length fast.outputs ≤ 8 → StandsBeside fast two
     → FirstAlike is_open_to_fast two.slow flags (image_memory two.image.bytes) (first_two two flags)
-    → FastStands fast two flags samples [] (first_two two flags)
+    → FastStands fast two samples [] (first_two two flags)
 first_stands law fast two flags samples hf few stand alike =
     let image = image_memory two.image.bytes in
     let fits = arrival_fits law flags two.slow.memory_map.wait two.slow.step_bound (reset_with image) hf
@@ -65,5 +65,5 @@ first_stands law fast two flags samples hf few stand alike =
           (record { rom = λ at lo hi. refl; enters = stand.enters });
       outputs = outputs_stay fast (λ o. 0) image (first_two two flags).mem few alike.open_bytes stand.outputs;
       answers = tt;
-      told = λ k x lt. absurd (omega arith);
+      good = λ k x lt. absurd (omega arith);
     }

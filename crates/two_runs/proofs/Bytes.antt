@@ -12,7 +12,7 @@ use Rattle.cpu12_parts.specs.Cuts.{suspended, wav}
 use Rattle.cpu12_parts.specs.Fits.{FitsTemps, FitsState}
 use Rattle.cpu12_parts.specs.Inside.{PushesRunning, PushesNone}
 use Rattle.cpu12_emul.specs.Fits.{StepFits}
-use Rattle.cpu12_emul.specs.Simulation.{Simulates, AreSumsReady, HasRoom, IsShownStep, StepKeeps}
+use Rattle.cpu12_emul.specs.Simulation.{OnStackOrNone, Simulates, AreSumsReady, HasRoom, IsShownStep, StepKeeps}
 use Rattle.cpu12_emul.specs.Step.{Next}
 use Rattle.cpu12_emul.specs.Take.{framed}
 use Rattle.run_law.specs.Uninterrupted.{stepped, state_by}
@@ -67,7 +67,8 @@ ready_fits open_to s OnStack h = tt
 ready_fits open_to s (Running p w) h = (h.0, h.1)
 
 -- a state that simulates one before a shown step fits
-simulating_fits : (open_to : ℕ → Bool) (flags : ℕ) (w s : State) → IsShownStep open_to flags s → Simulates open_to w s
+simulating_fits : (open_to : ℕ → Bool) (flags : ℕ) (w s : State) → IsShownStep open_to flags s
+    → Simulates OnStackOrNone open_to w s
     → AreBytes w.mem → FitsState w
 simulating_fits open_to flags w s shown (inl l) bytes =
     let room : HasRoom s = shown.room in
@@ -86,7 +87,7 @@ simulating_fits open_to flags w s shown (inr l) bytes =
 
 pub step_bytes : BytesLaws → (open_to : ℕ → Bool) (flags : ℕ) (w s : State) → flags < 2 ^ 8
     → IsShownStep open_to flags s
-    → Simulates open_to w s → AreBytes w.mem → AreBytes (stepped flags w).mem
+    → Simulates OnStackOrNone open_to w s → AreBytes w.mem → AreBytes (stepped flags w).mem
 step_bytes laws open_to flags w s hf shown l bytes =
     let x = laws.step_keeps open_to flags w s l shown in
     let next : Next = x.next in
@@ -96,7 +97,7 @@ step_bytes laws open_to flags w s hf shown l bytes =
     subst (λ (u : State). AreBytes u.mem) (sym there) fits.mem
 
 pub push_bytes : BytesLaws → (open_to : ℕ → Bool) (flags : ℕ) (w s : State) → IsShownStep open_to flags s
-    → Simulates open_to w s → AreBytes w.mem → AreBytes (suspended wav w).mem
+    → Simulates OnStackOrNone open_to w s → AreBytes w.mem → AreBytes (suspended wav w).mem
 push_bytes laws open_to flags w s shown l bytes = cases w.temps refl
   where
     fits : FitsState w

@@ -6,7 +6,8 @@ use Rattle.std.proofs.lemmas.List.Elements.{All-cons}
 use Rattle.fuzzy_meaning.specs.declared.block.Block.{Block}
 use Rattle.cpu12_parts.specs.State.{State}
 use Rattle.run_law.specs.Forms.{Form, RowSeen, rows_from}
-use Rattle.run_law.specs.Following.{onto, all_onto}
+use Rattle.run_law.specs.Following.{onto, all_onto, EachTold}
+use Rattle.run_law.specs.Uninterrupted.{uninterrupted}
 use Rattle.interrupt_plan.specs.declared.levels.Level.{Level}
 use Rattle.eval_code.specs.declared.width.Width.TheVariants.{Byte}
 use Rattle.eval_code.specs.Bounds.{step_bound}
@@ -14,11 +15,13 @@ use Rattle.codegen.specs.Uninterrupted.{AreAnswersOf}
 use Rattle.two_level.specs.declared.two.Two.{Two}
 use Rattle.two_level.specs.Images.{fast_most}
 use Rattle.run_forms.specs.Rows.{shown_rows}
+use Rattle.firmware_ports.specs.Ports.{given}
 use Rattle.fz_run.specs.Rows.{bytes_of}
 use Rattle.two_runs.specs.Runs.{FastSeen}
 use Rattle.two_runs.specs.Rows.{with_fast}
-use Rattle.two_runs.specs.Answering.{runs_told, fast_runs, answer_of_fast, IsReadOff, IsTold, AreTold}
-use Rattle.two_runs.specs.Levels.{outputs_told, outputs_after, IsAnswerTold, AreAnswersTold}
+use Rattle.two_runs.specs.Answering.{runs_told, fast_runs, answer_of_fast, outputs_told, outputs_after, IsReadOff}
+use Rattle.two_runs.specs.Answering.{IsTold, IsToldFrom, AreTold}
+use Rattle.two_runs.specs.Levels.{IsAnswerTold, AreAnswersTold}
 
 -- those of all samples
 abbrev pub runs_in : List (List (Level × Option FastSeen)) → List FastSeen
@@ -100,29 +103,40 @@ all_answers b two samples (ts ∷ tss) done told =
 
 -- what holds of each that is read off
 module _ (b : Block) (two : Two) (flags : ℕ) (samples : List (List ℕ)) (P : FastSeen → Type 0)
-    (each : (l : Level) (f : FastSeen) → IsReadOff b two flags samples l f → P f) where
-  told_by_levels : (ts : List (Level × Option FastSeen)) (fs : List FastSeen)
-      → AreTold b two flags samples ts → All P fs
+    (each : (before : ℕ → ℕ) (slow : State) (l : Level) (f : FastSeen)
+    → IsReadOff b two flags samples before slow l f → P f) where
+  told_by_levels : (s : State) (done ts : List (Level × Option FastSeen)) (fs : List FastSeen)
+      → EachTold (IsToldFrom b two flags samples s) done ts → All P fs
       → All P (runs_told (map (λ t. t.1) ts) ++ fs)
-  told_by_levels [] fs told rest = rest
-  told_by_levels (t ∷ ts) fs told rest =
-      by t.1 (told 0 t (omega arith)) (told_by_levels ts fs (λ k d l. told (suc k) d (omega arith)) rest)
+  told_by_levels s done [] fs told rest = rest
+  told_by_levels s done (t ∷ ts) fs told rest =
+      by t.1 told.0 (told_by_levels s (t ∷ done) ts fs told.1 rest)
     where
-      by : (o : Option FastSeen) → IsTold b two flags samples t.0 o
+      l : Level
+      l = t.0
+
+      by : (o : Option FastSeen)
+          → IsTold b two flags samples (outputs_after b samples done) (uninterrupted flags l.moment s) l o
           → All P (runs_told (map (λ (u : Level × Option FastSeen). u.1) ts) ++ fs)
           → All P (cons_option o (runs_told (map (λ (u : Level × Option FastSeen). u.1) ts)) ++ fs)
       by None h more = more
       by (Some f) h more =
-          All-cons P f (runs_told (map (λ (u : Level × Option FastSeen). u.1) ts) ++ fs) (each t.0 f h) more
+          All-cons P f (runs_told (map (λ (u : Level × Option FastSeen). u.1) ts) ++ fs)
+          (each (outputs_after b samples done) (uninterrupted flags l.moment s) l f h) more
 
-  pub all_told : (tss : List (List (Level × Option FastSeen))) → All (AreTold b two flags samples) tss
-      → All P (runs_in tss)
-  all_told [] told = λ k x lt. absurd (omega arith)
-  all_told (ts ∷ tss) told =
-      told_by_levels ts (runs_in tss) (told 0 ts (omega arith)) (all_told tss (λ k d l. told (suc k) d (omega arith)))
+  pub all_told : (done : List (Level × Option FastSeen)) (tss : List (List (Level × Option FastSeen))) (ns : List ℕ)
+      (slow : List (List ℕ)) (s : State) → AreTold b two flags samples done tss ns slow s → All P (runs_in tss)
+  all_told done [] ns slow s told = λ k x lt. absurd (omega arith)
+  all_told done (ts ∷ tss) [] slow s told = absurd told
+  all_told done (ts ∷ tss) (n ∷ ns) [] s told = absurd told
+  all_told done (ts ∷ tss) (n ∷ ns) (x ∷ rest) s told =
+      let u = given two.slow.memory_map x s in
+      told_by_levels u done ts (runs_in tss) told.0
+      (all_told (onto ts done) tss ns rest (uninterrupted flags n u) told.1)
 
 -- their steps are within the bound
-pub few_steps : (b : Block) (two : Two) (flags : ℕ) (samples : List (List ℕ)) (l : Level) (f : FastSeen)
-    → IsReadOff b two flags samples l f → f.steps ≤ fast_most (step_bound Byte b)
-few_steps b two flags samples l f h =
+pub few_steps : (b : Block) (two : Two) (flags : ℕ) (samples : List (List ℕ)) (before : ℕ → ℕ) (slow : State)
+    (l : Level) (f : FastSeen)
+    → IsReadOff b two flags samples before slow l f → f.steps ≤ fast_most (step_bound Byte b)
+few_steps b two flags samples before slow l f h =
     let run = h.run in subst (λ (n : ℕ). n ≤ fast_most (step_bound Byte b)) (sym h.steps) run.steps

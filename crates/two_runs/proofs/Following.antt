@@ -8,7 +8,7 @@ use Rattle.cpu12_isa.specs.Memory.{plus, from, bytes_at}
 use Rattle.cpu12_isa.specs.Regions.{is_hidden, LeavesStack}
 use Rattle.std.specs.Prelude.{None}
 use Rattle.cpu12_parts.specs.State.{State}
-use Rattle.cpu12_emul.specs.Simulation.{Same}
+use Rattle.cpu12_emul.specs.Simulation.{OnStackOnly, Same}
 use Rattle.cpu12_emul.specs.Take.{may_interrupt}
 use Rattle.run_law.specs.Uninterrupted.{uninterrupted, first_open, taken_at}
 use Rattle.run_law.specs.Soundness.{Before, Sound, WritesAreQuiet, AllGood, Ascend}
@@ -17,8 +17,8 @@ use Rattle.run_law.proofs.Algebra.{before_more}
 use Rattle.two_level.specs.MemoryMaps.{fast_map}
 use Rattle.two_runs.specs.Runs.{fast_form, fast_run}
 use Rattle.two_runs.specs.Steps.{is_open_inside, IsFastState}
-use Rattle.two_runs.specs.Inside.{AnyMoment, HoldsBytes, Inside, FollowsInside, FastRunsFollow, AreOnStack}
-use Rattle.two_runs.proofs.Frames.{HasFrameRoom, frames_fit}
+use Rattle.two_runs.specs.Inside.{AnyMoment, HoldsBytes, Inside, FollowsInside, FastRunsFollow, AreOnStack, AreBelow}
+use Rattle.two_runs.proofs.Frames.{HasFrameRoom, frames_fit, frames_below}
 use Rattle.two_runs.proofs.Bytes.{BytesLaws, step_bytes, push_bytes, begins_fits, take_bytes}
 
 -- the outputs are shown
@@ -35,7 +35,7 @@ same_self s = record { regs = refl; temps = refl; mem = record { size = refl; by
 
 pub sound : BytesLaws → (image : List ℕ) (flags outputs sp : ℕ) → flags < 2 ^ 8 → outputs ≤ 8 → WritesAgree
     → WritesAreQuiet
-    → Sound is_open_inside (fast_form flags outputs sp) (IsFastState image flags sp) AnyMoment HoldsBytes
+    → Sound OnStackOnly is_open_inside (fast_form flags outputs sp) (IsFastState image flags sp) AnyMoment HoldsBytes
 sound laws image flags outputs sp hf few agree quiet = record {
   apart = apart;
   shown = λ s p. p.shown;
@@ -45,7 +45,7 @@ sound laws image flags outputs sp hf few agree quiet = record {
   ends = λ m w s l. ap (λ (r : Regs). nat_lt sp r.sp) l.regs;
   quiet = λ done a v s good p may begins own.
       (let shown = p.shown in (
-        quiet is_open_inside [] v s apart tt shown.room begins,
+        quiet OnStackOnly is_open_inside [] v s apart tt shown.room begins,
         take_bytes laws.bytes_stay v (begins_fits laws is_open_inside v s shown.room begins) own,
       ));
   leaves_open = record {
@@ -102,7 +102,7 @@ all_good [] = tt
 all_good (q ∷ qs) = (tt, all_good qs)
 
 pub fast_runs_follow : BytesLaws
-    → ((x : Inside) → RunFollows is_open_inside (fast_form x.flags x.outputs x.sp)
+    → ((x : Inside) → RunFollows OnStackOnly is_open_inside (fast_form x.flags x.outputs x.sp)
     (IsFastState x.image x.flags x.sp) AnyMoment HoldsBytes)
     → FastRunsFollow
 fast_runs_follow laws law b image flags most bytes before inner s t hf few fits ascend r le = by
@@ -146,8 +146,8 @@ fast_runs_follow laws law b image flags most bytes before inner s t hf few fits 
         (suc r.further) (suc r.further) s
     completes = record { sum = omega arith; holds = holds; on = on; ended = ended }
 
-    followed : Follows is_open_inside (fast_form flags (length b.outputs) s.regs.sp) HoldsBytes [] 0 (suc r.further)
-        (suc r.further) inner s
+    followed : Follows OnStackOnly is_open_inside (fast_form flags (length b.outputs) s.regs.sp) HoldsBytes [] 0
+        (suc r.further) (suc r.further) inner s
         (fast_run flags (length b.outputs) most inner s)
     followed =
         law inside [] 0 (suc r.further) (suc r.further) most inner s s le (all_good inner)
@@ -164,5 +164,9 @@ fast_runs_follow laws law b image flags most bytes before inner s t hf few fits 
       follows = followed;
       stack = subst AreOnStack (sym followed.frames)
           (frames_fit flags (suc r.further) s (taken_at flags (λ k. k) (suc r.further) s) room inner None);
+      below = subst (AreBelow s.regs.sp) (sym followed.frames)
+          (frames_below flags (suc r.further) s.regs.sp s (taken_at flags (λ k. k) (suc r.further) s) room
+          (λ j l. (let p : IsFastState image flags s.regs.sp (uninterrupted flags j s) = holds j l in p.stack)) inner
+          None);
       moments = moments;
     }

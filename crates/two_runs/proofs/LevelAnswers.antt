@@ -3,6 +3,7 @@ use Rattle.std.proofs.Common.{◌≡◌, ℕ, ◌≤◌, List, [], map, length, 
 use Rattle.std.specs.Prelude.{All, Option}
 use Rattle.cpu12_parts.specs.State.{State}
 use Rattle.cpu12_emul.specs.Image.{image_memory}
+use Rattle.cpu12_emul.specs.Simulation.{OnStackOrNone}
 use Rattle.run_law.specs.Forms.{RowSeen, Rows}
 use Rattle.run_law.specs.Following.{all_onto, AllFollow, RunsFollow}
 use Rattle.run_law.specs.Moments.{TakenAtOnce}
@@ -24,7 +25,7 @@ use Rattle.run_forms.proofs.Algebra.{all_onto_all}
 use Rattle.two_runs.specs.Runs.{FastSeen}
 use Rattle.two_runs.specs.Inside.{AreOnStack}
 use Rattle.two_runs.specs.Rows.{levels_of, level_form, first_two, two_rows}
-use Rattle.two_runs.specs.Answering.{plan_of, fast_runs_of, IsTold, AreTold, taken_by, AnswersUnderLevels}
+use Rattle.two_runs.specs.Answering.{plan_of, fast_runs_of, AreTold, taken_by, AnswersUnderLevels}
 use Rattle.two_runs.specs.Levels.{Levels, fitted_form, FastStands}
 use Rattle.two_runs.proofs.Arriving.{first_stands}
 use Rattle.two_runs.proofs.FastRuns.{Answer, runs_in, runs_are, all_answers, all_told, few_steps}
@@ -33,6 +34,7 @@ use Rattle.two_runs.proofs.LevelPlans.{plan_good, levels_are_good}
 use Rattle.two_runs.proofs.LevelRows.{SlowFacts, complete, same_numbers, same_rows, same_taken, on_stack}
 use Rattle.two_runs.proofs.LevelServing.{LevelLaws, Given, bounds, few_outputs}
 use Rattle.two_runs.proofs.LevelSound.{level_sound}
+use Rattle.two_runs.proofs.LevelTelling.{steps_are, rows_told}
 
 -- the laws of lower crates, and the law on runs
 pub record AnswerLaws : Type 0 where
@@ -45,9 +47,9 @@ pub record AnswerLaws : Type 0 where
   pub answers_under_plans : AnswersUnderPlans
   pub requests_are_good : RequestsAreGood
   pub runs_follow : (x : Levels)
-      → RunsFollow is_open_to_fast (fitted_form x.flags x.two x.samples)
+      → RunsFollow OnStackOrNone is_open_to_fast (fitted_form x.flags x.two x.samples)
       (FactsBeside is_open_to_fast x.flags x.two.slow)
-      (IsGoodLevel (length x.samples)) (FastStands x.fast x.two x.flags x.samples)
+      (IsGoodLevel (length x.samples)) (FastStands x.fast x.two x.samples)
 
 pub answers_under_levels : AnswerLaws → AnswersUnderLevels
 answers_under_levels laws two flags slow_samples samples levels hf good slow fast vs ls vf lf is slow_inputs inputs =
@@ -65,15 +67,17 @@ answers_under_levels laws two flags slow_samples samples levels hf good slow fas
           (λ (fs : List FastSeen). All (λ (f : FastSeen). (1 ≤ f.number) × (f.number ≤ length samples)) fs)
           (sym fast_are)
           (all_told fast two flags samples (λ f. (1 ≤ f.number) × (f.number ≤ length samples))
-          (λ l f h. (h.from, h.to)) all.told told);
+          (λ before at l f h. (h.from, h.to)) [] all.told runs.ns slow_samples first told);
       fast_answers = subst (λ (fs : List FastSeen). Answer fast two samples (λ o. 0) fs) (sym fast_are)
           (all_answers fast two samples all.told [] own.answers).0;
       fast_steps = subst (λ (fs : List FastSeen). All (λ (f : FastSeen). f.steps ≤ fast_most two.fast.step_bound) fs)
           (sym fast_are)
           (subst (λ (n : ℕ). All (λ (f : FastSeen). f.steps ≤ fast_most n) (runs_in all.told)) (sym bound)
           (all_told fast two flags samples (λ f. f.steps ≤ fast_most (step_bound Byte fast))
-          (few_steps fast two flags samples) all.told told));
-      told = told;
+          (few_steps fast two flags samples) [] all.told runs.ns slow_samples first told));
+      told = subst (λ (ns : List ℕ). AreTold fast two flags samples [] all.told ns slow_samples first)
+          (sym (ap (map (λ (r : RowSeen (List ℕ)). r.steps)) rows_of
+          ∙ steps_are flags two (plan_of levels) 1 runs.ns slow_samples first runs.complete)) told;
       stack = subst (λ (rows : List (RowSeen (List ℕ))). All (λ (r : RowSeen (List ℕ)). AreOnStack r.frames) rows)
           (sym rows_of)
           (on_stack flags two (plan_of levels) 1 runs.ns slow_samples first runs.complete);
@@ -115,7 +119,7 @@ answers_under_levels laws two flags slow_samples samples levels hf good slow fas
         ls firmware
         stand.alike
 
-    begins : FastStands fast two flags samples [] (first_two two flags)
+    begins : FastStands fast two samples [] (first_two two flags)
     begins =
         (let level_laws = laws.levels in
         let bytes = level_laws.bytes in
@@ -137,10 +141,10 @@ answers_under_levels laws two flags slow_samples samples levels hf good slow fas
     all : Rows (List ℕ) Level (Option FastSeen)
     all = two_rows two slow_samples samples levels flags
 
-    followed : AllFollow is_open_to_fast (fitted_form flags two samples) (FastStands fast two flags samples) []
+    followed : AllFollow OnStackOrNone is_open_to_fast (fitted_form flags two samples) (FastStands fast two samples) []
         (λ k. levels_of k levels) 1 runs.ns slow_samples first all
     followed =
-        subst (AllFollow is_open_to_fast (fitted_form flags two samples) (FastStands fast two flags samples) []
+        subst (AllFollow OnStackOrNone is_open_to_fast (fitted_form flags two samples) (FastStands fast two samples) []
         (λ k. levels_of k levels) 1 runs.ns slow_samples first)
         (rows_fitted (level_form flags two samples) two.slow.step_bound (λ k. levels_of k levels) 1 slow_samples
         (first_two two flags) fitted_all)
@@ -152,7 +156,7 @@ answers_under_levels laws two flags slow_samples samples levels hf good slow fas
         (first_two two flags) alike)
         begins)
 
-    own : FastStands fast two flags samples (all_onto all.told []) all.state
+    own : FastStands fast two samples (all_onto all.told []) all.state
     own = followed.own
 
     under : AnswersUnder slow two.slow flags slow_samples (plan_of levels)
@@ -181,9 +185,10 @@ answers_under_levels laws two flags slow_samples samples levels hf good slow fas
     fast_are = runs_are (level_form flags two samples) two.slow.step_bound (λ k. levels_of k levels) 1 slow_samples
         (first_two two flags)
 
-    told : All (AreTold fast two flags samples) all.told
-    told = (all_onto_all (λ (t : Level × Option FastSeen). IsTold fast two flags samples t.0 t.1) all.told []
-        own.told).0
+    told : AreTold fast two flags samples [] all.told runs.ns slow_samples first
+    told = rows_told x laws.taken_at_once [] all.told runs.ns slow_samples first fitted_all runs.complete
+        (all_onto_all (λ (t : Level × Option FastSeen). IsGoodLevel (length samples) t.0) all.told [] own.good).0
+        followed.told
 
     bound : two.fast.step_bound ≡ step_bound Byte fast
     bound = (let of_fast = bounds x in of_fast.steps)

@@ -33,7 +33,7 @@ abbrev pub SlowFacts : ℕ → Two → State → Type 0
 SlowFacts flags two = FactsBeside is_open_to_fast flags two.slow
 
 -- the run without interrupts is that of the slow firmware alone
-given_is : (two : Two) (x : List ℕ) (s : State) → fitted x ≡ x
+pub given_is : (two : Two) (x : List ℕ) (s : State) → fitted x ≡ x
     → given two.slow.memory_map (fitted x) s ≡ given two.slow.memory_map x s
 given_is two x s e = ap (λ (v : List ℕ). given two.slow.memory_map v s) e
 
@@ -91,7 +91,7 @@ open_at : (flags : ℕ) (two : Two) (n : ℕ) (s : State) → Before (SlowFacts 
     → (j : ℕ) → j < n → may_interrupt (uninterrupted flags j s) ≡ true
 open_at flags two n s holds j l = ap not (let p = holds j l in let facts = p.facts in facts.unmasked)
 
-moments_are : TakenAtOnce → (flags : ℕ) (two : Two) (n : ℕ) (s : State) → Before (SlowFacts flags two) flags n s
+pub moments_are : TakenAtOnce → (flags : ℕ) (two : Two) (n : ℕ) (s : State) → Before (SlowFacts flags two) flags n s
     → taken_at flags (λ (l : Level). l.moment) n s ≡ (λ l. l.moment)
 moments_are law flags two n s holds = λ i. λ l. law flags n s l.moment (open_at flags two n s holds) i
 

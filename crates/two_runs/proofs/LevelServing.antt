@@ -16,7 +16,7 @@ use Rattle.cpu12_parts.specs.declared.temps.Temps.{Temps}
 use Rattle.cpu12_parts.specs.declared.temps.Temps.TheVariants.{Free, Running, OnStack}
 use Rattle.cpu12_parts.specs.State.{State}
 use Rattle.cpu12_emul.specs.Image.{image_memory}
-use Rattle.cpu12_emul.specs.Simulation.{HasRoom, TakesQuietly}
+use Rattle.cpu12_emul.specs.Simulation.{OnStackOrNone, HasRoom, TakesQuietly}
 use Rattle.cpu12_emul.specs.Take.{framed}
 use Rattle.run_law.specs.Forms.{Ran}
 use Rattle.run_law.specs.Uninterrupted.{counted}
@@ -32,12 +32,12 @@ use Rattle.fz_run.specs.OpenBytes.{StepsLeaveOpen, GivenLeavesOpen}
 use Rattle.fz_run.specs.Rows.{bytes_of}
 use Rattle.two_runs.specs.Runs.{Outer, FastSeen, entered, fast_run, seen_of, served, told, served_by, told_by}
 use Rattle.two_runs.specs.Steps.{is_open_inside}
-use Rattle.two_runs.specs.Inside.{FastRunsFollow}
-use Rattle.two_runs.specs.Outer.{HasFastCode, CanEnter, IsQuietRun, OuterIsQuiet, IsServable, OuterIsServable, AreSlow}
-use Rattle.two_runs.specs.Outer.{OuterServes}
+use Rattle.two_runs.specs.Inside.{FollowsInside, FastRunsFollow}
+use Rattle.two_runs.specs.Outer.{HasFastCode, OuterEnters, CanEnter, IsQuietRun, OuterIsQuiet, RunsFast, IsServable}
+use Rattle.two_runs.specs.Outer.{OuterIsServable, AreSlow, OuterServes}
 use Rattle.two_runs.specs.Rows.{sample_of, outer_of}
-use Rattle.two_runs.specs.Answering.{IsTold}
-use Rattle.two_runs.specs.Levels.{outputs_after, FastStands}
+use Rattle.two_runs.specs.Answering.{outputs_after, IsReadOff, IsTold}
+use Rattle.two_runs.specs.Levels.{FastStands}
 use Rattle.two_runs.proofs.Bytes.{BytesLaws, begins_fits, take_bytes}
 use Rattle.two_runs.proofs.Entering.{bytes_stay}
 use Rattle.two_runs.proofs.Serving.{open_apart}
@@ -54,6 +54,7 @@ pub record LevelLaws : Type 0 where
   pub is_quiet : OuterIsQuiet
   pub serves : OuterServes
   pub servable : OuterIsServable
+  pub enters : OuterEnters
   pub alone_has_byte_bounds : AloneHasByteBounds
 
 -- two valid blocks with their image, open flags, and samples of the fast one
@@ -82,7 +83,7 @@ few_inputs x = let v = x.fast_valid in v.few_inputs
 pub record Serves (x : Given) (done : List (Level × Option FastSeen)) (v s : State) : Type 0 where
   pub facts : FactsBeside is_open_to_fast x.flags x.two.slow s
   pub begins : Begins is_open_to_fast v s
-  pub stands : FastStands x.fast x.two x.flags x.samples done v
+  pub stands : FastStands x.fast x.two x.samples done v
 
 room_of : (x : Given) (done : List (Level × Option FastSeen)) (v s : State) → Serves x done v s → HasRoom s
 room_of x done v s h = let p = h.facts in let facts = p.facts in let shown = facts.shown in shown.room
@@ -121,24 +122,24 @@ no_open at h = absurd (never h)
     never e = cc
 
 unserved : (x : Given) (done : List (Level × Option FastSeen)) (l : Level) (v s : State) → Serves x done v s
-    → l.fast ≡ 0
-    → FastStands x.fast x.two x.flags x.samples ((l, None) ∷ done) (framed [] v)
-unserved x done l v s h none =
+    → IsGoodLevel (length x.samples) l
+    → FastStands x.fast x.two x.samples ((l, None) ∷ done) (framed [] v)
+unserved x done l v s h good =
     let can = can_enter x done v s h in
     let laws = x.laws in
     let low = can.low in
     let same = laws.takes_quietly is_open_inside [] v no_open tt can.size can.fits (omega arith) can.high in
     let bytes_laws = laws.bytes in
     let kept =
-    stands x.fast x.two x.flags x.samples done v (framed [] v) (few_outputs x)
+    stands x.fast x.two x.samples done v (framed [] v) (few_outputs x)
     (λ at is. same.mem.bytes at (apart at is)) (take_bytes bytes_laws.bytes_stay v can.fits can.bytes) h.stands in
     record {
       bytes = kept.bytes;
       code = kept.code;
       outputs = kept.outputs;
       answers = (tt, kept.answers);
-      told = All-cons (λ (t : Level × Option FastSeen). IsTold x.fast x.two x.flags x.samples t.0 t.1)
-          (l, None) done none kept.told;
+      good = All-cons (λ (t : Level × Option FastSeen). IsGoodLevel (length x.samples) t.0) (l, None) done good
+          kept.good;
     }
   where
     off_stack : (at : ℕ) → v.regs.sp ≤ 0x2000 → (at < 0x1FE0) ⊎ (0x2000 ≤ at)
@@ -188,27 +189,47 @@ code_kept image m n sp l a h = record {
     shown : (at : ℕ) → 0x4000 ≤ at → is_hidden is_fast_ram sp at ≡ false
     shown at lo = grind (arith, nat_tests)
 
+-- the run without inner requests, which it follows
+FastRan : Given → List (Level × Option FastSeen) → Level → State → Type 0
+FastRan x done l v =
+    (fast : RunsFast x.fast (image_memory x.two.image.bytes) x.flags (most_of x) (outputs_after x.fast x.samples done) v
+    (bytes_in x l))
+    × FollowsInside x.flags (length x.fast.outputs) (most_of x) l.inner.items
+    (suc (let run = fast.run in run.further)) (entered (bytes_in x l) v)
+
+fast_ran : (x : Given) (done : List (Level × Option FastSeen)) (l : Level) (v s : State) → Serves x done v s
+    → AreInputBytes x.fast (bytes_in x l) → Ascend (λ k. k) 0 l.inner.items → FastRan x done l v
+unfolding FastRan
+fast_ran x done l v s h input ascend =
+    let laws = x.laws in
+    let can = can_enter x done v s h in
+    let fast = (servable x done l v s h input).1 in
+    let stay = (let b = laws.bytes in b.bytes_stay) in
+    let own = h.stands in (
+      fast,
+      laws.follow x.fast (image_memory x.two.image.bytes) x.flags (most_of x) (bytes_in x l)
+          (outputs_after x.fast x.samples done) l.inner.items (entered (bytes_in x l) v) fast.behind x.flags_fit
+          (few_outputs x) (bytes_stay stay (bytes_in x l) v input.fit can.fits can.bytes) ascend fast.run fast.within,
+    )
+
 served_stands : (x : Given) (done : List (Level × Option FastSeen)) (l : Level) (v s : State) → Serves x done v s
-    → 1 ≤ l.fast → l.fast ≤ length x.samples → AreInputBytes x.fast (bytes_in x l) → Ascend (λ k. k) 0 l.inner.items
-    → FastStands x.fast x.two x.flags x.samples
+    → IsGoodLevel (length x.samples) l → AreInputBytes x.fast (bytes_in x l) → Ascend (λ k. k) 0 l.inner.items
+    → FastStands x.fast x.two x.samples
     ((l, Some (seen_of l.fast (length x.fast.outputs) (ran_of x l v))) ∷ done) (ran_of x l v).state
-served_stands x done l v s h from to input ascend =
+unfolding FastRan
+served_stands x done l v s h good input ascend =
     let laws = x.laws in
     let image = image_memory x.two.image.bytes in
     let before = outputs_after x.fast x.samples done in
     let can = can_enter x done v s h in
     let own = h.stands in
-    let fast = (servable x done l v s h input).1 in
+    let ran = fast_ran x done l v s h input ascend in
+    let fast = ran.0 in
     let run = fast.run in
     let k : IsQuietRun x.fast (bytes_in x l) before v (ran_of x l v) =
     laws.is_quiet x.fast image (bytes_in x l) x.flags (most_of x) before l.inner.items v fast.behind x.flags_fit
     (few_inputs x) (few_outputs x) input can ascend run fast.within in
-    let stay = (let b = laws.bytes in b.bytes_stay) in
-    let inside =
-    laws.follow x.fast image x.flags (most_of x) (bytes_in x l) before l.inner.items
-    (entered (bytes_in x l) v) fast.behind
-    x.flags_fit (few_outputs x) (bytes_stay stay (bytes_in x l) v input.fit can.fits can.bytes) ascend run
-    fast.within in
+    let inside = ran.1 in
     let most = x.two.fast.instr_bound in
     let steps : (ran_of x l v).instrs ≤ fast_most most =
     (let follows = inside.follows in let bound = bounds x in
@@ -224,10 +245,24 @@ served_stands x done l v s h from to input ascend =
             (few_outputs x) steps k.answers,
         own.answers,
       );
-      told = All-cons (λ (t : Level × Option FastSeen). IsTold x.fast x.two x.flags x.samples t.0 t.1)
-          (l, Some (seen_of l.fast (length x.fast.outputs) (ran_of x l v))) done
-          (read_off x.fast x.two x.flags (most_of x) x.samples l before v fast.behind from to run inside) own.told;
+      good = All-cons (λ (t : Level × Option FastSeen). IsGoodLevel (length x.samples) t.0)
+          (l, Some (seen_of l.fast (length x.fast.outputs) (ran_of x l v))) done good own.good;
     }
+
+told_read : (x : Given) (done : List (Level × Option FastSeen)) (l : Level) (v s : State) → Serves x done v s
+    → 1 ≤ l.fast → l.fast ≤ length x.samples → AreInputBytes x.fast (bytes_in x l) → Ascend (λ k. k) 0 l.inner.items
+    → IsReadOff x.fast x.two x.flags x.samples (outputs_after x.fast x.samples done) s l
+    (seen_of l.fast (length x.fast.outputs) (ran_of x l v))
+unfolding FastRan
+told_read x done l v s h from to input ascend =
+    let laws = x.laws in
+    let before = outputs_after x.fast x.samples done in
+    let room = room_of x done v s h in
+    let ran = fast_ran x done l v s h input ascend in
+    let fast = ran.0 in
+    read_off x.fast x.two x.flags x.samples l before s v fast.behind from to (room.low, room.high) h.begins
+    (laws.enters x.fast (image_memory x.two.image.bytes) (bytes_in x l) before v (few_inputs x) (few_outputs x) input
+    (can_enter x done v s h)) fast.run ran.1
 
 -- the sample of a level
 abbrev IsSampleOf : Given → Level → Type 0
@@ -276,16 +311,16 @@ slow_sums (Running p w) h = tt
 -- what a level leaves, with so many outputs and this sample
 abbrev AfterLevel : (x : Given) → List (Level × Option FastSeen) → Level → State → State → ℕ → Option (List ℕ) → Type 0
 AfterLevel x done l v s n sample =
-    Quiet is_open_to_fast (served_by x.flags n (most_of x) l.inner.items sample v) v s
-    × FastStands x.fast x.two x.flags x.samples
+    Quiet OnStackOrNone is_open_to_fast (served_by x.flags n (most_of x) l.inner.items sample v) v s
+    × FastStands x.fast x.two x.samples
     ((l, told_by x.flags n (most_of x) l.fast l.inner.items sample v) ∷ done)
     (served_by x.flags n (most_of x) l.inner.items sample v)
 
 pub serves : (x : Given) (done : List (Level × Option FastSeen)) (l : Level) (v s : State)
     → IsGoodLevel (length x.samples) l
     → Serves x done v s
-    → Quiet is_open_to_fast (served x.flags x.two.fast.outputs (most_of x) (outer_of x.samples l) v) v s
-    × FastStands x.fast x.two x.flags x.samples
+    → Quiet OnStackOrNone is_open_to_fast (served x.flags x.two.fast.outputs (most_of x) (outer_of x.samples l) v) v s
+    × FastStands x.fast x.two x.samples
     ((l, told x.flags x.two.fast.outputs (most_of x) (outer_of x.samples l) v) ∷ done)
     (served x.flags x.two.fast.outputs (most_of x) (outer_of x.samples l) v)
 serves x done l v s good h =
@@ -301,7 +336,8 @@ serves x done l v s good h =
     quiet : (sample : Option (List ℕ))
         → IsServable x.fast (image_memory x.two.image.bytes) x.flags (most_of x)
         (outputs_after x.fast x.samples done) v sample
-        → Quiet is_open_to_fast (served_by x.flags (length x.fast.outputs) (most_of x) l.inner.items sample v) v s
+        → Quiet OnStackOrNone is_open_to_fast (served_by x.flags (length x.fast.outputs) (most_of x)
+        l.inner.items sample v) v s
     quiet sample good_sample =
         (let laws = x.laws in
         let slow = (let p = h.facts in let facts = p.facts in slow_sums s.temps facts.sums) in
@@ -313,9 +349,30 @@ serves x done l v s good h =
     by : IsSampleOf x l → AfterLevel x done l v s (length x.fast.outputs) (sample_of x.samples l.fast)
     by (inl e) =
         subst (λ (sample : Option (List ℕ)). AfterLevel x done l v s (length x.fast.outputs) sample) (sym e.0)
-        (quiet None tt, unserved x done l v s h e.1)
+        (quiet None tt, unserved x done l v s h good)
     by (inr e) =
         subst (λ (sample : Option (List ℕ)). AfterLevel x done l v s (length x.fast.outputs) sample) (sym e.0) (
           quiet (Some (bytes_in x l)) (servable x done l v s h e.2),
-          served_stands x done l v s h e.1 good.fast_to e.2 ascend,
+          served_stands x done l v s h good e.2 ascend,
         )
+
+-- and what it tells
+abbrev ToldBy : (x : Given) → List (Level × Option FastSeen) → Level → State → State → ℕ → Option (List ℕ) → Type 0
+ToldBy x done l v s n sample =
+    IsTold x.fast x.two x.flags x.samples (outputs_after x.fast x.samples done) s l
+    (told_by x.flags n (most_of x) l.fast l.inner.items sample v)
+
+pub tells : (x : Given) (done : List (Level × Option FastSeen)) (l : Level) (v s : State)
+    → IsGoodLevel (length x.samples) l → Serves x done v s
+    → IsTold x.fast x.two x.flags x.samples (outputs_after x.fast x.samples done) s l
+    (told x.flags x.two.fast.outputs (most_of x) (outer_of x.samples l) v)
+tells x done l v s good h =
+    subst (λ (n : ℕ). ToldBy x done l v s n (sample_of x.samples l.fast)) (sym (outputs_are x))
+    (by (sample_is x l good.fast_to))
+  where
+    by : IsSampleOf x l → ToldBy x done l v s (length x.fast.outputs) (sample_of x.samples l.fast)
+    by (inl e) =
+        subst (λ (sample : Option (List ℕ)). ToldBy x done l v s (length x.fast.outputs) sample) (sym e.0) e.1
+    by (inr e) =
+        subst (λ (sample : Option (List ℕ)). ToldBy x done l v s (length x.fast.outputs) sample) (sym e.0)
+        (told_read x done l v s h e.1 good.fast_to e.2 (inner_ascends l.inner.items good.inner_rise))

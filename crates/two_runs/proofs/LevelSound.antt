@@ -5,7 +5,7 @@ use Rattle.cpu12_isa.specs.Agreement.{WritesAgree}
 use Rattle.cpu12_isa.specs.Fits.{AreBytes}
 use Rattle.cpu12_parts.specs.State.{State}
 use Rattle.cpu12_parts.specs.Cuts.{suspended, wav}
-use Rattle.cpu12_emul.specs.Simulation.{Simulates}
+use Rattle.cpu12_emul.specs.Simulation.{OnStackOrNone, Simulates}
 use Rattle.run_law.specs.Uninterrupted.{stepped}
 use Rattle.run_law.specs.Soundness.{Sound, WritesAreQuiet}
 use Rattle.interrupt_plan.specs.declared.levels.Level.{Level}
@@ -66,8 +66,9 @@ given_stays x leaves bytes w =
 
 pub level_sound : (x : Given) → LeavesMapped is_open_to_fast x.two.slow.memory_map → IsLow x.two.slow → WritesAgree
     → WritesAreQuiet
-    → Sound is_open_to_fast (fitted_form x.flags x.two x.samples) (FactsBeside is_open_to_fast x.flags x.two.slow)
-    (IsGoodLevel (length x.samples)) (FastStands x.fast x.two x.flags x.samples)
+    → Sound OnStackOrNone is_open_to_fast (fitted_form x.flags x.two x.samples)
+    (FactsBeside is_open_to_fast x.flags x.two.slow)
+    (IsGoodLevel (length x.samples)) (FastStands x.fast x.two x.samples)
 level_sound x leaves_slow low agree quiet = record {
   apart = open_apart;
   shown = λ s p. (let facts = p.facts in facts.shown);
@@ -103,11 +104,11 @@ level_sound x leaves_slow low agree quiet = record {
 
     kept : (done : List (Level × Option FastSeen)) (w u : State) → AreOpenAlike is_open_to_fast w.mem u.mem
         → AreBytes u.mem
-        → FastStands x.fast x.two x.flags x.samples done w → FastStands x.fast x.two x.flags x.samples done u
-    kept done w u alike bytes o = stands x.fast x.two x.flags x.samples done w u (few_outputs x) alike bytes o
+        → FastStands x.fast x.two x.samples done w → FastStands x.fast x.two x.samples done u
+    kept done w u alike bytes o = stands x.fast x.two x.samples done w u (few_outputs x) alike bytes o
 
-    open_left : (w s : State) → FactsBeside is_open_to_fast x.flags x.two.slow s → Simulates is_open_to_fast w s
-        → StepLeavesOpen is_open_to_fast x.flags w
+    open_left : (w s : State) → FactsBeside is_open_to_fast x.flags x.two.slow s
+        → Simulates OnStackOrNone is_open_to_fast w s → StepLeavesOpen is_open_to_fast x.flags w
     open_left w s p l = laws.steps_leave_open is_open_to_fast x.flags x.two.slow w s open_apart p l
 
     given_fit : (bytes : List ℕ) (w : State) → AreBytes w.mem

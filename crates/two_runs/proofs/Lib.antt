@@ -16,6 +16,7 @@ pub mod Frames
 pub mod Standing
 pub mod Telling
 pub mod LevelServing
+pub mod LevelTelling
 pub mod LevelSound
 pub mod Fitting
 pub mod LevelPlans

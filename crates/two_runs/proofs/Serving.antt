@@ -8,6 +8,7 @@ use Rattle.cpu12_isa.specs.Regions.{is_free, is_vector, is_hidden, LeavesStack}
 use Rattle.cpu12_parts.specs.declared.temps.Temps.{Temps}
 use Rattle.cpu12_parts.specs.declared.temps.Temps.TheVariants.{Free, Running, OnStack}
 use Rattle.cpu12_parts.specs.Laws.{IsOff}
+use Rattle.cpu12_emul.specs.Simulation.{OnStackOrNone}
 use Rattle.run_law.specs.Soundness.{WritesAreQuiet, Quiet, AreLeft}
 use Rattle.two_level.specs.MemoryMaps.{is_fast_ram, is_fast_rom, is_open_to_fast}
 use Rattle.two_runs.specs.Runs.{entered, fast_run, served_by}
@@ -46,7 +47,8 @@ more_hidden sp m n a = record { size = a.size; bytes = λ at h. a.bytes at (less
         rw (r.0, p.1) refl
 
 -- the sums that are left
-left : (t u v : Temps) → AreSlow t → IsOff u → (v ≡ Free → u ≡ Free) → (t ≡ Free → v ≡ Free) → AreLeft t u v
+left : (t u v : Temps) → AreSlow t → IsOff u → (v ≡ Free → u ≡ Free) → (t ≡ Free → v ≡ Free)
+    → AreLeft OnStackOrNone t u v
 left (Running p w) u v slow off stays same = off
 left Free u v slow off stays same = stays (same refl) ∙ sym (same refl)
 left OnStack u v slow off stays same = absurd slow
@@ -56,8 +58,8 @@ outer_serves quiet runs b image flags most before q v s hf few_in few_out can se
     by q.sample servable
   where
     by : (sample : Option (List ℕ)) → IsServable b image flags most before v sample
-        → Quiet is_open_to_fast (served_by flags (length b.outputs) most q.inner sample v) v s
-    by None h = quiet is_open_to_fast [] v s open_apart tt room begins
+        → Quiet OnStackOrNone is_open_to_fast (served_by flags (length b.outputs) most q.inner sample v) v s
+    by None h = quiet OnStackOrNone is_open_to_fast [] v s open_apart tt room begins
     by (Some bytes) h =
         (let fast : RunsFast b image flags most before v bytes = h.1 in
         let ran = fast_run flags (length b.outputs) most q.inner (entered bytes v) in

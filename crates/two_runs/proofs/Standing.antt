@@ -15,7 +15,8 @@ use Rattle.two_level.specs.MemoryMaps.{fast_map, is_fast_ram, is_fast_rom, is_op
 use Rattle.fz_run.specs.OpenBytes.{AreOpenAlike}
 use Rattle.two_runs.specs.Runs.{FastSeen}
 use Rattle.two_runs.specs.Outer.{HasFastCode}
-use Rattle.two_runs.specs.Levels.{outputs_after, FastStands}
+use Rattle.two_runs.specs.Levels.{FastStands}
+use Rattle.two_runs.specs.Answering.{outputs_after}
 
 -- the fast block's ROM and RAM are open
 pub rom_open : (at : ℕ) → 0x4000 ≤ at → at < 0x7F00 → is_open_to_fast at ≡ true
@@ -46,13 +47,13 @@ outputs_stay b answers m n few alike h o from to =
     let r = h o from to in
     (alike at (ram_open at (omega arith) (omega arith)) ∙ r.0, tt)
 
-pub stands : (b : Block) (two : Two) (flags : ℕ) (fast : List (List ℕ)) (done : List (Level × Option FastSeen))
+pub stands : (b : Block) (two : Two) (fast : List (List ℕ)) (done : List (Level × Option FastSeen))
     (w u : State) → length b.outputs ≤ 8 → AreOpenAlike is_open_to_fast w.mem u.mem → AreBytes u.mem
-    → FastStands b two flags fast done w → FastStands b two flags fast done u
-stands b two flags fast done w u few alike bytes h = record {
+    → FastStands b two fast done w → FastStands b two fast done u
+stands b two fast done w u few alike bytes h = record {
   bytes = bytes;
   code = code_stays (image_memory two.image.bytes) w.mem u.mem alike h.code;
   outputs = outputs_stay b (outputs_after b fast done) w.mem u.mem few alike h.outputs;
   answers = h.answers;
-  told = h.told;
+  good = h.good;
 }

@@ -1,5 +1,6 @@
 -- What is told of a fast run is read off its run without inner requests, and answers its sample.
-use Rattle.std.proofs.Common.{◌≡◌, ℕ, zero, suc, ◌+◌, ◌-◌, ◌*◌, ◌<◌, ◌≤◌, max, List, length, refl, ap, sym, ◌∙◌, arith}
+use Rattle.std.proofs.Common.{◌≡◌, ℕ, zero, suc, ◌+◌, ◌-◌, ◌*◌, ◌<◌, ◌≤◌, max, List, length, refl, ap, sym, ◌∙◌, subst}
+use Rattle.std.proofs.Common.{arith}
 use Rattle.std.specs.Prelude.{slice_index}
 use Rattle.fuzzy_meaning.specs.declared.block.Block.{Block}
 use Rattle.cpu12_isa.specs.Memory.{plus, from, bytes_at}
@@ -7,18 +8,22 @@ use Rattle.cpu12_parts.specs.State.{State}
 use Rattle.cpu12_emul.specs.Image.{image_memory}
 use Rattle.run_law.specs.Forms.{Ran}
 use Rattle.run_law.specs.Uninterrupted.{counted, taken_at, resumed_of, frames_of}
+use Rattle.run_law.specs.Soundness.{Begins}
 use Rattle.interrupt_plan.specs.declared.levels.Level.{Level}
 use Rattle.eval_code.specs.declared.width.Width.TheVariants.{Byte}
 use Rattle.eval_code.specs.Widths.{answer}
 use Rattle.eval_code.specs.Evaluation.{HasAnswers}
 use Rattle.codegen.specs.Uninterrupted.{IsAnswerOf}
 use Rattle.two_level.specs.declared.two.Two.{Two}
-use Rattle.two_level.specs.MemoryMaps.{fast_map}
+use Rattle.two_level.specs.Images.{fast_most}
+use Rattle.two_level.specs.MemoryMaps.{fast_map, is_open_to_fast}
+use Rattle.two_level.specs.Running.{IsEntered}
 use Rattle.fz_run.specs.Rows.{bytes_of}
-use Rattle.two_runs.specs.Runs.{entered, fast_run, seen_of}
+use Rattle.two_runs.specs.Runs.{entered, seen_of}
 use Rattle.two_runs.specs.Steps.{IsFastRun}
-use Rattle.two_runs.specs.Inside.{FollowsInside}
-use Rattle.two_runs.specs.Answering.{IsReadOff, answer_of_fast}
+use Rattle.two_runs.specs.Inside.{FollowsInside, AreBelow}
+use Rattle.two_runs.specs.Answering.{run_of_level, IsReadOff, answer_of_fast}
+use Rattle.two_runs.proofs.Frames.{HasFrameRoom, frame_at}
 
 -- bytes one after the other
 read_at : (n at k : ℕ) (m : List ℕ) → k < n → at + n ≤ 0xFFFF
@@ -49,32 +54,40 @@ answers_told b most number before bytes r few le h = record {
     place : (o : ℕ) → fast_map.outputs + (o - 1) ≡ fast_map.outputs + 1 * (o - 1)
     place o = omega arith
 
--- what is read off the run without inner requests
-pub read_off : (b : Block) (two : Two) (flags most : ℕ) (fast : List (List ℕ)) (l : Level) (before : ℕ → ℕ)
-    (v t : State)
-    → 1 ≤ l.fast → l.fast ≤ length fast
+-- what is read off the run without inner requests, of a level whose interrupt begins in v
+pub read_off : (b : Block) (two : Two) (flags : ℕ) (fast : List (List ℕ)) (l : Level) (before : ℕ → ℕ)
+    (slow v t : State) → 1 ≤ l.fast → l.fast ≤ length fast → HasFrameRoom slow → Begins is_open_to_fast v slow
+    → IsEntered b (image_memory two.image.bytes) (bytes_of fast l.fast) before (entered (bytes_of fast l.fast) v)
     → (r : IsFastRun b (image_memory two.image.bytes) flags (bytes_of fast l.fast) before
     (entered (bytes_of fast l.fast) v) t)
-    → FollowsInside flags (length b.outputs) most l.inner.items (suc r.further) (entered (bytes_of fast l.fast) v)
-    → IsReadOff b two flags fast l
-    (seen_of l.fast (length b.outputs)
-    (fast_run flags (length b.outputs) most l.inner.items (entered (bytes_of fast l.fast) v)))
-read_off b two flags most fast l before v t from to r inside = let follows = inside.follows in record {
-  number = refl;
-  from = from;
-  to = to;
-  before = before;
-  interrupted = v;
-  behind = t;
-  run = r;
-  steps = follows.steps;
-  instrs = follows.instrs ∙ ap (λ (n : ℕ). counted flags n s) (sym follows.steps);
-  resumed = follows.resumed ∙ ap (λ (moment : ℕ → ℕ). resumed_of flags moment s l.inner.items (suc r.further)) moments
-      ∙ ap (λ (n : ℕ). resumed_of flags (λ m. max 1 m) s l.inner.items n) (sym follows.steps);
-  frames = follows.frames ∙ ap (λ (moment : ℕ → ℕ). frames_of flags moment s l.inner.items (suc r.further)) moments
-      ∙ ap (λ (n : ℕ). frames_of flags (λ m. max 1 m) s l.inner.items n) (sym follows.steps);
-  stack = inside.stack;
-}
+    → FollowsInside flags (length b.outputs) (fast_most two.fast.step_bound) l.inner.items (suc r.further)
+    (entered (bytes_of fast l.fast) v)
+    → IsReadOff b two flags fast before slow l
+    (seen_of l.fast (length b.outputs) (run_of_level b two flags fast l v))
+read_off b two flags fast l before slow v t from to room begins enters r inside =
+    let follows = inside.follows in record {
+      number = refl;
+      from = from;
+      to = to;
+      interrupted = v;
+      begins = begins;
+      enters = enters;
+      arrived = follows.arrived;
+      seen = refl;
+      behind = t;
+      run = r;
+      steps = follows.steps;
+      instrs = follows.instrs ∙ ap (λ (n : ℕ). counted flags n s) (sym follows.steps);
+      resumed = follows.resumed
+          ∙ ap (λ (moment : ℕ → ℕ). resumed_of flags moment s l.inner.items (suc r.further)) moments
+          ∙ ap (λ (n : ℕ). resumed_of flags (λ m. max 1 m) s l.inner.items n) (sym follows.steps);
+      frames = follows.frames
+          ∙ ap (λ (moment : ℕ → ℕ). frames_of flags moment s l.inner.items (suc r.further)) moments
+          ∙ ap (λ (n : ℕ). frames_of flags (λ m. max 1 m) s l.inner.items n) (sym follows.steps);
+      stack = inside.stack;
+      below = λ first. subst (λ (sp : ℕ). AreBelow sp (run_of_level b two flags fast l v).frames)
+          (sym (frame_at first slow v.regs room begins.regs)) inside.below;
+    }
   where
     s : State
     s = entered (bytes_of fast l.fast) v

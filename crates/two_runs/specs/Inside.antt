@@ -1,10 +1,11 @@
 -- The fast code under inner requests, as a sound form.
-use Rattle.std.specs.Prelude.{◌≡◌, ℕ, suc, ◌^◌, ◌<◌, ◌≤◌, max, List, [], ◌∷◌, length}
+use Rattle.std.specs.Prelude.{◌≡◌, ℕ, suc, ◌+◌, ◌^◌, ◌<◌, ◌≤◌, max, List, [], ◌∷◌, length}
 use Rattle.fuzzy_meaning.specs.declared.block.Block.{Block}
 use Rattle.cpu12_isa.specs.Agreement.{WritesAgree}
 use Rattle.cpu12_isa.specs.Fits.{AreBytes}
 use Rattle.cpu12_isa.specs.Regions.{stack_start}
 use Rattle.cpu12_parts.specs.State.{State}
+use Rattle.cpu12_emul.specs.Simulation.{OnStackOnly}
 use Rattle.cpu12_emul.specs.Take.{FrameSeen}
 use Rattle.run_law.specs.Uninterrupted.{taken_at}
 use Rattle.run_law.specs.Soundness.{Sound, WritesAreQuiet, Ascend}
@@ -27,21 +28,27 @@ pub record Inside : Type 0 where
   pub outputs : ℕ
   pub sp : ℕ
   pub sound : WritesAgree → WritesAreQuiet
-      → Sound is_open_inside (fast_form flags outputs sp) (IsFastState image flags sp) AnyMoment HoldsBytes
+      → Sound OnStackOnly is_open_inside (fast_form flags outputs sp) (IsFastState image flags sp) AnyMoment HoldsBytes
 
 -- no frame stands below the stack's start
 abbrev pub AreOnStack : List (ℕ × FrameSeen) → Type 0
 AreOnStack [] = Unit {0}
 AreOnStack (f ∷ fs) = (let frame : FrameSeen = f.1 in stack_start ≤ frame.sp) × AreOnStack fs
 
+-- each frame, with its bytes, stands below this SP
+abbrev pub AreBelow : ℕ → List (ℕ × FrameSeen) → Type 0
+AreBelow sp [] = Unit {0}
+AreBelow sp (f ∷ fs) = (let frame : FrameSeen = f.1 in frame.sp + length frame.bytes ≤ sp) × AreBelow sp fs
+
 -- A run under inner requests follows the run of n steps without: the same number of steps and instructions, the
 -- resumed count and the frames that are read off the states without, the same last state but for the stack below SP,
--- and a memory of bytes. No frame stands below the stack's start. An inner request is taken at its moment, or at
--- boundary 1 where this is 0.
+-- and a memory of bytes. No frame stands below the stack's start, and each below the SP with which it was entered. An
+-- inner request is taken at its moment, or at boundary 1 where this is 0.
 pub record FollowsInside (flags outputs most : ℕ) (inner : List ℕ) (n : ℕ) (s : State) : Type 0 where
-  pub follows : Follows is_open_inside (fast_form flags outputs s.regs.sp) HoldsBytes [] 0 n n inner s
+  pub follows : Follows OnStackOnly is_open_inside (fast_form flags outputs s.regs.sp) HoldsBytes [] 0 n n inner s
       (fast_run flags outputs most inner s)
   pub stack : AreOnStack (fast_run flags outputs most inner s).frames
+  pub below : AreBelow s.regs.sp (fast_run flags outputs most inner s).frames
   pub moments : (q : ℕ) → taken_at flags (λ k. k) n s q ≡ max 1 q
 
 -- So does each run of the fast code whose inner moments do not fall.

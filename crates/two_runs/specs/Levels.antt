@@ -1,16 +1,16 @@
 -- A slow firmware whose interrupts serve levels, as a sound form.
-use Rattle.std.specs.Prelude.{ℕ, ◌%◌, ◌^◌, Option, None, Some, List, [], ◌∷◌, map, take, length}
+use Rattle.std.specs.Prelude.{ℕ, ◌%◌, ◌^◌, Option, None, Some, List, [], ◌∷◌, All, map, take, length}
 use Rattle.fuzzy_meaning.specs.declared.block.Block.{Block}
 use Rattle.cpu12_isa.specs.Agreement.{WritesAgree}
 use Rattle.cpu12_isa.specs.Fits.{AreBytes}
 use Rattle.cpu12_parts.specs.State.{State}
 use Rattle.cpu12_emul.specs.Image.{image_memory}
+use Rattle.cpu12_emul.specs.Simulation.{OnStackOrNone}
 use Rattle.run_law.specs.Forms.{Form}
 use Rattle.run_law.specs.Soundness.{Sound, WritesAreQuiet}
 use Rattle.interrupt_plan.specs.declared.levels.Level.{Level}
 use Rattle.interrupt_plan.specs.Levels.{IsGoodLevel}
 use Rattle.eval_code.specs.declared.width.Width.TheVariants.{Byte}
-use Rattle.eval_code.specs.Widths.{answer}
 use Rattle.eval_code.specs.Evaluation.{HasAnswers}
 use Rattle.codegen.specs.Uninterrupted.{IsAnswerOf}
 use Rattle.two_level.specs.declared.two.Two.{Two}
@@ -22,7 +22,7 @@ use Rattle.fz_run.specs.Rows.{bytes_of}
 use Rattle.two_runs.specs.Runs.{FastSeen}
 use Rattle.two_runs.specs.Outer.{HasFastCode}
 use Rattle.two_runs.specs.Rows.{level_form}
-use Rattle.two_runs.specs.Answering.{answer_of_fast, AreTold}
+use Rattle.two_runs.specs.Answering.{answer_of_fast, outputs_after}
 
 -- eight bytes of a sample at the most
 abbrev pub fitted : List ℕ → List ℕ
@@ -31,15 +31,6 @@ fitted x = map (λ v. v % 2 ^ 8) (take 8 x)
 -- The form that takes these of each sample, whatever it is given: of the bytes of a block's inputs it takes all.
 abbrev pub fitted_form : ℕ → Two → List (List ℕ) → Form (List ℕ) Level (Option FastSeen)
 fitted_form flags two fast = record (level_form flags two fast) { give = λ x. given two.slow.memory_map (fitted x) }
-
--- the fast outputs after what a level told, and after what levels told, the last first
-abbrev pub outputs_told : Block → List (List ℕ) → (ℕ → ℕ) → Option FastSeen → ℕ → ℕ
-outputs_told b fast before None = before
-outputs_told b fast before (Some f) = λ o. answer Byte b o (bytes_of fast f.number) (before o)
-
-abbrev pub outputs_after : Block → List (List ℕ) → List (Level × Option FastSeen) → ℕ → ℕ
-outputs_after b fast [] = λ o. 0
-outputs_after b fast (t ∷ done) = outputs_told b fast (outputs_after b fast done) t.1
 
 -- each fast run answered its sample after the run before it
 abbrev pub IsAnswerTold : Block → Two → List (List ℕ) → (ℕ → ℕ) → Option FastSeen → Type 0
@@ -52,15 +43,15 @@ AreAnswersTold b two fast [] = Unit {0}
 AreAnswersTold b two fast (t ∷ done) =
     IsAnswerTold b two fast (outputs_after b fast done) t.1 × AreAnswersTold b two fast done
 
--- After levels memory is one of bytes, the fast code stands in it with the last answers, and each level told what it
--- should.
-pub record FastStands (b : Block) (two : Two) (flags : ℕ) (fast : List (List ℕ))
+-- After good levels memory is one of bytes, the fast code stands in it with the last answers, and each fast run
+-- answered its sample.
+pub record FastStands (b : Block) (two : Two) (fast : List (List ℕ))
     (done : List (Level × Option FastSeen)) (w : State) : Type 0 where
   pub bytes : AreBytes w.mem
   pub code : HasFastCode (image_memory two.image.bytes) w.mem
   pub outputs : HasAnswers fast_map b Byte (outputs_after b fast done) w.mem
   pub answers : AreAnswersTold b two fast done
-  pub told : AreTold b two flags fast done
+  pub good : All (λ t. IsGoodLevel (length fast) t.0) done
 
 -- two blocks, the samples of the fast one, and flags, where this form is sound
 pub record Levels : Type 0 where
@@ -69,5 +60,5 @@ pub record Levels : Type 0 where
   pub flags : ℕ
   pub samples : List (List ℕ)
   pub sound : WritesAgree → WritesAreQuiet
-      → Sound is_open_to_fast (fitted_form flags two samples) (FactsBeside is_open_to_fast flags two.slow)
-      (IsGoodLevel (length samples)) (FastStands fast two flags samples)
+      → Sound OnStackOrNone is_open_to_fast (fitted_form flags two samples) (FactsBeside is_open_to_fast flags two.slow)
+      (IsGoodLevel (length samples)) (FastStands fast two samples)

@@ -15,7 +15,7 @@ use Rattle.eval_code.specs.Widths.{answer}
 use Rattle.eval_code.specs.Firing.{AreInputBytes}
 use Rattle.eval_code.specs.Evaluation.{HasAnswers}
 use Rattle.cpu12_emul.specs.Image.{image_memory}
-use Rattle.cpu12_emul.specs.Simulation.{HasRoom}
+use Rattle.cpu12_emul.specs.Simulation.{OnStackOrNone, HasRoom}
 use Rattle.run_law.specs.Forms.{Ran}
 use Rattle.run_law.specs.Soundness.{Ascend, Begins, Quiet}
 use Rattle.two_level.specs.declared.two.Two.{Two}
@@ -103,4 +103,4 @@ OuterServes =
     → length b.inputs ≤ 8 → length b.outputs ≤ 8 → CanEnter b image before v
     → IsServable b image flags most before v q.sample → Ascend (λ k. k) 0 q.inner → HasRoom s
     → Begins is_open_to_fast v s → AreSlow s.temps
-    → Quiet is_open_to_fast (served flags (length b.outputs) most q v) v s
+    → Quiet OnStackOrNone is_open_to_fast (served flags (length b.outputs) most q v) v s

@@ -1,5 +1,6 @@
 // The fast code under inner requests.
 ghost use Rattle.std.specs.Prelude.{ℕ};
+ghost use Rattle.cpu12_emul.specs.Simulation.{OnStackOnly};
 ghost use Rattle.two_runs.specs.Runs.{fast_form};
 ghost use Rattle.two_runs.specs.Steps.{is_open_inside, IsFastState};
 ghost use Rattle.two_runs.specs.Inside.{Inside, AnyMoment, HoldsBytes};
@@ -19,6 +20,8 @@ impl SoundForm for InsideForm {
     ghost Told = { Unit {0} };
 
     ghost form = { λ x. fast_form x.flags x.outputs x.sp };
+
+    ghost marks = { OnStackOnly };
 
     ghost open_to = { λ _. is_open_inside };
 

@@ -40,7 +40,8 @@ pub fn fast_runs_exist()
 
 /// Under inner requests, whose moments do not fall, a run of the fast code follows the run without: the
 /// same steps and instructions, the frames and the resumed count that are read off it, and the same last
-/// state but for the stack below SP. A request of moment 0 is taken at boundary 1.
+/// state but for the stack below SP. Its frames stand below the SP with which it was entered. A request of
+/// moment 0 is taken at boundary 1.
 pub fn fast_runs_follow()
     ensures { FastRunsFollow }
 {
@@ -98,9 +99,10 @@ pub fn outer_serves()
 }
 
 /// Under all good levels a run at two levels comes to the end of each slow sample, with the rows of the slow
-/// firmware alone under a plan at the same places that writes nothing. Each fast run answers its sample as
-/// the fast block, after the fast run before it, within the fast block's bounds, and what is told of it is
-/// read off its run without inner requests.
+/// firmware alone under a plan at the same places that writes nothing. Each fast run begins where the slow
+/// run without interrupts is at its level's moment, comes to its return, and answers its sample as the fast
+/// block, after the fast run before it, within the fast block's bounds; what is told of it is read off its
+/// run without inner requests.
 pub fn answers_under_levels()
     ensures { AnswersUnderLevels }
 {
@@ -114,6 +116,7 @@ pub fn answers_under_levels()
     given_leaves_open();
     fast_runs_follow();
     outer_is_quiet();
+    outer_enters();
     outer_is_servable();
     outer_serves();
     two_stand_beside();

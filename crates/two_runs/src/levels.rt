@@ -1,5 +1,6 @@
 // A slow firmware whose interrupts serve levels is a sound form.
 ghost use Rattle.std.specs.Prelude.{ℕ, List, Option, length};
+ghost use Rattle.cpu12_emul.specs.Simulation.{OnStackOrNone};
 ghost use Rattle.interrupt_plan.specs.declared.levels.Level as plan;
 ghost use Rattle.interrupt_plan.specs.Levels.{IsGoodLevel};
 ghost use Rattle.two_level.specs.MemoryMaps.{is_open_to_fast};
@@ -23,13 +24,15 @@ impl SoundForm for LevelForm {
 
     ghost form = { λ x. fitted_form x.flags x.two x.samples };
 
+    ghost marks = { OnStackOrNone };
+
     ghost open_to = { λ _. is_open_to_fast };
 
     ghost holds = { λ x. FactsBeside is_open_to_fast x.flags x.two.slow };
 
     ghost good = { λ x. IsGoodLevel (length x.samples) };
 
-    ghost own = { λ x. FastStands x.fast x.two x.flags x.samples };
+    ghost own = { λ x. FastStands x.fast x.two x.samples };
 
     ghost sound = { λ x agree quiet. x.sound agree quiet };
 }

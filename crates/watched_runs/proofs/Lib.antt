@@ -1,5 +1,6 @@
 pub mod UsedLaws
 pub mod Answers
+pub mod AtMoments
 pub mod Changes
 pub mod WatchedRows
 pub mod Places

@@ -1,7 +1,9 @@
 -- The laws on which the answers under upsets stand.
 use Rattle.std.proofs.Common.{ℕ}
 use Rattle.cpu12_isa.specs.Regions.{is_free}
+use Rattle.cpu12_emul.specs.Simulation.{OnStackOnly}
 use Rattle.run_law.specs.Following.{RunsFollow}
+use Rattle.run_law.specs.Moments.{TakenAtOnce}
 use Rattle.interrupt_plan.specs.Plans.{IsGoodRequest}
 use Rattle.codegen.specs.declared.firmware.Firmware.{Firmware}
 use Rattle.watched_code.specs.Watched.{WatchedAnswers}
@@ -15,7 +17,7 @@ use Rattle.watched_runs.specs.Forms.{watched_form, FactsWatched}
 -- the law on runs at this form
 abbrev pub RunsFollowUpsets : Type 0
 RunsFollowUpsets = (flags : ℕ) (f : Firmware) → IsLow f
-    → RunsFollow is_free (watched_form flags f) (FactsWatched flags) IsGoodRequest Nothing
+    → RunsFollow OnStackOnly is_free (watched_form flags f) (FactsWatched flags) IsGoodRequest Nothing
 
 pub record Laws : Type 0 where
   pub steps : InstructionsAreSteps
@@ -24,3 +26,4 @@ pub record Laws : Type 0 where
   pub requests_are_good : RequestsAreGood
   pub watched_answers : WatchedAnswers
   pub runs_follow : RunsFollowUpsets
+  pub taken_at_once : TakenAtOnce

@@ -11,6 +11,7 @@ use Rattle.cpu12_parts.specs.State.{State}
 use Rattle.cpu12_parts.specs.Executions.{all_steps}
 use Rattle.cpu12_emul.specs.Image.{image_memory}
 use Rattle.cpu12_emul.specs.Step.{reset_with}
+use Rattle.cpu12_emul.specs.Simulation.{OnStackOnly}
 use Rattle.interrupt_plan.specs.declared.Request.{Request}
 use Rattle.interrupt_plan.specs.declared.upsets.Upset.{Upset}
 use Rattle.interrupt_plan.specs.Plans.{IsGood}
@@ -40,6 +41,7 @@ use Rattle.watched_runs.specs.Answering.{IsWatchedRow, AreWatchedRows, HoldsChan
 use Rattle.watched_runs.specs.Answering.{AnswersUnderAllUpsets}
 use Rattle.watched_runs.proofs.Answers.{length_answers, take_answers, fault_behind, answer_there}
 use Rattle.watched_runs.proofs.Changes.{good_change, waits_restored}
+use Rattle.watched_runs.proofs.AtMoments.{same_rows}
 use Rattle.watched_runs.proofs.UsedLaws.{Laws}
 
 -- what of a firmware its runs look at
@@ -281,24 +283,27 @@ under laws b f p flags samples plan upsets s hf good ready a answered =
     let c = a.interruptible in
     let waits : WaitsAlone f s =
     record { image = c.same; stack = c.stack; unmasked = c.mask; sums = c.temps } in
-    let runs : AllFollow is_free g Nothing [] asks 1 ns xs s (rows_from g f.step_bound asks 1 xs s) =
+    let runs : AllFollow OnStackOnly is_free g Nothing [] asks 1 ns xs s (rows_from g f.step_bound asks 1 xs s) =
     laws.runs_follow flags f p.low asks (laws.requests_are_good plan good) [] 1 f.step_bound ns xs s s bounded complete
     (record { regs = refl; temps = refl; mem = agree_self (is_hidden is_free s.regs.sp) s.mem }) tt in
-    let follows : AllFollow is_free g Nothing [] asks 1 ns xs (first_state f flags)
+    let follows : AllFollow OnStackOnly is_free g Nothing [] asks 1 ns xs (first_state f flags)
     (upset_rows f samples plan upsets flags) =
-    subst (λ (u : State). AllFollow is_free g Nothing [] asks 1 ns xs u (rows_from g f.step_bound asks 1 xs u))
+    subst (λ (u : State). AllFollow OnStackOnly is_free g Nothing [] asks 1 ns xs u
+    (rows_from g f.step_bound asks 1 xs u))
     (sym first) runs in
     let expected : State → List FaultSeen = λ u. map (fault_seen f.outputs) (expected_rows g asks 1 ns xs u) in
     let rows_are : faults_of f (upset_rows f samples plan upsets flags) ≡ expected (first_state f flags) =
     ap (map (fault_seen f.outputs)) follows.rows_are in
+    let completes : AllComplete (FactsWatched flags) g ns xs (first_state f flags) =
+    subst (λ (u : State). AllComplete (FactsWatched flags) g ns xs u) (sym first) complete in
     record {
       answers = subst (λ (rs : List FaultSeen). AreWatchedRows b f (λ o. 0) xs rs)
           (sym (rows_are ∙ ap expected first)) (all_rows laws b f p flags (λ o. 0) plan 1 xs s hf ready answered);
       steps = ns;
-      complete = subst (λ (u : State). AllComplete (FactsWatched flags) g ns xs u) (sym first) complete;
+      complete = completes;
       changes = subst (λ (u : State). AllHoldChanges flags f ns xs u) (sym first)
           (all_hold laws b f p flags (λ o. 0) xs s hf ready waits answered);
-      rows_are = rows_are;
+      rows_are = rows_are ∙ same_rows laws.taken_at_once flags f plan 1 ns xs (first_state f flags) completes;
       follows = follows;
     }
 

@@ -1,11 +1,12 @@
 -- The rows of a block's firmware with watched tables, by what it answers without interrupts.
-use Rattle.std.specs.Prelude.{◌≡◌, ℕ, ◌-◌, ◌^◌, ◌<◌, ◌≤◌, List, [], ◌∷◌, All, length, map, slice_index}
+use Rattle.std.specs.Prelude.{◌≡◌, ℕ, ◌-◌, ◌^◌, ◌<◌, ◌≤◌, List, [], ◌∷◌, All, length, slice_index}
 use Rattle.fuzzy_meaning.specs.declared.block.Block.{Block}
 use Rattle.fuzzy_meaning.specs.Blocks.{IsValid}
 use Rattle.rule_layout.specs.Layouts.{IsWithinLimits}
 use Rattle.cpu12_isa.specs.Regions.{is_free}
 use Rattle.cpu12_parts.specs.State.{State}
 use Rattle.cpu12_emul.specs.Image.{image_memory}
+use Rattle.cpu12_emul.specs.Simulation.{OnStackOnly}
 use Rattle.interrupt_plan.specs.declared.Request.{Request}
 use Rattle.interrupt_plan.specs.declared.upsets.Upset.{Upset}
 use Rattle.interrupt_plan.specs.Plans.{IsGood}
@@ -14,13 +15,13 @@ use Rattle.codegen.specs.declared.firmware.Firmware.{Firmware}
 use Rattle.eval_code.specs.Firing.{AreInputBytes}
 use Rattle.watched_code.specs.Watched.{Watched, changed, restored, watched_answer, watched_fault, IsWatchedFirmwareOf}
 use Rattle.run_law.specs.Uninterrupted.{uninterrupted}
-use Rattle.run_law.specs.Following.{AllComplete, AllFollow, expected_rows}
+use Rattle.run_law.specs.Following.{AllComplete, AllFollow}
 use Rattle.instruction_steps.specs.Facts.{HasImageBytes, WaitsAlone}
 use Rattle.fz_run.specs.Following.{Nothing}
 use Rattle.fz_run.specs.Rows.{requests_of, first_state}
 use Rattle.watched_runs.specs.Samples.{with_upsets}
 use Rattle.watched_runs.specs.Forms.{given_changed, watched_form, FactsWatched}
-use Rattle.watched_runs.specs.Rows.{FaultSeen, fault_seen, upset_rows, faults_of}
+use Rattle.watched_runs.specs.Rows.{FaultSeen, upset_rows, faults_of, rows_of_watched}
 
 -- A row is a sample's: its answers are the block's after those before, but where a byte is upset the defaults, and
 -- FAULT says which; and it has no more instructions and steps than the firmware's bounds.
@@ -59,7 +60,8 @@ AllHoldChanges flags f (n ∷ ns) (x ∷ xs) s =
 
 -- What a block's firmware gives under a plan and upsets: rows that are the samples'; the run without interrupts from
 -- the first arrival, which answers all samples in so many steps each, and whose states keep the facts, with each
--- sample's byte changed as long as it is answered; the rows are read off it; and the run under the plan follows it.
+-- sample's byte changed as long as it is answered; the rows are read off it, with each request at its moment; and the
+-- run under the plan follows it.
 pub record AnswersUnderUpsets (b : Block) (f : Firmware) (flags : ℕ) (samples : List (List ℕ)) (plan : List Request)
     (upsets : List Upset) (rows : List FaultSeen) : Type 0 where
   pub answers : AreWatchedRows b f (λ o. 0) (with_upsets upsets samples) rows
@@ -67,9 +69,9 @@ pub record AnswersUnderUpsets (b : Block) (f : Firmware) (flags : ℕ) (samples 
   pub complete :
       AllComplete (FactsWatched flags) (watched_form flags f) steps (with_upsets upsets samples) (first_state f flags)
   pub changes : AllHoldChanges flags f steps (with_upsets upsets samples) (first_state f flags)
-  pub rows_are : rows ≡ map (fault_seen f.outputs) (expected_rows (watched_form flags f)
-      (λ k. requests_of k plan) 1 steps (with_upsets upsets samples) (first_state f flags))
-  pub follows : AllFollow is_free (watched_form flags f) Nothing [] (λ k. requests_of k plan) 1 steps
+  pub rows_are :
+      rows ≡ rows_of_watched flags f plan 1 steps (with_upsets upsets samples) (first_state f flags)
+  pub follows : AllFollow OnStackOnly is_free (watched_form flags f) Nothing [] (λ k. requests_of k plan) 1 steps
       (with_upsets upsets samples) (first_state f flags) (upset_rows f samples plan upsets flags)
 
 -- so are rows, where the firmware is one of a valid block with watched tables

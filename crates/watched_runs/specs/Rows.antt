@@ -1,19 +1,24 @@
 -- The rows of a list of samples under a plan and upsets.
-use Rattle.std.specs.Prelude.{ℕ, List, map, take, slice_index}
+use Rattle.std.specs.Prelude.{ℕ, suc, List, [], ◌∷◌, map, take, slice_index}
+use Rattle.cpu12_parts.specs.State.{State}
+use Rattle.cpu12_emul.specs.Image.{image_memory}
 use Rattle.run_law.specs.Forms.{RowSeen, Rows, rows_from}
+use Rattle.run_law.specs.Uninterrupted.{uninterrupted}
 use Rattle.interrupt_plan.specs.declared.Request.{Request}
 use Rattle.interrupt_plan.specs.declared.upsets.Upset.{Upset}
 use Rattle.codegen.specs.declared.firmware.Firmware.{Firmware}
-use Rattle.watched_code.specs.Watched.{Watched}
+use Rattle.watched_code.specs.Watched.{Watched, restored}
+use Rattle.watched_code.specs.WatchedCode.{fault_at}
 use Rattle.trace_io.specs.declared.sample.Sample.{Sample}
 use Rattle.run_forms.specs.declared.sample.Room.{Room}
 use Rattle.run_forms.specs.Rooms.{room_notes}
 use Rattle.run_forms.specs.Forms.{Harness}
+use Rattle.fz_run.specs.Following.{row_of_sample}
 use Rattle.fz_run.specs.Rows as rows
 use Rattle.fz_run.specs.Rows.{requests_of, first_state, input_bytes}
 use Rattle.watched_runs.specs.Samples.{with_upsets}
 use Rattle.watched_runs.specs.declared.form.WatchedRow as declared
-use Rattle.watched_runs.specs.Forms.{watched_parts, watched_form}
+use Rattle.watched_runs.specs.Forms.{given_changed, watched_parts, watched_form}
 
 -- a row of a sample's bytes, and what FAULT held at its end
 pub record FaultSeen : Type 0 where
@@ -44,6 +49,23 @@ upset_rows f samples plan upsets flags =
 -- its rows
 abbrev pub faults_of : Firmware → Rows Watched Request (Unit {0}) → List FaultSeen
 faults_of f all = map (fault_seen f.outputs) all.rows
+
+-- what the row of a sample is to be that is answered in n steps without interrupts: each request is taken at its moment
+abbrev pub row_of_watched : ℕ → Firmware → List Request → ℕ → Watched → State → FaultSeen
+row_of_watched flags f qs n x s = record {
+  row = row_of_sample flags f qs n x.bytes s;
+  fault = slice_index (uninterrupted flags n s).mem fault_at;
+}
+
+-- the rows of the samples from number k on, which take so many steps
+abbrev pub rows_of_watched : ℕ → Firmware → List Request → ℕ → List ℕ → List Watched → State → List FaultSeen
+rows_of_watched flags f plan k [] xs s = []
+rows_of_watched flags f plan k (n ∷ ns) [] s = []
+rows_of_watched flags f plan k (n ∷ ns) (x ∷ rest) s =
+    let first = given_changed f.memory_map x s in
+    row_of_watched flags f (requests_of k plan) n x first
+    ∷ rows_of_watched flags f plan (suc k) ns rest
+    (restored (image_memory f.image.bytes) x.change (uninterrupted flags n first))
 
 -- a row of the code, as it is seen
 abbrev pub row_seen : declared.WatchedRow → FaultSeen

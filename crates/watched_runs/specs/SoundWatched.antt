@@ -5,7 +5,7 @@ use Rattle.cpu12_isa.specs.Agreement.{WritesAgree}
 use Rattle.cpu12_isa.specs.Regions.{is_free, is_hidden}
 use Rattle.cpu12_parts.specs.State.{State}
 use Rattle.cpu12_emul.specs.Image.{image_memory}
-use Rattle.cpu12_emul.specs.Simulation.{Same}
+use Rattle.cpu12_emul.specs.Simulation.{OnStackOnly, Same}
 use Rattle.run_law.specs.Soundness.{Sound, WritesAreQuiet}
 use Rattle.interrupt_plan.specs.Plans.{IsGoodRequest}
 use Rattle.codegen.specs.declared.firmware.Firmware.{Firmware}
@@ -35,7 +35,7 @@ same_restored agree image None w s l = l
 same_restored agree image (Some c) w s l = same_set agree c.0 (slice_index image c.0) w s l
 
 pub sound : (flags : ℕ) (f : Firmware) → IsLow f → WritesAgree → WritesAreQuiet
-    → Sound is_free (watched_form flags f) (FactsWatched flags) IsGoodRequest Nothing
+    → Sound OnStackOnly is_free (watched_form flags f) (FactsWatched flags) IsGoodRequest Nothing
 sound flags f low agree quiet =
     let beside = alone.sound is_free free_opens flags f low agree quiet in
     record {
@@ -52,7 +52,8 @@ sound flags f low agree quiet =
       quiet = λ done a v s good p may begins own.
           (let facts = p.facts in
           let shown = facts.shown in (
-            quiet is_free a.writes v s leaves_stack (all_open is_free free_opens a.writes good.free) shown.room begins,
+            quiet OnStackOnly is_free a.writes v s leaves_stack (all_open is_free free_opens a.writes good.free)
+                shown.room begins,
             tt,
           ));
       leaves_open = record {

@@ -6,7 +6,7 @@ use firmware_ports::given_is_put;
 use fz_run::laws::requests_are_good;
 use instruction_steps::laws::instructions_are_steps;
 use run_forms::laws::arrives_plainly;
-use run_law::laws::runs_follow;
+use run_law::laws::{runs_follow, taken_at_once};
 use watched_code::laws::watched_answers;
 
 /// The firmware of a block with watched tables answers every list of samples under every good plan and
@@ -22,4 +22,5 @@ pub fn answers_under_all_upsets()
     requests_are_good();
     watched_answers();
     runs_follow::<WatchedTables>();
+    taken_at_once();
 }

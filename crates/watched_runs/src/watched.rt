@@ -1,6 +1,7 @@
 // A firmware whose tables are watched is a sound form.
 ghost use Rattle.std.specs.Prelude.{ℕ};
 ghost use Rattle.cpu12_isa.specs.Regions.{is_free};
+ghost use Rattle.cpu12_emul.specs.Simulation.{OnStackOnly};
 ghost use Rattle.interrupt_plan.specs.Plans.{IsGoodRequest};
 ghost use Rattle.interrupt_plan.specs.declared.Request as plan;
 ghost use Rattle.watched_code.specs.Watched as tables;
@@ -24,6 +25,8 @@ impl SoundForm for WatchedTables {
     ghost Told = { Unit {0} };
 
     ghost form = { λ x. watched_form x.flags x.firmware };
+
+    ghost marks = { OnStackOnly };
 
     ghost open_to = { λ _. is_free };
 

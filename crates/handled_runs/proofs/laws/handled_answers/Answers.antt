@@ -15,5 +15,6 @@ returns c = handled_answers (record {
   first_states_agree = c.first_states_agree.ensures;
   runs_follow_beside = c.runs_follow_beside.ensures;
   requests_are_good = c.requests_are_good.ensures;
+  rows_are_shown = c.rows_are_shown.ensures;
   runs_follow = c.runs_follow.ensures;
 })

@@ -1,12 +1,7 @@
-use Rattle.std.proofs.Common.{arith, sym, subst}
+use Rattle.std.proofs.Common.{sym, subst}
 use Rattle.fz_run.specs.Forms.{place_of}
 use Rattle.run_forms.specs.Slices.{IsInOrder}
 use Rattle.handled_runs.proofs.rows.joint_rows.Goals as goal
-
-pub overflow_cast-form : goal.overflow_cast-form
-overflow_cast-form c =
-    let short = c.handlers_are_short.ensures c.args.image.now.bytes c.args.handler.now.instrs c.requires.handler in
-    record { fits = omega arith }
 
 pub run_form-requires : goal.run_form-requires
 run_form-requires c =

@@ -1,12 +1,14 @@
-use Rattle.std.proofs.Common.{map}
+use Rattle.std.proofs.Common.{List, map, sym, subst}
 use Rattle.fz_run.specs.Rows.{input_bytes}
-use Rattle.handled_runs.specs.Forms.{row_seen}
-use Rattle.handled_runs.proofs.HandledAnswers.{handles_block}
+use Rattle.handled_runs.specs.Answering.{HandlesItsBlock}
+use Rattle.handled_runs.specs.Forms.{HandledSeen}
 use Rattle.handled_runs.proofs.rows.run_handler.Goals as goal
 
 pub returns-clause-answers : goal.returns-clause-answers
-returns-clause-answers c =
+returns-clause-answers c instrs is =
     let a = c.args in
-    handles_block c.handled_answers.ensures c.rows_are_shown.ensures a.firmware.now a.image.now.bytes
-    a.handler.now.instrs a.flags (map input_bytes a.samples.now) a.plan.now
-    (map row_seen c.in_ok-rows.rows.items) c.ranges.flags.fits c.requires.plan c.requires.handler c.in_ok-rows.ensures
+    let inputs = map input_bytes a.samples.now in
+    subst (λ (rows : List HandledSeen). HandlesItsBlock a.firmware.now a.image.now.bytes instrs a.flags inputs
+    a.plan.now rows) (sym c.in_ok-rows.ensures)
+    (c.handled_answers.ensures a.firmware.now a.image.now.bytes instrs a.flags inputs a.plan.now c.ranges.flags.fits
+    c.requires.plan is)

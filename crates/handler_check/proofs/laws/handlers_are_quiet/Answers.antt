@@ -2,4 +2,4 @@ use Rattle.handler_check.proofs.Entering.{handlers_are_quiet}
 use Rattle.handler_check.proofs.laws.handlers_are_quiet.Goals as goal
 
 pub returns : goal.returns
-returns c = handlers_are_quiet c.accepted_is_take.ensures c.takes_quietly.ensures c.sums_fit_below.ensures
+returns c = handlers_are_quiet c.accepted_is_take.ensures c.takes_quietly.ensures

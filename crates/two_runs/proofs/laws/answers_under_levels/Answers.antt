@@ -19,6 +19,7 @@ returns c = answers_under_levels (record {
     is_quiet = c.outer_is_quiet.ensures;
     serves = c.outer_serves.ensures;
     servable = c.outer_is_servable.ensures;
+    enters = c.outer_enters.ensures;
     alone_has_byte_bounds = c.alone_has_byte_bounds.ensures;
   };
   two_stand_beside = c.two_stand_beside.ensures;

@@ -10,6 +10,7 @@ returns c = answers_under_all_upsets (record {
   arrives_plainly = c.arrives_plainly.ensures;
   requests_are_good = c.requests_are_good.ensures;
   watched_answers = c.watched_answers.ensures;
+  taken_at_once = c.taken_at_once.ensures;
   runs_follow = λ flags f low. c.runs_follow.ensures
       (record { flags = flags; firmware = f; low = low; open_to = is_free; opens = free_opens });
 })

@@ -1,5 +1,4 @@
 use Rattle.std.proofs.Common.{◌≡◌, ◌∙◌, ℕ, List, map, ap, ap₂, sym}
-use Rattle.std.specs.Prelude.{sum}
 use Rattle.std.proofs.lemmas.List.{map-id}
 use Rattle.run_law.specs.Forms.{RowSeen}
 use Rattle.run_forms.specs.Rooms.{room_notes}
@@ -7,17 +6,18 @@ use Rattle.run_forms.specs.Rest.{counted_at, row_by}
 use Rattle.fz_run.specs.Rows as rows
 use Rattle.fz_run.specs.Rows.{input_bytes}
 use Rattle.firmware_ports.specs.Ports.{answers_in}
-use Rattle.handled_runs.specs.Forms.{HandledSeen}
+use Rattle.handled_runs.specs.declared.back.HandlerEnd.{HandlerEnd}
+use Rattle.handled_runs.specs.Forms.{HandledSeen, steps_of}
 use Rattle.handled_runs.proofs.SampleBytes.{got}
-use Rattle.handled_runs.proofs.form.WithCodeRunFormRequestRoomU16HandledRow.row.Goals as goal
+use Rattle.handled_runs.proofs.form.WithCodeRunFormRequestRoomHandlerEndHandledRow.row.Goals as goal
 
 pub returns : goal.returns
 returns g c = λ x is.
     let a = c.args in
     let t = a.tally in
     let f = a.self.now.firmware.now in
-    let told : List ℕ = t.notes.told.items in
-    let counted = counted_at (room_notes (λ (steps : ℕ). steps)) t a.m.now.state in
+    let told : List HandlerEnd = t.notes.told.items in
+    let counted = counted_at (room_notes (λ (end : HandlerEnd). end)) t a.m.now.state in
     let made : RowSeen (List ℕ) → ℕ → HandledSeen = λ row handler. record { row = row; handler = handler } in
     let bytes : c.as_slice-bytes.result.now ≡ x =
     c.as_slice-bytes.ensures.value
@@ -26,6 +26,6 @@ returns g c = λ x is.
     c.row_of-row.ensures
     ∙ ap₂ (λ (bs vs : List ℕ). record (row_by (answers_in f) x counted) { sample = bs; answers = vs }) bytes
     c.answers.ensures in
-    let handler : c.steps_in-handler.result ≡ sum (map (λ (steps : ℕ). steps) told) =
-    c.steps_in-handler.ensures ∙ ap (λ (l : List ℕ). sum l) (c.as_slice.ensures.value ∙ sym (map-id told)) in
+    let handler : c.steps_in-handler.result ≡ steps_of (map (λ (end : HandlerEnd). end) told) =
+    c.steps_in-handler.ensures ∙ ap steps_of (c.as_slice.ensures.value ∙ sym (map-id told)) in
     ap₂ made row handler

@@ -3,7 +3,7 @@ use Rattle.std.proofs.lemmas.List.{take_all}
 use Rattle.firmware_ports.specs.Ports.{given}
 use Rattle.fz_run.specs.Rows.{input_bytes}
 use Rattle.handled_runs.proofs.SampleBytes.{got}
-use Rattle.handled_runs.proofs.form.WithCodeRunFormRequestRoomU16HandledRow.give.Goals as goal
+use Rattle.handled_runs.proofs.form.WithCodeRunFormRequestRoomHandlerEndHandledRow.give.Goals as goal
 
 pub returns-clause-state : goal.returns-clause-state
 returns-clause-state g c x e =
