@@ -5,14 +5,12 @@ use Rattle.fuzzy_meaning.specs.declared.block.Block.{Block}
 use Rattle.fuzzy_meaning.specs.declared.block.Output.{Output}
 use Rattle.fuzzy_meaning.specs.Blocks.{IsValid, output_at}
 use Rattle.error_bound.specs.declared.boxes.Interval.{Interval}
-use Rattle.error_bound.specs.Reaches.{IsBlockTable}
 use Rattle.cell_bounds.specs.declared.walks.Walk.{Walk}
 use Rattle.cell_bounds.specs.CellBounds.{CellsAreWithin}
 
 -- a walk over outputs of a valid block
 pub record IsWalk (w : Walk) : Type 0 where
   pub block : IsValid w.block.now
-  pub table : IsBlockTable w.block.now w.table.now
   pub parts_from : 1 ≤ w.parts
   pub parts_to : w.parts ≤ 256
   pub limit : w.limit ≤ 1000000

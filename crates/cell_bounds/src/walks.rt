@@ -31,7 +31,6 @@ pub struct CellAbove {
 #[derive(Clone, Copy)]
 pub(crate) struct Walk<'a> {
     block: &'a Block,
-    table: &'a BlockTable,
     parts: u16,
     limit: u32,
     first: u8,
@@ -62,13 +61,13 @@ pub fn cells_bounds(
 {
     let walk = Walk {
         block,
-        table,
         parts,
         limit,
         first: 0,
         end: block.outputs.len() as u8,
     };
-    walk.over(bytes.copied(), [0; 4])
+    let mut cell = BoxTable::over(block, table, bytes.copied());
+    walk.over(bytes.copied(), &mut cell, [0; 4])
 }
 
 /// The same, or the first output that has no Bound on some cell.
@@ -107,16 +106,16 @@ fn first_unsure(block: &Block, table: &BlockTable, bytes: &ByteBox, parts: u16, 
     requires known { IsUnsureOn block.now parts bytes.now.0.items known }
     ensures { IsFirstUnsure block.now parts bytes.now.0.items result }
 {
+    let mut cell = BoxTable::over(block, table, bytes.copied());
     for place in 0..known - 1 {
         let walk = Walk {
             block,
-            table,
             parts,
             limit: 1_000_000,
             first: place,
             end: place + 1,
         };
-        match walk.over(bytes.copied(), [0; 4]) {
+        match walk.over(bytes.copied(), &mut cell, [0; 4]) {
             Ok(_) => {}
             Err(above) => return above.out,
         }
@@ -125,11 +124,19 @@ fn first_unsure(block: &Block, table: &BlockTable, bytes: &ByteBox, parts: u16, 
 }
 
 impl Walk<'_> {
-    /// The numbers raised to the Bounds of a box's cells, or the first cell above the limit.
-    fn over(&self, bytes: ByteBox, so_far: [u32; 4]) -> Result<[u32; 4], CellAbove>
+    /// The numbers raised to the Bounds of a box's cells, or the first cell above the limit. The table is moved
+    /// from cell to cell.
+    fn over(
+        &self,
+        bytes: ByteBox,
+        cell: &mut BoxTable,
+        so_far: [u32; 4],
+    ) -> Result<[u32; 4], CellAbove>
         requires walk { IsWalk self.now }
+        requires table { IsTable self.now.block.now cell.old }
         requires bytes { IsBoxOf self.now.block.now bytes.0.items }
         requires so_far { AreAtMost self.now.limit so_far }
+        ensures table { IsTable self.now.block.now cell.new }
         ensures raised { IfOk result (AreRaised self.now.block.now self.now.parts self.now.first self.now.end
             bytes.0.items so_far) }
         ensures within { IfOk result (AreAtMost self.now.limit) }
@@ -137,30 +144,37 @@ impl Walk<'_> {
             (self.now.first + 1) self.now.end bytes.0.items a.bytes.items a.out a.bound) }
     {
         let Some(place) = first_wide(&bytes) else {
-            return self.at_cell(&bytes, so_far);
+            return self.at_cell(&bytes, cell, so_far);
         };
         let (left, right) = parted(bytes, place);
-        let raised = self.over(left, so_far)?;
-        self.over(right, raised)
+        let raised = self.over(left, cell, so_far)?;
+        self.over(right, cell, raised)
     }
 
     /// The same for a box that is a cell.
-    fn at_cell(&self, bytes: &ByteBox, so_far: [u32; 4]) -> Result<[u32; 4], CellAbove>
+    fn at_cell(
+        &self,
+        bytes: &ByteBox,
+        cell: &mut BoxTable,
+        so_far: [u32; 4],
+    ) -> Result<[u32; 4], CellAbove>
         requires walk { IsWalk self.now }
+        requires table { IsTable self.now.block.now cell.old }
         requires bytes { IsBoxOf self.now.block.now bytes.now.0.items }
         requires cell { IsCell bytes.now.0.items }
         requires so_far { AreAtMost self.now.limit so_far }
+        ensures table { IsTable self.now.block.now cell.new }
         ensures raised { IfOk result (AreRaised self.now.block.now self.now.parts self.now.first self.now.end
             bytes.now.0.items so_far) }
         ensures within { IfOk result (AreAtMost self.now.limit) }
         ensures above { IfErr result (λ a. IsFirstCellAbove self.now.block.now self.now.parts self.now.limit
             (self.now.first + 1) self.now.end bytes.now.0.items a.bytes.items a.out a.bound) }
     {
-        let table = BoxTable::over(self.block, self.table, bytes.copied());
+        cell.move_to(self.block, bytes);
         let mut raised = so_far;
         for place in self.first..self.end {
             let old = raised[place as usize];
-            match self.raised(&table, place, old) {
+            match self.raised(cell, place, old) {
                 Ok(new) => raised[place as usize] = new,
                 Err(bound) => {
                     return Err(CellAbove {

@@ -18,7 +18,7 @@ use crate::checker::CheckFault;
 use arrayvec::ArrayVec;
 use box_tree::LeafForm;
 use cell_bounds::{has_few_cells, sure_cells_bounds};
-use error_bound::{AskedLeaves, BlockTable, BoxTable, ByteBox, Leaf, is_pair_for};
+use error_bound::{BlockTable, BoxTable, ByteBox, Leaf, is_pair_for};
 use fuzzy_meaning::Block;
 
 /// Raises the error of each output to the Bound of a leaf, or tells the leaf's first fault.
@@ -154,27 +154,13 @@ fn pair_bounds(
         (HasPartFault block.now parts (part_of bytes.0.items (form.Pairs pairs.now)) line) }
 {
     let named = pairs.as_slice();
-    let table = BoxTable::for_leaves(block, kept, bytes, asked_by(named));
+    let table = BoxTable::over(block, kept, bytes);
     let mut bounds = [0; 4];
     for o in 0..named.len() {
         let (rule, k) = named[o];
         bounds[o] = pair_bound(block, &table, Leaf { rule, k }, o as u8 + 1, parts, line)?;
     }
     Ok(bounds)
-}
-
-/// The leaves that a line's pairs are.
-fn asked_by(pairs: &[(u16, u8)]) -> AskedLeaves
-    ensures silent { result ≡ AskedLeaves.Silent ↔ All (λ pair. pair.1 ≡ 0) pairs.now }
-    ensures strong { result ≡ AskedLeaves.Strong → All (λ pair. pair.1 ≢ 0) pairs.now }
-{
-    if pairs.iter().all(|pair| pair.1 == 0) {
-        AskedLeaves::Silent
-    } else if pairs.iter().all(|pair| pair.1 != 0) {
-        AskedLeaves::Strong
-    } else {
-        AskedLeaves::Mixed
-    }
 }
 
 /// The Bound of a pair for an output on a table's box, or its fault.

@@ -25,7 +25,7 @@ module _ (b : Block) (box : List Interval) (o n : ℕ) (r : Rule) (found : slice
   rule_at-next : rule_at b (n + 1) ≡ Some r
   rule_at-next = let back : n ≡ n + 1 - 1 = omega arith in subst (λ k. slice_get b.rules k ≡ Some r) back found
 
-  candidate-rule : (q : Rule) → rule_at b (n + 1) ≡ Some q → q ≡ r
+  pub candidate-rule : (q : Rule) → rule_at b (n + 1) ≡ Some q → q ≡ r
   candidate-rule q is = let at = rule_at-next in cc
 
   -- none where it concludes no term of the output

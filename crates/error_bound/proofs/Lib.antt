@@ -41,3 +41,5 @@ pub mod Operations
 pub mod FlatteningLemmas
 pub mod MassEnds
 pub mod RangeAnswers
+pub mod MovedRows
+pub mod StillRules

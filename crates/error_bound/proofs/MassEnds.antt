@@ -168,7 +168,7 @@ module _ (b : Block) (box : List Interval) (valid : IsValid b) (count : length b
     by_input i t None ex = (none, rw ex nowhere)
     by_input i t (Some x) ex = by_term i t x ex (slice_get x.terms (t - 1)) refl
 
-    rule_parts_ordered : (r : Rule) → low_part b box r ≤ high_part b box r
+    pub rule_parts_ordered : (r : Rule) → low_part b box r ≤ high_part b box r
     rule_parts_ordered r =
         let at : (i t : ℕ) → IsSomewhere b box i t = λ i t. by_input i t (input_at b i) refl in
         let h = between truths_monotone {s = literal_span b box} {v = λ i t. (at i t).0} (λ i t. (at i t).1) r.cond in

@@ -30,6 +30,8 @@ use Rattle.error_bound.specs.Reaches.{IsEndOfRule}
 use Rattle.error_bound.specs.Tight.{greatest_of, sum_over, greatest_over, low_part, high_part, is_still, moving_error, sure_bound}
 use Rattle.error_bound.specs.Tight.{sure_sum, sure_bytes, low_of, byte_low_of, error_of, swing, farthest}
 use Rattle.error_bound.specs.Tight.{live_offset, if_live, IsSure, IsTightBound, sure}
+use Rattle.error_bound.specs.Leaves.{concludes_some}
+use Rattle.error_bound.proofs.ConclusionLemmas.{any-some}
 use Rattle.error_bound.proofs.Shares.{within_width}
 use Rattle.error_bound.proofs.BoundLemmas.{in_millionths-mono}
 use Rattle.error_bound.proofs.Values.{none_same}
@@ -78,6 +80,20 @@ AreGreatest-raised f n o r rest rs value old new here is to before raised = reco
       ∙ sym (ap (greatest_of f o (t + 1)) here);
   small = λ t few. raised-le (concludes r o (t + 1)) value (slice_index old t) (slice_index new t) n (raised t few) to
       (before.small t few);
+}
+
+skipped-is : (p : Bool) (x y : ℕ) → (p ≡ true → x ≡ 0) → y ≡ (if p then max x y else y)
+skipped-is true x y none = let z = none refl in omega arith
+skipped-is false x y none = refl
+
+-- one that counts for nothing
+pub AreGreatest-skipped : (f : Rule → ℕ) (n o : ℕ) (r : Rule) (rest rs : List Rule) (values : List ℕ) → rs ≡ r ∷ rest
+    → (concludes_some r o ≡ true → f r ≡ 0) → AreGreatest f n o rest values → AreGreatest f n o rs values
+AreGreatest-skipped f n o r rest rs values here none before = record {
+  each = λ t few. before.each t few
+      ∙ skipped-is (concludes r o (t + 1)) (f r) (greatest_of f o (t + 1) rest) (λ c. none (any-some o (t + 1) r.concl c))
+      ∙ sym (ap (greatest_of f o (t + 1)) here);
+  small = before.small;
 }
 
 both_ways : {m n : ℕ} → m ≤ n → n ≤ m → m ≡ n

@@ -26,7 +26,6 @@ use Rattle.error_bound.specs.Spans.{Span, span, byte_span, end_of}
 use Rattle.error_bound.specs.Flattening.{IsSame, AreSame, ReachesAlike}
 use Rattle.error_bound.specs.Reaches.{AreTermCells, AreInputCells}
 use Rattle.error_bound.specs.Reaches.{AreBoxTerms, IsReachOfTerm, IsReachOfLiteral, IsEndOfCondition, IsEndOfRule}
-use Rattle.error_bound.specs.Reaches.{IsErrorOfRule, AreEndsOfRules, AreErrorsOfRules}
 use Rattle.error_bound.proofs.Values.{times_same}
 use Rattle.error_bound.proofs.FlatteningLemmas.{span_to_itself}
 
@@ -74,24 +73,6 @@ literal_reach b terms i t row reach has table =
           ∙ get_or_from_slice_get found.0.reaches (t - 1) here.0 reach here.1,
       as_literal b terms.bytes.0.items i t x.0 term.0 v.0 here.0 x.1 term.1 v.1 here.2,
     )
-
--- what a table has of a rule
-pub rule_error_at : (b : Block) (box : List Interval) (errors : List ℕ) (n : ℕ) (r : Rule)
-    → AreErrorsOfRules b box errors → slice_get b.rules n ≡ Some r
-    → IsErrorOfRule b box r (get_or errors n 0)
-rule_error_at b box errors n r all e =
-    let q = all n r e in
-    subst (IsErrorOfRule b box r) (sym (get_or_from_slice_get errors n q.0 0 q.1)) q.2
-
-abbrev pub no_end : End
-no_end = record { truth = record { num = 0; den = 0 }; byte = 0 }
-
-pub rule_end_at : (b : Block) (box : List Interval) (upper : Bool) (ends : List End) (n : ℕ) (r : Rule)
-    → AreEndsOfRules b box upper ends → slice_get b.rules n ≡ Some r
-    → IsEndOfRule b box r upper (get_or ends n no_end)
-rule_end_at b box upper ends n r all e =
-    let q = all n r e in
-    subst (IsEndOfRule b box r upper) (sym (get_or_from_slice_get ends n q.0 no_end q.1)) q.2
 
 -- of a rule by a condition that reaches as far as its own
 same_ends : (upper : Bool) (s r : Span Fraction) → AreSame IsSame s r → IsSame (end_of upper s) (end_of upper r)

@@ -27,6 +27,10 @@ pub record IsRuleMass (b : Block) (box : List Interval) (r : Rule) (m : RuleMass
   pub byte_high_small : m.byte_high ≤ 255
   pub error_small : m.error ≤ 3000000000
 
+-- that of a rule that is still
+abbrev pub no_mass : RuleMass
+no_mass = record { low = 0; high = 0; byte_low = 0; byte_high = 0; error = 0 }
+
 -- for each term the greatest that f gives for the rules that conclude it, n at most
 pub record AreGreatest (f : Rule → ℕ) (n o : ℕ) (rs : List Rule) (values : List ℕ) : Type 0 where
   pub each : (t : ℕ) → t < 15 → slice_index values t ≡ greatest_of f o (t + 1) rs

@@ -1,5 +1,5 @@
 -- What the code's reaches stand for.
-use Rattle.std.specs.Prelude.{◌≡◌, ℕ, ◌≤◌, Bool, true, false, List, length, IfSome, Some, slice_get, slice_index}
+use Rattle.std.specs.Prelude.{◌≡◌, ℕ, ◌≤◌, Bool, List, length, IfSome, Some, slice_get, slice_index}
 use Rattle.fz_num.specs.Decimals.{distance}
 use Rattle.fz_num.specs.Fractions.{Fraction}
 use Rattle.fuzzy_meaning.specs.declared.block.Block.{Block}
@@ -110,6 +110,11 @@ pub record IsEndOfCondition (b : Block) (box : List Interval) (c : Condition) (u
   pub byte : e.byte ≡ end_of upper (byte_span (literal_byte_span b box) c)
   pub small : IsRatio 1000000000000 e.truth
 
+-- a condition is true nowhere, over bytes neither
+pub record IsNowhere (b : Block) (box : List Interval) (c : Condition) : Type 0 where
+  pub high : (span (literal_span b box) c).high.num ≡ 0
+  pub byte_high : (byte_span (literal_byte_span b box) c).high ≡ 0
+
 -- of the reach of a rule's strength
 pub record IsEndOfRule (b : Block) (box : List Interval) (r : Rule) (upper : Bool) (e : End) : Type 0 where
   pub value : IsSame (value_of e.truth) (end_of upper (rule_span b box r))
@@ -121,23 +126,9 @@ pub record IsErrorOfRule (b : Block) (box : List Interval) (r : Rule) (e : ℕ) 
   pub value : e ≡ rule_error (term_errors b box) r
   pub small : e ≤ 3000000000
 
--- those ends of all rules
-abbrev pub AreEndsOfRules : Block → List Interval → Bool → List End → Type 0
-AreEndsOfRules b box upper ends =
-    (k : ℕ) (r : Rule) → slice_get b.rules k ≡ Some r
-    → (e : End) × (slice_get ends k ≡ Some e) × IsEndOfRule b box r upper e
-
-abbrev pub AreErrorsOfRules : Block → List Interval → List ℕ → Type 0
-AreErrorsOfRules b box errors =
-    (k : ℕ) (r : Rule) → slice_get b.rules k ≡ Some r
-    → (e : ℕ) × (slice_get errors k ≡ Some e) × IsErrorOfRule b box r e
-
--- what leaves need of a box, and what of it is made beforehand
+-- what leaves need of a box
 pub record IsTable (b : Block) (t : BoxTable) : Type 0 where
   pub box_is : IsBoxOf b t.bytes.0.items
   pub same_box : t.terms.bytes.0.items ≡ t.bytes.0.items
   pub terms : AreBoxTerms b t.terms
   pub kept : IfSome t.kept (λ table. IsBlockTable b table.now)
-  pub errors : IfSome t.errors (AreErrorsOfRules b t.bytes.0.items)
-  pub lows : IfSome t.lows (AreEndsOfRules b t.bytes.0.items false)
-  pub highs : IfSome t.highs (AreEndsOfRules b t.bytes.0.items true)

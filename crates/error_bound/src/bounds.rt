@@ -11,6 +11,7 @@ ghost use Rattle.error_bound.specs.CellErrors.{term_errors};
 ghost use Rattle.error_bound.specs.Errors.{output_error as output_error_of};
 ghost use Rattle.error_bound.specs.Reaches.{IsTable};
 
+use crate::leaves::concludes_some;
 use crate::rules::BoxTable;
 use byte_scaling::near;
 use fuzzy_meaning::{Block, Output, Rule};
@@ -132,8 +133,10 @@ impl BoxTable<'_> {
         let mut errors = [0; 15];
         let rules = block.rules.as_slice();
         for n in (0..rules.len()).rev() {
-            let error = self.error_of_rule(block, n);
-            raise_terms(&mut errors, &rules[n], out, error);
+            if concludes_some(&rules[n], out) {
+                let error = self.error_of_rule(block, n);
+                raise_terms(&mut errors, &rules[n], out, error);
+            }
         }
         errors
     }

@@ -1,5 +1,5 @@
 //! Boxes of bytes and what a leaf says of one.
-ghost use Rattle.std.specs.Prelude.{◌≡◌};
+ghost use Rattle.std.specs.Prelude.{◌≡◌, ◌<◌, length, set};
 
 use arrayvec::ArrayVec;
 use fz_num::Nano;
@@ -25,6 +25,14 @@ impl ByteBox {
             intervals.push(*interval);
         }
         ByteBox(intervals)
+    }
+
+    /// Puts another interval at a place.
+    pub(crate) fn set_interval(&mut self, place: usize, new: Interval)
+        requires { place < length self.old.0.items }
+        ensures { self.new.0.items ≡ set self.old.0.items place new }
+    {
+        self.0[place] = new;
     }
 }
 

@@ -8,7 +8,6 @@ ghost use Rattle.error_bound.specs.Reaches.{IsTable};
 
 use crate::boxes::{ByteBox, Leaf};
 use crate::ends::End;
-use crate::leaves::concludes_some;
 use crate::rules::BoxTable;
 use fuzzy_meaning::Block;
 
@@ -69,7 +68,7 @@ impl BoxTable<'_> {
         ensures candidate { 1 ≤ result → IsCandidate block.now self.now.bytes.0.items out (n + 1) result }
         ensures only { (k : ℕ) → IsCandidate block.now self.now.bytes.0.items out (n + 1) k → k ≡ result }
     {
-        if concludes_some(&block.rules.as_slice()[n as usize], out) {
+        if self.may_fire(block, n as usize, out) {
             part_of(self.end_of_rule(block, n as usize, false))
         } else {
             0

@@ -92,7 +92,7 @@ impl BoxTable<'_> {
     {
         let rules = block.rules.as_slice();
         for n in 0..rules.len() {
-            if concludes_some(&rules[n], out) {
+            if self.may_fire(block, n, out) {
                 let high = self.end_of_rule(block, n, true);
                 if let Some(fault) = firing_fault(high, n as u16 + 1) {
                     return Some(fault);

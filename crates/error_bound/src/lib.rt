@@ -18,6 +18,7 @@ mod flattening;
 mod laws;
 mod leaves;
 mod literal_errors;
+mod nowhere;
 mod ratio;
 mod reaches;
 mod rules;
@@ -35,7 +36,7 @@ pub use laws::{
     term_errors_are,
 };
 pub use leaves::{is_pair_for, leaf_bound, leaf_bound16};
-pub use rules::{AskedLeaves, BoxTable};
+pub use rules::BoxTable;
 pub use tables::BlockTable;
 pub use tight::Masses;
 pub use tight_laws::{

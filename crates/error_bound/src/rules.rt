@@ -6,61 +6,41 @@ ghost use Rattle.fuzzy_meaning.specs.declared.block.Rule.{Rule as TheRule};
 ghost use Rattle.fuzzy_meaning.specs.Blocks.{IsValid, IsValidRule};
 ghost use Rattle.error_bound.specs.Boxes.{IsBoxOf};
 ghost use Rattle.error_bound.specs.Errors.{apart};
-ghost use Rattle.error_bound.specs.Reaches.{HasAlike, IsBlockTable, AreBoxTerms, IsEndOfRule, IsErrorOfRule};
-ghost use Rattle.error_bound.specs.Reaches.{AreEndsOfRules, AreErrorsOfRules, IsTable};
+ghost use Rattle.error_bound.specs.Leaves.{IsStill, concludes_some as concludes_any};
+ghost use Rattle.error_bound.specs.Reaches.{HasAlike, IsBlockTable, AreBoxTerms, IsEndOfRule, IsErrorOfRule, IsTable};
 ghost use Rattle.error_bound.specs.Flattening.{ReachesAlike};
 
 use crate::boxes::ByteBox;
 use crate::ends::{End, end_of};
+use crate::leaves::concludes_some;
 use crate::literal_errors::error_of;
+use crate::nowhere::is_nowhere;
 use crate::tables::{BlockTable, BoxTerms};
 use byte_scaling::weight_byte;
 use fuzzy_meaning::{Block, Condition, Rule};
 use fz_num::Dec;
 
-/// The leaves that a table is made for.
-#[derive(Clone, Copy, PartialEq, Eq, Debug)]
-pub enum AskedLeaves {
-    /// Silent ones alone, which need no errors.
-    Silent,
-    /// A few strong ones.
-    Strong,
-    /// Silent ones, and a few strong ones.
-    Mixed,
-    /// The best ones, for which all rules' strengths are looked at.
-    Best,
-}
-
-/// What leaves need of a box, made once for all of them. It answers for each leaf; what of the rules is made beforehand
-/// says only how fast.
+/// What leaves need of a box, made once for all of them.
 #[derive(Drop)]
 pub struct BoxTable<'a> {
     /// The box that the table was made from.
     pub bytes: ByteBox,
     pub(crate) terms: BoxTerms,
     pub(crate) kept: Option<&'a BlockTable>,
-    /// How far each rule's strength over bytes may be from the exact one, in parts of 10^9.
-    pub(crate) errors: Option<[u64; 256]>,
-    /// The least strength of each rule.
-    pub(crate) lows: Option<[End; 256]>,
-    /// The greatest strength of each rule.
-    pub(crate) highs: Option<[End; 256]>,
 }
 
 impl<'a> BoxTable<'a> {
-    /// The table of a box, for any leaves. It takes some ten thousand steps for each input that has whole range, and
-    /// then a few for each literal.
+    /// The table of a box. It takes some ten thousand steps for each input that has whole range.
     pub fn new(block: &Block, bytes: ByteBox) -> BoxTable<'a>
         requires block { IsValid block.now }
         requires bytes { IsBoxOf block.now bytes.0.items }
         ensures same { result.bytes ≡ bytes }
         ensures table { IsTable block.now result }
     {
-        BoxTable::of(block, None, bytes, AskedLeaves::Best)
+        BoxTable::of(block, None, bytes)
     }
 
-    /// The same where the block's table is kept, in a few steps for each byte of each term, and then for
-    /// each literal.
+    /// The same where the block's table is kept, in a few steps for each byte of each term.
     pub fn over(block: &Block, table: &'a BlockTable, bytes: ByteBox) -> BoxTable<'a>
         requires block { IsValid block.now }
         requires table { IsBlockTable block.now table.now }
@@ -68,31 +48,10 @@ impl<'a> BoxTable<'a> {
         ensures same { result.bytes ≡ bytes }
         ensures table { IsTable block.now result }
     {
-        BoxTable::of(block, Some(table), bytes, AskedLeaves::Best)
+        BoxTable::of(block, Some(table), bytes)
     }
 
-    /// The same where it is known which leaves are asked for: of the rules it makes beforehand what they need alone.
-    pub fn for_leaves(
-        block: &Block,
-        table: &'a BlockTable,
-        bytes: ByteBox,
-        leaves: AskedLeaves,
-    ) -> BoxTable<'a>
-        requires block { IsValid block.now }
-        requires table { IsBlockTable block.now table.now }
-        requires bytes { IsBoxOf block.now bytes.0.items }
-        ensures same { result.bytes ≡ bytes }
-        ensures table { IsTable block.now result }
-    {
-        BoxTable::of(block, Some(table), bytes, leaves)
-    }
-
-    fn of(
-        block: &Block,
-        kept: Option<&'a BlockTable>,
-        bytes: ByteBox,
-        leaves: AskedLeaves,
-    ) -> BoxTable<'a>
+    fn of(block: &Block, kept: Option<&'a BlockTable>, bytes: ByteBox) -> BoxTable<'a>
         requires block { IsValid block.now }
         requires bytes { IsBoxOf block.now bytes.0.items }
         requires kept { IfSome kept (λ table. IsBlockTable block.now table.now) }
@@ -100,17 +59,19 @@ impl<'a> BoxTable<'a> {
         ensures table { IsTable block.now result }
     {
         let terms = BoxTerms::new(block, bytes.copied(), kept);
-        let errors = errors_for(leaves, kept, block, &terms);
-        let lows = ends_for(leaves, false, kept, block, &terms);
-        let highs = ends_for(leaves, true, kept, block, &terms);
-        BoxTable {
-            bytes,
-            terms,
-            kept,
-            errors,
-            lows,
-            highs,
-        }
+        BoxTable { bytes, terms, kept }
+    }
+
+    /// Makes it the table of another box. What it has of the intervals that this box has too stays.
+    pub fn move_to(&mut self, block: &Block, bytes: &ByteBox)
+        requires block { IsValid block.now }
+        requires table { IsTable block.now self.old }
+        requires bytes { IsBoxOf block.now bytes.now.0.items }
+        ensures bytes { self.new.bytes.0.items ≡ bytes.now.0.items }
+        ensures table { IsTable block.now self.new }
+    {
+        self.terms.move_to(block, self.kept, bytes);
+        self.bytes = bytes.copied();
     }
 
     /// The error of the strength of the rule at a place.
@@ -121,13 +82,8 @@ impl<'a> BoxTable<'a> {
         ensures { (r : TheRule) → slice_get block.now.rules place ≡ Some r
             → IsErrorOfRule block.now self.now.bytes.0.items r result }
     {
-        match &self.errors {
-            Some(errors) => errors[place],
-            None => {
-                let rule = &block.rules.as_slice()[place];
-                error_of_strength(self.kept, place, rule, block, &self.terms)
-            }
-        }
+        let rule = &block.rules.as_slice()[place];
+        error_of_strength(self.kept, place, rule, block, &self.terms)
     }
 
     /// The upper end of the strength of the rule at a place, or the lower.
@@ -138,104 +94,32 @@ impl<'a> BoxTable<'a> {
         ensures { (r : TheRule) → slice_get block.now.rules place ≡ Some r
             → IsEndOfRule block.now self.now.bytes.0.items r upper result }
     {
-        match self.made_ends(block, upper) {
-            Some(ends) => ends[place],
-            None => {
-                let rule = &block.rules.as_slice()[place];
-                end_of_strength(self.kept, place, rule, upper, block, &self.terms)
-            }
-        }
+        let rule = &block.rules.as_slice()[place];
+        end_of_strength(self.kept, place, rule, upper, block, &self.terms)
     }
 
-    /// The upper ends of all rules' strengths, or the lower ones, where they were made.
-    fn made_ends(&self, block: &Block, upper: bool) -> &Option<[End; 256]>
+    /// Whether the rule at a place concludes a term of an output, and no term that it asks for is nowhere on the box.
+    /// Else it is still there, which is seen by its literals alone.
+    pub(crate) fn may_fire(&self, block: &Block, place: usize, out: u8) -> bool
+        requires block { IsValid block.now }
         requires table { IsTable block.now self.now }
-        ensures { IfSome result.now (AreEndsOfRules block.now self.now.bytes.0.items upper) }
+        requires place { place < length block.now.rules }
+        ensures concludes_it { result ≡ true → (r : TheRule) → slice_get block.now.rules place ≡ Some r
+            → concludes_any r out ≡ true }
+        ensures still { result ≡ false → (r : TheRule) → slice_get block.now.rules place ≡ Some r
+            → concludes_any r out ≡ true → IsStill block.now self.now.bytes.0.items r }
     {
-        if upper { &self.highs } else { &self.lows }
-    }
-}
-
-/// The errors of all rules' strengths, where leaves need them.
-fn errors_for(
-    leaves: AskedLeaves,
-    kept: Option<&BlockTable>,
-    block: &Block,
-    terms: &BoxTerms,
-) -> Option<[u64; 256]>
-    requires block { IsValid block.now }
-    requires terms { AreBoxTerms block.now terms.now }
-    requires kept { IfSome kept (λ table. IsBlockTable block.now table.now) }
-    ensures { IfSome result (AreErrorsOfRules block.now terms.now.bytes.0.items) }
-{
-    match leaves {
-        AskedLeaves::Silent => None,
-        AskedLeaves::Strong | AskedLeaves::Mixed | AskedLeaves::Best => {
-            Some(errors_of_rules(kept, block, terms))
+        let rule = &block.rules.as_slice()[place];
+        if is_nowhere(
+            condition_in(self.kept, place, rule, block),
+            block,
+            &self.terms,
+        ) {
+            false
+        } else {
+            concludes_some(rule, out)
         }
     }
-}
-
-/// The upper ends of all rules' strengths, or the lower ones, where leaves need them. A strong leaf needs one alone.
-fn ends_for(
-    leaves: AskedLeaves,
-    upper: bool,
-    kept: Option<&BlockTable>,
-    block: &Block,
-    terms: &BoxTerms,
-) -> Option<[End; 256]>
-    requires block { IsValid block.now }
-    requires terms { AreBoxTerms block.now terms.now }
-    requires kept { IfSome kept (λ table. IsBlockTable block.now table.now) }
-    ensures { IfSome result (AreEndsOfRules block.now terms.now.bytes.0.items upper) }
-{
-    let all = match leaves {
-        AskedLeaves::Silent | AskedLeaves::Mixed => upper,
-        AskedLeaves::Strong => false,
-        AskedLeaves::Best => true,
-    };
-    if all {
-        Some(ends_of_rules(upper, kept, block, terms))
-    } else {
-        None
-    }
-}
-
-/// The upper end of each rule's strength at its place, or the lower.
-#[inline(never)]
-fn ends_of_rules(
-    upper: bool,
-    kept: Option<&BlockTable>,
-    block: &Block,
-    terms: &BoxTerms,
-) -> [End; 256]
-    requires block { IsValid block.now }
-    requires terms { AreBoxTerms block.now terms.now }
-    requires kept { IfSome kept (λ table. IsBlockTable block.now table.now) }
-    ensures { AreEndsOfRules block.now terms.now.bytes.0.items upper result }
-{
-    let mut ends = [End::NOTHING; 256];
-    let all = block.rules.as_slice();
-    for n in 0..all.len() {
-        ends[n] = end_of_strength(kept, n, &all[n], upper, block, terms);
-    }
-    ends
-}
-
-/// The error of each rule's strength at its place.
-#[inline(never)]
-fn errors_of_rules(kept: Option<&BlockTable>, block: &Block, terms: &BoxTerms) -> [u64; 256]
-    requires block { IsValid block.now }
-    requires terms { AreBoxTerms block.now terms.now }
-    requires kept { IfSome kept (λ table. IsBlockTable block.now table.now) }
-    ensures { AreErrorsOfRules block.now terms.now.bytes.0.items result }
-{
-    let mut errors = [0; 256];
-    let all = block.rules.as_slice();
-    for n in 0..all.len() {
-        errors[n] = error_of_strength(kept, n, &all[n], block, terms);
-    }
-    errors
 }
 
 /// The upper end of the strength of the rule at a place, or the lower.

@@ -1,5 +1,5 @@
 //! What boxes need of a block, and the reaches of all terms over a box.
-ghost use Rattle.std.specs.Prelude.{◌≡◌, ◌≤◌, ◌-◌, ℕ, length, IfOk, IfSome, Some, slice_get};
+ghost use Rattle.std.specs.Prelude.{◌≡◌, ◌≤◌, ◌-◌, ℕ, length, IfOk, IfSome, IsTrue, Some, slice_get};
 ghost use Rattle.fuzzy_meaning.specs.Blocks.{IsValid, IsValidInput, IsValidTerm};
 ghost use Rattle.error_bound.specs.declared.tables.InputCells.{InputCells as TheCells};
 ghost use Rattle.error_bound.specs.Boxes.{IsBoxOf};
@@ -116,6 +116,31 @@ impl BoxTerms {
         }
         BoxTerms { bytes, rows }
     }
+
+    /// Makes them those of another box. The rows of intervals that this box has too stay.
+    pub(crate) fn move_to(&mut self, block: &Block, kept: Option<&BlockTable>, bytes: &ByteBox)
+        requires block { IsValid block.now }
+        requires bytes { IsBoxOf block.now bytes.now.0.items }
+        requires kept { IfSome kept (λ table. IsBlockTable block.now table.now) }
+        requires terms { AreBoxTerms block.now self.old }
+        ensures same { self.new.bytes.0.items ≡ bytes.now.0.items }
+        ensures terms { AreBoxTerms block.now self.new }
+    {
+        let inputs = block.inputs.as_slice();
+        for i in 0..inputs.len() {
+            let to = bytes.0[i];
+            if !is_same(self.bytes.0[i], to) {
+                self.rows[i] = row_in(kept, i, &inputs[i], to);
+                self.bytes.set_interval(i, to);
+            }
+        }
+    }
+}
+
+fn is_same(left: Interval, right: Interval) -> bool
+    ensures { IsTrue result → left ≡ right }
+{
+    left.from == right.from && left.to == right.to
 }
 
 /// The row of the input at a place, from its cells where they are kept.

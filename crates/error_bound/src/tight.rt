@@ -102,12 +102,14 @@ impl BoxTable<'_> {
         let mut errors = [0; 15];
         let rules = block.rules.as_slice();
         for n in (0..rules.len()).rev() {
-            let rule = self.mass_of_rule(block, n);
-            raise_terms(&mut lows, &rules[n], out, rule.low);
-            raise_terms(&mut highs, &rules[n], out, rule.high);
-            raise_terms(&mut byte_lows, &rules[n], out, rule.byte_low);
-            raise_terms(&mut byte_highs, &rules[n], out, rule.byte_high);
-            raise_terms(&mut errors, &rules[n], out, rule.error);
+            if self.may_fire(block, n, out) {
+                let rule = self.mass_of_rule(block, n);
+                raise_terms(&mut lows, &rules[n], out, rule.low);
+                raise_terms(&mut highs, &rules[n], out, rule.high);
+                raise_terms(&mut byte_lows, &rules[n], out, rule.byte_low);
+                raise_terms(&mut byte_highs, &rules[n], out, rule.byte_high);
+                raise_terms(&mut errors, &rules[n], out, rule.error);
+            }
         }
         Masses {
             lows,

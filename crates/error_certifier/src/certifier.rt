@@ -12,6 +12,7 @@ use crate::laws::cells_are_out_of_reach;
 use arrayvec::ArrayVec;
 use box_tree::{AnswerWidth, Cert, CertKind, open_boxes_go_on};
 use cert_check::{parts_of, whole_box};
+use error_bound::BoxTable;
 use fuzzy_meaning::Block;
 use std::alloc::Global;
 use thiserror::Error;
@@ -105,7 +106,8 @@ fn certified(
     let Ok(mut tree) = Tree::new(alloc, block.outputs.len()) else {
         return Err(NotReached::Memory);
     };
-    match task.halve(whole_box(block), &mut tree) {
+    let mut table = BoxTable::over(block, &task.table, whole_box(block));
+    match task.halve(whole_box(block), &mut table, &mut tree) {
         Ok(()) => Ok(tree.into_cert()),
         Err(stop) => Err(stop),
     }

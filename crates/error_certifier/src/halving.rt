@@ -3,6 +3,7 @@ ghost use Rattle.std.specs.Prelude.{◌≡◌, ◌≢◌, ◌≤◌, ◌<◌, �
 ghost use Rattle.std.specs.Prelude.{MatchOption};
 ghost use Rattle.fuzzy_meaning.specs.Blocks.{IsValid};
 ghost use Rattle.error_bound.specs.Boxes.{IsBoxOf};
+ghost use Rattle.error_bound.specs.Reaches.{IsTable};
 ghost use Rattle.box_tree.specs.declared.cert.CertKind.TheVariants as kind;
 ghost use Rattle.box_tree.specs.declared.cert.Node.TheVariants as node;
 ghost use Rattle.cert_check.specs.Walks.{AreRaised};
@@ -29,7 +30,7 @@ pub(crate) struct Task<'a> {
     kind: CertKind,
     block: &'a Block,
     /// What all boxes need of the block.
-    table: BlockTable,
+    pub(crate) table: BlockTable,
     target: u32,
     /// How many parts an answer has to a byte.
     parts: u16,
@@ -73,10 +74,18 @@ impl<'a> Task<'a> {
     }
 
     /// Halves a box until each part of it is a leaf, and puts the nodes behind those of the tree.
-    pub(crate) fn halve(&self, bytes: ByteBox, tree: &mut Tree) -> Result<(), NotReached>
+    /// The table is moved from box to box.
+    pub(crate) fn halve(
+        &self,
+        bytes: ByteBox,
+        table: &mut BoxTable,
+        tree: &mut Tree,
+    ) -> Result<(), NotReached>
         requires task { IsTask self.now }
         requires bytes { IsBoxOf self.now.block.now bytes.0.items }
+        requires table { IsTable self.now.block.now table.old }
         requires tree { IsTreeFor self.now.block.now tree.old }
+        ensures table { IsTable self.now.block.now table.new }
         ensures tree { OnOk result (IsTreeFor self.now.block.now tree.new) }
         ensures grows { OnOk result (Grows self.now.kind self.now.block.now self.now.parts self.now.target bytes.0.items
             tree.old tree.new) }
@@ -84,7 +93,7 @@ impl<'a> Task<'a> {
             self.now.parts self.now.target bytes.0.items tree.old.leaves stop) }
     {
         cuts_have_halves();
-        match self.found(&bytes) {
+        match self.found(&bytes, table) {
             Ok(Some(leaf)) => return tree.push_leaf(leaf),
             Ok(None) => {}
             Err(stop) => return Err(stop),
@@ -95,43 +104,45 @@ impl<'a> Task<'a> {
             return Err(NotReached::Memory);
         }
         let (left, right) = halves(bytes, place, interval, cut);
-        self.halve(left, tree)?;
-        self.halve(right, tree)
+        self.halve(left, table, tree)?;
+        self.halve(right, table, tree)
     }
 
     /// The leaf of a box, `None` where it is to be cut, or the cell that is above the target.
-    fn found(&self, bytes: &ByteBox) -> Result<Option<FoundLeaf>, NotReached>
+    fn found(&self, bytes: &ByteBox, table: &mut BoxTable) -> Result<Option<FoundLeaf>, NotReached>
         requires task { IsTask self.now }
         requires bytes { IsBoxOf self.now.block.now bytes.now.0.items }
+        requires table { IsTable self.now.block.now table.old }
+        ensures table { IsTable self.now.block.now table.new }
         ensures found { IfOk result (λ found. MatchOption found
             (IsSplit self.now.kind self.now.block.now self.now.parts self.now.target bytes.now.0.items)
             (IsFoundLeaf self.now.kind self.now.block.now self.now.parts self.now.target bytes.now.0.items)) }
         ensures stuck { IfErr result (λ stop. (n : ℕ) → Stops self.now.kind self.now.block.now self.now.parts
             self.now.target bytes.now.0.items n stop) }
     {
+        table.move_to(self.block, bytes);
         match self.kind {
-            CertKind::Named => self.named_leaf(bytes),
-            CertKind::Tight => self.tight_leaf(bytes),
+            CertKind::Named => self.named_leaf(table),
+            CertKind::Tight => self.tight_leaf(table),
         }
     }
 
-    /// The same for a certificate that names rules.
-    fn named_leaf(&self, bytes: &ByteBox) -> Result<Option<FoundLeaf>, NotReached>
+    /// That of a table's box, for a certificate that names rules.
+    fn named_leaf(&self, table: &BoxTable) -> Result<Option<FoundLeaf>, NotReached>
         requires task { IsTask self.now }
-        requires bytes { IsBoxOf self.now.block.now bytes.now.0.items }
+        requires table { IsTable self.now.block.now table.now }
         ensures found { IfOk result (λ found. MatchOption found
-            (IsSplit kind.Named self.now.block.now self.now.parts self.now.target bytes.now.0.items)
-            (IsFoundLeaf kind.Named self.now.block.now self.now.parts self.now.target bytes.now.0.items)) }
+            (IsSplit kind.Named self.now.block.now self.now.parts self.now.target table.now.bytes.0.items)
+            (IsFoundLeaf kind.Named self.now.block.now self.now.parts self.now.target table.now.bytes.0.items)) }
         ensures stuck { IfErr result (λ stop. (n : ℕ) → Stops kind.Named self.now.block.now self.now.parts
-            self.now.target bytes.now.0.items n stop) }
+            self.now.target table.now.bytes.0.items n stop) }
     {
-        let table = BoxTable::over(self.block, &self.table, bytes.copied());
-        match best_leaf(self.block, &table, self.target, self.parts) {
+        match best_leaf(self.block, table, self.target, self.parts) {
             Ok(leaf) => Ok(Some(leaf)),
             Err(above) => {
-                let (_place, interval) = widest(bytes);
+                let (_place, interval) = widest(&table.bytes);
                 if interval.from == interval.to {
-                    Err(NotReached::Cell(low_bytes(bytes), above.place + 1, above.bound))
+                    Err(NotReached::Cell(low_bytes(&table.bytes), above.place + 1, above.bound))
                 } else {
                     Ok(None)
                 }
@@ -139,27 +150,26 @@ impl<'a> Task<'a> {
         }
     }
 
-    /// The same for a tight one.
-    fn tight_leaf(&self, bytes: &ByteBox) -> Result<Option<FoundLeaf>, NotReached>
+    /// The same for a tight certificate.
+    fn tight_leaf(&self, table: &BoxTable) -> Result<Option<FoundLeaf>, NotReached>
         requires task { IsTask self.now }
-        requires bytes { IsBoxOf self.now.block.now bytes.now.0.items }
+        requires table { IsTable self.now.block.now table.now }
         ensures found { IfOk result (λ found. MatchOption found
-            (IsSplit kind.Tight self.now.block.now self.now.parts self.now.target bytes.now.0.items)
-            (IsFoundLeaf kind.Tight self.now.block.now self.now.parts self.now.target bytes.now.0.items)) }
+            (IsSplit kind.Tight self.now.block.now self.now.parts self.now.target table.now.bytes.0.items)
+            (IsFoundLeaf kind.Tight self.now.block.now self.now.parts self.now.target table.now.bytes.0.items)) }
         ensures stuck { IfErr result (λ stop. (n : ℕ) → Stops kind.Tight self.now.block.now self.now.parts
-            self.now.target bytes.now.0.items n stop) }
+            self.now.target table.now.bytes.0.items n stop) }
     {
-        let table = BoxTable::over(self.block, &self.table, bytes.copied());
-        match tight_bounds(self.block, &table, self.target, self.parts) {
+        match tight_bounds(self.block, table, self.target, self.parts) {
             Ok(bounds) => Ok(Some(FoundLeaf {
                 form: LeafForm::Tight,
                 bounds,
             })),
-            Err(_above) => self.cells_leaf(bytes),
+            Err(_above) => self.cells_leaf(&table.bytes),
         }
     }
 
-    /// The same where a tight leaf is above the target.
+    /// That of a box where a tight leaf is above the target.
     fn cells_leaf(&self, bytes: &ByteBox) -> Result<Option<FoundLeaf>, NotReached>
         requires task { IsTask self.now }
         requires bytes { IsBoxOf self.now.block.now bytes.now.0.items }

@@ -8,10 +8,10 @@ returns-clause-bounds c =
     let b = c.args.block.now in
     let box = c.args.bytes.now.0.items in
     let h = c.args.parts in
-    more_ok {P = AreRaised b h 0 c.len.result c.copied.result.0.items (0 ∷ 0 ∷ 0 ∷ 0 ∷ [])} c.over.result
+    more_ok {P = AreRaised b h 0 c.len.result c.copied-2.result.0.items (0 ∷ 0 ∷ 0 ∷ 0 ∷ [])} c.over.result
     (λ (news : List ℕ) r k few.
     let same : c.len.result ≡ length b.outputs = c.len.ensures in
     let raised : AreRaised b h 0 c.len.result box (0 ∷ 0 ∷ 0 ∷ 0 ∷ []) news =
-    subst (λ i. AreRaised b h 0 c.len.result i (0 ∷ 0 ∷ 0 ∷ 0 ∷ []) news) c.copied.ensures r in
+    subst (λ i. AreRaised b h 0 c.len.result i (0 ∷ 0 ∷ 0 ∷ 0 ∷ []) news) c.copied-2.ensures r in
     bounds_are b h box (0 ∷ 0 ∷ 0 ∷ 0 ∷ []) news c.len.result (λ k l. no_numbers k) raised k (omega arith))
     c.over.ensures.raised

@@ -19,31 +19,35 @@ returns-in-Err c =
     let to = first.to in
     let here : IsFirstCellAbove b c.args.parts 1000000 (place + 1) (place + 1) box a.bytes.items a.out a.bound =
     subst (λ i. IsFirstCellAbove b c.args.parts 1000000 (place + 1) (place + 1) i a.bytes.items a.out a.bound)
-    c.copied.ensures first in
+    c.copied-in-loop-place.ensures first in
     record {
       from = omega arith;
       to = omega arith;
       unsure = unsure_above b c.args.parts (place + 1) (place + 1) box a.bytes.items a.out a.bound here;
-      before = λ j f l. c.loop-place.invariant j f (omega arith);
+      before = λ j f l. c.loop-place.invariant.sure j f (omega arith);
     }
 
 pub loop-place-preserved : goal.loop-place-preserved
-loop-place-preserved c = λ j f l.
+loop-place-preserved c =
     let b = c.args.block.now in
     let box = c.args.bytes.now.0.items in
     let place = c.loop-place.place in
     let test = c.loop-place-test.true in
     let known = c.requires.known_to in
     let outputs = c.requires.block.few_outputs in
-    ⊎_elim
-    (λ (m : place < j).
-    let e : place + 1 ≡ j = omega arith in
-    let next : IfSome (output_at b (place + 1))
-    (λ x. CellsAreWithin b c.copied.result.0.items (place + 1) x c.args.parts 1000000) =
-    sure_next b c.args.parts place c.copied.result.0.items (0 ∷ 0 ∷ 0 ∷ 0 ∷ []) c.in-Ok.field-0 (omega arith) c.in-Ok.ensures.raised
-    c.in-Ok.ensures.within in
-    subst (λ i. IfSome (output_at b i) (λ x. CellsAreWithin b box i x c.args.parts 1000000)) e
-    (subst (λ y. IfSome (output_at b (place + 1)) (λ x. CellsAreWithin b y (place + 1) x c.args.parts 1000000))
-    c.copied.ensures next))
-    (λ (m : j ≤ place). c.loop-place.invariant j f m)
-    (cases_lt place j)
+    record {
+      table = c.over.ensures.table;
+      sure = λ j f l.
+          ⊎_elim
+          (λ (m : place < j).
+          let e : place + 1 ≡ j = omega arith in
+          let next : IfSome (output_at b (place + 1))
+          (λ x. CellsAreWithin b c.copied-in-loop-place.result.0.items (place + 1) x c.args.parts 1000000) =
+          sure_next b c.args.parts place c.copied-in-loop-place.result.0.items (0 ∷ 0 ∷ 0 ∷ 0 ∷ []) c.in-Ok.field-0 (omega arith) c.in-Ok.ensures.raised
+          c.in-Ok.ensures.within in
+          subst (λ i. IfSome (output_at b i) (λ x. CellsAreWithin b box i x c.args.parts 1000000)) e
+          (subst (λ y. IfSome (output_at b (place + 1)) (λ x. CellsAreWithin b y (place + 1) x c.args.parts 1000000))
+          c.copied-in-loop-place.ensures next))
+          (λ (m : j ≤ place). c.loop-place.invariant.sure j f m)
+          (cases_lt place j);
+    }

@@ -14,7 +14,7 @@ pub returns-in_err-bounds-clause-fault : goal.returns-in_err-bounds-clause-fault
 returns-in_err-bounds-clause-fault c =
     let p = err_from_is_err_and c.from_residual.result c.from_residual.ensures.1 in
     let b = c.args.block.now in
-    let box = c.for_leaves-table.result.bytes.0.items in
+    let box = c.over-table.result.bytes.0.items in
     let pairs = c.args.pairs.now in
     let slice = c.as_slice-named.result.now in
     let same = c.as_slice-named.ensures.value in
@@ -25,12 +25,12 @@ returns-in_err-bounds-clause-fault c =
     c.loop-o.invariant.filled c.args.line _ f (omega (arith, c.loop-o-test.true, count, c.requires.pairs)) at
     c.in_err-bounds.ensures.fault in
     rw (p.1, p.2) (subst (λ (x : ByteBox). HasPartFault b c.args.parts (part_of x.0.items (Pairs pairs)) c.args.line f)
-    c.for_leaves-table.ensures.same fault)
+    c.over-table.ensures.same fault)
 
 pub loop-o-preserved : goal.loop-o-preserved
 loop-o-preserved c =
     let b = c.args.block.now in
-    let box = c.for_leaves-table.result.bytes.0.items in
+    let box = c.over-table.result.bytes.0.items in
     let pairs = c.args.pairs.now in
     let slice = c.as_slice-named.result.now in
     let same = c.as_slice-named.ensures.value in
@@ -53,8 +53,8 @@ returns-clause-bounds c =
     let b = c.args.block.now in
     let pairs = c.args.pairs.now in
     let names = ap (λ (ps : List (ℕ × ℕ)). length ps) c.as_slice-named.ensures.value in
-    let all = AreBounds-all b c.args.parts (part_of c.for_leaves-table.result.bytes.0.items (Pairs pairs))
+    let all = AreBounds-all b c.args.parts (part_of c.over-table.result.bytes.0.items (Pairs pairs))
     c.loop-o.bounds c.loop-o.o c.loop-o.invariant.filled
     (omega (arith, c.loop-o-test.false, names, c.requires.pairs)) in
     subst (λ (x : ByteBox). AreBounds b c.args.parts (part_of x.0.items (Pairs pairs)) c.loop-o.bounds)
-    c.for_leaves-table.ensures.same all
+    c.over-table.ensures.same all

@@ -1,14 +1,20 @@
-use Rattle.std.proofs.Common.{ap, ◌∙◌, replicate}
+use Rattle.std.proofs.Common.{ap, sym, subst, refl, ◌∙◌, replicate}
+use Rattle.error_bound.specs.Reaches.{IsTable}
 use Rattle.error_certifier.proofs.HalveLemmas.{box_for, tree_for, grows_for}
 use Rattle.error_certifier.proofs.CertLemmas.{is_halving, claims_within, is_cert}
 use Rattle.error_certifier.proofs.certifier.certified.Goals as goal
+
+pub over-table-requires-clause-bytes : goal.over-table-requires-clause-bytes
+over-table-requires-clause-bytes c =
+    let b = c.args.block.now in box_for b b c.whole_box.result.0.items refl c.whole_box.ensures
 
 pub halve-requires : goal.halve-requires
 halve-requires c =
     let e = c.in-Ok.ensures in
     record {
       task = e.task;
-      bytes = box_for c.in-Ok.task.block.now c.args.block.now c.whole_box.result.0.items e.block c.whole_box.ensures;
+      bytes = box_for c.in-Ok.task.block.now c.args.block.now c.whole_box-2.result.0.items e.block c.whole_box-2.ensures;
+      table = subst (λ b. IsTable b c.over-table.result) (sym e.block) c.over-table.ensures.table;
       tree = tree_for c.in-Ok.task.block.now c.args.block.now c.in-Ok-new.tree c.len.result e.block
           c.in-Ok-new.ensures.errors c.len.ensures c.in-Ok-new.ensures.leaves;
     }
@@ -24,8 +30,8 @@ returns-in-Ok-halve c =
     let leaves = c.in-Ok-new.ensures.leaves in
     let grows = grows_for c.in-Ok.task.kind c.args.kind c.in-Ok.task.block.now b c.in-Ok.task.parts c.args.parts
     c.in-Ok.task.target c.args.target
-    c.whole_box.result.0.items old new
-    e.kind e.block e.parts e.target c.whole_box.ensures c.in-Ok-halve.ensures.grows in
+    c.whole_box-2.result.0.items old new
+    e.kind e.block e.parts e.target c.whole_box-2.ensures c.in-Ok-halve.ensures.grows in
     let claims = c.into_cert.ensures.claims in
     let made = c.into_cert.ensures.nodes in
     record {

@@ -23,11 +23,14 @@ over-requires t c =
       (
         c.requires.walk,
         (
-          record {
-            count = ap length e ∙ length-set box k v ∙ c.requires.bytes.count;
-            intervals = subst IsBox (sym e) (left_box box k w.0 w.1 is wide);
-          },
-          c.requires.so_far,
+          c.requires.table,
+          (
+            record {
+              count = ap length e ∙ length-set box k v ∙ c.requires.bytes.count;
+              intervals = subst IsBox (sym e) (left_box box k w.0 w.1 is wide);
+            },
+            c.requires.so_far,
+          ),
         ),
       ),
     )
@@ -46,11 +49,14 @@ over-requires-2 t c =
       (
         c.requires.walk,
         (
-          record {
-            count = ap length e ∙ length-set box k v ∙ c.requires.bytes.count;
-            intervals = subst IsBox (sym e) (right_box box k w.0 w.1 is wide);
-          },
-          c.in_ok-raised.ensures.within,
+          c.over.ensures.table,
+          (
+            record {
+              count = ap length e ∙ length-set box k v ∙ c.requires.bytes.count;
+              intervals = subst IsBox (sym e) (right_box box k w.0 w.1 is wide);
+            },
+            c.in_ok-raised.ensures.within,
+          ),
         ),
       ),
     )

@@ -1,8 +1,7 @@
-use Rattle.std.proofs.Common.{inr, ◌+◌, ◌<◌, length, sym, subst, ap, ◌∙◌, arith}
+use Rattle.std.proofs.Common.{inr, ◌+◌, ◌<◌, length, sym, subst, ◌∙◌, arith}
 use Rattle.std.specs.Prelude.{IfSome, slice_index}
 use Rattle.std.proofs.lemmas.List.{length-set}
 use Rattle.fuzzy_meaning.specs.Blocks.{output_at}
-use Rattle.error_bound.specs.declared.boxes.ByteBox.{ByteBox}
 use Rattle.cell_bounds.specs.CellBounds.{IsCellCount, IsFirstCellAbove}
 use Rattle.cell_bounds.specs.Walks.{IsRaised}
 use Rattle.cell_bounds.proofs.WalkLemmas.{above_here, raised_next, small_next, set_beside}
@@ -16,7 +15,7 @@ returns-in-Err-clause-above c =
     let place = c.loop-place.place in
     let i = c.loop-place.invariant in
     let n = c.in-Err.bound in
-    let same = ap (λ (x : ByteBox). x.0.items) c.over-table.ensures.same ∙ c.copied.ensures in
+    let same = c.move_to.ensures.bytes in
     let from = c.loop-place.auto.place in
     let to = c.loop-place-test.true in
     let end = c.requires.walk.end in
@@ -37,7 +36,7 @@ loop-place-preserved c =
     let raised = c.loop-place.raised in
     let i = c.loop-place.invariant in
     let new = c.in-Ok.new in
-    let same = ap (λ (x : ByteBox). x.0.items) c.over-table.ensures.same ∙ c.copied.ensures in
+    let same = c.move_to.ensures.bytes in
     let to = c.loop-place-test.true in
     let end = c.requires.walk.end in
     let outputs = c.requires.walk.block.few_outputs in

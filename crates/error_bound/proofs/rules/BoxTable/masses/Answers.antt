@@ -1,4 +1,4 @@
-use Rattle.std.proofs.Common.{◌≡◌, suc, ◌+◌, ◌-◌, ◌<◌, ◌∷◌, length, drop, get_or, Some, refl, sym, ap}
+use Rattle.std.proofs.Common.{◌≡◌, suc, true, ◌+◌, ◌-◌, ◌<◌, ◌∷◌, length, drop, get_or, Some, refl, sym, ap}
 use Rattle.std.proofs.Common.{ap₂, ◌∙◌, subst, arith}
 use Rattle.std.specs.Prelude.{slice_get}
 use Rattle.std.proofs.Math.Seq.{drop-cons}
@@ -6,13 +6,18 @@ use Rattle.std.proofs.lemmas.Option.{slice_get_read}
 use Rattle.fuzzy_meaning.specs.declared.block.Rule.{Rule}
 use Rattle.error_bound.specs.Boxes.{rule_byte_span}
 use Rattle.error_bound.specs.CellErrors.{term_errors}
+use Rattle.fz_list.proofs.Algebra.{some_at}
+use Rattle.error_bound.specs.Leaves.{concludes_some}
+use Rattle.error_bound.specs.Masses.{IsRuleMass, no_mass}
 use Rattle.error_bound.specs.Tight.{low_part, high_part, moving_error}
 use Rattle.error_bound.proofs.MassEnds.{ends_ordered}
-use Rattle.error_bound.proofs.MassLemmas.{AreGreatest-raised}
+use Rattle.error_bound.proofs.ListLemmas.{get_or-slice}
+use Rattle.error_bound.proofs.MassLemmas.{AreGreatest-raised, AreGreatest-skipped}
+use Rattle.error_bound.proofs.StillRules.{still_mass}
 use Rattle.error_bound.proofs.rules.BoxTable.masses.Goals as goal
 
-pub loop-n-preserved : goal.loop-n-preserved
-loop-n-preserved c =
+pub loop-n-preserved-then-may_fire : goal.loop-n-preserved-then-may_fire
+loop-n-preserved-then-may_fire c =
     let b = c.args.block.now in
     let box = c.args.self.now.bytes.0.items in
     let rules = c.as_slice-rules.result.now in
@@ -33,15 +38,15 @@ loop-n-preserved c =
     λ (r : Rule) (e : r ≡ get_or rules j r). subst (λ l. slice_get l j ≡ Some r) all
     (slice_get_read rules (length rules) j r refl within e) in
     let r0 = c.index-rules-n.result in
-    let r1 = c.index-rules-n-in-loop-n.result in
-    let r2 = c.index-rules-n-in-loop-n-2.result in
-    let r3 = c.index-rules-n-in-loop-n-3.result in
-    let r4 = c.index-rules-n-in-loop-n-4.result in
+    let r1 = c.index-rules-n-then-may_fire.result in
+    let r2 = c.index-rules-n-then-may_fire-2.result in
+    let r3 = c.index-rules-n-then-may_fire-3.result in
+    let r4 = c.index-rules-n-then-may_fire-4.result in
     let e0 = c.index-rules-n.is in
-    let e1 = c.index-rules-n-in-loop-n.is in
-    let e2 = c.index-rules-n-in-loop-n-2.is in
-    let e3 = c.index-rules-n-in-loop-n-3.is in
-    let e4 = c.index-rules-n-in-loop-n-4.is in
+    let e1 = c.index-rules-n-then-may_fire.is in
+    let e2 = c.index-rules-n-then-may_fire-2.is in
+    let e3 = c.index-rules-n-then-may_fire-3.is in
+    let e4 = c.index-rules-n-then-may_fire-4.is in
     let q0 = of_rule r0 (found r0 e0) in
     let q1 = of_rule r1 (found r1 e1) in
     let q2 = of_rule r2 (found r2 e2) in
@@ -50,24 +55,63 @@ loop-n-preserved c =
     let rest = drop c.loop-n.n rules in
     record {
       lows_count = c.raise_terms.array_long;
-      highs_count = c.raise_terms-in-loop-n.array_long;
-      byte_lows_count = c.raise_terms-in-loop-n-2.array_long;
-      byte_highs_count = c.raise_terms-in-loop-n-3.array_long;
-      errors_count = c.raise_terms-in-loop-n-4.array_long;
+      highs_count = c.raise_terms-then-may_fire.array_long;
+      byte_lows_count = c.raise_terms-then-may_fire-2.array_long;
+      byte_highs_count = c.raise_terms-then-may_fire-3.array_long;
+      errors_count = c.raise_terms-then-may_fire-4.array_long;
       lows = AreGreatest-raised (low_part b box) 255000000000 o r0 rest (drop j rules) value.low c.loop-n.lows
           c.raise_terms.new.errors (here r0 e0) q0.low q0.low_small before.lows c.raise_terms.ensures;
       highs = AreGreatest-raised (high_part b box) 255000000000 o r1 rest (drop j rules) value.high c.loop-n.highs
-          c.raise_terms-in-loop-n.new.errors (here r1 e1) q1.high q1.high_small before.highs
-          c.raise_terms-in-loop-n.ensures;
+          c.raise_terms-then-may_fire.new.errors (here r1 e1) q1.high q1.high_small before.highs
+          c.raise_terms-then-may_fire.ensures;
       byte_lows = AreGreatest-raised (λ r. (rule_byte_span b box r).low) 255 o r2 rest (drop j rules) value.byte_low
-          c.loop-n.byte_lows c.raise_terms-in-loop-n-2.new.errors (here r2 e2) q2.byte_low q2.byte_low_small
-          before.byte_lows c.raise_terms-in-loop-n-2.ensures;
+          c.loop-n.byte_lows c.raise_terms-then-may_fire-2.new.errors (here r2 e2) q2.byte_low q2.byte_low_small
+          before.byte_lows c.raise_terms-then-may_fire-2.ensures;
       byte_highs = AreGreatest-raised (λ r. (rule_byte_span b box r).high) 255 o r3 rest (drop j rules)
-          value.byte_high c.loop-n.byte_highs c.raise_terms-in-loop-n-3.new.errors (here r3 e3) q3.byte_high
-          q3.byte_high_small before.byte_highs c.raise_terms-in-loop-n-3.ensures;
+          value.byte_high c.loop-n.byte_highs c.raise_terms-then-may_fire-3.new.errors (here r3 e3) q3.byte_high
+          q3.byte_high_small before.byte_highs c.raise_terms-then-may_fire-3.ensures;
       errors = AreGreatest-raised (moving_error b box (term_errors b box)) 3000000000 o r4 rest (drop j rules)
-          value.error c.loop-n.errors c.raise_terms-in-loop-n-4.new.errors (here r4 e4) q4.error q4.error_small
-          before.errors c.raise_terms-in-loop-n-4.ensures;
+          value.error c.loop-n.errors c.raise_terms-then-may_fire-4.new.errors (here r4 e4) q4.error q4.error_small
+          before.errors c.raise_terms-then-may_fire-4.ensures;
+    }
+
+pub loop-n-preserved : goal.loop-n-preserved
+loop-n-preserved c =
+    let b = c.args.block.now in
+    let box = c.args.self.now.bytes.0.items in
+    let rules = c.as_slice-rules.result.now in
+    let o = c.args.out in
+    let j = c.loop-n.n - 1 in
+    let all : rules ≡ b.rules = c.as_slice-rules.ensures in
+    let some = c.loop-n-test.true in
+    let upto = c.loop-n.auto.n in
+    let lens = ap length all in
+    let r = some_at b.rules j (omega arith) in
+    let back : suc j ≡ c.loop-n.n = omega arith in
+    let here : drop j rules ≡ r.0 ∷ drop c.loop-n.n rules = drop-cons rules j r.0 (omega arith)
+    ∙ ap₂ (λ q n. q ∷ drop n rules) (get_or-slice rules b.rules j r.0 r.0 all r.1) back in
+    let table = c.requires.table.box_is in
+    let none : concludes_some r.0 o ≡ true → IsRuleMass b box r.0 no_mass = λ one.
+    still_mass b box c.requires.block table.count table.intervals r.0
+    (c.may_fire.ensures.still c.if-may_fire.false r.0 r.1 one) in
+    let rest = drop c.loop-n.n rules in
+    let before = c.loop-n.invariant in
+    record {
+      lows_count = before.lows_count;
+      highs_count = before.highs_count;
+      byte_lows_count = before.byte_lows_count;
+      byte_highs_count = before.byte_highs_count;
+      errors_count = before.errors_count;
+      lows = AreGreatest-skipped (low_part b box) 255000000000 o r.0 rest (drop j rules) c.loop-n.lows here
+          (λ one. sym (none one).low) before.lows;
+      highs = AreGreatest-skipped (high_part b box) 255000000000 o r.0 rest (drop j rules) c.loop-n.highs here
+          (λ one. sym (none one).high) before.highs;
+      byte_lows = AreGreatest-skipped (λ q. (rule_byte_span b box q).low) 255 o r.0 rest (drop j rules)
+          c.loop-n.byte_lows here (λ one. sym (none one).byte_low) before.byte_lows;
+      byte_highs = AreGreatest-skipped (λ q. (rule_byte_span b box q).high) 255 o r.0 rest (drop j rules)
+          c.loop-n.byte_highs here (λ one. sym (none one).byte_high) before.byte_highs;
+      errors = AreGreatest-skipped (moving_error b box (term_errors b box)) 3000000000 o r.0 rest (drop j rules)
+          c.loop-n.errors here (λ one. sym (none one).error) before.errors;
     }
 
 pub returns-clause-masses : goal.returns-clause-masses

@@ -27,8 +27,10 @@ halve-requires t c =
     let large = rw c.in-Ok-None.field-0-is at c.in-Ok-None.ensures.found in
     let left = left_half c.requires.bytes c.widest-place.ensures large c.middle-cut.ensures.middle
     c.cuts_have_halves.ensures _ c.halves-left.ensures.left in
-    let r = c.requires.tree in
-    (omega (arith, c.decreases, left.0), (c.requires.task, (left.1, record { errors = r.errors; leaves = r.leaves })))
+    let r = c.requires.tree in (
+      omega (arith, c.decreases, left.0),
+      (c.requires.task, (left.1, (c.found.ensures.table, record { errors = r.errors; leaves = r.leaves }))),
+    )
 
 pub returns-in_err-halve-clause-stops : goal.returns-in_err-halve-clause-stops
 returns-in_err-halve-clause-stops t c =
@@ -41,8 +43,10 @@ pub halve-requires-2 : goal.halve-requires-2
 halve-requires-2 t c =
     let large = rw c.in-Ok-None.field-0-is at c.in-Ok-None.ensures.found in
     let right = right_half c.requires.bytes c.widest-place.ensures large c.middle-cut.ensures.middle
-    c.cuts_have_halves.ensures _ c.halves-left.ensures.right in
-    (omega (arith, c.decreases, right.0), (c.requires.task, (right.1, c.in_ok-halve.ensures.tree)))
+    c.cuts_have_halves.ensures _ c.halves-left.ensures.right in (
+      omega (arith, c.decreases, right.0),
+      (c.requires.task, (right.1, (c.halve.ensures.table, c.in_ok-halve.ensures.tree))),
+    )
 
 pub returns-clause-grows : goal.returns-clause-grows
 returns-clause-grows t c =

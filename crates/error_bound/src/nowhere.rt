@@ -1,0 +1,60 @@
+//! Conditions that are true nowhere on a box, which is seen at once.
+ghost use Rattle.std.specs.Prelude.{◌≡◌, IsTrue};
+ghost use Rattle.fuzzy_meaning.specs.Blocks.{IsValid, IsValidCondition, AreValidConditions};
+ghost use Rattle.fuzzy_meaning.specs.Conditions.{all, conditions};
+ghost use Rattle.error_bound.specs.Ratios.{value_of};
+ghost use Rattle.error_bound.specs.Reaches.{AreBoxTerms, IsNowhere};
+
+use crate::reaches::{Reach, reach_of_literal};
+use crate::tables::BoxTerms;
+use fuzzy_meaning::{Block, Condition, Node, parts_are_valid};
+
+/// Whether a condition is an AND with a part that is a term of degree 0 all over a box, over bytes too.
+pub(crate) fn is_nowhere(condition: &Condition, block: &Block, terms: &BoxTerms) -> bool
+    requires condition { IsValidCondition block.now condition.now }
+    requires block { IsValid block.now }
+    requires terms { AreBoxTerms block.now terms.now }
+    ensures { IsTrue result → IsNowhere block.now terms.now.bytes.0.items condition.now }
+{
+    match &condition.node {
+        Node::And(parts) => some_is_nowhere(parts.as_slice(), block, terms),
+        _ => false,
+    }
+}
+
+/// Whether some of an AND's parts is such a term.
+fn some_is_nowhere(parts: &[Condition], block: &Block, terms: &BoxTerms) -> bool
+    requires parts { AreValidConditions block.now (conditions parts.now) }
+    requires block { IsValid block.now }
+    requires terms { AreBoxTerms block.now terms.now }
+    ensures { IsTrue result → IsNowhere block.now terms.now.bytes.0.items (all (conditions parts.now)) }
+{
+    parts_are_valid();
+    for k in 0..parts.len() {
+        if term_is_nowhere(&parts[k], block, terms) {
+            return true;
+        }
+    }
+    false
+}
+
+/// Whether a condition is such a term.
+fn term_is_nowhere(condition: &Condition, block: &Block, terms: &BoxTerms) -> bool
+    requires condition { IsValidCondition block.now condition.now }
+    requires block { IsValid block.now }
+    requires terms { AreBoxTerms block.now terms.now }
+    ensures { IsTrue result → IsNowhere block.now terms.now.bytes.0.items condition.now }
+{
+    match &condition.node {
+        Node::Is(input, term) => is_nothing(reach_of_literal(block, *input, *term, terms)),
+        _ => false,
+    }
+}
+
+/// Whether a reach goes nowhere above 0.
+fn is_nothing(reach: &Reach) -> bool
+    ensures num { IsTrue result → (value_of reach.now.degrees.high).num ≡ 0 }
+    ensures byte { IsTrue result → reach.now.greatest ≡ 0 }
+{
+    reach.degrees.high.num == 0 && reach.greatest == 0
+}
