@@ -114,7 +114,7 @@ pub as_status : (kind : CertKind) (width : Width) (h : ℕ) (v : AnswerWidth) (b
 as_status kind width h v block text answer (Ok es) parts_are is_width same refused = tt
 as_status kind width h v block text answer (Err s) parts_are is_width (r, is, told) refused =
     let at_width : IfErr answer (λ r. r ≢ refusal.Memory
-        → HasTextFault block (parts width) kind (answer_width width) text r) =
+    → HasTextFault block (parts width) kind (answer_width width) text r) =
     subst (λ w. IfErr answer (λ r. r ≢ refusal.Memory → HasTextFault block (parts width) kind w text r)) is_width
     (subst (λ n. IfErr answer (λ r. r ≢ refusal.Memory → HasTextFault block n kind v text r)) parts_are refused) in
     subst (λ x. IsRefusal (cert_refusals kind width block text) x) (sym told)

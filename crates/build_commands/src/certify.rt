@@ -49,7 +49,11 @@ impl Certify {
         ensures { result ≡ certify_in kind width (texts_of words.now) }
     {
         let target = number_in(word(words, 3))?;
-        Some(Certify { kind, width, target })
+        Some(Certify {
+            kind,
+            width,
+            target,
+        })
     }
 
     /// Halves the boxes of the text's block until each has a leaf within the target, and writes down

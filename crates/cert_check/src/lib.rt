@@ -26,6 +26,4 @@ pub use laws::{
     tight_is_accepted, tight_texts_are_accepted, wide_is_accepted, wide_texts_are_accepted,
 };
 pub use leaves::raise;
-pub use text::{
-    TextFault, check_text, check_text_for, check_text16,
-};
+pub use text::{TextFault, check_text, check_text_for, check_text16};

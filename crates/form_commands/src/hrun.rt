@@ -90,7 +90,13 @@ impl Hrun {
     {
         let compiled = firmware_of(alloc, Width::Byte, content(contents, 0))?;
         let handler = handler_of(alloc, content(contents, 1))?;
-        let inputs = inputs_of(alloc, CertKind::Named, Width::Byte, &compiled.block, contents)?;
+        let inputs = inputs_of(
+            alloc,
+            CertKind::Named,
+            Width::Byte,
+            &compiled.block,
+            contents,
+        )?;
         Ok(Accepted {
             compiled,
             handler,

@@ -154,8 +154,20 @@ fn errors_of(
     ensures fault { IfErr result (IsRefusal
         (certs_refusals (level_files (bytes_of contents.now)) slow.now fast.now)) }
 {
-    let slow_errors = errors_under(alloc, CertKind::Named, Width::Byte, slow, content(contents, 3))?;
-    match errors_under(alloc, CertKind::Named, Width::Byte, fast, content(contents, 4)) {
+    let slow_errors = errors_under(
+        alloc,
+        CertKind::Named,
+        Width::Byte,
+        slow,
+        content(contents, 3),
+    )?;
+    match errors_under(
+        alloc,
+        CertKind::Named,
+        Width::Byte,
+        fast,
+        content(contents, 4),
+    ) {
         Ok(errors) => Ok(Errors {
             slow: slow_errors,
             fast: errors,

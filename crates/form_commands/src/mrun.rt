@@ -65,7 +65,13 @@ impl Accepted {
         spelled_traces_are_short();
         let compiled = mailbox_of(alloc, content(contents, 0))?;
         require_image(alloc, content(contents, 1), &compiled.firmware.image)?;
-        let errors = errors_under(alloc, CertKind::Named, Width::Byte, &compiled.block, content(contents, 2))?;
+        let errors = errors_under(
+            alloc,
+            CertKind::Named,
+            Width::Byte,
+            &compiled.block,
+            content(contents, 2),
+        )?;
         let samples = samples_of(alloc, &compiled.block, content(contents, 3))?;
         let posts = posts_of(alloc, content(contents, 4), &samples)?;
         Ok(Accepted {

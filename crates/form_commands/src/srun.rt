@@ -64,7 +64,13 @@ impl Accepted {
     {
         let compiled = watched_firmware_of(alloc, content(contents, 0))?;
         require_image(alloc, content(contents, 1), &compiled.firmware.image)?;
-        let inputs = inputs_of(alloc, CertKind::Named, Width::Byte, &compiled.block, contents)?;
+        let inputs = inputs_of(
+            alloc,
+            CertKind::Named,
+            Width::Byte,
+            &compiled.block,
+            contents,
+        )?;
         let upsets = upsets_of(alloc, content(contents, 5), &compiled.firmware.image)?;
         Ok(Accepted {
             compiled,

@@ -250,7 +250,7 @@ module _ (laws : TurnLaws) (flags : ℕ) (f : Firmware) (samples : List (List �
         joined ran.state (uninterrupted flags all u) w x.mem le r.last mail stays,
         r.last,
         subst (λ (y : ℕ). AllSimulate OnStackOnly is_postable flags ran.states (uninterrupted flags (y + 5) u))
-        (sym inputs) r.simulates,
+            (sym inputs) r.simulates,
       )
 
   -- the whole turn

@@ -49,9 +49,11 @@ pieces_one p q b c good other same = go p.bytes q.bytes refl refl
         let at_one : p.at ≡ q.at = ap (λ (z : ℕ × ℕ). z.0) firsts in
         let moved : placed p.at p.bytes ++ b ≡ placed p.at q.bytes ++ c =
         same ∙ ap (λ (n : ℕ). placed n q.bytes ++ c) (sym at_one) in
-        let one = runs_one 32 p.at p.bytes q.bytes b c (good.few, good.ends)
-        (other.few, ⊎_elim inl (λ e. inr (λ starts. e (subst (λ (n : ℕ). StartsAt (n + length q.bytes) c) at_one starts)))
-        other.ends) moved in
+        let one = runs_one 32 p.at p.bytes q.bytes b c (good.few, good.ends) (
+          other.few,
+          ⊎_elim inl (λ e. inr (λ starts. e (subst (λ (n : ℕ). StartsAt (n + length q.bytes) c) at_one starts)))
+              other.ends,
+        ) moved in
         ((λ i. record { at = at_one i; bytes = one.0 i }), one.1)
 
 filled : (p : Piece) (b : List (ℕ × ℕ)) → IsPiece p b → placed p.at p.bytes ++ b ≡ [] → ⊥

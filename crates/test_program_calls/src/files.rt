@@ -1,0 +1,154 @@
+//! Files in memory, and which of the calls to them fail.
+ghost use Rattle.std.specs.Prelude.{◌≡◌, ◌≢◌, ◌++◌, ◌∷◌, [], codes, length, IfErr, IfOk, OnOk};
+ghost use Rattle.fz_shelf.specs.Fakes.{failing_reads_of, failing_writes_of, reads_of, writes_of};
+ghost use Rattle.fz_shelf.specs.Files.{Holds};
+ghost use Rattle.fz_shelf.specs.MemFiles.{file_in};
+ghost use Rattle.fz_shelf.specs.declared.log.Answer.TheVariants.{Whole};
+ghost use Rattle.test_texts.specs.Parts.{text_of_parts};
+ghost use Rattle.test_program_calls.specs.Files.{IsInFile, file_with};
+
+use crate::Difference;
+use fz_list::{List, Text};
+use fz_shelf::{MemFile, MemShelf, Shelf};
+use std::alloc::{AllocError, Global};
+use test_texts::joined;
+
+/// The numbers of the calls that fail, and how many bytes are taken at once.
+#[derive(Clone, Copy)]
+pub struct Faults<'a> {
+    /// Reads of the shelf, from 1.
+    pub reads: &'a [u32],
+    /// Writes of the shelf, from 1.
+    pub writes: &'a [u32],
+    /// Puts to out, from 1.
+    pub puts: &'a [u32],
+    /// Puts to err, from 1.
+    pub err_puts: &'a [u32],
+    /// The most bytes that out and err take at once.
+    pub most: u64,
+}
+
+/// No call fails.
+pub const NONE: Faults<'static> = Faults {
+    reads: &[],
+    writes: &[],
+    puts: &[],
+    err_puts: &[],
+    most: 1000,
+};
+
+/// What a file that can be written holds before it is.
+pub const BEFORE: &str = "as before\n";
+
+/// A file of this name with these bytes, in whose place so many may be written.
+fn file(alloc: Global, name: &str, bytes: &[u8], room: u64) -> Result<MemFile, AllocError>
+    ensures { IfOk result (λ f. f ≡ file_with name.now bytes.now room) }
+{
+    Ok(MemFile {
+        name: Text::new(String::from_str(alloc, name)?),
+        bytes: List::new(bytes.to_vec(alloc)?),
+        room,
+    })
+}
+
+/// Adds a file that has these bytes and cannot be written.
+pub fn push_bytes(
+    alloc: Global,
+    files: &mut Vec<MemFile>,
+    name: &str,
+    bytes: &[u8],
+) -> Result<(), AllocError>
+    ensures { OnOk result (files.new.items ≡ files.old.items ++ file_with name.now bytes.now 0 ∷ []) }
+{
+    files.push(file(alloc, name, bytes, 0)?)?;
+    Ok(())
+}
+
+/// Adds a file that has the parts of a text and cannot be written.
+pub fn push_file(
+    alloc: Global,
+    files: &mut Vec<MemFile>,
+    name: &str,
+    text: &[&str],
+) -> Result<(), AllocError>
+    ensures { OnOk result (files.new.items ≡ files.old.items ++ file_with name.now (text_of_parts text.now) 0 ∷ []) }
+{
+    push_bytes(alloc, files, name, joined(alloc, text)?.as_bytes())
+}
+
+/// Adds a file that can be written, which holds [`BEFORE`].
+pub fn push_room(alloc: Global, files: &mut Vec<MemFile>, name: &str) -> Result<(), AllocError>
+    ensures { OnOk result (files.new.items
+        ≡ files.old.items ++ file_with name.now (codes "as before\n") 1000000 ∷ []) }
+{
+    files.push(file(alloc, name, BEFORE.as_bytes(), 1_000_000)?)?;
+    Ok(())
+}
+
+pub(crate) fn numbers(alloc: Global, numbers: &[u32]) -> Result<List<u32>, AllocError>
+    ensures { IfOk result (λ list. list ≡ numbers.now) }
+{
+    Ok(List::new(numbers.to_vec(alloc)?))
+}
+
+/// The shelf of these files.
+pub fn shelf_of(alloc: Global, files: Vec<MemFile>, faults: &Faults) -> Result<MemShelf, Difference>
+    ensures files { IfOk result (λ s. ⟦<MemShelf as Shelf>⟧.files s ≡ file_in files.items) }
+    ensures asked { IfOk result (λ s. ⟦<MemShelf as Shelf>⟧.asked s ≡ []) }
+    ensures counts { IfOk result (λ s. ⟦<MemShelf as Shelf>⟧.counts s ≡ record { reads = 0; longs = 0; writes = 0 }) }
+    ensures numbers { IfOk result (λ s. (reads_of s ≡ 0) × (writes_of s ≡ 0)) }
+    ensures failing_reads { IfOk result (λ s. failing_reads_of s ≡ faults.now.reads.now) }
+    ensures failing_writes { IfOk result (λ s. failing_writes_of s ≡ faults.now.writes.now) }
+    ensures memory { IfErr result (λ d. d ≡ Difference.Memory) }
+{
+    let reads = numbers(alloc, faults.reads)?;
+    let writes = numbers(alloc, faults.writes)?;
+    Ok(MemShelf::new(alloc, List::new(files), reads, writes)?)
+}
+
+/// The bytes of a file, or its name where it cannot be read. The read counts among the shelf's.
+pub fn bytes_of(alloc: Global, shelf: &mut MemShelf, name: &str) -> Result<Vec<u8>, Difference>
+    ensures held { IfOk result (λ bytes. Holds (⟦<MemShelf as Shelf>⟧.files shelf.old name.now) bytes.items) }
+    ensures files { ⟦<MemShelf as Shelf>⟧.files shelf.new ≡ ⟦<MemShelf as Shelf>⟧.files shelf.old }
+    ensures asked { OnOk result (⟦<MemShelf as Shelf>⟧.asked shelf.new
+        ≡ ⟦<MemShelf as Shelf>⟧.asked shelf.old ++ (name.now, Whole) ∷ []) }
+    ensures fault { IfErr result (IsInFile name.now) }
+{
+    let mut bytes = Vec::new(alloc);
+    match shelf.read(name, &mut bytes) {
+        Ok(()) => Ok(bytes),
+        Err(_) => Err(Difference::File(String::from_str(alloc, name)?)),
+    }
+}
+
+/// Whether a file holds these bytes; else its name. The read counts among the shelf's.
+pub fn file_holds(
+    alloc: Global,
+    shelf: &mut MemShelf,
+    name: &str,
+    bytes: &[u8],
+) -> Result<(), Difference>
+    ensures holds { OnOk result (Holds (⟦<MemShelf as Shelf>⟧.files shelf.old name.now) bytes.now) }
+    ensures files { ⟦<MemShelf as Shelf>⟧.files shelf.new ≡ ⟦<MemShelf as Shelf>⟧.files shelf.old }
+    ensures asked { OnOk result (⟦<MemShelf as Shelf>⟧.asked shelf.new
+        ≡ ⟦<MemShelf as Shelf>⟧.asked shelf.old ++ (name.now, Whole) ∷ []) }
+    ensures differs { IfErr result (IsInFile name.now) }
+{
+    if bytes_of(alloc, shelf, name)?.as_slice() != bytes {
+        return Err(Difference::File(String::from_str(alloc, name)?));
+    }
+    Ok(())
+}
+
+/// Whether the shelf was asked for so many reads; else how many they are.
+pub fn reads_are(shelf: &MemShelf, reads: usize) -> Result<(), Difference>
+    ensures same { OnOk result (length (⟦<MemShelf as Shelf>⟧.asked shelf.now) ≡ reads) }
+    ensures differs { IfErr result (λ d. (d ≡ Difference.Reads (length (⟦<MemShelf as Shelf>⟧.asked shelf.now)))
+        × (length (⟦<MemShelf as Shelf>⟧.asked shelf.now) ≢ reads)) }
+{
+    let found = shelf.asked().len();
+    if found != reads {
+        return Err(Difference::Reads(found));
+    }
+    Ok(())
+}

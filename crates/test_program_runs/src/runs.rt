@@ -1,0 +1,344 @@
+//! Runs over five files: worked samples under worked plans.
+use super::reads::RUN;
+use fz_shelf::MemShelf;
+use std::alloc::Global;
+use std::test::Fail;
+use test_program_calls::{Difference, Left, NONE, call, code_of, push_file, push_room, shelf_of};
+use test_texts::{
+    BACK, BLOCK, COLD, FRONT, HALF_WEIGHT, HALVES, LATCH, NODES_OF_THE_LATCH, NOTS, OPENED,
+    QUARTERS, SECOND, TWO_OUTPUTS,
+};
+
+/// What `run`, `run16`, `trun` or `trun16` is given, and what it leaves.
+#[derive(Clone, Copy)]
+struct Ran {
+    command: &'static str,
+    fcl: &'static [&'static str],
+    cert: &'static [&'static str],
+    trace: &'static str,
+    plan: &'static str,
+    left: Left<'static>,
+}
+
+/// The heater's run with no plan.
+const HEATER: Ran = Ran {
+    command: "run",
+    fcl: &[BLOCK],
+    cert: &["FZC 1\nclaim 19609\n", HALVES],
+    trace: "64\n",
+    plan: "",
+    left: RUN,
+};
+
+// The frames are worked out from the registers before and after the instructions at their places, and the last
+// lines from the bytes that JSR and the interrupts leave on the stack, and those that they write.
+static RUNS: [Ran; 22] = [
+    HEATER,
+    Ran {
+        trace: "0\n256\n",
+        left: Left::Lines(
+            "error 1 19609
+instructions 28
+sample 1 bytes 0 answers 0 instructions 28 steps 36 resumed 0 frames 0
+sample 2 bytes 255 answers 255 instructions 28 steps 36 resumed 0 frames 0
+left 208
+",
+        ),
+        ..HEATER
+    },
+    Ran {
+        trace: "127.9999\n64.9\n",
+        left: Left::Lines(
+            "error 1 19609
+instructions 28
+sample 1 bytes 127 answers 127 instructions 28 steps 36 resumed 0 frames 0
+sample 2 bytes 64 answers 64 instructions 28 steps 36 resumed 0 frames 0
+left 208
+",
+        ),
+        ..HEATER
+    },
+    Ran {
+        trace: "",
+        left: Left::Lines("error 1 19609\ninstructions 28\nleft 0\n"),
+        ..HEATER
+    },
+    Ran {
+        trace: "256.0001",
+        left: Left::Refused(7, "trace: row 1: input 1 out of range\n"),
+        ..HEATER
+    },
+    Ran {
+        cert: &["FZC 1\nclaim 20000\n", HALVES],
+        ..HEATER
+    },
+    Ran {
+        cert: &["FZC 1\nclaim 19608\n", HALVES],
+        trace: "256.0001",
+        left: Left::Refused(6, "cert: output 1 claims 19608, computed 19609\n"),
+        ..HEATER
+    },
+    Ran {
+        plan: "1,17\n",
+        left: Left::Lines(
+            "error 1 19609
+instructions 28
+sample 1 bytes 64 answers 64 instructions 28 steps 36 resumed 1 frames 1
+frame 1 17 C031 1FF5 9
+left 1070
+",
+        ),
+        ..HEATER
+    },
+    Ran {
+        plan: "1,26\n1,26\n",
+        left: Left::Lines(
+            "error 1 19609
+instructions 28
+sample 1 bytes 64 answers 64 instructions 28 steps 36 resumed 1 frames 2
+frame 1 26 C03C 1FEF 15
+frame 1 26 C03C 1FEF 9
+left 1139
+",
+        ),
+        ..HEATER
+    },
+    Ran {
+        plan: "1,25\n",
+        left: Left::Lines(
+            "error 1 19609
+instructions 28
+sample 1 bytes 64 answers 64 instructions 28 steps 36 resumed 0 frames 1
+frame 1 25 C03B 1FF5 9
+left 946
+",
+        ),
+        ..HEATER
+    },
+    Ran {
+        plan: "1,14\n",
+        left: Left::Lines(
+            "error 1 19609
+instructions 28
+sample 1 bytes 64 answers 64 instructions 28 steps 36 resumed 0 frames 1
+frame 1 14 C031 1FF5 9
+left 1137
+",
+        ),
+        ..HEATER
+    },
+    Ran {
+        plan: "1,36\n",
+        ..HEATER
+    },
+    Ran {
+        plan: "1,0,1800,FF,1FDF,01\n",
+        left: Left::Lines(
+            "error 1 19609
+instructions 28
+sample 1 bytes 64 answers 64 instructions 28 steps 36 resumed 0 frames 1
+frame 1 0 C008 1FF7 9
+left 660
+",
+        ),
+        ..HEATER
+    },
+    Ran {
+        plan: "1,0,17FF,00\n",
+        left: Left::Refused(7, "plan: row 1: not free 17FF\n"),
+        ..HEATER
+    },
+    Ran {
+        plan: "1,5\n1,4\n",
+        left: Left::Refused(7, "plan: row 2: not ascending\n"),
+        ..HEATER
+    },
+    Ran {
+        trace: "256.0001",
+        plan: "0,1\n",
+        left: Left::Refused(7, "trace: row 1: input 1 out of range\n"),
+        ..HEATER
+    },
+    Ran {
+        command: "run16",
+        cert: &["FZC 2\nclaim 15702\n", HALVES],
+        left: Left::Lines(
+            "error 1 15702
+instructions 31
+sample 1 bytes 64 answers 16384 instructions 31 steps 39 resumed 0 frames 0
+left 208
+",
+        ),
+        ..HEATER
+    },
+    Ran {
+        fcl: &[
+            FRONT, OPENED, NOTS, NOTS, NOTS, NOTS, NOTS, NOTS, NOTS, NOTS, COLD, SECOND, BACK,
+        ],
+        ..HEATER
+    },
+    Ran {
+        fcl: &HALF_WEIGHT,
+        cert: &["FZC 1\nclaim 51417\nsplit 1 128\nleaf 1 63\nleaf 2 127\n"],
+        left: Left::Lines(
+            "error 1 51417
+instructions 29
+sample 1 bytes 64 answers 102 instructions 29 steps 37 resumed 0 frames 0
+left 208
+",
+        ),
+        ..HEATER
+    },
+    Ran {
+        fcl: &[LATCH],
+        cert: &["FZC 1\nclaim 3922\n", NODES_OF_THE_LATCH],
+        trace: "0\n128\n200\n128\n",
+        left: Left::Lines(
+            "error 1 3922
+instructions 30
+sample 1 bytes 0 answers 255 instructions 30 steps 38 resumed 0 frames 0
+sample 2 bytes 128 answers 255 instructions 27 steps 35 resumed 0 frames 0
+sample 3 bytes 200 answers 0 instructions 30 steps 38 resumed 0 frames 0
+sample 4 bytes 128 answers 0 instructions 27 steps 35 resumed 0 frames 0
+left 208
+",
+        ),
+        ..HEATER
+    },
+    // The request comes inside the second output's WAV.
+    Ran {
+        fcl: &[TWO_OUTPUTS],
+        cert: &["FZC 1\nclaim 19609 21569\n", QUARTERS],
+        trace: "64,128\n0,255\n",
+        plan: "1,50\n",
+        left: Left::Lines(
+            "error 1 19609
+error 2 21569
+instructions 43
+sample 1 bytes 64 128 answers 64 38 instructions 43 steps 60 resumed 1 frames 1
+frame 1 50 C060 1FEF 15
+sample 2 bytes 0 255 answers 0 0 instructions 43 steps 60 resumed 0 frames 0
+left 1054
+",
+        ),
+        ..HEATER
+    },
+    Ran {
+        fcl: &[TWO_OUTPUTS],
+        cert: &["FZC 1\nclaim 19609 21568\n", QUARTERS],
+        trace: "64,128\n",
+        left: Left::Refused(6, "cert: output 2 claims 21568, computed 21569\n"),
+        ..HEATER
+    },
+];
+
+/// The heater's run under its tight certificate.
+const TIGHT: Ran = Ran {
+    command: "trun",
+    cert: &["FZC 3\nclaim 19547\nsplit 1 128\nleaf\nleaf\n"],
+    left: Left::Lines(
+        "error 1 19547
+instructions 28
+sample 1 bytes 64 answers 64 instructions 28 steps 36 resumed 0 frames 0
+left 208
+",
+    ),
+    ..HEATER
+};
+
+static TIGHT_RUNS: [Ran; 6] = [
+    TIGHT,
+    Ran {
+        cert: &[
+            "FZC 3\nclaim 3907\nsplit 1 128\nsplit 1 64\ncells\ncells\nsplit 1 192\ncells\ncells\n",
+        ],
+        plan: "1,26\n1,26\n",
+        left: Left::Lines(
+            "error 1 3907
+instructions 28
+sample 1 bytes 64 answers 64 instructions 28 steps 36 resumed 1 frames 2
+frame 1 26 C03C 1FEF 15
+frame 1 26 C03C 1FEF 9
+left 1139
+",
+        ),
+        ..TIGHT
+    },
+    Ran {
+        command: "trun16",
+        cert: &["FZC 4\nclaim 15641\nsplit 1 128\nleaf\nleaf\n"],
+        left: Left::Lines(
+            "error 1 15641
+instructions 31
+sample 1 bytes 64 answers 16384 instructions 31 steps 39 resumed 0 frames 0
+left 208
+",
+        ),
+        ..TIGHT
+    },
+    Ran {
+        cert: &["FZC 3\nclaim 19546\nsplit 1 128\nleaf\nleaf\n"],
+        trace: "256.0001",
+        left: Left::Refused(6, "cert: output 1 claims 19546, computed 19547\n"),
+        ..TIGHT
+    },
+    Ran {
+        cert: &["FZC 1\nclaim 19609\n", HALVES],
+        left: Left::Refused(6, "cert: line 1: bad line\n"),
+        ..TIGHT
+    },
+    Ran {
+        command: "run",
+        left: Left::Refused(6, "cert: line 1: bad line\n"),
+        ..TIGHT
+    },
+];
+
+/// The five files, the image being empty.
+fn shelf(alloc: Global, ran: &Ran) -> Result<MemShelf, Difference> {
+    let mut files = Vec::new(alloc);
+    push_file(alloc, &mut files, "n.fcl", ran.fcl)?;
+    push_room(alloc, &mut files, "n.s19")?;
+    push_file(alloc, &mut files, "n.cert", ran.cert)?;
+    push_file(alloc, &mut files, "n.csv", &[ran.trace])?;
+    push_file(alloc, &mut files, "n.plan", &[ran.plan])?;
+    shelf_of(alloc, files, &NONE)
+}
+
+/// Writes the image of the shelf's text.
+fn compile(alloc: Global, command: &str, shelf: &mut MemShelf) -> Result<(), Difference> {
+    match code_of(alloc, &["fuzz12", command, "n.fcl", "n.s19"], shelf)? {
+        0 => Ok(()),
+        code => Err(Difference::Status(code)),
+    }
+}
+
+/// A run of the image that `compile` writes before it.
+fn run(alloc: Global, ran: &Ran) -> Result<(), Difference> {
+    let mut shelf = shelf(alloc, ran)?;
+    let wide = matches!(ran.command, "run16" | "trun16");
+    let command = if wide { "compile16" } else { "compile" };
+    compile(alloc, command, &mut shelf)?;
+    let line = [
+        "fuzz12",
+        ran.command,
+        "n.fcl",
+        "n.s19",
+        "n.cert",
+        "n.csv",
+        "n.plan",
+        "00",
+    ];
+    call(alloc, &line, &mut shelf, &NONE, &ran.left)
+}
+
+#[test]
+fn runs(rt: HostRuntime) -> Result<(), Fail> {
+    for ran in RUNS.iter() {
+        run(rt.alloc(), ran)?;
+    }
+    for ran in TIGHT_RUNS.iter() {
+        run(rt.alloc(), ran)?;
+    }
+    Ok(())
+}

@@ -1,0 +1,438 @@
+//! Runs over six files: worked samples whose firmware's tables are upset.
+use fz_shelf::MemShelf;
+use std::alloc::{AllocError, Global};
+use std::fmt::Write;
+use std::test::Fail;
+use test_program_calls::{Difference, Left, NONE, call, code_of, push_file, push_room, shelf_of};
+use test_texts::{BLOCK, HALF_WEIGHT, HALVES, LATCH, NODES_OF_THE_LATCH};
+
+/// What `srun` is given, with the command that writes its image, and what it leaves.
+#[derive(Clone, Copy)]
+struct Ran {
+    image_by: &'static str,
+    fcl: &'static [&'static str],
+    cert: &'static [&'static str],
+    trace: &'static str,
+    plan: &'static str,
+    upsets: &'static str,
+    left: Left<'static>,
+}
+
+const ANSWERED: Left<'static> = Left::Lines(
+    "error 1 19609
+instructions 89
+sample 1 bytes 64 answers 64 instructions 89 steps 97 resumed 0 frames 0 fault 0
+",
+);
+
+const UPSET: Left<'static> = Left::Lines(
+    "error 1 19609
+instructions 89
+sample 1 bytes 64 answers 0 instructions 70 steps 70 resumed 0 frames 0 fault 1
+",
+);
+
+/// The heater's run with no plan and no upset.
+const HEATER: Ran = Ran {
+    image_by: "scompile",
+    fcl: &[BLOCK],
+    cert: &["FZC 1\nclaim 19609\n", HALVES],
+    trace: "64\n",
+    plan: "",
+    upsets: "",
+    left: ANSWERED,
+};
+
+/// The check takes 61 instructions more than the heater's 28: 3 for each of 18 bytes, 1 for each of 3 segments, and 4.
+/// Where it fails, BAD follows after 63: 5 with the return, and 2 to LOOP.
+static RUNS: [Ran; 25] = [
+    HEATER,
+    Ran {
+        upsets: "1,D201,FE\n",
+        left: UPSET,
+        ..HEATER
+    },
+    Ran {
+        upsets: "1,D201,FF\n",
+        ..HEATER
+    },
+    Ran {
+        upsets: "2,D201,FE\n",
+        ..HEATER
+    },
+    // The tables' first and last bytes, and the rule list's.
+    Ran {
+        upsets: "1,D000,80\n",
+        left: UPSET,
+        ..HEATER
+    },
+    Ran {
+        upsets: "1,D007,01\n",
+        left: UPSET,
+        ..HEATER
+    },
+    Ran {
+        upsets: "1,D200,FF\n",
+        left: UPSET,
+        ..HEATER
+    },
+    Ran {
+        upsets: "1,D800,01\n",
+        left: UPSET,
+        ..HEATER
+    },
+    // The list without its end: it is not evaluated.
+    Ran {
+        upsets: "1,D807,FE\n",
+        left: UPSET,
+        ..HEATER
+    },
+    // The byte stands there again for the next sample.
+    Ran {
+        trace: "64\n64\n64\n255\n",
+        upsets: "2,D804,00\n4,D001,7F\n",
+        left: Left::Lines(
+            "error 1 19609
+instructions 89
+sample 1 bytes 64 answers 64 instructions 89 steps 97 resumed 0 frames 0 fault 0
+sample 2 bytes 64 answers 0 instructions 70 steps 70 resumed 0 frames 0 fault 1
+sample 3 bytes 64 answers 64 instructions 89 steps 97 resumed 0 frames 0 fault 0
+sample 4 bytes 255 answers 0 instructions 70 steps 70 resumed 0 frames 0 fault 1
+",
+        ),
+        ..HEATER
+    },
+    Ran {
+        trace: "",
+        upsets: "1,D201,FE\n",
+        left: Left::Lines("error 1 19609\ninstructions 89\n"),
+        ..HEATER
+    },
+    // An interrupt inside the check, before its first branch back.
+    Ran {
+        plan: "1,7,1800,55\n",
+        left: Left::Lines(
+            "error 1 19609
+instructions 89
+sample 1 bytes 64 answers 64 instructions 89 steps 97 resumed 0 frames 1 fault 0
+frame 1 7 C02B 1FF5 9
+",
+        ),
+        ..HEATER
+    },
+    Ran {
+        plan: "1,7,1800,55\n",
+        upsets: "1,D201,FE\n",
+        left: Left::Lines(
+            "error 1 19609
+instructions 89
+sample 1 bytes 64 answers 0 instructions 70 steps 70 resumed 0 frames 1 fault 1
+frame 1 7 C02B 1FF5 9
+",
+        ),
+        ..HEATER
+    },
+    // One inside REV, 61 steps later than without the check.
+    Ran {
+        plan: "1,78\n",
+        left: Left::Lines(
+            "error 1 19609
+instructions 89
+sample 1 bytes 64 answers 64 instructions 89 steps 97 resumed 1 frames 1 fault 0
+frame 1 78 C063 1FF5 9
+",
+        ),
+        ..HEATER
+    },
+    // With NC the answer before stands, and is the one before the next answer too.
+    Ran {
+        fcl: &[LATCH],
+        cert: &["FZC 1\nclaim 3922\n", NODES_OF_THE_LATCH],
+        trace: "0\n200\n128\n200\n128\n",
+        upsets: "2,D200,01\n",
+        left: Left::Lines(
+            "error 1 3922
+instructions 91
+sample 1 bytes 0 answers 255 instructions 91 steps 99 resumed 0 frames 0 fault 0
+sample 2 bytes 200 answers 255 instructions 68 steps 68 resumed 0 frames 0 fault 1
+sample 3 bytes 128 answers 255 instructions 88 steps 96 resumed 0 frames 0 fault 0
+sample 4 bytes 200 answers 0 instructions 91 steps 99 resumed 0 frames 0 fault 0
+sample 5 bytes 128 answers 0 instructions 88 steps 96 resumed 0 frames 0 fault 0
+",
+        ),
+        ..HEATER
+    },
+    // REVW: four segments of 28 bytes in all, 92 instructions more than without the check.
+    Ran {
+        fcl: &HALF_WEIGHT,
+        cert: &["FZC 1\nclaim 51417\nsplit 1 128\nleaf 1 63\nleaf 2 127\n"],
+        left: Left::Lines(
+            "error 1 51417
+instructions 121
+sample 1 bytes 64 answers 102 instructions 121 steps 129 resumed 0 frames 0 fault 0
+",
+        ),
+        ..HEATER
+    },
+    // A weight of it.
+    Ran {
+        fcl: &HALF_WEIGHT,
+        cert: &["FZC 1\nclaim 51417\nsplit 1 128\nleaf 1 63\nleaf 2 127\n"],
+        upsets: "1,D300,00\n",
+        left: Left::Lines(
+            "error 1 51417
+instructions 121
+sample 1 bytes 64 answers 0 instructions 101 steps 101 resumed 0 frames 0 fault 1
+",
+        ),
+        ..HEATER
+    },
+    // Each file but FCL is refused, and those behind it with it.
+    Ran {
+        image_by: "compile",
+        cert: &["FZC 1\nclaim 19608\n", HALVES],
+        left: Left::Refused(5, "image: C00F: 16, compile gives 21\n"),
+        ..HEATER
+    },
+    Ran {
+        cert: &["FZC 1\nclaim 19608\n", HALVES],
+        trace: "257\n",
+        left: Left::Refused(6, "cert: output 1 claims 19608, computed 19609\n"),
+        ..HEATER
+    },
+    Ran {
+        trace: "257\n",
+        plan: "0,1\n",
+        upsets: "1,D202,00\n",
+        left: Left::Refused(7, "trace: row 1: input 1 out of range\n"),
+        ..HEATER
+    },
+    Ran {
+        plan: "1,0,17FF,00\n",
+        upsets: "1,D202,00\n",
+        left: Left::Refused(7, "plan: row 1: not free 17FF\n"),
+        ..HEATER
+    },
+    Ran {
+        upsets: "1,D202,00\n",
+        left: Left::Refused(7, "upset: row 1: not table D202\n"),
+        ..HEATER
+    },
+    Ran {
+        upsets: "1,D201,FE\n2,D201\n",
+        left: Left::Refused(7, "upset: row 2: bad row\n"),
+        ..HEATER
+    },
+    Ran {
+        upsets: "1,D201,FE\n1,D200,01\n",
+        left: Left::Refused(7, "upset: row 2: not ascending\n"),
+        ..HEATER
+    },
+    Ran {
+        upsets: "1,C000,FE\n",
+        left: Left::Refused(7, "upset: row 1: not table C000\n"),
+        ..HEATER
+    },
+];
+
+/// The six files, the image being empty.
+fn shelf(alloc: Global, ran: &Ran, trace: &str, upsets: &str) -> Result<MemShelf, Difference> {
+    let mut files = Vec::new(alloc);
+    push_file(alloc, &mut files, "n.fcl", ran.fcl)?;
+    push_room(alloc, &mut files, "n.s19")?;
+    push_file(alloc, &mut files, "n.cert", ran.cert)?;
+    push_file(alloc, &mut files, "n.csv", &[trace])?;
+    push_file(alloc, &mut files, "n.plan", &[ran.plan])?;
+    push_file(alloc, &mut files, "n.upsets", &[upsets])?;
+    shelf_of(alloc, files, &NONE)
+}
+
+/// Writes the image of the shelf's text.
+fn write_image(alloc: Global, command: &str, shelf: &mut MemShelf) -> Result<(), Difference> {
+    match code_of(alloc, &["fuzz12", command, "n.fcl", "n.s19"], shelf)? {
+        0 => Ok(()),
+        code => Err(Difference::Status(code)),
+    }
+}
+
+const SRUN: [&str; 9] = [
+    "fuzz12", "srun", "n.fcl", "n.s19", "n.cert", "n.csv", "n.plan", "n.upsets", "FF",
+];
+
+/// A run of the image that is written before it, over another trace and other upsets.
+fn run_over(
+    alloc: Global,
+    ran: &Ran,
+    trace: &str,
+    upsets: &str,
+    left: &Left,
+) -> Result<(), Difference> {
+    let mut shelf = shelf(alloc, ran, trace, upsets)?;
+    write_image(alloc, ran.image_by, &mut shelf)?;
+    call(alloc, &SRUN, &mut shelf, &NONE, left)
+}
+
+fn run(alloc: Global, ran: &Ran) -> Result<(), Difference> {
+    run_over(alloc, ran, ran.trace, ran.upsets, &ran.left)
+}
+
+/// The heater's run with so many upsets, each to the byte that stands there.
+fn run_with(alloc: Global, upsets: u32, left: &Left) -> Result<(), Difference> {
+    let mut text = String::new(alloc);
+    for sample in 0..upsets {
+        write!(&mut text, "{},D201,FF\n", sample + 1)?;
+    }
+    run_over(alloc, &HEATER, HEATER.trace, text.as_str(), left)
+}
+
+#[test]
+fn runs_under_upsets(rt: HostRuntime) -> Result<(), Fail> {
+    for ran in RUNS.iter() {
+        run(rt.alloc(), ran)?;
+    }
+    run_with(rt.alloc(), 10_000, &ANSWERED)?;
+    run_with(
+        rt.alloc(),
+        10_001,
+        &Left::Refused(7, "upset: too many rows\n"),
+    )?;
+    Ok(())
+}
+
+/// The bits of a byte.
+static BITS: [u8; 8] = [0x01, 0x02, 0x04, 0x08, 0x10, 0x20, 0x40, 0x80];
+
+/// A byte of the heater's tables, with its address.
+#[derive(Clone, Copy)]
+struct Byte {
+    at: &'static str,
+    value: u8,
+}
+
+/// All of them: the terms' table, the singletons and the rule list.
+static BYTES: [Byte; 18] = [
+    Byte {
+        at: "D000",
+        value: 0x00,
+    },
+    Byte {
+        at: "D001",
+        value: 0xFF,
+    },
+    Byte {
+        at: "D002",
+        value: 0x00,
+    },
+    Byte {
+        at: "D003",
+        value: 0x01,
+    },
+    Byte {
+        at: "D004",
+        value: 0x00,
+    },
+    Byte {
+        at: "D005",
+        value: 0xFF,
+    },
+    Byte {
+        at: "D006",
+        value: 0x01,
+    },
+    Byte {
+        at: "D007",
+        value: 0x00,
+    },
+    Byte {
+        at: "D200",
+        value: 0x00,
+    },
+    Byte {
+        at: "D201",
+        value: 0xFF,
+    },
+    Byte {
+        at: "D800",
+        value: 0x00,
+    },
+    Byte {
+        at: "D801",
+        value: 0xFE,
+    },
+    Byte {
+        at: "D802",
+        value: 0x02,
+    },
+    Byte {
+        at: "D803",
+        value: 0xFE,
+    },
+    Byte {
+        at: "D804",
+        value: 0x01,
+    },
+    Byte {
+        at: "D805",
+        value: 0xFE,
+    },
+    Byte {
+        at: "D806",
+        value: 0x03,
+    },
+    Byte {
+        at: "D807",
+        value: 0xFF,
+    },
+];
+
+/// A trace with a sample for each bit of a byte, the upsets that flip them, and the lines of both.
+#[derive(Drop)]
+struct Flips {
+    trace: String,
+    upsets: String,
+    lines: String,
+}
+
+/// Adds a sample, in which a byte holds another value.
+fn push_flip(flips: &mut Flips, sample: usize, at: &str, value: u8) -> Result<(), AllocError> {
+    write!(&mut flips.trace, "64\n")?;
+    write!(&mut flips.upsets, "{sample},{at},{value:02X}\n")?;
+    write!(
+        &mut flips.lines,
+        "sample {sample} bytes 64 answers 0 instructions 70 steps 70 resumed 0 frames 0 fault 1\n"
+    )
+}
+
+/// Each bit of a byte flipped.
+fn flips_of(alloc: Global, byte: Byte) -> Result<Flips, AllocError> {
+    let mut flips = Flips {
+        trace: String::new(alloc),
+        upsets: String::new(alloc),
+        lines: String::from_str(alloc, "error 1 19609\ninstructions 89\n")?,
+    };
+    for (at, bit) in BITS.iter().enumerate() {
+        push_flip(&mut flips, at + 1, byte.at, byte.value ^ *bit)?;
+    }
+    Ok(flips)
+}
+
+/// The heater's run with each bit of a byte flipped in turn.
+fn run_flipped(alloc: Global, byte: Byte) -> Result<(), Difference> {
+    let flips = flips_of(alloc, byte)?;
+    let left = Left::Lines(flips.lines.as_str());
+    run_over(
+        alloc,
+        &HEATER,
+        flips.trace.as_str(),
+        flips.upsets.as_str(),
+        &left,
+    )
+}
+
+#[test]
+fn each_bit_is_seen(rt: HostRuntime) -> Result<(), Fail> {
+    for byte in BYTES.iter() {
+        run_flipped(rt.alloc(), *byte)?;
+    }
+    Ok(())
+}

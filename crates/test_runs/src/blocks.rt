@@ -1,0 +1,294 @@
+//! Worked samples without a certificate, also of blocks for which none is accepted.
+ghost use Rattle.std.specs.Prelude.{◌≤◌};
+ghost use Rattle.fuzzy_meaning.specs.Blocks.{IsValid};
+
+use codegen::{Firmware, compile, compile16};
+use eval_code::Width;
+use fcl_check::load;
+use fcl_syntax::parse;
+use fuzzy_meaning::Block;
+use fz_run::Row;
+use interrupt_plan::no_interrupts;
+use std::alloc::{AllocError, Global};
+use std::process::Abort;
+use std::test::Fail;
+use test_texts::{BACK, FRONT, HALF_WEIGHT, LATCH, MIDDLE, SECOND, joined};
+use trace_io::read_trace;
+
+/// A sample's answers, and its instructions and steps, if they are said.
+struct Sampled {
+    answers: &'static [u16],
+    instructions: Option<u32>,
+    steps: Option<u32>,
+}
+
+/// How wide a block's answers are, the bound on instructions, if it is said, a trace, and what comes
+/// of its samples.
+struct Worked {
+    width: Width,
+    bound: Option<u32>,
+    trace: &'static str,
+    samples: &'static [Sampled],
+}
+
+// Texts in parts, each with its samples: the heater without its second rule and with a default that is no end
+// of the range, the heater with no weight on its first rule, a block that keeps its answer where no rule fires, and the
+// heater with half the weight on its first rule.
+static WORKED: [(&[&str], Worked); 4] = [
+    (
+        &[FRONT, "50", MIDDLE, BACK],
+        Worked {
+            width: Width::Byte,
+            bound: Some(28),
+            trace: "256",
+            samples: &[Sampled {
+                answers: &[128],
+                instructions: Some(26),
+                steps: Some(30),
+            }],
+        },
+    ),
+    (
+        &[FRONT, "0", MIDDLE, " WITH 0", SECOND, BACK],
+        Worked {
+            width: Width::Byte,
+            bound: Some(29),
+            trace: "64\n0\n",
+            samples: &[
+                Sampled {
+                    answers: &[255],
+                    instructions: Some(29),
+                    steps: None,
+                },
+                Sampled {
+                    answers: &[0],
+                    instructions: Some(27),
+                    steps: None,
+                },
+            ],
+        },
+    ),
+    (
+        &[LATCH],
+        Worked {
+            width: Width::Byte,
+            bound: Some(30),
+            trace: "128",
+            samples: &[Sampled {
+                answers: &[0],
+                instructions: Some(27),
+                steps: None,
+            }],
+        },
+    ),
+    (
+        &HALF_WEIGHT,
+        Worked {
+            width: Width::Word,
+            bound: None,
+            trace: "64",
+            samples: &[Sampled {
+                answers: &[26276],
+                instructions: None,
+                steps: None,
+            }],
+        },
+    ),
+];
+
+/// The block that a text spells.
+fn block_of(rt: &impl Abort, alloc: Global, fcl: &[u8]) -> Block
+    ensures { IsValid result }
+{
+    if fcl.len() > 1_048_576 {
+        panic!(rt; "too long");
+    }
+    let Ok(tree) = parse(alloc, fcl) else {
+        panic!(rt; "no tree");
+    };
+    let Ok(block) = load(alloc, &tree) else {
+        panic!(rt; "no block");
+    };
+    block
+}
+
+/// The block's firmware.
+fn firmware_of(rt: &impl Abort, alloc: Global, width: Width, block: &Block) -> Firmware
+    requires { IsValid block.now }
+    ensures { result.outputs ≤ 4 }
+{
+    let firmware = match width {
+        Width::Byte => compile(alloc, block),
+        Width::Word => compile16(alloc, block),
+    };
+    let Ok(firmware) = firmware else {
+        panic!(rt; "no firmware");
+    };
+    firmware
+}
+
+/// The rows of a trace without interrupts.
+fn rows_of(
+    rt: &impl Abort,
+    alloc: Global,
+    block: &Block,
+    firmware: &Firmware,
+    trace: &str,
+) -> Vec<Row>
+    requires block { IsValid block.now }
+    requires firmware { firmware.now.outputs ≤ 4 }
+{
+    if trace.len() > 1_048_576 {
+        panic!(rt; "too long");
+    }
+    let Ok(samples) = read_trace(alloc, trace.as_bytes(), block) else {
+        panic!(rt; "no samples");
+    };
+    let plan = no_interrupts(alloc);
+    let Ok(rows) = fz_run::run(alloc, firmware, &samples, &plan, 0) else {
+        panic!(rt; "no rows");
+    };
+    rows
+}
+
+/// Fails where a row is another.
+fn is_row(rt: &impl Abort, row: &Row, wanted: &Sampled) {
+    assert!(rt; row.answers.as_slice() == wanted.answers);
+    if let Some(instructions) = wanted.instructions {
+        assert!(rt; row.instrs == instructions);
+    }
+    if let Some(steps) = wanted.steps {
+        assert!(rt; row.steps == steps);
+    }
+}
+
+fn are_rows(rt: &impl Abort, rows: &[Row], wanted: &[Sampled]) {
+    assert!(rt; rows.len() == wanted.len());
+    for (row, sampled) in rows.iter().zip(wanted) {
+        is_row(rt, row, sampled);
+    }
+}
+
+/// Fails where a block's bound is another, or something else comes of its samples.
+fn samples(rt: &impl Abort, alloc: Global, fcl: &[u8], worked: &Worked) {
+    let block = block_of(rt, alloc, fcl);
+    let firmware = firmware_of(rt, alloc, worked.width, &block);
+    if let Some(bound) = worked.bound {
+        assert!(rt; firmware.instr_bound == bound);
+    }
+    let rows = rows_of(rt, alloc, &block, &firmware, worked.trace);
+    are_rows(rt, rows.as_slice(), worked.samples);
+}
+
+#[test]
+fn worked_samples(rt: HostRuntime) -> Result<(), Fail> {
+    for (parts, worked) in WORKED.iter() {
+        let fcl = joined(rt.alloc(), parts)?;
+        samples(&rt, rt.alloc(), fcl.as_bytes(), worked);
+    }
+    Ok(())
+}
+
+const FULL_VARIABLES: &str = "FUNCTION_BLOCK full
+VAR_INPUT x1, x2, x3, x4, x5, x6, x7, x8 : REAL; END_VAR
+VAR_OUTPUT y1, y2, y3, y4 : REAL; END_VAR
+";
+
+const FULL_SAMPLES: &str = "112,240,240,240,240,240,240,240
+0,240,240,240,240,240,240,240
+240,16,16,16,16,16,16,16
+";
+
+/// The singleton of term `k` of output `o` of a full block.
+fn singleton(o: u32, k: u32) -> u32
+    requires { (1 ≤ k) × (k ≤ 15) }
+{
+    match o {
+        1 => 17 * k,
+        2 => 255 - 17 * k,
+        3 => 17 * k - 16,
+        _ => 16 * k,
+    }
+}
+
+/// Input `i`: its term `k` is wholly true at 16*k alone, and false from the points of the terms
+/// beside it on.
+fn push_input(alloc: Global, text: &mut String, i: u32) -> Result<(), AllocError> {
+    text.push_str(&format!(in alloc; "FUZZIFY x{i} RANGE := (0 .. 256);\n")?)?;
+    for k in 1..16u32 {
+        let (first, mid, last) = (16 * k - 16, 16 * k, 16 * k + 16);
+        text.push_str(&format!(in alloc; "TERM t{k} := ({first}, 0) ({mid}, 1) ({last}, 0);\n")?)?;
+    }
+    text.push_str("END_FUZZIFY\n")
+}
+
+fn push_output(alloc: Global, text: &mut String, o: u32, default: &str) -> Result<(), AllocError> {
+    text.push_str(&format!(in alloc; "DEFUZZIFY y{o} RANGE := (0 .. 255);\n")?)?;
+    for k in 1..16u32 {
+        let value = singleton(o, k);
+        text.push_str(&format!(in alloc; "TERM s{k} := {value};\n")?)?;
+    }
+    text.push_str(&format!(in alloc; "METHOD : COGS; DEFAULT := {default}; END_DEFUZZIFY\n")?)
+}
+
+/// Rules that use the complement of each term, and spread into two conjunctions each.
+fn push_rules(alloc: Global, text: &mut String) -> Result<(), AllocError> {
+    for r in 0..256u32 {
+        let (k, i) = (r % 15 + 1, r % 120 / 15 + 1);
+        let cond = format!(in alloc; "x1 IS t{k} AND (x{i} IS NOT t{k} OR x2 IS NOT t{k})")?;
+        let concl = format!(in alloc; "y1 IS s{k}, y2 IS s{k}, y3 IS s{k}, y4 IS s{k}")?;
+        text.push_str(&format!(in alloc; "RULE {r} : IF {cond} THEN {concl};\n")?)?;
+    }
+    Ok(())
+}
+
+/// A block at every limit: 8 inputs of 15 terms, 4 outputs of 15 terms, and 256 rules that spread
+/// into 512 conjunctions.
+fn full_text(alloc: Global) -> Result<String, AllocError> {
+    let mut text = String::from_str(alloc, FULL_VARIABLES)?;
+    for i in 1..9u32 {
+        push_input(alloc, &mut text, i)?;
+    }
+    push_output(alloc, &mut text, 1, "3")?;
+    push_output(alloc, &mut text, 2, "4")?;
+    push_output(alloc, &mut text, 3, "NC")?;
+    push_output(alloc, &mut text, 4, "NC")?;
+    text.push_str("RULEBLOCK r\n")?;
+    push_rules(alloc, &mut text)?;
+    text.push_str("END_RULEBLOCK\nEND_FUNCTION_BLOCK\n")?;
+    Ok(text)
+}
+
+// Where x1 is at the point of its term k and no other input is at that of theirs, only the rules of
+// term k fire, wholly: each output answers its singleton k. Where x1 is at 0 none fires. The bound is
+// 13 + 8 + 120 + 3*120 + 60 + 10*2 + 9*2 + 1, and where nothing fires an output with a number as its
+// DEFAULT takes 2 instructions less, and one with NC 3.
+static FULL: Worked = Worked {
+    width: Width::Byte,
+    bound: Some(600),
+    trace: FULL_SAMPLES,
+    samples: &[
+        Sampled {
+            answers: &[119, 136, 103, 112],
+            instructions: Some(600),
+            steps: None,
+        },
+        Sampled {
+            answers: &[3, 4, 103, 112],
+            instructions: Some(590),
+            steps: None,
+        },
+        Sampled {
+            answers: &[255, 0, 239, 240],
+            instructions: Some(600),
+            steps: None,
+        },
+    ],
+};
+
+#[test]
+fn a_block_at_every_limit(rt: HostRuntime) -> Result<(), Fail> {
+    let text = full_text(rt.alloc())?;
+    samples(&rt, rt.alloc(), text.as_bytes(), &FULL);
+    Ok(())
+}
