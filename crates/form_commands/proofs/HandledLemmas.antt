@@ -1,5 +1,5 @@
 -- What a run gives whose interrupts run a handler's code.
-use Rattle.std.proofs.Common.{◌≡◌, ◌<◌, ◌^◌, ℕ, List, sym, subst}
+use Rattle.std.proofs.Common.{◌≡◌, ◌<◌, ◌^◌, ℕ, List, refl, sym, subst}
 use Rattle.std.specs.Prelude.{map}
 use Rattle.cpu12_asm.specs.declared.image.Image.{Image}
 use Rattle.fuzzy_meaning.specs.declared.block.Block.{Block}
@@ -11,7 +11,7 @@ use Rattle.trace_io.specs.declared.sample.Sample.{Sample}
 use Rattle.run_law.specs.Forms.{RowSeen}
 use Rattle.fz_run.specs.Answering.{AnswersItsBlock, AnswersUnderPlans}
 use Rattle.fz_run.specs.Rows.{input_bytes}
-use Rattle.handled_runs.specs.Answering.{AreListedRows, HandlesItsBlock}
+use Rattle.handled_runs.specs.Answering.{AreListedRows, HandledAnswers, HandlesItsBlock}
 use Rattle.handled_runs.specs.Forms.{HandledSeen, handled_seen}
 use Rattle.fz_status.specs.declared.status.Status.{Status}
 use Rattle.fz_status.specs.declared.status.Status.TheVariants as status
@@ -19,7 +19,7 @@ use Rattle.build_commands.specs.Firmwares.{GivesFirmware}
 use Rattle.build_commands.specs.Hcheck.{GivesHandler}
 use Rattle.run_reports.specs.Inputs.{input_refusals}
 use Rattle.form_commands.specs.HandledRun.{AcceptsHandled, HandledFiles, HandledRun}
-use Rattle.form_commands.specs.Hrun.{handled_report, hrun_refusals}
+use Rattle.form_commands.specs.Hrun.{AcceptedHandledRunsMakeOutput, handled_report, hrun_refusals}
 use Rattle.run_reports.specs.Laws.{AnswersAreReported, SpelledBytesFit}
 
 -- what it answers of accepted files is the run of them
@@ -29,7 +29,7 @@ module _ (reported : AnswersAreReported) (fit : SpelledBytesFit) (all : AnswersU
     (samples slice : List Sample) (plan : List Request) (rows : List HandledSeen)
     (a : AcceptsHandled files block firmware handler instrs errors samples plan)
     (same : slice ≡ samples)
-    (ran : rows ≡ handled_seen firmware handler.bytes instrs (map input_bytes slice) plan flags)
+    (ran : rows ≡ handled_seen firmware handler.bytes (map input_bytes slice) plan flags)
     (answers : HandlesItsBlock firmware handler.bytes instrs flags (map input_bytes slice) plan rows) where
   there : HandlesItsBlock firmware handler.bytes instrs flags (map input_bytes samples) plan rows
   there = subst (λ (ss : List Sample). HandlesItsBlock firmware handler.bytes instrs flags
@@ -61,7 +61,7 @@ module _ (reported : AnswersAreReported) (fit : SpelledBytesFit) (all : AnswersU
     plan = plan;
     good_plan = a.inputs.good_plan;
     ran = subst
-        (λ (ss : List Sample). rows ≡ handled_seen firmware handler.bytes instrs (map input_bytes ss) plan flags)
+        (λ (ss : List Sample). rows ≡ handled_seen firmware handler.bytes (map input_bytes ss) plan flags)
         same ran;
     interrupts = handled.run;
     reported = reported Byte flags files.fcl block firmware a.inputs.accepted.cert errors files.trace samples plan plain
@@ -78,3 +78,19 @@ hrun_refused files block firmware gives handler instrs given (status.Image f) r 
 hrun_refused files block firmware gives handler instrs given (status.Handler f) r = absurd r.2
 hrun_refused files block firmware gives handler instrs given s r =
     (block, firmware, gives, (handler, instrs, given, r))
+
+-- accepted files make an output
+pub handled_made : AnswersAreReported → SpelledBytesFit → AnswersUnderPlans → HandledAnswers
+    → AcceptedHandledRunsMakeOutput
+handled_made reported fit all law hrun files byte (block, firmware, handler, instrs, errors, samples, plan, a) =
+    let bytes = map input_bytes samples in
+    let rows = handled_seen firmware handler.bytes bytes plan hrun.flags in (
+      _,
+      record {
+        report = handled_report errors firmware.instr_bound rows;
+        certified = handles reported fit all hrun.flags byte files block firmware handler instrs errors samples samples
+            plan rows a refl refl
+            (law firmware handler.bytes instrs hrun.flags bytes plan byte a.inputs.good_plan.good a.handles.handler);
+        output_is = refl;
+      },
+    )

@@ -49,8 +49,8 @@ pub record AcceptsHandled (files : HandledFiles) (block : Block) (firmware : Fir
 -- trace spells samples within their inputs' ranges, and the plan interrupts that write only free bytes. The rows are
 -- those of the run of the firmware's image with the handler's bytes and its address in the vector, in which an
 -- interrupt runs the handler's code. Without the handler's steps they are the certified run's, so that its answers,
--- errors, counts and frames are as if each interrupt did its listed writes alone; and no interrupt does more steps of
--- the handler than a path of it has instructions.
+-- errors, counts and frames are as if each interrupt did its listed writes alone; and each interrupt comes to the
+-- handler's RTI, after at most as many steps as a path of it has instructions.
 pub record HandledRun (flags : ℕ) (files : HandledFiles) (report : HandledReport) : Type 0 where
   pub block : Block
   pub firmware : Firmware
@@ -63,6 +63,6 @@ pub record HandledRun (flags : ℕ) (files : HandledFiles) (report : HandledRepo
   pub in_range : SpellsTrace block.inputs files.trace samples
   pub plan : List Request
   pub good_plan : SpellsPlan files.plan plan
-  pub ran : report.rows ≡ handled_seen firmware handler.bytes instrs (map input_bytes samples) plan flags
+  pub ran : report.rows ≡ handled_seen firmware handler.bytes (map input_bytes samples) plan flags
   pub interrupts : AnswersHandled firmware handler.bytes instrs flags (map input_bytes samples) plan
   pub reported : IsReportOf Byte flags block firmware samples plan (without_handler report)

@@ -1,18 +1,22 @@
 -- The command `hrun FCL HANDLER CERT TRACE PLAN FLAGS`.
-use Rattle.std.specs.Prelude.{◌≡◌, ℕ, List, [], ◌∷◌, ◌++◌, codes, Option, option_map}
+use Rattle.std.specs.Prelude.{◌≡◌, ◌<◌, ◌^◌, ℕ, List, [], ◌∷◌, ◌++◌, codes, Option, option_map}
 use Rattle.std.specs.Prelude.{Result, Ok, Err}
 use Rattle.cpu12_asm.specs.declared.image.Image.{Image}
 use Rattle.box_tree.specs.declared.cert.CertKind.TheVariants.{Named}
+use Rattle.fuzzy_meaning.specs.declared.block.Block.{Block}
+use Rattle.codegen.specs.declared.firmware.Firmware.{Firmware}
 use Rattle.eval_code.specs.declared.width.Width.TheVariants.{Byte}
+use Rattle.interrupt_plan.specs.declared.Request.{Request}
+use Rattle.trace_io.specs.declared.sample.Sample.{Sample}
 use Rattle.handled_runs.specs.Forms.{HandledSeen}
 use Rattle.build_commands.specs.Contents.{content_at}
-use Rattle.build_commands.specs.SeenOutputs.{SeenOutput, only_text}
+use Rattle.build_commands.specs.SeenOutputs.{HasOutput, SeenOutput, only_text}
 use Rattle.build_commands.specs.Firmwares.{OfFirmware, RefusesText}
 use Rattle.build_commands.specs.Hcheck.{GivesHandler, handler_refusals}
 use Rattle.build_commands.specs.Lines.{counted}
 use Rattle.build_commands.specs.Words.{flags_of}
 use Rattle.run_reports.specs.Inputs.{input_refusals}
-use Rattle.form_commands.specs.HandledRun.{HandledFiles, HandledReport, HandledRun}
+use Rattle.form_commands.specs.HandledRun.{AcceptsHandled, HandledFiles, HandledReport, HandledRun}
 use Rattle.run_reports.specs.RowLines.{begun_lines, labelled_row_lines}
 use Rattle.form_commands.specs.declared.hrun.Hrun.{Hrun}
 use Rattle.fz_status.specs.Refusals.{Refusals, Refuses}
@@ -76,3 +80,13 @@ hrun_refusals files s = OfFirmware Byte files.fcl (λ block firmware.
 abbrev pub HrunMakes : Hrun → HandledFiles → Result SeenOutput Status → Type 0
 HrunMakes hrun files (Ok output) = HrunGives hrun files output
 HrunMakes hrun files (Err s) = Refuses (hrun_refusals files) s
+
+abbrev pub HrunAccepts : HandledFiles → Type 0
+HrunAccepts files = (block : Block) × (firmware : Firmware) × (handler : Image) × (instrs : ℕ) × (errors : List ℕ)
+    × (samples : List Sample) × (plan : List Request)
+    × AcceptsHandled files block firmware handler instrs errors samples plan
+
+-- files that are accepted make an output
+abbrev pub AcceptedHandledRunsMakeOutput : Type 0
+AcceptedHandledRunsMakeOutput =
+    (hrun : Hrun) (files : HandledFiles) → hrun.flags < 2 ^ 8 → HrunAccepts files → HasOutput (HrunMakes hrun files)

@@ -9,7 +9,8 @@ ghost use Rattle.form_commands.specs.HandledRun.{AcceptsHandled, HandledFiles};
 ghost use Rattle.build_commands.specs.Lines.{counted};
 ghost use Rattle.fz_shelf.specs.Lines.{text_of};
 ghost use Rattle.handled_runs.specs.Forms.{row_seen};
-ghost use Rattle.form_commands.specs.Hrun.{HrunMakes, handled_files, handled_row_lines, hrun_in, hrun_refusals};
+ghost use Rattle.form_commands.specs.Hrun.{AcceptedHandledRunsMakeOutput, HrunMakes, handled_files, handled_row_lines};
+ghost use Rattle.form_commands.specs.Hrun.{hrun_in, hrun_refusals};
 ghost use Rattle.run_reports.specs.RowLines.{begun_lines};
 ghost use Rattle.form_commands.specs.declared.hrun.Hrun.{Hrun as TheHrun};
 
@@ -23,6 +24,7 @@ use eval_code::Width;
 use fcl_check::spelled_blocks_are_one;
 use fz_run::laws::answers_under_plans;
 use fz_status::{Status, word};
+use handled_runs::laws::handled_answers;
 use handled_runs::{HandledRow, run_handler};
 use run_reports::inputs::{Inputs, inputs_of};
 use run_reports::laws::{accepted_inputs_have_no_fault, answers_are_reported, spelled_bytes_fit};
@@ -71,7 +73,6 @@ impl Hrun {
             alloc,
             firmware,
             &accepted.handler.image,
-            &accepted.handler.handler,
             &accepted.inputs.samples,
             &accepted.inputs.plan,
             self.flags,
@@ -131,4 +132,14 @@ pub fn handled_runs_have_no_fault()
     given_handlers_have_no_fault();
     spelled_blocks_are_one();
     accepted_inputs_have_no_fault()
+}
+
+/// Files that are accepted make an output.
+pub fn accepted_handled_runs_make_output()
+    ensures { AcceptedHandledRunsMakeOutput }
+{
+    answers_are_reported();
+    answers_under_plans();
+    spelled_bytes_fit();
+    handled_answers()
 }

@@ -1,7 +1,7 @@
 -- The run under posts is that of its turns.
 use Rattle.std.proofs.Common.{◌≡◌, ◌≢◌, ℕ, zero, suc, ◌+◌, ◌-◌, ◌*◌, ◌<◌, ◌≤◌, max, nat_le, nat_lt, Bool, true, false}
-use Rattle.std.proofs.Common.{◌&&◌, None, List, [], ◌∷◌, ◌++◌, drop, length, map, get_or, refl, sym, ap, ap₂, ◌∙◌, subst}
-use Rattle.std.proofs.Common.{arith, append-nil, append_assoc}
+use Rattle.std.proofs.Common.{◌&&◌, None, List, [], ◌∷◌, ◌++◌, drop, length, map, get_or, refl, sym, ap}
+use Rattle.std.proofs.Common.{ap₂, ◌∙◌, subst, arith, append-nil, append_assoc}
 use Rattle.std.specs.Prelude.{◌==◌, if◌then◌else◌}
 use Rattle.std.proofs.lemmas.Bool.Decides.{nat_tests}
 use Rattle.cpu12_isa.specs.Regions.{is_free, is_hidden}
@@ -556,8 +556,8 @@ module _ (laws : TurnLaws) (flags : ℕ) (f : Firmware) (samples : List (List �
           state = r.0;
           ends = r.3;
           left = r.4 ∙ ap (behind e) q2_is;
-          simulates = λ some_sample. subst (λ (x : State). SimulatesTurn flags f shown x (turn_under g posts v)) (sym bu)
-              r.5;
+          simulates = λ some_sample. subst (λ (x : State). SimulatesTurn flags f shown x (turn_under g posts v))
+              (sym bu) r.5;
           begins = subst (λ (xs : List Post). Begins (g + all) (waiting 0 (up_to e xs)) (behind e xs)
               (ended flags f samples shown s) r.0) q2_is
               (subst (λ (x : State). Begins (g + all) (waiting 0 c2) (behind e q2) x r.0) ended_u r.1);

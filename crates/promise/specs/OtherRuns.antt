@@ -32,7 +32,7 @@ pub record HandledServes (flags : ℕ) (files : HandledFiles) (report : HandledR
   pub serves : Serves Byte (length h.block.outputs) flags h.firmware.image (map input_bytes h.samples) h.plan
       (map (λ row. row.row) report.rows)
   pub last : State
-  pub ran : IsRunOf (with_code flags h.firmware h.instrs) (requests_in h.plan) (map input_bytes h.samples)
+  pub ran : IsRunOf (with_code flags h.firmware) (requests_in h.plan) (map input_bytes h.samples)
       (first_handled h.firmware h.handler.bytes flags) (map (λ row. row.row) report.rows) last
 
 abbrev pub HandledRunsServe : Type 0

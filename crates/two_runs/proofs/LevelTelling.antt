@@ -23,8 +23,8 @@ use Rattle.two_runs.proofs.LevelRows.{SlowFacts, given_is, moments_are}
 use Rattle.two_runs.proofs.LevelServing.{Given, tells}
 
 -- the numbers of steps of the rows
-pub steps_are : (flags : ℕ) (two : Two) (plan : List Request) (k : ℕ) (ns : List ℕ) (samples : List (List ℕ)) (s : State)
-    → AllComplete (SlowFacts flags two) (with_writes flags two.slow) ns samples s
+pub steps_are : (flags : ℕ) (two : Two) (plan : List Request) (k : ℕ) (ns : List ℕ) (samples : List (List ℕ))
+    (s : State) → AllComplete (SlowFacts flags two) (with_writes flags two.slow) ns samples s
     → map (λ (r : RowSeen (List ℕ)). r.steps) (rows_of_samples flags two.slow plan k ns samples s) ≡ ns
 steps_are flags two plan k [] samples s h = refl
 steps_are flags two plan k (n ∷ ns) [] s h = absurd h

@@ -26,7 +26,8 @@ returns c =
           (handled_files (bytes_of c.args.contents.now)) a.compiled.block a.compiled.firmware a.handler.image
           a.handler.handler.instrs a.inputs.errors.items a.inputs.samples.items c.deref.result.now a.inputs.plan
           (map row_seen c.in_ok-rows.rows.items) c.in_ok-accepted.ensures.accepted c.deref.ensures.value
-          c.in_ok-rows.ensures.rows c.in_ok-rows.ensures.answers;
+          c.in_ok-rows.ensures.rows
+          (c.in_ok-rows.ensures.answers a.handler.handler.instrs c.in_ok-accepted.ensures.accepted.handles.handler);
       output_is = ap only_text (c.in_ok-lines.ensures ∙ ap₂ lines_of c.deref-2.ensures.value c.deref-3.ensures.value
           ∙ ap (λ (l : List ℕ). begun_lines a.inputs.errors.items bound ++ l) (sym each));
     }
