@@ -10,6 +10,8 @@ from dataclasses import dataclass, field
 
 sys.dont_write_bytecode = True
 NO_LEAF = 1000001  # the Bound of a cell on which no leaf holds
+# A certificate's first line, and what the names of commands for it begin and end with.
+VERSIONS = {"FZC 1": ("", ""), "FZC 2": ("", "16"), "FZC 3": ("t", ""), "FZC 4": ("t", "16")}
 
 
 class Wrong(Exception):
@@ -116,6 +118,27 @@ class Program:
 def with_program(words):
     words.add_argument("--program")
     return words
+
+
+def with_kind(words):
+    words.add_argument("--wide", action="store_true")
+    words.add_argument("--tight", action="store_true")
+    return words
+
+
+def kind_given(given):
+    """What the words say of certificates, as what the names of commands for them begin and end with."""
+    return "t" if given.tight else "", "16" if given.wide else ""
+
+
+def kind_of(version):
+    """The same, as a certificate's first line says it."""
+    return VERSIONS.get(version, ("", ""))
+
+
+def command(kind, verb):
+    """The name of a command, as `tcheck16` of ("t", "16") and `check`."""
+    return verb.join(kind)
 
 
 def numbers_behind(line, word):

@@ -11,6 +11,7 @@ STYLE = {
     ".answer": "fill: #d94801", ".fault": "fill: none; stroke: #cb181d; stroke-width: 1.5",
     ".interrupt": "stroke: #6a51a3; stroke-dasharray: 3 3",
     ".box": "fill: none; stroke: #222; stroke-width: .5; stroke-opacity: .7",
+    ".cells": "fill: none; stroke: #cb181d; stroke-width: .5",
     ".level": "font-size: 9px; fill: #222; stroke: white; stroke-width: 2; stroke-opacity: .7; paint-order: stroke",
     ".contour": "fill: none; stroke: #222; stroke-width: 1.1",
 }

@@ -5,7 +5,8 @@ MOST_LEAVES = 4096
 
 
 def read_tree(text):
-    """The version line, and the tree: a leaf is a list of pairs, a cut a tuple of input, byte, lower and upper part."""
+    """The version line, and the tree: a cut is a tuple of input, byte, lower and upper part, a leaf a list of pairs, or
+    the word of a tight one."""
     lines = text.splitlines()
     try:
         nodes = iter([line.split() for line in lines[2:]])
@@ -16,6 +17,8 @@ def read_tree(text):
 
 def next_node(nodes):
     word, *numbers = next(nodes)
+    if word in ("leaf", "cells") and not numbers:
+        return word
     numbers = [int(it) for it in numbers]
     if word == "leaf":
         return list(zip(numbers[::2], numbers[1::2]))
@@ -24,9 +27,13 @@ def next_node(nodes):
     return place, byte, lower, next_node(nodes)
 
 
+def is_leaf(tree):
+    return not isinstance(tree, tuple)
+
+
 def spell_tree(tree):
-    if isinstance(tree, list):
-        yield "leaf " + " ".join(f"{rule} {k}" for rule, k in tree)
+    if is_leaf(tree):
+        yield tree if isinstance(tree, str) else "leaf " + " ".join(f"{rule} {k}" for rule, k in tree)
         return
     place, byte, lower, upper = tree
     yield f"split {place} {byte}"
@@ -48,7 +55,7 @@ def halves(box, place, byte):
 
 def boxes(tree, box):
     """The leaves with their boxes."""
-    if isinstance(tree, list):
+    if is_leaf(tree):
         yield box, tree
         return
     place, byte, *parts = tree
@@ -58,7 +65,7 @@ def boxes(tree, box):
 
 def within(tree, box, add):
     """The part of a tree that a box meets, with each leaf changed by a function."""
-    if isinstance(tree, list):
+    if is_leaf(tree):
         return add(tree)
     place, byte, lower, upper = tree
     low, high = box[place - 1]
@@ -70,18 +77,25 @@ def within(tree, box, add):
     return (place, byte, *parts)
 
 
+def both(leaf, other):
+    """One leaf for the outputs of two: the pairs of both, or of tight ones the cells where either has them."""
+    if isinstance(leaf, list):
+        return leaf + other
+    return "cells" if "cells" in (leaf, other) else "leaf"
+
+
 def joined(trees, box):
-    """One tree whose leaves have the pairs of all of these, one tree behind the other."""
+    """One tree whose leaves are for the outputs of all of these, one tree behind the other."""
     first, *others = trees
     if not others:
         return first
     def graft(part, half):
-        if isinstance(part, list):
-            return within(joined(others, half), half, lambda pairs: part + pairs)
+        if is_leaf(part):
+            return within(joined(others, half), half, lambda leaf: both(part, leaf))
         place, byte, *parts = part
         return (place, byte, *(graft(it, inner) for it, inner in zip(parts, halves(half, place, byte))))
     return graft(first, box)
 
 
 def count(tree):
-    return 1 if isinstance(tree, list) else count(tree[2]) + count(tree[3])
+    return 1 if is_leaf(tree) else count(tree[2]) + count(tree[3])

@@ -30,12 +30,24 @@ FLAGS ?= 00
 %.wide.cert: %.fcl
 	$(FUZZ12) certify16 $< $(TARGET) $@
 
+%.tight.cert: %.fcl
+	$(FUZZ12) tcertify $< $(TARGET) $@
+
+%.wide.tight.cert: %.fcl
+	$(FUZZ12) tcertify16 $< $(TARGET) $@
+
 # The samples are NAME.csv, the interrupts NAME.plan.
 %.out: %.fcl %.s19 %.cert %.csv %.plan
 	$(FUZZ12) run $^ $(FLAGS) > $@
 
 %.wide.out: %.fcl %.wide.s19 %.wide.cert %.csv %.plan
 	$(FUZZ12) run16 $^ $(FLAGS) > $@
+
+%.tight.out: %.fcl %.s19 %.tight.cert %.csv %.plan
+	$(FUZZ12) trun $^ $(FLAGS) > $@
+
+%.wide.tight.out: %.fcl %.wide.s19 %.wide.tight.cert %.csv %.plan
+	$(FUZZ12) trun16 $^ $(FLAGS) > $@
 
 %.s19: %.asm
 	$(FUZZ12) asm $< $@
