@@ -5,6 +5,7 @@ use Rattle.build_commands.specs.Contents.{content_at}
 use Rattle.run_commands.specs.Debug.{AcceptedDebugRunsMakeOutput, debug_files}
 use Rattle.run_commands.specs.Generate.{AcceptedNumbersMakeOutput}
 use Rattle.run_commands.specs.Run.{AcceptedRunsMakeOutput, files_in}
+use Rattle.form_commands.specs.Hrun.{AcceptedHandledRunsMakeOutput, handled_files}
 use Rattle.form_commands.specs.Lrun.{AcceptedLevelRunsMakeOutput, level_files}
 use Rattle.form_commands.specs.Mrun.{AcceptedPostedRunsMakeOutput, posted_files}
 use Rattle.form_commands.specs.Srun.{AcceptedWatchedRunsMakeOutput, watched_files}
@@ -13,7 +14,8 @@ use Rattle.fz_top.specs.Commands.{Makes}
 use Rattle.fz_top.specs.declared.command.Command.TheVariants as command
 
 module _ (contents_make : AcceptedContentsMakeOutput) (debug_runs : AcceptedDebugRunsMakeOutput)
-    (numbers : AcceptedNumbersMakeOutput) (runs : AcceptedRunsMakeOutput) (level_runs : AcceptedLevelRunsMakeOutput)
+    (numbers : AcceptedNumbersMakeOutput) (runs : AcceptedRunsMakeOutput)
+    (handled_runs : AcceptedHandledRunsMakeOutput) (level_runs : AcceptedLevelRunsMakeOutput)
     (posted_runs : AcceptedPostedRunsMakeOutput) (watched_runs : AcceptedWatchedRunsMakeOutput) where
   pub commands_made : AcceptedCommandsMakeOutput
   unfolding Makes Accepts
@@ -26,7 +28,7 @@ module _ (contents_make : AcceptedContentsMakeOutput) (debug_runs : AcceptedDebu
   commands_made (command.Exec exec) contents byte a = contents_make.exec exec (content_at contents 0) a
   commands_made (command.Generate generate) contents byte a = numbers generate a
   commands_made command.Hcheck contents byte a = contents_make.hcheck (content_at contents 0) a
-  commands_made (command.Hrun hrun) contents byte a = a
+  commands_made (command.Hrun hrun) contents byte a = handled_runs hrun (handled_files contents) byte a
   commands_made command.Lcompile contents byte a =
       contents_make.lcompile (content_at contents 0) (content_at contents 1) a
   commands_made (command.Lrun lrun) contents byte a = level_runs lrun (level_files contents) byte a

@@ -14,7 +14,7 @@ use Rattle.build_commands.specs.Words.{flags_of, only_byte}
 use Rattle.run_commands.specs.Debug.{debug_with}
 use Rattle.run_commands.specs.Generate.{generate_in}
 use Rattle.run_commands.specs.Run.{run_with}
-use Rattle.form_commands.specs.Hrun.{hrun_in}
+use Rattle.form_commands.specs.Hrun.{hrun_with}
 use Rattle.form_commands.specs.Lrun.{lrun_with}
 use Rattle.form_commands.specs.Mrun.{mrun_with}
 use Rattle.form_commands.specs.Srun.{srun_with}
@@ -108,7 +108,7 @@ byte_form name.Debug words command is = of_flags Debug debug_with (word_at words
 byte_form name.Exec words command is = without Exec (exec_in words) command (λ c. refl) is
 byte_form name.Generate words command is = without Generate (generate_in words) command (λ c. refl) is
 byte_form name.Hcheck words command is = alone Hcheck command refl is
-byte_form name.Hrun words command is = without Hrun (hrun_in words) command (λ c. refl) is
+byte_form name.Hrun words command is = of_flags Hrun hrun_with (word_at words 7) command (λ n. refl) is
 byte_form name.Lcompile words command is = alone Lcompile command refl is
 byte_form name.Lrun words command is = of_flags Lrun lrun_with (word_at words 10) command (λ n. refl) is
 byte_form name.Mcompile words command is = alone Mcompile command refl is

@@ -14,7 +14,7 @@ use Rattle.build_commands.specs.SeenOutputs.{HasOutput}
 use Rattle.run_commands.specs.Debug.{DebugAccepts, debug_files}
 use Rattle.run_commands.specs.Generate.{GenerateAccepts}
 use Rattle.run_commands.specs.Run.{RunAccepts, files_in}
-use Rattle.form_commands.specs.Hrun.{HrunMakes, handled_files}
+use Rattle.form_commands.specs.Hrun.{HrunAccepts, handled_files}
 use Rattle.form_commands.specs.Lrun.{LrunAccepts, level_files}
 use Rattle.form_commands.specs.Mrun.{MrunAccepts, posted_files}
 use Rattle.form_commands.specs.Srun.{SrunAccepts, watched_files}
@@ -24,7 +24,7 @@ use Rattle.fz_top.specs.declared.command.Command.TheVariants.{Asm, Certify, Chec
 use Rattle.fz_top.specs.declared.command.Command.TheVariants.{Hcheck, Hrun, Lcompile, Lrun, Mcompile, Mrun}
 use Rattle.fz_top.specs.declared.command.Command.TheVariants.{Run, Scompile, Srun}
 
--- the contents of a command's files, in order, are accepted; of `hrun` it is said that they make an output
+-- the contents of a command's files, in order, are accepted
 unfoldable pub Accepts : Command → List (List ℕ) → Type 0
 Accepts Asm contents = AsmAccepts (content_at contents 0)
 Accepts (Certify certify) contents = CertifyAccepts certify (content_at contents 0)
@@ -34,7 +34,7 @@ Accepts (Debug debug) contents = DebugAccepts (debug_files contents)
 Accepts (Exec exec) contents = ExecAccepts exec (content_at contents 0)
 Accepts (Generate generate) contents = GenerateAccepts generate
 Accepts Hcheck contents = HcheckAccepts (content_at contents 0)
-Accepts (Hrun hrun) contents = HasOutput (HrunMakes hrun (handled_files contents))
+Accepts (Hrun hrun) contents = HrunAccepts (handled_files contents)
 Accepts Lcompile contents = LcompileAccepts (content_at contents 0) (content_at contents 1)
 Accepts (Lrun lrun) contents = LrunAccepts (level_files contents)
 Accepts Mcompile contents = McompileAccepts (content_at contents 0)
@@ -46,6 +46,7 @@ Accepts (Srun srun) contents = SrunAccepts (watched_files contents)
 -- the condition codes that a command's run of firmware leaves open
 abbrev pub run_flags : Command → ℕ
 run_flags (Debug debug) = debug.flags
+run_flags (Hrun hrun) = hrun.flags
 run_flags (Lrun lrun) = lrun.flags
 run_flags (Mrun mrun) = mrun.flags
 run_flags (Run run) = run.flags

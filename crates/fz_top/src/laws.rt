@@ -12,7 +12,7 @@ use build_commands::laws::accepted_contents_make_output;
 use build_commands::lcompile::two_texts_have_no_fault;
 use build_commands::mcompile::mailbox_texts_have_no_fault;
 use build_commands::scompile::watched_texts_have_no_fault;
-use form_commands::hrun::handled_runs_have_no_fault;
+use form_commands::hrun::{accepted_handled_runs_make_output, handled_runs_have_no_fault};
 use form_commands::lrun::{accepted_level_runs_make_output, level_runs_have_no_fault};
 use form_commands::mrun::{accepted_posted_runs_make_output, posted_runs_have_no_fault};
 use form_commands::srun::{accepted_watched_runs_make_output, watched_runs_have_no_fault};
@@ -50,6 +50,7 @@ pub(crate) fn accepted_commands_make_output()
     accepted_debug_runs_make_output();
     accepted_numbers_make_output();
     accepted_runs_make_output();
+    accepted_handled_runs_make_output();
     accepted_level_runs_make_output();
     accepted_posted_runs_make_output();
     accepted_watched_runs_make_output()
