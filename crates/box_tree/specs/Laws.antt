@@ -1,4 +1,5 @@
 -- What holds of every certificate's text.
+-- Beside the promise.
 use Rattle.std.specs.Prelude.{◌≡◌, ℕ, List, ◌++◌, Some}
 use Rattle.box_tree.specs.declared.cert.CertKind.{CertKind}
 use Rattle.box_tree.specs.declared.cert.AnswerWidth.{AnswerWidth}

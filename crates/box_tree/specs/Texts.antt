@@ -1,4 +1,5 @@
 -- The lines of a certificate's text: a word, numbers, and the end of the line.
+-- Beside the promise.
 use Rattle.std.specs.Prelude.{ℕ, List, [], ◌∷◌, ◌++◌, codes, decimal}
 use Rattle.box_tree.specs.declared.cert.CertKind.{CertKind}
 use Rattle.box_tree.specs.declared.cert.CertKind.TheVariants.{Named, Tight}

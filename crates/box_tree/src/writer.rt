@@ -26,8 +26,8 @@ pub fn write16(alloc: Global, cert: &Cert) -> Result<Vec<u8>, AllocError>
     write_for(alloc, cert, CertKind::Named, AnswerWidth::Word)
 }
 
-/// The text of a certificate of this kind, for answers of this width: of version 1 or 2 where it names rules, of version 3
-/// or 4 where it is tight.
+/// The text of a certificate of this kind, for answers of this width: of version 1 or 2 where it names rules,
+/// of version 3 or 4 where it is tight.
 pub fn write_for(
     alloc: Global,
     cert: &Cert,

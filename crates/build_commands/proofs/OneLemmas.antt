@@ -61,7 +61,8 @@ certifies_once firmwares answers certify text output other a b =
     let y : Result Cert NotReached = Ok b.cert in
     let same : x ≡ y = answers certify.kind a.block (parts certify.width) certify.target x y
     a.gives.spelled.valid a.halving
-    (subst (λ (c : Block). IsHalving certify.kind c (parts certify.width) certify.target b.cert) (sym one.0) b.halving) in
+    (subst (λ (c : Block). IsHalving certify.kind c (parts certify.width) certify.target b.cert) (sym one.0)
+    b.halving) in
     let cert : a.cert ≡ b.cert = cc in
     let out : a.out ≡ b.out = a.spelled.lines
     ∙ (λ i. lines_of certify.kind (answer_width certify.width) (cert i).claims (cert i).nodes) ∙ sym b.spelled.lines in

@@ -1,4 +1,5 @@
 -- Contents that are accepted make an output.
+-- Beside the promise.
 use Rattle.std.specs.Prelude.{ℕ, List}
 use Rattle.build_commands.specs.Asm.{AsmAccepts, AsmMakes}
 use Rattle.build_commands.specs.Certify.{CertifyAccepts, CertifyMakes}

@@ -1,4 +1,5 @@
 -- The command `asm SRC OUT`.
+-- Beside the promise.
 use Rattle.std.specs.Prelude.{◌≡◌, ℕ, List, [], ◌∷◌, length, codes, Result, Ok, Err}
 use Rattle.cpu12_asm.specs.Bytes.{IsAscending, start_of}
 use Rattle.cpu12_asm.specs.Sources.{Assembles, assembled}

@@ -1,4 +1,5 @@
 -- The commands `certify FCL TARGET OUT`, `certify16 ..`, and `tcertify ..` and `tcertify16 ..` for tight certificates.
+-- Beside the promise.
 use Rattle.std.specs.Prelude.{◌≡◌, ◌≤◌, ℕ, List, [], ◌∷◌, ◌++◌, All, codes, Option, Some, option_map, Result, Ok, Err}
 use Rattle.fuzzy_meaning.specs.Blocks.{IsValid}
 use Rattle.fuzzy_meaning.specs.declared.block.Block.{Block}
@@ -56,7 +57,8 @@ pub record CertifyGives (certify : Certify) (text : List ℕ) (output : SeenOutp
 
 -- halving for this kind stops so, and for a cell no certificate that is accepted has a smaller error: for tight ones
 -- none at all, for those that name rules none that does
-pub record StopsHalving (kind : CertKind) (width : Width) (target : ℕ) (block : Block) (stop : NotReached) : Type 0 where
+pub record StopsHalving (kind : CertKind) (width : Width) (target : ℕ) (block : Block) (stop : NotReached)
+    : Type 0 where
   pub stops : StopsAt kind block (parts width) target stop
   pub out_of_reach : SaysOutOfReach kind block (parts width) target stop
 

@@ -1,4 +1,5 @@
 -- The commands `check FCL CERT`, `check16 ..`, and `tcheck ..` and `tcheck16 ..` of tight certificates.
+-- Beside the promise.
 use Rattle.std.specs.Prelude.{◌≡◌, ℕ, List, [], ◌∷◌, ◌++◌, codes, Result, Ok, Err}
 use Rattle.fuzzy_meaning.specs.declared.block.Block.{Block}
 use Rattle.eval_code.specs.Bounds.{instruction_bound}

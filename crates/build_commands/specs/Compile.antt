@@ -1,4 +1,5 @@
 -- The commands `compile FCL OUT` and `compile16 FCL OUT`.
+-- Beside the promise.
 use Rattle.std.specs.Prelude.{ℕ, List, [], ◌∷◌, Result, Ok, Err}
 use Rattle.eval_code.specs.Bounds.{instruction_bound}
 use Rattle.eval_code.specs.declared.width.Width.{Width}

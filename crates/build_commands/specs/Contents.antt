@@ -1,4 +1,5 @@
 -- The contents of the files that were read.
+-- Beside the promise.
 use Rattle.std.specs.Prelude.{ℕ, List, [], map}
 use Rattle.std.specs.List.{slice_index_or}
 use Rattle.std.specs.declared.alloc.Global.{Global}

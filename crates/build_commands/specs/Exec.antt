@@ -1,4 +1,5 @@
 -- The command `exec IMAGE STEPS FLAGS`.
+-- Beside the promise.
 use Rattle.std.specs.Prelude.{◌≡◌, ℕ, List, [], ◌∷◌, codes}
 use Rattle.std.specs.Prelude.{Option, option_and_then, option_map, Result, Ok, Err}
 use Rattle.cpu12_asm.specs.declared.image.Image.{Image}

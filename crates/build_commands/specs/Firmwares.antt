@@ -1,4 +1,5 @@
 -- The block and the firmware of a text.
+-- Beside the promise.
 use Rattle.std.specs.Prelude.{◌≡◌, ℕ, false, List}
 use Rattle.fuzzy_meaning.specs.declared.block.Block.{Block}
 use Rattle.rule_layout.specs.Layouts.{IsWithinLimits, IsFaultOf as IsLayoutFault}

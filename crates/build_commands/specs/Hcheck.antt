@@ -1,4 +1,5 @@
 -- The command `hcheck HANDLER`.
+-- Beside the promise.
 use Rattle.std.specs.Prelude.{◌≡◌, ℕ, List, [], ◌∷◌, codes, Result, Ok, Err}
 use Rattle.cpu12_asm.specs.declared.image.Image.{Image}
 use Rattle.handler_check.specs.Images.{IsHandler, IsFault}

@@ -1,4 +1,5 @@
 -- From a text to its image.
+-- Beside the promise.
 use Rattle.std.specs.Prelude.{◌≡◌, ◌≢◌, ℕ, List}
 use Rattle.cpu12_asm.specs.Bytes.{IsFirstDifference, byte_at}
 use Rattle.cpu12_asm.specs.declared.image.Image.{Image}

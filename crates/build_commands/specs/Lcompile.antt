@@ -1,4 +1,5 @@
 -- The command `lcompile SLOW FAST OUT`.
+-- Beside the promise.
 use Rattle.std.specs.Prelude.{ℕ, List, [], ◌∷◌, ◌++◌, length, codes, Result, Ok, Err}
 use Rattle.fuzzy_meaning.specs.declared.block.Block.{Block}
 use Rattle.eval_code.specs.Bounds.{instruction_bound}

@@ -1,4 +1,5 @@
 -- Lines on out.
+-- Reached by the promise.
 use Rattle.std.specs.Prelude.{ℕ, ◌+◌, List, [], ◌∷◌, ◌++◌, codes, decimal}
 use Rattle.cpu12_isa.specs.declared.instr.Regs.{Regs}
 use Rattle.fz_shelf.specs.Parts.{address_digits, byte_digits}

@@ -1,4 +1,5 @@
 -- The command `mcompile FCL OUT`.
+-- Beside the promise.
 use Rattle.std.specs.Prelude.{ℕ, List, Result, Ok, Err}
 use Rattle.codegen.specs.Mailboxes.{mailbox_bound}
 use Rattle.eval_code.specs.declared.width.Width.TheVariants.{Byte}

@@ -1,4 +1,5 @@
 -- Contents make one output.
+-- Beside the promise.
 use Rattle.std.specs.Prelude.{ℕ, List}
 use Rattle.build_commands.specs.Certify.{CertifyMakes}
 use Rattle.build_commands.specs.Check.{CheckMakes}

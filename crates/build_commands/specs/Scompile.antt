@@ -1,4 +1,5 @@
 -- The command `scompile FCL OUT`.
+-- Beside the promise.
 use Rattle.std.specs.Prelude.{ℕ, List, [], ◌∷◌, Result, Ok, Err}
 use Rattle.watched_code.specs.Watched.{watched_bound}
 use Rattle.build_commands.specs.SeenOutputs.{SeenOutput}

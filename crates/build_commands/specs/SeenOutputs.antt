@@ -1,4 +1,5 @@
 -- What a command leaves to be written and put.
+-- Beside the promise.
 use Rattle.std.specs.Prelude.{◌≡◌, ℕ, List, None, Option, option_map, Result, Ok, Err}
 use Rattle.fz_shelf.specs.Lines.{text_of}
 use Rattle.fz_status.specs.declared.status.Status.{Status}

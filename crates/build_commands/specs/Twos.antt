@@ -1,4 +1,5 @@
 -- The blocks of two texts, and the firmware of both at two levels.
+-- Beside the promise.
 use Rattle.std.specs.Prelude.{◌≡◌, ℕ, List}
 use Rattle.fuzzy_meaning.specs.declared.block.Block.{Block}
 use Rattle.two_level.specs.Images.{IsTwoOf}

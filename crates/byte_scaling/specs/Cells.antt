@@ -1,4 +1,5 @@
 -- Bytes of a range, and their cells.
+-- Reached by the promise.
 use Rattle.std.specs.Prelude.{◌≡◌, ℕ, List, [], ◌∷◌, ◌+◌, ◌*◌, ◌/◌, ◌<◌, ◌≤◌, min, Bool, IsTrue, ◌==◌, pos, ◌+ℤ◌, ◌*ℤ◌}
 use Rattle.std.specs.Prelude.{◌≤ℤ◌, ◌<ℤ◌}
 use Rattle.fz_num.specs.declared.dec.Dec.{Dec}

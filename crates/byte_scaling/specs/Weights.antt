@@ -1,4 +1,5 @@
 -- Weights as bytes.
+-- Beside the promise.
 use Rattle.std.specs.Prelude.{ℕ, ◌+◌, ◌-◌, ◌*◌, ◌/◌, Option, Some, None, unsigned_abs}
 use Rattle.fz_num.specs.declared.dec.Dec.{Dec}
 

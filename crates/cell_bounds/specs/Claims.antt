@@ -1,4 +1,5 @@
 -- What a leaf of each sort says of a box: one names a rule or silence, one nothing, and one the box's cells.
+-- Beside the promise.
 use Rattle.std.specs.Prelude.{◌≡◌, ℕ, ◌≤◌, List, length, Some}
 use Rattle.fz_num.specs.declared.dec.Dec.{Dec}
 use Rattle.fz_num.specs.Fracs.{Quotient}

@@ -1,4 +1,5 @@
 -- The cells of a box, gone through one after the other.
+-- Beside the promise.
 use Rattle.std.specs.Prelude.{ℕ, ◌+◌, ◌-◌, ◌<◌, ◌≤◌, List, length, IfSome, slice_index}
 use Rattle.std.specs.List.{sum_by}
 use Rattle.fuzzy_meaning.specs.declared.block.Block.{Block}

@@ -1,4 +1,5 @@
 -- Masses that are high on one side of a singleton and low on the other.
+-- Beside the promise.
 use Rattle.std.specs.Prelude.{ℕ, ◌≤◌, ◌*◌, if◌then◌else◌, nat_le, Bool, false, List, [], ◌∷◌}
 use Rattle.fz_num.specs.Fractions.{Fraction}
 use Rattle.cell_error.specs.declared.ranges.MassRange.{MassRange}

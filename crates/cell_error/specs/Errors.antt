@@ -1,4 +1,5 @@
 -- How far one answer may be from the answers of all masses between given numbers.
+-- Beside the promise.
 use Rattle.std.specs.Prelude.{All, ℕ, ◌+◌, ◌-◌, ◌*◌, ◌≤◌, ◌==◌, if◌then◌else◌, List, [], ◌∷◌}
 use Rattle.fz_num.specs.Fractions.{Fraction, over}
 use Rattle.cell_error.specs.declared.ranges.MassRange.{MassRange}

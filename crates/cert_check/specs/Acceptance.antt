@@ -1,4 +1,5 @@
 -- Which certificates are accepted, with which errors.
+-- Beside the promise.
 use Rattle.std.specs.Prelude.{◌≡◌, ℕ, ◌-◌, ◌≤◌, List, [], length, All, Option, Some, slice_get}
 use Rattle.std.specs.List.{Any}
 use Rattle.std.specs.Option.{option_map}

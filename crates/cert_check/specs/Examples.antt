@@ -1,4 +1,5 @@
 -- Certificates that are accepted.
+-- Beside the promise.
 use Rattle.std.specs.Prelude.{ℕ, [], ◌∷◌}
 use Rattle.fuzzy_meaning.specs.Examples.{heater, latch}
 use Rattle.box_tree.specs.declared.cert.Cert.{Cert}

@@ -1,4 +1,5 @@
 -- Why a certificate is not accepted: its first fault, in prefix order.
+-- Beside the promise.
 use Rattle.std.specs.Prelude.{◌≡◌, ◌≢◌, ℕ, ◌+◌, ◌-◌, ◌<◌, ◌≤◌, List, ◌∷◌, length, All, Some, slice_get, IfSome}
 use Rattle.fuzzy_meaning.specs.declared.block.Block.{Block}
 use Rattle.fuzzy_meaning.specs.Blocks.{output_at}

@@ -1,4 +1,5 @@
 -- What an accepted certificate says.
+-- Beside the promise.
 use Rattle.std.specs.Prelude.{◌≡◌, ◌≢◌, ℕ, ◌-◌, ◌≤◌, true, List, ◌++◌, map, fold, All, Some, slice_get, Result, Ok, Err}
 use Rattle.fz_num.specs.declared.dec.Dec.{Dec}
 use Rattle.fz_num.specs.Decimals.{distance}

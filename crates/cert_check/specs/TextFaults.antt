@@ -1,4 +1,5 @@
 -- Texts whose certificates are accepted, and why others are refused.
+-- Beside the promise.
 use Rattle.std.specs.Prelude.{ℕ, List}
 use Rattle.fuzzy_meaning.specs.declared.block.Block.{Block}
 use Rattle.box_tree.specs.declared.cert.CertKind.{CertKind}

@@ -1,4 +1,5 @@
 -- Trees of boxes in prefix order.
+-- Beside the promise.
 use Rattle.std.specs.Prelude.{ℕ, zero, suc, ◌+◌, ◌-◌, ◌<◌, ◌≤◌, List, [], ◌∷◌, ◌++◌, map, Bool, true, false, nat_le}
 use Rattle.std.specs.Prelude.{◌&&◌, if◌then◌else◌}
 use Rattle.fuzzy_meaning.specs.declared.block.Block.{Block}

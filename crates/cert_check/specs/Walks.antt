@@ -1,4 +1,5 @@
 -- What a walk over the nodes of a tree keeps.
+-- Beside the promise.
 use Rattle.std.specs.Prelude.{◌≡◌, ◌⊎◌, ℕ, ◌+◌, ◌-◌, ◌<◌, ◌≤◌, max, List, [], ◌∷◌, ◌++◌, length, map, reverse, All}
 use Rattle.std.specs.Prelude.{Some}
 use Rattle.std.specs.Prelude.{MatchOption, slice_get, slice_index, vec_capacity}

@@ -1,4 +1,5 @@
 -- Answers of a mailbox firmware within the errors of a certificate.
+-- Beside the promise.
 use Rattle.std.specs.Prelude.{◌≡◌, ℕ, ◌+◌, ◌-◌, ◌≤◌, List, [], All, length, map, take, Some, slice_get}
 use Rattle.std.specs.List.{slice_index_or}
 use Rattle.fz_num.specs.declared.dec.Dec.{Dec}

@@ -1,4 +1,5 @@
 -- The firmware of a block is one.
+-- Beside the promise.
 use Rattle.std.specs.Prelude.{◌≡◌, List}
 use Rattle.fuzzy_meaning.specs.declared.block.Block.{Block}
 use Rattle.cpu12_asm.specs.declared.image.Image.{Image}

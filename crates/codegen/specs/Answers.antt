@@ -1,4 +1,5 @@
 -- What a firmware that stands alone answers, and what is known at each of its instructions.
+-- Beside the promise.
 use Rattle.std.specs.Prelude.{◌≡◌, ℕ, ◌^◌, ◌<◌, ◌≤◌, Bool, true, false, List, [], ◌∷◌, length, All, slice_index}
 use Rattle.std.specs.Prelude.{slice_set}
 use Rattle.fuzzy_meaning.specs.declared.block.Block.{Block}

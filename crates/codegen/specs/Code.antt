@@ -1,4 +1,5 @@
 -- The code before EVAL of a firmware that stands alone, instruction by instruction.
+-- Beside the promise.
 use Rattle.std.specs.Prelude.{List, [], ◌∷◌}
 use Rattle.cpu12_isa.specs.declared.instr.Instr.{Instr}
 use Rattle.cpu12_isa.specs.declared.instr.Instr.TheVariants.{LdaaExtended, LdsImmediate, ClrExtended, Beq, Bra}

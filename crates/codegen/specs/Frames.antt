@@ -1,4 +1,5 @@
 -- The frame of a firmware that stands alone, around whatever it calls.
+-- Beside the promise.
 use Rattle.std.specs.Prelude.{◌≡◌, ℕ, ◌+◌, ◌/◌, ◌%◌, ◌^◌, ◌<◌, ◌≤◌, ◌⊎◌, false, List, [], ◌∷◌, length, slice_index}
 use Rattle.std.specs.Prelude.{slice_set}
 use Rattle.fuzzy_meaning.specs.declared.block.Block.{Block}

@@ -1,4 +1,5 @@
 -- What is known wherever an interrupt may come to a firmware, whose handler may change the open bytes.
+-- Beside the promise.
 use Rattle.std.specs.Prelude.{◌≡◌, ◌≢◌, ℕ, ◌≤◌, ◌<◌, ◌⊎◌, min, ◌==◌, ◌&&◌, Bool, false, List, length, slice_index}
 use Rattle.cpu12_isa.specs.declared.instr.Instr.{Instr}
 use Rattle.cpu12_isa.specs.declared.instr.Instr.TheVariants.{Rev, Revw}

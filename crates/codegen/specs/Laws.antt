@@ -1,4 +1,5 @@
 -- What the forms of firmware rest on.
+-- Beside the promise.
 use Rattle.byte_scaling.specs.Cells.{NearestIsByte}
 use Rattle.rule_layout.specs.Layouts.{LayoutLaw}
 use Rattle.cpu12_isa.specs.Fits.{StaysFit}

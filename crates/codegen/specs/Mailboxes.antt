@@ -1,4 +1,5 @@
 -- The mailbox form of a firmware: an interrupt posts a sample whenever it comes, and the code copies it while I is 1.
+-- Beside the promise.
 use Rattle.std.specs.Prelude.{◌≡◌, ◌≤◌, ℕ, zero, suc, ◌+◌, ◌-◌, ◌*◌, nat_le, nat_lt, ◌&&◌, ◌||◌, Bool, List, [], ◌∷◌}
 use Rattle.std.specs.Prelude.{◌++◌, length}
 use Rattle.fuzzy_meaning.specs.declared.block.Block.{Block}

@@ -1,4 +1,5 @@
 -- A turn of the mailbox form: the code looks at POSTED, copies MAIL while I is 1, and evaluates the copy.
+-- Beside the promise.
 use Rattle.std.specs.Prelude.{◌≡◌, ◌≢◌, ℕ, ◌+◌, ◌*◌, ◌^◌, ◌<◌, ◌≤◌, ◌⊎◌, ◌==◌, if◌then◌else◌, true, false, List, length}
 use Rattle.std.specs.Prelude.{slice_index}
 use Rattle.fuzzy_meaning.specs.declared.block.Block.{Block}

@@ -1,4 +1,5 @@
 -- The uninterrupted answers of a firmware: whole instructions alone, from reset.
+-- Beside the promise.
 use Rattle.std.specs.Prelude.{◌≡◌, ℕ, zero, suc, ◌+◌, ◌-◌, ◌^◌, ◌<◌, ◌≤◌, ◌==◌, Bool, List, [], ◌∷◌, length, All}
 use Rattle.std.specs.Prelude.{slice_index}
 use Rattle.fuzzy_meaning.specs.declared.block.Block.{Block}

@@ -1,4 +1,5 @@
 -- Expressions: terms joined by + and -, in capitals.
+-- Beside the promise.
 use Rattle.std.specs.Prelude.{ℕ, ◌+◌, ◌*◌, ◌-◌, ◌==◌, ◌&&◌, ◌||◌, nat_lt, nat_le, if◌then◌else◌, Bool, true, false, not}
 use Rattle.std.specs.Prelude.{List, [], ◌∷◌, length, Option, Some, None, fold, codes}
 use Rattle.std.specs.Char.{is_ascii_digit}

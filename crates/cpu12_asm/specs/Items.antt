@@ -1,4 +1,5 @@
 -- Where items put their bytes, and which of them can't be put.
+-- Beside the promise.
 use Rattle.std.specs.Prelude.{◌≡◌, ℕ, ◌+◌, ◌^◌, ◌<◌, ◌≤◌, List, [], ◌∷◌, ◌++◌, length, IsSome}
 use Rattle.cpu12_isa.specs.Code.{encode_of}
 use Rattle.cpu12_asm.specs.declared.items.AsmFault.{AsmFault}

@@ -1,4 +1,5 @@
 -- What holds of every source.
+-- Beside the promise.
 use Rattle.std.specs.Prelude.{ℕ, ◌≡◌, List, Ok, Err}
 use Rattle.cpu12_asm.specs.declared.items.AsmFault.{AsmFault}
 use Rattle.cpu12_asm.specs.Giving.{Given}

@@ -1,4 +1,5 @@
 -- What is left of a text behind a piece or a line.
+-- Beside the promise.
 use Rattle.std.specs.Prelude.{ℕ, ◌+◌, List, [], length, Option, Some, None}
 use Rattle.std.specs.Borrow.{Bor}
 use Rattle.cpu12_asm.specs.Lines.{pieces, lines_of}

@@ -1,4 +1,5 @@
 -- Lines of assembler source, in capitals, and their words.
+-- Beside the promise.
 use Rattle.std.specs.Prelude.{ℕ, ◌==◌, ◌||◌, Bool, not, List, [], ◌∷◌, length, take, drop, take_while}
 use Rattle.std.specs.List.{slice_split}
 use Rattle.std.specs.Str.Lines.{strip_carriage_return}

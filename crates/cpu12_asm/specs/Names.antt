@@ -1,4 +1,5 @@
 -- The values of names.
+-- Beside the promise.
 use Rattle.std.specs.Prelude.{ℕ, List, Option}
 use Rattle.std.specs.BTreeMap.{BTreeMap, get_by}
 use Rattle.std.specs.Borrow.{Bor}

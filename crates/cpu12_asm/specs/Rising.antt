@@ -1,4 +1,5 @@
 -- Items that never go back to a lower place, part by part.
+-- Beside the promise.
 use Rattle.std.specs.Prelude.{ℕ, ◌+◌, ◌^◌, ◌≤◌, List, ◌∷◌, ◌++◌, length}
 use Rattle.cpu12_asm.specs.declared.items.Item.{Item}
 use Rattle.cpu12_asm.specs.Items.{item_bytes, place_after, place_behind, IsRisingFrom}

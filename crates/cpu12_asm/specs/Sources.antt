@@ -1,4 +1,5 @@
 -- What a source means: the values of its names, and then its bytes.
+-- Beside the promise.
 use Rattle.std.specs.Prelude.{ℕ, ◌≡◌, List, [], Option, None, Result, Ok, Err}
 use Rattle.std.specs.Str.{str_to_ascii_uppercase}
 use Rattle.cpu12_asm.specs.declared.faults.LineFault.{LineFault}

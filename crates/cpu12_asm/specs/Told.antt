@@ -1,4 +1,5 @@
 -- A statement as the code holds it.
+-- Beside the promise.
 use Rattle.std.specs.Prelude.{Option, Some, None}
 use Rattle.cpu12_asm.specs.declared.statements.Statement as held
 use Rattle.cpu12_asm.specs.Statements.{Statement}

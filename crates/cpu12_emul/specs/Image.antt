@@ -1,4 +1,5 @@
 -- The memory of an image.
+-- Reached by the promise.
 use Rattle.std.specs.Prelude.{◌≡◌, ℕ, zero, suc, ◌<◌, Option, Some, None, List, [], ◌∷◌, ◌++◌, length, slice_index}
 use Rattle.cpu12_asm.specs.Bytes.{byte_at}
 

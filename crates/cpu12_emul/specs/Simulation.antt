@@ -1,4 +1,5 @@
 -- When a state of a run under interrupts simulates the state of the run without.
+-- Beside the promise.
 use Rattle.std.specs.Prelude.{◌≡◌, ℕ, ◌+◌, ◌^◌, ◌<◌, ◌≤◌, ◌⊎◌, Bool, true, false, Ok, List, [], ◌∷◌, ◌++◌, length}
 use Rattle.std.specs.Prelude.{slice_index}
 use Rattle.cpu12_isa.specs.declared.instr.Regs.{Regs}

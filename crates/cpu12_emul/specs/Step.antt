@@ -1,4 +1,5 @@
 -- One step of the machine: a plain instruction, or one part of REV, REVW or WAV.
+-- Reached by the promise.
 use Rattle.std.specs.Prelude.{ℕ, Bool, true, false, Result, Ok, Err, Option, List, slice_index}
 use Rattle.cpu12_isa.specs.Memory.{word_of}
 use Rattle.cpu12_isa.specs.declared.instr.Regs.{Regs}

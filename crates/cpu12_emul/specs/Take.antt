@@ -1,4 +1,5 @@
 -- An interrupt that is taken.
+-- Reached by the promise.
 use Rattle.std.specs.Prelude.{ℕ, Bool, true, not, List, [], ◌∷◌, ◌++◌}
 use Rattle.cpu12_isa.specs.declared.instr.Write.{Write}
 use Rattle.cpu12_isa.specs.Act.{write_all}

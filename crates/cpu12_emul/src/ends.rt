@@ -1,4 +1,4 @@
-// What calls of the machine answer.
+//! What calls of the machine answer.
 ghost use Rattle.std.specs.Prelude.{◌≡◌};
 ghost use Rattle.cpu12_emul.specs.Step.{is_part};
 

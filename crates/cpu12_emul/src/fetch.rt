@@ -1,4 +1,4 @@
-// The two instructions that go by lists, found by their bytes alone.
+//! The two instructions that go by lists, found by their bytes alone.
 ghost use Rattle.std.specs.Prelude.{◌≡◌, ◌==◌, ◌&&◌, true, Ok, slice_index};
 ghost use Rattle.cpu12_isa.specs.declared.instr.Instr.TheVariants.{Rev, Revw};
 ghost use Rattle.cpu12_isa.specs.Memory.{plus};

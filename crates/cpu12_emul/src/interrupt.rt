@@ -1,4 +1,4 @@
-// Interrupts.
+//! Interrupts.
 ghost use Rattle.std.specs.Prelude.{ℕ, ◌≡◌, ◌≤◌, ◌++◌, IsTrue};
 ghost use Rattle.arrayvec.specs.ArrayVec.{array_vec_len};
 ghost use Rattle.cpu12_isa.specs.Act.{write_all};

@@ -1,4 +1,4 @@
-// Laws of the machine.
+//! Laws of the machine.
 ghost use Rattle.cpu12_isa.specs.declared.instr.Instr.TheVariants.{Rev, Revw, Wav};
 ghost use Rattle.cpu12_parts.specs.Cuts.{rev, revw, wav};
 ghost use Rattle.cpu12_emul.specs.Fits.{StepFits};

@@ -1,4 +1,4 @@
-// A machine from an image.
+//! A machine from an image.
 ghost use Rattle.std.specs.Prelude.{ℕ, ◌≡◌, IfOk};
 ghost use Rattle.cpu12_isa.specs.Watching.{nothing_noted};
 ghost use Rattle.cpu12_emul.specs.Image.{image_memory};

@@ -1,4 +1,4 @@
-// The machine.
+//! The machine.
 ghost use Rattle.std.specs.Prelude.{ℕ, ◌≡◌, ◌⊎◌, MatchResult, IfErr, Ok, Err, length, slice_index, slice_set};
 ghost use Rattle.cpu12_isa.specs.Act.{outcome, write_all};
 ghost use Rattle.cpu12_isa.specs.Code.{decode_at};

@@ -1,4 +1,4 @@
-// Many parts of REV or REVW at once.
+//! Many parts of REV or REVW at once.
 ghost use Rattle.std.specs.Prelude.{◌≡◌, ◌≢◌, ◌≤◌, true};
 ghost use Rattle.cpu12_isa.specs.Memory.{plus};
 ghost use Rattle.cpu12_parts.specs.Laws.{IsOff, state_of};

@@ -1,4 +1,4 @@
-// Runs to a branch to itself.
+//! Runs to a branch to itself.
 ghost use Rattle.std.specs.Prelude.{ℕ, ◌≡◌};
 ghost use Rattle.cpu12_emul.specs.Run.{is_at_rest, EndsRun};
 

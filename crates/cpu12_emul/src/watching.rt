@@ -1,4 +1,4 @@
-// Machines that tell whether watched bytes have changed.
+//! Machines that tell whether watched bytes have changed.
 ghost use Rattle.std.specs.Prelude.{ℕ, ◌≡◌, Some, None, slice_index, slice_set};
 ghost use Rattle.cpu12_isa.specs.Watching.{noted_again, any_changed};
 

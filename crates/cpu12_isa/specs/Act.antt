@@ -1,4 +1,5 @@
 -- What a step of the machine reads, and what comes of it.
+-- Reached by the promise.
 use Rattle.std.specs.Prelude.{ℕ, List, [], ◌∷◌, slice_index, slice_set}
 
 -- Bytes are read one after the other, each at an address that may hang on those before, and then comes a value.

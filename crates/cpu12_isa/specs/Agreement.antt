@@ -1,4 +1,5 @@
 -- Memories that agree but for hidden bytes, and what an act does on them.
+-- Beside the promise.
 use Rattle.std.specs.Prelude.{◌≡◌, ℕ, Bool, false, List, [], ◌∷◌, length, slice_index, ◌⊎◌}
 use Rattle.cpu12_isa.specs.Act.{Act, outcome, read_by, write_all}
 

@@ -1,4 +1,5 @@
 -- Instructions as bytes (CPU12 Reference Manual, appendix A).
+-- Reached by the promise.
 use Rattle.std.specs.Prelude.{◌≡◌, ◌+◌, ◌==◌, ◌++◌, ℕ, Bool, true, false, if◌then◌else◌, Result, Ok, Err, List, [], ◌∷◌}
 use Rattle.std.specs.Prelude.{length, slice_index}
 use Rattle.cpu12_isa.specs.declared.instr.Instr.{Instr}

@@ -1,4 +1,5 @@
 -- Registers and writes of the sizes that they have.
+-- Beside the promise.
 use Rattle.std.specs.Prelude.{◌≡◌, Ok, ℕ, ◌^◌, ◌<◌, ◌≤◌, List, [], ◌∷◌, length, All, slice_index}
 use Rattle.cpu12_isa.specs.declared.instr.Regs.{Regs}
 use Rattle.cpu12_isa.specs.declared.instr.Instr.{Instr}

@@ -1,4 +1,5 @@
 -- The condition codes (CPU12 Reference Manual, section 2.2.5, and the instruction pages of section 6).
+-- Reached by the promise.
 use Rattle.std.specs.Prelude.{◌+◌, ◌-◌, ◌/◌, ◌%◌, ◌^◌, ◌==◌, nat_lt, nat_le, ◌&&◌, ◌||◌, ℕ, Bool, true, false}
 use Rattle.std.specs.Prelude.{if◌then◌else◌, bit_and, bit_or}
 use Rattle.cpu12_isa.specs.declared.instr.Ccr.{Ccr}

@@ -1,4 +1,5 @@
 -- What an interrupt pushes of the registers comes back, and what it hides of the stack.
+-- Beside the promise.
 use Rattle.std.specs.Prelude.{◌≡◌, ℕ, ◌+◌, ◌-◌, ◌≤◌, Bool, true, List, length}
 use Rattle.cpu12_isa.specs.declared.instr.Regs.{Regs}
 use Rattle.cpu12_isa.specs.Act.{write_all}

@@ -1,4 +1,5 @@
 -- What an instruction does (CPU12 Reference Manual, section 6), but for REV, REVW and WAV, which are done in parts.
+-- Reached by the promise.
 use Rattle.std.specs.Prelude.{◌+◌, ◌%◌, ◌^◌, ◌==◌, not, ℕ, Bool, true, false, bit_and, bit_or, List, [], ◌∷◌}
 use Rattle.cpu12_isa.specs.declared.instr.Regs.{Regs}
 use Rattle.cpu12_isa.specs.declared.instr.Instr.{Instr}

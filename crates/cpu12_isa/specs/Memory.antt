@@ -1,4 +1,5 @@
 -- A memory is the list of its 65536 bytes. Addresses go over its end to its start.
+-- Reached by the promise.
 use Rattle.std.specs.Prelude.{ℕ, suc, zero, ◌+◌, ◌*◌, ◌%◌, ◌/◌, ◌^◌, List, [], ◌∷◌, replicate, slice_index}
 
 -- n zeros. It does not unfold, since at a numeral as 65536 a copy would be made of each

@@ -1,4 +1,5 @@
 -- The names of operations as they are written.
+-- Beside the promise.
 use Rattle.std.specs.Prelude.{ℕ, List, codes}
 use Rattle.cpu12_isa.specs.declared.mnemonic.Mnemonic.{Mnemonic}
 use Rattle.cpu12_isa.specs.declared.mnemonic.Mnemonic.TheVariants.{Ldaa, Ldab, Ldx, Ldy, Lds, Staa, Stab, Clr, Coma}

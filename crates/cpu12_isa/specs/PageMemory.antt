@@ -1,4 +1,5 @@
 -- What a memory of pages tells.
+-- Beside the promise.
 use Rattle.std.specs.Prelude.{Bool, List}
 use Rattle.cpu12_isa.specs.Pages.{given_in}
 use Rattle.cpu12_isa.specs.declared.pages.PageMem.{PageMem}

@@ -1,4 +1,5 @@
 -- Memory as pages of 256 bytes, each with a place in a pool.
+-- Beside the promise.
 use Rattle.std.specs.Prelude.{◌≡◌, ◌≢◌, ◌<◌, ◌≤◌, ℕ, suc, zero, ◌+◌, ◌*◌, ◌%◌, ◌/◌, Bool, true, false, not, ◌&&◌, ◌==◌}
 use Rattle.std.specs.Prelude.{List, [], ◌∷◌, ◌++◌, length, map, count_by, replicate, slice_index, slice_set}
 use Rattle.std.specs.Prelude.{if◌then◌else◌}

@@ -1,4 +1,5 @@
 -- The regions of memory that interrupts use, and what they may change.
+-- Reached by the promise.
 use Rattle.std.specs.Prelude.{◌≡◌, ℕ, ◌+◌, ◌<◌, ◌≤◌, ◌⊎◌, ◌&&◌, ◌||◌, nat_le, nat_lt, Bool, true, List, slice_index}
 use Rattle.cpu12_isa.specs.Memory.{word_of}
 

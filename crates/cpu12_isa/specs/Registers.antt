@@ -1,4 +1,5 @@
 -- The registers after an instruction of n bytes, by groups of instructions.
+-- Reached by the promise.
 use Rattle.std.specs.Prelude.{◌+◌, ◌-◌, ◌*◌, ◌/◌, ◌%◌, ◌^◌, ◌==◌, nat_lt, nat_le, ◌||◌, min, ℕ, Bool, true, false}
 use Rattle.std.specs.Prelude.{if◌then◌else◌, bit_and, bit_or, List, [], ◌∷◌, slice_index}
 use Rattle.cpu12_isa.specs.declared.instr.Regs.{Regs}

@@ -1,4 +1,5 @@
 -- What a memory notes: for each address the byte that it is compared with, where it is watched.
+-- Beside the promise.
 use Rattle.std.specs.Prelude.{◌≡◌, ◌==◌, ◌||◌, ℕ, Bool, true, false, not, Option, Some, None, option_map, List, [], ◌∷◌}
 use Rattle.std.specs.Prelude.{length, replicate, slice_index, slice_index_or}
 use Rattle.std.specs.List.{list_any}

@@ -1,4 +1,4 @@
-// The condition codes.
+//! The condition codes.
 ghost use Rattle.std.specs.Prelude.{ℕ, ◌≡◌, ◌+◌, ◌-◌, ◌*◌, ◌/◌, ◌%◌, ◌^◌, ◌<◌, ◌≤◌};
 ghost use Rattle.cpu12_isa.specs.Flags.{has, put, opened, tested, tested_word, added, sum_with_carry, added_with_carry};
 ghost use Rattle.cpu12_isa.specs.Flags.{subtracted, subtracted_word, pulled_flags};

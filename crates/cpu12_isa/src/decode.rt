@@ -1,4 +1,4 @@
-// Instructions read from memory.
+//! Instructions read from memory.
 ghost use Rattle.std.specs.Prelude.{ℕ, ◌≡◌, ◌+◌, ◌*◌, ◌/◌, ◌%◌, ◌^◌, ◌<◌, IfOk, IfErr, MatchResult, length};
 ghost use Rattle.std.specs.Prelude.{slice_index};
 ghost use Rattle.cpu12_isa.specs.Memory.{plus, word_of, high_of, low_of};

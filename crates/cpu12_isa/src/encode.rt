@@ -1,4 +1,4 @@
-// Instructions as bytes.
+//! Instructions as bytes.
 ghost use Rattle.std.specs.Prelude.{◌≡◌, ◌≤◌, ◌+◌, [], ◌∷◌, ◌++◌};
 ghost use Rattle.arrayvec.specs.ArrayVec.{array_vec_len};
 ghost use Rattle.cpu12_isa.specs.Memory.{high_of, low_of};

@@ -1,4 +1,4 @@
-// Doing an instruction.
+//! Doing an instruction.
 ghost use Rattle.std.specs.Prelude.{ℕ, ◌≡◌, ◌+◌, ◌-◌, ◌*◌, ◌/◌, ◌%◌, ◌^◌, ◌<◌, ◌≤◌, IsTrue};
 ghost use Rattle.cpu12_isa.specs.Act.{write_all};
 ghost use Rattle.cpu12_isa.specs.Meaning.{effect, is_plain};

@@ -1,4 +1,4 @@
-// The table of instruction forms.
+//! The table of instruction forms.
 ghost use Rattle.std.specs.Prelude.{◌≡◌};
 ghost use Rattle.cpu12_isa.specs.Forms.{form_of, every};
 

@@ -1,4 +1,4 @@
-// Registers and instructions.
+//! Registers and instructions.
 
 /// The condition codes `S X H I N Z V C`, from bit 7 to bit 0 (CPU12 Reference Manual, section 2.2.5).
 #[derive(Clone, Copy, Debug, PartialEq, Eq, Drop)]

@@ -1,4 +1,4 @@
-// Laws of instructions and memories.
+//! Laws of instructions and memories.
 ghost use Rattle.cpu12_isa.specs.Meaning.{Effect};
 ghost use Rattle.cpu12_isa.specs.Code.{DecodedHasOpcode};
 ghost use Rattle.cpu12_isa.specs.Fits.{StaysFit, BytesStay, DecodedFits, EncodedIsShort, EncodedAreBytes};

@@ -1,4 +1,4 @@
-// Memory, and words in it.
+//! Memory, and words in it.
 ghost use Rattle.std.specs.Prelude.{ℕ, ◌≡◌, List, Option, length, slice_index, slice_set, IfOk};
 ghost use Rattle.cpu12_isa.specs.Memory.{zeros, word_of, high_of, low_of};
 ghost use Rattle.cpu12_isa.specs.Regions.{is_free};

@@ -1,4 +1,4 @@
-// The names of operations.
+//! The names of operations.
 ghost use Rattle.std.specs.Prelude.{◌≡◌};
 ghost use Rattle.cpu12_isa.specs.Mnemonics.{text_of};
 

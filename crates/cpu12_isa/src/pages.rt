@@ -1,4 +1,4 @@
-// Memory of which only the pages that are written to take bytes of their own.
+//! Memory of which only the pages that are written to take bytes of their own.
 ghost use Rattle.std.specs.Prelude.{ℕ, ◌≡◌, ◌≢◌, ◌==◌, ◌/◌, ◌<◌, true, false, if◌then◌else◌, count_by, length};
 ghost use Rattle.std.specs.Prelude.{replicate, slice_index, slice_set, IfOk};
 ghost use Rattle.cpu12_isa.specs.Pages.{ArePages, bytes_in, given_in, given_with};

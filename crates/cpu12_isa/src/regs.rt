@@ -1,4 +1,4 @@
-// What groups of instructions do to the registers. `n` is the number of the instruction's bytes.
+//! What groups of instructions do to the registers. `n` is the number of the instruction's bytes.
 ghost use Rattle.std.specs.Prelude.{ℕ, ◌≡◌, ◌+◌, ◌*◌, ◌/◌, ◌%◌, ◌^◌, ◌<◌, ◌≤◌, ◌==◌, if◌then◌else◌};
 ghost use Rattle.cpu12_isa.specs.Memory.{plus};
 ghost use Rattle.cpu12_isa.specs.Registers.{passed, stored, loaded_a, loaded_b, loaded_x, loaded_y, loaded_sp};

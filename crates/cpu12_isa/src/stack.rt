@@ -1,4 +1,4 @@
-// Bytes on the stack.
+//! Bytes on the stack.
 ghost use Rattle.std.specs.Prelude.{ℕ, ◌≡◌, slice_index};
 ghost use Rattle.cpu12_isa.specs.Act.{write_all};
 ghost use Rattle.cpu12_isa.specs.Memory.{plus, word_of, placed, from, bytes_at};

@@ -1,4 +1,4 @@
-// Memory that tells whether watched bytes have changed.
+//! Memory that tells whether watched bytes have changed.
 ghost use Rattle.std.specs.Prelude.{ℕ, ◌≡◌, ◌<◌, List, Option, Some, None, true, length, option_map, slice_index};
 ghost use Rattle.std.specs.Prelude.{slice_index_or, slice_set, IfOk};
 ghost use Rattle.arrayvec.specs.ArrayVec.{array_vec_len};

@@ -1,4 +1,5 @@
 -- Instructions in parts, and the boundaries between two parts where an interrupt may cut in.
+-- Reached by the promise.
 use Rattle.std.specs.Prelude.{◌≡◌, ℕ, Bool, true, false, List, [], ◌∷◌}
 use Rattle.cpu12_isa.specs.declared.instr.Regs.{Regs}
 use Rattle.cpu12_isa.specs.Act.{Act, outcome}

@@ -1,4 +1,5 @@
 -- Whole instructions one after another.
+-- Beside the promise.
 use Rattle.std.specs.Prelude.{◌≡◌, ℕ, suc, ◌+◌, Bool, true, false, List, [], ◌∷◌}
 use Rattle.cpu12_parts.specs.State.{State}
 use Rattle.cpu12_parts.specs.Whole.{IsWholeStep}

@@ -1,4 +1,5 @@
 -- Parts leave registers, sums and writes of the sizes that they have.
+-- Beside the promise.
 use Rattle.std.specs.Prelude.{ℕ, ◌^◌, ◌<◌}
 use Rattle.cpu12_isa.specs.Fits.{FitsRegs, FitsWrites, AreBytes}
 use Rattle.cpu12_parts.specs.declared.temps.Temps.{Temps}

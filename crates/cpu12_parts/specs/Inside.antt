@@ -1,4 +1,5 @@
 -- What stands between two parts of an instruction, where an interrupt may come, and what is pushed there.
+-- Beside the promise.
 use Rattle.std.specs.Prelude.{◌≡◌, ℕ, [], List}
 use Rattle.cpu12_isa.specs.declared.instr.Regs.{Regs}
 use Rattle.cpu12_isa.specs.Act.{write_all}

@@ -1,4 +1,5 @@
 -- The laws of instructions in parts.
+-- Beside the promise.
 use Rattle.std.specs.Prelude.{◌≡◌, ℕ, zero, suc, ◌+◌, ◌-◌, ◌%◌, ◌^◌, ◌<◌, ◌⊎◌, Bool, true, nat_lt, List, [], ◌∷◌}
 use Rattle.std.specs.Prelude.{length}
 use Rattle.cpu12_isa.specs.declared.instr.Regs.{Regs}

@@ -1,4 +1,5 @@
 -- What an instruction in parts owes, for every kind of it.
+-- Beside the promise.
 use Rattle.std.specs.Prelude.{◌≡◌, ℕ, suc, ◌-◌, ◌^◌, ◌<◌, Bool, List, length}
 use Rattle.cpu12_isa.specs.Agreement.{AllShown}
 use Rattle.cpu12_parts.specs.State.{State}

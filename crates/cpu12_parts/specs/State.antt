@@ -1,4 +1,5 @@
 -- States of the machine, and what a part of an instruction leaves.
+-- Reached by the promise.
 use Rattle.std.specs.Prelude.{ℕ, List}
 use Rattle.cpu12_isa.specs.declared.instr.Regs.{Regs}
 use Rattle.cpu12_isa.specs.Act.{write_all}

@@ -1,4 +1,4 @@
-// Laws of the parts.
+//! Laws of the parts.
 ghost use Rattle.cpu12_parts.specs.Cuts.{kind_by, rev, revw, wav};
 ghost use Rattle.cpu12_parts.specs.Fits.{PartFits};
 ghost use Rattle.cpu12_parts.specs.Inside.{own_address, second_byte, GoesOnAt, LeavesSums, WritesNothing};

@@ -1,4 +1,4 @@
-// REV and REVW: rule evaluation (CPU12 Reference Manual, section 9.4).
+//! REV and REVW: rule evaluation (CPU12 Reference Manual, section 9.4).
 ghost use Rattle.std.specs.Prelude.{ℕ, ◌≡◌, ◌+◌, ◌*◌, ◌/◌, ◌^◌, List, slice_index};
 ghost use Rattle.cpu12_isa.specs.Act.{outcome, write_all};
 ghost use Rattle.cpu12_parts.specs.Parts.{rev_act, revw_act, weighted, met};

@@ -1,4 +1,4 @@
-// What an instruction in parts keeps between them.
+//! What an instruction in parts keeps between them.
 ghost use Rattle.std.specs.Prelude.{ℕ, ◌≡◌, List};
 ghost use Rattle.cpu12_isa.specs.declared.instr.Regs.{Regs};
 ghost use Rattle.cpu12_isa.specs.Act.{Act, outcome, write_all};

@@ -1,4 +1,4 @@
-// WAV: the weighted average (CPU12 Reference Manual, section 9.5).
+//! WAV: the weighted average (CPU12 Reference Manual, section 9.5).
 ghost use Rattle.std.specs.Prelude.{ℕ, ◌≡◌, ◌<◌, ◌/◌, ◌%◌, ◌^◌};
 ghost use Rattle.cpu12_isa.specs.Memory.{plus};
 ghost use Rattle.cpu12_parts.specs.Parts.{wav_act, wav_end};

@@ -1,4 +1,5 @@
 -- A table that says of each address whether it is in a set.
+-- Beside the promise.
 use Rattle.std.specs.Prelude.{◌≡◌, ℕ, Bool, false, List, length, slice_index_or}
 use Rattle.std.specs.BTreeSet.{BTreeSet, contains_by}
 use Rattle.std.specs.Ordering.{nat_cmp}

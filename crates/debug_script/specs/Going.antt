@@ -1,4 +1,5 @@
 -- How far a session has gone.
+-- Beside the promise.
 use Rattle.std.specs.Prelude.{◌≡◌, ◌≤◌, List, [], ◌∷◌}
 use Rattle.run_forms.specs.Outlooks.{from_here}
 use Rattle.run_forms.specs.Positions.{Position}

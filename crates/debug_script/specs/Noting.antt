@@ -1,4 +1,5 @@
 -- What a session notes: the bytes that stand at the watched addresses.
+-- Beside the promise.
 use Rattle.std.specs.Prelude.{◌≡◌, ℕ, if◌then◌else◌, Option, Some, None, List, length, slice_index, slice_index_or}
 use Rattle.std.specs.BTreeSet.{BTreeSet, contains_by}
 use Rattle.std.specs.Ordering.{nat_cmp}

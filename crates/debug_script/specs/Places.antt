@@ -1,4 +1,5 @@
 -- Where a run stands among its positions: what is left of them from there on, that one first.
+-- Beside the promise.
 use Rattle.std.specs.Prelude.{◌+◌, ◌-◌, ℕ, Bool, min, List, [], ◌∷◌, drop, length}
 use Rattle.std.specs.List.{position_or_len}
 

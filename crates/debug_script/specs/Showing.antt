@@ -1,4 +1,5 @@
 -- What a script shows, over the positions of a run.
+-- Beside the promise.
 use Rattle.std.specs.Prelude.{◌==◌, ◌||◌, ℕ, Bool, not, List, [], ◌∷◌, ◌++◌, slice_index}
 use Rattle.std.specs.BTreeMap.{is_at}
 use Rattle.std.specs.BTreeSet.{BTreeSet, contains_by, insert_key}

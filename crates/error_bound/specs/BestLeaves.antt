@@ -1,4 +1,5 @@
 -- What the best leaf of a box says of every leaf there.
+-- Beside the promise.
 use Rattle.std.specs.Prelude.{◌≡◌, ℕ, ◌≤◌, List, length, Option, Some, None}
 use Rattle.fuzzy_meaning.specs.declared.block.Block.{Block}
 use Rattle.fuzzy_meaning.specs.declared.block.Output.{Output}

@@ -1,4 +1,5 @@
 -- A leaf's Bound, in millionths of the output's range.
+-- Beside the promise.
 use Rattle.std.specs.Prelude.{◌≡◌, ℕ, ◌+◌, ◌*◌, ◌==◌, min, max, List, [], ◌∷◌, if◌then◌else◌}
 use Rattle.std.specs.Option.{option_map_or}
 use Rattle.fz_num.specs.declared.dec.Dec.{Dec}

@@ -1,4 +1,5 @@
 -- A term's eps is the greatest gap at the low and at the high of each cell.
+-- Beside the promise.
 use Rattle.std.specs.Prelude.{ℕ, zero, suc, ◌+◌, ◌-◌, ◌*◌, ◌==◌, max, List}
 use Rattle.fz_num.specs.Fractions.{over, gap}
 use Rattle.fz_num.specs.Decimals.{distance}

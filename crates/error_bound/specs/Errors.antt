@@ -1,4 +1,5 @@
 -- How far grades may be from degrees over a box, in parts of 10^9.
+-- Beside the promise.
 use Rattle.std.specs.Prelude.{◌≡◌, ℕ, ◌+◌, ◌-◌, ◌*◌, ◌≤◌, ◌==◌, max, List, [], ◌∷◌, if◌then◌else◌, slice_get, Some}
 use Rattle.fz_num.specs.Fractions.{Fraction, IsNear, up_div}
 use Rattle.fz_num.specs.Decimals.{distance}

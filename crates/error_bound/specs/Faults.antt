@@ -1,4 +1,5 @@
 -- Why a leaf does not hold on a box.
+-- Beside the promise.
 use Rattle.std.specs.Prelude.{◌≡◌, ℕ, ◌*◌, ◌/◌, ◌<◌, ◌≤◌, List, Some, IsTrue}
 use Rattle.fz_num.specs.Fractions.{Fraction, over, AtMost, IsBelow, up_div}
 use Rattle.fuzzy_meaning.specs.declared.block.Block.{Block}

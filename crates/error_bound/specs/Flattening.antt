@@ -1,5 +1,6 @@
 -- Conditions in which NOT stands at literals alone, no AND right in an AND and no OR right in an OR. They say the same
 -- over each box.
+-- Beside the promise.
 use Rattle.std.specs.Prelude.{◌≡◌, ℕ, Bool, false, List, if◌then◌else◌}
 use Rattle.fz_num.specs.Fractions.{Fraction, IsProper, AtMost}
 use Rattle.fuzzy_meaning.specs.declared.block.Block.{Block}

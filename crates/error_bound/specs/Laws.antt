@@ -1,4 +1,5 @@
 -- Laws of boxes and their errors.
+-- Beside the promise.
 use Rattle.std.specs.Prelude.{length, ◌≡◌, ℕ, ◌≤◌, ◌==◌, List, slice_get, Some}
 use Rattle.fz_num.specs.Decimals.{distance}
 use Rattle.fuzzy_meaning.specs.declared.block.Block.{Block}

@@ -1,4 +1,5 @@
 -- Where a leaf's pair for an output holds.
+-- Beside the promise.
 use Rattle.std.specs.Prelude.{◌≡◌, ℕ, ◌-◌, ◌≤◌, List, All, Option, Some, IsSomeAnd, Bool, IsTrue, slice_get, ◌==◌}
 use Rattle.std.specs.List.{list_any}
 use Rattle.fz_num.specs.Fractions.{over, AtMost}

@@ -1,4 +1,5 @@
 -- What the masses of an output's terms lie between over a box, and the answers that this allows.
+-- Beside the promise.
 use Rattle.std.specs.Prelude.{◌≡◌, ℕ, ◌+◌, ◌*◌, ◌<◌, ◌≤◌, List, [], ◌∷◌, Some, None}
 use Rattle.std.specs.Option.{option_map_or}
 use Rattle.fz_num.specs.declared.dec.Dec.{Dec}

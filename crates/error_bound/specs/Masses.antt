@@ -1,4 +1,5 @@
 -- What the code knows of the masses of an output's terms on a box.
+-- Beside the promise.
 use Rattle.std.specs.Prelude.{◌≡◌, ℕ, ◌+◌, ◌-◌, ◌*◌, ◌<◌, ◌≤◌, ◌==◌, List, if◌then◌else◌, slice_index}
 use Rattle.fz_num.specs.declared.dec.Dec.{Dec}
 use Rattle.fz_num.specs.Decimals.{distance}

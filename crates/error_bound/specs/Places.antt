@@ -1,4 +1,5 @@
 -- The least and the greatest degree of a term over a part of its input's range.
+-- Beside the promise.
 use Rattle.std.specs.Prelude.{ℕ, ◌-◌, ◌*◌, if◌then◌else◌, nat_le, nat_lt, Option, Some, None, Bool, true, false}
 use Rattle.fz_num.specs.Fractions.{Fraction, over, lesser, one, none, IsProper, AtMost}
 use Rattle.fuzzy_meaning.specs.Places.{Points, rise_at, fall_at, degree_at}

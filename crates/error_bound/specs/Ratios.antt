@@ -1,4 +1,5 @@
 -- What the code's fractions stand for.
+-- Beside the promise.
 use Rattle.std.specs.Prelude.{ℕ, ◌≤◌}
 use Rattle.fz_num.specs.Fractions.{Fraction, over}
 use Rattle.error_bound.specs.declared.ratio.Ratio.{Ratio}

@@ -1,4 +1,5 @@
 -- What the code's reaches stand for.
+-- Beside the promise.
 use Rattle.std.specs.Prelude.{◌≡◌, ℕ, ◌≤◌, Bool, List, length, IfSome, Some, slice_get, slice_index}
 use Rattle.fz_num.specs.Decimals.{distance}
 use Rattle.fz_num.specs.Fractions.{Fraction}

@@ -1,4 +1,5 @@
 -- From the least to the greatest truth of conditions, where spans of the literals are given.
+-- Beside the promise.
 use Rattle.std.specs.Prelude.{ℕ, ◌-◌, max, Bool, true, false}
 use Rattle.fz_num.specs.Fractions.{Fraction, one_minus}
 use Rattle.fuzzy_meaning.specs.Conditions.{Condition, Joins, evaluate, levels}

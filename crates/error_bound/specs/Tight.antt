@@ -1,4 +1,5 @@
 -- The tight Bound of a box for an output: it names no rule, and comes from how far the masses reach there.
+-- Beside the promise.
 use Rattle.std.specs.Prelude.{◌≡◌, ℕ, ◌+◌, ◌*◌, ◌/◌, ◌≤◌, ◌==◌, ◌&&◌, max, List, [], ◌∷◌, Bool, if◌then◌else◌}
 use Rattle.fz_num.specs.declared.dec.Dec.{Dec}
 use Rattle.fz_num.specs.Fractions.{up_div}

@@ -1,4 +1,5 @@
 -- What a box's tight Bound says of the answers there, and of other Bounds.
+-- Beside the promise.
 use Rattle.std.specs.Prelude.{◌≡◌, ℕ, ◌≤◌, List, length, Some, None}
 use Rattle.fz_num.specs.declared.dec.Dec.{Dec}
 use Rattle.fz_num.specs.Decimals.{distance}

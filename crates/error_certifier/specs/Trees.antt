@@ -1,4 +1,5 @@
 -- What a halving keeps while it makes its tree.
+-- Beside the promise.
 use Rattle.std.specs.Prelude.{◌≡◌, ◌⊎◌, ℕ, ◌+◌, ◌<◌, ◌≤◌, List, ◌++◌, length, All, Some, slice_get, slice_index}
 use Rattle.std.specs.List.{Any}
 use Rattle.fuzzy_meaning.specs.declared.block.Block.{Block}

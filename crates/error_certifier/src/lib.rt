@@ -3,8 +3,9 @@
 //!
 //! [`certify`] answers exactly the certificate of the halving, or exactly why it stops; [`certify16`]
 //! the same for answers of 16 bits, and [`certify_for`] for either kind of leaf and either width.
-//! The certificate is accepted with its claims as errors, each at most the target. Where a cell is above the target, no certificate of the block that is accepted
-//! has a smaller error for that output: then another target is to be asked for, or the rules changed.
+//! The certificate is accepted with its claims as errors, each at most the target. Where a cell is above
+//! the target, no certificate of the block that is accepted has a smaller error for that output: then another
+//! target is to be asked for, or the rules changed.
 #![tactic(auto)]
 
 mod boxes;

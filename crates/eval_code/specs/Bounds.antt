@@ -1,4 +1,5 @@
 -- How many instructions and steps a sample takes at most.
+-- Beside the promise.
 use Rattle.std.specs.Prelude.{ℕ, ◌+◌, ◌-◌, ◌*◌, ◌≤◌, length, sum_by, Option, Some, None}
 use Rattle.fz_num.specs.declared.dec.Dec.{Dec}
 use Rattle.fuzzy_meaning.specs.declared.block.Block.{Block}

@@ -1,4 +1,5 @@
 -- The code of EVAL, instruction by instruction.
+-- Beside the promise.
 use Rattle.std.specs.Prelude.{ℕ, ◌+◌, ◌-◌, List, [], ◌∷◌, ◌++◌, flat_map, length, take, replicate, sum_by, Option, Some}
 use Rattle.std.specs.Prelude.{None, option_map}
 use Rattle.fuzzy_meaning.specs.declared.block.Block.{Block}

@@ -1,4 +1,5 @@
 -- The memory map of a firmware that stands alone.
+-- Beside the promise.
 use Rattle.eval_code.specs.declared.memory_map.MemoryMap.{MemoryMap}
 
 abbrev pub main_map : MemoryMap

@@ -1,4 +1,5 @@
 -- What stands in memory: instructions where their bytes do, and what items place in that of their image.
+-- Beside the promise.
 use Rattle.std.specs.Prelude.{◌≡◌, ℕ, ◌+◌, ◌^◌, ◌<◌, Ok, List, ◌∷◌, ◌++◌, map, length, All, slice_index}
 use Rattle.cpu12_isa.specs.declared.instr.Instr.{Instr}
 use Rattle.cpu12_isa.specs.Code.{encode_of, decode_at, FitsOperands}

@@ -1,4 +1,5 @@
 -- Answers of a byte and of a word.
+-- Reached by the promise.
 use Rattle.std.specs.Prelude.{ℕ, Bool, true, false, List, [], ◌∷◌}
 use Rattle.fuzzy_meaning.specs.declared.block.Block.{Block}
 use Rattle.point_slope.specs.Bytes.{answer_in}

@@ -1,4 +1,5 @@
 -- What the builder of inputs keeps of a term's points. No public clause cites it.
+-- Beside the promise.
 use Rattle.std.specs.Prelude.{◌≡◌, List, option_map}
 use Rattle.std.specs.List.{filter, take_while}
 use Rattle.fcl_syntax.specs.declared.tree.Point.{Point}

@@ -1,5 +1,6 @@
 -- The course that a term's points spell: the straight lines between them, at a doubled abscissa the
 -- greatest degree, and beyond the first and the last point their degrees.
+-- Beside the promise.
 use Rattle.std.specs.Prelude.{◌≡◌, ℕ, ◌+◌, ◌*◌, cond, true, List, [], ◌∷◌, Option, Some, None, ℤ, ◌-ℤ◌, int_lt}
 use Rattle.std.specs.Prelude.{unsigned_abs}
 use Rattle.std.specs.List.{filter, list_any}

@@ -1,4 +1,5 @@
 -- The faults of a tree: each kind at all its places in the text's order, and the first of them.
+-- Reached by the promise.
 use Rattle.std.specs.Prelude.{ℕ, Bool, true, false, not, ◌&&◌, ◌||◌, nat_le, ◌≡◌, ◌≢◌, List, [], ◌∷◌, ◌++◌, drop}
 use Rattle.std.specs.Prelude.{length, map, Result, Ok, Err, Option, Some, None, is_none, slice_get, int_lt, pos}
 use Rattle.std.specs.List.{filter, flat_map, list_any}

@@ -1,4 +1,5 @@
 -- A loaded number is the token's number: the scale changes none of a text.
+-- Beside the promise.
 use Rattle.std.specs.Prelude.{◌≡◌, List, ℕ, All, neg_ℤ}
 use Rattle.fcl_syntax.specs.Annotations.{tokens_of}
 use Rattle.fcl_syntax.specs.Grammar.{TBlock, block_text}

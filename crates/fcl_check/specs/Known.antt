@@ -1,4 +1,5 @@
 -- What the maps of a tree's names hold. No public clause cites it.
+-- Beside the promise.
 use Rattle.std.specs.Prelude.{◌≡◌, ℕ, List}
 use Rattle.fcl_syntax.specs.declared.tree.Tree.{Tree}
 use Rattle.fcl_check.specs.ByLetters.{at_letters, variable_in, HoldsSections}

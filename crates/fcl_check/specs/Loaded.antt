@@ -1,4 +1,5 @@
 -- The block that a tree without faults spells.
+-- Reached by the promise.
 use Rattle.std.specs.Prelude.{◌≡◌, ℕ, cond, List, map, Option, Some, None, option_and_then, option_map, ℤ, pos, ◌+ℤ◌}
 use Rattle.std.specs.Ordering.{int_eq}
 use Rattle.std.specs.List.{AllZip, filter, take_while}

@@ -1,5 +1,6 @@
 -- The names of a tree, and what they stand for. Names that differ only in case are equal: their
 -- letters are read in the text in small letters.
+-- Reached by the promise.
 use Rattle.std.specs.Prelude.{if◌then◌else◌, ℕ, suc, Bool, true, false, List, ◌∷◌, drop, map, Option, Some, None}
 use Rattle.std.specs.Prelude.{option_map, option_and_then}
 use Rattle.std.specs.List.{filter_map, find, flat_map, position, take_while}

@@ -1,4 +1,5 @@
 -- The block of a tree, and of a text.
+-- Beside the promise.
 use Rattle.std.specs.Prelude.{◌≡◌, ℕ, List}
 use Rattle.fuzzy_meaning.specs.declared.block.Block.{Block}
 use Rattle.fcl_syntax.specs.declared.tree.FunctionBlock.{FunctionBlock}

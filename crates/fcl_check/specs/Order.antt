@@ -1,4 +1,5 @@
 -- The order of the places of faults.
+-- Beside the promise.
 use Rattle.std.specs.Prelude.{ℕ, List, length, All}
 use Rattle.std.specs.Str.{str_to_ascii_lowercase}
 use Rattle.fcl_syntax.specs.Offsets.{AscendWithin}

@@ -1,4 +1,5 @@
 -- Places in a text, and fronts and ends of lists.
+-- Reached by the promise.
 use Rattle.std.specs.Prelude.{ℕ, Bool, cond, List, [], ◌∷◌, ◌++◌, Option, Some, None}
 use Rattle.std.specs.Option.{option_or}
 

@@ -1,5 +1,6 @@
 -- The numbers of a section, and the places of the faults that one section has alone. All numbers are in
 -- 1/10000.
+-- Reached by the promise.
 use Rattle.std.specs.Prelude.{ℕ, Bool, false, not, ◌&&◌, ◌||◌, List, [], ◌∷◌, drop, map, Option, Some, None, option_map}
 use Rattle.std.specs.Prelude.{is_none, ℤ, pos, neg_ℤ, int_lt}
 use Rattle.std.specs.Int.{int_min, int_max}

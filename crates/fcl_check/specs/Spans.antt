@@ -1,4 +1,5 @@
 -- What a span of the code stands for. No public clause cites it.
+-- Beside the promise.
 use Rattle.fcl_check.specs.declared.numbers.Span.{Span}
 use Rattle.fcl_check.specs.Sections.{Ends}
 

@@ -1,4 +1,5 @@
 -- What the checks of a tree keep on their way. No public clause cites it.
+-- Beside the promise.
 use Rattle.std.proofs.Common.{zero}
 use Rattle.std.specs.Prelude.{ℕ, suc, Bool, false, List, Option, Some, None, option_map, ℤ}
 use Rattle.std.specs.List.{list_all}

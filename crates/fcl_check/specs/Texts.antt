@@ -1,4 +1,5 @@
 -- The block of a text, or the load fault that it has instead.
+-- Reached by the promise.
 use Rattle.std.specs.Prelude.{◌≡◌, ℕ, ◌≤◌, ◌⊎◌, List, length, Some, None}
 use Rattle.std.specs.Str.{str_to_ascii_lowercase}
 use Rattle.fuzzy_meaning.specs.Blocks.{IsValid}

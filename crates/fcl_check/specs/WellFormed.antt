@@ -1,4 +1,5 @@
 -- What the sections of a tree without load faults have, and what its rules name. No public clause cites it.
+-- Beside the promise.
 use Rattle.std.specs.Prelude.{◌≡◌, ℕ, true, List, [], Option, Some, option_and_then}
 use Rattle.std.specs.List.{AllByRecursion}
 use Rattle.fcl_syntax.specs.declared.tree.Conclusion.{Conclusion}

@@ -1,4 +1,5 @@
 -- Texts whose tokens are annotated: where something is refused, the annotation says what.
+-- Reached by the promise.
 use Rattle.std.specs.Prelude.{◌≡◌, ℕ, List, [], ◌∷◌, Option, Some, None, ◌⊎◌}
 use Rattle.std.proofs.Common.{inl, inr}
 use Rattle.fcl_syntax.specs.declared.fault.Kind.{Kind}

@@ -1,5 +1,6 @@
 -- The conditions of the grammar as stored values. It serves the prover alone: a type that contracts see as a
 -- condition owes a `Coded` of conditions.
+-- Beside the promise.
 use Rattle.std.specs.Prelude.{◌≡◌, ℕ, true, refl}
 use Rattle.std.proofs.Common.{ap}
 use Rattle.std.specs.Coded.{Coded, Coded-set, coded_bool}

@@ -1,4 +1,5 @@
 -- Each part of a condition is smaller than the whole, which serves the prover alone.
+-- Beside the promise.
 use Rattle.std.specs.Prelude.{ℕ, ◌+◌, ◌≤◌, max, List, [], ◌∷◌}
 use Rattle.std.proofs.Common.{arith, Vec, Global}
 use denote.Param.Weighed.{most}

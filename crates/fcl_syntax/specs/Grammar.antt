@@ -1,5 +1,6 @@
 -- The grammar: its trees, and the text of each. Where something is refused, a tree has the token
 -- that is refused in its place, and the text has an annotation there; what follows an annotation is free.
+-- Reached by the promise.
 use Rattle.std.specs.Prelude.{ℕ, zero, suc, Bool, true, false, List, [], ◌∷◌, ◌++◌, Option, Some, None, ◌⊎◌}
 use Rattle.fcl_syntax.specs.declared.fault.Kind.TheVariants.{Deep, Unsupported}
 use Rattle.fcl_syntax.specs.declared.token.Amount.{Amount}

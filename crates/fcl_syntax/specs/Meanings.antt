@@ -1,4 +1,5 @@
 -- The words that have a meaning of their own.
+-- Reached by the promise.
 use Rattle.std.specs.Prelude.{ℕ, List, [], ◌∷◌, codes}
 use Rattle.fcl_syntax.specs.declared.token.Keyword.TheVariants as key
 use Rattle.fcl_syntax.specs.declared.token.Meaning.{Meaning}

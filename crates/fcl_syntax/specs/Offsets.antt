@@ -1,4 +1,5 @@
 -- The offsets of a text's tokens.
+-- Beside the promise.
 use Rattle.std.specs.Prelude.{ℕ, suc, ◌<◌, ◌≤◌, List, [], ◌∷◌, length, Option, Some, None}
 use Rattle.std.specs.List.{filter_map}
 use Rattle.fcl_syntax.specs.Grammar.{TBlock, block_text}

@@ -1,4 +1,5 @@
 -- What `parse` answers: the tree, or the fault.
+-- Beside the promise.
 use Rattle.std.specs.Prelude.{◌≡◌, Result, Ok, Err}
 use Rattle.fcl_syntax.specs.declared.text.SyntaxFault.{SyntaxFault}
 use Rattle.fcl_syntax.specs.declared.tree.Tree.{Tree}

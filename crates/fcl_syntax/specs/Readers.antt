@@ -1,4 +1,5 @@
 -- What reads a list of tokens from the left, and how such are put together. No public clause cites it.
+-- Beside the promise.
 use Rattle.std.specs.Prelude.{◌≡◌, ℕ, zero, suc, Bool, true, false, List, [], ◌∷◌, length, Option, Some, None, Result}
 use Rattle.std.specs.Prelude.{Ok, Err}
 use Rattle.fcl_syntax.specs.declared.fault.Fault.{Fault}

@@ -1,4 +1,5 @@
 -- What a text is: it spells one tree, or it has a first fault.
+-- Beside the promise.
 use Rattle.std.specs.Prelude.{◌≡◌, ℕ, ◌≤◌, ◌⊎◌, List, length}
 use Rattle.fcl_syntax.specs.Grammar.{TBlock}
 use Rattle.fcl_syntax.specs.Text.{IsFirstFault, SpellsTree}

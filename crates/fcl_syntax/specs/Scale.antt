@@ -1,4 +1,5 @@
 -- The size of a text's numbers.
+-- Beside the promise.
 use Rattle.std.specs.Prelude.{ℕ, List, pos, neg_ℤ, ◌≤ℤ◌, All}
 use Rattle.fcl_syntax.specs.declared.token.Amount.{Amount}
 use Rattle.fcl_syntax.specs.declared.token.Amount.TheVariants as amount

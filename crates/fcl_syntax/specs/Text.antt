@@ -1,4 +1,5 @@
 -- The tree of a text, or its first fault, by the text's bytes.
+-- Reached by the promise.
 use Rattle.std.specs.Prelude.{◌≡◌, ℕ, ◌≤◌, List, [], ◌∷◌, length, drop}
 use Rattle.std.specs.Str.{str_to_ascii_lowercase}
 use Rattle.fcl_syntax.specs.declared.fault.Kind.{Kind}

@@ -1,4 +1,5 @@
 -- The classes of tokens. What the grammar asks of a token is its class.
+-- Reached by the promise.
 use Rattle.std.specs.Prelude.{◌≡◌, ℕ, Bool, true, false, List, [], ◌∷◌, ◌==◌, if◌then◌else◌}
 use Rattle.fcl_syntax.specs.declared.token.Amount.TheVariants as amount
 use Rattle.fcl_syntax.specs.declared.token.Keyword.{Keyword}

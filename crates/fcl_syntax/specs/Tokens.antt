@@ -1,4 +1,5 @@
 -- The tokens of a text. It is cut from the left into blanks, comments and tokens, each the longest that stands there.
+-- Reached by the promise.
 use Rattle.std.specs.Prelude.{◌≡◌, ℕ, ◌+◌, ◌<◌, ◌≤◌, Bool, true, false, List, [], ◌∷◌, ◌++◌, length, codes, Option}
 use Rattle.std.specs.Prelude.{Some, None, Ok, Err, ◌==◌, ◌||◌, ◌⊎◌, if◌then◌else◌, pos}
 use Rattle.std.specs.List.{list_all, filter_map}

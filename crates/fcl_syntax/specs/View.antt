@@ -1,4 +1,5 @@
 -- A tree of the program as a tree of the grammar, where nothing is refused.
+-- Reached by the promise.
 use Rattle.std.specs.Prelude.{ℕ, List, map, Option, Some, None, ◌⊎◌}
 use Rattle.std.proofs.Common.{inl, inr}
 use Rattle.fcl_syntax.specs.declared.tree.ActWord.{ActWord}

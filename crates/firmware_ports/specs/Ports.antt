@@ -1,4 +1,5 @@
 -- How a firmware is given samples, and where its answers are read.
+-- Reached by the promise.
 use Rattle.std.specs.Prelude.{◌≡◌, ℕ, zero, suc, ◌+◌, ◌*◌, ◌≤◌, Bool, true, false, List, [], ◌∷◌, ◌++◌, length}
 use Rattle.std.specs.Prelude.{slice_index}
 use Rattle.cpu12_isa.specs.Act.{write_all}

@@ -1,4 +1,4 @@
-// The laws of what is given and answered.
+//! The laws of what is given and answered.
 ghost use Rattle.firmware_ports.specs.Ports.{AnswersAreValues, GivenIsPut};
 
 /// A sample is given to a run as it is to whole instructions.

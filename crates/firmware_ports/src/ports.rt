@@ -1,4 +1,4 @@
-// How a firmware is given samples, and where its answers are read.
+//! How a firmware is given samples, and where its answers are read.
 ghost use Rattle.std.specs.Prelude.{ℕ, ◌≡◌, ◌≤◌, true, false, List, length};
 ghost use Rattle.arrayvec.specs.ArrayVec.{array_vec_len};
 ghost use Rattle.cpu12_parts.specs.State.{State};

@@ -1,4 +1,5 @@
 -- The certified run whose interrupts run a handler's code: what the program's answer to `hrun` says.
+-- Beside the promise.
 use Rattle.std.specs.Prelude.{◌≡◌, ℕ, List, map}
 use Rattle.cpu12_asm.specs.declared.image.Image.{Image}
 use Rattle.fuzzy_meaning.specs.declared.block.Block.{Block}

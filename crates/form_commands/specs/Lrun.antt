@@ -1,4 +1,5 @@
 -- The command `lrun SLOW FAST IMAGE SCERT FCERT STRACE FTRACE LEVELS FLAGS`.
+-- Beside the promise.
 use Rattle.std.specs.Prelude.{◌≡◌, ◌<◌, ◌^◌, ℕ, ◌-◌, List, [], ◌∷◌, ◌++◌, codes, decimal, length, Option, Some}
 use Rattle.std.specs.Prelude.{None, option_map, Result, Ok, Err}
 use Rattle.std.specs.List.{flat_map, slice_index_or}
@@ -109,7 +110,8 @@ pub record LrunGives (lrun : Lrun) (files : LevelFiles) (output : SeenOutput) : 
 abbrev pub certs_refusals : LevelFiles → Block → Block → Refusals
 certs_refusals files slow fast (status.Cert f) = HasCertFault Named Byte slow files.slow_cert f
 certs_refusals files slow fast (status.Fast (told.Cert f)) =
-    ((errors : List ℕ) × AcceptsCert Named Byte slow files.slow_cert errors) × HasCertFault Named Byte fast files.fast_cert f
+    ((errors : List ℕ) × AcceptsCert Named Byte slow files.slow_cert errors)
+    × HasCertFault Named Byte fast files.fast_cert f
 certs_refusals files slow fast s = ⊥
 
 -- why a trace is: the slow block's first

@@ -1,4 +1,5 @@
 -- The run of a firmware with watched tables: what the program's answer to `srun` says.
+-- Beside the promise.
 use Rattle.std.specs.Prelude.{◌≡◌, ℕ, ◌≤◌, List, All, map}
 use Rattle.fuzzy_meaning.specs.declared.block.Block.{Block}
 use Rattle.watched_code.specs.Watched.{watched_bound}

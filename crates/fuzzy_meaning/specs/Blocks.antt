@@ -1,4 +1,5 @@
 -- Valid blocks.
+-- Reached by the promise.
 use Rattle.std.specs.Prelude.{◌≡◌, ℕ, ◌+◌, ◌-◌, ◌≤◌, List, length, All, sum_by, slice_get, Option, Some, IfSome}
 use Rattle.std.specs.Prelude.{IsSomeAnd, option_and_then, ℤ, pos, neg_ℤ, ◌≤ℤ◌, ◌<ℤ◌}
 use Rattle.fz_num.specs.declared.dec.Dec.{Dec}

@@ -1,4 +1,5 @@
 -- Conditions as trees.
+-- Reached by the promise.
 use Rattle.std.specs.Prelude.{ℕ, ◌+◌, ◌-◌, min, max, Bool, true, false, not, if◌then◌else◌, List, [], ◌∷◌}
 
 mutual

@@ -1,4 +1,5 @@
 -- The degree of a term (IEC 61131-7:2000, linear terms).
+-- Reached by the promise.
 use Rattle.std.specs.Prelude.{◌≡◌, if◌then◌else◌, Option, Some, None, ◌≤ℤ◌, ◌<ℤ◌}
 use Rattle.std.specs.Int.Signed.{le_z}
 use Rattle.fz_num.specs.declared.dec.Dec.{Dec}

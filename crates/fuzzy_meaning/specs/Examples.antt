@@ -1,4 +1,5 @@
 -- Blocks that are valid.
+-- Beside the promise.
 use Rattle.std.specs.Prelude.{ℕ, zero, suc, [], ◌∷◌, Some, None, ℤ, pos, neg_ℤ, replicate}
 use Rattle.fz_num.specs.declared.dec.Dec.{Dec}
 use Rattle.fuzzy_meaning.specs.declared.block.Block.{Block}

@@ -1,4 +1,5 @@
 -- The terms that `exact` holds, and the sums over them.
+-- Beside the promise.
 use Rattle.std.specs.Prelude.{◌≡◌, ℕ, ◌*◌, ◌<◌, List, [], ◌∷◌, pos, neg_ℤ, ◌*ℤ◌, ◌≤ℤ◌, ◌<ℤ◌}
 use Rattle.fz_num.specs.Fracs.{fraction_of, IsTruth}
 use Rattle.fuzzy_meaning.specs.declared.answers.Heavy.{Heavy}

@@ -1,4 +1,5 @@
 -- What a block answers (IEC 61131-7:2000: AND is MIN, OR is MAX, NOT is 1 minus, WITH is a product, COGS).
+-- Reached by the promise.
 use Rattle.std.specs.Prelude.{ℕ, ◌+◌, ◌-◌, ◌*◌, if◌then◌else◌, ◌==◌, nat_lt, List, [], ◌∷◌, fold, filter, length}
 use Rattle.std.specs.Prelude.{slice_get, Bool, Option, Some, None, ℤ, pos, ◌+ℤ◌, ◌*ℤ◌, unsigned_abs}
 use Rattle.std.specs.Option.{option_map_or}

@@ -1,4 +1,5 @@
 -- The degree of a term at any place of its input's range. A place is a fraction in 1/10000, measured from the low end.
+-- Beside the promise.
 use Rattle.std.specs.Prelude.{◌≡◌, ℕ, ◌-◌, ◌*◌, if◌then◌else◌, nat_le, Option, Some, None, option_map, ◌≤ℤ◌}
 use Rattle.fz_num.specs.declared.dec.Dec.{Dec}
 use Rattle.fz_num.specs.Fractions.{Fraction, over, lesser, one, none}

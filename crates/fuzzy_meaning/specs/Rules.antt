@@ -1,4 +1,5 @@
 -- Which rules conclude a term.
+-- Reached by the promise.
 use Rattle.std.specs.Prelude.{ℕ, Bool, ◌==◌, ◌&&◌}
 use Rattle.std.specs.List.{list_any}
 use Rattle.fuzzy_meaning.specs.declared.block.Rule.{Rule}

@@ -1,4 +1,5 @@
 -- Each part of a condition has fewer conditions than the whole.
+-- Beside the promise.
 use Rattle.std.specs.Prelude.{◌≤◌, max}
 use Rattle.std.proofs.Common.{arith}
 use Rattle.fuzzy_meaning.specs.declared.condition.Node.{Node}

@@ -1,4 +1,5 @@
 -- Decimals and their texts.
+-- Reached by the promise.
 use Rattle.std.specs.Prelude.{ℕ, ◌+◌, ◌-◌, ◌*◌, Bool, false, if◌then◌else◌, ◌==◌, nat_lt, nat_le, ◌&&◌, ◌||◌, not, List}
 use Rattle.std.specs.Prelude.{[], ◌∷◌, ◌++◌, length, drop, fold, Result, Ok, Err, ℤ, pos, neg_ℤ, ◌-ℤ◌, unsigned_abs}
 use Rattle.std.specs.List.{list_all, position_or_len, before_first, after_first, slice_index_or}

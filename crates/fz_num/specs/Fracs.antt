@@ -1,4 +1,5 @@
 -- What the fractions of the code stand for.
+-- Reached by the promise.
 use Rattle.std.specs.Prelude.{◌≡◌, ℕ, ◌*◌, ◌<◌, ◌≤◌, ℤ, pos, ◌-ℤ◌, ◌*ℤ◌, ◌≤ℤ◌, ◌<ℤ◌, unsigned_abs}
 use Rattle.fz_num.specs.Fractions.{Fraction, over}
 use Rattle.fz_num.specs.declared.frac.Frac.{Frac}

@@ -1,4 +1,5 @@
 -- The rows of comma-separated text.
+-- Reached by the promise.
 use Rattle.std.specs.Prelude.{◌≡◌, ◌≤◌, ◌⊎◌, ℕ, Bool, true, false, List, [], length, None}
 use Rattle.csv.specs.Machine.{next_record}
 use Rattle.csv.specs.Reading.{Reached, default_config, strip_bom}

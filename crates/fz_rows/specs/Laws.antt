@@ -1,4 +1,5 @@
 -- A text has one list of first rows.
+-- Beside the promise.
 use Rattle.std.specs.Prelude.{◌≡◌, ℕ, List}
 use Rattle.fz_rows.specs.FirstRows.{AreFirstRows, Fields}
 

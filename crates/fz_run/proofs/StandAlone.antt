@@ -14,7 +14,7 @@ use Rattle.firmware_ports.specs.Ports.{given, answers_in}
 use Rattle.fz_run.specs.Forms.{with_writes}
 use Rattle.fz_run.specs.Rows.{requests_of}
 use Rattle.instruction_steps.specs.Facts.{FactsAlone}
-use Rattle.fz_run.specs.SoundAlone.{free_opens}
+use Rattle.fz_run.specs.SoundAloneProof.{free_opens}
 use Rattle.fz_run.specs.Following.{rows_of_samples, RunsFollowAlone, RunsFollowBeside}
 use Rattle.fz_run.specs.Given.{RequestsAreGood}
 

@@ -1,4 +1,5 @@
 -- The rows of a firmware that stands alone, read off its runs without interrupts.
+-- Beside the promise.
 use Rattle.std.specs.Prelude.{◌≡◌, ℕ, suc, ◌+◌, ◌*◌, ◌<◌, ◌≤◌, Bool, true, false, List, [], ◌∷◌}
 use Rattle.cpu12_isa.specs.Regions.{free_start, is_free, LeavesStack}
 use Rattle.cpu12_parts.specs.State.{State}

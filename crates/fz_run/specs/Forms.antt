@@ -1,4 +1,5 @@
 -- A firmware that stands alone in memory, as a form of the law on runs.
+-- Beside the promise.
 use Rattle.std.specs.Prelude.{ℕ, List}
 use Rattle.cpu12_parts.specs.State.{State}
 use Rattle.cpu12_emul.specs.Take.{framed}

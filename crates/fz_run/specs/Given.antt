@@ -1,4 +1,5 @@
 -- How the requests of a sample are given.
+-- Beside the promise.
 use Rattle.std.specs.Prelude.{ℕ, List}
 use Rattle.interrupt_plan.specs.declared.Request.{Request}
 use Rattle.interrupt_plan.specs.Plans.{IsGoodRequest, IsGood}

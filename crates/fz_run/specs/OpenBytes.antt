@@ -1,4 +1,5 @@
 -- The run without interrupts leaves alone what is open to handlers.
+-- Beside the promise.
 use Rattle.std.specs.Prelude.{◌≡◌, ℕ, ◌+◌, ◌<◌, ◌≤◌, Bool, true, false, List, length, slice_index}
 use Rattle.cpu12_isa.specs.Regions.{LeavesStack}
 use Rattle.cpu12_parts.specs.State.{State}

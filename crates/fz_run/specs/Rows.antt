@@ -1,4 +1,5 @@
 -- The rows of a firmware that stands alone, over a list of samples under a plan.
+-- Reached by the promise.
 use Rattle.std.specs.Prelude.{ℕ, ◌-◌, List, [], map, slice_index_or}
 use Rattle.cpu12_parts.specs.State.{State}
 use Rattle.run_law.specs.Forms.{RowSeen, Rows, rows_from}

@@ -1,4 +1,4 @@
-// A firmware that stands alone is a sound form.
+//! A firmware that stands alone is a sound form.
 ghost use Rattle.std.specs.Prelude.{ℕ, List};
 ghost use Rattle.cpu12_emul.specs.Simulation.{OnStackOnly};
 ghost use Rattle.interrupt_plan.specs.Plans.{IsGoodRequest};
@@ -6,7 +6,7 @@ ghost use Rattle.interrupt_plan.specs.declared.Request as plan;
 ghost use Rattle.fz_run.specs.Forms.{with_writes};
 ghost use Rattle.instruction_steps.specs.Facts.{FactsBeside};
 ghost use Rattle.fz_run.specs.Following.{Alone, Nothing};
-ghost use Rattle.fz_run.specs.SoundAlone.{sound};
+ghost use Rattle.fz_run.specs.SoundAloneProof.{sound};
 
 use run_law::laws::SoundForm;
 

@@ -1,4 +1,4 @@
-// Laws of runs.
+//! Laws of runs.
 ghost use Rattle.fz_run.specs.Answering.{AnswersUnderPlans, FirmwareRunsBeside, FirstStatesAgree, FirstStatesAlike};
 ghost use Rattle.fz_run.specs.Following.{RunsFollowAlone, RunsFollowBeside};
 ghost use Rattle.fz_run.specs.Given.{PlansAreInOrder, RequestsAreGood};

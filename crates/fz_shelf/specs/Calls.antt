@@ -1,4 +1,5 @@
 -- Calls that are numbered from 1, of which those in a list fail.
+-- Beside the promise.
 use Rattle.std.specs.Prelude.{◌<◌, ◌+◌, ◌-◌, ◌^◌, ℕ, List, Contains, min}
 
 -- one call more; the calls after the last value of a u32 have no number of their own

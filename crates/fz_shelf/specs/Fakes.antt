@@ -1,4 +1,5 @@
 -- What a shelf and a sink in memory are told to do.
+-- Beside the promise.
 use Rattle.std.specs.Prelude.{◌≡◌, ℕ, List}
 use Rattle.fz_shelf.specs.declared.mem_shelf.MemShelf.{MemShelf}
 use Rattle.fz_shelf.specs.declared.mem_sink.MemSink.{MemSink}

@@ -1,4 +1,5 @@
 -- What a shelf tells of a name.
+-- Reached by the promise.
 use Rattle.std.specs.Prelude.{◌≡◌, ◌<◌, ◌≤◌, ℕ, List, length}
 
 -- nothing, that it is not there, or its bytes and the greatest number of bytes that it holds

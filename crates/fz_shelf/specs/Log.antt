@@ -1,4 +1,5 @@
 -- The list of reads, each with the kind of its answer.
+-- Reached by the promise.
 use Rattle.std.specs.Prelude.{ℕ, List, [], ◌∷◌, ◌++◌, map, Result, Ok, Err}
 use Rattle.std.specs.String.{string_bytes}
 use Rattle.fz_shelf.specs.declared.log.Answer.{Answer}

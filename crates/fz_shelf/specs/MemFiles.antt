@@ -1,4 +1,5 @@
 -- What the files of a shelf in memory tell of a name: the first of that name counts.
+-- Beside the promise.
 use Rattle.std.specs.Prelude.{◌≡◌, ◌≢◌, ◌<◌, ℕ, List, [], ◌∷◌, length, if◌then◌else◌, Bool, slice_set}
 use Rattle.std.specs.List.{slice_index_or}
 use Rattle.std.specs.Str.{bytes_eq}

@@ -1,4 +1,5 @@
 -- What a read and a write do to a shelf's bytes and counts.
+-- Reached by the promise.
 use Rattle.std.specs.Prelude.{◌≡◌, ◌≤◌, ℕ, List, length, Result, Ok, Err}
 use Rattle.fz_shelf.specs.Faults.{Rose, faults_after, one_fault_more}
 use Rattle.fz_shelf.specs.Files.{File, Holds, IsLong}

@@ -1,4 +1,5 @@
 -- What a sink tells: the bytes that it took and the room that is left, or nothing.
+-- Reached by the promise.
 use Rattle.std.specs.Prelude.{◌≡◌, ◌<◌, ◌≤◌, ◌-◌, ◌++◌, ℕ, List, length, take, Option, Some, None, Result, Ok, Err}
 
 pub record Taken : Type 0 where

@@ -1,4 +1,5 @@
 -- The numbers that the program ends with.
+-- Beside the promise.
 use Rattle.std.specs.Prelude.{ℕ}
 use Rattle.fz_status.specs.declared.status.FastFault.TheVariants as fast
 use Rattle.fz_status.specs.declared.status.Status.{Status}

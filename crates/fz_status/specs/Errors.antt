@@ -1,4 +1,5 @@
 -- The one line on err.
+-- Beside the promise.
 use Rattle.std.specs.Prelude.{◌≡◌, ◌≤◌, ◌++◌, ℕ, List, [], length, codes, Option, Result, IsOk, OnOk}
 use Rattle.fz_shelf.specs.Faults.{HasCause, Rose}
 use Rattle.fz_shelf.specs.Told.{Taken, gained, GainedPart, HasRoom}

@@ -1,4 +1,5 @@
 -- The lines of faults of contents.
+-- Reached by the promise.
 use Rattle.std.specs.Prelude.{ℕ, List, [], ◌++◌, codes, decimal, Option, Some, None}
 use Rattle.std.specs.List.{flat_map}
 use Rattle.box_tree.specs.declared.cert.CertFault.{CertFault}

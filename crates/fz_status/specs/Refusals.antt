@@ -1,4 +1,5 @@
 -- Why contents are refused.
+-- Beside the promise.
 use Rattle.std.specs.Prelude.{◌≢◌}
 use Rattle.box_tree.specs.declared.cert.CertFault.TheVariants as cert
 use Rattle.cert_check.specs.declared.checker.CheckFault.TheVariants as check

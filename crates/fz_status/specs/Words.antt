@@ -1,4 +1,5 @@
 -- The words of the command line by their places.
+-- Reached by the promise.
 use Rattle.std.specs.Prelude.{ℕ, List, [], String, map}
 use Rattle.std.specs.List.{slice_index_or}
 use Rattle.std.specs.String.{string_bytes}

@@ -1,4 +1,5 @@
 -- The contents that commands accept.
+-- Beside the promise.
 use Rattle.std.specs.Prelude.{◌<◌, ◌^◌, ℕ, List}
 use Rattle.build_commands.specs.Asm.{AsmAccepts}
 use Rattle.build_commands.specs.Certify.{CertifyAccepts}

@@ -1,4 +1,5 @@
 -- The promise of the call, and when it is kept.
+-- Reached by the promise.
 use Rattle.build_commands.specs.Words.{flags_of}
 use Rattle.box_tree.specs.declared.cert.CertKind.{CertKind}
 use Rattle.box_tree.specs.declared.cert.CertKind.TheVariants.{Named, Tight}

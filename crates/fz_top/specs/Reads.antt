@@ -1,4 +1,5 @@
 -- What the reads of a command's files leave.
+-- Beside the promise.
 use Rattle.std.specs.Prelude.{◌≡◌, ◌≤◌, ℕ, List, [], ◌∷◌, ◌++◌, map, length}
 use Rattle.fz_shelf.specs.Faults.{Rose}
 use Rattle.fz_shelf.specs.Files.{Names, Holds, IsLong, IsThere}

@@ -1,4 +1,5 @@
 -- What a run leaves, status by status.
+-- Reached by the promise.
 use Rattle.std.specs.Prelude.{◌≡◌, ◌≢◌, ◌⊎◌, ◌<◌, ◌≤◌, ℕ, List, [], ◌∷◌, ◌++◌, length, Option, Some, None}
 use Rattle.std.specs.Prelude.{is_some, true, Result, Ok, Err}
 use Rattle.fz_shelf.specs.Faults.{Rose}

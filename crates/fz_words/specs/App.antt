@@ -1,4 +1,5 @@
 -- The command line, as clap sees it.
+-- Beside the promise.
 use Rattle.std.specs.Prelude.{◌≡◌, ◌≢◌, ◌⊎◌, ℕ, zero, suc, true, false, List, [], ◌∷◌, Some, map, codes}
 use Rattle.clap.specs.Words.{App, Shape, Rule, Text, fault_of, new_rule}
 use Rattle.clap.specs.Simple.{new_shape}

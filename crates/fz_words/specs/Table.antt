@@ -1,4 +1,5 @@
 -- Tables of commands, and which row words are of.
+-- Beside the promise.
 use Rattle.std.specs.Prelude.{◌==◌, ℕ, Bool, false, List, [], ◌∷◌, length, drop, find, map, option_and_then}
 use Rattle.std.specs.Prelude.{option_map, if◌then◌else◌, Option, Some, None}
 use Rattle.std.specs.Borrow.{Bor}

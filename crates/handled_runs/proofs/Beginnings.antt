@@ -19,7 +19,7 @@ use Rattle.codegen.specs.Answers.{LeavesMapped}
 use Rattle.fz_run.specs.Answering.{FirstAlike}
 use Rattle.handled_runs.specs.Open.{is_open_to_code}
 use Rattle.handled_runs.specs.Joint.{joint_bytes, joint_memory}
-use Rattle.handled_runs.specs.SoundHandled.{not_open, both, code_open, in_code, HandlerStands}
+use Rattle.handled_runs.specs.SoundHandledProof.{not_open, both, code_open, in_code, HandlerStands}
 
 -- what is open leaves the memory map alone
 code_read : (at : ℕ) → Reads main_map at → is_open_to_code at ≡ false

@@ -37,7 +37,7 @@ use Rattle.handled_runs.specs.Joint.{joint_memory}
 use Rattle.handled_runs.specs.declared.back.HandlerEnd.{HandlerEnd}
 use Rattle.handled_runs.specs.Forms.{with_code, first_handled, handled_rows, steps_of, HandledSeen, with_steps}
 use Rattle.handled_runs.specs.Answering.{AnswersHandled, CameBack, HandledAnswers}
-use Rattle.handled_runs.specs.SoundHandled.{CodeLaws, Handled, HandlerStands, opens_free}
+use Rattle.handled_runs.specs.SoundHandledProof.{CodeLaws, Handled, HandlerStands, opens_free}
 use Rattle.handled_runs.proofs.Beginnings.{code_leaves, joint_agrees, joint_has, first_stands}
 
 -- samples of at most eight bytes

@@ -1,4 +1,5 @@
 -- The rows of a block's firmware whose interrupts run an accepted handler.
+-- Beside the promise.
 use Rattle.std.specs.Prelude.{◌≡◌, ℕ, ◌^◌, ◌<◌, ◌≤◌, true, List, All, map}
 use Rattle.fuzzy_meaning.specs.declared.block.Block.{Block}
 use Rattle.fuzzy_meaning.specs.Blocks.{IsValid}
@@ -33,9 +34,9 @@ abbrev pub steps_told : List (Request × HandlerEnd) → ℕ
 steps_told told = steps_of (tellings told)
 
 -- The run comes to the end of each sample, its rows are those of the run of that firmware under that plan in which
--- handlers do the listed writes alone, each of its states simulates that of the run without interrupts, which answers all
--- samples in so many steps each, and each interrupt comes back by its handler's RTI, after at most as many steps as the
--- handler has instructions on a path.
+-- handlers do the listed writes alone, each of its states simulates that of the run without interrupts, which answers
+-- all samples in so many steps each, and each interrupt comes back by its handler's RTI, after at most as many steps as
+-- the handler has instructions on a path.
 pub record AnswersHandled (f : Firmware) (handler : List (ℕ × ℕ)) (most flags : ℕ) (samples : List (List ℕ))
     (plan : List Request) : Type 0 where
   pub arrived : (handled_rows f handler samples plan flags).arrived ≡ true

@@ -1,4 +1,5 @@
 -- A firmware that stands alone, whose interrupts run code, as a form of the law on runs.
+-- Beside the promise.
 use Rattle.std.specs.Prelude.{ℕ, List, take, map, sum}
 use Rattle.cpu12_parts.specs.State.{State}
 use Rattle.run_law.specs.Forms.{Form, RowSeen, Rows, rows_from}

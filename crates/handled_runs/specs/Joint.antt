@@ -1,4 +1,5 @@
 -- The image that runs: a firmware's with a handler's bytes, and $4000 in the interrupt's vector.
+-- Beside the promise.
 use Rattle.std.specs.Prelude.{ℕ, ◌+◌, ◌/◌, ◌%◌, Option, Some, None, List, ◌∷◌, ◌++◌}
 use Rattle.cpu12_isa.specs.Regions.{vector}
 use Rattle.cpu12_emul.specs.Image.{image_memory}

@@ -2,4 +2,4 @@ pub mod Open
 pub mod Joint
 pub mod Forms
 pub mod Answering
-pub mod SoundHandled
+pub mod SoundHandledProof

@@ -1,4 +1,5 @@
 -- What is open to handlers that are code.
+-- Beside the promise.
 use Rattle.std.specs.Prelude.{ℕ, ◌&&◌, ◌||◌, nat_le, nat_lt, Bool}
 use Rattle.cpu12_isa.specs.Regions.{is_free, is_vector}
 use Rattle.handler_check.specs.Cut.{code_start, code_limit}

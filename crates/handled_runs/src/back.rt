@@ -1,4 +1,4 @@
-// The way of a handler to its RTI.
+//! The way of a handler to its RTI.
 ghost use Rattle.std.specs.Prelude.{◌≡◌, ◌≤◌, ◌-◌};
 ghost use Rattle.handler_check.specs.Running.{until_rti, step_limit};
 ghost use Rattle.handled_runs.specs.Forms.{end_of};

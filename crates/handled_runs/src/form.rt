@@ -1,4 +1,4 @@
-// A firmware whose interrupts run code, as a form of runs.
+//! A firmware whose interrupts run code, as a form of runs.
 ghost use Rattle.std.specs.Prelude.{ℕ, ◌≡◌, ◌≤◌, ◌<◌, List, Some, length, slice_get};
 ghost use Rattle.run_forms.specs.Rest.{counted_at, shown_by};
 ghost use Rattle.run_forms.specs.Rooms.{Fits};

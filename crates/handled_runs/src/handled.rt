@@ -1,4 +1,4 @@
-// A firmware whose interrupts run an accepted handler is a sound form.
+//! A firmware whose interrupts run an accepted handler is a sound form.
 ghost use Rattle.std.specs.Prelude.{ℕ, List};
 ghost use Rattle.cpu12_emul.specs.Simulation.{OnStackOnly};
 ghost use Rattle.interrupt_plan.specs.Plans.{IsGoodRequest};
@@ -7,7 +7,7 @@ ghost use Rattle.instruction_steps.specs.Facts.{FactsBeside};
 ghost use Rattle.handled_runs.specs.declared.back.HandlerEnd as end;
 ghost use Rattle.handled_runs.specs.Open.{is_open_to_code};
 ghost use Rattle.handled_runs.specs.Forms.{with_code};
-ghost use Rattle.handled_runs.specs.SoundHandled.{Handled, HandlerStands, sound};
+ghost use Rattle.handled_runs.specs.SoundHandledProof.{Handled, HandlerStands, sound};
 
 use run_law::laws::SoundForm;
 

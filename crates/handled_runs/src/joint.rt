@@ -1,4 +1,4 @@
-// The image of a firmware with a handler.
+//! The image of a firmware with a handler.
 ghost use Rattle.std.specs.Prelude.{ℕ, ◌≡◌, IfOk, OnOk};
 ghost use Rattle.cpu12_asm.specs.Bytes.{byte_at, start_of};
 ghost use Rattle.handled_runs.specs.Joint.{either, joint_bytes};

@@ -1,4 +1,5 @@
 -- The bytes of a handler, cut into instructions one after the other.
+-- Beside the promise.
 use Rattle.std.specs.Prelude.{◌≡◌, ℕ, ◌+◌, ◌⊎◌, List, [], ◌∷◌, ◌++◌, length}
 use Rattle.cpu12_isa.specs.declared.instr.Instr.{Instr}
 use Rattle.cpu12_isa.specs.Code.{encode_of, FitsOperands, StandsAt}

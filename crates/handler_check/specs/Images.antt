@@ -1,4 +1,5 @@
 -- The handler of an image, or its first fault.
+-- Beside the promise.
 use Rattle.std.specs.Prelude.{◌≡◌, ℕ, ◌+◌, ◌<◌, ◌≤◌, ◌⊎◌, Bool, false, Some, None, is_some, IsSome, List, [], ◌∷◌}
 use Rattle.cpu12_isa.specs.Code.{encode_of, FitsOperands}
 use Rattle.cpu12_isa.specs.declared.instr.Instr.{Instr}

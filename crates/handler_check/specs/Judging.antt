@@ -1,4 +1,5 @@
 -- What is known of instructions that were judged, place by place.
+-- Beside the promise.
 use Rattle.std.specs.Prelude.{◌≡◌, ℕ, zero, suc, ◌+◌, ◌<◌, ◌≤◌, ◌⊎◌, nat_lt, Bool, true, false, Option, Some, List}
 use Rattle.std.specs.Prelude.{length, slice_get}
 use Rattle.cpu12_isa.specs.declared.instr.Instr.{Instr}

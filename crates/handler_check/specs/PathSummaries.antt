@@ -1,4 +1,5 @@
 -- What is known of the paths to the places of a handler.
+-- Beside the promise.
 use Rattle.std.specs.Prelude.{◌≡◌, ℕ, ◌-◌, ◌≤◌, ◌==◌, ◌||◌, not, nat_le, nat_lt, true, false, if◌then◌else◌, Option}
 use Rattle.std.specs.Prelude.{Some, None, unwrap_or, List, [], ◌∷◌, slice_get}
 use Rattle.cpu12_isa.specs.declared.instr.Instr.{Instr}

@@ -1,4 +1,5 @@
 -- What the instructions of a handler may be, where they lead, and the paths through them.
+-- Beside the promise.
 use Rattle.std.specs.Prelude.{◌≡◌, ℕ, zero, suc, ◌+◌, ◌-◌, ◌<◌, ◌⊎◌, nat_lt, Bool, true, false, if◌then◌else◌, List, []}
 use Rattle.std.specs.Prelude.{◌∷◌, ◌++◌}
 use Rattle.cpu12_isa.specs.declared.instr.Instr.{Instr}

@@ -1,4 +1,5 @@
 -- A handler that runs: steps up to its RTI.
+-- Beside the promise.
 use Rattle.std.specs.Prelude.{◌≡◌, ℕ, zero, suc, ◌+◌, ◌≤◌, ◌==◌, Bool, true, false, if◌then◌else◌, Result, Ok, Err}
 use Rattle.std.specs.Prelude.{Some, List, length, slice_index}
 use Rattle.cpu12_isa.specs.declared.instr.Instr.{Instr}

@@ -1,4 +1,5 @@
 -- What each state of a run without interrupts keeps.
+-- Beside the promise.
 use Rattle.std.specs.Prelude.{◌≡◌, ℕ, ◌-◌, ◌≤◌, ◌⊎◌, min, Bool, false, List, slice_index}
 use Rattle.cpu12_isa.specs.Agreement.{AllShown}
 use Rattle.cpu12_isa.specs.Flags.{interrupts_masked, has}

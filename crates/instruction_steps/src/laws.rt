@@ -1,4 +1,4 @@
-// The law of whole instructions.
+//! The law of whole instructions.
 ghost use Rattle.instruction_steps.specs.Instructions.{InstructionsAreSteps};
 
 use run_forms::laws::plain_is_one_step;

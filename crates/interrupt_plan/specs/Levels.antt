@@ -1,4 +1,5 @@
 -- Levels, what a text of them spells, and its first fault.
+-- Beside the promise.
 use Rattle.std.specs.Prelude.{◌≡◌, ◌≤◌, ℕ, List, [], ◌∷◌, length, map, All, Some}
 use Rattle.std.specs.List.Sorted.{IsNonDecreasing}
 use Rattle.cpu12_isa.specs.declared.instr.Write.{Write}

@@ -1,4 +1,5 @@
 -- A text spells entries or has a first fault, not both, and it has one.
+-- Beside the promise.
 use Rattle.std.specs.Prelude.{◌≡◌, ℕ, List}
 use Rattle.interrupt_plan.specs.Levels.{LevelsHaveFault, SpellsLevels}
 use Rattle.interrupt_plan.specs.PlanTexts.{HasFault, Spells}

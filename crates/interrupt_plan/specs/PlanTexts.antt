@@ -1,4 +1,5 @@
 -- What a plan's text spells, and its first fault.
+-- Reached by the promise.
 use Rattle.std.specs.Prelude.{◌≤◌, ℕ, List}
 use Rattle.cpu12_isa.specs.declared.instr.Write.{Write}
 use Rattle.fz_rows.specs.FirstRows.{Fields}

@@ -1,4 +1,5 @@
 -- Good plans.
+-- Reached by the promise.
 use Rattle.std.specs.Prelude.{◌≡◌, ◌<◌, ◌≤◌, ◌⊎◌, ℕ, true, List, [], ◌∷◌, length, All}
 use Rattle.cpu12_isa.specs.Regions.{is_free}
 use Rattle.interrupt_plan.specs.declared.Request.{Request}

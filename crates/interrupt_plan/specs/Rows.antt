@@ -1,4 +1,5 @@
 -- Rows of two numbers and writes, each of which spells an entry: a request of a plan, or a post.
+-- Reached by the promise.
 use Rattle.std.specs.Prelude.{◌≡◌, ◌<◌, ◌≤◌, ◌+◌, ◌*◌, ℕ, List, [], ◌∷◌, ◌++◌, length, drop, All, Option, Some, None}
 use Rattle.std.specs.Prelude.{Result, Ok, Err, slice_index, nat_le, ◌&&◌, true, false, if◌then◌else◌}
 use Rattle.hex.specs.Hex.{decode_sized}

@@ -1,4 +1,5 @@
 -- What a text of upsets spells, and its first fault.
+-- Beside the promise.
 use Rattle.std.specs.Prelude.{◌≡◌, ◌<◌, ◌≤◌, ◌+◌, ℕ, false, true, List, [], ◌∷◌, ◌++◌, length, Some}
 use Rattle.fz_rows.specs.FirstRows.{Fields, AreFirstRows}
 use Rattle.interrupt_plan.specs.declared.upsets.Upset.{Upset}

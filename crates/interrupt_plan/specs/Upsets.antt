@@ -1,4 +1,5 @@
 -- Good upsets.
+-- Beside the promise.
 use Rattle.std.specs.Prelude.{◌≡◌, ◌<◌, ◌≤◌, ◌^◌, ◌&&◌, nat_le, ℕ, Bool, true, false, List, length, All, Option, Some}
 use Rattle.std.specs.Prelude.{None}
 use Rattle.cpu12_asm.specs.Bytes.{byte_at}

@@ -1,4 +1,5 @@
 -- What a block answers over bytes.
+-- Beside the promise.
 use Rattle.std.specs.Prelude.{ℕ, ◌+◌, ◌-◌, ◌*◌, ◌/◌, ◌≤◌, max, if◌then◌else◌, ◌==◌, List, [], ◌∷◌, sum_by, slice_get}
 use Rattle.std.specs.Prelude.{slice_index}
 use Rattle.std.specs.Option.{option_map_or}

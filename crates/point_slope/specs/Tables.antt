@@ -1,4 +1,5 @@
 -- A term's table and the grades under it.
+-- Beside the promise.
 use Rattle.std.specs.Prelude.{ℕ, ◌+◌, ◌-◌, ◌*◌, ◌/◌, min, if◌then◌else◌, ◌==◌, nat_lt, ◌||◌, List, [], ◌∷◌, map, Option}
 use Rattle.std.specs.Prelude.{Some, None, slice_index}
 use Rattle.std.specs.List.{flat_map}

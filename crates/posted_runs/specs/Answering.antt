@@ -1,5 +1,6 @@
 -- A run of a block's mailbox firmware under posts, by its turns: what each answers and takes is read off its own steps
 -- without interrupts.
+-- Beside the promise.
 use Rattle.std.specs.Prelude.{◌≡◌, ℕ, ◌+◌, ◌-◌, ◌^◌, ◌<◌, ◌≤◌, ◌≢◌, ◌==◌, true, if◌then◌else◌}
 use Rattle.std.specs.Prelude.{List, [], ◌∷◌, All, None, drop, length, map}
 use Rattle.fuzzy_meaning.specs.declared.block.Block.{Block}

@@ -1,4 +1,5 @@
 -- The part of a turn behind the copy as a sound form: the mailbox is open to its posts too.
+-- Beside the promise.
 use Rattle.std.specs.Prelude.{ℕ, ◌+◌, ◌*◌, ◌≤◌, not, Bool, List, [], ◌∷◌, length}
 use Rattle.cpu12_isa.specs.Agreement.{Agree, WritesAgree}
 use Rattle.cpu12_parts.specs.State.{State}

@@ -1,4 +1,5 @@
 -- A turn that answers, under posts, by the turn without interrupts of the sample that was posted last before the copy.
+-- Beside the promise.
 use Rattle.std.specs.Prelude.{◌≡◌, ℕ, ◌+◌, ◌-◌, ◌*◌, ◌≤◌, true, false, None, List, [], ◌∷◌, ◌++◌, drop, length, map}
 use Rattle.cpu12_isa.specs.declared.instr.Regs.{Regs}
 use Rattle.cpu12_isa.specs.Memory.{plus}

@@ -1,4 +1,5 @@
 -- What posts leave in the mailbox.
+-- Beside the promise.
 use Rattle.std.specs.Prelude.{◌≡◌, ℕ, ◌≤◌, ◌==◌, if◌then◌else◌, List, length, slice_set}
 use Rattle.cpu12_parts.specs.State.{State}
 use Rattle.eval_code.specs.declared.memory_map.MemoryMap.{MemoryMap}

@@ -1,4 +1,5 @@
 -- The run of the mailbox form under posts, turn by turn.
+-- Beside the promise.
 use Rattle.std.specs.Prelude.{ℕ, zero, suc, ◌+◌, ◌-◌, ◌*◌, ◌==◌, ◌&&◌, nat_lt, min, Bool, true, false, if◌then◌else◌}
 use Rattle.std.specs.Prelude.{List, [], ◌∷◌, ◌++◌, slice_index}
 use Rattle.cpu12_isa.specs.declared.instr.Write.{Write}

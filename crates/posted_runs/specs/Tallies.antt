@@ -1,4 +1,5 @@
 -- What was counted of a run, and what is left of it.
+-- Beside the promise.
 use Rattle.std.specs.Prelude.{ℕ, ◌+◌, List, ◌++◌}
 use Rattle.cpu12_emul.specs.Take.{FrameSeen}
 use Rattle.run_forms.specs.declared.sample.Tally.{Tally}

@@ -1,4 +1,5 @@
 -- The turns of the mailbox form under posts, by their lengths alone.
+-- Beside the promise.
 use Rattle.std.specs.Prelude.{◌≡◌, ◌≢◌, ℕ, ◌+◌, ◌-◌, ◌==◌, max, nat_le, if◌then◌else◌}
 use Rattle.std.specs.Prelude.{List, [], ◌∷◌, ◌++◌, map, flat_map}
 use Rattle.interrupt_plan.specs.declared.Post.{Post}

@@ -1,4 +1,5 @@
 -- Good posts have turns.
+-- Beside the promise.
 use Rattle.std.specs.Prelude.{ℕ, List, []}
 use Rattle.interrupt_plan.specs.declared.Post.{Post}
 use Rattle.interrupt_plan.specs.Posts.{AreGoodPosts}

@@ -1,4 +1,5 @@
 -- The turns of a block's mailbox firmware without interrupts: how many steps each takes, and what its steps are.
+-- Beside the promise.
 use Rattle.std.specs.Prelude.{◌≡◌, ◌≢◌, ℕ, ◌+◌, ◌^◌, ◌<◌, ◌≤◌, ◌⊎◌, ◌==◌, true, if◌then◌else◌}
 use Rattle.std.specs.Prelude.{List, [], ◌∷◌, ◌++◌, All, length, map, slice_index}
 use Rattle.fuzzy_meaning.specs.declared.block.Block.{Block}

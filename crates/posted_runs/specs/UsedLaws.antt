@@ -1,4 +1,5 @@
 -- What is known of writes, steps and interrupts, on which the laws of turns rest.
+-- Beside the promise.
 use Rattle.cpu12_isa.specs.Agreement.{WritesAgree, WritesStay}
 use Rattle.cpu12_isa.specs.Interrupts.{HidesPushed}
 use Rattle.cpu12_parts.specs.Inside.{PushesRunning, PushesNone}

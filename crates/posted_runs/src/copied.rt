@@ -1,4 +1,4 @@
-// The part of a turn behind the copy is a sound form.
+//! The part of a turn behind the copy is a sound form.
 ghost use Rattle.std.specs.Prelude.{length};
 ghost use Rattle.cpu12_emul.specs.Simulation.{OnStackOnly};
 ghost use Rattle.interrupt_plan.specs.Posts.{IsGoodPost};

@@ -1,4 +1,4 @@
-// A turn of the mailbox form, as a form of runs.
+//! A turn of the mailbox form, as a form of runs.
 ghost use Rattle.std.specs.Prelude.{◌≡◌, ◌≤◌, ◌<◌, ◌+◌, ◌++◌, ◌∷◌, [], length, map, take};
 ghost use Rattle.run_forms.specs.Rooms.{Fits};
 ghost use Rattle.interrupt_plan.specs.Posts.{IsGoodPost};

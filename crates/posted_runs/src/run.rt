@@ -1,4 +1,4 @@
-// The run of a firmware under posts.
+//! The run of a firmware under posts.
 ghost use Rattle.std.specs.Prelude.{◌≡◌, ◌≤◌, ◌<◌, ◌+◌, ◌*◌, ◌^◌, false, length, map, min, IfOk};
 ghost use Rattle.run_forms.specs.Rows.{frames_seen};
 ghost use Rattle.interrupt_plan.specs.Posts.{AreGoodPosts};

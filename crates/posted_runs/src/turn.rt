@@ -1,4 +1,4 @@
-// A turn: from one arrival where the code waits to the next.
+//! A turn: from one arrival where the code waits to the next.
 ghost use Rattle.std.specs.Prelude.{◌≡◌, ◌≤◌, ◌<◌, ◌+◌, ◌-◌, ◌^◌, All, true, false, length, map, drop};
 ghost use Rattle.run_law.specs.Forms.{run_from};
 ghost use Rattle.run_forms.specs.Rest.{rest_at, counted_at};

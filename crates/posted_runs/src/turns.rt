@@ -1,4 +1,4 @@
-// Turn after turn.
+//! Turn after turn.
 ghost use Rattle.std.specs.Prelude.{ℕ, ◌≡◌, ◌≤◌, ◌<◌, ◌+◌, ◌-◌, ◌*◌, ◌^◌, ◌==◌, ◌&&◌, ◌++◌, [], ◌∷◌, true, false, min};
 ghost use Rattle.std.specs.Prelude.{if◌then◌else◌, suc, All, length, map, drop, slice_index, vec_len, vec_capacity};
 ghost use Rattle.run_law.specs.Forms.{takes, is_empty};

@@ -1,4 +1,5 @@
 -- The bench: firmware in the machine, samples given to it, and interrupts. What is said here is of an image alone.
+-- Reached by the promise.
 use Rattle.std.specs.Prelude.{◌≡◌, ◌≢◌, ◌<◌, ℕ, suc, ◌==◌, ◌&&◌, true, false, List, [], ◌∷◌, ◌++◌, filter}
 use Rattle.std.specs.Prelude.{slice_index}
 use Rattle.cpu12_asm.specs.declared.image.Image.{Image}

@@ -1,4 +1,5 @@
 -- Laws of the promise.
+-- Beside the promise.
 use Rattle.box_tree.specs.declared.cert.CertKind.{CertKind}
 use Rattle.build_commands.specs.Certs.{AcceptsCert}
 use Rattle.codegen.specs.Firmwares.{IsFirmwareOf}

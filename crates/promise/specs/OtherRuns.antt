@@ -1,4 +1,5 @@
 -- What `gen`, `debug`, `hrun`, `lrun` and `srun` tell of their rows.
+-- Beside the promise.
 use Rattle.std.specs.Prelude.{◌≡◌, ◌<◌, ◌^◌, ℕ, List, length, map}
 use Rattle.eval_code.specs.declared.width.Width.TheVariants.{Byte}
 use Rattle.build_commands.specs.SeenOutputs.{SeenOutput}

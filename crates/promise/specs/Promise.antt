@@ -1,4 +1,5 @@
 -- What the program promises of a certified run, in the words of its one sentence.
+-- Reached by the promise.
 use Rattle.std.specs.Prelude.{◌≡◌, ◌≤◌, ℕ, List, All, length, map}
 use Rattle.fuzzy_meaning.specs.declared.block.Block.{Block}
 use Rattle.fcl_check.specs.Texts.{SpellsBlock}

@@ -1,4 +1,5 @@
 -- What a block within its limits has no part in.
+-- Beside the promise.
 use Rattle.std.specs.Prelude.{◌≢◌}
 use Rattle.fuzzy_meaning.specs.declared.block.Block.{Block}
 use Rattle.rule_layout.specs.Layouts.{IsFaultOf, IsWithinLimits}

@@ -1,4 +1,5 @@
 -- Conditions whose literals stand in a grid of 8 inputs by 15 terms.
+-- Beside the promise.
 use Rattle.std.specs.Prelude.{ℕ, ◌≤◌}
 use Rattle.fuzzy_meaning.specs.Conditions.{Condition, Conditions, HasLiterals, AllHaveLiterals}
 

@@ -1,4 +1,5 @@
 -- What a block's rules are laid out as, and when they are too many.
+-- Beside the promise.
 use Rattle.std.specs.Prelude.{◌≡◌, ℕ, ◌-◌, ◌*◌, ◌<◌, ◌≤◌, Bool, false, not, ◌&&◌, nat_le, List, map, length, get_or}
 use Rattle.std.specs.Prelude.{take, sum_by, flat_map, All, Option, Some, None, pos, int_lt, if◌then◌else◌}
 use Rattle.std.specs.List.{list_any}

@@ -1,5 +1,6 @@
 -- The rule list: per conjunction its literals, a separator, its conclusions, and a separator, or
 -- the end mark after the last (CPU12 Reference Manual, REV and REVW).
+-- Beside the promise.
 use Rattle.std.specs.Prelude.{ℕ, ◌+◌, List, [], ◌∷◌, ◌++◌, map}
 use Rattle.rule_layout.specs.declared.flat.Conjunction.{Conjunction}
 

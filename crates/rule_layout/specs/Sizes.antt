@@ -1,4 +1,5 @@
 -- What the sizes of lists of conjunctions say.
+-- Beside the promise.
 use Rattle.std.specs.Prelude.{◌≡◌, ℕ, ◌+◌, ◌*◌, ◌<◌, ◌≤◌, List, length, sum_by, Option, Some, None, Result, Ok, Err}
 use Rattle.std.specs.Prelude.{Bool, true, false}
 use Rattle.fuzzy_meaning.specs.declared.block.Rule.{Rule}

@@ -1,4 +1,5 @@
 -- A condition spread into conjunctions: the list of them, each the list of its literals.
+-- Beside the promise.
 use Rattle.std.specs.Prelude.{ℕ, Bool, List, [], ◌∷◌, ◌++◌, map, length, sum_by}
 use Rattle.fuzzy_meaning.specs.Conditions.{Condition, Conditions, Joins, joins, evaluate_pushed, evaluate_pushed_parts}
 

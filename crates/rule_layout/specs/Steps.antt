@@ -1,4 +1,5 @@
 -- What the steps of laying out rules make, by a table of the slots' numbers.
+-- Beside the promise.
 use Rattle.std.specs.Prelude.{ℕ, List, map, All}
 use Rattle.fuzzy_meaning.specs.declared.block.Rule.{Rule}
 use Rattle.rule_layout.specs.declared.flat.Conjunction.{Conjunction}

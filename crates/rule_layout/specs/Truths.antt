@@ -1,4 +1,5 @@
 -- The truth of conjunctions, and what spreading keeps.
+-- Beside the promise.
 use Rattle.std.specs.Prelude.{◌≡◌, ℕ, ◌-◌, ◌≤◌, min, max, false, List, [], ◌∷◌, map, flat_map, get_or, if◌then◌else◌}
 use Rattle.fuzzy_meaning.specs.declared.block.Block.{Block}
 use Rattle.fuzzy_meaning.specs.declared.block.Rule.{Rule}

@@ -1,4 +1,5 @@
 -- The certified run: what the program's answer to `run`, `run16`, `trun` and `trun16` says.
+-- Reached by the promise.
 use Rattle.std.specs.Prelude.{◌≡◌, ℕ, ◌-◌, List, drop, map, sum, take}
 use Rattle.cpu12_isa.specs.Regions.{free_start, stack_end}
 use Rattle.fuzzy_meaning.specs.declared.block.Block.{Block}

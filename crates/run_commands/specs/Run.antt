@@ -1,5 +1,6 @@
 -- The commands `run FCL IMAGE CERT TRACE PLAN FLAGS`, `run16 ..` with answers of 16 bits, and `trun ..` and `trun16 ..`
 -- under tight certificates.
+-- Reached by the promise.
 use Rattle.std.specs.Prelude.{◌≡◌, ◌<◌, ◌^◌, ℕ, List, [], ◌∷◌, ◌++◌, codes, Option, None, option_map}
 use Rattle.std.specs.Prelude.{Result, Ok, Err}
 use Rattle.fuzzy_meaning.specs.declared.block.Block.{Block}

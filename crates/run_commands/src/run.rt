@@ -36,7 +36,8 @@ use run_reports::laws::{
 use run_reports::row_lines::{begun, push_rows};
 use std::alloc::{AllocError, Global};
 
-/// `run FCL IMAGE CERT TRACE PLAN FLAGS`, `trun ..` under tight certificates, and both with `16` for answers of 16 bits.
+/// `run FCL IMAGE CERT TRACE PLAN FLAGS`, `trun ..` under tight certificates, and both with `16` for answers
+/// of 16 bits.
 #[derive(Clone, Copy, Debug, PartialEq, Eq)]
 pub struct Run {
     /// What the certificate's leaves say.

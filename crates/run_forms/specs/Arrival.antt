@@ -1,4 +1,5 @@
 -- A plain instruction is one step, and plain instructions lead to LOOP.
+-- Beside the promise.
 use Rattle.std.specs.Prelude.{◌≡◌, ℕ, ◌≤◌, Ok}
 use Rattle.cpu12_isa.specs.declared.instr.Instr.{Instr}
 use Rattle.cpu12_parts.specs.declared.temps.Temps.TheVariants.{Free}

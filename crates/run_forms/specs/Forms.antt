@@ -1,4 +1,5 @@
 -- What a form of firmware is, as a form of the law on runs, and what a run in Rust is of.
+-- Beside the promise.
 use Rattle.std.specs.Prelude.{ℕ, Bool, List}
 use Rattle.cpu12_parts.specs.State.{State}
 use Rattle.cpu12_emul.specs.Take.{FrameSeen}

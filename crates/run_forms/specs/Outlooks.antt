@@ -1,4 +1,5 @@
 -- Where a run under way stands, and what it has to give.
+-- Beside the promise.
 use Rattle.std.specs.Prelude.{◌≡◌, ◌≤◌, ℕ, zero, suc, ◌+◌, ◌-◌, Option, Some, None, List, [], ◌∷◌, ◌++◌}
 use Rattle.std.specs.Prelude.{length, take, drop, map, slice_get, vec_len, vec_capacity}
 use Rattle.cpu12_parts.specs.State.{State}

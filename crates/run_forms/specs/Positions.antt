@@ -1,4 +1,5 @@
 -- The positions of a run: the states at its boundaries, sample by sample.
+-- Beside the promise.
 use Rattle.std.specs.Prelude.{ℕ, suc, List, [], ◌∷◌, ◌++◌}
 use Rattle.cpu12_parts.specs.State.{State}
 use Rattle.run_law.specs.Forms.{Rows}

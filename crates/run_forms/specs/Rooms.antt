@@ -1,4 +1,5 @@
 -- Room in vectors for what the requests of a sample push and tell.
+-- Beside the promise.
 use Rattle.std.specs.Prelude.{◌≤◌, ℕ, ◌+◌, map, vec_len, vec_capacity}
 use Rattle.run_forms.specs.declared.sample.Room.{Room}
 use Rattle.run_forms.specs.Forms.{Notes}

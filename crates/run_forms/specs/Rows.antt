@@ -1,4 +1,5 @@
 -- The rows of a form's samples under a plan.
+-- Beside the promise.
 use Rattle.std.specs.Prelude.{ℕ, zero, suc, ◌==◌, Bool, if◌then◌else◌, Result}
 use Rattle.std.specs.Prelude.{Ok, Err, List, [], ◌∷◌, filter, map}
 use Rattle.cpu12_parts.specs.State.{State}

@@ -1,4 +1,5 @@
 -- What is shown of runs has their rows and what was told.
+-- Beside the promise.
 use Rattle.std.specs.Prelude.{◌≡◌, ℕ, List, map}
 use Rattle.cpu12_parts.specs.State.{State}
 use Rattle.run_law.specs.Forms.{Form, Rows, rows_from}

@@ -1,4 +1,5 @@
 -- The requests of a plan, sample by sample, and room for what they push and tell.
+-- Beside the promise.
 use Rattle.std.specs.Prelude.{◌≡◌, ◌≤◌, ℕ, zero, suc, List, [], ◌∷◌, length, drop, take_while}
 use Rattle.run_forms.specs.Forms.{Notes, sample_in}
 use Rattle.run_forms.specs.Rows.{is_of}

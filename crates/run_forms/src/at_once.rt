@@ -1,4 +1,4 @@
-// Parts of REV and REVW that are done at once, where nothing comes at the boundaries between them.
+//! Parts of REV and REVW that are done at once, where nothing comes at the boundaries between them.
 ghost use Rattle.std.specs.Prelude.{◌≡◌, ◌≤◌, ◌<◌, ◌+◌, ◌^◌, List, drop};
 ghost use Rattle.cpu12_parts.specs.State.{State};
 ghost use Rattle.run_forms.specs.Forms.{moment_in};

@@ -1,5 +1,5 @@
-// A boundary of a sample: what is taken there, and the step after it. What is done at each is inlined into the loop
-// over all of them, what is seldom done is not.
+//! A boundary of a sample: what is taken there, and the step after it. What is done at each is inlined into the loop
+//! over all of them, what is seldom done is not.
 ghost use Rattle.std.specs.Prelude.{ℕ, ◌≡◌, ◌≤◌, ◌<◌, ◌+◌, ◌-◌, ◌&&◌, nat_lt};
 ghost use Rattle.std.specs.Prelude.{◌^◌, All, true, false, Ok, Err, length};
 ghost use Rattle.cpu12_emul.specs.declared.ends.Stepped.{Stepped as Kind};

@@ -1,4 +1,4 @@
-// Laws of runs of any form.
+//! Laws of runs of any form.
 ghost use Rattle.run_forms.specs.Arrival.{ArrivesPlainly, PlainIsOneStep};
 ghost use Rattle.run_forms.specs.Showing.{RowsAreShown};
 

@@ -1,4 +1,4 @@
-// A run under way, sample after sample.
+//! A run under way, sample after sample.
 ghost use Rattle.std.specs.Prelude.{ℕ, ◌≡◌, ◌≤◌, ◌<◌, ◌+◌, ◌-◌, ◌^◌, List};
 ghost use Rattle.std.specs.Prelude.{[], All, true, false, length, map, drop, vec_len, vec_capacity};
 ghost use Rattle.cpu12_parts.specs.State.{State};

@@ -1,4 +1,4 @@
-// What is taken at a boundary, and what is counted.
+//! What is taken at a boundary, and what is counted.
 ghost use Rattle.std.specs.Prelude.{ℕ, ◌≡◌, ◌≤◌, ◌<◌, ◌+◌, ◌-◌, ◌++◌, ◌∷◌, [], true, All, length, drop};
 ghost use Rattle.cpu12_emul.specs.Take.{frame_seen};
 ghost use Rattle.run_law.specs.Forms.{takes};

@@ -1,4 +1,4 @@
-// The run of one sample.
+//! The run of one sample.
 ghost use Rattle.std.specs.Prelude.{◌≡◌, ◌≤◌, ◌<◌, ◌+◌, ◌-◌, ◌^◌, All, true, false, length, drop};
 ghost use Rattle.run_law.specs.Forms.{run_from};
 ghost use Rattle.run_forms.specs.Forms.{plan_form};

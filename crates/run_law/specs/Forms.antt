@@ -1,4 +1,5 @@
 -- A form of firmware with its handler, and its run under requests, boundary by boundary.
+-- Reached by the promise.
 use Rattle.std.specs.Prelude.{ℕ, zero, suc, ◌+◌, ◌&&◌, not, nat_le, Bool, true, false, if◌then◌else◌, Result, Ok, Err}
 use Rattle.std.specs.Prelude.{List, [], ◌∷◌, ◌++◌}
 use Rattle.cpu12_parts.specs.State.{State}

@@ -1,4 +1,5 @@
 -- What is known of one step, and of interrupts between steps.
+-- Beside the promise.
 use Rattle.cpu12_isa.specs.declared.instr.Instr.{Instr}
 use Rattle.cpu12_isa.specs.declared.instr.Instr.TheVariants.{Rev, Revw, Wav}
 use Rattle.cpu12_isa.specs.Agreement.{WritesStay}

@@ -1,4 +1,5 @@
 -- The run of a sample without interrupts, and what is expected of its run under requests.
+-- Reached by the promise.
 use Rattle.std.specs.Prelude.{ℕ, zero, suc, ◌+◌, ◌-◌, ◌==◌, ◌&&◌, ◌||◌, not, nat_lt, Bool, true, false, if◌then◌else◌}
 use Rattle.std.specs.Prelude.{Result, Ok, Err, Option, Some, None, List, [], ◌∷◌, ◌++◌}
 use Rattle.cpu12_isa.specs.Memory.{plus}

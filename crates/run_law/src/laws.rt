@@ -1,4 +1,4 @@
-// The law on runs.
+//! The law on runs.
 ghost use Rattle.std.specs.Prelude.{ℕ, Bool, List};
 ghost use Rattle.cpu12_isa.specs.Agreement.{WritesAgree};
 ghost use Rattle.cpu12_parts.specs.State.{State};

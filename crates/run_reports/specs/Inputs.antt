@@ -1,4 +1,5 @@
 -- The contents of the files of a run, accepted or refused one by one.
+-- Beside the promise.
 use Rattle.std.specs.Prelude.{ℕ, List}
 use Rattle.fuzzy_meaning.specs.declared.block.Block.{Block}
 use Rattle.box_tree.specs.declared.cert.CertKind.{CertKind}

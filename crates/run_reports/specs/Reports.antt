@@ -1,4 +1,5 @@
 -- What a report of a run says.
+-- Reached by the promise.
 use Rattle.std.specs.Prelude.{◌≡◌, ℕ, ◌≤◌, List, All, map}
 use Rattle.fuzzy_meaning.specs.declared.block.Block.{Block}
 use Rattle.eval_code.specs.Bounds.{instruction_bound}

@@ -1,4 +1,5 @@
 -- The lines that all runs tell of samples, answers and frames.
+-- Reached by the promise.
 use Rattle.std.specs.Prelude.{ℕ, List, [], ◌∷◌, ◌++◌, codes, decimal, length}
 use Rattle.std.specs.List.{flat_map}
 use Rattle.cpu12_emul.specs.Take.{FrameSeen}

@@ -1,4 +1,5 @@
 -- The records of an image.
+-- Beside the promise.
 use Rattle.std.specs.Prelude.{◌≡◌, ◌⊎◌, ℕ, ◌+◌, ◌<◌, ◌≤◌, List, [], ◌∷◌, ◌++◌, length, codes}
 use Rattle.cpu12_asm.specs.Bytes.{placed}
 use Rattle.hex.specs.Hex.{IsBytes}

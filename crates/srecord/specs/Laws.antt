@@ -1,4 +1,5 @@
 -- What holds of every text of records.
+-- Beside the promise.
 use Rattle.std.specs.Prelude.{◌≡◌, ◌⊎◌, ℕ, ◌≤◌, List, length}
 use Rattle.cpu12_asm.specs.Bytes.{IsAscending, byte_at}
 use Rattle.cpu12_asm.specs.declared.image.Image.{Image}

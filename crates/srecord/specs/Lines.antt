@@ -1,4 +1,5 @@
 -- The fields of one line, and what is wrong with one that has none.
+-- Reached by the promise.
 use Rattle.std.specs.Prelude.{◌≡◌, ◌≢◌, ℕ, ◌+◌, ◌≤◌, ◌==◌, ◌||◌, Bool, true, if◌then◌else◌, List, [], ◌∷◌, ◌++◌, length}
 use Rattle.std.specs.Prelude.{Option, Some, None, Ok}
 use Rattle.hex.specs.Hex.{decode_of}

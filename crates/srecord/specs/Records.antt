@@ -1,4 +1,5 @@
 -- One record.
+-- Reached by the promise.
 use Rattle.std.specs.Prelude.{ℕ, ◌+◌, ◌-◌, ◌/◌, ◌%◌, List, [], ◌∷◌, ◌++◌, length, sum, codes}
 use Rattle.hex.specs.Hex.{encode_upper}
 

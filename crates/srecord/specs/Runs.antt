@@ -1,4 +1,5 @@
 -- Neighbouring bytes.
+-- Beside the promise.
 use Rattle.std.specs.Prelude.{◌≡◌, ℕ, ◌+◌, List, [], ◌∷◌, map, slice_index_or}
 
 abbrev pub address_at : List (ℕ × ℕ) → ℕ → ℕ

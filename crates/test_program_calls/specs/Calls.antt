@@ -1,4 +1,5 @@
 -- What a call of the program leaves, over a shelf and sinks in memory.
+-- Beside the promise.
 use Rattle.std.specs.Prelude.{◌≡◌, ℕ, List, [], map, Option, Some}
 use Rattle.std.specs.Borrow.{Bor}
 use Rattle.fz_shelf.specs.Files.{Names}

@@ -1,4 +1,5 @@
 -- Files in memory, and differences in them.
+-- Beside the promise.
 use Rattle.std.specs.Prelude.{◌≡◌, ℕ, List}
 use Rattle.std.specs.String.{string_bytes}
 use Rattle.fz_shelf.specs.declared.mem_shelf.MemFile.{MemFile}

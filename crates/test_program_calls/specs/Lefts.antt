@@ -1,4 +1,5 @@
 -- What a call is to leave, and how what it left differs.
+-- Beside the promise.
 use Rattle.std.specs.Prelude.{◌≡◌, ◌≢◌, ℕ, List, [], codes, Option, Some, option_map}
 use Rattle.fz_shelf.specs.Told.{Taken}
 use Rattle.test_program_calls.specs.declared.difference.Difference.{Difference}

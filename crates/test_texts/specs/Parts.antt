@@ -1,4 +1,5 @@
 -- A text in parts.
+-- Beside the promise.
 use Rattle.std.specs.Prelude.{ℕ, List, flat_map}
 use Rattle.std.specs.Borrow.{Bor}
 

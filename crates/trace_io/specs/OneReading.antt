@@ -1,4 +1,5 @@
 -- A text is a trace or has a first fault, not both, and it has one.
+-- Beside the promise.
 use Rattle.std.specs.Prelude.{◌≡◌, ℕ, List}
 use Rattle.fuzzy_meaning.specs.declared.block.Input.{Input}
 use Rattle.trace_io.specs.Traces.{HasFault, Spells}

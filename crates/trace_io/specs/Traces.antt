@@ -1,4 +1,5 @@
 -- What a trace spells, and its first fault.
+-- Reached by the promise.
 use Rattle.std.specs.Prelude.{◌≡◌, ◌≢◌, ◌<◌, ◌+◌, ℕ, List, [], ◌∷◌, ◌++◌, length, Option, Some, None, option_map}
 use Rattle.std.specs.Prelude.{Result, Ok, Err}
 pub use Rattle.fz_rows.specs.FirstRows.{Fields, AreFirstRows}

@@ -1,4 +1,5 @@
 -- The firmware of two blocks at two levels is one.
+-- Beside the promise.
 use Rattle.std.specs.Prelude.{◌≡◌}
 use Rattle.fuzzy_meaning.specs.declared.block.Block.{Block}
 use Rattle.two_level.specs.declared.two.Two.{Two}

@@ -1,4 +1,5 @@
 -- Why two blocks are refused.
+-- Beside the promise.
 use Rattle.std.specs.Prelude.{◌≢◌}
 use Rattle.fuzzy_meaning.specs.declared.block.Block.{Block}
 use Rattle.rule_layout.specs.declared.flat.LayoutFault.TheVariants as memory_map

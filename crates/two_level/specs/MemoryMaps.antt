@@ -1,4 +1,5 @@
 -- Where a fast block stands beside the firmware of a slow one.
+-- Beside the promise.
 use Rattle.std.specs.Prelude.{ℕ, ◌+◌, ◌-◌, List, [], ◌∷◌, nat_le, nat_lt, ◌&&◌, ◌||◌, Bool}
 use Rattle.cpu12_isa.specs.declared.instr.Instr.{Instr}
 use Rattle.cpu12_isa.specs.declared.instr.Instr.TheVariants.{Andcc, Rti}

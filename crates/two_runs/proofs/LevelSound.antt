@@ -18,7 +18,7 @@ use Rattle.firmware_ports.specs.Ports.{given, answer_size}
 use Rattle.instruction_steps.specs.Facts.{FactsBeside}
 use Rattle.fz_run.specs.Following.{IsLow}
 use Rattle.fz_run.specs.OpenBytes.{AreOpenAlike, StepLeavesOpen}
-use Rattle.fz_run.specs.SoundAlone.{LeavesPorts, given_alike, answered_alike, ended_alike}
+use Rattle.fz_run.specs.SoundAloneProof.{LeavesPorts, given_alike, answered_alike, ended_alike}
 use Rattle.two_runs.specs.Runs.{FastSeen}
 use Rattle.two_runs.specs.Levels.{fitted, fitted_form, FastStands}
 use Rattle.two_runs.proofs.Bytes.{step_bytes, push_bytes}

@@ -1,4 +1,5 @@
 -- What runs at two levels answer.
+-- Beside the promise.
 use Rattle.std.specs.Prelude.{◌≡◌, ℕ, suc, ◌^◌, ◌<◌, ◌≤◌, max, Bool, true, Option, None, Some}
 use Rattle.std.specs.Prelude.{List, [], ◌∷◌, length, map, All, filter_map, flat_map}
 use Rattle.fuzzy_meaning.specs.declared.block.Block.{Block}

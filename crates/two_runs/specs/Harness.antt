@@ -1,4 +1,5 @@
 -- The rows of the code at two levels, and the form of which they are.
+-- Beside the promise.
 use Rattle.std.specs.Prelude.{ℕ, Option, None, Some, List, map}
 use Rattle.interrupt_plan.specs.declared.levels.Level.{Level}
 use Rattle.trace_io.specs.declared.sample.Sample.{Sample}

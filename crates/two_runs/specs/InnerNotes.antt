@@ -1,4 +1,5 @@
 -- What is noted of the inner requests of a fast run.
+-- Beside the promise.
 use Rattle.std.specs.Prelude.{ℕ, List, [], map}
 use Rattle.arrayvec.specs.ArrayVec.{ArrayVec}
 use Rattle.cpu12_emul.specs.Take.{FrameSeen, frame_seen}

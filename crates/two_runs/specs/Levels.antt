@@ -1,4 +1,5 @@
 -- A slow firmware whose interrupts serve levels, as a sound form.
+-- Beside the promise.
 use Rattle.std.specs.Prelude.{ℕ, ◌%◌, ◌^◌, Option, None, Some, List, [], ◌∷◌, All, map, take, length}
 use Rattle.fuzzy_meaning.specs.declared.block.Block.{Block}
 use Rattle.cpu12_isa.specs.Agreement.{WritesAgree}

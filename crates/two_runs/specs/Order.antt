@@ -1,4 +1,5 @@
 -- Levels are requests in order, and make a plan.
+-- Beside the promise.
 use Rattle.std.specs.Prelude.{ℕ, List}
 use Rattle.interrupt_plan.specs.declared.levels.Level.{Level}
 use Rattle.interrupt_plan.specs.Levels.{AreGoodLevels}

@@ -1,4 +1,5 @@
 -- The rows of a slow firmware over a list of samples, with fast runs inside its interrupts.
+-- Beside the promise.
 use Rattle.std.specs.Prelude.{ℕ, zero, suc, Option, None, List, slice_get}
 use Rattle.cpu12_parts.specs.State.{State}
 use Rattle.run_law.specs.Forms.{Form, RowSeen, Rows, rows_from}

@@ -1,4 +1,5 @@
 -- A fast run inside an interrupt, under inner requests, and the interrupt in which it runs.
+-- Beside the promise.
 use Rattle.std.specs.Prelude.{ℕ, nat_lt, false, List, [], Option, None, Some}
 use Rattle.cpu12_isa.specs.Act.{write_all}
 use Rattle.cpu12_isa.specs.Memory.{from, placed, bytes_at}

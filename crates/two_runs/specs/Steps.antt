@@ -1,4 +1,5 @@
 -- The fast code as steps without interrupts.
+-- Beside the promise.
 use Rattle.std.specs.Prelude.{◌≡◌, ℕ, suc, ◌+◌, ◌^◌, ◌<◌, ◌≤◌, ◌⊎◌, ◌&&◌, ◌||◌, not, nat_le, nat_lt, Bool, true, false}
 use Rattle.std.specs.Prelude.{List, length, slice_index}
 use Rattle.fuzzy_meaning.specs.declared.block.Block.{Block}

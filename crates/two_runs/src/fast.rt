@@ -1,4 +1,4 @@
-// The run of the fast code inside an interrupt.
+//! The run of the fast code inside an interrupt.
 ghost use Rattle.std.specs.Prelude.{ℕ, ◌≡◌, ◌≤◌, length, IsTrue};
 ghost use Rattle.cpu12_parts.specs.Cuts.{suspended, wav};
 ghost use Rattle.cpu12_isa.specs.Memory.{from, bytes_at};

@@ -1,4 +1,4 @@
-// The fast code inside an interrupt, as a form of runs.
+//! The fast code inside an interrupt, as a form of runs.
 ghost use Rattle.std.specs.Prelude.{ℕ, ◌≤◌, ◌+◌};
 ghost use Rattle.arrayvec.specs.ArrayVec.{array_vec_len};
 ghost use Rattle.two_runs.specs.InnerNotes.{fast_harness};

@@ -1,4 +1,4 @@
-// A slow firmware with a fast block beside it, as a form of runs.
+//! A slow firmware with a fast block beside it, as a form of runs.
 ghost use Rattle.std.specs.Prelude.{ℕ, ◌≡◌, ◌≤◌, ◌<◌, List, Option, Some, length, slice_get};
 ghost use Rattle.run_forms.specs.Rest.{counted_at, shown_by};
 ghost use Rattle.run_forms.specs.Rooms.{Fits};

@@ -1,4 +1,4 @@
-// The fast code under inner requests.
+//! The fast code under inner requests.
 ghost use Rattle.std.specs.Prelude.{ℕ};
 ghost use Rattle.cpu12_emul.specs.Simulation.{OnStackOnly};
 ghost use Rattle.two_runs.specs.Runs.{fast_form};

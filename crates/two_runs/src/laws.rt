@@ -1,4 +1,4 @@
-// Laws of runs at two levels.
+//! Laws of runs at two levels.
 ghost use Rattle.two_runs.specs.Steps.{FastRunsExist, FastStepsReturn};
 ghost use Rattle.two_runs.specs.Answering.{AnswersUnderLevels, RowsAreSeen};
 ghost use Rattle.two_runs.specs.Entered.{FastIsEntered};

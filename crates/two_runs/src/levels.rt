@@ -1,4 +1,4 @@
-// A slow firmware whose interrupts serve levels is a sound form.
+//! A slow firmware whose interrupts serve levels is a sound form.
 ghost use Rattle.std.specs.Prelude.{ℕ, List, Option, length};
 ghost use Rattle.cpu12_emul.specs.Simulation.{OnStackOrNone};
 ghost use Rattle.interrupt_plan.specs.declared.levels.Level as plan;

@@ -1,4 +1,4 @@
-// What serves an outer request.
+//! What serves an outer request.
 ghost use Rattle.std.specs.Prelude.{ℕ, ◌≡◌, ◌≤◌, None, Some, map, length, MatchOption, IsTrue};
 ghost use Rattle.cpu12_parts.specs.Cuts.{suspended, wav};
 ghost use Rattle.cpu12_emul.specs.Take.{may_interrupt, frame_seen, frame_of};

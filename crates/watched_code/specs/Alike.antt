@@ -1,4 +1,5 @@
 -- The firmware of a block with watched tables is one.
+-- Beside the promise.
 use Rattle.std.specs.Prelude.{◌≡◌}
 use Rattle.fuzzy_meaning.specs.declared.block.Block.{Block}
 use Rattle.codegen.specs.declared.firmware.Firmware.{Firmware}

@@ -1,4 +1,5 @@
 -- A byte that makes the sum of bytes 0, modulo 256, and what it finds.
+-- Beside the promise.
 use Rattle.std.specs.Prelude.{◌≡◌, ◌≢◌, ℕ, ◌+◌, ◌-◌, ◌%◌, ◌^◌, ◌<◌, List, length, All, sum, slice_index, slice_set}
 
 -- the byte that is added to the sum of bytes to make it 0

@@ -1,4 +1,5 @@
 -- The firmware of a block whose tables are watched, and what it answers while a byte of them is upset.
+-- Beside the promise.
 use Rattle.std.specs.Prelude.{◌≡◌, ◌≢◌, ℕ, ◌+◌, ◌*◌, ◌^◌, ◌<◌, ◌≤◌, ◌==◌, not, Bool, true, false, List, [], ◌∷◌, ◌++◌}
 use Rattle.std.specs.Prelude.{length, sum_by, All, Option, Some, None, slice_index, slice_set, if◌then◌else◌}
 use Rattle.fz_num.specs.declared.dec.Dec.{Dec}

@@ -1,4 +1,5 @@
 -- The code that checks a firmware's tables before EVAL.
+-- Beside the promise.
 use Rattle.std.specs.Prelude.{ℕ, ◌+◌, ◌-◌, ◌^◌, ◌<◌, ◌≤◌, List, [], ◌∷◌, ◌++◌, length, flat_map, Option, Some, None}
 use Rattle.std.specs.Prelude.{option_map}
 use Rattle.fuzzy_meaning.specs.declared.block.Block.{Block}

@@ -1,4 +1,5 @@
 -- A firmware whose tables are watched, as a form of the law on runs.
+-- Beside the promise.
 use Rattle.std.specs.Prelude.{ℕ, [], ◌∷◌, ◌++◌, slice_index}
 use Rattle.cpu12_isa.specs.Regions.{is_free}
 use Rattle.cpu12_parts.specs.State.{State}

@@ -1,5 +1,5 @@
 pub mod Samples
 pub mod Forms
-pub mod SoundWatched
+pub mod SoundWatchedProof
 pub mod Rows
 pub mod Answering

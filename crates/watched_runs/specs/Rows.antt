@@ -1,4 +1,5 @@
 -- The rows of a list of samples under a plan and upsets.
+-- Beside the promise.
 use Rattle.std.specs.Prelude.{ℕ, suc, List, [], ◌∷◌, map, take, slice_index}
 use Rattle.cpu12_parts.specs.State.{State}
 use Rattle.cpu12_emul.specs.Image.{image_memory}

@@ -1,4 +1,5 @@
 -- The samples of a trace, each with what is upset while it is answered.
+-- Beside the promise.
 use Rattle.std.specs.Prelude.{ℕ, suc, ◌<◌, ◌==◌, if◌then◌else◌, Option}
 use Rattle.std.specs.Prelude.{Some, None, List, [], ◌∷◌, length, slice_index_or}
 use Rattle.interrupt_plan.specs.declared.upsets.Upset.{Upset}

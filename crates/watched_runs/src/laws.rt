@@ -1,4 +1,4 @@
-// Laws of runs under upsets.
+//! Laws of runs under upsets.
 ghost use Rattle.watched_runs.specs.Answering.{AnswersUnderAllUpsets};
 
 use crate::watched::WatchedTables;

@@ -1,4 +1,4 @@
-// The upset of a sample, among upsets that ascend, and what it does.
+//! The upset of a sample, among upsets that ascend, and what it does.
 ghost use Rattle.std.specs.Prelude.{ℕ, ◌≡◌, MatchResult, None, slice_get};
 ghost use Rattle.cpu12_emul.specs.Image.{image_memory};
 ghost use Rattle.interrupt_plan.specs.Upsets.{SamplesAscend};

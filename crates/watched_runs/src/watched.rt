@@ -1,4 +1,4 @@
-// A firmware whose tables are watched is a sound form.
+//! A firmware whose tables are watched is a sound form.
 ghost use Rattle.std.specs.Prelude.{ℕ};
 ghost use Rattle.cpu12_isa.specs.Regions.{is_free};
 ghost use Rattle.cpu12_emul.specs.Simulation.{OnStackOnly};
@@ -7,7 +7,7 @@ ghost use Rattle.interrupt_plan.specs.declared.Request as plan;
 ghost use Rattle.watched_code.specs.Watched as tables;
 ghost use Rattle.fz_run.specs.Following.{Alone, Nothing};
 ghost use Rattle.watched_runs.specs.Forms.{watched_form, FactsWatched};
-ghost use Rattle.watched_runs.specs.SoundWatched.{sound};
+ghost use Rattle.watched_runs.specs.SoundWatchedProof.{sound};
 
 use run_law::laws::SoundForm;
 

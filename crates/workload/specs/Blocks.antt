@@ -1,4 +1,5 @@
 -- The block that is drawn: nine terms over each of two inputs, and a rule for each pair of them.
+-- Beside the promise.
 use Rattle.std.specs.Prelude.{ℕ, ◌+◌, ◌-◌, ◌*◌, ◌/◌, ◌%◌, ◌==◌, if◌then◌else◌, List, [], ◌∷◌, map, Some, None, pos}
 use Rattle.std.specs.List.{range_with_len}
 use Rattle.fz_num.specs.declared.dec.Dec.{Dec}

@@ -1,4 +1,5 @@
 -- The draws of a number.
+-- Beside the promise.
 use Rattle.std.specs.Prelude.{ℕ, zero, suc, ◌+◌, ◌*◌, ◌/◌, ◌%◌, ◌^◌}
 
 -- the state of the linear congruential generator behind a state

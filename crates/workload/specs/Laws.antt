@@ -1,4 +1,5 @@
 -- What holds of every block that is drawn.
+-- Beside the promise.
 use Rattle.std.specs.Prelude.{ℕ, ◌<◌, ◌≤◌, length}
 use Rattle.fcl_check.specs.Texts.{SpellsBlock}
 use Rattle.rule_layout.specs.Layouts.{IsWithinLimits}

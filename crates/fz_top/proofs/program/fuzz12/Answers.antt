@@ -58,5 +58,6 @@ returns-clause-accepted g c = λ kind width flags files are told accepted why.
     let byte = flags_small (word_at words 7) flags are.run.flags_are in
     let keep = c.certified_runs_keep_promise.ensures in
     let given = c.accepted_files_give_firmware.ensures kind width flags files accepted in
-    returns-clause-done g c (asked kind width flags) (contents_of files) (can words kind width flags files _ are told given)
+    returns-clause-done g c (asked kind width flags) (contents_of files)
+    (can words kind width flags files _ are told given)
     (⊎_elim inl (λ r. inr (r.0.0, r.0.1, room_for keep words kind width flags files _ _ byte r.1)) why)

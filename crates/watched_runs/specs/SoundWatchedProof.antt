@@ -1,4 +1,5 @@
 -- A firmware whose tables are watched is a sound form. The proof stands here, where an impl can cite it.
+-- Beside the promise.
 use Rattle.std.proofs.Common.{ℕ, List, [], ◌∷◌, ◌++◌, ap₂, arith, inl}
 use Rattle.std.specs.Prelude.{Option, Some, None, slice_index}
 use Rattle.cpu12_isa.specs.Agreement.{WritesAgree}
@@ -13,8 +14,8 @@ use Rattle.watched_code.specs.Watched.{Change, changed, restored}
 use Rattle.watched_code.specs.WatchedCode.{fault_at}
 use Rattle.fz_run.specs.Following.{IsLow, Nothing}
 use Rattle.firmware_ports.specs.Ports.{given}
-use Rattle.fz_run.specs.SoundAlone as alone
-use Rattle.fz_run.specs.SoundAlone.{leaves_stack, free_opens, low_shown, all_open}
+use Rattle.fz_run.specs.SoundAloneProof as alone
+use Rattle.fz_run.specs.SoundAloneProof.{leaves_stack, free_opens, low_shown, all_open}
 use Rattle.watched_runs.specs.Forms.{watched_form, FactsWatched}
 
 -- one byte more is written alike

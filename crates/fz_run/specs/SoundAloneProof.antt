@@ -1,5 +1,6 @@
 -- A firmware that stands alone is a sound form under requests that list writes. The proof stands here, where an impl
 -- can cite it.
+-- Beside the promise.
 use Rattle.std.proofs.Common.{◌≡◌, ℕ, zero, suc, ◌+◌, ◌*◌, ◌<◌, ◌≤◌, Bool, true, false, List, [], ◌∷◌, ◌++◌, refl, ap}
 use Rattle.std.proofs.Common.{ap₂, arith, inl, nat_lt, nat_le}
 use Rattle.std.specs.Prelude.{All, ◌==◌, ◌&&◌}

@@ -1,5 +1,6 @@
 -- A firmware whose interrupts run an accepted handler is a sound form. The proof stands here, where an impl can cite
 -- it.
+-- Beside the promise.
 use Rattle.std.proofs.Common.{◌≡◌, ℕ, zero, suc, ◌+◌, ◌<◌, ◌≤◌, ◌⊎◌, inl, inr, Bool, true, false, Some, List, [], ◌∷◌}
 use Rattle.std.proofs.Common.{length, get_or, refl, ap, sym, ◌∙◌, subst, arith, nat_lt, nat_le}
 use Rattle.std.specs.Prelude.{All, take, ◌&&◌, ◌||◌}
@@ -28,7 +29,7 @@ use Rattle.firmware_ports.specs.Ports.{given}
 use Rattle.instruction_steps.specs.Facts.{IsStackOfOneCall, FactsBeside}
 use Rattle.fz_run.specs.Following.{IsLow, OpensFree}
 use Rattle.fz_run.specs.OpenBytes.{AreOpenAlike, StepsLeaveOpen, GivenLeavesOpen}
-use Rattle.fz_run.specs.SoundAlone.{low_ports, given_alike, answered_alike, ended_alike}
+use Rattle.fz_run.specs.SoundAloneProof.{low_ports, given_alike, answered_alike, ended_alike}
 use Rattle.handled_runs.specs.Open.{is_code, is_open_to_code}
 use Rattle.handled_runs.specs.declared.back.HandlerEnd.{HandlerEnd}
 use Rattle.handled_runs.specs.Forms.{served, end_of, with_code}
