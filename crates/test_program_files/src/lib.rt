@@ -13,4 +13,5 @@ mod exec;
 mod hcheck;
 #[cfg(test)]
 mod images;
+#[cfg(test)]
 mod tight;
