@@ -2,14 +2,11 @@
 use Rattle.std.proofs.Common.{◌≡◌, ◌≢◌, ◌≤◌, ℕ, List, [], ◌∷◌, ◌++◌, refl, sym, ◌∙◌, arith}
 use Rattle.std.specs.Prelude.{codes}
 use Rattle.std.proofs.lemmas.List.Elements.{All-cons, All-nil}
-use Rattle.box_tree.specs.declared.cert.CertKind.{CertKind}
-use Rattle.box_tree.specs.declared.cert.AnswerWidth.{AnswerWidth}
+use Rattle.box_tree.specs.declared.{cert.CertKind.CertKind, cert.AnswerWidth.AnswerWidth}
 use Rattle.box_tree.specs.declared.cert.CertKind.TheVariants.{Named, Tight}
 use Rattle.box_tree.specs.declared.cert.AnswerWidth.TheVariants.{Byte, Word}
-use Rattle.box_tree.specs.Certificates.{AreClaims}
-use Rattle.box_tree.specs.Texts.{line, version_of, version_line, claim_line}
-use Rattle.box_tree.proofs.LineLemmas.{IsSmall}
-use Rattle.box_tree.proofs.NodeLemmas.{AreSmall, NoLine, line_is_one}
+use Rattle.box_tree.specs.{Certificates.AreClaims, Texts.line, Texts.version_of, Texts.version_line, Texts.claim_line}
+use Rattle.box_tree.proofs.{LineLemmas.IsSmall, NodeLemmas.AreSmall, NodeLemmas.NoLine, NodeLemmas.line_is_one}
 
 few_versions : (k : CertKind) (v : AnswerWidth) → version_of k v ≤ 1000000
 few_versions Named Byte = omega arith

@@ -2,19 +2,15 @@
 use Rattle.std.proofs.Common.{◌≡◌, ℕ, List, [], ◌∷◌, ◌++◌, length, get_or, All, refl, sym, ◌∙◌, ap, arith, subst}
 use Rattle.std.specs.Prelude.{codes}
 use Rattle.std.proofs.lemmas.List.Elements.{All-head, All-tail}
-use Rattle.box_tree.specs.declared.cert.CertKind.{CertKind}
+use Rattle.box_tree.specs.declared.{cert.CertKind.CertKind, cert.LeafForm.LeafForm}
 use Rattle.box_tree.specs.declared.cert.CertKind.TheVariants.{Named, Tight}
-use Rattle.box_tree.specs.declared.cert.LeafForm.{LeafForm}
 use Rattle.box_tree.specs.declared.cert.LeafForm.TheVariants as form
-use Rattle.box_tree.specs.declared.cert.Node.{Node}
+use Rattle.box_tree.specs.declared.{cert.Node.Node, cert.Cert.Cert}
 use Rattle.box_tree.specs.declared.cert.Node.TheVariants.{Split, Leaf}
-use Rattle.box_tree.specs.declared.cert.Cert.{Cert}
-use Rattle.box_tree.specs.Certificates.{IsLeaf, IsNode}
+use Rattle.box_tree.specs.{Certificates.IsLeaf, Certificates.IsNode, Laws.CertsAreOne}
 use Rattle.box_tree.specs.Texts.{claim_line, leaf_line, node_line, node_lines, pair_numbers}
-use Rattle.box_tree.specs.Laws.{CertsAreOne}
-use Rattle.box_tree.proofs.HeaderLemmas.{one_claim_line, one_version}
+use Rattle.box_tree.proofs.{HeaderLemmas.one_claim_line, HeaderLemmas.one_version, PairLemmas.pairs_are_one}
 use Rattle.box_tree.proofs.NodeLemmas.{cut_is_small, leaf_is_no_cut, line_is_one, pairs_are_small}
-use Rattle.box_tree.proofs.PairLemmas.{pairs_are_one}
 
 abbrev the_pairs : List (ℕ × ℕ) → LeafForm
 the_pairs pairs = form.Pairs (record { items = pairs })

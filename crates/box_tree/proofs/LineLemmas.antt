@@ -6,8 +6,7 @@ use Rattle.std.specs.Prelude.{codes}
 use Rattle.std.proofs.Math.Seq.{get_or-append_seam}
 use Rattle.std.proofs.lemmas.List.{append_cancel_left, append-nil}
 use Rattle.std.proofs.lemmas.List.Elements.{All-append, All-cons, All-nil}
-use Rattle.box_tree.specs.Numbers.{EndsNumber}
-use Rattle.box_tree.specs.Texts.{line, numbers}
+use Rattle.box_tree.specs.{Numbers.EndsNumber, Texts.line, Texts.numbers}
 use Rattle.box_tree.proofs.NumberLemmas.{one_number}
 
 abbrev pub IsSmall : ℕ → Type 0

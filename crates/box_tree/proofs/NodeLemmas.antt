@@ -4,17 +4,14 @@ use Rattle.std.proofs.Common.{arith, append_assoc}
 use Rattle.std.specs.Prelude.{codes}
 use Rattle.std.proofs.lemmas.List.{append_cancel_left}
 use Rattle.std.proofs.lemmas.List.Elements.{All-cons, All-nil, All-head, All-tail}
-use Rattle.box_tree.specs.declared.cert.CertKind.{CertKind}
+use Rattle.box_tree.specs.declared.{cert.CertKind.CertKind, cert.LeafForm.LeafForm}
 use Rattle.box_tree.specs.declared.cert.CertKind.TheVariants.{Named, Tight}
-use Rattle.box_tree.specs.declared.cert.LeafForm.{LeafForm}
 use Rattle.box_tree.specs.declared.cert.LeafForm.TheVariants as form
-use Rattle.box_tree.specs.declared.cert.Node.{Node}
-use Rattle.box_tree.specs.declared.cert.Node.TheVariants.{Split, Leaf}
+use Rattle.box_tree.specs.declared.{cert.Node.Node, cert.Node.TheVariants.Split, cert.Node.TheVariants.Leaf}
 use Rattle.box_tree.specs.Certificates.{IsCut, IsLeaf, IsNode, IsPair}
 use Rattle.box_tree.specs.Texts.{line, numbers, leaf_line, node_line, pair_numbers}
-use Rattle.box_tree.proofs.NumberLemmas.{one_number}
+use Rattle.box_tree.proofs.{NumberLemmas.one_number, PairLemmas.length-pair_numbers}
 use Rattle.box_tree.proofs.LineLemmas.{IsSmall, line_rest, rest_ends}
-use Rattle.box_tree.proofs.PairLemmas.{length-pair_numbers}
 
 abbrev pub AreSmall : List ℕ → Type 0
 AreSmall ns = All IsSmall ns

@@ -3,8 +3,7 @@ use Rattle.std.proofs.Common.{◌≡◌, ◌<◌, ◌+◌, ◌*◌, ℕ, zero, s
 use Rattle.std.proofs.Common.{sym, ◌∙◌, ap, subst, arith, append_assoc, add-one}
 use Rattle.std.proofs.Math.Seq.{take-suc}
 use Rattle.std.proofs.lemmas.List.Elements.{All-append, All-cons, All-nil}
-use Rattle.box_tree.specs.Certificates.{IsPair}
-use Rattle.box_tree.specs.Texts.{pair_numbers}
+use Rattle.box_tree.specs.{Certificates.IsPair, Texts.pair_numbers}
 
 pub pair_numbers-snoc : (pairs : List (ℕ × ℕ)) (rule part : ℕ)
     → pair_numbers (pairs ++ (rule, part) ∷ []) ≡ pair_numbers pairs ++ rule ∷ part ∷ []

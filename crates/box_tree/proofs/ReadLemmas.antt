@@ -3,21 +3,15 @@ use Rattle.std.proofs.Common.{◌≡◌, ◌≢◌, ◌≤◌, ◌<◌, ◌+◌,
 use Rattle.std.proofs.Common.{None, length-append}
 use Rattle.std.specs.Prelude.{Result, Ok, Err, IfOk}
 use Rattle.std.proofs.lemmas.List.{append-nil}
-use Rattle.box_tree.specs.declared.cert.CertKind.{CertKind}
-use Rattle.box_tree.specs.declared.cert.AnswerWidth.{AnswerWidth}
-use Rattle.box_tree.specs.declared.cert.LeafForm.{LeafForm}
-use Rattle.box_tree.specs.declared.cert.Node.{Node}
-use Rattle.box_tree.specs.declared.cert.Node.TheVariants.{Leaf}
-use Rattle.box_tree.specs.declared.cert.Cert.{Cert}
-use Rattle.box_tree.specs.declared.cert.CertFault.{CertFault}
+use Rattle.box_tree.specs.declared.{cert.CertKind.CertKind, cert.AnswerWidth.AnswerWidth, cert.LeafForm.LeafForm}
+use Rattle.box_tree.specs.declared.{cert.Node.Node, cert.Node.TheVariants.Leaf, cert.Cert.Cert}
+use Rattle.box_tree.specs.declared.{cert.CertFault.CertFault, lines.Lines.Lines}
 use Rattle.box_tree.specs.declared.cert.CertFault.TheVariants.{BadLine, Early, Late, TooManyLeaves}
-use Rattle.box_tree.specs.declared.lines.Lines.{Lines}
-use Rattle.box_tree.specs.Texts.{node_line}
-use Rattle.box_tree.specs.Trees.{leaf_count, open_from}
+use Rattle.box_tree.specs.{Texts.node_line, Trees.leaf_count, Trees.open_from}
 use Rattle.box_tree.specs.Certificates.{Begins, CertText, HasFault, IsNode, line_behind, bad_node, left_open, late}
 use Rattle.box_tree.specs.Certificates.{many_leaves}
-use Rattle.box_tree.proofs.TreeLemmas.{begins_more, leaf_count-append}
 use Rattle.box_tree.specs.Reading.{HasRead, StandsBefore, claims_of, cert_of}
+use Rattle.box_tree.proofs.TreeLemmas.{begins_more, leaf_count-append}
 
 pub stands_before : (lines : Lines) (width : ℕ) (node : Node) (behind : List ℕ) → width ≡ length (claims_of lines)
     → IsNode lines.kind width node → lines.rest.now ≡ node_line node ++ behind

@@ -3,23 +3,17 @@ use Rattle.std.proofs.Common.{◌≡◌, ◌≢◌, ◌<◌, ◌+◌, ◌≤◌,
 use Rattle.std.proofs.Common.{Option, Some, None, refl, sym, ◌∙◌, ap, subst, arith, append_assoc}
 use Rattle.std.proofs.lemmas.List.{append_cancel_left, append-nil}
 use Rattle.std.proofs.lemmas.List.Elements.{All-head, All-tail}
-use Rattle.box_tree.specs.declared.cert.CertKind.{CertKind}
-use Rattle.box_tree.specs.declared.cert.AnswerWidth.{AnswerWidth}
-use Rattle.box_tree.specs.declared.cert.LeafForm.{LeafForm}
-use Rattle.box_tree.specs.declared.cert.Node.{Node}
-use Rattle.box_tree.specs.declared.cert.Node.TheVariants.{Leaf}
-use Rattle.box_tree.specs.declared.cert.Cert.{Cert}
+use Rattle.box_tree.specs.declared.{cert.CertKind.CertKind, cert.AnswerWidth.AnswerWidth, cert.LeafForm.LeafForm}
+use Rattle.box_tree.specs.declared.{cert.Node.Node, cert.Node.TheVariants.Leaf, cert.Cert.Cert}
 use Rattle.box_tree.specs.declared.cert.CertFault.{CertFault}
 use Rattle.box_tree.specs.declared.cert.CertFault.TheVariants.{BadLine, Early, Late, TooManyLeaves}
 use Rattle.box_tree.specs.Texts.{version_line, claim_line, node_line, node_lines}
-use Rattle.box_tree.specs.Trees.{open_from, leaf_count}
+use Rattle.box_tree.specs.{Trees.open_from, Trees.leaf_count, Laws.FaultsAreOne, Laws.CertTextsHaveNoFault}
 use Rattle.box_tree.specs.Certificates.{IsNode, Begins, CertText, HasNoClaims, HasNoNode, line_behind, HasFault}
 use Rattle.box_tree.specs.Certificates.{bad_version, no_version, bad_claims, no_claims, bad_node, left_open, late}
 use Rattle.box_tree.specs.Certificates.{many_leaves}
-use Rattle.box_tree.specs.Laws.{FaultsAreOne, CertTextsHaveNoFault}
-use Rattle.box_tree.proofs.HeaderLemmas.{one_claim_line}
+use Rattle.box_tree.proofs.{HeaderLemmas.one_claim_line, LineLemmas.at_seam}
 use Rattle.box_tree.proofs.LawLemmas.{one_node, line_is_some}
-use Rattle.box_tree.proofs.LineLemmas.{at_seam}
 use Rattle.box_tree.proofs.TreeLemmas.{lines_behind, open_from-append, leaf_count-append}
 
 -- why no node follows those that were read, of which this many boxes are open: the tree is whole, or there is a fault

@@ -4,14 +4,10 @@ use Rattle.std.proofs.Common.{append_assoc, Some, None, take, get_or, add-one}
 use Rattle.std.proofs.Math.Seq.{take-suc}
 use Rattle.std.proofs.lemmas.List.{append-nil}
 use Rattle.std.proofs.lemmas.List.Elements.{All-append, All-cons, All-nil}
-use Rattle.box_tree.specs.declared.cert.CertKind.{CertKind}
-use Rattle.box_tree.specs.declared.cert.AnswerWidth.{AnswerWidth}
-use Rattle.box_tree.specs.declared.cert.LeafForm.{LeafForm}
-use Rattle.box_tree.specs.declared.cert.Node.{Node}
-use Rattle.box_tree.specs.declared.cert.Node.TheVariants.{Split, Leaf}
+use Rattle.box_tree.specs.declared.{cert.CertKind.CertKind, cert.AnswerWidth.AnswerWidth, cert.LeafForm.LeafForm}
+use Rattle.box_tree.specs.declared.{cert.Node.Node, cert.Node.TheVariants.Split, cert.Node.TheVariants.Leaf}
 use Rattle.box_tree.specs.Texts.{claim_line, lines_of, node_line, node_lines, version_line}
-use Rattle.box_tree.specs.Trees.{open_from, leaf_count}
-use Rattle.box_tree.specs.Certificates.{Begins, IsNode}
+use Rattle.box_tree.specs.{Trees.open_from, Trees.leaf_count, Certificates.Begins, Certificates.IsNode}
 
 pub open_from-append : (k n : ℕ) (nodes more : List Node) → open_from k nodes ≡ Some n
     → open_from k (nodes ++ more) ≡ open_from n more

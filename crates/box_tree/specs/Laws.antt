@@ -1,13 +1,9 @@
 -- What holds of every certificate's text.
 -- Beside the promise.
 use Rattle.std.specs.Prelude.{◌≡◌, ℕ, List, ◌++◌, Some}
-use Rattle.box_tree.specs.declared.cert.CertKind.{CertKind}
-use Rattle.box_tree.specs.declared.cert.AnswerWidth.{AnswerWidth}
-use Rattle.box_tree.specs.declared.cert.Node.{Node}
-use Rattle.box_tree.specs.declared.cert.Cert.{Cert}
-use Rattle.box_tree.specs.declared.cert.CertFault.{CertFault}
-use Rattle.box_tree.specs.Certificates.{CertText, HasFault}
-use Rattle.box_tree.specs.Trees.{open_from}
+use Rattle.box_tree.specs.declared.{cert.CertKind.CertKind, cert.AnswerWidth.AnswerWidth, cert.Node.Node}
+use Rattle.box_tree.specs.declared.{cert.Cert.Cert, cert.CertFault.CertFault}
+use Rattle.box_tree.specs.{Certificates.CertText, Certificates.HasFault, Trees.open_from}
 
 -- a text has at most one certificate, of one kind and for answers of one width
 abbrev pub CertsAreOne : Type 0

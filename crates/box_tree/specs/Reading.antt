@@ -1,15 +1,9 @@
 -- A reader of lines, and how far it has come.
 -- Beside the promise.
 use Rattle.std.specs.Prelude.{◌≡◌, ℕ, ◌+◌, ◌<◌, List, [], ◌∷◌, ◌++◌, length, Some, None}
-use Rattle.box_tree.specs.declared.cert.CertKind.{CertKind}
-use Rattle.box_tree.specs.declared.cert.AnswerWidth.{AnswerWidth}
-use Rattle.box_tree.specs.declared.cert.Node.{Node}
-use Rattle.box_tree.specs.declared.cert.Cert.{Cert}
-use Rattle.box_tree.specs.declared.cert.CertFault.{CertFault}
-use Rattle.box_tree.specs.declared.lines.Lines.{Lines}
-use Rattle.box_tree.specs.Trees.{leaf_count}
-use Rattle.box_tree.specs.Certificates.{Begins, IsNode}
-use Rattle.box_tree.specs.Texts.{node_line}
+use Rattle.box_tree.specs.declared.{cert.CertKind.CertKind, cert.AnswerWidth.AnswerWidth, cert.Node.Node}
+use Rattle.box_tree.specs.declared.{cert.Cert.Cert, cert.CertFault.CertFault, lines.Lines.Lines}
+use Rattle.box_tree.specs.{Trees.leaf_count, Certificates.Begins, Certificates.IsNode, Texts.node_line}
 
 -- the claims that the reader read
 abbrev pub claims_of : Lines → List ℕ

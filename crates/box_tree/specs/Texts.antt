@@ -1,14 +1,11 @@
 -- The lines of a certificate's text: a word, numbers, and the end of the line.
 -- Beside the promise.
 use Rattle.std.specs.Prelude.{ℕ, List, [], ◌∷◌, ◌++◌, codes, decimal}
-use Rattle.box_tree.specs.declared.cert.CertKind.{CertKind}
+use Rattle.box_tree.specs.declared.{cert.CertKind.CertKind, cert.AnswerWidth.AnswerWidth, cert.LeafForm.LeafForm}
 use Rattle.box_tree.specs.declared.cert.CertKind.TheVariants.{Named, Tight}
-use Rattle.box_tree.specs.declared.cert.AnswerWidth.{AnswerWidth}
 use Rattle.box_tree.specs.declared.cert.AnswerWidth.TheVariants.{Byte, Word}
-use Rattle.box_tree.specs.declared.cert.LeafForm.{LeafForm}
 use Rattle.box_tree.specs.declared.cert.LeafForm.TheVariants as form
-use Rattle.box_tree.specs.declared.cert.Node.{Node}
-use Rattle.box_tree.specs.declared.cert.Node.TheVariants.{Split, Leaf}
+use Rattle.box_tree.specs.declared.{cert.Node.Node, cert.Node.TheVariants.Split, cert.Node.TheVariants.Leaf}
 
 -- decimals without leading zeros, with a blank before each
 abbrev pub numbers : List ℕ → List ℕ

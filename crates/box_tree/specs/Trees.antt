@@ -1,8 +1,7 @@
 -- Nodes in prefix order, and the trees among them.
 -- Beside the promise.
 use Rattle.std.specs.Prelude.{◌≡◌, ℕ, zero, suc, ◌+◌, List, [], ◌∷◌, Option, Some, None}
-use Rattle.box_tree.specs.declared.cert.Node.{Node}
-use Rattle.box_tree.specs.declared.cert.Node.TheVariants.{Split, Leaf}
+use Rattle.box_tree.specs.declared.{cert.Node.Node, cert.Node.TheVariants.Split, cert.Node.TheVariants.Leaf}
 
 -- how many boxes have no part yet behind nodes, of n that had none before them; a node takes the first of them,
 -- and none may follow where there is none

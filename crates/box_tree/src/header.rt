@@ -2,8 +2,7 @@
 ghost use Rattle.std.specs.Prelude.{◌≡◌, ◌≢◌, ◌≤◌, ◌<◌, ◌↔◌, ℕ, List, [], ◌∷◌, ◌++◌, length, MatchOption, IfSome};
 ghost use Rattle.std.specs.Prelude.{IsTrue};
 ghost use Rattle.box_tree.specs.Certificates.{AreClaims};
-ghost use Rattle.box_tree.specs.Texts.{version_line, claim_line};
-ghost use Rattle.box_tree.specs.Texts.{version_of as the_version_of};
+ghost use Rattle.box_tree.specs.Texts.{version_line, claim_line, version_of as the_version_of};
 
 use crate::cert::{AnswerWidth, CertKind};
 use crate::text::numbers_of;

@@ -2,8 +2,7 @@
 ghost use Rattle.std.specs.Prelude.{◌≡◌, ◌≢◌, ◌≤◌, ◌<◌, ◌+◌, ℕ, List, [], ◌∷◌, ◌++◌, length, MatchOption, IfSome, IfOk};
 ghost use Rattle.std.specs.Prelude.{IfErr, Err};
 ghost use Rattle.box_tree.specs.declared.cert.CertKind.{CertKind as TheKind};
-ghost use Rattle.box_tree.specs.declared.cert.AnswerWidth.{AnswerWidth as TheWidth};
-ghost use Rattle.box_tree.specs.declared.cert.Node.{Node as TheNode};
+ghost use Rattle.box_tree.specs.declared.{cert.AnswerWidth.AnswerWidth as TheWidth, cert.Node.Node as TheNode};
 ghost use Rattle.box_tree.specs.declared.cert.CertFault.{CertFault as TheFault};
 
 use crate::cert::{AnswerWidth, CertFault, CertKind, Node};

@@ -1,8 +1,7 @@
 //! The node of a line.
 ghost use Rattle.std.specs.Prelude.{◌≡◌, ◌≢◌, ◌↔◌, ◌≤◌, ◌<◌, ℕ, List, [], ◌∷◌, ◌++◌, length, MatchOption, IfSome, All};
 ghost use Rattle.std.specs.Prelude.{IsTrue};
-ghost use Rattle.box_tree.specs.declared.cert.LeafForm.{LeafForm as TheForm};
-ghost use Rattle.box_tree.specs.declared.cert.Node.{Node as TheNode};
+ghost use Rattle.box_tree.specs.declared.{cert.LeafForm.LeafForm as TheForm, cert.Node.Node as TheNode};
 ghost use Rattle.box_tree.specs.Certificates.{IsCut, IsLeaf, IsNode, IsPair};
 ghost use Rattle.box_tree.specs.Texts.{leaf_line, node_line, pair_numbers};
 

@@ -2,8 +2,7 @@
 ghost use Rattle.std.specs.Prelude.{◌≡◌, ◌≢◌, ◌≤◌, ℕ, List as Items, [], length, IfOk, IfErr};
 ghost use Rattle.box_tree.specs.declared.cert.CertKind.{CertKind as TheKind};
 ghost use Rattle.box_tree.specs.declared.cert.AnswerWidth.{AnswerWidth as TheWidth};
-ghost use Rattle.box_tree.specs.Certificates.{CertText, HasFault};
-ghost use Rattle.box_tree.specs.Reading.{HasRead};
+ghost use Rattle.box_tree.specs.{Certificates.CertText, Certificates.HasFault, Reading.HasRead};
 
 use crate::cert::{AnswerWidth, Cert, CertFault, CertKind, Node};
 use crate::lines::Lines;

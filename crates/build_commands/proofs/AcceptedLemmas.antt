@@ -2,13 +2,11 @@
 use Rattle.std.proofs.Common.{ℕ, List, refl}
 use Rattle.fuzzy_meaning.specs.declared.block.Block.{Block}
 use Rattle.codegen.specs.declared.firmware.Firmware.{Firmware}
-use Rattle.build_commands.specs.Accepted.{AcceptedContentsMakeOutput}
-use Rattle.build_commands.specs.Asm.{AsmAccepts, AsmMakes}
+use Rattle.build_commands.specs.{Accepted.AcceptedContentsMakeOutput, Asm.AsmAccepts, Asm.AsmMakes}
 use Rattle.build_commands.specs.Certify.{CertifyAccepts, CertifyMakes}
 use Rattle.build_commands.specs.Lcompile.{LcompileAccepts, LcompileMakes}
 use Rattle.build_commands.specs.SeenOutputs.{HasOutput, SeenOutput}
-use Rattle.build_commands.specs.Written.{GivesRecords, WritesFirmware}
-use Rattle.build_commands.specs.declared.certify.Certify.{Certify}
+use Rattle.build_commands.specs.{Written.GivesRecords, Written.WritesFirmware, declared.certify.Certify.Certify}
 
 asm_made : (source : List ℕ) → AsmAccepts source → HasOutput (AsmMakes source)
 asm_made source (image, a) = (

@@ -7,8 +7,7 @@ use Rattle.std.proofs.Math.Seq.{take-suc}
 use Rattle.std.proofs.lemmas.List.{append-nil, length-take-le}
 use Rattle.std.proofs.lemmas.List.Elements.{All-cons, All-head, All-nil, All-tail}
 use Rattle.fz_shelf.specs.Lines.{text_of}
-use Rattle.fz_status.specs.Refusals.{IsRefusal, Refusals}
-use Rattle.fz_status.specs.declared.status.Status.{Status}
+use Rattle.fz_status.specs.{Refusals.IsRefusal, Refusals.Refusals, declared.status.Status.Status}
 use Rattle.fz_status.specs.declared.status.Status.TheVariants as status
 use Rattle.build_commands.specs.Lines.{counted}
 

@@ -3,16 +3,12 @@ use Rattle.std.proofs.Common.{◌≡◌, ◌≢◌, ℕ, List, sym, subst}
 use Rattle.std.specs.Prelude.{Result, Ok, Err, IfOk, IfErr}
 use Rattle.std.specs.Global.{Vec}
 use Rattle.fuzzy_meaning.specs.declared.block.Block.{Block}
-use Rattle.eval_code.specs.Widths.{parts}
-use Rattle.eval_code.specs.declared.width.Width.{Width}
+use Rattle.eval_code.specs.{Widths.parts, declared.width.Width.Width}
 use Rattle.box_tree.specs.Certificates.{HasFault, bad_version, no_version, bad_claims, no_claims, bad_node, left_open}
 use Rattle.box_tree.specs.Certificates.{late, many_leaves}
-use Rattle.box_tree.specs.declared.cert.AnswerWidth.{AnswerWidth}
-use Rattle.box_tree.specs.declared.cert.CertKind.{CertKind}
-use Rattle.box_tree.specs.declared.cert.CertFault.{CertFault}
+use Rattle.box_tree.specs.declared.{cert.AnswerWidth.AnswerWidth, cert.CertKind.CertKind, cert.CertFault.CertFault}
 use Rattle.box_tree.specs.declared.cert.CertFault.TheVariants as cert
-use Rattle.box_tree.specs.declared.cert.Cert.{Cert}
-use Rattle.box_tree.specs.declared.cert.Node.{Node}
+use Rattle.box_tree.specs.declared.{cert.Cert.Cert, cert.Node.Node}
 use Rattle.error_bound.specs.declared.boxes.Interval.{Interval}
 use Rattle.error_bound.specs.declared.boxes.Leaf as the
 use Rattle.cell_bounds.specs.declared.claims.Claim.{Claim}
@@ -23,11 +19,9 @@ use Rattle.cert_check.specs.declared.text.TextFault.{TextFault as TheRefusal}
 use Rattle.cert_check.specs.declared.text.TextFault.TheVariants as refusal
 use Rattle.cert_check.specs.Faults.{IsPairFault, bad_rule, fails, IsCellsFault, too_many, unsure, IsClaimFault}
 use Rattle.cert_check.specs.Faults.{HasTreeFault, bad_cut, bad_leaf, HasCheckFault, outputs, tree, claimed}
-use Rattle.cert_check.specs.Laws.{TextAnswersAreOne}
-use Rattle.cert_check.specs.TextFaults.{HasTextFault, of_text, of_cert}
+use Rattle.cert_check.specs.{Laws.TextAnswersAreOne, TextFaults.HasTextFault, TextFaults.of_text, TextFaults.of_cert}
 use Rattle.build_commands.specs.Certs.{AcceptedCertsHaveNoFault, HasCertFault, answer_width, cert_refusals, status_of}
-use Rattle.fz_status.specs.Refusals.{IsRefusal}
-use Rattle.fz_status.specs.declared.status.CertRefusal.{CertRefusal}
+use Rattle.fz_status.specs.{Refusals.IsRefusal, declared.status.CertRefusal.CertRefusal}
 use Rattle.fz_status.specs.declared.status.CertRefusal.TheVariants as told
 use Rattle.fz_status.specs.declared.status.Status.{Status}
 

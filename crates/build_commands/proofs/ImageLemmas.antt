@@ -3,8 +3,7 @@ use Rattle.std.proofs.Common.{ℕ, List, ◌∙◌, sym}
 use Rattle.cpu12_asm.specs.declared.image.Image.{Image}
 use Rattle.fz_status.specs.declared.status.ImageFault.{ImageFault}
 use Rattle.fz_status.specs.declared.status.ImageFault.TheVariants as fault
-use Rattle.srecord.specs.Laws.{ImagesAreOne, ImagesHaveNoFault}
-use Rattle.srecord.specs.Texts.{GivesImage}
+use Rattle.srecord.specs.{Laws.ImagesAreOne, Laws.ImagesHaveNoFault, Texts.GivesImage}
 use Rattle.build_commands.specs.Images.{GivenImagesHaveNoFault, RefusesRecords}
 
 pub records_apart : (good : ImagesHaveNoFault) (text : List ℕ) (image : Image) (f : ImageFault) → GivesImage text image

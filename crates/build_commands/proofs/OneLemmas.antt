@@ -2,40 +2,25 @@
 use Rattle.std.proofs.Common.{◌≡◌, ◌≤◌, ◌∙◌, ℕ, List, sym, ap, subst, arith}
 use Rattle.std.specs.Prelude.{Ok, Result, Some, length}
 use Rattle.fuzzy_meaning.specs.declared.block.Block.{Block}
-use Rattle.box_tree.specs.Texts.{lines_of}
-use Rattle.box_tree.specs.Trees.{leaf_count}
-use Rattle.box_tree.specs.declared.cert.Cert.{Cert}
-use Rattle.cert_check.specs.Laws.{TextAnswersAreOne}
-use Rattle.cert_check.specs.declared.text.TextFault.{TextFault}
-use Rattle.cpu12_emul.specs.Image.{ImagesLoadAlike, image_memory}
-use Rattle.cpu12_emul.specs.Run.{EndsRun, RunsEndOnce}
-use Rattle.cpu12_emul.specs.Step.{reset_with}
+use Rattle.box_tree.specs.{Texts.lines_of, Trees.leaf_count, declared.cert.Cert.Cert}
+use Rattle.cert_check.specs.{Laws.TextAnswersAreOne, declared.text.TextFault.TextFault}
+use Rattle.cpu12_emul.specs.{Image.ImagesLoadAlike, Image.image_memory, Run.EndsRun, Run.RunsEndOnce, Step.reset_with}
 use Rattle.cpu12_emul.specs.declared.ends.RunEnd.TheVariants as end
 use Rattle.cpu12_parts.specs.State.{State}
-use Rattle.error_certifier.specs.Halving.{IsHalving}
-use Rattle.error_certifier.specs.Laws.{AnswersAreOne}
-use Rattle.error_certifier.specs.declared.certifier.NotReached.{NotReached}
-use Rattle.eval_code.specs.Bounds.{instruction_bound, steps_by}
+use Rattle.error_certifier.specs.{Halving.IsHalving, Laws.AnswersAreOne, declared.certifier.NotReached.NotReached}
+use Rattle.eval_code.specs.{Bounds.instruction_bound, Bounds.steps_by, Widths.parts}
 use Rattle.eval_code.specs.declared.width.Width.TheVariants.{Byte}
 use Rattle.codegen.specs.declared.firmware.Firmware.{Firmware}
 use Rattle.cpu12_asm.specs.declared.image.Image.{Image}
-use Rattle.eval_code.specs.Widths.{parts}
-use Rattle.srecord.specs.Images.{ImageText}
-use Rattle.srecord.specs.Laws.{ImageTextsAreOne, ImagesAreOne}
-use Rattle.two_level.specs.Images.{fast_most}
-use Rattle.two_level.specs.declared.two.Two.{Two}
-use Rattle.build_commands.specs.Certify.{CertifyMakes, certify_lines}
+use Rattle.srecord.specs.{Images.ImageText, Laws.ImageTextsAreOne, Laws.ImagesAreOne}
+use Rattle.two_level.specs.{Images.fast_most, declared.two.Two.Two}
+use Rattle.build_commands.specs.{Certify.CertifyMakes, Certify.certify_lines, Check.CheckMakes, Check.check_lines}
 use Rattle.build_commands.specs.Certs.{AcceptedErrorsAreOne, AcceptsCert, answer_width}
-use Rattle.build_commands.specs.Check.{CheckMakes, check_lines}
-use Rattle.build_commands.specs.Exec.{ExecMakes, exec_line}
-use Rattle.build_commands.specs.Firmwares.{GivenFirmwaresAreOne}
-use Rattle.build_commands.specs.Lcompile.{LcompileMakes, lcompile_lines}
-use Rattle.build_commands.specs.Twos.{GivenTwosAreOne}
+use Rattle.build_commands.specs.{Exec.ExecMakes, Exec.exec_line, Firmwares.GivenFirmwaresAreOne}
+use Rattle.build_commands.specs.{Lcompile.LcompileMakes, Lcompile.lcompile_lines, Twos.GivenTwosAreOne}
 use Rattle.build_commands.specs.Written.{WritesFirmware, WritesImage, compile_lines}
 use Rattle.build_commands.specs.SeenOutputs.{OutputsAreOne, SeenOutput, only_text}
-use Rattle.build_commands.specs.declared.certify.Certify.{Certify}
-use Rattle.build_commands.specs.declared.check.Check.{Check}
-use Rattle.build_commands.specs.declared.exec.Exec.{Exec}
+use Rattle.build_commands.specs.declared.{certify.Certify.Certify, check.Check.Check, exec.Exec.Exec}
 
 pub errors_are_one : TextAnswersAreOne → AcceptedErrorsAreOne
 errors_are_one one kind width block cert errors others valid a b =

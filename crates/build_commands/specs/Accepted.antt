@@ -1,19 +1,13 @@
 -- Contents that are accepted make an output.
 -- Beside the promise.
 use Rattle.std.specs.Prelude.{ℕ, List}
-use Rattle.build_commands.specs.Asm.{AsmAccepts, AsmMakes}
-use Rattle.build_commands.specs.Certify.{CertifyAccepts, CertifyMakes}
-use Rattle.build_commands.specs.Check.{CheckAccepts, CheckMakes}
-use Rattle.build_commands.specs.Compile.{CompileAccepts, CompileMakes}
-use Rattle.build_commands.specs.Exec.{ExecAccepts, ExecMakes}
-use Rattle.build_commands.specs.Hcheck.{HcheckAccepts, HcheckMakes}
+use Rattle.build_commands.specs.{Asm.AsmAccepts, Asm.AsmMakes, Certify.CertifyAccepts, Certify.CertifyMakes}
+use Rattle.build_commands.specs.{Check.CheckAccepts, Check.CheckMakes, Compile.CompileAccepts, Compile.CompileMakes}
+use Rattle.build_commands.specs.{Exec.ExecAccepts, Exec.ExecMakes, Hcheck.HcheckAccepts, Hcheck.HcheckMakes}
 use Rattle.build_commands.specs.Lcompile.{LcompileAccepts, LcompileMakes}
 use Rattle.build_commands.specs.Mcompile.{McompileAccepts, McompileMakes}
-use Rattle.build_commands.specs.Scompile.{ScompileAccepts, ScompileMakes}
-use Rattle.build_commands.specs.SeenOutputs.{HasOutput}
-use Rattle.build_commands.specs.declared.certify.Certify.{Certify}
-use Rattle.build_commands.specs.declared.check.Check.{Check}
-use Rattle.build_commands.specs.declared.compile.Compile.{Compile}
+use Rattle.build_commands.specs.{Scompile.ScompileAccepts, Scompile.ScompileMakes, SeenOutputs.HasOutput}
+use Rattle.build_commands.specs.declared.{certify.Certify.Certify, check.Check.Check, compile.Compile.Compile}
 use Rattle.build_commands.specs.declared.exec.Exec.{Exec}
 
 -- so it is with each command

@@ -1,14 +1,10 @@
 -- The command `asm SRC OUT`.
 -- Beside the promise.
 use Rattle.std.specs.Prelude.{◌≡◌, ℕ, List, [], ◌∷◌, length, codes, Result, Ok, Err}
-use Rattle.cpu12_asm.specs.Bytes.{IsAscending, start_of}
-use Rattle.cpu12_asm.specs.Sources.{Assembles, assembled}
+use Rattle.cpu12_asm.specs.{Bytes.IsAscending, Bytes.start_of, Sources.Assembles, Sources.assembled}
 use Rattle.cpu12_asm.specs.declared.image.Image.{Image}
-use Rattle.build_commands.specs.SeenOutputs.{SeenOutput}
-use Rattle.build_commands.specs.Lines.{line}
-use Rattle.build_commands.specs.Written.{HasRecords, WritesImage}
-use Rattle.fz_status.specs.Refusals.{Refusals, Refuses}
-use Rattle.fz_status.specs.declared.status.Status.{Status}
+use Rattle.build_commands.specs.{SeenOutputs.SeenOutput, Lines.line, Written.HasRecords, Written.WritesImage}
+use Rattle.fz_status.specs.{Refusals.Refusals, Refusals.Refuses, declared.status.Status.Status}
 use Rattle.fz_status.specs.declared.status.Status.TheVariants as status
 
 -- SRC

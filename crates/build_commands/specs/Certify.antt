@@ -1,27 +1,19 @@
 -- The commands `certify FCL TARGET OUT`, `certify16 ..`, and `tcertify ..` and `tcertify16 ..` for tight certificates.
 -- Beside the promise.
 use Rattle.std.specs.Prelude.{◌≡◌, ◌≤◌, ℕ, List, [], ◌∷◌, ◌++◌, All, codes, Option, Some, option_map, Result, Ok, Err}
-use Rattle.fuzzy_meaning.specs.Blocks.{IsValid}
-use Rattle.fuzzy_meaning.specs.declared.block.Block.{Block}
-use Rattle.eval_code.specs.Widths.{parts}
+use Rattle.fuzzy_meaning.specs.{Blocks.IsValid, declared.block.Block.Block}
+use Rattle.eval_code.specs.{Widths.parts, declared.width.Width.Width}
 use Rattle.codegen.specs.declared.firmware.Firmware.{Firmware}
-use Rattle.eval_code.specs.declared.width.Width.{Width}
-use Rattle.box_tree.specs.Certificates.{CertText, IsCert}
-use Rattle.box_tree.specs.Trees.{leaf_count}
-use Rattle.box_tree.specs.declared.cert.CertKind.{CertKind}
-use Rattle.box_tree.specs.declared.cert.Cert.{Cert}
-use Rattle.error_certifier.specs.Halving.{IsHalving, StopsAt}
-use Rattle.error_certifier.specs.Laws.{SaysOutOfReach}
+use Rattle.box_tree.specs.{Certificates.CertText, Certificates.IsCert, Trees.leaf_count}
+use Rattle.box_tree.specs.declared.{cert.CertKind.CertKind, cert.Cert.Cert}
+use Rattle.error_certifier.specs.{Halving.IsHalving, Halving.StopsAt, Laws.SaysOutOfReach}
 use Rattle.error_certifier.specs.declared.certifier.NotReached.{NotReached}
-use Rattle.fz_status.specs.Refusals.{Refusals, Refuses}
-use Rattle.fz_status.specs.Words.{Text, word_at}
+use Rattle.fz_status.specs.{Refusals.Refusals, Refusals.Refuses, Words.Text, Words.word_at}
 use Rattle.fz_status.specs.declared.status.Status.{Status}
 use Rattle.fz_status.specs.declared.status.Status.TheVariants as status
-use Rattle.build_commands.specs.Certs.{answer_width}
-use Rattle.build_commands.specs.SeenOutputs.{SeenOutput}
+use Rattle.build_commands.specs.{Certs.answer_width, SeenOutputs.SeenOutput, Words.number_of}
 use Rattle.build_commands.specs.Firmwares.{GivesFirmware, RefusesText}
 use Rattle.build_commands.specs.Lines.{counted, error_line, line}
-use Rattle.build_commands.specs.Words.{number_of}
 use Rattle.build_commands.specs.declared.certify.Certify.{Certify}
 
 abbrev pub certify_with : CertKind → Width → ℕ → Certify

@@ -1,20 +1,16 @@
 -- Certificates of a text's block.
 -- Beside the promise.
 use Rattle.std.specs.Prelude.{◌≡◌, ℕ, List}
-use Rattle.fuzzy_meaning.specs.Blocks.{IsValid}
-use Rattle.fuzzy_meaning.specs.declared.block.Block.{Block}
+use Rattle.fuzzy_meaning.specs.{Blocks.IsValid, declared.block.Block.Block}
 use Rattle.eval_code.specs.Widths.{parts}
-use Rattle.eval_code.specs.declared.width.Width.{Width}
-use Rattle.eval_code.specs.declared.width.Width.TheVariants.{Byte, Word}
-use Rattle.box_tree.specs.declared.cert.AnswerWidth.{AnswerWidth}
-use Rattle.box_tree.specs.declared.cert.CertKind.{CertKind}
+use Rattle.eval_code.specs.declared.{width.Width.Width, width.Width.TheVariants.Byte, width.Width.TheVariants.Word}
+use Rattle.box_tree.specs.declared.{cert.AnswerWidth.AnswerWidth, cert.CertKind.CertKind}
 use Rattle.box_tree.specs.declared.cert.AnswerWidth.TheVariants as answers
 use Rattle.cert_check.specs.TextFaults.{IsAcceptedText, HasTextFault}
 use Rattle.cert_check.specs.declared.text.TextFault.{TextFault as TheRefusal}
 use Rattle.cert_check.specs.declared.text.TextFault.TheVariants as refusal
 use Rattle.build_commands.specs.Firmwares.{OfFirmware}
-use Rattle.fz_status.specs.Refusals.{Refusals}
-use Rattle.fz_status.specs.declared.status.CertRefusal.{CertRefusal}
+use Rattle.fz_status.specs.{Refusals.Refusals, declared.status.CertRefusal.CertRefusal}
 use Rattle.fz_status.specs.declared.status.CertRefusal.TheVariants as told
 use Rattle.fz_status.specs.declared.status.Status.{Status}
 use Rattle.fz_status.specs.declared.status.Status.TheVariants as status

@@ -2,17 +2,13 @@
 -- Beside the promise.
 use Rattle.std.specs.Prelude.{◌≡◌, ℕ, List, [], ◌∷◌, ◌++◌, codes, Result, Ok, Err}
 use Rattle.fuzzy_meaning.specs.declared.block.Block.{Block}
-use Rattle.eval_code.specs.Bounds.{instruction_bound}
+use Rattle.eval_code.specs.{Bounds.instruction_bound, declared.width.Width.Width}
 use Rattle.codegen.specs.declared.firmware.Firmware.{Firmware}
-use Rattle.eval_code.specs.declared.width.Width.{Width}
 use Rattle.box_tree.specs.declared.cert.CertKind.{CertKind}
-use Rattle.build_commands.specs.Certs.{AcceptsCert, RefusesCert}
-use Rattle.build_commands.specs.SeenOutputs.{SeenOutput, only_text}
-use Rattle.build_commands.specs.Firmwares.{GivesFirmware, RefusesText}
+use Rattle.build_commands.specs.{Certs.AcceptsCert, Certs.RefusesCert, SeenOutputs.SeenOutput, SeenOutputs.only_text}
+use Rattle.build_commands.specs.{Firmwares.GivesFirmware, Firmwares.RefusesText, declared.check.Check.Check}
 use Rattle.build_commands.specs.Lines.{counted, error_line, line}
-use Rattle.fz_status.specs.Refusals.{Refusals, Refuses}
-use Rattle.build_commands.specs.declared.check.Check.{Check}
-use Rattle.fz_status.specs.declared.status.Status.{Status}
+use Rattle.fz_status.specs.{Refusals.Refusals, Refusals.Refuses, declared.status.Status.Status}
 use Rattle.fz_status.specs.declared.status.Status.TheVariants as status
 
 abbrev pub check_in : CertKind → Width → Check

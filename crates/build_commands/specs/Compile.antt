@@ -1,14 +1,10 @@
 -- The commands `compile FCL OUT` and `compile16 FCL OUT`.
 -- Beside the promise.
 use Rattle.std.specs.Prelude.{ℕ, List, [], ◌∷◌, Result, Ok, Err}
-use Rattle.eval_code.specs.Bounds.{instruction_bound}
-use Rattle.eval_code.specs.declared.width.Width.{Width}
-use Rattle.build_commands.specs.SeenOutputs.{SeenOutput}
-use Rattle.build_commands.specs.Firmwares.{GivesFirmware, text_refusals}
-use Rattle.build_commands.specs.Written.{GivesRecords, WritesFirmware}
-use Rattle.fz_status.specs.Refusals.{Refuses}
-use Rattle.build_commands.specs.declared.compile.Compile.{Compile}
-use Rattle.fz_status.specs.declared.status.Status.{Status}
+use Rattle.eval_code.specs.{Bounds.instruction_bound, declared.width.Width.Width}
+use Rattle.build_commands.specs.{SeenOutputs.SeenOutput, Firmwares.GivesFirmware, Firmwares.text_refusals}
+use Rattle.build_commands.specs.{Written.GivesRecords, Written.WritesFirmware, declared.compile.Compile.Compile}
+use Rattle.fz_status.specs.{Refusals.Refuses, declared.status.Status.Status}
 
 abbrev pub compile_in : Width → Compile
 compile_in width = record { width = width }

@@ -5,19 +5,13 @@ use Rattle.std.specs.Prelude.{Option, option_and_then, option_map, Result, Ok, E
 use Rattle.cpu12_asm.specs.declared.image.Image.{Image}
 use Rattle.cpu12_isa.specs.declared.instr.Regs.{Regs}
 use Rattle.cpu12_parts.specs.State.{State}
-use Rattle.cpu12_emul.specs.Image.{image_memory}
-use Rattle.cpu12_emul.specs.Run.{EndsRun}
-use Rattle.cpu12_emul.specs.Step.{reset_with}
-use Rattle.cpu12_emul.specs.declared.ends.RunEnd.{RunEnd}
+use Rattle.cpu12_emul.specs.{Image.image_memory, Run.EndsRun, Step.reset_with, declared.ends.RunEnd.RunEnd}
 use Rattle.cpu12_emul.specs.declared.ends.RunEnd.TheVariants as end
 use Rattle.srecord.specs.Texts.{GivesImage}
-use Rattle.build_commands.specs.SeenOutputs.{SeenOutput, only_text}
-use Rattle.build_commands.specs.Images.{records_refusals}
-use Rattle.build_commands.specs.Lines.{line, with_registers}
-use Rattle.fz_status.specs.Refusals.{Refusals, Refuses}
-use Rattle.fz_status.specs.Words.{Text, word_at}
-use Rattle.build_commands.specs.Words.{flags_of, number_of}
+use Rattle.build_commands.specs.{SeenOutputs.SeenOutput, SeenOutputs.only_text, Images.records_refusals}
+use Rattle.build_commands.specs.{Lines.line, Lines.with_registers, Words.flags_of, Words.number_of}
 use Rattle.build_commands.specs.declared.exec.Exec.{Exec}
+use Rattle.fz_status.specs.{Refusals.Refusals, Refusals.Refuses, Words.Text, Words.word_at}
 use Rattle.fz_status.specs.declared.status.Status.{Status}
 use Rattle.fz_status.specs.declared.status.Status.TheVariants as status
 

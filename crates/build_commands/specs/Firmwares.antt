@@ -3,16 +3,12 @@
 use Rattle.std.specs.Prelude.{◌≡◌, ℕ, false, List}
 use Rattle.fuzzy_meaning.specs.declared.block.Block.{Block}
 use Rattle.rule_layout.specs.Layouts.{IsWithinLimits, IsFaultOf as IsLayoutFault}
-use Rattle.codegen.specs.Firmwares.{IsFirmwareOf}
-use Rattle.codegen.specs.Mailboxes.{IsMailboxOf}
+use Rattle.codegen.specs.{Firmwares.IsFirmwareOf, Mailboxes.IsMailboxOf, declared.firmware.Firmware.Firmware}
 use Rattle.watched_code.specs.Watched.{IsWatchedFirmwareOf}
-use Rattle.codegen.specs.declared.firmware.Firmware.{Firmware}
-use Rattle.eval_code.specs.declared.width.Width.{Width}
-use Rattle.eval_code.specs.Widths.{is_wide}
+use Rattle.eval_code.specs.{declared.width.Width.Width, Widths.is_wide}
 use Rattle.fcl_syntax.specs.Text.{IsFirstFault}
 use Rattle.fcl_check.specs.Texts.{SpellsBlock, HasLoadFault}
-use Rattle.fz_status.specs.Refusals.{CarriesNoMemory, Refusals}
-use Rattle.fz_status.specs.declared.status.FclFault.{FclFault}
+use Rattle.fz_status.specs.{Refusals.CarriesNoMemory, Refusals.Refusals, declared.status.FclFault.FclFault}
 use Rattle.fz_status.specs.declared.status.FclFault.TheVariants as fcl
 use Rattle.fz_status.specs.declared.status.Status.TheVariants as status
 

@@ -4,11 +4,8 @@ use Rattle.std.specs.Prelude.{◌≡◌, ℕ, List, [], ◌∷◌, codes, Result
 use Rattle.cpu12_asm.specs.declared.image.Image.{Image}
 use Rattle.handler_check.specs.Images.{IsHandler, IsFault}
 use Rattle.srecord.specs.Texts.{GivesImage}
-use Rattle.build_commands.specs.SeenOutputs.{SeenOutput, only_text}
-use Rattle.build_commands.specs.Images.{records_refusals}
-use Rattle.build_commands.specs.Lines.{line}
-use Rattle.fz_status.specs.Refusals.{Refusals, Refuses}
-use Rattle.fz_status.specs.declared.status.Status.{Status}
+use Rattle.build_commands.specs.{SeenOutputs.SeenOutput, SeenOutputs.only_text, Images.records_refusals, Lines.line}
+use Rattle.fz_status.specs.{Refusals.Refusals, Refusals.Refuses, declared.status.Status.Status}
 use Rattle.fz_status.specs.declared.status.Status.TheVariants as status
 
 -- HANDLER

@@ -1,11 +1,9 @@
 -- From a text to its image.
 -- Beside the promise.
 use Rattle.std.specs.Prelude.{◌≡◌, ◌≢◌, ℕ, List}
-use Rattle.cpu12_asm.specs.Bytes.{IsFirstDifference, byte_at}
-use Rattle.cpu12_asm.specs.declared.image.Image.{Image}
+use Rattle.cpu12_asm.specs.{Bytes.IsFirstDifference, Bytes.byte_at, declared.image.Image.Image}
 use Rattle.srecord.specs.Texts.{GivesImage, HasFault}
-use Rattle.fz_status.specs.Refusals.{Refusals}
-use Rattle.fz_status.specs.declared.status.ImageFault.{ImageFault}
+use Rattle.fz_status.specs.{Refusals.Refusals, declared.status.ImageFault.ImageFault}
 use Rattle.fz_status.specs.declared.status.ImageFault.TheVariants as image
 use Rattle.fz_status.specs.declared.status.Status.TheVariants as status
 

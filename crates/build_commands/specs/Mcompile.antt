@@ -3,11 +3,9 @@
 use Rattle.std.specs.Prelude.{ℕ, List, Result, Ok, Err}
 use Rattle.codegen.specs.Mailboxes.{mailbox_bound}
 use Rattle.eval_code.specs.declared.width.Width.TheVariants.{Byte}
-use Rattle.build_commands.specs.SeenOutputs.{SeenOutput}
-use Rattle.build_commands.specs.Firmwares.{GivesMailbox, text_refusals}
+use Rattle.build_commands.specs.{SeenOutputs.SeenOutput, Firmwares.GivesMailbox, Firmwares.text_refusals}
 use Rattle.build_commands.specs.Written.{GivesRecords, WritesFirmware}
-use Rattle.fz_status.specs.Refusals.{Refuses}
-use Rattle.fz_status.specs.declared.status.Status.{Status}
+use Rattle.fz_status.specs.{Refusals.Refuses, declared.status.Status.Status}
 
 -- the text gives firmware in the mailbox form, and OUT is to hold the records of its image
 abbrev pub McompileMakes : List ℕ → Result SeenOutput Status → Type 0

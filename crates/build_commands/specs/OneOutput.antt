@@ -1,17 +1,10 @@
 -- Contents make one output.
 -- Beside the promise.
 use Rattle.std.specs.Prelude.{ℕ, List}
-use Rattle.build_commands.specs.Certify.{CertifyMakes}
-use Rattle.build_commands.specs.Check.{CheckMakes}
-use Rattle.build_commands.specs.Compile.{CompileMakes}
-use Rattle.build_commands.specs.Exec.{ExecMakes}
-use Rattle.build_commands.specs.Lcompile.{LcompileMakes}
-use Rattle.build_commands.specs.Mcompile.{McompileMakes}
-use Rattle.build_commands.specs.Scompile.{ScompileMakes}
+use Rattle.build_commands.specs.{Certify.CertifyMakes, Check.CheckMakes, Compile.CompileMakes, Exec.ExecMakes}
+use Rattle.build_commands.specs.{Lcompile.LcompileMakes, Mcompile.McompileMakes, Scompile.ScompileMakes}
 use Rattle.build_commands.specs.SeenOutputs.{OutputsAreOne}
-use Rattle.build_commands.specs.declared.certify.Certify.{Certify}
-use Rattle.build_commands.specs.declared.check.Check.{Check}
-use Rattle.build_commands.specs.declared.compile.Compile.{Compile}
+use Rattle.build_commands.specs.declared.{certify.Certify.Certify, check.Check.Check, compile.Compile.Compile}
 use Rattle.build_commands.specs.declared.exec.Exec.{Exec}
 
 -- so it is with these commands

@@ -2,8 +2,7 @@
 -- Beside the promise.
 use Rattle.std.specs.Prelude.{◌≡◌, ℕ, List}
 use Rattle.fuzzy_meaning.specs.declared.block.Block.{Block}
-use Rattle.two_level.specs.Images.{IsTwoOf}
-use Rattle.two_level.specs.declared.two.Two.{Two}
+use Rattle.two_level.specs.{Images.IsTwoOf, declared.two.Two.Two}
 use Rattle.build_commands.specs.Firmwares.{GivesBlock, RefusesText}
 use Rattle.fz_status.specs.Refusals.{Refusals}
 use Rattle.fz_status.specs.declared.status.FastFault.TheVariants as told

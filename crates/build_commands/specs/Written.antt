@@ -6,8 +6,7 @@ use Rattle.eval_code.specs.Bounds.{steps_by}
 use Rattle.codegen.specs.declared.firmware.Firmware.{Firmware}
 use Rattle.cpu12_asm.specs.declared.image.Image.{Image}
 use Rattle.srecord.specs.Images.{ImageText}
-use Rattle.build_commands.specs.SeenOutputs.{SeenOutput}
-use Rattle.build_commands.specs.Lines.{line}
+use Rattle.build_commands.specs.{SeenOutputs.SeenOutput, Lines.line}
 
 -- the file of this word is to hold the records of the image, and this is the text for out
 pub record WritesImage (image : Image) (place : ℕ) (text : List ℕ) (output : SeenOutput) : Type 0 where

@@ -3,8 +3,7 @@ ghost use Rattle.std.specs.Prelude.{◌≡◌, ◌≤◌, length, IfOk, List, �
 ghost use Rattle.fz_shelf.specs.Lines.{text_of};
 ghost use Rattle.std.specs.Prelude.{codes};
 ghost use Rattle.build_commands.specs.SeenOutputs.{OutputHasNoFault, IsResultOf};
-ghost use Rattle.build_commands.specs.Lines.{line};
-ghost use Rattle.build_commands.specs.Asm.{AsmMakes};
+ghost use Rattle.build_commands.specs.{Lines.line, Asm.AsmMakes};
 
 use crate::lines::labelled;
 use crate::output::Output;

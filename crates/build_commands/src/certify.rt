@@ -2,12 +2,10 @@
 ghost use Rattle.std.specs.Prelude.{◌≡◌, ◌≤◌, length, All, IfOk, IfErr, List, ℕ};
 ghost use Rattle.fuzzy_meaning.specs.Blocks.{IsValid};
 ghost use Rattle.eval_code.specs.Widths.{parts};
-ghost use Rattle.box_tree.specs.Certificates.{IsCert};
-ghost use Rattle.box_tree.specs.Trees.{leaf_count};
+ghost use Rattle.box_tree.specs.{Certificates.IsCert, Trees.leaf_count};
 ghost use Rattle.error_certifier.specs.Halving.{IsHalving};
 ghost use Rattle.fz_shelf.specs.Lines.{text_of};
-ghost use Rattle.fz_status.specs.Refusals.{IsRefusal};
-ghost use Rattle.fz_status.specs.Words.{texts_of};
+ghost use Rattle.fz_status.specs.{Refusals.IsRefusal, Words.texts_of};
 ghost use Rattle.build_commands.specs.Certify.{CertifyMakes, certify_in, certify_lines, target_refusals};
 ghost use Rattle.build_commands.specs.Certify.{HalvedBlocksDoNotStop};
 ghost use Rattle.build_commands.specs.SeenOutputs.{OutputHasNoFault, OutputsAreOne, IsResultOf};

@@ -1,10 +1,9 @@
 //! The errors that a certificate is accepted with.
 ghost use Rattle.std.specs.Prelude.{◌≡◌, ◌≤◌, length, IfOk, IfErr, Ok, Err};
 ghost use Rattle.fuzzy_meaning.specs.Blocks.{IsValid};
-ghost use Rattle.cert_check.specs.declared.text.TextFault.{TextFault as TheRefusal};
+ghost use Rattle.cert_check.specs.{declared.text.TextFault.TextFault as TheRefusal, Acceptance.parts_of};
 ghost use Rattle.build_commands.specs.Certs.{AcceptedCertsHaveNoFault, AcceptedErrorsAreOne, AcceptsCert};
 ghost use Rattle.build_commands.specs.Certs.{answer_width as the_answer_width, cert_refusals, status_of};
-ghost use Rattle.cert_check.specs.Acceptance.{parts_of};
 ghost use Rattle.eval_code.specs.Widths.{parts};
 ghost use Rattle.fz_status.specs.Refusals.{IsRefusal};
 

@@ -2,8 +2,7 @@
 ghost use Rattle.std.specs.Prelude.{◌≡◌, ◌≤◌, length, IfOk, List, ℕ};
 ghost use Rattle.fz_shelf.specs.Lines.{text_of};
 ghost use Rattle.build_commands.specs.SeenOutputs.{OutputHasNoFault, OutputsAreOne, IsResultOf};
-ghost use Rattle.build_commands.specs.Check.{CheckMakes, check_lines};
-ghost use Rattle.build_commands.specs.declared.check.Check.{Check as TheCheck};
+ghost use Rattle.build_commands.specs.{Check.CheckMakes, Check.check_lines, declared.check.Check.Check as TheCheck};
 
 use crate::certs::{accepted_certs_have_no_fault, accepted_errors_are_one, errors_under};
 use crate::firmware::{firmware_of, given_firmwares_are_one, spelled_texts_have_no_fault};

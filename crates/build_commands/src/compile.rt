@@ -1,7 +1,6 @@
 //! The commands `compile FCL OUT` and `compile16 FCL OUT`.
 ghost use Rattle.std.specs.Prelude.{◌≤◌, length, List, ℕ};
-ghost use Rattle.build_commands.specs.SeenOutputs.{OutputHasNoFault, IsResultOf};
-ghost use Rattle.build_commands.specs.Compile.{CompileMakes};
+ghost use Rattle.build_commands.specs.{SeenOutputs.OutputHasNoFault, SeenOutputs.IsResultOf, Compile.CompileMakes};
 ghost use Rattle.build_commands.specs.declared.compile.Compile.{Compile as TheCompile};
 
 use crate::firmware::{firmware_of, spelled_texts_have_no_fault};

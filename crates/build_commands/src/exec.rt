@@ -3,8 +3,8 @@ ghost use Rattle.std.specs.Prelude.{◌≡◌, ◌≤◌, length, string_bytes, 
 ghost use Rattle.fz_shelf.specs.Lines.{text_of};
 ghost use Rattle.build_commands.specs.SeenOutputs.{OutputHasNoFault, OutputsAreOne, IsResultOf};
 ghost use Rattle.build_commands.specs.Exec.{ExecMakes, exec_in, exec_line};
-ghost use Rattle.fz_status.specs.Words.{texts_of};
 ghost use Rattle.build_commands.specs.declared.exec.Exec.{Exec as TheExec};
+ghost use Rattle.fz_status.specs.Words.{texts_of};
 
 use crate::images::image_of;
 use crate::lines::{labelled, line_of_registers};

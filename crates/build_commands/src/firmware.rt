@@ -1,9 +1,9 @@
 //! From a text to its block, and to the block's firmware.
 ghost use Rattle.std.specs.Prelude.{◌≡◌, ◌≤◌, length, IfOk, IfErr};
 ghost use Rattle.fcl_check.specs.Texts.{SpellsBlock};
-ghost use Rattle.build_commands.specs.Firmwares.{GivesBlock, GivesFirmware, GivesMailbox, GivesWatched, text_refusals};
-ghost use Rattle.build_commands.specs.Firmwares.{GivenFirmwaresAreOne, GivenMailboxesAreOne, GivenWatchedAreOne};
-ghost use Rattle.build_commands.specs.Firmwares.{SpelledTextsHaveNoFault};
+ghost use Rattle.build_commands.specs.Firmwares.{GivesBlock, GivesFirmware, GivesMailbox, GivesWatched};
+ghost use Rattle.build_commands.specs.Firmwares.{text_refusals, GivenFirmwaresAreOne, GivenMailboxesAreOne};
+ghost use Rattle.build_commands.specs.Firmwares.{GivenWatchedAreOne, SpelledTextsHaveNoFault};
 ghost use Rattle.fz_status.specs.Refusals.{IsRefusal};
 
 use codegen::{Firmware, compile, compile_post, compile16, firmwares_are_one, mailboxes_are_one};

@@ -1,9 +1,8 @@
 //! The command `hcheck HANDLER`, and the handler that a text of records gives.
 ghost use Rattle.std.specs.Prelude.{◌≡◌, ◌≤◌, codes, length, IfOk, IfErr, List, ℕ};
 ghost use Rattle.fz_shelf.specs.Lines.{text_of};
-ghost use Rattle.build_commands.specs.SeenOutputs.{OutputHasNoFault, IsResultOf};
+ghost use Rattle.build_commands.specs.{SeenOutputs.OutputHasNoFault, SeenOutputs.IsResultOf, Lines.line};
 ghost use Rattle.build_commands.specs.Hcheck.{GivesHandler, GivenHandlersHaveNoFault, HcheckMakes, handler_refusals};
-ghost use Rattle.build_commands.specs.Lines.{line};
 ghost use Rattle.fz_status.specs.Refusals.{IsRefusal};
 
 use crate::images::image_of;

@@ -1,6 +1,5 @@
 //! Laws of all commands.
-ghost use Rattle.build_commands.specs.Accepted.{AcceptedContentsMakeOutput};
-ghost use Rattle.build_commands.specs.OneOutput.{ContentsMakeOneOutput};
+ghost use Rattle.build_commands.specs.{Accepted.AcceptedContentsMakeOutput, OneOutput.ContentsMakeOneOutput};
 
 use crate::certify::certify_outputs_are_one;
 use crate::check::check_outputs_are_one;

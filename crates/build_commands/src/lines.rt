@@ -1,7 +1,6 @@
 //! Lines on out.
 ghost use Rattle.std.specs.Prelude.{◌≡◌, ◌++◌, IfOk, OnOk, string_bytes};
-ghost use Rattle.fz_shelf.specs.Lines.{text_of};
-ghost use Rattle.fz_shelf.specs.Parts.{address_digits, byte_digits};
+ghost use Rattle.fz_shelf.specs.{Lines.text_of, Parts.address_digits, Parts.byte_digits};
 ghost use Rattle.build_commands.specs.Lines.{counted, error_line, line, with_registers};
 
 use cpu12_isa::instr::Regs;

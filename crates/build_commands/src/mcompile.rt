@@ -1,7 +1,6 @@
 //! The command `mcompile FCL OUT`.
 ghost use Rattle.std.specs.Prelude.{◌≤◌, length, List, ℕ};
-ghost use Rattle.build_commands.specs.SeenOutputs.{OutputHasNoFault, IsResultOf};
-ghost use Rattle.build_commands.specs.Mcompile.{McompileMakes};
+ghost use Rattle.build_commands.specs.{SeenOutputs.OutputHasNoFault, SeenOutputs.IsResultOf, Mcompile.McompileMakes};
 
 use crate::firmware::{mailbox_of, spelled_texts_have_no_fault};
 use crate::output::Output;

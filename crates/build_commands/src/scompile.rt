@@ -1,7 +1,6 @@
 //! The command `scompile FCL OUT`.
 ghost use Rattle.std.specs.Prelude.{◌≤◌, length, List, ℕ};
-ghost use Rattle.build_commands.specs.SeenOutputs.{OutputHasNoFault, IsResultOf};
-ghost use Rattle.build_commands.specs.Scompile.{ScompileMakes};
+ghost use Rattle.build_commands.specs.{SeenOutputs.OutputHasNoFault, SeenOutputs.IsResultOf, Scompile.ScompileMakes};
 
 use crate::firmware::{spelled_texts_have_no_fault, watched_firmware_of};
 use crate::output::Output;

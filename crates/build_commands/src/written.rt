@@ -1,8 +1,7 @@
 //! What commands write of firmware and images: the records for OUT, and lines.
 ghost use Rattle.std.specs.Prelude.{◌≡◌, length, IfErr, IfOk};
 ghost use Rattle.fz_shelf.specs.Lines.{text_of};
-ghost use Rattle.build_commands.specs.SeenOutputs.{seen_output};
-ghost use Rattle.build_commands.specs.Written.{WritesImage, compile_lines};
+ghost use Rattle.build_commands.specs.{SeenOutputs.seen_output, Written.WritesImage, Written.compile_lines};
 
 use crate::lines::labelled;
 use crate::output::Output;

@@ -7,8 +7,8 @@ use Rattle.std.proofs.lemmas.Nat.{le-div}
 use Rattle.std.proofs.lemmas.Int.{ints}
 use Rattle.std.specs.Prelude.{◌==◌}
 use Rattle.fz_num.specs.Decimals.{distance}
-use Rattle.byte_scaling.specs.Cells.{IsFromTo, inside, at_end, cell_start, cell_end, IsInCell, IsNearest, NearestIsByte}
-use Rattle.byte_scaling.specs.Cells.{CellsAreApart, NumbersLieInTheirCells, BytesAscend}
+use Rattle.byte_scaling.specs.Cells.{IsFromTo, inside, at_end, cell_start, cell_end, IsInCell, IsNearest}
+use Rattle.byte_scaling.specs.Cells.{NearestIsByte, CellsAreApart, NumbersLieInTheirCells, BytesAscend}
 
 -- a place of the range lies in the cell of its part, the high end in the last
 pub IsInCell-part : (w d : ℕ) → 0 < w → d ≤ w → IsInCell w (min 255 (d * 256 / w)) (over d 1)

@@ -2,13 +2,9 @@
 -- Reached by the promise.
 use Rattle.std.specs.Prelude.{◌≡◌, ℕ, List, [], ◌∷◌, ◌+◌, ◌*◌, ◌/◌, ◌<◌, ◌≤◌, min, Bool, IsTrue, ◌==◌, pos, ◌+ℤ◌, ◌*ℤ◌}
 use Rattle.std.specs.Prelude.{◌≤ℤ◌, ◌<ℤ◌}
-use Rattle.fz_num.specs.declared.dec.Dec.{Dec}
+use Rattle.fz_num.specs.{declared.dec.Dec.Dec, Fracs.Quotient, Decimals.distance}
 use Rattle.fz_num.specs.Fractions.{Fraction, over, IsProper, AtMost, IsBelow}
-use Rattle.fz_num.specs.Fracs.{Quotient}
-use Rattle.fz_num.specs.Decimals.{distance}
-use Rattle.fuzzy_meaning.specs.declared.block.Input.{Input}
-use Rattle.fuzzy_meaning.specs.declared.block.Output.{Output}
-use Rattle.fuzzy_meaning.specs.Blocks.{IsWithin}
+use Rattle.fuzzy_meaning.specs.{declared.block.Input.Input, declared.block.Output.Output, Blocks.IsWithin}
 
 -- of a range in 256 parts, the one that x lies in; the high end lies in the last
 abbrev pub byte_of : Input → Dec → ℕ

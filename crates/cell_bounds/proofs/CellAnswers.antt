@@ -6,24 +6,19 @@ use Rattle.std.proofs.lemmas.Option.{slice_get_within, slice_get-get_or}
 use Rattle.std.proofs.lemmas.List.Sums.{sum_by-cons}
 use Rattle.fz_list.proofs.Algebra.{some_at}
 use Rattle.fz_num.specs.declared.dec.Dec.{Dec}
-use Rattle.fuzzy_meaning.specs.declared.block.Block.{Block}
-use Rattle.fuzzy_meaning.specs.declared.block.Input.{Input}
-use Rattle.fuzzy_meaning.specs.declared.block.Output.{Output}
-use Rattle.fuzzy_meaning.specs.declared.block.Rule.{Rule}
+use Rattle.fuzzy_meaning.specs.declared.{block.Block.Block, block.Input.Input, block.Output.Output, block.Rule.Rule}
 use Rattle.fuzzy_meaning.specs.declared.block.Trapezoid.{Trapezoid}
-use Rattle.fuzzy_meaning.specs.Blocks.{input_at, output_at}
+use Rattle.fuzzy_meaning.specs.{Blocks.input_at, Blocks.output_at, Rules.concludes}
 use Rattle.fuzzy_meaning.specs.Conditions.{Condition, level, levels}
 use Rattle.fuzzy_meaning.proofs.Algebra.{evaluate-alike}
-use Rattle.fuzzy_meaning.specs.Rules.{concludes}
-use Rattle.byte_scaling.specs.Cells.{nearest_byte}
-use Rattle.byte_scaling.specs.Weights.{weight_byte_of}
+use Rattle.byte_scaling.specs.{Cells.nearest_byte, Weights.weight_byte_of}
 use Rattle.point_slope.specs.Tables.{row_of, grade_of}
-use Rattle.point_slope.specs.Bytes.{literal_grade, byte_strength, byte_mass_among, byte_mass, ByteShare, byte_shares_from, byte_shares}
-use Rattle.point_slope.specs.Bytes.{total_mass as byte_total, weighted_sum as byte_weighted, answer_in, resting_answer}
-use Rattle.error_bound.specs.declared.boxes.Interval.{Interval}
+use Rattle.point_slope.specs.Bytes.{literal_grade, byte_strength, byte_mass_among, byte_mass, ByteShare}
+use Rattle.point_slope.specs.Bytes.{byte_shares_from, byte_shares, total_mass as byte_total}
+use Rattle.point_slope.specs.Bytes.{weighted_sum as byte_weighted, answer_in, resting_answer}
+use Rattle.error_bound.specs.{declared.boxes.Interval.Interval, Tight.greatest_of, Tight.byte_high_of}
 use Rattle.error_bound.specs.Boxes.{LieIn, literal_byte_span, rule_byte_span, grades_over, least_from, greatest_from}
 use Rattle.error_bound.specs.Spans.{Span, only, reversed, spans, byte_span}
-use Rattle.error_bound.specs.Tight.{greatest_of, byte_high_of}
 use Rattle.cell_bounds.specs.Cells.{IsCell, mass_sum, dot_sum, answer_by}
 
 -- a span of one byte for each literal is one for each condition

@@ -3,21 +3,15 @@ use Rattle.std.proofs.Common.{◌≡◌, ◌⊎◌, ⊎_elim, ℕ, ◌-◌, ◌�
 use Rattle.std.specs.Prelude.{IfSome, IfNone}
 use Rattle.fz_list.proofs.Algebra.{some_at}
 use Rattle.cell_error.specs.Errors.{Covers, CoveredMassesHaveErrors}
-use Rattle.fuzzy_meaning.specs.declared.block.Block.{Block}
-use Rattle.fuzzy_meaning.specs.declared.block.Output.{Output}
+use Rattle.fuzzy_meaning.specs.declared.{block.Block.Block, block.Output.Output}
 use Rattle.fuzzy_meaning.specs.Blocks.{IsValid, output_at}
-use Rattle.error_bound.specs.declared.boxes.Interval.{Interval}
-use Rattle.error_bound.specs.Best.{silent_leaf}
-use Rattle.error_bound.specs.Boxes.{IsBoxOf}
-use Rattle.error_bound.specs.Leaves.{Holds}
+use Rattle.error_bound.specs.{declared.boxes.Interval.Interval, Best.silent_leaf, Boxes.IsBoxOf, Leaves.Holds}
 use Rattle.error_bound.specs.Tight.{IsTightBound, IsSure, silent as tight_silent, sure, of_bound as count_of}
 use Rattle.error_bound.specs.TightLaws.{TightBoundsAreOne, TightBoundsAreSmall}
-use Rattle.cell_bounds.specs.declared.masses.CellMasses.{CellMasses}
-use Rattle.cell_bounds.specs.Cells.{IsErrorOnCell, IsUnsure}
+use Rattle.cell_bounds.specs.{declared.masses.CellMasses.CellMasses, Cells.IsErrorOnCell, Cells.IsUnsure}
 use Rattle.cell_bounds.specs.CellBounds.{HasCellBound, of_tight, of_error, IsCellBound}
 use Rattle.cell_bounds.specs.CellMasses.{AreFit, AreCellMasses, terms_of}
-use Rattle.cell_bounds.proofs.OneError.{errors_one, unsure_none}
-use Rattle.cell_bounds.proofs.RangeLemmas.{error_on}
+use Rattle.cell_bounds.proofs.{OneError.errors_one, OneError.unsure_none, RangeLemmas.error_on}
 
 -- what holds of an output that is there
 pub at_output : {P Q : Output → Type 0} (b : Block) (o : ℕ) → 1 ≤ o → o ≤ length b.outputs

@@ -7,12 +7,8 @@ use Rattle.std.proofs.lemmas.List.{length-set}
 use Rattle.std.proofs.lemmas.List.Sums.{sum_by-set}
 use Rattle.std.proofs.lemmas.Option.{slice_get_within, get_or_from_slice_get}
 use Rattle.fz_list.proofs.Algebra.{some_at}
-use Rattle.error_bound.specs.declared.boxes.Interval.{Interval}
-use Rattle.error_bound.specs.Boxes.{IsBox, LieIn}
-use Rattle.error_bound.specs.Laws.{IsInside}
-use Rattle.cell_bounds.specs.Cells.{IsCell, cell_of}
-use Rattle.cell_bounds.specs.CellBounds.{IsBefore}
-use Rattle.cell_bounds.specs.Walks.{cuts_of}
+use Rattle.error_bound.specs.{declared.boxes.Interval.Interval, Boxes.IsBox, Boxes.LieIn, Laws.IsInside}
+use Rattle.cell_bounds.specs.{Cells.IsCell, Cells.cell_of, CellBounds.IsBefore, Walks.cuts_of}
 use Rattle.cell_bounds.proofs.BoxesOfCells.{lie_around}
 
 -- what a set list has at a place

@@ -4,15 +4,12 @@ use Rattle.std.proofs.Common.{ap, ◌∙◌, cond, true, arith}
 use Rattle.std.specs.Prelude.{slice_get, ◌==◌}
 use Rattle.std.specs.Option.{option_map_or}
 use Rattle.std.proofs.lemmas.Bool.{eq-eqb}
-use Rattle.fuzzy_meaning.specs.declared.block.Block.{Block}
-use Rattle.fuzzy_meaning.specs.declared.block.Output.{Output}
-use Rattle.fuzzy_meaning.specs.Blocks.{output_at}
+use Rattle.fuzzy_meaning.specs.{declared.block.Block.Block, declared.block.Output.Output, Blocks.output_at}
 use Rattle.byte_scaling.specs.Cells.{nearest_byte}
 use Rattle.point_slope.specs.Bytes.{byte_shares, total_mass, weighted_sum, answer_in, resting_answer}
 use Rattle.error_bound.specs.declared.boxes.Interval.{Interval}
-use Rattle.error_bound.specs.Boxes.{IsBox, LieIn}
+use Rattle.error_bound.specs.{Boxes.IsBox, Boxes.LieIn, MassRanges.ranges, MassRanges.answer_at, MassRanges.rest_of}
 use Rattle.cell_error.specs.Errors.{Covers}
-use Rattle.error_bound.specs.MassRanges.{ranges, answer_at, rest_of}
 use Rattle.cell_bounds.specs.Cells.{unsure, silent, ErrorsOnCellsAreOne, UnsureCellsHaveNone}
 
 -- some bytes lie in each box

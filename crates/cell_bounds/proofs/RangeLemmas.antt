@@ -6,20 +6,15 @@ use Rattle.std.proofs.Math.Seq.{drop-cons}
 use Rattle.std.proofs.lemmas.Bool.{cases_lt}
 use Rattle.std.proofs.lemmas.Int.{ints}
 use Rattle.fz_list.proofs.Algebra.{All-none, All-cons}
-use Rattle.fz_num.specs.declared.dec.Dec.{Dec}
-use Rattle.fz_num.specs.Decimals.{distance}
-use Rattle.fuzzy_meaning.specs.declared.block.Block.{Block}
-use Rattle.fuzzy_meaning.specs.declared.block.Output.{Output}
+use Rattle.fz_num.specs.{declared.dec.Dec.Dec, Decimals.distance}
+use Rattle.fuzzy_meaning.specs.declared.{block.Block.Block, block.Output.Output}
 use Rattle.fuzzy_meaning.specs.Blocks.{output_at, IsWithin as IsInRange}
 use Rattle.point_slope.specs.Bytes.{answer_in, byte_shares, total_mass}
-use Rattle.error_bound.specs.declared.boxes.Interval.{Interval}
-use Rattle.error_bound.specs.Boxes.{LieIn}
-use Rattle.cell_error.specs.declared.ranges.MassRange.{MassRange}
-use Rattle.cell_error.specs.declared.ranges.Answer.{Answer}
-use Rattle.cell_error.specs.Errors.{IsRange, IsCellError}
+use Rattle.error_bound.specs.{declared.boxes.Interval.Interval, Boxes.LieIn}
 use Rattle.error_bound.specs.MassRanges.{ranges_at, ranges, sure_mass, answer_at, rest_of}
-use Rattle.cell_bounds.specs.declared.masses.CellMasses.{CellMasses}
-use Rattle.cell_bounds.specs.CellMasses.{AreCellMasses, terms_of}
+use Rattle.cell_error.specs.declared.{ranges.MassRange.MassRange, ranges.Answer.Answer}
+use Rattle.cell_error.specs.Errors.{IsRange, IsCellError}
+use Rattle.cell_bounds.specs.{declared.masses.CellMasses.CellMasses, CellMasses.AreCellMasses, CellMasses.terms_of}
 use Rattle.cell_bounds.specs.Cells.{IsErrorOnCell, IsUnsure, unsure, silent}
 
 pub quotient_le : (a b n : ℕ) → 0 < b → a ≤ n * b → a / b ≤ n

@@ -4,18 +4,13 @@ use Rattle.std.proofs.Common.{None, refl, sym, subst, ap, ap₂, ◌∙◌, arit
 use Rattle.std.specs.Prelude.{IfSome, IfOk, IfErr, Result, Ok, Err, slice_get, slice_index, slice_set}
 use Rattle.std.proofs.lemmas.Bool.{cases_lt, cases_eq}
 use Rattle.std.proofs.lemmas.List.{get_or-set_same, get_or-set_other}
-use Rattle.fuzzy_meaning.specs.declared.block.Block.{Block}
-use Rattle.fuzzy_meaning.specs.declared.block.Output.{Output}
-use Rattle.fuzzy_meaning.specs.Blocks.{output_at}
-use Rattle.error_bound.specs.declared.boxes.Interval.{Interval}
-use Rattle.error_bound.specs.Boxes.{IsBox, LieIn}
-use Rattle.cell_bounds.specs.Cells.{IsCell, cell_of}
-use Rattle.cell_bounds.specs.CellBounds.{HasCellBound, IsCellCount, of_bound, of_none, IsCellWithin}
-use Rattle.cell_bounds.specs.CellBounds.{CellsAreWithin, IsCellsBound, IsBefore, IsFirstCellAbove, IsUnsureOn}
-use Rattle.cell_bounds.specs.Walks.{IsRaised, AreRaised, AreAtMost}
-use Rattle.cell_bounds.proofs.BoxesOfCells.{lie_around}
+use Rattle.fuzzy_meaning.specs.{declared.block.Block.Block, declared.block.Output.Output, Blocks.output_at}
+use Rattle.error_bound.specs.{declared.boxes.Interval.Interval, Boxes.IsBox, Boxes.LieIn}
+use Rattle.cell_bounds.specs.{Cells.IsCell, Cells.cell_of, Walks.IsRaised, Walks.AreRaised, Walks.AreAtMost}
+use Rattle.cell_bounds.specs.CellBounds.{HasCellBound, IsCellCount, of_bound, of_none, IsCellWithin, CellsAreWithin}
+use Rattle.cell_bounds.specs.CellBounds.{IsCellsBound, IsBefore, IsFirstCellAbove, IsUnsureOn}
+use Rattle.cell_bounds.proofs.{BoxesOfCells.lie_around, OneError.lowest, OneError.lowest_in}
 use Rattle.cell_bounds.proofs.Lists.{left, right, left_inside, right_inside, in_either, before_left, cell_same}
-use Rattle.cell_bounds.proofs.OneError.{lowest, lowest_in}
 
 -- what holds of an output that is there, by others that do
 pub both_outputs : {P Q R : Output → Type 0} (r : Option Output) → ((x : Output) → P x → Q x → R x) → IfSome r P

@@ -1,20 +1,13 @@
 -- The Bound of a cell, and of a leaf of cells.
 -- Beside the promise.
 use Rattle.std.specs.Prelude.{◌≡◌, ℕ, ◌+◌, ◌-◌, ◌*◌, ◌<◌, ◌≤◌, ◌⊎◌, List, [], ◌∷◌, length, IfSome}
-use Rattle.fz_num.specs.declared.dec.Dec.{Dec}
-use Rattle.fz_num.specs.Fracs.{Quotient}
-use Rattle.fuzzy_meaning.specs.declared.block.Block.{Block}
-use Rattle.fuzzy_meaning.specs.declared.block.Output.{Output}
-use Rattle.fuzzy_meaning.specs.Blocks.{output_at}
-use Rattle.fuzzy_meaning.specs.Meaning.{answer_after}
+use Rattle.fz_num.specs.{declared.dec.Dec.Dec, Fracs.Quotient}
+use Rattle.fuzzy_meaning.specs.declared.{block.Block.Block, block.Output.Output}
+use Rattle.fuzzy_meaning.specs.{Blocks.output_at, Meaning.answer_after}
 use Rattle.byte_scaling.specs.Cells.{value_in}
 use Rattle.point_slope.specs.Bytes.{answer_in}
-use Rattle.error_bound.specs.declared.boxes.Interval.{Interval}
-use Rattle.error_bound.specs.Boxes.{LieIn}
-use Rattle.error_bound.specs.Laws.{IsInside}
-use Rattle.error_bound.specs.MassRanges.{AreOverBox}
-use Rattle.error_bound.specs.Tight.{IsTightBound}
-use Rattle.error_bound.specs.TightLaws.{IsAnsweredWithin}
+use Rattle.error_bound.specs.{declared.boxes.Interval.Interval, Boxes.LieIn, Laws.IsInside, MassRanges.AreOverBox}
+use Rattle.error_bound.specs.{Tight.IsTightBound, TightLaws.IsAnsweredWithin}
 use Rattle.cell_bounds.specs.Cells.{cell_of, IsErrorOnCell}
 
 -- n is the tight Bound of the cell, or its error

@@ -1,13 +1,10 @@
 -- What the code's masses of a cell stand for.
 -- Beside the promise.
 use Rattle.std.specs.Prelude.{◌≡◌, ℕ, ◌<◌, ◌≤◌, All, List, None, take}
-use Rattle.fuzzy_meaning.specs.declared.block.Block.{Block}
-use Rattle.fuzzy_meaning.specs.declared.block.Output.{Output}
+use Rattle.fuzzy_meaning.specs.declared.{block.Block.Block, block.Output.Output}
 use Rattle.point_slope.specs.Bytes.{answer_in}
-use Rattle.cell_error.specs.declared.ranges.MassRange.{MassRange}
-use Rattle.cell_error.specs.Errors.{IsAnswer, IsRange}
-use Rattle.error_bound.specs.declared.boxes.Interval.{Interval}
-use Rattle.error_bound.specs.Boxes.{LieIn}
+use Rattle.cell_error.specs.{declared.ranges.MassRange.MassRange, Errors.IsAnswer, Errors.IsRange}
+use Rattle.error_bound.specs.{declared.boxes.Interval.Interval, Boxes.LieIn}
 use Rattle.error_bound.specs.MassRanges.{ranges, sure_mass, answer_at, rest_of}
 use Rattle.cell_bounds.specs.declared.masses.CellMasses.{CellMasses}
 

@@ -1,18 +1,13 @@
 -- The error of a cell: a box of one byte for each input.
 -- Beside the promise.
 use Rattle.std.specs.Prelude.{◌≡◌, ℕ, ◌+◌, ◌*◌, ◌/◌, ◌<◌, ◌==◌, if◌then◌else◌, List, [], ◌∷◌, Some, None, slice_get}
-use Rattle.fz_num.specs.declared.dec.Dec.{Dec}
-use Rattle.fz_num.specs.Decimals.{distance}
-use Rattle.fz_num.specs.Fracs.{Quotient, IsClose}
+use Rattle.fz_num.specs.{declared.dec.Dec.Dec, Decimals.distance, Fracs.Quotient, Fracs.IsClose}
 use Rattle.cell_error.specs.Errors.{IsCellError}
-use Rattle.fuzzy_meaning.specs.declared.block.Block.{Block}
-use Rattle.fuzzy_meaning.specs.declared.block.Output.{Output}
-use Rattle.fuzzy_meaning.specs.Blocks.{output_at}
-use Rattle.fuzzy_meaning.specs.Meaning.{answer_after}
+use Rattle.fuzzy_meaning.specs.declared.{block.Block.Block, block.Output.Output}
+use Rattle.fuzzy_meaning.specs.{Blocks.output_at, Meaning.answer_after}
 use Rattle.byte_scaling.specs.Cells.{value_in, nearest_byte}
 use Rattle.point_slope.specs.Bytes.{answer_in, resting_answer, byte_shares, total_mass}
-use Rattle.error_bound.specs.declared.boxes.Interval.{Interval}
-use Rattle.error_bound.specs.Boxes.{IsBox, LieIn}
+use Rattle.error_bound.specs.{declared.boxes.Interval.Interval, Boxes.IsBox, Boxes.LieIn}
 use Rattle.error_bound.specs.MassRanges.{ranges, sure_mass, answer_at, rest_of, AreOverBox}
 
 pub record IsCell (box : List Interval) : Type 0 where

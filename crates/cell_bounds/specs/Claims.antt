@@ -1,28 +1,19 @@
 -- What a leaf of each sort says of a box: one names a rule or silence, one nothing, and one the box's cells.
 -- Beside the promise.
 use Rattle.std.specs.Prelude.{◌≡◌, ℕ, ◌≤◌, List, length, Some}
-use Rattle.fz_num.specs.declared.dec.Dec.{Dec}
-use Rattle.fz_num.specs.Fracs.{Quotient}
-use Rattle.fuzzy_meaning.specs.declared.block.Block.{Block}
-use Rattle.fuzzy_meaning.specs.declared.block.Output.{Output}
-use Rattle.fuzzy_meaning.specs.Blocks.{output_at, IsValid}
-use Rattle.fuzzy_meaning.specs.Meaning.{answer_after}
+use Rattle.fz_num.specs.{declared.dec.Dec.Dec, Fracs.Quotient}
+use Rattle.fuzzy_meaning.specs.declared.{block.Block.Block, block.Output.Output}
+use Rattle.fuzzy_meaning.specs.{Blocks.output_at, Blocks.IsValid, Meaning.answer_after}
 use Rattle.byte_scaling.specs.Cells.{value_in}
 use Rattle.point_slope.specs.Bytes.{answer_in}
-use Rattle.error_bound.specs.declared.boxes.Interval.{Interval}
-use Rattle.error_bound.specs.BestLeaves.{IsBestBound}
-use Rattle.error_bound.specs.Boxes.{IsBox, LieIn}
-use Rattle.error_bound.specs.Bounds.{IsBound}
-use Rattle.error_bound.specs.Leaves.{Holds}
-use Rattle.error_bound.specs.MassRanges.{AreOverBox}
-use Rattle.error_bound.specs.Tight.{IsTightBound, IsTightCount}
-use Rattle.error_bound.specs.TightLaws.{IsAnsweredWithin}
+use Rattle.error_bound.specs.{declared.boxes.Interval.Interval, BestLeaves.IsBestBound, Boxes.IsBox, Boxes.LieIn}
+use Rattle.error_bound.specs.{Bounds.IsBound, Leaves.Holds, MassRanges.AreOverBox}
+use Rattle.error_bound.specs.{Tight.IsTightBound, Tight.IsTightCount, TightLaws.IsAnsweredWithin}
 use Rattle.cell_bounds.specs.declared.claims.Claim.{Claim}
 use Rattle.cell_bounds.specs.declared.claims.Claim.TheVariants.{Pair, Tight, Cells}
 use Rattle.box_tree.specs.declared.cert.CertKind.{CertKind}
 use Rattle.box_tree.specs.declared.cert.CertKind.TheVariants as kind
-use Rattle.cell_bounds.specs.Cells.{cell_of}
-use Rattle.cell_bounds.specs.CellBounds.{IsCellCount, IsCellsBound}
+use Rattle.cell_bounds.specs.{Cells.cell_of, CellBounds.IsCellCount, CellBounds.IsCellsBound}
 
 -- what a leaf says of output o holds on the box, with Bound n
 abbrev pub HasClaimBound : Block → List Interval → ℕ → Output → ℕ → Claim → ℕ → Type 0

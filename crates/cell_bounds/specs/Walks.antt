@@ -2,12 +2,10 @@
 -- Beside the promise.
 use Rattle.std.specs.Prelude.{ℕ, ◌+◌, ◌-◌, ◌<◌, ◌≤◌, List, length, IfSome, slice_index}
 use Rattle.std.specs.List.{sum_by}
-use Rattle.fuzzy_meaning.specs.declared.block.Block.{Block}
-use Rattle.fuzzy_meaning.specs.declared.block.Output.{Output}
+use Rattle.fuzzy_meaning.specs.declared.{block.Block.Block, block.Output.Output}
 use Rattle.fuzzy_meaning.specs.Blocks.{IsValid, output_at}
 use Rattle.error_bound.specs.declared.boxes.Interval.{Interval}
-use Rattle.cell_bounds.specs.declared.walks.Walk.{Walk}
-use Rattle.cell_bounds.specs.CellBounds.{CellsAreWithin}
+use Rattle.cell_bounds.specs.{declared.walks.Walk.Walk, CellBounds.CellsAreWithin}
 
 -- a walk over outputs of a valid block
 pub record IsWalk (w : Walk) : Type 0 where

@@ -3,9 +3,9 @@ ghost use Rattle.std.specs.Prelude.{◌≤◌, length, IfSome};
 ghost use Rattle.std.specs.Option.{option_map_or};
 ghost use Rattle.fuzzy_meaning.specs.Blocks.{IsValid, output_at};
 ghost use Rattle.error_bound.specs.Reaches.{IsTable};
-ghost use Rattle.cell_bounds.specs.Claims.{HasClaimBound, IsOfKind, IsBoxCount};
-ghost use Rattle.cell_bounds.specs.Claims.{ClaimAnswersAreNear, ClaimBoundsAreOne, ClaimBoundsFallWithParts};
-ghost use Rattle.cell_bounds.specs.Claims.{TightClaimsAreLeast, CountsAreLeast, BoxCountsAreOne, CountsAreOne};
+ghost use Rattle.cell_bounds.specs.Claims.{HasClaimBound, IsOfKind, IsBoxCount, ClaimAnswersAreNear};
+ghost use Rattle.cell_bounds.specs.Claims.{ClaimBoundsAreOne, ClaimBoundsFallWithParts, TightClaimsAreLeast};
+ghost use Rattle.cell_bounds.specs.Claims.{CountsAreLeast, BoxCountsAreOne, CountsAreOne};
 
 use crate::laws::boxes_of_cells_answer;
 use box_tree::CertKind;

@@ -4,9 +4,8 @@ ghost use Rattle.std.specs.Prelude.{IfSome, IfNone, None};
 ghost use Rattle.fz_num.specs.Decimals.{distance};
 ghost use Rattle.cell_error.specs.Errors.{IsRange, IsCellError, Covers};
 ghost use Rattle.fuzzy_meaning.specs.Blocks.{IsValid, IsValidOutput, output_at};
-ghost use Rattle.error_bound.specs.Masses.{AreMasses};
+ghost use Rattle.error_bound.specs.{Masses.AreMasses, Reaches.IsTable};
 ghost use Rattle.error_bound.specs.MassRanges.{ranges_at, sure_mass as sure_mass_of, answer_at, rest_of};
-ghost use Rattle.error_bound.specs.Reaches.{IsTable};
 ghost use Rattle.cell_bounds.specs.Cells.{IsCell, IsUnsure, mass_sum, dot_sum, answer_by};
 ghost use Rattle.cell_bounds.specs.CellMasses.{AreFit, AreCellMasses, terms_of};
 

@@ -3,12 +3,10 @@ ghost use Rattle.std.specs.Prelude.{◌≡◌, ◌≢◌, ◌≤◌, ◌<◌, �
 ghost use Rattle.std.specs.Prelude.{length, map, set, slice_get, slice_index};
 ghost use Rattle.fuzzy_meaning.specs.Blocks.{IsValid, output_at};
 ghost use Rattle.error_bound.specs.declared.boxes.Interval.{Interval as TheInterval};
-ghost use Rattle.error_bound.specs.Boxes.{IsBox, IsBoxOf};
-ghost use Rattle.error_bound.specs.Reaches.{IsBlockTable, IsTable};
-ghost use Rattle.cell_bounds.specs.Cells.{IsCell};
-ghost use Rattle.cell_bounds.specs.CellBounds.{IsCellCount, IsCellsBound, IsFirstCellAbove, cell_count};
-ghost use Rattle.cell_bounds.specs.CellBounds.{IsUnsureOn, IsFirstUnsure};
-ghost use Rattle.cell_bounds.specs.Walks.{IsWalk, IsRaised, AreRaised, AreAtMost};
+ghost use Rattle.error_bound.specs.{Boxes.IsBox, Boxes.IsBoxOf, Reaches.IsBlockTable, Reaches.IsTable};
+ghost use Rattle.cell_bounds.specs.{Cells.IsCell, Walks.IsWalk, Walks.IsRaised, Walks.AreRaised, Walks.AreAtMost};
+ghost use Rattle.cell_bounds.specs.CellBounds.{IsCellCount, IsCellsBound, IsFirstCellAbove, cell_count, IsUnsureOn};
+ghost use Rattle.cell_bounds.specs.CellBounds.{IsFirstUnsure};
 
 use crate::cells::count_above;
 use arrayvec::ArrayVec;

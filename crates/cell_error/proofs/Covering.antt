@@ -5,9 +5,7 @@ use Rattle.std.specs.Prelude.{if◌then◌else◌, nat_le, ◌==◌, All, IsTrue
 use Rattle.std.proofs.lemmas.Bool.{cases_lt, leb-true, leb-false, le-leb, eq-eqb}
 use Rattle.std.proofs.lemmas.Bool.Decides.{nat_tests}
 use Rattle.fz_num.specs.Fractions.{over}
-use Rattle.cell_error.specs.declared.ranges.MassRange.{MassRange}
-use Rattle.cell_error.specs.declared.ranges.Answer.{Answer}
-use Rattle.cell_error.specs.declared.errors.Cut.{Cut}
+use Rattle.cell_error.specs.declared.{ranges.MassRange.MassRange, ranges.Answer.Answer, errors.Cut.Cut}
 use Rattle.cell_error.specs.declared.errors.Cut.TheVariants.{Nowhere, From, UpTo, AtLeast, AtMost}
 use Rattle.cell_error.specs.Errors.{AreBetween, total, weighted, answer_of, IsWithin, Covers, IsCellError, IsRange}
 use Rattle.cell_error.specs.Cuts.{is_high, chosen, masses, IsErrorAt}

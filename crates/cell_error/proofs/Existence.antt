@@ -2,10 +2,8 @@
 use Rattle.std.proofs.Common.{◌≡◌, ◌⊎◌, inl, inr, ⊎_elim, ℕ, zero, suc, ◌*◌, ◌<◌, ◌≤◌, List, arith}
 use Rattle.std.specs.Prelude.{All}
 use Rattle.std.proofs.lemmas.Bool.{cases_lt}
-use Rattle.cell_error.specs.declared.ranges.MassRange.{MassRange}
-use Rattle.cell_error.specs.declared.ranges.Answer.{Answer}
+use Rattle.cell_error.specs.{declared.ranges.MassRange.MassRange, declared.ranges.Answer.Answer, Cuts.masses}
 use Rattle.cell_error.specs.declared.errors.Cut.TheVariants.{Nowhere, AtLeast, AtMost}
-use Rattle.cell_error.specs.Cuts.{masses}
 use Rattle.cell_error.specs.Errors.{IsRange, total, weighted, answer_of, Covers, CoveredMassesHaveErrors}
 use Rattle.cell_error.proofs.Covering.{covers_of_serves, serves_of_covers, cases_zero}
 use Rattle.cell_error.proofs.Withins.{step, top, bottom, within_more}

@@ -3,8 +3,7 @@ use Rattle.std.proofs.Common.{◌≡◌, ◌⊎◌, inl, inr, ⊎_elim, ℕ, zer
 use Rattle.std.proofs.Common.{refl, sym, ap, ap₂, ◌∙◌, arith}
 use Rattle.std.specs.Prelude.{if◌then◌else◌}
 use Rattle.std.proofs.lemmas.Bool.{cases_Bool, both_ways}
-use Rattle.cell_error.specs.declared.ranges.MassRange.{MassRange}
-use Rattle.cell_error.specs.Cuts.{chosen}
+use Rattle.cell_error.specs.{declared.ranges.MassRange.MassRange, Cuts.chosen}
 
 -- P of each singleton
 abbrev pub Each : (ℕ → Type 0) → List MassRange → Type 0

@@ -3,8 +3,7 @@ use Rattle.std.proofs.Common.{◌≡◌, ℕ, ◌+◌, ◌-◌, ◌*◌, ◌≤�
 use Rattle.std.proofs.Common.{refl, sym, subst, arith, mul-le-mul_right}
 use Rattle.std.specs.Prelude.{if◌then◌else◌}
 use Rattle.cell_error.specs.declared.ranges.MassRange.{MassRange}
-use Rattle.cell_error.specs.Errors.{AreBetween, total, weighted}
-use Rattle.cell_error.specs.Cuts.{chosen}
+use Rattle.cell_error.specs.{Errors.AreBetween, Errors.total, Errors.weighted, Cuts.chosen}
 
 -- one term: v (m - n) is at most y (m - n)
 one_more : (v y m n : ℕ) → y ≤ v → m ≤ n → v * m + y * n ≤ y * m + v * n

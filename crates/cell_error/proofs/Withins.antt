@@ -6,8 +6,7 @@ use Rattle.std.specs.Int.{abs_diff}
 use Rattle.fz_num.specs.Fractions.{Fraction, over, up_div}
 use Rattle.fz_num.proofs.Algebra.{le-up_div, up_div-le}
 use Rattle.cell_error.specs.declared.ranges.Answer.{Answer}
-use Rattle.cell_error.specs.Errors.{difference, IsWithin, IsAnswer}
-use Rattle.cell_error.specs.Cuts.{IsErrorAt}
+use Rattle.cell_error.specs.{Errors.difference, Errors.IsWithin, Errors.IsAnswer, Cuts.IsErrorAt}
 
 abbrev pub step : Answer → ℕ
 step a = a.parts * 1000000

@@ -2,8 +2,7 @@
 -- Beside the promise.
 use Rattle.std.specs.Prelude.{All, ℕ, ◌+◌, ◌-◌, ◌*◌, ◌≤◌, ◌==◌, if◌then◌else◌, List, [], ◌∷◌}
 use Rattle.fz_num.specs.Fractions.{Fraction, over}
-use Rattle.cell_error.specs.declared.ranges.MassRange.{MassRange}
-use Rattle.cell_error.specs.declared.ranges.Answer.{Answer}
+use Rattle.cell_error.specs.declared.{ranges.MassRange.MassRange, ranges.Answer.Answer}
 
 -- each mass, in parts of d to its unit, lies between its term's numbers
 abbrev pub AreBetween : ℕ → List MassRange → List ℕ → Type 0

@@ -1,8 +1,8 @@
 //! The least error that serves for all masses.
 ghost use Rattle.std.specs.Prelude.{◌≡◌, ◌≤◌, ◌<◌, ◌*◌, ◌↔◌, ℕ, All, length, IsTrue};
 ghost use Rattle.fz_num.specs.Fractions.{over};
-ghost use Rattle.cell_error.specs.Errors.{IsAnswer, IsRange, weighted, total, answer_of, IsWithin, Covers, IsCellError};
-ghost use Rattle.cell_error.specs.Errors.{CoveredMassesHaveErrors};
+ghost use Rattle.cell_error.specs.Errors.{IsAnswer, IsRange, weighted, total, answer_of, IsWithin, Covers};
+ghost use Rattle.cell_error.specs.Errors.{IsCellError, CoveredMassesHaveErrors};
 ghost use Rattle.cell_error.specs.Cuts.{is_high, masses, IsErrorAt, IsSmall};
 ghost use Rattle.cell_error.specs.declared.errors.Cut.TheVariants.{Nowhere, AtLeast, AtMost};
 

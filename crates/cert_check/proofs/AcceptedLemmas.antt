@@ -4,26 +4,20 @@ use Rattle.std.proofs.Common.{sym, ap, ap₂, ◌∙◌, subst, arith, mul-pos}
 use Rattle.std.specs.Prelude.{nat_le, ◌&&◌, slice_get, fold, All}
 use Rattle.std.proofs.lemmas.Int.{ints}
 use Rattle.std.proofs.lemmas.Bool.Decides.{nat_tests}
-use Rattle.fz_num.specs.declared.dec.Dec.{Dec}
-use Rattle.fz_num.specs.Decimals.{distance}
-use Rattle.fz_num.specs.Fracs.{Quotient, IsClose}
-use Rattle.fuzzy_meaning.specs.declared.block.Block.{Block}
-use Rattle.fuzzy_meaning.specs.declared.block.Input.{Input}
-use Rattle.fuzzy_meaning.specs.declared.block.Output.{Output}
+use Rattle.fz_num.specs.{declared.dec.Dec.Dec, Decimals.distance, Fracs.Quotient, Fracs.IsClose}
+use Rattle.fuzzy_meaning.specs.declared.{block.Block.Block, block.Input.Input, block.Output.Output}
 use Rattle.fuzzy_meaning.specs.Blocks.{IsValid, IsValidInput, AreInputs, output_at}
 use Rattle.fuzzy_meaning.specs.Meaning.{answer_after, first_answer}
 use Rattle.fz_list.proofs.Algebra.{All-slice_get}
 use Rattle.byte_scaling.specs.Cells.{byte_of, bytes_of, LiesInCell, NumbersLieInTheirCells, value_in}
 use Rattle.point_slope.specs.Bytes.{answer_in}
-use Rattle.error_bound.specs.Boxes.{IsBoxOf, LieInCells}
-use Rattle.error_bound.specs.MassRanges.{AreOverBox}
+use Rattle.error_bound.specs.{Boxes.IsBoxOf, Boxes.LieInCells, MassRanges.AreOverBox}
 use Rattle.error_bound.specs.TightLaws.{IsAnsweredWithin, kept, near}
 use Rattle.cell_bounds.specs.Claims.{ClaimAnswersAreNear}
 use Rattle.fz_num.proofs.Algebra.{IsClose-more}
 use Rattle.box_tree.specs.declared.cert.Cert.{Cert}
 use Rattle.cert_check.specs.Trees.{Part, IsTree, lies, whole}
-use Rattle.cert_check.specs.Acceptance.{HasBound, IsGreatestBound}
-use Rattle.cert_check.specs.Laws.{AcceptedAnswersAreNear}
+use Rattle.cert_check.specs.{Acceptance.HasBound, Acceptance.IsGreatestBound, Laws.AcceptedAnswersAreNear}
 use Rattle.cert_check.proofs.TreeLemmas.{one_leaf, leaf_with, LieIn-lies, All-both, boxes_are, whole_is}
 
 -- the bytes of numbers within their ranges

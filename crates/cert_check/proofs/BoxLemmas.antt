@@ -3,11 +3,9 @@ use Rattle.std.proofs.Common.{◌≡◌, ℕ, suc, ◌≤◌, List, [], ◌∷�
 use Rattle.std.specs.Prelude.{All, nat_le}
 use Rattle.std.proofs.lemmas.Bool.Decides.{nat_tests}
 use Rattle.fuzzy_meaning.specs.declared.block.Input.{Input}
-use Rattle.error_bound.specs.declared.boxes.Interval.{Interval}
-use Rattle.error_bound.specs.Boxes.{IsBoxOf}
+use Rattle.error_bound.specs.{declared.boxes.Interval.Interval, Boxes.IsBoxOf}
 use Rattle.box_tree.specs.declared.cert.CertKind.{CertKind}
-use Rattle.cert_check.specs.Trees.{lies, whole, Part}
-use Rattle.cert_check.specs.Acceptance.{HasBound}
+use Rattle.cert_check.specs.{Trees.lies, Trees.whole, Trees.Part, Acceptance.HasBound}
 use Rattle.cert_check.specs.BoxLaws.{CutsHaveHalves, LeavesAreAround, IsFormOf, IsNodeOf}
 use Rattle.cert_check.proofs.CutLemmas.{cut_at, set-left, set-right, IsBox-left, IsBox-right}
 use Rattle.cert_check.proofs.TreeLemmas.{one_leaf, leaf_with, LieIn-lies, boxes_are, whole_is, forms_are}

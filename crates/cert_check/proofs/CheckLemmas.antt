@@ -5,17 +5,13 @@ use Rattle.std.specs.Prelude.{MatchOption}
 use Rattle.std.specs.Option.{is_some}
 use Rattle.std.proofs.lemmas.List.{append-nil}
 use Rattle.std.proofs.lemmas.Option.{get_or_from_slice_get}
-use Rattle.box_tree.specs.declared.cert.Node.{Node}
-use Rattle.box_tree.specs.Trees.{open_from}
+use Rattle.box_tree.specs.{declared.cert.Node.Node, Trees.open_from}
 use Rattle.cert_check.specs.declared.checker.CheckFault.{CheckFault}
 use Rattle.cert_check.specs.declared.checker.CheckFault.TheVariants as fault
-use Rattle.cert_check.specs.declared.walk.Walk.{Walk}
-use Rattle.cert_check.specs.Trees.{whole}
-use Rattle.cert_check.specs.Acceptance.{IsAccepted}
+use Rattle.cert_check.specs.{declared.walk.Walk.Walk, Trees.whole, Acceptance.IsAccepted}
 use Rattle.cert_check.specs.Faults.{HasCheckFault, IsFirstOver, AreClaimed, outputs, claimed}
 use Rattle.cert_check.specs.Walks.{stack_of, HasWalked, cert_over, IsBehind, HasTaken}
-use Rattle.cert_check.proofs.WalkLemmas.{walked_none, walked_all}
-use Rattle.cert_check.proofs.TakeLemmas.{as_fault}
+use Rattle.cert_check.proofs.{WalkLemmas.walked_none, WalkLemmas.walked_all, TakeLemmas.as_fault}
 
 pub none_from_is_some : {A : Type 0} (o : Option A) → false ≡ is_some o → o ≡ None
 none_from_is_some None e = refl

@@ -2,25 +2,18 @@
 use Rattle.std.proofs.Common.{◌≡◌, ℕ, ◌+◌, ◌-◌, List, Option, Some, sym, subst, arith}
 use Rattle.std.specs.Prelude.{slice_index, IfSome, IsTrue, ◌==◌}
 use Rattle.fz_list.proofs.Algebra.{some_at, IsSomeAnd-at, list_any-left}
-use Rattle.fuzzy_meaning.specs.declared.block.Block.{Block}
-use Rattle.fuzzy_meaning.specs.declared.block.Output.{Output}
-use Rattle.fuzzy_meaning.specs.Blocks.{output_at}
+use Rattle.fuzzy_meaning.specs.{declared.block.Block.Block, declared.block.Output.Output, Blocks.output_at}
 use Rattle.error_bound.specs.declared.boxes.Interval.{Interval}
 use Rattle.error_bound.specs.declared.boxes.Leaf as the
-use Rattle.error_bound.specs.Faults.{FaultyLeavesFail}
+use Rattle.error_bound.specs.{Faults.FaultyLeavesFail, Tight.IsTightBound}
 use Rattle.error_bound.specs.Leaves.{Holds, strong, silent, IsPairFor, rule_at, concludes_some}
-use Rattle.error_bound.specs.Tight.{IsTightBound}
 use Rattle.cell_bounds.specs.declared.claims.Claim.{Claim}
 use Rattle.cell_bounds.specs.declared.claims.Claim.TheVariants.{Pair, Tight, Cells}
-use Rattle.cell_bounds.specs.Cells.{cell_of}
-use Rattle.cell_bounds.specs.CellBounds.{CellsAreWithin, HasCellBound}
-use Rattle.cell_bounds.specs.Claims.{HasClaimBound}
-use Rattle.cert_check.specs.declared.checker.CheckFault.{CheckFault}
-use Rattle.cert_check.specs.Trees.{Part}
+use Rattle.cell_bounds.specs.{Cells.cell_of, CellBounds.CellsAreWithin, CellBounds.HasCellBound, Claims.HasClaimBound}
+use Rattle.cert_check.specs.{declared.checker.CheckFault.CheckFault, Trees.Part, Walks.AreBounds}
 use Rattle.cert_check.specs.Acceptance.{claim_at, IsAllowed, HasBound}
 use Rattle.cert_check.specs.Faults.{ClaimHolds, AllHold, IsPairFault, bad_rule, fails, IsCellsFault, too_many, unsure}
 use Rattle.cert_check.specs.Faults.{IsClaimFault}
-use Rattle.cert_check.specs.Walks.{AreBounds}
 
 pub IfSome-at : {X : Type 0} (P : X → Type 0) {q : Option X} {x : X} → q ≡ Some x → IfSome q P → P x
 IfSome-at P e h = subst (λ r. IfSome r P) e h

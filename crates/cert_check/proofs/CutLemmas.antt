@@ -2,10 +2,8 @@
 use Rattle.std.proofs.Common.{◌≡◌, ℕ, zero, suc, ◌+◌, ◌-◌, ◌<◌, ◌≤◌, List, [], ◌∷◌, ◌++◌, length, map, take, Some, None}
 use Rattle.std.proofs.Common.{refl, ap, subst, arith}
 use Rattle.std.specs.Prelude.{slice_get, set}
-use Rattle.fuzzy_meaning.specs.declared.block.Block.{Block}
-use Rattle.fuzzy_meaning.specs.declared.block.Input.{Input}
-use Rattle.error_bound.specs.declared.boxes.Interval.{Interval}
-use Rattle.error_bound.specs.Boxes.{IsBox}
+use Rattle.fuzzy_meaning.specs.declared.{block.Block.Block, block.Input.Input}
+use Rattle.error_bound.specs.{declared.boxes.Interval.Interval, Boxes.IsBox}
 use Rattle.cert_check.specs.Trees.{left_of, right_of, IsCut, whole}
 
 -- a cut is inside the interval at its place

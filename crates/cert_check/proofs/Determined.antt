@@ -3,16 +3,12 @@ use Rattle.std.proofs.Common.{◌≡◌, ℕ, zero, suc, ◌+◌, ◌-◌, ◌<�
 use Rattle.std.proofs.Common.{Some, refl, sym, ap, ap₂, ◌∙◌, subst, arith}
 use Rattle.std.specs.Prelude.{All, slice_get}
 use Rattle.std.proofs.lemmas.List.Elements.{All-append}
-use Rattle.fuzzy_meaning.specs.declared.block.Block.{Block}
-use Rattle.fuzzy_meaning.specs.declared.block.Input.{Input}
-use Rattle.fuzzy_meaning.specs.declared.block.Output.{Output}
+use Rattle.fuzzy_meaning.specs.declared.{block.Block.Block, block.Input.Input, block.Output.Output}
 use Rattle.fuzzy_meaning.specs.Blocks.{IsValid, output_at}
 use Rattle.error_bound.specs.declared.boxes.Interval.{Interval}
 use Rattle.fz_list.proofs.Algebra.{some_at}
 use Rattle.cell_bounds.specs.Claims.{HasClaimBound, ClaimBoundsAreOne}
-use Rattle.box_tree.specs.declared.cert.LeafForm.{LeafForm}
-use Rattle.box_tree.specs.declared.cert.Node.{Node}
-use Rattle.box_tree.specs.declared.cert.Cert.{Cert}
+use Rattle.box_tree.specs.declared.{cert.LeafForm.LeafForm, cert.Node.Node, cert.Cert.Cert}
 use Rattle.cert_check.specs.Trees.{left_of, right_of, Part, part_of, IsTree, leaf, split, whole}
 use Rattle.cert_check.specs.Acceptance.{HasBound, IsGreatestBound, IsAccepted}
 use Rattle.cert_check.specs.Laws.{ErrorsAreDetermined}

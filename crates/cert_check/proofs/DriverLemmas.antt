@@ -5,20 +5,14 @@ use Rattle.std.specs.Prelude.{◌≢◌, All, Result, Ok, Err, IfOk, IfErr}
 use Rattle.std.specs.Global.{Vec}
 use Rattle.std.proofs.Math.Seq.{take-suc}
 use Rattle.fuzzy_meaning.specs.declared.block.Block.{Block}
-use Rattle.box_tree.specs.declared.cert.CertKind.{CertKind}
-use Rattle.box_tree.specs.declared.cert.AnswerWidth.{AnswerWidth}
-use Rattle.box_tree.specs.declared.cert.Node.{Node}
+use Rattle.box_tree.specs.declared.{cert.CertKind.CertKind, cert.AnswerWidth.AnswerWidth, cert.Node.Node}
 use Rattle.box_tree.specs.declared.cert.Node.TheVariants.{Split, Leaf}
-use Rattle.box_tree.specs.declared.cert.Cert.{Cert}
-use Rattle.box_tree.specs.declared.lines.Lines.{Lines}
-use Rattle.box_tree.specs.Certificates.{IsNode, IsCert}
-use Rattle.box_tree.specs.Reading.{HasRead, claims_of}
+use Rattle.box_tree.specs.declared.{cert.Cert.Cert, lines.Lines.Lines}
+use Rattle.box_tree.specs.{Certificates.IsNode, Certificates.IsCert, Reading.HasRead, Reading.claims_of}
 use Rattle.box_tree.specs.Trees.{IsTree, open_from, leaf_count}
 use Rattle.cert_check.specs.declared.checker.CheckFault.{CheckFault}
 use Rattle.cert_check.specs.declared.checker.CheckFault.TheVariants as fault
-use Rattle.cert_check.specs.declared.walk.Walk.{Walk}
-use Rattle.cert_check.specs.Acceptance.{IsAccepted}
-use Rattle.cert_check.specs.Faults.{HasCheckFault}
+use Rattle.cert_check.specs.{declared.walk.Walk.Walk, Acceptance.IsAccepted, Faults.HasCheckFault}
 use Rattle.cert_check.specs.Walks.{cert_over, AreFirst, HasTaken, IsSameTask}
 use Rattle.cert_check.proofs.WalkLemmas.{leaves-front}
 

@@ -2,22 +2,15 @@
 use Rattle.std.proofs.Common.{◌≡◌, ℕ, zero, suc, ◌-◌, ◌≤◌, List, [], ◌∷◌, Some, None, refl, subst, arith}
 use Rattle.std.specs.Prelude.{slice_get, All, IsTrue, pos}
 use Rattle.fz_num.specs.Fractions.{over, AtMost}
-use Rattle.fuzzy_meaning.specs.declared.block.Block.{Block}
-use Rattle.fuzzy_meaning.specs.declared.block.Output.{Output}
-use Rattle.fuzzy_meaning.specs.declared.block.Rule.{Rule}
-use Rattle.fuzzy_meaning.specs.Rules.{concludes}
-use Rattle.fuzzy_meaning.specs.Conditions.{is, negation}
-use Rattle.fuzzy_meaning.specs.Blocks.{IsValid, output_at}
+use Rattle.fuzzy_meaning.specs.declared.{block.Block.Block, block.Output.Output, block.Rule.Rule}
+use Rattle.fuzzy_meaning.specs.{Rules.concludes, Conditions.is, Conditions.negation, Blocks.IsValid, Blocks.output_at}
 use Rattle.fuzzy_meaning.specs.Examples.{dec, heater, latch, ExamplesAreValid}
 use Rattle.error_bound.specs.declared.boxes.Interval.{Interval}
 use Rattle.error_bound.specs.declared.boxes.Leaf as the
 use Rattle.error_bound.specs.Boxes.{rule_span, rule_byte_span, IsBox}
 use Rattle.error_bound.specs.Leaves.{IsStrong, IsStill, strong, silent}
-use Rattle.error_bound.specs.Bounds.{IsBound, bound}
-use Rattle.error_bound.specs.CellErrors.{term_errors}
-use Rattle.error_bound.specs.Laws.{TermErrorsAre}
-use Rattle.box_tree.specs.declared.cert.LeafForm.{LeafForm}
-use Rattle.box_tree.specs.declared.cert.LeafForm.TheVariants.{Pairs}
+use Rattle.error_bound.specs.{Bounds.IsBound, Bounds.bound, CellErrors.term_errors, Laws.TermErrorsAre}
+use Rattle.box_tree.specs.declared.{cert.LeafForm.LeafForm, cert.LeafForm.TheVariants.Pairs}
 use Rattle.box_tree.specs.declared.cert.Node.TheVariants.{Split}
 use Rattle.cell_bounds.specs.declared.claims.Claim.TheVariants.{Pair}
 use Rattle.cert_check.specs.Trees.{Part, IsTree, leaf, split, whole}

@@ -2,22 +2,17 @@
 use Rattle.std.proofs.Common.{◌≡◌, ℕ, zero, suc, ◌-◌, ◌≤◌, List, [], ◌∷◌, ◌++◌, Some, refl, sym, ap, subst, arith}
 use Rattle.std.specs.Prelude.{slice_get, All}
 use Rattle.fuzzy_meaning.specs.declared.block.Block.{Block}
-use Rattle.error_bound.specs.declared.boxes.Interval.{Interval}
+use Rattle.error_bound.specs.{declared.boxes.Interval.Interval, Faults.FaultyLeavesFail}
 use Rattle.fz_list.proofs.Algebra.{some_at}
-use Rattle.error_bound.specs.Faults.{FaultyLeavesFail}
 use Rattle.cell_bounds.specs.Claims.{ClaimBoundsAreOne}
-use Rattle.box_tree.specs.declared.cert.LeafForm.{LeafForm}
-use Rattle.box_tree.specs.declared.cert.Node.{Node}
+use Rattle.box_tree.specs.declared.{cert.LeafForm.LeafForm, cert.Node.Node, cert.Cert.Cert}
 use Rattle.box_tree.specs.declared.cert.Node.TheVariants.{Split, Leaf}
-use Rattle.box_tree.specs.declared.cert.Cert.{Cert}
 use Rattle.cert_check.specs.declared.checker.CheckFault.{CheckFault}
 use Rattle.cert_check.specs.Trees.{Part, part_of, IsTree, leaf, split, left_of, right_of, IsCut, whole}
-use Rattle.cert_check.specs.Acceptance.{HasBound, IsAccepted}
+use Rattle.cert_check.specs.{Acceptance.HasBound, Acceptance.IsAccepted, Laws.FaultyCertsFail}
 use Rattle.cert_check.specs.Faults.{line_at, Reaches, root, in_left, in_right, HasTreeFault, bad_cut, bad_leaf}
 use Rattle.cert_check.specs.Faults.{outputs, tree, claimed}
-use Rattle.cert_check.specs.Laws.{FaultyCertsFail}
-use Rattle.cert_check.proofs.ClaimLemmas.{bound_fails}
-use Rattle.cert_check.proofs.Determined.{tree_unique, errors_unique}
+use Rattle.cert_check.proofs.{ClaimLemmas.bound_fails, Determined.tree_unique, Determined.errors_unique}
 
 record Halves (box : List Interval) (i c : ℕ) (nodes : List Node) (parts : List Part) (rest : List Node) : Type 0 where
   left : List Part

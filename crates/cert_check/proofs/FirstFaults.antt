@@ -6,28 +6,20 @@ use Rattle.fz_list.proofs.Algebra.{some_at}
 use Rattle.fuzzy_meaning.specs.declared.block.Block.{Block}
 use Rattle.error_bound.specs.declared.boxes.Interval.{Interval}
 use Rattle.error_bound.specs.declared.boxes.Leaf as the
-use Rattle.error_bound.specs.declared.boxes.LeafFault.{LeafFault}
-use Rattle.error_bound.specs.Faults.{LeafFaultsAreOne, FaultyLeavesFail}
-use Rattle.box_tree.specs.declared.cert.LeafForm.{LeafForm}
-use Rattle.box_tree.specs.declared.cert.Node.{Node}
+use Rattle.error_bound.specs.{declared.boxes.LeafFault.LeafFault, Faults.LeafFaultsAreOne, Faults.FaultyLeavesFail}
+use Rattle.box_tree.specs.declared.{cert.LeafForm.LeafForm, cert.Node.Node, cert.Cert.Cert, cert.CertFault.CertFault}
 use Rattle.box_tree.specs.declared.cert.Node.TheVariants.{Split, Leaf}
-use Rattle.box_tree.specs.declared.cert.Cert.{Cert}
-use Rattle.box_tree.specs.declared.cert.CertFault.{CertFault}
-use Rattle.cell_bounds.specs.declared.claims.Claim.{Claim}
-use Rattle.cell_bounds.specs.declared.claims.Claim.TheVariants.{Pair, Tight, Cells}
-use Rattle.cell_bounds.specs.Claims.{ClaimBoundsAreOne}
 use Rattle.box_tree.specs.Laws.{CertsAreOne, FaultsAreOne, CertTextsHaveNoFault}
+use Rattle.cell_bounds.specs.{declared.claims.Claim.Claim, Claims.ClaimBoundsAreOne}
+use Rattle.cell_bounds.specs.declared.claims.Claim.TheVariants.{Pair, Tight, Cells}
 use Rattle.cert_check.specs.declared.checker.CheckFault.{CheckFault}
 use Rattle.cert_check.specs.declared.checker.CheckFault.TheVariants as fault
 use Rattle.cert_check.specs.declared.text.TextFault.TheVariants as refusal
 use Rattle.cert_check.specs.Trees.{Part, IsTree, leaf, split, part_of, left_of, right_of, IsCut, whole}
-use Rattle.cert_check.specs.Acceptance.{claim_at}
+use Rattle.cert_check.specs.{Acceptance.claim_at, TextFaults.of_text, TextFaults.of_cert}
 use Rattle.cert_check.specs.Faults.{AllHold, line_at, Reaches, root, in_left, in_right, HasPartFault, IsPairFault}
-use Rattle.cert_check.specs.Faults.{IsCellsFault}
-use Rattle.cert_check.specs.Faults.{bad_rule, fails, too_many, unsure, IsClaimFault, HasTreeFault, bad_cut, bad_leaf}
-use Rattle.cert_check.specs.Faults.{IsFirstOver, HasCheckFault}
-use Rattle.cert_check.specs.Faults.{outputs, tree, claimed}
-use Rattle.cert_check.specs.TextFaults.{of_text, of_cert}
+use Rattle.cert_check.specs.Faults.{IsCellsFault, bad_rule, fails, too_many, unsure, IsClaimFault, HasTreeFault}
+use Rattle.cert_check.specs.Faults.{bad_cut, bad_leaf, IsFirstOver, HasCheckFault, outputs, tree, claimed}
 use Rattle.cert_check.specs.Laws.{CheckFaultsAreOne, TextAnswersAreOne}
 use Rattle.cert_check.proofs.ClaimLemmas.{claim_fails, one_claim}
 use Rattle.cert_check.proofs.Determined.{tree_unique, errors_unique}

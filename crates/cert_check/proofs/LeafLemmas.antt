@@ -5,14 +5,9 @@ use Rattle.std.specs.Option.{option_map}
 use Rattle.std.proofs.lemmas.Option.{slice_get_within, slice_get-get_or, get_or_from_slice_get, IfSome_then}
 use Rattle.arrayvec.specs.ArrayVec.{ArrayVec}
 use Rattle.fz_list.proofs.Algebra.{AreFilled, some_at}
-use Rattle.fuzzy_meaning.specs.declared.block.Block.{Block}
-use Rattle.fuzzy_meaning.specs.declared.block.Output.{Output}
-use Rattle.fuzzy_meaning.specs.Blocks.{output_at}
-use Rattle.error_bound.specs.declared.boxes.Interval.{Interval}
-use Rattle.error_bound.specs.declared.boxes.Leaf.{Leaf}
-use Rattle.error_bound.specs.Bounds.{IsBound}
-use Rattle.error_bound.specs.Best.{silent_leaf}
-use Rattle.error_bound.specs.Leaves.{Holds}
+use Rattle.fuzzy_meaning.specs.{declared.block.Block.Block, declared.block.Output.Output, Blocks.output_at}
+use Rattle.error_bound.specs.declared.{boxes.Interval.Interval, boxes.Leaf.Leaf}
+use Rattle.error_bound.specs.{Bounds.IsBound, Best.silent_leaf, Leaves.Holds}
 use Rattle.error_bound.specs.Tight.{IsTightBound, IsSure, silent, sure}
 use Rattle.box_tree.specs.declared.cert.LeafForm.TheVariants as form
 use Rattle.cell_bounds.specs.declared.claims.Claim.{Claim}
@@ -20,10 +15,8 @@ use Rattle.cell_bounds.specs.declared.claims.Claim.TheVariants.{Pair, Tight, Cel
 use Rattle.cell_bounds.specs.CellBounds.{IsCellsBound, IsFirstUnsure, cell_count}
 use Rattle.cert_check.specs.declared.checker.CheckFault.{CheckFault}
 use Rattle.cert_check.specs.declared.checker.CheckFault.TheVariants as fault
-use Rattle.cert_check.specs.Trees.{Part, part_of}
-use Rattle.cert_check.specs.Acceptance.{claim_at, HasBound}
+use Rattle.cert_check.specs.{Trees.Part, Trees.part_of, Acceptance.claim_at, Acceptance.HasBound, Walks.AreBounds}
 use Rattle.cert_check.specs.Faults.{HoldBefore, ClaimHolds, IsClaimFault, HasPartFault, too_many, unsure}
-use Rattle.cert_check.specs.Walks.{AreBounds}
 use Rattle.cert_check.proofs.ClaimLemmas.{IfSome-at, bound_holds, one_claim}
 
 -- the Bound of the output at a place

@@ -5,16 +5,12 @@ use Rattle.std.proofs.Common.{refl, ap, subst, arith}
 use Rattle.std.specs.Prelude.{All, slice_get}
 use Rattle.std.proofs.lemmas.Bool.{cases_lt}
 use Rattle.std.proofs.lemmas.Option.{slice_get_within}
-use Rattle.fuzzy_meaning.specs.declared.block.Block.{Block}
-use Rattle.fuzzy_meaning.specs.declared.block.Output.{Output}
-use Rattle.fuzzy_meaning.specs.Blocks.{output_at}
+use Rattle.fuzzy_meaning.specs.{declared.block.Block.Block, declared.block.Output.Output, Blocks.output_at}
 use Rattle.error_bound.specs.declared.boxes.Interval.{Interval}
 use Rattle.fz_list.proofs.Algebra.{some_at, All-cons, All-none}
-use Rattle.box_tree.specs.declared.cert.Node.{Node}
-use Rattle.box_tree.specs.declared.cert.Cert.{Cert}
+use Rattle.box_tree.specs.declared.{cert.Node.Node, cert.Cert.Cert}
 use Rattle.cert_check.specs.Trees.{Part, IsTree, leaf, split, whole}
-use Rattle.cert_check.specs.Acceptance.{HasBound, IsGreatestBound, IsAccepted}
-use Rattle.cert_check.specs.Laws.{AreNoHigher}
+use Rattle.cert_check.specs.{Acceptance.HasBound, Acceptance.IsGreatestBound, Acceptance.IsAccepted, Laws.AreNoHigher}
 
 at_least : {a c d : ℕ} → a ≤ c → c ≤ d → a ≤ d
 at_least h k = omega arith

@@ -5,20 +5,17 @@ use Rattle.std.proofs.Common.{sym, ap, ◌∙◌, subst, arith}
 use Rattle.std.specs.Prelude.{◌≢◌, All, slice_get}
 use Rattle.std.specs.Option.{option_map}
 use Rattle.std.proofs.lemmas.List.{append_cancel_left, map-id, map-append}
-use Rattle.fuzzy_meaning.specs.declared.block.Block.{Block}
-use Rattle.fuzzy_meaning.specs.declared.block.Output.{Output}
+use Rattle.fuzzy_meaning.specs.declared.{block.Block.Block, block.Output.Output}
 use Rattle.fuzzy_meaning.specs.Blocks.{IsValid, output_at}
 use Rattle.error_bound.specs.declared.boxes.Interval.{Interval}
 use Rattle.box_tree.specs.declared.cert.CertKind.TheVariants as kind
 use Rattle.box_tree.specs.declared.cert.AnswerWidth.TheVariants.{Byte, Word}
 use Rattle.box_tree.specs.declared.cert.LeafForm.{LeafForm}
 use Rattle.box_tree.specs.declared.cert.LeafForm.TheVariants as form
-use Rattle.box_tree.specs.declared.cert.Node.{Node}
+use Rattle.box_tree.specs.declared.{cert.Node.Node, cert.Cert.Cert}
 use Rattle.box_tree.specs.declared.cert.Node.TheVariants.{Split, Leaf}
-use Rattle.box_tree.specs.declared.cert.Cert.{Cert}
-use Rattle.box_tree.specs.Certificates.{IsNode, IsCert}
+use Rattle.box_tree.specs.{Certificates.IsNode, Certificates.IsCert, Trees.open_from, Trees.leaf_count}
 use Rattle.box_tree.specs.Texts.{version_line, claim_line, node_lines}
-use Rattle.box_tree.specs.Trees.{open_from, leaf_count}
 use Rattle.cell_bounds.specs.declared.claims.Claim.{Claim}
 use Rattle.cell_bounds.specs.declared.claims.Claim.TheVariants.{Pair, Tight}
 use Rattle.cell_bounds.specs.Claims.{NamesNoCells, ClaimBoundsFallWithParts, TightClaimsAreLeast}
@@ -26,8 +23,7 @@ use Rattle.cert_check.specs.Trees.{Part, IsTree, leaf, split, left_of, right_of,
 use Rattle.cert_check.specs.Acceptance.{claim_at, HasBound}
 use Rattle.cert_check.specs.Laws.{NamedCertsHaveNoCells, WideIsAccepted, WideTextsAreAccepted, tight_form, tight_node}
 use Rattle.cert_check.specs.Laws.{tight_cert, TightIsAccepted, TightTextsAreAccepted}
-use Rattle.cert_check.proofs.LowerErrors.{accepted_lower}
-use Rattle.cert_check.proofs.TreeLemmas.{forms_are}
+use Rattle.cert_check.proofs.{LowerErrors.accepted_lower, TreeLemmas.forms_are}
 
 -- a line of pairs names no cells
 pairs_name : (q : Option (ℕ × ℕ)) (claim : Claim)

@@ -6,19 +6,15 @@ use Rattle.std.specs.Global.{Vec}
 use Rattle.std.specs.Vec.{with_items}
 use Rattle.std.proofs.lemmas.List.{append_assoc, with_items_is}
 use Rattle.std.proofs.Math.Seq.{get_or-append_seam}
-use Rattle.error_bound.specs.declared.boxes.ByteBox.{ByteBox}
-use Rattle.error_bound.specs.Boxes.{IsBoxOf}
-use Rattle.box_tree.specs.declared.cert.LeafForm.{LeafForm}
-use Rattle.box_tree.specs.declared.cert.CertKind.{CertKind}
-use Rattle.box_tree.specs.declared.cert.Node.{Node}
+use Rattle.error_bound.specs.{declared.boxes.ByteBox.ByteBox, Boxes.IsBoxOf}
+use Rattle.box_tree.specs.declared.{cert.LeafForm.LeafForm, cert.CertKind.CertKind, cert.Node.Node}
 use Rattle.box_tree.specs.declared.cert.Node.TheVariants.{Split, Leaf}
 use Rattle.box_tree.specs.Certificates.{IsLeaf, IsNode, IsCut as IsNodeCut}
 use Rattle.box_tree.specs.Laws.{OpenBoxesGoOn}
 use Rattle.cert_check.specs.declared.checker.CheckFault.{CheckFault}
 use Rattle.cert_check.specs.declared.checker.CheckFault.TheVariants as fault
-use Rattle.cert_check.specs.declared.walk.Walk.{Walk}
+use Rattle.cert_check.specs.{declared.walk.Walk.Walk, Faults.HasPartFault, Faults.HasCheckFault}
 use Rattle.cert_check.specs.Trees.{part_of, left_of, right_of, IsCut}
-use Rattle.cert_check.specs.Faults.{HasPartFault, HasCheckFault}
 use Rattle.cert_check.specs.Walks.{stack_of, Raises, AreCutOut, HasWalked, cert_over, IsBehind, HasTaken, AreFirst}
 use Rattle.cert_check.proofs.WalkLemmas.{walked_split, walked_leaf, cut_fault, leaf_fault, stack-pop, some_open}
 use Rattle.cert_check.proofs.WalkLemmas.{few_lines}

@@ -1,18 +1,12 @@
 -- A walk that is driven over a text as it is read.
 use Rattle.std.proofs.Common.{◌≡◌, ℕ, List, [], ◌∷◌, ◌++◌, length, sym, ◌∙◌, subst}
 use Rattle.fuzzy_meaning.specs.declared.block.Block.{Block}
-use Rattle.box_tree.specs.declared.cert.CertKind.{CertKind}
-use Rattle.box_tree.specs.declared.cert.AnswerWidth.{AnswerWidth}
-use Rattle.box_tree.specs.declared.cert.Node.{Node}
+use Rattle.box_tree.specs.declared.{cert.CertKind.CertKind, cert.AnswerWidth.AnswerWidth, cert.Node.Node}
 use Rattle.box_tree.specs.declared.lines.Lines.{Lines}
-use Rattle.box_tree.specs.Certificates.{CertText}
-use Rattle.box_tree.specs.Trees.{IsTree}
-use Rattle.box_tree.specs.Reading.{HasRead, claims_of, cert_of}
+use Rattle.box_tree.specs.{Certificates.CertText, Trees.IsTree, Reading.HasRead, Reading.claims_of, Reading.cert_of}
 use Rattle.cert_check.specs.declared.checker.CheckFault.{CheckFault}
 use Rattle.cert_check.specs.declared.text.TextFault.TheVariants as refusal
-use Rattle.cert_check.specs.declared.walk.Walk.{Walk}
-use Rattle.cert_check.specs.Acceptance.{IsAccepted}
-use Rattle.cert_check.specs.Faults.{HasCheckFault}
+use Rattle.cert_check.specs.{declared.walk.Walk.Walk, Acceptance.IsAccepted, Faults.HasCheckFault}
 use Rattle.cert_check.specs.TextFaults.{IsAcceptedText, HasTextFault, of_cert}
 use Rattle.cert_check.specs.Walks.{HasTaken, AreFirst, IsSameTask, cert_over}
 use Rattle.cert_check.proofs.DriverLemmas.{IsWalkOver, still_over, accepted_over, fault_over, first_of_text}

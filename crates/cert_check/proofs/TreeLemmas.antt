@@ -4,11 +4,9 @@ use Rattle.std.proofs.Common.{◌&&◌, Some, refl, sym, ap, ap₂, ◌∙◌, a
 use Rattle.std.specs.Prelude.{nat_le, if◌then◌else◌, slice_get, All}
 use Rattle.std.proofs.lemmas.Bool.Decides.{nat_tests}
 use Rattle.std.proofs.lemmas.List.Elements.{All-append}
-use Rattle.error_bound.specs.declared.boxes.Interval.{Interval}
+use Rattle.error_bound.specs.{declared.boxes.Interval.Interval, Boxes.IsBoxOf, Boxes.LieIn}
 use Rattle.fuzzy_meaning.specs.declared.block.Block.{Block}
-use Rattle.error_bound.specs.Boxes.{IsBoxOf, LieIn}
-use Rattle.box_tree.specs.declared.cert.Node.{Node}
-use Rattle.box_tree.specs.declared.cert.Node.TheVariants.{Split, Leaf}
+use Rattle.box_tree.specs.declared.{cert.Node.Node, cert.Node.TheVariants.Split, cert.Node.TheVariants.Leaf}
 use Rattle.cert_check.specs.Trees.{lies, left_of, right_of, IsCut, Part, IsTree, leaf, split, leaves_with, whole}
 use Rattle.cert_check.specs.Laws.{OneLeafHasTheBytes}
 use Rattle.cert_check.proofs.CutLemmas.{IsBox-left, IsBox-right, IsBox-whole}

@@ -7,17 +7,11 @@ use Rattle.std.proofs.lemmas.Bool.{cases_lt}
 use Rattle.std.proofs.lemmas.List.{append_assoc, append-nil, reverse-append, length-map, length-reverse}
 use Rattle.std.proofs.lemmas.List.Elements.{All-append}
 use Rattle.std.proofs.lemmas.Option.{get_or_from_slice_get, slice_get_within}
-use Rattle.fuzzy_meaning.specs.declared.block.Block.{Block}
-use Rattle.fuzzy_meaning.specs.declared.block.Input.{Input}
-use Rattle.fuzzy_meaning.specs.declared.block.Output.{Output}
-use Rattle.error_bound.specs.declared.boxes.Interval.{Interval}
-use Rattle.error_bound.specs.declared.boxes.ByteBox.{ByteBox}
-use Rattle.error_bound.specs.Boxes.{IsBoxOf}
-use Rattle.box_tree.specs.declared.cert.LeafForm.{LeafForm}
-use Rattle.box_tree.specs.declared.cert.Node.{Node}
+use Rattle.fuzzy_meaning.specs.declared.{block.Block.Block, block.Input.Input, block.Output.Output}
+use Rattle.error_bound.specs.{declared.boxes.Interval.Interval, declared.boxes.ByteBox.ByteBox, Boxes.IsBoxOf}
+use Rattle.box_tree.specs.declared.{cert.LeafForm.LeafForm, cert.Node.Node}
 use Rattle.box_tree.specs.declared.cert.Node.TheVariants.{Split, Leaf}
-use Rattle.box_tree.specs.Trees.{open_from, leaf_count}
-use Rattle.box_tree.specs.Laws.{OpenBoxesGoOn}
+use Rattle.box_tree.specs.{Trees.open_from, Trees.leaf_count, Laws.OpenBoxesGoOn}
 use Rattle.cert_check.specs.declared.checker.CheckFault.{CheckFault}
 use Rattle.cert_check.specs.declared.checker.CheckFault.TheVariants as fault
 use Rattle.cert_check.specs.Trees.{Part, IsTree, leaf, split, part_of, left_of, right_of, IsCut, whole}
@@ -26,10 +20,8 @@ use Rattle.cert_check.specs.Faults.{AllHold, HasPartFault, AreClaimed, HasCheckF
 use Rattle.cert_check.specs.Faults.{in_right, bad_cut, bad_leaf, tree}
 use Rattle.cert_check.specs.Walks.{stack_of, Raises, cuts_of, AreCutOut, AreTrees, AreReached, IsGreatestSoFar}
 use Rattle.cert_check.specs.Walks.{HasWalked}
-use Rattle.cert_check.proofs.ClaimLemmas.{bounds_hold}
-use Rattle.cert_check.proofs.CutLemmas.{IsBox-left, IsBox-right}
-use Rattle.cert_check.proofs.Determined.{left_count, right_count}
-use Rattle.cert_check.proofs.TreeLemmas.{one_of, whole_is}
+use Rattle.cert_check.proofs.{ClaimLemmas.bounds_hold, CutLemmas.IsBox-left, CutLemmas.IsBox-right}
+use Rattle.cert_check.proofs.{Determined.left_count, Determined.right_count, TreeLemmas.one_of, TreeLemmas.whole_is}
 use Rattle.fz_list.proofs.Algebra.{All-cons}
 
 trees_split : (box : List Interval) (boxes : List (List Interval)) (i c : ℕ) (nodes : List Node) (parts : List Part)

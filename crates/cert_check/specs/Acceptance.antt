@@ -3,19 +3,13 @@
 use Rattle.std.specs.Prelude.{◌≡◌, ℕ, ◌-◌, ◌≤◌, List, [], length, All, Option, Some, slice_get}
 use Rattle.std.specs.List.{Any}
 use Rattle.std.specs.Option.{option_map}
-use Rattle.fuzzy_meaning.specs.declared.block.Block.{Block}
-use Rattle.fuzzy_meaning.specs.declared.block.Output.{Output}
-use Rattle.fuzzy_meaning.specs.Blocks.{output_at}
+use Rattle.fuzzy_meaning.specs.{declared.block.Block.Block, declared.block.Output.Output, Blocks.output_at}
 use Rattle.error_bound.specs.declared.boxes.Interval.{Interval}
-use Rattle.box_tree.specs.declared.cert.AnswerWidth.{AnswerWidth}
+use Rattle.box_tree.specs.declared.{cert.AnswerWidth.AnswerWidth, cert.Cert.Cert, cert.LeafForm.LeafForm}
 use Rattle.box_tree.specs.declared.cert.AnswerWidth.TheVariants.{Byte, Word}
-use Rattle.box_tree.specs.declared.cert.Cert.{Cert}
-use Rattle.box_tree.specs.declared.cert.LeafForm.{LeafForm}
 use Rattle.box_tree.specs.declared.cert.LeafForm.TheVariants as form
-use Rattle.cell_bounds.specs.declared.claims.Claim.{Claim}
+use Rattle.cell_bounds.specs.{declared.claims.Claim.Claim, CellBounds.cell_count, Claims.HasClaimBound}
 use Rattle.cell_bounds.specs.declared.claims.Claim.TheVariants.{Pair, Tight, Cells}
-use Rattle.cell_bounds.specs.CellBounds.{cell_count}
-use Rattle.cell_bounds.specs.Claims.{HasClaimBound}
 use Rattle.cert_check.specs.Trees.{Part, IsTree, whole}
 
 -- how many parts an answer of a width has to a byte

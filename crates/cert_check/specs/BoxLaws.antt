@@ -1,22 +1,14 @@
 -- The halves of a box, and the leaf around a list of bytes.
 -- Beside the promise.
 use Rattle.std.specs.Prelude.{◌≡◌, ℕ, ◌-◌, ◌<◌, ◌≤◌, List, length, set, All, Some, slice_get}
-use Rattle.fuzzy_meaning.specs.declared.block.Block.{Block}
-use Rattle.fuzzy_meaning.specs.declared.block.Output.{Output}
-use Rattle.fuzzy_meaning.specs.Blocks.{output_at}
-use Rattle.error_bound.specs.declared.boxes.Interval.{Interval}
-use Rattle.error_bound.specs.Boxes.{IsBox, LieIn}
-use Rattle.box_tree.specs.declared.cert.Cert.{Cert}
-use Rattle.box_tree.specs.declared.cert.LeafForm.{LeafForm}
+use Rattle.fuzzy_meaning.specs.{declared.block.Block.Block, declared.block.Output.Output, Blocks.output_at}
+use Rattle.error_bound.specs.{declared.boxes.Interval.Interval, Boxes.IsBox, Boxes.LieIn}
+use Rattle.box_tree.specs.declared.{cert.Cert.Cert, cert.LeafForm.LeafForm, cert.CertKind.CertKind}
 use Rattle.box_tree.specs.declared.cert.LeafForm.TheVariants.{Pairs, Tight, Cells}
-use Rattle.box_tree.specs.declared.cert.CertKind.{CertKind}
 use Rattle.box_tree.specs.declared.cert.CertKind.TheVariants as kind
-use Rattle.box_tree.specs.declared.cert.Node.{Node}
-use Rattle.box_tree.specs.declared.cert.Node.TheVariants.{Split, Leaf}
-use Rattle.cell_bounds.specs.declared.claims.Claim.{Claim}
-use Rattle.cell_bounds.specs.Claims.{HasClaimBound}
-use Rattle.cert_check.specs.Trees.{left_of, right_of, IsCut}
-use Rattle.cert_check.specs.Acceptance.{claim_at, IsAccepted}
+use Rattle.box_tree.specs.declared.{cert.Node.Node, cert.Node.TheVariants.Split, cert.Node.TheVariants.Leaf}
+use Rattle.cell_bounds.specs.{declared.claims.Claim.Claim, Claims.HasClaimBound}
+use Rattle.cert_check.specs.{Trees.left_of, Trees.right_of, Trees.IsCut, Acceptance.claim_at, Acceptance.IsAccepted}
 
 -- the box has halves where the interval v at place k is cut at c
 pub record HasHalves (box : List Interval) (k c : ℕ) (v : Interval) : Type 0 where

@@ -1,33 +1,23 @@
 -- What an accepted certificate says.
 -- Beside the promise.
 use Rattle.std.specs.Prelude.{◌≡◌, ◌≢◌, ℕ, ◌-◌, ◌≤◌, true, List, ◌++◌, map, fold, All, Some, slice_get, Result, Ok, Err}
-use Rattle.fz_num.specs.declared.dec.Dec.{Dec}
-use Rattle.fz_num.specs.Decimals.{distance}
-use Rattle.fz_num.specs.Fracs.{IsClose}
-use Rattle.fuzzy_meaning.specs.declared.block.Block.{Block}
-use Rattle.fuzzy_meaning.specs.declared.block.Output.{Output}
-use Rattle.fuzzy_meaning.specs.Blocks.{IsValid, AreInputs, output_at}
-use Rattle.fuzzy_meaning.specs.Meaning.{exact_answer}
+use Rattle.fz_num.specs.{declared.dec.Dec.Dec, Decimals.distance, Fracs.IsClose}
+use Rattle.fuzzy_meaning.specs.declared.{block.Block.Block, block.Output.Output}
+use Rattle.fuzzy_meaning.specs.{Blocks.IsValid, Blocks.AreInputs, Blocks.output_at, Meaning.exact_answer}
 use Rattle.byte_scaling.specs.Cells.{bytes_of, value_in}
 use Rattle.point_slope.specs.Bytes.{answer_in}
 use Rattle.error_bound.specs.declared.boxes.Interval.{Interval}
 use Rattle.box_tree.specs.declared.cert.CertKind.{CertKind}
 use Rattle.box_tree.specs.declared.cert.CertKind.TheVariants as kind
-use Rattle.box_tree.specs.declared.cert.AnswerWidth.{AnswerWidth}
+use Rattle.box_tree.specs.declared.{cert.AnswerWidth.AnswerWidth, cert.LeafForm.LeafForm, cert.Node.Node}
 use Rattle.box_tree.specs.declared.cert.AnswerWidth.TheVariants.{Byte, Word}
-use Rattle.box_tree.specs.declared.cert.LeafForm.{LeafForm}
 use Rattle.box_tree.specs.declared.cert.LeafForm.TheVariants.{Pairs, Tight, Cells}
-use Rattle.box_tree.specs.declared.cert.Node.{Node}
 use Rattle.box_tree.specs.declared.cert.Node.TheVariants.{Split, Leaf}
 use Rattle.box_tree.specs.declared.cert.Cert.{Cert}
-use Rattle.box_tree.specs.Certificates.{IsCert}
-use Rattle.box_tree.specs.Texts.{version_line, lines_of}
-use Rattle.cert_check.specs.Trees.{Part, IsTree, lies, leaves_with}
-use Rattle.cert_check.specs.declared.checker.CheckFault.{CheckFault}
-use Rattle.cert_check.specs.Acceptance.{IsAccepted}
-use Rattle.cert_check.specs.Faults.{HasCheckFault}
-use Rattle.cert_check.specs.declared.text.TextFault.{TextFault}
-use Rattle.cert_check.specs.TextFaults.{IsAcceptedText, HasTextFault}
+use Rattle.box_tree.specs.{Certificates.IsCert, Texts.version_line, Texts.lines_of}
+use Rattle.cert_check.specs.{Trees.Part, Trees.IsTree, Trees.lies, Trees.leaves_with, Acceptance.IsAccepted}
+use Rattle.cert_check.specs.{Faults.HasCheckFault, TextFaults.IsAcceptedText, TextFaults.HasTextFault}
+use Rattle.cert_check.specs.declared.{checker.CheckFault.CheckFault, text.TextFault.TextFault}
 
 -- each list of bytes of the box lies in exactly one leaf
 abbrev pub OneLeafHasTheBytes : Type 0

@@ -2,16 +2,12 @@
 -- Beside the promise.
 use Rattle.std.specs.Prelude.{ℕ, List}
 use Rattle.fuzzy_meaning.specs.declared.block.Block.{Block}
-use Rattle.box_tree.specs.declared.cert.CertKind.{CertKind}
-use Rattle.box_tree.specs.declared.cert.AnswerWidth.{AnswerWidth}
-use Rattle.box_tree.specs.declared.cert.Cert.{Cert}
+use Rattle.box_tree.specs.declared.{cert.CertKind.CertKind, cert.AnswerWidth.AnswerWidth, cert.Cert.Cert}
 use Rattle.box_tree.specs.declared.cert.CertFault.{CertFault}
 use Rattle.box_tree.specs.Certificates.{CertText, HasFault}
-use Rattle.cert_check.specs.declared.checker.CheckFault.{CheckFault}
-use Rattle.cert_check.specs.declared.text.TextFault.{TextFault}
+use Rattle.cert_check.specs.declared.{checker.CheckFault.CheckFault, text.TextFault.TextFault}
 use Rattle.cert_check.specs.declared.text.TextFault.TheVariants as refusal
-use Rattle.cert_check.specs.Acceptance.{IsAccepted}
-use Rattle.cert_check.specs.Faults.{HasCheckFault}
+use Rattle.cert_check.specs.{Acceptance.IsAccepted, Faults.HasCheckFault}
 
 -- the text is that of a certificate of this kind that is accepted, with these errors, for answers of this width, in h
 -- parts to a byte

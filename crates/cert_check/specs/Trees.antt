@@ -4,8 +4,7 @@ use Rattle.std.specs.Prelude.{ℕ, zero, suc, ◌+◌, ◌-◌, ◌<◌, ◌≤�
 use Rattle.std.specs.Prelude.{◌&&◌, if◌then◌else◌}
 use Rattle.fuzzy_meaning.specs.declared.block.Block.{Block}
 use Rattle.error_bound.specs.declared.boxes.Interval.{Interval}
-use Rattle.box_tree.specs.declared.cert.LeafForm.{LeafForm}
-use Rattle.box_tree.specs.declared.cert.Node.{Node}
+use Rattle.box_tree.specs.declared.{cert.LeafForm.LeafForm, cert.Node.Node}
 use Rattle.box_tree.specs.declared.cert.Node.TheVariants.{Split, Leaf}
 
 -- each byte lies in its interval

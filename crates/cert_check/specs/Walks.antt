@@ -4,21 +4,12 @@ use Rattle.std.specs.Prelude.{◌≡◌, ◌⊎◌, ℕ, ◌+◌, ◌-◌, ◌<�
 use Rattle.std.specs.Prelude.{Some}
 use Rattle.std.specs.Prelude.{MatchOption, slice_get, slice_index, vec_capacity}
 use Rattle.std.specs.List.{Any}
-use Rattle.fuzzy_meaning.specs.declared.block.Block.{Block}
-use Rattle.fuzzy_meaning.specs.declared.block.Output.{Output}
-use Rattle.fuzzy_meaning.specs.Blocks.{IsValid}
-use Rattle.error_bound.specs.declared.boxes.Interval.{Interval}
-use Rattle.error_bound.specs.declared.boxes.ByteBox.{ByteBox}
-use Rattle.error_bound.specs.Boxes.{IsBoxOf}
-use Rattle.error_bound.specs.Reaches.{IsBlockTable}
-use Rattle.box_tree.specs.declared.cert.CertKind.{CertKind}
-use Rattle.box_tree.specs.declared.cert.Node.{Node}
-use Rattle.box_tree.specs.declared.cert.Cert.{Cert}
-use Rattle.box_tree.specs.Certificates.{AreClaims, IsNode}
-use Rattle.box_tree.specs.Trees.{open_behind, leaf_count}
-use Rattle.cert_check.specs.declared.walk.Walk.{Walk}
-use Rattle.cert_check.specs.Trees.{Part, IsTree, whole}
-use Rattle.cert_check.specs.Acceptance.{HasBound}
+use Rattle.fuzzy_meaning.specs.{declared.block.Block.Block, declared.block.Output.Output, Blocks.IsValid}
+use Rattle.error_bound.specs.declared.{boxes.Interval.Interval, boxes.ByteBox.ByteBox}
+use Rattle.error_bound.specs.{Boxes.IsBoxOf, Reaches.IsBlockTable}
+use Rattle.box_tree.specs.declared.{cert.CertKind.CertKind, cert.Node.Node, cert.Cert.Cert}
+use Rattle.box_tree.specs.{Certificates.AreClaims, Certificates.IsNode, Trees.open_behind, Trees.leaf_count}
+use Rattle.cert_check.specs.{declared.walk.Walk.Walk, Trees.Part, Trees.IsTree, Trees.whole, Acceptance.HasBound}
 use Rattle.cert_check.specs.Faults.{AllHold, Reaches, HasCheckFault}
 
 -- the boxes of a stack, the next one first

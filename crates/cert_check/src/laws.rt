@@ -1,8 +1,7 @@
 //! Laws of the definitions.
 ghost use Rattle.cert_check.specs.Laws.{OneLeafHasTheBytes, AcceptedAnswersAreNear, ErrorsAreDetermined};
-ghost use Rattle.cert_check.specs.Laws.{FaultyCertsFail, CheckFaultsAreOne, TextAnswersAreOne};
-ghost use Rattle.cert_check.specs.Laws.{NamedCertsHaveNoCells, WideIsAccepted, WideTextsAreAccepted};
-ghost use Rattle.cert_check.specs.Laws.{TightIsAccepted, TightTextsAreAccepted};
+ghost use Rattle.cert_check.specs.Laws.{FaultyCertsFail, CheckFaultsAreOne, TextAnswersAreOne, NamedCertsHaveNoCells};
+ghost use Rattle.cert_check.specs.Laws.{WideIsAccepted, WideTextsAreAccepted, TightIsAccepted, TightTextsAreAccepted};
 ghost use Rattle.cert_check.specs.Examples.{ExamplesAreAccepted};
 
 use box_tree::{cert_texts_have_no_fault, certs_are_one, faults_are_one};

@@ -2,16 +2,12 @@
 ghost use Rattle.std.specs.Prelude.{◌≡◌, ◌≢◌, ◌↔◌, ◌≤◌, ◌<◌, ◌+◌, ◌-◌, ℕ, length, All, OnOk, IfOk, IfErr, IfSome};
 ghost use Rattle.std.specs.Prelude.{IsTrue, Some, slice_get};
 ghost use Rattle.fuzzy_meaning.specs.Blocks.{IsValid, output_at};
-ghost use Rattle.error_bound.specs.Boxes.{IsBoxOf};
-ghost use Rattle.error_bound.specs.Leaves.{Holds};
-ghost use Rattle.error_bound.specs.Bounds.{IsBound};
+ghost use Rattle.error_bound.specs.{Boxes.IsBoxOf, Leaves.Holds, Bounds.IsBound, Tight.IsTightBound};
 ghost use Rattle.error_bound.specs.Reaches.{IsBlockTable, IsTable};
-ghost use Rattle.error_bound.specs.Tight.{IsTightBound};
 ghost use Rattle.box_tree.specs.declared.cert.CertKind.{CertKind as TheKind};
 ghost use Rattle.box_tree.specs.declared.cert.LeafForm.TheVariants as form;
 ghost use Rattle.box_tree.specs.Certificates.{IsLeaf};
-ghost use Rattle.cert_check.specs.Trees.{part_of};
-ghost use Rattle.cert_check.specs.Faults.{IsPairFault, HasPartFault};
+ghost use Rattle.cert_check.specs.{Trees.part_of, Faults.IsPairFault, Faults.HasPartFault};
 ghost use Rattle.cert_check.specs.Walks.{AreBounds, AreRaised, Raises};
 
 use crate::checker::CheckFault;

@@ -3,8 +3,7 @@ ghost use Rattle.std.specs.Prelude.{◌≡◌, ◌≢◌, ◌≤◌, ℕ, List a
 ghost use Rattle.fuzzy_meaning.specs.Blocks.{IsValid};
 ghost use Rattle.box_tree.specs.declared.cert.AnswerWidth.{AnswerWidth as TheWidth};
 ghost use Rattle.box_tree.specs.declared.cert.AnswerWidth.TheVariants.{Byte, Word};
-ghost use Rattle.box_tree.specs.declared.cert.CertKind.{CertKind as TheKind};
-ghost use Rattle.box_tree.specs.declared.cert.CertKind.TheVariants.{Named};
+ghost use Rattle.box_tree.specs.declared.{cert.CertKind.CertKind as TheKind, cert.CertKind.TheVariants.Named};
 ghost use Rattle.box_tree.specs.Reading.{HasRead};
 ghost use Rattle.cert_check.specs.Acceptance.{parts_of as the_parts_of};
 ghost use Rattle.cert_check.specs.TextFaults.{IsAcceptedText, HasTextFault};

@@ -2,9 +2,7 @@
 ghost use Rattle.std.specs.Prelude.{◌≡◌, ◌≤◌, ◌<◌, ◌+◌, ℕ, List, [], ◌∷◌, ◌++◌, length, replicate, OnOk, IfOk, IfErr};
 ghost use Rattle.std.specs.Prelude.{IfSome, IfNone, None};
 ghost use Rattle.fuzzy_meaning.specs.Blocks.{IsValid};
-ghost use Rattle.box_tree.specs.Certificates.{AreClaims};
-ghost use Rattle.box_tree.specs.Trees.{IsTree};
-ghost use Rattle.box_tree.specs.declared.cert.Node.{Node as TheNode};
+ghost use Rattle.box_tree.specs.{Certificates.AreClaims, Trees.IsTree, declared.cert.Node.Node as TheNode};
 ghost use Rattle.cert_check.specs.Faults.{IsFirstOver, AreClaimed};
 
 use crate::boxes::{push, push_halves, whole_box};

@@ -6,13 +6,9 @@ use Rattle.std.specs.Prelude.{All, map, if◌then◌else◌, Option, Some, None,
 use Rattle.std.specs.Option.{option_map_or}
 use Rattle.std.proofs.lemmas.Option.{slice_get_within}
 use Rattle.std.proofs.lemmas.List.Elements.{All-take}
-use Rattle.fz_num.specs.declared.dec.Dec.{Dec}
-use Rattle.fz_num.specs.Decimals.{distance}
-use Rattle.fz_num.specs.Fracs.{IsClose}
-use Rattle.fuzzy_meaning.specs.declared.block.Block.{Block}
-use Rattle.fuzzy_meaning.specs.declared.block.Output.{Output}
-use Rattle.fuzzy_meaning.specs.Blocks.{AreInputs, output_at}
-use Rattle.fuzzy_meaning.specs.Meaning.{exact_answer}
+use Rattle.fz_num.specs.{declared.dec.Dec.Dec, Decimals.distance, Fracs.IsClose}
+use Rattle.fuzzy_meaning.specs.declared.{block.Block.Block, block.Output.Output}
+use Rattle.fuzzy_meaning.specs.{Blocks.AreInputs, Blocks.output_at, Meaning.exact_answer}
 use Rattle.byte_scaling.specs.Cells.{bytes_of, nearest_byte, value_in}
 use Rattle.point_slope.specs.Bytes.{ByteShare, answer_in, byte_shares, centre, resting_answer}
 use Rattle.cert_check.specs.Laws.{AcceptedAnswersAreNear, answer_to}
@@ -22,8 +18,7 @@ use Rattle.watched_code.specs.Watched.{Watched, is_upset, watched_answer, watche
 use Rattle.interrupt_plan.specs.declared.upsets.Upset.{Upset}
 use Rattle.fz_run.specs.Rows.{input_bytes}
 use Rattle.watched_runs.specs.Samples.{change_of, changes_from, with_upsets}
-use Rattle.watched_runs.specs.Rows.{FaultSeen}
-use Rattle.watched_runs.specs.Answering.{AreWatchedRows}
+use Rattle.watched_runs.specs.{Rows.FaultSeen, Answering.AreWatchedRows}
 use Rattle.certified_run.specs.Nearness.{numbers_of}
 use Rattle.certified_run.specs.Faultless.{HasDefaults, NoFaultBefore, FaultlessAnswersAreNear}
 use Rattle.certified_run.proofs.RowLemmas.{bytes_read, are_inputs, answer_to_next}

@@ -3,16 +3,13 @@ use Rattle.std.proofs.Common.{◌≡◌, ◌<◌, ℕ, ◌-◌, List, [], ◌∷
 use Rattle.std.specs.Prelude.{All, map, slice_index_or}
 use Rattle.std.proofs.lemmas.List.{get_or-map, length-map}
 use Rattle.std.proofs.lemmas.List.Elements.{All-cons, All-get_or, All-head, All-tail}
-use Rattle.fuzzy_meaning.specs.declared.block.Block.{Block}
-use Rattle.fuzzy_meaning.specs.Blocks.{AreInputs}
+use Rattle.fuzzy_meaning.specs.{declared.block.Block.Block, Blocks.AreInputs}
 use Rattle.byte_scaling.specs.Cells as cells
 use Rattle.cert_check.specs.Laws.{AcceptedAnswersAreNear}
 use Rattle.codegen.specs.Uninterrupted.{AreAnswersOf}
-use Rattle.trace_io.specs.Traces.{Fields, SpellSamples}
-use Rattle.trace_io.specs.declared.sample.Sample.{Sample}
+use Rattle.trace_io.specs.{Traces.Fields, Traces.SpellSamples, declared.sample.Sample.Sample}
 use Rattle.fz_run.specs.Rows.{input_bytes, bytes_of}
-use Rattle.certified_run.specs.Nearness.{numbers_of}
-use Rattle.certified_run.specs.Posted.{IsOneOf, PostedAnswersAreNear, numbers_at}
+use Rattle.certified_run.specs.{Nearness.numbers_of, Posted.IsOneOf, Posted.PostedAnswersAreNear, Posted.numbers_at}
 use Rattle.certified_run.proofs.RowLemmas.{are_inputs, bytes_read, near_answers}
 
 module _ (b : Block) (rows : List Fields) (samples : List Sample) (spelled : SpellSamples b.inputs rows samples) where

@@ -5,26 +5,18 @@ use Rattle.std.specs.Prelude.{All, map, option_map, Some, slice_get, slice_index
 use Rattle.std.proofs.lemmas.List.Sums.{fold-append}
 use Rattle.std.proofs.lemmas.Option.{slice_get-map, slice_get_within}
 use Rattle.std.proofs.lemmas.List.Elements.{All-cons, All-take}
-use Rattle.fz_num.specs.declared.dec.Dec.{Dec}
-use Rattle.fz_num.specs.Decimals.{distance}
-use Rattle.fz_num.specs.Fracs.{IsClose}
-use Rattle.fuzzy_meaning.specs.declared.block.Block.{Block}
-use Rattle.fuzzy_meaning.specs.declared.block.Input.{Input}
-use Rattle.fuzzy_meaning.specs.Blocks.{AreInputs, IsValid, IsWithin}
-use Rattle.fuzzy_meaning.specs.Meaning.{exact_answer}
+use Rattle.fz_num.specs.{declared.dec.Dec.Dec, Decimals.distance, Fracs.IsClose}
+use Rattle.fuzzy_meaning.specs.declared.{block.Block.Block, block.Input.Input}
+use Rattle.fuzzy_meaning.specs.{Blocks.AreInputs, Blocks.IsValid, Blocks.IsWithin, Meaning.exact_answer}
 use Rattle.byte_scaling.specs.Cells.{bytes_of, value_in}
 use Rattle.point_slope.specs.Bytes.{answer_in}
 use Rattle.box_tree.specs.declared.cert.Cert.{Cert}
-use Rattle.cert_check.specs.Acceptance.{IsAccepted}
-use Rattle.cert_check.specs.Laws.{AcceptedAnswersAreNear, answer_to}
+use Rattle.cert_check.specs.{Acceptance.IsAccepted, Laws.AcceptedAnswersAreNear, Laws.answer_to}
 use Rattle.codegen.specs.Uninterrupted.{Answer, AreAnswersOf}
 use Rattle.eval_code.specs.Widths.{answer, parts, width_of}
-use Rattle.eval_code.specs.declared.width.Width.{Width}
-use Rattle.eval_code.specs.declared.width.Width.TheVariants.{Byte, Word}
-use Rattle.trace_io.specs.Traces.{AreWithin, Fields, SpellSamples}
-use Rattle.trace_io.specs.declared.sample.Sample.{Sample}
-use Rattle.fz_run.specs.Answering.{answer_of_row}
-use Rattle.fz_run.specs.Rows.{input_bytes}
+use Rattle.eval_code.specs.declared.{width.Width.Width, width.Width.TheVariants.Byte, width.Width.TheVariants.Word}
+use Rattle.trace_io.specs.{Traces.AreWithin, Traces.Fields, Traces.SpellSamples, declared.sample.Sample.Sample}
+use Rattle.fz_run.specs.{Answering.answer_of_row, Rows.input_bytes}
 use Rattle.certified_run.specs.Nearness.{AnswersAreWithinErrors, IsWithinErrors, numbers_of}
 
 -- ---- the samples

@@ -1,19 +1,15 @@
 -- Answers of a firmware with watched tables within the errors of a certificate.
 -- Beside the promise.
 use Rattle.std.specs.Prelude.{◌≡◌, ◌≢◌, ◌⊎◌, ℕ, ◌+◌, ◌<◌, ◌≤◌, List, map, take, Some, None, slice_get}
-use Rattle.fuzzy_meaning.specs.declared.block.Block.{Block}
-use Rattle.fuzzy_meaning.specs.declared.block.Output.{Output}
+use Rattle.fuzzy_meaning.specs.declared.{block.Block.Block, block.Output.Output}
 use Rattle.fuzzy_meaning.specs.Blocks.{IsValid, output_at}
 use Rattle.box_tree.specs.declared.cert.Cert.{Cert}
 use Rattle.cert_check.specs.Acceptance.{IsAccepted}
 use Rattle.codegen.specs.declared.firmware.Firmware.{Firmware}
 use Rattle.interrupt_plan.specs.declared.upsets.Upset.{Upset}
-use Rattle.trace_io.specs.Traces.{Spells}
-use Rattle.trace_io.specs.declared.sample.Sample.{Sample}
+use Rattle.trace_io.specs.{Traces.Spells, declared.sample.Sample.Sample}
 use Rattle.fz_run.specs.Rows.{input_bytes}
-use Rattle.watched_runs.specs.Samples.{with_upsets}
-use Rattle.watched_runs.specs.Rows.{FaultSeen}
-use Rattle.watched_runs.specs.Answering.{AreWatchedRows}
+use Rattle.watched_runs.specs.{Samples.with_upsets, Rows.FaultSeen, Answering.AreWatchedRows}
 use Rattle.certified_run.specs.Nearness.{numbers_of, IsWithinErrors}
 
 -- no output has NC as its default

@@ -1,23 +1,17 @@
 -- Answers within the errors of a certificate.
 -- Reached by the promise.
 use Rattle.std.specs.Prelude.{◌≡◌, ℕ, ◌+◌, ◌-◌, ◌≤◌, List, map, take, Some, slice_get, slice_index}
-use Rattle.fz_num.specs.declared.dec.Dec.{Dec}
-use Rattle.fz_num.specs.Decimals.{distance}
-use Rattle.fz_num.specs.Fracs.{IsClose}
-use Rattle.fuzzy_meaning.specs.declared.block.Block.{Block}
-use Rattle.fuzzy_meaning.specs.declared.block.Output.{Output}
-use Rattle.fuzzy_meaning.specs.Blocks.{IsValid, output_at}
-use Rattle.fuzzy_meaning.specs.Meaning.{exact_answer}
+use Rattle.fz_num.specs.{declared.dec.Dec.Dec, Decimals.distance, Fracs.IsClose}
+use Rattle.fuzzy_meaning.specs.declared.{block.Block.Block, block.Output.Output}
+use Rattle.fuzzy_meaning.specs.{Blocks.IsValid, Blocks.output_at, Meaning.exact_answer}
 use Rattle.byte_scaling.specs.Cells.{value_in}
 use Rattle.box_tree.specs.declared.cert.Cert.{Cert}
 use Rattle.cert_check.specs.Acceptance.{IsAccepted}
 use Rattle.codegen.specs.declared.firmware.Firmware.{Firmware}
 use Rattle.eval_code.specs.Widths.{parts, width_of}
-use Rattle.trace_io.specs.Traces.{Spells}
-use Rattle.trace_io.specs.declared.sample.Sample.{Sample}
+use Rattle.trace_io.specs.{Traces.Spells, declared.sample.Sample.Sample}
 use Rattle.run_law.specs.Forms.{RowSeen}
-use Rattle.fz_run.specs.Answering.{AnswerBlock}
-use Rattle.fz_run.specs.Rows.{input_bytes}
+use Rattle.fz_run.specs.{Answering.AnswerBlock, Rows.input_bytes}
 
 -- the numbers of the inputs
 abbrev pub numbers_of : List Sample → List (List Dec)

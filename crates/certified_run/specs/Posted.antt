@@ -3,15 +3,12 @@
 use Rattle.std.specs.Prelude.{◌≡◌, ℕ, ◌+◌, ◌-◌, ◌≤◌, List, [], All, length, map, take, Some, slice_get}
 use Rattle.std.specs.List.{slice_index_or}
 use Rattle.fz_num.specs.declared.dec.Dec.{Dec}
-use Rattle.fuzzy_meaning.specs.declared.block.Block.{Block}
-use Rattle.fuzzy_meaning.specs.Blocks.{IsValid}
+use Rattle.fuzzy_meaning.specs.{declared.block.Block.Block, Blocks.IsValid}
 use Rattle.box_tree.specs.declared.cert.Cert.{Cert}
 use Rattle.cert_check.specs.Acceptance.{IsAccepted}
 use Rattle.codegen.specs.Uninterrupted.{Answer, AreAnswersOf}
-use Rattle.eval_code.specs.Widths.{parts}
-use Rattle.eval_code.specs.declared.width.Width.{Width}
-use Rattle.trace_io.specs.Traces.{Spells}
-use Rattle.trace_io.specs.declared.sample.Sample.{Sample}
+use Rattle.eval_code.specs.{Widths.parts, declared.width.Width.Width}
+use Rattle.trace_io.specs.{Traces.Spells, declared.sample.Sample.Sample}
 use Rattle.fz_run.specs.Rows.{input_bytes, bytes_of}
 use Rattle.certified_run.specs.Nearness.{numbers_of, IsWithinErrors}
 

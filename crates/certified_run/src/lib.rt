@@ -4,8 +4,7 @@
 //! bytes, and an accepted certificate bounds their distance from the exact answers.
 #![tactic(auto)]
 
-ghost use Rattle.certified_run.specs.Nearness.{AnswersAreWithinErrors};
-ghost use Rattle.certified_run.specs.Faultless.{FaultlessAnswersAreNear};
+ghost use Rattle.certified_run.specs.{Nearness.AnswersAreWithinErrors, Faultless.FaultlessAnswersAreNear};
 ghost use Rattle.certified_run.specs.Posted.{PostedAnswersAreNear};
 
 /// The rows of a block's firmware are within the errors of each accepted certificate of the exact

@@ -13,10 +13,9 @@ use Rattle.std.specs.declared.cmp.Ordering.TheVariants.{Less}
 use Rattle.cpu12_asm.specs.Bytes.{IsAscending, byte_at, start_of}
 use Rattle.codegen.specs.Alike.{FirmwaresAreOne, ImagesAreOne, MailboxesAreOne}
 use Rattle.codegen.specs.Images.{IsImageOf, firmware_items}
-use Rattle.eval_code.specs.Bounds.{instruction_bound, step_bound, steps_by}
-use Rattle.eval_code.specs.MemoryMaps.{main_map}
-use Rattle.eval_code.specs.Widths.{width_of}
 use Rattle.codegen.specs.Mailboxes.{mailbox_bound, mailbox_items, mailbox_map}
+use Rattle.eval_code.specs.Bounds.{instruction_bound, step_bound, steps_by}
+use Rattle.eval_code.specs.{MemoryMaps.main_map, Widths.width_of}
 use Rattle.codegen.proofs.Parts.{of_parts}
 
 -- ---- bytes that ascend are in the order of their addresses

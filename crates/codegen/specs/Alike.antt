@@ -2,11 +2,8 @@
 -- Beside the promise.
 use Rattle.std.specs.Prelude.{◌≡◌, List}
 use Rattle.fuzzy_meaning.specs.declared.block.Block.{Block}
-use Rattle.cpu12_asm.specs.declared.image.Image.{Image}
-use Rattle.cpu12_asm.specs.declared.items.Item.{Item}
-use Rattle.codegen.specs.Firmwares.{IsFirmwareOf}
-use Rattle.codegen.specs.Images.{IsImageOf}
-use Rattle.codegen.specs.Mailboxes.{IsMailboxOf}
+use Rattle.cpu12_asm.specs.declared.{image.Image.Image, items.Item.Item}
+use Rattle.codegen.specs.{Firmwares.IsFirmwareOf, Images.IsImageOf, Mailboxes.IsMailboxOf}
 use Rattle.codegen.specs.declared.firmware.Firmware.{Firmware}
 
 -- items have one image

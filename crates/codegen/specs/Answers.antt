@@ -2,26 +2,17 @@
 -- Beside the promise.
 use Rattle.std.specs.Prelude.{◌≡◌, ℕ, ◌^◌, ◌<◌, ◌≤◌, Bool, true, false, List, [], ◌∷◌, length, All, slice_index}
 use Rattle.std.specs.Prelude.{slice_set}
-use Rattle.fuzzy_meaning.specs.declared.block.Block.{Block}
-use Rattle.fuzzy_meaning.specs.Blocks.{IsValid}
+use Rattle.fuzzy_meaning.specs.{declared.block.Block.Block, Blocks.IsValid}
 use Rattle.rule_layout.specs.Layouts.{IsWithinLimits}
-use Rattle.cpu12_isa.specs.Agreement.{Agree}
-use Rattle.cpu12_isa.specs.Regions.{stack_start, stack_end, is_free}
-use Rattle.cpu12_parts.specs.State.{State}
-use Rattle.cpu12_parts.specs.Whole.{PlainExecution}
-use Rattle.cpu12_parts.specs.Executions.{Execution, all_steps}
-use Rattle.cpu12_emul.specs.Image.{image_memory}
-use Rattle.cpu12_emul.specs.Step.{reset_with}
-use Rattle.eval_code.specs.declared.memory_map.MemoryMap.{MemoryMap}
-use Rattle.eval_code.specs.declared.width.Width.{Width}
-use Rattle.codegen.specs.declared.firmware.Firmware.{Firmware}
+use Rattle.cpu12_isa.specs.{Agreement.Agree, Regions.stack_start, Regions.stack_end, Regions.is_free}
+use Rattle.cpu12_parts.specs.{State.State, Whole.PlainExecution, Executions.Execution, Executions.all_steps}
+use Rattle.cpu12_emul.specs.{Image.image_memory, Step.reset_with}
+use Rattle.eval_code.specs.declared.{memory_map.MemoryMap.MemoryMap, width.Width.Width}
 use Rattle.eval_code.specs.Widths.{width_of, answer}
-use Rattle.eval_code.specs.Bounds.{steps_by}
-use Rattle.eval_code.specs.MemoryMaps.{main_map}
-use Rattle.eval_code.specs.Firing.{AreInputBytes}
+use Rattle.eval_code.specs.{Bounds.steps_by, MemoryMaps.main_map, Firing.AreInputBytes}
 use Rattle.eval_code.specs.Evaluation.{put, Reads, Writes, HasAnswers}
+use Rattle.codegen.specs.{declared.firmware.Firmware.Firmware, Firmwares.IsFirmwareOf}
 use Rattle.codegen.specs.Interruptible.{is_idle, IsInterruptible, IsInterruptibleStep}
-use Rattle.codegen.specs.Firmwares.{IsFirmwareOf}
 
 -- the first arrival where the code waits, by three plain instructions from reset, beside handlers to which these bytes
 -- are open

@@ -1,22 +1,14 @@
 -- EVAL called from code around it.
 -- Beside the promise.
 use Rattle.std.specs.Prelude.{◌≡◌, ℕ, ◌+◌, ◌<◌, ◌≤◌, ◌⊎◌, Bool, List, length, slice_index}
-use Rattle.fuzzy_meaning.specs.declared.block.Block.{Block}
-use Rattle.fuzzy_meaning.specs.Blocks.{IsValid}
-use Rattle.rule_layout.specs.Layouts.{IsWithinLimits}
-use Rattle.rule_layout.specs.Slots.{slots_of}
-use Rattle.cpu12_isa.specs.declared.instr.Instr.TheVariants.{Rts}
-use Rattle.cpu12_isa.specs.Code.{encode_of}
-use Rattle.cpu12_parts.specs.Executions.{Execution, all_steps}
-use Rattle.cpu12_parts.specs.State.{State}
-use Rattle.eval_code.specs.declared.memory_map.MemoryMap.{MemoryMap}
-use Rattle.eval_code.specs.declared.width.Width.{Width}
+use Rattle.fuzzy_meaning.specs.{declared.block.Block.Block, Blocks.IsValid}
+use Rattle.rule_layout.specs.{Layouts.IsWithinLimits, Slots.slots_of}
+use Rattle.cpu12_isa.specs.{declared.instr.Instr.TheVariants.Rts, Code.encode_of}
+use Rattle.cpu12_parts.specs.{Executions.Execution, Executions.all_steps, State.State}
+use Rattle.eval_code.specs.declared.{memory_map.MemoryMap.MemoryMap, width.Width.Width}
 use Rattle.eval_code.specs.Bounds.{instruction_bound, step_bound}
 use Rattle.eval_code.specs.Evaluation.{HasBytes, HasEval, HasAnswers, eval_bytes}
-use Rattle.eval_code.specs.Firing.{AreInputBytes}
-use Rattle.eval_code.specs.Items.{IsApart}
-use Rattle.eval_code.specs.Placed.{eval_room}
-use Rattle.eval_code.specs.Widths.{answer}
+use Rattle.eval_code.specs.{Firing.AreInputBytes, Items.IsApart, Placed.eval_room, Widths.answer}
 use Rattle.codegen.specs.Interruptible.{IsInterruptible, IsInterruptibleStep}
 use Rattle.codegen.specs.Settings.{Setting, Live, code_room, return_address}
 

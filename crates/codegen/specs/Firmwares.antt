@@ -2,11 +2,8 @@
 -- Beside the promise.
 use Rattle.std.specs.Prelude.{◌≡◌, length}
 use Rattle.fuzzy_meaning.specs.declared.block.Block.{Block}
-use Rattle.codegen.specs.declared.firmware.Firmware.{Firmware}
-use Rattle.eval_code.specs.MemoryMaps.{main_map}
-use Rattle.eval_code.specs.Widths.{width_of}
-use Rattle.codegen.specs.Images.{firmware_items, IsImageOf}
-use Rattle.eval_code.specs.Bounds.{instruction_bound, step_bound}
+use Rattle.codegen.specs.{declared.firmware.Firmware.Firmware, Images.firmware_items, Images.IsImageOf}
+use Rattle.eval_code.specs.{MemoryMaps.main_map, Widths.width_of, Bounds.instruction_bound, Bounds.step_bound}
 
 -- a firmware is a block's, and stands alone: its image has just the bytes of the block's items, its memory map is
 -- theirs, and its counts and bounds are the block's

@@ -2,23 +2,16 @@
 -- Beside the promise.
 use Rattle.std.specs.Prelude.{◌≡◌, ℕ, ◌+◌, ◌/◌, ◌%◌, ◌^◌, ◌<◌, ◌≤◌, ◌⊎◌, false, List, [], ◌∷◌, length, slice_index}
 use Rattle.std.specs.Prelude.{slice_set}
-use Rattle.fuzzy_meaning.specs.declared.block.Block.{Block}
-use Rattle.fuzzy_meaning.specs.Blocks.{IsValid}
+use Rattle.fuzzy_meaning.specs.{declared.block.Block.Block, Blocks.IsValid}
 use Rattle.cpu12_isa.specs.declared.instr.Instr.{Instr}
 use Rattle.cpu12_isa.specs.declared.instr.Instr.TheVariants.{LdsImmediate, ClrExtended, Andcc}
-use Rattle.cpu12_parts.specs.Executions.{Execution, all_steps}
-use Rattle.cpu12_parts.specs.State.{State}
+use Rattle.cpu12_parts.specs.{Executions.Execution, Executions.all_steps, State.State}
 use Rattle.cpu12_parts.specs.Whole.{after_plain, PlainExecution}
 use Rattle.cpu12_emul.specs.Step.{reset_with}
-use Rattle.eval_code.specs.declared.memory_map.MemoryMap.{MemoryMap}
-use Rattle.eval_code.specs.declared.width.Width.{Width}
-use Rattle.eval_code.specs.Code.{code_bytes}
-use Rattle.eval_code.specs.Evaluation.{HasBytes, HasAnswers}
-use Rattle.eval_code.specs.Items.{IsApart}
-use Rattle.codegen.specs.Code.{frame_code}
-use Rattle.codegen.specs.Interruptible.{IsInterruptibleStep}
+use Rattle.eval_code.specs.declared.{memory_map.MemoryMap.MemoryMap, width.Width.Width}
+use Rattle.eval_code.specs.{Code.code_bytes, Evaluation.HasBytes, Evaluation.HasAnswers, Items.IsApart}
+use Rattle.codegen.specs.{Code.frame_code, Interruptible.IsInterruptibleStep, Standing.HasFirmware}
 use Rattle.codegen.specs.Settings.{Setting, Live}
-use Rattle.codegen.specs.Standing.{HasFirmware}
 
 -- where the code of a form starts that sets up its stack, clears the byte by which samples come and lets interrupts in
 pub record IsStarted (l : MemoryMap) : Type 0 where

@@ -2,16 +2,11 @@
 -- Beside the promise.
 use Rattle.std.specs.Prelude.{◌≡◌, List, [], ◌∷◌, ◌++◌}
 use Rattle.fuzzy_meaning.specs.declared.block.Block.{Block}
-use Rattle.cpu12_isa.specs.declared.instr.Instr.TheVariants.{Rts}
-use Rattle.cpu12_isa.specs.Regions.{vector}
-use Rattle.cpu12_asm.specs.declared.items.Item.{Item}
-use Rattle.cpu12_asm.specs.declared.image.Image.{Image}
-use Rattle.cpu12_asm.specs.Bytes.{start_of, Holds, IsAscending}
-use Rattle.cpu12_asm.specs.Items.{given_by}
-use Rattle.eval_code.specs.declared.memory_map.MemoryMap.{MemoryMap}
-use Rattle.eval_code.specs.declared.width.Width.{Width}
-use Rattle.eval_code.specs.Data.{bytes_of_word}
-use Rattle.eval_code.specs.Items.{bytes_at, block_items}
+use Rattle.cpu12_isa.specs.{declared.instr.Instr.TheVariants.Rts, Regions.vector}
+use Rattle.cpu12_asm.specs.declared.{items.Item.Item, image.Image.Image}
+use Rattle.cpu12_asm.specs.{Bytes.start_of, Bytes.Holds, Bytes.IsAscending, Items.given_by}
+use Rattle.eval_code.specs.declared.{memory_map.MemoryMap.MemoryMap, width.Width.Width}
+use Rattle.eval_code.specs.{Data.bytes_of_word, Items.bytes_at, Items.block_items}
 use Rattle.codegen.specs.Code.{frame_code}
 
 -- the interrupt's and the reset vector (CPU12 Reference Manual, section 7): the last instruction before EVAL, and the

@@ -1,23 +1,13 @@
 -- What is known wherever an interrupt may come to a firmware, whose handler may change the open bytes.
 -- Beside the promise.
 use Rattle.std.specs.Prelude.{◌≡◌, ◌≢◌, ℕ, ◌≤◌, ◌<◌, ◌⊎◌, min, ◌==◌, ◌&&◌, Bool, false, List, length, slice_index}
-use Rattle.cpu12_isa.specs.declared.instr.Instr.{Instr}
-use Rattle.cpu12_isa.specs.declared.instr.Instr.TheVariants.{Rev, Revw}
-use Rattle.cpu12_isa.specs.Act.{read_by}
-use Rattle.cpu12_isa.specs.Agreement.{AllShown, Uncovers}
-use Rattle.cpu12_isa.specs.Code.{six_from}
-use Rattle.cpu12_isa.specs.Fits.{FitsRegs, AreBytes}
-use Rattle.cpu12_isa.specs.Flags.{has, interrupts_masked}
-use Rattle.cpu12_isa.specs.Meaning.{act_of, effect}
-use Rattle.cpu12_isa.specs.Memory.{plus}
-use Rattle.cpu12_isa.specs.Regions.{is_hidden}
-use Rattle.cpu12_parts.specs.declared.temps.Temps.TheVariants.{Free}
-use Rattle.cpu12_parts.specs.State.{State}
+use Rattle.cpu12_isa.specs.declared.{instr.Instr.Instr, instr.Instr.TheVariants.Rev, instr.Instr.TheVariants.Revw}
+use Rattle.cpu12_isa.specs.{Act.read_by, Agreement.AllShown, Agreement.Uncovers, Code.six_from}
+use Rattle.cpu12_isa.specs.{Fits.FitsRegs, Fits.AreBytes, Flags.has, Flags.interrupts_masked}
+use Rattle.cpu12_isa.specs.{Meaning.act_of, Meaning.effect, Memory.plus, Regions.is_hidden}
+use Rattle.cpu12_parts.specs.{declared.temps.Temps.TheVariants.Free, State.State, Averages.wav_read, Laws.addresses}
 use Rattle.cpu12_parts.specs.Rules.{Rule, Form, rev_form, revw_form, rules_read, rules_written, AreApart}
-use Rattle.cpu12_parts.specs.Averages.{wav_read}
-use Rattle.cpu12_parts.specs.Laws.{addresses}
-use Rattle.cpu12_parts.specs.Touching.{Each}
-use Rattle.cpu12_parts.specs.Whole.{IsPlainStep, IsRulesStep, IsAverageStep}
+use Rattle.cpu12_parts.specs.{Touching.Each, Whole.IsPlainStep, Whole.IsRulesStep, Whole.IsAverageStep}
 use Rattle.eval_code.specs.declared.memory_map.MemoryMap.{MemoryMap}
 
 -- PC is where the code waits, and READY is 0

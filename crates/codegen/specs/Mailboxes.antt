@@ -2,22 +2,15 @@
 -- Beside the promise.
 use Rattle.std.specs.Prelude.{◌≡◌, ◌≤◌, ℕ, zero, suc, ◌+◌, ◌-◌, ◌*◌, nat_le, nat_lt, ◌&&◌, ◌||◌, Bool, List, [], ◌∷◌}
 use Rattle.std.specs.Prelude.{◌++◌, length}
-use Rattle.fuzzy_meaning.specs.declared.block.Block.{Block}
-use Rattle.fuzzy_meaning.specs.Blocks.{IsValid}
+use Rattle.fuzzy_meaning.specs.{declared.block.Block.Block, Blocks.IsValid}
 use Rattle.rule_layout.specs.Layouts.{IsWithinLimits}
-use Rattle.cpu12_isa.specs.declared.instr.Instr.{Instr}
+use Rattle.cpu12_isa.specs.{declared.instr.Instr.Instr, Regions.is_free}
 use Rattle.cpu12_isa.specs.declared.instr.Instr.TheVariants.{LdaaExtended, LdsImmediate, ClrExtended, Beq, Bra}
 use Rattle.cpu12_isa.specs.declared.instr.Instr.TheVariants.{JsrExtended, Rts, Andcc, Orcc, Rti, MovbExtended}
-use Rattle.cpu12_isa.specs.Regions.{is_free}
 use Rattle.cpu12_asm.specs.declared.items.Item.{Item}
-use Rattle.codegen.specs.declared.firmware.Firmware.{Firmware}
-use Rattle.eval_code.specs.declared.memory_map.MemoryMap.{MemoryMap}
-use Rattle.eval_code.specs.declared.width.Width.{Width}
-use Rattle.eval_code.specs.MemoryMaps.{main_map}
-use Rattle.eval_code.specs.Widths.{width_of}
-use Rattle.codegen.specs.Images.{vector_items, IsImageOf}
-use Rattle.eval_code.specs.Items.{block_items}
-use Rattle.eval_code.specs.Bounds.{instruction_bound, steps_by}
+use Rattle.codegen.specs.{declared.firmware.Firmware.Firmware, Images.vector_items, Images.IsImageOf}
+use Rattle.eval_code.specs.{declared.memory_map.MemoryMap.MemoryMap, declared.width.Width.Width, MemoryMaps.main_map}
+use Rattle.eval_code.specs.{Widths.width_of, Items.block_items, Bounds.instruction_bound, Bounds.steps_by}
 
 -- the mailbox: MAIL, $1020 to $1027, where a handler puts a sample's bytes, and POSTED, $1028, which it sets
 abbrev pub is_mail : ℕ → Bool

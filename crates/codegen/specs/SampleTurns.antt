@@ -1,24 +1,15 @@
 -- The turn in which the mailbox form answers a sample, without interrupts.
 -- Beside the promise.
 use Rattle.std.specs.Prelude.{◌≡◌, ℕ, ◌+◌, ◌^◌, ◌<◌, List, [], ◌∷◌, ◌++◌, length, slice_index}
-use Rattle.fuzzy_meaning.specs.declared.block.Block.{Block}
-use Rattle.fuzzy_meaning.specs.Blocks.{IsValid}
+use Rattle.fuzzy_meaning.specs.{declared.block.Block.Block, Blocks.IsValid}
 use Rattle.rule_layout.specs.Layouts.{IsWithinLimits}
-use Rattle.cpu12_parts.specs.State.{State}
-use Rattle.cpu12_parts.specs.Executions.{IsUntil}
-use Rattle.cpu12_emul.specs.Image.{image_memory}
-use Rattle.cpu12_emul.specs.Step.{reset_with}
+use Rattle.cpu12_parts.specs.{State.State, Executions.IsUntil}
+use Rattle.cpu12_emul.specs.{Image.image_memory, Step.reset_with}
 use Rattle.codegen.specs.declared.firmware.Firmware.{Firmware}
-use Rattle.eval_code.specs.declared.memory_map.MemoryMap.{MemoryMap}
-use Rattle.eval_code.specs.declared.width.Width.{Width}
-use Rattle.eval_code.specs.Widths.{width_of}
-use Rattle.eval_code.specs.Firing.{AreInputBytes}
-use Rattle.eval_code.specs.Evaluation.{HasAnswers}
-use Rattle.codegen.specs.Interruptible.{is_idle}
-use Rattle.codegen.specs.Answers.{given}
-use Rattle.codegen.specs.Uninterrupted.{is_waiting}
-use Rattle.codegen.specs.Mailboxes.{IsMailboxOf}
+use Rattle.codegen.specs.{Interruptible.is_idle, Answers.given, Uninterrupted.is_waiting, Mailboxes.IsMailboxOf}
 use Rattle.codegen.specs.Turns.{IsAt, IsLook, IsChoice, IsCopied, IsTurned, IsReady}
+use Rattle.eval_code.specs.declared.{memory_map.MemoryMap.MemoryMap, width.Width.Width}
+use Rattle.eval_code.specs.{Widths.width_of, Firing.AreInputBytes, Evaluation.HasAnswers}
 
 -- A sample that is given in s is seen, copied and answered, and the code waits again in t. These are all instructions
 -- of the turn.

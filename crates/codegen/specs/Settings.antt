@@ -2,26 +2,16 @@
 -- Beside the promise.
 use Rattle.std.specs.Prelude.{◌≡◌, ◌≢◌, ℕ, ◌+◌, ◌^◌, ◌<◌, ◌≤◌, ◌⊎◌, Bool, true, false, Ok, List, [], ◌∷◌, length, All}
 use Rattle.std.specs.Prelude.{slice_index}
-use Rattle.cpu12_isa.specs.declared.instr.Instr.{Instr}
-use Rattle.cpu12_isa.specs.declared.instr.Instr.TheVariants.{Rts}
-use Rattle.cpu12_isa.specs.Act.{read_by}
-use Rattle.cpu12_isa.specs.Agreement.{AllShown}
-use Rattle.cpu12_isa.specs.Code.{encode_of, decode_at, FitsOperands}
-use Rattle.cpu12_isa.specs.Fits.{FitsRegs, AreBytes, StaysFit}
-use Rattle.cpu12_isa.specs.Flags.{has, interrupts_masked}
-use Rattle.cpu12_isa.specs.Meaning.{act_of, effect, is_plain}
-use Rattle.cpu12_isa.specs.Memory.{word_of}
+use Rattle.cpu12_isa.specs.declared.{instr.Instr.Instr, instr.Instr.TheVariants.Rts}
+use Rattle.cpu12_isa.specs.{Act.read_by, Agreement.AllShown, Code.encode_of, Code.decode_at, Code.FitsOperands}
+use Rattle.cpu12_isa.specs.{Fits.FitsRegs, Fits.AreBytes, Fits.StaysFit, Flags.has, Flags.interrupts_masked}
+use Rattle.cpu12_isa.specs.{Meaning.act_of, Meaning.effect, Meaning.is_plain, Memory.word_of}
 use Rattle.cpu12_isa.specs.Regions.{free_start, is_hidden}
 use Rattle.cpu12_parts.specs.declared.temps.Temps.TheVariants.{Free}
-use Rattle.cpu12_parts.specs.Laws.{addresses}
-use Rattle.cpu12_parts.specs.State.{State}
-use Rattle.cpu12_parts.specs.Touching.{Each}
-use Rattle.cpu12_parts.specs.Whole.{after_plain}
+use Rattle.cpu12_parts.specs.{Laws.addresses, State.State, Touching.Each, Whole.after_plain}
 use Rattle.eval_code.specs.declared.memory_map.MemoryMap.{MemoryMap}
 use Rattle.eval_code.specs.Evaluation.{HasBytes, Reads, Writes}
-use Rattle.eval_code.specs.Masks.{interrupt_masks}
-use Rattle.eval_code.specs.Standing.{DecodesWhereItStands}
-use Rattle.eval_code.specs.Code.{code_bytes, FitCode}
+use Rattle.eval_code.specs.{Masks.interrupt_masks, Standing.DecodesWhereItStands, Code.code_bytes, Code.FitCode}
 use Rattle.codegen.specs.Answers.{given}
 use Rattle.codegen.specs.Interruptible.{is_idle, IsInterruptible, IsInterruptibleStep}
 

@@ -1,25 +1,16 @@
 -- What stands in the memory of a firmware.
 -- Beside the promise.
 use Rattle.std.specs.Prelude.{◌≡◌, ℕ, ◌+◌, ◌^◌, ◌<◌, ◌≤◌, List, [], ◌∷◌, ◌++◌, length, All, slice_index}
-use Rattle.fuzzy_meaning.specs.declared.block.Block.{Block}
-use Rattle.fuzzy_meaning.specs.Blocks.{IsValid}
+use Rattle.fuzzy_meaning.specs.{declared.block.Block.Block, Blocks.IsValid}
 use Rattle.rule_layout.specs.Layouts.{IsWithinLimits}
-use Rattle.cpu12_isa.specs.declared.instr.Instr.{Instr}
-use Rattle.cpu12_isa.specs.declared.instr.Instr.TheVariants.{Rts}
-use Rattle.cpu12_isa.specs.Fits.{AreBytes}
-use Rattle.cpu12_isa.specs.Regions.{vector}
-use Rattle.cpu12_asm.specs.Bytes.{Holds}
-use Rattle.cpu12_asm.specs.Items.{given_by}
+use Rattle.cpu12_isa.specs.declared.{instr.Instr.Instr, instr.Instr.TheVariants.Rts}
+use Rattle.cpu12_isa.specs.{Fits.AreBytes, Regions.vector}
+use Rattle.cpu12_asm.specs.{Bytes.Holds, Items.given_by}
 use Rattle.cpu12_emul.specs.Image.{image_memory}
-use Rattle.eval_code.specs.declared.memory_map.MemoryMap.{MemoryMap}
-use Rattle.eval_code.specs.declared.width.Width.{Width}
-use Rattle.eval_code.specs.Code.{code_bytes}
-use Rattle.eval_code.specs.Data.{bytes_of_word}
-use Rattle.eval_code.specs.Evaluation.{HasBytes}
-use Rattle.eval_code.specs.Items.{IsApart, block_items}
-use Rattle.eval_code.specs.Placed.{IsInOrder, StandsBetween}
-use Rattle.codegen.specs.Calls.{IsInCode, HasRoutine}
-use Rattle.codegen.specs.Images.{vector_items}
+use Rattle.eval_code.specs.declared.{memory_map.MemoryMap.MemoryMap, width.Width.Width}
+use Rattle.eval_code.specs.{Code.code_bytes, Data.bytes_of_word, Evaluation.HasBytes}
+use Rattle.eval_code.specs.{Items.IsApart, Items.block_items, Placed.IsInOrder, Placed.StandsBetween}
+use Rattle.codegen.specs.{Calls.IsInCode, Calls.HasRoutine, Images.vector_items}
 
 -- a memory has a block's firmware: EVAL with its data behind this code and before its return, and the reset vector.
 -- Below the code it is 0.

@@ -2,28 +2,18 @@
 -- Beside the promise.
 use Rattle.std.specs.Prelude.{◌≡◌, ◌≢◌, ℕ, ◌+◌, ◌*◌, ◌^◌, ◌<◌, ◌≤◌, ◌⊎◌, ◌==◌, if◌then◌else◌, true, false, List, length}
 use Rattle.std.specs.Prelude.{slice_index}
-use Rattle.fuzzy_meaning.specs.declared.block.Block.{Block}
-use Rattle.fuzzy_meaning.specs.Blocks.{IsValid}
+use Rattle.fuzzy_meaning.specs.{declared.block.Block.Block, Blocks.IsValid}
 use Rattle.rule_layout.specs.Layouts.{IsWithinLimits}
-use Rattle.cpu12_isa.specs.declared.instr.Instr.{Instr}
+use Rattle.cpu12_isa.specs.{declared.instr.Instr.Instr, Flags.has, Flags.zero_result, Regions.is_free}
 use Rattle.cpu12_isa.specs.declared.instr.Instr.TheVariants.{LdaaExtended, Beq, Orcc}
-use Rattle.cpu12_isa.specs.Flags.{has, zero_result}
-use Rattle.cpu12_isa.specs.Regions.{is_free}
-use Rattle.cpu12_parts.specs.State.{State}
-use Rattle.cpu12_parts.specs.Whole.{PlainExecution}
-use Rattle.cpu12_parts.specs.Executions.{Execution, all_steps}
-use Rattle.cpu12_emul.specs.Image.{image_memory}
-use Rattle.cpu12_emul.specs.Step.{reset_with}
-use Rattle.codegen.specs.declared.firmware.Firmware.{Firmware}
-use Rattle.eval_code.specs.declared.memory_map.MemoryMap.{MemoryMap}
-use Rattle.eval_code.specs.declared.width.Width.{Width}
-use Rattle.eval_code.specs.Widths.{width_of, answer}
-use Rattle.eval_code.specs.Bounds.{steps_by}
-use Rattle.eval_code.specs.Firing.{AreInputBytes}
-use Rattle.eval_code.specs.Evaluation.{HasBytes, HasAnswers}
+use Rattle.cpu12_parts.specs.{State.State, Whole.PlainExecution, Executions.Execution, Executions.all_steps}
+use Rattle.cpu12_emul.specs.{Image.image_memory, Step.reset_with}
+use Rattle.codegen.specs.{declared.firmware.Firmware.Firmware, Uninterrupted.AnswersUninterrupted}
 use Rattle.codegen.specs.Interruptible.{IsSteady, IsShownPlain, IsInterruptibleStep}
-use Rattle.codegen.specs.Uninterrupted.{AnswersUninterrupted}
 use Rattle.codegen.specs.Mailboxes.{is_mail, is_postable, IsMailboxOf}
+use Rattle.eval_code.specs.declared.{memory_map.MemoryMap.MemoryMap, width.Width.Width}
+use Rattle.eval_code.specs.{Widths.width_of, Widths.answer, Bounds.steps_by, Firing.AreInputBytes}
+use Rattle.eval_code.specs.Evaluation.{HasBytes, HasAnswers}
 
 -- PC is at an address before EVAL, nothing is on the stack, and I is 0
 pub record IsAt (image : List ℕ) (at : ℕ) (s : State) : Type 0 where

@@ -2,23 +2,16 @@
 -- Beside the promise.
 use Rattle.std.specs.Prelude.{◌≡◌, ℕ, zero, suc, ◌+◌, ◌-◌, ◌^◌, ◌<◌, ◌≤◌, ◌==◌, Bool, List, [], ◌∷◌, length, All}
 use Rattle.std.specs.Prelude.{slice_index}
-use Rattle.fuzzy_meaning.specs.declared.block.Block.{Block}
-use Rattle.fuzzy_meaning.specs.Blocks.{IsValid}
+use Rattle.fuzzy_meaning.specs.{declared.block.Block.Block, Blocks.IsValid}
 use Rattle.rule_layout.specs.Layouts.{IsWithinLimits}
 use Rattle.cpu12_isa.specs.Memory.{word_of}
-use Rattle.cpu12_parts.specs.State.{State}
-use Rattle.cpu12_parts.specs.Executions.{IsUntil}
-use Rattle.cpu12_emul.specs.Image.{image_memory}
-use Rattle.cpu12_emul.specs.Step.{reset_with}
-use Rattle.eval_code.specs.declared.memory_map.MemoryMap.{MemoryMap}
-use Rattle.eval_code.specs.declared.width.Width.{Width}
+use Rattle.cpu12_parts.specs.{State.State, Executions.IsUntil}
+use Rattle.cpu12_emul.specs.{Image.image_memory, Step.reset_with}
+use Rattle.eval_code.specs.declared.{memory_map.MemoryMap.MemoryMap, width.Width.Width}
 use Rattle.eval_code.specs.declared.width.Width.TheVariants.{Byte, Word}
-use Rattle.codegen.specs.declared.firmware.Firmware.{Firmware}
-use Rattle.eval_code.specs.Widths.{width_of, places, answer}
-use Rattle.eval_code.specs.Firing.{AreInputBytes}
-use Rattle.codegen.specs.Interruptible.{is_idle}
+use Rattle.eval_code.specs.{Widths.width_of, Widths.places, Widths.answer, Firing.AreInputBytes}
+use Rattle.codegen.specs.{declared.firmware.Firmware.Firmware, Interruptible.is_idle, Firmwares.IsFirmwareOf}
 use Rattle.codegen.specs.Answers.{given, IsArrived, AreAnswered}
-use Rattle.codegen.specs.Firmwares.{IsFirmwareOf}
 
 -- the output values, and the number of instructions from the write of the inputs on
 pub record Answer : Type 0 where

@@ -3,11 +3,9 @@ ghost use Rattle.std.specs.Prelude.{◌≡◌, ◌<◌, ◌^◌, length, true, f
 ghost use Rattle.fuzzy_meaning.specs.Blocks.{IsValid};
 ghost use Rattle.rule_layout.specs.Layouts.{IsWithinLimits, IsFaultOf};
 ghost use Rattle.cpu12_asm.specs.Items.{IsRising};
-ghost use Rattle.codegen.specs.Images.{IsImageOf};
-ghost use Rattle.codegen.specs.Firmwares.{IsFirmwareOf};
-ghost use Rattle.eval_code.specs.Widths.{is_wide};
-ghost use Rattle.codegen.specs.Answers.{AnswersFrom};
+ghost use Rattle.codegen.specs.{Images.IsImageOf, Firmwares.IsFirmwareOf, Answers.AnswersFrom};
 ghost use Rattle.codegen.specs.Uninterrupted.{AnswersUninterrupted};
+ghost use Rattle.eval_code.specs.Widths.{is_wide};
 
 use crate::items::firmware_items;
 use crate::laws::{firmware_answers, firmware_is_uninterrupted};

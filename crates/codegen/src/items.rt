@@ -3,8 +3,7 @@ ghost use Rattle.std.specs.Prelude.{◌≡◌, ◌++◌, OnOk, IfOk};
 ghost use Rattle.fuzzy_meaning.specs.Blocks.{IsValid};
 ghost use Rattle.rule_layout.specs.Layouts.{flat_of, IsLaidOut};
 ghost use Rattle.eval_code.specs.Items.{HasRoom};
-ghost use Rattle.codegen.specs.Code.{frame_code};
-ghost use Rattle.codegen.specs.Images.{vector_items, firmware_items};
+ghost use Rattle.codegen.specs.{Code.frame_code, Images.vector_items, Images.firmware_items};
 
 use cpu12_asm::Item;
 use cpu12_isa::instr::Instr;

@@ -1,15 +1,11 @@
 //! Laws of the forms of firmware.
 ghost use Rattle.codegen.specs.Alike.{FirmwaresAreOne, ImagesAreOne, MailboxesAreOne};
 ghost use Rattle.codegen.specs.Answers.{FirmwareAnswers, FirmwareAnswersBeside, FirmwareArrivesAlike, FreeBytesLeave};
-ghost use Rattle.codegen.specs.Calls.{CalledEvalReturns};
-ghost use Rattle.codegen.specs.Frames.{FrameCallsAndLeaves, StartArrives};
-ghost use Rattle.codegen.specs.Laws.{LowerLaws};
-ghost use Rattle.codegen.specs.Mailboxes.{MailboxStepsAreFew};
-ghost use Rattle.codegen.specs.SampleTurns.{MailboxTakesSamples};
+ghost use Rattle.codegen.specs.{Calls.CalledEvalReturns, Frames.FrameCallsAndLeaves, Frames.StartArrives};
+ghost use Rattle.codegen.specs.{Laws.LowerLaws, Mailboxes.MailboxStepsAreFew, SampleTurns.MailboxTakesSamples};
 ghost use Rattle.codegen.specs.Settings.{GivenIsLive, InstructionGoesOn, InstructionsStand, LiveIsIdle};
 ghost use Rattle.codegen.specs.Settings.{LiveIsInterruptible, ReturnGoesOn};
-ghost use Rattle.codegen.specs.Standing.{ImageHasFirmware};
-ghost use Rattle.codegen.specs.Turns.{MailboxTakesPosts, MailboxIsUninterrupted};
+ghost use Rattle.codegen.specs.{Standing.ImageHasFirmware, Turns.MailboxTakesPosts, Turns.MailboxIsUninterrupted};
 ghost use Rattle.codegen.specs.Uninterrupted.{AnsweredAreUninterrupted, FirmwareIsUninterrupted, UninterruptedAreOne};
 
 use byte_scaling::nearest_is_byte;

@@ -4,8 +4,7 @@ ghost use Rattle.fuzzy_meaning.specs.Blocks.{IsValid};
 ghost use Rattle.rule_layout.specs.Layouts.{flat_of, IsLaidOut, IsWithinLimits, IsFaultOf};
 ghost use Rattle.codegen.specs.Mailboxes.{mailbox_map, copy_code, mailbox_code, mailbox_items, mailbox_bound};
 ghost use Rattle.codegen.specs.Mailboxes.{IsMailboxOf};
-ghost use Rattle.codegen.specs.Turns.{TakesPosts};
-ghost use Rattle.codegen.specs.Uninterrupted.{AnswersUninterrupted};
+ghost use Rattle.codegen.specs.{Turns.TakesPosts, Uninterrupted.AnswersUninterrupted};
 
 use crate::firmware::{Firmware, image_of};
 use crate::items::push_vectors;

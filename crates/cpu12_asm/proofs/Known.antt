@@ -4,15 +4,13 @@ use Rattle.std.proofs.Common.{Err, refl, sym, ap, ◌∙◌, inl, inr}
 use Rattle.std.specs.Prelude.{◌⊎◌, ◌==◌, fold}
 use Rattle.std.proofs.lemmas.Bool.{cases_Bool}
 use Rattle.std.specs.Char.{is_ascii_digit}
-use Rattle.cpu12_asm.specs.declared.expressions.Term.{Term}
+use Rattle.cpu12_asm.specs.declared.{expressions.Term.Term, expressions.Sum.Sum, faults.LineFault.LineFault}
 use Rattle.cpu12_asm.specs.declared.expressions.Term.TheVariants.{Value, Large, Unknown, Bad}
-use Rattle.cpu12_asm.specs.declared.expressions.Sum.{Sum}
-use Rattle.cpu12_asm.specs.declared.faults.LineFault.{LineFault}
 use Rattle.cpu12_asm.specs.declared.faults.LineFault.TheVariants.{UnknownName, Range}
-use Rattle.cpu12_asm.specs.Lines.{pieces}
-use Rattle.cpu12_asm.specs.Expressions.{decimal_value, hexadecimal_value, is_hex_digit, is_name, is_number, name_value}
-use Rattle.cpu12_asm.specs.Expressions.{nothing, number, plain_term, sum_of, term_of, with_group, with_term}
-use Rattle.cpu12_asm.specs.Values.{fits, within}
+use Rattle.cpu12_asm.specs.{Lines.pieces, Values.fits, Values.within}
+use Rattle.cpu12_asm.specs.Expressions.{decimal_value, hexadecimal_value, is_hex_digit, is_name, is_number}
+use Rattle.cpu12_asm.specs.Expressions.{name_value, nothing, number, plain_term, sum_of, term_of, with_group}
+use Rattle.cpu12_asm.specs.Expressions.{with_term}
 
 -- what has a value keeps it
 abbrev pub AreKept : (List ℕ → Option ℕ) → (List ℕ → Option ℕ) → Type 0

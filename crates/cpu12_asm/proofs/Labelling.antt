@@ -7,23 +7,17 @@ use Rattle.std.specs.Str.{bytes_eq}
 use Rattle.std.proofs.lemmas.Bool.{cases_Bool}
 use Rattle.std.proofs.lemmas.List.Sums.{sum_by_push}
 use Rattle.std.proofs.lemmas.Slice.Eq.{bytes_eq-Decides}
-use Rattle.cpu12_asm.specs.declared.faults.LineFault.{LineFault}
-use Rattle.cpu12_asm.specs.declared.faults.LineFault.TheVariants.{Twice}
-use Rattle.cpu12_asm.specs.declared.items.AsmFault.{AsmFault}
-use Rattle.cpu12_asm.specs.declared.statements.Action.{Action}
+use Rattle.cpu12_asm.specs.declared.{faults.LineFault.LineFault, faults.LineFault.TheVariants.Twice}
+use Rattle.cpu12_asm.specs.declared.{items.AsmFault.AsmFault, statements.Action.Action, values.Behind.Behind}
 use Rattle.cpu12_asm.specs.declared.statements.Action.TheVariants.{Nothing, Origin, Equate, Bytes, Words, Operate}
-use Rattle.cpu12_asm.specs.declared.values.Behind.{Behind}
-use Rattle.cpu12_asm.specs.Expressions.{sum_of}
-use Rattle.cpu12_asm.specs.Faults.{through}
+use Rattle.cpu12_asm.specs.{Expressions.sum_of, Faults.through, Lines.lines_of}
 use Rattle.cpu12_asm.specs.Labels.{HasNoOrigin, IsPlaceBehind, Says, behind_origin, line_size, statement_size}
 use Rattle.cpu12_asm.specs.Labels.{without_origin}
-use Rattle.cpu12_asm.specs.Lines.{lines_of}
 use Rattle.cpu12_asm.specs.Sources.{defined_by, names_of, start, value_known}
 use Rattle.cpu12_asm.specs.Statements.{Statement, statement_of}
 use Rattle.cpu12_asm.specs.Values.{Known, behind_of, defined, equal_to, is_given, moved_to, size_of, with_line}
 use Rattle.cpu12_asm.specs.Values.{with_value, within}
-use Rattle.cpu12_asm.proofs.Known.{AreKept, within_kept}
-use Rattle.cpu12_asm.proofs.Passes.{continues, ended, splits}
+use Rattle.cpu12_asm.proofs.{Known.AreKept, Known.within_kept, Passes.continues, Passes.ended, Passes.splits}
 
 -- what is known behind a line
 pub record Reads (k m : Known) (line : List ℕ) : Type 0 where

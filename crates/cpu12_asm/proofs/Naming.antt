@@ -6,8 +6,7 @@ use Rattle.std.specs.Borrow.{Bor}
 use Rattle.std.specs.Cmp.Lexicographic.{slice_cmp}
 use Rattle.std.specs.Option.{option_copied}
 use Rattle.std.specs.Ordering.{nat_cmp}
-use Rattle.cpu12_asm.specs.Names.{value_in}
-use Rattle.cpu12_asm.specs.Values.{with_value, is_given}
+use Rattle.cpu12_asm.specs.{Names.value_in, Values.with_value, Values.is_given}
 
 pub value_in-set : (name : List ℕ) (m n : BTreeMap (Bor (List ℕ)) ℕ) (v : ℕ) → 0 < length name
     → UpdatesBy (λ x y. slice_cmp nat_cmp x.now y.now) (λ k. slice_cmp nat_cmp name k.now) m n (Some v)

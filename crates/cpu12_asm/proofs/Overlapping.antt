@@ -3,9 +3,8 @@ use Rattle.std.proofs.Common.{◌≡◌, ℕ, zero, suc, ◌+◌, ◌^◌, ◌<�
 use Rattle.std.proofs.Common.{◌∷◌, ◌++◌, length, Option, Some, None, IsSome, is_some, refl, sym, ap, ◌∙◌, subst, arith}
 use Rattle.std.proofs.lemmas.Bool.Decides.{nat_tests}
 use Rattle.std.specs.List.{list_any}
-use Rattle.cpu12_asm.specs.Bytes.{byte_at, IsGivenOnce, placed}
+use Rattle.cpu12_asm.specs.{Bytes.byte_at, Bytes.IsGivenOnce, Bytes.placed, Giving.Given, Giving.put}
 use Rattle.cpu12_asm.specs.declared.faults.LineFault.TheVariants.{Overlap}
-use Rattle.cpu12_asm.specs.Giving.{Given, put}
 use Rattle.cpu12_asm.proofs.Placing.{is_same, is_same-comm, none_in_cond, or_else, byte_at-append}
 
 second_none : (a b : Option ℕ) → or_else a b ≡ None → b ≡ None

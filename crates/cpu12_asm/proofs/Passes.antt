@@ -1,7 +1,6 @@
 -- A pass over the lines of a source.
 use Rattle.std.proofs.Common.{◌≡◌, ℕ, ◌+◌, List, [], ◌∷◌, ◌++◌, Result, Ok, Err, refl, ◌∙◌}
-use Rattle.cpu12_asm.specs.declared.faults.LineFault.{LineFault}
-use Rattle.cpu12_asm.specs.declared.items.AsmFault.{AsmFault}
+use Rattle.cpu12_asm.specs.declared.{faults.LineFault.LineFault, items.AsmFault.AsmFault}
 use Rattle.cpu12_asm.specs.Faults.{on_line, through}
 use Rattle.cpu12_asm.proofs.Steps.{through-ok}
 

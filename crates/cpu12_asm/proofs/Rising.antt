@@ -1,9 +1,8 @@
 -- Items that never go back can be placed.
 use Rattle.std.proofs.Common.{◌≡◌, ℕ, ◌+◌, ◌^◌, ◌≤◌, List, [], ◌∷◌, ◌++◌, length, Option, None, Some, IsSome, refl, ◌∙◌}
 use Rattle.std.proofs.Common.{ap, subst, arith}
-use Rattle.cpu12_asm.specs.declared.items.Item.{Item}
+use Rattle.cpu12_asm.specs.{declared.items.Item.Item, Bytes.byte_at, Bytes.placed}
 use Rattle.cpu12_asm.specs.declared.items.Item.TheVariants.{Place, Byte, Op}
-use Rattle.cpu12_asm.specs.Bytes.{byte_at, placed}
 use Rattle.cpu12_asm.specs.Items.{item_bytes, place_after, place_behind, place_of, given_from, given_by, FailsFirst}
 use Rattle.cpu12_asm.specs.Items.{PassesEnd, WritesOver, IsRisingFrom, IsRising}
 use Rattle.cpu12_asm.proofs.Placing.{or_else, byte_at-append, byte_at-placed}

@@ -3,8 +3,7 @@ use Rattle.std.proofs.Common.{◌≡◌, ℕ, ◌+◌, ◌<◌, ◌≤◌, ◌^�
 use Rattle.std.proofs.Common.{sym, ◌∙◌, ap, subst, arith, append_assoc, append-nil, add-one}
 use Rattle.std.proofs.Math.Seq.{take-suc, drop-cons}
 use Rattle.std.proofs.lemmas.List.{length-take-le, take-append-drop}
-use Rattle.cpu12_asm.specs.declared.items.Item.{Item}
-use Rattle.cpu12_asm.specs.Bytes.{byte_at, placed, Holds}
+use Rattle.cpu12_asm.specs.{declared.items.Item.Item, Bytes.byte_at, Bytes.placed, Bytes.Holds}
 use Rattle.cpu12_asm.specs.Items.{item_bytes, place_after, place_behind, place_of, given_from, given_by, FailsFirst}
 use Rattle.cpu12_asm.specs.Items.{WritesOver}
 

@@ -3,11 +3,8 @@ use Rattle.std.proofs.Common.{◌≡◌, ℕ, Bool, true, false, List, [], ◌�
 use Rattle.std.specs.List.{list_all, list_any}
 use Rattle.std.proofs.lemmas.Bool.{cases_Bool}
 use Rattle.std.proofs.lemmas.Slice.Eq.{bytes_eq-Decides}
-use Rattle.cpu12_isa.specs.declared.instr.Instr.{Instr}
-use Rattle.cpu12_isa.specs.Forms.{every, form_of}
-use Rattle.cpu12_isa.specs.Mnemonics.{text_of}
-use Rattle.cpu12_asm.specs.Expressions.{is_mnemonic, names_form}
-use Rattle.cpu12_asm.specs.Shapes.{may_be_mnemonic}
+use Rattle.cpu12_isa.specs.{declared.instr.Instr.Instr, Forms.every, Forms.form_of, Mnemonics.text_of}
+use Rattle.cpu12_asm.specs.{Expressions.is_mnemonic, Expressions.names_form, Shapes.may_be_mnemonic}
 
 abbrev has_form : Instr → Bool
 has_form i = may_be_mnemonic (text_of (form_of i).mnemonic)

@@ -7,29 +7,23 @@ use Rattle.std.specs.Str.{str_to_ascii_uppercase}
 use Rattle.std.proofs.lemmas.Bool.{cases_Bool}
 use Rattle.std.proofs.lemmas.Bool.Decides.{nat_tests}
 use Rattle.std.proofs.lemmas.List.{length-map}
-use Rattle.cpu12_isa.specs.declared.form.Operand.{Operand}
+use Rattle.cpu12_isa.specs.{declared.form.Operand.Operand, Forms.operand_bytes, Forms.prebytes}
 use Rattle.cpu12_isa.specs.declared.form.Operand.TheVariants.{Inherent, Byte, Word, Address, Offset, ByteToAddress}
 use Rattle.cpu12_isa.specs.declared.form.Operand.TheVariants.{AddressToAddress, XToD, YToD, PostIncrementX}
-use Rattle.cpu12_isa.specs.Forms.{operand_bytes, prebytes}
 use Rattle.cpu12_asm.specs.declared.faults.LineFault.{LineFault}
 use Rattle.cpu12_asm.specs.declared.faults.LineFault.TheVariants as fault
-use Rattle.cpu12_asm.specs.declared.statements.Action.{Action}
+use Rattle.cpu12_asm.specs.{declared.statements.Action.Action, Bytes.IsGivenOnce, Bytes.byte_at, Bytes.placed}
 use Rattle.cpu12_asm.specs.declared.statements.Action.TheVariants.{Nothing, Origin, Equate, Bytes, Words, Operate}
-use Rattle.cpu12_asm.specs.Bytes.{IsGivenOnce, byte_at, placed}
-use Rattle.cpu12_asm.specs.Expressions.{sum_of}
-use Rattle.cpu12_asm.specs.Faults.{through}
-use Rattle.cpu12_asm.specs.Giving.{Given, any_unknown, before as put_first, branches_far, bytes_with, given, given_with}
-use Rattle.cpu12_asm.specs.Giving.{limits_of, moved, operand_with, overlaps, put_values, values_from, values_of}
-use Rattle.cpu12_asm.specs.Giving.{values_within, word_bytes}
+use Rattle.cpu12_asm.specs.{Expressions.sum_of, Faults.through, Lines.lines_of, Lines.pieces}
+use Rattle.cpu12_asm.specs.Giving.{Given, any_unknown, before as put_first, branches_far, bytes_with, given}
+use Rattle.cpu12_asm.specs.Giving.{given_with, limits_of, moved, operand_with, overlaps, put_values, values_from}
+use Rattle.cpu12_asm.specs.Giving.{values_of, values_within, word_bytes}
 use Rattle.cpu12_asm.specs.Labels.{IsPlaceBehind, Says, Stands, line_size, statement_size, without_origin}
-use Rattle.cpu12_asm.specs.Lines.{lines_of, pieces}
 use Rattle.cpu12_asm.specs.Sources.{Assembles, empty, given_by_line, names_of, with_names}
 use Rattle.cpu12_asm.specs.Statements.{Statement, part_count, statement_of}
 use Rattle.cpu12_asm.specs.Values.{fits, size_of, within}
-use Rattle.cpu12_asm.proofs.Labelling.{place_behind_line}
+use Rattle.cpu12_asm.proofs.{Labelling.place_behind_line, Placing.is_same, Steps.given_with-bytes}
 use Rattle.cpu12_asm.proofs.Passes.{continues, ended, splits}
-use Rattle.cpu12_asm.proofs.Placing.{is_same}
-use Rattle.cpu12_asm.proofs.Steps.{given_with-bytes}
 
 -- ---- a line gives as many bytes as it counts for
 

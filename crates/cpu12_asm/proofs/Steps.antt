@@ -1,7 +1,6 @@
 -- One line of a source, and the others after it.
 use Rattle.std.proofs.Common.{◌≡◌, ◌≢◌, ℕ, ◌+◌, List, ◌∷◌, Option, Result, Ok, Err, refl}
-use Rattle.cpu12_asm.specs.declared.faults.LineFault.{LineFault}
-use Rattle.cpu12_asm.specs.declared.statements.Action.{Action}
+use Rattle.cpu12_asm.specs.declared.{faults.LineFault.LineFault, statements.Action.Action}
 use Rattle.cpu12_asm.specs.declared.statements.Action.TheVariants.{Nothing, Origin, Equate, Bytes, Words, Operate}
 use Rattle.cpu12_asm.specs.Faults.{at_line, through}
 use Rattle.cpu12_asm.specs.Giving.{Given, given_with, put_values, values_within, limits_of}

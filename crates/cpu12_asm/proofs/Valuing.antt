@@ -1,7 +1,6 @@
 -- Values before others.
 use Rattle.std.proofs.Common.{◌≡◌, ℕ, List, [], ◌∷◌, ◌++◌, Result, Ok, Err, refl, ap, append_assoc, append-nil}
-use Rattle.cpu12_asm.specs.declared.faults.LineFault.{LineFault}
-use Rattle.cpu12_asm.specs.Giving.{before}
+use Rattle.cpu12_asm.specs.{declared.faults.LineFault.LineFault, Giving.before}
 
 abbrev pub all_before : List ℕ → Result (List ℕ) LineFault → Result (List ℕ) LineFault
 all_before vs (Ok ws) = Ok (vs ++ ws)

@@ -5,13 +5,9 @@ use Rattle.std.specs.Prelude.{List, [], ◌∷◌, length, Option, Some, None, f
 use Rattle.std.specs.Char.{is_ascii_digit}
 use Rattle.std.specs.List.{list_all, list_any}
 use Rattle.std.specs.Str.{bytes_eq}
-use Rattle.cpu12_isa.specs.declared.instr.Instr.{Instr}
-use Rattle.cpu12_isa.specs.Forms.{form_of, every}
-use Rattle.cpu12_isa.specs.Mnemonics.{text_of}
-use Rattle.cpu12_asm.specs.declared.expressions.Term.{Term}
+use Rattle.cpu12_isa.specs.{declared.instr.Instr.Instr, Forms.form_of, Forms.every, Mnemonics.text_of}
+use Rattle.cpu12_asm.specs.{declared.expressions.Term.Term, declared.expressions.Sum.Sum, Lines.pieces}
 use Rattle.cpu12_asm.specs.declared.expressions.Term.TheVariants.{Value, Large, Unknown, Bad}
-use Rattle.cpu12_asm.specs.declared.expressions.Sum.{Sum}
-use Rattle.cpu12_asm.specs.Lines.{pieces}
 
 abbrev pub is_letter : ℕ → Bool
 is_letter b = (nat_le 0x41 b && nat_le b 0x5A) || (b == 0x5F)

@@ -4,20 +4,14 @@ use Rattle.std.specs.Prelude.{ℕ, ◌+◌, ◌-◌, ◌%◌, ◌^◌, ◌&&◌,
 use Rattle.std.specs.Prelude.{[], ◌∷◌, ◌++◌, length, map, drop, slice_index, Option, Some, None, is_some, Result, Ok}
 use Rattle.std.specs.Prelude.{Err}
 use Rattle.std.specs.List.{list_any, flat_map}
-use Rattle.cpu12_isa.specs.declared.form.Operand.{Operand}
+use Rattle.cpu12_isa.specs.{declared.form.Operand.Operand, Code.form_bytes, Memory.high_of, Memory.low_of}
 use Rattle.cpu12_isa.specs.declared.form.Operand.TheVariants.{Byte, Word, Address, Offset, ByteToAddress}
 use Rattle.cpu12_isa.specs.declared.form.Operand.TheVariants.{AddressToAddress}
-use Rattle.cpu12_isa.specs.Code.{form_bytes}
-use Rattle.cpu12_isa.specs.Memory.{high_of, low_of}
 use Rattle.cpu12_asm.specs.declared.faults.LineFault.{LineFault}
 use Rattle.cpu12_asm.specs.declared.faults.LineFault.TheVariants as fault
-use Rattle.cpu12_asm.specs.declared.operands.Limits.{Limits}
-use Rattle.cpu12_asm.specs.declared.statements.Action.{Action}
+use Rattle.cpu12_asm.specs.declared.{operands.Limits.Limits, statements.Action.Action}
 use Rattle.cpu12_asm.specs.declared.statements.Action.TheVariants.{Origin, Bytes, Words, Operate}
-use Rattle.cpu12_asm.specs.Bytes.{byte_at, placed}
-use Rattle.cpu12_asm.specs.Lines.{pieces}
-use Rattle.cpu12_asm.specs.Expressions.{sum_of}
-use Rattle.cpu12_asm.specs.Statements.{Statement}
+use Rattle.cpu12_asm.specs.{Bytes.byte_at, Bytes.placed, Lines.pieces, Expressions.sum_of, Statements.Statement}
 use Rattle.cpu12_asm.specs.Values.{fits, within}
 
 abbrev limits : ℕ → ℕ → Bool → Option Limits

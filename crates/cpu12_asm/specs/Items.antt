@@ -2,9 +2,8 @@
 -- Beside the promise.
 use Rattle.std.specs.Prelude.{◌≡◌, ℕ, ◌+◌, ◌^◌, ◌<◌, ◌≤◌, List, [], ◌∷◌, ◌++◌, length, IsSome}
 use Rattle.cpu12_isa.specs.Code.{encode_of}
-use Rattle.cpu12_asm.specs.declared.items.AsmFault.{AsmFault}
+use Rattle.cpu12_asm.specs.declared.{items.AsmFault.AsmFault, items.Item.Item}
 use Rattle.cpu12_asm.specs.declared.items.AsmFault.TheVariants.{Range, Overlap, Memory}
-use Rattle.cpu12_asm.specs.declared.items.Item.{Item}
 use Rattle.cpu12_asm.specs.declared.items.Item.TheVariants.{Place, Byte, Op}
 use Rattle.cpu12_asm.specs.Bytes.{byte_at, placed, IsGivenOnce, FitsMemory}
 

@@ -6,13 +6,9 @@ use Rattle.std.specs.List.{sum_by}
 use Rattle.std.specs.Str.{str_to_ascii_uppercase}
 use Rattle.cpu12_asm.specs.declared.statements.Action.{Action}
 use Rattle.cpu12_asm.specs.declared.statements.Action.TheVariants.{Origin, Equate}
-use Rattle.cpu12_asm.specs.Bytes.{byte_at}
-use Rattle.cpu12_asm.specs.Expressions.{sum_of}
+use Rattle.cpu12_asm.specs.{Bytes.byte_at, Expressions.sum_of, Lines.lines_of, Sources.Assembles, Sources.names_of}
 use Rattle.cpu12_asm.specs.Giving.{bytes_with, limits_of, values_within}
-use Rattle.cpu12_asm.specs.Lines.{lines_of}
-use Rattle.cpu12_asm.specs.Sources.{Assembles, names_of}
-use Rattle.cpu12_asm.specs.Statements.{Statement, statement_of}
-use Rattle.cpu12_asm.specs.Values.{size_of, within}
+use Rattle.cpu12_asm.specs.{Statements.Statement, Statements.statement_of, Values.size_of, Values.within}
 
 -- how many bytes a line gives
 abbrev pub statement_size : Option Statement → ℕ

@@ -1,9 +1,7 @@
 -- What holds of every source.
 -- Beside the promise.
 use Rattle.std.specs.Prelude.{ℕ, ◌≡◌, List, Ok, Err}
-use Rattle.cpu12_asm.specs.declared.items.AsmFault.{AsmFault}
-use Rattle.cpu12_asm.specs.Giving.{Given}
-use Rattle.cpu12_asm.specs.Sources.{assembled}
+use Rattle.cpu12_asm.specs.{declared.items.AsmFault.AsmFault, Giving.Given, Sources.assembled}
 
 -- a source has one first fault at most, and none where it gives bytes
 abbrev pub SourcesHaveOneFault : Type 0

@@ -2,14 +2,9 @@
 -- Beside the promise.
 use Rattle.std.specs.Prelude.{ℕ, ◌≡◌, List, [], Option, None, Result, Ok, Err}
 use Rattle.std.specs.Str.{str_to_ascii_uppercase}
-use Rattle.cpu12_asm.specs.declared.faults.LineFault.{LineFault}
-use Rattle.cpu12_asm.specs.declared.items.AsmFault.{AsmFault}
-use Rattle.cpu12_asm.specs.Faults.{through}
-use Rattle.cpu12_asm.specs.Lines.{lines_of}
-use Rattle.cpu12_asm.specs.Statements.{statement_of}
-use Rattle.cpu12_asm.specs.Values.{Known, defined}
-use Rattle.cpu12_asm.specs.Giving.{Given, given}
-use Rattle.cpu12_asm.specs.Bytes.{Holds}
+use Rattle.cpu12_asm.specs.declared.{faults.LineFault.LineFault, items.AsmFault.AsmFault}
+use Rattle.cpu12_asm.specs.{Faults.through, Lines.lines_of, Statements.statement_of, Values.Known, Values.defined}
+use Rattle.cpu12_asm.specs.{Giving.Given, Giving.given, Bytes.Holds}
 
 -- nothing is known before the first line, which stands at 0
 abbrev pub start : Known

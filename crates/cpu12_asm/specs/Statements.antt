@@ -4,11 +4,9 @@ use Rattle.std.specs.Prelude.{ℕ, ◌==◌, ◌&&◌, ◌||◌, nat_lt, if◌th
 use Rattle.std.specs.Prelude.{Option, Some, None, codes}
 use Rattle.std.specs.List.{list_all, find}
 use Rattle.std.specs.Str.{bytes_eq}
-use Rattle.cpu12_isa.specs.declared.instr.Instr.{Instr}
-use Rattle.cpu12_isa.specs.declared.form.Operand.{Operand}
+use Rattle.cpu12_isa.specs.{declared.instr.Instr.Instr, declared.form.Operand.Operand, Forms.form_of, Forms.every}
 use Rattle.cpu12_isa.specs.declared.form.Operand.TheVariants.{Inherent, Byte, Word, Address, Offset, ByteToAddress}
 use Rattle.cpu12_isa.specs.declared.form.Operand.TheVariants.{AddressToAddress, XToD, YToD, PostIncrementX}
-use Rattle.cpu12_isa.specs.Forms.{form_of, every}
 use Rattle.cpu12_asm.specs.declared.statements.Action.{Action}
 use Rattle.cpu12_asm.specs.declared.statements.Action.TheVariants as action
 use Rattle.cpu12_asm.specs.Lines.{pieces, code_of, first_word, behind_word}

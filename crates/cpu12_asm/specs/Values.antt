@@ -4,14 +4,11 @@ use Rattle.std.specs.Prelude.{ℕ, ◌+◌, ◌*◌, ◌-◌, ◌&&◌, nat_le, 
 use Rattle.std.specs.Prelude.{Option, Some, None, is_some, Result, Ok, Err}
 use Rattle.std.specs.Str.{bytes_eq}
 use Rattle.cpu12_isa.specs.Code.{form_bytes}
-use Rattle.cpu12_asm.specs.declared.expressions.Sum.{Sum}
-use Rattle.cpu12_asm.specs.declared.faults.LineFault.{LineFault}
+use Rattle.cpu12_asm.specs.declared.{expressions.Sum.Sum, faults.LineFault.LineFault, statements.Action.Action}
 use Rattle.cpu12_asm.specs.declared.faults.LineFault.TheVariants.{BadLine, UnknownName, Twice, Range}
-use Rattle.cpu12_asm.specs.declared.statements.Action.{Action}
 use Rattle.cpu12_asm.specs.declared.statements.Action.TheVariants.{Nothing, Origin, Equate, Bytes, Words, Operate}
 use Rattle.cpu12_asm.specs.declared.values.Behind.{Behind}
-use Rattle.cpu12_asm.specs.Expressions.{sum_of}
-use Rattle.cpu12_asm.specs.Statements.{Statement, part_count}
+use Rattle.cpu12_asm.specs.{Expressions.sum_of, Statements.Statement, Statements.part_count}
 
 -- a sum whose numbers are words and that lies from 0 to a limit
 abbrev pub fits : ℕ → Sum → Bool

@@ -3,8 +3,8 @@ ghost use Rattle.std.specs.Prelude.{ℕ, ◌≡◌, ◌≤◌, ◌+◌, ◌==◌
 ghost use Rattle.std.specs.Prelude.{take_while};
 ghost use Rattle.std.specs.List.{position_or_len};
 ghost use Rattle.std.specs.Str.Lines.{strip_carriage_return};
-ghost use Rattle.cpu12_asm.specs.Lines.{run, pieces, lines_of, is_blank, is_in_word, is_code, first_word, behind_word};
-ghost use Rattle.cpu12_asm.specs.Lines.{without_blanks, code_of};
+ghost use Rattle.cpu12_asm.specs.Lines.{run, pieces, lines_of, is_blank, is_in_word, is_code, first_word};
+ghost use Rattle.cpu12_asm.specs.Lines.{behind_word, without_blanks, code_of};
 ghost use Rattle.cpu12_asm.specs.Left.{pieces_left, lines_left, size_left};
 
 fn piece_len(text: &[u8], c: u8) -> usize

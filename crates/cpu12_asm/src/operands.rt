@@ -3,11 +3,9 @@ ghost use Rattle.std.specs.Prelude.{ℕ, ◌≡◌, ◌≢◌, ◌≤◌, ◌+�
 ghost use Rattle.std.specs.Prelude.{if◌then◌else◌, Some, None, List, ◌∷◌, IfOk, IfErr, Ok, Err};
 ghost use Rattle.std.specs.List.{flat_map};
 ghost use Rattle.cpu12_isa.specs.Memory.{low_of};
-ghost use Rattle.cpu12_asm.specs.Lines.{pieces};
-ghost use Rattle.cpu12_asm.specs.Names.{value_in};
-ghost use Rattle.cpu12_asm.specs.Values.{fits};
-ghost use Rattle.cpu12_asm.specs.Giving.{operand_limits, limits_of, any_unknown, values_from, values_of, values_within};
-ghost use Rattle.cpu12_asm.specs.Giving.{operand_with, is_far, word_bytes, bytes_with, branches_far};
+ghost use Rattle.cpu12_asm.specs.{Lines.pieces, Names.value_in, Values.fits};
+ghost use Rattle.cpu12_asm.specs.Giving.{operand_limits, limits_of, any_unknown, values_from, values_of};
+ghost use Rattle.cpu12_asm.specs.Giving.{values_within, operand_with, is_far, word_bytes, bytes_with, branches_far};
 
 use crate::expressions::{Names, Sum, expression};
 use crate::faults::LineFault;

@@ -1,9 +1,8 @@
 //! The two passes over a source.
 ghost use Rattle.std.specs.Prelude.{ℕ, ◌≡◌, ◌≢◌, ◌≤◌, ◌+◌, ◌^◌, length, List, ◌++◌, IfOk, IfErr, Ok, Err};
-ghost use Rattle.cpu12_asm.specs.Names.{value_in};
+ghost use Rattle.cpu12_asm.specs.{Names.value_in, Statements.statement_of};
 ghost use Rattle.cpu12_asm.specs.Bytes.{start_of, placed, Holds, IsAscending};
 ghost use Rattle.cpu12_asm.specs.Giving.{Given, put, put_values, values_within, limits_of, given};
-ghost use Rattle.cpu12_asm.specs.Statements.{statement_of};
 ghost use Rattle.cpu12_asm.specs.Sources.{names_of, bytes_of, Assembles, assembled};
 
 use crate::expressions::{Names, expression};

@@ -2,10 +2,10 @@
 ghost use Rattle.std.specs.Prelude.{ℕ, ◌≡◌, ◌≤◌, ◌+◌, ◌^◌, ◌==◌, length, List, Option, IfSome, Some, None};
 ghost use Rattle.std.specs.List.{list_all, find};
 ghost use Rattle.cpu12_isa.specs.Forms.{every, form_of};
-ghost use Rattle.cpu12_asm.specs.Lines.{pieces};
-ghost use Rattle.cpu12_asm.specs.Told.{told};
+ghost use Rattle.cpu12_asm.specs.{Lines.pieces, Told.told};
 ghost use Rattle.cpu12_asm.specs.Statements.{is_expression, are_expressions, part_count, has_parts, is_immediate};
-ghost use Rattle.cpu12_asm.specs.Statements.{takes, is_form, allowed, action_of, operate, statement_with, statement_of};
+ghost use Rattle.cpu12_asm.specs.Statements.{takes, is_form, allowed, action_of, operate, statement_with};
+ghost use Rattle.cpu12_asm.specs.Statements.{statement_of};
 
 use crate::expressions::{expression, is, is_name};
 use crate::lines::{behind_word, code, cut, first_word};

@@ -1,9 +1,6 @@
 //! What the lines of a source define.
 ghost use Rattle.std.specs.Prelude.{ℕ, ◌≡◌, ◌≢◌, ◌≤◌, ◌<◌, ◌+◌, ◌*◌, ◌^◌, length, IfOk, IfErr, OnOk, Ok, Err, not};
-ghost use Rattle.cpu12_asm.specs.Expressions.{sum_of};
-ghost use Rattle.cpu12_asm.specs.Names.{value_in};
-ghost use Rattle.cpu12_asm.specs.Statements.{statement_of};
-ghost use Rattle.cpu12_asm.specs.Told.{statement_told};
+ghost use Rattle.cpu12_asm.specs.{Expressions.sum_of, Names.value_in, Statements.statement_of, Told.statement_told};
 ghost use Rattle.cpu12_asm.specs.Values.{fits, within, size_of, behind_of, with_value, is_given, defined};
 
 use crate::expressions::{Names, Sum, expression};

@@ -1,8 +1,6 @@
 -- The cases of marks.
 use Rattle.std.proofs.Common.{refl, inr}
-use Rattle.cpu12_parts.specs.declared.temps.Temps.{Temps}
-use Rattle.cpu12_parts.specs.declared.temps.Temps.TheVariants.{OnStack}
-use Rattle.cpu12_parts.specs.Laws.{IsOff}
+use Rattle.cpu12_parts.specs.{declared.temps.Temps.Temps, declared.temps.Temps.TheVariants.OnStack, Laws.IsOff}
 use Rattle.cpu12_emul.specs.Simulation.{Marks, OnStackOnly, OnStackOrNone, AreMarked}
 
 -- sums are marked as on the stack where they were pushed

@@ -4,8 +4,7 @@ use Rattle.std.proofs.Common.{arith}
 use Rattle.cpu12_parts.specs.State.{State}
 use Rattle.cpu12_emul.specs.declared.ends.RunEnd.{RunEnd}
 use Rattle.cpu12_emul.specs.declared.ends.RunEnd.TheVariants.{Arrived, Trap, Budget}
-use Rattle.cpu12_emul.specs.Run.{EndsRun, StepsTo, is_at_rest}
-use Rattle.cpu12_emul.specs.Step.{Next, next_of}
+use Rattle.cpu12_emul.specs.{Run.EndsRun, Run.StepsTo, Run.is_at_rest, Step.Next, Step.next_of}
 
 -- of two runs from one state one goes on from where the other is, or they are at one place
 data Meet (flags j k : ℕ) (t u : State) : Type 0 where

@@ -3,27 +3,21 @@ use Rattle.std.proofs.Common.{◌≡◌, ◌≢◌, ◌==◌, ℕ, ◌+◌, min,
 use Rattle.std.proofs.Common.{get_or, get_or-set_other, refl, ap, sym, ◌∙◌, subst}
 use Rattle.std.specs.Prelude.{if◌then◌else◌}
 use Rattle.std.proofs.lemmas.Bool.{eqb-true}
-use Rattle.cpu12_isa.specs.declared.instr.Regs.{Regs}
-use Rattle.cpu12_isa.specs.declared.instr.Instr.{Instr}
+use Rattle.cpu12_isa.specs.declared.{instr.Regs.Regs, instr.Instr.Instr}
 use Rattle.cpu12_isa.specs.declared.instr.Instr.TheVariants.{Rev, Revw}
-use Rattle.cpu12_isa.specs.Act.{Act, outcome, write_all}
-use Rattle.cpu12_isa.specs.Code.{decode_at, decode_of}
+use Rattle.cpu12_isa.specs.{Act.Act, Act.outcome, Act.write_all, Code.decode_at, Code.decode_of}
 use Rattle.cpu12_isa.specs.Flags.{has, put, opened, carry, overflow, hnzc, hnz}
 use Rattle.cpu12_isa.specs.Memory.{plus, word_of, bytes_at}
-use Rattle.cpu12_parts.specs.declared.temps.Temps.{Temps}
-use Rattle.cpu12_parts.specs.declared.temps.PartEnd.{PartEnd}
+use Rattle.cpu12_parts.specs.declared.{temps.Temps.Temps, temps.PartEnd.PartEnd}
 use Rattle.cpu12_parts.specs.declared.temps.PartEnd.TheVariants.{More, Done}
 use Rattle.cpu12_parts.specs.Cuts.{Kind, rev, revw, part_of, after_part}
-use Rattle.cpu12_parts.specs.Inside.{own_address, GoesOnAt, LeavesSums}
+use Rattle.cpu12_parts.specs.{Inside.own_address, Inside.GoesOnAt, Inside.LeavesSums, State.State, State.Outcome}
 use Rattle.cpu12_parts.specs.Laws.{IsOff, IsSteady, Any, state_of}
 use Rattle.cpu12_parts.specs.Parts.{leaving, met, rev_element, revw_element}
-use Rattle.cpu12_parts.specs.State.{State, Outcome}
 use Rattle.cpu12_emul.specs.declared.ends.Stepped.TheVariants.{Part}
 use Rattle.cpu12_emul.specs.Ruling.{Stands, GoesOnBeside, RevGoesOn, RevwGoesOn, Ruled}
-use Rattle.cpu12_emul.specs.Simulation.{PartIsStep}
-use Rattle.cpu12_emul.specs.Step.{Left, kind_of, applied, next_of}
-use Rattle.cpu12_emul.proofs.Runs.{PartsTo-append}
-use Rattle.cpu12_emul.proofs.Stepping.{rev_is_step, revw_is_step}
+use Rattle.cpu12_emul.specs.{Simulation.PartIsStep, Step.Left, Step.kind_of, Step.applied, Step.next_of}
+use Rattle.cpu12_emul.proofs.{Runs.PartsTo-append, Stepping.rev_is_step, Stepping.revw_is_step}
 
 -- The part goes on, and writes at most the byte at one address.
 record Passes (at : ℕ) (m : List ℕ) (o : Outcome) : Type 0 where

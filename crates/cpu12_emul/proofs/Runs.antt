@@ -1,8 +1,7 @@
 -- Steps one after another.
 use Rattle.std.proofs.Common.{◌≡◌, ℕ, zero, suc, ◌+◌, false, Ok, subst, sym, refl, arith}
 use Rattle.cpu12_parts.specs.State.{State}
-use Rattle.cpu12_emul.specs.Step.{Next, next_of}
-use Rattle.cpu12_emul.specs.Run.{is_at_rest, StepsTo, PartsTo}
+use Rattle.cpu12_emul.specs.{Step.Next, Step.next_of, Run.is_at_rest, Run.StepsTo, Run.PartsTo}
 
 -- one step more
 pub StepsTo-suc : (flags k : ℕ) (s t : State) (next : Next) → StepsTo flags k s t → is_at_rest t ≡ false

@@ -1,8 +1,7 @@
 -- What fits stays so, step by step.
 -- Beside the promise.
 use Rattle.std.specs.Prelude.{◌≡◌, ℕ, ◌^◌, ◌<◌, Ok}
-use Rattle.cpu12_parts.specs.State.{State}
-use Rattle.cpu12_parts.specs.Fits.{FitsState}
+use Rattle.cpu12_parts.specs.{State.State, Fits.FitsState}
 use Rattle.cpu12_emul.specs.Step.{Next, next_of}
 
 -- A step from a state whose registers, sums and bytes fit leads to one.

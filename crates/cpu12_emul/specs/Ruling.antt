@@ -1,8 +1,7 @@
 -- Parts of REV and REVW that go on, and leave the instruction where it stands.
 -- Beside the promise.
 use Rattle.std.specs.Prelude.{◌≡◌, ◌≢◌, ℕ, List, slice_index}
-use Rattle.cpu12_isa.specs.declared.instr.Regs.{Regs}
-use Rattle.cpu12_isa.specs.Memory.{plus, word_of}
+use Rattle.cpu12_isa.specs.{declared.instr.Regs.Regs, Memory.plus, Memory.word_of}
 use Rattle.cpu12_parts.specs.State.{State}
 use Rattle.cpu12_emul.specs.Run.{PartsTo}
 

@@ -3,9 +3,8 @@
 use Rattle.std.specs.Prelude.{◌≡◌, ℕ, zero, suc, ◌<◌, ◌≤◌, ◌==◌, ◌&&◌, Bool, true, false, Ok, Err, slice_index}
 use Rattle.cpu12_isa.specs.Memory.{plus}
 use Rattle.cpu12_parts.specs.State.{State}
-use Rattle.cpu12_emul.specs.declared.ends.RunEnd.{RunEnd}
+use Rattle.cpu12_emul.specs.declared.{ends.RunEnd.RunEnd, ends.Stepped.TheVariants.Part}
 use Rattle.cpu12_emul.specs.declared.ends.RunEnd.TheVariants.{Arrived, Trap, Budget}
-use Rattle.cpu12_emul.specs.declared.ends.Stepped.TheVariants.{Part}
 use Rattle.cpu12_emul.specs.Step.{Next, next_of}
 
 -- PC is at 20 FE

@@ -1,20 +1,14 @@
 -- One step of the machine: a plain instruction, or one part of REV, REVW or WAV.
 -- Reached by the promise.
 use Rattle.std.specs.Prelude.{ℕ, Bool, true, false, Result, Ok, Err, Option, List, slice_index}
-use Rattle.cpu12_isa.specs.Memory.{word_of}
-use Rattle.cpu12_isa.specs.declared.instr.Regs.{Regs}
-use Rattle.cpu12_isa.specs.declared.instr.Instr.{Instr}
-use Rattle.cpu12_isa.specs.declared.instr.Instr.TheVariants.{Rev, Revw, Wav, Wavr}
+use Rattle.cpu12_isa.specs.{Memory.word_of, Meaning.Effect, Meaning.act_of, Code.decode_of, Code.six_from}
 use Rattle.cpu12_isa.specs.Act.{Act, Give, outcome, bind, get_all, write_all}
-use Rattle.cpu12_isa.specs.Meaning.{Effect, act_of}
-use Rattle.cpu12_isa.specs.Code.{decode_of, six_from}
-use Rattle.cpu12_parts.specs.declared.temps.Temps.{Temps}
+use Rattle.cpu12_isa.specs.declared.{instr.Regs.Regs, instr.Instr.Instr}
+use Rattle.cpu12_isa.specs.declared.instr.Instr.TheVariants.{Rev, Revw, Wav, Wavr}
+use Rattle.cpu12_parts.specs.declared.{temps.Temps.Temps, temps.PartEnd.PartEnd}
 use Rattle.cpu12_parts.specs.declared.temps.Temps.TheVariants.{Free, Running, OnStack}
-use Rattle.cpu12_parts.specs.declared.temps.PartEnd.{PartEnd}
 use Rattle.cpu12_parts.specs.declared.temps.PartEnd.TheVariants.{More, Done}
-use Rattle.cpu12_parts.specs.State.{State, Outcome}
-use Rattle.cpu12_parts.specs.Parts.{rev_act, revw_act, wav_act}
-use Rattle.cpu12_parts.specs.Sums.{wav_pull}
+use Rattle.cpu12_parts.specs.{State.State, State.Outcome, Parts.rev_act, Parts.revw_act, Parts.wav_act, Sums.wav_pull}
 use Rattle.cpu12_emul.specs.declared.ends.Stepped.{Stepped}
 use Rattle.cpu12_emul.specs.declared.ends.Stepped.TheVariants.{Plain, Part, LastPart}
 

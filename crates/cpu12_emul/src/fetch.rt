@@ -1,8 +1,7 @@
 //! The two instructions that go by lists, found by their bytes alone.
 ghost use Rattle.std.specs.Prelude.{◌≡◌, ◌==◌, ◌&&◌, true, Ok, slice_index};
 ghost use Rattle.cpu12_isa.specs.declared.instr.Instr.TheVariants.{Rev, Revw};
-ghost use Rattle.cpu12_isa.specs.Memory.{plus};
-ghost use Rattle.cpu12_isa.specs.Code.{decode_at};
+ghost use Rattle.cpu12_isa.specs.{Memory.plus, Code.decode_at};
 
 use cpu12_isa::mem::Mem;
 

@@ -1,9 +1,7 @@
 //! Laws of the machine.
 ghost use Rattle.cpu12_isa.specs.declared.instr.Instr.TheVariants.{Rev, Revw, Wav};
 ghost use Rattle.cpu12_parts.specs.Cuts.{rev, revw, wav};
-ghost use Rattle.cpu12_emul.specs.Fits.{StepFits};
-ghost use Rattle.cpu12_emul.specs.Image.{HoldsImage, ImagesLoadAlike};
-ghost use Rattle.cpu12_emul.specs.Run.{RunsEndOnce};
+ghost use Rattle.cpu12_emul.specs.{Fits.StepFits, Image.HoldsImage, Image.ImagesLoadAlike, Run.RunsEndOnce};
 ghost use Rattle.cpu12_emul.specs.Simulation.{StepAgrees, WavrGoesOn, StepKeeps, TakesQuietly, TakeKeeps};
 ghost use Rattle.cpu12_emul.specs.Simulation.{FrameIsOnStack, PlainIsStep, PartIsStep, SumsAreStep};
 

@@ -1,8 +1,7 @@
 //! A machine from an image.
 ghost use Rattle.std.specs.Prelude.{ℕ, ◌≡◌, IfOk};
 ghost use Rattle.cpu12_isa.specs.Watching.{nothing_noted};
-ghost use Rattle.cpu12_emul.specs.Image.{image_memory};
-ghost use Rattle.cpu12_emul.specs.Step.{reset_with};
+ghost use Rattle.cpu12_emul.specs.{Image.image_memory, Step.reset_with};
 
 use crate::machine::Machine;
 use cpu12_asm::Image;

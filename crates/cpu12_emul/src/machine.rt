@@ -1,7 +1,6 @@
 //! The machine.
 ghost use Rattle.std.specs.Prelude.{ℕ, ◌≡◌, ◌⊎◌, MatchResult, IfErr, Ok, Err, length, slice_index, slice_set};
-ghost use Rattle.cpu12_isa.specs.Act.{outcome, write_all};
-ghost use Rattle.cpu12_isa.specs.Code.{decode_at};
+ghost use Rattle.cpu12_isa.specs.{Act.outcome, Act.write_all, Code.decode_at};
 ghost use Rattle.cpu12_parts.specs.Laws.{IsOff};
 ghost use Rattle.cpu12_emul.specs.Step.{Whole, kind_of, instruction_act, next_of, applied, reset_with};
 

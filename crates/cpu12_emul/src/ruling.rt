@@ -2,8 +2,7 @@
 ghost use Rattle.std.specs.Prelude.{◌≡◌, ◌≢◌, ◌≤◌, true};
 ghost use Rattle.cpu12_isa.specs.Memory.{plus};
 ghost use Rattle.cpu12_parts.specs.Laws.{IsOff, state_of};
-ghost use Rattle.cpu12_emul.specs.Ruling.{Stands, RevGoesOn, RevwGoesOn, Ruled};
-ghost use Rattle.cpu12_emul.specs.Run.{PartsTo};
+ghost use Rattle.cpu12_emul.specs.{Ruling.Stands, Ruling.RevGoesOn, Ruling.RevwGoesOn, Ruling.Ruled, Run.PartsTo};
 
 use crate::fetch::{is_rev, is_revw};
 use crate::machine::Machine;

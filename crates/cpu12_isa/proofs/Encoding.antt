@@ -1,15 +1,12 @@
 -- The bytes of an instruction.
 use Rattle.std.proofs.Common.{ℕ, ◌^◌, ◌<◌, ◌≤◌, ◌++◌, List, [], ◌∷◌, length, All, arith}
 use Rattle.std.proofs.lemmas.List.Elements.{All-nil, All-cons}
-use Rattle.cpu12_isa.specs.declared.instr.Instr.{Instr}
-use Rattle.cpu12_isa.specs.declared.instr.Instr.TheVariants.{LdaaImmediate}
-use Rattle.cpu12_isa.specs.declared.form.Page.{Page}
+use Rattle.cpu12_isa.specs.declared.{instr.Instr.Instr, instr.Instr.TheVariants.LdaaImmediate, form.Page.Page}
 use Rattle.cpu12_isa.specs.declared.form.Page.TheVariants.{One, Two, Transfer, AddIndexed}
 use Rattle.cpu12_isa.specs.declared.form.Operand.{Operand}
 use Rattle.cpu12_isa.specs.declared.form.Operand.TheVariants.{Byte, Word, Address, Offset, ByteToAddress}
 use Rattle.cpu12_isa.specs.declared.form.Operand.TheVariants.{AddressToAddress}
-use Rattle.cpu12_isa.specs.Fits.{EncodedIsShort, EncodedAreBytes}
-use Rattle.cpu12_isa.specs.Memory.{high_of, low_of}
+use Rattle.cpu12_isa.specs.{Fits.EncodedIsShort, Fits.EncodedAreBytes, Memory.high_of, Memory.low_of}
 use Rattle.cpu12_isa.specs.Forms.{form_of, prebytes, operand_bytes, FitsOperand}
 
 operand_short : (o : Operand) → length (operand_bytes o) ≤ 4

@@ -9,16 +9,13 @@ use Rattle.std.proofs.lemmas.Bool.Decides.{nat_tests}
 use Rattle.std.proofs.lemmas.Grind.{common_steps}
 use Rattle.std.proofs.lemmas.List.{get_or_past, length-set}
 use Rattle.std.proofs.lemmas.Nat.{widths}
-use Rattle.cpu12_isa.specs.declared.instr.Regs.{Regs}
-use Rattle.cpu12_isa.specs.declared.instr.Instr.{Instr}
+use Rattle.cpu12_isa.specs.declared.{instr.Regs.Regs, instr.Instr.Instr}
 use Rattle.cpu12_isa.specs.declared.instr.Instr.TheVariants.{LdaaImmediate, Fdiv}
 use Rattle.cpu12_isa.specs.declared.form.Page.TheVariants.{One, Two, Transfer, AddIndexed}
 use Rattle.cpu12_isa.specs.Act.{Act, Give, Get, outcome}
-use Rattle.cpu12_isa.specs.Memory.{plus, word_of, bytes_at}
+use Rattle.cpu12_isa.specs.{Memory.plus, Memory.word_of, Memory.bytes_at, Registers.divided_fraction, Meaning.act_of}
 use Rattle.cpu12_isa.specs.Flags.{put, carry, overflow, zero_result}
-use Rattle.cpu12_isa.specs.Registers.{divided_fraction}
 use Rattle.cpu12_isa.specs.Code.{FitsOperands, entry, page_of, decode_of, six_from}
-use Rattle.cpu12_isa.specs.Meaning.{act_of}
 use Rattle.cpu12_isa.specs.Fits.{FitsRegs, FitsWrites, AreBytes, Leaves, StaysFit, BytesStay, DecodedFits}
 
 pub leaves_outcome : {A : Type 0} (P : A → Type 0) (act : Act A) (m : List ℕ) → AreBytes m → Leaves P act

@@ -1,10 +1,7 @@
 -- What is pushed of the registers is pulled again.
 use Rattle.std.proofs.Common.{◌≡◌, ℕ, ◌+◌, ◌*◌, ◌/◌, ◌%◌, ◌^◌, true, ap, ◌∙◌, arith}
-use Rattle.cpu12_isa.specs.declared.instr.Regs.{Regs}
-use Rattle.cpu12_isa.specs.declared.instr.Ccr.{Ccr}
+use Rattle.cpu12_isa.specs.{declared.instr.Regs.Regs, declared.instr.Ccr.Ccr, Interrupts.FrameComesBack, Memory.plus}
 use Rattle.cpu12_isa.specs.Flags.{put, pulled_flags, interrupts_masked}
-use Rattle.cpu12_isa.specs.Interrupts.{FrameComesBack}
-use Rattle.cpu12_isa.specs.Memory.{plus}
 use Rattle.cpu12_isa.proofs.Bits.{pulled_again}
 
 pub frame_comes_back : FrameComesBack

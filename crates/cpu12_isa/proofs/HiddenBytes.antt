@@ -3,12 +3,10 @@ use Rattle.std.proofs.Common.{◌≡◌, ℕ, zero, suc, ◌+◌, ◌-◌, ◌<�
 use Rattle.std.proofs.Common.{length, refl, sym, ◌∙◌, arith, inl, inr, ◌⊎◌}
 use Rattle.std.proofs.lemmas.Bool.{or_parts, false≢true}
 use Rattle.std.proofs.lemmas.Bool.Decides.{nat_tests}
-use Rattle.cpu12_isa.specs.Act.{write_all}
+use Rattle.cpu12_isa.specs.{Act.write_all, Agreement.Agree, Agreement.AllShown}
 use Rattle.cpu12_isa.specs.Memory.{plus, from, placed}
-use Rattle.cpu12_isa.specs.Agreement.{Agree, AllShown}
 use Rattle.cpu12_isa.specs.Regions.{stack_start, stack_end, is_hidden, LeavesStack}
-use Rattle.cpu12_isa.proofs.Agreements.{unwritten, length_writes}
-use Rattle.cpu12_isa.proofs.Placing.{place_of}
+use Rattle.cpu12_isa.proofs.{Agreements.unwritten, Agreements.length_writes, Placing.place_of}
 
 -- what is hidden below a lower SP is so below a higher one
 pub hidden_less : (open_to : ℕ → Bool) (low high at : ℕ) → low ≤ high → is_hidden open_to high at ≡ false

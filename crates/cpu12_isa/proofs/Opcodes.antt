@@ -4,10 +4,8 @@ use Rattle.std.proofs.Common.{ap, sym, ◌∙◌, subst, inl, inr, ◌⊎◌}
 use Rattle.std.specs.Prelude.{if◌then◌else◌}
 use Rattle.std.proofs.lemmas.Bool.Decides.{nat_tests}
 use Rattle.std.proofs.Common.{arith}
-use Rattle.cpu12_isa.specs.declared.instr.Instr.{Instr}
-use Rattle.cpu12_isa.specs.declared.form.Page.{Page}
+use Rattle.cpu12_isa.specs.{declared.instr.Instr.Instr, declared.form.Page.Page, Forms.form_of, Forms.prebytes}
 use Rattle.cpu12_isa.specs.declared.form.Page.TheVariants.{One, Two, Transfer, AddIndexed}
-use Rattle.cpu12_isa.specs.Forms.{form_of, prebytes}
 use Rattle.cpu12_isa.specs.Code.{is_on, entry, page_of, StandFrom, DecodedHasOpcode}
 
 -- the entry is an instruction of the page, at its opcode

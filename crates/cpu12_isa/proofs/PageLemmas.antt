@@ -7,8 +7,7 @@ use Rattle.std.proofs.lemmas.List.{length-append, length-replicate, ext_get_or, 
 use Rattle.std.proofs.lemmas.List.{get_or-replicate, get_or_past, get_or-map, length-map, length-set, map-set}
 use Rattle.std.proofs.lemmas.List.{set-get_or}
 use Rattle.std.proofs.lemmas.List.Sums.{count_by-le-length, sum_by-set}
-use Rattle.cpu12_isa.specs.Memory.{zeros}
-use Rattle.cpu12_isa.specs.Pages.{ArePages, byte_in, bytes_in, given_in}
+use Rattle.cpu12_isa.specs.{Memory.zeros, Pages.ArePages, Pages.byte_in, Pages.bytes_in, Pages.given_in}
 
 pub length_bytes_in : (table pool : List ℕ) (n : ℕ) → length (bytes_in table pool n) ≡ n
 unfolding bytes_in

@@ -3,9 +3,8 @@ use Rattle.std.proofs.Common.{◌≡◌, ℕ, zero, suc, ◌+◌, ◌%◌, ◌^�
 use Rattle.std.proofs.Common.{refl, ap, sym, ◌∙◌, subst, arith, inl, inr, get_or-set_same}
 use Rattle.std.proofs.lemmas.List.{length-set}
 use Rattle.std.proofs.Math.ListN.{set}
-use Rattle.cpu12_isa.specs.Act.{write_all}
+use Rattle.cpu12_isa.specs.{Act.write_all, Agreement.Agree, Agreement.AllShown, Agreement.IsWritten}
 use Rattle.cpu12_isa.specs.Memory.{plus, from, placed, bytes_at}
-use Rattle.cpu12_isa.specs.Agreement.{Agree, AllShown, IsWritten}
 use Rattle.cpu12_isa.proofs.Agreements.{unwritten}
 
 -- k places further on

@@ -2,11 +2,8 @@
 -- Reached by the promise.
 use Rattle.std.specs.Prelude.{◌≡◌, ◌+◌, ◌==◌, ◌++◌, ℕ, Bool, true, false, if◌then◌else◌, Result, Ok, Err, List, [], ◌∷◌}
 use Rattle.std.specs.Prelude.{length, slice_index}
-use Rattle.cpu12_isa.specs.declared.instr.Instr.{Instr}
-use Rattle.cpu12_isa.specs.declared.form.Form.{Form}
-use Rattle.cpu12_isa.specs.declared.form.Page.{Page}
+use Rattle.cpu12_isa.specs.declared.{instr.Instr.Instr, form.Form.Form, form.Page.Page, form.Operand.Operand}
 use Rattle.cpu12_isa.specs.declared.form.Page.TheVariants.{One, Two, Transfer, AddIndexed}
-use Rattle.cpu12_isa.specs.declared.form.Operand.{Operand}
 use Rattle.cpu12_isa.specs.declared.form.Operand.TheVariants.{Word, Address, AddressToAddress}
 use Rattle.cpu12_isa.specs.Memory.{plus, word_of, bytes_at}
 use Rattle.cpu12_isa.specs.Forms.{form_of, Made, Alone, Of, OfBoth, every_form, prebytes, operand_bytes, FitsOperand}

@@ -1,11 +1,9 @@
 -- Registers and writes of the sizes that they have.
 -- Beside the promise.
 use Rattle.std.specs.Prelude.{◌≡◌, Ok, ℕ, ◌^◌, ◌<◌, ◌≤◌, List, [], ◌∷◌, length, All, slice_index}
-use Rattle.cpu12_isa.specs.declared.instr.Regs.{Regs}
-use Rattle.cpu12_isa.specs.declared.instr.Instr.{Instr}
+use Rattle.cpu12_isa.specs.declared.{instr.Regs.Regs, instr.Instr.Instr}
 use Rattle.cpu12_isa.specs.Act.{write_all, Act, Give, Get}
-use Rattle.cpu12_isa.specs.Code.{FitsOperands, decode_at, encode_of}
-use Rattle.cpu12_isa.specs.Meaning.{effect}
+use Rattle.cpu12_isa.specs.{Code.FitsOperands, Code.decode_at, Code.encode_of, Meaning.effect}
 
 pub record FitsRegs (r : Regs) : Type 0 where
   pub a : r.a < 2 ^ 8

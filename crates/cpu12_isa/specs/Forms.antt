@@ -1,27 +1,23 @@
 -- The table of instruction forms (CPU12 Reference Manual, appendix A).
 -- Reached by the promise.
 use Rattle.std.specs.Prelude.{ℕ, ◌^◌, ◌<◌, List, [], ◌∷◌, map}
-use Rattle.cpu12_isa.specs.declared.instr.Instr.{Instr}
+use Rattle.cpu12_isa.specs.declared.{instr.Instr.Instr, form.Form.Form, mnemonic.Mnemonic.Mnemonic}
 use Rattle.cpu12_isa.specs.declared.instr.Instr.TheVariants.{LdaaImmediate, LdaaExtended, LdabImmediate, LdabExtended}
 use Rattle.cpu12_isa.specs.declared.instr.Instr.TheVariants.{LdxImmediate, LdyImmediate, LdsImmediate, StaaExtended}
 use Rattle.cpu12_isa.specs.declared.instr.Instr.TheVariants.{StabExtended, ClrExtended, Coma, CpxImmediate, Beq, Bne}
 use Rattle.cpu12_isa.specs.declared.instr.Instr.TheVariants.{Bcc, Bcs, Bra, JsrExtended, Rts, Andcc, Orcc, TransferXD}
-use Rattle.cpu12_isa.specs.declared.instr.Instr.TheVariants.{TransferYD, Ediv, Fdiv, Rti, Nop, IncExtended, DecExtended}
-use Rattle.cpu12_isa.specs.declared.instr.Instr.TheVariants.{AddaImmediate, AddaExtended, AddbImmediate, AddbExtended}
-use Rattle.cpu12_isa.specs.declared.instr.Instr.TheVariants.{AddbPostIncrementX, AdcaImmediate, SubaImmediate}
-use Rattle.cpu12_isa.specs.declared.instr.Instr.TheVariants.{SubaExtended, CmpaImmediate, CmpaExtended, AndaImmediate}
-use Rattle.cpu12_isa.specs.declared.instr.Instr.TheVariants.{AndaExtended, OraaImmediate, OraaExtended, Inx, Dex, Iny}
-use Rattle.cpu12_isa.specs.declared.instr.Instr.TheVariants.{Dey, Psha, Pula, MovbImmediate, MovbExtended, Mem, Rev}
-use Rattle.cpu12_isa.specs.declared.instr.Instr.TheVariants.{Revw, Wav, Wavr}
-use Rattle.cpu12_isa.specs.declared.form.Form.{Form}
-use Rattle.cpu12_isa.specs.declared.mnemonic.Mnemonic.{Mnemonic}
+use Rattle.cpu12_isa.specs.declared.instr.Instr.TheVariants.{TransferYD, Ediv, Fdiv, Rti, Nop, IncExtended}
+use Rattle.cpu12_isa.specs.declared.instr.Instr.TheVariants.{DecExtended, AddaImmediate, AddaExtended, AddbImmediate}
+use Rattle.cpu12_isa.specs.declared.instr.Instr.TheVariants.{AddbExtended, AddbPostIncrementX, AdcaImmediate}
+use Rattle.cpu12_isa.specs.declared.instr.Instr.TheVariants.{SubaImmediate, SubaExtended, CmpaImmediate, CmpaExtended}
+use Rattle.cpu12_isa.specs.declared.instr.Instr.TheVariants.{AndaImmediate, AndaExtended, OraaImmediate, OraaExtended}
+use Rattle.cpu12_isa.specs.declared.instr.Instr.TheVariants.{Inx, Dex, Iny, Dey, Psha, Pula, MovbImmediate}
+use Rattle.cpu12_isa.specs.declared.instr.Instr.TheVariants.{MovbExtended, Mem, Rev, Revw, Wav, Wavr}
 use Rattle.cpu12_isa.specs.declared.mnemonic.Mnemonic.TheVariants as mnemonic
-use Rattle.cpu12_isa.specs.declared.form.Page.{Page}
+use Rattle.cpu12_isa.specs.{declared.form.Page.Page, declared.form.Operand.Operand, Memory.high_of, Memory.low_of}
 use Rattle.cpu12_isa.specs.declared.form.Page.TheVariants.{One, Two, Transfer, AddIndexed}
-use Rattle.cpu12_isa.specs.declared.form.Operand.{Operand}
 use Rattle.cpu12_isa.specs.declared.form.Operand.TheVariants.{Inherent, Byte, Word, Address, Offset, ByteToAddress}
 use Rattle.cpu12_isa.specs.declared.form.Operand.TheVariants.{AddressToAddress, XToD, YToD, PostIncrementX}
-use Rattle.cpu12_isa.specs.Memory.{high_of, low_of}
 
 abbrev row : Mnemonic → Page → ℕ → Operand → Form
 row mnemonic page opcode operand = record { mnemonic = mnemonic; page = page; opcode = opcode; operand = operand }

@@ -1,13 +1,9 @@
 -- What an interrupt pushes of the registers comes back, and what it hides of the stack.
 -- Beside the promise.
 use Rattle.std.specs.Prelude.{◌≡◌, ℕ, ◌+◌, ◌-◌, ◌≤◌, Bool, true, List, length}
-use Rattle.cpu12_isa.specs.declared.instr.Regs.{Regs}
-use Rattle.cpu12_isa.specs.Act.{write_all}
-use Rattle.cpu12_isa.specs.Agreement.{Agree, AllShown}
-use Rattle.cpu12_isa.specs.Fits.{FitsRegs}
-use Rattle.cpu12_isa.specs.Flags.{interrupts_masked, put}
-use Rattle.cpu12_isa.specs.Memory.{plus, from, placed}
-use Rattle.cpu12_isa.specs.Registers.{frame_bytes, pulled}
+use Rattle.cpu12_isa.specs.{declared.instr.Regs.Regs, Act.write_all, Agreement.Agree, Agreement.AllShown}
+use Rattle.cpu12_isa.specs.{Fits.FitsRegs, Flags.interrupts_masked, Flags.put}
+use Rattle.cpu12_isa.specs.{Memory.plus, Memory.from, Memory.placed, Registers.frame_bytes, Registers.pulled}
 use Rattle.cpu12_isa.specs.Regions.{stack_start, stack_end, is_hidden, LeavesStack}
 
 -- The nine bytes of the registers, pulled from nine bytes below SP while I is set, give the registers again.

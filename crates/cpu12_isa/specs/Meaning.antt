@@ -1,26 +1,25 @@
 -- What an instruction does (CPU12 Reference Manual, section 6), but for REV, REVW and WAV, which are done in parts.
 -- Reached by the promise.
 use Rattle.std.specs.Prelude.{◌+◌, ◌%◌, ◌^◌, ◌==◌, not, ℕ, Bool, true, false, bit_and, bit_or, List, [], ◌∷◌}
-use Rattle.cpu12_isa.specs.declared.instr.Regs.{Regs}
-use Rattle.cpu12_isa.specs.declared.instr.Instr.{Instr}
+use Rattle.cpu12_isa.specs.declared.{instr.Regs.Regs, instr.Instr.Instr}
 use Rattle.cpu12_isa.specs.declared.instr.Instr.TheVariants.{LdaaImmediate, LdaaExtended, LdabImmediate, LdabExtended}
 use Rattle.cpu12_isa.specs.declared.instr.Instr.TheVariants.{LdxImmediate, LdyImmediate, LdsImmediate, StaaExtended}
 use Rattle.cpu12_isa.specs.declared.instr.Instr.TheVariants.{StabExtended, ClrExtended, Coma, CpxImmediate, Beq, Bne}
 use Rattle.cpu12_isa.specs.declared.instr.Instr.TheVariants.{Bcc, Bcs, Bra, JsrExtended, Rts, Andcc, Orcc, TransferXD}
-use Rattle.cpu12_isa.specs.declared.instr.Instr.TheVariants.{TransferYD, Ediv, Fdiv, Rti, Nop, IncExtended, DecExtended}
-use Rattle.cpu12_isa.specs.declared.instr.Instr.TheVariants.{AddaImmediate, AddaExtended, AddbImmediate, AddbExtended}
-use Rattle.cpu12_isa.specs.declared.instr.Instr.TheVariants.{AddbPostIncrementX, AdcaImmediate, SubaImmediate}
-use Rattle.cpu12_isa.specs.declared.instr.Instr.TheVariants.{SubaExtended, CmpaImmediate, CmpaExtended, AndaImmediate}
-use Rattle.cpu12_isa.specs.declared.instr.Instr.TheVariants.{AndaExtended, OraaImmediate, OraaExtended, Inx, Dex, Iny}
-use Rattle.cpu12_isa.specs.declared.instr.Instr.TheVariants.{Dey, Psha, Pula, MovbImmediate, MovbExtended, Mem, Rev}
-use Rattle.cpu12_isa.specs.declared.instr.Instr.TheVariants.{Revw, Wav, Wavr}
+use Rattle.cpu12_isa.specs.declared.instr.Instr.TheVariants.{TransferYD, Ediv, Fdiv, Rti, Nop, IncExtended}
+use Rattle.cpu12_isa.specs.declared.instr.Instr.TheVariants.{DecExtended, AddaImmediate, AddaExtended, AddbImmediate}
+use Rattle.cpu12_isa.specs.declared.instr.Instr.TheVariants.{AddbExtended, AddbPostIncrementX, AdcaImmediate}
+use Rattle.cpu12_isa.specs.declared.instr.Instr.TheVariants.{SubaImmediate, SubaExtended, CmpaImmediate, CmpaExtended}
+use Rattle.cpu12_isa.specs.declared.instr.Instr.TheVariants.{AndaImmediate, AndaExtended, OraaImmediate, OraaExtended}
+use Rattle.cpu12_isa.specs.declared.instr.Instr.TheVariants.{Inx, Dex, Iny, Dey, Psha, Pula, MovbImmediate}
+use Rattle.cpu12_isa.specs.declared.instr.Instr.TheVariants.{MovbExtended, Mem, Rev, Revw, Wav, Wavr}
 use Rattle.cpu12_isa.specs.Act.{Act, Give, Get, outcome, get_all}
 use Rattle.cpu12_isa.specs.Memory.{plus, from, word_of, high_of, low_of}
 use Rattle.cpu12_isa.specs.Flags.{carry, overflow, zero_result, hnzvc, has, put, opened}
-use Rattle.cpu12_isa.specs.Registers.{passed, stored, loaded_a, loaded_b, loaded_x, loaded_y, loaded_sp, complemented_a}
-use Rattle.cpu12_isa.specs.Registers.{compared_x, compared_a, added_a, added_b, carried_a, subtracted_a, anded_a}
-use Rattle.cpu12_isa.specs.Registers.{ored_a, moved_x, moved_y, transferred_d, branched, divided, divided_fraction}
-use Rattle.cpu12_isa.specs.Registers.{grade, pulled}
+use Rattle.cpu12_isa.specs.Registers.{passed, stored, loaded_a, loaded_b, loaded_x, loaded_y, loaded_sp}
+use Rattle.cpu12_isa.specs.Registers.{complemented_a, compared_x, compared_a, added_a, added_b, carried_a}
+use Rattle.cpu12_isa.specs.Registers.{subtracted_a, anded_a, ored_a, moved_x, moved_y, transferred_d, branched}
+use Rattle.cpu12_isa.specs.Registers.{divided, divided_fraction, grade, pulled}
 
 -- the registers after an instruction, and what it writes, in order
 pub record Effect : Type 0 where

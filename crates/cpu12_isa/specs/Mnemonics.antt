@@ -3,10 +3,10 @@
 use Rattle.std.specs.Prelude.{ℕ, List, codes}
 use Rattle.cpu12_isa.specs.declared.mnemonic.Mnemonic.{Mnemonic}
 use Rattle.cpu12_isa.specs.declared.mnemonic.Mnemonic.TheVariants.{Ldaa, Ldab, Ldx, Ldy, Lds, Staa, Stab, Clr, Coma}
-use Rattle.cpu12_isa.specs.declared.mnemonic.Mnemonic.TheVariants.{Cpx, Beq, Bne, Bcc, Bcs, Bra, Jsr, Rts, Andcc, Orcc}
-use Rattle.cpu12_isa.specs.declared.mnemonic.Mnemonic.TheVariants.{Tfr, Ediv, Fdiv, Rti, Nop, Inc, Dec, Adda, Addb}
-use Rattle.cpu12_isa.specs.declared.mnemonic.Mnemonic.TheVariants.{Adca, Suba, Cmpa, Anda, Oraa, Inx, Dex, Iny, Dey}
-use Rattle.cpu12_isa.specs.declared.mnemonic.Mnemonic.TheVariants.{Psha, Pula, Movb, Mem, Rev, Revw, Wav, Wavr}
+use Rattle.cpu12_isa.specs.declared.mnemonic.Mnemonic.TheVariants.{Cpx, Beq, Bne, Bcc, Bcs, Bra, Jsr, Rts, Andcc}
+use Rattle.cpu12_isa.specs.declared.mnemonic.Mnemonic.TheVariants.{Orcc, Tfr, Ediv, Fdiv, Rti, Nop, Inc, Dec, Adda}
+use Rattle.cpu12_isa.specs.declared.mnemonic.Mnemonic.TheVariants.{Addb, Adca, Suba, Cmpa, Anda, Oraa, Inx, Dex, Iny}
+use Rattle.cpu12_isa.specs.declared.mnemonic.Mnemonic.TheVariants.{Dey, Psha, Pula, Movb, Mem, Rev, Revw, Wav, Wavr}
 
 -- the letters of a mnemonic
 abbrev pub text_of : Mnemonic → List ℕ

@@ -2,8 +2,7 @@
 -- Reached by the promise.
 use Rattle.std.specs.Prelude.{◌+◌, ◌-◌, ◌*◌, ◌/◌, ◌%◌, ◌^◌, ◌==◌, nat_lt, nat_le, ◌||◌, min, ℕ, Bool, true, false}
 use Rattle.std.specs.Prelude.{if◌then◌else◌, bit_and, bit_or, List, [], ◌∷◌, slice_index}
-use Rattle.cpu12_isa.specs.declared.instr.Regs.{Regs}
-use Rattle.cpu12_isa.specs.Memory.{plus, word_of, high_of, low_of}
+use Rattle.cpu12_isa.specs.{declared.instr.Regs.Regs, Memory.plus, Memory.word_of, Memory.high_of, Memory.low_of}
 use Rattle.cpu12_isa.specs.Flags.{carry, overflow, zero_result, nzv, nz, put, opened, tested, tested_word, added}
 use Rattle.cpu12_isa.specs.Flags.{sum_with_carry, added_with_carry, subtracted, subtracted_word, pulled_flags}
 

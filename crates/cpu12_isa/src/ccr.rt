@@ -1,7 +1,7 @@
 //! The condition codes.
 ghost use Rattle.std.specs.Prelude.{ℕ, ◌≡◌, ◌+◌, ◌-◌, ◌*◌, ◌/◌, ◌%◌, ◌^◌, ◌<◌, ◌≤◌};
-ghost use Rattle.cpu12_isa.specs.Flags.{has, put, opened, tested, tested_word, added, sum_with_carry, added_with_carry};
-ghost use Rattle.cpu12_isa.specs.Flags.{subtracted, subtracted_word, pulled_flags};
+ghost use Rattle.cpu12_isa.specs.Flags.{has, put, opened, tested, tested_word, added, sum_with_carry};
+ghost use Rattle.cpu12_isa.specs.Flags.{added_with_carry, subtracted, subtracted_word, pulled_flags};
 
 use crate::instr::Ccr;
 

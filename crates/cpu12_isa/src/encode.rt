@@ -1,8 +1,7 @@
 //! Instructions as bytes.
 ghost use Rattle.std.specs.Prelude.{◌≡◌, ◌≤◌, ◌+◌, [], ◌∷◌, ◌++◌};
 ghost use Rattle.arrayvec.specs.ArrayVec.{array_vec_len};
-ghost use Rattle.cpu12_isa.specs.Memory.{high_of, low_of};
-ghost use Rattle.cpu12_isa.specs.Forms.{prebytes, operand_bytes};
+ghost use Rattle.cpu12_isa.specs.{Memory.high_of, Memory.low_of, Forms.prebytes, Forms.operand_bytes};
 ghost use Rattle.cpu12_isa.specs.Code.{encode_of, form_bytes};
 
 use crate::form::{Form, Operand, Page};

@@ -1,7 +1,6 @@
 //! Doing an instruction.
 ghost use Rattle.std.specs.Prelude.{ℕ, ◌≡◌, ◌+◌, ◌-◌, ◌*◌, ◌/◌, ◌%◌, ◌^◌, ◌<◌, ◌≤◌, IsTrue};
-ghost use Rattle.cpu12_isa.specs.Act.{write_all};
-ghost use Rattle.cpu12_isa.specs.Meaning.{effect, is_plain};
+ghost use Rattle.cpu12_isa.specs.{Act.write_all, Meaning.effect, Meaning.is_plain};
 
 use crate::ccr::{CARRY, HNZVC, OVERFLOW, ZERO};
 use crate::instr::{Ccr, Instr, Regs};

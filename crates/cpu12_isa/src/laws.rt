@@ -1,10 +1,8 @@
 //! Laws of instructions and memories.
-ghost use Rattle.cpu12_isa.specs.Meaning.{Effect};
-ghost use Rattle.cpu12_isa.specs.Code.{DecodedHasOpcode};
+ghost use Rattle.cpu12_isa.specs.{Meaning.Effect, Code.DecodedHasOpcode, Watching.NothingIsWatched};
 ghost use Rattle.cpu12_isa.specs.Fits.{StaysFit, BytesStay, DecodedFits, EncodedIsShort, EncodedAreBytes};
 ghost use Rattle.cpu12_isa.specs.Agreement.{ReadsAlone, WritesAgree, WritesStay};
 ghost use Rattle.cpu12_isa.specs.Interrupts.{FrameComesBack, HidesMoreAbove, ShowsFromSp, HidesPushed};
-ghost use Rattle.cpu12_isa.specs.Watching.{NothingIsWatched};
 ghost use Rattle.cpu12_isa.specs.Pages.{GivenAreWritten};
 
 /// What an instruction does depends on the bytes that it reads alone.

@@ -1,8 +1,7 @@
 //! Memory, and words in it.
 ghost use Rattle.std.specs.Prelude.{ℕ, ◌≡◌, List, Option, length, slice_index, slice_set, IfOk};
 ghost use Rattle.cpu12_isa.specs.Memory.{zeros, word_of, high_of, low_of};
-ghost use Rattle.cpu12_isa.specs.Regions.{is_free};
-ghost use Rattle.cpu12_isa.specs.Watching.{nothing_noted, length_nothing_noted};
+ghost use Rattle.cpu12_isa.specs.{Regions.is_free, Watching.nothing_noted, Watching.length_nothing_noted};
 
 use fz_list::Memory;
 use std::alloc::{AllocError, Global};

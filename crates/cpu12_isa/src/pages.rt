@@ -2,8 +2,7 @@
 ghost use Rattle.std.specs.Prelude.{ℕ, ◌≡◌, ◌≢◌, ◌==◌, ◌/◌, ◌<◌, true, false, if◌then◌else◌, count_by, length};
 ghost use Rattle.std.specs.Prelude.{replicate, slice_index, slice_set, IfOk};
 ghost use Rattle.cpu12_isa.specs.Pages.{ArePages, bytes_in, given_in, given_with};
-ghost use Rattle.cpu12_isa.specs.Memory.{zeros};
-ghost use Rattle.cpu12_isa.specs.Watching.{nothing_noted, length_nothing_noted};
+ghost use Rattle.cpu12_isa.specs.{Memory.zeros, Watching.nothing_noted, Watching.length_nothing_noted};
 
 use crate::mem::{Mem, zeroed};
 use fz_list::Memory;

@@ -1,8 +1,7 @@
 //! Bytes on the stack.
 ghost use Rattle.std.specs.Prelude.{ℕ, ◌≡◌, slice_index};
-ghost use Rattle.cpu12_isa.specs.Act.{write_all};
+ghost use Rattle.cpu12_isa.specs.{Act.write_all, Registers.frame_bytes, Registers.pulled};
 ghost use Rattle.cpu12_isa.specs.Memory.{plus, word_of, placed, from, bytes_at};
-ghost use Rattle.cpu12_isa.specs.Registers.{frame_bytes, pulled};
 
 use crate::instr::Regs;
 use crate::mem::{Mem, high_of, low_of, word_of};

@@ -1,8 +1,7 @@
 -- The plain algebra of sums and of executions that the crates above use.
 use Rattle.std.proofs.Common.{◌≡◌, ℕ, refl, inl, inr, ◌⊎◌}
-use Rattle.cpu12_parts.specs.declared.temps.Temps.{Temps}
+use Rattle.cpu12_parts.specs.{declared.temps.Temps.Temps, Laws.IsOff}
 use Rattle.cpu12_parts.specs.declared.temps.Temps.TheVariants.{Free, Running, OnStack}
-use Rattle.cpu12_parts.specs.Laws.{IsOff}
 pub use Rattle.cpu12_parts.proofs.ExecutionLemmas.{execution_on, steps_append}
 pub use Rattle.cpu12_parts.proofs.ExecutionLemmas.{Bounded, bounded_none, bounded_one, bounded_on, bounded_more}
 

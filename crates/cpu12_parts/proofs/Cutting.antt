@@ -1,12 +1,10 @@
 -- Parts cut at any boundaries come to the same end.
 use Rattle.std.proofs.Common.{◌≡◌, ℕ, zero, suc, ◌^◌, ◌<◌, Bool, true, false, List, [], ◌∷◌, length, refl, ap, sym, ◌∙◌}
 use Rattle.std.proofs.Common.{subst, arith, inl}
-use Rattle.cpu12_isa.specs.declared.instr.Regs.{Regs}
-use Rattle.cpu12_isa.specs.Act.{outcome, read_by, write_all}
+use Rattle.cpu12_isa.specs.{declared.instr.Regs.Regs, Act.outcome, Act.read_by, Act.write_all}
 use Rattle.cpu12_isa.specs.Agreement.{Agree, AllShown, WritesAgree}
 use Rattle.cpu12_isa.proofs.Algebra.{same_outcome, length_writes, agree_with, agree_self}
-use Rattle.cpu12_parts.specs.declared.temps.Temps.{Temps}
-use Rattle.cpu12_parts.specs.State.{State, Outcome}
+use Rattle.cpu12_parts.specs.{declared.temps.Temps.Temps, State.State, State.Outcome}
 use Rattle.cpu12_parts.specs.Cuts.{Kind, part_of, after_part, suspended, resumed, cut, cut_run, EndsWith}
 use Rattle.cpu12_parts.specs.Laws.{PartsTo, below, IsLike, Any, GoesOn, KeepsNothing, IsSteady, CutsChangeNothing}
 

@@ -1,7 +1,6 @@
 -- Executions one behind the other, whatever their steps are, and those of so many steps at most.
 use Rattle.std.proofs.Common.{◌≡◌, ℕ, ◌+◌, ◌≤◌, List, [], ◌∷◌, ◌++◌, length, refl, sym, subst, arith, length-append}
-use Rattle.cpu12_parts.specs.State.{State}
-use Rattle.cpu12_parts.specs.Executions.{Execution, all_steps}
+use Rattle.cpu12_parts.specs.{State.State, Executions.Execution, Executions.all_steps}
 
 pub execution_on : (W : ℕ → State → State → Type 0) (ds es : List ℕ) (s t u : State) → Execution W ds s t
     → Execution W es t u → Execution W (ds ++ es) s u

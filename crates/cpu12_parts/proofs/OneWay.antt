@@ -2,15 +2,11 @@
 use Rattle.std.proofs.Common.{◌≡◌, inl, inr, ℕ, ◌<◌, ◌≤◌, Bool, true, false, cond, Ok, Err, Result, List, [], ◌∷◌, ◌++◌}
 use Rattle.std.proofs.Common.{length, refl, sym, ap, ap₂, ◌∙◌, subst}
 use Rattle.std.proofs.Common.{arith}
-use Rattle.cpu12_isa.specs.declared.instr.Instr.{Instr}
+use Rattle.cpu12_isa.specs.{declared.instr.Instr.Instr, Code.decode_at, Memory.plus, Meaning.is_plain}
 use Rattle.cpu12_isa.specs.declared.instr.Instr.TheVariants.{Rev, Revw, Wav, Nop}
-use Rattle.cpu12_isa.specs.Code.{decode_at}
-use Rattle.cpu12_isa.specs.Memory.{plus}
-use Rattle.cpu12_isa.specs.Meaning.{is_plain}
-use Rattle.cpu12_parts.specs.State.{State}
+use Rattle.cpu12_parts.specs.{State.State, Whole.after_plain, Whole.IsRulesStep, Whole.IsWholeStep}
 use Rattle.cpu12_parts.specs.Rules.{Rule, Form, rev_form, revw_form, elements_of, Listed, AreNames, AreRules}
 use Rattle.cpu12_parts.specs.Rules.{AreWeights, rules_whole}
-use Rattle.cpu12_parts.specs.Whole.{after_plain, IsRulesStep, IsWholeStep}
 use Rattle.cpu12_parts.specs.Executions.{Execution, IsStepBefore, ExecutionsAreOne}
 
 abbrev instr_of : Result Instr ℕ → Instr

@@ -2,21 +2,16 @@
 use Rattle.std.proofs.Common.{ℕ, ◌+◌, ◌-◌, ◌*◌, ◌%◌, ◌^◌, ◌<◌, ◌≤◌, ◌==◌, min, max, Bool, true, false, if◌then◌else◌}
 use Rattle.std.proofs.Common.{[], ◌∷◌, arith}
 use Rattle.std.proofs.Math.Nat.{div-lt_iff_lt-mul, mul-le-mul_left}
-use Rattle.cpu12_isa.specs.declared.instr.Regs.{Regs}
-use Rattle.cpu12_isa.specs.declared.instr.Ccr.{Ccr}
-use Rattle.cpu12_isa.specs.Act.{Act, Give, Get}
-use Rattle.cpu12_isa.specs.Memory.{plus, word_of}
+use Rattle.cpu12_isa.specs.declared.{instr.Regs.Regs, instr.Ccr.Ccr}
+use Rattle.cpu12_isa.specs.{Act.Act, Act.Give, Act.Get, Memory.plus, Memory.word_of, Fits.FitsRegs, Fits.Leaves}
 use Rattle.cpu12_isa.specs.Flags.{has, put, opened, carry, overflow, zero_result, hnzc, hnz, hnvc, hnzvc}
-use Rattle.cpu12_isa.specs.Fits.{FitsRegs, Leaves}
-use Rattle.cpu12_isa.proofs.Algebra.{fits_put, fits_opened}
-use Rattle.cpu12_isa.proofs.Algebra.{leaves_outcome}
+use Rattle.cpu12_isa.proofs.Algebra.{fits_put, fits_opened, leaves_outcome}
 use Rattle.cpu12_parts.specs.declared.temps.Temps.{Temps}
 use Rattle.cpu12_parts.specs.declared.temps.Temps.TheVariants.{Free, Running, OnStack}
 use Rattle.cpu12_parts.specs.declared.temps.PartEnd.TheVariants.{More, Done}
-use Rattle.cpu12_parts.specs.State.{Outcome}
+use Rattle.cpu12_parts.specs.{State.Outcome, Cuts.rev, Cuts.revw, Cuts.wav}
 use Rattle.cpu12_parts.specs.Parts.{leaving, weighted, met, rev_element, rev_act, revw_element, revw_act, wav_end}
 use Rattle.cpu12_parts.specs.Parts.{wav_from, wav_act}
-use Rattle.cpu12_parts.specs.Cuts.{rev, revw, wav}
 use Rattle.cpu12_parts.specs.Fits.{FitsTemps, FitsOutcome, PartFits}
 
 leaves_if : (b : Bool) (p q : Act Outcome) → Leaves FitsOutcome p → Leaves FitsOutcome q

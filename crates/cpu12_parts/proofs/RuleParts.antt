@@ -4,24 +4,17 @@ use Rattle.std.proofs.Common.{refl, ap, sym, ◌∙◌, subst, arith}
 use Rattle.std.proofs.Common.{get_or-set_other}
 use Rattle.std.proofs.lemmas.Bool.{false≢true}
 use Rattle.std.proofs.Math.ListN.{set}
-use Rattle.cpu12_isa.specs.declared.instr.Regs.{Regs}
-use Rattle.cpu12_isa.specs.declared.instr.Ccr.{Ccr}
-use Rattle.cpu12_isa.specs.Act.{read_by}
-use Rattle.cpu12_isa.specs.Memory.{plus, from}
-use Rattle.cpu12_isa.specs.Flags.{has, put, opened, overflow}
-use Rattle.cpu12_isa.specs.Agreement.{AllShown}
-use Rattle.cpu12_isa.proofs.Algebra.{shown_append, shown_left, shown_right}
-use Rattle.cpu12_isa.proofs.Algebra.{fits_put, fits_opened, bit_or_is, bit_and_is}
+use Rattle.cpu12_isa.specs.{declared.instr.Regs.Regs, declared.instr.Ccr.Ccr, Act.read_by, Memory.plus, Memory.from}
+use Rattle.cpu12_isa.specs.{Flags.has, Flags.put, Flags.opened, Flags.overflow, Agreement.AllShown}
+use Rattle.cpu12_isa.proofs.Algebra.{shown_append, shown_left, shown_right, fits_put, fits_opened, bit_or_is}
+use Rattle.cpu12_isa.proofs.Algebra.{bit_and_is}
 use Rattle.cpu12_parts.specs.declared.temps.Temps.{Temps}
 use Rattle.cpu12_parts.specs.declared.temps.PartEnd.TheVariants.{More, Done}
-use Rattle.cpu12_parts.specs.State.{State, Outcome, state_after}
-use Rattle.cpu12_parts.specs.Parts.{weighted}
-use Rattle.cpu12_parts.specs.Cuts.{Kind, part_of}
+use Rattle.cpu12_parts.specs.{State.State, State.Outcome, State.state_after, Parts.weighted, Cuts.Kind, Cuts.part_of}
 use Rattle.cpu12_parts.specs.Rules.{Rule, Form, elements_of, Listed, behind, AreNames, AreRules, AreWeights}
-use Rattle.cpu12_parts.specs.Rules.{behind_weights, least, strength, raised, concluded}
-use Rattle.cpu12_parts.specs.Rules.{all_concluded, last_strength, element_bytes, weight_bytes, named, rules_named}
-use Rattle.cpu12_parts.specs.Rules.{rules_target, rules_read, rules_written}
-use Rattle.cpu12_parts.specs.Rules.{NotIn, AreApart, AreReady, rules_whole}
+use Rattle.cpu12_parts.specs.Rules.{behind_weights, least, strength, raised, concluded, all_concluded, last_strength}
+use Rattle.cpu12_parts.specs.Rules.{element_bytes, weight_bytes, named, rules_named, rules_target, rules_read}
+use Rattle.cpu12_parts.specs.Rules.{rules_written, NotIn, AreApart, AreReady, rules_whole}
 use Rattle.cpu12_parts.specs.Laws.{PartsTo, addresses, state_of}
 
 -- a state within the instruction

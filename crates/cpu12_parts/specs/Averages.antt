@@ -1,11 +1,8 @@
 -- What WAV makes of whole lists (CPU12 Reference Manual, section 9.5).
 -- Beside the promise.
 use Rattle.std.specs.Prelude.{ℕ, ◌+◌, ◌*◌, ◌%◌, ◌^◌, List, [], ◌∷◌, ◌++◌}
-use Rattle.cpu12_isa.specs.declared.instr.Regs.{Regs}
-use Rattle.cpu12_isa.specs.Memory.{plus, from, bytes_at}
-use Rattle.cpu12_parts.specs.declared.temps.Temps.TheVariants.{Free}
-use Rattle.cpu12_parts.specs.State.{State}
-use Rattle.cpu12_parts.specs.Parts.{wav_end}
+use Rattle.cpu12_isa.specs.{declared.instr.Regs.Regs, Memory.plus, Memory.from, Memory.bytes_at}
+use Rattle.cpu12_parts.specs.{declared.temps.Temps.TheVariants.Free, State.State, Parts.wav_end}
 
 -- the sum of the products of two lists
 abbrev pub dot : List ℕ → List ℕ → ℕ

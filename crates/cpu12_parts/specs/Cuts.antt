@@ -1,8 +1,7 @@
 -- Instructions in parts, and the boundaries between two parts where an interrupt may cut in.
 -- Reached by the promise.
 use Rattle.std.specs.Prelude.{◌≡◌, ℕ, Bool, true, false, List, [], ◌∷◌}
-use Rattle.cpu12_isa.specs.declared.instr.Regs.{Regs}
-use Rattle.cpu12_isa.specs.Act.{Act, outcome}
+use Rattle.cpu12_isa.specs.{declared.instr.Regs.Regs, Act.Act, Act.outcome}
 use Rattle.cpu12_parts.specs.declared.temps.Temps.{Temps}
 use Rattle.cpu12_parts.specs.declared.temps.PartEnd.TheVariants.{More, Done}
 use Rattle.cpu12_parts.specs.State.{State, Outcome, state_after}

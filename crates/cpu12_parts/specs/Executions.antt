@@ -1,8 +1,7 @@
 -- Whole instructions one after another.
 -- Beside the promise.
 use Rattle.std.specs.Prelude.{◌≡◌, ℕ, suc, ◌+◌, Bool, true, false, List, [], ◌∷◌}
-use Rattle.cpu12_parts.specs.State.{State}
-use Rattle.cpu12_parts.specs.Whole.{IsWholeStep}
+use Rattle.cpu12_parts.specs.{State.State, Whole.IsWholeStep}
 
 -- steps of one kind, each with the number of its parts beyond the first
 abbrev pub Execution : (ℕ → State → State → Type 0) → List ℕ → State → State → Type 0

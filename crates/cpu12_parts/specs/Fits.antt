@@ -2,10 +2,8 @@
 -- Beside the promise.
 use Rattle.std.specs.Prelude.{ℕ, ◌^◌, ◌<◌}
 use Rattle.cpu12_isa.specs.Fits.{FitsRegs, FitsWrites, AreBytes}
-use Rattle.cpu12_parts.specs.declared.temps.Temps.{Temps}
+use Rattle.cpu12_parts.specs.{declared.temps.Temps.Temps, State.State, State.Outcome, Cuts.Kind, Cuts.part_of}
 use Rattle.cpu12_parts.specs.declared.temps.Temps.TheVariants.{Free, Running, OnStack}
-use Rattle.cpu12_parts.specs.State.{State, Outcome}
-use Rattle.cpu12_parts.specs.Cuts.{Kind, part_of}
 
 abbrev pub FitsTemps : Temps → Type 0
 FitsTemps Free = Unit {0}

@@ -3,16 +3,14 @@
 use Rattle.std.specs.Prelude.{◌≡◌, ℕ, zero, suc, ◌+◌, ◌-◌, ◌%◌, ◌^◌, ◌<◌, ◌⊎◌, Bool, true, nat_lt, List, [], ◌∷◌}
 use Rattle.std.specs.Prelude.{length}
 use Rattle.cpu12_isa.specs.declared.instr.Regs.{Regs}
-use Rattle.cpu12_isa.specs.Act.{outcome, read_by}
-use Rattle.cpu12_isa.specs.Agreement.{Agree, AllShown, IsWritten}
+use Rattle.cpu12_isa.specs.{Act.outcome, Act.read_by, Agreement.Agree, Agreement.AllShown, Agreement.IsWritten}
 use Rattle.cpu12_parts.specs.declared.temps.Temps.{Temps}
 use Rattle.cpu12_parts.specs.declared.temps.Temps.TheVariants.{Free, Running, OnStack}
 use Rattle.cpu12_parts.specs.declared.temps.PartEnd.TheVariants.{More, Done}
-use Rattle.cpu12_parts.specs.State.{State}
+use Rattle.cpu12_parts.specs.{State.State, Averages.wav_read, Averages.wav_whole}
 use Rattle.cpu12_parts.specs.Cuts.{Kind, rev, revw, wav, part_of, after_part, suspended, resumed, cut_run, EndsWith}
 use Rattle.cpu12_parts.specs.Rules.{Rule, rev_form, revw_form, elements_of, rules_read, rules_written, AreReady}
 use Rattle.cpu12_parts.specs.Rules.{rules_whole}
-use Rattle.cpu12_parts.specs.Averages.{wav_read, wav_whole}
 
 -- the addresses of writes
 abbrev pub addresses : List (ℕ × ℕ) → List ℕ

@@ -2,15 +2,11 @@
 -- Reached by the promise.
 use Rattle.std.specs.Prelude.{ℕ, ◌+◌, ◌-◌, ◌*◌, ◌/◌, ◌%◌, ◌^◌, ◌==◌, min, max, true, false, if◌then◌else◌, [], ◌∷◌}
 use Rattle.cpu12_isa.specs.declared.instr.Regs.{Regs}
-use Rattle.cpu12_isa.specs.Act.{Act, Give, Get}
-use Rattle.cpu12_isa.specs.Memory.{plus, word_of}
+use Rattle.cpu12_isa.specs.{Act.Act, Act.Give, Act.Get, Memory.plus, Memory.word_of, Registers.passed}
 use Rattle.cpu12_isa.specs.Flags.{has, put, opened, carry, overflow, zero_result, hnzc, hnz, hnvc, hnzvc}
-use Rattle.cpu12_isa.specs.Registers.{passed}
-use Rattle.cpu12_parts.specs.declared.temps.Temps.{Temps}
+use Rattle.cpu12_parts.specs.{declared.temps.Temps.Temps, declared.temps.PartEnd.PartEnd, State.Outcome}
 use Rattle.cpu12_parts.specs.declared.temps.Temps.TheVariants.{Free, Running, OnStack}
-use Rattle.cpu12_parts.specs.declared.temps.PartEnd.{PartEnd}
 use Rattle.cpu12_parts.specs.declared.temps.PartEnd.TheVariants.{More, Done}
-use Rattle.cpu12_parts.specs.State.{Outcome}
 
 -- a part that writes nothing
 abbrev pub leaving : Regs → Temps → PartEnd → Act Outcome

@@ -2,13 +2,10 @@
 -- Beside the promise.
 use Rattle.std.specs.Prelude.{◌≡◌, ◌≢◌, ℕ, ◌<◌, min, max, Bool, true, false, List, [], ◌∷◌, ◌++◌, slice_index}
 use Rattle.std.specs.Prelude.{slice_set}
-use Rattle.cpu12_isa.specs.declared.instr.Regs.{Regs}
-use Rattle.cpu12_isa.specs.declared.instr.Ccr.{Ccr}
+use Rattle.cpu12_isa.specs.declared.{instr.Regs.Regs, instr.Ccr.Ccr}
 use Rattle.cpu12_isa.specs.Memory.{plus, from, word_of}
 use Rattle.cpu12_isa.specs.Flags.{has, put, opened, carry, overflow, hnzc, hnz}
-use Rattle.cpu12_parts.specs.declared.temps.Temps.{Temps}
-use Rattle.cpu12_parts.specs.State.{State}
-use Rattle.cpu12_parts.specs.Parts.{weighted}
+use Rattle.cpu12_parts.specs.{declared.temps.Temps.Temps, State.State, Parts.weighted}
 
 -- a rule: the elements of its antecedents and conclusions, and its weight byte
 pub record Rule : Type 0 where

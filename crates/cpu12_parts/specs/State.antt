@@ -1,10 +1,8 @@
 -- States of the machine, and what a part of an instruction leaves.
 -- Reached by the promise.
 use Rattle.std.specs.Prelude.{ℕ, List}
-use Rattle.cpu12_isa.specs.declared.instr.Regs.{Regs}
-use Rattle.cpu12_isa.specs.Act.{write_all}
-use Rattle.cpu12_parts.specs.declared.temps.Temps.{Temps}
-use Rattle.cpu12_parts.specs.declared.temps.PartEnd.{PartEnd}
+use Rattle.cpu12_isa.specs.{declared.instr.Regs.Regs, Act.write_all}
+use Rattle.cpu12_parts.specs.declared.{temps.Temps.Temps, temps.PartEnd.PartEnd}
 
 -- registers, WAV's sums, and the 65536 bytes of memory
 pub record State : Type 0 where

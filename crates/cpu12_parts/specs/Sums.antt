@@ -2,13 +2,10 @@
 -- Reached by the promise.
 use Rattle.std.specs.Prelude.{ℕ, ◌+◌, ◌*◌, ◌/◌, ◌%◌, ◌^◌, List, [], ◌∷◌, slice_index}
 use Rattle.cpu12_isa.specs.declared.instr.Regs.{Regs}
-use Rattle.cpu12_isa.specs.Act.{Act, Give, get_all}
-use Rattle.cpu12_isa.specs.Memory.{plus, from, placed, word_of}
-use Rattle.cpu12_parts.specs.declared.temps.Temps.{Temps}
+use Rattle.cpu12_isa.specs.{Act.Act, Act.Give, Act.get_all, Memory.plus, Memory.from, Memory.placed, Memory.word_of}
+use Rattle.cpu12_parts.specs.declared.{temps.Temps.Temps, temps.PartEnd.TheVariants.More}
 use Rattle.cpu12_parts.specs.declared.temps.Temps.TheVariants.{Free, Running, OnStack}
-use Rattle.cpu12_parts.specs.declared.temps.PartEnd.TheVariants.{More}
-use Rattle.cpu12_parts.specs.State.{Outcome}
-use Rattle.cpu12_parts.specs.Parts.{leaving}
+use Rattle.cpu12_parts.specs.{State.Outcome, Parts.leaving}
 
 -- the sums as they lie there, from the lowest address: the product's high word and low word, then the weight
 abbrev pub sum_bytes : ℕ → ℕ → List ℕ

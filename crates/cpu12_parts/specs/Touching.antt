@@ -1,15 +1,10 @@
 -- A whole instruction by the addresses that it reads and writes.
 -- Beside the promise.
 use Rattle.std.specs.Prelude.{◌≡◌, ℕ, ◌+◌, ◌<◌, ◌≤◌, ◌⊎◌, List, [], ◌∷◌, length}
-use Rattle.cpu12_isa.specs.declared.instr.Instr.{Instr}
-use Rattle.cpu12_isa.specs.declared.instr.Instr.TheVariants.{Rev, Revw}
-use Rattle.cpu12_isa.specs.Act.{read_by}
-use Rattle.cpu12_isa.specs.Fits.{FitsRegs, AreBytes}
-use Rattle.cpu12_isa.specs.Meaning.{act_of, effect}
-use Rattle.cpu12_parts.specs.State.{State}
+use Rattle.cpu12_isa.specs.declared.{instr.Instr.Instr, instr.Instr.TheVariants.Rev, instr.Instr.TheVariants.Revw}
+use Rattle.cpu12_isa.specs.{Act.read_by, Fits.FitsRegs, Fits.AreBytes, Meaning.act_of, Meaning.effect}
+use Rattle.cpu12_parts.specs.{State.State, Averages.wav_read, Laws.addresses, Laws.IsOff}
 use Rattle.cpu12_parts.specs.Rules.{Rule, Form, rev_form, revw_form, rules_read, rules_written}
-use Rattle.cpu12_parts.specs.Averages.{wav_read}
-use Rattle.cpu12_parts.specs.Laws.{addresses, IsOff}
 use Rattle.cpu12_parts.specs.Whole.{IsPlainStep, IsRulesStep, IsAverageStep}
 
 -- an address is one of a region's, which is where it begins and how many bytes it has; and of one of some regions

@@ -3,13 +3,9 @@
 use Rattle.std.specs.Prelude.{◌≡◌, ◌≢◌, ℕ, zero, suc, ◌-◌, ◌⊎◌, true, Ok, List, length}
 use Rattle.cpu12_isa.specs.declared.instr.Instr.{Instr}
 use Rattle.cpu12_isa.specs.declared.instr.Instr.TheVariants.{Rev, Revw, Wav}
-use Rattle.cpu12_isa.specs.Act.{write_all}
-use Rattle.cpu12_isa.specs.Code.{decode_at}
-use Rattle.cpu12_isa.specs.Meaning.{effect, is_plain}
-use Rattle.cpu12_parts.specs.State.{State}
+use Rattle.cpu12_isa.specs.{Act.write_all, Code.decode_at, Meaning.effect, Meaning.is_plain}
+use Rattle.cpu12_parts.specs.{State.State, Averages.wav_whole, Laws.IsOff}
 use Rattle.cpu12_parts.specs.Rules.{Rule, Form, rev_form, revw_form, elements_of, AreReady, rules_whole}
-use Rattle.cpu12_parts.specs.Averages.{wav_whole}
-use Rattle.cpu12_parts.specs.Laws.{IsOff}
 
 -- the state after a plain instruction
 abbrev pub after_plain : ℕ → Instr → State → State

@@ -1,11 +1,10 @@
 //! Laws of the parts.
-ghost use Rattle.cpu12_parts.specs.Cuts.{kind_by, rev, revw, wav};
-ghost use Rattle.cpu12_parts.specs.Fits.{PartFits};
+ghost use Rattle.cpu12_parts.specs.{Cuts.kind_by, Cuts.rev, Cuts.revw, Cuts.wav, Fits.PartFits, Owed.OverCuts};
 ghost use Rattle.cpu12_parts.specs.Inside.{own_address, second_byte, GoesOnAt, LeavesSums, WritesNothing};
 ghost use Rattle.cpu12_parts.specs.Inside.{PushesRunning, PushesNone};
-ghost use Rattle.cpu12_parts.specs.Owed.{OverCuts};
-ghost use Rattle.cpu12_parts.specs.Laws.{AreKept, Any, GoesOn, WritesBelow, KeepsNothing, IsSteady, CutsChangeNothing};
-ghost use Rattle.cpu12_parts.specs.Laws.{RevIsWhole, RevwIsWhole, WavIsWhole, RevOverCuts, RevwOverCuts, WavOverCuts};
+ghost use Rattle.cpu12_parts.specs.Laws.{AreKept, Any, GoesOn, WritesBelow, KeepsNothing, IsSteady};
+ghost use Rattle.cpu12_parts.specs.Laws.{CutsChangeNothing, RevIsWhole, RevwIsWhole, WavIsWhole, RevOverCuts};
+ghost use Rattle.cpu12_parts.specs.Laws.{RevwOverCuts, WavOverCuts};
 
 use crate::temps::Resumable;
 use cpu12_isa::laws::writes_agree;

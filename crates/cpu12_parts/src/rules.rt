@@ -2,9 +2,7 @@
 ghost use Rattle.std.specs.Prelude.{ℕ, ◌≡◌, ◌+◌, ◌*◌, ◌/◌, ◌^◌, List, slice_index};
 ghost use Rattle.cpu12_isa.specs.Act.{outcome, write_all};
 ghost use Rattle.cpu12_parts.specs.Parts.{rev_act, revw_act, weighted, met};
-ghost use Rattle.cpu12_parts.specs.Sums.{nothing};
-ghost use Rattle.cpu12_parts.specs.Laws.{Any};
-ghost use Rattle.cpu12_parts.specs.Owed.{whole_rev, whole_revw};
+ghost use Rattle.cpu12_parts.specs.{Sums.nothing, Laws.Any, Owed.whole_rev, Owed.whole_revw};
 
 use crate::laws::{
     rev_is_whole, rev_keeps_nothing, rev_steady, revw_is_whole, revw_keeps_nothing, revw_steady,

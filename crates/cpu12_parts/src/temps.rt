@@ -1,12 +1,8 @@
 //! What an instruction in parts keeps between them.
 ghost use Rattle.std.specs.Prelude.{ℕ, ◌≡◌, List};
-ghost use Rattle.cpu12_isa.specs.declared.instr.Regs.{Regs};
-ghost use Rattle.cpu12_isa.specs.Act.{Act, outcome, write_all};
-ghost use Rattle.cpu12_parts.specs.declared.temps.Temps.{Temps};
-ghost use Rattle.cpu12_parts.specs.State.{State, Outcome};
-ghost use Rattle.cpu12_parts.specs.Cuts.{kind_by};
-ghost use Rattle.cpu12_parts.specs.Laws.{GoesOn, WritesBelow, IsSteady};
-ghost use Rattle.cpu12_parts.specs.Owed.{MakesWhole};
+ghost use Rattle.cpu12_isa.specs.{declared.instr.Regs.Regs, Act.Act, Act.outcome, Act.write_all};
+ghost use Rattle.cpu12_parts.specs.{declared.temps.Temps.Temps, State.State, State.Outcome, Cuts.kind_by};
+ghost use Rattle.cpu12_parts.specs.{Laws.GoesOn, Laws.WritesBelow, Laws.IsSteady, Owed.MakesWhole};
 
 use cpu12_isa::instr::Regs;
 use cpu12_isa::mem::Mem;

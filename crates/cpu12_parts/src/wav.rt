@@ -1,9 +1,7 @@
 //! WAV: the weighted average (CPU12 Reference Manual, section 9.5).
 ghost use Rattle.std.specs.Prelude.{ℕ, ◌≡◌, ◌<◌, ◌/◌, ◌%◌, ◌^◌};
 ghost use Rattle.cpu12_isa.specs.Memory.{plus};
-ghost use Rattle.cpu12_parts.specs.Parts.{wav_act, wav_end};
-ghost use Rattle.cpu12_parts.specs.Sums.{wav_push, wav_pull};
-ghost use Rattle.cpu12_parts.specs.Laws.{AreKept};
+ghost use Rattle.cpu12_parts.specs.{Parts.wav_act, Parts.wav_end, Sums.wav_push, Sums.wav_pull, Laws.AreKept};
 ghost use Rattle.cpu12_parts.specs.Owed.{WholeAverage};
 
 use crate::laws::{wav_goes_on, wav_is_whole, wav_steady, wav_writes_below};

@@ -8,12 +8,10 @@ use Rattle.cpu12_parts.specs.State.{State}
 use Rattle.run_law.specs.Forms.{Form, RowSeen, rows_from}
 use Rattle.run_forms.specs.Outlooks.{Outlook, at_position, from_here}
 use Rattle.run_forms.specs.Positions.{Position, all_numbered, numbered, positions, positions_or}
-use Rattle.debug_script.specs.Going.{AreTold, Leads, place_of}
-use Rattle.debug_script.specs.Places.{distance, on}
+use Rattle.debug_script.specs.{Going.AreTold, Going.Leads, Going.place_of, Places.distance, Places.on}
 use Rattle.debug_script.specs.Showing.{marks_after, no_marks, place_after, shown, shown_from, shown_of, stops}
+use Rattle.debug_script.specs.declared.{marks.Marks.Marks, order.Order.Order}
 use Rattle.fz_run.specs.Sessions.{SessionSeen}
-use Rattle.debug_script.specs.declared.marks.Marks.{Marks}
-use Rattle.debug_script.specs.declared.order.Order.{Order}
 use Rattle.debug_script.specs.declared.order.Order.TheVariants as order
 use Rattle.debug_script.specs.declared.shown.Shown.{Shown}
 use Rattle.debug_script.proofs.PlaceLemmas.{go_more, go_stops, on_last, on_more}

@@ -12,8 +12,7 @@ use Rattle.cpu12_isa.specs.Watching.{NothingIsWatched, any_changed, is_changed, 
 use Rattle.run_law.specs.Forms.{RowSeen}
 use Rattle.run_forms.specs.Outlooks.{Outlook}
 use Rattle.fz_run.specs.Sessions.{SessionSeen}
-use Rattle.debug_script.specs.Noting.{AreNoted, NotesBytes, noted_at}
-use Rattle.debug_script.specs.Showing.{no_marks, stops}
+use Rattle.debug_script.specs.{Noting.AreNoted, Noting.NotesBytes, Noting.noted_at, Showing.no_marks, Showing.stops}
 use Rattle.debug_script.specs.declared.marks.Marks.{Marks}
 
 -- ---- bytes that are noted again

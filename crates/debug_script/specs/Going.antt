@@ -1,8 +1,7 @@
 -- How far a session has gone.
 -- Beside the promise.
 use Rattle.std.specs.Prelude.{◌≡◌, ◌≤◌, List, [], ◌∷◌}
-use Rattle.run_forms.specs.Outlooks.{from_here}
-use Rattle.run_forms.specs.Positions.{Position}
+use Rattle.run_forms.specs.{Outlooks.from_here, Positions.Position}
 use Rattle.fz_run.specs.Sessions.{SessionSeen}
 
 -- the positions from where a session stands on

@@ -6,10 +6,9 @@ use Rattle.std.specs.List.{after_first, before_first, slice_split}
 use Rattle.std.specs.Str.{bytes_eq}
 use Rattle.hex.specs.Hex.{decode_sized}
 use Rattle.interrupt_plan.specs.Rows.{count_of, word_of}
-use Rattle.debug_script.specs.declared.order.Order.{Order}
+use Rattle.debug_script.specs.declared.{order.Order.Order, order.ScriptFault.ScriptFault}
 use Rattle.debug_script.specs.declared.order.Order.TheVariants.{Break, Unbreak, Watch, Unwatch, Step, Go, Registers}
 use Rattle.debug_script.specs.declared.order.Order.TheVariants.{Memory}
-use Rattle.debug_script.specs.declared.order.ScriptFault.{ScriptFault}
 use Rattle.debug_script.specs.declared.order.ScriptFault.TheVariants as fault
 
 -- ---- a line

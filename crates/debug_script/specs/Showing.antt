@@ -8,9 +8,7 @@ use Rattle.std.specs.Ordering.{nat_cmp}
 use Rattle.std.specs.Set.{remove_key}
 use Rattle.cpu12_isa.specs.Memory.{bytes_at, from}
 use Rattle.run_forms.specs.Positions.{Position}
-use Rattle.debug_script.specs.Places.{distance, on}
-use Rattle.debug_script.specs.declared.marks.Marks.{Marks}
-use Rattle.debug_script.specs.declared.order.Order.{Order}
+use Rattle.debug_script.specs.{Places.distance, Places.on, declared.marks.Marks.Marks, declared.order.Order.Order}
 use Rattle.debug_script.specs.declared.order.Order.TheVariants as order
 use Rattle.debug_script.specs.declared.shown.Shown.{Shown}
 use Rattle.debug_script.specs.declared.shown.Shown.TheVariants.{Stop, Registers, Bytes}

@@ -2,15 +2,13 @@
 ghost use Rattle.std.specs.Prelude.{◌≡◌, ◌≤◌, ◌||◌, ◌++◌, length, map, IfOk, OnOk};
 ghost use Rattle.std.specs.BTreeSet.{contains_by};
 ghost use Rattle.std.specs.Ordering.{nat_cmp};
-ghost use Rattle.cpu12_isa.specs.Memory.{bytes_at, from};
-ghost use Rattle.cpu12_isa.specs.Watching.{any_changed, nothing_noted};
+ghost use Rattle.cpu12_isa.specs.{Memory.bytes_at, Memory.from, Watching.any_changed, Watching.nothing_noted};
 ghost use Rattle.interrupt_plan.specs.Plans.{IsGood};
 ghost use Rattle.fz_run.specs.Answering.{AnswersItsBlock};
-ghost use Rattle.run_forms.specs.Positions.{positions};
 ghost use Rattle.fz_run.specs.Rows.{first_state, firmware_rows, input_bytes, row_seen};
+ghost use Rattle.run_forms.specs.Positions.{positions};
 ghost use Rattle.debug_script.specs.Going.{AreTold, Leads, place_of};
-ghost use Rattle.debug_script.specs.Noting.{KeepsNotes, NotesBytes};
-ghost use Rattle.debug_script.specs.Places.{distance, on};
+ghost use Rattle.debug_script.specs.{Noting.KeepsNotes, Noting.NotesBytes, Places.distance, Places.on};
 ghost use Rattle.debug_script.specs.Showing.{marks_after, place_after, shown, shown_of, stop_at, stops};
 
 use crate::marks::Marks;

@@ -4,15 +4,10 @@ use Rattle.std.proofs.Common.{length, Some, refl, sym, ap, ◌∙◌, subst, ari
 use Rattle.std.specs.Prelude.{slice_get}
 use Rattle.std.proofs.lemmas.Bool.{cases_lt}
 use Rattle.std.proofs.lemmas.Option.{slice_get_within}
-use Rattle.fuzzy_meaning.specs.declared.block.Block.{Block}
-use Rattle.fuzzy_meaning.specs.declared.block.Rule.{Rule}
-use Rattle.error_bound.specs.declared.boxes.Interval.{Interval}
-use Rattle.error_bound.specs.declared.ends.End.{End}
-use Rattle.error_bound.specs.Best.{IsCandidate, IsFirstGreatest}
-use Rattle.error_bound.specs.Boxes.{rule_span, rule_byte_span}
-use Rattle.error_bound.specs.Leaves.{rule_at, concludes_some}
-use Rattle.error_bound.specs.Ratios.{value_of}
-use Rattle.error_bound.specs.Reaches.{IsEndOfRule}
+use Rattle.fuzzy_meaning.specs.declared.{block.Block.Block, block.Rule.Rule}
+use Rattle.error_bound.specs.declared.{boxes.Interval.Interval, ends.End.End}
+use Rattle.error_bound.specs.{Best.IsCandidate, Best.IsFirstGreatest, Boxes.rule_span, Boxes.rule_byte_span}
+use Rattle.error_bound.specs.{Leaves.rule_at, Leaves.concludes_some, Ratios.value_of, Reaches.IsEndOfRule}
 use Rattle.error_bound.proofs.Values.{part_same}
 
 some_below : (m r : ℕ) → (m ≡ 0 → r ≡ 0) → 1 ≤ r → 1 ≤ m

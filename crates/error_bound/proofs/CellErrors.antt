@@ -8,8 +8,7 @@ use Rattle.fz_num.specs.Fractions.{Fraction, over, IsProper, AtMost, IsNear, gap
 use Rattle.fz_num.proofs.Algebra.{AtMost-refl, AtMost-trans, IsProper-lesser, gap-near, gap-least}
 use Rattle.byte_scaling.specs.Cells.{IsFromTo, inside, IsInCell}
 use Rattle.fuzzy_meaning.specs.Places.{Points, rise_at, fall_at, degree_at}
-use Rattle.error_bound.specs.Places.{rise_end, low, high}
-use Rattle.error_bound.specs.CellErrors.{cell_error, cells_error}
+use Rattle.error_bound.specs.{Places.rise_end, Places.low, Places.high, CellErrors.cell_error, CellErrors.cells_error}
 use Rattle.error_bound.proofs.Sides.{IsPeaked, low_bounds, high_bounds, side_rise_proper, side_fall_proper}
 use Rattle.error_bound.proofs.Sides.{side_end_proper}
 use Rattle.error_bound.proofs.Limits.{low_greatest, high_least}

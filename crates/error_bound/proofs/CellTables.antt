@@ -6,16 +6,12 @@ use Rattle.std.proofs.lemmas.Bool.{cases_lt}
 use Rattle.std.proofs.lemmas.Grind.{get_or-set_at}
 use Rattle.std.proofs.lemmas.List.{length-set}
 use Rattle.fz_num.specs.Decimals.{distance}
-use Rattle.fuzzy_meaning.specs.declared.block.Input.{Input}
-use Rattle.fuzzy_meaning.specs.declared.block.Trapezoid.{Trapezoid}
+use Rattle.fuzzy_meaning.specs.declared.{block.Input.Input, block.Trapezoid.Trapezoid}
 use Rattle.fuzzy_meaning.specs.Places.{Points, points_of}
 use Rattle.point_slope.specs.Tables.{row_of, grade_of}
-use Rattle.error_bound.specs.declared.boxes.Interval.{Interval}
-use Rattle.error_bound.specs.declared.cells.TermCells.{TermCells}
-use Rattle.error_bound.specs.Boxes.{least_from, greatest_from}
+use Rattle.error_bound.specs.declared.{boxes.Interval.Interval, cells.TermCells.TermCells}
+use Rattle.error_bound.specs.{Boxes.least_from, Boxes.greatest_from, Errors.billion, Reaches.AreTermCells}
 use Rattle.error_bound.specs.CellErrors.{cell_error, cells_error, term_error}
-use Rattle.error_bound.specs.Errors.{billion}
-use Rattle.error_bound.specs.Reaches.{AreTermCells}
 
 -- numbers that are set place by place, from one place on
 kept_more : (P : ℕ → ℕ → Type 0) (xs : List ℕ) (from b y : ℕ) → b < length xs → P b y

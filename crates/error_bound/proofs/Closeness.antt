@@ -4,17 +4,11 @@ use Rattle.std.specs.Prelude.{ℤ, pos, ◌+ℤ◌, ◌-ℤ◌, ◌*ℤ◌, ◌<
 use Rattle.std.proofs.lemmas.Int.{ints}
 use Rattle.std.proofs.lemmas.Bool.{cases_lt}
 use borrow.Author.Differences.{up, down}
-use Rattle.fz_num.specs.declared.dec.Dec.{Dec}
-use Rattle.fz_num.specs.Fractions.{over, up_div}
-use Rattle.fz_num.specs.Decimals.{distance}
-use Rattle.fz_num.specs.Fracs.{IsClose}
+use Rattle.fz_num.specs.{declared.dec.Dec.Dec, Fractions.over, Fractions.up_div, Decimals.distance, Fracs.IsClose}
 use Rattle.fz_num.proofs.Algebra.{le-up_div}
-use Rattle.fuzzy_meaning.specs.declared.block.Output.{Output}
-use Rattle.fuzzy_meaning.specs.Blocks.{IsWithin}
-use Rattle.fuzzy_meaning.specs.Meaning.{quotient_of}
+use Rattle.fuzzy_meaning.specs.{declared.block.Output.Output, Blocks.IsWithin, Meaning.quotient_of}
 use Rattle.byte_scaling.specs.Cells.{nearest_byte, NearestIsByte, value_in}
-use Rattle.error_bound.specs.Errors.{apart}
-use Rattle.error_bound.specs.Bounds.{in_millionths, offset}
+use Rattle.error_bound.specs.{Errors.apart, Bounds.in_millionths, Bounds.offset}
 use Rattle.error_bound.proofs.Sums.{Apart}
 
 -- the same without the range, over parts of the whole range

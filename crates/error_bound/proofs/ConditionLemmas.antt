@@ -1,8 +1,8 @@
 -- Of a condition: its error is at most the greatest of its literals', and its truth and its level lie within its spans.
 use Rattle.std.proofs.Common.{ℕ, ◌-◌, ◌≤◌, min, max, Bool, true, false, arith}
 use Rattle.fz_num.specs.Fractions.{Fraction, IsProper, AtMost, lesser, greater, one_minus, one, none, IsNear}
-use Rattle.fz_num.proofs.Algebra.{AtMost-refl, AtMost-trans, IsProper-lesser, IsProper-greater}
-use Rattle.fz_num.proofs.Algebra.{AtMost-lesser_left, AtMost-greater, IsNear-lesser, IsNear-greater, IsNear-one_minus}
+use Rattle.fz_num.proofs.Algebra.{AtMost-refl, AtMost-trans, IsProper-lesser, IsProper-greater, AtMost-lesser_left}
+use Rattle.fz_num.proofs.Algebra.{AtMost-greater, IsNear-lesser, IsNear-greater, IsNear-one_minus}
 use Rattle.fuzzy_meaning.specs.Conditions.{Condition, is, negation, all, any, Conditions, end, also, levels, level}
 use Rattle.fuzzy_meaning.specs.Conditions.{evaluate_parts}
 use Rattle.fuzzy_meaning.specs.Meaning.{truths, truth}

@@ -1,8 +1,7 @@
 -- The parts of a valid AND or OR are valid.
 use Rattle.std.proofs.Common.{◌≡◌, ℕ, ◌-◌, ◌≤◌, List, length, get_or, refl, arith}
-use Rattle.fuzzy_meaning.specs.declared.block.Block.{Block}
+use Rattle.fuzzy_meaning.specs.{declared.block.Block.Block, Conditions.Condition, Conditions.conditions}
 use Rattle.fuzzy_meaning.specs.Blocks.{IsValidCondition, AreValidConditions, PartsAreValid}
-use Rattle.fuzzy_meaning.specs.Conditions.{Condition, conditions}
 use Rattle.error_bound.proofs.ListLemmas.{slice_get-read}
 
 -- the part number k

@@ -4,14 +4,10 @@ use Rattle.std.specs.Prelude.{IsTrue, Some}
 use Rattle.std.proofs.lemmas.Bool.{cases_lt}
 use Rattle.std.proofs.lemmas.Option.{slice_get_within, get_or_from_slice_get}
 use Rattle.fz_num.specs.Fractions.{Fraction, over, AtMost, IsBelow}
-use Rattle.fuzzy_meaning.specs.declared.block.Block.{Block}
-use Rattle.fuzzy_meaning.specs.declared.block.Rule.{Rule}
-use Rattle.fuzzy_meaning.specs.Rules.{concludes}
+use Rattle.fuzzy_meaning.specs.{declared.block.Block.Block, declared.block.Rule.Rule, Rules.concludes}
 use Rattle.error_bound.specs.declared.boxes.Interval.{Interval}
 use Rattle.error_bound.specs.declared.boxes.Leaf as the
-use Rattle.error_bound.specs.declared.boxes.LeafFault.{LeafFault}
-use Rattle.error_bound.specs.Spans.{Span}
-use Rattle.error_bound.specs.Boxes.{rule_span, rule_byte_span}
+use Rattle.error_bound.specs.{declared.boxes.LeafFault.LeafFault, Spans.Span, Boxes.rule_span, Boxes.rule_byte_span}
 use Rattle.error_bound.specs.Leaves.{rule_at, strong, silent, IsStrong, IsStill}
 use Rattle.error_bound.specs.Faults.{IsStrongFault, weak, still, IsFirstFiring, IsSilentFault, silent as firing, loud}
 use Rattle.error_bound.specs.Faults.{of_strong, of_silent, FaultyLeavesFail, LeafFaultsAreOne}

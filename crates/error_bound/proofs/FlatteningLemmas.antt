@@ -5,34 +5,27 @@ use mathlib.Core.Bool.{beq}
 use Rattle.std.specs.Prelude.{not, ◌==◌, slice_get}
 use Rattle.std.specs.Option.{option_map_or}
 use Rattle.std.proofs.lemmas.List.{at_drop_more, at_drop_all}
-use Rattle.fz_num.specs.Fractions.{IsProper, AtMost, one, none}
-use Rattle.fz_num.specs.Decimals.{distance}
+use Rattle.fz_num.specs.{Fractions.IsProper, Fractions.AtMost, Fractions.one, Fractions.none, Decimals.distance}
 use Rattle.fz_num.proofs.Algebra.{by_lesser}
-use Rattle.fuzzy_meaning.specs.declared.block.Block.{Block}
-use Rattle.fuzzy_meaning.specs.declared.block.Input.{Input}
-use Rattle.fuzzy_meaning.specs.declared.block.Trapezoid.{Trapezoid}
-use Rattle.fuzzy_meaning.specs.Blocks.{input_at, HasTerm}
-use Rattle.fuzzy_meaning.specs.Conditions.{Condition, is, negation, all, any, Conditions, end, also, conditions, group}
-use Rattle.fuzzy_meaning.specs.Conditions.{under, HasLiterals, SomeHaveLiterals, AllHaveLiterals, Joins, evaluate}
-use Rattle.fuzzy_meaning.specs.Conditions.{evaluate_parts}
-use Rattle.fuzzy_meaning.specs.Places.{points_of, rise_at, fall_at}
+use Rattle.fuzzy_meaning.specs.declared.{block.Block.Block, block.Input.Input, block.Trapezoid.Trapezoid}
+use Rattle.fuzzy_meaning.specs.{Blocks.input_at, Blocks.HasTerm, Places.points_of, Places.rise_at, Places.fall_at}
+use Rattle.fuzzy_meaning.specs.Conditions.{Condition, is, negation, all, any, Conditions, end, also, conditions}
+use Rattle.fuzzy_meaning.specs.Conditions.{group, under, HasLiterals, SomeHaveLiterals, AllHaveLiterals, Joins}
+use Rattle.fuzzy_meaning.specs.Conditions.{evaluate, evaluate_parts}
 use Rattle.fuzzy_meaning.proofs.Algebra.{AllHaveLiterals-some, AreJoinsRelated, evaluate_pushed-related, IsDeMorgan}
 use Rattle.fuzzy_meaning.proofs.Algebra.{turned, evaluate-good, evaluate_parts-good, evaluate_pushed-same}
 use Rattle.byte_scaling.specs.Cells.{cell_start, cell_end}
 use Rattle.point_slope.specs.Tables.{row_of, grade_of}
-use Rattle.error_bound.specs.declared.boxes.Interval.{Interval}
+use Rattle.error_bound.specs.{declared.boxes.Interval.Interval, Spans.Span, Spans.only, Spans.span, Places.rise_end}
 use Rattle.error_bound.specs.Boxes.{least_from, greatest_from, degrees_over, grades_over, at_literal, literal_span}
 use Rattle.error_bound.specs.Boxes.{literal_byte_span}
-use Rattle.error_bound.specs.Spans.{Span, only, span}
-use Rattle.error_bound.specs.Places.{rise_end}
 use Rattle.error_bound.specs.Flattening.{followed, parts, flats, flat_under, flat_parts, flat, IsSame, AreSame}
 use Rattle.error_bound.specs.Flattening.{FlatteningKeepsReaches}
-use Rattle.error_bound.proofs.CellErrors.{low_proper, high_proper}
+use Rattle.error_bound.proofs.{CellErrors.low_proper, CellErrors.high_proper, Literals.grade-le}
 use Rattle.error_bound.proofs.Limits.{rise_all, fall_all, end_all}
-use Rattle.error_bound.proofs.Literals.{grade-le}
 use Rattle.error_bound.proofs.Operations.{IsGrouping, AreGood, IsDegree, nothing_degree, spans_de_morgan}
-use Rattle.error_bound.proofs.Operations.{spans_grouping, truths_de_morgan, truths_grouping, levels_de_morgan, levels_grouping}
-use Rattle.error_bound.proofs.Operations.{errors_de_morgan, errors_grouping}
+use Rattle.error_bound.proofs.Operations.{spans_grouping, truths_de_morgan, truths_grouping, levels_de_morgan}
+use Rattle.error_bound.proofs.Operations.{levels_grouping, errors_de_morgan, errors_grouping}
 
 -- ---- the code's lists
 

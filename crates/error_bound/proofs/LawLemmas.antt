@@ -1,24 +1,17 @@
 -- Laws of boxes and their errors.
 use Rattle.std.proofs.Common.{◌≡◌, ℕ, ◌+◌, ◌-◌, ◌*◌, ◌<◌, ◌≤◌, List, Some, arith, mul-le-mul_right}
 use Rattle.std.specs.Prelude.{◌==◌, slice_get}
-use Rattle.fz_num.specs.Decimals.{distance}
-use Rattle.fz_num.specs.Fractions.{IsProper}
-use Rattle.fuzzy_meaning.specs.declared.block.Input.{Input}
-use Rattle.fuzzy_meaning.specs.declared.block.Trapezoid.{Trapezoid}
-use Rattle.fuzzy_meaning.specs.declared.block.Block.{Block}
-use Rattle.fuzzy_meaning.specs.Blocks.{IsValid, IsValidInput, IsValidTerm}
+use Rattle.fz_num.specs.{Decimals.distance, Fractions.IsProper}
+use Rattle.fuzzy_meaning.specs.declared.{block.Input.Input, block.Trapezoid.Trapezoid, block.Block.Block}
+use Rattle.fuzzy_meaning.specs.{Blocks.IsValid, Blocks.IsValidInput, Blocks.IsValidTerm, Places.points_of}
 use Rattle.fz_list.proofs.Algebra.{All-slice_get}
 use Rattle.byte_scaling.specs.Cells.{cell_start, cell_end}
 use Rattle.point_slope.specs.Tables.{row_of, grade_of}
 use Rattle.error_bound.specs.declared.boxes.Interval.{Interval}
-use Rattle.fuzzy_meaning.specs.Places.{points_of}
 use Rattle.error_bound.specs.Errors.{billion, IsTermError, AreTermErrors}
-use Rattle.error_bound.specs.Laws.{CellsHaveBounds, TermErrorsAre}
-use Rattle.error_bound.proofs.Sides.{low_bounds, high_bounds}
-use Rattle.error_bound.proofs.Limits.{low_greatest, high_least}
-use Rattle.error_bound.specs.CellErrors.{term_error, term_errors}
-use Rattle.error_bound.proofs.CellErrors.{cells_bounds, cells_least}
-use Rattle.error_bound.proofs.Literals.{width_pos}
+use Rattle.error_bound.specs.{Laws.CellsHaveBounds, Laws.TermErrorsAre, CellErrors.term_error, CellErrors.term_errors}
+use Rattle.error_bound.proofs.{Sides.low_bounds, Sides.high_bounds, Limits.low_greatest, Limits.high_least}
+use Rattle.error_bound.proofs.{CellErrors.cells_bounds, CellErrors.cells_least, Literals.width_pos}
 use Rattle.error_bound.proofs.PlaceLemmas.{IsPeaked-points}
 
 start_below : (w p q : ℕ) → 0 < w → p ≤ q → p * w < (q + 1) * w

@@ -5,29 +5,17 @@ use Rattle.std.specs.Prelude.{IsTrue, IfSome}
 use Rattle.fz_list.proofs.Algebra.{IsSomeAnd-some, IsSomeAnd-within, some_at}
 use Rattle.fz_num.specs.Fractions.{over, AtMost}
 use Rattle.fz_num.proofs.Algebra.{AtMost-trans}
-use Rattle.fuzzy_meaning.specs.declared.block.Block.{Block}
-use Rattle.fuzzy_meaning.specs.declared.block.Output.{Output}
-use Rattle.fuzzy_meaning.specs.declared.block.Rule.{Rule}
+use Rattle.fuzzy_meaning.specs.declared.{block.Block.Block, block.Output.Output, block.Rule.Rule}
 use Rattle.fuzzy_meaning.specs.Blocks.{IsValid, output_at}
-use Rattle.error_bound.specs.declared.boxes.Interval.{Interval}
-use Rattle.error_bound.specs.declared.boxes.Leaf.{Leaf}
-use Rattle.error_bound.specs.declared.boxes.LeafFault.{LeafFault}
-use Rattle.error_bound.specs.declared.ends.End.{End}
-use Rattle.error_bound.specs.declared.rules.BoxTable.{BoxTable}
-use Rattle.error_bound.specs.Best.{silent_leaf}
+use Rattle.error_bound.specs.declared.{boxes.Interval.Interval, boxes.Leaf.Leaf, boxes.LeafFault.LeafFault}
+use Rattle.error_bound.specs.declared.{ends.End.End, rules.BoxTable.BoxTable}
+use Rattle.error_bound.specs.{Best.silent_leaf, Boxes.rule_span, Boxes.rule_byte_span, CellErrors.term_errors}
 use Rattle.error_bound.specs.Bounds.{IsBound, bound, errors_from, strong_bound, silent_bound}
-use Rattle.error_bound.specs.Boxes.{rule_span, rule_byte_span}
-use Rattle.error_bound.specs.CellErrors.{term_errors}
 use Rattle.error_bound.specs.Faults.{HasLeafFault, IsStrongFault, of_strong, of_silent}
 use Rattle.error_bound.specs.Leaves.{concludes_some, rule_at, IsPairFor, Holds, strong}
-use Rattle.error_bound.specs.Ratios.{value_of, IsRatio}
-use Rattle.error_bound.specs.Reaches.{IsTable, IsEndOfRule}
-use Rattle.error_bound.specs.Spans.{only}
-use Rattle.error_bound.proofs.BoundLemmas.{bound_strong, bound_silent}
-use Rattle.error_bound.proofs.ConclusionLemmas.{any-term}
-use Rattle.error_bound.proofs.LawLemmas.{term_errors-are}
-use Rattle.error_bound.proofs.ListLemmas.{slice_get-read}
-use Rattle.error_bound.proofs.Values.{strong_same}
+use Rattle.error_bound.specs.{Ratios.value_of, Ratios.IsRatio, Reaches.IsTable, Reaches.IsEndOfRule, Spans.only}
+use Rattle.error_bound.proofs.{BoundLemmas.bound_strong, BoundLemmas.bound_silent, ConclusionLemmas.any-term}
+use Rattle.error_bound.proofs.{LawLemmas.term_errors-are, ListLemmas.slice_get-read, Values.strong_same}
 
 -- the output that a number names
 pub output_at-read : (b : Block) (o : ℕ) (x : Output) (outputs : List Output) → outputs ≡ b.outputs → 1 ≤ o

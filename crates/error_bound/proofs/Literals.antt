@@ -6,28 +6,22 @@ use Rattle.std.proofs.lemmas.Bool.{cases_lt}
 use Rattle.std.proofs.lemmas.Bool.Decides.{nat_tests}
 use Rattle.std.proofs.lemmas.Int.{ints}
 use Rattle.std.proofs.lemmas.Option.{slice_get_within, slice_get-get_or}
-use Rattle.fz_num.specs.declared.dec.Dec.{Dec}
+use Rattle.fz_num.specs.{declared.dec.Dec.Dec, Decimals.distance}
 use Rattle.fz_num.specs.Fractions.{Fraction, over, IsProper, AtMost, one}
-use Rattle.fz_num.specs.Decimals.{distance}
 use Rattle.fz_num.proofs.Algebra.{AtMost-trans, AtMost-lesser_left}
-use Rattle.fuzzy_meaning.specs.declared.block.Block.{Block}
-use Rattle.fuzzy_meaning.specs.declared.block.Input.{Input}
-use Rattle.fuzzy_meaning.specs.declared.block.Trapezoid.{Trapezoid}
+use Rattle.fuzzy_meaning.specs.declared.{block.Block.Block, block.Input.Input, block.Trapezoid.Trapezoid}
 use Rattle.fuzzy_meaning.specs.Blocks.{IsValid, IsValidInput, IsValidTerm, input_at}
-use Rattle.fuzzy_meaning.specs.Degrees.{degree}
-use Rattle.fuzzy_meaning.specs.Meaning.{literal_degree}
+use Rattle.fuzzy_meaning.specs.{Degrees.degree, Meaning.literal_degree}
+use Rattle.fuzzy_meaning.specs.Places.{Points, points_of, rise_at, fall_at, degree_at, NumbersHaveTheirDegrees}
 use Rattle.fz_list.proofs.Algebra.{All-slice_get, some_at}
 use Rattle.byte_scaling.specs.Cells.{IsFromTo, inside, at_end, IsInCell, cell_start, cell_end}
-use Rattle.point_slope.specs.Tables.{row_of, grade_of}
-use Rattle.point_slope.specs.Bytes.{literal_grade}
+use Rattle.point_slope.specs.{Tables.row_of, Tables.grade_of, Bytes.literal_grade}
 use Rattle.error_bound.specs.declared.boxes.Interval.{Interval}
-use Rattle.fuzzy_meaning.specs.Places.{Points, points_of, rise_at, fall_at, degree_at, NumbersHaveTheirDegrees}
 use Rattle.error_bound.specs.Boxes.{LieIn, LieInCells, degrees_over, grades_over, least_from, greatest_from}
 use Rattle.error_bound.specs.Boxes.{literal_span, literal_byte_span}
 use Rattle.error_bound.specs.Errors.{billion, IsTermError, AreTermErrors}
 use Rattle.error_bound.proofs.Sides.{low_bounds, high_bounds, side_rise_proper}
-use Rattle.error_bound.proofs.Limits.{degree_proper, rise_all}
-use Rattle.error_bound.proofs.CellErrors.{low_proper, high_proper}
+use Rattle.error_bound.proofs.{Limits.degree_proper, Limits.rise_all, CellErrors.low_proper, CellErrors.high_proper}
 use Rattle.error_bound.proofs.ConditionLemmas.{IsWithinSpans, within_none}
 
 -- a place of an interval lies in each that has its bytes

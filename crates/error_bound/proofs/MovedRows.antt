@@ -6,11 +6,8 @@ use Rattle.std.proofs.lemmas.Bool.{cases_eq, cases_lt}
 use Rattle.std.proofs.lemmas.List.{length-set}
 use Rattle.std.proofs.lemmas.Option.{slice_get_within}
 use Rattle.fz_list.proofs.Algebra.{slice_get-set_same}
-use Rattle.fuzzy_meaning.specs.declared.block.Block.{Block}
-use Rattle.fuzzy_meaning.specs.declared.block.Input.{Input}
-use Rattle.error_bound.specs.declared.boxes.Interval.{Interval}
-use Rattle.error_bound.specs.declared.tables.Row.{Row}
-use Rattle.error_bound.specs.declared.tables.BoxTerms.{BoxTerms}
+use Rattle.fuzzy_meaning.specs.declared.{block.Block.Block, block.Input.Input}
+use Rattle.error_bound.specs.declared.{boxes.Interval.Interval, tables.Row.Row, tables.BoxTerms.BoxTerms}
 use Rattle.error_bound.specs.Reaches.{AreInputReaches, AreBoxTerms}
 
 -- ---- lists by their places

@@ -3,32 +3,21 @@ use Rattle.std.proofs.Common.{◌≡◌, ℕ, zero, suc, ◌+◌, ◌-◌, ◌<�
 use Rattle.std.proofs.Common.{refl, arith}
 use Rattle.std.specs.Prelude.{slice_get, ◌==◌}
 use Rattle.std.proofs.lemmas.Option.{slice_get_within}
-use Rattle.fz_num.specs.Fractions.{Fraction, over, IsProper, none}
-use Rattle.fz_num.specs.Decimals.{distance}
+use Rattle.fz_num.specs.{Fractions.Fraction, Fractions.over, Fractions.IsProper, Fractions.none, Decimals.distance}
 use Rattle.fz_num.proofs.Algebra.{AtMost-trans}
-use Rattle.fuzzy_meaning.specs.declared.block.Block.{Block}
-use Rattle.fuzzy_meaning.specs.declared.block.Input.{Input}
-use Rattle.fuzzy_meaning.specs.declared.block.Rule.{Rule}
-use Rattle.fuzzy_meaning.specs.declared.block.Trapezoid.{Trapezoid}
+use Rattle.fuzzy_meaning.specs.{declared.block.Block.Block, declared.block.Input.Input, declared.block.Rule.Rule}
+use Rattle.fuzzy_meaning.specs.{declared.block.Trapezoid.Trapezoid, Meaning.weight_of, Places.points_of}
 use Rattle.fuzzy_meaning.specs.Blocks.{IsValid, IsValidInput, IsValidTerm, input_at}
-use Rattle.fuzzy_meaning.specs.Meaning.{weight_of}
 use Rattle.fz_list.proofs.Algebra.{All-slice_get, some_at}
-use Rattle.byte_scaling.specs.Cells.{cell_start, cell_end}
-use Rattle.byte_scaling.specs.Weights.{weight_byte_of}
+use Rattle.byte_scaling.specs.{Cells.cell_start, Cells.cell_end, Weights.weight_byte_of}
 use Rattle.point_slope.specs.Tables.{row_of, grade_of}
-use Rattle.error_bound.specs.declared.boxes.Interval.{Interval}
-use Rattle.error_bound.specs.declared.boxes.Leaf.{Leaf}
-use Rattle.fuzzy_meaning.specs.Places.{points_of}
-use Rattle.error_bound.specs.Spans.{Span, only}
+use Rattle.error_bound.specs.{declared.boxes.Interval.Interval, declared.boxes.Leaf.Leaf, Spans.Span, Spans.only}
 use Rattle.error_bound.specs.Boxes.{degrees_over, grades_over, least_from, greatest_from, literal_span}
 use Rattle.error_bound.specs.Boxes.{literal_byte_span, rule_span, rule_byte_span, IsBox}
-use Rattle.error_bound.specs.Leaves.{Holds, strong, silent}
-use Rattle.error_bound.specs.Laws.{IsInside, LeavesHoldInside}
-use Rattle.error_bound.proofs.LawLemmas.{cells_bounded}
-use Rattle.error_bound.proofs.CellErrors.{low_proper, high_proper}
+use Rattle.error_bound.specs.{Leaves.Holds, Leaves.strong, Leaves.silent, Laws.IsInside, Laws.LeavesHoldInside}
+use Rattle.error_bound.proofs.{LawLemmas.cells_bounded, CellErrors.low_proper, CellErrors.high_proper}
 use Rattle.error_bound.proofs.Literals.{wider, width_pos, least_le, le_greatest}
-use Rattle.error_bound.proofs.RuleLemmas.{times_ordered, scaled-mono}
-use Rattle.error_bound.proofs.SilentLeaves.{none_below}
+use Rattle.error_bound.proofs.{RuleLemmas.times_ordered, RuleLemmas.scaled-mono, SilentLeaves.none_below}
 use Rattle.error_bound.proofs.SpanLemmas.{IsNarrower, narrower, AreOrdered, ordered-refl, truths_monotone}
 use Rattle.error_bound.proofs.SpanLemmas.{levels_monotone}
 

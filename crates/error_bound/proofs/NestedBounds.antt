@@ -3,23 +3,18 @@ use Rattle.std.proofs.Common.{◌≡◌, ℕ, zero, suc, ◌+◌, ◌-◌, ◌*�
 use Rattle.std.proofs.Common.{arith, mul-le-mul_right, refl, sym, ap, ◌∙◌, Some}
 use Rattle.std.specs.Prelude.{All, slice_get, ◌==◌, if◌then◌else◌, ◌<ℤ◌}
 use Rattle.std.proofs.lemmas.Int.{ints}
-use Rattle.fz_num.specs.declared.dec.Dec.{Dec}
-use Rattle.fz_num.specs.Decimals.{distance}
-use Rattle.fuzzy_meaning.specs.declared.block.Block.{Block}
-use Rattle.fuzzy_meaning.specs.declared.block.Output.{Output}
-use Rattle.fuzzy_meaning.specs.declared.block.Rule.{Rule}
+use Rattle.fz_num.specs.{declared.dec.Dec.Dec, Decimals.distance}
+use Rattle.fuzzy_meaning.specs.declared.{block.Block.Block, block.Output.Output, block.Rule.Rule}
 use Rattle.fuzzy_meaning.specs.Blocks.{IsValid, IsValidRule, HasTerm, IsValidCondition, IsValidOutput}
-use Rattle.fuzzy_meaning.specs.Conditions.{Condition}
-use Rattle.fuzzy_meaning.specs.Rules.{concludes}
+use Rattle.fuzzy_meaning.specs.{Conditions.Condition, Rules.concludes}
 use Rattle.fuzzy_meaning.proofs.Algebra.{evaluate-related}
 use Rattle.fz_list.proofs.Algebra.{IsSomeAnd-some, IsSomeAnd-within, some_at, All-slice_get}
-use Rattle.error_bound.specs.declared.boxes.Interval.{Interval}
-use Rattle.error_bound.specs.declared.boxes.Leaf.{Leaf}
-use Rattle.error_bound.specs.Spans.{greatest_literal}
-use Rattle.error_bound.specs.Errors.{billion, AreTermErrors, rule_error, weight_error, floor_error, output_error_among}
+use Rattle.error_bound.specs.declared.{boxes.Interval.Interval, boxes.Leaf.Leaf}
+use Rattle.error_bound.specs.{Spans.greatest_literal, Laws.IsInside, Laws.BoundsFallInside, Laws.BoundsAreDetermined}
+use Rattle.error_bound.specs.Errors.{billion, AreTermErrors, rule_error, weight_error, floor_error}
+use Rattle.error_bound.specs.Errors.{output_error_among}
 use Rattle.error_bound.specs.Bounds.{errors_from, IsBound, greatest_offset, silent_bound, strong_bound}
 use Rattle.error_bound.proofs.BoundLemmas.{bound_strong, ratio-mono}
-use Rattle.error_bound.specs.Laws.{IsInside, BoundsFallInside, BoundsAreDetermined}
 
 max-mono : (a b c d : ℕ) → a ≤ c → b ≤ d → max a b ≤ max c d
 max-mono a b c d h k = omega arith

@@ -5,13 +5,10 @@ use Rattle.fz_num.specs.Fractions.{Fraction, over, IsProper, AtMost, lesser, gre
 use Rattle.fz_num.proofs.Algebra.{AtMost-refl, AtMost-trans, IsProper-lesser, IsProper-greater, by_lesser, by_greater}
 use Rattle.fz_num.proofs.Algebra.{AtMost-lesser, AtMost-lesser_left, AtMost-lesser_right, AtMost-greater}
 use Rattle.fz_num.proofs.Algebra.{AtMost-greater_left, AtMost-greater_right, AtMost-one_minus}
-use Rattle.fuzzy_meaning.specs.Conditions.{Joins, levels}
-use Rattle.fuzzy_meaning.specs.Meaning.{truths}
+use Rattle.fuzzy_meaning.specs.{Conditions.Joins, Conditions.levels, Meaning.truths}
 use Rattle.fuzzy_meaning.proofs.Algebra.{IsDeMorgan}
-use Rattle.error_bound.specs.Flattening.{IsSame, AreSame}
-use Rattle.error_bound.specs.Spans.{Span, reversed, spans}
-use Rattle.error_bound.proofs.Sides.{none_least}
-use Rattle.error_bound.proofs.SpanLemmas.{AreOrdered, truths_ordered}
+use Rattle.error_bound.specs.{Flattening.IsSame, Flattening.AreSame, Spans.Span, Spans.reversed, Spans.spans}
+use Rattle.error_bound.proofs.{Sides.none_least, SpanLemmas.AreOrdered, SpanLemmas.truths_ordered}
 
 -- of good values, no parts count for nothing, and parts may be put into groups
 pub record IsGrouping {A : Type 0} (Good : A → Type 0) (Same : A → A → Type 0) (j : Joins A) : Type 0 where

@@ -2,10 +2,8 @@
 use Rattle.std.proofs.Common.{◌≡◌, ℕ, ◌-◌, ◌≤◌, length, Bool, Some, sym, subst, arith}
 use Rattle.std.specs.Prelude.{◌≢◌, IsTrue}
 use Rattle.fz_list.proofs.Algebra.{IsSomeAnd-at, IsSomeAnd-some, IsSomeAnd-within}
-use Rattle.fuzzy_meaning.specs.declared.block.Block.{Block}
-use Rattle.fuzzy_meaning.specs.declared.block.Rule.{Rule}
-use Rattle.error_bound.specs.declared.boxes.Leaf.{Leaf}
-use Rattle.error_bound.specs.Leaves.{rule_at, concludes_some, IsPairFor}
+use Rattle.fuzzy_meaning.specs.declared.{block.Block.Block, block.Rule.Rule}
+use Rattle.error_bound.specs.{declared.boxes.Leaf.Leaf, Leaves.rule_at, Leaves.concludes_some, Leaves.IsPairFor}
 
 module _ (b : Block) (o : ℕ) (pair : Leaf) (some_rule : pair.rule ≢ 0) (some_part : pair.k ≢ 0)
     (small : pair.k ≤ 255) where

@@ -4,15 +4,12 @@ use Rattle.std.proofs.Common.{ap, ap₂, sym, ◌∙◌, subst, arith}
 use Rattle.std.proofs.Math.Seq.{drop-cons}
 use Rattle.std.proofs.lemmas.List.{drop_all}
 use Rattle.fz_num.specs.Fractions.{one_minus}
-use Rattle.fuzzy_meaning.specs.declared.block.Block.{Block}
-use Rattle.fuzzy_meaning.specs.Conditions.{Condition, Conditions, end, also, conditions, group, Joins, levels, evaluate}
-use Rattle.fuzzy_meaning.specs.Meaning.{truths}
-use Rattle.error_bound.specs.declared.boxes.Interval.{Interval}
-use Rattle.error_bound.specs.declared.ends.End.{End}
-use Rattle.error_bound.specs.Ratios.{value_of, IsRatio}
-use Rattle.error_bound.specs.Spans.{Span, end_of, reversed, spans}
-use Rattle.error_bound.specs.Boxes.{literal_span, literal_byte_span}
-use Rattle.error_bound.specs.Reaches.{IsEndOfCondition}
+use Rattle.fuzzy_meaning.specs.{declared.block.Block.Block, Meaning.truths}
+use Rattle.fuzzy_meaning.specs.Conditions.{Condition, Conditions, end, also, conditions, group, Joins, levels}
+use Rattle.fuzzy_meaning.specs.Conditions.{evaluate}
+use Rattle.error_bound.specs.declared.{boxes.Interval.Interval, ends.End.End}
+use Rattle.error_bound.specs.{Ratios.value_of, Ratios.IsRatio, Spans.Span, Spans.end_of, Spans.reversed, Spans.spans}
+use Rattle.error_bound.specs.{Boxes.literal_span, Boxes.literal_byte_span, Reaches.IsEndOfCondition}
 
 -- ---- ends of spans
 

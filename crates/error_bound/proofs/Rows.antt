@@ -4,10 +4,8 @@ use Rattle.std.proofs.Common.{mul-le-mul_right, le_of_mul-le-mul_right, mul-pos}
 use Rattle.std.proofs.lemmas.Bool.{cases_lt}
 use Rattle.fz_num.specs.Fractions.{Fraction, IsProper, AtMost, IsNear, over, up_div}
 use Rattle.fz_num.proofs.Algebra.{le-up_div}
-use Rattle.error_bound.specs.Errors.{apart}
-use Rattle.error_bound.specs.Bounds.{ratio_bound}
-use Rattle.error_bound.proofs.Sums.{Apart, term_le}
-use Rattle.error_bound.proofs.Quotients.{Parts, within}
+use Rattle.error_bound.specs.{Errors.apart, Bounds.ratio_bound}
+use Rattle.error_bound.proofs.{Sums.Apart, Sums.term_le, Quotients.Parts, Quotients.within}
 
 -- one term of an output: how far its singleton stands above lo, the singleton's byte, its mass, the bytes' mass, its
 -- error in parts of t, how far it may be from the answer, and a number of parts of 255 t that its mass has at least

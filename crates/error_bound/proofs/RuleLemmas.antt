@@ -8,14 +8,11 @@ use Rattle.std.proofs.lemmas.Int.{ints}
 use Rattle.fz_num.specs.declared.dec.Dec.{Dec}
 use Rattle.fz_num.specs.Fractions.{Fraction, IsProper, AtMost, times, one, IsNear, up_div}
 use Rattle.fz_num.proofs.Algebra.{le-up_div}
-use Rattle.fuzzy_meaning.specs.declared.block.Block.{Block}
-use Rattle.fuzzy_meaning.specs.declared.block.Rule.{Rule}
-use Rattle.fuzzy_meaning.specs.Blocks.{IsWeight}
+use Rattle.fuzzy_meaning.specs.{declared.block.Block.Block, declared.block.Rule.Rule, Blocks.IsWeight}
 use Rattle.fuzzy_meaning.specs.Meaning.{literal_degree, truth, weight_of, strength}
 use Rattle.byte_scaling.specs.Weights.{weight_byte_of}
 use Rattle.point_slope.specs.Bytes.{literal_grade, byte_truth, byte_strength}
-use Rattle.error_bound.specs.declared.boxes.Interval.{Interval}
-use Rattle.error_bound.specs.Spans.{span, byte_span, greatest_literal}
+use Rattle.error_bound.specs.{declared.boxes.Interval.Interval, Spans.span, Spans.byte_span, Spans.greatest_literal}
 use Rattle.error_bound.specs.Boxes.{literal_span, literal_byte_span, rule_span, rule_byte_span}
 use Rattle.error_bound.specs.Errors.{billion, apart, weight_error, rule_error}
 use Rattle.error_bound.proofs.ConditionLemmas.{IsHeld, IsWithinSpans, within_spans}

@@ -1,13 +1,11 @@
 -- A rule's strengths over a box: the low's denominator is above 0, and over bytes the low is at most the high.
 use Rattle.std.proofs.Common.{ℕ, zero, suc, ◌-◌, ◌≤◌, List, arith}
 use Rattle.fz_num.specs.Fractions.{IsProper}
-use Rattle.fuzzy_meaning.specs.declared.block.Block.{Block}
-use Rattle.fuzzy_meaning.specs.declared.block.Rule.{Rule}
+use Rattle.fuzzy_meaning.specs.declared.{block.Block.Block, block.Rule.Rule}
 use Rattle.point_slope.specs.Tables.{row_of, grade_of}
-use Rattle.error_bound.specs.declared.boxes.Interval.{Interval}
+use Rattle.error_bound.specs.{declared.boxes.Interval.Interval, Spans.only}
 use Rattle.error_bound.specs.Boxes.{least_from, greatest_from, grades_over, literal_byte_span, rule_span}
 use Rattle.error_bound.specs.Boxes.{rule_byte_span}
-use Rattle.error_bound.specs.Spans.{only}
 use Rattle.error_bound.proofs.FlatteningLemmas.{at_literal-holds, span_good}
 use Rattle.error_bound.proofs.RuleLemmas.{times_proper, scaled-mono}
 use Rattle.error_bound.proofs.SpanLemmas.{between, levels_monotone}

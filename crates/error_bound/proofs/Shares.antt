@@ -8,23 +8,19 @@ use Rattle.std.proofs.lemmas.Bool.Decides.{nat_tests}
 use Rattle.std.proofs.lemmas.Int.{ints}
 use Rattle.std.proofs.lemmas.List.Sums.{sum_by-cons}
 use borrow.Author.Differences.{up, down}
-use Rattle.fz_num.specs.declared.dec.Dec.{Dec}
-use Rattle.fz_num.specs.Decimals.{distance}
-use Rattle.fuzzy_meaning.specs.declared.block.Block.{Block}
-use Rattle.fuzzy_meaning.specs.declared.block.Output.{Output}
+use Rattle.fz_num.specs.{declared.dec.Dec.Dec, Decimals.distance}
+use Rattle.fuzzy_meaning.specs.declared.{block.Block.Block, block.Output.Output}
 use Rattle.fuzzy_meaning.specs.Blocks.{IsWithin, IsWeight, HasSingleton}
-use Rattle.fuzzy_meaning.specs.Meaning.{literal_degree, mass, Share, shares_from, common_den, total_mass, weighted_sum}
+use Rattle.fuzzy_meaning.specs.Meaning.{literal_degree, mass, Share, shares_from, common_den, total_mass}
+use Rattle.fuzzy_meaning.specs.Meaning.{weighted_sum}
 use Rattle.byte_scaling.specs.Cells.{nearest_byte, NearestIsByte}
 use Rattle.point_slope.specs.Bytes.{ByteShare, literal_grade, byte_mass, byte_shares_from, total_mass as byte_total}
 use Rattle.point_slope.specs.Bytes.{weighted_sum as byte_weighted}
-use Rattle.error_bound.specs.declared.boxes.Interval.{Interval}
-use Rattle.error_bound.specs.Boxes.{literal_span, literal_byte_span}
-use Rattle.error_bound.specs.Errors.{billion, apart}
-use Rattle.error_bound.specs.Bounds.{offset}
+use Rattle.error_bound.specs.{declared.boxes.Interval.Interval, Boxes.literal_span, Boxes.literal_byte_span}
+use Rattle.error_bound.specs.{Errors.billion, Errors.apart, Bounds.offset}
 use Rattle.error_bound.specs.Tight.{sum_over, greatest_over, low_of, byte_low_of, byte_high_of, error_of, if_live}
 use Rattle.error_bound.specs.Tight.{farthest, live_offset}
-use Rattle.error_bound.proofs.ConditionLemmas.{IsWithinSpans}
-use Rattle.error_bound.proofs.Sums.{Apart}
+use Rattle.error_bound.proofs.{ConditionLemmas.IsWithinSpans, Sums.Apart}
 use Rattle.error_bound.proofs.TermReaches.{term_held, term_low, term_bytes}
 use Rattle.error_bound.proofs.Rows.{Row, dens, mass_sum, weighted, total_g, dot_u, dot_s, gaps, lows, AllOk}
 

@@ -4,28 +4,19 @@ use Rattle.std.proofs.Common.{subst, arith}
 use Rattle.std.specs.Prelude.{slice_get}
 use Rattle.fz_num.specs.Fractions.{Fraction, IsProper, lesser}
 use Rattle.fz_num.proofs.Algebra.{AtMost-lesser_left, AtMost-lesser_right, up_div-le}
-use Rattle.fuzzy_meaning.specs.declared.block.Block.{Block}
-use Rattle.fuzzy_meaning.specs.declared.block.Rule.{Rule}
-use Rattle.fuzzy_meaning.specs.Blocks.{IsValid}
+use Rattle.fuzzy_meaning.specs.declared.{block.Block.Block, block.Rule.Rule}
+use Rattle.fuzzy_meaning.specs.{Blocks.IsValid, Meaning.weight_of}
 use Rattle.fuzzy_meaning.specs.Conditions.{Condition, Conditions, all, also, conditions}
-use Rattle.fuzzy_meaning.specs.Meaning.{weight_of}
 use Rattle.byte_scaling.specs.Weights.{weight_byte_of}
 use Rattle.point_slope.specs.Tables.{row_of, grade_of}
-use Rattle.error_bound.specs.declared.boxes.Interval.{Interval}
+use Rattle.error_bound.specs.{declared.boxes.Interval.Interval, Errors.billion, Leaves.IsStill, Leaves.concludes_some}
 use Rattle.error_bound.specs.Boxes.{IsBox, literal_span, literal_byte_span, rule_span, rule_byte_span, grades_over}
-use Rattle.error_bound.specs.Errors.{billion}
-use Rattle.error_bound.specs.Leaves.{IsStill, concludes_some}
-use Rattle.error_bound.specs.Best.{IsCandidate}
-use Rattle.error_bound.specs.Masses.{IsRuleMass, no_mass}
-use Rattle.error_bound.specs.Reaches.{IsNowhere}
+use Rattle.error_bound.specs.{Best.IsCandidate, Masses.IsRuleMass, Masses.no_mass, Reaches.IsNowhere, Tight.high_part}
 use Rattle.error_bound.specs.Spans.{Span, only, span, byte_span}
-use Rattle.error_bound.specs.Tight.{high_part}
-use Rattle.error_bound.proofs.Candidates.{candidate-rule}
+use Rattle.error_bound.proofs.{Candidates.candidate-rule, MassEnds.rule_parts_ordered, SilentLeaves.none_below}
 use Rattle.error_bound.proofs.FlatteningLemmas.{span_to_itself, at_literal-holds}
 use Rattle.error_bound.proofs.Literals.{least_le, le_greatest}
-use Rattle.error_bound.proofs.MassEnds.{rule_parts_ordered}
 use Rattle.error_bound.proofs.RuleLemmas.{scaled-mono, times_proper}
-use Rattle.error_bound.proofs.SilentLeaves.{none_below}
 use Rattle.error_bound.proofs.SpanLemmas.{between, levels_monotone}
 
 -- ---- conditions

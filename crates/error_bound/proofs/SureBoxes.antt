@@ -4,28 +4,20 @@ use Rattle.std.proofs.Common.{◌-◌}
 use Rattle.std.specs.Prelude.{All, IfSome, ◌==◌}
 use Rattle.std.proofs.lemmas.Int.{ints}
 use Rattle.std.proofs.lemmas.Bool.Decides.{nat_tests}
-use Rattle.fz_num.specs.declared.dec.Dec.{Dec}
-use Rattle.fz_num.specs.Decimals.{distance}
-use Rattle.fz_num.specs.Fracs.{Quotient, IsClose}
-use Rattle.fuzzy_meaning.specs.declared.block.Block.{Block}
-use Rattle.fuzzy_meaning.specs.declared.block.Output.{Output}
+use Rattle.fz_num.specs.{declared.dec.Dec.Dec, Decimals.distance, Fracs.Quotient, Fracs.IsClose}
+use Rattle.fuzzy_meaning.specs.declared.{block.Block.Block, block.Output.Output}
 use Rattle.fuzzy_meaning.specs.Blocks.{IsValid, IsWeight, output_at, IsValidOutput}
 use Rattle.fuzzy_meaning.specs.Meaning.{literal_degree, Share, shares, total_mass, weighted_sum, centre}
 use Rattle.fz_list.proofs.Algebra.{All-slice_get}
 use Rattle.byte_scaling.specs.Cells.{NearestIsByte, value_in}
 use Rattle.point_slope.specs.Bytes.{literal_grade, byte_shares, total_mass as byte_total}
 use Rattle.point_slope.specs.Bytes.{weighted_sum as byte_weighted}
-use Rattle.error_bound.specs.declared.boxes.Interval.{Interval}
-use Rattle.error_bound.specs.Boxes.{literal_span, literal_byte_span}
-use Rattle.error_bound.specs.Errors.{billion}
-use Rattle.error_bound.specs.Bounds.{ratio_bound}
-use Rattle.error_bound.specs.Tight.{IsSure, sure_bound, live_offset}
-use Rattle.error_bound.proofs.ConditionLemmas.{IsWithinSpans}
-use Rattle.error_bound.proofs.Rows.{mass_sum, weighted, total_g, dot_s, gaps, lows, rows_near, mass_pos}
-use Rattle.error_bound.proofs.Rows.{dot_u}
+use Rattle.error_bound.specs.{declared.boxes.Interval.Interval, Boxes.literal_span, Boxes.literal_byte_span}
+use Rattle.error_bound.specs.{Errors.billion, Bounds.ratio_bound, Tight.IsSure, Tight.sure_bound, Tight.live_offset}
+use Rattle.error_bound.proofs.{ConditionLemmas.IsWithinSpans, Closeness.close_value}
+use Rattle.error_bound.proofs.Rows.{mass_sum, weighted, total_g, dot_s, gaps, lows, rows_near, mass_pos, dot_u}
 use Rattle.error_bound.proofs.Shares.{rows_from, same_sum, byte_total_is, byte_weighted_is, gaps_is, lows_is}
 use Rattle.error_bound.proofs.Shares.{bytes_least, all_ok}
-use Rattle.error_bound.proofs.Closeness.{close_value}
 
 -- a valid block's weights are weights
 pub weights : (b : Block) → IsValid b → All (λ r. IfSome r.weight IsWeight) b.rules

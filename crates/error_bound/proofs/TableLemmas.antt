@@ -4,30 +4,20 @@ use Rattle.std.proofs.Common.{[], None, sym, ap, ◌∙◌, subst, arith}
 use Rattle.std.specs.Prelude.{slice_get, pos}
 use Rattle.std.proofs.lemmas.Option.{get_or_from_slice_get}
 use Rattle.fz_num.specs.Fractions.{Fraction, times}
-use Rattle.fuzzy_meaning.specs.declared.block.Block.{Block}
-use Rattle.fuzzy_meaning.specs.declared.block.Input.{Input}
-use Rattle.fuzzy_meaning.specs.declared.block.Rule.{Rule}
+use Rattle.fuzzy_meaning.specs.declared.{block.Block.Block, block.Input.Input, block.Rule.Rule}
 use Rattle.fuzzy_meaning.specs.declared.block.Trapezoid.{Trapezoid}
-use Rattle.fuzzy_meaning.specs.Blocks.{HasTerm, input_at}
-use Rattle.fuzzy_meaning.specs.Conditions.{Condition}
-use Rattle.fuzzy_meaning.specs.Meaning.{weight_of}
+use Rattle.fuzzy_meaning.specs.{Blocks.HasTerm, Blocks.input_at, Conditions.Condition, Meaning.weight_of}
 use Rattle.byte_scaling.specs.Weights.{weight_byte_of}
 use Rattle.fz_list.proofs.Algebra.{IsSomeAnd-some, IsSomeAnd-within, some_at}
-use Rattle.error_bound.specs.declared.boxes.Interval.{Interval}
-use Rattle.error_bound.specs.declared.cells.TermCells.{TermCells}
-use Rattle.error_bound.specs.declared.ends.End.{End}
-use Rattle.error_bound.specs.declared.reaches.Reach.{Reach}
-use Rattle.error_bound.specs.declared.tables.InputCells.{InputCells}
-use Rattle.error_bound.specs.declared.tables.Row.{Row}
+use Rattle.error_bound.specs.declared.{boxes.Interval.Interval, cells.TermCells.TermCells, ends.End.End}
+use Rattle.error_bound.specs.declared.{reaches.Reach.Reach, tables.InputCells.InputCells, tables.Row.Row}
 use Rattle.error_bound.specs.declared.tables.BoxTerms.{BoxTerms}
 use Rattle.error_bound.specs.Boxes.{literal_span, literal_byte_span, rule_span, rule_byte_span}
-use Rattle.error_bound.specs.Ratios.{value_of, IsRatio}
-use Rattle.error_bound.specs.Spans.{Span, span, byte_span, end_of}
+use Rattle.error_bound.specs.{Ratios.value_of, Ratios.IsRatio, Spans.Span, Spans.span, Spans.byte_span, Spans.end_of}
 use Rattle.error_bound.specs.Flattening.{IsSame, AreSame, ReachesAlike}
-use Rattle.error_bound.specs.Reaches.{AreTermCells, AreInputCells}
-use Rattle.error_bound.specs.Reaches.{AreBoxTerms, IsReachOfTerm, IsReachOfLiteral, IsEndOfCondition, IsEndOfRule}
-use Rattle.error_bound.proofs.Values.{times_same}
-use Rattle.error_bound.proofs.FlatteningLemmas.{span_to_itself}
+use Rattle.error_bound.specs.Reaches.{AreTermCells, AreInputCells, AreBoxTerms, IsReachOfTerm, IsReachOfLiteral}
+use Rattle.error_bound.specs.Reaches.{IsEndOfCondition, IsEndOfRule}
+use Rattle.error_bound.proofs.{Values.times_same, FlatteningLemmas.span_to_itself}
 
 abbrev pub no_term : Trapezoid
 no_term = record { a = None; b = record { 0 = pos 0 }; c = record { 0 = pos 0 }; d = None }

@@ -3,19 +3,13 @@ use Rattle.std.proofs.Common.{◌≡◌, ⊎_elim, ℕ, ◌*◌, ◌/◌, ◌<�
 use Rattle.std.proofs.Common.{le_of_mul-le-mul_right}
 use Rattle.std.proofs.lemmas.Bool.{cases_lt}
 use Rattle.std.proofs.lemmas.Nat.{le-div}
-use Rattle.fz_num.specs.Fractions.{Fraction, over, IsProper, AtMost, IsBelow, times}
-use Rattle.fz_num.specs.Fractions.{none}
-use Rattle.fz_num.proofs.Algebra.{AtMost-trans}
-use Rattle.fz_num.proofs.Algebra.{le-up_div, up_div-le}
-use Rattle.error_bound.specs.Errors.{billion}
-use Rattle.error_bound.specs.declared.boxes.Leaf.{Leaf}
-use Rattle.error_bound.specs.declared.boxes.LeafFault.{LeafFault}
-use Rattle.error_bound.specs.declared.boxes.LeafFault.TheVariants.{Weak, Silent, Loud}
-use Rattle.error_bound.specs.Spans.{Span, only}
+use Rattle.fz_num.specs.Fractions.{Fraction, over, IsProper, AtMost, IsBelow, times, none}
+use Rattle.fz_num.proofs.Algebra.{AtMost-trans, le-up_div, up_div-le}
+use Rattle.error_bound.specs.{Errors.billion, Spans.Span, Spans.only, Flattening.IsSame}
 use Rattle.error_bound.specs.Faults.{parts_down, parts_up, IsStrongFault, weak, still, IsSilentFault, silent, loud}
-use Rattle.error_bound.specs.Flattening.{IsSame}
-use Rattle.error_bound.proofs.RuleLemmas.{times_mono, times_proper}
-use Rattle.error_bound.proofs.SilentLeaves.{none_below}
+use Rattle.error_bound.specs.declared.{boxes.Leaf.Leaf, boxes.LeafFault.LeafFault}
+use Rattle.error_bound.specs.declared.boxes.LeafFault.TheVariants.{Weak, Silent, Loud}
+use Rattle.error_bound.proofs.{RuleLemmas.times_mono, RuleLemmas.times_proper, SilentLeaves.none_below}
 
 -- ---- times a weight
 

@@ -4,16 +4,11 @@ use Rattle.std.proofs.Common.{refl, ◌-◌}
 use Rattle.std.specs.Prelude.{◌==◌, if◌then◌else◌, ◌<ℤ◌}
 use Rattle.std.proofs.lemmas.Int.{ints}
 use Rattle.fz_num.specs.Decimals.{distance}
-use Rattle.fuzzy_meaning.specs.declared.block.Block.{Block}
-use Rattle.fuzzy_meaning.specs.declared.block.Output.{Output}
-use Rattle.error_bound.specs.declared.boxes.Leaf.{Leaf}
-use Rattle.error_bound.specs.Errors.{billion}
+use Rattle.fuzzy_meaning.specs.{declared.block.Block.Block, declared.block.Output.Output, Blocks.IsValidOutput}
+use Rattle.error_bound.specs.{declared.boxes.Leaf.Leaf, Errors.billion, Laws.BoundsFallWithParts}
+use Rattle.error_bound.specs.Bounds.{greatest_offset, strong_bound, silent_bound, bound, errors_from}
 use Rattle.error_bound.proofs.BoundLemmas.{bound_strong, ratio-mono}
-use Rattle.error_bound.specs.Bounds.{greatest_offset, strong_bound, silent_bound, bound}
-use Rattle.error_bound.specs.Bounds.{errors_from}
-use Rattle.error_bound.specs.Laws.{BoundsFallWithParts}
 use Rattle.fz_list.proofs.Algebra.{All-slice_get}
-use Rattle.fuzzy_meaning.specs.Blocks.{IsValidOutput}
 
 strong-least : (x : Output) (h s k : ℕ) → x.lo.0 <ℤ x.hi.0 → 1 ≤ h → 1 ≤ k → strong_bound x h s k ≤ strong_bound x 1 s k
 strong-least x h s k range hh hk =

@@ -1,20 +1,13 @@
 -- The answers over bytes are near the exact ones.
 -- Beside the promise.
 use Rattle.std.specs.Prelude.{◌≡◌, ◌≢◌, ℕ, ◌≤◌, List, Some, None}
-use Rattle.fz_num.specs.declared.dec.Dec.{Dec}
-use Rattle.fz_num.specs.Decimals.{distance}
-use Rattle.fz_num.specs.Fracs.{Quotient, IsClose}
-use Rattle.fuzzy_meaning.specs.declared.block.Block.{Block}
-use Rattle.fuzzy_meaning.specs.declared.block.Output.{Output}
-use Rattle.fuzzy_meaning.specs.Blocks.{output_at, IsValid}
-use Rattle.fuzzy_meaning.specs.Meaning.{answer_after}
+use Rattle.fz_num.specs.{declared.dec.Dec.Dec, Decimals.distance, Fracs.Quotient, Fracs.IsClose}
+use Rattle.fuzzy_meaning.specs.declared.{block.Block.Block, block.Output.Output}
+use Rattle.fuzzy_meaning.specs.{Blocks.output_at, Blocks.IsValid, Meaning.answer_after}
 use Rattle.byte_scaling.specs.Cells.{value_in}
 use Rattle.point_slope.specs.Bytes.{answer_in}
-use Rattle.error_bound.specs.declared.boxes.Interval.{Interval}
-use Rattle.error_bound.specs.declared.boxes.Leaf.{Leaf}
-use Rattle.error_bound.specs.Boxes.{LieIn, LieInCells}
-use Rattle.error_bound.specs.Leaves.{Holds}
-use Rattle.error_bound.specs.Bounds.{IsBound}
+use Rattle.error_bound.specs.declared.{boxes.Interval.Interval, boxes.Leaf.Leaf}
+use Rattle.error_bound.specs.{Boxes.LieIn, Boxes.LieInCells, Leaves.Holds, Bounds.IsBound}
 
 -- answer q' with the value p' follows answer q, and the exact answer `after` follows `before`: where NC keeps the
 -- answer both are those before, else p' is near `after`

@@ -1,10 +1,8 @@
 -- The best leaf of a box for an output.
 -- Beside the promise.
 use Rattle.std.specs.Prelude.{◌≡◌, ◌⊎◌, ℕ, ◌*◌, ◌/◌, ◌<◌, ◌≤◌, List, Option, Some, None, IsTrue}
-use Rattle.fuzzy_meaning.specs.declared.block.Block.{Block}
-use Rattle.fuzzy_meaning.specs.declared.block.Rule.{Rule}
-use Rattle.error_bound.specs.declared.boxes.Interval.{Interval}
-use Rattle.error_bound.specs.declared.boxes.Leaf.{Leaf}
+use Rattle.fuzzy_meaning.specs.declared.{block.Block.Block, block.Rule.Rule}
+use Rattle.error_bound.specs.declared.{boxes.Interval.Interval, boxes.Leaf.Leaf}
 use Rattle.error_bound.specs.Boxes.{rule_span, rule_byte_span}
 use Rattle.error_bound.specs.Leaves.{rule_at, concludes_some, Holds}
 

@@ -1,16 +1,10 @@
 -- What the best leaf of a box says of every leaf there.
 -- Beside the promise.
 use Rattle.std.specs.Prelude.{◌≡◌, ℕ, ◌≤◌, List, length, Option, Some, None}
-use Rattle.fuzzy_meaning.specs.declared.block.Block.{Block}
-use Rattle.fuzzy_meaning.specs.declared.block.Output.{Output}
+use Rattle.fuzzy_meaning.specs.declared.{block.Block.Block, block.Output.Output}
 use Rattle.fuzzy_meaning.specs.Blocks.{IsValid, output_at}
-use Rattle.error_bound.specs.declared.boxes.Interval.{Interval}
-use Rattle.error_bound.specs.declared.boxes.Leaf.{Leaf}
-use Rattle.error_bound.specs.Boxes.{IsBox}
-use Rattle.error_bound.specs.Leaves.{Holds, IsPairFor}
-use Rattle.error_bound.specs.Best.{IsBest}
-use Rattle.error_bound.specs.Bounds.{IsBound}
-use Rattle.error_bound.specs.Laws.{IsInside}
+use Rattle.error_bound.specs.declared.{boxes.Interval.Interval, boxes.Leaf.Leaf}
+use Rattle.error_bound.specs.{Boxes.IsBox, Leaves.Holds, Leaves.IsPairFor, Best.IsBest, Bounds.IsBound, Laws.IsInside}
 
 -- n is the Bound of the box's best leaf; where no leaf holds it counts as 1000001
 pub data IsBestBound (b : Block) (box : List Interval) (o : ℕ) (x : Output) (h : ℕ) : ℕ → Type 0 where

@@ -2,22 +2,14 @@
 -- Beside the promise.
 use Rattle.std.specs.Prelude.{◌≡◌, ℕ, zero, suc, ◌+◌, ◌-◌, ◌*◌, ◌/◌, ◌≤◌, ◌==◌, min, max, List, length, slice_get, Some}
 use Rattle.std.specs.Option.{option_map_or}
-use Rattle.fz_num.specs.declared.dec.Dec.{Dec}
-use Rattle.fz_num.specs.Fractions.{Fraction, times, none}
-use Rattle.fz_num.specs.Decimals.{distance}
-use Rattle.fuzzy_meaning.specs.declared.block.Block.{Block}
-use Rattle.fuzzy_meaning.specs.declared.block.Input.{Input}
-use Rattle.fuzzy_meaning.specs.declared.block.Rule.{Rule}
+use Rattle.fz_num.specs.{declared.dec.Dec.Dec, Fractions.Fraction, Fractions.times, Fractions.none, Decimals.distance}
+use Rattle.fuzzy_meaning.specs.declared.{block.Block.Block, block.Input.Input, block.Rule.Rule}
 use Rattle.fuzzy_meaning.specs.declared.block.Trapezoid.{Trapezoid}
-use Rattle.fuzzy_meaning.specs.Blocks.{input_at, AreInputs}
-use Rattle.fuzzy_meaning.specs.Meaning.{weight_of}
-use Rattle.byte_scaling.specs.Cells.{cell_start, cell_end, LiesInCell}
-use Rattle.byte_scaling.specs.Weights.{weight_byte_of}
+use Rattle.fuzzy_meaning.specs.{Blocks.input_at, Blocks.AreInputs, Meaning.weight_of, Places.points_of}
+use Rattle.byte_scaling.specs.{Cells.cell_start, Cells.cell_end, Cells.LiesInCell, Weights.weight_byte_of}
 use Rattle.point_slope.specs.Tables.{row_of, grade_of}
 use Rattle.error_bound.specs.declared.boxes.Interval.{Interval}
-use Rattle.fuzzy_meaning.specs.Places.{points_of}
-use Rattle.error_bound.specs.Places.{low, high}
-use Rattle.error_bound.specs.Spans.{Span, only, span, byte_span}
+use Rattle.error_bound.specs.{Places.low, Places.high, Spans.Span, Spans.only, Spans.span, Spans.byte_span}
 
 -- each interval has at least one byte
 pub record IsBox (box : List Interval) : Type 0 where

@@ -1,17 +1,12 @@
 -- A term's eps is the greatest gap at the low and at the high of each cell.
 -- Beside the promise.
 use Rattle.std.specs.Prelude.{ℕ, zero, suc, ◌+◌, ◌-◌, ◌*◌, ◌==◌, max, List}
-use Rattle.fz_num.specs.Fractions.{over, gap}
-use Rattle.fz_num.specs.Decimals.{distance}
-use Rattle.fuzzy_meaning.specs.declared.block.Block.{Block}
-use Rattle.fuzzy_meaning.specs.declared.block.Input.{Input}
-use Rattle.fuzzy_meaning.specs.declared.block.Trapezoid.{Trapezoid}
+use Rattle.fz_num.specs.{Fractions.over, Fractions.gap, Decimals.distance}
+use Rattle.fuzzy_meaning.specs.declared.{block.Block.Block, block.Input.Input, block.Trapezoid.Trapezoid}
 use Rattle.fuzzy_meaning.specs.Places.{Points, points_of}
 use Rattle.point_slope.specs.Tables.{row_of, grade_of}
 use Rattle.error_bound.specs.declared.boxes.Interval.{Interval}
-use Rattle.error_bound.specs.Places.{low, high}
-use Rattle.error_bound.specs.Boxes.{at_literal}
-use Rattle.error_bound.specs.Errors.{billion}
+use Rattle.error_bound.specs.{Places.low, Places.high, Boxes.at_literal, Errors.billion}
 
 -- in parts of t, of byte b's cell in a range of width w
 abbrev pub cell_error : ℕ → Points → ℕ → (ℕ → ℕ) → ℕ → ℕ

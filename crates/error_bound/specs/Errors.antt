@@ -1,21 +1,13 @@
 -- How far grades may be from degrees over a box, in parts of 10^9.
 -- Beside the promise.
 use Rattle.std.specs.Prelude.{◌≡◌, ℕ, ◌+◌, ◌-◌, ◌*◌, ◌≤◌, ◌==◌, max, List, [], ◌∷◌, if◌then◌else◌, slice_get, Some}
-use Rattle.fz_num.specs.Fractions.{Fraction, IsNear, up_div}
-use Rattle.fz_num.specs.Decimals.{distance}
-use Rattle.fuzzy_meaning.specs.declared.block.Block.{Block}
-use Rattle.fuzzy_meaning.specs.declared.block.Input.{Input}
-use Rattle.fuzzy_meaning.specs.declared.block.Rule.{Rule}
-use Rattle.fuzzy_meaning.specs.declared.block.Trapezoid.{Trapezoid}
-use Rattle.fuzzy_meaning.specs.Blocks.{input_at}
-use Rattle.fuzzy_meaning.specs.Meaning.{weight_of}
-use Rattle.fuzzy_meaning.specs.Rules.{concludes}
-use Rattle.byte_scaling.specs.Cells.{IsInCell}
-use Rattle.byte_scaling.specs.Weights.{weight_byte_of}
+use Rattle.fz_num.specs.{Fractions.Fraction, Fractions.IsNear, Fractions.up_div, Decimals.distance}
+use Rattle.fuzzy_meaning.specs.{declared.block.Block.Block, declared.block.Input.Input, declared.block.Rule.Rule}
+use Rattle.fuzzy_meaning.specs.{declared.block.Trapezoid.Trapezoid, Blocks.input_at, Meaning.weight_of}
+use Rattle.fuzzy_meaning.specs.{Rules.concludes, Places.points_of, Places.degree_at}
+use Rattle.byte_scaling.specs.{Cells.IsInCell, Weights.weight_byte_of}
 use Rattle.point_slope.specs.Tables.{row_of, grade_of}
-use Rattle.error_bound.specs.declared.boxes.Interval.{Interval}
-use Rattle.fuzzy_meaning.specs.Places.{points_of, degree_at}
-use Rattle.error_bound.specs.Spans.{greatest_literal}
+use Rattle.error_bound.specs.{declared.boxes.Interval.Interval, Spans.greatest_literal}
 
 abbrev pub billion : ℕ
 billion = 1000000000

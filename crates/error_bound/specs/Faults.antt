@@ -2,16 +2,12 @@
 -- Beside the promise.
 use Rattle.std.specs.Prelude.{◌≡◌, ℕ, ◌*◌, ◌/◌, ◌<◌, ◌≤◌, List, Some, IsTrue}
 use Rattle.fz_num.specs.Fractions.{Fraction, over, AtMost, IsBelow, up_div}
-use Rattle.fuzzy_meaning.specs.declared.block.Block.{Block}
-use Rattle.fuzzy_meaning.specs.declared.block.Rule.{Rule}
-use Rattle.fuzzy_meaning.specs.Rules.{concludes}
+use Rattle.fuzzy_meaning.specs.{declared.block.Block.Block, declared.block.Rule.Rule, Rules.concludes}
 use Rattle.error_bound.specs.declared.boxes.Interval.{Interval}
 use Rattle.error_bound.specs.declared.boxes.Leaf as the
 use Rattle.error_bound.specs.declared.boxes.LeafFault.{LeafFault}
 use Rattle.error_bound.specs.declared.boxes.LeafFault.TheVariants.{Weak, Still, Silent, Loud}
-use Rattle.error_bound.specs.Boxes.{rule_span, rule_byte_span}
-use Rattle.error_bound.specs.Spans.{Span}
-use Rattle.error_bound.specs.Errors.{billion}
+use Rattle.error_bound.specs.{Boxes.rule_span, Boxes.rule_byte_span, Spans.Span, Errors.billion}
 use Rattle.error_bound.specs.Leaves.{rule_at, concludes_some, IsStill, Holds}
 
 -- in parts of 10^9, rounded down or up

@@ -3,13 +3,11 @@
 -- Beside the promise.
 use Rattle.std.specs.Prelude.{◌≡◌, ℕ, Bool, false, List, if◌then◌else◌}
 use Rattle.fz_num.specs.Fractions.{Fraction, IsProper, AtMost}
-use Rattle.fuzzy_meaning.specs.declared.block.Block.{Block}
-use Rattle.fuzzy_meaning.specs.Blocks.{IsValidCondition}
+use Rattle.fuzzy_meaning.specs.{declared.block.Block.Block, Blocks.IsValidCondition}
 use Rattle.fuzzy_meaning.specs.Conditions.{Condition, is, negation, all, any, Conditions, end, also, group, under}
 use Rattle.fuzzy_meaning.specs.Conditions.{Joins, evaluate_pushed, evaluate_pushed_parts}
-use Rattle.error_bound.specs.declared.boxes.Interval.{Interval}
+use Rattle.error_bound.specs.{declared.boxes.Interval.Interval, Boxes.literal_span, Boxes.literal_byte_span}
 use Rattle.error_bound.specs.Spans.{Span, span, byte_span, greatest_literal}
-use Rattle.error_bound.specs.Boxes.{literal_span, literal_byte_span}
 
 -- the second behind the first
 abbrev pub followed : Conditions → Conditions → Conditions

@@ -2,21 +2,13 @@
 -- Beside the promise.
 use Rattle.std.specs.Prelude.{length, ◌≡◌, ℕ, ◌≤◌, ◌==◌, List, slice_get, Some}
 use Rattle.fz_num.specs.Decimals.{distance}
-use Rattle.fuzzy_meaning.specs.declared.block.Block.{Block}
-use Rattle.fuzzy_meaning.specs.declared.block.Input.{Input}
-use Rattle.fuzzy_meaning.specs.declared.block.Trapezoid.{Trapezoid}
+use Rattle.fuzzy_meaning.specs.{declared.block.Block.Block, declared.block.Input.Input}
+use Rattle.fuzzy_meaning.specs.{declared.block.Trapezoid.Trapezoid, declared.block.Output.Output, Places.points_of}
 use Rattle.fuzzy_meaning.specs.Blocks.{IsValid, IsValidInput, IsValidTerm, output_at}
 use Rattle.byte_scaling.specs.Cells.{cell_start, cell_end}
-use Rattle.error_bound.specs.declared.boxes.Interval.{Interval}
-use Rattle.fuzzy_meaning.specs.Places.{points_of}
-use Rattle.error_bound.specs.Places.{AreBounds}
-use Rattle.error_bound.specs.Boxes.{IsBox, degrees_over}
-use Rattle.error_bound.specs.Errors.{AreTermErrors}
-use Rattle.error_bound.specs.CellErrors.{term_errors}
-use Rattle.error_bound.specs.Leaves.{Holds}
-use Rattle.error_bound.specs.Bounds.{IsBound}
-use Rattle.error_bound.specs.declared.boxes.Leaf.{Leaf}
-use Rattle.fuzzy_meaning.specs.declared.block.Output.{Output}
+use Rattle.error_bound.specs.declared.{boxes.Interval.Interval, boxes.Leaf.Leaf}
+use Rattle.error_bound.specs.{Places.AreBounds, Boxes.IsBox, Boxes.degrees_over, Errors.AreTermErrors}
+use Rattle.error_bound.specs.{CellErrors.term_errors, Leaves.Holds, Bounds.IsBound}
 
 abbrev pub CellsHaveBounds : Type 0
 CellsHaveBounds =

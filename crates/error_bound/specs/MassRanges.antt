@@ -2,20 +2,13 @@
 -- Beside the promise.
 use Rattle.std.specs.Prelude.{◌≡◌, ℕ, ◌+◌, ◌*◌, ◌<◌, ◌≤◌, List, [], ◌∷◌, Some, None}
 use Rattle.std.specs.Option.{option_map_or}
-use Rattle.fz_num.specs.declared.dec.Dec.{Dec}
-use Rattle.fz_num.specs.Decimals.{distance}
-use Rattle.fz_num.specs.Fracs.{Quotient, IsClose}
-use Rattle.cell_error.specs.declared.ranges.MassRange.{MassRange}
-use Rattle.cell_error.specs.declared.ranges.Answer.{Answer}
-use Rattle.cell_error.specs.Errors.{Covers}
-use Rattle.fuzzy_meaning.specs.declared.block.Block.{Block}
-use Rattle.fuzzy_meaning.specs.declared.block.Output.{Output}
-use Rattle.fuzzy_meaning.specs.Blocks.{output_at, IsValid}
-use Rattle.fuzzy_meaning.specs.Meaning.{answer_after}
+use Rattle.fz_num.specs.{declared.dec.Dec.Dec, Decimals.distance, Fracs.Quotient, Fracs.IsClose}
+use Rattle.cell_error.specs.{declared.ranges.MassRange.MassRange, declared.ranges.Answer.Answer, Errors.Covers}
+use Rattle.fuzzy_meaning.specs.declared.{block.Block.Block, block.Output.Output}
+use Rattle.fuzzy_meaning.specs.{Blocks.output_at, Blocks.IsValid, Meaning.answer_after}
 use Rattle.byte_scaling.specs.Cells.{value_in}
 use Rattle.error_bound.specs.declared.boxes.Interval.{Interval}
-use Rattle.error_bound.specs.Boxes.{IsBox, LieIn, LieInCells}
-use Rattle.error_bound.specs.Tight.{low_of, high_of}
+use Rattle.error_bound.specs.{Boxes.IsBox, Boxes.LieIn, Boxes.LieInCells, Tight.low_of, Tight.high_of}
 
 -- of singletons from place k on, where their masses have these lower and upper ends by their places
 abbrev pub ranges_at : (ℕ → ℕ) → (ℕ → ℕ) → Dec → ℕ → List Dec → List MassRange

@@ -1,18 +1,11 @@
 -- What the code knows of the masses of an output's terms on a box.
 -- Beside the promise.
 use Rattle.std.specs.Prelude.{◌≡◌, ℕ, ◌+◌, ◌-◌, ◌*◌, ◌<◌, ◌≤◌, ◌==◌, List, if◌then◌else◌, slice_index}
-use Rattle.fz_num.specs.declared.dec.Dec.{Dec}
-use Rattle.fz_num.specs.Decimals.{distance}
-use Rattle.fuzzy_meaning.specs.declared.block.Block.{Block}
-use Rattle.fuzzy_meaning.specs.declared.block.Output.{Output}
-use Rattle.fuzzy_meaning.specs.declared.block.Rule.{Rule}
-use Rattle.error_bound.specs.declared.boxes.Interval.{Interval}
-use Rattle.error_bound.specs.declared.tight.RuleMass.{RuleMass}
-use Rattle.error_bound.specs.declared.tight.Masses.{Masses}
-use Rattle.error_bound.specs.Boxes.{rule_byte_span}
+use Rattle.fz_num.specs.{declared.dec.Dec.Dec, Decimals.distance}
+use Rattle.fuzzy_meaning.specs.declared.{block.Block.Block, block.Output.Output, block.Rule.Rule}
+use Rattle.error_bound.specs.declared.{boxes.Interval.Interval, tight.RuleMass.RuleMass, tight.Masses.Masses}
+use Rattle.error_bound.specs.{Boxes.rule_byte_span, CellErrors.term_errors, Errors.apart}
 use Rattle.error_bound.specs.Bounds.{offset, ratio_bound}
-use Rattle.error_bound.specs.CellErrors.{term_errors}
-use Rattle.error_bound.specs.Errors.{apart}
 use Rattle.error_bound.specs.Tight.{greatest_of, sum_over, greatest_over, low_part, high_part, moving_error}
 
 -- of a rule on a box

@@ -1,31 +1,18 @@
 -- What the code's reaches stand for.
 -- Beside the promise.
 use Rattle.std.specs.Prelude.{◌≡◌, ℕ, ◌≤◌, Bool, List, length, IfSome, Some, slice_get, slice_index}
-use Rattle.fz_num.specs.Decimals.{distance}
-use Rattle.fz_num.specs.Fractions.{Fraction}
-use Rattle.fuzzy_meaning.specs.declared.block.Block.{Block}
-use Rattle.fuzzy_meaning.specs.declared.block.Input.{Input}
-use Rattle.fuzzy_meaning.specs.declared.block.Rule.{Rule}
-use Rattle.fuzzy_meaning.specs.declared.block.Trapezoid.{Trapezoid}
-use Rattle.fuzzy_meaning.specs.Conditions.{Condition}
-use Rattle.fuzzy_meaning.specs.Places.{points_of}
+use Rattle.fz_num.specs.{Decimals.distance, Fractions.Fraction}
+use Rattle.fuzzy_meaning.specs.{declared.block.Block.Block, declared.block.Input.Input, declared.block.Rule.Rule}
+use Rattle.fuzzy_meaning.specs.{declared.block.Trapezoid.Trapezoid, Conditions.Condition, Places.points_of}
 use Rattle.point_slope.specs.Tables.{row_of, grade_of}
-use Rattle.error_bound.specs.declared.boxes.Interval.{Interval}
-use Rattle.error_bound.specs.declared.cells.TermCells.{TermCells}
-use Rattle.error_bound.specs.declared.degrees.Degrees.{Degrees}
-use Rattle.error_bound.specs.declared.ends.End.{End}
-use Rattle.error_bound.specs.declared.reaches.Reach.{Reach}
-use Rattle.error_bound.specs.declared.tables.InputCells.{InputCells}
-use Rattle.error_bound.specs.declared.tables.BlockTable.{BlockTable}
-use Rattle.error_bound.specs.declared.tables.Row.{Row}
-use Rattle.error_bound.specs.declared.tables.BoxTerms.{BoxTerms}
+use Rattle.error_bound.specs.declared.{boxes.Interval.Interval, cells.TermCells.TermCells, degrees.Degrees.Degrees}
+use Rattle.error_bound.specs.declared.{ends.End.End, reaches.Reach.Reach, tables.InputCells.InputCells}
+use Rattle.error_bound.specs.declared.{tables.BlockTable.BlockTable, tables.Row.Row, tables.BoxTerms.BoxTerms}
 use Rattle.error_bound.specs.declared.rules.BoxTable.{BoxTable}
-use Rattle.error_bound.specs.Ratios.{value_of, IsRatio}
-use Rattle.error_bound.specs.Spans.{Span, span, byte_span, end_of}
+use Rattle.error_bound.specs.{Ratios.value_of, Ratios.IsRatio, Spans.Span, Spans.span, Spans.byte_span, Spans.end_of}
 use Rattle.error_bound.specs.Boxes.{IsBoxOf, degrees_over, grades_over, literal_span, literal_byte_span, rule_span}
 use Rattle.error_bound.specs.Boxes.{rule_byte_span}
-use Rattle.error_bound.specs.Errors.{billion, rule_error}
-use Rattle.error_bound.specs.Flattening.{IsSame, ReachesAlike}
+use Rattle.error_bound.specs.{Errors.billion, Errors.rule_error, Flattening.IsSame, Flattening.ReachesAlike}
 use Rattle.error_bound.specs.CellErrors.{cell_error, term_error, term_errors}
 
 abbrev pub span_of : Degrees → Span Fraction

@@ -1,22 +1,14 @@
 -- What a box's tight Bound says of the answers there, and of other Bounds.
 -- Beside the promise.
 use Rattle.std.specs.Prelude.{◌≡◌, ℕ, ◌≤◌, List, length, Some, None}
-use Rattle.fz_num.specs.declared.dec.Dec.{Dec}
-use Rattle.fz_num.specs.Decimals.{distance}
-use Rattle.fz_num.specs.Fracs.{Quotient, IsClose}
-use Rattle.fuzzy_meaning.specs.declared.block.Block.{Block}
-use Rattle.fuzzy_meaning.specs.declared.block.Output.{Output}
-use Rattle.fuzzy_meaning.specs.Blocks.{output_at, IsValid}
-use Rattle.fuzzy_meaning.specs.Meaning.{answer_after}
+use Rattle.fz_num.specs.{declared.dec.Dec.Dec, Decimals.distance, Fracs.Quotient, Fracs.IsClose}
+use Rattle.fuzzy_meaning.specs.declared.{block.Block.Block, block.Output.Output}
+use Rattle.fuzzy_meaning.specs.{Blocks.output_at, Blocks.IsValid, Meaning.answer_after}
 use Rattle.byte_scaling.specs.Cells.{value_in}
 use Rattle.point_slope.specs.Bytes.{answer_in}
-use Rattle.error_bound.specs.declared.boxes.Interval.{Interval}
-use Rattle.error_bound.specs.declared.boxes.Leaf.{Leaf}
+use Rattle.error_bound.specs.declared.{boxes.Interval.Interval, boxes.Leaf.Leaf}
 use Rattle.error_bound.specs.Boxes.{IsBox, LieIn, LieInCells}
-use Rattle.error_bound.specs.Leaves.{Holds}
-use Rattle.error_bound.specs.Bounds.{IsBound}
-use Rattle.error_bound.specs.Laws.{IsInside}
-use Rattle.error_bound.specs.Tight.{IsTightBound, IsTightCount}
+use Rattle.error_bound.specs.{Leaves.Holds, Bounds.IsBound, Laws.IsInside, Tight.IsTightBound, Tight.IsTightCount}
 
 -- answer q' with the value p' follows answer q, and the exact answer `after` follows `before`: both are those before,
 -- as NC keeps them, or p' is near `after`

@@ -1,13 +1,10 @@
 //! The grades of a term and how far each is from its cell's degrees, byte by byte.
 ghost use Rattle.std.specs.Prelude.{◌≡◌, ◌-◌, ◌≤◌, ℕ, length, IfSome, slice_get, slice_index};
 ghost use Rattle.fz_num.specs.Decimals.{distance};
-ghost use Rattle.fuzzy_meaning.specs.Blocks.{IsValidInput, IsValidTerm};
-ghost use Rattle.fuzzy_meaning.specs.Places.{points_of};
+ghost use Rattle.fuzzy_meaning.specs.{Blocks.IsValidInput, Blocks.IsValidTerm, Places.points_of};
 ghost use Rattle.point_slope.specs.Tables.{row_of, grade_of};
 ghost use Rattle.error_bound.specs.Boxes.{least_from, greatest_from};
-ghost use Rattle.error_bound.specs.Errors.{IsTermError};
-ghost use Rattle.error_bound.specs.CellErrors.{cell_error};
-ghost use Rattle.error_bound.specs.Reaches.{AreTermCells};
+ghost use Rattle.error_bound.specs.{Errors.IsTermError, CellErrors.cell_error, Reaches.AreTermCells};
 
 use crate::boxes::Interval;
 use crate::degrees::degrees_of;

@@ -2,9 +2,7 @@
 ghost use Rattle.std.specs.Prelude.{◌≡◌, ◌≤◌, ◌<◌, ◌+◌, ◌*◌, ◌/◌, ℕ, IfSome, IfNone, length};
 ghost use Rattle.fuzzy_meaning.specs.Blocks.{IsValid};
 ghost use Rattle.error_bound.specs.Best.{IsBest, IsCandidate, IsFirstGreatest};
-ghost use Rattle.error_bound.specs.Boxes.{IsBoxOf};
-ghost use Rattle.error_bound.specs.Ratios.{value_of, IsRatio};
-ghost use Rattle.error_bound.specs.Reaches.{IsTable};
+ghost use Rattle.error_bound.specs.{Boxes.IsBoxOf, Ratios.value_of, Ratios.IsRatio, Reaches.IsTable};
 
 use crate::boxes::{ByteBox, Leaf};
 use crate::ends::End;

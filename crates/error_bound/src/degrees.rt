@@ -1,12 +1,8 @@
 //! From the least to the greatest degree.
 ghost use Rattle.std.specs.Prelude.{◌≡◌, ◌+◌, ◌*◌, ◌==◌, ◌≤◌, IfSome, ◌≤ℤ◌, option_map};
-ghost use Rattle.fz_num.specs.Fractions.{over};
-ghost use Rattle.fz_num.specs.Decimals.{distance};
-ghost use Rattle.fuzzy_meaning.specs.Blocks.{IsValidInput, IsValidTerm};
-ghost use Rattle.fuzzy_meaning.specs.Places.{rise_at, fall_at};
-ghost use Rattle.error_bound.specs.Places.{rise_end};
-ghost use Rattle.error_bound.specs.Ratios.{value_of, IsRatio};
-ghost use Rattle.error_bound.specs.Boxes.{degrees_over};
+ghost use Rattle.fz_num.specs.{Fractions.over, Decimals.distance};
+ghost use Rattle.fuzzy_meaning.specs.{Blocks.IsValidInput, Blocks.IsValidTerm, Places.rise_at, Places.fall_at};
+ghost use Rattle.error_bound.specs.{Places.rise_end, Ratios.value_of, Ratios.IsRatio, Boxes.degrees_over};
 ghost use Rattle.error_bound.specs.Reaches.{span_of, AreTruths};
 
 use crate::boxes::Interval;

@@ -4,8 +4,7 @@ ghost use Rattle.fz_num.specs.Fractions.{one_minus};
 ghost use Rattle.fuzzy_meaning.specs.Blocks.{IsValid, IsValidCondition, AreValidConditions};
 ghost use Rattle.fuzzy_meaning.specs.Conditions.{conditions, group, is, levels, under};
 ghost use Rattle.fuzzy_meaning.specs.Meaning.{truths};
-ghost use Rattle.error_bound.specs.Spans.{end_of as end_of_span};
-ghost use Rattle.error_bound.specs.Ratios.{value_of, IsRatio};
+ghost use Rattle.error_bound.specs.{Spans.end_of as end_of_span, Ratios.value_of, Ratios.IsRatio};
 ghost use Rattle.error_bound.specs.Reaches.{span_of, byte_span_of, IsSmall, AreBoxTerms, IsEndOfCondition};
 
 use crate::ratio::Ratio;

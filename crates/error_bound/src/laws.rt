@@ -1,8 +1,7 @@
 //! Laws of the definitions.
 ghost use Rattle.error_bound.specs.Laws.{CellsHaveBounds, TermErrorsAre, LeavesHoldInside, BoundsFallInside};
 ghost use Rattle.error_bound.specs.Laws.{BoundsFallWithParts, BoundsAreDetermined};
-ghost use Rattle.error_bound.specs.Answers.{AnswersAreNear};
-ghost use Rattle.error_bound.specs.Faults.{FaultyLeavesFail, LeafFaultsAreOne};
+ghost use Rattle.error_bound.specs.{Answers.AnswersAreNear, Faults.FaultyLeavesFail, Faults.LeafFaultsAreOne};
 
 use byte_scaling::nearest_is_byte;
 use fuzzy_meaning::numbers_have_their_degrees;

@@ -3,15 +3,11 @@ ghost use Rattle.std.specs.Prelude.{◌≡◌, ◌↔◌, ◌≤◌, ◌<◌, �
 ghost use Rattle.std.specs.Prelude.{Some, length};
 ghost use Rattle.fz_num.specs.Fractions.{over, AtMost};
 ghost use Rattle.fuzzy_meaning.specs.declared.block.Rule.{Rule as TheRule};
-ghost use Rattle.fuzzy_meaning.specs.Blocks.{IsValid, output_at};
-ghost use Rattle.fuzzy_meaning.specs.Rules.{concludes as concludes_it};
-ghost use Rattle.error_bound.specs.Boxes.{IsBoxOf};
-ghost use Rattle.error_bound.specs.Bounds.{IsBound};
+ghost use Rattle.fuzzy_meaning.specs.{Blocks.IsValid, Blocks.output_at, Rules.concludes as concludes_it};
+ghost use Rattle.error_bound.specs.{Boxes.IsBoxOf, Bounds.IsBound, Spans.only, Reaches.IsTable};
 ghost use Rattle.error_bound.specs.Faults.{HasLeafFault, IsStrongFault, IsSilentFault};
 ghost use Rattle.error_bound.specs.Leaves.{rule_at, Holds, IsStill, concludes_some as concludes_any, IsPairFor};
 ghost use Rattle.error_bound.specs.Ratios.{value_of, IsRatio};
-ghost use Rattle.error_bound.specs.Spans.{only};
-ghost use Rattle.error_bound.specs.Reaches.{IsTable};
 
 use crate::bounds::{silent_bound, strong_bound};
 use crate::boxes::{ByteBox, Leaf, LeafFault};

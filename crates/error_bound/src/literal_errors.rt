@@ -2,9 +2,7 @@
 ghost use Rattle.std.specs.Prelude.{◌≡◌, ◌≤◌};
 ghost use Rattle.fuzzy_meaning.specs.Blocks.{IsValid, IsValidCondition, AreValidConditions};
 ghost use Rattle.fuzzy_meaning.specs.Conditions.{all, conditions};
-ghost use Rattle.error_bound.specs.Spans.{greatest_literal};
-ghost use Rattle.error_bound.specs.CellErrors.{term_errors};
-ghost use Rattle.error_bound.specs.Reaches.{AreBoxTerms};
+ghost use Rattle.error_bound.specs.{Spans.greatest_literal, CellErrors.term_errors, Reaches.AreBoxTerms};
 
 use crate::reaches::{literal_in, reach_of_literal};
 use crate::tables::BoxTerms;

@@ -2,8 +2,7 @@
 ghost use Rattle.std.specs.Prelude.{◌≡◌, IsTrue};
 ghost use Rattle.fuzzy_meaning.specs.Blocks.{IsValid, IsValidCondition, AreValidConditions};
 ghost use Rattle.fuzzy_meaning.specs.Conditions.{all, conditions};
-ghost use Rattle.error_bound.specs.Ratios.{value_of};
-ghost use Rattle.error_bound.specs.Reaches.{AreBoxTerms, IsNowhere};
+ghost use Rattle.error_bound.specs.{Ratios.value_of, Reaches.AreBoxTerms, Reaches.IsNowhere};
 
 use crate::reaches::{Reach, reach_of_literal};
 use crate::tables::BoxTerms;

@@ -1,7 +1,6 @@
 //! How far the truths of literals reach over a box.
 ghost use Rattle.std.specs.Prelude.{◌≡◌, IfSome};
-ghost use Rattle.fuzzy_meaning.specs.Blocks.{IsValid, HasTerm};
-ghost use Rattle.fuzzy_meaning.specs.Conditions.{is, under};
+ghost use Rattle.fuzzy_meaning.specs.{Blocks.IsValid, Blocks.HasTerm, Conditions.is, Conditions.under};
 ghost use Rattle.error_bound.specs.Reaches.{AreBoxTerms, IsReachOfLiteral};
 
 use crate::degrees::Degrees;

@@ -2,13 +2,10 @@
 ghost use Rattle.std.specs.Prelude.{◌≡◌, ◌≤◌, ◌<◌, ◌+◌, ◌*◌, ◌/◌, ◌≤ℤ◌, length, pos, unsigned_abs, if◌then◌else◌, ◌==◌};
 ghost use Rattle.std.specs.Prelude.{IfSome, Some, false, true, slice_get};
 ghost use Rattle.fz_num.specs.Fractions.{up_div};
-ghost use Rattle.fuzzy_meaning.specs.declared.block.Rule.{Rule as TheRule};
-ghost use Rattle.fuzzy_meaning.specs.Blocks.{IsValid, IsValidRule};
-ghost use Rattle.error_bound.specs.Boxes.{IsBoxOf};
-ghost use Rattle.error_bound.specs.Errors.{apart};
+ghost use Rattle.fuzzy_meaning.specs.{declared.block.Rule.Rule as TheRule, Blocks.IsValid, Blocks.IsValidRule};
+ghost use Rattle.error_bound.specs.{Boxes.IsBoxOf, Errors.apart, Flattening.ReachesAlike};
 ghost use Rattle.error_bound.specs.Leaves.{IsStill, concludes_some as concludes_any};
 ghost use Rattle.error_bound.specs.Reaches.{HasAlike, IsBlockTable, AreBoxTerms, IsEndOfRule, IsErrorOfRule, IsTable};
-ghost use Rattle.error_bound.specs.Flattening.{ReachesAlike};
 
 use crate::boxes::ByteBox;
 use crate::ends::{End, end_of};

@@ -1,10 +1,9 @@
 //! What boxes need of a block, and the reaches of all terms over a box.
 ghost use Rattle.std.specs.Prelude.{◌≡◌, ◌≤◌, ◌-◌, ℕ, length, IfOk, IfSome, IsTrue, Some, slice_get};
 ghost use Rattle.fuzzy_meaning.specs.Blocks.{IsValid, IsValidInput, IsValidTerm};
-ghost use Rattle.error_bound.specs.declared.tables.InputCells.{InputCells as TheCells};
-ghost use Rattle.error_bound.specs.Boxes.{IsBoxOf};
-ghost use Rattle.error_bound.specs.Reaches.{AreTermCells, AreInputCells, AreAllCells, AreRuleConditions, IsBlockTable};
-ghost use Rattle.error_bound.specs.Reaches.{all_bytes, IsReachOfTerm, AreInputReaches, AreBoxTerms};
+ghost use Rattle.error_bound.specs.{declared.tables.InputCells.InputCells as TheCells, Boxes.IsBoxOf};
+ghost use Rattle.error_bound.specs.Reaches.{AreTermCells, AreInputCells, AreAllCells, AreRuleConditions};
+ghost use Rattle.error_bound.specs.Reaches.{IsBlockTable, all_bytes, IsReachOfTerm, AreInputReaches, AreBoxTerms};
 
 use crate::boxes::{ByteBox, Interval};
 use crate::cells::TermCells;

@@ -2,18 +2,13 @@
 //! reach there.
 ghost use Rattle.std.specs.Prelude.{◌≡◌, ◌≤◌, ◌<◌, ◌+◌, ◌*◌, ◌/◌, ℕ, ◌==◌, ◌&&◌, if◌then◌else◌, max, All};
 ghost use Rattle.std.specs.Prelude.{IfSome, IfNone, Some, length, slice_get, slice_index};
-ghost use Rattle.fz_num.specs.Decimals.{distance};
-ghost use Rattle.fz_num.specs.Fractions.{up_div};
+ghost use Rattle.fz_num.specs.{Decimals.distance, Fractions.up_div};
 ghost use Rattle.fuzzy_meaning.specs.declared.block.Rule.{Rule as TheRule};
 ghost use Rattle.fuzzy_meaning.specs.Blocks.{IsValid, IsValidOutput, IsWithin, output_at};
-ghost use Rattle.error_bound.specs.Bounds.{ratio_bound};
-ghost use Rattle.error_bound.specs.Errors.{apart};
-ghost use Rattle.error_bound.specs.Leaves.{Holds};
+ghost use Rattle.error_bound.specs.{Bounds.ratio_bound, Errors.apart, Leaves.Holds, Ratios.value_of, Ratios.IsRatio};
 ghost use Rattle.error_bound.specs.Masses.{IsRuleMass, AreMasses, AreSmall, sum_at, farthest_at, offset_at, swing_at};
 ghost use Rattle.error_bound.specs.Masses.{bound_at};
-ghost use Rattle.error_bound.specs.Ratios.{value_of, IsRatio};
-ghost use Rattle.error_bound.specs.Reaches.{IsTable};
-ghost use Rattle.error_bound.specs.Tight.{IsTightBound, IsSure};
+ghost use Rattle.error_bound.specs.{Reaches.IsTable, Tight.IsTightBound, Tight.IsSure};
 
 use crate::bounds::{in_millionths, offset, raise_terms, silent_bound};
 use crate::ends::End;

@@ -1,7 +1,7 @@
 //! What a box's tight Bound says of the answers there, and of other Bounds.
 ghost use Rattle.error_bound.specs.TightLaws.{TightAnswersAreNear, TightBoundsAreOne, TightBoundsAreLeast};
-ghost use Rattle.error_bound.specs.TightLaws.{TightBoundsAreSmall};
-ghost use Rattle.error_bound.specs.TightLaws.{TightBoundsFallInside, TightBoundsHoldInside, TightBoundsFallWithParts};
+ghost use Rattle.error_bound.specs.TightLaws.{TightBoundsAreSmall, TightBoundsFallInside, TightBoundsHoldInside};
+ghost use Rattle.error_bound.specs.TightLaws.{TightBoundsFallWithParts};
 ghost use Rattle.error_bound.specs.MassRanges.{AnswersToMassesAreNear};
 
 use byte_scaling::nearest_is_byte;

@@ -4,15 +4,11 @@ use Rattle.std.proofs.Common.{get_or}
 use Rattle.std.proofs.Common.{Some, refl, sym, ap, ap₂, ◌∙◌, subst, arith, length-set}
 use Rattle.std.specs.Prelude.{slice_get, All}
 use Rattle.std.proofs.lemmas.Bool.{cases_lt}
-use Rattle.fuzzy_meaning.specs.declared.block.Block.{Block}
-use Rattle.fuzzy_meaning.specs.declared.block.Input.{Input}
-use Rattle.error_bound.specs.declared.boxes.Interval.{Interval}
-use Rattle.error_bound.specs.Boxes.{IsBox, IsBoxOf}
-use Rattle.cell_bounds.specs.Cells.{cell_of}
-use Rattle.cell_bounds.specs.CellBounds.{cell_count}
+use Rattle.fuzzy_meaning.specs.declared.{block.Block.Block, block.Input.Input}
+use Rattle.error_bound.specs.{declared.boxes.Interval.Interval, Boxes.IsBox, Boxes.IsBoxOf}
+use Rattle.cell_bounds.specs.{Cells.cell_of, CellBounds.cell_count}
 use Rattle.cert_check.specs.Trees.{whole, left_of, right_of}
-use Rattle.cert_check.specs.Walks.{cuts_of}
-use Rattle.cert_check.specs.BoxLaws.{HasHalves, CutsHaveHalves}
+use Rattle.cert_check.specs.{Walks.cuts_of, BoxLaws.HasHalves, BoxLaws.CutsHaveHalves}
 use Rattle.error_certifier.specs.Halving.{IsWidest, IsHalvedAt, middle_of}
 
 pub same_items : {X : Type 0} (xs ys : List X) → length xs ≡ length ys

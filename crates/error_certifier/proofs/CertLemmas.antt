@@ -6,22 +6,17 @@ use Rattle.std.specs.List.{Any}
 use Rattle.std.proofs.lemmas.List.{append-nil, length-replicate}
 use Rattle.std.proofs.lemmas.Option.{slice_get-get_or, get_or_from_slice_get}
 use Rattle.fz_list.proofs.Algebra.{some_at}
-use Rattle.fuzzy_meaning.specs.declared.block.Block.{Block}
-use Rattle.fuzzy_meaning.specs.declared.block.Output.{Output}
+use Rattle.fuzzy_meaning.specs.declared.{block.Block.Block, block.Output.Output}
 use Rattle.fuzzy_meaning.specs.Blocks.{IsValid, output_at}
 use Rattle.error_bound.specs.declared.boxes.Interval.{Interval}
-use Rattle.box_tree.specs.declared.cert.CertKind.{CertKind}
-use Rattle.box_tree.specs.declared.cert.Node.{Node}
+use Rattle.box_tree.specs.declared.{cert.CertKind.CertKind, cert.Node.Node, cert.Cert.Cert}
 use Rattle.box_tree.specs.declared.cert.Node.TheVariants.{Split, Leaf}
-use Rattle.box_tree.specs.declared.cert.Cert.{Cert}
-use Rattle.box_tree.specs.Certificates.{IsNode, IsCert}
-use Rattle.box_tree.specs.Trees.{open_from, leaf_count}
+use Rattle.box_tree.specs.{Certificates.IsNode, Certificates.IsCert, Trees.open_from, Trees.leaf_count}
 use Rattle.box_tree.specs.Laws.{OpenBoxesGoOn}
 use Rattle.cert_check.specs.Trees.{Part, IsTree, leaf, split, whole}
 use Rattle.cert_check.specs.Acceptance.{HasBound, IsGreatestBound, IsAccepted}
-use Rattle.error_certifier.specs.declared.halving.Tree.{Tree}
+use Rattle.error_certifier.specs.{declared.halving.Tree.Tree, Trees.RisesTo, Trees.Grows}
 use Rattle.error_certifier.specs.Halving.{Halves, leaf as halved_leaf, split as halved_split, IsHalving}
-use Rattle.error_certifier.specs.Trees.{RisesTo, Grows}
 
 -- ---- nodes that are one tree
 

@@ -8,22 +8,14 @@ use Rattle.std.proofs.lemmas.Bool.{cases_lt}
 use Rattle.std.proofs.lemmas.Option.{slice_get_within}
 use Rattle.std.proofs.lemmas.List.Elements.{All-append}
 use Rattle.fz_list.proofs.Algebra.{All-cons}
-use Rattle.fuzzy_meaning.specs.declared.block.Block.{Block}
-use Rattle.fuzzy_meaning.specs.declared.block.Output.{Output}
-use Rattle.error_bound.specs.declared.boxes.Interval.{Interval}
-use Rattle.error_bound.specs.Boxes.{IsBoxOf}
-use Rattle.box_tree.specs.declared.cert.CertKind.{CertKind}
-use Rattle.box_tree.specs.declared.cert.Node.{Node}
+use Rattle.fuzzy_meaning.specs.declared.{block.Block.Block, block.Output.Output}
+use Rattle.error_bound.specs.{declared.boxes.Interval.Interval, Boxes.IsBoxOf}
+use Rattle.box_tree.specs.{declared.cert.CertKind.CertKind, declared.cert.Node.Node, Certificates.IsNode}
 use Rattle.box_tree.specs.declared.cert.Node.TheVariants.{Split, Leaf}
-use Rattle.box_tree.specs.Certificates.{IsNode}
 use Rattle.cert_check.specs.Trees.{Part, IsTree, leaf, split, left_of, right_of, part_of, IsCut}
-use Rattle.cert_check.specs.Acceptance.{HasBound}
-use Rattle.cert_check.specs.Walks.{AreRaised}
-use Rattle.cert_check.specs.BoxLaws.{CutsHaveHalves}
-use Rattle.error_certifier.specs.declared.leaves.FoundLeaf.{FoundLeaf}
-use Rattle.error_certifier.specs.declared.halving.Tree.{Tree}
-use Rattle.error_certifier.specs.Halving.{IsHalvedAt, IsToCut, Halves, leaf as halved_leaf}
-use Rattle.error_certifier.specs.Halving.{split as halved_split}
+use Rattle.cert_check.specs.{Acceptance.HasBound, Walks.AreRaised, BoxLaws.CutsHaveHalves}
+use Rattle.error_certifier.specs.declared.{leaves.FoundLeaf.FoundLeaf, halving.Tree.Tree}
+use Rattle.error_certifier.specs.Halving.{IsHalvedAt, IsToCut, Halves, leaf as halved_leaf, split as halved_split}
 use Rattle.error_certifier.specs.Trees.{IsFoundLeaf, RisesTo, Grows}
 use Rattle.error_certifier.proofs.BoxLemmas.{halves_of}
 

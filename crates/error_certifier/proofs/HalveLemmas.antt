@@ -9,34 +9,27 @@ use Rattle.std.specs.Prelude.{OnOk, IfErr, IfSome, slice_get, slice_index}
 use Rattle.std.proofs.lemmas.Bool.{cases_lt}
 use Rattle.fz_list.proofs.Algebra.{some_at}
 use Rattle.arrayvec.specs.ArrayVec.{ArrayVec}
-use Rattle.fuzzy_meaning.specs.declared.block.Block.{Block}
-use Rattle.fuzzy_meaning.specs.declared.block.Output.{Output}
+use Rattle.fuzzy_meaning.specs.declared.{block.Block.Block, block.Output.Output}
 use Rattle.fuzzy_meaning.specs.Blocks.{IsValid, output_at}
-use Rattle.error_bound.specs.declared.boxes.Interval.{Interval}
-use Rattle.error_bound.specs.Boxes.{IsBoxOf}
+use Rattle.error_bound.specs.{declared.boxes.Interval.Interval, Boxes.IsBoxOf}
 use Rattle.box_tree.specs.declared.cert.CertKind.{CertKind}
 use Rattle.box_tree.specs.declared.cert.CertKind.TheVariants.{Named, Tight}
 use Rattle.box_tree.specs.declared.cert.LeafForm.TheVariants as form
 use Rattle.cell_bounds.specs.declared.claims.Claim.TheVariants as claim
-use Rattle.cell_bounds.specs.Cells.{cell_of}
+use Rattle.cell_bounds.specs.{Cells.cell_of, Walks.AreAtMost}
 use Rattle.cell_bounds.specs.CellBounds.{IsCellsBound, IsFirstCellAbove, cell_count}
-use Rattle.cell_bounds.specs.Walks.{AreAtMost}
-use Rattle.box_tree.specs.declared.cert.Node.{Node}
-use Rattle.box_tree.specs.declared.cert.Node.TheVariants.{Split, Leaf}
-use Rattle.cert_check.specs.BoxLaws.{CutsHaveHalves}
+use Rattle.box_tree.specs.declared.{cert.Node.Node, cert.Node.TheVariants.Split, cert.Node.TheVariants.Leaf}
+use Rattle.cert_check.specs.{BoxLaws.CutsHaveHalves, Walks.cuts_of, Walks.AreRaised}
 use Rattle.cert_check.specs.Trees.{whole, left_of, right_of}
-use Rattle.cert_check.specs.Walks.{cuts_of, AreRaised}
-use Rattle.error_certifier.specs.declared.certifier.NotReached.{NotReached}
+use Rattle.error_certifier.specs.declared.{certifier.NotReached.NotReached, halving.Tree.Tree}
 use Rattle.error_certifier.specs.declared.certifier.NotReached.TheVariants.{Cell, LeafLimit, Memory}
-use Rattle.error_certifier.specs.declared.halving.Tree.{Tree}
 use Rattle.error_certifier.specs.declared.leaves.FoundLeaf.{FoundLeaf}
-use Rattle.error_certifier.specs.Halving.{IsFirstAbove, IsAbove, IsWidest, IsHalvedAt, middle_of, IsToCut, Stops, cell}
-use Rattle.error_certifier.specs.Halving.{limit, in_left, in_right}
+use Rattle.error_certifier.specs.Halving.{IsFirstAbove, IsAbove, IsWidest, IsHalvedAt, middle_of, IsToCut, Stops}
+use Rattle.error_certifier.specs.Halving.{cell, limit, in_left, in_right}
 use Rattle.error_certifier.specs.Trees.{IsTreeFor, AreTightBounds, IsFoundLeaf, IsSplit, Grows}
 use Rattle.error_certifier.proofs.BoxLemmas.{whole_box, left_box, right_box, halves_fewer, middle_inside, cell_is}
 use Rattle.error_certifier.proofs.BoxLemmas.{one_cell}
-use Rattle.error_certifier.proofs.GrowLemmas.{grows_leaf, grows_split}
-use Rattle.error_certifier.proofs.LeafLemmas.{at_place}
+use Rattle.error_certifier.proofs.{GrowLemmas.grows_leaf, GrowLemmas.grows_split, LeafLemmas.at_place}
 
 on_ok : {T E P Q : Type 0} (r : Result T E) → OnOk r P → (P → Q) → OnOk r Q
 on_ok (Ok x) p f = f p

@@ -10,21 +10,17 @@ use Rattle.std.proofs.lemmas.Bool.{cases_lt}
 use Rattle.std.proofs.lemmas.Option.{slice_get_within, get_or_from_slice_get}
 use Rattle.std.proofs.lemmas.List.Elements.{All-append}
 use Rattle.fz_list.proofs.Algebra.{AreFilled, All-slice_get, some_at, slice_get-set_other, slice_get-set_same}
-use Rattle.fuzzy_meaning.specs.declared.block.Block.{Block}
-use Rattle.fuzzy_meaning.specs.declared.block.Output.{Output}
+use Rattle.fuzzy_meaning.specs.declared.{block.Block.Block, block.Output.Output}
 use Rattle.fuzzy_meaning.specs.Blocks.{IsValid, output_at}
 use Rattle.error_bound.specs.declared.boxes.Interval.{Interval}
 use Rattle.error_bound.specs.declared.boxes.Leaf as the
 use Rattle.error_bound.specs.Best.{IsBest, silent, strong}
 use Rattle.error_bound.specs.BestLeaves.{IsBestBound, of_leaf, BestLeavesHold}
-use Rattle.error_bound.specs.Tight.{IsTightBound, IsTightCount, of_bound}
+use Rattle.error_bound.specs.{Tight.IsTightBound, Tight.IsTightCount, Tight.of_bound, Bounds.IsBound}
 use Rattle.box_tree.specs.declared.cert.CertKind.TheVariants.{Named, Tight}
-use Rattle.error_bound.specs.Bounds.{IsBound}
-use Rattle.box_tree.specs.declared.cert.LeafForm.TheVariants.{Pairs}
-use Rattle.box_tree.specs.Certificates.{IsPair}
+use Rattle.box_tree.specs.{declared.cert.LeafForm.TheVariants.Pairs, Certificates.IsPair}
 use Rattle.cell_bounds.specs.declared.claims.Claim.TheVariants.{Pair}
-use Rattle.cert_check.specs.Trees.{part_of}
-use Rattle.cert_check.specs.Acceptance.{HasBound}
+use Rattle.cert_check.specs.{Trees.part_of, Acceptance.HasBound}
 use Rattle.error_certifier.specs.Halving.{IsWithinTarget, IsFirstAbove}
 use Rattle.error_certifier.specs.Trees.{IsBestPair, AreBestPairs, AreTightBounds, IsFoundLeaf}
 

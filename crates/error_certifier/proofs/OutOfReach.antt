@@ -4,25 +4,20 @@ use Rattle.std.proofs.Common.{◌∙◌, arith}
 use Rattle.std.proofs.lemmas.Option.{slice_get-get_or}
 use Rattle.std.specs.Prelude.{slice_get, All}
 use Rattle.std.specs.Option.{option_map}
-use Rattle.fuzzy_meaning.specs.declared.block.Block.{Block}
-use Rattle.fuzzy_meaning.specs.declared.block.Output.{Output}
+use Rattle.fuzzy_meaning.specs.declared.{block.Block.Block, block.Output.Output}
 use Rattle.fuzzy_meaning.specs.Blocks.{IsValid, output_at}
 use Rattle.fz_list.proofs.Algebra.{some_at}
 use Rattle.error_bound.specs.declared.boxes.Interval.{Interval}
-use Rattle.error_bound.specs.BestLeaves.{IsBestBound}
-use Rattle.error_bound.specs.Boxes.{IsBox, IsBoxOf, LieIn}
-use Rattle.box_tree.specs.declared.cert.CertKind.{CertKind}
+use Rattle.error_bound.specs.{BestLeaves.IsBestBound, Boxes.IsBox, Boxes.IsBoxOf, Boxes.LieIn}
+use Rattle.box_tree.specs.declared.{cert.CertKind.CertKind, cert.LeafForm.LeafForm}
 use Rattle.box_tree.specs.declared.cert.CertKind.TheVariants.{Named, Tight}
-use Rattle.box_tree.specs.declared.cert.LeafForm.{LeafForm}
 use Rattle.box_tree.specs.declared.cert.LeafForm.TheVariants as form
 use Rattle.box_tree.specs.declared.cert.Cert.{Cert}
 use Rattle.cell_bounds.specs.declared.claims.Claim.{Claim}
 use Rattle.cell_bounds.specs.declared.claims.Claim.TheVariants as claim
-use Rattle.cell_bounds.specs.Cells.{cell_of}
-use Rattle.cell_bounds.specs.CellBounds.{IsCellCount}
+use Rattle.cell_bounds.specs.{Cells.cell_of, CellBounds.IsCellCount}
 use Rattle.cell_bounds.specs.Claims.{CountsAreLeast, IsCountAt, IsCompared}
-use Rattle.cert_check.specs.Trees.{whole, left_of, right_of}
-use Rattle.cert_check.specs.Acceptance.{claim_at}
+use Rattle.cert_check.specs.{Trees.whole, Trees.left_of, Trees.right_of, Acceptance.claim_at}
 use Rattle.cert_check.specs.BoxLaws.{CutsHaveHalves, LeavesAreAround, IsFormOf, IsNodeOf}
 use Rattle.error_certifier.specs.declared.certifier.NotReached.{NotReached}
 use Rattle.error_certifier.specs.Halving.{IsStuck, Stops, cell, limit, in_left, in_right}

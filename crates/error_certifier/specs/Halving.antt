@@ -3,25 +3,18 @@
 -- Beside the promise.
 use Rattle.std.specs.Prelude.{◌≡◌, ℕ, ◌+◌, ◌-◌, ◌/◌, ◌<◌, ◌≤◌, List, [], ◌∷◌, ◌++◌, length, Some, slice_get}
 use Rattle.arrayvec.specs.ArrayVec.{ArrayVec}
-use Rattle.fuzzy_meaning.specs.declared.block.Block.{Block}
-use Rattle.fuzzy_meaning.specs.declared.block.Output.{Output}
+use Rattle.fuzzy_meaning.specs.declared.{block.Block.Block, block.Output.Output}
 use Rattle.error_bound.specs.declared.boxes.Interval.{Interval}
 use Rattle.error_bound.specs.declared.boxes.Leaf as the
-use Rattle.error_bound.specs.Best.{IsBest}
-use Rattle.error_bound.specs.Bounds.{IsBound}
-use Rattle.error_bound.specs.Tight.{IsTightBound}
+use Rattle.error_bound.specs.{Best.IsBest, Bounds.IsBound, Tight.IsTightBound}
 use Rattle.box_tree.specs.declared.cert.CertKind.{CertKind}
 use Rattle.box_tree.specs.declared.cert.CertKind.TheVariants as kind
-use Rattle.box_tree.specs.declared.cert.LeafForm.{LeafForm}
+use Rattle.box_tree.specs.declared.{cert.LeafForm.LeafForm, cert.Node.Node, cert.Cert.Cert}
 use Rattle.box_tree.specs.declared.cert.LeafForm.TheVariants.{Pairs, Tight, Cells}
-use Rattle.box_tree.specs.declared.cert.Node.{Node}
 use Rattle.box_tree.specs.declared.cert.Node.TheVariants.{Split, Leaf}
-use Rattle.box_tree.specs.declared.cert.Cert.{Cert}
-use Rattle.cell_bounds.specs.Cells.{cell_of}
+use Rattle.cell_bounds.specs.{Cells.cell_of, Claims.IsBoxCount}
 use Rattle.cell_bounds.specs.CellBounds.{IsCellsBound, IsFirstCellAbove, cell_count}
-use Rattle.cell_bounds.specs.Claims.{IsBoxCount}
-use Rattle.cert_check.specs.Trees.{whole, left_of, right_of}
-use Rattle.cert_check.specs.Acceptance.{IsAccepted}
+use Rattle.cert_check.specs.{Trees.whole, Trees.left_of, Trees.right_of, Acceptance.IsAccepted}
 use Rattle.error_certifier.specs.declared.certifier.NotReached.{NotReached}
 use Rattle.error_certifier.specs.declared.certifier.NotReached.TheVariants.{Cell, LeafLimit}
 

@@ -1,16 +1,13 @@
 -- What holds of every halving.
 -- Beside the promise.
 use Rattle.std.specs.Prelude.{◌≡◌, ℕ, ◌-◌, ◌<◌, ◌≤◌, List, All, Some, slice_get, Result, Ok, Err}
-use Rattle.fuzzy_meaning.specs.declared.block.Block.{Block}
-use Rattle.fuzzy_meaning.specs.Blocks.{IsValid}
+use Rattle.fuzzy_meaning.specs.{declared.block.Block.Block, Blocks.IsValid}
 use Rattle.box_tree.specs.declared.cert.CertKind.{CertKind}
 use Rattle.box_tree.specs.declared.cert.CertKind.TheVariants as kind
 use Rattle.box_tree.specs.declared.cert.Cert.{Cert}
-use Rattle.cert_check.specs.Acceptance.{IsAccepted}
-use Rattle.cert_check.specs.BoxLaws.{IsNodeOf}
-use Rattle.error_certifier.specs.declared.certifier.NotReached.{NotReached}
+use Rattle.cert_check.specs.{Acceptance.IsAccepted, BoxLaws.IsNodeOf}
+use Rattle.error_certifier.specs.{declared.certifier.NotReached.NotReached, Halving.IsHalving, Halving.StopsAt}
 use Rattle.error_certifier.specs.declared.certifier.NotReached.TheVariants.{Cell, LeafLimit, Memory}
-use Rattle.error_certifier.specs.Halving.{IsHalving, StopsAt}
 
 -- the certificate of the halving, or why it stops
 abbrev pub IsAnswer : CertKind → Block → ℕ → ℕ → Result Cert NotReached → Type 0

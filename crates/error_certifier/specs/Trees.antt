@@ -2,21 +2,12 @@
 -- Beside the promise.
 use Rattle.std.specs.Prelude.{◌≡◌, ◌⊎◌, ℕ, ◌+◌, ◌<◌, ◌≤◌, List, ◌++◌, length, All, Some, slice_get, slice_index}
 use Rattle.std.specs.List.{Any}
-use Rattle.fuzzy_meaning.specs.declared.block.Block.{Block}
-use Rattle.fuzzy_meaning.specs.declared.block.Output.{Output}
-use Rattle.fuzzy_meaning.specs.Blocks.{IsValid}
-use Rattle.error_bound.specs.declared.boxes.Interval.{Interval}
-use Rattle.error_bound.specs.Reaches.{IsBlockTable}
-use Rattle.error_bound.specs.Tight.{IsTightBound}
-use Rattle.box_tree.specs.declared.cert.CertKind.{CertKind}
-use Rattle.box_tree.specs.declared.cert.Node.{Node}
+use Rattle.fuzzy_meaning.specs.{declared.block.Block.Block, declared.block.Output.Output, Blocks.IsValid}
+use Rattle.error_bound.specs.{declared.boxes.Interval.Interval, Reaches.IsBlockTable, Tight.IsTightBound}
+use Rattle.box_tree.specs.declared.{cert.CertKind.CertKind, cert.Node.Node}
 use Rattle.box_tree.specs.Certificates.{IsPair, IsLeaf, IsNode}
-use Rattle.cert_check.specs.Trees.{Part, part_of, IsTree}
-use Rattle.cert_check.specs.Acceptance.{HasBound}
-use Rattle.cert_check.specs.Walks.{AreBounds}
-use Rattle.error_certifier.specs.declared.leaves.FoundLeaf.{FoundLeaf}
-use Rattle.error_certifier.specs.declared.halving.Task.{Task}
-use Rattle.error_certifier.specs.declared.halving.Tree.{Tree}
+use Rattle.cert_check.specs.{Trees.Part, Trees.part_of, Trees.IsTree, Acceptance.HasBound, Walks.AreBounds}
+use Rattle.error_certifier.specs.declared.{leaves.FoundLeaf.FoundLeaf, halving.Task.Task, halving.Tree.Tree}
 use Rattle.error_certifier.specs.Halving.{IsWithinTarget, IsSettled, IsAbove, IsLarge, IsWidest, Halves}
 
 -- the pair and the Bound at a place are those of the output's best leaf, which is within the target

@@ -1,11 +1,9 @@
 //! Certificates for a target, or why it is not reached.
 ghost use Rattle.std.specs.Prelude.{◌≡◌, ◌≢◌, ◌≤◌, All, IfOk, IfErr};
 ghost use Rattle.fuzzy_meaning.specs.Blocks.{IsValid};
-ghost use Rattle.box_tree.specs.declared.cert.CertKind.TheVariants.{Named};
-ghost use Rattle.box_tree.specs.Certificates.{IsCert};
+ghost use Rattle.box_tree.specs.{declared.cert.CertKind.TheVariants.Named, Certificates.IsCert};
 ghost use Rattle.cert_check.specs.Acceptance.{parts_of as the_parts_of};
-ghost use Rattle.error_certifier.specs.Halving.{IsHalving, StopsAt};
-ghost use Rattle.error_certifier.specs.Laws.{SaysOutOfReach};
+ghost use Rattle.error_certifier.specs.{Halving.IsHalving, Halving.StopsAt, Laws.SaysOutOfReach};
 
 use crate::halving::{Task, Tree};
 use crate::laws::cells_are_out_of_reach;

@@ -2,8 +2,7 @@
 ghost use Rattle.std.specs.Prelude.{◌≡◌, ◌≢◌, ◌≤◌, ◌<◌, ◌+◌, ◌++◌, ◌∷◌, ℕ, [], length, replicate, OnOk, IfOk, IfErr};
 ghost use Rattle.std.specs.Prelude.{MatchOption};
 ghost use Rattle.fuzzy_meaning.specs.Blocks.{IsValid};
-ghost use Rattle.error_bound.specs.Boxes.{IsBoxOf};
-ghost use Rattle.error_bound.specs.Reaches.{IsTable};
+ghost use Rattle.error_bound.specs.{Boxes.IsBoxOf, Reaches.IsTable};
 ghost use Rattle.box_tree.specs.declared.cert.CertKind.TheVariants as kind;
 ghost use Rattle.box_tree.specs.declared.cert.Node.TheVariants as node;
 ghost use Rattle.cert_check.specs.Walks.{AreRaised};

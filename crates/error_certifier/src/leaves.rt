@@ -1,10 +1,7 @@
 //! The leaf of a box, of either kind.
 ghost use Rattle.std.specs.Prelude.{◌≡◌, ◌≤◌, ◌<◌, ◌+◌, ℕ, length, IfOk, IfErr, IfSome, Some, slice_get};
-ghost use Rattle.fuzzy_meaning.specs.declared.block.Output.{Output};
-ghost use Rattle.fuzzy_meaning.specs.Blocks.{IsValid, output_at};
-ghost use Rattle.error_bound.specs.Reaches.{IsTable};
-ghost use Rattle.error_bound.specs.BestLeaves.{IsBestBound};
-ghost use Rattle.error_bound.specs.Tight.{IsTightBound, IsTightCount};
+ghost use Rattle.fuzzy_meaning.specs.{declared.block.Output.Output, Blocks.IsValid, Blocks.output_at};
+ghost use Rattle.error_bound.specs.{Reaches.IsTable, BestLeaves.IsBestBound, Tight.IsTightBound, Tight.IsTightCount};
 ghost use Rattle.box_tree.specs.declared.cert.CertKind.TheVariants.{Named, Tight};
 ghost use Rattle.box_tree.specs.Certificates.{IsPair};
 ghost use Rattle.error_certifier.specs.Halving.{IsWithinTarget, IsFirstAbove};

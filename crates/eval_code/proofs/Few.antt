@@ -6,12 +6,10 @@ use Rattle.fuzzy_meaning.specs.declared.block.Output.{Output}
 use Rattle.rule_layout.specs.declared.flat.Form.{Form}
 use Rattle.rule_layout.specs.declared.flat.Form.TheVariants as form
 use Rattle.rule_layout.specs.Layouts.{form_of, LayoutLaw}
-use Rattle.eval_code.specs.declared.width.Width.{Width}
-use Rattle.eval_code.specs.declared.width.Width.TheVariants.{Byte, Word}
+use Rattle.eval_code.specs.declared.{width.Width.Width, width.Width.TheVariants.Byte, width.Width.TheVariants.Word}
 use Rattle.eval_code.specs.Bounds.{output_bound, form_bound, instruction_bound, steps_by, BoundsAreFew}
-use Rattle.eval_code.proofs.Joins.{sum_by-term_count}
+use Rattle.eval_code.proofs.{Joins.sum_by-term_count, phases.RuleFacts.block_facts}
 use Rattle.eval_code.proofs.Placement.{element_count-le, sum_by-singleton_count}
-use Rattle.eval_code.proofs.phases.RuleFacts.{block_facts}
 
 output_bound-le : (w : Width) (o : Output) → output_bound w o ≤ 13
 output_bound-le w o = by_default w o.default refl

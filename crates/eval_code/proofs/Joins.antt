@@ -7,18 +7,14 @@ use Rattle.std.proofs.lemmas.List.Sums.{sum_by-le}
 use Rattle.cpu12_isa.specs.declared.instr.Instr.{Instr}
 use Rattle.cpu12_asm.specs.declared.items.Item.{Item}
 use Rattle.cpu12_asm.specs.declared.items.Item.TheVariants.{Op, Place, Byte}
-use Rattle.fuzzy_meaning.specs.declared.block.Input.{Input}
+use Rattle.fuzzy_meaning.specs.declared.{block.Input.Input, block.Block.Block, block.Output.Output}
 use Rattle.fuzzy_meaning.specs.Blocks.{IsValidInput}
-use Rattle.fuzzy_meaning.specs.declared.block.Block.{Block}
-use Rattle.fuzzy_meaning.specs.declared.block.Output.{Output}
-use Rattle.rule_layout.specs.declared.flat.Flat.{Flat}
-use Rattle.rule_layout.specs.declared.flat.Slot.{Slot}
-use Rattle.rule_layout.specs.Slots.{slots_of, term_count}
-use Rattle.rule_layout.specs.Layouts.{HasPartsOf}
-use Rattle.eval_code.specs.declared.memory_map.MemoryMap.{MemoryMap}
-use Rattle.eval_code.specs.declared.width.Width.{Width}
+use Rattle.rule_layout.specs.declared.{flat.Flat.Flat, flat.Slot.Slot}
+use Rattle.rule_layout.specs.{Slots.slots_of, Slots.term_count, Layouts.HasPartsOf}
+use Rattle.eval_code.specs.declared.{memory_map.MemoryMap.MemoryMap, width.Width.Width}
 use Rattle.eval_code.specs.Code.{eval_code_over, eval_code, block_code}
-use Rattle.eval_code.specs.Data.{table_bytes, singleton_bytes, weight_bytes_by, weight_bytes, rule_bytes_by, rule_bytes}
+use Rattle.eval_code.specs.Data.{table_bytes, singleton_bytes, weight_bytes_by, weight_bytes, rule_bytes_by}
+use Rattle.eval_code.specs.Data.{rule_bytes}
 use Rattle.eval_code.specs.Items.{code_at, bytes_at, block_items}
 
 -- a piece of code behind others

@@ -1,8 +1,7 @@
 -- How long a rule list is.
 use Rattle.std.proofs.Common.{◌≡◌, ℕ, List, [], ◌∷◌, length, sum_by, refl, arith, length-append}
 use Rattle.std.proofs.lemmas.List.Sums.{sum_by-cons}
-use Rattle.rule_layout.specs.declared.flat.Conjunction.{Conjunction}
-use Rattle.rule_layout.specs.Lists.{marked}
+use Rattle.rule_layout.specs.{declared.flat.Conjunction.Conjunction, Lists.marked}
 use Rattle.eval_code.specs.Bounds.{entry_count}
 
 pub length-marked : (separator end_mark : ℕ) (cs : List Conjunction)

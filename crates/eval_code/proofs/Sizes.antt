@@ -4,27 +4,20 @@ use Rattle.std.proofs.Common.{flat_map, Option, Some, None, option_map, refl, â—
 use Rattle.std.proofs.lemmas.List.{length-map}
 use Rattle.std.proofs.lemmas.List.Sums.{sum_by-cons}
 use Rattle.std.proofs.lemmas.Grind.{flat_map-append}
-use Rattle.fuzzy_meaning.specs.declared.block.Input.{Input}
-use Rattle.fuzzy_meaning.specs.declared.block.Output.{Output}
-use Rattle.fuzzy_meaning.specs.declared.block.Rule.{Rule}
+use Rattle.fuzzy_meaning.specs.declared.{block.Input.Input, block.Output.Output, block.Rule.Rule}
 use Rattle.fuzzy_meaning.specs.declared.block.Trapezoid.{Trapezoid}
-use Rattle.byte_scaling.specs.Weights.{weight_byte_of}
+use Rattle.byte_scaling.specs.{Weights.weight_byte_of, Cells.nearest_byte}
 use Rattle.point_slope.specs.Tables.{row_of, rows_of}
 use Rattle.rule_layout.specs.Layouts.{rule_spread, rule_weights, conjunction_count}
-use Rattle.eval_code.specs.Data.{singleton_bytes_of}
-use Rattle.byte_scaling.specs.Cells.{nearest_byte}
-use Rattle.rule_layout.specs.declared.flat.Slot.{Slot}
+use Rattle.rule_layout.specs.declared.{flat.Slot.Slot, flat.Form.Form}
 use Rattle.rule_layout.specs.declared.flat.Slot.TheVariants.{Term, Complement, Out}
-use Rattle.rule_layout.specs.declared.flat.Form.{Form}
+use Rattle.eval_code.specs.Data.{singleton_bytes_of}
 use Rattle.rule_layout.specs.declared.flat.Form.TheVariants as form
 use Rattle.rule_layout.specs.Slots.{term_count, singleton_count}
-use Rattle.cpu12_isa.specs.declared.instr.Instr.{Instr}
+use Rattle.cpu12_isa.specs.{declared.instr.Instr.Instr, Code.encode_of}
 use Rattle.cpu12_isa.specs.declared.instr.Instr.TheVariants.{LdaaImmediate, Mem}
-use Rattle.cpu12_isa.specs.Code.{encode_of}
-use Rattle.eval_code.specs.declared.memory_map.MemoryMap.{MemoryMap}
-use Rattle.eval_code.specs.declared.width.Width.{Width}
+use Rattle.eval_code.specs.{declared.memory_map.MemoryMap.MemoryMap, declared.width.Width.Width, Widths.places}
 use Rattle.eval_code.specs.declared.width.Width.TheVariants.{Byte, Word}
-use Rattle.eval_code.specs.Widths.{places}
 use Rattle.eval_code.specs.Code.{fuzzify_code, slot_code, slots_code, rules_code, quotient_code, output_code}
 use Rattle.eval_code.specs.Code.{outputs_code, input_slots, eval_code_over, code_bytes}
 

@@ -2,26 +2,19 @@
 -- Beside the promise.
 use Rattle.std.specs.Prelude.{ℕ, ◌+◌, ◌-◌, List, [], ◌∷◌, ◌++◌, flat_map, length, take, replicate, sum_by, Option, Some}
 use Rattle.std.specs.Prelude.{None, option_map}
-use Rattle.fuzzy_meaning.specs.declared.block.Block.{Block}
-use Rattle.fuzzy_meaning.specs.declared.block.Input.{Input}
-use Rattle.fuzzy_meaning.specs.declared.block.Output.{Output}
+use Rattle.fuzzy_meaning.specs.declared.{block.Block.Block, block.Input.Input, block.Output.Output}
 use Rattle.byte_scaling.specs.Cells.{nearest_byte}
-use Rattle.rule_layout.specs.declared.flat.Slot.{Slot}
+use Rattle.rule_layout.specs.declared.{flat.Slot.Slot, flat.Form.Form}
 use Rattle.rule_layout.specs.declared.flat.Slot.TheVariants.{Term, Complement, Out}
-use Rattle.rule_layout.specs.declared.flat.Form.{Form}
 use Rattle.rule_layout.specs.declared.flat.Form.TheVariants as form
-use Rattle.rule_layout.specs.Slots.{slots_of, term_count, singleton_count}
-use Rattle.rule_layout.specs.Layouts.{form_of}
-use Rattle.cpu12_isa.specs.declared.instr.Instr.{Instr}
+use Rattle.rule_layout.specs.{Slots.slots_of, Slots.term_count, Slots.singleton_count, Layouts.form_of}
+use Rattle.cpu12_isa.specs.{declared.instr.Instr.Instr, Code.encode_of, Code.FitsOperands}
 use Rattle.cpu12_isa.specs.declared.instr.Instr.TheVariants.{LdaaImmediate, LdaaExtended, LdabImmediate, LdxImmediate}
 use Rattle.cpu12_isa.specs.declared.instr.Instr.TheVariants.{LdyImmediate, StaaExtended, StabExtended, ClrExtended}
 use Rattle.cpu12_isa.specs.declared.instr.Instr.TheVariants.{Coma, CpxImmediate, Beq, Bra, Andcc, Orcc, TransferXD}
 use Rattle.cpu12_isa.specs.declared.instr.Instr.TheVariants.{TransferYD, Ediv, Fdiv, Mem, Rev, Revw, Wav}
-use Rattle.cpu12_isa.specs.Code.{encode_of, FitsOperands}
-use Rattle.eval_code.specs.declared.memory_map.MemoryMap.{MemoryMap}
-use Rattle.eval_code.specs.declared.width.Width.{Width}
+use Rattle.eval_code.specs.{declared.memory_map.MemoryMap.MemoryMap, declared.width.Width.Width, Widths.places}
 use Rattle.eval_code.specs.declared.width.Width.TheVariants.{Byte, Word}
-use Rattle.eval_code.specs.Widths.{places}
 
 -- the bytes of instructions one after another
 abbrev pub code_bytes : List Instr → List ℕ

@@ -1,14 +1,12 @@
 -- The bytes of a firmware beside its code.
 -- Beside the promise.
 use Rattle.std.specs.Prelude.{ℕ, ◌/◌, ◌%◌, ◌^◌, List, [], ◌∷◌, map, flat_map}
-use Rattle.fuzzy_meaning.specs.declared.block.Block.{Block}
-use Rattle.fuzzy_meaning.specs.declared.block.Output.{Output}
+use Rattle.fuzzy_meaning.specs.declared.{block.Block.Block, block.Output.Output}
 use Rattle.byte_scaling.specs.Cells.{nearest_byte}
 use Rattle.point_slope.specs.Tables.{table_of}
 use Rattle.rule_layout.specs.declared.flat.Form.{Form}
 use Rattle.rule_layout.specs.declared.flat.Form.TheVariants as form
-use Rattle.rule_layout.specs.declared.flat.Conjunction.{Conjunction}
-use Rattle.rule_layout.specs.Lists.{list_bytes, list_words}
+use Rattle.rule_layout.specs.{declared.flat.Conjunction.Conjunction, Lists.list_bytes, Lists.list_words}
 use Rattle.rule_layout.specs.Layouts.{conjunctions_of, weights_of, form_of}
 
 -- the tables of all input terms, four bytes each

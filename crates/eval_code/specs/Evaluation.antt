@@ -1,23 +1,16 @@
 -- EVAL by what it owns, at the addresses of any memory map.
 -- Beside the promise.
 use Rattle.std.specs.Prelude.{◌≡◌, ℕ, ◌+◌, ◌-◌, ◌*◌, ◌^◌, ◌<◌, ◌≤◌, ◌⊎◌, List, [], ◌∷◌, length, slice_index, slice_set}
-use Rattle.fuzzy_meaning.specs.declared.block.Block.{Block}
-use Rattle.fuzzy_meaning.specs.Blocks.{IsValid}
-use Rattle.rule_layout.specs.Slots.{slots_of}
-use Rattle.rule_layout.specs.Layouts.{IsWithinLimits}
+use Rattle.fuzzy_meaning.specs.{declared.block.Block.Block, Blocks.IsValid}
+use Rattle.rule_layout.specs.{Slots.slots_of, Layouts.IsWithinLimits}
 use Rattle.cpu12_isa.specs.Code.{six_from}
-use Rattle.cpu12_parts.specs.State.{State}
+use Rattle.cpu12_parts.specs.{State.State, Executions.Execution, Executions.all_steps}
 use Rattle.cpu12_parts.specs.Touching.{IsIn, IsInOne, Each, IsInstructionOver, IsBetween}
-use Rattle.cpu12_parts.specs.Executions.{Execution, all_steps}
-use Rattle.eval_code.specs.declared.memory_map.MemoryMap.{MemoryMap}
-use Rattle.eval_code.specs.declared.width.Width.{Width}
+use Rattle.eval_code.specs.declared.{memory_map.MemoryMap.MemoryMap, width.Width.Width}
 use Rattle.eval_code.specs.Widths.{places, bytes_of, answer}
-use Rattle.eval_code.specs.Bounds.{instruction_bound, step_bound}
-use Rattle.eval_code.specs.Masks.{interrupt_masks}
-use Rattle.eval_code.specs.Code.{code_bytes, eval_code}
+use Rattle.eval_code.specs.{Bounds.instruction_bound, Bounds.step_bound, Masks.interrupt_masks}
+use Rattle.eval_code.specs.{Code.code_bytes, Code.eval_code, Items.IsApart, Firing.AreInputBytes}
 use Rattle.eval_code.specs.Data.{table_bytes, singleton_bytes, weight_bytes, rule_bytes}
-use Rattle.eval_code.specs.Items.{IsApart}
-use Rattle.eval_code.specs.Firing.{AreInputBytes}
 
 -- what a memory map keeps for a block's evaluation: its code, and what that writes and reads
 abbrev pub code_region : MemoryMap → ℕ × ℕ

@@ -1,13 +1,10 @@
 -- What the slots hold before the rules and after them.
 -- Beside the promise.
 use Rattle.std.specs.Prelude.{◌≡◌, ℕ, ◌^◌, ◌<◌, min, max, List, [], ◌∷◌, map, length, drop, All, slice_index, slice_set}
-use Rattle.fuzzy_meaning.specs.declared.block.Block.{Block}
-use Rattle.fuzzy_meaning.specs.Blocks.{IsValid}
+use Rattle.fuzzy_meaning.specs.{declared.block.Block.Block, Blocks.IsValid}
 use Rattle.point_slope.specs.Bytes.{literal_grade, byte_mass}
-use Rattle.rule_layout.specs.declared.flat.Slot.{Slot}
-use Rattle.rule_layout.specs.declared.flat.Conjunction.{Conjunction}
-use Rattle.rule_layout.specs.Slots.{slots_of, output_terms}
-use Rattle.rule_layout.specs.Layouts.{conjunctions_of, weights_of}
+use Rattle.rule_layout.specs.declared.{flat.Slot.Slot, flat.Conjunction.Conjunction}
+use Rattle.rule_layout.specs.{Slots.slots_of, Slots.output_terms, Layouts.conjunctions_of, Layouts.weights_of}
 use Rattle.rule_layout.specs.Truths.{slot_value}
 use Rattle.cpu12_parts.specs.Parts.{weighted}
 use Rattle.eval_code.specs.Code.{input_slots}

@@ -1,20 +1,15 @@
 -- A block's items at the addresses of any memory map: where they give bytes, and what stands there in an image of them.
 -- Beside the promise.
 use Rattle.std.specs.Prelude.{◌≡◌, ◌≢◌, ℕ, ◌+◌, ◌^◌, ◌<◌, ◌≤◌, ◌⊎◌, List, ◌∷◌, ◌++◌, length, All, None, slice_index}
-use Rattle.fuzzy_meaning.specs.declared.block.Block.{Block}
-use Rattle.fuzzy_meaning.specs.Blocks.{IsValid}
+use Rattle.fuzzy_meaning.specs.{declared.block.Block.Block, Blocks.IsValid}
 use Rattle.rule_layout.specs.Layouts.{IsWithinLimits, weights_of}
 use Rattle.cpu12_isa.specs.declared.instr.Instr.{Instr}
-use Rattle.cpu12_asm.specs.declared.items.Item.{Item}
-use Rattle.cpu12_asm.specs.declared.items.Item.TheVariants.{Place}
-use Rattle.cpu12_asm.specs.Bytes.{byte_at, Holds}
-use Rattle.cpu12_asm.specs.Items.{given_by, IsRisingFrom, IsRising}
+use Rattle.cpu12_asm.specs.declared.{items.Item.Item, items.Item.TheVariants.Place}
+use Rattle.cpu12_asm.specs.{Bytes.byte_at, Bytes.Holds, Items.given_by, Items.IsRisingFrom, Items.IsRising}
 use Rattle.cpu12_emul.specs.Image.{image_memory}
-use Rattle.eval_code.specs.declared.memory_map.MemoryMap.{MemoryMap}
-use Rattle.eval_code.specs.declared.width.Width.{Width}
-use Rattle.eval_code.specs.Code.{code_bytes, block_code}
+use Rattle.eval_code.specs.declared.{memory_map.MemoryMap.MemoryMap, width.Width.Width}
+use Rattle.eval_code.specs.{Code.code_bytes, Code.block_code, Items.block_items, Items.IsApart}
 use Rattle.eval_code.specs.Data.{table_bytes, singleton_bytes, weight_bytes, rule_bytes}
-use Rattle.eval_code.specs.Items.{block_items, IsApart}
 use Rattle.eval_code.specs.Evaluation.{HasBytes, HasEval, eval_bytes}
 
 -- EVAL's bytes are so many at most

@@ -2,16 +2,11 @@
 -- Beside the promise.
 use Rattle.std.specs.Prelude.{◌≡◌, ℕ, ◌+◌, ◌^◌, ◌<◌, Ok, List, ◌∷◌, ◌++◌, map, length, All, slice_index}
 use Rattle.cpu12_isa.specs.declared.instr.Instr.{Instr}
-use Rattle.cpu12_isa.specs.Code.{encode_of, decode_at, FitsOperands}
-use Rattle.cpu12_isa.specs.Fits.{AreBytes}
-use Rattle.cpu12_asm.specs.declared.items.Item.{Item}
+use Rattle.cpu12_isa.specs.{Code.encode_of, Code.decode_at, Code.FitsOperands, Fits.AreBytes}
+use Rattle.cpu12_asm.specs.{declared.items.Item.Item, Bytes.Holds, Items.given_by, Items.IsRising}
 use Rattle.cpu12_asm.specs.declared.items.Item.TheVariants.{Place, Byte, Op}
-use Rattle.cpu12_asm.specs.Bytes.{Holds}
-use Rattle.cpu12_asm.specs.Items.{given_by, IsRising}
 use Rattle.cpu12_emul.specs.Image.{image_memory}
-use Rattle.eval_code.specs.Code.{code_bytes, FitCode}
-use Rattle.eval_code.specs.Evaluation.{HasBytes}
-use Rattle.eval_code.specs.Placed.{GiveBytes}
+use Rattle.eval_code.specs.{Code.code_bytes, Code.FitCode, Evaluation.HasBytes, Placed.GiveBytes}
 
 -- An instruction is decoded where its bytes stand.
 abbrev pub DecodesWhereItStands : Type 0

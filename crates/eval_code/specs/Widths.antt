@@ -3,8 +3,7 @@
 use Rattle.std.specs.Prelude.{ℕ, Bool, true, false, List, [], ◌∷◌}
 use Rattle.fuzzy_meaning.specs.declared.block.Block.{Block}
 use Rattle.point_slope.specs.Bytes.{answer_in}
-use Rattle.eval_code.specs.declared.width.Width.{Width}
-use Rattle.eval_code.specs.declared.width.Width.TheVariants.{Byte, Word}
+use Rattle.eval_code.specs.declared.{width.Width.Width, width.Width.TheVariants.Byte, width.Width.TheVariants.Word}
 use Rattle.eval_code.specs.Data.{bytes_of_word}
 
 -- the width of a firmware's answers

@@ -3,8 +3,7 @@ ghost use Rattle.std.specs.Prelude.{◌≡◌, ◌≤◌, ◌++◌, map, length,
 ghost use Rattle.fuzzy_meaning.specs.Blocks.{IsValid, IsValidInput, IsValidOutput};
 ghost use Rattle.cpu12_asm.specs.declared.items.Item.TheVariants.{Op};
 ghost use Rattle.rule_layout.specs.Layouts.{flat_of, IsLaidOut};
-ghost use Rattle.eval_code.specs.Code.{eval_code_over};
-ghost use Rattle.eval_code.specs.Data.{table_bytes, weight_bytes_by, rule_bytes_by};
+ghost use Rattle.eval_code.specs.{Code.eval_code_over, Data.table_bytes, Data.weight_bytes_by, Data.rule_bytes_by};
 ghost use Rattle.eval_code.specs.Items.{bytes_at, block_items, HasRoom};
 
 use crate::bounds::output_terms;

@@ -1,7 +1,5 @@
 //! Laws of EVAL and its data.
-ghost use Rattle.eval_code.specs.Bounds.{BoundsAreFew};
-ghost use Rattle.eval_code.specs.Evaluation.{EvalAnswers};
-ghost use Rattle.eval_code.specs.Firing.{RulesGiveMasses};
+ghost use Rattle.eval_code.specs.{Bounds.BoundsAreFew, Evaluation.EvalAnswers, Firing.RulesGiveMasses};
 ghost use Rattle.eval_code.specs.Placed.{BlockGivesBytes, BlockHasParts, BlockIsShort, BlockRises, BlockStands};
 ghost use Rattle.eval_code.specs.Placed.{BlockGivesAtParts, BlockStaysInside, GivesBehind};
 ghost use Rattle.eval_code.specs.Standing.{BytesStand, CodeIsBytes, CodeStands, DecodesWhereItStands, ImageIsBytes};

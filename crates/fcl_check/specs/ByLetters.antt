@@ -6,14 +6,10 @@ use Rattle.std.specs.Borrow.{Bor}
 use Rattle.std.specs.Cmp.Lexicographic.{slice_cmp}
 use Rattle.std.specs.List.{filter_map, find}
 use Rattle.std.specs.Ordering.{nat_cmp}
-use Rattle.fcl_syntax.specs.declared.tree.Direction.{Direction}
+use Rattle.fcl_syntax.specs.declared.{tree.Direction.Direction, tree.Name.Name, tree.Part.Part}
 use Rattle.fcl_syntax.specs.declared.tree.Direction.TheVariants.{Input, Output}
-use Rattle.fcl_syntax.specs.declared.tree.Name.{Name}
-use Rattle.fcl_syntax.specs.declared.tree.Part.{Part}
 use Rattle.fcl_syntax.specs.declared.tree.Part.TheVariants as part
-use Rattle.fcl_check.specs.declared.names.Counts.{Counts}
-use Rattle.fcl_check.specs.declared.names.Section.{Section}
-use Rattle.fcl_check.specs.declared.names.Variable.{Variable}
+use Rattle.fcl_check.specs.declared.{names.Counts.Counts, names.Section.Section, names.Variable.Variable}
 use Rattle.fcl_check.specs.Loaded.{or_zero}
 use Rattle.fcl_check.specs.Names.{Declared, is_direction, is_named, number_in, section_name, singleton_names}
 use Rattle.fcl_check.specs.Names.{term_names}

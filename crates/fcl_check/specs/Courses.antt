@@ -5,14 +5,10 @@ use Rattle.std.specs.Prelude.{◌≡◌, ℕ, ◌+◌, ◌*◌, cond, true, List
 use Rattle.std.specs.Prelude.{unsigned_abs}
 use Rattle.std.specs.List.{filter, list_any}
 use Rattle.std.specs.Ordering.{int_eq}
-use Rattle.fz_num.specs.declared.dec.Dec.{Dec}
-use Rattle.fz_num.specs.Fractions.{Fraction, over, one, none}
-use Rattle.fuzzy_meaning.specs.declared.block.Trapezoid.{Trapezoid}
-use Rattle.fuzzy_meaning.specs.Degrees.{degree}
-use Rattle.fcl_syntax.specs.declared.tree.Point.{Point}
-use Rattle.fcl_syntax.specs.declared.tree.Term.{Term}
-use Rattle.fcl_check.specs.Loaded.{IsTermOf}
-use Rattle.fcl_check.specs.Places.{first, last}
+use Rattle.fz_num.specs.{declared.dec.Dec.Dec, Fractions.Fraction, Fractions.over, Fractions.one, Fractions.none}
+use Rattle.fuzzy_meaning.specs.{declared.block.Trapezoid.Trapezoid, Degrees.degree}
+use Rattle.fcl_syntax.specs.declared.{tree.Point.Point, tree.Term.Term}
+use Rattle.fcl_check.specs.{Loaded.IsTermOf, Places.first, Places.last}
 use Rattle.fcl_check.specs.Sections.{falling_in, has_one, has_shape, points_of, x_of}
 
 -- the same number

@@ -2,9 +2,8 @@
 -- Beside the promise.
 use Rattle.std.specs.Prelude.{◌≡◌, ℕ, List}
 use Rattle.fcl_syntax.specs.declared.tree.Tree.{Tree}
-use Rattle.fcl_check.specs.ByLetters.{at_letters, variable_in, HoldsSections}
+use Rattle.fcl_check.specs.{ByLetters.at_letters, ByLetters.variable_in, ByLetters.HoldsSections, Names.declared_in}
 use Rattle.fcl_check.specs.declared.names.Names.{Names}
-use Rattle.fcl_check.specs.Names.{declared_in}
 
 pub record Knows (tree : Tree) (names : Names) : Type 0 where
   pub declared : names.declared.items ≡ declared_in tree.block

@@ -5,32 +5,19 @@ use Rattle.std.specs.Ordering.{int_eq}
 use Rattle.std.specs.List.{AllZip, filter, take_while}
 use Rattle.fz_num.specs.declared.dec.Dec.{Dec}
 use Rattle.fuzzy_meaning.specs.Conditions.{Condition, is as literal, negation, all, any, Conditions, end, also}
-use Rattle.fuzzy_meaning.specs.declared.block.Block.{Block}
-use Rattle.fuzzy_meaning.specs.declared.block.Input.{Input}
-use Rattle.fuzzy_meaning.specs.declared.block.Output.{Output}
-use Rattle.fuzzy_meaning.specs.declared.block.Rule.{Rule}
+use Rattle.fuzzy_meaning.specs.declared.{block.Block.Block, block.Input.Input, block.Output.Output, block.Rule.Rule}
 use Rattle.fuzzy_meaning.specs.declared.block.Trapezoid.{Trapezoid}
 use Rattle.fcl_syntax.specs.Grammar.{TNot, neg, group, is, lone, TNots, no_nots, more_nots, TAnd, and_of, TAnds}
 use Rattle.fcl_syntax.specs.Grammar.{no_ands, more_ands, TOr, or_of}
-use Rattle.fcl_syntax.specs.declared.tree.Conclusion.{Conclusion}
-use Rattle.fcl_syntax.specs.declared.tree.Defuzzify.{Defuzzify}
-use Rattle.fcl_syntax.specs.declared.tree.Direction.{Direction}
+use Rattle.fcl_syntax.specs.declared.{tree.Conclusion.Conclusion, tree.Defuzzify.Defuzzify, tree.Direction.Direction}
 use Rattle.fcl_syntax.specs.declared.tree.Direction.TheVariants as side
-use Rattle.fcl_syntax.specs.declared.tree.Fallback.{Fallback}
-use Rattle.fcl_syntax.specs.declared.tree.FunctionBlock.{FunctionBlock}
-use Rattle.fcl_syntax.specs.declared.tree.Fuzzify.{Fuzzify}
-use Rattle.fcl_syntax.specs.declared.tree.Name.{Name}
-use Rattle.fcl_syntax.specs.declared.tree.Part.{Part}
-use Rattle.fcl_syntax.specs.declared.tree.Point.{Point}
-use Rattle.fcl_syntax.specs.declared.tree.Range.{Range}
-use Rattle.fcl_syntax.specs.declared.tree.Rule.{Rule as RuleNode}
-use Rattle.fcl_syntax.specs.declared.tree.Singleton.{Singleton}
-use Rattle.fcl_syntax.specs.declared.tree.Term.{Term}
+use Rattle.fcl_syntax.specs.declared.{tree.Fallback.Fallback, tree.FunctionBlock.FunctionBlock, tree.Fuzzify.Fuzzify}
+use Rattle.fcl_syntax.specs.declared.{tree.Name.Name, tree.Part.Part, tree.Point.Point, tree.Range.Range}
+use Rattle.fcl_syntax.specs.declared.{tree.Rule.Rule as RuleNode, tree.Singleton.Singleton, tree.Term.Term}
 use Rattle.fcl_syntax.specs.declared.tree.Weight.{Weight}
-use Rattle.fcl_check.specs.Faults.{conclusions_of}
+use Rattle.fcl_check.specs.{Faults.conclusions_of, Places.first, Places.last, Places.drop_while}
 use Rattle.fcl_check.specs.Names.{as_defuzzify, as_fuzzify, terms_of, singletons_of, declared_as, section_of}
 use Rattle.fcl_check.specs.Names.{variable_number, term_number, letters}
-use Rattle.fcl_check.specs.Places.{first, last, drop_while}
 use Rattle.fcl_check.specs.Sections.{Ends, value, ends_of, hull_of, points_of, x_of, has_one, has_zero, fuzzy_range}
 use Rattle.fcl_check.specs.Sections.{defuzzy_range, abscissas, output_numbers, default_of, fallback_number}
 

@@ -3,8 +3,7 @@
 use Rattle.std.specs.Prelude.{◌≡◌, ℕ, List}
 use Rattle.fuzzy_meaning.specs.declared.block.Block.{Block}
 use Rattle.fcl_syntax.specs.declared.tree.FunctionBlock.{FunctionBlock}
-use Rattle.fcl_check.specs.Loaded.{IsBlockOf}
-use Rattle.fcl_check.specs.Texts.{SpellsBlock}
+use Rattle.fcl_check.specs.{Loaded.IsBlockOf, Texts.SpellsBlock}
 
 -- A tree has at most one block.
 abbrev pub BlocksAreOne : Type 0

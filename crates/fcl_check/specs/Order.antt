@@ -2,12 +2,9 @@
 -- Beside the promise.
 use Rattle.std.specs.Prelude.{ℕ, List, length, All}
 use Rattle.std.specs.Str.{str_to_ascii_lowercase}
-use Rattle.fcl_syntax.specs.Offsets.{AscendWithin}
-use Rattle.fcl_syntax.specs.Text.{SpellsTree}
-use Rattle.fcl_syntax.specs.View.{view}
+use Rattle.fcl_syntax.specs.{Offsets.AscendWithin, Text.SpellsTree, View.view}
 use Rattle.fcl_syntax.specs.declared.tree.FunctionBlock.{FunctionBlock}
-use Rattle.fcl_check.specs.Faults.{kinds}
-use Rattle.fcl_check.specs.declared.fault.LoadFault.{LoadFault}
+use Rattle.fcl_check.specs.{Faults.kinds, declared.fault.LoadFault.LoadFault}
 
 -- In a tree that a text spells, the places of each kind ascend within the text: the first is the least
 -- offset.

@@ -7,27 +7,20 @@ use Rattle.std.specs.Int.{int_min, int_max}
 use Rattle.std.specs.List.{filter_map, flat_map, list_all}
 use Rattle.fcl_syntax.specs.declared.token.Amount.{Amount}
 use Rattle.fcl_syntax.specs.declared.token.Amount.TheVariants as amount
-use Rattle.fcl_syntax.specs.declared.tree.Defuzzify.{Defuzzify}
-use Rattle.fcl_syntax.specs.declared.tree.DefuzzyLine.{DefuzzyLine}
+use Rattle.fcl_syntax.specs.declared.{tree.Defuzzify.Defuzzify, tree.DefuzzyLine.DefuzzyLine}
 use Rattle.fcl_syntax.specs.declared.tree.DefuzzyLine.TheVariants as defuzzy
 use Rattle.fcl_syntax.specs.declared.tree.Degree.{Degree}
 use Rattle.fcl_syntax.specs.declared.tree.Degree.TheVariants as degree
-use Rattle.fcl_syntax.specs.declared.tree.Fallback.{Fallback}
-use Rattle.fcl_syntax.specs.declared.tree.FallbackValue.{FallbackValue}
+use Rattle.fcl_syntax.specs.declared.{tree.Fallback.Fallback, tree.FallbackValue.FallbackValue}
 use Rattle.fcl_syntax.specs.declared.tree.FallbackValue.TheVariants as fallback
-use Rattle.fcl_syntax.specs.declared.tree.Fuzzify.{Fuzzify}
-use Rattle.fcl_syntax.specs.declared.tree.FuzzyLine.{FuzzyLine}
+use Rattle.fcl_syntax.specs.declared.{tree.Fuzzify.Fuzzify, tree.FuzzyLine.FuzzyLine}
 use Rattle.fcl_syntax.specs.declared.tree.FuzzyLine.TheVariants as fuzzy
-use Rattle.fcl_syntax.specs.declared.tree.Name.{Name}
-use Rattle.fcl_syntax.specs.declared.tree.SignedNumber.{SignedNumber}
+use Rattle.fcl_syntax.specs.declared.{tree.Name.Name, tree.SignedNumber.SignedNumber}
 use Rattle.fcl_syntax.specs.declared.tree.SignedNumber.TheVariants as signed
 use Rattle.fcl_syntax.specs.declared.tree.Part.{Part}
 use Rattle.fcl_syntax.specs.declared.tree.Part.TheVariants as part
-use Rattle.fcl_syntax.specs.declared.tree.Point.{Point}
-use Rattle.fcl_syntax.specs.declared.tree.Range.{Range}
-use Rattle.fcl_syntax.specs.declared.tree.Setting.{Setting}
-use Rattle.fcl_syntax.specs.declared.tree.Singleton.{Singleton}
-use Rattle.fcl_syntax.specs.declared.tree.Term.{Term}
+use Rattle.fcl_syntax.specs.declared.{tree.Point.Point, tree.Range.Range, tree.Setting.Setting}
+use Rattle.fcl_syntax.specs.declared.{tree.Singleton.Singleton, tree.Term.Term}
 use Rattle.fcl_check.specs.Names.{terms_of, singletons_of}
 use Rattle.fcl_check.specs.Places.{at_if, at_some, at_each, first, drop_while}
 

@@ -3,15 +3,11 @@
 use Rattle.std.proofs.Common.{zero}
 use Rattle.std.specs.Prelude.{ℕ, suc, Bool, false, List, Option, Some, None, option_map, ℤ}
 use Rattle.std.specs.List.{list_all}
-use Rattle.fcl_syntax.specs.declared.tree.Direction.{Direction}
+use Rattle.fcl_syntax.specs.declared.{tree.Direction.Direction, tree.Operand.Operand, tree.Point.Point}
 use Rattle.fcl_syntax.specs.declared.tree.Direction.TheVariants.{Input, Output}
-use Rattle.fcl_syntax.specs.declared.tree.Operand.{Operand}
-use Rattle.fcl_syntax.specs.declared.tree.Point.{Point}
-use Rattle.fcl_check.specs.declared.checks.Room.{Room}
-use Rattle.fcl_check.specs.declared.sections.Course.{Course}
+use Rattle.fcl_check.specs.declared.{checks.Room.Room, sections.Course.Course}
 use Rattle.fcl_check.specs.declared.sections.Course.TheVariants.{Rising, Top, Falling, Broken}
-use Rattle.fcl_check.specs.Faults.{Pair}
-use Rattle.fcl_check.specs.Places.{drop_while}
+use Rattle.fcl_check.specs.{Faults.Pair, Places.drop_while}
 use Rattle.fcl_check.specs.Sections.{Ends, has_one, has_zero, has_shape, hull_of, reach}
 
 -- whether these points complete a trapezoid

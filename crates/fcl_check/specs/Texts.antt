@@ -2,15 +2,10 @@
 -- Reached by the promise.
 use Rattle.std.specs.Prelude.{◌≡◌, ℕ, ◌≤◌, ◌⊎◌, List, length, Some, None}
 use Rattle.std.specs.Str.{str_to_ascii_lowercase}
-use Rattle.fuzzy_meaning.specs.Blocks.{IsValid}
-use Rattle.fuzzy_meaning.specs.declared.block.Block.{Block}
-use Rattle.fcl_syntax.specs.Text.{IsFirstFault, SpellsTree}
-use Rattle.fcl_syntax.specs.View.{view}
-use Rattle.fcl_syntax.specs.declared.text.SyntaxFault.{SyntaxFault}
-use Rattle.fcl_syntax.specs.declared.tree.FunctionBlock.{FunctionBlock}
-use Rattle.fcl_check.specs.Faults.{first_fault}
-use Rattle.fcl_check.specs.Loaded.{IsBlockOf}
-use Rattle.fcl_check.specs.declared.fault.LoadFault.{LoadFault}
+use Rattle.fuzzy_meaning.specs.{Blocks.IsValid, declared.block.Block.Block}
+use Rattle.fcl_syntax.specs.{Text.IsFirstFault, Text.SpellsTree, View.view}
+use Rattle.fcl_syntax.specs.declared.{text.SyntaxFault.SyntaxFault, tree.FunctionBlock.FunctionBlock}
+use Rattle.fcl_check.specs.{Faults.first_fault, Loaded.IsBlockOf, declared.fault.LoadFault.LoadFault}
 
 -- the text spells a tree without a load fault, and this is the tree's block
 pub record SpellsBlock (text : List ℕ) (block : Block) : Type 0 where

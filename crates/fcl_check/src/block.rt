@@ -5,13 +5,10 @@
 
 ghost use Rattle.std.specs.Prelude.{◌≡◌, IfOk, None, map, option_map};
 ghost use Rattle.std.specs.List.{AllZip};
-ghost use Rattle.fcl_syntax.specs.declared.tree.Weight.{Weight};
-ghost use Rattle.fcl_check.specs.Faults.{conclusions_of, first_fault};
-ghost use Rattle.fcl_check.specs.Known.{Knows};
+ghost use Rattle.fcl_syntax.specs.declared.{tree.Weight.Weight, tree.Direction.TheVariants.Output as OutputSide};
+ghost use Rattle.fcl_check.specs.{Faults.conclusions_of, Faults.first_fault, Known.Knows, Sections.value};
 ghost use Rattle.fcl_check.specs.Loaded.{number_of, conclusion_of, IsRuleOf, IsBlockOf};
-ghost use Rattle.fcl_check.specs.Sections.{value};
 ghost use Rattle.fcl_check.specs.WellFormed.{AreConcluded, IsKnown, IsWellFormedRule};
-ghost use Rattle.fcl_syntax.specs.declared.tree.Direction.TheVariants.{Output as OutputSide};
 
 use crate::conditions::or;
 use crate::names::Names;

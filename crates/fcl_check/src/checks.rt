@@ -4,16 +4,13 @@ ghost use Rattle.std.specs.Prelude.{◌≡◌, ◌++◌, ℕ, List, [], Option, 
 ghost use Rattle.std.specs.Fn.{FnReturnsAt};
 ghost use Rattle.std.specs.List.{flat_map, list_any};
 ghost use Rattle.fcl_syntax.specs.declared.tree.Direction.TheVariants as side;
-ghost use Rattle.fcl_syntax.specs.declared.tree.Part.{Part as PartNode};
-ghost use Rattle.fcl_syntax.specs.declared.tree.Rule.{Rule as RuleNode};
+ghost use Rattle.fcl_syntax.specs.declared.{tree.Part.Part as PartNode, tree.Rule.Rule as RuleNode};
 ghost use Rattle.fcl_check.specs.Faults.{is_declared_as, is_over, is_whole, mistaken_section, missing_part, too_many};
 ghost use Rattle.fcl_check.specs.Faults.{unknown, unknown_section, weight_outside, without_section, wrong_side};
-ghost use Rattle.fcl_check.specs.Known.{Knows};
-ghost use Rattle.fcl_check.specs.Names.{Declared, declared_in, is_direction};
-ghost use Rattle.fcl_check.specs.Places.{at_each, at_if, first};
+ghost use Rattle.fcl_check.specs.{Known.Knows, Names.Declared, Names.declared_in, Names.is_direction};
+ghost use Rattle.fcl_check.specs.{Places.at_each, Places.at_if, Places.first, Steps.room_behind};
 ghost use Rattle.fcl_check.specs.Sections.{bad_range, falling_points, incomplete, numbers_outside, points_outside};
 ghost use Rattle.fcl_check.specs.Sections.{shapeless_terms, terms_over_limit, without_terms};
-ghost use Rattle.fcl_check.specs.Steps.{room_behind};
 
 use crate::names::Names;
 use crate::outputs::is_complete;

@@ -5,12 +5,10 @@ ghost use Rattle.std.specs.List.{AllZip};
 ghost use Rattle.fcl_syntax.specs.declared.tree.Direction.TheVariants as side;
 ghost use Rattle.fcl_syntax.specs.declared.tree.Part.TheVariants as part;
 ghost use Rattle.fcl_syntax.specs.declared.tree.Point.{Point};
-ghost use Rattle.fcl_check.specs.Spans.{ends_in};
-ghost use Rattle.fcl_check.specs.Corners.{AreCornersOf};
+ghost use Rattle.fcl_check.specs.{Spans.ends_in, Corners.AreCornersOf, WellFormed.IsWellFormedFuzzify};
 ghost use Rattle.fcl_check.specs.Loaded.{IsInputOf, IsTermOf, input_range};
 ghost use Rattle.fcl_check.specs.Names.{as_fuzzify, terms_of};
 ghost use Rattle.fcl_check.specs.Sections.{has_shape, points_of, shapeless_terms};
-ghost use Rattle.fcl_check.specs.WellFormed.{IsWellFormedFuzzify};
 
 use crate::numbers::{Span, is_one, value};
 use crate::sections::{fuzzy_range, hull};

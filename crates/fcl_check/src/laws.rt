@@ -1,9 +1,7 @@
 //! Laws of load faults and loaded blocks, each the contract of a function that does nothing but call
 //! a law that it rests on.
 ghost use Rattle.fcl_check.specs.OneBlock.{BlocksAreOne, SpelledBlocksAreOne};
-ghost use Rattle.fcl_check.specs.Courses.{CourseLaw};
-ghost use Rattle.fcl_check.specs.Kept.{NumbersAreKept};
-ghost use Rattle.fcl_check.specs.Order.{PlacesAscend};
+ghost use Rattle.fcl_check.specs.{Courses.CourseLaw, Kept.NumbersAreKept, Order.PlacesAscend};
 ghost use Rattle.fcl_check.specs.Texts.{EachTextIsJudged, LoadFaultsAreOne, SpelledBlocksAreValid, TreesHaveBlocks};
 
 use fcl_syntax::{each_text_is_read, numbers_in_scale, offsets_ascend, trees_are_one};

@@ -2,9 +2,7 @@
 
 ghost use Rattle.std.specs.Prelude.{◌≡◌, [], IfOk};
 ghost use Rattle.fuzzy_meaning.specs.Blocks.{IsValid};
-ghost use Rattle.fcl_check.specs.Faults.{Answers, first_fault, twice};
-ghost use Rattle.fcl_check.specs.Known.{Knows};
-ghost use Rattle.fcl_check.specs.Loaded.{IsBlockOf};
+ghost use Rattle.fcl_check.specs.{Faults.Answers, Faults.first_fault, Faults.twice, Known.Knows, Loaded.IsBlockOf};
 
 use crate::block::block;
 use crate::checks::{

@@ -12,10 +12,9 @@ ghost use Rattle.fcl_check.specs.ByLetters.{at_letters, variable_in, count_of, n
 ghost use Rattle.fcl_check.specs.Faults.{Answers, twice, repeated, same_declared, same_kind, same_rule_line};
 ghost use Rattle.fcl_check.specs.Faults.{output_line_at, rule_line_at, repeated_lines, repeated_section};
 ghost use Rattle.fcl_check.specs.declared.fault.LoadFault.TheVariants as load;
-ghost use Rattle.fcl_check.specs.Known.{Knows};
+ghost use Rattle.fcl_check.specs.{Known.Knows, Places.at_if, Places.at_each, Places.first};
 ghost use Rattle.fcl_check.specs.Names.{declared_by, declared_in, is_direction, is_named, letters, number_in};
 ghost use Rattle.fcl_check.specs.Names.{section_name, section_of, singleton_names, term_names, term_number};
-ghost use Rattle.fcl_check.specs.Places.{at_if, at_each, first};
 
 use crate::fault::LoadFault;
 use fcl_syntax::{

@@ -2,9 +2,9 @@
 
 ghost use Rattle.std.specs.Prelude.{◌≡◌, pos, ◌≤ℤ◌, option_map};
 ghost use Rattle.std.specs.Int.{int_min, int_max};
-ghost use Rattle.fcl_check.specs.Spans.{ends_in};
-ghost use Rattle.fcl_check.specs.Loaded.{number_of, widened};
-ghost use Rattle.fcl_check.specs.Sections.{magnitude, value, fallback_number, is_one, ends_of, lies_in, is_empty_range};
+ghost use Rattle.fcl_check.specs.{Spans.ends_in, Loaded.number_of, Loaded.widened};
+ghost use Rattle.fcl_check.specs.Sections.{magnitude, value, fallback_number, is_one, ends_of, lies_in};
+ghost use Rattle.fcl_check.specs.Sections.{is_empty_range};
 
 use fcl_syntax::{Amount, Degree, FallbackValue, Number, Range, SignedNumber};
 use fz_num::Dec;

@@ -4,8 +4,7 @@ ghost use Rattle.std.specs.Prelude.{◌≡◌, ℕ, List, Option};
 ghost use Rattle.std.specs.Fn.{FnReturnsAt};
 ghost use Rattle.std.specs.List.{flat_map};
 ghost use Rattle.fcl_check.specs.Faults.{Pair, and_pairs, not_pairs, or_pairs};
-ghost use Rattle.fcl_check.specs.Places.{first};
-ghost use Rattle.fcl_check.specs.Steps.{pair_of};
+ghost use Rattle.fcl_check.specs.{Places.first, Steps.pair_of};
 ghost use Rattle.fcl_syntax.specs.declared.tree.Operand.{Operand};
 
 use fcl_syntax::{And, Node, Not, Operand, Or};

@@ -4,12 +4,10 @@ ghost use Rattle.std.specs.Prelude.{◌≡◌, ◌||◌, [], None, Some, filter_
 ghost use Rattle.std.specs.List.{AllZip};
 ghost use Rattle.fcl_syntax.specs.declared.tree.Direction.TheVariants as side;
 ghost use Rattle.fcl_syntax.specs.declared.tree.Part.TheVariants as part;
-ghost use Rattle.fcl_check.specs.Spans.{ends_in};
+ghost use Rattle.fcl_check.specs.{Spans.ends_in, Places.first, WellFormed.IsWellFormedDefuzzify};
 ghost use Rattle.fcl_check.specs.Loaded.{IsOutputOf, default_number, number_of, output_hull, output_range, widened};
 ghost use Rattle.fcl_check.specs.Names.{as_defuzzify, singletons_of};
-ghost use Rattle.fcl_check.specs.Places.{first};
 ghost use Rattle.fcl_check.specs.Sections.{default_of, incomplete, method_line, value};
-ghost use Rattle.fcl_check.specs.WellFormed.{IsWellFormedDefuzzify};
 
 use crate::numbers::{Span, fallback_number, value};
 use crate::sections::{defuzzy_range, number_line};

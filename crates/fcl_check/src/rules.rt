@@ -6,8 +6,7 @@ ghost use Rattle.fcl_syntax.specs.declared.tree.Conclusion.{Conclusion};
 ghost use Rattle.fcl_syntax.specs.declared.tree.Direction.TheVariants as side;
 ghost use Rattle.fcl_check.specs.Faults.{Pair, conclusions_of, direction, mistaken, mistaken_in, mistaken_section};
 ghost use Rattle.fcl_check.specs.Faults.{or_pairs, unknown_in, unknown_pair, unknown_section, weight_outside};
-ghost use Rattle.fcl_check.specs.Known.{Knows};
-ghost use Rattle.fcl_check.specs.Places.{first};
+ghost use Rattle.fcl_check.specs.{Known.Knows, Places.first};
 
 use crate::names::{Names, section_name};
 use crate::numbers::value;

@@ -3,14 +3,9 @@
 ghost use Rattle.std.specs.Prelude.{◌≡◌, ℕ, ◌∷◌, List, map, option_map, is_some, not};
 ghost use Rattle.std.specs.Borrow.{Bor};
 ghost use Rattle.fcl_syntax.specs.declared.tree.Direction.TheVariants as side;
-ghost use Rattle.fcl_syntax.specs.declared.tree.Point.{Point};
-ghost use Rattle.fcl_syntax.specs.declared.tree.Singleton.{Singleton};
-ghost use Rattle.fcl_syntax.specs.declared.tree.Term.{Term};
+ghost use Rattle.fcl_syntax.specs.declared.{tree.Point.Point, tree.Singleton.Singleton, tree.Term.Term};
 ghost use Rattle.fz_num.specs.declared.dec.Dec.{Dec};
-ghost use Rattle.fcl_check.specs.Spans.{ends_in};
-ghost use Rattle.fcl_check.specs.Steps.{completes, extended};
-ghost use Rattle.fcl_check.specs.Faults.{is_declared_as};
-ghost use Rattle.fcl_check.specs.Known.{Knows};
+ghost use Rattle.fcl_check.specs.{Spans.ends_in, Steps.completes, Steps.extended, Faults.is_declared_as, Known.Knows};
 ghost use Rattle.fcl_check.specs.Names.{singleton_of, singletons_of, term_of, terms_of};
 ghost use Rattle.fcl_check.specs.Places.{at_if, first};
 ghost use Rattle.fcl_check.specs.Sections.{abscissas, bad_range, defuzzy_range, empty_range, falling_in};

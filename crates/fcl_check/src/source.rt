@@ -2,10 +2,7 @@
 
 ghost use Rattle.std.proofs.Props.{props};
 ghost use Rattle.std.specs.Prelude.{◌≡◌, None};
-ghost use Rattle.fcl_check.specs.Faults.{first_fault};
-ghost use Rattle.fcl_check.specs.Known.{Knows};
-ghost use Rattle.fcl_check.specs.Loaded.{numbers_of};
-ghost use Rattle.fcl_check.specs.WellFormed.{IsKnown};
+ghost use Rattle.fcl_check.specs.{Faults.first_fault, Known.Knows, Loaded.numbers_of, WellFormed.IsKnown};
 
 use crate::names::Names;
 use fcl_syntax::{Direction, Name, Tree};

@@ -2,12 +2,9 @@
 
 ghost use Rattle.std.specs.Prelude.{◌≡◌, Option, All, option_map, IfOk};
 ghost use Rattle.std.specs.List.{AllZip};
-ghost use Rattle.fcl_syntax.specs.declared.tree.Direction.{Direction};
-ghost use Rattle.fcl_syntax.specs.declared.tree.Part.{Part};
-ghost use Rattle.fcl_check.specs.Known.{Knows};
-ghost use Rattle.fcl_check.specs.Loaded.{IsVariableNamed};
+ghost use Rattle.fcl_syntax.specs.declared.{tree.Direction.Direction, tree.Part.Part};
+ghost use Rattle.fcl_check.specs.{Known.Knows, Loaded.IsVariableNamed, WellFormed.HasSection};
 ghost use Rattle.fcl_check.specs.Names.{declared_as, declared_in};
-ghost use Rattle.fcl_check.specs.WellFormed.{HasSection};
 
 use crate::names::Names;
 use fcl_syntax::{Direction, Part, Tree};

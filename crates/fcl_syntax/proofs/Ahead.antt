@@ -2,19 +2,15 @@
 use Rattle.std.proofs.Common.{◌≡◌, ℕ, suc, ◌+◌, Bool, true, false, List, [], ◌∷◌, ◌++◌, length, Option, Some, None}
 use Rattle.std.proofs.Common.{Result, Ok, Err, refl, sym, ap, subst, ◌∙◌, arith, inl, inr, ◌⊎◌}
 use Rattle.std.proofs.lemmas.List.{append-nil}
-use Rattle.fcl_syntax.specs.declared.fault.Fault.{Fault}
-use Rattle.fcl_syntax.specs.declared.fault.Kind.{Kind}
-use Rattle.fcl_syntax.specs.declared.fault.Kind.TheVariants.{Unsupported}
+use Rattle.fcl_syntax.specs.declared.{fault.Fault.Fault, fault.Kind.Kind, fault.Kind.TheVariants.Unsupported}
 use Rattle.fcl_syntax.specs.declared.token.Token.{Token}
-use Rattle.fcl_syntax.specs.TokenClasses.{class_of, mem}
+use Rattle.fcl_syntax.specs.{TokenClasses.class_of, TokenClasses.mem, First.SameHead}
 use Rattle.fcl_syntax.specs.Annotations.{Sym, tokens_of, plain, annotated}
-use Rattle.fcl_syntax.specs.First.{SameHead}
 use Rattle.fcl_syntax.specs.Readers.{◌>>=◌, fault_at, starts, one_at}
 use Rattle.fcl_syntax.proofs.Form.{disjoint, Stops, Starts, first_annotation, answer, Stands, Fails, Form}
 use Rattle.fcl_syntax.proofs.AnnotatedTexts.{bind_ok, bind_err, ok_is}
-use Rattle.fcl_syntax.proofs.Seq.{Shows-in, Viable-in}
+use Rattle.fcl_syntax.proofs.{Seq.Shows-in, Seq.Viable-in, Dead.unless}
 use Rattle.fcl_syntax.proofs.Small.{Single, one_text, one_stands, one_fails, starts-not, starts-same}
-use Rattle.fcl_syntax.proofs.Dead.{unless}
 
 pub record Ahead (Y : Type 0) : Type 0 where
   pub among : List ℕ

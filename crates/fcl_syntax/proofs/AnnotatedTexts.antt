@@ -3,13 +3,10 @@ use Rattle.std.proofs.Common.{◌≡◌, ℕ, suc, ◌+◌, Bool, true, false, c
 use Rattle.std.proofs.Common.{None, Result, Ok, Err, refl, ap, subst, arith, inl, inr, ◌⊎◌}
 use Rattle.std.proofs.lemmas.Bool.{eqb-true}
 use Rattle.std.proofs.lemmas.List.{length-append}
-use Rattle.fcl_syntax.specs.declared.fault.Fault.{Fault}
-use Rattle.fcl_syntax.specs.declared.fault.Kind.{Kind}
-use Rattle.fcl_syntax.specs.declared.token.Token.{Token}
-use Rattle.fcl_syntax.specs.TokenClasses.{class_of, mem}
+use Rattle.fcl_syntax.specs.declared.{fault.Fault.Fault, fault.Kind.Kind, token.Token.Token}
+use Rattle.fcl_syntax.specs.{TokenClasses.class_of, TokenClasses.mem, Readers.◌>>=◌}
 use Rattle.fcl_syntax.specs.Annotations.{Sym, tokens_of, IsClean}
 use Rattle.fcl_syntax.specs.First.{looks_on, SameNext, SameHead}
-use Rattle.fcl_syntax.specs.Readers.{◌>>=◌}
 use Rattle.fcl_syntax.proofs.Form.{disjoint, Stops, Starts, annotation_at, first_annotation, or_else}
 
 pub bind_ok : {A B : Type 0} (r : Result A Fault) (f : A → Result B Fault) (y : B) → (r >>= f) ≡ Ok y

@@ -1,7 +1,6 @@
 -- Readers in a row, as the parser has them and as a sequence of forms has them.
 use Rattle.std.proofs.Common.{◌≡◌, Bool, true, false, List, Result, Ok, Err, refl}
-use Rattle.fcl_syntax.specs.declared.fault.Fault.{Fault}
-use Rattle.fcl_syntax.specs.declared.token.Token.{Token}
+use Rattle.fcl_syntax.specs.declared.{fault.Fault.Fault, token.Token.Token}
 use Rattle.fcl_syntax.specs.Readers.{◌>>=◌, Read, cond_read}
 use Rattle.fcl_syntax.proofs.Small.{seen_as}
 

@@ -8,25 +8,19 @@ use Rattle.fcl_syntax.specs.declared.token.Keyword.TheVariants as key
 use Rattle.fcl_syntax.specs.declared.token.Token.{Token}
 use Rattle.fcl_syntax.specs.declared.token.Token.TheVariants as tok
 use Rattle.fcl_syntax.specs.declared.token.Word.TheVariants as word
-use Rattle.fcl_syntax.specs.declared.tree.Name.{Name}
+use Rattle.fcl_syntax.specs.{declared.tree.Name.Name, Annotations.Sym, Annotations.plain, Annotations.annotated}
 use Rattle.fcl_syntax.specs.TokenClasses.{class_of, mem, follow_classes, Among, keyword_class, opener_classes}
-use Rattle.fcl_syntax.specs.Annotations.{Sym, plain, annotated}
-use Rattle.fcl_syntax.specs.Readers.{◌>>=◌, loop}
-use Rattle.fcl_syntax.proofs.Form.{disjoint, Form}
+use Rattle.fcl_syntax.specs.{Readers.◌>>=◌, Readers.loop, Conditions.nots_of, Conditions.ands_of}
 use Rattle.fcl_syntax.specs.Grammar.{TNot, neg, group, is, lone, TNots, no_nots, more_nots, TAnd, and_of, TAnds}
-use Rattle.fcl_syntax.specs.Grammar.{no_ands, more_ands, TOr, or_of, not_text, nots_text, and_text, ands_text, or_text}
-use Rattle.fcl_syntax.specs.Reading.{name_at, not_word_at, operand_at, behind_key_in, joined_in}
-use Rattle.fcl_syntax.specs.Reading.{neg_in, group_in, opened_in, not_at}
-use Rattle.fcl_syntax.specs.Conditions.{nots_of, ands_of}
-use Rattle.fcl_syntax.proofs.Ahead.{Ahead, ahead}
-use Rattle.fcl_syntax.proofs.Chains.{bind_assoc, bind_cond, chain2}
-use Rattle.fcl_syntax.proofs.SingleTokens.{name_single}
-use Rattle.fcl_syntax.proofs.Dead.{via, Dead, dead_or}
+use Rattle.fcl_syntax.specs.Grammar.{no_ands, more_ands, TOr, or_of, not_text, nots_text, and_text, ands_text}
+use Rattle.fcl_syntax.specs.Grammar.{or_text}
+use Rattle.fcl_syntax.specs.Reading.{name_at, not_word_at, operand_at, behind_key_in, joined_in, neg_in, group_in}
+use Rattle.fcl_syntax.specs.Reading.{opened_in, not_at}
+use Rattle.fcl_syntax.proofs.{Form.disjoint, Form.Form, Ahead.Ahead, Ahead.ahead}
+use Rattle.fcl_syntax.proofs.{Chains.bind_assoc, Chains.bind_cond, Chains.chain2, SingleTokens.name_single}
+use Rattle.fcl_syntax.proofs.{Dead.via, Dead.Dead, Dead.dead_or, Loop.texts, Repeat.then_rep, Seq.seq}
 use Rattle.fcl_syntax.proofs.Forms.{bare_form, key_form, open_form, name_form}
-use Rattle.fcl_syntax.proofs.Loop.{texts}
 use Rattle.fcl_syntax.proofs.Named.{named, either, in_left, in_right}
-use Rattle.fcl_syntax.proofs.Repeat.{then_rep}
-use Rattle.fcl_syntax.proofs.Seq.{seq}
 
 -- ---- name IS [NOT] name
 

@@ -10,9 +10,7 @@ use Rattle.std.proofs.lemmas.List.{length-append, take-append-drop}
 use Rattle.std.proofs.lemmas.List.Sums.{take_while-cons}
 use Rattle.std.proofs.Math.Seq.{drop-append_seam, take-append_seam, drop-append-add}
 use Rattle.fz_num.specs.Decimals.{decimal}
-use Rattle.fz_num.specs.declared.dec.Dec.{Dec}
-use Rattle.fz_num.specs.declared.dec.DecFault.{DecFault}
-use Rattle.fz_num.specs.declared.dec.DecFault.TheVariants.{Shape}
+use Rattle.fz_num.specs.declared.{dec.Dec.Dec, dec.DecFault.DecFault, dec.DecFault.TheVariants.Shape}
 use Rattle.fcl_syntax.specs.declared.lexer.LexKind.{LexKind}
 use Rattle.fcl_syntax.specs.declared.lexer.LexKind.TheVariants as kinds
 use Rattle.fcl_syntax.specs.declared.lexer.Piece.{Piece}
@@ -21,8 +19,7 @@ use Rattle.fcl_syntax.specs.declared.token.Meaning.{Meaning}
 use Rattle.fcl_syntax.specs.declared.token.Meaning.TheVariants as meaning
 use Rattle.fcl_syntax.specs.declared.token.Token.{Token}
 use Rattle.fcl_syntax.specs.declared.token.Token.TheVariants as tok
-use Rattle.fcl_syntax.specs.Meanings.{meanings}
-use Rattle.fcl_syntax.specs.TokenClasses.{mem}
+use Rattle.fcl_syntax.specs.{Meanings.meanings, TokenClasses.mem}
 use Rattle.fcl_syntax.specs.Tokens.{is_blank, is_name_start, is_name_byte, is_line_byte, starts_name, IsComment}
 use Rattle.fcl_syntax.specs.Tokens.{IsLineComment, IsName, IsDigits, IsPointed, IsNumber, amount_of, meaning_in}
 use Rattle.fcl_syntax.specs.Tokens.{IsToken, IsSpelling, IsTogether, IsLongest, IsFaulty, IsFront}

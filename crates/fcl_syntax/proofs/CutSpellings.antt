@@ -8,9 +8,7 @@ use Rattle.std.proofs.lemmas.Bool.{both_ways, cases_Bool, eq-eqb}
 use Rattle.std.proofs.lemmas.List.{append-nil, length-append}
 use Rattle.std.proofs.lemmas.List.Sums.{prefix_len-le-length}
 use Rattle.std.proofs.Math.Seq.{drop-append_seam, take-append_seam}
-use Rattle.fz_num.specs.Decimals.{decimal}
-use Rattle.fz_num.specs.declared.dec.Dec.{Dec}
-use Rattle.fz_num.specs.declared.dec.DecFault.{DecFault}
+use Rattle.fz_num.specs.{Decimals.decimal, declared.dec.Dec.Dec, declared.dec.DecFault.DecFault}
 use Rattle.fcl_syntax.specs.declared.lexer.LexKind.{LexKind}
 use Rattle.fcl_syntax.specs.declared.lexer.LexKind.TheVariants as kinds
 use Rattle.fcl_syntax.specs.declared.lexer.Piece.{Piece}
@@ -25,8 +23,8 @@ use Rattle.fcl_syntax.specs.Tokens.{IsNumber, amount_of, meaning_in, IsToken, Is
 use Rattle.fcl_syntax.specs.Lexing.{run, number_len, decimal_piece, number_piece, token_of, word_token, piece_of}
 use Rattle.fcl_syntax.specs.Lexing.{colon_piece, delimiter_piece, open_piece, point_piece}
 use Rattle.fcl_syntax.proofs.CutLists.{same_front, all_in_run, run_is}
-use Rattle.fcl_syntax.proofs.CutPieces.{blank_member, blanks, clash, digit_not_start, digits_most, member, number_digit}
-use Rattle.fcl_syntax.proofs.CutPieces.{number_front, units_are}
+use Rattle.fcl_syntax.proofs.CutPieces.{blank_member, blanks, clash, digit_not_start, digits_most, member}
+use Rattle.fcl_syntax.proofs.CutPieces.{number_digit, number_front, units_are}
 
 -- ---- what stands together is not empty
 

@@ -4,12 +4,9 @@ use Rattle.std.proofs.Common.{Ok, Err, refl, sym, ap, subst, ◌∙◌, arith}
 use Rattle.std.specs.List.{filter_map, cons_option}
 use Rattle.std.proofs.lemmas.List.{length-append, length-drop}
 use Rattle.std.proofs.Math.Seq.{drop-append_seam}
-use Rattle.fcl_syntax.specs.declared.lexer.LexFault.{LexFault}
-use Rattle.fcl_syntax.specs.declared.lexer.LexKind.{LexKind}
-use Rattle.fcl_syntax.specs.declared.lexer.Piece.{Piece}
+use Rattle.fcl_syntax.specs.declared.{lexer.LexFault.LexFault, lexer.LexKind.LexKind, lexer.Piece.Piece}
 use Rattle.fcl_syntax.specs.declared.lexer.Piece.TheVariants as piece
-use Rattle.fcl_syntax.specs.declared.token.Token.{Token}
-use Rattle.fcl_syntax.specs.Cuts.{CutsAreTokens}
+use Rattle.fcl_syntax.specs.{declared.token.Token.Token, Cuts.CutsAreTokens}
 use Rattle.fcl_syntax.specs.Lexing.{Lexed, in_front, lexed, next_piece, piece_of, tokenization}
 use Rattle.fcl_syntax.specs.Tokens.{HasTokens, HasTokenFault, IsCut, IsFaulty, IsFront, IsSpelling, Lexeme}
 use Rattle.fcl_syntax.specs.Tokens.{place_before, places_of}

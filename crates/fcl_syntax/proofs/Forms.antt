@@ -1,7 +1,6 @@
 -- The forms of variables, terms and ranges.
 use Rattle.std.proofs.Common.{◌≡◌, ℕ, true, List, [], ◌∷◌, ◌++◌, length, Ok, refl, ap, ◌∙◌, inl, inr, ◌⊎◌}
-use Rattle.fcl_syntax.specs.declared.fault.Kind.TheVariants.{Unsupported}
-use Rattle.fcl_syntax.specs.declared.terms.Sign.{Sign}
+use Rattle.fcl_syntax.specs.declared.{fault.Kind.TheVariants.Unsupported, terms.Sign.Sign}
 use Rattle.fcl_syntax.specs.declared.terms.Sign.TheVariants as sign
 use Rattle.fcl_syntax.specs.declared.token.Keyword.{Keyword}
 use Rattle.fcl_syntax.specs.declared.token.Keyword.TheVariants as key
@@ -9,31 +8,23 @@ use Rattle.fcl_syntax.specs.declared.token.Token.{Token}
 use Rattle.fcl_syntax.specs.declared.token.Token.TheVariants as tok
 use Rattle.fcl_syntax.specs.declared.token.Word.{Word}
 use Rattle.fcl_syntax.specs.declared.token.Word.TheVariants as word
-use Rattle.fcl_syntax.specs.declared.tree.Direction.{Direction}
-use Rattle.fcl_syntax.specs.declared.tree.Name.{Name}
-use Rattle.fcl_syntax.specs.declared.tree.Number.{Number}
-use Rattle.fcl_syntax.specs.declared.tree.UnitNumber.{UnitNumber}
-use Rattle.fcl_syntax.specs.declared.tree.ZeroNumber.{ZeroNumber}
+use Rattle.fcl_syntax.specs.declared.{tree.Direction.Direction, tree.Name.Name, tree.Number.Number}
+use Rattle.fcl_syntax.specs.declared.{tree.UnitNumber.UnitNumber, tree.ZeroNumber.ZeroNumber}
 use Rattle.fcl_syntax.specs.TokenClasses.{name_classes, other_type_classes, beyond_unit_classes, beyond_zero_classes}
 use Rattle.fcl_syntax.specs.TokenClasses.{class_of, comma_classes}
-use Rattle.fcl_syntax.specs.Annotations.{Sym, plain}
-use Rattle.fcl_syntax.specs.Readers.{◌>>=◌, Read, loop}
-use Rattle.fcl_syntax.proofs.Form.{disjoint, Form}
+use Rattle.fcl_syntax.specs.{Annotations.Sym, Annotations.plain, Readers.◌>>=◌, Readers.Read, Readers.loop}
 use Rattle.fcl_syntax.specs.Grammar.{behind, each, key_text, name_text, names_text, TSigned, plus, minus, bare}
 use Rattle.fcl_syntax.specs.Grammar.{signed_text, TSignedNumber, TType, TDeclaration, declaration_text, direction_key}
 use Rattle.fcl_syntax.specs.Grammar.{TVariables, variables_text, var_classes, TSection, TCoordinate, TUnit, TZero}
 use Rattle.fcl_syntax.specs.Reading.{IsBare, expect_at, key_at, word_at, open_at, name_at, number_at, unit_number_at}
-use Rattle.fcl_syntax.specs.Reading.{zero_number_at, direction_at, behind_sign, sign_at, signed, signed_at, coordinate_number_at, unit_at, zero_at}
-use Rattle.fcl_syntax.specs.Reading.{comma_name_at, names_at, type_at, declaration_at, declarations_at, variables_at}
-use Rattle.fcl_syntax.specs.Reading.{section_at}
+use Rattle.fcl_syntax.specs.Reading.{zero_number_at, direction_at, behind_sign, sign_at, signed, signed_at}
+use Rattle.fcl_syntax.specs.Reading.{coordinate_number_at, unit_at, zero_at, comma_name_at, names_at, type_at}
+use Rattle.fcl_syntax.specs.Reading.{declaration_at, declarations_at, variables_at, section_at}
+use Rattle.fcl_syntax.proofs.Form.{disjoint, Form}
 use Rattle.fcl_syntax.proofs.Chains.{bind_assoc, bind_cond, second, chain2, chain3, chain4}
 use Rattle.fcl_syntax.proofs.SingleTokens as single
-use Rattle.fcl_syntax.proofs.Dead.{via}
-use Rattle.fcl_syntax.proofs.Loop.{texts}
+use Rattle.fcl_syntax.proofs.{Dead.via, Loop.texts, Repeat.then_rep, Seq.seq, Small.one}
 use Rattle.fcl_syntax.proofs.Named.{named, either, refuse, many_then}
-use Rattle.fcl_syntax.proofs.Repeat.{then_rep}
-use Rattle.fcl_syntax.proofs.Seq.{seq}
-use Rattle.fcl_syntax.proofs.Small.{one}
 
 -- ---- single tokens
 

@@ -1,25 +1,22 @@
 -- Each block in a text is one of the program, so each text spells one or has a first fault.
 use Rattle.std.proofs.Common.{◌≡◌, ℕ, ◌⊎◌, inl, inr, [], ◌∷◌, ◌++◌, Some, None, Result, Ok}
 use Rattle.std.proofs.Common.{Err, refl, ap, sym, subst, ◌∙◌}
-use Rattle.fcl_syntax.specs.declared.fault.Kind.TheVariants.{Unsupported}
-use Rattle.fcl_syntax.specs.declared.text.SyntaxFault.{SyntaxFault}
+use Rattle.fcl_syntax.specs.declared.{fault.Kind.TheVariants.Unsupported, text.SyntaxFault.SyntaxFault}
 use Rattle.fcl_syntax.specs.declared.token.Keyword.TheVariants as key
 use Rattle.fcl_syntax.specs.declared.token.Token.TheVariants as tok
 use Rattle.fcl_syntax.specs.declared.token.Word.TheVariants as word
 use Rattle.fcl_syntax.specs.declared.tree.ActWord.TheVariants as act
 use Rattle.fcl_syntax.specs.declared.tree.FunctionBlock.{FunctionBlock}
 use Rattle.fcl_syntax.specs.declared.tree.RuleLine.TheVariants as line
-use Rattle.fcl_syntax.specs.Grammar.{TDeclaration, names_text, each, type_text, word_text}
-use Rattle.fcl_syntax.specs.Grammar.{declaration_text, TVariables, variables_text, key_text, TSection, section_text}
-use Rattle.fcl_syntax.specs.Grammar.{or_text, TRule, rule_text, conclusions_text, TWeight, weight_text}
-use Rattle.fcl_syntax.specs.Grammar.{semicolon_text, signed_number_text, TRuleItem, rule_item_text, TAct, TRuleLine}
-use Rattle.fcl_syntax.specs.Grammar.{rule_line_text, and_classes, or_classes, accu_classes, TRulebase, rulebase_text}
-use Rattle.fcl_syntax.specs.Grammar.{TEnd, end_text, part_text, TBlock, block_text}
+use Rattle.fcl_syntax.specs.Grammar.{TDeclaration, names_text, each, type_text, word_text, declaration_text}
+use Rattle.fcl_syntax.specs.Grammar.{TVariables, variables_text, key_text, TSection, section_text, or_text, TRule}
+use Rattle.fcl_syntax.specs.Grammar.{rule_text, conclusions_text, TWeight, weight_text, semicolon_text}
+use Rattle.fcl_syntax.specs.Grammar.{signed_number_text, TRuleItem, rule_item_text, TAct, TRuleLine, rule_line_text}
+use Rattle.fcl_syntax.specs.Grammar.{and_classes, or_classes, accu_classes, TRulebase, rulebase_text, TEnd, end_text}
+use Rattle.fcl_syntax.specs.Grammar.{part_text, TBlock, block_text}
 use Rattle.fcl_syntax.specs.TokenClasses.{name_classes, other_type_classes}
 use Rattle.fcl_syntax.specs.Annotations.{IsClean, plain, either_text, or_refused}
-use Rattle.fcl_syntax.specs.Text.{SpellsTree, IsFirstFault}
-use Rattle.fcl_syntax.specs.TextReading.{read_text}
-use Rattle.fcl_syntax.specs.Readings.{EachTextIsRead}
+use Rattle.fcl_syntax.specs.{Text.SpellsTree, Text.IsFirstFault, TextReading.read_text, Readings.EachTextIsRead}
 use Rattle.fcl_syntax.specs.View.{view_signed_number, view_declaration, view_variables, view_section, view_part}
 use Rattle.fcl_syntax.specs.View.{view_weight, view_rule, view_rule_item, view_act_word, view_act, view_rule_line}
 use Rattle.fcl_syntax.specs.View.{view_rulebase, view}

@@ -1,8 +1,6 @@
 -- Nothing in a clean text is refused, so each list in it is one of the program.
 use Rattle.std.proofs.Common.{◌≡◌, ◌⊎◌, inl, inr, List, [], ◌∷◌, ◌++◌, map, Some, None, refl}
-use Rattle.fcl_syntax.specs.declared.fault.Kind.{Kind}
-use Rattle.fcl_syntax.specs.Grammar.{each}
-use Rattle.fcl_syntax.specs.TokenClasses.{Among}
+use Rattle.fcl_syntax.specs.{declared.fault.Kind.Kind, Grammar.each, TokenClasses.Among}
 use Rattle.fcl_syntax.specs.Annotations.{IsClean, Sym, or_refused}
 use Rattle.std.specs.Prelude.{ℕ}
 

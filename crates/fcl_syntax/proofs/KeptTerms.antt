@@ -1,7 +1,6 @@
 -- Each part in a text, with its terms and ranges, is one of the program.
 use Rattle.std.proofs.Common.{◌≡◌, ℕ, ◌⊎◌, inl, inr, List, [], ◌∷◌, ◌++◌, map, refl, ap, ◌∙◌}
-use Rattle.fcl_syntax.specs.declared.fault.Kind.TheVariants.{Unsupported}
-use Rattle.fcl_syntax.specs.declared.token.Keyword.{Keyword}
+use Rattle.fcl_syntax.specs.declared.{fault.Kind.TheVariants.Unsupported, token.Keyword.Keyword}
 use Rattle.fcl_syntax.specs.declared.token.Keyword.TheVariants as key
 use Rattle.fcl_syntax.specs.declared.token.Token.TheVariants as tok
 use Rattle.fcl_syntax.specs.declared.token.Word.{Word}
@@ -12,9 +11,7 @@ use Rattle.fcl_syntax.specs.declared.tree.FallbackValue.TheVariants as fallback
 use Rattle.fcl_syntax.specs.declared.tree.FuzzyLine.TheVariants as fuzzy
 use Rattle.fcl_syntax.specs.declared.tree.SignedNumber.TheVariants as signed
 use Rattle.fcl_syntax.specs.declared.tree.Part.TheVariants as part
-use Rattle.fcl_syntax.specs.declared.tree.Point.{Point}
-use Rattle.fcl_syntax.specs.declared.tree.UnitNumber.{UnitNumber}
-use Rattle.fcl_syntax.specs.declared.tree.ZeroNumber.{ZeroNumber}
+use Rattle.fcl_syntax.specs.declared.{tree.Point.Point, tree.UnitNumber.UnitNumber, tree.ZeroNumber.ZeroNumber}
 use Rattle.fcl_syntax.specs.Grammar.{TSigned, plus, minus, bare, TSignedNumber, signed_number_text, number_text, each}
 use Rattle.fcl_syntax.specs.Grammar.{TCoordinate, coordinate_text, signed_text, unit_text, zero_text, TUnit, TZero}
 use Rattle.fcl_syntax.specs.Grammar.{degree_text, TPoint, point_text, TPoints, points_text, TTerm, term_text, TRange}

@@ -2,13 +2,13 @@
 use Rattle.std.proofs.Common.{◌≡◌, ℕ, zero, suc, ◌+◌, ◌≤◌, Bool, true, false, List, [], ◌∷◌, ◌++◌, length, Option, Some}
 use Rattle.std.proofs.Common.{None, Result, Ok, Err, refl, sym, ap, subst, ◌∙◌, append_assoc, arith, inl, inr}
 use Rattle.std.proofs.lemmas.List.{append-nil, length-append}
-use Rattle.fcl_syntax.specs.declared.fault.Fault.{Fault}
-use Rattle.fcl_syntax.specs.declared.token.Token.{Token}
+use Rattle.fcl_syntax.specs.declared.{fault.Fault.Fault, token.Token.Token}
 use Rattle.fcl_syntax.specs.Annotations.{Sym, tokens_of, IsClean}
 use Rattle.fcl_syntax.specs.Readers.{◌>>=◌, starts, with_front, turn, loop}
 use Rattle.fcl_syntax.proofs.Form.{disjoint, Stops, Starts, first_annotation, or_else, answer, Fails, Form}
-use Rattle.fcl_syntax.proofs.AnnotatedTexts.{bind_ok, bind_err, ok_is, tokens_of-append, length-tokens, IsClean-append}
-use Rattle.fcl_syntax.proofs.AnnotatedTexts.{first_annotation-append, first_annotation-clean, starts-stops}
+use Rattle.fcl_syntax.proofs.AnnotatedTexts.{bind_ok, bind_err, ok_is, tokens_of-append, length-tokens}
+use Rattle.fcl_syntax.proofs.AnnotatedTexts.{IsClean-append, first_annotation-append, first_annotation-clean}
+use Rattle.fcl_syntax.proofs.AnnotatedTexts.{starts-stops}
 use Rattle.fcl_syntax.proofs.Small.{starts-is}
 
 module _ {A : Type 0} (p : Form A) where

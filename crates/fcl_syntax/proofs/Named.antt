@@ -1,14 +1,9 @@
 -- A form under another reader that answers the same, and choices with their classes worked out.
 use Rattle.std.proofs.Common.{◌≡◌, ℕ, Bool, true, false, cond, List, [], ◌++◌, refl, sym, ◌∙◌, ◌⊎◌}
-use Rattle.fcl_syntax.specs.declared.fault.Kind.{Kind}
-use Rattle.fcl_syntax.specs.declared.token.Token.{Token}
+use Rattle.fcl_syntax.specs.declared.{fault.Kind.Kind, token.Token.Token}
 use Rattle.fcl_syntax.specs.TokenClasses.{class_of, mem, Among}
-use Rattle.fcl_syntax.specs.Annotations.{refused_text}
-use Rattle.fcl_syntax.specs.First.{looks_on}
-use Rattle.fcl_syntax.specs.Readers.{Read}
-use Rattle.fcl_syntax.proofs.Form.{disjoint, Form}
-use Rattle.fcl_syntax.proofs.Small.{alt}
-use Rattle.fcl_syntax.proofs.Dead.{Dead, dead_or}
+use Rattle.fcl_syntax.specs.{Annotations.refused_text, First.looks_on, Readers.Read}
+use Rattle.fcl_syntax.proofs.{Form.disjoint, Form.Form, Small.alt, Dead.Dead, Dead.dead_or}
 use Rattle.fcl_syntax.proofs.Repeat.{mem-append, many}
 
 abbrev pub named : {A : Type 0} (p : Form A) (read : List Token → Read A)

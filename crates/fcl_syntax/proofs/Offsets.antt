@@ -7,19 +7,15 @@ use Rattle.std.specs.Char.{is_ascii_digit}
 use Rattle.std.specs.List.{cons_option, filter_map}
 use Rattle.std.proofs.lemmas.List.{length-drop}
 use Rattle.std.proofs.lemmas.List.Sums.{take_while-cons}
-use Rattle.fz_num.specs.declared.dec.Dec.{Dec}
-use Rattle.fz_num.specs.declared.dec.DecFault.{DecFault}
-use Rattle.fz_num.specs.Decimals.{decimal}
-use Rattle.fcl_syntax.specs.Grammar.{block_text}
-use Rattle.fcl_syntax.specs.Annotations.{Sym, tokens_of}
+use Rattle.fz_num.specs.{declared.dec.Dec.Dec, declared.dec.DecFault.DecFault, Decimals.decimal}
+use Rattle.fcl_syntax.specs.{Grammar.block_text, Annotations.Sym, Annotations.tokens_of, Meanings.meanings}
 use Rattle.fcl_syntax.specs.Tokens.{is_blank, is_name_byte, is_name_start, meaning_in, starts_name}
 use Rattle.fcl_syntax.specs.Lexing.{Lexed, colon_piece, comment_end, comment_piece, decimal_piece, has_fraction}
-use Rattle.fcl_syntax.specs.Lexing.{in_front, lexed, delimiter_piece, next_piece, number_len, number_piece, open_piece}
-use Rattle.fcl_syntax.specs.Lexing.{piece_of, point_piece, run, slash_piece, token_of, word_token}
-use Rattle.fcl_syntax.specs.Meanings.{meanings}
-use Rattle.fcl_syntax.proofs.CutTexts.{tokens_are_cut}
+use Rattle.fcl_syntax.specs.Lexing.{in_front, lexed, delimiter_piece, next_piece, number_len, number_piece}
+use Rattle.fcl_syntax.specs.Lexing.{open_piece, piece_of, point_piece, run, slash_piece, token_of, word_token}
 use Rattle.fcl_syntax.specs.Offsets.{AscendWithin, offset_of, offsets, OffsetsAscend}
 use Rattle.fcl_syntax.specs.declared.lexer.Piece.{Piece}
+use Rattle.fcl_syntax.proofs.CutTexts.{tokens_are_cut}
 use Rattle.fcl_syntax.specs.declared.lexer.Piece.TheVariants as piece
 use Rattle.fcl_syntax.specs.declared.token.Meaning.{Meaning}
 use Rattle.fcl_syntax.specs.declared.token.Meaning.TheVariants as meaning

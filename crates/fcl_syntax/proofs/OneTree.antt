@@ -9,29 +9,23 @@ use Rattle.fcl_syntax.specs.declared.tree.Degree.{Degree}
 use Rattle.fcl_syntax.specs.declared.tree.Degree.TheVariants as degree
 use Rattle.fcl_syntax.specs.declared.tree.FallbackValue.{FallbackValue}
 use Rattle.fcl_syntax.specs.declared.tree.FallbackValue.TheVariants as fallback
-use Rattle.fcl_syntax.specs.declared.tree.FunctionBlock.{FunctionBlock}
-use Rattle.fcl_syntax.specs.declared.tree.FuzzyLine.{FuzzyLine}
+use Rattle.fcl_syntax.specs.declared.{tree.FunctionBlock.FunctionBlock, tree.FuzzyLine.FuzzyLine}
 use Rattle.fcl_syntax.specs.declared.tree.FuzzyLine.TheVariants as fuzzy
-use Rattle.fcl_syntax.specs.declared.tree.Number.{Number}
-use Rattle.fcl_syntax.specs.declared.tree.Part.{Part}
+use Rattle.fcl_syntax.specs.declared.{tree.Number.Number, tree.Part.Part}
 use Rattle.fcl_syntax.specs.declared.tree.Part.TheVariants as part
 use Rattle.fcl_syntax.specs.declared.tree.RuleLine.{RuleLine}
 use Rattle.fcl_syntax.specs.declared.tree.RuleLine.TheVariants as line
 use Rattle.fcl_syntax.specs.declared.tree.SignedNumber.{SignedNumber}
 use Rattle.fcl_syntax.specs.declared.tree.SignedNumber.TheVariants as signed
-use Rattle.fcl_syntax.specs.declared.tree.Setting.{Setting}
-use Rattle.fcl_syntax.specs.declared.tree.UnitNumber.{UnitNumber}
-use Rattle.fcl_syntax.specs.declared.tree.Weight.{Weight}
-use Rattle.fcl_syntax.specs.declared.tree.ZeroNumber.{ZeroNumber}
-use Rattle.fcl_syntax.specs.Grammar.{TSigned, plus, minus, bare, TSignedNumber}
-use Rattle.fcl_syntax.specs.Grammar.{TUnit, TZero, TPoint, TTerm, TRange, TFuzzify, TSetting}
-use Rattle.fcl_syntax.specs.Grammar.{TDefuzzyLine, TDefuzzify, TWeight, TRuleLine}
-use Rattle.fcl_syntax.specs.Grammar.{TBlock, option_classes, var_classes}
-use Rattle.fcl_syntax.specs.TokenClasses.{Among}
+use Rattle.fcl_syntax.specs.{declared.tree.Setting.Setting, declared.tree.UnitNumber.UnitNumber}
+use Rattle.fcl_syntax.specs.{declared.tree.Weight.Weight, declared.tree.ZeroNumber.ZeroNumber, TokenClasses.Among}
+use Rattle.fcl_syntax.specs.Grammar.{TSigned, plus, minus, bare, TSignedNumber, TUnit, TZero, TPoint, TTerm, TRange}
+use Rattle.fcl_syntax.specs.Grammar.{TFuzzify, TSetting, TDefuzzyLine, TDefuzzify, TWeight, TRuleLine, TBlock}
+use Rattle.fcl_syntax.specs.Grammar.{option_classes, var_classes}
 use Rattle.fcl_syntax.specs.View.{view_declaration, view_variables, view_section, view_signed_number, view_coordinate}
 use Rattle.fcl_syntax.specs.View.{view_degree, view_point, view_term, view_range, view_fuzzy_line, view_fuzzify}
-use Rattle.fcl_syntax.specs.View.{view_singleton, view_value, view_defuzzy_line, view_defuzzify, view_part, view_weight}
-use Rattle.fcl_syntax.specs.View.{view_rule, view_act_word, view_rule_line, view_rulebase, view}
+use Rattle.fcl_syntax.specs.View.{view_singleton, view_value, view_defuzzy_line, view_defuzzify, view_part}
+use Rattle.fcl_syntax.specs.View.{view_weight, view_rule, view_act_word, view_rule_line, view_rulebase, view}
 
 -- what undoes a view
 record IsUndone {A T : Type 0} (view : A → T) : Type 0 where

@@ -2,18 +2,15 @@
 use Rattle.std.proofs.Common.{◌≡◌, ℕ, ◌+◌, Bool, true, false, cond, eqb, List, [], ◌∷◌, ◌++◌, length, Option, Some}
 use Rattle.std.proofs.Common.{None, Result, Ok, Err, refl, sym, ap, subst, ◌∙◌, append_assoc, arith, inl, inr}
 use Rattle.std.proofs.lemmas.List.{append-nil, length-append}
-use Rattle.fcl_syntax.specs.declared.fault.Fault.{Fault}
-use Rattle.fcl_syntax.specs.declared.fault.Kind.{Kind}
-use Rattle.fcl_syntax.specs.declared.token.Token.{Token}
-use Rattle.fcl_syntax.specs.TokenClasses.{class_of, mem}
+use Rattle.fcl_syntax.specs.declared.{fault.Fault.Fault, fault.Kind.Kind, token.Token.Token}
+use Rattle.fcl_syntax.specs.{TokenClasses.class_of, TokenClasses.mem, First.SameHead}
 use Rattle.fcl_syntax.specs.Annotations.{Sym, tokens_of, IsClean}
-use Rattle.fcl_syntax.specs.First.{SameHead}
 use Rattle.fcl_syntax.specs.Readers.{◌>>=◌, fault_at, starts}
 use Rattle.fcl_syntax.proofs.Form.{disjoint, Stops, Starts, first_annotation, or_else, answer, Stands, Fails, Form}
-use Rattle.fcl_syntax.proofs.AnnotatedTexts.{bind_ok, bind_err, ok_is, tokens_of-append, length-tokens, IsClean-append}
-use Rattle.fcl_syntax.proofs.AnnotatedTexts.{first_annotation-append, first_annotation-clean, starts-stops, Stops-same}
-use Rattle.fcl_syntax.proofs.Seq.{Shows-in, Viable-in}
-use Rattle.fcl_syntax.proofs.Small.{starts-not, starts-same, widen}
+use Rattle.fcl_syntax.proofs.AnnotatedTexts.{bind_ok, bind_err, ok_is, tokens_of-append, length-tokens}
+use Rattle.fcl_syntax.proofs.AnnotatedTexts.{IsClean-append, first_annotation-append, first_annotation-clean}
+use Rattle.fcl_syntax.proofs.AnnotatedTexts.{starts-stops, Stops-same}
+use Rattle.fcl_syntax.proofs.{Seq.Shows-in, Seq.Viable-in, Small.starts-not, Small.starts-same, Small.widen}
 use Rattle.fcl_syntax.proofs.Loop.{texts, rep, Settled, all_settled, Ran, FailsIn, rep_runs, rep_again, rep_local}
 use Rattle.fcl_syntax.proofs.Loop.{rep_fails, stops_before, starts-Starts}
 

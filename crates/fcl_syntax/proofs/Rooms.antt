@@ -1,11 +1,8 @@
 -- A condition's part, by what comes next.
 use Rattle.std.proofs.Common.{◌≡◌, ◌≢◌, ℕ, zero, suc, ◌-◌, true, false, List, length, Ok, Err, refl, arith}
-use Rattle.fcl_syntax.specs.declared.fault.Kind.TheVariants.{Deep}
-use Rattle.fcl_syntax.specs.declared.fault.ParseError.{ParseError}
+use Rattle.fcl_syntax.specs.declared.{fault.Kind.TheVariants.Deep, fault.ParseError.ParseError}
 use Rattle.fcl_syntax.specs.declared.fault.ParseError.TheVariants as errors
-use Rattle.fcl_syntax.specs.declared.token.Keyword.{Keyword}
-use Rattle.fcl_syntax.specs.declared.token.Token.{Token}
-use Rattle.fcl_syntax.specs.TokenClasses.{opener_classes}
+use Rattle.fcl_syntax.specs.{declared.token.Keyword.Keyword, declared.token.Token.Token, TokenClasses.opener_classes}
 use Rattle.fcl_syntax.specs.Readers.{FailsAs, Read, starts, fault_at}
 use Rattle.fcl_syntax.specs.Reading.{behind_key_in, key_at, not_at, opened_in, operand_at}
 

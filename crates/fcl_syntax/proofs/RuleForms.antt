@@ -5,13 +5,9 @@ use Rattle.fcl_syntax.specs.declared.token.Keyword.TheVariants as key
 use Rattle.fcl_syntax.specs.declared.token.Token.{Token}
 use Rattle.fcl_syntax.specs.declared.token.Token.TheVariants as tok
 use Rattle.fcl_syntax.specs.declared.token.Word.TheVariants as word
-use Rattle.fcl_syntax.specs.declared.tree.Conclusion.{Conclusion}
-use Rattle.fcl_syntax.specs.declared.tree.Label.{Label}
-use Rattle.fcl_syntax.specs.declared.tree.Name.{Name}
+use Rattle.fcl_syntax.specs.declared.{tree.Conclusion.Conclusion, tree.Label.Label, tree.Name.Name}
 use Rattle.fcl_syntax.specs.TokenClasses.{Among, name_classes, comma_classes, keyword_class}
-use Rattle.fcl_syntax.specs.Annotations.{Sym, plain}
-use Rattle.fcl_syntax.specs.Readers.{loop}
-use Rattle.fcl_syntax.proofs.Form.{disjoint, Form}
+use Rattle.fcl_syntax.specs.{Annotations.Sym, Annotations.plain, Readers.loop}
 use Rattle.fcl_syntax.specs.Grammar.{each, key_text, name_text, conclusion_text, conclusions_text, TSignedNumber}
 use Rattle.fcl_syntax.specs.Grammar.{TWeight, weight_text, TOr, TRule, rule_text, option_classes, TRuleItem}
 use Rattle.fcl_syntax.specs.Grammar.{rule_item_text, and_classes, or_classes, TAct, act_text, TRuleLine, TRulebase}
@@ -21,18 +17,14 @@ use Rattle.fcl_syntax.specs.Reading.{expect_at, key_at, name_at, label_at, concl
 use Rattle.fcl_syntax.specs.Reading.{conclusions_at, weight_value_at, with_at, weight_at, or_in, not_at, rule_at}
 use Rattle.fcl_syntax.specs.Reading.{rule_item_at, rules_at, act_word_at, act_at, rule_line_at, rule_lines_at}
 use Rattle.fcl_syntax.specs.Reading.{rulebase_at, end_at, sections_at, parts_at, block_at}
+use Rattle.fcl_syntax.proofs.Form.{disjoint, Form}
 use Rattle.fcl_syntax.proofs.Chains.{bind_assoc, bind_cond, second, chain2, chain3, chain4, chain5, chain6, chain8}
 use Rattle.fcl_syntax.proofs.SingleTokens as single
-use Rattle.fcl_syntax.proofs.ConditionForms.{part, or_form}
-use Rattle.fcl_syntax.proofs.Dead.{via}
+use Rattle.fcl_syntax.proofs.{ConditionForms.part, ConditionForms.or_form, Dead.via, Loop.texts, Repeat.then_rep}
 use Rattle.fcl_syntax.proofs.Forms.{bare_form, key_form, word_form, name_form, signed_number_form, section_form}
 use Rattle.fcl_syntax.proofs.Forms.{behind_texts, each_texts}
-use Rattle.fcl_syntax.proofs.Loop.{texts}
 use Rattle.fcl_syntax.proofs.Named.{named, either, refuse, many_then}
-use Rattle.fcl_syntax.proofs.Repeat.{then_rep}
-use Rattle.fcl_syntax.proofs.Seq.{seq}
-use Rattle.fcl_syntax.proofs.Small.{one}
-use Rattle.fcl_syntax.proofs.TermForms.{setting_form, accu_form, part_form}
+use Rattle.fcl_syntax.proofs.{Seq.seq, Small.one, TermForms.setting_form, TermForms.accu_form, TermForms.part_form}
 
 pub label_is : (ts : List Token) → label_at ts ≡ (one single.label_single).read ts
 unfolding label_at

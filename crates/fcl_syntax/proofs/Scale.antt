@@ -7,24 +7,20 @@ use Rattle.std.specs.Prelude.{if◌then◌else◌, nat_lt, not, ◌==◌}
 use Rattle.std.specs.Char.{is_ascii_digit}
 use Rattle.std.proofs.lemmas.List.Elements.{All-nil, All-cons, All-same}
 use Rattle.fz_num.specs.Decimals.{decimal, magnitude, signed, is_negative, without_sign, is_numeral, has_four_places}
-use Rattle.fz_num.specs.declared.dec.Dec.{Dec}
-use Rattle.fz_num.specs.declared.dec.DecFault.{DecFault}
+use Rattle.fz_num.specs.declared.{dec.Dec.Dec, dec.DecFault.DecFault}
 use Rattle.fz_num.specs.declared.dec.DecFault.TheVariants.{Shape, Places, Large}
-use Rattle.fcl_syntax.specs.Grammar.{block_text}
-use Rattle.fcl_syntax.specs.Annotations.{tokens_of}
+use Rattle.fcl_syntax.specs.{Grammar.block_text, Annotations.tokens_of, declared.lexer.Piece.Piece}
 use Rattle.fcl_syntax.specs.Tokens.{amount_of, starts_name, meaning_in, is_blank, is_name_start, is_name_byte}
 use Rattle.fcl_syntax.specs.Lexing.{piece_of, next_piece, lexed, Lexed, decimal_piece, number_piece, number_len}
 use Rattle.fcl_syntax.specs.Lexing.{open_piece, comment_piece, comment_end, slash_piece, point_piece, colon_piece}
 use Rattle.fcl_syntax.specs.Lexing.{delimiter_piece, token_of, word_token, run, in_front}
-use Rattle.fcl_syntax.specs.declared.lexer.Piece.{Piece}
 use Rattle.fcl_syntax.specs.declared.lexer.Piece.TheVariants as piece
 use Rattle.fcl_syntax.specs.declared.token.Amount.TheVariants as amount
 use Rattle.fcl_syntax.specs.declared.token.Meaning.{Meaning}
 use Rattle.fcl_syntax.specs.declared.token.Meaning.TheVariants as meaning
 use Rattle.fcl_syntax.specs.declared.token.Token.{Token}
-use Rattle.fcl_syntax.specs.Meanings.{meanings}
+use Rattle.fcl_syntax.specs.{Meanings.meanings, Scale.IsAmountInScale, Scale.IsTokenInScale, Scale.NumbersInScale}
 use Rattle.fcl_syntax.proofs.CutTexts.{tokens_are_cut}
-use Rattle.fcl_syntax.specs.Scale.{IsAmountInScale, IsTokenInScale, NumbersInScale}
 
 abbrev PieceInScale : Piece → Type 0
 PieceInScale (piece.Skip n) = Unit {0}

@@ -2,18 +2,15 @@
 use Rattle.std.proofs.Common.{◌≡◌, ℕ, ◌+◌, true, List, [], ◌∷◌, ◌++◌, length, Option, Some, None, Result, Ok, Err, refl}
 use Rattle.std.proofs.Common.{sym, ap, subst, ◌∙◌, append_assoc, arith, inl, inr}
 use Rattle.std.proofs.lemmas.List.{append-nil, length-append}
-use Rattle.fcl_syntax.specs.declared.fault.Fault.{Fault}
-use Rattle.fcl_syntax.specs.declared.fault.Kind.{Kind}
+use Rattle.fcl_syntax.specs.declared.{fault.Fault.Fault, fault.Kind.Kind, token.Token.Token}
 use Rattle.fcl_syntax.specs.declared.fault.Kind.TheVariants.{Expected, Deep, Unsupported}
-use Rattle.fcl_syntax.specs.declared.token.Token.{Token}
 use Rattle.fcl_syntax.specs.Annotations.{Sym, tokens_of, IsClean, annotated}
-use Rattle.fcl_syntax.specs.First.{SameHead, Shown}
-use Rattle.fcl_syntax.specs.Readers.{◌>>=◌}
+use Rattle.fcl_syntax.specs.{First.SameHead, First.Shown, Readers.◌>>=◌}
 use Rattle.fcl_syntax.proofs.Form.{disjoint, Stops, Starts, first_annotation, or_else, answer, Stands, Viable, Shows}
 use Rattle.fcl_syntax.proofs.Form.{Fails, Form}
-use Rattle.fcl_syntax.proofs.AnnotatedTexts.{bind_ok, bind_err, ok_is, tokens_of-append, length-tokens, IsClean-append}
-use Rattle.fcl_syntax.proofs.AnnotatedTexts.{first_annotation-append, first_annotation-clean, starts-stops, Stops-same}
-use Rattle.fcl_syntax.proofs.AnnotatedTexts.{SameHead-append}
+use Rattle.fcl_syntax.proofs.AnnotatedTexts.{bind_ok, bind_err, ok_is, tokens_of-append, length-tokens}
+use Rattle.fcl_syntax.proofs.AnnotatedTexts.{IsClean-append, first_annotation-append, first_annotation-clean}
+use Rattle.fcl_syntax.proofs.AnnotatedTexts.{starts-stops, Stops-same, SameHead-append}
 
 -- what is shown of a part is shown of a whole whose text begins and goes on with others
 pub Shown-in : {A B : Type 0} (ta : A → List Sym) (tb : B → List Sym) (k : Kind) (front bad : List Token)

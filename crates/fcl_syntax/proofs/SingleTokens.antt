@@ -9,21 +9,16 @@ use Rattle.fcl_syntax.specs.declared.token.Token.{Token}
 use Rattle.fcl_syntax.specs.declared.token.Token.TheVariants as tok
 use Rattle.fcl_syntax.specs.declared.token.Word.{Word}
 use Rattle.fcl_syntax.specs.declared.token.Word.TheVariants as word
-use Rattle.fcl_syntax.specs.declared.tree.Direction.{Direction}
+use Rattle.fcl_syntax.specs.declared.{tree.Direction.Direction, tree.Label.Label, tree.Name.Name, tree.Number.Number}
 use Rattle.fcl_syntax.specs.declared.tree.Direction.TheVariants.{Input, Output}
-use Rattle.fcl_syntax.specs.declared.tree.Label.{Label}
-use Rattle.fcl_syntax.specs.declared.tree.Name.{Name}
-use Rattle.fcl_syntax.specs.declared.tree.Number.{Number}
-use Rattle.fcl_syntax.specs.declared.tree.UnitNumber.{UnitNumber}
-use Rattle.fcl_syntax.specs.declared.tree.ZeroNumber.{ZeroNumber}
+use Rattle.fcl_syntax.specs.declared.{tree.UnitNumber.UnitNumber, tree.ZeroNumber.ZeroNumber}
 use Rattle.fcl_syntax.specs.TokenClasses.{class_of, mem, keyword_class, word_class, name_classes, number_classes}
 use Rattle.fcl_syntax.specs.TokenClasses.{unit_classes, zero_classes, whole_classes, direction_classes, open_classes}
 use Rattle.fcl_syntax.specs.Grammar.{name_token, number_token, unit_amount, unit_token, zero_token, label_token}
 use Rattle.fcl_syntax.specs.Grammar.{direction_key}
 use Rattle.fcl_syntax.specs.Reading.{IsBare, bare_of, bare_want, some_unit, at_if, key_want, word_want, open_want}
 use Rattle.fcl_syntax.specs.Reading.{name_want, number_want, unit_want, zero_want, label_want, direction_want}
-use Rattle.fcl_syntax.proofs.Small.{Single}
-use Rattle.fcl_syntax.proofs.Tags.{key_one, word_one}
+use Rattle.fcl_syntax.proofs.{Small.Single, Tags.key_one, Tags.word_one}
 
 none_some : {A : Type 0} (x : A) → None ≡ Some x → ⊥
 none_some x e = cc

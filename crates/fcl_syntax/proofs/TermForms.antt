@@ -1,34 +1,26 @@
 -- The forms of FUZZIFY and DEFUZZIFY.
 use Rattle.std.proofs.Common.{◌≡◌, ℕ, Bool, true, false, List, [], ◌∷◌, ◌++◌, length, refl, ap, inl, inr, ◌⊎◌}
-use Rattle.fcl_syntax.specs.declared.fault.Kind.TheVariants.{Unsupported}
-use Rattle.fcl_syntax.specs.declared.token.Keyword.{Keyword}
+use Rattle.fcl_syntax.specs.declared.{fault.Kind.TheVariants.Unsupported, token.Keyword.Keyword}
 use Rattle.fcl_syntax.specs.declared.token.Keyword.TheVariants as key
 use Rattle.fcl_syntax.specs.declared.token.Token.{Token}
 use Rattle.fcl_syntax.specs.declared.token.Token.TheVariants as tok
 use Rattle.fcl_syntax.specs.declared.token.Word.{Word}
 use Rattle.fcl_syntax.specs.declared.token.Word.TheVariants as word
-use Rattle.fcl_syntax.specs.declared.tree.Name.{Name}
+use Rattle.fcl_syntax.specs.{declared.tree.Name.Name, Annotations.Sym, First.looks_on, Readers.loop}
 use Rattle.fcl_syntax.specs.TokenClasses.{Among, word_class, signed_classes, open_classes}
-use Rattle.fcl_syntax.specs.Annotations.{Sym}
-use Rattle.fcl_syntax.specs.First.{looks_on}
-use Rattle.fcl_syntax.specs.Readers.{loop}
-use Rattle.fcl_syntax.proofs.Form.{disjoint, Form}
 use Rattle.fcl_syntax.specs.Grammar.{each, key_text, name_text, TSigned, TSignedNumber, TCoordinate, TUnit, TZero}
 use Rattle.fcl_syntax.specs.Grammar.{TPoint, point_text, TPoints, TTerm, term_text, TRange, range_text, opening_text}
 use Rattle.fcl_syntax.specs.Grammar.{TFuzzify, fuzzify_text, TSetting, setting_text, accu_classes, TAccu}
 use Rattle.fcl_syntax.specs.Grammar.{method_classes, TMethod, TSingleton, singleton_text, TFallback, fallback_text}
 use Rattle.fcl_syntax.specs.Grammar.{TDefuzzyLine, TDefuzzify, defuzzify_text, option_classes, TPart}
 use Rattle.fcl_syntax.specs.Reading.{expect_at, key_at, open_at, name_at, signed_number_at, coordinate_at, degree_at}
-use Rattle.fcl_syntax.specs.Reading.{point_at, some_points_at, points_at, term_at, opening_at, range_at, fuzzy_line_at}
-use Rattle.fcl_syntax.specs.Reading.{fuzzy_lines_at, fuzzify_at, choice_at, setting_at, singleton_value_at}
-use Rattle.fcl_syntax.specs.Reading.{singleton_at, fallback_value_at, fallback_at, defuzzy_line_at, defuzzy_lines_at}
-use Rattle.fcl_syntax.specs.Reading.{defuzzify_at, part_at}
+use Rattle.fcl_syntax.specs.Reading.{point_at, some_points_at, points_at, term_at, opening_at, range_at}
+use Rattle.fcl_syntax.specs.Reading.{fuzzy_line_at, fuzzy_lines_at, fuzzify_at, choice_at, setting_at}
+use Rattle.fcl_syntax.specs.Reading.{singleton_value_at, singleton_at, fallback_value_at, fallback_at}
+use Rattle.fcl_syntax.specs.Reading.{defuzzy_line_at, defuzzy_lines_at, defuzzify_at, part_at}
+use Rattle.fcl_syntax.proofs.{Form.disjoint, Form.Form, Dead.via, Loop.texts, Repeat.then_rep, Seq.seq}
 use Rattle.fcl_syntax.proofs.Chains.{bind_assoc, bind_cond, chain2, chain4, chain5, chain7}
-use Rattle.fcl_syntax.proofs.Dead.{via}
-use Rattle.fcl_syntax.proofs.Loop.{texts}
 use Rattle.fcl_syntax.proofs.Named.{named, either, refuse, many_then}
-use Rattle.fcl_syntax.proofs.Repeat.{then_rep}
-use Rattle.fcl_syntax.proofs.Seq.{seq}
 use Rattle.fcl_syntax.proofs.Forms.{bare_form, key_form, word_form, open_form, name_form, signed_number_form}
 use Rattle.fcl_syntax.proofs.Forms.{coordinate_form, degree_form, each_texts}
 

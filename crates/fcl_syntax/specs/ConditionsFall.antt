@@ -5,10 +5,9 @@ use Rattle.std.proofs.Common.{arith, Vec, Global}
 use denote.Param.Weighed.{most}
 use Rattle.fcl_syntax.specs.declared.tree.Node.{Node}
 use Rattle.fcl_syntax.specs.declared.tree.Node.TheVariants as node
-use Rattle.fcl_syntax.specs.declared.tree.And.TheShapes.{weighed-And-more, weighed-And-more-at-2}
-use Rattle.fcl_syntax.specs.declared.tree.And.TheShapes.{weighed-Or-more, weighed-Or-more-at-2}
-use Rattle.fcl_syntax.specs.declared.tree.And.TheDeep.{deep-Node}
-use Rattle.fcl_syntax.specs.Grammar.{TNot, TAnd}
+use Rattle.fcl_syntax.specs.declared.tree.And.TheShapes.{weighed-And-more, weighed-And-more-at-2, weighed-Or-more}
+use Rattle.fcl_syntax.specs.declared.tree.And.TheShapes.{weighed-Or-more-at-2}
+use Rattle.fcl_syntax.specs.{declared.tree.And.TheDeep.deep-Node, Grammar.TNot, Grammar.TAnd}
 use Rattle.fcl_syntax.specs.Conditions.{not_of, nots_of, ands_of, not_size, nots_size, and_size, ands_size}
 
 -- the parts behind the first, one by one and as the vector that holds them

@@ -11,16 +11,13 @@ use Rattle.fcl_syntax.specs.declared.token.Token.{Token}
 use Rattle.fcl_syntax.specs.declared.token.Token.TheVariants as tok
 use Rattle.fcl_syntax.specs.declared.token.Word.{Word}
 use Rattle.fcl_syntax.specs.declared.token.Word.TheVariants as word
-use Rattle.fcl_syntax.specs.declared.tree.Conclusion.{Conclusion}
-use Rattle.fcl_syntax.specs.declared.tree.Direction.{Direction}
+use Rattle.fcl_syntax.specs.declared.{tree.Conclusion.Conclusion, tree.Direction.Direction, tree.Label.Label}
 use Rattle.fcl_syntax.specs.declared.tree.Direction.TheVariants.{Input, Output}
-use Rattle.fcl_syntax.specs.declared.tree.Label.{Label}
-use Rattle.fcl_syntax.specs.declared.tree.Name.{Name}
-use Rattle.fcl_syntax.specs.declared.tree.Number.{Number}
-use Rattle.fcl_syntax.specs.declared.tree.UnitNumber.{UnitNumber}
+use Rattle.fcl_syntax.specs.declared.{tree.Name.Name, tree.Number.Number, tree.UnitNumber.UnitNumber}
 use Rattle.fcl_syntax.specs.declared.tree.ZeroNumber.{ZeroNumber}
 use Rattle.fcl_syntax.specs.TokenClasses.{keyword_class, word_class, name_classes, other_type_classes, signed_classes}
-use Rattle.fcl_syntax.specs.TokenClasses.{beyond_unit_classes, beyond_zero_classes, follow_classes, Among, open_classes}
+use Rattle.fcl_syntax.specs.TokenClasses.{beyond_unit_classes, beyond_zero_classes, follow_classes, Among}
+use Rattle.fcl_syntax.specs.TokenClasses.{open_classes}
 use Rattle.fcl_syntax.specs.Annotations.{Sym, plain, annotated, either_text, or_refused}
 
 -- x y z .. as sep x, sep y, sep z ..

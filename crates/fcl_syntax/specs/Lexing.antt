@@ -5,9 +5,7 @@ use Rattle.std.specs.Prelude.{Some, None, Result, Ok, Err, ◌==◌, if◌then�
 use Rattle.std.specs.List.{take_while}
 use Rattle.std.specs.Char.{is_ascii_digit}
 use Rattle.fz_num.specs.Decimals.{decimal}
-use Rattle.fz_num.specs.declared.dec.Dec.{Dec}
-use Rattle.fz_num.specs.declared.dec.DecFault.{DecFault}
-use Rattle.fz_num.specs.declared.dec.DecFault.TheVariants.{Shape}
+use Rattle.fz_num.specs.declared.{dec.Dec.Dec, dec.DecFault.DecFault, dec.DecFault.TheVariants.Shape}
 use Rattle.fcl_syntax.specs.declared.lexer.LexError.{LexError}
 use Rattle.fcl_syntax.specs.declared.lexer.LexError.TheVariants as errors
 use Rattle.fcl_syntax.specs.declared.lexer.LexFault.{LexFault}

@@ -2,9 +2,7 @@
 -- Beside the promise.
 use Rattle.std.specs.Prelude.{ℕ, suc, ◌<◌, ◌≤◌, List, [], ◌∷◌, length, Option, Some, None}
 use Rattle.std.specs.List.{filter_map}
-use Rattle.fcl_syntax.specs.Grammar.{TBlock, block_text}
-use Rattle.fcl_syntax.specs.Annotations.{Sym}
-use Rattle.fcl_syntax.specs.Text.{SpellsTree}
+use Rattle.fcl_syntax.specs.{Grammar.TBlock, Grammar.block_text, Annotations.Sym, Text.SpellsTree}
 use Rattle.fcl_syntax.specs.declared.token.Token.{Token}
 use Rattle.fcl_syntax.specs.declared.token.Token.TheVariants as tok
 

@@ -1,11 +1,8 @@
 -- What `parse` answers: the tree, or the fault.
 -- Beside the promise.
 use Rattle.std.specs.Prelude.{◌≡◌, Result, Ok, Err}
-use Rattle.fcl_syntax.specs.declared.text.SyntaxFault.{SyntaxFault}
-use Rattle.fcl_syntax.specs.declared.tree.Tree.{Tree}
-use Rattle.fcl_syntax.specs.Grammar.{TBlock}
-use Rattle.fcl_syntax.specs.Text.{OrMemory}
-use Rattle.fcl_syntax.specs.View.{view}
+use Rattle.fcl_syntax.specs.declared.{text.SyntaxFault.SyntaxFault, tree.Tree.Tree}
+use Rattle.fcl_syntax.specs.{Grammar.TBlock, Text.OrMemory, View.view}
 
 -- what is answered is this tree, where memory was found
 abbrev pub GivesTree : Result Tree SyntaxFault → TBlock → Type 0

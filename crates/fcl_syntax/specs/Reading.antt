@@ -4,9 +4,8 @@
 use Rattle.std.specs.Prelude.{◌≡◌, ℕ, zero, suc, Bool, true, false, List, [], ◌∷◌, length, Option, Some, None, Result}
 use Rattle.std.specs.Prelude.{Ok, Err, ◌==◌, if◌then◌else◌, ◌⊎◌}
 use Rattle.std.proofs.Common.{inl, inr}
-use Rattle.fcl_syntax.specs.declared.fault.Fault.{Fault}
+use Rattle.fcl_syntax.specs.declared.{fault.Fault.Fault, terms.Sign.Sign}
 use Rattle.fcl_syntax.specs.declared.fault.Kind.TheVariants.{Deep, Unsupported}
-use Rattle.fcl_syntax.specs.declared.terms.Sign.{Sign}
 use Rattle.fcl_syntax.specs.declared.terms.Sign.TheVariants as sign
 use Rattle.fcl_syntax.specs.declared.token.Amount.TheVariants as amount
 use Rattle.fcl_syntax.specs.declared.token.Keyword.{Keyword}
@@ -15,26 +14,22 @@ use Rattle.fcl_syntax.specs.declared.token.Token.{Token}
 use Rattle.fcl_syntax.specs.declared.token.Token.TheVariants as tok
 use Rattle.fcl_syntax.specs.declared.token.Word.{Word}
 use Rattle.fcl_syntax.specs.declared.token.Word.TheVariants as word
-use Rattle.fcl_syntax.specs.declared.tree.Conclusion.{Conclusion}
-use Rattle.fcl_syntax.specs.declared.tree.Direction.{Direction}
+use Rattle.fcl_syntax.specs.declared.{tree.Conclusion.Conclusion, tree.Direction.Direction, tree.Label.Label}
 use Rattle.fcl_syntax.specs.declared.tree.Direction.TheVariants.{Input, Output}
-use Rattle.fcl_syntax.specs.declared.tree.Label.{Label}
-use Rattle.fcl_syntax.specs.declared.tree.Name.{Name}
-use Rattle.fcl_syntax.specs.declared.tree.Number.{Number}
-use Rattle.fcl_syntax.specs.declared.tree.UnitNumber.{UnitNumber}
+use Rattle.fcl_syntax.specs.declared.{tree.Name.Name, tree.Number.Number, tree.UnitNumber.UnitNumber}
 use Rattle.fcl_syntax.specs.declared.tree.ZeroNumber.{ZeroNumber}
 use Rattle.fcl_syntax.specs.TokenClasses.{class_of, keyword_class, word_class, name_classes, other_type_classes}
 use Rattle.fcl_syntax.specs.TokenClasses.{signed_classes, beyond_unit_classes, beyond_zero_classes, follow_classes}
-use Rattle.fcl_syntax.specs.TokenClasses.{Among, comma_classes, defuzzy_line_classes, fuzzy_line_classes, open_classes}
-use Rattle.fcl_syntax.specs.TokenClasses.{opener_classes, part_classes, rule_item_classes, rule_line_classes}
-use Rattle.fcl_syntax.specs.TokenClasses.{section_classes}
+use Rattle.fcl_syntax.specs.TokenClasses.{Among, comma_classes, defuzzy_line_classes, fuzzy_line_classes}
+use Rattle.fcl_syntax.specs.TokenClasses.{open_classes, opener_classes, part_classes, rule_item_classes}
+use Rattle.fcl_syntax.specs.TokenClasses.{rule_line_classes, section_classes}
 use Rattle.fcl_syntax.specs.Readers.{◌>>=◌, Read, cond_read, fault_at, starts, one_at, loop, ended}
 use Rattle.fcl_syntax.specs.Grammar.{TSigned, plus, minus, bare, TSignedNumber, TType, TDeclaration, TVariables}
 use Rattle.fcl_syntax.specs.Grammar.{var_classes, TSection, TCoordinate, TUnit, TZero, TPoint, TPoints, TTerm, TRange}
 use Rattle.fcl_syntax.specs.Grammar.{TFuzzify, TSetting, accu_classes, TAccu, method_classes, TMethod, TSingleton}
 use Rattle.fcl_syntax.specs.Grammar.{TFallback, TDefuzzyLine, TDefuzzify, option_classes, TPart, TNot, neg, group, is}
-use Rattle.fcl_syntax.specs.Grammar.{TAnd, and_of, TOr, or_of, TWeight, TRule, TRuleItem, and_classes, or_classes, TAct}
-use Rattle.fcl_syntax.specs.Grammar.{TRuleLine, TRulebase, ruleblock_classes, TEnd, TBlock}
+use Rattle.fcl_syntax.specs.Grammar.{TAnd, and_of, TOr, or_of, TWeight, TRule, TRuleItem, and_classes, or_classes}
+use Rattle.fcl_syntax.specs.Grammar.{TAct, TRuleLine, TRulebase, ruleblock_classes, TEnd, TBlock}
 use Rattle.fcl_syntax.specs.Conditions.{nots_of, ands_of}
 
 abbrev pub unit : Unit {0}

@@ -1,11 +1,8 @@
 -- What a text is: it spells one tree, or it has a first fault.
 -- Beside the promise.
 use Rattle.std.specs.Prelude.{◌≡◌, ℕ, ◌≤◌, ◌⊎◌, List, length}
-use Rattle.fcl_syntax.specs.Grammar.{TBlock}
-use Rattle.fcl_syntax.specs.Text.{IsFirstFault, SpellsTree}
-use Rattle.fcl_syntax.specs.View.{view}
-use Rattle.fcl_syntax.specs.declared.text.SyntaxFault.{SyntaxFault}
-use Rattle.fcl_syntax.specs.declared.tree.FunctionBlock.{FunctionBlock}
+use Rattle.fcl_syntax.specs.{Grammar.TBlock, Text.IsFirstFault, Text.SpellsTree, View.view}
+use Rattle.fcl_syntax.specs.declared.{text.SyntaxFault.SyntaxFault, tree.FunctionBlock.FunctionBlock}
 
 -- Each text of at most 1048576 bytes spells a tree of the program, or has a first fault.
 abbrev pub EachTextIsRead : Type 0

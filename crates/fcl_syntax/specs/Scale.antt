@@ -5,9 +5,7 @@ use Rattle.fcl_syntax.specs.declared.token.Amount.{Amount}
 use Rattle.fcl_syntax.specs.declared.token.Amount.TheVariants as amount
 use Rattle.fcl_syntax.specs.declared.token.Token.{Token}
 use Rattle.fcl_syntax.specs.declared.token.Token.TheVariants as tok
-use Rattle.fcl_syntax.specs.Grammar.{TBlock, block_text}
-use Rattle.fcl_syntax.specs.Annotations.{tokens_of}
-use Rattle.fcl_syntax.specs.Text.{SpellsTree}
+use Rattle.fcl_syntax.specs.{Grammar.TBlock, Grammar.block_text, Annotations.tokens_of, Text.SpellsTree}
 
 -- at most 100000, in 1/10000
 abbrev pub IsAmountInScale : Amount → Type 0

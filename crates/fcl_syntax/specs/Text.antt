@@ -7,12 +7,9 @@ use Rattle.fcl_syntax.specs.declared.fault.Kind.TheVariants.{Expected, Deep, Uns
 use Rattle.fcl_syntax.specs.declared.lexer.LexKind.TheVariants as kinds
 use Rattle.fcl_syntax.specs.declared.text.SyntaxFault.{SyntaxFault}
 use Rattle.fcl_syntax.specs.declared.text.SyntaxFault.TheVariants as faults
-use Rattle.fcl_syntax.specs.declared.token.Token.{Token}
-use Rattle.fcl_syntax.specs.declared.tree.FunctionBlock.{FunctionBlock}
-use Rattle.fcl_syntax.specs.First.{Spells, FirstFault}
-use Rattle.fcl_syntax.specs.Tokens.{HasTokens, HasTokenFault}
-use Rattle.fcl_syntax.specs.Grammar.{TBlock, block_text}
-use Rattle.fcl_syntax.specs.View.{view}
+use Rattle.fcl_syntax.specs.declared.{token.Token.Token, tree.FunctionBlock.FunctionBlock}
+use Rattle.fcl_syntax.specs.{First.Spells, First.FirstFault, Tokens.HasTokens, Tokens.HasTokenFault}
+use Rattle.fcl_syntax.specs.{Grammar.TBlock, Grammar.block_text, View.view}
 
 -- the text has no token fault, and its tokens spell the tree
 pub record SpellsTree (text : List ℕ) (t : TBlock) : Type 0 where

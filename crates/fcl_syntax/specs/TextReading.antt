@@ -1,20 +1,14 @@
 -- Reading a text: its tokens, and then all of them. No public clause cites it.
 -- Beside the promise.
 use Rattle.std.specs.Prelude.{◌≡◌, ℕ, ◌-◌, List, length, drop, Result, Ok, Err}
-use Rattle.fcl_syntax.specs.declared.fault.Fault.{Fault}
-use Rattle.fcl_syntax.specs.declared.fault.Kind.{Kind}
+use Rattle.fcl_syntax.specs.declared.{fault.Fault.Fault, fault.Kind.Kind, lexer.LexFault.LexFault}
 use Rattle.fcl_syntax.specs.declared.fault.Kind.TheVariants.{Expected, Deep, Unsupported}
-use Rattle.fcl_syntax.specs.declared.lexer.LexFault.{LexFault}
 use Rattle.fcl_syntax.specs.declared.lexer.LexKind.{LexKind}
 use Rattle.fcl_syntax.specs.declared.lexer.LexKind.TheVariants as kinds
 use Rattle.fcl_syntax.specs.declared.text.SyntaxFault.{SyntaxFault}
 use Rattle.fcl_syntax.specs.declared.text.SyntaxFault.TheVariants as faults
-use Rattle.fcl_syntax.specs.declared.tree.Tree.{Tree}
-use Rattle.fcl_syntax.specs.Lexing.{Lexed, tokenization}
-use Rattle.fcl_syntax.specs.Text.{OrMemory, head_or}
-use Rattle.fcl_syntax.specs.Grammar.{TBlock}
-use Rattle.fcl_syntax.specs.Reading.{all_of}
-use Rattle.fcl_syntax.specs.View.{view}
+use Rattle.fcl_syntax.specs.{declared.tree.Tree.Tree, Lexing.Lexed, Lexing.tokenization, Text.OrMemory, Text.head_or}
+use Rattle.fcl_syntax.specs.{Grammar.TBlock, Reading.all_of, View.view}
 
 abbrev pub of_kind : LexKind → ℕ → SyntaxFault
 of_kind kinds.BadByte at = faults.BadByte at

@@ -7,9 +7,7 @@ use Rattle.std.specs.Char.{is_ascii_digit, is_ascii_alphabetic}
 use Rattle.std.specs.Ordering.{int_eq}
 use Rattle.std.specs.Str.{str_eq_ignore_ascii_case}
 use Rattle.fz_num.specs.Decimals.{decimal}
-use Rattle.fz_num.specs.declared.dec.Dec.{Dec}
-use Rattle.fz_num.specs.declared.dec.DecFault.{DecFault}
-use Rattle.fz_num.specs.declared.dec.DecFault.TheVariants.{Shape}
+use Rattle.fz_num.specs.declared.{dec.Dec.Dec, dec.DecFault.DecFault, dec.DecFault.TheVariants.Shape}
 use Rattle.fcl_syntax.specs.declared.lexer.LexKind.{LexKind}
 use Rattle.fcl_syntax.specs.declared.lexer.LexKind.TheVariants as kinds
 use Rattle.fcl_syntax.specs.declared.token.Amount.{Amount}

@@ -4,40 +4,28 @@ use Rattle.std.specs.Prelude.{ℕ, List, map, Option, Some, None, ◌⊎◌}
 use Rattle.std.proofs.Common.{inl, inr}
 use Rattle.fcl_syntax.specs.declared.tree.ActWord.{ActWord}
 use Rattle.fcl_syntax.specs.declared.tree.ActWord.TheVariants as act
-use Rattle.fcl_syntax.specs.declared.tree.Activation.{Activation}
-use Rattle.fcl_syntax.specs.declared.tree.Declaration.{Declaration}
-use Rattle.fcl_syntax.specs.declared.tree.Defuzzify.{Defuzzify}
-use Rattle.fcl_syntax.specs.declared.tree.DefuzzyLine.{DefuzzyLine}
+use Rattle.fcl_syntax.specs.declared.{tree.Activation.Activation, tree.Declaration.Declaration}
+use Rattle.fcl_syntax.specs.declared.{tree.Defuzzify.Defuzzify, tree.DefuzzyLine.DefuzzyLine}
 use Rattle.fcl_syntax.specs.declared.tree.DefuzzyLine.TheVariants as defuzzy
 use Rattle.fcl_syntax.specs.declared.tree.Degree.{Degree}
 use Rattle.fcl_syntax.specs.declared.tree.Degree.TheVariants as degree
-use Rattle.fcl_syntax.specs.declared.tree.Fallback.{Fallback}
-use Rattle.fcl_syntax.specs.declared.tree.FallbackValue.{FallbackValue}
+use Rattle.fcl_syntax.specs.declared.{tree.Fallback.Fallback, tree.FallbackValue.FallbackValue}
 use Rattle.fcl_syntax.specs.declared.tree.FallbackValue.TheVariants as fallback
-use Rattle.fcl_syntax.specs.declared.tree.FunctionBlock.{FunctionBlock}
-use Rattle.fcl_syntax.specs.declared.tree.Fuzzify.{Fuzzify}
+use Rattle.fcl_syntax.specs.declared.{tree.FunctionBlock.FunctionBlock, tree.Fuzzify.Fuzzify}
 use Rattle.fcl_syntax.specs.declared.tree.FuzzyLine.{FuzzyLine}
 use Rattle.fcl_syntax.specs.declared.tree.FuzzyLine.TheVariants as fuzzy
 use Rattle.fcl_syntax.specs.declared.tree.SignedNumber.{SignedNumber}
 use Rattle.fcl_syntax.specs.declared.tree.SignedNumber.TheVariants as signed
 use Rattle.fcl_syntax.specs.declared.tree.Part.{Part}
 use Rattle.fcl_syntax.specs.declared.tree.Part.TheVariants as part
-use Rattle.fcl_syntax.specs.declared.tree.Point.{Point}
-use Rattle.fcl_syntax.specs.declared.tree.Range.{Range}
-use Rattle.fcl_syntax.specs.declared.tree.Rule.{Rule}
-use Rattle.fcl_syntax.specs.declared.tree.RuleLine.{RuleLine}
+use Rattle.fcl_syntax.specs.declared.{tree.Point.Point, tree.Range.Range, tree.Rule.Rule, tree.RuleLine.RuleLine}
 use Rattle.fcl_syntax.specs.declared.tree.RuleLine.TheVariants as line
-use Rattle.fcl_syntax.specs.declared.tree.Rulebase.{Rulebase}
-use Rattle.fcl_syntax.specs.declared.tree.Setting.{Setting}
-use Rattle.fcl_syntax.specs.declared.tree.Singleton.{Singleton}
-use Rattle.fcl_syntax.specs.declared.tree.Term.{Term}
-use Rattle.fcl_syntax.specs.declared.tree.Variables.{Variables}
-use Rattle.fcl_syntax.specs.declared.tree.Weight.{Weight}
+use Rattle.fcl_syntax.specs.declared.{tree.Rulebase.Rulebase, tree.Setting.Setting, tree.Singleton.Singleton}
+use Rattle.fcl_syntax.specs.declared.{tree.Term.Term, tree.Variables.Variables, tree.Weight.Weight}
 use Rattle.fcl_syntax.specs.Grammar.{TSigned, plus, minus, bare, TSignedNumber, TDeclaration, TVariables, TSection}
 use Rattle.fcl_syntax.specs.Grammar.{TCoordinate, TUnit, TZero, TPoint, TTerm, TRange, TFuzzify, TSetting, TSingleton}
-use Rattle.fcl_syntax.specs.Grammar.{TFallback, TDefuzzyLine, TDefuzzify, TPart}
-use Rattle.fcl_syntax.specs.Grammar.{TWeight, TRule}
-use Rattle.fcl_syntax.specs.Grammar.{TRuleItem, TAct, TRuleLine, TRulebase, TBlock}
+use Rattle.fcl_syntax.specs.Grammar.{TFallback, TDefuzzyLine, TDefuzzify, TPart, TWeight, TRule, TRuleItem, TAct}
+use Rattle.fcl_syntax.specs.Grammar.{TRuleLine, TRulebase, TBlock}
 
 -- ---- variables, terms and ranges
 

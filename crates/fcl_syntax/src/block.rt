@@ -1,9 +1,7 @@
 //! Tokens to the tree of a function block, or the first fault.
 
 ghost use Rattle.std.proofs.Common.{inr};
-ghost use Rattle.fcl_syntax.specs.Readers.{Gives};
-ghost use Rattle.fcl_syntax.specs.Reading.{end_at, block_at, all_of};
-ghost use Rattle.fcl_syntax.specs.View.{view};
+ghost use Rattle.fcl_syntax.specs.{Readers.Gives, Reading.end_at, Reading.block_at, Reading.all_of, View.view};
 
 use crate::fault::{Kind, ParseError};
 use crate::repeated::many;

@@ -3,8 +3,7 @@
 ghost use Rattle.std.specs.Prelude.{◌≡◌, [], ◌∷◌, length};
 ghost use Rattle.fcl_syntax.specs.TokenClasses.{follow_classes, keyword_class, opener_classes};
 ghost use Rattle.fcl_syntax.specs.Readers.{Gives, loop, starts};
-ghost use Rattle.fcl_syntax.specs.Reading.{not_word_at, operand_at, not_at, opened_in, behind_key_in, and_in};
-ghost use Rattle.fcl_syntax.specs.Reading.{or_in};
+ghost use Rattle.fcl_syntax.specs.Reading.{not_word_at, operand_at, not_at, opened_in, behind_key_in, and_in, or_in};
 
 use crate::fault::{Fault, Kind, ParseError};
 use crate::single::{

@@ -1,8 +1,6 @@
 //! Laws of the trees that texts spell, each the contract of a function that does nothing.
-ghost use Rattle.fcl_syntax.specs.Cuts.{CutsAreTokens};
-ghost use Rattle.fcl_syntax.specs.Offsets.{OffsetsAscend};
+ghost use Rattle.fcl_syntax.specs.{Cuts.CutsAreTokens, Offsets.OffsetsAscend, Scale.NumbersInScale};
 ghost use Rattle.fcl_syntax.specs.Readings.{EachTextIsRead, FirstFaultsAreOne, TreesAreOne};
-ghost use Rattle.fcl_syntax.specs.Scale.{NumbersInScale};
 
 /// No number in the tree of a text is beyond 100000, since a number token that is has a fault.
 pub fn numbers_in_scale()

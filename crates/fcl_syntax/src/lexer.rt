@@ -4,8 +4,8 @@ ghost use Rattle.std.specs.Prelude.{◌≡◌, ◌<◌, ◌≤◌, ◌+◌, leng
 ghost use Rattle.std.specs.Char.{is_ascii_digit};
 ghost use Rattle.std.specs.Str.{str_eq_ignore_ascii_case};
 ghost use Rattle.fcl_syntax.specs.declared.lexer.LexError.TheVariants.{Memory};
-ghost use Rattle.fcl_syntax.specs.Tokens.{is_blank, is_name_start, is_name_byte, is_line_byte, starts_name, meaning_in};
-ghost use Rattle.fcl_syntax.specs.Tokens.{amount_of};
+ghost use Rattle.fcl_syntax.specs.Tokens.{is_blank, is_name_start, is_name_byte, is_line_byte, starts_name};
+ghost use Rattle.fcl_syntax.specs.Tokens.{meaning_in, amount_of};
 ghost use Rattle.fcl_syntax.specs.Lexing.{run, comment_end, starts_close, has_fraction, number_len, word_token};
 ghost use Rattle.fcl_syntax.specs.Lexing.{number_piece, open_piece, slash_piece, point_piece, colon_piece};
 ghost use Rattle.fcl_syntax.specs.Lexing.{delimiter_piece, piece_of, tokenization, LexFails, PieceFits};

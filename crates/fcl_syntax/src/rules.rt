@@ -2,13 +2,12 @@
 
 ghost use Rattle.std.specs.Prelude.{◌≡◌};
 ghost use Rattle.std.proofs.Common.{inl, inr};
-ghost use Rattle.fcl_syntax.specs.declared.tree.Conclusion.{Conclusion};
+ghost use Rattle.fcl_syntax.specs.{declared.tree.Conclusion.Conclusion, Readers.Gives};
 ghost use Rattle.fcl_syntax.specs.TokenClasses.{comma_classes, rule_item_classes, rule_line_classes};
-ghost use Rattle.fcl_syntax.specs.Readers.{Gives};
 ghost use Rattle.fcl_syntax.specs.Grammar.{TRuleItem, TRuleLine, and_classes, or_classes};
 ghost use Rattle.fcl_syntax.specs.Reading.{conclusion_at, comma_conclusion_at, conclusions_at, weight_value_at};
-ghost use Rattle.fcl_syntax.specs.Reading.{setting_at, with_at, weight_at, rule_at, rule_item_at, act_word_at, act_at};
-ghost use Rattle.fcl_syntax.specs.Reading.{rule_line_at, rulebase_at};
+ghost use Rattle.fcl_syntax.specs.Reading.{setting_at, with_at, weight_at, rule_at, rule_item_at, act_word_at};
+ghost use Rattle.fcl_syntax.specs.Reading.{act_at, rule_line_at, rulebase_at};
 ghost use Rattle.fcl_syntax.specs.View.{view_signed_number, view_setting, view_with, view_weight, view_rule};
 ghost use Rattle.fcl_syntax.specs.View.{view_rule_item, view_act_word, view_act, view_rule_line, view_rulebase};
 

@@ -1,9 +1,9 @@
 //! Single tokens: whether one is next, and what is behind it.
 
 ghost use Rattle.std.specs.Prelude.{◌≡◌, ◌==◌, [], ◌∷◌, length, is_some, option_map};
-ghost use Rattle.fcl_syntax.specs.TokenClasses.{mem, class_of, keyword_class, word_class, name_classes, number_classes};
-ghost use Rattle.fcl_syntax.specs.TokenClasses.{signed_classes, other_type_classes, beyond_unit_classes};
-ghost use Rattle.fcl_syntax.specs.TokenClasses.{beyond_zero_classes, open_classes};
+ghost use Rattle.fcl_syntax.specs.TokenClasses.{mem, class_of, keyword_class, word_class, name_classes};
+ghost use Rattle.fcl_syntax.specs.TokenClasses.{number_classes, signed_classes, other_type_classes};
+ghost use Rattle.fcl_syntax.specs.TokenClasses.{beyond_unit_classes, beyond_zero_classes, open_classes};
 ghost use Rattle.fcl_syntax.specs.Readers.{Gives, or_expected, starts};
 ghost use Rattle.fcl_syntax.specs.Reading.{IsBare, unit, expect_at, key_at, word_at, open_at, name_at, number_at};
 ghost use Rattle.fcl_syntax.specs.Reading.{unit_number_at, zero_number_at, label_at, direction_at};

@@ -6,11 +6,11 @@ ghost use Rattle.fcl_syntax.specs.TokenClasses.{open_classes, fuzzy_line_classes
 ghost use Rattle.fcl_syntax.specs.TokenClasses.{word_class};
 ghost use Rattle.fcl_syntax.specs.Grammar.{TPoint, TTerm, TRange, TDefuzzyLine, TPart};
 ghost use Rattle.fcl_syntax.specs.Readers.{Gives};
-ghost use Rattle.fcl_syntax.specs.Reading.{sign_at, signed, signed_number_at, coordinate_number_at, coordinate_at, unit_at, zero_at};
-ghost use Rattle.fcl_syntax.specs.Reading.{degree_at, point_at, some_points_at, points_at, term_at, opening_at};
-ghost use Rattle.fcl_syntax.specs.Reading.{range_at, fuzzy_line_at, fuzzify_at, choice_at, setting_at, accu_at};
-ghost use Rattle.fcl_syntax.specs.Reading.{method_at, singleton_value_at, singleton_at, fallback_value_at, fallback_at};
-ghost use Rattle.fcl_syntax.specs.Reading.{defuzzy_line_at, defuzzify_at, part_at};
+ghost use Rattle.fcl_syntax.specs.Reading.{sign_at, signed, signed_number_at, coordinate_number_at, coordinate_at};
+ghost use Rattle.fcl_syntax.specs.Reading.{unit_at, zero_at, degree_at, point_at, some_points_at, points_at, term_at};
+ghost use Rattle.fcl_syntax.specs.Reading.{opening_at, range_at, fuzzy_line_at, fuzzify_at, choice_at, setting_at};
+ghost use Rattle.fcl_syntax.specs.Reading.{accu_at, method_at, singleton_value_at, singleton_at, fallback_value_at};
+ghost use Rattle.fcl_syntax.specs.Reading.{fallback_at, defuzzy_line_at, defuzzify_at, part_at};
 ghost use Rattle.fcl_syntax.specs.View.{view_signed_number, view_coordinate, view_degree, view_point, view_term};
 ghost use Rattle.fcl_syntax.specs.View.{view_range, view_fuzzy_line, view_fuzzify, view_setting, view_singleton};
 ghost use Rattle.fcl_syntax.specs.View.{view_value, view_fallback, view_defuzzy_line, view_defuzzify, view_part};

@@ -2,11 +2,9 @@
 
 ghost use Rattle.std.specs.Prelude.{◌≡◌, ◌≤◌, length, IfOk, IfErr};
 ghost use Rattle.std.specs.Str.{str_to_ascii_lowercase};
-ghost use Rattle.fcl_syntax.specs.Grammar.{TBlock};
+ghost use Rattle.fcl_syntax.specs.{Grammar.TBlock, Parsed.GivesTree, Parsed.GivesFault, View.view};
 ghost use Rattle.fcl_syntax.specs.Text.{SpellsTree, IsFirstFault, OrMemory};
 ghost use Rattle.fcl_syntax.specs.TextReading.{Reads, read_text, token_fault, grammar_fault, place_of};
-ghost use Rattle.fcl_syntax.specs.Parsed.{GivesTree, GivesFault};
-ghost use Rattle.fcl_syntax.specs.View.{view};
 
 use crate::block::function_block;
 use crate::fault::{Kind, ParseError};

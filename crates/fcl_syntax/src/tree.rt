@@ -6,8 +6,7 @@
 
 ghost use Rattle.std.specs.Prelude.{◌≡◌, drop};
 ghost use Rattle.std.specs.List.{take_while};
-ghost use Rattle.fcl_syntax.specs.Tokens.{is_name_byte};
-ghost use Rattle.fcl_syntax.specs.Text.{IsSpelled};
+ghost use Rattle.fcl_syntax.specs.{Tokens.is_name_byte, Text.IsSpelled};
 
 use crate::lexer::name_len;
 use crate::token::{Amount, Word};

@@ -2,11 +2,10 @@
 
 ghost use Rattle.std.specs.Prelude.{◌≡◌};
 ghost use Rattle.std.proofs.Common.{inr};
-ghost use Rattle.fcl_syntax.specs.declared.tree.Name.{Name};
+ghost use Rattle.fcl_syntax.specs.{declared.tree.Name.Name, Grammar.TDeclaration, Grammar.TSection, Readers.Gives};
 ghost use Rattle.fcl_syntax.specs.TokenClasses.{comma_classes, name_classes, section_classes};
-ghost use Rattle.fcl_syntax.specs.Grammar.{TDeclaration, TSection};
-ghost use Rattle.fcl_syntax.specs.Readers.{Gives};
-ghost use Rattle.fcl_syntax.specs.Reading.{comma_name_at, names_at, type_at, declaration_at, variables_at, section_at};
+ghost use Rattle.fcl_syntax.specs.Reading.{comma_name_at, names_at, type_at, declaration_at, variables_at};
+ghost use Rattle.fcl_syntax.specs.Reading.{section_at};
 ghost use Rattle.fcl_syntax.specs.View.{view_declaration, view_variables, view_section};
 
 use crate::fault::{Kind, ParseError};

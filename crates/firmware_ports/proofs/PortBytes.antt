@@ -2,14 +2,12 @@
 use Rattle.std.proofs.Common.{◌≡◌, ℕ, zero, suc, ◌+◌, ◌-◌, ◌*◌, ◌<◌, ◌≤◌, Bool, true, false, List, [], ◌∷◌, ◌++◌}
 use Rattle.std.proofs.Common.{length, get_or, refl, ap, ap₂, ◌∙◌, arith, append_assoc}
 use Rattle.std.proofs.Math.ListN.{set}
-use Rattle.cpu12_isa.specs.Act.{write_all}
-use Rattle.cpu12_isa.specs.Memory.{plus, placed, word_of}
+use Rattle.cpu12_isa.specs.{Act.write_all, Memory.plus, Memory.placed, Memory.word_of}
 use Rattle.cpu12_parts.specs.State.{State}
 use Rattle.eval_code.specs.Evaluation as evaluation
 use Rattle.eval_code.specs.Widths.{width_of}
 use Rattle.codegen.specs.Uninterrupted.{values_from}
-use Rattle.firmware_ports.specs.Ports.{answer_size, answer_at, answers_at}
-use Rattle.firmware_ports.specs.Ports.{AnswersAreValues, GivenIsPut}
+use Rattle.firmware_ports.specs.Ports.{answer_size, answer_at, answers_at, AnswersAreValues, GivenIsPut}
 
 pub write_last : (ws : List (ℕ × ℕ)) (at v : ℕ) (m : List ℕ)
     → write_all (ws ++ (at, v) ∷ []) m ≡ set (write_all ws m) at v

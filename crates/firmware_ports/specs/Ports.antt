@@ -2,12 +2,10 @@
 -- Reached by the promise.
 use Rattle.std.specs.Prelude.{◌≡◌, ℕ, zero, suc, ◌+◌, ◌*◌, ◌≤◌, Bool, true, false, List, [], ◌∷◌, ◌++◌, length}
 use Rattle.std.specs.Prelude.{slice_index}
-use Rattle.cpu12_isa.specs.Act.{write_all}
-use Rattle.cpu12_isa.specs.Memory.{plus, placed, word_of}
+use Rattle.cpu12_isa.specs.{Act.write_all, Memory.plus, Memory.placed, Memory.word_of}
 use Rattle.cpu12_parts.specs.State.{State}
 use Rattle.codegen.specs.Answers as answers
-use Rattle.codegen.specs.Uninterrupted.{values_in}
-use Rattle.codegen.specs.declared.firmware.Firmware.{Firmware}
+use Rattle.codegen.specs.{Uninterrupted.values_in, declared.firmware.Firmware.Firmware}
 use Rattle.eval_code.specs.declared.memory_map.MemoryMap.{MemoryMap}
 
 -- the input bytes are written, and READY 1

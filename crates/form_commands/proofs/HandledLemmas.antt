@@ -9,18 +9,15 @@ use Rattle.eval_code.specs.declared.width.Width.TheVariants.{Byte}
 use Rattle.interrupt_plan.specs.declared.Request.{Request}
 use Rattle.trace_io.specs.declared.sample.Sample.{Sample}
 use Rattle.run_law.specs.Forms.{RowSeen}
-use Rattle.fz_run.specs.Answering.{AnswersItsBlock, AnswersUnderPlans}
-use Rattle.fz_run.specs.Rows.{input_bytes}
+use Rattle.fz_run.specs.{Answering.AnswersItsBlock, Answering.AnswersUnderPlans, Rows.input_bytes}
 use Rattle.handled_runs.specs.Answering.{AreListedRows, HandledAnswers, HandlesItsBlock}
 use Rattle.handled_runs.specs.Forms.{HandledSeen, handled_seen}
 use Rattle.fz_status.specs.declared.status.Status.{Status}
 use Rattle.fz_status.specs.declared.status.Status.TheVariants as status
-use Rattle.build_commands.specs.Firmwares.{GivesFirmware}
-use Rattle.build_commands.specs.Hcheck.{GivesHandler}
-use Rattle.run_reports.specs.Inputs.{input_refusals}
+use Rattle.build_commands.specs.{Firmwares.GivesFirmware, Hcheck.GivesHandler}
+use Rattle.run_reports.specs.{Inputs.input_refusals, Laws.AnswersAreReported, Laws.SpelledBytesFit}
 use Rattle.form_commands.specs.HandledRun.{AcceptsHandled, HandledFiles, HandledRun}
 use Rattle.form_commands.specs.Hrun.{AcceptedHandledRunsMakeOutput, handled_report, hrun_refusals}
-use Rattle.run_reports.specs.Laws.{AnswersAreReported, SpelledBytesFit}
 
 -- what it answers of accepted files is the run of them
 module _ (reported : AnswersAreReported) (fit : SpelledBytesFit) (all : AnswersUnderPlans) (flags : ℕ)

@@ -6,20 +6,15 @@ use Rattle.std.proofs.lemmas.List.Elements.{All-cons, All-head, All-nil, All-tai
 use Rattle.fuzzy_meaning.specs.declared.block.Block.{Block}
 use Rattle.codegen.specs.Uninterrupted.{AreAnswersOf}
 use Rattle.eval_code.specs.declared.width.Width.TheVariants.{Byte}
-use Rattle.interrupt_plan.specs.declared.Request.{Request}
-use Rattle.interrupt_plan.specs.Levels.{AreGoodLevels}
-use Rattle.interrupt_plan.specs.declared.levels.Level.{Level}
+use Rattle.interrupt_plan.specs.{declared.Request.Request, declared.levels.Level.Level, Levels.AreGoodLevels}
 use Rattle.run_law.specs.Forms.{RowSeen}
 use Rattle.trace_io.specs.declared.sample.Sample.{Sample}
 use Rattle.fz_run.specs.Answering.{AnswersItsBlock, AnswersUnderPlans}
 use Rattle.fz_run.specs.Rows.{bytes_of, firmware_rows, input_bytes}
-use Rattle.two_level.specs.Images.{AloneHasByteBounds, HasByteBounds, fast_most}
-use Rattle.two_level.specs.declared.two.Two.{Two}
+use Rattle.two_level.specs.{Images.AloneHasByteBounds, Images.HasByteBounds, Images.fast_most, declared.two.Two.Two}
 use Rattle.two_runs.specs.Answering.{AnswersAtTwoLevels, AnswersItsBlocks, AnswersUnderLevels, RowsAreSeen}
 use Rattle.two_runs.specs.Answering.{answer_of_fast, fast_runs, plan_of}
-use Rattle.two_runs.specs.Order.{LevelsMakeAPlan}
-use Rattle.two_runs.specs.Rows.{TwoSeen, two_seen}
-use Rattle.two_runs.specs.Runs.{FastSeen}
+use Rattle.two_runs.specs.{Order.LevelsMakeAPlan, Rows.TwoSeen, Rows.two_seen, Runs.FastSeen}
 use Rattle.certified_run.specs.Posted.{IsOneOf, PostedAnswersAreNear}
 use Rattle.build_commands.specs.Firmwares.{GivesFirmware}
 use Rattle.build_commands.proofs.Algebra.{of_seen}

@@ -10,10 +10,9 @@ use Rattle.fz_status.specs.FaultLines.{newline}
 use Rattle.run_forms.specs.Rows.{boundary_seen}
 use Rattle.two_runs.specs.Runs.{FastSeen}
 use Rattle.build_commands.specs.Lines.{counted, error_line, line}
-use Rattle.build_commands.proofs.Algebra.{counted_more, text_more, text_of-snoc}
+use Rattle.build_commands.proofs.Algebra.{counted_more, text_more, text_of-snoc, made_next, made_with, pushed}
 use Rattle.form_commands.specs.Lrun.{fast_error_line, fast_lines, level_begun_lines, outer_lines}
 use Rattle.run_reports.specs.RowLines.{answers_told, frame_line}
-use Rattle.build_commands.proofs.Algebra.{made_next, made_with, pushed}
 
 -- the errors and the bounds
 pub begun_written : (none errors fast bounded lines : List (String Global)) (one two : String Global)

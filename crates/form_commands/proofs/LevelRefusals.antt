@@ -4,11 +4,9 @@ use Rattle.fuzzy_meaning.specs.declared.block.Block.{Block}
 use Rattle.box_tree.specs.declared.cert.CertKind.TheVariants.{Named}
 use Rattle.eval_code.specs.declared.width.Width.TheVariants.{Byte}
 use Rattle.srecord.specs.Texts.{GivesImage}
-use Rattle.trace_io.specs.Traces.{Spells as SpellsTrace}
-use Rattle.trace_io.specs.declared.sample.Sample.{Sample}
+use Rattle.trace_io.specs.{Traces.Spells as SpellsTrace, declared.sample.Sample.Sample}
 use Rattle.two_level.specs.declared.two.Two.{Two}
-use Rattle.build_commands.specs.Certs.{AcceptsCert, cert_refusals}
-use Rattle.build_commands.specs.Images.{image_refusals}
+use Rattle.build_commands.specs.{Certs.AcceptsCert, Certs.cert_refusals, Images.image_refusals}
 use Rattle.build_commands.specs.Twos.{GivesTwo, two_refusals}
 use Rattle.fz_status.specs.Refusals.{IsRefusal, of_fast}
 use Rattle.fz_status.specs.declared.status.FastFault.TheVariants as told

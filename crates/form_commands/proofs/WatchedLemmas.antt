@@ -9,23 +9,19 @@ use Rattle.codegen.specs.declared.firmware.Firmware.{Firmware}
 use Rattle.box_tree.specs.declared.cert.CertKind.TheVariants.{Named}
 use Rattle.eval_code.specs.declared.width.Width.TheVariants.{Byte}
 use Rattle.srecord.specs.Texts.{GivesImage}
-use Rattle.interrupt_plan.specs.declared.Request.{Request}
-use Rattle.interrupt_plan.specs.declared.upsets.Upset.{Upset}
+use Rattle.interrupt_plan.specs.declared.{Request.Request, upsets.Upset.Upset}
 use Rattle.trace_io.specs.declared.sample.Sample.{Sample}
 use Rattle.fz_run.specs.Rows.{input_bytes}
-use Rattle.watched_runs.specs.Answering.{AnswersItsSamples, AnswersUnderAllUpsets, AnswersUnderUpsets}
-use Rattle.watched_runs.specs.Answering.{AreWatchedRows}
-use Rattle.watched_runs.specs.Rows.{FaultSeen, faults_of, upset_rows}
-use Rattle.watched_runs.specs.Samples.{with_upsets}
+use Rattle.watched_runs.specs.Answering.{AnswersItsSamples, AnswersUnderAllUpsets, AnswersUnderUpsets, AreWatchedRows}
+use Rattle.watched_runs.specs.{Rows.FaultSeen, Rows.faults_of, Rows.upset_rows, Samples.with_upsets}
 use Rattle.certified_run.specs.Faultless.{FaultlessAnswersAreNear}
 use Rattle.fz_status.specs.declared.status.Status.{Status}
 use Rattle.fz_status.specs.declared.status.Status.TheVariants as status
 use Rattle.build_commands.specs.Firmwares.{GivesWatched}
-use Rattle.run_reports.specs.Inputs.{AcceptsInputs, input_refusals}
+use Rattle.run_reports.specs.{Inputs.AcceptsInputs, Inputs.input_refusals, Laws.SpelledBytesFit}
 use Rattle.form_commands.specs.Srun.{AcceptedWatchedRunsMakeOutput, AcceptsWatched, srun_refusals, upset_refusals}
 use Rattle.form_commands.specs.Srun.{watched_report}
 use Rattle.form_commands.specs.WatchedRun.{WatchedFiles, WatchedRun}
-use Rattle.run_reports.specs.Laws.{SpelledBytesFit}
 
 instructions_within : (b : Block) (f : Firmware) (before : ℕ → ℕ) (xs : List Watched) (rs : List FaultSeen)
     → AreWatchedRows b f before xs rs → All (λ r. r.row.instrs ≤ f.instr_bound) rs

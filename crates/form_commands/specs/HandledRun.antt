@@ -6,18 +6,12 @@ use Rattle.fuzzy_meaning.specs.declared.block.Block.{Block}
 use Rattle.codegen.specs.declared.firmware.Firmware.{Firmware}
 use Rattle.box_tree.specs.declared.cert.CertKind.TheVariants.{Named}
 use Rattle.eval_code.specs.declared.width.Width.TheVariants.{Byte}
-use Rattle.interrupt_plan.specs.PlanTexts.{Spells as SpellsPlan}
-use Rattle.interrupt_plan.specs.declared.Request.{Request}
-use Rattle.trace_io.specs.Traces.{Spells as SpellsTrace}
-use Rattle.trace_io.specs.declared.sample.Sample.{Sample}
+use Rattle.interrupt_plan.specs.{PlanTexts.Spells as SpellsPlan, declared.Request.Request}
+use Rattle.trace_io.specs.{Traces.Spells as SpellsTrace, declared.sample.Sample.Sample}
 use Rattle.fz_run.specs.Rows.{input_bytes}
-use Rattle.handled_runs.specs.Answering.{AnswersHandled}
-use Rattle.handled_runs.specs.Forms.{HandledSeen, handled_seen}
-use Rattle.build_commands.specs.Certs.{AcceptsCert}
-use Rattle.build_commands.specs.Firmwares.{GivesFirmware}
-use Rattle.build_commands.specs.Hcheck.{GivesHandler}
-use Rattle.run_reports.specs.Inputs.{AcceptsInputs}
-use Rattle.run_reports.specs.Reports.{IsReportOf, Report}
+use Rattle.handled_runs.specs.{Answering.AnswersHandled, Forms.HandledSeen, Forms.handled_seen}
+use Rattle.build_commands.specs.{Certs.AcceptsCert, Firmwares.GivesFirmware, Hcheck.GivesHandler}
+use Rattle.run_reports.specs.{Inputs.AcceptsInputs, Reports.IsReportOf, Reports.Report}
 
 -- the contents of the five files
 pub record HandledFiles : Type 0 where

@@ -10,18 +10,13 @@ use Rattle.eval_code.specs.declared.width.Width.TheVariants.{Byte}
 use Rattle.interrupt_plan.specs.declared.Request.{Request}
 use Rattle.trace_io.specs.declared.sample.Sample.{Sample}
 use Rattle.handled_runs.specs.Forms.{HandledSeen}
-use Rattle.build_commands.specs.Contents.{content_at}
+use Rattle.build_commands.specs.{Contents.content_at, Firmwares.OfFirmware, Firmwares.RefusesText}
 use Rattle.build_commands.specs.SeenOutputs.{HasOutput, SeenOutput, only_text}
-use Rattle.build_commands.specs.Firmwares.{OfFirmware, RefusesText}
-use Rattle.build_commands.specs.Hcheck.{GivesHandler, handler_refusals}
-use Rattle.build_commands.specs.Lines.{counted}
-use Rattle.build_commands.specs.Words.{flags_of}
-use Rattle.run_reports.specs.Inputs.{input_refusals}
+use Rattle.build_commands.specs.{Hcheck.GivesHandler, Hcheck.handler_refusals, Lines.counted, Words.flags_of}
+use Rattle.run_reports.specs.{Inputs.input_refusals, RowLines.begun_lines, RowLines.labelled_row_lines}
 use Rattle.form_commands.specs.HandledRun.{AcceptsHandled, HandledFiles, HandledReport, HandledRun}
-use Rattle.run_reports.specs.RowLines.{begun_lines, labelled_row_lines}
 use Rattle.form_commands.specs.declared.hrun.Hrun.{Hrun}
-use Rattle.fz_status.specs.Refusals.{Refusals, Refuses}
-use Rattle.fz_status.specs.Words.{Text, word_at}
+use Rattle.fz_status.specs.{Refusals.Refusals, Refusals.Refuses, Words.Text, Words.word_at}
 use Rattle.fz_status.specs.declared.status.Status.{Status}
 use Rattle.fz_status.specs.declared.status.Status.TheVariants as status
 

@@ -2,22 +2,17 @@
 -- Beside the promise.
 use Rattle.std.specs.Prelude.{◌≡◌, ℕ, ◌≤◌, List, All, length, map}
 use Rattle.fuzzy_meaning.specs.declared.block.Block.{Block}
-use Rattle.eval_code.specs.Bounds.{instruction_bound}
+use Rattle.eval_code.specs.{Bounds.instruction_bound, declared.width.Width.TheVariants.Byte}
 use Rattle.box_tree.specs.declared.cert.CertKind.TheVariants.{Named}
-use Rattle.eval_code.specs.declared.width.Width.TheVariants.{Byte}
 use Rattle.srecord.specs.Texts.{GivesImage}
-use Rattle.trace_io.specs.Traces.{Spells as SpellsTrace}
-use Rattle.trace_io.specs.declared.sample.Sample.{Sample}
-use Rattle.interrupt_plan.specs.Levels.{SpellsLevels}
-use Rattle.interrupt_plan.specs.declared.levels.Level.{Level}
+use Rattle.trace_io.specs.{Traces.Spells as SpellsTrace, declared.sample.Sample.Sample}
+use Rattle.interrupt_plan.specs.{Levels.SpellsLevels, declared.levels.Level.Level}
 use Rattle.fz_run.specs.Rows.{input_bytes}
-use Rattle.two_level.specs.Images.{fast_most}
-use Rattle.two_level.specs.declared.two.Two.{Two}
+use Rattle.two_level.specs.{Images.fast_most, declared.two.Two.Two}
 use Rattle.two_runs.specs.Answering.{AnswersAtTwoLevels, answer_of_fast, fast_runs, plan_of}
 use Rattle.two_runs.specs.Rows.{TwoSeen, two_seen}
 use Rattle.certified_run.specs.Posted.{ArePostedWithinErrors}
-use Rattle.build_commands.specs.Certs.{AcceptsCert}
-use Rattle.build_commands.specs.Twos.{GivesTwo}
+use Rattle.build_commands.specs.{Certs.AcceptsCert, Twos.GivesTwo}
 use Rattle.run_reports.specs.Reports.{IsReportOf, Report}
 
 -- the contents of the eight files

@@ -3,22 +3,17 @@
 use Rattle.std.specs.Prelude.{◌≡◌, ◌≢◌, ℕ, ◌≤◌, true, List, [], ◌∷◌, ◌++◌, All, length, map}
 use Rattle.fuzzy_meaning.specs.declared.block.Block.{Block}
 use Rattle.cpu12_emul.specs.Take.{FrameSeen}
-use Rattle.codegen.specs.Mailboxes.{mailbox_bound}
-use Rattle.codegen.specs.declared.firmware.Firmware.{Firmware}
+use Rattle.codegen.specs.{Mailboxes.mailbox_bound, declared.firmware.Firmware.Firmware}
 use Rattle.box_tree.specs.declared.cert.CertKind.TheVariants.{Named}
 use Rattle.eval_code.specs.declared.width.Width.TheVariants.{Byte}
 use Rattle.srecord.specs.Texts.{GivesImage}
-use Rattle.trace_io.specs.Traces.{Spells as SpellsTrace}
-use Rattle.trace_io.specs.declared.sample.Sample.{Sample}
-use Rattle.interrupt_plan.specs.Posts.{SpellsPosts}
-use Rattle.interrupt_plan.specs.declared.Post.{Post}
+use Rattle.trace_io.specs.{Traces.Spells as SpellsTrace, declared.sample.Sample.Sample}
+use Rattle.interrupt_plan.specs.{Posts.SpellsPosts, declared.Post.Post}
 use Rattle.fz_run.specs.Rows.{input_bytes}
-use Rattle.posted_runs.specs.Answering.{AnswersUnderPosts, answer_in}
+use Rattle.posted_runs.specs.{Answering.AnswersUnderPosts, Answering.answer_in, Turns.waiting}
 use Rattle.posted_runs.specs.Runs.{AnswerSeen, RunSeen, run_under_posts}
-use Rattle.posted_runs.specs.Turns.{waiting}
 use Rattle.certified_run.specs.Posted.{ArePostedWithinErrors}
-use Rattle.build_commands.specs.Certs.{AcceptsCert}
-use Rattle.build_commands.specs.Firmwares.{GivesMailbox}
+use Rattle.build_commands.specs.{Certs.AcceptsCert, Firmwares.GivesMailbox}
 
 -- the contents of the five files
 pub record PostedFiles : Type 0 where

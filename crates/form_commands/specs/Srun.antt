@@ -6,21 +6,16 @@ use Rattle.codegen.specs.declared.firmware.Firmware.{Firmware}
 use Rattle.box_tree.specs.declared.cert.CertKind.TheVariants.{Named}
 use Rattle.eval_code.specs.declared.width.Width.TheVariants.{Byte}
 use Rattle.interrupt_plan.specs.UpsetTexts.{HasUpsetFault, SpellsUpsets}
-use Rattle.interrupt_plan.specs.declared.Request.{Request}
-use Rattle.interrupt_plan.specs.declared.upsets.Upset.{Upset}
+use Rattle.interrupt_plan.specs.declared.{Request.Request, upsets.Upset.Upset}
 use Rattle.srecord.specs.Texts.{GivesImage}
 use Rattle.trace_io.specs.declared.sample.Sample.{Sample}
 use Rattle.watched_runs.specs.Rows.{FaultSeen}
-use Rattle.fz_status.specs.Refusals.{Refusals, Refuses}
-use Rattle.fz_status.specs.Words.{Text, word_at}
+use Rattle.fz_status.specs.{Refusals.Refusals, Refusals.Refuses, Words.Text, Words.word_at}
 use Rattle.fz_status.specs.declared.status.Status.{Status}
 use Rattle.fz_status.specs.declared.status.Status.TheVariants as status
-use Rattle.build_commands.specs.Contents.{content_at}
+use Rattle.build_commands.specs.{Contents.content_at, Images.RefusesImage, Lines.counted, Words.flags_of}
 use Rattle.build_commands.specs.SeenOutputs.{HasOutput, SeenOutput, only_text}
 use Rattle.build_commands.specs.Firmwares.{GivesWatched, RefusesText}
-use Rattle.build_commands.specs.Images.{RefusesImage}
-use Rattle.build_commands.specs.Lines.{counted}
-use Rattle.build_commands.specs.Words.{flags_of}
 use Rattle.run_reports.specs.Inputs.{AcceptsInputs, input_refusals}
 use Rattle.run_reports.specs.RowLines.{begun_lines, labelled_row_lines}
 use Rattle.form_commands.specs.WatchedRun.{WatchedFiles, WatchedReport, WatchedRun}

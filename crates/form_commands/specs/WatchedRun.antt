@@ -7,18 +7,13 @@ use Rattle.codegen.specs.declared.firmware.Firmware.{Firmware}
 use Rattle.box_tree.specs.declared.cert.CertKind.TheVariants.{Named}
 use Rattle.eval_code.specs.declared.width.Width.TheVariants.{Byte}
 use Rattle.srecord.specs.Texts.{GivesImage}
-use Rattle.trace_io.specs.Traces.{Spells as SpellsTrace}
-use Rattle.trace_io.specs.declared.sample.Sample.{Sample}
-use Rattle.interrupt_plan.specs.PlanTexts.{Spells as SpellsPlan}
-use Rattle.interrupt_plan.specs.UpsetTexts.{SpellsUpsets}
-use Rattle.interrupt_plan.specs.declared.Request.{Request}
-use Rattle.interrupt_plan.specs.declared.upsets.Upset.{Upset}
+use Rattle.trace_io.specs.{Traces.Spells as SpellsTrace, declared.sample.Sample.Sample}
+use Rattle.interrupt_plan.specs.{PlanTexts.Spells as SpellsPlan, UpsetTexts.SpellsUpsets}
+use Rattle.interrupt_plan.specs.declared.{Request.Request, upsets.Upset.Upset}
 use Rattle.fz_run.specs.Rows.{input_bytes}
-use Rattle.watched_runs.specs.Answering.{AnswersUnderUpsets}
-use Rattle.watched_runs.specs.Rows.{FaultSeen, faults_of, upset_rows}
+use Rattle.watched_runs.specs.{Answering.AnswersUnderUpsets, Rows.FaultSeen, Rows.faults_of, Rows.upset_rows}
 use Rattle.certified_run.specs.Faultless.{FaultlessAreWithinErrors}
-use Rattle.build_commands.specs.Certs.{AcceptsCert}
-use Rattle.build_commands.specs.Firmwares.{GivesWatched}
+use Rattle.build_commands.specs.{Certs.AcceptsCert, Firmwares.GivesWatched}
 
 -- the contents of the six files
 pub record WatchedFiles : Type 0 where

@@ -1,18 +1,16 @@
 //! The command `hrun FCL HANDLER CERT TRACE PLAN FLAGS`: the certified run whose interrupts run a handler's code.
 ghost use Rattle.std.specs.Prelude.{◌≡◌, ◌≤◌, ◌++◌, length, IfOk, IfErr};
 ghost use Rattle.std.specs.List.{All};
-ghost use Rattle.fz_status.specs.Refusals.{IsRefusal};
-ghost use Rattle.fz_status.specs.Words.{texts_of};
-ghost use Rattle.build_commands.specs.Contents.{bytes_of};
+ghost use Rattle.fz_status.specs.{Refusals.IsRefusal, Words.texts_of};
+ghost use Rattle.build_commands.specs.{Contents.bytes_of, Lines.counted};
 ghost use Rattle.build_commands.specs.SeenOutputs.{OutputHasNoFault, IsResultOf};
 ghost use Rattle.form_commands.specs.HandledRun.{AcceptsHandled, HandledFiles};
-ghost use Rattle.build_commands.specs.Lines.{counted};
+ghost use Rattle.form_commands.specs.Hrun.{AcceptedHandledRunsMakeOutput, HrunMakes, handled_files};
+ghost use Rattle.form_commands.specs.Hrun.{handled_row_lines, hrun_in, hrun_refusals};
+ghost use Rattle.form_commands.specs.declared.hrun.Hrun.{Hrun as TheHrun};
 ghost use Rattle.fz_shelf.specs.Lines.{text_of};
 ghost use Rattle.handled_runs.specs.Forms.{row_seen};
-ghost use Rattle.form_commands.specs.Hrun.{AcceptedHandledRunsMakeOutput, HrunMakes, handled_files, handled_row_lines};
-ghost use Rattle.form_commands.specs.Hrun.{hrun_in, hrun_refusals};
 ghost use Rattle.run_reports.specs.RowLines.{begun_lines};
-ghost use Rattle.form_commands.specs.declared.hrun.Hrun.{Hrun as TheHrun};
 
 use box_tree::CertKind;
 use build_commands::contents::content;

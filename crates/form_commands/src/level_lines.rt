@@ -4,12 +4,10 @@ ghost use Rattle.std.specs.List.{slice_index_or};
 ghost use Rattle.fz_shelf.specs.Lines.{text_of};
 ghost use Rattle.run_forms.specs.Rows.{boundary_seen};
 ghost use Rattle.two_level.specs.Images.{fast_most};
-ghost use Rattle.two_runs.specs.InnerNotes.{inner_seen};
-ghost use Rattle.two_runs.specs.Harness.{fast_seen, row_seen};
+ghost use Rattle.two_runs.specs.{InnerNotes.inner_seen, Harness.fast_seen, Harness.row_seen};
 ghost use Rattle.build_commands.specs.Lines.{counted};
-ghost use Rattle.form_commands.specs.Lrun.{fast_error_line, fast_line, fast_lines, inner_line};
-ghost use Rattle.form_commands.specs.Lrun.{level_begun_lines, level_report};
-ghost use Rattle.form_commands.specs.Lrun.{level_row_lines, lrun_lines, outer_lines};
+ghost use Rattle.form_commands.specs.Lrun.{fast_error_line, fast_line, fast_lines, inner_line, level_begun_lines};
+ghost use Rattle.form_commands.specs.Lrun.{level_report, level_row_lines, lrun_lines, outer_lines};
 
 use build_commands::lines::{labelled, line_of_error, push_errors};
 use run_reports::row_lines::{

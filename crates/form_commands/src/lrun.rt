@@ -3,14 +3,11 @@ ghost use Rattle.std.specs.Prelude.{◌≡◌, ◌≤◌, length, IfOk, IfErr};
 ghost use Rattle.std.specs.List.{All};
 ghost use Rattle.fuzzy_meaning.specs.Blocks.{IsValid};
 ghost use Rattle.interrupt_plan.specs.Levels.{SpellsLevels};
-ghost use Rattle.fz_status.specs.Refusals.{IsRefusal};
-ghost use Rattle.fz_status.specs.Words.{texts_of};
-ghost use Rattle.build_commands.specs.Contents.{bytes_of};
-ghost use Rattle.build_commands.specs.SeenOutputs.{OutputHasNoFault, IsResultOf};
+ghost use Rattle.fz_status.specs.{Refusals.IsRefusal, Words.texts_of};
+ghost use Rattle.build_commands.specs.{Contents.bytes_of, SeenOutputs.OutputHasNoFault, SeenOutputs.IsResultOf};
 ghost use Rattle.form_commands.specs.LevelRun.{AcceptsCerts, AcceptsLevels, LevelFiles, SpellTraces};
 ghost use Rattle.form_commands.specs.Lrun.{AcceptedLevelRunsMakeOutput, LrunMakes, certs_refusals, level_files};
-ghost use Rattle.form_commands.specs.Lrun.{levels_refusals, lrun_in};
-ghost use Rattle.form_commands.specs.Lrun.{lrun_refusals, traces_refusals};
+ghost use Rattle.form_commands.specs.Lrun.{levels_refusals, lrun_in, lrun_refusals, traces_refusals};
 ghost use Rattle.form_commands.specs.declared.lrun.Lrun.{Lrun as TheLrun};
 
 use crate::level_lines::lines;

@@ -3,10 +3,8 @@
 ghost use Rattle.std.specs.Prelude.{◌≡◌, ◌≤◌, length, IfOk, IfErr};
 ghost use Rattle.std.specs.List.{All};
 ghost use Rattle.interrupt_plan.specs.Posts.{SpellsPosts};
-ghost use Rattle.fz_status.specs.Refusals.{IsRefusal};
-ghost use Rattle.fz_status.specs.Words.{texts_of};
-ghost use Rattle.build_commands.specs.Contents.{bytes_of};
-ghost use Rattle.build_commands.specs.SeenOutputs.{OutputHasNoFault, IsResultOf};
+ghost use Rattle.fz_status.specs.{Refusals.IsRefusal, Words.texts_of};
+ghost use Rattle.build_commands.specs.{Contents.bytes_of, SeenOutputs.OutputHasNoFault, SeenOutputs.IsResultOf};
 ghost use Rattle.form_commands.specs.Mrun.{AcceptedPostedRunsMakeOutput, MrunMakes, mrun_in, mrun_refusals};
 ghost use Rattle.form_commands.specs.Mrun.{posted_files, posts_refusals};
 ghost use Rattle.form_commands.specs.PostedRun.{AcceptsPosted, PostedFiles};

@@ -3,18 +3,15 @@
 ghost use Rattle.std.specs.Prelude.{◌≡◌, ◌≤◌, ◌++◌, length, IfOk, IfErr};
 ghost use Rattle.std.specs.List.{All};
 ghost use Rattle.interrupt_plan.specs.UpsetTexts.{SpellsUpsets};
-ghost use Rattle.fz_status.specs.Refusals.{IsRefusal};
-ghost use Rattle.fz_status.specs.Words.{texts_of};
-ghost use Rattle.build_commands.specs.Contents.{bytes_of};
+ghost use Rattle.fz_status.specs.{Refusals.IsRefusal, Words.texts_of};
+ghost use Rattle.build_commands.specs.{Contents.bytes_of, Lines.counted};
 ghost use Rattle.build_commands.specs.SeenOutputs.{OutputHasNoFault, IsResultOf};
 ghost use Rattle.form_commands.specs.Srun.{AcceptedWatchedRunsMakeOutput, AcceptsWatched, SrunMakes, srun_in};
 ghost use Rattle.form_commands.specs.Srun.{srun_refusals, upset_refusals, watched_files, watched_row_lines};
-ghost use Rattle.build_commands.specs.Lines.{counted};
+ghost use Rattle.form_commands.specs.{WatchedRun.WatchedFiles, declared.srun.Srun.Srun as TheSrun};
 ghost use Rattle.fz_shelf.specs.Lines.{text_of};
 ghost use Rattle.watched_runs.specs.Rows.{row_seen};
 ghost use Rattle.run_reports.specs.RowLines.{begun_lines};
-ghost use Rattle.form_commands.specs.WatchedRun.{WatchedFiles};
-ghost use Rattle.form_commands.specs.declared.srun.Srun.{Srun as TheSrun};
 
 use box_tree::CertKind;
 use build_commands::contents::content;

@@ -8,8 +8,7 @@ use Rattle.fuzzy_meaning.specs.Conditions.{Condition, is, negation, all, any, Co
 use Rattle.fuzzy_meaning.specs.Conditions.{SomeHaveLiterals, AllHaveLiterals, Joins, evaluate, evaluate_parts}
 use Rattle.fuzzy_meaning.specs.Conditions.{conditions, evaluate_pushed, evaluate_pushed_parts, nodes, total_nodes}
 use denote.Param.Weighed.{most, at_most}
-use Rattle.fuzzy_meaning.specs.declared.condition.Condition.TheDeep.{size-Condition}
-use Rattle.fuzzy_meaning.specs.declared.condition.Node.{Node}
+use Rattle.fuzzy_meaning.specs.declared.{condition.Condition.TheDeep.size-Condition, condition.Node.Node}
 use Rattle.fuzzy_meaning.specs.declared.condition.Node.TheVariants.{And, Or}
 use Rattle.fuzzy_meaning.specs.Trees.{tree}
 

@@ -5,14 +5,10 @@ use Rattle.std.specs.Prelude.{IfSome, ◌≤ℤ◌, pos}
 use Rattle.std.proofs.lemmas.Int.{ints}
 use Rattle.std.proofs.lemmas.Option.{slice_get_read, slice_get-get_or}
 use Rattle.fz_num.specs.declared.dec.Dec.{Dec}
-use Rattle.fuzzy_meaning.specs.declared.block.Block.{Block}
-use Rattle.fuzzy_meaning.specs.declared.block.Input.{Input}
-use Rattle.fuzzy_meaning.specs.declared.block.Output.{Output}
-use Rattle.fuzzy_meaning.specs.declared.block.Trapezoid.{Trapezoid}
+use Rattle.fuzzy_meaning.specs.{declared.block.Block.Block, declared.block.Input.Input, declared.block.Output.Output}
+use Rattle.fuzzy_meaning.specs.{declared.block.Trapezoid.Trapezoid, Degrees.degree, Meaning.literal_degree}
 use Rattle.fuzzy_meaning.specs.Blocks.{IsValid, IsValidInput, IsValidTerm, IsTrapezoid, IsInScale, IsWithin, HasTerm}
 use Rattle.fuzzy_meaning.specs.Blocks.{AreInputs, IsValidOutput, output_at}
-use Rattle.fuzzy_meaning.specs.Degrees.{degree}
-use Rattle.fuzzy_meaning.specs.Meaning.{literal_degree}
 use Rattle.fz_list.proofs.Algebra.{All-slice_get, IsSomeAnd-some, IsSomeAnd-within}
 
 -- what is read beyond a list's end

@@ -1,6 +1,5 @@
 -- Conditions and their parts.
-use Rattle.fuzzy_meaning.specs.Blocks.{PartsAreValid, HasTerm}
-use Rattle.fuzzy_meaning.specs.Conditions.{conditions}
+use Rattle.fuzzy_meaning.specs.{Blocks.PartsAreValid, Blocks.HasTerm, Conditions.conditions}
 use Rattle.fuzzy_meaning.proofs.Algebra.{AllHaveLiterals-some, HasLiterals-part}
 
 pub parts_valid : PartsAreValid

@@ -4,12 +4,10 @@ use Rattle.std.specs.Prelude.{nat_le, ℤ, ◌≤ℤ◌, ◌<ℤ◌}
 use Rattle.std.specs.Int.Signed.{le_z}
 use Rattle.std.proofs.lemmas.Int.{ints}
 use Rattle.std.proofs.lemmas.Bool.Decides.{nat_tests}
-use Rattle.fz_num.specs.declared.dec.Dec.{Dec}
+use Rattle.fz_num.specs.{declared.dec.Dec.Dec, Decimals.distance}
 use Rattle.fz_num.specs.Fractions.{Fraction, over, lesser, one, none}
-use Rattle.fz_num.specs.Decimals.{distance}
 use Rattle.fuzzy_meaning.specs.declared.block.Trapezoid.{Trapezoid}
-use Rattle.fuzzy_meaning.specs.Blocks.{IsTrapezoid}
-use Rattle.fuzzy_meaning.specs.Degrees.{rise, fall, degree, IsByPlace}
+use Rattle.fuzzy_meaning.specs.{Blocks.IsTrapezoid, Degrees.rise, Degrees.fall, Degrees.degree, Degrees.IsByPlace}
 
 yes : (a b : ℤ) → a ≤ℤ b → le_z a b ≡ true
 yes a b h = grind (arith, ints)

@@ -6,10 +6,9 @@ use Rattle.std.proofs.lemmas.List.{length-replicate}
 use Rattle.std.proofs.lemmas.List.Elements.{All-replicate}
 use Rattle.std.proofs.lemmas.List.Folds.{sum_by-replicate}
 use Rattle.fz_num.specs.declared.dec.Dec.{Dec}
-use Rattle.fuzzy_meaning.specs.declared.block.Block.{Block}
-use Rattle.fuzzy_meaning.specs.declared.block.Rule.{Rule}
-use Rattle.fuzzy_meaning.specs.Blocks.{IsValid, IsValidInput, IsValidOutput, IsValidTerm, IsValidRule, IsValidCondition}
-use Rattle.fuzzy_meaning.specs.Blocks.{IsInScale, IsWithin, IsWeight, HasSingleton, rule_size}
+use Rattle.fuzzy_meaning.specs.declared.{block.Block.Block, block.Rule.Rule}
+use Rattle.fuzzy_meaning.specs.Blocks.{IsValid, IsValidInput, IsValidOutput, IsValidTerm, IsValidRule}
+use Rattle.fuzzy_meaning.specs.Blocks.{IsValidCondition, IsInScale, IsWithin, IsWeight, HasSingleton, rule_size}
 use Rattle.fuzzy_meaning.specs.Conditions.{Condition, is, negation, depth, nodes}
 use Rattle.fuzzy_meaning.specs.Examples.{dec, cold, hot, heater, step_at, latch, nots, full_term, full_input}
 use Rattle.fuzzy_meaning.specs.Examples.{full_output, full_rule, full, ExamplesAreValid}

@@ -4,20 +4,15 @@ use Rattle.std.proofs.Common.{subst, arith}
 use Rattle.std.specs.Prelude.{pos, unsigned_abs, ◌<ℤ◌, ◌≤ℤ◌, Some}
 use Rattle.std.proofs.lemmas.Int.{ints}
 use Rattle.std.proofs.lemmas.List.{drop_all}
-use Rattle.fz_num.specs.declared.dec.Dec.{Dec}
-use Rattle.fz_num.specs.declared.frac.Frac.{Frac}
-use Rattle.fz_num.specs.Fracs.{fraction_of, IsTruth}
-use Rattle.fuzzy_meaning.specs.declared.block.Block.{Block}
-use Rattle.fuzzy_meaning.specs.declared.block.Output.{Output}
-use Rattle.fuzzy_meaning.specs.declared.answers.Heavy.{Heavy}
-use Rattle.fuzzy_meaning.specs.declared.answers.Held.{Held}
-use Rattle.fuzzy_meaning.specs.declared.answers.Held.TheVariants.{Nothing}
+use Rattle.fz_num.specs.{declared.dec.Dec.Dec, declared.frac.Frac.Frac, Fracs.fraction_of, Fracs.IsTruth}
+use Rattle.fuzzy_meaning.specs.declared.{block.Block.Block, block.Output.Output, answers.Heavy.Heavy}
+use Rattle.fuzzy_meaning.specs.declared.{answers.Held.Held, answers.Held.TheVariants.Nothing}
 use Rattle.fuzzy_meaning.specs.Blocks.{IsValid, IsWithin, output_at}
 use Rattle.fuzzy_meaning.specs.Holding.{share_of, shares_of, AreSmall, IsSmall, Reduces}
 use Rattle.fuzzy_meaning.specs.Meaning.{mass, shares_from, heavy_shares}
 use Rattle.fuzzy_meaning.proofs.BlockLemmas.{zero_dec, IsValidOutput-found}
-use Rattle.fuzzy_meaning.proofs.ShareLemmas.{Reduces-nil, Reduces-cons, Reduces-drop, heavy_shares-yes, heavy_shares-no}
-use Rattle.fuzzy_meaning.proofs.ShareLemmas.{shares_from-drop, length-heavy-drop}
+use Rattle.fuzzy_meaning.proofs.ShareLemmas.{Reduces-nil, Reduces-cons, Reduces-drop, heavy_shares-yes}
+use Rattle.fuzzy_meaning.proofs.ShareLemmas.{heavy_shares-no, shares_from-drop, length-heavy-drop}
 
 -- the term before number k + 1, with its mass
 abbrev pub term_before : List Dec → ℕ → Frac → Heavy

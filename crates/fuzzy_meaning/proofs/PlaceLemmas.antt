@@ -3,9 +3,7 @@ use Rattle.std.proofs.Common.{◌≡◌, Option, Some, None, refl, ap₂, arith}
 use Rattle.std.specs.Prelude.{◌≤ℤ◌, IfSome, option_map}
 use Rattle.std.proofs.lemmas.Int.{ints}
 use Rattle.std.proofs.lemmas.Bool.Decides.{nat_tests}
-use Rattle.fz_num.specs.declared.dec.Dec.{Dec}
-use Rattle.fz_num.specs.Fractions.{over, lesser}
-use Rattle.fz_num.specs.Decimals.{distance}
+use Rattle.fz_num.specs.{declared.dec.Dec.Dec, Fractions.over, Fractions.lesser, Decimals.distance}
 use Rattle.fuzzy_meaning.specs.Degrees.{rise, fall}
 use Rattle.fuzzy_meaning.specs.Places.{rise_at, fall_at, NumbersHaveTheirDegrees}
 

@@ -2,9 +2,8 @@
 -- Reached by the promise.
 use Rattle.std.specs.Prelude.{◌≡◌, if◌then◌else◌, Option, Some, None, ◌≤ℤ◌, ◌<ℤ◌}
 use Rattle.std.specs.Int.Signed.{le_z}
-use Rattle.fz_num.specs.declared.dec.Dec.{Dec}
+use Rattle.fz_num.specs.{declared.dec.Dec.Dec, Decimals.distance}
 use Rattle.fz_num.specs.Fractions.{Fraction, over, lesser, one, none}
-use Rattle.fz_num.specs.Decimals.{distance}
 use Rattle.fuzzy_meaning.specs.declared.block.Trapezoid.{Trapezoid}
 
 -- the rising side at x: 1 from b on, 0 up to a, and a straight course between them

@@ -2,13 +2,9 @@
 -- Beside the promise.
 use Rattle.std.specs.Prelude.{ℕ, zero, suc, [], ◌∷◌, Some, None, ℤ, pos, neg_ℤ, replicate}
 use Rattle.fz_num.specs.declared.dec.Dec.{Dec}
-use Rattle.fuzzy_meaning.specs.declared.block.Block.{Block}
-use Rattle.fuzzy_meaning.specs.declared.block.Input.{Input}
-use Rattle.fuzzy_meaning.specs.declared.block.Output.{Output}
-use Rattle.fuzzy_meaning.specs.declared.block.Rule.{Rule}
+use Rattle.fuzzy_meaning.specs.declared.{block.Block.Block, block.Input.Input, block.Output.Output, block.Rule.Rule}
 use Rattle.fuzzy_meaning.specs.declared.block.Trapezoid.{Trapezoid}
-use Rattle.fuzzy_meaning.specs.Conditions.{Condition, is, negation}
-use Rattle.fuzzy_meaning.specs.Blocks.{IsValid}
+use Rattle.fuzzy_meaning.specs.{Conditions.Condition, Conditions.is, Conditions.negation, Blocks.IsValid}
 
 abbrev pub dec : ℤ → Dec
 dec z = record { 0 = z }

@@ -2,8 +2,7 @@
 -- Beside the promise.
 use Rattle.std.specs.Prelude.{◌≡◌, ℕ, ◌*◌, ◌<◌, List, [], ◌∷◌, pos, neg_ℤ, ◌*ℤ◌, ◌≤ℤ◌, ◌<ℤ◌}
 use Rattle.fz_num.specs.Fracs.{fraction_of, IsTruth}
-use Rattle.fuzzy_meaning.specs.declared.answers.Heavy.{Heavy}
-use Rattle.fuzzy_meaning.specs.declared.answers.Held.{Held}
+use Rattle.fuzzy_meaning.specs.declared.{answers.Heavy.Heavy, answers.Held.Held}
 use Rattle.fuzzy_meaning.specs.declared.answers.Held.TheVariants.{Nothing, One, Two}
 use Rattle.fuzzy_meaning.specs.Meaning.{Share, common_den, total_mass, weighted_sum}
 

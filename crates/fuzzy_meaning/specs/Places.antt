@@ -1,13 +1,10 @@
 -- The degree of a term at any place of its input's range. A place is a fraction in 1/10000, measured from the low end.
 -- Beside the promise.
 use Rattle.std.specs.Prelude.{◌≡◌, ℕ, ◌-◌, ◌*◌, if◌then◌else◌, nat_le, Option, Some, None, option_map, ◌≤ℤ◌}
-use Rattle.fz_num.specs.declared.dec.Dec.{Dec}
+use Rattle.fz_num.specs.{declared.dec.Dec.Dec, Decimals.distance}
 use Rattle.fz_num.specs.Fractions.{Fraction, over, lesser, one, none}
-use Rattle.fz_num.specs.Decimals.{distance}
-use Rattle.fuzzy_meaning.specs.declared.block.Input.{Input}
-use Rattle.fuzzy_meaning.specs.declared.block.Trapezoid.{Trapezoid}
-use Rattle.fuzzy_meaning.specs.Blocks.{IsValidTerm}
-use Rattle.fuzzy_meaning.specs.Degrees.{degree}
+use Rattle.fuzzy_meaning.specs.declared.{block.Input.Input, block.Trapezoid.Trapezoid}
+use Rattle.fuzzy_meaning.specs.{Blocks.IsValidTerm, Degrees.degree}
 
 -- a trapezoid's points, measured from the low end
 pub record Points : Type 0 where

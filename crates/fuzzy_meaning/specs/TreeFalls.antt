@@ -2,11 +2,9 @@
 -- Beside the promise.
 use Rattle.std.specs.Prelude.{◌≤◌, max}
 use Rattle.std.proofs.Common.{arith}
-use Rattle.fuzzy_meaning.specs.declared.condition.Node.{Node}
+use Rattle.fuzzy_meaning.specs.declared.{condition.Node.Node, condition.Condition.TheDeep.deep-Node}
 use Rattle.fuzzy_meaning.specs.declared.condition.Node.TheVariants.{Is, Not, And, Or}
-use Rattle.fuzzy_meaning.specs.declared.condition.Condition.TheDeep.{deep-Node}
-use Rattle.fuzzy_meaning.specs.Conditions.{nodes}
-use Rattle.fuzzy_meaning.specs.Trees.{tree, most-nodes}
+use Rattle.fuzzy_meaning.specs.{Conditions.nodes, Trees.tree, Trees.most-nodes}
 
 pub parts_are_smaller : (n : Node) → max (deep-Node n) 0 ≤ nodes (tree n)
 parts_are_smaller (Is i t) = omega arith

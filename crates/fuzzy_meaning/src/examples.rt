@@ -1,7 +1,6 @@
 //! Blocks that are valid.
 ghost use Rattle.std.specs.Prelude.{◌≡◌, IfOk, [], ◌∷◌, None};
-ghost use Rattle.fuzzy_meaning.specs.Blocks.{IsValid};
-ghost use Rattle.fuzzy_meaning.specs.Examples.{heater as heater_block, ExamplesAreValid};
+ghost use Rattle.fuzzy_meaning.specs.{Blocks.IsValid, Examples.heater as heater_block, Examples.ExamplesAreValid};
 
 use crate::block::{Block, Input, Output, Rule, Trapezoid};
 use crate::condition::Condition;

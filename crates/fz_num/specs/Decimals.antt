@@ -3,8 +3,7 @@
 use Rattle.std.specs.Prelude.{ℕ, ◌+◌, ◌-◌, ◌*◌, Bool, false, if◌then◌else◌, ◌==◌, nat_lt, nat_le, ◌&&◌, ◌||◌, not, List}
 use Rattle.std.specs.Prelude.{[], ◌∷◌, ◌++◌, length, drop, fold, Result, Ok, Err, ℤ, pos, neg_ℤ, ◌-ℤ◌, unsigned_abs}
 use Rattle.std.specs.List.{list_all, position_or_len, before_first, after_first, slice_index_or}
-use Rattle.fz_num.specs.declared.dec.Dec.{Dec}
-use Rattle.fz_num.specs.declared.dec.DecFault.{DecFault}
+use Rattle.fz_num.specs.declared.{dec.Dec.Dec, dec.DecFault.DecFault}
 use Rattle.fz_num.specs.declared.dec.DecFault.TheVariants.{Shape, Places, Large}
 
 -- how far x stands above lo, in 1/10000

@@ -1,8 +1,7 @@
 -- What the fractions of the code stand for.
 -- Reached by the promise.
 use Rattle.std.specs.Prelude.{◌≡◌, ℕ, ◌*◌, ◌<◌, ◌≤◌, ℤ, pos, ◌-ℤ◌, ◌*ℤ◌, ◌≤ℤ◌, ◌<ℤ◌, unsigned_abs}
-use Rattle.fz_num.specs.Fractions.{Fraction, over}
-use Rattle.fz_num.specs.declared.frac.Frac.{Frac}
+use Rattle.fz_num.specs.{Fractions.Fraction, Fractions.over, declared.frac.Frac.Frac}
 
 -- of a fraction that is not negative
 abbrev pub fraction_of : Frac → Fraction

@@ -1,8 +1,8 @@
 //! Decimals.
 ghost use Rattle.std.specs.Prelude.{◌≡◌, ◌==◌, ◌+◌, ◌≤◌, min, fold, ◌≤ℤ◌, ◌++◌, drop};
 ghost use Rattle.std.specs.List.{list_all, position_or_len, after_first};
-ghost use Rattle.fz_num.specs.Decimals.{is_digit, is_point, are_digits, is_negative, without_sign, next_number, number};
-ghost use Rattle.fz_num.specs.Decimals.{four_places};
+ghost use Rattle.fz_num.specs.Decimals.{is_digit, is_point, are_digits, is_negative, without_sign, next_number};
+ghost use Rattle.fz_num.specs.Decimals.{number, four_places};
 
 /// A decimal with at most four places, kept as a whole number of 1/10000.
 #[derive(Clone, Copy, PartialEq, Eq, PartialOrd, Ord, Debug)]

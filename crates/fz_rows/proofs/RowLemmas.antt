@@ -5,15 +5,13 @@ use Rattle.std.proofs.lemmas.Bool.{false≢true}
 use Rattle.std.proofs.lemmas.List.{map-append}
 use Rattle.std.specs.Prelude.{Option, Some, None, true, false}
 use Rattle.csv.proofs.ReadFacts.{rows-end, rows-more}
-use Rattle.csv.specs.Machine.{Read, next_record}
+use Rattle.csv.specs.{Machine.Read, Machine.next_record, declared.error.ErrorKind.ErrorKind}
 use Rattle.csv.specs.Reading.{ExplainsRead, ReadRecord, Reached, default_config, source_of, strip_bom}
-use Rattle.csv.specs.declared.error.ErrorKind.{ErrorKind}
 use Rattle.csv.specs.declared.error.ErrorKind.TheVariants as kind
 use Rattle.csv.specs.declared.parser.State.{State}
 use Rattle.csv.specs.declared.parser.State.TheVariants as st
 use Rattle.csv.specs.declared.reader.Reader.{Reader}
-use Rattle.fz_rows.specs.FirstRows.{AreFirstRows, Fields, is_want_of_memory}
-use Rattle.fz_rows.specs.Laws.{FirstRowsAreOne}
+use Rattle.fz_rows.specs.{FirstRows.AreFirstRows, FirstRows.Fields, FirstRows.is_want_of_memory, Laws.FirstRowsAreOne}
 
 some_none : {X : Type 0} {o : Option X} {x : X} → o ≡ Some x → o ≡ None → ⊥
 some_none {X} {o} {x} some none = let bad : Some x ≡ None = sym some ∙ none in cc

@@ -1,11 +1,9 @@
 -- The rows of comma-separated text.
 -- Reached by the promise.
 use Rattle.std.specs.Prelude.{◌≡◌, ◌≤◌, ◌⊎◌, ℕ, Bool, true, false, List, [], length, None}
-use Rattle.csv.specs.Machine.{next_record}
-use Rattle.csv.specs.Reading.{Reached, default_config, strip_bom}
-use Rattle.csv.specs.declared.error.ErrorKind.{ErrorKind}
+use Rattle.csv.specs.{Machine.next_record, Reading.Reached, Reading.default_config, Reading.strip_bom}
+use Rattle.csv.specs.declared.{error.ErrorKind.ErrorKind, parser.State.State}
 use Rattle.csv.specs.declared.error.ErrorKind.TheVariants.{Io, OutOfMemory}
-use Rattle.csv.specs.declared.parser.State.{State}
 use Rattle.csv.specs.declared.parser.State.TheVariants as st
 
 -- the fields of a row

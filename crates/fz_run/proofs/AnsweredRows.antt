@@ -8,41 +8,30 @@ use Rattle.std.proofs.lemmas.Bool.{or_parts}
 use Rattle.std.proofs.lemmas.List.Elements.{All-cons}
 use Rattle.fuzzy_meaning.specs.declared.block.Block.{Block}
 use Rattle.cpu12_isa.specs.Regions.{is_free}
-use Rattle.cpu12_parts.specs.State.{State}
-use Rattle.cpu12_parts.specs.Executions.{all_steps}
-use Rattle.cpu12_emul.specs.Image.{image_memory}
-use Rattle.cpu12_emul.specs.Step.{reset_with}
-use Rattle.interrupt_plan.specs.declared.Request.{Request}
-use Rattle.interrupt_plan.specs.Plans.{IsGood}
-use Rattle.codegen.specs.declared.firmware.Firmware.{Firmware}
-use Rattle.eval_code.specs.declared.memory_map.MemoryMap.{MemoryMap}
-use Rattle.eval_code.specs.declared.width.Width.{Width}
-use Rattle.eval_code.specs.MemoryMaps.{main_map}
-use Rattle.eval_code.specs.Widths.{width_of, answer}
+use Rattle.cpu12_parts.specs.{State.State, Executions.all_steps}
+use Rattle.cpu12_emul.specs.{Image.image_memory, Step.reset_with}
+use Rattle.interrupt_plan.specs.{declared.Request.Request, Plans.IsGood}
+use Rattle.codegen.specs.{declared.firmware.Firmware.Firmware, Interruptible.is_idle, Interruptible.IsInterruptible}
+use Rattle.eval_code.specs.declared.{memory_map.MemoryMap.MemoryMap, width.Width.Width}
+use Rattle.eval_code.specs.{MemoryMaps.main_map, Widths.width_of, Widths.answer}
 use Rattle.eval_code.specs.Bounds.{instruction_bound, steps_by, step_bound}
-use Rattle.codegen.specs.Interruptible.{is_idle, IsInterruptible}
 use Rattle.codegen.specs.Answers as answers
-use Rattle.cpu12_isa.specs.declared.instr.Regs.{Regs}
-use Rattle.cpu12_isa.specs.Agreement.{Agree}
+use Rattle.cpu12_isa.specs.{declared.instr.Regs.Regs, Agreement.Agree}
 use Rattle.codegen.specs.Answers.{LeavesMapped, IsArrivedBeside, FirmwareAnswersBeside, ArrivesAlike}
 use Rattle.codegen.specs.Answers.{FirmwareArrivesAlike, IsArrived, AreAnswered, IsAnsweredBeside, AreAnsweredBeside}
-use Rattle.eval_code.specs.Firing.{AreInputBytes}
 use Rattle.codegen.specs.Firmwares.{IsFirmwareOf}
-use Rattle.codegen.specs.Uninterrupted.{Answer, values_in, answers_by, AreUninterrupted}
-use Rattle.codegen.specs.Uninterrupted.{AreAnswersOf}
-use Rattle.run_law.specs.Forms.{RowSeen, rows_from}
-use Rattle.run_law.specs.Uninterrupted.{uninterrupted, counted}
+use Rattle.codegen.specs.Uninterrupted.{Answer, values_in, answers_by, AreUninterrupted, AreAnswersOf}
+use Rattle.eval_code.specs.Firing.{AreInputBytes}
+use Rattle.run_law.specs.{Forms.RowSeen, Forms.rows_from, Uninterrupted.uninterrupted, Uninterrupted.counted}
 use Rattle.run_law.specs.Following.{Completes, AllComplete, AllWithin}
 use Rattle.firmware_ports.specs.Ports.{given, answer_size, answers_in, AnswersAreValues}
-use Rattle.fz_run.specs.Forms.{with_writes}
-use Rattle.run_forms.specs.Rows.{arrival}
-use Rattle.fz_run.specs.Rows.{requests_of, first_state, firmware_rows}
-use Rattle.run_forms.specs.Arrival.{ArrivesPlainly}
-use Rattle.instruction_steps.specs.Facts.{FactsBeside, FactsAlone, WaitsAlone}
-use Rattle.instruction_steps.specs.Instructions.{AreSteps, IsServing}
+use Rattle.fz_run.specs.{Forms.with_writes, Rows.requests_of, Rows.first_state, Rows.firmware_rows}
 use Rattle.fz_run.specs.Following.{row_of_sample, rows_of_samples, IsLow, FollowsAlone, AllWait}
 use Rattle.fz_run.specs.Answering.{answer_of_row, AnswersItsBlock, AnswersUnder, AnswersUnderPlans, RunsBeside}
 use Rattle.fz_run.specs.Answering.{FirmwareRunsBeside, FirstAlike, FirstStatesAlike, FirstStatesAgree}
+use Rattle.run_forms.specs.{Rows.arrival, Arrival.ArrivesPlainly}
+use Rattle.instruction_steps.specs.Facts.{FactsBeside, FactsAlone, WaitsAlone}
+use Rattle.instruction_steps.specs.Instructions.{AreSteps, IsServing}
 use Rattle.fz_run.proofs.UsedLaws.{ExecutionLaws, Laws}
 
 -- a firmware at the memory map that stands alone, with n answers

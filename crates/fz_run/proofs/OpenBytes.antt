@@ -4,17 +4,11 @@ use Rattle.std.proofs.Common.{get_or, refl, ap, sym, ◌∙◌, subst, arith, na
 use Rattle.std.specs.Prelude.{min, ◌&&◌}
 use Rattle.std.proofs.lemmas.Bool.{or_parts}
 use Rattle.cpu12_isa.specs.declared.instr.Regs.{Regs}
-use Rattle.cpu12_isa.specs.Act.{outcome, write_all}
-use Rattle.cpu12_isa.specs.Agreement.{AllShown, IsWritten, WritesStay}
-use Rattle.cpu12_isa.specs.Memory.{plus, placed}
-use Rattle.cpu12_isa.specs.Regions.{is_hidden, LeavesStack}
-use Rattle.cpu12_parts.specs.declared.temps.Temps.{Temps}
+use Rattle.cpu12_isa.specs.{Act.outcome, Act.write_all, Agreement.AllShown, Agreement.IsWritten, Agreement.WritesStay}
+use Rattle.cpu12_isa.specs.{Memory.plus, Memory.placed, Regions.is_hidden, Regions.LeavesStack}
+use Rattle.cpu12_parts.specs.{declared.temps.Temps.Temps, State.State, Sums.sum_bytes, Cuts.suspended, Cuts.wav}
 use Rattle.cpu12_parts.specs.declared.temps.Temps.TheVariants.{Free, Running, OnStack}
-use Rattle.cpu12_parts.specs.State.{State}
-use Rattle.cpu12_parts.specs.Sums.{sum_bytes}
-use Rattle.cpu12_parts.specs.Cuts.{suspended, wav}
-use Rattle.cpu12_parts.specs.Inside.{PushesRunning, PushesNone}
-use Rattle.cpu12_parts.specs.Laws.{IsOff, addresses}
+use Rattle.cpu12_parts.specs.{Inside.PushesRunning, Inside.PushesNone, Laws.IsOff, Laws.addresses}
 use Rattle.cpu12_emul.specs.Step.{Left, Next, step_act, applied, next_of}
 use Rattle.cpu12_emul.specs.Simulation.{OnStackOrNone, Simulates, AreSumsReady, HasRoom, IsShownStep, StepAgrees}
 use Rattle.cpu12_emul.specs.Simulation.{WavrGoesOn}

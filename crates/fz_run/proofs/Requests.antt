@@ -4,12 +4,9 @@ use Rattle.std.proofs.Common.{inl, inr, ◌⊎◌}
 use Rattle.std.specs.Prelude.{All}
 use Rattle.interrupt_plan.specs.declared.Request.{Request}
 use Rattle.interrupt_plan.specs.Plans.{NotAfter, Ascends, IsGoodRequest, IsGood}
-use Rattle.fz_run.specs.Forms.{place_of}
-use Rattle.run_forms.specs.Rows.{is_of}
-use Rattle.fz_run.specs.Rows.{requests_of}
-use Rattle.fz_run.specs.Given.{RequestsAreGood, PlansAreInOrder}
+use Rattle.fz_run.specs.{Forms.place_of, Rows.requests_of, Given.RequestsAreGood, Given.PlansAreInOrder}
+use Rattle.run_forms.specs.{Rows.is_of, Slices.Follow}
 use Rattle.run_law.specs.Soundness.{AllGood, Ascend}
-use Rattle.run_forms.specs.Slices.{Follow}
 use Rattle.run_forms.proofs.Algebra.{one_is, other_is, of_here, of_not}
 
 pub not_after_le : (a b : Request) → NotAfter a b → a.sample ≤ b.sample

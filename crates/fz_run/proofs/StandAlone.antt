@@ -4,19 +4,14 @@ use Rattle.std.proofs.Common.{◌≡◌, ℕ, suc, not, List, [], ◌∷◌, ref
 use Rattle.cpu12_isa.specs.Regions.{is_free, is_hidden}
 use Rattle.cpu12_isa.proofs.Algebra.{agree_self}
 use Rattle.cpu12_parts.specs.State.{State}
-use Rattle.run_law.specs.Forms.{RowSeen}
+use Rattle.run_law.specs.{Forms.RowSeen, Following.AllComplete, Following.expected_rows, Moments.TakenAtOnce}
 use Rattle.run_law.specs.Uninterrupted.{uninterrupted, counted, taken_at, resumed_of, frames_of}
-use Rattle.run_law.specs.Following.{AllComplete, expected_rows}
-use Rattle.run_law.specs.Moments.{TakenAtOnce}
 use Rattle.interrupt_plan.specs.declared.Request.{Request}
 use Rattle.codegen.specs.declared.firmware.Firmware.{Firmware}
 use Rattle.firmware_ports.specs.Ports.{given, answers_in}
-use Rattle.fz_run.specs.Forms.{with_writes}
-use Rattle.fz_run.specs.Rows.{requests_of}
-use Rattle.instruction_steps.specs.Facts.{FactsAlone}
-use Rattle.fz_run.specs.SoundAloneProof.{free_opens}
+use Rattle.fz_run.specs.{Forms.with_writes, Rows.requests_of, SoundAloneProof.free_opens, Given.RequestsAreGood}
 use Rattle.fz_run.specs.Following.{rows_of_samples, RunsFollowAlone, RunsFollowBeside}
-use Rattle.fz_run.specs.Given.{RequestsAreGood}
+use Rattle.instruction_steps.specs.Facts.{FactsAlone}
 
 same_rows : TakenAtOnce → (flags : ℕ) (f : Firmware) (plan : List Request) (k : ℕ) (ns : List ℕ)
     (samples : List (List ℕ)) (s : State)

@@ -1,6 +1,5 @@
 -- The laws on which the answers under plans stand.
-use Rattle.codegen.specs.Answers.{FirmwareAnswers}
-use Rattle.codegen.specs.Uninterrupted.{AnsweredAreUninterrupted}
+use Rattle.codegen.specs.{Answers.FirmwareAnswers, Uninterrupted.AnsweredAreUninterrupted}
 use Rattle.run_forms.specs.Arrival.{ArrivesPlainly}
 use Rattle.fz_run.specs.Following.{RunsFollowAlone}
 use Rattle.firmware_ports.specs.Ports.{AnswersAreValues, GivenIsPut}

@@ -1,30 +1,20 @@
 -- The rows of a block's firmware, by what it answers without interrupts.
 -- Beside the promise.
 use Rattle.std.specs.Prelude.{◌≡◌, ℕ, ◌^◌, ◌<◌, ◌≤◌, Bool, true, List, All, map, slice_index}
-use Rattle.fuzzy_meaning.specs.declared.block.Block.{Block}
-use Rattle.fuzzy_meaning.specs.Blocks.{IsValid}
+use Rattle.fuzzy_meaning.specs.{declared.block.Block.Block, Blocks.IsValid}
 use Rattle.rule_layout.specs.Layouts.{IsWithinLimits}
 use Rattle.cpu12_isa.specs.Agreement.{Agree}
 use Rattle.cpu12_parts.specs.State.{State}
-use Rattle.cpu12_emul.specs.Image.{image_memory}
-use Rattle.cpu12_emul.specs.Simulation.{Same}
-use Rattle.cpu12_emul.specs.Step.{reset_with}
-use Rattle.codegen.specs.Answers.{LeavesMapped}
-use Rattle.interrupt_plan.specs.declared.Request.{Request}
-use Rattle.interrupt_plan.specs.Plans.{IsGood}
-use Rattle.codegen.specs.declared.firmware.Firmware.{Firmware}
-use Rattle.eval_code.specs.Widths.{width_of}
-use Rattle.eval_code.specs.Bounds.{step_bound}
-use Rattle.eval_code.specs.Firing.{AreInputBytes}
-use Rattle.codegen.specs.Firmwares.{IsFirmwareOf}
+use Rattle.cpu12_emul.specs.{Image.image_memory, Simulation.Same, Step.reset_with}
+use Rattle.codegen.specs.{Answers.LeavesMapped, Firmwares.IsFirmwareOf, declared.firmware.Firmware.Firmware}
 use Rattle.codegen.specs.Uninterrupted.{Answer, AreUninterrupted, AreAnswersOf}
-use Rattle.run_law.specs.Forms.{RowSeen}
-use Rattle.run_law.specs.Following.{AllComplete, AllWithin}
-use Rattle.fz_run.specs.Forms.{with_writes}
-use Rattle.run_forms.specs.Rows.{arrival}
-use Rattle.fz_run.specs.Rows.{first_state, firmware_rows}
-use Rattle.instruction_steps.specs.Facts.{FactsBeside, FactsAlone}
+use Rattle.interrupt_plan.specs.{declared.Request.Request, Plans.IsGood}
+use Rattle.eval_code.specs.{Widths.width_of, Bounds.step_bound, Firing.AreInputBytes}
+use Rattle.run_law.specs.{Forms.RowSeen, Following.AllComplete, Following.AllWithin}
+use Rattle.fz_run.specs.{Forms.with_writes, Rows.first_state, Rows.firmware_rows}
 use Rattle.fz_run.specs.Following.{IsLow, rows_of_samples, AllWait, FollowsAlone}
+use Rattle.run_forms.specs.Rows.{arrival}
+use Rattle.instruction_steps.specs.Facts.{FactsBeside, FactsAlone}
 
 -- a row's answers and its number of instructions
 abbrev pub answer_of_row : RowSeen (List ℕ) → Answer

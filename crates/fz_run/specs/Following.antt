@@ -7,12 +7,10 @@ use Rattle.cpu12_emul.specs.Simulation.{OnStackOnly, Same}
 use Rattle.run_law.specs.Forms.{RowSeen, Rows, rows_from}
 use Rattle.run_law.specs.Uninterrupted.{uninterrupted, counted, resumed_of, frames_of}
 use Rattle.run_law.specs.Following.{AllComplete, AllWithin, RowsSimulate, last_uninterrupted, RunsFollow}
-use Rattle.interrupt_plan.specs.declared.Request.{Request}
-use Rattle.interrupt_plan.specs.Plans.{IsGoodRequest, IsGood}
+use Rattle.interrupt_plan.specs.{declared.Request.Request, Plans.IsGoodRequest, Plans.IsGood}
 use Rattle.codegen.specs.declared.firmware.Firmware.{Firmware}
 use Rattle.firmware_ports.specs.Ports.{given, answer_size, answers_in}
-use Rattle.fz_run.specs.Forms.{with_writes}
-use Rattle.fz_run.specs.Rows.{requests_of}
+use Rattle.fz_run.specs.{Forms.with_writes, Rows.requests_of}
 use Rattle.instruction_steps.specs.Facts.{FactsBeside, FactsAlone, WaitsAlone}
 
 -- what the row of a sample is to be that is answered in n steps without interrupts: each request is taken at its moment

@@ -1,11 +1,9 @@
 -- How the requests of a sample are given.
 -- Beside the promise.
 use Rattle.std.specs.Prelude.{ℕ, List}
-use Rattle.interrupt_plan.specs.declared.Request.{Request}
-use Rattle.interrupt_plan.specs.Plans.{IsGoodRequest, IsGood}
+use Rattle.interrupt_plan.specs.{declared.Request.Request, Plans.IsGoodRequest, Plans.IsGood}
 use Rattle.run_law.specs.Soundness.{AllGood, Ascend}
-use Rattle.fz_run.specs.Forms.{place_of}
-use Rattle.fz_run.specs.Rows.{requests_of}
+use Rattle.fz_run.specs.{Forms.place_of, Rows.requests_of}
 use Rattle.run_forms.specs.Slices.{IsInOrder}
 
 -- The requests of a sample of a good plan are good, and their moments ascend.

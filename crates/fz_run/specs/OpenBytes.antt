@@ -2,8 +2,7 @@
 -- Beside the promise.
 use Rattle.std.specs.Prelude.{◌≡◌, ℕ, ◌+◌, ◌<◌, ◌≤◌, Bool, true, false, List, length, slice_index}
 use Rattle.cpu12_isa.specs.Regions.{LeavesStack}
-use Rattle.cpu12_parts.specs.State.{State}
-use Rattle.cpu12_parts.specs.Cuts.{suspended, wav}
+use Rattle.cpu12_parts.specs.{State.State, Cuts.suspended, Cuts.wav}
 use Rattle.cpu12_emul.specs.Simulation.{OnStackOrNone, Simulates}
 use Rattle.run_law.specs.Uninterrupted.{stepped}
 use Rattle.eval_code.specs.declared.memory_map.MemoryMap.{MemoryMap}

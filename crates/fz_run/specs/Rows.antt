@@ -7,9 +7,7 @@ use Rattle.interrupt_plan.specs.declared.Request.{Request}
 use Rattle.trace_io.specs.declared.sample.Sample.{Sample}
 use Rattle.codegen.specs.declared.firmware.Firmware.{Firmware}
 use Rattle.run_forms.specs.declared.sample.Room.{Room}
-use Rattle.run_forms.specs.Rooms.{room_notes}
-use Rattle.run_forms.specs.Forms.{Harness}
-use Rattle.run_forms.specs.Rows.{of_sample, frames_seen, arrived_at}
+use Rattle.run_forms.specs.{Rooms.room_notes, Forms.Harness, Rows.of_sample, Rows.frames_seen, Rows.arrived_at}
 use Rattle.fz_run.specs.declared.rows.Row as declared
 use Rattle.fz_run.specs.Forms.{place_of, listed_writes, with_writes}
 

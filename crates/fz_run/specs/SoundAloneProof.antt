@@ -6,21 +6,17 @@ use Rattle.std.proofs.Common.{ap₂, arith, inl, nat_lt, nat_le}
 use Rattle.std.specs.Prelude.{All, ◌==◌, ◌&&◌}
 use Rattle.std.proofs.lemmas.Bool.{and_parts, ltb-true}
 use Rattle.std.proofs.lemmas.Bool.Decides.{nat_tests}
-use Rattle.cpu12_isa.specs.declared.instr.Regs.{Regs}
-use Rattle.cpu12_isa.specs.declared.instr.Write.{Write}
-use Rattle.cpu12_isa.specs.Agreement.{Agree, WritesAgree}
-use Rattle.cpu12_isa.specs.Memory.{plus, placed, word_of}
+use Rattle.cpu12_isa.specs.declared.{instr.Regs.Regs, instr.Write.Write}
+use Rattle.cpu12_isa.specs.{Agreement.Agree, Agreement.WritesAgree, Memory.plus, Memory.placed, Memory.word_of}
 use Rattle.cpu12_isa.specs.Regions.{free_start, stack_start, is_free, is_hidden, LeavesStack}
 use Rattle.cpu12_parts.specs.State.{State}
 use Rattle.cpu12_emul.specs.Simulation.{AreOpen, OnStackOnly, Same}
 use Rattle.run_law.specs.Soundness.{Sound, WritesAreQuiet}
 use Rattle.interrupt_plan.specs.Plans.{IsGoodRequest}
-use Rattle.codegen.specs.declared.firmware.Firmware.{Firmware}
-use Rattle.codegen.specs.Interruptible.{is_idle}
+use Rattle.codegen.specs.{declared.firmware.Firmware.Firmware, Interruptible.is_idle}
 use Rattle.firmware_ports.specs.Ports.{given, answer_size, answer_at, answers_at, answers_in}
-use Rattle.fz_run.specs.Forms.{with_writes}
+use Rattle.fz_run.specs.{Forms.with_writes, Following.IsLow, Following.OpensFree, Following.Nothing}
 use Rattle.instruction_steps.specs.Facts.{FactsBeside}
-use Rattle.fz_run.specs.Following.{IsLow, OpensFree, Nothing}
 
 pub leaves_stack : LeavesStack is_free
 leaves_stack at h =

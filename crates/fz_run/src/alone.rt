@@ -3,10 +3,8 @@ ghost use Rattle.std.specs.Prelude.{ℕ, List};
 ghost use Rattle.cpu12_emul.specs.Simulation.{OnStackOnly};
 ghost use Rattle.interrupt_plan.specs.Plans.{IsGoodRequest};
 ghost use Rattle.interrupt_plan.specs.declared.Request as plan;
-ghost use Rattle.fz_run.specs.Forms.{with_writes};
+ghost use Rattle.fz_run.specs.{Forms.with_writes, Following.Alone, Following.Nothing, SoundAloneProof.sound};
 ghost use Rattle.instruction_steps.specs.Facts.{FactsBeside};
-ghost use Rattle.fz_run.specs.Following.{Alone, Nothing};
-ghost use Rattle.fz_run.specs.SoundAloneProof.{sound};
 
 use run_law::laws::SoundForm;
 

@@ -1,8 +1,7 @@
 //! The form of a firmware that stands alone.
 ghost use Rattle.std.specs.Prelude.{ℕ, ◌≡◌, ◌<◌, ◌≤◌, Some, List, length, slice_get};
 ghost use Rattle.run_law.specs.Forms.{RowSeen};
-ghost use Rattle.run_forms.specs.Rest.{counted_at, shown_by};
-ghost use Rattle.run_forms.specs.Rooms.{Fits};
+ghost use Rattle.run_forms.specs.{Rest.counted_at, Rest.shown_by, Rooms.Fits};
 ghost use Rattle.fz_run.specs.Rows.{writes_harness};
 
 use crate::rows::{Row, row_of};

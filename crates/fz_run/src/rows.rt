@@ -2,8 +2,7 @@
 ghost use Rattle.std.specs.Prelude.{ℕ, ◌≡◌, ◌≤◌, length, map, IfOk};
 ghost use Rattle.interrupt_plan.specs.Plans.{IsGood};
 ghost use Rattle.run_forms.specs.Rows.{frames_seen};
-ghost use Rattle.fz_run.specs.Rows.{row_seen, input_bytes, firmware_rows};
-ghost use Rattle.fz_run.specs.Answering.{AnswersItsBlock};
+ghost use Rattle.fz_run.specs.{Rows.row_seen, Rows.input_bytes, Rows.firmware_rows, Answering.AnswersItsBlock};
 
 use crate::laws::answers_under_plans;
 use crate::session::Session;

@@ -7,9 +7,8 @@ use Rattle.std.proofs.lemmas.Bool.Decides.{nat_tests}
 use Rattle.std.proofs.lemmas.List.Quantifiers.{position-Some}
 use Rattle.std.specs.Str.{bytes_eq}
 use Rattle.std.proofs.lemmas.Slice.Eq.{bytes_eq-Decides}
-use Rattle.fz_shelf.specs.Files.{File, absent}
+use Rattle.fz_shelf.specs.{Files.File, Files.absent, declared.mem_shelf.MemFile.MemFile}
 use Rattle.fz_shelf.specs.MemFiles.{file_of, file_in, is_named, IsPlace}
-use Rattle.fz_shelf.specs.declared.mem_shelf.MemFile.{MemFile}
 
 pub bool_cases : (b : Bool) → (b ≡ true) ⊎ (b ≡ false)
 bool_cases true = inl refl

@@ -1,8 +1,7 @@
 -- What a shelf and a sink in memory are told to do.
 -- Beside the promise.
 use Rattle.std.specs.Prelude.{◌≡◌, ℕ, List}
-use Rattle.fz_shelf.specs.declared.mem_shelf.MemShelf.{MemShelf}
-use Rattle.fz_shelf.specs.declared.mem_sink.MemSink.{MemSink}
+use Rattle.fz_shelf.specs.declared.{mem_shelf.MemShelf.MemShelf, mem_sink.MemSink.MemSink}
 
 -- the numbers of the reads that fail
 abbrev pub failing_reads_of : MemShelf → List ℕ

@@ -2,10 +2,8 @@
 -- Reached by the promise.
 use Rattle.std.specs.Prelude.{ℕ, List, [], ◌∷◌, ◌++◌, map, Result, Ok, Err}
 use Rattle.std.specs.String.{string_bytes}
-use Rattle.fz_shelf.specs.declared.log.Answer.{Answer}
+use Rattle.fz_shelf.specs.declared.{log.Answer.Answer, log.Asked.Asked, errors.ReadError.ReadError}
 use Rattle.fz_shelf.specs.declared.log.Answer.TheVariants.{Whole, Missed, Long}
-use Rattle.fz_shelf.specs.declared.log.Asked.{Asked}
-use Rattle.fz_shelf.specs.declared.errors.ReadError.{ReadError}
 use Rattle.fz_shelf.specs.declared.errors.ReadError.TheVariants as error
 
 abbrev pub Log : Type 0

@@ -3,8 +3,7 @@
 use Rattle.std.specs.Prelude.{◌≡◌, ◌≢◌, ◌<◌, ℕ, List, [], ◌∷◌, length, if◌then◌else◌, Bool, slice_set}
 use Rattle.std.specs.List.{slice_index_or}
 use Rattle.std.specs.Str.{bytes_eq}
-use Rattle.fz_shelf.specs.Files.{File, absent, known}
-use Rattle.fz_shelf.specs.declared.mem_shelf.MemFile.{MemFile}
+use Rattle.fz_shelf.specs.{Files.File, Files.absent, Files.known, declared.mem_shelf.MemFile.MemFile}
 
 abbrev pub file_of : MemFile → File
 file_of f = known f.bytes f.room

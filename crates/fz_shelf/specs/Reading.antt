@@ -2,8 +2,7 @@
 -- Reached by the promise.
 use Rattle.std.specs.Prelude.{◌≡◌, ◌≤◌, ℕ, List, length, Result, Ok, Err}
 use Rattle.fz_shelf.specs.Faults.{Rose, faults_after, one_fault_more}
-use Rattle.fz_shelf.specs.Files.{File, Holds, IsLong}
-use Rattle.fz_shelf.specs.declared.errors.ReadError.{ReadError}
+use Rattle.fz_shelf.specs.{Files.File, Files.Holds, Files.IsLong, declared.errors.ReadError.ReadError}
 use Rattle.fz_shelf.specs.declared.errors.ReadError.TheVariants as error
 
 -- how many reads failed, how many files were too long, how many writes failed

@@ -1,8 +1,7 @@
 //! A shelf of real files, which tells nothing of them.
 ghost use Rattle.std.specs.Prelude.{◌≡◌, ◌≤◌, ◌<◌, [], length, IfSome, IsErrOf, OnOk, vec_len, vec_capacity};
 ghost use Rattle.std.specs.Prelude.{string_bytes};
-ghost use Rattle.fz_shelf.specs.Files.{untold};
-ghost use Rattle.fz_shelf.specs.Log.{asked_of, asked_after};
+ghost use Rattle.fz_shelf.specs.{Files.untold, Log.asked_of, Log.asked_after};
 
 use crate::log::{entry_for, record};
 use crate::{Answer, Asked, Failed, MOST_BYTES, ReadError, Shelf};

@@ -2,9 +2,8 @@
 ghost use Rattle.std.specs.Prelude.{◌≡◌, ◌≢◌, ◌⊎◌, ◌↔◌, ◌≤◌, ◌<◌, [], ℕ, List, length, IfOk, IsErr, IsErrOf, IsOk};
 ghost use Rattle.std.specs.Prelude.{IsTrue, MatchOption, OnOk, false, position};
 ghost use Rattle.std.specs.List.{All};
-ghost use Rattle.fz_shelf.specs.Calls.{IsListed, one_more};
+ghost use Rattle.fz_shelf.specs.{Calls.IsListed, Calls.one_more, Log.asked_after, Log.asked_of};
 ghost use Rattle.fz_shelf.specs.Files.{Fits, IsThere, Written, absent};
-ghost use Rattle.fz_shelf.specs.Log.{asked_after, asked_of};
 ghost use Rattle.fz_shelf.specs.Reading.{ReadCounts, ReadTells, WriteCounts, counts_after_read, counts_after_write};
 ghost use Rattle.fz_shelf.specs.MemFiles.{file_in, is_named, IsPlace};
 

@@ -2,8 +2,7 @@
 ghost use Rattle.std.specs.Prelude.{◌≡◌, ◌≤◌, ◌+◌, [], Some, IfOk, IsErr, IsOk, length, max, min, option_map, vec_len};
 ghost use Rattle.std.specs.Prelude.{vec_capacity};
 ghost use Rattle.std.specs.List.{All};
-ghost use Rattle.fz_shelf.specs.Calls.{IsListed, one_more};
-ghost use Rattle.fz_shelf.specs.Faults.{HasCause, faults_after};
+ghost use Rattle.fz_shelf.specs.{Calls.IsListed, Calls.one_more, Faults.HasCause, Faults.faults_after};
 ghost use Rattle.fz_shelf.specs.Told.{after_put, HasRoom, IsPart, IsWithinRoom};
 
 use crate::mem_shelf::is_listed;

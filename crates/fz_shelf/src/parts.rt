@@ -1,8 +1,7 @@
 //! Texts with numbers in them, put without taking memory.
 ghost use Rattle.std.specs.Prelude.{◌≡◌, ◌/◌, ◌%◌, [], ◌∷◌, length, OnOk, IsOk};
 ghost use Rattle.hex.specs.Hex.{encode_upper};
-ghost use Rattle.fz_shelf.specs.Faults.{HasCause};
-ghost use Rattle.fz_shelf.specs.Told.{gained, GainedPart, HasRoom};
+ghost use Rattle.fz_shelf.specs.{Faults.HasCause, Told.gained, Told.GainedPart, Told.HasRoom};
 ghost use Rattle.fz_shelf.specs.Parts.{address_digits, behind_blank, byte_digits, part_text, parts_text};
 ghost use Rattle.std.specs.List.{flat_map};
 

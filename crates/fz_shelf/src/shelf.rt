@@ -1,7 +1,6 @@
 //! Files by name.
 ghost use Rattle.std.specs.Prelude.{◌≡◌, ◌≢◌, [], ℕ, List, length, OnOk, IsOk, IsErrOf};
-ghost use Rattle.fz_shelf.specs.Files.{Names, IsThere, Fits, Written};
-ghost use Rattle.fz_shelf.specs.Log.{Log, asked_after};
+ghost use Rattle.fz_shelf.specs.{Files.Names, Files.IsThere, Files.Fits, Files.Written, Log.Log, Log.asked_after};
 ghost use Rattle.fz_shelf.specs.Reading.{Counts, ReadTells, ReadCounts, WriteCounts};
 
 use crate::{Failed, ReadError};

@@ -1,8 +1,7 @@
 //! Standard output and standard error as sinks.
 ghost use Rattle.std.specs.Prelude.{◌≡◌, IfOk, IsOk, None, length};
 ghost use Rattle.std.specs.Io.KnownBytes.{WriteAppends};
-ghost use Rattle.fz_shelf.specs.Faults.{HasCause};
-ghost use Rattle.fz_shelf.specs.Told.{after_put, HasRoom, IsPart, IsWithinRoom};
+ghost use Rattle.fz_shelf.specs.{Faults.HasCause, Told.after_put, Told.HasRoom, Told.IsPart, Told.IsWithinRoom};
 
 use crate::{Failed, Sink};
 use std::io::Write;

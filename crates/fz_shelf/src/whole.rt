@@ -1,8 +1,6 @@
 //! Whole texts into a sink that takes prefixes.
 ghost use Rattle.std.specs.Prelude.{◌≡◌, length, OnOk, OnErr, IsOk};
-ghost use Rattle.fz_shelf.specs.Faults.{HasCause};
-ghost use Rattle.fz_shelf.specs.Told.{gained, GainedPart, HasRoom};
-ghost use Rattle.fz_shelf.specs.Lines.{text_of};
+ghost use Rattle.fz_shelf.specs.{Faults.HasCause, Told.gained, Told.GainedPart, Told.HasRoom, Lines.text_of};
 
 use crate::{Failed, Sink};
 

@@ -2,8 +2,7 @@
 use Rattle.std.proofs.Common.{◌≡◌, ◌≤◌, ◌++◌, ℕ, List, length, refl, sym, ◌∙◌, ap, ap₂, subst, arith, length-append}
 use Rattle.std.proofs.Common.{append_assoc}
 use Rattle.std.specs.Prelude.{Option, Some, None, Result, Ok, Err, IsErr, OnErr, OnOk}
-use Rattle.fz_shelf.specs.Faults.{Rose}
-use Rattle.fz_shelf.specs.Told.{Taken, gained, HasRoom}
+use Rattle.fz_shelf.specs.{Faults.Rose, Told.Taken, Told.gained, Told.HasRoom}
 use Rattle.fz_status.specs.Errors.{Puts}
 
 gained_behind : (t : Option Taken) (front text : List ℕ) → gained (gained t front) text ≡ gained t (front ++ text)

@@ -29,8 +29,7 @@ use Rattle.srecord.specs.declared.fault.SrecFault.{SrecFault}
 use Rattle.srecord.specs.declared.fault.SrecFault.TheVariants as srec
 use Rattle.trace_io.specs.declared.sample.TraceFault.{TraceFault}
 use Rattle.trace_io.specs.declared.sample.TraceFault.TheVariants as trace
-use Rattle.fz_status.specs.Words.{Text}
-use Rattle.fz_status.specs.declared.status.CertRefusal.{CertRefusal}
+use Rattle.fz_status.specs.{Words.Text, declared.status.CertRefusal.CertRefusal}
 use Rattle.fz_status.specs.declared.status.CertRefusal.TheVariants as refusal
 use Rattle.fz_status.specs.declared.status.FastFault.{FastFault}
 use Rattle.fz_status.specs.declared.status.FastFault.TheVariants as fast

@@ -1,9 +1,8 @@
 //! The one line on err, put in parts that take no memory.
 ghost use Rattle.std.specs.Prelude.{◌≡◌, ◌++◌, length};
 ghost use Rattle.fz_shelf.specs.Told.{gained, HasRoom};
-ghost use Rattle.fz_status.specs.Words.{texts_of};
+ghost use Rattle.fz_status.specs.{Words.texts_of, FaultLines.with_name};
 ghost use Rattle.fz_status.specs.Errors.{Puts, Complains, error_line_of};
-ghost use Rattle.fz_status.specs.FaultLines.{with_name};
 
 use crate::Status;
 use crate::fault_lines::{

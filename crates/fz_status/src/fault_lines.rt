@@ -3,11 +3,10 @@ ghost use Rattle.std.specs.Prelude.{◌≡◌, ◌++◌};
 ghost use Rattle.fz_shelf.specs.Parts.{part_text, parts_text};
 ghost use Rattle.fz_status.specs.Errors.{Puts};
 ghost use Rattle.fz_status.specs.FaultLines.{asm_line, at_address, at_addresses, byte_or_none, cert_line, check_line};
-ghost use Rattle.fz_status.specs.FaultLines.{fast_line, fcl_line};
-ghost use Rattle.fz_status.specs.FaultLines.{handler_line, image_line, layout_line, leaf_line, load_kind, load_line};
-ghost use Rattle.fz_status.specs.FaultLines.{newline, not_reached_line};
-ghost use Rattle.fz_status.specs.FaultLines.{plan_line, records_line, row_at, syntax_line, text_line, trace_line};
-ghost use Rattle.fz_status.specs.FaultLines.{upset_line, usual_line, with_number, with_two};
+ghost use Rattle.fz_status.specs.FaultLines.{fast_line, fcl_line, handler_line, image_line, layout_line, leaf_line};
+ghost use Rattle.fz_status.specs.FaultLines.{load_kind, load_line, newline, not_reached_line, plan_line};
+ghost use Rattle.fz_status.specs.FaultLines.{records_line, row_at, syntax_line, text_line, trace_line, upset_line};
+ghost use Rattle.fz_status.specs.FaultLines.{usual_line, with_number, with_two};
 
 use crate::{CertRefusal, FastFault, FclFault, ImageFault};
 use box_tree::CertFault;

@@ -1,16 +1,13 @@
 -- Contents that commands accept make an output.
 use Rattle.std.proofs.Common.{◌<◌, ◌^◌, ℕ, List}
-use Rattle.build_commands.specs.Accepted.{AcceptedContentsMakeOutput}
-use Rattle.build_commands.specs.Contents.{content_at}
+use Rattle.build_commands.specs.{Accepted.AcceptedContentsMakeOutput, Contents.content_at}
 use Rattle.run_commands.specs.Debug.{AcceptedDebugRunsMakeOutput, debug_files}
-use Rattle.run_commands.specs.Generate.{AcceptedNumbersMakeOutput}
-use Rattle.run_commands.specs.Run.{AcceptedRunsMakeOutput, files_in}
+use Rattle.run_commands.specs.{Generate.AcceptedNumbersMakeOutput, Run.AcceptedRunsMakeOutput, Run.files_in}
 use Rattle.form_commands.specs.Hrun.{AcceptedHandledRunsMakeOutput, handled_files}
 use Rattle.form_commands.specs.Lrun.{AcceptedLevelRunsMakeOutput, level_files}
 use Rattle.form_commands.specs.Mrun.{AcceptedPostedRunsMakeOutput, posted_files}
 use Rattle.form_commands.specs.Srun.{AcceptedWatchedRunsMakeOutput, watched_files}
-use Rattle.fz_top.specs.Accepted.{AcceptedCommandsMakeOutput, Accepts}
-use Rattle.fz_top.specs.Commands.{Makes}
+use Rattle.fz_top.specs.{Accepted.AcceptedCommandsMakeOutput, Accepted.Accepts, Commands.Makes}
 use Rattle.fz_top.specs.declared.command.Command.TheVariants as command
 
 module _ (contents_make : AcceptedContentsMakeOutput) (debug_runs : AcceptedDebugRunsMakeOutput)

@@ -5,22 +5,17 @@ use Rattle.box_tree.specs.declared.cert.CertKind.{CertKind}
 use Rattle.eval_code.specs.declared.width.Width.{Width}
 use Rattle.fz_words.specs.Table.{any_hyphen}
 use Rattle.fz_status.specs.Words.{Text}
-use Rattle.run_commands.specs.CertifiedRun.{Files}
-use Rattle.run_commands.specs.Run.{RunAccepts, run_inputs, run_with}
-use Rattle.fz_shelf.specs.Files.{Names}
-use Rattle.fz_shelf.specs.Told.{Taken}
+use Rattle.run_commands.specs.{CertifiedRun.Files, Run.RunAccepts, Run.run_inputs, Run.run_with}
+use Rattle.fz_shelf.specs.{Files.Names, Told.Taken}
 use Rattle.build_commands.specs.SeenOutputs.{SeenOutput}
-use Rattle.fz_top.specs.Accepted.{Accepts}
-use Rattle.fz_top.specs.Commands.{Makes, command_in, form_of, inputs_of}
-use Rattle.fz_top.specs.Reads.{names_at}
-use Rattle.fz_top.specs.Runs.{AreKnown, CanBeDone, FileFits, RoomFor}
+use Rattle.fz_top.specs.{Accepted.Accepts, Commands.Makes, Commands.command_in, Commands.form_of, Commands.inputs_of}
+use Rattle.fz_top.specs.{Reads.names_at, Runs.AreKnown, Runs.CanBeDone, Runs.FileFits, Runs.RoomFor}
 use Rattle.fz_top.specs.declared.command.Command.{Command}
 use Rattle.fz_top.specs.declared.command.Command.TheVariants as command
 use Rattle.fz_top.specs.declared.command.Name.TheVariants as name
 use Rattle.fz_top.proofs.KeepsLemmas.{command_if, form_is, looked_up}
 use Rattle.fz_top.specs.Keeping.{AreRunWords, AreTold, HasRoomForLines, run_name}
-use Rattle.promise.specs.Laws.{CertifiedRunsKeepPromise}
-use Rattle.promise.specs.Promise.{Promise}
+use Rattle.promise.specs.{Laws.CertifiedRunsKeepPromise, Promise.Promise}
 
 -- ---- the words
 

@@ -1,12 +1,8 @@
 -- A fault that is made is no want of memory.
 use Rattle.std.proofs.Common.{ℕ, List}
 use Rattle.std.specs.Prelude.{Err}
-use Rattle.fz_status.specs.Refusals.{CarriesNoMemory}
-use Rattle.fz_status.specs.Words.{Text}
-use Rattle.fz_status.specs.declared.status.Status.{Status}
-use Rattle.fz_top.specs.Commands.{Makes}
-use Rattle.fz_top.specs.Runs.{Runs, World}
-use Rattle.fz_top.specs.declared.command.Command.{Command}
+use Rattle.fz_status.specs.{Refusals.CarriesNoMemory, Words.Text, declared.status.Status.Status}
+use Rattle.fz_top.specs.{Commands.Makes, Runs.Runs, Runs.World, declared.command.Command.Command}
 use Rattle.fz_top.specs.declared.command.Command.TheVariants as command
 use Rattle.fz_top.proofs.StatusLemmas.{Kind, done, failed_read, failed_write, kind_of, long_read, no_command}
 use Rattle.fz_top.proofs.StatusLemmas.{no_memory, of_contents}

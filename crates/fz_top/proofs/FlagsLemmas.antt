@@ -6,25 +6,15 @@ use Rattle.std.proofs.lemmas.Bool.Decides.{nat_tests}
 use Rattle.hex.specs.Hex.{decode_pairs, digit_or_error, hex_digit_value, pair_value, ◌>>=◌}
 use Rattle.hex.specs.declared.error.FromHexError.{FromHexError}
 use Rattle.fz_status.specs.Words.{Text, word_at}
-use Rattle.build_commands.specs.Certify.{certify_in}
-use Rattle.build_commands.specs.Check.{check_in}
-use Rattle.build_commands.specs.Compile.{compile_in}
-use Rattle.build_commands.specs.Exec.{exec_in}
+use Rattle.build_commands.specs.{Certify.certify_in, Check.check_in, Compile.compile_in, Exec.exec_in}
 use Rattle.build_commands.specs.Words.{flags_of, only_byte}
-use Rattle.run_commands.specs.Debug.{debug_with}
-use Rattle.run_commands.specs.Generate.{generate_in}
-use Rattle.run_commands.specs.Run.{run_with}
-use Rattle.form_commands.specs.Hrun.{hrun_with}
-use Rattle.form_commands.specs.Lrun.{lrun_with}
-use Rattle.form_commands.specs.Mrun.{mrun_with}
-use Rattle.form_commands.specs.Srun.{srun_with}
-use Rattle.fz_top.specs.Accepted.{run_flags}
-use Rattle.fz_top.specs.Commands.{command_in, form_of, name_in}
-use Rattle.fz_top.specs.declared.command.Command.{Command}
+use Rattle.run_commands.specs.{Debug.debug_with, Generate.generate_in, Run.run_with}
+use Rattle.form_commands.specs.{Hrun.hrun_with, Lrun.lrun_with, Mrun.mrun_with, Srun.srun_with}
+use Rattle.fz_top.specs.{Accepted.run_flags, Commands.command_in, Commands.form_of, Commands.name_in}
+use Rattle.fz_top.specs.declared.{command.Command.Command, command.Name.Name}
 use Rattle.fz_top.specs.declared.command.Command.TheVariants.{Asm, Certify, Check, Compile, Debug, Exec, Generate}
-use Rattle.fz_top.specs.declared.command.Command.TheVariants.{Hcheck, Hrun, Lcompile, Lrun, Mcompile, Mrun}
-use Rattle.fz_top.specs.declared.command.Command.TheVariants.{Run, Scompile, Srun}
-use Rattle.fz_top.specs.declared.command.Name.{Name}
+use Rattle.fz_top.specs.declared.command.Command.TheVariants.{Hcheck, Hrun, Lcompile, Lrun, Mcompile, Mrun, Run}
+use Rattle.fz_top.specs.declared.command.Command.TheVariants.{Scompile, Srun}
 use Rattle.fz_top.specs.declared.command.Name.TheVariants as name
 
 digit_small : (c v : ℕ) → hex_digit_value c ≡ Some v → v < 16

@@ -4,26 +4,20 @@ use Rattle.std.specs.Prelude.{Bool, true, false, if◌then◌else◌, Option, So
 use Rattle.std.specs.Prelude.{Ok, ◌==◌}
 use Rattle.fz_shelf.specs.Files.{Names}
 use Rattle.fz_words.specs.Table.{Row, any_hyphen, row}
-use Rattle.fz_status.specs.Words.{Text, word_at}
-use Rattle.fz_status.specs.declared.status.Status.{Status}
+use Rattle.fz_status.specs.{Words.Text, Words.word_at, declared.status.Status.Status}
 use Rattle.fz_status.specs.declared.status.Status.TheVariants as status
 use Rattle.box_tree.specs.declared.cert.CertKind.{CertKind}
 use Rattle.box_tree.specs.declared.cert.CertKind.TheVariants.{Named, Tight}
-use Rattle.eval_code.specs.declared.width.Width.{Width}
-use Rattle.eval_code.specs.declared.width.Width.TheVariants.{Byte, Word}
+use Rattle.eval_code.specs.declared.{width.Width.Width, width.Width.TheVariants.Byte, width.Width.TheVariants.Word}
 use Rattle.build_commands.specs.SeenOutputs.{SeenOutput}
 use Rattle.run_commands.specs.Run.{RunGives, files_in, run_inputs, run_with}
 use Rattle.fz_top.specs.Commands.{Makes, command_in, form_of, inputs_of, table}
-use Rattle.fz_top.specs.Reads.{AreHeld, names_at}
-use Rattle.fz_top.specs.Runs.{Delivered, Runs, World}
-use Rattle.fz_top.specs.declared.command.Command.{Command}
-use Rattle.fz_top.specs.declared.command.Command.TheVariants.{Run}
-use Rattle.fz_top.specs.declared.command.Name.{Name}
+use Rattle.fz_top.specs.{Reads.AreHeld, Reads.names_at, Runs.Delivered, Runs.Runs, Runs.World}
+use Rattle.fz_top.specs.declared.{command.Command.Command, command.Command.TheVariants.Run, command.Name.Name}
 use Rattle.fz_top.specs.declared.command.Name.TheVariants as name
 use Rattle.fz_top.proofs.FlagsLemmas.{flags_small}
 use Rattle.fz_top.specs.Keeping.{AreOf, IsRun, KeepsPromise, OkKeepsPromise, run_name}
-use Rattle.promise.specs.Laws.{CertifiedRunsKeepPromise}
-use Rattle.promise.specs.Promise.{Promise}
+use Rattle.promise.specs.{Laws.CertifiedRunsKeepPromise, Promise.Promise}
 
 -- ---- the words
 

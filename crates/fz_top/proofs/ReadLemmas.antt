@@ -5,10 +5,7 @@ use Rattle.std.proofs.Math.Seq.{take-suc}
 use Rattle.std.proofs.lemmas.List.{map-append}
 use Rattle.std.specs.List.{All}
 use Rattle.fz_shelf.specs.Files.{Names, Holds, IsThere, IsLong}
-use Rattle.fz_shelf.specs.Log.{Log}
-use Rattle.fz_shelf.specs.Reading.{Counts}
-use Rattle.fz_shelf.specs.Faults.{Rose}
-use Rattle.fz_shelf.specs.declared.log.Answer.{Answer}
+use Rattle.fz_shelf.specs.{Log.Log, Reading.Counts, Faults.Rose, declared.log.Answer.Answer}
 use Rattle.fz_shelf.specs.declared.log.Answer.TheVariants.{Whole, Missed, Long}
 use Rattle.std.specs.declared.alloc.Global.{Global}
 use Rattle.std.specs.declared.vec.Vec.{Vec}

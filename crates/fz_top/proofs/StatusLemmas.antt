@@ -1,13 +1,11 @@
 -- Statuses by what they tell: a fault of contents, or one of the rest.
 use Rattle.std.proofs.Common.{ℕ, List}
 use Rattle.std.specs.Prelude.{Err}
-use Rattle.fz_status.specs.Words.{Text}
-use Rattle.fz_status.specs.declared.status.Status.{Status}
+use Rattle.fz_status.specs.{Words.Text, declared.status.Status.Status}
 use Rattle.fz_status.specs.declared.status.Status.TheVariants as status
-use Rattle.fz_top.specs.Commands.{Makes}
-use Rattle.build_commands.specs.SeenOutputs.{IsFaultOf}
-use Rattle.fz_top.specs.Runs.{Faulted, IsReadFault, IsWriteFault, Runs, World}
+use Rattle.fz_top.specs.{Commands.Makes, Runs.Faulted, Runs.IsReadFault, Runs.IsWriteFault, Runs.Runs, Runs.World}
 use Rattle.fz_top.specs.declared.command.Command.{Command}
+use Rattle.build_commands.specs.SeenOutputs.{IsFaultOf}
 
 -- the status tells a fault of the contents
 pub record IsOfContents (s : Status) : Type 0 where

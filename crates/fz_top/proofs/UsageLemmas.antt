@@ -2,11 +2,9 @@
 use Rattle.std.proofs.Common.{◌≡◌, inl, inr, List, refl, sym, ◌∙◌, ap}
 use Rattle.std.specs.Prelude.{Option, Some, None, option_and_then}
 use Rattle.fz_words.specs.App.{IsRefused}
-use Rattle.fz_top.specs.Commands.{name_in, table}
-use Rattle.fz_top.specs.declared.command.Name.{Name}
+use Rattle.fz_top.specs.Commands.{name_in, table, command_in, form_of, IsUsage}
+use Rattle.fz_top.specs.declared.{command.Name.Name, command.Command.Command}
 use Rattle.fz_status.specs.Words.{Text}
-use Rattle.fz_top.specs.Commands.{command_in, form_of, IsUsage}
-use Rattle.fz_top.specs.declared.command.Command.{Command}
 
 module _ (words : List Text)
     (law : (name_in words ≡ None → IsRefused table words) × (IsRefused table words → name_in words ≡ None)) where

@@ -1,29 +1,18 @@
 -- The contents that commands accept.
 -- Beside the promise.
 use Rattle.std.specs.Prelude.{◌<◌, ◌^◌, ℕ, List}
-use Rattle.build_commands.specs.Asm.{AsmAccepts}
-use Rattle.build_commands.specs.Certify.{CertifyAccepts}
-use Rattle.build_commands.specs.Check.{CheckAccepts}
-use Rattle.build_commands.specs.Compile.{CompileAccepts}
-use Rattle.build_commands.specs.Contents.{content_at}
-use Rattle.build_commands.specs.Exec.{ExecAccepts}
-use Rattle.build_commands.specs.Hcheck.{HcheckAccepts}
-use Rattle.build_commands.specs.Lcompile.{LcompileAccepts}
-use Rattle.build_commands.specs.Mcompile.{McompileAccepts}
-use Rattle.build_commands.specs.Scompile.{ScompileAccepts}
+use Rattle.build_commands.specs.{Asm.AsmAccepts, Certify.CertifyAccepts, Check.CheckAccepts, Compile.CompileAccepts}
+use Rattle.build_commands.specs.{Contents.content_at, Exec.ExecAccepts, Hcheck.HcheckAccepts}
+use Rattle.build_commands.specs.{Lcompile.LcompileAccepts, Mcompile.McompileAccepts, Scompile.ScompileAccepts}
 use Rattle.build_commands.specs.SeenOutputs.{HasOutput}
-use Rattle.run_commands.specs.Debug.{DebugAccepts, debug_files}
-use Rattle.run_commands.specs.Generate.{GenerateAccepts}
+use Rattle.run_commands.specs.{Debug.DebugAccepts, Debug.debug_files, Generate.GenerateAccepts}
 use Rattle.run_commands.specs.Run.{RunAccepts, files_in}
-use Rattle.form_commands.specs.Hrun.{HrunAccepts, handled_files}
-use Rattle.form_commands.specs.Lrun.{LrunAccepts, level_files}
-use Rattle.form_commands.specs.Mrun.{MrunAccepts, posted_files}
-use Rattle.form_commands.specs.Srun.{SrunAccepts, watched_files}
-use Rattle.fz_top.specs.Commands.{Makes}
-use Rattle.fz_top.specs.declared.command.Command.{Command}
+use Rattle.form_commands.specs.{Hrun.HrunAccepts, Hrun.handled_files, Lrun.LrunAccepts, Lrun.level_files}
+use Rattle.form_commands.specs.{Mrun.MrunAccepts, Mrun.posted_files, Srun.SrunAccepts, Srun.watched_files}
+use Rattle.fz_top.specs.{Commands.Makes, declared.command.Command.Command}
 use Rattle.fz_top.specs.declared.command.Command.TheVariants.{Asm, Certify, Check, Compile, Debug, Exec, Generate}
-use Rattle.fz_top.specs.declared.command.Command.TheVariants.{Hcheck, Hrun, Lcompile, Lrun, Mcompile, Mrun}
-use Rattle.fz_top.specs.declared.command.Command.TheVariants.{Run, Scompile, Srun}
+use Rattle.fz_top.specs.declared.command.Command.TheVariants.{Hcheck, Hrun, Lcompile, Lrun, Mcompile, Mrun, Run}
+use Rattle.fz_top.specs.declared.command.Command.TheVariants.{Scompile, Srun}
 
 -- the contents of a command's files, in order, are accepted
 unfoldable pub Accepts : Command → List (List ℕ) → Type 0

@@ -2,34 +2,29 @@
 -- Beside the promise.
 use Rattle.std.specs.Prelude.{◌≡◌, ◌⊎◌, ℕ, List, [], ◌∷◌, codes, Option, Some, None, Result, option_and_then}
 use Rattle.std.specs.Prelude.{option_map}
-use Rattle.fz_words.specs.App.{IsRefused}
-use Rattle.fz_words.specs.Table.{Row, row, command_in as command_by}
+use Rattle.fz_words.specs.{App.IsRefused, Table.Row, Table.row, Table.command_in as command_by}
 use Rattle.box_tree.specs.declared.cert.CertKind.TheVariants.{Named, Tight}
 use Rattle.eval_code.specs.declared.width.Width.TheVariants.{Byte, Word}
-use Rattle.build_commands.specs.Asm.{AsmMakes, asm_inputs}
+use Rattle.build_commands.specs.{Asm.AsmMakes, Asm.asm_inputs, SeenOutputs.SeenOutput}
 use Rattle.build_commands.specs.Certify.{CertifyMakes, certify_in, certify_inputs}
 use Rattle.build_commands.specs.Check.{CheckMakes, check_in, check_inputs}
 use Rattle.build_commands.specs.Compile.{CompileMakes, compile_in, compile_inputs}
-use Rattle.run_commands.specs.Debug.{DebugMakes, debug_files, debug_in, debug_inputs}
-use Rattle.build_commands.specs.SeenOutputs.{SeenOutput}
 use Rattle.build_commands.specs.Exec.{ExecMakes, exec_in, exec_inputs}
-use Rattle.run_commands.specs.Generate.{GenerateMakes, generate_in, generate_inputs}
 use Rattle.build_commands.specs.Hcheck.{HcheckMakes, hcheck_inputs}
-use Rattle.form_commands.specs.Hrun.{HrunMakes, handled_files, hrun_in, hrun_inputs}
-use Rattle.build_commands.specs.Lcompile.{LcompileMakes, lcompile_inputs}
-use Rattle.form_commands.specs.Lrun.{LrunMakes, level_files, lrun_in, lrun_inputs}
-use Rattle.build_commands.specs.Mcompile.{McompileMakes}
-use Rattle.form_commands.specs.Mrun.{MrunMakes, mrun_in, mrun_inputs, posted_files}
+use Rattle.build_commands.specs.{Lcompile.LcompileMakes, Lcompile.lcompile_inputs, Mcompile.McompileMakes}
+use Rattle.build_commands.specs.{Scompile.ScompileMakes, Scompile.scompile_inputs, Contents.content_at}
+use Rattle.run_commands.specs.Debug.{DebugMakes, debug_files, debug_in, debug_inputs}
+use Rattle.run_commands.specs.Generate.{GenerateMakes, generate_in, generate_inputs}
 use Rattle.run_commands.specs.Run.{RunMakes, files_in, run_in, run_inputs}
-use Rattle.build_commands.specs.Scompile.{ScompileMakes, scompile_inputs}
+use Rattle.form_commands.specs.Hrun.{HrunMakes, handled_files, hrun_in, hrun_inputs}
+use Rattle.form_commands.specs.Lrun.{LrunMakes, level_files, lrun_in, lrun_inputs}
+use Rattle.form_commands.specs.Mrun.{MrunMakes, mrun_in, mrun_inputs, posted_files}
 use Rattle.form_commands.specs.Srun.{SrunMakes, srun_in, srun_inputs, watched_files}
 use Rattle.fz_status.specs.Words.{Text}
-use Rattle.build_commands.specs.Contents.{content_at}
-use Rattle.fz_top.specs.declared.command.Command.{Command}
+use Rattle.fz_top.specs.declared.{command.Command.Command, command.Name.Name}
 use Rattle.fz_top.specs.declared.command.Command.TheVariants.{Asm, Certify, Check, Compile, Debug, Exec, Generate}
-use Rattle.fz_top.specs.declared.command.Command.TheVariants.{Hcheck, Hrun, Lcompile, Lrun, Mcompile, Mrun}
-use Rattle.fz_top.specs.declared.command.Command.TheVariants.{Run, Scompile, Srun}
-use Rattle.fz_top.specs.declared.command.Name.{Name}
+use Rattle.fz_top.specs.declared.command.Command.TheVariants.{Hcheck, Hrun, Lcompile, Lrun, Mcompile, Mrun, Run}
+use Rattle.fz_top.specs.declared.command.Command.TheVariants.{Scompile, Srun}
 use Rattle.fz_top.specs.declared.command.Name.TheVariants as name
 use Rattle.fz_status.specs.declared.status.Status.{Status}
 

@@ -3,16 +3,12 @@
 use Rattle.build_commands.specs.Words.{flags_of}
 use Rattle.box_tree.specs.declared.cert.CertKind.{CertKind}
 use Rattle.box_tree.specs.declared.cert.CertKind.TheVariants.{Named, Tight}
-use Rattle.eval_code.specs.declared.width.Width.{Width}
-use Rattle.eval_code.specs.declared.width.Width.TheVariants.{Byte, Word}
-use Rattle.fz_shelf.specs.Files.{File, Names, known, Holds}
-use Rattle.fz_shelf.specs.Told.{HasRoom, Taken, gained}
-use Rattle.fz_status.specs.Words.{Text, word_at}
-use Rattle.fz_status.specs.declared.status.Status.{Status}
+use Rattle.eval_code.specs.declared.{width.Width.Width, width.Width.TheVariants.Byte, width.Width.TheVariants.Word}
+use Rattle.fz_shelf.specs.{Files.File, Files.Names, Files.known, Files.Holds, Told.HasRoom, Told.Taken, Told.gained}
+use Rattle.fz_status.specs.{Words.Text, Words.word_at, declared.status.Status.Status}
 use Rattle.fz_top.specs.Runs.{HasNoFault, World}
 use Rattle.fz_words.specs.Table.{any_hyphen}
-use Rattle.promise.specs.Laws.{AreAccepted}
-use Rattle.promise.specs.Promise.{Promise}
+use Rattle.promise.specs.{Laws.AreAccepted, Promise.Promise}
 use Rattle.run_commands.specs.CertifiedRun.{Files}
 use Rattle.run_reports.specs.Reports.{Report}
 use Rattle.std.specs.Prelude.{◌≡◌, ◌≤◌, ℕ, List, codes, length, Some, ◌⊎◌, false, Option}

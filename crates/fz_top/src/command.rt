@@ -7,9 +7,8 @@ ghost use Rattle.std.specs.Prelude.{◌≡◌, ◌↔◌, ◌≤◌, length, IfO
 ghost use Rattle.std.specs.List.{All};
 ghost use Rattle.fz_words.specs.App.{IsRefused};
 ghost use Rattle.fz_status.specs.Words.{texts_of};
-ghost use Rattle.build_commands.specs.Contents.{bytes_of};
+ghost use Rattle.build_commands.specs.{Contents.bytes_of, SeenOutputs.IsResultOf};
 ghost use Rattle.fz_top.specs.Commands.{IsUsage, Makes, command_in, form_of, inputs_of, name_in, table};
-ghost use Rattle.build_commands.specs.SeenOutputs.{IsResultOf};
 
 use box_tree::CertKind::{self, Named, Tight};
 use build_commands::certify::{self, Certify};

@@ -1,6 +1,5 @@
 //! Laws of what commands make, each the contract of a function that does nothing.
-ghost use Rattle.fz_top.specs.Accepted.{AcceptedCommandsMakeOutput};
-ghost use Rattle.fz_top.specs.Runs.{OutputsHaveNoFault};
+ghost use Rattle.fz_top.specs.{Accepted.AcceptedCommandsMakeOutput, Runs.OutputsHaveNoFault};
 
 use build_commands::asm::assembled_sources_have_no_fault;
 use build_commands::certify::certified_texts_have_no_fault;

@@ -1,14 +1,11 @@
 //! The program's call.
 ghost use Rattle.std.specs.Prelude.{◌≡◌, ◌⊎◌, ◌↔◌, length, None, Some, List, ℕ};
 ghost use Rattle.fz_shelf.specs.Told.{gained, HasRoom};
-ghost use Rattle.fz_status.specs.Words.{texts_of};
+ghost use Rattle.fz_status.specs.{Words.texts_of, Errors.error_line_of, Errors.Complains, Refusals.CarriesNoMemory};
 ghost use Rattle.fz_top.specs.Commands.{command_in, inputs_of, IsUsage, Makes};
-ghost use Rattle.fz_top.specs.Keeping.{AcceptedIsDone, OkKeepsPromise};
-ghost use Rattle.fz_top.specs.Reads.{names_at, AreThere};
+ghost use Rattle.fz_top.specs.{Keeping.AcceptedIsDone, Keeping.OkKeepsPromise, Reads.names_at, Reads.AreThere};
 ghost use Rattle.fz_top.specs.Runs.{world, Runs, IsReady, IsReadFault, IsWriteFault, IsTooLong, AreKnown, CanBeDone};
 ghost use Rattle.fz_top.specs.Runs.{HasNoFault, IsMade, RoomFor, Settles};
-ghost use Rattle.fz_status.specs.Errors.{error_line_of, Complains};
-ghost use Rattle.fz_status.specs.Refusals.{CarriesNoMemory};
 ghost use Rattle.fz_top.specs.declared.command.Command.{Command};
 
 use crate::command::command_of;

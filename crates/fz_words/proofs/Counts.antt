@@ -4,15 +4,15 @@ use Rattle.std.proofs.Common.{refl, sym, ◌∙◌, ap, append_assoc, append-nil
 use Rattle.std.specs.Prelude.{Some, codes}
 use Rattle.std.proofs.Math.Bool.{and-false}
 use Rattle.std.proofs.lemmas.Bool.{and_right, eq-eqb, lt-ltb, ne_eqb}
-use Rattle.clap.specs.Walk.{Text, Held, Rule, idle, positional, is_empty, is_multiple, nothing_held, takes_several, walk_from}
+use Rattle.clap.specs.Walk.{Text, Held, Rule, idle, positional, is_empty, is_multiple, nothing_held, takes_several}
+use Rattle.clap.specs.Walk.{walk_from}
 use Rattle.clap.specs.Simple.{Shape, built_leaf, filled, inherited, is_ready_leaf, marked_built, with_index}
 use Rattle.clap.specs.Simple.{with_leaf_noted}
 use Rattle.clap.specs.Kinds.{Kinds, or_else, range_kinds, values_kinds}
 use Rattle.clap.specs.declared.error.kind.ErrorKind.TheVariants as kind
 use Rattle.clap.specs.declared.builder.value_parser.ValueParser.TheVariants as vp
 use Rattle.clap.proofs.OnLiterals.{clap_on_literals}
-use Rattle.fz_words.specs.Table.{has_hyphen}
-use Rattle.fz_words.specs.App.{leaf_app, open_top, words_rule}
+use Rattle.fz_words.specs.{Table.has_hyphen, App.leaf_app, App.open_top, App.words_rule}
 use Rattle.fz_words.proofs.Plain.{ArePlain, at, level_from, takes_one, refuses_one}
 
 -- a subcommand with so many words as clap builds it

@@ -2,14 +2,12 @@
 use Rattle.std.proofs.Common.{◌≡◌, ℕ, false, List, [], ◌∷◌, refl, ◌∙◌, ap, ap₂}
 use Rattle.std.specs.Prelude.{Option, None, ◌==◌, fold}
 use Rattle.std.specs.Option.{option_map_or}
-use Rattle.clap.specs.Lexer.{short_of}
-use Rattle.clap.specs.Walk.{Text, Names, Held, Step, Rule, Waiting, value, Walk, walked, subcommand_met, to_positional}
-use Rattle.clap.specs.Walk.{arg_by_index, after_step, plain_word, subcommand_or_other, settled, finished}
-use Rattle.clap.specs.Simple.{Shape}
+use Rattle.clap.specs.{Lexer.short_of, Simple.Shape, Kinds.Kinds, Kinds.or_else, declared.error.ErrorKind.ErrorKind}
+use Rattle.clap.specs.Walk.{Text, Names, Held, Step, Rule, Waiting, value, Walk, walked, subcommand_met}
+use Rattle.clap.specs.Walk.{to_positional, arg_by_index, after_step, plain_word, subcommand_or_other, settled}
+use Rattle.clap.specs.Walk.{finished}
 use Rattle.clap.specs.Faults.{settle_fault, defaults_fault, check_fault, turn_fault, walk_fault, other_fault}
 use Rattle.clap.specs.Faults.{step_fault, positional_fault, stray_fault}
-use Rattle.clap.specs.Kinds.{Kinds, or_else}
-use Rattle.clap.specs.declared.error.ErrorKind.{ErrorKind}
 use Rattle.fz_words.specs.Table.{has_hyphen}
 
 -- no word begins with a hyphen

@@ -6,8 +6,7 @@ use Rattle.std.specs.Str.{bytes_eq}
 use Rattle.std.specs.Borrow.{Bor}
 use Rattle.std.proofs.Math.Seq.{take-suc}
 use Rattle.std.proofs.lemmas.List.{drop_all, map-append, take_all}
-use Rattle.clap.specs.Words.{App, Shape, Text, with_subcommand}
-use Rattle.clap.specs.Simple.{new_shape}
+use Rattle.clap.specs.{Words.App, Words.Shape, Words.Text, Words.with_subcommand, Simple.new_shape}
 use Rattle.fz_words.specs.Table.{Row, row, row_with, rows_of}
 use Rattle.fz_words.specs.App.{app_with, leaf_app, open_top, rules_for, sub_of, words_rule}
 

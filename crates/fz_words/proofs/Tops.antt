@@ -14,8 +14,7 @@ use Rattle.clap.specs.Walk.{finished, subcommand_met, answers_to}
 use Rattle.clap.specs.Simple.{App, Shape, built, entered, is_ready_leaf, is_simple_leaf, label_of, names_of}
 use Rattle.clap.specs.Faults.{fault_of, has_free_rules, is_simple_and_free, entered_fault, walk_fault, turn_fault}
 use Rattle.clap.specs.Faults.{other_fault, settle_fault, defaults_fault, check_fault, stray_fault}
-use Rattle.clap.specs.Kinds.{FailsBy, HasKind, IsAmong, Kinds, or_else}
-use Rattle.clap.specs.Values.{kind_of}
+use Rattle.clap.specs.{Kinds.FailsBy, Kinds.HasKind, Kinds.IsAmong, Kinds.Kinds, Kinds.or_else, Values.kind_of}
 use Rattle.clap.specs.declared.error.Error.{Error}
 use Rattle.clap.specs.declared.error.kind.ErrorKind.TheVariants as kind
 use Rattle.clap.specs.declared.parser.matches.ArgMatches.{ArgMatches}

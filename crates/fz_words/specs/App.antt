@@ -2,8 +2,7 @@
 -- Beside the promise.
 use Rattle.std.specs.Prelude.{◌≡◌, ◌≢◌, ◌⊎◌, ℕ, zero, suc, true, false, List, [], ◌∷◌, Some, map, codes}
 use Rattle.clap.specs.Words.{App, Shape, Rule, Text, fault_of, new_rule}
-use Rattle.clap.specs.Simple.{new_shape}
-use Rattle.clap.specs.declared.builder.action.ArgAction.TheVariants.{Set}
+use Rattle.clap.specs.{Simple.new_shape, declared.builder.action.ArgAction.TheVariants.Set}
 use Rattle.fz_words.specs.Table.{Row, any_hyphen}
 
 -- the argument that takes so many words

@@ -3,38 +3,26 @@ use Rattle.std.proofs.Common.{◌≡◌, ℕ, suc, ◌+◌, ◌≤◌, ◌<◌, 
 use Rattle.std.specs.Prelude.{All, take, map}
 use Rattle.std.proofs.lemmas.List.{take_all}
 use Rattle.std.proofs.lemmas.Simd.{map-map}
-use Rattle.fuzzy_meaning.specs.declared.block.Block.{Block}
-use Rattle.fuzzy_meaning.specs.Blocks.{IsValid}
+use Rattle.fuzzy_meaning.specs.{declared.block.Block.Block, Blocks.IsValid}
 use Rattle.rule_layout.specs.Layouts.{IsWithinLimits}
 use Rattle.cpu12_isa.specs.Regions.{is_hidden}
 use Rattle.cpu12_isa.proofs.Algebra.{agree_self}
 use Rattle.cpu12_parts.specs.State.{State}
-use Rattle.cpu12_emul.specs.Image.{HoldsImage}
-use Rattle.cpu12_emul.specs.Simulation.{OnStackOnly}
-use Rattle.run_law.specs.Forms.{RowSeen}
-use Rattle.run_law.specs.Uninterrupted.{uninterrupted}
+use Rattle.cpu12_emul.specs.{Image.HoldsImage, Simulation.OnStackOnly}
+use Rattle.run_law.specs.{Forms.RowSeen, Uninterrupted.uninterrupted}
 use Rattle.run_law.specs.Following.{Completes, AllComplete, RunsFollow, expected_row, expected_rows}
 use Rattle.handler_check.specs.Images.{IsHandler}
-use Rattle.interrupt_plan.specs.declared.Request.{Request}
-use Rattle.interrupt_plan.specs.Plans.{IsGoodRequest, IsGood}
-use Rattle.eval_code.specs.declared.memory_map.MemoryMap.{MemoryMap}
-use Rattle.codegen.specs.declared.firmware.Firmware.{Firmware}
-use Rattle.codegen.specs.Answers.{LeavesMapped}
-use Rattle.codegen.specs.Firmwares.{IsFirmwareOf}
-use Rattle.eval_code.specs.Firing.{AreInputBytes}
+use Rattle.interrupt_plan.specs.{declared.Request.Request, Plans.IsGoodRequest, Plans.IsGood}
+use Rattle.eval_code.specs.{declared.memory_map.MemoryMap.MemoryMap, Firing.AreInputBytes}
+use Rattle.codegen.specs.{declared.firmware.Firmware.Firmware, Answers.LeavesMapped, Firmwares.IsFirmwareOf}
 use Rattle.firmware_ports.specs.Ports.{given}
-use Rattle.fz_run.specs.Forms.{with_writes}
-use Rattle.run_forms.specs.Showing.{RowsAreShown}
-use Rattle.run_forms.specs.Rows.{tellings}
+use Rattle.fz_run.specs.{Forms.with_writes, Following.RunsFollowBeside, Given.RequestsAreGood}
 use Rattle.fz_run.specs.Rows.{requests_of, first_state}
-use Rattle.instruction_steps.specs.Facts.{FactsBeside}
-use Rattle.fz_run.specs.Following.{RunsFollowBeside}
-use Rattle.fz_run.specs.Given.{RequestsAreGood}
 use Rattle.fz_run.specs.Answering.{FirmwareRunsBeside, FirstAlike, FirstStatesAlike, FirstStatesAgree}
+use Rattle.run_forms.specs.{Showing.RowsAreShown, Rows.tellings}
+use Rattle.instruction_steps.specs.Facts.{FactsBeside}
 use Rattle.run_forms.proofs.Algebra.{map-shown_rows, all_onto_all}
-use Rattle.handled_runs.specs.Open.{is_open_to_code}
-use Rattle.handled_runs.specs.Joint.{joint_memory}
-use Rattle.handled_runs.specs.declared.back.HandlerEnd.{HandlerEnd}
+use Rattle.handled_runs.specs.{Open.is_open_to_code, Joint.joint_memory, declared.back.HandlerEnd.HandlerEnd}
 use Rattle.handled_runs.specs.Forms.{with_code, first_handled, handled_rows, steps_of, HandledSeen, with_steps}
 use Rattle.handled_runs.specs.Answering.{AnswersHandled, CameBack, HandledAnswers}
 use Rattle.handled_runs.specs.SoundHandledProof.{CodeLaws, Handled, HandlerStands, opens_free}

@@ -7,8 +7,7 @@ use Rattle.cpu12_isa.specs.declared.instr.Regs.{Regs}
 use Rattle.cpu12_parts.specs.State.{State}
 use Rattle.cpu12_emul.specs.Step.{Next, next_of}
 use Rattle.handler_check.specs.Running.{Returned, one_step, until_rti}
-use Rattle.handled_runs.specs.declared.back.HandlerEnd.{HandlerEnd}
-use Rattle.handled_runs.specs.Forms.{end_of}
+use Rattle.handled_runs.specs.{declared.back.HandlerEnd.HandlerEnd, Forms.end_of}
 
 is_rti : (v : ℕ) → v ≡ 11 → (v == 11) ≡ true
 is_rti v e = grind (arith, nat_tests)

@@ -1,22 +1,18 @@
 -- The rows of a block's firmware whose interrupts run an accepted handler.
 -- Beside the promise.
 use Rattle.std.specs.Prelude.{◌≡◌, ℕ, ◌^◌, ◌<◌, ◌≤◌, true, List, All, map}
-use Rattle.fuzzy_meaning.specs.declared.block.Block.{Block}
-use Rattle.fuzzy_meaning.specs.Blocks.{IsValid}
+use Rattle.fuzzy_meaning.specs.{declared.block.Block.Block, Blocks.IsValid}
 use Rattle.rule_layout.specs.Layouts.{IsWithinLimits}
 use Rattle.cpu12_emul.specs.Simulation.{OnStackOnly}
 use Rattle.run_law.specs.Following.{AllComplete, RowsSimulate}
 use Rattle.handler_check.specs.Images.{IsHandler}
-use Rattle.interrupt_plan.specs.declared.Request.{Request}
-use Rattle.interrupt_plan.specs.Plans.{IsGood}
-use Rattle.codegen.specs.declared.firmware.Firmware.{Firmware}
+use Rattle.interrupt_plan.specs.{declared.Request.Request, Plans.IsGood}
+use Rattle.codegen.specs.{declared.firmware.Firmware.Firmware, Firmwares.IsFirmwareOf}
 use Rattle.eval_code.specs.Firing.{AreInputBytes}
-use Rattle.codegen.specs.Firmwares.{IsFirmwareOf}
 use Rattle.run_forms.specs.Rows.{tellings}
 use Rattle.instruction_steps.specs.Facts.{FactsBeside}
 use Rattle.fz_run.specs.Rows.{first_state, firmware_rows}
-use Rattle.handled_runs.specs.declared.back.HandlerEnd.{HandlerEnd}
-use Rattle.handled_runs.specs.Open.{is_open_to_code}
+use Rattle.handled_runs.specs.{declared.back.HandlerEnd.HandlerEnd, Open.is_open_to_code}
 use Rattle.handled_runs.specs.Forms.{with_code, handled_rows, handled_seen, steps_of, HandledSeen}
 
 -- The RTI of an interrupt's handler was done, as the last of at most so many steps. No run is so by its definition,

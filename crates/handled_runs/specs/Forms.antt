@@ -7,13 +7,10 @@ use Rattle.handler_check.specs.Running.{Returned, until_rti, step_limit, at_code
 use Rattle.interrupt_plan.specs.declared.Request.{Request}
 use Rattle.codegen.specs.declared.firmware.Firmware.{Firmware}
 use Rattle.trace_io.specs.declared.sample.Sample.{Sample}
-use Rattle.run_forms.specs.declared.sample.Room.{Room}
-use Rattle.run_forms.specs.Rooms.{room_notes}
+use Rattle.run_forms.specs.{declared.sample.Room.Room, Rooms.room_notes, Rows.arrived_at, Rows.shown}
 use Rattle.run_forms.specs.Forms.{FormParts, plan_form, Harness}
 use Rattle.firmware_ports.specs.Ports.{given}
-use Rattle.fz_run.specs.Forms.{place_of, stand_alone}
-use Rattle.run_forms.specs.Rows.{arrived_at, shown}
-use Rattle.fz_run.specs.Rows.{requests_of, input_bytes}
+use Rattle.fz_run.specs.{Forms.place_of, Forms.stand_alone, Rows.requests_of, Rows.input_bytes}
 use Rattle.fz_run.specs.Rows as rows
 use Rattle.handled_runs.specs.declared.back.HandlerEnd.{HandlerEnd}
 use Rattle.handled_runs.specs.declared.rows.HandledRow as declared

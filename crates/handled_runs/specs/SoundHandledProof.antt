@@ -8,32 +8,25 @@ use Rattle.std.specs.Option.{is_some}
 use Rattle.std.proofs.lemmas.Bool.{or_parts, cases_lt}
 use Rattle.std.proofs.lemmas.Bool.Decides.{nat_tests}
 use Rattle.std.proofs.lemmas.List.Elements.{All-cons}
-use Rattle.cpu12_isa.specs.declared.instr.Regs.{Regs}
-use Rattle.cpu12_isa.specs.declared.instr.Write.{Write}
-use Rattle.cpu12_isa.specs.Agreement.{Agree, WritesAgree}
-use Rattle.cpu12_isa.specs.Fits.{FitsRegs}
-use Rattle.cpu12_isa.specs.Memory.{word_of}
+use Rattle.cpu12_isa.specs.declared.{instr.Regs.Regs, instr.Write.Write}
+use Rattle.cpu12_isa.specs.{Agreement.Agree, Agreement.WritesAgree, Fits.FitsRegs, Memory.word_of}
 use Rattle.cpu12_isa.specs.Regions.{is_free, is_hidden, vector, is_vector, LeavesStack}
 use Rattle.cpu12_asm.specs.Bytes.{byte_at}
-use Rattle.cpu12_parts.specs.State.{State}
-use Rattle.cpu12_parts.specs.Cuts.{suspended, wav}
+use Rattle.cpu12_parts.specs.{State.State, Cuts.suspended, Cuts.wav}
 use Rattle.cpu12_emul.specs.Simulation.{AreOpen, OnStackOnly}
 use Rattle.run_law.specs.Uninterrupted.{stepped}
 use Rattle.run_law.specs.Soundness.{Begins, Quiet, Sound, SumsFitBelow, WritesAreQuiet}
 use Rattle.handler_check.specs.Images.{IsWhole, IsHandler}
 use Rattle.handler_check.specs.Running.{HasImage, CanBegin, IsQuietCode, HandlersAreQuiet}
-use Rattle.interrupt_plan.specs.declared.Request.{Request}
-use Rattle.interrupt_plan.specs.Plans.{IsGoodRequest}
+use Rattle.interrupt_plan.specs.{declared.Request.Request, Plans.IsGoodRequest}
 use Rattle.codegen.specs.declared.firmware.Firmware.{Firmware}
 use Rattle.firmware_ports.specs.Ports.{given}
 use Rattle.instruction_steps.specs.Facts.{IsStackOfOneCall, FactsBeside}
 use Rattle.fz_run.specs.Following.{IsLow, OpensFree}
 use Rattle.fz_run.specs.OpenBytes.{AreOpenAlike, StepsLeaveOpen, GivenLeavesOpen}
 use Rattle.fz_run.specs.SoundAloneProof.{low_ports, given_alike, answered_alike, ended_alike}
-use Rattle.handled_runs.specs.Open.{is_code, is_open_to_code}
-use Rattle.handled_runs.specs.declared.back.HandlerEnd.{HandlerEnd}
-use Rattle.handled_runs.specs.Forms.{served, end_of, with_code}
-use Rattle.handled_runs.specs.Answering.{CameBack, AllCameBack}
+use Rattle.handled_runs.specs.{Open.is_code, Open.is_open_to_code, Forms.served, Forms.end_of, Forms.with_code}
+use Rattle.handled_runs.specs.{Answering.CameBack, Answering.AllCameBack, declared.back.HandlerEnd.HandlerEnd}
 
 -- the laws of lower crates
 pub record CodeLaws : Type 0 where

@@ -1,7 +1,6 @@
 //! A firmware whose interrupts run code, as a form of runs.
 ghost use Rattle.std.specs.Prelude.{ℕ, ◌≡◌, ◌≤◌, ◌<◌, List, Some, length, slice_get};
-ghost use Rattle.run_forms.specs.Rest.{counted_at, shown_by};
-ghost use Rattle.run_forms.specs.Rooms.{Fits};
+ghost use Rattle.run_forms.specs.{Rest.counted_at, Rest.shown_by, Rooms.Fits};
 ghost use Rattle.handled_runs.specs.Forms.{HandledSeen, code_harness, steps_of};
 ghost use Rattle.handled_runs.specs.declared.back.HandlerEnd as end;
 

@@ -3,8 +3,7 @@ ghost use Rattle.std.specs.Prelude.{ℕ, ◌≡◌, ◌≤◌, map, IfOk};
 ghost use Rattle.handler_check.specs.Images.{IsHandler};
 ghost use Rattle.interrupt_plan.specs.Plans.{IsGood};
 ghost use Rattle.fz_run.specs.Rows.{input_bytes};
-ghost use Rattle.handled_runs.specs.Forms.{row_seen, handled_seen};
-ghost use Rattle.handled_runs.specs.Answering.{HandlesItsBlock};
+ghost use Rattle.handled_runs.specs.{Forms.row_seen, Forms.handled_seen, Answering.HandlesItsBlock};
 
 use crate::form::WithCode;
 use crate::joint::joint_image;

@@ -5,9 +5,7 @@ use Rattle.std.proofs.Common.{bit_or}
 use Rattle.std.specs.Prelude.{if◌then◌else◌, ◌==◌}
 use Rattle.std.proofs.lemmas.Bool.{false≢true}
 use Rattle.std.proofs.lemmas.Bool.Decides.{nat_tests}
-use Rattle.cpu12_isa.specs.declared.instr.Regs.{Regs}
-use Rattle.cpu12_isa.specs.declared.instr.Ccr.{Ccr}
-use Rattle.cpu12_isa.specs.declared.instr.Instr.{Instr}
+use Rattle.cpu12_isa.specs.declared.{instr.Regs.Regs, instr.Ccr.Ccr, instr.Instr.Instr}
 use Rattle.cpu12_isa.specs.declared.instr.Instr.TheVariants.{LdaaImmediate, LdaaExtended, LdabImmediate, LdabExtended}
 use Rattle.cpu12_isa.specs.declared.instr.Instr.TheVariants.{LdxImmediate, LdyImmediate, StaaExtended, StabExtended}
 use Rattle.cpu12_isa.specs.declared.instr.Instr.TheVariants.{ClrExtended, Coma, CpxImmediate, Beq, Bne, Bcc, Bcs, Bra}
@@ -17,12 +15,10 @@ use Rattle.cpu12_isa.specs.declared.instr.Instr.TheVariants.{AddbPostIncrementX,
 use Rattle.cpu12_isa.specs.declared.instr.Instr.TheVariants.{SubaExtended, CmpaImmediate, CmpaExtended, AndaImmediate}
 use Rattle.cpu12_isa.specs.declared.instr.Instr.TheVariants.{AndaExtended, OraaImmediate, OraaExtended, Inx, Dex, Iny}
 use Rattle.cpu12_isa.specs.declared.instr.Instr.TheVariants.{Dey, Psha, Pula}
-use Rattle.cpu12_isa.specs.Act.{Act, Give, Get, outcome}
-use Rattle.cpu12_isa.specs.Memory.{plus}
+use Rattle.cpu12_isa.specs.{Act.Act, Act.Give, Act.Get, Act.outcome, Memory.plus}
 use Rattle.cpu12_isa.specs.Flags.{carry, overflow, put, opened, tested, tested_word, added, added_with_carry}
 use Rattle.cpu12_isa.specs.Flags.{subtracted, subtracted_word, sum_with_carry}
-use Rattle.cpu12_isa.specs.Registers.{branched, divided, offset}
-use Rattle.cpu12_isa.specs.Meaning.{act_of, effect}
+use Rattle.cpu12_isa.specs.{Registers.branched, Registers.divided, Registers.offset, Meaning.act_of, Meaning.effect}
 use Rattle.cpu12_isa.proofs.Algebra.{bit, bit_or_is, bit_and_is}
 use Rattle.cpu12_parts.specs.Laws.{addresses}
 use Rattle.handler_check.specs.Cut.{size_of}

@@ -3,19 +3,13 @@ use Rattle.std.proofs.Common.{◌≡◌, ℕ, zero, suc, ◌<◌, ◌^◌, Bool,
 use Rattle.std.proofs.Common.{sym, ◌∙◌, subst, arith, bit_or}
 use Rattle.std.specs.Prelude.{◌==◌}
 use Rattle.std.proofs.lemmas.Nat.{and_le_l}
-use Rattle.cpu12_isa.specs.declared.instr.Regs.{Regs}
-use Rattle.cpu12_isa.specs.declared.instr.Ccr.{Ccr}
-use Rattle.cpu12_isa.specs.declared.instr.Instr.TheVariants.{Rti}
-use Rattle.cpu12_isa.specs.Memory.{plus, word_of}
-use Rattle.cpu12_isa.specs.Flags.{pulled_flags}
-use Rattle.cpu12_isa.specs.Registers.{pulled, frame_bytes}
+use Rattle.cpu12_isa.specs.declared.{instr.Regs.Regs, instr.Ccr.Ccr, instr.Instr.TheVariants.Rti}
+use Rattle.cpu12_isa.specs.{Memory.plus, Memory.word_of, Flags.pulled_flags, Registers.pulled, Registers.frame_bytes}
 use Rattle.cpu12_isa.specs.Code.{StandsAt}
 use Rattle.cpu12_isa.proofs.Algebra.{bit, bit_or_is, bit_and_is, same_ccr}
-use Rattle.cpu12_parts.specs.State.{State}
-use Rattle.cpu12_parts.specs.Laws.{IsOff}
+use Rattle.cpu12_parts.specs.{State.State, Laws.IsOff}
 use Rattle.cpu12_emul.specs.declared.ends.Stepped.TheVariants.{Plain}
-use Rattle.cpu12_emul.specs.Step.{Left, Next, applied, next_of}
-use Rattle.cpu12_emul.specs.Take.{returned}
+use Rattle.cpu12_emul.specs.{Step.Left, Step.Next, Step.applied, Step.next_of, Take.returned}
 use Rattle.handler_check.specs.Running.{Returned, until_rti, then_back, one_step}
 use Rattle.handler_check.proofs.Grounds.{Grounds}
 

@@ -5,18 +5,13 @@ use Rattle.std.proofs.lemmas.Bool.{false≢true, or_parts}
 use Rattle.std.proofs.lemmas.Bool.Decides.{nat_tests}
 use Rattle.std.proofs.lemmas.List.{length-set}
 use Rattle.std.proofs.Math.ListN.{set}
-use Rattle.cpu12_isa.specs.declared.instr.Instr.{Instr}
-use Rattle.cpu12_isa.specs.declared.instr.Write.{Write}
-use Rattle.cpu12_isa.specs.Act.{write_all}
-use Rattle.cpu12_isa.specs.Memory.{plus, bytes_at}
+use Rattle.cpu12_isa.specs.declared.{instr.Instr.Instr, instr.Write.Write}
+use Rattle.cpu12_isa.specs.{Act.write_all, Memory.plus, Memory.bytes_at, Regions.is_free, Regions.is_hidden}
 use Rattle.cpu12_isa.specs.Code.{encode_of, six_from, Begins}
 use Rattle.cpu12_isa.specs.Agreement.{Agree, IsWritten, WritesAgree}
 use Rattle.cpu12_isa.proofs.Algebra.{unwritten}
-use Rattle.cpu12_emul.specs.Take.{pairs_of}
-use Rattle.cpu12_isa.specs.Regions.{is_free, is_hidden}
-use Rattle.cpu12_emul.specs.Simulation.{AreOpen}
-use Rattle.handler_check.specs.Cut.{size_of, code_bytes, HasCode}
-use Rattle.handler_check.specs.Paths.{IsIn}
+use Rattle.cpu12_emul.specs.{Take.pairs_of, Simulation.AreOpen}
+use Rattle.handler_check.specs.{Cut.size_of, Cut.code_bytes, Cut.HasCode, Paths.IsIn}
 use Rattle.handler_check.proofs.Places.{within}
 use Rattle.cpu12_parts.specs.Laws.{addresses}
 

@@ -2,12 +2,9 @@
 use Rattle.std.proofs.Common.{◌≡◌, ℕ, ◌<◌, ◌≤◌, Bool, true, false, List, get_or, refl, ap, arith, inl, inr, ◌⊎◌}
 use Rattle.std.proofs.lemmas.Bool.{false≢true}
 use Rattle.std.specs.Prelude.{◌==◌}
-use Rattle.cpu12_isa.specs.declared.instr.Instr.{Instr}
+use Rattle.cpu12_isa.specs.{declared.instr.Instr.Instr, Code.StandsAt, Meaning.is_plain}
 use Rattle.cpu12_isa.specs.declared.instr.Instr.TheVariants.{LdaaImmediate, Rti, Rev, Revw, Wav, Wavr}
-use Rattle.cpu12_isa.specs.Code.{StandsAt}
-use Rattle.cpu12_isa.specs.Meaning.{is_plain}
-use Rattle.handler_check.specs.Paths.{is_allowed}
-use Rattle.handler_check.specs.Cut.{size_of}
+use Rattle.handler_check.specs.{Paths.is_allowed, Cut.size_of}
 
 -- whether an instruction is allowed and is not RTI
 abbrev pub is_stepping : Instr → Bool

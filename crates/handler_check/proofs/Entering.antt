@@ -3,28 +3,19 @@ use Rattle.std.proofs.Common.{◌≡◌, ℕ, ◌<◌, ◌≤◌, true, false, �
 use Rattle.std.proofs.Common.{ap, sym, ◌∙◌, subst, arith, inl, inr}
 use Rattle.std.specs.Option.{is_some}
 use Rattle.std.proofs.lemmas.Bool.{or_parts}
-use Rattle.cpu12_isa.specs.declared.instr.Regs.{Regs}
-use Rattle.cpu12_isa.specs.declared.instr.Write.{Write}
-use Rattle.cpu12_isa.specs.Act.{write_all}
+use Rattle.cpu12_isa.specs.declared.{instr.Regs.Regs, instr.Write.Write}
+use Rattle.cpu12_isa.specs.{Act.write_all, Agreement.Agree, Regions.is_free, Regions.is_hidden}
 use Rattle.cpu12_isa.specs.Memory.{plus, placed, word_of}
-use Rattle.cpu12_isa.specs.Agreement.{Agree}
-use Rattle.cpu12_isa.specs.Regions.{is_free, is_hidden}
 use Rattle.cpu12_isa.proofs.Algebra.{agree_with, place_of, unwritten}
 use Rattle.cpu12_asm.specs.Bytes.{byte_at}
-use Rattle.cpu12_parts.specs.declared.temps.Temps.{Temps}
+use Rattle.cpu12_parts.specs.{declared.temps.Temps.Temps, State.State, Sums.sum_bytes, Cuts.suspended, Cuts.wav}
 use Rattle.cpu12_parts.specs.declared.temps.Temps.TheVariants.{Free, Running, OnStack}
-use Rattle.cpu12_parts.specs.State.{State}
-use Rattle.cpu12_parts.specs.Sums.{sum_bytes}
-use Rattle.cpu12_parts.specs.Cuts.{suspended, wav}
-use Rattle.cpu12_parts.specs.Laws.{IsOff}
-use Rattle.cpu12_parts.specs.Inside.{PushesRunning, PushesNone}
-use Rattle.cpu12_emul.specs.Take.{framed}
-use Rattle.cpu12_emul.specs.Simulation.{AreOpen, TakesQuietly}
+use Rattle.cpu12_parts.specs.{Laws.IsOff, Inside.PushesRunning, Inside.PushesNone}
+use Rattle.cpu12_emul.specs.{Take.framed, Simulation.AreOpen, Simulation.TakesQuietly}
 use Rattle.handler_check.specs.Images.{IsWhole, IsHandler}
 use Rattle.handler_check.specs.Running.{until_rti, step_limit, at_code, HasHandler, HasImage, CanBegin, IsTake}
 use Rattle.handler_check.specs.Running.{AcceptedIsTake, HandlersRunAsTakes, HandlersAreQuiet}
-use Rattle.handler_check.proofs.Given.{code_by}
-use Rattle.handler_check.proofs.Good.{leaves}
+use Rattle.handler_check.proofs.{Given.code_by, Good.leaves}
 
 high_at : (image : List (ℕ × ℕ)) (at byte : ℕ) → IsWhole image → byte_at image at ≡ Some byte → 16384 ≤ at
 high_at image at byte w e = not_low (λ l. w.inside at (has, inl l))

@@ -8,15 +8,12 @@ use Rattle.std.proofs.lemmas.Bool.Decides.{nat_tests}
 use Rattle.cpu12_isa.specs.declared.instr.Instr.{Instr}
 use Rattle.cpu12_isa.specs.Code.{encode_of, FitsOperands, decode_at, DecodesEncoded}
 use Rattle.cpu12_asm.specs.Bytes.{byte_at, IsFirstDifference}
-use Rattle.handler_check.specs.declared.faults.HandlerFault.{HandlerFault}
+use Rattle.handler_check.specs.{declared.faults.HandlerFault.HandlerFault, Faults.IsFirstFault, Judging.AreFirsts}
 use Rattle.handler_check.specs.declared.faults.HandlerFault.TheVariants.{Empty, Outside, Dead, Trap, Refused, NotFree}
 use Rattle.handler_check.specs.declared.faults.HandlerFault.TheVariants.{Backward, Target, Height, Falls, Memory}
 use Rattle.handler_check.specs.Cut.{size_of, code_end, AllFit, IsAt, HasCode}
-use Rattle.handler_check.specs.Faults.{IsFirstFault}
 use Rattle.handler_check.specs.Images.{Gives, IsCut, is_trapped, IsOutside, IsWhole, IsRun, IsFault}
-use Rattle.handler_check.specs.Judging.{AreFirsts}
-use Rattle.handler_check.proofs.Decoding.{size_low}
-use Rattle.handler_check.proofs.Places.{within}
+use Rattle.handler_check.proofs.{Decoding.size_low, Places.within}
 use Rattle.handler_check.proofs.Given.{HasBytes, gives_get, gives_all, given_by, one_given}
 
 pub none_not : (o : Option ℕ) → o ≡ None → IsSome o → ⊥

@@ -3,20 +3,16 @@ use Rattle.std.proofs.Common.{◌≡◌, ℕ, suc, ◌<◌, ◌≤◌, Bool, tru
 use Rattle.std.proofs.Common.{subst, arith, inl, inr, ◌⊎◌}
 use Rattle.std.proofs.lemmas.Bool.{false≢true, cases_lt}
 use Rattle.cpu12_isa.specs.declared.instr.Instr.{Instr}
-use Rattle.handler_check.specs.declared.faults.HandlerFault.{HandlerFault}
+use Rattle.handler_check.specs.declared.{faults.HandlerFault.HandlerFault, path_summaries.PathSummary.PathSummary}
 use Rattle.handler_check.specs.declared.faults.HandlerFault.TheVariants.{Empty, Outside, Dead, Trap, Refused, NotFree}
 use Rattle.handler_check.specs.declared.faults.HandlerFault.TheVariants.{Backward, Target, Height, Falls, Memory}
-use Rattle.handler_check.specs.declared.path_summaries.PathSummary.{PathSummary}
-use Rattle.handler_check.specs.Cut.{code_end, IsAt}
+use Rattle.handler_check.specs.{Cut.code_end, Cut.IsAt, Accepted.May, Accepted.IsAccepted, PathSummaries.IsSummary}
 use Rattle.handler_check.specs.Paths.{is_allowed, IsIn, written_by, branches_to, falls_to, leads, GoesForward}
 use Rattle.handler_check.specs.Paths.{height_after, FitsHeight, Path}
-use Rattle.handler_check.specs.Accepted.{May, IsAccepted}
 use Rattle.handler_check.specs.Faults.{IsFirst, Meets, Applies, place_of, rank, IsFirstFault}
-use Rattle.handler_check.specs.PathSummaries.{IsSummary}
 use Rattle.handler_check.specs.Judging.{Passes, Fails, AreJudged}
-use Rattle.handler_check.proofs.Places.{below_end, one_instr}
+use Rattle.handler_check.proofs.{Places.below_end, Places.one_instr, Marking.below_of}
 use Rattle.handler_check.proofs.Leading.{one_summary, in_left, in_right}
-use Rattle.handler_check.proofs.Marking.{below_of}
 
 -- accepted code
 led_there : (is : List Instr) (instrs at to : ℕ) (i : Instr) → IsAccepted is instrs → IsAt is at i

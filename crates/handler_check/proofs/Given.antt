@@ -1,14 +1,11 @@
 -- An image's bytes, and the instructions that they are.
 use Rattle.std.proofs.Common.{◌≡◌, ℕ, zero, suc, ◌+◌, ◌<◌, ◌≤◌, Ok, Some, List, [], ◌∷◌, ◌++◌, length, get_or, refl, ap}
 use Rattle.std.proofs.Common.{sym, ◌∙◌, subst, arith, inl, inr}
-use Rattle.cpu12_isa.specs.declared.instr.Instr.{Instr}
-use Rattle.cpu12_isa.specs.Memory.{bytes_at}
+use Rattle.cpu12_isa.specs.{declared.instr.Instr.Instr, Memory.bytes_at}
 use Rattle.cpu12_isa.specs.Code.{encode_of, FitsOperands, StandsAt, Begins, six_from, decode_at, DecodesEncoded}
 use Rattle.cpu12_asm.specs.Bytes.{byte_at}
-use Rattle.handler_check.specs.Cut.{size_of, code_bytes, code_end, IsFrom, HasCode}
-use Rattle.handler_check.specs.Images.{Gives}
-use Rattle.handler_check.proofs.Decoding.{size_low}
-use Rattle.handler_check.proofs.Places.{within}
+use Rattle.handler_check.specs.{Cut.size_of, Cut.code_bytes, Cut.code_end, Cut.IsFrom, Cut.HasCode, Images.Gives}
+use Rattle.handler_check.proofs.{Decoding.size_low, Places.within}
 
 -- bytes that an image gives, one by one
 pub gives_get : (image : List (ℕ × ℕ)) (at : ℕ) (vs : List ℕ) (k : ℕ) → Gives image at vs → k < length vs

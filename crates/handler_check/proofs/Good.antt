@@ -2,30 +2,21 @@
 use Rattle.std.proofs.Common.{◌≡◌, ℕ, zero, suc, ◌+◌, ◌%◌, ◌^◌, ◌<◌, ◌≤◌, true, false, ◌&&◌, nat_le, nat_lt, List, []}
 use Rattle.std.proofs.Common.{◌∷◌, ◌++◌, length, get_or, refl, ap, sym, ◌∙◌, subst, arith, inl, inr, lit≤}
 use Rattle.std.proofs.lemmas.Bool.Decides.{nat_tests}
-use Rattle.cpu12_isa.specs.declared.instr.Regs.{Regs}
-use Rattle.cpu12_isa.specs.declared.instr.Instr.{Instr}
-use Rattle.cpu12_isa.specs.declared.instr.Write.{Write}
+use Rattle.cpu12_isa.specs.declared.{instr.Regs.Regs, instr.Instr.Instr, instr.Write.Write}
 use Rattle.cpu12_isa.specs.Memory.{plus, placed, from, bytes_at, word_of}
-use Rattle.cpu12_isa.specs.Registers.{frame_bytes, pulled}
+use Rattle.cpu12_isa.specs.{Registers.frame_bytes, Registers.pulled, Regions.is_free, Regions.LeavesStack}
 use Rattle.cpu12_isa.specs.Agreement.{Agree, AllShown, IsWritten}
-use Rattle.cpu12_isa.proofs.Algebra.{agree_self}
-use Rattle.cpu12_isa.proofs.Algebra.{bit}
-use Rattle.cpu12_isa.proofs.Algebra.{read_placed, bytes_unwritten, same_bytes}
-use Rattle.cpu12_parts.specs.State.{State}
-use Rattle.cpu12_parts.specs.Laws.{IsOff}
-use Rattle.cpu12_emul.specs.declared.ends.Stepped.TheVariants.{Plain}
-use Rattle.cpu12_emul.specs.Step.{Next}
+use Rattle.cpu12_isa.proofs.Algebra.{agree_self, bit, read_placed, bytes_unwritten, same_bytes}
+use Rattle.cpu12_parts.specs.{State.State, Laws.IsOff}
+use Rattle.cpu12_emul.specs.{declared.ends.Stepped.TheVariants.Plain, Step.Next, Simulation.AreOpen, Simulation.Same}
 use Rattle.cpu12_emul.specs.Take.{pairs_of, pushed, written, returned, framed}
-use Rattle.cpu12_isa.specs.Regions.{is_free, LeavesStack}
-use Rattle.cpu12_emul.specs.Simulation.{AreOpen, Same}
 use Rattle.handler_check.specs.Running.{Returned, until_rti, step_limit, at_code, CanBegin, HasHandler}
 use Rattle.handler_check.specs.Running.{AcceptedIsTake}
 use Rattle.handler_check.specs.Cut.{code_bytes, HasCode}
-use Rattle.handler_check.proofs.Grounds.{Grounds}
-use Rattle.handler_check.proofs.Bytes.{under, AllFine, free_is, stays, code_stays, open_fine, write_append, open_append}
+use Rattle.handler_check.proofs.{Grounds.Grounds, Running.Stage, Running.arrives, Shortness.accepted_is_short}
+use Rattle.handler_check.proofs.Bytes.{under, AllFine, free_is, stays, code_stays, open_fine, write_append}
+use Rattle.handler_check.proofs.Bytes.{open_append}
 use Rattle.handler_check.proofs.Back.{back_in, rti_steps, pulled_alike}
-use Rattle.handler_check.proofs.Running.{Stage, arrives}
-use Rattle.handler_check.proofs.Shortness.{accepted_is_short}
 
 pub leaves : LeavesStack is_free
 leaves at h = let r = free_is at h in inl r.1

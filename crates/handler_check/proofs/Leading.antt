@@ -6,10 +6,8 @@ use Rattle.std.proofs.lemmas.Bool.{cases_eq, false≢true}
 use Rattle.std.proofs.lemmas.Bool.Decides.{nat_tests}
 use Rattle.cpu12_isa.specs.declared.instr.Instr.{Instr}
 use Rattle.handler_check.specs.declared.path_summaries.PathSummary.{PathSummary}
-use Rattle.handler_check.specs.Paths.{IsIn}
-use Rattle.handler_check.specs.Faults.{Meets}
+use Rattle.handler_check.specs.{Paths.IsIn, Faults.Meets, Judging.Has}
 use Rattle.handler_check.specs.PathSummaries.{join, led, led_all, IsSummary}
-use Rattle.handler_check.specs.Judging.{Has}
 
 pub one_summary : (w v : PathSummary) → Some w ≡ Some v → w ≡ v
 one_summary w v e = cc

@@ -4,12 +4,10 @@ use Rattle.std.proofs.Common.{length, refl, ap, sym, ◌∙◌, subst, arith, in
 use Rattle.std.proofs.lemmas.Bool.{false≢true}
 use Rattle.cpu12_isa.specs.declared.instr.Instr.{Instr}
 use Rattle.cpu12_isa.specs.declared.instr.Instr.TheVariants.{Beq, Bne, Bcc, Bcs, Bra, Rti}
-use Rattle.handler_check.specs.declared.path_summaries.PathSummary.{PathSummary}
+use Rattle.handler_check.specs.{declared.path_summaries.PathSummary.PathSummary, Accepted.May, Accepted.IsAccepted}
 use Rattle.handler_check.specs.Cut.{size_of, code_bytes, code_end, AllFit, IsAt}
 use Rattle.handler_check.specs.Paths.{IsIn, leads, falls_to, branches_to, GoesForward, height_after, Path}
-use Rattle.handler_check.specs.Accepted.{May, IsAccepted}
-use Rattle.handler_check.specs.Faults.{IsFirst}
-use Rattle.handler_check.specs.PathSummaries.{led_all, IsSummary}
+use Rattle.handler_check.specs.{Faults.IsFirst, PathSummaries.led_all, PathSummaries.IsSummary}
 use Rattle.handler_check.specs.Judging.{Passes, PathBelow, Has, Judged, AreJudged}
 use Rattle.handler_check.proofs.Decoding.{size_low, is_stepping, rti_or}
 use Rattle.handler_check.proofs.Acts.{height_after-low, leads_on, target_is}

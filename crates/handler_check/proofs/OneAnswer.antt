@@ -18,11 +18,8 @@ use Rattle.handler_check.specs.Paths.{IsIn, written_by, target, branches_to, Pat
 use Rattle.handler_check.specs.Faults.{Applies, place_of, rank, IsFirstFault}
 use Rattle.handler_check.specs.Images.{Gives, IsCut, is_trapped, IsOutside, IsWhole, IsFault, IsHandler}
 use Rattle.handler_check.specs.Images.{HandlersHaveNoFault, FaultsAreOne, CountsAreOne}
-use Rattle.handler_check.proofs.Decoding.{size_low}
-use Rattle.handler_check.proofs.Places.{one_instr}
+use Rattle.handler_check.proofs.{Decoding.size_low, Places.one_instr, Extents.none_not, FirstFaults.faultless}
 use Rattle.handler_check.proofs.Given.{HasBytes, gives_get, gives_left, gives_right, one_given}
-use Rattle.handler_check.proofs.Extents.{none_not}
-use Rattle.handler_check.proofs.FirstFaults.{faultless}
 
 -- images with the same bytes
 gives_alike : (a b : List (ℕ × ℕ)) → ((at : ℕ) → byte_at a at ≡ byte_at b at) → (at : ℕ) (vs : List ℕ) → Gives a at vs

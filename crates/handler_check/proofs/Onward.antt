@@ -3,22 +3,17 @@ use Rattle.std.proofs.Common.{◌≡◌, ℕ, suc, ◌+◌, ◌<◌, ◌≤◌, 
 use Rattle.std.proofs.Common.{zero, nat_le, nat_lt, get_or, unwrap_or, replicate, length, refl, ap, sym, ◌∙◌, subst}
 use Rattle.std.proofs.Common.{arith, inl, inr}
 use Rattle.std.specs.Prelude.{IfSome, MatchOption, slice_get, if◌then◌else◌}
-use Rattle.cpu12_isa.specs.declared.instr.Instr.{Instr}
-use Rattle.cpu12_isa.specs.declared.instr.Instr.TheVariants.{LdaaImmediate}
+use Rattle.cpu12_isa.specs.declared.{instr.Instr.Instr, instr.Instr.TheVariants.LdaaImmediate}
 use Rattle.std.proofs.lemmas.Bool.Decides.{nat_tests}
-use Rattle.handler_check.specs.declared.faults.HandlerFault.{HandlerFault}
+use Rattle.handler_check.specs.declared.{faults.HandlerFault.HandlerFault, path_summaries.PathSummary.PathSummary}
 use Rattle.handler_check.specs.declared.faults.HandlerFault.TheVariants.{Dead, Trap}
-use Rattle.handler_check.specs.declared.path_summaries.PathSummary.{PathSummary}
 use Rattle.handler_check.specs.Cut.{code_end, AllFit, IsAt}
 use Rattle.handler_check.specs.Paths.{IsIn, leads, falls_to, branches_to}
-use Rattle.handler_check.specs.Faults.{IsFirst, IsFirstFault}
-use Rattle.handler_check.specs.Accepted.{IsAccepted}
+use Rattle.handler_check.specs.{Faults.IsFirst, Faults.IsFirstFault, Accepted.IsAccepted}
 use Rattle.handler_check.specs.PathSummaries.{summary_at, led_all, list_of}
 use Rattle.handler_check.specs.Judging.{AreFirsts, AreJudged}
-use Rattle.handler_check.proofs.Places.{below_end, is_at-here}
-use Rattle.handler_check.proofs.Marking.{accepted_of}
-use Rattle.handler_check.proofs.FirstFaults.{dead_first, trap_first}
-use Rattle.handler_check.proofs.Leading.{all_append, all_same}
+use Rattle.handler_check.proofs.{Places.below_end, Places.is_at-here, Marking.accepted_of}
+use Rattle.handler_check.proofs.{FirstFaults.dead_first, FirstFaults.trap_first, Leading.all_append, Leading.all_same}
 use Rattle.handler_check.proofs.Tables.{first_within}
 
 -- a place, if there is one, is one of the table's

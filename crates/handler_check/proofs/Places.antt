@@ -1,8 +1,7 @@
 -- Where the instructions of a list stand.
 use Rattle.std.proofs.Common.{◌≡◌, ℕ, zero, suc, ◌+◌, ◌<◌, ◌≤◌, List, [], ◌∷◌, ◌++◌, length, refl, ap, sym, ◌∙◌, subst}
 use Rattle.std.proofs.Common.{arith, inl, inr, ◌⊎◌, take, get_or, length-append}
-use Rattle.cpu12_isa.specs.declared.instr.Instr.{Instr}
-use Rattle.cpu12_isa.specs.Code.{encode_of, FitsOperands, StandsAt}
+use Rattle.cpu12_isa.specs.{declared.instr.Instr.Instr, Code.encode_of, Code.FitsOperands, Code.StandsAt}
 use Rattle.handler_check.specs.Cut.{size_of, code_bytes, code_end, AllFit, IsFrom, IsAt, HasCode}
 use Rattle.handler_check.proofs.Decoding.{size_low}
 

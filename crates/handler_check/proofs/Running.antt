@@ -2,32 +2,22 @@
 use Rattle.std.proofs.Common.{◌≡◌, ℕ, zero, suc, ◌+◌, ◌<◌, ◌≤◌, Bool, true, false, Result, Ok, List, [], ◌∷◌, ◌++◌}
 use Rattle.std.proofs.Common.{length, get_or, refl, ap, sym, ◌∙◌, subst, arith, inl, inr}
 use Rattle.std.specs.Prelude.{◌==◌}
-use Rattle.cpu12_isa.specs.declared.instr.Instr.{Instr}
+use Rattle.cpu12_isa.specs.declared.{instr.Instr.Instr, instr.Write.Write}
 use Rattle.cpu12_isa.specs.declared.instr.Instr.TheVariants.{LdaaImmediate, Rti, Psha, Pula}
-use Rattle.cpu12_isa.specs.declared.instr.Write.{Write}
-use Rattle.cpu12_isa.specs.Act.{write_all}
-use Rattle.cpu12_isa.specs.Code.{FitsOperands, StandsAt}
-use Rattle.cpu12_isa.specs.Agreement.{Agree}
+use Rattle.cpu12_isa.specs.{Act.write_all, Code.FitsOperands, Code.StandsAt, Agreement.Agree, Regions.is_free}
 use Rattle.cpu12_isa.specs.Meaning.{Effect, act_of, effect}
 use Rattle.cpu12_isa.proofs.Algebra.{bit}
-use Rattle.cpu12_parts.specs.declared.temps.Temps.{Temps}
-use Rattle.cpu12_parts.specs.State.{State}
-use Rattle.cpu12_parts.specs.Laws.{IsOff, addresses}
+use Rattle.cpu12_parts.specs.{declared.temps.Temps.Temps, State.State, Laws.IsOff, Laws.addresses}
 use Rattle.cpu12_emul.specs.declared.ends.Stepped.TheVariants.{Plain}
-use Rattle.cpu12_emul.specs.Step.{Left, Next, applied, next_of}
-use Rattle.cpu12_emul.specs.Take.{pairs_of}
-use Rattle.cpu12_isa.specs.Regions.{is_free}
-use Rattle.cpu12_emul.specs.Simulation.{AreOpen}
+use Rattle.cpu12_emul.specs.{Step.Left, Step.Next, Step.applied, Step.next_of, Take.pairs_of, Simulation.AreOpen}
 use Rattle.handler_check.specs.Cut.{size_of, code_bytes, AllFit, IsFrom, IsAt, HasCode}
 use Rattle.handler_check.specs.Paths.{IsIn, written_by, leads, height_after, FitsHeight, Path}
 use Rattle.handler_check.specs.Accepted.{May, IsAccepted}
-use Rattle.handler_check.proofs.Grounds.{Grounds}
+use Rattle.handler_check.proofs.{Grounds.Grounds, Places.within, Back.ToRti}
 use Rattle.handler_check.proofs.Decoding.{is_stepping, first_byte, plain_of, size_low, rti_or}
 use Rattle.handler_check.proofs.Acts.{Always, always_outcome, there, sp_after, sp_moves, written_at, writes_are}
 use Rattle.handler_check.proofs.Acts.{height_after-low, pc_leads, leads_on, x_kept}
-use Rattle.handler_check.proofs.Places.{within}
 use Rattle.handler_check.proofs.Bytes.{under, IsFine, AllFine, fine_by, shadow, code_stays, write_append, open_append}
-use Rattle.handler_check.proofs.Back.{ToRti}
 
 -- the state at a place, with h bytes pushed: base is SP without them, t the sums, x the X flag, m the memory with free
 -- writes alone

@@ -1,13 +1,8 @@
 -- Paths of a handler are short.
 use Rattle.std.proofs.Common.{ℕ, zero, suc, ◌+◌, ◌≤◌, List, arith}
-use Rattle.cpu12_isa.specs.declared.instr.Instr.{Instr}
-use Rattle.cpu12_isa.specs.declared.instr.Instr.TheVariants.{Rti}
-use Rattle.handler_check.specs.Paths.{Path}
-use Rattle.handler_check.specs.Accepted.{IsAccepted}
-use Rattle.handler_check.specs.Running.{HandlersAreShort}
-use Rattle.handler_check.proofs.Acts.{leads_on}
-use Rattle.handler_check.proofs.Decoding.{size_low}
-use Rattle.handler_check.proofs.Places.{within}
+use Rattle.cpu12_isa.specs.declared.{instr.Instr.Instr, instr.Instr.TheVariants.Rti}
+use Rattle.handler_check.specs.{Paths.Path, Accepted.IsAccepted, Running.HandlersAreShort}
+use Rattle.handler_check.proofs.{Acts.leads_on, Decoding.size_low, Places.within}
 
 -- each instruction of a path stands further on
 path_far : (is : List Instr) (n at h : ℕ) → Path is n at h → 16384 + n ≤ at

@@ -9,9 +9,7 @@ use Rattle.std.proofs.lemmas.List.{length-set}
 use Rattle.std.proofs.lemmas.Option.{slice_get_within}
 use Rattle.std.proofs.Math.ListN.{set}
 use Rattle.cpu12_isa.specs.declared.instr.Instr.{Instr}
-use Rattle.handler_check.specs.Cut.{code_limit, code_end, IsAt}
-use Rattle.handler_check.specs.Faults.{IsFirst}
-use Rattle.handler_check.specs.Judging.{AreFirsts}
+use Rattle.handler_check.specs.{Cut.code_limit, Cut.code_end, Cut.IsAt, Faults.IsFirst, Judging.AreFirsts}
 use Rattle.handler_check.proofs.Places.{below_end, at-push, at-front, at-last}
 
 -- an element after a write

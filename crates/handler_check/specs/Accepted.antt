@@ -1,9 +1,7 @@
 -- Handlers that are accepted.
 -- Beside the promise.
 use Rattle.std.specs.Prelude.{◌≡◌, ℕ, suc, ◌≤◌, true, List}
-use Rattle.cpu12_isa.specs.declared.instr.Instr.{Instr}
-use Rattle.cpu12_isa.specs.declared.instr.Instr.TheVariants.{Rti}
-use Rattle.cpu12_isa.specs.Regions.{is_free}
+use Rattle.cpu12_isa.specs.{declared.instr.Instr.Instr, declared.instr.Instr.TheVariants.Rti, Regions.is_free}
 use Rattle.handler_check.specs.Cut.{code_end, code_limit, AllFit, IsAt}
 use Rattle.handler_check.specs.Paths.{is_allowed, IsIn, written_by, GoesForward, FitsHeight, Path}
 

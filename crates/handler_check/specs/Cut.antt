@@ -1,8 +1,7 @@
 -- The bytes of a handler, cut into instructions one after the other.
 -- Beside the promise.
 use Rattle.std.specs.Prelude.{◌≡◌, ℕ, ◌+◌, ◌⊎◌, List, [], ◌∷◌, ◌++◌, length}
-use Rattle.cpu12_isa.specs.declared.instr.Instr.{Instr}
-use Rattle.cpu12_isa.specs.Code.{encode_of, FitsOperands, StandsAt}
+use Rattle.cpu12_isa.specs.{declared.instr.Instr.Instr, Code.encode_of, Code.FitsOperands, Code.StandsAt}
 
 -- the first address of a handler, and the one behind the last that it may have
 abbrev pub code_start : ℕ

@@ -1,12 +1,10 @@
 -- The first fault of code, over its cut, and whether bytes stand behind the cut.
 -- Beside the promise.
 use Rattle.std.specs.Prelude.{◌≡◌, ℕ, ◌<◌, ◌≤◌, ◌⊎◌, Bool, true, false, List}
-use Rattle.cpu12_isa.specs.declared.instr.Instr.{Instr}
-use Rattle.cpu12_isa.specs.Regions.{is_free}
-use Rattle.handler_check.specs.declared.faults.HandlerFault.{HandlerFault}
+use Rattle.cpu12_isa.specs.{declared.instr.Instr.Instr, Regions.is_free}
+use Rattle.handler_check.specs.{declared.faults.HandlerFault.HandlerFault, Cut.code_end, Cut.IsAt}
 use Rattle.handler_check.specs.declared.faults.HandlerFault.TheVariants.{Empty, Outside, Dead, Trap, Refused, NotFree}
 use Rattle.handler_check.specs.declared.faults.HandlerFault.TheVariants.{Backward, Target, Height, Falls, Memory}
-use Rattle.handler_check.specs.Cut.{code_end, IsAt}
 use Rattle.handler_check.specs.Paths.{is_allowed, IsIn, written_by, branches_to, falls_to, GoesForward, FitsHeight}
 use Rattle.handler_check.specs.Paths.{Path}
 

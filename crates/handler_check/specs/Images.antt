@@ -1,14 +1,11 @@
 -- The handler of an image, or its first fault.
 -- Beside the promise.
 use Rattle.std.specs.Prelude.{◌≡◌, ℕ, ◌+◌, ◌<◌, ◌≤◌, ◌⊎◌, Bool, false, Some, None, is_some, IsSome, List, [], ◌∷◌}
-use Rattle.cpu12_isa.specs.Code.{encode_of, FitsOperands}
-use Rattle.cpu12_isa.specs.declared.instr.Instr.{Instr}
+use Rattle.cpu12_isa.specs.{Code.encode_of, Code.FitsOperands, declared.instr.Instr.Instr}
 use Rattle.cpu12_asm.specs.Bytes.{byte_at}
-use Rattle.handler_check.specs.declared.faults.HandlerFault.{HandlerFault}
+use Rattle.handler_check.specs.{declared.faults.HandlerFault.HandlerFault, Accepted.IsAccepted, Faults.IsFirstFault}
 use Rattle.handler_check.specs.declared.faults.HandlerFault.TheVariants.{Empty, Outside, Memory}
 use Rattle.handler_check.specs.Cut.{code_start, code_limit, code_bytes, code_end, AllFit}
-use Rattle.handler_check.specs.Accepted.{IsAccepted}
-use Rattle.handler_check.specs.Faults.{IsFirstFault}
 
 -- an image gives these bytes, one after the other from a place on
 abbrev pub Gives : List (ℕ × ℕ) → ℕ → List ℕ → Type 0

@@ -2,16 +2,12 @@
 -- Beside the promise.
 use Rattle.std.specs.Prelude.{◌≡◌, ℕ, zero, suc, ◌+◌, ◌<◌, ◌≤◌, ◌⊎◌, nat_lt, Bool, true, false, Option, Some, List}
 use Rattle.std.specs.Prelude.{length, slice_get}
-use Rattle.cpu12_isa.specs.declared.instr.Instr.{Instr}
-use Rattle.cpu12_isa.specs.declared.instr.Instr.TheVariants.{Rti}
-use Rattle.cpu12_isa.specs.Regions.{is_free}
-use Rattle.handler_check.specs.declared.faults.HandlerFault.{HandlerFault}
-use Rattle.handler_check.specs.declared.path_summaries.PathSummary.{PathSummary}
+use Rattle.cpu12_isa.specs.{declared.instr.Instr.Instr, declared.instr.Instr.TheVariants.Rti, Regions.is_free}
+use Rattle.handler_check.specs.declared.{faults.HandlerFault.HandlerFault, path_summaries.PathSummary.PathSummary}
 use Rattle.handler_check.specs.Cut.{code_start, code_limit, code_end, IsAt}
 use Rattle.handler_check.specs.Paths.{is_allowed, IsIn, written_by, branches_to, falls_to, leads, GoesForward}
 use Rattle.handler_check.specs.Paths.{height_after, FitsHeight, Path}
-use Rattle.handler_check.specs.Faults.{IsFirst, Applies, place_of, rank}
-use Rattle.handler_check.specs.PathSummaries.{IsSummary}
+use Rattle.handler_check.specs.{Faults.IsFirst, Faults.Applies, Faults.place_of, Faults.rank, PathSummaries.IsSummary}
 
 -- a table that tells of each place from $4000 on whether an instruction begins there
 pub record AreFirsts (is : List Instr) (trapped : Bool) (firsts : List Bool) : Type 0 where

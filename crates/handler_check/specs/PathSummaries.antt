@@ -4,9 +4,7 @@ use Rattle.std.specs.Prelude.{◌≡◌, ℕ, ◌-◌, ◌≤◌, ◌==◌, ◌|
 use Rattle.std.specs.Prelude.{Some, None, unwrap_or, List, [], ◌∷◌, slice_get}
 use Rattle.cpu12_isa.specs.declared.instr.Instr.{Instr}
 use Rattle.handler_check.specs.declared.path_summaries.PathSummary.{PathSummary}
-use Rattle.handler_check.specs.Cut.{code_start}
-use Rattle.handler_check.specs.Paths.{Path}
-use Rattle.handler_check.specs.Faults.{Meets}
+use Rattle.handler_check.specs.{Cut.code_start, Paths.Path, Faults.Meets}
 
 -- what a table of the places from $4000 on has for an address
 abbrev pub summary_at : List (Option PathSummary) → ℕ → Option PathSummary

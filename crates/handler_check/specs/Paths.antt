@@ -3,9 +3,9 @@
 use Rattle.std.specs.Prelude.{◌≡◌, ℕ, zero, suc, ◌+◌, ◌-◌, ◌<◌, ◌⊎◌, nat_lt, Bool, true, false, if◌then◌else◌, List, []}
 use Rattle.std.specs.Prelude.{◌∷◌, ◌++◌}
 use Rattle.cpu12_isa.specs.declared.instr.Instr.{Instr}
-use Rattle.cpu12_isa.specs.declared.instr.Instr.TheVariants.{LdsImmediate, StaaExtended, StabExtended, ClrExtended, Beq}
-use Rattle.cpu12_isa.specs.declared.instr.Instr.TheVariants.{Bne, Bcc, Bcs, Bra, JsrExtended, Rts, Andcc, Fdiv, Rti}
-use Rattle.cpu12_isa.specs.declared.instr.Instr.TheVariants.{IncExtended, DecExtended, Psha, Pula, MovbImmediate}
+use Rattle.cpu12_isa.specs.declared.instr.Instr.TheVariants.{LdsImmediate, StaaExtended, StabExtended, ClrExtended}
+use Rattle.cpu12_isa.specs.declared.instr.Instr.TheVariants.{Beq, Bne, Bcc, Bcs, Bra, JsrExtended, Rts, Andcc, Fdiv}
+use Rattle.cpu12_isa.specs.declared.instr.Instr.TheVariants.{Rti, IncExtended, DecExtended, Psha, Pula, MovbImmediate}
 use Rattle.cpu12_isa.specs.declared.instr.Instr.TheVariants.{MovbExtended, Mem, Rev, Revw, Wav, Wavr}
 use Rattle.handler_check.specs.Cut.{code_start, size_of, IsAt}
 

@@ -2,21 +2,14 @@
 -- Beside the promise.
 use Rattle.std.specs.Prelude.{◌≡◌, ℕ, zero, suc, ◌+◌, ◌≤◌, ◌==◌, Bool, true, false, if◌then◌else◌, Result, Ok, Err}
 use Rattle.std.specs.Prelude.{Some, List, length, slice_index}
-use Rattle.cpu12_isa.specs.declared.instr.Instr.{Instr}
-use Rattle.cpu12_isa.specs.declared.instr.Write.{Write}
-use Rattle.cpu12_isa.specs.Fits.{FitsRegs}
+use Rattle.cpu12_isa.specs.{declared.instr.Instr.Instr, declared.instr.Write.Write, Fits.FitsRegs}
 use Rattle.cpu12_isa.specs.Regions.{is_free, stack_start, stack_end, vector_word}
 use Rattle.cpu12_asm.specs.Bytes.{byte_at}
-use Rattle.cpu12_parts.specs.State.{State}
-use Rattle.cpu12_parts.specs.Cuts.{suspended, wav}
-use Rattle.cpu12_parts.specs.Laws.{IsOff}
-use Rattle.cpu12_emul.specs.Step.{Next, next_of}
+use Rattle.cpu12_parts.specs.{State.State, Cuts.suspended, Cuts.wav, Laws.IsOff}
+use Rattle.cpu12_emul.specs.{Step.Next, Step.next_of, Simulation.AreOpen, Simulation.OnStackOnly, Simulation.Same}
 use Rattle.cpu12_emul.specs.Take.{pushed, written, vectored, framed, entered, taken}
-use Rattle.cpu12_emul.specs.Simulation.{AreOpen, OnStackOnly, Same}
 use Rattle.run_law.specs.Soundness.{Begins, Quiet}
-use Rattle.handler_check.specs.Cut.{code_start, HasCode}
-use Rattle.handler_check.specs.Accepted.{IsAccepted}
-use Rattle.handler_check.specs.Images.{IsHandler}
+use Rattle.handler_check.specs.{Cut.code_start, Cut.HasCode, Accepted.IsAccepted, Images.IsHandler}
 
 -- the state after RTI, the steps to it, and whether it was done
 pub record Returned : Type 0 where

@@ -2,9 +2,8 @@
 ghost use Rattle.std.specs.Prelude.{◌≡◌, ◌≢◌, ◌<◌, ◌≤◌, ◌&&◌, nat_le, nat_lt, if◌then◌else◌, ℕ, None, IsSome, IfOk};
 ghost use Rattle.std.specs.Prelude.{IfErr};
 ghost use Rattle.cpu12_asm.specs.Bytes.{byte_at};
-ghost use Rattle.handler_check.specs.Cut.{code_start, code_limit};
+ghost use Rattle.handler_check.specs.{Cut.code_start, Cut.code_limit, Running.RunsAsTakes};
 ghost use Rattle.handler_check.specs.Images.{IsRun, IsFault, IsHandler};
-ghost use Rattle.handler_check.specs.Running.{RunsAsTakes};
 
 use crate::cut::cut_of;
 use crate::faults::{CODE_LIMIT, CODE_START, Handler, HandlerFault};

@@ -1,13 +1,9 @@
 //! The bytes of a handler as instructions.
 ghost use Rattle.std.specs.Prelude.{◌≡◌, ◌≤◌, ◌<◌, ◌+◌, ◌-◌, ℕ, List, true, false, Ok, IfOk, IfSome, IfNone, length};
 ghost use Rattle.std.specs.Prelude.{slice_get, unwrap_or};
-ghost use Rattle.cpu12_isa.specs.declared.instr.Instr.{Instr};
-ghost use Rattle.cpu12_isa.specs.Code.{FitsOperands, StandsAt, decode_at};
+ghost use Rattle.cpu12_isa.specs.{declared.instr.Instr.Instr, Code.FitsOperands, Code.StandsAt, Code.decode_at};
 ghost use Rattle.handler_check.specs.Cut.{code_start, code_limit, code_end, size_of, AllFit, HasCode};
-ghost use Rattle.handler_check.specs.Paths.{IsIn};
-ghost use Rattle.handler_check.specs.Faults.{IsFirst};
-ghost use Rattle.handler_check.specs.Judging.{AreFirsts};
-ghost use Rattle.handler_check.specs.PathSummaries.{list_of};
+ghost use Rattle.handler_check.specs.{Paths.IsIn, Faults.IsFirst, Judging.AreFirsts, PathSummaries.list_of};
 
 use crate::faults::CODE_START;
 use cpu12_isa::decode::decode;

@@ -3,8 +3,7 @@ ghost use Rattle.std.specs.Prelude.{◌≡◌, ◌≢◌, ◌⊎◌, ◌≤◌, 
 ghost use Rattle.std.specs.Prelude.{MatchOption, length};
 ghost use Rattle.cpu12_isa.specs.declared.instr.Instr.TheVariants.{Rti};
 ghost use Rattle.handler_check.specs.Cut.{code_start, code_limit, size_of, AllFit, IsAt};
-ghost use Rattle.handler_check.specs.Accepted.{IsAccepted};
-ghost use Rattle.handler_check.specs.Faults.{IsFirstFault};
+ghost use Rattle.handler_check.specs.{Accepted.IsAccepted, Faults.IsFirstFault};
 ghost use Rattle.handler_check.specs.Judging.{AreFirsts, AreJudged, Fails, Passes};
 ghost use Rattle.handler_check.specs.PathSummaries.{summary_at, IsSummary};
 

@@ -1,11 +1,9 @@
 //! What instructions of a handler may be, and where they lead.
 ghost use Rattle.std.specs.Prelude.{◌≡◌, ◌≤◌, ◌<◌, ◌+◌, ◌↔◌, ℕ, IsTrue, IfSome, IfNone, true, false};
-ghost use Rattle.cpu12_isa.specs.declared.instr.Instr.TheVariants.{Rti};
-ghost use Rattle.cpu12_isa.specs.Regions.{is_free};
-ghost use Rattle.handler_check.specs.Cut.{size_of, code_limit};
+ghost use Rattle.cpu12_isa.specs.{declared.instr.Instr.TheVariants.Rti, Regions.is_free};
+ghost use Rattle.handler_check.specs.{Cut.size_of, Cut.code_limit, PathSummaries.list_of};
 ghost use Rattle.handler_check.specs.Paths.{is_allowed, IsIn, written_by, branches_to, falls_to, GoesForward};
 ghost use Rattle.handler_check.specs.Paths.{height_after, FitsHeight};
-ghost use Rattle.handler_check.specs.PathSummaries.{list_of};
 
 use cpu12_isa::encode::encode;
 use cpu12_isa::instr::Instr;

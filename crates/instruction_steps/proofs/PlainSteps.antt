@@ -1,18 +1,10 @@
 -- A plain instruction is one step, before which the state keeps the facts.
 use Rattle.std.proofs.Common.{ℕ, Bool, refl, sym, subst, inl, min}
-use Rattle.cpu12_isa.specs.declared.instr.Instr.{Instr}
-use Rattle.cpu12_isa.specs.Act.{read_by}
-use Rattle.cpu12_isa.specs.Agreement.{AllShown, Uncovers}
-use Rattle.cpu12_isa.specs.Code.{six_from}
-use Rattle.cpu12_isa.specs.Meaning.{Effect, act_of, effect}
-use Rattle.cpu12_isa.specs.Regions.{is_hidden}
+use Rattle.cpu12_isa.specs.{declared.instr.Instr.Instr, Act.read_by, Agreement.AllShown, Agreement.Uncovers}
+use Rattle.cpu12_isa.specs.{Code.six_from, Meaning.Effect, Meaning.act_of, Meaning.effect, Regions.is_hidden}
 use Rattle.cpu12_isa.proofs.Algebra.{shown_append}
-use Rattle.cpu12_parts.specs.declared.temps.Temps.{Temps}
-use Rattle.cpu12_parts.specs.Laws.{addresses}
-use Rattle.cpu12_parts.specs.State.{State}
-use Rattle.cpu12_parts.specs.Whole.{IsPlainStep}
-use Rattle.cpu12_emul.specs.declared.ends.Stepped.TheVariants.{Plain}
-use Rattle.cpu12_emul.specs.Simulation.{AreSumsReady, PlainIsStep}
+use Rattle.cpu12_parts.specs.{declared.temps.Temps.Temps, Laws.addresses, State.State, Whole.IsPlainStep}
+use Rattle.cpu12_emul.specs.{declared.ends.Stepped.TheVariants.Plain, Simulation.AreSumsReady, Simulation.PlainIsStep}
 use Rattle.instruction_steps.specs.Facts.{Facts, AreNoneOrRunning}
 use Rattle.run_forms.specs.Arrival.{PlainIsOneStep}
 use Rattle.instruction_steps.proofs.Stretches.{OneInstruction, Kept, AtInstruction}

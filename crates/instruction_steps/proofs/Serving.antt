@@ -2,19 +2,15 @@
 use Rattle.std.proofs.Common.{◌≡◌, ◌==◌, ℕ, ◌+◌, ◌^◌, ◌<◌, ◌≤◌, Bool, false, List, [], ◌∷◌, get_or, refl, ap}
 use Rattle.std.proofs.Common.{sym, ◌∙◌, subst, arith, inl, inr, ◌⊎◌}
 use Rattle.std.proofs.lemmas.Bool.Decides.{nat_tests}
-use Rattle.cpu12_isa.specs.Memory.{plus}
-use Rattle.cpu12_isa.specs.Regions.{stack_start, stack_end}
-use Rattle.cpu12_parts.specs.State.{State}
-use Rattle.cpu12_parts.specs.Executions.{Execution}
+use Rattle.cpu12_isa.specs.{Memory.plus, Regions.stack_start, Regions.stack_end}
+use Rattle.cpu12_parts.specs.{State.State, Executions.Execution}
 use Rattle.eval_code.specs.declared.memory_map.MemoryMap.{MemoryMap}
 use Rattle.codegen.specs.Interruptible.{is_idle, IsInterruptible, IsShownInstruction, IsInterruptibleStep}
 use Rattle.run_forms.specs.Arrival.{PlainIsOneStep}
-use Rattle.instruction_steps.specs.Facts.{IsStackOfOneCall}
-use Rattle.instruction_steps.specs.Instructions.{InstructionsAreSteps}
+use Rattle.instruction_steps.specs.{Facts.IsStackOfOneCall, Instructions.InstructionsAreSteps}
 use Rattle.run_law.specs.Steps.{StepLaws}
 use Rattle.instruction_steps.proofs.Stretches.{OneInstruction, Kept, SameAbove, AtInstruction}
-use Rattle.instruction_steps.proofs.Stretching.{all_stretches}
-use Rattle.instruction_steps.proofs.PlainSteps.{plain_step}
+use Rattle.instruction_steps.proofs.{Stretching.all_stretches, PlainSteps.plain_step}
 use Rattle.instruction_steps.proofs.WholeSteps.{Inside, rev_step, revw_step, average_step}
 
 -- it does not wait, SP is one of two, and memory is the image's from the stack's end on

@@ -1,12 +1,9 @@
 -- Whole instructions as stretches of steps, each of whose states keeps a fact.
 use Rattle.std.proofs.Common.{◌≡◌, ℕ, suc, ◌+◌, ◌≤◌, Bool, false, List, length, get_or}
-use Rattle.cpu12_isa.specs.Agreement.{AllShown}
-use Rattle.cpu12_isa.specs.Code.{six_from}
-use Rattle.cpu12_isa.specs.Fits.{FitsRegs, AreBytes}
+use Rattle.cpu12_isa.specs.{Agreement.AllShown, Code.six_from, Fits.FitsRegs, Fits.AreBytes}
 use Rattle.cpu12_isa.specs.Flags.{interrupts_masked, has}
 use Rattle.cpu12_isa.specs.Regions.{stack_start, stack_end, is_hidden}
-use Rattle.cpu12_parts.specs.declared.temps.Temps.TheVariants.{Free}
-use Rattle.cpu12_parts.specs.State.{State}
+use Rattle.cpu12_parts.specs.{declared.temps.Temps.TheVariants.Free, State.State}
 use Rattle.run_law.proofs.Algebra.{Stretch}
 use Rattle.instruction_steps.specs.Facts.{Facts}
 

@@ -1,7 +1,6 @@
 -- Stretches of steps, put together.
 use Rattle.std.proofs.Common.{◌≡◌, ℕ, suc, ◌+◌, List, [], ◌∷◌, length, subst, arith}
-use Rattle.cpu12_parts.specs.State.{State}
-use Rattle.cpu12_parts.specs.Executions.{Execution, all_steps}
+use Rattle.cpu12_parts.specs.{State.State, Executions.Execution, Executions.all_steps}
 use Rattle.run_law.proofs.Algebra.{Stretch, no_stretch, joined}
 use Rattle.instruction_steps.specs.Instructions.{AreSteps}
 use Rattle.instruction_steps.proofs.Stretches.{OneInstruction}

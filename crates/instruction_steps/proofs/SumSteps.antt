@@ -2,28 +2,19 @@
 use Rattle.std.proofs.Common.{◌≡◌, ℕ, zero, suc, ◌+◌, ◌^◌, ◌<◌, ◌≤◌, min, Bool, false, Result, Ok, List, length, get_or}
 use Rattle.std.proofs.Common.{refl, ap, ap₂, sym, ◌∙◌, subst}
 use Rattle.std.proofs.Common.{inl}
-use Rattle.cpu12_isa.specs.declared.instr.Instr.TheVariants.{Wav}
-use Rattle.cpu12_isa.specs.Act.{read_by, write_all}
-use Rattle.cpu12_isa.specs.Agreement.{AllShown}
-use Rattle.cpu12_isa.specs.Code.{decode_at, six_from, DecodedHasOpcode}
-use Rattle.cpu12_isa.specs.Fits.{FitsRegs, AreBytes}
-use Rattle.cpu12_isa.specs.Flags.{has, interrupts_masked}
-use Rattle.cpu12_isa.specs.Memory.{plus, bytes_at}
-use Rattle.cpu12_isa.specs.Regions.{stack_start, stack_end, is_hidden}
+use Rattle.cpu12_isa.specs.{declared.instr.Instr.TheVariants.Wav, Act.read_by, Act.write_all, Act.outcome}
+use Rattle.cpu12_isa.specs.{Agreement.AllShown, Code.decode_at, Code.six_from, Code.DecodedHasOpcode}
+use Rattle.cpu12_isa.specs.{Fits.FitsRegs, Fits.AreBytes, Flags.has, Flags.interrupts_masked}
+use Rattle.cpu12_isa.specs.{Memory.plus, Memory.bytes_at, Regions.stack_start, Regions.stack_end, Regions.is_hidden}
 use Rattle.cpu12_isa.proofs.Algebra.{shown_append}
-use Rattle.cpu12_parts.specs.declared.temps.Temps.{Temps}
-use Rattle.cpu12_parts.specs.declared.temps.Temps.TheVariants.{Running}
-use Rattle.cpu12_parts.specs.declared.temps.PartEnd.{PartEnd}
+use Rattle.cpu12_parts.specs.declared.{temps.Temps.Temps, temps.Temps.TheVariants.Running, temps.PartEnd.PartEnd}
 use Rattle.cpu12_parts.specs.declared.temps.PartEnd.TheVariants.{More}
-use Rattle.cpu12_parts.specs.State.{State, Outcome}
+use Rattle.cpu12_parts.specs.{State.State, State.Outcome, Inside.second_byte, Laws.addresses, Laws.PartsTo}
 use Rattle.cpu12_parts.specs.Cuts.{wav, part_of, after_part}
 use Rattle.cpu12_parts.specs.Fits.{FitsTemps, FitsState, FitsOutcome}
-use Rattle.cpu12_parts.specs.Inside.{second_byte}
-use Rattle.cpu12_parts.specs.Laws.{addresses, PartsTo}
 use Rattle.cpu12_emul.specs.declared.ends.Stepped.TheVariants.{LastPart}
 use Rattle.cpu12_emul.specs.Simulation.{AreSumsReady, left_of, HasRoom}
 use Rattle.cpu12_emul.specs.Step.{Left, Next, kind_of, step_act, applied}
-use Rattle.cpu12_isa.specs.Act.{outcome}
 use Rattle.instruction_steps.specs.Facts.{Facts, AreNoneOrRunning}
 use Rattle.run_law.specs.Steps.{SumLaws}
 use Rattle.instruction_steps.proofs.Stretches.{OneInstruction, Kept, AtInstruction}

@@ -1,22 +1,13 @@
 -- Whole instructions are stretches of steps.
 use Rattle.std.proofs.Common.{◌≡◌, ℕ, ◌-◌, ◌^◌, ◌<◌, Bool, false, List, refl, sym, subst}
-use Rattle.cpu12_isa.specs.declared.instr.Instr.{Instr}
-use Rattle.cpu12_isa.specs.declared.instr.Instr.TheVariants.{Rev, Revw}
-use Rattle.cpu12_isa.specs.Agreement.{AllShown}
-use Rattle.cpu12_isa.specs.Code.{six_from}
-use Rattle.cpu12_isa.specs.Memory.{plus}
-use Rattle.cpu12_isa.specs.Regions.{stack_end, is_hidden}
-use Rattle.cpu12_parts.specs.State.{State}
-use Rattle.cpu12_parts.specs.Cuts.{Kind, rev, revw, wav}
+use Rattle.cpu12_isa.specs.declared.{instr.Instr.Instr, instr.Instr.TheVariants.Rev, instr.Instr.TheVariants.Revw}
+use Rattle.cpu12_isa.specs.{Agreement.AllShown, Code.six_from, Memory.plus, Regions.stack_end, Regions.is_hidden}
+use Rattle.cpu12_parts.specs.{State.State, Cuts.Kind, Cuts.rev, Cuts.revw, Cuts.wav, Averages.wav_read, Laws.PartsTo}
 use Rattle.cpu12_parts.specs.Rules.{Rule, Form, rev_form, revw_form, rules_read, rules_written, rules_whole, AreApart}
-use Rattle.cpu12_parts.specs.Averages.{wav_read}
-use Rattle.cpu12_parts.specs.Laws.{PartsTo}
-use Rattle.cpu12_parts.specs.Touching.{Each}
-use Rattle.cpu12_parts.specs.Whole.{IsRulesStep, IsAverageStep}
+use Rattle.cpu12_parts.specs.{Touching.Each, Whole.IsRulesStep, Whole.IsAverageStep}
 use Rattle.run_law.specs.Steps.{WriteLaws, RuleLaws, StepLaws}
 use Rattle.instruction_steps.proofs.Stretches.{OneInstruction, Kept, SameAbove, AtInstruction}
-use Rattle.instruction_steps.proofs.PartSteps.{is_spared, spared, parts_at}
-use Rattle.instruction_steps.proofs.SumSteps.{average_at}
+use Rattle.instruction_steps.proofs.{PartSteps.is_spared, PartSteps.spared, PartSteps.parts_at, SumSteps.average_at}
 
 -- what rules touch: they read what is shown, and write what is shown, below the image and not themselves
 pub record Touches (open_to : ℕ → Bool) (f : Form) (p : Rule) (ps : List Rule) (s : State) : Type 0 where

@@ -1,15 +1,11 @@
 -- What each state of a run without interrupts keeps.
 -- Beside the promise.
 use Rattle.std.specs.Prelude.{◌≡◌, ℕ, ◌-◌, ◌≤◌, ◌⊎◌, min, Bool, false, List, slice_index}
-use Rattle.cpu12_isa.specs.Agreement.{AllShown}
-use Rattle.cpu12_isa.specs.Flags.{interrupts_masked, has}
+use Rattle.cpu12_isa.specs.{Agreement.AllShown, Flags.interrupts_masked, Flags.has}
 use Rattle.cpu12_isa.specs.Regions.{stack_end, is_free, is_hidden}
-use Rattle.cpu12_parts.specs.declared.temps.Temps.{Temps}
+use Rattle.cpu12_parts.specs.{declared.temps.Temps.Temps, Laws.addresses, State.State}
 use Rattle.cpu12_parts.specs.declared.temps.Temps.TheVariants.{Free, Running, OnStack}
-use Rattle.cpu12_parts.specs.Laws.{addresses}
-use Rattle.cpu12_parts.specs.State.{State}
-use Rattle.cpu12_emul.specs.Image.{image_memory}
-use Rattle.cpu12_emul.specs.Simulation.{IsShownStep}
+use Rattle.cpu12_emul.specs.{Image.image_memory, Simulation.IsShownStep}
 use Rattle.codegen.specs.declared.firmware.Firmware.{Firmware}
 
 -- the sums are none or running

@@ -1,12 +1,10 @@
 -- Whole instructions as steps.
 -- Beside the promise.
 use Rattle.std.specs.Prelude.{◌≡◌, ℕ, ◌^◌, ◌<◌, Bool, false, List, length}
-use Rattle.cpu12_parts.specs.State.{State}
-use Rattle.cpu12_parts.specs.Executions.{Execution, all_steps}
+use Rattle.cpu12_parts.specs.{State.State, Executions.Execution, Executions.all_steps}
 use Rattle.eval_code.specs.declared.memory_map.MemoryMap.{MemoryMap}
 use Rattle.codegen.specs.Interruptible.{is_idle, IsInterruptibleStep}
-use Rattle.run_law.specs.Uninterrupted.{uninterrupted, counted}
-use Rattle.run_law.specs.Soundness.{Before}
+use Rattle.run_law.specs.{Uninterrupted.uninterrupted, Uninterrupted.counted, Soundness.Before}
 use Rattle.instruction_steps.specs.Facts.{Facts, HasImageBytes, IsStackOfOneCall}
 
 -- The steps of whole instructions one after another lead from s to t: as many count as there are instructions, and P

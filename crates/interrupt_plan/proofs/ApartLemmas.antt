@@ -2,25 +2,20 @@
 use Rattle.std.proofs.Common.{arith, ◌≡◌, ◌<◌, ◌+◌, ℕ, true, false, List, ◌∷◌, ◌++◌, length, refl, sym, ◌∙◌, ap, subst}
 use Rattle.std.specs.Prelude.{All, Option, Some}
 use Rattle.std.proofs.lemmas.List.{length-append}
-use Rattle.fz_rows.specs.FirstRows.{Fields}
-use Rattle.fz_rows.specs.Laws.{FirstRowsAreOne}
+use Rattle.fz_rows.specs.{FirstRows.Fields, Laws.FirstRowsAreOne}
 use Rattle.fz_rows.proofs.Algebra.{FailsFirst, at_element, more_elements, one_fails_first, one_first_failure}
-use Rattle.cpu12_isa.specs.Regions.{is_free}
-use Rattle.cpu12_isa.specs.declared.instr.Write.{Write}
+use Rattle.cpu12_isa.specs.{Regions.is_free, declared.instr.Write.Write}
 use Rattle.interrupt_plan.specs.OneReading.{LevelFaultsAreOne, PlanFaultsAreOne, PostFaultsAreOne}
-use Rattle.interrupt_plan.specs.OneReading.{SpelledLevelsHaveNoFault, SpelledPlansHaveNoFault, SpelledPostsHaveNoFault}
+use Rattle.interrupt_plan.specs.OneReading.{SpelledLevelsHaveNoFault, SpelledPlansHaveNoFault}
+use Rattle.interrupt_plan.specs.OneReading.{SpelledPostsHaveNoFault}
 use Rattle.interrupt_plan.specs.Levels.{AreGoodLevels, LevelNotAfter, SpellsLevel, no_writes, numbers_of}
-use Rattle.interrupt_plan.specs.Plans.{IsGood, NotAfter}
+use Rattle.interrupt_plan.specs.{Plans.IsGood, Plans.NotAfter, PlanTexts.SpellsRequest, PlanTexts.writes_by}
 use Rattle.interrupt_plan.specs.Posts.{AreGoodPosts, NoLater, SpellsPost, writes_in}
-use Rattle.interrupt_plan.specs.PlanTexts.{SpellsRequest, writes_by}
 use Rattle.interrupt_plan.specs.Rows.{AreFree, AreInOrder, FirstFault, HasFirstFault, HasNumbers, IsFirstTaken}
 use Rattle.interrupt_plan.specs.Rows.{RowFails, SpellAll, SpellsText, at_row, count_of, more, not_ascending, not_free}
 use Rattle.interrupt_plan.specs.Rows.{unread}
-use Rattle.interrupt_plan.specs.declared.PlanFault.{PlanFault}
+use Rattle.interrupt_plan.specs.declared.{PlanFault.PlanFault, levels.Level.Level, Post.Post, Request.Request}
 use Rattle.interrupt_plan.specs.declared.PlanFault.TheVariants.{NotFree, TooMany}
-use Rattle.interrupt_plan.specs.declared.levels.Level.{Level}
-use Rattle.interrupt_plan.specs.declared.Post.{Post}
-use Rattle.interrupt_plan.specs.declared.Request.{Request}
 use Rattle.interrupt_plan.proofs.LevelLemmas.{one_numbers}
 use Rattle.interrupt_plan.proofs.SpelledLemmas.{Split, split_at, own_of, follows_last}
 

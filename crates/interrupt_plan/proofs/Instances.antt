@@ -1,10 +1,8 @@
 -- A good plan with two requests, so that plans other than the empty one meet the definition.
 use Rattle.std.proofs.Common.{◌≡◌, true, [], ◌∷◌, All, arith, inr, refl}
 use Rattle.std.proofs.lemmas.List.Elements.{All-cons}
-use Rattle.cpu12_isa.specs.declared.instr.Write.{Write}
-use Rattle.cpu12_isa.specs.Regions.{is_free}
-use Rattle.interrupt_plan.specs.declared.Request.{Request}
-use Rattle.interrupt_plan.specs.Plans.{IsGood, IsGoodRequest}
+use Rattle.cpu12_isa.specs.{declared.instr.Write.Write, Regions.is_free}
+use Rattle.interrupt_plan.specs.{declared.Request.Request, Plans.IsGood, Plans.IsGoodRequest}
 
 abbrev lowest : Write
 lowest = record { at = 0x1800; value = 255 }

@@ -9,9 +9,8 @@ use Rattle.std.specs.Ordering.{is_le, nat_cmp}
 use Rattle.std.proofs.lemmas.List.Sorted.{non_decreasing_from_is_sorted}
 use Rattle.std.proofs.lemmas.List.Elements.{All-cons, All-nil, All-tail}
 use Rattle.fz_rows.specs.FirstRows.{Fields}
-use Rattle.interrupt_plan.specs.declared.levels.Level.{Level}
+use Rattle.interrupt_plan.specs.{declared.levels.Level.Level, Rows.AreInOrder, Rows.SpellAll, Rows.count_of}
 use Rattle.interrupt_plan.specs.Levels.{AreGoodLevels, IsGoodLevel, LevelNotAfter, SpellsLevel, no_writes, numbers_of}
-use Rattle.interrupt_plan.specs.Rows.{AreInOrder, SpellAll, count_of}
 use Rattle.interrupt_plan.proofs.PlanLemmas.{count_small, take_all}
 
 -- ---- the numbers of fields

@@ -7,22 +7,18 @@ use Rattle.std.proofs.lemmas.List.{length-append}
 use Rattle.std.proofs.lemmas.List.Elements.{All-append, All-cons, All-nil}
 use Rattle.csv.specs.Records.{Row, fields_of}
 use Rattle.cpu12_isa.specs.declared.instr.Write.{Write}
-use Rattle.fz_rows.specs.FirstRows.{Fields}
-use Rattle.fz_rows.specs.Laws.{FirstRowsAreOne}
+use Rattle.fz_rows.specs.{FirstRows.Fields, Laws.FirstRowsAreOne}
 use Rattle.fz_rows.proofs.Algebra.{FailsFirst, at_element, more_elements, one_first_failure}
-use Rattle.interrupt_plan.specs.declared.upsets.Upset.{Upset}
-use Rattle.interrupt_plan.specs.declared.upsets.UpsetFault.{UpsetFault}
+use Rattle.interrupt_plan.specs.declared.{upsets.Upset.Upset, upsets.UpsetFault.UpsetFault}
 use Rattle.interrupt_plan.specs.declared.upsets.UpsetFault.TheVariants.{NotTable, TooMany}
-use Rattle.interrupt_plan.specs.OneReading.{UpsetFaultsAreOne}
-use Rattle.interrupt_plan.specs.Rows.{count_of, write_of}
+use Rattle.interrupt_plan.specs.{OneReading.UpsetFaultsAreOne, Rows.count_of, Rows.write_of}
 use Rattle.interrupt_plan.specs.Upsets.{AreGoodUpsets, IsBefore, IsGoodUpset, is_table}
 use Rattle.interrupt_plan.specs.UpsetTexts.{FirstUpsetFault, SpellUpsets, SpellsUpset, SpelledUpsetsHaveNoFault}
 use Rattle.interrupt_plan.specs.UpsetTexts.{UpsetRowFails, at_row, more, unread, not_table, not_ascending}
-use Rattle.interrupt_plan.proofs.ByteLemmas.{write_small}
+use Rattle.interrupt_plan.proofs.{ByteLemmas.write_small, ApartLemmas.same_some}
 use Rattle.interrupt_plan.proofs.PlanLemmas.{count_small, fields_more, fields_split, length-fields}
 use Rattle.interrupt_plan.proofs.SpelledLemmas.{Split, ascends-snoc, follows_last, own_of, spelled-length, spell-snoc}
 use Rattle.interrupt_plan.proofs.SpelledLemmas.{split_at}
-use Rattle.interrupt_plan.proofs.ApartLemmas.{same_some}
 
 -- three fields, by their places
 pub three_fields : (fields : Fields) (a b c : List ℕ) → length fields ≡ 3 → get_or fields 0 [] ≡ a

@@ -1,15 +1,10 @@
 -- A text spells entries or has a first fault, not both, and it has one.
 -- Beside the promise.
 use Rattle.std.specs.Prelude.{◌≡◌, ℕ, List}
-use Rattle.interrupt_plan.specs.Levels.{LevelsHaveFault, SpellsLevels}
-use Rattle.interrupt_plan.specs.PlanTexts.{HasFault, Spells}
-use Rattle.interrupt_plan.specs.Posts.{PostsHaveFault, SpellsPosts}
-use Rattle.interrupt_plan.specs.declared.PlanFault.{PlanFault}
-use Rattle.interrupt_plan.specs.declared.levels.Level.{Level}
-use Rattle.interrupt_plan.specs.declared.Post.{Post}
-use Rattle.interrupt_plan.specs.declared.Request.{Request}
+use Rattle.interrupt_plan.specs.{Levels.LevelsHaveFault, Levels.SpellsLevels, PlanTexts.HasFault, PlanTexts.Spells}
+use Rattle.interrupt_plan.specs.{Posts.PostsHaveFault, Posts.SpellsPosts, UpsetTexts.HasUpsetFault}
+use Rattle.interrupt_plan.specs.declared.{PlanFault.PlanFault, levels.Level.Level, Post.Post, Request.Request}
 use Rattle.interrupt_plan.specs.declared.upsets.UpsetFault.{UpsetFault}
-use Rattle.interrupt_plan.specs.UpsetTexts.{HasUpsetFault}
 
 -- A text that spells a plan has no fault.
 abbrev pub SpelledPlansHaveNoFault : Type 0

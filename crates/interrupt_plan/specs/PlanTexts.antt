@@ -3,10 +3,8 @@
 use Rattle.std.specs.Prelude.{◌≤◌, ℕ, List}
 use Rattle.cpu12_isa.specs.declared.instr.Write.{Write}
 use Rattle.fz_rows.specs.FirstRows.{Fields}
-use Rattle.interrupt_plan.specs.declared.Request.{Request}
-use Rattle.interrupt_plan.specs.declared.PlanFault.{PlanFault}
-use Rattle.interrupt_plan.specs.Plans.{IsGood, NotAfter}
-use Rattle.interrupt_plan.specs.Rows.{SpellsRow, SpellsText, HasFirstFault}
+use Rattle.interrupt_plan.specs.declared.{Request.Request, PlanFault.PlanFault}
+use Rattle.interrupt_plan.specs.{Plans.IsGood, Plans.NotAfter, Rows.SpellsRow, Rows.SpellsText, Rows.HasFirstFault}
 
 -- the fields spell the request: its sample, from 1, its moment, and at most eight writes
 pub record SpellsRequest (fields : Fields) (r : Request) : Type 0 where

@@ -1,13 +1,10 @@
 -- What a text of posts spells, and its first fault.
 -- Beside the promise.
 use Rattle.std.specs.Prelude.{◌≡◌, ◌<◌, ◌≤◌, ◌^◌, ℕ, true, List, length, All}
-use Rattle.cpu12_isa.specs.declared.instr.Write.{Write}
-use Rattle.cpu12_isa.specs.Regions.{is_free}
+use Rattle.cpu12_isa.specs.{declared.instr.Write.Write, Regions.is_free}
 use Rattle.fz_rows.specs.FirstRows.{Fields}
-use Rattle.interrupt_plan.specs.declared.Post.{Post}
-use Rattle.interrupt_plan.specs.declared.PlanFault.{PlanFault}
-use Rattle.interrupt_plan.specs.Plans.{Ascend}
-use Rattle.interrupt_plan.specs.Rows.{SpellsRow, SpellsText, HasFirstFault}
+use Rattle.interrupt_plan.specs.declared.{Post.Post, PlanFault.PlanFault}
+use Rattle.interrupt_plan.specs.{Plans.Ascend, Rows.SpellsRow, Rows.SpellsText, Rows.HasFirstFault}
 
 -- a post of one of so many samples, or of none: it comes at a moment up to 1000000, and does at most eight writes, each
 -- of a byte to a free address

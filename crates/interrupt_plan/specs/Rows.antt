@@ -2,15 +2,12 @@
 -- Reached by the promise.
 use Rattle.std.specs.Prelude.{◌≡◌, ◌<◌, ◌≤◌, ◌+◌, ◌*◌, ℕ, List, [], ◌∷◌, ◌++◌, length, drop, All, Option, Some, None}
 use Rattle.std.specs.Prelude.{Result, Ok, Err, slice_index, nat_le, ◌&&◌, true, false, if◌then◌else◌}
-use Rattle.hex.specs.Hex.{decode_sized}
-use Rattle.hex.specs.declared.error.FromHexError.{FromHexError}
+use Rattle.hex.specs.{Hex.decode_sized, declared.error.FromHexError.FromHexError}
 use Rattle.fz_num.specs.Decimals.{are_digits, number}
-use Rattle.cpu12_isa.specs.declared.instr.Write.{Write}
-use Rattle.cpu12_isa.specs.Regions.{is_free}
+use Rattle.cpu12_isa.specs.{declared.instr.Write.Write, Regions.is_free}
 use Rattle.fz_rows.specs.FirstRows.{Fields, AreFirstRows}
-use Rattle.interrupt_plan.specs.declared.PlanFault.{PlanFault}
+use Rattle.interrupt_plan.specs.{declared.PlanFault.PlanFault, Plans.Ascend}
 use Rattle.interrupt_plan.specs.declared.PlanFault.TheVariants.{BadRow, NotFree, NotAscending, TooMany}
-use Rattle.interrupt_plan.specs.Plans.{Ascend}
 
 -- the number of one to nine decimal digits
 abbrev pub count_of : List ℕ → Option ℕ

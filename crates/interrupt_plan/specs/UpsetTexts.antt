@@ -2,11 +2,9 @@
 -- Beside the promise.
 use Rattle.std.specs.Prelude.{◌≡◌, ◌<◌, ◌≤◌, ◌+◌, ℕ, false, true, List, [], ◌∷◌, ◌++◌, length, Some}
 use Rattle.fz_rows.specs.FirstRows.{Fields, AreFirstRows}
-use Rattle.interrupt_plan.specs.declared.upsets.Upset.{Upset}
-use Rattle.interrupt_plan.specs.declared.upsets.UpsetFault.{UpsetFault}
+use Rattle.interrupt_plan.specs.declared.{upsets.Upset.Upset, upsets.UpsetFault.UpsetFault}
 use Rattle.interrupt_plan.specs.declared.upsets.UpsetFault.TheVariants.{BadRow, NotTable, NotAscending, TooMany}
-use Rattle.interrupt_plan.specs.Rows.{SpellAll, count_of, write_of}
-use Rattle.interrupt_plan.specs.Upsets.{AreGoodUpsets, is_table}
+use Rattle.interrupt_plan.specs.{Rows.SpellAll, Rows.count_of, Rows.write_of, Upsets.AreGoodUpsets, Upsets.is_table}
 
 -- three fields are an upset's sample, from 1, its address and its value
 pub record SpellsUpset (fields : Fields) (u : Upset) : Type 0 where

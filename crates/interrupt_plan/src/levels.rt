@@ -5,8 +5,7 @@ ghost use Rattle.std.specs.List.Sorted.{IsNonDecreasing};
 ghost use Rattle.csv.specs.Records.{fields_of};
 ghost use Rattle.interrupt_plan.specs.Levels.{IsGoodLevel, LevelNotAfter, LevelsHaveFault, SpellsLevel, SpellsLevels};
 ghost use Rattle.interrupt_plan.specs.Levels.{no_writes, numbers_of};
-ghost use Rattle.interrupt_plan.specs.Rows.{count_of};
-ghost use Rattle.interrupt_plan.specs.declared.levels.Level.{Level as TheLevel};
+ghost use Rattle.interrupt_plan.specs.{Rows.count_of, declared.levels.Level.Level as TheLevel};
 
 use crate::PlanFault;
 use crate::entry::{Entry, is_no_later};

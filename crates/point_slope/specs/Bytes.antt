@@ -4,14 +4,10 @@ use Rattle.std.specs.Prelude.{ℕ, ◌+◌, ◌-◌, ◌*◌, ◌/◌, ◌≤◌
 use Rattle.std.specs.Prelude.{slice_index}
 use Rattle.std.specs.Option.{option_map_or}
 use Rattle.fz_num.specs.declared.dec.Dec.{Dec}
-use Rattle.fuzzy_meaning.specs.declared.block.Block.{Block}
-use Rattle.fuzzy_meaning.specs.declared.block.Output.{Output}
-use Rattle.fuzzy_meaning.specs.declared.block.Rule.{Rule}
+use Rattle.fuzzy_meaning.specs.declared.{block.Block.Block, block.Output.Output, block.Rule.Rule}
 use Rattle.fuzzy_meaning.specs.Blocks.{input_at, output_at, IsValid}
-use Rattle.fuzzy_meaning.specs.Conditions.{Condition, level}
-use Rattle.fuzzy_meaning.specs.Rules.{concludes}
-use Rattle.byte_scaling.specs.Cells.{nearest_byte}
-use Rattle.byte_scaling.specs.Weights.{weight_byte_of}
+use Rattle.fuzzy_meaning.specs.{Conditions.Condition, Conditions.level, Rules.concludes}
+use Rattle.byte_scaling.specs.{Cells.nearest_byte, Weights.weight_byte_of}
 use Rattle.point_slope.specs.Tables.{row_of, grade_of}
 
 -- the grade of term t of input i at the bytes of the inputs

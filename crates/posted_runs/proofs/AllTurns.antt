@@ -3,23 +3,17 @@ use Rattle.std.proofs.Common.{◌≡◌, ◌≢◌, ℕ, zero, suc, ◌+◌, ◌
 use Rattle.std.proofs.Common.{true, false, nat_le, refl, sym, ap, ◌∙◌, subst, arith, inl, inr}
 use Rattle.std.proofs.lemmas.Bool.Decides.{nat_tests}
 use Rattle.cpu12_parts.specs.State.{State}
-use Rattle.run_law.specs.Forms.{Ran}
-use Rattle.run_law.specs.Soundness.{AllGood}
-use Rattle.run_law.specs.Uninterrupted.{uninterrupted}
-use Rattle.interrupt_plan.specs.declared.Post.{Post}
-use Rattle.interrupt_plan.specs.Posts.{IsGoodPost}
+use Rattle.run_law.specs.{Forms.Ran, Soundness.AllGood, Uninterrupted.uninterrupted}
+use Rattle.interrupt_plan.specs.{declared.Post.Post, Posts.IsGoodPost}
 use Rattle.codegen.specs.declared.firmware.Firmware.{Firmware}
 use Rattle.eval_code.specs.Widths.{width_of, places}
 use Rattle.posted_runs.specs.Turns.{Turn, AreTurns, over, idle, answers, up_to, behind, waiting, taken_from}
 use Rattle.posted_runs.specs.Runs.{RunSeen, before_turns, turn_from, turns_from}
 use Rattle.posted_runs.specs.Answering.{ended, answer_of, frames_in, resumed_in, run_of_turns, SimulateTurns}
-use Rattle.posted_runs.specs.UninterruptedTurns.{AllTurnRuns}
+use Rattle.posted_runs.specs.{UninterruptedTurns.AllTurnRuns, WholeRuns.RunsAreTurns, UsedLaws.TurnLaws}
 use Rattle.posted_runs.specs.Postings.{IsBox, AreOfSize}
-use Rattle.posted_runs.specs.WholeRuns.{RunsAreTurns}
-use Rattle.posted_runs.specs.UsedLaws.{TurnLaws}
 use Rattle.posted_runs.proofs.LastOnes.{not_zero, some_answered, zero_or}
-use Rattle.posted_runs.proofs.TakenLists.{Rise, rise_behind}
-use Rattle.posted_runs.proofs.AnswerRuns.{good_behind}
+use Rattle.posted_runs.proofs.{TakenLists.Rise, TakenLists.rise_behind, AnswerRuns.good_behind}
 use Rattle.posted_runs.proofs.TurnsFollow.{Begins, over_turn, idle_turn, answer_next}
 
 -- where posts are left, or came, the boundary is not far

@@ -5,11 +5,9 @@ use Rattle.std.proofs.lemmas.Bool.Decides.{nat_tests}
 use Rattle.cpu12_parts.specs.State.{State}
 use Rattle.cpu12_emul.specs.Step.{Next, next_of, is_part}
 use Rattle.run_law.specs.Forms.{Taking, takes, Ran, ended, before_rest, run_from}
-use Rattle.run_law.specs.Uninterrupted.{uninterrupted, state_by}
-use Rattle.run_law.specs.Soundness.{Before}
+use Rattle.run_law.specs.{Uninterrupted.uninterrupted, Uninterrupted.state_by, Soundness.Before}
 use Rattle.interrupt_plan.specs.declared.Post.{Post}
-use Rattle.codegen.specs.declared.firmware.Firmware.{Firmware}
-use Rattle.codegen.specs.Uninterrupted.{is_waiting}
+use Rattle.codegen.specs.{declared.firmware.Firmware.Firmware, Uninterrupted.is_waiting}
 use Rattle.posted_runs.specs.Runs.{turn_form}
 use Rattle.posted_runs.proofs.WholeTurns.{IsBusy}
 

@@ -3,38 +3,28 @@ use Rattle.std.proofs.Common.{◌≡◌, ℕ, zero, suc, ◌+◌, ◌-◌, ◌*�
 use Rattle.std.proofs.Common.{◌&&◌, None, List, [], ◌∷◌, ◌++◌, drop, length, map, get_or, refl, sym, ap}
 use Rattle.std.proofs.Common.{◌∙◌, subst, arith, inl, inr}
 use Rattle.std.proofs.lemmas.Bool.{or_parts, cases_lt}
-use Rattle.cpu12_isa.specs.declared.instr.Instr.TheVariants.{Orcc}
-use Rattle.cpu12_isa.specs.declared.instr.Regs.{Regs}
-use Rattle.cpu12_isa.specs.Agreement.{Agree}
-use Rattle.cpu12_isa.specs.Regions.{is_free, is_hidden}
+use Rattle.cpu12_isa.specs.declared.{instr.Instr.TheVariants.Orcc, instr.Regs.Regs}
+use Rattle.cpu12_isa.specs.{Agreement.Agree, Regions.is_free, Regions.is_hidden}
 use Rattle.cpu12_isa.proofs.Algebra.{agree_self, agree_with}
 use Rattle.cpu12_parts.specs.State.{State}
-use Rattle.cpu12_emul.specs.Image.{image_memory}
-use Rattle.cpu12_emul.specs.Take.{FrameSeen}
-use Rattle.cpu12_emul.specs.Simulation.{OnStackOnly, Same}
+use Rattle.cpu12_emul.specs.{Image.image_memory, Take.FrameSeen, Simulation.OnStackOnly, Simulation.Same}
 use Rattle.run_law.specs.Forms.{Ran, takes, run_from}
-use Rattle.run_law.specs.Following.{asked, onto, Completes}
-use Rattle.run_law.specs.Moments.{TakenAtFirstOpen}
+use Rattle.run_law.specs.{Following.asked, Following.onto, Following.Completes, Moments.TakenAtFirstOpen}
 use Rattle.run_law.specs.Soundness.{AllSimulate, AllGood, Ascend}
-use Rattle.run_law.specs.Uninterrupted.{uninterrupted, counted, is_inside, stepped, taken_at, resumed_of, frames_after}
+use Rattle.run_law.specs.Uninterrupted.{uninterrupted, counted, is_inside, stepped, taken_at, resumed_of}
+use Rattle.run_law.specs.Uninterrupted.{frames_after}
 use Rattle.run_law.proofs.Algebra.{uninterrupted_add, counted_add}
-use Rattle.interrupt_plan.specs.declared.Post.{Post}
-use Rattle.interrupt_plan.specs.Posts.{IsGoodPost}
-use Rattle.codegen.specs.declared.firmware.Firmware.{Firmware}
-use Rattle.codegen.specs.Mailboxes.{is_mail, is_postable}
-use Rattle.codegen.specs.Turns.{IsAt}
+use Rattle.interrupt_plan.specs.{declared.Post.Post, Posts.IsGoodPost}
+use Rattle.codegen.specs.{declared.firmware.Firmware.Firmware, Mailboxes.is_mail, Mailboxes.is_postable, Turns.IsAt}
 use Rattle.eval_code.specs.Widths.{width_of, places}
 use Rattle.instruction_steps.specs.Facts.{FactsBeside}
-use Rattle.posted_runs.specs.Turns.{up_to, behind, waiting}
-use Rattle.posted_runs.specs.Runs.{TurnForm, turn_form}
+use Rattle.posted_runs.specs.{Turns.up_to, Turns.behind, Turns.waiting, Runs.TurnForm, Runs.turn_form}
 use Rattle.posted_runs.specs.PostedTurns.{End, TurnEnds, plain_frame, PostedTurnsFollow}
-use Rattle.posted_runs.specs.Shifts.{frames_from, ran_from}
+use Rattle.posted_runs.specs.{Shifts.frames_from, Shifts.ran_from, UninterruptedTurns.IsAnswerRun}
 use Rattle.posted_runs.specs.Postings.{mailed, posted, IsBox, AreOfSize}
 use Rattle.posted_runs.specs.Behind.{part_form, posted_by, not_mail, HoldsMail}
-use Rattle.posted_runs.specs.UninterruptedTurns.{IsAnswerRun}
 use Rattle.posted_runs.specs.UsedLaws.{Stepping, TurnLaws, Writing}
-use Rattle.posted_runs.proofs.Mailing.{mailed_apart, mailed_alike}
-use Rattle.posted_runs.proofs.Posting.{waits_within}
+use Rattle.posted_runs.proofs.{Mailing.mailed_apart, Mailing.mailed_alike, Posting.waits_within}
 use Rattle.posted_runs.proofs.Behind.{to_mail, steps_keep}
 use Rattle.posted_runs.proofs.Passing.{less_hidden, pass, plain_follows, masked_run, ends_there, not_over}
 use Rattle.posted_runs.proofs.TakenLists.{Rise, Splits, splits, rise_behind}

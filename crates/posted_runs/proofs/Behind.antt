@@ -5,36 +5,26 @@ use Rattle.std.proofs.Common.{inr}
 use Rattle.std.specs.Prelude.{◌==◌, if◌then◌else◌}
 use Rattle.std.proofs.lemmas.Bool.{or_parts, and_parts}
 use Rattle.std.proofs.lemmas.Bool.Decides.{nat_tests}
-use Rattle.cpu12_isa.specs.declared.instr.Regs.{Regs}
-use Rattle.cpu12_isa.specs.Act.{outcome, write_all}
+use Rattle.cpu12_isa.specs.{declared.instr.Regs.Regs, Act.outcome, Act.write_all, Regions.is_free, Regions.is_hidden}
 use Rattle.cpu12_isa.specs.Agreement.{Agree, AllShown, IsWritten, WritesAgree, WritesStay}
 use Rattle.cpu12_isa.specs.Memory.{plus, placed, word_of}
-use Rattle.cpu12_isa.specs.Regions.{is_free, is_hidden}
 use Rattle.cpu12_isa.proofs.Algebra.{agree_self, agree_with}
 use Rattle.cpu12_parts.specs.declared.temps.Temps.{Temps}
 use Rattle.cpu12_parts.specs.declared.temps.Temps.TheVariants.{Free, Running, OnStack}
-use Rattle.cpu12_parts.specs.State.{State}
-use Rattle.cpu12_parts.specs.Sums.{sum_bytes}
-use Rattle.cpu12_parts.specs.Cuts.{suspended, wav}
-use Rattle.cpu12_parts.specs.Laws.{IsOff, addresses}
-use Rattle.cpu12_emul.specs.Step.{Left, Next, step_act, applied, next_of}
-use Rattle.cpu12_emul.specs.Take.{framed}
+use Rattle.cpu12_parts.specs.{State.State, Sums.sum_bytes, Cuts.suspended, Cuts.wav, Laws.IsOff, Laws.addresses}
+use Rattle.cpu12_emul.specs.{Step.Left, Step.Next, Step.step_act, Step.applied, Step.next_of, Take.framed}
 use Rattle.cpu12_emul.specs.Simulation.{OnStackOnly, OnStackOrNone, Simulates, AreSumsReady, HasRoom, IsShownStep}
 use Rattle.run_law.specs.Uninterrupted.{stepped, state_by}
 use Rattle.run_law.specs.Soundness.{below_sums, Begins, Sound, WritesAreQuiet}
-use Rattle.interrupt_plan.specs.declared.Post.{Post}
-use Rattle.interrupt_plan.specs.Posts.{IsGoodPost}
+use Rattle.interrupt_plan.specs.{declared.Post.Post, Posts.IsGoodPost}
 use Rattle.codegen.specs.declared.firmware.Firmware.{Firmware}
-use Rattle.eval_code.specs.declared.width.Width.{Width}
-use Rattle.eval_code.specs.declared.width.Width.TheVariants.{Byte, Word}
-use Rattle.codegen.specs.Mailboxes.{is_mail, is_postable}
-use Rattle.codegen.specs.Uninterrupted.{values_from}
+use Rattle.codegen.specs.{Mailboxes.is_mail, Mailboxes.is_postable, Uninterrupted.values_from}
+use Rattle.eval_code.specs.declared.{width.Width.Width, width.Width.TheVariants.Byte, width.Width.TheVariants.Word}
 use Rattle.eval_code.specs.Widths.{width_of, places}
 use Rattle.instruction_steps.specs.Facts.{Facts, FactsBeside, IsStackOfOneCall}
-use Rattle.posted_runs.specs.Runs.{post_writes}
+use Rattle.posted_runs.specs.{Runs.post_writes, UsedLaws.Stepping}
 use Rattle.posted_runs.specs.Postings.{mailed, last_of, IsBox, AreOfSize}
 use Rattle.posted_runs.specs.Behind.{part_form, posted_by, not_mail, HoldsMail}
-use Rattle.posted_runs.specs.UsedLaws.{Stepping}
 use Rattle.posted_runs.proofs.Mailing.{leaves_stack, open_post, post_mailed, mailed_over}
 
 clash : (b : Bool) → b ≡ true → b ≡ false → ⊥

@@ -4,26 +4,17 @@ use Rattle.std.proofs.Common.{length, refl, sym, ap, ◌∙◌, subst, arith, in
 use Rattle.std.proofs.lemmas.Bool.{cases_lt}
 use Rattle.cpu12_isa.specs.declared.instr.Instr.{Instr}
 use Rattle.cpu12_parts.specs.declared.temps.Temps.TheVariants.{Free}
-use Rattle.cpu12_parts.specs.State.{State}
-use Rattle.cpu12_parts.specs.Whole.{IsPlainStep}
-use Rattle.cpu12_parts.specs.Executions.{Execution}
-use Rattle.cpu12_emul.specs.declared.ends.Stepped.{Stepped}
-use Rattle.cpu12_emul.specs.declared.ends.Stepped.TheVariants.{Plain}
-use Rattle.cpu12_emul.specs.Image.{image_memory}
-use Rattle.cpu12_emul.specs.Step.{Next, is_part}
-use Rattle.cpu12_emul.specs.Take.{may_interrupt}
-use Rattle.run_law.specs.Forms.{one_if}
-use Rattle.run_law.specs.Moments.{TakenAtFirstOpen}
+use Rattle.cpu12_parts.specs.{State.State, Whole.IsPlainStep, Executions.Execution}
+use Rattle.cpu12_emul.specs.declared.{ends.Stepped.Stepped, ends.Stepped.TheVariants.Plain}
+use Rattle.cpu12_emul.specs.{Image.image_memory, Step.Next, Step.is_part, Take.may_interrupt}
+use Rattle.run_law.specs.{Forms.one_if, Moments.TakenAtFirstOpen}
 use Rattle.run_law.specs.Uninterrupted.{uninterrupted, counted, is_inside, stepped, state_by, kind_by, kind_at}
 use Rattle.run_law.specs.Uninterrupted.{first_open}
 use Rattle.run_law.proofs.Algebra.{uninterrupted_add}
-use Rattle.codegen.specs.declared.firmware.Firmware.{Firmware}
+use Rattle.codegen.specs.{declared.firmware.Firmware.Firmware, Turns.IsMaskedStep}
 use Rattle.eval_code.specs.declared.memory_map.MemoryMap.{MemoryMap}
-use Rattle.codegen.specs.Turns.{IsMaskedStep}
-use Rattle.posted_runs.specs.UninterruptedTurns.{IsAnswerRun}
-use Rattle.posted_runs.specs.UsedLaws.{PlainStepLaws}
-use Rattle.posted_runs.proofs.Passing.{plain_next}
-use Rattle.posted_runs.proofs.TwoSteps.{IsHere, here_at}
+use Rattle.posted_runs.specs.{UninterruptedTurns.IsAnswerRun, UsedLaws.PlainStepLaws}
+use Rattle.posted_runs.proofs.{Passing.plain_next, TwoSteps.IsHere, TwoSteps.here_at}
 
 -- a plain step
 pub kind_plain : PlainStepLaws → (flags : ℕ) (i : Instr) (s t : State) → s.temps ≡ Free → IsPlainStep flags i s t

@@ -2,13 +2,11 @@
 use Rattle.std.proofs.Common.{◌≡◌, ℕ, ◌+◌, ◌-◌, ◌≤◌, ◌==◌, false, List, [], ◌∷◌, ◌++◌, All, length, inl, inr, refl, sym}
 use Rattle.std.proofs.Common.{subst, arith}
 use Rattle.std.proofs.lemmas.Bool.Decides.{nat_tests}
-use Rattle.interrupt_plan.specs.declared.Post.{Post}
-use Rattle.interrupt_plan.specs.Posts.{IsGoodPost}
+use Rattle.interrupt_plan.specs.{declared.Post.Post, Posts.IsGoodPost}
 use Rattle.posted_runs.specs.Turns.{Turn, AreTurns, over, idle, answers, up_to, behind, waiting}
 use Rattle.posted_runs.specs.UninterruptedTurns.{HasSteps, HaveSteps, TurnsHaveSteps}
-use Rattle.posted_runs.proofs.OneList.{answering}
+use Rattle.posted_runs.proofs.{OneList.answering, LastOnes.some_answered}
 use Rattle.posted_runs.proofs.Postings.{first_within, posts_behind, all_drop}
-use Rattle.posted_runs.proofs.LastOnes.{some_answered}
 
 good_behind : (n k : ℕ) (ps : List Post) → All (IsGoodPost n) ps → All (IsGoodPost n) (behind k ps)
 good_behind n k ps all = subst (All (IsGoodPost n)) (posts_behind k ps) (all_drop n (length (up_to k ps)) ps all)

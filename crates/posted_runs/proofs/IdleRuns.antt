@@ -1,18 +1,13 @@
 -- An idle turn, under posts.
 use Rattle.std.proofs.Common.{◌≡◌, ℕ, suc, ◌+◌, ◌-◌, false, List, [], ◌++◌, map, refl, sym, ap, ◌∙◌, subst, arith}
 use Rattle.std.proofs.Common.{append-nil}
-use Rattle.cpu12_isa.specs.declared.instr.Regs.{Regs}
-use Rattle.cpu12_isa.specs.Agreement.{Agree}
-use Rattle.cpu12_isa.specs.Regions.{is_free, is_hidden}
+use Rattle.cpu12_isa.specs.{declared.instr.Regs.Regs, Agreement.Agree, Regions.is_free, Regions.is_hidden}
 use Rattle.cpu12_parts.specs.State.{State}
-use Rattle.cpu12_emul.specs.Image.{image_memory}
-use Rattle.cpu12_emul.specs.Take.{FrameSeen}
-use Rattle.cpu12_emul.specs.Simulation.{Same}
+use Rattle.cpu12_emul.specs.{Image.image_memory, Take.FrameSeen, Simulation.Same}
 use Rattle.run_law.specs.Forms.{run_from}
 use Rattle.interrupt_plan.specs.declared.Post.{Post}
 use Rattle.posted_runs.specs.Turns.{up_to, behind, waiting}
-use Rattle.posted_runs.specs.Runs.{TurnForm, turn_form}
-use Rattle.posted_runs.specs.Postings.{mailed, posted}
+use Rattle.posted_runs.specs.{Runs.TurnForm, Runs.turn_form, Postings.mailed, Postings.posted}
 use Rattle.posted_runs.specs.PostedTurns.{TurnEnds, plain_frame, IdleTurnsFollow}
 use Rattle.posted_runs.specs.UsedLaws.{PlainStepLaws, TakingLaws}
 use Rattle.posted_runs.proofs.Passing.{ends_there, at_once, pass_end}

@@ -8,8 +8,7 @@ use Rattle.std.proofs.lemmas.Bool.Decides.{nat_tests}
 use Rattle.interrupt_plan.specs.declared.Post.{Post}
 use Rattle.posted_runs.specs.Turns.{Turn, AreTurns, LastIsAnswered, AllAreTaken, over, idle, answers, up_to, behind}
 use Rattle.posted_runs.specs.Turns.{waiting, taken_from, samples_of}
-use Rattle.posted_runs.proofs.Postings.{waits_some}
-use Rattle.posted_runs.proofs.OneList.{answering}
+use Rattle.posted_runs.proofs.{Postings.waits_some, OneList.answering}
 
 split_by : (b : Bool) (k : ℕ) (p : Post) (ps : List Post) → nat_le p.moment k ≡ b → up_to k ps ++ behind k ps ≡ ps
     → up_to k (p ∷ ps) ++ behind k (p ∷ ps) ≡ p ∷ ps

@@ -5,23 +5,17 @@ use Rattle.std.specs.Prelude.{All, ◌==◌, ◌||◌, if◌then◌else◌}
 use Rattle.std.proofs.lemmas.Bool.{or_parts, cases_lt}
 use Rattle.std.proofs.lemmas.Bool.Decides.{nat_tests}
 use Rattle.cpu12_isa.specs.declared.instr.Write.{Write}
-use Rattle.cpu12_isa.specs.Act.{write_all}
-use Rattle.cpu12_isa.specs.Agreement.{Agree, IsWritten}
-use Rattle.cpu12_isa.specs.Memory.{plus, placed}
-use Rattle.cpu12_isa.specs.Registers.{frame_bytes}
-use Rattle.cpu12_isa.specs.Regions.{is_free, is_hidden, LeavesStack}
+use Rattle.cpu12_isa.specs.{Act.write_all, Agreement.Agree, Agreement.IsWritten, Memory.plus, Memory.placed}
+use Rattle.cpu12_isa.specs.{Registers.frame_bytes, Regions.is_free, Regions.is_hidden, Regions.LeavesStack}
 use Rattle.cpu12_isa.proofs.Algebra.{agree_self, agree_with}
 use Rattle.cpu12_parts.specs.State.{State}
-use Rattle.cpu12_emul.specs.Take.{pairs_of, framed}
-use Rattle.cpu12_emul.specs.Simulation.{AreOpen}
+use Rattle.cpu12_emul.specs.{Take.pairs_of, Take.framed, Simulation.AreOpen}
 use Rattle.interrupt_plan.specs.declared.Post.{Post}
-use Rattle.eval_code.specs.declared.memory_map.MemoryMap.{MemoryMap}
-use Rattle.eval_code.specs.Evaluation.{put}
+use Rattle.eval_code.specs.{declared.memory_map.MemoryMap.MemoryMap, Evaluation.put}
 use Rattle.codegen.specs.Mailboxes.{is_postable}
 use Rattle.fz_run.specs.Rows.{bytes_of}
-use Rattle.posted_runs.specs.Runs.{writes_from, post_writes}
+use Rattle.posted_runs.specs.{Runs.writes_from, Runs.post_writes, UsedLaws.Writing}
 use Rattle.posted_runs.specs.Postings.{mailed, last_of, IsBox, AreOfSize}
-use Rattle.posted_runs.specs.UsedLaws.{Writing}
 
 -- ---- lists of writes
 

@@ -4,19 +4,16 @@ use Rattle.std.proofs.Common.{length, take, drop, refl, ap, ap₂, sym, ◌∙�
 use Rattle.std.specs.Prelude.{slice_index}
 use Rattle.cpu12_parts.specs.State.{State}
 use Rattle.cpu12_emul.specs.Take.{FrameSeen}
-use Rattle.run_law.specs.Forms.{Taking, Ran, takes, is_empty, run_from}
-use Rattle.run_law.specs.Following.{asked}
-use Rattle.run_forms.specs.declared.sample.Room.{Room}
-use Rattle.run_forms.specs.declared.sample.Tally.{Tally}
+use Rattle.run_law.specs.{Forms.Taking, Forms.Ran, Forms.takes, Forms.is_empty, Forms.run_from, Following.asked}
+use Rattle.run_forms.specs.declared.{sample.Room.Room, sample.Tally.Tally}
 use Rattle.run_forms.specs.Rest.{Brought, with_before, Brief, brief, after, rest_at}
 use Rattle.run_forms.specs.Rest as rest
 use Rattle.run_forms.proofs.Algebra.{ran_told}
 use Rattle.interrupt_plan.specs.declared.Post.{Post}
 use Rattle.codegen.specs.declared.firmware.Firmware.{Firmware}
-use Rattle.posted_runs.specs.Turns.{waiting}
+use Rattle.posted_runs.specs.{Turns.waiting, Tallies.notes_of, Tallies.Counted, Tallies.counted_at, Tallies.with_rest}
 use Rattle.posted_runs.specs.Runs.{turn_form, AnswerSeen, RunSeen, no_turn, before_turns, answers_by, waits_by}
 use Rattle.posted_runs.specs.Runs.{then_turns, is_over, turns_from}
-use Rattle.posted_runs.specs.Tallies.{notes_of, Counted, counted_at, with_rest}
 use Rattle.posted_runs.proofs.Running.{run_over, run_turn, slice_is}
 
 -- A turn begins: what is due is taken, which leads from tally t and state s to t1 and s1, and then sample v waits,

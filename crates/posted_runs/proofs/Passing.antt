@@ -6,35 +6,24 @@ use Rattle.std.specs.Prelude.{◌==◌}
 use Rattle.std.proofs.lemmas.Bool.{or_parts}
 use Rattle.std.proofs.lemmas.Bool.Decides.{nat_tests}
 use Rattle.std.proofs.lemmas.List.{map-append}
-use Rattle.cpu12_isa.specs.declared.instr.Instr.{Instr}
-use Rattle.cpu12_isa.specs.declared.instr.Regs.{Regs}
+use Rattle.cpu12_isa.specs.declared.{instr.Instr.Instr, instr.Regs.Regs}
 use Rattle.cpu12_isa.specs.Act.{outcome, read_by, write_all}
 use Rattle.cpu12_isa.specs.Agreement.{Agree, AllShown, Uncovers}
-use Rattle.cpu12_isa.specs.Code.{six_from}
-use Rattle.cpu12_isa.specs.Flags.{interrupts_masked, has}
+use Rattle.cpu12_isa.specs.{Code.six_from, Flags.interrupts_masked, Flags.has, Regions.is_free, Regions.is_hidden}
 use Rattle.cpu12_isa.specs.Meaning.{Effect, act_of, effect}
-use Rattle.cpu12_isa.specs.Regions.{is_free, is_hidden}
 use Rattle.cpu12_isa.proofs.Algebra.{shown_append}
-use Rattle.cpu12_parts.specs.declared.temps.Temps.{Temps}
-use Rattle.cpu12_parts.specs.declared.temps.Temps.TheVariants.{Free}
-use Rattle.cpu12_parts.specs.State.{State}
-use Rattle.cpu12_parts.specs.Whole.{IsPlainStep}
-use Rattle.cpu12_parts.specs.Executions.{Execution}
-use Rattle.cpu12_emul.specs.declared.ends.Stepped.TheVariants.{Plain}
+use Rattle.cpu12_parts.specs.declared.{temps.Temps.Temps, temps.Temps.TheVariants.Free}
+use Rattle.cpu12_parts.specs.{State.State, Whole.IsPlainStep, Executions.Execution}
+use Rattle.cpu12_emul.specs.{declared.ends.Stepped.TheVariants.Plain, Take.FrameSeen, Take.may_interrupt}
 use Rattle.cpu12_emul.specs.Step.{Left, Next, step_act, applied, next_of}
-use Rattle.cpu12_emul.specs.Take.{FrameSeen, may_interrupt}
 use Rattle.cpu12_emul.specs.Simulation.{Same, HasRoom, IsShownStep, AreSumsReady, PlainIsStep}
 use Rattle.run_law.specs.Forms.{Taking, Ran, takes, before_rest, run_from, ended}
 use Rattle.run_law.specs.Following.{asked}
 use Rattle.interrupt_plan.specs.declared.Post.{Post}
-use Rattle.codegen.specs.declared.firmware.Firmware.{Firmware}
-use Rattle.codegen.specs.Interruptible.{IsSteady, IsShownPlain}
-use Rattle.codegen.specs.Mailboxes.{is_mail, is_postable}
-use Rattle.codegen.specs.Turns.{IsMaskedStep}
-use Rattle.posted_runs.specs.Runs.{TurnForm, turn_form}
-use Rattle.posted_runs.specs.PostedTurns.{End, TurnEnds}
-use Rattle.posted_runs.specs.Postings.{IsBox, AreOfSize}
-use Rattle.posted_runs.specs.UsedLaws.{PlainStepLaws, TakingLaws}
+use Rattle.codegen.specs.{declared.firmware.Firmware.Firmware, Interruptible.IsSteady, Interruptible.IsShownPlain}
+use Rattle.codegen.specs.{Mailboxes.is_mail, Mailboxes.is_postable, Turns.IsMaskedStep}
+use Rattle.posted_runs.specs.{Runs.TurnForm, Runs.turn_form, PostedTurns.End, PostedTurns.TurnEnds}
+use Rattle.posted_runs.specs.{Postings.IsBox, Postings.AreOfSize, UsedLaws.PlainStepLaws, UsedLaws.TakingLaws}
 use Rattle.posted_runs.proofs.Posting.{took_none}
 
 abbrev pub plainly : State → Result Next ℕ

@@ -5,12 +5,9 @@ use Rattle.std.proofs.Common.{refl, ap, sym, ◌∙◌, subst, arith, append_ass
 use Rattle.std.proofs.lemmas.List.Elements.{All-cons}
 use Rattle.std.specs.Prelude.{if◌then◌else◌, min, All}
 use Rattle.std.proofs.lemmas.Bool.Decides.{nat_tests}
-use Rattle.cpu12_isa.specs.declared.instr.Write.{Write}
-use Rattle.cpu12_isa.specs.Memory.{plus}
-use Rattle.interrupt_plan.specs.declared.Post.{Post}
-use Rattle.interrupt_plan.specs.Posts.{IsGoodPost}
-use Rattle.posted_runs.specs.Turns.{up_to, behind, waiting}
-use Rattle.posted_runs.specs.Runs.{writes_from}
+use Rattle.cpu12_isa.specs.{declared.instr.Write.Write, Memory.plus}
+use Rattle.interrupt_plan.specs.{declared.Post.Post, Posts.IsGoodPost}
+use Rattle.posted_runs.specs.{Turns.up_to, Turns.behind, Turns.waiting, Runs.writes_from}
 
 drop_here : {A : Type 0} (xs : List A) (i : ℕ) (d : A) → i < length xs → drop i xs ≡ get_or xs i d ∷ drop (i + 1) xs
 drop_here {A = A} xs i d h =

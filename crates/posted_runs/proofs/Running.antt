@@ -6,15 +6,13 @@ use Rattle.std.specs.Prelude.{slice_index}
 use Rattle.std.proofs.lemmas.Bool.Decides.{nat_tests}
 use Rattle.cpu12_parts.specs.State.{State}
 use Rattle.cpu12_emul.specs.Take.{FrameSeen}
-use Rattle.run_law.specs.Forms.{Taking, Ran, takes, is_empty, run_from}
-use Rattle.run_law.specs.Following.{asked}
+use Rattle.run_law.specs.{Forms.Taking, Forms.Ran, Forms.takes, Forms.is_empty, Forms.run_from, Following.asked}
 use Rattle.interrupt_plan.specs.declared.Post.{Post}
-use Rattle.codegen.specs.declared.firmware.Firmware.{Firmware}
-use Rattle.codegen.specs.Uninterrupted.{values_in}
+use Rattle.codegen.specs.{declared.firmware.Firmware.Firmware, Uninterrupted.values_in}
 use Rattle.posted_runs.specs.Turns.{up_to, behind, waiting}
+use Rattle.posted_runs.specs.Runs.{TurnForm, turn_form, AnswerSeen, no_turn, answers_by, waits_by, then_turns}
+use Rattle.posted_runs.specs.Runs.{is_over, turns_from}
 use Rattle.fz_run.specs.Rows.{bytes_of}
-use Rattle.posted_runs.specs.Runs.{TurnForm, turn_form, AnswerSeen, no_turn, answers_by}
-use Rattle.posted_runs.specs.Runs.{waits_by, then_turns, is_over, turns_from}
 use Rattle.run_forms.specs.Rest.{Brought, with_before}
 use Rattle.run_forms.proofs.Algebra.{taken_told}
 

@@ -6,34 +6,22 @@ use Rattle.std.proofs.lemmas.Bool.Decides.{nat_tests}
 use Rattle.std.proofs.lemmas.List.Elements.{All-cons}
 use Rattle.fuzzy_meaning.specs.declared.block.Block.{Block}
 use Rattle.cpu12_parts.specs.declared.temps.Temps.TheVariants.{Free}
-use Rattle.cpu12_parts.specs.Executions.{IsUntil}
-use Rattle.cpu12_parts.specs.State.{State}
-use Rattle.cpu12_parts.specs.Whole.{PlainExecution}
-use Rattle.cpu12_emul.specs.declared.ends.Stepped.TheVariants.{Plain}
-use Rattle.cpu12_emul.specs.Image.{image_memory}
-use Rattle.cpu12_emul.specs.Step.{reset_with}
+use Rattle.cpu12_parts.specs.{Executions.IsUntil, State.State, Whole.PlainExecution}
+use Rattle.cpu12_emul.specs.{declared.ends.Stepped.TheVariants.Plain, Image.image_memory, Step.reset_with}
 use Rattle.run_law.specs.Uninterrupted.{uninterrupted, state_by}
-use Rattle.codegen.specs.declared.firmware.Firmware.{Firmware}
-use Rattle.eval_code.specs.declared.memory_map.MemoryMap.{MemoryMap}
-use Rattle.eval_code.specs.declared.width.Width.{Width}
-use Rattle.eval_code.specs.Bounds.{instruction_bound, steps_by}
-use Rattle.eval_code.specs.Firing.{AreInputBytes}
-use Rattle.codegen.specs.Mailboxes.{mailbox_bound}
-use Rattle.codegen.specs.SampleTurns.{MailboxTakesSamples}
-use Rattle.codegen.specs.Turns.{MailboxTakesPosts, MailboxIsUninterrupted}
+use Rattle.codegen.specs.{declared.firmware.Firmware.Firmware, Mailboxes.mailbox_bound}
+use Rattle.codegen.specs.{SampleTurns.MailboxTakesSamples, Turns.MailboxTakesPosts, Turns.MailboxIsUninterrupted}
 use Rattle.codegen.specs.Uninterrupted.{is_waiting, AreUninterrupted, AreAnswersOf, UninterruptedAreOne}
-use Rattle.eval_code.specs.Widths.{width_of}
+use Rattle.eval_code.specs.declared.{memory_map.MemoryMap.MemoryMap, width.Width.Width}
+use Rattle.eval_code.specs.{Bounds.instruction_bound, Bounds.steps_by, Firing.AreInputBytes, Widths.width_of}
 use Rattle.run_forms.specs.Arrival.{PlainIsOneStep}
 use Rattle.instruction_steps.specs.Instructions.{AreSteps, InstructionsAreSteps}
-use Rattle.posted_runs.specs.Turns.{Turn, samples_of}
-use Rattle.fz_run.specs.Rows.{bytes_of}
-use Rattle.posted_runs.specs.Runs.{arrival, steps_of}
+use Rattle.posted_runs.specs.{Turns.Turn, Turns.samples_of, Runs.arrival, Runs.steps_of}
 use Rattle.posted_runs.specs.Answering.{run_of_turns, answer_in}
 use Rattle.posted_runs.specs.UninterruptedTurns.{HasSteps, HaveSteps, MailboxRunsTurns}
+use Rattle.fz_run.specs.Rows.{bytes_of}
 use Rattle.posted_runs.proofs.WholeTurns.{IsBusy, no_step, one_step, steps_on}
-use Rattle.posted_runs.proofs.Alone.{IsAlone, alone}
-use Rattle.posted_runs.proofs.Looking.{alike_self}
-use Rattle.posted_runs.proofs.TurnSteps.{Setting, Waits}
+use Rattle.posted_runs.proofs.{Alone.IsAlone, Alone.alone, Looking.alike_self, TurnSteps.Setting, TurnSteps.Waits}
 use Rattle.posted_runs.proofs.TurnRuns.{all_run, sample_bytes}
 
 abbrev plain_parts : ℕ → List ℕ

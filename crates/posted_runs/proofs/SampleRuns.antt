@@ -3,24 +3,15 @@ use Rattle.std.proofs.Common.{◌≡◌, ◌≢◌, ℕ, suc, ◌+◌, ◌-◌, 
 use Rattle.std.proofs.Common.{◌∙◌, subst, arith}
 use Rattle.fuzzy_meaning.specs.declared.block.Block.{Block}
 use Rattle.cpu12_isa.specs.declared.instr.Instr.TheVariants.{LdaaExtended, Beq, Orcc}
-use Rattle.cpu12_parts.specs.Executions.{IsUntil, all_steps}
+use Rattle.cpu12_parts.specs.{Executions.IsUntil, Executions.all_steps, State.State}
 use Rattle.cpu12_parts.specs.declared.temps.Temps.TheVariants.{Free}
-use Rattle.cpu12_parts.specs.State.{State}
-use Rattle.cpu12_emul.specs.declared.ends.Stepped.TheVariants.{Plain}
-use Rattle.cpu12_emul.specs.Image.{image_memory}
-use Rattle.cpu12_emul.specs.Step.{next_of}
-use Rattle.run_law.specs.Uninterrupted.{state_by, uninterrupted}
-use Rattle.run_law.specs.Soundness.{Before}
+use Rattle.cpu12_emul.specs.{declared.ends.Stepped.TheVariants.Plain, Image.image_memory, Step.next_of}
+use Rattle.run_law.specs.{Uninterrupted.state_by, Uninterrupted.uninterrupted, Soundness.Before}
 use Rattle.run_law.proofs.Algebra.{uninterrupted_add}
-use Rattle.codegen.specs.declared.firmware.Firmware.{Firmware}
-use Rattle.eval_code.specs.declared.memory_map.MemoryMap.{MemoryMap}
-use Rattle.codegen.specs.Answers.{given}
-use Rattle.eval_code.specs.Bounds.{steps_by}
-use Rattle.codegen.specs.Interruptible.{is_idle}
-use Rattle.codegen.specs.Mailboxes.{is_postable, IsMailboxOf}
-use Rattle.codegen.specs.SampleTurns.{IsSampleTurn}
+use Rattle.codegen.specs.{declared.firmware.Firmware.Firmware, Answers.given, Interruptible.is_idle}
+use Rattle.codegen.specs.{Mailboxes.is_postable, Mailboxes.IsMailboxOf, SampleTurns.IsSampleTurn}
 use Rattle.codegen.specs.Turns.{IsAt, IsLook, IsChoice, IsCopied, call_of}
-use Rattle.eval_code.specs.Widths.{width_of}
+use Rattle.eval_code.specs.{declared.memory_map.MemoryMap.MemoryMap, Bounds.steps_by, Widths.width_of}
 use Rattle.run_forms.specs.Arrival.{PlainIsOneStep}
 use Rattle.instruction_steps.specs.Instructions.{AreSteps, IsServing, InstructionsAreSteps}
 use Rattle.posted_runs.specs.UninterruptedTurns.{IsAnswerRun}

@@ -2,22 +2,14 @@
 use Rattle.std.proofs.Common.{◌≡◌, inl, inr, ℕ, zero, suc, Bool, true, false, Result, Ok, List, [], ◌∷◌, get_or, refl}
 use Rattle.std.proofs.Common.{sym, ap, ◌∙◌, arith, min}
 use Rattle.std.proofs.lemmas.Bool.Decides.{nat_tests}
-use Rattle.cpu12_isa.specs.Act.{write_all}
-use Rattle.cpu12_isa.specs.Agreement.{AllShown, IsWritten}
-use Rattle.cpu12_isa.specs.Regions.{is_hidden}
+use Rattle.cpu12_isa.specs.{Act.write_all, Agreement.AllShown, Agreement.IsWritten, Regions.is_hidden}
 use Rattle.cpu12_isa.proofs.Algebra.{unwritten}
-use Rattle.cpu12_parts.specs.Laws.{addresses}
-use Rattle.cpu12_parts.specs.State.{State}
-use Rattle.cpu12_emul.specs.Image.{image_memory}
-use Rattle.cpu12_emul.specs.Step.{Left, Next, applied, next_of}
-use Rattle.run_law.specs.Uninterrupted.{stepped, state_by}
-use Rattle.run_law.specs.Soundness.{Before}
-use Rattle.codegen.specs.declared.firmware.Firmware.{Firmware}
+use Rattle.cpu12_parts.specs.{Laws.addresses, State.State}
+use Rattle.cpu12_emul.specs.{Image.image_memory, Step.Left, Step.Next, Step.applied, Step.next_of}
+use Rattle.run_law.specs.{Uninterrupted.stepped, Uninterrupted.state_by, Soundness.Before}
+use Rattle.codegen.specs.{declared.firmware.Firmware.Firmware, Interruptible.is_idle, Mailboxes.is_postable}
 use Rattle.eval_code.specs.declared.memory_map.MemoryMap.{MemoryMap}
-use Rattle.codegen.specs.Interruptible.{is_idle}
-use Rattle.codegen.specs.Mailboxes.{is_postable}
-use Rattle.instruction_steps.specs.Facts.{Facts, FactsBeside}
-use Rattle.instruction_steps.specs.Instructions.{IsServing}
+use Rattle.instruction_steps.specs.{Facts.Facts, Facts.FactsBeside, Instructions.IsServing}
 use Rattle.posted_runs.proofs.WholeTurns.{IsBusy}
 
 -- a state behind the call, in which no sample is posted

@@ -5,10 +5,9 @@ use Rattle.std.specs.Prelude.{if◌then◌else◌}
 use Rattle.std.proofs.lemmas.Bool.Decides.{nat_tests}
 use Rattle.std.proofs.lemmas.List.{map-append}
 use Rattle.cpu12_parts.specs.State.{State}
-use Rattle.cpu12_emul.specs.Step.{Next, next_of, is_part}
-use Rattle.cpu12_emul.specs.Take.{FrameSeen, frame_of, may_interrupt}
-use Rattle.run_law.specs.Forms.{Form, Taking, Ran, takes, taken, told, put_take, is_empty, one_if, then_rest, run_from}
-use Rattle.run_law.specs.Forms.{ended}
+use Rattle.cpu12_emul.specs.{Step.Next, Step.next_of, Step.is_part, Take.FrameSeen, Take.frame_of, Take.may_interrupt}
+use Rattle.run_law.specs.Forms.{Form, Taking, Ran, takes, taken, told, put_take, is_empty, one_if, then_rest}
+use Rattle.run_law.specs.Forms.{run_from, ended}
 use Rattle.posted_runs.specs.Shifts.{counted_from, frames_from, ran_from, RunsCountOn}
 
 module _ {S A B : Type 0} (f : Form S A B) (g : ℕ) where

@@ -3,17 +3,14 @@ use Rattle.std.proofs.Common.{◌≡◌, ℕ, zero, suc, ◌+◌, ◌-◌, ◌<�
 use Rattle.std.proofs.Common.{Option, Some, None, List, [], ◌∷◌, ◌++◌, map, refl, ap, ap₂, ◌∙◌, arith}
 use Rattle.std.specs.Prelude.{◌==◌, ◌||◌, if◌then◌else◌}
 use Rattle.std.proofs.lemmas.Bool.Decides.{nat_tests}
-use Rattle.cpu12_parts.specs.declared.temps.Temps.TheVariants.{Free}
-use Rattle.cpu12_parts.specs.State.{State}
+use Rattle.cpu12_parts.specs.{declared.temps.Temps.TheVariants.Free, State.State}
 use Rattle.cpu12_emul.specs.Take.{FrameSeen}
-use Rattle.run_law.specs.Forms.{one_if}
+use Rattle.run_law.specs.{Forms.one_if, Soundness.AllGood, Soundness.Ascend}
 use Rattle.run_law.specs.Uninterrupted.{uninterrupted, is_inside, has_moment, taken_before, left_from, resumed_of}
 use Rattle.run_law.specs.Uninterrupted.{frame_on, expected_frame, is_new, frames_after}
-use Rattle.run_law.specs.Soundness.{AllGood, Ascend}
 use Rattle.interrupt_plan.specs.declared.Post.{Post}
 use Rattle.posted_runs.specs.Turns.{up_to, behind, taken_from}
-use Rattle.posted_runs.specs.PostedTurns.{plain_frame}
-use Rattle.posted_runs.specs.Shifts.{frames_from}
+use Rattle.posted_runs.specs.{PostedTurns.plain_frame, Shifts.frames_from}
 
 -- ---- posts that ascend
 

@@ -7,18 +7,14 @@ use Rattle.fuzzy_meaning.specs.declared.block.Block.{Block}
 use Rattle.cpu12_parts.specs.State.{State}
 use Rattle.run_law.specs.Uninterrupted.{uninterrupted, counted}
 use Rattle.codegen.specs.declared.firmware.Firmware.{Firmware}
-use Rattle.codegen.specs.Answers.{given}
-use Rattle.eval_code.specs.Firing.{AreInputBytes}
-use Rattle.codegen.specs.Mailboxes.{is_postable}
-use Rattle.codegen.specs.Uninterrupted.{values_in, AreAnswersTo}
-use Rattle.eval_code.specs.Widths.{width_of, answer}
+use Rattle.codegen.specs.{Answers.given, Mailboxes.is_postable, Uninterrupted.values_in, Uninterrupted.AreAnswersTo}
+use Rattle.eval_code.specs.{Firing.AreInputBytes, Widths.width_of, Widths.answer}
 use Rattle.instruction_steps.specs.Facts.{FactsBeside}
 use Rattle.posted_runs.specs.Turns.{Turn, samples_of}
-use Rattle.fz_run.specs.Rows.{bytes_of}
 use Rattle.posted_runs.specs.Runs.{AnswerSeen, arrival, answered_alone, steps_from, steps_of}
 use Rattle.posted_runs.specs.Answering.{begun, ended, answer_of, run_of_turns, answer_in, AllKeepFacts}
-use Rattle.posted_runs.specs.UninterruptedTurns.{HasSteps, HaveSteps, IsIdleRun}
-use Rattle.posted_runs.specs.UninterruptedTurns.{IsAnswerRun, IsTurnRun, AllTurnRuns}
+use Rattle.posted_runs.specs.UninterruptedTurns.{HasSteps, HaveSteps, IsIdleRun, IsAnswerRun, IsTurnRun, AllTurnRuns}
+use Rattle.fz_run.specs.Rows.{bytes_of}
 use Rattle.posted_runs.proofs.Looking.{AreAlike, alike_self}
 use Rattle.posted_runs.proofs.TurnSteps.{Setting, Waits, idled, Answered, answered}
 

@@ -6,31 +6,21 @@ use Rattle.std.proofs.lemmas.Bool.Decides.{nat_tests}
 use Rattle.fuzzy_meaning.specs.declared.block.Block.{Block}
 use Rattle.cpu12_isa.specs.declared.instr.Instr.TheVariants.{LdaaExtended, Beq}
 use Rattle.cpu12_isa.specs.Flags.{has, zero_result}
-use Rattle.cpu12_parts.specs.Executions.{IsUntil, all_steps}
-use Rattle.cpu12_parts.specs.State.{State}
+use Rattle.cpu12_parts.specs.{Executions.IsUntil, Executions.all_steps, State.State}
 use Rattle.cpu12_emul.specs.declared.ends.Stepped.TheVariants.{Plain}
-use Rattle.cpu12_emul.specs.Image.{image_memory}
-use Rattle.cpu12_emul.specs.Step.{Next, next_of, is_part}
+use Rattle.cpu12_emul.specs.{Image.image_memory, Step.Next, Step.next_of, Step.is_part}
 use Rattle.run_law.specs.Forms.{one_if}
 use Rattle.run_law.specs.Uninterrupted.{state_by, kind_by, uninterrupted, counted}
-use Rattle.codegen.specs.declared.firmware.Firmware.{Firmware}
-use Rattle.codegen.specs.Answers.{given}
-use Rattle.eval_code.specs.Evaluation.{HasAnswers}
-use Rattle.eval_code.specs.Firing.{AreInputBytes}
-use Rattle.codegen.specs.Interruptible.{is_idle}
-use Rattle.codegen.specs.Mailboxes.{IsMailboxOf}
-use Rattle.codegen.specs.SampleTurns.{TakesSamples}
-use Rattle.codegen.specs.Turns.{IsAt, IsLook, TakesTurns}
+use Rattle.codegen.specs.{declared.firmware.Firmware.Firmware, Answers.given, Interruptible.is_idle}
+use Rattle.codegen.specs.{Mailboxes.IsMailboxOf, SampleTurns.TakesSamples, Turns.IsAt, Turns.IsLook, Turns.TakesTurns}
 use Rattle.codegen.specs.Uninterrupted.{values_in, IsAnswerTo}
-use Rattle.eval_code.specs.Widths.{width_of, answer}
+use Rattle.eval_code.specs.{Evaluation.HasAnswers, Firing.AreInputBytes, Widths.width_of, Widths.answer}
 use Rattle.run_forms.specs.Arrival.{PlainIsOneStep}
 use Rattle.instruction_steps.specs.Instructions.{InstructionsAreSteps}
 use Rattle.fz_run.specs.Rows.{bytes_of}
-use Rattle.posted_runs.specs.Runs.{answered_alone}
-use Rattle.posted_runs.specs.UninterruptedTurns.{IsIdleRun, IsAnswerRun}
+use Rattle.posted_runs.specs.{Runs.answered_alone, UninterruptedTurns.IsIdleRun, UninterruptedTurns.IsAnswerRun}
 use Rattle.posted_runs.proofs.Alone.{IsAlone, alone, same_alone}
-use Rattle.posted_runs.proofs.Looking.{AreAlike, idle_alike, same_look}
-use Rattle.posted_runs.proofs.SampleRuns.{sample_run}
+use Rattle.posted_runs.proofs.{Looking.AreAlike, Looking.idle_alike, Looking.same_look, SampleRuns.sample_run}
 
 -- what turns stand on
 pub record Setting (b : Block) (f : Firmware) (flags : ℕ) (samples : List (List ℕ)) : Type 0 where

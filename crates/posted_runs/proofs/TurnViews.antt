@@ -4,20 +4,15 @@ use Rattle.std.proofs.Common.{List, [], ◌∷◌, ◌++◌, map, refl, sym, ap,
 use Rattle.std.specs.Prelude.{◌==◌, ◌||◌}
 use Rattle.std.proofs.lemmas.Bool.{cases_lt}
 use Rattle.std.proofs.lemmas.Bool.Decides.{nat_tests}
-use Rattle.cpu12_parts.specs.declared.temps.Temps.TheVariants.{Free}
-use Rattle.cpu12_parts.specs.State.{State}
+use Rattle.cpu12_parts.specs.{declared.temps.Temps.TheVariants.Free, State.State}
 use Rattle.cpu12_emul.specs.Take.{FrameSeen}
-use Rattle.run_law.specs.Moments.{TakenAtFirstOpen}
-use Rattle.run_law.specs.Soundness.{AllGood}
+use Rattle.run_law.specs.{Moments.TakenAtFirstOpen, Soundness.AllGood}
 use Rattle.run_law.specs.Uninterrupted.{uninterrupted, is_inside, has_moment, resumed_of, is_new, frames_after}
 use Rattle.interrupt_plan.specs.declared.Post.{Post}
 use Rattle.posted_runs.specs.Turns.{up_to, behind, taken_from}
-use Rattle.posted_runs.specs.Shifts.{frames_from}
-use Rattle.posted_runs.specs.PostedTurns.{plain_frame, part_taken}
-use Rattle.posted_runs.proofs.LastOnes.{split}
+use Rattle.posted_runs.specs.{Shifts.frames_from, PostedTurns.plain_frame, PostedTurns.part_taken}
+use Rattle.posted_runs.proofs.{LastOnes.split, CopyRuns.IsCopyRun, AnswerRuns.at_is, AnswerRuns.at_past}
 use Rattle.posted_runs.proofs.TakenLists.{Rise, frames_at, last_before, frames_behind, resumed_same, has_on}
-use Rattle.posted_runs.proofs.CopyRuns.{IsCopyRun}
-use Rattle.posted_runs.proofs.AnswerRuns.{at_is, at_past}
 
 -- a boundary up to the third
 abbrev small_before : ℕ → Option ℕ → Type 0

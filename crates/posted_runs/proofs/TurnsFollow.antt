@@ -6,43 +6,31 @@ use Rattle.std.specs.Prelude.{◌==◌, if◌then◌else◌}
 use Rattle.std.proofs.lemmas.Bool.Decides.{nat_tests}
 use Rattle.cpu12_isa.specs.Regions.{is_free, is_hidden}
 use Rattle.cpu12_parts.specs.State.{State}
-use Rattle.cpu12_emul.specs.Image.{image_memory}
-use Rattle.cpu12_emul.specs.Take.{FrameSeen}
+use Rattle.cpu12_emul.specs.{Image.image_memory, Take.FrameSeen, Step.is_part}
 use Rattle.cpu12_emul.specs.Simulation.{OnStackOnly, Same}
-use Rattle.cpu12_emul.specs.Step.{is_part}
 use Rattle.run_law.specs.Forms.{Ran, takes, is_empty, one_if, run_from}
-use Rattle.run_law.specs.Following.{asked}
-use Rattle.run_law.specs.Soundness.{AllSimulate, AllGood}
+use Rattle.run_law.specs.{Following.asked, Soundness.AllSimulate, Soundness.AllGood}
 use Rattle.run_law.specs.Uninterrupted.{uninterrupted, counted, is_inside, has_moment, resumed_of, frames_after}
-use Rattle.interrupt_plan.specs.declared.Post.{Post}
-use Rattle.interrupt_plan.specs.Posts.{IsGoodPost}
+use Rattle.interrupt_plan.specs.{declared.Post.Post, Posts.IsGoodPost}
 use Rattle.codegen.specs.declared.firmware.Firmware.{Firmware}
-use Rattle.codegen.specs.Answers.{given}
-use Rattle.codegen.specs.Mailboxes.{is_postable}
-use Rattle.codegen.specs.Turns.{IsAt}
-use Rattle.codegen.specs.Uninterrupted.{values_in}
+use Rattle.codegen.specs.{Answers.given, Mailboxes.is_postable, Turns.IsAt, Uninterrupted.values_in}
 use Rattle.eval_code.specs.Widths.{width_of, places}
 use Rattle.posted_runs.specs.Turns.{Turn, up_to, behind, waiting, taken_from}
-use Rattle.fz_run.specs.Rows.{bytes_of}
 use Rattle.posted_runs.specs.Runs.{turn_form, AnswerSeen, RunSeen, no_turn, before_turns, answers_by, waits_by}
 use Rattle.posted_runs.specs.Runs.{then_turns, is_over, turn_from, turns_from}
 use Rattle.posted_runs.specs.Answering.{begun, ended, answer_of, frames_in, resumed_in, run_of_turns, SimulatesTurn}
 use Rattle.posted_runs.specs.UninterruptedTurns.{IsIdleRun, IsAnswerRun}
 use Rattle.posted_runs.specs.PostedTurns.{End, TurnEnds, plain_frame, part_taken}
-use Rattle.posted_runs.specs.Shifts.{frames_from}
+use Rattle.posted_runs.specs.{Shifts.frames_from, UsedLaws.TurnLaws}
 use Rattle.posted_runs.specs.Postings.{mailed, posted, IsBox, AreOfSize}
-use Rattle.posted_runs.specs.UsedLaws.{TurnLaws}
+use Rattle.fz_run.specs.Rows.{bytes_of}
 use Rattle.posted_runs.proofs.LastOnes.{split, waiting_append, further, not_zero}
-use Rattle.posted_runs.proofs.Posting.{waits_within}
-use Rattle.posted_runs.proofs.Running.{run_over, run_on, waits_behind}
+use Rattle.posted_runs.proofs.{Posting.waits_within, Running.run_over, Running.run_on, Running.waits_behind}
 use Rattle.posted_runs.proofs.TakenLists.{Rise, rise_behind, frames_at, last_before, up_up, behind_up, behind_behind}
-use Rattle.posted_runs.proofs.CopyRuns.{kind_plain, copy_run}
-use Rattle.posted_runs.proofs.TurnViews.{frames_seen, resumed_seen}
-use Rattle.posted_runs.proofs.Mailing.{mailed_apart}
-use Rattle.posted_runs.proofs.IdleRuns.{idle_turns_follow}
+use Rattle.posted_runs.proofs.{CopyRuns.kind_plain, CopyRuns.copy_run, TurnViews.frames_seen, TurnViews.resumed_seen}
+use Rattle.posted_runs.proofs.{Mailing.mailed_apart, IdleRuns.idle_turns_follow}
 use Rattle.posted_runs.proofs.TwoSteps.{IsHere, here_at, Stands, taken_at as taken_here, posted_is}
-use Rattle.posted_runs.proofs.AnswerRuns.{good_behind, posted_turns_follow}
-use Rattle.posted_runs.proofs.Behind.{values_alike}
+use Rattle.posted_runs.proofs.{AnswerRuns.good_behind, AnswerRuns.posted_turns_follow, Behind.values_alike}
 
 -- a run by its parts
 built : (a b : List AnswerSeen) (fs gs : List (ℕ × FrameSeen)) (r q : ℕ) (x y : RunSeen) → a ≡ b → fs ≡ gs → r ≡ q

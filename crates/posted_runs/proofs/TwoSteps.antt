@@ -7,28 +7,19 @@ use Rattle.std.proofs.lemmas.Bool.Decides.{nat_tests}
 use Rattle.std.proofs.lemmas.List.{length-set}
 use Rattle.cpu12_isa.specs.declared.instr.Instr.TheVariants.{LdaaExtended, Beq}
 use Rattle.cpu12_isa.specs.declared.instr.Regs.{Regs}
-use Rattle.cpu12_isa.specs.Agreement.{Agree, AllShown}
-use Rattle.cpu12_isa.specs.Code.{six_from}
-use Rattle.cpu12_isa.specs.Regions.{is_free, is_hidden}
+use Rattle.cpu12_isa.specs.{Agreement.Agree, Agreement.AllShown, Code.six_from, Regions.is_free, Regions.is_hidden}
 use Rattle.cpu12_parts.specs.State.{State}
-use Rattle.cpu12_emul.specs.Step.{next_of}
-use Rattle.cpu12_emul.specs.Take.{FrameSeen}
-use Rattle.cpu12_emul.specs.Simulation.{Same}
-use Rattle.run_law.specs.Forms.{takes, run_from}
-use Rattle.run_law.specs.Following.{asked}
-use Rattle.run_law.specs.Soundness.{AllGood}
-use Rattle.interrupt_plan.specs.declared.Post.{Post}
-use Rattle.interrupt_plan.specs.Posts.{IsGoodPost}
+use Rattle.cpu12_emul.specs.{Step.next_of, Take.FrameSeen, Simulation.Same}
+use Rattle.run_law.specs.{Forms.takes, Forms.run_from, Following.asked, Soundness.AllGood}
+use Rattle.interrupt_plan.specs.{declared.Post.Post, Posts.IsGoodPost}
 use Rattle.codegen.specs.declared.firmware.Firmware.{Firmware}
-use Rattle.codegen.specs.Mailboxes.{is_mail, is_postable}
+use Rattle.codegen.specs.{Mailboxes.is_mail, Mailboxes.is_postable, Turns.IsAt, Turns.IsLook, Turns.IsChoice}
 use Rattle.eval_code.specs.Evaluation.{put}
-use Rattle.codegen.specs.Turns.{IsAt, IsLook, IsChoice}
 use Rattle.posted_runs.specs.Turns.{up_to, behind, waiting}
-use Rattle.fz_run.specs.Rows.{bytes_of}
-use Rattle.posted_runs.specs.Runs.{TurnForm, turn_form}
+use Rattle.posted_runs.specs.{Runs.TurnForm, Runs.turn_form, UsedLaws.PlainStepLaws, UsedLaws.TakingLaws}
 use Rattle.posted_runs.specs.Postings.{mailed, posted, last_of, IsBox, AreOfSize}
 use Rattle.posted_runs.specs.PostedTurns.{End, TurnEnds, plain_frame}
-use Rattle.posted_runs.specs.UsedLaws.{PlainStepLaws, TakingLaws}
+use Rattle.fz_run.specs.Rows.{bytes_of}
 use Rattle.posted_runs.proofs.LastOnes.{split}
 use Rattle.posted_runs.proofs.Mailing.{wide, is_boxed, mailed_apart, mailed_over}
 use Rattle.posted_runs.proofs.Posting.{IsReady, ready_as, same_with, waiting_last, waits_within, took_all}

@@ -9,21 +9,16 @@ use Rattle.run_law.specs.Soundness.{AllGood, Ascend}
 use Rattle.interrupt_plan.specs.declared.Post.{Post}
 use Rattle.interrupt_plan.specs.Plans as plans
 use Rattle.interrupt_plan.specs.Posts.{IsGoodPost, NoLater}
-use Rattle.eval_code.specs.declared.memory_map.MemoryMap.{MemoryMap}
-use Rattle.eval_code.specs.declared.width.Width.{Width}
+use Rattle.eval_code.specs.declared.{memory_map.MemoryMap.MemoryMap, width.Width.Width}
 use Rattle.eval_code.specs.declared.width.Width.TheVariants.{Byte, Word}
-use Rattle.eval_code.specs.Firing.{AreInputBytes}
-use Rattle.codegen.specs.Mailboxes.{MailboxStepsAreFew}
-use Rattle.codegen.specs.Uninterrupted.{AreUninterrupted, AreAnswersOf}
-use Rattle.eval_code.specs.Widths.{width_of, places}
+use Rattle.eval_code.specs.{Firing.AreInputBytes, Widths.width_of, Widths.places}
+use Rattle.codegen.specs.{Mailboxes.MailboxStepsAreFew, Uninterrupted.AreUninterrupted, Uninterrupted.AreAnswersOf}
 use Rattle.fz_run.specs.Rows.{bytes_of}
 use Rattle.posted_runs.specs.Runs.{RunSeen, arrival, steps_of, run_under_posts, last_boundary, most_turns}
-use Rattle.posted_runs.specs.Turns.{samples_of}
+use Rattle.posted_runs.specs.{Turns.samples_of, TurnsExist.PostsHaveTurns, WholeRuns.RunsAreTurns}
 use Rattle.posted_runs.specs.Answering.{answer_in, run_of_turns, AnswersUnderAllPosts}
 use Rattle.posted_runs.specs.UninterruptedTurns.{MailboxRunsTurns, TurnsHaveSteps}
-use Rattle.posted_runs.specs.TurnsExist.{PostsHaveTurns}
 use Rattle.posted_runs.specs.Postings.{IsBox, AreOfSize}
-use Rattle.posted_runs.specs.WholeRuns.{RunsAreTurns}
 
 each_good : (n : ℕ) (ps : List Post) → All (IsGoodPost n) ps → AllGood (IsGoodPost n) ps
 each_good n [] h = tt

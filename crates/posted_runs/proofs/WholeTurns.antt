@@ -1,12 +1,9 @@
 -- Steps one after another on the way to where the code waits, and plain instructions as such.
 use Rattle.std.proofs.Common.{◌≡◌, ◌≢◌, ℕ, ◌+◌, Ok, List, [], ◌∷◌, ◌++◌, length, refl, sym, ap, ◌∙◌, subst}
 use Rattle.std.proofs.Common.{arith}
-use Rattle.cpu12_parts.specs.Executions.{Execution, all_steps}
-use Rattle.cpu12_parts.specs.State.{State}
-use Rattle.cpu12_emul.specs.declared.ends.Stepped.TheVariants.{Plain}
-use Rattle.cpu12_emul.specs.Step.{Next, next_of}
-use Rattle.run_law.specs.Uninterrupted.{uninterrupted, counted}
-use Rattle.run_law.specs.Soundness.{Before}
+use Rattle.cpu12_parts.specs.{Executions.Execution, Executions.all_steps, State.State}
+use Rattle.cpu12_emul.specs.{declared.ends.Stepped.TheVariants.Plain, Step.Next, Step.next_of}
+use Rattle.run_law.specs.{Uninterrupted.uninterrupted, Uninterrupted.counted, Soundness.Before}
 use Rattle.run_law.proofs.Algebra.{Stretch, no_stretch, one_stretch, joined}
 use Rattle.eval_code.specs.declared.memory_map.MemoryMap.{MemoryMap}
 use Rattle.codegen.specs.Turns.{IsMaskedStep}

@@ -3,28 +3,22 @@
 -- Beside the promise.
 use Rattle.std.specs.Prelude.{◌≡◌, ℕ, ◌+◌, ◌-◌, ◌^◌, ◌<◌, ◌≤◌, ◌≢◌, ◌==◌, true, if◌then◌else◌}
 use Rattle.std.specs.Prelude.{List, [], ◌∷◌, All, None, drop, length, map}
-use Rattle.fuzzy_meaning.specs.declared.block.Block.{Block}
-use Rattle.fuzzy_meaning.specs.Blocks.{IsValid}
+use Rattle.fuzzy_meaning.specs.{declared.block.Block.Block, Blocks.IsValid}
 use Rattle.rule_layout.specs.Layouts.{IsWithinLimits}
 use Rattle.cpu12_parts.specs.State.{State}
-use Rattle.cpu12_emul.specs.Simulation.{OnStackOnly, Same}
-use Rattle.cpu12_emul.specs.Take.{FrameSeen}
-use Rattle.run_law.specs.Forms.{Ran}
-use Rattle.run_law.specs.Soundness.{AllSimulate}
+use Rattle.cpu12_emul.specs.{Simulation.OnStackOnly, Simulation.Same, Take.FrameSeen}
+use Rattle.run_law.specs.{Forms.Ran, Soundness.AllSimulate}
 use Rattle.run_law.specs.Uninterrupted.{uninterrupted, counted, resumed_of, frames_after}
-use Rattle.interrupt_plan.specs.declared.Post.{Post}
-use Rattle.interrupt_plan.specs.Posts.{AreGoodPosts}
+use Rattle.interrupt_plan.specs.{declared.Post.Post, Posts.AreGoodPosts}
 use Rattle.codegen.specs.declared.firmware.Firmware.{Firmware}
-use Rattle.codegen.specs.Answers.{given}
-use Rattle.eval_code.specs.Firing.{AreInputBytes}
-use Rattle.codegen.specs.Mailboxes.{is_postable, IsMailboxOf}
+use Rattle.codegen.specs.{Answers.given, Mailboxes.is_postable, Mailboxes.IsMailboxOf}
 use Rattle.codegen.specs.Uninterrupted.{Answer, values_in, AreUninterrupted, AreAnswersOf}
-use Rattle.eval_code.specs.Widths.{width_of}
+use Rattle.eval_code.specs.{Firing.AreInputBytes, Widths.width_of}
 use Rattle.instruction_steps.specs.Facts.{FactsBeside}
 use Rattle.posted_runs.specs.Turns.{Turn, AreTurns, samples_of}
-use Rattle.fz_run.specs.Rows.{bytes_of}
 use Rattle.posted_runs.specs.Runs.{AnswerSeen, RunSeen, no_turn, before_turns, turn_from, arrival, steps_of}
 use Rattle.posted_runs.specs.Runs.{last_boundary, run_under_posts}
+use Rattle.fz_run.specs.Rows.{bytes_of}
 
 -- a turn that answers begins with its sample in the mailbox
 abbrev pub begun : Firmware → List (List ℕ) → Turn → State → State

@@ -4,17 +4,12 @@ use Rattle.std.specs.Prelude.{ℕ, ◌+◌, ◌*◌, ◌≤◌, not, Bool, List,
 use Rattle.cpu12_isa.specs.Agreement.{Agree, WritesAgree}
 use Rattle.cpu12_parts.specs.State.{State}
 use Rattle.cpu12_emul.specs.Simulation.{OnStackOnly}
-use Rattle.run_law.specs.Soundness.{Sound, WritesAreQuiet}
-use Rattle.run_law.specs.Following.{RunFollows}
-use Rattle.interrupt_plan.specs.declared.Post.{Post}
-use Rattle.interrupt_plan.specs.Posts.{IsGoodPost}
-use Rattle.codegen.specs.declared.firmware.Firmware.{Firmware}
-use Rattle.eval_code.specs.declared.memory_map.MemoryMap.{MemoryMap}
-use Rattle.codegen.specs.Mailboxes.{is_mail, is_postable}
-use Rattle.eval_code.specs.Widths.{width_of, places}
+use Rattle.run_law.specs.{Soundness.Sound, Soundness.WritesAreQuiet, Following.RunFollows}
+use Rattle.interrupt_plan.specs.{declared.Post.Post, Posts.IsGoodPost}
+use Rattle.codegen.specs.{declared.firmware.Firmware.Firmware, Mailboxes.is_mail, Mailboxes.is_postable}
+use Rattle.eval_code.specs.{declared.memory_map.MemoryMap.MemoryMap, Widths.width_of, Widths.places}
 use Rattle.instruction_steps.specs.Facts.{FactsBeside}
-use Rattle.posted_runs.specs.Runs.{TurnForm, turn_form}
-use Rattle.posted_runs.specs.Shifts.{counted_from}
+use Rattle.posted_runs.specs.{Runs.TurnForm, Runs.turn_form, Shifts.counted_from}
 use Rattle.posted_runs.specs.Postings.{mailed, last_of, IsBox, AreOfSize}
 
 -- a turn that begins at boundary g, with boundaries counted from there

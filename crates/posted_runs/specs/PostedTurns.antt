@@ -1,27 +1,16 @@
 -- A turn that answers, under posts, by the turn without interrupts of the sample that was posted last before the copy.
 -- Beside the promise.
 use Rattle.std.specs.Prelude.{◌≡◌, ℕ, ◌+◌, ◌-◌, ◌*◌, ◌≤◌, true, false, None, List, [], ◌∷◌, ◌++◌, drop, length, map}
-use Rattle.cpu12_isa.specs.declared.instr.Regs.{Regs}
-use Rattle.cpu12_isa.specs.Memory.{plus}
-use Rattle.cpu12_isa.specs.Registers.{frame_bytes}
-use Rattle.cpu12_isa.specs.Regions.{is_free}
+use Rattle.cpu12_isa.specs.{declared.instr.Regs.Regs, Memory.plus, Registers.frame_bytes, Regions.is_free}
 use Rattle.cpu12_parts.specs.State.{State}
-use Rattle.cpu12_emul.specs.Image.{image_memory}
-use Rattle.cpu12_emul.specs.Simulation.{OnStackOnly, Same}
-use Rattle.cpu12_emul.specs.Take.{FrameSeen}
-use Rattle.run_law.specs.Forms.{Ran, run_from}
-use Rattle.run_law.specs.Following.{asked}
+use Rattle.cpu12_emul.specs.{Image.image_memory, Simulation.OnStackOnly, Simulation.Same, Take.FrameSeen}
+use Rattle.run_law.specs.{Forms.Ran, Forms.run_from, Following.asked}
 use Rattle.run_law.specs.Soundness.{AllSimulate, AllGood, Ascend}
 use Rattle.run_law.specs.Uninterrupted.{uninterrupted, counted, taken_at, resumed_of, frames_after}
-use Rattle.interrupt_plan.specs.declared.Post.{Post}
-use Rattle.interrupt_plan.specs.Posts.{IsGoodPost}
-use Rattle.codegen.specs.declared.firmware.Firmware.{Firmware}
-use Rattle.codegen.specs.Mailboxes.{is_postable}
-use Rattle.codegen.specs.Turns.{IsAt}
+use Rattle.interrupt_plan.specs.{declared.Post.Post, Posts.IsGoodPost}
+use Rattle.codegen.specs.{declared.firmware.Firmware.Firmware, Mailboxes.is_postable, Turns.IsAt}
 use Rattle.eval_code.specs.Widths.{width_of, places}
-use Rattle.posted_runs.specs.Turns.{up_to, behind, waiting}
-use Rattle.posted_runs.specs.Runs.{turn_form}
-use Rattle.posted_runs.specs.Shifts.{frames_from}
+use Rattle.posted_runs.specs.{Turns.up_to, Turns.behind, Turns.waiting, Runs.turn_form, Shifts.frames_from}
 use Rattle.posted_runs.specs.Postings.{posted, IsBox, AreOfSize}
 use Rattle.posted_runs.specs.UninterruptedTurns.{IsAnswerRun, IsIdleRun}
 

@@ -2,8 +2,7 @@
 -- Beside the promise.
 use Rattle.std.specs.Prelude.{◌≡◌, ℕ, ◌≤◌, ◌==◌, if◌then◌else◌, List, length, slice_set}
 use Rattle.cpu12_parts.specs.State.{State}
-use Rattle.eval_code.specs.declared.memory_map.MemoryMap.{MemoryMap}
-use Rattle.eval_code.specs.Evaluation.{put}
+use Rattle.eval_code.specs.{declared.memory_map.MemoryMap.MemoryMap, Evaluation.put}
 use Rattle.fz_run.specs.Rows.{bytes_of}
 
 -- a memory with sample w posted, or none

@@ -2,23 +2,18 @@
 -- Beside the promise.
 use Rattle.std.specs.Prelude.{ℕ, zero, suc, ◌+◌, ◌-◌, ◌*◌, ◌==◌, ◌&&◌, nat_lt, min, Bool, true, false, if◌then◌else◌}
 use Rattle.std.specs.Prelude.{List, [], ◌∷◌, ◌++◌, slice_index}
-use Rattle.cpu12_isa.specs.declared.instr.Write.{Write}
-use Rattle.cpu12_isa.specs.Memory.{plus}
+use Rattle.cpu12_isa.specs.{declared.instr.Write.Write, Memory.plus}
 use Rattle.cpu12_parts.specs.State.{State}
-use Rattle.cpu12_emul.specs.Image.{image_memory}
-use Rattle.cpu12_emul.specs.Step.{reset_with}
-use Rattle.cpu12_emul.specs.Take.{FrameSeen, framed}
+use Rattle.cpu12_emul.specs.{Image.image_memory, Step.reset_with, Take.FrameSeen, Take.framed}
 use Rattle.run_law.specs.Forms.{Form, Taking, takes, is_empty, Ran, run_from}
 use Rattle.run_law.specs.Following.{asked}
 use Rattle.run_forms.specs.declared.sample.Room.{Room}
-use Rattle.run_forms.specs.Rooms.{room_notes}
-use Rattle.run_forms.specs.Forms.{FormParts, plan_form, Harness}
+use Rattle.run_forms.specs.{Rooms.room_notes, Forms.FormParts, Forms.plan_form, Forms.Harness}
 use Rattle.interrupt_plan.specs.declared.Post.{Post}
 use Rattle.trace_io.specs.declared.sample.Sample.{Sample}
 use Rattle.codegen.specs.declared.firmware.Firmware.{Firmware}
+use Rattle.codegen.specs.{Answers.given, Uninterrupted.is_waiting, Uninterrupted.values_in}
 use Rattle.eval_code.specs.declared.memory_map.MemoryMap.{MemoryMap}
-use Rattle.codegen.specs.Answers.{given}
-use Rattle.codegen.specs.Uninterrupted.{is_waiting, values_in}
 use Rattle.fz_run.specs.Rows.{bytes_of}
 use Rattle.posted_runs.specs.declared.run.Answer as declared
 use Rattle.posted_runs.specs.Turns.{up_to, behind, waiting}

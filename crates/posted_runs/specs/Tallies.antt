@@ -2,11 +2,8 @@
 -- Beside the promise.
 use Rattle.std.specs.Prelude.{ℕ, ◌+◌, List, ◌++◌}
 use Rattle.cpu12_emul.specs.Take.{FrameSeen}
-use Rattle.run_forms.specs.declared.sample.Tally.{Tally}
-use Rattle.run_forms.specs.declared.sample.Room.{Room}
-use Rattle.run_forms.specs.Forms.{Notes}
-use Rattle.run_forms.specs.Rooms.{room_notes}
-use Rattle.run_forms.specs.Rows.{frames_seen}
+use Rattle.run_forms.specs.declared.{sample.Tally.Tally, sample.Room.Room}
+use Rattle.run_forms.specs.{Forms.Notes, Rooms.room_notes, Rows.frames_seen}
 use Rattle.posted_runs.specs.Runs.{AnswerSeen, RunSeen}
 
 -- what is seen of notes: nothing is told

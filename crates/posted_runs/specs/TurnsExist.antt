@@ -1,8 +1,7 @@
 -- Good posts have turns.
 -- Beside the promise.
 use Rattle.std.specs.Prelude.{ℕ, List, []}
-use Rattle.interrupt_plan.specs.declared.Post.{Post}
-use Rattle.interrupt_plan.specs.Posts.{AreGoodPosts}
+use Rattle.interrupt_plan.specs.{declared.Post.Post, Posts.AreGoodPosts}
 use Rattle.posted_runs.specs.Turns.{Turn, AreTurns}
 
 -- Good posts have a list of turns, however many steps these take.

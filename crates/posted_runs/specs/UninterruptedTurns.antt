@@ -2,26 +2,21 @@
 -- Beside the promise.
 use Rattle.std.specs.Prelude.{◌≡◌, ◌≢◌, ℕ, ◌+◌, ◌^◌, ◌<◌, ◌≤◌, ◌⊎◌, ◌==◌, true, if◌then◌else◌}
 use Rattle.std.specs.Prelude.{List, [], ◌∷◌, ◌++◌, All, length, map, slice_index}
-use Rattle.fuzzy_meaning.specs.declared.block.Block.{Block}
-use Rattle.fuzzy_meaning.specs.Blocks.{IsValid}
+use Rattle.fuzzy_meaning.specs.{declared.block.Block.Block, Blocks.IsValid}
 use Rattle.rule_layout.specs.Layouts.{IsWithinLimits}
 use Rattle.cpu12_parts.specs.State.{State}
 use Rattle.cpu12_emul.specs.Image.{image_memory}
 use Rattle.run_law.specs.Uninterrupted.{uninterrupted}
-use Rattle.interrupt_plan.specs.declared.Post.{Post}
-use Rattle.interrupt_plan.specs.Posts.{AreGoodPosts}
+use Rattle.interrupt_plan.specs.{declared.Post.Post, Posts.AreGoodPosts}
 use Rattle.codegen.specs.declared.firmware.Firmware.{Firmware}
-use Rattle.codegen.specs.Answers.{given}
-use Rattle.eval_code.specs.Firing.{AreInputBytes}
-use Rattle.codegen.specs.Mailboxes.{is_postable, IsMailboxOf}
+use Rattle.codegen.specs.{Answers.given, Mailboxes.is_postable, Mailboxes.IsMailboxOf}
 use Rattle.codegen.specs.Turns.{IsAt, IsLook, IsChoice, IsCopied}
 use Rattle.codegen.specs.Uninterrupted.{AreUninterrupted, AreAnswersOf}
-use Rattle.eval_code.specs.Widths.{width_of}
+use Rattle.eval_code.specs.{Firing.AreInputBytes, Widths.width_of}
 use Rattle.instruction_steps.specs.Facts.{FactsBeside}
-use Rattle.posted_runs.specs.Turns.{Turn, AreTurns, samples_of}
-use Rattle.fz_run.specs.Rows.{bytes_of}
-use Rattle.posted_runs.specs.Runs.{arrival, steps_of}
+use Rattle.posted_runs.specs.{Turns.Turn, Turns.AreTurns, Turns.samples_of, Runs.arrival, Runs.steps_of}
 use Rattle.posted_runs.specs.Answering.{ended, run_of_turns, answer_in, AllKeepFacts}
+use Rattle.fz_run.specs.Rows.{bytes_of}
 
 -- a turn that answers one of n samples, after those that are done, takes as many steps as `steps` says, another 2 or
 -- none

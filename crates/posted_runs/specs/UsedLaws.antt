@@ -1,13 +1,11 @@
 -- What is known of writes, steps and interrupts, on which the laws of turns rest.
 -- Beside the promise.
-use Rattle.cpu12_isa.specs.Agreement.{WritesAgree, WritesStay}
-use Rattle.cpu12_isa.specs.Interrupts.{HidesPushed}
+use Rattle.cpu12_isa.specs.{Agreement.WritesAgree, Agreement.WritesStay, Interrupts.HidesPushed}
 use Rattle.cpu12_parts.specs.Inside.{PushesRunning, PushesNone}
 use Rattle.cpu12_emul.specs.Simulation.{FrameIsOnStack, PlainIsStep, StepAgrees, StepKeeps, TakesQuietly, WavrGoesOn}
 use Rattle.interrupt_plan.specs.declared.Post.{Post}
 use Rattle.run_law.specs.Moments.{TakenAtFirstOpen}
-use Rattle.posted_runs.specs.Behind.{FollowsBehind}
-use Rattle.posted_runs.specs.Shifts.{RunsCountOn}
+use Rattle.posted_runs.specs.{Behind.FollowsBehind, Shifts.RunsCountOn}
 
 -- the writes of posts
 pub record Writing : Type 0 where

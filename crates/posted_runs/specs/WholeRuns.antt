@@ -5,14 +5,11 @@ use Rattle.cpu12_isa.specs.Regions.{is_free}
 use Rattle.cpu12_parts.specs.State.{State}
 use Rattle.cpu12_emul.specs.Simulation.{Same}
 use Rattle.run_law.specs.Soundness.{AllGood, Ascend}
-use Rattle.interrupt_plan.specs.declared.Post.{Post}
-use Rattle.interrupt_plan.specs.Posts.{IsGoodPost}
+use Rattle.interrupt_plan.specs.{declared.Post.Post, Posts.IsGoodPost}
 use Rattle.codegen.specs.declared.firmware.Firmware.{Firmware}
 use Rattle.eval_code.specs.Widths.{width_of, places}
-use Rattle.posted_runs.specs.Turns.{Turn, AreTurns}
-use Rattle.posted_runs.specs.Runs.{turns_from}
-use Rattle.posted_runs.specs.Answering.{run_of_turns, SimulateTurns}
-use Rattle.posted_runs.specs.UninterruptedTurns.{AllTurnRuns}
+use Rattle.posted_runs.specs.{Turns.Turn, Turns.AreTurns, Runs.turns_from}
+use Rattle.posted_runs.specs.{Answering.run_of_turns, Answering.SimulateTurns, UninterruptedTurns.AllTurnRuns}
 use Rattle.posted_runs.specs.Postings.{posted, IsBox, AreOfSize}
 
 -- From boundary g on, where sample w waits in the mailbox of a state that is else s, the run under good posts is that

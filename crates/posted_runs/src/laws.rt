@@ -1,14 +1,11 @@
 //! Laws of turns, each the contract of a function that does nothing.
 ghost use Rattle.interrupt_plan.specs.declared.Post as plan;
-ghost use Rattle.posted_runs.specs.Answering.{AnswersUnderAllPosts};
-ghost use Rattle.posted_runs.specs.Behind.{FollowsBehind};
+ghost use Rattle.posted_runs.specs.{Answering.AnswersUnderAllPosts, Behind.FollowsBehind, Shifts.RunsCountOn};
 ghost use Rattle.posted_runs.specs.PostedTurns.{IdleTurnsFollow, PostedTurnsFollow};
-ghost use Rattle.posted_runs.specs.Shifts.{RunsCountOn};
 ghost use Rattle.posted_runs.specs.Turns.{AllAreTaken, LastIsAnswered, TurnsAreOne};
-ghost use Rattle.posted_runs.specs.TurnsExist.{PostsHaveTurns};
+ghost use Rattle.posted_runs.specs.{TurnsExist.PostsHaveTurns, WholeRuns.RunsAreTurns};
 ghost use Rattle.posted_runs.specs.UninterruptedTurns.{MailboxRunsTurns, TurnsHaveSteps};
 ghost use Rattle.posted_runs.specs.UsedLaws.{PostingLaws, TurnLaws};
-ghost use Rattle.posted_runs.specs.WholeRuns.{RunsAreTurns};
 
 use crate::copied::BehindTheCopy;
 use codegen::laws::{

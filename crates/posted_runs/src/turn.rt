@@ -1,12 +1,9 @@
 //! A turn: from one arrival where the code waits to the next.
 ghost use Rattle.std.specs.Prelude.{◌≡◌, ◌≤◌, ◌<◌, ◌+◌, ◌-◌, ◌^◌, All, true, false, length, map, drop};
 ghost use Rattle.run_law.specs.Forms.{run_from};
-ghost use Rattle.run_forms.specs.Rest.{rest_at, counted_at};
-ghost use Rattle.run_forms.specs.Rooms.{Fits};
-ghost use Rattle.run_forms.specs.Sessions.{IsSteady};
+ghost use Rattle.run_forms.specs.{Rest.rest_at, Rest.counted_at, Rooms.Fits, Sessions.IsSteady};
 ghost use Rattle.interrupt_plan.specs.Posts.{IsGoodPost};
-ghost use Rattle.posted_runs.specs.Runs.{input_bytes, turn_form};
-ghost use Rattle.posted_runs.specs.Tallies.{notes_of};
+ghost use Rattle.posted_runs.specs.{Runs.input_bytes, Runs.turn_form, Tallies.notes_of};
 
 use crate::form::WithPosts;
 use cpu12_emul::machine::Machine;

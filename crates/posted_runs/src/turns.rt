@@ -1,18 +1,15 @@
 //! Turn after turn.
 ghost use Rattle.std.specs.Prelude.{ℕ, ◌≡◌, ◌≤◌, ◌<◌, ◌+◌, ◌-◌, ◌*◌, ◌^◌, ◌==◌, ◌&&◌, ◌++◌, [], ◌∷◌, true, false, min};
 ghost use Rattle.std.specs.Prelude.{if◌then◌else◌, suc, All, length, map, drop, slice_index, vec_len, vec_capacity};
-ghost use Rattle.run_law.specs.Forms.{takes, is_empty};
-ghost use Rattle.run_law.specs.Following.{asked};
+ghost use Rattle.run_law.specs.{Forms.takes, Forms.is_empty, Following.asked};
 ghost use Rattle.interrupt_plan.specs.Posts.{IsGoodPost, AreGoodPosts};
 ghost use Rattle.codegen.specs.Uninterrupted.{values_in};
 ghost use Rattle.posted_runs.specs.Turns.{up_to, behind, waiting};
-ghost use Rattle.fz_run.specs.Rows.{bytes_of};
-ghost use Rattle.run_forms.specs.Rest.{with_before};
-ghost use Rattle.run_forms.specs.Rooms.{Fits};
-ghost use Rattle.run_forms.specs.Sessions.{IsSteady};
-ghost use Rattle.posted_runs.specs.Runs.{turn_form, answers_by, waits_by, input_bytes, answer_seen};
-ghost use Rattle.posted_runs.specs.Runs.{turns_from, most_turns};
+ghost use Rattle.posted_runs.specs.Runs.{turn_form, answers_by, waits_by, input_bytes, answer_seen, turns_from};
+ghost use Rattle.posted_runs.specs.Runs.{most_turns};
 ghost use Rattle.posted_runs.specs.Tallies.{notes_of, counted_at, with_rest};
+ghost use Rattle.fz_run.specs.Rows.{bytes_of};
+ghost use Rattle.run_forms.specs.{Rest.with_before, Rooms.Fits, Sessions.IsSteady};
 
 use crate::form::WithPosts;
 use crate::run::Answer;

@@ -3,18 +3,14 @@ use Rattle.std.proofs.Common.{◌∙◌, refl, sym, arith}
 use Rattle.eval_code.specs.declared.width.Width.TheVariants.{Byte}
 use Rattle.two_runs.specs.Answering.{plan_of}
 use Rattle.std.proofs.Common.{List, map, subst}
-use Rattle.run_law.specs.Forms.{RowSeen}
-use Rattle.run_law.specs.Moments.{TakenAtOnce}
+use Rattle.run_law.specs.{Forms.RowSeen, Moments.TakenAtOnce}
 use Rattle.watched_code.specs.Watched.{Watched}
-use Rattle.watched_runs.specs.Forms.{FactsWatched, watched_form}
-use Rattle.watched_runs.specs.Rows.{upset_rows}
-use Rattle.watched_runs.specs.Samples.{with_upsets}
+use Rattle.watched_runs.specs.{Forms.FactsWatched, Forms.watched_form, Rows.upset_rows, Samples.with_upsets}
 use Rattle.fz_run.specs.Rows.{first_state, input_bytes}
-use Rattle.promise.specs.Bench.{AreReadOff, requests_in}
-use Rattle.promise.proofs.BenchLemmas.{read_off_expected}
+use Rattle.promise.specs.{Bench.AreReadOff, Bench.requests_in, Laws.AnswersServe}
 use Rattle.promise.specs.OtherRuns.{DebuggedRunsServe, WatchedRunsServe, GeneratedRunsServe, HandledRunsServe}
 use Rattle.promise.specs.OtherRuns.{OtherRunsServe, SlowRunsServe}
-use Rattle.promise.specs.Laws.{AnswersServe}
+use Rattle.promise.proofs.BenchLemmas.{read_off_expected}
 
 generated : AnswersServe → GeneratedRunsServe
 generated keep number output g =

@@ -3,14 +3,10 @@
 use Rattle.std.specs.Prelude.{◌≡◌, ◌≢◌, ◌<◌, ℕ, suc, ◌==◌, ◌&&◌, true, false, List, [], ◌∷◌, ◌++◌, filter}
 use Rattle.std.specs.Prelude.{slice_index}
 use Rattle.cpu12_asm.specs.declared.image.Image.{Image}
-use Rattle.cpu12_isa.specs.Act.{write_all}
-use Rattle.cpu12_isa.specs.Memory.{placed}
+use Rattle.cpu12_isa.specs.{Act.write_all, Memory.placed}
 use Rattle.cpu12_parts.specs.State.{State}
-use Rattle.cpu12_emul.specs.Image.{image_memory}
-use Rattle.cpu12_emul.specs.Step.{reset_with}
-use Rattle.cpu12_emul.specs.Take.{framed}
-use Rattle.eval_code.specs.Widths.{is_wide}
-use Rattle.eval_code.specs.declared.width.Width.{Width}
+use Rattle.cpu12_emul.specs.{Image.image_memory, Step.reset_with, Take.framed}
+use Rattle.eval_code.specs.{Widths.is_wide, declared.width.Width.Width}
 use Rattle.firmware_ports.specs.Ports.{answers_at}
 use Rattle.interrupt_plan.specs.declared.Request.{Request}
 use Rattle.run_law.specs.Forms.{Form, RowSeen, rows_from}

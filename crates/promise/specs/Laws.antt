@@ -2,30 +2,23 @@
 -- Beside the promise.
 use Rattle.box_tree.specs.declared.cert.CertKind.{CertKind}
 use Rattle.build_commands.specs.Certs.{AcceptsCert}
-use Rattle.codegen.specs.Firmwares.{IsFirmwareOf}
-use Rattle.codegen.specs.Images.{IsImageOf, firmware_items}
+use Rattle.codegen.specs.{Firmwares.IsFirmwareOf, Images.IsImageOf, Images.firmware_items}
 use Rattle.codegen.specs.declared.firmware.Firmware.{Firmware}
 use Rattle.cpu12_asm.specs.declared.image.Image.{Image}
-use Rattle.eval_code.specs.MemoryMaps.{main_map}
-use Rattle.eval_code.specs.Widths.{is_wide}
-use Rattle.eval_code.specs.declared.width.Width.{Width}
+use Rattle.eval_code.specs.{MemoryMaps.main_map, Widths.is_wide, declared.width.Width.Width}
 use Rattle.fcl_check.specs.Texts.{SpellsBlock}
-use Rattle.fuzzy_meaning.specs.Blocks.{IsValid}
-use Rattle.fuzzy_meaning.specs.declared.block.Block.{Block}
-use Rattle.interrupt_plan.specs.PlanTexts.{Spells as SpellsPlan}
-use Rattle.interrupt_plan.specs.declared.Request.{Request}
+use Rattle.fuzzy_meaning.specs.{Blocks.IsValid, declared.block.Block.Block}
+use Rattle.interrupt_plan.specs.{PlanTexts.Spells as SpellsPlan, declared.Request.Request}
 use Rattle.promise.specs.Promise.{IsPrintable, Promise, Serves}
 use Rattle.rule_layout.specs.Layouts.{IsWithinLimits}
 use Rattle.run_commands.specs.CertifiedRun.{CertifiedRun, Files}
 use Rattle.run_commands.specs.Run.{RunAccepts, run_lines, run_with}
-use Rattle.fz_run.specs.Answering.{AnswersUnder}
-use Rattle.fz_run.specs.Rows.{firmware_rows}
+use Rattle.fz_run.specs.{Answering.AnswersUnder, Rows.firmware_rows}
 use Rattle.run_law.specs.Forms.{RowSeen}
 use Rattle.run_reports.specs.Reports.{Report}
 use Rattle.srecord.specs.Texts.{GivesImage}
 use Rattle.std.specs.Prelude.{◌≡◌, ◌<◌, ◌^◌, ℕ, List, length}
-use Rattle.trace_io.specs.Traces.{Spells as SpellsTrace}
-use Rattle.trace_io.specs.declared.sample.Sample.{Sample}
+use Rattle.trace_io.specs.{Traces.Spells as SpellsTrace, declared.sample.Sample.Sample}
 
 -- What a block's firmware answers under a plan is served by its image.
 abbrev pub AnswersServe : Type 0

@@ -3,25 +3,19 @@
 use Rattle.std.specs.Prelude.{◌≡◌, ◌<◌, ◌^◌, ℕ, List, length, map}
 use Rattle.eval_code.specs.declared.width.Width.TheVariants.{Byte}
 use Rattle.build_commands.specs.SeenOutputs.{SeenOutput}
-use Rattle.fz_run.specs.Rows.{input_bytes}
+use Rattle.fz_run.specs.Rows.{input_bytes, first_state}
 use Rattle.handled_runs.specs.Forms.{first_handled, with_code}
-use Rattle.two_runs.specs.Answering.{plan_of}
-use Rattle.two_runs.specs.Rows.{first_two, level_form, levels_of}
-use Rattle.run_commands.specs.Debug.{DebugFiles, DebugGives}
-use Rattle.run_commands.specs.Generate.{GenerateGives}
+use Rattle.two_runs.specs.{Answering.plan_of, Rows.first_two, Rows.level_form, Rows.levels_of}
+use Rattle.run_commands.specs.{Debug.DebugFiles, Debug.DebugGives, Generate.GenerateGives}
 use Rattle.run_commands.specs.declared.debug.DebugRun.{DebugRun}
 use Rattle.form_commands.specs.HandledRun.{HandledFiles, HandledReport, HandledRun}
 use Rattle.form_commands.specs.LevelRun.{LevelFiles, LevelReport, LevelRun}
-use Rattle.cpu12_parts.specs.State.{State}
 use Rattle.form_commands.specs.WatchedRun.{WatchedFiles, WatchedReport, WatchedRun}
+use Rattle.cpu12_parts.specs.State.{State}
 use Rattle.run_law.specs.Forms.{RowSeen}
 use Rattle.watched_code.specs.Watched.{Watched}
-use Rattle.watched_runs.specs.Forms.{watched_form}
-use Rattle.watched_runs.specs.Rows.{fault_seen}
-use Rattle.watched_runs.specs.Samples.{with_upsets}
-use Rattle.fz_run.specs.Rows.{first_state}
-use Rattle.promise.specs.Bench.{AreReadOff, IsRunOf, requests_in}
-use Rattle.promise.specs.Promise.{Serves}
+use Rattle.watched_runs.specs.{Forms.watched_form, Rows.fault_seen, Samples.with_upsets}
+use Rattle.promise.specs.{Bench.AreReadOff, Bench.IsRunOf, Bench.requests_in, Promise.Serves}
 
 abbrev pub GeneratedRunsServe : Type 0
 GeneratedRunsServe = (number : ℕ) (output : SeenOutput) (g : GenerateGives number output)

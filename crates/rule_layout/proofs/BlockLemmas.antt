@@ -5,15 +5,13 @@ use Rattle.std.specs.Prelude.{All, IsSomeAnd, slice_get}
 use Rattle.std.specs.List.{range_with_len}
 use Rattle.std.proofs.lemmas.List.{length-map, append_assoc}
 use Rattle.std.proofs.lemmas.List.Elements.{All-append, All-map, All-head, All-tail, All-cons, All-nil}
-use Rattle.fuzzy_meaning.specs.declared.block.Block.{Block}
-use Rattle.fuzzy_meaning.specs.declared.block.Rule.{Rule}
+use Rattle.fuzzy_meaning.specs.declared.{block.Block.Block, block.Rule.Rule}
 use Rattle.fuzzy_meaning.specs.Blocks.{IsValid, IsValidInput, IsValidOutput, IsValidRule, HasTerm, HasSingleton}
 use Rattle.fuzzy_meaning.proofs.Algebra.{HasLiterals-map}
-use Rattle.rule_layout.specs.Grid.{IsInGrid, FitsGrid}
-use Rattle.rule_layout.specs.declared.flat.Slot.{Slot}
+use Rattle.rule_layout.specs.{Grid.IsInGrid, Grid.FitsGrid, Tables.IsInTable, Tables.is_marked, Tables.AreUsed}
 use Rattle.rule_layout.specs.Slots.{terms_from, term_count, singleton_count, input_terms, output_terms, term_slot}
 use Rattle.rule_layout.specs.Slots.{complement_slot, out_slot, is_complemented, slots_of}
-use Rattle.rule_layout.specs.Tables.{IsInTable, is_marked, AreUsed}
+use Rattle.rule_layout.specs.declared.flat.Slot.{Slot}
 
 -- the element that a place has is among those of which P holds
 at_place : {X : Type 0} (P Q : X → Type 0) (xs : List X) (k : ℕ) → All P xs → IsSomeAnd (slice_get xs k) Q

@@ -1,10 +1,9 @@
 -- What is asked of a condition's parts.
 use Rattle.std.proofs.Common.{◌≡◌, ℕ, ◌<◌, ◌≤◌, List, length, get_or, Vec, Global, refl, arith, ◌⊎◌, Some, slice_get}
 use Rattle.std.proofs.lemmas.Option.{slice_get_read}
-use Rattle.fuzzy_meaning.specs.declared.condition.Node.{Node}
+use Rattle.fuzzy_meaning.specs.{declared.condition.Node.Node, Trees.tree}
 use Rattle.fuzzy_meaning.specs.declared.condition.Node.TheVariants.{And, Or}
 use Rattle.fuzzy_meaning.specs.Conditions.{Condition, conditions, nodes, total_nodes}
-use Rattle.fuzzy_meaning.specs.Trees.{tree}
 use Rattle.fuzzy_meaning.proofs.Algebra.{parts_nodes, part_nodes, HasLiterals-part, AllHaveLiterals-parts}
 use Rattle.rule_layout.specs.Grid.{IsInGrid, FitsGrid, AllFitGrid}
 

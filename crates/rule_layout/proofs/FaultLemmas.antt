@@ -2,8 +2,7 @@
 use Rattle.std.proofs.Common.{arith, ◌≤◌, ℕ, zero, suc, List, [], ◌∷◌, length, take, refl}
 use Rattle.std.specs.Prelude.{sum_by}
 use Rattle.std.proofs.lemmas.List.Sums.{sum_by-cons}
-use Rattle.rule_layout.specs.Faults.{LimitsHaveNoFault}
-use Rattle.rule_layout.specs.Layouts.{rule_spread}
+use Rattle.rule_layout.specs.{Faults.LimitsHaveNoFault, Layouts.rule_spread}
 use Rattle.rule_layout.specs.declared.flat.LayoutFault.TheVariants as fault
 
 sum_by-take : {X : Type 0} (f : X → ℕ) (n : ℕ) (xs : List X) → sum_by f (take n xs) ≤ sum_by f xs

@@ -10,24 +10,18 @@ use Rattle.std.proofs.lemmas.Int.{ints}
 use Rattle.std.proofs.lemmas.List.{length-append, length-map, map-append}
 use Rattle.std.proofs.lemmas.List.Elements.{All-append, All-map, All-head, All-tail, All-cons, All-nil}
 use Rattle.fz_num.specs.declared.dec.Dec.{Dec}
-use Rattle.fuzzy_meaning.specs.declared.block.Block.{Block}
-use Rattle.fuzzy_meaning.specs.declared.block.Rule.{Rule}
-use Rattle.fuzzy_meaning.specs.Blocks.{IsValid, IsWeight}
+use Rattle.fuzzy_meaning.specs.{declared.block.Block.Block, declared.block.Rule.Rule, Blocks.IsValid, Blocks.IsWeight}
 use Rattle.byte_scaling.specs.Weights.{weight_byte_of}
-use Rattle.rule_layout.specs.declared.flat.Slot.{Slot}
+use Rattle.rule_layout.specs.{declared.flat.Slot.Slot, declared.flat.Flat.Flat, Spreading.Literal, Tables.place_of}
 use Rattle.rule_layout.specs.declared.flat.Slot.TheVariants.{Term, Complement, Out}
 use Rattle.rule_layout.specs.declared.flat.Form.TheVariants.{Rev, Revw}
-use Rattle.rule_layout.specs.declared.flat.Flat.{Flat}
-use Rattle.rule_layout.specs.Spreading.{Literal}
 use Rattle.rule_layout.specs.Slots.{terms_from, term_count, singleton_count, input_terms, output_terms, term_slot}
 use Rattle.rule_layout.specs.Slots.{complement_slot, out_slot, is_complemented, slots_of, is_same_slot, number_in}
-use Rattle.rule_layout.specs.Tables.{place_of}
 use Rattle.rule_layout.specs.Layouts.{rule_spread, conjunction_of, rule_conjunctions, rule_weights, conjunctions_of}
 use Rattle.rule_layout.specs.Layouts.{weights_of, is_below_one, form_by, form_of, flat_of, IsLaidOut, LayoutLaw}
 use Rattle.rule_layout.specs.Layouts.{FlatHasParts}
-use Rattle.rule_layout.proofs.SpreadLemmas.{some_conjunction}
+use Rattle.rule_layout.proofs.{SpreadLemmas.some_conjunction, NumberLemmas.slot_from_same}
 use Rattle.rule_layout.proofs.BlockLemmas.{rule_fits, few_terms, few_singletons}
-use Rattle.rule_layout.proofs.NumberLemmas.{slot_from_same}
 use Rattle.rule_layout.proofs.LayoutLemmas.{few_slots, numbers_in_range, form_by_rev}
 
 -- the slots' places in the tables rise, from m on and below n

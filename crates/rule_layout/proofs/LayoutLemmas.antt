@@ -7,17 +7,12 @@ use Rattle.std.proofs.lemmas.List.FromFn.{length-range_with_len}
 use Rattle.std.proofs.lemmas.List.Sums.{sum_by-append, sum_by-cons, length-filter, count_by-le-length, get_or-le-sum_by}
 use Rattle.std.proofs.lemmas.List.Elements.{All-append, All-map, All-head, All-tail, All-nil, All-filter}
 use Rattle.std.specs.List.{range_with_len}
-use Rattle.fuzzy_meaning.specs.declared.block.Block.{Block}
-use Rattle.fuzzy_meaning.specs.declared.block.Rule.{Rule}
+use Rattle.fuzzy_meaning.specs.declared.{block.Block.Block, block.Rule.Rule}
 use Rattle.fuzzy_meaning.specs.Blocks.{IsValid, rule_size}
-use Rattle.rule_layout.specs.declared.flat.Slot.{Slot}
-use Rattle.rule_layout.specs.declared.flat.Conjunction.{Conjunction}
-use Rattle.rule_layout.specs.declared.flat.Form.{Form}
+use Rattle.rule_layout.specs.declared.{flat.Slot.Slot, flat.Conjunction.Conjunction, flat.Form.Form, flat.Flat.Flat}
 use Rattle.rule_layout.specs.declared.flat.Form.TheVariants.{Rev, Revw}
-use Rattle.rule_layout.specs.declared.flat.Flat.{Flat}
 use Rattle.rule_layout.specs.declared.sizes.Size.{Size}
-use Rattle.rule_layout.specs.Spreading.{Literal, total_length}
-use Rattle.rule_layout.specs.Lists.{marked}
+use Rattle.rule_layout.specs.{Spreading.Literal, Spreading.total_length, Lists.marked}
 use Rattle.rule_layout.specs.Slots.{terms_from, term_count, singleton_count, input_terms, output_terms, term_slot}
 use Rattle.rule_layout.specs.Slots.{complement_slot, out_slot, is_complemented, slots_of, literal_number}
 use Rattle.rule_layout.specs.Slots.{conclusion_number}
@@ -29,8 +24,7 @@ use Rattle.rule_layout.specs.Layouts.{conjunction_count, IsTooLong, IsWithinLimi
 use Rattle.rule_layout.specs.Steps.{table_conjunction, table_conjunctions, IsSpreadable}
 use Rattle.rule_layout.proofs.BlockLemmas.{input_terms_in_grid, output_terms_in_table, few_terms, few_singletons}
 use Rattle.rule_layout.proofs.BlockLemmas.{rule_fits}
-use Rattle.rule_layout.proofs.ListLemmas.{mark, marked-cons}
-use Rattle.rule_layout.proofs.RuleLemmas.{entry_count_le}
+use Rattle.rule_layout.proofs.{ListLemmas.mark, ListLemmas.marked-cons, RuleLemmas.entry_count_le}
 use Rattle.std.proofs.Math.Nat.{mul-le-mul_right}
 use Rattle.std.proofs.lemmas.Bool.Decides.{nat_tests}
 use Rattle.rule_layout.proofs.MemberLemmas.{RuleHasSlots, rules_have_slots}

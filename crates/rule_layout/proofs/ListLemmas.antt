@@ -4,9 +4,7 @@ use Rattle.std.proofs.Common.{◌∙◌, subst, arith, append_assoc}
 use Rattle.std.specs.Prelude.{All}
 use Rattle.std.proofs.lemmas.List.{length-drop}
 use Rattle.std.proofs.lemmas.List.Elements.{All-append, All-head, All-tail, All-cons, All-nil}
-use Rattle.rule_layout.specs.declared.flat.Conjunction.{Conjunction}
-use Rattle.rule_layout.specs.Lists.{marked, at_address}
-use Rattle.rule_layout.specs.Layouts.{IsBelow}
+use Rattle.rule_layout.specs.{declared.flat.Conjunction.Conjunction, Lists.marked, Lists.at_address, Layouts.IsBelow}
 
 -- the mark behind a conjunction, with others after it or none
 abbrev pub mark : ℕ → ℕ → List Conjunction → ℕ

@@ -7,19 +7,16 @@ use Rattle.std.proofs.lemmas.List.Folds.{list_any-append}
 use Rattle.std.proofs.lemmas.Bool.{or_cases, false≢true}
 use Rattle.std.proofs.lemmas.Bool.Decides.{nat_tests}
 use Rattle.std.proofs.lemmas.List.Elements.{All-append, All-map, All-head, All-tail, All-cons, All-nil}
-use Rattle.fuzzy_meaning.specs.declared.block.Block.{Block}
-use Rattle.fuzzy_meaning.specs.declared.block.Rule.{Rule}
+use Rattle.fuzzy_meaning.specs.declared.{block.Block.Block, block.Rule.Rule}
 use Rattle.fuzzy_meaning.specs.Blocks.{IsValid, IsValidCondition, HasTerm, HasSingleton}
 use Rattle.fuzzy_meaning.specs.Conditions.{Condition, is, negation, all, any, Conditions, end, also, AllHaveLiterals}
 use Rattle.fuzzy_meaning.proofs.Algebra.{AllHaveLiterals-some}
-use Rattle.rule_layout.specs.declared.flat.Slot.{Slot}
+use Rattle.rule_layout.specs.{declared.flat.Slot.Slot, Tables.IsInTable, Layouts.rule_spread}
 use Rattle.rule_layout.specs.declared.flat.Slot.TheVariants.{Term, Complement, Out}
 use Rattle.rule_layout.specs.Spreading.{Literal, literal, choices, spread_of, spread_parts}
 use Rattle.rule_layout.specs.Slots.{terms_from, term_count, singleton_count, input_terms, output_terms, term_slot}
-use Rattle.rule_layout.specs.Slots.{complement_slot, out_slot, has_complement, is_complemented}
-use Rattle.rule_layout.specs.Slots.{slots_of, is_same_slot, number_in, literal_slot}
-use Rattle.rule_layout.specs.Tables.{IsInTable}
-use Rattle.rule_layout.specs.Layouts.{rule_spread}
+use Rattle.rule_layout.specs.Slots.{complement_slot, out_slot, has_complement, is_complemented, slots_of}
+use Rattle.rule_layout.specs.Slots.{is_same_slot, number_in, literal_slot}
 use Rattle.rule_layout.proofs.BlockLemmas.{term_in_grid, singleton_in_table}
 use Rattle.rule_layout.proofs.SlotLemmas.{some_has_complement}
 

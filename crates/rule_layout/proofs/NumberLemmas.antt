@@ -4,9 +4,8 @@ use Rattle.std.proofs.Common.{sym, ap, ◌∙◌, subst, arith, true≢false}
 use Rattle.std.specs.Prelude.{◌==◌, ◌&&◌, All}
 use Rattle.std.proofs.lemmas.List.{drop_more, get_or-set_same, get_or-set_other}
 use Rattle.std.proofs.lemmas.Bool.Decides.{nat_tests}
-use Rattle.rule_layout.specs.declared.flat.Slot.{Slot}
+use Rattle.rule_layout.specs.{declared.flat.Slot.Slot, Slots.is_same_slot, Slots.number_in}
 use Rattle.rule_layout.specs.declared.flat.Slot.TheVariants.{Term, Complement, Out}
-use Rattle.rule_layout.specs.Slots.{is_same_slot, number_in}
 use Rattle.rule_layout.specs.Tables.{IsInTable, place_of, table_number}
 
 same_numbers : (i t j u : ℕ) → i ≡ j → t ≡ u → (i == j && t == u) ≡ true

@@ -6,18 +6,14 @@ use Rattle.std.proofs.lemmas.List.{take_more, get_or-take, length-take, flat_map
 use Rattle.std.proofs.lemmas.List.Sums.{sum_by-cons}
 use Rattle.std.proofs.lemmas.List.Elements.{All-head, All-tail}
 use Rattle.std.proofs.Math.Nat.{mul-le-mul_left}
-use Rattle.fuzzy_meaning.specs.declared.block.Rule.{Rule}
-use Rattle.fuzzy_meaning.specs.Conditions.{nodes}
-use Rattle.rule_layout.specs.declared.sizes.Size.{Size}
-use Rattle.rule_layout.specs.Spreading.{Literal, total_length}
+use Rattle.fuzzy_meaning.specs.{declared.block.Rule.Rule, Conditions.nodes}
+use Rattle.rule_layout.specs.declared.{sizes.Size.Size, flat.Conjunction.Conjunction}
+use Rattle.rule_layout.specs.{Spreading.Literal, Spreading.total_length, Slots.out_slot}
 use Rattle.rule_layout.specs.Sizes.{IsCountable, rule_entries, entry_count, IsSizeOfRule, IsSizeOfRules, IsSmall}
-use Rattle.rule_layout.specs.declared.flat.Conjunction.{Conjunction}
-use Rattle.rule_layout.specs.Slots.{out_slot}
 use Rattle.rule_layout.specs.Tables.{table_number, table_literal, table_literals}
 use Rattle.rule_layout.specs.Layouts.{rule_spread, conjunction_count}
 use Rattle.rule_layout.specs.Steps.{table_conjunction, table_conjunctions, with_conclusions}
-use Rattle.rule_layout.proofs.SpreadLemmas.{entries_le}
-use Rattle.rule_layout.proofs.SizeLemmas.{small_from}
+use Rattle.rule_layout.proofs.{SpreadLemmas.entries_le, SizeLemmas.small_from}
 
 entries_bound : (e m n k : ℕ) → e ≤ m * n → n + k ≤ 1048576 → e + m * (k + 2) ≤ m * 2097152
 entries_bound e m n k h few =

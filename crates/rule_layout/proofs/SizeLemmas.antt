@@ -6,8 +6,7 @@ use Rattle.std.proofs.Math.Nat.{mul-le-mul_left}
 use Rattle.fuzzy_meaning.specs.Conditions.{Condition, conditions}
 use Rattle.rule_layout.specs.declared.sizes.Size.{Size}
 use Rattle.rule_layout.specs.Spreading.{Literal, spreads, spread_of, spread_parts}
-use Rattle.rule_layout.specs.Grid.{AllFitGrid}
-use Rattle.rule_layout.specs.Sizes.{IsSizeIfFew, IsSizeOf, IsJoined, IsSmall}
+use Rattle.rule_layout.specs.{Grid.AllFitGrid, Sizes.IsSizeIfFew, Sizes.IsSizeOf, Sizes.IsJoined, Sizes.IsSmall}
 use Rattle.rule_layout.proofs.ChoicesLemmas.{length-choices, total_length-append, total_length-choices}
 use Rattle.rule_layout.proofs.SpreadLemmas.{spread_parts-take, take_le, part_le}
 

@@ -5,9 +5,8 @@ use Rattle.std.specs.List.{range_with_len}
 use Rattle.std.proofs.lemmas.List.{map_more, append-nil, length-map, length-take}
 use Rattle.std.proofs.lemmas.List.FromFn.{map-range_with_len_more}
 use Rattle.fuzzy_meaning.specs.Conditions.{Condition, Conditions, end, also, conditions, evaluate_pushed_parts}
-use Rattle.fuzzy_meaning.specs.declared.condition.Node.{Node}
+use Rattle.fuzzy_meaning.specs.{Trees.tree, declared.condition.Node.Node}
 use Rattle.fuzzy_meaning.specs.declared.condition.Node.TheVariants.{And, Or}
-use Rattle.fuzzy_meaning.specs.Trees.{tree}
 use Rattle.fuzzy_meaning.proofs.Algebra.{parts_tree, IsMonoid, evaluate_pushed_parts-take}
 use Rattle.rule_layout.specs.Slots.{terms_from, in_some_part, is_complement, has_complement}
 

@@ -3,8 +3,8 @@ use Rattle.std.proofs.Common.{◌≡◌, ℕ, zero, suc, ◌+◌, ◌*◌, ◌<�
 use Rattle.std.proofs.Common.{get_or, take, refl, arith, append_assoc}
 use Rattle.std.proofs.lemmas.List.{length-append, append-nil}
 use Rattle.std.proofs.Math.Nat.{mul-le-mul_left, mul-le-mul_right}
-use Rattle.fuzzy_meaning.specs.Conditions.{Condition, is, negation, all, any, Conditions, end, also, conditions, nodes}
-use Rattle.fuzzy_meaning.specs.Conditions.{total_nodes, SomeHaveLiterals}
+use Rattle.fuzzy_meaning.specs.Conditions.{Condition, is, negation, all, any, Conditions, end, also, conditions}
+use Rattle.fuzzy_meaning.specs.Conditions.{nodes, total_nodes, SomeHaveLiterals}
 use Rattle.fuzzy_meaning.proofs.Algebra.{IsMonoid, evaluate_pushed_parts-take}
 use Rattle.rule_layout.specs.Spreading.{choices, spreads, spread_literal, spread_of, spread_parts, total_length}
 use Rattle.rule_layout.specs.Grid.{IsInGrid, FitsGrid, AllFitGrid}

@@ -4,8 +4,7 @@ use Rattle.std.proofs.lemmas.List.{map-append}
 use Rattle.fuzzy_meaning.specs.Conditions.{Condition, conditions}
 use Rattle.rule_layout.specs.Spreading.{Literal, spreads, spread_of, spread_parts}
 use Rattle.rule_layout.specs.Tables.{table_literals, table_literal}
-use Rattle.rule_layout.proofs.ChoicesLemmas.{map-choices}
-use Rattle.rule_layout.proofs.SpreadLemmas.{spread_parts-take}
+use Rattle.rule_layout.proofs.{ChoicesLemmas.map-choices, SpreadLemmas.spread_parts-take}
 
 table_literals-join : (table : List ℕ) (any : Bool) (xs ys : List (List Literal))
     → table_literals table (spreads.join any xs ys)

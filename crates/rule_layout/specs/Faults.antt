@@ -3,8 +3,7 @@
 use Rattle.std.specs.Prelude.{◌≢◌}
 use Rattle.fuzzy_meaning.specs.declared.block.Block.{Block}
 use Rattle.rule_layout.specs.Layouts.{IsFaultOf, IsWithinLimits}
-use Rattle.rule_layout.specs.declared.flat.LayoutFault.{LayoutFault}
-use Rattle.rule_layout.specs.declared.flat.LayoutFault.TheVariants.{Memory}
+use Rattle.rule_layout.specs.declared.{flat.LayoutFault.LayoutFault, flat.LayoutFault.TheVariants.Memory}
 
 -- A block within its limits has no fault.
 abbrev pub LimitsHaveNoFault : Type 0

@@ -4,19 +4,13 @@ use Rattle.std.specs.Prelude.{◌≡◌, ℕ, ◌-◌, ◌*◌, ◌<◌, ◌≤�
 use Rattle.std.specs.Prelude.{take, sum_by, flat_map, All, Option, Some, None, pos, int_lt, if◌then◌else◌}
 use Rattle.std.specs.List.{list_any}
 use Rattle.fz_num.specs.declared.dec.Dec.{Dec}
-use Rattle.fuzzy_meaning.specs.declared.block.Block.{Block}
-use Rattle.fuzzy_meaning.specs.declared.block.Rule.{Rule}
-use Rattle.fuzzy_meaning.specs.Blocks.{IsValid}
-use Rattle.rule_layout.specs.declared.flat.Slot.{Slot}
-use Rattle.rule_layout.specs.declared.flat.Conjunction.{Conjunction}
-use Rattle.rule_layout.specs.declared.flat.Form.{Form}
+use Rattle.fuzzy_meaning.specs.{declared.block.Block.Block, declared.block.Rule.Rule, Blocks.IsValid}
+use Rattle.rule_layout.specs.declared.{flat.Slot.Slot, flat.Conjunction.Conjunction, flat.Form.Form, flat.Flat.Flat}
 use Rattle.rule_layout.specs.declared.flat.Form.TheVariants.{Rev, Revw}
-use Rattle.rule_layout.specs.declared.flat.Flat.{Flat}
 use Rattle.rule_layout.specs.declared.flat.LayoutFault.{LayoutFault}
 use Rattle.rule_layout.specs.declared.flat.LayoutFault.TheVariants.{TooManyRules, ListTooLong, Memory}
-use Rattle.rule_layout.specs.Spreading.{Literal, spread_of}
+use Rattle.rule_layout.specs.{Spreading.Literal, Spreading.spread_of, Lists.marked}
 use Rattle.rule_layout.specs.Slots.{slots_of, number_in, literal_number, conclusion_number}
-use Rattle.rule_layout.specs.Lists.{marked}
 use Rattle.byte_scaling.specs.Weights.{weight_byte_of}
 
 -- a rule's condition spread

@@ -3,13 +3,10 @@
 use Rattle.std.specs.Prelude.{◌≡◌, ℕ, ◌+◌, ◌*◌, ◌/◌, max, ◌==◌, Bool, List, [], ◌∷◌}
 use Rattle.std.specs.Prelude.{if◌then◌else◌}
 use Rattle.std.specs.List.{list_any}
-use Rattle.fuzzy_meaning.specs.declared.block.Block.{Block}
-use Rattle.fuzzy_meaning.specs.Blocks.{IsValid, HasSingleton}
+use Rattle.fuzzy_meaning.specs.{declared.block.Block.Block, Blocks.IsValid, Blocks.HasSingleton}
 use Rattle.point_slope.specs.Bytes.{literal_grade, byte_mass}
-use Rattle.rule_layout.specs.declared.flat.Slot.{Slot}
-use Rattle.rule_layout.specs.declared.flat.Conjunction.{Conjunction}
-use Rattle.rule_layout.specs.Slots.{slots_of, conclusion_number}
-use Rattle.rule_layout.specs.Layouts.{flat_of}
+use Rattle.rule_layout.specs.declared.{flat.Slot.Slot, flat.Conjunction.Conjunction}
+use Rattle.rule_layout.specs.{Slots.slots_of, Slots.conclusion_number, Layouts.flat_of}
 use Rattle.rule_layout.specs.Truths.{slot_values, least_value}
 
 -- what the slots hold before the rules, by the grades of the input terms

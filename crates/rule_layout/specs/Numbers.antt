@@ -1,8 +1,7 @@
 -- Where the slots of a term stand.
 -- Beside the promise.
 use Rattle.std.specs.Prelude.{◌≡◌, ℕ, ◌+◌, ◌-◌, List, length, take, filter, sum_by}
-use Rattle.fuzzy_meaning.specs.declared.block.Block.{Block}
-use Rattle.fuzzy_meaning.specs.Blocks.{IsValid, HasTerm, HasSingleton}
+use Rattle.fuzzy_meaning.specs.{declared.block.Block.Block, Blocks.IsValid, Blocks.HasTerm, Blocks.HasSingleton}
 use Rattle.rule_layout.specs.declared.flat.Slot.TheVariants.{Term, Out}
 use Rattle.rule_layout.specs.Slots.{term_count, singleton_count, input_terms, is_complemented, slots_of, number_in}
 

@@ -2,13 +2,10 @@
 -- Beside the promise.
 use Rattle.std.specs.Prelude.{◌≡◌, ℕ, ◌+◌, ◌*◌, ◌<◌, ◌≤◌, List, length, sum_by, Option, Some, None, Result, Ok, Err}
 use Rattle.std.specs.Prelude.{Bool, true, false}
-use Rattle.fuzzy_meaning.specs.declared.block.Rule.{Rule}
-use Rattle.fuzzy_meaning.specs.Blocks.{rule_size}
-use Rattle.rule_layout.specs.declared.flat.LayoutFault.{LayoutFault}
+use Rattle.fuzzy_meaning.specs.{declared.block.Rule.Rule, Blocks.rule_size}
+use Rattle.rule_layout.specs.declared.{flat.LayoutFault.LayoutFault, sizes.Size.Size}
 use Rattle.rule_layout.specs.declared.flat.LayoutFault.TheVariants.{TooManyRules, ListTooLong, Memory}
-use Rattle.rule_layout.specs.declared.sizes.Size.{Size}
-use Rattle.rule_layout.specs.Spreading.{total_length}
-use Rattle.rule_layout.specs.Grid.{FitsGrid}
+use Rattle.rule_layout.specs.{Spreading.total_length, Grid.FitsGrid}
 use Rattle.rule_layout.specs.Layouts.{rule_spread, conjunction_count, IsFirstTooMany}
 
 -- at most 512 conjunctions, of some two million entries each

@@ -1,7 +1,8 @@
 -- A condition spread into conjunctions: the list of them, each the list of its literals.
 -- Beside the promise.
 use Rattle.std.specs.Prelude.{ℕ, Bool, List, [], ◌∷◌, ◌++◌, map, length, sum_by}
-use Rattle.fuzzy_meaning.specs.Conditions.{Condition, Conditions, Joins, joins, evaluate_pushed, evaluate_pushed_parts}
+use Rattle.fuzzy_meaning.specs.Conditions.{Condition, Conditions, Joins, joins, evaluate_pushed}
+use Rattle.fuzzy_meaning.specs.Conditions.{evaluate_pushed_parts}
 
 -- input i is term t, or its complement
 pub record Literal : Type 0 where

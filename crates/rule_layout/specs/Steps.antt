@@ -2,12 +2,8 @@
 -- Beside the promise.
 use Rattle.std.specs.Prelude.{ℕ, List, map, All}
 use Rattle.fuzzy_meaning.specs.declared.block.Rule.{Rule}
-use Rattle.rule_layout.specs.declared.flat.Conjunction.{Conjunction}
-use Rattle.rule_layout.specs.Spreading.{Literal}
-use Rattle.rule_layout.specs.Grid.{FitsGrid}
-use Rattle.rule_layout.specs.Slots.{out_slot}
-use Rattle.rule_layout.specs.Tables.{table_literal, table_number, IsInTable}
-use Rattle.rule_layout.specs.Layouts.{rule_spread}
+use Rattle.rule_layout.specs.{declared.flat.Conjunction.Conjunction, Spreading.Literal, Grid.FitsGrid, Slots.out_slot}
+use Rattle.rule_layout.specs.{Tables.table_literal, Tables.table_number, Tables.IsInTable, Layouts.rule_spread}
 
 -- a conjunction of a rule
 abbrev pub table_conjunction : List ℕ → Rule → List Literal → Conjunction

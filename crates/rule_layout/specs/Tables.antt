@@ -1,12 +1,9 @@
 -- The tables by which slots are numbered and complements are marked.
 -- Beside the promise.
 use Rattle.std.specs.Prelude.{◌≡◌, ℕ, ◌+◌, ◌-◌, ◌*◌, ◌<◌, ◌≤◌, ◌||◌, Bool, false, List, length, get_or, map}
-use Rattle.fuzzy_meaning.specs.declared.block.Rule.{Rule}
-use Rattle.fuzzy_meaning.specs.Conditions.{Condition}
-use Rattle.rule_layout.specs.declared.flat.Slot.{Slot}
+use Rattle.fuzzy_meaning.specs.{declared.block.Rule.Rule, Conditions.Condition}
+use Rattle.rule_layout.specs.{declared.flat.Slot.Slot, Grid.IsInGrid, Spreading.Literal}
 use Rattle.rule_layout.specs.declared.flat.Slot.TheVariants.{Term, Complement, Out}
-use Rattle.rule_layout.specs.Grid.{IsInGrid}
-use Rattle.rule_layout.specs.Spreading.{Literal}
 use Rattle.rule_layout.specs.Slots.{has_complement, is_complemented, number_in, literal_slot}
 
 -- the slot has a place: 8 inputs, 4 outputs, 15 terms each

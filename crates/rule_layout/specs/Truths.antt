@@ -1,16 +1,11 @@
 -- The truth of conjunctions, and what spreading keeps.
 -- Beside the promise.
 use Rattle.std.specs.Prelude.{◌≡◌, ℕ, ◌-◌, ◌≤◌, min, max, false, List, [], ◌∷◌, map, flat_map, get_or, if◌then◌else◌}
-use Rattle.fuzzy_meaning.specs.declared.block.Block.{Block}
-use Rattle.fuzzy_meaning.specs.declared.block.Rule.{Rule}
-use Rattle.fuzzy_meaning.specs.Blocks.{IsValid}
-use Rattle.fuzzy_meaning.specs.Conditions.{Condition, level}
-use Rattle.rule_layout.specs.declared.flat.Slot.{Slot}
+use Rattle.fuzzy_meaning.specs.declared.{block.Block.Block, block.Rule.Rule}
+use Rattle.fuzzy_meaning.specs.{Blocks.IsValid, Conditions.Condition, Conditions.level}
+use Rattle.rule_layout.specs.declared.{flat.Slot.Slot, flat.Conjunction.Conjunction, flat.Flat.Flat}
 use Rattle.rule_layout.specs.declared.flat.Slot.TheVariants.{Term, Complement, Out}
-use Rattle.rule_layout.specs.declared.flat.Conjunction.{Conjunction}
-use Rattle.rule_layout.specs.declared.flat.Flat.{Flat}
-use Rattle.rule_layout.specs.Layouts.{flat_of, rule_conjunctions}
-use Rattle.rule_layout.specs.Spreading.{Literal, spread_of}
+use Rattle.rule_layout.specs.{Layouts.flat_of, Layouts.rule_conjunctions, Spreading.Literal, Spreading.spread_of}
 
 -- a literal's value where each input term has one from 0 to n
 abbrev pub literal_value : ℕ → (ℕ → ℕ → ℕ) → Literal → ℕ

@@ -1,8 +1,6 @@
 //! Laws of the layout, each the contract of a function that does nothing.
-ghost use Rattle.rule_layout.specs.Faults.{LimitsHaveNoFault};
-ghost use Rattle.rule_layout.specs.Layouts.{LayoutLaw, FlatHasParts};
-ghost use Rattle.rule_layout.specs.Masses.{MassLaw};
-ghost use Rattle.rule_layout.specs.Numbers.{TermNumberLaw, OutNumberLaw};
+ghost use Rattle.rule_layout.specs.{Faults.LimitsHaveNoFault, Layouts.LayoutLaw, Layouts.FlatHasParts};
+ghost use Rattle.rule_layout.specs.{Masses.MassLaw, Numbers.TermNumberLaw, Numbers.OutNumberLaw};
 ghost use Rattle.rule_layout.specs.Truths.{RuleTruthLaw, SpreadingLaw};
 
 /// Spreading keeps the truth: where each input term has a whole number from 0 to n, a complement

@@ -4,8 +4,7 @@ ghost use Rattle.std.specs.Prelude.{IfOk, IfErr, OnOk, IfSome, sum_by, true, fal
 ghost use Rattle.std.specs.List.{list_any};
 ghost use Rattle.fuzzy_meaning.specs.Blocks.{IsValid, IsWeight, rule_size};
 ghost use Rattle.rule_layout.specs.declared.flat.LayoutFault.TheVariants.{Memory};
-ghost use Rattle.rule_layout.specs.Slots.{out_slot};
-ghost use Rattle.rule_layout.specs.Tables.{IsInTable, table_number};
+ghost use Rattle.rule_layout.specs.{Slots.out_slot, Tables.IsInTable, Tables.table_number};
 ghost use Rattle.rule_layout.specs.Sizes.{IsCountable, IsSizeOfRule, IsSizeOfRules};
 ghost use Rattle.rule_layout.specs.Layouts.{flat_of, IsWithinLimits, IsFaultOf, IsLaidOut, rule_spread, rule_weights};
 ghost use Rattle.rule_layout.specs.Layouts.{is_below_one, form_by, element_width};

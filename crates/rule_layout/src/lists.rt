@@ -1,8 +1,7 @@
 //! Rule lists.
 ghost use Rattle.std.specs.Prelude.{◌≡◌, ◌+◌, ◌<◌, ◌≤◌, ◌++◌, map, IfOk, OnOk, All};
 ghost use Rattle.rule_layout.specs.Lists.{marked, at_address, list_bytes, list_words};
-ghost use Rattle.rule_layout.specs.Layouts.{IsLaidOut, IsBelow};
-ghost use Rattle.rule_layout.specs.declared.flat.Form.TheVariants.{Rev};
+ghost use Rattle.rule_layout.specs.{Layouts.IsLaidOut, Layouts.IsBelow, declared.flat.Form.TheVariants.Rev};
 
 use crate::flat::{Conjunction, Flat};
 use std::alloc::{AllocError, Global};

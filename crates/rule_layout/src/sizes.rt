@@ -1,8 +1,7 @@
 //! How much conditions spread into, found without spreading them.
 ghost use Rattle.std.specs.Prelude.{ℕ, ◌+◌, ◌*◌, ◌<◌, ◌≤◌, ◌^◌, map, MatchOption};
 ghost use Rattle.fuzzy_meaning.specs.Conditions.{conditions, nodes, total_nodes};
-ghost use Rattle.rule_layout.specs.Spreading.{spread_of, spread_parts};
-ghost use Rattle.rule_layout.specs.Sizes.{IsSizeOf};
+ghost use Rattle.rule_layout.specs.{Spreading.spread_of, Spreading.spread_parts, Sizes.IsSizeOf};
 ghost use Rattle.rule_layout.specs.Grid.{FitsGrid, AllFitGrid};
 
 use fuzzy_meaning::{Condition, Node};

@@ -2,8 +2,7 @@
 ghost use Rattle.std.specs.Prelude.{◌≡◌, ◌++◌, ◌∷◌, [], map, IfOk, OnOk};
 ghost use Rattle.fuzzy_meaning.specs.Conditions.{conditions};
 ghost use Rattle.rule_layout.specs.Spreading.{spread_of, spread_parts, spreads, choices, literal};
-ghost use Rattle.rule_layout.specs.Grid.{FitsGrid, AllFitGrid};
-ghost use Rattle.rule_layout.specs.Tables.{table_literals};
+ghost use Rattle.rule_layout.specs.{Grid.FitsGrid, Grid.AllFitGrid, Tables.table_literals};
 
 use crate::flat::Slot;
 use crate::slots::SlotNumbers;

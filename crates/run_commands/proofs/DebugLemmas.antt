@@ -8,26 +8,19 @@ use Rattle.codegen.specs.declared.firmware.Firmware.{Firmware}
 use Rattle.interrupt_plan.specs.declared.Request.{Request}
 use Rattle.trace_io.specs.declared.sample.Sample.{Sample}
 use Rattle.run_law.specs.Forms.{RowSeen}
-use Rattle.fz_run.specs.Answering.{AnswersItsBlock, AnswersUnderPlans}
+use Rattle.fz_run.specs.{Answering.AnswersItsBlock, Answering.AnswersUnderPlans, declared.rows.Row.Row}
 use Rattle.fz_run.specs.Rows.{firmware_rows, input_bytes, row_seen}
-use Rattle.fz_run.specs.declared.rows.Row.{Row}
 use Rattle.fz_shelf.specs.Lines.{text_of}
-use Rattle.debug_script.specs.Showing.{shown}
-use Rattle.debug_script.specs.declared.order.Order.{Order}
-use Rattle.debug_script.specs.declared.shown.Shown.{Shown}
+use Rattle.debug_script.specs.{Showing.shown, declared.order.Order.Order, declared.shown.Shown.Shown}
 use Rattle.eval_code.specs.declared.width.Width.TheVariants.{Byte}
 use Rattle.srecord.specs.Texts.{GivesImage}
 use Rattle.fz_status.specs.declared.status.Status.{Status}
 use Rattle.fz_status.specs.declared.status.Status.TheVariants as status
-use Rattle.build_commands.specs.Firmwares.{GivesFirmware}
-use Rattle.run_reports.specs.Inputs.{sample_refusals}
+use Rattle.build_commands.specs.{Firmwares.GivesFirmware, SeenOutputs.SeenOutput, Lines.counted}
+use Rattle.run_reports.specs.{Inputs.sample_refusals, RowLines.row_lines, Laws.SpelledBytesFit}
 use Rattle.run_commands.specs.Debug.{DebugFiles, DebugGives, Debugs, debug_lines, debug_refusals, run_positions}
 use Rattle.run_commands.specs.Debug.{AcceptedDebugRunsMakeOutput, shown_line}
-use Rattle.build_commands.specs.SeenOutputs.{SeenOutput}
-use Rattle.build_commands.specs.Lines.{counted}
-use Rattle.run_reports.specs.RowLines.{row_lines}
 use Rattle.run_commands.specs.declared.debug.DebugRun.{DebugRun}
-use Rattle.run_reports.specs.Laws.{SpelledBytesFit}
 use Rattle.build_commands.proofs.Algebra.{counted-map}
 
 abbrev pub only_text : List ℕ → SeenOutput

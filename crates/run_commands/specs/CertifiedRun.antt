@@ -7,13 +7,10 @@ use Rattle.codegen.specs.declared.firmware.Firmware.{Firmware}
 use Rattle.box_tree.specs.declared.cert.CertKind.{CertKind}
 use Rattle.eval_code.specs.declared.width.Width.{Width}
 use Rattle.srecord.specs.Texts.{GivesImage}
-use Rattle.trace_io.specs.Traces.{Spells as SpellsTrace}
-use Rattle.trace_io.specs.declared.sample.Sample.{Sample}
-use Rattle.interrupt_plan.specs.PlanTexts.{Spells as SpellsPlan}
-use Rattle.interrupt_plan.specs.declared.Request.{Request}
+use Rattle.trace_io.specs.{Traces.Spells as SpellsTrace, declared.sample.Sample.Sample}
+use Rattle.interrupt_plan.specs.{PlanTexts.Spells as SpellsPlan, declared.Request.Request}
 use Rattle.fz_run.specs.Rows.{firmware_rows, input_bytes}
-use Rattle.build_commands.specs.Certs.{AcceptsCert}
-use Rattle.build_commands.specs.Firmwares.{GivesFirmware}
+use Rattle.build_commands.specs.{Certs.AcceptsCert, Firmwares.GivesFirmware}
 use Rattle.run_reports.specs.Reports.{IsReportOf, Report}
 
 -- the contents of the five files

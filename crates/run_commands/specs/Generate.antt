@@ -3,28 +3,21 @@
 use Rattle.std.specs.Prelude.{◌≡◌, ℕ, List, [], ◌++◌, length, sum, sum_by, codes, Option, None, option_map}
 use Rattle.std.specs.Prelude.{Result, Ok, Err}
 use Rattle.fuzzy_meaning.specs.declared.block.Block.{Block}
-use Rattle.eval_code.specs.Widths.{parts}
+use Rattle.eval_code.specs.{Widths.parts, declared.width.Width.TheVariants.Byte}
 use Rattle.codegen.specs.declared.firmware.Firmware.{Firmware}
-use Rattle.eval_code.specs.declared.width.Width.TheVariants.{Byte}
-use Rattle.box_tree.specs.declared.cert.Cert.{Cert}
-use Rattle.box_tree.specs.declared.cert.CertKind.TheVariants.{Named}
+use Rattle.box_tree.specs.declared.{cert.Cert.Cert, cert.CertKind.TheVariants.Named}
 use Rattle.error_certifier.specs.Halving.{IsHalving}
 use Rattle.interrupt_plan.specs.declared.Request.{Request}
 use Rattle.trace_io.specs.declared.sample.Sample.{Sample}
 use Rattle.run_law.specs.Forms.{RowSeen}
-use Rattle.workload.specs.Blocks.{drawn_block}
-use Rattle.workload.specs.Draws.{draw}
-use Rattle.workload.specs.Workloads.{IsWorkload}
-use Rattle.fz_status.specs.Refusals.{Refusals, Refuses}
-use Rattle.fz_status.specs.Words.{Text, word_at}
+use Rattle.workload.specs.{Blocks.drawn_block, Draws.draw, Workloads.IsWorkload}
+use Rattle.fz_status.specs.{Refusals.Refusals, Refusals.Refuses, Words.Text, Words.word_at}
 use Rattle.fz_status.specs.declared.status.Status.{Status}
 use Rattle.fz_status.specs.declared.status.Status.TheVariants as status
 use Rattle.run_reports.specs.Reports.{IsReportOf, Report}
-use Rattle.build_commands.specs.Certify.{StopsHalving}
+use Rattle.build_commands.specs.{Certify.StopsHalving, Firmwares.GivesFirmware, Words.number_up_to}
 use Rattle.build_commands.specs.SeenOutputs.{HasOutput, SeenOutput}
-use Rattle.build_commands.specs.Firmwares.{GivesFirmware}
 use Rattle.build_commands.specs.Lines.{counted, error_line, line}
-use Rattle.build_commands.specs.Words.{number_up_to}
 use Rattle.run_commands.specs.declared.generate.Generate.{Generate}
 
 abbrev pub generate_with : ℕ → Generate

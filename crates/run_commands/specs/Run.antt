@@ -10,20 +10,14 @@ use Rattle.eval_code.specs.declared.width.Width.{Width}
 use Rattle.interrupt_plan.specs.declared.Request.{Request}
 use Rattle.trace_io.specs.declared.sample.Sample.{Sample}
 use Rattle.srecord.specs.Texts.{GivesImage}
-use Rattle.build_commands.specs.SeenOutputs.{SeenOutput}
+use Rattle.build_commands.specs.{SeenOutputs.SeenOutput, Images.RefusesImage, Contents.content_at, Words.flags_of}
 use Rattle.build_commands.specs.Firmwares.{GivesFirmware, OfFirmware, RefusesText}
-use Rattle.build_commands.specs.Images.{RefusesImage}
 use Rattle.build_commands.specs.Lines.{counted, line}
-use Rattle.fz_status.specs.Refusals.{Refusals, Refuses}
-use Rattle.fz_status.specs.Words.{Text, word_at}
-use Rattle.build_commands.specs.Contents.{content_at}
-use Rattle.build_commands.specs.Words.{flags_of}
-use Rattle.run_reports.specs.Inputs.{AcceptsInputs, input_refusals}
-use Rattle.run_reports.specs.Reports.{Report}
-use Rattle.run_reports.specs.RowLines.{begun_lines, row_lines}
-use Rattle.run_commands.specs.CertifiedRun.{CertifiedRun, Files}
-use Rattle.run_commands.specs.declared.run.Run.{Run}
+use Rattle.fz_status.specs.{Refusals.Refusals, Refusals.Refuses, Words.Text, Words.word_at}
 use Rattle.fz_status.specs.declared.status.Status.{Status}
+use Rattle.run_reports.specs.{Inputs.AcceptsInputs, Inputs.input_refusals, Reports.Report}
+use Rattle.run_reports.specs.RowLines.{begun_lines, row_lines}
+use Rattle.run_commands.specs.{CertifiedRun.CertifiedRun, CertifiedRun.Files, declared.run.Run.Run}
 use Rattle.fz_status.specs.declared.status.Status.TheVariants as status
 
 abbrev pub run_with : CertKind → Width → ℕ → Run

@@ -1,12 +1,11 @@
 //! The command `debug FCL IMAGE TRACE PLAN FLAGS SCRIPT`: what a script shows of a run, and the run.
 ghost use Rattle.std.specs.Prelude.{◌≡◌, ◌≤◌, length, IfOk, IfErr};
 ghost use Rattle.std.specs.List.{All};
-ghost use Rattle.fz_status.specs.Refusals.{IsRefusal};
-ghost use Rattle.fz_status.specs.Words.{texts_of};
+ghost use Rattle.fz_status.specs.{Refusals.IsRefusal, Words.texts_of};
 ghost use Rattle.build_commands.specs.Contents.{bytes_of};
-ghost use Rattle.run_commands.specs.Debug.{AcceptedDebugRunsMakeOutput, DebugFiles, DebugMakes, Debugs};
-ghost use Rattle.run_commands.specs.Debug.{debug_files, debug_in, debug_refusals};
 ghost use Rattle.build_commands.specs.SeenOutputs.{OutputHasNoFault, OutputsAreOne, IsResultOf};
+ghost use Rattle.run_commands.specs.Debug.{AcceptedDebugRunsMakeOutput, DebugFiles, DebugMakes, Debugs, debug_files};
+ghost use Rattle.run_commands.specs.Debug.{debug_in, debug_refusals};
 ghost use Rattle.run_commands.specs.declared.debug.DebugRun.{DebugRun as TheDebug};
 
 use crate::shown_lines::lines;

@@ -3,15 +3,13 @@ ghost use Rattle.std.specs.Prelude.{◌≡◌, ◌≤◌, length, map, IfOk, IfE
 ghost use Rattle.std.specs.List.{All};
 ghost use Rattle.fz_run.specs.Rows.{row_seen};
 ghost use Rattle.fz_shelf.specs.Lines.{text_of};
-ghost use Rattle.fz_status.specs.Refusals.{IsRefusal};
-ghost use Rattle.fz_status.specs.Words.{texts_of};
+ghost use Rattle.fz_status.specs.{Refusals.IsRefusal, Words.texts_of};
 ghost use Rattle.build_commands.specs.Contents.{bytes_of};
 ghost use Rattle.build_commands.specs.SeenOutputs.{OutputHasNoFault, OutputsAreOne, IsResultOf};
 ghost use Rattle.run_reports.specs.Reports.{report_of};
-ghost use Rattle.run_commands.specs.CertifiedRun.{Files, left_of};
+ghost use Rattle.run_commands.specs.{CertifiedRun.Files, CertifiedRun.left_of, declared.run.Run.Run as TheRun};
 ghost use Rattle.run_commands.specs.Run.{AcceptedRunsMakeOutput, Accepts, RunMakes, files_in, run_in, run_lines};
 ghost use Rattle.run_commands.specs.Run.{run_refusals};
-ghost use Rattle.run_commands.specs.declared.run.Run.{Run as TheRun};
 
 use box_tree::CertKind;
 use build_commands::certs::accepted_errors_are_one;

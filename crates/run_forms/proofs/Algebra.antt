@@ -6,15 +6,12 @@ use Rattle.std.specs.Prelude.{All, if◌then◌else◌}
 use Rattle.std.proofs.lemmas.Bool.Decides.{nat_tests}
 use Rattle.std.proofs.lemmas.List.Elements.{All-cons}
 use Rattle.std.proofs.lemmas.List.{map-append}
-use Rattle.cpu12_isa.specs.Agreement.{IsWritten}
-use Rattle.cpu12_isa.specs.Memory.{plus, placed}
+use Rattle.cpu12_isa.specs.{Agreement.IsWritten, Memory.plus, Memory.placed}
 use Rattle.cpu12_parts.specs.State.{State}
-use Rattle.cpu12_emul.specs.Step.{Next, next_of, is_part}
-use Rattle.cpu12_emul.specs.Take.{may_interrupt}
+use Rattle.cpu12_emul.specs.{Step.Next, Step.next_of, Step.is_part, Take.may_interrupt}
 use Rattle.run_law.specs.Forms.{Form, Taking, Ran, takes, taken, then_rest, run_from, RowSeen}
 use Rattle.run_law.specs.Following.{asked, onto, all_onto}
-use Rattle.run_forms.specs.Forms.{sample_in}
-use Rattle.run_forms.specs.Rows.{is_of, of_sample, shown_rows, tellings}
+use Rattle.run_forms.specs.{Forms.sample_in, Rows.is_of, Rows.of_sample, Rows.shown_rows, Rows.tellings}
 
 -- what holds of all that was told holds of each sample's
 onto_all : {C : Type 0} (P : C → Type 0) (xs done : List C) → All P (onto xs done) → All P xs × All P done

@@ -2,13 +2,10 @@
 use Rattle.std.proofs.Common.{◌≡◌, ℕ, zero, suc, ◌-◌, ◌<◌, ◌==◌, true, false, Result, Ok, Err, inl, refl, ap, sym, ◌∙◌}
 use Rattle.std.proofs.Common.{arith}
 use Rattle.std.proofs.lemmas.Bool.Decides.{nat_tests}
-use Rattle.cpu12_parts.specs.State.{State}
-use Rattle.cpu12_emul.specs.Simulation.{PlainIsStep}
-use Rattle.cpu12_emul.specs.Step.{Left, Next, applied, next_of}
-use Rattle.cpu12_parts.specs.declared.temps.Temps.TheVariants.{Free}
+use Rattle.cpu12_parts.specs.{State.State, declared.temps.Temps.TheVariants.Free}
+use Rattle.cpu12_emul.specs.{Simulation.PlainIsStep, Step.Left, Step.Next, Step.applied, Step.next_of}
 use Rattle.cpu12_emul.specs.declared.ends.Stepped.TheVariants.{Plain}
-use Rattle.run_forms.specs.Rows.{arrival}
-use Rattle.run_forms.specs.Arrival.{ArrivesPlainly, PlainIsOneStep}
+use Rattle.run_forms.specs.{Rows.arrival, Arrival.ArrivesPlainly, Arrival.PlainIsOneStep}
 
 -- a plain instruction is one step
 pub plain_next : PlainIsStep → PlainIsOneStep

@@ -6,20 +6,15 @@ use Rattle.std.proofs.lemmas.Bool.{and_right}
 use Rattle.std.proofs.lemmas.Bool.Decides.{nat_tests}
 use Rattle.cpu12_parts.specs.State.{State}
 use Rattle.cpu12_emul.specs.declared.ends.Stepped.TheVariants.{Part}
-use Rattle.cpu12_emul.specs.Run.{PartsTo}
-use Rattle.cpu12_emul.specs.Step.{Whole, next_of}
-use Rattle.cpu12_emul.specs.Take.{may_interrupt}
-use Rattle.run_forms.specs.declared.boundary.Stand.{Stand}
-use Rattle.run_forms.specs.declared.progress.Progress.{Progress}
+use Rattle.cpu12_emul.specs.{Run.PartsTo, Step.Whole, Step.next_of, Take.may_interrupt}
+use Rattle.run_forms.specs.declared.{boundary.Stand.Stand, progress.Progress.Progress}
 use Rattle.run_forms.specs.Forms.{Harness, moment_in, plan_form}
-use Rattle.run_forms.specs.Rest.{is_due, shown_by}
-use Rattle.run_forms.specs.Positions.{Position, numbered}
-use Rattle.run_forms.specs.Sessions.{Coming, after_states, after_takes, after_state, after_parts}
-use Rattle.run_forms.specs.Sessions.{stepped_tally, IsSteady, NoneDue}
+use Rattle.run_forms.specs.{Rest.is_due, Rest.shown_by, Positions.Position, Positions.numbered}
+use Rattle.run_forms.specs.Sessions.{Coming, after_states, after_takes, after_state, after_parts, stepped_tally}
+use Rattle.run_forms.specs.Sessions.{IsSteady, NoneDue}
 use Rattle.run_forms.specs.Outlooks.{Ahead, Outlook, ahead, at_position, from_here, left_by, outlook, outlook_at}
 use Rattle.run_forms.specs.Outlooks.{requests_at, rows_here, sample_at, state_here, with_row, IsUnderWay}
-use Rattle.run_forms.proofs.Comings.{Takes, stepped_here, taken_here}
-use Rattle.run_forms.proofs.Takings.{takes_end}
+use Rattle.run_forms.proofs.{Comings.Takes, Comings.stepped_here, Comings.taken_here, Takings.takes_end}
 
 -- no request is due at the first of these boundaries, nor at those after it
 not_due : {A : Type 0} (moment : A → ℕ) (m n : ℕ) (qs : List A) (u : State) → 1 ≤ n → NoneDue moment m n qs

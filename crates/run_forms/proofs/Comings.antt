@@ -3,16 +3,13 @@ use Rattle.std.proofs.Common.{◌≡◌, ◌<◌, ℕ, suc, ◌+◌, ◌-◌, Bo
 use Rattle.std.proofs.Common.{length, drop, refl, ap, ap₂, sym, ◌∙◌, arith}
 use Rattle.std.specs.Prelude.{if◌then◌else◌}
 use Rattle.cpu12_parts.specs.State.{State}
-use Rattle.cpu12_emul.specs.Step.{Next, next_of, is_part}
-use Rattle.cpu12_emul.specs.declared.ends.Stepped.{Stepped}
+use Rattle.cpu12_emul.specs.{Step.Next, Step.next_of, Step.is_part, declared.ends.Stepped.Stepped}
 use Rattle.run_law.specs.Forms.{Form, Ran, takes, one_if}
-use Rattle.run_forms.specs.declared.boundary.Stand.{Stand}
-use Rattle.run_forms.specs.declared.sample.Tally.{Tally}
+use Rattle.run_forms.specs.declared.{boundary.Stand.Stand, sample.Tally.Tally}
 use Rattle.run_forms.specs.Rest.{Brief, with_before, counted_at}
 use Rattle.run_forms.specs.Sessions.{Coming, before_takes, after_takes, after_state, at_end, by_step, stepped_tally}
 use Rattle.run_forms.specs.Forms.{plan_form, Notes, Harness}
-use Rattle.run_forms.proofs.Onward.{onward, no_step, at_rest, spent, rest_at_end, rest_spent, runs_onward}
-use Rattle.run_forms.proofs.Onward.{runs_stuck}
+use Rattle.run_forms.proofs.Onward.{onward, no_step, at_rest, spent, rest_at_end, rest_spent, runs_onward, runs_stuck}
 
 coming : {A B : Type 0} → Brief B → List A → List State → Coming A B
 coming b qs ss = record { brief = b; requests = qs; states = ss }

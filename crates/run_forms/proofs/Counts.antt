@@ -5,9 +5,7 @@ use Rattle.cpu12_parts.specs.State.{State}
 use Rattle.cpu12_emul.specs.Step.{Next, next_of, is_part}
 use Rattle.run_law.specs.Forms.{Form, Taking, Ran, takes, one_if, is_empty, then_rest, run_from}
 use Rattle.run_law.specs.Following.{asked}
-use Rattle.run_forms.specs.declared.sample.Tally.{Tally}
-use Rattle.run_forms.specs.Forms.{Notes}
-use Rattle.run_forms.specs.Rest.{Brief, rest_at, counted_at}
+use Rattle.run_forms.specs.{declared.sample.Tally.Tally, Forms.Notes, Rest.Brief, Rest.rest_at, Rest.counted_at}
 use Rattle.run_forms.proofs.Algebra.{ran_told}
 
 pub record CountsFew {A B : Type 0} (n : ℕ) (r : Ran A B) : Type 0 where

@@ -4,19 +4,16 @@ use Rattle.std.proofs.Common.{ap₂, sym, ◌∙◌, subst, vec_len, vec_capacit
 use Rattle.std.specs.Prelude.{Some, slice_get}
 use Rattle.cpu12_parts.specs.State.{State}
 use Rattle.run_law.specs.Forms.{Form, run_from}
-use Rattle.run_forms.specs.declared.boundary.Stand.{Stand}
-use Rattle.run_forms.specs.declared.sample.Tally.{Tally}
-use Rattle.run_forms.specs.declared.progress.Progress.{Progress}
-use Rattle.run_forms.specs.Forms.{plan_form, Harness}
-use Rattle.run_forms.specs.Rest.{counted_at, shown_by}
+use Rattle.run_forms.specs.declared.{boundary.Stand.Stand, sample.Tally.Tally, progress.Progress.Progress}
+use Rattle.run_forms.specs.{Forms.plan_form, Forms.Harness, Rest.counted_at, Rest.shown_by}
 use Rattle.run_forms.specs.Slices.{Follow, requests_first, HasRoom, HaveRoom}
 use Rattle.run_forms.specs.Sessions.{before_takes, after_takes, IsSteady}
 use Rattle.run_forms.specs.Outlooks.{from_here, ahead, sample_at, with_row, outlook_at, rows_here, state_here}
 use Rattle.run_forms.specs.Outlooks.{IsUnderWay}
 use Rattle.run_forms.proofs.PlanSlices.{room_first, slice_first, count_there, few_there, rest_further, first_few}
 use Rattle.run_forms.proofs.PlanSlices.{later_follow}
-use Rattle.run_forms.proofs.Outlooks.{coming_of, fresh, fresh_coming, given_ahead, given_room, is_there}
-use Rattle.run_forms.proofs.Outlooks.{sample_next, states_here}
+use Rattle.run_forms.proofs.Outlooks.{coming_of, fresh, fresh_coming, given_ahead, given_room, is_there, sample_next}
+use Rattle.run_forms.proofs.Outlooks.{states_here}
 
 -- its requests, of the plan that is left
 abbrev pub next_requests : {A U R S B T : Type 0} → Harness A U R S B T → List A → Progress U R → List A

@@ -4,9 +4,7 @@ use Rattle.std.proofs.Common.{◌++◌, length, refl, ap, ap₂, sym, ◌∙◌,
 use Rattle.std.proofs.lemmas.Bool.Decides.{nat_tests}
 use Rattle.std.proofs.lemmas.List.{map-append}
 use Rattle.cpu12_parts.specs.State.{State}
-use Rattle.cpu12_emul.specs.Step.{Next, next_of, is_part}
-use Rattle.cpu12_emul.specs.declared.ends.Stepped.{Stepped}
-use Rattle.cpu12_emul.specs.Take.{FrameSeen}
+use Rattle.cpu12_emul.specs.{Step.Next, Step.next_of, Step.is_part, Take.FrameSeen, declared.ends.Stepped.Stepped}
 use Rattle.run_law.specs.Forms.{Form, Taking, Ran, takes, one_if, is_empty, resumes, before_rest, stuck, then_rest}
 use Rattle.run_law.specs.Forms.{run_from, ended}
 use Rattle.run_forms.specs.Rest.{Brief, Brought, with_before, brief, after, rest_of}

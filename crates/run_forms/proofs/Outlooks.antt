@@ -5,22 +5,17 @@ use Rattle.std.proofs.Common.{append_assoc, append-nil}
 use Rattle.std.proofs.lemmas.List.{drop_all}
 use Rattle.std.specs.Prelude.{if◌then◌else◌, Option, Some, slice_get, map}
 use Rattle.cpu12_parts.specs.State.{State}
-use Rattle.cpu12_emul.specs.Take.{FrameSeen}
-use Rattle.cpu12_emul.specs.Step.{Next, next_of}
+use Rattle.cpu12_emul.specs.{Take.FrameSeen, Step.Next, Step.next_of}
 use Rattle.run_law.specs.Forms.{Form, Ran, run_from, RowSeen, row_of, Rows}
-use Rattle.run_forms.specs.declared.boundary.Stand.{Stand}
-use Rattle.run_forms.specs.declared.sample.Tally.{Tally}
-use Rattle.run_forms.specs.declared.progress.Progress.{Progress}
-use Rattle.run_forms.specs.Forms.{plan_form, Notes, Harness}
+use Rattle.run_forms.specs.declared.{boundary.Stand.Stand, sample.Tally.Tally, progress.Progress.Progress}
+use Rattle.run_forms.specs.{Forms.plan_form, Forms.Notes, Forms.Harness, Rows.tellings, Rows.shown}
 use Rattle.run_forms.specs.Rest.{Brief, brief, after, rest_at, shown_by}
-use Rattle.run_forms.specs.Rows.{tellings, shown}
 use Rattle.run_forms.specs.Slices.{Follow, requests_first, HasRoom}
 use Rattle.run_forms.specs.Positions.{Position, numbered, all_numbered, positions_or, positions}
 use Rattle.run_forms.specs.Sessions.{Coming, before_takes, after_takes, after_state, at_end, by_step, IsSteady}
 use Rattle.run_forms.specs.Outlooks.{Ahead, Outlook, from_here, at_position, shown_run, ahead, sample_at, with_row}
 use Rattle.run_forms.specs.Outlooks.{left_by, outlook, outlook_at, requests_at, rows_here, state_here}
-use Rattle.run_forms.proofs.Onward.{from_nothing}
-use Rattle.run_forms.proofs.RowSteps.{rows_under, one_row, no_row}
+use Rattle.run_forms.proofs.{Onward.from_nothing, RowSteps.rows_under, RowSteps.one_row, RowSteps.no_row}
 
 abbrev pub coming : {A B : Type 0} → Brief B → List A → List State → Coming A B
 coming b qs ss = record { brief = b; requests = qs; states = ss }

@@ -4,8 +4,7 @@ use Rattle.std.proofs.Common.{length-drop, take, drop, drop-drop, refl, ap, sym,
 use Rattle.std.specs.Prelude.{if◌then◌else◌}
 use Rattle.std.proofs.Math.Seq.{take-length}
 use Rattle.std.proofs.lemmas.List.Sums.{take_while-cons}
-use Rattle.run_forms.specs.Forms.{Notes, sample_in}
-use Rattle.run_forms.specs.Rows.{is_of, of_sample}
+use Rattle.run_forms.specs.{Forms.Notes, Forms.sample_in, Rows.is_of, Rows.of_sample}
 use Rattle.run_forms.specs.Slices.{Follow, requests_first, requests_after, HasRoom, HaveRoom}
 use Rattle.run_forms.proofs.Algebra.{is_other, one_is, other_is, of_here, of_not}
 

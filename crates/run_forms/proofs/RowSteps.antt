@@ -4,8 +4,7 @@ use Rattle.std.proofs.Common.{arith}
 use Rattle.cpu12_parts.specs.State.{State}
 use Rattle.run_law.specs.Forms.{Form, Ran, RowSeen, run_from, row_of, Rows, put_row, rows_from}
 use Rattle.run_forms.specs.Rows.{of_sample, tellings, shown}
-use Rattle.run_forms.specs.Showing.{RowsAreShown}
-use Rattle.run_forms.specs.Slices.{Follow, requests_first}
+use Rattle.run_forms.specs.{Showing.RowsAreShown, Slices.Follow, Slices.requests_first}
 use Rattle.run_forms.proofs.PlanSlices.{first_are, later_are}
 
 -- the rows of samples under a plan

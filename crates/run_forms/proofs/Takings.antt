@@ -3,12 +3,10 @@ use Rattle.std.proofs.Common.{◌≡◌, ℕ, zero, suc, ◌+◌, ◌-◌, ◌<�
 use Rattle.std.proofs.Common.{drop, refl, ap, ap₂, sym, ◌∙◌, subst, arith, append_assoc, append-nil, drop-cons}
 use Rattle.std.proofs.Common.{length-append, length-drop}
 use Rattle.std.proofs.lemmas.Bool.Decides.{nat_tests}
-use Rattle.cpu12_parts.specs.State.{State}
+use Rattle.cpu12_parts.specs.{State.State, Cuts.suspended, Cuts.wav}
 use Rattle.cpu12_emul.specs.Take.{FrameSeen, frame_of, may_interrupt}
 use Rattle.run_law.specs.Forms.{Form, Taking, takes, taken}
-use Rattle.cpu12_parts.specs.Cuts.{suspended, wav}
-use Rattle.run_forms.specs.Rows.{tellings}
-use Rattle.run_forms.specs.Rest.{is_due, Brought, with_before}
+use Rattle.run_forms.specs.{Rows.tellings, Rest.is_due, Rest.Brought, Rest.with_before}
 
 -- a request that is due is taken
 pub takes_due : {S A B : Type 0} (g : Form S A B) (m : ℕ) (q : A) (qs : List A) (s : State) (fs : List (ℕ × FrameSeen))

@@ -3,10 +3,8 @@
 use Rattle.std.specs.Prelude.{◌≡◌, ℕ, ◌≤◌, Ok}
 use Rattle.cpu12_isa.specs.declared.instr.Instr.{Instr}
 use Rattle.cpu12_parts.specs.declared.temps.Temps.TheVariants.{Free}
-use Rattle.cpu12_parts.specs.State.{State}
-use Rattle.cpu12_parts.specs.Whole.{IsPlainStep, PlainExecution}
-use Rattle.cpu12_emul.specs.declared.ends.Stepped.TheVariants.{Plain}
-use Rattle.cpu12_emul.specs.Step.{next_of}
+use Rattle.cpu12_parts.specs.{State.State, Whole.IsPlainStep, Whole.PlainExecution}
+use Rattle.cpu12_emul.specs.{declared.ends.Stepped.TheVariants.Plain, Step.next_of}
 use Rattle.run_forms.specs.Rows.{arrival}
 
 -- A plain instruction is one step, where no sums run.

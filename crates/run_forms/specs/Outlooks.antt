@@ -4,13 +4,10 @@ use Rattle.std.specs.Prelude.{◌≡◌, ◌≤◌, ℕ, zero, suc, ◌+◌, ◌
 use Rattle.std.specs.Prelude.{length, take, drop, map, slice_get, vec_len, vec_capacity}
 use Rattle.cpu12_parts.specs.State.{State}
 use Rattle.run_law.specs.Forms.{RowSeen, Rows, rows_from}
-use Rattle.run_forms.specs.declared.progress.Progress.{Progress}
-use Rattle.run_forms.specs.Forms.{plan_form, Harness}
-use Rattle.run_forms.specs.Rest.{counted_at, shown_by}
-use Rattle.run_forms.specs.Rows.{of_sample, shown}
-use Rattle.run_forms.specs.Slices.{HaveRoom, Follow}
+use Rattle.run_forms.specs.{declared.progress.Progress.Progress, Forms.plan_form, Forms.Harness}
+use Rattle.run_forms.specs.{Rest.counted_at, Rest.shown_by, Rows.of_sample, Rows.shown}
+use Rattle.run_forms.specs.{Slices.HaveRoom, Slices.Follow, Sessions.Coming, Sessions.after_takes, Sessions.IsSteady}
 use Rattle.run_forms.specs.Positions.{Position, numbered, all_numbered, positions}
-use Rattle.run_forms.specs.Sessions.{Coming, after_takes, IsSteady}
 
 -- what is ahead: positions, all rows with those before, as they are shown, and the last state
 pub record Ahead (T : Type 0) : Type 0 where

@@ -3,10 +3,8 @@
 use Rattle.std.specs.Prelude.{ℕ, ◌+◌, ◌&&◌, nat_le, Bool, false, List, [], ◌∷◌, ◌++◌, drop}
 use Rattle.cpu12_parts.specs.State.{State}
 use Rattle.cpu12_emul.specs.Take.{FrameSeen, may_interrupt}
-use Rattle.run_forms.specs.declared.sample.Tally.{Tally}
+use Rattle.run_forms.specs.{declared.sample.Tally.Tally, Forms.Notes, Rows.tellings}
 use Rattle.run_law.specs.Forms.{Form, Taking, Ran, run_from, RowSeen}
-use Rattle.run_forms.specs.Forms.{Notes}
-use Rattle.run_forms.specs.Rows.{tellings}
 
 -- whether the next request is due at boundary m and may be taken
 abbrev pub is_due : {A : Type 0} → (A → ℕ) → ℕ → List A → State → Bool

@@ -1,9 +1,7 @@
 -- Room in vectors for what the requests of a sample push and tell.
 -- Beside the promise.
 use Rattle.std.specs.Prelude.{◌≤◌, ℕ, ◌+◌, map, vec_len, vec_capacity}
-use Rattle.run_forms.specs.declared.sample.Room.{Room}
-use Rattle.run_forms.specs.Forms.{Notes}
-use Rattle.run_forms.specs.Rows.{frames_seen}
+use Rattle.run_forms.specs.{declared.sample.Room.Room, Forms.Notes, Rows.frames_seen}
 
 -- there is room for n requests more, and with these no more is told than a plan has requests
 pub record Fits {U : Type 0} (room : Room U) (n : ℕ) : Type 0 where

@@ -3,10 +3,8 @@
 use Rattle.std.specs.Prelude.{ℕ, zero, suc, ◌==◌, Bool, if◌then◌else◌, Result}
 use Rattle.std.specs.Prelude.{Ok, Err, List, [], ◌∷◌, filter, map}
 use Rattle.cpu12_parts.specs.State.{State}
-use Rattle.cpu12_emul.specs.declared.ends.Frame.{Frame}
-use Rattle.cpu12_emul.specs.Image.{image_memory}
+use Rattle.cpu12_emul.specs.{declared.ends.Frame.Frame, Image.image_memory, Take.FrameSeen, Take.frame_seen}
 use Rattle.cpu12_emul.specs.Step.{Next, next_of, reset_with}
-use Rattle.cpu12_emul.specs.Take.{FrameSeen, frame_seen}
 use Rattle.run_law.specs.Forms.{RowSeen, Rows, rows_from}
 use Rattle.run_forms.specs.Forms.{Harness, sample_in, plan_form}
 

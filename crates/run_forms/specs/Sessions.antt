@@ -5,10 +5,8 @@ use Rattle.std.specs.Prelude.{if◌then◌else◌, Result, Ok, Err, List, [], �
 use Rattle.cpu12_parts.specs.State.{State}
 use Rattle.cpu12_emul.specs.Step.{Next, next_of, is_part}
 use Rattle.run_law.specs.Forms.{one_if, run_from}
-use Rattle.run_forms.specs.declared.sample.Tally.{Tally}
-use Rattle.run_forms.specs.declared.boundary.Stand.{Stand}
-use Rattle.run_forms.specs.Forms.{plan_form, Notes, Harness}
-use Rattle.run_forms.specs.Rest.{Brief, rest_at, counted_at}
+use Rattle.run_forms.specs.declared.{sample.Tally.Tally, boundary.Stand.Stand}
+use Rattle.run_forms.specs.{Forms.plan_form, Forms.Notes, Forms.Harness, Rest.Brief, Rest.rest_at, Rest.counted_at}
 
 -- what is to come of a sample's run: what is counted in the end, the requests that are left there, and the states at
 -- its boundaries from here on

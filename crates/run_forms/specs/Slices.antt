@@ -1,8 +1,7 @@
 -- The requests of a plan, sample by sample, and room for what they push and tell.
 -- Beside the promise.
 use Rattle.std.specs.Prelude.{◌≡◌, ◌≤◌, ℕ, zero, suc, List, [], ◌∷◌, length, drop, take_while}
-use Rattle.run_forms.specs.Forms.{Notes, sample_in}
-use Rattle.run_forms.specs.Rows.{is_of}
+use Rattle.run_forms.specs.{Forms.Notes, Forms.sample_in, Rows.is_of}
 
 -- the requests of sample k that come first
 abbrev pub requests_first : {A : Type 0} → (A → ℕ × ℕ) → ℕ → List A → List A

@@ -2,8 +2,7 @@
 //! over all of them, what is seldom done is not.
 ghost use Rattle.std.specs.Prelude.{ℕ, ◌≡◌, ◌≤◌, ◌<◌, ◌+◌, ◌-◌, ◌&&◌, nat_lt};
 ghost use Rattle.std.specs.Prelude.{◌^◌, All, true, false, Ok, Err, length};
-ghost use Rattle.cpu12_emul.specs.declared.ends.Stepped.{Stepped as Kind};
-ghost use Rattle.cpu12_emul.specs.Step.{next_of, is_part};
+ghost use Rattle.cpu12_emul.specs.{declared.ends.Stepped.Stepped as Kind, Step.next_of, Step.is_part};
 ghost use Rattle.run_law.specs.Forms.{one_if};
 ghost use Rattle.run_forms.specs.Sessions.{before_takes, after_takes, after_state, at_end, stepped_tally, IsSteady};
 

@@ -1,11 +1,9 @@
 //! Forms of firmware: what a run is given, and what serves its requests.
 ghost use Rattle.std.specs.Prelude.{ℕ, ◌≡◌, ◌<◌, ◌≤◌, ◌+◌, ◌++◌, ◌∷◌, [], true, false, Some, List, length, slice_get};
 ghost use Rattle.std.specs.Prelude.{IsTrue, IfOk};
-ghost use Rattle.cpu12_parts.specs.Cuts.{suspended, wav};
-ghost use Rattle.cpu12_parts.specs.State.{State};
+ghost use Rattle.cpu12_parts.specs.{Cuts.suspended, Cuts.wav, State.State};
 ghost use Rattle.cpu12_emul.specs.Take.{may_interrupt, frame_of};
-ghost use Rattle.run_forms.specs.Forms.{Harness};
-ghost use Rattle.run_forms.specs.Rest.{counted_at, shown_by};
+ghost use Rattle.run_forms.specs.{Forms.Harness, Rest.counted_at, Rest.shown_by};
 
 use crate::sample::Tally;
 use cpu12_emul::machine::Machine;

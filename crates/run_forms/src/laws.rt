@@ -1,6 +1,5 @@
 //! Laws of runs of any form.
-ghost use Rattle.run_forms.specs.Arrival.{ArrivesPlainly, PlainIsOneStep};
-ghost use Rattle.run_forms.specs.Showing.{RowsAreShown};
+ghost use Rattle.run_forms.specs.{Arrival.ArrivesPlainly, Arrival.PlainIsOneStep, Showing.RowsAreShown};
 
 use crate::form::RunForm;
 use cpu12_emul::laws::plain_is_step;

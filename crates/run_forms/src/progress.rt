@@ -2,11 +2,10 @@
 ghost use Rattle.std.specs.Prelude.{ℕ, ◌≡◌, ◌≤◌, ◌<◌, ◌+◌, ◌-◌, ◌^◌, List};
 ghost use Rattle.std.specs.Prelude.{[], All, true, false, length, map, drop, vec_len, vec_capacity};
 ghost use Rattle.cpu12_parts.specs.State.{State};
-ghost use Rattle.run_forms.specs.Rest.{counted_at, shown_by};
-ghost use Rattle.run_forms.specs.Rows.{harness_rows};
+ghost use Rattle.run_forms.specs.{Rest.counted_at, Rest.shown_by, Rows.harness_rows};
 ghost use Rattle.run_forms.specs.Slices.{HasRoom, HaveRoom, IsInOrder};
-ghost use Rattle.run_forms.specs.Outlooks.{ahead, at_position, from_here, left_by, outlook_at};
-ghost use Rattle.run_forms.specs.Outlooks.{rows_here, sample_at, shown_run, state_here, with_row, IsUnderWay};
+ghost use Rattle.run_forms.specs.Outlooks.{ahead, at_position, from_here, left_by, outlook_at, rows_here, sample_at};
+ghost use Rattle.run_forms.specs.Outlooks.{shown_run, state_here, with_row, IsUnderWay};
 
 use crate::at_once::pass_parts;
 use crate::boundary::{Stand, come, pass};

@@ -2,8 +2,7 @@
 ghost use Rattle.std.specs.Prelude.{ℕ, ◌≡◌, ◌≤◌, ◌+◌, [], All, length, map, IfOk};
 ghost use Rattle.cpu12_isa.specs.Watching.{nothing_noted};
 ghost use Rattle.run_forms.specs.Rows.{arrival, arrived_at, frames_seen, harness_rows, shown};
-ghost use Rattle.run_forms.specs.Rooms.{Fits};
-ghost use Rattle.run_forms.specs.Slices.{HaveRoom, IsInOrder, requests_first};
+ghost use Rattle.run_forms.specs.{Rooms.Fits, Slices.HaveRoom, Slices.IsInOrder, Slices.requests_first};
 ghost use Rattle.run_forms.specs.Outlooks.{from_here, shown_run, outlook_at, IsUnderWay};
 
 use crate::form::RunForm;

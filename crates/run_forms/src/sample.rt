@@ -2,9 +2,7 @@
 ghost use Rattle.std.specs.Prelude.{ℕ, ◌≡◌, ◌≤◌, ◌<◌, ◌+◌, ◌-◌, ◌++◌, ◌∷◌, [], true, All, length, drop};
 ghost use Rattle.cpu12_emul.specs.Take.{frame_seen};
 ghost use Rattle.run_law.specs.Forms.{takes};
-ghost use Rattle.run_forms.specs.Forms.{moment_in, plan_form};
-ghost use Rattle.run_forms.specs.Rows.{frames_seen};
-ghost use Rattle.run_forms.specs.Rest.{is_due, with_before};
+ghost use Rattle.run_forms.specs.{Forms.moment_in, Forms.plan_form, Rows.frames_seen, Rest.is_due, Rest.with_before};
 ghost use Rattle.run_forms.specs.Rooms.{Fits};
 
 use crate::form::SampleForm;

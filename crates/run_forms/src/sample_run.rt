@@ -1,9 +1,7 @@
 //! The run of one sample.
 ghost use Rattle.std.specs.Prelude.{◌≡◌, ◌≤◌, ◌<◌, ◌+◌, ◌-◌, ◌^◌, All, true, false, length, drop};
 ghost use Rattle.run_law.specs.Forms.{run_from};
-ghost use Rattle.run_forms.specs.Forms.{plan_form};
-ghost use Rattle.run_forms.specs.Rest.{rest_at, counted_at};
-ghost use Rattle.run_forms.specs.Sessions.{IsSteady};
+ghost use Rattle.run_forms.specs.{Forms.plan_form, Rest.rest_at, Rest.counted_at, Sessions.IsSteady};
 
 use crate::at_once::pass_parts;
 use crate::boundary::{Stand, come, pass};

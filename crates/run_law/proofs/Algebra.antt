@@ -2,16 +2,12 @@
 -- kept between parts.
 use Rattle.std.proofs.Common.{◌≡◌, ℕ, zero, suc, ◌+◌, ◌^◌, ◌<◌, not, Bool, false, Result, Ok, refl, ap, ap₂, sym}
 use Rattle.std.proofs.Common.{◌∙◌, subst, arith}
-use Rattle.cpu12_parts.specs.declared.temps.Temps.{Temps}
+use Rattle.cpu12_parts.specs.{declared.temps.Temps.Temps, Laws.AreKept, State.State}
 use Rattle.cpu12_parts.specs.declared.temps.Temps.TheVariants.{Free, Running, OnStack}
-use Rattle.cpu12_parts.specs.Laws.{AreKept}
-use Rattle.cpu12_parts.specs.State.{State}
-use Rattle.cpu12_emul.specs.declared.ends.Stepped.{Stepped}
-use Rattle.cpu12_emul.specs.declared.ends.Stepped.TheVariants.{Part}
+use Rattle.cpu12_emul.specs.declared.{ends.Stepped.Stepped, ends.Stepped.TheVariants.Part}
 use Rattle.cpu12_emul.specs.Step.{Next, next_of, is_part}
-use Rattle.run_law.specs.Forms.{one_if}
+use Rattle.run_law.specs.{Forms.one_if, Soundness.Before}
 use Rattle.run_law.specs.Uninterrupted.{stepped, kind_at, state_by, kind_by, uninterrupted, counted}
-use Rattle.run_law.specs.Soundness.{Before}
 
 -- what holds before no step, before one more, and before one
 before_none : (P : State → Type 0) (flags : ℕ) (s : State) → Before P flags 0 s

@@ -5,13 +5,11 @@ use Rattle.std.specs.Prelude.{if◌then◌else◌}
 use Rattle.std.proofs.lemmas.Bool.{and_parts}
 use Rattle.cpu12_parts.specs.State.{State}
 use Rattle.cpu12_emul.specs.Take.{FrameSeen, frame_of, may_interrupt}
-use Rattle.run_law.specs.Forms.{Form, Taking, takes, taken, told, put_take}
-use Rattle.run_law.specs.Uninterrupted.{expected_frame}
 use Rattle.cpu12_emul.specs.Simulation.{Marks, Simulates}
-use Rattle.run_law.specs.Soundness.{AllGood}
+use Rattle.run_law.specs.Forms.{Form, Taking, takes, taken, told, put_take}
+use Rattle.run_law.specs.{Uninterrupted.expected_frame, Soundness.AllGood}
 use Rattle.run_law.specs.Following.{onto, asked, IsToldIn, EachTold}
-use Rattle.run_law.proofs.Grounds.{Ground}
-use Rattle.run_law.proofs.Takes.{Settled, settled_near, settled_may, took_one}
+use Rattle.run_law.proofs.{Grounds.Ground, Takes.Settled, Takes.settled_near, Takes.settled_may, Takes.took_one}
 
 -- what is left of the requests, and the frames and the requests of those that are due
 abbrev pub drop_due : {A : Type 0} → (A → ℕ) → Bool → ℕ → List A → List A

@@ -4,12 +4,10 @@ use Rattle.std.proofs.Common.{None, List, [], ◌∷◌, ◌++◌, refl, ap, ap�
 use Rattle.std.specs.Prelude.{if◌then◌else◌, ◌==◌}
 use Rattle.std.proofs.lemmas.Bool.Decides.{nat_tests}
 use Rattle.cpu12_parts.specs.State.{State}
-use Rattle.cpu12_emul.specs.Take.{FrameSeen}
-use Rattle.cpu12_emul.specs.Step.{is_part}
-use Rattle.run_law.specs.Forms.{one_if, is_empty}
-use Rattle.run_law.specs.Uninterrupted.{stepped, kind_at, uninterrupted, is_inside, has_moment, taken_before, left_from}
-use Rattle.run_law.specs.Uninterrupted.{resumed_of, expected_frame, is_new, frames_after, frames_of}
-use Rattle.run_law.specs.Soundness.{Ascend}
+use Rattle.cpu12_emul.specs.{Take.FrameSeen, Step.is_part}
+use Rattle.run_law.specs.{Forms.one_if, Forms.is_empty, Soundness.Ascend}
+use Rattle.run_law.specs.Uninterrupted.{stepped, kind_at, uninterrupted, is_inside, has_moment, taken_before}
+use Rattle.run_law.specs.Uninterrupted.{left_from, resumed_of, expected_frame, is_new, frames_after, frames_of}
 use Rattle.run_law.proofs.Boundaries.{drop_due, frames_here, taken_here}
 use Rattle.run_law.proofs.Moments.{le_true, le_false, split, ascend_less}
 

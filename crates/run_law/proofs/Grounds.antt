@@ -2,9 +2,7 @@
 use Rattle.std.proofs.Common.{ℕ, Bool, List}
 use Rattle.cpu12_parts.specs.State.{State}
 use Rattle.cpu12_emul.specs.Simulation.{Marks}
-use Rattle.run_law.specs.Forms.{Form}
-use Rattle.run_law.specs.Soundness.{Sound}
-use Rattle.run_law.specs.Steps.{MachineLaws}
+use Rattle.run_law.specs.{Forms.Form, Soundness.Sound, Steps.MachineLaws}
 
 pub record Ground {S A B : Type 0} (marks : Marks) (open_to : ℕ → Bool) (f : Form S A B) (P : State → Type 0)
     (Good : A → Type 0) (Own : List (A × B) → State → Type 0) : Type 0 where

@@ -1,13 +1,9 @@
 -- A handler that does listed writes is quiet.
 use Rattle.std.proofs.Common.{◌≡◌, ℕ, ◌+◌, ◌^◌, ◌<◌, ◌≤◌, Bool, length, sym, ◌∙◌, subst, arith}
 use Rattle.cpu12_isa.specs.declared.instr.Regs.{Regs}
-use Rattle.cpu12_isa.specs.Fits.{FitsRegs}
-use Rattle.cpu12_isa.specs.Memory.{plus}
-use Rattle.cpu12_isa.specs.Regions.{stack_start, stack_end}
-use Rattle.cpu12_parts.specs.declared.temps.Temps.{Temps}
+use Rattle.cpu12_isa.specs.{Fits.FitsRegs, Memory.plus, Regions.stack_start, Regions.stack_end}
+use Rattle.cpu12_parts.specs.{declared.temps.Temps.Temps, State.State, Laws.IsOff}
 use Rattle.cpu12_parts.specs.declared.temps.Temps.TheVariants.{Free, Running, OnStack}
-use Rattle.cpu12_parts.specs.State.{State}
-use Rattle.cpu12_parts.specs.Laws.{IsOff}
 use Rattle.cpu12_emul.specs.Take.{framed}
 use Rattle.cpu12_emul.specs.Simulation.{Marks, OnStackOnly, OnStackOrNone, HasRoom, TakesQuietly}
 use Rattle.run_law.specs.Soundness.{SumsFitBelow, Begins, AreLeft, WritesAreQuiet}

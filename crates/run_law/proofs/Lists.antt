@@ -5,8 +5,7 @@ use Rattle.cpu12_emul.specs.Simulation.{Marks}
 use Rattle.run_law.specs.Forms.{Form, Ran, run_from, RowSeen, row_of, rows_from}
 use Rattle.run_law.specs.Uninterrupted.{uninterrupted}
 use Rattle.run_law.specs.Following.{onto, Follows, expected_row, AllFollow, RunsFollow}
-use Rattle.run_law.proofs.Grounds.{Ground}
-use Rattle.run_law.proofs.Samples.{run_follows_whole}
+use Rattle.run_law.proofs.{Grounds.Ground, Samples.run_follows_whole}
 
 one_row : {S A B : Type 0} (marks : Marks) (open_to : ℕ → Bool) (f : Form S A B) (P : State → Type 0)
     (Good : A → Type 0) (Own : List (A × B) → State → Type 0) → Ground marks open_to f P Good Own

@@ -7,8 +7,7 @@ use Rattle.std.proofs.lemmas.Bool.Decides.{nat_tests}
 use Rattle.cpu12_parts.specs.State.{State}
 use Rattle.cpu12_emul.specs.Take.{FrameSeen, may_interrupt}
 use Rattle.run_law.specs.Uninterrupted.{uninterrupted, first_open, taken_at, expected_frame}
-use Rattle.run_law.specs.Soundness.{Ascend}
-use Rattle.run_law.specs.Moments.{TakenAtFirstOpen, TakenAtOnce}
+use Rattle.run_law.specs.{Soundness.Ascend, Moments.TakenAtFirstOpen, Moments.TakenAtOnce}
 use Rattle.run_law.proofs.Boundaries.{drop_due, frames_here, taken_here}
 
 bool_cases : (b : Bool) → (b ≡ true) ⊎ (b ≡ false)

@@ -6,22 +6,18 @@ use Rattle.std.specs.Prelude.{if◌then◌else◌}
 use Rattle.std.proofs.lemmas.Bool.Decides.{nat_tests}
 use Rattle.std.proofs.lemmas.List.{map-append}
 use Rattle.cpu12_parts.specs.State.{State}
-use Rattle.cpu12_emul.specs.declared.ends.Stepped.{Stepped}
-use Rattle.cpu12_emul.specs.Step.{next_of, is_part}
-use Rattle.cpu12_emul.specs.Take.{FrameSeen, may_interrupt}
-use Rattle.cpu12_emul.specs.Simulation.{Same, Marks}
+use Rattle.cpu12_emul.specs.{declared.ends.Stepped.Stepped, Step.next_of, Step.is_part}
+use Rattle.cpu12_emul.specs.{Take.FrameSeen, Take.may_interrupt, Simulation.Same, Simulation.Marks}
 use Rattle.run_law.specs.Forms.{Form, Taking, Ran, takes, one_if, is_empty, ended, before_rest, then_rest, run_from}
 use Rattle.run_law.specs.Uninterrupted.{stepped, state_by, uninterrupted, counted, is_inside, taken_at}
 use Rattle.run_law.specs.Soundness.{Before, AllSimulate, AllGood, Ascend}
 use Rattle.run_law.specs.Following.{onto, asked, IsToldIn, IsToldAt, EachTold, Completes, Follows, RunFollows}
-use Rattle.run_law.proofs.Grounds.{Ground}
-use Rattle.run_law.proofs.Steps.{StepFollows, step_follows}
+use Rattle.run_law.proofs.{Grounds.Ground, Steps.StepFollows, Steps.step_follows}
 use Rattle.run_law.proofs.Takes.{simulates_loosely, settled_first}
 use Rattle.run_law.proofs.Boundaries.{Boundary, boundary, drop_due, taken_here, frames_here}
 use Rattle.run_law.proofs.Moments.{taken_ascend, drop_is, here_is, frames_is}
 use Rattle.run_law.proofs.Expected.{uninterrupted_suc, ascend_rest, frames_along, resumed_along, taken_along}
-use Rattle.run_law.proofs.Expected.{left_along, frames_whole, resumed_whole}
-use Rattle.run_law.proofs.Expected.{taken_whole, left_whole}
+use Rattle.run_law.proofs.Expected.{left_along, frames_whole, resumed_whole, taken_whole, left_whole}
 
 -- the run of a sample
 record Along {S A B : Type 0} (marks : Marks) (open_to : ℕ → Bool) (f : Form S A B)

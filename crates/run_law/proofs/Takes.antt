@@ -2,31 +2,22 @@
 use Rattle.std.proofs.Common.{◌≡◌, ℕ, ◌+◌, ◌-◌, ◌≤◌, Bool, true, false, not, List, ◌∷◌, ◌++◌, length, refl, ap, sym}
 use Rattle.std.proofs.Common.{◌∙◌, subst, arith, inl, inr, ◌⊎◌, lit≤}
 use Rattle.cpu12_isa.specs.declared.instr.Regs.{Regs}
-use Rattle.cpu12_isa.specs.Act.{write_all}
+use Rattle.cpu12_isa.specs.{Act.write_all, Flags.interrupts_masked, Flags.has, Registers.frame_bytes, Agreement.Agree}
 use Rattle.cpu12_isa.specs.Memory.{plus, placed, from, bytes_at}
-use Rattle.cpu12_isa.specs.Flags.{interrupts_masked, has}
-use Rattle.cpu12_isa.specs.Registers.{frame_bytes}
-use Rattle.cpu12_isa.specs.Agreement.{Agree}
 use Rattle.cpu12_isa.specs.Regions.{stack_start, stack_end, is_hidden, LeavesStack}
 use Rattle.cpu12_isa.proofs.Algebra.{agree_with, read_placed, same_bytes}
 use Rattle.cpu12_parts.specs.declared.temps.Temps.{Temps}
 use Rattle.cpu12_parts.specs.declared.temps.Temps.TheVariants.{Free, Running}
-use Rattle.cpu12_parts.specs.State.{State}
-use Rattle.cpu12_parts.specs.Sums.{sum_bytes}
-use Rattle.cpu12_parts.specs.Cuts.{suspended, wav}
-use Rattle.cpu12_parts.specs.Laws.{IsOff}
-use Rattle.cpu12_parts.specs.Inside.{pushed_sums}
+use Rattle.cpu12_parts.specs.{State.State, Sums.sum_bytes, Cuts.suspended, Cuts.wav, Laws.IsOff, Inside.pushed_sums}
 use Rattle.cpu12_parts.proofs.Algebra.{temps_cases}
 use Rattle.cpu12_emul.specs.Take.{FrameSeen, frame_of, frame_in, may_interrupt}
-use Rattle.cpu12_emul.specs.Simulation.{Same, Marks, OnStackOnly, OnStackOrNone, AreMarked, Parked, Simulates, HasRoom}
-use Rattle.cpu12_emul.specs.Simulation.{IsShownStep}
+use Rattle.cpu12_emul.specs.Simulation.{Same, Marks, OnStackOnly, OnStackOrNone, AreMarked, Parked, Simulates}
+use Rattle.cpu12_emul.specs.Simulation.{HasRoom, IsShownStep}
 use Rattle.cpu12_emul.proofs.Algebra.{pushed_marked, marked_off}
 use Rattle.run_law.specs.Forms.{Form, taken, told}
-use Rattle.run_law.specs.Uninterrupted.{frame_on, expected_frame}
+use Rattle.run_law.specs.{Uninterrupted.frame_on, Uninterrupted.expected_frame, Following.IsToldIn, Steps.MachineLaws}
 use Rattle.run_law.specs.Soundness.{below_sums, Begins, AreLeft, Quiet}
-use Rattle.run_law.specs.Following.{IsToldIn}
 use Rattle.run_law.proofs.Grounds.{Ground}
-use Rattle.run_law.specs.Steps.{MachineLaws}
 
 -- which sums a handler may leave
 left_running : (marks : Marks) (t u v : Temps) (p q : ℕ) → t ≡ Running p q → AreMarked marks v → AreLeft marks t u v

@@ -5,8 +5,8 @@ use Rattle.cpu12_parts.specs.State.{State}
 use Rattle.run_law.specs.Forms.{Form, Ran, run_from, RowSeen, Rows, rows_from}
 use Rattle.run_law.specs.Uninterrupted.{uninterrupted, counted, is_inside, taken_at, taken_before, left_from}
 use Rattle.run_law.specs.Uninterrupted.{resumed_of, frames_of}
-use Rattle.cpu12_emul.specs.Simulation.{Same, Marks}
 use Rattle.run_law.specs.Soundness.{Before, Begins, AllSimulate, AllGood, Ascend}
+use Rattle.cpu12_emul.specs.Simulation.{Same, Marks}
 
 -- those of a list before others, the last first
 abbrev pub onto : {C : Type 0} → List C → List C → List C

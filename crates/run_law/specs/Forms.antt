@@ -2,11 +2,9 @@
 -- Reached by the promise.
 use Rattle.std.specs.Prelude.{ℕ, zero, suc, ◌+◌, ◌&&◌, not, nat_le, Bool, true, false, if◌then◌else◌, Result, Ok, Err}
 use Rattle.std.specs.Prelude.{List, [], ◌∷◌, ◌++◌}
-use Rattle.cpu12_parts.specs.State.{State}
-use Rattle.cpu12_parts.specs.Cuts.{suspended, wav}
+use Rattle.cpu12_parts.specs.{State.State, Cuts.suspended, Cuts.wav}
 use Rattle.cpu12_emul.specs.declared.ends.Stepped.{Stepped}
-use Rattle.cpu12_emul.specs.Step.{Next, next_of, is_part}
-use Rattle.cpu12_emul.specs.Take.{FrameSeen, frame_of, may_interrupt}
+use Rattle.cpu12_emul.specs.{Step.Next, Step.next_of, Step.is_part, Take.FrameSeen, Take.frame_of, Take.may_interrupt}
 
 -- A firmware that is given samples S and serves requests A, each of which tells a B: the byte from which open flags
 -- are taken; how a sample is given, and taken away again at its end; when it ends, by the moment and the state; what

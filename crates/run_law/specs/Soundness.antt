@@ -1,22 +1,15 @@
 -- What a form of firmware and its handler owe, so that its runs under interrupts follow those without.
 -- Beside the promise.
 use Rattle.std.specs.Prelude.{◌≡◌, ℕ, ◌+◌, ◌<◌, ◌≤◌, Bool, true, List, [], ◌∷◌}
-use Rattle.cpu12_isa.specs.declared.instr.Regs.{Regs}
-use Rattle.cpu12_isa.specs.declared.instr.Write.{Write}
-use Rattle.cpu12_isa.specs.Memory.{plus}
-use Rattle.cpu12_isa.specs.Agreement.{Agree}
-use Rattle.cpu12_isa.specs.Fits.{FitsRegs}
+use Rattle.cpu12_isa.specs.declared.{instr.Regs.Regs, instr.Write.Write}
+use Rattle.cpu12_isa.specs.{Memory.plus, Agreement.Agree, Fits.FitsRegs}
 use Rattle.cpu12_isa.specs.Regions.{stack_start, stack_end, is_hidden, LeavesStack}
-use Rattle.cpu12_parts.specs.declared.temps.Temps.{Temps}
+use Rattle.cpu12_parts.specs.{declared.temps.Temps.Temps, State.State, Cuts.suspended, Cuts.wav, Laws.IsOff}
 use Rattle.cpu12_parts.specs.declared.temps.Temps.TheVariants.{Free, Running, OnStack}
-use Rattle.cpu12_parts.specs.State.{State}
-use Rattle.cpu12_parts.specs.Cuts.{suspended, wav}
-use Rattle.cpu12_parts.specs.Laws.{IsOff}
 use Rattle.cpu12_emul.specs.Take.{may_interrupt, framed}
 use Rattle.cpu12_emul.specs.Simulation.{AreOpen, Same, Marks, OnStackOnly, OnStackOrNone, Simulates, HasRoom}
 use Rattle.cpu12_emul.specs.Simulation.{IsShownStep}
-use Rattle.run_law.specs.Forms.{Form}
-use Rattle.run_law.specs.Uninterrupted.{stepped, uninterrupted}
+use Rattle.run_law.specs.{Forms.Form, Uninterrupted.stepped, Uninterrupted.uninterrupted}
 
 -- P holds at each of the n states before the last
 abbrev pub Before : (State → Type 0) → ℕ → ℕ → State → Type 0

@@ -3,11 +3,9 @@ ghost use Rattle.std.specs.Prelude.{ℕ, Bool, List};
 ghost use Rattle.cpu12_isa.specs.Agreement.{WritesAgree};
 ghost use Rattle.cpu12_parts.specs.State.{State};
 ghost use Rattle.cpu12_emul.specs.Simulation.{Marks};
-ghost use Rattle.run_law.specs.Forms.{Form};
+ghost use Rattle.run_law.specs.{Forms.Form, Following.RunFollows, Following.RunsFollow};
 ghost use Rattle.run_law.specs.Soundness.{Sound, SumsFitBelow, WritesAreQuiet};
-ghost use Rattle.run_law.specs.Following.{RunFollows, RunsFollow};
-ghost use Rattle.run_law.specs.Moments.{TakenAtFirstOpen, TakenAtOnce};
-ghost use Rattle.run_law.specs.Steps.{MachineLaws, StepLaws};
+ghost use Rattle.run_law.specs.{Moments.TakenAtFirstOpen, Moments.TakenAtOnce, Steps.MachineLaws, Steps.StepLaws};
 
 use cpu12_emul::laws::{
     frame_is_on_stack, plain_is_step, rev_is_step, revw_is_step, step_keeps, sums_are_step,

@@ -3,18 +3,14 @@ use Rattle.std.proofs.Common.{◌≡◌, ◌<◌, ◌≤◌, ◌^◌, ℕ, suc, 
 use Rattle.std.specs.Prelude.{All, map}
 use Rattle.std.proofs.lemmas.List.Elements.{All-cons, All-nil}
 use Rattle.fz_num.specs.declared.dec.Dec.{Dec}
-use Rattle.fuzzy_meaning.specs.declared.block.Block.{Block}
-use Rattle.fuzzy_meaning.specs.declared.block.Input.{Input}
+use Rattle.fuzzy_meaning.specs.declared.{block.Block.Block, block.Input.Input}
 use Rattle.box_tree.specs.declared.cert.Cert.{Cert}
 use Rattle.byte_scaling.specs.Cells.{byte_of, bytes_of}
 use Rattle.cert_check.specs.Acceptance.{IsAccepted}
-use Rattle.eval_code.specs.Bounds.{instruction_bound}
-use Rattle.eval_code.specs.Firing.{AreInputBytes}
-use Rattle.codegen.specs.Uninterrupted.{Answer, AreAnswersOf}
+use Rattle.eval_code.specs.{Bounds.instruction_bound, Firing.AreInputBytes}
 use Rattle.eval_code.specs.Widths.{answer, is_wide, parts, width_of}
-use Rattle.codegen.specs.declared.firmware.Firmware.{Firmware}
-use Rattle.eval_code.specs.declared.width.Width.{Width}
-use Rattle.eval_code.specs.declared.width.Width.TheVariants.{Byte, Word}
+use Rattle.eval_code.specs.declared.{width.Width.Width, width.Width.TheVariants.Byte, width.Width.TheVariants.Word}
+use Rattle.codegen.specs.{Uninterrupted.Answer, Uninterrupted.AreAnswersOf, declared.firmware.Firmware.Firmware}
 use Rattle.interrupt_plan.specs.declared.Request.{Request}
 use Rattle.trace_io.specs.Traces.{AreWithin, Fields, SpellSamples, Spells}
 use Rattle.trace_io.specs.declared.sample.Sample.{Sample}
@@ -22,10 +18,9 @@ use Rattle.run_law.specs.Forms.{RowSeen}
 use Rattle.fz_run.specs.Answering.{AnswersItsBlock, AnswersUnder, answer_of_row}
 use Rattle.fz_run.specs.Rows.{firmware_rows, input_bytes}
 use Rattle.certified_run.specs.Nearness.{AnswersAreWithinErrors, AreWithinErrors}
-use Rattle.run_reports.specs.Reports.{IsReportOf}
+use Rattle.run_reports.specs.Reports.{IsReportOf, report_of}
 use Rattle.build_commands.specs.Firmwares.{GivesFirmware}
 use Rattle.build_commands.proofs.Algebra.{of_seen}
-use Rattle.run_reports.specs.Reports.{report_of}
 
 pub spelled_count : (is : List Input) (rows : List Fields) (samples : List Sample) → SpellSamples is rows samples
     → length samples ≡ length rows

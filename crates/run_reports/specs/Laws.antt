@@ -1,24 +1,15 @@
 -- What is so of every run and of every run's files.
 -- Beside the promise.
 use Rattle.std.specs.Prelude.{◌≡◌, ℕ, ◌≤◌, List, All, length, map}
-use Rattle.fuzzy_meaning.specs.Blocks.{IsValid}
-use Rattle.fuzzy_meaning.specs.declared.block.Block.{Block}
-use Rattle.fuzzy_meaning.specs.declared.block.Input.{Input}
-use Rattle.box_tree.specs.declared.cert.Cert.{Cert}
+use Rattle.fuzzy_meaning.specs.{Blocks.IsValid, declared.block.Block.Block, declared.block.Input.Input}
+use Rattle.box_tree.specs.declared.{cert.Cert.Cert, cert.CertKind.CertKind}
 use Rattle.cert_check.specs.Acceptance.{IsAccepted}
-use Rattle.eval_code.specs.Firing.{AreInputBytes}
-use Rattle.codegen.specs.Uninterrupted.{Answer, AreAnswersOf}
-use Rattle.eval_code.specs.Widths.{parts}
-use Rattle.codegen.specs.declared.firmware.Firmware.{Firmware}
-use Rattle.box_tree.specs.declared.cert.CertKind.{CertKind}
-use Rattle.eval_code.specs.declared.width.Width.{Width}
-use Rattle.interrupt_plan.specs.PlanTexts.{Spells as SpellsPlan}
-use Rattle.interrupt_plan.specs.declared.Request.{Request}
-use Rattle.trace_io.specs.Traces.{Spells as SpellsTrace}
-use Rattle.trace_io.specs.declared.sample.Sample.{Sample}
+use Rattle.eval_code.specs.{Firing.AreInputBytes, Widths.parts, declared.width.Width.Width}
+use Rattle.codegen.specs.{Uninterrupted.Answer, Uninterrupted.AreAnswersOf, declared.firmware.Firmware.Firmware}
+use Rattle.interrupt_plan.specs.{PlanTexts.Spells as SpellsPlan, declared.Request.Request}
+use Rattle.trace_io.specs.{Traces.Spells as SpellsTrace, declared.sample.Sample.Sample}
 use Rattle.run_law.specs.Forms.{RowSeen}
-use Rattle.fz_run.specs.Answering.{AnswersItsBlock}
-use Rattle.fz_run.specs.Rows.{firmware_rows, input_bytes}
+use Rattle.fz_run.specs.{Answering.AnswersItsBlock, Rows.firmware_rows, Rows.input_bytes}
 use Rattle.fz_status.specs.declared.status.Status.{Status}
 use Rattle.build_commands.specs.Firmwares.{GivesFirmware}
 use Rattle.run_reports.specs.Inputs.{AcceptsInputs, input_refusals, sample_refusals}

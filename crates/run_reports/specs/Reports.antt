@@ -2,15 +2,12 @@
 -- Reached by the promise.
 use Rattle.std.specs.Prelude.{◌≡◌, ℕ, ◌≤◌, List, All, map}
 use Rattle.fuzzy_meaning.specs.declared.block.Block.{Block}
-use Rattle.eval_code.specs.Bounds.{instruction_bound}
-use Rattle.eval_code.specs.Widths.{parts}
+use Rattle.eval_code.specs.{Bounds.instruction_bound, Widths.parts, declared.width.Width.Width}
 use Rattle.codegen.specs.declared.firmware.Firmware.{Firmware}
-use Rattle.eval_code.specs.declared.width.Width.{Width}
 use Rattle.trace_io.specs.declared.sample.Sample.{Sample}
 use Rattle.interrupt_plan.specs.declared.Request.{Request}
 use Rattle.run_law.specs.Forms.{RowSeen}
-use Rattle.fz_run.specs.Answering.{AnswersUnder}
-use Rattle.fz_run.specs.Rows.{firmware_rows, input_bytes}
+use Rattle.fz_run.specs.{Answering.AnswersUnder, Rows.firmware_rows, Rows.input_bytes}
 use Rattle.certified_run.specs.Nearness.{AreWithinErrors}
 
 -- what is told of a run: an error for each output, in millionths of its range, the bound on instructions, and a row for

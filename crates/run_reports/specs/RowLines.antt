@@ -5,8 +5,7 @@ use Rattle.std.specs.List.{flat_map}
 use Rattle.cpu12_emul.specs.Take.{FrameSeen}
 use Rattle.fz_shelf.specs.Parts.{address_digits}
 use Rattle.run_law.specs.Forms.{RowSeen}
-use Rattle.fz_status.specs.FaultLines.{newline}
-use Rattle.fz_status.specs.Words.{Text}
+use Rattle.fz_status.specs.{FaultLines.newline, Words.Text}
 use Rattle.build_commands.specs.Lines.{counted, error_line, line}
 
 -- numbers, with a blank before each

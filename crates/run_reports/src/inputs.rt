@@ -6,8 +6,8 @@ ghost use Rattle.interrupt_plan.specs.PlanTexts.{Spells as SpellsPlan};
 ghost use Rattle.trace_io.specs.Traces.{Spells};
 ghost use Rattle.fz_status.specs.Refusals.{IsRefusal};
 ghost use Rattle.build_commands.specs.Contents.{bytes_of, content_at};
-ghost use Rattle.run_reports.specs.Inputs.{AcceptsInputs, input_refusals, plan_refusals};
-ghost use Rattle.run_reports.specs.Inputs.{sample_refusals, trace_refusals};
+ghost use Rattle.run_reports.specs.Inputs.{AcceptsInputs, input_refusals, plan_refusals, sample_refusals};
+ghost use Rattle.run_reports.specs.Inputs.{trace_refusals};
 
 use box_tree::CertKind;
 use build_commands::certs::errors_under;

@@ -4,15 +4,12 @@ use Rattle.std.proofs.Common.{refl, sym, ◌∙◌, ap, subst}
 use Rattle.std.proofs.lemmas.List.{append-nil}
 use Rattle.std.specs.Str.Lines.{lines}
 use Rattle.cpu12_asm.specs.Bytes.{byte_at}
-use Rattle.srecord.specs.declared.fault.SrecFault.{SrecFault}
+use Rattle.srecord.specs.declared.{fault.SrecFault.SrecFault, fields.Kind.Kind, fields.Kind.TheVariants.Count}
 use Rattle.srecord.specs.declared.fault.SrecFault.TheVariants.{CountDiffers, NoEnd}
-use Rattle.srecord.specs.declared.fields.Kind.{Kind}
-use Rattle.srecord.specs.declared.fields.Kind.TheVariants.{Count}
 use Rattle.srecord.specs.declared.reader.Reader.{Reader}
-use Rattle.srecord.specs.Lines.{HasGoodFields, Opens}
+use Rattle.srecord.specs.{Lines.HasGoodFields, Lines.Opens, Reading.Has, Reading.HasRead}
 use Rattle.srecord.specs.Texts.{Give, Given, HasFault, IsRecord, IsTaken, LineFails, MayFollow, RecordFails, at_line}
 use Rattle.srecord.specs.Texts.{count_differs, given_with, more, no_end, none, nothing_given}
-use Rattle.srecord.specs.Reading.{Has, HasRead}
 
 -- a line whose bytes, as they were seen, have good fields is a record
 pub is_record_there : {line : List ℕ} {kind : Kind} {at : ℕ} {payload bytes seen : List ℕ} → seen ≡ bytes

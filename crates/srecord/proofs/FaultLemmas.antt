@@ -4,16 +4,14 @@ use Rattle.std.proofs.Common.{ap, subst, ◌∙◌, arith, inl, inr}
 use Rattle.std.proofs.Math.Seq.{take-append_seam, drop-append_seam}
 use Rattle.std.proofs.lemmas.Bool.{cases_lt, cases_eq}
 use Rattle.std.specs.Str.Lines.{lines}
-use Rattle.srecord.specs.declared.fault.SrecFault.{SrecFault}
-use Rattle.srecord.specs.declared.fault.SrecFault.TheVariants.{BadSum}
-use Rattle.srecord.specs.declared.fields.Kind.{Kind}
+use Rattle.srecord.specs.declared.{fault.SrecFault.SrecFault, fault.SrecFault.TheVariants.BadSum, fields.Kind.Kind}
 use Rattle.srecord.specs.Records.{body_of, checksum_of}
 use Rattle.srecord.specs.Lines.{FieldsFail, OpeningFails, bad_sum, unopened, unread, wide}
 use Rattle.srecord.specs.Texts.{Give, Given, HasFault, LineFails, RecordFails, after_end, at_line, count_differs}
 use Rattle.srecord.specs.Texts.{fields_fail, no_end, opening_fails, overlap, record_fails}
 use Rattle.srecord.proofs.FieldLemmas.{same_body, same_sum}
-use Rattle.srecord.proofs.LawLemmas.{fields_fail_too, first_lines, give_one, given_there, good_line, has_fields, opens}
-use Rattle.srecord.proofs.LawLemmas.{record_fails_too}
+use Rattle.srecord.proofs.LawLemmas.{fields_fail_too, first_lines, give_one, given_there, good_line, has_fields}
+use Rattle.srecord.proofs.LawLemmas.{opens, record_fails_too}
 
 opening_one : (line : List ℕ) (n : ℕ) (f h : SrecFault) → OpeningFails line n f → OpeningFails line n h → f ≡ h
 opening_one line n _ _ (wide a) (wide b) = refl

@@ -4,11 +4,9 @@ use Rattle.std.proofs.Common.{get_or, Some, None, false, refl, sym, ap, subst, â
 use Rattle.std.specs.Prelude.{Err}
 use Rattle.std.proofs.lemmas.List.{take_rest, take-append-drop}
 use Rattle.std.proofs.Math.Seq.{drop-append_seam, take-append_seam}
-use Rattle.hex.specs.Hex.{decode_of}
-use Rattle.hex.specs.declared.error.FromHexError.{FromHexError}
+use Rattle.hex.specs.{Hex.decode_of, declared.error.FromHexError.FromHexError}
 use Rattle.srecord.specs.declared.fault.SrecFault.TheVariants.{BadLine, BadSum}
-use Rattle.srecord.specs.declared.fields.Kind.{Kind}
-use Rattle.srecord.specs.Records.{body_of, checksum_of}
+use Rattle.srecord.specs.{declared.fields.Kind.Kind, Records.body_of, Records.checksum_of}
 use Rattle.srecord.specs.Lines.{BeginsWide, FieldsFail, FitsKind, OpeningFails, is_wide, kind_of, parts_of, bad_sum}
 use Rattle.srecord.specs.Lines.{unopened, unread}
 

@@ -6,14 +6,11 @@ use Rattle.std.specs.Prelude.{◌⊎◌, Result, Ok, Err}
 use Rattle.std.proofs.lemmas.Bool.{cases_Bool, cases_lt, cases_eq}
 use Rattle.std.proofs.lemmas.List.{append-nil, length-drop, length-take-le, take-append-drop}
 use Rattle.std.specs.Str.Lines.{lines}
-use Rattle.hex.specs.Hex.{decode_of}
-use Rattle.hex.specs.declared.error.FromHexError.{FromHexError}
-use Rattle.cpu12_asm.specs.Bytes.{byte_at, placed}
-use Rattle.cpu12_asm.specs.declared.image.Image.{Image}
-use Rattle.srecord.specs.declared.fault.SrecFault.{SrecFault}
-use Rattle.srecord.specs.declared.fault.SrecFault.TheVariants.{AfterEnd, BadLine, BadSum, CountDiffers, NoEnd, Overlap}
-use Rattle.srecord.specs.declared.fault.SrecFault.TheVariants.{Wide}
-use Rattle.srecord.specs.declared.fields.Kind.{Kind}
+use Rattle.hex.specs.{Hex.decode_of, declared.error.FromHexError.FromHexError}
+use Rattle.cpu12_asm.specs.{Bytes.byte_at, Bytes.placed, declared.image.Image.Image}
+use Rattle.srecord.specs.declared.{fault.SrecFault.SrecFault, fields.Kind.Kind}
+use Rattle.srecord.specs.declared.fault.SrecFault.TheVariants.{AfterEnd, BadLine, BadSum, CountDiffers, NoEnd}
+use Rattle.srecord.specs.declared.fault.SrecFault.TheVariants.{Overlap, Wide}
 use Rattle.srecord.specs.declared.fields.Kind.TheVariants.{Header, Bytes, Count, Start}
 use Rattle.srecord.specs.Records.{body_of, checksum_of}
 use Rattle.srecord.specs.Lines.{FieldsFail, FitsKind, HasGoodFields, Opens, OpeningFails, is_wide, kind_of, parts_of}

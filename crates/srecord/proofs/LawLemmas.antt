@@ -6,10 +6,8 @@ use Rattle.std.proofs.lemmas.Bool.Decides.{nat_tests}
 use Rattle.std.proofs.lemmas.List.{length-take-le}
 use Rattle.std.specs.Str.Lines.{lines}
 use Rattle.hex.specs.Hex.{decode_of}
-use Rattle.cpu12_asm.specs.Bytes.{byte_at}
-use Rattle.cpu12_asm.specs.declared.image.Image.{Image}
-use Rattle.srecord.specs.declared.fault.SrecFault.{SrecFault}
-use Rattle.srecord.specs.declared.fields.Kind.{Kind}
+use Rattle.cpu12_asm.specs.{Bytes.byte_at, declared.image.Image.Image}
+use Rattle.srecord.specs.declared.{fault.SrecFault.SrecFault, fields.Kind.Kind}
 use Rattle.srecord.specs.Records.{body_of, checksum_of}
 use Rattle.srecord.specs.Lines.{FieldsFail, HasFields, Opens, OpeningFails, bad_sum, is_wide, kind_of, parts_of}
 use Rattle.srecord.specs.Lines.{unopened, unread, wide}

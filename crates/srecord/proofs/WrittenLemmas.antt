@@ -5,8 +5,7 @@ use Rattle.std.specs.Prelude.{codes, ◌&&◌, nat_le, nat_lt, slice_index}
 use Rattle.std.proofs.lemmas.Bool.Decides.{nat_tests}
 use Rattle.std.proofs.lemmas.List.{append-nil}
 use Rattle.std.specs.Str.Lines.{lines}
-use Rattle.cpu12_asm.specs.Bytes.{IsAscending, byte_at, placed}
-use Rattle.cpu12_asm.specs.declared.image.Image.{Image}
+use Rattle.cpu12_asm.specs.{Bytes.IsAscending, Bytes.byte_at, Bytes.placed, declared.image.Image.Image}
 use Rattle.srecord.specs.declared.fields.Kind.TheVariants.{Header, Bytes, Count, Start}
 use Rattle.srecord.specs.Images.{AreCut, ImageText, Piece, StartsAt, data_text, next, none as nothing_cut}
 use Rattle.srecord.specs.Records.{record_text}

@@ -1,11 +1,9 @@
 -- What holds of every text of records.
 -- Beside the promise.
 use Rattle.std.specs.Prelude.{◌≡◌, ◌⊎◌, ℕ, ◌≤◌, List, length}
-use Rattle.cpu12_asm.specs.Bytes.{IsAscending, byte_at}
-use Rattle.cpu12_asm.specs.declared.image.Image.{Image}
+use Rattle.cpu12_asm.specs.{Bytes.IsAscending, Bytes.byte_at, declared.image.Image.Image}
 use Rattle.srecord.specs.declared.fault.SrecFault.{SrecFault}
-use Rattle.srecord.specs.Images.{AreCut, ImageText, Piece}
-use Rattle.srecord.specs.Texts.{GivesImage, HasFault}
+use Rattle.srecord.specs.{Images.AreCut, Images.ImageText, Images.Piece, Texts.GivesImage, Texts.HasFault}
 
 -- a text gives one image at most: one start, and one byte or none at each address
 abbrev pub ImagesAreOne : Type 0

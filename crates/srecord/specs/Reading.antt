@@ -3,8 +3,7 @@
 use Rattle.std.specs.Prelude.{◌≡◌, ℕ, List, ◌++◌, length}
 use Rattle.std.specs.Str.Lines.{lines}
 use Rattle.cpu12_asm.specs.Bytes.{byte_at}
-use Rattle.srecord.specs.declared.reader.Reader.{Reader}
-use Rattle.srecord.specs.Texts.{Give, Given}
+use Rattle.srecord.specs.{declared.reader.Reader.Reader, Texts.Give, Texts.Given}
 
 -- the reader has what is given
 pub record Has (reader : Reader) (g : Given) : Type 0 where

@@ -3,11 +3,9 @@
 use Rattle.std.specs.Prelude.{◌≡◌, ◌≢◌, ℕ, ◌+◌, ◌-◌, ◌<◌, ◌&&◌, nat_le, nat_lt, if◌then◌else◌, List, [], ◌∷◌, ◌++◌}
 use Rattle.std.specs.Prelude.{length, slice_index, Option, Some, None, IsSome}
 use Rattle.std.specs.Str.Lines.{lines}
-use Rattle.cpu12_asm.specs.Bytes.{byte_at}
-use Rattle.cpu12_asm.specs.declared.image.Image.{Image}
-use Rattle.srecord.specs.declared.fault.SrecFault.{SrecFault}
+use Rattle.cpu12_asm.specs.{Bytes.byte_at, declared.image.Image.Image}
+use Rattle.srecord.specs.declared.{fault.SrecFault.SrecFault, fields.Kind.Kind}
 use Rattle.srecord.specs.declared.fault.SrecFault.TheVariants.{AfterEnd, CountDiffers, NoEnd, Overlap}
-use Rattle.srecord.specs.declared.fields.Kind.{Kind}
 use Rattle.srecord.specs.declared.fields.Kind.TheVariants.{Header, Bytes, Count, Start}
 use Rattle.srecord.specs.Lines.{FieldsFail, HasGoodFields, Opens, OpeningFails}
 

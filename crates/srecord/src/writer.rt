@@ -1,8 +1,7 @@
 //! The records of an image.
 ghost use Rattle.std.specs.Prelude.{IfOk};
 ghost use Rattle.cpu12_asm.specs.Bytes.{IsAscending};
-ghost use Rattle.srecord.specs.Images.{ImageText};
-ghost use Rattle.srecord.specs.Texts.{GivesImage};
+ghost use Rattle.srecord.specs.{Images.ImageText, Texts.GivesImage};
 
 use crate::pieces::put_pieces;
 use crate::records::put_record;

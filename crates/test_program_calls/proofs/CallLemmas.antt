@@ -2,9 +2,7 @@
 use Rattle.std.proofs.Common.{◌≡◌, ◌∙◌, ℕ, List, subst₂}
 use Rattle.std.specs.Prelude.{Option}
 use Rattle.fz_shelf.specs.Told.{Taken}
-use Rattle.fz_status.specs.Codes.{code_of}
-use Rattle.fz_status.specs.Errors.{Complains, error_line_of}
-use Rattle.fz_status.specs.Words.{Text}
+use Rattle.fz_status.specs.{Codes.code_of, Errors.Complains, Errors.error_line_of, Words.Text}
 use Rattle.fz_status.specs.declared.status.Status.{Status}
 use Rattle.fz_status.specs.declared.status.Status.TheVariants as status
 use Rattle.fz_top.specs.Runs.{Runs, world}

@@ -1,7 +1,6 @@
 //! Calls of the program.
 ghost use Rattle.std.specs.Prelude.{◌≡◌, ◌∷◌, [], codes, IfErr, IfOk, OnOk};
-ghost use Rattle.fz_shelf.specs.Fakes.{failing_puts_of, most_of};
-ghost use Rattle.fz_shelf.specs.MemFiles.{file_in};
+ghost use Rattle.fz_shelf.specs.{Fakes.failing_puts_of, Fakes.most_of, MemFiles.file_in};
 ghost use Rattle.fz_status.specs.Words.{texts_of};
 ghost use Rattle.test_program_calls.specs.Calls.{AnswersCode, CallDiffers, CallLeaves, Called, LeavesBehind};
 ghost use Rattle.test_program_calls.specs.Calls.{none_counted, nothing_taken, told, words_in};

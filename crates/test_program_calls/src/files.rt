@@ -1,9 +1,7 @@
 //! Files in memory, and which of the calls to them fail.
 ghost use Rattle.std.specs.Prelude.{◌≡◌, ◌≢◌, ◌++◌, ◌∷◌, [], codes, length, IfErr, IfOk, OnOk};
 ghost use Rattle.fz_shelf.specs.Fakes.{failing_reads_of, failing_writes_of, reads_of, writes_of};
-ghost use Rattle.fz_shelf.specs.Files.{Holds};
-ghost use Rattle.fz_shelf.specs.MemFiles.{file_in};
-ghost use Rattle.fz_shelf.specs.declared.log.Answer.TheVariants.{Whole};
+ghost use Rattle.fz_shelf.specs.{Files.Holds, MemFiles.file_in, declared.log.Answer.TheVariants.Whole};
 ghost use Rattle.test_texts.specs.Parts.{text_of_parts};
 ghost use Rattle.test_program_calls.specs.Files.{IsInFile, file_with};
 

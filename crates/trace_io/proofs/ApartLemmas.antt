@@ -7,13 +7,11 @@ use Rattle.std.proofs.lemmas.List.{length-append}
 use Rattle.fz_num.specs.declared.dec.Dec.{Dec}
 use Rattle.fz_rows.specs.Laws.{FirstRowsAreOne}
 use Rattle.fz_rows.proofs.Algebra.{FailsFirst, at_element, cut_within, more_elements, one_first_failure}
-use Rattle.fuzzy_meaning.specs.Blocks.{IsWithin}
-use Rattle.fuzzy_meaning.specs.declared.block.Input.{Input}
+use Rattle.fuzzy_meaning.specs.{Blocks.IsWithin, declared.block.Input.Input}
 use Rattle.trace_io.specs.OneReading.{FirstFaultsAreOne, SpelledTracesHaveNoFault}
-use Rattle.trace_io.specs.Traces.{AreWithin, Fields, FirstFault, IsFirstOutside, RowFails, SpellSamples}
-use Rattle.trace_io.specs.Traces.{SpellsSample, at_row, miscounted, more, outside, unread}
-use Rattle.trace_io.specs.declared.sample.Sample.{Sample}
-use Rattle.trace_io.specs.declared.sample.TraceFault.{TraceFault}
+use Rattle.trace_io.specs.Traces.{AreWithin, Fields, FirstFault, IsFirstOutside, RowFails, SpellSamples, SpellsSample}
+use Rattle.trace_io.specs.Traces.{at_row, miscounted, more, outside, unread}
+use Rattle.trace_io.specs.declared.{sample.Sample.Sample, sample.TraceFault.TraceFault}
 use Rattle.trace_io.specs.declared.sample.TraceFault.TheVariants.{OutOfRange, TooMany}
 
 -- ---- a row that is spelled does not fail

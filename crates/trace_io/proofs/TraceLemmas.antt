@@ -6,16 +6,12 @@ use Rattle.std.specs.Prelude.{map, Option, Some, None, option_map, Result, Ok, E
 use Rattle.std.proofs.Math.Seq.{take-suc}
 use Rattle.std.proofs.lemmas.List.{length-map, length-take-le, map-append}
 use Rattle.csv.specs.Records.{Row, fields_of}
-use Rattle.fz_num.specs.declared.dec.Dec.{Dec}
-use Rattle.fz_num.specs.declared.dec.DecFault.{DecFault}
-use Rattle.fz_num.specs.Decimals.{decimal}
-use Rattle.fuzzy_meaning.specs.Blocks.{IsWithin}
-use Rattle.fuzzy_meaning.specs.declared.block.Input.{Input}
+use Rattle.fz_num.specs.{declared.dec.Dec.Dec, declared.dec.DecFault.DecFault, Decimals.decimal}
+use Rattle.fuzzy_meaning.specs.{Blocks.IsWithin, declared.block.Input.Input}
 use Rattle.byte_scaling.specs.Cells.{byte_of, bytes_of}
 use Rattle.trace_io.specs.Traces.{AreWithin, Fields, FirstFault, at_row, more, IsFirstOutside, RowFails, SpellSamples}
 use Rattle.trace_io.specs.Traces.{SpellsSample, decimals, with_decimal}
-use Rattle.trace_io.specs.declared.sample.Sample.{Sample}
-use Rattle.trace_io.specs.declared.sample.TraceFault.{TraceFault}
+use Rattle.trace_io.specs.declared.{sample.Sample.Sample, sample.TraceFault.TraceFault}
 use Rattle.trace_io.specs.declared.sample.TraceFault.TheVariants.{TooMany}
 
 take_more : {X : Type 0} (xs : List X) (i : ℕ) (d : X) → i < length xs

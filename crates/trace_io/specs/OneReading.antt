@@ -3,8 +3,7 @@
 use Rattle.std.specs.Prelude.{◌≡◌, ℕ, List}
 use Rattle.fuzzy_meaning.specs.declared.block.Input.{Input}
 use Rattle.trace_io.specs.Traces.{HasFault, Spells}
-use Rattle.trace_io.specs.declared.sample.Sample.{Sample}
-use Rattle.trace_io.specs.declared.sample.TraceFault.{TraceFault}
+use Rattle.trace_io.specs.declared.{sample.Sample.Sample, sample.TraceFault.TraceFault}
 
 -- A text that spells samples has no fault.
 abbrev pub SpelledTracesHaveNoFault : Type 0

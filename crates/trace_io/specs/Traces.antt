@@ -3,13 +3,10 @@
 use Rattle.std.specs.Prelude.{◌≡◌, ◌≢◌, ◌<◌, ◌+◌, ℕ, List, [], ◌∷◌, ◌++◌, length, Option, Some, None, option_map}
 use Rattle.std.specs.Prelude.{Result, Ok, Err}
 pub use Rattle.fz_rows.specs.FirstRows.{Fields, AreFirstRows}
-use Rattle.fz_num.specs.declared.dec.Dec.{Dec}
-use Rattle.fz_num.specs.Decimals.{decimal}
-use Rattle.fuzzy_meaning.specs.Blocks.{IsWithin}
-use Rattle.fuzzy_meaning.specs.declared.block.Input.{Input}
+use Rattle.fz_num.specs.{declared.dec.Dec.Dec, Decimals.decimal}
+use Rattle.fuzzy_meaning.specs.{Blocks.IsWithin, declared.block.Input.Input}
 use Rattle.byte_scaling.specs.Cells.{bytes_of}
-use Rattle.trace_io.specs.declared.sample.Sample.{Sample}
-use Rattle.trace_io.specs.declared.sample.TraceFault.{TraceFault}
+use Rattle.trace_io.specs.declared.{sample.Sample.Sample, sample.TraceFault.TraceFault}
 use Rattle.trace_io.specs.declared.sample.TraceFault.TheVariants.{TooMany, BadRow, OutOfRange}
 
 -- the decimals that fields spell, where each spells one

@@ -3,29 +3,19 @@ use Rattle.std.proofs.Common.{◌≡◌, ◌⊎◌, inl, inr, ℕ, ◌+◌, ◌*
 use Rattle.std.proofs.Common.{bit_and, refl, sym, ap, ◌∙◌, subst, arith}
 use Rattle.fuzzy_meaning.specs.declared.block.Block.{Block}
 use Rattle.cpu12_isa.proofs.Algebra.{bit_and_is}
-use Rattle.cpu12_isa.specs.declared.instr.Ccr.{Ccr}
-use Rattle.cpu12_isa.specs.declared.instr.Instr.TheVariants.{Andcc, Rti}
-use Rattle.cpu12_isa.specs.Agreement.{WritesStay}
-use Rattle.cpu12_isa.specs.Code.{decode_at, six_from, StandsAt}
-use Rattle.cpu12_isa.specs.Fits.{StaysFit}
-use Rattle.cpu12_isa.specs.Flags.{has, interrupts_masked, x_masked}
-use Rattle.cpu12_isa.specs.Memory.{plus}
-use Rattle.cpu12_parts.specs.State.{State}
-use Rattle.cpu12_parts.specs.Touching.{IsIn, Each}
-use Rattle.cpu12_parts.specs.Executions.{Execution}
-use Rattle.cpu12_parts.specs.Whole.{after_plain}
+use Rattle.cpu12_isa.specs.declared.{instr.Ccr.Ccr, instr.Instr.TheVariants.Andcc, instr.Instr.TheVariants.Rti}
+use Rattle.cpu12_isa.specs.{Agreement.WritesStay, Code.decode_at, Code.six_from, Code.StandsAt, Fits.StaysFit}
+use Rattle.cpu12_isa.specs.{Flags.has, Flags.interrupts_masked, Flags.x_masked, Memory.plus}
+use Rattle.cpu12_parts.specs.{State.State, Touching.IsIn, Touching.Each, Executions.Execution, Whole.after_plain}
 use Rattle.cpu12_emul.specs.Image.{image_memory}
-use Rattle.eval_code.specs.declared.width.Width.TheVariants.{Byte}
+use Rattle.eval_code.specs.{declared.width.Width.TheVariants.Byte, Placed.StandsBetween}
 use Rattle.eval_code.specs.Evaluation.{Writes, code_region, IsEvalStep, IsAtEval, IsEvaluated, EvalAnswers}
-use Rattle.eval_code.specs.Placed.{StandsBetween}
 use Rattle.two_level.specs.declared.two.Two.{Two}
-use Rattle.two_level.specs.MemoryMaps.{fast_front, fast_back, fast_map}
-use Rattle.two_level.specs.Images.{IsTwoOf}
+use Rattle.two_level.specs.{MemoryMaps.fast_front, MemoryMaps.fast_back, MemoryMaps.fast_map, Images.IsTwoOf}
 use Rattle.two_level.specs.Running.{HasFastRom, IsFastStack, fast_code, IsEntered, IsFastStep, IsFastAnswered}
 use Rattle.two_level.specs.Running.{FastAnswersEntered}
-use Rattle.two_level.proofs.Leaving.{leaves}
+use Rattle.two_level.proofs.{Leaving.leaves, Places.fast_apart, Places.AreAccepted}
 use Rattle.two_level.proofs.FastCode.{CodeLaws, standing, first_decoded}
-use Rattle.two_level.proofs.Places.{fast_apart, AreAccepted}
 
 -- the laws of lower crates
 pub record EnteringLaws : Type 0 where

@@ -1,15 +1,12 @@
 -- The fast code in a memory that has its ROM.
 use Rattle.std.proofs.Common.{◌≡◌, ℕ, Ok, List, [], arith}
 use Rattle.fuzzy_meaning.specs.declared.block.Block.{Block}
-use Rattle.cpu12_isa.specs.declared.instr.Instr.TheVariants.{Andcc}
-use Rattle.cpu12_isa.specs.Code.{decode_at, DecodesEncoded}
+use Rattle.cpu12_isa.specs.{declared.instr.Instr.TheVariants.Andcc, Code.decode_at, Code.DecodesEncoded}
 use Rattle.cpu12_emul.specs.Image.{image_memory}
 use Rattle.eval_code.specs.declared.width.Width.TheVariants.{Byte}
 use Rattle.eval_code.specs.Placed.{BlockRises, BlockStands, StandsBetween}
-use Rattle.two_level.specs.declared.two.Two.{Two}
+use Rattle.two_level.specs.{declared.two.Two.Two, Images.slow_items, Images.IsTwoOf, Running.HasFastRom}
 use Rattle.two_level.specs.MemoryMaps.{fast_front, fast_back, fast_map}
-use Rattle.two_level.specs.Images.{slow_items, IsTwoOf}
-use Rattle.two_level.specs.Running.{HasFastRom}
 use Rattle.two_level.proofs.Places.{fast_in_order, AreAccepted, two_rise}
 
 -- the laws of lower crates

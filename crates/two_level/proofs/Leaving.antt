@@ -1,13 +1,10 @@
 -- What an instruction leaves that writes at addresses of one kind.
 use Rattle.std.proofs.Common.{◌≡◌, inl, inr, ℕ, max, List, [], ◌∷◌, ◌++◌, get_or, set, refl, sym, ap, ◌∙◌, subst}
 use Rattle.std.proofs.Common.{get_or-set_other}
-use Rattle.cpu12_isa.specs.Agreement.{IsWritten, WritesStay}
-use Rattle.cpu12_isa.specs.Meaning.{effect}
-use Rattle.cpu12_parts.specs.State.{State}
-use Rattle.cpu12_parts.specs.Laws.{addresses}
+use Rattle.cpu12_isa.specs.{Agreement.IsWritten, Agreement.WritesStay, Meaning.effect}
+use Rattle.cpu12_parts.specs.{State.State, Laws.addresses, Touching.Each, Touching.IsInstructionOver}
 use Rattle.cpu12_parts.specs.Rules.{Rule, Form, rev_form, revw_form, named, raised, rules_target, strength, concluded}
 use Rattle.cpu12_parts.specs.Rules.{all_concluded}
-use Rattle.cpu12_parts.specs.Touching.{Each, IsInstructionOver}
 
 each_of_both : (P : ℕ → Type 0) (xs ys : List ℕ) → Each P (xs ++ ys) → Each P xs × Each P ys
 each_of_both P [] ys h = (tt, h)

@@ -1,16 +1,12 @@
 -- The items of both blocks stand one above the other.
 use Rattle.std.proofs.Common.{◌+◌, [], ◌∷◌, arith}
-use Rattle.fuzzy_meaning.specs.declared.block.Block.{Block}
-use Rattle.fuzzy_meaning.specs.Blocks.{IsValid}
+use Rattle.fuzzy_meaning.specs.{declared.block.Block.Block, Blocks.IsValid}
 use Rattle.rule_layout.specs.Layouts.{IsWithinLimits}
 use Rattle.cpu12_isa.specs.declared.instr.Instr.TheVariants.{Rts}
 use Rattle.cpu12_asm.specs.Items.{IsRisingFrom, IsRising}
 use Rattle.eval_code.specs.declared.width.Width.TheVariants.{Byte}
-use Rattle.eval_code.specs.MemoryMaps.{main_map}
-use Rattle.codegen.specs.Code.{frame_code}
-use Rattle.codegen.specs.Images.{vector_items}
-use Rattle.eval_code.specs.Items.{IsApart}
-use Rattle.eval_code.specs.Placed.{IsInOrder, BlockRises}
+use Rattle.eval_code.specs.{MemoryMaps.main_map, Items.IsApart, Placed.IsInOrder, Placed.BlockRises}
+use Rattle.codegen.specs.{Code.frame_code, Images.vector_items}
 use Rattle.two_level.specs.MemoryMaps.{fast_front, fast_back, fast_map, slow_map}
 use Rattle.two_level.specs.Images.{slow_items, two_items}
 

@@ -9,34 +9,22 @@ use Rattle.std.proofs.lemmas.Bool.Decides.{nat_tests}
 use Rattle.std.proofs.lemmas.List.{get_or_past}
 use Rattle.std.proofs.lemmas.List.Elements.{All-nil, All-cons, All-append}
 use Rattle.fuzzy_meaning.specs.declared.block.Block.{Block}
-use Rattle.cpu12_isa.specs.declared.instr.Instr.TheVariants.{Rts}
-use Rattle.cpu12_isa.specs.Agreement.{Agree}
-use Rattle.cpu12_isa.specs.Fits.{AreBytes}
-use Rattle.cpu12_isa.specs.Memory.{word_of}
+use Rattle.cpu12_isa.specs.{declared.instr.Instr.TheVariants.Rts, Agreement.Agree, Fits.AreBytes, Memory.word_of}
 use Rattle.cpu12_isa.specs.Regions.{is_free, vector, is_vector}
 use Rattle.cpu12_asm.proofs.Algebra.{or_else, byte_at-append}
-use Rattle.cpu12_asm.specs.declared.items.Item.{Item}
-use Rattle.cpu12_asm.specs.declared.items.Item.TheVariants.{Place}
-use Rattle.cpu12_asm.specs.Bytes.{byte_at}
-use Rattle.cpu12_asm.specs.Items.{given_by}
+use Rattle.cpu12_asm.specs.declared.{items.Item.Item, items.Item.TheVariants.Place}
+use Rattle.cpu12_asm.specs.{Bytes.byte_at, Items.given_by}
 use Rattle.cpu12_emul.specs.Image.{byte_or_zero, image_memory, HoldsImage}
-use Rattle.eval_code.specs.declared.memory_map.MemoryMap.{MemoryMap}
-use Rattle.eval_code.specs.declared.width.Width.TheVariants.{Byte}
-use Rattle.eval_code.specs.MemoryMaps.{main_map}
-use Rattle.eval_code.specs.Widths.{width_of}
-use Rattle.eval_code.specs.Code.{code_bytes}
-use Rattle.codegen.specs.Code.{frame_code}
-use Rattle.eval_code.specs.Items.{block_items}
-use Rattle.codegen.specs.Images.{vector_items, firmware_items}
-use Rattle.eval_code.specs.Evaluation.{HasAnswers, Reads, Writes}
-use Rattle.codegen.specs.Answers.{LeavesMapped, FirmwareAnswersBeside, FirmwareArrivesAlike}
+use Rattle.eval_code.specs.declared.{memory_map.MemoryMap.MemoryMap, width.Width.TheVariants.Byte}
+use Rattle.eval_code.specs.{MemoryMaps.main_map, Widths.width_of, Code.code_bytes, Items.block_items}
+use Rattle.eval_code.specs.{Evaluation.HasAnswers, Evaluation.Reads, Evaluation.Writes, Standing.ImageIsBytes}
 use Rattle.eval_code.specs.Placed.{BlockStaysInside, GivesBehind, GiveBytes, BlockGivesBytes}
-use Rattle.eval_code.specs.Standing.{ImageIsBytes}
-use Rattle.two_level.specs.declared.two.Two.{Two}
+use Rattle.codegen.specs.{Code.frame_code, Images.vector_items, Images.firmware_items}
+use Rattle.codegen.specs.Answers.{LeavesMapped, FirmwareAnswersBeside, FirmwareArrivesAlike}
+use Rattle.two_level.specs.{declared.two.Two.Two, Standing.TwoStandBeside}
 use Rattle.two_level.specs.MemoryMaps.{fast_front, fast_back, fast_map, slow_map, is_fast_ram, is_fast_rom}
 use Rattle.two_level.specs.MemoryMaps.{is_open_to_fast}
 use Rattle.two_level.specs.Images.{fast_items, slow_items, two_items, IsTwoOf}
-use Rattle.two_level.specs.Standing.{TwoStandBeside}
 use Rattle.two_level.proofs.FastCode.{CodeLaws, standing, first_decoded}
 use Rattle.two_level.proofs.Places.{fast_in_order, main_in_order, fast_apart, main_apart, AreAccepted}
 

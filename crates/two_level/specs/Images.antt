@@ -5,13 +5,9 @@ use Rattle.fuzzy_meaning.specs.declared.block.Block.{Block}
 use Rattle.cpu12_isa.specs.declared.instr.Instr.TheVariants.{Rts}
 use Rattle.cpu12_asm.specs.declared.items.Item.{Item}
 use Rattle.codegen.specs.declared.firmware.Firmware.{Firmware}
+use Rattle.codegen.specs.{Code.frame_code, Images.vector_items, Images.IsImageOf, Firmwares.IsFirmwareOf}
 use Rattle.eval_code.specs.declared.width.Width.TheVariants.{Byte}
-use Rattle.eval_code.specs.MemoryMaps.{main_map}
-use Rattle.codegen.specs.Code.{frame_code}
-use Rattle.eval_code.specs.Bounds.{instruction_bound, step_bound}
-use Rattle.eval_code.specs.Items.{block_items}
-use Rattle.codegen.specs.Images.{vector_items, IsImageOf}
-use Rattle.codegen.specs.Firmwares.{IsFirmwareOf}
+use Rattle.eval_code.specs.{MemoryMaps.main_map, Bounds.instruction_bound, Bounds.step_bound, Items.block_items}
 use Rattle.two_level.specs.declared.two.Two.{Two}
 use Rattle.two_level.specs.MemoryMaps.{fast_front, fast_back, fast_map, slow_map}
 

@@ -1,11 +1,9 @@
 -- Where a fast block stands beside the firmware of a slow one.
 -- Beside the promise.
 use Rattle.std.specs.Prelude.{ℕ, ◌+◌, ◌-◌, List, [], ◌∷◌, nat_le, nat_lt, ◌&&◌, ◌||◌, Bool}
-use Rattle.cpu12_isa.specs.declared.instr.Instr.{Instr}
-use Rattle.cpu12_isa.specs.declared.instr.Instr.TheVariants.{Andcc, Rti}
+use Rattle.cpu12_isa.specs.declared.{instr.Instr.Instr, instr.Instr.TheVariants.Andcc, instr.Instr.TheVariants.Rti}
 use Rattle.cpu12_isa.specs.Regions.{is_free, is_vector}
-use Rattle.eval_code.specs.declared.memory_map.MemoryMap.{MemoryMap}
-use Rattle.eval_code.specs.MemoryMaps.{main_map}
+use Rattle.eval_code.specs.{declared.memory_map.MemoryMap.MemoryMap, MemoryMaps.main_map}
 
 -- a place in ROM, and one in RAM, of a firmware that stands alone: where the fast block has it
 abbrev pub lowered : ℕ → ℕ

@@ -1,26 +1,19 @@
 -- The fast code from where an interrupt enters it up to its return.
 -- Beside the promise.
 use Rattle.std.specs.Prelude.{◌≡◌, ℕ, ◌+◌, ◌^◌, ◌<◌, ◌≤◌, ◌⊎◌, true, false, Ok, List, length, slice_index}
-use Rattle.fuzzy_meaning.specs.declared.block.Block.{Block}
-use Rattle.fuzzy_meaning.specs.Blocks.{IsValid}
-use Rattle.rule_layout.specs.Slots.{slots_of}
-use Rattle.rule_layout.specs.Layouts.{IsWithinLimits}
+use Rattle.fuzzy_meaning.specs.{declared.block.Block.Block, Blocks.IsValid}
+use Rattle.rule_layout.specs.{Slots.slots_of, Layouts.IsWithinLimits}
 use Rattle.cpu12_isa.specs.declared.instr.Instr.TheVariants.{Andcc, Rti}
-use Rattle.cpu12_isa.specs.Code.{decode_at, six_from}
+use Rattle.cpu12_isa.specs.{Code.decode_at, Code.six_from, Regions.stack_start, Regions.stack_end}
 use Rattle.cpu12_isa.specs.Flags.{has, interrupts_masked, x_masked}
-use Rattle.cpu12_isa.specs.Regions.{stack_start, stack_end}
-use Rattle.cpu12_parts.specs.State.{State}
+use Rattle.cpu12_parts.specs.{State.State, Executions.Execution, Executions.all_steps}
 use Rattle.cpu12_parts.specs.Touching.{IsIn, Each, IsInstructionOver, IsBetween}
-use Rattle.cpu12_parts.specs.Executions.{Execution, all_steps}
 use Rattle.cpu12_emul.specs.Image.{image_memory}
 use Rattle.eval_code.specs.declared.width.Width.TheVariants.{Byte}
-use Rattle.eval_code.specs.Widths.{answer}
-use Rattle.eval_code.specs.Bounds.{instruction_bound, step_bound}
-use Rattle.eval_code.specs.Firing.{AreInputBytes}
+use Rattle.eval_code.specs.{Widths.answer, Bounds.instruction_bound, Bounds.step_bound, Firing.AreInputBytes}
 use Rattle.eval_code.specs.Evaluation.{Reads, Writes, HasBytes, HasAnswers}
 use Rattle.two_level.specs.declared.two.Two.{Two}
-use Rattle.two_level.specs.MemoryMaps.{fast_map, fast_rom_end}
-use Rattle.two_level.specs.Images.{fast_most, IsTwoOf}
+use Rattle.two_level.specs.{MemoryMaps.fast_map, MemoryMaps.fast_rom_end, Images.fast_most, Images.IsTwoOf}
 
 -- the bytes of the fast block's ROM are an image's, and 0 where it has none
 abbrev pub HasFastRom : List ℕ → List ℕ → Type 0

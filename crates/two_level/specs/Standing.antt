@@ -1,20 +1,14 @@
 -- The slow firmware beside a fast block.
 -- Beside the promise.
 use Rattle.std.specs.Prelude.{◌≡◌, ℕ, ◌^◌, ◌<◌}
-use Rattle.fuzzy_meaning.specs.declared.block.Block.{Block}
-use Rattle.fuzzy_meaning.specs.Blocks.{IsValid}
+use Rattle.fuzzy_meaning.specs.{declared.block.Block.Block, Blocks.IsValid}
 use Rattle.rule_layout.specs.Layouts.{IsWithinLimits}
-use Rattle.cpu12_isa.specs.Agreement.{Agree}
-use Rattle.cpu12_isa.specs.Fits.{AreBytes}
-use Rattle.cpu12_isa.specs.Regions.{vector_word}
+use Rattle.cpu12_isa.specs.{Agreement.Agree, Fits.AreBytes, Regions.vector_word}
 use Rattle.cpu12_emul.specs.Image.{image_memory}
-use Rattle.eval_code.specs.declared.width.Width.TheVariants.{Byte}
-use Rattle.eval_code.specs.Evaluation.{HasAnswers}
+use Rattle.eval_code.specs.{declared.width.Width.TheVariants.Byte, Evaluation.HasAnswers}
 use Rattle.codegen.specs.Answers.{LeavesMapped, AnswersBeside, ArrivesAlike}
 use Rattle.two_level.specs.declared.two.Two.{Two}
-use Rattle.two_level.specs.MemoryMaps.{fast_map, is_open_to_fast}
-use Rattle.two_level.specs.Images.{IsTwoOf}
-use Rattle.two_level.specs.Running.{LetsIn}
+use Rattle.two_level.specs.{MemoryMaps.fast_map, MemoryMaps.is_open_to_fast, Images.IsTwoOf, Running.LetsIn}
 
 -- Memory from the image is one of bytes: an interrupt enters the fast code, which lets interrupts in at once and whose
 -- outputs are 0; and it is as the slow firmware's alone but for what is open to the fast block, which leaves the slow

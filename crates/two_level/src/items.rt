@@ -3,8 +3,7 @@ ghost use Rattle.std.specs.Prelude.{◌≡◌, IfOk};
 ghost use Rattle.fuzzy_meaning.specs.Blocks.{IsValid};
 ghost use Rattle.rule_layout.specs.Layouts.{flat_of, IsLaidOut, IsWithinLimits};
 ghost use Rattle.codegen.specs.Images.{IsImageOf};
-ghost use Rattle.two_level.specs.Images.{two_items};
-ghost use Rattle.two_level.specs.MemoryMaps.{fast_map, slow_map};
+ghost use Rattle.two_level.specs.{Images.two_items, MemoryMaps.fast_map, MemoryMaps.slow_map};
 
 use codegen::{frame_code, image_of, push_vectors};
 use cpu12_asm::{Image, Item};

@@ -1,7 +1,5 @@
 //! Laws of two blocks at two levels.
-ghost use Rattle.two_level.specs.Alike.{TwosAreOne};
-ghost use Rattle.two_level.specs.Images.{AloneHasByteBounds};
-ghost use Rattle.two_level.specs.Running.{FastAnswersEntered};
+ghost use Rattle.two_level.specs.{Alike.TwosAreOne, Images.AloneHasByteBounds, Running.FastAnswersEntered};
 ghost use Rattle.two_level.specs.Standing.{TwoStandBeside};
 
 use codegen::laws::{

@@ -1,10 +1,8 @@
 //! Two blocks at two levels.
 ghost use Rattle.std.specs.Prelude.{◌≡◌, IfOk, IfErr, OnOk};
 ghost use Rattle.fuzzy_meaning.specs.Blocks.{IsValid};
-ghost use Rattle.two_level.specs.Images.{IsTwoOf, fast_most};
-ghost use Rattle.two_level.specs.Faults.{AreWithinLimits, IsTwoFaultOf};
-ghost use Rattle.two_level.specs.Running.{AnswersEntered};
-ghost use Rattle.two_level.specs.Standing.{StandsBeside, SlowAnswersBeside};
+ghost use Rattle.two_level.specs.{Images.IsTwoOf, Images.fast_most, Faults.AreWithinLimits, Faults.IsTwoFaultOf};
+ghost use Rattle.two_level.specs.{Running.AnswersEntered, Standing.StandsBeside, Standing.SlowAnswersBeside};
 
 use crate::items::joint_image;
 use crate::laws::{fast_answers_entered, two_stand_beside};

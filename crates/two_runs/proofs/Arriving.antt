@@ -4,18 +4,12 @@ use Rattle.std.proofs.Common.{[], length, refl, arith}
 use Rattle.std.specs.Prelude.{Result}
 use Rattle.fuzzy_meaning.specs.declared.block.Block.{Block}
 use Rattle.cpu12_isa.specs.Fits.{AreBytes}
-use Rattle.cpu12_parts.specs.State.{State}
-use Rattle.cpu12_parts.specs.Fits.{FitsState}
-use Rattle.cpu12_emul.specs.Fits.{StepFits}
-use Rattle.cpu12_emul.specs.Image.{image_memory}
-use Rattle.cpu12_emul.specs.Step.{Next, next_of, reset_with}
+use Rattle.cpu12_parts.specs.{State.State, Fits.FitsState}
+use Rattle.cpu12_emul.specs.{Fits.StepFits, Image.image_memory, Step.Next, Step.next_of, Step.reset_with}
 use Rattle.run_forms.specs.Rows.{then_arrival, arrival}
 use Rattle.fz_run.specs.Answering.{FirstAlike}
-use Rattle.two_level.specs.declared.two.Two.{Two}
-use Rattle.two_level.specs.MemoryMaps.{is_open_to_fast}
-use Rattle.two_level.specs.Standing.{StandsBeside}
-use Rattle.two_runs.specs.Rows.{first_two}
-use Rattle.two_runs.specs.Levels.{FastStands}
+use Rattle.two_level.specs.{declared.two.Two.Two, MemoryMaps.is_open_to_fast, Standing.StandsBeside}
+use Rattle.two_runs.specs.{Rows.first_two, Levels.FastStands}
 use Rattle.two_runs.proofs.Standing.{code_stays, outputs_stay}
 
 -- steps on the way leave what fits

@@ -3,23 +3,14 @@ use Rattle.std.proofs.Common.{◌≡◌, ℕ, ◌≤◌, Bool, Ok, List, [], ◌
 use Rattle.std.proofs.Common.{inr}
 use Rattle.std.specs.Prelude.{slice_index}
 use Rattle.cpu12_isa.specs.declared.instr.Instr.{Instr}
-use Rattle.cpu12_isa.specs.Act.{outcome, read_by, write_all}
-use Rattle.cpu12_isa.specs.Agreement.{AllShown, WritesStay}
-use Rattle.cpu12_isa.specs.Code.{decode_of, decode_at, six_from}
-use Rattle.cpu12_isa.specs.Fits.{FitsRegs, AreBytes}
-use Rattle.cpu12_isa.specs.Flags.{interrupts_masked, has}
-use Rattle.cpu12_isa.specs.Memory.{bytes_at}
-use Rattle.cpu12_isa.specs.Regions.{is_hidden}
+use Rattle.cpu12_isa.specs.{Act.outcome, Act.read_by, Act.write_all, Agreement.AllShown, Agreement.WritesStay}
+use Rattle.cpu12_isa.specs.{Code.decode_of, Code.decode_at, Code.six_from, Fits.FitsRegs, Fits.AreBytes}
+use Rattle.cpu12_isa.specs.{Flags.interrupts_masked, Flags.has, Memory.bytes_at, Regions.is_hidden}
 use Rattle.cpu12_parts.specs.declared.temps.Temps.{Temps}
 use Rattle.cpu12_parts.specs.declared.temps.Temps.TheVariants.{Free, Running, OnStack}
-use Rattle.cpu12_parts.specs.State.{State}
-use Rattle.cpu12_parts.specs.Fits.{FitsTemps}
-use Rattle.cpu12_parts.specs.Laws.{IsOff, addresses}
-use Rattle.cpu12_parts.specs.Touching.{IsIn, Each}
-use Rattle.cpu12_emul.specs.Simulation.{AreSumsReady}
-use Rattle.cpu12_emul.specs.Step.{Left, step_act}
-use Rattle.two_level.specs.MemoryMaps.{fast_map}
-use Rattle.two_level.specs.Running.{HasFastRom, IsFastStack, fast_code}
+use Rattle.cpu12_parts.specs.{State.State, Fits.FitsTemps, Laws.IsOff, Laws.addresses, Touching.IsIn, Touching.Each}
+use Rattle.cpu12_emul.specs.{Simulation.AreSumsReady, Step.Left, Step.step_act}
+use Rattle.two_level.specs.{MemoryMaps.fast_map, Running.HasFastRom, Running.IsFastStack, Running.fast_code}
 use Rattle.two_runs.specs.Steps.{is_open_inside, is_foreign, is_kept, IsFastState}
 use Rattle.two_runs.proofs.Owned.{all_shown, hides_more, not_written, rom_kept}
 

@@ -1,22 +1,13 @@
 -- Under interrupts memory stays one of bytes.
 use Rattle.std.proofs.Common.{◌≡◌, ℕ, ◌^◌, ◌<◌, Bool, List, [], ◌∷◌, refl, ap, sym, subst, inl, inr, arith}
-use Rattle.cpu12_isa.specs.declared.instr.Regs.{Regs}
+use Rattle.cpu12_isa.specs.{declared.instr.Regs.Regs, Memory.plus, Memory.placed, Registers.frame_bytes}
 use Rattle.cpu12_isa.specs.Fits.{FitsRegs, FitsWrites, AreBytes, BytesStay}
-use Rattle.cpu12_isa.specs.Memory.{plus, placed}
-use Rattle.cpu12_isa.specs.Registers.{frame_bytes}
-use Rattle.cpu12_parts.specs.declared.temps.Temps.{Temps}
+use Rattle.cpu12_parts.specs.{declared.temps.Temps.Temps, State.State, Sums.sum_bytes, Cuts.suspended, Cuts.wav}
 use Rattle.cpu12_parts.specs.declared.temps.Temps.TheVariants.{Free, Running, OnStack}
-use Rattle.cpu12_parts.specs.State.{State}
-use Rattle.cpu12_parts.specs.Sums.{sum_bytes}
-use Rattle.cpu12_parts.specs.Cuts.{suspended, wav}
-use Rattle.cpu12_parts.specs.Fits.{FitsTemps, FitsState}
-use Rattle.cpu12_parts.specs.Inside.{PushesRunning, PushesNone}
-use Rattle.cpu12_emul.specs.Fits.{StepFits}
+use Rattle.cpu12_parts.specs.{Fits.FitsTemps, Fits.FitsState, Inside.PushesRunning, Inside.PushesNone}
+use Rattle.cpu12_emul.specs.{Fits.StepFits, Step.Next, Take.framed}
 use Rattle.cpu12_emul.specs.Simulation.{OnStackOrNone, Simulates, AreSumsReady, HasRoom, IsShownStep, StepKeeps}
-use Rattle.cpu12_emul.specs.Step.{Next}
-use Rattle.cpu12_emul.specs.Take.{framed}
-use Rattle.run_law.specs.Uninterrupted.{stepped, state_by}
-use Rattle.run_law.specs.Soundness.{Begins, SumsFitBelow}
+use Rattle.run_law.specs.{Uninterrupted.stepped, Uninterrupted.state_by, Soundness.Begins, Soundness.SumsFitBelow}
 use Rattle.two_runs.proofs.Beginnings.{off_fits}
 
 -- the laws of lower crates

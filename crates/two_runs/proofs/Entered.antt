@@ -1,13 +1,10 @@
 -- A state from which the fast code is entered.
 use Rattle.std.proofs.Common.{ℕ, List, refl, inl, arith}
 use Rattle.fuzzy_meaning.specs.declared.block.Block.{Block}
-use Rattle.cpu12_parts.specs.declared.temps.Temps.TheVariants.{Free}
-use Rattle.cpu12_parts.specs.State.{State}
+use Rattle.cpu12_parts.specs.{declared.temps.Temps.TheVariants.Free, State.State}
 use Rattle.cpu12_emul.specs.Image.{image_memory, HoldsImage}
-use Rattle.two_level.specs.declared.two.Two.{Two}
-use Rattle.two_level.specs.Standing.{StandsBeside, TwoStandBeside}
-use Rattle.two_runs.specs.Entered.{FastIsEntered}
-use Rattle.two_runs.specs.Outer.{CanEnter, OuterEnters}
+use Rattle.two_level.specs.{declared.two.Two.Two, Standing.StandsBeside, Standing.TwoStandBeside}
+use Rattle.two_runs.specs.{Entered.FastIsEntered, Outer.CanEnter, Outer.OuterEnters}
 
 -- the image's memory, with SP at the stack's end
 beginning : List ℕ → State

@@ -2,20 +2,13 @@
 use Rattle.std.proofs.Common.{◌≡◌, ℕ, suc, ◌+◌, ◌*◌, ◌-◌, ◌^◌, ◌<◌, ◌≤◌, true, List, length, bit_or, ap₂, sym, ◌∙◌}
 use Rattle.std.proofs.Common.{subst, inl, inr, arith}
 use Rattle.std.specs.Prelude.{All, slice_index, [], ◌∷◌}
-use Rattle.cpu12_isa.specs.declared.instr.Ccr.{Ccr}
-use Rattle.cpu12_isa.specs.Agreement.{WritesStay}
-use Rattle.cpu12_isa.specs.Code.{six_from}
-use Rattle.cpu12_isa.specs.Fits.{FitsRegs, AreBytes, BytesStay}
-use Rattle.cpu12_isa.specs.Flags.{has, interrupts_masked}
-use Rattle.cpu12_isa.specs.Memory.{plus, placed, word_of}
-use Rattle.cpu12_isa.specs.Registers.{frame_bytes}
+use Rattle.cpu12_isa.specs.{declared.instr.Ccr.Ccr, Agreement.WritesStay, Code.six_from}
+use Rattle.cpu12_isa.specs.{Fits.FitsRegs, Fits.AreBytes, Fits.BytesStay, Flags.has, Flags.interrupts_masked}
+use Rattle.cpu12_isa.specs.{Memory.plus, Memory.placed, Memory.word_of, Registers.frame_bytes}
 use Rattle.cpu12_isa.proofs.Algebra.{bit_or_is, fits_put}
-use Rattle.cpu12_parts.specs.State.{State}
-use Rattle.cpu12_parts.specs.Touching.{IsIn, Each}
-use Rattle.two_level.specs.MemoryMaps.{fast_map}
-use Rattle.two_level.specs.Running.{fast_code}
-use Rattle.two_runs.specs.Runs.{entered}
-use Rattle.two_runs.specs.Outer.{HasFastCode, OuterEnters}
+use Rattle.cpu12_parts.specs.{State.State, Touching.IsIn, Touching.Each}
+use Rattle.two_level.specs.{MemoryMaps.fast_map, Running.fast_code}
+use Rattle.two_runs.specs.{Runs.entered, Outer.HasFastCode, Outer.OuterEnters}
 use Rattle.two_runs.proofs.Bytes.{AllBytes, all_none, all_more, placed_fits, frame_fits}
 use Rattle.two_runs.proofs.Pushing.{framed_mem, entered_mem, stays, size_stays, sample_read}
 

@@ -1,7 +1,6 @@
 -- The fast code has a run from wherever it is entered.
 use Rattle.cpu12_emul.specs.Image.{image_memory}
-use Rattle.two_level.specs.Running.{FastAnswersEntered}
-use Rattle.two_level.specs.Standing.{TwoStandBeside}
+use Rattle.two_level.specs.{Running.FastAnswersEntered, Standing.TwoStandBeside}
 use Rattle.two_runs.specs.Steps.{FastStepsReturn, FastRunsExist}
 
 pub fast_runs_exist : TwoStandBeside → FastAnswersEntered → FastStepsReturn → FastRunsExist

@@ -12,12 +12,9 @@ use Rattle.trace_io.specs.declared.sample.Sample.{Sample}
 use Rattle.fz_run.specs.Rows.{input_bytes}
 use Rattle.two_level.specs.MemoryMaps.{fast_map}
 use Rattle.arrayvec.specs.ArrayVec.{ArrayVec}
-use Rattle.run_forms.specs.declared.sample.Tally.{Tally}
-use Rattle.run_forms.specs.Rest.{Brief, brief, counted_at}
-use Rattle.two_runs.specs.declared.fast_code.InnerFrame.{InnerFrame}
-use Rattle.two_runs.specs.Runs.{FastSeen, fast_run, seen_of}
-use Rattle.two_runs.specs.InnerNotes.{inner_frames_seen, inner_notes}
-use Rattle.two_runs.specs.Rows.{sample_of}
+use Rattle.run_forms.specs.{declared.sample.Tally.Tally, Rest.Brief, Rest.brief, Rest.counted_at}
+use Rattle.two_runs.specs.{declared.fast_code.InnerFrame.InnerFrame, Runs.FastSeen, Runs.fast_run, Runs.seen_of}
+use Rattle.two_runs.specs.{InnerNotes.inner_frames_seen, InnerNotes.inner_notes, Rows.sample_of}
 
 -- what is seen of a run of which this was counted
 abbrev pub seen : ℕ → List ℕ → Tally (ArrayVec InnerFrame) → FastSeen

@@ -6,22 +6,17 @@ use Rattle.std.proofs.lemmas.List.Elements.{All-cons}
 use Rattle.fuzzy_meaning.specs.declared.block.Block.{Block}
 use Rattle.cpu12_parts.specs.State.{State}
 use Rattle.run_law.specs.Forms.{Form, RowSeen, rows_from}
-use Rattle.run_law.specs.Following.{onto, all_onto, EachTold}
-use Rattle.run_law.specs.Uninterrupted.{uninterrupted}
+use Rattle.run_law.specs.{Following.onto, Following.all_onto, Following.EachTold, Uninterrupted.uninterrupted}
 use Rattle.interrupt_plan.specs.declared.levels.Level.{Level}
-use Rattle.eval_code.specs.declared.width.Width.TheVariants.{Byte}
-use Rattle.eval_code.specs.Bounds.{step_bound}
+use Rattle.eval_code.specs.{declared.width.Width.TheVariants.Byte, Bounds.step_bound}
 use Rattle.codegen.specs.Uninterrupted.{AreAnswersOf}
-use Rattle.two_level.specs.declared.two.Two.{Two}
-use Rattle.two_level.specs.Images.{fast_most}
+use Rattle.two_level.specs.{declared.two.Two.Two, Images.fast_most}
 use Rattle.run_forms.specs.Rows.{shown_rows}
 use Rattle.firmware_ports.specs.Ports.{given}
 use Rattle.fz_run.specs.Rows.{bytes_of}
-use Rattle.two_runs.specs.Runs.{FastSeen}
-use Rattle.two_runs.specs.Rows.{with_fast}
+use Rattle.two_runs.specs.{Runs.FastSeen, Rows.with_fast, Levels.IsAnswerTold, Levels.AreAnswersTold}
 use Rattle.two_runs.specs.Answering.{runs_told, fast_runs, answer_of_fast, outputs_told, outputs_after, IsReadOff}
 use Rattle.two_runs.specs.Answering.{IsTold, IsToldFrom, AreTold}
-use Rattle.two_runs.specs.Levels.{IsAnswerTold, AreAnswersTold}
 
 -- those of all samples
 abbrev pub runs_in : List (List (Level × Option FastSeen)) → List FastSeen

@@ -4,15 +4,12 @@ use Rattle.std.proofs.Common.{◌∷◌, ◌++◌, map, length, refl, ap, ap₂,
 use Rattle.std.specs.Prelude.{◌&&◌, nat_le, All, take}
 use Rattle.std.proofs.lemmas.List.{take_all}
 use Rattle.fuzzy_meaning.specs.declared.block.Block.{Block}
-use Rattle.cpu12_isa.specs.Fits.{FitsWrites, AreBytes, BytesStay}
-use Rattle.cpu12_isa.specs.Memory.{placed}
+use Rattle.cpu12_isa.specs.{Fits.FitsWrites, Fits.AreBytes, Fits.BytesStay, Memory.placed}
 use Rattle.cpu12_parts.specs.State.{State}
-use Rattle.cpu12_emul.specs.Step.{next_of}
-use Rattle.cpu12_emul.specs.Take.{frame_of, may_interrupt}
+use Rattle.cpu12_emul.specs.{Step.next_of, Take.frame_of, Take.may_interrupt}
 use Rattle.run_law.specs.Forms.{Form, Taking, put_take, takes, taken, told, Ran, ended, then_rest, run_from, Rows}
 use Rattle.run_law.specs.Forms.{row_of, put_row, rows_from}
-use Rattle.eval_code.specs.declared.memory_map.MemoryMap.{MemoryMap}
-use Rattle.eval_code.specs.Firing.{AreInputBytes}
+use Rattle.eval_code.specs.{declared.memory_map.MemoryMap.MemoryMap, Firing.AreInputBytes}
 use Rattle.firmware_ports.specs.Ports.{given}
 use Rattle.two_runs.specs.Levels.{fitted}
 use Rattle.two_runs.proofs.Bytes.{AllBytes, all_none, all_more, placed_fits}

@@ -2,21 +2,17 @@
 use Rattle.std.proofs.Common.{◌≡◌, ℕ, zero, suc, ◌+◌, ◌-◌, ◌^◌, ◌<◌, ◌≤◌, max, nat_lt, Bool, true, false, if◌then◌else◌}
 use Rattle.std.proofs.Common.{List, [], ◌∷◌, length, refl, ap, ap₂, sym, subst, ◌∙◌, arith}
 use Rattle.std.proofs.lemmas.Bool.Decides.{nat_tests}
-use Rattle.cpu12_isa.specs.declared.instr.Regs.{Regs}
-use Rattle.cpu12_isa.specs.Agreement.{Agree, WritesAgree}
-use Rattle.cpu12_isa.specs.Memory.{plus, from, bytes_at}
-use Rattle.cpu12_isa.specs.Regions.{is_hidden, LeavesStack}
+use Rattle.cpu12_isa.specs.{declared.instr.Regs.Regs, Agreement.Agree, Agreement.WritesAgree}
+use Rattle.cpu12_isa.specs.{Memory.plus, Memory.from, Memory.bytes_at, Regions.is_hidden, Regions.LeavesStack}
 use Rattle.std.specs.Prelude.{None}
 use Rattle.cpu12_parts.specs.State.{State}
-use Rattle.cpu12_emul.specs.Simulation.{OnStackOnly, Same}
-use Rattle.cpu12_emul.specs.Take.{may_interrupt}
+use Rattle.cpu12_emul.specs.{Simulation.OnStackOnly, Simulation.Same, Take.may_interrupt}
 use Rattle.run_law.specs.Uninterrupted.{uninterrupted, first_open, taken_at}
 use Rattle.run_law.specs.Soundness.{Before, Sound, WritesAreQuiet, AllGood, Ascend}
 use Rattle.run_law.specs.Following.{RunFollows, Completes, Follows}
 use Rattle.run_law.proofs.Algebra.{before_more}
 use Rattle.two_level.specs.MemoryMaps.{fast_map}
-use Rattle.two_runs.specs.Runs.{fast_form, fast_run}
-use Rattle.two_runs.specs.Steps.{is_open_inside, IsFastState}
+use Rattle.two_runs.specs.{Runs.fast_form, Runs.fast_run, Steps.is_open_inside, Steps.IsFastState}
 use Rattle.two_runs.specs.Inside.{AnyMoment, HoldsBytes, Inside, FollowsInside, FastRunsFollow, AreOnStack, AreBelow}
 use Rattle.two_runs.proofs.Frames.{HasFrameRoom, frames_fit, frames_below}
 use Rattle.two_runs.proofs.Bytes.{BytesLaws, step_bytes, push_bytes, begins_fits, take_bytes}

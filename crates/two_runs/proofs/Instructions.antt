@@ -1,35 +1,24 @@
 -- Whole instructions of the fast code are stretches of its steps.
 use Rattle.std.proofs.Common.{◌≡◌, ℕ, suc, ◌+◌, ◌-◌, ◌^◌, ◌<◌, Bool, false, Result, Ok, List, [], ◌∷◌, length, refl, ap}
 use Rattle.std.proofs.Common.{sym, ◌∙◌, subst, inl, inr, arith}
-use Rattle.cpu12_isa.specs.declared.instr.Instr.{Instr}
-use Rattle.cpu12_isa.specs.declared.instr.Instr.TheVariants.{Rev, Revw}
-use Rattle.cpu12_isa.specs.Act.{read_by}
-use Rattle.cpu12_isa.specs.Agreement.{AllShown}
-use Rattle.cpu12_isa.specs.Code.{six_from}
-use Rattle.cpu12_isa.specs.Flags.{interrupts_masked, has}
+use Rattle.cpu12_isa.specs.declared.{instr.Instr.Instr, instr.Instr.TheVariants.Rev, instr.Instr.TheVariants.Revw}
+use Rattle.cpu12_isa.specs.{Act.read_by, Agreement.AllShown, Code.six_from, Flags.interrupts_masked, Flags.has}
 use Rattle.cpu12_isa.specs.Meaning.{Effect, act_of, effect}
 use Rattle.cpu12_isa.proofs.Algebra.{shown_append}
-use Rattle.cpu12_parts.specs.declared.temps.Temps.TheVariants.{Free}
-use Rattle.cpu12_parts.specs.State.{State}
-use Rattle.cpu12_parts.specs.Cuts.{rev, revw, wav}
-use Rattle.cpu12_parts.specs.Executions.{Execution, all_steps}
-use Rattle.cpu12_parts.specs.Laws.{IsOff, addresses, PartsTo}
-use Rattle.cpu12_parts.specs.Averages.{wav_read}
+use Rattle.cpu12_parts.specs.{declared.temps.Temps.TheVariants.Free, State.State, Cuts.rev, Cuts.revw, Cuts.wav}
+use Rattle.cpu12_parts.specs.{Executions.Execution, Executions.all_steps, Laws.IsOff, Laws.addresses, Laws.PartsTo}
+use Rattle.cpu12_parts.specs.{Averages.wav_read, Touching.IsInstructionOver, Touching.IsPlainOver, Whole.IsPlainStep}
 use Rattle.cpu12_parts.specs.Rules.{rev_form, revw_form, rules_read, rules_written}
-use Rattle.cpu12_parts.specs.Touching.{IsInstructionOver, IsPlainOver}
-use Rattle.cpu12_parts.specs.Whole.{IsPlainStep}
 use Rattle.cpu12_emul.specs.declared.ends.Stepped.TheVariants.{Plain}
 use Rattle.cpu12_emul.specs.Step.{Left, Next, applied, next_of}
 use Rattle.eval_code.specs.Evaluation.{Reads, Writes}
-use Rattle.two_level.specs.MemoryMaps.{fast_map}
-use Rattle.two_level.specs.Running.{IsFastStack, IsInFast, IsFastStep}
+use Rattle.two_level.specs.{MemoryMaps.fast_map, Running.IsFastStack, Running.IsInFast, Running.IsFastStep}
 use Rattle.two_runs.specs.Steps.{is_foreign, is_kept}
 use Rattle.two_runs.proofs.Owned.{reads_own, writes_own, code_own}
+use Rattle.two_runs.proofs.Beginnings.{Begins, Kept, kept, off_ready}
+use Rattle.two_runs.proofs.{RuleParts.parts_at, SumParts.average_at}
 use Rattle.run_law.specs.Steps.{StepLaws}
 use Rattle.run_law.proofs.Algebra.{Stretch, no_stretch, joined, one_stretch}
-use Rattle.two_runs.proofs.Beginnings.{Begins, Kept, kept, off_ready}
-use Rattle.two_runs.proofs.RuleParts.{parts_at}
-use Rattle.two_runs.proofs.SumParts.{average_at}
 
 -- a state before an instruction of the fast code
 pub begins : (image : List ℕ) (masked : Bool) (sp : ℕ) (s : State) → IsInFast image s → s.regs.sp ≡ sp

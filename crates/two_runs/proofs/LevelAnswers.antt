@@ -2,39 +2,28 @@
 use Rattle.std.proofs.Common.{◌≡◌, ℕ, ◌≤◌, List, [], map, length, ap, sym, ◌∙◌, subst}
 use Rattle.std.specs.Prelude.{All, Option}
 use Rattle.cpu12_parts.specs.State.{State}
-use Rattle.cpu12_emul.specs.Image.{image_memory}
-use Rattle.cpu12_emul.specs.Simulation.{OnStackOrNone}
-use Rattle.run_law.specs.Forms.{RowSeen, Rows}
+use Rattle.cpu12_emul.specs.{Image.image_memory, Simulation.OnStackOrNone}
+use Rattle.run_law.specs.{Forms.RowSeen, Forms.Rows, Moments.TakenAtOnce}
 use Rattle.run_law.specs.Following.{all_onto, AllFollow, RunsFollow}
-use Rattle.run_law.specs.Moments.{TakenAtOnce}
-use Rattle.interrupt_plan.specs.declared.levels.Level.{Level}
-use Rattle.interrupt_plan.specs.Levels.{IsGoodLevel}
-use Rattle.eval_code.specs.declared.width.Width.TheVariants.{Byte}
-use Rattle.eval_code.specs.Bounds.{step_bound}
+use Rattle.interrupt_plan.specs.{declared.levels.Level.Level, Levels.IsGoodLevel}
+use Rattle.eval_code.specs.{declared.width.Width.TheVariants.Byte, Bounds.step_bound}
 use Rattle.codegen.specs.Firmwares.{IsFirmwareOf}
-use Rattle.two_level.specs.Images.{fast_most}
-use Rattle.two_level.specs.MemoryMaps.{is_open_to_fast}
+use Rattle.two_level.specs.{Images.fast_most, MemoryMaps.is_open_to_fast}
 use Rattle.two_level.specs.Standing.{StandsBeside, TwoStandBeside}
-use Rattle.fz_run.specs.Rows.{first_state, firmware_rows}
-use Rattle.instruction_steps.specs.Facts.{FactsBeside, FactsAlone}
-use Rattle.fz_run.specs.Following.{rows_of_samples}
-use Rattle.fz_run.specs.Given.{RequestsAreGood}
+use Rattle.fz_run.specs.{Rows.first_state, Rows.firmware_rows, Following.rows_of_samples, Given.RequestsAreGood}
 use Rattle.fz_run.specs.Answering.{AnswerBlock, AnswersUnder, AnswersUnderPlans, RunsBeside, FirmwareRunsBeside}
 use Rattle.fz_run.specs.Answering.{FirstAlike, FirstStatesAlike, FirstStatesAgree}
+use Rattle.instruction_steps.specs.Facts.{FactsBeside, FactsAlone}
 use Rattle.run_forms.proofs.Algebra.{all_onto_all}
-use Rattle.two_runs.specs.Runs.{FastSeen}
-use Rattle.two_runs.specs.Inside.{AreOnStack}
+use Rattle.two_runs.specs.{Runs.FastSeen, Inside.AreOnStack, Levels.Levels, Levels.fitted_form, Levels.FastStands}
 use Rattle.two_runs.specs.Rows.{levels_of, level_form, first_two, two_rows}
 use Rattle.two_runs.specs.Answering.{plan_of, fast_runs_of, AreTold, taken_by, AnswersUnderLevels}
-use Rattle.two_runs.specs.Levels.{Levels, fitted_form, FastStands}
-use Rattle.two_runs.proofs.Arriving.{first_stands}
+use Rattle.two_runs.proofs.{Arriving.first_stands, LevelPlans.plan_good, LevelPlans.levels_are_good}
 use Rattle.two_runs.proofs.FastRuns.{Answer, runs_in, runs_are, all_answers, all_told, few_steps}
 use Rattle.two_runs.proofs.Fitting.{AreFitted, all_fitted, rows_fitted}
-use Rattle.two_runs.proofs.LevelPlans.{plan_good, levels_are_good}
 use Rattle.two_runs.proofs.LevelRows.{SlowFacts, complete, same_numbers, same_rows, same_taken, on_stack}
 use Rattle.two_runs.proofs.LevelServing.{LevelLaws, Given, bounds, few_outputs}
-use Rattle.two_runs.proofs.LevelSound.{level_sound}
-use Rattle.two_runs.proofs.LevelTelling.{steps_are, rows_told}
+use Rattle.two_runs.proofs.{LevelSound.level_sound, LevelTelling.steps_are, LevelTelling.rows_told}
 
 -- the laws of lower crates, and the law on runs
 pub record AnswerLaws : Type 0 where

@@ -6,19 +6,15 @@ use Rattle.std.proofs.lemmas.List.{length-map}
 use Rattle.std.proofs.lemmas.List.Elements.{All-cons}
 use Rattle.cpu12_parts.specs.State.{State}
 use Rattle.cpu12_emul.specs.Take.{FrameSeen}
-use Rattle.run_law.specs.Forms.{one_if}
-use Rattle.run_law.specs.Uninterrupted.{uninterrupted, is_inside, has_moment, taken_before, resumed_of, expected_frame}
-use Rattle.run_law.specs.Uninterrupted.{is_new, frames_after, frames_of}
-use Rattle.run_law.specs.Soundness.{AllGood, Ascend}
-use Rattle.interrupt_plan.specs.declared.Request.{Request}
-use Rattle.interrupt_plan.specs.declared.levels.Level.{Level}
+use Rattle.run_law.specs.{Forms.one_if, Soundness.AllGood, Soundness.Ascend}
+use Rattle.run_law.specs.Uninterrupted.{uninterrupted, is_inside, has_moment, taken_before, resumed_of}
+use Rattle.run_law.specs.Uninterrupted.{expected_frame, is_new, frames_after, frames_of}
+use Rattle.interrupt_plan.specs.declared.{Request.Request, levels.Level.Level}
 use Rattle.interrupt_plan.specs.Levels.{IsGoodLevel, LevelNotAfter, AreGoodLevels}
 use Rattle.interrupt_plan.specs.Plans as plans
 use Rattle.interrupt_plan.specs.Plans.{IsGoodRequest, IsGood}
-use Rattle.fz_run.specs.Rows.{requests_of}
-use Rattle.fz_run.specs.Given.{RequestsAreGood}
-use Rattle.two_runs.specs.Rows.{levels_of}
-use Rattle.two_runs.specs.Answering.{request_of, plan_of}
+use Rattle.fz_run.specs.{Rows.requests_of, Given.RequestsAreGood}
+use Rattle.two_runs.specs.{Rows.levels_of, Answering.request_of, Answering.plan_of}
 
 -- those of a list that pass a test
 filter_each : {A B : Type 0} (p : B → Bool) (g : A → B) (xs : List A)

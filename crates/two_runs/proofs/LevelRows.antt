@@ -5,27 +5,18 @@ use Rattle.std.specs.Prelude.{All, None}
 use Rattle.std.proofs.lemmas.List.Elements.{All-cons}
 use Rattle.cpu12_parts.specs.State.{State}
 use Rattle.cpu12_emul.specs.Take.{FrameSeen, may_interrupt}
-use Rattle.run_law.specs.Forms.{RowSeen}
+use Rattle.run_law.specs.{Forms.RowSeen, Soundness.Before, Moments.TakenAtOnce}
 use Rattle.run_law.specs.Uninterrupted.{uninterrupted, counted, taken_at, taken_before, resumed_of, frames_of}
-use Rattle.run_law.specs.Soundness.{Before}
 use Rattle.run_law.specs.Following.{Completes, AllComplete, expected_row, expected_rows, expected_taken}
-use Rattle.run_law.specs.Moments.{TakenAtOnce}
-use Rattle.interrupt_plan.specs.declared.Request.{Request}
-use Rattle.interrupt_plan.specs.declared.levels.Level.{Level}
+use Rattle.interrupt_plan.specs.declared.{Request.Request, levels.Level.Level}
 use Rattle.codegen.specs.declared.firmware.Firmware.{Firmware}
-use Rattle.two_level.specs.declared.two.Two.{Two}
-use Rattle.two_level.specs.MemoryMaps.{is_open_to_fast}
+use Rattle.two_level.specs.{declared.two.Two.Two, MemoryMaps.is_open_to_fast}
 use Rattle.firmware_ports.specs.Ports.{given, answers_in}
-use Rattle.fz_run.specs.Forms.{with_writes}
-use Rattle.fz_run.specs.Rows.{requests_of}
+use Rattle.fz_run.specs.{Forms.with_writes, Rows.requests_of, Following.rows_of_samples}
 use Rattle.instruction_steps.specs.Facts.{IsStackOfOneCall, FactsBeside}
-use Rattle.fz_run.specs.Following.{rows_of_samples}
-use Rattle.two_runs.specs.Inside.{AreOnStack}
-use Rattle.two_runs.specs.Rows.{levels_of}
+use Rattle.two_runs.specs.{Inside.AreOnStack, Rows.levels_of, Levels.fitted, Levels.fitted_form}
 use Rattle.two_runs.specs.Answering.{request_of, plan_of, taken_by}
-use Rattle.two_runs.specs.Levels.{fitted, fitted_form}
-use Rattle.two_runs.proofs.Fitting.{AreFitted}
-use Rattle.two_runs.proofs.Frames.{HasFrameRoom, frames_fit}
+use Rattle.two_runs.proofs.{Fitting.AreFitted, Frames.HasFrameRoom, Frames.frames_fit}
 use Rattle.two_runs.proofs.LevelPlans.{requests_are, resumed_each, frames_of_each}
 
 -- the facts before each step of the slow firmware

@@ -5,44 +5,30 @@ use Rattle.std.specs.Prelude.{Option, None, Some, All, slice_get, slice_index_or
 use Rattle.std.specs.List.Sorted.{IsNonDecreasing}
 use Rattle.std.proofs.lemmas.Bool.Decides.{nat_tests}
 use Rattle.std.proofs.lemmas.List.Elements.{All-cons}
-use Rattle.fuzzy_meaning.specs.declared.block.Block.{Block}
-use Rattle.fuzzy_meaning.specs.Blocks.{IsValid}
+use Rattle.fuzzy_meaning.specs.{declared.block.Block.Block, Blocks.IsValid}
 use Rattle.rule_layout.specs.Layouts.{IsWithinLimits}
 use Rattle.cpu12_isa.specs.declared.instr.Regs.{Regs}
-use Rattle.cpu12_isa.specs.Agreement.{Agree}
-use Rattle.cpu12_isa.specs.Memory.{word_of}
-use Rattle.cpu12_isa.specs.Regions.{is_hidden, LeavesStack}
-use Rattle.cpu12_parts.specs.declared.temps.Temps.{Temps}
+use Rattle.cpu12_isa.specs.{Agreement.Agree, Memory.word_of, Regions.is_hidden, Regions.LeavesStack}
+use Rattle.cpu12_parts.specs.{declared.temps.Temps.Temps, State.State}
 use Rattle.cpu12_parts.specs.declared.temps.Temps.TheVariants.{Free, Running, OnStack}
-use Rattle.cpu12_parts.specs.State.{State}
-use Rattle.cpu12_emul.specs.Image.{image_memory}
+use Rattle.cpu12_emul.specs.{Image.image_memory, Take.framed}
 use Rattle.cpu12_emul.specs.Simulation.{OnStackOrNone, HasRoom, TakesQuietly}
-use Rattle.cpu12_emul.specs.Take.{framed}
-use Rattle.run_law.specs.Forms.{Ran}
-use Rattle.run_law.specs.Uninterrupted.{counted}
+use Rattle.run_law.specs.{Forms.Ran, Uninterrupted.counted}
 use Rattle.run_law.specs.Soundness.{below_sums, FitBelow, Begins, Quiet, Ascend}
-use Rattle.interrupt_plan.specs.declared.levels.Level.{Level}
-use Rattle.interrupt_plan.specs.Levels.{IsGoodLevel}
+use Rattle.interrupt_plan.specs.{declared.levels.Level.Level, Levels.IsGoodLevel}
 use Rattle.eval_code.specs.Firing.{AreInputBytes}
-use Rattle.two_level.specs.declared.two.Two.{Two}
+use Rattle.two_level.specs.{declared.two.Two.Two, MemoryMaps.is_fast_ram, MemoryMaps.is_open_to_fast}
 use Rattle.two_level.specs.Images.{fast_most, AloneHasByteBounds, HasByteBounds, IsTwoOf}
-use Rattle.two_level.specs.MemoryMaps.{is_fast_ram, is_open_to_fast}
 use Rattle.instruction_steps.specs.Facts.{AreNoneOrRunning, IsStackOfOneCall, FactsBeside}
-use Rattle.fz_run.specs.OpenBytes.{StepsLeaveOpen, GivenLeavesOpen}
-use Rattle.fz_run.specs.Rows.{bytes_of}
+use Rattle.fz_run.specs.{OpenBytes.StepsLeaveOpen, OpenBytes.GivenLeavesOpen, Rows.bytes_of}
 use Rattle.two_runs.specs.Runs.{Outer, FastSeen, entered, fast_run, seen_of, served, told, served_by, told_by}
-use Rattle.two_runs.specs.Steps.{is_open_inside}
-use Rattle.two_runs.specs.Inside.{FollowsInside, FastRunsFollow}
+use Rattle.two_runs.specs.{Steps.is_open_inside, Inside.FollowsInside, Inside.FastRunsFollow}
 use Rattle.two_runs.specs.Outer.{HasFastCode, OuterEnters, CanEnter, IsQuietRun, OuterIsQuiet, RunsFast, IsServable}
 use Rattle.two_runs.specs.Outer.{OuterIsServable, AreSlow, OuterServes}
-use Rattle.two_runs.specs.Rows.{sample_of, outer_of}
+use Rattle.two_runs.specs.{Rows.sample_of, Rows.outer_of, Levels.FastStands}
 use Rattle.two_runs.specs.Answering.{outputs_after, IsReadOff, IsTold}
-use Rattle.two_runs.specs.Levels.{FastStands}
-use Rattle.two_runs.proofs.Bytes.{BytesLaws, begins_fits, take_bytes}
-use Rattle.two_runs.proofs.Entering.{bytes_stay}
-use Rattle.two_runs.proofs.Serving.{open_apart}
-use Rattle.two_runs.proofs.Standing.{stands}
-use Rattle.two_runs.proofs.Telling.{answers_told, read_off}
+use Rattle.two_runs.proofs.{Bytes.BytesLaws, Bytes.begins_fits, Bytes.take_bytes, Entering.bytes_stay}
+use Rattle.two_runs.proofs.{Serving.open_apart, Standing.stands, Telling.answers_told, Telling.read_off}
 
 -- the laws on which levels stand
 pub record LevelLaws : Type 0 where

@@ -1,31 +1,22 @@
 -- A slow firmware whose interrupts serve levels is a sound form.
 use Rattle.std.proofs.Common.{◌≡◌, ℕ, ◌+◌, ◌*◌, ◌<◌, ◌≤◌, Bool, false, Option, List, length, ap, sym, ◌∙◌, subst, inl}
 use Rattle.std.proofs.Common.{arith}
-use Rattle.cpu12_isa.specs.Agreement.{WritesAgree}
-use Rattle.cpu12_isa.specs.Fits.{AreBytes}
-use Rattle.cpu12_parts.specs.State.{State}
-use Rattle.cpu12_parts.specs.Cuts.{suspended, wav}
+use Rattle.cpu12_isa.specs.{Agreement.WritesAgree, Fits.AreBytes}
+use Rattle.cpu12_parts.specs.{State.State, Cuts.suspended, Cuts.wav}
 use Rattle.cpu12_emul.specs.Simulation.{OnStackOrNone, Simulates}
-use Rattle.run_law.specs.Uninterrupted.{stepped}
-use Rattle.run_law.specs.Soundness.{Sound, WritesAreQuiet}
-use Rattle.interrupt_plan.specs.declared.levels.Level.{Level}
-use Rattle.interrupt_plan.specs.Levels.{IsGoodLevel}
-use Rattle.eval_code.specs.declared.memory_map.MemoryMap.{MemoryMap}
+use Rattle.run_law.specs.{Uninterrupted.stepped, Soundness.Sound, Soundness.WritesAreQuiet}
+use Rattle.interrupt_plan.specs.{declared.levels.Level.Level, Levels.IsGoodLevel}
+use Rattle.eval_code.specs.{declared.memory_map.MemoryMap.MemoryMap, MemoryMaps.main_map}
 use Rattle.codegen.specs.Answers.{LeavesMapped}
-use Rattle.eval_code.specs.MemoryMaps.{main_map}
 use Rattle.two_level.specs.MemoryMaps.{is_open_to_fast}
 use Rattle.firmware_ports.specs.Ports.{given, answer_size}
 use Rattle.instruction_steps.specs.Facts.{FactsBeside}
-use Rattle.fz_run.specs.Following.{IsLow}
-use Rattle.fz_run.specs.OpenBytes.{AreOpenAlike, StepLeavesOpen}
+use Rattle.fz_run.specs.{Following.IsLow, OpenBytes.AreOpenAlike, OpenBytes.StepLeavesOpen}
 use Rattle.fz_run.specs.SoundAloneProof.{LeavesPorts, given_alike, answered_alike, ended_alike}
-use Rattle.two_runs.specs.Runs.{FastSeen}
-use Rattle.two_runs.specs.Levels.{fitted, fitted_form, FastStands}
-use Rattle.two_runs.proofs.Bytes.{step_bytes, push_bytes}
-use Rattle.two_runs.proofs.Fitting.{fitted_few, given_bytes}
+use Rattle.two_runs.specs.{Runs.FastSeen, Levels.fitted, Levels.fitted_form, Levels.FastStands}
+use Rattle.two_runs.proofs.{Bytes.step_bytes, Bytes.push_bytes, Fitting.fitted_few, Fitting.given_bytes}
 use Rattle.two_runs.proofs.LevelServing.{LevelLaws, Given, few_outputs, serves}
-use Rattle.two_runs.proofs.Serving.{open_apart}
-use Rattle.two_runs.proofs.Standing.{stands}
+use Rattle.two_runs.proofs.{Serving.open_apart, Standing.stands}
 
 -- the slow firmware's memory map is the one that stands alone, and it answers bytes
 map_is : (x : Given) → x.two.slow.memory_map ≡ main_map

@@ -2,25 +2,17 @@
 use Rattle.std.proofs.Common.{◌≡◌, ℕ, suc, List, [], ◌∷◌, length, map, refl, ap, sym, subst, arith}
 use Rattle.std.specs.Prelude.{All, Option}
 use Rattle.cpu12_parts.specs.State.{State}
-use Rattle.run_law.specs.Forms.{RowSeen}
+use Rattle.run_law.specs.{Forms.RowSeen, Soundness.Before, Moments.TakenAtOnce}
 use Rattle.run_law.specs.Uninterrupted.{uninterrupted, taken_at}
-use Rattle.run_law.specs.Soundness.{Before}
 use Rattle.run_law.specs.Following.{onto, AllComplete, IsToldIn, IsToldAt, EachTold, RowsTold}
-use Rattle.run_law.specs.Moments.{TakenAtOnce}
-use Rattle.interrupt_plan.specs.declared.Request.{Request}
-use Rattle.interrupt_plan.specs.declared.levels.Level.{Level}
-use Rattle.interrupt_plan.specs.Levels.{IsGoodLevel}
-use Rattle.two_level.specs.declared.two.Two.{Two}
-use Rattle.two_level.specs.MemoryMaps.{is_open_to_fast}
+use Rattle.interrupt_plan.specs.{declared.Request.Request, declared.levels.Level.Level, Levels.IsGoodLevel}
+use Rattle.two_level.specs.{declared.two.Two.Two, MemoryMaps.is_open_to_fast}
 use Rattle.firmware_ports.specs.Ports.{given}
-use Rattle.fz_run.specs.Following.{rows_of_samples}
-use Rattle.fz_run.specs.Forms.{with_writes}
-use Rattle.two_runs.specs.Runs.{FastSeen}
+use Rattle.fz_run.specs.{Following.rows_of_samples, Forms.with_writes}
+use Rattle.two_runs.specs.{Runs.FastSeen, Levels.fitted, Levels.fitted_form, Levels.FastStands}
 use Rattle.two_runs.specs.Answering.{outputs_after, IsTold, IsToldFrom, AreTold}
-use Rattle.two_runs.specs.Levels.{fitted, fitted_form, FastStands}
-use Rattle.two_runs.proofs.Fitting.{AreFitted}
+use Rattle.two_runs.proofs.{Fitting.AreFitted, LevelServing.Given, LevelServing.tells}
 use Rattle.two_runs.proofs.LevelRows.{SlowFacts, given_is, moments_are}
-use Rattle.two_runs.proofs.LevelServing.{Given, tells}
 
 -- the numbers of steps of the rows
 pub steps_are : (flags : ℕ) (two : Two) (plan : List Request) (k : ℕ) (ns : List ℕ) (samples : List (List ℕ))

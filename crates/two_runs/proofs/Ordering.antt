@@ -1,11 +1,8 @@
 -- The samples of good levels do not fall.
 use Rattle.std.proofs.Common.{ℕ, ◌≤◌, List, [], ◌∷◌, inl, inr, arith}
-use Rattle.interrupt_plan.specs.declared.levels.Level.{Level}
-use Rattle.interrupt_plan.specs.Levels.{LevelNotAfter}
-use Rattle.interrupt_plan.specs.Plans.{Ascend}
+use Rattle.interrupt_plan.specs.{declared.levels.Level.Level, Levels.LevelNotAfter, Plans.Ascend}
 use Rattle.run_forms.specs.Slices.{Follow}
-use Rattle.two_runs.specs.Rows.{place_of_level}
-use Rattle.two_runs.specs.Order.{LevelsAreInOrder}
+use Rattle.two_runs.specs.{Rows.place_of_level, Order.LevelsAreInOrder}
 
 sample_le : (a b : Level) → LevelNotAfter a b → a.sample ≤ b.sample
 sample_le a b (inl less) = omega arith

@@ -2,14 +2,10 @@
 use Rattle.std.proofs.Common.{◌≡◌, ℕ, zero, suc, ◌+◌, ◌≤◌, ◌<◌, nat_le, nat_lt, ◌&&◌, Bool, true, false, List, [], ◌∷◌}
 use Rattle.std.proofs.Common.{refl, ap, ◌∙◌, arith, inl, inr}
 use Rattle.std.proofs.lemmas.Bool.Decides.{nat_tests}
-use Rattle.cpu12_isa.specs.Agreement.{AllShown, IsWritten}
-use Rattle.cpu12_isa.specs.Memory.{plus, from}
-use Rattle.cpu12_isa.specs.Regions.{is_hidden}
-use Rattle.cpu12_parts.specs.Laws.{addresses}
-use Rattle.cpu12_parts.specs.Touching.{IsIn, Each}
+use Rattle.cpu12_isa.specs.{Agreement.AllShown, Agreement.IsWritten, Memory.plus, Memory.from, Regions.is_hidden}
+use Rattle.cpu12_parts.specs.{Laws.addresses, Touching.IsIn, Touching.Each}
 use Rattle.eval_code.specs.Evaluation.{Reads, Writes}
-use Rattle.two_level.specs.MemoryMaps.{fast_map, is_fast_ram, is_fast_rom}
-use Rattle.two_level.specs.Running.{fast_code}
+use Rattle.two_level.specs.{MemoryMaps.fast_map, MemoryMaps.is_fast_ram, MemoryMaps.is_fast_rom, Running.fast_code}
 use Rattle.two_runs.specs.Steps.{is_open_inside, is_foreign, is_kept}
 
 -- a byte of the RAM, of the ROM, and of the frame

@@ -2,11 +2,8 @@
 use Rattle.std.proofs.Common.{◌≡◌, ℕ, ◌^◌, ◌<◌, bit_or, List, ap, ap₂, arith}
 use Rattle.std.specs.Prelude.{slice_index}
 use Rattle.std.proofs.lemmas.Nat.{and_le_l}
-use Rattle.cpu12_isa.specs.declared.instr.Ccr.{Ccr}
-use Rattle.cpu12_isa.specs.declared.instr.Regs.{Regs}
-use Rattle.cpu12_isa.specs.Flags.{pulled_flags}
-use Rattle.cpu12_isa.specs.Memory.{plus, word_of}
-use Rattle.cpu12_isa.specs.Registers.{pulled, frame_bytes}
+use Rattle.cpu12_isa.specs.declared.{instr.Ccr.Ccr, instr.Regs.Regs}
+use Rattle.cpu12_isa.specs.{Flags.pulled_flags, Memory.plus, Memory.word_of, Registers.pulled, Registers.frame_bytes}
 use Rattle.cpu12_isa.proofs.Algebra.{bit, bit_or_is, bit_and_is, same_ccr}
 
 -- they hang on the bytes, on SP and on the flags

@@ -3,11 +3,9 @@ use Rattle.std.proofs.Common.{◌≡◌, ◌⊎◌, ℕ, ◌+◌, ◌%◌, ◌^�
 use Rattle.std.proofs.Common.{arith, get_or-set_same}
 use Rattle.std.specs.Prelude.{slice_index}
 use Rattle.std.proofs.lemmas.List.{length-set}
-use Rattle.cpu12_isa.specs.Act.{write_all}
-use Rattle.cpu12_isa.specs.Agreement.{IsWritten, WritesStay}
+use Rattle.cpu12_isa.specs.{Act.write_all, Agreement.IsWritten, Agreement.WritesStay, Registers.frame_bytes}
 use Rattle.cpu12_isa.specs.Memory.{plus, from, placed, bytes_at}
 use Rattle.cpu12_isa.proofs.Algebra.{read_placed, bytes_unwritten}
-use Rattle.cpu12_isa.specs.Registers.{frame_bytes}
 use Rattle.cpu12_parts.specs.State.{State}
 use Rattle.eval_code.specs.Evaluation.{HasBytes}
 use Rattle.two_level.specs.MemoryMaps.{fast_map}

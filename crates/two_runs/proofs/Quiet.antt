@@ -5,27 +5,18 @@ use Rattle.std.specs.Prelude.{slice_index}
 use Rattle.std.proofs.lemmas.Bool.{or_parts, cases_lt}
 use Rattle.std.proofs.lemmas.Bool.Decides.{nat_tests}
 use Rattle.fuzzy_meaning.specs.declared.block.Block.{Block}
-use Rattle.cpu12_isa.specs.declared.instr.Ccr.{Ccr}
-use Rattle.cpu12_isa.specs.declared.instr.Regs.{Regs}
-use Rattle.cpu12_isa.specs.Agreement.{WritesStay}
-use Rattle.cpu12_isa.specs.Fits.{BytesStay}
-use Rattle.cpu12_isa.specs.Flags.{put, interrupts_masked}
-use Rattle.cpu12_isa.specs.Interrupts.{FrameComesBack}
+use Rattle.cpu12_isa.specs.declared.{instr.Ccr.Ccr, instr.Regs.Regs}
+use Rattle.cpu12_isa.specs.{Agreement.WritesStay, Fits.BytesStay, Flags.put, Flags.interrupts_masked}
+use Rattle.cpu12_isa.specs.{Interrupts.FrameComesBack, Regions.is_hidden, Registers.pulled, Registers.frame_bytes}
 use Rattle.cpu12_isa.specs.Memory.{plus, from, bytes_at}
-use Rattle.cpu12_isa.specs.Regions.{is_hidden}
-use Rattle.cpu12_isa.specs.Registers.{pulled, frame_bytes}
 use Rattle.cpu12_isa.proofs.Algebra.{bit}
-use Rattle.cpu12_parts.specs.State.{State}
-use Rattle.cpu12_parts.specs.Laws.{IsOff}
+use Rattle.cpu12_parts.specs.{State.State, Laws.IsOff}
 use Rattle.cpu12_emul.specs.Simulation.{Same}
 use Rattle.two_level.specs.MemoryMaps.{fast_map, is_fast_ram}
-use Rattle.two_runs.specs.Runs.{entered, fast_run}
-use Rattle.two_runs.specs.Steps.{is_open_inside}
-use Rattle.two_runs.specs.Inside.{FollowsInside, FastRunsFollow}
-use Rattle.two_runs.specs.Outer.{CanEnter, OuterIsQuiet}
-use Rattle.two_runs.proofs.Entering.{bytes_stay}
+use Rattle.two_runs.specs.{Runs.entered, Runs.fast_run, Steps.is_open_inside}
+use Rattle.two_runs.specs.{Inside.FollowsInside, Inside.FastRunsFollow, Outer.CanEnter, Outer.OuterIsQuiet}
+use Rattle.two_runs.proofs.{Entering.bytes_stay, Pulling.pulled_alike}
 use Rattle.two_runs.proofs.Pushing.{entered_mem, stays, size_stays, frame_read}
-use Rattle.two_runs.proofs.Pulling.{pulled_alike}
 
 -- the laws on which it stands
 pub record QuietLaws : Type 0 where

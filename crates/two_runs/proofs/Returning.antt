@@ -2,24 +2,16 @@
 use Rattle.std.proofs.Common.{◌≡◌, ℕ, zero, suc, ◌+◌, ◌^◌, ◌<◌, ◌≤◌, not, Bool, true, false, Result, Ok, List, [], ◌∷◌}
 use Rattle.std.proofs.Common.{length, refl, ap, ap₂, sym, ◌∙◌, subst, inl, inr, arith}
 use Rattle.std.specs.Prelude.{slice_index}
-use Rattle.cpu12_isa.specs.declared.instr.Instr.{Instr}
+use Rattle.cpu12_isa.specs.{declared.instr.Instr.Instr, Act.read_by, Agreement.AllShown, Agreement.WritesStay}
 use Rattle.cpu12_isa.specs.declared.instr.Instr.TheVariants.{Andcc, Rti, Rev, Revw, Wav}
-use Rattle.cpu12_isa.specs.Act.{read_by}
-use Rattle.cpu12_isa.specs.Agreement.{AllShown, WritesStay}
-use Rattle.cpu12_isa.specs.Code.{decode_at, six_from}
-use Rattle.cpu12_isa.specs.Flags.{interrupts_masked, has}
-use Rattle.cpu12_isa.specs.Meaning.{Effect, act_of, effect}
-use Rattle.cpu12_isa.specs.Memory.{plus, from, bytes_at}
+use Rattle.cpu12_isa.specs.{Code.decode_at, Code.six_from, Flags.interrupts_masked, Flags.has}
+use Rattle.cpu12_isa.specs.{Meaning.Effect, Meaning.act_of, Meaning.effect, Memory.plus, Memory.from, Memory.bytes_at}
 use Rattle.cpu12_isa.proofs.Algebra.{shown_append}
-use Rattle.cpu12_parts.specs.State.{State}
-use Rattle.cpu12_parts.specs.Executions.{Execution, all_steps}
+use Rattle.cpu12_parts.specs.{State.State, Executions.Execution, Executions.all_steps, Whole.after_plain}
 use Rattle.cpu12_parts.specs.Touching.{IsIn, Each, IsInstructionOver}
-use Rattle.cpu12_parts.specs.Whole.{after_plain}
-use Rattle.cpu12_emul.specs.declared.ends.Stepped.TheVariants.{Plain}
-use Rattle.cpu12_emul.specs.Step.{Left, applied, next_of}
+use Rattle.cpu12_emul.specs.{declared.ends.Stepped.TheVariants.Plain, Step.Left, Step.applied, Step.next_of}
 use Rattle.run_law.specs.Uninterrupted.{stepped, state_by, uninterrupted, counted}
-use Rattle.run_law.specs.Soundness.{Before}
-use Rattle.run_law.specs.Steps.{StepLaws}
+use Rattle.run_law.specs.{Soundness.Before, Steps.StepLaws}
 use Rattle.run_law.proofs.Algebra.{before_more, Stretch, joined, one_stretch}
 use Rattle.fuzzy_meaning.specs.declared.block.Block.{Block}
 use Rattle.eval_code.specs.Evaluation.{Reads, Writes}

@@ -1,26 +1,19 @@
 -- The parts of REV and REVW are steps of the fast code.
 use Rattle.std.proofs.Common.{◌≡◌, ℕ, zero, suc, ◌^◌, ◌<◌, Bool, Result, Ok, List, refl, ap, sym, ◌∙◌, subst, arith}
 use Rattle.cpu12_isa.specs.declared.instr.Instr.{Instr}
-use Rattle.cpu12_isa.specs.Act.{read_by, write_all}
-use Rattle.cpu12_isa.specs.Agreement.{AllShown}
-use Rattle.cpu12_isa.specs.Code.{decode_at, six_from}
+use Rattle.cpu12_isa.specs.{Act.read_by, Act.write_all, Agreement.AllShown, Code.decode_at, Code.six_from}
 use Rattle.cpu12_isa.proofs.Algebra.{shown_append}
-use Rattle.cpu12_parts.specs.declared.temps.PartEnd.{PartEnd}
-use Rattle.cpu12_parts.specs.declared.temps.PartEnd.TheVariants.{More}
-use Rattle.cpu12_parts.specs.State.{State, Outcome}
-use Rattle.cpu12_parts.specs.Cuts.{Kind, part_of, after_part}
-use Rattle.cpu12_parts.specs.Fits.{FitsOutcome}
-use Rattle.cpu12_parts.specs.Laws.{IsOff, addresses, PartsTo}
-use Rattle.cpu12_parts.specs.Touching.{IsIn, Each}
-use Rattle.cpu12_emul.specs.Simulation.{left_of}
+use Rattle.cpu12_parts.specs.declared.{temps.PartEnd.PartEnd, temps.PartEnd.TheVariants.More}
+use Rattle.cpu12_parts.specs.{State.State, State.Outcome, Cuts.Kind, Cuts.part_of, Cuts.after_part, Fits.FitsOutcome}
+use Rattle.cpu12_parts.specs.{Laws.IsOff, Laws.addresses, Laws.PartsTo, Touching.IsIn, Touching.Each}
+use Rattle.cpu12_emul.specs.{Simulation.left_of, Step.Left, Step.Next, Step.kind_of, Step.applied, Step.next_of}
 use Rattle.cpu12_emul.specs.declared.ends.Stepped.TheVariants.{LastPart}
-use Rattle.cpu12_emul.specs.Step.{Left, Next, kind_of, applied, next_of}
 use Rattle.two_level.specs.Running.{fast_code}
 use Rattle.two_runs.specs.Steps.{is_foreign, is_kept}
 use Rattle.two_runs.proofs.Owned.{code_own}
+use Rattle.two_runs.proofs.Beginnings.{Begins, Kept, kept, off_ready, off_fits, same_decode, rom_stays}
 use Rattle.run_law.specs.Steps.{WriteLaws, RuleLaws}
 use Rattle.run_law.proofs.Algebra.{Stretch, one_stretch, part_stretch}
-use Rattle.two_runs.proofs.Beginnings.{Begins, Kept, kept, off_ready, off_fits, same_decode, rom_stays}
 
 kinded : Kind → ℕ → State → PartEnd → Result Next ℕ
 kinded k flags s e = Ok (record { state = after_part k flags s; kind = kind_of e })

@@ -1,11 +1,9 @@
 -- Each sample of the fast of two blocks has a run from where its code can be entered.
 use Rattle.std.proofs.Common.{◌≡◌, suc, ◌≤◌, sym, subst, arith}
-use Rattle.eval_code.specs.declared.width.Width.TheVariants.{Byte}
-use Rattle.eval_code.specs.Bounds.{step_bound}
+use Rattle.eval_code.specs.{declared.width.Width.TheVariants.Byte, Bounds.step_bound}
 use Rattle.cpu12_emul.specs.Image.{image_memory}
 use Rattle.two_level.specs.Images.{fast_most, AloneHasByteBounds}
-use Rattle.two_runs.specs.Runs.{entered}
-use Rattle.two_runs.specs.Steps.{IsFastRun, FastRunsExist}
+use Rattle.two_runs.specs.{Runs.entered, Steps.IsFastRun, Steps.FastRunsExist}
 use Rattle.two_runs.specs.Outer.{OuterEnters, OuterIsServable}
 
 pub outer_is_servable : OuterEnters → FastRunsExist → AloneHasByteBounds → OuterIsServable

@@ -5,9 +5,8 @@ use Rattle.std.proofs.lemmas.Bool.{or_parts, cases_lt}
 use Rattle.std.proofs.lemmas.Bool.Decides.{nat_tests}
 use Rattle.cpu12_isa.specs.Agreement.{Agree}
 use Rattle.cpu12_isa.specs.Regions.{is_free, is_vector, is_hidden, LeavesStack}
-use Rattle.cpu12_parts.specs.declared.temps.Temps.{Temps}
+use Rattle.cpu12_parts.specs.{declared.temps.Temps.Temps, Laws.IsOff}
 use Rattle.cpu12_parts.specs.declared.temps.Temps.TheVariants.{Free, Running, OnStack}
-use Rattle.cpu12_parts.specs.Laws.{IsOff}
 use Rattle.cpu12_emul.specs.Simulation.{OnStackOrNone}
 use Rattle.run_law.specs.Soundness.{WritesAreQuiet, Quiet, AreLeft}
 use Rattle.two_level.specs.MemoryMaps.{is_fast_ram, is_fast_rom, is_open_to_fast}

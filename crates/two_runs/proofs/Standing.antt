@@ -2,21 +2,15 @@
 use Rattle.std.proofs.Common.{◌≡◌, ℕ, ◌+◌, ◌-◌, ◌*◌, ◌<◌, ◌≤◌, true, false, Option, List, length, refl, ap₂, ◌∙◌, arith}
 use Rattle.std.proofs.lemmas.Bool.Decides.{nat_tests}
 use Rattle.fuzzy_meaning.specs.declared.block.Block.{Block}
-use Rattle.cpu12_isa.specs.Fits.{AreBytes}
-use Rattle.cpu12_isa.specs.Memory.{word_of}
-use Rattle.cpu12_isa.specs.Regions.{is_free}
+use Rattle.cpu12_isa.specs.{Fits.AreBytes, Memory.word_of, Regions.is_free}
 use Rattle.cpu12_parts.specs.State.{State}
 use Rattle.cpu12_emul.specs.Image.{image_memory}
-use Rattle.eval_code.specs.declared.width.Width.TheVariants.{Byte}
-use Rattle.eval_code.specs.Evaluation.{HasAnswers}
+use Rattle.eval_code.specs.{declared.width.Width.TheVariants.Byte, Evaluation.HasAnswers}
 use Rattle.interrupt_plan.specs.declared.levels.Level.{Level}
 use Rattle.two_level.specs.declared.two.Two.{Two}
 use Rattle.two_level.specs.MemoryMaps.{fast_map, is_fast_ram, is_fast_rom, is_open_to_fast}
 use Rattle.fz_run.specs.OpenBytes.{AreOpenAlike}
-use Rattle.two_runs.specs.Runs.{FastSeen}
-use Rattle.two_runs.specs.Outer.{HasFastCode}
-use Rattle.two_runs.specs.Levels.{FastStands}
-use Rattle.two_runs.specs.Answering.{outputs_after}
+use Rattle.two_runs.specs.{Runs.FastSeen, Outer.HasFastCode, Levels.FastStands, Answering.outputs_after}
 
 -- the fast block's ROM and RAM are open
 pub rom_open : (at : ℕ) → 0x4000 ≤ at → at < 0x7F00 → is_open_to_fast at ≡ true

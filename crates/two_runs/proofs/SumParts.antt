@@ -2,32 +2,23 @@
 use Rattle.std.proofs.Common.{◌≡◌, ℕ, zero, suc, ◌^◌, ◌<◌, Bool, false, Result, Ok, List, ◌++◌, length, refl, ap, ap₂}
 use Rattle.std.proofs.Common.{sym, ◌∙◌, subst, inl, inr, arith}
 use Rattle.std.specs.Prelude.{slice_index}
-use Rattle.cpu12_isa.specs.declared.instr.Instr.TheVariants.{Wav}
-use Rattle.cpu12_isa.specs.Act.{outcome, read_by, write_all}
-use Rattle.cpu12_isa.specs.Agreement.{AllShown}
-use Rattle.cpu12_isa.specs.Code.{decode_at, six_from, DecodedHasOpcode}
-use Rattle.cpu12_isa.specs.Fits.{AreBytes}
-use Rattle.cpu12_isa.specs.Memory.{plus, bytes_at}
-use Rattle.cpu12_isa.specs.Regions.{is_hidden}
+use Rattle.cpu12_isa.specs.{declared.instr.Instr.TheVariants.Wav, Act.outcome, Act.read_by, Act.write_all}
+use Rattle.cpu12_isa.specs.{Agreement.AllShown, Code.decode_at, Code.six_from, Code.DecodedHasOpcode, Fits.AreBytes}
+use Rattle.cpu12_isa.specs.{Memory.plus, Memory.bytes_at, Regions.is_hidden}
 use Rattle.cpu12_isa.proofs.Algebra.{shown_append}
-use Rattle.cpu12_parts.specs.declared.temps.Temps.{Temps}
-use Rattle.cpu12_parts.specs.declared.temps.Temps.TheVariants.{Running}
-use Rattle.cpu12_parts.specs.declared.temps.PartEnd.{PartEnd}
+use Rattle.cpu12_parts.specs.declared.{temps.Temps.Temps, temps.Temps.TheVariants.Running, temps.PartEnd.PartEnd}
 use Rattle.cpu12_parts.specs.declared.temps.PartEnd.TheVariants.{More}
-use Rattle.cpu12_parts.specs.State.{State, Outcome}
+use Rattle.cpu12_parts.specs.{State.State, State.Outcome, Fits.FitsTemps, Fits.FitsOutcome, Inside.second_byte}
 use Rattle.cpu12_parts.specs.Cuts.{wav, part_of, after_part}
-use Rattle.cpu12_parts.specs.Fits.{FitsTemps, FitsOutcome}
-use Rattle.cpu12_parts.specs.Inside.{second_byte}
 use Rattle.cpu12_parts.specs.Laws.{IsOff, addresses, PartsTo}
-use Rattle.cpu12_emul.specs.Simulation.{AreSumsReady, left_of}
-use Rattle.cpu12_emul.specs.declared.ends.Stepped.TheVariants.{LastPart}
+use Rattle.cpu12_emul.specs.{Simulation.AreSumsReady, Simulation.left_of, declared.ends.Stepped.TheVariants.LastPart}
 use Rattle.cpu12_emul.specs.Step.{Left, Next, kind_of, step_act, applied, next_of}
 use Rattle.two_level.specs.Running.{HasFastRom}
 use Rattle.two_runs.specs.Steps.{is_open_inside, is_foreign, is_kept}
 use Rattle.two_runs.proofs.Owned.{code_own, own_shown}
+use Rattle.two_runs.proofs.Beginnings.{Stands, Begins, Kept, kept, off_ready, off_fits}
 use Rattle.run_law.specs.Steps.{SumLaws}
 use Rattle.run_law.proofs.Algebra.{Stretch, one_stretch, part_stretch, kept_sums}
-use Rattle.two_runs.proofs.Beginnings.{Stands, Begins, Kept, kept, off_ready, off_fits}
 
 -- a state within WAV
 record Summing (image : List ℕ) (masked : Bool) (sp : ℕ) (s : State) : Type 0 where

@@ -6,22 +6,15 @@ use Rattle.fuzzy_meaning.specs.declared.block.Block.{Block}
 use Rattle.cpu12_isa.specs.Memory.{plus, from, bytes_at}
 use Rattle.cpu12_parts.specs.State.{State}
 use Rattle.cpu12_emul.specs.Image.{image_memory}
-use Rattle.run_law.specs.Forms.{Ran}
+use Rattle.run_law.specs.{Forms.Ran, Soundness.Begins}
 use Rattle.run_law.specs.Uninterrupted.{counted, taken_at, resumed_of, frames_of}
-use Rattle.run_law.specs.Soundness.{Begins}
 use Rattle.interrupt_plan.specs.declared.levels.Level.{Level}
-use Rattle.eval_code.specs.declared.width.Width.TheVariants.{Byte}
-use Rattle.eval_code.specs.Widths.{answer}
-use Rattle.eval_code.specs.Evaluation.{HasAnswers}
+use Rattle.eval_code.specs.{declared.width.Width.TheVariants.Byte, Widths.answer, Evaluation.HasAnswers}
 use Rattle.codegen.specs.Uninterrupted.{IsAnswerOf}
 use Rattle.two_level.specs.declared.two.Two.{Two}
-use Rattle.two_level.specs.Images.{fast_most}
-use Rattle.two_level.specs.MemoryMaps.{fast_map, is_open_to_fast}
-use Rattle.two_level.specs.Running.{IsEntered}
+use Rattle.two_level.specs.{Images.fast_most, MemoryMaps.fast_map, MemoryMaps.is_open_to_fast, Running.IsEntered}
 use Rattle.fz_run.specs.Rows.{bytes_of}
-use Rattle.two_runs.specs.Runs.{entered, seen_of}
-use Rattle.two_runs.specs.Steps.{IsFastRun}
-use Rattle.two_runs.specs.Inside.{FollowsInside, AreBelow}
+use Rattle.two_runs.specs.{Runs.entered, Runs.seen_of, Steps.IsFastRun, Inside.FollowsInside, Inside.AreBelow}
 use Rattle.two_runs.specs.Answering.{run_of_level, IsReadOff, answer_of_fast}
 use Rattle.two_runs.proofs.Frames.{HasFrameRoom, frame_at}
 

@@ -2,32 +2,21 @@
 -- Beside the promise.
 use Rattle.std.specs.Prelude.{◌≡◌, ℕ, suc, ◌^◌, ◌<◌, ◌≤◌, max, Bool, true, Option, None, Some}
 use Rattle.std.specs.Prelude.{List, [], ◌∷◌, length, map, All, filter_map, flat_map}
-use Rattle.fuzzy_meaning.specs.declared.block.Block.{Block}
-use Rattle.fuzzy_meaning.specs.Blocks.{IsValid}
+use Rattle.fuzzy_meaning.specs.{declared.block.Block.Block, Blocks.IsValid}
 use Rattle.rule_layout.specs.Layouts.{IsWithinLimits}
 use Rattle.cpu12_parts.specs.State.{State}
 use Rattle.cpu12_emul.specs.Image.{image_memory}
-use Rattle.run_law.specs.Forms.{Ran}
+use Rattle.run_law.specs.{Forms.Ran, Soundness.Begins, Following.asked, Following.onto, Following.EachTold}
 use Rattle.run_law.specs.Uninterrupted.{uninterrupted, counted, taken_before, resumed_of, expected_frame, frames_of}
-use Rattle.run_law.specs.Soundness.{Begins}
-use Rattle.run_law.specs.Following.{asked, onto, EachTold}
-use Rattle.interrupt_plan.specs.declared.Request.{Request}
-use Rattle.interrupt_plan.specs.declared.levels.Level.{Level}
-use Rattle.interrupt_plan.specs.Levels.{AreGoodLevels}
-use Rattle.eval_code.specs.declared.width.Width.TheVariants.{Byte}
-use Rattle.eval_code.specs.Widths.{answer}
-use Rattle.eval_code.specs.Firing.{AreInputBytes}
+use Rattle.interrupt_plan.specs.{declared.Request.Request, declared.levels.Level.Level, Levels.AreGoodLevels}
+use Rattle.eval_code.specs.{declared.width.Width.TheVariants.Byte, Widths.answer, Firing.AreInputBytes}
 use Rattle.codegen.specs.Uninterrupted.{Answer, AreAnswersOf}
 use Rattle.two_level.specs.declared.two.Two.{Two}
-use Rattle.two_level.specs.Images.{fast_most, IsTwoOf}
-use Rattle.two_level.specs.MemoryMaps.{is_open_to_fast}
-use Rattle.two_level.specs.Running.{IsEntered}
+use Rattle.two_level.specs.{Images.fast_most, Images.IsTwoOf, MemoryMaps.is_open_to_fast, Running.IsEntered}
 use Rattle.firmware_ports.specs.Ports.{given}
-use Rattle.fz_run.specs.Rows.{bytes_of, first_state, firmware_rows}
-use Rattle.fz_run.specs.Answering.{AnswerBlock}
+use Rattle.fz_run.specs.{Rows.bytes_of, Rows.first_state, Rows.firmware_rows, Answering.AnswerBlock}
 use Rattle.two_runs.specs.Runs.{entered, fast_run, FastSeen, seen_of}
-use Rattle.two_runs.specs.Steps.{IsFastRun}
-use Rattle.two_runs.specs.Inside.{AreOnStack, AreBelow}
+use Rattle.two_runs.specs.{Steps.IsFastRun, Inside.AreOnStack, Inside.AreBelow}
 use Rattle.two_runs.specs.Rows.{levels_of, two_rows, TwoSeen, two_seen}
 
 -- The slow run's plan without fast runs: requests at the levels' places that write nothing.

@@ -1,15 +1,12 @@
 -- The fast code is entered.
 -- Beside the promise.
 use Rattle.std.specs.Prelude.{◌≡◌, ℕ, List}
-use Rattle.fuzzy_meaning.specs.declared.block.Block.{Block}
-use Rattle.fuzzy_meaning.specs.Blocks.{IsValid}
+use Rattle.fuzzy_meaning.specs.{declared.block.Block.Block, Blocks.IsValid}
 use Rattle.rule_layout.specs.Layouts.{IsWithinLimits}
 use Rattle.cpu12_parts.specs.State.{State}
 use Rattle.cpu12_emul.specs.Image.{image_memory}
 use Rattle.eval_code.specs.Firing.{AreInputBytes}
-use Rattle.two_level.specs.declared.two.Two.{Two}
-use Rattle.two_level.specs.Images.{IsTwoOf}
-use Rattle.two_level.specs.Running.{IsEntered}
+use Rattle.two_level.specs.{declared.two.Two.Two, Images.IsTwoOf, Running.IsEntered}
 use Rattle.two_runs.specs.Runs.{entered}
 
 -- There is a state over memory as the image makes it from which an interrupt enters the fast code, with any sample and

@@ -3,17 +3,12 @@
 use Rattle.std.specs.Prelude.{ℕ, Option, None, Some, List, map}
 use Rattle.interrupt_plan.specs.declared.levels.Level.{Level}
 use Rattle.trace_io.specs.declared.sample.Sample.{Sample}
-use Rattle.run_forms.specs.declared.sample.Room.{Room}
-use Rattle.run_forms.specs.Forms.{Harness}
-use Rattle.run_forms.specs.Rooms.{room_notes}
+use Rattle.run_forms.specs.{declared.sample.Room.Room, Forms.Harness, Rooms.room_notes}
 use Rattle.fz_run.specs.Rows as plain
 use Rattle.fz_run.specs.Rows.{input_bytes}
 use Rattle.two_level.specs.declared.two.Two.{Two}
-use Rattle.two_runs.specs.declared.serve.FastRow.{FastRow}
-use Rattle.two_runs.specs.declared.rows.TwoRow.{TwoRow}
-use Rattle.two_runs.specs.Runs.{FastSeen}
-use Rattle.two_runs.specs.InnerNotes.{inner_frames_seen}
-use Rattle.two_runs.specs.Rows.{TwoSeen, level_parts, with_fast}
+use Rattle.two_runs.specs.{declared.serve.FastRow.FastRow, declared.rows.TwoRow.TwoRow, Runs.FastSeen}
+use Rattle.two_runs.specs.{InnerNotes.inner_frames_seen, Rows.TwoSeen, Rows.level_parts, Rows.with_fast}
 
 -- a fast run of the code as it is seen, and what an interrupt told
 abbrev pub fast_seen : FastRow → FastSeen

@@ -4,8 +4,7 @@ use Rattle.std.specs.Prelude.{ℕ, List, [], map}
 use Rattle.arrayvec.specs.ArrayVec.{ArrayVec}
 use Rattle.cpu12_emul.specs.Take.{FrameSeen, frame_seen}
 use Rattle.run_forms.specs.Forms.{Notes, Harness}
-use Rattle.two_runs.specs.declared.fast_code.InnerFrame.{InnerFrame}
-use Rattle.two_runs.specs.Runs.{fast_parts}
+use Rattle.two_runs.specs.{declared.fast_code.InnerFrame.InnerFrame, Runs.fast_parts}
 
 -- a frame with its boundary, as it is seen
 abbrev pub inner_seen : InnerFrame → ℕ × FrameSeen

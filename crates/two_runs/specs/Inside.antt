@@ -2,17 +2,12 @@
 -- Beside the promise.
 use Rattle.std.specs.Prelude.{◌≡◌, ℕ, suc, ◌+◌, ◌^◌, ◌<◌, ◌≤◌, max, List, [], ◌∷◌, length}
 use Rattle.fuzzy_meaning.specs.declared.block.Block.{Block}
-use Rattle.cpu12_isa.specs.Agreement.{WritesAgree}
-use Rattle.cpu12_isa.specs.Fits.{AreBytes}
-use Rattle.cpu12_isa.specs.Regions.{stack_start}
+use Rattle.cpu12_isa.specs.{Agreement.WritesAgree, Fits.AreBytes, Regions.stack_start}
 use Rattle.cpu12_parts.specs.State.{State}
-use Rattle.cpu12_emul.specs.Simulation.{OnStackOnly}
-use Rattle.cpu12_emul.specs.Take.{FrameSeen}
-use Rattle.run_law.specs.Uninterrupted.{taken_at}
+use Rattle.cpu12_emul.specs.{Simulation.OnStackOnly, Take.FrameSeen}
+use Rattle.run_law.specs.{Uninterrupted.taken_at, Following.Follows}
 use Rattle.run_law.specs.Soundness.{Sound, WritesAreQuiet, Ascend}
-use Rattle.run_law.specs.Following.{Follows}
-use Rattle.two_runs.specs.Runs.{fast_form, fast_run}
-use Rattle.two_runs.specs.Steps.{is_open_inside, IsFastState, IsFastRun}
+use Rattle.two_runs.specs.{Runs.fast_form, Runs.fast_run, Steps.is_open_inside, Steps.IsFastState, Steps.IsFastRun}
 
 -- any moment is good
 abbrev pub AnyMoment : ℕ → Type 0

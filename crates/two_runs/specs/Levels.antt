@@ -2,27 +2,18 @@
 -- Beside the promise.
 use Rattle.std.specs.Prelude.{ℕ, ◌%◌, ◌^◌, Option, None, Some, List, [], ◌∷◌, All, map, take, length}
 use Rattle.fuzzy_meaning.specs.declared.block.Block.{Block}
-use Rattle.cpu12_isa.specs.Agreement.{WritesAgree}
-use Rattle.cpu12_isa.specs.Fits.{AreBytes}
+use Rattle.cpu12_isa.specs.{Agreement.WritesAgree, Fits.AreBytes}
 use Rattle.cpu12_parts.specs.State.{State}
-use Rattle.cpu12_emul.specs.Image.{image_memory}
-use Rattle.cpu12_emul.specs.Simulation.{OnStackOrNone}
-use Rattle.run_law.specs.Forms.{Form}
-use Rattle.run_law.specs.Soundness.{Sound, WritesAreQuiet}
-use Rattle.interrupt_plan.specs.declared.levels.Level.{Level}
-use Rattle.interrupt_plan.specs.Levels.{IsGoodLevel}
-use Rattle.eval_code.specs.declared.width.Width.TheVariants.{Byte}
-use Rattle.eval_code.specs.Evaluation.{HasAnswers}
+use Rattle.cpu12_emul.specs.{Image.image_memory, Simulation.OnStackOrNone}
+use Rattle.run_law.specs.{Forms.Form, Soundness.Sound, Soundness.WritesAreQuiet}
+use Rattle.interrupt_plan.specs.{declared.levels.Level.Level, Levels.IsGoodLevel}
+use Rattle.eval_code.specs.{declared.width.Width.TheVariants.Byte, Evaluation.HasAnswers}
 use Rattle.codegen.specs.Uninterrupted.{IsAnswerOf}
-use Rattle.two_level.specs.declared.two.Two.{Two}
-use Rattle.two_level.specs.Images.{fast_most}
-use Rattle.two_level.specs.MemoryMaps.{fast_map, is_open_to_fast}
+use Rattle.two_level.specs.{declared.two.Two.Two, Images.fast_most, MemoryMaps.fast_map, MemoryMaps.is_open_to_fast}
 use Rattle.firmware_ports.specs.Ports.{given}
 use Rattle.instruction_steps.specs.Facts.{FactsBeside}
 use Rattle.fz_run.specs.Rows.{bytes_of}
-use Rattle.two_runs.specs.Runs.{FastSeen}
-use Rattle.two_runs.specs.Outer.{HasFastCode}
-use Rattle.two_runs.specs.Rows.{level_form}
+use Rattle.two_runs.specs.{Runs.FastSeen, Outer.HasFastCode, Rows.level_form}
 use Rattle.two_runs.specs.Answering.{answer_of_fast, outputs_after}
 
 -- eight bytes of a sample at the most

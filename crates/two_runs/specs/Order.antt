@@ -1,12 +1,9 @@
 -- Levels are requests in order, and make a plan.
 -- Beside the promise.
 use Rattle.std.specs.Prelude.{ℕ, List}
-use Rattle.interrupt_plan.specs.declared.levels.Level.{Level}
-use Rattle.interrupt_plan.specs.Levels.{AreGoodLevels}
-use Rattle.interrupt_plan.specs.Plans.{IsGood}
+use Rattle.interrupt_plan.specs.{declared.levels.Level.Level, Levels.AreGoodLevels, Plans.IsGood}
 use Rattle.run_forms.specs.Slices.{IsInOrder}
-use Rattle.two_runs.specs.Answering.{plan_of}
-use Rattle.two_runs.specs.Rows.{place_of_level}
+use Rattle.two_runs.specs.{Answering.plan_of, Rows.place_of_level}
 
 -- Good levels are few, and their samples do not fall.
 abbrev pub LevelsAreInOrder : Type 0

@@ -1,30 +1,20 @@
 -- The outer interrupt in which a fast run runs.
 -- Beside the promise.
 use Rattle.std.specs.Prelude.{◌≡◌, ℕ, suc, ◌+◌, ◌^◌, ◌<◌, ◌≤◌, true, Option, None, Some, List, length}
-use Rattle.fuzzy_meaning.specs.declared.block.Block.{Block}
-use Rattle.fuzzy_meaning.specs.Blocks.{IsValid}
+use Rattle.fuzzy_meaning.specs.{declared.block.Block.Block, Blocks.IsValid}
 use Rattle.rule_layout.specs.Layouts.{IsWithinLimits}
-use Rattle.cpu12_isa.specs.Agreement.{Agree}
-use Rattle.cpu12_isa.specs.Fits.{FitsRegs, AreBytes}
+use Rattle.cpu12_isa.specs.{Agreement.Agree, Fits.FitsRegs, Fits.AreBytes}
 use Rattle.cpu12_isa.specs.Regions.{stack_start, stack_end, is_hidden, vector_word}
-use Rattle.cpu12_parts.specs.declared.temps.Temps.{Temps}
+use Rattle.cpu12_parts.specs.{declared.temps.Temps.Temps, State.State, Laws.IsOff}
 use Rattle.cpu12_parts.specs.declared.temps.Temps.TheVariants.{Free, Running, OnStack}
-use Rattle.cpu12_parts.specs.State.{State}
-use Rattle.cpu12_parts.specs.Laws.{IsOff}
 use Rattle.eval_code.specs.declared.width.Width.TheVariants.{Byte}
-use Rattle.eval_code.specs.Widths.{answer}
-use Rattle.eval_code.specs.Firing.{AreInputBytes}
-use Rattle.eval_code.specs.Evaluation.{HasAnswers}
-use Rattle.cpu12_emul.specs.Image.{image_memory}
-use Rattle.cpu12_emul.specs.Simulation.{OnStackOrNone, HasRoom}
-use Rattle.run_law.specs.Forms.{Ran}
-use Rattle.run_law.specs.Soundness.{Ascend, Begins, Quiet}
+use Rattle.eval_code.specs.{Widths.answer, Firing.AreInputBytes, Evaluation.HasAnswers}
+use Rattle.cpu12_emul.specs.{Image.image_memory, Simulation.OnStackOrNone, Simulation.HasRoom}
+use Rattle.run_law.specs.{Forms.Ran, Soundness.Ascend, Soundness.Begins, Soundness.Quiet}
 use Rattle.two_level.specs.declared.two.Two.{Two}
 use Rattle.two_level.specs.MemoryMaps.{fast_map, is_fast_ram, is_open_to_fast}
-use Rattle.two_level.specs.Images.{fast_most, IsTwoOf}
-use Rattle.two_level.specs.Running.{HasFastRom, IsEntered}
-use Rattle.two_runs.specs.Runs.{entered, fast_run, Outer, served}
-use Rattle.two_runs.specs.Steps.{IsFastRun}
+use Rattle.two_level.specs.{Images.fast_most, Images.IsTwoOf, Running.HasFastRom, Running.IsEntered}
+use Rattle.two_runs.specs.{Runs.entered, Runs.fast_run, Runs.Outer, Runs.served, Steps.IsFastRun}
 
 -- the fast code stands in memory, and the vector leads to it
 pub record HasFastCode (image mem : List ℕ) : Type 0 where

@@ -4,11 +4,9 @@ use Rattle.std.specs.Prelude.{ℕ, zero, suc, Option, None, List, slice_get}
 use Rattle.cpu12_parts.specs.State.{State}
 use Rattle.run_law.specs.Forms.{Form, RowSeen, Rows, rows_from}
 use Rattle.interrupt_plan.specs.declared.levels.Level.{Level}
-use Rattle.run_forms.specs.Forms.{FormParts, plan_form}
+use Rattle.run_forms.specs.{Forms.FormParts, Forms.plan_form, Rows.of_sample, Rows.arrived_at, Rows.shown}
 use Rattle.fz_run.specs.Forms.{stand_alone}
-use Rattle.run_forms.specs.Rows.{of_sample, arrived_at, shown}
-use Rattle.two_level.specs.declared.two.Two.{Two}
-use Rattle.two_level.specs.Images.{fast_most}
+use Rattle.two_level.specs.{declared.two.Two.Two, Images.fast_most}
 use Rattle.two_runs.specs.Runs.{FastSeen, Outer, served, told}
 
 -- the bytes of a fast sample, counted from 1, and none for 0

@@ -1,8 +1,7 @@
 -- A fast run inside an interrupt, under inner requests, and the interrupt in which it runs.
 -- Beside the promise.
 use Rattle.std.specs.Prelude.{ℕ, nat_lt, false, List, [], Option, None, Some}
-use Rattle.cpu12_isa.specs.Act.{write_all}
-use Rattle.cpu12_isa.specs.Memory.{from, placed, bytes_at}
+use Rattle.cpu12_isa.specs.{Act.write_all, Memory.from, Memory.placed, Memory.bytes_at}
 use Rattle.cpu12_parts.specs.State.{State}
 use Rattle.cpu12_emul.specs.Take.{FrameSeen, pushed, vectored, framed}
 use Rattle.two_level.specs.MemoryMaps.{fast_map}

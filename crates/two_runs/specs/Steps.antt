@@ -2,34 +2,17 @@
 -- Beside the promise.
 use Rattle.std.specs.Prelude.{◌≡◌, ℕ, suc, ◌+◌, ◌^◌, ◌<◌, ◌≤◌, ◌⊎◌, ◌&&◌, ◌||◌, not, nat_le, nat_lt, Bool, true, false}
 use Rattle.std.specs.Prelude.{List, length, slice_index}
-use Rattle.fuzzy_meaning.specs.declared.block.Block.{Block}
-use Rattle.fuzzy_meaning.specs.Blocks.{IsValid}
-use Rattle.rule_layout.specs.Slots.{slots_of}
-use Rattle.rule_layout.specs.Layouts.{IsWithinLimits}
-use Rattle.cpu12_isa.specs.declared.instr.Ccr.{Ccr}
-use Rattle.cpu12_isa.specs.Act.{read_by}
-use Rattle.cpu12_isa.specs.Agreement.{AllShown}
-use Rattle.cpu12_isa.specs.Fits.{AreBytes}
-use Rattle.cpu12_isa.specs.Flags.{has, x_masked}
-use Rattle.cpu12_isa.specs.Memory.{from, bytes_at}
-use Rattle.cpu12_isa.specs.Registers.{pulled}
-use Rattle.cpu12_parts.specs.declared.temps.Temps.TheVariants.{Free}
-use Rattle.cpu12_parts.specs.State.{State}
-use Rattle.cpu12_parts.specs.Laws.{IsOff, addresses}
-use Rattle.cpu12_emul.specs.Simulation.{IsShownStep}
-use Rattle.cpu12_emul.specs.Step.{step_act}
-use Rattle.cpu12_emul.specs.Take.{may_interrupt}
-use Rattle.cpu12_emul.specs.Image.{image_memory}
-use Rattle.eval_code.specs.declared.width.Width.TheVariants.{Byte}
-use Rattle.eval_code.specs.Widths.{answer}
-use Rattle.eval_code.specs.Bounds.{instruction_bound, step_bound}
-use Rattle.eval_code.specs.Firing.{AreInputBytes}
-use Rattle.eval_code.specs.Evaluation.{HasAnswers}
-use Rattle.run_law.specs.Uninterrupted.{stepped, uninterrupted, counted}
-use Rattle.run_law.specs.Soundness.{Before}
+use Rattle.fuzzy_meaning.specs.{declared.block.Block.Block, Blocks.IsValid}
+use Rattle.rule_layout.specs.{Slots.slots_of, Layouts.IsWithinLimits}
+use Rattle.cpu12_isa.specs.{declared.instr.Ccr.Ccr, Act.read_by, Agreement.AllShown, Fits.AreBytes}
+use Rattle.cpu12_isa.specs.{Flags.has, Flags.x_masked, Memory.from, Memory.bytes_at, Registers.pulled}
+use Rattle.cpu12_parts.specs.{declared.temps.Temps.TheVariants.Free, State.State, Laws.IsOff, Laws.addresses}
+use Rattle.cpu12_emul.specs.{Simulation.IsShownStep, Step.step_act, Take.may_interrupt, Image.image_memory}
+use Rattle.eval_code.specs.{declared.width.Width.TheVariants.Byte, Widths.answer}
+use Rattle.eval_code.specs.{Bounds.instruction_bound, Bounds.step_bound, Firing.AreInputBytes, Evaluation.HasAnswers}
+use Rattle.run_law.specs.{Uninterrupted.stepped, Uninterrupted.uninterrupted, Uninterrupted.counted, Soundness.Before}
 use Rattle.two_level.specs.MemoryMaps.{fast_map, is_fast_ram, is_fast_rom}
-use Rattle.two_level.specs.declared.two.Two.{Two}
-use Rattle.two_level.specs.Images.{fast_most, IsTwoOf}
+use Rattle.two_level.specs.{Images.fast_most, Images.IsTwoOf, declared.two.Two.Two}
 use Rattle.two_level.specs.Running.{HasFastRom, LetsIn, IsFastStack, IsEntered, IsFastAnswered}
 
 -- nothing is open to inner requests

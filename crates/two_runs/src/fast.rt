@@ -4,9 +4,8 @@ ghost use Rattle.cpu12_parts.specs.Cuts.{suspended, wav};
 ghost use Rattle.cpu12_isa.specs.Memory.{from, bytes_at};
 ghost use Rattle.cpu12_emul.specs.Take.{may_interrupt, frame_seen, frame_of};
 ghost use Rattle.two_level.specs.MemoryMaps.{fast_map};
-ghost use Rattle.two_runs.specs.Runs.{fast_run, entered};
+ghost use Rattle.two_runs.specs.{Runs.fast_run, Runs.entered, InnerNotes.inner_notes};
 ghost use Rattle.run_forms.specs.Rest.{brief, counted_at};
-ghost use Rattle.two_runs.specs.InnerNotes.{inner_notes};
 
 use crate::fast_code::{FastCode, InnerFrame};
 use arrayvec::ArrayVec;

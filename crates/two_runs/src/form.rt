@@ -1,10 +1,7 @@
 //! A slow firmware with a fast block beside it, as a form of runs.
 ghost use Rattle.std.specs.Prelude.{ℕ, ◌≡◌, ◌≤◌, ◌<◌, List, Option, Some, length, slice_get};
-ghost use Rattle.run_forms.specs.Rest.{counted_at, shown_by};
-ghost use Rattle.run_forms.specs.Rooms.{Fits};
-ghost use Rattle.two_runs.specs.Runs.{FastSeen};
-ghost use Rattle.two_runs.specs.Rows.{TwoSeen};
-ghost use Rattle.two_runs.specs.Harness.{level_harness};
+ghost use Rattle.run_forms.specs.{Rest.counted_at, Rest.shown_by, Rooms.Fits};
+ghost use Rattle.two_runs.specs.{Runs.FastSeen, Rows.TwoSeen, Harness.level_harness};
 
 use crate::rows::TwoRow;
 use crate::serve::{FastRow, serve};

@@ -1,8 +1,7 @@
 //! The fast code under inner requests.
 ghost use Rattle.std.specs.Prelude.{ℕ};
 ghost use Rattle.cpu12_emul.specs.Simulation.{OnStackOnly};
-ghost use Rattle.two_runs.specs.Runs.{fast_form};
-ghost use Rattle.two_runs.specs.Steps.{is_open_inside, IsFastState};
+ghost use Rattle.two_runs.specs.{Runs.fast_form, Steps.is_open_inside, Steps.IsFastState};
 ghost use Rattle.two_runs.specs.Inside.{Inside, AnyMoment, HoldsBytes};
 
 use run_law::laws::SoundForm;

@@ -1,9 +1,7 @@
 //! Laws of runs at two levels.
 ghost use Rattle.two_runs.specs.Steps.{FastRunsExist, FastStepsReturn};
-ghost use Rattle.two_runs.specs.Answering.{AnswersUnderLevels, RowsAreSeen};
-ghost use Rattle.two_runs.specs.Entered.{FastIsEntered};
-ghost use Rattle.two_runs.specs.Inside.{FastRunsFollow};
-ghost use Rattle.two_runs.specs.Order.{LevelsAreInOrder, LevelsMakeAPlan};
+ghost use Rattle.two_runs.specs.{Answering.AnswersUnderLevels, Answering.RowsAreSeen, Entered.FastIsEntered};
+ghost use Rattle.two_runs.specs.{Inside.FastRunsFollow, Order.LevelsAreInOrder, Order.LevelsMakeAPlan};
 ghost use Rattle.two_runs.specs.Outer.{OuterEnters, OuterIsServable, OuterIsQuiet, OuterServes};
 
 use crate::inside::InsideForm;

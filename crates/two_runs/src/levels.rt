@@ -5,8 +5,7 @@ ghost use Rattle.interrupt_plan.specs.declared.levels.Level as plan;
 ghost use Rattle.interrupt_plan.specs.Levels.{IsGoodLevel};
 ghost use Rattle.two_level.specs.MemoryMaps.{is_open_to_fast};
 ghost use Rattle.instruction_steps.specs.Facts.{FactsBeside};
-ghost use Rattle.two_runs.specs.Runs.{FastSeen};
-ghost use Rattle.two_runs.specs.Levels.{Levels, fitted_form, FastStands};
+ghost use Rattle.two_runs.specs.{Runs.FastSeen, Levels.Levels, Levels.fitted_form, Levels.FastStands};
 
 use run_law::laws::SoundForm;
 

@@ -2,9 +2,7 @@
 ghost use Rattle.std.specs.Prelude.{◌≡◌, ◌≤◌, map, length, IfOk};
 ghost use Rattle.interrupt_plan.specs.Levels.{AreGoodLevels};
 ghost use Rattle.fz_run.specs.Rows.{input_bytes};
-ghost use Rattle.two_runs.specs.Answering.{AnswersItsBlocks};
-ghost use Rattle.two_runs.specs.Rows.{two_seen};
-ghost use Rattle.two_runs.specs.Harness.{row_seen};
+ghost use Rattle.two_runs.specs.{Answering.AnswersItsBlocks, Rows.two_seen, Harness.row_seen};
 
 use crate::form::WithLevels;
 use crate::laws::{answers_under_levels, levels_are_in_order};

@@ -5,8 +5,7 @@ ghost use Rattle.cpu12_emul.specs.Take.{may_interrupt, frame_seen, frame_of};
 ghost use Rattle.fz_run.specs.Rows.{input_bytes};
 ghost use Rattle.two_level.specs.Images.{fast_most};
 ghost use Rattle.two_runs.specs.Runs.{served, told, served_by, told_by};
-ghost use Rattle.two_runs.specs.Rows.{sample_of, outer_of};
-ghost use Rattle.two_runs.specs.Harness.{fast_seen, fast_told};
+ghost use Rattle.two_runs.specs.{Rows.sample_of, Rows.outer_of, Harness.fast_seen, Harness.fast_told};
 
 use crate::fast::{answers, enter, run_inside};
 use crate::fast_code::InnerFrame;

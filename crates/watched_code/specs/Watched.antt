@@ -3,31 +3,21 @@
 use Rattle.std.specs.Prelude.{◌≡◌, ◌≢◌, ℕ, ◌+◌, ◌*◌, ◌^◌, ◌<◌, ◌≤◌, ◌==◌, not, Bool, true, false, List, [], ◌∷◌, ◌++◌}
 use Rattle.std.specs.Prelude.{length, sum_by, All, Option, Some, None, slice_index, slice_set, if◌then◌else◌}
 use Rattle.fz_num.specs.declared.dec.Dec.{Dec}
-use Rattle.fuzzy_meaning.specs.declared.block.Block.{Block}
-use Rattle.fuzzy_meaning.specs.declared.block.Output.{Output}
+use Rattle.fuzzy_meaning.specs.declared.{block.Block.Block, block.Output.Output}
 use Rattle.fuzzy_meaning.specs.Blocks.{IsValid, output_at}
 use Rattle.byte_scaling.specs.Cells.{nearest_byte}
 use Rattle.rule_layout.specs.Layouts.{IsWithinLimits}
-use Rattle.cpu12_isa.specs.declared.instr.Instr.TheVariants.{Rts}
-use Rattle.cpu12_isa.specs.Regions.{is_free, vector}
-use Rattle.cpu12_asm.specs.declared.items.Item.{Item}
-use Rattle.cpu12_asm.specs.Bytes.{byte_at}
-use Rattle.cpu12_parts.specs.State.{State}
-use Rattle.cpu12_parts.specs.Executions.{Execution, all_steps}
+use Rattle.cpu12_isa.specs.{declared.instr.Instr.TheVariants.Rts, Regions.is_free, Regions.vector}
+use Rattle.cpu12_asm.specs.{declared.items.Item.Item, Bytes.byte_at}
+use Rattle.cpu12_parts.specs.{State.State, Executions.Execution, Executions.all_steps}
 use Rattle.cpu12_emul.specs.Image.{image_memory}
-use Rattle.eval_code.specs.declared.memory_map.MemoryMap.{MemoryMap}
+use Rattle.eval_code.specs.declared.{memory_map.MemoryMap.MemoryMap, width.Width.TheVariants.Byte}
+use Rattle.eval_code.specs.{Widths.answer, MemoryMaps.main_map, Bounds.instruction_bound, Bounds.steps_by}
+use Rattle.eval_code.specs.{Items.block_items, Firing.AreInputBytes, Evaluation.HasAnswers}
 use Rattle.codegen.specs.declared.firmware.Firmware.{Firmware}
-use Rattle.watched_code.specs.declared.segments.Segment.{Segment}
-use Rattle.eval_code.specs.declared.width.Width.TheVariants.{Byte}
-use Rattle.eval_code.specs.Widths.{answer}
-use Rattle.eval_code.specs.MemoryMaps.{main_map}
-use Rattle.eval_code.specs.Bounds.{instruction_bound, steps_by}
-use Rattle.eval_code.specs.Items.{block_items}
-use Rattle.codegen.specs.Images.{vector_items, IsImageOf}
-use Rattle.eval_code.specs.Firing.{AreInputBytes}
-use Rattle.eval_code.specs.Evaluation.{HasAnswers}
+use Rattle.codegen.specs.{Images.vector_items, Images.IsImageOf, Answers.given, Answers.IsArrived}
 use Rattle.codegen.specs.Interruptible.{is_idle, IsInterruptible, IsInterruptibleStep}
-use Rattle.codegen.specs.Answers.{given, IsArrived}
+use Rattle.watched_code.specs.declared.segments.Segment.{Segment}
 use Rattle.watched_code.specs.WatchedCode.{segments_of, fault_at, watched_front, watched_map}
 
 -- the items of its image: those of a block with the check before EVAL, and the vectors

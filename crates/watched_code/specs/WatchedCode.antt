@@ -2,22 +2,19 @@
 -- Beside the promise.
 use Rattle.std.specs.Prelude.{ℕ, ◌+◌, ◌-◌, ◌^◌, ◌<◌, ◌≤◌, List, [], ◌∷◌, ◌++◌, length, flat_map, Option, Some, None}
 use Rattle.std.specs.Prelude.{option_map}
-use Rattle.fuzzy_meaning.specs.declared.block.Block.{Block}
-use Rattle.fuzzy_meaning.specs.declared.block.Output.{Output}
+use Rattle.fuzzy_meaning.specs.declared.{block.Block.Block, block.Output.Output}
 use Rattle.byte_scaling.specs.Cells.{nearest_byte}
 use Rattle.rule_layout.specs.declared.flat.Form.{Form}
 use Rattle.rule_layout.specs.declared.flat.Form.TheVariants as form
 use Rattle.rule_layout.specs.Layouts.{form_of, weights_of}
 use Rattle.cpu12_isa.specs.declared.instr.Instr.{Instr}
 use Rattle.cpu12_isa.specs.declared.instr.Instr.TheVariants.{LdabImmediate, LdxImmediate, StabExtended, ClrExtended}
-use Rattle.cpu12_isa.specs.declared.instr.Instr.TheVariants.{CpxImmediate, Bne, Rts, AddbImmediate, AddbPostIncrementX}
-use Rattle.eval_code.specs.declared.memory_map.MemoryMap.{MemoryMap}
-use Rattle.watched_code.specs.declared.segments.Segment.{Segment}
-use Rattle.eval_code.specs.MemoryMaps.{main_map}
-use Rattle.eval_code.specs.Code.{code_bytes}
-use Rattle.codegen.specs.Code.{frame_code}
+use Rattle.cpu12_isa.specs.declared.instr.Instr.TheVariants.{CpxImmediate, Bne, Rts, AddbImmediate}
+use Rattle.cpu12_isa.specs.declared.instr.Instr.TheVariants.{AddbPostIncrementX}
+use Rattle.eval_code.specs.{declared.memory_map.MemoryMap.MemoryMap, MemoryMaps.main_map, Code.code_bytes}
 use Rattle.eval_code.specs.Data.{table_bytes, singleton_bytes, rule_bytes}
-use Rattle.watched_code.specs.Checksums.{check_byte}
+use Rattle.watched_code.specs.{declared.segments.Segment.Segment, Checksums.check_byte}
+use Rattle.codegen.specs.Code.{frame_code}
 
 -- FAULT, which is 1 where the tables are not what they were, and else 0
 abbrev pub fault_at : ℕ

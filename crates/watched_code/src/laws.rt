@@ -1,7 +1,6 @@
 //! Laws of firmware with watched tables.
-ghost use Rattle.watched_code.specs.Alike.{WatchedFirmwaresAreOne};
+ghost use Rattle.watched_code.specs.{Alike.WatchedFirmwaresAreOne, Watched.WatchedAnswers};
 ghost use Rattle.watched_code.specs.Checksums.{OneChangeIsSeen, TwoChangesMayPass, UnchangedSumIsZero};
-ghost use Rattle.watched_code.specs.Watched.{WatchedAnswers};
 
 use byte_scaling::nearest_is_byte;
 use codegen::laws::{

@@ -3,10 +3,10 @@ ghost use Rattle.std.specs.Prelude.{◌≡◌, ◌+◌, ◌*◌, ◌%◌, ◌^�
 ghost use Rattle.std.specs.Prelude.{IfOk, OnOk};
 ghost use Rattle.fuzzy_meaning.specs.Blocks.{IsValid, IsValidOutput};
 ghost use Rattle.rule_layout.specs.Layouts.{flat_of, IsLaidOut};
-ghost use Rattle.watched_code.specs.Checksums.{check_byte};
-ghost use Rattle.eval_code.specs.Data.{table_bytes, singleton_bytes_of, singleton_bytes, bytes_of_word, rule_bytes_by};
-ghost use Rattle.watched_code.specs.Watched.{segment_bound};
+ghost use Rattle.watched_code.specs.{Checksums.check_byte, Watched.segment_bound};
 ghost use Rattle.watched_code.specs.WatchedCode.{segment_bytes, segments_of, weight_segments};
+ghost use Rattle.eval_code.specs.Data.{table_bytes, singleton_bytes_of, singleton_bytes, bytes_of_word};
+ghost use Rattle.eval_code.specs.Data.{rule_bytes_by};
 
 use byte_scaling::near;
 use eval_code::MemoryMap;

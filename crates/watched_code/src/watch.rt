@@ -2,8 +2,7 @@
 ghost use Rattle.std.specs.Prelude.{◌≡◌, IfOk, IfErr, OnOk};
 ghost use Rattle.fuzzy_meaning.specs.Blocks.{IsValid};
 ghost use Rattle.rule_layout.specs.Layouts.{IsWithinLimits, IsFaultOf, flat_of, IsLaidOut};
-ghost use Rattle.eval_code.specs.MemoryMaps.{main_map};
-ghost use Rattle.eval_code.specs.Items.{HasRoom};
+ghost use Rattle.eval_code.specs.{MemoryMaps.main_map, Items.HasRoom};
 ghost use Rattle.codegen.specs.Images.{IsImageOf};
 ghost use Rattle.watched_code.specs.Watched.{AnswersWatched, IsWatchedFirmwareOf, watched_items};
 ghost use Rattle.watched_code.specs.WatchedCode.{watched_front, watched_map};

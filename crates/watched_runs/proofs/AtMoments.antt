@@ -4,15 +4,12 @@ use Rattle.std.specs.Prelude.{slice_index}
 use Rattle.cpu12_emul.specs.Image.{image_memory}
 use Rattle.cpu12_parts.specs.State.{State}
 use Rattle.run_law.specs.Uninterrupted.{uninterrupted, counted, taken_at, resumed_of, frames_of}
-use Rattle.run_law.specs.Following.{AllComplete, expected_rows}
-use Rattle.run_law.specs.Moments.{TakenAtOnce}
+use Rattle.run_law.specs.{Following.AllComplete, Following.expected_rows, Moments.TakenAtOnce}
 use Rattle.interrupt_plan.specs.declared.Request.{Request}
 use Rattle.codegen.specs.declared.firmware.Firmware.{Firmware}
 use Rattle.firmware_ports.specs.Ports.{answers_in}
-use Rattle.fz_run.specs.Following.{row_of_sample}
-use Rattle.fz_run.specs.Rows.{requests_of}
-use Rattle.watched_code.specs.Watched.{Watched, restored}
-use Rattle.watched_code.specs.WatchedCode.{fault_at}
+use Rattle.fz_run.specs.{Following.row_of_sample, Rows.requests_of}
+use Rattle.watched_code.specs.{Watched.Watched, Watched.restored, WatchedCode.fault_at}
 use Rattle.watched_runs.specs.Forms.{given_changed, watched_form, FactsWatched}
 use Rattle.watched_runs.specs.Rows.{FaultSeen, fault_seen, row_of_watched, rows_of_watched}
 use Rattle.watched_runs.proofs.Answers.{take_answers, fault_behind}

@@ -6,8 +6,7 @@ use Rattle.std.specs.List.Sorted.{IsSearchInRange, IsBinarySearchResult, IsNonDe
 use Rattle.std.specs.Ordering.{nat_cmp, ordering_index}
 use Rattle.std.proofs.lemmas.Bool.Decides.{nat_tests}
 use Rattle.std.proofs.lemmas.Cmp.{ranked}
-use Rattle.interrupt_plan.specs.declared.upsets.Upset.{Upset}
-use Rattle.interrupt_plan.specs.Upsets.{SamplesAscend}
+use Rattle.interrupt_plan.specs.{declared.upsets.Upset.Upset, Upsets.SamplesAscend}
 use Rattle.watched_runs.specs.Samples.{AscendThroughout, change_in, change_of}
 
 -- the sample of upset i

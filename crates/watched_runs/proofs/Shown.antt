@@ -5,16 +5,11 @@ use Rattle.cpu12_parts.specs.State.{State}
 use Rattle.run_law.specs.Forms.{Form, RowSeen, row_of, rows_from, run_from}
 use Rattle.codegen.specs.declared.firmware.Firmware.{Firmware}
 use Rattle.eval_code.specs.declared.memory_map.MemoryMap.{MemoryMap}
-use Rattle.watched_code.specs.Watched.{Change, Watched, changed}
-use Rattle.watched_code.specs.WatchedCode.{fault_at}
-use Rattle.run_forms.specs.declared.sample.Room.{Room}
-use Rattle.run_forms.specs.declared.sample.Tally.{Tally}
-use Rattle.run_forms.specs.Rooms.{room_notes}
+use Rattle.watched_code.specs.{Watched.Change, Watched.Watched, Watched.changed, WatchedCode.fault_at}
+use Rattle.run_forms.specs.declared.{sample.Room.Room, sample.Tally.Tally}
+use Rattle.run_forms.specs.{Rooms.room_notes, Rest.counted_at, Rest.shown_by, Rows.frames_seen, Rows.shown}
 use Rattle.firmware_ports.specs.Ports.{given, answers_in}
-use Rattle.run_forms.specs.Rest.{counted_at, shown_by}
-use Rattle.run_forms.specs.Rows.{frames_seen, shown}
-use Rattle.watched_runs.specs.Forms.{given_changed, watched_parts}
-use Rattle.watched_runs.specs.Rows.{FaultSeen, fault_seen}
+use Rattle.watched_runs.specs.{Forms.given_changed, Forms.watched_parts, Rows.FaultSeen, Rows.fault_seen}
 use Rattle.watched_runs.proofs.Answers.{take_answers, fault_behind}
 
 -- where what handlers told is not shown, the rows alone are

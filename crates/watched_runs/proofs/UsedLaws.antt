@@ -2,15 +2,13 @@
 use Rattle.std.proofs.Common.{ℕ}
 use Rattle.cpu12_isa.specs.Regions.{is_free}
 use Rattle.cpu12_emul.specs.Simulation.{OnStackOnly}
-use Rattle.run_law.specs.Following.{RunsFollow}
-use Rattle.run_law.specs.Moments.{TakenAtOnce}
+use Rattle.run_law.specs.{Following.RunsFollow, Moments.TakenAtOnce}
 use Rattle.interrupt_plan.specs.Plans.{IsGoodRequest}
 use Rattle.codegen.specs.declared.firmware.Firmware.{Firmware}
 use Rattle.watched_code.specs.Watched.{WatchedAnswers}
 use Rattle.run_forms.specs.Arrival.{ArrivesPlainly}
-use Rattle.fz_run.specs.Following.{IsLow, Nothing}
+use Rattle.fz_run.specs.{Following.IsLow, Following.Nothing, Given.RequestsAreGood}
 use Rattle.firmware_ports.specs.Ports.{GivenIsPut}
-use Rattle.fz_run.specs.Given.{RequestsAreGood}
 use Rattle.instruction_steps.specs.Instructions.{InstructionsAreSteps}
 use Rattle.watched_runs.specs.Forms.{watched_form, FactsWatched}
 

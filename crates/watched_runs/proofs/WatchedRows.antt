@@ -7,42 +7,30 @@ use Rattle.std.proofs.lemmas.List.Elements.{All-cons}
 use Rattle.fuzzy_meaning.specs.declared.block.Block.{Block}
 use Rattle.cpu12_isa.specs.Regions.{is_free, is_hidden}
 use Rattle.cpu12_isa.proofs.Algebra.{agree_self}
-use Rattle.cpu12_parts.specs.State.{State}
-use Rattle.cpu12_parts.specs.Executions.{all_steps}
-use Rattle.cpu12_emul.specs.Image.{image_memory}
-use Rattle.cpu12_emul.specs.Step.{reset_with}
-use Rattle.cpu12_emul.specs.Simulation.{OnStackOnly}
-use Rattle.interrupt_plan.specs.declared.Request.{Request}
-use Rattle.interrupt_plan.specs.declared.upsets.Upset.{Upset}
-use Rattle.interrupt_plan.specs.Plans.{IsGood}
-use Rattle.interrupt_plan.specs.Upsets.{IsGoodUpset}
-use Rattle.codegen.specs.declared.firmware.Firmware.{Firmware}
+use Rattle.cpu12_parts.specs.{State.State, Executions.all_steps}
+use Rattle.cpu12_emul.specs.{Image.image_memory, Step.reset_with, Simulation.OnStackOnly}
+use Rattle.interrupt_plan.specs.declared.{Request.Request, upsets.Upset.Upset}
+use Rattle.interrupt_plan.specs.{Plans.IsGood, Upsets.IsGoodUpset}
+use Rattle.codegen.specs.{declared.firmware.Firmware.Firmware, Answers.IsArrived, Interruptible.is_idle}
 use Rattle.eval_code.specs.declared.memory_map.MemoryMap.{MemoryMap}
-use Rattle.codegen.specs.Answers.{IsArrived}
-use Rattle.eval_code.specs.Bounds.{steps_by, instruction_bound}
-use Rattle.eval_code.specs.Firing.{AreInputBytes}
-use Rattle.codegen.specs.Interruptible.{is_idle}
+use Rattle.eval_code.specs.{Bounds.steps_by, Bounds.instruction_bound, Firing.AreInputBytes}
 use Rattle.watched_code.specs.Watched.{Watched, changed, restored, upset_given, watched_answer, IsTableChange}
-use Rattle.watched_code.specs.Watched.{IsGoodSample}
-use Rattle.watched_code.specs.Watched.{IsWatchAnswered, AreWatchAnswered, IsWatchedFirmwareOf, watched_bound}
+use Rattle.watched_code.specs.Watched.{IsGoodSample, IsWatchAnswered, AreWatchAnswered, IsWatchedFirmwareOf}
+use Rattle.watched_code.specs.Watched.{watched_bound}
 use Rattle.watched_code.specs.WatchedCode.{fault_at, watched_map}
-use Rattle.run_law.specs.Forms.{rows_from}
-use Rattle.run_law.specs.Uninterrupted.{uninterrupted}
+use Rattle.run_law.specs.{Forms.rows_from, Uninterrupted.uninterrupted}
 use Rattle.run_law.specs.Following.{Completes, AllComplete, AllWithin, AllFollow, expected_row, expected_rows}
 use Rattle.firmware_ports.specs.Ports.{answer_size, answers_at, answers_in}
-use Rattle.fz_run.specs.Rows.{requests_of, first_state}
+use Rattle.fz_run.specs.{Rows.requests_of, Rows.first_state, Following.IsLow, Following.Nothing}
 use Rattle.instruction_steps.specs.Facts.{HasImageBytes, WaitsAlone}
-use Rattle.fz_run.specs.Following.{IsLow, Nothing}
 use Rattle.instruction_steps.specs.Instructions.{AreSteps, IsServing}
 use Rattle.watched_runs.specs.Samples.{change_of, changes_from, with_upsets}
 use Rattle.watched_runs.specs.Forms.{given_changed, watched_form, FactsWatched}
 use Rattle.watched_runs.specs.Rows.{FaultSeen, fault_seen, upset_rows, faults_of}
-use Rattle.watched_runs.specs.Answering.{IsWatchedRow, AreWatchedRows, HoldsChange, AllHoldChanges, AnswersUnderUpsets}
-use Rattle.watched_runs.specs.Answering.{AnswersUnderAllUpsets}
+use Rattle.watched_runs.specs.Answering.{IsWatchedRow, AreWatchedRows, HoldsChange, AllHoldChanges}
+use Rattle.watched_runs.specs.Answering.{AnswersUnderUpsets, AnswersUnderAllUpsets}
 use Rattle.watched_runs.proofs.Answers.{length_answers, take_answers, fault_behind, answer_there}
-use Rattle.watched_runs.proofs.Changes.{good_change, waits_restored}
-use Rattle.watched_runs.proofs.AtMoments.{same_rows}
-use Rattle.watched_runs.proofs.UsedLaws.{Laws}
+use Rattle.watched_runs.proofs.{Changes.good_change, Changes.waits_restored, AtMoments.same_rows, UsedLaws.Laws}
 
 -- what of a firmware its runs look at
 record HasPorts (b : Block) (f : Firmware) : Type 0 where

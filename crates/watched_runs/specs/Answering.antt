@@ -1,27 +1,20 @@
 -- The rows of a block's firmware with watched tables, by what it answers without interrupts.
 -- Beside the promise.
 use Rattle.std.specs.Prelude.{◌≡◌, ℕ, ◌-◌, ◌^◌, ◌<◌, ◌≤◌, List, [], ◌∷◌, All, length, slice_index}
-use Rattle.fuzzy_meaning.specs.declared.block.Block.{Block}
-use Rattle.fuzzy_meaning.specs.Blocks.{IsValid}
+use Rattle.fuzzy_meaning.specs.{declared.block.Block.Block, Blocks.IsValid}
 use Rattle.rule_layout.specs.Layouts.{IsWithinLimits}
 use Rattle.cpu12_isa.specs.Regions.{is_free}
 use Rattle.cpu12_parts.specs.State.{State}
-use Rattle.cpu12_emul.specs.Image.{image_memory}
-use Rattle.cpu12_emul.specs.Simulation.{OnStackOnly}
-use Rattle.interrupt_plan.specs.declared.Request.{Request}
-use Rattle.interrupt_plan.specs.declared.upsets.Upset.{Upset}
-use Rattle.interrupt_plan.specs.Plans.{IsGood}
-use Rattle.interrupt_plan.specs.Upsets.{AreGoodUpsets}
+use Rattle.cpu12_emul.specs.{Image.image_memory, Simulation.OnStackOnly}
+use Rattle.interrupt_plan.specs.declared.{Request.Request, upsets.Upset.Upset}
+use Rattle.interrupt_plan.specs.{Plans.IsGood, Upsets.AreGoodUpsets}
 use Rattle.codegen.specs.declared.firmware.Firmware.{Firmware}
 use Rattle.eval_code.specs.Firing.{AreInputBytes}
 use Rattle.watched_code.specs.Watched.{Watched, changed, restored, watched_answer, watched_fault, IsWatchedFirmwareOf}
-use Rattle.run_law.specs.Uninterrupted.{uninterrupted}
-use Rattle.run_law.specs.Following.{AllComplete, AllFollow}
+use Rattle.run_law.specs.{Uninterrupted.uninterrupted, Following.AllComplete, Following.AllFollow}
 use Rattle.instruction_steps.specs.Facts.{HasImageBytes, WaitsAlone}
-use Rattle.fz_run.specs.Following.{Nothing}
-use Rattle.fz_run.specs.Rows.{requests_of, first_state}
-use Rattle.watched_runs.specs.Samples.{with_upsets}
-use Rattle.watched_runs.specs.Forms.{given_changed, watched_form, FactsWatched}
+use Rattle.fz_run.specs.{Following.Nothing, Rows.requests_of, Rows.first_state}
+use Rattle.watched_runs.specs.{Samples.with_upsets, Forms.given_changed, Forms.watched_form, Forms.FactsWatched}
 use Rattle.watched_runs.specs.Rows.{FaultSeen, upset_rows, faults_of, rows_of_watched}
 
 -- A row is a sample's: its answers are the block's after those before, but where a byte is upset the defaults, and

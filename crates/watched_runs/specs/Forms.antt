@@ -3,15 +3,12 @@
 use Rattle.std.specs.Prelude.{ℕ, [], ◌∷◌, ◌++◌, slice_index}
 use Rattle.cpu12_isa.specs.Regions.{is_free}
 use Rattle.cpu12_parts.specs.State.{State}
-use Rattle.cpu12_emul.specs.Image.{image_memory}
-use Rattle.cpu12_emul.specs.Take.{framed}
+use Rattle.cpu12_emul.specs.{Image.image_memory, Take.framed}
 use Rattle.run_law.specs.Forms.{Form}
 use Rattle.interrupt_plan.specs.declared.Request.{Request}
-use Rattle.codegen.specs.declared.firmware.Firmware.{Firmware}
+use Rattle.codegen.specs.{declared.firmware.Firmware.Firmware, Interruptible.is_idle}
 use Rattle.eval_code.specs.declared.memory_map.MemoryMap.{MemoryMap}
-use Rattle.codegen.specs.Interruptible.{is_idle}
-use Rattle.watched_code.specs.Watched.{Watched, changed, restored}
-use Rattle.watched_code.specs.WatchedCode.{fault_at}
+use Rattle.watched_code.specs.{Watched.Watched, Watched.changed, Watched.restored, WatchedCode.fault_at}
 use Rattle.instruction_steps.specs.Facts.{Facts, IsStackOfOneCall}
 use Rattle.run_forms.specs.Forms.{FormParts, plan_form}
 use Rattle.firmware_ports.specs.Ports.{given, answers_in}

@@ -3,17 +3,12 @@
 use Rattle.std.specs.Prelude.{ℕ, suc, List, [], ◌∷◌, map, take, slice_index}
 use Rattle.cpu12_parts.specs.State.{State}
 use Rattle.cpu12_emul.specs.Image.{image_memory}
-use Rattle.run_law.specs.Forms.{RowSeen, Rows, rows_from}
-use Rattle.run_law.specs.Uninterrupted.{uninterrupted}
-use Rattle.interrupt_plan.specs.declared.Request.{Request}
-use Rattle.interrupt_plan.specs.declared.upsets.Upset.{Upset}
+use Rattle.run_law.specs.{Forms.RowSeen, Forms.Rows, Forms.rows_from, Uninterrupted.uninterrupted}
+use Rattle.interrupt_plan.specs.declared.{Request.Request, upsets.Upset.Upset}
 use Rattle.codegen.specs.declared.firmware.Firmware.{Firmware}
-use Rattle.watched_code.specs.Watched.{Watched, restored}
-use Rattle.watched_code.specs.WatchedCode.{fault_at}
+use Rattle.watched_code.specs.{Watched.Watched, Watched.restored, WatchedCode.fault_at}
 use Rattle.trace_io.specs.declared.sample.Sample.{Sample}
-use Rattle.run_forms.specs.declared.sample.Room.{Room}
-use Rattle.run_forms.specs.Rooms.{room_notes}
-use Rattle.run_forms.specs.Forms.{Harness}
+use Rattle.run_forms.specs.{declared.sample.Room.Room, Rooms.room_notes, Forms.Harness}
 use Rattle.fz_run.specs.Following.{row_of_sample}
 use Rattle.fz_run.specs.Rows as rows
 use Rattle.fz_run.specs.Rows.{requests_of, first_state, input_bytes}

@@ -2,16 +2,13 @@
 -- Beside the promise.
 use Rattle.std.proofs.Common.{ℕ, List, [], ◌∷◌, ◌++◌, ap₂, arith, inl}
 use Rattle.std.specs.Prelude.{Option, Some, None, slice_index}
-use Rattle.cpu12_isa.specs.Agreement.{WritesAgree}
-use Rattle.cpu12_isa.specs.Regions.{is_free, is_hidden}
+use Rattle.cpu12_isa.specs.{Agreement.WritesAgree, Regions.is_free, Regions.is_hidden}
 use Rattle.cpu12_parts.specs.State.{State}
-use Rattle.cpu12_emul.specs.Image.{image_memory}
-use Rattle.cpu12_emul.specs.Simulation.{OnStackOnly, Same}
+use Rattle.cpu12_emul.specs.{Image.image_memory, Simulation.OnStackOnly, Simulation.Same}
 use Rattle.run_law.specs.Soundness.{Sound, WritesAreQuiet}
 use Rattle.interrupt_plan.specs.Plans.{IsGoodRequest}
 use Rattle.codegen.specs.declared.firmware.Firmware.{Firmware}
-use Rattle.watched_code.specs.Watched.{Change, changed, restored}
-use Rattle.watched_code.specs.WatchedCode.{fault_at}
+use Rattle.watched_code.specs.{Watched.Change, Watched.changed, Watched.restored, WatchedCode.fault_at}
 use Rattle.fz_run.specs.Following.{IsLow, Nothing}
 use Rattle.firmware_ports.specs.Ports.{given}
 use Rattle.fz_run.specs.SoundAloneProof as alone

@@ -1,11 +1,9 @@
 //! A firmware with watched tables, as a form of runs.
 ghost use Rattle.std.specs.Prelude.{ℕ, ◌≡◌, ◌<◌, ◌≤◌, ◌+◌, List, Some, length, map, slice_get};
-ghost use Rattle.run_forms.specs.Rest.{counted_at, shown_by};
-ghost use Rattle.run_forms.specs.Rooms.{Fits};
+ghost use Rattle.run_forms.specs.{Rest.counted_at, Rest.shown_by, Rooms.Fits};
 ghost use Rattle.fz_run.specs.Rows.{input_bytes};
 ghost use Rattle.watched_code.specs.Watched as tables;
-ghost use Rattle.watched_runs.specs.Rows.{FaultSeen, watched_harness};
-ghost use Rattle.watched_runs.specs.Samples.{AscendThroughout};
+ghost use Rattle.watched_runs.specs.{Rows.FaultSeen, Rows.watched_harness, Samples.AscendThroughout};
 
 use crate::upsets::{change, restore, upset_of};
 use codegen::Firmware;

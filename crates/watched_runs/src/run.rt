@@ -1,10 +1,8 @@
 //! Runs of a firmware with watched tables under upsets.
 ghost use Rattle.std.specs.Prelude.{ℕ, ◌≡◌, ◌≤◌, map, IfOk};
-ghost use Rattle.interrupt_plan.specs.Plans.{IsGood};
-ghost use Rattle.interrupt_plan.specs.Upsets.{AreGoodUpsets};
+ghost use Rattle.interrupt_plan.specs.{Plans.IsGood, Upsets.AreGoodUpsets};
 ghost use Rattle.fz_run.specs.Rows.{input_bytes};
-ghost use Rattle.watched_runs.specs.Rows.{row_seen, upset_rows, faults_of};
-ghost use Rattle.watched_runs.specs.Answering.{AnswersItsSamples};
+ghost use Rattle.watched_runs.specs.{Rows.row_seen, Rows.upset_rows, Rows.faults_of, Answering.AnswersItsSamples};
 
 use crate::form::{WatchedRow, WithUpsets};
 use crate::laws::answers_under_all_upsets;

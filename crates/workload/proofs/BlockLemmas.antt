@@ -5,17 +5,12 @@ use Rattle.std.proofs.lemmas.List.Concat.{length-flat_map}
 use Rattle.std.specs.List.{range_with_len}
 use Rattle.std.specs.Prelude.{false, flat_map}
 use Rattle.fuzzy_meaning.specs.declared.block.Rule.{Rule}
-use Rattle.rule_layout.specs.declared.flat.Conjunction.{Conjunction}
-use Rattle.rule_layout.specs.declared.flat.Form.{Form}
+use Rattle.rule_layout.specs.declared.{flat.Conjunction.Conjunction, flat.Form.Form, flat.Slot.Slot}
 use Rattle.rule_layout.specs.declared.flat.Form.TheVariants.{Rev, Revw}
-use Rattle.rule_layout.specs.declared.flat.Slot.{Slot}
 use Rattle.rule_layout.specs.Layouts.{conjunction_count, conjunctions_of, element_width, form_of, list_size}
 use Rattle.rule_layout.specs.Layouts.{conjunction_of, rule_conjunctions, rule_spread}
-use Rattle.rule_layout.specs.Lists.{marked}
-use Rattle.rule_layout.specs.Slots.{slots_of}
-use Rattle.rule_layout.specs.Spreading.{literal}
-use Rattle.workload.specs.Blocks.{drawn_block, drawn_rule, drawn_rules}
-use Rattle.workload.specs.Laws.{DrawnBlocksAreWithinLimits}
+use Rattle.rule_layout.specs.{Lists.marked, Slots.slots_of, Spreading.literal}
+use Rattle.workload.specs.{Blocks.drawn_block, Blocks.drawn_rule, Blocks.drawn_rules, Laws.DrawnBlocksAreWithinLimits}
 
 -- n rules, from a number on
 abbrev rules_from : ℕ → ℕ → ℕ → List Rule

@@ -8,25 +8,16 @@ use Rattle.std.specs.Str.{str_to_ascii_lowercase}
 use Rattle.std.proofs.lemmas.Bool.{and_parts}
 use Rattle.fuzzy_meaning.specs.declared.block.Rule.{Rule}
 use Rattle.fcl_syntax.specs.Annotations.{IsClean, Sym, tokens_of}
-use Rattle.fcl_syntax.specs.Cuts.{CutsAreTokens}
-use Rattle.fcl_syntax.specs.First.{Spells}
-use Rattle.fcl_syntax.specs.Grammar.{block_text}
+use Rattle.fcl_syntax.specs.{Cuts.CutsAreTokens, First.Spells, Grammar.block_text, Text.SpellsTree, View.view}
 use Rattle.fcl_syntax.specs.Lexing.{Lexed, colon_piece, delimiter_piece, lexed, number_len, number_piece, open_piece}
 use Rattle.fcl_syntax.specs.Lexing.{point_piece, slash_piece, tokenization, word_token}
-use Rattle.fcl_syntax.specs.Text.{SpellsTree}
-use Rattle.fcl_syntax.specs.View.{view}
-use Rattle.fcl_syntax.specs.declared.fault.Kind.{Kind}
-use Rattle.fcl_syntax.specs.declared.token.Token.{Token}
-use Rattle.fcl_syntax.specs.declared.tree.Rule.{Rule as RuleNode}
+use Rattle.fcl_syntax.specs.declared.{fault.Kind.Kind, token.Token.Token, tree.Rule.Rule as RuleNode}
 use Rattle.fcl_check.specs.Faults.{first_fault, kinds, mistaken_in, mistaken_section, unknown, unknown_in}
 use Rattle.fcl_check.specs.Faults.{unknown_section, wrong_side}
 use Rattle.fcl_check.specs.Loaded.{IsBlockOf, IsInputOf, IsOutputOf, IsRuleOf, IsTermOf}
-use Rattle.fcl_check.specs.Places.{first}
-use Rattle.fcl_check.specs.Texts.{SpelledBlocksAreValid}
-use Rattle.fcl_check.specs.declared.fault.LoadFault.{LoadFault}
+use Rattle.fcl_check.specs.{Places.first, Texts.SpelledBlocksAreValid, declared.fault.LoadFault.LoadFault}
 use Rattle.workload.specs.Blocks.{drawn_block, drawn_input, drawn_output, drawn_rules, term_number}
-use Rattle.workload.specs.Laws.{DrawnTextsSpellBlocks}
-use Rattle.workload.specs.Texts.{fcl_text, rule_text}
+use Rattle.workload.specs.{Laws.DrawnTextsSpellBlocks, Texts.fcl_text, Texts.rule_text}
 use Rattle.workload.proofs.RuleLemmas.{IsDrawn, are_drawn, each_five, letters_before, named_by, named_in}
 use Rattle.workload.proofs.TreeOfText.{defuzzify_at, fuzzify_at, term_at, tree}
 

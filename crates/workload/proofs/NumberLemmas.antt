@@ -16,10 +16,9 @@ use Rattle.std.proofs.lemmas.Str.{digit_value_digit}
 use Rattle.std.proofs.lemmas.Str.Parse.{digit_from_value}
 use Rattle.std.proofs.Math.ListN.{drop_of_length-le}
 use Rattle.std.proofs.Math.Seq.{drop-append-add, take-append_seam}
-use Rattle.fz_num.specs.Decimals.{are_digits, decimal, four_places, has_four_places, is_digit, is_negative, is_numeral}
-use Rattle.fz_num.specs.Decimals.{is_point, magnitude, next_number, number, signed, without_sign}
-use Rattle.fz_num.specs.declared.dec.Dec.{Dec}
-use Rattle.fz_num.specs.declared.dec.DecFault.{DecFault}
+use Rattle.fz_num.specs.Decimals.{are_digits, decimal, four_places, has_four_places, is_digit, is_negative}
+use Rattle.fz_num.specs.Decimals.{is_numeral, is_point, magnitude, next_number, number, signed, without_sign}
+use Rattle.fz_num.specs.declared.{dec.Dec.Dec, dec.DecFault.DecFault}
 use Rattle.fz_num.specs.declared.dec.DecFault.TheVariants.{Shape, Places, Large}
 use Rattle.hex.specs.Hex.{IsBytes, decode_sized, encode_upper, upper_digits}
 use Rattle.hex.proofs.HexLemmas.{decode_of-encode_upper, decode_sized-twice, length-encode_with}

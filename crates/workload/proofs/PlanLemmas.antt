@@ -10,18 +10,13 @@ use Rattle.std.proofs.lemmas.Fmt.{length-decimal-le}
 use Rattle.std.proofs.lemmas.List.{append-nil}
 use Rattle.std.proofs.lemmas.List.Elements.{All-cons, All-nil}
 use Rattle.std.proofs.lemmas.List.FromFn.{length-map-range_with_len}
-use Rattle.cpu12_isa.specs.Regions.{free_start, is_free}
-use Rattle.cpu12_isa.specs.declared.instr.Write.{Write}
+use Rattle.cpu12_isa.specs.{Regions.free_start, Regions.is_free, declared.instr.Write.Write}
 use Rattle.csv.specs.Writing.{default_writer, row_text}
 use Rattle.hex.specs.Hex.{encode_upper, upper_digits}
 use Rattle.hex.proofs.HexLemmas.{length-encode_with}
 use Rattle.interrupt_plan.specs.Plans.{Ascends, IsGood, IsGoodRequest}
-use Rattle.interrupt_plan.specs.PlanTexts.{Spells, SpellsRequest}
-use Rattle.interrupt_plan.specs.Rows.{with_write}
-use Rattle.interrupt_plan.specs.declared.Request.{Request}
-use Rattle.workload.specs.Draws.{draw}
-use Rattle.workload.specs.Texts.{request_fields}
-use Rattle.workload.specs.Workloads.{AreDrawnRequests, drawn_request}
+use Rattle.interrupt_plan.specs.{PlanTexts.Spells, PlanTexts.SpellsRequest, Rows.with_write, declared.Request.Request}
+use Rattle.workload.specs.{Draws.draw, Texts.request_fields, Workloads.AreDrawnRequests, Workloads.drawn_request}
 use Rattle.workload.proofs.ListLemmas.{drawn_at}
 use Rattle.workload.proofs.NumberLemmas.{count_of-digits, digits_are, write_of-encoded}
 use Rattle.workload.proofs.RowLemmas.{IsRow, Writes, four_length, row_count, starts, written_rows}

@@ -6,18 +6,14 @@ use Rattle.std.specs.Prelude.{codes, is_none, not, ◌&&◌}
 use Rattle.std.specs.Str.{str_to_ascii_lowercase}
 use Rattle.fuzzy_meaning.specs.Conditions.{Condition, all, also, end, is as literal}
 use Rattle.fuzzy_meaning.specs.declared.block.Rule.{Rule}
-use Rattle.fcl_syntax.specs.declared.tree.Conclusion.{Conclusion}
-use Rattle.fcl_syntax.specs.declared.tree.Direction.{Direction}
+use Rattle.fcl_syntax.specs.declared.{tree.Conclusion.Conclusion, tree.Direction.Direction, tree.Name.Name}
 use Rattle.fcl_syntax.specs.declared.tree.Direction.TheVariants.{Input, Output}
-use Rattle.fcl_syntax.specs.declared.tree.Name.{Name}
 use Rattle.fcl_syntax.specs.declared.tree.Rule.{Rule as RuleNode}
 use Rattle.fcl_check.specs.Faults.{Pair, conclusions_of, condition_pairs, direction, is_some_direction, mistaken}
 use Rattle.fcl_check.specs.Faults.{mistaken_in, unknown_in, unknown_pair}
-use Rattle.fcl_check.specs.Loaded.{IsRuleOf, numbers_of, or_zero}
+use Rattle.fcl_check.specs.{Loaded.IsRuleOf, Loaded.numbers_of, Loaded.or_zero, Places.at_if, Places.at_some}
 use Rattle.fcl_check.specs.Names.{direction_of, is_direction, letters, term_number, variable_number}
-use Rattle.fcl_check.specs.Places.{at_if, at_some}
-use Rattle.workload.specs.Blocks.{drawn_rule}
-use Rattle.workload.specs.declared.texts.TheConstants.{VARIABLES}
+use Rattle.workload.specs.{Blocks.drawn_rule, declared.texts.TheConstants.VARIABLES}
 use Rattle.workload.proofs.TreeOfText.{name_at, rule_at, rule_length, rules_from, tree, width}
 
 -- ---- names of the variables

@@ -11,16 +11,14 @@ use Rattle.std.proofs.lemmas.List.{length-map, map-append}
 use Rattle.std.proofs.lemmas.Option.{slice_get-map}
 use Rattle.byte_scaling.specs.Cells.{bytes_of}
 use Rattle.csv.specs.Writing.{default_writer, row_text}
-use Rattle.fuzzy_meaning.specs.Blocks.{IsWithin}
-use Rattle.fuzzy_meaning.specs.declared.block.Input.{Input}
+use Rattle.fuzzy_meaning.specs.{Blocks.IsWithin, declared.block.Input.Input}
 use Rattle.fz_num.specs.declared.dec.Dec.{Dec}
 use Rattle.fz_rows.specs.FirstRows.{Fields}
 use Rattle.interrupt_plan.specs.Rows.{SpellAll}
 use Rattle.trace_io.specs.Traces.{AreWithin, SpellSamples, Spells, SpellsSample, with_decimal}
 use Rattle.trace_io.specs.declared.sample.Sample.{Sample}
-use Rattle.workload.specs.Blocks.{drawn_input, whole}
+use Rattle.workload.specs.{Blocks.drawn_input, Blocks.whole, Workloads.AreDrawnSamples, Workloads.drawn_values}
 use Rattle.workload.specs.Texts.{decimal_text, last_digit, sample_fields}
-use Rattle.workload.specs.Workloads.{AreDrawnSamples, drawn_values}
 use Rattle.workload.proofs.ListLemmas.{drawn_at, made_more}
 use Rattle.workload.proofs.NumberLemmas.{decimal-decimal_text, digits_are}
 use Rattle.workload.proofs.RowLemmas.{IsRow, Writes, pair_length, row_count, starts, written_rows}

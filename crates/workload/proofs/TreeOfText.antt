@@ -4,26 +4,21 @@ use Rattle.std.specs.Prelude.{None}
 use Rattle.fcl_syntax.specs.Grammar.{is, no_nots, more_nots, and_of, no_ands, or_of}
 use Rattle.fcl_syntax.specs.Tokens.{amount_of}
 use Rattle.fcl_syntax.specs.declared.token.Word.TheVariants as word
-use Rattle.fcl_syntax.specs.declared.tree.Declaration.{Declaration}
-use Rattle.fcl_syntax.specs.declared.tree.Defuzzify.{Defuzzify}
+use Rattle.fcl_syntax.specs.declared.{tree.Declaration.Declaration, tree.Defuzzify.Defuzzify}
 use Rattle.fcl_syntax.specs.declared.tree.DefuzzyLine.{DefuzzyLine}
 use Rattle.fcl_syntax.specs.declared.tree.DefuzzyLine.TheVariants as defuzzy
 use Rattle.fcl_syntax.specs.declared.tree.Degree.TheVariants as degree
 use Rattle.fcl_syntax.specs.declared.tree.Direction.TheVariants.{Input, Output}
 use Rattle.fcl_syntax.specs.declared.tree.FallbackValue.TheVariants as fallback
-use Rattle.fcl_syntax.specs.declared.tree.FunctionBlock.{FunctionBlock}
-use Rattle.fcl_syntax.specs.declared.tree.Fuzzify.{Fuzzify}
+use Rattle.fcl_syntax.specs.declared.{tree.FunctionBlock.FunctionBlock, tree.Fuzzify.Fuzzify}
 use Rattle.fcl_syntax.specs.declared.tree.FuzzyLine.{FuzzyLine}
 use Rattle.fcl_syntax.specs.declared.tree.FuzzyLine.TheVariants as fuzzy
 use Rattle.fcl_syntax.specs.declared.tree.Name.{Name}
 use Rattle.fcl_syntax.specs.declared.tree.Part.TheVariants as part
-use Rattle.fcl_syntax.specs.declared.tree.Point.{Point}
-use Rattle.fcl_syntax.specs.declared.tree.Rule.{Rule}
-use Rattle.fcl_syntax.specs.declared.tree.Rulebase.{Rulebase}
+use Rattle.fcl_syntax.specs.declared.{tree.Point.Point, tree.Rule.Rule, tree.Rulebase.Rulebase}
 use Rattle.fcl_syntax.specs.declared.tree.SignedNumber.{SignedNumber}
 use Rattle.fcl_syntax.specs.declared.tree.SignedNumber.TheVariants as signed
-use Rattle.fcl_syntax.specs.declared.tree.Term.{Term}
-use Rattle.fcl_syntax.specs.declared.tree.Variables.{Variables}
+use Rattle.fcl_syntax.specs.declared.{tree.Term.Term, tree.Variables.Variables}
 use Rattle.workload.specs.Blocks.{whole}
 
 -- ---- names and numbers at a place

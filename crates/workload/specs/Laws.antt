@@ -3,8 +3,7 @@
 use Rattle.std.specs.Prelude.{ℕ, ◌<◌, ◌≤◌, length}
 use Rattle.fcl_check.specs.Texts.{SpellsBlock}
 use Rattle.rule_layout.specs.Layouts.{IsWithinLimits}
-use Rattle.workload.specs.Blocks.{drawn_block}
-use Rattle.workload.specs.Texts.{fcl_text}
+use Rattle.workload.specs.{Blocks.drawn_block, Texts.fcl_text}
 
 -- each can be laid out
 abbrev pub DrawnBlocksAreWithinLimits : Type 0

@@ -4,13 +4,10 @@ use Rattle.std.specs.Prelude.{◌≡◌, ℕ, ◌+◌, ◌*◌, List, [], ◌∷
 use Rattle.fuzzy_meaning.specs.declared.block.Block.{Block}
 use Rattle.fcl_check.specs.Texts.{SpellsBlock}
 use Rattle.cpu12_isa.specs.Regions.{free_start}
-use Rattle.interrupt_plan.specs.PlanTexts.{Spells as SpellsPlan}
-use Rattle.interrupt_plan.specs.declared.Request.{Request}
-use Rattle.trace_io.specs.Traces.{Spells as SpellsTrace}
-use Rattle.trace_io.specs.declared.sample.Sample.{Sample}
+use Rattle.interrupt_plan.specs.{PlanTexts.Spells as SpellsPlan, declared.Request.Request}
+use Rattle.trace_io.specs.{Traces.Spells as SpellsTrace, declared.sample.Sample.Sample}
 use Rattle.fz_num.specs.declared.dec.Dec.{Dec}
-use Rattle.workload.specs.Blocks.{drawn_block}
-use Rattle.workload.specs.Draws.{draw}
+use Rattle.workload.specs.{Blocks.drawn_block, Draws.draw}
 
 -- The block's shift is the first draw. Then come two draws a sample and three draws a request.
 

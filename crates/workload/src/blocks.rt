@@ -1,7 +1,7 @@
 //! The block that is drawn.
 ghost use Rattle.std.specs.Prelude.{◌≡◌, ◌<◌, IfOk};
-ghost use Rattle.workload.specs.Blocks.{drawn_block, drawn_input, drawn_output, drawn_rule, drawn_rules};
-ghost use Rattle.workload.specs.Blocks.{term_number, whole};
+ghost use Rattle.workload.specs.Blocks.{drawn_block, drawn_input, drawn_output, drawn_rule, drawn_rules, term_number};
+ghost use Rattle.workload.specs.Blocks.{whole};
 
 use fuzzy_meaning::{Block, Condition, Input, Output, Rule, Trapezoid};
 use fz_list::List;

@@ -3,9 +3,7 @@ ghost use Rattle.std.specs.Prelude.{◌≡◌, ◌≤◌, ◌<◌, ◌+◌, ℕ,
 ghost use Rattle.cpu12_isa.specs.Regions.{free_start};
 ghost use Rattle.interrupt_plan.specs.PlanTexts.{Spells};
 ghost use Rattle.csv.specs.Writing.{default_writer, row_text};
-ghost use Rattle.workload.specs.Draws.{state_after};
-ghost use Rattle.workload.specs.Texts.{request_fields};
-ghost use Rattle.workload.specs.Workloads.{AreDrawnRequests};
+ghost use Rattle.workload.specs.{Draws.state_after, Texts.request_fields, Workloads.AreDrawnRequests};
 
 use crate::draws::Draws;
 use crate::rows::with_row;

@@ -3,9 +3,7 @@ ghost use Rattle.std.specs.Prelude.{◌≡◌, ◌≤◌, ℕ, [], ◌∷◌, le
 ghost use Rattle.byte_scaling.specs.Cells.{bytes_of};
 ghost use Rattle.fuzzy_meaning.specs.Blocks.{IsValidInput};
 ghost use Rattle.trace_io.specs.Traces.{Spells};
-ghost use Rattle.workload.specs.Blocks.{drawn_input};
-ghost use Rattle.workload.specs.Draws.{state_after};
-ghost use Rattle.workload.specs.Workloads.{AreDrawnSamples};
+ghost use Rattle.workload.specs.{Blocks.drawn_input, Draws.state_after, Workloads.AreDrawnSamples};
 
 use crate::draws::Draws;
 use crate::rows::{decimal_of, with_row};

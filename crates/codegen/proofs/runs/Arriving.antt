@@ -4,31 +4,23 @@ use Rattle.std.proofs.Common.{◌≤◌, Ok, List, [], ◌∷◌, ◌++◌, map,
 use Rattle.std.proofs.Common.{subst, arith, length-set, get_or-set_same, get_or-set_other}
 use Rattle.fuzzy_meaning.specs.declared.block.Block.{Block}
 use Rattle.cpu12_isa.specs.declared.instr.Instr.TheVariants.{LdsImmediate, ClrExtended, Andcc}
-use Rattle.cpu12_isa.specs.Code.{decode_at}
-use Rattle.cpu12_isa.specs.Fits.{FitsRegs, AreBytes}
-use Rattle.cpu12_isa.specs.declared.instr.Instr.{Instr}
-use Rattle.cpu12_asm.specs.declared.items.Item.{Item}
+use Rattle.cpu12_isa.specs.declared.{instr.Instr.Instr, instr.Regs.Regs}
+use Rattle.cpu12_isa.specs.{Code.decode_at, Fits.FitsRegs, Fits.AreBytes, Agreement.Agree}
+use Rattle.cpu12_asm.specs.declared.{items.Item.Item, items.Item.TheVariants.Op}
 use Rattle.cpu12_asm.specs.Items.{given_by, IsRising}
-use Rattle.cpu12_parts.specs.State.{State}
-use Rattle.cpu12_parts.specs.Whole.{after_plain, PlainExecution}
+use Rattle.cpu12_parts.specs.{State.State, Whole.after_plain, Whole.PlainExecution}
+use Rattle.cpu12_parts.specs.declared.temps.Temps.TheVariants.{Free}
 use Rattle.cpu12_emul.specs.Step.{reset_with}
-use Rattle.eval_code.specs.declared.memory_map.MemoryMap.{MemoryMap}
-use Rattle.eval_code.specs.declared.width.Width.{Width}
+use Rattle.eval_code.specs.declared.{memory_map.MemoryMap.MemoryMap, width.Width.Width}
 use Rattle.eval_code.specs.declared.width.Width.TheVariants.{Byte, Word}
-use Rattle.eval_code.specs.Widths.{places, bytes_of}
-use Rattle.eval_code.specs.Code.{block_code, code_bytes}
+use Rattle.eval_code.specs.{Widths.places, Widths.bytes_of, Code.block_code, Code.code_bytes}
 use Rattle.eval_code.specs.Data.{table_bytes, singleton_bytes, weight_bytes, rule_bytes, bytes_of_word}
 use Rattle.eval_code.specs.Items.{bytes_at, block_items}
-use Rattle.cpu12_asm.specs.declared.items.Item.TheVariants.{Op}
-use Rattle.cpu12_isa.specs.declared.instr.Regs.{Regs}
-use Rattle.cpu12_isa.specs.Agreement.{Agree}
-use Rattle.cpu12_parts.specs.declared.temps.Temps.TheVariants.{Free}
 use Rattle.std.proofs.lemmas.Bool.{cases_eq}
-use Rattle.eval_code.specs.Evaluation.{HasBytes}
+use Rattle.eval_code.specs.{Evaluation.HasBytes, Standing.DecodesWhereItStands, Standing.ZeroBelow}
 use Rattle.eval_code.proofs.Algebra.{unmasked, same_bytes, SameHigh, high_set, bytes_set_out, bytes_after_set}
 use Rattle.eval_code.proofs.Algebra.{decode_same}
 use Rattle.cpu12_emul.specs.Image.{image_memory}
-use Rattle.eval_code.specs.Standing.{DecodesWhereItStands, ZeroBelow}
 use Rattle.cpu12_asm.specs.Bytes.{Holds}
 use Rattle.codegen.proofs.runs.Framing.{answer_room}
 use Rattle.codegen.specs.Frames.{first_waiting, IsStarted, start_code, StartArrives}

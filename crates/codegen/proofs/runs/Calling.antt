@@ -4,38 +4,25 @@ use Rattle.std.proofs.Common.{false, List, [], ◌∷◌, ◌++◌, length, get_
 use Rattle.std.proofs.Common.{sym, ap, ap₂, ◌∙◌, subst, arith}
 use Rattle.std.proofs.lemmas.Bool.{or_parts}
 use Rattle.std.proofs.lemmas.Bool.Decides.{nat_tests}
-use Rattle.fuzzy_meaning.specs.declared.block.Block.{Block}
-use Rattle.fuzzy_meaning.specs.Blocks.{IsValid}
-use Rattle.cpu12_isa.specs.Memory.{plus}
-use Rattle.cpu12_isa.specs.declared.instr.Instr.{Instr}
+use Rattle.fuzzy_meaning.specs.{declared.block.Block.Block, Blocks.IsValid}
+use Rattle.cpu12_isa.specs.{Memory.plus, Act.read_by, Agreement.AllShown, Code.six_from, Flags.has}
+use Rattle.cpu12_isa.specs.{Meaning.act_of, Meaning.effect, Regions.is_hidden, declared.instr.Instr.Instr}
 use Rattle.cpu12_isa.specs.declared.instr.Instr.TheVariants.{Rts, Rev, Revw}
-use Rattle.cpu12_isa.specs.Act.{read_by}
-use Rattle.cpu12_isa.specs.Agreement.{AllShown}
-use Rattle.cpu12_isa.specs.Code.{six_from}
-use Rattle.cpu12_isa.specs.Flags.{has}
-use Rattle.cpu12_isa.specs.Meaning.{act_of, effect}
 use Rattle.cpu12_parts.specs.declared.temps.Temps.TheVariants.{Free}
-use Rattle.cpu12_parts.specs.State.{State}
-use Rattle.cpu12_parts.specs.Laws.{addresses}
+use Rattle.cpu12_parts.specs.{State.State, Laws.addresses, Whole.after_plain, Executions.Execution}
 use Rattle.cpu12_parts.specs.Rules.{Rule, Form, concluded, all_concluded, named, raised, rules_written, rules_target}
 use Rattle.cpu12_parts.specs.Rules.{strength}
-use Rattle.cpu12_parts.specs.Whole.{after_plain}
-use Rattle.eval_code.specs.declared.memory_map.MemoryMap.{MemoryMap}
-use Rattle.eval_code.specs.declared.width.Width.{Width}
-use Rattle.eval_code.specs.Data.{table_bytes, singleton_bytes, weight_bytes, rule_bytes}
-use Rattle.eval_code.specs.Items.{IsApart}
-use Rattle.cpu12_parts.specs.Executions.{Execution}
-use Rattle.cpu12_isa.specs.Regions.{is_hidden}
-use Rattle.codegen.specs.Interruptible.{IsShownRules, IsShownInstruction, IsInterruptibleStep}
 use Rattle.cpu12_parts.specs.Touching.{IsIn, Each, IsRulesOver, IsInstructionOver}
-use Rattle.eval_code.specs.Code.{eval_code, code_bytes}
-use Rattle.eval_code.specs.Evaluation.{HasBytes, HasEval, IsAtEval, IsEvaluated, EvalAnswers, eval_bytes, Reads, Writes}
-use Rattle.eval_code.specs.Evaluation.{code_region, IsEvalStep}
+use Rattle.eval_code.specs.declared.{memory_map.MemoryMap.MemoryMap, width.Width.Width}
+use Rattle.eval_code.specs.Data.{table_bytes, singleton_bytes, weight_bytes, rule_bytes}
+use Rattle.eval_code.specs.{Items.IsApart, Code.eval_code, Code.code_bytes}
+use Rattle.eval_code.specs.Evaluation.{HasBytes, HasEval, IsAtEval, IsEvaluated, EvalAnswers, eval_bytes, Reads}
+use Rattle.eval_code.specs.Evaluation.{Writes, code_region, IsEvalStep}
+use Rattle.codegen.specs.Interruptible.{IsShownRules, IsShownInstruction, IsInterruptibleStep}
 use Rattle.cpu12_parts.proofs.Algebra.{execution_on, steps_append}
 use Rattle.eval_code.proofs.Algebra.{SameHigh, high_set, same_bytes, high_writes}
 use Rattle.std.proofs.Common.{length-append}
-use Rattle.eval_code.proofs.Algebra.{WriteBelow, Below, From}
-use Rattle.eval_code.proofs.Algebra.{apart_by, below_front, below_back, places_few}
+use Rattle.eval_code.proofs.Algebra.{WriteBelow, Below, From, apart_by, below_front, below_back, places_few}
 use Rattle.codegen.proofs.runs.Stepping.{plain_next, low_shown, high_shown, not_at}
 use Rattle.codegen.specs.Settings.{IsShut, Setting, Here, Live, ReturnGoesOn}
 use Rattle.codegen.specs.Calls.{IsInCode, HasRoutine, IsCalled, Back, CalledEvalReturns}

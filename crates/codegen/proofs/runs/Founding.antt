@@ -3,29 +3,20 @@ use Rattle.std.proofs.Common.{◌≡◌, ℕ, ◌+◌, ◌<◌, ◌≤◌, false
 use Rattle.std.proofs.Common.{append_assoc, append-nil}
 use Rattle.fuzzy_meaning.specs.declared.block.Block.{Block}
 use Rattle.rule_layout.specs.Slots.{slots_of}
-use Rattle.cpu12_isa.specs.declared.instr.Instr.{Instr}
-use Rattle.cpu12_isa.specs.declared.instr.Instr.TheVariants.{LdaaExtended, ClrExtended, Beq, Bra, JsrExtended, Rts, Rti}
-use Rattle.cpu12_isa.specs.Code.{encode_of, decode_at}
-use Rattle.cpu12_asm.specs.declared.items.Item.{Item}
-use Rattle.cpu12_asm.specs.Bytes.{Holds}
-use Rattle.cpu12_asm.specs.Items.{given_by, IsRising}
+use Rattle.cpu12_isa.specs.{declared.instr.Instr.Instr, Code.encode_of, Code.decode_at}
+use Rattle.cpu12_isa.specs.declared.instr.Instr.TheVariants.{LdaaExtended, ClrExtended, Beq, Bra, JsrExtended, Rts}
+use Rattle.cpu12_isa.specs.declared.instr.Instr.TheVariants.{Rti}
+use Rattle.cpu12_asm.specs.{declared.items.Item.Item, Bytes.Holds, Items.given_by, Items.IsRising}
 use Rattle.cpu12_emul.specs.Image.{image_memory}
-use Rattle.eval_code.specs.declared.memory_map.MemoryMap.{MemoryMap}
-use Rattle.eval_code.specs.declared.width.Width.{Width}
-use Rattle.eval_code.specs.Code.{code_bytes}
-use Rattle.eval_code.specs.Data.{bytes_of_word}
-use Rattle.eval_code.specs.Items.{bytes_at, IsApart}
-use Rattle.eval_code.specs.Evaluation.{HasBytes, eval_bytes}
-use Rattle.eval_code.specs.Placed.{StandsBetween}
-use Rattle.codegen.specs.Code.{frame_code}
-use Rattle.codegen.specs.Images.{vector_items}
-use Rattle.eval_code.specs.Standing.{BytesStand}
+use Rattle.eval_code.specs.declared.{memory_map.MemoryMap.MemoryMap, width.Width.Width}
+use Rattle.eval_code.specs.{Code.code_bytes, Data.bytes_of_word, Items.bytes_at, Items.IsApart}
+use Rattle.eval_code.specs.{Evaluation.HasBytes, Evaluation.eval_bytes, Placed.StandsBetween, Standing.BytesStand}
+use Rattle.codegen.specs.{Code.frame_code, Images.vector_items, Calls.HasRoutine, Calls.IsInCode}
+use Rattle.codegen.specs.Frames.{start_code, IsFramed, FrameCallsAndLeaves}
+use Rattle.codegen.specs.Settings.{Setting, Stands}
 use Rattle.eval_code.proofs.Algebra.{bytes_front, bytes_back}
 use Rattle.codegen.proofs.runs.Stepping.{stands_of}
 use Rattle.codegen.proofs.runs.Framing.{HasFrame, call_run, leave_run}
-use Rattle.codegen.specs.Frames.{start_code, IsFramed, FrameCallsAndLeaves}
-use Rattle.codegen.specs.Calls.{HasRoutine, IsInCode}
-use Rattle.codegen.specs.Settings.{Setting, Stands}
 
 -- the reset vector stands
 pub start_stands : BytesStand → (image : List (ℕ × ℕ)) (front : List Item) (l : MemoryMap)

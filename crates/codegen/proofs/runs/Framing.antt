@@ -6,29 +6,17 @@ use Rattle.std.proofs.Common.{get_or-set_same, get_or-set_other}
 use Rattle.std.specs.Prelude.{◌==◌}
 use Rattle.std.proofs.lemmas.Bool.{cases_eq, or_parts}
 use Rattle.std.proofs.lemmas.Bool.Decides.{nat_tests}
-use Rattle.fuzzy_meaning.specs.declared.block.Block.{Block}
-use Rattle.fuzzy_meaning.specs.Blocks.{IsValid}
+use Rattle.fuzzy_meaning.specs.{declared.block.Block.Block, Blocks.IsValid}
 use Rattle.rule_layout.specs.Layouts.{IsWithinLimits}
 use Rattle.cpu12_isa.specs.declared.instr.Instr.TheVariants.{LdaaExtended, ClrExtended, Beq, Bra, JsrExtended}
-use Rattle.cpu12_isa.specs.Agreement.{IsWritten}
-use Rattle.cpu12_isa.specs.Code.{decode_at}
-use Rattle.cpu12_isa.specs.Flags.{has}
-use Rattle.cpu12_isa.specs.Memory.{plus}
-use Rattle.cpu12_parts.specs.State.{State}
-use Rattle.cpu12_parts.specs.Whole.{after_plain}
-use Rattle.eval_code.specs.declared.memory_map.MemoryMap.{MemoryMap}
-use Rattle.eval_code.specs.declared.width.Width.{Width}
+use Rattle.cpu12_isa.specs.{Agreement.IsWritten, Code.decode_at, Flags.has, Memory.plus, Regions.is_hidden}
+use Rattle.cpu12_parts.specs.{State.State, Whole.after_plain, Executions.Execution, Executions.all_steps}
+use Rattle.eval_code.specs.declared.{memory_map.MemoryMap.MemoryMap, width.Width.Width}
 use Rattle.eval_code.specs.declared.width.Width.TheVariants.{Byte, Word}
 use Rattle.eval_code.specs.Widths.{places, bytes_of, answer}
-use Rattle.eval_code.specs.Firing.{AreInputBytes}
-use Rattle.eval_code.specs.Items.{IsApart}
-use Rattle.eval_code.specs.Bounds.{instruction_bound, step_bound}
-use Rattle.eval_code.specs.Evaluation.{HasAnswers, EvalAnswers, HasBytes}
-use Rattle.eval_code.specs.Evaluation.{put}
-use Rattle.codegen.specs.Answers.{given}
-use Rattle.cpu12_parts.specs.Executions.{Execution, all_steps}
-use Rattle.cpu12_isa.specs.Regions.{is_hidden}
-use Rattle.codegen.specs.Interruptible.{is_idle, IsInterruptibleStep}
+use Rattle.eval_code.specs.{Firing.AreInputBytes, Items.IsApart, Bounds.instruction_bound, Bounds.step_bound}
+use Rattle.eval_code.specs.Evaluation.{HasAnswers, EvalAnswers, HasBytes, put}
+use Rattle.codegen.specs.{Answers.given, Interruptible.is_idle, Interruptible.IsInterruptibleStep}
 use Rattle.eval_code.proofs.Algebra.{masked_tested, zero_tested, length-put, has_put, bytes_put_out, bytes_set_out}
 use Rattle.eval_code.proofs.Algebra.{bytes_after_set, bytes_after_put}
 use Rattle.cpu12_parts.proofs.Algebra.{execution_on, steps_append}
@@ -37,8 +25,7 @@ use Rattle.eval_code.proofs.Algebra.{high_set, high_put}
 use Rattle.codegen.proofs.runs.Stepping.{next, plain_next, goes_one, goes_on, interruptible_of, low_shown, high_shown}
 use Rattle.codegen.proofs.runs.Stepping.{not_at, clr, beq_on}
 use Rattle.codegen.proofs.runs.Calling.{called}
-use Rattle.codegen.specs.Calls.{HasRoutine, IsCalled, Back}
-use Rattle.codegen.specs.Frames.{Home, Called, Left}
+use Rattle.codegen.specs.{Calls.HasRoutine, Calls.IsCalled, Calls.Back, Frames.Home, Frames.Called, Frames.Left}
 use Rattle.codegen.specs.Settings.{code_room, Setting, Here, Live, LiveIsIdle, GivenIsLive, Stands, Next}
 
 -- the code around EVAL

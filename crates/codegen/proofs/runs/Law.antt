@@ -1,43 +1,29 @@
 -- The firmware of a block answers every list of samples by the byte answer.
 use Rattle.std.proofs.Common.{◌≡◌, ◌⊎◌, inl, inr, Bool, false, ◌≤◌, ℕ, ◌^◌, ◌<◌, List, [], ◌∷◌, length, All, refl, sym}
 use Rattle.std.proofs.Common.{ap, ◌∙◌, subst, arith}
-use Rattle.fuzzy_meaning.specs.declared.block.Block.{Block}
-use Rattle.fuzzy_meaning.specs.Blocks.{IsValid}
+use Rattle.fuzzy_meaning.specs.{declared.block.Block.Block, Blocks.IsValid}
 use Rattle.rule_layout.specs.Layouts.{IsWithinLimits}
-use Rattle.cpu12_asm.specs.Bytes.{Holds}
-use Rattle.cpu12_asm.specs.Items.{given_by, IsRising}
+use Rattle.cpu12_asm.specs.{Bytes.Holds, Items.given_by, Items.IsRising}
 use Rattle.cpu12_parts.specs.State.{State}
 use Rattle.cpu12_emul.specs.Image.{image_memory}
-use Rattle.eval_code.specs.declared.memory_map.MemoryMap.{MemoryMap}
-use Rattle.eval_code.specs.declared.width.Width.{Width}
-use Rattle.eval_code.specs.Widths.{width_of}
-use Rattle.eval_code.specs.MemoryMaps.{main_map}
-use Rattle.codegen.specs.Code.{frame_code}
-use Rattle.eval_code.specs.Bounds.{instruction_bound}
-use Rattle.codegen.specs.Images.{firmware_items}
-use Rattle.eval_code.specs.Items.{IsApart}
-use Rattle.eval_code.specs.Firing.{AreInputBytes}
-use Rattle.eval_code.specs.Evaluation.{HasBytes, Reads, Writes}
-use Rattle.eval_code.specs.Placed.{IsInOrder, BlockRises, BlockIsShort}
+use Rattle.eval_code.specs.declared.{memory_map.MemoryMap.MemoryMap, width.Width.Width}
+use Rattle.eval_code.specs.{Widths.width_of, MemoryMaps.main_map, Bounds.instruction_bound, Items.IsApart}
+use Rattle.eval_code.specs.{Firing.AreInputBytes, Evaluation.HasBytes, Evaluation.Reads, Evaluation.Writes}
+use Rattle.eval_code.specs.{Placed.IsInOrder, Placed.BlockRises, Placed.BlockIsShort, Code.code_bytes, Code.FitCode}
+use Rattle.codegen.specs.{Code.frame_code, Images.firmware_items, Laws.LowerLaws}
 use Rattle.codegen.specs.Answers.{IsArrivedBeside, AreAnsweredBeside, FirmwareAnswers, LeavesMapped, FreeBytesLeave}
 use Rattle.codegen.specs.Answers.{FirmwareAnswersBeside, ArrivesAlike, FirmwareArrivesAlike}
-use Rattle.eval_code.specs.Code.{code_bytes, FitCode}
-use Rattle.codegen.specs.Laws.{LowerLaws}
 use Rattle.codegen.proofs.runs.Stepping.{interruptible_of}
-use Rattle.cpu12_isa.specs.Regions.{is_free}
-use Rattle.cpu12_isa.specs.Agreement.{Agree}
+use Rattle.cpu12_isa.specs.{Regions.is_free, Agreement.Agree}
 use Rattle.std.proofs.lemmas.Bool.Decides.{nat_tests}
 use Rattle.codegen.proofs.runs.Founding.{frame_bytes, has_frame}
 use Rattle.codegen.proofs.runs.Placing.{whole_rises, whole_is_short}
 use Rattle.codegen.proofs.runs.Arriving.{arrive, arrive_alike}
-use Rattle.codegen.proofs.runs.Standing.{has_firmware}
-use Rattle.codegen.specs.Standing.{HasFirmware}
+use Rattle.codegen.proofs.{runs.Standing.has_firmware, runs.Sampling.are_answered}
 use Rattle.codegen.proofs.runs.Framing.{HasFrame, Samples, waits}
-use Rattle.codegen.proofs.runs.Sampling.{are_answered}
-use Rattle.cpu12_isa.specs.declared.instr.Instr.TheVariants.{Rts}
-use Rattle.codegen.specs.Calls.{IsInCode}
+use Rattle.codegen.specs.{Standing.HasFirmware, Calls.IsInCode, Settings.IsShut, Settings.Setting}
 use Rattle.codegen.specs.Frames.{IsStarted, IsFramed, start_code, Arrived}
-use Rattle.codegen.specs.Settings.{IsShut, Setting}
+use Rattle.cpu12_isa.specs.declared.instr.Instr.TheVariants.{Rts}
 
 pub main_apart : IsApart main_map
 main_apart = search arith

@@ -2,22 +2,15 @@
 use Rattle.std.proofs.Common.{ℕ, ◌+◌, ◌/◌, ◌%◌, ◌^◌, ◌<◌, ◌≤◌, List, [], ◌∷◌, ◌++◌, length, All, refl, sym, subst}
 use Rattle.std.proofs.Common.{arith, length-append}
 use Rattle.std.proofs.lemmas.List.Elements.{All-nil, All-cons, All-append}
-use Rattle.fuzzy_meaning.specs.declared.block.Block.{Block}
-use Rattle.fuzzy_meaning.specs.Blocks.{IsValid}
-use Rattle.rule_layout.specs.Slots.{slots_of}
-use Rattle.rule_layout.specs.Layouts.{flat_of, IsWithinLimits, LayoutLaw}
+use Rattle.fuzzy_meaning.specs.{declared.block.Block.Block, Blocks.IsValid}
+use Rattle.rule_layout.specs.{Slots.slots_of, Layouts.flat_of, Layouts.IsWithinLimits, Layouts.LayoutLaw}
 use Rattle.cpu12_isa.specs.declared.instr.Instr.{Instr}
-use Rattle.cpu12_asm.specs.Bytes.{Holds}
-use Rattle.cpu12_asm.specs.Items.{given_by, IsRising}
+use Rattle.cpu12_asm.specs.{Bytes.Holds, Items.given_by, Items.IsRising}
 use Rattle.cpu12_emul.specs.Image.{image_memory}
-use Rattle.eval_code.specs.declared.memory_map.MemoryMap.{MemoryMap}
-use Rattle.eval_code.specs.declared.width.Width.{Width}
-use Rattle.eval_code.specs.Code.{code_bytes}
-use Rattle.eval_code.specs.Items.{block_items, IsApart}
-use Rattle.eval_code.specs.Placed.{IsInOrder, StandsBetween, GiveBytes}
-use Rattle.eval_code.specs.Placed.{BlockRises, BlockIsShort, BlockStands}
-use Rattle.codegen.specs.Images.{vector_items}
-use Rattle.codegen.specs.Laws.{LowerLaws}
+use Rattle.eval_code.specs.declared.{memory_map.MemoryMap.MemoryMap, width.Width.Width}
+use Rattle.eval_code.specs.{Code.code_bytes, Items.block_items, Items.IsApart}
+use Rattle.eval_code.specs.Placed.{IsInOrder, StandsBetween, GiveBytes, BlockRises, BlockIsShort, BlockStands}
+use Rattle.codegen.specs.{Images.vector_items, Laws.LowerLaws}
 
 -- a memory map has room for the slots of a valid block
 pub few_slots : LayoutLaw → (b : Block) → IsValid b → length (slots_of b) ≤ 300

@@ -2,15 +2,11 @@
 use Rattle.std.proofs.Common.{ℕ, suc, List, [], ◌∷◌, All, arith}
 use Rattle.fuzzy_meaning.specs.declared.block.Block.{Block}
 use Rattle.cpu12_parts.specs.State.{State}
-use Rattle.eval_code.specs.declared.width.Width.{Width}
-use Rattle.eval_code.specs.Widths.{answer}
-use Rattle.eval_code.specs.Firing.{AreInputBytes}
-use Rattle.eval_code.specs.Bounds.{instruction_bound}
+use Rattle.eval_code.specs.{declared.width.Width.Width, Widths.answer, Firing.AreInputBytes, Bounds.instruction_bound}
 use Rattle.codegen.specs.Answers.{given, IsAnsweredBeside, AreAnsweredBeside}
+use Rattle.codegen.specs.{Frames.Home, Settings.Setting}
 use Rattle.codegen.proofs.runs.Stepping.{interruptible_of}
 use Rattle.codegen.proofs.runs.Framing.{Samples, Sampled, sample_run, waits}
-use Rattle.codegen.specs.Frames.{Home}
-use Rattle.codegen.specs.Settings.{Setting}
 
 answered : (c : Setting) (b : Block) (w : Width) (bytes : List ℕ) (before : ℕ → ℕ) (s : State) → Samples c b w
     → (r : Sampled c b w bytes before (given c.memory_map bytes s))

@@ -3,11 +3,8 @@ use Rattle.std.proofs.Common.{◌<◌, [], ◌∷◌, ◌++◌, arith}
 use Rattle.cpu12_isa.specs.declared.instr.Instr.TheVariants.{Rts}
 use Rattle.cpu12_emul.specs.Image.{image_memory}
 use Rattle.eval_code.specs.Items.{block_items}
-use Rattle.codegen.specs.Images.{vector_items}
-use Rattle.codegen.specs.Laws.{LowerLaws}
-use Rattle.codegen.specs.Standing.{ImageHasFirmware}
-use Rattle.codegen.proofs.runs.Arriving.{zero_below}
-use Rattle.codegen.proofs.runs.Founding.{start_stands, has_routine}
+use Rattle.codegen.specs.{Images.vector_items, Laws.LowerLaws, Standing.ImageHasFirmware}
+use Rattle.codegen.proofs.{runs.Arriving.zero_below, runs.Founding.start_stands, runs.Founding.has_routine}
 use Rattle.codegen.proofs.runs.Placing.{few_slots, whole_rises, whole_stands, whole_fits}
 
 pub has_firmware : LowerLaws → ImageHasFirmware

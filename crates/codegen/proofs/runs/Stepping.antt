@@ -5,29 +5,19 @@ use Rattle.std.proofs.Common.{refl, sym, ap, ◌∙◌, arith, length-append}
 use Rattle.std.specs.Prelude.{◌==◌, if◌then◌else◌}
 use Rattle.std.proofs.lemmas.Bool.Decides.{nat_tests}
 use Rattle.cpu12_isa.specs.declared.instr.Instr.{Instr}
-use Rattle.cpu12_isa.specs.Act.{read_by}
-use Rattle.cpu12_isa.specs.Agreement.{AllShown, Uncovers}
-use Rattle.cpu12_isa.specs.Code.{encode_of, decode_at, six_from, FitsOperands}
-use Rattle.cpu12_isa.specs.Flags.{has}
-use Rattle.cpu12_isa.specs.Meaning.{act_of, effect, is_plain}
-use Rattle.cpu12_isa.specs.Memory.{plus}
-use Rattle.cpu12_isa.proofs.Algebra.{length_writes}
-use Rattle.cpu12_parts.specs.State.{State}
-use Rattle.cpu12_parts.specs.Laws.{addresses}
-use Rattle.cpu12_parts.specs.Touching.{Each}
-use Rattle.cpu12_parts.specs.Whole.{after_plain}
-use Rattle.eval_code.specs.declared.memory_map.MemoryMap.{MemoryMap}
-use Rattle.cpu12_isa.specs.Regions.{is_hidden}
-use Rattle.eval_code.specs.Masks.{interrupt_masks}
-use Rattle.codegen.specs.Interruptible.{is_idle, IsSteady, IsShownPlain, IsInterruptibleStep}
 use Rattle.cpu12_isa.specs.declared.instr.Instr.TheVariants.{ClrExtended, Beq}
-use Rattle.eval_code.specs.Code.{code_bytes}
-use Rattle.eval_code.proofs.Algebra.{WriteBelow, below_more, high_writes, bytes_writes, bytes_front, bytes_back}
-use Rattle.eval_code.proofs.Algebra.{decode_same}
+use Rattle.cpu12_isa.specs.{Act.read_by, Agreement.AllShown, Agreement.Uncovers, Flags.has}
+use Rattle.cpu12_isa.specs.Code.{encode_of, decode_at, six_from, FitsOperands}
+use Rattle.cpu12_isa.specs.{Meaning.act_of, Meaning.effect, Meaning.is_plain, Memory.plus, Regions.is_hidden}
+use Rattle.cpu12_isa.proofs.Algebra.{length_writes}
+use Rattle.cpu12_parts.specs.{State.State, Laws.addresses, Touching.Each, Whole.after_plain}
+use Rattle.eval_code.specs.{declared.memory_map.MemoryMap.MemoryMap, Masks.interrupt_masks, Code.code_bytes}
+use Rattle.codegen.specs.Interruptible.{is_idle, IsSteady, IsShownPlain, IsInterruptibleStep}
 use Rattle.codegen.specs.Settings.{code_room, IsShut, Setting, Here, Lives, Live, Next, InstructionGoesOn}
 use Rattle.codegen.specs.Settings.{InstructionsStand, LiveIsInterruptible}
+use Rattle.eval_code.proofs.Algebra.{WriteBelow, below_more, high_writes, bytes_writes, bytes_front, bytes_back}
+use Rattle.eval_code.proofs.Algebra.{decode_same, masked_four}
 use Rattle.cpu12_parts.proofs.Algebra.{Bounded, bounded_one, bounded_on}
-use Rattle.eval_code.proofs.Algebra.{masked_four}
 
 pub sp_high : (s : State) → (s.regs.sp ≡ 0x1FFE) ⊎ (s.regs.sp ≡ 0x2000) → s.regs.sp ≤ 0x2000
 sp_high s h = ⊎_elim (λ l. omega arith) (λ r. omega arith) h

@@ -4,24 +4,19 @@ use Rattle.std.proofs.Common.{length, get_or, refl, sym, ap, ap₂, ◌∙◌, s
 use Rattle.std.proofs.Common.{arith}
 use Rattle.std.proofs.lemmas.Bool.Decides.{nat_tests}
 use Rattle.fuzzy_meaning.specs.declared.block.Block.{Block}
-use Rattle.cpu12_isa.specs.Memory.{word_of}
-use Rattle.cpu12_isa.specs.Regions.{is_free}
-use Rattle.cpu12_parts.specs.State.{State}
-use Rattle.cpu12_parts.specs.Whole.{PlainExecution, IsWholeStep}
+use Rattle.cpu12_isa.specs.{Memory.word_of, Regions.is_free}
+use Rattle.cpu12_parts.specs.{State.State, Whole.PlainExecution, Whole.IsWholeStep}
 use Rattle.cpu12_parts.specs.Executions.{Execution, IsStepBefore, IsUntil, ExecutionsAreOne}
-use Rattle.cpu12_emul.specs.Image.{image_memory}
-use Rattle.cpu12_emul.specs.Step.{reset_with}
-use Rattle.eval_code.specs.declared.memory_map.MemoryMap.{MemoryMap}
-use Rattle.eval_code.specs.declared.width.Width.{Width}
+use Rattle.cpu12_emul.specs.{Image.image_memory, Step.reset_with}
+use Rattle.eval_code.specs.declared.{memory_map.MemoryMap.MemoryMap, width.Width.Width}
 use Rattle.eval_code.specs.declared.width.Width.TheVariants.{Byte, Word}
+use Rattle.eval_code.specs.{Widths.width_of, Widths.places, Widths.bytes_of, Widths.answer, Evaluation.HasBytes}
 use Rattle.codegen.specs.declared.firmware.Firmware.{Firmware}
-use Rattle.eval_code.specs.Widths.{width_of, places, bytes_of, answer}
-use Rattle.eval_code.specs.Evaluation.{HasBytes}
 use Rattle.codegen.specs.Interruptible.{is_idle, IsShownInstruction, IsInterruptibleStep}
 use Rattle.codegen.specs.Answers.{given, AreAnswered, FirmwareAnswers}
 use Rattle.codegen.specs.Uninterrupted.{Answer, value_at, values_from, values_in, is_waiting, AreAnswersTo}
-use Rattle.codegen.specs.Uninterrupted.{UninterruptedAreOne, AreAnswersOf, answers_by}
-use Rattle.codegen.specs.Uninterrupted.{AnsweredAreUninterrupted, FirmwareIsUninterrupted}
+use Rattle.codegen.specs.Uninterrupted.{UninterruptedAreOne, AreAnswersOf, answers_by, AnsweredAreUninterrupted}
+use Rattle.codegen.specs.Uninterrupted.{FirmwareIsUninterrupted}
 
 -- They have one value.
 answer_is : (a b : Answer) → a.values ≡ b.values → a.instructions ≡ b.instructions → a ≡ b

@@ -4,34 +4,24 @@ use Rattle.std.proofs.Common.{◌++◌, length, get_or, All, refl, sym, ap}
 use Rattle.std.proofs.Common.{◌∙◌, subst, arith, get_or-set_same}
 use Rattle.std.specs.Prelude.{◌==◌, if◌then◌else◌}
 use Rattle.std.proofs.lemmas.Bool.Decides.{nat_tests}
-use Rattle.fuzzy_meaning.specs.declared.block.Block.{Block}
-use Rattle.fuzzy_meaning.specs.Blocks.{IsValid}
+use Rattle.fuzzy_meaning.specs.{declared.block.Block.Block, Blocks.IsValid}
 use Rattle.cpu12_isa.specs.declared.instr.Instr.TheVariants.{LdaaExtended, Beq, Orcc}
-use Rattle.cpu12_isa.specs.Fits.{StaysFit}
-use Rattle.cpu12_isa.specs.Flags.{has}
-use Rattle.cpu12_parts.specs.State.{State}
-use Rattle.cpu12_parts.specs.Executions.{Execution, IsStepBefore}
-use Rattle.cpu12_emul.specs.Image.{image_memory}
-use Rattle.cpu12_emul.specs.Step.{reset_with}
-use Rattle.eval_code.specs.Standing.{DecodesWhereItStands}
-use Rattle.codegen.specs.declared.firmware.Firmware.{Firmware}
-use Rattle.eval_code.specs.declared.memory_map.MemoryMap.{MemoryMap}
-use Rattle.eval_code.specs.declared.width.Width.{Width}
+use Rattle.cpu12_isa.specs.{Fits.StaysFit, Flags.has}
+use Rattle.cpu12_parts.specs.{State.State, Executions.Execution, Executions.IsStepBefore}
+use Rattle.cpu12_emul.specs.{Image.image_memory, Step.reset_with}
+use Rattle.eval_code.specs.{Standing.DecodesWhereItStands, Firing.AreInputBytes}
 use Rattle.eval_code.specs.Widths.{width_of, places, bytes_of, answer}
-use Rattle.eval_code.specs.Firing.{AreInputBytes}
-use Rattle.eval_code.specs.Evaluation.{HasBytes, HasAnswers}
-use Rattle.codegen.specs.Interruptible.{is_idle}
-use Rattle.eval_code.specs.Evaluation.{put}
-use Rattle.codegen.specs.Answers.{given}
+use Rattle.eval_code.specs.Evaluation.{HasBytes, HasAnswers, put}
+use Rattle.eval_code.specs.declared.{memory_map.MemoryMap.MemoryMap, width.Width.Width}
+use Rattle.codegen.specs.declared.firmware.Firmware.{Firmware}
+use Rattle.codegen.specs.{Interruptible.is_idle, Answers.given, Mailboxes.is_postable, Mailboxes.mailbox_map}
 use Rattle.codegen.specs.Uninterrupted.{Answer, values_in, AreAnswersTo, AreAnswersOf}
-use Rattle.codegen.specs.Mailboxes.{is_postable, mailbox_map}
 use Rattle.codegen.specs.Turns.{IsAt, IsMaskedStep, IsCopied, IsLook, IsChoice, TakesTurns, MailboxTakesPosts}
 use Rattle.codegen.specs.Turns.{MailboxIsUninterrupted, call_of}
 use Rattle.codegen.specs.SampleTurns.{IsSampleTurn, TakesSamples, MailboxTakesSamples}
 use Rattle.cpu12_parts.proofs.Algebra.{execution_on}
 use Rattle.std.proofs.Common.{length-append}
-use Rattle.eval_code.proofs.Algebra.{length-put, has_put, bytes_by, bytes_put_out}
-use Rattle.eval_code.proofs.Algebra.{bytes_set_out, same_bytes}
+use Rattle.eval_code.proofs.Algebra.{length-put, has_put, bytes_by, bytes_put_out, bytes_set_out, same_bytes}
 use Rattle.codegen.proofs.runs.Stepping.{not_at}
 use Rattle.codegen.proofs.runs.Framing.{answer_room, not_ready, given_live, waits as idle}
 use Rattle.codegen.proofs.runs.Uninterrupted.{uninterrupted, waits, arrival, count_from, value_from}

@@ -3,12 +3,9 @@ use Rattle.std.proofs.Common.{◌≡◌, ◌≢◌, ◌⊎◌, inl, inr, ⊎_eli
 use Rattle.std.proofs.Common.{List, [], ◌∷◌, ◌++◌, length, get_or, set, min, refl, sym, ap, ◌∙◌}
 use Rattle.std.proofs.Common.{subst, arith, get_or-set_same, get_or-set_other}
 use Rattle.std.proofs.lemmas.Bool.Decides.{nat_tests}
-use Rattle.cpu12_isa.specs.declared.instr.Instr.{Instr}
+use Rattle.cpu12_isa.specs.{declared.instr.Instr.Instr, Regions.is_free}
 use Rattle.cpu12_isa.specs.declared.instr.Instr.TheVariants.{ClrExtended, Andcc, Orcc, MovbExtended}
-use Rattle.cpu12_isa.specs.Regions.{is_free}
-use Rattle.cpu12_parts.specs.State.{State}
-use Rattle.cpu12_parts.specs.Whole.{after_plain}
-use Rattle.cpu12_parts.specs.Executions.{Execution}
+use Rattle.cpu12_parts.specs.{State.State, Whole.after_plain, Executions.Execution}
 use Rattle.codegen.specs.Mailboxes.{is_postable, mailbox_map, copy_code, call_code}
 use Rattle.codegen.specs.Turns.{IsAt, IsMaskedStep, IsCopied}
 use Rattle.cpu12_parts.proofs.Algebra.{execution_on}

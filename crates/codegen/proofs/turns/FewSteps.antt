@@ -1,7 +1,6 @@
 -- How many steps a sample takes the mailbox firmware at most.
 use Rattle.std.proofs.Common.{arith}
-use Rattle.eval_code.specs.Bounds.{BoundsAreFew}
-use Rattle.eval_code.specs.Widths.{width_of}
+use Rattle.eval_code.specs.{Bounds.BoundsAreFew, Widths.width_of}
 use Rattle.codegen.specs.Mailboxes.{mailbox_bound, MailboxStepsAreFew}
 
 pub steps_are_few : BoundsAreFew → MailboxStepsAreFew

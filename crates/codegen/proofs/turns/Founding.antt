@@ -1,29 +1,21 @@
 -- The mailbox form's code stands in its memory.
 use Rattle.std.proofs.Common.{◌≡◌, inr, ℕ, zero, suc, ◌+◌, ◌-◌, ◌*◌, ◌^◌, ◌<◌, ◌≤◌, List, [], ◌∷◌, ◌++◌, length, refl}
 use Rattle.std.proofs.Common.{ap, ap₂, ◌∙◌, subst, arith}
-use Rattle.fuzzy_meaning.specs.declared.block.Block.{Block}
-use Rattle.fuzzy_meaning.specs.Blocks.{IsValid}
+use Rattle.fuzzy_meaning.specs.{declared.block.Block.Block, Blocks.IsValid}
 use Rattle.rule_layout.specs.Layouts.{IsWithinLimits}
-use Rattle.cpu12_isa.specs.declared.instr.Instr.{Instr}
+use Rattle.cpu12_isa.specs.{declared.instr.Instr.Instr, Code.encode_of}
 use Rattle.cpu12_isa.specs.declared.instr.Instr.TheVariants.{LdaaExtended, Beq, Bra, JsrExtended, MovbExtended, Orcc}
 use Rattle.cpu12_isa.specs.declared.instr.Instr.TheVariants.{Rts}
-use Rattle.cpu12_isa.specs.Code.{encode_of}
 use Rattle.cpu12_asm.specs.Items.{IsRising}
-use Rattle.eval_code.specs.declared.width.Width.{Width}
-use Rattle.eval_code.specs.Items.{IsApart}
-use Rattle.eval_code.specs.Evaluation.{HasBytes}
-use Rattle.eval_code.specs.Placed.{IsInOrder, BlockRises, BlockIsShort}
+use Rattle.eval_code.specs.{declared.width.Width.Width, Items.IsApart, Evaluation.HasBytes}
+use Rattle.eval_code.specs.{Placed.IsInOrder, Placed.BlockRises, Placed.BlockIsShort, Code.code_bytes, Code.FitCode}
 use Rattle.codegen.specs.Mailboxes.{mailbox_map, copy_code, call_code, mailbox_code, mailbox_items}
-use Rattle.eval_code.specs.Code.{code_bytes, FitCode}
-use Rattle.eval_code.proofs.Algebra.{length-code_bytes, code_size, code_size-append}
-use Rattle.eval_code.proofs.Algebra.{fit_append, bytes_front}
-use Rattle.eval_code.proofs.Algebra.{bytes_back}
-use Rattle.codegen.proofs.runs.Stepping.{stands_of}
-use Rattle.codegen.proofs.runs.Placing.{whole_rises, whole_is_short}
-use Rattle.codegen.proofs.turns.Posting.{Post, HasTurn, free_ctx, post_ctx}
-use Rattle.codegen.specs.Calls.{IsInCode}
-use Rattle.codegen.specs.Frames.{IsStarted, start_code}
+use Rattle.codegen.specs.{Calls.IsInCode, Frames.IsStarted, Frames.start_code}
 use Rattle.codegen.specs.Settings.{Setting, Here, Stands}
+use Rattle.eval_code.proofs.Algebra.{length-code_bytes, code_size, code_size-append, fit_append, bytes_front}
+use Rattle.eval_code.proofs.Algebra.{bytes_back}
+use Rattle.codegen.proofs.{runs.Stepping.stands_of, runs.Placing.whole_rises, runs.Placing.whole_is_short}
+use Rattle.codegen.proofs.turns.Posting.{Post, HasTurn, free_ctx, post_ctx}
 
 -- one copy more
 pub copy_more : (from to n : ℕ)

@@ -1,23 +1,15 @@
 -- The mailbox firmware of a block takes its turns.
 use Rattle.std.proofs.Common.{ℕ, ◌^◌, ◌<◌, ◌≤◌, List, length, refl, sym, subst, arith}
-use Rattle.fuzzy_meaning.specs.declared.block.Block.{Block}
-use Rattle.fuzzy_meaning.specs.Blocks.{IsValid}
+use Rattle.fuzzy_meaning.specs.{declared.block.Block.Block, Blocks.IsValid}
 use Rattle.rule_layout.specs.Layouts.{IsWithinLimits}
-use Rattle.cpu12_asm.specs.Bytes.{Holds}
-use Rattle.cpu12_asm.specs.Items.{given_by}
+use Rattle.cpu12_asm.specs.{Bytes.Holds, Items.given_by}
 use Rattle.cpu12_emul.specs.Image.{image_memory}
-use Rattle.eval_code.specs.declared.memory_map.MemoryMap.{MemoryMap}
-use Rattle.eval_code.specs.declared.width.Width.{Width}
-use Rattle.eval_code.specs.Widths.{width_of}
+use Rattle.eval_code.specs.{declared.memory_map.MemoryMap.MemoryMap, declared.width.Width.Width, Widths.width_of}
 use Rattle.codegen.specs.Mailboxes.{mailbox_map, mailbox_code, mailbox_items, mailbox_bound}
-use Rattle.codegen.specs.Turns.{TakesTurns, MailboxTakesPosts}
-use Rattle.codegen.specs.Laws.{LowerLaws}
-use Rattle.codegen.proofs.runs.Arriving.{arrive}
-use Rattle.codegen.proofs.runs.Standing.{has_firmware}
-use Rattle.codegen.specs.Standing.{HasFirmware}
+use Rattle.codegen.specs.{Turns.TakesTurns, Turns.MailboxTakesPosts, Laws.LowerLaws, Standing.HasFirmware}
+use Rattle.codegen.proofs.{runs.Arriving.arrive, runs.Standing.has_firmware, turns.Copying.copies_run}
 use Rattle.codegen.proofs.turns.Posting.{Post, post_ctx, at_of}
 use Rattle.codegen.proofs.turns.Looking.{look_run, choose_run}
-use Rattle.codegen.proofs.turns.Copying.{copies_run}
 use Rattle.codegen.proofs.turns.Turning.{Turns, turn_run}
 use Rattle.codegen.proofs.turns.Founding.{mailbox_in_order, mailbox_apart, mailbox_started, mailbox_inside}
 use Rattle.codegen.proofs.turns.Founding.{fit_mailbox, start_bytes, has_turn, has_call}

@@ -2,13 +2,9 @@
 use Rattle.std.proofs.Common.{◌≡◌, inl, ℕ, ◌+◌, ◌≤◌, nat_lt, Bool, true, false, get_or, refl, ap, ◌∙◌, arith}
 use Rattle.std.specs.Prelude.{◌==◌, if◌then◌else◌}
 use Rattle.cpu12_isa.specs.declared.instr.Instr.TheVariants.{LdaaExtended, Beq}
-use Rattle.cpu12_isa.specs.Flags.{has}
-use Rattle.cpu12_isa.specs.Memory.{plus}
-use Rattle.cpu12_isa.specs.Regions.{is_free}
-use Rattle.cpu12_parts.specs.State.{State}
-use Rattle.cpu12_parts.specs.Whole.{after_plain}
-use Rattle.codegen.specs.Mailboxes.{is_postable, mailbox_map}
-use Rattle.codegen.specs.Turns.{IsAt, IsLook, IsChoice}
+use Rattle.cpu12_isa.specs.{Flags.has, Memory.plus, Regions.is_free}
+use Rattle.cpu12_parts.specs.{State.State, Whole.after_plain}
+use Rattle.codegen.specs.{Mailboxes.is_postable, Mailboxes.mailbox_map, Turns.IsAt, Turns.IsLook, Turns.IsChoice}
 use Rattle.eval_code.proofs.Algebra.{masked_tested, zero_tested}
 use Rattle.codegen.proofs.runs.Stepping.{low_shown, plain_went}
 use Rattle.codegen.proofs.turns.Posting.{Post, HasTurn, free_ctx, lives_of, at_of}

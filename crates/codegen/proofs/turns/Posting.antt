@@ -2,18 +2,13 @@
 use Rattle.std.proofs.Common.{◌≡◌, ◌⊎◌, inl, inr, ℕ, ◌+◌, ◌^◌, ◌<◌, ◌≤◌, Bool, false, Ok, List, ◌∷◌, ◌++◌, arith}
 use Rattle.std.proofs.lemmas.Bool.Decides.{nat_tests}
 use Rattle.cpu12_isa.specs.declared.instr.Instr.TheVariants.{LdaaExtended, Beq, Orcc}
-use Rattle.cpu12_isa.specs.Code.{decode_at}
-use Rattle.cpu12_isa.specs.Fits.{StaysFit}
-use Rattle.cpu12_isa.specs.Regions.{is_free}
+use Rattle.cpu12_isa.specs.{Code.decode_at, Fits.StaysFit, Regions.is_free}
 use Rattle.cpu12_parts.specs.State.{State}
-use Rattle.eval_code.specs.Evaluation.{Reads, Writes}
-use Rattle.eval_code.specs.Standing.{DecodesWhereItStands}
-use Rattle.codegen.specs.Interruptible.{IsSteady}
+use Rattle.eval_code.specs.{Evaluation.Reads, Evaluation.Writes, Standing.DecodesWhereItStands}
+use Rattle.codegen.specs.{Interruptible.IsSteady, Turns.IsAt}
 use Rattle.codegen.specs.Mailboxes.{is_postable, mailbox_map, copy_code, call_code}
-use Rattle.codegen.specs.Turns.{IsAt}
-use Rattle.codegen.proofs.runs.Law.{free_leaves}
-use Rattle.codegen.proofs.runs.Stepping.{steady_of}
 use Rattle.codegen.specs.Settings.{IsShut, Setting, Lives, Stands}
+use Rattle.codegen.proofs.{runs.Law.free_leaves, runs.Stepping.steady_of}
 
 -- the number of inputs, the image's memory and the open flags
 pub record Post : Type 0 where

@@ -4,31 +4,23 @@ use Rattle.std.proofs.Common.{◌∷◌, ◌++◌, length}
 use Rattle.std.proofs.Common.{get_or, set, refl, sym, ap, ap₂, ◌∙◌, subst, arith, get_or-set_other}
 use Rattle.std.specs.Prelude.{if◌then◌else◌}
 use Rattle.std.proofs.lemmas.Bool.Decides.{nat_tests}
-use Rattle.fuzzy_meaning.specs.declared.block.Block.{Block}
-use Rattle.fuzzy_meaning.specs.Blocks.{IsValid}
+use Rattle.fuzzy_meaning.specs.{declared.block.Block.Block, Blocks.IsValid}
 use Rattle.rule_layout.specs.Layouts.{IsWithinLimits}
 use Rattle.cpu12_isa.specs.declared.instr.Instr.TheVariants.{JsrExtended, Bra}
 use Rattle.cpu12_isa.specs.Memory.{plus}
-use Rattle.cpu12_parts.specs.State.{State}
-use Rattle.cpu12_parts.specs.Whole.{after_plain}
-use Rattle.eval_code.specs.declared.width.Width.{Width}
-use Rattle.eval_code.specs.Widths.{places, bytes_of}
-use Rattle.eval_code.specs.Bounds.{instruction_bound, steps_by}
-use Rattle.eval_code.specs.Firing.{AreInputBytes}
-use Rattle.eval_code.specs.Items.{IsApart}
+use Rattle.cpu12_parts.specs.{State.State, Whole.after_plain}
+use Rattle.eval_code.specs.{declared.width.Width.Width, Widths.places, Widths.bytes_of}
+use Rattle.eval_code.specs.{Bounds.instruction_bound, Bounds.steps_by, Firing.AreInputBytes, Items.IsApart}
 use Rattle.eval_code.specs.Evaluation.{HasBytes, HasAnswers, EvalAnswers}
-use Rattle.codegen.specs.Interruptible.{IsInterruptibleStep}
+use Rattle.codegen.specs.{Interruptible.IsInterruptibleStep, Turns.IsAt, Turns.IsTurned}
 use Rattle.codegen.specs.Mailboxes.{is_postable, mailbox_map, mailbox_bound}
-use Rattle.codegen.specs.Turns.{IsAt, IsTurned}
 use Rattle.cpu12_parts.proofs.Algebra.{execution_on, steps_append}
 use Rattle.std.proofs.Common.{length-append}
 use Rattle.eval_code.proofs.Algebra.{bytes_set_out}
-use Rattle.codegen.proofs.runs.Stepping.{next, interruptible_of}
-use Rattle.codegen.proofs.runs.Calling.{called}
+use Rattle.codegen.proofs.{runs.Stepping.next, runs.Stepping.interruptible_of, runs.Calling.called}
 use Rattle.codegen.proofs.runs.Framing.{answer_room, pushed_word, jsr_run}
 use Rattle.codegen.proofs.turns.Posting.{Post, post_ctx, lives_of, at_of}
-use Rattle.codegen.specs.Calls.{HasRoutine, IsCalled, Back}
-use Rattle.codegen.specs.Settings.{Here, Live, Next}
+use Rattle.codegen.specs.{Calls.HasRoutine, Calls.IsCalled, Calls.Back, Settings.Here, Settings.Live, Settings.Next}
 
 -- what a turn stands on
 pub record Turns (p : Post) (b : Block) (w : Width) : Type 0 where

@@ -5,8 +5,7 @@ use Rattle.std.proofs.Common.{length-append, append_assoc, take_at, drop_at}
 use Rattle.std.specs.List.{range_with_len}
 use Rattle.std.proofs.lemmas.List.Sums.{sum_by-cons}
 use Rattle.fz_num.specs.declared.dec.Dec.{Dec}
-use Rattle.fuzzy_meaning.specs.declared.block.Block.{Block}
-use Rattle.fuzzy_meaning.specs.declared.block.Output.{Output}
+use Rattle.fuzzy_meaning.specs.declared.{block.Block.Block, block.Output.Output}
 use Rattle.byte_scaling.specs.Cells.{nearest_byte}
 use Rattle.point_slope.specs.Bytes.{ByteShare, byte_mass, byte_shares_from, total_mass, weighted_sum, byte_shares}
 use Rattle.point_slope.specs.Bytes.{centre, resting_answer}
@@ -15,11 +14,9 @@ use Rattle.std.specs.Option.{option_map_or}
 use Rattle.std.proofs.lemmas.List.{length-map, map-append}
 use Rattle.std.proofs.lemmas.List.FromFn.{length-range_with_len}
 use Rattle.rule_layout.specs.Slots.{terms_from, singleton_count, output_terms}
-use Rattle.eval_code.proofs.phases.SlotValues.{slice_get_behind}
-use Rattle.eval_code.specs.declared.width.Width.{Width}
-use Rattle.eval_code.specs.Widths.{parts, answer}
-use Rattle.eval_code.proofs.phases.Quotients.{quotient_of}
+use Rattle.eval_code.proofs.{phases.SlotValues.slice_get_behind, phases.Quotients.quotient_of}
 use Rattle.eval_code.proofs.phases.Outputs.{output_answer, output_answers}
+use Rattle.eval_code.specs.{declared.width.Width.Width, Widths.parts, Widths.answer}
 
 -- the sums over an output's terms
 pub sums_total : (b : Block) (bytes : List ℕ) (i : ℕ) (x : Output) (t : ℕ) (us : List Dec)

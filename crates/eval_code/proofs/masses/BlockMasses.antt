@@ -6,18 +6,15 @@ use Rattle.std.proofs.Common.{length-drop, append_assoc, get_or-drop, ext_get_or
 use Rattle.std.specs.Prelude.{◌==◌, if◌then◌else◌, IsSomeAnd}
 use Rattle.std.specs.List.{list_any, range_with_len}
 use Rattle.std.proofs.lemmas.List.{length-map, get_or-map, get_or-append-add, map-append}
-use Rattle.fuzzy_meaning.specs.declared.block.Block.{Block}
-use Rattle.fuzzy_meaning.specs.declared.block.Rule.{Rule}
+use Rattle.fuzzy_meaning.specs.declared.{block.Block.Block, block.Rule.Rule}
 use Rattle.fuzzy_meaning.specs.Blocks.{IsValid, HasSingleton}
 use Rattle.point_slope.specs.Bytes.{byte_mass}
-use Rattle.rule_layout.specs.declared.flat.Slot.{Slot}
+use Rattle.rule_layout.specs.declared.{flat.Slot.Slot, flat.Conjunction.Conjunction}
 use Rattle.rule_layout.specs.declared.flat.Slot.TheVariants.{Term, Complement, Out}
-use Rattle.rule_layout.specs.declared.flat.Conjunction.{Conjunction}
-use Rattle.rule_layout.specs.Masses.{least_byte, left_in, MassLaw}
-use Rattle.rule_layout.specs.Spreading.{Literal}
-use Rattle.rule_layout.specs.Slots.{terms_from, singleton_count, input_terms, output_terms, term_slot, complement_slot}
-use Rattle.rule_layout.specs.Slots.{out_slot, is_same_slot, number_in}
-use Rattle.rule_layout.specs.Slots.{slots_of, literal_slot, literal_number, conclusion_number}
+use Rattle.rule_layout.specs.{Masses.least_byte, Masses.left_in, Masses.MassLaw, Spreading.Literal}
+use Rattle.rule_layout.specs.Slots.{terms_from, singleton_count, input_terms, output_terms, term_slot}
+use Rattle.rule_layout.specs.Slots.{complement_slot, out_slot, is_same_slot, number_in, slots_of, literal_slot}
+use Rattle.rule_layout.specs.Slots.{literal_number, conclusion_number}
 use Rattle.rule_layout.specs.Layouts.{rule_spread, conjunction_of, rule_conjunctions, conjunctions_of, weights_of}
 use Rattle.rule_layout.specs.Layouts.{flat_of, LayoutLaw}
 use Rattle.cpu12_parts.specs.Parts.{weighted}

@@ -5,37 +5,26 @@ use Rattle.std.proofs.Common.{length-take, take-append-drop, inl, ◌-◌, refl,
 use Rattle.std.proofs.Common.{append-nil}
 use Rattle.std.proofs.lemmas.List.{length-map}
 use Rattle.std.proofs.lemmas.List.Sums.{sum_by-le}
-use Rattle.fuzzy_meaning.specs.declared.block.Block.{Block}
-use Rattle.fuzzy_meaning.specs.declared.block.Input.{Input}
+use Rattle.fuzzy_meaning.specs.declared.{block.Block.Block, block.Input.Input}
 use Rattle.fuzzy_meaning.specs.Blocks.{IsValid, IsValidOutput}
-use Rattle.rule_layout.specs.declared.flat.Slot.{Slot}
+use Rattle.rule_layout.specs.declared.{flat.Slot.Slot, flat.Conjunction.Conjunction, flat.Form.Form}
 use Rattle.rule_layout.specs.Lists.{marked, list_words}
 use Rattle.rule_layout.specs.Slots.{singleton_count, slots_of, input_terms, term_slot}
 use Rattle.rule_layout.specs.Layouts.{conjunctions_of, weights_of, form_of, list_size, element_width, IsWithinLimits}
-use Rattle.eval_code.specs.declared.memory_map.MemoryMap.{MemoryMap}
+use Rattle.eval_code.specs.declared.{memory_map.MemoryMap.MemoryMap, width.Width.Width}
 use Rattle.eval_code.specs.Code.{slots_code, input_slots, fuzzify_code, rules_code, outputs_code, eval_code}
 use Rattle.eval_code.specs.Firing.{slot_before, slots_before, slots_after, AreInputBytes, fired}
-use Rattle.eval_code.specs.Evaluation.{put}
-use Rattle.eval_code.proofs.Placement.{length-weights_of}
+use Rattle.eval_code.specs.{Evaluation.put, Widths.places}
+use Rattle.eval_code.specs.Bounds.{input_term_count, output_term_count, complement_count, entry_count, element_count}
+use Rattle.eval_code.specs.Bounds.{form_bound}
+use Rattle.eval_code.specs.Data.{table_bytes, singleton_bytes, weight_bytes, weight_bytes_by, rule_bytes}
+use Rattle.eval_code.specs.Data.{rule_bytes_by}
+use Rattle.eval_code.proofs.{Placement.length-weights_of, phases.Quotients.output_most, phases.Quotients.output_parts}
 use Rattle.eval_code.proofs.steps.Memory.{HasBytes, has_put, bytes_back, bytes_put_out}
 use Rattle.eval_code.proofs.phases.RuleMemory.{length-fired, Below, AllBelow, length-renamed}
 use Rattle.eval_code.proofs.phases.SlotValues.{further_slots, slots_are, further_fill, before_are, count_further}
 use Rattle.eval_code.proofs.phases.SlotValues.{length-slots, length-input_terms}
-use Rattle.rule_layout.specs.declared.flat.Conjunction.{Conjunction}
-use Rattle.rule_layout.specs.declared.flat.Form.{Form}
-use Rattle.cpu12_isa.specs.declared.instr.Instr.{Instr}
-use Rattle.cpu12_isa.specs.declared.instr.Instr.TheVariants.{LdxImmediate, LdyImmediate}
-use Rattle.cpu12_parts.specs.State.{State}
-use Rattle.cpu12_parts.specs.Whole.{after_plain}
-use Rattle.eval_code.specs.Bounds.{input_term_count, output_term_count, complement_count, entry_count, element_count}
-use Rattle.eval_code.specs.Bounds.{form_bound}
-use Rattle.eval_code.specs.declared.width.Width.{Width}
-use Rattle.eval_code.specs.Widths.{places}
-use Rattle.eval_code.proofs.phases.Quotients.{output_most, output_parts}
-use Rattle.eval_code.specs.Data.{table_bytes, singleton_bytes, weight_bytes, weight_bytes_by, rule_bytes, rule_bytes_by}
-use Rattle.eval_code.proofs.Joins.{sum_by-term_count}
-use Rattle.eval_code.proofs.Lists.{length-marked}
-use Rattle.eval_code.proofs.Sizes.{code_size, code_size-append}
+use Rattle.eval_code.proofs.{Joins.sum_by-term_count, Lists.length-marked, Sizes.code_size, Sizes.code_size-append}
 use Rattle.eval_code.proofs.phases.Fuzzify.{grades, length-grades, fuzzify_run}
 use Rattle.eval_code.proofs.phases.Filling.{fill_count, slots_run}
 use Rattle.eval_code.proofs.phases.Ruling.{AreFull, address, AtRules, rev_run, revw_run}
@@ -43,8 +32,10 @@ use Rattle.eval_code.proofs.phases.RuleFacts.{BlockFacts, HasRules, has_rules, a
 use Rattle.eval_code.proofs.steps.Stepping.{Ctx, Live, Stands, Goes, goes_one, goes_on, stands_front, stands_back}
 use Rattle.eval_code.proofs.steps.Stepping.{Reaches, reaches_at, reaches_after}
 use Rattle.eval_code.proofs.steps.Instructions.{ldx, ldy}
-use Rattle.eval_code.proofs.phases.Outputs.{outputs_run, output_answers, all_bytes, length-all_bytes}
-use Rattle.eval_code.proofs.phases.Outputs.{places_few}
+use Rattle.eval_code.proofs.phases.Outputs.{outputs_run, output_answers, all_bytes, length-all_bytes, places_few}
+use Rattle.cpu12_isa.specs.declared.instr.Instr.{Instr}
+use Rattle.cpu12_isa.specs.declared.instr.Instr.TheVariants.{LdxImmediate, LdyImmediate}
+use Rattle.cpu12_parts.specs.{State.State, Whole.after_plain}
 use Rattle.rule_layout.specs.declared.flat.Form.TheVariants as form
 
 -- the masses as the slots hold them

@@ -1,22 +1,18 @@
 -- The complements, and the cleared slots of the outputs' terms.
 use Rattle.std.proofs.Common.{◌≡◌, ℕ, ◌+◌, ◌-◌, ◌<◌, List, [], ◌∷◌, length, get_or, inl, inr, ◌≤◌, ◌++◌, map, set, refl}
 use Rattle.std.proofs.Common.{sym, ap, ap₂, ◌∙◌, arith, length-append, append_assoc, append-nil}
-use Rattle.fuzzy_meaning.specs.declared.block.Block.{Block}
-use Rattle.fuzzy_meaning.specs.declared.block.Input.{Input}
+use Rattle.fuzzy_meaning.specs.declared.{block.Block.Block, block.Input.Input}
 use Rattle.point_slope.specs.Bytes.{literal_grade}
 use Rattle.rule_layout.specs.declared.flat.Slot.{Slot}
 use Rattle.rule_layout.specs.declared.flat.Slot.TheVariants.{Term, Complement, Out}
 use Rattle.eval_code.specs.Code.{terms_before, slots_code}
 use Rattle.std.proofs.lemmas.List.{get_or_append_left}
 use Rattle.cpu12_isa.specs.declared.instr.Instr.TheVariants.{LdaaExtended, StaaExtended, ClrExtended, Coma}
-use Rattle.cpu12_parts.specs.State.{State}
-use Rattle.cpu12_parts.specs.Whole.{after_plain}
-use Rattle.eval_code.specs.Firing.{slot_before}
-use Rattle.eval_code.specs.Evaluation.{put}
-use Rattle.eval_code.proofs.steps.Memory.{at_put_in, put_end}
-use Rattle.eval_code.proofs.Sizes.{code_size}
-use Rattle.eval_code.proofs.steps.Stepping.{Ctx, Live, Stands, goes_one, goes_on, Reaches, reaches_none, reaches_after}
-use Rattle.eval_code.proofs.steps.Stepping.{reaches_at}
+use Rattle.cpu12_parts.specs.{State.State, Whole.after_plain}
+use Rattle.eval_code.specs.{Firing.slot_before, Evaluation.put}
+use Rattle.eval_code.proofs.{steps.Memory.at_put_in, steps.Memory.put_end, Sizes.code_size}
+use Rattle.eval_code.proofs.steps.Stepping.{Ctx, Live, Stands, goes_one, goes_on, Reaches, reaches_none}
+use Rattle.eval_code.proofs.steps.Stepping.{reaches_after, reaches_at}
 use Rattle.eval_code.proofs.steps.Instructions.{ldaa, staa, clr, coma}
 
 -- a slot that can be filled from the grades: a complement's term has its grade there

@@ -4,20 +4,17 @@ use Rattle.std.proofs.Common.{refl, arith, length-append, ◌+◌, ◌≤◌, in
 use Rattle.std.proofs.lemmas.List.{length-map}
 use Rattle.std.proofs.lemmas.List.Sums.{sum_by-cons}
 use Rattle.std.proofs.lemmas.Grind.{flat_map-append}
-use Rattle.fuzzy_meaning.specs.declared.block.Input.{Input}
-use Rattle.fuzzy_meaning.specs.declared.block.Trapezoid.{Trapezoid}
+use Rattle.fuzzy_meaning.specs.declared.{block.Input.Input, block.Trapezoid.Trapezoid}
 use Rattle.point_slope.specs.Tables.{row_of, rows_of, grade_of}
 use Rattle.rule_layout.specs.Slots.{term_count}
 use Rattle.cpu12_isa.specs.declared.instr.Instr.TheVariants.{Mem, LdaaExtended}
 use Rattle.eval_code.proofs.Sizes.{code_size, code_size-append}
-use Rattle.cpu12_parts.specs.State.{State}
-use Rattle.cpu12_parts.specs.Whole.{after_plain}
-use Rattle.eval_code.specs.Code.{fuzzify_code}
-use Rattle.eval_code.specs.Evaluation.{put}
 use Rattle.eval_code.proofs.steps.Memory.{HasBytes, bytes_front, bytes_back, bytes_put_out, put_append}
 use Rattle.eval_code.proofs.steps.Stepping.{Ctx, Live, Stands, Next, Goes, goes_none, goes_one, goes_on, goes_most}
 use Rattle.eval_code.proofs.steps.Stepping.{stands_front, stands_back, stands_at}
 use Rattle.eval_code.proofs.steps.Instructions.{ldaa, mem, mem_grade}
+use Rattle.cpu12_parts.specs.{State.State, Whole.after_plain}
+use Rattle.eval_code.specs.{Code.fuzzify_code, Evaluation.put}
 
 abbrev pub row_bytes : Input → List Trapezoid → List ℕ
 row_bytes i ts = flat_map (λ row. row) (map (row_of i) ts)

@@ -2,43 +2,31 @@
 use Rattle.std.proofs.Common.{◌≡◌, ◌⊎◌, inl, inr, ℕ, suc, ◌+◌, ◌-◌, ◌*◌, ◌<◌, ◌≤◌, List, [], ◌∷◌, length, sum_by, All}
 use Rattle.std.proofs.Common.{Option, Some, None, get_or, refl, sym}
 use Rattle.std.proofs.Common.{ap, ◌∙◌, subst, arith}
-use Rattle.fuzzy_meaning.specs.declared.block.Block.{Block}
-use Rattle.fuzzy_meaning.specs.Blocks.{IsValid, IsValidOutput}
+use Rattle.fuzzy_meaning.specs.{declared.block.Block.Block, Blocks.IsValid, Blocks.IsValidOutput}
 use Rattle.std.proofs.lemmas.List.Sums.{sum_by-cons}
 use Rattle.fuzzy_meaning.specs.declared.block.Output.{Output}
-use Rattle.rule_layout.specs.declared.flat.Conjunction.{Conjunction}
-use Rattle.rule_layout.specs.Slots.{slots_of, singleton_count}
-use Rattle.byte_scaling.specs.Cells.{NearestIsByte}
+use Rattle.rule_layout.specs.{declared.flat.Conjunction.Conjunction, Slots.slots_of, Slots.singleton_count}
 use Rattle.rule_layout.specs.Layouts.{conjunctions_of, IsWithinLimits, LayoutLaw}
+use Rattle.byte_scaling.specs.Cells.{NearestIsByte}
 use Rattle.eval_code.specs.Bounds.{element_count, entry_count, output_bound, instruction_bound, steps_by, step_bound}
-use Rattle.fz_num.specs.declared.dec.Dec.{Dec}
-use Rattle.eval_code.specs.declared.width.Width.{Width}
-use Rattle.eval_code.specs.declared.width.Width.TheVariants.{Byte, Word}
 use Rattle.eval_code.specs.Widths.{places, bytes_of, answer}
-use Rattle.cpu12_isa.specs.declared.instr.Instr.{Instr}
-use Rattle.cpu12_isa.specs.Code.{encode_of}
-use Rattle.cpu12_isa.specs.Fits.{StaysFit}
-use Rattle.cpu12_parts.specs.State.{State}
 use Rattle.eval_code.specs.Firing.{AreInputBytes, slots_after, RulesGiveMasses}
-use Rattle.eval_code.specs.Evaluation.{put}
-use Rattle.cpu12_parts.specs.Executions.{all_steps}
-use Rattle.eval_code.specs.Masks.{interrupt_masks}
-use Rattle.eval_code.specs.Evaluation.{HasBytes, HasEval, IsAtEval, IsEvaluated, EvalAnswers}
-use Rattle.eval_code.specs.Code.{eval_code}
+use Rattle.eval_code.specs.Evaluation.{put, HasBytes, HasEval, IsAtEval, IsEvaluated, EvalAnswers}
+use Rattle.eval_code.specs.{Masks.interrupt_masks, Code.eval_code, Standing.DecodesWhereItStands}
+use Rattle.eval_code.specs.declared.{width.Width.Width, width.Width.TheVariants.Byte, width.Width.TheVariants.Word}
+use Rattle.fz_num.specs.declared.dec.Dec.{Dec}
+use Rattle.cpu12_isa.specs.{declared.instr.Instr.Instr, Code.encode_of, Fits.StaysFit}
+use Rattle.cpu12_parts.specs.{State.State, Executions.all_steps}
 use Rattle.eval_code.proofs.steps.Memory.{has_put, at_put_out, length-put, bytes_front, bytes_back}
 use Rattle.eval_code.proofs.Sizes.{code_size, length-code_bytes}
 use Rattle.eval_code.proofs.steps.Decoding.{FitCode, code_bytes}
 use Rattle.eval_code.proofs.phases.Quotients.{output_parts, output_most}
-use Rattle.eval_code.proofs.phases.Evaluating.{masses, length-after, HasParts, Evals, evaluated, eval_most, eval_parts}
-use Rattle.eval_code.proofs.phases.Evaluating.{eval_run}
-use Rattle.eval_code.proofs.masses.Answering.{answers_are}
+use Rattle.eval_code.proofs.phases.Evaluating.{masses, length-after, HasParts, Evals, evaluated, eval_most}
+use Rattle.eval_code.proofs.phases.Evaluating.{eval_parts, eval_run}
+use Rattle.eval_code.proofs.{masses.Answering.answers_are, phases.Operands.fit_answer, phases.Operands.answer_size}
 use Rattle.eval_code.proofs.phases.Outputs.{output_answers, all_bytes, length-all_bytes, length-output_answers}
-use Rattle.eval_code.proofs.phases.Outputs.{one_stands, listed, length-listed, listed_at}
-use Rattle.eval_code.proofs.phases.Outputs.{listed_stand}
+use Rattle.eval_code.proofs.phases.Outputs.{one_stands, listed, length-listed, listed_at, listed_stand, places_few}
 use Rattle.eval_code.proofs.phases.RuleFacts.{BlockFacts, block_facts, HasRules, has_rules}
-use Rattle.eval_code.proofs.phases.Operands.{fit_answer, answer_size}
-use Rattle.eval_code.specs.Standing.{DecodesWhereItStands}
-use Rattle.eval_code.proofs.phases.Outputs.{places_few}
 use Rattle.eval_code.proofs.steps.Stepping.{Ctx, Live, Stands, Reaches, between_of}
 
 -- code that stands in memory among EVAL's

@@ -6,21 +6,18 @@ use Rattle.std.specs.Prelude.{◌==◌, if◌then◌else◌}
 use Rattle.std.specs.Option.{option_map_or}
 use Rattle.fuzzy_meaning.specs.declared.block.Output.{Output}
 use Rattle.byte_scaling.specs.Cells.{nearest_byte}
-use Rattle.eval_code.specs.declared.width.Width.{Width}
-use Rattle.eval_code.specs.declared.width.Width.TheVariants.{Byte, Word}
+use Rattle.eval_code.specs.declared.{width.Width.Width, width.Width.TheVariants.Byte, width.Width.TheVariants.Word}
 use Rattle.eval_code.specs.Widths.{parts}
 use Rattle.std.proofs.lemmas.List.{set-get_or}
 use Rattle.std.proofs.lemmas.Bool.Decides.{nat_tests}
-use Rattle.cpu12_isa.specs.declared.instr.Instr.{Instr}
+use Rattle.cpu12_isa.specs.{declared.instr.Instr.Instr, Flags.has}
 use Rattle.cpu12_isa.specs.declared.instr.Instr.TheVariants.{LdabImmediate, StabExtended, CpxImmediate, Beq, Bra}
 use Rattle.cpu12_isa.specs.declared.instr.Instr.TheVariants.{TransferYD, Ediv}
-use Rattle.cpu12_isa.specs.Flags.{has}
-use Rattle.cpu12_parts.specs.State.{State}
-use Rattle.cpu12_parts.specs.Whole.{after_plain}
-use Rattle.eval_code.specs.Code.{quotient_code}
-use Rattle.eval_code.specs.Evaluation.{Writes}
+use Rattle.cpu12_parts.specs.{State.State, Whole.after_plain}
+use Rattle.eval_code.specs.{Code.quotient_code, Evaluation.Writes}
 use Rattle.eval_code.proofs.Sizes.{code_size}
-use Rattle.eval_code.proofs.steps.Stepping.{Ctx, Live, Stands, Goes, goes_one, goes_on, stands_at, Reaches, reaches_at}
+use Rattle.eval_code.proofs.steps.Stepping.{Ctx, Live, Stands, Goes, goes_one, goes_on, stands_at, Reaches}
+use Rattle.eval_code.proofs.steps.Stepping.{reaches_at}
 use Rattle.eval_code.proofs.steps.Instructions.{ldab_byte, stab, cpx, cpx_zero, beq_on, beq_off, bra_on, tfr, ediv}
 use Rattle.eval_code.proofs.steps.Instructions.{ediv_y, ediv_sp}
 

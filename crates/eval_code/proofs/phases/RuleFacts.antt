@@ -1,10 +1,7 @@
 -- The conjunctions of a valid block and their weights, by the law on its layout.
 use Rattle.std.proofs.Common.{◌≡◌, ℕ, suc, ◌<◌, ◌≤◌, List, [], ◌∷◌, length, All, get_or, refl, arith}
-use Rattle.fuzzy_meaning.specs.declared.block.Block.{Block}
-use Rattle.fuzzy_meaning.specs.Blocks.{IsValid}
-use Rattle.rule_layout.specs.declared.flat.Slot.{Slot}
-use Rattle.rule_layout.specs.declared.flat.Conjunction.{Conjunction}
-use Rattle.rule_layout.specs.declared.flat.Form.TheVariants.{Rev}
+use Rattle.fuzzy_meaning.specs.{declared.block.Block.Block, Blocks.IsValid}
+use Rattle.rule_layout.specs.declared.{flat.Slot.Slot, flat.Conjunction.Conjunction, flat.Form.TheVariants.Rev}
 use Rattle.rule_layout.specs.Slots.{slots_of, number_in}
 use Rattle.rule_layout.specs.Layouts.{conjunctions_of, weights_of, form_of, flat_of, IsBelow, LayoutLaw}
 use Rattle.eval_code.proofs.phases.RuleMemory.{Below, AllBelow, below_all}

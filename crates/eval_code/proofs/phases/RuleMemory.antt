@@ -3,17 +3,13 @@ use Rattle.std.proofs.Common.{◌≡◌, ℕ, zero, suc, ◌+◌, ◌*◌, ◌^�
 use Rattle.std.proofs.Common.{◌++◌, map, length, sum_by, get_or, set, All, refl, sym, ap, ◌∙◌, subst, arith, length-set}
 use Rattle.std.proofs.lemmas.List.{length-map}
 use Rattle.std.proofs.lemmas.List.Sums.{sum_by-cons}
-use Rattle.rule_layout.specs.declared.flat.Conjunction.{Conjunction}
-use Rattle.rule_layout.specs.Lists.{marked}
-use Rattle.cpu12_isa.specs.Fits.{AreBytes}
-use Rattle.cpu12_isa.specs.Memory.{plus, from}
+use Rattle.rule_layout.specs.{declared.flat.Conjunction.Conjunction, Lists.marked}
+use Rattle.cpu12_isa.specs.{Fits.AreBytes, Memory.plus, Memory.from}
 use Rattle.cpu12_parts.specs.Parts.{weighted}
 use Rattle.cpu12_parts.specs.Rules.{Rule, Form, further_elements, elements_of, behind, AreNames, AreRules}
 use Rattle.cpu12_parts.specs.Rules.{behind_weights, least, strength, raised, concluded, all_concluded, last_strength}
 use Rattle.cpu12_parts.specs.Rules.{element_bytes, weight_bytes, named, rules_target, NotIn, AreApart}
-use Rattle.eval_code.specs.Bounds.{entry_count}
-use Rattle.eval_code.specs.Firing.{least_of, raised_to, fired}
-use Rattle.eval_code.specs.Evaluation.{put}
+use Rattle.eval_code.specs.{Bounds.entry_count, Firing.least_of, Firing.raised_to, Firing.fired, Evaluation.put}
 use Rattle.eval_code.proofs.steps.Memory.{at_put_in, set_put_in, SameHigh, high_set, bytes_after_set}
 use Rattle.eval_code.proofs.Lists.{length-marked}
 

@@ -3,43 +3,29 @@ use Rattle.std.proofs.Common.{◌≡◌, ℕ, ◌+◌, ◌*◌, ◌^◌, ◌<◌
 use Rattle.std.proofs.Common.{sum_by, get_or, refl, sym, ap, ap₂, ◌∙◌}
 use Rattle.std.proofs.Common.{subst, arith, inl, inr, suc, ◌-◌, Bool, Ok}
 use Rattle.std.proofs.lemmas.List.Sums.{sum_by-cons}
-use Rattle.rule_layout.specs.declared.flat.Conjunction.{Conjunction}
-use Rattle.cpu12_isa.specs.Memory.{plus, from}
-use Rattle.cpu12_parts.specs.Rules.{rev_form, revw_form, Listed, AreWeights, Rule, Form, elements_of, element_bytes}
-use Rattle.cpu12_parts.specs.Rules.{weight_bytes, named, rules_named}
-use Rattle.cpu12_parts.specs.Rules.{rules_target, AreReady, rules_whole}
-use Rattle.eval_code.specs.Bounds.{entry_count}
-use Rattle.eval_code.specs.Data.{bytes_of_word}
-use Rattle.eval_code.proofs.steps.Memory.{HasBytes, same_bytes}
-use Rattle.eval_code.proofs.phases.RuleMemory.{NamesSlots, renamed, rules_by, Below, span, rule_by, AllBelow, apart_by}
-use Rattle.eval_code.proofs.phases.RuleMemory.{rules_are, rules_target_low}
-use Rattle.eval_code.proofs.phases.RuleMemory.{element_bytes_high, weight_bytes_high, behind_fits, behind_weights_fits}
-use Rattle.eval_code.proofs.phases.RuleMemory.{elements_are, length-renamed}
-use Rattle.eval_code.proofs.phases.RuleMemory.{length-rules_by, all_is, LightRules, light_by, last_strength_lt}
-use Rattle.eval_code.proofs.phases.RuleMemory.{all_keep}
-use Rattle.rule_layout.specs.Lists.{marked, list_bytes, list_words}
+use Rattle.rule_layout.specs.{declared.flat.Conjunction.Conjunction, Lists.marked, Lists.list_bytes, Lists.list_words}
+use Rattle.cpu12_isa.specs.{Memory.plus, Memory.from, Code.decode_at, Flags.has, Flags.opened}
 use Rattle.cpu12_isa.specs.declared.instr.Instr.{Instr}
 use Rattle.cpu12_isa.specs.declared.instr.Instr.TheVariants.{LdaaImmediate, LdxImmediate, LdyImmediate, Andcc, Orcc}
 use Rattle.cpu12_isa.specs.declared.instr.Instr.TheVariants.{Rev, Revw}
-use Rattle.cpu12_isa.specs.Code.{decode_at}
-use Rattle.cpu12_isa.specs.Flags.{has, opened}
-use Rattle.cpu12_isa.proofs.Algebra.{fits_put, fits_opened}
-use Rattle.cpu12_parts.specs.State.{State}
-use Rattle.cpu12_parts.specs.Whole.{after_plain}
-use Rattle.eval_code.specs.Code.{rules_code}
-use Rattle.eval_code.specs.Firing.{fired}
-use Rattle.eval_code.specs.Evaluation.{put}
-use Rattle.cpu12_parts.specs.Touching.{Each, IsRulesOver}
-use Rattle.eval_code.specs.Masks.{interrupt_masks}
-use Rattle.eval_code.specs.Evaluation.{Reads, Writes}
+use Rattle.cpu12_parts.specs.Rules.{rev_form, revw_form, Listed, AreWeights, Rule, Form, elements_of, element_bytes}
+use Rattle.cpu12_parts.specs.Rules.{weight_bytes, named, rules_named, rules_target, AreReady, rules_whole}
+use Rattle.cpu12_parts.specs.{State.State, Whole.after_plain, Touching.Each, Touching.IsRulesOver}
+use Rattle.eval_code.specs.{Bounds.entry_count, Data.bytes_of_word, Code.rules_code, Firing.fired}
+use Rattle.eval_code.specs.{Evaluation.put, Evaluation.Reads, Evaluation.Writes, Masks.interrupt_masks}
+use Rattle.eval_code.proofs.{steps.Memory.HasBytes, steps.Memory.same_bytes, Sizes.code_size}
+use Rattle.eval_code.proofs.phases.RuleMemory.{NamesSlots, renamed, rules_by, Below, span, rule_by, AllBelow}
+use Rattle.eval_code.proofs.phases.RuleMemory.{apart_by, rules_are, rules_target_low, element_bytes_high}
+use Rattle.eval_code.proofs.phases.RuleMemory.{weight_bytes_high, behind_fits, behind_weights_fits, elements_are}
+use Rattle.eval_code.proofs.phases.RuleMemory.{length-renamed, length-rules_by, all_is, LightRules, light_by}
+use Rattle.eval_code.proofs.phases.RuleMemory.{last_strength_lt, all_keep}
 use Rattle.eval_code.proofs.steps.Flags.{masked_put, masked_open_hnzc, masked_open_hnz, overflow_off, overflow_or}
 use Rattle.eval_code.proofs.steps.Flags.{carry_or}
-use Rattle.eval_code.proofs.Sizes.{code_size}
-use Rattle.eval_code.proofs.steps.Decoding.{decode_same}
-use Rattle.eval_code.proofs.steps.Stepping.{Ctx, Live, Stands, Goes, goes_one, goes_on, goes_part, Reaches, reaches_at}
-use Rattle.eval_code.proofs.steps.Stepping.{between_of, code_in}
+use Rattle.eval_code.proofs.{steps.Decoding.decode_same, phases.Averaging.each_append, phases.Averaging.each_from}
+use Rattle.eval_code.proofs.steps.Stepping.{Ctx, Live, Stands, Goes, goes_one, goes_on, goes_part, Reaches}
+use Rattle.eval_code.proofs.steps.Stepping.{reaches_at, between_of, code_in}
 use Rattle.eval_code.proofs.steps.Instructions.{ldaa_byte, ldx, ldy, andcc_v, orcc_c}
-use Rattle.eval_code.proofs.phases.Averaging.{each_append, each_from}
+use Rattle.cpu12_isa.proofs.Algebra.{fits_put, fits_opened}
 use Rattle.rule_layout.specs.declared.flat.Form.TheVariants as form
 
 -- REV's names are the slots' numbers, REVW's their addresses

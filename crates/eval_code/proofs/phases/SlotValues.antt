@@ -9,20 +9,14 @@ use Rattle.std.specs.Option.{option_map_or}
 use Rattle.std.proofs.lemmas.List.{length-map, map-append}
 use Rattle.std.proofs.lemmas.List.FromFn.{length-range_with_len}
 use Rattle.std.proofs.lemmas.List.Sums.{sum_by-cons, sum_by-append}
-use Rattle.fuzzy_meaning.specs.declared.block.Block.{Block}
-use Rattle.fuzzy_meaning.specs.declared.block.Input.{Input}
-use Rattle.fuzzy_meaning.specs.declared.block.Trapezoid.{Trapezoid}
-use Rattle.point_slope.specs.Tables.{row_of, grade_of}
-use Rattle.point_slope.specs.Bytes.{literal_grade}
+use Rattle.fuzzy_meaning.specs.declared.{block.Block.Block, block.Input.Input, block.Trapezoid.Trapezoid}
+use Rattle.point_slope.specs.{Tables.row_of, Tables.grade_of, Bytes.literal_grade}
 use Rattle.rule_layout.specs.declared.flat.Slot.{Slot}
-use Rattle.rule_layout.specs.Slots.{terms_from, term_count, singleton_count, input_terms, output_terms, is_complemented}
-use Rattle.rule_layout.specs.Slots.{term_slot, complement_slot, out_slot}
-use Rattle.rule_layout.specs.Slots.{slots_of}
+use Rattle.rule_layout.specs.Slots.{terms_from, term_count, singleton_count, input_terms, output_terms}
+use Rattle.rule_layout.specs.Slots.{is_complemented, term_slot, complement_slot, out_slot, slots_of}
 use Rattle.eval_code.specs.Bounds.{input_term_count, output_term_count, complement_count}
-use Rattle.eval_code.specs.Code.{terms_before}
-use Rattle.eval_code.specs.Firing.{slot_before, slots_before}
-use Rattle.eval_code.proofs.phases.Fuzzify.{grades}
-use Rattle.eval_code.proofs.phases.Filling.{AllCanFill, fill_count}
+use Rattle.eval_code.specs.{Code.terms_before, Firing.slot_before, Firing.slots_before}
+use Rattle.eval_code.proofs.{phases.Fuzzify.grades, phases.Filling.AllCanFill, phases.Filling.fill_count}
 
 -- the element behind a list's front
 pub slice_get_behind : {X : Type 0} (front : List X) (x : X) (rest : List X)

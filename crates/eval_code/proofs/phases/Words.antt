@@ -7,28 +7,18 @@ use Rattle.std.proofs.lemmas.List.{set-get_or}
 use Rattle.std.proofs.lemmas.Bool.Decides.{nat_tests}
 use Rattle.std.proofs.lemmas.Nat.{div-add-mod'}
 use Rattle.std.proofs.Math.Nat.{div-div-eq-div-mul, mul-div-mul_right, mul-add-div_right, mod-lt}
-use Rattle.cpu12_isa.specs.declared.instr.Regs.{Regs}
-use Rattle.cpu12_isa.specs.declared.instr.Instr.{Instr}
+use Rattle.cpu12_isa.specs.declared.{instr.Regs.Regs, instr.Instr.Instr, instr.Ccr.Ccr}
 use Rattle.cpu12_isa.specs.declared.instr.Instr.TheVariants.{LdabImmediate, StaaExtended, StabExtended, ClrExtended}
-use Rattle.cpu12_isa.specs.declared.instr.Instr.TheVariants.{CpxImmediate, Beq, Bra, TransferXD, TransferYD, Ediv, Fdiv}
-use Rattle.cpu12_isa.specs.Flags.{has}
-use Rattle.cpu12_isa.specs.declared.instr.Ccr.{Ccr}
-use Rattle.cpu12_isa.specs.Memory.{plus}
-use Rattle.cpu12_isa.specs.Registers.{divided_fraction}
-use Rattle.cpu12_parts.specs.State.{State}
-use Rattle.cpu12_parts.specs.Whole.{after_plain}
-use Rattle.eval_code.specs.Evaluation.{put}
-use Rattle.eval_code.specs.Masks.{interrupt_masks}
-use Rattle.eval_code.specs.Evaluation.{Writes}
-use Rattle.eval_code.specs.declared.width.Width.TheVariants.{Word}
-use Rattle.eval_code.specs.Widths.{bytes_of}
-use Rattle.eval_code.specs.Code.{quotient_code}
+use Rattle.cpu12_isa.specs.declared.instr.Instr.TheVariants.{CpxImmediate, Beq, Bra, TransferXD, TransferYD, Ediv}
+use Rattle.cpu12_isa.specs.declared.instr.Instr.TheVariants.{Fdiv}
+use Rattle.cpu12_isa.specs.{Flags.has, Memory.plus, Registers.divided_fraction}
+use Rattle.cpu12_parts.specs.{State.State, Whole.after_plain}
+use Rattle.eval_code.specs.{Evaluation.put, Evaluation.Writes, Masks.interrupt_masks, Widths.bytes_of}
+use Rattle.eval_code.specs.{Code.quotient_code, declared.width.Width.TheVariants.Word}
 use Rattle.eval_code.proofs.phases.Quotients.{quotient_of, quotient_most, quotient_small}
-use Rattle.eval_code.proofs.steps.Flags.{masked_put}
-use Rattle.eval_code.proofs.steps.Memory.{HasBytes}
-use Rattle.eval_code.proofs.Sizes.{code_size}
-use Rattle.eval_code.proofs.steps.Instructions.{divided_is, ldab_byte, staa, stab, clr, cpx, cpx_zero, beq_on, beq_off}
-use Rattle.eval_code.proofs.steps.Instructions.{bra_on, tfr, ediv, ediv_y, ediv_sp}
+use Rattle.eval_code.proofs.{steps.Flags.masked_put, steps.Memory.HasBytes, Sizes.code_size}
+use Rattle.eval_code.proofs.steps.Instructions.{divided_is, ldab_byte, staa, stab, clr, cpx, cpx_zero, beq_on}
+use Rattle.eval_code.proofs.steps.Instructions.{beq_off, bra_on, tfr, ediv, ediv_y, ediv_sp}
 use Rattle.eval_code.proofs.steps.Stepping.{Ctx, Here, Live, Stands, Next, next, Goes, goes_one, goes_on, stands_at}
 use Rattle.eval_code.proofs.steps.Stepping.{Reaches, reaches_at}
 use Rattle.cpu12_isa.specs.Flags as flag

@@ -2,20 +2,15 @@
 use Rattle.std.proofs.Common.{◌≡◌, ℕ, ◌+◌, List, ◌++◌, length, sym, ap, ◌∙◌, subst, arith, append_assoc}
 use Rattle.std.proofs.lemmas.Grind.{flat_map-append}
 use Rattle.fuzzy_meaning.specs.declared.block.Block.{Block}
-use Rattle.cpu12_isa.specs.declared.instr.Instr.{Instr}
-use Rattle.cpu12_isa.specs.Code.{encode_of}
-use Rattle.cpu12_asm.specs.declared.items.Item.{Item}
-use Rattle.cpu12_asm.specs.Items.{given_by, IsRising}
-use Rattle.eval_code.specs.declared.memory_map.MemoryMap.{MemoryMap}
-use Rattle.eval_code.specs.declared.width.Width.{Width}
+use Rattle.cpu12_isa.specs.{declared.instr.Instr.Instr, Code.encode_of}
+use Rattle.cpu12_asm.specs.{declared.items.Item.Item, Items.given_by, Items.IsRising}
+use Rattle.eval_code.specs.declared.{memory_map.MemoryMap.MemoryMap, width.Width.Width}
 use Rattle.eval_code.specs.Code.{code_bytes, eval_code, block_code}
 use Rattle.eval_code.specs.Data.{table_bytes, singleton_bytes, weight_bytes, rule_bytes}
 use Rattle.eval_code.specs.Items.{code_at, bytes_at, block_items}
 use Rattle.eval_code.specs.Evaluation.{HasBytes, HasEval, eval_bytes}
-use Rattle.eval_code.proofs.Joins.{block_items-then}
-use Rattle.eval_code.proofs.steps.Memory.{bytes_front, bytes_back}
-use Rattle.eval_code.proofs.Sizes.{code_size}
-use Rattle.eval_code.proofs.Sizes.{length-code_bytes}
+use Rattle.eval_code.proofs.{Joins.block_items-then, steps.Memory.bytes_front, steps.Memory.bytes_back}
+use Rattle.eval_code.proofs.Sizes.{code_size, length-code_bytes}
 use Rattle.eval_code.proofs.placing.Standing.{Rises, HasGiven, bytes_stand, code_stands}
 
 pub bytes_append : (a b : List Instr) → code_bytes (a ++ b) ≡ code_bytes a ++ code_bytes b

@@ -6,11 +6,9 @@ use Rattle.std.proofs.lemmas.Bool.{cases_lt}
 use Rattle.std.proofs.lemmas.List.{get_or_past}
 use Rattle.std.proofs.lemmas.List.Elements.{All-head, All-tail}
 use Rattle.cpu12_isa.specs.Fits.{AreBytes}
-use Rattle.cpu12_asm.specs.Bytes.{byte_at}
-use Rattle.cpu12_asm.specs.Items.{given_by}
+use Rattle.cpu12_asm.specs.{Bytes.byte_at, Items.given_by}
 use Rattle.cpu12_emul.specs.Image.{byte_or_zero, image_memory, HoldsImage}
-use Rattle.eval_code.specs.Placed.{GiveBytes}
-use Rattle.eval_code.specs.Standing.{ImageIsBytes}
+use Rattle.eval_code.specs.{Placed.GiveBytes, Standing.ImageIsBytes}
 use Rattle.eval_code.proofs.placing.Standing.{image_given}
 
 -- a memory that has bytes that are given is one of bytes

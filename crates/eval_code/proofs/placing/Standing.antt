@@ -4,8 +4,7 @@ use Rattle.std.proofs.Common.{get_or, Some, None, refl, sym, ap, ◌∙◌}
 use Rattle.std.proofs.Common.{subst, arith, length-append, append_assoc, nat_cmp}
 use Rattle.std.specs.BTreeMap.{is_at}
 use Rattle.std.proofs.lemmas.Bool.Decides.{nat_tests}
-use Rattle.cpu12_isa.specs.declared.instr.Instr.{Instr}
-use Rattle.cpu12_isa.specs.Code.{encode_of}
+use Rattle.cpu12_isa.specs.{declared.instr.Instr.Instr, Code.encode_of}
 use Rattle.cpu12_asm.specs.declared.items.Item.{Item}
 use Rattle.cpu12_asm.specs.declared.items.Item.TheVariants.{Place, Byte, Op}
 use Rattle.cpu12_asm.specs.Bytes.{byte_at, placed, Holds}
@@ -14,8 +13,7 @@ use Rattle.cpu12_asm.specs.Rising.{RisesBehindFirst, EndsInMemory, RisesBehindPa
 use Rattle.cpu12_asm.proofs.Algebra.{or_else, byte_at-append, byte_at-placed}
 use Rattle.cpu12_emul.specs.Image.{byte_or_zero, image_memory, HoldsImage}
 use Rattle.eval_code.specs.Standing.{BytesStand, CodeStands, ZeroBelow}
-use Rattle.eval_code.proofs.steps.Memory.{HasBytes, bytes_by}
-use Rattle.eval_code.proofs.steps.Decoding.{code_bytes}
+use Rattle.eval_code.proofs.{steps.Memory.HasBytes, steps.Memory.bytes_by, steps.Decoding.code_bytes}
 
 -- the laws of items that rise
 pub record Rises : Type 0 where

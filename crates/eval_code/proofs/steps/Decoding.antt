@@ -1,9 +1,7 @@
 -- The instructions of the code, from their bytes.
 use Rattle.std.proofs.Common.{◌≡◌, ℕ, ◌+◌, ◌<◌, ◌≤◌, List, [], ◌∷◌, ◌++◌, length, get_or, ap, refl, ◌∙◌, arith}
-use Rattle.cpu12_isa.specs.declared.instr.Instr.{Instr}
+use Rattle.cpu12_isa.specs.{declared.instr.Instr.Instr, Fits.EncodedIsShort, Memory.plus, Memory.bytes_at}
 use Rattle.cpu12_isa.specs.Code.{encode_of, decode_of, decode_at, six_from, Begins, DecodesEncoded}
-use Rattle.cpu12_isa.specs.Fits.{EncodedIsShort}
-use Rattle.cpu12_isa.specs.Memory.{plus, bytes_at}
 pub use Rattle.eval_code.specs.Code.{code_bytes, FitCode}
 use Rattle.eval_code.specs.Standing.{DecodesWhereItStands}
 use Rattle.eval_code.proofs.steps.Memory.{HasBytes, SameHigh}

@@ -1,8 +1,7 @@
 -- The flags that the code rests on: I, X, V, Z and C.
 use Rattle.std.proofs.Common.{◌≡◌, ℕ, zero, suc, ◌-◌, ◌<◌, Bool, true, false, ◌&&◌, ◌||◌, bit_and, bit_or, refl, ap}
 use Rattle.std.proofs.Common.{ap₂, ◌∙◌, arith}
-use Rattle.cpu12_isa.specs.declared.instr.Ccr.{Ccr}
-use Rattle.cpu12_isa.specs.Flags.{has, put, opened}
+use Rattle.cpu12_isa.specs.{declared.instr.Ccr.Ccr, Flags.has, Flags.put, Flags.opened}
 use Rattle.cpu12_isa.proofs.Algebra.{bit, bit_or_is, bit_and_is}
 use Rattle.eval_code.specs.Masks.{interrupt_masks}
 

@@ -8,16 +8,12 @@ use Rattle.cpu12_isa.specs.declared.instr.Instr.TheVariants.{LdaaImmediate, Ldaa
 use Rattle.cpu12_isa.specs.declared.instr.Instr.TheVariants.{LdyImmediate, StaaExtended, StabExtended, ClrExtended}
 use Rattle.cpu12_isa.specs.declared.instr.Instr.TheVariants.{Coma, CpxImmediate, Beq, Bra, Andcc, Orcc, TransferYD}
 use Rattle.cpu12_isa.specs.declared.instr.Instr.TheVariants.{Ediv, Mem}
-use Rattle.cpu12_isa.specs.Flags.{has, put, tested_word}
-use Rattle.cpu12_isa.specs.Memory.{plus}
-use Rattle.cpu12_isa.specs.Registers.{grade, divided}
-use Rattle.cpu12_parts.specs.State.{State}
-use Rattle.cpu12_parts.specs.Whole.{after_plain}
+use Rattle.cpu12_isa.specs.{Flags.has, Flags.put, Flags.tested_word, Memory.plus, Registers.grade, Registers.divided}
+use Rattle.cpu12_parts.specs.{State.State, Whole.after_plain}
 use Rattle.point_slope.specs.Tables.{grade_under, grade_of}
 use Rattle.eval_code.proofs.steps.Flags.{masked_tested, masked_four, zero_four, masked_open, masked_and, masked_or}
-use Rattle.eval_code.specs.Masks.{interrupt_masks}
-use Rattle.eval_code.specs.Evaluation.{Reads, Writes}
 use Rattle.eval_code.proofs.steps.Stepping.{Ctx, Here, Live, Next, next}
+use Rattle.eval_code.specs.{Masks.interrupt_masks, Evaluation.Reads, Evaluation.Writes}
 
 -- Y:D by X, where the quotient is a word
 pub divided_is : (flags : ℕ) (r : Regs) (n : ℕ) → r.y * 2 ^ 16 + (r.a * 2 ^ 8 + r.b) ≡ n → r.x ≢ 0 → n / r.x < 65536

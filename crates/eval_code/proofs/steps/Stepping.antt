@@ -1,24 +1,16 @@
 -- One instruction of EVAL, and where it leads.
 use Rattle.std.proofs.Common.{◌≡◌, inl, inr, ℕ, ◌+◌, ◌^◌, ◌<◌, ◌≤◌, Bool, true, Ok, List, [], ◌∷◌, ◌++◌, length, refl}
 use Rattle.std.proofs.Common.{ap, ◌∙◌, subst, arith}
-use Rattle.cpu12_isa.specs.declared.instr.Instr.{Instr}
-use Rattle.cpu12_isa.specs.Act.{read_by}
+use Rattle.cpu12_isa.specs.{declared.instr.Instr.Instr, Act.read_by, Fits.FitsRegs, Fits.AreBytes, Fits.StaysFit}
 use Rattle.cpu12_isa.specs.Code.{encode_of, decode_at, six_from, FitsOperands}
-use Rattle.cpu12_isa.specs.Fits.{FitsRegs, AreBytes, StaysFit}
-use Rattle.cpu12_isa.specs.Meaning.{act_of, effect, is_plain}
-use Rattle.cpu12_isa.specs.Memory.{plus}
+use Rattle.cpu12_isa.specs.{Meaning.act_of, Meaning.effect, Meaning.is_plain, Memory.plus}
 use Rattle.cpu12_isa.proofs.Algebra.{length_writes}
-use Rattle.cpu12_parts.specs.State.{State}
-use Rattle.cpu12_parts.specs.Laws.{addresses, IsOff}
-use Rattle.cpu12_parts.specs.Whole.{after_plain}
-use Rattle.eval_code.specs.declared.memory_map.MemoryMap.{MemoryMap}
-use Rattle.eval_code.specs.Items.{IsApart}
+use Rattle.cpu12_parts.specs.{State.State, Laws.addresses, Laws.IsOff, Whole.after_plain}
 use Rattle.cpu12_parts.specs.Touching.{IsIn, Each, IsBetween}
-use Rattle.eval_code.specs.Masks.{interrupt_masks}
+use Rattle.eval_code.specs.{declared.memory_map.MemoryMap.MemoryMap, Items.IsApart, Masks.interrupt_masks}
 use Rattle.eval_code.specs.Evaluation.{Writes, Reads, code_region, IsEvalStep}
 use Rattle.eval_code.proofs.steps.Memory.{SameHigh, WriteBelow, high_writes, bytes_writes}
-use Rattle.eval_code.proofs.Sizes.{code_size}
-use Rattle.eval_code.proofs.steps.Decoding.{decode_same}
+use Rattle.eval_code.proofs.{Sizes.code_size, steps.Decoding.decode_same}
 use Rattle.cpu12_parts.proofs.Algebra.{Bounded, bounded_none, bounded_one, bounded_on, bounded_more}
 
 -- what a run is under: the memory map, memory where EVAL begins and the open flags, and SP, I and X as they stay

@@ -7,10 +7,8 @@ use Rattle.std.proofs.lemmas.List.{take_more}
 use Rattle.fcl_syntax.specs.declared.tree.Point.{Point}
 use Rattle.fz_num.specs.declared.dec.Dec.{Dec}
 use Rattle.fcl_check.specs.declared.inputs.Corners.{Corners}
-use Rattle.fcl_check.specs.Corners.{AreCornersOf}
-use Rattle.fcl_check.specs.Loaded.{number_of, abscissa_of}
-use Rattle.fcl_check.specs.Places.{first, drop_while}
-use Rattle.fcl_check.specs.Sections.{has_one, has_zero, x_of}
+use Rattle.fcl_check.specs.{Corners.AreCornersOf, Loaded.number_of, Loaded.abscissa_of}
+use Rattle.fcl_check.specs.{Places.first, Places.drop_while, Sections.has_one, Sections.has_zero, Sections.x_of}
 use Rattle.fcl_check.proofs.lists.Pushes.{last-push, first-push, take_while-all, drop_while-all, list_all-push}
 use Rattle.fcl_check.proofs.lists.Pushes.{take_while-push, drop_while-push, filter-pass, filter-fail, none-passes}
 use Rattle.fcl_check.proofs.lists.Pushes.{one-passes}

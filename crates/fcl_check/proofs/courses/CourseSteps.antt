@@ -7,13 +7,10 @@ use Rattle.std.specs.List.{filter, list_all, take_while}
 use Rattle.std.proofs.lemmas.Bool.{cases_Bool}
 use Rattle.std.proofs.lemmas.Int.{ints}
 use Rattle.std.proofs.lemmas.List.Sums.{take_while-cons}
-use Rattle.fz_num.specs.declared.dec.Dec.{Dec}
-use Rattle.fz_num.specs.Fractions.{one, none}
-use Rattle.fuzzy_meaning.specs.declared.block.Trapezoid.{Trapezoid}
-use Rattle.fuzzy_meaning.specs.Degrees.{degree}
+use Rattle.fz_num.specs.{declared.dec.Dec.Dec, Fractions.one, Fractions.none}
+use Rattle.fuzzy_meaning.specs.{declared.block.Trapezoid.Trapezoid, Degrees.degree}
 use Rattle.fcl_syntax.specs.declared.tree.Point.{Point}
-use Rattle.fcl_check.specs.Courses.{AreSame, course}
-use Rattle.fcl_check.specs.Loaded.{number_of, abscissa_of}
+use Rattle.fcl_check.specs.{Courses.AreSame, Courses.course, Loaded.number_of, Loaded.abscissa_of}
 use Rattle.fcl_check.specs.Places.{first, last, drop_while}
 use Rattle.fcl_check.specs.Sections.{has_one, has_shape, has_zero, x_of}
 use Rattle.fcl_check.proofs.courses.Heights.{AreSame-refl, at-top, before, behind, height-one, height-zero}

@@ -1,8 +1,7 @@
 -- The points below the one before them, as a term's points are walked.
 use Rattle.std.proofs.Common.{◌≡◌, ℕ, List, [], ◌∷◌, ◌++◌, refl, ap}
 use Rattle.std.specs.Prelude.{ℤ, int_lt}
-use Rattle.fcl_syntax.specs.declared.tree.Point.{Point}
-use Rattle.fcl_syntax.specs.declared.tree.Term.{Term}
+use Rattle.fcl_syntax.specs.declared.{tree.Point.Point, tree.Term.Term}
 use Rattle.fcl_check.specs.Places.{at_each, at_if, first}
 use Rattle.fcl_check.specs.Sections.{falling_in, is_below, x_of}
 

@@ -6,12 +6,10 @@ use Rattle.std.proofs.lemmas.Int.{ints}
 use Rattle.std.proofs.lemmas.Bool.Decides.{nat_tests}
 use Rattle.fz_num.specs.declared.dec.Dec.{Dec}
 use Rattle.fz_num.specs.Fractions.{Fraction, over, lesser, one, none}
-use Rattle.fuzzy_meaning.specs.declared.block.Trapezoid.{Trapezoid}
-use Rattle.fuzzy_meaning.specs.Degrees.{rise, fall, degree}
+use Rattle.fuzzy_meaning.specs.{declared.block.Trapezoid.Trapezoid, Degrees.rise, Degrees.fall, Degrees.degree}
 use Rattle.fcl_syntax.specs.declared.tree.Point.{Point}
 use Rattle.fcl_check.specs.Courses.{AreSame, height, on_line, width}
-use Rattle.fcl_check.specs.Loaded.{number_of}
-use Rattle.fcl_check.specs.Sections.{has_one, x_of}
+use Rattle.fcl_check.specs.{Loaded.number_of, Sections.has_one, Sections.x_of}
 
 yes : (a b : ℤ) → a ≤ℤ b → le_z a b ≡ true
 yes a b h = grind (arith, ints)

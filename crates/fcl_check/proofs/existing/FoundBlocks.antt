@@ -2,15 +2,11 @@
 use Rattle.std.proofs.Common.{◌≡◌, ℕ, List, [], ◌∷◌, Option, Some, None, map, option_map, refl}
 use Rattle.std.specs.List.{AllByRecursion}
 use Rattle.fuzzy_meaning.specs.declared.block.Rule.{Rule}
-use Rattle.fcl_syntax.specs.declared.tree.FunctionBlock.{FunctionBlock}
-use Rattle.fcl_syntax.specs.declared.tree.Rule.{Rule as RuleNode}
+use Rattle.fcl_syntax.specs.declared.{tree.FunctionBlock.FunctionBlock, tree.Rule.Rule as RuleNode}
 use Rattle.fcl_syntax.specs.declared.tree.Weight.{Weight}
-use Rattle.fcl_check.specs.Faults.{conclusions_of}
+use Rattle.fcl_check.specs.{Faults.conclusions_of, Sections.value, Texts.TreesHaveBlocks}
 use Rattle.fcl_check.specs.Loaded.{IsRuleOf, conclusion_of, literal_of, number_of, or_condition}
-use Rattle.fcl_check.specs.Sections.{value}
-use Rattle.fcl_check.specs.Texts.{TreesHaveBlocks}
-use Rattle.fcl_check.proofs.existing.FoundItems.{found_items}
-use Rattle.fcl_check.proofs.existing.FoundOutputs.{decimal_of}
+use Rattle.fcl_check.proofs.{existing.FoundItems.found_items, existing.FoundOutputs.decimal_of}
 use Rattle.fcl_check.proofs.existing.FoundVariables.{found_inputs, found_outputs}
 
 -- ---- rules

@@ -2,18 +2,13 @@
 use Rattle.std.proofs.Common.{◌≡◌, true, not, [], Option, Some, None, option_map, refl, ap, sym}
 use Rattle.std.specs.List.{filter, take_while}
 use Rattle.fz_num.specs.declared.dec.Dec.{Dec}
-use Rattle.fuzzy_meaning.specs.declared.block.Input.{Input}
-use Rattle.fuzzy_meaning.specs.declared.block.Trapezoid.{Trapezoid}
-use Rattle.fcl_syntax.specs.declared.tree.Fuzzify.{Fuzzify}
-use Rattle.fcl_syntax.specs.declared.tree.Point.{Point}
-use Rattle.fcl_syntax.specs.declared.tree.Term.{Term}
+use Rattle.fuzzy_meaning.specs.declared.{block.Input.Input, block.Trapezoid.Trapezoid}
+use Rattle.fcl_syntax.specs.declared.{tree.Fuzzify.Fuzzify, tree.Point.Point, tree.Term.Term}
 use Rattle.fcl_check.specs.Loaded.{IsInputOf, IsTermOf, abscissa_of, input_range, number_of}
-use Rattle.fcl_check.specs.Names.{terms_of}
+use Rattle.fcl_check.specs.{Names.terms_of, WellFormed.IsWellFormedFuzzify}
 use Rattle.fcl_check.specs.Places.{at_if, drop_while, first, last}
 use Rattle.fcl_check.specs.Sections.{has_one, has_shape, has_zero, points_of, x_of}
-use Rattle.fcl_check.specs.WellFormed.{IsWellFormedFuzzify}
-use Rattle.fcl_check.proofs.lists.Elements.{all_weaker}
-use Rattle.fcl_check.proofs.faultless.Faultless.{nowhere, shaped}
+use Rattle.fcl_check.proofs.{lists.Elements.all_weaker, faultless.Faultless.nowhere, faultless.Faultless.shaped}
 use Rattle.fcl_check.proofs.existing.FoundItems.{found_items, last_there}
 use Rattle.fcl_check.proofs.faultless.Present.{found_value, input_range_there, one_there}
 

@@ -3,10 +3,8 @@ use Rattle.std.proofs.Common.{◌≡◌, true, false, List, [], ◌∷◌, Some,
 use Rattle.std.specs.Prelude.{IsSome, if◌then◌else◌}
 use Rattle.std.specs.List.{AllByRecursion, AllZip, cons_option, filter_map}
 use Rattle.std.specs.Option.{option_or}
-use Rattle.fcl_syntax.specs.declared.tree.Direction.{Direction}
-use Rattle.fcl_syntax.specs.declared.tree.Name.{Name}
-use Rattle.fcl_check.specs.Names.{Declared, is_direction}
-use Rattle.fcl_check.specs.Places.{first, last}
+use Rattle.fcl_syntax.specs.declared.{tree.Direction.Direction, tree.Name.Name}
+use Rattle.fcl_check.specs.{Names.Declared, Names.is_direction, Places.first, Places.last}
 use Rattle.fcl_check.proofs.naming.Naming.{named_as}
 
 -- a list that has a first item has a last one

@@ -2,13 +2,11 @@
 use Rattle.std.proofs.Common.{◌≡◌, List, [], ◌∷◌, Option, Some, None, map, option_map, refl, ap, sym, ◌∙◌}
 use Rattle.fz_num.specs.declared.dec.Dec.{Dec}
 use Rattle.fuzzy_meaning.specs.declared.block.Output.{Output}
-use Rattle.fcl_syntax.specs.declared.tree.Defuzzify.{Defuzzify}
-use Rattle.fcl_syntax.specs.declared.tree.SignedNumber.{SignedNumber}
+use Rattle.fcl_syntax.specs.declared.{tree.Defuzzify.Defuzzify, tree.SignedNumber.SignedNumber}
 use Rattle.fcl_syntax.specs.declared.tree.Singleton.{Singleton}
 use Rattle.fcl_check.specs.Loaded.{IsOutputOf, default_number, number_of, output_range}
-use Rattle.fcl_check.specs.Names.{singletons_of}
+use Rattle.fcl_check.specs.{Names.singletons_of, WellFormed.IsWellFormedDefuzzify}
 use Rattle.fcl_check.specs.Sections.{default_of, fallback_number, value}
-use Rattle.fcl_check.specs.WellFormed.{IsWellFormedDefuzzify}
 use Rattle.fcl_check.proofs.faultless.Present.{default_there, found_value, output_range_there}
 
 abbrev pub decimal_of : SignedNumber → Dec

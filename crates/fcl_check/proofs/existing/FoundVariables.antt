@@ -3,21 +3,17 @@ use Rattle.std.proofs.Common.{◌≡◌, ℕ, true, List, Option, None}
 use Rattle.std.specs.Prelude.{All}
 use Rattle.std.specs.List.{AllZip}
 use Rattle.std.proofs.lemmas.List.Elements.{recursion_from_All}
-use Rattle.fuzzy_meaning.specs.declared.block.Input.{Input}
-use Rattle.fuzzy_meaning.specs.declared.block.Output.{Output}
+use Rattle.fuzzy_meaning.specs.declared.{block.Input.Input, block.Output.Output}
 use Rattle.fcl_syntax.specs.declared.tree.Direction.{Direction}
 use Rattle.fcl_syntax.specs.declared.tree.Direction.TheVariants as side
-use Rattle.fcl_syntax.specs.declared.tree.FunctionBlock.{FunctionBlock}
-use Rattle.fcl_syntax.specs.declared.tree.Name.{Name}
-use Rattle.fcl_syntax.specs.declared.tree.Part.{Part}
+use Rattle.fcl_syntax.specs.declared.{tree.FunctionBlock.FunctionBlock, tree.Name.Name, tree.Part.Part}
 use Rattle.fcl_check.specs.Faults.{first_fault}
 use Rattle.fcl_check.specs.Loaded.{IsInputNamed, IsInputOf, IsOutputNamed, IsOutputOf, IsVariableNamed}
 use Rattle.fcl_check.specs.Names.{Declared, as_defuzzify, as_fuzzify, declared_as, declared_in, is_direction}
 use Rattle.fcl_check.specs.WellFormed.{HasSection, IsWellFormedDefuzzify, IsWellFormedFuzzify}
-use Rattle.fcl_check.proofs.lists.Elements.{all_weaker}
+use Rattle.fcl_check.proofs.{lists.Elements.all_weaker, existing.FoundInputs.found_input}
 use Rattle.fcl_check.proofs.faultless.Present.{input_sections, output_sections}
 use Rattle.fcl_check.proofs.existing.FoundItems.{found_items, found_names}
-use Rattle.fcl_check.proofs.existing.FoundInputs.{found_input}
 use Rattle.fcl_check.proofs.existing.FoundOutputs.{found_output}
 
 module _ {S X : Type 0} (direction : Direction) (as_section : Part → Option S) (IsWellFormed : S → Type 0)

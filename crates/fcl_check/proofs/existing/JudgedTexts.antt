@@ -3,14 +3,11 @@ use Rattle.std.proofs.Common.{◌≡◌, ℕ, ◌≤◌, ◌⊎◌, inl, inr, Li
 use Rattle.std.specs.Str.{str_to_ascii_lowercase}
 use Rattle.std.proofs.lemmas.Option.{same_Some}
 use Rattle.fuzzy_meaning.specs.declared.block.Block.{Block}
-use Rattle.fcl_syntax.specs.Readings.{EachTextIsRead, TreesAreOne}
-use Rattle.fcl_syntax.specs.Text.{SpellsTree}
-use Rattle.fcl_syntax.specs.View.{view}
+use Rattle.fcl_syntax.specs.{Readings.EachTextIsRead, Readings.TreesAreOne, Text.SpellsTree, View.view}
 use Rattle.fcl_syntax.specs.declared.tree.FunctionBlock.{FunctionBlock}
-use Rattle.fcl_check.specs.Faults.{first_fault}
+use Rattle.fcl_check.specs.{Faults.first_fault, declared.fault.LoadFault.LoadFault}
 use Rattle.fcl_check.specs.Texts.{EachTextIsJudged, HasLoadFault, LoadFaultsAreOne, SpelledBlocksAreValid}
 use Rattle.fcl_check.specs.Texts.{TreesHaveBlocks, SpellsBlock}
-use Rattle.fcl_check.specs.declared.fault.LoadFault.{LoadFault}
 
 module _ (valid : SpelledBlocksAreValid) (have : TreesHaveBlocks) (text : List ℕ)
     (small : length text ≤ 1048576) where

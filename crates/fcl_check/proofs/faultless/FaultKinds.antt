@@ -3,9 +3,7 @@ use Rattle.std.proofs.Common.{◌≡◌, ℕ, List, [], ◌∷◌, Option, None,
 use Rattle.std.specs.List.{flat_map}
 use Rattle.std.specs.Option.{option_or}
 use Rattle.fcl_syntax.specs.declared.tree.FunctionBlock.{FunctionBlock}
-use Rattle.fcl_check.specs.Faults.{first_fault, kinds}
-use Rattle.fcl_check.specs.Places.{first}
-use Rattle.fcl_check.specs.declared.fault.LoadFault.{LoadFault}
+use Rattle.fcl_check.specs.{Faults.first_fault, Faults.kinds, Places.first, declared.fault.LoadFault.LoadFault}
 use Rattle.fcl_check.proofs.places.Places.{first-append, first-map}
 
 abbrev pub first_of_kinds : List ((ℕ → LoadFault) × List ℕ) → Option LoadFault

@@ -3,25 +3,20 @@ use Rattle.std.proofs.Common.{◌≡◌, ℕ, Bool, true, false, cond, not, ◌&
 use Rattle.std.proofs.Common.{option_and_then, refl}
 use Rattle.std.specs.Prelude.{is_none}
 use Rattle.std.specs.List.{AllByRecursion, find, flat_map}
-use Rattle.fcl_syntax.specs.declared.tree.Conclusion.{Conclusion}
-use Rattle.fcl_syntax.specs.declared.tree.Defuzzify.{Defuzzify}
-use Rattle.fcl_syntax.specs.declared.tree.Direction.{Direction}
+use Rattle.fcl_syntax.specs.declared.{tree.Conclusion.Conclusion, tree.Defuzzify.Defuzzify, tree.Direction.Direction}
 use Rattle.fcl_syntax.specs.declared.tree.Direction.TheVariants.{Input, Output}
-use Rattle.fcl_syntax.specs.declared.tree.FunctionBlock.{FunctionBlock}
-use Rattle.fcl_syntax.specs.declared.tree.Fuzzify.{Fuzzify}
-use Rattle.fcl_syntax.specs.declared.tree.Name.{Name}
+use Rattle.fcl_syntax.specs.declared.{tree.FunctionBlock.FunctionBlock, tree.Fuzzify.Fuzzify, tree.Name.Name}
 use Rattle.fcl_syntax.specs.declared.tree.Part.{Part}
 use Rattle.fcl_syntax.specs.declared.tree.Part.TheVariants as part
 use Rattle.fcl_syntax.specs.declared.tree.Rule.{Rule}
-use Rattle.fcl_check.specs.declared.fault.LoadFault.{LoadFault}
+use Rattle.fcl_check.specs.{declared.fault.LoadFault.LoadFault, WellFormed.IsKnown, WellFormed.IsWellFormedRule}
 use Rattle.fcl_check.specs.Faults.{Pair, conclusions_of, condition_pairs, direction, first_fault, is_declared_as}
 use Rattle.fcl_check.specs.Faults.{is_some_direction, kinds, mistaken, mistaken_in, mistaken_section, missing_part}
-use Rattle.fcl_check.specs.Faults.{too_many, twice, unknown, unknown_in, unknown_pair, unknown_section, weight_outside}
-use Rattle.fcl_check.specs.Faults.{wrong_side}
+use Rattle.fcl_check.specs.Faults.{too_many, twice, unknown, unknown_in, unknown_pair, unknown_section}
+use Rattle.fcl_check.specs.Faults.{weight_outside, wrong_side}
 use Rattle.fcl_check.specs.Names.{as_defuzzify, as_fuzzify, defuzzify_of, fuzzify_of, is_direction, is_named, letters}
 use Rattle.fcl_check.specs.Names.{section_of, section_name, term_number}
 use Rattle.fcl_check.specs.Places.{at_if, at_some, first}
-use Rattle.fcl_check.specs.WellFormed.{IsKnown, IsWellFormedRule}
 use Rattle.fcl_check.specs.Sections.{bad_range, falling_points, incomplete, numbers_outside, points_outside}
 use Rattle.fcl_check.specs.Sections.{shapeless_terms, terms_over_limit, without_terms}
 

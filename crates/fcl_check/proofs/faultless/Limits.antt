@@ -5,15 +5,10 @@ use Rattle.std.specs.Option.{option_or}
 use Rattle.std.specs.Prelude.{nat_le, slice_get}
 use Rattle.std.specs.List.{filter, flat_map}
 use Rattle.std.proofs.lemmas.Bool.{lt-leb}
-use Rattle.fcl_syntax.specs.declared.tree.Direction.{Direction}
+use Rattle.fcl_syntax.specs.declared.{tree.Direction.Direction, tree.FunctionBlock.FunctionBlock, tree.Rule.Rule}
 use Rattle.fcl_syntax.specs.declared.tree.Direction.TheVariants.{Input, Output}
-use Rattle.fcl_syntax.specs.declared.tree.FunctionBlock.{FunctionBlock}
-use Rattle.fcl_syntax.specs.declared.tree.Rule.{Rule}
-use Rattle.fcl_check.specs.Faults.{is_over, too_many}
-use Rattle.fcl_check.specs.Names.{Declared, declared_in, is_direction}
-use Rattle.fcl_check.specs.Places.{at_each, at_if, first}
-use Rattle.fcl_check.specs.Sections.{terms_over_limit}
-use Rattle.fcl_check.specs.Steps.{room_behind}
+use Rattle.fcl_check.specs.{Faults.is_over, Faults.too_many, Names.Declared, Names.declared_in, Names.is_direction}
+use Rattle.fcl_check.specs.{Places.at_each, Places.at_if, Places.first, Sections.terms_over_limit, Steps.room_behind}
 use Rattle.fcl_check.specs.declared.checks.Room.{Room}
 use Rattle.fcl_check.proofs.places.Places.{first-append, first-map-drop}
 

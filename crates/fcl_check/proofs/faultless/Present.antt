@@ -6,30 +6,23 @@ use Rattle.std.specs.List.{cons_option, filter, filter_map, find, flat_map, list
 use Rattle.std.proofs.lemmas.List.Elements.{All-from_recursion}
 use Rattle.std.proofs.lemmas.Slice.Eq.{bytes_eq-Decides}
 use Rattle.fz_num.specs.declared.dec.Dec.{Dec}
-use Rattle.fcl_syntax.specs.declared.tree.Defuzzify.{Defuzzify}
-use Rattle.fcl_syntax.specs.declared.tree.DefuzzyLine.{DefuzzyLine}
+use Rattle.fcl_syntax.specs.declared.{tree.Defuzzify.Defuzzify, tree.DefuzzyLine.DefuzzyLine}
 use Rattle.fcl_syntax.specs.declared.tree.DefuzzyLine.TheVariants as defuzzy
-use Rattle.fcl_syntax.specs.declared.tree.Direction.{Direction}
+use Rattle.fcl_syntax.specs.declared.{tree.Direction.Direction, tree.FunctionBlock.FunctionBlock}
 use Rattle.fcl_syntax.specs.declared.tree.Direction.TheVariants.{Input, Output}
-use Rattle.fcl_syntax.specs.declared.tree.FunctionBlock.{FunctionBlock}
-use Rattle.fcl_syntax.specs.declared.tree.Fuzzify.{Fuzzify}
-use Rattle.fcl_syntax.specs.declared.tree.SignedNumber.{SignedNumber}
-use Rattle.fcl_syntax.specs.declared.tree.Part.{Part}
+use Rattle.fcl_syntax.specs.declared.{tree.Fuzzify.Fuzzify, tree.SignedNumber.SignedNumber, tree.Part.Part}
 use Rattle.fcl_syntax.specs.declared.tree.Part.TheVariants as part
-use Rattle.fcl_syntax.specs.declared.tree.Point.{Point}
-use Rattle.fcl_syntax.specs.declared.tree.Range.{Range}
-use Rattle.fcl_syntax.specs.declared.tree.Term.{Term}
+use Rattle.fcl_syntax.specs.declared.{tree.Point.Point, tree.Range.Range, tree.Term.Term}
 use Rattle.fcl_check.specs.declared.inputs.Corners.{Corners}
-use Rattle.fcl_check.specs.Corners.{AreCornersOf}
+use Rattle.fcl_check.specs.{Corners.AreCornersOf, Places.at_each, Places.at_if, Places.drop_while, Places.first}
 use Rattle.fcl_check.specs.Faults.{direction, first_fault, mistaken, mistaken_section, repeated, same_declared}
 use Rattle.fcl_check.specs.Faults.{without_section}
 use Rattle.fcl_check.specs.Loaded.{abscissa_of, given_or, input_range, output_hull, output_range, widened}
-use Rattle.fcl_check.specs.Names.{Declared, as_defuzzify, as_fuzzify, declared_in, direction_of, is_direction, is_named}
-use Rattle.fcl_check.specs.Names.{letters, section_name, section_of, singleton_of, terms_of}
-use Rattle.fcl_check.specs.Places.{at_each, at_if, drop_while, first}
-use Rattle.fcl_check.specs.Sections.{Ends, default_of, defuzzy_range, fallback_number, fuzzy_range, has_one, has_shape}
-use Rattle.fcl_check.specs.Sections.{has_zero, hull_of, incomplete, method_line, number_line, points_of, value}
-use Rattle.fcl_check.specs.Sections.{without_terms, x_of}
+use Rattle.fcl_check.specs.Names.{Declared, as_defuzzify, as_fuzzify, declared_in, direction_of, is_direction}
+use Rattle.fcl_check.specs.Names.{is_named, letters, section_name, section_of, singleton_of, terms_of}
+use Rattle.fcl_check.specs.Sections.{Ends, default_of, defuzzy_range, fallback_number, fuzzy_range, has_one}
+use Rattle.fcl_check.specs.Sections.{has_shape, has_zero, hull_of, incomplete, method_line, number_line, points_of}
+use Rattle.fcl_check.specs.Sections.{value, without_terms, x_of}
 use Rattle.fcl_check.specs.WellFormed.{HasSection, IsWellFormedDefuzzify, IsWellFormedFuzzify}
 use Rattle.fcl_check.proofs.faultless.Faultless.{IsWellFormedPart, faultless, no_items, no_place, nowhere, shaped}
 use Rattle.fcl_check.proofs.faultless.Faultless.{part_well_formed}

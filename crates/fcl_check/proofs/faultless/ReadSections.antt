@@ -6,11 +6,8 @@ use Rattle.std.proofs.lemmas.Option.{same_Some}
 use Rattle.std.specs.Borrow.{Bor}
 use Rattle.std.specs.Prelude.{All, IsSome}
 use Rattle.fcl_syntax.specs.contracts.tree.Direction.{the_type}
-use Rattle.fcl_syntax.specs.declared.tree.Direction.{Direction}
-use Rattle.fcl_syntax.specs.declared.tree.Part.{Part}
-use Rattle.fcl_syntax.specs.declared.tree.Tree.{Tree}
-use Rattle.fcl_check.specs.Names.{Declared, declared_in, letters, section_of}
-use Rattle.fcl_check.specs.WellFormed.{HasSection}
+use Rattle.fcl_syntax.specs.declared.{tree.Direction.Direction, tree.Part.Part, tree.Tree.Tree}
+use Rattle.fcl_check.specs.{Names.Declared, Names.declared_in, Names.letters, Names.section_of, WellFormed.HasSection}
 use Rattle.fcl_check.proofs.faultless.Present.{mapped_there, part_there, section_read}
 use Rattle.fcl_check.proofs.naming.Naming.{same-direction, section-at}
 

@@ -9,8 +9,7 @@ use Rattle.std.proofs.lemmas.Bool.{cases_Bool}
 use Rattle.std.proofs.lemmas.Bool.Decides.{Decides-int_eq}
 use Rattle.std.proofs.lemmas.Int.{ints}
 use Rattle.fz_num.specs.Fractions.{one, none}
-use Rattle.fcl_syntax.specs.declared.tree.Point.{Point}
-use Rattle.fcl_syntax.specs.declared.tree.Term.{Term}
+use Rattle.fcl_syntax.specs.declared.{tree.Point.Point, tree.Term.Term}
 use Rattle.fcl_check.specs.Courses.{course, height, on_line}
 use Rattle.fcl_check.specs.Places.{at_each, at_if, first, last}
 use Rattle.fcl_check.specs.Sections.{falling_in, has_one, has_zero, is_below, points_of, x_of}

@@ -7,9 +7,7 @@ use Rattle.std.proofs.lemmas.Bool.Decides.{nat_tests}
 use Rattle.std.proofs.lemmas.List.{length-drop, length-map}
 use Rattle.fcl_syntax.specs.declared.tree.Direction.{Direction}
 use Rattle.fcl_syntax.specs.declared.tree.Direction.TheVariants as side
-use Rattle.fcl_check.specs.ByLetters.{names_of}
-use Rattle.fcl_check.specs.Faults.{is_over, most_of}
-use Rattle.fcl_check.specs.Names.{Declared, is_direction}
+use Rattle.fcl_check.specs.{ByLetters.names_of, Faults.is_over, Faults.most_of, Names.Declared, Names.is_direction}
 use Rattle.fcl_check.specs.Places.{at_each, at_if, first}
 use Rattle.fcl_check.proofs.faultless.Faultless.{no_items, no_place}
 

@@ -1,15 +1,11 @@
 -- The names that are gathered from declarations and lines.
 use Rattle.std.specs.Prelude.{Bool, true, false, List, ◌∷◌, map}
 use Rattle.std.specs.List.{filter_map, flat_map}
-use Rattle.fcl_syntax.specs.declared.tree.Declaration.{Declaration}
-use Rattle.fcl_syntax.specs.declared.tree.DefuzzyLine.{DefuzzyLine}
+use Rattle.fcl_syntax.specs.declared.{tree.Declaration.Declaration, tree.DefuzzyLine.DefuzzyLine}
 use Rattle.fcl_syntax.specs.declared.tree.DefuzzyLine.TheVariants as defuzzy
-use Rattle.fcl_syntax.specs.declared.tree.Direction.{Direction}
-use Rattle.fcl_syntax.specs.declared.tree.FuzzyLine.{FuzzyLine}
+use Rattle.fcl_syntax.specs.declared.{tree.Direction.Direction, tree.FuzzyLine.FuzzyLine}
 use Rattle.fcl_syntax.specs.declared.tree.FuzzyLine.TheVariants as fuzzy
-use Rattle.fcl_syntax.specs.declared.tree.Name.{Name}
-use Rattle.fcl_syntax.specs.declared.tree.Singleton.{Singleton}
-use Rattle.fcl_syntax.specs.declared.tree.Term.{Term}
+use Rattle.fcl_syntax.specs.declared.{tree.Name.Name, tree.Singleton.Singleton, tree.Term.Term}
 use Rattle.fcl_check.specs.Names.{Declared, singleton_of, term_of}
 
 -- the names that some declarations declare

@@ -2,24 +2,17 @@
 use Rattle.std.proofs.Common.{◌≡◌, ℕ, ◌≤◌, true, List, [], length, Option, Some, None}
 use Rattle.std.proofs.Common.{option_and_then, option_map, refl, ap, ◌∙◌, arith}
 use Rattle.std.proofs.lemmas.List.{length-map}
-use Rattle.fcl_syntax.specs.declared.tree.Direction.{Direction}
+use Rattle.fcl_syntax.specs.declared.{tree.Direction.Direction, tree.FunctionBlock.FunctionBlock, tree.Name.Name}
 use Rattle.fcl_syntax.specs.declared.tree.Direction.TheVariants.{Input, Output}
-use Rattle.fcl_syntax.specs.declared.tree.FunctionBlock.{FunctionBlock}
-use Rattle.fcl_syntax.specs.declared.tree.Name.{Name}
-use Rattle.fcl_syntax.specs.declared.tree.Singleton.{Singleton}
-use Rattle.fcl_syntax.specs.declared.tree.Term.{Term}
-use Rattle.fcl_check.specs.declared.names.Variable.{Variable}
+use Rattle.fcl_syntax.specs.declared.{tree.Singleton.Singleton, tree.Term.Term}
+use Rattle.fcl_check.specs.{declared.names.Variable.Variable, Loaded.or_zero, Places.at_each, WellFormed.IsKnown}
 use Rattle.fcl_check.specs.ByLetters.{names_of, variable_in}
 use Rattle.fcl_check.specs.Faults.{direction, first_fault, is_some_direction, most_of}
-use Rattle.fcl_check.specs.Loaded.{or_zero}
 use Rattle.fcl_check.specs.Names.{declared_as, declared_in, defuzzify_of, fuzzify_of, letters, number_in}
 use Rattle.fcl_check.specs.Names.{singleton_names, singletons_of, term_names, term_number, terms_of, variable_number}
-use Rattle.fcl_check.specs.Places.{at_each}
-use Rattle.fcl_check.specs.WellFormed.{IsKnown}
 use Rattle.fcl_check.proofs.lists.Counts.{few_items, few_names, over}
 use Rattle.fcl_check.proofs.faultless.Faultless.{faultless, no_items, well_formed_input, well_formed_output}
-use Rattle.fcl_check.proofs.naming.NumberedNames.{number_within}
-use Rattle.fcl_check.proofs.faultless.Present.{as_side}
+use Rattle.fcl_check.proofs.{naming.NumberedNames.number_within, faultless.Present.as_side}
 
 -- ---- numbers
 

@@ -14,8 +14,7 @@ use Rattle.std.specs.Option.{option_or}
 use Rattle.std.specs.Ordering.{nat_cmp}
 use Rattle.std.specs.Str.{bytes_eq}
 use Rattle.fcl_syntax.specs.declared.tree.Name.{Name}
-use Rattle.fcl_check.specs.ByLetters.{at_letters}
-use Rattle.fcl_check.specs.Names.{letters, is_named, number_in}
+use Rattle.fcl_check.specs.{ByLetters.at_letters, Names.letters, Names.is_named, Names.number_in}
 
 pub no_value : {X : Type 0} (o : Option X) → is_some o ≡ false → o ≡ None
 no_value None h = refl

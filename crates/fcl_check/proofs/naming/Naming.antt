@@ -7,10 +7,8 @@ use Rattle.std.proofs.lemmas.Slice.Zip.{all_zipped_more}
 use Rattle.std.specs.Borrow.{Bor}
 use Rattle.std.specs.List.{AllZip, filter_map}
 use Rattle.fcl_syntax.specs.contracts.tree.Direction.{the_type}
-use Rattle.fcl_syntax.specs.declared.tree.Direction.{Direction}
+use Rattle.fcl_syntax.specs.declared.{tree.Direction.Direction, tree.FunctionBlock.FunctionBlock, tree.Name.Name}
 use Rattle.fcl_syntax.specs.declared.tree.Direction.TheVariants.{Input, Output}
-use Rattle.fcl_syntax.specs.declared.tree.FunctionBlock.{FunctionBlock}
-use Rattle.fcl_syntax.specs.declared.tree.Name.{Name}
 use Rattle.fcl_syntax.specs.declared.tree.Part.{Part}
 use Rattle.fcl_check.specs.Names.{Declared, is_direction, section_of}
 use Rattle.fcl_check.proofs.lists.Pushes.{filter_map-next}

@@ -3,10 +3,8 @@ use Rattle.std.proofs.Common.{◌≡◌, ℕ, suc, ◌<◌, ◌≤◌, Bool, tru
 use Rattle.std.proofs.Common.{None, option_map, if◌then◌else◌, nat_lt, refl, ap, arith}
 use Rattle.std.specs.List.{AllZip, cons_option, find, list_any, position_or_len, slice_get}
 use Rattle.std.proofs.lemmas.Bool.Decides.{nat_tests}
-use Rattle.fcl_syntax.specs.declared.tree.Direction.{Direction}
-use Rattle.fcl_syntax.specs.declared.tree.Name.{Name}
-use Rattle.fcl_check.specs.ByLetters.{names_of}
-use Rattle.fcl_check.specs.Faults.{is_some_direction}
+use Rattle.fcl_syntax.specs.declared.{tree.Direction.Direction, tree.Name.Name}
+use Rattle.fcl_check.specs.{ByLetters.names_of, Faults.is_some_direction}
 use Rattle.fcl_check.specs.Names.{Declared, is_direction, is_named, number_in}
 use Rattle.fcl_check.proofs.naming.LetterMaps.{position-cons}
 

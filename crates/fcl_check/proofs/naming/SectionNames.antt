@@ -6,16 +6,13 @@ use Rattle.std.specs.BTreeMap.{BTreeMap}
 use Rattle.std.specs.Borrow.{Bor}
 use Rattle.std.specs.List.{list_any}
 use Rattle.std.specs.Option.{option_or}
-use Rattle.fcl_syntax.specs.declared.tree.FunctionBlock.{FunctionBlock}
-use Rattle.fcl_syntax.specs.declared.tree.Name.{Name}
-use Rattle.fcl_syntax.specs.declared.tree.Part.{Part}
+use Rattle.fcl_syntax.specs.declared.{tree.FunctionBlock.FunctionBlock, tree.Name.Name, tree.Part.Part}
 use Rattle.fcl_check.specs.declared.fault.LoadFault.{LoadFault}
 use Rattle.fcl_check.specs.declared.fault.LoadFault.TheVariants as load
-use Rattle.fcl_check.specs.declared.names.Section.{Section}
+use Rattle.fcl_check.specs.{declared.names.Section.Section, Places.at_each, Places.first}
 use Rattle.fcl_check.specs.ByLetters.{at_letters, names_in, HoldsSections}
 use Rattle.fcl_check.specs.Faults.{repeated_lines, repeated_section, same_section}
 use Rattle.fcl_check.specs.Names.{is_named, letters, number_in, section_name}
-use Rattle.fcl_check.specs.Places.{at_each, first}
 use Rattle.fcl_check.proofs.naming.LetterMaps.{found_any}
 use Rattle.fcl_check.proofs.places.FirstPlaces.{Says, first_at_here, first_at_more, list_any-all_walked, same_place}
 

@@ -10,23 +10,18 @@ use Rattle.std.specs.List.{filter, filter_map, list_any}
 use Rattle.std.specs.Option.{option_or}
 use Rattle.fcl_syntax.specs.declared.tree.DefuzzyLine.{DefuzzyLine}
 use Rattle.fcl_syntax.specs.declared.tree.DefuzzyLine.TheVariants as defuzzy
-use Rattle.fcl_syntax.specs.declared.tree.FunctionBlock.{FunctionBlock}
-use Rattle.fcl_syntax.specs.declared.tree.FuzzyLine.{FuzzyLine}
+use Rattle.fcl_syntax.specs.declared.{tree.FunctionBlock.FunctionBlock, tree.FuzzyLine.FuzzyLine}
 use Rattle.fcl_syntax.specs.declared.tree.FuzzyLine.TheVariants as fuzzy
-use Rattle.fcl_syntax.specs.declared.tree.Name.{Name}
-use Rattle.fcl_syntax.specs.declared.tree.Range.{Range}
-use Rattle.fcl_syntax.specs.declared.tree.Singleton.{Singleton}
-use Rattle.fcl_syntax.specs.declared.tree.Term.{Term}
+use Rattle.fcl_syntax.specs.declared.{tree.Name.Name, tree.Range.Range, tree.Singleton.Singleton, tree.Term.Term}
 use Rattle.fcl_check.specs.declared.fault.LoadFault.{LoadFault}
 use Rattle.fcl_check.specs.declared.fault.LoadFault.TheVariants as load
-use Rattle.fcl_check.specs.ByLetters.{at_letters}
-use Rattle.fcl_check.proofs.naming.Gathered.{names_of_terms, names_of_singletons, is_range, is_other}
+use Rattle.fcl_check.specs.{ByLetters.at_letters, Places.at_if, Places.first}
 use Rattle.fcl_check.specs.Faults.{repeated, same_kind, same_line, line_at, same_output_line, output_line_at}
 use Rattle.fcl_check.specs.Names.{is_named, letters, number_in, singleton_of}
-use Rattle.fcl_check.specs.Places.{at_if, first}
+use Rattle.fcl_check.proofs.naming.Gathered.{names_of_terms, names_of_singletons, is_range, is_other}
 use Rattle.fcl_check.proofs.naming.LetterMaps.{number_any, number_push}
-use Rattle.fcl_check.proofs.places.FirstPlaces.{Says, or_false, or_true, passed_by, place_here}
-use Rattle.fcl_check.proofs.places.FirstPlaces.{repeated_here, repeated_more}
+use Rattle.fcl_check.proofs.places.FirstPlaces.{Says, or_false, or_true, passed_by, place_here, repeated_here}
+use Rattle.fcl_check.proofs.places.FirstPlaces.{repeated_more}
 
 -- ---- numbers
 

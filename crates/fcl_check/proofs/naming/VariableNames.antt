@@ -10,21 +10,16 @@ use Rattle.std.specs.Borrow.{Bor}
 use Rattle.std.specs.List.{find, list_any}
 use Rattle.std.specs.Option.{option_or}
 use Rattle.std.specs.Prelude.{if◌then◌else◌}
-use Rattle.fcl_syntax.specs.declared.tree.Declaration.{Declaration}
-use Rattle.fcl_syntax.specs.declared.tree.Direction.{Direction}
+use Rattle.fcl_syntax.specs.declared.{tree.Declaration.Declaration, tree.Direction.Direction}
 use Rattle.fcl_syntax.specs.declared.tree.Direction.TheVariants.{Input, Output}
-use Rattle.fcl_syntax.specs.declared.tree.FunctionBlock.{FunctionBlock}
-use Rattle.fcl_syntax.specs.declared.tree.Name.{Name}
+use Rattle.fcl_syntax.specs.declared.{tree.FunctionBlock.FunctionBlock, tree.Name.Name}
 use Rattle.fcl_check.specs.declared.fault.LoadFault.{LoadFault}
 use Rattle.fcl_check.specs.declared.fault.LoadFault.TheVariants as load
-use Rattle.fcl_check.specs.declared.names.Counts.{Counts}
-use Rattle.fcl_check.specs.declared.names.Variable.{Variable}
+use Rattle.fcl_check.specs.declared.{names.Counts.Counts, names.Variable.Variable}
 use Rattle.fcl_check.specs.ByLetters.{at_letters, count_of, names_of, variable_in}
-use Rattle.fcl_check.proofs.naming.Gathered.{names_declared}
-use Rattle.fcl_check.specs.Faults.{repeated, same_declared}
-use Rattle.fcl_check.specs.Loaded.{or_zero}
+use Rattle.fcl_check.specs.{Faults.repeated, Faults.same_declared, Loaded.or_zero, Places.at_if, Places.first}
 use Rattle.fcl_check.specs.Names.{Declared, is_direction, is_named, letters, number_in}
-use Rattle.fcl_check.specs.Places.{at_if, first}
+use Rattle.fcl_check.proofs.naming.Gathered.{names_declared}
 use Rattle.fcl_check.proofs.naming.LetterMaps.{found_any, no_value, number_any, number_push}
 use Rattle.fcl_check.proofs.places.FirstPlaces.{Says, passed_by, place_here}
 

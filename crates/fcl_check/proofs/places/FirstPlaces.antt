@@ -4,8 +4,7 @@ use Rattle.std.proofs.Common.{get_or, Option, Some, None, option_map, refl, ap, 
 use Rattle.std.proofs.lemmas.List.{append-nil, take_more, take-append-drop}
 use Rattle.std.specs.List.{list_any}
 use Rattle.std.specs.Option.{option_or}
-use Rattle.fcl_check.specs.Faults.{repeated}
-use Rattle.fcl_check.specs.declared.fault.LoadFault.{LoadFault}
+use Rattle.fcl_check.specs.{Faults.repeated, declared.fault.LoadFault.LoadFault}
 use Rattle.fcl_check.specs.declared.fault.LoadFault.TheVariants as load
 use Rattle.fcl_check.specs.Places.{at_if, at_each, first}
 use Rattle.fcl_check.proofs.places.Places.{first-append}

@@ -12,20 +12,16 @@ use Rattle.fcl_syntax.specs.Annotations.{Sym, plain, either_text}
 use Rattle.fcl_syntax.specs.View.{view_with, view_weight, view_rule_item, view_rule_line}
 use Rattle.fcl_syntax.specs.declared.token.Keyword.TheVariants as key
 use Rattle.fcl_syntax.specs.declared.token.Token.TheVariants as tok
-use Rattle.fcl_syntax.specs.declared.tree.Conclusion.{Conclusion}
-use Rattle.fcl_syntax.specs.declared.tree.Direction.{Direction}
+use Rattle.fcl_syntax.specs.declared.{tree.Conclusion.Conclusion, tree.Direction.Direction}
 use Rattle.fcl_syntax.specs.declared.tree.Direction.TheVariants.{Input, Output}
-use Rattle.fcl_syntax.specs.declared.tree.FunctionBlock.{FunctionBlock}
-use Rattle.fcl_syntax.specs.declared.tree.Name.{Name}
-use Rattle.fcl_syntax.specs.declared.tree.Rule.{Rule}
+use Rattle.fcl_syntax.specs.declared.{tree.FunctionBlock.FunctionBlock, tree.Name.Name, tree.Rule.Rule}
 use Rattle.fcl_syntax.specs.declared.tree.RuleLine.{RuleLine}
 use Rattle.fcl_syntax.specs.declared.tree.RuleLine.TheVariants as line
 use Rattle.fcl_syntax.specs.declared.tree.Weight.{Weight}
 use Rattle.fcl_check.specs.Faults.{Pair, not_pairs, nots_pairs, and_pairs, ands_pairs, or_pairs, conclusions_of}
 use Rattle.fcl_check.specs.Faults.{rule_line_at, weight_outside, direction, unknown_pair, unknown_in, mistaken}
 use Rattle.fcl_check.specs.Faults.{mistaken_in}
-use Rattle.fcl_check.specs.Places.{at_if, at_some}
-use Rattle.fcl_check.specs.Sections.{value}
+use Rattle.fcl_check.specs.{Places.at_if, Places.at_some, Sections.value}
 use Rattle.fcl_check.proofs.places.TextPlaces.{StandIn, none, passed, taken, no_places, join, in_front, in_back}
 use Rattle.fcl_check.proofs.places.TextPlaces.{at_head, at_head_and, in_some, in_row}
 

@@ -7,32 +7,25 @@ use Rattle.fcl_syntax.specs.Grammar.{fallback_text, defuzzy_line_text, part_text
 use Rattle.fcl_syntax.specs.Annotations.{Sym, either_text}
 use Rattle.fcl_syntax.specs.View.{view_point, view_term, view_fuzzy_line, view_singleton, view_fallback}
 use Rattle.fcl_syntax.specs.View.{view_defuzzy_line, view_part}
-use Rattle.fcl_syntax.specs.declared.tree.Defuzzify.{Defuzzify}
-use Rattle.fcl_syntax.specs.declared.tree.DefuzzyLine.{DefuzzyLine}
+use Rattle.fcl_syntax.specs.declared.{tree.Defuzzify.Defuzzify, tree.DefuzzyLine.DefuzzyLine}
 use Rattle.fcl_syntax.specs.declared.tree.DefuzzyLine.TheVariants as defuzzy
 use Rattle.fcl_syntax.specs.declared.tree.Direction.TheVariants.{Input, Output}
 use Rattle.fcl_syntax.specs.declared.tree.FallbackValue.{FallbackValue}
 use Rattle.fcl_syntax.specs.declared.tree.FallbackValue.TheVariants as fallback
-use Rattle.fcl_syntax.specs.declared.tree.FunctionBlock.{FunctionBlock}
-use Rattle.fcl_syntax.specs.declared.tree.Fuzzify.{Fuzzify}
+use Rattle.fcl_syntax.specs.declared.{tree.FunctionBlock.FunctionBlock, tree.Fuzzify.Fuzzify}
 use Rattle.fcl_syntax.specs.declared.tree.FuzzyLine.{FuzzyLine}
 use Rattle.fcl_syntax.specs.declared.tree.FuzzyLine.TheVariants as fuzzy
-use Rattle.fcl_syntax.specs.declared.tree.Name.{Name}
-use Rattle.fcl_syntax.specs.declared.tree.SignedNumber.{SignedNumber}
-use Rattle.fcl_syntax.specs.declared.tree.Part.{Part}
+use Rattle.fcl_syntax.specs.declared.{tree.Name.Name, tree.SignedNumber.SignedNumber, tree.Part.Part}
 use Rattle.fcl_syntax.specs.declared.tree.Part.TheVariants as part
-use Rattle.fcl_syntax.specs.declared.tree.Point.{Point}
-use Rattle.fcl_syntax.specs.declared.tree.Range.{Range}
-use Rattle.fcl_syntax.specs.declared.tree.Singleton.{Singleton}
-use Rattle.fcl_syntax.specs.declared.tree.Term.{Term}
+use Rattle.fcl_syntax.specs.declared.{tree.Point.Point, tree.Range.Range, tree.Singleton.Singleton, tree.Term.Term}
 use Rattle.fcl_check.specs.Faults.{line_at, output_line_at, repeated_lines, direction, mistaken_section}
 use Rattle.fcl_check.specs.Names.{is_direction, section_name, term_of, terms_of, singleton_of, singletons_of}
 use Rattle.fcl_check.specs.Places.{at_if, at_some, at_each}
-use Rattle.fcl_check.specs.Sections.{value, points_of, Ends, lies_in, is_empty_range, hull_of, range_line, fuzzy_range}
-use Rattle.fcl_check.specs.Sections.{output_range_line, defuzzy_range, abscissas, fallback_number, number_line}
-use Rattle.fcl_check.specs.Sections.{output_numbers, without_terms, terms_over_limit, falling_in, falling_points}
-use Rattle.fcl_check.specs.Sections.{shapeless_terms, outside_in, points_outside, numbers_outside, empty_range}
-use Rattle.fcl_check.specs.Sections.{bad_fuzzy_range, bad_range, incomplete}
+use Rattle.fcl_check.specs.Sections.{value, points_of, Ends, lies_in, is_empty_range, hull_of, range_line}
+use Rattle.fcl_check.specs.Sections.{fuzzy_range, output_range_line, defuzzy_range, abscissas, fallback_number}
+use Rattle.fcl_check.specs.Sections.{number_line, output_numbers, without_terms, terms_over_limit, falling_in}
+use Rattle.fcl_check.specs.Sections.{falling_points, shapeless_terms, outside_in, points_outside, numbers_outside}
+use Rattle.fcl_check.specs.Sections.{empty_range, bad_fuzzy_range, bad_range, incomplete}
 use Rattle.fcl_check.proofs.places.TextPlaces.{StandIn, passed, taken, no_places, join, in_front, in_back}
 use Rattle.fcl_check.proofs.places.TextPlaces.{dropped_items, at_head, at_head_and, in_some, in_each, in_each_after}
 use Rattle.fcl_check.proofs.places.TextPlaces.{in_each_kept, in_first_kept, in_repeated}

@@ -4,12 +4,9 @@ use Rattle.std.proofs.Common.{None, subst, ap, ◌∙◌, arith}
 use Rattle.std.specs.List.{filter_map, flat_map, cons_option, list_any}
 use Rattle.std.proofs.lemmas.List.{drop-map}
 use Rattle.std.proofs.lemmas.List.Concat.{flat_map_single}
-use Rattle.fcl_syntax.specs.Grammar.{behind, each}
-use Rattle.fcl_syntax.specs.Annotations.{Sym}
+use Rattle.fcl_syntax.specs.{Grammar.behind, Grammar.each, Annotations.Sym, declared.token.Token.Token}
 use Rattle.fcl_syntax.specs.Offsets.{AscendWithin, offset_of, offsets}
-use Rattle.fcl_syntax.specs.declared.token.Token.{Token}
-use Rattle.fcl_check.specs.Faults.{repeated}
-use Rattle.fcl_check.specs.Places.{at_if, at_some, at_each, first}
+use Rattle.fcl_check.specs.{Faults.repeated, Places.at_if, Places.at_some, Places.at_each, Places.first}
 use Rattle.fcl_check.proofs.places.FirstPlaces.{at_each-append, walked}
 
 pub data StandIn : List ℕ → List Sym → Type 0 where

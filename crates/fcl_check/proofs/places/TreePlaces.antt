@@ -4,29 +4,21 @@ use Rattle.std.specs.Prelude.{is_none}
 use Rattle.std.specs.Str.{str_to_ascii_lowercase}
 use Rattle.std.specs.List.{flat_map, list_any}
 use Rattle.std.proofs.lemmas.List.Elements.{All-nil, All-cons}
-use Rattle.fcl_syntax.specs.Grammar.{behind, each, name_text, declaration_text, section_text, part_text, rule_item_text}
-use Rattle.fcl_syntax.specs.Grammar.{rule_line_text, rulebase_text, end_text, block_text}
-use Rattle.fcl_syntax.specs.Annotations.{Sym}
-use Rattle.fcl_syntax.specs.Offsets.{AscendWithin, OffsetsAscend, offsets}
+use Rattle.fcl_syntax.specs.Grammar.{behind, each, name_text, declaration_text, section_text, part_text}
+use Rattle.fcl_syntax.specs.Grammar.{rule_item_text, rule_line_text, rulebase_text, end_text, block_text}
+use Rattle.fcl_syntax.specs.{Annotations.Sym, Offsets.AscendWithin, Offsets.OffsetsAscend, Offsets.offsets}
 use Rattle.fcl_syntax.specs.View.{view_declaration, view_section, view_part, view_rule_item, view_rule_line}
 use Rattle.fcl_syntax.specs.View.{view_rulebase, view}
 use Rattle.fcl_syntax.specs.declared.token.Token.TheVariants as tok
-use Rattle.fcl_syntax.specs.declared.tree.Declaration.{Declaration}
-use Rattle.fcl_syntax.specs.declared.tree.Direction.{Direction}
-use Rattle.fcl_syntax.specs.declared.tree.Direction.TheVariants.{Input}
-use Rattle.fcl_syntax.specs.declared.tree.FunctionBlock.{FunctionBlock}
-use Rattle.fcl_syntax.specs.declared.tree.Name.{Name}
-use Rattle.fcl_syntax.specs.declared.tree.Part.{Part}
-use Rattle.fcl_syntax.specs.declared.tree.Rule.{Rule}
-use Rattle.fcl_syntax.specs.declared.tree.Variables.{Variables}
-use Rattle.fcl_check.specs.declared.fault.LoadFault.{LoadFault}
+use Rattle.fcl_syntax.specs.declared.{tree.Declaration.Declaration, tree.Direction.Direction}
+use Rattle.fcl_syntax.specs.declared.{tree.Direction.TheVariants.Input, tree.FunctionBlock.FunctionBlock}
+use Rattle.fcl_syntax.specs.declared.{tree.Name.Name, tree.Part.Part, tree.Rule.Rule, tree.Variables.Variables}
+use Rattle.fcl_check.specs.{declared.fault.LoadFault.LoadFault, Order.PlacesAscend, Places.at_each}
 use Rattle.fcl_check.specs.Faults.{same_rule_line, rule_line_at, is_over, weight_outside, same_declared, same_section}
 use Rattle.fcl_check.specs.Faults.{repeated_section, twice, direction, is_declared_as, unknown_in, unknown_section}
 use Rattle.fcl_check.specs.Faults.{unknown, too_many, mistaken_section, mistaken_in, wrong_side, without_section}
 use Rattle.fcl_check.specs.Faults.{is_whole, missing_part, kinds}
 use Rattle.fcl_check.specs.Names.{Declared, declared_by, declared_in, section_name, section_of, letters}
-use Rattle.fcl_check.specs.Order.{PlacesAscend}
-use Rattle.fcl_check.specs.Places.{at_each}
 use Rattle.fcl_check.specs.Sections.{without_terms, terms_over_limit, falling_points, shapeless_terms, points_outside}
 use Rattle.fcl_check.specs.Sections.{bad_range, numbers_outside, incomplete}
 use Rattle.fcl_check.proofs.places.RulePlaces.{at_rule, at_rule_line, weight_outside_in_rule, unknown_in_rule}
@@ -36,9 +28,9 @@ use Rattle.fcl_check.proofs.places.SectionPlaces.{terms_over_limit_in_section, f
 use Rattle.fcl_check.proofs.places.SectionPlaces.{shapeless_terms_in_section, points_outside_in_section}
 use Rattle.fcl_check.proofs.places.SectionPlaces.{numbers_outside_in_section, bad_range_in_section}
 use Rattle.fcl_check.proofs.places.SectionPlaces.{incomplete_in_section, mistaken_in_section}
-use Rattle.fcl_check.proofs.places.TextPlaces.{StandIn, none, passed, no_places, join, in_front, in_back, dropped_items}
-use Rattle.fcl_check.proofs.places.TextPlaces.{at_head, in_each, in_each_after, in_each_of_each, in_repeated}
-use Rattle.fcl_check.proofs.places.TextPlaces.{AscendWithin-places}
+use Rattle.fcl_check.proofs.places.TextPlaces.{StandIn, none, passed, no_places, join, in_front, in_back}
+use Rattle.fcl_check.proofs.places.TextPlaces.{dropped_items, at_head, in_each, in_each_after, in_each_of_each}
+use Rattle.fcl_check.proofs.places.TextPlaces.{in_repeated, AscendWithin-places}
 
 -- ---- declared names
 

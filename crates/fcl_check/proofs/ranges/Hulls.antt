@@ -7,11 +7,9 @@ use Rattle.std.proofs.lemmas.List.{at_drop_more}
 use Rattle.std.specs.Int.{int_min, int_max}
 use Rattle.fcl_syntax.specs.declared.tree.FuzzyLine.{FuzzyLine}
 use Rattle.fcl_syntax.specs.declared.tree.FuzzyLine.TheVariants as fuzzy
-use Rattle.fcl_syntax.specs.declared.tree.Point.{Point}
-use Rattle.fcl_syntax.specs.declared.tree.Term.{Term}
-use Rattle.fcl_check.specs.Names.{term_of}
+use Rattle.fcl_syntax.specs.declared.{tree.Point.Point, tree.Term.Term}
+use Rattle.fcl_check.specs.{Names.term_of, Steps.extended}
 use Rattle.fcl_check.specs.Sections.{Ends, points_of, reach, x_of}
-use Rattle.fcl_check.specs.Steps.{extended}
 
 reach-append : (e : Ends) (points rest : List Point)
     → reach e (map x_of (points ++ rest)) ≡ reach (reach e (map x_of points)) (map x_of rest)

@@ -2,14 +2,11 @@
 use Rattle.std.proofs.Common.{◌≡◌, get_or, arith}
 use Rattle.std.specs.Prelude.{ℤ, pos, neg_ℤ, ◌≤ℤ◌}
 use Rattle.std.proofs.lemmas.Int.{ints, clamps}
-use Rattle.fcl_syntax.specs.Annotations.{tokens_of}
-use Rattle.fcl_syntax.specs.Grammar.{block_text}
-use Rattle.fcl_syntax.specs.Scale.{IsTokenInScale, NumbersInScale}
+use Rattle.fcl_syntax.specs.{Annotations.tokens_of, Grammar.block_text, Scale.IsTokenInScale, Scale.NumbersInScale}
 use Rattle.fcl_syntax.specs.declared.token.Amount.TheVariants as amount
 use Rattle.fcl_syntax.specs.declared.token.Token.{Token}
 use Rattle.fcl_syntax.specs.declared.token.Token.TheVariants as tok
-use Rattle.fcl_check.specs.Kept.{IsKept, NumbersAreKept}
-use Rattle.fcl_check.specs.Sections.{to_scale}
+use Rattle.fcl_check.specs.{Kept.IsKept, Kept.NumbersAreKept, Sections.to_scale}
 
 in_scale : (z : ℤ) → neg_ℤ (pos 1000000000) ≤ℤ z → z ≤ℤ pos 1000000000 → to_scale z ≡ z
 in_scale z low high = omega (arith, ints, clamps, low, high)

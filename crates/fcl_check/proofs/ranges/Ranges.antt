@@ -8,11 +8,9 @@ use Rattle.std.proofs.lemmas.Bool.{cases_Bool}
 use Rattle.std.proofs.lemmas.Bool.Decides.{Decides-int_eq}
 use Rattle.std.proofs.lemmas.Int.{ints, clamps}
 use Rattle.fcl_syntax.specs.declared.tree.Point.{Point}
-use Rattle.fcl_check.specs.Loaded.{widened}
-use Rattle.fcl_check.specs.Places.{at_if}
+use Rattle.fcl_check.specs.{Loaded.widened, Places.at_if}
 use Rattle.fcl_check.specs.Sections.{Ends, hull_of, is_empty_range, lies_in, reach, x_of}
-use Rattle.fcl_check.proofs.lists.Elements.{all_weaker}
-use Rattle.fcl_check.proofs.faultless.Faultless.{no_place, nowhere}
+use Rattle.fcl_check.proofs.{lists.Elements.all_weaker, faultless.Faultless.no_place, faultless.Faultless.nowhere}
 
 -- between the ends of a range
 abbrev pub In : Ends → ℤ → Type 0

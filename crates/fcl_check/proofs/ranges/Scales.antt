@@ -6,18 +6,14 @@ use Rattle.std.specs.Int.{int_min, int_max}
 use Rattle.std.specs.List.{AllByRecursion, cons_option, filter_map, flat_map}
 use Rattle.std.proofs.lemmas.Int.{ints, clamps}
 use Rattle.fuzzy_meaning.specs.Blocks.{IsInScale}
-use Rattle.fcl_syntax.specs.declared.tree.Defuzzify.{Defuzzify}
-use Rattle.fcl_syntax.specs.declared.tree.DefuzzyLine.{DefuzzyLine}
+use Rattle.fcl_syntax.specs.declared.{tree.Defuzzify.Defuzzify, tree.DefuzzyLine.DefuzzyLine}
 use Rattle.fcl_syntax.specs.declared.tree.DefuzzyLine.TheVariants as defuzzy
 use Rattle.fcl_syntax.specs.declared.tree.FallbackValue.{FallbackValue}
 use Rattle.fcl_syntax.specs.declared.tree.FallbackValue.TheVariants as fallback
-use Rattle.fcl_syntax.specs.declared.tree.Fuzzify.{Fuzzify}
-use Rattle.fcl_syntax.specs.declared.tree.SignedNumber.{SignedNumber}
+use Rattle.fcl_syntax.specs.declared.{tree.Fuzzify.Fuzzify, tree.SignedNumber.SignedNumber}
 use Rattle.fcl_syntax.specs.declared.tree.SignedNumber.TheVariants as signed
-use Rattle.fcl_syntax.specs.declared.tree.Point.{Point}
-use Rattle.fcl_syntax.specs.declared.tree.Range.{Range}
-use Rattle.fcl_check.specs.Loaded.{given_or, input_range, widened, output_hull}
-use Rattle.fcl_check.specs.Names.{terms_of}
+use Rattle.fcl_syntax.specs.declared.{tree.Point.Point, tree.Range.Range}
+use Rattle.fcl_check.specs.{Loaded.given_or, Loaded.input_range, Loaded.widened, Loaded.output_hull, Names.terms_of}
 use Rattle.fcl_check.specs.Sections.{Ends, abscissas, ends_of, fallback_number, fuzzy_range, hull_of, magnitude}
 use Rattle.fcl_check.specs.Sections.{number_line, output_numbers, points_of, reach, to_scale, value, x_of}
 

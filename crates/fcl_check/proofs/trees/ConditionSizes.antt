@@ -4,16 +4,14 @@ use Rattle.std.proofs.Common.{arith}
 use Rattle.std.proofs.lemmas.List.{length-append}
 use Rattle.std.proofs.lemmas.List.Elements.{filter_map-append}
 use Rattle.fuzzy_meaning.specs.Conditions.{Condition, depth, greatest_depth, nodes, total_nodes}
-use Rattle.fcl_syntax.specs.declared.fault.Kind.{Kind}
-use Rattle.fcl_syntax.specs.declared.fault.Kind.TheVariants.{Deep}
+use Rattle.fcl_syntax.specs.declared.{fault.Kind.Kind, fault.Kind.TheVariants.Deep}
 use Rattle.fcl_syntax.specs.declared.token.Keyword.TheVariants as key
 use Rattle.fcl_syntax.specs.declared.token.Token.{Token}
 use Rattle.fcl_syntax.specs.declared.token.Token.TheVariants as tok
-use Rattle.fcl_syntax.specs.declared.tree.Name.{Name}
+use Rattle.fcl_syntax.specs.{declared.tree.Name.Name, Annotations.IsClean, Annotations.Sym, Annotations.plain}
 use Rattle.fcl_syntax.specs.Grammar.{TNot, neg, group, is, lone, TNots, no_nots, more_nots, TAnd, and_of, TAnds}
-use Rattle.fcl_syntax.specs.Grammar.{no_ands, more_ands, TOr, or_of, not_text, nots_text, and_text, ands_text, or_text}
-use Rattle.fcl_syntax.specs.Grammar.{less, opener}
-use Rattle.fcl_syntax.specs.Annotations.{IsClean, Sym, plain}
+use Rattle.fcl_syntax.specs.Grammar.{no_ands, more_ands, TOr, or_of, not_text, nots_text, and_text, ands_text}
+use Rattle.fcl_syntax.specs.Grammar.{or_text, less, opener}
 use Rattle.fcl_syntax.specs.Offsets.{AscendWithin, offset_of, offsets}
 use Rattle.fcl_check.specs.Loaded.{not_condition, nots_conditions, and_condition, ands_conditions, or_condition}
 

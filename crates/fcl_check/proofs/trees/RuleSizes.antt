@@ -4,13 +4,10 @@ use Rattle.std.specs.Prelude.{sum_by}
 use Rattle.std.specs.List.{AllByRecursion, AllZip}
 use Rattle.std.proofs.lemmas.List.{length-map}
 use Rattle.std.proofs.lemmas.List.Sums.{sum_by-cons}
-use Rattle.fuzzy_meaning.specs.declared.block.Rule.{Rule}
-use Rattle.fuzzy_meaning.specs.Blocks.{rule_size}
-use Rattle.fuzzy_meaning.specs.Conditions.{depth, nodes}
+use Rattle.fuzzy_meaning.specs.{declared.block.Rule.Rule, Blocks.rule_size, Conditions.depth, Conditions.nodes}
 use Rattle.fcl_syntax.specs.declared.token.Keyword.TheVariants as key
 use Rattle.fcl_syntax.specs.declared.token.Token.TheVariants as tok
-use Rattle.fcl_syntax.specs.declared.tree.Conclusion.{Conclusion}
-use Rattle.fcl_syntax.specs.declared.tree.FunctionBlock.{FunctionBlock}
+use Rattle.fcl_syntax.specs.declared.{tree.Conclusion.Conclusion, tree.FunctionBlock.FunctionBlock}
 use Rattle.fcl_syntax.specs.declared.tree.Rule.{Rule as RuleNode}
 use Rattle.fcl_syntax.specs.Grammar.{behind, block_text, conclusion_text, conclusions_text, each, end_text, key_text}
 use Rattle.fcl_syntax.specs.Grammar.{or_text, part_text, rule_item_text, rule_line_text, rulebase_text, section_text}

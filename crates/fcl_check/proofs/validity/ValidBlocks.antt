@@ -9,29 +9,20 @@ use Rattle.std.specs.List.{flat_map, slice_get}
 use Rattle.std.specs.Str.{str_to_ascii_lowercase}
 use Rattle.std.proofs.lemmas.List.Elements.{All-from_recursion}
 use Rattle.std.proofs.lemmas.Slice.Zip.{AllZip-long}
-use Rattle.fuzzy_meaning.specs.declared.block.Block.{Block}
-use Rattle.fuzzy_meaning.specs.declared.block.Input.{Input}
-use Rattle.fuzzy_meaning.specs.declared.block.Output.{Output}
+use Rattle.fuzzy_meaning.specs.declared.{block.Block.Block, block.Input.Input, block.Output.Output}
 use Rattle.fuzzy_meaning.specs.Blocks.{IsValid, IsValidInput, IsValidOutput, IsValidRule, rule_size}
 use Rattle.fcl_syntax.specs.contracts.fault.Kind as kind
-use Rattle.fcl_syntax.specs.Annotations.{IsClean, Sym}
-use Rattle.fcl_syntax.specs.Grammar.{block_text}
-use Rattle.fcl_syntax.specs.Offsets.{OffsetsAscend, offsets}
-use Rattle.fcl_syntax.specs.Text.{IsSpelled}
-use Rattle.fcl_syntax.specs.View.{view}
+use Rattle.fcl_syntax.specs.{Annotations.IsClean, Annotations.Sym, Grammar.block_text}
+use Rattle.fcl_syntax.specs.{Offsets.OffsetsAscend, Offsets.offsets, Text.IsSpelled, View.view}
 use Rattle.fcl_syntax.specs.declared.tree.Defuzzify.{Defuzzify}
 use Rattle.fcl_syntax.specs.declared.tree.Direction.TheVariants as side
-use Rattle.fcl_syntax.specs.declared.tree.FunctionBlock.{FunctionBlock}
-use Rattle.fcl_syntax.specs.declared.tree.Fuzzify.{Fuzzify}
-use Rattle.fcl_syntax.specs.declared.tree.Name.{Name}
+use Rattle.fcl_syntax.specs.declared.{tree.FunctionBlock.FunctionBlock, tree.Fuzzify.Fuzzify, tree.Name.Name}
 use Rattle.fcl_syntax.specs.declared.tree.Rule.{Rule as RuleNode}
 use Rattle.fcl_check.specs.Faults.{first_fault, has_direction, is_whole, without_section}
 use Rattle.fcl_check.specs.Loaded.{IsBlockOf, IsInputNamed, IsOutputNamed, IsRuleOf}
 use Rattle.fcl_check.specs.Names.{declared_as, declared_in, letters}
-use Rattle.fcl_check.specs.Places.{at_each}
+use Rattle.fcl_check.specs.{Places.at_each, Texts.SpelledBlocksAreValid, WellFormed.IsWellFormedRule}
 use Rattle.fcl_check.specs.Sections.{incomplete, terms_over_limit}
-use Rattle.fcl_check.specs.Texts.{SpelledBlocksAreValid}
-use Rattle.fcl_check.specs.WellFormed.{IsWellFormedRule}
 use Rattle.fcl_check.proofs.trees.ConditionSizes.{few_within}
 use Rattle.fcl_check.proofs.lists.Counts.{few_items, few_names, over, some_at_all, some_names}
 use Rattle.fcl_check.proofs.lists.Elements.{all_both, all_images, all_related}
@@ -43,11 +34,9 @@ use Rattle.fcl_check.proofs.faultless.Faultless.{
   well_formed_input,
   well_formed_output,
 }
-use Rattle.fcl_check.proofs.faultless.Faultless.{well_formed_rules}
+use Rattle.fcl_check.proofs.{faultless.Faultless.well_formed_rules, validity.ValidInputs.valid_input}
 use Rattle.fcl_check.proofs.trees.RuleSizes.{HasCleanCondition, clean_rules, count-rules, rule_sizes}
-use Rattle.fcl_check.proofs.validity.ValidInputs.{valid_input}
-use Rattle.fcl_check.proofs.validity.ValidOutputs.{valid_output}
-use Rattle.fcl_check.proofs.validity.ValidRules.{valid_rule}
+use Rattle.fcl_check.proofs.{validity.ValidOutputs.valid_output, validity.ValidRules.valid_rule}
 
 all_three : (p q r : Bool) → not (p && q && not r) ≡ false → (p ≡ true) × ((q ≡ true) × (r ≡ false))
 all_three true true true h = absurd cc

@@ -1,16 +1,14 @@
 -- The condition of a rule is valid where each of its pairs is: in a clean text no name stands alone.
 use Rattle.std.proofs.Common.{ℕ, [], ◌∷◌, Some, None}
 use Rattle.std.specs.List.{AllByRecursion}
-use Rattle.fuzzy_meaning.specs.declared.block.Block.{Block}
-use Rattle.fuzzy_meaning.specs.Blocks.{HasTerm, IsValidCondition}
+use Rattle.fuzzy_meaning.specs.{declared.block.Block.Block, Blocks.HasTerm, Blocks.IsValidCondition}
 use Rattle.fuzzy_meaning.specs.Conditions.{Condition, AllHaveLiterals}
 use Rattle.fcl_syntax.specs.declared.fault.Kind.TheVariants.{Unsupported}
 use Rattle.fcl_syntax.specs.declared.token.Token.TheVariants as tok
-use Rattle.fcl_syntax.specs.declared.tree.Name.{Name}
-use Rattle.fcl_syntax.specs.Annotations.{IsClean, plain}
+use Rattle.fcl_syntax.specs.{declared.tree.Name.Name, Annotations.IsClean, Annotations.plain}
 use Rattle.fcl_syntax.specs.Grammar.{TNot, neg, group, is, lone, TNots, no_nots, more_nots, TAnd, and_of, TAnds}
-use Rattle.fcl_syntax.specs.Grammar.{no_ands, more_ands, TOr, or_of, not_text, nots_text, and_text, ands_text, or_text}
-use Rattle.fcl_syntax.specs.Grammar.{less}
+use Rattle.fcl_syntax.specs.Grammar.{no_ands, more_ands, TOr, or_of, not_text, nots_text, and_text, ands_text}
+use Rattle.fcl_syntax.specs.Grammar.{or_text, less}
 use Rattle.fcl_check.specs.Faults.{Pair, and_pairs, ands_pairs, not_pairs, nots_pairs, or_pairs}
 use Rattle.fcl_check.specs.Loaded.{and_condition, ands_conditions, not_condition, nots_conditions, or_condition}
 use Rattle.fcl_check.proofs.lists.Elements.{parts_of}

@@ -5,28 +5,21 @@ use Rattle.std.specs.List.{AllByRecursion, flat_map}
 use Rattle.std.proofs.lemmas.List.Elements.{All-from_recursion}
 use Rattle.std.proofs.lemmas.Slice.Zip.{AllZip-long}
 use Rattle.fz_num.specs.declared.dec.Dec.{Dec}
-use Rattle.fuzzy_meaning.specs.declared.block.Input.{Input}
-use Rattle.fuzzy_meaning.specs.declared.block.Trapezoid.{Trapezoid}
+use Rattle.fuzzy_meaning.specs.declared.{block.Input.Input, block.Trapezoid.Trapezoid}
 use Rattle.fuzzy_meaning.specs.Blocks.{IsValidInput, IsValidTerm}
 use Rattle.fcl_syntax.specs.declared.tree.Direction.TheVariants as side
-use Rattle.fcl_syntax.specs.declared.tree.FunctionBlock.{FunctionBlock}
-use Rattle.fcl_syntax.specs.declared.tree.Fuzzify.{Fuzzify}
+use Rattle.fcl_syntax.specs.declared.{tree.FunctionBlock.FunctionBlock, tree.Fuzzify.Fuzzify}
 use Rattle.fcl_syntax.specs.declared.tree.Part.TheVariants as part
-use Rattle.fcl_syntax.specs.declared.tree.Point.{Point}
-use Rattle.fcl_syntax.specs.declared.tree.Range.{Range}
-use Rattle.fcl_syntax.specs.declared.tree.Term.{Term}
-use Rattle.fcl_check.specs.Faults.{direction, is_declared_as}
+use Rattle.fcl_syntax.specs.declared.{tree.Point.Point, tree.Range.Range, tree.Term.Term}
+use Rattle.fcl_check.specs.{Faults.direction, Faults.is_declared_as, Names.terms_of, Places.at_if}
 use Rattle.fcl_check.specs.Loaded.{IsInputOf, IsTermOf, given_or}
-use Rattle.fcl_check.specs.Names.{terms_of}
-use Rattle.fcl_check.specs.Places.{at_if}
 use Rattle.fcl_check.specs.Sections.{Ends, abscissas, bad_fuzzy_range, ends_of, falling_in, fuzzy_range, has_shape}
 use Rattle.fcl_check.specs.Sections.{hull_of, is_empty_range, outside, outside_in, points_of, x_of}
 use Rattle.fcl_check.proofs.lists.Counts.{few_items, some_item}
 use Rattle.fcl_check.proofs.lists.Elements.{all_related, all_unmapped, all_weaker, parts_of}
 use Rattle.fcl_check.proofs.faultless.Faultless.{IsWellFormedPart, known_side, no_items, no_place, nowhere, shaped}
 use Rattle.fcl_check.proofs.ranges.Ranges.{AllIn, In, all_inside, hull-over, not_empty}
-use Rattle.fcl_check.proofs.ranges.Scales.{input_range-in}
-use Rattle.fcl_check.proofs.validity.ValidTerms.{valid_term}
+use Rattle.fcl_check.proofs.{ranges.Scales.input_range-in, validity.ValidTerms.valid_term}
 
 -- ---- the range
 

@@ -7,22 +7,16 @@ use Rattle.std.proofs.lemmas.Int.{ints}
 use Rattle.std.proofs.lemmas.List.{length-map}
 use Rattle.std.proofs.lemmas.List.Elements.{All-from_recursion}
 use Rattle.fz_num.specs.declared.dec.Dec.{Dec}
-use Rattle.fuzzy_meaning.specs.declared.block.Output.{Output}
-use Rattle.fuzzy_meaning.specs.Blocks.{IsValidOutput, IsInScale, IsWithin}
-use Rattle.fcl_syntax.specs.declared.tree.Defuzzify.{Defuzzify}
-use Rattle.fcl_syntax.specs.declared.tree.DefuzzyLine.{DefuzzyLine}
+use Rattle.fuzzy_meaning.specs.{declared.block.Output.Output, Blocks.IsValidOutput, Blocks.IsInScale, Blocks.IsWithin}
+use Rattle.fcl_syntax.specs.declared.{tree.Defuzzify.Defuzzify, tree.DefuzzyLine.DefuzzyLine}
 use Rattle.fcl_syntax.specs.declared.tree.DefuzzyLine.TheVariants as defuzzy
-use Rattle.fcl_syntax.specs.declared.tree.Fallback.{Fallback}
-use Rattle.fcl_syntax.specs.declared.tree.FallbackValue.{FallbackValue}
+use Rattle.fcl_syntax.specs.declared.{tree.Fallback.Fallback, tree.FallbackValue.FallbackValue}
 use Rattle.fcl_syntax.specs.declared.tree.FallbackValue.TheVariants as fallback
-use Rattle.fcl_syntax.specs.declared.tree.FunctionBlock.{FunctionBlock}
-use Rattle.fcl_syntax.specs.declared.tree.SignedNumber.{SignedNumber}
+use Rattle.fcl_syntax.specs.declared.{tree.FunctionBlock.FunctionBlock, tree.SignedNumber.SignedNumber}
 use Rattle.fcl_syntax.specs.declared.tree.Part.TheVariants as part
-use Rattle.fcl_syntax.specs.declared.tree.Range.{Range}
-use Rattle.fcl_syntax.specs.declared.tree.Singleton.{Singleton}
+use Rattle.fcl_syntax.specs.declared.{tree.Range.Range, tree.Singleton.Singleton}
 use Rattle.fcl_check.specs.Loaded.{IsOutputOf, default_number, given_or, number_of, output_hull, widened}
-use Rattle.fcl_check.specs.Names.{singleton_of, singletons_of}
-use Rattle.fcl_check.specs.Places.{at_if, at_some, first}
+use Rattle.fcl_check.specs.{Names.singleton_of, Names.singletons_of, Places.at_if, Places.at_some, Places.first}
 use Rattle.fcl_check.specs.Sections.{Ends, default_line, default_of, defuzzy_range, empty_range, ends_of}
 use Rattle.fcl_check.specs.Sections.{fallback_number, is_empty_range, lies_in, number_line, output_numbers, outside}
 use Rattle.fcl_check.specs.Sections.{value}

@@ -10,36 +10,23 @@ use Rattle.std.proofs.lemmas.List.Elements.{All-from_recursion}
 use Rattle.std.proofs.lemmas.Slice.Eq.{bytes_eq-Decides}
 use Rattle.std.proofs.lemmas.Slice.Zip.{AllZip-long}
 use Rattle.fz_num.specs.declared.dec.Dec.{Dec}
-use Rattle.fuzzy_meaning.specs.declared.block.Block.{Block}
-use Rattle.fuzzy_meaning.specs.declared.block.Input.{Input}
-use Rattle.fuzzy_meaning.specs.declared.block.Output.{Output}
-use Rattle.fuzzy_meaning.specs.declared.block.Rule.{Rule}
+use Rattle.fuzzy_meaning.specs.declared.{block.Block.Block, block.Input.Input, block.Output.Output, block.Rule.Rule}
 use Rattle.fuzzy_meaning.specs.Blocks.{HasSingleton, HasTerm, IsValidRule, IsWeight}
-use Rattle.fcl_syntax.specs.declared.tree.Conclusion.{Conclusion}
-use Rattle.fcl_syntax.specs.declared.tree.Defuzzify.{Defuzzify}
-use Rattle.fcl_syntax.specs.declared.tree.Direction.{Direction}
+use Rattle.fcl_syntax.specs.declared.{tree.Conclusion.Conclusion, tree.Defuzzify.Defuzzify, tree.Direction.Direction}
 use Rattle.fcl_syntax.specs.declared.tree.Direction.TheVariants as side
-use Rattle.fcl_syntax.specs.declared.tree.FunctionBlock.{FunctionBlock}
-use Rattle.fcl_syntax.specs.declared.tree.Fuzzify.{Fuzzify}
-use Rattle.fcl_syntax.specs.declared.tree.Name.{Name}
-use Rattle.fcl_syntax.specs.declared.tree.Part.{Part}
-use Rattle.fcl_syntax.specs.declared.tree.Rule.{Rule as RuleNode}
-use Rattle.fcl_syntax.specs.declared.tree.Singleton.{Singleton}
-use Rattle.fcl_syntax.specs.declared.tree.Term.{Term}
-use Rattle.fcl_syntax.specs.declared.tree.Weight.{Weight}
-use Rattle.fcl_check.specs.Faults.{Pair, conclusions_of, is_declared_as}
-use Rattle.fcl_check.specs.Loaded.{IsBlockOf, IsInputOf, IsOutputOf, IsRuleOf, IsTermOf, IsVariableNamed, conclusion_of}
-use Rattle.fcl_check.specs.Loaded.{literal_of, number_of, or_zero}
+use Rattle.fcl_syntax.specs.declared.{tree.FunctionBlock.FunctionBlock, tree.Fuzzify.Fuzzify, tree.Name.Name}
+use Rattle.fcl_syntax.specs.declared.{tree.Part.Part, tree.Rule.Rule as RuleNode, tree.Singleton.Singleton}
+use Rattle.fcl_syntax.specs.declared.{tree.Term.Term, tree.Weight.Weight}
+use Rattle.fcl_check.specs.{Faults.Pair, Faults.conclusions_of, Faults.is_declared_as, Places.at_if, Places.at_some}
+use Rattle.fcl_check.specs.Loaded.{IsBlockOf, IsInputOf, IsOutputOf, IsRuleOf, IsTermOf, IsVariableNamed}
+use Rattle.fcl_check.specs.Loaded.{conclusion_of, literal_of, number_of, or_zero}
 use Rattle.fcl_check.specs.Names.{as_defuzzify, as_fuzzify, declared_as, declared_in, letters, number_in, section_of}
 use Rattle.fcl_check.specs.Names.{singleton_names, singletons_of, term_names, term_number, terms_of, variable_number}
-use Rattle.fcl_check.specs.Places.{at_if, at_some}
-use Rattle.fcl_check.specs.Sections.{value}
-use Rattle.fcl_check.specs.WellFormed.{IsKnown, IsWellFormedRule}
+use Rattle.fcl_check.specs.{Sections.value, WellFormed.IsKnown, WellFormed.IsWellFormedRule}
 use Rattle.fcl_check.proofs.trees.RuleSizes.{HasCleanCondition, shallow_rule}
 use Rattle.fcl_check.proofs.lists.Elements.{all_mapped, all_weaker}
-use Rattle.fcl_check.proofs.faultless.Faultless.{no_place}
+use Rattle.fcl_check.proofs.{faultless.Faultless.no_place, validity.ValidConditions.valid_or}
 use Rattle.fcl_check.proofs.naming.NumberedNames.{declared_any, number_within, numbered}
-use Rattle.fcl_check.proofs.validity.ValidConditions.{valid_or}
 
 -- ---- what names stand for
 

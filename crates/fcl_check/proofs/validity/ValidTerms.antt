@@ -6,15 +6,12 @@ use Rattle.std.proofs.lemmas.Bool.{cases_Bool}
 use Rattle.std.proofs.lemmas.Int.{ints}
 use Rattle.std.proofs.lemmas.List.Sums.{take_while-cons}
 use Rattle.fz_num.specs.declared.dec.Dec.{Dec}
-use Rattle.fuzzy_meaning.specs.declared.block.Trapezoid.{Trapezoid}
-use Rattle.fuzzy_meaning.specs.Blocks.{IsValidTerm}
-use Rattle.fcl_syntax.specs.declared.tree.Point.{Point}
-use Rattle.fcl_syntax.specs.declared.tree.Term.{Term}
+use Rattle.fuzzy_meaning.specs.{declared.block.Trapezoid.Trapezoid, Blocks.IsValidTerm}
+use Rattle.fcl_syntax.specs.declared.{tree.Point.Point, tree.Term.Term}
 use Rattle.fcl_check.specs.Loaded.{IsTermOf, abscissa_of, number_of}
 use Rattle.fcl_check.specs.Places.{drop_while, first, last}
 use Rattle.fcl_check.specs.Sections.{falling_in, has_one, has_shape, has_zero, points_of, x_of}
-use Rattle.fcl_check.proofs.courses.CourseSteps.{no-ones}
-use Rattle.fcl_check.proofs.ranges.Ranges.{AllIn}
+use Rattle.fcl_check.proofs.{courses.CourseSteps.no-ones, ranges.Ranges.AllIn}
 use Rattle.fcl_check.proofs.faultless.Standing.{Ascends, ascends, last-over, tail-zero}
 
 if_number : (P : ℤ → Type 0) (o : Option Dec) (n : ℤ) → number_of o ≡ Some n → P n → IfSome o (λ d. P d.0)

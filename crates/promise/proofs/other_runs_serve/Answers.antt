@@ -1,5 +1,4 @@
-use Rattle.promise.proofs.OtherLemmas.{others_serve}
-use Rattle.promise.proofs.PromiseLemmas.{answers_serve}
+use Rattle.promise.proofs.{OtherLemmas.others_serve, PromiseLemmas.answers_serve}
 use Rattle.promise.proofs.other_runs_serve.Goals as goal
 
 pub returns : goal.returns

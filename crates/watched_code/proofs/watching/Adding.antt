@@ -4,24 +4,20 @@ use Rattle.std.proofs.Common.{◌≡◌, ℕ, zero, suc, ◌+◌, ◌-◌, ◌*�
 use Rattle.std.proofs.Common.{◌∷◌, ◌++◌, length, get_or, refl, sym, ap, ap₂, ◌∙◌, subst, arith}
 use Rattle.std.specs.Prelude.{◌==◌, not, if◌then◌else◌}
 use Rattle.std.proofs.lemmas.Bool.Decides.{nat_tests}
-use Rattle.cpu12_isa.specs.declared.instr.Ccr.{Ccr}
-use Rattle.cpu12_isa.specs.declared.instr.Instr.{Instr}
+use Rattle.cpu12_isa.specs.declared.{instr.Ccr.Ccr, instr.Instr.Instr}
 use Rattle.cpu12_isa.specs.declared.instr.Instr.TheVariants.{ClrExtended, LdabImmediate, LdxImmediate, StabExtended}
 use Rattle.cpu12_isa.specs.declared.instr.Instr.TheVariants.{CpxImmediate, Bne, AddbImmediate, AddbPostIncrementX}
-use Rattle.cpu12_isa.specs.Code.{encode_of}
-use Rattle.cpu12_isa.specs.Flags.{has, put}
-use Rattle.cpu12_isa.specs.Memory.{plus}
-use Rattle.cpu12_parts.specs.State.{State}
-use Rattle.cpu12_parts.specs.Whole.{after_plain}
+use Rattle.cpu12_isa.specs.{Code.encode_of, Flags.has, Flags.put, Memory.plus}
+use Rattle.cpu12_parts.specs.{State.State, Whole.after_plain}
 use Rattle.watched_code.specs.declared.segments.Segment.{Segment}
-use Rattle.eval_code.specs.Masks.{interrupt_masks}
 use Rattle.watched_code.specs.WatchedCode.{segment_code, segments_code, IsSegment}
+use Rattle.eval_code.specs.Masks.{interrupt_masks}
 pub use Rattle.watched_code.specs.WatchedCode.{AreSegments}
 use Rattle.codegen.specs.Interruptible.{IsInterruptibleStep}
+use Rattle.codegen.specs.Settings.{Setting, Here, Live, Stands, Next, InstructionGoesOn}
 use Rattle.cpu12_parts.proofs.Algebra.{Bounded, bounded_none, bounded_one, bounded_on}
 use Rattle.eval_code.proofs.Algebra.{masked_or, masked_and, masked_tested, masked_four, zero_four}
 use Rattle.codegen.proofs.Algebra.{high_shown}
-use Rattle.codegen.specs.Settings.{Setting, Here, Live, Stands, Next, InstructionGoesOn}
 
 -- H leaves I and X, and with the other flags Z
 masked_half : (c : Ccr) (b : Bool) → interrupt_masks (put c 5 b) ≡ interrupt_masks c

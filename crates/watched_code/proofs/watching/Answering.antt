@@ -2,40 +2,27 @@
 use Rattle.std.proofs.Common.{inr, ◌≡◌, inl, ℕ, ◌+◌, ◌^◌, ◌<◌, ◌≤◌, List, [], ◌∷◌, ◌++◌, length, All, refl, sym, ap}
 use Rattle.std.proofs.Common.{◌∙◌, subst, arith, length-append}
 use Rattle.std.specs.Prelude.{Option, Some, None}
-use Rattle.fuzzy_meaning.specs.declared.block.Block.{Block}
-use Rattle.fuzzy_meaning.specs.Blocks.{IsValid}
+use Rattle.fuzzy_meaning.specs.{declared.block.Block.Block, Blocks.IsValid}
 use Rattle.rule_layout.specs.Layouts.{IsWithinLimits}
-use Rattle.cpu12_isa.specs.declared.instr.Instr.TheVariants.{Rts}
-use Rattle.cpu12_isa.specs.Regions.{is_free}
-use Rattle.cpu12_asm.specs.Bytes.{Holds}
-use Rattle.cpu12_asm.specs.Items.{given_by, IsRising}
+use Rattle.cpu12_isa.specs.{declared.instr.Instr.TheVariants.Rts, Regions.is_free}
+use Rattle.cpu12_asm.specs.{Bytes.Holds, Items.given_by, Items.IsRising}
 use Rattle.cpu12_parts.specs.State.{State}
 use Rattle.cpu12_emul.specs.Image.{image_memory}
-use Rattle.eval_code.specs.declared.memory_map.MemoryMap.{MemoryMap}
-use Rattle.eval_code.specs.declared.width.Width.TheVariants.{Byte}
-use Rattle.eval_code.specs.MemoryMaps.{main_map}
-use Rattle.eval_code.specs.Code.{code_bytes, eval_code, block_code}
+use Rattle.eval_code.specs.declared.{memory_map.MemoryMap.MemoryMap, width.Width.TheVariants.Byte}
+use Rattle.eval_code.specs.{MemoryMaps.main_map, Bounds.instruction_bound, Items.IsApart, Items.block_items}
+use Rattle.eval_code.specs.Code.{code_bytes, eval_code, block_code, FitCode}
 use Rattle.eval_code.specs.Placed.{IsInOrder, HasParts, BlockRises, BlockIsShort}
-use Rattle.eval_code.specs.Bounds.{instruction_bound}
-use Rattle.eval_code.specs.Items.{IsApart, block_items}
-use Rattle.codegen.specs.Images.{vector_items}
-use Rattle.codegen.specs.Answers.{IsArrived}
+use Rattle.codegen.specs.{Images.vector_items, Answers.IsArrived, Answers.FreeBytesLeave, Standing.HasFirmware}
+use Rattle.codegen.specs.{Frames.Arrived, Settings.Setting, Settings.IsShut}
 use Rattle.watched_code.specs.WatchedCode.{segments_of, watched_front, watched_map, code_length}
 use Rattle.watched_code.specs.Watched.{watched_items, watched_bound, Change, Watched, IsTableChange, IsGoodSample}
 use Rattle.watched_code.specs.Watched.{AreWatchAnswered, WatchedAnswers}
-use Rattle.eval_code.specs.Code.{FitCode}
-use Rattle.codegen.specs.Answers.{FreeBytesLeave}
-use Rattle.codegen.specs.Standing.{HasFirmware}
 use Rattle.codegen.proofs.Algebra.{not_free}
-use Rattle.watched_code.proofs.watching.Adding.{count_in}
+use Rattle.watched_code.proofs.{watching.Adding.count_in, watching.Laws.WatchingLaws, watching.Located.located}
 use Rattle.watched_code.proofs.watching.Fronts.{IsWatchedMap, length-more, length-bad, length-front, fits_front}
 use Rattle.watched_code.proofs.watching.Fronts.{fit_defaults, start_bytes}
-use Rattle.watched_code.proofs.watching.Laws.{WatchingLaws}
 use Rattle.watched_code.proofs.watching.Tables.{are_segments, are_apart, are_few, stand, counted}
-use Rattle.watched_code.proofs.watching.Located.{located}
 use Rattle.watched_code.proofs.watching.Law.{Grounds, MayChange, AreGood, are_answered}
-use Rattle.codegen.specs.Frames.{Arrived}
-use Rattle.codegen.specs.Settings.{Setting, IsShut}
 
 -- the code before EVAL is short
 pub short_front : (b : Block) → IsValid b → code_length (watched_front main_map b) ≤ 97

@@ -2,16 +2,13 @@
 use Rattle.std.proofs.Common.{◌≡◌, ℕ, ◌+◌, ◌*◌, ◌%◌, ◌^◌, ◌<◌, ◌≤◌, true, false, List, [], ◌∷◌, ◌++◌, length, set, refl}
 use Rattle.std.proofs.Common.{ap, ◌∙◌, subst, arith}
 use Rattle.std.specs.Prelude.{◌==◌}
-use Rattle.cpu12_isa.specs.declared.instr.Instr.{Instr}
+use Rattle.cpu12_isa.specs.{declared.instr.Instr.Instr, Flags.has}
 use Rattle.cpu12_isa.specs.declared.instr.Instr.TheVariants.{LdabImmediate, ClrExtended, Bne, AddbImmediate}
-use Rattle.cpu12_isa.specs.Flags.{has}
-use Rattle.cpu12_parts.specs.State.{State}
-use Rattle.cpu12_parts.specs.Whole.{after_plain}
-use Rattle.watched_code.specs.declared.segments.Segment.{Segment}
-use Rattle.watched_code.specs.WatchedCode.{segments_code, fault_at}
+use Rattle.cpu12_parts.specs.{State.State, Whole.after_plain}
+use Rattle.watched_code.specs.{declared.segments.Segment.Segment, WatchedCode.segments_code, WatchedCode.fault_at}
 use Rattle.cpu12_parts.proofs.Algebra.{Bounded, bounded_one, bounded_on}
-use Rattle.watched_code.proofs.watching.Adding.{IsShutAbove, AreSegments, Added, segments_run, sum_in, count_in, clr, Step}
-use Rattle.watched_code.proofs.watching.Adding.{ldab, addb, addb_zero, bne_on, bne_back}
+use Rattle.watched_code.proofs.watching.Adding.{IsShutAbove, AreSegments, Added, segments_run, sum_in, count_in, clr}
+use Rattle.watched_code.proofs.watching.Adding.{Step, ldab, addb, addb_zero, bne_on, bne_back}
 use Rattle.codegen.specs.Settings.{Setting, Live, Stands, InstructionGoesOn}
 
 -- the check's last three instructions

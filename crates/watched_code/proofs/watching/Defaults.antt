@@ -8,8 +8,7 @@ use Rattle.fuzzy_meaning.specs.declared.block.Output.{Output}
 use Rattle.byte_scaling.specs.Cells.{nearest_byte}
 use Rattle.cpu12_isa.specs.declared.instr.Instr.{Instr}
 use Rattle.cpu12_isa.specs.declared.instr.Instr.TheVariants.{LdabImmediate, StabExtended}
-use Rattle.cpu12_parts.specs.State.{State}
-use Rattle.cpu12_parts.specs.Whole.{after_plain}
+use Rattle.cpu12_parts.specs.{State.State, Whole.after_plain}
 use Rattle.watched_code.specs.WatchedCode.{default_code, defaults_code}
 use Rattle.watched_code.specs.Watched.{default_or, default_of}
 use Rattle.cpu12_parts.proofs.Algebra.{Bounded, bounded_none, bounded_one, bounded_on, bounded_more}

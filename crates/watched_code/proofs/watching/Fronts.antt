@@ -4,31 +4,24 @@ use Rattle.std.proofs.Common.{ap, ◌∙◌, subst, arith, length-append}
 use Rattle.std.specs.Prelude.{Option, Some, None, IfSome, option_map}
 use Rattle.std.proofs.lemmas.Grind.{flat_map-append}
 use Rattle.fz_num.specs.declared.dec.Dec.{Dec}
-use Rattle.fuzzy_meaning.specs.declared.block.Output.{Output}
-use Rattle.fuzzy_meaning.specs.Blocks.{IsValidOutput, IsWithin}
+use Rattle.fuzzy_meaning.specs.{declared.block.Output.Output, Blocks.IsValidOutput, Blocks.IsWithin}
 use Rattle.byte_scaling.specs.Cells.{nearest_byte, NearestIsByte}
-use Rattle.cpu12_isa.specs.declared.instr.Instr.{Instr}
+use Rattle.cpu12_isa.specs.{declared.instr.Instr.Instr, Code.encode_of}
 use Rattle.cpu12_isa.specs.declared.instr.Instr.TheVariants.{LdaaExtended, LdabImmediate, ClrExtended, Beq, Bra}
 use Rattle.cpu12_isa.specs.declared.instr.Instr.TheVariants.{JsrExtended, Rts, Rti}
-use Rattle.cpu12_isa.specs.Code.{encode_of}
 use Rattle.eval_code.specs.declared.memory_map.MemoryMap.{MemoryMap}
-use Rattle.watched_code.specs.declared.segments.Segment.{Segment}
-use Rattle.watched_code.specs.Checksums.{check_byte}
-use Rattle.codegen.specs.Code.{frame_code}
-use Rattle.eval_code.specs.Items.{IsApart}
+use Rattle.eval_code.specs.{Items.IsApart, Evaluation.HasBytes, Code.code_bytes, Code.FitCode}
+use Rattle.watched_code.specs.{declared.segments.Segment.Segment, Checksums.check_byte}
 use Rattle.watched_code.specs.WatchedCode.{segment_bytes, code_length, default_code, defaults_code, bad_code}
 use Rattle.watched_code.specs.WatchedCode.{segment_code, segments_code, back_to_bad, check_code, bad_at, check_at}
 use Rattle.watched_code.specs.WatchedCode.{watched_front_over, fault_at}
-use Rattle.eval_code.specs.Evaluation.{HasBytes}
-use Rattle.eval_code.specs.Code.{code_bytes, FitCode}
+use Rattle.codegen.specs.{Code.frame_code, Settings.InstructionsStand, Settings.Setting, Settings.Stands}
+use Rattle.codegen.specs.Frames.{IsStarted, start_code, IsFramed, FrameCallsAndLeaves}
 use Rattle.eval_code.proofs.Algebra.{length-le-code_size, length-code_bytes, bytes_front, bytes_back, fit_append}
-use Rattle.codegen.specs.Settings.{InstructionsStand}
 use Rattle.watched_code.proofs.watching.Adding.{IsShutAbove, AreSegments}
 use Rattle.watched_code.proofs.watching.Checking.{HasCheck, decision}
 use Rattle.watched_code.proofs.watching.Defaults.{FitDefault, FitDefaults, default_byte}
 use Rattle.watched_code.proofs.watching.Sampling.{calling, HasFront}
-use Rattle.codegen.specs.Frames.{IsStarted, start_code, IsFramed, FrameCallsAndLeaves}
-use Rattle.codegen.specs.Settings.{Setting, Stands}
 
 -- lengths
 pub length-more : (a b : List Instr) → code_length (a ++ b) ≡ code_length a + code_length b

@@ -6,39 +6,24 @@ use Rattle.std.specs.Prelude.{◌==◌, not, Option, Some, None, if◌then◌els
 use Rattle.std.proofs.lemmas.Bool.{cases_eq}
 use Rattle.std.proofs.lemmas.Bool.Decides.{nat_tests}
 use Rattle.std.proofs.lemmas.List.{set-get_or}
-use Rattle.fuzzy_meaning.specs.declared.block.Block.{Block}
-use Rattle.fuzzy_meaning.specs.Blocks.{IsValid, output_at}
+use Rattle.fuzzy_meaning.specs.{declared.block.Block.Block, Blocks.IsValid, Blocks.output_at}
 use Rattle.rule_layout.specs.Layouts.{IsWithinLimits}
-use Rattle.cpu12_isa.specs.Fits.{AreBytes}
-use Rattle.cpu12_isa.specs.Regions.{is_free}
-use Rattle.cpu12_parts.specs.State.{State}
-use Rattle.cpu12_parts.specs.Executions.{Execution}
-use Rattle.codegen.specs.Interruptible.{IsInterruptible, IsInterruptibleStep}
-use Rattle.watched_code.specs.declared.segments.Segment.{Segment}
-use Rattle.eval_code.specs.declared.width.Width.TheVariants.{Byte}
-use Rattle.eval_code.specs.Widths.{answer}
-use Rattle.eval_code.specs.Bounds.{instruction_bound}
-use Rattle.eval_code.specs.Items.{IsApart}
-use Rattle.eval_code.specs.Firing.{AreInputBytes}
-use Rattle.eval_code.specs.Evaluation.{HasBytes}
-use Rattle.codegen.specs.Answers.{given}
-use Rattle.eval_code.specs.Evaluation.{put}
+use Rattle.cpu12_isa.specs.{Fits.AreBytes, Regions.is_free}
+use Rattle.cpu12_parts.specs.{State.State, Executions.Execution}
+use Rattle.codegen.specs.{Interruptible.IsInterruptible, Interruptible.IsInterruptibleStep, Answers.given}
+use Rattle.codegen.specs.{Calls.HasRoutine, Frames.Home, Settings.Setting, Settings.Live}
+use Rattle.watched_code.specs.{declared.segments.Segment.Segment, Checksums.check_byte}
 use Rattle.watched_code.specs.WatchedCode.{segment_bytes, fault_at, watched_front_over, code_length}
-use Rattle.watched_code.specs.Checksums.{check_byte}
 use Rattle.watched_code.specs.Watched.{Change, changed, is_upset, Watched, default_of, watched_answer, watched_fault}
 use Rattle.watched_code.specs.Watched.{upset_given, restored, IsWatchAnswered, AreWatchAnswered}
-use Rattle.eval_code.specs.Code.{code_bytes}
+use Rattle.eval_code.specs.{declared.width.Width.TheVariants.Byte, Widths.answer, Bounds.instruction_bound}
+use Rattle.eval_code.specs.{Items.IsApart, Firing.AreInputBytes, Evaluation.HasBytes, Evaluation.put, Code.code_bytes}
 use Rattle.eval_code.proofs.Algebra.{SameHigh, bytes_set_out, bytes_after_set, bytes_put_out, has_put, length-put}
 use Rattle.watched_code.proofs.watching.Adding.{IsShutAbove, AreSegments, sum_in, count_in}
 use Rattle.watched_code.proofs.watching.Segments.{Apart, In, Stand, stand_passes, change_fails}
-use Rattle.watched_code.proofs.watching.Defaults.{FitDefaults}
+use Rattle.watched_code.proofs.{watching.Defaults.FitDefaults, watching.Tables.sum_high, watching.Laws.WatchingLaws}
 use Rattle.watched_code.proofs.watching.Sampling.{Watches, IsGiven, WatchSampled, answered_well, answered_badly}
 use Rattle.watched_code.proofs.watching.Fronts.{IsWatchedMap, has_front}
-use Rattle.watched_code.proofs.watching.Tables.{sum_high}
-use Rattle.codegen.specs.Calls.{HasRoutine}
-use Rattle.codegen.specs.Frames.{Home}
-use Rattle.watched_code.proofs.watching.Laws.{WatchingLaws}
-use Rattle.codegen.specs.Settings.{Setting, Live}
 
 -- the same run over another image
 abbrev under : Setting → List ℕ → Setting

@@ -7,9 +7,7 @@ use Rattle.std.proofs.lemmas.Bool.{cases_eq}
 use Rattle.std.proofs.lemmas.Bool.Decides.{nat_tests}
 use Rattle.std.proofs.lemmas.List.Sums.{sum_by-cons, sum_by-append}
 use Rattle.eval_code.specs.Evaluation.{HasBytes}
-use Rattle.watched_code.specs.Checksums.{check_byte}
-use Rattle.watched_code.specs.declared.segments.Segment.{Segment}
-use Rattle.watched_code.specs.WatchedCode.{segment_bytes}
+use Rattle.watched_code.specs.{Checksums.check_byte, WatchedCode.segment_bytes, declared.segments.Segment.Segment}
 use Rattle.watched_code.proofs.watching.Adding.{sum_from, sum_in}
 use Rattle.watched_code.proofs.watching.Checksums.{unchanged_sum_is_zero, other_sum}
 

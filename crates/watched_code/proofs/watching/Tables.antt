@@ -5,13 +5,10 @@ use Rattle.fuzzy_meaning.specs.declared.block.Block.{Block}
 use Rattle.rule_layout.specs.declared.flat.Form.{Form}
 use Rattle.rule_layout.specs.declared.flat.Form.TheVariants as form
 use Rattle.rule_layout.specs.Layouts.{form_of, weights_of}
-use Rattle.watched_code.specs.declared.segments.Segment.{Segment}
-use Rattle.eval_code.specs.MemoryMaps.{main_map}
-use Rattle.eval_code.specs.Data.{table_bytes, singleton_bytes, weight_bytes_by, weight_bytes, rule_bytes}
-use Rattle.eval_code.specs.Evaluation.{HasBytes}
-use Rattle.eval_code.specs.Placed.{HasParts}
-use Rattle.watched_code.specs.Watched.{segment_bound}
+use Rattle.watched_code.specs.{declared.segments.Segment.Segment, Watched.segment_bound}
 use Rattle.watched_code.specs.WatchedCode.{segment, weight_segments, segments_of}
+use Rattle.eval_code.specs.{MemoryMaps.main_map, Evaluation.HasBytes, Placed.HasParts}
+use Rattle.eval_code.specs.Data.{table_bytes, singleton_bytes, weight_bytes_by, weight_bytes, rule_bytes}
 use Rattle.eval_code.proofs.Algebra.{SameHigh}
 use Rattle.watched_code.proofs.watching.Adding.{AreSegments, sum_from, sum_in, count_in}
 use Rattle.watched_code.proofs.watching.Segments.{Apart, Stand}

@@ -1,6 +1,5 @@
 use Rattle.std.proofs.Common.{arith, ap, length}
-use Rattle.box_tree.proofs.HeaderLemmas.{one_claims}
-use Rattle.box_tree.proofs.Emptiness.{is_nothing}
+use Rattle.box_tree.proofs.{HeaderLemmas.one_claims, Emptiness.is_nothing}
 use Rattle.box_tree.proofs.header.claims_at.Goals as goal
 use Rattle.box_tree.proofs.header.claims_at.Goals.{then-is_empty-via-then-is_empty}
 use Rattle.box_tree.proofs.header.claims_at.Goals.{then-is_empty-via-else-is_empty+then-len-gt-MOST_CLAIMS}

@@ -1,6 +1,5 @@
 use Rattle.std.proofs.Common.{◌≡◌, ◌*◌, length, take, All}
-use Rattle.box_tree.specs.Certificates.{IsPair}
-use Rattle.box_tree.specs.Texts.{pair_numbers}
+use Rattle.box_tree.specs.{Certificates.IsPair, Texts.pair_numbers}
 use Rattle.box_tree.proofs.nodes.pairs_of.Given as goal
 
 abbrev pub invariant-loop-i : goal.invariant-loop-i

@@ -1,6 +1,5 @@
 use Rattle.std.proofs.Common.{List, ℕ, []}
-use Rattle.box_tree.specs.declared.cert.CertKind.{CertKind}
-use Rattle.box_tree.specs.declared.cert.AnswerWidth.{AnswerWidth}
+use Rattle.box_tree.specs.declared.{cert.CertKind.CertKind, cert.AnswerWidth.AnswerWidth}
 use Rattle.box_tree.specs.Reading.{HasRead, unread_len}
 use Rattle.box_tree.proofs.reader.cert_behind.Given as goal
 

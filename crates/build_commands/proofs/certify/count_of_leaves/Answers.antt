@@ -1,7 +1,6 @@
 use Rattle.std.proofs.Common.{arith, ◌≤◌, ℕ, zero, suc, List, [], ◌∷◌, drop}
 use Rattle.box_tree.specs.Trees.{leaf_count}
-use Rattle.box_tree.specs.declared.cert.Node.{Node}
-use Rattle.box_tree.specs.declared.cert.Node.TheVariants.{Split, Leaf}
+use Rattle.box_tree.specs.declared.{cert.Node.Node, cert.Node.TheVariants.Split, cert.Node.TheVariants.Leaf}
 use Rattle.build_commands.proofs.certify.count_of_leaves.Goals as goal
 
 leaf_count-drop : (k : ℕ) (nodes : List Node) → leaf_count (drop k nodes) ≤ leaf_count nodes

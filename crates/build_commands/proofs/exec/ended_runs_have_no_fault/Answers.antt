@@ -1,14 +1,11 @@
 use Rattle.std.proofs.Common.{◌≡◌, ℕ, List, ap, subst}
 use Rattle.cpu12_parts.specs.State.{State}
-use Rattle.cpu12_emul.specs.Image.{ImagesLoadAlike, image_memory}
-use Rattle.cpu12_emul.specs.Run.{EndsRun, RunsEndOnce}
-use Rattle.cpu12_emul.specs.Step.{reset_with}
+use Rattle.cpu12_emul.specs.{Image.ImagesLoadAlike, Image.image_memory, Run.EndsRun, Run.RunsEndOnce, Step.reset_with}
 use Rattle.cpu12_emul.specs.declared.ends.RunEnd.{RunEnd}
 use Rattle.cpu12_emul.specs.declared.ends.RunEnd.TheVariants as end
 use Rattle.srecord.specs.Laws.{ImagesAreOne}
 use Rattle.fz_status.specs.declared.status.Status.TheVariants as status
-use Rattle.build_commands.specs.Exec.{Ends}
-use Rattle.build_commands.specs.declared.exec.Exec.{Exec}
+use Rattle.build_commands.specs.{Exec.Ends, declared.exec.Exec.Exec}
 use Rattle.build_commands.proofs.ImageLemmas.{records_apart}
 use Rattle.build_commands.proofs.exec.ended_runs_have_no_fault.Goals as goal
 

@@ -1,7 +1,6 @@
 use Rattle.std.proofs.Common.{rules, ◌≡◌, ◌≢◌, ℕ, List, Some, None, subst}
 use Rattle.fcl_check.specs.declared.fault.LoadFault.TheVariants as load
-use Rattle.fcl_check.specs.Faults.{first_fault}
-use Rattle.fcl_check.specs.Loaded.{IsBlockOf}
+use Rattle.fcl_check.specs.{Faults.first_fault, Loaded.IsBlockOf}
 use Rattle.build_commands.proofs.firmware.block_of.Goals as goal
 
 pub returns-in-Ok-load-clause-block : goal.returns-in-Ok-load-clause-block

@@ -1,6 +1,5 @@
 use Rattle.std.proofs.Common.{refl}
-use Rattle.eval_code.specs.Bounds.{instruction_bound}
-use Rattle.eval_code.specs.declared.width.Width.TheVariants.{Byte}
+use Rattle.eval_code.specs.{Bounds.instruction_bound, declared.width.Width.TheVariants.Byte}
 use Rattle.codegen.specs.Mailboxes.{mailbox_bound}
 use Rattle.watched_code.specs.Watched.{watched_bound}
 use Rattle.build_commands.specs.Firmwares.{GivesFirmware, GivesMailbox, GivesWatched}

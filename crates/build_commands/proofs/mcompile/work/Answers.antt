@@ -1,8 +1,7 @@
 use Rattle.std.proofs.Common.{rules}
 use Rattle.codegen.specs.Mailboxes.{mailbox_bound}
 use Rattle.eval_code.specs.declared.width.Width.TheVariants.{Byte}
-use Rattle.build_commands.specs.Firmwares.{GivesMailbox}
-use Rattle.build_commands.specs.Mcompile.{McompileMakes}
+use Rattle.build_commands.specs.{Firmwares.GivesMailbox, Mcompile.McompileMakes}
 use Rattle.build_commands.proofs.WrittenLemmas.{firmware_makes}
 use Rattle.build_commands.proofs.mcompile.work.Goals as goal
 

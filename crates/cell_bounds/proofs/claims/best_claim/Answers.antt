@@ -2,8 +2,7 @@ use Rattle.std.proofs.Common.{sym, subst}
 use Rattle.std.specs.Prelude.{IfSome}
 use Rattle.box_tree.specs.declared.cert.CertKind.{CertKind}
 use Rattle.cell_bounds.specs.Claims.{IsBoxCount}
-use Rattle.fuzzy_meaning.specs.declared.block.Output.{Output}
-use Rattle.fuzzy_meaning.specs.Blocks.{output_at}
+use Rattle.fuzzy_meaning.specs.{declared.block.Output.Output, Blocks.output_at}
 use Rattle.error_bound.specs.Tight.{IsTightBound, IsTightCount, of_bound}
 use Rattle.cell_bounds.proofs.ClaimLemmas.{each_more}
 use Rattle.cell_bounds.proofs.claims.best_claim.Goals as goal

@@ -1,10 +1,7 @@
 use Rattle.std.proofs.Common.{◌≤◌, arith}
-use Rattle.fuzzy_meaning.specs.declared.block.Output.{Output}
-use Rattle.fuzzy_meaning.specs.Blocks.{output_at}
-use Rattle.error_bound.specs.BestLeaves.{IsBestBound, of_leaf, of_none}
-use Rattle.error_bound.specs.Bounds.{IsBound}
-use Rattle.cell_bounds.specs.declared.claims.Claim.TheVariants.{Pair}
-use Rattle.cell_bounds.specs.Claims.{HasClaimBound}
+use Rattle.fuzzy_meaning.specs.{declared.block.Output.Output, Blocks.output_at}
+use Rattle.error_bound.specs.{BestLeaves.IsBestBound, BestLeaves.of_leaf, BestLeaves.of_none, Bounds.IsBound}
+use Rattle.cell_bounds.specs.{declared.claims.Claim.TheVariants.Pair, Claims.HasClaimBound}
 use Rattle.cell_bounds.proofs.ClaimLemmas.{each_some, each_more}
 use Rattle.cell_bounds.proofs.claims.best_pair.Goals as goal
 

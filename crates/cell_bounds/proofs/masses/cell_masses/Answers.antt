@@ -2,16 +2,11 @@ use Rattle.std.proofs.Common.{◌≡◌, ℕ, ◌+◌, ◌-◌, ◌<◌, ◌≤�
 use Rattle.std.specs.Prelude.{All, slice_index}
 use Rattle.std.proofs.lemmas.Option.{slice_get-get_or}
 use Rattle.fz_num.specs.Decimals.{distance}
-use Rattle.fuzzy_meaning.specs.declared.block.Block.{Block}
-use Rattle.fuzzy_meaning.specs.declared.block.Output.{Output}
+use Rattle.fuzzy_meaning.specs.declared.{block.Block.Block, block.Output.Output}
 use Rattle.fuzzy_meaning.specs.Blocks.{IsValid, IsValidOutput, output_at}
-use Rattle.cell_error.specs.declared.ranges.MassRange.{MassRange}
-use Rattle.cell_error.specs.Errors.{IsRange}
-use Rattle.error_bound.specs.declared.boxes.Interval.{Interval}
-use Rattle.error_bound.specs.declared.tight.Masses.{Masses}
-use Rattle.error_bound.specs.MassRanges.{ranges_at, ranges}
-use Rattle.error_bound.specs.Masses.{AreMasses}
-use Rattle.error_bound.specs.Tight.{low_of, high_of}
+use Rattle.cell_error.specs.{declared.ranges.MassRange.MassRange, Errors.IsRange}
+use Rattle.error_bound.specs.declared.{boxes.Interval.Interval, tight.Masses.Masses}
+use Rattle.error_bound.specs.{MassRanges.ranges_at, MassRanges.ranges, Masses.AreMasses, Tight.low_of, Tight.high_of}
 use Rattle.cell_bounds.proofs.CellAnswers.{answer_point, none_point}
 use Rattle.cell_bounds.proofs.RangeLemmas.{ranges_same, ranges_ok, masses_are, unfinished, unanswered}
 use Rattle.cell_bounds.proofs.masses.cell_masses.Goals as goal

@@ -1,6 +1,5 @@
 use Rattle.std.proofs.Common.{◌≡◌, ◌+◌, ◌*◌}
-use Rattle.cell_error.proofs.Withins.{step, top, bottom}
-use Rattle.cell_error.proofs.Covering.{serves_iff}
+use Rattle.cell_error.proofs.{Withins.step, Withins.top, Withins.bottom, Covering.serves_iff}
 use Rattle.cell_error.proofs.errors.serves.Goals as goal
 
 pub returns : goal.returns

@@ -1,6 +1,5 @@
 use Rattle.std.proofs.Common.{◌≡◌, ◌≤◌, ◌*◌, ◌-◌, drop, length}
-use Rattle.cell_error.specs.Errors.{weighted, total}
-use Rattle.cell_error.specs.Cuts.{masses}
+use Rattle.cell_error.specs.{Errors.weighted, Errors.total, Cuts.masses}
 use Rattle.cell_error.proofs.errors.sums.Given as goal
 
 abbrev pub invariant-loop-k : goal.invariant-loop-k

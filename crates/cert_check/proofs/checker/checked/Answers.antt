@@ -1,5 +1,6 @@
 use Rattle.std.proofs.Common.{◌∙◌}
-use Rattle.cert_check.proofs.DriverLemmas.{still_over, AreFirst-next, HasTaken-next, IsAccepted-all, HasCheckFault-all}
+use Rattle.cert_check.proofs.DriverLemmas.{still_over, AreFirst-next, HasTaken-next, IsAccepted-all}
+use Rattle.cert_check.proofs.DriverLemmas.{HasCheckFault-all}
 use Rattle.cert_check.proofs.checker.checked.Goals as goal
 
 pub loop-node-init : goal.loop-node-init

@@ -5,9 +5,7 @@ use Rattle.error_bound.specs.declared.boxes.ByteBox.{ByteBox}
 use Rattle.box_tree.specs.declared.cert.LeafForm.TheVariants as form
 use Rattle.cell_bounds.specs.declared.claims.Claim.TheVariants.{Tight}
 use Rattle.cert_check.specs.declared.checker.CheckFault.TheVariants as told
-use Rattle.cert_check.specs.Trees.{part_of}
-use Rattle.cert_check.specs.Faults.{HasPartFault}
-use Rattle.cert_check.specs.Walks.{AreBounds}
+use Rattle.cert_check.specs.{Trees.part_of, Faults.HasPartFault, Walks.AreBounds}
 use Rattle.cert_check.proofs.LeafLemmas.{IsBoundAt, HasPartFault-next, AreBounds-all, has_tight_bound, tight_fault}
 use Rattle.cert_check.proofs.leaves.tight_bounds.Goals as goal
 

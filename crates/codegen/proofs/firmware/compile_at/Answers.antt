@@ -1,12 +1,9 @@
 use Rattle.std.proofs.Common.{◌≡◌, ◌<◌, ◌^◌, Bool, List, length, refl, sym, ap, ◌∙◌, subst, rules}
-use Rattle.cpu12_asm.specs.declared.items.Item.{Item}
-use Rattle.cpu12_asm.specs.Items.{IsRising}
-use Rattle.eval_code.specs.declared.width.Width.{Width}
-use Rattle.eval_code.specs.declared.width.Width.TheVariants.{Byte, Word}
-use Rattle.eval_code.specs.Widths.{width_of, is_wide}
-use Rattle.eval_code.specs.MemoryMaps.{main_map}
-use Rattle.codegen.specs.Images.{firmware_items, IsImageOf}
+use Rattle.cpu12_asm.specs.{declared.items.Item.Item, Items.IsRising}
+use Rattle.eval_code.specs.declared.{width.Width.Width, width.Width.TheVariants.Byte, width.Width.TheVariants.Word}
+use Rattle.eval_code.specs.{Widths.width_of, Widths.is_wide, MemoryMaps.main_map}
 use Rattle.eval_code.specs.Bounds.{instruction_bound, steps_by}
+use Rattle.codegen.specs.Images.{firmware_items, IsImageOf}
 use Rattle.codegen.proofs.runs.Law.{main_rises, length-main_items}
 use Rattle.codegen.proofs.firmware.compile_at.Goals as goal
 

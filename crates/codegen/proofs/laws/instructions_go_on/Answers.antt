@@ -1,5 +1,4 @@
-use Rattle.codegen.proofs.runs.Calling.{rts_run}
-use Rattle.codegen.proofs.runs.Stepping.{instruction_goes_on, stands_of}
+use Rattle.codegen.proofs.{runs.Calling.rts_run, runs.Stepping.instruction_goes_on, runs.Stepping.stands_of}
 use Rattle.codegen.proofs.laws.instructions_go_on.Goals as goal
 
 pub returns : goal.returns

@@ -1,5 +1,4 @@
-use Rattle.codegen.proofs.runs.Stepping.{interruptible_of}
-use Rattle.codegen.proofs.runs.Framing.{given_live, live_is_idle}
+use Rattle.codegen.proofs.{runs.Stepping.interruptible_of, runs.Framing.given_live, runs.Framing.live_is_idle}
 use Rattle.codegen.proofs.laws.live_states_wait.Goals as goal
 
 pub returns : goal.returns

@@ -1,9 +1,7 @@
 use Rattle.std.proofs.Common.{◌≡◌, ◌<◌, ◌^◌, List, length, sym, ap, ◌∙◌, subst, rules}
 use Rattle.fuzzy_meaning.specs.declared.block.Block.{Block}
-use Rattle.cpu12_asm.specs.declared.items.Item.{Item}
-use Rattle.cpu12_asm.specs.Items.{IsRising}
-use Rattle.eval_code.specs.declared.memory_map.MemoryMap.{MemoryMap}
-use Rattle.eval_code.specs.declared.width.Width.TheVariants.{Byte}
+use Rattle.cpu12_asm.specs.{declared.items.Item.Item, Items.IsRising}
+use Rattle.eval_code.specs.declared.{memory_map.MemoryMap.MemoryMap, width.Width.TheVariants.Byte}
 use Rattle.codegen.specs.Mailboxes.{mailbox_map, mailbox_items}
 use Rattle.codegen.proofs.turns.Founding.{length-mailbox_items, mailbox_rises}
 use Rattle.codegen.proofs.mailbox.compile_post.Goals as goal

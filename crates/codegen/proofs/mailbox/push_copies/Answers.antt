@@ -1,6 +1,5 @@
 use Rattle.std.proofs.Common.{◌+◌, List, [], ◌∷◌, ◌++◌, ap, sym, ◌∙◌, append_assoc, add-one}
-use Rattle.cpu12_isa.specs.declared.instr.Instr.{Instr}
-use Rattle.cpu12_isa.specs.declared.instr.Instr.TheVariants.{MovbExtended}
+use Rattle.cpu12_isa.specs.declared.{instr.Instr.Instr, instr.Instr.TheVariants.MovbExtended}
 use Rattle.codegen.specs.Mailboxes.{copy_code}
 use Rattle.codegen.proofs.turns.Founding.{copy_more}
 use Rattle.codegen.proofs.mailbox.push_copies.Goals as goal

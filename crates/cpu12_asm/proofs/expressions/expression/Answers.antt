@@ -1,8 +1,5 @@
 use Rattle.std.proofs.Common.{ℕ, List, fold, ap, sym, ◌∙◌, arith}
-use Rattle.cpu12_asm.specs.declared.expressions.Sum.{Sum}
-use Rattle.cpu12_asm.specs.Names.{value_in}
-use Rattle.cpu12_asm.specs.Left.{pieces_left}
-use Rattle.cpu12_asm.specs.Expressions.{with_group}
+use Rattle.cpu12_asm.specs.{declared.expressions.Sum.Sum, Names.value_in, Left.pieces_left, Expressions.with_group}
 use Rattle.cpu12_asm.proofs.expressions.expression.Goals as goal
 
 pub loop-left-preserved : goal.loop-left-preserved

@@ -1,6 +1,5 @@
 use Rattle.std.proofs.Common.{◌≡◌, ◌+◌, ◌*◌, ◌^◌, ◌≤◌, fold, length}
-use Rattle.cpu12_asm.specs.Names.{value_in}
-use Rattle.cpu12_asm.specs.Left.{pieces_left, size_left}
+use Rattle.cpu12_asm.specs.{Names.value_in, Left.pieces_left, Left.size_left}
 use Rattle.cpu12_asm.specs.Expressions.{with_group, sum_of}
 use Rattle.cpu12_asm.proofs.expressions.expression.Given as goal
 

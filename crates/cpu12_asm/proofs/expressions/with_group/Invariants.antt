@@ -1,7 +1,5 @@
 use Rattle.std.proofs.Common.{◌≡◌, ℕ, ◌+◌, ◌*◌, ◌^◌, ◌≤◌, List, fold, length}
-use Rattle.cpu12_asm.specs.declared.expressions.Sum.{Sum}
-use Rattle.cpu12_asm.specs.Names.{value_in}
-use Rattle.cpu12_asm.specs.Left.{pieces_left, size_left}
+use Rattle.cpu12_asm.specs.{declared.expressions.Sum.Sum, Names.value_in, Left.pieces_left, Left.size_left}
 use Rattle.cpu12_asm.specs.Expressions.{term_of, with_term, with_group}
 use Rattle.cpu12_asm.proofs.expressions.with_group.Given as goal
 

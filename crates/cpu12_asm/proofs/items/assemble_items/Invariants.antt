@@ -1,6 +1,5 @@
 use Rattle.std.proofs.Common.{◌≡◌, ◌≤◌, ◌^◌, take}
-use Rattle.cpu12_asm.specs.Bytes.{Holds}
-use Rattle.cpu12_asm.specs.Items.{given_by, place_of}
+use Rattle.cpu12_asm.specs.{Bytes.Holds, Items.given_by, Items.place_of}
 use Rattle.cpu12_asm.proofs.items.assemble_items.Given as goal
 
 abbrev pub invariant-loop-item : goal.invariant-loop-item

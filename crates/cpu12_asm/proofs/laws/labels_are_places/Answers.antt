@@ -1,5 +1,4 @@
-use Rattle.cpu12_asm.proofs.Labelling.{equates_are_values, labels_are_places}
-use Rattle.cpu12_asm.proofs.Standing.{lines_stand}
+use Rattle.cpu12_asm.proofs.{Labelling.equates_are_values, Labelling.labels_are_places, Standing.lines_stand}
 use Rattle.cpu12_asm.proofs.laws.labels_are_places.Goals as goal
 
 pub returns-clause-labels : goal.returns-clause-labels

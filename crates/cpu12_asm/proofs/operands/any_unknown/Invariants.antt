@@ -1,8 +1,5 @@
 use Rattle.std.proofs.Common.{◌≡◌, ◌≤◌, ◌+◌, ◌^◌}
-use Rattle.cpu12_asm.specs.Lines.{pieces}
-use Rattle.cpu12_asm.specs.Left.{pieces_left, size_left}
-use Rattle.cpu12_asm.specs.Names.{value_in}
-use Rattle.cpu12_asm.specs.Giving.{any_unknown}
+use Rattle.cpu12_asm.specs.{Lines.pieces, Left.pieces_left, Left.size_left, Names.value_in, Giving.any_unknown}
 use Rattle.cpu12_asm.proofs.operands.any_unknown.Given as goal
 
 abbrev pub invariant-loop-left : goal.invariant-loop-left

@@ -1,8 +1,5 @@
 use Rattle.std.proofs.Common.{◌≡◌, ◌≤◌, ◌+◌, ◌^◌}
-use Rattle.cpu12_asm.specs.Lines.{pieces}
-use Rattle.cpu12_asm.specs.Left.{pieces_left, size_left}
-use Rattle.cpu12_asm.specs.Names.{value_in}
-use Rattle.cpu12_asm.specs.Giving.{values_from}
+use Rattle.cpu12_asm.specs.{Lines.pieces, Left.pieces_left, Left.size_left, Names.value_in, Giving.values_from}
 use Rattle.cpu12_asm.proofs.Valuing.{all_before}
 use Rattle.cpu12_asm.proofs.operands.values_from.Given as goal
 

@@ -1,10 +1,7 @@
 use Rattle.std.proofs.Common.{◌≡◌, ℕ, List, Option, Result, Ok, Err, IfOk, IfErr, ap, sym, ◌∙◌, subst, ◌≢◌}
-use Rattle.cpu12_asm.specs.declared.faults.LineFault.{LineFault}
-use Rattle.cpu12_asm.specs.declared.faults.LineFault.TheVariants.{Memory}
-use Rattle.cpu12_asm.specs.Bytes.{Holds}
+use Rattle.cpu12_asm.specs.declared.{faults.LineFault.LineFault, faults.LineFault.TheVariants.Memory}
+use Rattle.cpu12_asm.specs.{Bytes.Holds, Names.value_in, Statements.Statement, Statements.statement_of}
 use Rattle.cpu12_asm.specs.Giving.{Given, given, put_values, values_within, limits_of}
-use Rattle.cpu12_asm.specs.Names.{value_in}
-use Rattle.cpu12_asm.specs.Statements.{Statement, statement_of}
 use Rattle.cpu12_asm.proofs.Steps.{given_with-bytes}
 use Rattle.cpu12_asm.proofs.sources.give.Goals as goal
 

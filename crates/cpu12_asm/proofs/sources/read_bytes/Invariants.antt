@@ -1,8 +1,5 @@
 use Rattle.std.proofs.Common.{◌≡◌, ℕ, ◌≤◌, ◌+◌, ◌^◌, List}
-use Rattle.cpu12_asm.specs.Bytes.{Holds}
-use Rattle.cpu12_asm.specs.Faults.{through}
-use Rattle.cpu12_asm.specs.Left.{lines_left, size_left}
-use Rattle.cpu12_asm.specs.Names.{value_in}
+use Rattle.cpu12_asm.specs.{Bytes.Holds, Faults.through, Left.lines_left, Left.size_left, Names.value_in}
 use Rattle.cpu12_asm.specs.Sources.{given_by_line, bytes_of}
 use Rattle.cpu12_asm.proofs.sources.read_bytes.Given as goal
 

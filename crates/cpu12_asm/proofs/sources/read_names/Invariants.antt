@@ -1,8 +1,5 @@
 use Rattle.std.proofs.Common.{◌≡◌, ◌≤◌, ◌+◌, ◌*◌, ◌^◌}
-use Rattle.cpu12_asm.specs.Faults.{through}
-use Rattle.cpu12_asm.specs.Lines.{lines_of}
-use Rattle.cpu12_asm.specs.Left.{lines_left, size_left}
-use Rattle.cpu12_asm.specs.Names.{value_in}
+use Rattle.cpu12_asm.specs.{Faults.through, Lines.lines_of, Left.lines_left, Left.size_left, Names.value_in}
 use Rattle.cpu12_asm.specs.Sources.{start, defined_by}
 use Rattle.cpu12_asm.proofs.sources.read_names.Given as goal
 

@@ -1,7 +1,6 @@
 use Rattle.std.proofs.Common.{◌≡◌, ◌≤◌, ◌+◌, ◌^◌}
 use Rattle.std.specs.List.{list_all}
-use Rattle.cpu12_asm.specs.Left.{pieces_left, size_left}
-use Rattle.cpu12_asm.specs.Statements.{is_expression, are_expressions}
+use Rattle.cpu12_asm.specs.{Left.pieces_left, Left.size_left, Statements.is_expression, Statements.are_expressions}
 use Rattle.cpu12_asm.proofs.statements.are_expressions.Given as goal
 
 abbrev pub invariant-loop-left : goal.invariant-loop-left

@@ -1,6 +1,5 @@
 use Rattle.std.proofs.Common.{◌≡◌, ◌≤◌, ◌+◌, length}
-use Rattle.cpu12_asm.specs.Left.{pieces_left, size_left}
-use Rattle.cpu12_asm.specs.Statements.{part_count}
+use Rattle.cpu12_asm.specs.{Left.pieces_left, Left.size_left, Statements.part_count}
 use Rattle.cpu12_asm.proofs.statements.part_count.Given as goal
 
 abbrev pub invariant-loop-left : goal.invariant-loop-left

@@ -1,6 +1,5 @@
 use Rattle.std.proofs.Common.{◌∙◌, ◌+◌, arith}
-use Rattle.cpu12_parts.specs.Laws.{state_of}
-use Rattle.cpu12_parts.specs.State.{State}
+use Rattle.cpu12_parts.specs.{Laws.state_of, State.State}
 use Rattle.cpu12_emul.specs.Ruling.{Ruled}
 use Rattle.cpu12_emul.proofs.RuleParts.{Ruled-part, Ruled-then, revw_ruling}
 use Rattle.cpu12_emul.proofs.ruling.revw_parts.Goals as goal

@@ -1,6 +1,5 @@
 use Rattle.std.proofs.Common.{◌≡◌, drop}
-use Rattle.cpu12_isa.specs.Act.{write_all}
-use Rattle.cpu12_isa.specs.Memory.{placed}
+use Rattle.cpu12_isa.specs.{Act.write_all, Memory.placed}
 use Rattle.cpu12_isa.proofs.stack.place.Given as goal
 
 -- the bytes that are left lead to the same memory as all, and what is noted stays

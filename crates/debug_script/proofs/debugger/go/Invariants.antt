@@ -1,7 +1,5 @@
 use Rattle.std.proofs.Common.{◌≡◌, length}
-use Rattle.debug_script.specs.Going.{Leads, place_of}
-use Rattle.debug_script.specs.Noting.{NotesBytes}
-use Rattle.debug_script.specs.Places.{distance, on}
+use Rattle.debug_script.specs.{Going.Leads, Going.place_of, Noting.NotesBytes, Places.distance, Places.on}
 use Rattle.debug_script.specs.Showing.{stops}
 use Rattle.debug_script.proofs.debugger.go.Given as goal
 

@@ -1,7 +1,5 @@
 use Rattle.std.proofs.Common.{sym, subst}
-use Rattle.debug_script.specs.Going.{AreTold, place_of}
-use Rattle.debug_script.specs.Places.{distance}
-use Rattle.debug_script.specs.Showing.{stops}
+use Rattle.debug_script.specs.{Going.AreTold, Going.place_of, Places.distance, Showing.stops}
 use Rattle.debug_script.proofs.GoingLemmas.{told_on}
 use Rattle.debug_script.proofs.debugger.obey.Goals as goal
 

@@ -1,7 +1,6 @@
 use Rattle.std.proofs.Common.{◌∙◌, ◌+◌, drop, sym, subst}
 use Rattle.std.proofs.lemmas.List.{drop_more}
-use Rattle.debug_script.specs.Going.{AreTold, place_of}
-use Rattle.debug_script.specs.Showing.{shown}
+use Rattle.debug_script.specs.{Going.AreTold, Going.place_of, Showing.shown}
 use Rattle.debug_script.proofs.GoingLemmas.{order_more, starts_shown, stays, told_after}
 use Rattle.debug_script.proofs.NotingLemmas.{notes_nothing}
 use Rattle.debug_script.proofs.debugger.obey_all.Goals as goal

@@ -1,7 +1,6 @@
 use Rattle.std.proofs.Common.{◌≡◌, ◌++◌, drop}
 use Rattle.debug_script.specs.Going.{AreTold, Leads, place_of}
-use Rattle.debug_script.specs.Noting.{NotesBytes}
-use Rattle.debug_script.specs.Showing.{shown, shown_from}
+use Rattle.debug_script.specs.{Noting.NotesBytes, Showing.shown, Showing.shown_from}
 use Rattle.debug_script.proofs.debugger.obey_all.Given as goal
 
 abbrev pub invariant-loop-order : goal.invariant-loop-order

@@ -1,7 +1,5 @@
 use Rattle.std.proofs.Common.{◌≡◌}
-use Rattle.debug_script.specs.Going.{Leads, place_of}
-use Rattle.debug_script.specs.Noting.{KeepsNotes}
-use Rattle.debug_script.specs.Places.{on}
+use Rattle.debug_script.specs.{Going.Leads, Going.place_of, Noting.KeepsNotes, Places.on}
 use Rattle.debug_script.proofs.debugger.step.Given as goal
 
 abbrev pub invariant-loop-left : goal.invariant-loop-left

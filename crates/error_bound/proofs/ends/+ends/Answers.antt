@@ -1,10 +1,8 @@
 use Rattle.std.proofs.Common.{◌-◌, inl, inr, sym, ap, ◌∙◌, subst, rules}
-use Rattle.fuzzy_meaning.specs.Blocks.{IsValidCondition}
-use Rattle.fuzzy_meaning.specs.Trees.{tree}
+use Rattle.fuzzy_meaning.specs.{Blocks.IsValidCondition, Trees.tree}
 use Rattle.error_bound.specs.Reaches.{IsEndOfCondition}
 use Rattle.fuzzy_meaning.proofs.Algebra.{part_falls, parts_fall}
-use Rattle.error_bound.proofs.ConditionParts.{IsValidCondition-part}
-use Rattle.error_bound.proofs.ReachLemmas.{end_from, end_from_none}
+use Rattle.error_bound.proofs.{ConditionParts.IsValidCondition-part, ReachLemmas.end_from, ReachLemmas.end_from_none}
 use Rattle.error_bound.proofs.ends.+ends.Goals as goal
 use Rattle.error_bound.proofs.ends.+ends.Goals.{end_among-in-Some, end_among-in-None}
 

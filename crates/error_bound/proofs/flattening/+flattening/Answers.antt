@@ -1,6 +1,5 @@
 use Rattle.std.proofs.Common.{inl, inr, sym, ap, ◌∙◌, rules}
-use Rattle.fuzzy_meaning.specs.Conditions.{conditions, under}
-use Rattle.fuzzy_meaning.specs.Trees.{tree}
+use Rattle.fuzzy_meaning.specs.{Conditions.conditions, Conditions.under, Trees.tree}
 use Rattle.fuzzy_meaning.proofs.Algebra.{parts_fall}
 use Rattle.error_bound.specs.Flattening.{followed, parts, flat_parts}
 use Rattle.error_bound.proofs.FlatteningLemmas.{come_from_more, come_from_all, pushed_group, pushed_literal}

@@ -1,8 +1,6 @@
 use Rattle.std.proofs.Common.{ℕ, sym, subst, arith}
 use Rattle.error_bound.specs.declared.boxes.LeafFault.TheVariants.{Silent}
-use Rattle.error_bound.specs.Faults.{IsSilentFault, silent, loud}
-use Rattle.error_bound.specs.Ratios.{value_of}
-use Rattle.error_bound.specs.Spans.{only}
+use Rattle.error_bound.specs.{Faults.IsSilentFault, Faults.silent, Faults.loud, Ratios.value_of, Spans.only}
 use Rattle.error_bound.proofs.leaves.firing_fault.Goals as goal
 
 pub returns-then-high-gt0-clause-fault : goal.returns-then-high-gt0-clause-fault

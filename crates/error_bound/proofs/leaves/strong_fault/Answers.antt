@@ -2,9 +2,7 @@ use Rattle.std.proofs.Common.{ℕ, ◌*◌, ◌<◌, ◌≤◌, ⊎_elim, sym, s
 use Rattle.std.proofs.lemmas.Bool.{cases_lt}
 use Rattle.fz_num.specs.Fractions.{Fraction, AtMost, IsBelow}
 use Rattle.error_bound.specs.declared.boxes.LeafFault.TheVariants.{Weak}
-use Rattle.error_bound.specs.Faults.{IsStrongFault, weak, still}
-use Rattle.error_bound.specs.Ratios.{value_of}
-use Rattle.error_bound.specs.Spans.{only}
+use Rattle.error_bound.specs.{Faults.IsStrongFault, Faults.weak, Faults.still, Ratios.value_of, Spans.only}
 use Rattle.error_bound.proofs.leaves.strong_fault.Goals as goal
 
 pub returns-then-is_below-clause-fault : goal.returns-then-is_below-clause-fault

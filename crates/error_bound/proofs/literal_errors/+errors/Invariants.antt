@@ -1,7 +1,6 @@
 use Rattle.std.proofs.Common.{◌≡◌, ◌≤◌, drop}
 use Rattle.fuzzy_meaning.specs.Conditions.{all, conditions}
-use Rattle.error_bound.specs.CellErrors.{term_errors}
-use Rattle.error_bound.specs.Spans.{greatest_literal}
+use Rattle.error_bound.specs.{CellErrors.term_errors, Spans.greatest_literal}
 use Rattle.error_bound.proofs.literal_errors.+errors.Given as goal
 
 abbrev pub invariant-error_among-loop-k : goal.invariant-error_among-loop-k

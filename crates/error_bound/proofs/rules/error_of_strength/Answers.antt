@@ -1,6 +1,5 @@
 use Rattle.std.proofs.Common.{◌≡◌, ◌∙◌, rules}
-use Rattle.error_bound.specs.CellErrors.{term_errors}
-use Rattle.error_bound.specs.Spans.{greatest_literal}
+use Rattle.error_bound.specs.{CellErrors.term_errors, Spans.greatest_literal}
 use Rattle.error_bound.proofs.rules.error_of_strength.Goals as goal
 
 pub error_of-requires-clause-condition : goal.error_of-requires-clause-condition

@@ -3,8 +3,7 @@ use Rattle.std.proofs.Common.{arith}
 use Rattle.std.specs.Prelude.{slice_get}
 use Rattle.std.proofs.lemmas.Option.{slice_get_within, get_or_from_slice_get}
 use Rattle.fuzzy_meaning.specs.declared.block.Input.{Input}
-use Rattle.error_bound.specs.declared.tables.InputCells.{InputCells}
-use Rattle.error_bound.specs.Reaches.{AreInputCells, all_bytes}
+use Rattle.error_bound.specs.{declared.tables.InputCells.InputCells, Reaches.AreInputCells, Reaches.all_bytes}
 use Rattle.fz_list.proofs.Algebra.{AreFilled, AreFilled-push}
 use Rattle.error_bound.proofs.tables.all_cells.Goals as goal
 

@@ -2,8 +2,7 @@ use Rattle.std.proofs.Common.{◌≡◌, ℕ, ◌+◌, [], ◌∷◌, ◌++◌, 
 use Rattle.std.proofs.Common.{arith}
 use Rattle.std.specs.Prelude.{slice_get}
 use Rattle.std.proofs.lemmas.Option.{slice_get_within, get_or_from_slice_get}
-use Rattle.fuzzy_meaning.specs.Conditions.{Condition}
-use Rattle.fuzzy_meaning.specs.declared.block.Rule.{Rule}
+use Rattle.fuzzy_meaning.specs.{Conditions.Condition, declared.block.Rule.Rule}
 use Rattle.error_bound.specs.Flattening.{flat, ReachesAlike}
 use Rattle.fz_list.proofs.Algebra.{AreFilled, AreFilled-push}
 use Rattle.error_bound.proofs.tables.flat_conditions.Goals as goal

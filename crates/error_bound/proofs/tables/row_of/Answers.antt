@@ -2,8 +2,7 @@ use Rattle.std.proofs.Common.{ℕ, length, refl, ap, subst, arith}
 use Rattle.std.proofs.lemmas.Option.{slice_get_within}
 use Rattle.std.proofs.lemmas.List.{length-set}
 use Rattle.fuzzy_meaning.specs.declared.block.Trapezoid.{Trapezoid}
-use Rattle.error_bound.specs.declared.reaches.Reach.{Reach}
-use Rattle.error_bound.specs.Reaches.{IsReachOfTerm}
+use Rattle.error_bound.specs.{declared.reaches.Reach.Reach, Reaches.IsReachOfTerm}
 use Rattle.fz_list.proofs.Algebra.{AreFilled-more}
 use Rattle.error_bound.proofs.ListLemmas.{slice_get-get_or_slice, get_or-slice}
 use Rattle.error_bound.proofs.TableLemmas.{no_term, no_cells, term_cells_at}

@@ -1,10 +1,8 @@
 use Rattle.std.proofs.Common.{◌≡◌, ◌+◌, ◌-◌, ◌<◌, ◌≤◌, max, length, get_or, sym, ap, ap₂, ◌∙◌, subst, arith}
 use Rattle.std.specs.Prelude.{slice_index, pos, if◌then◌else◌, ◌==◌}
-use Rattle.fz_num.specs.declared.dec.Dec.{Dec}
-use Rattle.fz_num.specs.Decimals.{distance}
+use Rattle.fz_num.specs.{declared.dec.Dec.Dec, Decimals.distance}
 use Rattle.fuzzy_meaning.specs.Blocks.{IsWithin}
-use Rattle.error_bound.specs.Errors.{apart}
-use Rattle.error_bound.specs.Masses.{if_some}
+use Rattle.error_bound.specs.{Errors.apart, Masses.if_some}
 use Rattle.error_bound.proofs.MassLemmas.{greatest_back, reach_small, chosen_small, max_small}
 use Rattle.error_bound.proofs.tight.farthest.Goals as goal
 

@@ -1,8 +1,6 @@
 use Rattle.std.proofs.Common.{◌≡◌, ◌≤◌, ◌+◌, drop}
 use Rattle.fz_num.specs.Decimals.{distance}
-use Rattle.error_bound.specs.Errors.{apart}
-use Rattle.error_bound.specs.Masses.{if_some}
-use Rattle.error_bound.specs.Tight.{greatest_over}
+use Rattle.error_bound.specs.{Errors.apart, Masses.if_some, Tight.greatest_over}
 use Rattle.error_bound.proofs.tight.farthest.Given as goal
 
 abbrev pub invariant-loop-k : goal.invariant-loop-k

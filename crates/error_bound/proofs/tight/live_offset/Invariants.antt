@@ -1,7 +1,5 @@
 use Rattle.std.proofs.Common.{◌≡◌, ◌≤◌, ◌+◌, drop}
-use Rattle.error_bound.specs.Bounds.{offset}
-use Rattle.error_bound.specs.Masses.{if_some}
-use Rattle.error_bound.specs.Tight.{greatest_over}
+use Rattle.error_bound.specs.{Bounds.offset, Masses.if_some, Tight.greatest_over}
 use Rattle.error_bound.proofs.tight.live_offset.Given as goal
 
 abbrev pub invariant-loop-k : goal.invariant-loop-k

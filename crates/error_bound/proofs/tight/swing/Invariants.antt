@@ -1,7 +1,6 @@
 use Rattle.std.proofs.Common.{◌≡◌, ◌≤◌, ◌+◌, ◌-◌, ◌*◌, length, drop}
 use Rattle.std.specs.Prelude.{slice_index}
-use Rattle.error_bound.specs.Masses.{farthest_at}
-use Rattle.error_bound.specs.Tight.{sum_over}
+use Rattle.error_bound.specs.{Masses.farthest_at, Tight.sum_over}
 use Rattle.error_bound.proofs.tight.swing.Given as goal
 
 abbrev pub invariant-loop-k : goal.invariant-loop-k

@@ -1,7 +1,6 @@
 use Rattle.std.proofs.Common.{◌≤◌, ◌+◌, arith}
 use Rattle.fuzzy_meaning.specs.declared.block.Output.{Output}
-use Rattle.error_bound.specs.BestLeaves.{of_leaf, of_none}
-use Rattle.error_bound.specs.Bounds.{IsBound}
+use Rattle.error_bound.specs.{BestLeaves.of_leaf, BestLeaves.of_none, Bounds.IsBound}
 use Rattle.error_certifier.proofs.LeafLemmas.{pair_of_best, at_place}
 use Rattle.error_certifier.proofs.leaves.best_within.Goals as goal
 

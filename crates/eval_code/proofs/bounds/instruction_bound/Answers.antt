@@ -1,6 +1,5 @@
 use Rattle.std.proofs.Common.{◌≡◌, length, sum_by, ap, ◌∙◌, arith}
-use Rattle.rule_layout.specs.Slots.{slots_of, term_count, singleton_count}
-use Rattle.rule_layout.specs.Layouts.{form_of}
+use Rattle.rule_layout.specs.{Slots.slots_of, Slots.term_count, Slots.singleton_count, Layouts.form_of}
 use Rattle.eval_code.specs.Bounds.{input_term_count, output_term_count, output_bound, form_bound, instruction_bound}
 use Rattle.eval_code.proofs.bounds.instruction_bound.Goals as goal
 

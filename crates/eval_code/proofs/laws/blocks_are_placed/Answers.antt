@@ -1,7 +1,5 @@
 use Rattle.eval_code.proofs.Placed.{rises_between, is_short, stays_inside, gives_behind, gives_bytes, stands_between}
-use Rattle.eval_code.proofs.Parts.{has_parts}
-use Rattle.eval_code.proofs.placing.Located.{gives_at_parts}
-use Rattle.eval_code.proofs.placing.Standing.{Rises}
+use Rattle.eval_code.proofs.{Parts.has_parts, placing.Located.gives_at_parts, placing.Standing.Rises}
 use Rattle.eval_code.proofs.laws.blocks_are_placed.Goals as goal
 
 pub returns : goal.returns

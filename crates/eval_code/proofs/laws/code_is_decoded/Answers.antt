@@ -1,5 +1,4 @@
-use Rattle.eval_code.proofs.placing.GivenBytes.{code_is_bytes}
-use Rattle.eval_code.proofs.steps.Decoding.{decodes_where_it_stands}
+use Rattle.eval_code.proofs.{placing.GivenBytes.code_is_bytes, steps.Decoding.decodes_where_it_stands}
 use Rattle.eval_code.proofs.laws.code_is_decoded.Goals as goal
 
 pub returns : goal.returns

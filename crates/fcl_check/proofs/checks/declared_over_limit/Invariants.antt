@@ -1,7 +1,5 @@
 use Rattle.std.proofs.Common.{◌≡◌, List, [], drop}
-use Rattle.fcl_check.specs.Faults.{is_over}
-use Rattle.fcl_check.specs.Names.{Declared}
-use Rattle.fcl_check.specs.Places.{at_each, at_if, first}
+use Rattle.fcl_check.specs.{Faults.is_over, Names.Declared, Places.at_each, Places.at_if, Places.first}
 use Rattle.fcl_check.proofs.faultless.Limits.{over_from}
 use Rattle.fcl_check.proofs.checks.declared_over_limit.Given as goal
 

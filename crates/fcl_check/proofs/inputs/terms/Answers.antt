@@ -2,13 +2,8 @@ use Rattle.std.proofs.Common.{◌<◌, Some, None, length, not, rules, ap, sym, 
 use Rattle.std.proofs.lemmas.List.{append-nil}
 use Rattle.std.proofs.lemmas.Slice.Zip.{all_zipped_more}
 use Rattle.fcl_syntax.specs.declared.tree.Term.{Term}
-use Rattle.fcl_check.specs.Loaded.{IsTermOf}
-use Rattle.fcl_check.specs.Names.{term_of}
-use Rattle.fcl_check.specs.Places.{at_if}
-use Rattle.fcl_check.specs.Sections.{has_shape, points_of}
-use Rattle.fcl_check.proofs.faultless.Faultless.{shaped}
-use Rattle.fcl_check.proofs.faultless.Present.{none_at}
-use Rattle.fcl_check.proofs.lists.Pushes.{filter_map-more}
+use Rattle.fcl_check.specs.{Loaded.IsTermOf, Names.term_of, Places.at_if, Sections.has_shape, Sections.points_of}
+use Rattle.fcl_check.proofs.{faultless.Faultless.shaped, faultless.Present.none_at, lists.Pushes.filter_map-more}
 use Rattle.fcl_check.proofs.inputs.terms.Goals as goal
 use Rattle.fcl_check.proofs.inputs.terms.Goals.{in-Term+in_ok-push, in_default}
 

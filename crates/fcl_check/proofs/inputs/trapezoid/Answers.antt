@@ -1,7 +1,6 @@
 use Rattle.std.proofs.Common.{◌≡◌, [], ◌∷◌, take, refl}
 use Rattle.std.proofs.lemmas.List.{take_all}
-use Rattle.fcl_check.proofs.courses.CornerSteps.{AreCornersOf-more}
-use Rattle.fcl_check.proofs.faultless.Present.{top_there}
+use Rattle.fcl_check.proofs.{courses.CornerSteps.AreCornersOf-more, faultless.Present.top_there}
 use Rattle.fcl_check.proofs.inputs.trapezoid.Goals as goal
 
 pub loop-point-init : goal.loop-point-init

@@ -3,7 +3,8 @@ use Rattle.std.proofs.lemmas.List.{take_more}
 use Rattle.fcl_check.proofs.naming.TermNames.{KnowsSingletons-other, KnowsSingletons-singleton, is_no_singleton}
 use Rattle.fcl_check.proofs.naming.TermNames.{other_twice, singleton_twice}
 use Rattle.fcl_check.proofs.names.defuzzy_terms.Goals as goal
-use Rattle.fcl_check.proofs.names.defuzzy_terms.Goals.{in-Singleton+in_ok-add_term, in_default+else-has_kind+in_ok-push}
+use Rattle.fcl_check.proofs.names.defuzzy_terms.Goals.{in-Singleton+in_ok-add_term}
+use Rattle.fcl_check.proofs.names.defuzzy_terms.Goals.{in_default+else-has_kind+in_ok-push}
 
 pub returns-in_err-add_term-clause-fault : goal.returns-in_err-add_term-clause-fault
 returns-in_err-add_term-clause-fault c =

@@ -1,6 +1,5 @@
 use Rattle.std.proofs.Common.{◌≡◌, take, None}
-use Rattle.fcl_check.specs.Faults.{repeated, same_rule_line, rule_line_at}
-use Rattle.fcl_check.specs.Places.{first}
+use Rattle.fcl_check.specs.{Faults.repeated, Faults.same_rule_line, Faults.rule_line_at, Places.first}
 use Rattle.fcl_check.proofs.names.rule_lines.Given as goal
 
 abbrev pub invariant-each : goal.invariant-each

@@ -1,7 +1,5 @@
 use Rattle.std.proofs.Common.{◌≡◌, [], take, None}
-use Rattle.fcl_check.specs.ByLetters.{HoldsSections}
-use Rattle.fcl_check.specs.Faults.{repeated_section}
-use Rattle.fcl_check.specs.Places.{at_each, first}
+use Rattle.fcl_check.specs.{ByLetters.HoldsSections, Faults.repeated_section, Places.at_each, Places.first}
 use Rattle.fcl_check.proofs.names.sections.Given as goal
 
 abbrev pub invariant-each : goal.invariant-each

@@ -1,8 +1,7 @@
 use Rattle.std.proofs.Common.{◌≡◌, ℕ, List, length, take, None}
 use Rattle.fcl_syntax.specs.declared.tree.Direction.{Direction}
 use Rattle.fcl_check.specs.ByLetters.{at_letters, variable_in, names_of, count_of}
-use Rattle.fcl_check.specs.Faults.{repeated, same_declared}
-use Rattle.fcl_check.specs.Places.{first}
+use Rattle.fcl_check.specs.{Faults.repeated, Faults.same_declared, Places.first}
 use Rattle.fcl_check.proofs.names.variables.Given as goal
 
 abbrev pub invariant-each : goal.invariant-each

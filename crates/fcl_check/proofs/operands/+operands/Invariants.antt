@@ -2,9 +2,7 @@ use Rattle.std.proofs.Common.{◌≡◌, ℕ, List, Option, drop}
 use Rattle.std.specs.Fn.{FnReturnsAt}
 use Rattle.std.specs.List.{flat_map}
 use Rattle.fcl_syntax.specs.declared.tree.Operand.{Operand}
-use Rattle.fcl_check.specs.Faults.{Pair, and_pairs, or_pairs}
-use Rattle.fcl_check.specs.Places.{first}
-use Rattle.fcl_check.specs.Steps.{pair_of}
+use Rattle.fcl_check.specs.{Faults.Pair, Faults.and_pairs, Faults.or_pairs, Places.first, Steps.pair_of}
 use Rattle.fcl_check.proofs.trees.ConditionParts.{and_kind, or_kind, places_in}
 use Rattle.fcl_check.proofs.operands.+operands.Given as goal
 

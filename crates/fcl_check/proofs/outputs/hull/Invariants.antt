@@ -1,7 +1,6 @@
 use Rattle.std.proofs.Common.{◌≡◌, map, option_map, take}
 use Rattle.std.specs.List.{filter_map}
-use Rattle.fcl_check.specs.Spans.{ends_in}
-use Rattle.fcl_check.specs.Sections.{hull_of, number_line}
+use Rattle.fcl_check.specs.{Spans.ends_in, Sections.hull_of, Sections.number_line}
 use Rattle.fcl_check.proofs.outputs.hull.Given as goal
 
 abbrev pub invariant-loop-line : goal.invariant-loop-line

@@ -1,7 +1,6 @@
 use Rattle.std.proofs.Common.{◌≡◌, map, take}
 use Rattle.std.specs.List.{filter_map}
-use Rattle.fcl_check.specs.Names.{singleton_of}
-use Rattle.fcl_check.specs.Sections.{value}
+use Rattle.fcl_check.specs.{Names.singleton_of, Sections.value}
 use Rattle.fcl_check.proofs.outputs.singletons.Given as goal
 
 abbrev pub invariant-each : goal.invariant-each

@@ -1,7 +1,6 @@
 use Rattle.std.proofs.Common.{◌≡◌, drop}
 use Rattle.std.specs.List.{filter_map}
-use Rattle.fcl_check.specs.Places.{first}
-use Rattle.fcl_check.specs.Sections.{defuzzy_range, output_range_line}
+use Rattle.fcl_check.specs.{Places.first, Sections.defuzzy_range, Sections.output_range_line}
 use Rattle.fcl_check.proofs.sections.defuzzy_range.Given as goal
 
 abbrev pub invariant-loop-line : goal.invariant-loop-line

@@ -1,7 +1,6 @@
 use Rattle.std.proofs.Common.{◌≡◌, [], ◌∷◌, Err, rules, refl, sym, ◌∙◌}
 use Rattle.fcl_syntax.specs.declared.token.Keyword.TheVariants as key
-use Rattle.fcl_syntax.specs.TokenClasses.{keyword_class}
-use Rattle.fcl_syntax.specs.Reading.{and_in, behind_key_in, not_at}
+use Rattle.fcl_syntax.specs.{TokenClasses.keyword_class, Reading.and_in, Reading.behind_key_in, Reading.not_at}
 use Rattle.fcl_syntax.proofs.ConditionForms.{part, conjunct_form, alternative_form}
 use Rattle.fcl_syntax.proofs.Rooms.{behind_key-Ok, behind_key-Err, not_at-leaf, not_at-deep, not_at-opened}
 use Rattle.fcl_syntax.proofs.Run.{fails_in, goes_on, shorter_by}

@@ -1,7 +1,6 @@
 use Rattle.std.proofs.Common.{length, [], ◌∷◌, ◌+◌, ◌*◌}
 use Rattle.fcl_syntax.specs.declared.token.Keyword.TheVariants as key
-use Rattle.fcl_syntax.specs.TokenClasses.{keyword_class}
-use Rattle.fcl_syntax.specs.Readers.{loop}
+use Rattle.fcl_syntax.specs.{TokenClasses.keyword_class, Readers.loop}
 use Rattle.fcl_syntax.specs.Reading.{and_in, behind_key_in, not_at}
 use Rattle.fcl_syntax.proofs.Run.{Going}
 use Rattle.fcl_syntax.proofs.conditions.+condition.Given as goal

@@ -1,8 +1,7 @@
 use Rattle.std.proofs.Common.{◌≡◌, ◌∙◌, ◌++◌, ◌∷◌, [], ℕ, List, ap, sym}
 use Rattle.std.proofs.lemmas.List.{drop_all}
 use Rattle.std.proofs.Math.ListN.{set}
-use Rattle.cpu12_isa.specs.Act.{write_all}
-use Rattle.cpu12_isa.specs.Memory.{placed}
+use Rattle.cpu12_isa.specs.{Act.write_all, Memory.placed}
 use Rattle.firmware_ports.proofs.PortBytes.{write_last}
 use Rattle.firmware_ports.proofs.ports.give.Goals as goal
 

@@ -3,8 +3,7 @@ use Rattle.fuzzy_meaning.specs.declared.block.Block.{Block}
 use Rattle.two_level.specs.declared.two.Two.{Two}
 use Rattle.trace_io.specs.Traces.{HasFault as TraceHasFault}
 use Rattle.interrupt_plan.specs.Levels.{LevelsHaveFault}
-use Rattle.build_commands.specs.Certs.{HasCertFault}
-use Rattle.build_commands.specs.Images.{RefusesImage}
+use Rattle.build_commands.specs.{Certs.HasCertFault, Images.RefusesImage}
 use Rattle.box_tree.specs.declared.cert.CertKind.TheVariants.{Named}
 use Rattle.eval_code.specs.declared.width.Width.TheVariants.{Byte}
 use Rattle.fz_status.specs.declared.status.FastFault.TheVariants as told

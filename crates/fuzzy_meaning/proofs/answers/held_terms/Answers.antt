@@ -1,8 +1,8 @@
 use Rattle.std.proofs.Common.{◌<◌, length, subst, arith, rules}
 use Rattle.std.proofs.lemmas.Int.{ints}
 use Rattle.fuzzy_meaning.specs.Meaning.{shares_from, heavy_shares}
-use Rattle.fuzzy_meaning.proofs.HeldLemmas.{HoldsFrom-end, HoldsFrom-heavy, HoldsFrom-massless}
-use Rattle.fuzzy_meaning.proofs.HeldLemmas.{HasMassBefore-read, IsSmall-term, heavy-third, terms_few}
+use Rattle.fuzzy_meaning.proofs.HeldLemmas.{HoldsFrom-end, HoldsFrom-heavy, HoldsFrom-massless, HasMassBefore-read}
+use Rattle.fuzzy_meaning.proofs.HeldLemmas.{IsSmall-term, heavy-third, terms_few}
 use Rattle.fuzzy_meaning.proofs.answers.held_terms.Goals as goal
 
 pub loop-k-init : goal.loop-k-init

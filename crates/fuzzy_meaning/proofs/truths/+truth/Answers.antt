@@ -1,10 +1,8 @@
 use Rattle.std.proofs.Common.{◌≡◌, ◌-◌, ◌<◌, length, refl, sym, ap, ◌∙◌, subst, arith, rules}
 use Rattle.std.proofs.lemmas.Option.{slice_get_read}
-use Rattle.fuzzy_meaning.specs.Blocks.{IsValidCondition}
+use Rattle.fuzzy_meaning.specs.{Blocks.IsValidCondition, Trees.tree}
 use Rattle.fuzzy_meaning.specs.Conditions.{all, any, conditions, nodes}
-use Rattle.fuzzy_meaning.specs.Trees.{tree}
-use Rattle.fuzzy_meaning.proofs.ConditionLemmas.{parts_valid}
-use Rattle.fuzzy_meaning.proofs.Algebra.{part_nodes}
+use Rattle.fuzzy_meaning.proofs.{ConditionLemmas.parts_valid, Algebra.part_nodes}
 use Rattle.fuzzy_meaning.proofs.truths.+truth.Goals as goal
 
 pub truth-requires-in-loop-k : goal.truth-requires-in-loop-k

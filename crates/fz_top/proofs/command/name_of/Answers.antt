@@ -1,10 +1,8 @@
 use Rattle.std.proofs.Common.{◌≡◌, List, ap, subst}
 use Rattle.std.specs.Prelude.{IfOk, None, Some}
-use Rattle.fz_words.specs.App.{IsRefused}
-use Rattle.fz_words.specs.Table.{Row, command_in, rows_of}
-use Rattle.fz_top.specs.Commands.{table}
+use Rattle.fz_words.specs.{App.IsRefused, Table.Row, Table.command_in, Table.rows_of}
+use Rattle.fz_top.specs.{Commands.table, declared.command.Name.Name}
 use Rattle.fz_status.specs.Words.{texts_of}
-use Rattle.fz_top.specs.declared.command.Name.{Name}
 use Rattle.fz_top.proofs.command.name_of.Goals as goal
 
 pub returns-clause-named : goal.returns-clause-named

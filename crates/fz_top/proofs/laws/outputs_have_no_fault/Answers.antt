@@ -1,10 +1,6 @@
 use Rattle.build_commands.specs.Contents.{content_at}
-use Rattle.run_commands.specs.Debug.{debug_files}
-use Rattle.form_commands.specs.Hrun.{handled_files}
-use Rattle.form_commands.specs.Lrun.{level_files}
-use Rattle.form_commands.specs.Mrun.{posted_files}
-use Rattle.run_commands.specs.Run.{files_in}
-use Rattle.form_commands.specs.Srun.{watched_files}
+use Rattle.run_commands.specs.{Debug.debug_files, Run.files_in}
+use Rattle.form_commands.specs.{Hrun.handled_files, Lrun.level_files, Mrun.posted_files, Srun.watched_files}
 use Rattle.fz_top.specs.Commands.{Makes}
 use Rattle.fz_top.specs.declared.command.Command.TheVariants as command
 use Rattle.fz_top.proofs.laws.outputs_have_no_fault.Goals as goal

@@ -1,9 +1,7 @@
 use Rattle.std.proofs.Common.{inl, inr, ⊎_elim}
 use Rattle.fz_status.specs.Words.{texts_of, word_at}
-use Rattle.fz_top.proofs.FlagsLemmas.{byte_flags, flags_small}
+use Rattle.fz_top.proofs.{FlagsLemmas.byte_flags, FlagsLemmas.flags_small, FaultLemmas.carries, KeepsLemmas.ok_keeps}
 use Rattle.fz_top.proofs.CompletenessLemmas.{asked, can, contents_of, room_for}
-use Rattle.fz_top.proofs.FaultLemmas.{carries}
-use Rattle.fz_top.proofs.KeepsLemmas.{ok_keeps}
 use Rattle.fz_top.proofs.RunLemmas.{does, no_read_fault, no_write_fault, settles, completes, known_there, long_status}
 use Rattle.fz_top.proofs.RunLemmas.{usage_status, usage_cause}
 use Rattle.fz_top.proofs.program.fuzz12.Goals as goal

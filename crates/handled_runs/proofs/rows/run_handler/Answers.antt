@@ -1,7 +1,6 @@
 use Rattle.std.proofs.Common.{List, map, sym, subst}
 use Rattle.fz_run.specs.Rows.{input_bytes}
-use Rattle.handled_runs.specs.Answering.{HandlesItsBlock}
-use Rattle.handled_runs.specs.Forms.{HandledSeen}
+use Rattle.handled_runs.specs.{Answering.HandlesItsBlock, Forms.HandledSeen}
 use Rattle.handled_runs.proofs.rows.run_handler.Goals as goal
 
 pub returns-clause-answers : goal.returns-clause-answers

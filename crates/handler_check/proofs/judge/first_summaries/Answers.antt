@@ -1,7 +1,6 @@
 use Rattle.std.proofs.Common.{◌≡◌, None, false, replicate, refl}
 use Rattle.handler_check.specs.PathSummaries.{summary_at}
-use Rattle.handler_check.proofs.Marking.{mark_first}
-use Rattle.handler_check.proofs.Onward.{first_on}
+use Rattle.handler_check.proofs.{Marking.mark_first, Onward.first_on}
 use Rattle.handler_check.proofs.judge.first_summaries.Goals as goal
 
 pub returns-clause-judged : goal.returns-clause-judged

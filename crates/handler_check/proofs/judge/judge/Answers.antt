@@ -1,9 +1,7 @@
 use Rattle.std.proofs.Common.{◌≡◌, ◌+◌, ℕ, ◌∙◌, subst, sym, arith}
 use Rattle.cpu12_isa.specs.declared.instr.Instr.TheVariants.{LdaaImmediate}
-use Rattle.handler_check.specs.Judging.{AreJudged}
-use Rattle.handler_check.specs.PathSummaries.{summary_at}
-use Rattle.handler_check.proofs.Places.{stands_behind, code_end-all}
-use Rattle.handler_check.proofs.Tables.{code_end-low}
+use Rattle.handler_check.specs.{Judging.AreJudged, PathSummaries.summary_at}
+use Rattle.handler_check.proofs.{Places.stands_behind, Places.code_end-all, Tables.code_end-low}
 use Rattle.handler_check.proofs.Onward.{behind_first, accepted_end}
 use Rattle.handler_check.proofs.judge.judge.Goals as goal
 

@@ -1,7 +1,5 @@
 use Rattle.std.proofs.Common.{◌≡◌, length, take}
-use Rattle.handler_check.specs.Cut.{code_end}
-use Rattle.handler_check.specs.Judging.{AreJudged}
-use Rattle.handler_check.specs.PathSummaries.{summary_at}
+use Rattle.handler_check.specs.{Cut.code_end, Judging.AreJudged, PathSummaries.summary_at}
 use Rattle.handler_check.proofs.judge.judge.Given as goal
 
 abbrev pub invariant-loop-instr : goal.invariant-loop-instr

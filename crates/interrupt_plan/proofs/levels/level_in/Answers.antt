@@ -1,8 +1,7 @@
 use Rattle.std.proofs.Common.{◌≡◌, ◌≤◌, List, ℕ, arith, subst, sym}
 use Rattle.std.specs.Prelude.{All, map, Some}
 use Rattle.csv.specs.Records.{fields_of}
-use Rattle.interrupt_plan.specs.Levels.{numbers_of}
-use Rattle.interrupt_plan.specs.Rows.{count_of}
+use Rattle.interrupt_plan.specs.{Levels.numbers_of, Rows.count_of}
 use Rattle.interrupt_plan.proofs.LevelLemmas.{small_numbers, spelled_by}
 use Rattle.interrupt_plan.proofs.levels.level_in.Goals as goal
 

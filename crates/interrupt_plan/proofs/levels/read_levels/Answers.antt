@@ -1,6 +1,5 @@
 use Rattle.interrupt_plan.specs.Levels.{AreGoodLevels, LevelNotAfter, SpellsLevel, no_writes}
-use Rattle.interrupt_plan.proofs.PlanLemmas.{good_text}
-use Rattle.interrupt_plan.proofs.LevelLemmas.{good_levels}
+use Rattle.interrupt_plan.proofs.{PlanLemmas.good_text, LevelLemmas.good_levels}
 use Rattle.interrupt_plan.proofs.levels.read_levels.Goals as goal
 
 pub returns-clause-levels : goal.returns-clause-levels

@@ -1,5 +1,4 @@
-use Rattle.interrupt_plan.specs.PlanTexts.{SpellsRequest, writes_by}
-use Rattle.interrupt_plan.specs.Plans.{IsGood, NotAfter}
+use Rattle.interrupt_plan.specs.{PlanTexts.SpellsRequest, PlanTexts.writes_by, Plans.IsGood, Plans.NotAfter}
 use Rattle.interrupt_plan.proofs.PlanLemmas.{good_plan, good_text}
 use Rattle.interrupt_plan.proofs.reader.read_plan.Goals as goal
 

@@ -1,7 +1,6 @@
 use Rattle.std.proofs.Common.{◌-◌, take, length, sym}
 use Rattle.interrupt_plan.specs.UpsetTexts.{unread, not_table, not_ascending}
-use Rattle.interrupt_plan.proofs.PlanLemmas.{last_is}
-use Rattle.interrupt_plan.proofs.UpsetLemmas.{good_upset}
+use Rattle.interrupt_plan.proofs.{PlanLemmas.last_is, UpsetLemmas.good_upset}
 use Rattle.interrupt_plan.proofs.upsets.next_upset.Goals as goal
 
 pub returns-in-None-clause-fault : goal.returns-in-None-clause-fault

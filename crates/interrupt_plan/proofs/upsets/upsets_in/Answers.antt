@@ -1,7 +1,6 @@
 use Rattle.std.proofs.Common.{◌+◌, List, arith, refl, subst, ◌∙◌}
 use Rattle.csv.specs.Records.{fields_of}
-use Rattle.interrupt_plan.specs.declared.upsets.Upset.{Upset}
-use Rattle.interrupt_plan.specs.UpsetTexts.{UpsetRowFails}
+use Rattle.interrupt_plan.specs.{declared.upsets.Upset.Upset, UpsetTexts.UpsetRowFails}
 use Rattle.interrupt_plan.proofs.UpsetLemmas.{fault_at, good_more, upsets_more, too_many}
 use Rattle.interrupt_plan.proofs.upsets.upsets_in.Goals as goal
 

@@ -1,8 +1,7 @@
 use Rattle.std.proofs.Common.{◌≤◌, take}
 use Rattle.std.specs.Prelude.{map}
 use Rattle.csv.specs.Records.{fields_of}
-use Rattle.interrupt_plan.specs.Upsets.{AreGoodUpsets}
-use Rattle.interrupt_plan.specs.UpsetTexts.{SpellUpsets}
+use Rattle.interrupt_plan.specs.{Upsets.AreGoodUpsets, UpsetTexts.SpellUpsets}
 use Rattle.interrupt_plan.proofs.upsets.upsets_in.Given as goal
 
 abbrev pub invariant-loop-at : goal.invariant-loop-at

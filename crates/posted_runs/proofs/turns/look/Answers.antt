@@ -1,9 +1,6 @@
 use Rattle.std.proofs.Common.{◌∙◌, map, length, ap}
-use Rattle.posted_runs.specs.Turns.{waiting}
-use Rattle.posted_runs.specs.Runs.{input_bytes}
-use Rattle.posted_runs.specs.Tallies.{notes_of}
-use Rattle.posted_runs.proofs.Postings.{wait_taken}
-use Rattle.posted_runs.proofs.Running.{taken_slice}
+use Rattle.posted_runs.specs.{Turns.waiting, Runs.input_bytes, Tallies.notes_of}
+use Rattle.posted_runs.proofs.{Postings.wait_taken, Running.taken_slice}
 use Rattle.posted_runs.proofs.turns.look.Goals as goal
 
 pub returns-clause-waits : goal.returns-clause-waits

@@ -1,8 +1,7 @@
 use Rattle.std.proofs.Common.{◌∙◌, map, sym}
 use Rattle.posted_runs.specs.Runs.{input_bytes, answer_seen}
 use Rattle.posted_runs.proofs.NextTurns.{Begins, over_here, stuck_here, turn_here}
-use Rattle.posted_runs.proofs.turns.next_turn.Given.{Over}
-use Rattle.posted_runs.proofs.turns.next_turn.Goals.{After-look-seen}
+use Rattle.posted_runs.proofs.{turns.next_turn.Given.Over, turns.next_turn.Goals.After-look-seen}
 use Rattle.posted_runs.proofs.turns.next_turn.Goals as goal
 
 -- the turn as it begins

@@ -1,6 +1,5 @@
 use Rattle.std.proofs.Common.{◌≡◌, ◌-◌, ◌∙◌, ℕ, suc, map, drop, ap₂, sym, arith}
-use Rattle.posted_runs.specs.Runs.{input_bytes, answer_seen, turns_from}
-use Rattle.posted_runs.specs.Tallies.{with_rest}
+use Rattle.posted_runs.specs.{Runs.input_bytes, Runs.answer_seen, Runs.turns_from, Tallies.with_rest}
 use Rattle.posted_runs.proofs.NextTurns.{none_left}
 use Rattle.posted_runs.proofs.turns.run_turns.Goals as goal
 

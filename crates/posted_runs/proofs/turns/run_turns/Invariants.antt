@@ -1,8 +1,6 @@
 use Rattle.std.proofs.Common.{◌≡◌, ◌≤◌, ◌+◌, min, map, drop, length, vec_len, vec_capacity}
-use Rattle.posted_runs.specs.Runs.{input_bytes, answer_seen, turns_from, most_turns}
-use Rattle.run_forms.specs.Rooms.{Fits}
-use Rattle.run_forms.specs.Sessions.{IsSteady}
-use Rattle.posted_runs.specs.Tallies.{with_rest}
+use Rattle.posted_runs.specs.{Runs.input_bytes, Runs.answer_seen, Runs.turns_from, Runs.most_turns, Tallies.with_rest}
+use Rattle.run_forms.specs.{Rooms.Fits, Sessions.IsSteady}
 use Rattle.posted_runs.proofs.turns.run_turns.Given as goal
 
 -- what is counted and the turns to come are the whole run

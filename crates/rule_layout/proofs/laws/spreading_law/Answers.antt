@@ -1,5 +1,4 @@
-use Rattle.rule_layout.proofs.MassLemmas.{rule_truth_law_lem}
-use Rattle.rule_layout.proofs.TruthLemmas.{spreading_law_lem}
+use Rattle.rule_layout.proofs.{MassLemmas.rule_truth_law_lem, TruthLemmas.spreading_law_lem}
 use Rattle.rule_layout.proofs.laws.spreading_law.Goals as goal
 
 pub returns-clause-conditions : goal.returns-clause-conditions

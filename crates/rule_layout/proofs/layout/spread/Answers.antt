@@ -1,13 +1,11 @@
 use Rattle.std.proofs.Common.{◌≤◌, List, length, ap, ◌∙◌, sym, subst, arith}
 use Rattle.std.specs.Prelude.{All, flat_map}
 use Rattle.fuzzy_meaning.specs.declared.block.Rule.{Rule}
-use Rattle.rule_layout.specs.declared.flat.Slot.{Slot}
-use Rattle.rule_layout.specs.Tables.{IsInTable, IsNumbering}
-use Rattle.rule_layout.specs.Sizes.{IsCountable}
+use Rattle.rule_layout.specs.{declared.flat.Slot.Slot, Tables.IsInTable, Tables.IsNumbering, Sizes.IsCountable}
 use Rattle.rule_layout.specs.Steps.{IsSpreadable, table_conjunctions}
-use Rattle.rule_layout.proofs.LayoutLemmas.{slots_in_table, few_slots, rules_countable, rules_spreadable}
-use Rattle.rule_layout.proofs.LayoutLemmas.{bytes_fit, form_found, IsListSize-found, IsTooLong-found}
-use Rattle.rule_layout.proofs.LayoutLemmas.{IsWithinLimits-found, flat_made, conjunctions_by_table, weights_made}
+use Rattle.rule_layout.proofs.LayoutLemmas.{slots_in_table, few_slots, rules_countable, rules_spreadable, bytes_fit}
+use Rattle.rule_layout.proofs.LayoutLemmas.{form_found, IsListSize-found, IsTooLong-found, IsWithinLimits-found}
+use Rattle.rule_layout.proofs.LayoutLemmas.{flat_made, conjunctions_by_table, weights_made}
 use Rattle.rule_layout.proofs.LaidOutLemmas.{laid_out_made}
 use Rattle.rule_layout.proofs.layout.spread.Goals as goal
 

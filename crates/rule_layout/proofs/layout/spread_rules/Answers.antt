@@ -2,10 +2,8 @@ use Rattle.std.proofs.Common.{◌≡◌, ◌++◌, List, ℕ, length, map, repli
 use Rattle.std.proofs.lemmas.List.{length-map}
 use Rattle.byte_scaling.specs.Weights.{weight_byte_of}
 use Rattle.rule_layout.specs.declared.flat.Conjunction.{Conjunction}
-use Rattle.rule_layout.specs.Slots.{out_slot}
-use Rattle.rule_layout.specs.Tables.{table_number, table_literal}
-use Rattle.rule_layout.specs.Layouts.{rule_spread, rule_weights}
-use Rattle.rule_layout.specs.Steps.{table_conjunctions}
+use Rattle.rule_layout.specs.{Slots.out_slot, Tables.table_number, Tables.table_literal}
+use Rattle.rule_layout.specs.{Layouts.rule_spread, Layouts.rule_weights, Steps.table_conjunctions}
 use Rattle.rule_layout.proofs.RuleLemmas.{flat_map_step, table_conjunctions_made, replicate_as_map}
 use Rattle.rule_layout.proofs.layout.spread_rules.Goals as goal
 

@@ -1,9 +1,7 @@
 use Rattle.std.proofs.Common.{◌≡◌, ◌+◌, ◌<◌, ◌++◌, ◌∷◌, ℕ, List, drop, map, ap, sym, ◌∙◌, subst}
 use Rattle.std.specs.Prelude.{All}
 use Rattle.std.proofs.lemmas.List.{drop_more}
-use Rattle.rule_layout.specs.declared.flat.Conjunction.{Conjunction}
-use Rattle.rule_layout.specs.Lists.{marked, at_address}
-use Rattle.rule_layout.specs.Layouts.{IsBelow}
+use Rattle.rule_layout.specs.{declared.flat.Conjunction.Conjunction, Lists.marked, Lists.at_address, Layouts.IsBelow}
 use Rattle.rule_layout.proofs.ListLemmas.{mark, marked_more, mark_last, mark_inner}
 use Rattle.rule_layout.proofs.lists.marked.Goals as goal
 use Rattle.rule_layout.proofs.lists.marked.Goals.{then-is_last, else-is_last}

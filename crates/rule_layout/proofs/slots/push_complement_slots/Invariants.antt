@@ -1,6 +1,5 @@
 use Rattle.std.proofs.Common.{◌≡◌, ◌++◌, map, filter, take}
-use Rattle.rule_layout.specs.Slots.{complement_slot}
-use Rattle.rule_layout.specs.Tables.{is_marked}
+use Rattle.rule_layout.specs.{Slots.complement_slot, Tables.is_marked}
 use Rattle.rule_layout.proofs.slots.push_complement_slots.Given as goal
 
 abbrev pub invariant-loop-input : goal.invariant-loop-input

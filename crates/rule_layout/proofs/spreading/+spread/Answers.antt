@@ -1,7 +1,6 @@
 use Rattle.std.proofs.Common.{inl, inr, ◌∙◌, rules}
 use Rattle.fuzzy_meaning.proofs.Algebra.{part_falls, parts_fall}
-use Rattle.rule_layout.proofs.CondLemmas.{part_fits, parts_fit}
-use Rattle.rule_layout.proofs.TableLemmas.{numbers_more}
+use Rattle.rule_layout.proofs.{CondLemmas.part_fits, CondLemmas.parts_fit, TableLemmas.numbers_more}
 use Rattle.rule_layout.proofs.spreading.+spread.Goals as goal
 
 pub conjunctions-conjunctions_of_parts-requires : goal.conjunctions-conjunctions_of_parts-requires

@@ -1,8 +1,7 @@
 use Rattle.std.proofs.Common.{◌≡◌, [], refl}
 use Rattle.cpu12_parts.specs.State.{State}
 use Rattle.run_forms.proofs.AtOnce.{PassesTo, passes_to}
-use Rattle.run_forms.proofs.at_once.pass_parts.Given.{Over}
-use Rattle.run_forms.proofs.at_once.pass_parts.Goals.{After-count_parts}
+use Rattle.run_forms.proofs.{at_once.pass_parts.Given.Over, at_once.pass_parts.Goals.After-count_parts}
 use Rattle.run_forms.proofs.at_once.pass_parts.Goals as goal
 
 passes : (g : Over) (c : After-count_parts g)

@@ -1,7 +1,7 @@
 use Rattle.std.proofs.Common.{◌∙◌, nat_lt, sym, arith}
 use Rattle.run_forms.proofs.Comings.{over_here, spent_here, taken_here, takes_are, with_taken}
-use Rattle.run_forms.specs.Forms.{plan_form}
 use Rattle.run_forms.proofs.Takings.{next_tells}
+use Rattle.run_forms.specs.Forms.{plan_form}
 use Rattle.run_forms.proofs.boundary.come.Goals as goal
 
 pub returns-then-ends-clause-coming : goal.returns-then-ends-clause-coming

@@ -1,8 +1,7 @@
 use Rattle.std.proofs.Common.{◌∙◌}
 use Rattle.run_forms.specs.Outlooks.{outlook_at}
 use Rattle.run_forms.proofs.AtOnce.{PassesOn, passes_on, stays_here, under_way_on}
-use Rattle.run_forms.proofs.progress.drive.Given.{Over}
-use Rattle.run_forms.proofs.progress.drive.Goals.{After-pass_parts}
+use Rattle.run_forms.proofs.{progress.drive.Given.Over, progress.drive.Goals.After-pass_parts}
 use Rattle.run_forms.proofs.progress.drive.Goals as goal
 
 -- what is to come, after a position and the steps that were done at once from there

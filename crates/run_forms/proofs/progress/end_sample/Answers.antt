@@ -1,8 +1,7 @@
 use Rattle.std.proofs.Common.{◌≡◌, ◌<◌, ◌-◌, ◌∙◌, ◌++◌, ◌∷◌, [], map, sym, ap, arith}
 use Rattle.std.specs.Prelude.{if◌then◌else◌, is_ok, Some, length}
 use Rattle.std.proofs.lemmas.List.{map-append}
-use Rattle.run_forms.specs.Rest.{counted_at, shown_by}
-use Rattle.run_forms.specs.Outlooks.{sample_at, with_row, left_by}
+use Rattle.run_forms.specs.{Rest.counted_at, Rest.shown_by, Outlooks.sample_at, Outlooks.with_row, Outlooks.left_by}
 use Rattle.run_forms.proofs.Outlooks.{is_there, sample_before}
 use Rattle.run_forms.proofs.progress.end_sample.Goals as goal
 

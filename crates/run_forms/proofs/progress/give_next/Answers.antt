@@ -1,8 +1,7 @@
 use Rattle.std.proofs.Common.{◌∙◌, ◌-◌, length, refl, ap, sym, subst}
 use Rattle.run_forms.specs.Outlooks.{requests_at}
 use Rattle.run_forms.proofs.NextSamples.{HasNext, given_next, next_room, under_way_next}
-use Rattle.run_forms.proofs.progress.give_next.Given.{Over}
-use Rattle.run_forms.proofs.progress.give_next.Goals.{After-count_of}
+use Rattle.run_forms.proofs.{progress.give_next.Given.Over, progress.give_next.Goals.After-count_of}
 use Rattle.run_forms.proofs.progress.give_next.Goals as goal
 
 -- the sample that is given, where it begins

@@ -1,6 +1,5 @@
 use Rattle.std.proofs.Common.{◌≡◌, ◌∙◌, ℕ, false, drop, ap, sym, subst}
-use Rattle.run_forms.specs.Forms.{moment_in, plan_form}
-use Rattle.run_forms.specs.Rest.{is_due}
+use Rattle.run_forms.specs.{Forms.moment_in, Forms.plan_form, Rest.is_due}
 use Rattle.run_forms.proofs.Takings.{takes_end}
 use Rattle.run_forms.proofs.sample.take_due.Goals as goal
 

@@ -1,7 +1,6 @@
 use Rattle.std.proofs.Common.{◌≡◌, ◌≤◌, ◌-◌, length, drop}
 use Rattle.run_law.specs.Forms.{takes}
-use Rattle.run_forms.specs.Forms.{plan_form}
-use Rattle.run_forms.specs.Rest.{with_before}
+use Rattle.run_forms.specs.{Forms.plan_form, Rest.with_before}
 use Rattle.run_forms.proofs.sample.take_due.Given as goal
 
 abbrev pub invariant-loop-m : goal.invariant-loop-m

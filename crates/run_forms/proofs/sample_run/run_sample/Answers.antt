@@ -1,7 +1,5 @@
 use Rattle.std.proofs.Common.{◌∙◌, ℕ, drop, ap, ap₂, sym}
-use Rattle.run_forms.specs.Forms.{plan_form}
-use Rattle.run_forms.specs.Rest.{counted_at}
-use Rattle.run_forms.specs.Sessions.{after_takes}
+use Rattle.run_forms.specs.{Forms.plan_form, Rest.counted_at, Sessions.after_takes}
 use Rattle.run_forms.proofs.Counts.{counted_few, next_on}
 use Rattle.run_forms.proofs.sample_run.run_sample.Goals as goal
 

@@ -1,6 +1,5 @@
 use Rattle.std.proofs.Common.{◌≡◌, Err, rules}
-use Rattle.build_commands.specs.Certs.{cert_refusals}
-use Rattle.build_commands.specs.Contents.{bytes_of, content_at}
+use Rattle.build_commands.specs.{Certs.cert_refusals, Contents.bytes_of, Contents.content_at}
 use Rattle.build_commands.proofs.Algebra.{refused}
 use Rattle.run_reports.specs.Inputs.{input_refusals, sample_refusals}
 use Rattle.run_reports.proofs.RefusalLemmas.{by_cert, by_samples}

@@ -1,6 +1,5 @@
 use Rattle.std.proofs.Common.{◌+◌, ◌∙◌, ◌++◌, ap}
-use Rattle.fz_run.specs.Rows.{row_seen}
-use Rattle.fz_run.specs.declared.rows.Row.{Row}
+use Rattle.fz_run.specs.{Rows.row_seen, declared.rows.Row.Row}
 use Rattle.fz_shelf.specs.Lines.{text_of}
 use Rattle.run_reports.specs.RowLines.{row_lines}
 use Rattle.build_commands.proofs.Algebra.{counted_more, text_more}

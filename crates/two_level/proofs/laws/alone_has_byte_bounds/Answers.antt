@@ -1,6 +1,5 @@
 use Rattle.std.proofs.Common.{◌∙◌, Bool, ap}
-use Rattle.eval_code.specs.Bounds.{instruction_bound, step_bound}
-use Rattle.eval_code.specs.Widths.{width_of}
+use Rattle.eval_code.specs.{Bounds.instruction_bound, Bounds.step_bound, Widths.width_of}
 use Rattle.two_level.proofs.laws.alone_has_byte_bounds.Goals as goal
 
 pub returns : goal.returns

@@ -1,7 +1,6 @@
 use Rattle.std.proofs.Common.{◌≡◌, sym, ◌∙◌}
 use Rattle.fuzzy_meaning.specs.declared.block.Block.{Block}
-use Rattle.codegen.specs.Alike.{FirmwaresAreOne}
-use Rattle.codegen.specs.declared.firmware.Firmware.{Firmware}
+use Rattle.codegen.specs.{Alike.FirmwaresAreOne, declared.firmware.Firmware.Firmware}
 use Rattle.two_level.specs.Images.{IsAlone, two_items}
 use Rattle.two_level.proofs.laws.twos_are_one.Goals as goal
 

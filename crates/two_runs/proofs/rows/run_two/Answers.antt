@@ -1,7 +1,6 @@
 use Rattle.std.proofs.Common.{ℕ, List, map, length, sym, subst}
 use Rattle.std.proofs.lemmas.List.{length-map}
-use Rattle.interrupt_plan.specs.declared.levels.Level.{Level}
-use Rattle.interrupt_plan.specs.Levels.{AreGoodLevels}
+use Rattle.interrupt_plan.specs.{declared.levels.Level.Level, Levels.AreGoodLevels}
 use Rattle.fz_run.specs.Rows.{input_bytes}
 use Rattle.run_forms.specs.Slices.{IsInOrder}
 use Rattle.two_runs.specs.Rows.{place_of_level}

@@ -2,9 +2,8 @@ use Rattle.std.proofs.Common.{ap}
 use Rattle.std.specs.Prelude.{Some}
 use Rattle.cpu12_parts.specs.Cuts.{suspended, wav}
 use Rattle.two_level.specs.Images.{fast_most}
-use Rattle.two_runs.specs.Runs.{FastSeen, fast_run, entered}
+use Rattle.two_runs.specs.{Runs.FastSeen, Runs.fast_run, Runs.entered, InnerNotes.inner_notes}
 use Rattle.run_forms.specs.Rest.{Brief, counted_at}
-use Rattle.two_runs.specs.InnerNotes.{inner_notes}
 use Rattle.two_runs.proofs.FastRows.{same_run, seen_by_counts}
 use Rattle.two_runs.proofs.serve.run_fast.Goals as goal
 

@@ -1,8 +1,6 @@
 use Rattle.std.proofs.Common.{◌≡◌, ◌+◌, ◌≤◌, ℕ, List, All, length, refl, sym, ap, ◌∙◌, subst, arith, rules}
-use Rattle.eval_code.specs.declared.memory_map.MemoryMap.{MemoryMap}
+use Rattle.eval_code.specs.{declared.memory_map.MemoryMap.MemoryMap, Bounds.steps_by, MemoryMaps.main_map}
 use Rattle.watched_code.specs.declared.segments.Segment.{Segment}
-use Rattle.eval_code.specs.Bounds.{steps_by}
-use Rattle.eval_code.specs.MemoryMaps.{main_map}
 use Rattle.watched_code.specs.WatchedCode.{AreSegments, code_length, watched_front}
 use Rattle.watched_code.proofs.watching.Emitting.{bound_made, front_made, are_short}
 use Rattle.watched_code.proofs.watching.Tables.{are_segments}

@@ -1,16 +1,11 @@
 use Rattle.std.proofs.Common.{◌∙◌, List, map, ap, sym, subst}
 use Rattle.run_law.specs.Forms.{RowSeen, rows_from}
-use Rattle.interrupt_plan.specs.declared.Request.{Request}
-use Rattle.interrupt_plan.specs.declared.upsets.Upset.{Upset}
+use Rattle.interrupt_plan.specs.declared.{Request.Request, upsets.Upset.Upset}
 use Rattle.watched_code.specs.Watched.{Watched}
-use Rattle.fz_run.specs.Forms.{place_of}
-use Rattle.run_forms.specs.Slices.{IsInOrder}
-use Rattle.run_forms.specs.Rows.{shown}
-use Rattle.fz_run.specs.Rows.{requests_of, first_state, input_bytes}
-use Rattle.watched_runs.specs.Samples.{with_upsets}
-use Rattle.watched_runs.specs.Forms.{watched_form}
+use Rattle.fz_run.specs.{Forms.place_of, Rows.requests_of, Rows.first_state, Rows.input_bytes}
+use Rattle.run_forms.specs.{Slices.IsInOrder, Rows.shown}
+use Rattle.watched_runs.specs.{Samples.with_upsets, Forms.watched_form, Answering.AnswersItsSamples}
 use Rattle.watched_runs.specs.Rows.{FaultSeen, fault_seen, upset_rows, faults_of}
-use Rattle.watched_runs.specs.Answering.{AnswersItsSamples}
 use Rattle.watched_runs.proofs.Shown.{shown_plainly}
 use Rattle.watched_runs.proofs.run.run_upsets.Goals as goal
 

@@ -2,12 +2,9 @@ use Rattle.std.proofs.Common.{arith, ◌≡◌, ◌+◌, ◌*◌, ◌++◌, ℕ,
 use Rattle.std.specs.List.{range_with_len}
 use Rattle.csv.specs.Writing.{default_writer, row_text}
 use Rattle.interrupt_plan.specs.PlanTexts.{SpellsRequest}
-use Rattle.workload.specs.Draws.{draw, state_after}
-use Rattle.workload.specs.Texts.{request_fields}
-use Rattle.workload.specs.Workloads.{drawn_request}
-use Rattle.workload.proofs.ListLemmas.{made_more}
+use Rattle.workload.specs.{Draws.draw, Draws.state_after, Texts.request_fields, Workloads.drawn_request}
+use Rattle.workload.proofs.{ListLemmas.made_more, RowLemmas.Writes, RowLemmas.writes_more}
 use Rattle.workload.proofs.PlanLemmas.{made, plan_spells, request_length, request_row, requests_drawn, spells_made}
-use Rattle.workload.proofs.RowLemmas.{Writes, writes_more}
 use Rattle.workload.proofs.plans.drawn_plan.Goals as goal
 
 pub loop-k-preserved : goal.loop-k-preserved

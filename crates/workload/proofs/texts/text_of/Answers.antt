@@ -1,8 +1,7 @@
 use Rattle.std.proofs.Common.{arith, ◌≡◌, ◌++◌, ◌∙◌, ℕ, List, append_assoc, ap, sym}
 use Rattle.std.specs.Prelude.{flat_map, codes}
 use Rattle.std.specs.List.{range_with_len}
-use Rattle.workload.specs.Texts.{fcl_text, rule_text}
-use Rattle.workload.specs.declared.texts.TheConstants.{VARIABLES}
+use Rattle.workload.specs.{Texts.fcl_text, Texts.rule_text, declared.texts.TheConstants.VARIABLES}
 use Rattle.workload.proofs.ListLemmas.{written_more}
 use Rattle.workload.proofs.texts.text_of.Goals as goal
 

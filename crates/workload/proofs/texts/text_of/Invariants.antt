@@ -1,8 +1,7 @@
 use Rattle.std.proofs.Common.{◌≡◌, ◌++◌}
 use Rattle.std.specs.Prelude.{flat_map}
 use Rattle.std.specs.List.{range_with_len}
-use Rattle.workload.specs.Texts.{rule_text}
-use Rattle.workload.specs.declared.texts.TheConstants.{VARIABLES}
+use Rattle.workload.specs.{Texts.rule_text, declared.texts.TheConstants.VARIABLES}
 use Rattle.workload.proofs.texts.text_of.Given as goal
 
 abbrev pub invariant-loop-n : goal.invariant-loop-n

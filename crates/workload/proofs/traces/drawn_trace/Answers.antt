@@ -3,9 +3,7 @@ use Rattle.std.specs.List.{range_with_len}
 use Rattle.csv.specs.Writing.{default_writer, row_text}
 use Rattle.fz_num.specs.declared.dec.Dec.{Dec}
 use Rattle.trace_io.specs.Traces.{SpellsSample}
-use Rattle.workload.specs.Draws.{state_after}
-use Rattle.workload.specs.Texts.{sample_fields}
-use Rattle.workload.specs.Workloads.{drawn_values, place}
+use Rattle.workload.specs.{Draws.state_after, Texts.sample_fields, Workloads.drawn_values, Workloads.place}
 use Rattle.workload.proofs.RowLemmas.{writes_more}
 use Rattle.workload.proofs.TraceLemmas.{pair, sample_length, sample_row, samples_drawn, spells_drawn, trace_spells}
 use Rattle.workload.proofs.TraceLemmas.{values_more}

@@ -1,11 +1,8 @@
 use Rattle.std.proofs.Common.{◌≡◌, ◌≤◌, ◌+◌, ◌*◌, ℕ, length, map}
 use Rattle.std.specs.List.{range_with_len}
-use Rattle.trace_io.specs.Traces.{SpellsSample}
-use Rattle.trace_io.specs.declared.sample.Sample.{Sample}
-use Rattle.workload.specs.Draws.{state_after}
-use Rattle.workload.specs.Workloads.{drawn_values}
-use Rattle.workload.proofs.RowLemmas.{Writes}
-use Rattle.workload.proofs.TraceLemmas.{pair}
+use Rattle.trace_io.specs.{Traces.SpellsSample, declared.sample.Sample.Sample}
+use Rattle.workload.specs.{Draws.state_after, Workloads.drawn_values}
+use Rattle.workload.proofs.{RowLemmas.Writes, TraceLemmas.pair}
 use Rattle.workload.proofs.traces.drawn_trace.Given as goal
 
 abbrev pub invariant-loop-row : goal.invariant-loop-row

@@ -1,13 +1,9 @@
 use Rattle.std.proofs.Common.{arith, ◌≡◌, ◌∙◌, ℕ, List, [], ◌∷◌, ap, get_or, length, subst, sym}
 use Rattle.std.proofs.lemmas.List.Elements.{All-head}
 use Rattle.fcl_check.specs.Texts.{SpellsBlock}
-use Rattle.fuzzy_meaning.specs.Blocks.{IsValidInput}
-use Rattle.fuzzy_meaning.specs.declared.block.Block.{Block}
-use Rattle.fuzzy_meaning.specs.declared.block.Input.{Input}
+use Rattle.fuzzy_meaning.specs.{Blocks.IsValidInput, declared.block.Block.Block, declared.block.Input.Input}
 use Rattle.trace_io.specs.Traces.{Spells}
-use Rattle.workload.specs.Blocks.{drawn_block, drawn_input}
-use Rattle.workload.specs.Draws.{state_after}
-use Rattle.workload.specs.Texts.{fcl_text}
+use Rattle.workload.specs.{Blocks.drawn_block, Blocks.drawn_input, Draws.state_after, Texts.fcl_text}
 use Rattle.workload.proofs.DrawLemmas.{state_after_none}
 use Rattle.workload.proofs.workload.workload_of.Goals as goal
 

@@ -1,9 +1,6 @@
 use Rattle.std.proofs.Common.{◌≡◌, [], ◌∷◌, Some, sym, ap, ◌∙◌, arith}
-use Rattle.box_tree.specs.declared.cert.Node.{Node}
-use Rattle.box_tree.specs.declared.lines.Lines.{Lines}
-use Rattle.box_tree.specs.Trees.{leaf_count, open_from}
-use Rattle.box_tree.proofs.ReadLemmas.{has_read_more}
-use Rattle.box_tree.proofs.TreeLemmas.{open_leaf, open_split}
+use Rattle.box_tree.specs.{declared.cert.Node.Node, declared.lines.Lines.Lines, Trees.leaf_count, Trees.open_from}
+use Rattle.box_tree.proofs.{ReadLemmas.has_read_more, TreeLemmas.open_leaf, TreeLemmas.open_split}
 use Rattle.box_tree.proofs.lines.Lines.next.Goals as goal
 use Rattle.box_tree.proofs.lines.Lines.next.Goals.{in-Split, in-Leaf}
 

@@ -1,6 +1,5 @@
 use Rattle.std.proofs.Common.{◌<◌, ◌+◌, [], ◌∷◌, ap, arith}
-use Rattle.box_tree.specs.declared.cert.Node.{Node}
-use Rattle.box_tree.specs.Trees.{leaf_count}
+use Rattle.box_tree.specs.{declared.cert.Node.Node, Trees.leaf_count}
 use Rattle.box_tree.proofs.ReadLemmas.{is_early, is_bad, is_late, has_many_leaves, stands_before}
 use Rattle.box_tree.proofs.Emptiness.{is_nothing, is_something}
 use Rattle.box_tree.proofs.lines.Lines.node_here.Goals as goal

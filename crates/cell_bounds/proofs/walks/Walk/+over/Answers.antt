@@ -2,8 +2,7 @@ use Rattle.std.proofs.Common.{ℕ, ◌+◌, ◌<◌, ◌≤◌, List, length, sy
 use Rattle.std.proofs.lemmas.List.{length-set}
 use Rattle.std.proofs.lemmas.Result.{err_from_is_err_and}
 use Rattle.fz_list.proofs.Algebra.{some_at}
-use Rattle.error_bound.specs.declared.boxes.Interval.{Interval}
-use Rattle.error_bound.specs.Boxes.{IsBox}
+use Rattle.error_bound.specs.{declared.boxes.Interval.Interval, Boxes.IsBox}
 use Rattle.cell_bounds.specs.Walks.{cuts_of}
 use Rattle.cell_bounds.proofs.Lists.{left_box, right_box, left_fewer, right_fewer}
 use Rattle.cell_bounds.proofs.WalkLemmas.{more_ok, more_err, raised_of_parts, above_in_left, above_in_right}

@@ -2,8 +2,7 @@ use Rattle.std.proofs.Common.{inr, ◌+◌, ◌<◌, length, sym, subst, ◌∙�
 use Rattle.std.specs.Prelude.{IfSome, slice_index}
 use Rattle.std.proofs.lemmas.List.{length-set}
 use Rattle.fuzzy_meaning.specs.Blocks.{output_at}
-use Rattle.cell_bounds.specs.CellBounds.{IsCellCount, IsFirstCellAbove}
-use Rattle.cell_bounds.specs.Walks.{IsRaised}
+use Rattle.cell_bounds.specs.{CellBounds.IsCellCount, CellBounds.IsFirstCellAbove, Walks.IsRaised}
 use Rattle.cell_bounds.proofs.WalkLemmas.{above_here, raised_next, small_next, set_beside}
 use Rattle.cell_bounds.proofs.walks.Walk.at_cell.Goals as goal
 

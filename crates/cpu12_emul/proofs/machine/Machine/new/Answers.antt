@@ -1,7 +1,6 @@
 use Rattle.std.proofs.Common.{◌≡◌, ℕ, List, Option, ap, ◌∙◌}
 use Rattle.cpu12_isa.specs.Watching.{nothing_noted}
-use Rattle.cpu12_emul.specs.Image.{image_memory}
-use Rattle.cpu12_emul.specs.Step.{Whole, reset_with}
+use Rattle.cpu12_emul.specs.{Image.image_memory, Step.Whole, Step.reset_with}
 use Rattle.cpu12_emul.proofs.Images.{image_memory-written}
 use Rattle.cpu12_emul.proofs.machine.Machine.new.Goals as goal
 

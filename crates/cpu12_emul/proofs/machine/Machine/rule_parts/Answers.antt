@@ -1,7 +1,6 @@
 use Rattle.std.proofs.Common.{◌≡◌, subst}
 use Rattle.cpu12_parts.specs.Laws.{state_of}
-use Rattle.cpu12_emul.specs.Run.{PartsTo}
-use Rattle.cpu12_emul.specs.Step.{Whole}
+use Rattle.cpu12_emul.specs.{Run.PartsTo, Step.Whole}
 use Rattle.cpu12_emul.proofs.machine.Machine.rule_parts.Goals as goal
 
 pub returns-then-is_rev-clause-steps : goal.returns-then-is_rev-clause-steps

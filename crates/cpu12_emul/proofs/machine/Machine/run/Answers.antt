@@ -1,6 +1,5 @@
 use Rattle.std.proofs.Common.{◌≡◌, ℕ, false, Ok, arith, ap, sym, ◌∙◌}
-use Rattle.cpu12_emul.specs.Step.{Next, next_of}
-use Rattle.cpu12_emul.specs.Run.{is_at_rest}
+use Rattle.cpu12_emul.specs.{Step.Next, Step.next_of, Run.is_at_rest}
 use Rattle.cpu12_emul.proofs.Runs.{StepsTo-more}
 use Rattle.cpu12_emul.proofs.machine.Machine.run.Goals as goal
 

@@ -1,7 +1,6 @@
 use Rattle.std.proofs.Common.{◌≡◌, ℕ, ◌+◌, ◌<◌, ◌≤◌, length, drop}
 use Rattle.std.specs.Prelude.{slice_index}
-use Rattle.error_bound.specs.CellErrors.{term_errors}
-use Rattle.error_bound.specs.Errors.{output_error_among}
+use Rattle.error_bound.specs.{CellErrors.term_errors, Errors.output_error_among}
 use Rattle.error_bound.proofs.rules.BoxTable.errors_by_term.Given as goal
 
 abbrev pub invariant-loop-n : goal.invariant-loop-n

@@ -4,16 +4,11 @@ use Rattle.std.specs.Prelude.{slice_get}
 use Rattle.std.proofs.Math.Seq.{drop-cons}
 use Rattle.std.proofs.lemmas.Option.{slice_get_read}
 use Rattle.fuzzy_meaning.specs.declared.block.Rule.{Rule}
-use Rattle.error_bound.specs.Boxes.{rule_byte_span}
-use Rattle.error_bound.specs.CellErrors.{term_errors}
+use Rattle.error_bound.specs.{Boxes.rule_byte_span, CellErrors.term_errors, Leaves.concludes_some}
+use Rattle.error_bound.specs.{Masses.IsRuleMass, Masses.no_mass, Tight.low_part, Tight.high_part, Tight.moving_error}
 use Rattle.fz_list.proofs.Algebra.{some_at}
-use Rattle.error_bound.specs.Leaves.{concludes_some}
-use Rattle.error_bound.specs.Masses.{IsRuleMass, no_mass}
-use Rattle.error_bound.specs.Tight.{low_part, high_part, moving_error}
-use Rattle.error_bound.proofs.MassEnds.{ends_ordered}
-use Rattle.error_bound.proofs.ListLemmas.{get_or-slice}
+use Rattle.error_bound.proofs.{MassEnds.ends_ordered, ListLemmas.get_or-slice, StillRules.still_mass}
 use Rattle.error_bound.proofs.MassLemmas.{AreGreatest-raised, AreGreatest-skipped}
-use Rattle.error_bound.proofs.StillRules.{still_mass}
 use Rattle.error_bound.proofs.rules.BoxTable.masses.Goals as goal
 
 pub loop-n-preserved-then-may_fire : goal.loop-n-preserved-then-may_fire

@@ -1,7 +1,5 @@
 use Rattle.std.proofs.Common.{◌≡◌, length, drop}
-use Rattle.error_bound.specs.Boxes.{rule_byte_span}
-use Rattle.error_bound.specs.CellErrors.{term_errors}
-use Rattle.error_bound.specs.Masses.{AreGreatest}
+use Rattle.error_bound.specs.{Boxes.rule_byte_span, CellErrors.term_errors, Masses.AreGreatest}
 use Rattle.error_bound.specs.Tight.{low_part, high_part, moving_error}
 use Rattle.error_bound.proofs.rules.BoxTable.masses.Given as goal
 

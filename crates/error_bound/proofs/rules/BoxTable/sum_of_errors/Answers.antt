@@ -2,8 +2,7 @@ use Rattle.std.proofs.Common.{◌≡◌, suc, ◌+◌, ◌-◌, ◌<◌, ◌∷�
 use Rattle.std.specs.Prelude.{pos}
 use Rattle.std.proofs.Math.Seq.{drop-cons}
 use Rattle.fz_num.specs.declared.dec.Dec.{Dec}
-use Rattle.error_bound.specs.CellErrors.{term_errors}
-use Rattle.error_bound.specs.Bounds.{errors_from}
+use Rattle.error_bound.specs.{CellErrors.term_errors, Bounds.errors_from}
 use Rattle.error_bound.proofs.rules.BoxTable.sum_of_errors.Goals as goal
 
 pub loop-k-preserved : goal.loop-k-preserved

@@ -1,6 +1,5 @@
 use Rattle.std.proofs.Common.{◌≡◌, ◌≤◌, ◌+◌, ◌-◌, ◌*◌, length, drop}
-use Rattle.error_bound.specs.CellErrors.{term_errors}
-use Rattle.error_bound.specs.Bounds.{errors_from}
+use Rattle.error_bound.specs.{CellErrors.term_errors, Bounds.errors_from}
 use Rattle.error_bound.proofs.rules.BoxTable.sum_of_errors.Given as goal
 
 abbrev pub invariant-loop-k : goal.invariant-loop-k

@@ -3,9 +3,7 @@ use Rattle.std.specs.Prelude.{slice_get}
 use Rattle.std.proofs.lemmas.Option.{slice_get_within, get_or_from_slice_get}
 use Rattle.std.proofs.lemmas.List.{length-set}
 use Rattle.fuzzy_meaning.specs.declared.block.Input.{Input}
-use Rattle.error_bound.specs.declared.boxes.Interval.{Interval}
-use Rattle.error_bound.specs.declared.tables.Row.{Row}
-use Rattle.error_bound.specs.Reaches.{AreInputReaches}
+use Rattle.error_bound.specs.{declared.boxes.Interval.Interval, declared.tables.Row.Row, Reaches.AreInputReaches}
 use Rattle.fz_list.proofs.Algebra.{AreFilled-more}
 use Rattle.error_bound.proofs.tables.BoxTerms.new.Goals as goal
 

@@ -1,7 +1,6 @@
 use Rattle.std.proofs.Common.{◌≡◌, length, Some}
 use Rattle.std.specs.Prelude.{slice_get}
-use Rattle.error_bound.specs.declared.boxes.Interval.{Interval}
-use Rattle.error_bound.specs.Reaches.{AreInputReaches}
+use Rattle.error_bound.specs.{declared.boxes.Interval.Interval, Reaches.AreInputReaches}
 use Rattle.fz_list.proofs.Algebra.{AreFilled}
 use Rattle.error_bound.proofs.tables.BoxTerms.new.Given as goal
 

@@ -3,8 +3,7 @@ use Rattle.std.specs.Prelude.{slice_get, IfSome}
 use Rattle.std.proofs.lemmas.Option.{slice_get_within}
 use Rattle.std.proofs.lemmas.List.{length-set}
 use Rattle.fuzzy_meaning.specs.declared.block.Trapezoid.{Trapezoid}
-use Rattle.error_bound.specs.declared.cells.TermCells.{TermCells}
-use Rattle.error_bound.specs.Reaches.{AreTermCells}
+use Rattle.error_bound.specs.{declared.cells.TermCells.TermCells, Reaches.AreTermCells}
 use Rattle.fz_list.proofs.Algebra.{AreFilled-more}
 use Rattle.error_bound.proofs.tables.InputCells.new.Goals as goal
 

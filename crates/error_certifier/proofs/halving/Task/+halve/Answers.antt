@@ -1,7 +1,7 @@
 use Rattle.std.proofs.Common.{rules, arith}
 use Rattle.std.proofs.lemmas.Result.{err_from_is_err_and}
-use Rattle.error_certifier.proofs.HalveLemmas.{IsWidest-place, Grows-leaf, Stops-leaf}
-use Rattle.error_certifier.proofs.HalveLemmas.{left_half, right_half, Stops-left, Grows-halves, Stops-right}
+use Rattle.error_certifier.proofs.HalveLemmas.{IsWidest-place, Grows-leaf, Stops-leaf, left_half, right_half}
+use Rattle.error_certifier.proofs.HalveLemmas.{Stops-left, Grows-halves, Stops-right}
 use Rattle.error_certifier.proofs.halving.Task.+halve.Goals as goal
 
 pub returns-in-Ok-Some-clause-grows : goal.returns-in-Ok-Some-clause-grows

@@ -1,7 +1,6 @@
 use Rattle.std.proofs.Common.{refl}
 use Rattle.fcl_syntax.specs.Reading.{comma_conclusion_at}
-use Rattle.fcl_syntax.proofs.RuleForms.{comma_conclusion_form}
-use Rattle.fcl_syntax.proofs.Run.{takes_some}
+use Rattle.fcl_syntax.proofs.{RuleForms.comma_conclusion_form, Run.takes_some}
 use Rattle.fcl_syntax.proofs.rules.ConclusionRepeated.next.Goals as goal
 
 pub returns-clause-shorter : goal.returns-clause-shorter

@@ -1,8 +1,6 @@
 use Rattle.std.proofs.Common.{refl}
-use Rattle.fcl_syntax.specs.Reading.{rule_line_at}
-use Rattle.fcl_syntax.specs.View.{view_rule_line}
-use Rattle.fcl_syntax.proofs.RuleForms.{rule_line_form}
-use Rattle.fcl_syntax.proofs.Run.{takes_some}
+use Rattle.fcl_syntax.specs.{Reading.rule_line_at, View.view_rule_line}
+use Rattle.fcl_syntax.proofs.{RuleForms.rule_line_form, Run.takes_some}
 use Rattle.fcl_syntax.proofs.rules.RuleLineRepeated.next.Goals as goal
 
 pub returns-clause-shorter : goal.returns-clause-shorter

@@ -1,8 +1,6 @@
 use Rattle.std.proofs.Common.{refl}
-use Rattle.fcl_syntax.specs.Reading.{rule_item_at}
-use Rattle.fcl_syntax.specs.View.{view_rule_item}
-use Rattle.fcl_syntax.proofs.RuleForms.{rule_item_form}
-use Rattle.fcl_syntax.proofs.Run.{takes_some}
+use Rattle.fcl_syntax.specs.{Reading.rule_item_at, View.view_rule_item}
+use Rattle.fcl_syntax.proofs.{RuleForms.rule_item_form, Run.takes_some}
 use Rattle.fcl_syntax.proofs.rules.RuleRepeated.next.Goals as goal
 
 pub returns-clause-shorter : goal.returns-clause-shorter

@@ -1,8 +1,6 @@
 use Rattle.std.proofs.Common.{refl}
-use Rattle.fcl_syntax.specs.Reading.{fuzzy_line_at}
-use Rattle.fcl_syntax.specs.View.{view_fuzzy_line}
-use Rattle.fcl_syntax.proofs.TermForms.{fuzzy_line_form}
-use Rattle.fcl_syntax.proofs.Run.{takes_some}
+use Rattle.fcl_syntax.specs.{Reading.fuzzy_line_at, View.view_fuzzy_line}
+use Rattle.fcl_syntax.proofs.{TermForms.fuzzy_line_form, Run.takes_some}
 use Rattle.fcl_syntax.proofs.terms.FuzzyLineRepeated.next.Goals as goal
 
 pub returns-clause-shorter : goal.returns-clause-shorter

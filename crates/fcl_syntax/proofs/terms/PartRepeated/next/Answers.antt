@@ -1,8 +1,6 @@
 use Rattle.std.proofs.Common.{refl}
-use Rattle.fcl_syntax.specs.Reading.{part_at}
-use Rattle.fcl_syntax.specs.View.{view_part}
-use Rattle.fcl_syntax.proofs.TermForms.{part_form}
-use Rattle.fcl_syntax.proofs.Run.{takes_some}
+use Rattle.fcl_syntax.specs.{Reading.part_at, View.view_part}
+use Rattle.fcl_syntax.proofs.{TermForms.part_form, Run.takes_some}
 use Rattle.fcl_syntax.proofs.terms.PartRepeated.next.Goals as goal
 
 pub returns-clause-shorter : goal.returns-clause-shorter

@@ -1,8 +1,6 @@
 use Rattle.std.proofs.Common.{refl}
-use Rattle.fcl_syntax.specs.Reading.{point_at}
-use Rattle.fcl_syntax.specs.View.{view_point}
-use Rattle.fcl_syntax.proofs.TermForms.{point_form}
-use Rattle.fcl_syntax.proofs.Run.{takes_some}
+use Rattle.fcl_syntax.specs.{Reading.point_at, View.view_point}
+use Rattle.fcl_syntax.proofs.{TermForms.point_form, Run.takes_some}
 use Rattle.fcl_syntax.proofs.terms.PointRepeated.next.Goals as goal
 
 pub returns-clause-shorter : goal.returns-clause-shorter

@@ -1,8 +1,6 @@
 use Rattle.std.proofs.Common.{refl}
-use Rattle.fcl_syntax.specs.Reading.{declaration_at}
-use Rattle.fcl_syntax.specs.View.{view_declaration}
-use Rattle.fcl_syntax.proofs.Forms.{declaration_form}
-use Rattle.fcl_syntax.proofs.Run.{takes_some}
+use Rattle.fcl_syntax.specs.{Reading.declaration_at, View.view_declaration}
+use Rattle.fcl_syntax.proofs.{Forms.declaration_form, Run.takes_some}
 use Rattle.fcl_syntax.proofs.variables.DeclarationRepeated.next.Goals as goal
 
 pub returns-clause-shorter : goal.returns-clause-shorter

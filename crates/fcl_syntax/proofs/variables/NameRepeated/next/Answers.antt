@@ -1,7 +1,6 @@
 use Rattle.std.proofs.Common.{refl}
 use Rattle.fcl_syntax.specs.Reading.{comma_name_at}
-use Rattle.fcl_syntax.proofs.Forms.{comma_name_form}
-use Rattle.fcl_syntax.proofs.Run.{takes_some}
+use Rattle.fcl_syntax.proofs.{Forms.comma_name_form, Run.takes_some}
 use Rattle.fcl_syntax.proofs.variables.NameRepeated.next.Goals as goal
 
 pub returns-clause-shorter : goal.returns-clause-shorter

@@ -1,8 +1,6 @@
 use Rattle.std.proofs.Common.{refl}
-use Rattle.fcl_syntax.specs.Reading.{section_at}
-use Rattle.fcl_syntax.specs.View.{view_section}
-use Rattle.fcl_syntax.proofs.Forms.{section_form}
-use Rattle.fcl_syntax.proofs.Run.{takes_some}
+use Rattle.fcl_syntax.specs.{Reading.section_at, View.view_section}
+use Rattle.fcl_syntax.proofs.{Forms.section_form, Run.takes_some}
 use Rattle.fcl_syntax.proofs.variables.VariablesRepeated.next.Goals as goal
 
 pub returns-clause-shorter : goal.returns-clause-shorter

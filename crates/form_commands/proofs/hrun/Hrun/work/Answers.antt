@@ -1,10 +1,7 @@
 use Rattle.std.proofs.Common.{ℕ, ◌<◌, ◌^◌, List, ◌++◌, ap, ap₂, sym, ◌∙◌, rules}
 use Rattle.std.specs.Prelude.{map}
-use Rattle.handled_runs.specs.Forms.{row_seen}
-use Rattle.handled_runs.specs.declared.rows.HandledRow.{HandledRow}
-use Rattle.build_commands.specs.Contents.{bytes_of}
-use Rattle.build_commands.specs.SeenOutputs.{only_text}
-use Rattle.build_commands.specs.Lines.{counted}
+use Rattle.handled_runs.specs.{Forms.row_seen, declared.rows.HandledRow.HandledRow}
+use Rattle.build_commands.specs.{Contents.bytes_of, SeenOutputs.only_text, Lines.counted}
 use Rattle.build_commands.proofs.Algebra.{counted-map}
 use Rattle.form_commands.specs.Hrun.{handled_files, handled_report, handled_row_lines}
 use Rattle.run_reports.specs.RowLines.{begun_lines}

@@ -1,8 +1,7 @@
 use Rattle.std.proofs.Common.{◌≡◌, ◌*◌, sym, ap, ap₂, ◌∙◌, arith}
 use Rattle.std.specs.Prelude.{pos, ◌+ℤ◌, ◌*ℤ◌, unsigned_abs}
 use Rattle.std.proofs.lemmas.Int.{ints}
-use Rattle.fuzzy_meaning.specs.Meaning.{weighted_sum}
-use Rattle.fuzzy_meaning.specs.Holding.{shares_of}
+use Rattle.fuzzy_meaning.specs.{Meaning.weighted_sum, Holding.shares_of}
 use Rattle.fuzzy_meaning.proofs.ShareLemmas.{weighted_sum-two}
 use Rattle.fuzzy_meaning.proofs.answers.Held.centre.Goals as goal
 

@@ -1,7 +1,6 @@
 use Rattle.std.proofs.Common.{List, sym, subst}
 use Rattle.interrupt_plan.specs.declared.Request.{Request}
-use Rattle.run_forms.specs.Outlooks.{IsUnderWay}
-use Rattle.run_forms.specs.Rooms.{Fits}
+use Rattle.run_forms.specs.{Outlooks.IsUnderWay, Rooms.Fits}
 use Rattle.fz_run.specs.Rows.{writes_harness}
 use Rattle.fz_run.proofs.session.Session.advance.Goals as goal
 

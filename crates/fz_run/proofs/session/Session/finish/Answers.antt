@@ -1,10 +1,8 @@
 use Rattle.std.proofs.Common.{◌∙◌, List, ap, sym, subst}
 use Rattle.cpu12_parts.specs.State.{State}
 use Rattle.interrupt_plan.specs.declared.Request.{Request}
-use Rattle.fz_run.specs.Rows.{writes_harness}
-use Rattle.fz_run.specs.Sessions.{SessionSeen}
-use Rattle.run_forms.specs.Outlooks.{outlook_at, IsUnderWay}
-use Rattle.run_forms.specs.Rooms.{Fits}
+use Rattle.fz_run.specs.{Rows.writes_harness, Sessions.SessionSeen}
+use Rattle.run_forms.specs.{Outlooks.outlook_at, Outlooks.IsUnderWay, Rooms.Fits}
 use Rattle.fz_run.proofs.session.Session.finish.Goals as goal
 
 pub returns-clause-rows : goal.returns-clause-rows

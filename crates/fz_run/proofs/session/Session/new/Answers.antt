@@ -4,10 +4,8 @@ use Rattle.run_law.specs.Forms.{RowSeen, Rows}
 use Rattle.interrupt_plan.specs.declared.Request.{Request}
 use Rattle.fz_run.specs.Forms.{place_of, with_writes}
 use Rattle.fz_run.specs.Rows.{requests_of, input_bytes, first_state, firmware_rows, writes_harness}
-use Rattle.run_forms.specs.Positions.{positions}
-use Rattle.run_forms.specs.Slices.{IsInOrder}
+use Rattle.run_forms.specs.{Positions.positions, Slices.IsInOrder, Rooms.Fits}
 use Rattle.run_forms.specs.Outlooks.{Ahead, from_here, outlook_at, shown_run, IsUnderWay}
-use Rattle.run_forms.specs.Rooms.{Fits}
 use Rattle.fz_run.proofs.Requests.{plans_are_in_order}
 use Rattle.fz_run.proofs.session.Session.new.Goals as goal
 

@@ -1,9 +1,7 @@
 use Rattle.std.proofs.Common.{◌<◌, List, map, ap, sym, ◌∙◌, subst, arith, rules, get_or}
 use Rattle.std.specs.Prelude.{All, length}
 use Rattle.std.proofs.lemmas.List.{take_all}
-use Rattle.rule_layout.specs.declared.flat.Conjunction.{Conjunction}
-use Rattle.rule_layout.specs.Lists.{marked, at_address}
-use Rattle.rule_layout.specs.Layouts.{IsBelow}
+use Rattle.rule_layout.specs.{declared.flat.Conjunction.Conjunction, Lists.marked, Lists.at_address, Layouts.IsBelow}
 use Rattle.rule_layout.proofs.ListLemmas.{IsBelow-weaker, at_base_zero, marked_below}
 use Rattle.rule_layout.proofs.flat.Flat.bytes.Goals as goal
 

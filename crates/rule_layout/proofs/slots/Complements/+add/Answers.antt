@@ -3,7 +3,8 @@ use Rattle.std.proofs.lemmas.List.{take_all}
 use Rattle.fuzzy_meaning.specs.Conditions.{Condition, conditions, nodes}
 use Rattle.rule_layout.specs.Tables.{is_marked}
 use Rattle.rule_layout.proofs.CondLemmas.{part_fits, part_nodes_le, parts_fit, all_nodes_lt}
-use Rattle.rule_layout.proofs.SlotLemmas.{some_has_complement, has_complement-parts, some_has_complement-take, marks_more}
+use Rattle.rule_layout.proofs.SlotLemmas.{some_has_complement, has_complement-parts, some_has_complement-take}
+use Rattle.rule_layout.proofs.SlotLemmas.{marks_more}
 use Rattle.rule_layout.proofs.slots.Complements.+add.Goals as goal
 
 pub add-requires-in-loop-part : goal.add-requires-in-loop-part

@@ -1,8 +1,7 @@
 use Rattle.std.proofs.Common.{◌≡◌, ◌||◌, ℕ, true, take}
 use Rattle.fuzzy_meaning.specs.Conditions.{conditions}
-use Rattle.rule_layout.specs.Grid.{IsInGrid}
+use Rattle.rule_layout.specs.{Grid.IsInGrid, Tables.is_marked}
 use Rattle.rule_layout.proofs.SlotLemmas.{some_has_complement}
-use Rattle.rule_layout.specs.Tables.{is_marked}
 use Rattle.rule_layout.proofs.slots.Complements.+add.Given as goal
 
 abbrev pub invariant-loop-part : goal.invariant-loop-part

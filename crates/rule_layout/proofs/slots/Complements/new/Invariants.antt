@@ -1,7 +1,5 @@
 use Rattle.std.proofs.Common.{◌≡◌, ℕ, take}
-use Rattle.rule_layout.specs.Grid.{IsInGrid}
-use Rattle.rule_layout.specs.Slots.{is_complemented}
-use Rattle.rule_layout.specs.Tables.{is_marked}
+use Rattle.rule_layout.specs.{Grid.IsInGrid, Slots.is_complemented, Tables.is_marked}
 use Rattle.rule_layout.proofs.slots.Complements.new.Given as goal
 
 abbrev pub invariant-loop-rule : goal.invariant-loop-rule

@@ -1,7 +1,5 @@
 use Rattle.std.proofs.Common.{◌≡◌, ◌+◌, ◌<◌, length, drop}
-use Rattle.rule_layout.specs.declared.flat.Slot.{Slot}
-use Rattle.rule_layout.specs.Slots.{number_in}
-use Rattle.rule_layout.specs.Tables.{IsInTable, table_number}
+use Rattle.rule_layout.specs.{declared.flat.Slot.Slot, Slots.number_in, Tables.IsInTable, Tables.table_number}
 use Rattle.rule_layout.proofs.slots.SlotNumbers.new.Given as goal
 
 abbrev pub invariant-loop-number : goal.invariant-loop-number

@@ -1,7 +1,6 @@
 use Rattle.std.proofs.Common.{◌∙◌, ℕ, ◌<◌, ap, sym, subst}
 use Rattle.watched_runs.specs.Samples.{change_of}
-use Rattle.watched_runs.proofs.Samples.{bytes_there, change_there, count_given}
-use Rattle.watched_runs.proofs.Shown.{given_is}
+use Rattle.watched_runs.proofs.{Samples.bytes_there, Samples.change_there, Samples.count_given, Shown.given_is}
 use Rattle.watched_runs.proofs.form.WithUpsetsRunFormRequestRoomUnitWatchedRow.give.Goals as goal
 
 pub bytes_of-requires : goal.bytes_of-requires

@@ -1,6 +1,5 @@
 use Rattle.std.proofs.Common.{ℕ, ◌<◌, subst}
-use Rattle.watched_runs.proofs.Samples.{bytes_there, count_given}
-use Rattle.watched_runs.proofs.Shown.{row_is}
+use Rattle.watched_runs.proofs.{Samples.bytes_there, Samples.count_given, Shown.row_is}
 use Rattle.watched_runs.proofs.form.WithUpsetsRunFormRequestRoomUnitWatchedRow.row.Goals as goal
 
 pub bytes_of-requires : goal.bytes_of-requires
