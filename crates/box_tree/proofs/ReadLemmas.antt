@@ -3,7 +3,8 @@ use Rattle.std.proofs.Common.{◌≡◌, ◌≢◌, ◌≤◌, ◌<◌, ◌+◌,
 use Rattle.std.proofs.Common.{None, length-append}
 use Rattle.std.specs.Prelude.{Result, Ok, Err, IfOk}
 use Rattle.std.proofs.lemmas.List.{append-nil}
-use Rattle.box_tree.specs.declared.{cert.CertKind.CertKind, cert.AnswerWidth.AnswerWidth, cert.LeafForm.LeafForm}
+use Rattle.byte_scaling.specs.declared.width.Width.{Width}
+use Rattle.box_tree.specs.declared.{cert.CertKind.CertKind, cert.LeafForm.LeafForm}
 use Rattle.box_tree.specs.declared.{cert.Node.Node, cert.Node.TheVariants.Leaf, cert.Cert.Cert}
 use Rattle.box_tree.specs.declared.{cert.CertFault.CertFault, lines.Lines.Lines}
 use Rattle.box_tree.specs.declared.cert.CertFault.TheVariants.{BadLine, Early, Late, TooManyLeaves}
@@ -25,7 +26,7 @@ stands_before lines width node behind as_wide good line shorter some few = recor
   few_leaves = few;
 }
 
-module _ (kind : CertKind) (answers : AnswerWidth) (text : List ℕ) (nodes : List Node) (lines : Lines)
+module _ (kind : CertKind) (answers : Width) (text : List ℕ) (nodes : List Node) (lines : Lines)
     (h : HasRead kind answers text nodes lines) where
   begins_at : (rest : List ℕ) → lines.rest.now ≡ rest
       → Begins kind answers text (claims_of lines) nodes lines.open_boxes rest
@@ -88,7 +89,7 @@ module _ (kind : CertKind) (answers : AnswerWidth) (text : List ℕ) (nodes : Li
       (sym h.leaves ∙ full))
 
 -- the reader has read one node more
-pub has_read_more : (kind : CertKind) (answers : AnswerWidth) (text : List ℕ) (nodes : List Node)
+pub has_read_more : (kind : CertKind) (answers : Width) (text : List ℕ) (nodes : List Node)
     (lines lines' : Lines) (node : Node) (behind : List ℕ) → HasRead kind answers text nodes lines
     → StandsBefore node behind lines → lines'.kind ≡ lines.kind → lines'.claims ≡ lines.claims
     → lines'.rest.now ≡ behind → lines'.read ≡ lines.read + 1
@@ -109,7 +110,7 @@ has_read_more kind answers text nodes lines lines' node behind h stands same_kin
       no_fault = fault;
     }
 
-pub same_cert : (kind : CertKind) (answers : AnswerWidth) (text : List ℕ) (cert : Cert)
+pub same_cert : (kind : CertKind) (answers : Width) (text : List ℕ) (cert : Cert)
     (claims : List ℕ) (nodes : List Node)
     → CertText kind answers text (record { claims = claims; nodes = nodes }) → cert.claims ≡ claims → cert.nodes ≡ nodes
     → CertText kind answers text cert
@@ -122,7 +123,7 @@ same_cert kind answers text cert claims nodes spelled claims_are nodes_are =
     the_cert : List ℕ → List Node → Cert
     the_cert cs ns = record { claims = cs; nodes = ns }
 
-pub made_cert : (kind : CertKind) (answers : AnswerWidth) (text copied claims : List ℕ)
+pub made_cert : (kind : CertKind) (answers : Width) (text copied claims : List ℕ)
     (nodes : List Node) (made : Result Cert CertFault)
     → CertText kind answers text (record { claims = claims; nodes = nodes }) → copied ≡ claims
     → IfOk made (λ cert. (cert.claims ≡ copied) × (cert.nodes ≡ nodes)) → IfOk made (CertText kind answers text)

@@ -3,7 +3,8 @@ use Rattle.std.proofs.Common.{◌≡◌, ◌≢◌, ◌<◌, ◌+◌, ◌≤◌,
 use Rattle.std.proofs.Common.{Option, Some, None, refl, sym, ◌∙◌, ap, subst, arith, append_assoc}
 use Rattle.std.proofs.lemmas.List.{append_cancel_left, append-nil}
 use Rattle.std.proofs.lemmas.List.Elements.{All-head, All-tail}
-use Rattle.box_tree.specs.declared.{cert.CertKind.CertKind, cert.AnswerWidth.AnswerWidth, cert.LeafForm.LeafForm}
+use Rattle.byte_scaling.specs.declared.width.Width.{Width}
+use Rattle.box_tree.specs.declared.{cert.CertKind.CertKind, cert.LeafForm.LeafForm}
 use Rattle.box_tree.specs.declared.{cert.Node.Node, cert.Node.TheVariants.Leaf, cert.Cert.Cert}
 use Rattle.box_tree.specs.declared.cert.CertFault.{CertFault}
 use Rattle.box_tree.specs.declared.cert.CertFault.TheVariants.{BadLine, Early, Late, TooManyLeaves}
@@ -103,7 +104,7 @@ compared kind width (n ∷ ns) (m ∷ ms) r s ns_good ms_good same =
     both e (inr (inr g)) = inr (inr (behind m n ms ns s r (sym e) g))
 
 -- what an answer about a text's nodes rests on
-record StopsAt (kind : CertKind) (answers : AnswerWidth) (text : List ℕ) (answer : Option CertFault) : Type 0 where
+record StopsAt (kind : CertKind) (answers : Width) (text : List ℕ) (answer : Option CertFault) : Type 0 where
   claims : List ℕ
   nodes : List Node
   n : ℕ
@@ -111,7 +112,7 @@ record StopsAt (kind : CertKind) (answers : AnswerWidth) (text : List ℕ) (answ
   begins : Begins kind answers text claims nodes n rest
   stops : Stops kind (length claims) nodes n rest answer
 
-no_more : (kind : CertKind) (answers : AnswerWidth) (text claims : List ℕ) (ns ms : List Node)
+no_more : (kind : CertKind) (answers : Width) (text claims : List ℕ) (ns ms : List Node)
     (n m : ℕ) (r s : List ℕ) (answer : Option CertFault)
     → Begins kind answers text claims ns n r → Begins kind answers text claims ms m s
     → Stops kind (length claims) ns n r answer
@@ -148,7 +149,7 @@ no_more kind answers text claims ns ms n m r s answer first second stop on = by 
         too_many p
         ((one_node kind (length claims) (length claims) on.node (Leaf p) behind c good g (sym on.rest_is ∙ e)).0) l
 
-stops_are_one : (kind : CertKind) (answers : AnswerWidth) (text : List ℕ) (a b : Option CertFault)
+stops_are_one : (kind : CertKind) (answers : Width) (text : List ℕ) (a b : Option CertFault)
     → StopsAt kind answers text a
     → StopsAt kind answers text b → a ≡ b
 stops_are_one kind answers text a b p q =
@@ -187,7 +188,7 @@ stops_are_one kind answers text a b p q =
 
 -- ---- the first two lines too
 
-data Ends (kind : CertKind) (answers : AnswerWidth) (text : List ℕ) : Option CertFault → Type 0 where
+data Ends (kind : CertKind) (answers : Width) (text : List ℕ) : Option CertFault → Type 0 where
   other_version : text ≢ [] → ((rest : List ℕ) → text ≢ version_line kind answers ++ rest)
       → Ends kind answers text (Some (BadLine 1))
   nothing : text ≡ [] → Ends kind answers text (Some Early)
@@ -196,29 +197,29 @@ data Ends (kind : CertKind) (answers : AnswerWidth) (text : List ℕ) : Option C
   just_version : text ≡ version_line kind answers → Ends kind answers text (Some Early)
   in_nodes : (answer : Option CertFault) → StopsAt kind answers text answer → Ends kind answers text answer
 
-version_is_some : (kind : CertKind) (answers : AnswerWidth) (rest : List ℕ) → [] ≡ version_line kind answers ++ rest → ⊥
+version_is_some : (kind : CertKind) (answers : Width) (rest : List ℕ) → [] ≡ version_line kind answers ++ rest → ⊥
 version_is_some kind answers rest same = cc
 
 claims_are_some : (claims rest : List ℕ) → [] ≡ claim_line claims ++ rest → ⊥
 claims_are_some claims rest same = cc
 
-no_rest : (kind : CertKind) (answers : AnswerWidth) (text : List ℕ) → text ≡ version_line kind answers
+no_rest : (kind : CertKind) (answers : Width) (text : List ℕ) → text ≡ version_line kind answers
     → text ≡ version_line kind answers ++ []
 no_rest kind answers text same = same ∙ sym (append-nil (version_line kind answers))
 
-nodes_front : (kind : CertKind) (answers : AnswerWidth) (text : List ℕ) (answer : Option CertFault)
+nodes_front : (kind : CertKind) (answers : Width) (text : List ℕ) (answer : Option CertFault)
     (p : StopsAt kind answers text answer)
     → text ≡ version_line kind answers ++ (claim_line p.claims ++ (node_lines p.nodes ++ p.rest))
 nodes_front kind answers text answer p = p.begins.lines ∙ lines_behind kind answers p.claims p.nodes p.rest
 
-nodes_apart_nothing : (kind : CertKind) (answers : AnswerWidth) (text : List ℕ) (answer : Option CertFault)
+nodes_apart_nothing : (kind : CertKind) (answers : Width) (text : List ℕ) (answer : Option CertFault)
     → StopsAt kind answers text answer
     → text ≡ [] → ⊥
 nodes_apart_nothing kind answers text answer p none =
     version_is_some kind answers (claim_line p.claims ++ (node_lines p.nodes ++ p.rest))
     (sym none ∙ nodes_front kind answers text answer p)
 
-nodes_apart_claims : (kind : CertKind) (answers : AnswerWidth) (text : List ℕ) (answer : Option CertFault)
+nodes_apart_claims : (kind : CertKind) (answers : Width) (text : List ℕ) (answer : Option CertFault)
     (rest : List ℕ)
     → StopsAt kind answers text answer → text ≡ version_line kind answers ++ rest → HasNoClaims rest → ⊥
 nodes_apart_claims kind answers text answer rest p is none =
@@ -226,7 +227,7 @@ nodes_apart_claims kind answers text answer rest p is none =
     (append_cancel_left (version_line kind answers) rest (claim_line p.claims ++ (node_lines p.nodes ++ p.rest))
     (sym is ∙ nodes_front kind answers text answer p))
 
-nodes_apart_version : (kind : CertKind) (answers : AnswerWidth) (text : List ℕ) (answer : Option CertFault)
+nodes_apart_version : (kind : CertKind) (answers : Width) (text : List ℕ) (answer : Option CertFault)
     → StopsAt kind answers text answer
     → text ≡ version_line kind answers → ⊥
 nodes_apart_version kind answers text answer p is =
@@ -234,13 +235,13 @@ nodes_apart_version kind answers text answer p is =
     (append_cancel_left (version_line kind answers) [] (claim_line p.claims ++ (node_lines p.nodes ++ p.rest))
     (sym (no_rest kind answers text is) ∙ nodes_front kind answers text answer p))
 
-claims_apart_version : (kind : CertKind) (answers : AnswerWidth) (text rest : List ℕ)
+claims_apart_version : (kind : CertKind) (answers : Width) (text rest : List ℕ)
     → text ≡ version_line kind answers ++ rest → HasNoClaims rest
     → text ≡ version_line kind answers → ⊥
 claims_apart_version kind answers text rest is none just =
     none.0 (append_cancel_left (version_line kind answers) rest [] (sym is ∙ no_rest kind answers text just))
 
-ends_are_one : (kind : CertKind) (answers : AnswerWidth) (text : List ℕ) (a b : Option CertFault)
+ends_are_one : (kind : CertKind) (answers : Width) (text : List ℕ) (a b : Option CertFault)
     → Ends kind answers text a
     → Ends kind answers text b → a ≡ b
 ends_are_one kind answers text _ _ (other_version r s) (other_version u w) = refl
@@ -279,7 +280,7 @@ ends_are_one kind answers text _ _ (in_nodes a p) (just_version u) =
     absurd (nodes_apart_version kind answers text a p u)
 ends_are_one kind answers text _ _ (in_nodes a p) (in_nodes b q) = stops_are_one kind answers text a b p q
 
-fault_ends : (kind : CertKind) (answers : AnswerWidth) (text : List ℕ) (f : CertFault) → HasFault kind answers text f
+fault_ends : (kind : CertKind) (answers : Width) (text : List ℕ) (f : CertFault) → HasFault kind answers text f
     → Ends kind answers text (Some f)
 fault_ends kind answers text _ (bad_version some none) = other_version some none
 fault_ends kind answers text _ (no_version none) = nothing none
@@ -314,7 +315,7 @@ fault_ends kind answers text _ (many_leaves claims nodes n leaf behind begins go
           full leaf behind some refl good all;
     })
 
-cert_ends : (kind : CertKind) (answers : AnswerWidth) (text : List ℕ) (cert : Cert) → CertText kind answers text cert
+cert_ends : (kind : CertKind) (answers : Width) (text : List ℕ) (cert : Cert) → CertText kind answers text cert
     → Ends kind answers text None
 cert_ends kind answers text cert spelled = in_nodes None (record {
   claims = cert.claims;

@@ -4,7 +4,8 @@ use Rattle.std.proofs.Common.{append_assoc, Some, None, take, get_or, add-one}
 use Rattle.std.proofs.Math.Seq.{take-suc}
 use Rattle.std.proofs.lemmas.List.{append-nil}
 use Rattle.std.proofs.lemmas.List.Elements.{All-append, All-cons, All-nil}
-use Rattle.box_tree.specs.declared.{cert.CertKind.CertKind, cert.AnswerWidth.AnswerWidth, cert.LeafForm.LeafForm}
+use Rattle.byte_scaling.specs.declared.width.Width.{Width}
+use Rattle.box_tree.specs.declared.{cert.CertKind.CertKind, cert.LeafForm.LeafForm}
 use Rattle.box_tree.specs.declared.{cert.Node.Node, cert.Node.TheVariants.Split, cert.Node.TheVariants.Leaf}
 use Rattle.box_tree.specs.Texts.{claim_line, lines_of, node_line, node_lines, version_line}
 use Rattle.box_tree.specs.{Trees.open_from, Trees.leaf_count, Certificates.Begins, Certificates.IsNode}
@@ -50,14 +51,14 @@ node_lines_more nodes i node text text' before lt is so_far added =
     ∙ ap node_lines (ap (λ (n : Node). take i nodes ++ n ∷ []) is ∙ sym (take-suc nodes i node lt)
     ∙ ap (λ (k : ℕ). take k nodes) (sym (add-one i))))
 
-pub lines_behind : (kind : CertKind) (answers : AnswerWidth) (claims : List ℕ) (nodes : List Node) (rest : List ℕ)
+pub lines_behind : (kind : CertKind) (answers : Width) (claims : List ℕ) (nodes : List Node) (rest : List ℕ)
     → lines_of kind answers claims nodes ++ rest
     ≡ version_line kind answers ++ (claim_line claims ++ (node_lines nodes ++ rest))
 lines_behind kind answers claims nodes rest =
     append_assoc (version_line kind answers) (claim_line claims ++ node_lines nodes) rest
     ∙ ap (λ (t : List ℕ). version_line kind answers ++ t) (append_assoc (claim_line claims) (node_lines nodes) rest)
 
-pub lines_of-snoc : (kind : CertKind) (answers : AnswerWidth) (claims : List ℕ) (nodes : List Node)
+pub lines_of-snoc : (kind : CertKind) (answers : Width) (claims : List ℕ) (nodes : List Node)
     (node : Node) (rest : List ℕ)
     → lines_of kind answers claims (nodes ++ node ∷ []) ++ rest ≡ lines_of kind answers claims nodes ++ (node_line node ++ rest)
 lines_of-snoc kind answers claims nodes node rest =
@@ -66,7 +67,7 @@ lines_of-snoc kind answers claims nodes node rest =
     ∙ sym (lines_behind kind answers claims nodes (node_line node ++ rest))
 
 -- the nodes that a text begins with, and one more
-pub begins_more : (kind : CertKind) (answers : AnswerWidth) (text claims : List ℕ) (nodes : List Node)
+pub begins_more : (kind : CertKind) (answers : Width) (text claims : List ℕ) (nodes : List Node)
     (n m : ℕ) (rest behind : List ℕ)
     (node : Node) → Begins kind answers text claims nodes n rest → rest ≡ node_line node ++ behind
     → IsNode kind (length claims) node

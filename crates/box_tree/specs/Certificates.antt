@@ -1,7 +1,8 @@
 -- Which text has which certificate, and the first fault of a text that has none.
 -- Beside the promise.
 use Rattle.std.specs.Prelude.{◌≡◌, ◌≢◌, ◌↔◌, ℕ, ◌+◌, ◌<◌, ◌≤◌, List, [], ◌++◌, length, All, Some}
-use Rattle.box_tree.specs.declared.{cert.CertKind.CertKind, cert.AnswerWidth.AnswerWidth, cert.LeafForm.LeafForm}
+use Rattle.byte_scaling.specs.declared.width.Width.{Width}
+use Rattle.box_tree.specs.declared.{cert.CertKind.CertKind, cert.LeafForm.LeafForm}
 use Rattle.box_tree.specs.declared.cert.CertKind.TheVariants.{Named, Tight}
 use Rattle.box_tree.specs.declared.cert.LeafForm.TheVariants as form
 use Rattle.box_tree.specs.declared.{cert.Node.Node, cert.Cert.Cert, cert.CertFault.CertFault}
@@ -47,12 +48,12 @@ pub record IsCert (kind : CertKind) (cert : Cert) : Type 0 where
   pub few_leaves : leaf_count cert.nodes ≤ 4096
 
 -- the text is that of the certificate, which is of this kind and for answers of this width
-pub record CertText (kind : CertKind) (answers : AnswerWidth) (text : List ℕ) (cert : Cert) : Type 0 where
+pub record CertText (kind : CertKind) (answers : Width) (text : List ℕ) (cert : Cert) : Type 0 where
   pub good : IsCert kind cert
   pub lines : text ≡ lines_of kind answers cert.claims cert.nodes
 
 -- the text begins with whole lines of claims and nodes, of which none is at fault, and leaves this many boxes open
-pub record Begins (kind : CertKind) (answers : AnswerWidth) (text claims : List ℕ) (nodes : List Node) (open_boxes : ℕ)
+pub record Begins (kind : CertKind) (answers : Width) (text claims : List ℕ) (nodes : List Node) (open_boxes : ℕ)
     (rest : List ℕ) : Type 0 where
   pub lines : text ≡ lines_of kind answers claims nodes ++ rest
   pub good_claims : AreClaims claims
@@ -73,7 +74,7 @@ abbrev pub line_behind : List Node → ℕ
 line_behind nodes = length nodes + 3
 
 -- the first fault of a text that is to have a certificate of this kind, for answers of this width
-pub data HasFault (kind : CertKind) (answers : AnswerWidth) (text : List ℕ) : CertFault → Type 0 where
+pub data HasFault (kind : CertKind) (answers : Width) (text : List ℕ) : CertFault → Type 0 where
   bad_version : text ≢ [] → ((rest : List ℕ) → text ≢ version_line kind answers ++ rest)
       → HasFault kind answers text (BadLine 1)
   no_version : text ≡ [] → HasFault kind answers text Early

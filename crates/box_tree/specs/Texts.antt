@@ -1,9 +1,10 @@
 -- The lines of a certificate's text: a word, numbers, and the end of the line.
 -- Beside the promise.
 use Rattle.std.specs.Prelude.{ℕ, List, [], ◌∷◌, ◌++◌, codes, decimal}
-use Rattle.box_tree.specs.declared.{cert.CertKind.CertKind, cert.AnswerWidth.AnswerWidth, cert.LeafForm.LeafForm}
+use Rattle.byte_scaling.specs.declared.width.Width.{Width}
+use Rattle.box_tree.specs.declared.{cert.CertKind.CertKind, cert.LeafForm.LeafForm}
 use Rattle.box_tree.specs.declared.cert.CertKind.TheVariants.{Named, Tight}
-use Rattle.box_tree.specs.declared.cert.AnswerWidth.TheVariants.{Byte, Word}
+use Rattle.byte_scaling.specs.declared.width.Width.TheVariants.{Byte, Word}
 use Rattle.box_tree.specs.declared.cert.LeafForm.TheVariants as form
 use Rattle.box_tree.specs.declared.{cert.Node.Node, cert.Node.TheVariants.Split, cert.Node.TheVariants.Leaf}
 
@@ -16,13 +17,13 @@ abbrev pub line : List ℕ → List ℕ → List ℕ
 line word ns = word ++ (numbers ns ++ codes "\n")
 
 -- the version of the texts of certificates of this kind, for answers of this width
-abbrev pub version_of : CertKind → AnswerWidth → ℕ
+abbrev pub version_of : CertKind → Width → ℕ
 version_of Named Byte = 1
 version_of Named Word = 2
 version_of Tight Byte = 3
 version_of Tight Word = 4
 
-abbrev pub version_line : CertKind → AnswerWidth → List ℕ
+abbrev pub version_line : CertKind → Width → List ℕ
 version_line kind answers = line (codes "FZC") (version_of kind answers ∷ [])
 
 abbrev pub claim_line : List ℕ → List ℕ
@@ -48,5 +49,5 @@ node_lines [] = []
 node_lines (node ∷ nodes) = node_line node ++ node_lines nodes
 
 -- the version, the claims, and then the nodes
-abbrev pub lines_of : CertKind → AnswerWidth → List ℕ → List Node → List ℕ
+abbrev pub lines_of : CertKind → Width → List ℕ → List Node → List ℕ
 lines_of kind answers claims nodes = version_line kind answers ++ (claim_line claims ++ node_lines nodes)

@@ -21,15 +21,6 @@ pub enum CertKind {
     Tight,
 }
 
-/// How wide the answers are that a certificate is for.
-#[derive(Clone, Copy, PartialEq, Eq, Debug)]
-pub enum AnswerWidth {
-    /// 8 bits.
-    Byte,
-    /// 16 bits.
-    Word,
-}
-
 /// A node of a tree of boxes.
 #[derive(Clone, PartialEq, Eq, Debug, Drop)]
 pub enum Node {

@@ -1,7 +1,7 @@
 //! Certificates as text: a claim for each output, and a tree of boxes in prefix order.
 //!
 //! A [`Cert`] holds the claims and the nodes of the tree. Its leaves name rules, or are tight: a [`CertKind`] says
-//! which, and an [`AnswerWidth`] which answers it is for. [`read`] answers exactly the certificate that
+//! which, and an [`Width`] which answers it is for. [`read`] answers exactly the certificate that
 //! a text spells, or exactly its first fault; [`write`] answers the text, and what is written is read
 //! to the same. [`Lines`] reads a text node by node without memory: a caller knows at each node which
 //! nodes the text begins with, at the end that they are its certificate, and at a fault that it is
@@ -17,7 +17,7 @@ mod reader;
 mod text;
 mod writer;
 
-pub use cert::{AnswerWidth, Cert, CertFault, CertKind, LeafForm, Node};
+pub use cert::{Cert, CertFault, CertKind, LeafForm, Node};
 pub use laws::{cert_texts_have_no_fault, certs_are_one, faults_are_one, open_boxes_go_on};
 pub use lines::Lines;
 pub use reader::{read, read_for, read16};

@@ -1,14 +1,15 @@
 //! A certificate's text, node by node.
-ghost use Rattle.std.specs.Prelude.{◌≡◌, ◌≢◌, ◌≤◌, ◌<◌, ◌+◌, ℕ, List, [], ◌∷◌, ◌++◌, length, MatchOption, IfSome, IfOk};
+ghost use Rattle.std.specs.Prelude.{◌≡◌, ◌≤◌, ◌<◌, ◌+◌, ℕ, List, [], ◌∷◌, ◌++◌, length, MatchOption, IfSome, IfOk};
 ghost use Rattle.std.specs.Prelude.{IfErr, Err};
-ghost use Rattle.box_tree.specs.declared.cert.CertKind.{CertKind as TheKind};
-ghost use Rattle.box_tree.specs.declared.{cert.AnswerWidth.AnswerWidth as TheWidth, cert.Node.Node as TheNode};
+ghost use Rattle.box_tree.specs.declared.{cert.CertKind.CertKind as TheKind, cert.Node.Node as TheNode};
 ghost use Rattle.box_tree.specs.declared.cert.CertFault.{CertFault as TheFault};
+ghost use Rattle.byte_scaling.specs.declared.width.Width.{Width as TheWidth};
 
-use crate::cert::{AnswerWidth, CertFault, CertKind, Node};
+use crate::cert::{CertFault, CertKind, Node};
 use crate::header::{behind_version, claims_at, copy_of};
 use crate::nodes::node_at;
 use arrayvec::ArrayVec;
+use byte_scaling::Width;
 
 /// The most leaves of a certificate, whatever their lines say.
 const MOST_LEAVES: u32 = 4096;
@@ -39,23 +40,23 @@ impl<'a> Lines<'a> {
     /// The reader of a text of version 1, behind its claims.
     pub fn new(text: &'a [u8]) -> Result<Lines<'a>, CertFault>
         requires { length text.now ≤ 1048576 }
-        ensures begun { IfOk result (HasRead CertKind.Named AnswerWidth.Byte text.now []) }
-        ensures fault { IfErr result (HasFault CertKind.Named AnswerWidth.Byte text.now) }
+        ensures begun { IfOk result (HasRead CertKind.Named Width.Byte text.now []) }
+        ensures fault { IfErr result (HasFault CertKind.Named Width.Byte text.now) }
     {
-        Lines::of(text, CertKind::Named, AnswerWidth::Byte)
+        Lines::of(text, CertKind::Named, Width::Byte)
     }
 
     /// The reader of a text of version 2, which is that of a certificate for answers of 16 bits.
     pub fn new16(text: &'a [u8]) -> Result<Lines<'a>, CertFault>
         requires { length text.now ≤ 1048576 }
-        ensures begun { IfOk result (HasRead CertKind.Named AnswerWidth.Word text.now []) }
-        ensures fault { IfErr result (HasFault CertKind.Named AnswerWidth.Word text.now) }
+        ensures begun { IfOk result (HasRead CertKind.Named Width.Word text.now []) }
+        ensures fault { IfErr result (HasFault CertKind.Named Width.Word text.now) }
     {
-        Lines::of(text, CertKind::Named, AnswerWidth::Word)
+        Lines::of(text, CertKind::Named, Width::Word)
     }
 
     /// The reader of a text that is to have a certificate of this kind, for answers of this width.
-    pub fn of(text: &'a [u8], kind: CertKind, answers: AnswerWidth) -> Result<Lines<'a>, CertFault>
+    pub fn of(text: &'a [u8], kind: CertKind, answers: Width) -> Result<Lines<'a>, CertFault>
         requires { length text.now ≤ 1048576 }
         ensures begun { IfOk result (HasRead kind answers text.now []) }
         ensures fault { IfErr result (HasFault kind answers text.now) }

@@ -1,34 +1,35 @@
 //! Whole certificates from texts.
 ghost use Rattle.std.specs.Prelude.{◌≡◌, ◌≢◌, ◌≤◌, ℕ, List as Items, [], length, IfOk, IfErr};
 ghost use Rattle.box_tree.specs.declared.cert.CertKind.{CertKind as TheKind};
-ghost use Rattle.box_tree.specs.declared.cert.AnswerWidth.{AnswerWidth as TheWidth};
+ghost use Rattle.byte_scaling.specs.declared.width.Width.{Width as TheWidth};
 ghost use Rattle.box_tree.specs.{Certificates.CertText, Certificates.HasFault, Reading.HasRead};
 
-use crate::cert::{AnswerWidth, Cert, CertFault, CertKind, Node};
+use crate::cert::{Cert, CertFault, CertKind, Node};
 use crate::lines::Lines;
 use arrayvec::ArrayVec;
+use byte_scaling::Width;
 use fz_list::List;
 use std::alloc::Global;
 
 /// The certificate of a text of version 1, or the text's first fault.
 pub fn read(alloc: Global, text: &[u8]) -> Result<Cert, CertFault>
     requires { length text.now ≤ 1048576 }
-    ensures cert { IfOk result (CertText CertKind.Named AnswerWidth.Byte text.now) }
+    ensures cert { IfOk result (CertText CertKind.Named Width.Byte text.now) }
     ensures fault { IfErr result (λ fault.
-        fault ≢ CertFault.Memory → HasFault CertKind.Named AnswerWidth.Byte text.now fault) }
+        fault ≢ CertFault.Memory → HasFault CertKind.Named Width.Byte text.now fault) }
 {
-    read_for(alloc, text, CertKind::Named, AnswerWidth::Byte)
+    read_for(alloc, text, CertKind::Named, Width::Byte)
 }
 
 /// The certificate of a text of version 2, which is for answers of 16 bits, or the text's first
 /// fault.
 pub fn read16(alloc: Global, text: &[u8]) -> Result<Cert, CertFault>
     requires { length text.now ≤ 1048576 }
-    ensures cert { IfOk result (CertText CertKind.Named AnswerWidth.Word text.now) }
+    ensures cert { IfOk result (CertText CertKind.Named Width.Word text.now) }
     ensures fault { IfErr result (λ fault.
-        fault ≢ CertFault.Memory → HasFault CertKind.Named AnswerWidth.Word text.now fault) }
+        fault ≢ CertFault.Memory → HasFault CertKind.Named Width.Word text.now fault) }
 {
-    read_for(alloc, text, CertKind::Named, AnswerWidth::Word)
+    read_for(alloc, text, CertKind::Named, Width::Word)
 }
 
 /// The certificate of this kind, for answers of this width, that a text has, or the text's first fault.
@@ -36,7 +37,7 @@ pub fn read_for(
     alloc: Global,
     text: &[u8],
     kind: CertKind,
-    answers: AnswerWidth,
+    answers: Width,
 ) -> Result<Cert, CertFault>
     requires { length text.now ≤ 1048576 }
     ensures cert { IfOk result (CertText kind answers text.now) }

@@ -1,29 +1,29 @@
 //! Texts from whole certificates.
-ghost use Rattle.std.specs.Prelude.{◌≡◌, ◌≤◌, ◌++◌, length, IfOk, OnOk};
-ghost use Rattle.arrayvec.specs.ArrayVec.{array_vec_len};
+ghost use Rattle.std.specs.Prelude.{◌≡◌, ◌++◌, IfOk, OnOk};
 ghost use Rattle.box_tree.specs.Certificates.{CertText, IsCert};
 ghost use Rattle.box_tree.specs.Texts.{line, lines_of, node_line, node_lines, pair_numbers};
 
-use crate::cert::{AnswerWidth, Cert, CertKind, LeafForm, Node};
+use crate::cert::{Cert, CertKind, LeafForm, Node};
 use crate::header::version_of;
 use arrayvec::ArrayVec;
+use byte_scaling::Width;
 use itoa::Buffer;
 use std::alloc::{AllocError, Global};
 
 /// The text of a certificate that names rules, of version 1.
 pub fn write(alloc: Global, cert: &Cert) -> Result<Vec<u8>, AllocError>
     requires { IsCert CertKind.Named cert.now }
-    ensures { IfOk result (λ text. CertText CertKind.Named AnswerWidth.Byte text.items cert.now) }
+    ensures { IfOk result (λ text. CertText CertKind.Named Width.Byte text.items cert.now) }
 {
-    write_for(alloc, cert, CertKind::Named, AnswerWidth::Byte)
+    write_for(alloc, cert, CertKind::Named, Width::Byte)
 }
 
 /// The text of a certificate that names rules, for answers of 16 bits, of version 2.
 pub fn write16(alloc: Global, cert: &Cert) -> Result<Vec<u8>, AllocError>
     requires { IsCert CertKind.Named cert.now }
-    ensures { IfOk result (λ text. CertText CertKind.Named AnswerWidth.Word text.items cert.now) }
+    ensures { IfOk result (λ text. CertText CertKind.Named Width.Word text.items cert.now) }
 {
-    write_for(alloc, cert, CertKind::Named, AnswerWidth::Word)
+    write_for(alloc, cert, CertKind::Named, Width::Word)
 }
 
 /// The text of a certificate of this kind, for answers of this width: of version 1 or 2 where it names rules,
@@ -32,7 +32,7 @@ pub fn write_for(
     alloc: Global,
     cert: &Cert,
     kind: CertKind,
-    answers: AnswerWidth,
+    answers: Width,
 ) -> Result<Vec<u8>, AllocError>
     requires { IsCert kind cert.now }
     ensures { IfOk result (λ text. CertText kind answers text.items cert.now) }
@@ -44,7 +44,7 @@ fn text_of(
     alloc: Global,
     cert: &Cert,
     kind: CertKind,
-    answers: AnswerWidth,
+    answers: Width,
 ) -> Result<Vec<u8>, AllocError>
     ensures { IfOk result (λ text. text.items ≡ lines_of kind answers cert.now.claims cert.now.nodes) }
 {

@@ -1,12 +1,12 @@
 -- Contents that are accepted make an output.
 use Rattle.std.proofs.Common.{ℕ, List, refl}
 use Rattle.fuzzy_meaning.specs.declared.block.Block.{Block}
-use Rattle.codegen.specs.declared.firmware.Firmware.{Firmware}
+use Rattle.alone_code.specs.declared.firmware.Firmware.{Firmware}
 use Rattle.build_commands.specs.{Accepted.AcceptedContentsMakeOutput, Asm.AsmAccepts, Asm.AsmMakes}
+use Rattle.build_commands.specs.{Written.GivesRecords, Written.WritesFirmware, declared.certify.Certify.Certify}
 use Rattle.build_commands.specs.Certify.{CertifyAccepts, CertifyMakes}
 use Rattle.build_commands.specs.Lcompile.{LcompileAccepts, LcompileMakes}
-use Rattle.build_commands.specs.SeenOutputs.{HasOutput, SeenOutput}
-use Rattle.build_commands.specs.{Written.GivesRecords, Written.WritesFirmware, declared.certify.Certify.Certify}
+use Rattle.command_parts.specs.SeenOutputs.{HasOutput, SeenOutput}
 
 asm_made : (source : List ℕ) → AsmAccepts source → HasOutput (AsmMakes source)
 asm_made source (image, a) = (

@@ -3,8 +3,8 @@ use Rattle.std.proofs.Common.{◌≡◌, ℕ, List, [], ◌∷◌, ◌++◌, ◌
 use Rattle.std.specs.Prelude.{String, string_bytes}
 use Rattle.std.specs.declared.alloc.Global.{Global}
 use Rattle.fz_shelf.specs.Lines.{text_of}
-use Rattle.build_commands.specs.Lines.{counted, error_line, line}
-use Rattle.build_commands.proofs.Algebra.{text_of-snoc}
+use Rattle.command_parts.specs.Lines.{counted, error_line, line}
+use Rattle.command_parts.proofs.Algebra.{text_of-snoc}
 
 pub errors_written : (none errors lines : List (String Global)) (last : String Global) (es label : List ℕ) (n : ℕ)
     → none ≡ [] → text_of errors ≡ text_of none ++ counted error_line 1 es

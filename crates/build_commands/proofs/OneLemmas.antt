@@ -1,33 +1,25 @@
 -- Files make at most one output.
-use Rattle.std.proofs.Common.{◌≡◌, ◌≤◌, ◌∙◌, ℕ, List, sym, ap, subst, arith}
+use Rattle.std.proofs.Common.{◌≡◌, ◌∙◌, ℕ, List, sym, ap, subst}
 use Rattle.std.specs.Prelude.{Ok, Result, Some, length}
 use Rattle.fuzzy_meaning.specs.declared.block.Block.{Block}
 use Rattle.box_tree.specs.{Texts.lines_of, Trees.leaf_count, declared.cert.Cert.Cert}
-use Rattle.cert_check.specs.{Laws.TextAnswersAreOne, declared.text.TextFault.TextFault}
 use Rattle.cpu12_emul.specs.{Image.ImagesLoadAlike, Image.image_memory, Run.EndsRun, Run.RunsEndOnce, Step.reset_with}
 use Rattle.cpu12_emul.specs.declared.ends.RunEnd.TheVariants as end
 use Rattle.cpu12_parts.specs.State.{State}
 use Rattle.error_certifier.specs.{Halving.IsHalving, Laws.AnswersAreOne, declared.certifier.NotReached.NotReached}
-use Rattle.eval_code.specs.{Bounds.instruction_bound, Bounds.steps_by, Widths.parts}
-use Rattle.eval_code.specs.declared.width.Width.TheVariants.{Byte}
-use Rattle.codegen.specs.declared.firmware.Firmware.{Firmware}
+use Rattle.eval_code.specs.Bounds.{instruction_bound, steps_by}
+use Rattle.byte_scaling.specs.{Widths.parts, declared.width.Width.TheVariants.Byte}
+use Rattle.alone_code.specs.declared.firmware.Firmware.{Firmware}
 use Rattle.cpu12_asm.specs.declared.image.Image.{Image}
 use Rattle.srecord.specs.{Images.ImageText, Laws.ImageTextsAreOne, Laws.ImagesAreOne}
-use Rattle.two_level.specs.{Images.fast_most, declared.two.Two.Two}
+use Rattle.two_level_code.specs.{Images.fast_most, declared.two.Two.Two}
 use Rattle.build_commands.specs.{Certify.CertifyMakes, Certify.certify_lines, Check.CheckMakes, Check.check_lines}
-use Rattle.build_commands.specs.Certs.{AcceptedErrorsAreOne, AcceptsCert, answer_width}
-use Rattle.build_commands.specs.{Exec.ExecMakes, Exec.exec_line, Firmwares.GivenFirmwaresAreOne}
-use Rattle.build_commands.specs.{Lcompile.LcompileMakes, Lcompile.lcompile_lines, Twos.GivenTwosAreOne}
+use Rattle.build_commands.specs.{Exec.ExecMakes, Exec.exec_line, Lcompile.LcompileMakes, Lcompile.lcompile_lines}
+use Rattle.command_parts.specs.Certs.{AcceptedErrorsAreOne, AcceptsCert}
+use Rattle.command_parts.specs.SeenOutputs.{OutputsAreOne, SeenOutput, only_text}
+use Rattle.command_parts.specs.{Firmwares.GivenFirmwaresAreOne, Twos.GivenTwosAreOne}
 use Rattle.build_commands.specs.Written.{WritesFirmware, WritesImage, compile_lines}
-use Rattle.build_commands.specs.SeenOutputs.{OutputsAreOne, SeenOutput, only_text}
 use Rattle.build_commands.specs.declared.{certify.Certify.Certify, check.Check.Check, exec.Exec.Exec}
-
-pub errors_are_one : TextAnswersAreOne → AcceptedErrorsAreOne
-errors_are_one one kind width block cert errors others valid a b =
-    let x : Result (List ℕ) TextFault = Ok errors in
-    let y : Result (List ℕ) TextFault = Ok others in
-    let same : x ≡ y = one block (parts width) kind (answer_width width) cert x y valid a b in
-    cc
 
 pub checks_once : GivenFirmwaresAreOne → AcceptedErrorsAreOne → (check : Check) (text cert : List ℕ)
     → OutputsAreOne (CheckMakes check text cert)
@@ -50,7 +42,7 @@ certifies_once firmwares answers certify text output other a b =
     b.halving) in
     let cert : a.cert ≡ b.cert = cc in
     let out : a.out ≡ b.out = a.spelled.lines
-    ∙ (λ i. lines_of certify.kind (answer_width certify.width) (cert i).claims (cert i).nodes) ∙ sym b.spelled.lines in
+    ∙ (λ i. lines_of certify.kind certify.width (cert i).claims (cert i).nodes) ∙ sym b.spelled.lines in
     a.output_is
     ∙ (λ i. record { text = certify_lines (cert i).claims (leaf_count (cert i).nodes); file = Some (4, out i) })
     ∙ sym b.output_is

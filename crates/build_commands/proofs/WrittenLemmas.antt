@@ -4,12 +4,12 @@ use Rattle.std.specs.Prelude.{IfErr, IfOk, Result, Ok, Err}
 use Rattle.cpu12_asm.specs.declared.image.Image.{Image}
 use Rattle.fuzzy_meaning.specs.declared.block.Block.{Block}
 use Rattle.eval_code.specs.Bounds.{steps_by}
-use Rattle.codegen.specs.declared.firmware.Firmware.{Firmware}
+use Rattle.alone_code.specs.declared.firmware.Firmware.{Firmware}
 use Rattle.fz_status.specs.declared.status.Status.{Status}
 use Rattle.fz_status.specs.declared.status.Status.TheVariants as status
-use Rattle.build_commands.specs.SeenOutputs.{SeenOutput, IsFaultOf, IsResultOf, seen_output}
+use Rattle.command_parts.specs.SeenOutputs.{SeenOutput, IsFaultOf, IsResultOf, seen_output}
+use Rattle.command_parts.specs.declared.output.Output.{Output}
 use Rattle.build_commands.specs.Written.{WritesFirmware, WritesImage, compile_lines}
-use Rattle.build_commands.specs.declared.output.Output.{Output}
 
 pub written_makes : (makes : Result SeenOutput Status → Type 0) (image : Image) (place : ℕ) (text : List ℕ)
     (result : Result Output Status)

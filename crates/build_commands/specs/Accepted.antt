@@ -6,9 +6,9 @@ use Rattle.build_commands.specs.{Check.CheckAccepts, Check.CheckMakes, Compile.C
 use Rattle.build_commands.specs.{Exec.ExecAccepts, Exec.ExecMakes, Hcheck.HcheckAccepts, Hcheck.HcheckMakes}
 use Rattle.build_commands.specs.Lcompile.{LcompileAccepts, LcompileMakes}
 use Rattle.build_commands.specs.Mcompile.{McompileAccepts, McompileMakes}
-use Rattle.build_commands.specs.{Scompile.ScompileAccepts, Scompile.ScompileMakes, SeenOutputs.HasOutput}
+use Rattle.build_commands.specs.{Scompile.ScompileAccepts, Scompile.ScompileMakes, declared.exec.Exec.Exec}
 use Rattle.build_commands.specs.declared.{certify.Certify.Certify, check.Check.Check, compile.Compile.Compile}
-use Rattle.build_commands.specs.declared.exec.Exec.{Exec}
+use Rattle.command_parts.specs.SeenOutputs.{HasOutput}
 
 -- so it is with each command
 pub record AcceptedContentsMakeOutput : Type 0 where

@@ -3,7 +3,8 @@
 use Rattle.std.specs.Prelude.{◌≡◌, ℕ, List, [], ◌∷◌, length, codes, Result, Ok, Err}
 use Rattle.cpu12_asm.specs.{Bytes.IsAscending, Bytes.start_of, Sources.Assembles, Sources.assembled}
 use Rattle.cpu12_asm.specs.declared.image.Image.{Image}
-use Rattle.build_commands.specs.{SeenOutputs.SeenOutput, Lines.line, Written.HasRecords, Written.WritesImage}
+use Rattle.command_parts.specs.{SeenOutputs.SeenOutput, Lines.line}
+use Rattle.build_commands.specs.Written.{HasRecords, WritesImage}
 use Rattle.fz_status.specs.{Refusals.Refusals, Refusals.Refuses, declared.status.Status.Status}
 use Rattle.fz_status.specs.declared.status.Status.TheVariants as status
 

@@ -1,20 +1,20 @@
 -- The commands `certify FCL TARGET OUT`, `certify16 ..`, and `tcertify ..` and `tcertify16 ..` for tight certificates.
 -- Beside the promise.
 use Rattle.std.specs.Prelude.{◌≡◌, ◌≤◌, ℕ, List, [], ◌∷◌, ◌++◌, All, codes, Option, Some, option_map, Result, Ok, Err}
-use Rattle.fuzzy_meaning.specs.{Blocks.IsValid, declared.block.Block.Block}
-use Rattle.eval_code.specs.{Widths.parts, declared.width.Width.Width}
-use Rattle.codegen.specs.declared.firmware.Firmware.{Firmware}
+use Rattle.fuzzy_meaning.specs.{declared.block.Block.Block}
+use Rattle.byte_scaling.specs.{Widths.parts, declared.width.Width.Width}
+use Rattle.alone_code.specs.declared.firmware.Firmware.{Firmware}
 use Rattle.box_tree.specs.{Certificates.CertText, Certificates.IsCert, Trees.leaf_count}
 use Rattle.box_tree.specs.declared.{cert.CertKind.CertKind, cert.Cert.Cert}
-use Rattle.error_certifier.specs.{Halving.IsHalving, Halving.StopsAt, Laws.SaysOutOfReach}
+use Rattle.error_certifier.specs.{Halving.IsHalving}
 use Rattle.error_certifier.specs.declared.certifier.NotReached.{NotReached}
 use Rattle.fz_status.specs.{Refusals.Refusals, Refusals.Refuses, Words.Text, Words.word_at}
 use Rattle.fz_status.specs.declared.status.Status.{Status}
 use Rattle.fz_status.specs.declared.status.Status.TheVariants as status
-use Rattle.build_commands.specs.{Certs.answer_width, SeenOutputs.SeenOutput, Words.number_of}
-use Rattle.build_commands.specs.Firmwares.{GivesFirmware, RefusesText}
-use Rattle.build_commands.specs.Lines.{counted, error_line, line}
 use Rattle.build_commands.specs.declared.certify.Certify.{Certify}
+use Rattle.command_parts.specs.{SeenOutputs.SeenOutput, Certs.StopsHalving, Words.number_of, Firmwares.GivesFirmware}
+use Rattle.command_parts.specs.{Firmwares.RefusesText}
+use Rattle.command_parts.specs.Lines.{counted, error_line, line}
 
 abbrev pub certify_with : CertKind → Width → ℕ → Certify
 certify_with kind width target = record { kind = kind; width = width; target = target }
@@ -44,21 +44,10 @@ pub record CertifyGives (certify : Certify) (text : List ℕ) (output : SeenOutp
   pub halving : IsHalving certify.kind block (parts certify.width) certify.target cert
   pub within : All (λ error. error ≤ certify.target) cert.claims
   pub out : List ℕ
-  pub spelled : CertText certify.kind (answer_width certify.width) out cert
+  pub spelled : CertText certify.kind certify.width out cert
   pub output_is : output ≡ record { text = certify_lines cert.claims (leaf_count cert.nodes); file = Some (4, out) }
 
--- halving for this kind stops so, and for a cell no certificate that is accepted has a smaller error: for tight ones
--- none at all, for those that name rules none that does
-pub record StopsHalving (kind : CertKind) (width : Width) (target : ℕ) (block : Block) (stop : NotReached)
-    : Type 0 where
-  pub stops : StopsAt kind block (parts width) target stop
-  pub out_of_reach : SaysOutOfReach kind block (parts width) target stop
-
 -- why its file is refused: the text first
-abbrev pub target_refusals : CertKind → Width → ℕ → Block → Refusals
-target_refusals kind width target block (status.NotReached stop) = StopsHalving kind width target block stop
-target_refusals kind width target block s = ⊥
-
 abbrev pub certify_refusals : Certify → List ℕ → Refusals
 certify_refusals certify text (status.Fcl f) = RefusesText text f
 certify_refusals certify text (status.NotReached stop) =
@@ -69,12 +58,6 @@ certify_refusals certify text s = ⊥
 abbrev pub CertifyMakes : Certify → List ℕ → Result SeenOutput Status → Type 0
 CertifyMakes certify text (Ok output) = CertifyGives certify text output
 CertifyMakes certify text (Err s) = Refuses (certify_refusals certify text) s
-
--- halving does not stop at a block with a certificate of it
-abbrev pub HalvedBlocksDoNotStop : Type 0
-HalvedBlocksDoNotStop =
-    (kind : CertKind) (width : Width) (target : ℕ) (block : Block) (cert : Cert) (stop : NotReached) → IsValid block
-    → IsHalving kind block (parts width) target cert → StopsHalving kind width target block stop → ⊥
 
 -- the text gives firmware with answers of this width, and halving its block ends with this certificate, within the
 -- target

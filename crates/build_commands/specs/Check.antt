@@ -2,12 +2,14 @@
 -- Beside the promise.
 use Rattle.std.specs.Prelude.{◌≡◌, ℕ, List, [], ◌∷◌, ◌++◌, codes, Result, Ok, Err}
 use Rattle.fuzzy_meaning.specs.declared.block.Block.{Block}
-use Rattle.eval_code.specs.{Bounds.instruction_bound, declared.width.Width.Width}
-use Rattle.codegen.specs.declared.firmware.Firmware.{Firmware}
+use Rattle.eval_code.specs.Bounds.{instruction_bound}
+use Rattle.byte_scaling.specs.declared.width.Width.{Width}
+use Rattle.alone_code.specs.declared.firmware.Firmware.{Firmware}
 use Rattle.box_tree.specs.declared.cert.CertKind.{CertKind}
-use Rattle.build_commands.specs.{Certs.AcceptsCert, Certs.RefusesCert, SeenOutputs.SeenOutput, SeenOutputs.only_text}
-use Rattle.build_commands.specs.{Firmwares.GivesFirmware, Firmwares.RefusesText, declared.check.Check.Check}
-use Rattle.build_commands.specs.Lines.{counted, error_line, line}
+use Rattle.command_parts.specs.{Certs.AcceptsCert, Certs.RefusesCert, SeenOutputs.SeenOutput, SeenOutputs.only_text}
+use Rattle.command_parts.specs.Firmwares.{GivesFirmware, RefusesText}
+use Rattle.command_parts.specs.Lines.{counted, error_line, line}
+use Rattle.build_commands.specs.declared.check.Check.{Check}
 use Rattle.fz_status.specs.{Refusals.Refusals, Refusals.Refuses, declared.status.Status.Status}
 use Rattle.fz_status.specs.declared.status.Status.TheVariants as status
 

@@ -1,8 +1,9 @@
 -- The commands `compile FCL OUT` and `compile16 FCL OUT`.
 -- Beside the promise.
 use Rattle.std.specs.Prelude.{ℕ, List, [], ◌∷◌, Result, Ok, Err}
-use Rattle.eval_code.specs.{Bounds.instruction_bound, declared.width.Width.Width}
-use Rattle.build_commands.specs.{SeenOutputs.SeenOutput, Firmwares.GivesFirmware, Firmwares.text_refusals}
+use Rattle.eval_code.specs.Bounds.{instruction_bound}
+use Rattle.byte_scaling.specs.declared.width.Width.{Width}
+use Rattle.command_parts.specs.{SeenOutputs.SeenOutput, Firmwares.GivesFirmware, Firmwares.text_refusals}
 use Rattle.build_commands.specs.{Written.GivesRecords, Written.WritesFirmware, declared.compile.Compile.Compile}
 use Rattle.fz_status.specs.{Refusals.Refuses, declared.status.Status.Status}
 

@@ -8,8 +8,8 @@ use Rattle.cpu12_parts.specs.State.{State}
 use Rattle.cpu12_emul.specs.{Image.image_memory, Run.EndsRun, Step.reset_with, declared.ends.RunEnd.RunEnd}
 use Rattle.cpu12_emul.specs.declared.ends.RunEnd.TheVariants as end
 use Rattle.srecord.specs.Texts.{GivesImage}
-use Rattle.build_commands.specs.{SeenOutputs.SeenOutput, SeenOutputs.only_text, Images.records_refusals}
-use Rattle.build_commands.specs.{Lines.line, Lines.with_registers, Words.flags_of, Words.number_of}
+use Rattle.command_parts.specs.{SeenOutputs.SeenOutput, SeenOutputs.only_text, Images.records_refusals}
+use Rattle.command_parts.specs.{Lines.line, Lines.with_registers, Words.flags_of, Words.number_of}
 use Rattle.build_commands.specs.declared.exec.Exec.{Exec}
 use Rattle.fz_status.specs.{Refusals.Refusals, Refusals.Refuses, Words.Text, Words.word_at}
 use Rattle.fz_status.specs.declared.status.Status.{Status}

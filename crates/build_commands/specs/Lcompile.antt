@@ -2,9 +2,10 @@
 -- Beside the promise.
 use Rattle.std.specs.Prelude.{ℕ, List, [], ◌∷◌, ◌++◌, length, codes, Result, Ok, Err}
 use Rattle.fuzzy_meaning.specs.declared.block.Block.{Block}
-use Rattle.eval_code.specs.{Bounds.instruction_bound, declared.width.Width.TheVariants.Byte}
-use Rattle.two_level.specs.{Images.fast_most, declared.two.Two.Two}
-use Rattle.build_commands.specs.{SeenOutputs.SeenOutput, Lines.line, Twos.GivesTwo, Twos.two_refusals}
+use Rattle.eval_code.specs.Bounds.{instruction_bound}
+use Rattle.byte_scaling.specs.declared.width.Width.TheVariants.{Byte}
+use Rattle.two_level_code.specs.{Images.fast_most, declared.two.Two.Two}
+use Rattle.command_parts.specs.{SeenOutputs.SeenOutput, Lines.line, Twos.GivesTwo, Twos.two_refusals}
 use Rattle.build_commands.specs.Written.{HasRecords, WritesImage}
 use Rattle.fz_status.specs.{Refusals.Refuses, declared.status.Status.Status}
 

@@ -1,9 +1,9 @@
 -- The command `mcompile FCL OUT`.
 -- Beside the promise.
 use Rattle.std.specs.Prelude.{ℕ, List, Result, Ok, Err}
-use Rattle.codegen.specs.Mailboxes.{mailbox_bound}
-use Rattle.eval_code.specs.declared.width.Width.TheVariants.{Byte}
-use Rattle.build_commands.specs.{SeenOutputs.SeenOutput, Firmwares.GivesMailbox, Firmwares.text_refusals}
+use Rattle.alone_code.specs.Mailboxes.{mailbox_bound}
+use Rattle.byte_scaling.specs.declared.width.Width.TheVariants.{Byte}
+use Rattle.command_parts.specs.{SeenOutputs.SeenOutput, Firmwares.GivesMailbox, Firmwares.text_refusals}
 use Rattle.build_commands.specs.Written.{GivesRecords, WritesFirmware}
 use Rattle.fz_status.specs.{Refusals.Refuses, declared.status.Status.Status}
 

@@ -3,7 +3,7 @@
 use Rattle.std.specs.Prelude.{ℕ, List}
 use Rattle.build_commands.specs.{Certify.CertifyMakes, Check.CheckMakes, Compile.CompileMakes, Exec.ExecMakes}
 use Rattle.build_commands.specs.{Lcompile.LcompileMakes, Mcompile.McompileMakes, Scompile.ScompileMakes}
-use Rattle.build_commands.specs.SeenOutputs.{OutputsAreOne}
+use Rattle.command_parts.specs.SeenOutputs.{OutputsAreOne}
 use Rattle.build_commands.specs.declared.{certify.Certify.Certify, check.Check.Check, compile.Compile.Compile}
 use Rattle.build_commands.specs.declared.exec.Exec.{Exec}
 

@@ -2,7 +2,7 @@
 -- Beside the promise.
 use Rattle.std.specs.Prelude.{ℕ, List, [], ◌∷◌, Result, Ok, Err}
 use Rattle.watched_code.specs.Watched.{watched_bound}
-use Rattle.build_commands.specs.{SeenOutputs.SeenOutput, Firmwares.GivesWatched, Firmwares.text_refusals}
+use Rattle.command_parts.specs.{SeenOutputs.SeenOutput, Firmwares.GivesWatched, Firmwares.text_refusals}
 use Rattle.build_commands.specs.Written.{GivesRecords, WritesFirmware}
 use Rattle.fz_status.specs.{Refusals.Refuses, declared.status.Status.Status}
 

@@ -3,10 +3,10 @@
 use Rattle.std.specs.Prelude.{◌≡◌, ℕ, List, ◌++◌, length, codes, Some}
 use Rattle.fuzzy_meaning.specs.declared.block.Block.{Block}
 use Rattle.eval_code.specs.Bounds.{steps_by}
-use Rattle.codegen.specs.declared.firmware.Firmware.{Firmware}
+use Rattle.alone_code.specs.declared.firmware.Firmware.{Firmware}
 use Rattle.cpu12_asm.specs.declared.image.Image.{Image}
 use Rattle.srecord.specs.Images.{ImageText}
-use Rattle.build_commands.specs.{SeenOutputs.SeenOutput, Lines.line}
+use Rattle.command_parts.specs.{SeenOutputs.SeenOutput, Lines.line}
 
 -- the file of this word is to hold the records of the image, and this is the text for out
 pub record WritesImage (image : Image) (place : ℕ) (text : List ℕ) (output : SeenOutput) : Type 0 where

@@ -2,12 +2,12 @@
 ghost use Rattle.std.specs.Prelude.{◌≡◌, ◌≤◌, length, IfOk, List, ℕ};
 ghost use Rattle.fz_shelf.specs.Lines.{text_of};
 ghost use Rattle.std.specs.Prelude.{codes};
-ghost use Rattle.build_commands.specs.SeenOutputs.{OutputHasNoFault, IsResultOf};
-ghost use Rattle.build_commands.specs.{Lines.line, Asm.AsmMakes};
+ghost use Rattle.command_parts.specs.{SeenOutputs.OutputHasNoFault, SeenOutputs.IsResultOf, Lines.line};
+ghost use Rattle.build_commands.specs.Asm.{AsmMakes};
 
-use crate::lines::labelled;
-use crate::output::Output;
 use crate::written::written_image;
+use command_parts::lines::labelled;
+use command_parts::output::Output;
 use cpu12_asm::{AsmFault, Image, assemble};
 use fz_status::Status;
 use std::alloc::{AllocError, Global};

@@ -1,26 +1,21 @@
 //! The commands `certify FCL TARGET OUT`, `certify16 ..`, and `tcertify ..` and `tcertify16 ..` for tight certificates.
-ghost use Rattle.std.specs.Prelude.{◌≡◌, ◌≤◌, length, All, IfOk, IfErr, List, ℕ};
-ghost use Rattle.fuzzy_meaning.specs.Blocks.{IsValid};
-ghost use Rattle.eval_code.specs.Widths.{parts};
-ghost use Rattle.box_tree.specs.{Certificates.IsCert, Trees.leaf_count};
-ghost use Rattle.error_certifier.specs.Halving.{IsHalving};
+ghost use Rattle.std.specs.Prelude.{◌≡◌, ◌≤◌, length, IfOk, List, ℕ};
+ghost use Rattle.box_tree.specs.{Trees.leaf_count};
 ghost use Rattle.fz_shelf.specs.Lines.{text_of};
-ghost use Rattle.fz_status.specs.{Refusals.IsRefusal, Words.texts_of};
-ghost use Rattle.build_commands.specs.Certify.{CertifyMakes, certify_in, certify_lines, target_refusals};
-ghost use Rattle.build_commands.specs.Certify.{HalvedBlocksDoNotStop};
-ghost use Rattle.build_commands.specs.SeenOutputs.{OutputHasNoFault, OutputsAreOne, IsResultOf};
+ghost use Rattle.fz_status.specs.{Words.texts_of};
+ghost use Rattle.build_commands.specs.Certify.{CertifyMakes, certify_in, certify_lines};
 ghost use Rattle.build_commands.specs.declared.certify.Certify.{Certify as TheCertify};
+ghost use Rattle.command_parts.specs.SeenOutputs.{OutputHasNoFault, OutputsAreOne, IsResultOf};
 
-use crate::certs::answer_width;
-use crate::firmware::{firmware_of, given_firmwares_are_one, spelled_texts_have_no_fault};
-use crate::lines::{labelled, push_errors};
-use crate::output::Output;
-use crate::words::{Number, number_in};
 use box_tree::{Cert, CertKind, Node, write_for};
-use error_certifier::{NotReached, answers_are_one, certify_for};
-use eval_code::Width;
+use byte_scaling::Width;
+use command_parts::certs::{halved, halved_blocks_do_not_stop};
+use command_parts::firmware::{firmware_of, given_firmwares_are_one, spelled_texts_have_no_fault};
+use command_parts::lines::{labelled, push_errors};
+use command_parts::output::Output;
+use command_parts::words::{Number, number_in};
+use error_certifier::answers_are_one;
 use fcl_check::spelled_blocks_are_one;
-use fuzzy_meaning::Block;
 use fz_status::{Status, word};
 use std::alloc::{AllocError, Global};
 
@@ -63,34 +58,12 @@ impl Certify {
         let (kind, width) = (self.kind, self.width);
         let compiled = firmware_of(alloc, width, fcl)?;
         let cert = halved(alloc, kind, width, self.target.get(), &compiled.block)?;
-        let text = write_for(alloc, &cert, kind, answer_width(width))?;
+        let text = write_for(alloc, &cert, kind, width)?;
         let lines = lines(alloc, &cert)?;
         Ok(Output {
             lines,
             file: Some((OUT, text)),
         })
-    }
-}
-
-/// The certificate of this kind of a block's halving, for answers of this width.
-pub fn halved(
-    alloc: Global,
-    kind: CertKind,
-    width: Width,
-    target: u32,
-    block: &Block,
-) -> Result<Cert, Status>
-    requires block { IsValid block.now }
-    requires target { target ≤ 1000000 }
-    ensures halving { IfOk result (IsHalving kind block.now (parts width) target) }
-    ensures within { IfOk result (λ cert. All (λ error. error ≤ target) cert.claims) }
-    ensures cert { IfOk result (IsCert kind) }
-    ensures stops { IfErr result (IsRefusal (target_refusals kind width target block.now)) }
-{
-    match certify_for(alloc, block, target, kind, answer_width(width)) {
-        Ok(cert) => Ok(cert),
-        Err(NotReached::Memory) => Err(Status::Memory),
-        Err(stop) => Err(Status::NotReached(stop)),
     }
 }
 
@@ -119,13 +92,6 @@ fn lines(alloc: Global, cert: &Cert) -> Result<Vec<String>, AllocError>
     push_errors(alloc, &mut lines, errors)?;
     lines.push(labelled(alloc, "leaves ", u128::from(count_of_leaves(nodes)))?)?;
     Ok(lines)
-}
-
-/// Halving does not stop at a block with a certificate of it.
-pub fn halved_blocks_do_not_stop()
-    ensures { HalvedBlocksDoNotStop }
-{
-    answers_are_one()
 }
 
 /// A text that makes an output makes no fault.

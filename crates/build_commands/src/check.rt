@@ -1,15 +1,15 @@
 //! The commands `check FCL CERT`, `check16 ..`, and `tcheck ..` and `tcheck16 ..` of tight certificates.
 ghost use Rattle.std.specs.Prelude.{◌≡◌, ◌≤◌, length, IfOk, List, ℕ};
 ghost use Rattle.fz_shelf.specs.Lines.{text_of};
-ghost use Rattle.build_commands.specs.SeenOutputs.{OutputHasNoFault, OutputsAreOne, IsResultOf};
+ghost use Rattle.command_parts.specs.SeenOutputs.{OutputHasNoFault, OutputsAreOne, IsResultOf};
 ghost use Rattle.build_commands.specs.{Check.CheckMakes, Check.check_lines, declared.check.Check.Check as TheCheck};
 
-use crate::certs::{accepted_certs_have_no_fault, accepted_errors_are_one, errors_under};
-use crate::firmware::{firmware_of, given_firmwares_are_one, spelled_texts_have_no_fault};
-use crate::lines::{labelled, push_errors};
-use crate::output::Output;
 use box_tree::CertKind;
-use eval_code::Width;
+use byte_scaling::Width;
+use command_parts::certs::{accepted_certs_have_no_fault, accepted_errors_are_one, errors_under};
+use command_parts::firmware::{firmware_of, given_firmwares_are_one, spelled_texts_have_no_fault};
+use command_parts::lines::{labelled, push_errors};
+use command_parts::output::Output;
 use fcl_check::spelled_blocks_are_one;
 use fz_status::Status;
 use std::alloc::{AllocError, Global};

@@ -1,12 +1,12 @@
 //! The commands `compile FCL OUT` and `compile16 FCL OUT`.
 ghost use Rattle.std.specs.Prelude.{◌≤◌, length, List, ℕ};
-ghost use Rattle.build_commands.specs.{SeenOutputs.OutputHasNoFault, SeenOutputs.IsResultOf, Compile.CompileMakes};
-ghost use Rattle.build_commands.specs.declared.compile.Compile.{Compile as TheCompile};
+ghost use Rattle.command_parts.specs.SeenOutputs.{OutputHasNoFault, IsResultOf};
+ghost use Rattle.build_commands.specs.{Compile.CompileMakes, declared.compile.Compile.Compile as TheCompile};
 
-use crate::firmware::{firmware_of, spelled_texts_have_no_fault};
-use crate::output::Output;
 use crate::written::written_firmware;
-use eval_code::Width;
+use byte_scaling::Width;
+use command_parts::firmware::{firmware_of, spelled_texts_have_no_fault};
+use command_parts::output::Output;
 use fz_status::Status;
 use std::alloc::Global;
 

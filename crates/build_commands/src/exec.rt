@@ -1,15 +1,15 @@
 //! The command `exec IMAGE STEPS FLAGS`.
 ghost use Rattle.std.specs.Prelude.{◌≡◌, ◌≤◌, length, string_bytes, IfOk, List, ℕ};
 ghost use Rattle.fz_shelf.specs.Lines.{text_of};
-ghost use Rattle.build_commands.specs.SeenOutputs.{OutputHasNoFault, OutputsAreOne, IsResultOf};
+ghost use Rattle.command_parts.specs.SeenOutputs.{OutputHasNoFault, OutputsAreOne, IsResultOf};
 ghost use Rattle.build_commands.specs.Exec.{ExecMakes, exec_in, exec_line};
 ghost use Rattle.build_commands.specs.declared.exec.Exec.{Exec as TheExec};
 ghost use Rattle.fz_status.specs.Words.{texts_of};
 
-use crate::images::image_of;
-use crate::lines::{labelled, line_of_registers};
-use crate::output::Output;
-use crate::words::{flags, number_in};
+use command_parts::images::{given_records_have_no_fault, image_of};
+use command_parts::lines::{labelled, line_of_registers};
+use command_parts::output::Output;
+use command_parts::words::{flags, number_in};
 use cpu12_asm::Image;
 use cpu12_emul::ends::RunEnd;
 use cpu12_emul::laws::{images_load_alike, runs_end_once};
@@ -80,6 +80,7 @@ fn lines(alloc: Global, regs: &Regs, steps: u32) -> Result<Vec<String>, AllocErr
 pub fn ended_runs_have_no_fault()
     ensures { (exec : TheExec) (text : List ℕ) → OutputHasNoFault (ExecMakes exec text) }
 {
+    given_records_have_no_fault();
     images_are_one();
     images_load_alike();
     runs_end_once()

@@ -4,8 +4,10 @@ ghost use Rattle.build_commands.specs.{Accepted.AcceptedContentsMakeOutput, OneO
 use crate::certify::certify_outputs_are_one;
 use crate::check::check_outputs_are_one;
 use crate::exec::exec_outputs_are_one;
-use crate::firmware::{given_firmwares_are_one, given_mailboxes_are_one, given_watched_are_one};
-use crate::twos::given_twos_are_one;
+use command_parts::firmware::{
+    given_firmwares_are_one, given_mailboxes_are_one, given_watched_are_one,
+};
+use command_parts::twos::given_twos_are_one;
 use srecord::image_texts_are_one;
 
 /// Contents that are accepted make an output.

@@ -1,18 +1,18 @@
 //! The command `lcompile SLOW FAST OUT`.
 ghost use Rattle.std.specs.Prelude.{◌≡◌, ◌≤◌, length, IfOk, List, ℕ};
 ghost use Rattle.fz_shelf.specs.Lines.{text_of};
-ghost use Rattle.two_level.specs.Images.{fast_most};
-ghost use Rattle.build_commands.specs.SeenOutputs.{OutputHasNoFault, IsResultOf};
+ghost use Rattle.two_level_code.specs.Images.{fast_most};
+ghost use Rattle.command_parts.specs.SeenOutputs.{OutputHasNoFault, IsResultOf};
 ghost use Rattle.build_commands.specs.Lcompile.{LcompileMakes, lcompile_lines};
 
-use crate::firmware::spelled_texts_have_no_fault;
-use crate::lines::labelled;
-use crate::output::Output;
-use crate::twos::two_of;
 use crate::written::written_image;
+use command_parts::firmware::spelled_texts_have_no_fault;
+use command_parts::lines::labelled;
+use command_parts::output::Output;
+use command_parts::twos::two_of;
 use fz_status::Status;
 use std::alloc::{AllocError, Global};
-use two_level::{Two, alone_has_byte_bounds};
+use two_level_code::{Two, alone_has_byte_bounds};
 
 /// The words SLOW and FAST.
 pub static INPUTS: [u32; 2] = [2, 3];

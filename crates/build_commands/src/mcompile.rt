@@ -1,10 +1,11 @@
 //! The command `mcompile FCL OUT`.
 ghost use Rattle.std.specs.Prelude.{◌≤◌, length, List, ℕ};
-ghost use Rattle.build_commands.specs.{SeenOutputs.OutputHasNoFault, SeenOutputs.IsResultOf, Mcompile.McompileMakes};
+ghost use Rattle.command_parts.specs.SeenOutputs.{OutputHasNoFault, IsResultOf};
+ghost use Rattle.build_commands.specs.Mcompile.{McompileMakes};
 
-use crate::firmware::{mailbox_of, spelled_texts_have_no_fault};
-use crate::output::Output;
 use crate::written::written_firmware;
+use command_parts::firmware::{mailbox_of, spelled_texts_have_no_fault};
+use command_parts::output::Output;
 use fz_status::Status;
 use std::alloc::Global;
 

@@ -1,10 +1,11 @@
 //! The command `scompile FCL OUT`.
 ghost use Rattle.std.specs.Prelude.{◌≤◌, length, List, ℕ};
-ghost use Rattle.build_commands.specs.{SeenOutputs.OutputHasNoFault, SeenOutputs.IsResultOf, Scompile.ScompileMakes};
+ghost use Rattle.command_parts.specs.SeenOutputs.{OutputHasNoFault, IsResultOf};
+ghost use Rattle.build_commands.specs.Scompile.{ScompileMakes};
 
-use crate::firmware::{spelled_texts_have_no_fault, watched_firmware_of};
-use crate::output::Output;
 use crate::written::written_firmware;
+use command_parts::firmware::{spelled_texts_have_no_fault, watched_firmware_of};
+use command_parts::output::Output;
 use fz_status::Status;
 use std::alloc::Global;
 

@@ -1,11 +1,12 @@
 //! What commands write of firmware and images: the records for OUT, and lines.
 ghost use Rattle.std.specs.Prelude.{◌≡◌, length, IfErr, IfOk};
 ghost use Rattle.fz_shelf.specs.Lines.{text_of};
-ghost use Rattle.build_commands.specs.{SeenOutputs.seen_output, Written.WritesImage, Written.compile_lines};
+ghost use Rattle.command_parts.specs.SeenOutputs.{seen_output};
+ghost use Rattle.build_commands.specs.Written.{WritesImage, compile_lines};
 
-use crate::lines::labelled;
-use crate::output::Output;
-use codegen::Firmware;
+use alone_code::Firmware;
+use command_parts::lines::labelled;
+use command_parts::output::Output;
 use cpu12_asm::Image;
 use fz_status::Status;
 use std::alloc::{AllocError, Global};

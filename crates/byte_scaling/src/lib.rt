@@ -1,6 +1,6 @@
 //! Numbers as bytes and back: the byte of a number in an input's range and that byte's cell, the
 //! number that an output's byte or its answer of 16 bits stands for, the byte nearest to a number,
-//! and a weight's byte.
+//! a weight's byte, and how wide answers are ([`Width`]).
 //!
 //! A range is cut into 256 half-open cells of one width, the last with its high end: a number lies
 //! in the cell of its byte. Each call gives exactly the value of its definition, and none takes
@@ -10,6 +10,7 @@
 mod inputs;
 mod outputs;
 mod weights;
+mod width;
 
 pub use inputs::{
     OutOfRange, byte_within, bytes_ascend, cell, cells_are_apart, numbers_lie_in_their_cells,
@@ -17,3 +18,4 @@ pub use inputs::{
 };
 pub use outputs::{near, nearest_is_byte, value, value16};
 pub use weights::weight_byte;
+pub use width::Width;

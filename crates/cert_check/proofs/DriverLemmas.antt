@@ -5,7 +5,8 @@ use Rattle.std.specs.Prelude.{◌≢◌, All, Result, Ok, Err, IfOk, IfErr}
 use Rattle.std.specs.Global.{Vec}
 use Rattle.std.proofs.Math.Seq.{take-suc}
 use Rattle.fuzzy_meaning.specs.declared.block.Block.{Block}
-use Rattle.box_tree.specs.declared.{cert.CertKind.CertKind, cert.AnswerWidth.AnswerWidth, cert.Node.Node}
+use Rattle.byte_scaling.specs.declared.width.Width.{Width}
+use Rattle.box_tree.specs.declared.{cert.CertKind.CertKind, cert.Node.Node}
 use Rattle.box_tree.specs.declared.cert.Node.TheVariants.{Split, Leaf}
 use Rattle.box_tree.specs.declared.{cert.Cert.Cert, lines.Lines.Lines}
 use Rattle.box_tree.specs.{Certificates.IsNode, Certificates.IsCert, Reading.HasRead, Reading.claims_of}
@@ -96,7 +97,7 @@ take_all (node ∷ nodes) (suc k) l = ap (λ (ns : List Node). node ∷ ns) (tak
 
 -- ---- the nodes of a text, as far as it is read
 
-pub first_of_text : (kind : CertKind) (answers : AnswerWidth) (text : List ℕ) (nodes : List Node) (lines : Lines)
+pub first_of_text : (kind : CertKind) (answers : Width) (text : List ℕ) (nodes : List Node) (lines : Lines)
     → HasRead kind answers text nodes lines
     → AreFirst (length (claims_of lines)) nodes
 first_of_text kind answers text nodes lines read =

@@ -1,7 +1,8 @@
 -- A walk that is driven over a text as it is read.
 use Rattle.std.proofs.Common.{◌≡◌, ℕ, List, [], ◌∷◌, ◌++◌, length, sym, ◌∙◌, subst}
 use Rattle.fuzzy_meaning.specs.declared.block.Block.{Block}
-use Rattle.box_tree.specs.declared.{cert.CertKind.CertKind, cert.AnswerWidth.AnswerWidth, cert.Node.Node}
+use Rattle.byte_scaling.specs.declared.width.Width.{Width}
+use Rattle.box_tree.specs.declared.{cert.CertKind.CertKind, cert.Node.Node}
 use Rattle.box_tree.specs.declared.lines.Lines.{Lines}
 use Rattle.box_tree.specs.{Certificates.CertText, Trees.IsTree, Reading.HasRead, Reading.claims_of, Reading.cert_of}
 use Rattle.cert_check.specs.declared.checker.CheckFault.{CheckFault}
@@ -14,22 +15,22 @@ use Rattle.cert_check.proofs.DriverLemmas.{IsWalkOver, still_over, accepted_over
 -- the walk has taken the nodes that are read of a text, whose lines were these when no node was read
 pub record IsWalkOverText (b : Block) (h : ℕ) (begun lines : Lines) (w : Walk) : Type 0 where
   pub over : IsWalkOver b (claims_of lines) h w
-  pub taken : (kind : CertKind) (answers : AnswerWidth) (text : List ℕ) → HasRead kind answers text [] begun
+  pub taken : (kind : CertKind) (answers : Width) (text : List ℕ) → HasRead kind answers text [] begun
       → (nodes : List Node) × HasRead kind answers text nodes lines × HasTaken nodes w
 
 module _ {b : Block} {h : ℕ} {begun lines : Lines} {w : Walk} (is : IsWalkOverText b h begun lines w) where
   -- there are such nodes where there is such a text
-  pub HasTaken-some : (kind : CertKind) × (answers : AnswerWidth) × (text : List ℕ) × HasRead kind answers text [] begun
+  pub HasTaken-some : (kind : CertKind) × (answers : Width) × (text : List ℕ) × HasRead kind answers text [] begun
       → (nodes : List Node) × HasTaken nodes w
   HasTaken-some r = let t = is.taken r.0 r.1 r.2 r.3 in (t.0, t.2)
 
   -- ---- one more node is read
 
   module _ (next : Lines) (node : Node) (claims : claims_of next ≡ claims_of lines)
-      (more : (kind : CertKind) (answers : AnswerWidth) (text : List ℕ) (nodes : List Node)
+      (more : (kind : CertKind) (answers : Width) (text : List ℕ) (nodes : List Node)
       → HasRead kind answers text nodes lines
       → HasRead kind answers text (nodes ++ node ∷ []) next) where
-    AreFirst-read : (kind : CertKind) (answers : AnswerWidth) (text : List ℕ) (nodes : List Node)
+    AreFirst-read : (kind : CertKind) (answers : Width) (text : List ℕ) (nodes : List Node)
         → HasRead kind answers text nodes lines
         → AreFirst (length w.claims.now) (nodes ++ node ∷ [])
     AreFirst-read kind answers text nodes read =
@@ -37,7 +38,7 @@ module _ {b : Block} {h : ℕ} {begun lines : Lines} {w : Walk} (is : IsWalkOver
         (first_of_text kind answers text (nodes ++ node ∷ []) next (more kind answers text nodes read))
 
     -- the walk may take it
-    pub AreFirst-some : (kind : CertKind) × (answers : AnswerWidth) × (text : List ℕ)
+    pub AreFirst-some : (kind : CertKind) × (answers : Width) × (text : List ℕ)
         × HasRead kind answers text [] begun
         → (nodes : List Node) × HasTaken nodes w × AreFirst (length w.claims.now) (nodes ++ node ∷ [])
     AreFirst-some r = let t = is.taken r.0 r.1 r.2 r.3 in (t.0, t.2, AreFirst-read r.0 r.1 r.2 t.0 t.1)
@@ -57,9 +58,9 @@ module _ {b : Block} {h : ℕ} {begun lines : Lines} {w : Walk} (is : IsWalkOver
 
   -- ---- the text is read to its end
 
-  module _ (ended : (kind : CertKind) (answers : AnswerWidth) (text : List ℕ) (nodes : List Node)
+  module _ (ended : (kind : CertKind) (answers : Width) (text : List ℕ) (nodes : List Node)
       → HasRead kind answers text nodes lines
-      → CertText kind answers text (cert_of lines nodes)) (kind : CertKind) (answers : AnswerWidth) (text : List ℕ)
+      → CertText kind answers text (cert_of lines nodes)) (kind : CertKind) (answers : Width) (text : List ℕ)
       (first : HasRead kind answers text [] begun) where
     IsTree-read : IsTree (is.taken kind answers text first).0
     IsTree-read =

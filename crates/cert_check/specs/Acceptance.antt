@@ -5,17 +5,11 @@ use Rattle.std.specs.List.{Any}
 use Rattle.std.specs.Option.{option_map}
 use Rattle.fuzzy_meaning.specs.{declared.block.Block.Block, declared.block.Output.Output, Blocks.output_at}
 use Rattle.error_bound.specs.declared.boxes.Interval.{Interval}
-use Rattle.box_tree.specs.declared.{cert.AnswerWidth.AnswerWidth, cert.Cert.Cert, cert.LeafForm.LeafForm}
-use Rattle.box_tree.specs.declared.cert.AnswerWidth.TheVariants.{Byte, Word}
+use Rattle.box_tree.specs.declared.{cert.Cert.Cert, cert.LeafForm.LeafForm}
 use Rattle.box_tree.specs.declared.cert.LeafForm.TheVariants as form
 use Rattle.cell_bounds.specs.{declared.claims.Claim.Claim, CellBounds.cell_count, Claims.HasClaimBound}
 use Rattle.cell_bounds.specs.declared.claims.Claim.TheVariants.{Pair, Tight, Cells}
 use Rattle.cert_check.specs.Trees.{Part, IsTree, whole}
-
--- how many parts an answer of a width has to a byte
-abbrev pub parts_of : AnswerWidth → ℕ
-parts_of Byte = 1
-parts_of Word = 256
 
 -- what a leaf's line says of the output at a place
 abbrev pub claim_at : LeafForm → ℕ → Option Claim

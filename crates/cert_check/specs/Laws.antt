@@ -9,8 +9,9 @@ use Rattle.point_slope.specs.Bytes.{answer_in}
 use Rattle.error_bound.specs.declared.boxes.Interval.{Interval}
 use Rattle.box_tree.specs.declared.cert.CertKind.{CertKind}
 use Rattle.box_tree.specs.declared.cert.CertKind.TheVariants as kind
-use Rattle.box_tree.specs.declared.{cert.AnswerWidth.AnswerWidth, cert.LeafForm.LeafForm, cert.Node.Node}
-use Rattle.box_tree.specs.declared.cert.AnswerWidth.TheVariants.{Byte, Word}
+use Rattle.byte_scaling.specs.declared.width.Width.{Width}
+use Rattle.box_tree.specs.declared.{cert.LeafForm.LeafForm, cert.Node.Node}
+use Rattle.byte_scaling.specs.declared.width.Width.TheVariants.{Byte, Word}
 use Rattle.box_tree.specs.declared.cert.LeafForm.TheVariants.{Pairs, Tight, Cells}
 use Rattle.box_tree.specs.declared.cert.Node.TheVariants.{Split, Leaf}
 use Rattle.box_tree.specs.declared.cert.Cert.{Cert}
@@ -90,7 +91,7 @@ TightIsAccepted =
 -- and so is the text of one that names rules when the first line is changed, and each leaf becomes the word alone
 abbrev pub TightTextsAreAccepted : Type 0
 TightTextsAreAccepted =
-    (b : Block) (h : ℕ) (answers : AnswerWidth) (text es : List ℕ) → IsValid b → 1 ≤ h
+    (b : Block) (h : ℕ) (answers : Width) (text es : List ℕ) → IsValid b → 1 ≤ h
     → (a : IsAcceptedText b h kind.Named answers text es)
     → (fs : List ℕ)
     × IsAcceptedText b h kind.Tight answers (lines_of kind.Tight answers a.cert.claims (map tight_node a.cert.nodes)) fs
@@ -109,12 +110,12 @@ CheckFaultsAreOne =
     → HasCheckFault b h cert g → f ≡ g
 
 -- the errors that a text is accepted with, or why it is refused
-abbrev pub IsTextAnswer : Block → ℕ → CertKind → AnswerWidth → List ℕ → Result (List ℕ) TextFault → Type 0
+abbrev pub IsTextAnswer : Block → ℕ → CertKind → Width → List ℕ → Result (List ℕ) TextFault → Type 0
 IsTextAnswer b h k answers text (Ok errors) = IsAcceptedText b h k answers text errors
 IsTextAnswer b h k answers text (Err refusal) = HasTextFault b h k answers text refusal
 
 -- a text has at most one answer
 abbrev pub TextAnswersAreOne : Type 0
 TextAnswersAreOne =
-    (b : Block) (h : ℕ) (k : CertKind) (answers : AnswerWidth) (text : List ℕ) (x y : Result (List ℕ) TextFault)
+    (b : Block) (h : ℕ) (k : CertKind) (answers : Width) (text : List ℕ) (x y : Result (List ℕ) TextFault)
     → IsValid b → IsTextAnswer b h k answers text x → IsTextAnswer b h k answers text y → x ≡ y

@@ -1,14 +1,14 @@
 //! Whether a certificate is accepted, with which errors, or its first fault.
-ghost use Rattle.std.specs.Prelude.{◌≡◌, ◌≢◌, ◌≤◌, ◌<◌, ◌+◌, ℕ, List, length, IfOk, IfErr, IfSome, IfNone, Some};
-ghost use Rattle.std.specs.Prelude.{slice_get};
+ghost use Rattle.std.specs.Prelude.{◌≢◌, ◌≤◌, ◌<◌, IfOk, IfErr};
 ghost use Rattle.fuzzy_meaning.specs.Blocks.{IsValid};
 ghost use Rattle.box_tree.specs.declared.{cert.CertKind.CertKind as TheKind, cert.CertKind.TheVariants.Named};
 ghost use Rattle.box_tree.specs.Certificates.{IsCert};
-ghost use Rattle.cert_check.specs.Acceptance.{IsAccepted, parts_of as the_parts_of};
-ghost use Rattle.cert_check.specs.Faults.{HasCheckFault, IsFirstOver, AreClaimed};
+ghost use Rattle.cert_check.specs.{Acceptance.IsAccepted, Faults.HasCheckFault};
+ghost use Rattle.byte_scaling.specs.Widths.{parts as parts_of};
 
 use crate::walk::Walk;
-use box_tree::{AnswerWidth, Cert};
+use box_tree::Cert;
+use byte_scaling::Width;
 use error_bound::LeafFault;
 use fuzzy_meaning::Block;
 use std::alloc::Global;
@@ -54,7 +54,7 @@ pub fn check(alloc: Global, block: &Block, cert: &Cert) -> Result<Vec<u32>, Chec
     ensures fault { IfErr result (λ fault.
         fault ≢ CheckFault.Memory → HasCheckFault block.now 1 cert.now fault) }
 {
-    check_for(alloc, block, cert, AnswerWidth::Byte)
+    check_for(alloc, block, cert, Width::Byte)
 }
 
 /// The same for answers of 16 bits.
@@ -65,7 +65,7 @@ pub fn check16(alloc: Global, block: &Block, cert: &Cert) -> Result<Vec<u32>, Ch
     ensures fault { IfErr result (λ fault.
         fault ≢ CheckFault.Memory → HasCheckFault block.now 256 cert.now fault) }
 {
-    check_for(alloc, block, cert, AnswerWidth::Word)
+    check_for(alloc, block, cert, Width::Word)
 }
 
 /// The same of a certificate of either kind, for answers of this width.
@@ -73,15 +73,15 @@ pub fn check_for(
     alloc: Global,
     block: &Block,
     cert: &Cert,
-    answers: AnswerWidth,
+    answers: Width,
 ) -> Result<Vec<u32>, CheckFault>
     requires block { IsValid block.now }
     requires cert { (kind : TheKind) × IsCert kind cert.now }
-    ensures accepted { IfOk result (λ errors. IsAccepted block.now (the_parts_of answers) cert.now errors.items) }
+    ensures accepted { IfOk result (λ errors. IsAccepted block.now (parts_of answers) cert.now errors.items) }
     ensures fault { IfErr result (λ fault.
-        fault ≢ CheckFault.Memory → HasCheckFault block.now (the_parts_of answers) cert.now fault) }
+        fault ≢ CheckFault.Memory → HasCheckFault block.now (parts_of answers) cert.now fault) }
 {
-    checked(alloc, block, cert, parts_of(answers))
+    checked(alloc, block, cert, answers.parts())
 }
 
 /// The same for answers in so many parts to a byte.
@@ -102,16 +102,4 @@ fn checked(alloc: Global, block: &Block, cert: &Cert, parts: u16) -> Result<Vec<
         walk.take(node);
     }
     walk.finish()
-}
-
-/// How many parts an answer of this width has to a byte.
-pub fn parts_of(answers: AnswerWidth) -> u16
-    ensures parts { result ≡ the_parts_of answers }
-    ensures some { 1 ≤ result }
-    ensures few { result ≤ 256 }
-{
-    match answers {
-        AnswerWidth::Byte => 1,
-        AnswerWidth::Word => 256,
-    }
 }

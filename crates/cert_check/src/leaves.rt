@@ -1,8 +1,8 @@
 //! Leaves: whether what their lines say holds on their boxes, and with which Bounds.
-ghost use Rattle.std.specs.Prelude.{◌≡◌, ◌≢◌, ◌↔◌, ◌≤◌, ◌<◌, ◌+◌, ◌-◌, ℕ, length, All, OnOk, IfOk, IfErr, IfSome};
-ghost use Rattle.std.specs.Prelude.{IsTrue, Some, slice_get};
+ghost use Rattle.std.specs.Prelude.{◌≡◌, ◌≤◌, ◌<◌, ◌+◌, ◌-◌, length, OnOk, IfOk, IfErr, IfSome};
+ghost use Rattle.std.specs.Prelude.{Some};
 ghost use Rattle.fuzzy_meaning.specs.Blocks.{IsValid, output_at};
-ghost use Rattle.error_bound.specs.{Boxes.IsBoxOf, Leaves.Holds, Bounds.IsBound, Tight.IsTightBound};
+ghost use Rattle.error_bound.specs.{Boxes.IsBoxOf, Leaves.Holds, Bounds.IsBound};
 ghost use Rattle.error_bound.specs.Reaches.{IsBlockTable, IsTable};
 ghost use Rattle.box_tree.specs.declared.cert.CertKind.{CertKind as TheKind};
 ghost use Rattle.box_tree.specs.declared.cert.LeafForm.TheVariants as form;

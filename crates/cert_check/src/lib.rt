@@ -19,7 +19,7 @@ mod walk;
 
 pub use box_laws::{cuts_have_halves, leaves_are_around};
 pub use boxes::whole_box;
-pub use checker::{CheckFault, check, check_for, check16, parts_of};
+pub use checker::{CheckFault, check, check_for, check16};
 pub use laws::{
     accepted_answers_are_near, check_faults_are_one, errors_are_determined, examples_are_accepted,
     faulty_certs_fail, named_certs_have_no_cells, one_leaf_has_the_bytes, text_answers_are_one,

@@ -1,16 +1,16 @@
 //! Certificates that are checked as their text is read, node by node.
-ghost use Rattle.std.specs.Prelude.{◌≡◌, ◌≢◌, ◌≤◌, ℕ, List as Items, [], length, IfOk, IfErr};
+ghost use Rattle.std.specs.Prelude.{◌≢◌, ◌≤◌, ℕ, List as Items, [], length, IfOk, IfErr};
 ghost use Rattle.fuzzy_meaning.specs.Blocks.{IsValid};
-ghost use Rattle.box_tree.specs.declared.cert.AnswerWidth.{AnswerWidth as TheWidth};
-ghost use Rattle.box_tree.specs.declared.cert.AnswerWidth.TheVariants.{Byte, Word};
+ghost use Rattle.byte_scaling.specs.{declared.width.Width.Width as TheWidth, Widths.parts as parts_of};
+ghost use Rattle.byte_scaling.specs.declared.width.Width.TheVariants.{Byte, Word};
 ghost use Rattle.box_tree.specs.declared.{cert.CertKind.CertKind as TheKind, cert.CertKind.TheVariants.Named};
 ghost use Rattle.box_tree.specs.Reading.{HasRead};
-ghost use Rattle.cert_check.specs.Acceptance.{parts_of as the_parts_of};
 ghost use Rattle.cert_check.specs.TextFaults.{IsAcceptedText, HasTextFault};
 
-use crate::checker::{CheckFault, parts_of};
+use crate::checker::CheckFault;
 use crate::walk::Walk;
-use box_tree::{AnswerWidth, CertFault, CertKind, Lines};
+use box_tree::{CertFault, CertKind, Lines};
+use byte_scaling::Width;
 use fuzzy_meaning::Block;
 use std::alloc::Global;
 use thiserror::Error;
@@ -40,7 +40,7 @@ pub fn check_text(alloc: Global, block: &Block, text: &[u8]) -> Result<Vec<u32>,
     ensures refused { IfErr result (λ refusal. refusal ≢ TextFault.Memory
         → HasTextFault block.now 1 Named Byte text.now refusal) }
 {
-    check_text_for(alloc, block, text, CertKind::Named, AnswerWidth::Byte)
+    check_text_for(alloc, block, text, CertKind::Named, Width::Byte)
 }
 
 /// The same for answers of 16 bits, and texts of version 2.
@@ -51,7 +51,7 @@ pub fn check_text16(alloc: Global, block: &Block, text: &[u8]) -> Result<Vec<u32
     ensures refused { IfErr result (λ refusal. refusal ≢ TextFault.Memory
         → HasTextFault block.now 256 Named Word text.now refusal) }
 {
-    check_text_for(alloc, block, text, CertKind::Named, AnswerWidth::Word)
+    check_text_for(alloc, block, text, CertKind::Named, Width::Word)
 }
 
 /// The same of a certificate of this kind, for answers of this width.
@@ -60,17 +60,17 @@ pub fn check_text_for(
     block: &Block,
     text: &[u8],
     kind: CertKind,
-    answers: AnswerWidth,
+    answers: Width,
 ) -> Result<Vec<u32>, TextFault>
     requires block { IsValid block.now }
     requires text { length text.now ≤ 1048576 }
     ensures accepted { IfOk result
-        (λ errors. IsAcceptedText block.now (the_parts_of answers) kind answers text.now errors.items) }
+        (λ errors. IsAcceptedText block.now (parts_of answers) kind answers text.now errors.items) }
     ensures refused { IfErr result (λ refusal. refusal ≢ TextFault.Memory
-        → HasTextFault block.now (the_parts_of answers) kind answers text.now refusal) }
+        → HasTextFault block.now (parts_of answers) kind answers text.now refusal) }
 {
     match Lines::of(text, kind, answers) {
-        Ok(lines) => errors_of(alloc, block, lines, parts_of(answers)),
+        Ok(lines) => errors_of(alloc, block, lines, answers.parts()),
         Err(fault) => Err(TextFault::Text(fault)),
     }
 }

@@ -11,7 +11,7 @@ use Rattle.run_forms.specs.Positions.{Position, all_numbered, numbered, position
 use Rattle.debug_script.specs.{Going.AreTold, Going.Leads, Going.place_of, Places.distance, Places.on}
 use Rattle.debug_script.specs.Showing.{marks_after, no_marks, place_after, shown, shown_from, shown_of, stops}
 use Rattle.debug_script.specs.declared.{marks.Marks.Marks, order.Order.Order}
-use Rattle.fz_run.specs.Sessions.{SessionSeen}
+use Rattle.alone_runs.specs.Sessions.{SessionSeen}
 use Rattle.debug_script.specs.declared.order.Order.TheVariants as order
 use Rattle.debug_script.specs.declared.shown.Shown.{Shown}
 use Rattle.debug_script.proofs.PlaceLemmas.{go_more, go_stops, on_last, on_more}

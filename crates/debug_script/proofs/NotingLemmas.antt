@@ -11,7 +11,7 @@ use Rattle.std.proofs.lemmas.Bool.Decides.{nat_tests}
 use Rattle.cpu12_isa.specs.Watching.{NothingIsWatched, any_changed, is_changed, noted_again, nothing_noted}
 use Rattle.run_law.specs.Forms.{RowSeen}
 use Rattle.run_forms.specs.Outlooks.{Outlook}
-use Rattle.fz_run.specs.Sessions.{SessionSeen}
+use Rattle.alone_runs.specs.Sessions.{SessionSeen}
 use Rattle.debug_script.specs.{Noting.AreNoted, Noting.NotesBytes, Noting.noted_at, Showing.no_marks, Showing.stops}
 use Rattle.debug_script.specs.declared.marks.Marks.{Marks}
 

@@ -2,7 +2,7 @@
 -- Beside the promise.
 use Rattle.std.specs.Prelude.{◌≡◌, ◌≤◌, List, [], ◌∷◌}
 use Rattle.run_forms.specs.{Outlooks.from_here, Positions.Position}
-use Rattle.fz_run.specs.Sessions.{SessionSeen}
+use Rattle.alone_runs.specs.Sessions.{SessionSeen}
 
 -- the positions from where a session stands on
 abbrev pub place_of : SessionSeen → List Position

@@ -3,7 +3,7 @@
 use Rattle.std.specs.Prelude.{◌≡◌, ℕ, if◌then◌else◌, Option, Some, None, List, length, slice_index, slice_index_or}
 use Rattle.std.specs.BTreeSet.{BTreeSet, contains_by}
 use Rattle.std.specs.Ordering.{nat_cmp}
-use Rattle.fz_run.specs.Sessions.{SessionSeen}
+use Rattle.alone_runs.specs.Sessions.{SessionSeen}
 
 -- the byte at an address, where it is watched
 abbrev pub noted_at : BTreeSet ℕ → List ℕ → ℕ → Option ℕ

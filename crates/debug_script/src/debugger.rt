@@ -4,8 +4,8 @@ ghost use Rattle.std.specs.BTreeSet.{contains_by};
 ghost use Rattle.std.specs.Ordering.{nat_cmp};
 ghost use Rattle.cpu12_isa.specs.{Memory.bytes_at, Memory.from, Watching.any_changed, Watching.nothing_noted};
 ghost use Rattle.interrupt_plan.specs.Plans.{IsGood};
-ghost use Rattle.fz_run.specs.Answering.{AnswersItsBlock};
-ghost use Rattle.fz_run.specs.Rows.{first_state, firmware_rows, input_bytes, row_seen};
+ghost use Rattle.alone_runs.specs.Answering.{AnswersItsBlock};
+ghost use Rattle.alone_runs.specs.Rows.{first_state, firmware_rows, input_bytes, row_seen};
 ghost use Rattle.run_forms.specs.Positions.{positions};
 ghost use Rattle.debug_script.specs.Going.{AreTold, Leads, place_of};
 ghost use Rattle.debug_script.specs.{Noting.KeepsNotes, Noting.NotesBytes, Places.distance, Places.on};
@@ -14,14 +14,14 @@ ghost use Rattle.debug_script.specs.Showing.{marks_after, place_after, shown, sh
 use crate::marks::Marks;
 use crate::order::Order;
 use crate::shown::Shown;
-use codegen::Firmware;
+use alone_code::Firmware;
+use alone_runs::laws::answers_under_plans;
+use alone_runs::{Row, Session};
 use cpu12_isa::laws::nothing_is_watched;
 use cpu12_isa::mem::Mem;
 use cpu12_isa::pages::PageMem;
 use cpu12_isa::watching::WatchedMem;
 use fz_list::{List, Memory};
-use fz_run::laws::answers_under_plans;
-use fz_run::{Row, Session};
 use interrupt_plan::Plan;
 use std::alloc::{AllocError, Global};
 use trace_io::Sample;
@@ -171,7 +171,7 @@ fn obey_all<M: Mem>(
 }
 
 /// Runs a firmware over a trace under a plan, and obeys a script on the way. Answers what the script
-/// shows, and the rows of the whole run, which are those of [`fz_run::run`], whatever the script.
+/// shows, and the rows of the whole run, which are those of [`alone_runs::run`], whatever the script.
 pub fn debug(
     alloc: Global,
     firmware: &Firmware,

@@ -1,15 +1,16 @@
 //! Certificates for a target, or why it is not reached.
-ghost use Rattle.std.specs.Prelude.{◌≡◌, ◌≢◌, ◌≤◌, All, IfOk, IfErr};
+ghost use Rattle.std.specs.Prelude.{◌≢◌, ◌≤◌, All, IfOk, IfErr};
 ghost use Rattle.fuzzy_meaning.specs.Blocks.{IsValid};
 ghost use Rattle.box_tree.specs.{declared.cert.CertKind.TheVariants.Named, Certificates.IsCert};
-ghost use Rattle.cert_check.specs.Acceptance.{parts_of as the_parts_of};
+ghost use Rattle.byte_scaling.specs.Widths.{parts as parts_of};
 ghost use Rattle.error_certifier.specs.{Halving.IsHalving, Halving.StopsAt, Laws.SaysOutOfReach};
 
 use crate::halving::{Task, Tree};
 use crate::laws::cells_are_out_of_reach;
 use arrayvec::ArrayVec;
-use box_tree::{AnswerWidth, Cert, CertKind, open_boxes_go_on};
-use cert_check::{parts_of, whole_box};
+use box_tree::{Cert, CertKind, open_boxes_go_on};
+use byte_scaling::Width;
+use cert_check::whole_box;
 use error_bound::BoxTable;
 use fuzzy_meaning::Block;
 use std::alloc::Global;
@@ -42,7 +43,7 @@ pub fn certify(alloc: Global, block: &Block, target: u32) -> Result<Cert, NotRea
     ensures stops { IfErr result (λ stop. stop ≢ NotReached.Memory → StopsAt Named block.now 1 target stop) }
     ensures out_of_reach { IfErr result (SaysOutOfReach Named block.now 1 target) }
 {
-    certify_for(alloc, block, target, CertKind::Named, AnswerWidth::Byte)
+    certify_for(alloc, block, target, CertKind::Named, Width::Byte)
 }
 
 /// The same for answers of 16 bits.
@@ -55,7 +56,7 @@ pub fn certify16(alloc: Global, block: &Block, target: u32) -> Result<Cert, NotR
     ensures stops { IfErr result (λ stop. stop ≢ NotReached.Memory → StopsAt Named block.now 256 target stop) }
     ensures out_of_reach { IfErr result (SaysOutOfReach Named block.now 256 target) }
 {
-    certify_for(alloc, block, target, CertKind::Named, AnswerWidth::Word)
+    certify_for(alloc, block, target, CertKind::Named, Width::Word)
 }
 
 /// The certificate of this kind that halving gives for a target, for answers of this width.
@@ -64,18 +65,18 @@ pub fn certify_for(
     block: &Block,
     target: u32,
     kind: CertKind,
-    answers: AnswerWidth,
+    answers: Width,
 ) -> Result<Cert, NotReached>
     requires block { IsValid block.now }
     requires target { target ≤ 1000000 }
-    ensures halved { IfOk result (IsHalving kind block.now (the_parts_of answers) target) }
+    ensures halved { IfOk result (IsHalving kind block.now (parts_of answers) target) }
     ensures within { IfOk result (λ cert. All (λ error. error ≤ target) cert.claims) }
     ensures cert { IfOk result (IsCert kind) }
     ensures stops { IfErr result
-        (λ stop. stop ≢ NotReached.Memory → StopsAt kind block.now (the_parts_of answers) target stop) }
-    ensures out_of_reach { IfErr result (SaysOutOfReach kind block.now (the_parts_of answers) target) }
+        (λ stop. stop ≢ NotReached.Memory → StopsAt kind block.now (parts_of answers) target stop) }
+    ensures out_of_reach { IfErr result (SaysOutOfReach kind block.now (parts_of answers) target) }
 {
-    certified(alloc, kind, block, target, parts_of(answers))
+    certified(alloc, kind, block, target, answers.parts())
 }
 
 /// The same for answers in so many parts to a byte.

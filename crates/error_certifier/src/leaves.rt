@@ -1,5 +1,5 @@
 //! The leaf of a box, of either kind.
-ghost use Rattle.std.specs.Prelude.{◌≡◌, ◌≤◌, ◌<◌, ◌+◌, ℕ, length, IfOk, IfErr, IfSome, Some, slice_get};
+ghost use Rattle.std.specs.Prelude.{◌≡◌, ◌≤◌, ◌<◌, ◌+◌, length, IfOk, IfErr, IfSome, Some, slice_get};
 ghost use Rattle.fuzzy_meaning.specs.{declared.block.Output.Output, Blocks.IsValid, Blocks.output_at};
 ghost use Rattle.error_bound.specs.{Reaches.IsTable, BestLeaves.IsBestBound, Tight.IsTightBound, Tight.IsTightCount};
 ghost use Rattle.box_tree.specs.declared.cert.CertKind.TheVariants.{Named, Tight};

@@ -6,7 +6,7 @@ use Rattle.fuzzy_meaning.specs.declared.block.Output.{Output}
 use Rattle.rule_layout.specs.declared.flat.Form.{Form}
 use Rattle.rule_layout.specs.declared.flat.Form.TheVariants as form
 use Rattle.rule_layout.specs.Layouts.{form_of, LayoutLaw}
-use Rattle.eval_code.specs.declared.{width.Width.Width, width.Width.TheVariants.Byte, width.Width.TheVariants.Word}
+use Rattle.byte_scaling.specs.declared.{width.Width.Width, width.Width.TheVariants.Byte, width.Width.TheVariants.Word}
 use Rattle.eval_code.specs.Bounds.{output_bound, form_bound, instruction_bound, steps_by, BoundsAreFew}
 use Rattle.eval_code.proofs.{Joins.sum_by-term_count, phases.RuleFacts.block_facts}
 use Rattle.eval_code.proofs.Placement.{element_count-le, sum_by-singleton_count}

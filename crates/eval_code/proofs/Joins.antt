@@ -11,11 +11,12 @@ use Rattle.fuzzy_meaning.specs.declared.{block.Input.Input, block.Block.Block, b
 use Rattle.fuzzy_meaning.specs.Blocks.{IsValidInput}
 use Rattle.rule_layout.specs.declared.{flat.Flat.Flat, flat.Slot.Slot}
 use Rattle.rule_layout.specs.{Slots.slots_of, Slots.term_count, Layouts.HasPartsOf}
-use Rattle.eval_code.specs.declared.{memory_map.MemoryMap.MemoryMap, width.Width.Width}
+use Rattle.eval_code.specs.declared.memory_map.MemoryMap.{MemoryMap}
 use Rattle.eval_code.specs.Code.{eval_code_over, eval_code, block_code}
 use Rattle.eval_code.specs.Data.{table_bytes, singleton_bytes, weight_bytes_by, weight_bytes, rule_bytes_by}
 use Rattle.eval_code.specs.Data.{rule_bytes}
 use Rattle.eval_code.specs.Items.{code_at, bytes_at, block_items}
+use Rattle.byte_scaling.specs.declared.width.Width.{Width}
 
 -- a piece of code behind others
 next_piece : (start later last : List Item) (a b : List Instr) → later ≡ start ++ map Op a → last ≡ later ++ map Op b

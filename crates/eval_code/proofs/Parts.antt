@@ -5,7 +5,8 @@ use Rattle.fuzzy_meaning.specs.declared.{block.Input.Input, block.Output.Output}
 use Rattle.fuzzy_meaning.specs.Blocks.{IsValidInput, IsValidOutput}
 use Rattle.rule_layout.specs.declared.flat.Conjunction.{Conjunction}
 use Rattle.rule_layout.specs.{Slots.term_count, Slots.singleton_count, Layouts.conjunctions_of, Layouts.LayoutLaw}
-use Rattle.eval_code.specs.{declared.width.Width.TheVariants.Byte, Bounds.entry_count, Placed.BlockHasParts}
+use Rattle.byte_scaling.specs.declared.width.Width.TheVariants.{Byte}
+use Rattle.eval_code.specs.{Bounds.entry_count, Placed.BlockHasParts}
 use Rattle.eval_code.proofs.{Sizes.length-tables, Sizes.length-singletons, Placed.parts, phases.RuleFacts.block_facts}
 use Rattle.eval_code.proofs.Placement.{length-weights_of, length-rules, element_count-le}
 

@@ -2,7 +2,7 @@
 use Rattle.std.proofs.Common.{◌≡◌, ⊎_elim, ℕ, ◌+◌, ◌^◌, ◌<◌, ◌≤◌, List, [], ◌∷◌, ◌++◌, map, length, None, ap, ◌∙◌}
 use Rattle.std.proofs.Common.{subst, arith, append-nil}
 use Rattle.std.proofs.lemmas.List.Elements.{All-nil, All-cons}
-use Rattle.byte_scaling.specs.Cells.{NearestIsByte}
+use Rattle.byte_scaling.specs.{Cells.NearestIsByte, declared.width.Width.Width}
 use Rattle.fuzzy_meaning.specs.{declared.block.Block.Block, Blocks.IsValid}
 use Rattle.rule_layout.specs.Layouts.{IsWithinLimits, LayoutLaw}
 use Rattle.cpu12_isa.specs.{declared.instr.Instr.Instr, Code.encode_of, Fits.EncodedAreBytes}
@@ -10,13 +10,13 @@ use Rattle.cpu12_asm.specs.declared.items.Item.{Item}
 use Rattle.cpu12_asm.specs.declared.items.Item.TheVariants.{Place, Byte, Op}
 use Rattle.cpu12_asm.specs.{Bytes.byte_at, Items.place_behind, Items.given_by, Items.IsRisingFrom}
 use Rattle.cpu12_emul.specs.Image.{image_memory, HoldsImage}
-use Rattle.eval_code.specs.declared.{memory_map.MemoryMap.MemoryMap, width.Width.Width}
-use Rattle.eval_code.specs.{Code.code_bytes, Code.eval_code, Code.block_code, Items.bytes_at, Items.block_items}
+use Rattle.eval_code.specs.declared.memory_map.MemoryMap.{MemoryMap}
 use Rattle.eval_code.specs.Data.{table_bytes, singleton_bytes, weight_bytes, rule_bytes}
 use Rattle.eval_code.specs.Placed.{IsInOrder, BlockRises, BlockIsShort, BlockStaysInside, GivesBehind, GiveBytes}
 use Rattle.eval_code.specs.Placed.{BlockGivesBytes, HasPlaces, BlockStands}
-use Rattle.eval_code.proofs.Placement.{HasSizes, IsSpaced, HasPartSizes, part_sizes, block_rises, length-block_items}
+use Rattle.eval_code.specs.{Code.code_bytes, Code.eval_code, Code.block_code, Items.bytes_at, Items.block_items}
 use Rattle.eval_code.proofs.{steps.Memory.same_bytes, phases.RuleFacts.BlockFacts, phases.RuleFacts.block_facts}
+use Rattle.eval_code.proofs.Placement.{HasSizes, IsSpaced, HasPartSizes, part_sizes, block_rises, length-block_items}
 use Rattle.eval_code.proofs.phases.RuleMemory.{Below, below_all}
 use Rattle.eval_code.proofs.Sizes.{code_size-append, length-code_bytes}
 use Rattle.eval_code.proofs.placing.Standing.{Rises, given_append, image_given, none_below, none_behind}

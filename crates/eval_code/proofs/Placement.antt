@@ -7,17 +7,17 @@ use Rattle.std.proofs.lemmas.List.Elements.{All-get_or}
 use Rattle.fuzzy_meaning.specs.declared.{block.Block.Block, block.Output.Output}
 use Rattle.fuzzy_meaning.specs.Blocks.{IsValid, IsValidOutput}
 use Rattle.rule_layout.specs.declared.{flat.Conjunction.Conjunction, flat.Form.Form}
-use Rattle.rule_layout.specs.{Slots.slots_of, Slots.singleton_count, Lists.marked, Lists.at_address, Lists.list_words}
 use Rattle.rule_layout.specs.Layouts.{conjunctions_of, weights_of, form_of, conjunction_count, element_width}
 use Rattle.rule_layout.specs.Layouts.{list_size}
+use Rattle.rule_layout.specs.{Slots.slots_of, Slots.singleton_count, Lists.marked, Lists.at_address, Lists.list_words}
 use Rattle.cpu12_isa.specs.declared.instr.Instr.{Instr}
 use Rattle.cpu12_asm.specs.declared.{items.Item.Item, items.Item.TheVariants.Byte, items.Item.TheVariants.Op}
 use Rattle.cpu12_asm.specs.Items.{IsRisingFrom}
-use Rattle.eval_code.specs.declared.{memory_map.MemoryMap.MemoryMap, width.Width.Width}
-use Rattle.eval_code.specs.{Code.eval_code, Code.block_code, Bounds.entry_count, Bounds.element_count}
+use Rattle.eval_code.specs.{declared.memory_map.MemoryMap.MemoryMap, Items.code_at, Items.bytes_at, Items.block_items}
 use Rattle.eval_code.specs.Data.{table_bytes, singleton_bytes, weight_bytes_by, weight_bytes, bytes_of_word}
 use Rattle.eval_code.specs.Data.{rule_bytes_by, rule_bytes}
-use Rattle.eval_code.specs.Items.{code_at, bytes_at, block_items}
+use Rattle.byte_scaling.specs.declared.width.Width.{Width}
+use Rattle.eval_code.specs.{Code.eval_code, Code.block_code, Bounds.entry_count, Bounds.element_count}
 use Rattle.eval_code.proofs.{Joins.sum_by-term_count, Joins.block_then, Joins.block_items-then, Lists.length-marked}
 use Rattle.eval_code.proofs.Sizes.{code_size, code_size-append, length-le-code_size, code_size-eval, length-tables}
 use Rattle.eval_code.proofs.Sizes.{length-singletons, length-rule_weights}

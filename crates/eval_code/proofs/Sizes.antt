@@ -16,10 +16,11 @@ use Rattle.rule_layout.specs.declared.flat.Form.TheVariants as form
 use Rattle.rule_layout.specs.Slots.{term_count, singleton_count}
 use Rattle.cpu12_isa.specs.{declared.instr.Instr.Instr, Code.encode_of}
 use Rattle.cpu12_isa.specs.declared.instr.Instr.TheVariants.{LdaaImmediate, Mem}
-use Rattle.eval_code.specs.{declared.memory_map.MemoryMap.MemoryMap, declared.width.Width.Width, Widths.places}
-use Rattle.eval_code.specs.declared.width.Width.TheVariants.{Byte, Word}
+use Rattle.eval_code.specs.declared.memory_map.MemoryMap.{MemoryMap}
 use Rattle.eval_code.specs.Code.{fuzzify_code, slot_code, slots_code, rules_code, quotient_code, output_code}
 use Rattle.eval_code.specs.Code.{outputs_code, input_slots, eval_code_over, code_bytes}
+use Rattle.byte_scaling.specs.declared.{width.Width.Width, width.Width.TheVariants.Byte, width.Width.TheVariants.Word}
+use Rattle.byte_scaling.specs.Widths.{places}
 
 -- the bytes of instructions
 abbrev pub code_size : List Instr → ℕ

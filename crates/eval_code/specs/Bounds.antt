@@ -7,7 +7,7 @@ use Rattle.rule_layout.specs.declared.{flat.Conjunction.Conjunction, flat.Form.F
 use Rattle.rule_layout.specs.declared.flat.Form.TheVariants as form
 use Rattle.rule_layout.specs.Slots.{slots_of, term_count, singleton_count}
 use Rattle.rule_layout.specs.Layouts.{conjunctions_of, form_of, IsWithinLimits}
-use Rattle.eval_code.specs.declared.{width.Width.Width, width.Width.TheVariants.Byte, width.Width.TheVariants.Word}
+use Rattle.byte_scaling.specs.declared.{width.Width.Width, width.Width.TheVariants.Byte, width.Width.TheVariants.Word}
 
 abbrev pub input_term_count : Block → ℕ
 input_term_count b = sum_by term_count b.inputs

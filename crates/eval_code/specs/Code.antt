@@ -13,8 +13,9 @@ use Rattle.cpu12_isa.specs.declared.instr.Instr.TheVariants.{LdaaImmediate, Ldaa
 use Rattle.cpu12_isa.specs.declared.instr.Instr.TheVariants.{LdyImmediate, StaaExtended, StabExtended, ClrExtended}
 use Rattle.cpu12_isa.specs.declared.instr.Instr.TheVariants.{Coma, CpxImmediate, Beq, Bra, Andcc, Orcc, TransferXD}
 use Rattle.cpu12_isa.specs.declared.instr.Instr.TheVariants.{TransferYD, Ediv, Fdiv, Mem, Rev, Revw, Wav}
-use Rattle.eval_code.specs.{declared.memory_map.MemoryMap.MemoryMap, declared.width.Width.Width, Widths.places}
-use Rattle.eval_code.specs.declared.width.Width.TheVariants.{Byte, Word}
+use Rattle.eval_code.specs.declared.memory_map.MemoryMap.{MemoryMap}
+use Rattle.byte_scaling.specs.declared.{width.Width.Width, width.Width.TheVariants.Byte, width.Width.TheVariants.Word}
+use Rattle.byte_scaling.specs.Widths.{places}
 
 -- the bytes of instructions one after another
 abbrev pub code_bytes : List Instr → List ℕ

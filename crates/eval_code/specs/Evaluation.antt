@@ -6,11 +6,11 @@ use Rattle.rule_layout.specs.{Slots.slots_of, Layouts.IsWithinLimits}
 use Rattle.cpu12_isa.specs.Code.{six_from}
 use Rattle.cpu12_parts.specs.{State.State, Executions.Execution, Executions.all_steps}
 use Rattle.cpu12_parts.specs.Touching.{IsIn, IsInOne, Each, IsInstructionOver, IsBetween}
-use Rattle.eval_code.specs.declared.{memory_map.MemoryMap.MemoryMap, width.Width.Width}
-use Rattle.eval_code.specs.Widths.{places, bytes_of, answer}
-use Rattle.eval_code.specs.{Bounds.instruction_bound, Bounds.step_bound, Masks.interrupt_masks}
-use Rattle.eval_code.specs.{Code.code_bytes, Code.eval_code, Items.IsApart, Firing.AreInputBytes}
+use Rattle.eval_code.specs.{declared.memory_map.MemoryMap.MemoryMap, Widths.bytes_of, Widths.answer}
 use Rattle.eval_code.specs.Data.{table_bytes, singleton_bytes, weight_bytes, rule_bytes}
+use Rattle.byte_scaling.specs.{declared.width.Width.Width, Widths.places}
+use Rattle.eval_code.specs.{Bounds.instruction_bound, Bounds.step_bound, Masks.interrupt_masks, Code.code_bytes}
+use Rattle.eval_code.specs.{Code.eval_code, Items.IsApart, Firing.AreInputBytes}
 
 -- what a memory map keeps for a block's evaluation: its code, and what that writes and reads
 abbrev pub code_region : MemoryMap → ℕ × ℕ

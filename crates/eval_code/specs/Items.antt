@@ -5,8 +5,9 @@ use Rattle.fuzzy_meaning.specs.declared.block.Block.{Block}
 use Rattle.cpu12_isa.specs.declared.instr.Instr.{Instr}
 use Rattle.cpu12_asm.specs.declared.items.Item.{Item}
 use Rattle.cpu12_asm.specs.declared.items.Item.TheVariants.{Place, Byte, Op}
-use Rattle.eval_code.specs.{declared.memory_map.MemoryMap.MemoryMap, declared.width.Width.Width, Code.block_code}
+use Rattle.eval_code.specs.{declared.memory_map.MemoryMap.MemoryMap, Code.block_code}
 use Rattle.eval_code.specs.Data.{table_bytes, singleton_bytes, weight_bytes, rule_bytes}
+use Rattle.byte_scaling.specs.declared.width.Width.{Width}
 
 -- instructions or bytes that stand at a place
 abbrev pub code_at : ℕ → List Instr → List Item

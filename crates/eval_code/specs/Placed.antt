@@ -7,10 +7,11 @@ use Rattle.cpu12_isa.specs.declared.instr.Instr.{Instr}
 use Rattle.cpu12_asm.specs.declared.{items.Item.Item, items.Item.TheVariants.Place}
 use Rattle.cpu12_asm.specs.{Bytes.byte_at, Bytes.Holds, Items.given_by, Items.IsRisingFrom, Items.IsRising}
 use Rattle.cpu12_emul.specs.Image.{image_memory}
-use Rattle.eval_code.specs.declared.{memory_map.MemoryMap.MemoryMap, width.Width.Width}
-use Rattle.eval_code.specs.{Code.code_bytes, Code.block_code, Items.block_items, Items.IsApart}
+use Rattle.eval_code.specs.declared.memory_map.MemoryMap.{MemoryMap}
 use Rattle.eval_code.specs.Data.{table_bytes, singleton_bytes, weight_bytes, rule_bytes}
 use Rattle.eval_code.specs.Evaluation.{HasBytes, HasEval, eval_bytes}
+use Rattle.byte_scaling.specs.declared.width.Width.{Width}
+use Rattle.eval_code.specs.{Code.code_bytes, Code.block_code, Items.block_items, Items.IsApart}
 
 -- EVAL's bytes are so many at most
 abbrev pub eval_room : ℕ

@@ -1,30 +1,11 @@
--- Answers of a byte and of a word.
+-- The bytes of an answer, and what an output answers.
 -- Reached by the promise.
-use Rattle.std.specs.Prelude.{ℕ, Bool, true, false, List, [], ◌∷◌}
+use Rattle.std.specs.Prelude.{ℕ, List, [], ◌∷◌}
+use Rattle.byte_scaling.specs.Widths.{parts}
+use Rattle.byte_scaling.specs.declared.{width.Width.Width, width.Width.TheVariants.Byte, width.Width.TheVariants.Word}
 use Rattle.fuzzy_meaning.specs.declared.block.Block.{Block}
 use Rattle.point_slope.specs.Bytes.{answer_in}
-use Rattle.eval_code.specs.declared.{width.Width.Width, width.Width.TheVariants.Byte, width.Width.TheVariants.Word}
 use Rattle.eval_code.specs.Data.{bytes_of_word}
-
--- the width of a firmware's answers
-abbrev pub width_of : Bool → Width
-width_of false = Byte
-width_of true = Word
-
--- whether it is a word
-abbrev pub is_wide : Width → Bool
-is_wide Byte = false
-is_wide Word = true
-
--- how many bytes an answer takes
-abbrev pub places : Width → ℕ
-places Byte = 1
-places Word = 2
-
--- in how many parts of a byte it comes
-abbrev pub parts : Width → ℕ
-parts Byte = 1
-parts Word = 256
 
 -- its bytes
 abbrev pub bytes_of : Width → ℕ → List ℕ

@@ -5,7 +5,7 @@ ghost use Rattle.rule_layout.specs.Slots.{term_count, singleton_count};
 ghost use Rattle.rule_layout.specs.Layouts.{flat_of, IsLaidOut, IsWithinLimits};
 ghost use Rattle.eval_code.specs.Bounds.{output_bound, entry_count, form_bound, instruction_bound, steps_by};
 
-use crate::width::Width;
+use byte_scaling::Width;
 use fuzzy_meaning::{Block, Input, Output};
 use rule_layout::{Conjunction, Flat, Form, flat_has_parts};
 

@@ -1,16 +1,15 @@
 //! The code of EVAL.
 ghost use Rattle.std.specs.Prelude.{◌≡◌, ◌+◌, ◌^◌, ◌<◌, ◌≤◌, ◌++◌, map, length, replicate, sum_by, All, OnOk, Some};
-ghost use Rattle.std.specs.Prelude.{None, option_map, IfSome};
+ghost use Rattle.std.specs.Prelude.{None};
 ghost use Rattle.fuzzy_meaning.specs.Blocks.{IsValidOutput};
 ghost use Rattle.cpu12_asm.specs.declared.items.Item.TheVariants.{Op};
-ghost use Rattle.rule_layout.specs.Slots.{term_count, singleton_count};
-ghost use Rattle.eval_code.specs.declared.width.Width.TheVariants as Width;
+ghost use Rattle.rule_layout.specs.Slots.{term_count};
+ghost use Rattle.byte_scaling.specs.declared.width.Width.TheVariants as Width;
 ghost use Rattle.eval_code.specs.Code.{fuzzify_code, terms_before, slot_code, slots_code, rules_code, quotient_code};
 ghost use Rattle.eval_code.specs.Code.{output_code, outputs_code};
 
 use crate::memory_map::MemoryMap;
-use crate::width::Width;
-use byte_scaling::near;
+use byte_scaling::{Width, near};
 use cpu12_asm::Item;
 use cpu12_isa::instr::Instr;
 use fuzzy_meaning::{Input, Output};

@@ -1,6 +1,6 @@
 //! The bytes that EVAL reads beside its code.
 ghost use Rattle.std.specs.Prelude.{◌≡◌, ◌++◌, map, flat_map, All, OnOk};
-ghost use Rattle.fuzzy_meaning.specs.Blocks.{IsValidOutput, IsWithin};
+ghost use Rattle.fuzzy_meaning.specs.Blocks.{IsValidOutput};
 ghost use Rattle.cpu12_asm.specs.declared.items.Item.TheVariants.{Byte};
 ghost use Rattle.eval_code.specs.Data.{singleton_bytes_of, bytes_of_word};
 

@@ -10,7 +10,7 @@ use crate::bounds::output_terms;
 use crate::code::{push_code, push_fuzzify, push_outputs, push_rules, push_slots};
 use crate::data::{push_bytes, push_singletons, push_tables, push_words};
 use crate::memory_map::MemoryMap;
-use crate::width::Width;
+use byte_scaling::Width;
 use cpu12_asm::Item;
 use cpu12_isa::instr::Instr;
 use fuzzy_meaning::{Block, Input, Output};

@@ -1,6 +1,6 @@
 //! The code and data that answer one sample of a block, at the addresses of any memory map.
 //!
-//! EVAL takes the inputs' bytes at a [`MemoryMap`] to the outputs' answers, of the [`Width`] that is
+//! EVAL takes the inputs' bytes at a [`MemoryMap`] to the outputs' answers, of the width that is
 //! asked for. [`push_block`] makes the items of EVAL with the code that its caller puts before and
 //! behind it, its tables, its singletons, its weights and its rule list: exactly the items that
 //! `block_items` names, behind those that were there. [`eval_answers`] says what EVAL then does
@@ -15,11 +15,9 @@ mod data;
 mod items;
 pub mod laws;
 mod memory_map;
-mod width;
 
 pub use bounds::{instruction_bound, steps_by};
 pub use data::push_word;
 pub use items::push_block;
 pub use laws::{blocks_are_placed, bounds_are_few, eval_answers, rules_give_masses};
 pub use memory_map::MemoryMap;
-pub use width::Width;

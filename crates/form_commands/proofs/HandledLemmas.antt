@@ -3,20 +3,20 @@ use Rattle.std.proofs.Common.{◌≡◌, ◌<◌, ◌^◌, ℕ, List, refl, sym,
 use Rattle.std.specs.Prelude.{map}
 use Rattle.cpu12_asm.specs.declared.image.Image.{Image}
 use Rattle.fuzzy_meaning.specs.declared.block.Block.{Block}
-use Rattle.codegen.specs.declared.firmware.Firmware.{Firmware}
+use Rattle.alone_code.specs.declared.firmware.Firmware.{Firmware}
 use Rattle.box_tree.specs.declared.cert.CertKind.TheVariants.{Named}
-use Rattle.eval_code.specs.declared.width.Width.TheVariants.{Byte}
+use Rattle.byte_scaling.specs.declared.width.Width.TheVariants.{Byte}
 use Rattle.interrupt_plan.specs.declared.Request.{Request}
 use Rattle.trace_io.specs.declared.sample.Sample.{Sample}
 use Rattle.run_law.specs.Forms.{RowSeen}
-use Rattle.fz_run.specs.{Answering.AnswersItsBlock, Answering.AnswersUnderPlans, Rows.input_bytes}
+use Rattle.alone_runs.specs.{Answering.AnswersItsBlock, Answering.AnswersUnderPlans, Rows.input_bytes}
 use Rattle.handled_runs.specs.Answering.{AreListedRows, HandledAnswers, HandlesItsBlock}
 use Rattle.handled_runs.specs.Forms.{HandledSeen, handled_seen}
 use Rattle.fz_status.specs.declared.status.Status.{Status}
 use Rattle.fz_status.specs.declared.status.Status.TheVariants as status
-use Rattle.build_commands.specs.{Firmwares.GivesFirmware, Hcheck.GivesHandler}
+use Rattle.command_parts.specs.{Firmwares.GivesFirmware, Handlers.GivesHandler}
 use Rattle.run_reports.specs.{Inputs.input_refusals, Laws.AnswersAreReported, Laws.SpelledBytesFit}
-use Rattle.form_commands.specs.HandledRun.{AcceptsHandled, HandledFiles, HandledRun}
+use Rattle.run_reports.specs.HandledRun.{AcceptsHandled, HandledFiles, HandledRun}
 use Rattle.form_commands.specs.Hrun.{AcceptedHandledRunsMakeOutput, handled_report, hrun_refusals}
 
 -- what it answers of accepted files is the run of them

@@ -4,23 +4,24 @@ use Rattle.std.specs.Prelude.{All, map}
 use Rattle.std.proofs.lemmas.List.{length-map}
 use Rattle.std.proofs.lemmas.List.Elements.{All-cons, All-head, All-nil, All-tail}
 use Rattle.fuzzy_meaning.specs.declared.block.Block.{Block}
-use Rattle.codegen.specs.Uninterrupted.{AreAnswersOf}
-use Rattle.eval_code.specs.declared.width.Width.TheVariants.{Byte}
+use Rattle.alone_code.specs.Uninterrupted.{AreAnswersOf}
+use Rattle.byte_scaling.specs.declared.width.Width.TheVariants.{Byte}
 use Rattle.interrupt_plan.specs.{declared.Request.Request, declared.levels.Level.Level, Levels.AreGoodLevels}
 use Rattle.run_law.specs.Forms.{RowSeen}
 use Rattle.trace_io.specs.declared.sample.Sample.{Sample}
-use Rattle.fz_run.specs.Answering.{AnswersItsBlock, AnswersUnderPlans}
-use Rattle.fz_run.specs.Rows.{bytes_of, firmware_rows, input_bytes}
-use Rattle.two_level.specs.{Images.AloneHasByteBounds, Images.HasByteBounds, Images.fast_most, declared.two.Two.Two}
-use Rattle.two_runs.specs.Answering.{AnswersAtTwoLevels, AnswersItsBlocks, AnswersUnderLevels, RowsAreSeen}
-use Rattle.two_runs.specs.Answering.{answer_of_fast, fast_runs, plan_of}
-use Rattle.two_runs.specs.{Order.LevelsMakeAPlan, Rows.TwoSeen, Rows.two_seen, Runs.FastSeen}
-use Rattle.certified_run.specs.Posted.{IsOneOf, PostedAnswersAreNear}
-use Rattle.build_commands.specs.Firmwares.{GivesFirmware}
-use Rattle.build_commands.proofs.Algebra.{of_seen}
-use Rattle.form_commands.specs.LevelRun.{AcceptsLevels, LevelFiles, LevelRun, fast_numbers}
-use Rattle.form_commands.specs.Lrun.{AcceptedLevelRunsMakeOutput, level_report}
+use Rattle.alone_runs.specs.Answering.{AnswersItsBlock, AnswersUnderPlans}
+use Rattle.alone_runs.specs.Rows.{bytes_of, firmware_rows, input_bytes}
+use Rattle.two_level_code.specs.{Images.AloneHasByteBounds, Images.HasByteBounds, Images.fast_most}
+use Rattle.two_level_code.specs.{declared.two.Two.Two}
+use Rattle.two_level_runs.specs.Answering.{AnswersAtTwoLevels, AnswersItsBlocks, AnswersUnderLevels, RowsAreSeen}
+use Rattle.two_level_runs.specs.Answering.{answer_of_fast, fast_runs, plan_of}
+use Rattle.two_level_runs.specs.{Order.LevelsMakeAPlan, Rows.TwoSeen, Rows.two_seen, Runs.FastSeen}
+use Rattle.run_reports.specs.Posted.{IsOneOf, PostedAnswersAreNear}
+use Rattle.run_reports.specs.LevelRun.{AcceptsLevels, LevelFiles, LevelRun, fast_numbers}
 use Rattle.run_reports.specs.Laws.{AnswersAreReported, AnswersKeepTheBound, SpelledBytesFit}
+use Rattle.command_parts.specs.Firmwares.{GivesFirmware}
+use Rattle.command_parts.proofs.Algebra.{of_seen}
+use Rattle.form_commands.specs.Lrun.{AcceptedLevelRunsMakeOutput, level_report}
 
 map-twice : {X Y Z : Type 0} (g : Y → Z) (f : X → Y) (xs : List X) → map g (map f xs) ≡ map (λ x. g (f x)) xs
 map-twice g f [] = refl

@@ -8,9 +8,9 @@ use Rattle.cpu12_emul.specs.declared.ends.Frame.{Frame}
 use Rattle.fz_shelf.specs.Lines.{text_of}
 use Rattle.fz_status.specs.FaultLines.{newline}
 use Rattle.run_forms.specs.Rows.{boundary_seen}
-use Rattle.two_runs.specs.Runs.{FastSeen}
-use Rattle.build_commands.specs.Lines.{counted, error_line, line}
-use Rattle.build_commands.proofs.Algebra.{counted_more, text_more, text_of-snoc, made_next, made_with, pushed}
+use Rattle.two_level_runs.specs.Runs.{FastSeen}
+use Rattle.command_parts.specs.Lines.{counted, error_line, line}
+use Rattle.command_parts.proofs.Algebra.{counted_more, text_more, text_of-snoc, made_next, made_with, pushed}
 use Rattle.form_commands.specs.Lrun.{fast_error_line, fast_lines, level_begun_lines, outer_lines}
 use Rattle.run_reports.specs.RowLines.{answers_told, frame_line}
 

@@ -9,30 +9,29 @@ use Rattle.std.specs.declared.alloc.Global.{Global}
 use Rattle.fuzzy_meaning.specs.declared.block.Block.{Block}
 use Rattle.cpu12_emul.specs.{Take.FrameSeen, declared.ends.Frame.Frame}
 use Rattle.cpu12_parts.specs.State.{State}
-use Rattle.codegen.specs.{Mailboxes.mailbox_bound, Uninterrupted.AreAnswersOf, declared.firmware.Firmware.Firmware}
-use Rattle.eval_code.specs.{Widths.width_of, declared.width.Width.Width, declared.width.Width.TheVariants.Byte}
+use Rattle.alone_code.specs.{Mailboxes.mailbox_bound, Uninterrupted.AreAnswersOf, declared.firmware.Firmware.Firmware}
+use Rattle.byte_scaling.specs.{Widths.width_of, declared.width.Width.Width, declared.width.Width.TheVariants.Byte}
 use Rattle.box_tree.specs.declared.cert.CertKind.TheVariants.{Named}
 use Rattle.srecord.specs.Texts.{GivesImage}
 use Rattle.interrupt_plan.specs.{Posts.AreGoodPosts, declared.Post.Post}
 use Rattle.trace_io.specs.{Traces.Spells as SpellsTrace, declared.sample.Sample.Sample}
-use Rattle.fz_run.specs.Rows.{input_bytes, bytes_of}
-use Rattle.posted_runs.specs.Answering.{AnswersItsPosts, AnswersUnderAllPosts, AnswersUnderPosts, answer_in, ended}
-use Rattle.posted_runs.specs.Answering.{run_of_turns}
-use Rattle.posted_runs.specs.Runs.{AnswerSeen, RunSeen, answer_seen, arrival, steps_of, run_under_posts}
-use Rattle.posted_runs.specs.Turns.{AreTurns, LastIsAnswered, Turn, behind, over, idle, answers, samples_of, up_to}
-use Rattle.posted_runs.specs.Turns.{waiting}
+use Rattle.alone_runs.specs.Rows.{input_bytes, bytes_of}
+use Rattle.mailbox_runs.specs.Answering.{AnswersItsPosts, AnswersUnderAllPosts, AnswersUnderPosts, answer_in, ended}
+use Rattle.mailbox_runs.specs.Answering.{run_of_turns}
+use Rattle.mailbox_runs.specs.Runs.{AnswerSeen, RunSeen, answer_seen, arrival, steps_of, run_under_posts}
+use Rattle.mailbox_runs.specs.Turns.{AreTurns, LastIsAnswered, Turn, behind, over, idle, answers, samples_of, up_to}
+use Rattle.mailbox_runs.specs.Turns.{waiting}
 use Rattle.run_forms.specs.Rows.{boundary_seen, frames_seen}
-use Rattle.posted_runs.specs.declared.run.Answer as declared
-use Rattle.certified_run.specs.Posted.{IsOneOf, PostedAnswersAreNear}
+use Rattle.mailbox_runs.specs.declared.run.Answer as declared
+use Rattle.run_reports.specs.Posted.{IsOneOf, PostedAnswersAreNear}
 use Rattle.fz_shelf.specs.Lines.{text_of}
 use Rattle.fz_status.specs.{Refusals.IsRefusal, declared.status.Status.Status}
 use Rattle.fz_status.specs.declared.status.Status.TheVariants as status
-use Rattle.build_commands.specs.{Certs.AcceptsCert, Firmwares.GivesMailbox, Lines.counted, Lines.line}
-use Rattle.build_commands.proofs.Algebra.{flat-map, of_seen, text_of-snoc, begun_items}
+use Rattle.command_parts.specs.{Certs.AcceptsCert, Firmwares.GivesMailbox, Lines.counted, Lines.line}
+use Rattle.command_parts.proofs.Algebra.{flat-map, of_seen, text_of-snoc, begun_items}
 use Rattle.form_commands.specs.Mrun.{AcceptedPostedRunsMakeOutput, answer_line, mrun_lines, mrun_refusals}
 use Rattle.form_commands.specs.Mrun.{posted_report, posts_refusals, taken_line}
-use Rattle.form_commands.specs.PostedRun.{AcceptsPosted, PostedFiles, PostedReport, PostedRun, answered_samples}
-use Rattle.form_commands.specs.PostedRun.{run_of}
+use Rattle.run_reports.specs.PostedRun.{AcceptsPosted, PostedFiles, PostedReport, PostedRun, answered_samples, run_of}
 use Rattle.run_reports.specs.{RowLines.begun_lines, Laws.AnswersKeepTheBound, Laws.SpelledBytesFit}
 
 -- ---- the samples that turns answer are among those that are posted

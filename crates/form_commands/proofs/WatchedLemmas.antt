@@ -5,23 +5,23 @@ use Rattle.std.proofs.lemmas.List.Elements.{All-cons, All-nil}
 use Rattle.fuzzy_meaning.specs.declared.block.Block.{Block}
 use Rattle.cpu12_emul.specs.Image.{image_memory}
 use Rattle.watched_code.specs.Watched.{Watched, watched_answer}
-use Rattle.codegen.specs.declared.firmware.Firmware.{Firmware}
+use Rattle.alone_code.specs.declared.firmware.Firmware.{Firmware}
 use Rattle.box_tree.specs.declared.cert.CertKind.TheVariants.{Named}
-use Rattle.eval_code.specs.declared.width.Width.TheVariants.{Byte}
+use Rattle.byte_scaling.specs.declared.width.Width.TheVariants.{Byte}
 use Rattle.srecord.specs.Texts.{GivesImage}
 use Rattle.interrupt_plan.specs.declared.{Request.Request, upsets.Upset.Upset}
 use Rattle.trace_io.specs.declared.sample.Sample.{Sample}
-use Rattle.fz_run.specs.Rows.{input_bytes}
+use Rattle.alone_runs.specs.Rows.{input_bytes}
 use Rattle.watched_runs.specs.Answering.{AnswersItsSamples, AnswersUnderAllUpsets, AnswersUnderUpsets, AreWatchedRows}
 use Rattle.watched_runs.specs.{Rows.FaultSeen, Rows.faults_of, Rows.upset_rows, Samples.with_upsets}
-use Rattle.certified_run.specs.Faultless.{FaultlessAnswersAreNear}
+use Rattle.run_reports.specs.Faultless.{FaultlessAnswersAreNear}
 use Rattle.fz_status.specs.declared.status.Status.{Status}
 use Rattle.fz_status.specs.declared.status.Status.TheVariants as status
-use Rattle.build_commands.specs.Firmwares.{GivesWatched}
+use Rattle.command_parts.specs.Firmwares.{GivesWatched}
 use Rattle.run_reports.specs.{Inputs.AcceptsInputs, Inputs.input_refusals, Laws.SpelledBytesFit}
 use Rattle.form_commands.specs.Srun.{AcceptedWatchedRunsMakeOutput, AcceptsWatched, srun_refusals, upset_refusals}
 use Rattle.form_commands.specs.Srun.{watched_report}
-use Rattle.form_commands.specs.WatchedRun.{WatchedFiles, WatchedRun}
+use Rattle.run_reports.specs.WatchedRun.{WatchedFiles, WatchedRun}
 
 instructions_within : (b : Block) (f : Firmware) (before : ℕ → ℕ) (xs : List Watched) (rs : List FaultSeen)
     → AreWatchedRows b f before xs rs → All (λ r. r.row.instrs ≤ f.instr_bound) rs

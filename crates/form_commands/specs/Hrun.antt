@@ -5,16 +5,16 @@ use Rattle.std.specs.Prelude.{Result, Ok, Err}
 use Rattle.cpu12_asm.specs.declared.image.Image.{Image}
 use Rattle.box_tree.specs.declared.cert.CertKind.TheVariants.{Named}
 use Rattle.fuzzy_meaning.specs.declared.block.Block.{Block}
-use Rattle.codegen.specs.declared.firmware.Firmware.{Firmware}
-use Rattle.eval_code.specs.declared.width.Width.TheVariants.{Byte}
+use Rattle.alone_code.specs.declared.firmware.Firmware.{Firmware}
+use Rattle.byte_scaling.specs.declared.width.Width.TheVariants.{Byte}
 use Rattle.interrupt_plan.specs.declared.Request.{Request}
 use Rattle.trace_io.specs.declared.sample.Sample.{Sample}
 use Rattle.handled_runs.specs.Forms.{HandledSeen}
-use Rattle.build_commands.specs.{Contents.content_at, Firmwares.OfFirmware, Firmwares.RefusesText}
-use Rattle.build_commands.specs.SeenOutputs.{HasOutput, SeenOutput, only_text}
-use Rattle.build_commands.specs.{Hcheck.GivesHandler, Hcheck.handler_refusals, Lines.counted, Words.flags_of}
+use Rattle.command_parts.specs.{Contents.content_at, Firmwares.OfFirmware, Firmwares.RefusesText}
+use Rattle.command_parts.specs.{Handlers.GivesHandler, Handlers.handler_refusals, Lines.counted, Words.flags_of}
+use Rattle.command_parts.specs.SeenOutputs.{HasOutput, SeenOutput, only_text}
 use Rattle.run_reports.specs.{Inputs.input_refusals, RowLines.begun_lines, RowLines.labelled_row_lines}
-use Rattle.form_commands.specs.HandledRun.{AcceptsHandled, HandledFiles, HandledReport, HandledRun}
+use Rattle.run_reports.specs.HandledRun.{AcceptsHandled, HandledFiles, HandledReport, HandledRun}
 use Rattle.form_commands.specs.declared.hrun.Hrun.{Hrun}
 use Rattle.fz_status.specs.{Refusals.Refusals, Refusals.Refuses, Words.Text, Words.word_at}
 use Rattle.fz_status.specs.declared.status.Status.{Status}

@@ -5,25 +5,25 @@ use Rattle.std.specs.Prelude.{None, option_map, Result, Ok, Err}
 use Rattle.std.specs.List.{flat_map, slice_index_or}
 use Rattle.fuzzy_meaning.specs.declared.block.Block.{Block}
 use Rattle.box_tree.specs.declared.cert.CertKind.TheVariants.{Named}
-use Rattle.eval_code.specs.declared.width.Width.TheVariants.{Byte}
+use Rattle.byte_scaling.specs.declared.width.Width.TheVariants.{Byte}
 use Rattle.cpu12_emul.specs.Take.{FrameSeen}
 use Rattle.interrupt_plan.specs.{Levels.LevelsHaveFault, declared.levels.Level.Level}
 use Rattle.srecord.specs.Texts.{GivesImage}
 use Rattle.trace_io.specs.Traces.{HasFault as TraceHasFault, Spells as SpellsTrace}
 use Rattle.trace_io.specs.declared.sample.Sample.{Sample}
-use Rattle.two_level.specs.declared.two.Two.{Two}
-use Rattle.two_runs.specs.{Rows.TwoSeen, Runs.FastSeen}
+use Rattle.two_level_code.specs.declared.two.Two.{Two}
+use Rattle.two_level_runs.specs.{Rows.TwoSeen, Runs.FastSeen}
 use Rattle.fz_status.specs.{FaultLines.newline, Refusals.Refusals, Refusals.Refuses, Words.Text, Words.word_at}
 use Rattle.fz_status.specs.declared.status.FastFault.TheVariants as told
 use Rattle.fz_status.specs.declared.status.Status.{Status}
 use Rattle.fz_status.specs.declared.status.Status.TheVariants as status
-use Rattle.build_commands.specs.{Certs.AcceptsCert, Certs.HasCertFault, Contents.content_at, Images.RefusesImage}
-use Rattle.build_commands.specs.SeenOutputs.{HasOutput, SeenOutput, only_text}
-use Rattle.build_commands.specs.Lines.{counted, error_line, line}
-use Rattle.build_commands.specs.{Twos.GivesTwo, Twos.two_refusals, Words.flags_of}
-use Rattle.form_commands.specs.LevelRun.{AcceptsCerts, AcceptsLevels, LevelFiles, LevelReport, LevelRun, SpellTraces}
-use Rattle.form_commands.specs.declared.lrun.Lrun.{Lrun}
+use Rattle.command_parts.specs.{Certs.AcceptsCert, Certs.HasCertFault, Contents.content_at, Images.RefusesImage}
+use Rattle.command_parts.specs.{Twos.GivesTwo, Twos.two_refusals, Words.flags_of}
+use Rattle.command_parts.specs.SeenOutputs.{HasOutput, SeenOutput, only_text}
+use Rattle.command_parts.specs.Lines.{counted, error_line, line}
+use Rattle.run_reports.specs.LevelRun.{AcceptsCerts, AcceptsLevels, LevelFiles, LevelReport, LevelRun, SpellTraces}
 use Rattle.run_reports.specs.RowLines.{answers_told, frame_line, frame_told, sample_line_with}
+use Rattle.form_commands.specs.declared.lrun.Lrun.{Lrun}
 
 abbrev pub lrun_with : ℕ → Lrun
 lrun_with flags = record { flags = flags }

@@ -5,24 +5,24 @@ use Rattle.std.specs.Prelude.{Result, Ok, Err}
 use Rattle.std.specs.List.{flat_map}
 use Rattle.fuzzy_meaning.specs.declared.block.Block.{Block}
 use Rattle.cpu12_emul.specs.Take.{FrameSeen}
-use Rattle.codegen.specs.declared.firmware.Firmware.{Firmware}
+use Rattle.alone_code.specs.declared.firmware.Firmware.{Firmware}
 use Rattle.box_tree.specs.declared.cert.CertKind.TheVariants.{Named}
-use Rattle.eval_code.specs.declared.width.Width.TheVariants.{Byte}
+use Rattle.byte_scaling.specs.declared.width.Width.TheVariants.{Byte}
 use Rattle.interrupt_plan.specs.{Posts.PostsHaveFault, declared.Post.Post}
 use Rattle.srecord.specs.Texts.{GivesImage}
 use Rattle.trace_io.specs.Traces.{HasFault as TraceHasFault, Spells as SpellsTrace}
 use Rattle.trace_io.specs.declared.sample.Sample.{Sample}
-use Rattle.posted_runs.specs.Runs.{AnswerSeen}
+use Rattle.mailbox_runs.specs.Runs.{AnswerSeen}
 use Rattle.fz_status.specs.{FaultLines.newline, Refusals.Refusals, Refusals.Refuses, Words.Text, Words.word_at}
 use Rattle.fz_status.specs.declared.status.Status.{Status}
 use Rattle.fz_status.specs.declared.status.Status.TheVariants as status
-use Rattle.build_commands.specs.{Certs.AcceptsCert, Certs.HasCertFault, Contents.content_at}
-use Rattle.build_commands.specs.SeenOutputs.{HasOutput, SeenOutput, only_text}
-use Rattle.build_commands.specs.{Firmwares.GivesMailbox, Firmwares.RefusesText, Images.RefusesImage}
-use Rattle.build_commands.specs.{Lines.counted, Lines.line, Words.flags_of}
-use Rattle.form_commands.specs.PostedRun.{AcceptsPosted, PostedFiles, PostedReport, PostedRun}
-use Rattle.form_commands.specs.declared.mrun.Mrun.{Mrun}
+use Rattle.command_parts.specs.{Certs.AcceptsCert, Certs.HasCertFault, Contents.content_at}
+use Rattle.command_parts.specs.{Firmwares.GivesMailbox, Firmwares.RefusesText, Images.RefusesImage}
+use Rattle.command_parts.specs.{Lines.counted, Lines.line, Words.flags_of}
+use Rattle.command_parts.specs.SeenOutputs.{HasOutput, SeenOutput, only_text}
+use Rattle.run_reports.specs.PostedRun.{AcceptsPosted, PostedFiles, PostedReport, PostedRun}
 use Rattle.run_reports.specs.RowLines.{answered, begun_lines, frame_told}
+use Rattle.form_commands.specs.declared.mrun.Mrun.{Mrun}
 
 abbrev pub mrun_with : ℕ → Mrun
 mrun_with flags = record { flags = flags }

@@ -2,9 +2,9 @@
 -- Beside the promise.
 use Rattle.std.specs.Prelude.{◌≡◌, ◌<◌, ◌^◌, ℕ, List, [], ◌∷◌, ◌++◌, codes, Option, option_map, Result, Ok, Err}
 use Rattle.fuzzy_meaning.specs.declared.block.Block.{Block}
-use Rattle.codegen.specs.declared.firmware.Firmware.{Firmware}
+use Rattle.alone_code.specs.declared.firmware.Firmware.{Firmware}
 use Rattle.box_tree.specs.declared.cert.CertKind.TheVariants.{Named}
-use Rattle.eval_code.specs.declared.width.Width.TheVariants.{Byte}
+use Rattle.byte_scaling.specs.declared.width.Width.TheVariants.{Byte}
 use Rattle.interrupt_plan.specs.UpsetTexts.{HasUpsetFault, SpellsUpsets}
 use Rattle.interrupt_plan.specs.declared.{Request.Request, upsets.Upset.Upset}
 use Rattle.srecord.specs.Texts.{GivesImage}
@@ -13,12 +13,12 @@ use Rattle.watched_runs.specs.Rows.{FaultSeen}
 use Rattle.fz_status.specs.{Refusals.Refusals, Refusals.Refuses, Words.Text, Words.word_at}
 use Rattle.fz_status.specs.declared.status.Status.{Status}
 use Rattle.fz_status.specs.declared.status.Status.TheVariants as status
-use Rattle.build_commands.specs.{Contents.content_at, Images.RefusesImage, Lines.counted, Words.flags_of}
-use Rattle.build_commands.specs.SeenOutputs.{HasOutput, SeenOutput, only_text}
-use Rattle.build_commands.specs.Firmwares.{GivesWatched, RefusesText}
+use Rattle.command_parts.specs.{Contents.content_at, Images.RefusesImage, Lines.counted, Words.flags_of}
+use Rattle.command_parts.specs.SeenOutputs.{HasOutput, SeenOutput, only_text}
+use Rattle.command_parts.specs.Firmwares.{GivesWatched, RefusesText}
 use Rattle.run_reports.specs.Inputs.{AcceptsInputs, input_refusals}
 use Rattle.run_reports.specs.RowLines.{begun_lines, labelled_row_lines}
-use Rattle.form_commands.specs.WatchedRun.{WatchedFiles, WatchedReport, WatchedRun}
+use Rattle.run_reports.specs.WatchedRun.{WatchedFiles, WatchedReport, WatchedRun}
 use Rattle.form_commands.specs.declared.srun.Srun.{Srun}
 
 abbrev pub srun_with : ℕ → Srun

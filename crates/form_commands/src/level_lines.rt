@@ -3,20 +3,20 @@ ghost use Rattle.std.specs.Prelude.{◌≡◌, ◌++◌, flat_map, map, string_b
 ghost use Rattle.std.specs.List.{slice_index_or};
 ghost use Rattle.fz_shelf.specs.Lines.{text_of};
 ghost use Rattle.run_forms.specs.Rows.{boundary_seen};
-ghost use Rattle.two_level.specs.Images.{fast_most};
-ghost use Rattle.two_runs.specs.{InnerNotes.inner_seen, Harness.fast_seen, Harness.row_seen};
-ghost use Rattle.build_commands.specs.Lines.{counted};
+ghost use Rattle.two_level_code.specs.Images.{fast_most};
+ghost use Rattle.two_level_runs.specs.{InnerNotes.inner_seen, Harness.fast_seen, Harness.row_seen};
+ghost use Rattle.command_parts.specs.Lines.{counted};
 ghost use Rattle.form_commands.specs.Lrun.{fast_error_line, fast_line, fast_lines, inner_line, level_begun_lines};
 ghost use Rattle.form_commands.specs.Lrun.{level_report, level_row_lines, lrun_lines, outer_lines};
 
-use build_commands::lines::{labelled, line_of_error, push_errors};
+use command_parts::lines::{labelled, line_of_error, push_errors};
 use run_reports::row_lines::{
     labelled_frame, line_of_frame, push_answers, push_count, sample_text,
 };
 use std::alloc::{AllocError, Global};
 use std::fmt::Write;
-use two_level::Two;
-use two_runs::{FastRow, InnerFrame, TwoRow};
+use two_level_code::Two;
+use two_level_runs::{FastRow, InnerFrame, TwoRow};
 
 /// The errors and the bounds of both blocks, and each slow sample with its frames and the fast runs in them.
 pub(crate) fn lines(

@@ -4,25 +4,24 @@ ghost use Rattle.std.specs.List.{All};
 ghost use Rattle.fuzzy_meaning.specs.Blocks.{IsValid};
 ghost use Rattle.interrupt_plan.specs.Levels.{SpellsLevels};
 ghost use Rattle.fz_status.specs.{Refusals.IsRefusal, Words.texts_of};
-ghost use Rattle.build_commands.specs.{Contents.bytes_of, SeenOutputs.OutputHasNoFault, SeenOutputs.IsResultOf};
-ghost use Rattle.form_commands.specs.LevelRun.{AcceptsCerts, AcceptsLevels, LevelFiles, SpellTraces};
+ghost use Rattle.command_parts.specs.{Contents.bytes_of, SeenOutputs.OutputHasNoFault, SeenOutputs.IsResultOf};
+ghost use Rattle.run_reports.specs.LevelRun.{AcceptsCerts, AcceptsLevels, LevelFiles, SpellTraces};
 ghost use Rattle.form_commands.specs.Lrun.{AcceptedLevelRunsMakeOutput, LrunMakes, certs_refusals, level_files};
 ghost use Rattle.form_commands.specs.Lrun.{levels_refusals, lrun_in, lrun_refusals, traces_refusals};
 ghost use Rattle.form_commands.specs.declared.lrun.Lrun.{Lrun as TheLrun};
 
 use crate::level_lines::lines;
+use alone_runs::laws::answers_under_plans;
 use box_tree::CertKind;
-use build_commands::certs::{accepted_certs_have_no_fault, errors_under};
-use build_commands::contents::content;
-use build_commands::firmware::spelled_texts_have_no_fault;
-use build_commands::images::{given_images_have_no_fault, require_image};
-use build_commands::output::Output;
-use build_commands::twos::{CompiledTwo, given_twos_are_one, two_of};
-use build_commands::words::flags;
-use certified_run::posted_answers_are_near;
-use eval_code::Width;
+use byte_scaling::Width;
+use command_parts::certs::{accepted_certs_have_no_fault, errors_under};
+use command_parts::contents::content;
+use command_parts::firmware::spelled_texts_have_no_fault;
+use command_parts::images::{given_images_have_no_fault, require_image};
+use command_parts::output::Output;
+use command_parts::twos::{CompiledTwo, given_twos_are_one, two_of};
+use command_parts::words::flags;
 use fuzzy_meaning::Block;
-use fz_run::laws::answers_under_plans;
 use fz_status::{Status, word};
 use interrupt_plan::{Levels, PlanFault, read_levels, spelled_levels_have_no_fault};
 use run_reports::inputs::samples_of;
@@ -30,10 +29,11 @@ use run_reports::laws::{
     answers_are_reported, answers_keep_the_bound, spelled_bytes_fit, spelled_traces_are_one_long,
     spelled_traces_are_short,
 };
+use run_reports::nearness::posted_answers_are_near;
 use std::alloc::Global;
 use trace_io::{Sample, spelled_traces_have_no_fault};
-use two_level::alone_has_byte_bounds;
-use two_runs::{answers_under_levels, levels_make_a_plan, rows_are_seen, run_two};
+use two_level_code::alone_has_byte_bounds;
+use two_level_runs::{answers_under_levels, levels_make_a_plan, rows_are_seen, run_two};
 
 /// `lrun SLOW FAST IMAGE SCERT FCERT STRACE FTRACE LEVELS FLAGS`
 #[derive(Clone, Copy, Debug, PartialEq, Eq)]

@@ -4,32 +4,32 @@ ghost use Rattle.std.specs.Prelude.{◌≡◌, ◌≤◌, length, IfOk, IfErr};
 ghost use Rattle.std.specs.List.{All};
 ghost use Rattle.interrupt_plan.specs.Posts.{SpellsPosts};
 ghost use Rattle.fz_status.specs.{Refusals.IsRefusal, Words.texts_of};
-ghost use Rattle.build_commands.specs.{Contents.bytes_of, SeenOutputs.OutputHasNoFault, SeenOutputs.IsResultOf};
+ghost use Rattle.command_parts.specs.{Contents.bytes_of, SeenOutputs.OutputHasNoFault, SeenOutputs.IsResultOf};
 ghost use Rattle.form_commands.specs.Mrun.{AcceptedPostedRunsMakeOutput, MrunMakes, mrun_in, mrun_refusals};
 ghost use Rattle.form_commands.specs.Mrun.{posted_files, posts_refusals};
-ghost use Rattle.form_commands.specs.PostedRun.{AcceptsPosted, PostedFiles};
 ghost use Rattle.form_commands.specs.declared.mrun.Mrun.{Mrun as TheMrun};
+ghost use Rattle.run_reports.specs.PostedRun.{AcceptsPosted, PostedFiles};
 
 use crate::posted_lines::lines;
 use box_tree::CertKind;
-use build_commands::certs::{accepted_certs_have_no_fault, errors_under};
-use build_commands::contents::content;
-use build_commands::firmware::{
+use byte_scaling::Width;
+use command_parts::certs::{accepted_certs_have_no_fault, errors_under};
+use command_parts::contents::content;
+use command_parts::firmware::{
     Compiled, given_mailboxes_are_one, mailbox_of, spelled_texts_have_no_fault,
 };
-use build_commands::images::{given_images_have_no_fault, require_image};
-use build_commands::output::Output;
-use build_commands::words::flags;
-use certified_run::posted_answers_are_near;
-use eval_code::Width;
+use command_parts::images::{given_images_have_no_fault, require_image};
+use command_parts::output::Output;
+use command_parts::words::flags;
 use fz_status::{Status, word};
 use interrupt_plan::{PlanFault, Posts, read_posts, spelled_posts_have_no_fault};
-use posted_runs::{last_is_answered, posts_are_answered, run_posts};
+use mailbox_runs::{last_is_answered, posts_are_answered, run_posts};
 use run_reports::inputs::samples_of;
 use run_reports::laws::{
     answers_keep_the_bound, spelled_bytes_fit, spelled_traces_are_one_long,
     spelled_traces_are_short,
 };
+use run_reports::nearness::posted_answers_are_near;
 use std::alloc::Global;
 use trace_io::{Sample, spelled_traces_have_no_fault};
 

@@ -2,12 +2,12 @@
 ghost use Rattle.std.specs.Prelude.{◌≡◌, ◌++◌, map, string_bytes, IfOk, OnOk};
 ghost use Rattle.fz_shelf.specs.Lines.{text_of};
 ghost use Rattle.run_forms.specs.Rows.{frames_seen};
-ghost use Rattle.posted_runs.specs.Runs.{answer_seen};
-ghost use Rattle.build_commands.specs.Lines.{counted};
+ghost use Rattle.mailbox_runs.specs.Runs.{answer_seen};
+ghost use Rattle.command_parts.specs.Lines.{counted};
 ghost use Rattle.form_commands.specs.Mrun.{answer_line, mrun_lines, posted_report};
 
-use build_commands::lines::labelled;
-use posted_runs::{Answer, PostRun};
+use command_parts::lines::labelled;
+use mailbox_runs::{Answer, PostRun};
 use run_reports::row_lines::{begun, push_answered, push_labelled_frames};
 use std::alloc::{AllocError, Global};
 use std::fmt::Write;

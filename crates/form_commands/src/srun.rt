@@ -4,30 +4,30 @@ ghost use Rattle.std.specs.Prelude.{◌≡◌, ◌≤◌, ◌++◌, length, IfOk
 ghost use Rattle.std.specs.List.{All};
 ghost use Rattle.interrupt_plan.specs.UpsetTexts.{SpellsUpsets};
 ghost use Rattle.fz_status.specs.{Refusals.IsRefusal, Words.texts_of};
-ghost use Rattle.build_commands.specs.{Contents.bytes_of, Lines.counted};
-ghost use Rattle.build_commands.specs.SeenOutputs.{OutputHasNoFault, IsResultOf};
+ghost use Rattle.command_parts.specs.{Contents.bytes_of, Lines.counted};
+ghost use Rattle.command_parts.specs.SeenOutputs.{OutputHasNoFault, IsResultOf};
 ghost use Rattle.form_commands.specs.Srun.{AcceptedWatchedRunsMakeOutput, AcceptsWatched, SrunMakes, srun_in};
 ghost use Rattle.form_commands.specs.Srun.{srun_refusals, upset_refusals, watched_files, watched_row_lines};
-ghost use Rattle.form_commands.specs.{WatchedRun.WatchedFiles, declared.srun.Srun.Srun as TheSrun};
+ghost use Rattle.form_commands.specs.declared.srun.Srun.{Srun as TheSrun};
+ghost use Rattle.run_reports.specs.{WatchedRun.WatchedFiles, RowLines.begun_lines};
 ghost use Rattle.fz_shelf.specs.Lines.{text_of};
 ghost use Rattle.watched_runs.specs.Rows.{row_seen};
-ghost use Rattle.run_reports.specs.RowLines.{begun_lines};
 
 use box_tree::CertKind;
-use build_commands::contents::content;
-use build_commands::firmware::{
+use byte_scaling::Width;
+use command_parts::contents::content;
+use command_parts::firmware::{
     Compiled, given_watched_are_one, spelled_texts_have_no_fault, watched_firmware_of,
 };
-use build_commands::images::{given_images_have_no_fault, require_image};
-use build_commands::output::Output;
-use build_commands::words::flags;
-use certified_run::faultless_answers_are_near;
+use command_parts::images::{given_images_have_no_fault, require_image};
+use command_parts::output::Output;
+use command_parts::words::flags;
 use cpu12_asm::Image;
-use eval_code::Width;
 use fz_status::{Status, word};
 use interrupt_plan::{UpsetFault, Upsets, read_upsets, spelled_upsets_have_no_fault};
 use run_reports::inputs::{Inputs, inputs_of};
 use run_reports::laws::{accepted_inputs_have_no_fault, spelled_bytes_fit};
+use run_reports::nearness::faultless_answers_are_near;
 use run_reports::row_lines::{begun, push_labelled_row};
 use std::alloc::{AllocError, Global};
 use watched_runs::laws::answers_under_all_upsets;

@@ -1,6 +1,7 @@
 -- Contents that commands accept make an output.
 use Rattle.std.proofs.Common.{◌<◌, ◌^◌, ℕ, List}
-use Rattle.build_commands.specs.{Accepted.AcceptedContentsMakeOutput, Contents.content_at}
+use Rattle.build_commands.specs.Accepted.{AcceptedContentsMakeOutput}
+use Rattle.command_parts.specs.Contents.{content_at}
 use Rattle.run_commands.specs.Debug.{AcceptedDebugRunsMakeOutput, debug_files}
 use Rattle.run_commands.specs.{Generate.AcceptedNumbersMakeOutput, Run.AcceptedRunsMakeOutput, Run.files_in}
 use Rattle.form_commands.specs.Hrun.{AcceptedHandledRunsMakeOutput, handled_files}

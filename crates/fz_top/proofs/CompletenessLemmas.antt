@@ -2,12 +2,13 @@
 use Rattle.std.proofs.Common.{◌≡◌, ◌<◌, ◌^◌, ◌∙◌, ℕ, List, [], ◌∷◌, length, sym, ap, subst, arith}
 use Rattle.std.specs.Prelude.{Bool, false, ◌==◌, Option, Some}
 use Rattle.box_tree.specs.declared.cert.CertKind.{CertKind}
-use Rattle.eval_code.specs.declared.width.Width.{Width}
+use Rattle.byte_scaling.specs.declared.width.Width.{Width}
 use Rattle.fz_words.specs.Table.{any_hyphen}
 use Rattle.fz_status.specs.Words.{Text}
-use Rattle.run_commands.specs.{CertifiedRun.Files, Run.RunAccepts, Run.run_inputs, Run.run_with}
+use Rattle.run_reports.specs.CertifiedRun.{Files}
+use Rattle.run_commands.specs.Run.{RunAccepts, run_inputs, run_with}
 use Rattle.fz_shelf.specs.{Files.Names, Told.Taken}
-use Rattle.build_commands.specs.SeenOutputs.{SeenOutput}
+use Rattle.command_parts.specs.SeenOutputs.{SeenOutput}
 use Rattle.fz_top.specs.{Accepted.Accepts, Commands.Makes, Commands.command_in, Commands.form_of, Commands.inputs_of}
 use Rattle.fz_top.specs.{Reads.names_at, Runs.AreKnown, Runs.CanBeDone, Runs.FileFits, Runs.RoomFor}
 use Rattle.fz_top.specs.declared.command.Command.{Command}

@@ -8,12 +8,12 @@ use Rattle.fz_status.specs.{Words.Text, Words.word_at, declared.status.Status.St
 use Rattle.fz_status.specs.declared.status.Status.TheVariants as status
 use Rattle.box_tree.specs.declared.cert.CertKind.{CertKind}
 use Rattle.box_tree.specs.declared.cert.CertKind.TheVariants.{Named, Tight}
-use Rattle.eval_code.specs.declared.{width.Width.Width, width.Width.TheVariants.Byte, width.Width.TheVariants.Word}
-use Rattle.build_commands.specs.SeenOutputs.{SeenOutput}
+use Rattle.byte_scaling.specs.declared.{width.Width.Width, width.Width.TheVariants.Byte, width.Width.TheVariants.Word}
+use Rattle.command_parts.specs.SeenOutputs.{SeenOutput}
 use Rattle.run_commands.specs.Run.{RunGives, files_in, run_inputs, run_with}
 use Rattle.fz_top.specs.Commands.{Makes, command_in, form_of, inputs_of, table}
-use Rattle.fz_top.specs.{Reads.AreHeld, Reads.names_at, Runs.Delivered, Runs.Runs, Runs.World}
 use Rattle.fz_top.specs.declared.{command.Command.Command, command.Command.TheVariants.Run, command.Name.Name}
+use Rattle.fz_top.specs.{Reads.AreHeld, Reads.names_at, Runs.Delivered, Runs.Runs, Runs.World}
 use Rattle.fz_top.specs.declared.command.Name.TheVariants as name
 use Rattle.fz_top.proofs.FlagsLemmas.{flags_small}
 use Rattle.fz_top.specs.Keeping.{AreOf, IsRun, KeepsPromise, OkKeepsPromise, run_name}

@@ -5,12 +5,12 @@ use Rattle.std.proofs.Math.Seq.{take-suc}
 use Rattle.std.proofs.lemmas.List.{map-append}
 use Rattle.std.specs.List.{All}
 use Rattle.fz_shelf.specs.Files.{Names, Holds, IsThere, IsLong}
-use Rattle.fz_shelf.specs.{Log.Log, Reading.Counts, Faults.Rose, declared.log.Answer.Answer}
 use Rattle.fz_shelf.specs.declared.log.Answer.TheVariants.{Whole, Missed, Long}
+use Rattle.fz_shelf.specs.{Log.Log, Reading.Counts, Faults.Rose, declared.log.Answer.Answer}
 use Rattle.std.specs.declared.alloc.Global.{Global}
 use Rattle.std.specs.declared.vec.Vec.{Vec}
 use Rattle.fz_status.specs.Words.{Text, word_at}
-use Rattle.build_commands.specs.Contents.{bytes_of}
+use Rattle.command_parts.specs.Contents.{bytes_of}
 use Rattle.fz_top.specs.Reads.{AreHeld, AreThere, names_at, whole_entries, Reads, ReadsOne, ReadsWhole, StopsAt}
 use Rattle.fz_top.specs.Reads.{StopsBy}
 use Rattle.fz_top.specs.declared.reading.Stop.{Stop}

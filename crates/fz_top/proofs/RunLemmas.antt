@@ -8,8 +8,8 @@ use Rattle.fz_shelf.specs.Files.{File, IsThere, IsLong, Holds, Names, known as k
 use Rattle.std.specs.declared.alloc.Global.{Global}
 use Rattle.std.specs.declared.vec.Vec.{Vec}
 use Rattle.fz_status.specs.Words.{Text, word_at}
-use Rattle.build_commands.specs.Contents.{bytes_of}
-use Rattle.build_commands.specs.SeenOutputs.{HasOutput, SeenOutput, IsFaultOf}
+use Rattle.command_parts.specs.Contents.{bytes_of}
+use Rattle.command_parts.specs.SeenOutputs.{HasOutput, SeenOutput, IsFaultOf}
 use Rattle.fz_top.specs.{Commands.Makes, Commands.command_in, Commands.inputs_of, declared.command.Command.Command}
 use Rattle.fz_top.specs.Reads.{ReadsWhole, AreHeld, AreThere, names_at, StopsBy}
 use Rattle.fz_top.specs.Runs.{OutputsHaveNoFault, HasNoFault, Faulted, IsMade, Untouched, IsReadFault, IsTooLong}

@@ -5,7 +5,7 @@ use Rattle.fz_status.specs.{Words.Text, declared.status.Status.Status}
 use Rattle.fz_status.specs.declared.status.Status.TheVariants as status
 use Rattle.fz_top.specs.{Commands.Makes, Runs.Faulted, Runs.IsReadFault, Runs.IsWriteFault, Runs.Runs, Runs.World}
 use Rattle.fz_top.specs.declared.command.Command.{Command}
-use Rattle.build_commands.specs.SeenOutputs.{IsFaultOf}
+use Rattle.command_parts.specs.SeenOutputs.{IsFaultOf}
 
 -- the status tells a fault of the contents
 pub record IsOfContents (s : Status) : Type 0 where

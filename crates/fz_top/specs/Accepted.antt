@@ -2,9 +2,9 @@
 -- Beside the promise.
 use Rattle.std.specs.Prelude.{◌<◌, ◌^◌, ℕ, List}
 use Rattle.build_commands.specs.{Asm.AsmAccepts, Certify.CertifyAccepts, Check.CheckAccepts, Compile.CompileAccepts}
-use Rattle.build_commands.specs.{Contents.content_at, Exec.ExecAccepts, Hcheck.HcheckAccepts}
 use Rattle.build_commands.specs.{Lcompile.LcompileAccepts, Mcompile.McompileAccepts, Scompile.ScompileAccepts}
-use Rattle.build_commands.specs.SeenOutputs.{HasOutput}
+use Rattle.command_parts.specs.{Contents.content_at, SeenOutputs.HasOutput}
+use Rattle.build_commands.specs.{Exec.ExecAccepts, Hcheck.HcheckAccepts}
 use Rattle.run_commands.specs.{Debug.DebugAccepts, Debug.debug_files, Generate.GenerateAccepts}
 use Rattle.run_commands.specs.Run.{RunAccepts, files_in}
 use Rattle.form_commands.specs.{Hrun.HrunAccepts, Hrun.handled_files, Lrun.LrunAccepts, Lrun.level_files}

@@ -4,15 +4,15 @@ use Rattle.std.specs.Prelude.{◌≡◌, ◌⊎◌, ℕ, List, [], ◌∷◌, co
 use Rattle.std.specs.Prelude.{option_map}
 use Rattle.fz_words.specs.{App.IsRefused, Table.Row, Table.row, Table.command_in as command_by}
 use Rattle.box_tree.specs.declared.cert.CertKind.TheVariants.{Named, Tight}
-use Rattle.eval_code.specs.declared.width.Width.TheVariants.{Byte, Word}
-use Rattle.build_commands.specs.{Asm.AsmMakes, Asm.asm_inputs, SeenOutputs.SeenOutput}
+use Rattle.byte_scaling.specs.declared.width.Width.TheVariants.{Byte, Word}
+use Rattle.build_commands.specs.{Asm.AsmMakes, Asm.asm_inputs, Hcheck.HcheckMakes, Hcheck.hcheck_inputs}
 use Rattle.build_commands.specs.Certify.{CertifyMakes, certify_in, certify_inputs}
 use Rattle.build_commands.specs.Check.{CheckMakes, check_in, check_inputs}
 use Rattle.build_commands.specs.Compile.{CompileMakes, compile_in, compile_inputs}
 use Rattle.build_commands.specs.Exec.{ExecMakes, exec_in, exec_inputs}
-use Rattle.build_commands.specs.Hcheck.{HcheckMakes, hcheck_inputs}
+use Rattle.build_commands.specs.Scompile.{ScompileMakes, scompile_inputs}
+use Rattle.command_parts.specs.{SeenOutputs.SeenOutput, Contents.content_at}
 use Rattle.build_commands.specs.{Lcompile.LcompileMakes, Lcompile.lcompile_inputs, Mcompile.McompileMakes}
-use Rattle.build_commands.specs.{Scompile.ScompileMakes, Scompile.scompile_inputs, Contents.content_at}
 use Rattle.run_commands.specs.Debug.{DebugMakes, debug_files, debug_in, debug_inputs}
 use Rattle.run_commands.specs.Generate.{GenerateMakes, generate_in, generate_inputs}
 use Rattle.run_commands.specs.Run.{RunMakes, files_in, run_in, run_inputs}

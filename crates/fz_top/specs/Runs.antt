@@ -2,13 +2,13 @@
 -- Reached by the promise.
 use Rattle.std.specs.Prelude.{◌≡◌, ◌≢◌, ◌⊎◌, ◌<◌, ◌≤◌, ℕ, List, [], ◌∷◌, ◌++◌, length, Option, Some, None}
 use Rattle.std.specs.Prelude.{is_some, true, Result, Ok, Err}
-use Rattle.fz_shelf.specs.{Faults.Rose, Told.Taken, Told.gained, Told.GainedPart, Told.HasRoom}
-use Rattle.fz_shelf.specs.{Files.Names, Files.Written, Files.Fits, Files.known, Log.Log, Reading.Counts}
+use Rattle.fz_shelf.specs.{Faults.Rose, Told.Taken, Told.gained, Told.GainedPart, Told.HasRoom, Files.Names}
+use Rattle.fz_shelf.specs.{Files.Written, Files.Fits, Files.known, Log.Log, Reading.Counts}
 use Rattle.fz_status.specs.Words.{Text, word_at}
 use Rattle.fz_top.specs.{Accepted.Accepts, Commands.Makes, Commands.command_in, Commands.inputs_of}
 use Rattle.fz_top.specs.Reads.{AreHeld, ReadsFirst, names_at, whole_entries, StopsBy}
 use Rattle.fz_top.specs.declared.{command.Command.Command, reading.Stop.Stop}
-use Rattle.build_commands.specs.SeenOutputs.{SeenOutput}
+use Rattle.command_parts.specs.SeenOutputs.{SeenOutput}
 use Rattle.fz_top.specs.declared.reading.Stop.TheVariants as stop
 use Rattle.fz_status.specs.declared.status.Status.{Status}
 use Rattle.fz_status.specs.declared.status.Status.TheVariants as status

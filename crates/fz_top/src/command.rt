@@ -7,18 +7,18 @@ ghost use Rattle.std.specs.Prelude.{◌≡◌, ◌↔◌, ◌≤◌, length, IfO
 ghost use Rattle.std.specs.List.{All};
 ghost use Rattle.fz_words.specs.App.{IsRefused};
 ghost use Rattle.fz_status.specs.Words.{texts_of};
-ghost use Rattle.build_commands.specs.{Contents.bytes_of, SeenOutputs.IsResultOf};
+ghost use Rattle.command_parts.specs.{Contents.bytes_of, SeenOutputs.IsResultOf};
 ghost use Rattle.fz_top.specs.Commands.{IsUsage, Makes, command_in, form_of, inputs_of, name_in, table};
 
 use box_tree::CertKind::{self, Named, Tight};
 use build_commands::certify::{self, Certify};
 use build_commands::check::{self, Check};
 use build_commands::compile::{self, Compile};
-use build_commands::contents::content;
 use build_commands::exec::{self, Exec};
-use build_commands::output::Output;
 use build_commands::{asm, hcheck, lcompile, mcompile, scompile};
-use eval_code::Width::{self, Byte, Word};
+use byte_scaling::Width::{self, Byte, Word};
+use command_parts::contents::content;
+use command_parts::output::Output;
 use form_commands::hrun::{self, Hrun};
 use form_commands::lrun::{self, Lrun};
 use form_commands::mrun::{self, Mrun};

@@ -2,10 +2,10 @@
 ghost use Rattle.std.specs.Prelude.{◌≡◌, ◌⊎◌, length, OnOk, OnErr, IsOk};
 ghost use Rattle.fz_shelf.specs.Told.{HasRoom};
 ghost use Rattle.fz_status.specs.Words.{texts_of};
-ghost use Rattle.build_commands.specs.SeenOutputs.{seen_output};
+ghost use Rattle.command_parts.specs.SeenOutputs.{seen_output};
 ghost use Rattle.fz_top.specs.Runs.{world, ChangesOnly, FileFits, Delivered, WriteFailed, PutFailed};
 
-use build_commands::output::Output;
+use command_parts::output::Output;
 use fz_shelf::{Failed, Shelf, Sink, put_lines};
 use fz_status::word;
 

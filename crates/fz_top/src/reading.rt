@@ -3,7 +3,7 @@ ghost use Rattle.std.specs.Prelude.{◌≡◌, ◌<◌, ◌≤◌, length, IfOk,
 ghost use Rattle.std.specs.List.{All};
 ghost use Rattle.fz_shelf.specs.Files.{IsThere};
 ghost use Rattle.fz_status.specs.Words.{texts_of, word_at};
-ghost use Rattle.build_commands.specs.Contents.{bytes_of};
+ghost use Rattle.command_parts.specs.Contents.{bytes_of};
 ghost use Rattle.fz_top.specs.declared.reading.Stop.TheVariants.{Memory};
 ghost use Rattle.fz_top.specs.Reads.{ReadsWhole, StopsBy, AreThere, IsFailedRead, names_at, ReadsOne, StopsAt};
 

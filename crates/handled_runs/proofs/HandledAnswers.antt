@@ -14,13 +14,13 @@ use Rattle.run_law.specs.Following.{Completes, AllComplete, RunsFollow, expected
 use Rattle.handler_check.specs.Images.{IsHandler}
 use Rattle.interrupt_plan.specs.{declared.Request.Request, Plans.IsGoodRequest, Plans.IsGood}
 use Rattle.eval_code.specs.{declared.memory_map.MemoryMap.MemoryMap, Firing.AreInputBytes}
-use Rattle.codegen.specs.{declared.firmware.Firmware.Firmware, Answers.LeavesMapped, Firmwares.IsFirmwareOf}
-use Rattle.firmware_ports.specs.Ports.{given}
-use Rattle.fz_run.specs.{Forms.with_writes, Following.RunsFollowBeside, Given.RequestsAreGood}
-use Rattle.fz_run.specs.Rows.{requests_of, first_state}
-use Rattle.fz_run.specs.Answering.{FirmwareRunsBeside, FirstAlike, FirstStatesAlike, FirstStatesAgree}
+use Rattle.alone_code.specs.{declared.firmware.Firmware.Firmware, Answers.LeavesMapped, Firmwares.IsFirmwareOf}
+use Rattle.firmware_runs.specs.Ports.{given}
+use Rattle.alone_runs.specs.{Forms.with_writes, Following.RunsFollowBeside, Given.RequestsAreGood}
+use Rattle.alone_runs.specs.Rows.{requests_of, first_state}
+use Rattle.alone_runs.specs.Answering.{FirmwareRunsBeside, FirstAlike, FirstStatesAlike, FirstStatesAgree}
 use Rattle.run_forms.specs.{Showing.RowsAreShown, Rows.tellings}
-use Rattle.instruction_steps.specs.Facts.{FactsBeside}
+use Rattle.firmware_runs.specs.Facts.{FactsBeside}
 use Rattle.run_forms.proofs.Algebra.{map-shown_rows, all_onto_all}
 use Rattle.handled_runs.specs.{Open.is_open_to_code, Joint.joint_memory, declared.back.HandlerEnd.HandlerEnd}
 use Rattle.handled_runs.specs.Forms.{with_code, first_handled, handled_rows, steps_of, HandledSeen, with_steps}

@@ -7,11 +7,11 @@ use Rattle.cpu12_emul.specs.Simulation.{OnStackOnly}
 use Rattle.run_law.specs.Following.{AllComplete, RowsSimulate}
 use Rattle.handler_check.specs.Images.{IsHandler}
 use Rattle.interrupt_plan.specs.{declared.Request.Request, Plans.IsGood}
-use Rattle.codegen.specs.{declared.firmware.Firmware.Firmware, Firmwares.IsFirmwareOf}
+use Rattle.alone_code.specs.{declared.firmware.Firmware.Firmware, Firmwares.IsFirmwareOf}
 use Rattle.eval_code.specs.Firing.{AreInputBytes}
 use Rattle.run_forms.specs.Rows.{tellings}
-use Rattle.instruction_steps.specs.Facts.{FactsBeside}
-use Rattle.fz_run.specs.Rows.{first_state, firmware_rows}
+use Rattle.firmware_runs.specs.Facts.{FactsBeside}
+use Rattle.alone_runs.specs.Rows.{first_state, firmware_rows}
 use Rattle.handled_runs.specs.{declared.back.HandlerEnd.HandlerEnd, Open.is_open_to_code}
 use Rattle.handled_runs.specs.Forms.{with_code, handled_rows, handled_seen, steps_of, HandledSeen}
 

@@ -19,12 +19,12 @@ use Rattle.run_law.specs.Soundness.{Begins, Quiet, Sound, SumsFitBelow, WritesAr
 use Rattle.handler_check.specs.Images.{IsWhole, IsHandler}
 use Rattle.handler_check.specs.Running.{HasImage, CanBegin, IsQuietCode, HandlersAreQuiet}
 use Rattle.interrupt_plan.specs.{declared.Request.Request, Plans.IsGoodRequest}
-use Rattle.codegen.specs.declared.firmware.Firmware.{Firmware}
-use Rattle.firmware_ports.specs.Ports.{given}
-use Rattle.instruction_steps.specs.Facts.{IsStackOfOneCall, FactsBeside}
-use Rattle.fz_run.specs.Following.{IsLow, OpensFree}
-use Rattle.fz_run.specs.OpenBytes.{AreOpenAlike, StepsLeaveOpen, GivenLeavesOpen}
-use Rattle.fz_run.specs.SoundAloneProof.{low_ports, given_alike, answered_alike, ended_alike}
+use Rattle.alone_code.specs.declared.firmware.Firmware.{Firmware}
+use Rattle.firmware_runs.specs.Ports.{given}
+use Rattle.firmware_runs.specs.Facts.{IsStackOfOneCall, FactsBeside}
+use Rattle.alone_runs.specs.Following.{IsLow, OpensFree}
+use Rattle.alone_runs.specs.OpenBytes.{AreOpenAlike, StepsLeaveOpen, GivenLeavesOpen}
+use Rattle.alone_runs.specs.SoundAloneProof.{low_ports, given_alike, answered_alike, ended_alike}
 use Rattle.handled_runs.specs.{Open.is_code, Open.is_open_to_code, Forms.served, Forms.end_of, Forms.with_code}
 use Rattle.handled_runs.specs.{Answering.CameBack, Answering.AllCameBack, declared.back.HandlerEnd.HandlerEnd}
 

@@ -6,12 +6,12 @@ ghost use Rattle.handled_runs.specs.declared.back.HandlerEnd as end;
 
 use crate::back::{HandlerEnd, until_rti};
 use crate::rows::HandledRow;
-use codegen::Firmware;
+use alone_code::Firmware;
+use alone_runs::row_of;
 use cpu12_emul::machine::Machine;
 use cpu12_isa::mem::Mem;
-use firmware_ports::{answers, give, is_busy_here, is_idle};
+use firmware_runs::{answers, give, is_busy_here, is_idle};
 use fz_list::Memory;
-use fz_run::row_of;
 use interrupt_plan::Request;
 use run_forms::{Room, RunForm, SampleForm, Tally, room_for};
 use std::alloc::Global;

@@ -3,7 +3,7 @@ ghost use Rattle.std.specs.Prelude.{ℕ, List};
 ghost use Rattle.cpu12_emul.specs.Simulation.{OnStackOnly};
 ghost use Rattle.interrupt_plan.specs.Plans.{IsGoodRequest};
 ghost use Rattle.interrupt_plan.specs.declared.Request as plan;
-ghost use Rattle.instruction_steps.specs.Facts.{FactsBeside};
+ghost use Rattle.firmware_runs.specs.Facts.{FactsBeside};
 ghost use Rattle.handled_runs.specs.declared.back.HandlerEnd as end;
 ghost use Rattle.handled_runs.specs.{Open.is_open_to_code, Forms.with_code};
 ghost use Rattle.handled_runs.specs.SoundHandledProof.{Handled, HandlerStands, sound};

@@ -5,11 +5,11 @@ use crate::back::HandlerEnd;
 use crate::form::WithCode;
 use crate::handled::HandledForm;
 use crate::rows::HandledRow;
-use cpu12_emul::laws::holds_image;
-use fz_run::laws::{
+use alone_runs::laws::{
     firmware_runs_beside, first_states_agree, first_states_alike, given_leaves_open,
     requests_are_good, runs_follow_beside, steps_leave_open,
 };
+use cpu12_emul::laws::holds_image;
 use handler_check::laws::handlers_are_quiet;
 use interrupt_plan::Request;
 use run_forms::Room;

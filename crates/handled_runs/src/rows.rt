@@ -2,19 +2,19 @@
 ghost use Rattle.std.specs.Prelude.{ℕ, ◌≡◌, ◌≤◌, map, IfOk};
 ghost use Rattle.handler_check.specs.Images.{IsHandler};
 ghost use Rattle.interrupt_plan.specs.Plans.{IsGood};
-ghost use Rattle.fz_run.specs.Rows.{input_bytes};
+ghost use Rattle.alone_runs.specs.Rows.{input_bytes};
 ghost use Rattle.handled_runs.specs.{Forms.row_seen, Forms.handled_seen, Answering.HandlesItsBlock};
 
 use crate::form::WithCode;
 use crate::joint::joint_image;
 use crate::laws::handled_answers;
-use codegen::Firmware;
+use alone_code::Firmware;
+use alone_runs::Row;
+use alone_runs::laws::plans_are_in_order;
 use cpu12_asm::Image;
 use cpu12_emul::laws::images_load_alike;
 use cpu12_isa::pages::PageMem;
 use fz_list::Memory;
-use fz_run::Row;
-use fz_run::laws::plans_are_in_order;
 use interrupt_plan::Plan;
 use run_forms::{Start, run_form};
 use std::alloc::Global;
@@ -63,7 +63,7 @@ fn joint_rows(
 /// Runs a firmware over a trace under a plan, where each interrupt runs the code of a handler's image, up to its RTI or
 /// to the one limit of all handlers, and answers a row for each sample. Bits of `flags` give the flags that the CPU12
 /// Reference Manual leaves undefined. Where the image is an accepted handler and the firmware a block's, the rows are
-/// those of `fz_run::run`, and each interrupt comes to its RTI, after at most as many steps as the handler has
+/// those of `alone_runs::run`, and each interrupt comes to its RTI, after at most as many steps as the handler has
 /// instructions on a path. Want of memory is the one error.
 pub fn run_handler(
     alloc: Global,

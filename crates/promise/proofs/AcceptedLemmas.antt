@@ -2,12 +2,13 @@
 use Rattle.std.proofs.Common.{length, refl}
 use Rattle.fuzzy_meaning.specs.declared.block.Block.{Block}
 use Rattle.cpu12_asm.specs.declared.image.Image.{Image}
-use Rattle.codegen.specs.{Firmwares.IsFirmwareOf, Images.IsImageOf, Images.firmware_items}
-use Rattle.codegen.specs.declared.firmware.Firmware.{Firmware}
-use Rattle.eval_code.specs.{Bounds.instruction_bound, Bounds.step_bound, MemoryMaps.main_map, Widths.is_wide}
-use Rattle.eval_code.specs.declared.{width.Width.Width, width.Width.TheVariants.Byte, width.Width.TheVariants.Word}
+use Rattle.alone_code.specs.{Firmwares.IsFirmwareOf, Images.IsImageOf, Images.firmware_items}
+use Rattle.alone_code.specs.declared.firmware.Firmware.{Firmware}
+use Rattle.eval_code.specs.{Bounds.instruction_bound, Bounds.step_bound, MemoryMaps.main_map}
+use Rattle.byte_scaling.specs.Widths.{is_wide}
+use Rattle.byte_scaling.specs.declared.{width.Width.Width, width.Width.TheVariants.Byte, width.Width.TheVariants.Word}
 use Rattle.box_tree.specs.declared.cert.CertKind.{CertKind}
-use Rattle.run_commands.specs.CertifiedRun.{Files}
+use Rattle.run_reports.specs.CertifiedRun.{Files}
 use Rattle.run_commands.specs.Run.{AcceptedRunsMakeOutput, Accepts, run_lines, run_with}
 use Rattle.promise.specs.Laws.{AcceptedFilesGiveFirmware, AcceptedFilesKeepPromise, AreAccepted}
 use Rattle.promise.specs.Laws.{CertifiedRunsKeepPromise}

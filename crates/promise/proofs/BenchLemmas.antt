@@ -4,17 +4,17 @@ use Rattle.std.specs.Prelude.{false, not, ◌≢◌, Bool}
 use Rattle.cpu12_parts.specs.{State.State, Whole.IsPlainStep, Whole.PlainExecution}
 use Rattle.cpu12_parts.specs.declared.temps.Temps.TheVariants.{Free}
 use Rattle.cpu12_emul.specs.Take.{framed}
-use Rattle.codegen.specs.{declared.firmware.Firmware.Firmware, Interruptible.is_idle}
-use Rattle.eval_code.specs.{MemoryMaps.main_map, Widths.is_wide}
-use Rattle.eval_code.specs.declared.{memory_map.MemoryMap.MemoryMap, width.Width.Width}
-use Rattle.firmware_ports.specs.Ports.{answers_at, given}
+use Rattle.alone_code.specs.{declared.firmware.Firmware.Firmware, Interruptible.is_idle}
+use Rattle.eval_code.specs.{MemoryMaps.main_map, declared.memory_map.MemoryMap.MemoryMap}
+use Rattle.byte_scaling.specs.{Widths.is_wide, declared.width.Width.Width}
+use Rattle.firmware_runs.specs.Ports.{answers_at, given}
 use Rattle.interrupt_plan.specs.declared.Request.{Request}
 use Rattle.cpu12_isa.specs.Flags.{has, interrupts_masked}
 use Rattle.run_law.specs.Following.{AllComplete, Completes, expected_rows}
-use Rattle.run_law.specs.{Moments.TakenAtOnce, Forms.Form, Forms.RowSeen}
 use Rattle.run_law.specs.Uninterrupted.{counted, frames_of, resumed_of, state_by, stepped, taken_at, uninterrupted}
+use Rattle.run_law.specs.{Moments.TakenAtOnce, Forms.Form, Forms.RowSeen}
 use Rattle.run_forms.specs.Arrival.{PlainIsOneStep}
-use Rattle.fz_run.specs.{Following.rows_of_samples, Forms.with_writes}
+use Rattle.alone_runs.specs.{Following.rows_of_samples, Forms.with_writes}
 use Rattle.promise.specs.Bench.{AreReadOff, EndsAfter, bench, requests_in}
 
 -- ---- the form of a firmware that stands alone is the bench's

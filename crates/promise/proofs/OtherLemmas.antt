@@ -1,12 +1,12 @@
 -- The other runs keep the promise.
 use Rattle.std.proofs.Common.{◌∙◌, refl, sym, arith}
-use Rattle.eval_code.specs.declared.width.Width.TheVariants.{Byte}
-use Rattle.two_runs.specs.Answering.{plan_of}
+use Rattle.byte_scaling.specs.declared.width.Width.TheVariants.{Byte}
+use Rattle.two_level_runs.specs.Answering.{plan_of}
 use Rattle.std.proofs.Common.{List, map, subst}
 use Rattle.run_law.specs.{Forms.RowSeen, Moments.TakenAtOnce}
 use Rattle.watched_code.specs.Watched.{Watched}
 use Rattle.watched_runs.specs.{Forms.FactsWatched, Forms.watched_form, Rows.upset_rows, Samples.with_upsets}
-use Rattle.fz_run.specs.Rows.{first_state, input_bytes}
+use Rattle.alone_runs.specs.Rows.{first_state, input_bytes}
 use Rattle.promise.specs.{Bench.AreReadOff, Bench.requests_in, Laws.AnswersServe}
 use Rattle.promise.specs.OtherRuns.{DebuggedRunsServe, WatchedRunsServe, GeneratedRunsServe, HandledRunsServe}
 use Rattle.promise.specs.OtherRuns.{OtherRunsServe, SlowRunsServe}

@@ -4,21 +4,21 @@ use Rattle.std.specs.Prelude.{length, map, All, slice_index_or, ◌-◌}
 use Rattle.std.proofs.lemmas.Option.{slice_get-get_or}
 use Rattle.box_tree.specs.{Certificates.AreClaims, declared.cert.Cert.Cert}
 use Rattle.cert_check.specs.Acceptance.{IsAccepted}
-use Rattle.eval_code.specs.Widths.{parts}
+use Rattle.byte_scaling.specs.Widths.{parts}
 use Rattle.std.proofs.lemmas.List.Elements.{All-nil}
 use Rattle.fuzzy_meaning.specs.{Blocks.IsValid, declared.block.Block.Block}
 use Rattle.rule_layout.specs.Layouts.{IsWithinLimits}
 use Rattle.cpu12_parts.specs.State.{State}
 use Rattle.cpu12_emul.specs.{Image.image_memory, Step.reset_with}
-use Rattle.codegen.specs.{Answers.FirmwareAnswers, Firmwares.IsFirmwareOf, declared.firmware.Firmware.Firmware}
+use Rattle.alone_code.specs.{Answers.FirmwareAnswers, Firmwares.IsFirmwareOf, declared.firmware.Firmware.Firmware}
 use Rattle.eval_code.specs.Bounds.{BoundsAreFew, instruction_bound, step_bound, steps_by}
-use Rattle.eval_code.specs.Widths.{is_wide, width_of}
-use Rattle.eval_code.specs.declared.{memory_map.MemoryMap.MemoryMap, width.Width.Width}
+use Rattle.eval_code.specs.declared.memory_map.MemoryMap.{MemoryMap}
+use Rattle.byte_scaling.specs.{Widths.is_wide, Widths.width_of, declared.width.Width.Width}
 use Rattle.interrupt_plan.specs.declared.Request.{Request}
 use Rattle.run_law.specs.Forms.{Form, RowSeen}
 use Rattle.run_forms.specs.Arrival.{ArrivesPlainly, PlainIsOneStep}
-use Rattle.fz_run.specs.{Answering.AnswersUnder, Forms.with_writes}
-use Rattle.fz_run.specs.Rows.{firmware_rows, first_state, input_bytes}
+use Rattle.alone_runs.specs.{Answering.AnswersUnder, Forms.with_writes}
+use Rattle.alone_runs.specs.Rows.{firmware_rows, first_state, input_bytes}
 use Rattle.run_commands.specs.Run.{run_lines}
 use Rattle.promise.specs.Bench.{AreReadOff, IsFirstAtLoop, IsRunOf, bench, loop, requests_in}
 use Rattle.promise.specs.{Laws.AnswersServe, Laws.CertifiedRunsKeepPromise, Promise.Serves}

@@ -6,8 +6,8 @@ use Rattle.cpu12_asm.specs.declared.image.Image.{Image}
 use Rattle.cpu12_isa.specs.{Act.write_all, Memory.placed}
 use Rattle.cpu12_parts.specs.State.{State}
 use Rattle.cpu12_emul.specs.{Image.image_memory, Step.reset_with, Take.framed}
-use Rattle.eval_code.specs.{Widths.is_wide, declared.width.Width.Width}
-use Rattle.firmware_ports.specs.Ports.{answers_at}
+use Rattle.byte_scaling.specs.{Widths.is_wide, declared.width.Width.Width}
+use Rattle.firmware_runs.specs.Ports.{answers_at}
 use Rattle.interrupt_plan.specs.declared.Request.{Request}
 use Rattle.run_law.specs.Forms.{Form, RowSeen, rows_from}
 use Rattle.run_law.specs.Uninterrupted.{counted, frames_of, resumed_of, uninterrupted}

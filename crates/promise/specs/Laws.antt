@@ -1,21 +1,21 @@
 -- Laws of the promise.
 -- Beside the promise.
 use Rattle.box_tree.specs.declared.cert.CertKind.{CertKind}
-use Rattle.build_commands.specs.Certs.{AcceptsCert}
-use Rattle.codegen.specs.{Firmwares.IsFirmwareOf, Images.IsImageOf, Images.firmware_items}
-use Rattle.codegen.specs.declared.firmware.Firmware.{Firmware}
+use Rattle.command_parts.specs.Certs.{AcceptsCert}
+use Rattle.alone_code.specs.{Firmwares.IsFirmwareOf, Images.IsImageOf, Images.firmware_items}
+use Rattle.alone_code.specs.declared.firmware.Firmware.{Firmware}
 use Rattle.cpu12_asm.specs.declared.image.Image.{Image}
-use Rattle.eval_code.specs.{MemoryMaps.main_map, Widths.is_wide, declared.width.Width.Width}
+use Rattle.eval_code.specs.MemoryMaps.{main_map}
+use Rattle.byte_scaling.specs.{Widths.is_wide, declared.width.Width.Width}
 use Rattle.fcl_check.specs.Texts.{SpellsBlock}
 use Rattle.fuzzy_meaning.specs.{Blocks.IsValid, declared.block.Block.Block}
 use Rattle.interrupt_plan.specs.{PlanTexts.Spells as SpellsPlan, declared.Request.Request}
 use Rattle.promise.specs.Promise.{IsPrintable, Promise, Serves}
 use Rattle.rule_layout.specs.Layouts.{IsWithinLimits}
-use Rattle.run_commands.specs.CertifiedRun.{CertifiedRun, Files}
+use Rattle.run_reports.specs.{CertifiedRun.CertifiedRun, CertifiedRun.Files, Reports.Report}
 use Rattle.run_commands.specs.Run.{RunAccepts, run_lines, run_with}
-use Rattle.fz_run.specs.{Answering.AnswersUnder, Rows.firmware_rows}
+use Rattle.alone_runs.specs.{Answering.AnswersUnder, Rows.firmware_rows}
 use Rattle.run_law.specs.Forms.{RowSeen}
-use Rattle.run_reports.specs.Reports.{Report}
 use Rattle.srecord.specs.Texts.{GivesImage}
 use Rattle.std.specs.Prelude.{◌≡◌, ◌<◌, ◌^◌, ℕ, List, length}
 use Rattle.trace_io.specs.{Traces.Spells as SpellsTrace, declared.sample.Sample.Sample}

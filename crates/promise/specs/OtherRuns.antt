@@ -1,16 +1,16 @@
 -- What `gen`, `debug`, `hrun`, `lrun` and `srun` tell of their rows.
 -- Beside the promise.
 use Rattle.std.specs.Prelude.{◌≡◌, ◌<◌, ◌^◌, ℕ, List, length, map}
-use Rattle.eval_code.specs.declared.width.Width.TheVariants.{Byte}
-use Rattle.build_commands.specs.SeenOutputs.{SeenOutput}
-use Rattle.fz_run.specs.Rows.{input_bytes, first_state}
+use Rattle.byte_scaling.specs.declared.width.Width.TheVariants.{Byte}
+use Rattle.command_parts.specs.SeenOutputs.{SeenOutput}
+use Rattle.alone_runs.specs.Rows.{input_bytes, first_state}
 use Rattle.handled_runs.specs.Forms.{first_handled, with_code}
-use Rattle.two_runs.specs.{Answering.plan_of, Rows.first_two, Rows.level_form, Rows.levels_of}
+use Rattle.two_level_runs.specs.{Answering.plan_of, Rows.first_two, Rows.level_form, Rows.levels_of}
 use Rattle.run_commands.specs.{Debug.DebugFiles, Debug.DebugGives, Generate.GenerateGives}
 use Rattle.run_commands.specs.declared.debug.DebugRun.{DebugRun}
-use Rattle.form_commands.specs.HandledRun.{HandledFiles, HandledReport, HandledRun}
-use Rattle.form_commands.specs.LevelRun.{LevelFiles, LevelReport, LevelRun}
-use Rattle.form_commands.specs.WatchedRun.{WatchedFiles, WatchedReport, WatchedRun}
+use Rattle.run_reports.specs.HandledRun.{HandledFiles, HandledReport, HandledRun}
+use Rattle.run_reports.specs.LevelRun.{LevelFiles, LevelReport, LevelRun}
+use Rattle.run_reports.specs.WatchedRun.{WatchedFiles, WatchedReport, WatchedRun}
 use Rattle.cpu12_parts.specs.State.{State}
 use Rattle.run_law.specs.Forms.{RowSeen}
 use Rattle.watched_code.specs.Watched.{Watched}

@@ -2,17 +2,18 @@
 use Rattle.std.proofs.Common.{◌≡◌, ℕ, List, refl, subst}
 use Rattle.std.specs.Prelude.{map}
 use Rattle.fuzzy_meaning.specs.declared.block.Block.{Block}
-use Rattle.codegen.specs.declared.firmware.Firmware.{Firmware}
+use Rattle.alone_code.specs.declared.firmware.Firmware.{Firmware}
 use Rattle.interrupt_plan.specs.declared.Request.{Request}
 use Rattle.trace_io.specs.declared.sample.Sample.{Sample}
 use Rattle.run_law.specs.Forms.{RowSeen}
-use Rattle.fz_run.specs.{Answering.AnswersItsBlock, Answering.AnswersUnderPlans, Rows.firmware_rows, Rows.input_bytes}
+use Rattle.alone_runs.specs.{Answering.AnswersItsBlock, Answering.AnswersUnderPlans, Rows.firmware_rows}
+use Rattle.alone_runs.specs.{Rows.input_bytes}
 use Rattle.srecord.specs.Texts.{GivesImage}
 use Rattle.fz_status.specs.declared.status.Status.{Status}
 use Rattle.fz_status.specs.declared.status.Status.TheVariants as status
-use Rattle.build_commands.specs.Firmwares.{GivesFirmware}
+use Rattle.command_parts.specs.Firmwares.{GivesFirmware}
 use Rattle.run_reports.specs.{Inputs.input_refusals, Laws.AnswersAreReported, Reports.report_of}
-use Rattle.run_commands.specs.CertifiedRun.{CertifiedRun, Files, left_of}
+use Rattle.run_reports.specs.CertifiedRun.{CertifiedRun, Files, left_of}
 use Rattle.run_commands.specs.{Run.AcceptedRunsMakeOutput, Run.Accepts, Run.run_refusals, declared.run.Run.Run}
 
 -- what it answers of accepted files is a certified run

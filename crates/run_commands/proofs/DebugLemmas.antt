@@ -4,24 +4,24 @@ use Rattle.std.specs.Prelude.{None, String, map}
 use Rattle.std.specs.List.{flat_map}
 use Rattle.std.specs.declared.alloc.Global.{Global}
 use Rattle.fuzzy_meaning.specs.declared.block.Block.{Block}
-use Rattle.codegen.specs.declared.firmware.Firmware.{Firmware}
+use Rattle.alone_code.specs.declared.firmware.Firmware.{Firmware}
 use Rattle.interrupt_plan.specs.declared.Request.{Request}
 use Rattle.trace_io.specs.declared.sample.Sample.{Sample}
 use Rattle.run_law.specs.Forms.{RowSeen}
-use Rattle.fz_run.specs.{Answering.AnswersItsBlock, Answering.AnswersUnderPlans, declared.rows.Row.Row}
-use Rattle.fz_run.specs.Rows.{firmware_rows, input_bytes, row_seen}
+use Rattle.alone_runs.specs.{Answering.AnswersItsBlock, Answering.AnswersUnderPlans, declared.rows.Row.Row}
+use Rattle.alone_runs.specs.Rows.{firmware_rows, input_bytes, row_seen}
 use Rattle.fz_shelf.specs.Lines.{text_of}
 use Rattle.debug_script.specs.{Showing.shown, declared.order.Order.Order, declared.shown.Shown.Shown}
-use Rattle.eval_code.specs.declared.width.Width.TheVariants.{Byte}
+use Rattle.byte_scaling.specs.declared.width.Width.TheVariants.{Byte}
 use Rattle.srecord.specs.Texts.{GivesImage}
 use Rattle.fz_status.specs.declared.status.Status.{Status}
 use Rattle.fz_status.specs.declared.status.Status.TheVariants as status
-use Rattle.build_commands.specs.{Firmwares.GivesFirmware, SeenOutputs.SeenOutput, Lines.counted}
+use Rattle.command_parts.specs.{Firmwares.GivesFirmware, SeenOutputs.SeenOutput, Lines.counted}
 use Rattle.run_reports.specs.{Inputs.sample_refusals, RowLines.row_lines, Laws.SpelledBytesFit}
 use Rattle.run_commands.specs.Debug.{DebugFiles, DebugGives, Debugs, debug_lines, debug_refusals, run_positions}
 use Rattle.run_commands.specs.Debug.{AcceptedDebugRunsMakeOutput, shown_line}
 use Rattle.run_commands.specs.declared.debug.DebugRun.{DebugRun}
-use Rattle.build_commands.proofs.Algebra.{counted-map}
+use Rattle.command_parts.proofs.Algebra.{counted-map}
 
 abbrev pub only_text : List ℕ → SeenOutput
 only_text t = record { text = t; file = None }

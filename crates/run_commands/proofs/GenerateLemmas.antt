@@ -1,7 +1,7 @@
 -- A number that is accepted makes an output.
 use Rattle.std.proofs.Common.{map, refl, arith}
-use Rattle.eval_code.specs.declared.width.Width.TheVariants.{Byte}
-use Rattle.fz_run.specs.{Answering.AnswersUnderPlans, Rows.firmware_rows, Rows.input_bytes}
+use Rattle.byte_scaling.specs.declared.width.Width.TheVariants.{Byte}
+use Rattle.alone_runs.specs.{Answering.AnswersUnderPlans, Rows.firmware_rows, Rows.input_bytes}
 use Rattle.run_reports.specs.{Laws.AnswersAreReported, Reports.report_of}
 use Rattle.run_commands.specs.Generate.{AcceptedNumbersMakeOutput}
 

@@ -4,10 +4,10 @@ use Rattle.std.proofs.Common.{append_assoc}
 use Rattle.std.specs.Prelude.{codes, map, String, string_bytes}
 use Rattle.std.specs.declared.alloc.Global.{Global}
 use Rattle.fz_shelf.specs.Lines.{text_of}
-use Rattle.fz_run.specs.{Rows.row_seen, declared.rows.Row.Row}
+use Rattle.alone_runs.specs.{Rows.row_seen, declared.rows.Row.Row}
 use Rattle.run_law.specs.Forms.{RowSeen}
-use Rattle.build_commands.specs.Lines.{counted, error_line, line}
-use Rattle.build_commands.proofs.Algebra.{begun_items, pushed, text_of-snoc}
+use Rattle.command_parts.specs.Lines.{counted, error_line, line}
+use Rattle.command_parts.proofs.Algebra.{begun_items, pushed, text_of-snoc}
 use Rattle.run_commands.specs.Generate.{answers_of, frames_of, generate_lines, resumed_of}
 use Rattle.run_commands.specs.Run.{run_lines}
 use Rattle.run_reports.specs.{RowLines.begun_lines, RowLines.row_lines, Reports.report_of}

@@ -1,20 +1,19 @@
 -- Files make at most one output.
-use Rattle.std.proofs.Common.{◌≡◌, ◌∙◌, ℕ, List, sym, ap, subst}
+use Rattle.std.proofs.Common.{◌≡◌, ◌∙◌, sym, ap, subst}
 use Rattle.std.specs.Prelude.{None, Ok, map}
 use Rattle.fuzzy_meaning.specs.declared.block.Block.{Block}
-use Rattle.codegen.specs.declared.firmware.Firmware.{Firmware}
-use Rattle.debug_script.specs.{Showing.shown, declared.order.Order.Order}
-use Rattle.eval_code.specs.{Bounds.instruction_bound, declared.width.Width.TheVariants.Byte}
-use Rattle.interrupt_plan.specs.declared.Request.{Request}
+use Rattle.debug_script.specs.{Showing.shown}
+use Rattle.eval_code.specs.Bounds.{instruction_bound}
+use Rattle.byte_scaling.specs.declared.width.Width.TheVariants.{Byte}
 use Rattle.run_forms.specs.Positions.{positions}
 use Rattle.trace_io.specs.Traces.{Spells as SpellsTrace}
-use Rattle.fz_run.specs.Rows.{firmware_rows, first_state, input_bytes}
-use Rattle.build_commands.specs.Certs.{AcceptedErrorsAreOne, AcceptsCert}
-use Rattle.build_commands.specs.{Firmwares.GivenFirmwaresAreOne, SeenOutputs.OutputsAreOne}
-use Rattle.run_reports.specs.{Laws.SpelledInputsAreOne, Reports.Report}
-use Rattle.run_commands.specs.{CertifiedRun.Files, CertifiedRun.left_of, Run.RunMakes, Run.run_lines}
+use Rattle.alone_runs.specs.Rows.{firmware_rows, first_state, input_bytes}
+use Rattle.command_parts.specs.Certs.{AcceptedErrorsAreOne, AcceptsCert}
+use Rattle.command_parts.specs.{Firmwares.GivenFirmwaresAreOne, SeenOutputs.OutputsAreOne}
+use Rattle.run_reports.specs.{Laws.SpelledInputsAreOne}
+use Rattle.run_reports.specs.CertifiedRun.{Files, left_of}
+use Rattle.run_commands.specs.{Run.RunMakes, Run.run_lines, declared.debug.DebugRun.DebugRun, declared.run.Run.Run}
 use Rattle.run_commands.specs.Debug.{DebugFiles, DebugMakes, debug_lines}
-use Rattle.run_commands.specs.declared.{debug.DebugRun.DebugRun, run.Run.Run}
 
 pub runs_once : GivenFirmwaresAreOne → AcceptedErrorsAreOne → SpelledInputsAreOne → (run : Run) (files : Files)
     → OutputsAreOne (RunMakes run files)

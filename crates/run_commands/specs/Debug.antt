@@ -4,21 +4,21 @@ use Rattle.std.specs.Prelude.{◌≡◌, ◌<◌, ◌^◌, ℕ, List, [], ◌∷
 use Rattle.std.specs.Prelude.{Result, Ok, Err}
 use Rattle.std.specs.List.{flat_map}
 use Rattle.fuzzy_meaning.specs.declared.block.Block.{Block}
-use Rattle.codegen.specs.declared.firmware.Firmware.{Firmware}
-use Rattle.eval_code.specs.declared.width.Width.TheVariants.{Byte}
+use Rattle.alone_code.specs.declared.firmware.Firmware.{Firmware}
+use Rattle.byte_scaling.specs.declared.width.Width.TheVariants.{Byte}
 use Rattle.fz_shelf.specs.Parts.{address_digits, byte_digits}
 use Rattle.interrupt_plan.specs.{PlanTexts.Spells as SpellsPlan, declared.Request.Request}
 use Rattle.run_law.specs.Forms.{RowSeen}
 use Rattle.srecord.specs.Texts.{GivesImage}
 use Rattle.trace_io.specs.{Traces.Spells as SpellsTrace, declared.sample.Sample.Sample}
-use Rattle.fz_run.specs.{Answering.AnswersUnder, Rows.first_state, Rows.firmware_rows, Rows.input_bytes}
+use Rattle.alone_runs.specs.{Answering.AnswersUnder, Rows.first_state, Rows.firmware_rows, Rows.input_bytes}
 use Rattle.run_forms.specs.Positions.{Position, positions}
 use Rattle.debug_script.specs.{Scripts.script_of, Showing.shown}
 use Rattle.debug_script.specs.declared.{order.Order.Order, shown.Shown.Shown}
 use Rattle.debug_script.specs.declared.shown.Shown.TheVariants.{Stop, Registers, Bytes}
-use Rattle.build_commands.specs.{Contents.content_at, SeenOutputs.HasOutput, SeenOutputs.SeenOutput}
-use Rattle.build_commands.specs.Firmwares.{GivesFirmware, OfFirmware, RefusesText}
-use Rattle.build_commands.specs.{Images.RefusesImage, Lines.counted, Lines.with_registers, Words.flags_of}
+use Rattle.command_parts.specs.{Contents.content_at, SeenOutputs.HasOutput, SeenOutputs.SeenOutput}
+use Rattle.command_parts.specs.Firmwares.{GivesFirmware, OfFirmware, RefusesText}
+use Rattle.command_parts.specs.{Images.RefusesImage, Lines.counted, Lines.with_registers, Words.flags_of}
 use Rattle.run_reports.specs.{Inputs.sample_refusals, RowLines.row_lines}
 use Rattle.run_commands.specs.declared.debug.DebugRun.{DebugRun}
 use Rattle.fz_status.specs.{FaultLines.newline, Refusals.Refusals, Refusals.Refuses, Words.Text, Words.word_at}

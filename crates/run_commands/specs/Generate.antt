@@ -3,8 +3,8 @@
 use Rattle.std.specs.Prelude.{◌≡◌, ℕ, List, [], ◌++◌, length, sum, sum_by, codes, Option, None, option_map}
 use Rattle.std.specs.Prelude.{Result, Ok, Err}
 use Rattle.fuzzy_meaning.specs.declared.block.Block.{Block}
-use Rattle.eval_code.specs.{Widths.parts, declared.width.Width.TheVariants.Byte}
-use Rattle.codegen.specs.declared.firmware.Firmware.{Firmware}
+use Rattle.byte_scaling.specs.{Widths.parts, declared.width.Width.TheVariants.Byte}
+use Rattle.alone_code.specs.declared.firmware.Firmware.{Firmware}
 use Rattle.box_tree.specs.declared.{cert.Cert.Cert, cert.CertKind.TheVariants.Named}
 use Rattle.error_certifier.specs.Halving.{IsHalving}
 use Rattle.interrupt_plan.specs.declared.Request.{Request}
@@ -15,9 +15,9 @@ use Rattle.fz_status.specs.{Refusals.Refusals, Refusals.Refuses, Words.Text, Wor
 use Rattle.fz_status.specs.declared.status.Status.{Status}
 use Rattle.fz_status.specs.declared.status.Status.TheVariants as status
 use Rattle.run_reports.specs.Reports.{IsReportOf, Report}
-use Rattle.build_commands.specs.{Certify.StopsHalving, Firmwares.GivesFirmware, Words.number_up_to}
-use Rattle.build_commands.specs.SeenOutputs.{HasOutput, SeenOutput}
-use Rattle.build_commands.specs.Lines.{counted, error_line, line}
+use Rattle.command_parts.specs.{Certs.StopsHalving, Firmwares.GivesFirmware, Words.number_up_to}
+use Rattle.command_parts.specs.SeenOutputs.{HasOutput, SeenOutput}
+use Rattle.command_parts.specs.Lines.{counted, error_line, line}
 use Rattle.run_commands.specs.declared.generate.Generate.{Generate}
 
 abbrev pub generate_with : ℕ → Generate

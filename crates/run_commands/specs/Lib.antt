@@ -1,4 +1,3 @@
-pub mod CertifiedRun
 pub mod Debug
 pub mod Generate
 pub mod Run

@@ -4,20 +4,20 @@
 use Rattle.std.specs.Prelude.{◌≡◌, ◌<◌, ◌^◌, ℕ, List, [], ◌∷◌, ◌++◌, codes, Option, None, option_map}
 use Rattle.std.specs.Prelude.{Result, Ok, Err}
 use Rattle.fuzzy_meaning.specs.declared.block.Block.{Block}
-use Rattle.codegen.specs.declared.firmware.Firmware.{Firmware}
+use Rattle.alone_code.specs.declared.firmware.Firmware.{Firmware}
 use Rattle.box_tree.specs.declared.cert.CertKind.{CertKind}
-use Rattle.eval_code.specs.declared.width.Width.{Width}
+use Rattle.byte_scaling.specs.declared.width.Width.{Width}
 use Rattle.interrupt_plan.specs.declared.Request.{Request}
 use Rattle.trace_io.specs.declared.sample.Sample.{Sample}
 use Rattle.srecord.specs.Texts.{GivesImage}
-use Rattle.build_commands.specs.{SeenOutputs.SeenOutput, Images.RefusesImage, Contents.content_at, Words.flags_of}
-use Rattle.build_commands.specs.Firmwares.{GivesFirmware, OfFirmware, RefusesText}
-use Rattle.build_commands.specs.Lines.{counted, line}
+use Rattle.command_parts.specs.{SeenOutputs.SeenOutput, Images.RefusesImage, Contents.content_at, Words.flags_of}
+use Rattle.command_parts.specs.Firmwares.{GivesFirmware, OfFirmware, RefusesText}
+use Rattle.command_parts.specs.Lines.{counted, line}
 use Rattle.fz_status.specs.{Refusals.Refusals, Refusals.Refuses, Words.Text, Words.word_at}
 use Rattle.fz_status.specs.declared.status.Status.{Status}
-use Rattle.run_reports.specs.{Inputs.AcceptsInputs, Inputs.input_refusals, Reports.Report}
-use Rattle.run_reports.specs.RowLines.{begun_lines, row_lines}
-use Rattle.run_commands.specs.{CertifiedRun.CertifiedRun, CertifiedRun.Files, declared.run.Run.Run}
+use Rattle.run_reports.specs.{Inputs.AcceptsInputs, Inputs.input_refusals, Reports.Report, RowLines.begun_lines}
+use Rattle.run_reports.specs.{RowLines.row_lines, CertifiedRun.CertifiedRun, CertifiedRun.Files}
+use Rattle.run_commands.specs.declared.run.Run.{Run}
 use Rattle.fz_status.specs.declared.status.Status.TheVariants as status
 
 abbrev pub run_with : CertKind → Width → ℕ → Run

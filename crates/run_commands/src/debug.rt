@@ -2,23 +2,23 @@
 ghost use Rattle.std.specs.Prelude.{◌≡◌, ◌≤◌, length, IfOk, IfErr};
 ghost use Rattle.std.specs.List.{All};
 ghost use Rattle.fz_status.specs.{Refusals.IsRefusal, Words.texts_of};
-ghost use Rattle.build_commands.specs.Contents.{bytes_of};
-ghost use Rattle.build_commands.specs.SeenOutputs.{OutputHasNoFault, OutputsAreOne, IsResultOf};
+ghost use Rattle.command_parts.specs.Contents.{bytes_of};
+ghost use Rattle.command_parts.specs.SeenOutputs.{OutputHasNoFault, OutputsAreOne, IsResultOf};
 ghost use Rattle.run_commands.specs.Debug.{AcceptedDebugRunsMakeOutput, DebugFiles, DebugMakes, Debugs, debug_files};
 ghost use Rattle.run_commands.specs.Debug.{debug_in, debug_refusals};
 ghost use Rattle.run_commands.specs.declared.debug.DebugRun.{DebugRun as TheDebug};
 
 use crate::shown_lines::lines;
-use build_commands::contents::content;
-use build_commands::firmware::{
+use alone_runs::laws::answers_under_plans;
+use byte_scaling::Width;
+use command_parts::contents::content;
+use command_parts::firmware::{
     Compiled, firmware_of, given_firmwares_are_one, spelled_texts_have_no_fault,
 };
-use build_commands::images::{given_images_have_no_fault, require_image};
-use build_commands::output::Output;
-use build_commands::words::flags;
+use command_parts::images::{given_images_have_no_fault, require_image};
+use command_parts::output::Output;
+use command_parts::words::flags;
 use debug_script::{Script, ScriptFault, debug, read_script};
-use eval_code::Width;
-use fz_run::laws::answers_under_plans;
 use fz_status::{Status, word};
 use interrupt_plan::Plan;
 use run_reports::inputs::samples_and_plan;

@@ -1,31 +1,31 @@
 //! The commands `run FCL IMAGE CERT TRACE PLAN FLAGS`, `run16 ..`, `trun ..` and `trun16 ..`: the certified run.
 ghost use Rattle.std.specs.Prelude.{◌≡◌, ◌≤◌, length, map, IfOk, IfErr};
 ghost use Rattle.std.specs.List.{All};
-ghost use Rattle.fz_run.specs.Rows.{row_seen};
+ghost use Rattle.alone_runs.specs.Rows.{row_seen};
 ghost use Rattle.fz_shelf.specs.Lines.{text_of};
 ghost use Rattle.fz_status.specs.{Refusals.IsRefusal, Words.texts_of};
-ghost use Rattle.build_commands.specs.Contents.{bytes_of};
-ghost use Rattle.build_commands.specs.SeenOutputs.{OutputHasNoFault, OutputsAreOne, IsResultOf};
-ghost use Rattle.run_reports.specs.Reports.{report_of};
-ghost use Rattle.run_commands.specs.{CertifiedRun.Files, CertifiedRun.left_of, declared.run.Run.Run as TheRun};
+ghost use Rattle.command_parts.specs.Contents.{bytes_of};
+ghost use Rattle.command_parts.specs.SeenOutputs.{OutputHasNoFault, OutputsAreOne, IsResultOf};
+ghost use Rattle.run_reports.specs.{Reports.report_of, CertifiedRun.Files, CertifiedRun.left_of};
+ghost use Rattle.run_commands.specs.declared.run.Run.{Run as TheRun};
 ghost use Rattle.run_commands.specs.Run.{AcceptedRunsMakeOutput, Accepts, RunMakes, files_in, run_in, run_lines};
 ghost use Rattle.run_commands.specs.Run.{run_refusals};
 
+use alone_runs::laws::answers_under_plans;
+use alone_runs::{Row, run_on};
 use box_tree::CertKind;
-use build_commands::certs::accepted_errors_are_one;
-use build_commands::contents::content;
-use build_commands::firmware::{
+use byte_scaling::Width;
+use command_parts::certs::accepted_errors_are_one;
+use command_parts::contents::content;
+use command_parts::firmware::{
     Compiled, firmware_of, given_firmwares_are_one, spelled_texts_have_no_fault,
 };
-use build_commands::images::{given_images_have_no_fault, require_image};
-use build_commands::lines::labelled;
-use build_commands::output::Output;
-use build_commands::words::flags;
+use command_parts::images::{given_images_have_no_fault, require_image};
+use command_parts::lines::labelled;
+use command_parts::output::Output;
+use command_parts::words::flags;
 use cpu12_isa::mem::Mem;
 use cpu12_isa::pages::PageMem;
-use eval_code::Width;
-use fz_run::laws::answers_under_plans;
-use fz_run::{Row, run_on};
 use fz_status::{Status, word};
 use run_reports::inputs::{Inputs, inputs_of};
 use run_reports::laws::{

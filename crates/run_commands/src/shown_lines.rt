@@ -2,13 +2,13 @@
 ghost use Rattle.std.specs.Prelude.{◌≡◌, ◌++◌, map, string_bytes, IfOk, OnOk};
 ghost use Rattle.std.specs.List.{flat_map};
 ghost use Rattle.fz_shelf.specs.Lines.{text_of};
-ghost use Rattle.fz_run.specs.Rows.{row_seen};
+ghost use Rattle.alone_runs.specs.Rows.{row_seen};
 ghost use Rattle.debug_script.specs.declared.shown.Shown.TheVariants as seen;
 ghost use Rattle.run_commands.specs.Debug.{behind_blank, debug_lines, shown_line};
 
-use build_commands::lines::{line_of_registers, push_address, push_byte};
+use alone_runs::Row;
+use command_parts::lines::{line_of_registers, push_address, push_byte};
 use debug_script::Shown;
-use fz_run::Row;
 use run_reports::row_lines::push_rows;
 use std::alloc::{AllocError, Global};
 use std::fmt::Write;

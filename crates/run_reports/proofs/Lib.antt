@@ -1,4 +1,7 @@
+pub mod FaultlessRows
 pub mod LineLemmas
+pub mod NearRows
 pub mod OneLemmas
+pub mod PostedAnswers
 pub mod RefusalLemmas
 pub mod ReportLemmas

@@ -8,8 +8,8 @@ use Rattle.std.proofs.lemmas.List.{append-nil}
 use Rattle.fz_shelf.specs.Lines.{text_of}
 use Rattle.run_forms.specs.Rows.{boundary_seen, frames_seen}
 use Rattle.cpu12_emul.specs.declared.ends.Frame.{Frame}
-use Rattle.build_commands.specs.Lines.{counted, error_line, line}
-use Rattle.build_commands.proofs.Algebra.{flat-map, made_next, made_with, text_of-snoc}
+use Rattle.command_parts.specs.Lines.{counted, error_line, line}
+use Rattle.command_parts.proofs.Algebra.{flat-map, made_next, made_with, text_of-snoc}
 use Rattle.run_reports.specs.RowLines.{answered, answers_told, begun_lines, frame_line, numbers}
 
 numbers-snoc : (ns : List ℕ) (n : ℕ) → numbers (ns ++ n ∷ []) ≡ numbers ns ++ (codes " " ++ decimal n)

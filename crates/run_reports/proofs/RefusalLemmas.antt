@@ -2,11 +2,11 @@
 use Rattle.std.proofs.Common.{ℕ, List}
 use Rattle.fuzzy_meaning.specs.declared.block.Block.{Block}
 use Rattle.box_tree.specs.declared.cert.CertKind.{CertKind}
-use Rattle.eval_code.specs.declared.width.Width.{Width}
+use Rattle.byte_scaling.specs.declared.width.Width.{Width}
 use Rattle.interrupt_plan.specs.OneReading.{SpelledPlansHaveNoFault}
 use Rattle.trace_io.specs.{OneReading.SpelledTracesHaveNoFault, Traces.Spells as SpellsTrace}
 use Rattle.trace_io.specs.declared.sample.Sample.{Sample}
-use Rattle.build_commands.specs.Certs.{AcceptedCertsHaveNoFault, AcceptsCert, cert_refusals}
+use Rattle.command_parts.specs.Certs.{AcceptedCertsHaveNoFault, AcceptsCert, cert_refusals}
 use Rattle.run_reports.specs.Inputs.{input_refusals, plan_refusals, sample_refusals, trace_refusals}
 use Rattle.run_reports.specs.Laws.{AcceptedInputsHaveNoFault, SpelledSamplesHaveNoFault}
 use Rattle.fz_status.specs.declared.status.Status.{Status}

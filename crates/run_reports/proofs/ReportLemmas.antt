@@ -5,22 +5,22 @@ use Rattle.std.proofs.lemmas.List.Elements.{All-cons, All-nil}
 use Rattle.fz_num.specs.declared.dec.Dec.{Dec}
 use Rattle.fuzzy_meaning.specs.declared.{block.Block.Block, block.Input.Input}
 use Rattle.box_tree.specs.declared.cert.Cert.{Cert}
-use Rattle.byte_scaling.specs.Cells.{byte_of, bytes_of}
+use Rattle.byte_scaling.specs.{Cells.byte_of, Cells.bytes_of, Widths.is_wide, Widths.parts, Widths.width_of}
+use Rattle.byte_scaling.specs.declared.{width.Width.Width, width.Width.TheVariants.Byte, width.Width.TheVariants.Word}
 use Rattle.cert_check.specs.Acceptance.{IsAccepted}
 use Rattle.eval_code.specs.{Bounds.instruction_bound, Firing.AreInputBytes}
-use Rattle.eval_code.specs.Widths.{answer, is_wide, parts, width_of}
-use Rattle.eval_code.specs.declared.{width.Width.Width, width.Width.TheVariants.Byte, width.Width.TheVariants.Word}
-use Rattle.codegen.specs.{Uninterrupted.Answer, Uninterrupted.AreAnswersOf, declared.firmware.Firmware.Firmware}
+use Rattle.eval_code.specs.Widths.{answer}
+use Rattle.alone_code.specs.{Uninterrupted.Answer, Uninterrupted.AreAnswersOf, declared.firmware.Firmware.Firmware}
 use Rattle.interrupt_plan.specs.declared.Request.{Request}
 use Rattle.trace_io.specs.Traces.{AreWithin, Fields, SpellSamples, Spells}
 use Rattle.trace_io.specs.declared.sample.Sample.{Sample}
 use Rattle.run_law.specs.Forms.{RowSeen}
-use Rattle.fz_run.specs.Answering.{AnswersItsBlock, AnswersUnder, answer_of_row}
-use Rattle.fz_run.specs.Rows.{firmware_rows, input_bytes}
-use Rattle.certified_run.specs.Nearness.{AnswersAreWithinErrors, AreWithinErrors}
+use Rattle.alone_runs.specs.Answering.{AnswersItsBlock, AnswersUnder, answer_of_row}
+use Rattle.alone_runs.specs.Rows.{firmware_rows, input_bytes}
+use Rattle.run_reports.specs.Nearness.{AnswersAreWithinErrors, AreWithinErrors}
 use Rattle.run_reports.specs.Reports.{IsReportOf, report_of}
-use Rattle.build_commands.specs.Firmwares.{GivesFirmware}
-use Rattle.build_commands.proofs.Algebra.{of_seen}
+use Rattle.command_parts.specs.Firmwares.{GivesFirmware}
+use Rattle.command_parts.proofs.Algebra.{of_seen}
 
 pub spelled_count : (is : List Input) (rows : List Fields) (samples : List Sample) → SpellSamples is rows samples
     → length samples ≡ length rows

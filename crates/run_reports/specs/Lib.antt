@@ -1,4 +1,12 @@
+pub mod CertifiedRun
+pub mod Faultless
+pub mod HandledRun
 pub mod Inputs
 pub mod Laws
+pub mod LevelRun
+pub mod Nearness
+pub mod Posted
+pub mod PostedRun
 pub mod Reports
 pub mod RowLines
+pub mod WatchedRun

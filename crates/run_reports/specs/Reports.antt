@@ -2,13 +2,14 @@
 -- Reached by the promise.
 use Rattle.std.specs.Prelude.{◌≡◌, ℕ, ◌≤◌, List, All, map}
 use Rattle.fuzzy_meaning.specs.declared.block.Block.{Block}
-use Rattle.eval_code.specs.{Bounds.instruction_bound, Widths.parts, declared.width.Width.Width}
-use Rattle.codegen.specs.declared.firmware.Firmware.{Firmware}
+use Rattle.eval_code.specs.Bounds.{instruction_bound}
+use Rattle.byte_scaling.specs.{Widths.parts, declared.width.Width.Width}
+use Rattle.alone_code.specs.declared.firmware.Firmware.{Firmware}
 use Rattle.trace_io.specs.declared.sample.Sample.{Sample}
 use Rattle.interrupt_plan.specs.declared.Request.{Request}
 use Rattle.run_law.specs.Forms.{RowSeen}
-use Rattle.fz_run.specs.{Answering.AnswersUnder, Rows.firmware_rows, Rows.input_bytes}
-use Rattle.certified_run.specs.Nearness.{AreWithinErrors}
+use Rattle.alone_runs.specs.{Answering.AnswersUnder, Rows.firmware_rows, Rows.input_bytes}
+use Rattle.run_reports.specs.Nearness.{AreWithinErrors}
 
 -- what is told of a run: an error for each output, in millionths of its range, the bound on instructions, and a row for
 -- each sample

@@ -6,7 +6,7 @@ use Rattle.cpu12_emul.specs.Take.{FrameSeen}
 use Rattle.fz_shelf.specs.Parts.{address_digits}
 use Rattle.run_law.specs.Forms.{RowSeen}
 use Rattle.fz_status.specs.{FaultLines.newline, Words.Text}
-use Rattle.build_commands.specs.Lines.{counted, error_line, line}
+use Rattle.command_parts.specs.Lines.{counted, error_line, line}
 
 -- numbers, with a blank before each
 abbrev pub numbers : List ℕ → List ℕ

@@ -5,14 +5,14 @@ ghost use Rattle.fuzzy_meaning.specs.Blocks.{IsValid};
 ghost use Rattle.interrupt_plan.specs.PlanTexts.{Spells as SpellsPlan};
 ghost use Rattle.trace_io.specs.Traces.{Spells};
 ghost use Rattle.fz_status.specs.Refusals.{IsRefusal};
-ghost use Rattle.build_commands.specs.Contents.{bytes_of, content_at};
+ghost use Rattle.command_parts.specs.Contents.{bytes_of, content_at};
 ghost use Rattle.run_reports.specs.Inputs.{AcceptsInputs, input_refusals, plan_refusals, sample_refusals};
 ghost use Rattle.run_reports.specs.Inputs.{trace_refusals};
 
 use box_tree::CertKind;
-use build_commands::certs::errors_under;
-use build_commands::contents::content;
-use eval_code::Width;
+use byte_scaling::Width;
+use command_parts::certs::errors_under;
+use command_parts::contents::content;
 use fuzzy_meaning::Block;
 use fz_status::Status;
 use interrupt_plan::{Plan, PlanFault, read_plan};

@@ -3,8 +3,8 @@ ghost use Rattle.run_reports.specs.Laws.{AcceptedInputsHaveNoFault, AnswersAreRe
 ghost use Rattle.run_reports.specs.Laws.{SpelledBytesFit, SpelledSamplesHaveNoFault, SpelledTracesAreOneLong};
 ghost use Rattle.run_reports.specs.Laws.{SpelledInputsAreOne, SpelledTracesAreShort};
 
-use build_commands::certs::accepted_certs_have_no_fault;
-use certified_run::answers_are_within_errors;
+use crate::nearness::answers_are_within_errors;
+use command_parts::certs::accepted_certs_have_no_fault;
 use fz_rows::first_rows_are_one;
 use interrupt_plan::spelled_plans_have_no_fault;
 use trace_io::spelled_traces_have_no_fault;

@@ -1,5 +1,7 @@
 //! What the commands that run firmware share: the files CERT, TRACE and PLAN ([`inputs`]), what a report of a run says
-//! (`IsReportOf`), the lines of its samples, answers and frames ([`row_lines`]), and laws of these ([`laws`]).
+//! (`IsReportOf`), what the program's answer to each such command says (`CertifiedRun`, `HandledRun`, `LevelRun`,
+//! `PostedRun` and `WatchedRun`), how far its answers are from the exact ones ([`nearness`]), the lines of its samples,
+//! answers and frames ([`row_lines`]), and laws of these ([`laws`]).
 //!
 //! Of CERT, TRACE and PLAN [`inputs::inputs_of`] answers what they give ([`inputs::Inputs`]), or the first
 //! fault in their order, and never a fault of files that are accepted
@@ -10,4 +12,5 @@
 
 pub mod inputs;
 pub mod laws;
+pub mod nearness;
 pub mod row_lines;

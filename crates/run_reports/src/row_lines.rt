@@ -4,15 +4,15 @@ ghost use Rattle.std.specs.List.{flat_map};
 ghost use Rattle.fz_shelf.specs.Lines.{text_of};
 ghost use Rattle.cpu12_emul.specs.Take.{frame_seen};
 ghost use Rattle.run_forms.specs.Rows.{boundary_seen};
-ghost use Rattle.fz_run.specs.Rows.{row_seen};
-ghost use Rattle.build_commands.specs.Lines.{counted};
+ghost use Rattle.alone_runs.specs.Rows.{row_seen};
+ghost use Rattle.command_parts.specs.Lines.{counted};
 ghost use Rattle.run_reports.specs.RowLines.{answered, answers_told, begun_lines, frame_line, frame_told};
 ghost use Rattle.run_reports.specs.RowLines.{labelled_row_lines, numbers, row_lines, row_lines_with};
 ghost use Rattle.run_reports.specs.RowLines.{sample_line_with};
 
-use build_commands::lines::{labelled, push_address, push_errors};
+use alone_runs::Row;
+use command_parts::lines::{labelled, push_address, push_errors};
 use cpu12_emul::ends::Frame;
-use fz_run::Row;
 use std::alloc::{AllocError, Global};
 use std::fmt::Write;
 

@@ -2,12 +2,12 @@
 ghost use Rattle.std.specs.Prelude.{◌≤◌};
 ghost use Rattle.fuzzy_meaning.specs.Blocks.{IsValid};
 
-use codegen::{Firmware, compile, compile16};
-use eval_code::Width;
+use alone_code::{Firmware, compile, compile16};
+use alone_runs::Row;
+use byte_scaling::Width;
 use fcl_check::load;
 use fcl_syntax::parse;
 use fuzzy_meaning::Block;
-use fz_run::Row;
 use interrupt_plan::no_interrupts;
 use std::alloc::{AllocError, Global};
 use std::process::Abort;
@@ -145,7 +145,7 @@ fn rows_of(
         panic!(rt; "no samples");
     };
     let plan = no_interrupts(alloc);
-    let Ok(rows) = fz_run::run(alloc, firmware, &samples, &plan, 0) else {
+    let Ok(rows) = alone_runs::run(alloc, firmware, &samples, &plan, 0) else {
         panic!(rt; "no rows");
     };
     rows

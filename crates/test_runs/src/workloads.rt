@@ -1,6 +1,6 @@
 //! The workload of a number: what its draws were worked out to be.
-use box_tree::AnswerWidth::Byte;
 use box_tree::CertKind::Tight;
+use byte_scaling::Width::Byte;
 use cpu12_isa::instr::Write;
 use error_certifier::{NotReached, certify_for};
 use fz_num::Dec;

@@ -2,9 +2,9 @@
 //! read, or their first faults, which are told again.
 ghost use Rattle.std.specs.Prelude.{◌≤◌, length};
 
-use box_tree::AnswerWidth::{Byte, Word};
 use box_tree::CertKind::Tight;
 use box_tree::{CertFault, Lines, read, read_for, read16, write, write_for, write16};
+use byte_scaling::Width::{Byte, Word};
 use std::alloc::{AllocError, Global};
 use std::test::Fail;
 

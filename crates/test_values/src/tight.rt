@@ -1,7 +1,7 @@
 //! The heater's tight certificates.
-use box_tree::AnswerWidth::{Byte, Word};
 use box_tree::CertKind::Tight;
 use box_tree::write_for;
+use byte_scaling::Width::{Byte, Word};
 use cert_check::{CheckFault, TextFault, check_text_for};
 use error_certifier::{NotReached, certify_for};
 use fuzzy_meaning::heater;

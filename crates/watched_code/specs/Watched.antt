@@ -5,18 +5,18 @@ use Rattle.std.specs.Prelude.{length, sum_by, All, Option, Some, None, slice_ind
 use Rattle.fz_num.specs.declared.dec.Dec.{Dec}
 use Rattle.fuzzy_meaning.specs.declared.{block.Block.Block, block.Output.Output}
 use Rattle.fuzzy_meaning.specs.Blocks.{IsValid, output_at}
-use Rattle.byte_scaling.specs.Cells.{nearest_byte}
+use Rattle.byte_scaling.specs.{Cells.nearest_byte, declared.width.Width.TheVariants.Byte}
 use Rattle.rule_layout.specs.Layouts.{IsWithinLimits}
 use Rattle.cpu12_isa.specs.{declared.instr.Instr.TheVariants.Rts, Regions.is_free, Regions.vector}
 use Rattle.cpu12_asm.specs.{declared.items.Item.Item, Bytes.byte_at}
 use Rattle.cpu12_parts.specs.{State.State, Executions.Execution, Executions.all_steps}
 use Rattle.cpu12_emul.specs.Image.{image_memory}
-use Rattle.eval_code.specs.declared.{memory_map.MemoryMap.MemoryMap, width.Width.TheVariants.Byte}
+use Rattle.eval_code.specs.declared.memory_map.MemoryMap.{MemoryMap}
 use Rattle.eval_code.specs.{Widths.answer, MemoryMaps.main_map, Bounds.instruction_bound, Bounds.steps_by}
 use Rattle.eval_code.specs.{Items.block_items, Firing.AreInputBytes, Evaluation.HasAnswers}
-use Rattle.codegen.specs.declared.firmware.Firmware.{Firmware}
-use Rattle.codegen.specs.{Images.vector_items, Images.IsImageOf, Answers.given, Answers.IsArrived}
-use Rattle.codegen.specs.Interruptible.{is_idle, IsInterruptible, IsInterruptibleStep}
+use Rattle.alone_code.specs.declared.firmware.Firmware.{Firmware}
+use Rattle.alone_code.specs.Interruptible.{is_idle, IsInterruptible, IsInterruptibleStep}
+use Rattle.alone_code.specs.{Images.vector_items, Images.IsImageOf, Answers.given, Answers.IsArrived}
 use Rattle.watched_code.specs.declared.segments.Segment.{Segment}
 use Rattle.watched_code.specs.WatchedCode.{segments_of, fault_at, watched_front, watched_map}
 

@@ -3,7 +3,7 @@ use Rattle.std.proofs.Common.{◌≡◌, ℕ, zero, suc, ◌+◌, ◌<◌, ◌�
 use Rattle.std.proofs.Common.{ap, ◌∙◌, arith}
 use Rattle.std.specs.Prelude.{slice_index}
 use Rattle.cpu12_isa.specs.Memory.{plus}
-use Rattle.firmware_ports.specs.Ports.{answer_size, answer_at, answers_at}
+use Rattle.firmware_runs.specs.Ports.{answer_size, answer_at, answers_at}
 
 pub length_answers : (wide : Bool) (n at : ℕ) (m : List ℕ) → length (answers_at wide n at m) ≡ n
 length_answers wide zero at m = refl

@@ -3,12 +3,12 @@ use Rattle.std.proofs.Common.{◌≡◌, ℕ, suc, false, List, [], ◌∷◌, �
 use Rattle.std.specs.Prelude.{map, Option, slice_index}
 use Rattle.cpu12_parts.specs.State.{State}
 use Rattle.run_law.specs.Forms.{Form, RowSeen, row_of, rows_from, run_from}
-use Rattle.codegen.specs.declared.firmware.Firmware.{Firmware}
+use Rattle.alone_code.specs.declared.firmware.Firmware.{Firmware}
 use Rattle.eval_code.specs.declared.memory_map.MemoryMap.{MemoryMap}
 use Rattle.watched_code.specs.{Watched.Change, Watched.Watched, Watched.changed, WatchedCode.fault_at}
 use Rattle.run_forms.specs.declared.{sample.Room.Room, sample.Tally.Tally}
 use Rattle.run_forms.specs.{Rooms.room_notes, Rest.counted_at, Rest.shown_by, Rows.frames_seen, Rows.shown}
-use Rattle.firmware_ports.specs.Ports.{given, answers_in}
+use Rattle.firmware_runs.specs.Ports.{given, answers_in}
 use Rattle.watched_runs.specs.{Forms.given_changed, Forms.watched_parts, Rows.FaultSeen, Rows.fault_seen}
 use Rattle.watched_runs.proofs.Answers.{take_answers, fault_behind}
 

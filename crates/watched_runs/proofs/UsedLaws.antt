@@ -4,12 +4,12 @@ use Rattle.cpu12_isa.specs.Regions.{is_free}
 use Rattle.cpu12_emul.specs.Simulation.{OnStackOnly}
 use Rattle.run_law.specs.{Following.RunsFollow, Moments.TakenAtOnce}
 use Rattle.interrupt_plan.specs.Plans.{IsGoodRequest}
-use Rattle.codegen.specs.declared.firmware.Firmware.{Firmware}
+use Rattle.alone_code.specs.declared.firmware.Firmware.{Firmware}
 use Rattle.watched_code.specs.Watched.{WatchedAnswers}
 use Rattle.run_forms.specs.Arrival.{ArrivesPlainly}
-use Rattle.fz_run.specs.{Following.IsLow, Following.Nothing, Given.RequestsAreGood}
-use Rattle.firmware_ports.specs.Ports.{GivenIsPut}
-use Rattle.instruction_steps.specs.Instructions.{InstructionsAreSteps}
+use Rattle.alone_runs.specs.{Following.IsLow, Following.Nothing, Given.RequestsAreGood}
+use Rattle.firmware_runs.specs.Ports.{GivenIsPut}
+use Rattle.firmware_runs.specs.Instructions.{InstructionsAreSteps}
 use Rattle.watched_runs.specs.Forms.{watched_form, FactsWatched}
 
 -- the law on runs at this form

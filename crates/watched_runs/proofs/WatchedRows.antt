@@ -11,7 +11,7 @@ use Rattle.cpu12_parts.specs.{State.State, Executions.all_steps}
 use Rattle.cpu12_emul.specs.{Image.image_memory, Step.reset_with, Simulation.OnStackOnly}
 use Rattle.interrupt_plan.specs.declared.{Request.Request, upsets.Upset.Upset}
 use Rattle.interrupt_plan.specs.{Plans.IsGood, Upsets.IsGoodUpset}
-use Rattle.codegen.specs.{declared.firmware.Firmware.Firmware, Answers.IsArrived, Interruptible.is_idle}
+use Rattle.alone_code.specs.{declared.firmware.Firmware.Firmware, Answers.IsArrived, Interruptible.is_idle}
 use Rattle.eval_code.specs.declared.memory_map.MemoryMap.{MemoryMap}
 use Rattle.eval_code.specs.{Bounds.steps_by, Bounds.instruction_bound, Firing.AreInputBytes}
 use Rattle.watched_code.specs.Watched.{Watched, changed, restored, upset_given, watched_answer, IsTableChange}
@@ -20,10 +20,10 @@ use Rattle.watched_code.specs.Watched.{watched_bound}
 use Rattle.watched_code.specs.WatchedCode.{fault_at, watched_map}
 use Rattle.run_law.specs.{Forms.rows_from, Uninterrupted.uninterrupted}
 use Rattle.run_law.specs.Following.{Completes, AllComplete, AllWithin, AllFollow, expected_row, expected_rows}
-use Rattle.firmware_ports.specs.Ports.{answer_size, answers_at, answers_in}
-use Rattle.fz_run.specs.{Rows.requests_of, Rows.first_state, Following.IsLow, Following.Nothing}
-use Rattle.instruction_steps.specs.Facts.{HasImageBytes, WaitsAlone}
-use Rattle.instruction_steps.specs.Instructions.{AreSteps, IsServing}
+use Rattle.firmware_runs.specs.Ports.{answer_size, answers_at, answers_in}
+use Rattle.alone_runs.specs.{Rows.requests_of, Rows.first_state, Following.IsLow, Following.Nothing}
+use Rattle.firmware_runs.specs.Facts.{HasImageBytes, WaitsAlone}
+use Rattle.firmware_runs.specs.Instructions.{AreSteps, IsServing}
 use Rattle.watched_runs.specs.Samples.{change_of, changes_from, with_upsets}
 use Rattle.watched_runs.specs.Forms.{given_changed, watched_form, FactsWatched}
 use Rattle.watched_runs.specs.Rows.{FaultSeen, fault_seen, upset_rows, faults_of}

@@ -8,12 +8,12 @@ use Rattle.cpu12_parts.specs.State.{State}
 use Rattle.cpu12_emul.specs.{Image.image_memory, Simulation.OnStackOnly}
 use Rattle.interrupt_plan.specs.declared.{Request.Request, upsets.Upset.Upset}
 use Rattle.interrupt_plan.specs.{Plans.IsGood, Upsets.AreGoodUpsets}
-use Rattle.codegen.specs.declared.firmware.Firmware.{Firmware}
+use Rattle.alone_code.specs.declared.firmware.Firmware.{Firmware}
 use Rattle.eval_code.specs.Firing.{AreInputBytes}
 use Rattle.watched_code.specs.Watched.{Watched, changed, restored, watched_answer, watched_fault, IsWatchedFirmwareOf}
 use Rattle.run_law.specs.{Uninterrupted.uninterrupted, Following.AllComplete, Following.AllFollow}
-use Rattle.instruction_steps.specs.Facts.{HasImageBytes, WaitsAlone}
-use Rattle.fz_run.specs.{Following.Nothing, Rows.requests_of, Rows.first_state}
+use Rattle.firmware_runs.specs.Facts.{HasImageBytes, WaitsAlone}
+use Rattle.alone_runs.specs.{Following.Nothing, Rows.requests_of, Rows.first_state}
 use Rattle.watched_runs.specs.{Samples.with_upsets, Forms.given_changed, Forms.watched_form, Forms.FactsWatched}
 use Rattle.watched_runs.specs.Rows.{FaultSeen, upset_rows, faults_of, rows_of_watched}
 

@@ -5,13 +5,13 @@ use Rattle.cpu12_parts.specs.State.{State}
 use Rattle.cpu12_emul.specs.Image.{image_memory}
 use Rattle.run_law.specs.{Forms.RowSeen, Forms.Rows, Forms.rows_from, Uninterrupted.uninterrupted}
 use Rattle.interrupt_plan.specs.declared.{Request.Request, upsets.Upset.Upset}
-use Rattle.codegen.specs.declared.firmware.Firmware.{Firmware}
+use Rattle.alone_code.specs.declared.firmware.Firmware.{Firmware}
 use Rattle.watched_code.specs.{Watched.Watched, Watched.restored, WatchedCode.fault_at}
 use Rattle.trace_io.specs.declared.sample.Sample.{Sample}
 use Rattle.run_forms.specs.{declared.sample.Room.Room, Rooms.room_notes, Forms.Harness}
-use Rattle.fz_run.specs.Following.{row_of_sample}
-use Rattle.fz_run.specs.Rows as rows
-use Rattle.fz_run.specs.Rows.{requests_of, first_state, input_bytes}
+use Rattle.alone_runs.specs.Following.{row_of_sample}
+use Rattle.alone_runs.specs.Rows as rows
+use Rattle.alone_runs.specs.Rows.{requests_of, first_state, input_bytes}
 use Rattle.watched_runs.specs.Samples.{with_upsets}
 use Rattle.watched_runs.specs.declared.form.WatchedRow as declared
 use Rattle.watched_runs.specs.Forms.{given_changed, watched_parts, watched_form}

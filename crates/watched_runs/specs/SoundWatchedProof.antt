@@ -7,12 +7,12 @@ use Rattle.cpu12_parts.specs.State.{State}
 use Rattle.cpu12_emul.specs.{Image.image_memory, Simulation.OnStackOnly, Simulation.Same}
 use Rattle.run_law.specs.Soundness.{Sound, WritesAreQuiet}
 use Rattle.interrupt_plan.specs.Plans.{IsGoodRequest}
-use Rattle.codegen.specs.declared.firmware.Firmware.{Firmware}
+use Rattle.alone_code.specs.declared.firmware.Firmware.{Firmware}
 use Rattle.watched_code.specs.{Watched.Change, Watched.changed, Watched.restored, WatchedCode.fault_at}
-use Rattle.fz_run.specs.Following.{IsLow, Nothing}
-use Rattle.firmware_ports.specs.Ports.{given}
-use Rattle.fz_run.specs.SoundAloneProof as alone
-use Rattle.fz_run.specs.SoundAloneProof.{leaves_stack, free_opens, low_shown, all_open}
+use Rattle.alone_runs.specs.Following.{IsLow, Nothing}
+use Rattle.firmware_runs.specs.Ports.{given}
+use Rattle.alone_runs.specs.SoundAloneProof as alone
+use Rattle.alone_runs.specs.SoundAloneProof.{leaves_stack, free_opens, low_shown, all_open}
 use Rattle.watched_runs.specs.Forms.{watched_form, FactsWatched}
 
 -- one byte more is written alike

@@ -1,17 +1,17 @@
 //! A firmware with watched tables, as a form of runs.
 ghost use Rattle.std.specs.Prelude.{ℕ, ◌≡◌, ◌<◌, ◌≤◌, ◌+◌, List, Some, length, map, slice_get};
 ghost use Rattle.run_forms.specs.{Rest.counted_at, Rest.shown_by, Rooms.Fits};
-ghost use Rattle.fz_run.specs.Rows.{input_bytes};
+ghost use Rattle.alone_runs.specs.Rows.{input_bytes};
 ghost use Rattle.watched_code.specs.Watched as tables;
 ghost use Rattle.watched_runs.specs.{Rows.FaultSeen, Rows.watched_harness, Samples.AscendThroughout};
 
 use crate::upsets::{change, restore, upset_of};
-use codegen::Firmware;
+use alone_code::Firmware;
+use alone_runs::{Row, row_of};
 use cpu12_emul::machine::Machine;
 use cpu12_isa::mem::Mem;
-use firmware_ports::{answers, give, is_busy_here, is_idle};
+use firmware_runs::{answers, give, is_busy_here, is_idle};
 use fz_list::Memory;
-use fz_run::{Row, row_of};
 use interrupt_plan::{Request, Upset};
 use run_forms::{Room, RunForm, SampleForm, Tally, room_for};
 use std::alloc::Global;

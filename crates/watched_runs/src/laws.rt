@@ -2,9 +2,8 @@
 ghost use Rattle.watched_runs.specs.Answering.{AnswersUnderAllUpsets};
 
 use crate::watched::WatchedTables;
-use firmware_ports::given_is_put;
-use fz_run::laws::requests_are_good;
-use instruction_steps::laws::instructions_are_steps;
+use alone_runs::laws::requests_are_good;
+use firmware_runs::{given_is_put, instructions_are_steps};
 use run_forms::laws::arrives_plainly;
 use run_law::laws::{runs_follow, taken_at_once};
 use watched_code::laws::watched_answers;

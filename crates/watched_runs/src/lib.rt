@@ -1,6 +1,6 @@
 //! Runs of a firmware that watches its tables, with a byte of them upset while a sample is answered.
 //!
-//! [`run_upsets`] runs a firmware over a trace under a plan, as `fz_run::run` does; during a sample
+//! [`run_upsets`] runs a firmware over a trace under a plan, as `alone_runs::run` does; during a sample
 //! with an [`Upset`](interrupt_plan::Upset) its byte holds another value. A [`WatchedRow`] is a row with
 //! what the firmware says of its tables, FAULT. The rows are exactly those of the run's definition for
 //! every firmware; for that of a block with watched tables they are the block's answers where the

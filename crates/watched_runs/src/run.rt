@@ -1,16 +1,16 @@
 //! Runs of a firmware with watched tables under upsets.
 ghost use Rattle.std.specs.Prelude.{ℕ, ◌≡◌, ◌≤◌, map, IfOk};
 ghost use Rattle.interrupt_plan.specs.{Plans.IsGood, Upsets.AreGoodUpsets};
-ghost use Rattle.fz_run.specs.Rows.{input_bytes};
+ghost use Rattle.alone_runs.specs.Rows.{input_bytes};
 ghost use Rattle.watched_runs.specs.{Rows.row_seen, Rows.upset_rows, Rows.faults_of, Answering.AnswersItsSamples};
 
 use crate::form::{WatchedRow, WithUpsets};
 use crate::laws::answers_under_all_upsets;
 use crate::upsets::ascending;
-use codegen::Firmware;
+use alone_code::Firmware;
+use alone_runs::laws::plans_are_in_order;
 use cpu12_isa::pages::PageMem;
 use fz_list::Memory;
-use fz_run::laws::plans_are_in_order;
 use interrupt_plan::{Plan, Upsets};
 use run_forms::{Start, run_form};
 use std::alloc::Global;

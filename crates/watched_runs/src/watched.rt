@@ -5,7 +5,7 @@ ghost use Rattle.cpu12_emul.specs.Simulation.{OnStackOnly};
 ghost use Rattle.interrupt_plan.specs.Plans.{IsGoodRequest};
 ghost use Rattle.interrupt_plan.specs.declared.Request as plan;
 ghost use Rattle.watched_code.specs.Watched as tables;
-ghost use Rattle.fz_run.specs.Following.{Alone, Nothing};
+ghost use Rattle.alone_runs.specs.Following.{Alone, Nothing};
 ghost use Rattle.watched_runs.specs.{Forms.watched_form, Forms.FactsWatched, SoundWatchedProof.sound};
 
 use run_law::laws::SoundForm;

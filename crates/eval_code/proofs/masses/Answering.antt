@@ -16,7 +16,8 @@ use Rattle.std.proofs.lemmas.List.FromFn.{length-range_with_len}
 use Rattle.rule_layout.specs.Slots.{terms_from, singleton_count, output_terms}
 use Rattle.eval_code.proofs.{phases.SlotValues.slice_get_behind, phases.Quotients.quotient_of}
 use Rattle.eval_code.proofs.phases.Outputs.{output_answer, output_answers}
-use Rattle.eval_code.specs.{declared.width.Width.Width, Widths.parts, Widths.answer}
+use Rattle.byte_scaling.specs.{declared.width.Width.Width, Widths.parts}
+use Rattle.eval_code.specs.Widths.{answer}
 
 -- the sums over an output's terms
 pub sums_total : (b : Block) (bytes : List ℕ) (i : ℕ) (x : Output) (t : ℕ) (us : List Dec)

@@ -11,20 +11,20 @@ use Rattle.rule_layout.specs.declared.{flat.Slot.Slot, flat.Conjunction.Conjunct
 use Rattle.rule_layout.specs.Lists.{marked, list_words}
 use Rattle.rule_layout.specs.Slots.{singleton_count, slots_of, input_terms, term_slot}
 use Rattle.rule_layout.specs.Layouts.{conjunctions_of, weights_of, form_of, list_size, element_width, IsWithinLimits}
-use Rattle.eval_code.specs.declared.{memory_map.MemoryMap.MemoryMap, width.Width.Width}
+use Rattle.eval_code.specs.{declared.memory_map.MemoryMap.MemoryMap, Evaluation.put}
 use Rattle.eval_code.specs.Code.{slots_code, input_slots, fuzzify_code, rules_code, outputs_code, eval_code}
 use Rattle.eval_code.specs.Firing.{slot_before, slots_before, slots_after, AreInputBytes, fired}
-use Rattle.eval_code.specs.{Evaluation.put, Widths.places}
 use Rattle.eval_code.specs.Bounds.{input_term_count, output_term_count, complement_count, entry_count, element_count}
 use Rattle.eval_code.specs.Bounds.{form_bound}
 use Rattle.eval_code.specs.Data.{table_bytes, singleton_bytes, weight_bytes, weight_bytes_by, rule_bytes}
 use Rattle.eval_code.specs.Data.{rule_bytes_by}
+use Rattle.byte_scaling.specs.{declared.width.Width.Width, Widths.places}
 use Rattle.eval_code.proofs.{Placement.length-weights_of, phases.Quotients.output_most, phases.Quotients.output_parts}
+use Rattle.eval_code.proofs.{Joins.sum_by-term_count, Lists.length-marked, Sizes.code_size, Sizes.code_size-append}
 use Rattle.eval_code.proofs.steps.Memory.{HasBytes, has_put, bytes_back, bytes_put_out}
 use Rattle.eval_code.proofs.phases.RuleMemory.{length-fired, Below, AllBelow, length-renamed}
 use Rattle.eval_code.proofs.phases.SlotValues.{further_slots, slots_are, further_fill, before_are, count_further}
 use Rattle.eval_code.proofs.phases.SlotValues.{length-slots, length-input_terms}
-use Rattle.eval_code.proofs.{Joins.sum_by-term_count, Lists.length-marked, Sizes.code_size, Sizes.code_size-append}
 use Rattle.eval_code.proofs.phases.Fuzzify.{grades, length-grades, fuzzify_run}
 use Rattle.eval_code.proofs.phases.Filling.{fill_count, slots_run}
 use Rattle.eval_code.proofs.phases.Ruling.{AreFull, address, AtRules, rev_run, revw_run}

@@ -7,13 +7,14 @@ use Rattle.std.proofs.lemmas.List.Sums.{sum_by-cons}
 use Rattle.fuzzy_meaning.specs.declared.block.Output.{Output}
 use Rattle.rule_layout.specs.{declared.flat.Conjunction.Conjunction, Slots.slots_of, Slots.singleton_count}
 use Rattle.rule_layout.specs.Layouts.{conjunctions_of, IsWithinLimits, LayoutLaw}
-use Rattle.byte_scaling.specs.Cells.{NearestIsByte}
+use Rattle.byte_scaling.specs.{Cells.NearestIsByte, Widths.places}
+use Rattle.byte_scaling.specs.declared.{width.Width.Width, width.Width.TheVariants.Byte, width.Width.TheVariants.Word}
 use Rattle.eval_code.specs.Bounds.{element_count, entry_count, output_bound, instruction_bound, steps_by, step_bound}
-use Rattle.eval_code.specs.Widths.{places, bytes_of, answer}
+use Rattle.eval_code.specs.Widths.{bytes_of, answer}
 use Rattle.eval_code.specs.Firing.{AreInputBytes, slots_after, RulesGiveMasses}
 use Rattle.eval_code.specs.Evaluation.{put, HasBytes, HasEval, IsAtEval, IsEvaluated, EvalAnswers}
 use Rattle.eval_code.specs.{Masks.interrupt_masks, Code.eval_code, Standing.DecodesWhereItStands}
-use Rattle.eval_code.specs.declared.{width.Width.Width, width.Width.TheVariants.Byte, width.Width.TheVariants.Word}
+use Rattle.eval_code.proofs.{masses.Answering.answers_are, phases.Operands.fit_answer, phases.Operands.answer_size}
 use Rattle.fz_num.specs.declared.dec.Dec.{Dec}
 use Rattle.cpu12_isa.specs.{declared.instr.Instr.Instr, Code.encode_of, Fits.StaysFit}
 use Rattle.cpu12_parts.specs.{State.State, Executions.all_steps}
@@ -23,7 +24,6 @@ use Rattle.eval_code.proofs.steps.Decoding.{FitCode, code_bytes}
 use Rattle.eval_code.proofs.phases.Quotients.{output_parts, output_most}
 use Rattle.eval_code.proofs.phases.Evaluating.{masses, length-after, HasParts, Evals, evaluated, eval_most}
 use Rattle.eval_code.proofs.phases.Evaluating.{eval_parts, eval_run}
-use Rattle.eval_code.proofs.{masses.Answering.answers_are, phases.Operands.fit_answer, phases.Operands.answer_size}
 use Rattle.eval_code.proofs.phases.Outputs.{output_answers, all_bytes, length-all_bytes, length-output_answers}
 use Rattle.eval_code.proofs.phases.Outputs.{one_stands, listed, length-listed, listed_at, listed_stand, places_few}
 use Rattle.eval_code.proofs.phases.RuleFacts.{BlockFacts, block_facts, HasRules, has_rules}

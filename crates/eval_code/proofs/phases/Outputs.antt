@@ -5,19 +5,19 @@ use Rattle.std.proofs.Common.{subst, subst₂, arith, length-append, length-take
 use Rattle.std.proofs.lemmas.List.{length-map}
 use Rattle.std.proofs.lemmas.List.Sums.{sum_by-cons}
 use Rattle.fuzzy_meaning.specs.{declared.block.Output.Output, Blocks.IsValidOutput}
-use Rattle.byte_scaling.specs.Cells.{nearest_byte}
+use Rattle.byte_scaling.specs.{Cells.nearest_byte, Widths.places}
+use Rattle.byte_scaling.specs.declared.{width.Width.Width, width.Width.TheVariants.Byte, width.Width.TheVariants.Word}
 use Rattle.rule_layout.specs.Slots.{singleton_count}
 use Rattle.cpu12_isa.specs.declared.instr.Instr.TheVariants.{LdabImmediate, LdxImmediate, LdyImmediate}
 use Rattle.cpu12_parts.specs.{State.State, Whole.after_plain, Averages.dot, Averages.total}
-use Rattle.eval_code.specs.{Data.singleton_bytes_of, Evaluation.put, Widths.places, Widths.bytes_of}
+use Rattle.eval_code.specs.{Data.singleton_bytes_of, Evaluation.put, Widths.bytes_of}
 use Rattle.eval_code.specs.Code.{quotient_code, output_code, outputs_code}
-use Rattle.eval_code.specs.declared.{width.Width.Width, width.Width.TheVariants.Byte, width.Width.TheVariants.Word}
 use Rattle.eval_code.proofs.phases.Quotients.{quotient_of, quotient_most, output_most, output_parts, quotient_run}
 use Rattle.eval_code.proofs.steps.Memory.{HasBytes, bytes_front, bytes_back, bytes_put_out, put_append}
-use Rattle.eval_code.proofs.{Sizes.code_size, Sizes.code_size-append, phases.Averaging.wav_run, phases.Words.word_run}
 use Rattle.eval_code.proofs.steps.Stepping.{Ctx, Live, Stands, goes_one, goes_on, stands_front, stands_back, Reaches}
 use Rattle.eval_code.proofs.steps.Stepping.{reaches_none, reaches_after, reaches_at}
 use Rattle.eval_code.proofs.steps.Instructions.{ldab_byte, ldx, ldy}
+use Rattle.eval_code.proofs.{Sizes.code_size, Sizes.code_size-append, phases.Averaging.wav_run, phases.Words.word_run}
 
 -- the bytes of four answers at most
 pub places_few : (w : Width) (n : ℕ) → n ≤ 4 → places w * n ≤ 8

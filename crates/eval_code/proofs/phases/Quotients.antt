@@ -5,9 +5,8 @@ use Rattle.std.proofs.Common.{refl, sym, ap, ap₂, ◌∙◌}
 use Rattle.std.specs.Prelude.{◌==◌, if◌then◌else◌}
 use Rattle.std.specs.Option.{option_map_or}
 use Rattle.fuzzy_meaning.specs.declared.block.Output.{Output}
-use Rattle.byte_scaling.specs.Cells.{nearest_byte}
-use Rattle.eval_code.specs.declared.{width.Width.Width, width.Width.TheVariants.Byte, width.Width.TheVariants.Word}
-use Rattle.eval_code.specs.Widths.{parts}
+use Rattle.byte_scaling.specs.{Cells.nearest_byte, Widths.parts}
+use Rattle.byte_scaling.specs.declared.{width.Width.Width, width.Width.TheVariants.Byte, width.Width.TheVariants.Word}
 use Rattle.std.proofs.lemmas.List.{set-get_or}
 use Rattle.std.proofs.lemmas.Bool.Decides.{nat_tests}
 use Rattle.cpu12_isa.specs.{declared.instr.Instr.Instr, Flags.has}

@@ -14,9 +14,10 @@ use Rattle.cpu12_isa.specs.declared.instr.Instr.TheVariants.{Fdiv}
 use Rattle.cpu12_isa.specs.{Flags.has, Memory.plus, Registers.divided_fraction}
 use Rattle.cpu12_parts.specs.{State.State, Whole.after_plain}
 use Rattle.eval_code.specs.{Evaluation.put, Evaluation.Writes, Masks.interrupt_masks, Widths.bytes_of}
-use Rattle.eval_code.specs.{Code.quotient_code, declared.width.Width.TheVariants.Word}
-use Rattle.eval_code.proofs.phases.Quotients.{quotient_of, quotient_most, quotient_small}
 use Rattle.eval_code.proofs.{steps.Flags.masked_put, steps.Memory.HasBytes, Sizes.code_size}
+use Rattle.eval_code.specs.Code.{quotient_code}
+use Rattle.byte_scaling.specs.declared.width.Width.TheVariants.{Word}
+use Rattle.eval_code.proofs.phases.Quotients.{quotient_of, quotient_most, quotient_small}
 use Rattle.eval_code.proofs.steps.Instructions.{divided_is, ldab_byte, staa, stab, clr, cpx, cpx_zero, beq_on}
 use Rattle.eval_code.proofs.steps.Instructions.{beq_off, bra_on, tfr, ediv, ediv_y, ediv_sp}
 use Rattle.eval_code.proofs.steps.Stepping.{Ctx, Here, Live, Stands, Next, next, Goes, goes_one, goes_on, stands_at}

@@ -7,18 +7,17 @@ use Rattle.std.proofs.lemmas.Bool.Decides.{nat_tests}
 use Rattle.std.proofs.lemmas.List.{map-append}
 use Rattle.fz_num.specs.declared.dec.Dec.{Dec}
 use Rattle.fuzzy_meaning.specs.declared.{block.Block.Block, block.Input.Input, block.Output.Output}
-use Rattle.fuzzy_meaning.specs.declared.block.Trapezoid.{Trapezoid}
 use Rattle.fuzzy_meaning.specs.Blocks.{IsValid, IsValidOutput, IsWithin}
-use Rattle.byte_scaling.specs.Cells.{byte_of, nearest_byte, NearestIsByte}
+use Rattle.fuzzy_meaning.specs.declared.block.Trapezoid.{Trapezoid}
+use Rattle.byte_scaling.specs.{Cells.byte_of, Cells.nearest_byte, Cells.NearestIsByte, declared.width.Width.Width}
 use Rattle.point_slope.specs.Tables.{slope_of, left_point, left_slope, right_point, right_slope, row_of, rows_of}
 use Rattle.rule_layout.specs.declared.{flat.Conjunction.Conjunction, flat.Form.Form}
-use Rattle.rule_layout.specs.{Lists.marked, Lists.at_address, Lists.list_bytes, Lists.list_words, Slots.slots_of}
 use Rattle.rule_layout.specs.Layouts.{conjunctions_of, weights_of, form_of, IsBelow}
+use Rattle.rule_layout.specs.{Lists.marked, Lists.at_address, Lists.list_bytes, Lists.list_words, Slots.slots_of}
 use Rattle.cpu12_isa.specs.{declared.instr.Instr.Instr, Code.encode_of, Fits.EncodedAreBytes}
 use Rattle.cpu12_asm.specs.declared.{items.Item.Item, items.Item.TheVariants.Byte, items.Item.TheVariants.Op}
 use Rattle.cpu12_asm.specs.{Bytes.placed, Items.item_bytes, Items.place_after, Items.given_from}
-use Rattle.eval_code.specs.declared.{width.Width.Width, memory_map.MemoryMap.MemoryMap}
-use Rattle.eval_code.specs.Code.{code_bytes, eval_code, block_code}
+use Rattle.eval_code.specs.{declared.memory_map.MemoryMap.MemoryMap, Code.code_bytes, Code.eval_code, Code.block_code}
 use Rattle.eval_code.specs.Data.{table_bytes, singleton_bytes, singleton_bytes_of, weight_bytes, weight_bytes_by}
 use Rattle.eval_code.specs.Data.{rule_bytes, rule_bytes_by, bytes_of_word}
 use Rattle.eval_code.specs.{Items.block_items, Items.IsApart, Standing.CodeIsBytes}

@@ -13,11 +13,11 @@ use Rattle.watched_code.specs.declared.segments.Segment.{Segment}
 use Rattle.watched_code.specs.WatchedCode.{segment_code, segments_code, IsSegment}
 use Rattle.eval_code.specs.Masks.{interrupt_masks}
 pub use Rattle.watched_code.specs.WatchedCode.{AreSegments}
-use Rattle.codegen.specs.Interruptible.{IsInterruptibleStep}
-use Rattle.codegen.specs.Settings.{Setting, Here, Live, Stands, Next, InstructionGoesOn}
+use Rattle.alone_code.specs.Interruptible.{IsInterruptibleStep}
+use Rattle.alone_code.specs.Settings.{Setting, Here, Live, Stands, Next, InstructionGoesOn}
 use Rattle.cpu12_parts.proofs.Algebra.{Bounded, bounded_none, bounded_one, bounded_on}
 use Rattle.eval_code.proofs.Algebra.{masked_or, masked_and, masked_tested, masked_four, zero_four}
-use Rattle.codegen.proofs.Algebra.{high_shown}
+use Rattle.alone_code.proofs.Algebra.{high_shown}
 
 -- H leaves I and X, and with the other flags Z
 masked_half : (c : Ccr) (b : Bool) → interrupt_masks (put c 5 b) ≡ interrupt_masks c

@@ -8,16 +8,17 @@ use Rattle.cpu12_isa.specs.{declared.instr.Instr.TheVariants.Rts, Regions.is_fre
 use Rattle.cpu12_asm.specs.{Bytes.Holds, Items.given_by, Items.IsRising}
 use Rattle.cpu12_parts.specs.State.{State}
 use Rattle.cpu12_emul.specs.Image.{image_memory}
-use Rattle.eval_code.specs.declared.{memory_map.MemoryMap.MemoryMap, width.Width.TheVariants.Byte}
-use Rattle.eval_code.specs.{MemoryMaps.main_map, Bounds.instruction_bound, Items.IsApart, Items.block_items}
+use Rattle.eval_code.specs.declared.memory_map.MemoryMap.{MemoryMap}
 use Rattle.eval_code.specs.Code.{code_bytes, eval_code, block_code, FitCode}
 use Rattle.eval_code.specs.Placed.{IsInOrder, HasParts, BlockRises, BlockIsShort}
-use Rattle.codegen.specs.{Images.vector_items, Answers.IsArrived, Answers.FreeBytesLeave, Standing.HasFirmware}
-use Rattle.codegen.specs.{Frames.Arrived, Settings.Setting, Settings.IsShut}
+use Rattle.byte_scaling.specs.declared.width.Width.TheVariants.{Byte}
+use Rattle.eval_code.specs.{MemoryMaps.main_map, Bounds.instruction_bound, Items.IsApart, Items.block_items}
+use Rattle.alone_code.specs.{Images.vector_items, Answers.IsArrived, Answers.FreeBytesLeave, Standing.HasFirmware}
+use Rattle.alone_code.specs.{Frames.Arrived, Settings.Setting, Settings.IsShut}
 use Rattle.watched_code.specs.WatchedCode.{segments_of, watched_front, watched_map, code_length}
 use Rattle.watched_code.specs.Watched.{watched_items, watched_bound, Change, Watched, IsTableChange, IsGoodSample}
 use Rattle.watched_code.specs.Watched.{AreWatchAnswered, WatchedAnswers}
-use Rattle.codegen.proofs.Algebra.{not_free}
+use Rattle.alone_code.proofs.Algebra.{not_free}
 use Rattle.watched_code.proofs.{watching.Adding.count_in, watching.Laws.WatchingLaws, watching.Located.located}
 use Rattle.watched_code.proofs.watching.Fronts.{IsWatchedMap, length-more, length-bad, length-front, fits_front}
 use Rattle.watched_code.proofs.watching.Fronts.{fit_defaults, start_bytes}

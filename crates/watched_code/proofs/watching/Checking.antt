@@ -9,7 +9,7 @@ use Rattle.watched_code.specs.{declared.segments.Segment.Segment, WatchedCode.se
 use Rattle.cpu12_parts.proofs.Algebra.{Bounded, bounded_one, bounded_on}
 use Rattle.watched_code.proofs.watching.Adding.{IsShutAbove, AreSegments, Added, segments_run, sum_in, count_in, clr}
 use Rattle.watched_code.proofs.watching.Adding.{Step, ldab, addb, addb_zero, bne_on, bne_back}
-use Rattle.codegen.specs.Settings.{Setting, Live, Stands, InstructionGoesOn}
+use Rattle.alone_code.specs.Settings.{Setting, Live, Stands, InstructionGoesOn}
 
 -- the check's last three instructions
 abbrev pub decision : ℕ → ℕ → List Instr

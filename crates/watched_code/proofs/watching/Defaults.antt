@@ -13,7 +13,7 @@ use Rattle.watched_code.specs.WatchedCode.{default_code, defaults_code}
 use Rattle.watched_code.specs.Watched.{default_or, default_of}
 use Rattle.cpu12_parts.proofs.Algebra.{Bounded, bounded_none, bounded_one, bounded_on, bounded_more}
 use Rattle.watched_code.proofs.watching.Adding.{ldab, stab, Step}
-use Rattle.codegen.specs.Settings.{Setting, Live, Stands, InstructionGoesOn}
+use Rattle.alone_code.specs.Settings.{Setting, Live, Stands, InstructionGoesOn}
 
 -- an output's default, where it has one
 abbrev pub default_byte : Output → Option ℕ

@@ -6,13 +6,14 @@ use Rattle.rule_layout.specs.declared.{flat.Flat.Flat, flat.Form.Form}
 use Rattle.rule_layout.specs.declared.flat.Form.TheVariants as form
 use Rattle.rule_layout.specs.Layouts.{flat_of, form_of, weights_of, FlatHasParts}
 use Rattle.cpu12_isa.specs.declared.instr.Instr.{Instr}
-use Rattle.eval_code.specs.declared.{memory_map.MemoryMap.MemoryMap, width.Width.TheVariants.Byte}
-use Rattle.eval_code.specs.{MemoryMaps.main_map, Bounds.instruction_bound, Placed.HasParts}
+use Rattle.eval_code.specs.declared.memory_map.MemoryMap.{MemoryMap}
 use Rattle.eval_code.specs.Data.{table_bytes, singleton_bytes, rule_bytes_by, rule_bytes}
+use Rattle.byte_scaling.specs.declared.width.Width.TheVariants.{Byte}
+use Rattle.eval_code.specs.{MemoryMaps.main_map, Bounds.instruction_bound, Placed.HasParts}
 use Rattle.watched_code.specs.{declared.segments.Segment.Segment, Watched.segment_bound, Watched.watched_bound}
+use Rattle.watched_code.proofs.{watching.Answering.short_front, watching.Fronts.length-le}
 use Rattle.watched_code.specs.WatchedCode.{IsSegment, AreSegments, segment, weight_segments, segments_of, code_length}
 use Rattle.watched_code.specs.WatchedCode.{watched_front, watched_front_over}
-use Rattle.watched_code.proofs.{watching.Answering.short_front, watching.Fronts.length-le}
 use Rattle.std.proofs.lemmas.List.Elements.{All-cons, All-nil}
 
 segment_at : (gs : List Segment) (i : ℕ) (g : Segment) → i < length gs → AreSegments gs → IsSegment (get_or gs i g)

@@ -15,8 +15,8 @@ use Rattle.watched_code.specs.{declared.segments.Segment.Segment, Checksums.chec
 use Rattle.watched_code.specs.WatchedCode.{segment_bytes, code_length, default_code, defaults_code, bad_code}
 use Rattle.watched_code.specs.WatchedCode.{segment_code, segments_code, back_to_bad, check_code, bad_at, check_at}
 use Rattle.watched_code.specs.WatchedCode.{watched_front_over, fault_at}
-use Rattle.codegen.specs.{Code.frame_code, Settings.InstructionsStand, Settings.Setting, Settings.Stands}
-use Rattle.codegen.specs.Frames.{IsStarted, start_code, IsFramed, FrameCallsAndLeaves}
+use Rattle.alone_code.specs.{Code.frame_code, Settings.InstructionsStand, Settings.Setting, Settings.Stands}
+use Rattle.alone_code.specs.Frames.{IsStarted, start_code, IsFramed, FrameCallsAndLeaves}
 use Rattle.eval_code.proofs.Algebra.{length-le-code_size, length-code_bytes, bytes_front, bytes_back, fit_append}
 use Rattle.watched_code.proofs.watching.Adding.{IsShutAbove, AreSegments}
 use Rattle.watched_code.proofs.watching.Checking.{HasCheck, decision}

@@ -10,18 +10,19 @@ use Rattle.fuzzy_meaning.specs.{declared.block.Block.Block, Blocks.IsValid, Bloc
 use Rattle.rule_layout.specs.Layouts.{IsWithinLimits}
 use Rattle.cpu12_isa.specs.{Fits.AreBytes, Regions.is_free}
 use Rattle.cpu12_parts.specs.{State.State, Executions.Execution}
-use Rattle.codegen.specs.{Interruptible.IsInterruptible, Interruptible.IsInterruptibleStep, Answers.given}
-use Rattle.codegen.specs.{Calls.HasRoutine, Frames.Home, Settings.Setting, Settings.Live}
+use Rattle.alone_code.specs.{Interruptible.IsInterruptible, Interruptible.IsInterruptibleStep, Answers.given}
+use Rattle.alone_code.specs.{Calls.HasRoutine, Frames.Home, Settings.Setting, Settings.Live}
 use Rattle.watched_code.specs.{declared.segments.Segment.Segment, Checksums.check_byte}
+use Rattle.watched_code.proofs.{watching.Defaults.FitDefaults, watching.Tables.sum_high, watching.Laws.WatchingLaws}
 use Rattle.watched_code.specs.WatchedCode.{segment_bytes, fault_at, watched_front_over, code_length}
 use Rattle.watched_code.specs.Watched.{Change, changed, is_upset, Watched, default_of, watched_answer, watched_fault}
 use Rattle.watched_code.specs.Watched.{upset_given, restored, IsWatchAnswered, AreWatchAnswered}
-use Rattle.eval_code.specs.{declared.width.Width.TheVariants.Byte, Widths.answer, Bounds.instruction_bound}
+use Rattle.byte_scaling.specs.declared.width.Width.TheVariants.{Byte}
+use Rattle.eval_code.specs.{Widths.answer, Bounds.instruction_bound}
 use Rattle.eval_code.specs.{Items.IsApart, Firing.AreInputBytes, Evaluation.HasBytes, Evaluation.put, Code.code_bytes}
 use Rattle.eval_code.proofs.Algebra.{SameHigh, bytes_set_out, bytes_after_set, bytes_put_out, has_put, length-put}
 use Rattle.watched_code.proofs.watching.Adding.{IsShutAbove, AreSegments, sum_in, count_in}
 use Rattle.watched_code.proofs.watching.Segments.{Apart, In, Stand, stand_passes, change_fails}
-use Rattle.watched_code.proofs.{watching.Defaults.FitDefaults, watching.Tables.sum_high, watching.Laws.WatchingLaws}
 use Rattle.watched_code.proofs.watching.Sampling.{Watches, IsGiven, WatchSampled, answered_well, answered_badly}
 use Rattle.watched_code.proofs.watching.Fronts.{IsWatchedMap, has_front}
 

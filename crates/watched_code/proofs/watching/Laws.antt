@@ -3,10 +3,10 @@ use Rattle.byte_scaling.specs.Cells.{NearestIsByte}
 use Rattle.cpu12_isa.specs.Fits.{StaysFit}
 use Rattle.eval_code.specs.Placed.{BlockHasParts, BlockGivesAtParts}
 use Rattle.eval_code.specs.Standing.{DecodesWhereItStands, CodeIsBytes}
-use Rattle.codegen.specs.{Answers.FreeBytesLeave, Calls.CalledEvalReturns, Standing.ImageHasFirmware}
-use Rattle.codegen.specs.Frames.{FrameCallsAndLeaves, StartArrives}
-use Rattle.codegen.specs.Settings.{InstructionsStand, InstructionGoesOn, ReturnGoesOn, LiveIsInterruptible}
-use Rattle.codegen.specs.Settings.{LiveIsIdle, GivenIsLive}
+use Rattle.alone_code.specs.{Answers.FreeBytesLeave, Calls.CalledEvalReturns, Standing.ImageHasFirmware}
+use Rattle.alone_code.specs.Frames.{FrameCallsAndLeaves, StartArrives}
+use Rattle.alone_code.specs.Settings.{InstructionsStand, InstructionGoesOn, ReturnGoesOn, LiveIsInterruptible}
+use Rattle.alone_code.specs.Settings.{LiveIsIdle, GivenIsLive}
 
 -- the laws of lower crates
 pub record WatchingLaws : Type 0 where

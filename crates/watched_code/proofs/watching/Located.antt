@@ -9,13 +9,13 @@ use Rattle.rule_layout.specs.declared.flat.Form.TheVariants as form
 use Rattle.rule_layout.specs.Layouts.{form_of, weights_of}
 use Rattle.cpu12_isa.specs.declared.instr.Instr.{Instr}
 use Rattle.cpu12_asm.specs.{declared.items.Item.TheVariants.Byte, Bytes.byte_at, Items.given_by}
-use Rattle.eval_code.specs.declared.{memory_map.MemoryMap.MemoryMap, width.Width.Width}
+use Rattle.eval_code.specs.declared.memory_map.MemoryMap.{MemoryMap}
+use Rattle.eval_code.specs.{Data.weight_bytes_by, Data.rule_bytes, Data.bytes_of_word, Placed.BlockGivesAtParts}
+use Rattle.byte_scaling.specs.declared.width.Width.{Width}
 use Rattle.eval_code.specs.{Code.block_code, Code.code_bytes, Items.bytes_at, Items.block_items}
-use Rattle.eval_code.specs.Data.{weight_bytes_by, rule_bytes, bytes_of_word}
-use Rattle.eval_code.specs.Placed.{BlockGivesAtParts}
 use Rattle.watched_code.specs.declared.segments.Segment.{Segment}
 use Rattle.watched_code.specs.WatchedCode.{segment, weight_segments, segments_of}
-use Rattle.codegen.specs.Images.{vector_items}
+use Rattle.alone_code.specs.Images.{vector_items}
 use Rattle.watched_code.proofs.watching.Segments.{Within, In}
 
 -- nothing below the vectors is one of their bytes

@@ -13,21 +13,22 @@ use Rattle.cpu12_isa.specs.declared.instr.Instr.{Instr}
 use Rattle.cpu12_isa.specs.declared.instr.Instr.TheVariants.{Rts, LdabImmediate, StabExtended}
 use Rattle.cpu12_parts.specs.{State.State, Rules.Rule, Rules.Form, Whole.after_plain}
 use Rattle.cpu12_parts.specs.Executions.{Execution, all_steps}
-use Rattle.eval_code.specs.declared.{memory_map.MemoryMap.MemoryMap, width.Width.TheVariants.Byte}
+use Rattle.eval_code.specs.declared.memory_map.MemoryMap.{MemoryMap}
+use Rattle.byte_scaling.specs.declared.width.Width.TheVariants.{Byte}
 use Rattle.eval_code.specs.{Widths.answer, Bounds.output_bound, Bounds.instruction_bound, Bounds.steps_by}
 use Rattle.eval_code.specs.{Items.IsApart, Firing.AreInputBytes, Evaluation.HasBytes, Evaluation.HasAnswers}
 use Rattle.watched_code.specs.{declared.segments.Segment.Segment, Checksums.check_byte, Watched.default_of}
+use Rattle.watched_code.proofs.{watching.Segments.Apart, watching.Segments.sum_below, watching.Laws.WatchingLaws}
 use Rattle.watched_code.specs.WatchedCode.{bad_code, defaults_code, fault_at, segment_bytes}
-use Rattle.codegen.specs.Interruptible.{IsShownInstruction, IsShownRules}
-use Rattle.codegen.specs.Calls.{HasRoutine, IsInCode, IsCalled, Back}
-use Rattle.codegen.specs.Frames.{CallsAndLeaves, Home, Called, Left}
-use Rattle.codegen.specs.Settings.{Setting, Live, Stands, InstructionGoesOn}
+use Rattle.alone_code.specs.Interruptible.{IsShownInstruction, IsShownRules}
+use Rattle.alone_code.specs.Calls.{HasRoutine, IsInCode, IsCalled, Back}
+use Rattle.alone_code.specs.Frames.{CallsAndLeaves, Home, Called, Left}
+use Rattle.alone_code.specs.Settings.{Setting, Live, Stands, InstructionGoesOn}
 use Rattle.cpu12_parts.proofs.Algebra.{Bounded, bounded_one, bounded_on, execution_on, steps_append}
 use Rattle.eval_code.proofs.Algebra.{bytes_set_out}
-use Rattle.codegen.proofs.Algebra.{pushed_word}
+use Rattle.alone_code.proofs.Algebra.{pushed_word}
 use Rattle.watched_code.proofs.watching.Adding.{sum_in, count_in, Step}
 use Rattle.watched_code.proofs.watching.Checking.{HasCheck, Leads, passed, failed}
-use Rattle.watched_code.proofs.{watching.Segments.Apart, watching.Segments.sum_below, watching.Laws.WatchingLaws}
 use Rattle.watched_code.proofs.watching.Defaults.{Stored, stored, all_defaulted, defaults_run, default_else}
 use Rattle.watched_code.proofs.watching.Defaults.{default_there}
 

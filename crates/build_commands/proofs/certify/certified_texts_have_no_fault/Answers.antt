@@ -1,6 +1,6 @@
 use Rattle.std.proofs.Common.{subst}
 use Rattle.fuzzy_meaning.specs.declared.block.Block.{Block}
-use Rattle.build_commands.specs.Certify.{StopsHalving}
+use Rattle.command_parts.specs.Certs.{StopsHalving}
 use Rattle.fz_status.specs.declared.status.Status.TheVariants as status
 use Rattle.build_commands.proofs.certify.certified_texts_have_no_fault.Goals as goal
 

@@ -2,7 +2,7 @@ use Rattle.std.proofs.Common.{◌++◌, ℕ, List, ap, ◌∙◌}
 use Rattle.std.specs.Prelude.{codes}
 use Rattle.box_tree.specs.Trees.{leaf_count}
 use Rattle.fz_shelf.specs.Lines.{text_of}
-use Rattle.build_commands.specs.Lines.{counted, error_line}
+use Rattle.command_parts.specs.Lines.{counted, error_line}
 use Rattle.build_commands.proofs.LineLemmas.{errors_written}
 use Rattle.build_commands.proofs.certify.lines.Goals as goal
 

@@ -1,6 +1,6 @@
 use Rattle.std.proofs.Common.{subst}
 use Rattle.fuzzy_meaning.specs.declared.block.Block.{Block}
-use Rattle.build_commands.specs.Certs.{HasCertFault}
+use Rattle.command_parts.specs.Certs.{HasCertFault}
 use Rattle.fz_status.specs.declared.status.Status.TheVariants as status
 use Rattle.build_commands.proofs.check.checked_certs_have_no_fault.Goals as goal
 

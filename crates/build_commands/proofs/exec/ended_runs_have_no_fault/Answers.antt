@@ -6,7 +6,6 @@ use Rattle.cpu12_emul.specs.declared.ends.RunEnd.TheVariants as end
 use Rattle.srecord.specs.Laws.{ImagesAreOne}
 use Rattle.fz_status.specs.declared.status.Status.TheVariants as status
 use Rattle.build_commands.specs.{Exec.Ends, declared.exec.Exec.Exec}
-use Rattle.build_commands.proofs.ImageLemmas.{records_apart}
 use Rattle.build_commands.proofs.exec.ended_runs_have_no_fault.Goals as goal
 
 -- two runs of one image end alike
@@ -20,7 +19,7 @@ ends_alike images loads ends exec text e f t u one other =
 
 pub returns : goal.returns
 returns c exec text output (status.Image f) gives is =
-    records_apart c.images_are_one.ensures.no_fault text gives.arrives.image f gives.arrives.spelled is.1
+    c.given_records_have_no_fault.ensures text gives.arrives.image f gives.arrives.spelled is.1
 returns c exec text output (status.Trap pc byte) gives (carries, (last, ends_so)) =
     let same = ends_alike c.images_are_one.ensures.one c.images_load_alike.ensures c.runs_end_once.ensures exec text
     (end.Arrived gives.steps) (end.Trap pc byte) gives.last last gives.arrives ends_so in

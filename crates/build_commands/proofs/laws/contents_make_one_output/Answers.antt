@@ -1,8 +1,8 @@
-use Rattle.std.proofs.Common.{refl}
-use Rattle.eval_code.specs.{Bounds.instruction_bound, declared.width.Width.TheVariants.Byte}
-use Rattle.codegen.specs.Mailboxes.{mailbox_bound}
+use Rattle.eval_code.specs.Bounds.{instruction_bound}
+use Rattle.byte_scaling.specs.declared.width.Width.TheVariants.{Byte}
+use Rattle.alone_code.specs.Mailboxes.{mailbox_bound}
 use Rattle.watched_code.specs.Watched.{watched_bound}
-use Rattle.build_commands.specs.Firmwares.{GivesFirmware, GivesMailbox, GivesWatched}
+use Rattle.command_parts.specs.Firmwares.{GivesFirmware, GivesMailbox, GivesWatched}
 use Rattle.build_commands.proofs.OneLemmas.{compiles_once, two_compile_once}
 use Rattle.build_commands.proofs.laws.contents_make_one_output.Goals as goal
 

@@ -1,6 +1,6 @@
 use Rattle.std.proofs.Common.{◌∙◌, ℕ, List, ap₂, length, subst}
 use Rattle.fz_shelf.specs.Lines.{text_of}
-use Rattle.two_level.specs.Images.{fast_most}
+use Rattle.two_level_code.specs.Images.{fast_most}
 use Rattle.build_commands.specs.{Lcompile.LcompileMakes, Lcompile.lcompile_lines, Written.WritesImage}
 use Rattle.build_commands.proofs.WrittenLemmas.{written_makes}
 use Rattle.build_commands.proofs.lcompile.work.Goals as goal

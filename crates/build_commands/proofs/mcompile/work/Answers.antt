@@ -1,7 +1,8 @@
 use Rattle.std.proofs.Common.{rules}
-use Rattle.codegen.specs.Mailboxes.{mailbox_bound}
-use Rattle.eval_code.specs.declared.width.Width.TheVariants.{Byte}
-use Rattle.build_commands.specs.{Firmwares.GivesMailbox, Mcompile.McompileMakes}
+use Rattle.alone_code.specs.Mailboxes.{mailbox_bound}
+use Rattle.byte_scaling.specs.declared.width.Width.TheVariants.{Byte}
+use Rattle.command_parts.specs.Firmwares.{GivesMailbox}
+use Rattle.build_commands.specs.Mcompile.{McompileMakes}
 use Rattle.build_commands.proofs.WrittenLemmas.{firmware_makes}
 use Rattle.build_commands.proofs.mcompile.work.Goals as goal
 

@@ -1,6 +1,7 @@
 use Rattle.std.proofs.Common.{rules}
 use Rattle.watched_code.specs.Watched.{watched_bound}
-use Rattle.build_commands.specs.{Firmwares.GivesWatched, Scompile.ScompileMakes}
+use Rattle.command_parts.specs.Firmwares.{GivesWatched}
+use Rattle.build_commands.specs.Scompile.{ScompileMakes}
 use Rattle.build_commands.proofs.WrittenLemmas.{firmware_makes}
 use Rattle.build_commands.proofs.scompile.work.Goals as goal
 

@@ -1,8 +1,8 @@
 use Rattle.std.proofs.Common.{◌≡◌, ◌≤◌, ◌∙◌, List, ℕ, length, map, sym, ap, subst, arith}
 use Rattle.std.proofs.lemmas.List.{length-map}
 use Rattle.run_law.specs.Forms.{RowSeen}
-use Rattle.fz_run.specs.{Answering.AnswersItsBlock, Forms.with_writes}
-use Rattle.fz_run.specs.Rows.{first_state, firmware_rows, input_bytes, requests_of, row_seen}
+use Rattle.alone_runs.specs.{Answering.AnswersItsBlock, Forms.with_writes}
+use Rattle.alone_runs.specs.Rows.{first_state, firmware_rows, input_bytes, requests_of, row_seen}
 use Rattle.run_forms.specs.Outlooks.{Ahead}
 use Rattle.debug_script.specs.Going.{AreTold}
 use Rattle.debug_script.proofs.GoingLemmas.{told_positions}

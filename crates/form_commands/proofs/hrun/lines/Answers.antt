@@ -2,7 +2,7 @@ use Rattle.std.proofs.Common.{◌+◌, ◌∙◌, ◌++◌, ap}
 use Rattle.handled_runs.specs.{Forms.row_seen, declared.rows.HandledRow.HandledRow}
 use Rattle.fz_shelf.specs.Lines.{text_of}
 use Rattle.form_commands.specs.Hrun.{handled_row_lines}
-use Rattle.build_commands.proofs.Algebra.{counted_more, text_more}
+use Rattle.command_parts.proofs.Algebra.{counted_more, text_more}
 use Rattle.form_commands.proofs.hrun.lines.Goals as goal
 
 pub loop-at-preserved : goal.loop-at-preserved

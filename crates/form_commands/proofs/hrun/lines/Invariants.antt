@@ -1,7 +1,7 @@
 use Rattle.std.proofs.Common.{◌≡◌, ◌++◌, take}
 use Rattle.fz_shelf.specs.Lines.{text_of}
 use Rattle.handled_runs.specs.Forms.{row_seen}
-use Rattle.build_commands.specs.Lines.{counted}
+use Rattle.command_parts.specs.Lines.{counted}
 use Rattle.run_reports.specs.RowLines.{begun_lines}
 use Rattle.form_commands.specs.Hrun.{handled_row_lines}
 use Rattle.form_commands.proofs.hrun.lines.Given as goal

@@ -1,6 +1,6 @@
-use Rattle.two_runs.specs.Harness.{row_seen}
+use Rattle.two_level_runs.specs.Harness.{row_seen}
 use Rattle.form_commands.specs.Lrun.{level_row_lines}
-use Rattle.build_commands.proofs.Algebra.{begun_items}
+use Rattle.command_parts.proofs.Algebra.{begun_items}
 use Rattle.form_commands.proofs.level_lines.lines.Goals as goal
 
 pub returns : goal.returns

@@ -1,5 +1,5 @@
 use Rattle.form_commands.specs.Lrun.{fast_error_line}
-use Rattle.build_commands.proofs.Algebra.{counted_more, line_more}
+use Rattle.command_parts.proofs.Algebra.{counted_more, line_more}
 use Rattle.form_commands.proofs.level_lines.push_fast_errors.Goals as goal
 
 pub loop-at-preserved : goal.loop-at-preserved

@@ -1,6 +1,6 @@
 use Rattle.std.proofs.Common.{◌≡◌, ◌++◌, take}
 use Rattle.fz_shelf.specs.Lines.{text_of}
-use Rattle.build_commands.specs.Lines.{counted}
+use Rattle.command_parts.specs.Lines.{counted}
 use Rattle.form_commands.specs.Lrun.{fast_error_line}
 use Rattle.form_commands.proofs.level_lines.push_fast_errors.Given as goal
 

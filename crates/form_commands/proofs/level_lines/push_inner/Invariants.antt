@@ -1,7 +1,7 @@
 use Rattle.std.proofs.Common.{◌≡◌, ◌++◌, take}
 use Rattle.std.specs.List.{flat_map}
 use Rattle.fz_shelf.specs.Lines.{text_of}
-use Rattle.two_runs.specs.InnerNotes.{inner_seen}
+use Rattle.two_level_runs.specs.InnerNotes.{inner_seen}
 use Rattle.form_commands.specs.Lrun.{inner_line}
 use Rattle.form_commands.proofs.level_lines.push_inner.Given as goal
 

@@ -1,8 +1,8 @@
 use Rattle.std.proofs.Common.{◌∙◌, ◌++◌, ℕ, List, ap, sym}
 use Rattle.fz_shelf.specs.Lines.{text_of}
 use Rattle.run_forms.specs.Rows.{boundary_seen}
-use Rattle.two_runs.specs.Harness.{row_seen}
-use Rattle.build_commands.proofs.Algebra.{counted-map, pushed}
+use Rattle.two_level_runs.specs.Harness.{row_seen}
+use Rattle.command_parts.proofs.Algebra.{counted-map, pushed}
 use Rattle.form_commands.specs.Lrun.{outer_lines}
 use Rattle.form_commands.proofs.level_lines.push_row.Goals as goal
 

@@ -1,7 +1,7 @@
 use Rattle.std.proofs.Common.{◌+◌, ◌∙◌, ◌++◌, ap}
 use Rattle.fz_shelf.specs.Lines.{text_of}
-use Rattle.two_runs.specs.{Harness.row_seen, declared.rows.TwoRow.TwoRow}
-use Rattle.build_commands.proofs.Algebra.{counted_more, text_more}
+use Rattle.two_level_runs.specs.{Harness.row_seen, declared.rows.TwoRow.TwoRow}
+use Rattle.command_parts.proofs.Algebra.{counted_more, text_more}
 use Rattle.form_commands.specs.Lrun.{level_row_lines}
 use Rattle.form_commands.proofs.level_lines.push_rows.Goals as goal
 

@@ -1,7 +1,7 @@
 use Rattle.std.proofs.Common.{◌≡◌, ◌++◌, take}
 use Rattle.fz_shelf.specs.Lines.{text_of}
-use Rattle.two_runs.specs.Harness.{row_seen}
-use Rattle.build_commands.specs.Lines.{counted}
+use Rattle.two_level_runs.specs.Harness.{row_seen}
+use Rattle.command_parts.specs.Lines.{counted}
 use Rattle.form_commands.specs.Lrun.{level_row_lines}
 use Rattle.form_commands.proofs.level_lines.push_rows.Given as goal
 

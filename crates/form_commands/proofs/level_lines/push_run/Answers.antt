@@ -1,7 +1,7 @@
 use Rattle.std.proofs.Common.{◌∙◌, ◌++◌, ℕ, List, ap, sym}
 use Rattle.fz_shelf.specs.Lines.{text_of}
-use Rattle.two_runs.specs.{InnerNotes.inner_seen, Harness.fast_seen}
-use Rattle.build_commands.proofs.Algebra.{flat-map, pushed}
+use Rattle.two_level_runs.specs.{InnerNotes.inner_seen, Harness.fast_seen}
+use Rattle.command_parts.proofs.Algebra.{flat-map, pushed}
 use Rattle.form_commands.specs.Lrun.{fast_line, inner_line}
 use Rattle.form_commands.proofs.level_lines.push_run.Goals as goal
 

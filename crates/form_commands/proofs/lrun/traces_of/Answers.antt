@@ -1,4 +1,4 @@
-use Rattle.build_commands.specs.Contents.{bytes_of}
+use Rattle.command_parts.specs.Contents.{bytes_of}
 use Rattle.form_commands.specs.Lrun.{level_files}
 use Rattle.form_commands.proofs.LevelRefusals.{by_fast_trace}
 use Rattle.form_commands.proofs.lrun.traces_of.Goals as goal

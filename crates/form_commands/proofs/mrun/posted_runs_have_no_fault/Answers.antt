@@ -1,11 +1,11 @@
 use Rattle.std.proofs.Common.{ℕ, subst}
 use Rattle.fuzzy_meaning.specs.declared.block.Block.{Block}
-use Rattle.codegen.specs.declared.firmware.Firmware.{Firmware}
+use Rattle.alone_code.specs.declared.firmware.Firmware.{Firmware}
 use Rattle.trace_io.specs.Traces.{HasFault as TraceHasFault}
 use Rattle.interrupt_plan.specs.Posts.{PostsHaveFault}
 use Rattle.box_tree.specs.declared.cert.CertKind.TheVariants.{Named}
-use Rattle.eval_code.specs.declared.width.Width.TheVariants.{Byte}
-use Rattle.build_commands.specs.{Certs.HasCertFault, Images.RefusesImage}
+use Rattle.byte_scaling.specs.declared.width.Width.TheVariants.{Byte}
+use Rattle.command_parts.specs.{Certs.HasCertFault, Images.RefusesImage}
 use Rattle.fz_status.specs.declared.status.Status.TheVariants as status
 use Rattle.form_commands.proofs.mrun.posted_runs_have_no_fault.Goals as goal
 

@@ -1,8 +1,8 @@
 use Rattle.std.proofs.Common.{◌+◌, ◌∙◌, ap}
-use Rattle.posted_runs.specs.Runs.{answer_seen}
-use Rattle.posted_runs.specs.declared.run.Answer as declared
+use Rattle.mailbox_runs.specs.Runs.{answer_seen}
+use Rattle.mailbox_runs.specs.declared.run.Answer as declared
 use Rattle.form_commands.specs.Mrun.{answer_line}
-use Rattle.build_commands.proofs.Algebra.{counted_more, line_more}
+use Rattle.command_parts.proofs.Algebra.{counted_more, line_more}
 use Rattle.form_commands.proofs.posted_lines.push_answers.Goals as goal
 
 pub loop-at-preserved : goal.loop-at-preserved

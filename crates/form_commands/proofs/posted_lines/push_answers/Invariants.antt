@@ -1,7 +1,7 @@
 use Rattle.std.proofs.Common.{◌≡◌, ◌++◌, take}
 use Rattle.fz_shelf.specs.Lines.{text_of}
-use Rattle.posted_runs.specs.Runs.{answer_seen}
-use Rattle.build_commands.specs.Lines.{counted}
+use Rattle.mailbox_runs.specs.Runs.{answer_seen}
+use Rattle.command_parts.specs.Lines.{counted}
 use Rattle.form_commands.specs.Mrun.{answer_line}
 use Rattle.form_commands.proofs.posted_lines.push_answers.Given as goal
 

@@ -1,4 +1,4 @@
-use Rattle.build_commands.specs.Contents.{content_at}
+use Rattle.command_parts.specs.Contents.{content_at}
 use Rattle.run_commands.specs.{Debug.debug_files, Run.files_in}
 use Rattle.form_commands.specs.{Hrun.handled_files, Lrun.level_files, Mrun.posted_files, Srun.watched_files}
 use Rattle.fz_top.specs.Commands.{Makes}

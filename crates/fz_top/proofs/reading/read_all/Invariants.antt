@@ -1,6 +1,6 @@
 use Rattle.std.proofs.Common.{◌≡◌, take}
 use Rattle.fz_status.specs.Words.{texts_of}
-use Rattle.build_commands.specs.Contents.{bytes_of}
+use Rattle.command_parts.specs.Contents.{bytes_of}
 use Rattle.fz_top.specs.Reads.{ReadsWhole}
 use Rattle.fz_top.proofs.reading.read_all.Given as goal
 

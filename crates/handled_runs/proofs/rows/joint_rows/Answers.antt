@@ -1,5 +1,5 @@
 use Rattle.std.proofs.Common.{sym, subst}
-use Rattle.fz_run.specs.Forms.{place_of}
+use Rattle.alone_runs.specs.Forms.{place_of}
 use Rattle.run_forms.specs.Slices.{IsInOrder}
 use Rattle.handled_runs.proofs.rows.joint_rows.Goals as goal
 

@@ -1,8 +1,8 @@
 use Rattle.std.proofs.Common.{◌∙◌, map, sym, ap}
 use Rattle.std.specs.Prelude.{codes}
 use Rattle.std.proofs.lemmas.List.{length-map}
-use Rattle.fz_run.specs.Rows.{row_seen}
-use Rattle.build_commands.specs.Lines.{line}
+use Rattle.alone_runs.specs.Rows.{row_seen}
+use Rattle.command_parts.specs.Lines.{line}
 use Rattle.run_commands.proofs.LineLemmas.{generate_written}
 use Rattle.run_commands.proofs.generate.lines.Goals as goal
 

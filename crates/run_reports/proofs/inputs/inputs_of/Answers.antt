@@ -1,6 +1,6 @@
 use Rattle.std.proofs.Common.{◌≡◌, Err, rules}
-use Rattle.build_commands.specs.{Certs.cert_refusals, Contents.bytes_of, Contents.content_at}
-use Rattle.build_commands.proofs.Algebra.{refused}
+use Rattle.command_parts.specs.{Certs.cert_refusals, Contents.bytes_of, Contents.content_at}
+use Rattle.command_parts.proofs.Algebra.{refused}
 use Rattle.run_reports.specs.Inputs.{input_refusals, sample_refusals}
 use Rattle.run_reports.proofs.RefusalLemmas.{by_cert, by_samples}
 use Rattle.run_reports.proofs.inputs.inputs_of.Goals as goal

@@ -1,6 +1,6 @@
 use Rattle.std.proofs.Common.{◌≡◌, Err, rules}
 use Rattle.run_reports.proofs.RefusalLemmas.{by_plan, by_trace}
-use Rattle.build_commands.proofs.Algebra.{refused}
+use Rattle.command_parts.proofs.Algebra.{refused}
 use Rattle.run_reports.specs.Inputs.{plan_refusals, sample_refusals, trace_refusals}
 use Rattle.run_reports.proofs.inputs.samples_and_plan.Goals as goal
 

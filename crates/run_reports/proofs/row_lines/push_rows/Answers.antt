@@ -1,8 +1,8 @@
 use Rattle.std.proofs.Common.{◌+◌, ◌∙◌, ◌++◌, ap}
-use Rattle.fz_run.specs.{Rows.row_seen, declared.rows.Row.Row}
+use Rattle.alone_runs.specs.{Rows.row_seen, declared.rows.Row.Row}
 use Rattle.fz_shelf.specs.Lines.{text_of}
 use Rattle.run_reports.specs.RowLines.{row_lines}
-use Rattle.build_commands.proofs.Algebra.{counted_more, text_more}
+use Rattle.command_parts.proofs.Algebra.{counted_more, text_more}
 use Rattle.run_reports.proofs.row_lines.push_rows.Goals as goal
 
 pub loop-at-preserved : goal.loop-at-preserved

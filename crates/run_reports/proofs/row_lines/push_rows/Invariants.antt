@@ -1,7 +1,7 @@
 use Rattle.std.proofs.Common.{◌≡◌, ◌++◌, take}
 use Rattle.fz_shelf.specs.Lines.{text_of}
-use Rattle.fz_run.specs.Rows.{row_seen}
-use Rattle.build_commands.specs.Lines.{counted}
+use Rattle.alone_runs.specs.Rows.{row_seen}
+use Rattle.command_parts.specs.Lines.{counted}
 use Rattle.run_reports.specs.RowLines.{row_lines}
 use Rattle.run_reports.proofs.row_lines.push_rows.Given as goal
 

@@ -1,5 +1,5 @@
 use Rattle.std.proofs.Common.{sym, ◌∙◌}
-use Rattle.codegen.proofs.Algebra.{of_parts}
+use Rattle.alone_code.proofs.Algebra.{of_parts}
 use Rattle.watched_code.specs.Watched.{watched_items}
 use Rattle.watched_code.proofs.laws.watched_firmwares_are_one.Goals as goal
 

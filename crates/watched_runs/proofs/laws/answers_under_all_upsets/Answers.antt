@@ -1,5 +1,5 @@
 use Rattle.cpu12_isa.specs.Regions.{is_free}
-use Rattle.fz_run.specs.SoundAloneProof.{free_opens}
+use Rattle.alone_runs.specs.SoundAloneProof.{free_opens}
 use Rattle.watched_runs.proofs.WatchedRows.{answers_under_all_upsets}
 use Rattle.watched_runs.proofs.laws.answers_under_all_upsets.Goals as goal
 

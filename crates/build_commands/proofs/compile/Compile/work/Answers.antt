@@ -1,6 +1,7 @@
 use Rattle.std.proofs.Common.{rules}
 use Rattle.eval_code.specs.Bounds.{instruction_bound}
-use Rattle.build_commands.specs.{Compile.CompileMakes, Firmwares.GivesFirmware}
+use Rattle.build_commands.specs.Compile.{CompileMakes}
+use Rattle.command_parts.specs.Firmwares.{GivesFirmware}
 use Rattle.build_commands.proofs.WrittenLemmas.{firmware_makes}
 use Rattle.build_commands.proofs.compile.Compile.work.Goals as goal
 

@@ -1,11 +1,11 @@
 use Rattle.std.proofs.Common.{◌≡◌, Err, rules}
 use Rattle.box_tree.specs.declared.cert.CertKind.TheVariants.{Named}
-use Rattle.eval_code.specs.declared.width.Width.TheVariants.{Byte}
-use Rattle.build_commands.specs.Contents.{bytes_of}
+use Rattle.byte_scaling.specs.declared.width.Width.TheVariants.{Byte}
+use Rattle.command_parts.specs.Contents.{bytes_of}
 use Rattle.run_reports.specs.Inputs.{input_refusals}
 use Rattle.form_commands.specs.Hrun.{handled_files, hrun_refusals}
 use Rattle.form_commands.proofs.HandledLemmas.{hrun_refused}
-use Rattle.build_commands.proofs.Algebra.{refused}
+use Rattle.command_parts.proofs.Algebra.{refused}
 use Rattle.form_commands.proofs.hrun.Hrun.accepted.Goals as goal
 
 pub returns-in_err-inputs-clause-fault : goal.returns-in_err-inputs-clause-fault

@@ -1,8 +1,8 @@
 use Rattle.std.proofs.Common.{ℕ, ◌<◌, ◌^◌, List, ◌++◌, ap, ap₂, sym, ◌∙◌, rules}
 use Rattle.std.specs.Prelude.{map}
 use Rattle.handled_runs.specs.{Forms.row_seen, declared.rows.HandledRow.HandledRow}
-use Rattle.build_commands.specs.{Contents.bytes_of, SeenOutputs.only_text, Lines.counted}
-use Rattle.build_commands.proofs.Algebra.{counted-map}
+use Rattle.command_parts.specs.{Contents.bytes_of, SeenOutputs.only_text, Lines.counted}
+use Rattle.command_parts.proofs.Algebra.{counted-map}
 use Rattle.form_commands.specs.Hrun.{handled_files, handled_report, handled_row_lines}
 use Rattle.run_reports.specs.RowLines.{begun_lines}
 use Rattle.form_commands.proofs.HandledLemmas.{handles}

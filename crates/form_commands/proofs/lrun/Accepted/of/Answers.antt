@@ -1,5 +1,5 @@
 use Rattle.std.proofs.Common.{◌≡◌, Err, rules}
-use Rattle.build_commands.specs.Contents.{bytes_of}
+use Rattle.command_parts.specs.Contents.{bytes_of}
 use Rattle.form_commands.specs.Lrun.{level_files}
 use Rattle.form_commands.proofs.LevelRefusals.{certs_refused, image_refused, levels_refused, traces_refused}
 use Rattle.form_commands.proofs.LevelRefusals.{two_refused}

@@ -1,8 +1,8 @@
 use Rattle.std.proofs.Common.{ℕ, ◌<◌, ◌^◌, List, ap, ◌∙◌, rules}
 use Rattle.std.specs.Prelude.{map}
-use Rattle.two_level.specs.Images.{fast_most}
-use Rattle.two_runs.specs.{Harness.row_seen, declared.rows.TwoRow.TwoRow}
-use Rattle.build_commands.specs.{Contents.bytes_of, SeenOutputs.only_text}
+use Rattle.two_level_code.specs.Images.{fast_most}
+use Rattle.two_level_runs.specs.{Harness.row_seen, declared.rows.TwoRow.TwoRow}
+use Rattle.command_parts.specs.{Contents.bytes_of, SeenOutputs.only_text}
 use Rattle.form_commands.specs.Lrun.{level_files, level_report, lrun_lines}
 use Rattle.form_commands.proofs.LevelLemmas.{levels_run}
 use Rattle.form_commands.proofs.lrun.Lrun.work.Goals as goal

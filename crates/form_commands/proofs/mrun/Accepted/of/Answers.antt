@@ -1,5 +1,5 @@
 use Rattle.std.proofs.Common.{◌≡◌, Err, rules}
-use Rattle.build_commands.specs.Contents.{bytes_of}
+use Rattle.command_parts.specs.Contents.{bytes_of}
 use Rattle.form_commands.specs.Mrun.{posted_files}
 use Rattle.form_commands.proofs.PostedLemmas.{refused_posts}
 use Rattle.form_commands.proofs.mrun.Accepted.of.Goals as goal

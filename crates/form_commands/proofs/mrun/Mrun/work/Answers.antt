@@ -1,8 +1,8 @@
 use Rattle.std.proofs.Common.{ℕ, List, ap, ◌∙◌}
 use Rattle.std.specs.Prelude.{map}
 use Rattle.run_forms.specs.Rows.{frames_seen}
-use Rattle.posted_runs.specs.Runs.{answer_seen}
-use Rattle.build_commands.specs.{Contents.bytes_of, SeenOutputs.only_text}
+use Rattle.mailbox_runs.specs.Runs.{answer_seen}
+use Rattle.command_parts.specs.{Contents.bytes_of, SeenOutputs.only_text}
 use Rattle.form_commands.specs.Mrun.{mrun_lines, posted_files, posted_report}
 use Rattle.form_commands.proofs.PostedLemmas.{posts_run}
 use Rattle.form_commands.proofs.mrun.Mrun.work.Goals as goal

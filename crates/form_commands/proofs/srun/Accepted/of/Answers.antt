@@ -1,10 +1,10 @@
 use Rattle.std.proofs.Common.{◌≡◌, Err, rules}
 use Rattle.box_tree.specs.declared.cert.CertKind.TheVariants.{Named}
-use Rattle.eval_code.specs.declared.width.Width.TheVariants.{Byte}
-use Rattle.build_commands.specs.Contents.{bytes_of}
+use Rattle.byte_scaling.specs.declared.width.Width.TheVariants.{Byte}
+use Rattle.command_parts.specs.Contents.{bytes_of}
 use Rattle.run_reports.specs.Inputs.{input_refusals}
 use Rattle.form_commands.specs.Srun.{srun_refusals, upset_refusals, watched_files}
-use Rattle.build_commands.proofs.Algebra.{refused}
+use Rattle.command_parts.proofs.Algebra.{refused}
 use Rattle.form_commands.proofs.WatchedLemmas.{srun_refused, upsets_refused}
 use Rattle.form_commands.proofs.srun.Accepted.of.Goals as goal
 

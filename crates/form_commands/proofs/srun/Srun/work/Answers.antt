@@ -1,8 +1,8 @@
 use Rattle.std.proofs.Common.{List, ℕ, ◌++◌, ap, ap₂, sym, ◌∙◌}
 use Rattle.std.specs.Prelude.{map}
 use Rattle.watched_runs.specs.{Rows.row_seen, declared.form.WatchedRow.WatchedRow}
-use Rattle.build_commands.specs.{Contents.bytes_of, SeenOutputs.only_text, Lines.counted}
-use Rattle.build_commands.proofs.Algebra.{counted-map}
+use Rattle.command_parts.specs.{Contents.bytes_of, SeenOutputs.only_text, Lines.counted}
+use Rattle.command_parts.proofs.Algebra.{counted-map}
 use Rattle.run_reports.specs.RowLines.{begun_lines}
 use Rattle.form_commands.specs.Srun.{watched_files, watched_report, watched_row_lines}
 use Rattle.form_commands.proofs.WatchedLemmas.{watches}

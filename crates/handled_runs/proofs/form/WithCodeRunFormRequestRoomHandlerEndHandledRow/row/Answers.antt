@@ -2,9 +2,9 @@ use Rattle.std.proofs.Common.{◌≡◌, ◌∙◌, ℕ, List, map, ap, ap₂, s
 use Rattle.std.proofs.lemmas.List.{map-id}
 use Rattle.run_law.specs.Forms.{RowSeen}
 use Rattle.run_forms.specs.{Rooms.room_notes, Rest.counted_at, Rest.row_by}
-use Rattle.fz_run.specs.Rows as rows
-use Rattle.fz_run.specs.Rows.{input_bytes}
-use Rattle.firmware_ports.specs.Ports.{answers_in}
+use Rattle.alone_runs.specs.Rows as rows
+use Rattle.alone_runs.specs.Rows.{input_bytes}
+use Rattle.firmware_runs.specs.Ports.{answers_in}
 use Rattle.handled_runs.specs.{declared.back.HandlerEnd.HandlerEnd, Forms.HandledSeen, Forms.steps_of}
 use Rattle.handled_runs.proofs.SampleBytes.{got}
 use Rattle.handled_runs.proofs.form.WithCodeRunFormRequestRoomHandlerEndHandledRow.row.Goals as goal

@@ -1,9 +1,9 @@
 use Rattle.std.proofs.Common.{◌≡◌, Err, rules}
-use Rattle.build_commands.specs.Contents.{bytes_of}
+use Rattle.command_parts.specs.Contents.{bytes_of}
 use Rattle.run_reports.specs.Inputs.{sample_refusals}
 use Rattle.run_commands.specs.Debug.{debug_files, debug_refusals}
 use Rattle.run_commands.proofs.DebugLemmas.{debug_refused}
-use Rattle.build_commands.proofs.Algebra.{refused}
+use Rattle.command_parts.proofs.Algebra.{refused}
 use Rattle.run_commands.proofs.debug.DebugRun.accepted.Goals as goal
 
 pub returns-in_err-samples-clause-fault : goal.returns-in_err-samples-clause-fault

@@ -1,8 +1,8 @@
 use Rattle.std.proofs.Common.{ap, arith, length}
 use Rattle.std.specs.Prelude.{List, map}
 use Rattle.trace_io.specs.declared.sample.Sample.{Sample}
-use Rattle.fz_run.specs.Rows.{row_seen}
-use Rattle.build_commands.specs.Contents.{bytes_of}
+use Rattle.alone_runs.specs.Rows.{row_seen}
+use Rattle.command_parts.specs.Contents.{bytes_of}
 use Rattle.run_commands.specs.Debug.{debug_files}
 use Rattle.run_commands.proofs.DebugLemmas.{gives}
 use Rattle.run_commands.proofs.debug.DebugRun.work.Goals as goal

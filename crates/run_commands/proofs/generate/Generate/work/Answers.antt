@@ -2,14 +2,14 @@ use Rattle.std.proofs.Common.{◌≡◌, ℕ, List, ap, ap₂, ◌∙◌, map, r
 use Rattle.std.specs.Prelude.{Err, None}
 use Rattle.fuzzy_meaning.specs.declared.block.Block.{Block}
 use Rattle.box_tree.specs.declared.cert.CertKind.TheVariants.{Named}
-use Rattle.eval_code.specs.declared.width.Width.TheVariants.{Byte}
+use Rattle.byte_scaling.specs.declared.width.Width.TheVariants.{Byte}
 use Rattle.rule_layout.specs.Layouts.{IsWithinLimits}
-use Rattle.fz_run.specs.{Rows.row_seen, declared.rows.Row.Row}
+use Rattle.alone_runs.specs.{Rows.row_seen, declared.rows.Row.Row}
 use Rattle.workload.specs.{Blocks.drawn_block, Draws.draw}
 use Rattle.fz_status.specs.{Refusals.IsRefusal, declared.status.Status.Status}
 use Rattle.fz_status.specs.declared.status.Status.TheVariants as status
-use Rattle.build_commands.specs.Certify.{StopsHalving, target_refusals}
-use Rattle.build_commands.specs.{SeenOutputs.IsFaultOf, SeenOutputs.SeenOutput, Firmwares.GivesFirmware}
+use Rattle.command_parts.specs.Certs.{StopsHalving, target_refusals}
+use Rattle.command_parts.specs.{SeenOutputs.IsFaultOf, SeenOutputs.SeenOutput, Firmwares.GivesFirmware}
 use Rattle.run_commands.specs.Generate.{GenerateMakes, generate_lines, generate_with, generated_target}
 use Rattle.run_reports.specs.Reports.{report_of}
 use Rattle.run_commands.proofs.generate.Generate.work.Goals as goal

@@ -1,5 +1,5 @@
 use Rattle.std.proofs.Common.{◌≡◌, ◌≤◌, ◌*◌, ◌^◌, map, take}
-use Rattle.fz_run.specs.Rows.{row_seen}
+use Rattle.alone_runs.specs.Rows.{row_seen}
 use Rattle.run_commands.specs.Generate.{answers_of, frames_of, resumed_of}
 use Rattle.run_commands.proofs.generate.Sums.over.Given as goal
 

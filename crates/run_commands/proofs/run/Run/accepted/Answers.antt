@@ -1,9 +1,9 @@
 use Rattle.std.proofs.Common.{◌≡◌, Err, rules}
-use Rattle.build_commands.specs.Contents.{bytes_of}
+use Rattle.command_parts.specs.Contents.{bytes_of}
 use Rattle.run_reports.specs.Inputs.{input_refusals}
 use Rattle.run_commands.specs.Run.{files_in, run_refusals}
 use Rattle.run_commands.proofs.AnswerLemmas.{run_refused}
-use Rattle.build_commands.proofs.Algebra.{refused}
+use Rattle.command_parts.proofs.Algebra.{refused}
 use Rattle.run_commands.proofs.run.Run.accepted.Goals as goal
 
 pub returns-in_err-inputs-clause-fault : goal.returns-in_err-inputs-clause-fault

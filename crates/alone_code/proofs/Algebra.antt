@@ -1,0 +1,6 @@
+-- The plain algebra of addresses that are hidden or free, of a word in memory, and of a firmware's parts, which the
+-- crates above use.
+pub use Rattle.alone_code.proofs.runs.Stepping.{high_shown}
+pub use Rattle.alone_code.proofs.runs.Framing.{pushed_word}
+pub use Rattle.alone_code.proofs.runs.Law.{not_free}
+pub use Rattle.alone_code.proofs.Parts.{of_parts}

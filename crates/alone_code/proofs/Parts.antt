@@ -1,0 +1,15 @@
+-- A firmware is its parts.
+use Rattle.std.proofs.Common.{◌≡◌}
+use Rattle.alone_code.specs.declared.firmware.Firmware.{Firmware}
+
+pub of_parts : (f g : Firmware) → f.image ≡ g.image → f.memory_map ≡ g.memory_map → f.inputs ≡ g.inputs
+    → f.outputs ≡ g.outputs → f.wide ≡ g.wide → f.instr_bound ≡ g.instr_bound → f.step_bound ≡ g.step_bound → f ≡ g
+of_parts f g image memory_map inputs outputs wide instructions steps = λ i. record {
+  image = image i;
+  memory_map = memory_map i;
+  inputs = inputs i;
+  outputs = outputs i;
+  wide = wide i;
+  instr_bound = instructions i;
+  step_bound = steps i;
+}

@@ -1,0 +1,5 @@
+use Rattle.alone_code.proofs.runs.Law.{firmware_answers}
+use Rattle.alone_code.proofs.laws.firmware_answers.Goals as goal
+
+pub returns : goal.returns
+returns c = firmware_answers c.firmware_answers_beside.ensures

@@ -1,0 +1,5 @@
+use Rattle.alone_code.proofs.AlikeLemmas.{images_are_one}
+use Rattle.alone_code.proofs.laws.images_are_one.Goals as goal
+
+pub returns : goal.returns
+returns c = images_are_one

@@ -1,0 +1,16 @@
+use Rattle.std.proofs.Common.{◌+◌, List, [], ◌∷◌, ◌++◌, ap, sym, ◌∙◌, append_assoc, add-one}
+use Rattle.cpu12_isa.specs.declared.{instr.Instr.Instr, instr.Instr.TheVariants.MovbExtended}
+use Rattle.alone_code.specs.Mailboxes.{copy_code}
+use Rattle.alone_code.proofs.turns.Founding.{copy_more}
+use Rattle.alone_code.proofs.mailbox.push_copies.Goals as goal
+
+pub loop-at-preserved : goal.loop-at-preserved
+loop-at-preserved c =
+    let from = c.args.from in
+    let to = c.args.to in
+    let k = c.loop-at.at in
+    let before = c.args.code.now.items in
+    c.in_ok-push.ensures.items
+    ∙ ap (λ (is : List Instr). is ++ MovbExtended (from + k) (to + k) ∷ []) c.loop-at.invariant
+    ∙ append_assoc before (copy_code from to k) (MovbExtended (from + k) (to + k) ∷ [])
+    ∙ ap (λ (is : List Instr). before ++ is) (sym (copy_more from to k) ∙ ap (copy_code from to) (sym (add-one k)))

@@ -1,0 +1,41 @@
+-- A list of samples is answered.
+use Rattle.std.proofs.Common.{ℕ, suc, List, [], ◌∷◌, All, arith}
+use Rattle.fuzzy_meaning.specs.declared.block.Block.{Block}
+use Rattle.cpu12_parts.specs.State.{State}
+use Rattle.byte_scaling.specs.declared.width.Width.{Width}
+use Rattle.eval_code.specs.{Widths.answer, Firing.AreInputBytes, Bounds.instruction_bound}
+use Rattle.alone_code.specs.Answers.{given, IsAnsweredBeside, AreAnsweredBeside}
+use Rattle.alone_code.specs.{Frames.Home, Settings.Setting}
+use Rattle.alone_code.proofs.runs.Stepping.{interruptible_of}
+use Rattle.alone_code.proofs.runs.Framing.{Samples, Sampled, sample_run, waits}
+
+answered : (c : Setting) (b : Block) (w : Width) (bytes : List ℕ) (before : ℕ → ℕ) (s : State) → Samples c b w
+    → (r : Sampled c b w bytes before (given c.memory_map bytes s))
+    → IsAnsweredBeside c.open_to c.memory_map b w (instruction_bound w b) c.image c.flags before bytes s r.t
+answered c b w bytes before s h r =
+    let lo = h.frame.from in
+    let hi = h.frame.to in
+    let ep = r.home.pc_is in
+    record {
+      ds = r.ds;
+      execution = r.execution;
+      idle = waits c.memory_map r.t r.home.pc_is r.home.ready_is;
+      interruptible = interruptible_of c r.t r.home.live (omega arith) (omega arith);
+      answers = r.home.outs;
+      instructions = r.instructions;
+      steps = r.steps;
+    }
+
+pub are_answered : (c : Setting) (b : Block) (w : Width) (samples : List (List ℕ)) (before : ℕ → ℕ) (s : State)
+    → Samples c b w → Home c b w before s → All (AreInputBytes b) samples
+    → AreAnsweredBeside c.open_to c.memory_map b w (instruction_bound w b) c.image c.flags before samples s
+are_answered c b w [] before s h home all = tt
+are_answered c b w (bytes ∷ samples) before s h home all =
+    let r = sample_run c b w bytes before s h (all 0 bytes (omega arith)) home in (
+      r.t,
+      (
+        answered c b w bytes before s h r,
+        are_answered c b w samples (λ o. answer w b o bytes (before o)) r.t h r.home
+            (λ k d lt. all (suc k) d (omega arith)),
+      ),
+    )

@@ -1,0 +1,13 @@
+-- How many steps a sample takes the mailbox firmware at most.
+use Rattle.std.proofs.Common.{arith}
+use Rattle.eval_code.specs.Bounds.{BoundsAreFew}
+use Rattle.byte_scaling.specs.Widths.{width_of}
+use Rattle.alone_code.specs.Mailboxes.{mailbox_bound, MailboxStepsAreFew}
+
+pub steps_are_few : BoundsAreFew → MailboxStepsAreFew
+steps_are_few few b f valid limits h =
+    let w = width_of f.wide in
+    let bound = few b w (mailbox_bound w b) valid limits in
+    let steps = h.steps in
+    let inputs = valid.few_inputs in
+    (omega (arith, bound.0, bound.2), omega (arith, bound.1, bound.3))

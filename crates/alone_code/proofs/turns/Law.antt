@@ -1,0 +1,97 @@
+-- The mailbox firmware of a block takes its turns.
+use Rattle.std.proofs.Common.{ℕ, ◌^◌, ◌<◌, ◌≤◌, List, length, refl, sym, subst, arith}
+use Rattle.fuzzy_meaning.specs.{declared.block.Block.Block, Blocks.IsValid}
+use Rattle.rule_layout.specs.Layouts.{IsWithinLimits}
+use Rattle.cpu12_asm.specs.{Bytes.Holds, Items.given_by}
+use Rattle.cpu12_emul.specs.Image.{image_memory}
+use Rattle.eval_code.specs.declared.memory_map.MemoryMap.{MemoryMap}
+use Rattle.byte_scaling.specs.{declared.width.Width.Width, Widths.width_of}
+use Rattle.alone_code.specs.Mailboxes.{mailbox_map, mailbox_code, mailbox_items, mailbox_bound}
+use Rattle.alone_code.specs.{Turns.TakesTurns, Turns.MailboxTakesPosts, Laws.LowerLaws, Standing.HasFirmware}
+use Rattle.alone_code.proofs.{runs.Arriving.arrive, runs.Standing.has_firmware, turns.Copying.copies_run}
+use Rattle.alone_code.proofs.turns.Posting.{Post, post_ctx, at_of}
+use Rattle.alone_code.proofs.turns.Looking.{look_run, choose_run}
+use Rattle.alone_code.proofs.turns.Turning.{Turns, turn_run}
+use Rattle.alone_code.proofs.turns.Founding.{mailbox_in_order, mailbox_apart, mailbox_started, mailbox_inside}
+use Rattle.alone_code.proofs.turns.Founding.{fit_mailbox, start_bytes, has_turn, has_call}
+
+-- what its runs are under
+abbrev post_of : LowerLaws → (b : Block) → length b.inputs ≤ 8 → List ℕ → (flags : ℕ) → flags < 2 ^ 8 → Post
+post_of laws b few image flags fits =
+    record {
+      stays_fit = laws.stays_fit;
+      decodes = laws.decodes;
+      n = length b.inputs;
+      few = few;
+      image = image;
+      flags = flags;
+      fits = fits;
+    }
+
+-- from what stands in memory
+with_code : (laws : LowerLaws) → (b : Block) (w : Width) (image : List ℕ) (flags : ℕ) (fits : flags < 2 ^ 8)
+    → (v : IsValid b) → IsWithinLimits b
+    → (let l = mailbox_map (length b.inputs) in HasFirmware l b w (mailbox_code l (length b.inputs)) image)
+    → TakesTurns (mailbox_map (length b.inputs)) b w (mailbox_bound w b) image flags
+with_code laws b w image flags fits v limits firmware =
+    let n = length b.inputs in
+    let few = v.few_inputs in
+    let l = mailbox_map n in
+    let p = post_of laws b few image flags fits in
+    let front = firmware.stands.front in
+    let turn = has_turn p front in
+    let call = has_call p turn in
+    let turns : Turns p b w =
+    record {
+      apart = mailbox_apart n few;
+      inputs = refl;
+      valid = v;
+      limits = limits;
+      eval_answers =
+          laws.eval_answers;
+      routine = firmware.routine;
+      call = call.call;
+      back = call.back;
+    } in
+    let arrived = arrive (post_ctx p) b w (mailbox_code l n) (mailbox_started n) (mailbox_apart n few) v
+    (start_bytes p front) firmware in
+    let home = arrived.home in
+    record {
+      arrives = (
+        arrived.t,
+        record {
+          execution = arrived.execution;
+          at =
+              at_of p 0xC008 arrived.t home.live home.pc_is (omega arith) (omega arith) home.sp_is;
+          cleared =
+              home.ready_is;
+          outputs = home.outs;
+        },
+      );
+      looks = look_run p turn;
+      chooses = choose_run p turn;
+      copies = copies_run p turn;
+      evaluates = λ bytes before s i at hi ho. turn_run p b w bytes before s turns i at hi ho;
+    }
+
+with_items : LowerLaws → (b : Block) (w : Width) (image : List (ℕ × ℕ)) (flags : ℕ) (fits : flags < 2 ^ 8) → IsValid b
+    → IsWithinLimits b
+    → Holds image (given_by (mailbox_items (mailbox_map (length b.inputs)) b w))
+    → TakesTurns (mailbox_map (length b.inputs)) b w (mailbox_bound w b) (image_memory image) flags
+with_items laws b w image flags fits v limits h =
+    let n = length b.inputs in
+    let few = v.few_inputs in
+    let l = mailbox_map n in
+    let before = mailbox_code l n in
+    with_code laws b w (image_memory image) flags fits v limits
+    (has_firmware laws image l b w before (mailbox_in_order n few) (mailbox_apart n few) (mailbox_inside n few)
+    (omega arith) (laws.code_is_bytes before (fit_mailbox n few)) (omega arith) (omega arith) v limits h)
+
+pub mailbox_takes_posts : LowerLaws → MailboxTakesPosts
+mailbox_takes_posts laws b f v limits h flags fits =
+    let l = mailbox_map (length b.inputs) in
+    let w = width_of f.wide in
+    let image = image_memory f.image.bytes in
+    let takes = with_items laws b w f.image.bytes flags fits v limits h.image.bytes in
+    subst (λ (k : MemoryMap). TakesTurns k b w f.instr_bound image flags) (sym h.memory_map)
+    (subst (λ (most : ℕ). TakesTurns l b w most image flags) (sym h.instructions) takes)

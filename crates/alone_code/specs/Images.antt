@@ -1,0 +1,26 @@
+-- The image of a block's firmware, item by item.
+-- Beside the promise.
+use Rattle.std.specs.Prelude.{◌≡◌, List, [], ◌∷◌, ◌++◌}
+use Rattle.fuzzy_meaning.specs.declared.block.Block.{Block}
+use Rattle.cpu12_isa.specs.{declared.instr.Instr.TheVariants.Rts, Regions.vector}
+use Rattle.cpu12_asm.specs.declared.{items.Item.Item, image.Image.Image}
+use Rattle.cpu12_asm.specs.{Bytes.start_of, Bytes.Holds, Bytes.IsAscending, Items.given_by}
+use Rattle.eval_code.specs.declared.memory_map.MemoryMap.{MemoryMap}
+use Rattle.byte_scaling.specs.declared.width.Width.{Width}
+use Rattle.eval_code.specs.{Data.bytes_of_word, Items.bytes_at, Items.block_items}
+use Rattle.alone_code.specs.Code.{frame_code}
+
+-- the interrupt's and the reset vector (CPU12 Reference Manual, section 7): the last instruction before EVAL, and the
+-- first one
+abbrev pub vector_items : MemoryMap → List Item
+vector_items l = bytes_at vector (bytes_of_word l.interrupt) ++ bytes_at 0xFFFE (bytes_of_word l.code)
+
+-- a firmware that stands alone: these, with the frame and the return, the vectors, and nothing else
+abbrev pub firmware_items : MemoryMap → Block → Width → List Item
+firmware_items l b w = block_items l b w (frame_code l) (Rts ∷ []) ++ vector_items l
+
+-- an image has just the bytes of these items, the lowest first, and starts where its reset vector says
+pub record IsImageOf (items : List Item) (image : Image) : Type 0 where
+  pub bytes : Holds image.bytes (given_by items)
+  pub ascending : IsAscending image.bytes
+  pub start : image.start ≡ start_of image.bytes

@@ -1,0 +1,127 @@
+//! Firmware.
+ghost use Rattle.std.specs.Prelude.{◌≡◌, ◌<◌, ◌^◌, length, true, false, IfOk, IfErr, OnOk};
+ghost use Rattle.fuzzy_meaning.specs.Blocks.{IsValid};
+ghost use Rattle.rule_layout.specs.Layouts.{IsWithinLimits, IsFaultOf};
+ghost use Rattle.cpu12_asm.specs.Items.{IsRising};
+ghost use Rattle.alone_code.specs.{Images.IsImageOf, Firmwares.IsFirmwareOf, Answers.AnswersFrom};
+ghost use Rattle.alone_code.specs.Uninterrupted.{AnswersUninterrupted};
+ghost use Rattle.byte_scaling.specs.Widths.{is_wide};
+
+use crate::items::firmware_items;
+use crate::laws::{firmware_answers, firmware_is_uninterrupted};
+use byte_scaling::Width;
+use cpu12_asm::{AsmFault, Image, Item, assemble_items};
+use eval_code::{MemoryMap, blocks_are_placed, instruction_bound, steps_by};
+use fuzzy_meaning::Block;
+use rule_layout::{LayoutFault, spread};
+use std::alloc::{AllocError, Global};
+
+/// A block's firmware.
+#[derive(Drop)]
+pub struct Firmware {
+    /// The bytes of its memory, and where it starts.
+    pub image: Image,
+    /// Where its parts stand.
+    pub memory_map: MemoryMap,
+    pub inputs: u8,
+    pub outputs: u8,
+    /// Whether an answer has two bytes, the high one first, and not one.
+    pub wide: bool,
+    /// The most instructions that a sample takes, REV, REVW and WAV counting as one each.
+    pub instr_bound: u32,
+    /// The most steps that a sample takes: an element of REV, REVW or WAV is a step, as is any
+    /// other instruction.
+    pub step_bound: u32,
+}
+
+/// The firmware of a block that answers bytes, and stands alone in memory. It is refused exactly
+/// where the block's rules are: where they spread into more than 512 conjunctions, or into a list of
+/// more than 9984 bytes.
+pub fn compile(alloc: Global, block: &Block) -> Result<Firmware, LayoutFault>
+    requires { IsValid block.now }
+    ensures firmware { IfOk result (IsFirmwareOf block.now) }
+    ensures narrow { IfOk result (λ f. f.wide ≡ false) }
+
+    // From reset it answers every list of samples, where an interrupt may come at each instruction;
+    // without one its answers are the block's over bytes.
+    ensures answers { IfOk result (AnswersFrom block.now) }
+    ensures uninterrupted { IfOk result (AnswersUninterrupted block.now) }
+
+    // Refused exactly where the rules can't be laid out.
+    ensures limits { OnOk result (IsWithinLimits block.now) }
+    ensures fault { IfErr result (IsFaultOf block.now) }
+{
+    compile_at(alloc, Width::Byte, block)
+}
+
+/// The firmware of a block that answers 16 bits, from 0 to 65280 in steps of 1/256 of a byte, and
+/// stands alone in memory. Each output takes two bytes, the high one first. It is refused where
+/// `compile` is.
+pub fn compile16(alloc: Global, block: &Block) -> Result<Firmware, LayoutFault>
+    requires { IsValid block.now }
+    ensures firmware { IfOk result (IsFirmwareOf block.now) }
+    ensures wide { IfOk result (λ f. f.wide ≡ true) }
+
+    // From reset it answers every list of samples, where an interrupt may come at each instruction;
+    // without one its answers are the block's in 16 bits.
+    ensures answers { IfOk result (AnswersFrom block.now) }
+    ensures uninterrupted { IfOk result (AnswersUninterrupted block.now) }
+
+    // Refused exactly where the rules can't be laid out.
+    ensures limits { OnOk result (IsWithinLimits block.now) }
+    ensures fault { IfErr result (IsFaultOf block.now) }
+{
+    compile_at(alloc, Width::Word, block)
+}
+
+/// The image of items that stand one above the other.
+pub fn image_of(alloc: Global, items: &[Item]) -> Result<Image, AllocError>
+    requires few { length items.now < 2 ^ 32 }
+    requires rising { IsRising items.now }
+    ensures { IfOk result (IsImageOf items.now) }
+{
+    match assemble_items(alloc, items) {
+        Ok(image) => Ok(image),
+        Err(fault) => {
+            let is_memory = matches!(&fault, AsmFault::Memory);
+            prove!(is_memory);
+            Err(AllocError)
+        }
+    }
+}
+
+/// The firmware of a block with answers of a width.
+fn compile_at(alloc: Global, width: Width, block: &Block) -> Result<Firmware, LayoutFault>
+    requires { IsValid block.now }
+    ensures firmware { IfOk result (IsFirmwareOf block.now) }
+    ensures width { IfOk result (λ f. f.wide ≡ is_wide width) }
+    ensures answers { IfOk result (AnswersFrom block.now) }
+    ensures uninterrupted { IfOk result (AnswersUninterrupted block.now) }
+    ensures limits { OnOk result (IsWithinLimits block.now) }
+    ensures fault { IfErr result (IsFaultOf block.now) }
+{
+    firmware_answers();
+    firmware_is_uninterrupted();
+    blocks_are_placed();
+    let flat = match spread(alloc, block) {
+        Ok(flat) => flat,
+        Err(fault) => return Err(fault),
+    };
+    let Ok(items) = firmware_items(alloc, &MemoryMap::MAIN, width, block, &flat) else {
+        return Err(LayoutFault::Memory);
+    };
+    let Ok(image) = image_of(alloc, items.as_slice()) else {
+        return Err(LayoutFault::Memory);
+    };
+    let instr_bound = instruction_bound(width, block, &flat);
+    let step_bound = steps_by(block, &flat, instr_bound);
+    Ok(Firmware {
+        image,
+        memory_map: MemoryMap::MAIN,
+        inputs: block.inputs.len() as u8,
+        outputs: block.outputs.len() as u8,
+        wide: width.is_wide(),
+        instr_bound,
+        step_bound,
+    })
+}

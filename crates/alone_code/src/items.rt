@@ -1,0 +1,66 @@
+//! The items of a firmware that stands alone.
+ghost use Rattle.std.specs.Prelude.{◌≡◌, ◌++◌, OnOk, IfOk};
+ghost use Rattle.fuzzy_meaning.specs.Blocks.{IsValid};
+ghost use Rattle.rule_layout.specs.Layouts.{flat_of, IsLaidOut};
+ghost use Rattle.eval_code.specs.Items.{HasRoom};
+ghost use Rattle.alone_code.specs.{Code.frame_code, Images.vector_items, Images.firmware_items};
+
+use byte_scaling::Width;
+use cpu12_asm::Item;
+use cpu12_isa::instr::Instr;
+use cpu12_isa::mem::VECTOR;
+use eval_code::{MemoryMap, push_block, push_word};
+use fuzzy_meaning::Block;
+use rule_layout::Flat;
+use std::alloc::{AllocError, Global};
+
+/// The code before EVAL of a firmware that stands alone.
+pub fn frame_code(memory_map: &MemoryMap) -> [Instr; 9]
+    ensures { result ≡ frame_code memory_map.now }
+{
+    [
+        Instr::LdsImmediate(0x2000),
+        Instr::ClrExtended(memory_map.ready),
+        Instr::Andcc(0xEF),
+        Instr::LdaaExtended(memory_map.ready),
+        Instr::Beq(0xFB),
+        Instr::JsrExtended(memory_map.eval),
+        Instr::ClrExtended(memory_map.ready),
+        Instr::Bra(0xF3),
+        Instr::Rti,
+    ]
+}
+
+/// The items of a block's firmware that stands alone at a memory map, with answers of a width. `flat` is
+/// the block's rules as `spread` lays them out.
+pub fn firmware_items(
+    alloc: Global,
+    memory_map: &MemoryMap,
+    width: Width,
+    block: &Block,
+    flat: &Flat,
+) -> Result<Vec<Item>, AllocError>
+    requires valid { IsValid block.now }
+    requires flat { flat.now ≡ flat_of block.now }
+    requires laid_out { IsLaidOut flat.now }
+    requires room { HasRoom memory_map.now }
+    ensures { IfOk result (λ items. items.items ≡ firmware_items memory_map.now block.now width) }
+{
+    let mut items = Vec::new(alloc);
+    let (before, behind) = (frame_code(memory_map), [Instr::Rts]);
+    push_block(
+        alloc, &mut items, memory_map, width, block, flat, &before, &behind,
+    )?;
+    push_vectors(&mut items, memory_map)?;
+    Ok(items)
+}
+
+/// The interrupt's and the reset vector.
+pub fn push_vectors(items: &mut Vec<Item>, memory_map: &MemoryMap) -> Result<(), AllocError>
+    ensures { OnOk result (items.new.items ≡ items.old.items ++ vector_items memory_map.now) }
+{
+    items.push(Item::Place(VECTOR))?;
+    push_word(items, memory_map.interrupt)?;
+    items.push(Item::Place(0xFFFE))?;
+    push_word(items, memory_map.code)
+}

@@ -1,0 +1,98 @@
+//! The form of a firmware that stands alone.
+ghost use Rattle.std.specs.Prelude.{ℕ, ◌≡◌, ◌<◌, ◌≤◌, Some, List, length, slice_get};
+ghost use Rattle.run_law.specs.Forms.{RowSeen};
+ghost use Rattle.run_forms.specs.{Rest.counted_at, Rest.shown_by, Rooms.Fits};
+ghost use Rattle.alone_runs.specs.Rows.{writes_harness};
+
+use crate::rows::{Row, row_of};
+use alone_code::Firmware;
+use cpu12_emul::machine::Machine;
+use cpu12_isa::mem::Mem;
+use firmware_runs::{answers, give, is_busy_here, is_idle};
+use fz_list::Memory;
+use interrupt_plan::Request;
+use run_forms::{Room, RunForm, SampleForm, Tally, room_for};
+use std::alloc::Global;
+use trace_io::Sample;
+
+/// A firmware that stands alone, with a trace. Its handler does the writes that a request lists.
+#[derive(Drop)]
+pub struct WithWrites<'a> {
+    /// The firmware, of at most four outputs.
+    pub firmware: &'a Firmware,
+    /// The trace.
+    pub samples: &'a [Sample],
+    ghost outputs: { firmware.now.outputs ≤ 4 },
+}
+
+impl<'a> SampleForm<Request, Room<()>, Row> for WithWrites<'a> {
+    ghost Given = { List ℕ };
+
+    ghost Told = { Unit {0} };
+
+    ghost Shown = { RowSeen (List ℕ) };
+
+    ghost harness = { λ x. writes_harness x.firmware.now x.samples.now };
+
+    ghost fits = { Fits };
+
+    ghost serves = { λ _ _. Unit {0} };
+
+    fn ends<M: Mem>(&self, m: &Machine<M>, _moment: u32) -> bool {
+        is_idle(&self.firmware.memory_map, m)
+    }
+
+    #[inline(always)]
+    fn goes_on_here<M: Mem>(&self, m: &Machine<M>) -> bool {
+        is_busy_here(&self.firmware.memory_map, m)
+    }
+
+    fn place(&self, request: &Request) -> (u32, u32) {
+        (request.sample, request.moment)
+    }
+
+    fn take<M: Mem>(
+        &self,
+        m: &mut Machine<M>,
+        request: &Request,
+        moment: u32,
+        notes: &mut Room<()>,
+    ) {
+        let frame = m.interrupt(request.writes.as_slice());
+        notes.put(moment, frame, ());
+    }
+}
+
+impl<'a> RunForm<Request, Room<()>, Row> for WithWrites<'a> {
+    fn count(&self) -> usize {
+        self.samples.len()
+    }
+
+    fn give<M: Mem>(&self, m: &mut Machine<M>, k: usize) {
+        give(
+            &self.firmware.memory_map,
+            m,
+            self.samples[k].bytes.as_slice(),
+        );
+    }
+
+    fn leave<M: Mem>(&self, _m: &mut Machine<M>, _k: usize) {}
+
+    fn room(&self, alloc: Global, count: usize) -> Result<Room<()>, Memory> {
+        room_for(alloc, count)
+    }
+
+    fn row<M: Mem>(&self, m: &Machine<M>, k: usize, tally: Tally<Room<()>>) -> Row
+        requires sample { k < length (writes_harness self.now.firmware.now self.now.samples.now).samples }
+        requires few { (n : ℕ) × Fits tally.notes n }
+        ensures { (x : List ℕ)
+            → slice_get (writes_harness self.now.firmware.now self.now.samples.now).samples k ≡ Some x
+            → (writes_harness self.now.firmware.now self.now.samples.now).seen result
+            ≡ shown_by (writes_harness self.now.firmware.now self.now.samples.now).shows
+            (writes_harness self.now.firmware.now self.now.samples.now).parts.answers
+            (counted_at (writes_harness self.now.firmware.now self.now.samples.now).notes tally m.now.state) x }
+    {
+        let bytes = self.samples[k].bytes.as_slice();
+        row_of(bytes, answers(self.firmware, m), tally)
+    }
+}

@@ -1,0 +1,114 @@
+//! The rows of a firmware that stands alone, over a list of samples under a plan.
+ghost use Rattle.std.specs.Prelude.{ℕ, ◌≡◌, ◌≤◌, length, map, IfOk};
+ghost use Rattle.interrupt_plan.specs.Plans.{IsGood};
+ghost use Rattle.run_forms.specs.Rows.{frames_seen};
+ghost use Rattle.alone_runs.specs.{Rows.row_seen, Rows.input_bytes, Rows.firmware_rows, Answering.AnswersItsBlock};
+
+use crate::laws::answers_under_plans;
+use crate::session::Session;
+use alone_code::Firmware;
+use arrayvec::ArrayVec;
+use cpu12_emul::ends::Frame;
+use cpu12_isa::mem::Mem;
+use cpu12_isa::pages::PageMem;
+use firmware_runs::copy_of;
+use fz_list::{List, Memory};
+use interrupt_plan::Plan;
+use run_forms::{Room, Tally};
+use std::alloc::Global;
+use trace_io::Sample;
+
+/// What a sample's run gave.
+#[derive(Drop)]
+pub struct Row {
+    /// The bytes of the inputs.
+    pub bytes: ArrayVec<u8, 8>,
+    /// The answers at the end: bytes, or words where the firmware's answers are wide.
+    pub answers: ArrayVec<u16, 4>,
+    /// How many instructions were done: steps that were plain, or the last part of REV, REVW or
+    /// WAV.
+    pub instrs: u32,
+    /// How many steps were done, parts counted each.
+    pub steps: u32,
+    /// At how many boundaries an interrupt was taken while REV, REVW or WAV had done a part and not
+    /// ended.
+    pub resumed: u32,
+    /// What each interrupt pushed, with its boundary: how many steps of the sample were done.
+    pub frames: List<(u32, Frame)>,
+}
+
+/// The row of a sample of at most eight bytes, of which this was counted.
+pub fn row_of<U: Drop>(bytes: &[u8], answers: ArrayVec<u16, 4>, tally: Tally<Room<U>>) -> Row
+    requires { length bytes.now ≤ 8 }
+    ensures { row_seen result ≡ record {
+      sample = bytes.now;
+      answers = answers.items;
+      instrs = tally.instrs;
+      steps = tally.moment;
+      resumed = tally.resumed;
+      frames = frames_seen tally.notes.frames.items;
+    } }
+{
+    let Tally {
+        arrived: _,
+        moment,
+        inside: _,
+        next: _,
+        instrs,
+        resumed,
+        notes,
+    } = tally;
+    let Room { frames, told: _ } = notes;
+    Row {
+        bytes: copy_of(bytes),
+        answers,
+        instrs,
+        steps: moment,
+        resumed,
+        frames: List::new(frames),
+    }
+}
+
+/// Runs a firmware over a trace under a plan, and answers a row for each sample and the memory of
+/// the last state. Bits of `flags` give the flags that the CPU12 Reference Manual leaves undefined.
+/// Where the firmware is a block's, the rows have its answers over bytes and the counts of the run
+/// without interrupts, within the bounds.
+pub fn run_on<M: Mem>(
+    alloc: Global,
+    firmware: &Firmware,
+    samples: &[Sample],
+    plan: &Plan,
+    flags: u8,
+) -> Result<(Vec<Row>, M), Memory>
+    requires outputs { firmware.now.outputs ≤ 4 }
+    requires plan { IsGood plan.now }
+    ensures rows { IfOk result (λ r. map row_seen r.0.items
+        ≡ (firmware_rows firmware.now (map input_bytes samples.now) plan.now flags).rows) }
+    ensures answers { IfOk result
+        (λ r. AnswersItsBlock firmware.now flags (map input_bytes samples.now) plan.now (map row_seen r.0.items)) }
+    ensures memory { IfOk result
+        (λ r. M.bytes r.1 ≡ (firmware_rows firmware.now (map input_bytes samples.now) plan.now flags).state.mem) }
+{
+    answers_under_plans();
+    let session = Session::new(alloc, firmware, samples, plan, flags)?;
+    Ok(session.finish())
+}
+
+/// The rows that `run_on` answers, over a memory of its own.
+pub fn run(
+    alloc: Global,
+    firmware: &Firmware,
+    samples: &[Sample],
+    plan: &Plan,
+    flags: u8,
+) -> Result<Vec<Row>, Memory>
+    requires outputs { firmware.now.outputs ≤ 4 }
+    requires plan { IsGood plan.now }
+    ensures rows { IfOk result (λ rows. map row_seen rows.items
+        ≡ (firmware_rows firmware.now (map input_bytes samples.now) plan.now flags).rows) }
+    ensures answers { IfOk result
+        (λ rows. AnswersItsBlock firmware.now flags (map input_bytes samples.now) plan.now (map row_seen rows.items)) }
+{
+    let (rows, _memory): (Vec<Row>, PageMem) = run_on(alloc, firmware, samples, plan, flags)?;
+    Ok(rows)
+}

@@ -1,7 +1,0 @@
-use Rattle.std.proofs.Common.{◌≡◌, ◌++◌, take}
-use Rattle.fz_shelf.specs.Lines.{text_of}
-use Rattle.build_commands.specs.Lines.{counted, error_line}
-use Rattle.build_commands.proofs.lines.push_errors.Given as goal
-
-abbrev pub invariant-loop-at : goal.invariant-loop-at
-invariant-loop-at l = text_of l.lines.items ≡ text_of l.initial.lines.items ++ counted error_line 1 (take l.at l.errors)

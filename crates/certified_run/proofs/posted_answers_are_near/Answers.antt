@@ -1,5 +1,0 @@
-use Rattle.certified_run.proofs.PostedAnswers.{posted_near}
-use Rattle.certified_run.proofs.posted_answers_are_near.Goals as goal
-
-pub returns : goal.returns
-returns c = posted_near c.accepted_answers_are_near.ensures

@@ -1,3 +1,0 @@
-pub mod Nearness
-pub mod Faultless
-pub mod Posted

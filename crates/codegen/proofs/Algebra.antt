@@ -1,6 +1,0 @@
--- The plain algebra of addresses that are hidden or free, of a word in memory, and of a firmware's parts, which the
--- crates above use.
-pub use Rattle.codegen.proofs.runs.Stepping.{high_shown}
-pub use Rattle.codegen.proofs.runs.Framing.{pushed_word}
-pub use Rattle.codegen.proofs.runs.Law.{not_free}
-pub use Rattle.codegen.proofs.Parts.{of_parts}

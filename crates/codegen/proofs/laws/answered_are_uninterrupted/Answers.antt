@@ -1,5 +1,0 @@
-use Rattle.codegen.proofs.runs.Uninterrupted.{answered_are_uninterrupted}
-use Rattle.codegen.proofs.laws.answered_are_uninterrupted.Goals as goal
-
-pub returns : goal.returns
-returns c = answered_are_uninterrupted

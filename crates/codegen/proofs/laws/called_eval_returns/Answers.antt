@@ -1,5 +1,0 @@
-use Rattle.codegen.proofs.runs.Calling.{called}
-use Rattle.codegen.proofs.laws.called_eval_returns.Goals as goal
-
-pub returns : goal.returns
-returns c = called c.eval_answers.ensures

@@ -1,5 +1,0 @@
-use Rattle.codegen.proofs.runs.Law.{firmware_answers}
-use Rattle.codegen.proofs.laws.firmware_answers.Goals as goal
-
-pub returns : goal.returns
-returns c = firmware_answers c.firmware_answers_beside.ensures

@@ -1,5 +1,0 @@
-use Rattle.codegen.proofs.runs.Law.{firmware_arrives_alike}
-use Rattle.codegen.proofs.laws.firmware_arrives_alike.Goals as goal
-
-pub returns : goal.returns
-returns c = firmware_arrives_alike c.lower_laws.ensures

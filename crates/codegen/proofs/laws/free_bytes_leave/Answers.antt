@@ -1,5 +1,0 @@
-use Rattle.codegen.proofs.runs.Law.{free_leaves}
-use Rattle.codegen.proofs.laws.free_bytes_leave.Goals as goal
-
-pub returns : goal.returns
-returns c = free_leaves

@@ -1,5 +1,0 @@
-use Rattle.codegen.proofs.AlikeLemmas.{images_are_one}
-use Rattle.codegen.proofs.laws.images_are_one.Goals as goal
-
-pub returns : goal.returns
-returns c = images_are_one

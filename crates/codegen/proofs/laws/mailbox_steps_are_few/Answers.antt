@@ -1,5 +1,0 @@
-use Rattle.codegen.proofs.turns.FewSteps.{steps_are_few}
-use Rattle.codegen.proofs.laws.mailbox_steps_are_few.Goals as goal
-
-pub returns : goal.returns
-returns c = steps_are_few c.bounds_are_few.ensures

@@ -1,6 +1,0 @@
-use Rattle.std.proofs.Common.{◌≡◌, ◌++◌}
-use Rattle.codegen.specs.Mailboxes.{copy_code}
-use Rattle.codegen.proofs.mailbox.push_copies.Given as goal
-
-abbrev pub invariant-loop-at : goal.invariant-loop-at
-invariant-loop-at l = l.code.items ≡ l.fn.code.items ++ copy_code l.from l.to l.at

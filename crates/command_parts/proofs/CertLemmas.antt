@@ -1,0 +1,121 @@
+-- A certificate that a block accepts is not refused.
+use Rattle.std.proofs.Common.{◌≡◌, ◌≢◌, ℕ, List, sym, subst}
+use Rattle.std.specs.Prelude.{Result, Ok, Err, IfOk, IfErr}
+use Rattle.std.specs.Global.{Vec}
+use Rattle.fuzzy_meaning.specs.declared.block.Block.{Block}
+use Rattle.byte_scaling.specs.{Widths.parts, declared.width.Width.Width}
+use Rattle.box_tree.specs.Certificates.{HasFault, bad_version, no_version, bad_claims, no_claims, bad_node, left_open}
+use Rattle.box_tree.specs.Certificates.{late, many_leaves}
+use Rattle.box_tree.specs.declared.{cert.CertKind.CertKind, cert.CertFault.CertFault}
+use Rattle.box_tree.specs.declared.cert.CertFault.TheVariants as cert
+use Rattle.box_tree.specs.declared.{cert.Cert.Cert, cert.Node.Node}
+use Rattle.error_bound.specs.declared.boxes.Interval.{Interval}
+use Rattle.error_bound.specs.declared.boxes.Leaf as the
+use Rattle.cell_bounds.specs.declared.claims.Claim.{Claim}
+use Rattle.cell_bounds.specs.declared.claims.Claim.TheVariants as claim
+use Rattle.cert_check.specs.declared.checker.CheckFault.{CheckFault}
+use Rattle.cert_check.specs.declared.checker.CheckFault.TheVariants as check
+use Rattle.cert_check.specs.declared.text.TextFault.{TextFault as TheRefusal}
+use Rattle.cert_check.specs.declared.text.TextFault.TheVariants as refusal
+use Rattle.cert_check.specs.Faults.{IsPairFault, bad_rule, fails, IsCellsFault, too_many, unsure, IsClaimFault}
+use Rattle.cert_check.specs.Faults.{HasTreeFault, bad_cut, bad_leaf, HasCheckFault, outputs, tree, claimed}
+use Rattle.cert_check.specs.{Laws.TextAnswersAreOne, TextFaults.HasTextFault, TextFaults.of_text, TextFaults.of_cert}
+use Rattle.command_parts.specs.Certs.{AcceptedCertsHaveNoFault, AcceptedErrorsAreOne, HasCertFault, cert_refusals, status_of}
+use Rattle.fz_status.specs.{Refusals.IsRefusal, declared.status.CertRefusal.CertRefusal}
+use Rattle.fz_status.specs.declared.status.CertRefusal.TheVariants as told
+use Rattle.fz_status.specs.declared.status.Status.{Status}
+
+abbrev refusal_of : CertRefusal → TheRefusal
+refusal_of (told.Text f) = refusal.Text f
+refusal_of (told.Check f) = refusal.Check f
+
+has_refusal : (kind : CertKind) (width : Width) (block : Block) (text : List ℕ) (f : CertRefusal)
+    → HasCertFault kind width block text f
+    → HasTextFault block (parts width) kind width text (refusal_of f)
+has_refusal kind width block text (told.Text f) h = h
+has_refusal kind width block text (told.Check f) h = h
+
+pub certs_apart : TextAnswersAreOne → AcceptedCertsHaveNoFault
+certs_apart answers kind width block text errors f valid accepts fault =
+    let refused = has_refusal kind width block text f fault in
+    let same : Ok errors ≡ Err (refusal_of f) =
+    answers block (parts width) kind width text (Ok errors) (Err (refusal_of f)) valid
+    accepts refused in
+    cc
+
+-- ---- a refusal is no want of memory
+
+text_carries : (k : CertKind) (v : Width) (text : List ℕ) (f : CertFault) → HasFault k v text f → f ≢ cert.Memory
+text_carries k v text _ (bad_version some none) e = cc
+text_carries k v text _ (no_version none) e = cc
+text_carries k v text _ (bad_claims rest is none) e = cc
+text_carries k v text _ (no_claims is) e = cc
+text_carries k v text _ (bad_node claims nodes n rest begins none) e = cc
+text_carries k v text _ (left_open claims nodes n begins some) e = cc
+text_carries k v text _ (late claims nodes node behind begins good) e = cc
+text_carries k v text _ (many_leaves claims nodes n pairs behind begins good some all) e = cc
+
+pair_carries : (b : Block) (box : List Interval) (o : ℕ) (leaf : the.Leaf) (line : ℕ) (f : CheckFault)
+    → IsPairFault b box o leaf line f → f ≢ check.Memory
+pair_carries b box o leaf line _ (bad_rule none) e = cc
+pair_carries b box o leaf line _ (fails g pair h) e = cc
+
+cells_carry : (b : Block) (h : ℕ) (box : List Interval) (o line : ℕ) (f : CheckFault)
+    → IsCellsFault b h box o line f → f ≢ check.Memory
+cells_carry b h box o line _ (too_many many) e = cc
+cells_carry b h box o line _ (unsure few on) e = cc
+
+claim_carries : (b : Block) (h : ℕ) (box : List Interval) (o line : ℕ) (c : Claim) (f : CheckFault)
+    → IsClaimFault b h box o line c f → f ≢ check.Memory
+claim_carries b h box o line (claim.Pair l) f fault e = pair_carries b box o l line f fault e
+claim_carries b h box o line claim.Tight f fault e = let is = fault.0 in cc
+claim_carries b h box o line claim.Cells f fault e = cells_carry b h box o line f fault e
+
+tree_carries : (b : Block) (h : ℕ) (nodes : List Node) (f : CheckFault) → HasTreeFault b h nodes f → f ≢ check.Memory
+tree_carries b h nodes _ (bad_cut box i c rest r none) e = cc
+tree_carries b h nodes f (bad_leaf box form rest g r p) e = claim_carries b h _ p.output _ p.claim f p.is e
+
+check_carries : (b : Block) (h : ℕ) (c : Cert) (f : CheckFault) → HasCheckFault b h c f → f ≢ check.Memory
+check_carries b h c _ (outputs differ) e = cc
+check_carries b h c f (tree g count t) e = tree_carries b h c.nodes f t e
+check_carries b h c _ (claimed es k over count a) e = cc
+
+-- ---- the checker's answer as a status
+
+pub as_errors : (P : List ℕ → Type 0) (answer : Result (Vec ℕ) TheRefusal) (result : Result (Vec ℕ) Status)
+    → IfOk result (λ es. answer ≡ Ok es) → IfOk answer (λ es. P es.items) → IfOk result (λ es. P es.items)
+as_errors P answer (Err s) same h = tt
+as_errors P answer (Ok es) same h = subst (λ a. IfOk a (λ fs. P fs.items)) same h
+
+as_refusal : (kind : CertKind) (width : Width) (block : Block) (text : List ℕ) (r : TheRefusal)
+    → (r ≢ refusal.Memory → HasTextFault block (parts width) kind width text r)
+    → IsRefusal (cert_refusals kind width block text) (status_of r)
+as_refusal kind width block text refusal.Memory h = tt
+as_refusal kind width block text (refusal.Text f) h = let is = h (λ e. let z : ⊥ = cc in z) in (text_is is, is)
+  where
+    text_is : HasTextFault block (parts width) kind width text (refusal.Text f) → f ≢ cert.Memory
+    text_is (of_text g fault) = text_carries kind width text g fault
+as_refusal kind width block text (refusal.Check f) h = let is = h (λ e. let z : ⊥ = cc in z) in (check_is is, is)
+  where
+    check_is : HasTextFault block (parts width) kind width text (refusal.Check f) → f ≢ check.Memory
+    check_is (of_cert c g spelled fault) = check_carries block (parts width) c g fault
+
+pub as_status : (kind : CertKind) (width : Width) (block : Block) (text : List ℕ)
+    (answer : Result (Vec ℕ) TheRefusal) (result : Result (Vec ℕ) Status)
+    → IfErr result (λ s. (r : TheRefusal) × (answer ≡ Err r) × (s ≡ status_of r))
+    → IfErr answer (λ r. r ≢ refusal.Memory → HasTextFault block (parts width) kind width text r)
+    → IfErr result (IsRefusal (cert_refusals kind width block text))
+as_status kind width block text answer (Ok es) same refused = tt
+as_status kind width block text answer (Err s) (r, is, told) refused =
+    subst (λ x. IsRefusal (cert_refusals kind width block text) x) (sym told)
+    (as_refusal kind width block text r
+    (subst (λ a. IfErr a
+    (λ q. q ≢ refusal.Memory → HasTextFault block (parts width) kind width text q)) is refused))
+
+-- a certificate is accepted with one list of errors
+pub errors_are_one : TextAnswersAreOne → AcceptedErrorsAreOne
+errors_are_one one kind width block cert errors others valid a b =
+    let x : Result (List ℕ) TextFault = Ok errors in
+    let y : Result (List ℕ) TextFault = Ok others in
+    let same : x ≡ y = one block (parts width) kind width cert x y valid a b in
+    cc

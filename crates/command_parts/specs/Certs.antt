@@ -1,0 +1,70 @@
+-- Certificates of a text's block.
+-- Beside the promise.
+use Rattle.std.specs.Prelude.{◌≡◌, ℕ, List}
+use Rattle.error_certifier.specs.{Halving.IsHalving, Halving.StopsAt, Laws.SaysOutOfReach}
+use Rattle.error_certifier.specs.declared.certifier.NotReached.{NotReached}
+use Rattle.box_tree.specs.declared.cert.Cert.{Cert}
+use Rattle.fuzzy_meaning.specs.{Blocks.IsValid, declared.block.Block.Block}
+use Rattle.byte_scaling.specs.{Widths.parts, declared.width.Width.Width}
+use Rattle.box_tree.specs.declared.{cert.CertKind.CertKind}
+use Rattle.cert_check.specs.TextFaults.{IsAcceptedText, HasTextFault}
+use Rattle.cert_check.specs.declared.text.TextFault.{TextFault as TheRefusal}
+use Rattle.cert_check.specs.declared.text.TextFault.TheVariants as refusal
+use Rattle.command_parts.specs.Firmwares.{OfFirmware}
+use Rattle.fz_status.specs.{Refusals.Refusals, declared.status.CertRefusal.CertRefusal}
+use Rattle.fz_status.specs.declared.status.CertRefusal.TheVariants as told
+use Rattle.fz_status.specs.declared.status.Status.{Status}
+use Rattle.fz_status.specs.declared.status.Status.TheVariants as status
+
+-- CERT is a certificate of this kind that is accepted for the block's answers of this width, with these errors
+abbrev pub AcceptsCert : CertKind → Width → Block → List ℕ → List ℕ → Type 0
+AcceptsCert kind width block cert errors = IsAcceptedText block (parts width) kind width cert errors
+
+-- why the block refuses it
+abbrev pub HasCertFault : CertKind → Width → Block → List ℕ → CertRefusal → Type 0
+HasCertFault kind width block cert (told.Text f) =
+    HasTextFault block (parts width) kind width cert (refusal.Text f)
+HasCertFault kind width block cert (told.Check f) =
+    HasTextFault block (parts width) kind width cert (refusal.Check f)
+
+abbrev pub cert_refusals : CertKind → Width → Block → List ℕ → Refusals
+cert_refusals kind width block cert (status.Cert f) = HasCertFault kind width block cert f
+cert_refusals kind width block cert s = ⊥
+
+-- why CERT is refused, the text giving firmware
+abbrev pub RefusesCert : CertKind → Width → List ℕ → List ℕ → CertRefusal → Type 0
+RefusesCert kind width text cert f = OfFirmware width text (λ block firmware. HasCertFault kind width block cert f)
+
+-- the status that tells a refusal
+abbrev pub status_of : TheRefusal → Status
+status_of (refusal.Text f) = status.Cert (told.Text f)
+status_of (refusal.Check f) = status.Cert (told.Check f)
+status_of refusal.Memory = status.Memory
+
+-- a certificate that a block accepts is not refused
+abbrev pub AcceptedCertsHaveNoFault : Type 0
+AcceptedCertsHaveNoFault = (kind : CertKind) (width : Width) (block : Block) (cert errors : List ℕ) (f : CertRefusal)
+    → IsValid block → AcceptsCert kind width block cert errors → HasCertFault kind width block cert f → ⊥
+
+-- a certificate is accepted with one list of errors
+abbrev pub AcceptedErrorsAreOne : Type 0
+AcceptedErrorsAreOne = (kind : CertKind) (width : Width) (block : Block) (cert errors others : List ℕ) → IsValid block
+    → AcceptsCert kind width block cert errors → AcceptsCert kind width block cert others → errors ≡ others
+
+-- halving for this kind stops so, and for a cell no certificate that is accepted has a smaller error: for tight ones
+-- none at all, for those that name rules none that does
+pub record StopsHalving (kind : CertKind) (width : Width) (target : ℕ) (block : Block) (stop : NotReached)
+    : Type 0 where
+  pub stops : StopsAt kind block (parts width) target stop
+  pub out_of_reach : SaysOutOfReach kind block (parts width) target stop
+
+-- why halving ends without a certificate
+abbrev pub target_refusals : CertKind → Width → ℕ → Block → Refusals
+target_refusals kind width target block (status.NotReached stop) = StopsHalving kind width target block stop
+target_refusals kind width target block s = ⊥
+
+-- halving does not stop at a block with a certificate of it
+abbrev pub HalvedBlocksDoNotStop : Type 0
+HalvedBlocksDoNotStop =
+    (kind : CertKind) (width : Width) (target : ℕ) (block : Block) (cert : Cert) (stop : NotReached) → IsValid block
+    → IsHalving kind block (parts width) target cert → StopsHalving kind width target block stop → ⊥

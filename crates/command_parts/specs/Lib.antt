@@ -1,0 +1,9 @@
+pub mod Certs
+pub mod Contents
+pub mod Firmwares
+pub mod Handlers
+pub mod Images
+pub mod Lines
+pub mod SeenOutputs
+pub mod Twos
+pub mod Words

@@ -1,0 +1,143 @@
+//! From a text to its block, and to the block's firmware.
+ghost use Rattle.std.specs.Prelude.{◌≤◌, length, IfOk, IfErr};
+ghost use Rattle.fcl_check.specs.Texts.{SpellsBlock};
+ghost use Rattle.command_parts.specs.Firmwares.{GivesBlock, GivesFirmware, GivesMailbox, GivesWatched, text_refusals};
+ghost use Rattle.command_parts.specs.Firmwares.{GivenFirmwaresAreOne, GivenMailboxesAreOne, GivenWatchedAreOne};
+ghost use Rattle.command_parts.specs.Firmwares.{SpelledTextsHaveNoFault};
+ghost use Rattle.fz_status.specs.Refusals.{IsRefusal};
+
+use alone_code::{
+    Firmware, compile, compile_post, compile16, firmwares_are_one, mailboxes_are_one,
+};
+use byte_scaling::Width;
+use fcl_check::{LoadFault, load, load_faults_are_one, spelled_blocks_are_one};
+use fcl_syntax::{SyntaxFault, first_faults_are_one, parse};
+use fuzzy_meaning::Block;
+use fz_status::{FclFault, Status};
+use rule_layout::{LayoutFault, limits_have_no_fault, spread};
+use std::alloc::Global;
+use watched_code::{compile_scrub, watched_firmwares_are_one};
+
+/// A block with its firmware.
+#[derive(Drop)]
+pub struct Compiled {
+    /// The block that the text spells.
+    pub block: Block,
+    /// The block's firmware.
+    pub firmware: Firmware,
+}
+
+/// The block that the text spells, and that block's firmware with answers of this width. The faults
+/// come in their order: of the grammar, of the block, of the layout.
+pub fn firmware_of(alloc: Global, width: Width, text: &[u8]) -> Result<Compiled, Status>
+    requires { length text.now ≤ 1048576 }
+    ensures gives { IfOk result (λ c. GivesFirmware width text.now c.block c.firmware) }
+    ensures fault { IfErr result (IsRefusal (text_refusals text.now)) }
+{
+    let block = block_of(alloc, text)?;
+    let firmware = match width {
+        Width::Byte => compile(alloc, &block),
+        Width::Word => compile16(alloc, &block),
+    };
+    match firmware {
+        Ok(firmware) => Ok(Compiled { block, firmware }),
+        Err(LayoutFault::Memory) => Err(Status::Memory),
+        Err(fault) => Err(Status::Fcl(FclFault::Layout(fault))),
+    }
+}
+
+/// The block that the text spells, and that block's firmware in the mailbox form. The faults are the
+/// same.
+pub fn mailbox_of(alloc: Global, text: &[u8]) -> Result<Compiled, Status>
+    requires { length text.now ≤ 1048576 }
+    ensures gives { IfOk result (λ c. GivesMailbox text.now c.block c.firmware) }
+    ensures fault { IfErr result (IsRefusal (text_refusals text.now)) }
+{
+    let block = block_of(alloc, text)?;
+    match compile_post(alloc, &block) {
+        Ok(firmware) => Ok(Compiled { block, firmware }),
+        Err(LayoutFault::Memory) => Err(Status::Memory),
+        Err(fault) => Err(Status::Fcl(FclFault::Layout(fault))),
+    }
+}
+
+/// The block that the text spells, and that block's firmware with watched tables. The faults are the
+/// same.
+pub fn watched_firmware_of(alloc: Global, text: &[u8]) -> Result<Compiled, Status>
+    requires { length text.now ≤ 1048576 }
+    ensures gives { IfOk result (λ c. GivesWatched text.now c.block c.firmware) }
+    ensures fault { IfErr result (IsRefusal (text_refusals text.now)) }
+{
+    let block = block_of(alloc, text)?;
+    match compile_scrub(alloc, &block) {
+        Ok(firmware) => Ok(Compiled { block, firmware }),
+        Err(LayoutFault::Memory) => Err(Status::Memory),
+        Err(fault) => Err(Status::Fcl(FclFault::Layout(fault))),
+    }
+}
+
+/// The block that the text spells, which can be laid out. The faults are the same.
+pub(crate) fn laid_out_block_of(alloc: Global, text: &[u8]) -> Result<Block, Status>
+    requires { length text.now ≤ 1048576 }
+    ensures gives { IfOk result (GivesBlock text.now) }
+    ensures fault { IfErr result (IsRefusal (text_refusals text.now)) }
+{
+    let block = block_of(alloc, text)?;
+    match spread(alloc, &block) {
+        Ok(_) => Ok(block),
+        Err(LayoutFault::Memory) => Err(Status::Memory),
+        Err(fault) => Err(Status::Fcl(FclFault::Layout(fault))),
+    }
+}
+
+/// The block that the text spells.
+fn block_of(alloc: Global, text: &[u8]) -> Result<Block, Status>
+    requires { length text.now ≤ 1048576 }
+    ensures block { IfOk result (SpellsBlock text.now) }
+    ensures fault { IfErr result (IsRefusal (text_refusals text.now)) }
+{
+    let tree = match parse(alloc, text) {
+        Ok(tree) => tree,
+        Err(SyntaxFault::Memory) => return Err(Status::Memory),
+        Err(fault) => return Err(Status::Fcl(FclFault::Syntax(fault))),
+    };
+    match load(alloc, &tree) {
+        Ok(block) => Ok(block),
+        Err(LoadFault::Memory) => Err(Status::Memory),
+        Err(fault) => Err(Status::Fcl(FclFault::Load(fault))),
+    }
+}
+
+/// A text that spells a block within the limits has no fault.
+pub fn spelled_texts_have_no_fault()
+    ensures { SpelledTextsHaveNoFault }
+{
+    first_faults_are_one();
+    load_faults_are_one();
+    spelled_blocks_are_one();
+    limits_have_no_fault()
+}
+
+/// A text gives one block, and one firmware of each width.
+pub fn given_firmwares_are_one()
+    ensures { GivenFirmwaresAreOne }
+{
+    spelled_blocks_are_one();
+    firmwares_are_one()
+}
+
+/// It gives one in the mailbox form.
+pub fn given_mailboxes_are_one()
+    ensures { GivenMailboxesAreOne }
+{
+    spelled_blocks_are_one();
+    mailboxes_are_one()
+}
+
+/// It gives one with watched tables.
+pub fn given_watched_are_one()
+    ensures { GivenWatchedAreOne }
+{
+    spelled_blocks_are_one();
+    watched_firmwares_are_one()
+}

@@ -1,0 +1,45 @@
+//! The handler that a text of records gives.
+ghost use Rattle.std.specs.Prelude.{◌≤◌, length, IfOk, IfErr};
+ghost use Rattle.command_parts.specs.Handlers.{GivesHandler, GivenHandlersHaveNoFault, handler_refusals};
+ghost use Rattle.fz_status.specs.Refusals.{IsRefusal};
+
+use crate::images::{given_records_have_no_fault, image_of};
+use cpu12_asm::Image;
+use fz_status::Status;
+use handler_check::laws::handlers_have_no_fault;
+use handler_check::{Handler, HandlerFault, check_handler};
+use srecord::images_are_one;
+use std::alloc::Global;
+
+/// A handler that was accepted, with its image.
+#[derive(Drop)]
+pub struct AcceptedHandler {
+    /// The image that the records give.
+    pub image: Image,
+    /// What is known of its code.
+    pub handler: Handler,
+}
+
+/// The handler that the records give. The faults come in their order: of the records, then the first
+/// of the handler.
+pub fn handler_of(alloc: Global, records: &[u8]) -> Result<AcceptedHandler, Status>
+    requires { length records.now ≤ 1048576 }
+    ensures handler { IfOk result (λ a. GivesHandler records.now a.image a.handler.instrs) }
+    ensures fault { IfErr result (IsRefusal (handler_refusals records.now)) }
+{
+    let image = image_of(alloc, records)?;
+    match check_handler(alloc, &image) {
+        Ok(handler) => Ok(AcceptedHandler { image, handler }),
+        Err(HandlerFault::Memory) => Err(Status::Memory),
+        Err(fault) => Err(Status::Handler(fault)),
+    }
+}
+
+/// Records that give a handler have no fault.
+pub fn given_handlers_have_no_fault()
+    ensures { GivenHandlersHaveNoFault }
+{
+    images_are_one();
+    given_records_have_no_fault();
+    handlers_have_no_fault()
+}

@@ -1,0 +1,59 @@
+//! From a text to its image.
+ghost use Rattle.std.specs.Prelude.{◌≤◌, length, IfOk, IfErr, OnOk};
+ghost use Rattle.srecord.specs.Texts.{GivesImage};
+ghost use Rattle.command_parts.specs.Images.{GivenImagesHaveNoFault, GivenRecordsHaveNoFault};
+ghost use Rattle.command_parts.specs.Images.{image_refusals, records_refusals};
+ghost use Rattle.fz_status.specs.Refusals.{IsRefusal};
+
+use cpu12_asm::Image;
+use fz_status::{ImageFault, Status};
+use srecord::{SrecFault, images_are_one};
+use std::alloc::Global;
+
+/// The image that a text of records gives, or the status of its first fault.
+pub fn image_of(alloc: Global, text: &[u8]) -> Result<Image, Status>
+    requires { length text.now ≤ 1048576 }
+    ensures image { IfOk result (GivesImage text.now) }
+    ensures fault { IfErr result (IsRefusal (records_refusals text.now)) }
+{
+    match srecord::read(alloc, text) {
+        Ok(image) => Ok(image),
+        Err(SrecFault::Memory) => Err(Status::Memory),
+        Err(fault) => Err(Status::Image(ImageFault::Records(fault))),
+    }
+}
+
+/// Whether a text of records gives this image: else the status of its first fault, of the first
+/// address where it has another byte, or of its start.
+pub fn require_image(alloc: Global, text: &[u8], wanted: &Image) -> Result<(), Status>
+    requires { length text.now ≤ 1048576 }
+    ensures image { OnOk result (GivesImage text.now wanted.now) }
+    ensures fault { IfErr result (IsRefusal (image_refusals text.now wanted.now)) }
+{
+    let given = image_of(alloc, text)?;
+    match given.bytes.first_difference(&wanted.bytes) {
+        Some(at) => Err(Status::Image(ImageFault::Byte(
+            at,
+            given.bytes.get(at),
+            wanted.bytes.get(at),
+        ))),
+        None if given.start != wanted.start => {
+            Err(Status::Image(ImageFault::Start(given.start, wanted.start)))
+        }
+        None => Ok(()),
+    }
+}
+
+/// Records that give an image have no fault for it.
+pub fn given_images_have_no_fault()
+    ensures { GivenImagesHaveNoFault }
+{
+    images_are_one()
+}
+
+/// Nor are they refused as records.
+pub fn given_records_have_no_fault()
+    ensures { GivenRecordsHaveNoFault }
+{
+    images_are_one()
+}

@@ -1,0 +1,54 @@
+//! From two texts to their blocks, and to the firmware of both at two levels.
+ghost use Rattle.std.specs.Prelude.{◌≤◌, length, IfOk, IfErr};
+ghost use Rattle.command_parts.specs.Twos.{GivenTwosAreOne, GivesTwo, two_refusals};
+ghost use Rattle.fz_status.specs.Refusals.{IsRefusal};
+
+use crate::firmware::laid_out_block_of;
+use fcl_check::spelled_blocks_are_one;
+use fuzzy_meaning::Block;
+use fz_status::Status;
+use std::alloc::Global;
+use two_level_code::{Two, compile_two, twos_are_one};
+
+/// A slow and a fast block with the firmware of both.
+#[derive(Drop)]
+pub struct CompiledTwo {
+    /// The block that the first text spells.
+    pub slow: Block,
+    /// The block that the second text spells, which runs inside the interrupts of the first.
+    pub fast: Block,
+    /// The firmware of both.
+    pub two: Two,
+}
+
+/// The blocks that the texts spell, and the firmware of both. The faults are those of the first text, and
+/// then those of the second, told of the fast block's file.
+pub fn two_of(alloc: Global, slow: &[u8], fast: &[u8]) -> Result<CompiledTwo, Status>
+    requires slow { length slow.now ≤ 1048576 }
+    requires fast { length fast.now ≤ 1048576 }
+    ensures gives { IfOk result (λ c. GivesTwo slow.now fast.now c.slow c.fast c.two) }
+    ensures fault { IfErr result (IsRefusal (two_refusals slow.now fast.now)) }
+{
+    let slow_block = laid_out_block_of(alloc, slow)?;
+    let fast_block = match laid_out_block_of(alloc, fast) {
+        Ok(block) => block,
+        Err(status) => return Err(status.of_fast()),
+    };
+    // Both can be laid out, so nothing but memory is wanted.
+    match compile_two(alloc, &slow_block, &fast_block) {
+        Ok(two) => Ok(CompiledTwo {
+            slow: slow_block,
+            fast: fast_block,
+            two,
+        }),
+        Err(_) => Err(Status::Memory),
+    }
+}
+
+/// Two texts give two blocks, and one firmware of both.
+pub fn given_twos_are_one()
+    ensures { GivenTwosAreOne }
+{
+    spelled_blocks_are_one();
+    twos_are_one()
+}

@@ -1,5 +1,0 @@
-use Rattle.firmware_ports.proofs.PortBytes.{answers_are_values}
-use Rattle.firmware_ports.proofs.laws.answers_are_values.Goals as goal
-
-pub returns : goal.returns
-returns c = answers_are_values

@@ -1,0 +1,25 @@
+//! The laws of whole instructions, and of what is given and answered.
+ghost use Rattle.firmware_runs.specs.{Instructions.InstructionsAreSteps, Ports.AnswersAreValues, Ports.GivenIsPut};
+
+use run_forms::laws::plain_is_one_step;
+use run_law::laws::step_laws;
+
+/// Whole instructions on a sample, at each of which an interrupt may come, are steps: as many count as
+/// there are instructions, and before each step, also inside REV, REVW and WAV, the state keeps the
+/// facts of a run and the image.
+pub fn instructions_are_steps()
+    ensures { InstructionsAreSteps }
+{
+    step_laws();
+    plain_is_one_step();
+}
+
+/// A sample is given to a run as it is to whole instructions.
+pub fn given_is_put()
+    ensures { GivenIsPut }
+{}
+
+/// Answers that end in memory are read as behind whole instructions.
+pub fn answers_are_values()
+    ensures { AnswersAreValues }
+{}

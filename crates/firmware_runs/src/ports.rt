@@ -1,0 +1,85 @@
+//! How a firmware is given samples, and where its answers are read.
+ghost use Rattle.std.specs.Prelude.{◌≡◌, ◌≤◌, true, false, length};
+ghost use Rattle.cpu12_parts.specs.State.{State};
+ghost use Rattle.alone_code.specs.Interruptible.{is_idle};
+ghost use Rattle.firmware_runs.specs.Ports.{given, answer_size, answer_at, answers_in};
+
+use alone_code::Firmware;
+use arrayvec::ArrayVec;
+use cpu12_emul::machine::Machine;
+use cpu12_isa::mem::{Mem, word_of};
+use eval_code::MemoryMap;
+
+/// Whether the firmware waits for a sample: PC is where it waits, and READY is 0.
+pub fn is_idle<M: Mem>(memory_map: &MemoryMap, m: &Machine<M>) -> bool
+    ensures { result ≡ is_idle memory_map.now m.now.state }
+{
+    m.regs().pc == memory_map.wait && m.peek(memory_map.ready) == 0
+}
+
+/// Whether PC is elsewhere than where the firmware waits, so that it is busy as long as PC stays.
+#[inline(always)]
+pub fn is_busy_here<M: Mem>(memory_map: &MemoryMap, m: &Machine<M>) -> bool
+    ensures { result ≡ true → (s : State) → s.regs.pc ≡ m.now.state.regs.pc → is_idle memory_map.now s ≡ false }
+{
+    m.regs().pc != memory_map.wait
+}
+
+/// Gives a sample: writes its bytes from the first input on, and 1 to READY.
+pub fn give<M: Mem>(memory_map: &MemoryMap, m: &mut Machine<M>, bytes: &[u8])
+    ensures state { m.new.state ≡ given memory_map.now bytes.now m.old.state }
+    ensures noted { m.new.noted ≡ m.old.noted }
+    ensures flags { m.new.flags ≡ m.old.flags }
+{
+    let mut at = memory_map.samples;
+    for byte in bytes {
+        m.poke(at, *byte);
+        at = at.wrapping_add(1);
+    }
+    m.poke(memory_map.ready, 1);
+}
+
+/// How many bytes an answer has.
+fn answer_size(wide: bool) -> u16
+    ensures { result ≡ answer_size wide }
+{
+    if wide { 2 } else { 1 }
+}
+
+/// The answer that stands at an address.
+fn answer_at<M: Mem>(m: &Machine<M>, wide: bool, at: u16) -> u16
+    ensures { result ≡ answer_at wide at m.now.state.mem }
+{
+    let first = m.peek(at);
+    if wide {
+        word_of(first, m.peek(at.wrapping_add(1)))
+    } else {
+        u16::from(first)
+    }
+}
+
+/// The answers, in the order of the outputs, of which there are at most four.
+pub fn answers<M: Mem>(firmware: &Firmware, m: &Machine<M>) -> ArrayVec<u16, 4>
+    requires { firmware.now.outputs ≤ 4 }
+    ensures { result.items ≡ answers_in firmware.now m.now.state }
+{
+    let mut answers = ArrayVec::new();
+    let mut at = firmware.memory_map.outputs;
+    let mut left = firmware.outputs;
+    while left > 0 {
+        answers.push(answer_at(m, firmware.wide, at));
+        at = at.wrapping_add(answer_size(firmware.wide));
+        left -= 1;
+    }
+    answers
+}
+
+/// A copy of at most eight bytes.
+pub fn copy_of(bytes: &[u8]) -> ArrayVec<u8, 8>
+    requires { length bytes.now ≤ 8 }
+    ensures { result.items ≡ bytes.now }
+{
+    let mut copy = ArrayVec::new();
+    copy.try_extend_from_slice(bytes).unwrap();
+    copy
+}

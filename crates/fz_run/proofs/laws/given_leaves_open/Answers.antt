@@ -1,5 +1,0 @@
-use Rattle.fz_run.proofs.OpenBytes.{given_leaves_open}
-use Rattle.fz_run.proofs.laws.given_leaves_open.Goals as goal
-
-pub returns : goal.returns
-returns c = given_leaves_open c.writes_stay.ensures

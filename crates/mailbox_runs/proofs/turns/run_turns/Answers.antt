@@ -1,0 +1,27 @@
+use Rattle.std.proofs.Common.{◌≡◌, ◌-◌, ◌∙◌, ℕ, suc, map, drop, ap₂, sym, arith}
+use Rattle.mailbox_runs.specs.{Runs.input_bytes, Runs.answer_seen, Runs.turns_from, Tallies.with_rest}
+use Rattle.mailbox_runs.proofs.NextTurns.{none_left}
+use Rattle.mailbox_runs.proofs.turns.run_turns.Goals as goal
+
+pub returns-then-not-next_turn : goal.returns-then-not-next_turn
+returns-then-not-next_turn g c =
+    let a = c.args in
+    let l = c.loop-left in
+    let samples = map input_bytes a.samples.now in
+    let some = c.loop-left-test.true in
+    let more : suc (l.left - 1) ≡ l.left = omega (arith, some) in
+    sym (c.next_turn.ensures.ends c.if-not-next_turn.true (l.left - 1))
+    ∙ ap₂ (λ (k n : ℕ). with_rest (map answer_seen l.answers.items) l.st.tally
+    (turns_from k a.firmware.now samples a.last n l.st.tally.moment l.waits (drop l.st.tally.next a.posts.now) l.m.state))
+    l.invariant.flags more
+    ∙ l.invariant.rest
+
+pub returns : goal.returns
+returns g c =
+    let a = c.args in
+    let l = c.loop-left in
+    let none = c.loop-left-test.false in
+    sym (none_left a.m.now.flags a.firmware.now (map input_bytes a.samples.now) a.last l.left l.st.tally.moment l.waits
+    (drop l.st.tally.next a.posts.now) l.m.state l.st.tally (map answer_seen l.answers.items)
+    (omega (arith, none)))
+    ∙ l.invariant.rest

@@ -1,0 +1,278 @@
+//! Turn after turn.
+ghost use Rattle.std.specs.Prelude.{ℕ, ◌≡◌, ◌≤◌, ◌<◌, ◌+◌, ◌-◌, ◌*◌, ◌^◌, ◌==◌, ◌&&◌, ◌++◌, [], ◌∷◌, true, false, min};
+ghost use Rattle.std.specs.Prelude.{if◌then◌else◌, suc, All, length, map, drop, slice_index, vec_len, vec_capacity};
+ghost use Rattle.run_law.specs.{Forms.takes, Forms.is_empty, Following.asked};
+ghost use Rattle.interrupt_plan.specs.Posts.{IsGoodPost, AreGoodPosts};
+ghost use Rattle.alone_code.specs.Uninterrupted.{values_in};
+ghost use Rattle.mailbox_runs.specs.Turns.{up_to, behind, waiting};
+ghost use Rattle.mailbox_runs.specs.Runs.{turn_form, answers_by, waits_by, input_bytes, answer_seen, turns_from};
+ghost use Rattle.mailbox_runs.specs.Runs.{most_turns};
+ghost use Rattle.mailbox_runs.specs.Tallies.{notes_of, counted_at, with_rest};
+ghost use Rattle.alone_runs.specs.Rows.{bytes_of};
+ghost use Rattle.run_forms.specs.{Rest.with_before, Rooms.Fits, Sessions.IsSteady};
+
+use crate::form::WithPosts;
+use crate::run::Answer;
+use crate::turn::turn;
+use alone_code::Firmware;
+use arrayvec::ArrayVec;
+use cpu12_emul::machine::Machine;
+use cpu12_isa::mem::Mem;
+use firmware_runs::{answers, answers_are_values, copy_of};
+use interrupt_plan::Post;
+use run_forms::{Room, Stand, Tally, take_due};
+use trace_io::Sample;
+
+/// The most turns: each takes a step at least.
+const MOST_TURNS: u32 = 1_000_003;
+
+/// The sample that these posts put last, or the one before where they put none.
+fn posted_last(before: u32, posts: &[Post]) -> u32
+    ensures { result ≡ waiting before posts.now }
+{
+    let mut waits = before;
+    for post in posts {
+        if post.sample != 0 {
+            waits = post.sample;
+        }
+    }
+    waits
+}
+
+/// How many of these posts, from the first on, have moments up to this one.
+fn count_up_to(moment: u32, posts: &[Post]) -> usize
+    ensures value { result ≡ length (up_to moment posts.now) }
+    ensures few { result ≤ length posts.now }
+{
+    let mut count = 0;
+    for post in posts {
+        if post.moment > moment {
+            return count;
+        }
+        count += 1;
+    }
+    count
+}
+
+/// The values of the outputs, in their order.
+fn values_in<M: Mem>(firmware: &Firmware, m: &Machine<M>) -> ArrayVec<u16, 4>
+    requires { (firmware.now.outputs ≤ 4) × (firmware.now.memory_map.outputs + 8 < 2 ^ 16) }
+    ensures { result.items ≡ values_in firmware.now m.now.state }
+{
+    answers_are_values();
+    answers(firmware, m)
+}
+
+/// The answer of a turn that ends here, of this sample.
+fn answer_of<M: Mem>(
+    m: &Machine<M>,
+    firmware: &Firmware,
+    samples: &[Sample],
+    t: &Tally<Room<()>>,
+    sample: u32,
+) -> Answer
+    requires outputs { (firmware.now.outputs ≤ 4) × (firmware.now.memory_map.outputs + 8 < 2 ^ 16) }
+    requires some { (1 ≤ sample) × (sample ≤ length samples.now) }
+    ensures { answer_seen result ≡ record {
+      sample = sample;
+      at = t.now.moment;
+      bytes = bytes_of (map input_bytes samples.now) sample;
+      values = values_in firmware.now m.now.state;
+      instrs = t.now.instrs;
+    } }
+{
+    let bytes = copy_of(samples[sample as usize - 1].bytes.as_slice());
+    Answer {
+        sample,
+        at: t.moment,
+        bytes,
+        answers: values_in(firmware, m),
+        instrs: t.instrs,
+    }
+}
+
+/// Where a turn ends in which these posts were taken: puts its answer, if a sample waited when it
+/// began. That is of the sample that was posted last before the copy. Answers which sample waits next,
+/// 0 for none.
+fn end_turn<M: Mem>(
+    m: &Machine<M>,
+    firmware: &Firmware,
+    samples: &[Sample],
+    taken: &[Post],
+    begun: u32,
+    t: &Tally<Room<()>>,
+    waits: u32,
+    answers: &mut Vec<Answer>,
+) -> u32
+    requires outputs { (firmware.now.outputs ≤ 4) × (firmware.now.memory_map.outputs + 8 < 2 ^ 16) }
+    requires waits { waits ≤ length samples.now }
+    requires good { All (IsGoodPost (length samples.now)) taken.now }
+    requires begun { begun + 2 < 2 ^ 32 }
+    requires room { vec_len answers.old + min waits 1 ≤ vec_capacity answers.old }
+    ensures answers { map answer_seen answers.new.items ≡ map answer_seen answers.old.items
+        ++ answers_by firmware.now (map input_bytes samples.now) begun waits taken.now t.now.moment t.now.instrs
+        m.now.state }
+    ensures waits { result ≡ waits_by begun waits taken.now }
+    ensures few { (result ≤ length samples.now) × (min result 1 ≤ length taken.now) }
+    ensures len { vec_len answers.new ≡ vec_len answers.old + min waits 1 }
+    ensures room { vec_capacity answers.old ≤ vec_capacity answers.new }
+{
+    if waits == 0 {
+        return posted_last(0, taken);
+    }
+    let early = count_up_to(begun + 2, taken);
+    let sample = posted_last(waits, &taken[..early]);
+    answers
+        .push(answer_of(m, firmware, samples, t, sample))
+        .unwrap();
+    posted_last(0, &taken[early..])
+}
+
+/// Begins a turn: takes what is due where the code waits. Answers which sample waits then, where this
+/// one did before.
+fn look<M: Mem>(
+    m: &mut Machine<M>,
+    form: &WithPosts,
+    posts: &[Post],
+    t: &mut Tally<Room<()>>,
+    waits: u32,
+) -> u32
+    requires good { AreGoodPosts (length form.now.samples.now) posts.now }
+    requires next { t.old.next ≤ length posts.now }
+    requires room { Fits t.old.notes (length posts.now - t.old.next) }
+    requires waits { waits ≤ length form.now.samples.now }
+    ensures takes { with_before (notes_of.frames t.old.notes) (notes_of.told t.old.notes)
+        (takes (turn_form m.old.flags form.now.firmware.now (map input_bytes form.now.samples.now) form.now.begun)
+        t.old.moment (drop t.old.next posts.now) m.old.state)
+        ≡ record {
+          state = m.new.state;
+          frames = notes_of.frames t.new.notes;
+          told = notes_of.told t.new.notes;
+          left = drop t.new.next posts.now;
+        } }
+    ensures waits { result ≡ waiting waits
+        (asked (takes
+        (turn_form m.old.flags form.now.firmware.now (map input_bytes form.now.samples.now) form.now.begun) t.old.moment
+        (drop t.old.next posts.now) m.old.state).told) }
+    ensures few { (result ≤ length form.now.samples.now) × (min result 1 + t.old.next ≤ min waits 1 + t.new.next) }
+    ensures next { (t.old.next ≤ t.new.next) × (t.new.next ≤ length posts.now) }
+    ensures room { Fits t.new.notes (length posts.now - t.new.next) }
+    ensures begins { t.new.moment ≡ t.old.moment }
+    ensures fresh { (t.new.inside ≡ false) × (t.new.instrs ≡ 0) × (t.new.resumed ≡ t.old.resumed) }
+    ensures flags { m.new.flags ≡ m.old.flags }
+{
+    t.inside = false;
+    t.instrs = 0;
+    let before = t.next;
+    take_due(m, form, posts, t);
+    posted_last(waits, &posts[before..t.next])
+}
+
+/// Whether no sample is posted and no post is left.
+fn is_over<M: Mem>(m: &Machine<M>, firmware: &Firmware, posts: &[Post], t: &Tally<Room<()>>) -> bool
+    requires { t.now.next ≤ length posts.now }
+    ensures { result ≡ (is_empty (drop t.now.next posts.now)
+        && (slice_index m.now.state.mem firmware.now.memory_map.ready == 0)) }
+{
+    if t.next == posts.len() {
+        m.peek(firmware.memory_map.ready) == 0
+    } else {
+        false
+    }
+}
+
+/// Goes on by a turn, unless the run is over. Answers whether the code waits again.
+fn next_turn<M: Mem>(
+    m: &mut Machine<M>,
+    firmware: &Firmware,
+    samples: &[Sample],
+    posts: &[Post],
+    st: &mut Stand<Room<()>>,
+    waits: &mut u32,
+    answers: &mut Vec<Answer>,
+    last: u32,
+) -> bool
+    requires outputs { (firmware.now.outputs ≤ 4) × (firmware.now.memory_map.outputs + 8 < 2 ^ 16) }
+    requires good { AreGoodPosts (length samples.now) posts.now }
+    requires steady { IsSteady Fits posts.now st.old }
+    requires resumed { st.old.tally.resumed ≤ st.old.tally.moment }
+    requires most { (st.old.tally.moment ≤ last) × (last ≤ 4000000000) }
+    requires waits { waits.old ≤ length samples.now }
+    requires answers { (vec_len answers.old + min waits.old 1 ≤ st.old.tally.next)
+        × (length posts.now ≤ vec_capacity answers.old) }
+    ensures goes { result ≡ true → (n : ℕ)
+        → with_rest (map answer_seen answers.old.items) st.old.tally
+        (turns_from m.old.flags firmware.now (map input_bytes samples.now) last (suc n) st.old.tally.moment waits.old
+        (drop st.old.tally.next posts.now) m.old.state)
+        ≡ with_rest (map answer_seen answers.new.items) st.new.tally
+        (turns_from m.old.flags firmware.now (map input_bytes samples.now) last n st.new.tally.moment waits.new
+        (drop st.new.tally.next posts.now) m.new.state) }
+    ensures ends { result ≡ false → (n : ℕ)
+        → with_rest (map answer_seen answers.old.items) st.old.tally
+        (turns_from m.old.flags firmware.now (map input_bytes samples.now) last (suc n) st.old.tally.moment waits.old
+        (drop st.old.tally.next posts.now) m.old.state)
+        ≡ counted_at (map answer_seen answers.new.items) st.new.tally }
+    ensures steady { result ≡ true → IsSteady Fits posts.now st.new }
+    ensures resumed { result ≡ true → st.new.tally.resumed ≤ st.new.tally.moment }
+    ensures most { st.new.tally.moment ≤ last }
+    ensures waits { waits.new ≤ length samples.now }
+    ensures answers { result ≡ true → (vec_len answers.new + min waits.new 1 ≤ st.new.tally.next)
+        × (length posts.now ≤ vec_capacity answers.new) }
+    ensures flags { m.new.flags ≡ m.old.flags }
+{
+    let begun = st.tally.moment;
+    let form = WithPosts {
+        firmware,
+        samples,
+        begun,
+    };
+    let seen = look(m, &form, posts, &mut st.tally, *waits);
+    if is_over(m, firmware, posts, &st.tally) {
+        return false;
+    }
+    let looked = st.tally.next;
+    if !turn(m, &form, posts, st, last) {
+        return false;
+    }
+    *waits = end_turn(
+        m,
+        firmware,
+        samples,
+        &posts[looked..st.tally.next],
+        begun,
+        &st.tally,
+        seen,
+        answers,
+    );
+    true
+}
+
+/// Goes on to the run's end.
+pub(crate) fn run_turns<M: Mem>(
+    m: &mut Machine<M>,
+    firmware: &Firmware,
+    samples: &[Sample],
+    posts: &[Post],
+    st: &mut Stand<Room<()>>,
+    answers: &mut Vec<Answer>,
+    last: u32,
+)
+    requires outputs { (firmware.now.outputs ≤ 4) × (firmware.now.memory_map.outputs + 8 < 2 ^ 16) }
+    requires good { AreGoodPosts (length samples.now) posts.now }
+    requires begins { (st.old.tally.moment ≡ 0) × (st.old.tally.next ≡ 0) × (st.old.tally.resumed ≡ 0) }
+    requires steady { IsSteady Fits posts.now st.old }
+    requires most { last ≤ 4000000000 }
+    requires answers { (vec_len answers.old ≡ 0) × (length posts.now ≤ vec_capacity answers.old) }
+    ensures { counted_at (map answer_seen answers.new.items) st.new.tally
+        ≡ with_rest (map answer_seen answers.old.items) st.old.tally
+        (turns_from m.old.flags firmware.now (map input_bytes samples.now) last most_turns 0 0 posts.now m.old.state) }
+{
+    let mut waits = 0;
+    let mut left = MOST_TURNS;
+    while left > 0 {
+        if !next_turn(m, firmware, samples, posts, st, &mut waits, answers, last) {
+            return;
+        }
+        left -= 1;
+    }
+}

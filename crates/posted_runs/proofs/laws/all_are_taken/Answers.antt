@@ -1,5 +1,0 @@
-use Rattle.posted_runs.proofs.LastOnes.{all_are_taken}
-use Rattle.posted_runs.proofs.laws.all_are_taken.Goals as goal
-
-pub returns : goal.returns
-returns c = all_are_taken

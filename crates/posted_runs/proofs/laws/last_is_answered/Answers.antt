@@ -1,5 +1,0 @@
-use Rattle.posted_runs.proofs.LastOnes.{last_is_answered}
-use Rattle.posted_runs.proofs.laws.last_is_answered.Goals as goal
-
-pub returns : goal.returns
-returns c = last_is_answered

@@ -1,5 +1,0 @@
-use Rattle.posted_runs.proofs.AnswerRuns.{posted_turns_follow}
-use Rattle.posted_runs.proofs.laws.posted_turns_follow.Goals as goal
-
-pub returns : goal.returns
-returns c = posted_turns_follow c.turn_laws.ensures

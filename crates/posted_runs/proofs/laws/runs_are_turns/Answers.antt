@@ -1,5 +1,0 @@
-use Rattle.posted_runs.proofs.AllTurns.{runs_are_turns}
-use Rattle.posted_runs.proofs.laws.runs_are_turns.Goals as goal
-
-pub returns : goal.returns
-returns c = runs_are_turns c.turn_laws.ensures

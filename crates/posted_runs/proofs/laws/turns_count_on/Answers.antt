@@ -1,5 +1,0 @@
-use Rattle.posted_runs.proofs.Shifting.{runs_count_on}
-use Rattle.posted_runs.proofs.laws.turns_count_on.Goals as goal
-
-pub returns : goal.returns
-returns c = runs_count_on _ _ _

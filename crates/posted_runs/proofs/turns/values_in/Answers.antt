@@ -1,8 +1,0 @@
-use Rattle.std.proofs.Common.{◌∙◌, arith}
-use Rattle.posted_runs.proofs.turns.values_in.Goals as goal
-
-pub returns : goal.returns
-returns g c =
-    let few = c.requires in
-    c.answers.ensures
-    ∙ c.answers_are_values.ensures c.args.firmware.now c.args.m.now.state (omega (arith, few.0, few.1))

@@ -1,0 +1,56 @@
+-- The run of a firmware with watched tables: what the program's answer to `srun` says.
+-- Beside the promise.
+use Rattle.std.specs.Prelude.{◌≡◌, ℕ, ◌≤◌, List, All, map}
+use Rattle.fuzzy_meaning.specs.declared.block.Block.{Block}
+use Rattle.watched_code.specs.Watched.{watched_bound}
+use Rattle.alone_code.specs.declared.firmware.Firmware.{Firmware}
+use Rattle.box_tree.specs.declared.cert.CertKind.TheVariants.{Named}
+use Rattle.byte_scaling.specs.declared.width.Width.TheVariants.{Byte}
+use Rattle.srecord.specs.Texts.{GivesImage}
+use Rattle.trace_io.specs.{Traces.Spells as SpellsTrace, declared.sample.Sample.Sample}
+use Rattle.interrupt_plan.specs.{PlanTexts.Spells as SpellsPlan, UpsetTexts.SpellsUpsets}
+use Rattle.interrupt_plan.specs.declared.{Request.Request, upsets.Upset.Upset}
+use Rattle.alone_runs.specs.Rows.{input_bytes}
+use Rattle.watched_runs.specs.{Answering.AnswersUnderUpsets, Rows.FaultSeen, Rows.faults_of, Rows.upset_rows}
+use Rattle.run_reports.specs.Faultless.{FaultlessAreWithinErrors}
+use Rattle.command_parts.specs.{Certs.AcceptsCert, Firmwares.GivesWatched}
+
+-- the contents of the six files
+pub record WatchedFiles : Type 0 where
+  pub fcl : List ℕ
+  pub image : List ℕ
+  pub cert : List ℕ
+  pub trace : List ℕ
+  pub plan : List ℕ
+  pub upsets : List ℕ
+
+-- what is told of a run: an error for each output, in millionths of its range, the bound on instructions, and a row for
+-- each sample, with FAULT
+pub record WatchedReport : Type 0 where
+  pub errors : List ℕ
+  pub bound : ℕ
+  pub rows : List FaultSeen
+
+-- Compile accepts the FCL text, IMAGE holds exactly the image of its firmware with watched tables, the checker accepts
+-- the certificate, the trace spells samples within their inputs' ranges, the plan interrupts that write only free
+-- bytes, and the upsets bytes of the image's tables. The report is of the firmware's run: the emulated image answers
+-- each sample as it does without interrupts, by the block over bytes and FAULT 0, but by the outputs' defaults and
+-- FAULT 1 where a byte of its tables is another, in at most the printed number of instructions; and where FAULT is 0 it
+-- answers within the printed error of FCL's exact fraction, with NC as long as FAULT was 0 before.
+pub record WatchedRun (flags : ℕ) (files : WatchedFiles) (report : WatchedReport) : Type 0 where
+  pub block : Block
+  pub firmware : Firmware
+  pub compiled : GivesWatched files.fcl block firmware
+  pub image : GivesImage files.image firmware.image
+  pub accepted : AcceptsCert Named Byte block files.cert report.errors
+  pub samples : List Sample
+  pub in_range : SpellsTrace block.inputs files.trace samples
+  pub plan : List Request
+  pub good_plan : SpellsPlan files.plan plan
+  pub upsets : List Upset
+  pub good_upsets : SpellsUpsets firmware.image.bytes files.upsets upsets
+  pub ran : report.rows ≡ faults_of firmware (upset_rows firmware (map input_bytes samples) plan upsets flags)
+  pub answers : AnswersUnderUpsets block firmware flags (map input_bytes samples) plan upsets report.rows
+  pub bound : report.bound ≡ watched_bound block
+  pub instructions : All (λ r. r.row.instrs ≤ report.bound) report.rows
+  pub within : FaultlessAreWithinErrors block report.errors samples report.rows

@@ -1,0 +1,23 @@
+use Rattle.two_level_code.proofs.two.compile_two.Goals as goal
+
+pub returns-clause-two : goal.returns-clause-two
+returns-clause-two c = record {
+  image = c.in-Ok-joint_image.ensures;
+  slow_alone = record { firmware = c.in-Ok.ensures.firmware; narrow = c.in-Ok.ensures.narrow };
+  fast_alone = record { firmware = c.in-Ok-compile.ensures.firmware; narrow = c.in-Ok-compile.ensures.narrow };
+}
+
+pub returns-clause-beside : goal.returns-clause-beside
+returns-clause-beside c =
+    (c.two_stand_beside.ensures c.args.slow.now c.args.fast.now _ c.requires.slow c.in-Ok.ensures.limits c.requires.fast
+    c.in-Ok-compile.ensures.limits (returns-clause-two c)).0
+
+pub returns-clause-slow_answers : goal.returns-clause-slow_answers
+returns-clause-slow_answers c =
+    (c.two_stand_beside.ensures c.args.slow.now c.args.fast.now _ c.requires.slow c.in-Ok.ensures.limits c.requires.fast
+    c.in-Ok-compile.ensures.limits (returns-clause-two c)).1
+
+pub returns-clause-fast_answers : goal.returns-clause-fast_answers
+returns-clause-fast_answers c =
+    c.fast_answers_entered.ensures c.args.slow.now c.args.fast.now _ c.requires.slow c.in-Ok.ensures.limits
+    c.requires.fast c.in-Ok-compile.ensures.limits (returns-clause-two c)

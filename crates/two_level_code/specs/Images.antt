@@ -1,0 +1,49 @@
+-- The image of a slow firmware with a fast block.
+-- Beside the promise.
+use Rattle.std.specs.Prelude.{◌≡◌, ℕ, ◌-◌, false, List, [], ◌∷◌, ◌++◌}
+use Rattle.fuzzy_meaning.specs.declared.block.Block.{Block}
+use Rattle.cpu12_isa.specs.declared.instr.Instr.TheVariants.{Rts}
+use Rattle.cpu12_asm.specs.declared.items.Item.{Item}
+use Rattle.alone_code.specs.declared.firmware.Firmware.{Firmware}
+use Rattle.alone_code.specs.{Code.frame_code, Images.vector_items, Images.IsImageOf, Firmwares.IsFirmwareOf}
+use Rattle.byte_scaling.specs.declared.width.Width.TheVariants.{Byte}
+use Rattle.eval_code.specs.{MemoryMaps.main_map, Bounds.instruction_bound, Bounds.step_bound, Items.block_items}
+use Rattle.two_level_code.specs.declared.two.Two.{Two}
+use Rattle.two_level_code.specs.MemoryMaps.{fast_front, fast_back, fast_map, slow_map}
+
+-- the fast block's code and data
+abbrev pub fast_items : Block → List Item
+fast_items b = block_items fast_map b Byte fast_front fast_back
+
+-- those of the slow firmware that stands alone, but for the interrupt's vector
+abbrev pub slow_items : Block → List Item
+slow_items b = block_items main_map b Byte (frame_code main_map) (Rts ∷ []) ++ vector_items slow_map
+
+-- the first, and then the others
+abbrev pub two_items : Block → Block → List Item
+two_items slow fast = fast_items fast ++ slow_items slow
+
+-- a block's firmware that answers bytes and stands alone
+pub record IsAlone (b : Block) (f : Firmware) : Type 0 where
+  pub firmware : IsFirmwareOf b f
+  pub narrow : f.wide ≡ false
+
+-- the bounds of a firmware are the block's, for answers of bytes
+pub record HasByteBounds (b : Block) (f : Firmware) : Type 0 where
+  pub instructions : f.instr_bound ≡ instruction_bound Byte b
+  pub steps : f.step_bound ≡ step_bound Byte b
+
+-- Those of each firmware that answers bytes and stands alone are.
+abbrev pub AloneHasByteBounds : Type 0
+AloneHasByteBounds = (b : Block) (f : Firmware) → IsAlone b f → HasByteBounds b f
+
+-- The image has just the bytes of both, and the firmwares are those of each block alone.
+pub record IsTwoOf (slow fast : Block) (two : Two) : Type 0 where
+  pub image : IsImageOf (two_items slow fast) two.image
+  pub slow_alone : IsAlone slow two.slow
+  pub fast_alone : IsAlone fast two.fast
+
+-- the most instructions or steps of the fast code, by those of its block alone: two instructions stand around EVAL in
+-- the place of six
+abbrev pub fast_most : ℕ → ℕ
+fast_most bound = bound - 4

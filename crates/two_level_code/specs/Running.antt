@@ -1,0 +1,89 @@
+-- The fast code from where an interrupt enters it up to its return.
+-- Beside the promise.
+use Rattle.std.specs.Prelude.{◌≡◌, ℕ, ◌+◌, ◌^◌, ◌<◌, ◌≤◌, ◌⊎◌, true, false, Ok, List, length, slice_index}
+use Rattle.fuzzy_meaning.specs.{declared.block.Block.Block, Blocks.IsValid}
+use Rattle.rule_layout.specs.{Slots.slots_of, Layouts.IsWithinLimits}
+use Rattle.cpu12_isa.specs.declared.instr.Instr.TheVariants.{Andcc, Rti}
+use Rattle.cpu12_isa.specs.Flags.{has, interrupts_masked, x_masked}
+use Rattle.cpu12_isa.specs.{Code.decode_at, Code.six_from, Regions.stack_start, Regions.stack_end}
+use Rattle.cpu12_parts.specs.{State.State, Executions.Execution, Executions.all_steps}
+use Rattle.cpu12_parts.specs.Touching.{IsIn, Each, IsInstructionOver, IsBetween}
+use Rattle.cpu12_emul.specs.Image.{image_memory}
+use Rattle.byte_scaling.specs.declared.width.Width.TheVariants.{Byte}
+use Rattle.eval_code.specs.{Widths.answer, Bounds.instruction_bound, Bounds.step_bound, Firing.AreInputBytes}
+use Rattle.eval_code.specs.Evaluation.{Reads, Writes, HasBytes, HasAnswers}
+use Rattle.two_level_code.specs.declared.two.Two.{Two}
+use Rattle.two_level_code.specs.{MemoryMaps.fast_map, MemoryMaps.fast_rom_end, Images.fast_most, Images.IsTwoOf}
+
+-- the bytes of the fast block's ROM are an image's, and 0 where it has none
+abbrev pub HasFastRom : List ℕ → List ℕ → Type 0
+HasFastRom image mem =
+    (at : ℕ) → fast_map.code ≤ at → at < fast_rom_end → slice_index mem at ≡ slice_index image at
+
+-- an image whose fast code lets interrupts in at once
+abbrev pub LetsIn : List ℕ → Type 0
+LetsIn image = decode_at image fast_map.code ≡ Ok (Andcc 0xEF)
+
+-- SP in the fast code: the nine bytes of its interrupt's frame stand from there on, and one more interrupt has room
+abbrev pub IsFastStack : ℕ → Type 0
+IsFastStack sp = (stack_start + 15 ≤ sp) × (sp + 9 ≤ stack_end)
+
+-- where the fast code stands, with what is fetched behind it
+abbrev pub fast_code : ℕ × ℕ
+fast_code = (fast_map.code, 2434)
+
+-- what each state in it keeps
+pub record IsInFast (image : List ℕ) (s : State) : Type 0 where
+  pub between : IsBetween s
+  pub rom : HasFastRom image s.mem
+  pub stack : IsFastStack s.regs.sp
+  pub code : Each (IsIn fast_code) (six_from s.regs.pc)
+
+-- An interrupt enters it with these bytes of inputs, after these answers: I is set, and the sums are none or on the
+-- stack, whose they may be.
+pub record IsEntered (b : Block) (image bytes : List ℕ) (before : ℕ → ℕ) (s : State) : Type 0 where
+  pub inside : IsInFast image s
+  pub pc : s.regs.pc ≡ fast_map.code
+  pub masked : has s.regs.ccr interrupts_masked ≡ true
+  pub inputs : HasBytes s.mem fast_map.inputs bytes
+  pub outputs : HasAnswers fast_map b Byte before s.mem
+
+-- A whole instruction of it before the return reads and writes what is the fast block's own, leaves SP and X, and
+-- behind it I is 0.
+pub record IsFastStep (image : List ℕ) (flags d : ℕ) (s t : State) : Type 0 where
+  pub inside : IsInFast image s
+  pub instruction : IsInstructionOver (Reads fast_map) (Writes fast_map) flags d s t
+  pub stack : t.regs.sp ≡ s.regs.sp
+  pub x : has t.regs.ccr x_masked ≡ has s.regs.ccr x_masked
+  pub unmasked : has t.regs.ccr interrupts_masked ≡ false
+
+-- Such instructions lead to its return, with the answers after those before, and leave SP and X; outside the answers'
+-- bytes and the slots memory is as it was. With the return they are no more than the bounds say.
+pub record IsFastAnswered (b : Block) (image : List ℕ) (flags : ℕ) (bytes : List ℕ) (before : ℕ → ℕ) (s t : State)
+    : Type 0 where
+  pub ds : List ℕ
+  pub execution : Execution (IsFastStep image flags) ds s t
+  pub inside : IsInFast image t
+  pub returns : decode_at t.mem t.regs.pc ≡ Ok Rti
+  pub stack : t.regs.sp ≡ s.regs.sp
+  pub x : has t.regs.ccr x_masked ≡ has s.regs.ccr x_masked
+  pub unmasked : has t.regs.ccr interrupts_masked ≡ false
+  pub answers : HasAnswers fast_map b Byte (λ o. answer Byte b o bytes (before o)) t.mem
+  pub elsewhere : (at : ℕ) → (at < fast_map.outputs) ⊎ (fast_map.outputs + length b.outputs ≤ at)
+      → (at < fast_map.slots) ⊎ (fast_map.slots + length (slots_of b) ≤ at)
+      → slice_index t.mem at ≡ slice_index s.mem at
+  pub instructions : length ds + 1 ≤ fast_most (instruction_bound Byte b)
+  pub steps : all_steps ds + 1 ≤ fast_most (step_bound Byte b)
+
+-- From wherever an interrupt enters it the fast code answers so, whatever the open flags are.
+abbrev pub AnswersEntered : Block → Two → Type 0
+AnswersEntered b two =
+    (flags : ℕ) (bytes : List ℕ) (before : ℕ → ℕ) (s : State) → flags < 2 ^ 8 → AreInputBytes b bytes
+    → IsEntered b (image_memory two.image.bytes) bytes before s
+    → (t : State) × IsFastAnswered b (image_memory two.image.bytes) flags bytes before s t
+
+-- That of two blocks does.
+abbrev pub FastAnswersEntered : Type 0
+FastAnswersEntered =
+    (slow fast : Block) (two : Two) → IsValid slow → IsWithinLimits slow → IsValid fast → IsWithinLimits fast
+    → IsTwoOf slow fast two → AnswersEntered fast two

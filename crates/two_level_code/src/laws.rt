@@ -1,0 +1,49 @@
+//! Laws of two blocks at two levels.
+ghost use Rattle.two_level_code.specs.{Alike.TwosAreOne, Images.AloneHasByteBounds, Running.FastAnswersEntered};
+ghost use Rattle.two_level_code.specs.Standing.{TwoStandBeside};
+
+use alone_code::laws::{
+    firmware_answers_beside, firmware_arrives_alike, firmwares_are_one, images_are_one,
+};
+use cpu12_emul::laws::holds_image;
+use cpu12_isa::decode::decodes_encoded;
+use cpu12_isa::laws::{stays_fit, writes_stay};
+use eval_code::laws::{blocks_are_placed, eval_answers, placed_items_stand};
+
+/// Wherever an interrupt enters the fast code it leads to its return with its block's answers, within its
+/// bounds, touches what is the fast block's alone, and leaves X.
+pub fn fast_answers_entered()
+    ensures { FastAnswersEntered }
+{
+    blocks_are_placed();
+    eval_answers();
+    decodes_encoded();
+    stays_fit();
+    writes_stay();
+}
+
+/// The slow firmware answers as it does alone, beside interrupts that may change all that is the fast
+/// block's, and the free bytes; and an interrupt enters the fast code, which lets interrupts in at once.
+pub fn two_stand_beside()
+    ensures { TwoStandBeside }
+{
+    blocks_are_placed();
+    decodes_encoded();
+    holds_image();
+    placed_items_stand();
+    firmware_answers_beside();
+    firmware_arrives_alike();
+}
+
+/// A block's firmware that answers bytes and stands alone has the block's bounds.
+pub fn alone_has_byte_bounds()
+    ensures { AloneHasByteBounds }
+{}
+
+/// Two blocks have one firmware at two levels.
+pub fn twos_are_one()
+    ensures { TwosAreOne }
+{
+    images_are_one();
+    firmwares_are_one();
+}

@@ -1,0 +1,102 @@
+//! Two blocks at two levels.
+ghost use Rattle.std.specs.Prelude.{◌≡◌, IfOk, IfErr, OnOk};
+ghost use Rattle.fuzzy_meaning.specs.Blocks.{IsValid};
+ghost use Rattle.two_level_code.specs.{Images.IsTwoOf, Images.fast_most, Faults.AreWithinLimits, Faults.IsTwoFaultOf};
+ghost use Rattle.two_level_code.specs.{Running.AnswersEntered, Standing.StandsBeside, Standing.SlowAnswersBeside};
+
+use crate::items::joint_image;
+use crate::laws::{fast_answers_entered, two_stand_beside};
+use alone_code::{Firmware, compile};
+use cpu12_asm::Image;
+use fuzzy_meaning::Block;
+use rule_layout::LayoutFault;
+use std::alloc::Global;
+use thiserror::Error;
+
+/// A slow block with a fast one that runs inside its interrupts.
+#[derive(Drop)]
+pub struct Two {
+    /// The bytes of both, and where the slow one starts.
+    pub image: Image,
+    /// The slow block's firmware, as it stands alone.
+    pub slow: Firmware,
+    /// The fast block's firmware, as it stands alone.
+    pub fast: Firmware,
+}
+
+/// Why two blocks are refused: for the slow one's rules, or else for the fast one's, or for want of memory,
+/// which says nothing of either.
+#[derive(Clone, Copy, PartialEq, Eq, Debug, Error)]
+pub enum TwoFault {
+    /// The slow block's rules can't be laid out. It is never `LayoutFault::Memory`.
+    #[error("the slow block's rules can't be laid out")]
+    Slow(LayoutFault),
+    /// The fast block's rules can't be laid out. It is never `LayoutFault::Memory`.
+    #[error("the fast block's rules can't be laid out")]
+    Fast(LayoutFault),
+    /// There was no memory for the firmware.
+    #[error("no memory")]
+    Memory,
+}
+
+impl Two {
+    /// The most instructions that the fast code takes, its return counted, REV, REVW and WAV as one each.
+    pub fn fast_bound(&self) -> u32
+        ensures { result ≡ fast_most self.now.fast.instr_bound }
+    {
+        fast_most(self.fast.instr_bound)
+    }
+
+    /// The most steps that the fast code takes, its return counted.
+    pub fn fast_step_bound(&self) -> u32
+        ensures { result ≡ fast_most self.now.fast.step_bound }
+    {
+        fast_most(self.fast.step_bound)
+    }
+}
+
+/// How many instructions or steps the fast code takes at most, by the bound of its block alone.
+fn fast_most(bound: u32) -> u32
+    ensures { result ≡ fast_most bound }
+{
+    bound.saturating_sub(4)
+}
+
+/// The firmware of a slow block with a fast block that runs inside its interrupts. It is refused where
+/// `compile` refuses the slow block, or else the fast one.
+pub fn compile_two(alloc: Global, slow: &Block, fast: &Block) -> Result<Two, TwoFault>
+    requires slow { IsValid slow.now }
+    requires fast { IsValid fast.now }
+    ensures two { IfOk result (IsTwoOf slow.now fast.now) }
+
+    // The slow firmware answers as it does alone beside interrupts to which all is open that is the fast
+    // block's; wherever one enters the fast code, this leads to its return with its block's answers.
+    ensures beside { IfOk result (StandsBeside fast.now) }
+    ensures slow_answers { IfOk result (SlowAnswersBeside slow.now) }
+    ensures fast_answers { IfOk result (AnswersEntered fast.now) }
+
+    // Refused exactly where the rules of one can't be laid out.
+    ensures limits { OnOk result (AreWithinLimits slow.now fast.now) }
+    ensures fault { IfErr result (IsTwoFaultOf slow.now fast.now) }
+{
+    two_stand_beside();
+    fast_answers_entered();
+    let slow_alone = match compile(alloc, slow) {
+        Ok(firmware) => firmware,
+        Err(LayoutFault::Memory) => return Err(TwoFault::Memory),
+        Err(fault) => return Err(TwoFault::Slow(fault)),
+    };
+    let fast_alone = match compile(alloc, fast) {
+        Ok(firmware) => firmware,
+        Err(LayoutFault::Memory) => return Err(TwoFault::Memory),
+        Err(fault) => return Err(TwoFault::Fast(fault)),
+    };
+    let Ok(image) = joint_image(alloc, slow, fast) else {
+        return Err(TwoFault::Memory);
+    };
+    Ok(Two {
+        image,
+        slow: slow_alone,
+        fast: fast_alone,
+    })
+}

@@ -1,0 +1,63 @@
+-- The state in which the slow firmware waits for its first sample has the fast code beside it.
+use Rattle.std.proofs.Common.{◌≡◌, ◌==◌, ℕ, zero, suc, ◌^◌, ◌<◌, ◌≤◌, Bool, true, false, if◌then◌else◌, Ok, Err, List}
+use Rattle.std.proofs.Common.{[], length, refl, arith}
+use Rattle.std.specs.Prelude.{Result}
+use Rattle.fuzzy_meaning.specs.declared.block.Block.{Block}
+use Rattle.cpu12_isa.specs.Fits.{AreBytes}
+use Rattle.cpu12_parts.specs.{State.State, Fits.FitsState}
+use Rattle.cpu12_emul.specs.{Fits.StepFits, Image.image_memory, Step.Next, Step.next_of, Step.reset_with}
+use Rattle.run_forms.specs.Rows.{then_arrival, arrival}
+use Rattle.alone_runs.specs.Answering.{FirstAlike}
+use Rattle.two_level_code.specs.{declared.two.Two.Two, MemoryMaps.is_open_to_fast, Standing.StandsBeside}
+use Rattle.two_level_runs.specs.{Rows.first_two, Levels.FastStands}
+use Rattle.two_level_runs.proofs.Standing.{code_stays, outputs_stay}
+
+-- steps on the way leave what fits
+arrival_fits : StepFits → (flags loop n : ℕ) (s : State) → flags < 2 ^ 8 → FitsState s
+    → FitsState (arrival flags loop n s)
+unfolding arrival
+arrival_fits law flags loop zero s hf fits = fits
+arrival_fits law flags loop (suc n) s hf fits =
+    by (s.regs.pc == loop) (λ t h. arrival_fits law flags loop n t hf h)
+  where
+    step : ((t : State) → FitsState t → FitsState (arrival flags loop n t)) → (o : Result Next ℕ) → next_of flags s ≡ o
+        → FitsState (then_arrival s (arrival flags loop n) o)
+    step rest (Ok next) e = rest next.state (law flags s next hf fits e)
+    step rest (Err byte) e = fits
+
+    by : (t : Bool) → ((t : State) → FitsState t → FitsState (arrival flags loop n t))
+        → FitsState (if t then s else then_arrival s (arrival flags loop n) (next_of flags s))
+    by true rest = fits
+    by false rest = step rest (next_of flags s) refl
+
+reset_fits : (mem : List ℕ) → AreBytes mem → FitsState (reset_with mem)
+reset_fits mem bytes = record {
+  regs = record {
+    a = omega arith;
+    b = omega arith;
+    x = omega arith;
+    y = omega arith;
+    sp = omega arith;
+    pc = (let high = bytes 65534 in let low = bytes 65535 in omega (arith, high, low));
+    ccr = omega arith;
+  };
+  temps = tt;
+  mem = bytes;
+}
+
+pub first_stands : StepFits → (fast : Block) (two : Two) (flags : ℕ) (samples : List (List ℕ)) → flags < 2 ^ 8
+    → length fast.outputs ≤ 8 → StandsBeside fast two
+    → FirstAlike is_open_to_fast two.slow flags (image_memory two.image.bytes) (first_two two flags)
+    → FastStands fast two samples [] (first_two two flags)
+first_stands law fast two flags samples hf few stand alike =
+    let image = image_memory two.image.bytes in
+    let fits = arrival_fits law flags two.slow.memory_map.wait two.slow.step_bound (reset_with image) hf
+    (reset_fits image stand.bytes) in
+    record {
+      bytes = fits.mem;
+      code = code_stays image image (first_two two flags).mem alike.open_bytes
+          (record { rom = λ at lo hi. refl; enters = stand.enters });
+      outputs = outputs_stay fast (λ o. 0) image (first_two two flags).mem few alike.open_bytes stand.outputs;
+      answers = tt;
+      good = λ k x lt. absurd (omega arith);
+    }

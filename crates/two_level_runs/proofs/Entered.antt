@@ -1,0 +1,47 @@
+-- A state from which the fast code is entered.
+use Rattle.std.proofs.Common.{ℕ, List, refl, inl, arith}
+use Rattle.fuzzy_meaning.specs.declared.block.Block.{Block}
+use Rattle.cpu12_parts.specs.{declared.temps.Temps.TheVariants.Free, State.State}
+use Rattle.cpu12_emul.specs.Image.{image_memory, HoldsImage}
+use Rattle.two_level_code.specs.{declared.two.Two.Two, Standing.StandsBeside, Standing.TwoStandBeside}
+use Rattle.two_level_runs.specs.{Entered.FastIsEntered, Outer.CanEnter, Outer.OuterEnters}
+
+-- the image's memory, with SP at the stack's end
+beginning : List ℕ → State
+beginning mem = record {
+  regs = record { a = 0; b = 0; x = 0; y = 0; sp = 0x2000; pc = 0; ccr = record { 0 = 0 } };
+  temps = Free;
+  mem = mem;
+}
+
+can_begin : HoldsImage → (fast : Block) (two : Two) → StandsBeside fast two
+    → CanEnter fast (image_memory two.image.bytes) (λ o. 0) (beginning (image_memory two.image.bytes))
+unfolding beginning
+can_begin holds fast two stand = record {
+  off = inl refl;
+  size = (holds two.image.bytes).0;
+  bytes = stand.bytes;
+  fits = record {
+    a = omega arith;
+    b = omega arith;
+    x = omega arith;
+    y = omega arith;
+    sp = omega arith;
+    pc = omega arith;
+    ccr = omega arith;
+  };
+  low = omega arith;
+  high = omega arith;
+  code = record { rom = λ at lo hi. refl; enters = stand.enters };
+  outputs = stand.outputs;
+}
+
+pub fast_is_entered : HoldsImage → TwoStandBeside → OuterEnters → FastIsEntered
+unfolding beginning
+fast_is_entered holds stands enters slow fast two bytes vs ls vf lf is input =
+    let stand = (stands slow fast two vs ls vf lf is).0 in
+    let image = image_memory two.image.bytes in
+    let there =
+    enters fast image bytes (λ o. 0) (beginning image) vf.few_inputs (omega (arith, vf.few_outputs)) input
+    (can_begin holds fast two stand) in
+    (beginning image, (refl, there))

@@ -1,0 +1,185 @@
+-- Runs at two levels answer.
+use Rattle.std.proofs.Common.{◌≡◌, ℕ, ◌≤◌, List, [], map, length, ap, sym, ◌∙◌, subst}
+use Rattle.std.specs.Prelude.{All, Option}
+use Rattle.cpu12_parts.specs.State.{State}
+use Rattle.cpu12_emul.specs.{Image.image_memory, Simulation.OnStackOrNone}
+use Rattle.run_law.specs.{Forms.RowSeen, Forms.Rows, Moments.TakenAtOnce}
+use Rattle.run_law.specs.Following.{all_onto, AllFollow, RunsFollow}
+use Rattle.interrupt_plan.specs.{declared.levels.Level.Level, Levels.IsGoodLevel}
+use Rattle.byte_scaling.specs.declared.width.Width.TheVariants.{Byte}
+use Rattle.eval_code.specs.Bounds.{step_bound}
+use Rattle.alone_code.specs.Firmwares.{IsFirmwareOf}
+use Rattle.two_level_code.specs.{Images.fast_most, MemoryMaps.is_open_to_fast}
+use Rattle.two_level_code.specs.Standing.{StandsBeside, TwoStandBeside}
+use Rattle.alone_runs.specs.{Rows.first_state, Rows.firmware_rows, Following.rows_of_samples, Given.RequestsAreGood}
+use Rattle.alone_runs.specs.Answering.{AnswerBlock, AnswersUnder, AnswersUnderPlans, RunsBeside, FirmwareRunsBeside}
+use Rattle.alone_runs.specs.Answering.{FirstAlike, FirstStatesAlike, FirstStatesAgree}
+use Rattle.firmware_runs.specs.Facts.{FactsBeside, FactsAlone}
+use Rattle.run_forms.proofs.Algebra.{all_onto_all}
+use Rattle.two_level_runs.specs.{Runs.FastSeen, Inside.AreOnStack, Levels.Levels, Levels.fitted_form}
+use Rattle.two_level_runs.specs.{Levels.FastStands}
+use Rattle.two_level_runs.proofs.{Arriving.first_stands, LevelPlans.plan_good, LevelPlans.levels_are_good}
+use Rattle.two_level_runs.proofs.{LevelSound.level_sound, LevelTelling.steps_are, LevelTelling.rows_told}
+use Rattle.two_level_runs.specs.Rows.{levels_of, level_form, first_two, two_rows}
+use Rattle.two_level_runs.specs.Answering.{plan_of, fast_runs_of, AreTold, taken_by, AnswersUnderLevels}
+use Rattle.two_level_runs.proofs.FastRuns.{Answer, runs_in, runs_are, all_answers, all_told, few_steps}
+use Rattle.two_level_runs.proofs.Fitting.{AreFitted, all_fitted, rows_fitted}
+use Rattle.two_level_runs.proofs.LevelRows.{SlowFacts, complete, same_numbers, same_rows, same_taken, on_stack}
+use Rattle.two_level_runs.proofs.LevelServing.{LevelLaws, Given, bounds, few_outputs}
+
+-- the laws of lower crates, and the law on runs
+pub record AnswerLaws : Type 0 where
+  pub levels : LevelLaws
+  pub two_stand_beside : TwoStandBeside
+  pub firmware_runs_beside : FirmwareRunsBeside
+  pub first_states_alike : FirstStatesAlike
+  pub first_states_agree : FirstStatesAgree
+  pub taken_at_once : TakenAtOnce
+  pub answers_under_plans : AnswersUnderPlans
+  pub requests_are_good : RequestsAreGood
+  pub runs_follow : (x : Levels)
+      → RunsFollow OnStackOrNone is_open_to_fast (fitted_form x.flags x.two x.samples)
+      (FactsBeside is_open_to_fast x.flags x.two.slow)
+      (IsGoodLevel (length x.samples)) (FastStands x.fast x.two x.samples)
+
+pub answers_under_levels : AnswerLaws → AnswersUnderLevels
+answers_under_levels laws two flags slow_samples samples levels hf good slow fast vs ls vf lf is slow_inputs inputs =
+    record {
+      arrived = followed.arrived;
+      rows_are = rows_are;
+      slow_answers = subst (λ (rows : List (RowSeen (List ℕ))). AnswerBlock slow two.slow flags slow_samples rows)
+          (sym rows_are) under.answers;
+      taken = followed.taken
+          ∙ same_taken laws.taken_at_once flags two samples levels 1 runs.ns slow_samples first fitted_all
+          runs.complete
+          ∙ ap (λ (rows : List (RowSeen (List ℕ))). taken_by 1 levels (map (λ (r : RowSeen (List ℕ)). r.steps) rows))
+          (sym rows_of);
+      fast_numbers = subst
+          (λ (fs : List FastSeen). All (λ (f : FastSeen). (1 ≤ f.number) × (f.number ≤ length samples)) fs)
+          (sym fast_are)
+          (all_told fast two flags samples (λ f. (1 ≤ f.number) × (f.number ≤ length samples))
+          (λ before at l f h. (h.from, h.to)) [] all.told runs.ns slow_samples first told);
+      fast_answers = subst (λ (fs : List FastSeen). Answer fast two samples (λ o. 0) fs) (sym fast_are)
+          (all_answers fast two samples all.told [] own.answers).0;
+      fast_steps = subst (λ (fs : List FastSeen). All (λ (f : FastSeen). f.steps ≤ fast_most two.fast.step_bound) fs)
+          (sym fast_are)
+          (subst (λ (n : ℕ). All (λ (f : FastSeen). f.steps ≤ fast_most n) (runs_in all.told)) (sym bound)
+          (all_told fast two flags samples (λ f. f.steps ≤ fast_most (step_bound Byte fast))
+          (few_steps fast two flags samples) [] all.told runs.ns slow_samples first told));
+      told = subst (λ (ns : List ℕ). AreTold fast two flags samples [] all.told ns slow_samples first)
+          (sym (ap (map (λ (r : RowSeen (List ℕ)). r.steps)) rows_of
+          ∙ steps_are flags two (plan_of levels) 1 runs.ns slow_samples first runs.complete)) told;
+      stack = subst (λ (rows : List (RowSeen (List ℕ))). All (λ (r : RowSeen (List ℕ)). AreOnStack r.frames) rows)
+          (sym rows_of)
+          (on_stack flags two (plan_of levels) 1 runs.ns slow_samples first runs.complete);
+    }
+  where
+    x : Given
+    x = record {
+      laws = laws.levels;
+      slow = slow;
+      fast = fast;
+      two = two;
+      flags = flags;
+      samples = samples;
+      flags_fit = hf;
+      slow_valid = vs;
+      slow_limits = ls;
+      fast_valid = vf;
+      fast_limits = lf;
+      is_two = is;
+      inputs = inputs;
+    }
+
+    firmware : IsFirmwareOf slow two.slow
+    firmware = (let alone = is.slow_alone in alone.firmware)
+
+    stand : StandsBeside fast two
+    stand = (laws.two_stand_beside slow fast two vs ls vf lf is).0
+
+    runs : RunsBeside is_open_to_fast two.slow flags slow_samples
+    runs = laws.firmware_runs_beside is_open_to_fast slow two.slow flags slow_samples hf stand.leaves vs ls firmware
+        slow_inputs
+
+    first : State
+    first = first_state two.slow flags
+
+    alike : FirstAlike is_open_to_fast two.slow flags (image_memory two.image.bytes) (first_two two flags)
+    alike =
+        laws.first_states_alike is_open_to_fast slow two.slow flags (image_memory two.image.bytes) hf stand.leaves vs
+        ls firmware
+        stand.alike
+
+    begins : FastStands fast two samples [] (first_two two flags)
+    begins =
+        (let level_laws = laws.levels in
+        let bytes = level_laws.bytes in
+        first_stands bytes.step_fits fast two flags samples hf (few_outputs x) stand alike)
+
+    setting : Levels
+    setting = record {
+      two = two;
+      fast = fast;
+      flags = flags;
+      samples = samples;
+      sound =
+          level_sound x stand.leaves runs.low;
+    }
+
+    fitted_all : AreFitted slow_samples
+    fitted_all = all_fitted slow slow_samples vs.few_inputs slow_inputs
+
+    all : Rows (List ℕ) Level (Option FastSeen)
+    all = two_rows two slow_samples samples levels flags
+
+    followed : AllFollow OnStackOrNone is_open_to_fast (fitted_form flags two samples) (FastStands fast two samples) []
+        (λ k. levels_of k levels) 1 runs.ns slow_samples first all
+    followed =
+        subst (AllFollow OnStackOrNone is_open_to_fast (fitted_form flags two samples) (FastStands fast two samples) []
+        (λ k. levels_of k levels) 1 runs.ns slow_samples first)
+        (rows_fitted (level_form flags two samples) two.slow.step_bound (λ k. levels_of k levels) 1 slow_samples
+        (first_two two flags) fitted_all)
+        (laws.runs_follow setting (λ k. levels_of k levels)
+        (levels_are_good laws.requests_are_good (length samples) levels good) [] 1
+        two.slow.step_bound runs.ns slow_samples (first_two two flags) first runs.within
+        (complete flags two samples runs.ns slow_samples first fitted_all runs.complete)
+        (laws.first_states_agree is_open_to_fast two.slow flags (image_memory two.image.bytes)
+        (first_two two flags) alike)
+        begins)
+
+    own : FastStands fast two samples (all_onto all.told []) all.state
+    own = followed.own
+
+    under : AnswersUnder slow two.slow flags slow_samples (plan_of levels)
+        (firmware_rows two.slow slow_samples (plan_of levels) flags).rows
+    under =
+        laws.answers_under_plans two.slow flags slow_samples (plan_of levels) hf
+        (plan_good (length samples) levels good) slow vs ls
+        firmware slow_inputs
+
+    rows_of : all.rows ≡ rows_of_samples flags two.slow (plan_of levels) 1 runs.ns slow_samples first
+    rows_of = followed.rows_are
+        ∙ same_rows laws.taken_at_once flags two samples levels 1 runs.ns slow_samples first fitted_all runs.complete
+
+    numbers : runs.ns ≡ under.ns
+    numbers =
+        same_numbers (SlowFacts flags two) (FactsAlone flags two.slow) flags two.slow runs.ns under.ns slow_samples
+        first runs.complete
+        under.complete
+
+    rows_are : all.rows ≡ (firmware_rows two.slow slow_samples (plan_of levels) flags).rows
+    rows_are =
+        rows_of ∙ ap (λ (ns : List ℕ). rows_of_samples flags two.slow (plan_of levels) 1 ns slow_samples first) numbers
+        ∙ sym under.rows_are
+
+    fast_are : fast_runs_of two slow_samples samples levels flags ≡ runs_in all.told
+    fast_are = runs_are (level_form flags two samples) two.slow.step_bound (λ k. levels_of k levels) 1 slow_samples
+        (first_two two flags)
+
+    told : AreTold fast two flags samples [] all.told runs.ns slow_samples first
+    told = rows_told x laws.taken_at_once [] all.told runs.ns slow_samples first fitted_all runs.complete
+        (all_onto_all (λ (t : Level × Option FastSeen). IsGoodLevel (length samples) t.0) all.told [] own.good).0
+        followed.told
+
+    bound : two.fast.step_bound ≡ step_bound Byte fast
+    bound = (let of_fast = bounds x in of_fast.steps)

@@ -1,0 +1,184 @@
+-- What rows under levels are to be.
+use Rattle.std.proofs.Common.{◌≡◌, ◌⊎◌, inl, inr, ℕ, suc, ◌<◌, ◌≤◌, not, Bool, true, false, List, [], ◌∷◌, map, refl}
+use Rattle.std.proofs.Common.{ap, ap₂, sym, ◌∙◌, subst, arith}
+use Rattle.std.specs.Prelude.{All, None}
+use Rattle.std.proofs.lemmas.List.Elements.{All-cons}
+use Rattle.cpu12_parts.specs.State.{State}
+use Rattle.cpu12_emul.specs.Take.{FrameSeen, may_interrupt}
+use Rattle.run_law.specs.{Forms.RowSeen, Soundness.Before, Moments.TakenAtOnce}
+use Rattle.run_law.specs.Uninterrupted.{uninterrupted, counted, taken_at, taken_before, resumed_of, frames_of}
+use Rattle.run_law.specs.Following.{Completes, AllComplete, expected_row, expected_rows, expected_taken}
+use Rattle.interrupt_plan.specs.declared.{Request.Request, levels.Level.Level}
+use Rattle.alone_code.specs.declared.firmware.Firmware.{Firmware}
+use Rattle.two_level_code.specs.{declared.two.Two.Two, MemoryMaps.is_open_to_fast}
+use Rattle.firmware_runs.specs.Ports.{given, answers_in}
+use Rattle.alone_runs.specs.{Forms.with_writes, Rows.requests_of, Following.rows_of_samples}
+use Rattle.firmware_runs.specs.Facts.{IsStackOfOneCall, FactsBeside}
+use Rattle.two_level_runs.specs.{Inside.AreOnStack, Rows.levels_of, Levels.fitted, Levels.fitted_form}
+use Rattle.two_level_runs.specs.Answering.{request_of, plan_of, taken_by}
+use Rattle.two_level_runs.proofs.{Fitting.AreFitted, Frames.HasFrameRoom, Frames.frames_fit}
+use Rattle.two_level_runs.proofs.LevelPlans.{requests_are, resumed_each, frames_of_each}
+
+-- the facts before each step of the slow firmware
+abbrev pub SlowFacts : ℕ → Two → State → Type 0
+SlowFacts flags two = FactsBeside is_open_to_fast flags two.slow
+
+-- the run without interrupts is that of the slow firmware alone
+pub given_is : (two : Two) (x : List ℕ) (s : State) → fitted x ≡ x
+    → given two.slow.memory_map (fitted x) s ≡ given two.slow.memory_map x s
+given_is two x s e = ap (λ (v : List ℕ). given two.slow.memory_map v s) e
+
+pub complete : (flags : ℕ) (two : Two) (fast : List (List ℕ)) (ns : List ℕ) (samples : List (List ℕ)) (s : State)
+    → AreFitted samples → AllComplete (SlowFacts flags two) (with_writes flags two.slow) ns samples s
+    → AllComplete (SlowFacts flags two) (fitted_form flags two fast) ns samples s
+complete flags two fast [] [] s few h = h
+complete flags two fast (n ∷ ns) [] s few h = h
+complete flags two fast [] (x ∷ xs) s few h = h
+complete flags two fast (n ∷ ns) (x ∷ xs) s few h =
+    let e = given_is two x s few.0 in
+    let P = SlowFacts flags two in
+    let one = h.0 in
+    let moved : Completes P (fitted_form flags two fast) 0 n n (given two.slow.memory_map x s) =
+    record { sum = one.sum; holds = one.holds; on = one.on; ended = one.ended } in (
+      subst (λ (u : State). Completes P (fitted_form flags two fast) 0 n n u) (sym e) moved,
+      subst (λ (u : State). AllComplete P (fitted_form flags two fast) ns xs (uninterrupted flags n u)) (sym e)
+          (complete flags two fast ns xs (uninterrupted flags n (given two.slow.memory_map x s)) few.1 h.1),
+    )
+
+-- two runs that end have the same numbers of steps
+one_number : (P Q : State → Type 0) (flags : ℕ) (f : Firmware) (m n : ℕ) (s : State)
+    → Completes P (with_writes flags f) 0 m m s → Completes Q (with_writes flags f) 0 n n s → m ≡ n
+one_number P Q flags f m n s a b = by (order m n)
+  where
+    both : (t : Bool) → t ≡ true → t ≡ false → ⊥
+    both t h k = cc
+
+    order : (m n : ℕ) → (suc m ≤ n) ⊎ ((suc n ≤ m) ⊎ (m ≡ n))
+    order m n = grind arith
+
+    by : (suc m ≤ n) ⊎ ((suc n ≤ m) ⊎ (m ≡ n)) → m ≡ n
+    by (inl l) = absurd (both _ a.ended (b.on m (omega arith) l))
+    by (inr (inl l)) = absurd (both _ b.ended (a.on n (omega arith) l))
+    by (inr (inr e)) = e
+
+pub same_numbers : (P Q : State → Type 0) (flags : ℕ) (f : Firmware) (ms ns : List ℕ) (samples : List (List ℕ))
+    (s : State)
+    → AllComplete P (with_writes flags f) ms samples s → AllComplete Q (with_writes flags f) ns samples s → ms ≡ ns
+same_numbers P Q flags f [] [] [] s a b = refl
+same_numbers P Q flags f [] (n ∷ ns) [] s a b = absurd b
+same_numbers P Q flags f (m ∷ ms) ns [] s a b = absurd a
+same_numbers P Q flags f [] ns (x ∷ xs) s a b = absurd a
+same_numbers P Q flags f (m ∷ ms) [] (x ∷ xs) s a b = absurd b
+same_numbers P Q flags f (m ∷ ms) (n ∷ ns) (x ∷ xs) s a b =
+    let e = one_number P Q flags f m n (given f.memory_map x s) a.0 b.0 in
+    let rest : AllComplete Q (with_writes flags f) ns xs (uninterrupted flags m (given f.memory_map x s)) =
+    subst (λ (k : ℕ). AllComplete Q (with_writes flags f) ns xs (uninterrupted flags k (given f.memory_map x s)))
+    (sym e) b.1 in
+    ap₂ (λ (k : ℕ) (ks : List ℕ). k ∷ ks) e
+    (same_numbers P Q flags f ms ns xs (uninterrupted flags m (given f.memory_map x s)) a.1 rest)
+
+-- I is 0 throughout: a level is taken at its moment
+open_at : (flags : ℕ) (two : Two) (n : ℕ) (s : State) → Before (SlowFacts flags two) flags n s
+    → (j : ℕ) → j < n → may_interrupt (uninterrupted flags j s) ≡ true
+open_at flags two n s holds j l = ap not (let p = holds j l in let facts = p.facts in facts.unmasked)
+
+pub moments_are : TakenAtOnce → (flags : ℕ) (two : Two) (n : ℕ) (s : State) → Before (SlowFacts flags two) flags n s
+    → taken_at flags (λ (l : Level). l.moment) n s ≡ (λ l. l.moment)
+moments_are law flags two n s holds = λ i. λ l. law flags n s l.moment (open_at flags two n s holds) i
+
+-- a row by when levels are taken
+abbrev row_by : ℕ → Two → List Level → ℕ → List ℕ → State → (Level → ℕ) → RowSeen (List ℕ)
+row_by flags two ls n x s moment = record {
+  sample = x;
+  answers = answers_in two.slow (uninterrupted flags n s);
+  instrs = counted flags n s;
+  steps = n;
+  resumed = resumed_of flags moment s ls n;
+  frames = frames_of flags moment s ls n;
+}
+
+-- by requests that write nothing
+abbrev row_with : ℕ → Two → List Request → ℕ → List ℕ → State → RowSeen (List ℕ)
+row_with flags two qs n x s = record {
+  sample = x;
+  answers = answers_in two.slow (uninterrupted flags n s);
+  instrs = counted flags n s;
+  steps = n;
+  resumed = resumed_of flags (λ r. r.moment) s qs n;
+  frames = frames_of flags (λ r. r.moment) s qs n;
+}
+
+row_alike : (flags : ℕ) (two : Two) (ls : List Level) (n : ℕ) (x : List ℕ) (s : State)
+    → row_by flags two ls n x s (λ l. l.moment) ≡ row_with flags two (map request_of ls) n x s
+row_alike flags two ls n x s =
+    ap₂ (λ (k : ℕ) (fs : List (ℕ × FrameSeen)). let row : RowSeen (List ℕ) = record {
+      sample = x;
+      answers = answers_in two.slow (uninterrupted flags n s);
+      instrs = counted flags n s;
+      steps = n;
+      resumed = k;
+      frames = fs;
+    } in row) (sym (resumed_each flags (λ (r : Request). r.moment) request_of s ls n))
+    (sym (frames_of_each flags (λ (r : Request). r.moment) request_of s ls n))
+
+-- So the rows are those of the slow firmware alone under the levels' plan,
+pub same_rows : TakenAtOnce → (flags : ℕ) (two : Two) (fast : List (List ℕ)) (levels : List Level) (k : ℕ) (ns : List ℕ)
+    (samples : List (List ℕ)) (s : State) → AreFitted samples
+    → AllComplete (SlowFacts flags two) (with_writes flags two.slow) ns samples s
+    → expected_rows (fitted_form flags two fast) (λ j. levels_of j levels) k ns samples s
+    ≡ rows_of_samples flags two.slow (plan_of levels) k ns samples s
+same_rows law flags two fast levels k [] samples s few h = refl
+same_rows law flags two fast levels k (n ∷ ns) [] s few h = refl
+same_rows law flags two fast levels k (n ∷ ns) (x ∷ rest) s few h =
+    let form = fitted_form flags two fast in
+    let u : State = given two.slow.memory_map x s in
+    let holds = (let one = h.0 in one.holds) in
+    let ls = levels_of k levels in
+    ap (λ (v : State). expected_row form ls n x v ∷ expected_rows form (λ j. levels_of j levels) (suc k) ns rest
+    (uninterrupted flags n v))
+    (given_is two x s few.0)
+    ∙ ap₂ (λ (row : RowSeen (List ℕ)) (rows : List (RowSeen (List ℕ))). row ∷ rows)
+    (ap (row_by flags two ls n x u) (moments_are law flags two n u holds) ∙ row_alike flags two ls n x u
+    ∙ ap (λ (qs : List Request). row_with flags two qs n x u) (sym (requests_are k levels)))
+    (same_rows law flags two fast levels (suc k) ns rest (uninterrupted flags n u) few.1 h.1)
+
+-- the levels that are taken are those before the ends of the samples,
+pub same_taken : TakenAtOnce → (flags : ℕ) (two : Two) (fast : List (List ℕ)) (levels : List Level) (k : ℕ)
+    (ns : List ℕ) (samples : List (List ℕ)) (s : State) → AreFitted samples
+    → AllComplete (SlowFacts flags two) (with_writes flags two.slow) ns samples s
+    → expected_taken (fitted_form flags two fast) (λ j. levels_of j levels) k ns samples s
+    ≡ taken_by k levels (map (λ (r : RowSeen (List ℕ)). r.steps)
+    (rows_of_samples flags two.slow (plan_of levels) k ns samples s))
+same_taken law flags two fast levels k [] samples s few h = refl
+same_taken law flags two fast levels k (n ∷ ns) [] s few h = refl
+same_taken law flags two fast levels k (n ∷ ns) (x ∷ rest) s few h =
+    let form = fitted_form flags two fast in
+    let u : State = given two.slow.memory_map x s in
+    let holds = (let one = h.0 in one.holds) in
+    let ls = levels_of k levels in
+    ap (λ (v : State). taken_before (taken_at flags (λ (l : Level). l.moment) n v) n ls
+    ∷ expected_taken form (λ j. levels_of j levels) (suc k) ns rest (uninterrupted flags n v))
+    (given_is two x s few.0)
+    ∙ ap₂ (λ (ts : List Level) (tss : List (List Level)). ts ∷ tss)
+    (ap (λ (moment : Level → ℕ). taken_before moment n ls) (moments_are law flags two n u holds))
+    (same_taken law flags two fast levels (suc k) ns rest (uninterrupted flags n u) few.1 h.1)
+
+-- and no frame stands below the stack's start.
+sp_room : (sp : ℕ) → IsStackOfOneCall sp → (0x1FEF ≤ sp) × (sp ≤ 0x2000)
+sp_room sp (inl e) = (omega arith, omega arith)
+sp_room sp (inr e) = (omega arith, omega arith)
+
+pub on_stack : (flags : ℕ) (two : Two) (plan : List Request) (k : ℕ) (ns : List ℕ) (samples : List (List ℕ)) (s : State)
+    → AllComplete (SlowFacts flags two) (with_writes flags two.slow) ns samples s
+    → All (λ (r : RowSeen (List ℕ)). AreOnStack r.frames) (rows_of_samples flags two.slow plan k ns samples s)
+on_stack flags two plan k [] samples s h = λ j d l. absurd (omega arith)
+on_stack flags two plan k (n ∷ ns) [] s h = λ j d l. absurd (omega arith)
+on_stack flags two plan k (n ∷ ns) (x ∷ rest) s h =
+    let u : State = given two.slow.memory_map x s in
+    let holds = (let one = h.0 in one.holds) in
+    let room : (j : ℕ) → j < n → HasFrameRoom (uninterrupted flags j u) =
+    λ j l. (let p = holds j l in sp_room (uninterrupted flags j u).regs.sp p.stack) in
+    All-cons (λ (r : RowSeen (List ℕ)). AreOnStack r.frames) (row_with flags two (requests_of k plan) n x u)
+    (rows_of_samples flags two.slow plan (suc k) ns rest (uninterrupted flags n u))
+    (frames_fit flags n u (λ (r : Request). r.moment) room (requests_of k plan) None)
+    (on_stack flags two plan (suc k) ns rest (uninterrupted flags n u) h.1)

@@ -1,0 +1,109 @@
+-- A slow firmware whose interrupts serve levels is a sound form.
+use Rattle.std.proofs.Common.{◌≡◌, ℕ, ◌+◌, ◌*◌, ◌<◌, ◌≤◌, Bool, false, Option, List, length, ap, sym, ◌∙◌, subst, inl}
+use Rattle.std.proofs.Common.{arith}
+use Rattle.cpu12_isa.specs.{Agreement.WritesAgree, Fits.AreBytes}
+use Rattle.cpu12_parts.specs.{State.State, Cuts.suspended, Cuts.wav}
+use Rattle.cpu12_emul.specs.Simulation.{OnStackOrNone, Simulates}
+use Rattle.run_law.specs.{Uninterrupted.stepped, Soundness.Sound, Soundness.WritesAreQuiet}
+use Rattle.interrupt_plan.specs.{declared.levels.Level.Level, Levels.IsGoodLevel}
+use Rattle.eval_code.specs.{declared.memory_map.MemoryMap.MemoryMap, MemoryMaps.main_map}
+use Rattle.alone_code.specs.Answers.{LeavesMapped}
+use Rattle.two_level_code.specs.MemoryMaps.{is_open_to_fast}
+use Rattle.firmware_runs.specs.Ports.{given, answer_size}
+use Rattle.firmware_runs.specs.Facts.{FactsBeside}
+use Rattle.alone_runs.specs.{Following.IsLow, OpenBytes.AreOpenAlike, OpenBytes.StepLeavesOpen}
+use Rattle.alone_runs.specs.SoundAloneProof.{LeavesPorts, given_alike, answered_alike, ended_alike}
+use Rattle.two_level_runs.specs.{Runs.FastSeen, Levels.fitted, Levels.fitted_form, Levels.FastStands}
+use Rattle.two_level_runs.proofs.{Bytes.step_bytes, Bytes.push_bytes, Fitting.fitted_few, Fitting.given_bytes}
+use Rattle.two_level_runs.proofs.LevelServing.{LevelLaws, Given, few_outputs, serves}
+use Rattle.two_level_runs.proofs.{Serving.open_apart, Standing.stands}
+
+-- the slow firmware's memory map is the one that stands alone, and it answers bytes
+map_is : (x : Given) → x.two.slow.memory_map ≡ main_map
+map_is x = let is = x.is_two in let alone = is.slow_alone in let firmware = alone.firmware in firmware.memory_map
+
+wide_is : (x : Given) → x.two.slow.wide ≡ false
+wide_is x = let is = x.is_two in let alone = is.slow_alone in alone.narrow
+
+outputs_few : (x : Given) → x.two.slow.outputs ≤ 4
+outputs_few x =
+    let is = x.is_two in
+    let alone = is.slow_alone in
+    let firmware = alone.firmware in
+    let valid = x.slow_valid in
+    omega (arith, firmware.outputs, valid.few_outputs)
+
+-- what is open leaves what is read from outside
+ports_of : (x : Given) → LeavesMapped is_open_to_fast main_map → LeavesPorts is_open_to_fast x.two.slow
+ports_of x leaves = record {
+  ready = ap (λ (l : MemoryMap). is_open_to_fast l.ready) (map_is x) ∙ leaves.ready;
+  outputs = λ at from to. leaves.writes at (inl (
+    subst (λ (l : MemoryMap). l.outputs ≤ at) (map_is x) from,
+    end at (subst (λ (wide : Bool). at < main_map.outputs + answer_size wide * x.two.slow.outputs) (wide_is x)
+        (subst (λ (l : MemoryMap). at < l.outputs + answer_size x.two.slow.wide * x.two.slow.outputs) (map_is x) to)),
+  ));
+}
+  where
+    end : (at : ℕ) → at < main_map.outputs + 1 * x.two.slow.outputs → at < main_map.outputs + 8
+    end at l = let few = outputs_few x in omega arith
+
+given_stays : (x : Given) → LeavesMapped is_open_to_fast main_map → (bytes : List ℕ) (w : State)
+    → AreOpenAlike is_open_to_fast w.mem (given x.two.slow.memory_map (fitted bytes) w).mem
+given_stays x leaves bytes w =
+    subst (λ (l : MemoryMap). AreOpenAlike is_open_to_fast w.mem (given l (fitted bytes) w).mem) (sym (map_is x))
+    (let laws = x.laws in
+    laws.given_leaves_open is_open_to_fast main_map (fitted bytes) w (fitted_few bytes) (omega arith) leaves.ready
+    (λ at from to. leaves.reads at (inl (from, to))))
+
+pub level_sound : (x : Given) → LeavesMapped is_open_to_fast x.two.slow.memory_map → IsLow x.two.slow → WritesAgree
+    → WritesAreQuiet
+    → Sound OnStackOrNone is_open_to_fast (fitted_form x.flags x.two x.samples)
+    (FactsBeside is_open_to_fast x.flags x.two.slow)
+    (IsGoodLevel (length x.samples)) (FastStands x.fast x.two x.samples)
+level_sound x leaves_slow low agree quiet = record {
+  apart = open_apart;
+  shown = λ s p. (let facts = p.facts in facts.shown);
+  gives = λ bytes w s l. given_alike agree is_open_to_fast x.two.slow (fitted bytes) w s l;
+  leaves = λ bytes w s l. l;
+  answers = λ w s l. answered_alike is_open_to_fast x.two.slow ports low w s l;
+  ends = λ m w s l. ended_alike is_open_to_fast x.two.slow ports low w s l;
+  quiet = λ done a v s good p may begins own. serves x done a v s good
+      (record { facts = p; begins = begins; stands = own });
+  leaves_open = record {
+    gives = λ done bytes w o. kept done w (given x.two.slow.memory_map (fitted bytes) w) (given_stays x leaves bytes w)
+        (given_fit bytes w o.bytes) o;
+    leaves = λ done bytes w o. o;
+    pushes = λ done w s p l o.
+        (let shown = (let facts = p.facts in facts.shown) in
+        kept done w (suspended wav w) (let left = open_left w s p l in left.pushes)
+        (push_bytes laws.bytes is_open_to_fast x.flags w s shown l o.bytes) o);
+    steps = λ done w s p l o.
+        (let shown = (let facts = p.facts in facts.shown) in
+        kept done w (stepped x.flags w) (let left = open_left w s p l in left.steps)
+        (step_bytes laws.bytes is_open_to_fast x.flags w s x.flags_fit shown l o.bytes) o);
+  };
+}
+  where
+    laws : LevelLaws
+    laws = x.laws
+
+    leaves : LeavesMapped is_open_to_fast main_map
+    leaves = subst (λ (l : MemoryMap). LeavesMapped is_open_to_fast l) (map_is x) leaves_slow
+
+    ports : LeavesPorts is_open_to_fast x.two.slow
+    ports = ports_of x leaves
+
+    kept : (done : List (Level × Option FastSeen)) (w u : State) → AreOpenAlike is_open_to_fast w.mem u.mem
+        → AreBytes u.mem
+        → FastStands x.fast x.two x.samples done w → FastStands x.fast x.two x.samples done u
+    kept done w u alike bytes o = stands x.fast x.two x.samples done w u (few_outputs x) alike bytes o
+
+    open_left : (w s : State) → FactsBeside is_open_to_fast x.flags x.two.slow s
+        → Simulates OnStackOrNone is_open_to_fast w s → StepLeavesOpen is_open_to_fast x.flags w
+    open_left w s p l = laws.steps_leave_open is_open_to_fast x.flags x.two.slow w s open_apart p l
+
+    given_fit : (bytes : List ℕ) (w : State) → AreBytes w.mem
+        → AreBytes (given x.two.slow.memory_map (fitted bytes) w).mem
+    given_fit bytes w fits =
+        subst (λ (l : MemoryMap). AreBytes (given l (fitted bytes) w).mem) (sym (map_is x))
+        (let b = laws.bytes in given_bytes b.bytes_stay main_map bytes w (omega arith) (omega arith) fits)

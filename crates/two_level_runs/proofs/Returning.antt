@@ -1,0 +1,197 @@
+-- The fast code as steps, up to behind its return.
+use Rattle.std.proofs.Common.{◌≡◌, ℕ, zero, suc, ◌+◌, ◌^◌, ◌<◌, ◌≤◌, not, Bool, true, false, Result, Ok, List, [], ◌∷◌}
+use Rattle.std.proofs.Common.{length, refl, ap, ap₂, sym, ◌∙◌, subst, inl, inr, arith}
+use Rattle.std.specs.Prelude.{slice_index}
+use Rattle.cpu12_isa.specs.{declared.instr.Instr.Instr, Act.read_by, Agreement.AllShown, Agreement.WritesStay}
+use Rattle.cpu12_isa.specs.declared.instr.Instr.TheVariants.{Andcc, Rti, Rev, Revw, Wav}
+use Rattle.cpu12_isa.specs.{Code.decode_at, Code.six_from, Flags.interrupts_masked, Flags.has}
+use Rattle.cpu12_isa.specs.{Meaning.Effect, Meaning.act_of, Meaning.effect, Memory.plus, Memory.from, Memory.bytes_at}
+use Rattle.cpu12_isa.proofs.Algebra.{shown_append}
+use Rattle.cpu12_parts.specs.{State.State, Executions.Execution, Executions.all_steps, Whole.after_plain}
+use Rattle.cpu12_parts.specs.Touching.{IsIn, Each, IsInstructionOver}
+use Rattle.cpu12_emul.specs.{declared.ends.Stepped.TheVariants.Plain, Step.Left, Step.applied, Step.next_of}
+use Rattle.run_law.specs.Uninterrupted.{stepped, state_by, uninterrupted, counted}
+use Rattle.run_law.specs.{Soundness.Before, Steps.StepLaws}
+use Rattle.run_law.proofs.Algebra.{before_more, Stretch, joined, one_stretch}
+use Rattle.fuzzy_meaning.specs.declared.block.Block.{Block}
+use Rattle.eval_code.specs.Evaluation.{Reads, Writes}
+use Rattle.two_level_code.specs.MemoryMaps.{fast_map}
+use Rattle.two_level_code.specs.Running.{IsFastStack, fast_code, IsInFast, IsFastStep, IsFastAnswered}
+use Rattle.two_level_runs.specs.Steps.{is_foreign, is_kept, IsFastState, IsOpenState, IsFastRun, FastStepsReturn}
+use Rattle.two_level_runs.proofs.Owned.{code_own, frame_shown, not_written, stack_kept}
+use Rattle.two_level_runs.proofs.Beginnings.{Begins, Kept, kept, off_ready, same_decode}
+use Rattle.two_level_runs.proofs.Pulling.{pulled_same}
+use Rattle.two_level_runs.proofs.Instructions.{free_stays, begins, plain_next, instruction_at, instructions_at}
+
+-- the return is one step
+rti_at : StepLaws → (image : List ℕ) (flags sp : ℕ) (s : State) → Begins image false sp s
+    → decode_at s.mem s.regs.pc ≡ Ok Rti
+    → Stretch (Kept image false flags sp) flags 1 1 s (after_plain flags Rti s)
+rti_at laws image flags sp s c decoded =
+    let e : Effect = effect flags Rti s.regs s.mem in
+    let stands = c.stands in
+    let is = laws.plain_is_step flags Rti s c.off decoded refl in
+    let left : Left = record { regs = e.regs; temps = s.temps; writes = e.writes; kind = Plain } in
+    let up : sp ≤ left.regs.sp = (let r = stands.room in omega (arith, stands.stack, r.1)) in
+    let frame : AllShown (is_foreign sp) (read_by (act_of flags Rti s.regs) s.mem) =
+    (let r = stands.room in
+    subst (λ (n : ℕ). AllShown (is_foreign sp) (from n 9)) (sym stands.stack)
+    (frame_shown 9 sp sp (omega arith) (omega arith) r.1 (omega (arith, r.0)))) in
+    one_stretch (Kept image false flags sp) flags Plain s (after_plain flags Rti s) refl
+    (kept image false flags sp s left stands is.0 up
+    (subst (AllShown (is_foreign sp)) (sym is.1)
+    (shown_append (is_foreign sp) (six_from s.regs.pc) (read_by (act_of flags Rti s.regs) s.mem)
+    (code_own sp (six_from s.regs.pc) c.code) frame))
+    tt (off_ready s s.temps c.off))
+    (plain_next laws flags Rti s (after_plain flags Rti s) c.off
+    (record { decoded = decoded; plain = refl; after = refl }))
+
+-- ANDCC has no parts beyond the first
+abbrev found : Instr → Result Instr ℕ
+found i = Ok i
+
+no_parts : (R W : ℕ → Type 0) (flags d : ℕ) (s t : State) → decode_at s.mem s.regs.pc ≡ Ok (Andcc 0xEF)
+    → IsInstructionOver R W flags d s t → d ≡ 0
+no_parts R W flags d s t a (inl p) = p.1.1
+no_parts R W flags d s t a (inr (inl p)) = absurd (differ (sym a ∙ p.2.step.decoded))
+  where
+    differ : found (Andcc 0xEF) ≡ Ok Rev → ⊥
+    differ e = cc
+no_parts R W flags d s t a (inr (inr (inl p))) = absurd (differ (sym a ∙ p.2.step.decoded))
+  where
+    differ : found (Andcc 0xEF) ≡ Ok Revw → ⊥
+    differ e = cc
+no_parts R W flags d s t a (inr (inr (inr p))) = absurd (differ (sym a ∙ p.step.decoded))
+  where
+    differ : found (Andcc 0xEF) ≡ Ok Wav → ⊥
+    differ e = cc
+
+-- its steps leave memory but for the fast block's RAM
+step_keeps : WritesStay → (image : List ℕ) (flags sp : ℕ) (s : State) → IsFastState image flags sp s
+    → (length (stepped flags s).mem ≡ length s.mem)
+    × ((at : ℕ) → is_kept at ≡ true → slice_index (stepped flags s).mem at ≡ slice_index s.mem at)
+step_keeps stay image flags sp s p =
+    let shown = p.shown in
+    let ws = shown.left.writes in
+    let goes : next_of flags s ≡ applied (Ok shown.left) s.mem =
+    ap (λ (o : Result Left ℕ). applied o s.mem) shown.goes in
+    let there = ap (state_by s) goes in (
+      ap (λ (u : State). length u.mem) there ∙ (stay ws s.mem).0,
+      λ at k. ap (λ (u : State). slice_index u.mem at) there ∙ (stay ws s.mem).1 at (not_written ws at p.writes k),
+    )
+
+pub steps_keep : WritesStay → (image : List ℕ) (flags sp n : ℕ) (s : State)
+    → Before (IsFastState image flags sp) flags n s
+    → (length (uninterrupted flags n s).mem ≡ length s.mem)
+    × ((at : ℕ) → is_kept at ≡ true → slice_index (uninterrupted flags n s).mem at ≡ slice_index s.mem at)
+steps_keep stay image flags sp zero s b = (refl, λ at k. refl)
+steps_keep stay image flags sp (suc n) s b =
+    let one = step_keeps stay image flags sp s (b 0 (omega arith)) in
+    let rest = steps_keep stay image flags sp n (stepped flags s) (λ j l. b (suc j) (omega arith)) in
+    (rest.0 ∙ one.0, λ at k. rest.1 at k ∙ one.1 at k)
+
+open_state : (image : List ℕ) (flags sp : ℕ) (s : State) → Kept image false flags sp s → IsOpenState image flags sp s
+open_state image flags sp s k = record { state = k.0; unmasked = ap not k.1 }
+
+-- a frame's bytes are kept
+frame_kept : (n sp : ℕ) (m k : List ℕ) → 0x1FE0 ≤ sp → sp + n ≤ 0x2000
+    → ((at : ℕ) → is_kept at ≡ true → slice_index m at ≡ slice_index k at)
+    → bytes_at m (from sp n) ≡ bytes_at k (from sp n)
+frame_kept zero sp m k lo hi h = refl
+frame_kept (suc n) sp m k lo hi h =
+    ap₂ (λ (v : ℕ) (vs : List ℕ). v ∷ vs) (h sp (stack_kept sp lo))
+    (frame_kept n (plus sp 1) m k (omega arith) (omega arith) h)
+
+-- the steps behind the first, with the return, by the instructions
+tail_at : StepLaws → (image : List ℕ) (flags sp : ℕ) (ds : List ℕ) (v u : State) → flags < 2 ^ 8 → v.regs.sp ≡ sp
+    → u.regs.sp ≡ sp
+    → has v.regs.ccr interrupts_masked ≡ false → has u.regs.ccr interrupts_masked ≡ false
+    → Execution (IsFastStep image flags) ds v u → IsInFast image u → decode_at u.mem u.regs.pc ≡ Ok Rti
+    → Stretch (Kept image false flags sp) flags (all_steps ds + 1) (length ds + 1) v (after_plain flags Rti u)
+tail_at laws image flags sp ds v u hf sv su mv mu e inside returns =
+    joined (Kept image false flags sp) flags (all_steps ds) 1 (length ds) 1 v u (after_plain flags Rti u)
+    (instructions_at laws image flags sp ds v u hf sv mv e)
+    (rti_at laws image flags sp u (begins image false sp u inside su mu) returns)
+
+-- the run, from its first instruction and the others
+run_of : StepLaws → (b : Block) (image : List ℕ) (flags : ℕ) (bytes : List ℕ) (before : ℕ → ℕ) (s v u : State)
+    (ds : List ℕ)
+    → IsFastStack s.regs.sp → has s.regs.ccr interrupts_masked ≡ true
+    → Stretch (Kept image true flags s.regs.sp) flags 1 1 s v
+    → Stretch (Kept image false flags s.regs.sp) flags (all_steps ds + 1) (length ds + 1) v (after_plain flags Rti u)
+    → (r : IsFastAnswered b image flags bytes before s u) → (d : ℕ) → r.ds ≡ d ∷ ds
+    → IsFastRun b image flags bytes before s (after_plain flags Rti u)
+run_of laws b image flags bytes before s v u ds room masked first tail r d is =
+    let sp = s.regs.sp in
+    let t = after_plain flags Rti u in
+    let further = all_steps ds + 1 in
+    let there : stepped flags s ≡ v = first.goes in
+    let each : Before (IsOpenState image flags sp) flags further (stepped flags s) =
+    subst (Before (IsOpenState image flags sp) flags further) (sym there)
+    (λ j l. open_state image flags sp (uninterrupted flags j v) (tail.each j l)) in
+    let goes : uninterrupted flags (suc further) s ≡ t = ap (uninterrupted flags further) there ∙ tail.goes in
+    let start : IsFastState image flags sp s = (first.each 0 (omega arith)).0 in
+    let all : Before (IsFastState image flags sp) flags (suc further) s =
+    before_more (IsFastState image flags sp) flags further s start (λ j l. (let p = each j l in p.state)) in
+    let keeps = (let k = laws.writes in steps_keep k.writes_stay image flags sp (suc further) s all) in
+    let kept_at : (at : ℕ) → is_kept at ≡ true → slice_index t.mem at ≡ slice_index s.mem at =
+    λ at k. ap (λ (w : State). slice_index w.mem at) (sym goes) ∙ keeps.1 at k in
+    let counts : counted flags (suc further) s ≡ suc (length ds + 1) =
+    (let c = first.counts in let k = ap (counted flags further) there in omega (arith, c, k, tail.counts)) in
+    let same : bytes_at u.mem (from sp 9) ≡ bytes_at s.mem (from sp 9) =
+    frame_kept 9 sp u.mem s.mem (omega (arith, room.0)) room.1 kept_at in
+    record {
+      further = further;
+      goes = goes;
+      first = start;
+      masked = ap not masked;
+      each = each;
+      ccr = u.regs.ccr;
+      x = r.x;
+      regs = pulled_same u.regs s.regs (bytes_at u.mem (from u.regs.sp 9)) (bytes_at s.mem (from sp 9)) r.stack
+          (ap (λ (n : ℕ). bytes_at u.mem (from n 9)) r.stack ∙ same);
+      off = (let inside = r.inside in let between = inside.between in between.off);
+      free = λ e. free_stays image flags r.ds s u r.execution e;
+      answers = r.answers;
+      fit = (let inside = r.inside in let between = inside.between in between.bytes);
+      size = ap (λ (w : State). length w.mem) (sym goes) ∙ keeps.0;
+      kept = kept_at;
+      elsewhere = r.elsewhere;
+      instructions = (let l = ap (λ (xs : List ℕ). length xs) is in omega (arith, counts, l, r.instructions));
+      steps = (let l = ap all_steps is in omega (arith, l, r.steps));
+    }
+
+pub fast_steps_return : StepLaws → FastStepsReturn
+fast_steps_return laws b image flags bytes before s u hf opens entered r = by r.ds refl r.execution
+  where
+    masked : has s.regs.ccr interrupts_masked ≡ true
+    masked = entered.masked
+
+    none : (x : Bool) → x ≡ true → x ≡ false → ⊥
+    none x t f = cc
+
+    room : IsFastStack s.regs.sp
+    room = (let inside = entered.inside in inside.stack)
+
+    decoded : decode_at s.mem s.regs.pc ≡ Ok (Andcc 0xEF)
+    decoded =
+        (let inside = entered.inside in
+        ap (decode_at s.mem) entered.pc
+        ∙ same_decode image image s.mem fast_map.code (Andcc 0xEF) (λ at lo hi. refl) inside.rom
+        (subst (λ (n : ℕ). Each (IsIn fast_code) (six_from n)) entered.pc inside.code) opens)
+
+    by : (es : List ℕ) → r.ds ≡ es → Execution (IsFastStep image flags) es s u
+        → (t : State) × IsFastRun b image flags bytes before s t
+    by [] is e = absurd (none (has s.regs.ccr interrupts_masked) masked
+        (ap (λ (w : State). has w.regs.ccr interrupts_masked) e ∙ r.unmasked))
+    by (d ∷ ds) is e =
+        let v = e.0 in
+        let h : IsFastStep image flags d s v = e.1.0 in
+        let start = begins image true s.regs.sp s h.inside refl masked in
+        let short : d ≡ 0 = no_parts (Reads fast_map) (Writes fast_map) flags d s v decoded h.instruction in
+        let first : Stretch (Kept image true flags s.regs.sp) flags 1 1 s v =
+        subst (λ (k : ℕ). Stretch (Kept image true flags s.regs.sp) flags (suc k) 1 s v) short
+        (instruction_at laws image true flags s.regs.sp d s v hf start h.instruction h.stack) in
+        let tail = tail_at laws image flags s.regs.sp ds v u hf h.stack r.stack h.unmasked r.unmasked e.1.1 r.inside
+        r.returns in
+        (after_plain flags Rti u, run_of laws b image flags bytes before s v u ds room masked first tail r d is)

@@ -1,0 +1,32 @@
+-- The writes of a sample's bytes, and the bytes of its answers, one after the other.
+use Rattle.std.proofs.Common.{◌≡◌, ℕ, zero, suc, ◌<◌, ◌-◌, List, [], ◌∷◌, ◌++◌, length, get_or, take, drop, ap}
+use Rattle.std.proofs.Common.{sym, ◌∙◌, arith, append_assoc, append-nil}
+use Rattle.std.proofs.lemmas.List.{drop_all}
+use Rattle.cpu12_isa.specs.declared.instr.Write.{Write}
+use Rattle.cpu12_isa.specs.{Act.write_all, Memory.plus, Memory.placed, Memory.from, Memory.bytes_at}
+use Rattle.cpu12_parts.specs.{State.State, Cuts.suspended, Cuts.wav}
+use Rattle.cpu12_emul.specs.Take as take
+use Rattle.cpu12_emul.specs.Take.{pairs_of, pushed, vectored}
+use Rattle.two_level_code.specs.MemoryMaps.{fast_map}
+use Rattle.two_level_runs.specs.Runs.{entered}
+
+-- what enters the fast code with these writes enters it with the bytes that they put
+pub entered_with : (ws : List Write) (bytes : List ℕ) (k next : ℕ) (s : State) → k ≡ length bytes
+    → pairs_of (take k ws) ++ placed next (drop k bytes) ≡ placed fast_map.inputs bytes
+    → take.entered (take (length bytes) ws) s ≡ entered bytes (suspended wav s)
+entered_with ws bytes k next s all pairs =
+    let v : State = pushed (suspended wav s) in
+    let none : drop k bytes ≡ [] = drop_all k bytes (omega arith) in
+    let put : pairs_of (take (length bytes) ws) ≡ placed fast_map.inputs bytes =
+    ap (λ j. pairs_of (take j ws)) (sym all) ∙ sym (append-nil (pairs_of (take k ws)))
+    ∙ ap (λ l. pairs_of (take k ws) ++ placed next l) (sym none) ∙ pairs in
+    ap (λ (ps : List (ℕ × ℕ)). vectored (record v { mem = write_all ps v.mem })) put
+
+-- one byte more
+pub byte_more : (mem : List ℕ) (at n : ℕ) (got : List ℕ) → 0 < n
+    → (got ++ get_or mem at 0 ∷ []) ++ bytes_at mem (from (plus at 1) (n - 1)) ≡ got ++ bytes_at mem (from at n)
+byte_more mem at zero got some = absurd (omega arith)
+byte_more mem at (suc n) got some =
+    let one : suc n - 1 ≡ n = omega arith in
+    append_assoc got (get_or mem at 0 ∷ []) (bytes_at mem (from (plus at 1) (suc n - 1)))
+    ∙ ap (λ k. got ++ (get_or mem at 0 ∷ bytes_at mem (from (plus at 1) k))) one

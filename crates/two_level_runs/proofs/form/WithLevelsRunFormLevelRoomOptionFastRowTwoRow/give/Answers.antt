@@ -1,0 +1,13 @@
+use Rattle.std.proofs.Common.{◌≡◌, ◌∙◌, ℕ, List, ap, sym}
+use Rattle.firmware_runs.specs.Ports.{given}
+use Rattle.alone_runs.specs.Rows.{input_bytes}
+use Rattle.two_level_runs.proofs.SampleBytes.{got}
+use Rattle.two_level_runs.proofs.form.WithLevelsRunFormLevelRoomOptionFastRowTwoRow.give.Goals as goal
+
+pub returns-clause-state : goal.returns-clause-state
+returns-clause-state g c x e =
+    let same : x ≡ c.as_slice.result.now =
+    got input_bytes c.args.self.now.slow.now c.args.k c.index-self-k.result x c.requires e
+    ∙ sym c.as_slice.ensures.value in
+    c.give.ensures.state
+    ∙ ap (λ (v : List ℕ). given c.args.self.now.two.now.slow.memory_map v c.args.m.now.state) (sym same)

@@ -1,0 +1,23 @@
+use Rattle.std.proofs.Common.{ℕ, List, map, length, sym, subst}
+use Rattle.std.proofs.lemmas.List.{length-map}
+use Rattle.interrupt_plan.specs.{declared.levels.Level.Level, Levels.AreGoodLevels}
+use Rattle.alone_runs.specs.Rows.{input_bytes}
+use Rattle.run_forms.specs.Slices.{IsInOrder}
+use Rattle.two_level_runs.specs.Rows.{place_of_level}
+use Rattle.two_level_runs.proofs.rows.run_two.Goals as goal
+
+pub run_form-requires : goal.run_form-requires
+run_form-requires c = record {
+  served = λ k q within. tt;
+  order = subst (λ (ls : List Level). IsInOrder place_of_level ls) (sym c.as_slice.ensures)
+      (c.levels_are_in_order.ensures (length c.args.fast.now) c.args.levels.now c.requires.levels);
+}
+
+pub returns-clause-answers : goal.returns-clause-answers
+returns-clause-answers c =
+    let a = c.args in
+    let levels = a.levels.now in
+    let good : AreGoodLevels (length (map input_bytes a.fast.now)) levels =
+    subst (λ (n : ℕ). AreGoodLevels n levels) (sym (length-map a.fast.now input_bytes)) c.requires.levels in
+    c.answers_under_levels.ensures a.two.now a.flags (map input_bytes a.slow.now)
+    (map input_bytes a.fast.now) levels c.ranges.flags.fits good

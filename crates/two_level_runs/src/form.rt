@@ -1,0 +1,116 @@
+//! A slow firmware with a fast block beside it, as a form of runs.
+ghost use Rattle.std.specs.Prelude.{ℕ, ◌≡◌, ◌≤◌, ◌<◌, List, Option, Some, length, slice_get};
+ghost use Rattle.run_forms.specs.{Rest.counted_at, Rest.shown_by, Rooms.Fits};
+ghost use Rattle.two_level_runs.specs.{Runs.FastSeen, Rows.TwoSeen, Harness.level_harness};
+
+use crate::rows::TwoRow;
+use crate::serve::{FastRow, serve};
+use alone_runs::Row;
+use cpu12_emul::machine::Machine;
+use cpu12_isa::mem::Mem;
+use firmware_runs::{answers, copy_of, give, is_busy_here, is_idle};
+use fz_list::{List as Items, Memory};
+use interrupt_plan::Level;
+use run_forms::{Room, RunForm, SampleForm, Tally, room_for};
+use std::alloc::Global;
+use trace_io::Sample;
+use two_level_code::Two;
+
+/// A slow firmware with a fast block that runs inside its interrupts, with a trace of each.
+#[derive(Drop)]
+pub(crate) struct WithLevels<'a> {
+    /// Both, of at most four outputs each.
+    pub(crate) two: &'a Two,
+    /// The slow trace.
+    pub(crate) slow: &'a [Sample],
+    /// The fast trace.
+    pub(crate) fast: &'a [Sample],
+    ghost slow_outputs: { two.now.slow.outputs ≤ 4 },
+    ghost fast_outputs: { two.now.fast.outputs ≤ 4 },
+}
+
+impl<'a> SampleForm<Level, Room<Option<FastRow>>, TwoRow> for WithLevels<'a> {
+    ghost Given = { List ℕ };
+
+    ghost Told = { Option FastSeen };
+
+    ghost Shown = { TwoSeen };
+
+    ghost harness = { λ x. level_harness x.two.now x.slow.now x.fast.now };
+
+    ghost fits = { Fits };
+
+    ghost serves = { λ _ _. Unit {0} };
+
+    fn ends<M: Mem>(&self, m: &Machine<M>, _moment: u32) -> bool {
+        is_idle(&self.two.slow.memory_map, m)
+    }
+
+    #[inline(always)]
+    fn goes_on_here<M: Mem>(&self, m: &Machine<M>) -> bool {
+        is_busy_here(&self.two.slow.memory_map, m)
+    }
+
+    fn place(&self, level: &Level) -> (u32, u32) {
+        (level.sample, level.moment)
+    }
+
+    fn take<M: Mem>(
+        &self,
+        m: &mut Machine<M>,
+        level: &Level,
+        moment: u32,
+        notes: &mut Room<Option<FastRow>>,
+    ) {
+        let (frame, told) = serve(m, self.two, self.fast, level);
+        notes.put(moment, frame, told);
+    }
+}
+
+impl<'a> RunForm<Level, Room<Option<FastRow>>, TwoRow> for WithLevels<'a> {
+    fn count(&self) -> usize {
+        self.slow.len()
+    }
+
+    fn give<M: Mem>(&self, m: &mut Machine<M>, k: usize) {
+        give(&self.two.slow.memory_map, m, self.slow[k].bytes.as_slice());
+    }
+
+    fn leave<M: Mem>(&self, _m: &mut Machine<M>, _k: usize) {}
+
+    fn room(&self, alloc: Global, count: usize) -> Result<Room<Option<FastRow>>, Memory> {
+        room_for(alloc, count)
+    }
+
+    fn row<M: Mem>(&self, m: &Machine<M>, k: usize, tally: Tally<Room<Option<FastRow>>>) -> TwoRow
+        requires sample { k < length (level_harness self.now.two.now self.now.slow.now self.now.fast.now).samples }
+        requires few { (n : ℕ) × Fits tally.notes n }
+        ensures { (x : List ℕ)
+            → slice_get (level_harness self.now.two.now self.now.slow.now self.now.fast.now).samples k ≡ Some x
+            → (level_harness self.now.two.now self.now.slow.now self.now.fast.now).seen result
+            ≡ shown_by (level_harness self.now.two.now self.now.slow.now self.now.fast.now).shows
+            (level_harness self.now.two.now self.now.slow.now self.now.fast.now).parts.answers
+            (counted_at (level_harness self.now.two.now self.now.slow.now self.now.fast.now).notes tally
+            m.now.state) x }
+    {
+        let Tally {
+            arrived: _,
+            moment,
+            inside: _,
+            next: _,
+            instrs,
+            resumed,
+            notes,
+        } = tally;
+        let Room { frames, told } = notes;
+        let row = Row {
+            bytes: copy_of(self.slow[k].bytes.as_slice()),
+            answers: answers(&self.two.slow, m),
+            instrs,
+            steps: moment,
+            resumed,
+            frames: Items::new(frames),
+        };
+        TwoRow { row, fast: told }
+    }
+}

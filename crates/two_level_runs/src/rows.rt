@@ -1,0 +1,65 @@
+//! The rows of a slow firmware with fast runs inside its interrupts.
+ghost use Rattle.std.specs.Prelude.{◌≡◌, ◌≤◌, map, length, IfOk};
+ghost use Rattle.interrupt_plan.specs.Levels.{AreGoodLevels};
+ghost use Rattle.alone_runs.specs.Rows.{input_bytes};
+ghost use Rattle.two_level_runs.specs.{Answering.AnswersItsBlocks, Rows.two_seen, Harness.row_seen};
+
+use crate::form::WithLevels;
+use crate::laws::{answers_under_levels, levels_are_in_order};
+use crate::serve::FastRow;
+use alone_runs::Row;
+use cpu12_isa::pages::PageMem;
+use fz_list::Memory;
+use interrupt_plan::Levels;
+use run_forms::{Start, run_form};
+use std::alloc::Global;
+use trace_io::Sample;
+use two_level_code::Two;
+
+/// What the run of a slow sample gave, and the fast runs in its interrupts.
+#[derive(Drop)]
+pub struct TwoRow {
+    /// The slow firmware's row.
+    pub row: Row,
+    /// Of each interrupt in turn its fast run, if it had one.
+    pub fast: Vec<Option<FastRow>>,
+}
+
+/// Runs a slow firmware over a trace, where the interrupts of levels run the fast block over samples of its
+/// own, which inner interrupts interrupt in turn. Answers a row for each slow sample. Bits of `flags` give
+/// the flags that the CPU12 Reference Manual leaves undefined. All memory is taken before the first step,
+/// and want of it is the one error. Where both are those of two blocks, the rows are as
+/// [`answers_under_levels`](crate::answers_under_levels) says.
+pub fn run_two(
+    alloc: Global,
+    two: &Two,
+    slow: &[Sample],
+    fast: &[Sample],
+    levels: &Levels,
+    flags: u8,
+) -> Result<Vec<TwoRow>, Memory>
+    requires slow_outputs { two.now.slow.outputs ≤ 4 }
+    requires fast_outputs { two.now.fast.outputs ≤ 4 }
+    requires levels { AreGoodLevels (length fast.now) levels.now }
+    ensures rows { IfOk result (λ rows. map row_seen rows.items
+        ≡ two_seen two.now (map input_bytes slow.now) (map input_bytes fast.now) levels.now flags) }
+    ensures answers { IfOk result (λ rows. AnswersItsBlocks two.now flags (map input_bytes slow.now)
+        (map input_bytes fast.now) levels.now) }
+{
+    answers_under_levels();
+    levels_are_in_order();
+    let form = WithLevels { two, slow, fast };
+    let start = Start {
+        image: &two.image,
+        wait: two.slow.memory_map.wait,
+        most: two.slow.step_bound,
+    };
+    let (rows, _memory): (Vec<TwoRow>, PageMem) = run_form(
+        alloc,
+        &form,
+        &start,
+        levels.as_slice(),
+        flags,
+    )?;
+    Ok(rows)
+}

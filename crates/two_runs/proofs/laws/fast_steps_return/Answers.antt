@@ -1,5 +1,0 @@
-use Rattle.two_runs.proofs.Returning.{fast_steps_return}
-use Rattle.two_runs.proofs.laws.fast_steps_return.Goals as goal
-
-pub returns : goal.returns
-returns c = fast_steps_return c.step_laws.ensures
