@@ -6,8 +6,9 @@ use Rattle.std.proofs.lemmas.Bool.{or_parts}
 use Rattle.cpu12_isa.specs.declared.instr.Regs.{Regs}
 use Rattle.cpu12_isa.specs.{Act.outcome, Act.write_all, Agreement.AllShown, Agreement.IsWritten, Agreement.WritesStay}
 use Rattle.cpu12_isa.specs.{Memory.plus, Memory.placed, Regions.is_hidden, Regions.LeavesStack}
-use Rattle.cpu12_parts.specs.{declared.temps.Temps.Temps, State.State, Sums.sum_bytes, Cuts.suspended, Cuts.wav}
+use Rattle.cpu12_parts.specs.declared.temps.Temps.{Temps}
 use Rattle.cpu12_parts.specs.declared.temps.Temps.TheVariants.{Free, Running, OnStack}
+use Rattle.cpu12_parts.specs.{State.State, Parts.sum_bytes, Parts.suspended, Parts.wav}
 use Rattle.cpu12_parts.specs.{Inside.PushesRunning, Inside.PushesNone, Laws.IsOff, Laws.addresses}
 use Rattle.cpu12_emul.specs.Step.{Left, Next, step_act, applied, next_of}
 use Rattle.cpu12_emul.specs.Simulation.{OnStackOrNone, Simulates, AreSumsReady, HasRoom, IsShownStep, StepAgrees}

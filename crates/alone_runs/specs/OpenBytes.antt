@@ -2,13 +2,12 @@
 -- Beside the promise.
 use Rattle.std.specs.Prelude.{◌≡◌, ℕ, ◌+◌, ◌<◌, ◌≤◌, Bool, true, false, List, length, slice_index}
 use Rattle.cpu12_isa.specs.Regions.{LeavesStack}
-use Rattle.cpu12_parts.specs.{State.State, Cuts.suspended, Cuts.wav}
+use Rattle.cpu12_parts.specs.{State.State, Parts.suspended, Parts.wav}
 use Rattle.cpu12_emul.specs.Simulation.{OnStackOrNone, Simulates}
 use Rattle.run_law.specs.Uninterrupted.{stepped}
 use Rattle.eval_code.specs.declared.memory_map.MemoryMap.{MemoryMap}
 use Rattle.alone_code.specs.declared.firmware.Firmware.{Firmware}
-use Rattle.firmware_runs.specs.Ports.{given}
-use Rattle.firmware_runs.specs.Facts.{FactsBeside}
+use Rattle.firmware_runs.specs.{Ports.given, Facts.FactsBeside}
 
 -- the open bytes are as they were
 abbrev pub AreOpenAlike : (ℕ → Bool) → List ℕ → List ℕ → Type 0

@@ -1,5 +1,5 @@
 -- The rows of a firmware that stands alone, over a list of samples under a plan.
--- Reached by the promise.
+-- Beside the promise.
 use Rattle.std.specs.Prelude.{ℕ, ◌-◌, List, [], map, slice_index_or}
 use Rattle.cpu12_parts.specs.State.{State}
 use Rattle.run_law.specs.Forms.{RowSeen, Rows, rows_from}
@@ -10,6 +10,7 @@ use Rattle.run_forms.specs.declared.sample.Room.{Room}
 use Rattle.run_forms.specs.{Rooms.room_notes, Forms.Harness, Rows.of_sample, Rows.frames_seen, Rows.arrived_at}
 use Rattle.alone_runs.specs.declared.rows.Row as declared
 use Rattle.alone_runs.specs.Forms.{place_of, listed_writes, with_writes}
+use Rattle.trace_io.specs.Traces.{input_bytes}
 
 abbrev pub requests_of : ℕ → List Request → List Request
 requests_of k plan = of_sample place_of k plan
@@ -28,9 +29,6 @@ row_seen r = record {
 -- the state in which a firmware waits for its first sample
 abbrev pub first_state : Firmware → ℕ → State
 first_state f flags = arrived_at flags f.memory_map.wait f.step_bound f.image.bytes
-
-abbrev pub input_bytes : Sample → List ℕ
-input_bytes s = s.bytes.items
 
 -- the input bytes of sample k, counted from 1
 abbrev pub bytes_of : List (List ℕ) → ℕ → List ℕ

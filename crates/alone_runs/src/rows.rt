@@ -2,7 +2,8 @@
 ghost use Rattle.std.specs.Prelude.{ℕ, ◌≡◌, ◌≤◌, length, map, IfOk};
 ghost use Rattle.interrupt_plan.specs.Plans.{IsGood};
 ghost use Rattle.run_forms.specs.Rows.{frames_seen};
-ghost use Rattle.alone_runs.specs.{Rows.row_seen, Rows.input_bytes, Rows.firmware_rows, Answering.AnswersItsBlock};
+ghost use Rattle.alone_runs.specs.{Rows.row_seen, Rows.firmware_rows, Answering.AnswersItsBlock};
+ghost use Rattle.trace_io.specs.Traces.{input_bytes};
 
 use crate::laws::answers_under_plans;
 use crate::session::Session;

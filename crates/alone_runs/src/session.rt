@@ -3,7 +3,8 @@ ghost use Rattle.std.specs.Prelude.{ℕ, ◌≡◌, ◌≤◌, ◌∷◌, [], tr
 ghost use Rattle.std.specs.Prelude.{length, min, map, slice_index, slice_set};
 ghost use Rattle.cpu12_isa.specs.Watching.{any_changed, noted_again, nothing_noted};
 ghost use Rattle.interrupt_plan.specs.Plans.{IsGood};
-ghost use Rattle.alone_runs.specs.Rows.{row_seen, input_bytes, first_state, firmware_rows};
+ghost use Rattle.alone_runs.specs.Rows.{row_seen, first_state, firmware_rows};
+ghost use Rattle.trace_io.specs.Traces.{input_bytes};
 ghost use Rattle.run_forms.specs.Outlooks.{from_here, at_position, of_run};
 
 use crate::form::WithWrites;

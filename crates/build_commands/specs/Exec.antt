@@ -9,10 +9,10 @@ use Rattle.cpu12_emul.specs.{Image.image_memory, Run.EndsRun, Step.reset_with, d
 use Rattle.cpu12_emul.specs.declared.ends.RunEnd.TheVariants as end
 use Rattle.srecord.specs.Texts.{GivesImage}
 use Rattle.command_parts.specs.{SeenOutputs.SeenOutput, SeenOutputs.only_text, Images.records_refusals}
-use Rattle.command_parts.specs.{Lines.line, Lines.with_registers, Words.flags_of, Words.number_of}
+use Rattle.command_parts.specs.{Lines.line, Lines.with_registers, Words.number_of}
+use Rattle.fz_status.specs.{Words.flags_of, declared.status.Status.Status}
 use Rattle.build_commands.specs.declared.exec.Exec.{Exec}
 use Rattle.fz_status.specs.{Refusals.Refusals, Refusals.Refuses, Words.Text, Words.word_at}
-use Rattle.fz_status.specs.declared.status.Status.{Status}
 use Rattle.fz_status.specs.declared.status.Status.TheVariants as status
 
 abbrev pub exec_with : ℕ → ℕ → Exec

@@ -2,8 +2,8 @@
 -- Reached by the promise.
 use Rattle.std.specs.Prelude.{◌≡◌, ℕ, List, [], ◌∷◌, ◌+◌, ◌*◌, ◌/◌, ◌<◌, ◌≤◌, min, Bool, IsTrue, ◌==◌, pos, ◌+ℤ◌, ◌*ℤ◌}
 use Rattle.std.specs.Prelude.{◌≤ℤ◌, ◌<ℤ◌}
-use Rattle.fz_num.specs.{declared.dec.Dec.Dec, Fracs.Quotient, Decimals.distance}
-use Rattle.fz_num.specs.Fractions.{Fraction, over, IsProper, AtMost, IsBelow}
+use Rattle.fz_num.specs.{declared.dec.Dec.Dec, Decimals.distance}
+use Rattle.fz_num.specs.Fractions.{Quotient, Fraction, over, IsProper, AtMost, IsBelow}
 use Rattle.fuzzy_meaning.specs.{declared.block.Input.Input, declared.block.Output.Output, Blocks.IsWithin}
 
 -- of a range in 256 parts, the one that x lies in; the high end lies in the last

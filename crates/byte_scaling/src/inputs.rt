@@ -1,6 +1,6 @@
 //! Bytes of an input's range.
 ghost use Rattle.std.specs.Prelude.{◌≡◌, ◌↔◌, ◌+◌, IsOk, IfOk};
-ghost use Rattle.fz_num.specs.{Fractions.over, Fracs.fraction_of, Fracs.IsTruth};
+ghost use Rattle.fz_num.specs.Fractions.{over, fraction_of, IsTruth};
 ghost use Rattle.fuzzy_meaning.specs.Blocks.{IsValidInput, IsWithin};
 ghost use Rattle.byte_scaling.specs.Cells.{byte_of, LiesInCell, CellsAreApart, NumbersLieInTheirCells, BytesAscend};
 

@@ -3,14 +3,14 @@ use Rattle.std.proofs.Common.{◌≡◌, ℕ, zero, suc, ◌≤◌, List, [], �
 use Rattle.std.specs.Prelude.{slice_get}
 use Rattle.std.proofs.lemmas.Option.{slice_get_within}
 use Rattle.fz_list.proofs.Algebra.{some_at}
-use Rattle.fz_num.specs.{Decimals.distance, Fracs.Quotient, Fracs.IsClose}
+use Rattle.fz_num.specs.{Decimals.distance, Fractions.Quotient, Fractions.IsClose}
 use Rattle.fz_num.proofs.Algebra.{IsClose-more}
 use Rattle.fuzzy_meaning.specs.{declared.block.Output.Output, Meaning.answer_after}
 use Rattle.byte_scaling.specs.Cells.{value_in}
 use Rattle.point_slope.specs.Bytes.{answer_in}
 use Rattle.error_bound.specs.declared.boxes.Interval.{Interval}
-use Rattle.error_bound.specs.{Boxes.IsBox, Boxes.LieIn, Laws.IsInside, MassRanges.AnswersToMassesAreNear}
 use Rattle.error_bound.specs.TightLaws.{IsAnsweredWithin, kept, near, TightAnswersAreNear}
+use Rattle.error_bound.specs.{Boxes.IsBox, Boxes.LieIn, Laws.IsInside, MassRanges.AnswersToMassesAreNear}
 use Rattle.cell_bounds.specs.Cells.{IsCell, cell_of, AnswersOnCellsAreNear}
 use Rattle.cell_bounds.specs.CellBounds.{HasCellBound, of_tight, of_error, of_bound, of_none, BoxesOfCellsAnswer}
 use Rattle.cell_bounds.specs.CellBounds.{CellCountsAreOne, CellsBoundsAreOne, CellsBoundsFallInside}

@@ -7,9 +7,9 @@ use Rattle.std.proofs.lemmas.List.Sums.{sum_by-cons}
 use Rattle.fz_list.proofs.Algebra.{some_at}
 use Rattle.fz_num.specs.declared.dec.Dec.{Dec}
 use Rattle.fuzzy_meaning.specs.declared.{block.Block.Block, block.Input.Input, block.Output.Output, block.Rule.Rule}
-use Rattle.fuzzy_meaning.specs.declared.block.Trapezoid.{Trapezoid}
-use Rattle.fuzzy_meaning.specs.{Blocks.input_at, Blocks.output_at, Rules.concludes}
+use Rattle.fuzzy_meaning.specs.{Blocks.input_at, Blocks.output_at, Meaning.concludes}
 use Rattle.fuzzy_meaning.specs.Conditions.{Condition, level, levels}
+use Rattle.fuzzy_meaning.specs.declared.block.Trapezoid.{Trapezoid}
 use Rattle.fuzzy_meaning.proofs.Algebra.{evaluate-alike}
 use Rattle.byte_scaling.specs.{Cells.nearest_byte, Weights.weight_byte_of}
 use Rattle.point_slope.specs.Tables.{row_of, grade_of}

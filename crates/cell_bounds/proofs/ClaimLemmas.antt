@@ -2,17 +2,17 @@
 use Rattle.std.proofs.Common.{◌≡◌, ◌⊎◌, ⊎_elim, ℕ, ◌≤◌, List, length, Option, Some, None, refl, sym, subst, ◌∙◌, arith}
 use Rattle.std.specs.Prelude.{IfSome}
 use Rattle.std.proofs.lemmas.Bool.{cases_eq}
-use Rattle.fz_num.specs.{declared.dec.Dec.Dec, Fracs.Quotient}
+use Rattle.fz_num.specs.{declared.dec.Dec.Dec, Fractions.Quotient}
 use Rattle.fuzzy_meaning.specs.declared.{block.Block.Block, block.Output.Output}
 use Rattle.fuzzy_meaning.specs.{Blocks.IsValid, Meaning.answer_after}
 use Rattle.byte_scaling.specs.Cells.{value_in}
 use Rattle.point_slope.specs.Bytes.{answer_in}
 use Rattle.error_bound.specs.declared.{boxes.Interval.Interval, boxes.Leaf.Leaf}
-use Rattle.error_bound.specs.{Answers.Follows, Answers.AnswersAreNear, Bounds.IsBound}
 use Rattle.error_bound.specs.BestLeaves.{IsBestBound, of_leaf, of_none, BestLeavesAreOne, BestBoundsAreLeast}
-use Rattle.error_bound.specs.{Laws.BoundsAreDetermined, Laws.BoundsFallWithParts, Tight.of_bound as tight_of_bound}
 use Rattle.error_bound.specs.TightLaws.{IsAnsweredWithin, kept, near, TightAnswersAreNear, TightBoundsAreOne}
 use Rattle.error_bound.specs.TightLaws.{TightBoundsAreLeast, TightBoundsHoldInside, TightBoundsFallWithParts}
+use Rattle.error_bound.specs.{Answers.Follows, Answers.AnswersAreNear, Bounds.IsBound, Laws.BoundsAreDetermined}
+use Rattle.error_bound.specs.{Laws.BoundsFallWithParts, Tight.of_bound as tight_of_bound}
 use Rattle.cell_bounds.specs.declared.claims.Claim.TheVariants.{Pair, Tight, Cells}
 use Rattle.box_tree.specs.declared.cert.CertKind.TheVariants as kind
 use Rattle.cell_bounds.specs.Cells.{cell_of}

@@ -1,7 +1,7 @@
 -- The Bound of a cell, and of a leaf of cells.
 -- Beside the promise.
 use Rattle.std.specs.Prelude.{◌≡◌, ℕ, ◌+◌, ◌-◌, ◌*◌, ◌<◌, ◌≤◌, ◌⊎◌, List, [], ◌∷◌, length, IfSome}
-use Rattle.fz_num.specs.{declared.dec.Dec.Dec, Fracs.Quotient}
+use Rattle.fz_num.specs.{declared.dec.Dec.Dec, Fractions.Quotient}
 use Rattle.fuzzy_meaning.specs.declared.{block.Block.Block, block.Output.Output}
 use Rattle.fuzzy_meaning.specs.{Blocks.output_at, Meaning.answer_after}
 use Rattle.byte_scaling.specs.Cells.{value_in}

@@ -1,14 +1,14 @@
 -- What a leaf of each sort says of a box: one names a rule or silence, one nothing, and one the box's cells.
 -- Beside the promise.
 use Rattle.std.specs.Prelude.{◌≡◌, ℕ, ◌≤◌, List, length, Some}
-use Rattle.fz_num.specs.{declared.dec.Dec.Dec, Fracs.Quotient}
+use Rattle.fz_num.specs.{declared.dec.Dec.Dec, Fractions.Quotient}
 use Rattle.fuzzy_meaning.specs.declared.{block.Block.Block, block.Output.Output}
 use Rattle.fuzzy_meaning.specs.{Blocks.output_at, Blocks.IsValid, Meaning.answer_after}
 use Rattle.byte_scaling.specs.Cells.{value_in}
 use Rattle.point_slope.specs.Bytes.{answer_in}
 use Rattle.error_bound.specs.{declared.boxes.Interval.Interval, BestLeaves.IsBestBound, Boxes.IsBox, Boxes.LieIn}
-use Rattle.error_bound.specs.{Bounds.IsBound, Leaves.Holds, MassRanges.AreOverBox}
-use Rattle.error_bound.specs.{Tight.IsTightBound, Tight.IsTightCount, TightLaws.IsAnsweredWithin}
+use Rattle.error_bound.specs.{Bounds.IsBound, Leaves.Holds, MassRanges.AreOverBox, Tight.IsTightBound}
+use Rattle.error_bound.specs.{Tight.IsTightCount, TightLaws.IsAnsweredWithin}
 use Rattle.cell_bounds.specs.declared.claims.Claim.{Claim}
 use Rattle.cell_bounds.specs.declared.claims.Claim.TheVariants.{Pair, Tight, Cells}
 use Rattle.box_tree.specs.declared.cert.CertKind.{CertKind}

@@ -4,7 +4,7 @@ use Rattle.std.proofs.Common.{sym, ap, ap₂, ◌∙◌, subst, arith, mul-pos}
 use Rattle.std.specs.Prelude.{nat_le, ◌&&◌, slice_get, fold, All}
 use Rattle.std.proofs.lemmas.Int.{ints}
 use Rattle.std.proofs.lemmas.Bool.Decides.{nat_tests}
-use Rattle.fz_num.specs.{declared.dec.Dec.Dec, Decimals.distance, Fracs.Quotient, Fracs.IsClose}
+use Rattle.fz_num.specs.{declared.dec.Dec.Dec, Decimals.distance, Fractions.Quotient, Fractions.IsClose}
 use Rattle.fuzzy_meaning.specs.declared.{block.Block.Block, block.Input.Input, block.Output.Output}
 use Rattle.fuzzy_meaning.specs.Blocks.{IsValid, IsValidInput, AreInputs, output_at}
 use Rattle.fuzzy_meaning.specs.Meaning.{answer_after, first_answer}

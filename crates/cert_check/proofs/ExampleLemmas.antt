@@ -3,7 +3,8 @@ use Rattle.std.proofs.Common.{◌≡◌, ℕ, zero, suc, ◌-◌, ◌≤◌, Lis
 use Rattle.std.specs.Prelude.{slice_get, All, IsTrue, pos}
 use Rattle.fz_num.specs.Fractions.{over, AtMost}
 use Rattle.fuzzy_meaning.specs.declared.{block.Block.Block, block.Output.Output, block.Rule.Rule}
-use Rattle.fuzzy_meaning.specs.{Rules.concludes, Conditions.is, Conditions.negation, Blocks.IsValid, Blocks.output_at}
+use Rattle.fuzzy_meaning.specs.{Meaning.concludes, Conditions.is, Conditions.negation}
+use Rattle.fuzzy_meaning.specs.Blocks.{IsValid, output_at}
 use Rattle.fuzzy_meaning.specs.Examples.{dec, heater, latch, ExamplesAreValid}
 use Rattle.error_bound.specs.declared.boxes.Interval.{Interval}
 use Rattle.error_bound.specs.declared.boxes.Leaf as the

@@ -1,7 +1,7 @@
 -- What an accepted certificate says.
 -- Beside the promise.
 use Rattle.std.specs.Prelude.{◌≡◌, ◌≢◌, ℕ, ◌-◌, ◌≤◌, true, List, ◌++◌, map, fold, All, Some, slice_get, Result, Ok, Err}
-use Rattle.fz_num.specs.{declared.dec.Dec.Dec, Decimals.distance, Fracs.IsClose}
+use Rattle.fz_num.specs.{declared.dec.Dec.Dec, Decimals.distance, Fractions.IsClose}
 use Rattle.fuzzy_meaning.specs.declared.{block.Block.Block, block.Output.Output}
 use Rattle.fuzzy_meaning.specs.{Blocks.IsValid, Blocks.AreInputs, Blocks.output_at, Meaning.exact_answer}
 use Rattle.byte_scaling.specs.Cells.{bytes_of, value_in}
@@ -9,12 +9,10 @@ use Rattle.point_slope.specs.Bytes.{answer_in}
 use Rattle.error_bound.specs.declared.boxes.Interval.{Interval}
 use Rattle.box_tree.specs.declared.cert.CertKind.{CertKind}
 use Rattle.box_tree.specs.declared.cert.CertKind.TheVariants as kind
-use Rattle.byte_scaling.specs.declared.width.Width.{Width}
+use Rattle.byte_scaling.specs.declared.{width.Width.Width, width.Width.TheVariants.Byte, width.Width.TheVariants.Word}
 use Rattle.box_tree.specs.declared.{cert.LeafForm.LeafForm, cert.Node.Node}
-use Rattle.byte_scaling.specs.declared.width.Width.TheVariants.{Byte, Word}
 use Rattle.box_tree.specs.declared.cert.LeafForm.TheVariants.{Pairs, Tight, Cells}
-use Rattle.box_tree.specs.declared.cert.Node.TheVariants.{Split, Leaf}
-use Rattle.box_tree.specs.declared.cert.Cert.{Cert}
+use Rattle.box_tree.specs.declared.{cert.Node.TheVariants.Split, cert.Node.TheVariants.Leaf, cert.Cert.Cert}
 use Rattle.box_tree.specs.{Certificates.IsCert, Texts.version_line, Texts.lines_of}
 use Rattle.cert_check.specs.{Trees.Part, Trees.IsTree, Trees.lies, Trees.leaves_with, Acceptance.IsAccepted}
 use Rattle.cert_check.specs.{Faults.HasCheckFault, TextFaults.IsAcceptedText, TextFaults.HasTextFault}

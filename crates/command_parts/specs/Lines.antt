@@ -2,8 +2,8 @@
 -- Reached by the promise.
 use Rattle.std.specs.Prelude.{ℕ, ◌+◌, List, [], ◌∷◌, ◌++◌, codes, decimal}
 use Rattle.cpu12_isa.specs.declared.instr.Regs.{Regs}
-use Rattle.fz_shelf.specs.Parts.{address_digits, byte_digits}
-use Rattle.fz_status.specs.{FaultLines.newline, Words.Text}
+use Rattle.fz_shelf.specs.Parts.{address_digits, byte_digits, newline}
+use Rattle.fz_status.specs.Words.{Text}
 
 -- a label, a number and the end of the line
 abbrev pub line : Text → ℕ → List ℕ

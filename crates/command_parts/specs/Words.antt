@@ -1,19 +1,10 @@
 -- The forms of words.
--- Reached by the promise.
-use Rattle.std.specs.Prelude.{ℕ, ◌&&◌, nat_le, nat_lt, if◌then◌else◌, List, length, Option, Some, None, Result, Ok, Err}
+-- Beside the promise.
+use Rattle.std.specs.Prelude.{ℕ, ◌&&◌, nat_le, nat_lt, if◌then◌else◌, length, Option, Some, None}
 use Rattle.std.specs.Char.{is_ascii_digit}
-use Rattle.std.specs.List.{list_all, slice_index_or}
+use Rattle.std.specs.List.{list_all}
 use Rattle.std.specs.Str.Parse.{digits_value}
-use Rattle.hex.specs.Hex.{decode_sized}
 use Rattle.fz_status.specs.Words.{Text}
-
-abbrev pub only_byte : {E : Type 0} → Result (List ℕ) E → Option ℕ
-only_byte (Ok bytes) = Some (slice_index_or bytes 0 0)
-only_byte (Err e) = None
-
--- two hexadecimal digits
-abbrev pub flags_of : Text → Option ℕ
-flags_of text = only_byte (decode_sized text 1)
 
 -- one or more decimal digits, of a number up to the greatest
 abbrev pub number_up_to : ℕ → Text → Option ℕ

@@ -2,7 +2,8 @@
 ghost use Rattle.std.specs.Prelude.{◌≡◌, ◌≤◌};
 ghost use Rattle.std.specs.Char.{is_ascii_digit};
 ghost use Rattle.std.specs.List.{list_all};
-ghost use Rattle.command_parts.specs.Words.{flags_of, number_of, number_up_to};
+ghost use Rattle.fz_status.specs.Words.{flags_of};
+ghost use Rattle.command_parts.specs.Words.{number_of, number_up_to};
 
 use std::marker::Model;
 

@@ -1,16 +1,16 @@
 -- A step leaves what fits.
 use Rattle.std.proofs.Common.{◌≡◌, ℕ, ◌^◌, ◌<◌, Result, Ok, Err, List, get_or, refl, sym, subst, arith, inl, inr}
 use Rattle.cpu12_isa.specs.declared.{instr.Regs.Regs, instr.Instr.Instr}
-use Rattle.cpu12_isa.specs.declared.instr.Instr.TheVariants.{Rev, Revw, Wav, Wavr}
 use Rattle.cpu12_isa.specs.Act.{Act, outcome, bind, write_all}
-use Rattle.cpu12_isa.specs.{Memory.from, Memory.bytes_at, Code.FitsOperands, Code.decode_at, Meaning.act_of}
 use Rattle.cpu12_isa.specs.Fits.{FitsRegs, FitsWrites, AreBytes, StaysFit, BytesStay, DecodedFits}
+use Rattle.cpu12_isa.specs.declared.instr.Instr.TheVariants.{Rev, Revw, Wav, Wavr}
+use Rattle.cpu12_isa.specs.{Memory.from, Memory.bytes_at, Code.FitsOperands, Code.decode_at, Meaning.act_of}
 use Rattle.cpu12_isa.proofs.Algebra.{outcome_bind, bytes_at_fit}
-use Rattle.cpu12_parts.specs.declared.temps.Temps.{Temps}
+use Rattle.cpu12_parts.specs.{declared.temps.Temps.Temps, Laws.IsOff, Laws.state_of}
 use Rattle.cpu12_parts.specs.declared.temps.Temps.TheVariants.{Free, Running, OnStack}
-use Rattle.cpu12_parts.specs.{State.State, State.Outcome, Parts.rev_act, Parts.revw_act, Parts.wav_act}
-use Rattle.cpu12_parts.specs.{Sums.sums_of, Sums.wav_pull, Laws.IsOff, Laws.state_of, Cuts.rev, Cuts.revw, Cuts.wav}
+use Rattle.cpu12_parts.specs.Parts.{sums_of, wav_pull, rev, revw, wav}
 use Rattle.cpu12_parts.specs.Fits.{FitsTemps, FitsState, FitsOutcome, PartFits}
+use Rattle.cpu12_parts.specs.{State.State, State.Outcome, Parts.rev_act, Parts.revw_act, Parts.wav_act}
 use Rattle.cpu12_emul.specs.Step.{Left, Next, left_by_part, left_by_plain, instruction_act, step_act, applied}
 use Rattle.cpu12_emul.specs.Fits.{StepFits}
 use Rattle.cpu12_emul.proofs.Stepping.{step_by_bytes}

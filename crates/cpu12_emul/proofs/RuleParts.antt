@@ -4,16 +4,15 @@ use Rattle.std.proofs.Common.{get_or, get_or-set_other, refl, ap, sym, ◌∙◌
 use Rattle.std.specs.Prelude.{if◌then◌else◌}
 use Rattle.std.proofs.lemmas.Bool.{eqb-true}
 use Rattle.cpu12_isa.specs.declared.{instr.Regs.Regs, instr.Instr.Instr}
-use Rattle.cpu12_isa.specs.declared.instr.Instr.TheVariants.{Rev, Revw}
-use Rattle.cpu12_isa.specs.{Act.Act, Act.outcome, Act.write_all, Code.decode_at, Code.decode_of}
 use Rattle.cpu12_isa.specs.Flags.{has, put, opened, carry, overflow, hnzc, hnz}
 use Rattle.cpu12_isa.specs.Memory.{plus, word_of, bytes_at}
+use Rattle.cpu12_isa.specs.declared.instr.Instr.TheVariants.{Rev, Revw}
+use Rattle.cpu12_isa.specs.{Act.Act, Act.outcome, Act.write_all, Code.decode_at, Code.decode_of}
 use Rattle.cpu12_parts.specs.declared.{temps.Temps.Temps, temps.PartEnd.PartEnd}
-use Rattle.cpu12_parts.specs.declared.temps.PartEnd.TheVariants.{More, Done}
-use Rattle.cpu12_parts.specs.Cuts.{Kind, rev, revw, part_of, after_part}
-use Rattle.cpu12_parts.specs.{Inside.own_address, Inside.GoesOnAt, Inside.LeavesSums, State.State, State.Outcome}
+use Rattle.cpu12_parts.specs.Parts.{Kind, rev, revw, part_of, after_part, leaving, met, rev_element, revw_element}
 use Rattle.cpu12_parts.specs.Laws.{IsOff, IsSteady, Any, state_of}
-use Rattle.cpu12_parts.specs.Parts.{leaving, met, rev_element, revw_element}
+use Rattle.cpu12_parts.specs.declared.temps.PartEnd.TheVariants.{More, Done}
+use Rattle.cpu12_parts.specs.{Inside.own_address, Inside.GoesOnAt, Inside.LeavesSums, State.State, State.Outcome}
 use Rattle.cpu12_emul.specs.declared.ends.Stepped.TheVariants.{Part}
 use Rattle.cpu12_emul.specs.Ruling.{Stands, GoesOnBeside, RevGoesOn, RevwGoesOn, Ruled}
 use Rattle.cpu12_emul.specs.{Simulation.PartIsStep, Step.Left, Step.kind_of, Step.applied, Step.next_of}

@@ -2,17 +2,15 @@
 use Rattle.std.proofs.Common.{◌≡◌, ℕ, ◌+◌, ◌*◌, ◌/◌, ◌%◌, ◌^◌, ◌<◌, Bool, true, false, Result, Ok, List, [], ◌∷◌, ◌++◌}
 use Rattle.std.proofs.Common.{get_or, refl, ap, sym, ◌∙◌, subst}
 use Rattle.std.proofs.Common.{arith, inl, inr}
-use Rattle.cpu12_isa.specs.declared.{instr.Regs.Regs, instr.Instr.Instr}
-use Rattle.cpu12_isa.specs.declared.instr.Instr.TheVariants.{Rev, Revw, Wav, Wavr}
+use Rattle.cpu12_isa.specs.{declared.instr.Regs.Regs, declared.instr.Instr.Instr, Regions.is_hidden}
 use Rattle.cpu12_isa.specs.Act.{Act, Give, Get, outcome, read_by, bind, get_all, write_all}
+use Rattle.cpu12_isa.specs.declared.instr.Instr.TheVariants.{Rev, Revw, Wav, Wavr}
 use Rattle.cpu12_isa.specs.{Memory.plus, Memory.from, Memory.bytes_at, Code.decode_at, Code.decode_of, Code.six_from}
 use Rattle.cpu12_isa.specs.{Meaning.act_of, Meaning.is_plain, Agreement.Agree, Agreement.WritesAgree}
-use Rattle.cpu12_isa.specs.Regions.{is_hidden}
 use Rattle.cpu12_isa.proofs.Algebra.{outcome_bind, read_by_bind, same_outcome}
 use Rattle.cpu12_parts.specs.declared.{temps.Temps.Temps, temps.Temps.TheVariants.Running}
-use Rattle.cpu12_parts.specs.declared.temps.PartEnd.TheVariants.{More}
-use Rattle.cpu12_parts.specs.{State.State, State.Outcome, Parts.wav_act, Sums.sum_bytes, Sums.sums_of, Sums.wav_pull}
-use Rattle.cpu12_parts.specs.{Cuts.Kind, Cuts.rev, Cuts.revw, Cuts.wav, Laws.IsOff}
+use Rattle.cpu12_parts.specs.{State.State, State.Outcome, Laws.IsOff, declared.temps.PartEnd.TheVariants.More}
+use Rattle.cpu12_parts.specs.Parts.{wav_act, sum_bytes, sums_of, wav_pull, Kind, rev, revw, wav}
 use Rattle.cpu12_emul.specs.Step.{Left, Next, step_act, instruction_act, left_by_part, left_by_plain, applied}
 use Rattle.cpu12_emul.specs.Step.{next_of}
 use Rattle.cpu12_emul.specs.Simulation.{Same, Parked, AreSumsReady, HasRoom, IsShownStep, StepsAlike, StepAgrees}

@@ -4,14 +4,15 @@ use Rattle.std.proofs.Common.{◌++◌, length, refl, ap, ap₂, sym, ◌∙◌}
 use Rattle.std.proofs.Common.{subst, arith, inl, inr, lit≤}
 use Rattle.std.proofs.lemmas.Bool.{or_parts, false≢true}
 use Rattle.cpu12_isa.specs.declared.{instr.Regs.Regs, instr.Write.Write}
+use Rattle.cpu12_isa.specs.Interrupts.{FrameComesBack, HidesMoreAbove, ShowsFromSp, HidesPushed}
 use Rattle.cpu12_isa.specs.{Act.write_all, Memory.plus, Memory.from, Memory.placed, Memory.bytes_at}
 use Rattle.cpu12_isa.specs.{Registers.frame_bytes, Registers.pulled, Agreement.Agree, Agreement.IsWritten}
 use Rattle.cpu12_isa.specs.{Regions.stack_start, Regions.is_hidden, Regions.LeavesStack, Fits.FitsRegs}
-use Rattle.cpu12_isa.specs.Interrupts.{FrameComesBack, HidesMoreAbove, ShowsFromSp, HidesPushed}
 use Rattle.cpu12_isa.proofs.Algebra.{unwritten, length_writes, agree_with, place_of, read_placed, bytes_unwritten}
 use Rattle.cpu12_isa.proofs.Algebra.{bytes_split, same_bytes}
 use Rattle.cpu12_parts.specs.{declared.temps.Temps.Temps, declared.temps.Temps.TheVariants.Running, State.State}
-use Rattle.cpu12_parts.specs.{Sums.sum_bytes, Laws.IsOff, Inside.pushed_sums, Inside.PushesRunning, Inside.PushesNone}
+use Rattle.cpu12_parts.specs.{Parts.sum_bytes, Laws.IsOff}
+use Rattle.cpu12_parts.specs.Inside.{pushed_sums, PushesRunning, PushesNone}
 use Rattle.cpu12_parts.proofs.Algebra.{temps_cases}
 use Rattle.cpu12_emul.specs.Take.{pairs_of, pushed, written, framed, taken, FrameSeen, frame_size, frame_of, frame_in}
 use Rattle.cpu12_emul.specs.Simulation.{AreOpen, Same, Marks, Parked, HasRoom, TakesQuietly, TakeKeeps}

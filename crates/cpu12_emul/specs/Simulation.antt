@@ -3,13 +3,13 @@
 use Rattle.std.specs.Prelude.{◌≡◌, ℕ, ◌+◌, ◌^◌, ◌<◌, ◌≤◌, ◌⊎◌, Bool, true, false, Ok, List, [], ◌∷◌, ◌++◌, length}
 use Rattle.std.specs.Prelude.{slice_index}
 use Rattle.cpu12_isa.specs.declared.{instr.Regs.Regs, instr.Write.Write, instr.Instr.Instr}
+use Rattle.cpu12_isa.specs.Regions.{stack_start, stack_end, is_hidden, LeavesStack}
 use Rattle.cpu12_isa.specs.{Act.outcome, Act.read_by, Act.write_all, Memory.plus, Memory.from, Memory.bytes_at}
 use Rattle.cpu12_isa.specs.{Code.decode_at, Code.six_from, Meaning.act_of, Meaning.effect, Meaning.is_plain}
 use Rattle.cpu12_isa.specs.{Agreement.Agree, Agreement.AllShown, Agreement.Uncovers, Fits.FitsRegs}
-use Rattle.cpu12_isa.specs.Regions.{stack_start, stack_end, is_hidden, LeavesStack}
-use Rattle.cpu12_parts.specs.{declared.temps.Temps.Temps, State.State, State.Outcome, Sums.sum_bytes, Laws.IsOff}
+use Rattle.cpu12_parts.specs.{declared.temps.Temps.Temps, State.State, State.Outcome, Laws.IsOff}
 use Rattle.cpu12_parts.specs.declared.temps.Temps.TheVariants.{Free, Running, OnStack}
-use Rattle.cpu12_parts.specs.Cuts.{Kind, part_of, wav}
+use Rattle.cpu12_parts.specs.Parts.{sum_bytes, Kind, part_of, wav}
 use Rattle.cpu12_emul.specs.declared.ends.Stepped.TheVariants.{Plain}
 use Rattle.cpu12_emul.specs.Step.{Left, Next, kind_of, step_act, next_of}
 use Rattle.cpu12_emul.specs.Take.{framed, taken, frame_of, frame_in}

@@ -5,10 +5,10 @@ use Rattle.cpu12_isa.specs.{Memory.word_of, Meaning.Effect, Meaning.act_of, Code
 use Rattle.cpu12_isa.specs.Act.{Act, Give, outcome, bind, get_all, write_all}
 use Rattle.cpu12_isa.specs.declared.{instr.Regs.Regs, instr.Instr.Instr}
 use Rattle.cpu12_isa.specs.declared.instr.Instr.TheVariants.{Rev, Revw, Wav, Wavr}
-use Rattle.cpu12_parts.specs.declared.{temps.Temps.Temps, temps.PartEnd.PartEnd}
+use Rattle.cpu12_parts.specs.{declared.temps.Temps.Temps, declared.temps.PartEnd.PartEnd, State.State, State.Outcome}
+use Rattle.cpu12_parts.specs.Parts.{rev_act, revw_act, wav_act, wav_pull}
 use Rattle.cpu12_parts.specs.declared.temps.Temps.TheVariants.{Free, Running, OnStack}
 use Rattle.cpu12_parts.specs.declared.temps.PartEnd.TheVariants.{More, Done}
-use Rattle.cpu12_parts.specs.{State.State, State.Outcome, Parts.rev_act, Parts.revw_act, Parts.wav_act, Sums.wav_pull}
 use Rattle.cpu12_emul.specs.declared.ends.Stepped.{Stepped}
 use Rattle.cpu12_emul.specs.declared.ends.Stepped.TheVariants.{Plain, Part, LastPart}
 

@@ -2,10 +2,11 @@
 -- Reached by the promise.
 use Rattle.std.specs.Prelude.{ℕ, Bool, true, not, List, [], ◌∷◌, ◌++◌}
 use Rattle.cpu12_isa.specs.{declared.instr.Write.Write, Act.write_all, Flags.interrupts_masked, Flags.has, Flags.put}
-use Rattle.cpu12_isa.specs.Memory.{plus, from, placed, bytes_at}
 use Rattle.cpu12_isa.specs.{Regions.vector_word, Registers.frame_bytes, Registers.pulled}
-use Rattle.cpu12_parts.specs.{declared.temps.Temps.Temps, State.State, Sums.sum_bytes, Cuts.suspended, Cuts.wav}
+use Rattle.cpu12_isa.specs.Memory.{plus, from, placed, bytes_at}
+use Rattle.cpu12_parts.specs.declared.temps.Temps.{Temps}
 use Rattle.cpu12_parts.specs.declared.temps.Temps.TheVariants.{Free, Running, OnStack}
+use Rattle.cpu12_parts.specs.{State.State, Parts.sum_bytes, Parts.suspended, Parts.wav}
 use Rattle.cpu12_emul.specs.declared.ends.Frame.{Frame}
 
 -- I is 0

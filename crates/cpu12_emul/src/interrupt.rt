@@ -2,7 +2,7 @@
 ghost use Rattle.std.specs.Prelude.{ℕ, ◌≡◌, ◌≤◌, ◌++◌, IsTrue};
 ghost use Rattle.arrayvec.specs.ArrayVec.{array_vec_len};
 ghost use Rattle.cpu12_isa.specs.{Act.write_all, Memory.from, Memory.bytes_at};
-ghost use Rattle.cpu12_parts.specs.{State.State, Cuts.suspended, Cuts.wav};
+ghost use Rattle.cpu12_parts.specs.{State.State, Parts.suspended, Parts.wav};
 ghost use Rattle.cpu12_emul.specs.Take.{may_interrupt, pairs_of, pushed, written, taken, entered, frame_of};
 ghost use Rattle.cpu12_emul.specs.Take.{frame_seen, frame_size};
 

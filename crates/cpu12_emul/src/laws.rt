@@ -1,6 +1,6 @@
 //! Laws of the machine.
 ghost use Rattle.cpu12_isa.specs.declared.instr.Instr.TheVariants.{Rev, Revw, Wav};
-ghost use Rattle.cpu12_parts.specs.Cuts.{rev, revw, wav};
+ghost use Rattle.cpu12_parts.specs.Parts.{rev, revw, wav};
 ghost use Rattle.cpu12_emul.specs.{Fits.StepFits, Image.HoldsImage, Image.ImagesLoadAlike, Run.RunsEndOnce};
 ghost use Rattle.cpu12_emul.specs.Simulation.{StepAgrees, WavrGoesOn, StepKeeps, TakesQuietly, TakeKeeps};
 ghost use Rattle.cpu12_emul.specs.Simulation.{FrameIsOnStack, PlainIsStep, PartIsStep, SumsAreStep};

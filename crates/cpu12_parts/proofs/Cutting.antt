@@ -5,7 +5,7 @@ use Rattle.cpu12_isa.specs.{declared.instr.Regs.Regs, Act.outcome, Act.read_by, 
 use Rattle.cpu12_isa.specs.Agreement.{Agree, AllShown, WritesAgree}
 use Rattle.cpu12_isa.proofs.Algebra.{same_outcome, length_writes, agree_with, agree_self}
 use Rattle.cpu12_parts.specs.{declared.temps.Temps.Temps, State.State, State.Outcome}
-use Rattle.cpu12_parts.specs.Cuts.{Kind, part_of, after_part, suspended, resumed, cut, cut_run, EndsWith}
+use Rattle.cpu12_parts.specs.Parts.{Kind, part_of, after_part, suspended, resumed, cut, cut_run, EndsWith}
 use Rattle.cpu12_parts.specs.Laws.{PartsTo, below, IsLike, Any, GoesOn, KeepsNothing, IsSteady, CutsChangeNothing}
 
 pub like_self : (s : State) → IsLike s s

@@ -3,17 +3,17 @@ use Rattle.std.proofs.Common.{◌≡◌, ◌==◌, ℕ, ◌+◌, ◌-◌, ◌*�
 use Rattle.std.proofs.Common.{sym, ◌∙◌, inl, inr}
 use Rattle.std.specs.Prelude.{if◌then◌else◌}
 use Rattle.cpu12_isa.specs.declared.{instr.Regs.Regs, instr.Ccr.Ccr}
-use Rattle.cpu12_isa.specs.{Act.Act, Act.outcome, Memory.plus, Memory.word_of}
 use Rattle.cpu12_isa.specs.Flags.{has, put, opened, interrupts_masked, overflow, carry, hnzc, hnz, hnzvc}
+use Rattle.cpu12_isa.specs.{Act.Act, Act.outcome, Memory.plus, Memory.word_of}
 use Rattle.cpu12_isa.proofs.Algebra.{bit, bit_or_is, bit_and_is}
 use Rattle.cpu12_parts.specs.declared.temps.Temps.{Temps}
 use Rattle.cpu12_parts.specs.declared.temps.Temps.TheVariants.{Free, Running, OnStack}
 use Rattle.cpu12_parts.specs.declared.temps.PartEnd.TheVariants.{More, Done}
-use Rattle.cpu12_parts.specs.{State.State, State.Outcome, Laws.state_of}
-use Rattle.cpu12_parts.specs.Cuts.{rev, revw, wav, suspended}
+use Rattle.cpu12_parts.specs.Parts.{rev, revw, wav, suspended, leaving, met, rev_element, revw_element, wav_end}
+use Rattle.cpu12_parts.specs.Parts.{wav_from, wav_act}
 use Rattle.cpu12_parts.specs.Inside.{own_address, second_byte, GoesOnAt, LeavesSums, WritesNothing, PushesRunning}
 use Rattle.cpu12_parts.specs.Inside.{PushesNone}
-use Rattle.cpu12_parts.specs.Parts.{leaving, met, rev_element, revw_element, wav_end, wav_from, wav_act}
+use Rattle.cpu12_parts.specs.{State.State, State.Outcome, Laws.state_of}
 
 -- I where the open flags are taken, and where V is set
 masked_opened : (c : Ccr) (f : ℕ) → has (opened c hnzc f) interrupts_masked ≡ has c interrupts_masked

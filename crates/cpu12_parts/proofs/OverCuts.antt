@@ -2,7 +2,7 @@
 use Rattle.std.proofs.Common.{ℕ, ◌-◌, Bool, false, List, [], ◌∷◌, length, refl, sym, subst}
 use Rattle.cpu12_isa.specs.Agreement.{AllShown, WritesAgree}
 use Rattle.cpu12_parts.specs.{declared.temps.Temps.Temps, State.State, Averages.wav_read, Averages.wav_whole}
-use Rattle.cpu12_parts.specs.Cuts.{Kind, rev, revw, wav}
+use Rattle.cpu12_parts.specs.Parts.{Kind, rev, revw, wav}
 use Rattle.cpu12_parts.specs.Owed.{Whole, WholeAverage, whole_rev, whole_revw, MakesWhole, OverCuts}
 use Rattle.cpu12_parts.specs.Rules.{rev_form, revw_form, rules_read, rules_written, rules_whole}
 use Rattle.cpu12_parts.specs.Laws.{PartsTo, below, state_of, GoesOn, IsSteady, CutsChangeNothing, RevIsWhole}

@@ -3,16 +3,15 @@ use Rattle.std.proofs.Common.{ℕ, ◌+◌, ◌-◌, ◌*◌, ◌%◌, ◌^◌, 
 use Rattle.std.proofs.Common.{[], ◌∷◌, arith}
 use Rattle.std.proofs.Math.Nat.{div-lt_iff_lt-mul, mul-le-mul_left}
 use Rattle.cpu12_isa.specs.declared.{instr.Regs.Regs, instr.Ccr.Ccr}
-use Rattle.cpu12_isa.specs.{Act.Act, Act.Give, Act.Get, Memory.plus, Memory.word_of, Fits.FitsRegs, Fits.Leaves}
 use Rattle.cpu12_isa.specs.Flags.{has, put, opened, carry, overflow, zero_result, hnzc, hnz, hnvc, hnzvc}
+use Rattle.cpu12_isa.specs.{Act.Act, Act.Give, Act.Get, Memory.plus, Memory.word_of, Fits.FitsRegs, Fits.Leaves}
 use Rattle.cpu12_isa.proofs.Algebra.{fits_put, fits_opened, leaves_outcome}
 use Rattle.cpu12_parts.specs.declared.temps.Temps.{Temps}
 use Rattle.cpu12_parts.specs.declared.temps.Temps.TheVariants.{Free, Running, OnStack}
 use Rattle.cpu12_parts.specs.declared.temps.PartEnd.TheVariants.{More, Done}
-use Rattle.cpu12_parts.specs.{State.Outcome, Cuts.rev, Cuts.revw, Cuts.wav}
-use Rattle.cpu12_parts.specs.Parts.{leaving, weighted, met, rev_element, rev_act, revw_element, revw_act, wav_end}
-use Rattle.cpu12_parts.specs.Parts.{wav_from, wav_act}
-use Rattle.cpu12_parts.specs.Fits.{FitsTemps, FitsOutcome, PartFits}
+use Rattle.cpu12_parts.specs.{State.Outcome, Fits.FitsTemps, Fits.FitsOutcome, Fits.PartFits}
+use Rattle.cpu12_parts.specs.Parts.{rev, revw, wav, leaving, weighted, met, rev_element, rev_act, revw_element}
+use Rattle.cpu12_parts.specs.Parts.{revw_act, wav_end, wav_from, wav_act}
 
 leaves_if : (b : Bool) (p q : Act Outcome) → Leaves FitsOutcome p → Leaves FitsOutcome q
     → Leaves FitsOutcome (if b then p else q)

@@ -4,12 +4,12 @@ use Rattle.std.proofs.Common.{◌⊎◌, inl, inr}
 use Rattle.std.proofs.Common.{subst, arith, get_or-set_other}
 use Rattle.std.proofs.lemmas.Bool.{ne_eqb, false≢true}
 use Rattle.cpu12_isa.specs.declared.{instr.Regs.Regs, instr.Ccr.Ccr}
-use Rattle.cpu12_isa.specs.{Act.outcome, Act.read_by, Memory.plus, Memory.word_of}
 use Rattle.cpu12_isa.specs.Flags.{has, put, opened, carry, overflow, hnzc, hnz}
+use Rattle.cpu12_isa.specs.{Act.outcome, Act.read_by, Memory.plus, Memory.word_of}
 use Rattle.cpu12_isa.proofs.Algebra.{bit, bit_or_is, bit_and_is, same_ccr, fits_put, fits_opened}
-use Rattle.cpu12_parts.specs.declared.temps.Temps.{Temps}
+use Rattle.cpu12_parts.specs.{declared.temps.Temps.Temps, Parts.rev, Parts.revw, Rules.rev_form, Rules.revw_form}
+use Rattle.cpu12_parts.specs.Laws.{RevIsWhole, RevwIsWhole}
 use Rattle.cpu12_parts.specs.{State.Outcome, Parts.rev_element, Parts.revw_element, Parts.weighted}
-use Rattle.cpu12_parts.specs.{Cuts.rev, Cuts.revw, Rules.rev_form, Rules.revw_form, Laws.RevIsWhole, Laws.RevwIsWhole}
 use Rattle.cpu12_parts.proofs.RuleParts.{at_rules, gives, last_gives, Does, Walks, rules_are_whole}
 
 abbrev regs_at : Regs → ℕ → ℕ → ℕ → Ccr → Regs

@@ -10,12 +10,12 @@ use Rattle.cpu12_isa.proofs.Algebra.{shown_append, shown_left, shown_right, fits
 use Rattle.cpu12_isa.proofs.Algebra.{bit_and_is}
 use Rattle.cpu12_parts.specs.declared.temps.Temps.{Temps}
 use Rattle.cpu12_parts.specs.declared.temps.PartEnd.TheVariants.{More, Done}
-use Rattle.cpu12_parts.specs.{State.State, State.Outcome, State.state_after, Parts.weighted, Cuts.Kind, Cuts.part_of}
+use Rattle.cpu12_parts.specs.State.{State, Outcome, state_after}
+use Rattle.cpu12_parts.specs.{Parts.weighted, Parts.Kind, Parts.part_of, Laws.PartsTo, Laws.addresses, Laws.state_of}
 use Rattle.cpu12_parts.specs.Rules.{Rule, Form, elements_of, Listed, behind, AreNames, AreRules, AreWeights}
 use Rattle.cpu12_parts.specs.Rules.{behind_weights, least, strength, raised, concluded, all_concluded, last_strength}
 use Rattle.cpu12_parts.specs.Rules.{element_bytes, weight_bytes, named, rules_named, rules_target, rules_read}
 use Rattle.cpu12_parts.specs.Rules.{rules_written, NotIn, AreApart, AreReady, rules_whole}
-use Rattle.cpu12_parts.specs.Laws.{PartsTo, addresses, state_of}
 
 -- a state within the instruction
 abbrev pub at_rules : Regs → Temps → ℕ → ℕ → ℕ → Ccr → List ℕ → State

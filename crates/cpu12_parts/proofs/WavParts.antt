@@ -4,16 +4,16 @@ use Rattle.std.proofs.Common.{refl, ap, sym, ◌∙◌, subst, arith, inl}
 use Rattle.std.proofs.Common.{inr, add-zero, zero-add}
 use Rattle.std.proofs.lemmas.Bool.{cases_eq, ne_eqb}
 use Rattle.cpu12_isa.specs.declared.{instr.Regs.Regs, instr.Ccr.Ccr}
-use Rattle.cpu12_isa.specs.{Act.read_by, Memory.plus, Memory.from, Memory.bytes_at, Agreement.AllShown}
 use Rattle.cpu12_isa.specs.Flags.{put, opened, zero_result, hnvc, hnzvc}
+use Rattle.cpu12_isa.specs.{Act.read_by, Memory.plus, Memory.from, Memory.bytes_at, Agreement.AllShown}
 use Rattle.cpu12_isa.proofs.Algebra.{shown_left, shown_right, bit_or_is, bit_and_is, same_ccr, fits_put, fits_opened}
 use Rattle.cpu12_parts.specs.declared.temps.Temps.{Temps}
 use Rattle.cpu12_parts.specs.declared.temps.Temps.TheVariants.{Free, Running}
 use Rattle.cpu12_parts.specs.declared.temps.PartEnd.TheVariants.{More, Done}
-use Rattle.cpu12_parts.specs.{State.State, State.Outcome, State.state_after, Parts.wav_act, Parts.wav_end}
-use Rattle.cpu12_parts.specs.Cuts.{wav, part_of, after_part}
+use Rattle.cpu12_parts.specs.Parts.{wav, part_of, after_part}
 use Rattle.cpu12_parts.specs.Averages.{dot, total, wav_whole}
 use Rattle.cpu12_parts.specs.Laws.{PartsTo, addresses, state_of, IsOff, WavIsWhole}
+use Rattle.cpu12_parts.specs.{State.State, State.Outcome, State.state_after, Parts.wav_act, Parts.wav_end}
 
 abbrev pub at_sums : Regs → ℕ → ℕ → List ℕ → State
 at_sums r p w mem = state_of r (Running p w) mem

@@ -2,7 +2,7 @@
 -- Beside the promise.
 use Rattle.std.specs.Prelude.{ℕ, ◌^◌, ◌<◌}
 use Rattle.cpu12_isa.specs.Fits.{FitsRegs, FitsWrites, AreBytes}
-use Rattle.cpu12_parts.specs.{declared.temps.Temps.Temps, State.State, State.Outcome, Cuts.Kind, Cuts.part_of}
+use Rattle.cpu12_parts.specs.{declared.temps.Temps.Temps, State.State, State.Outcome, Parts.Kind, Parts.part_of}
 use Rattle.cpu12_parts.specs.declared.temps.Temps.TheVariants.{Free, Running, OnStack}
 
 abbrev pub FitsTemps : Temps → Type 0

@@ -3,10 +3,10 @@
 use Rattle.std.specs.Prelude.{◌≡◌, ℕ, [], List}
 use Rattle.cpu12_isa.specs.declared.instr.Regs.{Regs}
 use Rattle.cpu12_isa.specs.{Act.write_all, Flags.interrupts_masked, Flags.has, Memory.plus, Memory.placed}
-use Rattle.cpu12_parts.specs.declared.{temps.Temps.Temps, temps.PartEnd.TheVariants.More}
+use Rattle.cpu12_parts.specs.{declared.temps.Temps.Temps, declared.temps.PartEnd.TheVariants.More, State.State}
+use Rattle.cpu12_parts.specs.Laws.{IsOff, state_of}
+use Rattle.cpu12_parts.specs.Parts.{sum_bytes, Kind, part_of, suspended, wav}
 use Rattle.cpu12_parts.specs.declared.temps.Temps.TheVariants.{Free, Running, OnStack}
-use Rattle.cpu12_parts.specs.{State.State, Laws.IsOff, Laws.state_of, Sums.sum_bytes}
-use Rattle.cpu12_parts.specs.Cuts.{Kind, part_of, suspended, wav}
 
 -- where an instruction goes on, by the sums and PC before a part: REV and REVW at their own address,
 abbrev pub own_address : Temps → ℕ → ℕ

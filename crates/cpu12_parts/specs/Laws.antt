@@ -7,10 +7,10 @@ use Rattle.cpu12_isa.specs.{Act.outcome, Act.read_by, Agreement.Agree, Agreement
 use Rattle.cpu12_parts.specs.declared.temps.Temps.{Temps}
 use Rattle.cpu12_parts.specs.declared.temps.Temps.TheVariants.{Free, Running, OnStack}
 use Rattle.cpu12_parts.specs.declared.temps.PartEnd.TheVariants.{More, Done}
-use Rattle.cpu12_parts.specs.{State.State, Averages.wav_read, Averages.wav_whole}
-use Rattle.cpu12_parts.specs.Cuts.{Kind, rev, revw, wav, part_of, after_part, suspended, resumed, cut_run, EndsWith}
+use Rattle.cpu12_parts.specs.Parts.{Kind, rev, revw, wav, part_of, after_part, suspended, resumed, cut_run, EndsWith}
 use Rattle.cpu12_parts.specs.Rules.{Rule, rev_form, revw_form, elements_of, rules_read, rules_written, AreReady}
 use Rattle.cpu12_parts.specs.Rules.{rules_whole}
+use Rattle.cpu12_parts.specs.{State.State, Averages.wav_read, Averages.wav_whole}
 
 -- the addresses of writes
 abbrev pub addresses : List (ℕ × ℕ) → List ℕ

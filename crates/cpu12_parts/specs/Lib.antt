@@ -1,7 +1,5 @@
 pub mod State
 pub mod Parts
-pub mod Sums
-pub mod Cuts
 pub mod Rules
 pub mod Averages
 pub mod Laws

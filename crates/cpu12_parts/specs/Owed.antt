@@ -3,7 +3,7 @@
 use Rattle.std.specs.Prelude.{◌≡◌, ℕ, suc, ◌-◌, ◌^◌, ◌<◌, Bool, List, length}
 use Rattle.cpu12_isa.specs.Agreement.{AllShown}
 use Rattle.cpu12_parts.specs.{State.State, Averages.wav_read, Averages.wav_whole}
-use Rattle.cpu12_parts.specs.Cuts.{Kind, cut_run, EndsWith}
+use Rattle.cpu12_parts.specs.Parts.{Kind, cut_run, EndsWith}
 use Rattle.cpu12_parts.specs.Rules.{Rule, Form, rev_form, revw_form, elements_of, rules_read, rules_written, AreReady}
 use Rattle.cpu12_parts.specs.Rules.{rules_whole}
 use Rattle.cpu12_parts.specs.Laws.{PartsTo, below, IsLike, IsOff}

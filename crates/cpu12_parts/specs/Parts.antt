@@ -1,12 +1,20 @@
--- One part of REV, REVW and WAV: one element of its list (CPU12 Reference Manual, section 9).
+-- One part of REV, REVW and WAV: one element of its list; the sums of WAV; and the boundaries between two parts where an
+-- interrupt may cut in (CPU12 Reference Manual, section 9).
 -- Reached by the promise.
 use Rattle.std.specs.Prelude.{ℕ, ◌+◌, ◌-◌, ◌*◌, ◌/◌, ◌%◌, ◌^◌, ◌==◌, min, max, true, false, if◌then◌else◌, [], ◌∷◌}
 use Rattle.cpu12_isa.specs.declared.instr.Regs.{Regs}
-use Rattle.cpu12_isa.specs.{Act.Act, Act.Give, Act.Get, Memory.plus, Memory.word_of, Registers.passed}
 use Rattle.cpu12_isa.specs.Flags.{has, put, opened, carry, overflow, zero_result, hnzc, hnz, hnvc, hnzvc}
+use Rattle.cpu12_isa.specs.{Act.Act, Act.Give, Act.Get, Memory.plus, Memory.word_of, Registers.passed}
 use Rattle.cpu12_parts.specs.{declared.temps.Temps.Temps, declared.temps.PartEnd.PartEnd, State.Outcome}
 use Rattle.cpu12_parts.specs.declared.temps.Temps.TheVariants.{Free, Running, OnStack}
 use Rattle.cpu12_parts.specs.declared.temps.PartEnd.TheVariants.{More, Done}
+use Rattle.std.specs.Prelude.{List, slice_index}
+use Rattle.cpu12_isa.specs.{Act.get_all, Memory.from, Memory.placed}
+use Rattle.cpu12_parts.specs.{Parts.leaving}
+use Rattle.std.specs.Prelude.{◌≡◌, Bool}
+use Rattle.cpu12_isa.specs.{Act.outcome}
+use Rattle.cpu12_parts.specs.{State.State, State.state_after}
+use Rattle.cpu12_parts.specs.Parts.{rev_act, revw_act, wav_act}
 
 -- a part that writes nothing
 abbrev pub leaving : Regs → Temps → PartEnd → Act Outcome
@@ -81,3 +89,86 @@ abbrev pub wav_act : ℕ → Regs → Temps → Act Outcome
 wav_act flags r Free = wav_from flags r 0 0 (plus r.pc 1)
 wav_act flags r OnStack = wav_from flags r 0 0 (plus r.pc 1)
 wav_act flags r (Running p w) = wav_from flags r p w r.pc
+
+-- the sums as they lie there, from the lowest address: the product's high word and low word, then the weight
+abbrev pub sum_bytes : ℕ → ℕ → List ℕ
+sum_bytes p w = p / 2 ^ 24 ∷ p / 2 ^ 16 % 2 ^ 8 ∷ p / 2 ^ 8 % 2 ^ 8 ∷ p % 2 ^ 8 ∷ w / 2 ^ 8 ∷ w % 2 ^ 8 ∷ []
+
+-- and back
+abbrev pub sums_of : List ℕ → Temps
+sums_of vs =
+    Running (word_of (slice_index vs 0) (slice_index vs 1) * 2 ^ 16 + word_of (slice_index vs 2) (slice_index vs 3))
+    (word_of (slice_index vs 4) (slice_index vs 5))
+
+-- nothing changes
+abbrev pub nothing : Regs → Temps → Act Outcome
+nothing r t = leaving r t More
+
+-- sums that run are pushed
+abbrev pub wav_push : Regs → Temps → Act Outcome
+wav_push r Free = nothing r Free
+wav_push r OnStack = nothing r OnStack
+wav_push r (Running p w) =
+    Give (record {
+      regs = record r { sp = plus r.sp 65530 };
+      temps = OnStack;
+      writes = placed (plus r.sp 65530) (sum_bytes p w);
+      end = More;
+    })
+
+abbrev pub six_pulled : Regs → Act Outcome
+six_pulled r = get_all (from r.sp 6) (λ vs. leaving (record r { sp = plus r.sp 6 }) (sums_of vs) More)
+
+-- where no sums run they are pulled
+abbrev pub wav_pull : Regs → Temps → Act Outcome
+wav_pull r Free = six_pulled r
+wav_pull r OnStack = six_pulled r
+wav_pull r (Running p w) = nothing r (Running p w)
+
+-- an instruction in parts: one part, what is pushed before an interrupt, and what is pulled after it
+pub record Kind : Type 0 where
+  pub act : ℕ → Regs → Temps → Act Outcome
+  pub push : Regs → Temps → Act Outcome
+  pub pull : Regs → Temps → Act Outcome
+
+-- the kind with these three acts
+abbrev pub kind_by : (ℕ → Regs → Temps → Act Outcome) → (Regs → Temps → Act Outcome) → (Regs → Temps → Act Outcome)
+    → Kind
+kind_by act push pull = record { act = act; push = push; pull = pull }
+
+abbrev pub rev : Kind
+rev = record { act = rev_act; push = nothing; pull = nothing }
+
+abbrev pub revw : Kind
+revw = record { act = revw_act; push = nothing; pull = nothing }
+
+abbrev pub wav : Kind
+wav = record { act = wav_act; push = wav_push; pull = wav_pull }
+
+-- the outcome of one part, and the state after it
+abbrev pub part_of : Kind → ℕ → State → Outcome
+part_of k flags s = outcome (k.act flags s.regs s.temps) s.mem
+
+abbrev pub after_part : Kind → ℕ → State → State
+after_part k flags s = state_after (part_of k flags s) s.mem
+
+abbrev pub suspended : Kind → State → State
+suspended k s = state_after (outcome (k.push s.regs s.temps) s.mem) s.mem
+
+abbrev pub resumed : Kind → State → State
+resumed k s = state_after (outcome (k.pull s.regs s.temps) s.mem) s.mem
+
+-- a boundary, cut or not
+abbrev pub cut : Kind → Bool → State → State
+cut k true s = resumed k (suspended k s)
+cut k false s = s
+
+-- The parts with a boundary after each but the last, cut where the list says so: the state that they come to,
+abbrev pub cut_run : Kind → ℕ → List Bool → State → State
+cut_run k flags [] s = after_part k flags s
+cut_run k flags (c ∷ cs) s = cut_run k flags cs (cut k c (after_part k flags s))
+
+-- and that the last of them ends the instruction and no other does.
+abbrev pub EndsWith : Kind → ℕ → List Bool → State → Type 0
+EndsWith k flags [] s = (part_of k flags s).end ≡ Done
+EndsWith k flags (c ∷ cs) s = ((part_of k flags s).end ≡ More) × EndsWith k flags cs (cut k c (after_part k flags s))

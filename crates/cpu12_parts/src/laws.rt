@@ -1,5 +1,5 @@
 //! Laws of the parts.
-ghost use Rattle.cpu12_parts.specs.{Cuts.kind_by, Cuts.rev, Cuts.revw, Cuts.wav, Fits.PartFits, Owed.OverCuts};
+ghost use Rattle.cpu12_parts.specs.{Parts.kind_by, Parts.rev, Parts.revw, Parts.wav, Fits.PartFits, Owed.OverCuts};
 ghost use Rattle.cpu12_parts.specs.Inside.{own_address, second_byte, GoesOnAt, LeavesSums, WritesNothing};
 ghost use Rattle.cpu12_parts.specs.Inside.{PushesRunning, PushesNone};
 ghost use Rattle.cpu12_parts.specs.Laws.{AreKept, Any, GoesOn, WritesBelow, KeepsNothing, IsSteady};

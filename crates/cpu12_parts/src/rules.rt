@@ -1,8 +1,8 @@
 //! REV and REVW: rule evaluation (CPU12 Reference Manual, section 9.4).
 ghost use Rattle.std.specs.Prelude.{ℕ, ◌≡◌, ◌+◌, ◌*◌, ◌/◌, ◌^◌, List, slice_index};
 ghost use Rattle.cpu12_isa.specs.Act.{outcome, write_all};
-ghost use Rattle.cpu12_parts.specs.Parts.{rev_act, revw_act, weighted, met};
-ghost use Rattle.cpu12_parts.specs.{Sums.nothing, Laws.Any, Owed.whole_rev, Owed.whole_revw};
+ghost use Rattle.cpu12_parts.specs.Parts.{rev_act, revw_act, weighted, met, nothing};
+ghost use Rattle.cpu12_parts.specs.{Laws.Any, Owed.whole_rev, Owed.whole_revw};
 
 use crate::laws::{
     rev_is_whole, rev_keeps_nothing, rev_steady, revw_is_whole, revw_keeps_nothing, revw_steady,

@@ -1,7 +1,7 @@
 //! What an instruction in parts keeps between them.
 ghost use Rattle.std.specs.Prelude.{ℕ, ◌≡◌, List};
 ghost use Rattle.cpu12_isa.specs.{declared.instr.Regs.Regs, Act.Act, Act.outcome, Act.write_all};
-ghost use Rattle.cpu12_parts.specs.{declared.temps.Temps.Temps, State.State, State.Outcome, Cuts.kind_by};
+ghost use Rattle.cpu12_parts.specs.{declared.temps.Temps.Temps, State.State, State.Outcome, Parts.kind_by};
 ghost use Rattle.cpu12_parts.specs.{Laws.GoesOn, Laws.WritesBelow, Laws.IsSteady, Owed.MakesWhole};
 
 use cpu12_isa::instr::Regs;

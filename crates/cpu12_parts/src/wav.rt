@@ -1,8 +1,8 @@
 //! WAV: the weighted average (CPU12 Reference Manual, section 9.5).
 ghost use Rattle.std.specs.Prelude.{ℕ, ◌≡◌, ◌<◌, ◌/◌, ◌%◌, ◌^◌};
 ghost use Rattle.cpu12_isa.specs.Memory.{plus};
-ghost use Rattle.cpu12_parts.specs.{Parts.wav_act, Parts.wav_end, Sums.wav_push, Sums.wav_pull, Laws.AreKept};
-ghost use Rattle.cpu12_parts.specs.Owed.{WholeAverage};
+ghost use Rattle.cpu12_parts.specs.Parts.{wav_act, wav_end, wav_push, wav_pull};
+ghost use Rattle.cpu12_parts.specs.{Laws.AreKept, Owed.WholeAverage};
 
 use crate::laws::{wav_goes_on, wav_is_whole, wav_steady, wav_writes_below};
 use crate::temps::{PartEnd, Resumable, Temps};

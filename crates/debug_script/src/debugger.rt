@@ -4,12 +4,12 @@ ghost use Rattle.std.specs.BTreeSet.{contains_by};
 ghost use Rattle.std.specs.Ordering.{nat_cmp};
 ghost use Rattle.cpu12_isa.specs.{Memory.bytes_at, Memory.from, Watching.any_changed, Watching.nothing_noted};
 ghost use Rattle.interrupt_plan.specs.Plans.{IsGood};
-ghost use Rattle.alone_runs.specs.Answering.{AnswersItsBlock};
-ghost use Rattle.alone_runs.specs.Rows.{first_state, firmware_rows, input_bytes, row_seen};
+ghost use Rattle.alone_runs.specs.{Answering.AnswersItsBlock, Rows.first_state, Rows.firmware_rows, Rows.row_seen};
+ghost use Rattle.trace_io.specs.Traces.{input_bytes};
 ghost use Rattle.run_forms.specs.Positions.{positions};
 ghost use Rattle.debug_script.specs.Going.{AreTold, Leads, place_of};
-ghost use Rattle.debug_script.specs.{Noting.KeepsNotes, Noting.NotesBytes, Places.distance, Places.on};
 ghost use Rattle.debug_script.specs.Showing.{marks_after, place_after, shown, shown_of, stop_at, stops};
+ghost use Rattle.debug_script.specs.{Noting.KeepsNotes, Noting.NotesBytes, Places.distance, Places.on};
 
 use crate::marks::Marks;
 use crate::order::Order;

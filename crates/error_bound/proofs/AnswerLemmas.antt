@@ -6,25 +6,26 @@ use Rattle.std.specs.Prelude.{◌≢◌, ◌==◌, if◌then◌else◌, ◌<ℤ�
 use Rattle.std.proofs.lemmas.Option.{slice_get_within}
 use Rattle.std.specs.Option.{option_map_or}
 use Rattle.std.proofs.lemmas.Bool.Decides.{nat_tests}
-use Rattle.fz_num.specs.{declared.dec.Dec.Dec, Fractions.over, Decimals.distance, Fracs.Quotient, Fracs.IsClose}
+use Rattle.fz_num.specs.declared.dec.Dec.{Dec}
+use Rattle.fz_num.specs.{Fractions.over, Fractions.Quotient, Fractions.IsClose, Decimals.distance}
 use Rattle.fuzzy_meaning.specs.declared.{block.Block.Block, block.Output.Output}
 use Rattle.fuzzy_meaning.specs.Blocks.{IsValid, IsWithin, IsValidOutput, output_at}
-use Rattle.fuzzy_meaning.specs.Meaning.{shares, centre, quotient_of, total_mass}
-use Rattle.fuzzy_meaning.specs.{Rules.concludes, Places.NumbersHaveTheirDegrees}
+use Rattle.fuzzy_meaning.specs.Meaning.{shares, centre, quotient_of, total_mass, concludes}
+use Rattle.fuzzy_meaning.specs.Places.{NumbersHaveTheirDegrees}
 use Rattle.byte_scaling.specs.Cells.{nearest_byte, NearestIsByte, value_in}
 use Rattle.point_slope.specs.Bytes.{byte_shares, total_mass as byte_total, weighted_sum as byte_weighted}
 use Rattle.point_slope.specs.Bytes.{centre as byte_centre, resting_answer}
 use Rattle.error_bound.specs.declared.{boxes.Interval.Interval, boxes.Leaf.Leaf}
-use Rattle.error_bound.specs.{Best.silent_leaf, Boxes.LieIn, Boxes.LieInCells, CellErrors.term_errors}
-use Rattle.error_bound.specs.{Errors.AreTermErrors, Answers.Follows, Answers.AnswersAreNear}
 use Rattle.error_bound.specs.Leaves.{Holds, strong, silent, IsStill}
 use Rattle.error_bound.specs.Bounds.{in_millionths, offset, silent_bound, strong_bound, errors_from, IsBound}
 use Rattle.error_bound.specs.Tight.{IsSure, sure_bound, IsTightBound, silent as tight_silent, sure}
 use Rattle.error_bound.specs.TightLaws.{IsAnsweredWithin, kept, near, TightAnswersAreNear}
-use Rattle.error_bound.proofs.{Literals.literals, SureBoxes.weights, SureBoxes.firing}
+use Rattle.error_bound.specs.{Best.silent_leaf, Boxes.LieIn, Boxes.LieInCells, CellErrors.term_errors}
+use Rattle.error_bound.specs.{Errors.AreTermErrors, Answers.Follows, Answers.AnswersAreNear}
+use Rattle.error_bound.proofs.{Literals.literals, SureBoxes.weights, SureBoxes.firing, BoundLemmas.bound_strong}
+use Rattle.error_bound.proofs.{BoundLemmas.bound_silent, LawLemmas.term_errors-from, SilentLeaves.centre_none}
+use Rattle.error_bound.proofs.{SilentLeaves.still_sums, Closeness.close_default}
 use Rattle.error_bound.proofs.TightLemmas.{strong_sure, strong_least}
-use Rattle.error_bound.proofs.{BoundLemmas.bound_strong, BoundLemmas.bound_silent, LawLemmas.term_errors-from}
-use Rattle.error_bound.proofs.{SilentLeaves.centre_none, SilentLeaves.still_sums, Closeness.close_default}
 use Rattle.fz_list.proofs.Algebra.{All-slice_get, some_at}
 use Rattle.fz_num.proofs.Algebra.{IsClose-more}
 

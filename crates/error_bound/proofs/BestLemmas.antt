@@ -7,18 +7,18 @@ use Rattle.std.proofs.lemmas.Bool.{cases_lt}
 use Rattle.fz_list.proofs.Algebra.{All-slice_get}
 use Rattle.fz_num.specs.{Fractions.over, Fractions.AtMost, Decimals.distance}
 use Rattle.fuzzy_meaning.specs.declared.{block.Block.Block, block.Output.Output, block.Rule.Rule}
-use Rattle.fuzzy_meaning.specs.{Blocks.IsValid, Blocks.IsValidOutput, Rules.concludes}
+use Rattle.fuzzy_meaning.specs.{Blocks.IsValid, Blocks.IsValidOutput, Meaning.concludes}
 use Rattle.error_bound.specs.declared.{boxes.Interval.Interval, boxes.Leaf.Leaf}
-use Rattle.error_bound.specs.{Boxes.rule_span, Errors.billion, CellErrors.term_errors}
 use Rattle.error_bound.specs.Leaves.{Holds, strong, silent, IsStrong, IsStill, rule_at}
 use Rattle.error_bound.specs.Best.{IsBest, silent as best_silent, strong as best_strong, nothing, IsCandidate}
 use Rattle.error_bound.specs.Best.{silent_leaf}
 use Rattle.error_bound.specs.Bounds.{bound, IsBound, greatest_offset, strong_bound, errors_from}
 use Rattle.error_bound.specs.BestLeaves.{IsBestBound, of_leaf, of_none, BestLeavesAreOne, BestLeavesHold}
 use Rattle.error_bound.specs.BestLeaves.{BestBoundsAreLeast}
-use Rattle.error_bound.proofs.BoundLemmas.{bound_strong, bound_silent, ratio-mono}
+use Rattle.error_bound.specs.{Boxes.rule_span, Errors.billion, CellErrors.term_errors}
 use Rattle.error_bound.proofs.{ConclusionLemmas.any-some, ConclusionLemmas.any-term, LawLemmas.term_errors-are}
 use Rattle.error_bound.proofs.{Nested.leaves_hold_inside, NestedBounds.bounds_fall, NestedBounds.bounds_unique}
+use Rattle.error_bound.proofs.BoundLemmas.{bound_strong, bound_silent, ratio-mono}
 use Rattle.error_bound.proofs.RuleOrder.{low_proper, bytes_ordered}
 
 -- ---- strong leaves and candidates

@@ -4,7 +4,7 @@ use Rattle.std.specs.Prelude.{ℤ, pos, ◌+ℤ◌, ◌-ℤ◌, ◌*ℤ◌, ◌<
 use Rattle.std.proofs.lemmas.Int.{ints}
 use Rattle.std.proofs.lemmas.Bool.{cases_lt}
 use borrow.Author.Differences.{up, down}
-use Rattle.fz_num.specs.{declared.dec.Dec.Dec, Fractions.over, Fractions.up_div, Decimals.distance, Fracs.IsClose}
+use Rattle.fz_num.specs.{declared.dec.Dec.Dec, Fractions.over, Fractions.up_div, Fractions.IsClose, Decimals.distance}
 use Rattle.fz_num.proofs.Algebra.{le-up_div}
 use Rattle.fuzzy_meaning.specs.{declared.block.Output.Output, Blocks.IsWithin, Meaning.quotient_of}
 use Rattle.byte_scaling.specs.Cells.{nearest_byte, NearestIsByte, value_in}

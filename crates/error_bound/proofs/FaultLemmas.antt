@@ -4,7 +4,7 @@ use Rattle.std.specs.Prelude.{IsTrue, Some}
 use Rattle.std.proofs.lemmas.Bool.{cases_lt}
 use Rattle.std.proofs.lemmas.Option.{slice_get_within, get_or_from_slice_get}
 use Rattle.fz_num.specs.Fractions.{Fraction, over, AtMost, IsBelow}
-use Rattle.fuzzy_meaning.specs.{declared.block.Block.Block, declared.block.Rule.Rule, Rules.concludes}
+use Rattle.fuzzy_meaning.specs.{declared.block.Block.Block, declared.block.Rule.Rule, Meaning.concludes}
 use Rattle.error_bound.specs.declared.boxes.Interval.{Interval}
 use Rattle.error_bound.specs.declared.boxes.Leaf as the
 use Rattle.error_bound.specs.{declared.boxes.LeafFault.LeafFault, Spans.Span, Boxes.rule_span, Boxes.rule_byte_span}

@@ -4,11 +4,11 @@ use Rattle.std.proofs.Common.{subst, arith}
 use Rattle.std.specs.Prelude.{All, IsTrue, slice_get}
 use Rattle.std.proofs.lemmas.Bool.{cases_lt}
 use Rattle.std.proofs.lemmas.Option.{slice_get-get_or}
-use Rattle.fuzzy_meaning.specs.{declared.block.Block.Block, declared.block.Rule.Rule, Rules.concludes}
+use Rattle.fuzzy_meaning.specs.{declared.block.Block.Block, declared.block.Rule.Rule, Meaning.concludes}
 use Rattle.error_bound.specs.declared.{boxes.Interval.Interval, boxes.LeafFault.LeafFault, ends.End.End}
-use Rattle.error_bound.specs.{Best.silent_leaf, Boxes.rule_span, Boxes.rule_byte_span}
 use Rattle.error_bound.specs.Faults.{IsFirstFiring, IsSilentFault, HasLeafFault, of_silent}
-use Rattle.error_bound.specs.{Leaves.concludes_some, Leaves.IsStill, Ratios.value_of, Reaches.IsEndOfRule, Spans.only}
+use Rattle.error_bound.specs.{Best.silent_leaf, Boxes.rule_span, Boxes.rule_byte_span, Leaves.concludes_some}
+use Rattle.error_bound.specs.{Leaves.IsStill, Ratios.value_of, Reaches.IsEndOfRule, Spans.only}
 use Rattle.error_bound.proofs.{ConclusionLemmas.any-some, Values.silent_same, Values.none_same}
 
 -- those of the first n rules that conclude a term of the output have no strength

@@ -9,21 +9,19 @@ use Rattle.fz_num.specs.{declared.dec.Dec.Dec, Decimals.distance}
 use Rattle.fz_num.specs.Fractions.{Fraction, IsProper, AtMost, greater, none, up_div}
 use Rattle.fz_num.proofs.Algebra.{by_greater, le-up_div, AtMost-refl}
 use Rattle.fuzzy_meaning.specs.declared.{block.Block.Block, block.Input.Input, block.Rule.Rule}
-use Rattle.fuzzy_meaning.specs.declared.block.Trapezoid.{Trapezoid}
 use Rattle.fuzzy_meaning.specs.Blocks.{IsValid, IsValidInput, IsWeight, input_at}
-use Rattle.fuzzy_meaning.specs.Meaning.{literal_degree, strength, mass_among, weight_of}
-use Rattle.fuzzy_meaning.specs.{Places.points_of, Places.degree_at, Rules.concludes}
+use Rattle.fuzzy_meaning.specs.Meaning.{literal_degree, strength, mass_among, weight_of, concludes}
+use Rattle.fuzzy_meaning.specs.{Places.points_of, Places.degree_at, declared.block.Trapezoid.Trapezoid}
 use Rattle.byte_scaling.specs.Cells.{IsInCell, cell_start, inside}
 use Rattle.point_slope.specs.Bytes.{literal_grade}
 use Rattle.error_bound.specs.{declared.boxes.Interval.Interval, CellErrors.term_error, CellErrors.term_errors}
+use Rattle.error_bound.proofs.{ConditionLemmas.IsWithinSpans, LawLemmas.term_errors-are, TermReaches.term_held}
 use Rattle.error_bound.specs.Boxes.{IsBox, literal_span, literal_byte_span, rule_span}
 use Rattle.error_bound.specs.Errors.{billion, IsTermError, AreTermErrors}
 use Rattle.error_bound.specs.Tight.{greatest_of, low_part, high_part}
-use Rattle.error_bound.proofs.{ConditionLemmas.IsWithinSpans, LawLemmas.term_errors-are, TermReaches.term_held}
 use Rattle.error_bound.proofs.Literals.{at_place, width_pos}
-use Rattle.error_bound.proofs.RuleLemmas.{rule_within, times_ordered}
+use Rattle.error_bound.proofs.{RuleLemmas.rule_within, RuleLemmas.times_ordered, TightLemmas.greatest_of-mono}
 use Rattle.error_bound.proofs.SpanLemmas.{IsBetween, AreOrdered, ordered-refl, between, truths_monotone}
-use Rattle.error_bound.proofs.TightLemmas.{greatest_of-mono}
 
 -- ---- one mass, in c parts
 

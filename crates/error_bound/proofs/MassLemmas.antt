@@ -10,17 +10,17 @@ use Rattle.fz_num.specs.{declared.dec.Dec.Dec, Decimals.distance}
 use Rattle.fz_num.specs.Fractions.{Fraction, over, IsProper, AtMost, up_div}
 use Rattle.fz_num.proofs.Algebra.{le-up_div, up_div-le}
 use Rattle.fuzzy_meaning.specs.declared.{block.Block.Block, block.Output.Output, block.Rule.Rule}
-use Rattle.fuzzy_meaning.specs.{Blocks.IsValidOutput, Blocks.IsWithin, Blocks.output_at, Rules.concludes}
+use Rattle.fuzzy_meaning.specs.{Blocks.IsValidOutput, Blocks.IsWithin, Blocks.output_at, Meaning.concludes}
 use Rattle.error_bound.specs.declared.{boxes.Interval.Interval, ends.End.End, tight.Masses.Masses}
 use Rattle.error_bound.specs.Bounds.{plus, in_millionths, ratio_bound, offset}
-use Rattle.error_bound.specs.{Boxes.rule_span, Boxes.rule_byte_span, CellErrors.term_errors, Flattening.IsSame}
 use Rattle.error_bound.specs.Errors.{billion, apart, AreTermErrors}
 use Rattle.error_bound.specs.Masses.{AreGreatest, AreMasses, AreSmall, sum_at, if_some, farthest_at, offset_at}
 use Rattle.error_bound.specs.Masses.{swing_at, bound_at}
-use Rattle.error_bound.specs.{Ratios.value_of, Reaches.IsEndOfRule, Leaves.concludes_some}
 use Rattle.error_bound.specs.Tight.{greatest_of, sum_over, greatest_over, low_part, high_part, is_still, moving_error}
 use Rattle.error_bound.specs.Tight.{sure_bound, sure_sum, sure_bytes, low_of, byte_low_of, error_of, swing, farthest}
 use Rattle.error_bound.specs.Tight.{live_offset, if_live, IsSure, IsTightBound, sure}
+use Rattle.error_bound.specs.{Boxes.rule_span, Boxes.rule_byte_span, CellErrors.term_errors, Flattening.IsSame}
+use Rattle.error_bound.specs.{Ratios.value_of, Reaches.IsEndOfRule, Leaves.concludes_some}
 use Rattle.error_bound.proofs.{ConclusionLemmas.any-some, Shares.within_width, BoundLemmas.in_millionths-mono}
 use Rattle.error_bound.proofs.{Values.none_same, TightLawLemmas.part-mono}
 

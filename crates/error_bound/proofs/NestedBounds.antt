@@ -6,14 +6,14 @@ use Rattle.std.proofs.lemmas.Int.{ints}
 use Rattle.fz_num.specs.{declared.dec.Dec.Dec, Decimals.distance}
 use Rattle.fuzzy_meaning.specs.declared.{block.Block.Block, block.Output.Output, block.Rule.Rule}
 use Rattle.fuzzy_meaning.specs.Blocks.{IsValid, IsValidRule, HasTerm, IsValidCondition, IsValidOutput}
-use Rattle.fuzzy_meaning.specs.{Conditions.Condition, Rules.concludes}
+use Rattle.fuzzy_meaning.specs.{Conditions.Condition, Meaning.concludes}
 use Rattle.fuzzy_meaning.proofs.Algebra.{evaluate-related}
 use Rattle.fz_list.proofs.Algebra.{IsSomeAnd-some, IsSomeAnd-within, some_at, All-slice_get}
 use Rattle.error_bound.specs.declared.{boxes.Interval.Interval, boxes.Leaf.Leaf}
-use Rattle.error_bound.specs.{Spans.greatest_literal, Laws.IsInside, Laws.BoundsFallInside, Laws.BoundsAreDetermined}
 use Rattle.error_bound.specs.Errors.{billion, AreTermErrors, rule_error, weight_error, floor_error}
 use Rattle.error_bound.specs.Errors.{output_error_among}
 use Rattle.error_bound.specs.Bounds.{errors_from, IsBound, greatest_offset, silent_bound, strong_bound}
+use Rattle.error_bound.specs.{Spans.greatest_literal, Laws.IsInside, Laws.BoundsFallInside, Laws.BoundsAreDetermined}
 use Rattle.error_bound.proofs.BoundLemmas.{bound_strong, ratio-mono}
 
 max-mono : (a b c d : ℕ) → a ≤ c → b ≤ d → max a b ≤ max c d

@@ -8,17 +8,18 @@ use Rattle.std.proofs.lemmas.Bool.{cases_lt, eq-eqb}
 use Rattle.std.proofs.lemmas.Bool.Decides.{nat_tests}
 use Rattle.std.proofs.lemmas.Int.{ints}
 use Rattle.fz_list.proofs.Algebra.{All-slice_get}
-use Rattle.fz_num.specs.{declared.dec.Dec.Dec, Fractions.over, Decimals.distance, Fracs.Quotient, Fracs.IsClose}
+use Rattle.fz_num.specs.declared.dec.Dec.{Dec}
+use Rattle.fz_num.specs.{Fractions.over, Fractions.Quotient, Fractions.IsClose, Decimals.distance}
 use Rattle.cell_error.specs.declared.ranges.MassRange.{MassRange}
 use Rattle.cell_error.specs.Errors.{AreBetween, total, weighted, answer_of, IsWithin, Covers}
 use Rattle.fuzzy_meaning.specs.declared.{block.Block.Block, block.Output.Output}
-use Rattle.fuzzy_meaning.specs.{Blocks.IsWithin as IsInRange, Blocks.IsValidOutput, Places.NumbersHaveTheirDegrees}
 use Rattle.fuzzy_meaning.specs.Meaning.{mass, shares, total_mass, weighted_sum, centre, quotient_of}
+use Rattle.fuzzy_meaning.specs.{Blocks.IsWithin as IsInRange, Blocks.IsValidOutput, Places.NumbersHaveTheirDegrees}
 use Rattle.byte_scaling.specs.Cells.{NearestIsByte, value_in}
 use Rattle.error_bound.specs.declared.boxes.Interval.{Interval}
-use Rattle.error_bound.specs.{CellErrors.term_errors, Errors.billion, Tight.low_of, Tight.high_of, Tight.live_offset}
 use Rattle.error_bound.specs.MassRanges.{ranges_at, ranges, sure_mass, answer_at, rest_of, AreOverBox}
 use Rattle.error_bound.specs.MassRanges.{AnswersToMassesAreNear}
+use Rattle.error_bound.specs.{CellErrors.term_errors, Errors.billion, Tight.low_of, Tight.high_of, Tight.live_offset}
 use Rattle.error_bound.proofs.{Closeness.close_value, LawLemmas.term_errors-are, Literals.literals}
 use Rattle.error_bound.proofs.{MassEnds.IsMassBetween, MassEnds.mass_between, SilentLeaves.centre_none}
 use Rattle.error_bound.proofs.Rows.{Row, dens, mass_sum, weighted as weighted_rows, total_g, dot_u, dens_pos}

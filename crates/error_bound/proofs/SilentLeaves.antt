@@ -5,18 +5,18 @@ use Rattle.std.specs.Prelude.{All, IsTrue, IfSome, ◌==◌, if◌then◌else◌
 use Rattle.std.proofs.lemmas.Bool.Decides.{nat_tests}
 use Rattle.std.proofs.lemmas.List.Sums.{sum_by-cons}
 use Rattle.fz_num.specs.declared.dec.Dec.{Dec}
-use Rattle.fz_num.specs.{Fractions.Fraction, Fractions.IsProper, Fractions.AtMost, Fractions.greater, Fracs.Quotient}
+use Rattle.fz_num.specs.Fractions.{Fraction, IsProper, AtMost, greater, Quotient}
 use Rattle.fz_num.proofs.Algebra.{by_greater}
 use Rattle.fuzzy_meaning.specs.declared.{block.Block.Block, block.Output.Output, block.Rule.Rule}
-use Rattle.fuzzy_meaning.specs.{Blocks.IsWeight, Rules.concludes}
-use Rattle.fuzzy_meaning.specs.Meaning.{literal_degree, strength, mass_among, mass, Share, shares_from, common_den}
-use Rattle.fuzzy_meaning.specs.Meaning.{total_mass, weighted_sum, centre}
+use Rattle.fuzzy_meaning.specs.Blocks.{IsWeight}
+use Rattle.fuzzy_meaning.specs.Meaning.{concludes, literal_degree, strength, mass_among, mass, Share, shares_from}
+use Rattle.fuzzy_meaning.specs.Meaning.{common_den, total_mass, weighted_sum, centre}
 use Rattle.byte_scaling.specs.Cells.{nearest_byte}
 use Rattle.point_slope.specs.Bytes.{ByteShare, literal_grade, byte_strength, byte_mass_among, byte_mass}
 use Rattle.point_slope.specs.Bytes.{byte_shares_from, total_mass as byte_total}
 use Rattle.error_bound.specs.{declared.boxes.Interval.Interval, Errors.billion, Leaves.IsStill}
-use Rattle.error_bound.specs.Boxes.{literal_span, literal_byte_span, rule_span, rule_byte_span}
 use Rattle.error_bound.proofs.{ConditionLemmas.IsWithinSpans, RuleLemmas.rule_within}
+use Rattle.error_bound.specs.Boxes.{literal_span, literal_byte_span, rule_span, rule_byte_span}
 
 zero_times : (n d : ℕ) → n * d ≤ 0 → 0 < d → n ≡ 0
 zero_times n d h hd = let p : n ≤ 0 = le_of_mul-le-mul_right {k = d} (omega arith) hd in omega arith

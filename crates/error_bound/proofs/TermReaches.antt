@@ -8,13 +8,13 @@ use Rattle.fz_num.specs.declared.dec.Dec.{Dec}
 use Rattle.fz_num.specs.Fractions.{Fraction, over, IsProper, AtMost, greater, IsNear}
 use Rattle.fz_num.proofs.Algebra.{AtMost-trans, AtMost-greater_left, AtMost-greater_right}
 use Rattle.fuzzy_meaning.specs.{declared.block.Block.Block, declared.block.Rule.Rule, Blocks.IsWeight}
-use Rattle.fuzzy_meaning.specs.{Meaning.literal_degree, Meaning.strength, Meaning.mass_among, Rules.concludes}
+use Rattle.fuzzy_meaning.specs.Meaning.{literal_degree, strength, mass_among, concludes}
 use Rattle.point_slope.specs.Bytes.{literal_grade, byte_strength, byte_mass_among}
 use Rattle.error_bound.specs.{declared.boxes.Interval.Interval, Errors.billion, Errors.rule_error, Leaves.IsStill}
+use Rattle.error_bound.proofs.{RuleLemmas.rule_within, SilentLeaves.still_rule}
 use Rattle.error_bound.specs.Boxes.{literal_span, literal_byte_span, rule_span, rule_byte_span}
 use Rattle.error_bound.specs.Tight.{greatest_of, low_part, is_still, moving_error}
 use Rattle.error_bound.proofs.ConditionLemmas.{IsHeld, IsWithinSpans, held_greater, within_none}
-use Rattle.error_bound.proofs.{RuleLemmas.rule_within, SilentLeaves.still_rule}
 
 both_true : (a c : Bool) → (a && c) ≡ true → (a ≡ true) × (c ≡ true)
 both_true true c h = (refl, h)

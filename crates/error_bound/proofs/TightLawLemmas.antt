@@ -11,23 +11,23 @@ use Rattle.fz_list.proofs.Algebra.{All-slice_get}
 use Rattle.fz_num.specs.{declared.dec.Dec.Dec, Decimals.distance}
 use Rattle.fz_num.specs.Fractions.{Fraction, IsProper, AtMost, up_div}
 use Rattle.fuzzy_meaning.specs.declared.{block.Block.Block, block.Output.Output, block.Rule.Rule}
-use Rattle.fuzzy_meaning.specs.{Blocks.IsValid, Blocks.IsValidOutput, Rules.concludes}
+use Rattle.fuzzy_meaning.specs.{Blocks.IsValid, Blocks.IsValidOutput, Meaning.concludes}
 use Rattle.error_bound.specs.declared.boxes.Interval.{Interval}
-use Rattle.error_bound.specs.{Best.silent_leaf, Boxes.rule_span, Boxes.rule_byte_span, Boxes.IsBox}
 use Rattle.error_bound.specs.Bounds.{ratio_bound, offset, silent_bound, errors_from}
-use Rattle.error_bound.specs.{Errors.apart, Errors.billion, Errors.AreTermErrors, Laws.IsInside}
-use Rattle.error_bound.specs.{Leaves.Holds, Leaves.strong, Leaves.silent, CellErrors.term_errors}
 use Rattle.error_bound.specs.Tight.{greatest_of, sum_over, low_part, is_still, moving_error, low_of, byte_low_of}
 use Rattle.error_bound.specs.Tight.{byte_high_of, error_of, if_live, farthest, live_offset, sure_sum, sure_bytes}
 use Rattle.error_bound.specs.Tight.{swing, sure_bound, IsSure, IsTightBound, silent as tight_silent, sure}
 use Rattle.error_bound.specs.Tight.{IsTightCount, of_bound, of_none}
 use Rattle.error_bound.specs.TightLaws.{TightBoundsAreLeast, TightBoundsFallInside, TightBoundsAreOne}
 use Rattle.error_bound.specs.TightLaws.{TightBoundsHoldInside, TightBoundsFallWithParts}
+use Rattle.error_bound.specs.{Best.silent_leaf, Boxes.rule_span, Boxes.rule_byte_span, Boxes.IsBox, Errors.apart}
+use Rattle.error_bound.specs.{Errors.billion, Errors.AreTermErrors, Laws.IsInside, Leaves.Holds, Leaves.strong}
+use Rattle.error_bound.specs.{Leaves.silent, CellErrors.term_errors}
 use Rattle.error_bound.proofs.{AnswerLemmas.quiet_rules, LawLemmas.term_errors-are, RuleOrder.bytes_ordered}
+use Rattle.error_bound.proofs.{SilentLeaves.none_below, TermReaches.IsStill-test}
 use Rattle.error_bound.proofs.BoundLemmas.{bound_strong, bound_silent, ratio-mono}
 use Rattle.error_bound.proofs.Nested.{rule_narrow, IsNarrow, leaves_hold_inside}
 use Rattle.error_bound.proofs.NestedBounds.{less_rule, inside_itself}
-use Rattle.error_bound.proofs.{SilentLeaves.none_below, TermReaches.IsStill-test}
 use Rattle.error_bound.proofs.TightLemmas.{greatest_of-mono, sum_over-mono, greatest_over-mono, strong_sure}
 use Rattle.error_bound.proofs.TightLemmas.{strong_least}
 

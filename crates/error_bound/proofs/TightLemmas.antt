@@ -10,14 +10,14 @@ use Rattle.fz_num.specs.declared.dec.Dec.{Dec}
 use Rattle.fz_num.specs.{Fractions.Fraction, Fractions.over, Fractions.IsProper, Fractions.AtMost, Decimals.distance}
 use Rattle.fuzzy_meaning.specs.declared.{block.Block.Block, block.Output.Output, block.Rule.Rule}
 use Rattle.fuzzy_meaning.specs.Blocks.{IsValid, IsValidRule, IsWithin, HasSingleton, output_at, IsValidOutput}
-use Rattle.fuzzy_meaning.specs.Rules.{concludes}
+use Rattle.fuzzy_meaning.specs.Meaning.{concludes}
 use Rattle.error_bound.specs.declared.boxes.Interval.{Interval}
-use Rattle.error_bound.specs.{Boxes.rule_span, Boxes.rule_byte_span, Leaves.IsStrong}
 use Rattle.error_bound.specs.Errors.{billion, apart, rule_error, output_error, output_error_among}
 use Rattle.error_bound.specs.Bounds.{errors_from, strong_bound, offset, greatest_offset}
 use Rattle.error_bound.specs.Tight.{greatest_of, sum_over, greatest_over, low_part, is_still, moving_error, low_of}
 use Rattle.error_bound.specs.Tight.{byte_low_of, byte_high_of, error_of, if_live, farthest, live_offset, sure_sum}
 use Rattle.error_bound.specs.Tight.{sure_bytes, swing, sure_bound, IsSure}
+use Rattle.error_bound.specs.{Boxes.rule_span, Boxes.rule_byte_span, Leaves.IsStrong}
 use Rattle.error_bound.proofs.{BoundLemmas.ratio-mono, RuleOrder.low_proper, Shares.concluded, Shares.within_width}
 
 -- ---- the greatest of rules, sums and greatest of terms

@@ -1,7 +1,7 @@
 -- The answers over bytes are near the exact ones.
 -- Beside the promise.
 use Rattle.std.specs.Prelude.{◌≡◌, ◌≢◌, ℕ, ◌≤◌, List, Some, None}
-use Rattle.fz_num.specs.{declared.dec.Dec.Dec, Decimals.distance, Fracs.Quotient, Fracs.IsClose}
+use Rattle.fz_num.specs.{declared.dec.Dec.Dec, Decimals.distance, Fractions.Quotient, Fractions.IsClose}
 use Rattle.fuzzy_meaning.specs.declared.{block.Block.Block, block.Output.Output}
 use Rattle.fuzzy_meaning.specs.{Blocks.output_at, Blocks.IsValid, Meaning.answer_after}
 use Rattle.byte_scaling.specs.Cells.{value_in}

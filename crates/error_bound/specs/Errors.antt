@@ -4,7 +4,7 @@ use Rattle.std.specs.Prelude.{◌≡◌, ℕ, ◌+◌, ◌-◌, ◌*◌, ◌≤�
 use Rattle.fz_num.specs.{Fractions.Fraction, Fractions.IsNear, Fractions.up_div, Decimals.distance}
 use Rattle.fuzzy_meaning.specs.{declared.block.Block.Block, declared.block.Input.Input, declared.block.Rule.Rule}
 use Rattle.fuzzy_meaning.specs.{declared.block.Trapezoid.Trapezoid, Blocks.input_at, Meaning.weight_of}
-use Rattle.fuzzy_meaning.specs.{Rules.concludes, Places.points_of, Places.degree_at}
+use Rattle.fuzzy_meaning.specs.{Meaning.concludes, Places.points_of, Places.degree_at}
 use Rattle.byte_scaling.specs.{Cells.IsInCell, Weights.weight_byte_of}
 use Rattle.point_slope.specs.Tables.{row_of, grade_of}
 use Rattle.error_bound.specs.{declared.boxes.Interval.Interval, Spans.greatest_literal}

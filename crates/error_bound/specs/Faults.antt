@@ -2,13 +2,13 @@
 -- Beside the promise.
 use Rattle.std.specs.Prelude.{◌≡◌, ℕ, ◌*◌, ◌/◌, ◌<◌, ◌≤◌, List, Some, IsTrue}
 use Rattle.fz_num.specs.Fractions.{Fraction, over, AtMost, IsBelow, up_div}
-use Rattle.fuzzy_meaning.specs.{declared.block.Block.Block, declared.block.Rule.Rule, Rules.concludes}
+use Rattle.fuzzy_meaning.specs.{declared.block.Block.Block, declared.block.Rule.Rule, Meaning.concludes}
 use Rattle.error_bound.specs.declared.boxes.Interval.{Interval}
 use Rattle.error_bound.specs.declared.boxes.Leaf as the
 use Rattle.error_bound.specs.declared.boxes.LeafFault.{LeafFault}
 use Rattle.error_bound.specs.declared.boxes.LeafFault.TheVariants.{Weak, Still, Silent, Loud}
-use Rattle.error_bound.specs.{Boxes.rule_span, Boxes.rule_byte_span, Spans.Span, Errors.billion}
 use Rattle.error_bound.specs.Leaves.{rule_at, concludes_some, IsStill, Holds}
+use Rattle.error_bound.specs.{Boxes.rule_span, Boxes.rule_byte_span, Spans.Span, Errors.billion}
 
 -- in parts of 10^9, rounded down or up
 abbrev pub parts_down : Fraction → ℕ

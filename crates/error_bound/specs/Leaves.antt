@@ -3,7 +3,7 @@
 use Rattle.std.specs.Prelude.{◌≡◌, ℕ, ◌-◌, ◌≤◌, List, All, Option, Some, IsSomeAnd, Bool, IsTrue, slice_get, ◌==◌}
 use Rattle.std.specs.List.{list_any}
 use Rattle.fz_num.specs.Fractions.{over, AtMost}
-use Rattle.fuzzy_meaning.specs.{declared.block.Block.Block, declared.block.Rule.Rule, Rules.concludes}
+use Rattle.fuzzy_meaning.specs.{declared.block.Block.Block, declared.block.Rule.Rule, Meaning.concludes}
 use Rattle.error_bound.specs.declared.{boxes.Interval.Interval, boxes.Leaf.Leaf}
 use Rattle.error_bound.specs.Boxes.{rule_span, rule_byte_span}
 

@@ -3,10 +3,10 @@
 use Rattle.std.specs.Prelude.{◌≡◌, ℕ, ◌+◌, ◌*◌, ◌/◌, ◌≤◌, ◌==◌, ◌&&◌, max, List, [], ◌∷◌, Bool, if◌then◌else◌}
 use Rattle.fz_num.specs.{declared.dec.Dec.Dec, Fractions.up_div, Decimals.distance}
 use Rattle.fuzzy_meaning.specs.declared.{block.Block.Block, block.Output.Output, block.Rule.Rule}
-use Rattle.fuzzy_meaning.specs.Rules.{concludes}
+use Rattle.fuzzy_meaning.specs.Meaning.{concludes}
 use Rattle.error_bound.specs.{declared.boxes.Interval.Interval, Boxes.rule_span, Boxes.rule_byte_span, Leaves.Holds}
-use Rattle.error_bound.specs.Errors.{billion, apart, AreTermErrors, rule_error}
 use Rattle.error_bound.specs.{Best.silent_leaf, Bounds.offset, Bounds.ratio_bound, Bounds.silent_bound}
+use Rattle.error_bound.specs.Errors.{billion, apart, AreTermErrors, rule_error}
 
 -- the greatest that f gives for those of the rules that conclude term t of output o, or 0
 abbrev pub greatest_of : (Rule → ℕ) → ℕ → ℕ → List Rule → ℕ

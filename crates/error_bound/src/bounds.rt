@@ -2,7 +2,7 @@
 ghost use Rattle.std.specs.Prelude.{◌≡◌, ◌≤◌, ◌<◌, ◌+◌, ◌*◌, ℕ, min, max, All, slice_index, if◌then◌else◌};
 ghost use Rattle.fz_num.specs.{Fractions.up_div, Decimals.distance};
 ghost use Rattle.fuzzy_meaning.specs.Blocks.{IsValid, IsValidOutput, IsWithin};
-ghost use Rattle.fuzzy_meaning.specs.Rules.{concludes as concludes_it};
+ghost use Rattle.fuzzy_meaning.specs.Meaning.{concludes as concludes_it};
 ghost use Rattle.error_bound.specs.Bounds.{offset as offset_of, greatest_offset as greatest_offset_of};
 ghost use Rattle.error_bound.specs.Bounds.{strong_bound as strong_bound_of, silent_bound as silent_bound_of};
 ghost use Rattle.error_bound.specs.Bounds.{errors_from};

@@ -3,7 +3,7 @@ ghost use Rattle.std.specs.Prelude.{◌≡◌, ◌↔◌, ◌≤◌, ◌<◌, �
 ghost use Rattle.std.specs.Prelude.{Some, length};
 ghost use Rattle.fz_num.specs.Fractions.{over, AtMost};
 ghost use Rattle.fuzzy_meaning.specs.declared.block.Rule.{Rule as TheRule};
-ghost use Rattle.fuzzy_meaning.specs.{Blocks.IsValid, Blocks.output_at, Rules.concludes as concludes_it};
+ghost use Rattle.fuzzy_meaning.specs.{Blocks.IsValid, Blocks.output_at, Meaning.concludes as concludes_it};
 ghost use Rattle.error_bound.specs.{Boxes.IsBoxOf, Bounds.IsBound, Spans.only, Reaches.IsTable};
 ghost use Rattle.error_bound.specs.Faults.{HasLeafFault, IsStrongFault, IsSilentFault};
 ghost use Rattle.error_bound.specs.Leaves.{rule_at, Holds, IsStill, concludes_some as concludes_any, IsPairFor};

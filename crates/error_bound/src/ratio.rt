@@ -1,7 +1,6 @@
 //! Fractions of two numbers of 64 bits.
 ghost use Rattle.std.specs.Prelude.{◌≡◌, ◌≤◌, ◌<◌, ◌*◌, ◌/◌, ◌≤ℤ◌, pos, unsigned_abs, IsTrue, ◌↔◌};
-ghost use Rattle.fz_num.specs.Fractions.{over, lesser, greater, one_minus, times, IsBelow};
-ghost use Rattle.fz_num.specs.Fracs.{fraction_of, IsTruth};
+ghost use Rattle.fz_num.specs.Fractions.{over, lesser, greater, one_minus, times, IsBelow, fraction_of, IsTruth};
 ghost use Rattle.error_bound.specs.Faults.{parts_up};
 
 use fz_num::{Dec, Frac, Nano};

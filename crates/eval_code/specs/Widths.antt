@@ -1,5 +1,5 @@
 -- The bytes of an answer, and what an output answers.
--- Reached by the promise.
+-- Beside the promise.
 use Rattle.std.specs.Prelude.{ℕ, List, [], ◌∷◌}
 use Rattle.byte_scaling.specs.Widths.{parts}
 use Rattle.byte_scaling.specs.declared.{width.Width.Width, width.Width.TheVariants.Byte, width.Width.TheVariants.Word}

@@ -4,11 +4,11 @@ use Rattle.std.proofs.Common.{Result, Ok, Err, refl, sym, ap, subst, ◌∙◌, 
 use Rattle.std.proofs.lemmas.List.{append-nil, length-append}
 use Rattle.std.proofs.lemmas.Bool.{cases_lt}
 use Rattle.fcl_syntax.specs.declared.{fault.Fault.Fault, fault.Kind.Kind, token.Token.Token}
-use Rattle.fcl_syntax.specs.declared.fault.Kind.TheVariants.{Expected, Deep, Unsupported}
-use Rattle.fcl_syntax.specs.Annotations.{Sym, tokens_of, IsClean, plain, annotated}
-use Rattle.fcl_syntax.specs.First.{looks_on, SameNext, SameHead, Shown, IsAnnotation, Spells, IsPlain}
-use Rattle.fcl_syntax.specs.First.{IsPlainAnnotation, Begins, NoTextHas, NoAnnotation, Here, FirstFault}
+use Rattle.fcl_syntax.specs.Annotations.{Sym, tokens_of, IsClean, plain, annotated, Spells}
+use Rattle.fcl_syntax.specs.First.{looks_on, SameNext, SameHead, Shown, IsAnnotation, IsPlain, IsPlainAnnotation}
+use Rattle.fcl_syntax.specs.First.{Begins, NoTextHas, NoAnnotation, Here, FirstFault}
 use Rattle.fcl_syntax.specs.Readers.{ended, ◌>>=◌, fault_at}
+use Rattle.fcl_syntax.specs.declared.fault.Kind.TheVariants.{Expected, Deep, Unsupported}
 use Rattle.fcl_syntax.proofs.Form.{Stops, annotation_at, first_annotation, answer, Stands, Viable, Fails, Form}
 use Rattle.fcl_syntax.proofs.AnnotatedTexts.{bind_ok, bind_err, ok_is, tokens_of-append, length-tokens}
 use Rattle.fcl_syntax.proofs.AnnotatedTexts.{first_annotation-clean}

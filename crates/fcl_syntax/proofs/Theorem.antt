@@ -12,15 +12,15 @@ use Rattle.fcl_syntax.specs.declared.lexer.Piece.TheVariants as piece
 use Rattle.fcl_syntax.specs.declared.text.SyntaxFault.{SyntaxFault}
 use Rattle.fcl_syntax.specs.declared.text.SyntaxFault.TheVariants as faults
 use Rattle.fcl_syntax.specs.declared.{token.Token.Token, tree.FunctionBlock.FunctionBlock, tree.Tree.Tree}
-use Rattle.fcl_syntax.specs.{First.Spells, First.FirstFault, Tokens.HasTokenFault}
+use Rattle.fcl_syntax.specs.{Annotations.Spells, First.FirstFault, Tokens.HasTokenFault}
 use Rattle.fcl_syntax.specs.Lexing.{piece_of, Placed, Lexed, lexed, in_front, next_piece, tokenization}
 use Rattle.fcl_syntax.specs.Text.{IsSpelled, SpellsTree, head_or, HasFault, IsFirstFault, OrMemory}
 use Rattle.fcl_syntax.specs.TextReading.{of_kind, token_fault, grammar_fault, place_of, located, read_lexed}
 use Rattle.fcl_syntax.specs.TextReading.{read_text, Reads}
 use Rattle.fcl_syntax.specs.{Parsed.GivesTree, Parsed.GivesFault, Grammar.TBlock, Grammar.block_text, Reading.all_of}
 use Rattle.fcl_syntax.specs.{Readings.FirstFaultsAreOne, Readings.TreesAreOne, View.view}
-use Rattle.fcl_syntax.proofs.CutTexts.{cut_has_tokens, cut_has_fault, tokens_are_cut, fault_is_cut}
 use Rattle.fcl_syntax.proofs.{OneTree.one_tree, RuleForms.block_form}
+use Rattle.fcl_syntax.proofs.CutTexts.{cut_has_tokens, cut_has_fault, tokens_are_cut, fault_is_cut}
 use Rattle.fcl_syntax.proofs.Exact.{whole, whole_spells, spells_whole, whole_faults, faults_whole}
 
 pub all_is : (ts : List Token) → all_of ts ≡ whole block_form ts

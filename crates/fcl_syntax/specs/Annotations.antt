@@ -35,3 +35,8 @@ refused_text k x = annotated k x.token ∷ []
 
 abbrev pub or_refused : {A : Type 0} (k : Kind) (classes : List ℕ) → (A → List Sym) → Among classes ⊎ A → List Sym
 or_refused k classes text = either_text (refused_text k) text
+
+-- the tokens are the text of this tree, and nothing in it is refused
+pub record Spells {T : Type 0} (text : T → List Sym) (ts : List Token) (t : T) : Type 0 where
+  pub parts : ts ≡ tokens_of (text t)
+  pub clean : IsClean (text t)

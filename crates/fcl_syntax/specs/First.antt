@@ -1,20 +1,15 @@
 -- Which tokens are a text, and which fault is the first.
--- Reached by the promise.
+-- Beside the promise.
 use Rattle.std.specs.Prelude.{◌≡◌, Bool, true, false, List, [], ◌∷◌, ◌++◌, length, Option, Some, None, ◌==◌}
 use Rattle.fcl_syntax.specs.declared.{fault.Fault.Fault, fault.Kind.Kind, token.Token.Token}
+use Rattle.fcl_syntax.specs.Annotations.{Sym, tokens_of, annotated}
 use Rattle.fcl_syntax.specs.declared.fault.Kind.TheVariants.{Expected, Deep, Unsupported}
-use Rattle.fcl_syntax.specs.Annotations.{Sym, tokens_of, IsClean, annotated}
 
 -- the kinds that stand as annotations in texts
 abbrev pub IsAnnotation : Kind → Type 0
 IsAnnotation Expected = ⊥
 IsAnnotation Deep = Unit {0}
 IsAnnotation (Unsupported n) = Unit {0}
-
--- the tokens are the text of this tree, and nothing in it is refused
-pub record Spells {T : Type 0} (text : T → List Sym) (ts : List Token) (t : T) : Type 0 where
-  pub parts : ts ≡ tokens_of (text t)
-  pub clean : IsClean (text t)
 
 -- the annotations of a text of the grammar, which sets no limit to what is open at once
 abbrev pub IsPlainAnnotation : Option Kind → Type 0

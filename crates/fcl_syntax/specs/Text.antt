@@ -8,7 +8,7 @@ use Rattle.fcl_syntax.specs.declared.lexer.LexKind.TheVariants as kinds
 use Rattle.fcl_syntax.specs.declared.text.SyntaxFault.{SyntaxFault}
 use Rattle.fcl_syntax.specs.declared.text.SyntaxFault.TheVariants as faults
 use Rattle.fcl_syntax.specs.declared.{token.Token.Token, tree.FunctionBlock.FunctionBlock}
-use Rattle.fcl_syntax.specs.{First.Spells, First.FirstFault, Tokens.HasTokens, Tokens.HasTokenFault}
+use Rattle.fcl_syntax.specs.{Annotations.Spells, First.FirstFault, Tokens.HasTokens, Tokens.HasTokenFault}
 use Rattle.fcl_syntax.specs.{Grammar.TBlock, Grammar.block_text, View.view}
 
 -- the text has no token fault, and its tokens spell the tree

@@ -4,15 +4,14 @@ use Rattle.std.proofs.Common.{Ok, List, [], ◌∷◌, refl, ap}
 use Rattle.std.proofs.Common.{sym, ◌∙◌, subst, arith, inl, inr}
 use Rattle.std.proofs.lemmas.Bool.{false≢true, or_parts}
 use Rattle.std.proofs.lemmas.Bool.Decides.{nat_tests}
-use Rattle.cpu12_isa.specs.declared.instr.Instr.{Instr}
+use Rattle.cpu12_isa.specs.{declared.instr.Instr.Instr, Regions.stack_start, Regions.stack_end, Regions.is_hidden}
 use Rattle.cpu12_isa.specs.{Act.read_by, Act.write_all, Agreement.AllShown, Agreement.IsWritten, Agreement.WritesStay}
 use Rattle.cpu12_isa.specs.{Code.decode_of, Code.decode_at, Code.six_from, Memory.bytes_at}
-use Rattle.cpu12_isa.specs.Regions.{stack_start, stack_end, is_hidden}
 use Rattle.cpu12_isa.proofs.Algebra.{shown_append}
 use Rattle.cpu12_parts.specs.declared.{temps.Temps.Temps, temps.PartEnd.PartEnd, temps.PartEnd.TheVariants.More}
-use Rattle.cpu12_parts.specs.{State.State, State.Outcome, Fits.FitsTemps, Fits.FitsOutcome}
-use Rattle.cpu12_parts.specs.Cuts.{Kind, part_of, after_part}
-use Rattle.cpu12_parts.specs.{Laws.addresses, Laws.PartsTo, Rules.NotIn, Rules.AreApart, Touching.Each}
+use Rattle.cpu12_parts.specs.Parts.{Kind, part_of, after_part}
+use Rattle.cpu12_parts.specs.{State.State, State.Outcome, Fits.FitsTemps, Fits.FitsOutcome, Laws.addresses}
+use Rattle.cpu12_parts.specs.{Laws.PartsTo, Rules.NotIn, Rules.AreApart, Touching.Each}
 use Rattle.cpu12_emul.specs.{declared.ends.Stepped.TheVariants.LastPart, Simulation.AreSumsReady, Simulation.left_of}
 use Rattle.cpu12_emul.specs.Step.{Left, Next, kind_of, applied, next_of}
 use Rattle.firmware_runs.specs.Facts.{Facts, AreNoneOrRunning}

@@ -3,15 +3,15 @@ use Rattle.std.proofs.Common.{◌≡◌, ℕ, zero, suc, ◌+◌, ◌^◌, ◌<�
 use Rattle.std.proofs.Common.{refl, ap, ap₂, sym, ◌∙◌, subst}
 use Rattle.std.proofs.Common.{inl}
 use Rattle.cpu12_isa.specs.{declared.instr.Instr.TheVariants.Wav, Act.read_by, Act.write_all, Act.outcome}
-use Rattle.cpu12_isa.specs.{Agreement.AllShown, Code.decode_at, Code.six_from, Code.DecodedHasOpcode}
-use Rattle.cpu12_isa.specs.{Fits.FitsRegs, Fits.AreBytes, Flags.has, Flags.interrupts_masked}
-use Rattle.cpu12_isa.specs.{Memory.plus, Memory.bytes_at, Regions.stack_start, Regions.stack_end, Regions.is_hidden}
+use Rattle.cpu12_isa.specs.{Agreement.AllShown, Code.decode_at, Code.six_from, Code.DecodedHasOpcode, Fits.FitsRegs}
+use Rattle.cpu12_isa.specs.{Fits.AreBytes, Flags.has, Flags.interrupts_masked, Memory.plus, Memory.bytes_at}
+use Rattle.cpu12_isa.specs.{Regions.stack_start, Regions.stack_end, Regions.is_hidden}
 use Rattle.cpu12_isa.proofs.Algebra.{shown_append}
 use Rattle.cpu12_parts.specs.declared.{temps.Temps.Temps, temps.Temps.TheVariants.Running, temps.PartEnd.PartEnd}
+use Rattle.cpu12_parts.specs.Parts.{wav, part_of, after_part}
+use Rattle.cpu12_parts.specs.Fits.{FitsTemps, FitsState, FitsOutcome}
 use Rattle.cpu12_parts.specs.declared.temps.PartEnd.TheVariants.{More}
 use Rattle.cpu12_parts.specs.{State.State, State.Outcome, Inside.second_byte, Laws.addresses, Laws.PartsTo}
-use Rattle.cpu12_parts.specs.Cuts.{wav, part_of, after_part}
-use Rattle.cpu12_parts.specs.Fits.{FitsTemps, FitsState, FitsOutcome}
 use Rattle.cpu12_emul.specs.declared.ends.Stepped.TheVariants.{LastPart}
 use Rattle.cpu12_emul.specs.Simulation.{AreSumsReady, left_of, HasRoom}
 use Rattle.cpu12_emul.specs.Step.{Left, Next, kind_of, step_act, applied}

@@ -2,7 +2,8 @@
 use Rattle.std.proofs.Common.{◌≡◌, ℕ, ◌-◌, ◌^◌, ◌<◌, Bool, false, List, refl, sym, subst}
 use Rattle.cpu12_isa.specs.declared.{instr.Instr.Instr, instr.Instr.TheVariants.Rev, instr.Instr.TheVariants.Revw}
 use Rattle.cpu12_isa.specs.{Agreement.AllShown, Code.six_from, Memory.plus, Regions.stack_end, Regions.is_hidden}
-use Rattle.cpu12_parts.specs.{State.State, Cuts.Kind, Cuts.rev, Cuts.revw, Cuts.wav, Averages.wav_read, Laws.PartsTo}
+use Rattle.cpu12_parts.specs.{State.State, Averages.wav_read, Laws.PartsTo}
+use Rattle.cpu12_parts.specs.Parts.{Kind, rev, revw, wav}
 use Rattle.cpu12_parts.specs.Rules.{Rule, Form, rev_form, revw_form, rules_read, rules_written, rules_whole, AreApart}
 use Rattle.cpu12_parts.specs.{Touching.Each, Whole.IsRulesStep, Whole.IsAverageStep}
 use Rattle.run_law.specs.Steps.{WriteLaws, RuleLaws, StepLaws}

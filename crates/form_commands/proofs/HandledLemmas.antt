@@ -7,9 +7,9 @@ use Rattle.alone_code.specs.declared.firmware.Firmware.{Firmware}
 use Rattle.box_tree.specs.declared.cert.CertKind.TheVariants.{Named}
 use Rattle.byte_scaling.specs.declared.width.Width.TheVariants.{Byte}
 use Rattle.interrupt_plan.specs.declared.Request.{Request}
-use Rattle.trace_io.specs.declared.sample.Sample.{Sample}
+use Rattle.trace_io.specs.{declared.sample.Sample.Sample, Traces.input_bytes}
 use Rattle.run_law.specs.Forms.{RowSeen}
-use Rattle.alone_runs.specs.{Answering.AnswersItsBlock, Answering.AnswersUnderPlans, Rows.input_bytes}
+use Rattle.alone_runs.specs.Answering.{AnswersItsBlock, AnswersUnderPlans}
 use Rattle.handled_runs.specs.Answering.{AreListedRows, HandledAnswers, HandlesItsBlock}
 use Rattle.handled_runs.specs.Forms.{HandledSeen, handled_seen}
 use Rattle.fz_status.specs.declared.status.Status.{Status}

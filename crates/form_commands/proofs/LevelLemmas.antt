@@ -8,9 +8,9 @@ use Rattle.alone_code.specs.Uninterrupted.{AreAnswersOf}
 use Rattle.byte_scaling.specs.declared.width.Width.TheVariants.{Byte}
 use Rattle.interrupt_plan.specs.{declared.Request.Request, declared.levels.Level.Level, Levels.AreGoodLevels}
 use Rattle.run_law.specs.Forms.{RowSeen}
-use Rattle.trace_io.specs.declared.sample.Sample.{Sample}
+use Rattle.trace_io.specs.{declared.sample.Sample.Sample, Traces.input_bytes}
 use Rattle.alone_runs.specs.Answering.{AnswersItsBlock, AnswersUnderPlans}
-use Rattle.alone_runs.specs.Rows.{bytes_of, firmware_rows, input_bytes}
+use Rattle.alone_runs.specs.Rows.{bytes_of, firmware_rows}
 use Rattle.two_level_code.specs.{Images.AloneHasByteBounds, Images.HasByteBounds, Images.fast_most}
 use Rattle.two_level_code.specs.{declared.two.Two.Two}
 use Rattle.two_level_runs.specs.Answering.{AnswersAtTwoLevels, AnswersItsBlocks, AnswersUnderLevels, RowsAreSeen}

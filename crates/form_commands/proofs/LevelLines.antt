@@ -5,8 +5,7 @@ use Rattle.std.specs.Prelude.{codes, decimal, Option, None, String, string_bytes
 use Rattle.std.specs.List.{slice_index_or}
 use Rattle.std.specs.declared.alloc.Global.{Global}
 use Rattle.cpu12_emul.specs.declared.ends.Frame.{Frame}
-use Rattle.fz_shelf.specs.Lines.{text_of}
-use Rattle.fz_status.specs.FaultLines.{newline}
+use Rattle.fz_shelf.specs.{Lines.text_of, Parts.newline}
 use Rattle.run_forms.specs.Rows.{boundary_seen}
 use Rattle.two_level_runs.specs.Runs.{FastSeen}
 use Rattle.command_parts.specs.Lines.{counted, error_line, line}

@@ -15,7 +15,8 @@ use Rattle.box_tree.specs.declared.cert.CertKind.TheVariants.{Named}
 use Rattle.srecord.specs.Texts.{GivesImage}
 use Rattle.interrupt_plan.specs.{Posts.AreGoodPosts, declared.Post.Post}
 use Rattle.trace_io.specs.{Traces.Spells as SpellsTrace, declared.sample.Sample.Sample}
-use Rattle.alone_runs.specs.Rows.{input_bytes, bytes_of}
+use Rattle.trace_io.specs.Traces.{input_bytes}
+use Rattle.alone_runs.specs.Rows.{bytes_of}
 use Rattle.mailbox_runs.specs.Answering.{AnswersItsPosts, AnswersUnderAllPosts, AnswersUnderPosts, answer_in, ended}
 use Rattle.mailbox_runs.specs.Answering.{run_of_turns}
 use Rattle.mailbox_runs.specs.Runs.{AnswerSeen, RunSeen, answer_seen, arrival, steps_of, run_under_posts}

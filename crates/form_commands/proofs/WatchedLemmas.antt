@@ -10,8 +10,7 @@ use Rattle.box_tree.specs.declared.cert.CertKind.TheVariants.{Named}
 use Rattle.byte_scaling.specs.declared.width.Width.TheVariants.{Byte}
 use Rattle.srecord.specs.Texts.{GivesImage}
 use Rattle.interrupt_plan.specs.declared.{Request.Request, upsets.Upset.Upset}
-use Rattle.trace_io.specs.declared.sample.Sample.{Sample}
-use Rattle.alone_runs.specs.Rows.{input_bytes}
+use Rattle.trace_io.specs.{declared.sample.Sample.Sample, Traces.input_bytes}
 use Rattle.watched_runs.specs.Answering.{AnswersItsSamples, AnswersUnderAllUpsets, AnswersUnderUpsets, AreWatchedRows}
 use Rattle.watched_runs.specs.{Rows.FaultSeen, Rows.faults_of, Rows.upset_rows, Samples.with_upsets}
 use Rattle.run_reports.specs.Faultless.{FaultlessAnswersAreNear}

@@ -11,13 +11,13 @@ use Rattle.interrupt_plan.specs.declared.Request.{Request}
 use Rattle.trace_io.specs.declared.sample.Sample.{Sample}
 use Rattle.handled_runs.specs.Forms.{HandledSeen}
 use Rattle.command_parts.specs.{Contents.content_at, Firmwares.OfFirmware, Firmwares.RefusesText}
-use Rattle.command_parts.specs.{Handlers.GivesHandler, Handlers.handler_refusals, Lines.counted, Words.flags_of}
+use Rattle.command_parts.specs.{Handlers.GivesHandler, Handlers.handler_refusals, Lines.counted}
 use Rattle.command_parts.specs.SeenOutputs.{HasOutput, SeenOutput, only_text}
+use Rattle.fz_status.specs.{Words.flags_of, declared.status.Status.Status}
 use Rattle.run_reports.specs.{Inputs.input_refusals, RowLines.begun_lines, RowLines.labelled_row_lines}
 use Rattle.run_reports.specs.HandledRun.{AcceptsHandled, HandledFiles, HandledReport, HandledRun}
 use Rattle.form_commands.specs.declared.hrun.Hrun.{Hrun}
 use Rattle.fz_status.specs.{Refusals.Refusals, Refusals.Refuses, Words.Text, Words.word_at}
-use Rattle.fz_status.specs.declared.status.Status.{Status}
 use Rattle.fz_status.specs.declared.status.Status.TheVariants as status
 
 abbrev pub hrun_with : ℕ → Hrun

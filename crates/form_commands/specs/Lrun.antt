@@ -13,14 +13,16 @@ use Rattle.trace_io.specs.Traces.{HasFault as TraceHasFault, Spells as SpellsTra
 use Rattle.trace_io.specs.declared.sample.Sample.{Sample}
 use Rattle.two_level_code.specs.declared.two.Two.{Two}
 use Rattle.two_level_runs.specs.{Rows.TwoSeen, Runs.FastSeen}
-use Rattle.fz_status.specs.{FaultLines.newline, Refusals.Refusals, Refusals.Refuses, Words.Text, Words.word_at}
+use Rattle.fz_shelf.specs.Parts.{newline}
+use Rattle.fz_status.specs.{Refusals.Refusals, Refusals.Refuses, Words.Text, Words.word_at}
 use Rattle.fz_status.specs.declared.status.FastFault.TheVariants as told
 use Rattle.fz_status.specs.declared.status.Status.{Status}
 use Rattle.fz_status.specs.declared.status.Status.TheVariants as status
 use Rattle.command_parts.specs.{Certs.AcceptsCert, Certs.HasCertFault, Contents.content_at, Images.RefusesImage}
-use Rattle.command_parts.specs.{Twos.GivesTwo, Twos.two_refusals, Words.flags_of}
+use Rattle.command_parts.specs.Twos.{GivesTwo, two_refusals}
 use Rattle.command_parts.specs.SeenOutputs.{HasOutput, SeenOutput, only_text}
 use Rattle.command_parts.specs.Lines.{counted, error_line, line}
+use Rattle.fz_status.specs.Words.{flags_of}
 use Rattle.run_reports.specs.LevelRun.{AcceptsCerts, AcceptsLevels, LevelFiles, LevelReport, LevelRun, SpellTraces}
 use Rattle.run_reports.specs.RowLines.{answers_told, frame_line, frame_told, sample_line_with}
 use Rattle.form_commands.specs.declared.lrun.Lrun.{Lrun}

@@ -13,13 +13,15 @@ use Rattle.srecord.specs.Texts.{GivesImage}
 use Rattle.trace_io.specs.Traces.{HasFault as TraceHasFault, Spells as SpellsTrace}
 use Rattle.trace_io.specs.declared.sample.Sample.{Sample}
 use Rattle.mailbox_runs.specs.Runs.{AnswerSeen}
-use Rattle.fz_status.specs.{FaultLines.newline, Refusals.Refusals, Refusals.Refuses, Words.Text, Words.word_at}
+use Rattle.fz_shelf.specs.Parts.{newline}
+use Rattle.fz_status.specs.{Refusals.Refusals, Refusals.Refuses, Words.Text, Words.word_at}
 use Rattle.fz_status.specs.declared.status.Status.{Status}
 use Rattle.fz_status.specs.declared.status.Status.TheVariants as status
-use Rattle.command_parts.specs.{Certs.AcceptsCert, Certs.HasCertFault, Contents.content_at}
-use Rattle.command_parts.specs.{Firmwares.GivesMailbox, Firmwares.RefusesText, Images.RefusesImage}
-use Rattle.command_parts.specs.{Lines.counted, Lines.line, Words.flags_of}
+use Rattle.command_parts.specs.{Certs.AcceptsCert, Certs.HasCertFault, Contents.content_at, Firmwares.GivesMailbox}
+use Rattle.command_parts.specs.{Firmwares.RefusesText, Images.RefusesImage}
+use Rattle.command_parts.specs.Lines.{counted, line}
 use Rattle.command_parts.specs.SeenOutputs.{HasOutput, SeenOutput, only_text}
+use Rattle.fz_status.specs.Words.{flags_of}
 use Rattle.run_reports.specs.PostedRun.{AcceptsPosted, PostedFiles, PostedReport, PostedRun}
 use Rattle.run_reports.specs.RowLines.{answered, begun_lines, frame_told}
 use Rattle.form_commands.specs.declared.mrun.Mrun.{Mrun}

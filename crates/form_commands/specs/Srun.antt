@@ -13,9 +13,10 @@ use Rattle.watched_runs.specs.Rows.{FaultSeen}
 use Rattle.fz_status.specs.{Refusals.Refusals, Refusals.Refuses, Words.Text, Words.word_at}
 use Rattle.fz_status.specs.declared.status.Status.{Status}
 use Rattle.fz_status.specs.declared.status.Status.TheVariants as status
-use Rattle.command_parts.specs.{Contents.content_at, Images.RefusesImage, Lines.counted, Words.flags_of}
+use Rattle.command_parts.specs.{Contents.content_at, Images.RefusesImage, Lines.counted}
 use Rattle.command_parts.specs.SeenOutputs.{HasOutput, SeenOutput, only_text}
 use Rattle.command_parts.specs.Firmwares.{GivesWatched, RefusesText}
+use Rattle.fz_status.specs.Words.{flags_of}
 use Rattle.run_reports.specs.Inputs.{AcceptsInputs, input_refusals}
 use Rattle.run_reports.specs.RowLines.{begun_lines, labelled_row_lines}
 use Rattle.run_reports.specs.WatchedRun.{WatchedFiles, WatchedReport, WatchedRun}

@@ -4,7 +4,7 @@ use Rattle.std.proofs.Common.{subst, arith}
 use Rattle.std.specs.Prelude.{pos, unsigned_abs, ◌<ℤ◌, ◌≤ℤ◌, Some}
 use Rattle.std.proofs.lemmas.Int.{ints}
 use Rattle.std.proofs.lemmas.List.{drop_all}
-use Rattle.fz_num.specs.{declared.dec.Dec.Dec, declared.frac.Frac.Frac, Fracs.fraction_of, Fracs.IsTruth}
+use Rattle.fz_num.specs.{declared.dec.Dec.Dec, declared.frac.Frac.Frac, Fractions.fraction_of, Fractions.IsTruth}
 use Rattle.fuzzy_meaning.specs.declared.{block.Block.Block, block.Output.Output, answers.Heavy.Heavy}
 use Rattle.fuzzy_meaning.specs.declared.{answers.Held.Held, answers.Held.TheVariants.Nothing}
 use Rattle.fuzzy_meaning.specs.Blocks.{IsValid, IsWithin, output_at}

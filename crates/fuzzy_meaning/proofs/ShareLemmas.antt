@@ -7,12 +7,12 @@ use Rattle.std.proofs.lemmas.Bool.Decides.{nat_tests}
 use borrow.Author.Differences.{up, down}
 use Rattle.std.specs.Option.{option_map_or}
 use Rattle.fz_num.specs.declared.{dec.Dec.Dec, frac.Frac.Frac}
-use Rattle.fz_num.specs.{Fractions.Fraction, Fracs.Quotient, Fracs.IsValueOf}
+use Rattle.fz_num.specs.Fractions.{Fraction, Quotient, IsValueOf}
 use Rattle.fuzzy_meaning.specs.declared.{block.Block.Block, block.Output.Output, answers.Held.Held}
-use Rattle.fuzzy_meaning.specs.declared.answers.Held.TheVariants.{Nothing, One, Two}
-use Rattle.fuzzy_meaning.specs.{Blocks.output_at, Holding.shares_of, Holding.AreSmall, Holding.Reduces}
 use Rattle.fuzzy_meaning.specs.Meaning.{Share, mass, shares, shares_from, common_den, total_mass, weighted_sum}
 use Rattle.fuzzy_meaning.specs.Meaning.{has_mass, heavy_shares, heavy_terms, centre, resting, answer_after}
+use Rattle.fuzzy_meaning.specs.declared.answers.Held.TheVariants.{Nothing, One, Two}
+use Rattle.fuzzy_meaning.specs.{Blocks.output_at, Holding.shares_of, Holding.AreSmall, Holding.Reduces}
 
 pub Reduces-nil : Reduces [] []
 Reduces-nil = record { scale = 1; positive = omega arith; den = refl; total = refl; weighted = omega (arith, ints) }

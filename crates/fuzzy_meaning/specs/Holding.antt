@@ -1,10 +1,10 @@
 -- The terms that `exact` holds, and the sums over them.
 -- Beside the promise.
 use Rattle.std.specs.Prelude.{◌≡◌, ℕ, ◌*◌, ◌<◌, List, [], ◌∷◌, pos, neg_ℤ, ◌*ℤ◌, ◌≤ℤ◌, ◌<ℤ◌}
-use Rattle.fz_num.specs.Fracs.{fraction_of, IsTruth}
+use Rattle.fz_num.specs.Fractions.{fraction_of, IsTruth}
 use Rattle.fuzzy_meaning.specs.declared.{answers.Heavy.Heavy, answers.Held.Held}
-use Rattle.fuzzy_meaning.specs.declared.answers.Held.TheVariants.{Nothing, One, Two}
 use Rattle.fuzzy_meaning.specs.Meaning.{Share, common_den, total_mass, weighted_sum}
+use Rattle.fuzzy_meaning.specs.declared.answers.Held.TheVariants.{Nothing, One, Two}
 
 abbrev pub share_of : Heavy → Share
 share_of h = record { at = h.at.0; mass = fraction_of h.mass }

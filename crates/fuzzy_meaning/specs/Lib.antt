@@ -3,7 +3,6 @@ pub mod Codes
 pub mod Trees
 pub mod TreeFalls
 pub mod Blocks
-pub mod Rules
 pub mod Degrees
 pub mod Places
 pub mod Meaning

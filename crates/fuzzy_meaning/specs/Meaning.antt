@@ -3,11 +3,17 @@
 use Rattle.std.specs.Prelude.{ℕ, ◌+◌, ◌-◌, ◌*◌, if◌then◌else◌, ◌==◌, nat_lt, List, [], ◌∷◌, fold, filter, length}
 use Rattle.std.specs.Prelude.{slice_get, Bool, Option, Some, None, ℤ, pos, ◌+ℤ◌, ◌*ℤ◌, unsigned_abs}
 use Rattle.std.specs.Option.{option_map_or}
-use Rattle.fz_num.specs.{declared.dec.Dec.Dec, Fracs.Quotient}
-use Rattle.fz_num.specs.Fractions.{Fraction, lesser, greater, one_minus, times, one, none}
+use Rattle.fz_num.specs.declared.dec.Dec.{Dec}
+use Rattle.fz_num.specs.Fractions.{Quotient, Fraction, lesser, greater, one_minus, times, one, none}
 use Rattle.fuzzy_meaning.specs.declared.{block.Block.Block, block.Output.Output, block.Rule.Rule}
-use Rattle.fuzzy_meaning.specs.{Blocks.term_at, Blocks.output_at, Degrees.degree, Rules.concludes}
 use Rattle.fuzzy_meaning.specs.Conditions.{Condition, Joins, joins, evaluate}
+use Rattle.fuzzy_meaning.specs.{Blocks.term_at, Blocks.output_at, Degrees.degree}
+use Rattle.std.specs.Prelude.{◌&&◌}
+use Rattle.std.specs.List.{list_any}
+
+-- whether a rule concludes term t of output o
+abbrev pub concludes : Rule → ℕ → ℕ → Bool
+concludes r o t = list_any (λ c. (c.0 == o) && (c.1 == t)) r.concl
 
 -- the degree of term t of input i where the inputs are xs
 abbrev pub literal_degree : Block → List Dec → ℕ → ℕ → Fraction

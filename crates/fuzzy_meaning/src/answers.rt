@@ -1,7 +1,7 @@
 //! Exact answers.
 ghost use Rattle.std.specs.Prelude.{◌≡◌, ◌↔◌, ◌+◌, ◌-◌, ◌*◌, ◌<◌, ◌≤◌, None, Some, IfSome, MatchOption, [], ◌∷◌};
 ghost use Rattle.std.specs.Prelude.{length, ◌<ℤ◌, ◌≤ℤ◌, ◌*ℤ◌, pos, neg_ℤ, unsigned_abs};
-ghost use Rattle.fz_num.specs.Fracs.{Quotient, IsValueOf};
+ghost use Rattle.fz_num.specs.Fractions.{Quotient, IsValueOf};
 ghost use Rattle.fuzzy_meaning.specs.Blocks.{IsValid, AreInputs, output_at};
 ghost use Rattle.fuzzy_meaning.specs.Holding.{share_of, shares_of, AreSmall, IsSmall, Reduces};
 ghost use Rattle.fuzzy_meaning.specs.Meaning.{shares, heavy_shares, heavy_terms, answer_after, weighted_sum};

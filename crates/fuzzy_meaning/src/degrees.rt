@@ -1,6 +1,6 @@
 //! Degrees of terms.
 ghost use Rattle.std.specs.Prelude.{◌≡◌, IfSome, ◌≤ℤ◌};
-ghost use Rattle.fz_num.specs.Fracs.{fraction_of, IsTruth};
+ghost use Rattle.fz_num.specs.Fractions.{fraction_of, IsTruth};
 ghost use Rattle.fuzzy_meaning.specs.{Blocks.IsTrapezoid, Blocks.IsInScale, Places.NumbersHaveTheirDegrees};
 ghost use Rattle.fuzzy_meaning.specs.Degrees.{degree as degree_of, rise as rise_of, fall as fall_of, IsByPlace};
 

@@ -1,9 +1,9 @@
 //! Strengths of rules and masses of output terms.
 ghost use Rattle.std.specs.Prelude.{◌≡◌, ◌-◌, ◌≤◌, length, slice_get, Some, option_map};
-ghost use Rattle.fz_num.specs.Fracs.{fraction_of, IsTruth};
+ghost use Rattle.fz_num.specs.Fractions.{fraction_of, IsTruth};
 ghost use Rattle.fuzzy_meaning.specs.Blocks.{IsValid, IsValidRule, HasSingleton, AreInputs};
-ghost use Rattle.fuzzy_meaning.specs.Rules.{concludes as concludes_of};
-ghost use Rattle.fuzzy_meaning.specs.Meaning.{strength as strength_of_rule, mass as mass_of};
+ghost use Rattle.fuzzy_meaning.specs.Meaning.{concludes as concludes_of, strength as strength_of_rule};
+ghost use Rattle.fuzzy_meaning.specs.Meaning.{mass as mass_of};
 
 use crate::block::{Block, Rule};
 use crate::degrees::NONE;

@@ -1,6 +1,6 @@
 //! Truths of conditions.
 ghost use Rattle.std.specs.Prelude.{◌≡◌};
-ghost use Rattle.fz_num.specs.Fracs.{fraction_of, IsTruth};
+ghost use Rattle.fz_num.specs.Fractions.{fraction_of, IsTruth};
 ghost use Rattle.fuzzy_meaning.specs.Blocks.{IsValid, IsValidCondition, HasTerm, AreInputs};
 ghost use Rattle.fuzzy_meaning.specs.Meaning.{literal_degree, truth as truth_of};
 

@@ -5,7 +5,7 @@ use native.Mathlib.Nat.{mul-sub}
 use Rattle.std.proofs.lemmas.Bool.{cases_lt}
 use Rattle.std.proofs.lemmas.Bool.Decides.{nat_tests}
 use Rattle.fz_num.specs.Fractions.{Fraction, IsProper, AtMost, lesser, greater, one_minus, one, up_div, IsNear, gap}
-use Rattle.fz_num.specs.Fracs.{Quotient, IsClose}
+use Rattle.fz_num.specs.Fractions.{Quotient, IsClose}
 
 pub AtMost-refl : (f : Fraction) → AtMost f f
 AtMost-refl f = record { cross = omega arith }

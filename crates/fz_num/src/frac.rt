@@ -20,7 +20,7 @@ const BILLION: u128 = 1_000_000_000;
 
 /// The operations on fractions ask for values from 0 to 1 with denominators of at most 10^16.
 impl Frac {
-    ghost use Rattle.fz_num.specs.Fracs.{fraction_of, IsTruth};
+    ghost use Rattle.fz_num.specs.Fractions.{fraction_of, IsTruth};
 
     /// A number over another.
     pub fn over(num: u64, den: u64) -> Frac

@@ -1,13 +1,11 @@
--- The list of reads, each with the kind of its answer.
--- Reached by the promise.
+-- The list of reads after one more.
+-- Beside the promise.
 use Rattle.std.specs.Prelude.{ℕ, List, [], ◌∷◌, ◌++◌, map, Result, Ok, Err}
 use Rattle.std.specs.String.{string_bytes}
-use Rattle.fz_shelf.specs.declared.{log.Answer.Answer, log.Asked.Asked, errors.ReadError.ReadError}
+use Rattle.fz_shelf.specs.declared.{log.Asked.Asked, errors.ReadError.ReadError}
 use Rattle.fz_shelf.specs.declared.log.Answer.TheVariants.{Whole, Missed, Long}
 use Rattle.fz_shelf.specs.declared.errors.ReadError.TheVariants as error
-
-abbrev pub Log : Type 0
-Log = List (List ℕ × Answer)
+use Rattle.fz_shelf.specs.Told.{Log}
 
 abbrev pub asked_of : List Asked → Log
 asked_of = map (λ a. (string_bytes a.name, a.answer))

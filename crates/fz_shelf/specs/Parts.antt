@@ -6,6 +6,10 @@ use Rattle.hex.specs.Hex.{encode_upper}
 use Rattle.fz_shelf.specs.declared.parts.Part.{Part}
 use Rattle.fz_shelf.specs.declared.parts.Part.TheVariants.{Text, Number, Address, Byte, Numbers}
 
+-- the end of a line
+abbrev pub newline : List ℕ
+newline = codes "\n"
+
 -- a byte as two hexadecimal digits, and an address as four
 abbrev pub byte_digits : ℕ → List ℕ
 byte_digits byte = encode_upper (byte ∷ [])

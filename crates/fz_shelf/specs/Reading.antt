@@ -1,15 +1,10 @@
 -- What a read and a write do to a shelf's bytes and counts.
--- Reached by the promise.
+-- Beside the promise.
 use Rattle.std.specs.Prelude.{◌≡◌, ◌≤◌, ℕ, List, length, Result, Ok, Err}
 use Rattle.fz_shelf.specs.Faults.{Rose, faults_after, one_fault_more}
 use Rattle.fz_shelf.specs.{Files.File, Files.Holds, Files.IsLong, declared.errors.ReadError.ReadError}
 use Rattle.fz_shelf.specs.declared.errors.ReadError.TheVariants as error
-
--- how many reads failed, how many files were too long, how many writes failed
-pub record Counts : Type 0 where
-  pub reads : ℕ
-  pub longs : ℕ
-  pub writes : ℕ
+use Rattle.fz_shelf.specs.Told.{Counts}
 
 -- what an answer to a read says of the file: a whole one is the file, and within the limit; too
 -- long comes only for a file above it

@@ -1,7 +1,10 @@
--- What a sink tells: the bytes that it took and the room that is left, or nothing.
+-- What a shelf and a sink tell: the bytes that a sink took and the room that is left, or nothing; counts of faults;
+-- and the list of reads.
 -- Reached by the promise.
 use Rattle.std.specs.Prelude.{◌≡◌, ◌<◌, ◌≤◌, ◌-◌, ◌++◌, ℕ, List, length, take, Option, Some, None, Result, Ok, Err}
+use Rattle.fz_shelf.specs.{Files.Names, declared.log.Answer.Answer}
 
+-- the bytes that a sink took, and the room that is left
 pub record Taken : Type 0 where
   pub bytes : List ℕ
   pub room : ℕ
@@ -37,3 +40,25 @@ pub record GainedPart (old new : Option Taken) (bytes : List ℕ) : Type 0 where
   pub rest : List ℕ
   pub split : part ++ rest ≡ bytes
   pub told : new ≡ gained old part
+
+-- how many reads failed, how many files were too long, how many writes failed
+pub record Counts : Type 0 where
+  pub reads : ℕ
+  pub longs : ℕ
+  pub writes : ℕ
+
+-- the list of reads, each with the kind of its answer
+abbrev pub Log : Type 0
+Log = List (List ℕ × Answer)
+
+-- what the shelf and out tell
+pub record World : Type 0 where
+  pub files : Names
+  pub counts : Counts
+  pub asked : Log
+  pub told : Option Taken
+  pub faults : ℕ
+
+abbrev pub world : Names → Counts → Log → Option Taken → ℕ → World
+world files counts asked told faults =
+    record { files = files; counts = counts; asked = asked; told = told; faults = faults }

@@ -1,7 +1,7 @@
 //! Files by name.
 ghost use Rattle.std.specs.Prelude.{◌≡◌, ◌≢◌, [], ℕ, List, length, OnOk, IsOk, IsErrOf};
-ghost use Rattle.fz_shelf.specs.{Files.Names, Files.IsThere, Files.Fits, Files.Written, Log.Log, Log.asked_after};
-ghost use Rattle.fz_shelf.specs.Reading.{Counts, ReadTells, ReadCounts, WriteCounts};
+ghost use Rattle.fz_shelf.specs.{Files.Names, Files.IsThere, Files.Fits, Files.Written, Told.Log, Told.Counts};
+ghost use Rattle.fz_shelf.specs.{Log.asked_after, Reading.ReadTells, Reading.ReadCounts, Reading.WriteCounts};
 
 use crate::{Failed, ReadError};
 

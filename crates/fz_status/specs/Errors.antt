@@ -2,9 +2,10 @@
 -- Beside the promise.
 use Rattle.std.specs.Prelude.{◌≡◌, ◌≤◌, ◌++◌, ℕ, List, [], length, codes, Option, Result, IsOk, OnOk}
 use Rattle.fz_shelf.specs.{Faults.HasCause, Faults.Rose, Told.Taken, Told.gained, Told.GainedPart, Told.HasRoom}
-use Rattle.fz_status.specs.FaultLines.{asm_line, cert_line, fast_line, fcl_line, handler_line, image_line, newline}
+use Rattle.fz_status.specs.FaultLines.{asm_line, cert_line, fast_line, fcl_line, handler_line, image_line}
 use Rattle.fz_status.specs.FaultLines.{not_reached_line, plan_line, trace_line, trap_line, upset_line, want_of_memory}
 use Rattle.fz_status.specs.FaultLines.{with_name, with_number}
+use Rattle.fz_shelf.specs.Parts.{newline}
 use Rattle.fz_status.specs.{Words.Text, Words.word_at, declared.status.Status.Status}
 use Rattle.fz_status.specs.declared.status.Status.TheVariants as status
 

@@ -1,5 +1,5 @@
 -- The lines of faults of contents.
--- Reached by the promise.
+-- Beside the promise.
 use Rattle.std.specs.Prelude.{ℕ, List, [], ◌++◌, codes, decimal, Option, Some, None}
 use Rattle.std.specs.List.{flat_map}
 use Rattle.box_tree.specs.declared.cert.CertFault.{CertFault}
@@ -37,9 +37,7 @@ use Rattle.fz_status.specs.declared.status.FclFault.{FclFault}
 use Rattle.fz_status.specs.declared.status.FclFault.TheVariants as fcl
 use Rattle.fz_status.specs.declared.status.ImageFault.{ImageFault}
 use Rattle.fz_status.specs.declared.status.ImageFault.TheVariants as image
-
-abbrev pub newline : List ℕ
-newline = codes "\n"
+use Rattle.fz_shelf.specs.Parts.{newline}
 
 -- a line with a name or with numbers in it
 abbrev pub with_name : Text → Text → List ℕ

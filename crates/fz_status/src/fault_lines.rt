@@ -1,12 +1,12 @@
 //! The lines of faults of contents, put in parts that take no memory.
 ghost use Rattle.std.specs.Prelude.{◌≡◌, ◌++◌};
-ghost use Rattle.fz_shelf.specs.Parts.{part_text, parts_text};
+ghost use Rattle.fz_shelf.specs.Parts.{part_text, parts_text, newline};
 ghost use Rattle.fz_status.specs.Errors.{Puts};
 ghost use Rattle.fz_status.specs.FaultLines.{asm_line, at_address, at_addresses, byte_or_none, cert_line, check_line};
 ghost use Rattle.fz_status.specs.FaultLines.{fast_line, fcl_line, handler_line, image_line, layout_line, leaf_line};
-ghost use Rattle.fz_status.specs.FaultLines.{load_kind, load_line, newline, not_reached_line, plan_line};
-ghost use Rattle.fz_status.specs.FaultLines.{records_line, row_at, syntax_line, text_line, trace_line, upset_line};
-ghost use Rattle.fz_status.specs.FaultLines.{usual_line, with_number, with_two};
+ghost use Rattle.fz_status.specs.FaultLines.{load_kind, load_line, not_reached_line, plan_line, records_line, row_at};
+ghost use Rattle.fz_status.specs.FaultLines.{syntax_line, text_line, trace_line, upset_line, usual_line, with_number};
+ghost use Rattle.fz_status.specs.FaultLines.{with_two};
 
 use crate::{CertRefusal, FastFault, FclFault, ImageFault};
 use box_tree::CertFault;

@@ -5,7 +5,7 @@ use Rattle.box_tree.specs.declared.cert.CertKind.{CertKind}
 use Rattle.byte_scaling.specs.declared.width.Width.{Width}
 use Rattle.fz_words.specs.Table.{any_hyphen}
 use Rattle.fz_status.specs.Words.{Text}
-use Rattle.run_reports.specs.CertifiedRun.{Files}
+use Rattle.run_reports.specs.Reports.{Files}
 use Rattle.run_commands.specs.Run.{RunAccepts, run_inputs, run_with}
 use Rattle.fz_shelf.specs.{Files.Names, Told.Taken}
 use Rattle.command_parts.specs.SeenOutputs.{SeenOutput}

@@ -2,7 +2,8 @@
 use Rattle.std.proofs.Common.{ℕ, List}
 use Rattle.std.specs.Prelude.{Err}
 use Rattle.fz_status.specs.{Refusals.CarriesNoMemory, Words.Text, declared.status.Status.Status}
-use Rattle.fz_top.specs.{Commands.Makes, Runs.Runs, Runs.World, declared.command.Command.Command}
+use Rattle.fz_top.specs.{Commands.Makes, Runs.Runs, declared.command.Command.Command}
+use Rattle.fz_shelf.specs.Told.{World}
 use Rattle.fz_top.specs.declared.command.Command.TheVariants as command
 use Rattle.fz_top.proofs.StatusLemmas.{Kind, done, failed_read, failed_write, kind_of, long_read, no_command}
 use Rattle.fz_top.proofs.StatusLemmas.{no_memory, of_contents}

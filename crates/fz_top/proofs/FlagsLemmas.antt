@@ -5,9 +5,8 @@ use Rattle.std.specs.Prelude.{option_and_then, option_map}
 use Rattle.std.proofs.lemmas.Bool.Decides.{nat_tests}
 use Rattle.hex.specs.Hex.{decode_pairs, digit_or_error, hex_digit_value, pair_value, ◌>>=◌}
 use Rattle.hex.specs.declared.error.FromHexError.{FromHexError}
-use Rattle.fz_status.specs.Words.{Text, word_at}
+use Rattle.fz_status.specs.Words.{Text, word_at, flags_of, only_byte}
 use Rattle.build_commands.specs.{Certify.certify_in, Check.check_in, Compile.compile_in, Exec.exec_in}
-use Rattle.command_parts.specs.Words.{flags_of, only_byte}
 use Rattle.run_commands.specs.{Debug.debug_with, Generate.generate_in, Run.run_with}
 use Rattle.form_commands.specs.{Hrun.hrun_with, Lrun.lrun_with, Mrun.mrun_with, Srun.srun_with}
 use Rattle.fz_top.specs.{Accepted.run_flags, Commands.command_in, Commands.form_of, Commands.name_in}

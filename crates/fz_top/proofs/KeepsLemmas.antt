@@ -13,7 +13,8 @@ use Rattle.command_parts.specs.SeenOutputs.{SeenOutput}
 use Rattle.run_commands.specs.Run.{RunGives, files_in, run_inputs, run_with}
 use Rattle.fz_top.specs.Commands.{Makes, command_in, form_of, inputs_of, table}
 use Rattle.fz_top.specs.declared.{command.Command.Command, command.Command.TheVariants.Run, command.Name.Name}
-use Rattle.fz_top.specs.{Reads.AreHeld, Reads.names_at, Runs.Delivered, Runs.Runs, Runs.World}
+use Rattle.fz_top.specs.{Reads.AreHeld, Reads.names_at, Runs.Delivered, Runs.Runs}
+use Rattle.fz_shelf.specs.Told.{World}
 use Rattle.fz_top.specs.declared.command.Name.TheVariants as name
 use Rattle.fz_top.proofs.FlagsLemmas.{flags_small}
 use Rattle.fz_top.specs.Keeping.{AreOf, IsRun, KeepsPromise, OkKeepsPromise, run_name}

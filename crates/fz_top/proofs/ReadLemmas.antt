@@ -4,9 +4,9 @@ use Rattle.std.proofs.Common.{◌∙◌, ap, subst, arith, append_assoc, add-one
 use Rattle.std.proofs.Math.Seq.{take-suc}
 use Rattle.std.proofs.lemmas.List.{map-append}
 use Rattle.std.specs.List.{All}
-use Rattle.fz_shelf.specs.Files.{Names, Holds, IsThere, IsLong}
+use Rattle.fz_shelf.specs.{Files.Names, Files.Holds, Files.IsThere, Files.IsLong, Told.Log, Told.Counts, Faults.Rose}
 use Rattle.fz_shelf.specs.declared.log.Answer.TheVariants.{Whole, Missed, Long}
-use Rattle.fz_shelf.specs.{Log.Log, Reading.Counts, Faults.Rose, declared.log.Answer.Answer}
+use Rattle.fz_shelf.specs.declared.log.Answer.{Answer}
 use Rattle.std.specs.declared.alloc.Global.{Global}
 use Rattle.std.specs.declared.vec.Vec.{Vec}
 use Rattle.fz_status.specs.Words.{Text, word_at}

@@ -3,7 +3,7 @@ use Rattle.std.proofs.Common.{◌≡◌, ◌⊎◌, ◌<◌, inl, inr, ⊎_elim,
 use Rattle.std.proofs.Common.{subst, arith}
 use Rattle.std.specs.Prelude.{Option, Some, None, Result, Ok, Err}
 use Rattle.std.proofs.lemmas.List.{append-nil}
-use Rattle.fz_shelf.specs.{Faults.Rose, Told.Taken, Told.HasRoom, Log.Log, Reading.Counts}
+use Rattle.fz_shelf.specs.{Faults.Rose, Told.Taken, Told.HasRoom, Told.Log, Told.Counts}
 use Rattle.fz_shelf.specs.Files.{File, IsThere, IsLong, Holds, Names, known as known_file}
 use Rattle.std.specs.declared.alloc.Global.{Global}
 use Rattle.std.specs.declared.vec.Vec.{Vec}
@@ -13,8 +13,9 @@ use Rattle.command_parts.specs.SeenOutputs.{HasOutput, SeenOutput, IsFaultOf}
 use Rattle.fz_top.specs.{Commands.Makes, Commands.command_in, Commands.inputs_of, declared.command.Command.Command}
 use Rattle.fz_top.specs.Reads.{ReadsWhole, AreHeld, AreThere, names_at, StopsBy}
 use Rattle.fz_top.specs.Runs.{OutputsHaveNoFault, HasNoFault, Faulted, IsMade, Untouched, IsReadFault, IsTooLong}
-use Rattle.fz_top.specs.Runs.{IsWriteFault, Settles, status_of, IsReady, AreKnown, FileFits, World, world, Worked}
-use Rattle.fz_top.specs.Runs.{Delivered, WriteFailed, PutFailed, ChangesOnly, IsWritten, Runs}
+use Rattle.fz_top.specs.Runs.{IsWriteFault, Settles, status_of, IsReady, AreKnown, FileFits, Worked, Delivered}
+use Rattle.fz_top.specs.Runs.{WriteFailed, PutFailed, ChangesOnly, IsWritten, Runs}
+use Rattle.fz_shelf.specs.Told.{World, world}
 use Rattle.fz_top.specs.declared.reading.Stop.TheVariants as stop
 use Rattle.fz_status.specs.declared.status.Status.{Status}
 use Rattle.fz_status.specs.declared.status.Status.TheVariants as status

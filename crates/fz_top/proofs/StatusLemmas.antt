@@ -3,8 +3,9 @@ use Rattle.std.proofs.Common.{ℕ, List}
 use Rattle.std.specs.Prelude.{Err}
 use Rattle.fz_status.specs.{Words.Text, declared.status.Status.Status}
 use Rattle.fz_status.specs.declared.status.Status.TheVariants as status
-use Rattle.fz_top.specs.{Commands.Makes, Runs.Faulted, Runs.IsReadFault, Runs.IsWriteFault, Runs.Runs, Runs.World}
+use Rattle.fz_top.specs.{Commands.Makes, Runs.Faulted, Runs.IsReadFault, Runs.IsWriteFault, Runs.Runs}
 use Rattle.fz_top.specs.declared.command.Command.{Command}
+use Rattle.fz_shelf.specs.Told.{World}
 use Rattle.command_parts.specs.SeenOutputs.{IsFaultOf}
 
 -- the status tells a fault of the contents

@@ -1,15 +1,16 @@
 -- The promise of the call, and when it is kept.
 -- Reached by the promise.
-use Rattle.command_parts.specs.Words.{flags_of}
+use Rattle.fz_status.specs.Words.{flags_of}
 use Rattle.box_tree.specs.declared.cert.CertKind.{CertKind}
 use Rattle.box_tree.specs.declared.cert.CertKind.TheVariants.{Named, Tight}
 use Rattle.byte_scaling.specs.declared.{width.Width.Width, width.Width.TheVariants.Byte, width.Width.TheVariants.Word}
 use Rattle.fz_shelf.specs.{Files.File, Files.Names, Files.known, Files.Holds, Told.HasRoom, Told.Taken, Told.gained}
 use Rattle.fz_status.specs.{Words.Text, Words.word_at, declared.status.Status.Status}
-use Rattle.fz_top.specs.Runs.{HasNoFault, World}
+use Rattle.fz_top.specs.Runs.{HasNoFault}
+use Rattle.fz_shelf.specs.Told.{World}
 use Rattle.fz_words.specs.Table.{any_hyphen}
 use Rattle.promise.specs.{Laws.AreAccepted, Promise.Promise}
-use Rattle.run_reports.specs.{CertifiedRun.Files, Reports.Report}
+use Rattle.run_reports.specs.Reports.{Files, Report}
 use Rattle.std.specs.Prelude.{◌≡◌, ◌≤◌, ℕ, List, codes, length, Some, ◌⊎◌, false, Option}
 use Rattle.fz_status.specs.declared.status.Status.TheVariants as status
 

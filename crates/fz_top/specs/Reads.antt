@@ -1,8 +1,8 @@
 -- What the reads of a command's files leave.
 -- Beside the promise.
 use Rattle.std.specs.Prelude.{◌≡◌, ◌≤◌, ℕ, List, [], ◌∷◌, ◌++◌, map, length}
-use Rattle.fz_shelf.specs.{Faults.Rose, Log.Log, Reading.Counts, declared.log.Answer.Answer}
-use Rattle.fz_shelf.specs.Files.{Names, Holds, IsLong, IsThere}
+use Rattle.fz_shelf.specs.{Faults.Rose, Told.Log, Told.Counts, Files.Names, Files.Holds, Files.IsLong, Files.IsThere}
+use Rattle.fz_shelf.specs.declared.log.Answer.{Answer}
 use Rattle.fz_shelf.specs.declared.log.Answer.TheVariants.{Whole, Missed, Long}
 use Rattle.fz_status.specs.Words.{Text, word_at}
 use Rattle.fz_top.specs.declared.reading.Stop.{Stop}

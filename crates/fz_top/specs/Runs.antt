@@ -1,9 +1,9 @@
 -- What a run leaves, status by status.
--- Reached by the promise.
+-- Beside the promise.
 use Rattle.std.specs.Prelude.{◌≡◌, ◌≢◌, ◌⊎◌, ◌<◌, ◌≤◌, ℕ, List, [], ◌∷◌, ◌++◌, length, Option, Some, None}
 use Rattle.std.specs.Prelude.{is_some, true, Result, Ok, Err}
 use Rattle.fz_shelf.specs.{Faults.Rose, Told.Taken, Told.gained, Told.GainedPart, Told.HasRoom, Files.Names}
-use Rattle.fz_shelf.specs.{Files.Written, Files.Fits, Files.known, Log.Log, Reading.Counts}
+use Rattle.fz_shelf.specs.{Files.Written, Files.Fits, Files.known}
 use Rattle.fz_status.specs.Words.{Text, word_at}
 use Rattle.fz_top.specs.{Accepted.Accepts, Commands.Makes, Commands.command_in, Commands.inputs_of}
 use Rattle.fz_top.specs.Reads.{AreHeld, ReadsFirst, names_at, whole_entries, StopsBy}
@@ -12,18 +12,7 @@ use Rattle.command_parts.specs.SeenOutputs.{SeenOutput}
 use Rattle.fz_top.specs.declared.reading.Stop.TheVariants as stop
 use Rattle.fz_status.specs.declared.status.Status.{Status}
 use Rattle.fz_status.specs.declared.status.Status.TheVariants as status
-
--- what the shelf and out tell
-pub record World : Type 0 where
-  pub files : Names
-  pub counts : Counts
-  pub asked : Log
-  pub told : Option Taken
-  pub faults : ℕ
-
-abbrev pub world : Names → Counts → Log → Option Taken → ℕ → World
-world files counts asked told faults =
-    record { files = files; counts = counts; asked = asked; told = told; faults = faults }
+use Rattle.fz_shelf.specs.Told.{World}
 
 -- the file of OUT alone may have changed
 abbrev pub ChangesOnly : List Text → Option (ℕ × List ℕ) → Names → Names → Type 0

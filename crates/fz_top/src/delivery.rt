@@ -1,9 +1,9 @@
 //! Writing the file and putting the lines: the one place where anything leaves the program.
 ghost use Rattle.std.specs.Prelude.{◌≡◌, ◌⊎◌, length, OnOk, OnErr, IsOk};
-ghost use Rattle.fz_shelf.specs.Told.{HasRoom};
+ghost use Rattle.fz_shelf.specs.Told.{HasRoom, world};
 ghost use Rattle.fz_status.specs.Words.{texts_of};
 ghost use Rattle.command_parts.specs.SeenOutputs.{seen_output};
-ghost use Rattle.fz_top.specs.Runs.{world, ChangesOnly, FileFits, Delivered, WriteFailed, PutFailed};
+ghost use Rattle.fz_top.specs.Runs.{ChangesOnly, FileFits, Delivered, WriteFailed, PutFailed};
 
 use command_parts::output::Output;
 use fz_shelf::{Failed, Shelf, Sink, put_lines};

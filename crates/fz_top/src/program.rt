@@ -1,12 +1,12 @@
 //! The program's call.
 ghost use Rattle.std.specs.Prelude.{◌≡◌, ◌⊎◌, ◌↔◌, length, None, Some, List, ℕ};
-ghost use Rattle.fz_shelf.specs.Told.{gained, HasRoom};
+ghost use Rattle.fz_shelf.specs.Told.{gained, HasRoom, world};
 ghost use Rattle.fz_status.specs.{Words.texts_of, Errors.error_line_of, Errors.Complains, Refusals.CarriesNoMemory};
 ghost use Rattle.fz_top.specs.Commands.{command_in, inputs_of, IsUsage, Makes};
-ghost use Rattle.fz_top.specs.{Keeping.AcceptedIsDone, Keeping.OkKeepsPromise, Reads.names_at, Reads.AreThere};
-ghost use Rattle.fz_top.specs.Runs.{world, Runs, IsReady, IsReadFault, IsWriteFault, IsTooLong, AreKnown, CanBeDone};
+ghost use Rattle.fz_top.specs.Runs.{Runs, IsReady, IsReadFault, IsWriteFault, IsTooLong, AreKnown, CanBeDone};
 ghost use Rattle.fz_top.specs.Runs.{HasNoFault, IsMade, RoomFor, Settles};
 ghost use Rattle.fz_top.specs.declared.command.Command.{Command};
+ghost use Rattle.fz_top.specs.{Keeping.AcceptedIsDone, Keeping.OkKeepsPromise, Reads.names_at, Reads.AreThere};
 
 use crate::command::command_of;
 use crate::delivery::deliver;

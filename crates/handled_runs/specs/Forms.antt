@@ -6,11 +6,11 @@ use Rattle.run_law.specs.Forms.{Form, RowSeen, Rows, rows_from}
 use Rattle.handler_check.specs.Running.{Returned, until_rti, step_limit, at_code}
 use Rattle.interrupt_plan.specs.declared.Request.{Request}
 use Rattle.alone_code.specs.declared.firmware.Firmware.{Firmware}
-use Rattle.trace_io.specs.declared.sample.Sample.{Sample}
+use Rattle.trace_io.specs.{declared.sample.Sample.Sample, Traces.input_bytes}
 use Rattle.run_forms.specs.{declared.sample.Room.Room, Rooms.room_notes, Rows.arrived_at, Rows.shown}
 use Rattle.run_forms.specs.Forms.{FormParts, plan_form, Harness}
 use Rattle.firmware_runs.specs.Ports.{given}
-use Rattle.alone_runs.specs.{Forms.place_of, Forms.stand_alone, Rows.requests_of, Rows.input_bytes}
+use Rattle.alone_runs.specs.{Forms.place_of, Forms.stand_alone, Rows.requests_of}
 use Rattle.alone_runs.specs.Rows as rows
 use Rattle.handled_runs.specs.declared.back.HandlerEnd.{HandlerEnd}
 use Rattle.handled_runs.specs.declared.rows.HandledRow as declared

@@ -9,10 +9,10 @@ use Rattle.std.proofs.lemmas.Bool.{or_parts, cases_lt}
 use Rattle.std.proofs.lemmas.Bool.Decides.{nat_tests}
 use Rattle.std.proofs.lemmas.List.Elements.{All-cons}
 use Rattle.cpu12_isa.specs.declared.{instr.Regs.Regs, instr.Write.Write}
-use Rattle.cpu12_isa.specs.{Agreement.Agree, Agreement.WritesAgree, Fits.FitsRegs, Memory.word_of}
 use Rattle.cpu12_isa.specs.Regions.{is_free, is_hidden, vector, is_vector, LeavesStack}
+use Rattle.cpu12_isa.specs.{Agreement.Agree, Agreement.WritesAgree, Fits.FitsRegs, Memory.word_of}
 use Rattle.cpu12_asm.specs.Bytes.{byte_at}
-use Rattle.cpu12_parts.specs.{State.State, Cuts.suspended, Cuts.wav}
+use Rattle.cpu12_parts.specs.{State.State, Parts.suspended, Parts.wav}
 use Rattle.cpu12_emul.specs.Simulation.{AreOpen, OnStackOnly}
 use Rattle.run_law.specs.Uninterrupted.{stepped}
 use Rattle.run_law.specs.Soundness.{Begins, Quiet, Sound, SumsFitBelow, WritesAreQuiet}
@@ -20,8 +20,7 @@ use Rattle.handler_check.specs.Images.{IsWhole, IsHandler}
 use Rattle.handler_check.specs.Running.{HasImage, CanBegin, IsQuietCode, HandlersAreQuiet}
 use Rattle.interrupt_plan.specs.{declared.Request.Request, Plans.IsGoodRequest}
 use Rattle.alone_code.specs.declared.firmware.Firmware.{Firmware}
-use Rattle.firmware_runs.specs.Ports.{given}
-use Rattle.firmware_runs.specs.Facts.{IsStackOfOneCall, FactsBeside}
+use Rattle.firmware_runs.specs.{Ports.given, Facts.IsStackOfOneCall, Facts.FactsBeside}
 use Rattle.alone_runs.specs.Following.{IsLow, OpensFree}
 use Rattle.alone_runs.specs.OpenBytes.{AreOpenAlike, StepsLeaveOpen, GivenLeavesOpen}
 use Rattle.alone_runs.specs.SoundAloneProof.{low_ports, given_alike, answered_alike, ended_alike}

@@ -2,7 +2,7 @@
 ghost use Rattle.std.specs.Prelude.{ℕ, ◌≡◌, ◌≤◌, map, IfOk};
 ghost use Rattle.handler_check.specs.Images.{IsHandler};
 ghost use Rattle.interrupt_plan.specs.Plans.{IsGood};
-ghost use Rattle.alone_runs.specs.Rows.{input_bytes};
+ghost use Rattle.trace_io.specs.Traces.{input_bytes};
 ghost use Rattle.handled_runs.specs.{Forms.row_seen, Forms.handled_seen, Answering.HandlesItsBlock};
 
 use crate::form::WithCode;

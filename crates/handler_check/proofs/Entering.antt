@@ -4,12 +4,13 @@ use Rattle.std.proofs.Common.{ap, sym, ◌∙◌, subst, arith, inl, inr}
 use Rattle.std.specs.Option.{is_some}
 use Rattle.std.proofs.lemmas.Bool.{or_parts}
 use Rattle.cpu12_isa.specs.declared.{instr.Regs.Regs, instr.Write.Write}
-use Rattle.cpu12_isa.specs.{Act.write_all, Agreement.Agree, Regions.is_free, Regions.is_hidden}
 use Rattle.cpu12_isa.specs.Memory.{plus, placed, word_of}
+use Rattle.cpu12_isa.specs.{Act.write_all, Agreement.Agree, Regions.is_free, Regions.is_hidden}
 use Rattle.cpu12_isa.proofs.Algebra.{agree_with, place_of, unwritten}
 use Rattle.cpu12_asm.specs.Bytes.{byte_at}
-use Rattle.cpu12_parts.specs.{declared.temps.Temps.Temps, State.State, Sums.sum_bytes, Cuts.suspended, Cuts.wav}
+use Rattle.cpu12_parts.specs.declared.temps.Temps.{Temps}
 use Rattle.cpu12_parts.specs.declared.temps.Temps.TheVariants.{Free, Running, OnStack}
+use Rattle.cpu12_parts.specs.{State.State, Parts.sum_bytes, Parts.suspended, Parts.wav}
 use Rattle.cpu12_parts.specs.{Laws.IsOff, Inside.PushesRunning, Inside.PushesNone}
 use Rattle.cpu12_emul.specs.{Take.framed, Simulation.AreOpen, Simulation.TakesQuietly}
 use Rattle.handler_check.specs.Images.{IsWhole, IsHandler}

@@ -5,7 +5,7 @@ use Rattle.std.specs.Prelude.{Some, List, length, slice_index}
 use Rattle.cpu12_isa.specs.{declared.instr.Instr.Instr, declared.instr.Write.Write, Fits.FitsRegs}
 use Rattle.cpu12_isa.specs.Regions.{is_free, stack_start, stack_end, vector_word}
 use Rattle.cpu12_asm.specs.Bytes.{byte_at}
-use Rattle.cpu12_parts.specs.{State.State, Cuts.suspended, Cuts.wav, Laws.IsOff}
+use Rattle.cpu12_parts.specs.{State.State, Parts.suspended, Parts.wav, Laws.IsOff}
 use Rattle.cpu12_emul.specs.{Step.Next, Step.next_of, Simulation.AreOpen, Simulation.OnStackOnly, Simulation.Same}
 use Rattle.cpu12_emul.specs.Take.{pushed, written, vectored, framed, entered, taken}
 use Rattle.run_law.specs.Soundness.{Begins, Quiet}

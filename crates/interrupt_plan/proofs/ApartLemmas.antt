@@ -9,7 +9,7 @@ use Rattle.interrupt_plan.specs.OneReading.{LevelFaultsAreOne, PlanFaultsAreOne,
 use Rattle.interrupt_plan.specs.OneReading.{SpelledLevelsHaveNoFault, SpelledPlansHaveNoFault}
 use Rattle.interrupt_plan.specs.OneReading.{SpelledPostsHaveNoFault}
 use Rattle.interrupt_plan.specs.Levels.{AreGoodLevels, LevelNotAfter, SpellsLevel, no_writes, numbers_of}
-use Rattle.interrupt_plan.specs.{Plans.IsGood, Plans.NotAfter, PlanTexts.SpellsRequest, PlanTexts.writes_by}
+use Rattle.interrupt_plan.specs.Plans.{IsGood, NotAfter, SpellsRequest, writes_by}
 use Rattle.interrupt_plan.specs.Posts.{AreGoodPosts, NoLater, SpellsPost, writes_in}
 use Rattle.interrupt_plan.specs.Rows.{AreFree, AreInOrder, FirstFault, HasFirstFault, HasNumbers, IsFirstTaken}
 use Rattle.interrupt_plan.specs.Rows.{RowFails, SpellAll, SpellsText, at_row, count_of, more, not_ascending, not_free}

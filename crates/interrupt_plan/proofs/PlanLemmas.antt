@@ -15,12 +15,12 @@ use Rattle.cpu12_isa.specs.{declared.instr.Write.Write, Regions.is_free}
 use Rattle.fz_rows.specs.FirstRows.{Fields}
 use Rattle.fz_num.specs.Decimals.{is_digit, next_number, number}
 use Rattle.interrupt_plan.specs.{declared.Request.Request, declared.Post.Post, declared.PlanFault.PlanFault}
-use Rattle.interrupt_plan.specs.{declared.PlanFault.TheVariants.TooMany, PlanTexts.SpellsRequest, PlanTexts.writes_by}
-use Rattle.interrupt_plan.specs.Plans.{IsGood, IsGoodRequest, NotAfter}
+use Rattle.interrupt_plan.proofs.{PairLemmas.length-writes, ByteLemmas.writes_small}
+use Rattle.interrupt_plan.specs.declared.PlanFault.TheVariants.{TooMany}
+use Rattle.interrupt_plan.specs.Plans.{SpellsRequest, writes_by, IsGood, IsGoodRequest, NotAfter}
 use Rattle.interrupt_plan.specs.Posts.{AreGoodPosts, IsGoodPost, NoLater, SpellsPost, writes_in}
 use Rattle.interrupt_plan.specs.Rows.{AreFree, AreInOrder, FirstFault, IsFirstTaken, RowFails, SpellAll, SpellsRow}
 use Rattle.interrupt_plan.specs.Rows.{SpellsText, at_row, count_of, more, writes_of}
-use Rattle.interrupt_plan.proofs.{PairLemmas.length-writes, ByteLemmas.writes_small}
 use Rattle.interrupt_plan.proofs.SpelledLemmas.{ascends-snoc, spelled-length, spell-snoc}
 
 take_more : {X : Type 0} (xs : List X) (i : ℕ) (d : X) → i < length xs

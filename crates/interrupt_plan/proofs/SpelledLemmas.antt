@@ -3,7 +3,7 @@ use Rattle.std.proofs.Common.{arith, ◌≡◌, ◌+◌, List, [], ◌∷◌, �
 use Rattle.std.specs.Prelude.{All}
 use Rattle.std.proofs.lemmas.List.Elements.{All-head, All-tail}
 use Rattle.fz_rows.specs.FirstRows.{Fields}
-use Rattle.interrupt_plan.specs.{Plans.Ascend, Rows.SpellAll}
+use Rattle.interrupt_plan.specs.Rows.{Ascend, SpellAll}
 
 module _ {E : Type 0} (Follows : E → E → Type 0) where
   pub ascends-snoc : (es : List E) (e : E) → Ascend Follows es

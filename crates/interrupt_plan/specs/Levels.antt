@@ -5,7 +5,7 @@ use Rattle.std.specs.List.Sorted.{IsNonDecreasing}
 use Rattle.cpu12_isa.specs.declared.instr.Write.{Write}
 use Rattle.fz_rows.specs.FirstRows.{Fields}
 use Rattle.interrupt_plan.specs.declared.{levels.Level.Level, PlanFault.PlanFault}
-use Rattle.interrupt_plan.specs.{Plans.Ascend, Plans.NoLaterThan, Rows.count_of, Rows.SpellsText, Rows.HasFirstFault}
+use Rattle.interrupt_plan.specs.Rows.{Ascend, NoLaterThan, count_of, SpellsText, HasFirstFault}
 
 -- a level of one of so many fast samples, at most eight times interrupted, or of none
 pub record IsGoodLevel (fast : ℕ) (l : Level) : Type 0 where

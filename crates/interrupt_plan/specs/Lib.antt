@@ -1,6 +1,5 @@
 pub mod Plans
 pub mod Rows
-pub mod PlanTexts
 pub mod Posts
 pub mod Levels
 pub mod OneReading

@@ -1,10 +1,10 @@
 -- A text spells entries or has a first fault, not both, and it has one.
 -- Beside the promise.
 use Rattle.std.specs.Prelude.{◌≡◌, ℕ, List}
-use Rattle.interrupt_plan.specs.{Levels.LevelsHaveFault, Levels.SpellsLevels, PlanTexts.HasFault, PlanTexts.Spells}
-use Rattle.interrupt_plan.specs.{Posts.PostsHaveFault, Posts.SpellsPosts, UpsetTexts.HasUpsetFault}
+use Rattle.interrupt_plan.specs.{Levels.LevelsHaveFault, Levels.SpellsLevels, Plans.HasFault, Plans.Spells}
 use Rattle.interrupt_plan.specs.declared.{PlanFault.PlanFault, levels.Level.Level, Post.Post, Request.Request}
 use Rattle.interrupt_plan.specs.declared.upsets.UpsetFault.{UpsetFault}
+use Rattle.interrupt_plan.specs.{Posts.PostsHaveFault, Posts.SpellsPosts, UpsetTexts.HasUpsetFault}
 
 -- A text that spells a plan has no fault.
 abbrev pub SpelledPlansHaveNoFault : Type 0

@@ -4,7 +4,7 @@ use Rattle.std.specs.Prelude.{◌≡◌, ◌<◌, ◌≤◌, ◌^◌, ℕ, true,
 use Rattle.cpu12_isa.specs.{declared.instr.Write.Write, Regions.is_free}
 use Rattle.fz_rows.specs.FirstRows.{Fields}
 use Rattle.interrupt_plan.specs.declared.{Post.Post, PlanFault.PlanFault}
-use Rattle.interrupt_plan.specs.{Plans.Ascend, Rows.SpellsRow, Rows.SpellsText, Rows.HasFirstFault}
+use Rattle.interrupt_plan.specs.Rows.{Ascend, SpellsRow, SpellsText, HasFirstFault}
 
 -- a post of one of so many samples, or of none: it comes at a moment up to 1000000, and does at most eight writes, each
 -- of a byte to a free address

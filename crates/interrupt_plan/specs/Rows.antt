@@ -6,8 +6,21 @@ use Rattle.hex.specs.{Hex.decode_sized, declared.error.FromHexError.FromHexError
 use Rattle.fz_num.specs.Decimals.{are_digits, number}
 use Rattle.cpu12_isa.specs.{declared.instr.Write.Write, Regions.is_free}
 use Rattle.fz_rows.specs.FirstRows.{Fields, AreFirstRows}
-use Rattle.interrupt_plan.specs.{declared.PlanFault.PlanFault, Plans.Ascend}
+use Rattle.interrupt_plan.specs.declared.PlanFault.{PlanFault}
 use Rattle.interrupt_plan.specs.declared.PlanFault.TheVariants.{BadRow, NotFree, NotAscending, TooMany}
+use Rattle.std.specs.Prelude.{◌⊎◌}
+
+-- ---- order
+
+-- of two samples with moments in them, the first does not come after the second
+abbrev pub NoLaterThan : ℕ × ℕ → ℕ × ℕ → Type 0
+NoLaterThan a b = (a.0 < b.0) ⊎ ((a.0 ≡ b.0) × (a.1 ≤ b.1))
+
+-- none of a list comes after the one behind it
+abbrev pub Ascend : {E : Type 0} → (E → E → Type 0) → List E → Type 0
+Ascend NotAfter [] = Unit {0}
+Ascend NotAfter (a ∷ []) = Unit {0}
+Ascend NotAfter (a ∷ b ∷ rest) = NotAfter a b × Ascend NotAfter (b ∷ rest)
 
 -- the number of one to nine decimal digits
 abbrev pub count_of : List ℕ → Option ℕ

@@ -3,7 +3,7 @@
 use Rattle.std.specs.Prelude.{◌≡◌, ◌<◌, ◌≤◌, ◌^◌, ◌&&◌, nat_le, ℕ, Bool, true, false, List, length, All, Option, Some}
 use Rattle.std.specs.Prelude.{None}
 use Rattle.cpu12_asm.specs.Bytes.{byte_at}
-use Rattle.interrupt_plan.specs.{declared.upsets.Upset.Upset, Plans.Ascend}
+use Rattle.interrupt_plan.specs.{declared.upsets.Upset.Upset, Rows.Ascend}
 
 -- the byte is there
 abbrev pub is_there : Option ℕ → Bool

@@ -2,8 +2,7 @@
 ghost use Rattle.std.specs.Prelude.{◌≡◌, ◌↔◌, ◌≤◌, ℕ, List, IfOk, MatchOption, IsTrue};
 ghost use Rattle.csv.specs.Records.{fields_of};
 ghost use Rattle.cpu12_isa.specs.declared.instr.Write as isa;
-ghost use Rattle.interrupt_plan.specs.Plans.{NoLaterThan, NotAfter};
-ghost use Rattle.interrupt_plan.specs.PlanTexts.{SpellsRequest, writes_by};
+ghost use Rattle.interrupt_plan.specs.{Rows.NoLaterThan, Plans.NotAfter, Plans.SpellsRequest, Plans.writes_by};
 ghost use Rattle.interrupt_plan.specs.Posts.{NoLater, SpellsPost, writes_in};
 
 use crate::row::{Parts, parts_in};

@@ -1,7 +1,7 @@
 //! Plans and posts from rows.
 ghost use Rattle.std.specs.Prelude.{◌≡◌, ◌≢◌, ◌<◌, ◌≤◌, List as Items, [], ◌∷◌, ◌++◌, length, map, IfOk, IfErr};
 ghost use Rattle.csv.specs.Records.{fields_of};
-ghost use Rattle.interrupt_plan.specs.{PlanTexts.HasFault, PlanTexts.Spells, Posts.PostsHaveFault, Posts.SpellsPosts};
+ghost use Rattle.interrupt_plan.specs.{Plans.HasFault, Plans.Spells, Posts.PostsHaveFault, Posts.SpellsPosts};
 ghost use Rattle.interrupt_plan.specs.Rows.{AreFree, AreInOrder, FirstFault, HasFirstFault, RowFails, SpellAll};
 ghost use Rattle.interrupt_plan.specs.Rows.{SpellsText};
 

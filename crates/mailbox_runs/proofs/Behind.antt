@@ -11,7 +11,7 @@ use Rattle.cpu12_isa.specs.Memory.{plus, placed, word_of}
 use Rattle.cpu12_isa.proofs.Algebra.{agree_self, agree_with}
 use Rattle.cpu12_parts.specs.declared.temps.Temps.{Temps}
 use Rattle.cpu12_parts.specs.declared.temps.Temps.TheVariants.{Free, Running, OnStack}
-use Rattle.cpu12_parts.specs.{State.State, Sums.sum_bytes, Cuts.suspended, Cuts.wav, Laws.IsOff, Laws.addresses}
+use Rattle.cpu12_parts.specs.{State.State, Parts.sum_bytes, Parts.suspended, Parts.wav, Laws.IsOff, Laws.addresses}
 use Rattle.cpu12_emul.specs.{Step.Left, Step.Next, Step.step_act, Step.applied, Step.next_of, Take.framed}
 use Rattle.cpu12_emul.specs.Simulation.{OnStackOnly, OnStackOrNone, Simulates, AreSumsReady, HasRoom, IsShownStep}
 use Rattle.run_law.specs.Uninterrupted.{stepped, state_by}

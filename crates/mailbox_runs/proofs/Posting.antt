@@ -3,10 +3,10 @@ use Rattle.std.proofs.Common.{◌≡◌, ℕ, zero, suc, ◌≤◌, nat_le, Bool
 use Rattle.std.proofs.Common.{refl, sym, ap, ap₂, ◌∙◌, subst, arith, inl, inr}
 use Rattle.std.specs.Prelude.{◌==◌, if◌then◌else◌}
 use Rattle.std.proofs.lemmas.Bool.Decides.{nat_tests}
-use Rattle.cpu12_isa.specs.{declared.instr.Regs.Regs, Agreement.Agree, Fits.FitsRegs}
-use Rattle.cpu12_isa.specs.{Flags.interrupts_masked, Flags.has, Regions.is_free, Regions.is_hidden}
+use Rattle.cpu12_isa.specs.{declared.instr.Regs.Regs, Agreement.Agree, Fits.FitsRegs, Flags.interrupts_masked}
+use Rattle.cpu12_isa.specs.{Flags.has, Regions.is_free, Regions.is_hidden}
 use Rattle.cpu12_isa.proofs.Algebra.{agree_self, agree_with}
-use Rattle.cpu12_parts.specs.{declared.temps.Temps.TheVariants.Free, State.State, Cuts.suspended, Cuts.wav}
+use Rattle.cpu12_parts.specs.{declared.temps.Temps.TheVariants.Free, State.State, Parts.suspended, Parts.wav}
 use Rattle.cpu12_emul.specs.Take.{FrameSeen, frame_of, frame_in, may_interrupt, framed}
 use Rattle.cpu12_emul.specs.Simulation.{Same}
 use Rattle.run_law.specs.Forms.{Taking, takes, taken, told, put_take}
@@ -15,8 +15,8 @@ use Rattle.interrupt_plan.specs.{declared.Post.Post, Posts.IsGoodPost}
 use Rattle.alone_code.specs.{declared.firmware.Firmware.Firmware, Mailboxes.is_postable}
 use Rattle.mailbox_runs.specs.Turns.{up_to, behind, waiting}
 use Rattle.mailbox_runs.specs.Runs.{TurnForm, turn_form, post_writes}
-use Rattle.mailbox_runs.specs.{PostedTurns.plain_frame, UsedLaws.TakingLaws}
 use Rattle.mailbox_runs.specs.Postings.{posted, last_of, IsBox, AreOfSize}
+use Rattle.mailbox_runs.specs.{PostedTurns.plain_frame, UsedLaws.TakingLaws}
 use Rattle.mailbox_runs.proofs.LastOnes.{zero_or, none_put, some_put}
 use Rattle.mailbox_runs.proofs.Mailing.{leaves_stack, open_post, post_mailed, mailed_apart, mailed_over}
 

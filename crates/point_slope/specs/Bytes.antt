@@ -6,7 +6,7 @@ use Rattle.std.specs.Option.{option_map_or}
 use Rattle.fz_num.specs.declared.dec.Dec.{Dec}
 use Rattle.fuzzy_meaning.specs.declared.{block.Block.Block, block.Output.Output, block.Rule.Rule}
 use Rattle.fuzzy_meaning.specs.Blocks.{input_at, output_at, IsValid}
-use Rattle.fuzzy_meaning.specs.{Conditions.Condition, Conditions.level, Rules.concludes}
+use Rattle.fuzzy_meaning.specs.{Conditions.Condition, Conditions.level, Meaning.concludes}
 use Rattle.byte_scaling.specs.{Cells.nearest_byte, Weights.weight_byte_of}
 use Rattle.point_slope.specs.Tables.{row_of, grade_of}
 

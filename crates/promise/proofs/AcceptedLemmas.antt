@@ -8,8 +8,8 @@ use Rattle.eval_code.specs.{Bounds.instruction_bound, Bounds.step_bound, MemoryM
 use Rattle.byte_scaling.specs.Widths.{is_wide}
 use Rattle.byte_scaling.specs.declared.{width.Width.Width, width.Width.TheVariants.Byte, width.Width.TheVariants.Word}
 use Rattle.box_tree.specs.declared.cert.CertKind.{CertKind}
-use Rattle.run_reports.specs.CertifiedRun.{Files}
-use Rattle.run_commands.specs.Run.{AcceptedRunsMakeOutput, Accepts, run_lines, run_with}
+use Rattle.run_reports.specs.{Reports.Files, RowLines.run_lines}
+use Rattle.run_commands.specs.Run.{AcceptedRunsMakeOutput, Accepts, run_with}
 use Rattle.promise.specs.Laws.{AcceptedFilesGiveFirmware, AcceptedFilesKeepPromise, AreAccepted}
 use Rattle.promise.specs.Laws.{CertifiedRunsKeepPromise}
 

@@ -6,7 +6,8 @@ use Rattle.std.proofs.Common.{List, map, subst}
 use Rattle.run_law.specs.{Forms.RowSeen, Moments.TakenAtOnce}
 use Rattle.watched_code.specs.Watched.{Watched}
 use Rattle.watched_runs.specs.{Forms.FactsWatched, Forms.watched_form, Rows.upset_rows, Samples.with_upsets}
-use Rattle.alone_runs.specs.Rows.{first_state, input_bytes}
+use Rattle.alone_runs.specs.Rows.{first_state}
+use Rattle.trace_io.specs.Traces.{input_bytes}
 use Rattle.promise.specs.{Bench.AreReadOff, Bench.requests_in, Laws.AnswersServe}
 use Rattle.promise.specs.OtherRuns.{DebuggedRunsServe, WatchedRunsServe, GeneratedRunsServe, HandledRunsServe}
 use Rattle.promise.specs.OtherRuns.{OtherRunsServe, SlowRunsServe}

@@ -4,10 +4,10 @@ use Rattle.std.proofs.Common.{ap, arith}
 use Rattle.std.specs.Prelude.{All, codes, decimal}
 use Rattle.std.proofs.lemmas.Fmt.{decimal_by_steps, decimal_injective}
 use Rattle.std.proofs.lemmas.List.{append_assoc, append_cancel_left}
-use Rattle.fz_status.specs.FaultLines.{newline}
+use Rattle.fz_shelf.specs.Parts.{newline}
 use Rattle.command_parts.specs.Lines.{counted, error_line, line}
 use Rattle.run_reports.specs.{Reports.Report, RowLines.row_lines}
-use Rattle.run_commands.specs.Run.{run_lines}
+use Rattle.run_reports.specs.RowLines.{run_lines}
 use Rattle.promise.specs.Laws.{PrintedNumbersAreOne}
 
 -- ---- digits up to the end of a line

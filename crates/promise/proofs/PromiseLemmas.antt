@@ -18,8 +18,9 @@ use Rattle.interrupt_plan.specs.declared.Request.{Request}
 use Rattle.run_law.specs.Forms.{Form, RowSeen}
 use Rattle.run_forms.specs.Arrival.{ArrivesPlainly, PlainIsOneStep}
 use Rattle.alone_runs.specs.{Answering.AnswersUnder, Forms.with_writes}
-use Rattle.alone_runs.specs.Rows.{firmware_rows, first_state, input_bytes}
-use Rattle.run_commands.specs.Run.{run_lines}
+use Rattle.alone_runs.specs.Rows.{firmware_rows, first_state}
+use Rattle.trace_io.specs.Traces.{input_bytes}
+use Rattle.run_reports.specs.RowLines.{run_lines}
 use Rattle.promise.specs.Bench.{AreReadOff, IsFirstAtLoop, IsRunOf, bench, loop, requests_in}
 use Rattle.promise.specs.{Laws.AnswersServe, Laws.CertifiedRunsKeepPromise, Promise.Serves}
 use Rattle.promise.proofs.BenchLemmas.{bench_is, reaches, read_off}

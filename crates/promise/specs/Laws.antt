@@ -9,11 +9,11 @@ use Rattle.eval_code.specs.MemoryMaps.{main_map}
 use Rattle.byte_scaling.specs.{Widths.is_wide, declared.width.Width.Width}
 use Rattle.fcl_check.specs.Texts.{SpellsBlock}
 use Rattle.fuzzy_meaning.specs.{Blocks.IsValid, declared.block.Block.Block}
-use Rattle.interrupt_plan.specs.{PlanTexts.Spells as SpellsPlan, declared.Request.Request}
+use Rattle.interrupt_plan.specs.{Plans.Spells as SpellsPlan, declared.Request.Request}
 use Rattle.promise.specs.Promise.{IsPrintable, Promise, Serves}
 use Rattle.rule_layout.specs.Layouts.{IsWithinLimits}
-use Rattle.run_reports.specs.{CertifiedRun.CertifiedRun, CertifiedRun.Files, Reports.Report}
-use Rattle.run_commands.specs.Run.{RunAccepts, run_lines, run_with}
+use Rattle.run_reports.specs.{CertifiedRun.CertifiedRun, Reports.Files, Reports.Report, RowLines.run_lines}
+use Rattle.run_commands.specs.Run.{RunAccepts, run_with}
 use Rattle.alone_runs.specs.{Answering.AnswersUnder, Rows.firmware_rows}
 use Rattle.run_law.specs.Forms.{RowSeen}
 use Rattle.srecord.specs.Texts.{GivesImage}

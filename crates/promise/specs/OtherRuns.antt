@@ -3,7 +3,8 @@
 use Rattle.std.specs.Prelude.{◌≡◌, ◌<◌, ◌^◌, ℕ, List, length, map}
 use Rattle.byte_scaling.specs.declared.width.Width.TheVariants.{Byte}
 use Rattle.command_parts.specs.SeenOutputs.{SeenOutput}
-use Rattle.alone_runs.specs.Rows.{input_bytes, first_state}
+use Rattle.trace_io.specs.Traces.{input_bytes}
+use Rattle.alone_runs.specs.Rows.{first_state}
 use Rattle.handled_runs.specs.Forms.{first_handled, with_code}
 use Rattle.two_level_runs.specs.{Answering.plan_of, Rows.first_two, Rows.level_form, Rows.levels_of}
 use Rattle.run_commands.specs.{Debug.DebugFiles, Debug.DebugGives, Generate.GenerateGives}

@@ -7,12 +7,12 @@ use Rattle.cpu12_asm.specs.declared.image.Image.{Image}
 use Rattle.cpu12_parts.specs.State.{State}
 use Rattle.srecord.specs.Texts.{GivesImage}
 use Rattle.trace_io.specs.{Traces.Spells as SpellsTrace, declared.sample.Sample.Sample}
-use Rattle.interrupt_plan.specs.{PlanTexts.Spells as SpellsPlan, declared.Request.Request}
+use Rattle.interrupt_plan.specs.{Plans.Spells as SpellsPlan, declared.Request.Request}
 use Rattle.byte_scaling.specs.{Widths.parts, declared.width.Width.Width}
-use Rattle.run_reports.specs.{Nearness.AreWithinErrors, Reports.Report, CertifiedRun.Files, CertifiedRun.left_of}
-use Rattle.alone_runs.specs.Rows.{input_bytes}
+use Rattle.run_reports.specs.{Nearness.AreWithinErrors, RowLines.run_lines}
+use Rattle.run_reports.specs.Reports.{Report, Files, left_of}
+use Rattle.trace_io.specs.Traces.{input_bytes}
 use Rattle.run_law.specs.Forms.{RowSeen}
-use Rattle.run_commands.specs.Run.{run_lines}
 use Rattle.promise.specs.Bench.{AreReadOff, IsFirstAtLoop, IsRunOf, bench, requests_in}
 
 -- The machine over an image serves samples under a plan. From reset it comes to LOOP; from there the samples are given

@@ -10,19 +10,19 @@ use Rattle.std.proofs.lemmas.Bool.Decides.{nat_tests}
 use Rattle.std.proofs.Math.Nat.{mul-le-mul_right}
 use Rattle.fuzzy_meaning.specs.declared.{block.Block.Block, block.Rule.Rule}
 use Rattle.fuzzy_meaning.specs.Blocks.{IsValid, HasSingleton, input_at}
-use Rattle.fuzzy_meaning.specs.{Conditions.level, Rules.concludes}
+use Rattle.fuzzy_meaning.specs.{Conditions.level, Meaning.concludes}
 use Rattle.byte_scaling.specs.Weights.{weight_byte_of}
 use Rattle.point_slope.specs.Tables.{row_of, grade_of, grade_under, side}
 use Rattle.point_slope.specs.Bytes.{literal_grade, byte_strength, byte_mass_among}
 use Rattle.rule_layout.specs.declared.{flat.Slot.Slot, flat.Conjunction.Conjunction}
-use Rattle.rule_layout.specs.declared.flat.Slot.TheVariants.{Term, Out}
-use Rattle.rule_layout.specs.{Spreading.Literal, Masses.slot_bytes, Masses.scaled, Masses.left_in, Masses.MassLaw}
 use Rattle.rule_layout.specs.Truths.{literal_value, least_literal, greatest_conjunction, slot_value, slot_values}
 use Rattle.rule_layout.specs.Truths.{least_value, greatest_value, RuleTruthLaw}
 use Rattle.rule_layout.specs.Slots.{slots_of, is_same_slot, number_in, literal_slot, literal_number}
 use Rattle.rule_layout.specs.Slots.{conclusion_number, out_slot}
 use Rattle.rule_layout.specs.Layouts.{rule_spread, conjunction_of, rule_conjunctions, rule_weights, conjunctions_of}
 use Rattle.rule_layout.specs.Layouts.{weights_of, flat_of}
+use Rattle.rule_layout.specs.declared.flat.Slot.TheVariants.{Term, Out}
+use Rattle.rule_layout.specs.{Spreading.Literal, Masses.slot_bytes, Masses.scaled, Masses.left_in, Masses.MassLaw}
 use Rattle.rule_layout.proofs.{NumberLemmas.slot_from_same, TruthLemmas.spreading_law_lem}
 use Rattle.rule_layout.proofs.MemberLemmas.{HasSlot, LiteralHasSlot, RuleHasSlots, rules_have_slots, number_in-lt}
 use Rattle.rule_layout.proofs.MemberLemmas.{out_in_slots}

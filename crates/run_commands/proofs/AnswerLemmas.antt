@@ -4,16 +4,15 @@ use Rattle.std.specs.Prelude.{map}
 use Rattle.fuzzy_meaning.specs.declared.block.Block.{Block}
 use Rattle.alone_code.specs.declared.firmware.Firmware.{Firmware}
 use Rattle.interrupt_plan.specs.declared.Request.{Request}
-use Rattle.trace_io.specs.declared.sample.Sample.{Sample}
+use Rattle.trace_io.specs.{declared.sample.Sample.Sample, Traces.input_bytes}
 use Rattle.run_law.specs.Forms.{RowSeen}
 use Rattle.alone_runs.specs.{Answering.AnswersItsBlock, Answering.AnswersUnderPlans, Rows.firmware_rows}
-use Rattle.alone_runs.specs.{Rows.input_bytes}
 use Rattle.srecord.specs.Texts.{GivesImage}
 use Rattle.fz_status.specs.declared.status.Status.{Status}
 use Rattle.fz_status.specs.declared.status.Status.TheVariants as status
 use Rattle.command_parts.specs.Firmwares.{GivesFirmware}
 use Rattle.run_reports.specs.{Inputs.input_refusals, Laws.AnswersAreReported, Reports.report_of}
-use Rattle.run_reports.specs.CertifiedRun.{CertifiedRun, Files, left_of}
+use Rattle.run_reports.specs.{CertifiedRun.CertifiedRun, Reports.Files, Reports.left_of}
 use Rattle.run_commands.specs.{Run.AcceptedRunsMakeOutput, Run.Accepts, Run.run_refusals, declared.run.Run.Run}
 
 -- what it answers of accepted files is a certified run

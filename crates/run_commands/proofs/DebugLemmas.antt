@@ -6,10 +6,10 @@ use Rattle.std.specs.declared.alloc.Global.{Global}
 use Rattle.fuzzy_meaning.specs.declared.block.Block.{Block}
 use Rattle.alone_code.specs.declared.firmware.Firmware.{Firmware}
 use Rattle.interrupt_plan.specs.declared.Request.{Request}
-use Rattle.trace_io.specs.declared.sample.Sample.{Sample}
+use Rattle.trace_io.specs.{declared.sample.Sample.Sample, Traces.input_bytes}
 use Rattle.run_law.specs.Forms.{RowSeen}
 use Rattle.alone_runs.specs.{Answering.AnswersItsBlock, Answering.AnswersUnderPlans, declared.rows.Row.Row}
-use Rattle.alone_runs.specs.Rows.{firmware_rows, input_bytes, row_seen}
+use Rattle.alone_runs.specs.Rows.{firmware_rows, row_seen}
 use Rattle.fz_shelf.specs.Lines.{text_of}
 use Rattle.debug_script.specs.{Showing.shown, declared.order.Order.Order, declared.shown.Shown.Shown}
 use Rattle.byte_scaling.specs.declared.width.Width.TheVariants.{Byte}

@@ -1,7 +1,8 @@
 -- A number that is accepted makes an output.
 use Rattle.std.proofs.Common.{map, refl, arith}
 use Rattle.byte_scaling.specs.declared.width.Width.TheVariants.{Byte}
-use Rattle.alone_runs.specs.{Answering.AnswersUnderPlans, Rows.firmware_rows, Rows.input_bytes}
+use Rattle.alone_runs.specs.{Answering.AnswersUnderPlans, Rows.firmware_rows}
+use Rattle.trace_io.specs.Traces.{input_bytes}
 use Rattle.run_reports.specs.{Laws.AnswersAreReported, Reports.report_of}
 use Rattle.run_commands.specs.Generate.{AcceptedNumbersMakeOutput}
 

@@ -9,7 +9,7 @@ use Rattle.run_law.specs.Forms.{RowSeen}
 use Rattle.command_parts.specs.Lines.{counted, error_line, line}
 use Rattle.command_parts.proofs.Algebra.{begun_items, pushed, text_of-snoc}
 use Rattle.run_commands.specs.Generate.{answers_of, frames_of, generate_lines, resumed_of}
-use Rattle.run_commands.specs.Run.{run_lines}
+use Rattle.run_reports.specs.RowLines.{run_lines}
 use Rattle.run_reports.specs.{RowLines.begun_lines, RowLines.row_lines, Reports.report_of}
 
 -- ---- the lines of a run

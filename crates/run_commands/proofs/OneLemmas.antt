@@ -6,14 +6,14 @@ use Rattle.debug_script.specs.{Showing.shown}
 use Rattle.eval_code.specs.Bounds.{instruction_bound}
 use Rattle.byte_scaling.specs.declared.width.Width.TheVariants.{Byte}
 use Rattle.run_forms.specs.Positions.{positions}
-use Rattle.trace_io.specs.Traces.{Spells as SpellsTrace}
-use Rattle.alone_runs.specs.Rows.{firmware_rows, first_state, input_bytes}
+use Rattle.trace_io.specs.Traces.{Spells as SpellsTrace, input_bytes}
+use Rattle.alone_runs.specs.Rows.{firmware_rows, first_state}
 use Rattle.command_parts.specs.Certs.{AcceptedErrorsAreOne, AcceptsCert}
 use Rattle.command_parts.specs.{Firmwares.GivenFirmwaresAreOne, SeenOutputs.OutputsAreOne}
 use Rattle.run_reports.specs.{Laws.SpelledInputsAreOne}
-use Rattle.run_reports.specs.CertifiedRun.{Files, left_of}
-use Rattle.run_commands.specs.{Run.RunMakes, Run.run_lines, declared.debug.DebugRun.DebugRun, declared.run.Run.Run}
-use Rattle.run_commands.specs.Debug.{DebugFiles, DebugMakes, debug_lines}
+use Rattle.run_reports.specs.{Reports.Files, Reports.left_of, RowLines.run_lines}
+use Rattle.run_commands.specs.{Run.RunMakes, Debug.DebugFiles, Debug.DebugMakes, Debug.debug_lines}
+use Rattle.run_commands.specs.declared.{debug.DebugRun.DebugRun, run.Run.Run}
 
 pub runs_once : GivenFirmwaresAreOne → AcceptedErrorsAreOne → SpelledInputsAreOne → (run : Run) (files : Files)
     → OutputsAreOne (RunMakes run files)

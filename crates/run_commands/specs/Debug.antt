@@ -6,23 +6,24 @@ use Rattle.std.specs.List.{flat_map}
 use Rattle.fuzzy_meaning.specs.declared.block.Block.{Block}
 use Rattle.alone_code.specs.declared.firmware.Firmware.{Firmware}
 use Rattle.byte_scaling.specs.declared.width.Width.TheVariants.{Byte}
-use Rattle.fz_shelf.specs.Parts.{address_digits, byte_digits}
-use Rattle.interrupt_plan.specs.{PlanTexts.Spells as SpellsPlan, declared.Request.Request}
+use Rattle.fz_shelf.specs.Parts.{address_digits, byte_digits, newline}
+use Rattle.interrupt_plan.specs.{Plans.Spells as SpellsPlan, declared.Request.Request}
 use Rattle.run_law.specs.Forms.{RowSeen}
 use Rattle.srecord.specs.Texts.{GivesImage}
 use Rattle.trace_io.specs.{Traces.Spells as SpellsTrace, declared.sample.Sample.Sample}
-use Rattle.alone_runs.specs.{Answering.AnswersUnder, Rows.first_state, Rows.firmware_rows, Rows.input_bytes}
+use Rattle.alone_runs.specs.{Answering.AnswersUnder, Rows.first_state, Rows.firmware_rows}
+use Rattle.trace_io.specs.Traces.{input_bytes}
 use Rattle.run_forms.specs.Positions.{Position, positions}
 use Rattle.debug_script.specs.{Scripts.script_of, Showing.shown}
 use Rattle.debug_script.specs.declared.{order.Order.Order, shown.Shown.Shown}
 use Rattle.debug_script.specs.declared.shown.Shown.TheVariants.{Stop, Registers, Bytes}
 use Rattle.command_parts.specs.{Contents.content_at, SeenOutputs.HasOutput, SeenOutputs.SeenOutput}
 use Rattle.command_parts.specs.Firmwares.{GivesFirmware, OfFirmware, RefusesText}
-use Rattle.command_parts.specs.{Images.RefusesImage, Lines.counted, Lines.with_registers, Words.flags_of}
+use Rattle.command_parts.specs.{Images.RefusesImage, Lines.counted, Lines.with_registers}
+use Rattle.fz_status.specs.{Words.flags_of, Words.Text, Words.word_at, Refusals.Refusals, Refusals.Refuses}
+use Rattle.fz_status.specs.declared.status.Status.{Status}
 use Rattle.run_reports.specs.{Inputs.sample_refusals, RowLines.row_lines}
 use Rattle.run_commands.specs.declared.debug.DebugRun.{DebugRun}
-use Rattle.fz_status.specs.{FaultLines.newline, Refusals.Refusals, Refusals.Refuses, Words.Text, Words.word_at}
-use Rattle.fz_status.specs.declared.status.Status.{Status}
 use Rattle.fz_status.specs.declared.status.Status.TheVariants as status
 
 abbrev pub debug_with : ℕ → DebugRun

@@ -1,7 +1,7 @@
 -- The commands `run FCL IMAGE CERT TRACE PLAN FLAGS`, `run16 ..` with answers of 16 bits, and `trun ..` and `trun16 ..`
 -- under tight certificates.
--- Reached by the promise.
-use Rattle.std.specs.Prelude.{◌≡◌, ◌<◌, ◌^◌, ℕ, List, [], ◌∷◌, ◌++◌, codes, Option, None, option_map}
+-- Beside the promise.
+use Rattle.std.specs.Prelude.{◌≡◌, ◌<◌, ◌^◌, ℕ, List, [], ◌∷◌, Option, None, option_map}
 use Rattle.std.specs.Prelude.{Result, Ok, Err}
 use Rattle.fuzzy_meaning.specs.declared.block.Block.{Block}
 use Rattle.alone_code.specs.declared.firmware.Firmware.{Firmware}
@@ -10,15 +10,15 @@ use Rattle.byte_scaling.specs.declared.width.Width.{Width}
 use Rattle.interrupt_plan.specs.declared.Request.{Request}
 use Rattle.trace_io.specs.declared.sample.Sample.{Sample}
 use Rattle.srecord.specs.Texts.{GivesImage}
-use Rattle.command_parts.specs.{SeenOutputs.SeenOutput, Images.RefusesImage, Contents.content_at, Words.flags_of}
+use Rattle.command_parts.specs.{SeenOutputs.SeenOutput, Images.RefusesImage, Contents.content_at}
 use Rattle.command_parts.specs.Firmwares.{GivesFirmware, OfFirmware, RefusesText}
-use Rattle.command_parts.specs.Lines.{counted, line}
-use Rattle.fz_status.specs.{Refusals.Refusals, Refusals.Refuses, Words.Text, Words.word_at}
-use Rattle.fz_status.specs.declared.status.Status.{Status}
-use Rattle.run_reports.specs.{Inputs.AcceptsInputs, Inputs.input_refusals, Reports.Report, RowLines.begun_lines}
-use Rattle.run_reports.specs.{RowLines.row_lines, CertifiedRun.CertifiedRun, CertifiedRun.Files}
+use Rattle.fz_status.specs.{Words.flags_of, declared.status.Status.Status, Refusals.Refusals, Refusals.Refuses}
+use Rattle.fz_status.specs.{Words.Text, Words.word_at}
+use Rattle.run_reports.specs.{Inputs.AcceptsInputs, Inputs.input_refusals, Reports.Report, CertifiedRun.CertifiedRun}
+use Rattle.run_reports.specs.{Reports.Files}
 use Rattle.run_commands.specs.declared.run.Run.{Run}
 use Rattle.fz_status.specs.declared.status.Status.TheVariants as status
+use Rattle.run_reports.specs.RowLines.{run_lines}
 
 abbrev pub run_with : CertKind → Width → ℕ → Run
 run_with kind width flags = record { kind = kind; width = width; flags = flags }
@@ -39,12 +39,6 @@ files_in contents = record {
   trace = content_at contents 3;
   plan = content_at contents 4;
 }
-
--- ---- its lines
-
--- those with which a run begins, each sample, and the sum
-abbrev pub run_lines : Report → ℕ → List ℕ
-run_lines r left = begun_lines r.errors r.bound ++ (counted row_lines 1 r.rows ++ line (codes "left ") left)
 
 -- ---- what it makes of its files
 

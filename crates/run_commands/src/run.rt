@@ -6,10 +6,9 @@ ghost use Rattle.fz_shelf.specs.Lines.{text_of};
 ghost use Rattle.fz_status.specs.{Refusals.IsRefusal, Words.texts_of};
 ghost use Rattle.command_parts.specs.Contents.{bytes_of};
 ghost use Rattle.command_parts.specs.SeenOutputs.{OutputHasNoFault, OutputsAreOne, IsResultOf};
-ghost use Rattle.run_reports.specs.{Reports.report_of, CertifiedRun.Files, CertifiedRun.left_of};
+ghost use Rattle.run_reports.specs.{Reports.report_of, Reports.Files, Reports.left_of, RowLines.run_lines};
 ghost use Rattle.run_commands.specs.declared.run.Run.{Run as TheRun};
-ghost use Rattle.run_commands.specs.Run.{AcceptedRunsMakeOutput, Accepts, RunMakes, files_in, run_in, run_lines};
-ghost use Rattle.run_commands.specs.Run.{run_refusals};
+ghost use Rattle.run_commands.specs.Run.{AcceptedRunsMakeOutput, Accepts, RunMakes, files_in, run_in, run_refusals};
 
 use alone_runs::laws::answers_under_plans;
 use alone_runs::{Row, run_on};

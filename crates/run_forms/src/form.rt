@@ -1,7 +1,7 @@
 //! Forms of firmware: what a run is given, and what serves its requests.
 ghost use Rattle.std.specs.Prelude.{ℕ, ◌≡◌, ◌<◌, ◌≤◌, ◌+◌, ◌++◌, ◌∷◌, [], true, false, Some, List, length, slice_get};
 ghost use Rattle.std.specs.Prelude.{IsTrue, IfOk};
-ghost use Rattle.cpu12_parts.specs.{Cuts.suspended, Cuts.wav, State.State};
+ghost use Rattle.cpu12_parts.specs.{Parts.suspended, Parts.wav, State.State};
 ghost use Rattle.cpu12_emul.specs.Take.{may_interrupt, frame_of};
 ghost use Rattle.run_forms.specs.{Forms.Harness, Rest.counted_at, Rest.shown_by};
 

@@ -1,22 +1,21 @@
 -- What an interrupt leaves of a state that stands for one of the run without interrupts.
 use Rattle.std.proofs.Common.{◌≡◌, ℕ, ◌+◌, ◌-◌, ◌≤◌, Bool, true, false, not, List, ◌∷◌, ◌++◌, length, refl, ap, sym}
 use Rattle.std.proofs.Common.{◌∙◌, subst, arith, inl, inr, ◌⊎◌, lit≤}
-use Rattle.cpu12_isa.specs.declared.instr.Regs.{Regs}
-use Rattle.cpu12_isa.specs.{Act.write_all, Flags.interrupts_masked, Flags.has, Registers.frame_bytes, Agreement.Agree}
-use Rattle.cpu12_isa.specs.Memory.{plus, placed, from, bytes_at}
+use Rattle.cpu12_isa.specs.{declared.instr.Regs.Regs, Memory.plus, Memory.placed, Memory.from, Memory.bytes_at}
 use Rattle.cpu12_isa.specs.Regions.{stack_start, stack_end, is_hidden, LeavesStack}
+use Rattle.cpu12_isa.specs.{Act.write_all, Flags.interrupts_masked, Flags.has, Registers.frame_bytes, Agreement.Agree}
 use Rattle.cpu12_isa.proofs.Algebra.{agree_with, read_placed, same_bytes}
-use Rattle.cpu12_parts.specs.declared.temps.Temps.{Temps}
+use Rattle.cpu12_parts.specs.{declared.temps.Temps.Temps, State.State, Laws.IsOff, Inside.pushed_sums}
 use Rattle.cpu12_parts.specs.declared.temps.Temps.TheVariants.{Free, Running}
-use Rattle.cpu12_parts.specs.{State.State, Sums.sum_bytes, Cuts.suspended, Cuts.wav, Laws.IsOff, Inside.pushed_sums}
+use Rattle.cpu12_parts.specs.Parts.{sum_bytes, suspended, wav}
 use Rattle.cpu12_parts.proofs.Algebra.{temps_cases}
 use Rattle.cpu12_emul.specs.Take.{FrameSeen, frame_of, frame_in, may_interrupt}
 use Rattle.cpu12_emul.specs.Simulation.{Same, Marks, OnStackOnly, OnStackOrNone, AreMarked, Parked, Simulates}
 use Rattle.cpu12_emul.specs.Simulation.{HasRoom, IsShownStep}
 use Rattle.cpu12_emul.proofs.Algebra.{pushed_marked, marked_off}
 use Rattle.run_law.specs.Forms.{Form, taken, told}
-use Rattle.run_law.specs.{Uninterrupted.frame_on, Uninterrupted.expected_frame, Following.IsToldIn, Steps.MachineLaws}
 use Rattle.run_law.specs.Soundness.{below_sums, Begins, AreLeft, Quiet}
+use Rattle.run_law.specs.{Uninterrupted.frame_on, Uninterrupted.expected_frame, Following.IsToldIn, Steps.MachineLaws}
 use Rattle.run_law.proofs.Grounds.{Ground}
 
 -- which sums a handler may leave

@@ -2,7 +2,7 @@
 -- Reached by the promise.
 use Rattle.std.specs.Prelude.{ℕ, zero, suc, ◌+◌, ◌&&◌, not, nat_le, Bool, true, false, if◌then◌else◌, Result, Ok, Err}
 use Rattle.std.specs.Prelude.{List, [], ◌∷◌, ◌++◌}
-use Rattle.cpu12_parts.specs.{State.State, Cuts.suspended, Cuts.wav}
+use Rattle.cpu12_parts.specs.{State.State, Parts.suspended, Parts.wav}
 use Rattle.cpu12_emul.specs.declared.ends.Stepped.{Stepped}
 use Rattle.cpu12_emul.specs.{Step.Next, Step.next_of, Step.is_part, Take.FrameSeen, Take.frame_of, Take.may_interrupt}
 

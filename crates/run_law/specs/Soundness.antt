@@ -2,9 +2,9 @@
 -- Beside the promise.
 use Rattle.std.specs.Prelude.{◌≡◌, ℕ, ◌+◌, ◌<◌, ◌≤◌, Bool, true, List, [], ◌∷◌}
 use Rattle.cpu12_isa.specs.declared.{instr.Regs.Regs, instr.Write.Write}
-use Rattle.cpu12_isa.specs.{Memory.plus, Agreement.Agree, Fits.FitsRegs}
 use Rattle.cpu12_isa.specs.Regions.{stack_start, stack_end, is_hidden, LeavesStack}
-use Rattle.cpu12_parts.specs.{declared.temps.Temps.Temps, State.State, Cuts.suspended, Cuts.wav, Laws.IsOff}
+use Rattle.cpu12_isa.specs.{Memory.plus, Agreement.Agree, Fits.FitsRegs}
+use Rattle.cpu12_parts.specs.{declared.temps.Temps.Temps, State.State, Parts.suspended, Parts.wav, Laws.IsOff}
 use Rattle.cpu12_parts.specs.declared.temps.Temps.TheVariants.{Free, Running, OnStack}
 use Rattle.cpu12_emul.specs.Take.{may_interrupt, framed}
 use Rattle.cpu12_emul.specs.Simulation.{AreOpen, Same, Marks, OnStackOnly, OnStackOrNone, Simulates, HasRoom}

@@ -3,7 +3,7 @@
 use Rattle.cpu12_isa.specs.{declared.instr.Instr.Instr, Agreement.WritesStay, Code.DecodedHasOpcode, Fits.BytesStay}
 use Rattle.cpu12_isa.specs.declared.instr.Instr.TheVariants.{Rev, Revw, Wav}
 use Rattle.cpu12_isa.specs.Interrupts.{HidesMoreAbove, ShowsFromSp, HidesPushed}
-use Rattle.cpu12_parts.specs.{Cuts.Kind, Cuts.rev, Cuts.revw, Cuts.wav, Fits.PartFits}
+use Rattle.cpu12_parts.specs.{Parts.Kind, Parts.rev, Parts.revw, Parts.wav, Fits.PartFits}
 use Rattle.cpu12_parts.specs.Inside.{own_address, second_byte, GoesOnAt, LeavesSums, WritesNothing, PushesRunning}
 use Rattle.cpu12_parts.specs.Inside.{PushesNone}
 use Rattle.cpu12_parts.specs.Laws.{Any, AreKept, IsSteady, RevIsWhole, RevwIsWhole, WavIsWhole}

@@ -3,7 +3,7 @@
 use Rattle.std.specs.Prelude.{ℕ, zero, suc, ◌+◌, ◌-◌, ◌==◌, ◌&&◌, ◌||◌, not, nat_lt, Bool, true, false, if◌then◌else◌}
 use Rattle.std.specs.Prelude.{Result, Ok, Err, Option, Some, None, List, [], ◌∷◌, ◌++◌}
 use Rattle.cpu12_isa.specs.{Memory.plus, Registers.frame_bytes}
-use Rattle.cpu12_parts.specs.{declared.temps.Temps.Temps, State.State, Sums.sum_bytes}
+use Rattle.cpu12_parts.specs.{declared.temps.Temps.Temps, State.State, Parts.sum_bytes}
 use Rattle.cpu12_parts.specs.declared.temps.Temps.TheVariants.{Free, Running, OnStack}
 use Rattle.cpu12_emul.specs.declared.{ends.Stepped.Stepped, ends.Stepped.TheVariants.Plain}
 use Rattle.cpu12_emul.specs.{Step.Next, Step.next_of, Step.is_part, Take.FrameSeen, Take.may_interrupt}

@@ -6,7 +6,7 @@ use Rattle.std.specs.Prelude.{All, map, if◌then◌else◌, Option, Some, None,
 use Rattle.std.specs.Option.{option_map_or}
 use Rattle.std.proofs.lemmas.Option.{slice_get_within}
 use Rattle.std.proofs.lemmas.List.Elements.{All-take}
-use Rattle.fz_num.specs.{declared.dec.Dec.Dec, Decimals.distance, Fracs.IsClose}
+use Rattle.fz_num.specs.{declared.dec.Dec.Dec, Decimals.distance, Fractions.IsClose}
 use Rattle.fuzzy_meaning.specs.declared.{block.Block.Block, block.Output.Output}
 use Rattle.fuzzy_meaning.specs.{Blocks.AreInputs, Blocks.output_at, Meaning.exact_answer}
 use Rattle.byte_scaling.specs.Cells.{bytes_of, nearest_byte, value_in}
@@ -16,7 +16,7 @@ use Rattle.cpu12_emul.specs.Image.{image_memory}
 use Rattle.alone_code.specs.declared.firmware.Firmware.{Firmware}
 use Rattle.watched_code.specs.Watched.{Watched, is_upset, watched_answer, watched_fault}
 use Rattle.interrupt_plan.specs.declared.upsets.Upset.{Upset}
-use Rattle.alone_runs.specs.Rows.{input_bytes}
+use Rattle.trace_io.specs.Traces.{input_bytes}
 use Rattle.watched_runs.specs.Samples.{change_of, changes_from, with_upsets}
 use Rattle.watched_runs.specs.{Rows.FaultSeen, Answering.AreWatchedRows}
 use Rattle.run_reports.specs.Nearness.{numbers_of}

@@ -5,7 +5,7 @@ use Rattle.std.specs.Prelude.{All, map, option_map, Some, slice_get, slice_index
 use Rattle.std.proofs.lemmas.List.Sums.{fold-append}
 use Rattle.std.proofs.lemmas.Option.{slice_get-map, slice_get_within}
 use Rattle.std.proofs.lemmas.List.Elements.{All-cons, All-take}
-use Rattle.fz_num.specs.{declared.dec.Dec.Dec, Decimals.distance, Fracs.IsClose}
+use Rattle.fz_num.specs.{declared.dec.Dec.Dec, Decimals.distance, Fractions.IsClose}
 use Rattle.fuzzy_meaning.specs.declared.{block.Block.Block, block.Input.Input}
 use Rattle.fuzzy_meaning.specs.{Blocks.AreInputs, Blocks.IsValid, Blocks.IsWithin, Meaning.exact_answer}
 use Rattle.byte_scaling.specs.{Cells.bytes_of, Cells.value_in, Widths.parts, Widths.width_of}
@@ -16,7 +16,8 @@ use Rattle.cert_check.specs.{Acceptance.IsAccepted, Laws.AcceptedAnswersAreNear,
 use Rattle.alone_code.specs.Uninterrupted.{Answer, AreAnswersOf}
 use Rattle.eval_code.specs.Widths.{answer}
 use Rattle.trace_io.specs.{Traces.AreWithin, Traces.Fields, Traces.SpellSamples, declared.sample.Sample.Sample}
-use Rattle.alone_runs.specs.{Answering.answer_of_row, Rows.input_bytes}
+use Rattle.alone_runs.specs.Answering.{answer_of_row}
+use Rattle.trace_io.specs.Traces.{input_bytes}
 use Rattle.run_reports.specs.Nearness.{AnswersAreWithinErrors, IsWithinErrors, numbers_of}
 
 -- ---- the samples

@@ -4,9 +4,9 @@ use Rattle.std.specs.Prelude.{Some, map}
 use Rattle.fuzzy_meaning.specs.declared.block.Input.{Input}
 use Rattle.byte_scaling.specs.Cells.{bytes_of}
 use Rattle.fz_rows.specs.Laws.{FirstRowsAreOne}
-use Rattle.interrupt_plan.specs.{PlanTexts.SpellsRequest, Rows.SpellAll, Rows.count_of, declared.Request.Request}
+use Rattle.interrupt_plan.specs.{Plans.SpellsRequest, Rows.SpellAll, Rows.count_of, declared.Request.Request}
 use Rattle.trace_io.specs.{Traces.Fields, Traces.SpellSamples, declared.sample.Sample.Sample}
-use Rattle.alone_runs.specs.Rows.{input_bytes}
+use Rattle.trace_io.specs.Traces.{input_bytes}
 use Rattle.run_reports.specs.Laws.{SpelledInputsAreOne, SpelledPlansAreOne, SpelledSamplesAreOne}
 
 -- ---- samples

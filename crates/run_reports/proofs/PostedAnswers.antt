@@ -8,7 +8,8 @@ use Rattle.byte_scaling.specs.Cells as cells
 use Rattle.cert_check.specs.Laws.{AcceptedAnswersAreNear}
 use Rattle.alone_code.specs.Uninterrupted.{AreAnswersOf}
 use Rattle.trace_io.specs.{Traces.Fields, Traces.SpellSamples, declared.sample.Sample.Sample}
-use Rattle.alone_runs.specs.Rows.{input_bytes, bytes_of}
+use Rattle.trace_io.specs.Traces.{input_bytes}
+use Rattle.alone_runs.specs.Rows.{bytes_of}
 use Rattle.run_reports.specs.{Nearness.numbers_of, Posted.IsOneOf, Posted.PostedAnswersAreNear, Posted.numbers_at}
 use Rattle.run_reports.proofs.NearRows.{are_inputs, bytes_read, near_answers}
 

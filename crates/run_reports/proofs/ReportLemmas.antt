@@ -12,11 +12,11 @@ use Rattle.eval_code.specs.{Bounds.instruction_bound, Firing.AreInputBytes}
 use Rattle.eval_code.specs.Widths.{answer}
 use Rattle.alone_code.specs.{Uninterrupted.Answer, Uninterrupted.AreAnswersOf, declared.firmware.Firmware.Firmware}
 use Rattle.interrupt_plan.specs.declared.Request.{Request}
-use Rattle.trace_io.specs.Traces.{AreWithin, Fields, SpellSamples, Spells}
+use Rattle.trace_io.specs.Traces.{AreWithin, Fields, SpellSamples, Spells, input_bytes}
 use Rattle.trace_io.specs.declared.sample.Sample.{Sample}
 use Rattle.run_law.specs.Forms.{RowSeen}
 use Rattle.alone_runs.specs.Answering.{AnswersItsBlock, AnswersUnder, answer_of_row}
-use Rattle.alone_runs.specs.Rows.{firmware_rows, input_bytes}
+use Rattle.alone_runs.specs.Rows.{firmware_rows}
 use Rattle.run_reports.specs.Nearness.{AnswersAreWithinErrors, AreWithinErrors}
 use Rattle.run_reports.specs.Reports.{IsReportOf, report_of}
 use Rattle.command_parts.specs.Firmwares.{GivesFirmware}

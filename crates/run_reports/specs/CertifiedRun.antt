@@ -1,29 +1,17 @@
 -- The certified run: what the program's answer to `run`, `run16`, `trun` and `trun16` says.
--- Reached by the promise.
-use Rattle.std.specs.Prelude.{◌≡◌, ℕ, ◌-◌, List, drop, map, sum, take}
-use Rattle.cpu12_isa.specs.Regions.{free_start, stack_end}
+-- Beside the promise.
+use Rattle.std.specs.Prelude.{◌≡◌, ℕ, List, map}
 use Rattle.fuzzy_meaning.specs.declared.block.Block.{Block}
 use Rattle.alone_code.specs.declared.firmware.Firmware.{Firmware}
 use Rattle.box_tree.specs.declared.cert.CertKind.{CertKind}
 use Rattle.byte_scaling.specs.declared.width.Width.{Width}
 use Rattle.srecord.specs.Texts.{GivesImage}
 use Rattle.trace_io.specs.{Traces.Spells as SpellsTrace, declared.sample.Sample.Sample}
-use Rattle.interrupt_plan.specs.{PlanTexts.Spells as SpellsPlan, declared.Request.Request}
-use Rattle.alone_runs.specs.Rows.{firmware_rows, input_bytes}
+use Rattle.interrupt_plan.specs.{Plans.Spells as SpellsPlan, declared.Request.Request}
+use Rattle.alone_runs.specs.Rows.{firmware_rows}
+use Rattle.trace_io.specs.Traces.{input_bytes}
 use Rattle.command_parts.specs.{Certs.AcceptsCert, Firmwares.GivesFirmware}
-use Rattle.run_reports.specs.Reports.{IsReportOf, Report}
-
--- the contents of the five files
-pub record Files : Type 0 where
-  pub fcl : List ℕ
-  pub image : List ℕ
-  pub cert : List ℕ
-  pub trace : List ℕ
-  pub plan : List ℕ
-
--- the sum of the bytes from the first free one to the end of the stack
-abbrev pub left_of : List ℕ → ℕ
-left_of memory = sum (take (stack_end - free_start) (drop free_start memory))
+use Rattle.run_reports.specs.Reports.{IsReportOf, Report, Files, left_of}
 
 -- Compile accepts the FCL text, IMAGE holds exactly its firmware's image, the checker accepts the certificate, the
 -- trace spells samples within their inputs' ranges, and the plan interrupts that write only free bytes. The report is

@@ -8,7 +8,7 @@ use Rattle.cert_check.specs.Acceptance.{IsAccepted}
 use Rattle.alone_code.specs.declared.firmware.Firmware.{Firmware}
 use Rattle.interrupt_plan.specs.declared.upsets.Upset.{Upset}
 use Rattle.trace_io.specs.{Traces.Spells, declared.sample.Sample.Sample}
-use Rattle.alone_runs.specs.Rows.{input_bytes}
+use Rattle.trace_io.specs.Traces.{input_bytes}
 use Rattle.watched_runs.specs.{Samples.with_upsets, Rows.FaultSeen, Answering.AreWatchedRows}
 use Rattle.run_reports.specs.Nearness.{numbers_of, IsWithinErrors}
 

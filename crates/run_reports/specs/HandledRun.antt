@@ -6,9 +6,9 @@ use Rattle.fuzzy_meaning.specs.declared.block.Block.{Block}
 use Rattle.alone_code.specs.declared.firmware.Firmware.{Firmware}
 use Rattle.box_tree.specs.declared.cert.CertKind.TheVariants.{Named}
 use Rattle.byte_scaling.specs.declared.width.Width.TheVariants.{Byte}
-use Rattle.interrupt_plan.specs.{PlanTexts.Spells as SpellsPlan, declared.Request.Request}
+use Rattle.interrupt_plan.specs.{Plans.Spells as SpellsPlan, declared.Request.Request}
 use Rattle.trace_io.specs.{Traces.Spells as SpellsTrace, declared.sample.Sample.Sample}
-use Rattle.alone_runs.specs.Rows.{input_bytes}
+use Rattle.trace_io.specs.Traces.{input_bytes}
 use Rattle.handled_runs.specs.{Answering.AnswersHandled, Forms.HandledSeen, Forms.handled_seen}
 use Rattle.command_parts.specs.{Certs.AcceptsCert, Firmwares.GivesFirmware, Handlers.GivesHandler}
 use Rattle.run_reports.specs.{Inputs.AcceptsInputs, Reports.IsReportOf, Reports.Report}

@@ -7,10 +7,11 @@ use Rattle.cert_check.specs.Acceptance.{IsAccepted}
 use Rattle.eval_code.specs.Firing.{AreInputBytes}
 use Rattle.byte_scaling.specs.{Widths.parts, declared.width.Width.Width}
 use Rattle.alone_code.specs.{Uninterrupted.Answer, Uninterrupted.AreAnswersOf, declared.firmware.Firmware.Firmware}
-use Rattle.interrupt_plan.specs.{PlanTexts.Spells as SpellsPlan, declared.Request.Request}
+use Rattle.interrupt_plan.specs.{Plans.Spells as SpellsPlan, declared.Request.Request}
 use Rattle.trace_io.specs.{Traces.Spells as SpellsTrace, declared.sample.Sample.Sample}
 use Rattle.run_law.specs.Forms.{RowSeen}
-use Rattle.alone_runs.specs.{Answering.AnswersItsBlock, Rows.firmware_rows, Rows.input_bytes}
+use Rattle.alone_runs.specs.{Answering.AnswersItsBlock, Rows.firmware_rows}
+use Rattle.trace_io.specs.Traces.{input_bytes}
 use Rattle.fz_status.specs.declared.status.Status.{Status}
 use Rattle.command_parts.specs.Firmwares.{GivesFirmware}
 use Rattle.run_reports.specs.Inputs.{AcceptsInputs, input_refusals, sample_refusals}

@@ -8,7 +8,7 @@ use Rattle.box_tree.specs.declared.cert.CertKind.TheVariants.{Named}
 use Rattle.srecord.specs.Texts.{GivesImage}
 use Rattle.trace_io.specs.{Traces.Spells as SpellsTrace, declared.sample.Sample.Sample}
 use Rattle.interrupt_plan.specs.{Levels.SpellsLevels, declared.levels.Level.Level}
-use Rattle.alone_runs.specs.Rows.{input_bytes}
+use Rattle.trace_io.specs.Traces.{input_bytes}
 use Rattle.two_level_code.specs.{Images.fast_most, declared.two.Two.Two}
 use Rattle.two_level_runs.specs.Answering.{AnswersAtTwoLevels, answer_of_fast, fast_runs, plan_of}
 use Rattle.two_level_runs.specs.Rows.{TwoSeen, two_seen}

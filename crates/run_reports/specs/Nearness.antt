@@ -1,7 +1,7 @@
 -- Answers within the errors of a certificate.
 -- Reached by the promise.
 use Rattle.std.specs.Prelude.{◌≡◌, ℕ, ◌+◌, ◌-◌, ◌≤◌, List, map, take, Some, slice_get, slice_index}
-use Rattle.fz_num.specs.{declared.dec.Dec.Dec, Decimals.distance, Fracs.IsClose}
+use Rattle.fz_num.specs.{declared.dec.Dec.Dec, Decimals.distance, Fractions.IsClose}
 use Rattle.fuzzy_meaning.specs.declared.{block.Block.Block, block.Output.Output}
 use Rattle.fuzzy_meaning.specs.{Blocks.IsValid, Blocks.output_at, Meaning.exact_answer}
 use Rattle.byte_scaling.specs.{Cells.value_in, Widths.parts, Widths.width_of}
@@ -10,7 +10,8 @@ use Rattle.cert_check.specs.Acceptance.{IsAccepted}
 use Rattle.alone_code.specs.declared.firmware.Firmware.{Firmware}
 use Rattle.trace_io.specs.{Traces.Spells, declared.sample.Sample.Sample}
 use Rattle.run_law.specs.Forms.{RowSeen}
-use Rattle.alone_runs.specs.{Answering.AnswerBlock, Rows.input_bytes}
+use Rattle.alone_runs.specs.Answering.{AnswerBlock}
+use Rattle.trace_io.specs.Traces.{input_bytes}
 
 -- the numbers of the inputs
 abbrev pub numbers_of : List Sample → List (List Dec)

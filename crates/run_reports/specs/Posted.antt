@@ -9,7 +9,8 @@ use Rattle.cert_check.specs.Acceptance.{IsAccepted}
 use Rattle.alone_code.specs.Uninterrupted.{Answer, AreAnswersOf}
 use Rattle.byte_scaling.specs.{Widths.parts, declared.width.Width.Width}
 use Rattle.trace_io.specs.{Traces.Spells, declared.sample.Sample.Sample}
-use Rattle.alone_runs.specs.Rows.{input_bytes, bytes_of}
+use Rattle.trace_io.specs.Traces.{input_bytes}
+use Rattle.alone_runs.specs.Rows.{bytes_of}
 use Rattle.run_reports.specs.Nearness.{numbers_of, IsWithinErrors}
 
 -- the numbers of the inputs of sample k, counted from 1

@@ -9,7 +9,7 @@ use Rattle.byte_scaling.specs.declared.width.Width.TheVariants.{Byte}
 use Rattle.srecord.specs.Texts.{GivesImage}
 use Rattle.trace_io.specs.{Traces.Spells as SpellsTrace, declared.sample.Sample.Sample}
 use Rattle.interrupt_plan.specs.{Posts.SpellsPosts, declared.Post.Post}
-use Rattle.alone_runs.specs.Rows.{input_bytes}
+use Rattle.trace_io.specs.Traces.{input_bytes}
 use Rattle.mailbox_runs.specs.{Answering.AnswersUnderPosts, Answering.answer_in, Turns.waiting}
 use Rattle.mailbox_runs.specs.Runs.{AnswerSeen, RunSeen, run_under_posts}
 use Rattle.run_reports.specs.Posted.{ArePostedWithinErrors}

@@ -5,11 +5,21 @@ use Rattle.fuzzy_meaning.specs.declared.block.Block.{Block}
 use Rattle.eval_code.specs.Bounds.{instruction_bound}
 use Rattle.byte_scaling.specs.{Widths.parts, declared.width.Width.Width}
 use Rattle.alone_code.specs.declared.firmware.Firmware.{Firmware}
-use Rattle.trace_io.specs.declared.sample.Sample.{Sample}
+use Rattle.trace_io.specs.{declared.sample.Sample.Sample, Traces.input_bytes}
 use Rattle.interrupt_plan.specs.declared.Request.{Request}
 use Rattle.run_law.specs.Forms.{RowSeen}
-use Rattle.alone_runs.specs.{Answering.AnswersUnder, Rows.firmware_rows, Rows.input_bytes}
+use Rattle.alone_runs.specs.{Answering.AnswersUnder, Rows.firmware_rows}
 use Rattle.run_reports.specs.Nearness.{AreWithinErrors}
+use Rattle.std.specs.Prelude.{◌-◌, drop, sum, take}
+use Rattle.cpu12_isa.specs.Regions.{free_start, stack_end}
+
+-- the contents of the five files of a run
+pub record Files : Type 0 where
+  pub fcl : List ℕ
+  pub image : List ℕ
+  pub cert : List ℕ
+  pub trace : List ℕ
+  pub plan : List ℕ
 
 -- what is told of a run: an error for each output, in millionths of its range, the bound on instructions, and a row for
 -- each sample
@@ -32,3 +42,7 @@ pub record IsReportOf (width : Width) (flags : ℕ) (block : Block) (firmware : 
   pub bound : report.bound ≡ instruction_bound width block
   pub instructions : All (λ row. row.instrs ≤ report.bound) report.rows
   pub follows : AnswersUnder block firmware flags (map input_bytes samples) plan report.rows
+
+-- the sum of the bytes from the first free one to the end of the stack
+abbrev pub left_of : List ℕ → ℕ
+left_of memory = sum (take (stack_end - free_start) (drop free_start memory))

@@ -3,10 +3,11 @@
 use Rattle.std.specs.Prelude.{ℕ, List, [], ◌∷◌, ◌++◌, codes, decimal, length}
 use Rattle.std.specs.List.{flat_map}
 use Rattle.cpu12_emul.specs.Take.{FrameSeen}
-use Rattle.fz_shelf.specs.Parts.{address_digits}
+use Rattle.fz_shelf.specs.Parts.{address_digits, newline}
 use Rattle.run_law.specs.Forms.{RowSeen}
-use Rattle.fz_status.specs.{FaultLines.newline, Words.Text}
+use Rattle.fz_status.specs.Words.{Text}
 use Rattle.command_parts.specs.Lines.{counted, error_line, line}
+use Rattle.run_reports.specs.Reports.{Report}
 
 -- numbers, with a blank before each
 abbrev pub numbers : List ℕ → List ℕ
@@ -51,3 +52,9 @@ labelled_row_lines label k r n = row_lines_with k r (line label n)
 -- the errors and the bound on instructions, with which the lines of a run begin
 abbrev pub begun_lines : List ℕ → ℕ → List ℕ
 begun_lines errors bound = counted error_line 1 errors ++ line (codes "instructions ") bound
+
+-- ---- the lines of `run`
+
+-- those with which a run begins, each sample, and the sum
+abbrev pub run_lines : Report → ℕ → List ℕ
+run_lines r left = begun_lines r.errors r.bound ++ (counted row_lines 1 r.rows ++ line (codes "left ") left)

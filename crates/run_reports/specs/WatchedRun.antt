@@ -8,9 +8,9 @@ use Rattle.box_tree.specs.declared.cert.CertKind.TheVariants.{Named}
 use Rattle.byte_scaling.specs.declared.width.Width.TheVariants.{Byte}
 use Rattle.srecord.specs.Texts.{GivesImage}
 use Rattle.trace_io.specs.{Traces.Spells as SpellsTrace, declared.sample.Sample.Sample}
-use Rattle.interrupt_plan.specs.{PlanTexts.Spells as SpellsPlan, UpsetTexts.SpellsUpsets}
+use Rattle.interrupt_plan.specs.{Plans.Spells as SpellsPlan, UpsetTexts.SpellsUpsets}
 use Rattle.interrupt_plan.specs.declared.{Request.Request, upsets.Upset.Upset}
-use Rattle.alone_runs.specs.Rows.{input_bytes}
+use Rattle.trace_io.specs.Traces.{input_bytes}
 use Rattle.watched_runs.specs.{Answering.AnswersUnderUpsets, Rows.FaultSeen, Rows.faults_of, Rows.upset_rows}
 use Rattle.run_reports.specs.Faultless.{FaultlessAreWithinErrors}
 use Rattle.command_parts.specs.{Certs.AcceptsCert, Firmwares.GivesWatched}

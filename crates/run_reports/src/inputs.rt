@@ -2,7 +2,7 @@
 ghost use Rattle.std.specs.Prelude.{◌≤◌, length, IfOk, IfErr};
 ghost use Rattle.std.specs.List.{All};
 ghost use Rattle.fuzzy_meaning.specs.Blocks.{IsValid};
-ghost use Rattle.interrupt_plan.specs.PlanTexts.{Spells as SpellsPlan};
+ghost use Rattle.interrupt_plan.specs.Plans.{Spells as SpellsPlan};
 ghost use Rattle.trace_io.specs.Traces.{Spells};
 ghost use Rattle.fz_status.specs.Refusals.{IsRefusal};
 ghost use Rattle.command_parts.specs.Contents.{bytes_of, content_at};

@@ -5,8 +5,7 @@ use Rattle.std.proofs.Math.Seq.{take-append_seam, drop-append_seam}
 use Rattle.std.proofs.lemmas.Bool.{cases_lt, cases_eq}
 use Rattle.std.specs.Str.Lines.{lines}
 use Rattle.srecord.specs.declared.{fault.SrecFault.SrecFault, fault.SrecFault.TheVariants.BadSum, fields.Kind.Kind}
-use Rattle.srecord.specs.Records.{body_of, checksum_of}
-use Rattle.srecord.specs.Lines.{FieldsFail, OpeningFails, bad_sum, unopened, unread, wide}
+use Rattle.srecord.specs.Lines.{body_of, checksum_of, FieldsFail, OpeningFails, bad_sum, unopened, unread, wide}
 use Rattle.srecord.specs.Texts.{Give, Given, HasFault, LineFails, RecordFails, after_end, at_line, count_differs}
 use Rattle.srecord.specs.Texts.{fields_fail, no_end, opening_fails, overlap, record_fails}
 use Rattle.srecord.proofs.FieldLemmas.{same_body, same_sum}

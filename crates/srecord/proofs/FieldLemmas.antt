@@ -6,9 +6,9 @@ use Rattle.std.proofs.lemmas.List.{take_rest, take-append-drop}
 use Rattle.std.proofs.Math.Seq.{drop-append_seam, take-append_seam}
 use Rattle.hex.specs.{Hex.decode_of, declared.error.FromHexError.FromHexError}
 use Rattle.srecord.specs.declared.fault.SrecFault.TheVariants.{BadLine, BadSum}
-use Rattle.srecord.specs.{declared.fields.Kind.Kind, Records.body_of, Records.checksum_of}
-use Rattle.srecord.specs.Lines.{BeginsWide, FieldsFail, FitsKind, OpeningFails, is_wide, kind_of, parts_of, bad_sum}
-use Rattle.srecord.specs.Lines.{unopened, unread}
+use Rattle.srecord.specs.declared.fields.Kind.{Kind}
+use Rattle.srecord.specs.Lines.{body_of, checksum_of, BeginsWide, FieldsFail, FitsKind, OpeningFails, is_wide}
+use Rattle.srecord.specs.Lines.{kind_of, parts_of, bad_sum, unopened, unread}
 
 pub no_parts : (line : List ℕ) (n : ℕ) → parts_of line ≡ None → OpeningFails line n (BadLine n)
 no_parts line n none = unopened (λ w. (let some = w.parts in cc)) (λ kind bytes o. (let some = o.parts in cc))

@@ -9,15 +9,14 @@ use Rattle.std.specs.Str.Lines.{lines}
 use Rattle.hex.specs.{Hex.decode_of, declared.error.FromHexError.FromHexError}
 use Rattle.cpu12_asm.specs.{Bytes.byte_at, Bytes.placed, declared.image.Image.Image}
 use Rattle.srecord.specs.declared.{fault.SrecFault.SrecFault, fields.Kind.Kind}
-use Rattle.srecord.specs.declared.fault.SrecFault.TheVariants.{AfterEnd, BadLine, BadSum, CountDiffers, NoEnd}
-use Rattle.srecord.specs.declared.fault.SrecFault.TheVariants.{Overlap, Wide}
-use Rattle.srecord.specs.declared.fields.Kind.TheVariants.{Header, Bytes, Count, Start}
-use Rattle.srecord.specs.Records.{body_of, checksum_of}
-use Rattle.srecord.specs.Lines.{FieldsFail, FitsKind, HasGoodFields, Opens, OpeningFails, is_wide, kind_of, parts_of}
-use Rattle.srecord.specs.Lines.{unread, wide}
+use Rattle.srecord.specs.Lines.{body_of, checksum_of, FieldsFail, FitsKind, HasGoodFields, Opens, OpeningFails}
+use Rattle.srecord.specs.Lines.{is_wide, kind_of, parts_of, unread, wide}
 use Rattle.srecord.specs.Texts.{Give, Given, GivesImage, HasFault, IsRecord, LineFails, MayFollow, RecordFails}
 use Rattle.srecord.specs.Texts.{after_end, at_line, count_differs, fields_fail, given_with, more, no_end, none}
 use Rattle.srecord.specs.Texts.{nothing_given, opening_fails, overlap, record_fails, with_bytes}
+use Rattle.srecord.specs.declared.fault.SrecFault.TheVariants.{AfterEnd, BadLine, BadSum, CountDiffers, NoEnd}
+use Rattle.srecord.specs.declared.fault.SrecFault.TheVariants.{Overlap, Wide}
+use Rattle.srecord.specs.declared.fields.Kind.TheVariants.{Header, Bytes, Count, Start}
 use Rattle.srecord.proofs.FieldLemmas.{are_fields, is_body, is_counted, no_bytes, no_kind, no_parts, only_fields}
 use Rattle.srecord.proofs.FieldLemmas.{payload_in, wrong_sum}
 use Rattle.srecord.proofs.WrittenBytes.{byte_at-placed_then}

@@ -8,9 +8,8 @@ use Rattle.std.specs.Str.Lines.{lines}
 use Rattle.hex.specs.Hex.{decode_of}
 use Rattle.cpu12_asm.specs.{Bytes.byte_at, declared.image.Image.Image}
 use Rattle.srecord.specs.declared.{fault.SrecFault.SrecFault, fields.Kind.Kind}
-use Rattle.srecord.specs.Records.{body_of, checksum_of}
-use Rattle.srecord.specs.Lines.{FieldsFail, HasFields, Opens, OpeningFails, bad_sum, is_wide, kind_of, parts_of}
-use Rattle.srecord.specs.Lines.{unopened, unread, wide}
+use Rattle.srecord.specs.Lines.{body_of, checksum_of, FieldsFail, HasFields, Opens, OpeningFails, bad_sum, is_wide}
+use Rattle.srecord.specs.Lines.{kind_of, parts_of, unopened, unread, wide}
 use Rattle.srecord.specs.Texts.{Give, Given, GivesImage, HasFault, IsRecord, LineFails, MayFollow, RecordFails}
 use Rattle.srecord.specs.Texts.{after_end, at_line, count_differs, fields_fail, given_with, more, no_end, none}
 use Rattle.srecord.specs.Texts.{nothing_given, opening_fails, overlap, record_fails}

@@ -8,7 +8,7 @@ use Rattle.std.proofs.lemmas.List.{length-map, length-take-le}
 use Rattle.hex.specs.Hex.{IsBytes}
 use Rattle.cpu12_asm.specs.Bytes.{placed}
 use Rattle.srecord.specs.Images.{AreCut, IsPiece, Piece, StartsAt, data_text, next, none}
-use Rattle.srecord.specs.{Records.record_text, Runs.IsRun, Runs.address_at, Runs.bytes_only}
+use Rattle.srecord.specs.{Lines.record_text, Runs.IsRun, Runs.address_at, Runs.bytes_only}
 
 run-snoc : (at : ℕ) (bytes : List (ℕ × ℕ)) (b : ℕ × ℕ) → IsRun at bytes → b.0 ≡ at + length bytes
     → IsRun at (bytes ++ b ∷ [])

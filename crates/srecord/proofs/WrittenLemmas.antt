@@ -8,7 +8,7 @@ use Rattle.std.specs.Str.Lines.{lines}
 use Rattle.cpu12_asm.specs.{Bytes.IsAscending, Bytes.byte_at, Bytes.placed, declared.image.Image.Image}
 use Rattle.srecord.specs.declared.fields.Kind.TheVariants.{Header, Bytes, Count, Start}
 use Rattle.srecord.specs.Images.{AreCut, ImageText, Piece, StartsAt, data_text, next, none as nothing_cut}
-use Rattle.srecord.specs.Records.{record_text}
+use Rattle.srecord.specs.Lines.{record_text}
 use Rattle.srecord.specs.Texts.{Give, Given, GivesImage, IsFree, given_with, more, none as nothing_yet, nothing_given}
 use Rattle.srecord.specs.Texts.{with_bytes}
 use Rattle.srecord.proofs.WrittenBytes.{RiseFrom, byte_at-placed_then, none_below, rise, rise_behind}

@@ -10,7 +10,7 @@ use Rattle.std.specs.Str.Lines.{lines, lines_of_parts, strip_carriage_return}
 use Rattle.hex.specs.Hex.{IsBytes, encode_upper, encode_with, hex_digit_value, upper_digits}
 use Rattle.hex.proofs.HexLemmas.{IsDigits-upper_digits, decode_of-encode_upper}
 use Rattle.srecord.specs.{declared.fields.Kind.Kind, Lines.FitsKind, Lines.kind_of, Texts.IsRecord}
-use Rattle.srecord.specs.Records.{body_of, checksum_of, record_text}
+use Rattle.srecord.specs.Lines.{body_of, checksum_of, record_text}
 use Rattle.srecord.proofs.LineLemmas.{first_ends, parts}
 
 abbrev pub AreBytes : List ℕ → Type 0

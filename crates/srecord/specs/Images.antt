@@ -3,7 +3,7 @@
 use Rattle.std.specs.Prelude.{◌≡◌, ◌⊎◌, ℕ, ◌+◌, ◌<◌, ◌≤◌, List, [], ◌∷◌, ◌++◌, length, codes}
 use Rattle.cpu12_asm.specs.Bytes.{placed}
 use Rattle.hex.specs.Hex.{IsBytes}
-use Rattle.srecord.specs.Records.{record_text}
+use Rattle.srecord.specs.Lines.{record_text}
 
 -- the bytes of one record, and the address of the first
 pub record Piece : Type 0 where

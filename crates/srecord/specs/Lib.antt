@@ -1,4 +1,3 @@
-pub mod Records
 pub mod Images
 pub mod Runs
 pub mod Lines

@@ -1,4 +1,4 @@
--- The fields of one line, and what is wrong with one that has none.
+-- One record, the fields of one line, and what is wrong with a line that has none.
 -- Reached by the promise.
 use Rattle.std.specs.Prelude.{◌≡◌, ◌≢◌, ℕ, ◌+◌, ◌≤◌, ◌==◌, ◌||◌, Bool, true, if◌then◌else◌, List, [], ◌∷◌, ◌++◌, length}
 use Rattle.std.specs.Prelude.{Option, Some, None, Ok}
@@ -6,7 +6,22 @@ use Rattle.hex.specs.Hex.{decode_of}
 use Rattle.srecord.specs.declared.{fault.SrecFault.SrecFault, fields.Kind.Kind}
 use Rattle.srecord.specs.declared.fault.SrecFault.TheVariants.{BadLine, BadSum, Wide}
 use Rattle.srecord.specs.declared.fields.Kind.TheVariants.{Header, Bytes, Count, Start}
-use Rattle.srecord.specs.Records.{body_of, checksum_of}
+use Rattle.std.specs.Prelude.{◌-◌, ◌/◌, ◌%◌, sum, codes}
+use Rattle.hex.specs.Hex.{encode_upper}
+
+-- how many bytes follow, an address, and bytes
+abbrev pub body_of : ℕ → List ℕ → List ℕ
+body_of address bytes = (length bytes + 3) ∷ address / 256 ∷ address % 256 ∷ bytes
+
+-- the one's complement of the low byte of the sum
+abbrev pub checksum_of : List ℕ → ℕ
+checksum_of body = 255 - sum body % 256
+
+-- the record of a digit, which is its kind, with its body and the checksum in hexadecimal
+abbrev pub record_text : ℕ → ℕ → List ℕ → List ℕ
+record_text digit address bytes =
+    codes "S"
+    ++ (digit ∷ (encode_upper (body_of address bytes ++ checksum_of (body_of address bytes) ∷ []) ++ codes "\n"))
 
 -- the letter S in either case
 abbrev pub is_letter : ℕ → Bool

@@ -1,9 +1,8 @@
 //! The fields of a line.
 ghost use Rattle.std.specs.Prelude.{◌≡◌, ◌≢◌, ◌+◌, ◌↔◌, ◌++◌, ℕ, List, [], ◌∷◌, sum, MatchOption, MatchResult, IsTrue};
 ghost use Rattle.std.specs.Prelude.{Some, None};
-ghost use Rattle.srecord.specs.Records.{body_of, checksum_of};
-ghost use Rattle.srecord.specs.Lines.{FieldsFail, FitsKind, HasGoodFields, Opens, OpeningFails, is_wide, kind_of};
-ghost use Rattle.srecord.specs.Lines.{parts_of};
+ghost use Rattle.srecord.specs.Lines.{body_of, checksum_of, FieldsFail, FitsKind, HasGoodFields, Opens, OpeningFails};
+ghost use Rattle.srecord.specs.Lines.{is_wide, kind_of, parts_of};
 
 use crate::fault::SrecFault;
 use crate::records::checksum;

@@ -2,7 +2,7 @@
 ghost use Rattle.std.specs.Prelude.{◌≡◌, ◌≤◌, ◌<◌, ◌+◌, ◌⊎◌, ◌++◌, List, length, take, drop, IfOk, OnOk};
 ghost use Rattle.hex.specs.Hex.{IsBytes};
 ghost use Rattle.srecord.specs.Images.{AreCut, Piece, StartsAt, data_text};
-ghost use Rattle.srecord.specs.{Records.record_text, Runs.IsRun, Runs.address_at, Runs.bytes_only};
+ghost use Rattle.srecord.specs.{Lines.record_text, Runs.IsRun, Runs.address_at, Runs.bytes_only};
 
 use crate::records::put_record;
 use arrayvec::ArrayVec;

@@ -1,7 +1,7 @@
 //! The text of one record.
 ghost use Rattle.std.specs.Prelude.{◌≡◌, ◌≤◌, ◌++◌, length, sum, OnOk};
 ghost use Rattle.hex.specs.Hex.{IsBytes};
-ghost use Rattle.srecord.specs.Records.{body_of, checksum_of, record_text};
+ghost use Rattle.srecord.specs.Lines.{body_of, checksum_of, record_text};
 
 use arrayvec::ArrayVec;
 use std::alloc::{AllocError, Global};

@@ -5,7 +5,8 @@ use Rattle.fz_shelf.specs.Told.{Taken}
 use Rattle.fz_status.specs.{Codes.code_of, Errors.Complains, Errors.error_line_of, Words.Text}
 use Rattle.fz_status.specs.declared.status.Status.{Status}
 use Rattle.fz_status.specs.declared.status.Status.TheVariants as status
-use Rattle.fz_top.specs.Runs.{Runs, world}
+use Rattle.fz_top.specs.Runs.{Runs}
+use Rattle.fz_shelf.specs.Told.{world}
 use Rattle.test_program_calls.specs.Calls.{Called, Told, nothing_taken}
 
 pub called : (words : List Text) (old new : Told) (out out' err err' : Option Taken) (faults faults' lost lost' : ℕ)

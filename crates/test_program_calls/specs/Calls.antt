@@ -2,11 +2,12 @@
 -- Beside the promise.
 use Rattle.std.specs.Prelude.{◌≡◌, ℕ, List, [], map, Option, Some}
 use Rattle.std.specs.Borrow.{Bor}
-use Rattle.fz_shelf.specs.{Files.Names, Log.Log, Reading.Counts, Told.Taken}
+use Rattle.fz_shelf.specs.{Files.Names, Told.Log, Told.Counts, Told.Taken}
 use Rattle.fz_status.specs.{Codes.code_of, Errors.Complains, Errors.error_line_of, Words.Text}
 use Rattle.fz_status.specs.declared.status.Status.{Status}
 use Rattle.fz_status.specs.declared.status.Status.TheVariants as status
-use Rattle.fz_top.specs.Runs.{Runs, world}
+use Rattle.fz_top.specs.Runs.{Runs}
+use Rattle.fz_shelf.specs.Told.{world}
 use Rattle.test_program_calls.specs.{Lefts.IsFirstDifference, Lefts.Leaves, declared.difference.Difference.Difference}
 use Rattle.test_program_calls.specs.declared.difference.Difference.TheVariants as difference
 use Rattle.test_program_calls.specs.declared.left.Left.{Left}

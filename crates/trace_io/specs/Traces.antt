@@ -83,3 +83,7 @@ pub record HasFault (inputs : List Input) (text : List ℕ) (fault : TraceFault)
   pub rows : List Fields
   pub first : AreFirstRows text rows
   pub fault_is : FirstFault inputs rows fault
+
+-- the bytes of its inputs, as firmware is given them
+abbrev pub input_bytes : Sample → List ℕ
+input_bytes s = s.bytes.items

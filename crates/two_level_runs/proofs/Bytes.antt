@@ -2,8 +2,9 @@
 use Rattle.std.proofs.Common.{◌≡◌, ℕ, ◌^◌, ◌<◌, Bool, List, [], ◌∷◌, refl, ap, sym, subst, inl, inr, arith}
 use Rattle.cpu12_isa.specs.{declared.instr.Regs.Regs, Memory.plus, Memory.placed, Registers.frame_bytes}
 use Rattle.cpu12_isa.specs.Fits.{FitsRegs, FitsWrites, AreBytes, BytesStay}
-use Rattle.cpu12_parts.specs.{declared.temps.Temps.Temps, State.State, Sums.sum_bytes, Cuts.suspended, Cuts.wav}
+use Rattle.cpu12_parts.specs.declared.temps.Temps.{Temps}
 use Rattle.cpu12_parts.specs.declared.temps.Temps.TheVariants.{Free, Running, OnStack}
+use Rattle.cpu12_parts.specs.{State.State, Parts.sum_bytes, Parts.suspended, Parts.wav}
 use Rattle.cpu12_parts.specs.{Fits.FitsTemps, Fits.FitsState, Inside.PushesRunning, Inside.PushesNone}
 use Rattle.cpu12_emul.specs.{Fits.StepFits, Step.Next, Take.framed}
 use Rattle.cpu12_emul.specs.Simulation.{OnStackOrNone, Simulates, AreSumsReady, HasRoom, IsShownStep, StepKeeps}

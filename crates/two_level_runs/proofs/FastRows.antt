@@ -8,8 +8,7 @@ use Rattle.std.proofs.lemmas.Option.{slice_get_past}
 use Rattle.cpu12_isa.specs.Memory.{from, bytes_at}
 use Rattle.cpu12_parts.specs.State.{State}
 use Rattle.run_law.specs.Forms.{Ran}
-use Rattle.trace_io.specs.declared.sample.Sample.{Sample}
-use Rattle.alone_runs.specs.Rows.{input_bytes}
+use Rattle.trace_io.specs.{declared.sample.Sample.Sample, Traces.input_bytes}
 use Rattle.two_level_code.specs.MemoryMaps.{fast_map}
 use Rattle.arrayvec.specs.ArrayVec.{ArrayVec}
 use Rattle.run_forms.specs.{declared.sample.Tally.Tally, Rest.Brief, Rest.brief, Rest.counted_at}

@@ -2,13 +2,13 @@
 use Rattle.std.proofs.Common.{◌≡◌, ℕ, suc, ◌+◌, ◌-◌, ◌^◌, ◌<◌, Bool, false, Result, Ok, List, [], ◌∷◌, length, refl, ap}
 use Rattle.std.proofs.Common.{sym, ◌∙◌, subst, inl, inr, arith}
 use Rattle.cpu12_isa.specs.declared.{instr.Instr.Instr, instr.Instr.TheVariants.Rev, instr.Instr.TheVariants.Revw}
-use Rattle.cpu12_isa.specs.{Act.read_by, Agreement.AllShown, Code.six_from, Flags.interrupts_masked, Flags.has}
 use Rattle.cpu12_isa.specs.Meaning.{Effect, act_of, effect}
+use Rattle.cpu12_isa.specs.{Act.read_by, Agreement.AllShown, Code.six_from, Flags.interrupts_masked, Flags.has}
 use Rattle.cpu12_isa.proofs.Algebra.{shown_append}
-use Rattle.cpu12_parts.specs.{declared.temps.Temps.TheVariants.Free, State.State, Cuts.rev, Cuts.revw, Cuts.wav}
+use Rattle.cpu12_parts.specs.{declared.temps.Temps.TheVariants.Free, State.State, Parts.rev, Parts.revw, Parts.wav}
+use Rattle.cpu12_parts.specs.Rules.{rev_form, revw_form, rules_read, rules_written}
 use Rattle.cpu12_parts.specs.{Executions.Execution, Executions.all_steps, Laws.IsOff, Laws.addresses, Laws.PartsTo}
 use Rattle.cpu12_parts.specs.{Averages.wav_read, Touching.IsInstructionOver, Touching.IsPlainOver, Whole.IsPlainStep}
-use Rattle.cpu12_parts.specs.Rules.{rev_form, revw_form, rules_read, rules_written}
 use Rattle.cpu12_emul.specs.declared.ends.Stepped.TheVariants.{Plain}
 use Rattle.cpu12_emul.specs.Step.{Left, Next, applied, next_of}
 use Rattle.eval_code.specs.Evaluation.{Reads, Writes}

@@ -2,21 +2,20 @@
 use Rattle.std.proofs.Common.{◌≡◌, ℕ, ◌+◌, ◌*◌, ◌<◌, ◌≤◌, Bool, false, Option, List, length, ap, sym, ◌∙◌, subst, inl}
 use Rattle.std.proofs.Common.{arith}
 use Rattle.cpu12_isa.specs.{Agreement.WritesAgree, Fits.AreBytes}
-use Rattle.cpu12_parts.specs.{State.State, Cuts.suspended, Cuts.wav}
+use Rattle.cpu12_parts.specs.{State.State, Parts.suspended, Parts.wav}
 use Rattle.cpu12_emul.specs.Simulation.{OnStackOrNone, Simulates}
 use Rattle.run_law.specs.{Uninterrupted.stepped, Soundness.Sound, Soundness.WritesAreQuiet}
 use Rattle.interrupt_plan.specs.{declared.levels.Level.Level, Levels.IsGoodLevel}
 use Rattle.eval_code.specs.{declared.memory_map.MemoryMap.MemoryMap, MemoryMaps.main_map}
 use Rattle.alone_code.specs.Answers.{LeavesMapped}
 use Rattle.two_level_code.specs.MemoryMaps.{is_open_to_fast}
-use Rattle.firmware_runs.specs.Ports.{given, answer_size}
-use Rattle.firmware_runs.specs.Facts.{FactsBeside}
+use Rattle.firmware_runs.specs.{Ports.given, Ports.answer_size, Facts.FactsBeside}
 use Rattle.alone_runs.specs.{Following.IsLow, OpenBytes.AreOpenAlike, OpenBytes.StepLeavesOpen}
 use Rattle.alone_runs.specs.SoundAloneProof.{LeavesPorts, given_alike, answered_alike, ended_alike}
 use Rattle.two_level_runs.specs.{Runs.FastSeen, Levels.fitted, Levels.fitted_form, Levels.FastStands}
 use Rattle.two_level_runs.proofs.{Bytes.step_bytes, Bytes.push_bytes, Fitting.fitted_few, Fitting.given_bytes}
-use Rattle.two_level_runs.proofs.LevelServing.{LevelLaws, Given, few_outputs, serves}
 use Rattle.two_level_runs.proofs.{Serving.open_apart, Standing.stands}
+use Rattle.two_level_runs.proofs.LevelServing.{LevelLaws, Given, few_outputs, serves}
 
 -- the slow firmware's memory map is the one that stands alone, and it answers bytes
 map_is : (x : Given) → x.two.slow.memory_map ≡ main_map

@@ -1,6 +1,6 @@
 -- The samples of good levels do not fall.
 use Rattle.std.proofs.Common.{ℕ, ◌≤◌, List, [], ◌∷◌, inl, inr, arith}
-use Rattle.interrupt_plan.specs.{declared.levels.Level.Level, Levels.LevelNotAfter, Plans.Ascend}
+use Rattle.interrupt_plan.specs.{declared.levels.Level.Level, Levels.LevelNotAfter, Rows.Ascend}
 use Rattle.run_forms.specs.Slices.{Follow}
 use Rattle.two_level_runs.specs.{Rows.place_of_level, Order.LevelsAreInOrder}
 

@@ -4,7 +4,8 @@ use Rattle.cpu12_isa.specs.declared.instr.Instr.{Instr}
 use Rattle.cpu12_isa.specs.{Act.read_by, Act.write_all, Agreement.AllShown, Code.decode_at, Code.six_from}
 use Rattle.cpu12_isa.proofs.Algebra.{shown_append}
 use Rattle.cpu12_parts.specs.declared.{temps.PartEnd.PartEnd, temps.PartEnd.TheVariants.More}
-use Rattle.cpu12_parts.specs.{State.State, State.Outcome, Cuts.Kind, Cuts.part_of, Cuts.after_part, Fits.FitsOutcome}
+use Rattle.cpu12_parts.specs.{State.State, State.Outcome, Fits.FitsOutcome}
+use Rattle.cpu12_parts.specs.Parts.{Kind, part_of, after_part}
 use Rattle.cpu12_parts.specs.{Laws.IsOff, Laws.addresses, Laws.PartsTo, Touching.IsIn, Touching.Each}
 use Rattle.cpu12_emul.specs.{Simulation.left_of, Step.Left, Step.Next, Step.kind_of, Step.applied, Step.next_of}
 use Rattle.cpu12_emul.specs.declared.ends.Stepped.TheVariants.{LastPart}

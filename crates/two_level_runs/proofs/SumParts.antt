@@ -7,10 +7,9 @@ use Rattle.cpu12_isa.specs.{Agreement.AllShown, Code.decode_at, Code.six_from, C
 use Rattle.cpu12_isa.specs.{Memory.plus, Memory.bytes_at, Regions.is_hidden}
 use Rattle.cpu12_isa.proofs.Algebra.{shown_append}
 use Rattle.cpu12_parts.specs.declared.{temps.Temps.Temps, temps.Temps.TheVariants.Running, temps.PartEnd.PartEnd}
+use Rattle.cpu12_parts.specs.{Parts.wav, Parts.part_of, Parts.after_part, Laws.IsOff, Laws.addresses, Laws.PartsTo}
 use Rattle.cpu12_parts.specs.declared.temps.PartEnd.TheVariants.{More}
 use Rattle.cpu12_parts.specs.{State.State, State.Outcome, Fits.FitsTemps, Fits.FitsOutcome, Inside.second_byte}
-use Rattle.cpu12_parts.specs.Cuts.{wav, part_of, after_part}
-use Rattle.cpu12_parts.specs.Laws.{IsOff, addresses, PartsTo}
 use Rattle.cpu12_emul.specs.{Simulation.AreSumsReady, Simulation.left_of, declared.ends.Stepped.TheVariants.LastPart}
 use Rattle.cpu12_emul.specs.Step.{Left, Next, kind_of, step_act, applied, next_of}
 use Rattle.two_level_code.specs.Running.{HasFastRom}

@@ -4,7 +4,7 @@ use Rattle.std.proofs.Common.{sym, ◌∙◌, arith, append_assoc, append-nil}
 use Rattle.std.proofs.lemmas.List.{drop_all}
 use Rattle.cpu12_isa.specs.declared.instr.Write.{Write}
 use Rattle.cpu12_isa.specs.{Act.write_all, Memory.plus, Memory.placed, Memory.from, Memory.bytes_at}
-use Rattle.cpu12_parts.specs.{State.State, Cuts.suspended, Cuts.wav}
+use Rattle.cpu12_parts.specs.{State.State, Parts.suspended, Parts.wav}
 use Rattle.cpu12_emul.specs.Take as take
 use Rattle.cpu12_emul.specs.Take.{pairs_of, pushed, vectored}
 use Rattle.two_level_code.specs.MemoryMaps.{fast_map}

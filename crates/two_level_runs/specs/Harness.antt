@@ -5,7 +5,7 @@ use Rattle.interrupt_plan.specs.declared.levels.Level.{Level}
 use Rattle.trace_io.specs.declared.sample.Sample.{Sample}
 use Rattle.run_forms.specs.{declared.sample.Room.Room, Forms.Harness, Rooms.room_notes}
 use Rattle.alone_runs.specs.Rows as plain
-use Rattle.alone_runs.specs.Rows.{input_bytes}
+use Rattle.trace_io.specs.Traces.{input_bytes}
 use Rattle.two_level_code.specs.declared.two.Two.{Two}
 use Rattle.two_level_runs.specs.{declared.serve.FastRow.FastRow, declared.rows.TwoRow.TwoRow, Runs.FastSeen}
 use Rattle.two_level_runs.specs.{InnerNotes.inner_frames_seen, Rows.TwoSeen, Rows.level_parts, Rows.with_fast}

@@ -1,6 +1,6 @@
 //! The run of the fast code inside an interrupt.
 ghost use Rattle.std.specs.Prelude.{ℕ, ◌≡◌, ◌≤◌, length, IsTrue};
-ghost use Rattle.cpu12_parts.specs.Cuts.{suspended, wav};
+ghost use Rattle.cpu12_parts.specs.Parts.{suspended, wav};
 ghost use Rattle.cpu12_isa.specs.Memory.{from, bytes_at};
 ghost use Rattle.cpu12_emul.specs.Take.{may_interrupt, frame_seen, frame_of};
 ghost use Rattle.two_level_code.specs.MemoryMaps.{fast_map};

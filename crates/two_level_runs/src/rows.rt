@@ -1,7 +1,7 @@
 //! The rows of a slow firmware with fast runs inside its interrupts.
 ghost use Rattle.std.specs.Prelude.{◌≡◌, ◌≤◌, map, length, IfOk};
 ghost use Rattle.interrupt_plan.specs.Levels.{AreGoodLevels};
-ghost use Rattle.alone_runs.specs.Rows.{input_bytes};
+ghost use Rattle.trace_io.specs.Traces.{input_bytes};
 ghost use Rattle.two_level_runs.specs.{Answering.AnswersItsBlocks, Rows.two_seen, Harness.row_seen};
 
 use crate::form::WithLevels;

@@ -1,8 +1,8 @@
 //! What serves an outer request.
 ghost use Rattle.std.specs.Prelude.{ℕ, ◌≡◌, ◌≤◌, None, Some, map, length, MatchOption, IsTrue};
-ghost use Rattle.cpu12_parts.specs.Cuts.{suspended, wav};
+ghost use Rattle.cpu12_parts.specs.Parts.{suspended, wav};
 ghost use Rattle.cpu12_emul.specs.Take.{may_interrupt, frame_seen, frame_of};
-ghost use Rattle.alone_runs.specs.Rows.{input_bytes};
+ghost use Rattle.trace_io.specs.Traces.{input_bytes};
 ghost use Rattle.two_level_code.specs.Images.{fast_most};
 ghost use Rattle.two_level_runs.specs.Runs.{served, told, served_by, told_by};
 ghost use Rattle.two_level_runs.specs.{Rows.sample_of, Rows.outer_of, Harness.fast_seen, Harness.fast_told};

@@ -11,7 +11,8 @@ use Rattle.trace_io.specs.declared.sample.Sample.{Sample}
 use Rattle.run_forms.specs.{declared.sample.Room.Room, Rooms.room_notes, Forms.Harness}
 use Rattle.alone_runs.specs.Following.{row_of_sample}
 use Rattle.alone_runs.specs.Rows as rows
-use Rattle.alone_runs.specs.Rows.{requests_of, first_state, input_bytes}
+use Rattle.alone_runs.specs.Rows.{requests_of, first_state}
+use Rattle.trace_io.specs.Traces.{input_bytes}
 use Rattle.watched_runs.specs.Samples.{with_upsets}
 use Rattle.watched_runs.specs.declared.form.WatchedRow as declared
 use Rattle.watched_runs.specs.Forms.{given_changed, watched_parts, watched_form}

@@ -1,7 +1,7 @@
 //! A firmware with watched tables, as a form of runs.
 ghost use Rattle.std.specs.Prelude.{ℕ, ◌≡◌, ◌<◌, ◌≤◌, ◌+◌, List, Some, length, map, slice_get};
 ghost use Rattle.run_forms.specs.{Rest.counted_at, Rest.shown_by, Rooms.Fits};
-ghost use Rattle.alone_runs.specs.Rows.{input_bytes};
+ghost use Rattle.trace_io.specs.Traces.{input_bytes};
 ghost use Rattle.watched_code.specs.Watched as tables;
 ghost use Rattle.watched_runs.specs.{Rows.FaultSeen, Rows.watched_harness, Samples.AscendThroughout};
 

@@ -1,7 +1,7 @@
 //! Runs of a firmware with watched tables under upsets.
 ghost use Rattle.std.specs.Prelude.{ℕ, ◌≡◌, ◌≤◌, map, IfOk};
 ghost use Rattle.interrupt_plan.specs.{Plans.IsGood, Upsets.AreGoodUpsets};
-ghost use Rattle.alone_runs.specs.Rows.{input_bytes};
+ghost use Rattle.trace_io.specs.Traces.{input_bytes};
 ghost use Rattle.watched_runs.specs.{Rows.row_seen, Rows.upset_rows, Rows.faults_of, Answering.AnswersItsSamples};
 
 use crate::form::{WatchedRow, WithUpsets};

@@ -7,8 +7,8 @@ use Rattle.std.specs.Prelude.{codes, is_none}
 use Rattle.std.specs.Str.{str_to_ascii_lowercase}
 use Rattle.std.proofs.lemmas.Bool.{and_parts}
 use Rattle.fuzzy_meaning.specs.declared.block.Rule.{Rule}
-use Rattle.fcl_syntax.specs.Annotations.{IsClean, Sym, tokens_of}
-use Rattle.fcl_syntax.specs.{Cuts.CutsAreTokens, First.Spells, Grammar.block_text, Text.SpellsTree, View.view}
+use Rattle.fcl_syntax.specs.Annotations.{IsClean, Sym, tokens_of, Spells}
+use Rattle.fcl_syntax.specs.{Cuts.CutsAreTokens, Grammar.block_text, Text.SpellsTree, View.view}
 use Rattle.fcl_syntax.specs.Lexing.{Lexed, colon_piece, delimiter_piece, lexed, number_len, number_piece, open_piece}
 use Rattle.fcl_syntax.specs.Lexing.{point_piece, slash_piece, tokenization, word_token}
 use Rattle.fcl_syntax.specs.declared.{fault.Kind.Kind, token.Token.Token, tree.Rule.Rule as RuleNode}

@@ -14,8 +14,8 @@ use Rattle.cpu12_isa.specs.{Regions.free_start, Regions.is_free, declared.instr.
 use Rattle.csv.specs.Writing.{default_writer, row_text}
 use Rattle.hex.specs.Hex.{encode_upper, upper_digits}
 use Rattle.hex.proofs.HexLemmas.{length-encode_with}
-use Rattle.interrupt_plan.specs.Plans.{Ascends, IsGood, IsGoodRequest}
-use Rattle.interrupt_plan.specs.{PlanTexts.Spells, PlanTexts.SpellsRequest, Rows.with_write, declared.Request.Request}
+use Rattle.interrupt_plan.specs.Plans.{Ascends, IsGood, IsGoodRequest, Spells, SpellsRequest}
+use Rattle.interrupt_plan.specs.{Rows.with_write, declared.Request.Request}
 use Rattle.workload.specs.{Draws.draw, Texts.request_fields, Workloads.AreDrawnRequests, Workloads.drawn_request}
 use Rattle.workload.proofs.ListLemmas.{drawn_at}
 use Rattle.workload.proofs.NumberLemmas.{count_of-digits, digits_are, write_of-encoded}

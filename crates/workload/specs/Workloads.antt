@@ -4,7 +4,7 @@ use Rattle.std.specs.Prelude.{◌≡◌, ℕ, ◌+◌, ◌*◌, List, [], ◌∷
 use Rattle.fuzzy_meaning.specs.declared.block.Block.{Block}
 use Rattle.fcl_check.specs.Texts.{SpellsBlock}
 use Rattle.cpu12_isa.specs.Regions.{free_start}
-use Rattle.interrupt_plan.specs.{PlanTexts.Spells as SpellsPlan, declared.Request.Request}
+use Rattle.interrupt_plan.specs.{Plans.Spells as SpellsPlan, declared.Request.Request}
 use Rattle.trace_io.specs.{Traces.Spells as SpellsTrace, declared.sample.Sample.Sample}
 use Rattle.fz_num.specs.declared.dec.Dec.{Dec}
 use Rattle.workload.specs.{Blocks.drawn_block, Draws.draw}

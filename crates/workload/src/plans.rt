@@ -1,7 +1,7 @@
 //! The requests that are drawn, and the plan that spells them.
 ghost use Rattle.std.specs.Prelude.{◌≡◌, ◌≤◌, ◌<◌, ◌+◌, ℕ, [], ◌∷◌, ◌++◌, length, IfOk};
 ghost use Rattle.cpu12_isa.specs.Regions.{free_start};
-ghost use Rattle.interrupt_plan.specs.PlanTexts.{Spells};
+ghost use Rattle.interrupt_plan.specs.Plans.{Spells};
 ghost use Rattle.csv.specs.Writing.{default_writer, row_text};
 ghost use Rattle.workload.specs.{Draws.state_after, Texts.request_fields, Workloads.AreDrawnRequests};
 

@@ -1,6 +1,7 @@
 use Rattle.std.proofs.Common.{◌≡◌, ◌∙◌, ℕ, List, map, ap}
 use Rattle.run_law.specs.Forms.{RowSeen}
-use Rattle.alone_runs.specs.Rows.{row_seen, input_bytes, firmware_rows}
+use Rattle.alone_runs.specs.Rows.{row_seen, firmware_rows}
+use Rattle.trace_io.specs.Traces.{input_bytes}
 use Rattle.run_forms.specs.Outlooks.{Ahead}
 use Rattle.alone_runs.proofs.AnsweredRows.{answers_its_block}
 use Rattle.alone_runs.proofs.rows.run_on.Goals as goal

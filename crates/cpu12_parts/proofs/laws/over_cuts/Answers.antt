@@ -1,4 +1,4 @@
-use Rattle.cpu12_parts.specs.Cuts.{kind_by}
+use Rattle.cpu12_parts.specs.Parts.{kind_by}
 use Rattle.cpu12_parts.proofs.OverCuts.{over_cuts}
 use Rattle.cpu12_parts.proofs.laws.over_cuts.Goals as goal
 

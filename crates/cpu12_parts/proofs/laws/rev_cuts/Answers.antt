@@ -1,4 +1,4 @@
-use Rattle.cpu12_parts.specs.{Cuts.rev, Laws.Any}
+use Rattle.cpu12_parts.specs.{Parts.rev, Laws.Any}
 use Rattle.cpu12_parts.proofs.Cutting.{cuts_change_nothing, goes_on_nothing}
 use Rattle.cpu12_parts.proofs.laws.rev_cuts.Goals as goal
 

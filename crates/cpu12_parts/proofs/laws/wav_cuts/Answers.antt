@@ -1,4 +1,4 @@
-use Rattle.cpu12_parts.specs.{Cuts.wav, Laws.AreKept}
+use Rattle.cpu12_parts.specs.{Parts.wav, Laws.AreKept}
 use Rattle.cpu12_parts.proofs.Cutting.{cuts_change_nothing}
 use Rattle.cpu12_parts.proofs.laws.wav_cuts.Goals as goal
 

@@ -2,7 +2,8 @@ use Rattle.std.proofs.Common.{◌≡◌, ◌≤◌, ◌∙◌, List, ℕ, length
 use Rattle.std.proofs.lemmas.List.{length-map}
 use Rattle.run_law.specs.Forms.{RowSeen}
 use Rattle.alone_runs.specs.{Answering.AnswersItsBlock, Forms.with_writes}
-use Rattle.alone_runs.specs.Rows.{first_state, firmware_rows, input_bytes, requests_of, row_seen}
+use Rattle.alone_runs.specs.Rows.{first_state, firmware_rows, requests_of, row_seen}
+use Rattle.trace_io.specs.Traces.{input_bytes}
 use Rattle.run_forms.specs.Outlooks.{Ahead}
 use Rattle.debug_script.specs.Going.{AreTold}
 use Rattle.debug_script.proofs.GoingLemmas.{told_positions}

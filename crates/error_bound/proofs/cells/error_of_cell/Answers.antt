@@ -1,7 +1,7 @@
 use Rattle.std.proofs.Common.{ℕ, ◌*◌, ◌≤◌, arith, mul-le-mul_right}
 use Rattle.std.proofs.lemmas.Int.{ints}
 use Rattle.fz_num.specs.declared.frac.Frac.{Frac}
-use Rattle.fz_num.specs.{Fractions.Fraction, Fractions.IsNear, Fracs.fraction_of, Fracs.IsTruth}
+use Rattle.fz_num.specs.Fractions.{Fraction, IsNear, fraction_of, IsTruth}
 use Rattle.error_bound.proofs.cells.error_of_cell.Goals as goal
 
 wider : (f : Frac) → IsTruth 1000000000000 f → IsTruth 10000000000000000 f

@@ -1,5 +1,5 @@
 use Rattle.std.proofs.Common.{◌≡◌, ◌-◌, get_or, [], refl, sym, subst, arith}
-use Rattle.fz_num.specs.Fracs.{IsValueOf}
+use Rattle.fz_num.specs.Fractions.{IsValueOf}
 use Rattle.fuzzy_meaning.specs.Holding.{shares_of}
 use Rattle.fuzzy_meaning.proofs.BlockLemmas.{output_at-read}
 use Rattle.fuzzy_meaning.proofs.ShareLemmas.{answer_after-held, answer_after-massless, heavy_terms-massless}

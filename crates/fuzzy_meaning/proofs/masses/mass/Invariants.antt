@@ -1,5 +1,5 @@
 use Rattle.std.proofs.Common.{◌≡◌, drop}
-use Rattle.fz_num.specs.Fracs.{fraction_of, IsTruth}
+use Rattle.fz_num.specs.Fractions.{fraction_of, IsTruth}
 use Rattle.fuzzy_meaning.specs.Meaning.{mass_among}
 use Rattle.fuzzy_meaning.proofs.masses.mass.Given as goal
 

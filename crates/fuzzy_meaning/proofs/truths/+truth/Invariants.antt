@@ -1,5 +1,5 @@
 use Rattle.std.proofs.Common.{◌≡◌, true, false, drop}
-use Rattle.fz_num.specs.{Fracs.fraction_of, Fracs.IsTruth, Fractions.one_minus}
+use Rattle.fz_num.specs.Fractions.{fraction_of, IsTruth, one_minus}
 use Rattle.fuzzy_meaning.specs.Conditions.{conditions, evaluate_parts}
 use Rattle.fuzzy_meaning.specs.Meaning.{literal_degree, truths}
 use Rattle.fuzzy_meaning.proofs.truths.+truth.Given as goal

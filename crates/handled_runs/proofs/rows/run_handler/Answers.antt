@@ -1,5 +1,5 @@
 use Rattle.std.proofs.Common.{List, map, sym, subst}
-use Rattle.alone_runs.specs.Rows.{input_bytes}
+use Rattle.trace_io.specs.Traces.{input_bytes}
 use Rattle.handled_runs.specs.{Answering.HandlesItsBlock, Forms.HandledSeen}
 use Rattle.handled_runs.proofs.rows.run_handler.Goals as goal
 

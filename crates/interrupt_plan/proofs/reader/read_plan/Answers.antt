@@ -1,4 +1,4 @@
-use Rattle.interrupt_plan.specs.{PlanTexts.SpellsRequest, PlanTexts.writes_by, Plans.IsGood, Plans.NotAfter}
+use Rattle.interrupt_plan.specs.Plans.{SpellsRequest, writes_by, IsGood, NotAfter}
 use Rattle.interrupt_plan.proofs.PlanLemmas.{good_plan, good_text}
 use Rattle.interrupt_plan.proofs.reader.read_plan.Goals as goal
 

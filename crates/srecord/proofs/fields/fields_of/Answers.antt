@@ -1,5 +1,5 @@
 use Rattle.std.proofs.Common.{◌≡◌, ◌++◌, ◌∷◌, [], ℕ, true, false, ◌∙◌, ap, refl}
-use Rattle.srecord.specs.{Records.body_of, Lines.unread}
+use Rattle.srecord.specs.Lines.{body_of, unread}
 use Rattle.srecord.proofs.FieldLemmas.{only_fields, wrong_sum}
 use Rattle.srecord.proofs.fields.fields_of.Goals as goal
 

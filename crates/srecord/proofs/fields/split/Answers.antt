@@ -1,5 +1,5 @@
 use Rattle.std.proofs.Common.{◌≡◌, ◌*◌, ◌+◌, ◌++◌, length, ap, sym, ◌∙◌, arith}
-use Rattle.srecord.specs.Records.{body_of, checksum_of}
+use Rattle.srecord.specs.Lines.{body_of, checksum_of}
 use Rattle.srecord.proofs.FieldLemmas.{are_fields, is_body, is_counted, payload_in, split_there}
 use Rattle.srecord.proofs.fields.split.Goals as goal
 use Rattle.srecord.proofs.fields.split.Goals.{then-bytes-lt4-via-then-bytes-lt4}

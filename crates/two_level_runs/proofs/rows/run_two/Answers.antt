@@ -1,7 +1,7 @@
 use Rattle.std.proofs.Common.{ℕ, List, map, length, sym, subst}
 use Rattle.std.proofs.lemmas.List.{length-map}
 use Rattle.interrupt_plan.specs.{declared.levels.Level.Level, Levels.AreGoodLevels}
-use Rattle.alone_runs.specs.Rows.{input_bytes}
+use Rattle.trace_io.specs.Traces.{input_bytes}
 use Rattle.run_forms.specs.Slices.{IsInOrder}
 use Rattle.two_level_runs.specs.Rows.{place_of_level}
 use Rattle.two_level_runs.proofs.rows.run_two.Goals as goal

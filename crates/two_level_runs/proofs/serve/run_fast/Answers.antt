@@ -1,6 +1,6 @@
 use Rattle.std.proofs.Common.{ap}
 use Rattle.std.specs.Prelude.{Some}
-use Rattle.cpu12_parts.specs.Cuts.{suspended, wav}
+use Rattle.cpu12_parts.specs.Parts.{suspended, wav}
 use Rattle.two_level_code.specs.Images.{fast_most}
 use Rattle.two_level_runs.specs.{Runs.FastSeen, Runs.fast_run, Runs.entered, InnerNotes.inner_notes}
 use Rattle.run_forms.specs.Rest.{Brief, counted_at}

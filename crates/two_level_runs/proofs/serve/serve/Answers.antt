@@ -1,6 +1,6 @@
 use Rattle.std.proofs.Common.{◌∙◌, Option, List, ℕ, ap, ap₂, sym}
 use Rattle.std.specs.Prelude.{Some}
-use Rattle.cpu12_parts.specs.Cuts.{suspended, wav}
+use Rattle.cpu12_parts.specs.Parts.{suspended, wav}
 use Rattle.two_level_code.specs.Images.{fast_most}
 use Rattle.two_level_runs.specs.Runs.{served_by, told_by}
 use Rattle.two_level_runs.proofs.serve.serve.Goals as goal

@@ -2,7 +2,8 @@ use Rattle.std.proofs.Common.{◌∙◌, List, map, ap, sym, subst}
 use Rattle.run_law.specs.Forms.{RowSeen, rows_from}
 use Rattle.interrupt_plan.specs.declared.{Request.Request, upsets.Upset.Upset}
 use Rattle.watched_code.specs.Watched.{Watched}
-use Rattle.alone_runs.specs.{Forms.place_of, Rows.requests_of, Rows.first_state, Rows.input_bytes}
+use Rattle.alone_runs.specs.{Forms.place_of, Rows.requests_of, Rows.first_state}
+use Rattle.trace_io.specs.Traces.{input_bytes}
 use Rattle.run_forms.specs.{Slices.IsInOrder, Rows.shown}
 use Rattle.watched_runs.specs.{Samples.with_upsets, Forms.watched_form, Answering.AnswersItsSamples}
 use Rattle.watched_runs.specs.Rows.{FaultSeen, fault_seen, upset_rows, faults_of}

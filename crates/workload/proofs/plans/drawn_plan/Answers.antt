@@ -1,7 +1,7 @@
 use Rattle.std.proofs.Common.{arith, ◌≡◌, ◌+◌, ◌*◌, ◌++◌, ℕ, [], ◌∷◌, length, length-append, map, sym, ap, subst, ◌∙◌}
 use Rattle.std.specs.List.{range_with_len}
 use Rattle.csv.specs.Writing.{default_writer, row_text}
-use Rattle.interrupt_plan.specs.PlanTexts.{SpellsRequest}
+use Rattle.interrupt_plan.specs.Plans.{SpellsRequest}
 use Rattle.workload.specs.{Draws.draw, Draws.state_after, Texts.request_fields, Workloads.drawn_request}
 use Rattle.workload.proofs.{ListLemmas.made_more, RowLemmas.Writes, RowLemmas.writes_more}
 use Rattle.workload.proofs.PlanLemmas.{made, plan_spells, request_length, request_row, requests_drawn, spells_made}

@@ -1,6 +1,6 @@
 use Rattle.std.proofs.Common.{◌≡◌, ◌≤◌, ◌+◌, ◌*◌, ℕ, length, map}
 use Rattle.std.specs.List.{range_with_len}
-use Rattle.interrupt_plan.specs.PlanTexts.{SpellsRequest}
+use Rattle.interrupt_plan.specs.Plans.{SpellsRequest}
 use Rattle.workload.specs.{Draws.state_after, Workloads.drawn_request}
 use Rattle.workload.proofs.RowLemmas.{Writes}
 use Rattle.workload.proofs.plans.drawn_plan.Given as goal

@@ -3,7 +3,8 @@ use Rattle.cpu12_parts.specs.State.{State}
 use Rattle.run_law.specs.Forms.{RowSeen, Rows}
 use Rattle.interrupt_plan.specs.declared.Request.{Request}
 use Rattle.alone_runs.specs.Forms.{place_of, with_writes}
-use Rattle.alone_runs.specs.Rows.{requests_of, input_bytes, first_state, firmware_rows, writes_harness}
+use Rattle.alone_runs.specs.Rows.{requests_of, first_state, firmware_rows, writes_harness}
+use Rattle.trace_io.specs.Traces.{input_bytes}
 use Rattle.run_forms.specs.{Positions.positions, Slices.IsInOrder, Rooms.Fits}
 use Rattle.run_forms.specs.Outlooks.{Ahead, from_here, outlook_at, shown_run, IsUnderWay}
 use Rattle.alone_runs.proofs.Requests.{plans_are_in_order}

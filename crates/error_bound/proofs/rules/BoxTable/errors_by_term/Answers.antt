@@ -3,7 +3,7 @@ use Rattle.std.proofs.Common.{sym, ap, ap₂, ◌∙◌, arith}
 use Rattle.std.specs.Prelude.{if◌then◌else◌}
 use Rattle.std.proofs.Math.Seq.{drop-cons}
 use Rattle.std.proofs.lemmas.Option.{slice_get_read}
-use Rattle.fuzzy_meaning.specs.{Rules.concludes, declared.block.Rule.Rule}
+use Rattle.fuzzy_meaning.specs.{Meaning.concludes, declared.block.Rule.Rule}
 use Rattle.error_bound.specs.{CellErrors.term_errors, Leaves.concludes_some}
 use Rattle.error_bound.specs.Errors.{output_error_among, rule_error}
 use Rattle.error_bound.proofs.ConclusionLemmas.{any-some}

@@ -1,6 +1,6 @@
 use Rattle.std.proofs.Common.{◌≡◌, ◌≤◌, subst, sym, arith, rules}
 use Rattle.std.proofs.lemmas.Int.{ints}
-use Rattle.fz_num.specs.{Fractions.gap, Fractions.IsNear, Fracs.fraction_of}
+use Rattle.fz_num.specs.Fractions.{gap, IsNear, fraction_of}
 use Rattle.fz_num.proofs.Algebra.{gap-near, gap-least, gap-small}
 use Rattle.fz_num.proofs.frac.Frac.gap.Goals as goal
 

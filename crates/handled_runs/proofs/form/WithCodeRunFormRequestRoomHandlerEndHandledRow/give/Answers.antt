@@ -1,7 +1,7 @@
 use Rattle.std.proofs.Common.{ℕ, ◌≡◌, ◌≤◌, ◌∙◌, List, length, ap, sym, arith}
 use Rattle.std.proofs.lemmas.List.{take_all}
 use Rattle.firmware_runs.specs.Ports.{given}
-use Rattle.alone_runs.specs.Rows.{input_bytes}
+use Rattle.trace_io.specs.Traces.{input_bytes}
 use Rattle.handled_runs.proofs.SampleBytes.{got}
 use Rattle.handled_runs.proofs.form.WithCodeRunFormRequestRoomHandlerEndHandledRow.give.Goals as goal
 

@@ -3,7 +3,7 @@ use Rattle.std.proofs.lemmas.List.{map-id}
 use Rattle.run_law.specs.Forms.{RowSeen}
 use Rattle.run_forms.specs.{Rooms.room_notes, Rest.counted_at, Rest.row_by}
 use Rattle.alone_runs.specs.Rows as rows
-use Rattle.alone_runs.specs.Rows.{input_bytes}
+use Rattle.trace_io.specs.Traces.{input_bytes}
 use Rattle.firmware_runs.specs.Ports.{answers_in}
 use Rattle.handled_runs.specs.{declared.back.HandlerEnd.HandlerEnd, Forms.HandledSeen, Forms.steps_of}
 use Rattle.handled_runs.proofs.SampleBytes.{got}

@@ -1,8 +1,8 @@
 use Rattle.std.proofs.Common.{ℕ, List, ap, ap₂, ◌∙◌}
 use Rattle.std.specs.Prelude.{None, map}
 use Rattle.alone_runs.specs.{Rows.row_seen, declared.rows.Row.Row}
-use Rattle.run_reports.specs.{CertifiedRun.left_of, Reports.report_of}
-use Rattle.run_commands.specs.Run.{files_in, run_lines}
+use Rattle.run_reports.specs.{Reports.left_of, Reports.report_of, RowLines.run_lines}
+use Rattle.run_commands.specs.Run.{files_in}
 use Rattle.command_parts.specs.{SeenOutputs.SeenOutput, Contents.bytes_of}
 use Rattle.run_commands.proofs.AnswerLemmas.{certifies}
 use Rattle.run_commands.proofs.run.Run.work.Goals as goal
