@@ -10,11 +10,9 @@ use Rattle.cpu12_parts.specs.declared.temps.Temps.TheVariants.{Free, Running, On
 use Rattle.cpu12_parts.specs.declared.temps.PartEnd.TheVariants.{More, Done}
 use Rattle.std.specs.Prelude.{List, slice_index}
 use Rattle.cpu12_isa.specs.{Act.get_all, Memory.from, Memory.placed}
-use Rattle.cpu12_parts.specs.{Parts.leaving}
 use Rattle.std.specs.Prelude.{◌≡◌, Bool}
 use Rattle.cpu12_isa.specs.{Act.outcome}
 use Rattle.cpu12_parts.specs.{State.State, State.state_after}
-use Rattle.cpu12_parts.specs.Parts.{rev_act, revw_act, wav_act}
 
 -- a part that writes nothing
 abbrev pub leaving : Regs → Temps → PartEnd → Act Outcome

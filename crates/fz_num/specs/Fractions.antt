@@ -4,7 +4,7 @@ use Rattle.std.specs.Prelude.{ℕ, ◌+◌, ◌-◌, ◌*◌, ◌/◌, ◌<◌, 
 use Rattle.std.specs.Ordering.{nat_cmp}
 use Rattle.std.specs.declared.cmp.Ordering.{Ordering}
 use Rattle.std.specs.Prelude.{◌≡◌, ℤ, pos, ◌-ℤ◌, ◌*ℤ◌, ◌≤ℤ◌, ◌<ℤ◌, unsigned_abs}
-use Rattle.fz_num.specs.{Fractions.Fraction, Fractions.over, declared.frac.Frac.Frac}
+use Rattle.fz_num.specs.{declared.frac.Frac.Frac}
 
 pub record Fraction : Type 0 where
   pub num : ℕ

@@ -2,8 +2,8 @@
 -- Reached by the promise.
 use Rattle.std.specs.Prelude.{◌≡◌, ◌≤◌, ℕ, true, List, length, All}
 use Rattle.cpu12_isa.specs.{Regions.is_free, declared.instr.Write.Write}
-use Rattle.interrupt_plan.specs.{declared.Request.Request, Rows.NoLaterThan, Rows.Ascend, Plans.IsGood}
-use Rattle.interrupt_plan.specs.{Plans.NotAfter, Rows.SpellsRow, Rows.SpellsText, Rows.HasFirstFault}
+use Rattle.interrupt_plan.specs.{declared.Request.Request, Rows.NoLaterThan, Rows.Ascend, Rows.SpellsRow}
+use Rattle.interrupt_plan.specs.{Rows.SpellsText, Rows.HasFirstFault}
 use Rattle.fz_rows.specs.FirstRows.{Fields}
 use Rattle.interrupt_plan.specs.declared.{PlanFault.PlanFault}
 

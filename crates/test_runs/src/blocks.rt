@@ -2,12 +2,12 @@
 ghost use Rattle.std.specs.Prelude.{◌≤◌};
 ghost use Rattle.fuzzy_meaning.specs.Blocks.{IsValid};
 
-use alone_code::{Firmware, compile, compile16};
-use alone_runs::Row;
 use byte_scaling::Width;
+use codegen::{Firmware, compile, compile16};
 use fcl_check::load;
 use fcl_syntax::parse;
 use fuzzy_meaning::Block;
+use fz_run::Row;
 use interrupt_plan::no_interrupts;
 use std::alloc::{AllocError, Global};
 use std::process::Abort;

@@ -1,5 +1,5 @@
 //! The code of the heater in 16 bits, byte by byte.
-use alone_code::compile16;
+use codegen::compile16;
 use fuzzy_meaning::heater;
 use std::test::Fail;
 

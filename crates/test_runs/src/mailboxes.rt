@@ -1,5 +1,5 @@
 //! The code of the heater in the mailbox form, byte by byte.
-use alone_code::compile_post;
+use codegen::compile_post;
 use fuzzy_meaning::heater;
 use std::test::Fail;
 

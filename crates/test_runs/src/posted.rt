@@ -2,12 +2,12 @@
 ghost use Rattle.std.specs.Prelude.{◌≤◌, ◌<◌, ◌+◌, ◌^◌, IfOk};
 ghost use Rattle.interrupt_plan.specs.Posts.{AreGoodPosts};
 
-use alone_code::{Firmware, compile_post};
 use arrayvec::ArrayVec;
+use codegen::{Firmware, compile_post};
 use fuzzy_meaning::heater;
 use fz_list::List;
+use fz_run::run_posts;
 use interrupt_plan::{Posts, read_posts};
-use mailbox_runs::run_posts;
 use std::alloc::{AllocError, Global};
 use std::test::Fail;
 use trace_io::Sample;

@@ -3,15 +3,15 @@
 ghost use Rattle.std.specs.Prelude.{◌≤◌, IfOk};
 ghost use Rattle.interrupt_plan.specs.Plans.{IsGood};
 
-use alone_code::{Firmware, compile};
-use alone_runs::{Row, Session, run, run_on};
 use arrayvec::ArrayVec;
+use codegen::{Firmware, compile};
 use cpu12_asm::ByteMap;
 use cpu12_emul::ends::Frame;
 use cpu12_isa::mem::Mem;
 use cpu12_isa::pages::PageMem;
 use fuzzy_meaning::heater;
 use fz_list::List;
+use fz_run::{Row, Session, run, run_on};
 use interrupt_plan::{Plan, no_interrupts, read_plan};
 use std::alloc::{AllocError, Global};
 use std::process::Abort;
