@@ -1,4 +1,4 @@
--- A text that spells a plan, posts or levels has no fault, and none has two first faults.
+-- A text that spells a plan, posts or levels has no fault and spells one, and none has two first faults.
 use Rattle.std.proofs.Common.{arith, ◌≡◌, ◌<◌, ◌+◌, ℕ, true, false, List, ◌∷◌, ◌++◌, length, refl, sym, ◌∙◌, ap, subst}
 use Rattle.std.specs.Prelude.{All, Option, Some}
 use Rattle.std.proofs.lemmas.List.{length-append}
@@ -7,6 +7,7 @@ use Rattle.fz_rows.proofs.Algebra.{FailsFirst, at_element, more_elements, one_fa
 use Rattle.cpu12_isa.specs.{Regions.is_free, declared.instr.Write.Write}
 use Rattle.interrupt_plan.specs.OneReading.{LevelFaultsAreOne, PlanFaultsAreOne, PostFaultsAreOne}
 use Rattle.interrupt_plan.specs.OneReading.{SpelledLevelsHaveNoFault, SpelledPlansHaveNoFault}
+use Rattle.interrupt_plan.specs.OneReading.{SpelledLevelsAreOne, SpelledPlansAreOne, SpelledPostsAreOne}
 use Rattle.interrupt_plan.specs.OneReading.{SpelledPostsHaveNoFault}
 use Rattle.interrupt_plan.specs.Levels.{AreGoodLevels, LevelNotAfter, SpellsLevel, no_writes, numbers_of}
 use Rattle.interrupt_plan.specs.Plans.{IsGood, NotAfter, SpellsRequest, writes_by}
@@ -17,7 +18,7 @@ use Rattle.interrupt_plan.specs.Rows.{unread}
 use Rattle.interrupt_plan.specs.declared.{PlanFault.PlanFault, levels.Level.Level, Post.Post, Request.Request}
 use Rattle.interrupt_plan.specs.declared.PlanFault.TheVariants.{NotFree, TooMany}
 use Rattle.interrupt_plan.proofs.LevelLemmas.{one_numbers}
-use Rattle.interrupt_plan.proofs.SpelledLemmas.{Split, split_at, own_of, follows_last}
+use Rattle.interrupt_plan.proofs.SpelledLemmas.{Split, split_at, own_of, entries_one, follows_last}
 
 pub same_some : {X : Type 0} {o : Option X} {x y : X} → o ≡ Some x → o ≡ Some y → x ≡ y
 same_some {X} {o} {x} {y} one other = let e : Some x ≡ Some y = sym one ∙ other in cc
@@ -122,6 +123,13 @@ module _ {E : Type 0} (Spells : Fields → E → Type 0) (writes : E → List Wr
       rows_apart spells.rows all fault spells.few (order all spells.good) spells.spelled
       (subst (λ (rs : List Fields). FirstFault Spells writes Follows rs fault) same has.fault_is)
 
+  texts_once : FirstRowsAreOne → (Good : List E → Type 0) (text : List ℕ) (es others : List E)
+      → SpellsText Spells Good text es → SpellsText Spells Good text others → es ≡ others
+  texts_once one Good text es others spells spells' =
+      entries_one Spells entry_one spells.rows es others spells.spelled
+      (subst (λ (rs : List Fields). SpellAll Spells rs others)
+      (one text spells.rows spells'.rows spells.first spells'.first) spells'.spelled)
+
   -- ---- rows have one first fault
 
   row_fault_one : (es others : List E) (n : ℕ) (row : Fields) (f g : PlanFault)
@@ -211,3 +219,14 @@ one_post_fault one samples = text_fault_one (SpellsPost samples) writes_in NoLat
 
 pub one_level_fault : FirstRowsAreOne → LevelFaultsAreOne
 one_level_fault one fast = text_fault_one (SpellsLevel fast) no_writes LevelNotAfter (level_one fast) one
+
+pub one_plan : FirstRowsAreOne → SpelledPlansAreOne
+one_plan one = texts_once SpellsRequest writes_by NotAfter request_one one IsGood
+
+pub one_list_of_posts : FirstRowsAreOne → SpelledPostsAreOne
+one_list_of_posts one samples =
+    texts_once (SpellsPost samples) writes_in NoLater (post_one samples) one (AreGoodPosts samples)
+
+pub one_list_of_levels : FirstRowsAreOne → SpelledLevelsAreOne
+one_list_of_levels one fast =
+    texts_once (SpellsLevel fast) no_writes LevelNotAfter (level_one fast) one (AreGoodLevels fast)

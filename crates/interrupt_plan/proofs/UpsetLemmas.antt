@@ -11,13 +11,14 @@ use Rattle.fz_rows.specs.{FirstRows.Fields, Laws.FirstRowsAreOne}
 use Rattle.fz_rows.proofs.Algebra.{FailsFirst, at_element, more_elements, one_first_failure}
 use Rattle.interrupt_plan.specs.declared.{upsets.Upset.Upset, upsets.UpsetFault.UpsetFault}
 use Rattle.interrupt_plan.specs.declared.upsets.UpsetFault.TheVariants.{NotTable, TooMany}
-use Rattle.interrupt_plan.specs.{OneReading.UpsetFaultsAreOne, Rows.count_of, Rows.write_of}
+use Rattle.interrupt_plan.specs.OneReading.{SpelledUpsetsAreOne, UpsetFaultsAreOne}
+use Rattle.interrupt_plan.specs.{Rows.count_of, Rows.write_of}
 use Rattle.interrupt_plan.specs.Upsets.{AreGoodUpsets, IsBefore, IsGoodUpset, is_table}
 use Rattle.interrupt_plan.specs.UpsetTexts.{FirstUpsetFault, SpellUpsets, SpellsUpset, SpelledUpsetsHaveNoFault}
 use Rattle.interrupt_plan.specs.UpsetTexts.{UpsetRowFails, at_row, more, unread, not_table, not_ascending}
 use Rattle.interrupt_plan.proofs.{ByteLemmas.write_small, ApartLemmas.same_some}
 use Rattle.interrupt_plan.proofs.PlanLemmas.{count_small, fields_more, fields_split, length-fields}
-use Rattle.interrupt_plan.proofs.SpelledLemmas.{Split, ascends-snoc, follows_last, own_of, spelled-length, spell-snoc}
+use Rattle.interrupt_plan.proofs.SpelledLemmas.{Split, ascends-snoc, entries_one, follows_last, own_of, spelled-length, spell-snoc}
 use Rattle.interrupt_plan.proofs.SpelledLemmas.{split_at}
 
 -- three fields, by their places
@@ -180,3 +181,9 @@ one_upset_fault one image text fault other has has' =
     let same : has'.rows ≡ has.rows = one text has.rows has'.rows has.first has'.first in
     fault_one image has.rows fault other has.fault_is
     (subst (λ (rs : List Fields). FirstUpsetFault image rs other) same has'.fault_is)
+
+pub one_list_of_upsets : FirstRowsAreOne → SpelledUpsetsAreOne
+one_list_of_upsets one image text upsets others spells spells' =
+    entries_one SpellsUpset upset_one spells.rows upsets others spells.spelled
+    (subst (λ (rs : List Fields). SpellUpsets rs others) (one text spells.rows spells'.rows spells.first spells'.first)
+    spells'.spelled)

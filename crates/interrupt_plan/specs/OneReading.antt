@@ -1,10 +1,11 @@
--- A text spells entries or has a first fault, not both, and it has one.
+-- A text spells entries or has a first fault, not both, and of each it has one.
 -- Beside the promise.
 use Rattle.std.specs.Prelude.{◌≡◌, ℕ, List}
 use Rattle.interrupt_plan.specs.{Levels.LevelsHaveFault, Levels.SpellsLevels, Plans.HasFault, Plans.Spells}
 use Rattle.interrupt_plan.specs.declared.{PlanFault.PlanFault, levels.Level.Level, Post.Post, Request.Request}
-use Rattle.interrupt_plan.specs.declared.upsets.UpsetFault.{UpsetFault}
-use Rattle.interrupt_plan.specs.{Posts.PostsHaveFault, Posts.SpellsPosts, UpsetTexts.HasUpsetFault}
+use Rattle.interrupt_plan.specs.declared.upsets.{Upset.Upset, UpsetFault.UpsetFault}
+use Rattle.interrupt_plan.specs.{Posts.PostsHaveFault, Posts.SpellsPosts}
+use Rattle.interrupt_plan.specs.UpsetTexts.{HasUpsetFault, SpellsUpsets}
 
 -- A text that spells a plan has no fault.
 abbrev pub SpelledPlansHaveNoFault : Type 0
@@ -38,3 +39,19 @@ LevelFaultsAreOne = (fast : ℕ) (text : List ℕ) (fault other : PlanFault) →
 abbrev pub UpsetFaultsAreOne : Type 0
 UpsetFaultsAreOne = (image : List (ℕ × ℕ)) (text : List ℕ) (fault other : UpsetFault)
     → HasUpsetFault image text fault → HasUpsetFault image text other → fault ≡ other
+
+-- A text spells one plan, and one list of posts, of levels, and of upsets of an image.
+abbrev pub SpelledPlansAreOne : Type 0
+SpelledPlansAreOne = (text : List ℕ) (plan other : List Request) → Spells text plan → Spells text other → plan ≡ other
+
+abbrev pub SpelledPostsAreOne : Type 0
+SpelledPostsAreOne = (samples : ℕ) (text : List ℕ) (posts others : List Post) → SpellsPosts samples text posts
+    → SpellsPosts samples text others → posts ≡ others
+
+abbrev pub SpelledLevelsAreOne : Type 0
+SpelledLevelsAreOne = (fast : ℕ) (text : List ℕ) (levels others : List Level) → SpellsLevels fast text levels
+    → SpellsLevels fast text others → levels ≡ others
+
+abbrev pub SpelledUpsetsAreOne : Type 0
+SpelledUpsetsAreOne = (image : List (ℕ × ℕ)) (text : List ℕ) (upsets others : List Upset)
+    → SpellsUpsets image text upsets → SpellsUpsets image text others → upsets ≡ others

@@ -1,7 +1,8 @@
 //! Laws of plans, each the contract of a function that does nothing.
 ghost use Rattle.interrupt_plan.specs.OneReading.{LevelFaultsAreOne, PlanFaultsAreOne, PostFaultsAreOne};
 ghost use Rattle.interrupt_plan.specs.OneReading.{SpelledLevelsHaveNoFault, SpelledPlansHaveNoFault};
-ghost use Rattle.interrupt_plan.specs.OneReading.{SpelledPostsHaveNoFault, UpsetFaultsAreOne};
+ghost use Rattle.interrupt_plan.specs.OneReading.{SpelledLevelsAreOne, SpelledPlansAreOne, SpelledPostsAreOne};
+ghost use Rattle.interrupt_plan.specs.OneReading.{SpelledPostsHaveNoFault, SpelledUpsetsAreOne, UpsetFaultsAreOne};
 ghost use Rattle.interrupt_plan.specs.UpsetTexts.{SpelledUpsetsHaveNoFault};
 
 /// A text that spells a plan has no fault.
@@ -38,6 +39,16 @@ pub fn first_faults_are_one()
     ensures posts { PostFaultsAreOne }
     ensures levels { LevelFaultsAreOne }
     ensures upsets { UpsetFaultsAreOne }
+{
+    fz_rows::first_rows_are_one();
+}
+
+/// A text spells one plan, and one list of posts, of levels, and of upsets of an image.
+pub fn spelled_entries_are_one()
+    ensures plans { SpelledPlansAreOne }
+    ensures posts { SpelledPostsAreOne }
+    ensures levels { SpelledLevelsAreOne }
+    ensures upsets { SpelledUpsetsAreOne }
 {
     fz_rows::first_rows_are_one();
 }

@@ -29,8 +29,8 @@ mod row;
 mod upsets;
 
 pub use laws::{
-    first_faults_are_one, spelled_levels_have_no_fault, spelled_plans_have_no_fault,
-    spelled_posts_have_no_fault, spelled_upsets_have_no_fault,
+    first_faults_are_one, spelled_entries_are_one, spelled_levels_have_no_fault,
+    spelled_plans_have_no_fault, spelled_posts_have_no_fault, spelled_upsets_have_no_fault,
 };
 pub use levels::{Level, Levels, read_levels};
 pub use reader::{read_plan, read_posts};
