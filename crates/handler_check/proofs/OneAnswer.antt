@@ -262,8 +262,9 @@ faults_are_one decodes holds image f g a b = elim (sorts image f a) [
   ]
 ]
 
-at_most : (image : List (ℕ × ℕ)) (m n : ℕ) (a : IsHandler image m) (b : IsHandler image n) → a.code ≡ b.code → m ≤ n
-at_most image m n a b e =
+at_most : (image other : List (ℕ × ℕ)) (m n : ℕ) (a : IsHandler image m) (b : IsHandler other n) → a.code ≡ b.code
+    → m ≤ n
+at_most image other m n a b e =
     let l = a.accepted.longest in
     let same = l.3.2 in
     let k = (subst (λ (js : List Instr). (p q h : ℕ) → Path js p q h → IsAt js q Rti → suc p ≤ n)
@@ -271,8 +272,10 @@ at_most image m n a b e =
     omega arith
 
 pub counts_are_one : DecodesEncoded → HoldsImage → CountsAreOne
-counts_are_one decodes holds image m n a b =
-    let e : a.code ≡ b.code = one_cut decodes holds image a.whole a.code b.code a.cut b.cut in
-    let x = at_most image m n a b e in
-    let y = at_most image n m b a (sym e) in
+counts_are_one decodes holds image other m n same a b =
+    let e : a.code ≡ b.code =
+    one_cut decodes holds other (whole_alike image other same a.whole) a.code b.code
+    (cut_alike image other same a.code a.cut) b.cut in
+    let x = at_most image other m n a b e in
+    let y = at_most other image n m b a (sym e) in
     omega arith

@@ -66,6 +66,7 @@ HandlersHaveNoFault = (image other : List (ℕ × ℕ)) (instrs : ℕ) (fault : 
 abbrev pub FaultsAreOne : Type 0
 FaultsAreOne = (image : List (ℕ × ℕ)) (f g : HandlerFault) → IsFault image f → IsFault image g → f ≡ g
 
--- A handler has one greatest number of instructions.
+-- Handlers with the same bytes have one greatest number of instructions.
 abbrev pub CountsAreOne : Type 0
-CountsAreOne = (image : List (ℕ × ℕ)) (m n : ℕ) → IsHandler image m → IsHandler image n → m ≡ n
+CountsAreOne = (image other : List (ℕ × ℕ)) (m n : ℕ) → ((at : ℕ) → byte_at image at ≡ byte_at other at)
+    → IsHandler image m → IsHandler other n → m ≡ n

@@ -46,7 +46,7 @@ pub fn handlers_have_no_fault()
     holds_image();
 }
 
-/// An image has one first fault, and a handler one greatest number of instructions.
+/// An image has one first fault, and handlers with the same bytes have one greatest number of instructions.
 pub fn answers_are_one()
     ensures faults { FaultsAreOne }
     ensures counts { CountsAreOne }
