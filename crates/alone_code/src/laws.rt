@@ -9,6 +9,7 @@ ghost use Rattle.alone_code.specs.{Standing.ImageHasFirmware, Turns.MailboxTakes
 ghost use Rattle.alone_code.specs.Uninterrupted.{AnsweredAreUninterrupted, FirmwareIsUninterrupted, UninterruptedAreOne};
 
 use byte_scaling::nearest_is_byte;
+use cpu12_asm::ascending_bytes_are_one;
 use cpu12_isa::laws::stays_fit;
 use cpu12_parts::executions::executions_are_one;
 use eval_code::laws::{
@@ -150,14 +151,20 @@ pub fn uninterrupted_are_one()
 /// Items have one image.
 pub fn images_are_one()
     ensures { ImagesAreOne }
-{}
+{
+    ascending_bytes_are_one()
+}
 
 /// In one width a block has one firmware.
 pub fn firmwares_are_one()
     ensures { FirmwaresAreOne }
-{}
+{
+    images_are_one()
+}
 
 /// And so it has in the mailbox form.
 pub fn mailboxes_are_one()
     ensures { MailboxesAreOne }
-{}
+{
+    images_are_one()
+}

@@ -14,3 +14,4 @@ pub mod Passes
 pub mod Labelling
 pub mod Standing
 pub mod Shapes
+pub mod Ascending

@@ -1,6 +1,6 @@
 //! Laws of the definitions.
 ghost use Rattle.cpu12_asm.specs.Labels.{EquatesAreValues, LabelsArePlaces, LinesStand};
-ghost use Rattle.cpu12_asm.specs.Laws.{SourcesHaveOneFault};
+ghost use Rattle.cpu12_asm.specs.Laws.{AscendingBytesAreOne, SourcesHaveOneFault};
 ghost use Rattle.cpu12_asm.specs.Rising.{RisesBehindFirst, EndsInMemory, RisesBehindPart};
 
 /// A label has the place of its line, at which the line's bytes stand in the image, and the name of an `EQU` the
@@ -21,4 +21,9 @@ pub fn rising_items()
     ensures first { RisesBehindFirst }
     ensures end { EndsInMemory }
     ensures part { RisesBehindPart }
+{}
+
+/// Bytes whose addresses ascend are one list where each address has the same byte or none.
+pub fn ascending_bytes_are_one()
+    ensures { AscendingBytesAreOne }
 {}
