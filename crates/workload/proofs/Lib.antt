@@ -8,3 +8,4 @@ pub mod PlanLemmas
 pub mod TreeOfText
 pub mod RuleLemmas
 pub mod FclLemmas
+pub mod OneLemmas

@@ -1,5 +1,5 @@
 -- Lists by their places.
-use Rattle.std.proofs.Common.{arith, ◌≡◌, ◌+◌, ℕ, zero, suc, List, [], ◌∷◌, ◌++◌, map, sym, ap, ◌∙◌}
+use Rattle.std.proofs.Common.{arith, ◌≡◌, ◌+◌, ℕ, zero, suc, List, [], ◌∷◌, ◌++◌, length, map, refl, sym, ap, ap₂, ◌∙◌}
 use Rattle.std.specs.List.{range_with_len}
 use Rattle.std.specs.Prelude.{Some, flat_map, slice_get, unwrap_or}
 use Rattle.std.proofs.lemmas.Grind.{flat_map-append}
@@ -37,3 +37,14 @@ written_more {A} f n =
     ∙ ap (λ (k : ℕ). flat_map f (range_with_len 0 n ++ (k ∷ []))) last
     ∙ flat_map-append f (range_with_len 0 n) (n ∷ [])
     ∙ ap (λ (t : List A). flat_map f (range_with_len 0 n) ++ t) (append-nil (f n))
+
+-- of equally long lists, what a function makes of each place's element
+pub one_drawn : {X Y : Type 0} (v : X → Y) (f : ℕ → Y) (xs ys : List X) → length xs ≡ length ys
+    → ((k : ℕ) (x : X) → slice_get xs k ≡ Some x → v x ≡ f k)
+    → ((k : ℕ) (y : X) → slice_get ys k ≡ Some y → v y ≡ f k) → map v xs ≡ map v ys
+one_drawn v f [] [] count one other = refl
+one_drawn v f [] (y ∷ ys) count one other = absurd (omega arith)
+one_drawn v f (x ∷ xs) [] count one other = absurd (omega arith)
+one_drawn {X} {Y} v f (x ∷ xs) (y ∷ ys) count one other =
+    ap₂ (λ (z : Y) (zs : List Y). z ∷ zs) (one 0 x refl ∙ sym (other 0 y refl))
+    (one_drawn v (λ k. f (suc k)) xs ys (omega arith) (λ k. one (suc k)) (λ k. other (suc k)))

@@ -1,5 +1,5 @@
-//! Laws of the blocks that are drawn, each the contract of a function that does nothing.
-ghost use Rattle.workload.specs.Laws.{DrawnBlocksAreWithinLimits, DrawnTextsSpellBlocks};
+//! Laws of what is drawn, each the contract of a function that does nothing.
+ghost use Rattle.workload.specs.Laws.{DrawnBlocksAreWithinLimits, DrawnTextsSpellBlocks, WorkloadsAreOne};
 
 use fcl_check::spelled_blocks_are_valid;
 use fcl_syntax::cuts_are_tokens;
@@ -16,3 +16,8 @@ pub(crate) fn drawn_texts_spell_blocks()
     cuts_are_tokens();
     spelled_blocks_are_valid()
 }
+
+/// A number draws one block, the bytes of one list of samples, and one plan.
+pub fn workloads_are_one()
+    ensures { WorkloadsAreOne }
+{}
