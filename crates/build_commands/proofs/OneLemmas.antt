@@ -1,6 +1,6 @@
 -- Files make at most one output.
 use Rattle.std.proofs.Common.{◌≡◌, ◌∙◌, ℕ, List, sym, ap, subst}
-use Rattle.std.specs.Prelude.{Ok, Result, Some, length}
+use Rattle.std.specs.Prelude.{Ok, Result, Some, codes, length}
 use Rattle.fuzzy_meaning.specs.declared.block.Block.{Block}
 use Rattle.box_tree.specs.{Texts.lines_of, Trees.leaf_count, declared.cert.Cert.Cert}
 use Rattle.cpu12_emul.specs.{Image.ImagesLoadAlike, Image.image_memory, Run.EndsRun, Run.RunsEndOnce, Step.reset_with}
@@ -10,14 +10,17 @@ use Rattle.error_certifier.specs.{Halving.IsHalving, Laws.AnswersAreOne, declare
 use Rattle.eval_code.specs.Bounds.{instruction_bound, steps_by}
 use Rattle.byte_scaling.specs.{Widths.parts, declared.width.Width.TheVariants.Byte}
 use Rattle.alone_code.specs.declared.firmware.Firmware.{Firmware}
+use Rattle.cpu12_asm.specs.{Bytes.byte_at, Bytes.start_of, Giving.Given, Laws.AscendingBytesAreOne}
 use Rattle.cpu12_asm.specs.declared.image.Image.{Image}
+use Rattle.handler_check.specs.Images.{CountsAreOne}
 use Rattle.srecord.specs.{Images.ImageText, Laws.ImageTextsAreOne, Laws.ImagesAreOne}
 use Rattle.two_level_code.specs.{Images.fast_most, declared.two.Two.Two}
-use Rattle.build_commands.specs.{Certify.CertifyMakes, Certify.certify_lines, Check.CheckMakes, Check.check_lines}
-use Rattle.build_commands.specs.{Exec.ExecMakes, Exec.exec_line, Lcompile.LcompileMakes, Lcompile.lcompile_lines}
+use Rattle.build_commands.specs.{Asm.AsmMakes, Certify.CertifyMakes, Certify.certify_lines, Check.CheckMakes}
+use Rattle.build_commands.specs.{Check.check_lines, Exec.ExecMakes, Exec.exec_line, Hcheck.HcheckMakes}
+use Rattle.build_commands.specs.Lcompile.{LcompileMakes, lcompile_lines}
 use Rattle.command_parts.specs.Certs.{AcceptedErrorsAreOne, AcceptsCert}
 use Rattle.command_parts.specs.SeenOutputs.{OutputsAreOne, SeenOutput, only_text}
-use Rattle.command_parts.specs.{Firmwares.GivenFirmwaresAreOne, Twos.GivenTwosAreOne}
+use Rattle.command_parts.specs.{Firmwares.GivenFirmwaresAreOne, Lines.line, Twos.GivenTwosAreOne}
 use Rattle.build_commands.specs.Written.{WritesFirmware, WritesImage, compile_lines}
 use Rattle.build_commands.specs.declared.{certify.Certify.Certify, check.Check.Check, exec.Exec.Exec}
 
@@ -90,3 +93,24 @@ two_compile_once texts twos slow fast output other a b =
     writes_once texts a.two.image b.two.image 4 _ _ output other (ap (λ (t : Two). t.image) one.2)
     (λ i. lcompile_lines (instruction_bound Byte (one.0 i)) (fast_most (instruction_bound Byte (one.1 i)))
     (length (one.2 i).image.bytes)) a.writes b.writes
+
+pub assembles_once : AscendingBytesAreOne → ImageTextsAreOne → (source : List ℕ) → OutputsAreOne (AsmMakes source)
+assembles_once ascending texts source output other a b =
+    let p = a.assembles in
+    let q = b.assembles in
+    let given : p.given ≡ q.given = let e : Ok p.given ≡ Ok q.given = sym p.assembled ∙ q.assembled in cc in
+    let bytes : a.image.bytes ≡ b.image.bytes =
+    ascending a.image.bytes b.image.bytes a.ascending b.ascending
+    (λ at. p.holds.bytes at ∙ ap (λ (g : Given). byte_at g.bytes at) given ∙ sym (q.holds.bytes at)) in
+    let start : a.image.start ≡ b.image.start = a.start ∙ ap start_of bytes ∙ sym b.start in
+    writes_once texts a.image b.image 3 _ _ output other (λ i. record { bytes = bytes i; start = start i })
+    (λ i. line (codes "bytes ") (length (bytes i))) a.writes b.writes
+
+pub counts_once : ImagesAreOne → CountsAreOne → (text : List ℕ) → OutputsAreOne (HcheckMakes text)
+counts_once images counts text output other a b =
+    let p = a.gives in
+    let q = b.gives in
+    let same : a.instrs ≡ b.instrs =
+    counts a.image.bytes b.image.bytes a.instrs b.instrs (images text a.image b.image p.spelled q.spelled).1 p.handler
+    q.handler in
+    a.output_is ∙ (λ i. only_text (line (codes "handler instructions ") (same i))) ∙ sym b.output_is

@@ -8,7 +8,9 @@ use command_parts::firmware::{
     given_firmwares_are_one, given_mailboxes_are_one, given_watched_are_one,
 };
 use command_parts::twos::given_twos_are_one;
-use srecord::image_texts_are_one;
+use cpu12_asm::ascending_bytes_are_one;
+use handler_check::laws::answers_are_one;
+use srecord::{image_texts_are_one, images_are_one};
 
 /// Contents that are accepted make an output.
 pub fn accepted_contents_make_output()
@@ -26,5 +28,8 @@ pub fn contents_make_one_output()
     given_mailboxes_are_one();
     given_watched_are_one();
     given_twos_are_one();
-    image_texts_are_one()
+    image_texts_are_one();
+    ascending_bytes_are_one();
+    images_are_one();
+    answers_are_one()
 }

@@ -4,7 +4,8 @@ ghost use Rattle.std.specs.List.{All};
 ghost use Rattle.fuzzy_meaning.specs.Blocks.{IsValid};
 ghost use Rattle.interrupt_plan.specs.Levels.{SpellsLevels};
 ghost use Rattle.fz_status.specs.{Refusals.IsRefusal, Words.texts_of};
-ghost use Rattle.command_parts.specs.{Contents.bytes_of, SeenOutputs.OutputHasNoFault, SeenOutputs.IsResultOf};
+ghost use Rattle.command_parts.specs.Contents.{bytes_of};
+ghost use Rattle.command_parts.specs.SeenOutputs.{OutputHasNoFault, OutputsAreOne, IsResultOf};
 ghost use Rattle.run_reports.specs.LevelRun.{AcceptsCerts, AcceptsLevels, LevelFiles, SpellTraces};
 ghost use Rattle.form_commands.specs.Lrun.{AcceptedLevelRunsMakeOutput, LrunMakes, certs_refusals, level_files};
 ghost use Rattle.form_commands.specs.Lrun.{levels_refusals, lrun_in, lrun_refusals, traces_refusals};
@@ -14,7 +15,9 @@ use crate::level_lines::lines;
 use alone_runs::laws::answers_under_plans;
 use box_tree::CertKind;
 use byte_scaling::Width;
-use command_parts::certs::{accepted_certs_have_no_fault, errors_under};
+use command_parts::certs::{
+    accepted_certs_have_no_fault, accepted_errors_are_one, errors_under,
+};
 use command_parts::contents::content;
 use command_parts::firmware::spelled_texts_have_no_fault;
 use command_parts::images::{given_images_have_no_fault, require_image};
@@ -23,11 +26,13 @@ use command_parts::twos::{CompiledTwo, given_twos_are_one, two_of};
 use command_parts::words::flags;
 use fuzzy_meaning::Block;
 use fz_status::{Status, word};
-use interrupt_plan::{Levels, PlanFault, read_levels, spelled_levels_have_no_fault};
+use interrupt_plan::{
+    Levels, PlanFault, read_levels, spelled_entries_are_one, spelled_levels_have_no_fault,
+};
 use run_reports::inputs::samples_of;
 use run_reports::laws::{
-    answers_are_reported, answers_keep_the_bound, spelled_bytes_fit, spelled_traces_are_one_long,
-    spelled_traces_are_short,
+    answers_are_reported, answers_keep_the_bound, spelled_bytes_fit, spelled_inputs_are_one,
+    spelled_traces_are_one_long, spelled_traces_are_short,
 };
 use run_reports::nearness::posted_answers_are_near;
 use std::alloc::Global;
@@ -238,4 +243,14 @@ pub fn accepted_level_runs_make_output()
     rows_are_seen();
     alone_has_byte_bounds();
     answers_under_levels()
+}
+
+/// Files make at most one output.
+pub fn lrun_outputs_are_one()
+    ensures { (lrun : TheLrun) (files : LevelFiles) → OutputsAreOne (LrunMakes lrun files) }
+{
+    accepted_errors_are_one();
+    spelled_inputs_are_one();
+    given_twos_are_one();
+    spelled_entries_are_one()
 }

@@ -4,7 +4,8 @@ ghost use Rattle.std.specs.Prelude.{◌≡◌, ◌≤◌, length, IfOk, IfErr};
 ghost use Rattle.std.specs.List.{All};
 ghost use Rattle.interrupt_plan.specs.Posts.{SpellsPosts};
 ghost use Rattle.fz_status.specs.{Refusals.IsRefusal, Words.texts_of};
-ghost use Rattle.command_parts.specs.{Contents.bytes_of, SeenOutputs.OutputHasNoFault, SeenOutputs.IsResultOf};
+ghost use Rattle.command_parts.specs.Contents.{bytes_of};
+ghost use Rattle.command_parts.specs.SeenOutputs.{OutputHasNoFault, OutputsAreOne, IsResultOf};
 ghost use Rattle.form_commands.specs.Mrun.{AcceptedPostedRunsMakeOutput, MrunMakes, mrun_in, mrun_refusals};
 ghost use Rattle.form_commands.specs.Mrun.{posted_files, posts_refusals};
 ghost use Rattle.form_commands.specs.declared.mrun.Mrun.{Mrun as TheMrun};
@@ -13,7 +14,9 @@ ghost use Rattle.run_reports.specs.PostedRun.{AcceptsPosted, PostedFiles};
 use crate::posted_lines::lines;
 use box_tree::CertKind;
 use byte_scaling::Width;
-use command_parts::certs::{accepted_certs_have_no_fault, errors_under};
+use command_parts::certs::{
+    accepted_certs_have_no_fault, accepted_errors_are_one, errors_under,
+};
 use command_parts::contents::content;
 use command_parts::firmware::{
     Compiled, given_mailboxes_are_one, mailbox_of, spelled_texts_have_no_fault,
@@ -22,11 +25,13 @@ use command_parts::images::{given_images_have_no_fault, require_image};
 use command_parts::output::Output;
 use command_parts::words::flags;
 use fz_status::{Status, word};
-use interrupt_plan::{PlanFault, Posts, read_posts, spelled_posts_have_no_fault};
+use interrupt_plan::{
+    PlanFault, Posts, read_posts, spelled_entries_are_one, spelled_posts_have_no_fault,
+};
 use mailbox_runs::{last_is_answered, posts_are_answered, run_posts};
 use run_reports::inputs::samples_of;
 use run_reports::laws::{
-    answers_keep_the_bound, spelled_bytes_fit, spelled_traces_are_one_long,
+    answers_keep_the_bound, spelled_bytes_fit, spelled_inputs_are_one, spelled_traces_are_one_long,
     spelled_traces_are_short,
 };
 use run_reports::nearness::posted_answers_are_near;
@@ -149,4 +154,14 @@ pub fn accepted_posted_runs_make_output()
     posted_answers_are_near();
     last_is_answered();
     posts_are_answered()
+}
+
+/// Files make at most one output.
+pub fn mrun_outputs_are_one()
+    ensures { (mrun : TheMrun) (files : PostedFiles) → OutputsAreOne (MrunMakes mrun files) }
+{
+    accepted_errors_are_one();
+    spelled_inputs_are_one();
+    given_mailboxes_are_one();
+    spelled_entries_are_one()
 }

@@ -5,7 +5,7 @@ ghost use Rattle.std.specs.List.{All};
 ghost use Rattle.interrupt_plan.specs.UpsetTexts.{SpellsUpsets};
 ghost use Rattle.fz_status.specs.{Refusals.IsRefusal, Words.texts_of};
 ghost use Rattle.command_parts.specs.{Contents.bytes_of, Lines.counted};
-ghost use Rattle.command_parts.specs.SeenOutputs.{OutputHasNoFault, IsResultOf};
+ghost use Rattle.command_parts.specs.SeenOutputs.{OutputHasNoFault, OutputsAreOne, IsResultOf};
 ghost use Rattle.form_commands.specs.Srun.{AcceptedWatchedRunsMakeOutput, AcceptsWatched, SrunMakes, srun_in};
 ghost use Rattle.form_commands.specs.Srun.{srun_refusals, upset_refusals, watched_files, watched_row_lines};
 ghost use Rattle.form_commands.specs.declared.srun.Srun.{Srun as TheSrun};
@@ -15,6 +15,7 @@ ghost use Rattle.watched_runs.specs.Rows.{row_seen};
 
 use box_tree::CertKind;
 use byte_scaling::Width;
+use command_parts::certs::accepted_errors_are_one;
 use command_parts::contents::content;
 use command_parts::firmware::{
     Compiled, given_watched_are_one, spelled_texts_have_no_fault, watched_firmware_of,
@@ -24,9 +25,11 @@ use command_parts::output::Output;
 use command_parts::words::flags;
 use cpu12_asm::Image;
 use fz_status::{Status, word};
-use interrupt_plan::{UpsetFault, Upsets, read_upsets, spelled_upsets_have_no_fault};
+use interrupt_plan::{
+    UpsetFault, Upsets, read_upsets, spelled_entries_are_one, spelled_upsets_have_no_fault,
+};
 use run_reports::inputs::{Inputs, inputs_of};
-use run_reports::laws::{accepted_inputs_have_no_fault, spelled_bytes_fit};
+use run_reports::laws::{accepted_inputs_have_no_fault, spelled_bytes_fit, spelled_inputs_are_one};
 use run_reports::nearness::faultless_answers_are_near;
 use run_reports::row_lines::{begun, push_labelled_row};
 use std::alloc::{AllocError, Global};
@@ -158,4 +161,14 @@ pub fn accepted_watched_runs_make_output()
     faultless_answers_are_near();
     spelled_bytes_fit();
     answers_under_all_upsets()
+}
+
+/// Files make at most one output.
+pub fn srun_outputs_are_one()
+    ensures { (srun : TheSrun) (files : WatchedFiles) → OutputsAreOne (SrunMakes srun files) }
+{
+    accepted_errors_are_one();
+    spelled_inputs_are_one();
+    given_watched_are_one();
+    spelled_entries_are_one()
 }

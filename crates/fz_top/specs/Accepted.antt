@@ -1,9 +1,9 @@
--- The contents that commands accept.
+-- The contents that commands accept, and how many outputs contents make.
 -- Beside the promise.
 use Rattle.std.specs.Prelude.{◌<◌, ◌^◌, ℕ, List}
 use Rattle.build_commands.specs.{Asm.AsmAccepts, Certify.CertifyAccepts, Check.CheckAccepts, Compile.CompileAccepts}
 use Rattle.build_commands.specs.{Lcompile.LcompileAccepts, Mcompile.McompileAccepts, Scompile.ScompileAccepts}
-use Rattle.command_parts.specs.{Contents.content_at, SeenOutputs.HasOutput}
+use Rattle.command_parts.specs.{Contents.content_at, SeenOutputs.HasOutput, SeenOutputs.OutputsAreOne}
 use Rattle.build_commands.specs.{Exec.ExecAccepts, Hcheck.HcheckAccepts}
 use Rattle.run_commands.specs.{Debug.DebugAccepts, Debug.debug_files, Generate.GenerateAccepts}
 use Rattle.run_commands.specs.Run.{RunAccepts, files_in}
@@ -47,3 +47,7 @@ run_flags _ = 0
 abbrev pub AcceptedCommandsMakeOutput : Type 0
 AcceptedCommandsMakeOutput = (command : Command) (contents : List (List ℕ)) → run_flags command < 2 ^ 8
     → Accepts command contents → HasOutput (Makes command contents)
+
+-- and no contents make two
+abbrev pub CommandsMakeOneOutput : Type 0
+CommandsMakeOneOutput = (command : Command) (contents : List (List ℕ)) → OutputsAreOne (Makes command contents)

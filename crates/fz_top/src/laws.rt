@@ -1,5 +1,6 @@
 //! Laws of what commands make, each the contract of a function that does nothing.
-ghost use Rattle.fz_top.specs.{Accepted.AcceptedCommandsMakeOutput, Runs.OutputsHaveNoFault};
+ghost use Rattle.fz_top.specs.Accepted.{AcceptedCommandsMakeOutput, CommandsMakeOneOutput};
+ghost use Rattle.fz_top.specs.Runs.{OutputsHaveNoFault};
 
 use build_commands::asm::assembled_sources_have_no_fault;
 use build_commands::certify::certified_texts_have_no_fault;
@@ -7,17 +8,31 @@ use build_commands::check::checked_certs_have_no_fault;
 use build_commands::compile::compiled_texts_have_no_fault;
 use build_commands::exec::ended_runs_have_no_fault;
 use build_commands::hcheck::checked_handlers_have_no_fault;
-use build_commands::laws::accepted_contents_make_output;
+use build_commands::laws::{accepted_contents_make_output, contents_make_one_output};
 use build_commands::lcompile::two_texts_have_no_fault;
 use build_commands::mcompile::mailbox_texts_have_no_fault;
 use build_commands::scompile::watched_texts_have_no_fault;
-use form_commands::hrun::{accepted_handled_runs_make_output, handled_runs_have_no_fault};
-use form_commands::lrun::{accepted_level_runs_make_output, level_runs_have_no_fault};
-use form_commands::mrun::{accepted_posted_runs_make_output, posted_runs_have_no_fault};
-use form_commands::srun::{accepted_watched_runs_make_output, watched_runs_have_no_fault};
-use run_commands::debug::{accepted_debug_runs_make_output, debugged_runs_have_no_fault};
-use run_commands::generate::{accepted_numbers_make_output, generated_runs_have_no_fault};
-use run_commands::run::{accepted_runs_make_output, certified_runs_have_no_fault};
+use form_commands::hrun::{
+    accepted_handled_runs_make_output, handled_runs_have_no_fault, hrun_outputs_are_one,
+};
+use form_commands::lrun::{
+    accepted_level_runs_make_output, level_runs_have_no_fault, lrun_outputs_are_one,
+};
+use form_commands::mrun::{
+    accepted_posted_runs_make_output, mrun_outputs_are_one, posted_runs_have_no_fault,
+};
+use form_commands::srun::{
+    accepted_watched_runs_make_output, srun_outputs_are_one, watched_runs_have_no_fault,
+};
+use run_commands::debug::{
+    accepted_debug_runs_make_output, debug_outputs_are_one, debugged_runs_have_no_fault,
+};
+use run_commands::generate::{
+    accepted_numbers_make_output, generate_outputs_are_one, generated_runs_have_no_fault,
+};
+use run_commands::run::{
+    accepted_runs_make_output, certified_runs_have_no_fault, run_outputs_are_one,
+};
 
 /// Contents that make an output make no fault.
 pub(crate) fn outputs_have_no_fault()
@@ -53,4 +68,18 @@ pub(crate) fn accepted_commands_make_output()
     accepted_level_runs_make_output();
     accepted_posted_runs_make_output();
     accepted_watched_runs_make_output()
+}
+
+/// Contents make at most one output.
+pub fn commands_make_one_output()
+    ensures { CommandsMakeOneOutput }
+{
+    contents_make_one_output();
+    debug_outputs_are_one();
+    generate_outputs_are_one();
+    run_outputs_are_one();
+    hrun_outputs_are_one();
+    lrun_outputs_are_one();
+    mrun_outputs_are_one();
+    srun_outputs_are_one()
 }

@@ -9,7 +9,7 @@ use Rattle.cpu12_isa.specs.Agreement.{Agree}
 use Rattle.cpu12_asm.specs.Bytes.{byte_at}
 use Rattle.cpu12_asm.proofs.Algebra.{or_else, byte_at-append}
 use Rattle.cpu12_parts.specs.State.{State}
-use Rattle.cpu12_emul.specs.Image.{byte_or_zero, image_memory, HoldsImage}
+use Rattle.cpu12_emul.specs.Image.{byte_or_zero, image_memory, HoldsImage, ImagesLoadAlike}
 use Rattle.handler_check.specs.{Images.IsWhole, Running.HasImage}
 use Rattle.alone_code.specs.{declared.firmware.Firmware.Firmware, Answers.LeavesMapped}
 use Rattle.eval_code.specs.{MemoryMaps.main_map, Evaluation.Reads, Evaluation.Writes}
@@ -57,6 +57,16 @@ behind_vector firmware handler at a b =
     ap (λ (t : Bool). cond t (Some 64) (cond (is_at (nat_cmp at) 65523) (Some 0) (byte_at rest at))) (other 65522 at a)
     ∙ ap (λ (t : Bool). cond t (Some 0) (byte_at rest at)) (other 65523 at b)
     ∙ byte_at-append at handler firmware
+
+-- beside handlers with the same bytes it is the same memory
+pub joint_alike : ImagesLoadAlike → (firmware handler other : List (ℕ × ℕ))
+    → ((at : ℕ) → byte_at handler at ≡ byte_at other at)
+    → joint_memory firmware handler ≡ joint_memory firmware other
+joint_alike loads firmware handler other same =
+    loads (joint_bytes firmware handler) (joint_bytes firmware other) (λ at.
+    ap (λ (o : Option ℕ). cond (is_at (nat_cmp at) 65522) (Some 64) (cond (is_at (nat_cmp at) 65523) (Some 0) o))
+    (byte_at-append at handler firmware ∙ ap (λ (o : Option ℕ). or_else o (byte_at firmware at)) (same at)
+    ∙ sym (byte_at-append at other firmware)))
 
 -- at a place that is not open it has the firmware's
 none_shown : (handler : List (ℕ × ℕ)) (at : ℕ) → IsWhole handler → is_open_to_code at ≡ false

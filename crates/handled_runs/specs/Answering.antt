@@ -5,6 +5,7 @@ use Rattle.fuzzy_meaning.specs.{declared.block.Block.Block, Blocks.IsValid}
 use Rattle.rule_layout.specs.Layouts.{IsWithinLimits}
 use Rattle.cpu12_emul.specs.Simulation.{OnStackOnly}
 use Rattle.run_law.specs.Following.{AllComplete, RowsSimulate}
+use Rattle.cpu12_asm.specs.Bytes.{byte_at}
 use Rattle.handler_check.specs.Images.{IsHandler}
 use Rattle.interrupt_plan.specs.{declared.Request.Request, Plans.IsGood}
 use Rattle.alone_code.specs.{declared.firmware.Firmware.Firmware, Firmwares.IsFirmwareOf}
@@ -63,3 +64,9 @@ HandledAnswers =
     (f : Firmware) (handler : List (ℕ × ℕ)) (most flags : ℕ) (samples : List (List ℕ)) (plan : List Request)
     → flags < 2 ^ 8 → IsGood plan → IsHandler handler most
     → HandlesItsBlock f handler most flags samples plan (handled_seen f handler samples plan flags)
+
+-- Handlers with the same bytes give the same rows.
+abbrev pub HandlersRunAlike : Type 0
+HandlersRunAlike = (f : Firmware) (handler other : List (ℕ × ℕ)) (samples : List (List ℕ)) (plan : List Request)
+    (flags : ℕ) → ((at : ℕ) → byte_at handler at ≡ byte_at other at)
+    → handled_seen f handler samples plan flags ≡ handled_seen f other samples plan flags

@@ -1,5 +1,5 @@
 //! Laws of runs whose interrupts run code.
-ghost use Rattle.handled_runs.specs.Answering.{HandledAnswers};
+ghost use Rattle.handled_runs.specs.Answering.{HandledAnswers, HandlersRunAlike};
 
 use crate::back::HandlerEnd;
 use crate::form::WithCode;
@@ -9,7 +9,7 @@ use alone_runs::laws::{
     firmware_runs_beside, first_states_agree, first_states_alike, given_leaves_open,
     requests_are_good, runs_follow_beside, steps_leave_open,
 };
-use cpu12_emul::laws::holds_image;
+use cpu12_emul::laws::{holds_image, images_load_alike};
 use handler_check::laws::handlers_are_quiet;
 use interrupt_plan::Request;
 use run_forms::Room;
@@ -34,4 +34,11 @@ pub fn handled_answers()
     requests_are_good();
     runs_follow::<HandledForm>();
     rows_are_shown::<Request, Room<HandlerEnd>, HandledRow, WithCode>();
+}
+
+/// Handlers with the same bytes give the same rows.
+pub fn handlers_run_alike()
+    ensures { HandlersRunAlike }
+{
+    images_load_alike()
 }

@@ -1,10 +1,14 @@
--- Files make at most one output.
+-- Files, and a number, make at most one output.
 use Rattle.std.proofs.Common.{◌≡◌, ◌∙◌, sym, ap, subst}
-use Rattle.std.specs.Prelude.{None, Ok, map}
+use Rattle.std.specs.Prelude.{None, Ok, Result, map}
 use Rattle.fuzzy_meaning.specs.declared.block.Block.{Block}
 use Rattle.debug_script.specs.{Showing.shown}
 use Rattle.eval_code.specs.Bounds.{instruction_bound}
-use Rattle.byte_scaling.specs.declared.width.Width.TheVariants.{Byte}
+use Rattle.byte_scaling.specs.{Widths.parts, declared.width.Width.TheVariants.Byte}
+use Rattle.box_tree.specs.declared.{cert.Cert.Cert, cert.CertKind.TheVariants.Named}
+use Rattle.error_certifier.specs.{Halving.IsHalving, Laws.AnswersAreOne, declared.certifier.NotReached.NotReached}
+use Rattle.alone_code.specs.{Alike.FirmwaresAreOne, Firmwares.IsFirmwareOf}
+use Rattle.workload.specs.Laws.{WorkloadsAreOne}
 use Rattle.run_forms.specs.Positions.{positions}
 use Rattle.trace_io.specs.Traces.{Spells as SpellsTrace, input_bytes}
 use Rattle.alone_runs.specs.Rows.{firmware_rows, first_state}
@@ -13,7 +17,8 @@ use Rattle.command_parts.specs.{Firmwares.GivenFirmwaresAreOne, SeenOutputs.Outp
 use Rattle.run_reports.specs.{Laws.SpelledInputsAreOne}
 use Rattle.run_reports.specs.{Reports.Files, Reports.left_of, RowLines.run_lines}
 use Rattle.run_commands.specs.{Run.RunMakes, Debug.DebugFiles, Debug.DebugMakes, Debug.debug_lines}
-use Rattle.run_commands.specs.declared.{debug.DebugRun.DebugRun, run.Run.Run}
+use Rattle.run_commands.specs.Generate.{GenerateMakes, generate_lines, generated_target}
+use Rattle.run_commands.specs.declared.{debug.DebugRun.DebugRun, generate.Generate.Generate, run.Run.Run}
 
 pub runs_once : GivenFirmwaresAreOne → AcceptedErrorsAreOne → SpelledInputsAreOne → (run : Run) (files : Files)
     → OutputsAreOne (RunMakes run files)
@@ -55,3 +60,25 @@ debug_runs_once firmwares inputs debug files output other a b =
           (firmware_rows (one.1 i) (bytes i) (plan i) debug.flags))) (rows i);
       file = None;
     }) ∙ sym b.output_is
+
+pub generates_once : WorkloadsAreOne → FirmwaresAreOne → AnswersAreOne → (generate : Generate)
+    → OutputsAreOne (GenerateMakes generate)
+generates_once workloads firmwares answers generate output other a b =
+    let one = workloads generate.number a.text a.trace a.plan b.text b.trace b.plan a.block b.block a.samples b.samples
+    a.requests b.requests a.workload b.workload in
+    let firmware : a.firmware ≡ b.firmware =
+    firmwares a.block a.firmware b.firmware (a.gives.wide ∙ sym b.gives.wide) a.gives.compiled
+    (subst (λ (c : Block). IsFirmwareOf c b.firmware) (sym one.0) b.gives.compiled) in
+    let x : Result Cert NotReached = Ok a.cert in
+    let y : Result Cert NotReached = Ok b.cert in
+    let same : x ≡ y = answers Named a.block (parts Byte) generated_target x y a.gives.spelled.valid a.halving
+    (subst (λ (c : Block). IsHalving Named c (parts Byte) generated_target b.cert) (sym one.0) b.halving) in
+    let cert : a.cert ≡ b.cert = cc in
+    let errors : a.report.errors ≡ b.report.errors = a.errors ∙ ap (λ (c : Cert). c.claims) cert ∙ sym b.errors in
+    let rows : a.report.rows ≡ b.report.rows =
+    a.reported.ran ∙ (λ i. (firmware_rows (firmware i) (one.1 i) (one.2 i) 0).rows) ∙ sym b.reported.ran in
+    let bound : a.report.bound ≡ b.report.bound =
+    a.reported.bound ∙ ap (instruction_bound Byte) one.0 ∙ sym b.reported.bound in
+    a.output_is
+    ∙ (λ i. record { text = generate_lines generate.number (errors i) (bound i) (rows i); file = None })
+    ∙ sym b.output_is

@@ -7,12 +7,12 @@ ghost use Rattle.alone_code.specs.Firmwares.{IsFirmwareOf};
 ghost use Rattle.alone_runs.specs.Rows.{row_seen};
 ghost use Rattle.fz_shelf.specs.Lines.{text_of};
 ghost use Rattle.fz_status.specs.Words.{texts_of};
-ghost use Rattle.command_parts.specs.SeenOutputs.{OutputHasNoFault, IsResultOf};
+ghost use Rattle.command_parts.specs.SeenOutputs.{OutputHasNoFault, OutputsAreOne, IsResultOf};
 ghost use Rattle.run_commands.specs.Generate.{AcceptedNumbersMakeOutput, GenerateMakes, generate_in, generate_lines};
 ghost use Rattle.run_commands.specs.Generate.{frames_of, resumed_of, answers_of};
 ghost use Rattle.run_commands.specs.declared.generate.Generate.{Generate as TheGenerate};
 
-use alone_code::{Firmware, compile};
+use alone_code::{Firmware, compile, firmwares_are_one};
 use alone_runs::laws::answers_under_plans;
 use alone_runs::{Row, run};
 use box_tree::CertKind;
@@ -21,12 +21,13 @@ use command_parts::certs::{halved, halved_blocks_do_not_stop};
 use command_parts::lines::{labelled, push_errors};
 use command_parts::output::Output;
 use command_parts::words::number32_in;
+use error_certifier::answers_are_one;
 use fuzzy_meaning::Block;
 use fz_status::{Status, word};
 use rule_layout::{LayoutFault, limits_have_no_fault};
 use run_reports::laws::answers_are_reported;
 use std::alloc::{AllocError, Global};
-use workload::drawn_blocks_are_within_limits;
+use workload::{drawn_blocks_are_within_limits, workloads_are_one};
 
 /// `gen NUMBER`.
 #[derive(Clone, Copy, Debug, PartialEq, Eq)]
@@ -165,4 +166,13 @@ pub fn accepted_numbers_make_output()
 {
     answers_are_reported();
     answers_under_plans()
+}
+
+/// A number makes at most one output.
+pub fn generate_outputs_are_one()
+    ensures { (generate : TheGenerate) → OutputsAreOne (GenerateMakes generate) }
+{
+    workloads_are_one();
+    firmwares_are_one();
+    answers_are_one()
 }

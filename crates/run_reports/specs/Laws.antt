@@ -7,7 +7,8 @@ use Rattle.cert_check.specs.Acceptance.{IsAccepted}
 use Rattle.eval_code.specs.Firing.{AreInputBytes}
 use Rattle.byte_scaling.specs.{Widths.parts, declared.width.Width.Width}
 use Rattle.alone_code.specs.{Uninterrupted.Answer, Uninterrupted.AreAnswersOf, declared.firmware.Firmware.Firmware}
-use Rattle.interrupt_plan.specs.{Plans.Spells as SpellsPlan, declared.Request.Request}
+use Rattle.interrupt_plan.specs.{OneReading.SpelledPlansAreOne, Plans.Spells as SpellsPlan}
+use Rattle.interrupt_plan.specs.declared.Request.{Request}
 use Rattle.trace_io.specs.{Traces.Spells as SpellsTrace, declared.sample.Sample.Sample}
 use Rattle.run_law.specs.Forms.{RowSeen}
 use Rattle.alone_runs.specs.{Answering.AnswersItsBlock, Rows.firmware_rows}
@@ -68,12 +69,7 @@ SpelledSamplesAreOne = (inputs : List Input) (trace : List ℕ) (samples those :
     → SpellsTrace inputs trace samples → SpellsTrace inputs trace those
     → map input_bytes samples ≡ map input_bytes those
 
--- a text spells one plan
-abbrev pub SpelledPlansAreOne : Type 0
-SpelledPlansAreOne =
-    (text : List ℕ) (plan other : List Request) → SpellsPlan text plan → SpellsPlan text other → plan ≡ other
-
--- so it is with both
+-- and a text one plan
 pub record SpelledInputsAreOne : Type 0 where
   pub samples : SpelledSamplesAreOne
   pub plans : SpelledPlansAreOne

@@ -6,7 +6,7 @@ ghost use Rattle.run_reports.specs.Laws.{SpelledInputsAreOne, SpelledTracesAreSh
 use crate::nearness::answers_are_within_errors;
 use command_parts::certs::accepted_certs_have_no_fault;
 use fz_rows::first_rows_are_one;
-use interrupt_plan::spelled_plans_have_no_fault;
+use interrupt_plan::{spelled_entries_are_one, spelled_plans_have_no_fault};
 use trace_io::spelled_traces_have_no_fault;
 
 /// A trace spells at most 10000 samples.
@@ -58,5 +58,6 @@ pub fn accepted_inputs_have_no_fault()
 pub fn spelled_inputs_are_one()
     ensures { SpelledInputsAreOne }
 {
-    first_rows_are_one()
+    first_rows_are_one();
+    spelled_entries_are_one()
 }
