@@ -1,7 +1,7 @@
 //! Firmware.
 ghost use Rattle.std.specs.Prelude.{◌≡◌, ◌<◌, ◌^◌, length, true, false, IfOk, IfErr, OnOk};
 ghost use Rattle.fuzzy_meaning.specs.Blocks.{IsValid};
-ghost use Rattle.rule_layout.specs.Layouts.{IsWithinLimits, IsFaultOf};
+ghost use Rattle.rule_layout.specs.Layouts.{flat_of, IsLaidOut, IsWithinLimits, IsFaultOf};
 ghost use Rattle.cpu12_asm.specs.Items.{IsRising};
 ghost use Rattle.alone_code.specs.{Images.IsImageOf, Firmwares.IsFirmwareOf, Answers.AnswersFrom};
 ghost use Rattle.alone_code.specs.Uninterrupted.{AnswersUninterrupted};
@@ -13,7 +13,7 @@ use byte_scaling::Width;
 use cpu12_asm::{AsmFault, Image, Item, assemble_items};
 use eval_code::{MemoryMap, blocks_are_placed, instruction_bound, steps_by};
 use fuzzy_meaning::Block;
-use rule_layout::{LayoutFault, spread};
+use rule_layout::{Flat, LayoutFault, spread};
 use std::alloc::{AllocError, Global};
 
 /// A block's firmware.
@@ -51,7 +51,7 @@ pub fn compile(alloc: Global, block: &Block) -> Result<Firmware, LayoutFault>
     ensures limits { OnOk result (IsWithinLimits block.now) }
     ensures fault { IfErr result (IsFaultOf block.now) }
 {
-    compile_at(alloc, Width::Byte, block)
+    compile_for(alloc, Width::Byte, block)
 }
 
 /// The firmware of a block that answers 16 bits, from 0 to 65280 in steps of 1/256 of a byte, and
@@ -71,7 +71,7 @@ pub fn compile16(alloc: Global, block: &Block) -> Result<Firmware, LayoutFault>
     ensures limits { OnOk result (IsWithinLimits block.now) }
     ensures fault { IfErr result (IsFaultOf block.now) }
 {
-    compile_at(alloc, Width::Word, block)
+    compile_for(alloc, Width::Word, block)
 }
 
 /// The image of items that stand one above the other.
@@ -90,8 +90,8 @@ pub fn image_of(alloc: Global, items: &[Item]) -> Result<Image, AllocError>
     }
 }
 
-/// The firmware of a block with answers of a width.
-fn compile_at(alloc: Global, width: Width, block: &Block) -> Result<Firmware, LayoutFault>
+/// The same with answers of a width.
+pub fn compile_for(alloc: Global, width: Width, block: &Block) -> Result<Firmware, LayoutFault>
     requires { IsValid block.now }
     ensures firmware { IfOk result (IsFirmwareOf block.now) }
     ensures width { IfOk result (λ f. f.wide ≡ is_wide width) }
@@ -100,21 +100,34 @@ fn compile_at(alloc: Global, width: Width, block: &Block) -> Result<Firmware, La
     ensures limits { OnOk result (IsWithinLimits block.now) }
     ensures fault { IfErr result (IsFaultOf block.now) }
 {
+    let flat = spread(alloc, block)?;
+    Ok(compile_laid_out(alloc, width, block, &flat)?)
+}
+
+/// The same of a block whose layout is at hand: `flat` is its rules as `spread` lays them out. It wants
+/// nothing but memory.
+pub fn compile_laid_out(
+    alloc: Global,
+    width: Width,
+    block: &Block,
+    flat: &Flat,
+) -> Result<Firmware, AllocError>
+    requires valid { IsValid block.now }
+    requires limits { IsWithinLimits block.now }
+    requires flat { flat.now ≡ flat_of block.now }
+    requires laid_out { IsLaidOut flat.now }
+    ensures firmware { IfOk result (IsFirmwareOf block.now) }
+    ensures width { IfOk result (λ f. f.wide ≡ is_wide width) }
+    ensures answers { IfOk result (AnswersFrom block.now) }
+    ensures uninterrupted { IfOk result (AnswersUninterrupted block.now) }
+{
     firmware_answers();
     firmware_is_uninterrupted();
     blocks_are_placed();
-    let flat = match spread(alloc, block) {
-        Ok(flat) => flat,
-        Err(fault) => return Err(fault),
-    };
-    let Ok(items) = firmware_items(alloc, &MemoryMap::MAIN, width, block, &flat) else {
-        return Err(LayoutFault::Memory);
-    };
-    let Ok(image) = image_of(alloc, items.as_slice()) else {
-        return Err(LayoutFault::Memory);
-    };
-    let instr_bound = instruction_bound(width, block, &flat);
-    let step_bound = steps_by(block, &flat, instr_bound);
+    let items = firmware_items(alloc, &MemoryMap::MAIN, width, block, flat)?;
+    let image = image_of(alloc, items.as_slice())?;
+    let instr_bound = instruction_bound(width, block, flat);
+    let step_bound = steps_by(block, flat, instr_bound);
     Ok(Firmware {
         image,
         memory_map: MemoryMap::MAIN,

@@ -15,7 +15,7 @@ mod items;
 pub mod laws;
 mod mailbox;
 
-pub use firmware::{Firmware, compile, compile16, image_of};
+pub use firmware::{Firmware, compile, compile_for, compile_laid_out, compile16, image_of};
 pub use items::{firmware_items, frame_code, push_vectors};
 pub use laws::{
     firmware_answers, firmware_is_uninterrupted, firmwares_are_one, mailbox_is_uninterrupted,

@@ -1,5 +1,6 @@
 //! From a text to its block, and to the block's firmware.
-ghost use Rattle.std.specs.Prelude.{◌≤◌, length, IfOk, IfErr};
+ghost use Rattle.std.specs.Prelude.{◌≡◌, ◌≤◌, length, IfOk, IfErr};
+ghost use Rattle.rule_layout.specs.Layouts.{flat_of, IsLaidOut};
 ghost use Rattle.fcl_check.specs.Texts.{SpellsBlock};
 ghost use Rattle.command_parts.specs.Firmwares.{GivesBlock, GivesFirmware, GivesMailbox, GivesWatched, text_refusals};
 ghost use Rattle.command_parts.specs.Firmwares.{GivenFirmwaresAreOne, GivenMailboxesAreOne, GivenWatchedAreOne};
@@ -14,7 +15,7 @@ use fcl_check::{LoadFault, load, load_faults_are_one, spelled_blocks_are_one};
 use fcl_syntax::{SyntaxFault, first_faults_are_one, parse};
 use fuzzy_meaning::Block;
 use fz_status::{FclFault, Status};
-use rule_layout::{LayoutFault, limits_have_no_fault, spread};
+use rule_layout::{Flat, LayoutFault, limits_have_no_fault, spread};
 use std::alloc::Global;
 use watched_code::{compile_scrub, watched_firmwares_are_one};
 
@@ -76,15 +77,25 @@ pub fn watched_firmware_of(alloc: Global, text: &[u8]) -> Result<Compiled, Statu
     }
 }
 
-/// The block that the text spells, which can be laid out. The faults are the same.
-pub(crate) fn laid_out_block_of(alloc: Global, text: &[u8]) -> Result<Block, Status>
+/// A block with its layout.
+#[derive(Drop)]
+pub(crate) struct LaidOut {
+    pub block: Block,
+    /// The block's rules as `spread` lays them out.
+    pub flat: Flat,
+}
+
+/// The block that the text spells, with its layout. The faults are the same.
+pub(crate) fn laid_out_block_of(alloc: Global, text: &[u8]) -> Result<LaidOut, Status>
     requires { length text.now ≤ 1048576 }
-    ensures gives { IfOk result (GivesBlock text.now) }
+    ensures gives { IfOk result (λ l. GivesBlock text.now l.block) }
+    ensures flat { IfOk result (λ l. l.flat ≡ flat_of l.block) }
+    ensures laid_out { IfOk result (λ l. IsLaidOut l.flat) }
     ensures fault { IfErr result (IsRefusal (text_refusals text.now)) }
 {
     let block = block_of(alloc, text)?;
     match spread(alloc, &block) {
-        Ok(_) => Ok(block),
+        Ok(flat) => Ok(LaidOut { block, flat }),
         Err(LayoutFault::Memory) => Err(Status::Memory),
         Err(fault) => Err(Status::Fcl(FclFault::Layout(fault))),
     }

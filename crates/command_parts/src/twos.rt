@@ -8,7 +8,7 @@ use fcl_check::spelled_blocks_are_one;
 use fuzzy_meaning::Block;
 use fz_status::Status;
 use std::alloc::Global;
-use two_level_code::{Two, compile_two, twos_are_one};
+use two_level_code::{Two, compile_two_laid_out, twos_are_one};
 
 /// A slow and a fast block with the firmware of both.
 #[derive(Drop)]
@@ -29,20 +29,17 @@ pub fn two_of(alloc: Global, slow: &[u8], fast: &[u8]) -> Result<CompiledTwo, St
     ensures gives { IfOk result (λ c. GivesTwo slow.now fast.now c.slow c.fast c.two) }
     ensures fault { IfErr result (IsRefusal (two_refusals slow.now fast.now)) }
 {
-    let slow_block = laid_out_block_of(alloc, slow)?;
-    let fast_block = match laid_out_block_of(alloc, fast) {
-        Ok(block) => block,
+    let slow = laid_out_block_of(alloc, slow)?;
+    let fast = match laid_out_block_of(alloc, fast) {
+        Ok(fast) => fast,
         Err(status) => return Err(status.of_fast()),
     };
-    // Both can be laid out, so nothing but memory is wanted.
-    match compile_two(alloc, &slow_block, &fast_block) {
-        Ok(two) => Ok(CompiledTwo {
-            slow: slow_block,
-            fast: fast_block,
-            two,
-        }),
-        Err(_) => Err(Status::Memory),
-    }
+    let two = compile_two_laid_out(alloc, &slow.block, &slow.flat, &fast.block, &fast.flat)?;
+    Ok(CompiledTwo {
+        slow: slow.block,
+        fast: fast.block,
+        two,
+    })
 }
 
 /// Two texts give two blocks, and one firmware of both.

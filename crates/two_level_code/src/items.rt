@@ -1,17 +1,16 @@
 //! The items of a slow firmware with a fast block.
 ghost use Rattle.std.specs.Prelude.{◌≡◌, IfOk};
 ghost use Rattle.fuzzy_meaning.specs.Blocks.{IsValid};
-ghost use Rattle.rule_layout.specs.Layouts.{flat_of, IsLaidOut, IsWithinLimits};
-ghost use Rattle.alone_code.specs.Images.{IsImageOf};
+ghost use Rattle.rule_layout.specs.Layouts.{flat_of, IsLaidOut};
 ghost use Rattle.two_level_code.specs.{Images.two_items, MemoryMaps.fast_map, MemoryMaps.slow_map};
 
-use alone_code::{frame_code, image_of, push_vectors};
+use alone_code::{frame_code, push_vectors};
 use byte_scaling::Width;
-use cpu12_asm::{Image, Item};
+use cpu12_asm::Item;
 use cpu12_isa::instr::Instr;
-use eval_code::{MemoryMap, blocks_are_placed, push_block};
+use eval_code::{MemoryMap, push_block};
 use fuzzy_meaning::Block;
-use rule_layout::{Flat, spread};
+use rule_layout::Flat;
 use std::alloc::{AllocError, Global};
 
 /// How far below the ROM of a firmware that stands alone the fast block has its own, and how far above its RAM.
@@ -44,7 +43,7 @@ pub fn fast_map() -> MemoryMap
 
 /// The items of the fast block and then those of the slow firmware. The flats are the blocks' rules as
 /// `spread` lays them out.
-fn two_items(
+pub(crate) fn two_items(
     alloc: Global,
     slow: &Block,
     slow_flat: &Flat,
@@ -90,23 +89,4 @@ fn two_items(
         },
     )?;
     Ok(items)
-}
-
-/// The image of both blocks, which wants nothing but memory.
-pub(crate) fn joint_image(alloc: Global, slow: &Block, fast: &Block) -> Result<Image, AllocError>
-    requires slow { IsValid slow.now }
-    requires slow_limits { IsWithinLimits slow.now }
-    requires fast { IsValid fast.now }
-    requires fast_limits { IsWithinLimits fast.now }
-    ensures { IfOk result (IsImageOf (two_items slow.now fast.now)) }
-{
-    blocks_are_placed();
-    let Ok(slow_flat) = spread(alloc, slow) else {
-        return Err(AllocError);
-    };
-    let Ok(fast_flat) = spread(alloc, fast) else {
-        return Err(AllocError);
-    };
-    let items = two_items(alloc, slow, &slow_flat, fast, &fast_flat)?;
-    image_of(alloc, items.as_slice())
 }

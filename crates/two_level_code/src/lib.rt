@@ -14,4 +14,4 @@ mod two;
 
 pub use items::fast_map;
 pub use laws::{alone_has_byte_bounds, fast_answers_entered, two_stand_beside, twos_are_one};
-pub use two::{Two, TwoFault, compile_two};
+pub use two::{Two, TwoFault, compile_two, compile_two_laid_out};

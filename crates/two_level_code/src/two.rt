@@ -1,16 +1,19 @@
 //! Two blocks at two levels.
 ghost use Rattle.std.specs.Prelude.{◌≡◌, IfOk, IfErr, OnOk};
 ghost use Rattle.fuzzy_meaning.specs.Blocks.{IsValid};
+ghost use Rattle.rule_layout.specs.Layouts.{flat_of, IsLaidOut, IsWithinLimits};
 ghost use Rattle.two_level_code.specs.{Images.IsTwoOf, Images.fast_most, Faults.AreWithinLimits, Faults.IsTwoFaultOf};
 ghost use Rattle.two_level_code.specs.{Running.AnswersEntered, Standing.StandsBeside, Standing.SlowAnswersBeside};
 
-use crate::items::joint_image;
+use crate::items::two_items;
 use crate::laws::{fast_answers_entered, two_stand_beside};
-use alone_code::{Firmware, compile};
+use alone_code::{Firmware, compile_laid_out, image_of};
+use byte_scaling::Width;
 use cpu12_asm::Image;
+use eval_code::blocks_are_placed;
 use fuzzy_meaning::Block;
-use rule_layout::LayoutFault;
-use std::alloc::Global;
+use rule_layout::{Flat, LayoutFault, spread};
+use std::alloc::{AllocError, Global};
 use thiserror::Error;
 
 /// A slow block with a fast one that runs inside its interrupts.
@@ -79,21 +82,49 @@ pub fn compile_two(alloc: Global, slow: &Block, fast: &Block) -> Result<Two, Two
     ensures limits { OnOk result (AreWithinLimits slow.now fast.now) }
     ensures fault { IfErr result (IsTwoFaultOf slow.now fast.now) }
 {
-    two_stand_beside();
-    fast_answers_entered();
-    let slow_alone = match compile(alloc, slow) {
-        Ok(firmware) => firmware,
+    let slow_flat = match spread(alloc, slow) {
+        Ok(flat) => flat,
         Err(LayoutFault::Memory) => return Err(TwoFault::Memory),
         Err(fault) => return Err(TwoFault::Slow(fault)),
     };
-    let fast_alone = match compile(alloc, fast) {
-        Ok(firmware) => firmware,
+    let fast_flat = match spread(alloc, fast) {
+        Ok(flat) => flat,
         Err(LayoutFault::Memory) => return Err(TwoFault::Memory),
         Err(fault) => return Err(TwoFault::Fast(fault)),
     };
-    let Ok(image) = joint_image(alloc, slow, fast) else {
-        return Err(TwoFault::Memory);
-    };
+    compile_two_laid_out(alloc, slow, &slow_flat, fast, &fast_flat)
+        .map_err(|_: AllocError| TwoFault::Memory)
+}
+
+/// The same of two blocks whose layouts are at hand: the flats are the blocks' rules as `spread` lays them
+/// out. It wants nothing but memory.
+pub fn compile_two_laid_out(
+    alloc: Global,
+    slow: &Block,
+    slow_flat: &Flat,
+    fast: &Block,
+    fast_flat: &Flat,
+) -> Result<Two, AllocError>
+    requires slow { IsValid slow.now }
+    requires slow_limits { IsWithinLimits slow.now }
+    requires slow_flat { slow_flat.now ≡ flat_of slow.now }
+    requires slow_laid_out { IsLaidOut slow_flat.now }
+    requires fast { IsValid fast.now }
+    requires fast_limits { IsWithinLimits fast.now }
+    requires fast_flat { fast_flat.now ≡ flat_of fast.now }
+    requires fast_laid_out { IsLaidOut fast_flat.now }
+    ensures two { IfOk result (IsTwoOf slow.now fast.now) }
+    ensures beside { IfOk result (StandsBeside fast.now) }
+    ensures slow_answers { IfOk result (SlowAnswersBeside slow.now) }
+    ensures fast_answers { IfOk result (AnswersEntered fast.now) }
+{
+    two_stand_beside();
+    fast_answers_entered();
+    blocks_are_placed();
+    let items = two_items(alloc, slow, slow_flat, fast, fast_flat)?;
+    let image = image_of(alloc, items.as_slice())?;
+    let slow_alone = compile_laid_out(alloc, Width::Byte, slow, slow_flat)?;
+    let fast_alone = compile_laid_out(alloc, Width::Byte, fast, fast_flat)?;
     Ok(Two {
         image,
         slow: slow_alone,

@@ -5,7 +5,7 @@ use Rattle.byte_scaling.specs.Widths.{width_of, is_wide}
 use Rattle.eval_code.specs.{MemoryMaps.main_map, Bounds.instruction_bound, Bounds.steps_by}
 use Rattle.alone_code.specs.Images.{firmware_items, IsImageOf}
 use Rattle.alone_code.proofs.runs.Law.{main_rises, length-main_items}
-use Rattle.alone_code.proofs.firmware.compile_at.Goals as goal
+use Rattle.alone_code.proofs.firmware.compile_laid_out.Goals as goal
 
 width_back : (w : Width) (wide : Bool) → wide ≡ is_wide w → w ≡ width_of wide
 width_back Byte wide e = ap width_of (sym e)
@@ -14,21 +14,21 @@ width_back Word wide e = ap width_of (sym e)
 pub image_of-requires-clause-few : goal.image_of-requires-clause-few
 image_of-requires-clause-few c =
     let b = c.args.block.now in
-    subst (λ (xs : List Item). length xs < 2 ^ 32) (sym (c.as_slice.ensures.value ∙ c.in-Ok-firmware_items.ensures))
-    (length-main_items c.blocks_are_placed.ensures.short b c.args.width c.requires c.in-Ok.ensures.limits)
+    subst (λ (xs : List Item). length xs < 2 ^ 32) (sym (c.as_slice.ensures.value ∙ c.in-Ok.ensures))
+    (length-main_items c.blocks_are_placed.ensures.short b c.args.width c.requires.valid c.requires.limits)
 
 pub image_of-requires-clause-rising : goal.image_of-requires-clause-rising
 image_of-requires-clause-rising c =
     let b = c.args.block.now in
-    subst (λ (xs : List Item). IsRising xs) (sym (c.as_slice.ensures.value ∙ c.in-Ok-firmware_items.ensures))
-    (main_rises c.blocks_are_placed.ensures.rises b c.args.width c.requires c.in-Ok.ensures.limits)
+    subst (λ (xs : List Item). IsRising xs) (sym (c.as_slice.ensures.value ∙ c.in-Ok.ensures))
+    (main_rises c.blocks_are_placed.ensures.rises b c.args.width c.requires.valid c.requires.limits)
 
 pub returns-clause-firmware : goal.returns-clause-firmware
 returns-clause-firmware c =
     let b = c.args.block.now in
     let w = c.args.width in
     let same = width_back w c.is_wide.result c.is_wide.ensures in
-    let e = c.as_slice.ensures.value ∙ c.in-Ok-firmware_items.ensures in
+    let e = c.as_slice.ensures.value ∙ c.in-Ok.ensures in
     record {
       image =
           subst (λ (k : Width). IsImageOf (firmware_items main_map b k) c.in-Ok-image_of.image) same
@@ -44,8 +44,8 @@ returns-clause-firmware c =
 
 pub returns-clause-answers : goal.returns-clause-answers
 returns-clause-answers c =
-    c.firmware_answers.ensures c.args.block.now _ c.requires c.in-Ok.ensures.limits (returns-clause-firmware c)
+    c.firmware_answers.ensures c.args.block.now _ c.requires.valid c.requires.limits (returns-clause-firmware c)
 
 pub returns-clause-uninterrupted : goal.returns-clause-uninterrupted
 returns-clause-uninterrupted c =
-    c.firmware_is_uninterrupted.ensures c.args.block.now _ c.requires c.in-Ok.ensures.limits (returns-clause-firmware c)
+    c.firmware_is_uninterrupted.ensures c.args.block.now _ c.requires.valid c.requires.limits (returns-clause-firmware c)

@@ -1,0 +1,23 @@
+use Rattle.two_level_code.proofs.two.compile_two_laid_out.Goals as goal
+
+pub returns-clause-two : goal.returns-clause-two
+returns-clause-two c = record {
+  image = c.in-Ok-image_of.ensures;
+  slow_alone = record { firmware = c.in-Ok-compile_laid_out.ensures.firmware; narrow = c.in-Ok-compile_laid_out.ensures.width };
+  fast_alone = record { firmware = c.in-Ok-compile_laid_out-2.ensures.firmware; narrow = c.in-Ok-compile_laid_out-2.ensures.width };
+}
+
+pub returns-clause-beside : goal.returns-clause-beside
+returns-clause-beside c =
+    (c.two_stand_beside.ensures c.args.slow.now c.args.fast.now _ c.requires.slow c.requires.slow_limits
+    c.requires.fast c.requires.fast_limits (returns-clause-two c)).0
+
+pub returns-clause-slow_answers : goal.returns-clause-slow_answers
+returns-clause-slow_answers c =
+    (c.two_stand_beside.ensures c.args.slow.now c.args.fast.now _ c.requires.slow c.requires.slow_limits
+    c.requires.fast c.requires.fast_limits (returns-clause-two c)).1
+
+pub returns-clause-fast_answers : goal.returns-clause-fast_answers
+returns-clause-fast_answers c =
+    c.fast_answers_entered.ensures c.args.slow.now c.args.fast.now _ c.requires.slow c.requires.slow_limits
+    c.requires.fast c.requires.fast_limits (returns-clause-two c)
