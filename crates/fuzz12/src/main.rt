@@ -8,13 +8,13 @@ use std::alloc::AllocError;
 use std::io::ErrorKind;
 use std::process::ExitCode;
 
-/// The program's words. One that is no UTF-8 is of no command, and so are none.
+/// The program's words. Where one can't be read, as it is no UTF-8, they are of no command, and so are none.
 fn words_of(rt: &HostRuntime) -> Result<Vec<String>, AllocError> {
     let alloc = rt.alloc();
     match std::env::args(rt) {
         Ok(words) => words.collect(alloc),
-        Err(error) if error.kind() == ErrorKind::InvalidData => Ok(Vec::new(alloc)),
-        Err(_) => Err(AllocError),
+        Err(error) if error.kind() == ErrorKind::OutOfMemory => Err(AllocError),
+        Err(_) => Ok(Vec::new(alloc)),
     }
 }
 
