@@ -14,13 +14,13 @@ width_back Word wide e = ap width_of (sym e)
 pub image_of-requires-clause-few : goal.image_of-requires-clause-few
 image_of-requires-clause-few c =
     let b = c.args.block.now in
-    subst (λ (xs : List Item). length xs < 2 ^ 32) (sym (c.as_slice.ensures.value ∙ c.in-Ok.ensures))
+    subst (λ (xs : List Item). length xs < 2 ^ 32) (sym (c.as_slice.ensures.value ∙ c.in_ok-items.ensures))
     (length-main_items c.blocks_are_placed.ensures.short b c.args.width c.requires.valid c.requires.limits)
 
 pub image_of-requires-clause-rising : goal.image_of-requires-clause-rising
 image_of-requires-clause-rising c =
     let b = c.args.block.now in
-    subst (λ (xs : List Item). IsRising xs) (sym (c.as_slice.ensures.value ∙ c.in-Ok.ensures))
+    subst (λ (xs : List Item). IsRising xs) (sym (c.as_slice.ensures.value ∙ c.in_ok-items.ensures))
     (main_rises c.blocks_are_placed.ensures.rises b c.args.width c.requires.valid c.requires.limits)
 
 pub returns-clause-firmware : goal.returns-clause-firmware
@@ -28,11 +28,11 @@ returns-clause-firmware c =
     let b = c.args.block.now in
     let w = c.args.width in
     let same = width_back w c.is_wide.result c.is_wide.ensures in
-    let e = c.as_slice.ensures.value ∙ c.in-Ok.ensures in
+    let e = c.as_slice.ensures.value ∙ c.in_ok-items.ensures in
     record {
       image =
-          subst (λ (k : Width). IsImageOf (firmware_items main_map b k) c.in-Ok-image_of.image) same
-          (subst (λ (xs : List Item). IsImageOf xs c.in-Ok-image_of.image) e c.in-Ok-image_of.ensures);
+          subst (λ (k : Width). IsImageOf (firmware_items main_map b k) c.in_ok-image.image) same
+          (subst (λ (xs : List Item). IsImageOf xs c.in_ok-image.image) e c.in_ok-image.ensures);
       memory_map = refl;
       inputs = search rules;
       outputs = search rules;

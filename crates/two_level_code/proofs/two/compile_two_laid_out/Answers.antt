@@ -2,9 +2,9 @@ use Rattle.two_level_code.proofs.two.compile_two_laid_out.Goals as goal
 
 pub returns-clause-two : goal.returns-clause-two
 returns-clause-two c = record {
-  image = c.in-Ok-image_of.ensures;
-  slow_alone = record { firmware = c.in-Ok-compile_laid_out.ensures.firmware; narrow = c.in-Ok-compile_laid_out.ensures.width };
-  fast_alone = record { firmware = c.in-Ok-compile_laid_out-2.ensures.firmware; narrow = c.in-Ok-compile_laid_out-2.ensures.width };
+  image = c.in_ok-image.ensures;
+  slow_alone = record { firmware = c.in_ok-slow_alone.ensures.firmware; narrow = c.in_ok-slow_alone.ensures.width };
+  fast_alone = record { firmware = c.in_ok-fast_alone.ensures.firmware; narrow = c.in_ok-fast_alone.ensures.width };
 }
 
 pub returns-clause-beside : goal.returns-clause-beside
