@@ -92,8 +92,10 @@ pub fn compile_two(alloc: Global, slow: &Block, fast: &Block) -> Result<Two, Two
         Err(LayoutFault::Memory) => return Err(TwoFault::Memory),
         Err(fault) => return Err(TwoFault::Fast(fault)),
     };
-    compile_two_laid_out(alloc, slow, &slow_flat, fast, &fast_flat)
-        .map_err(|_: AllocError| TwoFault::Memory)
+    match compile_two_laid_out(alloc, slow, &slow_flat, fast, &fast_flat) {
+        Ok(two) => Ok(two),
+        Err(AllocError) => Err(TwoFault::Memory),
+    }
 }
 
 /// The same of two blocks whose layouts are at hand: the flats are the blocks' rules as `spread` lays them

@@ -1,8 +1,12 @@
+use Rattle.std.proofs.Common.{List, ◌∙◌, subst}
+use Rattle.cpu12_asm.specs.declared.items.Item.{Item}
+use Rattle.alone_code.specs.Images.{IsImageOf}
 use Rattle.two_level_code.proofs.two.compile_two_laid_out.Goals as goal
 
 pub returns-clause-two : goal.returns-clause-two
 returns-clause-two c = record {
-  image = c.in_ok-image.ensures;
+  image = subst (λ (xs : List Item). IsImageOf xs c.in_ok-image.image)
+      (c.as_slice.ensures.value ∙ c.in_ok-items.ensures) c.in_ok-image.ensures;
   slow_alone = record { firmware = c.in_ok-slow_alone.ensures.firmware; narrow = c.in_ok-slow_alone.ensures.width };
   fast_alone = record { firmware = c.in_ok-fast_alone.ensures.firmware; narrow = c.in_ok-fast_alone.ensures.width };
 }
