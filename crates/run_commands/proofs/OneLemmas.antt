@@ -61,6 +61,9 @@ debug_runs_once firmwares inputs debug files output other a b =
       file = None;
     }) ∙ sym b.output_is
 
+one_ok : (cert other : Cert) → ◌≡◌ {A = Result Cert NotReached} (Ok cert) (Ok other) → cert ≡ other
+one_ok cert other same = cc
+
 pub generates_once : WorkloadsAreOne → FirmwaresAreOne → AnswersAreOne → (generate : Generate)
     → OutputsAreOne (GenerateMakes generate)
 generates_once workloads firmwares answers generate output other a b =
@@ -69,11 +72,10 @@ generates_once workloads firmwares answers generate output other a b =
     let firmware : a.firmware ≡ b.firmware =
     firmwares a.block a.firmware b.firmware (a.gives.wide ∙ sym b.gives.wide) a.gives.compiled
     (subst (λ (c : Block). IsFirmwareOf c b.firmware) (sym one.0) b.gives.compiled) in
-    let x : Result Cert NotReached = Ok a.cert in
-    let y : Result Cert NotReached = Ok b.cert in
-    let same : x ≡ y = answers Named a.block (parts Byte) generated_target x y a.gives.spelled.valid a.halving
-    (subst (λ (c : Block). IsHalving Named c (parts Byte) generated_target b.cert) (sym one.0) b.halving) in
-    let cert : a.cert ≡ b.cert = cc in
+    let cert : a.cert ≡ b.cert =
+    one_ok a.cert b.cert
+    (answers Named a.block (parts Byte) generated_target (Ok a.cert) (Ok b.cert) a.gives.spelled.valid a.halving
+    (subst (λ (c : Block). IsHalving Named c (parts Byte) generated_target b.cert) (sym one.0) b.halving)) in
     let errors : a.report.errors ≡ b.report.errors = a.errors ∙ ap (λ (c : Cert). c.claims) cert ∙ sym b.errors in
     let rows : a.report.rows ≡ b.report.rows =
     a.reported.ran ∙ (λ i. (firmware_rows (firmware i) (one.1 i) (one.2 i) 0).rows) ∙ sym b.reported.ran in
