@@ -7,7 +7,7 @@ use Rattle.cpu12_isa.proofs.Algebra.{agree_self}
 use Rattle.cpu12_parts.specs.State.{State}
 use Rattle.run_law.specs.Soundness.{AllGood, Ascend}
 use Rattle.interrupt_plan.specs.declared.Post.{Post}
-use Rattle.interrupt_plan.specs.Plans as plans
+use Rattle.interrupt_plan.specs.Rows as rows
 use Rattle.interrupt_plan.specs.Posts.{IsGoodPost, NoLater}
 use Rattle.eval_code.specs.{declared.memory_map.MemoryMap.MemoryMap, Firing.AreInputBytes}
 use Rattle.byte_scaling.specs.declared.{width.Width.Width, width.Width.TheVariants.Byte, width.Width.TheVariants.Word}
@@ -24,12 +24,12 @@ each_good : (n : ℕ) (ps : List Post) → All (IsGoodPost n) ps → AllGood (Is
 each_good n [] h = tt
 each_good n (p ∷ ps) h = (h 0 p (omega arith), each_good n ps (λ k d lt. h (suc k) d (omega arith)))
 
-all_rise : (k : ℕ) (p : Post) (ps : List Post) → k ≤ p.moment → plans.Ascend NoLater (p ∷ ps)
+all_rise : (k : ℕ) (p : Post) (ps : List Post) → k ≤ p.moment → rows.Ascend NoLater (p ∷ ps)
     → Ascend (λ q. q.moment) k (p ∷ ps)
 all_rise k p [] le h = (le, tt)
 all_rise k p (q ∷ ps) le h = (le, all_rise p.moment q ps h.0 h.1)
 
-posts_rise : (ps : List Post) → plans.Ascend NoLater ps → Ascend (λ q. q.moment) 0 ps
+posts_rise : (ps : List Post) → rows.Ascend NoLater ps → Ascend (λ q. q.moment) 0 ps
 posts_rise [] h = tt
 posts_rise (p ∷ ps) h = all_rise 0 p ps (omega arith) h
 

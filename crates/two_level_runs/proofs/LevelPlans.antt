@@ -12,6 +12,7 @@ use Rattle.run_law.specs.Uninterrupted.{expected_frame, is_new, frames_after, fr
 use Rattle.interrupt_plan.specs.declared.{Request.Request, levels.Level.Level}
 use Rattle.interrupt_plan.specs.Levels.{IsGoodLevel, LevelNotAfter, AreGoodLevels}
 use Rattle.interrupt_plan.specs.Plans as plans
+use Rattle.interrupt_plan.specs.Rows as rows
 use Rattle.interrupt_plan.specs.Plans.{IsGoodRequest, IsGood}
 use Rattle.alone_runs.specs.{Rows.requests_of, Given.RequestsAreGood}
 use Rattle.two_level_runs.specs.{Rows.levels_of, Answering.request_of, Answering.plan_of}
@@ -57,7 +58,7 @@ all_good fast (l ∷ levels) h =
     All-cons IsGoodRequest (request_of l) (plan_of levels) (good_request fast l (h 0 l (omega arith)))
     (all_good fast levels (λ k d lt. h (suc k) d (omega arith)))
 
-ascends : (levels : List Level) → plans.Ascend LevelNotAfter levels → plans.Ascends (plan_of levels)
+ascends : (levels : List Level) → rows.Ascend LevelNotAfter levels → plans.Ascends (plan_of levels)
 ascends [] h = tt
 ascends (a ∷ []) h = tt
 ascends (a ∷ (b ∷ rest)) h = (h.0, ascends (b ∷ rest) h.1)
