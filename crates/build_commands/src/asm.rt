@@ -1,11 +1,12 @@
 //! The command `asm SRC OUT`.
-ghost use Rattle.std.specs.Prelude.{◌≡◌, ◌≤◌, length, IfOk, List, ℕ};
+ghost use Rattle.std.specs.Prelude.{◌≡◌, length, IfOk, List, ℕ};
 ghost use Rattle.fz_shelf.specs.Lines.{text_of};
 ghost use Rattle.std.specs.Prelude.{codes};
 ghost use Rattle.command_parts.specs.{SeenOutputs.OutputHasNoFault, SeenOutputs.IsResultOf, Lines.line};
 ghost use Rattle.build_commands.specs.Asm.{AsmMakes};
 
 use crate::written::written_image;
+use command_parts::contents::Content;
 use command_parts::lines::labelled;
 use command_parts::output::Output;
 use cpu12_asm::{AsmFault, Image, assemble};
@@ -19,11 +20,10 @@ pub static INPUTS: [u32; 1] = [2];
 const OUT: u32 = 3;
 
 /// Assembles the source, and writes down the records of its image and how many bytes that has.
-pub fn work(alloc: Global, source: &[u8]) -> Result<Output, Status>
-    requires { length source.now ≤ 1048576 }
+pub fn work(alloc: Global, source: &Content) -> Result<Output, Status>
     ensures { IsResultOf (AsmMakes source.now) result }
 {
-    let image = match assemble(alloc, source) {
+    let image = match assemble(alloc, source.bytes()) {
         Ok(image) => image,
         Err(AsmFault::Memory) => return Err(Status::Memory),
         Err(fault) => return Err(Status::Asm(fault)),

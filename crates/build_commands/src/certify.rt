@@ -1,5 +1,5 @@
 //! The commands `certify FCL TARGET OUT`, `certify16 ..`, and `tcertify ..` and `tcertify16 ..` for tight certificates.
-ghost use Rattle.std.specs.Prelude.{◌≡◌, ◌≤◌, length, IfOk, List, ℕ};
+ghost use Rattle.std.specs.Prelude.{◌≡◌, ◌≤◌, IfOk, List, ℕ};
 ghost use Rattle.box_tree.specs.{Trees.leaf_count};
 ghost use Rattle.fz_shelf.specs.Lines.{text_of};
 ghost use Rattle.fz_status.specs.{Words.texts_of};
@@ -10,6 +10,7 @@ ghost use Rattle.command_parts.specs.SeenOutputs.{OutputHasNoFault, OutputsAreOn
 use box_tree::{Cert, CertKind, Node, write_for};
 use byte_scaling::Width;
 use command_parts::certs::{halved, halved_blocks_do_not_stop};
+use command_parts::contents::Content;
 use command_parts::firmware::{firmware_of, given_firmwares_are_one, spelled_texts_have_no_fault};
 use command_parts::lines::{labelled, push_errors};
 use command_parts::output::Output;
@@ -51,8 +52,7 @@ impl Certify {
 
     /// Halves the boxes of the text's block until each has a leaf within the target, and writes down
     /// the certificate, the error of each output and the number of leaves.
-    pub fn work(self, alloc: Global, fcl: &[u8]) -> Result<Output, Status>
-        requires { length fcl.now ≤ 1048576 }
+    pub fn work(self, alloc: Global, fcl: &Content) -> Result<Output, Status>
         ensures { IsResultOf (CertifyMakes self fcl.now) result }
     {
         let (kind, width) = (self.kind, self.width);

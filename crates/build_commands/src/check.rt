@@ -1,5 +1,5 @@
 //! The commands `check FCL CERT`, `check16 ..`, and `tcheck ..` and `tcheck16 ..` of tight certificates.
-ghost use Rattle.std.specs.Prelude.{◌≡◌, ◌≤◌, length, IfOk, List, ℕ};
+ghost use Rattle.std.specs.Prelude.{◌≡◌, IfOk, List, ℕ};
 ghost use Rattle.fz_shelf.specs.Lines.{text_of};
 ghost use Rattle.command_parts.specs.SeenOutputs.{OutputHasNoFault, OutputsAreOne, IsResultOf};
 ghost use Rattle.build_commands.specs.{Check.CheckMakes, Check.check_lines, declared.check.Check.Check as TheCheck};
@@ -7,6 +7,7 @@ ghost use Rattle.build_commands.specs.{Check.CheckMakes, Check.check_lines, decl
 use box_tree::CertKind;
 use byte_scaling::Width;
 use command_parts::certs::{accepted_certs_have_no_fault, accepted_errors_are_one, errors_under};
+use command_parts::contents::Content;
 use command_parts::firmware::{firmware_of, given_firmwares_are_one, spelled_texts_have_no_fault};
 use command_parts::lines::{labelled, push_errors};
 use command_parts::output::Output;
@@ -29,9 +30,7 @@ pub static INPUTS: [u32; 2] = [2, 3];
 impl Check {
     /// Checks the certificate against the text's block, and writes down the error of each output and
     /// the bound on instructions.
-    pub fn work(self, alloc: Global, fcl: &[u8], cert: &[u8]) -> Result<Output, Status>
-        requires fcl { length fcl.now ≤ 1048576 }
-        requires cert { length cert.now ≤ 1048576 }
+    pub fn work(self, alloc: Global, fcl: &Content, cert: &Content) -> Result<Output, Status>
         ensures { IsResultOf (CheckMakes self fcl.now cert.now) result }
     {
         let compiled = firmware_of(alloc, self.width, fcl)?;

@@ -1,10 +1,11 @@
 //! The commands `compile FCL OUT` and `compile16 FCL OUT`.
-ghost use Rattle.std.specs.Prelude.{◌≤◌, length, List, ℕ};
+ghost use Rattle.std.specs.Prelude.{List, ℕ};
 ghost use Rattle.command_parts.specs.SeenOutputs.{OutputHasNoFault, IsResultOf};
 ghost use Rattle.build_commands.specs.{Compile.CompileMakes, declared.compile.Compile.Compile as TheCompile};
 
 use crate::written::written_firmware;
 use byte_scaling::Width;
+use command_parts::contents::Content;
 use command_parts::firmware::{firmware_of, spelled_texts_have_no_fault};
 use command_parts::output::Output;
 use fz_status::Status;
@@ -22,8 +23,7 @@ pub static INPUTS: [u32; 1] = [2];
 
 impl Compile {
     /// Compiles the text, and writes down the records of the image and its bounds.
-    pub fn work(self, alloc: Global, fcl: &[u8]) -> Result<Output, Status>
-        requires { length fcl.now ≤ 1048576 }
+    pub fn work(self, alloc: Global, fcl: &Content) -> Result<Output, Status>
         ensures { IsResultOf (CompileMakes self fcl.now) result }
     {
         let compiled = firmware_of(alloc, self.width, fcl)?;

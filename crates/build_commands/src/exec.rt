@@ -1,11 +1,12 @@
 //! The command `exec IMAGE STEPS FLAGS`.
-ghost use Rattle.std.specs.Prelude.{◌≡◌, ◌≤◌, length, string_bytes, IfOk, List, ℕ};
+ghost use Rattle.std.specs.Prelude.{◌≡◌, string_bytes, IfOk, List, ℕ};
 ghost use Rattle.fz_shelf.specs.Lines.{text_of};
 ghost use Rattle.command_parts.specs.SeenOutputs.{OutputHasNoFault, OutputsAreOne, IsResultOf};
 ghost use Rattle.build_commands.specs.Exec.{ExecMakes, exec_in, exec_line};
 ghost use Rattle.build_commands.specs.declared.exec.Exec.{Exec as TheExec};
 ghost use Rattle.fz_status.specs.Words.{texts_of};
 
+use command_parts::contents::Content;
 use command_parts::images::{given_records_have_no_fault, image_of};
 use command_parts::lines::{labelled, line_of_registers};
 use command_parts::output::Output;
@@ -43,8 +44,7 @@ impl Exec {
     }
 
     /// Runs the image from reset until it branches to itself, and writes down the registers.
-    pub fn work(self, alloc: Global, records: &[u8]) -> Result<Output, Status>
-        requires { length records.now ≤ 1048576 }
+    pub fn work(self, alloc: Global, records: &Content) -> Result<Output, Status>
         ensures { IsResultOf (ExecMakes self records.now) result }
     {
         let image = image_of(alloc, records)?;

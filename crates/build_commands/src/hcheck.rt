@@ -1,9 +1,10 @@
 //! The command `hcheck HANDLER`.
-ghost use Rattle.std.specs.Prelude.{◌≡◌, ◌≤◌, codes, length, IfOk, List, ℕ};
+ghost use Rattle.std.specs.Prelude.{◌≡◌, codes, IfOk, List, ℕ};
 ghost use Rattle.fz_shelf.specs.Lines.{text_of};
 ghost use Rattle.command_parts.specs.{SeenOutputs.OutputHasNoFault, SeenOutputs.IsResultOf, Lines.line};
 ghost use Rattle.build_commands.specs.Hcheck.{HcheckMakes};
 
+use command_parts::contents::Content;
 use command_parts::handlers::{given_handlers_have_no_fault, handler_of};
 use command_parts::lines::labelled;
 use command_parts::output::Output;
@@ -15,8 +16,7 @@ use std::alloc::{AllocError, Global};
 pub static INPUTS: [u32; 1] = [2];
 
 /// Checks the handler that the records give, and writes down how many instructions its longest path has.
-pub fn work(alloc: Global, records: &[u8]) -> Result<Output, Status>
-    requires { length records.now ≤ 1048576 }
+pub fn work(alloc: Global, records: &Content) -> Result<Output, Status>
     ensures { IsResultOf (HcheckMakes records.now) result }
 {
     let accepted = handler_of(alloc, records)?;

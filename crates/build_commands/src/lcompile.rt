@@ -1,11 +1,12 @@
 //! The command `lcompile SLOW FAST OUT`.
-ghost use Rattle.std.specs.Prelude.{◌≡◌, ◌≤◌, length, IfOk, List, ℕ};
+ghost use Rattle.std.specs.Prelude.{◌≡◌, length, IfOk, List, ℕ};
 ghost use Rattle.fz_shelf.specs.Lines.{text_of};
 ghost use Rattle.two_level_code.specs.Images.{fast_most};
 ghost use Rattle.command_parts.specs.SeenOutputs.{OutputHasNoFault, IsResultOf};
 ghost use Rattle.build_commands.specs.Lcompile.{LcompileMakes, lcompile_lines};
 
 use crate::written::written_image;
+use command_parts::contents::Content;
 use command_parts::firmware::spelled_texts_have_no_fault;
 use command_parts::lines::labelled;
 use command_parts::output::Output;
@@ -22,9 +23,7 @@ const OUT: u32 = 4;
 
 /// Compiles the fast block of one text into the interrupts of the slow one of another, and writes down the
 /// records of the image of both and their bounds.
-pub fn work(alloc: Global, slow: &[u8], fast: &[u8]) -> Result<Output, Status>
-    requires slow { length slow.now ≤ 1048576 }
-    requires fast { length fast.now ≤ 1048576 }
+pub fn work(alloc: Global, slow: &Content, fast: &Content) -> Result<Output, Status>
     ensures { IsResultOf (LcompileMakes slow.now fast.now) result }
 {
     alone_has_byte_bounds();

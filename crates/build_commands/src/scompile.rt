@@ -1,9 +1,10 @@
 //! The command `scompile FCL OUT`.
-ghost use Rattle.std.specs.Prelude.{◌≤◌, length, List, ℕ};
+ghost use Rattle.std.specs.Prelude.{List, ℕ};
 ghost use Rattle.command_parts.specs.SeenOutputs.{OutputHasNoFault, IsResultOf};
 ghost use Rattle.build_commands.specs.Scompile.{ScompileMakes};
 
 use crate::written::written_firmware;
+use command_parts::contents::Content;
 use command_parts::firmware::{spelled_texts_have_no_fault, watched_firmware_of};
 use command_parts::output::Output;
 use fz_status::Status;
@@ -14,8 +15,7 @@ pub static INPUTS: [u32; 1] = [2];
 
 /// Compiles the text to firmware that watches its tables, and writes down the records of its image and
 /// its bounds.
-pub fn work(alloc: Global, fcl: &[u8]) -> Result<Output, Status>
-    requires { length fcl.now ≤ 1048576 }
+pub fn work(alloc: Global, fcl: &Content) -> Result<Output, Status>
     ensures { IsResultOf (ScompileMakes fcl.now) result }
 {
     let compiled = watched_firmware_of(alloc, fcl)?;

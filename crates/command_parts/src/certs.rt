@@ -1,5 +1,5 @@
 //! Certificates of a block: the errors that one is accepted with, and the one that halving gives.
-ghost use Rattle.std.specs.Prelude.{◌≡◌, ◌≤◌, length, All, IfOk, IfErr, Ok, Err};
+ghost use Rattle.std.specs.Prelude.{◌≡◌, ◌≤◌, All, IfOk, IfErr, Ok, Err};
 ghost use Rattle.box_tree.specs.Certificates.{IsCert};
 ghost use Rattle.error_certifier.specs.Halving.{IsHalving};
 ghost use Rattle.fuzzy_meaning.specs.Blocks.{IsValid};
@@ -9,6 +9,7 @@ ghost use Rattle.command_parts.specs.Certs.{HalvedBlocksDoNotStop, cert_refusals
 ghost use Rattle.byte_scaling.specs.Widths.{parts};
 ghost use Rattle.fz_status.specs.Refusals.{IsRefusal};
 
+use crate::contents::Content;
 use box_tree::{Cert, CertKind};
 use byte_scaling::Width;
 use cert_check::{TextFault as Refusal, check_text_for, text_answers_are_one};
@@ -24,14 +25,13 @@ pub fn errors_under(
     kind: CertKind,
     width: Width,
     block: &Block,
-    cert: &[u8],
+    cert: &Content,
 ) -> Result<Vec<u32>, Status>
     requires block { IsValid block.now }
-    requires cert { length cert.now ≤ 1048576 }
     ensures accepts { IfOk result (λ errors. AcceptsCert kind width block.now cert.now errors.items) }
     ensures refused { IfErr result (IsRefusal (cert_refusals kind width block.now cert.now)) }
 {
-    told(check_text_for(alloc, block, cert, kind, width))
+    told(check_text_for(alloc, block, cert.bytes(), kind, width))
 }
 
 /// The checker's answer, with a refusal as a status.

@@ -1,5 +1,5 @@
 //! From a text to its block, and to the block's firmware.
-ghost use Rattle.std.specs.Prelude.{◌≡◌, ◌≤◌, length, IfOk, IfErr};
+ghost use Rattle.std.specs.Prelude.{◌≡◌, IfOk, IfErr};
 ghost use Rattle.rule_layout.specs.Layouts.{flat_of, IsLaidOut};
 ghost use Rattle.fcl_check.specs.Texts.{SpellsBlock};
 ghost use Rattle.command_parts.specs.Firmwares.{GivesBlock, GivesFirmware, GivesMailbox, GivesWatched, text_refusals};
@@ -7,6 +7,7 @@ ghost use Rattle.command_parts.specs.Firmwares.{GivenFirmwaresAreOne, GivenMailb
 ghost use Rattle.command_parts.specs.Firmwares.{SpelledTextsHaveNoFault};
 ghost use Rattle.fz_status.specs.Refusals.{IsRefusal};
 
+use crate::contents::Content;
 use alone_code::{
     Firmware, compile, compile_post, compile16, firmwares_are_one, mailboxes_are_one,
 };
@@ -30,8 +31,7 @@ pub struct Compiled {
 
 /// The block that the text spells, and that block's firmware with answers of this width. The faults
 /// come in their order: of the grammar, of the block, of the layout.
-pub fn firmware_of(alloc: Global, width: Width, text: &[u8]) -> Result<Compiled, Status>
-    requires { length text.now ≤ 1048576 }
+pub fn firmware_of(alloc: Global, width: Width, text: &Content) -> Result<Compiled, Status>
     ensures gives { IfOk result (λ c. GivesFirmware width text.now c.block c.firmware) }
     ensures fault { IfErr result (IsRefusal (text_refusals text.now)) }
 {
@@ -49,8 +49,7 @@ pub fn firmware_of(alloc: Global, width: Width, text: &[u8]) -> Result<Compiled,
 
 /// The block that the text spells, and that block's firmware in the mailbox form. The faults are the
 /// same.
-pub fn mailbox_of(alloc: Global, text: &[u8]) -> Result<Compiled, Status>
-    requires { length text.now ≤ 1048576 }
+pub fn mailbox_of(alloc: Global, text: &Content) -> Result<Compiled, Status>
     ensures gives { IfOk result (λ c. GivesMailbox text.now c.block c.firmware) }
     ensures fault { IfErr result (IsRefusal (text_refusals text.now)) }
 {
@@ -64,8 +63,7 @@ pub fn mailbox_of(alloc: Global, text: &[u8]) -> Result<Compiled, Status>
 
 /// The block that the text spells, and that block's firmware with watched tables. The faults are the
 /// same.
-pub fn watched_firmware_of(alloc: Global, text: &[u8]) -> Result<Compiled, Status>
-    requires { length text.now ≤ 1048576 }
+pub fn watched_firmware_of(alloc: Global, text: &Content) -> Result<Compiled, Status>
     ensures gives { IfOk result (λ c. GivesWatched text.now c.block c.firmware) }
     ensures fault { IfErr result (IsRefusal (text_refusals text.now)) }
 {
@@ -86,8 +84,7 @@ pub(crate) struct LaidOut {
 }
 
 /// The block that the text spells, with its layout. The faults are the same.
-pub(crate) fn laid_out_block_of(alloc: Global, text: &[u8]) -> Result<LaidOut, Status>
-    requires { length text.now ≤ 1048576 }
+pub(crate) fn laid_out_block_of(alloc: Global, text: &Content) -> Result<LaidOut, Status>
     ensures gives { IfOk result (λ l. GivesBlock text.now l.block) }
     ensures flat { IfOk result (λ l. l.flat ≡ flat_of l.block) }
     ensures laid_out { IfOk result (λ l. IsLaidOut l.flat) }
@@ -102,12 +99,11 @@ pub(crate) fn laid_out_block_of(alloc: Global, text: &[u8]) -> Result<LaidOut, S
 }
 
 /// The block that the text spells.
-fn block_of(alloc: Global, text: &[u8]) -> Result<Block, Status>
-    requires { length text.now ≤ 1048576 }
+fn block_of(alloc: Global, text: &Content) -> Result<Block, Status>
     ensures block { IfOk result (SpellsBlock text.now) }
     ensures fault { IfErr result (IsRefusal (text_refusals text.now)) }
 {
-    let tree = match parse(alloc, text) {
+    let tree = match parse(alloc, text.bytes()) {
         Ok(tree) => tree,
         Err(SyntaxFault::Memory) => return Err(Status::Memory),
         Err(fault) => return Err(Status::Fcl(FclFault::Syntax(fault))),

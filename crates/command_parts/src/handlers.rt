@@ -1,8 +1,9 @@
 //! The handler that a text of records gives.
-ghost use Rattle.std.specs.Prelude.{◌≤◌, length, IfOk, IfErr};
+ghost use Rattle.std.specs.Prelude.{IfOk, IfErr};
 ghost use Rattle.command_parts.specs.Handlers.{GivesHandler, GivenHandlersHaveNoFault, handler_refusals};
 ghost use Rattle.fz_status.specs.Refusals.{IsRefusal};
 
+use crate::contents::Content;
 use crate::images::{given_records_have_no_fault, image_of};
 use cpu12_asm::Image;
 use fz_status::Status;
@@ -22,8 +23,7 @@ pub struct AcceptedHandler {
 
 /// The handler that the records give. The faults come in their order: of the records, then the first
 /// of the handler.
-pub fn handler_of(alloc: Global, records: &[u8]) -> Result<AcceptedHandler, Status>
-    requires { length records.now ≤ 1048576 }
+pub fn handler_of(alloc: Global, records: &Content) -> Result<AcceptedHandler, Status>
     ensures handler { IfOk result (λ a. GivesHandler records.now a.image a.handler.instrs) }
     ensures fault { IfErr result (IsRefusal (handler_refusals records.now)) }
 {

@@ -1,22 +1,22 @@
 //! From a text to its image.
-ghost use Rattle.std.specs.Prelude.{◌≤◌, length, IfOk, IfErr, OnOk};
+ghost use Rattle.std.specs.Prelude.{IfOk, IfErr, OnOk};
 ghost use Rattle.srecord.specs.Texts.{GivesImage};
-ghost use Rattle.command_parts.specs.Images.{GivenImagesHaveNoFault, GivenRecordsHaveNoFault};
-ghost use Rattle.command_parts.specs.Images.{image_refusals, records_refusals};
+ghost use Rattle.command_parts.specs.Images.{GivenImagesHaveNoFault, GivenRecordsHaveNoFault, image_refusals};
+ghost use Rattle.command_parts.specs.Images.{records_refusals};
 ghost use Rattle.fz_status.specs.Refusals.{IsRefusal};
 
+use crate::contents::Content;
 use cpu12_asm::Image;
 use fz_status::{ImageFault, Status};
 use srecord::{SrecFault, images_are_one};
 use std::alloc::Global;
 
 /// The image that a text of records gives, or the status of its first fault.
-pub fn image_of(alloc: Global, text: &[u8]) -> Result<Image, Status>
-    requires { length text.now ≤ 1048576 }
+pub fn image_of(alloc: Global, text: &Content) -> Result<Image, Status>
     ensures image { IfOk result (GivesImage text.now) }
     ensures fault { IfErr result (IsRefusal (records_refusals text.now)) }
 {
-    match srecord::read(alloc, text) {
+    match srecord::read(alloc, text.bytes()) {
         Ok(image) => Ok(image),
         Err(SrecFault::Memory) => Err(Status::Memory),
         Err(fault) => Err(Status::Image(ImageFault::Records(fault))),
@@ -25,8 +25,7 @@ pub fn image_of(alloc: Global, text: &[u8]) -> Result<Image, Status>
 
 /// Whether a text of records gives this image: else the status of its first fault, of the first
 /// address where it has another byte, or of its start.
-pub fn require_image(alloc: Global, text: &[u8], wanted: &Image) -> Result<(), Status>
-    requires { length text.now ≤ 1048576 }
+pub fn require_image(alloc: Global, text: &Content, wanted: &Image) -> Result<(), Status>
     ensures image { OnOk result (GivesImage text.now wanted.now) }
     ensures fault { IfErr result (IsRefusal (image_refusals text.now wanted.now)) }
 {

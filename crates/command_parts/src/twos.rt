@@ -1,8 +1,9 @@
 //! From two texts to their blocks, and to the firmware of both at two levels.
-ghost use Rattle.std.specs.Prelude.{◌≤◌, length, IfOk, IfErr};
+ghost use Rattle.std.specs.Prelude.{IfOk, IfErr};
 ghost use Rattle.command_parts.specs.Twos.{GivenTwosAreOne, GivesTwo, two_refusals};
 ghost use Rattle.fz_status.specs.Refusals.{IsRefusal};
 
+use crate::contents::Content;
 use crate::firmware::laid_out_block_of;
 use fcl_check::spelled_blocks_are_one;
 use fuzzy_meaning::Block;
@@ -23,9 +24,7 @@ pub struct CompiledTwo {
 
 /// The blocks that the texts spell, and the firmware of both. The faults are those of the first text, and
 /// then those of the second, told of the fast block's file.
-pub fn two_of(alloc: Global, slow: &[u8], fast: &[u8]) -> Result<CompiledTwo, Status>
-    requires slow { length slow.now ≤ 1048576 }
-    requires fast { length fast.now ≤ 1048576 }
+pub fn two_of(alloc: Global, slow: &Content, fast: &Content) -> Result<CompiledTwo, Status>
     ensures gives { IfOk result (λ c. GivesTwo slow.now fast.now c.slow c.fast c.two) }
     ensures fault { IfErr result (IsRefusal (two_refusals slow.now fast.now)) }
 {

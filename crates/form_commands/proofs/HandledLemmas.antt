@@ -16,7 +16,8 @@ use Rattle.fz_status.specs.declared.status.Status.{Status}
 use Rattle.fz_status.specs.declared.status.Status.TheVariants as status
 use Rattle.command_parts.specs.{Firmwares.GivesFirmware, Handlers.GivesHandler}
 use Rattle.run_reports.specs.{Inputs.input_refusals, Laws.AnswersAreReported, Laws.SpelledBytesFit}
-use Rattle.run_reports.specs.HandledRun.{AcceptsHandled, HandledFiles, HandledRun}
+use Rattle.run_reports.specs.HandledRun.{AcceptsHandled, HandledRun}
+use Rattle.run_reports.specs.declared.files.HandledFiles.{HandledFiles}
 use Rattle.form_commands.specs.Hrun.{AcceptedHandledRunsMakeOutput, handled_report, hrun_refusals}
 
 -- what it answers of accepted files is the run of them
@@ -35,7 +36,7 @@ module _ (reported : AnswersAreReported) (fit : SpelledBytesFit) (all : AnswersU
 
   handled : AreListedRows firmware handler.bytes instrs flags (map input_bytes samples) plan rows
   handled = there block a.compiled.spelled.valid a.compiled.limits a.compiled.compiled
-      (fit block files.trace samples a.inputs.in_range)
+      (fit block files.inputs.trace samples a.inputs.in_range)
 
   abbrev plain : List (RowSeen (List ℕ))
   plain = map (λ r. r.row) rows
@@ -61,15 +62,15 @@ module _ (reported : AnswersAreReported) (fit : SpelledBytesFit) (all : AnswersU
         (λ (ss : List Sample). rows ≡ handled_seen firmware handler.bytes (map input_bytes ss) plan flags)
         same ran;
     interrupts = handled.run;
-    reported = reported Byte flags files.fcl block firmware a.inputs.accepted.cert errors files.trace samples plan plain
-        a.compiled a.inputs.accepted.accepted a.inputs.in_range handled.listed under;
+    reported = reported Byte flags files.fcl block firmware a.inputs.accepted.cert errors files.inputs.trace samples
+        plan plain a.compiled a.inputs.accepted.accepted a.inputs.in_range handled.listed under;
   }
 
 -- what refuses the files behind HANDLER refuses the run
 pub hrun_refused : (files : HandledFiles) (block : Block) (firmware : Firmware)
     → GivesFirmware Byte files.fcl block firmware → (handler : Image) (instrs : ℕ)
     → GivesHandler files.handler handler instrs → (s : Status)
-    → input_refusals Named Byte block files.cert files.trace files.plan s → hrun_refusals files s
+    → input_refusals Named Byte block files.inputs s → hrun_refusals files s
 hrun_refused files block firmware gives handler instrs given (status.Fcl f) r = absurd r.2
 hrun_refused files block firmware gives handler instrs given (status.Image f) r = absurd r.2
 hrun_refused files block firmware gives handler instrs given (status.Handler f) r = absurd r.2

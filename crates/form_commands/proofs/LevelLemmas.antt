@@ -16,8 +16,8 @@ use Rattle.two_level_code.specs.{declared.two.Two.Two}
 use Rattle.two_level_runs.specs.Answering.{AnswersAtTwoLevels, AnswersItsBlocks, AnswersUnderLevels, RowsAreSeen}
 use Rattle.two_level_runs.specs.Answering.{answer_of_fast, fast_runs, plan_of}
 use Rattle.two_level_runs.specs.{Order.LevelsMakeAPlan, Rows.TwoSeen, Rows.two_seen, Runs.FastSeen}
-use Rattle.run_reports.specs.Posted.{IsOneOf, PostedAnswersAreNear}
-use Rattle.run_reports.specs.LevelRun.{AcceptsLevels, LevelFiles, LevelRun, fast_numbers}
+use Rattle.run_reports.specs.{Posted.IsOneOf, Posted.PostedAnswersAreNear, declared.files.LevelFiles.LevelFiles}
+use Rattle.run_reports.specs.LevelRun.{AcceptsLevels, LevelRun, fast_numbers}
 use Rattle.run_reports.specs.Laws.{AnswersAreReported, AnswersKeepTheBound, SpelledBytesFit}
 use Rattle.command_parts.specs.Firmwares.{GivesFirmware}
 use Rattle.command_parts.proofs.Algebra.{of_seen}

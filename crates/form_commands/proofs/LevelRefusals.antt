@@ -13,7 +13,8 @@ use Rattle.fz_status.specs.declared.status.FastFault.TheVariants as told
 use Rattle.fz_status.specs.declared.status.Status.{Status}
 use Rattle.fz_status.specs.declared.status.Status.TheVariants as status
 use Rattle.command_parts.proofs.Algebra.{refused}
-use Rattle.run_reports.specs.{Inputs.trace_refusals, LevelRun.AcceptsCerts, LevelRun.LevelFiles, LevelRun.SpellTraces}
+use Rattle.run_reports.specs.{Inputs.trace_refusals, LevelRun.AcceptsCerts, LevelRun.SpellTraces}
+use Rattle.run_reports.specs.declared.files.LevelFiles.{LevelFiles}
 use Rattle.form_commands.specs.Lrun.{certs_refusals, level_input_refusals, level_sample_refusals, levels_refusals}
 use Rattle.form_commands.specs.Lrun.{lrun_refusals, traces_refusals}
 

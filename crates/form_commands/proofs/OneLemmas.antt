@@ -20,8 +20,9 @@ use Rattle.two_level_runs.specs.Rows.{two_seen}
 use Rattle.command_parts.specs.Certs.{AcceptedErrorsAreOne, AcceptsCert}
 use Rattle.command_parts.specs.Firmwares.{GivenFirmwaresAreOne, GivenMailboxesAreOne, GivenWatchedAreOne}
 use Rattle.command_parts.specs.{SeenOutputs.OutputsAreOne, SeenOutputs.only_text, Twos.GivenTwosAreOne}
-use Rattle.run_reports.specs.{HandledRun.HandledFiles, Laws.SpelledInputsAreOne, LevelRun.LevelFiles}
-use Rattle.run_reports.specs.{PostedRun.PostedFiles, PostedRun.run_of, WatchedRun.WatchedFiles}
+use Rattle.run_reports.specs.{Laws.SpelledInputsAreOne, PostedRun.run_of}
+use Rattle.run_reports.specs.declared.{files.HandledFiles.HandledFiles, files.LevelFiles.LevelFiles}
+use Rattle.run_reports.specs.declared.{files.PostedFiles.PostedFiles, files.WatchedFiles.WatchedFiles}
 use Rattle.form_commands.specs.{Hrun.HrunMakes, Hrun.hrun_lines, Lrun.LrunMakes, Lrun.lrun_lines}
 use Rattle.form_commands.specs.{Mrun.MrunMakes, Mrun.mrun_lines, Srun.SrunMakes, Srun.srun_lines}
 use Rattle.form_commands.specs.declared.{hrun.Hrun.Hrun, lrun.Lrun.Lrun, mrun.Mrun.Mrun, srun.Srun.Srun}
@@ -47,10 +48,10 @@ module _ (accepted : AcceptedErrorsAreOne) (inputs : SpelledInputsAreOne) where
       let q = b.certified in
       let one = firmwares Byte files.fcl p.block q.block p.firmware q.firmware p.compiled q.compiled in
       let errors : a.report.errors ≡ b.report.errors =
-      errors_once p.block q.block files.cert a.report.errors b.report.errors one.0 p.compiled.spelled.valid p.accepted
+      errors_once p.block q.block files.inputs.cert a.report.errors b.report.errors one.0 p.compiled.spelled.valid p.accepted
       q.accepted in
-      let bytes = bytes_once p.block q.block files.trace p.samples q.samples one.0 p.in_range q.in_range in
-      let plan : p.plan ≡ q.plan = inputs.plans files.plan p.plan q.plan p.good_plan q.good_plan in
+      let bytes = bytes_once p.block q.block files.inputs.trace p.samples q.samples one.0 p.in_range q.in_range in
+      let plan : p.plan ≡ q.plan = inputs.plans files.inputs.plan p.plan q.plan p.good_plan q.good_plan in
       let handlers = images files.handler p.handler q.handler p.handles.spelled q.handles.spelled in
       let rows : a.report.rows ≡ b.report.rows =
       p.ran
@@ -69,10 +70,10 @@ module _ (accepted : AcceptedErrorsAreOne) (inputs : SpelledInputsAreOne) where
       let q = b.watched in
       let one = firmwares files.fcl p.block q.block p.firmware q.firmware p.compiled q.compiled in
       let errors : a.report.errors ≡ b.report.errors =
-      errors_once p.block q.block files.cert a.report.errors b.report.errors one.0 p.compiled.spelled.valid p.accepted
+      errors_once p.block q.block files.inputs.cert a.report.errors b.report.errors one.0 p.compiled.spelled.valid p.accepted
       q.accepted in
-      let bytes = bytes_once p.block q.block files.trace p.samples q.samples one.0 p.in_range q.in_range in
-      let plan : p.plan ≡ q.plan = inputs.plans files.plan p.plan q.plan p.good_plan q.good_plan in
+      let bytes = bytes_once p.block q.block files.inputs.trace p.samples q.samples one.0 p.in_range q.in_range in
+      let plan : p.plan ≡ q.plan = inputs.plans files.inputs.plan p.plan q.plan p.good_plan q.good_plan in
       let upsets : p.upsets ≡ q.upsets =
       spelled p.firmware.image.bytes files.upsets p.upsets q.upsets p.good_upsets
       (subst (λ (f : Firmware). SpellsUpsets f.image.bytes files.upsets q.upsets) (sym one.1) q.good_upsets) in

@@ -32,7 +32,8 @@ use Rattle.command_parts.specs.{Certs.AcceptsCert, Firmwares.GivesMailbox, Lines
 use Rattle.command_parts.proofs.Algebra.{flat-map, of_seen, text_of-snoc, begun_items}
 use Rattle.form_commands.specs.Mrun.{AcceptedPostedRunsMakeOutput, answer_line, mrun_lines, mrun_refusals}
 use Rattle.form_commands.specs.Mrun.{posted_report, posts_refusals, taken_line}
-use Rattle.run_reports.specs.PostedRun.{AcceptsPosted, PostedFiles, PostedReport, PostedRun, answered_samples, run_of}
+use Rattle.run_reports.specs.PostedRun.{AcceptsPosted, PostedReport, PostedRun, answered_samples, run_of}
+use Rattle.run_reports.specs.declared.files.PostedFiles.{PostedFiles}
 use Rattle.run_reports.specs.{RowLines.begun_lines, Laws.AnswersKeepTheBound, Laws.SpelledBytesFit}
 
 -- ---- the samples that turns answer are among those that are posted

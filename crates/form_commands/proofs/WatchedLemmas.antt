@@ -18,9 +18,9 @@ use Rattle.fz_status.specs.declared.status.Status.{Status}
 use Rattle.fz_status.specs.declared.status.Status.TheVariants as status
 use Rattle.command_parts.specs.Firmwares.{GivesWatched}
 use Rattle.run_reports.specs.{Inputs.AcceptsInputs, Inputs.input_refusals, Laws.SpelledBytesFit}
+use Rattle.run_reports.specs.{WatchedRun.WatchedRun, declared.files.WatchedFiles.WatchedFiles}
 use Rattle.form_commands.specs.Srun.{AcceptedWatchedRunsMakeOutput, AcceptsWatched, srun_refusals, upset_refusals}
 use Rattle.form_commands.specs.Srun.{watched_report}
-use Rattle.run_reports.specs.WatchedRun.{WatchedFiles, WatchedRun}
 
 instructions_within : (b : Block) (f : Firmware) (before : ℕ → ℕ) (xs : List Watched) (rs : List FaultSeen)
     → AreWatchedRows b f before xs rs → All (λ r. r.row.instrs ≤ f.instr_bound) rs
@@ -58,7 +58,8 @@ watches near fit flags files block firmware errors samples slice plan upsets row
   bound = a.compiled.compiled.instructions;
   instructions = instructions_within block firmware (λ o. 0) (with_upsets upsets (map input_bytes samples)) rows
       under.answers;
-  within = near block firmware a.inputs.accepted.cert errors files.trace samples upsets rows a.compiled.spelled.valid
+  within = near block firmware a.inputs.accepted.cert errors files.inputs.trace samples upsets rows
+      a.compiled.spelled.valid
       a.inputs.in_range under.answers a.inputs.accepted.accepted;
 }
   where
@@ -68,12 +69,12 @@ watches near fit flags files block firmware errors samples slice plan upsets row
 
     under : AnswersUnderUpsets block firmware flags (map input_bytes samples) plan upsets rows
     under = all block a.compiled.spelled.valid a.compiled.limits a.compiled.compiled
-        (fit block files.trace samples a.inputs.in_range)
+        (fit block files.inputs.trace samples a.inputs.in_range)
 
 module _ (files : WatchedFiles) (block : Block) (firmware : Firmware) (gives : GivesWatched files.fcl block firmware)
     (image : GivesImage files.image firmware.image) where
   -- what refuses the files behind IMAGE refuses the run
-  pub srun_refused : (s : Status) → input_refusals Named Byte block files.cert files.trace files.plan s
+  pub srun_refused : (s : Status) → input_refusals Named Byte block files.inputs s
       → srun_refusals files s
   srun_refused (status.Fcl f) r = absurd r.2
   srun_refused (status.Image f) r = absurd r.2
@@ -82,7 +83,7 @@ module _ (files : WatchedFiles) (block : Block) (firmware : Firmware) (gives : G
 
   -- and so does what refuses UPSETS
   pub upsets_refused : (errors : List ℕ) (samples : List Sample) (plan : List Request)
-      → AcceptsInputs Named Byte block files.cert files.trace files.plan errors samples plan → (s : Status)
+      → AcceptsInputs Named Byte block files.inputs errors samples plan → (s : Status)
       → upset_refusals firmware.image.bytes files.upsets s → srun_refusals files s
   upsets_refused errors samples plan inputs (status.Upset f) r =
       (block, firmware, gives, (image, errors, samples, plan, inputs, r))

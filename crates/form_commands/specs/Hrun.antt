@@ -13,11 +13,12 @@ use Rattle.handled_runs.specs.Forms.{HandledSeen}
 use Rattle.command_parts.specs.{Contents.content_at, Firmwares.OfFirmware, Firmwares.RefusesText}
 use Rattle.command_parts.specs.{Handlers.GivesHandler, Handlers.handler_refusals, Lines.counted}
 use Rattle.command_parts.specs.SeenOutputs.{HasOutput, SeenOutput, only_text}
-use Rattle.fz_status.specs.{Words.flags_of, declared.status.Status.Status}
+use Rattle.fz_status.specs.{Words.flags_of, declared.status.Status.Status, Refusals.Refusals, Refusals.Refuses}
+use Rattle.fz_status.specs.{Words.Text, Words.word_at}
 use Rattle.run_reports.specs.{Inputs.input_refusals, RowLines.begun_lines, RowLines.labelled_row_lines}
-use Rattle.run_reports.specs.HandledRun.{AcceptsHandled, HandledFiles, HandledReport, HandledRun}
+use Rattle.run_reports.specs.HandledRun.{AcceptsHandled, HandledReport, HandledRun}
+use Rattle.run_reports.specs.declared.files.HandledFiles.{HandledFiles}
 use Rattle.form_commands.specs.declared.hrun.Hrun.{Hrun}
-use Rattle.fz_status.specs.{Refusals.Refusals, Refusals.Refuses, Words.Text, Words.word_at}
 use Rattle.fz_status.specs.declared.status.Status.TheVariants as status
 
 abbrev pub hrun_with : ℕ → Hrun
@@ -35,9 +36,7 @@ abbrev pub handled_files : List (List ℕ) → HandledFiles
 handled_files contents = record {
   fcl = content_at contents 0;
   handler = content_at contents 1;
-  cert = content_at contents 2;
-  trace = content_at contents 3;
-  plan = content_at contents 4;
+  inputs = record { cert = content_at contents 2; trace = content_at contents 3; plan = content_at contents 4 };
 }
 
 -- ---- its lines
@@ -71,7 +70,7 @@ hrun_refusals files (status.Handler f) =
     OfFirmware Byte files.fcl (λ block firmware. handler_refusals files.handler (status.Handler f))
 hrun_refusals files s = OfFirmware Byte files.fcl (λ block firmware.
     (image : Image) × (instrs : ℕ) × GivesHandler files.handler image instrs
-    × input_refusals Named Byte block files.cert files.trace files.plan s)
+    × input_refusals Named Byte block files.inputs s)
 
 abbrev pub HrunMakes : Hrun → HandledFiles → Result SeenOutput Status → Type 0
 HrunMakes hrun files (Ok output) = HrunGives hrun files output

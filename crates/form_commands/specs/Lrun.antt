@@ -23,8 +23,9 @@ use Rattle.command_parts.specs.Twos.{GivesTwo, two_refusals}
 use Rattle.command_parts.specs.SeenOutputs.{HasOutput, SeenOutput, only_text}
 use Rattle.command_parts.specs.Lines.{counted, error_line, line}
 use Rattle.fz_status.specs.Words.{flags_of}
-use Rattle.run_reports.specs.LevelRun.{AcceptsCerts, AcceptsLevels, LevelFiles, LevelReport, LevelRun, SpellTraces}
+use Rattle.run_reports.specs.LevelRun.{AcceptsCerts, AcceptsLevels, LevelReport, LevelRun, SpellTraces}
 use Rattle.run_reports.specs.RowLines.{answers_told, frame_line, frame_told, sample_line_with}
+use Rattle.run_reports.specs.declared.files.LevelFiles.{LevelFiles}
 use Rattle.form_commands.specs.declared.lrun.Lrun.{Lrun}
 
 abbrev pub lrun_with : ℕ → Lrun

@@ -22,8 +22,9 @@ use Rattle.command_parts.specs.{Firmwares.RefusesText, Images.RefusesImage}
 use Rattle.command_parts.specs.Lines.{counted, line}
 use Rattle.command_parts.specs.SeenOutputs.{HasOutput, SeenOutput, only_text}
 use Rattle.fz_status.specs.Words.{flags_of}
-use Rattle.run_reports.specs.PostedRun.{AcceptsPosted, PostedFiles, PostedReport, PostedRun}
+use Rattle.run_reports.specs.PostedRun.{AcceptsPosted, PostedReport, PostedRun}
 use Rattle.run_reports.specs.RowLines.{answered, begun_lines, frame_told}
+use Rattle.run_reports.specs.declared.files.PostedFiles.{PostedFiles}
 use Rattle.form_commands.specs.declared.mrun.Mrun.{Mrun}
 
 abbrev pub mrun_with : ℕ → Mrun

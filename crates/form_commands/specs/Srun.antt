@@ -19,7 +19,8 @@ use Rattle.command_parts.specs.Firmwares.{GivesWatched, RefusesText}
 use Rattle.fz_status.specs.Words.{flags_of}
 use Rattle.run_reports.specs.Inputs.{AcceptsInputs, input_refusals}
 use Rattle.run_reports.specs.RowLines.{begun_lines, labelled_row_lines}
-use Rattle.run_reports.specs.WatchedRun.{WatchedFiles, WatchedReport, WatchedRun}
+use Rattle.run_reports.specs.WatchedRun.{WatchedReport, WatchedRun}
+use Rattle.run_reports.specs.declared.files.WatchedFiles.{WatchedFiles}
 use Rattle.form_commands.specs.declared.srun.Srun.{Srun}
 
 abbrev pub srun_with : ℕ → Srun
@@ -37,9 +38,7 @@ abbrev pub watched_files : List (List ℕ) → WatchedFiles
 watched_files contents = record {
   fcl = content_at contents 0;
   image = content_at contents 1;
-  cert = content_at contents 2;
-  trace = content_at contents 3;
-  plan = content_at contents 4;
+  inputs = record { cert = content_at contents 2; trace = content_at contents 3; plan = content_at contents 4 };
   upsets = content_at contents 5;
 }
 
@@ -63,7 +62,7 @@ pub record AcceptsWatched (files : WatchedFiles) (block : Block) (firmware : Fir
     (samples : List Sample) (plan : List Request) (upsets : List Upset) : Type 0 where
   pub compiled : GivesWatched files.fcl block firmware
   pub image : GivesImage files.image firmware.image
-  pub inputs : AcceptsInputs Named Byte block files.cert files.trace files.plan errors samples plan
+  pub inputs : AcceptsInputs Named Byte block files.inputs errors samples plan
   pub good_upsets : SpellsUpsets firmware.image.bytes files.upsets upsets
 
 -- the run is one of the files, and the lines are those of its report
@@ -84,10 +83,10 @@ srun_refusals files (status.Image f) = OfWatched files.fcl (λ block firmware. R
 srun_refusals files (status.Upset f) = OfWatched files.fcl (λ block firmware.
     GivesImage files.image firmware.image
     × (errors : List ℕ) × (samples : List Sample) × (plan : List Request)
-    × AcceptsInputs Named Byte block files.cert files.trace files.plan errors samples plan
+    × AcceptsInputs Named Byte block files.inputs errors samples plan
     × HasUpsetFault firmware.image.bytes files.upsets f)
 srun_refusals files s = OfWatched files.fcl (λ block firmware.
-    GivesImage files.image firmware.image × input_refusals Named Byte block files.cert files.trace files.plan s)
+    GivesImage files.image firmware.image × input_refusals Named Byte block files.inputs s)
 
 -- why a text gives no upsets of an image
 abbrev pub upset_refusals : List (ℕ × ℕ) → List ℕ → Refusals

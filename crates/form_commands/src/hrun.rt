@@ -4,7 +4,8 @@ ghost use Rattle.std.specs.List.{All};
 ghost use Rattle.fz_status.specs.{Refusals.IsRefusal, Words.texts_of};
 ghost use Rattle.command_parts.specs.{Contents.bytes_of, Lines.counted};
 ghost use Rattle.command_parts.specs.SeenOutputs.{OutputHasNoFault, OutputsAreOne, IsResultOf};
-ghost use Rattle.run_reports.specs.{HandledRun.AcceptsHandled, HandledRun.HandledFiles, RowLines.begun_lines};
+ghost use Rattle.run_reports.specs.{HandledRun.AcceptsHandled, RowLines.begun_lines};
+ghost use Rattle.run_reports.specs.declared.files.HandledFiles.{HandledFiles};
 ghost use Rattle.form_commands.specs.Hrun.{AcceptedHandledRunsMakeOutput, HrunMakes, handled_files};
 ghost use Rattle.form_commands.specs.Hrun.{handled_row_lines, hrun_in, hrun_refusals};
 ghost use Rattle.form_commands.specs.declared.hrun.Hrun.{Hrun as TheHrun};
@@ -15,7 +16,7 @@ use alone_runs::laws::answers_under_plans;
 use box_tree::CertKind;
 use byte_scaling::Width;
 use command_parts::certs::accepted_errors_are_one;
-use command_parts::contents::content;
+use command_parts::contents::Content;
 use command_parts::firmware::{
     Compiled, firmware_of, given_firmwares_are_one, spelled_texts_have_no_fault,
 };
@@ -26,6 +27,7 @@ use fcl_check::spelled_blocks_are_one;
 use fz_status::{Status, word};
 use handled_runs::laws::{handled_answers, handlers_run_alike};
 use handled_runs::{HandledRow, run_handler};
+use run_reports::files::{HandledFiles, InputFiles};
 use run_reports::inputs::{Inputs, inputs_of};
 use run_reports::laws::{
     accepted_inputs_have_no_fault, answers_are_reported, spelled_bytes_fit, spelled_inputs_are_one,
@@ -43,6 +45,22 @@ pub struct Hrun {
 
 /// The words FCL, HANDLER, CERT, TRACE and PLAN.
 pub static INPUTS: [u32; 5] = [2, 3, 4, 5, 6];
+
+/// Their contents.
+pub fn files_of(contents: &[Vec<u8>]) -> HandledFiles<'_>
+    requires { All (λ c. length c.items ≤ 1048576) contents.now }
+    ensures { result ≡ handled_files (bytes_of contents.now) }
+{
+    HandledFiles {
+        fcl: Content::at(contents, 0),
+        handler: Content::at(contents, 1),
+        inputs: InputFiles {
+            cert: Content::at(contents, 2),
+            trace: Content::at(contents, 3),
+            plan: Content::at(contents, 4),
+        },
+    }
+}
 
 /// What the files give, where all of them are accepted.
 #[derive(Drop)]
@@ -63,14 +81,13 @@ impl Hrun {
 
     /// Runs the samples of the trace under the plan, each interrupt by the handler's code, once all files
     /// are accepted, and writes down what came of them.
-    pub fn work(self, alloc: Global, contents: &[Vec<u8>]) -> Result<Output, Status>
-        requires { All (λ c. length c.items ≤ 1048576) contents.now }
-        ensures { IsResultOf (HrunMakes self (handled_files (bytes_of contents.now))) result }
+    pub fn work(self, alloc: Global, files: &HandledFiles) -> Result<Output, Status>
+        ensures { IsResultOf (HrunMakes self files.now) result }
     {
         answers_are_reported();
         answers_under_plans();
         spelled_bytes_fit();
-        let accepted = Hrun::accepted(alloc, contents)?;
+        let accepted = Hrun::accepted(alloc, files)?;
         let firmware = &accepted.compiled.firmware;
         let rows = run_handler(
             alloc,
@@ -85,21 +102,20 @@ impl Hrun {
     }
 
     /// What the files give, or the first fault in their order.
-    fn accepted(alloc: Global, contents: &[Vec<u8>]) -> Result<Accepted, Status>
-        requires { All (λ c. length c.items ≤ 1048576) contents.now }
-        ensures accepted { IfOk result (λ a. AcceptsHandled (handled_files (bytes_of contents.now)) a.compiled.block
+    fn accepted(alloc: Global, files: &HandledFiles) -> Result<Accepted, Status>
+        ensures accepted { IfOk result (λ a. AcceptsHandled files.now a.compiled.block
             a.compiled.firmware a.handler.image a.handler.handler.instrs a.inputs.errors.items
             a.inputs.samples.items a.inputs.plan) }
-        ensures fault { IfErr result (IsRefusal (hrun_refusals (handled_files (bytes_of contents.now)))) }
+        ensures fault { IfErr result (IsRefusal (hrun_refusals files.now)) }
     {
-        let compiled = firmware_of(alloc, Width::Byte, content(contents, 0))?;
-        let handler = handler_of(alloc, content(contents, 1))?;
+        let compiled = firmware_of(alloc, Width::Byte, &files.fcl)?;
+        let handler = handler_of(alloc, &files.handler)?;
         let inputs = inputs_of(
             alloc,
             CertKind::Named,
             Width::Byte,
             &compiled.block,
-            contents,
+            &files.inputs,
         )?;
         Ok(Accepted {
             compiled,

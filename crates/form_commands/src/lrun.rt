@@ -6,7 +6,8 @@ ghost use Rattle.interrupt_plan.specs.Levels.{SpellsLevels};
 ghost use Rattle.fz_status.specs.{Refusals.IsRefusal, Words.texts_of};
 ghost use Rattle.command_parts.specs.Contents.{bytes_of};
 ghost use Rattle.command_parts.specs.SeenOutputs.{OutputHasNoFault, OutputsAreOne, IsResultOf};
-ghost use Rattle.run_reports.specs.LevelRun.{AcceptsCerts, AcceptsLevels, LevelFiles, SpellTraces};
+ghost use Rattle.run_reports.specs.LevelRun.{AcceptsCerts, AcceptsLevels, SpellTraces};
+ghost use Rattle.run_reports.specs.declared.files.LevelFiles.{LevelFiles};
 ghost use Rattle.form_commands.specs.Lrun.{AcceptedLevelRunsMakeOutput, LrunMakes, certs_refusals, level_files};
 ghost use Rattle.form_commands.specs.Lrun.{levels_refusals, lrun_in, lrun_refusals, traces_refusals};
 ghost use Rattle.form_commands.specs.declared.lrun.Lrun.{Lrun as TheLrun};
@@ -18,7 +19,7 @@ use byte_scaling::Width;
 use command_parts::certs::{
     accepted_certs_have_no_fault, accepted_errors_are_one, errors_under,
 };
-use command_parts::contents::content;
+use command_parts::contents::Content;
 use command_parts::firmware::spelled_texts_have_no_fault;
 use command_parts::images::{given_images_have_no_fault, require_image};
 use command_parts::output::Output;
@@ -29,6 +30,7 @@ use fz_status::{Status, word};
 use interrupt_plan::{
     Levels, PlanFault, read_levels, spelled_entries_are_one, spelled_levels_have_no_fault,
 };
+use run_reports::files::LevelFiles;
 use run_reports::inputs::samples_of;
 use run_reports::laws::{
     answers_are_reported, answers_keep_the_bound, spelled_bytes_fit, spelled_inputs_are_one,
@@ -49,6 +51,23 @@ pub struct Lrun {
 
 /// The words SLOW, FAST, IMAGE, SCERT, FCERT, STRACE, FTRACE and LEVELS.
 pub static INPUTS: [u32; 8] = [2, 3, 4, 5, 6, 7, 8, 9];
+
+/// Their contents.
+pub fn files_of(contents: &[Vec<u8>]) -> LevelFiles<'_>
+    requires { All (λ c. length c.items ≤ 1048576) contents.now }
+    ensures { result ≡ level_files (bytes_of contents.now) }
+{
+    LevelFiles {
+        slow: Content::at(contents, 0),
+        fast: Content::at(contents, 1),
+        image: Content::at(contents, 2),
+        slow_cert: Content::at(contents, 3),
+        fast_cert: Content::at(contents, 4),
+        slow_trace: Content::at(contents, 5),
+        fast_trace: Content::at(contents, 6),
+        levels: Content::at(contents, 7),
+    }
+}
 
 /// The errors that both certificates are accepted with.
 #[derive(Drop)]
@@ -75,19 +94,18 @@ struct Accepted {
 
 impl Accepted {
     /// What the files give, or the first fault in their order.
-    fn of(alloc: Global, contents: &[Vec<u8>]) -> Result<Accepted, Status>
-        requires { All (λ c. length c.items ≤ 1048576) contents.now }
-        ensures accepted { IfOk result (λ a. AcceptsLevels (level_files (bytes_of contents.now))
+    fn of(alloc: Global, files: &LevelFiles) -> Result<Accepted, Status>
+        ensures accepted { IfOk result (λ a. AcceptsLevels files.now
             a.compiled.slow a.compiled.fast a.compiled.two a.errors.slow.items a.errors.fast.items
             a.traces.slow.items a.traces.fast.items a.levels) }
-        ensures fault { IfErr result (IsRefusal (lrun_refusals (level_files (bytes_of contents.now)))) }
+        ensures fault { IfErr result (IsRefusal (lrun_refusals files.now)) }
     {
         spelled_traces_are_short();
-        let compiled = two_of(alloc, content(contents, 0), content(contents, 1))?;
-        require_image(alloc, content(contents, 2), &compiled.two.image)?;
-        let errors = errors_of(alloc, &compiled.slow, &compiled.fast, contents)?;
-        let traces = traces_of(alloc, &compiled.slow, &compiled.fast, contents)?;
-        let levels = levels_of(alloc, content(contents, 7), &traces.fast)?;
+        let compiled = two_of(alloc, &files.slow, &files.fast)?;
+        require_image(alloc, &files.image, &compiled.two.image)?;
+        let errors = errors_of(alloc, &compiled.slow, &compiled.fast, files)?;
+        let traces = traces_of(alloc, &compiled.slow, &compiled.fast, files)?;
+        let levels = levels_of(alloc, &files.levels, &traces.fast)?;
         Ok(Accepted {
             compiled,
             errors,
@@ -108,9 +126,8 @@ impl Lrun {
 
     /// Runs the slow samples under the levels, once all files are accepted, and writes down what came of
     /// them and of the fast runs.
-    pub fn work(self, alloc: Global, contents: &[Vec<u8>]) -> Result<Output, Status>
-        requires { All (λ c. length c.items ≤ 1048576) contents.now }
-        ensures { IsResultOf (LrunMakes self (level_files (bytes_of contents.now))) result }
+    pub fn work(self, alloc: Global, files: &LevelFiles) -> Result<Output, Status>
+        ensures { IsResultOf (LrunMakes self files.now) result }
     {
         answers_are_reported();
         answers_keep_the_bound();
@@ -120,7 +137,7 @@ impl Lrun {
         rows_are_seen();
         alone_has_byte_bounds();
         spelled_bytes_fit();
-        let accepted = Accepted::of(alloc, contents)?;
+        let accepted = Accepted::of(alloc, files)?;
         let two = &accepted.compiled.two;
         let rows = run_two(
             alloc,
@@ -146,30 +163,15 @@ fn errors_of(
     alloc: Global,
     slow: &Block,
     fast: &Block,
-    contents: &[Vec<u8>],
+    files: &LevelFiles,
 ) -> Result<Errors, Status>
     requires slow { IsValid slow.now }
     requires fast { IsValid fast.now }
-    requires small { All (λ c. length c.items ≤ 1048576) contents.now }
-    ensures accepted { IfOk result (λ e. AcceptsCerts (level_files (bytes_of contents.now)) slow.now fast.now
-        e.slow.items e.fast.items) }
-    ensures fault { IfErr result (IsRefusal
-        (certs_refusals (level_files (bytes_of contents.now)) slow.now fast.now)) }
+    ensures accepted { IfOk result (λ e. AcceptsCerts files.now slow.now fast.now e.slow.items e.fast.items) }
+    ensures fault { IfErr result (IsRefusal (certs_refusals files.now slow.now fast.now)) }
 {
-    let slow_errors = errors_under(
-        alloc,
-        CertKind::Named,
-        Width::Byte,
-        slow,
-        content(contents, 3),
-    )?;
-    match errors_under(
-        alloc,
-        CertKind::Named,
-        Width::Byte,
-        fast,
-        content(contents, 4),
-    ) {
+    let slow_errors = errors_under(alloc, CertKind::Named, Width::Byte, slow, &files.slow_cert)?;
+    match errors_under(alloc, CertKind::Named, Width::Byte, fast, &files.fast_cert) {
         Ok(errors) => Ok(Errors {
             slow: slow_errors,
             fast: errors,
@@ -183,18 +185,15 @@ fn traces_of(
     alloc: Global,
     slow: &Block,
     fast: &Block,
-    contents: &[Vec<u8>],
+    files: &LevelFiles,
 ) -> Result<Traces, Status>
     requires slow { IsValid slow.now }
     requires fast { IsValid fast.now }
-    requires small { All (λ c. length c.items ≤ 1048576) contents.now }
-    ensures samples { IfOk result (λ t. SpellTraces (level_files (bytes_of contents.now)) slow.now fast.now
-        t.slow.items t.fast.items) }
-    ensures fault { IfErr result (IsRefusal
-        (traces_refusals (level_files (bytes_of contents.now)) slow.now fast.now)) }
+    ensures samples { IfOk result (λ t. SpellTraces files.now slow.now fast.now t.slow.items t.fast.items) }
+    ensures fault { IfErr result (IsRefusal (traces_refusals files.now slow.now fast.now)) }
 {
-    let slow_samples = samples_of(alloc, slow, content(contents, 5))?;
-    match samples_of(alloc, fast, content(contents, 6)) {
+    let slow_samples = samples_of(alloc, slow, &files.slow_trace)?;
+    match samples_of(alloc, fast, &files.fast_trace) {
         Ok(samples) => Ok(Traces {
             slow: slow_samples,
             fast: samples,
@@ -204,13 +203,12 @@ fn traces_of(
 }
 
 /// The levels over these fast samples that a text spells.
-fn levels_of(alloc: Global, text: &[u8], fast: &[Sample]) -> Result<Levels, Status>
-    requires text { length text.now ≤ 1048576 }
-    requires few { length fast.now ≤ 10000 }
+fn levels_of(alloc: Global, text: &Content, fast: &[Sample]) -> Result<Levels, Status>
+    requires { length fast.now ≤ 10000 }
     ensures levels { IfOk result (SpellsLevels (length fast.now) text.now) }
     ensures fault { IfErr result (IsRefusal (levels_refusals (length fast.now) text.now)) }
 {
-    match read_levels(alloc, text, fast.len() as u32) {
+    match read_levels(alloc, text.bytes(), fast.len() as u32) {
         Ok(levels) => Ok(levels),
         Err(PlanFault::Memory) => Err(Status::Memory),
         Err(fault) => Err(Status::Plan(fault)),

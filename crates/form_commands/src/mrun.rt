@@ -9,7 +9,7 @@ ghost use Rattle.command_parts.specs.SeenOutputs.{OutputHasNoFault, OutputsAreOn
 ghost use Rattle.form_commands.specs.Mrun.{AcceptedPostedRunsMakeOutput, MrunMakes, mrun_in, mrun_refusals};
 ghost use Rattle.form_commands.specs.Mrun.{posted_files, posts_refusals};
 ghost use Rattle.form_commands.specs.declared.mrun.Mrun.{Mrun as TheMrun};
-ghost use Rattle.run_reports.specs.PostedRun.{AcceptsPosted, PostedFiles};
+ghost use Rattle.run_reports.specs.{PostedRun.AcceptsPosted, declared.files.PostedFiles.PostedFiles};
 
 use crate::posted_lines::lines;
 use box_tree::CertKind;
@@ -17,7 +17,7 @@ use byte_scaling::Width;
 use command_parts::certs::{
     accepted_certs_have_no_fault, accepted_errors_are_one, errors_under,
 };
-use command_parts::contents::content;
+use command_parts::contents::Content;
 use command_parts::firmware::{
     Compiled, given_mailboxes_are_one, mailbox_of, spelled_texts_have_no_fault,
 };
@@ -29,6 +29,7 @@ use interrupt_plan::{
     PlanFault, Posts, read_posts, spelled_entries_are_one, spelled_posts_have_no_fault,
 };
 use mailbox_runs::{last_is_answered, posts_are_answered, run_posts};
+use run_reports::files::PostedFiles;
 use run_reports::inputs::samples_of;
 use run_reports::laws::{
     answers_keep_the_bound, spelled_bytes_fit, spelled_inputs_are_one, spelled_traces_are_one_long,
@@ -48,6 +49,20 @@ pub struct Mrun {
 /// The words FCL, IMAGE, CERT, TRACE and POSTS.
 pub static INPUTS: [u32; 5] = [2, 3, 4, 5, 6];
 
+/// Their contents.
+pub fn files_of(contents: &[Vec<u8>]) -> PostedFiles<'_>
+    requires { All (λ c. length c.items ≤ 1048576) contents.now }
+    ensures { result ≡ posted_files (bytes_of contents.now) }
+{
+    PostedFiles {
+        fcl: Content::at(contents, 0),
+        image: Content::at(contents, 1),
+        cert: Content::at(contents, 2),
+        trace: Content::at(contents, 3),
+        posts: Content::at(contents, 4),
+    }
+}
+
 /// What the files give, where all of them are accepted.
 #[derive(Drop)]
 struct Accepted {
@@ -59,24 +74,23 @@ struct Accepted {
 
 impl Accepted {
     /// What the files give, or the first fault in their order.
-    fn of(alloc: Global, contents: &[Vec<u8>]) -> Result<Accepted, Status>
-        requires { All (λ c. length c.items ≤ 1048576) contents.now }
-        ensures accepted { IfOk result (λ a. AcceptsPosted (posted_files (bytes_of contents.now))
+    fn of(alloc: Global, files: &PostedFiles) -> Result<Accepted, Status>
+        ensures accepted { IfOk result (λ a. AcceptsPosted files.now
             a.compiled.block a.compiled.firmware a.errors.items a.samples.items a.posts) }
-        ensures fault { IfErr result (IsRefusal (mrun_refusals (posted_files (bytes_of contents.now)))) }
+        ensures fault { IfErr result (IsRefusal (mrun_refusals files.now)) }
     {
         spelled_traces_are_short();
-        let compiled = mailbox_of(alloc, content(contents, 0))?;
-        require_image(alloc, content(contents, 1), &compiled.firmware.image)?;
+        let compiled = mailbox_of(alloc, &files.fcl)?;
+        require_image(alloc, &files.image, &compiled.firmware.image)?;
         let errors = errors_under(
             alloc,
             CertKind::Named,
             Width::Byte,
             &compiled.block,
-            content(contents, 2),
+            &files.cert,
         )?;
-        let samples = samples_of(alloc, &compiled.block, content(contents, 3))?;
-        let posts = posts_of(alloc, content(contents, 4), &samples)?;
+        let samples = samples_of(alloc, &compiled.block, &files.trace)?;
+        let posts = posts_of(alloc, &files.posts, &samples)?;
         Ok(Accepted {
             compiled,
             errors,
@@ -96,15 +110,14 @@ impl Mrun {
     }
 
     /// Runs the firmware under the posts, once all files are accepted, and writes down what came of them.
-    pub fn work(self, alloc: Global, contents: &[Vec<u8>]) -> Result<Output, Status>
-        requires { All (λ c. length c.items ≤ 1048576) contents.now }
-        ensures { IsResultOf (MrunMakes self (posted_files (bytes_of contents.now))) result }
+    pub fn work(self, alloc: Global, files: &PostedFiles) -> Result<Output, Status>
+        ensures { IsResultOf (MrunMakes self files.now) result }
     {
         answers_keep_the_bound();
         spelled_bytes_fit();
         posted_answers_are_near();
         last_is_answered();
-        let accepted = Accepted::of(alloc, contents)?;
+        let accepted = Accepted::of(alloc, files)?;
         let firmware = &accepted.compiled.firmware;
         let told = run_posts(
             alloc,
@@ -119,13 +132,12 @@ impl Mrun {
 }
 
 /// The posts of these samples that a text spells.
-fn posts_of(alloc: Global, text: &[u8], samples: &[Sample]) -> Result<Posts, Status>
-    requires text { length text.now ≤ 1048576 }
-    requires few { length samples.now ≤ 10000 }
+fn posts_of(alloc: Global, text: &Content, samples: &[Sample]) -> Result<Posts, Status>
+    requires { length samples.now ≤ 10000 }
     ensures posts { IfOk result (SpellsPosts (length samples.now) text.now) }
     ensures fault { IfErr result (IsRefusal (posts_refusals (length samples.now) text.now)) }
 {
-    match read_posts(alloc, text, samples.len() as u32) {
+    match read_posts(alloc, text.bytes(), samples.len() as u32) {
         Ok(posts) => Ok(posts),
         Err(PlanFault::Memory) => Err(Status::Memory),
         Err(fault) => Err(Status::Plan(fault)),

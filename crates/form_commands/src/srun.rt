@@ -9,14 +9,15 @@ ghost use Rattle.command_parts.specs.SeenOutputs.{OutputHasNoFault, OutputsAreOn
 ghost use Rattle.form_commands.specs.Srun.{AcceptedWatchedRunsMakeOutput, AcceptsWatched, SrunMakes, srun_in};
 ghost use Rattle.form_commands.specs.Srun.{srun_refusals, upset_refusals, watched_files, watched_row_lines};
 ghost use Rattle.form_commands.specs.declared.srun.Srun.{Srun as TheSrun};
-ghost use Rattle.run_reports.specs.{WatchedRun.WatchedFiles, RowLines.begun_lines};
+ghost use Rattle.run_reports.specs.{RowLines.begun_lines};
+ghost use Rattle.run_reports.specs.declared.files.WatchedFiles.{WatchedFiles};
 ghost use Rattle.fz_shelf.specs.Lines.{text_of};
 ghost use Rattle.watched_runs.specs.Rows.{row_seen};
 
 use box_tree::CertKind;
 use byte_scaling::Width;
 use command_parts::certs::accepted_errors_are_one;
-use command_parts::contents::content;
+use command_parts::contents::Content;
 use command_parts::firmware::{
     Compiled, given_watched_are_one, spelled_texts_have_no_fault, watched_firmware_of,
 };
@@ -28,6 +29,7 @@ use fz_status::{Status, word};
 use interrupt_plan::{
     UpsetFault, Upsets, read_upsets, spelled_entries_are_one, spelled_upsets_have_no_fault,
 };
+use run_reports::files::{InputFiles, WatchedFiles};
 use run_reports::inputs::{Inputs, inputs_of};
 use run_reports::laws::{accepted_inputs_have_no_fault, spelled_bytes_fit, spelled_inputs_are_one};
 use run_reports::nearness::faultless_answers_are_near;
@@ -46,6 +48,23 @@ pub struct Srun {
 /// The words FCL, IMAGE, CERT, TRACE, PLAN and UPSETS.
 pub static INPUTS: [u32; 6] = [2, 3, 4, 5, 6, 7];
 
+/// Their contents.
+pub fn files_of(contents: &[Vec<u8>]) -> WatchedFiles<'_>
+    requires { All (λ c. length c.items ≤ 1048576) contents.now }
+    ensures { result ≡ watched_files (bytes_of contents.now) }
+{
+    WatchedFiles {
+        fcl: Content::at(contents, 0),
+        image: Content::at(contents, 1),
+        inputs: InputFiles {
+            cert: Content::at(contents, 2),
+            trace: Content::at(contents, 3),
+            plan: Content::at(contents, 4),
+        },
+        upsets: Content::at(contents, 5),
+    }
+}
+
 /// What the files give, where all of them are accepted.
 #[derive(Drop)]
 struct Accepted {
@@ -56,22 +75,21 @@ struct Accepted {
 
 impl Accepted {
     /// What the files give, or the first fault in their order.
-    fn of(alloc: Global, contents: &[Vec<u8>]) -> Result<Accepted, Status>
-        requires { All (λ c. length c.items ≤ 1048576) contents.now }
-        ensures accepted { IfOk result (λ a. AcceptsWatched (watched_files (bytes_of contents.now))
+    fn of(alloc: Global, files: &WatchedFiles) -> Result<Accepted, Status>
+        ensures accepted { IfOk result (λ a. AcceptsWatched files.now
             a.compiled.block a.compiled.firmware a.inputs.errors.items a.inputs.samples.items a.inputs.plan a.upsets) }
-        ensures fault { IfErr result (IsRefusal (srun_refusals (watched_files (bytes_of contents.now)))) }
+        ensures fault { IfErr result (IsRefusal (srun_refusals files.now)) }
     {
-        let compiled = watched_firmware_of(alloc, content(contents, 0))?;
-        require_image(alloc, content(contents, 1), &compiled.firmware.image)?;
+        let compiled = watched_firmware_of(alloc, &files.fcl)?;
+        require_image(alloc, &files.image, &compiled.firmware.image)?;
         let inputs = inputs_of(
             alloc,
             CertKind::Named,
             Width::Byte,
             &compiled.block,
-            contents,
+            &files.inputs,
         )?;
-        let upsets = upsets_of(alloc, content(contents, 5), &compiled.firmware.image)?;
+        let upsets = upsets_of(alloc, &files.upsets, &compiled.firmware.image)?;
         Ok(Accepted {
             compiled,
             inputs,
@@ -91,13 +109,12 @@ impl Srun {
 
     /// Runs the samples of the trace under the plan, each with its upset, once all files are accepted, and
     /// writes down what came of them.
-    pub fn work(self, alloc: Global, contents: &[Vec<u8>]) -> Result<Output, Status>
-        requires { All (λ c. length c.items ≤ 1048576) contents.now }
-        ensures { IsResultOf (SrunMakes self (watched_files (bytes_of contents.now))) result }
+    pub fn work(self, alloc: Global, files: &WatchedFiles) -> Result<Output, Status>
+        ensures { IsResultOf (SrunMakes self files.now) result }
     {
         faultless_answers_are_near();
         spelled_bytes_fit();
-        let accepted = Accepted::of(alloc, contents)?;
+        let accepted = Accepted::of(alloc, files)?;
         let firmware = &accepted.compiled.firmware;
         let rows = run_upsets(
             alloc,
@@ -113,12 +130,11 @@ impl Srun {
 }
 
 /// The upsets of an image's tables that a text spells.
-fn upsets_of(alloc: Global, text: &[u8], image: &Image) -> Result<Upsets, Status>
-    requires { length text.now ≤ 1048576 }
+fn upsets_of(alloc: Global, text: &Content, image: &Image) -> Result<Upsets, Status>
     ensures upsets { IfOk result (SpellsUpsets image.now.bytes text.now) }
     ensures fault { IfErr result (IsRefusal (upset_refusals image.now.bytes text.now)) }
 {
-    match read_upsets(alloc, text, image) {
+    match read_upsets(alloc, text.bytes(), image) {
         Ok(upsets) => Ok(upsets),
         Err(UpsetFault::Memory) => Err(Status::Memory),
         Err(fault) => Err(Status::Upset(fault)),

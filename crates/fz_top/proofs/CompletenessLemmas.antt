@@ -5,7 +5,7 @@ use Rattle.box_tree.specs.declared.cert.CertKind.{CertKind}
 use Rattle.byte_scaling.specs.declared.width.Width.{Width}
 use Rattle.fz_words.specs.Table.{any_hyphen}
 use Rattle.fz_status.specs.Words.{Text}
-use Rattle.run_reports.specs.Reports.{Files}
+use Rattle.run_reports.specs.declared.files.RunFiles.{RunFiles}
 use Rattle.run_commands.specs.Run.{RunAccepts, run_inputs, run_with}
 use Rattle.fz_shelf.specs.{Files.Names, Told.Taken}
 use Rattle.command_parts.specs.SeenOutputs.{SeenOutput}
@@ -43,10 +43,10 @@ run_command (p ∷ w ∷ ws) kind width flags are =
 
 -- ---- the files
 
-abbrev pub contents_of : Files → List (List ℕ)
-contents_of f = f.fcl ∷ f.image ∷ f.cert ∷ f.trace ∷ f.plan ∷ []
+abbrev pub contents_of : RunFiles → List (List ℕ)
+contents_of f = f.fcl ∷ f.image ∷ f.inputs.cert ∷ f.inputs.trace ∷ f.inputs.plan ∷ []
 
-pub are_known : (words : List Text) (names : Names) (files : Files) → AreTold words names files
+pub are_known : (words : List Text) (names : Names) (files : RunFiles) → AreTold words names files
     → AreKnown names (names_at words run_inputs) (contents_of files)
 are_known words names files told = (
   (told.fcl.room, told.fcl.told),
@@ -70,7 +70,7 @@ are_known words names files told = (
 
 -- room for each text that keeps the promise is room for what the run makes
 pub room_for : CertifiedRunsKeepPromise → (words : List Text) (kind : CertKind) (width : Width) (flags : ℕ)
-    (files : Files) (names : Names) (told : Option Taken) → flags < 2 ^ 8 → HasRoomForLines width flags files told
+    (files : RunFiles) (names : Names) (told : Option Taken) → flags < 2 ^ 8 → HasRoomForLines width flags files told
     → RoomFor words names told (Makes (command.Run (run_with kind width flags)) (contents_of files))
 unfolding Makes
 room_for keep words kind width flags files names told byte room output gives = (
@@ -83,7 +83,7 @@ room_for keep words kind width flags files names told byte room output gives = (
 abbrev pub asked : CertKind → Width → ℕ → Command
 asked kind width flags = command.Run (run_with kind width flags)
 
-pub can : (words : List Text) (kind : CertKind) (width : Width) (flags : ℕ) (files : Files) (names : Names)
+pub can : (words : List Text) (kind : CertKind) (width : Width) (flags : ℕ) (files : RunFiles) (names : Names)
     → AreRunWords words kind width flags → AreTold words names files → RunAccepts (run_with kind width flags) files
     → CanBeDone words names (asked kind width flags) (contents_of files)
 unfolding inputs_of Accepts

@@ -10,7 +10,7 @@ use Rattle.fz_top.specs.Runs.{HasNoFault}
 use Rattle.fz_shelf.specs.Told.{World}
 use Rattle.fz_words.specs.Table.{any_hyphen}
 use Rattle.promise.specs.{Laws.AreAccepted, Promise.Promise}
-use Rattle.run_reports.specs.Reports.{Files, Report}
+use Rattle.run_reports.specs.{Reports.Report, declared.files.RunFiles.RunFiles}
 use Rattle.std.specs.Prelude.{◌≡◌, ◌≤◌, ℕ, List, codes, length, Some, ◌⊎◌, false, Option}
 use Rattle.fz_status.specs.declared.status.Status.TheVariants as status
 
@@ -28,16 +28,16 @@ pub record IsRun (words : List Text) (kind : CertKind) (width : Width) (flags : 
   pub flags_are : flags_of (word_at words 7) ≡ Some flags
 
 -- the contents are those of the files that the words name, where the shelf tells them
-pub record AreOf (words : List Text) (names : Names) (files : Files) : Type 0 where
+pub record AreOf (words : List Text) (names : Names) (files : RunFiles) : Type 0 where
   pub fcl : Holds (names (word_at words 2)) files.fcl
   pub image : Holds (names (word_at words 3)) files.image
-  pub cert : Holds (names (word_at words 4)) files.cert
-  pub trace : Holds (names (word_at words 5)) files.trace
-  pub plan : Holds (names (word_at words 6)) files.plan
+  pub cert : Holds (names (word_at words 4)) files.inputs.cert
+  pub trace : Holds (names (word_at words 5)) files.inputs.trace
+  pub plan : Holds (names (word_at words 6)) files.inputs.plan
 
 -- out has gained lines that keep the promise over the files' contents
 pub record KeepsPromise (words : List Text) (width : Width) (flags : ℕ) (old new : World) : Type 0 where
-  pub files : Files
+  pub files : RunFiles
   pub are : AreOf words old.files files
   pub text : List ℕ
   pub put : new.told ≡ gained old.told text
@@ -61,22 +61,22 @@ pub record IsTold (file : File) (bytes : List ℕ) : Type 0 where
   pub told : file ≡ known bytes room
   pub short : length bytes ≤ 1048576
 
-pub record AreTold (words : List Text) (names : Names) (files : Files) : Type 0 where
+pub record AreTold (words : List Text) (names : Names) (files : RunFiles) : Type 0 where
   pub fcl : IsTold (names (word_at words 2)) files.fcl
   pub image : IsTold (names (word_at words 3)) files.image
-  pub cert : IsTold (names (word_at words 4)) files.cert
-  pub trace : IsTold (names (word_at words 5)) files.trace
-  pub plan : IsTold (names (word_at words 6)) files.plan
+  pub cert : IsTold (names (word_at words 4)) files.inputs.cert
+  pub trace : IsTold (names (word_at words 5)) files.inputs.trace
+  pub plan : IsTold (names (word_at words 6)) files.inputs.plan
 
 -- there is room for the lines, whichever keep the promise
-abbrev pub HasRoomForLines : Width → ℕ → Files → Option Taken → Type 0
+abbrev pub HasRoomForLines : Width → ℕ → RunFiles → Option Taken → Type 0
 HasRoomForLines width flags files told =
     (report : Report) (text : List ℕ) → Promise width flags files report text → HasRoom told (length text)
 
 -- Then the status is Ok, or Memory, where no count rose; and also where shelf and out are reliable with room.
 abbrev pub AcceptedIsDone : List Text → World → World → Type 0 → Status → Type 0
 AcceptedIsDone words old new Reliable s =
-    (kind : CertKind) (width : Width) (flags : ℕ) (files : Files) → AreRunWords words kind width flags
+    (kind : CertKind) (width : Width) (flags : ℕ) (files : RunFiles) → AreRunWords words kind width flags
     → AreTold words old.files files → AreAccepted kind width files
     → HasNoFault old new ⊎ (Reliable × HasRoomForLines width flags files old.told)
     → (s ≡ status.Ok) ⊎ (s ≡ status.Memory)

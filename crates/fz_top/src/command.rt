@@ -17,7 +17,7 @@ use build_commands::compile::{self, Compile};
 use build_commands::exec::{self, Exec};
 use build_commands::{asm, hcheck, lcompile, mcompile, scompile};
 use byte_scaling::Width::{self, Byte, Word};
-use command_parts::contents::content;
+use command_parts::contents::Content;
 use command_parts::output::Output;
 use form_commands::hrun::{self, Hrun};
 use form_commands::lrun::{self, Lrun};
@@ -175,23 +175,25 @@ impl Command {
         requires { All (λ c. length c.items ≤ 1048576) contents.now }
         ensures { IsResultOf (Makes self (bytes_of contents.now)) result }
     {
+        let first = Content::at(contents, 0);
+        let second = Content::at(contents, 1);
         match self {
-            Command::Asm => asm::work(alloc, content(contents, 0)),
-            Command::Certify(certify) => certify.work(alloc, content(contents, 0)),
-            Command::Check(check) => check.work(alloc, content(contents, 0), content(contents, 1)),
-            Command::Compile(compile) => compile.work(alloc, content(contents, 0)),
-            Command::Debug(debug) => debug.work(alloc, contents),
-            Command::Exec(exec) => exec.work(alloc, content(contents, 0)),
+            Command::Asm => asm::work(alloc, &first),
+            Command::Certify(certify) => certify.work(alloc, &first),
+            Command::Check(check) => check.work(alloc, &first, &second),
+            Command::Compile(compile) => compile.work(alloc, &first),
+            Command::Debug(debug) => debug.work(alloc, &debug::files_of(contents)),
+            Command::Exec(exec) => exec.work(alloc, &first),
             Command::Generate(generate) => generate.work(alloc),
-            Command::Hcheck => hcheck::work(alloc, content(contents, 0)),
-            Command::Hrun(hrun) => hrun.work(alloc, contents),
-            Command::Lcompile => lcompile::work(alloc, content(contents, 0), content(contents, 1)),
-            Command::Lrun(lrun) => lrun.work(alloc, contents),
-            Command::Mcompile => mcompile::work(alloc, content(contents, 0)),
-            Command::Mrun(mrun) => mrun.work(alloc, contents),
-            Command::Run(run) => run.work(alloc, contents),
-            Command::Scompile => scompile::work(alloc, content(contents, 0)),
-            Command::Srun(srun) => srun.work(alloc, contents),
+            Command::Hcheck => hcheck::work(alloc, &first),
+            Command::Hrun(hrun) => hrun.work(alloc, &hrun::files_of(contents)),
+            Command::Lcompile => lcompile::work(alloc, &first, &second),
+            Command::Lrun(lrun) => lrun.work(alloc, &lrun::files_of(contents)),
+            Command::Mcompile => mcompile::work(alloc, &first),
+            Command::Mrun(mrun) => mrun.work(alloc, &mrun::files_of(contents)),
+            Command::Run(run) => run.work(alloc, &run::files_of(contents)),
+            Command::Scompile => scompile::work(alloc, &first),
+            Command::Srun(srun) => srun.work(alloc, &srun::files_of(contents)),
         }
     }
 }

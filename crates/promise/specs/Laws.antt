@@ -12,7 +12,8 @@ use Rattle.fuzzy_meaning.specs.{Blocks.IsValid, declared.block.Block.Block}
 use Rattle.interrupt_plan.specs.{Plans.Spells as SpellsPlan, declared.Request.Request}
 use Rattle.promise.specs.Promise.{IsPrintable, Promise, Serves}
 use Rattle.rule_layout.specs.Layouts.{IsWithinLimits}
-use Rattle.run_reports.specs.{CertifiedRun.CertifiedRun, Reports.Files, Reports.Report, RowLines.run_lines}
+use Rattle.run_reports.specs.{CertifiedRun.CertifiedRun, Reports.Report, RowLines.run_lines}
+use Rattle.run_reports.specs.declared.files.RunFiles.{RunFiles}
 use Rattle.run_commands.specs.Run.{RunAccepts, run_with}
 use Rattle.alone_runs.specs.{Answering.AnswersUnder, Rows.firmware_rows}
 use Rattle.run_law.specs.Forms.{RowSeen}
@@ -31,7 +32,7 @@ AnswersServe = (width : Width) (flags : ℕ) (block : Block) (firmware : Firmwar
 
 -- A certified run keeps it.
 abbrev pub CertifiedRunsKeepPromise : Type 0
-CertifiedRunsKeepPromise = (kind : CertKind) (width : Width) (flags : ℕ) (files : Files) (report : Report)
+CertifiedRunsKeepPromise = (kind : CertKind) (width : Width) (flags : ℕ) (files : RunFiles) (report : Report)
     (certified : CertifiedRun kind width flags files report)
     → flags < 2 ^ 8 → Promise width flags files report (run_lines report certified.left)
 
@@ -42,7 +43,7 @@ PrintedNumbersAreOne = (block other : Block) (r s : Report) (left more : ℕ) �
 
 -- FCL spells a block within the limits, IMAGE holds exactly its image, CERT is a certificate of this kind that is
 -- accepted, TRACE spells samples within their ranges, and PLAN a good plan.
-pub record AreAccepted (kind : CertKind) (width : Width) (files : Files) : Type 0 where
+pub record AreAccepted (kind : CertKind) (width : Width) (files : RunFiles) : Type 0 where
   pub block : Block
   pub spelled : SpellsBlock files.fcl block
   pub limits : IsWithinLimits block
@@ -50,21 +51,21 @@ pub record AreAccepted (kind : CertKind) (width : Width) (files : Files) : Type 
   pub image_is : IsImageOf (firmware_items main_map block width) image
   pub records : GivesImage files.image image
   pub errors : List ℕ
-  pub accepted : AcceptsCert kind width block files.cert errors
+  pub accepted : AcceptsCert kind width block files.inputs.cert errors
   pub samples : List Sample
-  pub in_range : SpellsTrace block.inputs files.trace samples
+  pub in_range : SpellsTrace block.inputs files.inputs.trace samples
   pub plan : List Request
-  pub good_plan : SpellsPlan files.plan plan
+  pub good_plan : SpellsPlan files.inputs.plan plan
 
 -- Such files are those that the command accepts.
 abbrev pub AcceptedFilesGiveFirmware : Type 0
 AcceptedFilesGiveFirmware =
-    (kind : CertKind) (width : Width) (flags : ℕ) (files : Files) → AreAccepted kind width files
+    (kind : CertKind) (width : Width) (flags : ℕ) (files : RunFiles) → AreAccepted kind width files
     → RunAccepts (run_with kind width flags) files
 
 -- The sentence with no program: accepted files have lines that keep the promise, with the errors that the certificate
 -- is accepted with.
 abbrev pub AcceptedFilesKeepPromise : Type 0
-AcceptedFilesKeepPromise = (kind : CertKind) (width : Width) (flags : ℕ) (files : Files) → flags < 2 ^ 8
+AcceptedFilesKeepPromise = (kind : CertKind) (width : Width) (flags : ℕ) (files : RunFiles) → flags < 2 ^ 8
     → (a : AreAccepted kind width files)
     → (report : Report) × (report.errors ≡ a.errors) × (text : List ℕ) × Promise width flags files report text

@@ -9,9 +9,11 @@ use Rattle.handled_runs.specs.Forms.{first_handled, with_code}
 use Rattle.two_level_runs.specs.{Answering.plan_of, Rows.first_two, Rows.level_form, Rows.levels_of}
 use Rattle.run_commands.specs.{Debug.DebugFiles, Debug.DebugGives, Generate.GenerateGives}
 use Rattle.run_commands.specs.declared.debug.DebugRun.{DebugRun}
-use Rattle.run_reports.specs.HandledRun.{HandledFiles, HandledReport, HandledRun}
-use Rattle.run_reports.specs.LevelRun.{LevelFiles, LevelReport, LevelRun}
-use Rattle.run_reports.specs.WatchedRun.{WatchedFiles, WatchedReport, WatchedRun}
+use Rattle.run_reports.specs.HandledRun.{HandledReport, HandledRun}
+use Rattle.run_reports.specs.LevelRun.{LevelReport, LevelRun}
+use Rattle.run_reports.specs.WatchedRun.{WatchedReport, WatchedRun}
+use Rattle.run_reports.specs.declared.{files.HandledFiles.HandledFiles, files.LevelFiles.LevelFiles}
+use Rattle.run_reports.specs.declared.files.WatchedFiles.{WatchedFiles}
 use Rattle.cpu12_parts.specs.State.{State}
 use Rattle.run_law.specs.Forms.{RowSeen}
 use Rattle.watched_code.specs.Watched.{Watched}

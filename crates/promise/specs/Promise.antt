@@ -9,8 +9,8 @@ use Rattle.srecord.specs.Texts.{GivesImage}
 use Rattle.trace_io.specs.{Traces.Spells as SpellsTrace, declared.sample.Sample.Sample}
 use Rattle.interrupt_plan.specs.{Plans.Spells as SpellsPlan, declared.Request.Request}
 use Rattle.byte_scaling.specs.{Widths.parts, declared.width.Width.Width}
-use Rattle.run_reports.specs.{Nearness.AreWithinErrors, RowLines.run_lines}
-use Rattle.run_reports.specs.Reports.{Report, Files, left_of}
+use Rattle.run_reports.specs.{Nearness.AreWithinErrors, RowLines.run_lines, Reports.Report, Reports.left_of}
+use Rattle.run_reports.specs.{declared.files.RunFiles.RunFiles}
 use Rattle.trace_io.specs.Traces.{input_bytes}
 use Rattle.run_law.specs.Forms.{RowSeen}
 use Rattle.promise.specs.Bench.{AreReadOff, IsFirstAtLoop, IsRunOf, bench, requests_in}
@@ -38,15 +38,15 @@ pub record IsPrintable (block : Block) (report : Report) : Type 0 where
 -- interrupts that write only free bytes. The machine over this image serves the samples under the plan; each answer is
 -- within the printed error of FCL's exact fraction; no sample takes more instructions than the printed number; and the
 -- text is the lines of just that.
-pub record Promise (width : Width) (flags : ℕ) (files : Files) (report : Report) (text : List ℕ) : Type 0 where
+pub record Promise (width : Width) (flags : ℕ) (files : RunFiles) (report : Report) (text : List ℕ) : Type 0 where
   pub block : Block
   pub spelled : SpellsBlock files.fcl block
   pub image : Image
   pub records : GivesImage files.image image
   pub samples : List Sample
-  pub in_range : SpellsTrace block.inputs files.trace samples
+  pub in_range : SpellsTrace block.inputs files.inputs.trace samples
   pub plan : List Request
-  pub free_writes : SpellsPlan files.plan plan
+  pub free_writes : SpellsPlan files.inputs.plan plan
   pub serves : Serves width (length block.outputs) flags image (map input_bytes samples) plan report.rows
   pub within : AreWithinErrors (parts width) block report.errors samples report.rows
   pub instructions : All (λ row. row.instrs ≤ report.bound) report.rows

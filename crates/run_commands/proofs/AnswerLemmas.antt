@@ -12,12 +12,14 @@ use Rattle.fz_status.specs.declared.status.Status.{Status}
 use Rattle.fz_status.specs.declared.status.Status.TheVariants as status
 use Rattle.command_parts.specs.Firmwares.{GivesFirmware}
 use Rattle.run_reports.specs.{Inputs.input_refusals, Laws.AnswersAreReported, Reports.report_of}
-use Rattle.run_reports.specs.{CertifiedRun.CertifiedRun, Reports.Files, Reports.left_of}
+use Rattle.run_reports.specs.{CertifiedRun.CertifiedRun, Reports.left_of}
+use Rattle.run_reports.specs.declared.files.RunFiles.{RunFiles}
 use Rattle.run_commands.specs.{Run.AcceptedRunsMakeOutput, Run.Accepts, Run.run_refusals, declared.run.Run.Run}
 
 -- what it answers of accepted files is a certified run
-abbrev pub certifies : (reported : AnswersAreReported) (run : Run) (files : Files) (block : Block) (firmware : Firmware)
-    (errors : List ℕ) (samples slice : List Sample) (plan : List Request) (rows : List (RowSeen (List ℕ))) (left : ℕ)
+abbrev pub certifies : (reported : AnswersAreReported) (run : Run) (files : RunFiles) (block : Block)
+    (firmware : Firmware) (errors : List ℕ) (samples slice : List Sample) (plan : List Request)
+    (rows : List (RowSeen (List ℕ))) (left : ℕ)
     → Accepts run.kind run.width files block firmware errors samples plan → slice ≡ samples
     → rows ≡ (firmware_rows firmware (map input_bytes slice) plan run.flags).rows
     → AnswersItsBlock firmware run.flags (map input_bytes slice) plan rows
@@ -39,8 +41,8 @@ certifies reported run files block firmware errors samples slice plan rows left 
       in_range = a.inputs.in_range;
       plan = plan;
       good_plan = a.inputs.good_plan;
-      reported = reported run.width run.flags files.fcl block firmware a.inputs.accepted.cert errors files.trace samples
-          plan rows a.compiled a.inputs.accepted.accepted a.inputs.in_range ran_there answers_there;
+      reported = reported run.width run.flags files.fcl block firmware a.inputs.accepted.cert errors files.inputs.trace
+          samples plan rows a.compiled a.inputs.accepted.accepted a.inputs.in_range ran_there answers_there;
       left = left;
       left_is = subst (λ (ss : List Sample). left
           ≡ left_of (firmware_rows firmware (map input_bytes ss) plan run.flags).state.mem) same left_is;
@@ -62,9 +64,9 @@ accepted_made reported under run files block firmware errors samples plan byte a
     )
 
 -- what refuses the files behind IMAGE refuses the run
-pub run_refused : (run : Run) (files : Files) (block : Block) (firmware : Firmware)
+pub run_refused : (run : Run) (files : RunFiles) (block : Block) (firmware : Firmware)
     → GivesFirmware run.width files.fcl block firmware → GivesImage files.image firmware.image → (s : Status)
-    → input_refusals run.kind run.width block files.cert files.trace files.plan s → run_refusals run files s
+    → input_refusals run.kind run.width block files.inputs s → run_refusals run files s
 run_refused run files block firmware gives image (status.Fcl f) r = absurd r.2
 run_refused run files block firmware gives image (status.Image f) r = absurd r.2
 run_refused run files block firmware gives image s r = (block, firmware, gives, (image, r))

@@ -14,25 +14,26 @@ use Rattle.trace_io.specs.Traces.{Spells as SpellsTrace, input_bytes}
 use Rattle.alone_runs.specs.Rows.{firmware_rows, first_state}
 use Rattle.command_parts.specs.Certs.{AcceptedErrorsAreOne, AcceptsCert}
 use Rattle.command_parts.specs.{Firmwares.GivenFirmwaresAreOne, SeenOutputs.OutputsAreOne}
-use Rattle.run_reports.specs.{Laws.SpelledInputsAreOne}
-use Rattle.run_reports.specs.{Reports.Files, Reports.left_of, RowLines.run_lines}
+use Rattle.run_reports.specs.{Laws.SpelledInputsAreOne, Reports.left_of, RowLines.run_lines}
+use Rattle.run_reports.specs.declared.files.RunFiles.{RunFiles}
 use Rattle.run_commands.specs.{Run.RunMakes, Debug.DebugFiles, Debug.DebugMakes, Debug.debug_lines}
 use Rattle.run_commands.specs.Generate.{GenerateMakes, generate_lines, generated_target}
 use Rattle.run_commands.specs.declared.{debug.DebugRun.DebugRun, generate.Generate.Generate, run.Run.Run}
 
-pub runs_once : GivenFirmwaresAreOne → AcceptedErrorsAreOne → SpelledInputsAreOne → (run : Run) (files : Files)
+pub runs_once : GivenFirmwaresAreOne → AcceptedErrorsAreOne → SpelledInputsAreOne → (run : Run) (files : RunFiles)
     → OutputsAreOne (RunMakes run files)
 runs_once firmwares accepted inputs run files output other a b =
     let p = a.certified in
     let q = b.certified in
     let one = firmwares run.width files.fcl p.block q.block p.firmware q.firmware p.compiled q.compiled in
     let errors : a.report.errors ≡ b.report.errors =
-    accepted run.kind run.width p.block files.cert a.report.errors b.report.errors p.compiled.spelled.valid p.accepted
-    (subst (λ (c : Block). AcceptsCert run.kind run.width c files.cert b.report.errors) (sym one.0) q.accepted) in
+    accepted run.kind run.width p.block files.inputs.cert a.report.errors b.report.errors p.compiled.spelled.valid
+    p.accepted (subst (λ (c : Block). AcceptsCert run.kind run.width c files.inputs.cert b.report.errors) (sym one.0)
+    q.accepted) in
     let bytes : map input_bytes p.samples ≡ map input_bytes q.samples =
-    inputs.samples p.block.inputs files.trace p.samples q.samples p.in_range
-    (subst (λ (c : Block). SpellsTrace c.inputs files.trace q.samples) (sym one.0) q.in_range) in
-    let plan : p.plan ≡ q.plan = inputs.plans files.plan p.plan q.plan p.good_plan q.good_plan in
+    inputs.samples p.block.inputs files.inputs.trace p.samples q.samples p.in_range
+    (subst (λ (c : Block). SpellsTrace c.inputs files.inputs.trace q.samples) (sym one.0) q.in_range) in
+    let plan : p.plan ≡ q.plan = inputs.plans files.inputs.plan p.plan q.plan p.good_plan q.good_plan in
     let rows : a.report.rows ≡ b.report.rows =
     p.reported.ran ∙ (λ i. (firmware_rows (one.1 i) (bytes i) (plan i) run.flags).rows) ∙ sym q.reported.ran in
     let bound : a.report.bound ≡ b.report.bound =

@@ -18,12 +18,12 @@ use Rattle.debug_script.specs.{Scripts.script_of, Showing.shown}
 use Rattle.debug_script.specs.declared.{order.Order.Order, shown.Shown.Shown}
 use Rattle.debug_script.specs.declared.shown.Shown.TheVariants.{Stop, Registers, Bytes}
 use Rattle.command_parts.specs.{Contents.content_at, SeenOutputs.HasOutput, SeenOutputs.SeenOutput}
-use Rattle.command_parts.specs.Firmwares.{GivesFirmware, OfFirmware, RefusesText}
 use Rattle.command_parts.specs.{Images.RefusesImage, Lines.counted, Lines.with_registers}
+use Rattle.command_parts.specs.Firmwares.{GivesFirmware, OfFirmware, RefusesText}
 use Rattle.fz_status.specs.{Words.flags_of, Words.Text, Words.word_at, Refusals.Refusals, Refusals.Refuses}
 use Rattle.fz_status.specs.declared.status.Status.{Status}
 use Rattle.run_reports.specs.{Inputs.sample_refusals, RowLines.row_lines}
-use Rattle.run_commands.specs.declared.debug.DebugRun.{DebugRun}
+use Rattle.run_commands.specs.declared.debug.{DebugFiles.DebugFiles, DebugRun.DebugRun}
 use Rattle.fz_status.specs.declared.status.Status.TheVariants as status
 
 abbrev pub debug_with : ℕ → DebugRun
@@ -36,14 +36,6 @@ debug_in words = option_map debug_with (flags_of (word_at words 6))
 -- FCL, IMAGE, TRACE, PLAN and SCRIPT
 abbrev pub debug_inputs : List ℕ
 debug_inputs = 2 ∷ 3 ∷ 4 ∷ 5 ∷ 7 ∷ []
-
--- the contents of the five files
-pub record DebugFiles : Type 0 where
-  pub fcl : List ℕ
-  pub image : List ℕ
-  pub trace : List ℕ
-  pub plan : List ℕ
-  pub script : List ℕ
 
 abbrev pub debug_files : List (List ℕ) → DebugFiles
 debug_files contents = record {

@@ -15,7 +15,7 @@ use Rattle.command_parts.specs.Firmwares.{GivesFirmware, OfFirmware, RefusesText
 use Rattle.fz_status.specs.{Words.flags_of, declared.status.Status.Status, Refusals.Refusals, Refusals.Refuses}
 use Rattle.fz_status.specs.{Words.Text, Words.word_at}
 use Rattle.run_reports.specs.{Inputs.AcceptsInputs, Inputs.input_refusals, Reports.Report, CertifiedRun.CertifiedRun}
-use Rattle.run_reports.specs.{Reports.Files}
+use Rattle.run_reports.specs.declared.files.RunFiles.{RunFiles}
 use Rattle.run_commands.specs.declared.run.Run.{Run}
 use Rattle.fz_status.specs.declared.status.Status.TheVariants as status
 use Rattle.run_reports.specs.RowLines.{run_lines}
@@ -31,50 +31,48 @@ run_in kind width words = option_map (run_with kind width) (flags_of (word_at wo
 abbrev pub run_inputs : List ℕ
 run_inputs = 2 ∷ 3 ∷ 4 ∷ 5 ∷ 6 ∷ []
 
-abbrev pub files_in : List (List ℕ) → Files
+abbrev pub files_in : List (List ℕ) → RunFiles
 files_in contents = record {
   fcl = content_at contents 0;
   image = content_at contents 1;
-  cert = content_at contents 2;
-  trace = content_at contents 3;
-  plan = content_at contents 4;
+  inputs = record { cert = content_at contents 2; trace = content_at contents 3; plan = content_at contents 4 };
 }
 
 -- ---- what it makes of its files
 
 -- all are accepted, and give this
-pub record Accepts (kind : CertKind) (width : Width) (files : Files) (block : Block) (firmware : Firmware)
+pub record Accepts (kind : CertKind) (width : Width) (files : RunFiles) (block : Block) (firmware : Firmware)
     (errors : List ℕ) (samples : List Sample) (plan : List Request) : Type 0 where
   pub compiled : GivesFirmware width files.fcl block firmware
   pub image : GivesImage files.image firmware.image
-  pub inputs : AcceptsInputs kind width block files.cert files.trace files.plan errors samples plan
+  pub inputs : AcceptsInputs kind width block files.inputs errors samples plan
 
 -- the run is certified, and the lines are those of its report and of what it leaves
-pub record RunGives (run : Run) (files : Files) (output : SeenOutput) : Type 0 where
+pub record RunGives (run : Run) (files : RunFiles) (output : SeenOutput) : Type 0 where
   pub report : Report
   pub certified : CertifiedRun run.kind run.width run.flags files report
   pub output_is : output ≡ record { text = run_lines report certified.left; file = None }
 
 -- why FCL is refused; why IMAGE is, FCL giving firmware; and why the files behind are, IMAGE holding its image
-abbrev pub run_refusals : Run → Files → Refusals
+abbrev pub run_refusals : Run → RunFiles → Refusals
 run_refusals run files (status.Fcl f) = RefusesText files.fcl f
 run_refusals run files (status.Image f) =
     OfFirmware run.width files.fcl (λ block firmware. RefusesImage files.image firmware.image f)
 run_refusals run files s = OfFirmware run.width files.fcl (λ block firmware.
     GivesImage files.image firmware.image
-    × input_refusals run.kind run.width block files.cert files.trace files.plan s)
+    × input_refusals run.kind run.width block files.inputs s)
 
-abbrev pub RunMakes : Run → Files → Result SeenOutput Status → Type 0
+abbrev pub RunMakes : Run → RunFiles → Result SeenOutput Status → Type 0
 RunMakes run files (Ok output) = RunGives run files output
 RunMakes run files (Err s) = Refuses (run_refusals run files) s
 
 -- files that are accepted make an output, with the errors that the certificate is accepted with
 abbrev pub AcceptedRunsMakeOutput : Type 0
-AcceptedRunsMakeOutput = (run : Run) (files : Files) (block : Block) (firmware : Firmware) (errors : List ℕ)
+AcceptedRunsMakeOutput = (run : Run) (files : RunFiles) (block : Block) (firmware : Firmware) (errors : List ℕ)
     (samples : List Sample) (plan : List Request) → run.flags < 2 ^ 8
     → Accepts run.kind run.width files block firmware errors samples plan
     → (output : SeenOutput) × (gives : RunGives run files output) × (gives.report.errors ≡ errors)
 
-abbrev pub RunAccepts : Run → Files → Type 0
+abbrev pub RunAccepts : Run → RunFiles → Type 0
 RunAccepts run files = (block : Block) × (firmware : Firmware) × (errors : List ℕ) × (samples : List Sample)
     × (plan : List Request) × Accepts run.kind run.width files block firmware errors samples plan

@@ -4,14 +4,14 @@ ghost use Rattle.std.specs.List.{All};
 ghost use Rattle.fz_status.specs.{Refusals.IsRefusal, Words.texts_of};
 ghost use Rattle.command_parts.specs.Contents.{bytes_of};
 ghost use Rattle.command_parts.specs.SeenOutputs.{OutputHasNoFault, OutputsAreOne, IsResultOf};
-ghost use Rattle.run_commands.specs.Debug.{AcceptedDebugRunsMakeOutput, DebugFiles, DebugMakes, Debugs, debug_files};
-ghost use Rattle.run_commands.specs.Debug.{debug_in, debug_refusals};
-ghost use Rattle.run_commands.specs.declared.debug.DebugRun.{DebugRun as TheDebug};
+ghost use Rattle.run_commands.specs.Debug.{AcceptedDebugRunsMakeOutput, DebugMakes, Debugs, debug_files, debug_in};
+ghost use Rattle.run_commands.specs.Debug.{debug_refusals};
+ghost use Rattle.run_commands.specs.declared.debug.{DebugFiles.DebugFiles as Files, DebugRun.DebugRun as TheDebug};
 
 use crate::shown_lines::lines;
 use alone_runs::laws::answers_under_plans;
 use byte_scaling::Width;
-use command_parts::contents::content;
+use command_parts::contents::Content;
 use command_parts::firmware::{
     Compiled, firmware_of, given_firmwares_are_one, spelled_texts_have_no_fault,
 };
@@ -39,6 +39,30 @@ pub struct DebugRun {
 /// The words FCL, IMAGE, TRACE, PLAN and SCRIPT.
 pub static INPUTS: [u32; 5] = [2, 3, 4, 5, 7];
 
+/// The files of a run that a script is obeyed over.
+#[derive(Drop)]
+pub struct DebugFiles<'a> {
+    pub fcl: Content<'a>,
+    pub image: Content<'a>,
+    pub trace: Content<'a>,
+    pub plan: Content<'a>,
+    pub script: Content<'a>,
+}
+
+/// The contents of [`INPUTS`].
+pub fn files_of(contents: &[Vec<u8>]) -> DebugFiles<'_>
+    requires { All (λ c. length c.items ≤ 1048576) contents.now }
+    ensures { result ≡ debug_files (bytes_of contents.now) }
+{
+    DebugFiles {
+        fcl: Content::at(contents, 0),
+        image: Content::at(contents, 1),
+        trace: Content::at(contents, 2),
+        plan: Content::at(contents, 3),
+        script: Content::at(contents, 4),
+    }
+}
+
 /// What the files give, where all of them are accepted.
 #[derive(Drop)]
 struct Accepted {
@@ -59,13 +83,12 @@ impl DebugRun {
 
     /// Runs the samples of the trace under the plan and obeys the script on the way, once all files
     /// are accepted, and writes down what the script shows and what came of the samples.
-    pub fn work(self, alloc: Global, contents: &[Vec<u8>]) -> Result<Output, Status>
-        requires { All (λ c. length c.items ≤ 1048576) contents.now }
-        ensures { IsResultOf (DebugMakes self (debug_files (bytes_of contents.now))) result }
+    pub fn work(self, alloc: Global, files: &DebugFiles) -> Result<Output, Status>
+        ensures { IsResultOf (DebugMakes self files.now) result }
     {
         spelled_bytes_fit();
         spelled_traces_are_short();
-        let accepted = DebugRun::accepted(alloc, contents)?;
+        let accepted = DebugRun::accepted(alloc, files)?;
         let (shown, rows) = debug(
             alloc,
             &accepted.compiled.firmware,
@@ -79,21 +102,16 @@ impl DebugRun {
     }
 
     /// What the files give, or the first fault in their order.
-    fn accepted(alloc: Global, contents: &[Vec<u8>]) -> Result<Accepted, Status>
-        requires { All (λ c. length c.items ≤ 1048576) contents.now }
-        ensures accepted { IfOk result (λ a. Debugs (debug_files (bytes_of contents.now))
+    fn accepted(alloc: Global, files: &DebugFiles) -> Result<Accepted, Status>
+        ensures accepted { IfOk result (λ a. Debugs files.now
             a.compiled.block a.compiled.firmware a.samples.items a.plan a.script) }
-        ensures fault { IfErr result (IsRefusal (debug_refusals (debug_files (bytes_of contents.now)))) }
+        ensures fault { IfErr result (IsRefusal (debug_refusals files.now)) }
     {
-        let compiled = firmware_of(alloc, Width::Byte, content(contents, 0))?;
-        require_image(alloc, content(contents, 1), &compiled.firmware.image)?;
-        let (samples, plan) = samples_and_plan(
-            alloc,
-            &compiled.block,
-            content(contents, 2),
-            content(contents, 3),
-        )?;
-        match read_script(alloc, content(contents, 4)) {
+        let compiled = firmware_of(alloc, Width::Byte, &files.fcl)?;
+        require_image(alloc, &files.image, &compiled.firmware.image)?;
+        let (samples, plan) =
+            samples_and_plan(alloc, &compiled.block, &files.trace, &files.plan)?;
+        match read_script(alloc, files.script.bytes()) {
             Ok(script) => Ok(Accepted {
                 compiled,
                 samples,
@@ -108,7 +126,7 @@ impl DebugRun {
 
 /// Files that make an output make no fault.
 pub fn debugged_runs_have_no_fault()
-    ensures { (debug : TheDebug) (files : DebugFiles) → OutputHasNoFault (DebugMakes debug files) }
+    ensures { (debug : TheDebug) (files : Files) → OutputHasNoFault (DebugMakes debug files) }
 {
     spelled_texts_have_no_fault();
     given_firmwares_are_one();
@@ -126,7 +144,7 @@ pub fn accepted_debug_runs_make_output()
 
 /// Files make at most one output.
 pub fn debug_outputs_are_one()
-    ensures { (debug : TheDebug) (files : DebugFiles) → OutputsAreOne (DebugMakes debug files) }
+    ensures { (debug : TheDebug) (files : Files) → OutputsAreOne (DebugMakes debug files) }
 {
     given_firmwares_are_one();
     spelled_inputs_are_one()

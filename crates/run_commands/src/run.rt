@@ -6,7 +6,8 @@ ghost use Rattle.fz_shelf.specs.Lines.{text_of};
 ghost use Rattle.fz_status.specs.{Refusals.IsRefusal, Words.texts_of};
 ghost use Rattle.command_parts.specs.Contents.{bytes_of};
 ghost use Rattle.command_parts.specs.SeenOutputs.{OutputHasNoFault, OutputsAreOne, IsResultOf};
-ghost use Rattle.run_reports.specs.{Reports.report_of, Reports.Files, Reports.left_of, RowLines.run_lines};
+ghost use Rattle.run_reports.specs.{Reports.report_of, Reports.left_of, RowLines.run_lines};
+ghost use Rattle.run_reports.specs.declared.files.RunFiles.{RunFiles};
 ghost use Rattle.run_commands.specs.declared.run.Run.{Run as TheRun};
 ghost use Rattle.run_commands.specs.Run.{AcceptedRunsMakeOutput, Accepts, RunMakes, files_in, run_in, run_refusals};
 
@@ -15,7 +16,7 @@ use alone_runs::{Row, run_on};
 use box_tree::CertKind;
 use byte_scaling::Width;
 use command_parts::certs::accepted_errors_are_one;
-use command_parts::contents::content;
+use command_parts::contents::Content;
 use command_parts::firmware::{
     Compiled, firmware_of, given_firmwares_are_one, spelled_texts_have_no_fault,
 };
@@ -26,6 +27,7 @@ use command_parts::words::flags;
 use cpu12_isa::mem::Mem;
 use cpu12_isa::pages::PageMem;
 use fz_status::{Status, word};
+use run_reports::files::{InputFiles, RunFiles};
 use run_reports::inputs::{Inputs, inputs_of};
 use run_reports::laws::{
     accepted_inputs_have_no_fault, answers_are_reported, spelled_inputs_are_one,
@@ -48,6 +50,22 @@ pub struct Run {
 /// The words FCL, IMAGE, CERT, TRACE and PLAN.
 pub static INPUTS: [u32; 5] = [2, 3, 4, 5, 6];
 
+/// Their contents.
+pub fn files_of(contents: &[Vec<u8>]) -> RunFiles<'_>
+    requires { All (λ c. length c.items ≤ 1048576) contents.now }
+    ensures { result ≡ files_in (bytes_of contents.now) }
+{
+    RunFiles {
+        fcl: Content::at(contents, 0),
+        image: Content::at(contents, 1),
+        inputs: InputFiles {
+            cert: Content::at(contents, 2),
+            trace: Content::at(contents, 3),
+            plan: Content::at(contents, 4),
+        },
+    }
+}
+
 /// What the files give, where all of them are accepted.
 #[derive(Drop)]
 struct Accepted {
@@ -66,12 +84,11 @@ impl Run {
 
     /// Runs the samples of the trace under the plan, once all files are accepted, and writes down what
     /// came of them.
-    pub fn work(self, alloc: Global, contents: &[Vec<u8>]) -> Result<Output, Status>
-        requires { All (λ c. length c.items ≤ 1048576) contents.now }
-        ensures { IsResultOf (RunMakes self (files_in (bytes_of contents.now))) result }
+    pub fn work(self, alloc: Global, files: &RunFiles) -> Result<Output, Status>
+        ensures { IsResultOf (RunMakes self files.now) result }
     {
         answers_are_reported();
-        let accepted = self.accepted(alloc, contents)?;
+        let accepted = self.accepted(alloc, files)?;
         let firmware = &accepted.compiled.firmware;
         let (rows, memory) = run_on::<PageMem>(
             alloc,
@@ -92,15 +109,14 @@ impl Run {
     }
 
     /// What the files give, or the first fault in their order.
-    fn accepted(self, alloc: Global, contents: &[Vec<u8>]) -> Result<Accepted, Status>
-        requires { All (λ c. length c.items ≤ 1048576) contents.now }
-        ensures accepted { IfOk result (λ a. Accepts self.kind self.width (files_in (bytes_of contents.now))
-            a.compiled.block a.compiled.firmware a.inputs.errors.items a.inputs.samples.items a.inputs.plan) }
-        ensures fault { IfErr result (IsRefusal (run_refusals self (files_in (bytes_of contents.now)))) }
+    fn accepted(self, alloc: Global, files: &RunFiles) -> Result<Accepted, Status>
+        ensures accepted { IfOk result (λ a. Accepts self.kind self.width files.now a.compiled.block
+            a.compiled.firmware a.inputs.errors.items a.inputs.samples.items a.inputs.plan) }
+        ensures fault { IfErr result (IsRefusal (run_refusals self files.now)) }
     {
-        let compiled = firmware_of(alloc, self.width, content(contents, 0))?;
-        require_image(alloc, content(contents, 1), &compiled.firmware.image)?;
-        let inputs = inputs_of(alloc, self.kind, self.width, &compiled.block, contents)?;
+        let compiled = firmware_of(alloc, self.width, &files.fcl)?;
+        require_image(alloc, &files.image, &compiled.firmware.image)?;
+        let inputs = inputs_of(alloc, self.kind, self.width, &compiled.block, &files.inputs)?;
         Ok(Accepted { compiled, inputs })
     }
 }
@@ -135,7 +151,7 @@ fn left_in<M: Mem>(memory: &M) -> u32
 
 /// Files that make an output make no fault.
 pub fn certified_runs_have_no_fault()
-    ensures { (run : TheRun) (files : Files) → OutputHasNoFault (RunMakes run files) }
+    ensures { (run : TheRun) (files : RunFiles) → OutputHasNoFault (RunMakes run files) }
 {
     spelled_texts_have_no_fault();
     given_firmwares_are_one();
@@ -153,7 +169,7 @@ pub fn accepted_runs_make_output()
 
 /// Files make at most one output.
 pub fn run_outputs_are_one()
-    ensures { (run : TheRun) (files : Files) → OutputsAreOne (RunMakes run files) }
+    ensures { (run : TheRun) (files : RunFiles) → OutputsAreOne (RunMakes run files) }
 {
     given_firmwares_are_one();
     accepted_errors_are_one();

@@ -9,6 +9,7 @@ use Rattle.trace_io.specs.declared.sample.Sample.{Sample}
 use Rattle.command_parts.specs.Certs.{AcceptedCertsHaveNoFault, AcceptsCert, cert_refusals}
 use Rattle.run_reports.specs.Inputs.{input_refusals, plan_refusals, sample_refusals, trace_refusals}
 use Rattle.run_reports.specs.Laws.{AcceptedInputsHaveNoFault, SpelledSamplesHaveNoFault}
+use Rattle.run_reports.specs.declared.files.InputFiles.{InputFiles}
 use Rattle.fz_status.specs.declared.status.Status.{Status}
 use Rattle.fz_status.specs.declared.status.Status.TheVariants as status
 
@@ -24,15 +25,15 @@ module _ (block : Block) (trace plan : List ℕ) where
   by_plan samples spells (status.Plan f) r = (samples, spells, r)
   by_plan samples spells s r = absurd r
 
-  pub by_cert : (kind : CertKind) (width : Width) (cert : List ℕ) (s : Status) → cert_refusals kind width block cert s
-      → input_refusals kind width block cert trace plan s
-  by_cert kind width cert (status.Cert f) r = r
-  by_cert kind width cert s r = absurd r
+module _ (block : Block) (files : InputFiles) (kind : CertKind) (width : Width) where
+  pub by_cert : (s : Status) → cert_refusals kind width block files.cert s → input_refusals kind width block files s
+  by_cert (status.Cert f) r = r
+  by_cert s r = absurd r
 
-  pub by_samples : (kind : CertKind) (width : Width) (cert errors : List ℕ) → AcceptsCert kind width block cert errors
-      → (s : Status) → sample_refusals block trace plan s → input_refusals kind width block cert trace plan s
-  by_samples kind width cert errors accepts (status.Cert f) r = absurd r
-  by_samples kind width cert errors accepts s r = (errors, accepts, r)
+  pub by_samples : (errors : List ℕ) → AcceptsCert kind width block files.cert errors → (s : Status)
+      → sample_refusals block files.trace files.plan s → input_refusals kind width block files s
+  by_samples errors accepts (status.Cert f) r = absurd r
+  by_samples errors accepts s r = (errors, accepts, r)
 
 -- ---- nothing refuses files that are accepted
 
@@ -44,7 +45,7 @@ samples_stand traces plans block trace plan samples requests (status.Plan f) in_
 samples_stand traces plans block trace plan samples requests s in_range good r = r
 
 pub inputs_stand : AcceptedCertsHaveNoFault → SpelledSamplesHaveNoFault → AcceptedInputsHaveNoFault
-inputs_stand certs stand kind width block cert trace plan errors samples requests (status.Cert f) valid a r =
-    certs kind width block cert errors f valid a.accepted r
-inputs_stand certs stand kind width block cert trace plan errors samples requests s valid a r =
-    stand block trace plan samples requests s a.in_range a.good_plan r.2
+inputs_stand certs stand kind width block files errors samples requests (status.Cert f) valid a r =
+    certs kind width block files.cert errors f valid a.accepted r
+inputs_stand certs stand kind width block files errors samples requests s valid a r =
+    stand block files.trace files.plan samples requests s a.in_range a.good_plan r.2

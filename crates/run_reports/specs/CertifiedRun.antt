@@ -11,21 +11,22 @@ use Rattle.interrupt_plan.specs.{Plans.Spells as SpellsPlan, declared.Request.Re
 use Rattle.alone_runs.specs.Rows.{firmware_rows}
 use Rattle.trace_io.specs.Traces.{input_bytes}
 use Rattle.command_parts.specs.{Certs.AcceptsCert, Firmwares.GivesFirmware}
-use Rattle.run_reports.specs.Reports.{IsReportOf, Report, Files, left_of}
+use Rattle.run_reports.specs.{Reports.IsReportOf, Reports.Report, Reports.left_of, declared.files.RunFiles.RunFiles}
 
 -- Compile accepts the FCL text, IMAGE holds exactly its firmware's image, the checker accepts the certificate, the
 -- trace spells samples within their inputs' ranges, and the plan interrupts that write only free bytes. The report is
 -- of that, and so is what the run leaves in the free bytes and the stack.
-pub record CertifiedRun (kind : CertKind) (width : Width) (flags : ℕ) (files : Files) (report : Report) : Type 0 where
+pub record CertifiedRun (kind : CertKind) (width : Width) (flags : ℕ) (files : RunFiles) (report : Report)
+    : Type 0 where
   pub block : Block
   pub firmware : Firmware
   pub compiled : GivesFirmware width files.fcl block firmware
   pub image : GivesImage files.image firmware.image
-  pub accepted : AcceptsCert kind width block files.cert report.errors
+  pub accepted : AcceptsCert kind width block files.inputs.cert report.errors
   pub samples : List Sample
-  pub in_range : SpellsTrace block.inputs files.trace samples
+  pub in_range : SpellsTrace block.inputs files.inputs.trace samples
   pub plan : List Request
-  pub good_plan : SpellsPlan files.plan plan
+  pub good_plan : SpellsPlan files.inputs.plan plan
   pub reported : IsReportOf width flags block firmware samples plan report
   pub left : ℕ
   pub left_is : left ≡ left_of (firmware_rows firmware (map input_bytes samples) plan flags).state.mem

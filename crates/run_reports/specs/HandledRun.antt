@@ -12,14 +12,7 @@ use Rattle.trace_io.specs.Traces.{input_bytes}
 use Rattle.handled_runs.specs.{Answering.AnswersHandled, Forms.HandledSeen, Forms.handled_seen}
 use Rattle.command_parts.specs.{Certs.AcceptsCert, Firmwares.GivesFirmware, Handlers.GivesHandler}
 use Rattle.run_reports.specs.{Inputs.AcceptsInputs, Reports.IsReportOf, Reports.Report}
-
--- the contents of the five files
-pub record HandledFiles : Type 0 where
-  pub fcl : List ℕ
-  pub handler : List ℕ
-  pub cert : List ℕ
-  pub trace : List ℕ
-  pub plan : List ℕ
+use Rattle.run_reports.specs.declared.files.HandledFiles.{HandledFiles}
 
 -- what is told of the run: an error for each output, in millionths of its range, the bound on instructions, and a row
 -- for each sample, with how many steps of the handler the sample's interrupts did
@@ -38,7 +31,7 @@ pub record AcceptsHandled (files : HandledFiles) (block : Block) (firmware : Fir
     (errors : List ℕ) (samples : List Sample) (plan : List Request) : Type 0 where
   pub compiled : GivesFirmware Byte files.fcl block firmware
   pub handles : GivesHandler files.handler handler instrs
-  pub inputs : AcceptsInputs Named Byte block files.cert files.trace files.plan errors samples plan
+  pub inputs : AcceptsInputs Named Byte block files.inputs errors samples plan
 
 -- Compile accepts the FCL text, HANDLER gives a handler that is accepted, the checker accepts the certificate, the
 -- trace spells samples within their inputs' ranges, and the plan interrupts that write only free bytes. The rows are
@@ -53,11 +46,11 @@ pub record HandledRun (flags : ℕ) (files : HandledFiles) (report : HandledRepo
   pub handler : Image
   pub instrs : ℕ
   pub handles : GivesHandler files.handler handler instrs
-  pub accepted : AcceptsCert Named Byte block files.cert report.errors
+  pub accepted : AcceptsCert Named Byte block files.inputs.cert report.errors
   pub samples : List Sample
-  pub in_range : SpellsTrace block.inputs files.trace samples
+  pub in_range : SpellsTrace block.inputs files.inputs.trace samples
   pub plan : List Request
-  pub good_plan : SpellsPlan files.plan plan
+  pub good_plan : SpellsPlan files.inputs.plan plan
   pub ran : report.rows ≡ handled_seen firmware handler.bytes (map input_bytes samples) plan flags
   pub interrupts : AnswersHandled firmware handler.bytes instrs flags (map input_bytes samples) plan
   pub reported : IsReportOf Byte flags block firmware samples plan (without_handler report)

@@ -16,7 +16,7 @@ use Rattle.trace_io.specs.Traces.{input_bytes}
 use Rattle.fz_status.specs.declared.status.Status.{Status}
 use Rattle.command_parts.specs.Firmwares.{GivesFirmware}
 use Rattle.run_reports.specs.Inputs.{AcceptsInputs, input_refusals, sample_refusals}
-use Rattle.run_reports.specs.Reports.{IsReportOf, report_of}
+use Rattle.run_reports.specs.{Reports.IsReportOf, Reports.report_of, declared.files.InputFiles.InputFiles}
 
 -- a trace spells at most 10000 samples
 abbrev pub SpelledTracesAreShort : Type 0
@@ -58,10 +58,9 @@ SpelledSamplesHaveNoFault = (block : Block) (trace plan : List ℕ) (samples : L
 
 -- and so it is with a certificate before them
 abbrev pub AcceptedInputsHaveNoFault : Type 0
-AcceptedInputsHaveNoFault = (kind : CertKind) (width : Width) (block : Block) (cert trace plan errors : List ℕ)
+AcceptedInputsHaveNoFault = (kind : CertKind) (width : Width) (block : Block) (files : InputFiles) (errors : List ℕ)
     (samples : List Sample) (requests : List Request) (s : Status) → IsValid block
-    → AcceptsInputs kind width block cert trace plan errors samples requests
-    → input_refusals kind width block cert trace plan s → ⊥
+    → AcceptsInputs kind width block files errors samples requests → input_refusals kind width block files s → ⊥
 
 -- a trace spells the bytes of one list of samples
 abbrev pub SpelledSamplesAreOne : Type 0

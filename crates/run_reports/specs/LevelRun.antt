@@ -14,17 +14,7 @@ use Rattle.two_level_runs.specs.Answering.{AnswersAtTwoLevels, answer_of_fast, f
 use Rattle.two_level_runs.specs.Rows.{TwoSeen, two_seen}
 use Rattle.run_reports.specs.{Posted.ArePostedWithinErrors, Reports.IsReportOf, Reports.Report}
 use Rattle.command_parts.specs.{Certs.AcceptsCert, Twos.GivesTwo}
-
--- the contents of the eight files
-pub record LevelFiles : Type 0 where
-  pub slow : List ℕ
-  pub fast : List ℕ
-  pub image : List ℕ
-  pub slow_cert : List ℕ
-  pub fast_cert : List ℕ
-  pub slow_trace : List ℕ
-  pub fast_trace : List ℕ
-  pub levels : List ℕ
+use Rattle.run_reports.specs.declared.files.LevelFiles.{LevelFiles}
 
 -- what is told of a run: an error for each output of the slow block and of the fast one, in millionths of its range,
 -- the bounds on instructions of the slow code and of the fast, and a row for each slow sample, with what the levels

@@ -12,16 +12,8 @@ use Rattle.interrupt_plan.specs.{Posts.SpellsPosts, declared.Post.Post}
 use Rattle.trace_io.specs.Traces.{input_bytes}
 use Rattle.mailbox_runs.specs.{Answering.AnswersUnderPosts, Answering.answer_in, Turns.waiting}
 use Rattle.mailbox_runs.specs.Runs.{AnswerSeen, RunSeen, run_under_posts}
-use Rattle.run_reports.specs.Posted.{ArePostedWithinErrors}
+use Rattle.run_reports.specs.{Posted.ArePostedWithinErrors, declared.files.PostedFiles.PostedFiles}
 use Rattle.command_parts.specs.{Certs.AcceptsCert, Firmwares.GivesMailbox}
-
--- the contents of the five files
-pub record PostedFiles : Type 0 where
-  pub fcl : List ℕ
-  pub image : List ℕ
-  pub cert : List ℕ
-  pub trace : List ℕ
-  pub posts : List ℕ
 
 -- what is told of a run: an error for each output, in millionths of its range, the bound on instructions, the answers,
 -- the frames with their boundaries, and at how many boundaries inside an instruction an interrupt was taken

@@ -13,14 +13,6 @@ use Rattle.run_reports.specs.Nearness.{AreWithinErrors}
 use Rattle.std.specs.Prelude.{◌-◌, drop, sum, take}
 use Rattle.cpu12_isa.specs.Regions.{free_start, stack_end}
 
--- the contents of the five files of a run
-pub record Files : Type 0 where
-  pub fcl : List ℕ
-  pub image : List ℕ
-  pub cert : List ℕ
-  pub trace : List ℕ
-  pub plan : List ℕ
-
 -- what is told of a run: an error for each output, in millionths of its range, the bound on instructions, and a row for
 -- each sample
 pub record Report : Type 0 where

@@ -12,17 +12,8 @@ use Rattle.interrupt_plan.specs.{Plans.Spells as SpellsPlan, UpsetTexts.SpellsUp
 use Rattle.interrupt_plan.specs.declared.{Request.Request, upsets.Upset.Upset}
 use Rattle.trace_io.specs.Traces.{input_bytes}
 use Rattle.watched_runs.specs.{Answering.AnswersUnderUpsets, Rows.FaultSeen, Rows.faults_of, Rows.upset_rows}
-use Rattle.run_reports.specs.Faultless.{FaultlessAreWithinErrors}
+use Rattle.run_reports.specs.{Faultless.FaultlessAreWithinErrors, declared.files.WatchedFiles.WatchedFiles}
 use Rattle.command_parts.specs.{Certs.AcceptsCert, Firmwares.GivesWatched}
-
--- the contents of the six files
-pub record WatchedFiles : Type 0 where
-  pub fcl : List ℕ
-  pub image : List ℕ
-  pub cert : List ℕ
-  pub trace : List ℕ
-  pub plan : List ℕ
-  pub upsets : List ℕ
 
 -- what is told of a run: an error for each output, in millionths of its range, the bound on instructions, and a row for
 -- each sample, with FAULT
@@ -42,11 +33,11 @@ pub record WatchedRun (flags : ℕ) (files : WatchedFiles) (report : WatchedRepo
   pub firmware : Firmware
   pub compiled : GivesWatched files.fcl block firmware
   pub image : GivesImage files.image firmware.image
-  pub accepted : AcceptsCert Named Byte block files.cert report.errors
+  pub accepted : AcceptsCert Named Byte block files.inputs.cert report.errors
   pub samples : List Sample
-  pub in_range : SpellsTrace block.inputs files.trace samples
+  pub in_range : SpellsTrace block.inputs files.inputs.trace samples
   pub plan : List Request
-  pub good_plan : SpellsPlan files.plan plan
+  pub good_plan : SpellsPlan files.inputs.plan plan
   pub upsets : List Upset
   pub good_upsets : SpellsUpsets firmware.image.bytes files.upsets upsets
   pub ran : report.rows ≡ faults_of firmware (upset_rows firmware (map input_bytes samples) plan upsets flags)

@@ -1,18 +1,17 @@
 //! The files that runs share: CERT, TRACE and PLAN.
-ghost use Rattle.std.specs.Prelude.{◌≤◌, length, IfOk, IfErr};
-ghost use Rattle.std.specs.List.{All};
+ghost use Rattle.std.specs.Prelude.{IfOk, IfErr};
 ghost use Rattle.fuzzy_meaning.specs.Blocks.{IsValid};
 ghost use Rattle.interrupt_plan.specs.Plans.{Spells as SpellsPlan};
 ghost use Rattle.trace_io.specs.Traces.{Spells};
 ghost use Rattle.fz_status.specs.Refusals.{IsRefusal};
-ghost use Rattle.command_parts.specs.Contents.{bytes_of, content_at};
 ghost use Rattle.run_reports.specs.Inputs.{AcceptsInputs, input_refusals, plan_refusals, sample_refusals};
 ghost use Rattle.run_reports.specs.Inputs.{trace_refusals};
 
+use crate::files::InputFiles;
 use box_tree::CertKind;
 use byte_scaling::Width;
 use command_parts::certs::errors_under;
-use command_parts::contents::content;
+use command_parts::contents::Content;
 use fuzzy_meaning::Block;
 use fz_status::Status;
 use interrupt_plan::{Plan, PlanFault, read_plan};
@@ -30,29 +29,21 @@ pub struct Inputs {
     pub plan: Plan,
 }
 
-/// What CERT, TRACE and PLAN give, which are the third file and those behind it, or the first fault in their order.
+/// What CERT, TRACE and PLAN give, or the first fault in their order.
 pub fn inputs_of(
     alloc: Global,
     kind: CertKind,
     width: Width,
     block: &Block,
-    contents: &[Vec<u8>],
+    files: &InputFiles,
 ) -> Result<Inputs, Status>
-    requires block { IsValid block.now }
-    requires small { All (λ c. length c.items ≤ 1048576) contents.now }
-    ensures inputs { IfOk result (λ i. AcceptsInputs kind width block.now (content_at (bytes_of contents.now) 2)
-        (content_at (bytes_of contents.now) 3) (content_at (bytes_of contents.now) 4)
-        i.errors.items i.samples.items i.plan) }
-    ensures fault { IfErr result (IsRefusal (input_refusals kind width block.now (content_at (bytes_of contents.now) 2)
-        (content_at (bytes_of contents.now) 3) (content_at (bytes_of contents.now) 4))) }
+    requires { IsValid block.now }
+    ensures inputs { IfOk result (λ i.
+        AcceptsInputs kind width block.now files.now i.errors.items i.samples.items i.plan) }
+    ensures fault { IfErr result (IsRefusal (input_refusals kind width block.now files.now)) }
 {
-    let errors = errors_under(alloc, kind, width, block, content(contents, 2))?;
-    let (samples, plan) = samples_and_plan(
-        alloc,
-        block,
-        content(contents, 3),
-        content(contents, 4),
-    )?;
+    let errors = errors_under(alloc, kind, width, block, &files.cert)?;
+    let (samples, plan) = samples_and_plan(alloc, block, &files.trace, &files.plan)?;
     Ok(Inputs {
         errors,
         samples,
@@ -64,12 +55,10 @@ pub fn inputs_of(
 pub fn samples_and_plan(
     alloc: Global,
     block: &Block,
-    trace: &[u8],
-    plan: &[u8],
+    trace: &Content,
+    plan: &Content,
 ) -> Result<(Vec<Sample>, Plan), Status>
-    requires block { IsValid block.now }
-    requires trace { length trace.now ≤ 1048576 }
-    requires plan { length plan.now ≤ 1048576 }
+    requires { IsValid block.now }
     ensures samples { IfOk result (λ r. Spells block.now.inputs trace.now r.0.items) }
     ensures plan { IfOk result (λ r. SpellsPlan plan.now r.1) }
     ensures fault { IfErr result (IsRefusal (sample_refusals block.now trace.now plan.now)) }
@@ -80,13 +69,12 @@ pub fn samples_and_plan(
 }
 
 /// The samples that a trace spells for a block.
-pub fn samples_of(alloc: Global, block: &Block, text: &[u8]) -> Result<Vec<Sample>, Status>
-    requires block { IsValid block.now }
-    requires text { length text.now ≤ 1048576 }
+pub fn samples_of(alloc: Global, block: &Block, text: &Content) -> Result<Vec<Sample>, Status>
+    requires { IsValid block.now }
     ensures samples { IfOk result (λ samples. Spells block.now.inputs text.now samples.items) }
     ensures fault { IfErr result (IsRefusal (trace_refusals block.now text.now)) }
 {
-    match read_trace(alloc, text, block) {
+    match read_trace(alloc, text.bytes(), block) {
         Ok(samples) => Ok(samples),
         Err(TraceFault::Memory) => Err(Status::Memory),
         Err(fault) => Err(Status::Trace(fault)),
@@ -94,12 +82,11 @@ pub fn samples_of(alloc: Global, block: &Block, text: &[u8]) -> Result<Vec<Sampl
 }
 
 /// The plan that a text spells.
-fn plan_of(alloc: Global, text: &[u8]) -> Result<Plan, Status>
-    requires { length text.now ≤ 1048576 }
+fn plan_of(alloc: Global, text: &Content) -> Result<Plan, Status>
     ensures plan { IfOk result (SpellsPlan text.now) }
     ensures fault { IfErr result (IsRefusal (plan_refusals text.now)) }
 {
-    match read_plan(alloc, text) {
+    match read_plan(alloc, text.bytes()) {
         Ok(plan) => Ok(plan),
         Err(PlanFault::Memory) => Err(Status::Memory),
         Err(fault) => Err(Status::Plan(fault)),

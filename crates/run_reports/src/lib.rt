@@ -10,6 +10,7 @@
 //! each row in turn ([`row_lines::push_rows`]), or memory was wanted.
 #![tactic(auto)]
 
+pub mod files;
 pub mod inputs;
 pub mod laws;
 pub mod nearness;

@@ -8,7 +8,7 @@ returns-in-Ok-load-clause-block c =
     let tree = c.in-Ok.tree in
     record {
       tree = tree.block;
-      spelled = c.in-Ok.ensures.found;
+      spelled = rw c.bytes.ensures.value at c.in-Ok.ensures.found;
       well_formed = subst (λ (ls : List ℕ). first_fault ls tree.block ≡ None) c.in-Ok.ensures.kept
           c.in-Ok-load.ensures.fault;
       loaded = subst (λ (ls : List ℕ). IsBlockOf ls tree.block c.in-Ok-load.block) c.in-Ok.ensures.kept
@@ -26,7 +26,7 @@ returns c =
         no_memory,
         record {
           tree = tree.block;
-          spelled = c.in-Ok.ensures.found;
+          spelled = rw c.bytes.ensures.value at c.in-Ok.ensures.found;
           first = subst (λ (ls : List ℕ). first_fault ls tree.block ≡ Some c.in-Err-load.fault) c.in-Ok.ensures.kept
               (c.in-Err-load.ensures.fault no_memory);
         },

@@ -21,8 +21,8 @@ returns c hrun files output (status.Handler f) gives (carries, (other, others, g
 returns c hrun files output s gives (carries, (other, others, gives_other, refuses)) =
     let r = gives.certified in
     let same = c.spelled_blocks_are_one.ensures files.fcl other r.block gives_other.spelled r.compiled.spelled in
-    c.accepted_inputs_have_no_fault.ensures Named Byte r.block files.cert files.trace files.plan gives.report.errors
+    c.accepted_inputs_have_no_fault.ensures Named Byte r.block files.inputs gives.report.errors
     r.samples
     r.plan s r.compiled.spelled.valid
     (record { accepted = r.accepted; in_range = r.in_range; good_plan = r.good_plan })
-    (subst (λ (b : Block). input_refusals Named Byte b files.cert files.trace files.plan s) same refuses.3)
+    (subst (λ (b : Block). input_refusals Named Byte b files.inputs s) same refuses.3)

@@ -26,8 +26,8 @@ returns c srun files output (status.Upset f) gives (carries, (other, others, giv
 returns c srun files output s gives (carries, (other, others, gives_other, refuses)) =
     let r = gives.watched in
     let one = c.given_watched_are_one.ensures files.fcl other r.block others r.firmware gives_other r.compiled in
-    c.accepted_inputs_have_no_fault.ensures Named Byte r.block files.cert files.trace files.plan gives.report.errors
+    c.accepted_inputs_have_no_fault.ensures Named Byte r.block files.inputs gives.report.errors
     r.samples
     r.plan s r.compiled.spelled.valid
     (record { accepted = r.accepted; in_range = r.in_range; good_plan = r.good_plan })
-    (subst (λ (b : Block). input_refusals Named Byte b files.cert files.trace files.plan s) one.0 refuses.1)
+    (subst (λ (b : Block). input_refusals Named Byte b files.inputs s) one.0 refuses.1)

@@ -20,7 +20,7 @@ returns c run files output s gives (carries, (other, others, gives_other, refuse
     let r = gives.certified in
     let one = c.given_firmwares_are_one.ensures run.width files.fcl other r.block others r.firmware gives_other
     r.compiled in
-    c.accepted_inputs_have_no_fault.ensures run.kind run.width r.block files.cert files.trace files.plan
+    c.accepted_inputs_have_no_fault.ensures run.kind run.width r.block files.inputs
     gives.report.errors r.samples r.plan s r.compiled.spelled.valid
     (record { accepted = r.accepted; in_range = r.in_range; good_plan = r.good_plan })
-    (subst (λ (b : Block). input_refusals run.kind run.width b files.cert files.trace files.plan s) one.0 refuses.1)
+    (subst (λ (b : Block). input_refusals run.kind run.width b files.inputs s) one.0 refuses.1)

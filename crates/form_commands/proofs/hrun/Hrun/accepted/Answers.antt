@@ -1,20 +1,18 @@
 use Rattle.std.proofs.Common.{◌≡◌, Err, rules}
 use Rattle.box_tree.specs.declared.cert.CertKind.TheVariants.{Named}
 use Rattle.byte_scaling.specs.declared.width.Width.TheVariants.{Byte}
-use Rattle.command_parts.specs.Contents.{bytes_of}
 use Rattle.run_reports.specs.Inputs.{input_refusals}
-use Rattle.form_commands.specs.Hrun.{handled_files, hrun_refusals}
+use Rattle.form_commands.specs.Hrun.{hrun_refusals}
 use Rattle.form_commands.proofs.HandledLemmas.{hrun_refused}
 use Rattle.command_parts.proofs.Algebra.{refused}
 use Rattle.form_commands.proofs.hrun.Hrun.accepted.Goals as goal
 
 pub returns-in_err-inputs-clause-fault : goal.returns-in_err-inputs-clause-fault
 returns-in_err-inputs-clause-fault c =
-    let files = handled_files (bytes_of c.args.contents.now) in
+    let files = c.args.files.now in
     let compiled = c.in_ok-compiled.compiled in
     let g = c.in_ok-handler.handler in
     let passed : c.from_residual-in_err-inputs.result ≡ Err c.in_err-inputs.field-0.0 = search rules in
-    rw passed (refused (input_refusals Named Byte compiled.block files.cert files.trace files.plan) (hrun_refusals files)
-    (hrun_refused files compiled.block compiled.firmware (rw c.content.ensures.value at c.in_ok-compiled.ensures.gives)
-    g.image g.handler.instrs (rw c.content-2.ensures.value at c.in_ok-handler.ensures.handler))
-    c.in_err-inputs.field-0.0 c.in_err-inputs.ensures.fault)
+    rw passed (refused (input_refusals Named Byte compiled.block files.inputs) (hrun_refusals files)
+    (hrun_refused files compiled.block compiled.firmware c.in_ok-compiled.ensures.gives g.image g.handler.instrs
+    c.in_ok-handler.ensures.handler) c.in_err-inputs.field-0.0 c.in_err-inputs.ensures.fault)

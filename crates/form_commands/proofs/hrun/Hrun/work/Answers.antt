@@ -1,9 +1,9 @@
 use Rattle.std.proofs.Common.{ℕ, ◌<◌, ◌^◌, List, ◌++◌, ap, ap₂, sym, ◌∙◌, rules}
 use Rattle.std.specs.Prelude.{map}
 use Rattle.handled_runs.specs.{Forms.row_seen, declared.rows.HandledRow.HandledRow}
-use Rattle.command_parts.specs.{Contents.bytes_of, SeenOutputs.only_text, Lines.counted}
+use Rattle.command_parts.specs.{SeenOutputs.only_text, Lines.counted}
 use Rattle.command_parts.proofs.Algebra.{counted-map}
-use Rattle.form_commands.specs.Hrun.{handled_files, handled_report, handled_row_lines}
+use Rattle.form_commands.specs.Hrun.{handled_report, handled_row_lines}
 use Rattle.run_reports.specs.RowLines.{begun_lines}
 use Rattle.form_commands.proofs.HandledLemmas.{handles}
 use Rattle.form_commands.proofs.hrun.Hrun.work.Goals as goal
@@ -19,8 +19,7 @@ returns c =
     record {
       report = handled_report a.inputs.errors.items bound (map row_seen c.in_ok-rows.rows.items);
       certified = handles c.answers_are_reported.ensures c.spelled_bytes_fit.ensures c.answers_under_plans.ensures
-          c.args.self.flags byte
-          (handled_files (bytes_of c.args.contents.now)) a.compiled.block a.compiled.firmware a.handler.image
+          c.args.self.flags byte c.args.files.now a.compiled.block a.compiled.firmware a.handler.image
           a.handler.handler.instrs a.inputs.errors.items a.inputs.samples.items c.deref.result.now a.inputs.plan
           (map row_seen c.in_ok-rows.rows.items) c.in_ok-accepted.ensures.accepted c.deref.ensures.value
           c.in_ok-rows.ensures.rows

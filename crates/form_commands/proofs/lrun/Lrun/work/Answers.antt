@@ -2,8 +2,8 @@ use Rattle.std.proofs.Common.{ℕ, ◌<◌, ◌^◌, List, ap, ◌∙◌, rules}
 use Rattle.std.specs.Prelude.{map}
 use Rattle.two_level_code.specs.Images.{fast_most}
 use Rattle.two_level_runs.specs.{Harness.row_seen, declared.rows.TwoRow.TwoRow}
-use Rattle.command_parts.specs.{Contents.bytes_of, SeenOutputs.only_text}
-use Rattle.form_commands.specs.Lrun.{level_files, level_report, lrun_lines}
+use Rattle.command_parts.specs.{SeenOutputs.only_text}
+use Rattle.form_commands.specs.Lrun.{level_report, lrun_lines}
 use Rattle.form_commands.proofs.LevelLemmas.{levels_run}
 use Rattle.form_commands.proofs.lrun.Lrun.work.Goals as goal
 
@@ -21,8 +21,7 @@ returns c =
       report = level_report a.errors.slow.items a.errors.fast.items bound fast_bound rows;
       at_levels = levels_run c.answers_are_reported.ensures c.answers_keep_the_bound.ensures c.spelled_bytes_fit.ensures
           c.posted_answers_are_near.ensures c.answers_under_plans.ensures c.levels_make_a_plan.ensures
-          c.rows_are_seen.ensures
-          c.alone_has_byte_bounds.ensures c.args.self.flags byte (level_files (bytes_of c.args.contents.now))
+          c.rows_are_seen.ensures c.alone_has_byte_bounds.ensures c.args.self.flags byte c.args.files.now
           a.compiled.slow a.compiled.fast two a.errors.slow.items a.errors.fast.items a.traces.slow.items
           a.traces.fast.items a.levels c.in_ok-accepted.ensures.accepted rows
           (rw (c.deref.ensures.value, c.deref-2.ensures.value) at c.in_ok-rows.ensures.rows)

@@ -2,8 +2,8 @@ use Rattle.std.proofs.Common.{ℕ, List, ap, ◌∙◌}
 use Rattle.std.specs.Prelude.{map}
 use Rattle.run_forms.specs.Rows.{frames_seen}
 use Rattle.mailbox_runs.specs.Runs.{answer_seen}
-use Rattle.command_parts.specs.{Contents.bytes_of, SeenOutputs.only_text}
-use Rattle.form_commands.specs.Mrun.{mrun_lines, posted_files, posted_report}
+use Rattle.command_parts.specs.{SeenOutputs.only_text}
+use Rattle.form_commands.specs.Mrun.{mrun_lines, posted_report}
 use Rattle.form_commands.proofs.PostedLemmas.{posts_run}
 use Rattle.form_commands.proofs.mrun.Mrun.work.Goals as goal
 
@@ -18,10 +18,8 @@ returns c =
     record {
       report = posted_report a.errors.items bound answers frames run.resumed;
       posted = posts_run c.answers_keep_the_bound.ensures c.spelled_bytes_fit.ensures c.posted_answers_are_near.ensures
-          c.last_is_answered.ensures c.args.self.flags
-          (posted_files (bytes_of c.args.contents.now)) a.compiled.block a.compiled.firmware a.errors.items
-          a.samples.items
-          a.posts c.in_ok-accepted.ensures.accepted answers frames run.resumed
+          c.last_is_answered.ensures c.args.self.flags c.args.files.now a.compiled.block a.compiled.firmware
+          a.errors.items a.samples.items a.posts c.in_ok-accepted.ensures.accepted answers frames run.resumed
           (rw c.deref.ensures.value at c.in_ok-told.ensures.answers) (rw c.deref.ensures.value at c.in_ok-told.ensures.frames)
           (rw c.deref.ensures.value at c.in_ok-told.ensures.resumed)
           (rw c.deref.ensures.value at c.in_ok-told.ensures.by_turns);

@@ -1,10 +1,10 @@
 use Rattle.std.proofs.Common.{List, ℕ, ◌++◌, ap, ap₂, sym, ◌∙◌}
 use Rattle.std.specs.Prelude.{map}
 use Rattle.watched_runs.specs.{Rows.row_seen, declared.form.WatchedRow.WatchedRow}
-use Rattle.command_parts.specs.{Contents.bytes_of, SeenOutputs.only_text, Lines.counted}
+use Rattle.command_parts.specs.{SeenOutputs.only_text, Lines.counted}
 use Rattle.command_parts.proofs.Algebra.{counted-map}
 use Rattle.run_reports.specs.RowLines.{begun_lines}
-use Rattle.form_commands.specs.Srun.{watched_files, watched_report, watched_row_lines}
+use Rattle.form_commands.specs.Srun.{watched_report, watched_row_lines}
 use Rattle.form_commands.proofs.WatchedLemmas.{watches}
 use Rattle.form_commands.proofs.srun.Srun.work.Goals as goal
 
@@ -18,11 +18,9 @@ returns c =
     record {
       report = watched_report a.inputs.errors.items bound (map row_seen c.in_ok-rows.rows.items);
       watched = watches c.faultless_answers_are_near.ensures c.spelled_bytes_fit.ensures c.args.self.flags
-          (watched_files (bytes_of c.args.contents.now))
-          a.compiled.block a.compiled.firmware a.inputs.errors.items a.inputs.samples.items c.deref.result.now
-          a.inputs.plan a.upsets (map row_seen c.in_ok-rows.rows.items) c.in_ok-accepted.ensures.accepted
-          c.deref.ensures.value
-          c.in_ok-rows.ensures.rows c.in_ok-rows.ensures.answers;
+          c.args.files.now a.compiled.block a.compiled.firmware a.inputs.errors.items a.inputs.samples.items
+          c.deref.result.now a.inputs.plan a.upsets (map row_seen c.in_ok-rows.rows.items)
+          c.in_ok-accepted.ensures.accepted c.deref.ensures.value c.in_ok-rows.ensures.rows c.in_ok-rows.ensures.answers;
       output_is = ap only_text (c.in_ok-lines.ensures ∙ ap₂ lines_of c.deref-2.ensures.value c.deref-3.ensures.value
           ∙ ap (λ (l : List ℕ). begun_lines a.inputs.errors.items bound ++ l) (sym each));
     }

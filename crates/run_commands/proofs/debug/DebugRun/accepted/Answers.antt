@@ -1,17 +1,15 @@
 use Rattle.std.proofs.Common.{◌≡◌, Err, rules}
-use Rattle.command_parts.specs.Contents.{bytes_of}
 use Rattle.run_reports.specs.Inputs.{sample_refusals}
-use Rattle.run_commands.specs.Debug.{debug_files, debug_refusals}
+use Rattle.run_commands.specs.Debug.{debug_refusals}
 use Rattle.run_commands.proofs.DebugLemmas.{debug_refused}
 use Rattle.command_parts.proofs.Algebra.{refused}
 use Rattle.run_commands.proofs.debug.DebugRun.accepted.Goals as goal
 
 pub returns-in_err-samples-clause-fault : goal.returns-in_err-samples-clause-fault
 returns-in_err-samples-clause-fault c =
-    let files = debug_files (bytes_of c.args.contents.now) in
+    let files = c.args.files.now in
     let compiled = c.in_ok-compiled.compiled in
     let passed : c.from_residual-in_err-samples.result ≡ Err c.in_err-samples.field-0.0 = search rules in
     rw passed (refused (sample_refusals compiled.block files.trace files.plan) (debug_refusals files)
-    (debug_refused files compiled.block compiled.firmware (rw c.content.ensures.value at c.in_ok-compiled.ensures.gives)
-    (rw c.content-2.ensures.value at c.in_ok-require_image.ensures.image)) c.in_err-samples.field-0.0
-    (rw (c.content-3.ensures.value, c.content-4.ensures.value) at c.in_err-samples.ensures.fault))
+    (debug_refused files compiled.block compiled.firmware c.in_ok-compiled.ensures.gives
+    c.in_ok-require_image.ensures.image) c.in_err-samples.field-0.0 c.in_err-samples.ensures.fault)

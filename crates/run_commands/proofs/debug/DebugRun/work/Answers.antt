@@ -2,15 +2,13 @@ use Rattle.std.proofs.Common.{ap, arith, length}
 use Rattle.std.specs.Prelude.{List, map}
 use Rattle.trace_io.specs.declared.sample.Sample.{Sample}
 use Rattle.alone_runs.specs.Rows.{row_seen}
-use Rattle.command_parts.specs.Contents.{bytes_of}
-use Rattle.run_commands.specs.Debug.{debug_files}
 use Rattle.run_commands.proofs.DebugLemmas.{gives}
 use Rattle.run_commands.proofs.debug.DebugRun.work.Goals as goal
 
 pub returns : goal.returns
 returns c =
     let a = c.in_ok-accepted.accepted in
-    gives c.spelled_bytes_fit.ensures c.args.self (debug_files (bytes_of c.args.contents.now)) a.compiled.block
+    gives c.spelled_bytes_fit.ensures c.args.self c.args.files.now a.compiled.block
     a.compiled.firmware a.samples.items
     c.deref.result.now a.plan a.script c.as_slice.result.now c.in_ok-shown.shown.items c.deref-2.result.now
     (map row_seen c.in_ok-shown.rows.items) (map row_seen c.deref-3.result.now) _ c.in_ok-accepted.ensures.accepted

@@ -2,8 +2,7 @@ use Rattle.std.proofs.Common.{ℕ, List, ap, ap₂, ◌∙◌}
 use Rattle.std.specs.Prelude.{None, map}
 use Rattle.alone_runs.specs.{Rows.row_seen, declared.rows.Row.Row}
 use Rattle.run_reports.specs.{Reports.left_of, Reports.report_of, RowLines.run_lines}
-use Rattle.run_commands.specs.Run.{files_in}
-use Rattle.command_parts.specs.{SeenOutputs.SeenOutput, Contents.bytes_of}
+use Rattle.command_parts.specs.{SeenOutputs.SeenOutput}
 use Rattle.run_commands.proofs.AnswerLemmas.{certifies}
 use Rattle.run_commands.proofs.run.Run.work.Goals as goal
 
@@ -17,7 +16,7 @@ returns c =
     let lines_of = λ (es : List ℕ) (rs : List Row). run_lines (report_of es bound (map row_seen rs)) c.left_in.result in
     record {
       report = report_of a.inputs.errors.items bound (map row_seen c.in_ok-rows.rows.items);
-      certified = certifies c.answers_are_reported.ensures c.args.self (files_in (bytes_of c.args.contents.now))
+      certified = certifies c.answers_are_reported.ensures c.args.self c.args.files.now
           a.compiled.block a.compiled.firmware a.inputs.errors.items a.inputs.samples.items c.deref.result.now
           a.inputs.plan
           (map row_seen c.in_ok-rows.rows.items) c.left_in.result c.in_ok-accepted.ensures.accepted c.deref.ensures.value
