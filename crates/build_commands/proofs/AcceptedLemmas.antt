@@ -80,6 +80,4 @@ accepted_made = record {
   exec = λ exec text a. (_, record { steps = a.0; last = a.1; arrives = a.2; output_is = refl });
   hcheck = λ text a. (_, record { image = a.0; instrs = a.1; gives = a.2; output_is = refl });
   lcompile = lcompile_made;
-  mcompile = λ text a. firmware_made _ _ a;
-  scompile = λ text a. firmware_made _ _ a;
 }

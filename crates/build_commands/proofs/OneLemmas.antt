@@ -20,6 +20,7 @@ use Rattle.build_commands.specs.{Check.check_lines, Exec.ExecMakes, Exec.exec_li
 use Rattle.build_commands.specs.Lcompile.{LcompileMakes, lcompile_lines}
 use Rattle.command_parts.specs.Certs.{AcceptedErrorsAreOne, AcceptsCert}
 use Rattle.command_parts.specs.SeenOutputs.{OutputsAreOne, SeenOutput, only_text}
+use Rattle.command_parts.specs.declared.firmware.Form.TheVariants.{Alone}
 use Rattle.command_parts.specs.{Firmwares.GivenFirmwaresAreOne, Lines.line, Twos.GivenTwosAreOne}
 use Rattle.build_commands.specs.Written.{WritesFirmware, WritesImage, compile_lines}
 use Rattle.build_commands.specs.declared.{certify.Certify.Certify, check.Check.Check, exec.Exec.Exec}
@@ -27,7 +28,7 @@ use Rattle.build_commands.specs.declared.{certify.Certify.Certify, check.Check.C
 pub checks_once : GivenFirmwaresAreOne → AcceptedErrorsAreOne → (check : Check) (text cert : List ℕ)
     → OutputsAreOne (CheckMakes check text cert)
 checks_once firmwares accepted check text cert output other a b =
-    let one = firmwares check.width text a.block b.block a.firmware b.firmware a.gives b.gives in
+    let one = firmwares (Alone check.width) text a.block b.block a.firmware b.firmware a.gives b.gives in
     let errors : a.errors ≡ b.errors =
     accepted check.kind check.width a.block cert a.errors b.errors a.gives.spelled.valid a.accepts
     (subst (λ (c : Block). AcceptsCert check.kind check.width c cert b.errors) (sym one.0) b.accepts) in
@@ -36,7 +37,7 @@ checks_once firmwares accepted check text cert output other a b =
 pub certifies_once : GivenFirmwaresAreOne → AnswersAreOne → (certify : Certify) (text : List ℕ)
     → OutputsAreOne (CertifyMakes certify text)
 certifies_once firmwares answers certify text output other a b =
-    let one = firmwares certify.width text a.block b.block a.firmware b.firmware a.gives b.gives in
+    let one = firmwares (Alone certify.width) text a.block b.block a.firmware b.firmware a.gives b.gives in
     let x : Result Cert NotReached = Ok a.cert in
     let y : Result Cert NotReached = Ok b.cert in
     let same : x ≡ y = answers certify.kind a.block (parts certify.width) certify.target x y

@@ -4,9 +4,8 @@ use Rattle.std.specs.Prelude.{ℕ, List}
 use Rattle.build_commands.specs.{Asm.AsmAccepts, Asm.AsmMakes, Certify.CertifyAccepts, Certify.CertifyMakes}
 use Rattle.build_commands.specs.{Check.CheckAccepts, Check.CheckMakes, Compile.CompileAccepts, Compile.CompileMakes}
 use Rattle.build_commands.specs.{Exec.ExecAccepts, Exec.ExecMakes, Hcheck.HcheckAccepts, Hcheck.HcheckMakes}
+use Rattle.build_commands.specs.{declared.exec.Exec.Exec}
 use Rattle.build_commands.specs.Lcompile.{LcompileAccepts, LcompileMakes}
-use Rattle.build_commands.specs.Mcompile.{McompileAccepts, McompileMakes}
-use Rattle.build_commands.specs.{Scompile.ScompileAccepts, Scompile.ScompileMakes, declared.exec.Exec.Exec}
 use Rattle.build_commands.specs.declared.{certify.Certify.Certify, check.Check.Check, compile.Compile.Compile}
 use Rattle.command_parts.specs.SeenOutputs.{HasOutput}
 
@@ -22,5 +21,3 @@ pub record AcceptedContentsMakeOutput : Type 0 where
   pub exec : (exec : Exec) (text : List ℕ) → ExecAccepts exec text → HasOutput (ExecMakes exec text)
   pub hcheck : (text : List ℕ) → HcheckAccepts text → HasOutput (HcheckMakes text)
   pub lcompile : (slow fast : List ℕ) → LcompileAccepts slow fast → HasOutput (LcompileMakes slow fast)
-  pub mcompile : (text : List ℕ) → McompileAccepts text → HasOutput (McompileMakes text)
-  pub scompile : (text : List ℕ) → ScompileAccepts text → HasOutput (ScompileMakes text)

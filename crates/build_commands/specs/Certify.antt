@@ -14,7 +14,7 @@ use Rattle.fz_status.specs.declared.status.Status.TheVariants as status
 use Rattle.build_commands.specs.declared.certify.Certify.{Certify}
 use Rattle.command_parts.specs.{SeenOutputs.SeenOutput, Certs.StopsHalving, Words.number_of, Firmwares.GivesFirmware}
 use Rattle.command_parts.specs.{Firmwares.RefusesText}
-use Rattle.command_parts.specs.Lines.{counted, error_line, line}
+use Rattle.command_parts.specs.{Lines.counted, Lines.error_line, Lines.line, declared.firmware.Form.TheVariants.Alone}
 
 abbrev pub certify_with : CertKind → Width → ℕ → Certify
 certify_with kind width target = record { kind = kind; width = width; target = target }
@@ -39,7 +39,7 @@ certify_lines errors leaves = counted error_line 1 errors ++ line (codes "leaves
 pub record CertifyGives (certify : Certify) (text : List ℕ) (output : SeenOutput) : Type 0 where
   pub block : Block
   pub firmware : Firmware
-  pub gives : GivesFirmware certify.width text block firmware
+  pub gives : GivesFirmware (Alone certify.width) text block firmware
   pub cert : Cert
   pub halving : IsHalving certify.kind block (parts certify.width) certify.target cert
   pub within : All (λ error. error ≤ certify.target) cert.claims
@@ -51,7 +51,7 @@ pub record CertifyGives (certify : Certify) (text : List ℕ) (output : SeenOutp
 abbrev pub certify_refusals : Certify → List ℕ → Refusals
 certify_refusals certify text (status.Fcl f) = RefusesText text f
 certify_refusals certify text (status.NotReached stop) =
-    (block : Block) × (firmware : Firmware) × GivesFirmware certify.width text block firmware
+    (block : Block) × (firmware : Firmware) × GivesFirmware (Alone certify.width) text block firmware
     × StopsHalving certify.kind certify.width certify.target block stop
 certify_refusals certify text s = ⊥
 
@@ -63,7 +63,7 @@ CertifyMakes certify text (Err s) = Refuses (certify_refusals certify text) s
 -- target
 pub record AcceptsTarget (certify : Certify) (text : List ℕ) (block : Block) (firmware : Firmware) (cert : Cert)
     : Type 0 where
-  pub gives : GivesFirmware certify.width text block firmware
+  pub gives : GivesFirmware (Alone certify.width) text block firmware
   pub halving : IsHalving certify.kind block (parts certify.width) certify.target cert
   pub within : All (λ error. error ≤ certify.target) cert.claims
   pub good : IsCert certify.kind cert

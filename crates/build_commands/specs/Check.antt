@@ -8,7 +8,7 @@ use Rattle.alone_code.specs.declared.firmware.Firmware.{Firmware}
 use Rattle.box_tree.specs.declared.cert.CertKind.{CertKind}
 use Rattle.command_parts.specs.{Certs.AcceptsCert, Certs.RefusesCert, SeenOutputs.SeenOutput, SeenOutputs.only_text}
 use Rattle.command_parts.specs.Firmwares.{GivesFirmware, RefusesText}
-use Rattle.command_parts.specs.Lines.{counted, error_line, line}
+use Rattle.command_parts.specs.{Lines.counted, Lines.error_line, Lines.line, declared.firmware.Form.TheVariants.Alone}
 use Rattle.build_commands.specs.declared.check.Check.{Check}
 use Rattle.fz_status.specs.{Refusals.Refusals, Refusals.Refuses, declared.status.Status.Status}
 use Rattle.fz_status.specs.declared.status.Status.TheVariants as status
@@ -32,7 +32,7 @@ check_lines errors instructions = counted error_line 1 errors ++ line (codes "in
 pub record CheckGives (check : Check) (text cert : List ℕ) (output : SeenOutput) : Type 0 where
   pub block : Block
   pub firmware : Firmware
-  pub gives : GivesFirmware check.width text block firmware
+  pub gives : GivesFirmware (Alone check.width) text block firmware
   pub errors : List ℕ
   pub accepts : AcceptsCert check.kind check.width block cert errors
   pub output_is : output ≡ only_text (check_lines errors (instruction_bound check.width block))
@@ -50,4 +50,4 @@ CheckMakes check text cert (Err s) = Refuses (check_refusals check text cert) s
 -- the text gives firmware, and CERT is accepted
 abbrev pub CheckAccepts : Check → List ℕ → List ℕ → Type 0
 CheckAccepts check text cert = (block : Block) × (firmware : Firmware) × (errors : List ℕ)
-    × GivesFirmware check.width text block firmware × AcceptsCert check.kind check.width block cert errors
+    × GivesFirmware (Alone check.width) text block firmware × AcceptsCert check.kind check.width block cert errors

@@ -1,24 +1,35 @@
--- The commands `compile FCL OUT` and `compile16 FCL OUT`.
+-- The commands `compile FCL OUT`, `compile16 ..` with answers of 16 bits, `mcompile ..` in the mailbox form, and
+-- `scompile ..` with watched tables.
 -- Beside the promise.
 use Rattle.std.specs.Prelude.{ℕ, List, [], ◌∷◌, Result, Ok, Err}
 use Rattle.eval_code.specs.Bounds.{instruction_bound}
-use Rattle.byte_scaling.specs.declared.width.Width.{Width}
+use Rattle.byte_scaling.specs.declared.width.Width.TheVariants.{Byte}
+use Rattle.fuzzy_meaning.specs.declared.block.Block.{Block}
+use Rattle.alone_code.specs.Mailboxes.{mailbox_bound}
+use Rattle.watched_code.specs.Watched.{watched_bound}
+use Rattle.command_parts.specs.declared.firmware.Form.{Form}
+use Rattle.command_parts.specs.declared.firmware.Form.TheVariants.{Alone, Mailbox, Watched}
 use Rattle.command_parts.specs.{SeenOutputs.SeenOutput, Firmwares.GivesFirmware, Firmwares.text_refusals}
 use Rattle.build_commands.specs.{Written.GivesRecords, Written.WritesFirmware, declared.compile.Compile.Compile}
 use Rattle.fz_status.specs.{Refusals.Refuses, declared.status.Status.Status}
 
-abbrev pub compile_in : Width → Compile
-compile_in width = record { width = width }
+abbrev pub compile_in : Form → Compile
+compile_in form = record { form = form }
 
 -- FCL
 abbrev pub compile_inputs : List ℕ
 compile_inputs = 2 ∷ []
 
--- the text gives firmware with answers of this width, and OUT is to hold the records of its image
+-- the bound on instructions of a block's firmware of this form
+abbrev pub bound_of : Form → Block → ℕ
+bound_of (Alone width) = instruction_bound width
+bound_of Mailbox = mailbox_bound Byte
+bound_of Watched = watched_bound
+
+-- the text gives firmware of this form, and OUT is to hold the records of its image
 abbrev pub CompileMakes : Compile → List ℕ → Result SeenOutput Status → Type 0
-CompileMakes compile text (Ok output) =
-    WritesFirmware (GivesFirmware compile.width text) (instruction_bound compile.width) output
+CompileMakes compile text (Ok output) = WritesFirmware (GivesFirmware compile.form text) (bound_of compile.form) output
 CompileMakes compile text (Err s) = Refuses (text_refusals text) s
 
 abbrev pub CompileAccepts : Compile → List ℕ → Type 0
-CompileAccepts compile text = GivesRecords (GivesFirmware compile.width text)
+CompileAccepts compile text = GivesRecords (GivesFirmware compile.form text)

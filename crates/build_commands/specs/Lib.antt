@@ -6,7 +6,5 @@ pub mod Compile
 pub mod Exec
 pub mod Hcheck
 pub mod Lcompile
-pub mod Mcompile
 pub mod OneOutput
-pub mod Scompile
 pub mod Written

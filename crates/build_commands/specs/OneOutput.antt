@@ -2,8 +2,7 @@
 -- Beside the promise.
 use Rattle.std.specs.Prelude.{ℕ, List}
 use Rattle.build_commands.specs.{Asm.AsmMakes, Certify.CertifyMakes, Check.CheckMakes, Compile.CompileMakes}
-use Rattle.build_commands.specs.{Exec.ExecMakes, Hcheck.HcheckMakes, Lcompile.LcompileMakes, Mcompile.McompileMakes}
-use Rattle.build_commands.specs.Scompile.{ScompileMakes}
+use Rattle.build_commands.specs.{Exec.ExecMakes, Hcheck.HcheckMakes, Lcompile.LcompileMakes}
 use Rattle.command_parts.specs.SeenOutputs.{OutputsAreOne}
 use Rattle.build_commands.specs.declared.{certify.Certify.Certify, check.Check.Check, compile.Compile.Compile}
 use Rattle.build_commands.specs.declared.exec.Exec.{Exec}
@@ -17,5 +16,3 @@ pub record ContentsMakeOneOutput : Type 0 where
   pub exec : (exec : Exec) (text : List ℕ) → OutputsAreOne (ExecMakes exec text)
   pub hcheck : (text : List ℕ) → OutputsAreOne (HcheckMakes text)
   pub lcompile : (slow fast : List ℕ) → OutputsAreOne (LcompileMakes slow fast)
-  pub mcompile : (text : List ℕ) → OutputsAreOne (McompileMakes text)
-  pub scompile : (text : List ℕ) → OutputsAreOne (ScompileMakes text)

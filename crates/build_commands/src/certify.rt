@@ -11,7 +11,9 @@ use box_tree::{Cert, CertKind, Node, write_for};
 use byte_scaling::Width;
 use command_parts::certs::{halved, halved_blocks_do_not_stop};
 use command_parts::contents::Content;
-use command_parts::firmware::{firmware_of, given_firmwares_are_one, spelled_texts_have_no_fault};
+use command_parts::firmware::{
+    Form, firmware_of, given_firmwares_are_one, spelled_texts_have_no_fault,
+};
 use command_parts::lines::{labelled, push_errors};
 use command_parts::output::Output;
 use command_parts::words::{Number, number_in};
@@ -56,7 +58,7 @@ impl Certify {
         ensures { IsResultOf (CertifyMakes self fcl.now) result }
     {
         let (kind, width) = (self.kind, self.width);
-        let compiled = firmware_of(alloc, width, fcl)?;
+        let compiled = firmware_of(alloc, Form::Alone(width), fcl)?;
         let cert = halved(alloc, kind, width, self.target.get(), &compiled.block)?;
         let text = write_for(alloc, &cert, kind, width)?;
         let lines = lines(alloc, &cert)?;

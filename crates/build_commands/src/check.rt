@@ -8,7 +8,9 @@ use box_tree::CertKind;
 use byte_scaling::Width;
 use command_parts::certs::{accepted_certs_have_no_fault, accepted_errors_are_one, errors_under};
 use command_parts::contents::Content;
-use command_parts::firmware::{firmware_of, given_firmwares_are_one, spelled_texts_have_no_fault};
+use command_parts::firmware::{
+    Form, firmware_of, given_firmwares_are_one, spelled_texts_have_no_fault,
+};
 use command_parts::lines::{labelled, push_errors};
 use command_parts::output::Output;
 use fcl_check::spelled_blocks_are_one;
@@ -33,7 +35,7 @@ impl Check {
     pub fn work(self, alloc: Global, fcl: &Content, cert: &Content) -> Result<Output, Status>
         ensures { IsResultOf (CheckMakes self fcl.now cert.now) result }
     {
-        let compiled = firmware_of(alloc, self.width, fcl)?;
+        let compiled = firmware_of(alloc, Form::Alone(self.width), fcl)?;
         let errors = errors_under(alloc, self.kind, self.width, &compiled.block, cert)?;
         let lines = lines(alloc, errors.as_slice(), compiled.firmware.instr_bound)?;
         Ok(Output { lines, file: None })

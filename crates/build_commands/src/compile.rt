@@ -1,21 +1,21 @@
-//! The commands `compile FCL OUT` and `compile16 FCL OUT`.
+//! The commands `compile FCL OUT`, `compile16 ..`, `mcompile ..` and `scompile ..`.
 ghost use Rattle.std.specs.Prelude.{List, ℕ};
 ghost use Rattle.command_parts.specs.SeenOutputs.{OutputHasNoFault, IsResultOf};
 ghost use Rattle.build_commands.specs.{Compile.CompileMakes, declared.compile.Compile.Compile as TheCompile};
 
 use crate::written::written_firmware;
-use byte_scaling::Width;
 use command_parts::contents::Content;
-use command_parts::firmware::{firmware_of, spelled_texts_have_no_fault};
+use command_parts::firmware::{Form, firmware_of, spelled_texts_have_no_fault};
 use command_parts::output::Output;
 use fz_status::Status;
 use std::alloc::Global;
 
-/// `compile FCL OUT`, and `compile16 FCL OUT` with answers of 16 bits.
+/// `compile FCL OUT`, `compile16 ..` with answers of 16 bits, `mcompile ..` in the mailbox form, and `scompile ..` with
+/// watched tables.
 #[derive(Clone, Copy, Debug, PartialEq, Eq)]
 pub struct Compile {
-    /// How wide the firmware's answers are.
-    pub width: Width,
+    /// What stands around EVAL.
+    pub form: Form,
 }
 
 /// The word FCL.
@@ -26,7 +26,7 @@ impl Compile {
     pub fn work(self, alloc: Global, fcl: &Content) -> Result<Output, Status>
         ensures { IsResultOf (CompileMakes self fcl.now) result }
     {
-        let compiled = firmware_of(alloc, self.width, fcl)?;
+        let compiled = firmware_of(alloc, self.form, fcl)?;
         written_firmware(alloc, &compiled.firmware)
     }
 }

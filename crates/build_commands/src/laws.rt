@@ -4,9 +4,7 @@ ghost use Rattle.build_commands.specs.{Accepted.AcceptedContentsMakeOutput, OneO
 use crate::certify::certify_outputs_are_one;
 use crate::check::check_outputs_are_one;
 use crate::exec::exec_outputs_are_one;
-use command_parts::firmware::{
-    given_firmwares_are_one, given_mailboxes_are_one, given_watched_are_one,
-};
+use command_parts::firmware::given_firmwares_are_one;
 use command_parts::twos::given_twos_are_one;
 use cpu12_asm::ascending_bytes_are_one;
 use handler_check::laws::answers_are_one;
@@ -25,8 +23,6 @@ pub fn contents_make_one_output()
     check_outputs_are_one();
     exec_outputs_are_one();
     given_firmwares_are_one();
-    given_mailboxes_are_one();
-    given_watched_are_one();
     given_twos_are_one();
     image_texts_are_one();
     ascending_bytes_are_one();

@@ -16,6 +16,4 @@ pub mod exec;
 pub mod hcheck;
 pub mod laws;
 pub mod lcompile;
-pub mod mcompile;
-pub mod scompile;
 mod written;

@@ -3,14 +3,13 @@
 use Rattle.std.specs.Prelude.{◌≡◌, ℕ, List}
 use Rattle.error_certifier.specs.{Halving.IsHalving, Halving.StopsAt, Laws.SaysOutOfReach}
 use Rattle.error_certifier.specs.declared.certifier.NotReached.{NotReached}
-use Rattle.box_tree.specs.declared.cert.Cert.{Cert}
+use Rattle.box_tree.specs.{declared.cert.Cert.Cert, declared.cert.CertKind.CertKind}
 use Rattle.fuzzy_meaning.specs.{Blocks.IsValid, declared.block.Block.Block}
 use Rattle.byte_scaling.specs.{Widths.parts, declared.width.Width.Width}
-use Rattle.box_tree.specs.declared.{cert.CertKind.CertKind}
 use Rattle.cert_check.specs.TextFaults.{IsAcceptedText, HasTextFault}
 use Rattle.cert_check.specs.declared.text.TextFault.{TextFault as TheRefusal}
 use Rattle.cert_check.specs.declared.text.TextFault.TheVariants as refusal
-use Rattle.command_parts.specs.Firmwares.{OfFirmware}
+use Rattle.command_parts.specs.{Firmwares.OfFirmware, declared.firmware.Form.TheVariants.Alone}
 use Rattle.fz_status.specs.{Refusals.Refusals, declared.status.CertRefusal.CertRefusal}
 use Rattle.fz_status.specs.declared.status.CertRefusal.TheVariants as told
 use Rattle.fz_status.specs.declared.status.Status.{Status}
@@ -33,7 +32,8 @@ cert_refusals kind width block cert s = ⊥
 
 -- why CERT is refused, the text giving firmware
 abbrev pub RefusesCert : CertKind → Width → List ℕ → List ℕ → CertRefusal → Type 0
-RefusesCert kind width text cert f = OfFirmware width text (λ block firmware. HasCertFault kind width block cert f)
+RefusesCert kind width text cert f =
+    OfFirmware (Alone width) text (λ block firmware. HasCertFault kind width block cert f)
 
 -- the status that tells a refusal
 abbrev pub status_of : TheRefusal → Status

@@ -1,16 +1,14 @@
 //! From a text to its block, and to the block's firmware.
-ghost use Rattle.std.specs.Prelude.{◌≡◌, IfOk, IfErr};
-ghost use Rattle.rule_layout.specs.Layouts.{flat_of, IsLaidOut};
+ghost use Rattle.std.specs.Prelude.{◌≡◌, IfOk, IfErr, OnOk};
+ghost use Rattle.fuzzy_meaning.specs.Blocks.{IsValid};
+ghost use Rattle.rule_layout.specs.Layouts.{flat_of, IsFaultOf, IsLaidOut, IsWithinLimits};
 ghost use Rattle.fcl_check.specs.Texts.{SpellsBlock};
-ghost use Rattle.command_parts.specs.Firmwares.{GivesBlock, GivesFirmware, GivesMailbox, GivesWatched, text_refusals};
-ghost use Rattle.command_parts.specs.Firmwares.{GivenFirmwaresAreOne, GivenMailboxesAreOne, GivenWatchedAreOne};
-ghost use Rattle.command_parts.specs.Firmwares.{SpelledTextsHaveNoFault};
+ghost use Rattle.command_parts.specs.Firmwares.{GivesBlock, GivesFirmware, IsOfForm, text_refusals};
+ghost use Rattle.command_parts.specs.Firmwares.{GivenFirmwaresAreOne, SpelledTextsHaveNoFault};
 ghost use Rattle.fz_status.specs.Refusals.{IsRefusal};
 
 use crate::contents::Content;
-use alone_code::{
-    Firmware, compile, compile_post, compile16, firmwares_are_one, mailboxes_are_one,
-};
+use alone_code::{Firmware, compile_for, compile_post, firmwares_are_one, mailboxes_are_one};
 use byte_scaling::Width;
 use fcl_check::{LoadFault, load, load_faults_are_one, spelled_blocks_are_one};
 use fcl_syntax::{SyntaxFault, first_faults_are_one, parse};
@@ -29,49 +27,42 @@ pub struct Compiled {
     pub firmware: Firmware,
 }
 
-/// The block that the text spells, and that block's firmware with answers of this width. The faults
-/// come in their order: of the grammar, of the block, of the layout.
-pub fn firmware_of(alloc: Global, width: Width, text: &Content) -> Result<Compiled, Status>
-    ensures gives { IfOk result (λ c. GivesFirmware width text.now c.block c.firmware) }
+/// What stands around EVAL in a block's firmware.
+#[derive(Clone, Copy, Debug, PartialEq, Eq)]
+pub enum Form {
+    /// The firmware stands alone, with answers of this width.
+    Alone(Width),
+    /// Interrupts post its samples.
+    Mailbox,
+    /// It watches its tables.
+    Watched,
+}
+
+/// The block that the text spells, and that block's firmware of this form. The faults come in their
+/// order: of the grammar, of the block, of the layout.
+pub fn firmware_of(alloc: Global, form: Form, text: &Content) -> Result<Compiled, Status>
+    ensures gives { IfOk result (λ c. GivesFirmware form text.now c.block c.firmware) }
     ensures fault { IfErr result (IsRefusal (text_refusals text.now)) }
 {
     let block = block_of(alloc, text)?;
-    let firmware = match width {
-        Width::Byte => compile(alloc, &block),
-        Width::Word => compile16(alloc, &block),
-    };
-    match firmware {
+    match compile_form(alloc, form, &block) {
         Ok(firmware) => Ok(Compiled { block, firmware }),
         Err(LayoutFault::Memory) => Err(Status::Memory),
         Err(fault) => Err(Status::Fcl(FclFault::Layout(fault))),
     }
 }
 
-/// The block that the text spells, and that block's firmware in the mailbox form. The faults are the
-/// same.
-pub fn mailbox_of(alloc: Global, text: &Content) -> Result<Compiled, Status>
-    ensures gives { IfOk result (λ c. GivesMailbox text.now c.block c.firmware) }
-    ensures fault { IfErr result (IsRefusal (text_refusals text.now)) }
+/// A block's firmware of this form.
+fn compile_form(alloc: Global, form: Form, block: &Block) -> Result<Firmware, LayoutFault>
+    requires { IsValid block.now }
+    ensures firmware { IfOk result (IsOfForm form block.now) }
+    ensures limits { OnOk result (IsWithinLimits block.now) }
+    ensures fault { IfErr result (IsFaultOf block.now) }
 {
-    let block = block_of(alloc, text)?;
-    match compile_post(alloc, &block) {
-        Ok(firmware) => Ok(Compiled { block, firmware }),
-        Err(LayoutFault::Memory) => Err(Status::Memory),
-        Err(fault) => Err(Status::Fcl(FclFault::Layout(fault))),
-    }
-}
-
-/// The block that the text spells, and that block's firmware with watched tables. The faults are the
-/// same.
-pub fn watched_firmware_of(alloc: Global, text: &Content) -> Result<Compiled, Status>
-    ensures gives { IfOk result (λ c. GivesWatched text.now c.block c.firmware) }
-    ensures fault { IfErr result (IsRefusal (text_refusals text.now)) }
-{
-    let block = block_of(alloc, text)?;
-    match compile_scrub(alloc, &block) {
-        Ok(firmware) => Ok(Compiled { block, firmware }),
-        Err(LayoutFault::Memory) => Err(Status::Memory),
-        Err(fault) => Err(Status::Fcl(FclFault::Layout(fault))),
+    match form {
+        Form::Alone(width) => compile_for(alloc, width, block),
+        Form::Mailbox => compile_post(alloc, block),
+        Form::Watched => compile_scrub(alloc, block),
     }
 }
 
@@ -125,26 +116,12 @@ pub fn spelled_texts_have_no_fault()
     limits_have_no_fault()
 }
 
-/// A text gives one block, and one firmware of each width.
+/// A text gives one block, and one firmware of each form.
 pub fn given_firmwares_are_one()
     ensures { GivenFirmwaresAreOne }
 {
     spelled_blocks_are_one();
-    firmwares_are_one()
-}
-
-/// It gives one in the mailbox form.
-pub fn given_mailboxes_are_one()
-    ensures { GivenMailboxesAreOne }
-{
-    spelled_blocks_are_one();
-    mailboxes_are_one()
-}
-
-/// It gives one with watched tables.
-pub fn given_watched_are_one()
-    ensures { GivenWatchedAreOne }
-{
-    spelled_blocks_are_one();
+    firmwares_are_one();
+    mailboxes_are_one();
     watched_firmwares_are_one()
 }

@@ -15,6 +15,7 @@ use Rattle.handled_runs.specs.Forms.{HandledSeen, handled_seen}
 use Rattle.fz_status.specs.declared.status.Status.{Status}
 use Rattle.fz_status.specs.declared.status.Status.TheVariants as status
 use Rattle.command_parts.specs.{Firmwares.GivesFirmware, Handlers.GivesHandler}
+use Rattle.command_parts.specs.declared.firmware.Form.TheVariants.{Alone}
 use Rattle.run_reports.specs.{Inputs.input_refusals, Laws.AnswersAreReported, Laws.SpelledBytesFit}
 use Rattle.run_reports.specs.HandledRun.{AcceptsHandled, HandledRun}
 use Rattle.run_reports.specs.declared.files.HandledFiles.{HandledFiles}
@@ -35,7 +36,7 @@ module _ (reported : AnswersAreReported) (fit : SpelledBytesFit) (all : AnswersU
       same answers
 
   handled : AreListedRows firmware handler.bytes instrs flags (map input_bytes samples) plan rows
-  handled = there block a.compiled.spelled.valid a.compiled.limits a.compiled.compiled
+  handled = there block a.compiled.spelled.valid a.compiled.limits a.compiled.compiled.0
       (fit block files.inputs.trace samples a.inputs.in_range)
 
   abbrev plain : List (RowSeen (List ℕ))
@@ -68,7 +69,7 @@ module _ (reported : AnswersAreReported) (fit : SpelledBytesFit) (all : AnswersU
 
 -- what refuses the files behind HANDLER refuses the run
 pub hrun_refused : (files : HandledFiles) (block : Block) (firmware : Firmware)
-    → GivesFirmware Byte files.fcl block firmware → (handler : Image) (instrs : ℕ)
+    → GivesFirmware (Alone Byte) files.fcl block firmware → (handler : Image) (instrs : ℕ)
     → GivesHandler files.handler handler instrs → (s : Status)
     → input_refusals Named Byte block files.inputs s → hrun_refusals files s
 hrun_refused files block firmware gives handler instrs given (status.Fcl f) r = absurd r.2

@@ -19,7 +19,7 @@ use Rattle.two_level_runs.specs.{Order.LevelsMakeAPlan, Rows.TwoSeen, Rows.two_s
 use Rattle.run_reports.specs.{Posted.IsOneOf, Posted.PostedAnswersAreNear, declared.files.LevelFiles.LevelFiles}
 use Rattle.run_reports.specs.LevelRun.{AcceptsLevels, LevelRun, fast_numbers}
 use Rattle.run_reports.specs.Laws.{AnswersAreReported, AnswersKeepTheBound, SpelledBytesFit}
-use Rattle.command_parts.specs.Firmwares.{GivesFirmware}
+use Rattle.command_parts.specs.{Firmwares.GivesFirmware, declared.firmware.Form.TheVariants.Alone}
 use Rattle.command_parts.proofs.Algebra.{of_seen}
 use Rattle.form_commands.specs.Lrun.{AcceptedLevelRunsMakeOutput, level_report}
 
@@ -68,11 +68,11 @@ module _ (reported : AnswersAreReported) (keep : AnswersKeepTheBound) (fit : Spe
 
   -- the slow rows
 
-  slow_gives : GivesFirmware Byte files.slow slow two.slow
+  slow_gives : GivesFirmware (Alone Byte) files.slow slow two.slow
   slow_gives =
       let s = a.compiled.slow_is in
       let alone = a.compiled.both.slow_alone in
-      record { spelled = s.spelled; limits = s.limits; compiled = alone.firmware; wide = alone.narrow }
+      record { spelled = s.spelled; limits = s.limits; compiled = (alone.firmware, alone.narrow) }
 
   abbrev plain : List (RowSeen (List ℕ))
   plain = map (λ r. r.row) rows

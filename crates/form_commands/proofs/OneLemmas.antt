@@ -18,7 +18,8 @@ use Rattle.watched_runs.specs.Rows.{faults_of, upset_rows}
 use Rattle.mailbox_runs.specs.Runs.{run_under_posts}
 use Rattle.two_level_runs.specs.Rows.{two_seen}
 use Rattle.command_parts.specs.Certs.{AcceptedErrorsAreOne, AcceptsCert}
-use Rattle.command_parts.specs.Firmwares.{GivenFirmwaresAreOne, GivenMailboxesAreOne, GivenWatchedAreOne}
+use Rattle.command_parts.specs.Firmwares.{GivenFirmwaresAreOne}
+use Rattle.command_parts.specs.declared.firmware.Form.TheVariants.{Alone, Mailbox, Watched}
 use Rattle.command_parts.specs.{SeenOutputs.OutputsAreOne, SeenOutputs.only_text, Twos.GivenTwosAreOne}
 use Rattle.run_reports.specs.{Laws.SpelledInputsAreOne, PostedRun.run_of}
 use Rattle.run_reports.specs.declared.{files.HandledFiles.HandledFiles, files.LevelFiles.LevelFiles}
@@ -46,10 +47,10 @@ module _ (accepted : AcceptedErrorsAreOne) (inputs : SpelledInputsAreOne) where
   handled_once firmwares images alike hrun files output other a b =
       let p = a.certified in
       let q = b.certified in
-      let one = firmwares Byte files.fcl p.block q.block p.firmware q.firmware p.compiled q.compiled in
+      let one = firmwares (Alone Byte) files.fcl p.block q.block p.firmware q.firmware p.compiled q.compiled in
       let errors : a.report.errors ≡ b.report.errors =
-      errors_once p.block q.block files.inputs.cert a.report.errors b.report.errors one.0 p.compiled.spelled.valid p.accepted
-      q.accepted in
+      errors_once p.block q.block files.inputs.cert a.report.errors b.report.errors one.0 p.compiled.spelled.valid
+      p.accepted q.accepted in
       let bytes = bytes_once p.block q.block files.inputs.trace p.samples q.samples one.0 p.in_range q.in_range in
       let plan : p.plan ≡ q.plan = inputs.plans files.inputs.plan p.plan q.plan p.good_plan q.good_plan in
       let handlers = images files.handler p.handler q.handler p.handles.spelled q.handles.spelled in
@@ -63,15 +64,15 @@ module _ (accepted : AcceptedErrorsAreOne) (inputs : SpelledInputsAreOne) where
       ∙ (λ i. only_text (hrun_lines (record { errors = errors i; bound = bound i; rows = rows i })))
       ∙ sym b.output_is
 
-  pub watched_once : GivenWatchedAreOne → SpelledUpsetsAreOne → (srun : Srun) (files : WatchedFiles)
+  pub watched_once : GivenFirmwaresAreOne → SpelledUpsetsAreOne → (srun : Srun) (files : WatchedFiles)
       → OutputsAreOne (SrunMakes srun files)
   watched_once firmwares spelled srun files output other a b =
       let p = a.watched in
       let q = b.watched in
-      let one = firmwares files.fcl p.block q.block p.firmware q.firmware p.compiled q.compiled in
+      let one = firmwares Watched files.fcl p.block q.block p.firmware q.firmware p.compiled q.compiled in
       let errors : a.report.errors ≡ b.report.errors =
-      errors_once p.block q.block files.inputs.cert a.report.errors b.report.errors one.0 p.compiled.spelled.valid p.accepted
-      q.accepted in
+      errors_once p.block q.block files.inputs.cert a.report.errors b.report.errors one.0 p.compiled.spelled.valid
+      p.accepted q.accepted in
       let bytes = bytes_once p.block q.block files.inputs.trace p.samples q.samples one.0 p.in_range q.in_range in
       let plan : p.plan ≡ q.plan = inputs.plans files.inputs.plan p.plan q.plan p.good_plan q.good_plan in
       let upsets : p.upsets ≡ q.upsets =
@@ -90,14 +91,14 @@ module _ (accepted : AcceptedErrorsAreOne) (inputs : SpelledInputsAreOne) where
   count_once samples those same =
       omega (arith, length-map samples input_bytes, length-map those input_bytes, ap length same)
 
-  pub posted_once : GivenMailboxesAreOne → SpelledPostsAreOne → (mrun : Mrun) (files : PostedFiles)
+  pub posted_once : GivenFirmwaresAreOne → SpelledPostsAreOne → (mrun : Mrun) (files : PostedFiles)
       → OutputsAreOne (MrunMakes mrun files)
   posted_once firmwares spelled mrun files output other a b =
       let p = a.posted in
       let q = b.posted in
       let x = p.accepts in
       let y = q.accepts in
-      let one = firmwares files.fcl p.block q.block p.firmware q.firmware x.compiled y.compiled in
+      let one = firmwares Mailbox files.fcl p.block q.block p.firmware q.firmware x.compiled y.compiled in
       let errors : a.report.errors ≡ b.report.errors =
       errors_once p.block q.block files.cert a.report.errors b.report.errors one.0 x.compiled.spelled.valid x.accepted
       y.accepted in

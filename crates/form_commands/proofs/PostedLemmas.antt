@@ -28,8 +28,9 @@ use Rattle.run_reports.specs.Posted.{IsOneOf, PostedAnswersAreNear}
 use Rattle.fz_shelf.specs.Lines.{text_of}
 use Rattle.fz_status.specs.{Refusals.IsRefusal, declared.status.Status.Status}
 use Rattle.fz_status.specs.declared.status.Status.TheVariants as status
-use Rattle.command_parts.specs.{Certs.AcceptsCert, Firmwares.GivesMailbox, Lines.counted, Lines.line}
+use Rattle.command_parts.specs.{Certs.AcceptsCert, Firmwares.GivesFirmware, Lines.counted, Lines.line}
 use Rattle.command_parts.proofs.Algebra.{flat-map, of_seen, text_of-snoc, begun_items}
+use Rattle.command_parts.specs.declared.firmware.Form.TheVariants.{Mailbox}
 use Rattle.form_commands.specs.Mrun.{AcceptedPostedRunsMakeOutput, answer_line, mrun_lines, mrun_refusals}
 use Rattle.form_commands.specs.Mrun.{posted_report, posts_refusals, taken_line}
 use Rattle.run_reports.specs.PostedRun.{AcceptsPosted, PostedReport, PostedRun, answered_samples, run_of}
@@ -133,7 +134,7 @@ module _ (keep : AnswersKeepTheBound) (fit : SpelledBytesFit) (near : PostedAnsw
   report = posted_report errors firmware.instr_bound told frames resumed
 
   defined : AnswersUnderPosts block firmware flags bytes posts (run_under_posts firmware bytes posts flags)
-  defined = all block a.compiled.spelled.valid a.compiled.limits a.compiled.compiled
+  defined = all block a.compiled.spelled.valid a.compiled.limits a.compiled.compiled.0
       (fit block files.trace samples a.in_range)
 
   ran : run_of report ≡ run_under_posts firmware bytes posts flags
@@ -152,7 +153,7 @@ module _ (keep : AnswersKeepTheBound) (fit : SpelledBytesFit) (near : PostedAnsw
   under = subst (λ (r : RunSeen). AnswersUnderPosts block firmware flags bytes posts r) (sym ran) defined
 
   width : width_of firmware.wide ≡ Byte
-  width = ap width_of a.compiled.narrow
+  width = ap width_of a.compiled.compiled.1
 
   of_turns : answered_samples report ≡ samples_of under.turns
   of_turns =
@@ -189,7 +190,7 @@ module _ (keep : AnswersKeepTheBound) (fit : SpelledBytesFit) (near : PostedAnsw
     ran = ran;
     follows = under;
     last = last;
-    bound = a.compiled.compiled.instructions ∙ ap (λ (w : Width). mailbox_bound w block) width;
+    bound = a.compiled.compiled.0.instructions ∙ ap (λ (w : Width). mailbox_bound w block) width;
     instructions = of_seen (λ q. q.instructions ≤ firmware.instr_bound) answer_in told
         (keep Byte block firmware.instr_bound (λ o. 0) (map (bytes_of bytes) (answered_samples report))
         (map answer_in told) of_block);
@@ -202,7 +203,7 @@ module _ (keep : AnswersKeepTheBound) (fit : SpelledBytesFit) (near : PostedAnsw
 -- why posts are refused, all files before them being accepted
 pub refused_posts : (files : PostedFiles) (block : Block) (firmware : Firmware) (errors : List ℕ)
     (samples : List Sample) (s : Status)
-    → GivesMailbox files.fcl block firmware → GivesImage files.image firmware.image
+    → GivesFirmware Mailbox files.fcl block firmware → GivesImage files.image firmware.image
     → AcceptsCert Named Byte block files.cert errors → SpellsTrace block.inputs files.trace samples
     → IsRefusal (posts_refusals (length samples) files.posts) s → IsRefusal (mrun_refusals files) s
 refused_posts files block firmware errors samples status.Memory compiled image accepted in_range refused = tt

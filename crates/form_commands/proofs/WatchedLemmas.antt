@@ -16,7 +16,8 @@ use Rattle.watched_runs.specs.{Rows.FaultSeen, Rows.faults_of, Rows.upset_rows, 
 use Rattle.run_reports.specs.Faultless.{FaultlessAnswersAreNear}
 use Rattle.fz_status.specs.declared.status.Status.{Status}
 use Rattle.fz_status.specs.declared.status.Status.TheVariants as status
-use Rattle.command_parts.specs.Firmwares.{GivesWatched}
+use Rattle.command_parts.specs.Firmwares.{GivesFirmware}
+use Rattle.command_parts.specs.declared.firmware.Form.TheVariants as form
 use Rattle.run_reports.specs.{Inputs.AcceptsInputs, Inputs.input_refusals, Laws.SpelledBytesFit}
 use Rattle.run_reports.specs.{WatchedRun.WatchedRun, declared.files.WatchedFiles.WatchedFiles}
 use Rattle.form_commands.specs.Srun.{AcceptedWatchedRunsMakeOutput, AcceptsWatched, srun_refusals, upset_refusals}
@@ -71,8 +72,8 @@ watches near fit flags files block firmware errors samples slice plan upsets row
     under = all block a.compiled.spelled.valid a.compiled.limits a.compiled.compiled
         (fit block files.inputs.trace samples a.inputs.in_range)
 
-module _ (files : WatchedFiles) (block : Block) (firmware : Firmware) (gives : GivesWatched files.fcl block firmware)
-    (image : GivesImage files.image firmware.image) where
+module _ (files : WatchedFiles) (block : Block) (firmware : Firmware)
+    (gives : GivesFirmware form.Watched files.fcl block firmware) (image : GivesImage files.image firmware.image) where
   -- what refuses the files behind IMAGE refuses the run
   pub srun_refused : (s : Status) → input_refusals Named Byte block files.inputs s
       → srun_refusals files s

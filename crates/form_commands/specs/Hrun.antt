@@ -13,6 +13,7 @@ use Rattle.handled_runs.specs.Forms.{HandledSeen}
 use Rattle.command_parts.specs.{Contents.content_at, Firmwares.OfFirmware, Firmwares.RefusesText}
 use Rattle.command_parts.specs.{Handlers.GivesHandler, Handlers.handler_refusals, Lines.counted}
 use Rattle.command_parts.specs.SeenOutputs.{HasOutput, SeenOutput, only_text}
+use Rattle.command_parts.specs.declared.firmware.Form.TheVariants.{Alone}
 use Rattle.fz_status.specs.{Words.flags_of, declared.status.Status.Status, Refusals.Refusals, Refusals.Refuses}
 use Rattle.fz_status.specs.{Words.Text, Words.word_at}
 use Rattle.run_reports.specs.{Inputs.input_refusals, RowLines.begun_lines, RowLines.labelled_row_lines}
@@ -65,10 +66,10 @@ pub record HrunGives (hrun : Hrun) (files : HandledFiles) (output : SeenOutput) 
 abbrev pub hrun_refusals : HandledFiles → Refusals
 hrun_refusals files (status.Fcl f) = RefusesText files.fcl f
 hrun_refusals files (status.Image f) =
-    OfFirmware Byte files.fcl (λ block firmware. handler_refusals files.handler (status.Image f))
+    OfFirmware (Alone Byte) files.fcl (λ block firmware. handler_refusals files.handler (status.Image f))
 hrun_refusals files (status.Handler f) =
-    OfFirmware Byte files.fcl (λ block firmware. handler_refusals files.handler (status.Handler f))
-hrun_refusals files s = OfFirmware Byte files.fcl (λ block firmware.
+    OfFirmware (Alone Byte) files.fcl (λ block firmware. handler_refusals files.handler (status.Handler f))
+hrun_refusals files s = OfFirmware (Alone Byte) files.fcl (λ block firmware.
     (image : Image) × (instrs : ℕ) × GivesHandler files.handler image instrs
     × input_refusals Named Byte block files.inputs s)
 

@@ -17,9 +17,9 @@ use Rattle.fz_shelf.specs.Parts.{newline}
 use Rattle.fz_status.specs.{Refusals.Refusals, Refusals.Refuses, Words.Text, Words.word_at}
 use Rattle.fz_status.specs.declared.status.Status.{Status}
 use Rattle.fz_status.specs.declared.status.Status.TheVariants as status
-use Rattle.command_parts.specs.{Certs.AcceptsCert, Certs.HasCertFault, Contents.content_at, Firmwares.GivesMailbox}
+use Rattle.command_parts.specs.{Certs.AcceptsCert, Certs.HasCertFault, Contents.content_at, Firmwares.OfFirmware}
 use Rattle.command_parts.specs.{Firmwares.RefusesText, Images.RefusesImage}
-use Rattle.command_parts.specs.Lines.{counted, line}
+use Rattle.command_parts.specs.{Lines.counted, Lines.line, declared.firmware.Form.TheVariants.Mailbox}
 use Rattle.command_parts.specs.SeenOutputs.{HasOutput, SeenOutput, only_text}
 use Rattle.fz_status.specs.Words.{flags_of}
 use Rattle.run_reports.specs.PostedRun.{AcceptsPosted, PostedReport, PostedRun}
@@ -81,22 +81,19 @@ pub record MrunGives (mrun : Mrun) (files : PostedFiles) (output : SeenOutput) :
   pub posted : PostedRun mrun.flags files report
   pub output_is : output ≡ only_text (mrun_lines report)
 
--- FCL gives firmware in the mailbox form of which this holds
-abbrev pub OfMailbox : List ℕ → (Block → Firmware → Type 0) → Type 0
-OfMailbox fcl holds = (block : Block) × (firmware : Firmware) × GivesMailbox fcl block firmware × holds block firmware
-
 -- why a certificate is refused, FCL giving firmware whose image is IMAGE's; why a trace is, the certificate being
 -- accepted beside; and why posts are, the trace spelling samples beside
 abbrev pub mrun_refusals : PostedFiles → Refusals
 mrun_refusals files (status.Fcl f) = RefusesText files.fcl f
-mrun_refusals files (status.Image f) = OfMailbox files.fcl (λ block firmware. RefusesImage files.image firmware.image f)
-mrun_refusals files (status.Cert f) = OfMailbox files.fcl (λ block firmware.
+mrun_refusals files (status.Image f) =
+    OfFirmware Mailbox files.fcl (λ block firmware. RefusesImage files.image firmware.image f)
+mrun_refusals files (status.Cert f) = OfFirmware Mailbox files.fcl (λ block firmware.
     GivesImage files.image firmware.image × HasCertFault Named Byte block files.cert f)
-mrun_refusals files (status.Trace f) = OfMailbox files.fcl (λ block firmware.
+mrun_refusals files (status.Trace f) = OfFirmware Mailbox files.fcl (λ block firmware.
     GivesImage files.image firmware.image
     × (errors : List ℕ) × AcceptsCert Named Byte block files.cert errors
     × TraceHasFault block.inputs files.trace f)
-mrun_refusals files (status.Plan f) = OfMailbox files.fcl (λ block firmware.
+mrun_refusals files (status.Plan f) = OfFirmware Mailbox files.fcl (λ block firmware.
     GivesImage files.image firmware.image
     × (errors : List ℕ) × AcceptsCert Named Byte block files.cert errors
     × (samples : List Sample) × SpellsTrace block.inputs files.trace samples

@@ -15,7 +15,8 @@ use Rattle.fz_status.specs.declared.status.Status.{Status}
 use Rattle.fz_status.specs.declared.status.Status.TheVariants as status
 use Rattle.command_parts.specs.{Contents.content_at, Images.RefusesImage, Lines.counted}
 use Rattle.command_parts.specs.SeenOutputs.{HasOutput, SeenOutput, only_text}
-use Rattle.command_parts.specs.Firmwares.{GivesWatched, RefusesText}
+use Rattle.command_parts.specs.Firmwares.{GivesFirmware, OfFirmware, RefusesText}
+use Rattle.command_parts.specs.declared.firmware.Form.TheVariants.{Watched}
 use Rattle.fz_status.specs.Words.{flags_of}
 use Rattle.run_reports.specs.Inputs.{AcceptsInputs, input_refusals}
 use Rattle.run_reports.specs.RowLines.{begun_lines, labelled_row_lines}
@@ -60,7 +61,7 @@ srun_lines r = begun_lines r.errors r.bound ++ counted watched_row_lines 1 r.row
 -- all are accepted, and give this
 pub record AcceptsWatched (files : WatchedFiles) (block : Block) (firmware : Firmware) (errors : List ℕ)
     (samples : List Sample) (plan : List Request) (upsets : List Upset) : Type 0 where
-  pub compiled : GivesWatched files.fcl block firmware
+  pub compiled : GivesFirmware Watched files.fcl block firmware
   pub image : GivesImage files.image firmware.image
   pub inputs : AcceptsInputs Named Byte block files.inputs errors samples plan
   pub good_upsets : SpellsUpsets firmware.image.bytes files.upsets upsets
@@ -71,21 +72,18 @@ pub record SrunGives (srun : Srun) (files : WatchedFiles) (output : SeenOutput) 
   pub watched : WatchedRun srun.flags files report
   pub output_is : output ≡ only_text (srun_lines report)
 
--- FCL gives firmware with watched tables of which this holds
-abbrev pub OfWatched : List ℕ → (Block → Firmware → Type 0) → Type 0
-OfWatched fcl holds = (block : Block) × (firmware : Firmware) × GivesWatched fcl block firmware × holds block firmware
-
 -- why FCL is refused; why IMAGE is, FCL giving firmware; why upsets are, all other files being accepted; and why the
 -- files between are, IMAGE holding its image
 abbrev pub srun_refusals : WatchedFiles → Refusals
 srun_refusals files (status.Fcl f) = RefusesText files.fcl f
-srun_refusals files (status.Image f) = OfWatched files.fcl (λ block firmware. RefusesImage files.image firmware.image f)
-srun_refusals files (status.Upset f) = OfWatched files.fcl (λ block firmware.
+srun_refusals files (status.Image f) =
+    OfFirmware Watched files.fcl (λ block firmware. RefusesImage files.image firmware.image f)
+srun_refusals files (status.Upset f) = OfFirmware Watched files.fcl (λ block firmware.
     GivesImage files.image firmware.image
     × (errors : List ℕ) × (samples : List Sample) × (plan : List Request)
     × AcceptsInputs Named Byte block files.inputs errors samples plan
     × HasUpsetFault firmware.image.bytes files.upsets f)
-srun_refusals files s = OfWatched files.fcl (λ block firmware.
+srun_refusals files s = OfFirmware Watched files.fcl (λ block firmware.
     GivesImage files.image firmware.image × input_refusals Named Byte block files.inputs s)
 
 -- why a text gives no upsets of an image

@@ -18,7 +18,7 @@ use byte_scaling::Width;
 use command_parts::certs::accepted_errors_are_one;
 use command_parts::contents::Content;
 use command_parts::firmware::{
-    Compiled, firmware_of, given_firmwares_are_one, spelled_texts_have_no_fault,
+    Compiled, Form, firmware_of, given_firmwares_are_one, spelled_texts_have_no_fault,
 };
 use command_parts::handlers::{AcceptedHandler, given_handlers_have_no_fault, handler_of};
 use command_parts::output::Output;
@@ -108,7 +108,7 @@ impl Hrun {
             a.inputs.samples.items a.inputs.plan) }
         ensures fault { IfErr result (IsRefusal (hrun_refusals files.now)) }
     {
-        let compiled = firmware_of(alloc, Width::Byte, &files.fcl)?;
+        let compiled = firmware_of(alloc, Form::Alone(Width::Byte), &files.fcl)?;
         let handler = handler_of(alloc, &files.handler)?;
         let inputs = inputs_of(
             alloc,

@@ -16,9 +16,7 @@ use crate::level_lines::lines;
 use alone_runs::laws::answers_under_plans;
 use box_tree::CertKind;
 use byte_scaling::Width;
-use command_parts::certs::{
-    accepted_certs_have_no_fault, accepted_errors_are_one, errors_under,
-};
+use command_parts::certs::{accepted_certs_have_no_fault, accepted_errors_are_one, errors_under};
 use command_parts::contents::Content;
 use command_parts::firmware::spelled_texts_have_no_fault;
 use command_parts::images::{given_images_have_no_fault, require_image};

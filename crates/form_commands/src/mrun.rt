@@ -14,12 +14,10 @@ ghost use Rattle.run_reports.specs.{PostedRun.AcceptsPosted, declared.files.Post
 use crate::posted_lines::lines;
 use box_tree::CertKind;
 use byte_scaling::Width;
-use command_parts::certs::{
-    accepted_certs_have_no_fault, accepted_errors_are_one, errors_under,
-};
+use command_parts::certs::{accepted_certs_have_no_fault, accepted_errors_are_one, errors_under};
 use command_parts::contents::Content;
 use command_parts::firmware::{
-    Compiled, given_mailboxes_are_one, mailbox_of, spelled_texts_have_no_fault,
+    Compiled, Form, firmware_of, given_firmwares_are_one, spelled_texts_have_no_fault,
 };
 use command_parts::images::{given_images_have_no_fault, require_image};
 use command_parts::output::Output;
@@ -80,7 +78,7 @@ impl Accepted {
         ensures fault { IfErr result (IsRefusal (mrun_refusals files.now)) }
     {
         spelled_traces_are_short();
-        let compiled = mailbox_of(alloc, &files.fcl)?;
+        let compiled = firmware_of(alloc, Form::Mailbox, &files.fcl)?;
         require_image(alloc, &files.image, &compiled.firmware.image)?;
         let errors = errors_under(
             alloc,
@@ -149,7 +147,7 @@ pub fn posted_runs_have_no_fault()
     ensures { (mrun : TheMrun) (files : PostedFiles) → OutputHasNoFault (MrunMakes mrun files) }
 {
     spelled_texts_have_no_fault();
-    given_mailboxes_are_one();
+    given_firmwares_are_one();
     given_images_have_no_fault();
     accepted_certs_have_no_fault();
     spelled_traces_have_no_fault();
@@ -174,6 +172,6 @@ pub fn mrun_outputs_are_one()
 {
     accepted_errors_are_one();
     spelled_inputs_are_one();
-    given_mailboxes_are_one();
+    given_firmwares_are_one();
     spelled_entries_are_one()
 }

@@ -19,7 +19,7 @@ use byte_scaling::Width;
 use command_parts::certs::accepted_errors_are_one;
 use command_parts::contents::Content;
 use command_parts::firmware::{
-    Compiled, given_watched_are_one, spelled_texts_have_no_fault, watched_firmware_of,
+    Compiled, Form, firmware_of, given_firmwares_are_one, spelled_texts_have_no_fault,
 };
 use command_parts::images::{given_images_have_no_fault, require_image};
 use command_parts::output::Output;
@@ -80,7 +80,7 @@ impl Accepted {
             a.compiled.block a.compiled.firmware a.inputs.errors.items a.inputs.samples.items a.inputs.plan a.upsets) }
         ensures fault { IfErr result (IsRefusal (srun_refusals files.now)) }
     {
-        let compiled = watched_firmware_of(alloc, &files.fcl)?;
+        let compiled = firmware_of(alloc, Form::Watched, &files.fcl)?;
         require_image(alloc, &files.image, &compiled.firmware.image)?;
         let inputs = inputs_of(
             alloc,
@@ -164,7 +164,7 @@ pub fn watched_runs_have_no_fault()
     ensures { (srun : TheSrun) (files : WatchedFiles) → OutputHasNoFault (SrunMakes srun files) }
 {
     spelled_texts_have_no_fault();
-    given_watched_are_one();
+    given_firmwares_are_one();
     given_images_have_no_fault();
     accepted_inputs_have_no_fault();
     spelled_upsets_have_no_fault()
@@ -185,6 +185,6 @@ pub fn srun_outputs_are_one()
 {
     accepted_errors_are_one();
     spelled_inputs_are_one();
-    given_watched_are_one();
+    given_firmwares_are_one();
     spelled_entries_are_one()
 }

@@ -1,5 +1,4 @@
 -- Contents that commands accept make an output.
-use Rattle.std.proofs.Common.{◌<◌, ◌^◌, ℕ, List}
 use Rattle.build_commands.specs.Accepted.{AcceptedContentsMakeOutput}
 use Rattle.command_parts.specs.Contents.{content_at}
 use Rattle.run_commands.specs.Debug.{AcceptedDebugRunsMakeOutput, debug_files}
@@ -30,10 +29,8 @@ module _ (contents_make : AcceptedContentsMakeOutput) (debug_runs : AcceptedDebu
   commands_made command.Lcompile contents byte a =
       contents_make.lcompile (content_at contents 0) (content_at contents 1) a
   commands_made (command.Lrun lrun) contents byte a = level_runs lrun (level_files contents) byte a
-  commands_made command.Mcompile contents byte a = contents_make.mcompile (content_at contents 0) a
   commands_made (command.Mrun mrun) contents byte a = posted_runs mrun (posted_files contents) byte a
   commands_made (command.Run run) contents byte (block, firmware, errors, samples, plan, a) =
       let made = runs run (files_in contents) block firmware errors samples plan byte a in
       (made.0, made.1)
-  commands_made command.Scompile contents byte a = contents_make.scompile (content_at contents 0) a
   commands_made (command.Srun srun) contents byte a = watched_runs srun (watched_files contents) byte a

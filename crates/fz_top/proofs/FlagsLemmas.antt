@@ -12,8 +12,7 @@ use Rattle.form_commands.specs.{Hrun.hrun_with, Lrun.lrun_with, Mrun.mrun_with, 
 use Rattle.fz_top.specs.{Accepted.run_flags, Commands.command_in, Commands.form_of, Commands.name_in}
 use Rattle.fz_top.specs.declared.{command.Command.Command, command.Name.Name}
 use Rattle.fz_top.specs.declared.command.Command.TheVariants.{Asm, Certify, Check, Compile, Debug, Exec, Generate}
-use Rattle.fz_top.specs.declared.command.Command.TheVariants.{Hcheck, Hrun, Lcompile, Lrun, Mcompile, Mrun, Run}
-use Rattle.fz_top.specs.declared.command.Command.TheVariants.{Scompile, Srun}
+use Rattle.fz_top.specs.declared.command.Command.TheVariants.{Hcheck, Hrun, Lcompile, Lrun, Mrun, Run, Srun}
 use Rattle.fz_top.specs.declared.command.Name.TheVariants as name
 
 digit_small : (c v : ℕ) → hex_digit_value c ≡ Some v → v < 16
@@ -92,7 +91,7 @@ byte_form name.Asm words command is = alone Asm command refl is
 byte_form (name.Certify kind width) words command is =
     without Certify (certify_in kind width words) command (λ c. refl) is
 byte_form (name.Check kind width) words command is = alone (Check (check_in kind width)) command refl is
-byte_form (name.Compile width) words command is = alone (Compile (compile_in width)) command refl is
+byte_form (name.Compile form) words command is = alone (Compile (compile_in form)) command refl is
 byte_form name.Debug words command is = of_flags Debug debug_with (word_at words 6) command (λ n. refl) is
 byte_form name.Exec words command is = without Exec (exec_in words) command (λ c. refl) is
 byte_form name.Generate words command is = without Generate (generate_in words) command (λ c. refl) is
@@ -100,11 +99,9 @@ byte_form name.Hcheck words command is = alone Hcheck command refl is
 byte_form name.Hrun words command is = of_flags Hrun hrun_with (word_at words 7) command (λ n. refl) is
 byte_form name.Lcompile words command is = alone Lcompile command refl is
 byte_form name.Lrun words command is = of_flags Lrun lrun_with (word_at words 10) command (λ n. refl) is
-byte_form name.Mcompile words command is = alone Mcompile command refl is
 byte_form name.Mrun words command is = of_flags Mrun mrun_with (word_at words 7) command (λ n. refl) is
 byte_form (name.Run kind width) words command is =
     of_flags Run (run_with kind width) (word_at words 7) command (λ n. refl) is
-byte_form name.Scompile words command is = alone Scompile command refl is
 byte_form name.Srun words command is = of_flags Srun srun_with (word_at words 8) command (λ n. refl) is
 
 pub byte_flags : (words : List Text) (command : Command) → command_in words ≡ Some command → run_flags command < 2 ^ 8

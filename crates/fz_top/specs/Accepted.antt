@@ -2,17 +2,15 @@
 -- Beside the promise.
 use Rattle.std.specs.Prelude.{◌<◌, ◌^◌, ℕ, List}
 use Rattle.build_commands.specs.{Asm.AsmAccepts, Certify.CertifyAccepts, Check.CheckAccepts, Compile.CompileAccepts}
-use Rattle.build_commands.specs.{Lcompile.LcompileAccepts, Mcompile.McompileAccepts, Scompile.ScompileAccepts}
+use Rattle.build_commands.specs.{Lcompile.LcompileAccepts, Exec.ExecAccepts, Hcheck.HcheckAccepts}
 use Rattle.command_parts.specs.{Contents.content_at, SeenOutputs.HasOutput, SeenOutputs.OutputsAreOne}
-use Rattle.build_commands.specs.{Exec.ExecAccepts, Hcheck.HcheckAccepts}
 use Rattle.run_commands.specs.{Debug.DebugAccepts, Debug.debug_files, Generate.GenerateAccepts}
 use Rattle.run_commands.specs.Run.{RunAccepts, files_in}
 use Rattle.form_commands.specs.{Hrun.HrunAccepts, Hrun.handled_files, Lrun.LrunAccepts, Lrun.level_files}
 use Rattle.form_commands.specs.{Mrun.MrunAccepts, Mrun.posted_files, Srun.SrunAccepts, Srun.watched_files}
 use Rattle.fz_top.specs.{Commands.Makes, declared.command.Command.Command}
 use Rattle.fz_top.specs.declared.command.Command.TheVariants.{Asm, Certify, Check, Compile, Debug, Exec, Generate}
-use Rattle.fz_top.specs.declared.command.Command.TheVariants.{Hcheck, Hrun, Lcompile, Lrun, Mcompile, Mrun, Run}
-use Rattle.fz_top.specs.declared.command.Command.TheVariants.{Scompile, Srun}
+use Rattle.fz_top.specs.declared.command.Command.TheVariants.{Hcheck, Hrun, Lcompile, Lrun, Mrun, Run, Srun}
 
 -- the contents of a command's files, in order, are accepted
 unfoldable pub Accepts : Command → List (List ℕ) → Type 0
@@ -27,10 +25,8 @@ Accepts Hcheck contents = HcheckAccepts (content_at contents 0)
 Accepts (Hrun hrun) contents = HrunAccepts (handled_files contents)
 Accepts Lcompile contents = LcompileAccepts (content_at contents 0) (content_at contents 1)
 Accepts (Lrun lrun) contents = LrunAccepts (level_files contents)
-Accepts Mcompile contents = McompileAccepts (content_at contents 0)
 Accepts (Mrun mrun) contents = MrunAccepts (posted_files contents)
 Accepts (Run run) contents = RunAccepts run (files_in contents)
-Accepts Scompile contents = ScompileAccepts (content_at contents 0)
 Accepts (Srun srun) contents = SrunAccepts (watched_files contents)
 
 -- the condition codes that a command's run of firmware leaves open

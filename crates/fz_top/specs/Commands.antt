@@ -6,13 +6,13 @@ use Rattle.fz_words.specs.{App.IsRefused, Table.Row, Table.row, Table.command_in
 use Rattle.box_tree.specs.declared.cert.CertKind.TheVariants.{Named, Tight}
 use Rattle.byte_scaling.specs.declared.width.Width.TheVariants.{Byte, Word}
 use Rattle.build_commands.specs.{Asm.AsmMakes, Asm.asm_inputs, Hcheck.HcheckMakes, Hcheck.hcheck_inputs}
+use Rattle.build_commands.specs.{Lcompile.LcompileMakes, Lcompile.lcompile_inputs}
 use Rattle.build_commands.specs.Certify.{CertifyMakes, certify_in, certify_inputs}
 use Rattle.build_commands.specs.Check.{CheckMakes, check_in, check_inputs}
 use Rattle.build_commands.specs.Compile.{CompileMakes, compile_in, compile_inputs}
 use Rattle.build_commands.specs.Exec.{ExecMakes, exec_in, exec_inputs}
-use Rattle.build_commands.specs.Scompile.{ScompileMakes, scompile_inputs}
 use Rattle.command_parts.specs.{SeenOutputs.SeenOutput, Contents.content_at}
-use Rattle.build_commands.specs.{Lcompile.LcompileMakes, Lcompile.lcompile_inputs, Mcompile.McompileMakes}
+use Rattle.command_parts.specs.declared.firmware.Form.TheVariants.{Alone, Mailbox, Watched}
 use Rattle.run_commands.specs.Debug.{DebugMakes, debug_files, debug_in, debug_inputs}
 use Rattle.run_commands.specs.Generate.{GenerateMakes, generate_in, generate_inputs}
 use Rattle.run_commands.specs.Run.{RunMakes, files_in, run_in, run_inputs}
@@ -23,8 +23,7 @@ use Rattle.form_commands.specs.Srun.{SrunMakes, srun_in, srun_inputs, watched_fi
 use Rattle.fz_status.specs.Words.{Text}
 use Rattle.fz_top.specs.declared.{command.Command.Command, command.Name.Name}
 use Rattle.fz_top.specs.declared.command.Command.TheVariants.{Asm, Certify, Check, Compile, Debug, Exec, Generate}
-use Rattle.fz_top.specs.declared.command.Command.TheVariants.{Hcheck, Hrun, Lcompile, Lrun, Mcompile, Mrun, Run}
-use Rattle.fz_top.specs.declared.command.Command.TheVariants.{Scompile, Srun}
+use Rattle.fz_top.specs.declared.command.Command.TheVariants.{Hcheck, Hrun, Lcompile, Lrun, Mrun, Run, Srun}
 use Rattle.fz_top.specs.declared.command.Name.TheVariants as name
 use Rattle.fz_status.specs.declared.status.Status.{Status}
 
@@ -33,13 +32,13 @@ unfoldable pub table : List (Row Name)
 table = row (codes "asm") 2 name.Asm ∷ row (codes "certify") 3 (name.Certify Named Byte)
     ∷ row (codes "certify16") 3 (name.Certify Named Word)
     ∷ row (codes "check") 2 (name.Check Named Byte) ∷ row (codes "check16") 2 (name.Check Named Word)
-    ∷ row (codes "compile") 2 (name.Compile Byte) ∷ row (codes "compile16") 2 (name.Compile Word)
+    ∷ row (codes "compile") 2 (name.Compile (Alone Byte)) ∷ row (codes "compile16") 2 (name.Compile (Alone Word))
     ∷ row (codes "debug") 6 name.Debug ∷ row (codes "exec") 3 name.Exec ∷ row (codes "gen") 1 name.Generate
     ∷ row (codes "hcheck") 1 name.Hcheck ∷ row (codes "hrun") 6 name.Hrun
     ∷ row (codes "lcompile") 3 name.Lcompile ∷ row (codes "lrun") 9 name.Lrun
-    ∷ row (codes "mcompile") 2 name.Mcompile ∷ row (codes "mrun") 6 name.Mrun
+    ∷ row (codes "mcompile") 2 (name.Compile Mailbox) ∷ row (codes "mrun") 6 name.Mrun
     ∷ row (codes "run") 6 (name.Run Named Byte) ∷ row (codes "run16") 6 (name.Run Named Word)
-    ∷ row (codes "scompile") 2 name.Scompile ∷ row (codes "srun") 7 name.Srun
+    ∷ row (codes "scompile") 2 (name.Compile Watched) ∷ row (codes "srun") 7 name.Srun
     ∷ row (codes "tcertify") 3 (name.Certify Tight Byte) ∷ row (codes "tcertify16") 3 (name.Certify Tight Word)
     ∷ row (codes "tcheck") 2 (name.Check Tight Byte) ∷ row (codes "tcheck16") 2 (name.Check Tight Word)
     ∷ row (codes "trun") 6 (name.Run Tight Byte) ∷ row (codes "trun16") 6 (name.Run Tight Word) ∷ []
@@ -49,7 +48,7 @@ unfoldable pub form_of : Name → List Text → Option Command
 form_of name.Asm words = Some Asm
 form_of (name.Certify kind width) words = option_map Certify (certify_in kind width words)
 form_of (name.Check kind width) words = Some (Check (check_in kind width))
-form_of (name.Compile width) words = Some (Compile (compile_in width))
+form_of (name.Compile form) words = Some (Compile (compile_in form))
 form_of name.Debug words = option_map Debug (debug_in words)
 form_of name.Exec words = option_map Exec (exec_in words)
 form_of name.Generate words = option_map Generate (generate_in words)
@@ -57,10 +56,8 @@ form_of name.Hcheck words = Some Hcheck
 form_of name.Hrun words = option_map Hrun (hrun_in words)
 form_of name.Lcompile words = Some Lcompile
 form_of name.Lrun words = option_map Lrun (lrun_in words)
-form_of name.Mcompile words = Some Mcompile
 form_of name.Mrun words = option_map Mrun (mrun_in words)
 form_of (name.Run kind width) words = option_map Run (run_in kind width words)
-form_of name.Scompile words = Some Scompile
 form_of name.Srun words = option_map Srun (srun_in words)
 
 -- the words that name the files to read, in order
@@ -76,10 +73,8 @@ inputs_of Hcheck = hcheck_inputs
 inputs_of (Hrun hrun) = hrun_inputs
 inputs_of Lcompile = lcompile_inputs
 inputs_of (Lrun lrun) = lrun_inputs
-inputs_of Mcompile = compile_inputs
 inputs_of (Mrun mrun) = mrun_inputs
 inputs_of (Run run) = run_inputs
-inputs_of Scompile = scompile_inputs
 inputs_of (Srun srun) = srun_inputs
 
 -- what the command makes of the contents of its files
@@ -95,10 +90,8 @@ Makes Hcheck contents r = HcheckMakes (content_at contents 0) r
 Makes (Hrun hrun) contents r = HrunMakes hrun (handled_files contents) r
 Makes Lcompile contents r = LcompileMakes (content_at contents 0) (content_at contents 1) r
 Makes (Lrun lrun) contents r = LrunMakes lrun (level_files contents) r
-Makes Mcompile contents r = McompileMakes (content_at contents 0) r
 Makes (Mrun mrun) contents r = MrunMakes mrun (posted_files contents) r
 Makes (Run run) contents r = RunMakes run (files_in contents) r
-Makes Scompile contents r = ScompileMakes (content_at contents 0) r
 Makes (Srun srun) contents r = SrunMakes srun (watched_files contents) r
 
 abbrev pub name_in : List Text → Option Name

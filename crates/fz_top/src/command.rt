@@ -15,9 +15,10 @@ use build_commands::certify::{self, Certify};
 use build_commands::check::{self, Check};
 use build_commands::compile::{self, Compile};
 use build_commands::exec::{self, Exec};
-use build_commands::{asm, hcheck, lcompile, mcompile, scompile};
+use build_commands::{asm, hcheck, lcompile};
 use byte_scaling::Width::{self, Byte, Word};
 use command_parts::contents::Content;
+use command_parts::firmware::Form::{self, Alone, Mailbox, Watched};
 use command_parts::output::Output;
 use form_commands::hrun::{self, Hrun};
 use form_commands::lrun::{self, Lrun};
@@ -36,7 +37,7 @@ pub(crate) enum Name {
     Asm,
     Certify(CertKind, Width),
     Check(CertKind, Width),
-    Compile(Width),
+    Compile(Form),
     Debug,
     Exec,
     Generate,
@@ -44,10 +45,8 @@ pub(crate) enum Name {
     Hrun,
     Lcompile,
     Lrun,
-    Mcompile,
     Mrun,
     Run(CertKind, Width),
-    Scompile,
     Srun,
 }
 
@@ -58,8 +57,8 @@ static COMMANDS: [(&str, usize, Name); 26] = [
     ("certify16", 3, Name::Certify(Named, Word)),
     ("check", 2, Name::Check(Named, Byte)),
     ("check16", 2, Name::Check(Named, Word)),
-    ("compile", 2, Name::Compile(Byte)),
-    ("compile16", 2, Name::Compile(Word)),
+    ("compile", 2, Name::Compile(Alone(Byte))),
+    ("compile16", 2, Name::Compile(Alone(Word))),
     ("debug", 6, Name::Debug),
     ("exec", 3, Name::Exec),
     ("gen", 1, Name::Generate),
@@ -67,11 +66,11 @@ static COMMANDS: [(&str, usize, Name); 26] = [
     ("hrun", 6, Name::Hrun),
     ("lcompile", 3, Name::Lcompile),
     ("lrun", 9, Name::Lrun),
-    ("mcompile", 2, Name::Mcompile),
+    ("mcompile", 2, Name::Compile(Mailbox)),
     ("mrun", 6, Name::Mrun),
     ("run", 6, Name::Run(Named, Byte)),
     ("run16", 6, Name::Run(Named, Word)),
-    ("scompile", 2, Name::Scompile),
+    ("scompile", 2, Name::Compile(Watched)),
     ("srun", 7, Name::Srun),
     ("tcertify", 3, Name::Certify(Tight, Byte)),
     ("tcertify16", 3, Name::Certify(Tight, Word)),
@@ -90,7 +89,7 @@ pub enum Command {
     Certify(Certify),
     /// `check FCL CERT`, `check16 ..`, `tcheck ..` and `tcheck16 ..`
     Check(Check),
-    /// `compile FCL OUT`, and `compile16 FCL OUT`
+    /// `compile FCL OUT`, `compile16 ..`, `mcompile ..` and `scompile ..`
     Compile(Compile),
     /// `debug FCL IMAGE TRACE PLAN FLAGS SCRIPT`
     Debug(DebugRun),
@@ -106,14 +105,10 @@ pub enum Command {
     Lcompile,
     /// `lrun SLOW FAST IMAGE SCERT FCERT STRACE FTRACE LEVELS FLAGS`
     Lrun(Lrun),
-    /// `mcompile FCL OUT`
-    Mcompile,
     /// `mrun FCL IMAGE CERT TRACE POSTS FLAGS`
     Mrun(Mrun),
     /// `run FCL IMAGE CERT TRACE PLAN FLAGS`, `run16 ..`, `trun ..` and `trun16 ..`
     Run(Run),
-    /// `scompile FCL OUT`
-    Scompile,
     /// `srun FCL IMAGE CERT TRACE PLAN UPSETS FLAGS`
     Srun(Srun),
 }
@@ -127,7 +122,7 @@ fn formed(name: Name, words: &[String]) -> Option<Command>
         Name::Asm => Some(Command::Asm),
         Name::Certify(kind, width) => Certify::of(kind, width, words).map(Command::Certify),
         Name::Check(kind, width) => Some(Command::Check(Check { kind, width })),
-        Name::Compile(width) => Some(Command::Compile(Compile { width })),
+        Name::Compile(form) => Some(Command::Compile(Compile { form })),
         Name::Debug => DebugRun::of(words).map(Command::Debug),
         Name::Exec => Exec::of(words).map(Command::Exec),
         Name::Generate => Generate::of(words).map(Command::Generate),
@@ -135,10 +130,8 @@ fn formed(name: Name, words: &[String]) -> Option<Command>
         Name::Hrun => Hrun::of(words).map(Command::Hrun),
         Name::Lcompile => Some(Command::Lcompile),
         Name::Lrun => Lrun::of(words).map(Command::Lrun),
-        Name::Mcompile => Some(Command::Mcompile),
         Name::Mrun => Mrun::of(words).map(Command::Mrun),
         Name::Run(kind, width) => Run::of(kind, width, words).map(Command::Run),
-        Name::Scompile => Some(Command::Scompile),
         Name::Srun => Srun::of(words).map(Command::Srun),
     }
 }
@@ -161,10 +154,8 @@ impl Command {
             Command::Hrun(_) => hrun::INPUTS.as_slice(),
             Command::Lcompile => lcompile::INPUTS.as_slice(),
             Command::Lrun(_) => lrun::INPUTS.as_slice(),
-            Command::Mcompile => compile::INPUTS.as_slice(),
             Command::Mrun(_) => mrun::INPUTS.as_slice(),
             Command::Run(_) => run::INPUTS.as_slice(),
-            Command::Scompile => scompile::INPUTS.as_slice(),
             Command::Srun(_) => srun::INPUTS.as_slice(),
         }
     }
@@ -189,10 +180,8 @@ impl Command {
             Command::Hrun(hrun) => hrun.work(alloc, &hrun::files_of(contents)),
             Command::Lcompile => lcompile::work(alloc, &first, &second),
             Command::Lrun(lrun) => lrun.work(alloc, &lrun::files_of(contents)),
-            Command::Mcompile => mcompile::work(alloc, &first),
             Command::Mrun(mrun) => mrun.work(alloc, &mrun::files_of(contents)),
             Command::Run(run) => run.work(alloc, &run::files_of(contents)),
-            Command::Scompile => scompile::work(alloc, &first),
             Command::Srun(srun) => srun.work(alloc, &srun::files_of(contents)),
         }
     }

@@ -10,8 +10,6 @@ use build_commands::exec::ended_runs_have_no_fault;
 use build_commands::hcheck::checked_handlers_have_no_fault;
 use build_commands::laws::{accepted_contents_make_output, contents_make_one_output};
 use build_commands::lcompile::two_texts_have_no_fault;
-use build_commands::mcompile::mailbox_texts_have_no_fault;
-use build_commands::scompile::watched_texts_have_no_fault;
 use form_commands::hrun::{
     accepted_handled_runs_make_output, handled_runs_have_no_fault, hrun_outputs_are_one,
 };
@@ -49,10 +47,8 @@ pub(crate) fn outputs_have_no_fault()
     handled_runs_have_no_fault();
     two_texts_have_no_fault();
     level_runs_have_no_fault();
-    mailbox_texts_have_no_fault();
     posted_runs_have_no_fault();
     certified_runs_have_no_fault();
-    watched_texts_have_no_fault();
     watched_runs_have_no_fault()
 }
 

@@ -40,8 +40,7 @@ accepts kind width files a = record {
   compiled = record {
     spelled = a.spelled;
     limits = a.limits;
-    compiled = is_firmware width a.block a.image a.image_is;
-    wide = refl;
+    compiled = (is_firmware width a.block a.image a.image_is, refl);
   };
   image = a.records;
   inputs = record { accepted = a.accepted; in_range = a.in_range; good_plan = a.good_plan };

@@ -16,18 +16,19 @@ use Rattle.promise.proofs.BenchLemmas.{read_off_expected}
 generated : AnswersServe → GeneratedRunsServe
 generated keep number output g =
     keep Byte 0 g.block g.firmware (map input_bytes g.samples) g.requests g.report.rows (omega arith)
-    g.gives.spelled.valid g.gives.limits g.gives.compiled g.gives.wide g.reported.ran g.reported.follows
+    g.gives.spelled.valid g.gives.limits g.gives.compiled.0 g.gives.compiled.1 g.reported.ran g.reported.follows
 
 debugged : AnswersServe → DebuggedRunsServe
 debugged keep debug files output d byte =
     keep Byte debug.flags d.block d.firmware (map input_bytes d.samples) d.plan d.rows byte
-    d.accepts.compiled.spelled.valid d.accepts.compiled.limits d.accepts.compiled.compiled d.accepts.compiled.wide d.ran
-    d.follows
+    d.accepts.compiled.spelled.valid d.accepts.compiled.limits d.accepts.compiled.compiled.0
+    d.accepts.compiled.compiled.1 d.ran d.follows
 
 handled : AnswersServe → HandledRunsServe
 handled keep flags files report h byte = record {
   serves = keep Byte flags h.block h.firmware (map input_bytes h.samples) h.plan (map (λ row. row.row) report.rows) byte
-      h.compiled.spelled.valid h.compiled.limits h.compiled.compiled h.compiled.wide h.reported.ran h.reported.follows;
+      h.compiled.spelled.valid h.compiled.limits h.compiled.compiled.0 h.compiled.compiled.1 h.reported.ran
+      h.reported.follows;
   last = _;
   ran = record {
     most = h.firmware.step_bound;

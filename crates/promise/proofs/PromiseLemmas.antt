@@ -110,7 +110,8 @@ certified_keep answers one arrives few kind width flags files report r byte = re
   plan = r.plan;
   free_writes = r.good_plan;
   serves = served answers one arrives width flags r.block r.firmware (map input_bytes r.samples) r.plan report.rows byte
-      r.compiled.spelled.valid r.compiled.limits r.compiled.compiled r.compiled.wide r.reported.ran r.reported.follows;
+      r.compiled.spelled.valid r.compiled.limits r.compiled.compiled.0 r.compiled.compiled.1 r.reported.ran
+      r.reported.follows;
   within = r.reported.within;
   instructions = r.reported.instructions;
   printable = record {

@@ -10,7 +10,7 @@ use Rattle.alone_runs.specs.{Answering.AnswersItsBlock, Answering.AnswersUnderPl
 use Rattle.srecord.specs.Texts.{GivesImage}
 use Rattle.fz_status.specs.declared.status.Status.{Status}
 use Rattle.fz_status.specs.declared.status.Status.TheVariants as status
-use Rattle.command_parts.specs.Firmwares.{GivesFirmware}
+use Rattle.command_parts.specs.{Firmwares.GivesFirmware, declared.firmware.Form.TheVariants.Alone}
 use Rattle.run_reports.specs.{Inputs.input_refusals, Laws.AnswersAreReported, Reports.report_of}
 use Rattle.run_reports.specs.{CertifiedRun.CertifiedRun, Reports.left_of}
 use Rattle.run_reports.specs.declared.files.RunFiles.{RunFiles}
@@ -65,7 +65,7 @@ accepted_made reported under run files block firmware errors samples plan byte a
 
 -- what refuses the files behind IMAGE refuses the run
 pub run_refused : (run : Run) (files : RunFiles) (block : Block) (firmware : Firmware)
-    → GivesFirmware run.width files.fcl block firmware → GivesImage files.image firmware.image → (s : Status)
+    → GivesFirmware (Alone run.width) files.fcl block firmware → GivesImage files.image firmware.image → (s : Status)
     → input_refusals run.kind run.width block files.inputs s → run_refusals run files s
 run_refused run files block firmware gives image (status.Fcl f) r = absurd r.2
 run_refused run files block firmware gives image (status.Image f) r = absurd r.2

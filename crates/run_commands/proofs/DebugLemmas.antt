@@ -22,6 +22,7 @@ use Rattle.run_commands.specs.Debug.{DebugFiles, DebugGives, Debugs, debug_lines
 use Rattle.run_commands.specs.Debug.{AcceptedDebugRunsMakeOutput, shown_line}
 use Rattle.run_commands.specs.declared.debug.DebugRun.{DebugRun}
 use Rattle.command_parts.proofs.Algebra.{counted-map}
+use Rattle.command_parts.specs.declared.firmware.Form.TheVariants.{Alone}
 
 abbrev pub only_text : List ℕ → SeenOutput
 only_text t = record { text = t; file = None }
@@ -56,7 +57,7 @@ gives fit debug files block firmware samples slice plan script orders items item
       rows = rows;
       ran = subst (λ (ss : List Sample). rows ≡ (firmware_rows firmware (map input_bytes ss) plan debug.flags).rows)
           same ran;
-      follows = all block a.compiled.spelled.valid a.compiled.limits a.compiled.compiled
+      follows = all block a.compiled.spelled.valid a.compiled.limits a.compiled.compiled.0
           (fit block files.trace samples a.in_range);
       output_is = ap only_text (written ∙ ap₂ debug_lines shown_is same_rows);
     }
@@ -74,7 +75,7 @@ debug_made fit under debug files byte (block, firmware, samples, plan, script, a
 
 -- what refuses the trace or the plan refuses the run
 pub debug_refused : (files : DebugFiles) (block : Block) (firmware : Firmware)
-    → GivesFirmware Byte files.fcl block firmware → GivesImage files.image firmware.image → (s : Status)
+    → GivesFirmware (Alone Byte) files.fcl block firmware → GivesImage files.image firmware.image → (s : Status)
     → sample_refusals block files.trace files.plan s → debug_refusals files s
 debug_refused files block firmware gives image (status.Fcl f) r = absurd r
 debug_refused files block firmware gives image (status.Image f) r = absurd r

@@ -13,6 +13,7 @@ use Rattle.run_forms.specs.Positions.{positions}
 use Rattle.trace_io.specs.Traces.{Spells as SpellsTrace, input_bytes}
 use Rattle.alone_runs.specs.Rows.{firmware_rows, first_state}
 use Rattle.command_parts.specs.Certs.{AcceptedErrorsAreOne, AcceptsCert}
+use Rattle.command_parts.specs.declared.firmware.Form.TheVariants.{Alone}
 use Rattle.command_parts.specs.{Firmwares.GivenFirmwaresAreOne, SeenOutputs.OutputsAreOne}
 use Rattle.run_reports.specs.{Laws.SpelledInputsAreOne, Reports.left_of, RowLines.run_lines}
 use Rattle.run_reports.specs.declared.files.RunFiles.{RunFiles}
@@ -25,7 +26,7 @@ pub runs_once : GivenFirmwaresAreOne → AcceptedErrorsAreOne → SpelledInputsA
 runs_once firmwares accepted inputs run files output other a b =
     let p = a.certified in
     let q = b.certified in
-    let one = firmwares run.width files.fcl p.block q.block p.firmware q.firmware p.compiled q.compiled in
+    let one = firmwares (Alone run.width) files.fcl p.block q.block p.firmware q.firmware p.compiled q.compiled in
     let errors : a.report.errors ≡ b.report.errors =
     accepted run.kind run.width p.block files.inputs.cert a.report.errors b.report.errors p.compiled.spelled.valid
     p.accepted (subst (λ (c : Block). AcceptsCert run.kind run.width c files.inputs.cert b.report.errors) (sym one.0)
@@ -48,7 +49,7 @@ pub debug_runs_once : GivenFirmwaresAreOne → SpelledInputsAreOne → (debug : 
 debug_runs_once firmwares inputs debug files output other a b =
     let p = a.accepts in
     let q = b.accepts in
-    let one = firmwares Byte files.fcl a.block b.block a.firmware b.firmware p.compiled q.compiled in
+    let one = firmwares (Alone Byte) files.fcl a.block b.block a.firmware b.firmware p.compiled q.compiled in
     let bytes : map input_bytes a.samples ≡ map input_bytes b.samples =
     inputs.samples a.block.inputs files.trace a.samples b.samples p.in_range
     (subst (λ (c : Block). SpellsTrace c.inputs files.trace b.samples) (sym one.0) q.in_range) in

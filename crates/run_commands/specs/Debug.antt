@@ -20,6 +20,7 @@ use Rattle.debug_script.specs.declared.shown.Shown.TheVariants.{Stop, Registers,
 use Rattle.command_parts.specs.{Contents.content_at, SeenOutputs.HasOutput, SeenOutputs.SeenOutput}
 use Rattle.command_parts.specs.{Images.RefusesImage, Lines.counted, Lines.with_registers}
 use Rattle.command_parts.specs.Firmwares.{GivesFirmware, OfFirmware, RefusesText}
+use Rattle.command_parts.specs.declared.firmware.Form.TheVariants.{Alone}
 use Rattle.fz_status.specs.{Words.flags_of, Words.Text, Words.word_at, Refusals.Refusals, Refusals.Refuses}
 use Rattle.fz_status.specs.declared.status.Status.{Status}
 use Rattle.run_reports.specs.{Inputs.sample_refusals, RowLines.row_lines}
@@ -69,7 +70,7 @@ debug_lines shown rows = flat_map shown_line shown ++ counted row_lines 1 rows
 -- the plan interrupts that write only free bytes, and SCRIPT a script
 pub record Debugs (files : DebugFiles) (block : Block) (firmware : Firmware) (samples : List Sample)
     (plan : List Request) (script : List Order) : Type 0 where
-  pub compiled : GivesFirmware Byte files.fcl block firmware
+  pub compiled : GivesFirmware (Alone Byte) files.fcl block firmware
   pub image : GivesImage files.image firmware.image
   pub in_range : SpellsTrace block.inputs files.trace samples
   pub good_plan : SpellsPlan files.plan plan
@@ -102,12 +103,12 @@ pub record DebugGives (debug : DebugRun) (files : DebugFiles) (output : SeenOutp
 abbrev pub debug_refusals : DebugFiles → Refusals
 debug_refusals files (status.Fcl f) = RefusesText files.fcl f
 debug_refusals files (status.Image f) =
-    OfFirmware Byte files.fcl (λ block firmware. RefusesImage files.image firmware.image f)
-debug_refusals files (status.Script n) = OfFirmware Byte files.fcl (λ block firmware.
+    OfFirmware (Alone Byte) files.fcl (λ block firmware. RefusesImage files.image firmware.image f)
+debug_refusals files (status.Script n) = OfFirmware (Alone Byte) files.fcl (λ block firmware.
     GivesImage files.image firmware.image
     × (samples : List Sample) × SpellsTrace block.inputs files.trace samples
     × (plan : List Request) × SpellsPlan files.plan plan × (script_of files.script ≡ Err n))
-debug_refusals files s = OfFirmware Byte files.fcl (λ block firmware.
+debug_refusals files s = OfFirmware (Alone Byte) files.fcl (λ block firmware.
     GivesImage files.image firmware.image × sample_refusals block files.trace files.plan s)
 
 abbrev pub DebugMakes : DebugRun → DebugFiles → Result SeenOutput Status → Type 0

@@ -17,7 +17,7 @@ use Rattle.fz_status.specs.declared.status.Status.TheVariants as status
 use Rattle.run_reports.specs.Reports.{IsReportOf, Report}
 use Rattle.command_parts.specs.{Certs.StopsHalving, Firmwares.GivesFirmware, Words.number_up_to}
 use Rattle.command_parts.specs.SeenOutputs.{HasOutput, SeenOutput}
-use Rattle.command_parts.specs.Lines.{counted, error_line, line}
+use Rattle.command_parts.specs.{Lines.counted, Lines.error_line, Lines.line, declared.firmware.Form.TheVariants.Alone}
 use Rattle.run_commands.specs.declared.generate.Generate.{Generate}
 
 abbrev pub generate_with : ℕ → Generate
@@ -70,7 +70,7 @@ pub record GenerateGives (number : ℕ) (output : SeenOutput) : Type 0 where
   pub requests : List Request
   pub workload : IsWorkload number text trace plan block samples requests
   pub firmware : Firmware
-  pub gives : GivesFirmware Byte text block firmware
+  pub gives : GivesFirmware (Alone Byte) text block firmware
   pub cert : Cert
   pub halving : IsHalving Named block (parts Byte) generated_target cert
   pub report : Report
@@ -95,7 +95,7 @@ pub record AcceptsNumber (number : ℕ) (block : Block) (firmware : Firmware) (s
   pub trace : List ℕ
   pub plan : List ℕ
   pub workload : IsWorkload number text trace plan block samples requests
-  pub gives : GivesFirmware Byte text block firmware
+  pub gives : GivesFirmware (Alone Byte) text block firmware
   pub halving : IsHalving Named block (parts Byte) generated_target cert
 
 abbrev pub GenerateAccepts : Generate → Type 0

@@ -12,6 +12,7 @@ use Rattle.trace_io.specs.declared.sample.Sample.{Sample}
 use Rattle.srecord.specs.Texts.{GivesImage}
 use Rattle.command_parts.specs.{SeenOutputs.SeenOutput, Images.RefusesImage, Contents.content_at}
 use Rattle.command_parts.specs.Firmwares.{GivesFirmware, OfFirmware, RefusesText}
+use Rattle.command_parts.specs.declared.firmware.Form.TheVariants.{Alone}
 use Rattle.fz_status.specs.{Words.flags_of, declared.status.Status.Status, Refusals.Refusals, Refusals.Refuses}
 use Rattle.fz_status.specs.{Words.Text, Words.word_at}
 use Rattle.run_reports.specs.{Inputs.AcceptsInputs, Inputs.input_refusals, Reports.Report, CertifiedRun.CertifiedRun}
@@ -43,7 +44,7 @@ files_in contents = record {
 -- all are accepted, and give this
 pub record Accepts (kind : CertKind) (width : Width) (files : RunFiles) (block : Block) (firmware : Firmware)
     (errors : List ℕ) (samples : List Sample) (plan : List Request) : Type 0 where
-  pub compiled : GivesFirmware width files.fcl block firmware
+  pub compiled : GivesFirmware (Alone width) files.fcl block firmware
   pub image : GivesImage files.image firmware.image
   pub inputs : AcceptsInputs kind width block files.inputs errors samples plan
 
@@ -57,8 +58,8 @@ pub record RunGives (run : Run) (files : RunFiles) (output : SeenOutput) : Type 
 abbrev pub run_refusals : Run → RunFiles → Refusals
 run_refusals run files (status.Fcl f) = RefusesText files.fcl f
 run_refusals run files (status.Image f) =
-    OfFirmware run.width files.fcl (λ block firmware. RefusesImage files.image firmware.image f)
-run_refusals run files s = OfFirmware run.width files.fcl (λ block firmware.
+    OfFirmware (Alone run.width) files.fcl (λ block firmware. RefusesImage files.image firmware.image f)
+run_refusals run files s = OfFirmware (Alone run.width) files.fcl (λ block firmware.
     GivesImage files.image firmware.image
     × input_refusals run.kind run.width block files.inputs s)
 

@@ -13,7 +13,7 @@ use alone_runs::laws::answers_under_plans;
 use byte_scaling::Width;
 use command_parts::contents::Content;
 use command_parts::firmware::{
-    Compiled, firmware_of, given_firmwares_are_one, spelled_texts_have_no_fault,
+    Compiled, Form, firmware_of, given_firmwares_are_one, spelled_texts_have_no_fault,
 };
 use command_parts::images::{given_images_have_no_fault, require_image};
 use command_parts::output::Output;
@@ -107,10 +107,9 @@ impl DebugRun {
             a.compiled.block a.compiled.firmware a.samples.items a.plan a.script) }
         ensures fault { IfErr result (IsRefusal (debug_refusals files.now)) }
     {
-        let compiled = firmware_of(alloc, Width::Byte, &files.fcl)?;
+        let compiled = firmware_of(alloc, Form::Alone(Width::Byte), &files.fcl)?;
         require_image(alloc, &files.image, &compiled.firmware.image)?;
-        let (samples, plan) =
-            samples_and_plan(alloc, &compiled.block, &files.trace, &files.plan)?;
+        let (samples, plan) = samples_and_plan(alloc, &compiled.block, &files.trace, &files.plan)?;
         match read_script(alloc, files.script.bytes()) {
             Ok(script) => Ok(Accepted {
                 compiled,

@@ -18,7 +18,7 @@ use byte_scaling::Width;
 use command_parts::certs::accepted_errors_are_one;
 use command_parts::contents::Content;
 use command_parts::firmware::{
-    Compiled, firmware_of, given_firmwares_are_one, spelled_texts_have_no_fault,
+    Compiled, Form, firmware_of, given_firmwares_are_one, spelled_texts_have_no_fault,
 };
 use command_parts::images::{given_images_have_no_fault, require_image};
 use command_parts::lines::labelled;
@@ -114,7 +114,7 @@ impl Run {
             a.compiled.firmware a.inputs.errors.items a.inputs.samples.items a.inputs.plan) }
         ensures fault { IfErr result (IsRefusal (run_refusals self files.now)) }
     {
-        let compiled = firmware_of(alloc, self.width, &files.fcl)?;
+        let compiled = firmware_of(alloc, Form::Alone(self.width), &files.fcl)?;
         require_image(alloc, &files.image, &compiled.firmware.image)?;
         let inputs = inputs_of(alloc, self.kind, self.width, &compiled.block, &files.inputs)?;
         Ok(Accepted { compiled, inputs })

@@ -19,7 +19,7 @@ use Rattle.alone_runs.specs.Answering.{AnswersItsBlock, AnswersUnder, answer_of_
 use Rattle.alone_runs.specs.Rows.{firmware_rows}
 use Rattle.run_reports.specs.Nearness.{AnswersAreWithinErrors, AreWithinErrors}
 use Rattle.run_reports.specs.Reports.{IsReportOf, report_of}
-use Rattle.command_parts.specs.Firmwares.{GivesFirmware}
+use Rattle.command_parts.specs.{Firmwares.GivesFirmware, declared.firmware.Form.TheVariants.Alone}
 use Rattle.command_parts.proofs.Algebra.{of_seen}
 
 pub spelled_count : (is : List Input) (rows : List Fields) (samples : List Sample) → SpellSamples is rows samples
@@ -76,15 +76,15 @@ width_again Word = refl
 -- what a run answers of a block's samples is its report
 module _ (near : AnswersAreWithinErrors) (w : Width) (flags : ℕ) (text : List ℕ) (block : Block) (firmware : Firmware)
     (cert : Cert) (errors trace : List ℕ) (samples : List Sample) (plan : List Request) (rows : List (RowSeen (List ℕ)))
-    (gives : GivesFirmware w text block firmware) (accepted : IsAccepted block (parts w) cert errors)
+    (gives : GivesFirmware (Alone w) text block firmware) (accepted : IsAccepted block (parts w) cert errors)
     (in_range : Spells block.inputs trace samples)
     (ran : rows ≡ (firmware_rows firmware (map input_bytes samples) plan flags).rows)
     (answers : AnswersItsBlock firmware flags (map input_bytes samples) plan rows) where
   width : width_of firmware.wide ≡ w
-  width = ap width_of gives.wide ∙ width_again w
+  width = ap width_of gives.compiled.1 ∙ width_again w
 
   under : AnswersUnder block firmware flags (map input_bytes samples) plan rows
-  under = answers block gives.spelled.valid gives.limits gives.compiled
+  under = answers block gives.spelled.valid gives.limits gives.compiled.0
       (input_bytes_fit block in_range.rows samples in_range.spelled)
 
   within : AreWithinErrors (parts w) block errors samples rows
@@ -98,7 +98,7 @@ module _ (near : AnswersAreWithinErrors) (w : Width) (flags : ℕ) (text : List 
   reports = record {
     ran = ran;
     within = within;
-    bound = gives.compiled.instructions ∙ ap (λ (v : Width). instruction_bound v block) width;
+    bound = gives.compiled.0.instructions ∙ ap (λ (v : Width). instruction_bound v block) width;
     instructions = of_seen (λ a. a.instructions ≤ firmware.instr_bound) answer_of_row rows
         (instructions_within (width_of firmware.wide) block firmware.instr_bound (λ o. 0) (map input_bytes samples)
         (map answer_of_row rows) under.answers.answers);

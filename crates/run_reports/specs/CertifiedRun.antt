@@ -11,6 +11,7 @@ use Rattle.interrupt_plan.specs.{Plans.Spells as SpellsPlan, declared.Request.Re
 use Rattle.alone_runs.specs.Rows.{firmware_rows}
 use Rattle.trace_io.specs.Traces.{input_bytes}
 use Rattle.command_parts.specs.{Certs.AcceptsCert, Firmwares.GivesFirmware}
+use Rattle.command_parts.specs.declared.firmware.Form.TheVariants.{Alone}
 use Rattle.run_reports.specs.{Reports.IsReportOf, Reports.Report, Reports.left_of, declared.files.RunFiles.RunFiles}
 
 -- Compile accepts the FCL text, IMAGE holds exactly its firmware's image, the checker accepts the certificate, the
@@ -20,7 +21,7 @@ pub record CertifiedRun (kind : CertKind) (width : Width) (flags : ℕ) (files :
     : Type 0 where
   pub block : Block
   pub firmware : Firmware
-  pub compiled : GivesFirmware width files.fcl block firmware
+  pub compiled : GivesFirmware (Alone width) files.fcl block firmware
   pub image : GivesImage files.image firmware.image
   pub accepted : AcceptsCert kind width block files.inputs.cert report.errors
   pub samples : List Sample

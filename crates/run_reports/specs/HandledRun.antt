@@ -11,6 +11,7 @@ use Rattle.trace_io.specs.{Traces.Spells as SpellsTrace, declared.sample.Sample.
 use Rattle.trace_io.specs.Traces.{input_bytes}
 use Rattle.handled_runs.specs.{Answering.AnswersHandled, Forms.HandledSeen, Forms.handled_seen}
 use Rattle.command_parts.specs.{Certs.AcceptsCert, Firmwares.GivesFirmware, Handlers.GivesHandler}
+use Rattle.command_parts.specs.declared.firmware.Form.TheVariants.{Alone}
 use Rattle.run_reports.specs.{Inputs.AcceptsInputs, Reports.IsReportOf, Reports.Report}
 use Rattle.run_reports.specs.declared.files.HandledFiles.{HandledFiles}
 
@@ -29,7 +30,7 @@ without_handler r = record { errors = r.errors; bound = r.bound; rows = map (λ 
 -- path
 pub record AcceptsHandled (files : HandledFiles) (block : Block) (firmware : Firmware) (handler : Image) (instrs : ℕ)
     (errors : List ℕ) (samples : List Sample) (plan : List Request) : Type 0 where
-  pub compiled : GivesFirmware Byte files.fcl block firmware
+  pub compiled : GivesFirmware (Alone Byte) files.fcl block firmware
   pub handles : GivesHandler files.handler handler instrs
   pub inputs : AcceptsInputs Named Byte block files.inputs errors samples plan
 
@@ -42,7 +43,7 @@ pub record AcceptsHandled (files : HandledFiles) (block : Block) (firmware : Fir
 pub record HandledRun (flags : ℕ) (files : HandledFiles) (report : HandledReport) : Type 0 where
   pub block : Block
   pub firmware : Firmware
-  pub compiled : GivesFirmware Byte files.fcl block firmware
+  pub compiled : GivesFirmware (Alone Byte) files.fcl block firmware
   pub handler : Image
   pub instrs : ℕ
   pub handles : GivesHandler files.handler handler instrs

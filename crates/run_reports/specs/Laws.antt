@@ -14,7 +14,7 @@ use Rattle.run_law.specs.Forms.{RowSeen}
 use Rattle.alone_runs.specs.{Answering.AnswersItsBlock, Rows.firmware_rows}
 use Rattle.trace_io.specs.Traces.{input_bytes}
 use Rattle.fz_status.specs.declared.status.Status.{Status}
-use Rattle.command_parts.specs.Firmwares.{GivesFirmware}
+use Rattle.command_parts.specs.{Firmwares.GivesFirmware, declared.firmware.Form.TheVariants.Alone}
 use Rattle.run_reports.specs.Inputs.{AcceptsInputs, input_refusals, sample_refusals}
 use Rattle.run_reports.specs.{Reports.IsReportOf, Reports.report_of, declared.files.InputFiles.InputFiles}
 
@@ -44,7 +44,7 @@ AnswersKeepTheBound = (width : Width) (block : Block) (most : ℕ) (before : ℕ
 abbrev pub AnswersAreReported : Type 0
 AnswersAreReported = (width : Width) (flags : ℕ) (text : List ℕ) (block : Block) (firmware : Firmware) (cert : Cert)
     (errors trace : List ℕ) (samples : List Sample) (plan : List Request) (rows : List (RowSeen (List ℕ)))
-    → GivesFirmware width text block firmware → IsAccepted block (parts width) cert errors
+    → GivesFirmware (Alone width) text block firmware → IsAccepted block (parts width) cert errors
     → SpellsTrace block.inputs trace samples
     → rows ≡ (firmware_rows firmware (map input_bytes samples) plan flags).rows
     → AnswersItsBlock firmware flags (map input_bytes samples) plan rows

@@ -13,7 +13,8 @@ use Rattle.trace_io.specs.Traces.{input_bytes}
 use Rattle.mailbox_runs.specs.{Answering.AnswersUnderPosts, Answering.answer_in, Turns.waiting}
 use Rattle.mailbox_runs.specs.Runs.{AnswerSeen, RunSeen, run_under_posts}
 use Rattle.run_reports.specs.{Posted.ArePostedWithinErrors, declared.files.PostedFiles.PostedFiles}
-use Rattle.command_parts.specs.{Certs.AcceptsCert, Firmwares.GivesMailbox}
+use Rattle.command_parts.specs.{Certs.AcceptsCert, Firmwares.GivesFirmware}
+use Rattle.command_parts.specs.declared.firmware.Form.TheVariants.{Mailbox}
 
 -- what is told of a run: an error for each output, in millionths of its range, the bound on instructions, the answers,
 -- the frames with their boundaries, and at how many boundaries inside an instruction an interrupt was taken
@@ -35,7 +36,7 @@ answered_samples r = map (λ a. a.sample) r.answers
 -- all are accepted, and give this
 pub record AcceptsPosted (files : PostedFiles) (block : Block) (firmware : Firmware) (errors : List ℕ)
     (samples : List Sample) (posts : List Post) : Type 0 where
-  pub compiled : GivesMailbox files.fcl block firmware
+  pub compiled : GivesFirmware Mailbox files.fcl block firmware
   pub image : GivesImage files.image firmware.image
   pub accepted : AcceptsCert Named Byte block files.cert errors
   pub in_range : SpellsTrace block.inputs files.trace samples

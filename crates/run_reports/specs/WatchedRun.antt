@@ -13,7 +13,8 @@ use Rattle.interrupt_plan.specs.declared.{Request.Request, upsets.Upset.Upset}
 use Rattle.trace_io.specs.Traces.{input_bytes}
 use Rattle.watched_runs.specs.{Answering.AnswersUnderUpsets, Rows.FaultSeen, Rows.faults_of, Rows.upset_rows}
 use Rattle.run_reports.specs.{Faultless.FaultlessAreWithinErrors, declared.files.WatchedFiles.WatchedFiles}
-use Rattle.command_parts.specs.{Certs.AcceptsCert, Firmwares.GivesWatched}
+use Rattle.command_parts.specs.{Certs.AcceptsCert, Firmwares.GivesFirmware}
+use Rattle.command_parts.specs.declared.firmware.Form.TheVariants.{Watched}
 
 -- what is told of a run: an error for each output, in millionths of its range, the bound on instructions, and a row for
 -- each sample, with FAULT
@@ -31,7 +32,7 @@ pub record WatchedReport : Type 0 where
 pub record WatchedRun (flags : ℕ) (files : WatchedFiles) (report : WatchedReport) : Type 0 where
   pub block : Block
   pub firmware : Firmware
-  pub compiled : GivesWatched files.fcl block firmware
+  pub compiled : GivesFirmware Watched files.fcl block firmware
   pub image : GivesImage files.image firmware.image
   pub accepted : AcceptsCert Named Byte block files.inputs.cert report.errors
   pub samples : List Sample

@@ -6,6 +6,7 @@ use Rattle.interrupt_plan.specs.Posts.{PostsHaveFault}
 use Rattle.box_tree.specs.declared.cert.CertKind.TheVariants.{Named}
 use Rattle.byte_scaling.specs.declared.width.Width.TheVariants.{Byte}
 use Rattle.command_parts.specs.{Certs.HasCertFault, Images.RefusesImage}
+use Rattle.command_parts.specs.declared.firmware.Form.TheVariants.{Mailbox}
 use Rattle.fz_status.specs.declared.status.Status.TheVariants as status
 use Rattle.form_commands.proofs.mrun.posted_runs_have_no_fault.Goals as goal
 
@@ -16,20 +17,20 @@ returns c mrun files output (status.Fcl f) gives is =
     r.accepts.compiled.limits is.0 is.1
 returns c mrun files output (status.Image f) gives (carries, (other, others, gives_other, refuses)) =
     let r = gives.posted in
-    let one = c.given_mailboxes_are_one.ensures files.fcl other r.block others r.firmware gives_other
+    let one = c.given_firmwares_are_one.ensures Mailbox files.fcl other r.block others r.firmware gives_other
     r.accepts.compiled in
     c.given_images_have_no_fault.ensures files.image r.firmware.image f r.accepts.image
     (subst (λ (g : Firmware). RefusesImage files.image g.image f) one.1 refuses)
 returns c mrun files output (status.Cert f) gives (carries, (other, others, gives_other, refuses)) =
     let r = gives.posted in
-    let one = c.given_mailboxes_are_one.ensures files.fcl other r.block others r.firmware gives_other
+    let one = c.given_firmwares_are_one.ensures Mailbox files.fcl other r.block others r.firmware gives_other
     r.accepts.compiled in
     c.accepted_certs_have_no_fault.ensures Named Byte r.block files.cert gives.report.errors f
     r.accepts.compiled.spelled.valid r.accepts.accepted
     (subst (λ (b : Block). HasCertFault Named Byte b files.cert f) one.0 refuses.1)
 returns c mrun files output (status.Trace f) gives (carries, (other, others, gives_other, refuses)) =
     let r = gives.posted in
-    let one = c.given_mailboxes_are_one.ensures files.fcl other r.block others r.firmware gives_other
+    let one = c.given_firmwares_are_one.ensures Mailbox files.fcl other r.block others r.firmware gives_other
     r.accepts.compiled in
     c.spelled_traces_have_no_fault.ensures r.block.inputs files.trace r.samples f r.accepts.in_range
     (subst (λ (b : Block). TraceHasFault b.inputs files.trace f) one.0 refuses.3)

@@ -4,7 +4,7 @@ use Rattle.alone_code.specs.declared.firmware.Firmware.{Firmware}
 use Rattle.box_tree.specs.declared.cert.CertKind.TheVariants.{Named}
 use Rattle.byte_scaling.specs.declared.width.Width.TheVariants.{Byte}
 use Rattle.interrupt_plan.specs.UpsetTexts.{HasUpsetFault}
-use Rattle.command_parts.specs.Images.{RefusesImage}
+use Rattle.command_parts.specs.{Images.RefusesImage, declared.firmware.Form.TheVariants.Watched}
 use Rattle.run_reports.specs.Inputs.{input_refusals}
 use Rattle.fz_status.specs.declared.status.Status.TheVariants as status
 use Rattle.form_commands.proofs.srun.watched_runs_have_no_fault.Goals as goal
@@ -15,17 +15,20 @@ returns c srun files output (status.Fcl f) gives is =
     c.spelled_texts_have_no_fault.ensures files.fcl r.block f r.compiled.spelled r.compiled.limits is.0 is.1
 returns c srun files output (status.Image f) gives (carries, (other, others, gives_other, refuses)) =
     let r = gives.watched in
-    let one = c.given_watched_are_one.ensures files.fcl other r.block others r.firmware gives_other r.compiled in
+    let one = c.given_firmwares_are_one.ensures Watched files.fcl other r.block others r.firmware gives_other
+    r.compiled in
     c.given_images_have_no_fault.ensures files.image r.firmware.image f r.image
     (subst (λ (g : Firmware). RefusesImage files.image g.image f) one.1 refuses)
 returns c srun files output (status.Upset f) gives (carries, (other, others, gives_other, refuses)) =
     let r = gives.watched in
-    let one = c.given_watched_are_one.ensures files.fcl other r.block others r.firmware gives_other r.compiled in
+    let one = c.given_firmwares_are_one.ensures Watched files.fcl other r.block others r.firmware gives_other
+    r.compiled in
     c.spelled_upsets_have_no_fault.ensures r.firmware.image.bytes files.upsets r.upsets f r.good_upsets
     (subst (λ (g : Firmware). HasUpsetFault g.image.bytes files.upsets f) one.1 refuses.5)
 returns c srun files output s gives (carries, (other, others, gives_other, refuses)) =
     let r = gives.watched in
-    let one = c.given_watched_are_one.ensures files.fcl other r.block others r.firmware gives_other r.compiled in
+    let one = c.given_firmwares_are_one.ensures Watched files.fcl other r.block others r.firmware gives_other
+    r.compiled in
     c.accepted_inputs_have_no_fault.ensures Named Byte r.block files.inputs gives.report.errors
     r.samples
     r.plan s r.compiled.spelled.valid

@@ -29,13 +29,9 @@ returns c command.Lcompile contents output other a b =
     c.contents_make_one_output.ensures.lcompile (content_at contents 0) (content_at contents 1) output other a b
 returns c (command.Lrun lrun) contents output other a b =
     c.lrun_outputs_are_one.ensures lrun (level_files contents) output other a b
-returns c command.Mcompile contents output other a b =
-    c.contents_make_one_output.ensures.mcompile (content_at contents 0) output other a b
 returns c (command.Mrun mrun) contents output other a b =
     c.mrun_outputs_are_one.ensures mrun (posted_files contents) output other a b
 returns c (command.Run run) contents output other a b =
     c.run_outputs_are_one.ensures run (files_in contents) output other a b
-returns c command.Scompile contents output other a b =
-    c.contents_make_one_output.ensures.scompile (content_at contents 0) output other a b
 returns c (command.Srun srun) contents output other a b =
     c.srun_outputs_are_one.ensures srun (watched_files contents) output other a b

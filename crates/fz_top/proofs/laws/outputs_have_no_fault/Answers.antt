@@ -29,13 +29,9 @@ returns c command.Lcompile contents output s makes fault =
     c.two_texts_have_no_fault.ensures (content_at contents 0) (content_at contents 1) output s makes fault
 returns c (command.Lrun lrun) contents output s makes fault =
     c.level_runs_have_no_fault.ensures lrun (level_files contents) output s makes fault
-returns c command.Mcompile contents output s makes fault =
-    c.mailbox_texts_have_no_fault.ensures (content_at contents 0) output s makes fault
 returns c (command.Mrun mrun) contents output s makes fault =
     c.posted_runs_have_no_fault.ensures mrun (posted_files contents) output s makes fault
 returns c (command.Run run) contents output s makes fault =
     c.certified_runs_have_no_fault.ensures run (files_in contents) output s makes fault
-returns c command.Scompile contents output s makes fault =
-    c.watched_texts_have_no_fault.ensures (content_at contents 0) output s makes fault
 returns c (command.Srun srun) contents output s makes fault =
     c.watched_runs_have_no_fault.ensures srun (watched_files contents) output s makes fault

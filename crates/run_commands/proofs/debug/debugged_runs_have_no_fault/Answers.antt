@@ -3,7 +3,7 @@ use Rattle.fuzzy_meaning.specs.declared.block.Block.{Block}
 use Rattle.alone_code.specs.declared.firmware.Firmware.{Firmware}
 use Rattle.byte_scaling.specs.declared.width.Width.TheVariants.{Byte}
 use Rattle.debug_script.specs.Scripts.{script_of}
-use Rattle.command_parts.specs.Images.{RefusesImage}
+use Rattle.command_parts.specs.{Images.RefusesImage, declared.firmware.Form.TheVariants.Alone}
 use Rattle.run_reports.specs.Inputs.{sample_refusals}
 use Rattle.fz_status.specs.declared.status.Status.TheVariants as status
 use Rattle.run_commands.proofs.debug.debugged_runs_have_no_fault.Goals as goal
@@ -14,7 +14,7 @@ returns c debug files output (status.Fcl f) gives is =
     c.spelled_texts_have_no_fault.ensures files.fcl gives.block f a.compiled.spelled a.compiled.limits is.0 is.1
 returns c debug files output (status.Image f) gives (carries, (other, others, gives_other, refuses)) =
     let a = gives.accepts in
-    let one = c.given_firmwares_are_one.ensures Byte files.fcl other gives.block others gives.firmware gives_other
+    let one = c.given_firmwares_are_one.ensures (Alone Byte) files.fcl other gives.block others gives.firmware gives_other
     a.compiled in
     c.given_images_have_no_fault.ensures files.image gives.firmware.image f a.image
     (subst (λ (g : Firmware). RefusesImage files.image g.image f) one.1 refuses)
@@ -24,7 +24,7 @@ returns c debug files output (status.Script n) gives (carries, (other, others, g
     cc
 returns c debug files output s gives (carries, (other, others, gives_other, refuses)) =
     let a = gives.accepts in
-    let one = c.given_firmwares_are_one.ensures Byte files.fcl other gives.block others gives.firmware gives_other
+    let one = c.given_firmwares_are_one.ensures (Alone Byte) files.fcl other gives.block others gives.firmware gives_other
     a.compiled in
     c.spelled_samples_have_no_fault.ensures gives.block files.trace files.plan gives.samples gives.plan s a.in_range
     a.good_plan (subst (λ (b : Block). sample_refusals b files.trace files.plan s) one.0 refuses.1)

@@ -1,7 +1,7 @@
 use Rattle.std.proofs.Common.{subst}
 use Rattle.fuzzy_meaning.specs.declared.block.Block.{Block}
 use Rattle.alone_code.specs.declared.firmware.Firmware.{Firmware}
-use Rattle.command_parts.specs.Images.{RefusesImage}
+use Rattle.command_parts.specs.{Images.RefusesImage, declared.firmware.Form.TheVariants.Alone}
 use Rattle.run_reports.specs.Inputs.{input_refusals}
 use Rattle.fz_status.specs.declared.status.Status.TheVariants as status
 use Rattle.run_commands.proofs.run.certified_runs_have_no_fault.Goals as goal
@@ -12,13 +12,13 @@ returns c run files output (status.Fcl f) gives is =
     c.spelled_texts_have_no_fault.ensures files.fcl r.block f r.compiled.spelled r.compiled.limits is.0 is.1
 returns c run files output (status.Image f) gives (carries, (other, others, gives_other, refuses)) =
     let r = gives.certified in
-    let one = c.given_firmwares_are_one.ensures run.width files.fcl other r.block others r.firmware gives_other
+    let one = c.given_firmwares_are_one.ensures (Alone run.width) files.fcl other r.block others r.firmware gives_other
     r.compiled in
     c.given_images_have_no_fault.ensures files.image r.firmware.image f r.image
     (subst (λ (g : Firmware). RefusesImage files.image g.image f) one.1 refuses)
 returns c run files output s gives (carries, (other, others, gives_other, refuses)) =
     let r = gives.certified in
-    let one = c.given_firmwares_are_one.ensures run.width files.fcl other r.block others r.firmware gives_other
+    let one = c.given_firmwares_are_one.ensures (Alone run.width) files.fcl other r.block others r.firmware gives_other
     r.compiled in
     c.accepted_inputs_have_no_fault.ensures run.kind run.width r.block files.inputs
     gives.report.errors r.samples r.plan s r.compiled.spelled.valid

@@ -1,14 +1,14 @@
-use Rattle.std.proofs.Common.{rules}
-use Rattle.eval_code.specs.Bounds.{instruction_bound}
-use Rattle.build_commands.specs.Compile.{CompileMakes}
+use Rattle.build_commands.specs.Compile.{CompileMakes, bound_of}
 use Rattle.command_parts.specs.Firmwares.{GivesFirmware}
-use Rattle.build_commands.proofs.WrittenLemmas.{firmware_makes}
+use Rattle.build_commands.proofs.WrittenLemmas.{firmware_makes, instructions_are, steps_are}
 use Rattle.build_commands.proofs.compile.Compile.work.Goals as goal
 
 pub returns : goal.returns
 returns c =
-    firmware_makes (CompileMakes c.args.self c.args.fcl.now) (GivesFirmware c.args.self.width c.args.fcl.now)
-    (instruction_bound c.args.self.width)
-    c.in_ok-compiled.compiled.block c.in_ok-compiled.compiled.firmware c.in_ok-compiled.ensures.gives (search rules)
-    (search rules)
+    let compiled = c.in_ok-compiled.compiled in
+    let gives = c.in_ok-compiled.ensures.gives in
+    let form = c.args.self.form in
+    firmware_makes (CompileMakes c.args.self c.args.fcl.now) (GivesFirmware form c.args.fcl.now) (bound_of form)
+    compiled.block compiled.firmware gives (instructions_are form compiled.block compiled.firmware gives.compiled)
+    (steps_are form compiled.block compiled.firmware gives.compiled)
     c.written_firmware.result c.written_firmware.ensures.writes c.written_firmware.ensures.memory (λ output w. w)

@@ -8,7 +8,7 @@ use Rattle.alone_runs.specs.{Rows.row_seen, declared.rows.Row.Row}
 use Rattle.workload.specs.{Blocks.drawn_block, Draws.draw}
 use Rattle.fz_status.specs.{Refusals.IsRefusal, declared.status.Status.Status}
 use Rattle.fz_status.specs.declared.status.Status.TheVariants as status
-use Rattle.command_parts.specs.Certs.{StopsHalving, target_refusals}
+use Rattle.command_parts.specs.{Certs.StopsHalving, Certs.target_refusals, declared.firmware.Form.TheVariants.Alone}
 use Rattle.command_parts.specs.{SeenOutputs.IsFaultOf, SeenOutputs.SeenOutput, Firmwares.GivesFirmware}
 use Rattle.run_commands.specs.Generate.{GenerateMakes, generate_lines, generate_with, generated_target}
 use Rattle.run_reports.specs.Reports.{report_of}
@@ -46,11 +46,10 @@ returns c =
     let cert = c.in_ok-cert.cert in
     let halving = c.in_ok-cert.ensures.halving in
     let rows = map row_seen c.in_ok-rows.rows.items in
-    let gives : GivesFirmware Byte w.text.items w.block firmware = record {
+    let gives : GivesFirmware (Alone Byte) w.text.items w.block firmware = record {
       spelled = drawn.spelled;
       limits = subst IsWithinLimits (sym drawn.block_is) (c.drawn_blocks_are_within_limits.ensures (draw number 0 5));
-      compiled = c.in_ok-firmware.ensures.firmware;
-      wide = c.in_ok-firmware.ensures.narrow;
+      compiled = (c.in_ok-firmware.ensures.firmware, c.in_ok-firmware.ensures.narrow);
     } in
     let lines_of = λ (es : List ℕ) (rs : List Row). generate_lines number es bound (map row_seen rs) in
     record {
