@@ -72,8 +72,8 @@ generates_once workloads firmwares answers generate output other a b =
     let one = workloads generate.number a.text a.trace a.plan b.text b.trace b.plan a.block b.block a.samples b.samples
     a.requests b.requests a.workload b.workload in
     let firmware : a.firmware ≡ b.firmware =
-    firmwares a.block a.firmware b.firmware (a.gives.wide ∙ sym b.gives.wide) a.gives.compiled
-    (subst (λ (c : Block). IsFirmwareOf c b.firmware) (sym one.0) b.gives.compiled) in
+    firmwares a.block a.firmware b.firmware (a.gives.compiled.1 ∙ sym b.gives.compiled.1) a.gives.compiled.0
+    (subst (λ (c : Block). IsFirmwareOf c b.firmware) (sym one.0) b.gives.compiled.0) in
     let cert : a.cert ≡ b.cert =
     one_ok a.cert b.cert
     (answers Named a.block (parts Byte) generated_target (Ok a.cert) (Ok b.cert) a.gives.spelled.valid a.halving
