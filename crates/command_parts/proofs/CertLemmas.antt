@@ -115,7 +115,7 @@ as_status kind width block text answer (Err s) (r, is, told) refused =
 -- a certificate is accepted with one list of errors
 pub errors_are_one : TextAnswersAreOne → AcceptedErrorsAreOne
 errors_are_one one kind width block cert errors others valid a b =
-    let x : Result (List ℕ) TextFault = Ok errors in
-    let y : Result (List ℕ) TextFault = Ok others in
+    let x : Result (List ℕ) TheRefusal = Ok errors in
+    let y : Result (List ℕ) TheRefusal = Ok others in
     let same : x ≡ y = one block (parts width) kind width cert x y valid a b in
     cc
