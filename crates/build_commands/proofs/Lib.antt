@@ -1,4 +1,3 @@
 pub mod AcceptedLemmas
-pub mod LineLemmas
 pub mod OneLemmas
 pub mod WrittenLemmas

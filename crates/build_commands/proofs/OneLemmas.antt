@@ -18,12 +18,12 @@ use Rattle.two_level_code.specs.{Images.fast_most, declared.two.Two.Two}
 use Rattle.build_commands.specs.{Asm.AsmMakes, Certify.CertifyMakes, Certify.certify_lines, Check.CheckMakes}
 use Rattle.build_commands.specs.{Check.check_lines, Exec.ExecMakes, Exec.exec_line, Hcheck.HcheckMakes}
 use Rattle.build_commands.specs.Lcompile.{LcompileMakes, lcompile_lines}
-use Rattle.command_parts.specs.Certs.{AcceptedErrorsAreOne, AcceptsCert}
-use Rattle.command_parts.specs.SeenOutputs.{OutputsAreOne, SeenOutput, only_text}
-use Rattle.command_parts.specs.declared.firmware.Form.TheVariants.{Alone}
-use Rattle.command_parts.specs.{Firmwares.GivenFirmwaresAreOne, Lines.line, Twos.GivenTwosAreOne}
 use Rattle.build_commands.specs.Written.{WritesFirmware, WritesImage, compile_lines}
 use Rattle.build_commands.specs.declared.{certify.Certify.Certify, check.Check.Check, exec.Exec.Exec}
+use Rattle.command_parts.specs.Certs.{AcceptedErrorsAreOne, AcceptsCert}
+use Rattle.command_parts.specs.SeenOutputs.{OutputsAreOne, SeenOutput, only_lines}
+use Rattle.command_parts.specs.declared.firmware.Form.TheVariants.{Alone}
+use Rattle.command_parts.specs.{Firmwares.GivenFirmwaresAreOne, Lines.line, Twos.GivenTwosAreOne}
 
 pub checks_once : GivenFirmwaresAreOne → AcceptedErrorsAreOne → (check : Check) (text cert : List ℕ)
     → OutputsAreOne (CheckMakes check text cert)
@@ -32,7 +32,7 @@ checks_once firmwares accepted check text cert output other a b =
     let errors : a.errors ≡ b.errors =
     accepted check.kind check.width a.block cert a.errors b.errors a.gives.spelled.valid a.accepts
     (subst (λ (c : Block). AcceptsCert check.kind check.width c cert b.errors) (sym one.0) b.accepts) in
-    a.output_is ∙ (λ i. only_text (check_lines (errors i) (instruction_bound check.width (one.0 i)))) ∙ sym b.output_is
+    a.output_is ∙ (λ i. only_lines (check_lines (errors i) (instruction_bound check.width (one.0 i)))) ∙ sym b.output_is
 
 pub certifies_once : GivenFirmwaresAreOne → AnswersAreOne → (certify : Certify) (text : List ℕ)
     → OutputsAreOne (CertifyMakes certify text)
@@ -48,7 +48,7 @@ certifies_once firmwares answers certify text output other a b =
     let out : a.out ≡ b.out = a.spelled.lines
     ∙ (λ i. lines_of certify.kind certify.width (cert i).claims (cert i).nodes) ∙ sym b.spelled.lines in
     a.output_is
-    ∙ (λ i. record { text = certify_lines (cert i).claims (leaf_count (cert i).nodes); file = Some (4, out i) })
+    ∙ (λ i. record { lines = certify_lines (cert i).claims (leaf_count (cert i).nodes); file = Some (4, out i) })
     ∙ sym b.output_is
 
 pub ends_once : ImagesAreOne → ImagesLoadAlike → RunsEndOnce → (exec : Exec) (text : List ℕ)
@@ -64,17 +64,18 @@ ends_once images loads ends exec text output other a b =
     (end.Arrived b.steps) ends_there q.ends in
     let arrived : end.Arrived a.steps ≡ end.Arrived b.steps = one.0 in
     let steps : a.steps ≡ b.steps = cc in
-    a.output_is ∙ (λ i. only_text (exec_line (one.1 i).regs (steps i))) ∙ sym b.output_is
+    a.output_is ∙ (λ i. only_lines (exec_line (one.1 i).regs (steps i) ∷ [])) ∙ sym b.output_is
 
 -- the same lines with the records of the same image
-writes_once : ImageTextsAreOne → (image others : Image) (place : ℕ) (text lines : List ℕ) (output other : SeenOutput)
-    → image ≡ others → text ≡ lines → WritesImage image place text output → WritesImage others place lines other
+writes_once : ImageTextsAreOne → (image others : Image) (place : ℕ) (lines again : List (List ℕ))
+    (output other : SeenOutput)
+    → image ≡ others → lines ≡ again → WritesImage image place lines output → WritesImage others place again other
     → output ≡ other
-writes_once texts image others place text lines output other same put a b =
+writes_once texts image others place lines again output other same put a b =
     let there : ImageText image.bytes image.start b.records =
     subst (λ (j : Image). ImageText j.bytes j.start b.records) (sym same) b.of_image in
     let records = texts image.bytes image.start a.records b.records a.of_image there in
-    a.output_is ∙ (λ i. record { text = put i; file = Some (place, records i) }) ∙ sym b.output_is
+    a.output_is ∙ (λ i. record { lines = put i; file = Some (place, records i) }) ∙ sym b.output_is
 
 pub compiles_once : ImageTextsAreOne → (Gives : Block → Firmware → Type 0) (bound : Block → ℕ)
     → ((block other : Block) (firmware others : Firmware) → Gives block firmware → Gives other others
@@ -114,4 +115,4 @@ counts_once images counts text output other a b =
     let same : a.instrs ≡ b.instrs =
     counts a.image.bytes b.image.bytes a.instrs b.instrs (images text a.image b.image p.spelled q.spelled).1 p.handler
     q.handler in
-    a.output_is ∙ (λ i. only_text (line (codes "handler instructions ") (same i))) ∙ sym b.output_is
+    a.output_is ∙ (λ i. only_lines (line (codes "handler instructions ") (same i) ∷ [])) ∙ sym b.output_is

@@ -16,12 +16,12 @@ use Rattle.command_parts.specs.SeenOutputs.{SeenOutput, IsFaultOf, IsResultOf, s
 use Rattle.command_parts.specs.declared.output.Output.{Output}
 use Rattle.build_commands.specs.Written.{WritesFirmware, WritesImage, compile_lines}
 
-pub written_makes : (makes : Result SeenOutput Status → Type 0) (image : Image) (place : ℕ) (text : List ℕ)
+pub written_makes : (makes : Result SeenOutput Status → Type 0) (image : Image) (place : ℕ) (lines : List (List ℕ))
     (result : Result Output Status)
-    → IfOk result (λ work. WritesImage image place text (seen_output work)) → IfErr result (λ s. s ≡ status.Memory)
-    → ((output : SeenOutput) → WritesImage image place text output → makes (Ok output)) → IsResultOf makes result
-written_makes makes image place text (Ok work) writes memory gives = gives (seen_output work) writes
-written_makes makes image place text (Err s) writes memory gives = subst (IsFaultOf makes) (sym memory) tt
+    → IfOk result (λ work. WritesImage image place lines (seen_output work)) → IfErr result (λ s. s ≡ status.Memory)
+    → ((output : SeenOutput) → WritesImage image place lines output → makes (Ok output)) → IsResultOf makes result
+written_makes makes image place lines (Ok work) writes memory gives = gives (seen_output work) writes
+written_makes makes image place lines (Err s) writes memory gives = subst (IsFaultOf makes) (sym memory) tt
 
 -- the firmware of a text, with its bounds
 module _ (makes : Result SeenOutput Status → Type 0) (Gives : Block → Firmware → Type 0) (bound : Block → ℕ) (block : Block)
@@ -40,7 +40,7 @@ module _ (makes : Result SeenOutput Status → Type 0) (Gives : Block → Firmwa
         block = block;
         firmware = firmware;
         gives = gives;
-        writes = subst (λ (text : List ℕ). WritesImage firmware.image 3 text output)
+        writes = subst (λ lines. WritesImage firmware.image 3 lines output)
             (ap₂ (λ (i s : ℕ). compile_lines i s (length firmware.image.bytes)) instructions steps) w;
       }))
 

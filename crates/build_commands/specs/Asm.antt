@@ -18,7 +18,7 @@ pub record AsmGives (source : List ℕ) (output : SeenOutput) : Type 0 where
   pub assembles : Assembles source image.bytes
   pub ascending : IsAscending image.bytes
   pub start : image.start ≡ start_of image.bytes
-  pub writes : WritesImage image 3 (line (codes "bytes ") (length image.bytes)) output
+  pub writes : WritesImage image 3 (line (codes "bytes ") (length image.bytes) ∷ []) output
 
 -- why a source gives none
 abbrev pub source_refusals : List ℕ → Refusals

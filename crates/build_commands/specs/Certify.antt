@@ -13,8 +13,8 @@ use Rattle.fz_status.specs.declared.status.Status.{Status}
 use Rattle.fz_status.specs.declared.status.Status.TheVariants as status
 use Rattle.build_commands.specs.declared.certify.Certify.{Certify}
 use Rattle.command_parts.specs.{SeenOutputs.SeenOutput, Certs.StopsHalving, Words.number_of, Firmwares.GivesFirmware}
-use Rattle.command_parts.specs.{Firmwares.RefusesText}
-use Rattle.command_parts.specs.{Lines.counted, Lines.error_line, Lines.line, declared.firmware.Form.TheVariants.Alone}
+use Rattle.command_parts.specs.{Firmwares.RefusesText, Lines.line, declared.firmware.Form.TheVariants.Alone}
+use Rattle.command_parts.specs.Lines.{error_lines, line}
 
 abbrev pub certify_with : CertKind → Width → ℕ → Certify
 certify_with kind width target = record { kind = kind; width = width; target = target }
@@ -29,8 +29,8 @@ certify_inputs = 2 ∷ []
 
 -- ---- its lines: the error of each output, and how many leaves the certificate has
 
-abbrev pub certify_lines : List ℕ → ℕ → List ℕ
-certify_lines errors leaves = counted error_line 1 errors ++ line (codes "leaves ") leaves
+abbrev pub certify_lines : List ℕ → ℕ → List (List ℕ)
+certify_lines errors leaves = error_lines (codes "error ") errors ++ line (codes "leaves ") leaves ∷ []
 
 -- ---- what it makes of its file
 
@@ -45,7 +45,7 @@ pub record CertifyGives (certify : Certify) (text : List ℕ) (output : SeenOutp
   pub within : All (λ error. error ≤ certify.target) cert.claims
   pub out : List ℕ
   pub spelled : CertText certify.kind certify.width out cert
-  pub output_is : output ≡ record { text = certify_lines cert.claims (leaf_count cert.nodes); file = Some (4, out) }
+  pub output_is : output ≡ record { lines = certify_lines cert.claims (leaf_count cert.nodes); file = Some (4, out) }
 
 -- why its file is refused: the text first
 abbrev pub certify_refusals : Certify → List ℕ → Refusals

@@ -6,9 +6,9 @@ use Rattle.eval_code.specs.Bounds.{instruction_bound}
 use Rattle.byte_scaling.specs.declared.width.Width.{Width}
 use Rattle.alone_code.specs.declared.firmware.Firmware.{Firmware}
 use Rattle.box_tree.specs.declared.cert.CertKind.{CertKind}
-use Rattle.command_parts.specs.{Certs.AcceptsCert, Certs.RefusesCert, SeenOutputs.SeenOutput, SeenOutputs.only_text}
-use Rattle.command_parts.specs.Firmwares.{GivesFirmware, RefusesText}
-use Rattle.command_parts.specs.{Lines.counted, Lines.error_line, Lines.line, declared.firmware.Form.TheVariants.Alone}
+use Rattle.command_parts.specs.{Certs.AcceptsCert, Certs.RefusesCert, SeenOutputs.SeenOutput, SeenOutputs.only_lines}
+use Rattle.command_parts.specs.{Lines.line, declared.firmware.Form.TheVariants.Alone}
+use Rattle.command_parts.specs.{Firmwares.GivesFirmware, Firmwares.RefusesText, Lines.error_lines, Lines.line}
 use Rattle.build_commands.specs.declared.check.Check.{Check}
 use Rattle.fz_status.specs.{Refusals.Refusals, Refusals.Refuses, declared.status.Status.Status}
 use Rattle.fz_status.specs.declared.status.Status.TheVariants as status
@@ -22,8 +22,9 @@ check_inputs = 2 ∷ 3 ∷ []
 
 -- ---- its lines: the error of each output, and the bound on instructions
 
-abbrev pub check_lines : List ℕ → ℕ → List ℕ
-check_lines errors instructions = counted error_line 1 errors ++ line (codes "instructions ") instructions
+abbrev pub check_lines : List ℕ → ℕ → List (List ℕ)
+check_lines errors instructions =
+    error_lines (codes "error ") errors ++ line (codes "instructions ") instructions ∷ []
 
 -- ---- what it makes of its files
 
@@ -35,7 +36,7 @@ pub record CheckGives (check : Check) (text cert : List ℕ) (output : SeenOutpu
   pub gives : GivesFirmware (Alone check.width) text block firmware
   pub errors : List ℕ
   pub accepts : AcceptsCert check.kind check.width block cert errors
-  pub output_is : output ≡ only_text (check_lines errors (instruction_bound check.width block))
+  pub output_is : output ≡ only_lines (check_lines errors (instruction_bound check.width block))
 
 -- why its files are refused: the text first
 abbrev pub check_refusals : Check → List ℕ → List ℕ → Refusals

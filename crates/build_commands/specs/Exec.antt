@@ -1,6 +1,6 @@
 -- The command `exec IMAGE STEPS FLAGS`.
 -- Beside the promise.
-use Rattle.std.specs.Prelude.{◌≡◌, ℕ, List, [], ◌∷◌, codes}
+use Rattle.std.specs.Prelude.{◌≡◌, ℕ, List, [], ◌∷◌, ◌++◌, codes, decimal}
 use Rattle.std.specs.Prelude.{Option, option_and_then, option_map, Result, Ok, Err}
 use Rattle.cpu12_asm.specs.declared.image.Image.{Image}
 use Rattle.cpu12_isa.specs.declared.instr.Regs.{Regs}
@@ -8,8 +8,9 @@ use Rattle.cpu12_parts.specs.State.{State}
 use Rattle.cpu12_emul.specs.{Image.image_memory, Run.EndsRun, Step.reset_with, declared.ends.RunEnd.RunEnd}
 use Rattle.cpu12_emul.specs.declared.ends.RunEnd.TheVariants as end
 use Rattle.srecord.specs.Texts.{GivesImage}
-use Rattle.command_parts.specs.{SeenOutputs.SeenOutput, SeenOutputs.only_text, Images.records_refusals}
-use Rattle.command_parts.specs.{Lines.line, Lines.with_registers, Words.number_of}
+use Rattle.fz_shelf.specs.Parts.{ended}
+use Rattle.command_parts.specs.{SeenOutputs.SeenOutput, SeenOutputs.only_lines, Images.records_refusals}
+use Rattle.command_parts.specs.{Lines.registers_told, Words.number_of}
 use Rattle.fz_status.specs.{Words.flags_of, declared.status.Status.Status}
 use Rattle.build_commands.specs.declared.exec.Exec.{Exec}
 use Rattle.fz_status.specs.{Refusals.Refusals, Refusals.Refuses, Words.Text, Words.word_at}
@@ -30,7 +31,7 @@ exec_inputs = 2 ∷ []
 -- ---- its line: the registers, and how many steps led to them
 
 abbrev pub exec_line : Regs → ℕ → List ℕ
-exec_line r steps = with_registers r (line (codes " steps ") steps)
+exec_line r steps = ended (registers_told r ++ (codes " steps " ++ decimal steps))
 
 -- ---- what it makes of its file
 
@@ -45,7 +46,7 @@ pub record ExecGives (exec : Exec) (text : List ℕ) (output : SeenOutput) : Typ
   pub steps : ℕ
   pub last : State
   pub arrives : Ends exec text (end.Arrived steps) last
-  pub output_is : output ≡ only_text (exec_line last.regs steps)
+  pub output_is : output ≡ only_lines (exec_line last.regs steps ∷ [])
 
 -- the text gives no image, or the run ends elsewhere
 abbrev pub exec_refusals : Exec → List ℕ → Refusals

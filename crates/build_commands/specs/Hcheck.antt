@@ -2,7 +2,7 @@
 -- Beside the promise.
 use Rattle.std.specs.Prelude.{◌≡◌, ℕ, List, [], ◌∷◌, codes, Result, Ok, Err}
 use Rattle.cpu12_asm.specs.declared.image.Image.{Image}
-use Rattle.command_parts.specs.{SeenOutputs.SeenOutput, SeenOutputs.only_text, Lines.line}
+use Rattle.command_parts.specs.{SeenOutputs.SeenOutput, SeenOutputs.only_lines, Lines.line}
 use Rattle.command_parts.specs.Handlers.{GivesHandler, handler_refusals}
 use Rattle.fz_status.specs.{Refusals.Refuses, declared.status.Status.Status}
 use Rattle.fz_status.specs.declared.status.Status.TheVariants as status
@@ -16,7 +16,7 @@ pub record HcheckGives (text : List ℕ) (output : SeenOutput) : Type 0 where
   pub image : Image
   pub instrs : ℕ
   pub gives : GivesHandler text image instrs
-  pub output_is : output ≡ only_text (line (codes "handler instructions ") instrs)
+  pub output_is : output ≡ only_lines (line (codes "handler instructions ") instrs ∷ [])
 
 abbrev pub HcheckMakes : List ℕ → Result SeenOutput Status → Type 0
 HcheckMakes text (Ok output) = HcheckGives text output

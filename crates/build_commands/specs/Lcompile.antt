@@ -1,6 +1,6 @@
 -- The command `lcompile SLOW FAST OUT`.
 -- Beside the promise.
-use Rattle.std.specs.Prelude.{ℕ, List, [], ◌∷◌, ◌++◌, length, codes, Result, Ok, Err}
+use Rattle.std.specs.Prelude.{ℕ, List, [], ◌∷◌, length, codes, Result, Ok, Err}
 use Rattle.fuzzy_meaning.specs.declared.block.Block.{Block}
 use Rattle.eval_code.specs.Bounds.{instruction_bound}
 use Rattle.byte_scaling.specs.declared.width.Width.TheVariants.{Byte}
@@ -14,9 +14,9 @@ abbrev pub lcompile_inputs : List ℕ
 lcompile_inputs = 2 ∷ 3 ∷ []
 
 -- the bounds on instructions of the slow code and of the fast, and how many bytes the image of both has
-abbrev pub lcompile_lines : ℕ → ℕ → ℕ → List ℕ
+abbrev pub lcompile_lines : ℕ → ℕ → ℕ → List (List ℕ)
 lcompile_lines slow fast bytes =
-    line (codes "instructions ") slow ++ (line (codes "fast ") fast ++ line (codes "bytes ") bytes)
+    line (codes "instructions ") slow ∷ line (codes "fast ") fast ∷ line (codes "bytes ") bytes ∷ []
 
 -- the texts give blocks and these the firmware of both, and OUT is to hold the records of its image
 pub record LcompileGives (slow fast : List ℕ) (output : SeenOutput) : Type 0 where

@@ -1,6 +1,6 @@
 -- What commands write of firmware and images.
 -- Beside the promise.
-use Rattle.std.specs.Prelude.{◌≡◌, ℕ, List, ◌++◌, length, codes, Some}
+use Rattle.std.specs.Prelude.{◌≡◌, ℕ, List, [], ◌∷◌, length, codes, Some}
 use Rattle.fuzzy_meaning.specs.declared.block.Block.{Block}
 use Rattle.eval_code.specs.Bounds.{steps_by}
 use Rattle.alone_code.specs.declared.firmware.Firmware.{Firmware}
@@ -8,16 +8,16 @@ use Rattle.cpu12_asm.specs.declared.image.Image.{Image}
 use Rattle.srecord.specs.Images.{ImageText}
 use Rattle.command_parts.specs.{SeenOutputs.SeenOutput, Lines.line}
 
--- the file of this word is to hold the records of the image, and this is the text for out
-pub record WritesImage (image : Image) (place : ℕ) (text : List ℕ) (output : SeenOutput) : Type 0 where
+-- the file of this word is to hold the records of the image, and these are the lines for out
+pub record WritesImage (image : Image) (place : ℕ) (lines : List (List ℕ)) (output : SeenOutput) : Type 0 where
   pub records : List ℕ
   pub of_image : ImageText image.bytes image.start records
-  pub output_is : output ≡ record { text = text; file = Some (place, records) }
+  pub output_is : output ≡ record { lines = lines; file = Some (place, records) }
 
 -- the bounds of firmware, and how many bytes its image has
-abbrev pub compile_lines : ℕ → ℕ → ℕ → List ℕ
+abbrev pub compile_lines : ℕ → ℕ → ℕ → List (List ℕ)
 compile_lines instructions steps bytes =
-    line (codes "instructions ") instructions ++ (line (codes "steps ") steps ++ line (codes "bytes ") bytes)
+    line (codes "instructions ") instructions ∷ line (codes "steps ") steps ∷ line (codes "bytes ") bytes ∷ []
 
 -- a text gives firmware of one form, whose bound on instructions this is; OUT is to hold the records of its image, and
 -- the lines are of its bounds and its bytes

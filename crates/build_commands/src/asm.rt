@@ -1,6 +1,6 @@
 //! The command `asm SRC OUT`.
 ghost use Rattle.std.specs.Prelude.{◌≡◌, length, IfOk, List, ℕ};
-ghost use Rattle.fz_shelf.specs.Lines.{text_of};
+ghost use Rattle.std.specs.Prelude.{◌≡◌, ◌∷◌, [], length, IfOk, List, ℕ};
 ghost use Rattle.std.specs.Prelude.{codes};
 ghost use Rattle.command_parts.specs.{SeenOutputs.OutputHasNoFault, SeenOutputs.IsResultOf, Lines.line};
 ghost use Rattle.build_commands.specs.Asm.{AsmMakes};
@@ -10,6 +10,7 @@ use command_parts::contents::Content;
 use command_parts::lines::labelled;
 use command_parts::output::Output;
 use cpu12_asm::{AsmFault, Image, assemble};
+use fz_shelf::Line;
 use fz_status::Status;
 use std::alloc::{AllocError, Global};
 
@@ -33,8 +34,8 @@ pub fn work(alloc: Global, source: &Content) -> Result<Output, Status>
 }
 
 /// How many bytes the image has.
-fn lines(alloc: Global, image: &Image) -> Result<Vec<String>, AllocError>
-    ensures { IfOk result (λ lines. text_of lines.items ≡ line (codes "bytes ") (length image.now.bytes)) }
+fn lines(alloc: Global, image: &Image) -> Result<Vec<Line>, AllocError>
+    ensures { IfOk result (λ lines. lines.items ≡ line (codes "bytes ") (length image.now.bytes) ∷ []) }
 {
     let mut lines = Vec::new(alloc);
     lines.push(labelled(alloc, "bytes ", image.bytes.len() as u128)?)?;

@@ -1,7 +1,6 @@
 //! The commands `certify FCL TARGET OUT`, `certify16 ..`, and `tcertify ..` and `tcertify16 ..` for tight certificates.
 ghost use Rattle.std.specs.Prelude.{◌≡◌, ◌≤◌, IfOk, List, ℕ};
 ghost use Rattle.box_tree.specs.{Trees.leaf_count};
-ghost use Rattle.fz_shelf.specs.Lines.{text_of};
 ghost use Rattle.fz_status.specs.{Words.texts_of};
 ghost use Rattle.build_commands.specs.Certify.{CertifyMakes, certify_in, certify_lines};
 ghost use Rattle.build_commands.specs.declared.certify.Certify.{Certify as TheCertify};
@@ -19,6 +18,7 @@ use command_parts::output::Output;
 use command_parts::words::{Number, number_in};
 use error_certifier::answers_are_one;
 use fcl_check::spelled_blocks_are_one;
+use fz_shelf::Line;
 use fz_status::{Status, word};
 use std::alloc::{AllocError, Global};
 
@@ -83,15 +83,15 @@ fn count_of_leaves(nodes: &[Node]) -> u64
 }
 
 /// The error of each output, and the number of leaves.
-fn lines(alloc: Global, cert: &Cert) -> Result<Vec<String>, AllocError>
+fn lines(alloc: Global, cert: &Cert) -> Result<Vec<Line>, AllocError>
     requires { leaf_count cert.now.nodes ≤ 4096 }
-    ensures { IfOk result (λ lines. text_of lines.items ≡
+    ensures { IfOk result (λ lines. lines.items ≡
         certify_lines cert.now.claims (leaf_count cert.now.nodes)) }
 {
     let errors = cert.claims.as_slice();
     let nodes = cert.nodes.as_slice();
     let mut lines = Vec::new(alloc);
-    push_errors(alloc, &mut lines, errors)?;
+    push_errors(alloc, &mut lines, "error ", errors)?;
     lines.push(labelled(alloc, "leaves ", u128::from(count_of_leaves(nodes)))?)?;
     Ok(lines)
 }

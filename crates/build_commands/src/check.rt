@@ -1,6 +1,6 @@
 //! The commands `check FCL CERT`, `check16 ..`, and `tcheck ..` and `tcheck16 ..` of tight certificates.
 ghost use Rattle.std.specs.Prelude.{◌≡◌, IfOk, List, ℕ};
-ghost use Rattle.fz_shelf.specs.Lines.{text_of};
+ghost use Rattle.std.specs.Prelude.{◌≡◌, IfOk, List, ℕ};
 ghost use Rattle.command_parts.specs.SeenOutputs.{OutputHasNoFault, OutputsAreOne, IsResultOf};
 ghost use Rattle.build_commands.specs.{Check.CheckMakes, Check.check_lines, declared.check.Check.Check as TheCheck};
 
@@ -14,6 +14,7 @@ use command_parts::firmware::{
 use command_parts::lines::{labelled, push_errors};
 use command_parts::output::Output;
 use fcl_check::spelled_blocks_are_one;
+use fz_shelf::Line;
 use fz_status::Status;
 use std::alloc::{AllocError, Global};
 
@@ -43,11 +44,11 @@ impl Check {
 }
 
 /// The error of each output, and the bound on instructions.
-fn lines(alloc: Global, errors: &[u32], instructions: u32) -> Result<Vec<String>, AllocError>
-    ensures { IfOk result (λ lines. text_of lines.items ≡ check_lines errors.now instructions) }
+fn lines(alloc: Global, errors: &[u32], instructions: u32) -> Result<Vec<Line>, AllocError>
+    ensures { IfOk result (λ lines. lines.items ≡ check_lines errors.now instructions) }
 {
     let mut lines = Vec::new(alloc);
-    push_errors(alloc, &mut lines, errors)?;
+    push_errors(alloc, &mut lines, "error ", errors)?;
     lines.push(labelled(alloc, "instructions ", u128::from(instructions))?)?;
     Ok(lines)
 }

@@ -1,6 +1,6 @@
 //! The command `exec IMAGE STEPS FLAGS`.
-ghost use Rattle.std.specs.Prelude.{◌≡◌, string_bytes, IfOk, List, ℕ};
-ghost use Rattle.fz_shelf.specs.Lines.{text_of};
+ghost use Rattle.std.specs.Prelude.{◌≡◌, IfOk, List, ℕ};
+ghost use Rattle.std.specs.Prelude.{◌≡◌, ◌∷◌, [], IfOk, List, ℕ};
 ghost use Rattle.command_parts.specs.SeenOutputs.{OutputHasNoFault, OutputsAreOne, IsResultOf};
 ghost use Rattle.build_commands.specs.Exec.{ExecMakes, exec_in, exec_line};
 ghost use Rattle.build_commands.specs.declared.exec.Exec.{Exec as TheExec};
@@ -8,7 +8,7 @@ ghost use Rattle.fz_status.specs.Words.{texts_of};
 
 use command_parts::contents::Content;
 use command_parts::images::{given_records_have_no_fault, image_of};
-use command_parts::lines::{labelled, line_of_registers};
+use command_parts::lines::told_registers;
 use command_parts::output::Output;
 use command_parts::words::{flags, number_in};
 use cpu12_asm::Image;
@@ -17,9 +17,11 @@ use cpu12_emul::laws::{images_load_alike, runs_end_once};
 use cpu12_emul::machine::Machine;
 use cpu12_isa::instr::Regs;
 use cpu12_isa::pages::PageMem;
+use fz_shelf::Line;
 use fz_status::{Status, word};
 use srecord::images_are_one;
 use std::alloc::{AllocError, Global};
+use std::fmt::Write;
 
 /// `exec IMAGE STEPS FLAGS`
 #[derive(Clone, Copy, Debug, PartialEq, Eq)]
@@ -61,15 +63,16 @@ impl Exec {
 }
 
 /// The line of registers, and of how many steps led to them.
-fn line_of(alloc: Global, regs: &Regs, steps: u32) -> Result<String, AllocError>
-    ensures { IfOk result (λ s. string_bytes s ≡ exec_line regs.now steps) }
+fn line_of(alloc: Global, regs: &Regs, steps: u32) -> Result<Line, AllocError>
+    ensures { IfOk result (λ l. l ≡ exec_line regs.now steps) }
 {
-    let end = labelled(alloc, " steps ", u128::from(steps))?;
-    line_of_registers(alloc, regs, end.as_str())
+    let mut text = told_registers(alloc, regs)?;
+    write!(&mut text, " steps {steps}")?;
+    Line::of(text)
 }
 
-fn lines(alloc: Global, regs: &Regs, steps: u32) -> Result<Vec<String>, AllocError>
-    ensures { IfOk result (λ lines. text_of lines.items ≡ exec_line regs.now steps) }
+fn lines(alloc: Global, regs: &Regs, steps: u32) -> Result<Vec<Line>, AllocError>
+    ensures { IfOk result (λ lines. lines.items ≡ exec_line regs.now steps ∷ []) }
 {
     let mut lines = Vec::new(alloc);
     lines.push(line_of(alloc, regs, steps)?)?;

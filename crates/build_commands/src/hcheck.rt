@@ -1,6 +1,6 @@
 //! The command `hcheck HANDLER`.
 ghost use Rattle.std.specs.Prelude.{◌≡◌, codes, IfOk, List, ℕ};
-ghost use Rattle.fz_shelf.specs.Lines.{text_of};
+ghost use Rattle.std.specs.Prelude.{◌≡◌, ◌∷◌, [], codes, IfOk, List, ℕ};
 ghost use Rattle.command_parts.specs.{SeenOutputs.OutputHasNoFault, SeenOutputs.IsResultOf, Lines.line};
 ghost use Rattle.build_commands.specs.Hcheck.{HcheckMakes};
 
@@ -8,6 +8,7 @@ use command_parts::contents::Content;
 use command_parts::handlers::{given_handlers_have_no_fault, handler_of};
 use command_parts::lines::labelled;
 use command_parts::output::Output;
+use fz_shelf::Line;
 use fz_status::Status;
 use handler_check::Handler;
 use std::alloc::{AllocError, Global};
@@ -25,8 +26,8 @@ pub fn work(alloc: Global, records: &Content) -> Result<Output, Status>
 }
 
 /// The greatest number of instructions on a path of the handler.
-fn lines(alloc: Global, handler: Handler) -> Result<Vec<String>, AllocError>
-    ensures { IfOk result (λ lines. text_of lines.items ≡ line (codes "handler instructions ") handler.instrs) }
+fn lines(alloc: Global, handler: Handler) -> Result<Vec<Line>, AllocError>
+    ensures { IfOk result (λ lines. lines.items ≡ line (codes "handler instructions ") handler.instrs ∷ []) }
 {
     let mut lines = Vec::new(alloc);
     lines.push(labelled(alloc, "handler instructions ", u128::from(handler.instrs))?)?;

@@ -1,6 +1,6 @@
 //! The command `lcompile SLOW FAST OUT`.
 ghost use Rattle.std.specs.Prelude.{◌≡◌, length, IfOk, List, ℕ};
-ghost use Rattle.fz_shelf.specs.Lines.{text_of};
+ghost use Rattle.std.specs.Prelude.{◌≡◌, length, IfOk, List, ℕ};
 ghost use Rattle.two_level_code.specs.Images.{fast_most};
 ghost use Rattle.command_parts.specs.SeenOutputs.{OutputHasNoFault, IsResultOf};
 ghost use Rattle.build_commands.specs.Lcompile.{LcompileMakes, lcompile_lines};
@@ -11,6 +11,7 @@ use command_parts::firmware::spelled_texts_have_no_fault;
 use command_parts::lines::labelled;
 use command_parts::output::Output;
 use command_parts::twos::two_of;
+use fz_shelf::Line;
 use fz_status::Status;
 use std::alloc::{AllocError, Global};
 use two_level_code::{Two, alone_has_byte_bounds};
@@ -33,8 +34,8 @@ pub fn work(alloc: Global, slow: &Content, fast: &Content) -> Result<Output, Sta
 }
 
 /// The bounds on instructions of the slow code and of the fast, and how many bytes the image has.
-fn lines(alloc: Global, two: &Two) -> Result<Vec<String>, AllocError>
-    ensures { IfOk result (λ lines. text_of lines.items ≡
+fn lines(alloc: Global, two: &Two) -> Result<Vec<Line>, AllocError>
+    ensures { IfOk result (λ lines. lines.items ≡
         lcompile_lines two.now.slow.instr_bound (fast_most two.now.fast.instr_bound) (length two.now.image.bytes)) }
 {
     let mut lines = Vec::new(alloc);

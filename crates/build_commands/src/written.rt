@@ -1,6 +1,5 @@
 //! What commands write of firmware and images: the records for OUT, and lines.
 ghost use Rattle.std.specs.Prelude.{◌≡◌, length, IfErr, IfOk};
-ghost use Rattle.fz_shelf.specs.Lines.{text_of};
 ghost use Rattle.command_parts.specs.SeenOutputs.{seen_output};
 ghost use Rattle.build_commands.specs.Written.{WritesImage, compile_lines};
 
@@ -8,6 +7,7 @@ use alone_code::Firmware;
 use command_parts::lines::labelled;
 use command_parts::output::Output;
 use cpu12_asm::Image;
+use fz_shelf::Line;
 use fz_status::Status;
 use std::alloc::{AllocError, Global};
 
@@ -19,9 +19,9 @@ pub(crate) fn written_image(
     alloc: Global,
     image: &Image,
     place: u32,
-    lines: Vec<String>,
+    lines: Vec<Line>,
 ) -> Result<Output, Status>
-    ensures writes { IfOk result (λ work. WritesImage image.now place (text_of lines.items) (seen_output work)) }
+    ensures writes { IfOk result (λ work. WritesImage image.now place (lines.items) (seen_output work)) }
     ensures memory { IfErr result (λ status. status ≡ Status.Memory) }
 {
     let records = srecord::write(alloc, image)?;
@@ -43,8 +43,8 @@ pub(crate) fn written_firmware(alloc: Global, firmware: &Firmware) -> Result<Out
 }
 
 /// The bounds on instructions and steps, and how many bytes the image has.
-fn lines(alloc: Global, firmware: &Firmware) -> Result<Vec<String>, AllocError>
-    ensures { IfOk result (λ lines. text_of lines.items ≡
+fn lines(alloc: Global, firmware: &Firmware) -> Result<Vec<Line>, AllocError>
+    ensures { IfOk result (λ lines. lines.items ≡
         compile_lines firmware.now.instr_bound firmware.now.step_bound (length firmware.now.image.bytes)) }
 {
     let mut lines = Vec::new(alloc);

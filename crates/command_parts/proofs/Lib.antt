@@ -1,4 +1,5 @@
 pub mod Algebra
 pub mod CertLemmas
 pub mod ImageLemmas
+pub mod LineLemmas
 pub mod NumberLemmas

@@ -1,22 +1,21 @@
 -- What a command leaves to be written and put.
 -- Beside the promise.
 use Rattle.std.specs.Prelude.{◌≡◌, ℕ, List, None, Option, option_map, Result, Ok, Err}
-use Rattle.fz_shelf.specs.Lines.{text_of}
 use Rattle.fz_status.specs.declared.status.Status.{Status}
 use Rattle.fz_status.specs.declared.status.Status.TheVariants as status
 use Rattle.command_parts.specs.declared.output.Output.{Output}
 
--- the text for out, and the word of the file to write with its bytes
+-- the lines for out, and the word of the file to write with its bytes
 pub record SeenOutput : Type 0 where
-  pub text : List ℕ
+  pub lines : List (List ℕ)
   pub file : Option (ℕ × List ℕ)
 
 -- an output that writes no file
-abbrev pub only_text : List ℕ → SeenOutput
-only_text t = record { text = t; file = None }
+abbrev pub only_lines : List (List ℕ) → SeenOutput
+only_lines ls = record { lines = ls; file = None }
 
 abbrev pub seen_output : Output → SeenOutput
-seen_output w = record { text = text_of w.lines.items; file = option_map (λ p. (p.0, p.1.items)) w.file }
+seen_output w = record { lines = w.lines.items; file = option_map (λ p. (p.0, p.1.items)) w.file }
 
 -- some output is made
 abbrev pub HasOutput : (Result SeenOutput Status → Type 0) → Type 0

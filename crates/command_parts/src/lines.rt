@@ -1,38 +1,47 @@
 //! Lines on out.
-ghost use Rattle.std.specs.Prelude.{◌≡◌, ◌++◌, IfOk, OnOk, string_bytes};
-ghost use Rattle.fz_shelf.specs.{Lines.text_of, Parts.address_digits, Parts.byte_digits};
-ghost use Rattle.command_parts.specs.Lines.{counted, error_line, line, with_registers};
+ghost use Rattle.std.specs.Prelude.{◌≡◌, ◌++◌, IfOk, OnOk, string_bytes, true};
+ghost use Rattle.fz_shelf.specs.{Lines.has_no_end, Parts.address_digits, Parts.byte_digits};
+ghost use Rattle.command_parts.specs.Lines.{error_line, error_lines, line, registers_told};
 
 use cpu12_isa::instr::Regs;
+use fz_shelf::Line;
 use std::alloc::{AllocError, Global};
 use std::fmt::Write;
 
-/// A label, a number and the end of the line.
-pub fn labelled(alloc: Global, label: &str, n: u128) -> Result<String, AllocError>
-    ensures { IfOk result (λ s. string_bytes s ≡ line label.now n) }
+/// The line of a label and a number.
+pub fn labelled(alloc: Global, label: &str, n: u128) -> Result<Line, AllocError>
+    requires { has_no_end label.now ≡ true }
+    ensures { IfOk result (λ l. l ≡ line label.now n) }
 {
     let mut text = String::from_str(alloc, label)?;
-    write!(&mut text, "{n}\n")?;
-    Ok(text)
+    write!(&mut text, "{n}")?;
+    Line::of(text)
 }
 
-/// The error of each output.
-pub fn push_errors(alloc: Global, lines: &mut Vec<String>, errors: &[u32]) -> Result<(), AllocError>
-    ensures { OnOk result (text_of lines.new.items ≡ text_of lines.old.items ++ counted error_line 1 errors.now) }
+/// The error of each output, behind a label.
+pub fn push_errors(
+    alloc: Global,
+    lines: &mut Vec<Line>,
+    label: &str,
+    errors: &[u32],
+) -> Result<(), AllocError>
+    requires { has_no_end label.now ≡ true }
+    ensures { OnOk result (lines.new.items ≡ lines.old.items ++ error_lines label.now errors.now) }
 {
     for (at, error) in errors.iter().enumerate() {
-        lines.push(line_of_error(alloc, at + 1, *error)?)?;
+        lines.push(line_of_error(alloc, label, at + 1, *error)?)?;
     }
     Ok(())
 }
 
 /// The line of the error of an output, counted from 1.
-pub fn line_of_error(alloc: Global, output: usize, error: u32) -> Result<String, AllocError>
-    ensures { IfOk result (λ s. string_bytes s ≡ error_line output error) }
+fn line_of_error(alloc: Global, label: &str, output: usize, error: u32) -> Result<Line, AllocError>
+    requires { has_no_end label.now ≡ true }
+    ensures { IfOk result (λ l. l ≡ error_line label.now output error) }
 {
-    let mut text = String::from_str(alloc, "error ")?;
-    write!(&mut text, "{output} {error}\n")?;
-    Ok(text)
+    let mut text = String::from_str(alloc, label)?;
+    write!(&mut text, "{output} {error}")?;
+    Line::of(text)
 }
 
 /// A label, and an address as four hexadecimal digits.
@@ -58,9 +67,10 @@ pub fn push_byte(alloc: Global, text: &mut String, label: &str, byte: u8) -> Res
     text.push_str(digits.as_str())
 }
 
-/// The line of registers, which ends like this.
-pub fn line_of_registers(alloc: Global, regs: &Regs, end: &str) -> Result<String, AllocError>
-    ensures { IfOk result (λ s. string_bytes s ≡ with_registers regs.now end.now) }
+/// The registers, in which no line ends.
+pub fn told_registers(alloc: Global, regs: &Regs) -> Result<String, AllocError>
+    ensures told { IfOk result (λ s. string_bytes s ≡ registers_told regs.now) }
+    ensures bare { IfOk result (λ s. has_no_end (string_bytes s) ≡ true) }
 {
     let mut text = String::new(alloc);
     push_address(alloc, &mut text, "pc ", regs.pc)?;
@@ -70,6 +80,5 @@ pub fn line_of_registers(alloc: Global, regs: &Regs, end: &str) -> Result<String
     push_address(alloc, &mut text, " y ", regs.y)?;
     push_address(alloc, &mut text, " sp ", regs.sp)?;
     push_byte(alloc, &mut text, " ccr ", regs.ccr.0)?;
-    text.push_str(end)?;
     Ok(text)
 }

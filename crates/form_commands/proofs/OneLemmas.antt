@@ -20,7 +20,7 @@ use Rattle.two_level_runs.specs.Rows.{two_seen}
 use Rattle.command_parts.specs.Certs.{AcceptedErrorsAreOne, AcceptsCert}
 use Rattle.command_parts.specs.Firmwares.{GivenFirmwaresAreOne}
 use Rattle.command_parts.specs.declared.firmware.Form.TheVariants.{Alone, Mailbox, Watched}
-use Rattle.command_parts.specs.{SeenOutputs.OutputsAreOne, SeenOutputs.only_text, Twos.GivenTwosAreOne}
+use Rattle.command_parts.specs.{SeenOutputs.OutputsAreOne, SeenOutputs.only_lines, Twos.GivenTwosAreOne}
 use Rattle.run_reports.specs.{Laws.SpelledInputsAreOne, PostedRun.run_of}
 use Rattle.run_reports.specs.declared.{files.HandledFiles.HandledFiles, files.LevelFiles.LevelFiles}
 use Rattle.run_reports.specs.declared.{files.PostedFiles.PostedFiles, files.WatchedFiles.WatchedFiles}
@@ -61,7 +61,7 @@ module _ (accepted : AcceptedErrorsAreOne) (inputs : SpelledInputsAreOne) where
       let bound : a.report.bound ≡ b.report.bound =
       p.reported.bound ∙ ap (instruction_bound Byte) one.0 ∙ sym q.reported.bound in
       a.output_is
-      ∙ (λ i. only_text (hrun_lines (record { errors = errors i; bound = bound i; rows = rows i })))
+      ∙ (λ i. only_lines (hrun_lines (record { errors = errors i; bound = bound i; rows = rows i })))
       ∙ sym b.output_is
 
   pub watched_once : GivenFirmwaresAreOne → SpelledUpsetsAreOne → (srun : Srun) (files : WatchedFiles)
@@ -83,7 +83,7 @@ module _ (accepted : AcceptedErrorsAreOne) (inputs : SpelledInputsAreOne) where
       ∙ sym q.ran in
       let bound : a.report.bound ≡ b.report.bound = p.bound ∙ ap watched_bound one.0 ∙ sym q.bound in
       a.output_is
-      ∙ (λ i. only_text (srun_lines (record { errors = errors i; bound = bound i; rows = rows i })))
+      ∙ (λ i. only_lines (srun_lines (record { errors = errors i; bound = bound i; rows = rows i })))
       ∙ sym b.output_is
 
   count_once : (samples those : List Sample) → map input_bytes samples ≡ map input_bytes those
@@ -111,7 +111,7 @@ module _ (accepted : AcceptedErrorsAreOne) (inputs : SpelledInputsAreOne) where
       p.ran ∙ (λ i. run_under_posts (one.1 i) (bytes i) (posts i) mrun.flags) ∙ sym q.ran in
       let bound : a.report.bound ≡ b.report.bound = p.bound ∙ ap (mailbox_bound Byte) one.0 ∙ sym q.bound in
       a.output_is
-      ∙ (λ i. only_text (mrun_lines (record {
+      ∙ (λ i. only_lines (mrun_lines (record {
         errors = errors i;
         bound = bound i;
         answers = (run i).answers;
@@ -149,7 +149,7 @@ module _ (accepted : AcceptedErrorsAreOne) (inputs : SpelledInputsAreOne) where
       let fast_bound : a.report.fast_bound ≡ b.report.fast_bound =
       p.fast_bound ∙ ap (λ (c : Block). fast_most (instruction_bound Byte c)) one.1 ∙ sym q.fast_bound in
       a.output_is
-      ∙ (λ i. only_text (lrun_lines (record {
+      ∙ (λ i. only_lines (lrun_lines (record {
         errors = errors i;
         fast_errors = fast_errors i;
         bound = bound i;

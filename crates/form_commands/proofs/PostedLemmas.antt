@@ -1,11 +1,11 @@
 -- What a run under posts gives.
 use Rattle.std.proofs.Common.{◌≡◌, ◌≢◌, ◌≤◌, ◌+◌, ◌-◌, ◌∙◌, ℕ, Bool, true, false, List, [], ◌∷◌, ◌++◌, length, ap, ap₂}
-use Rattle.std.proofs.Common.{append_assoc, refl, sym, subst, arith}
-use Rattle.std.specs.Prelude.{All, String, codes, flat_map, if◌then◌else◌, map, nat_le, string_bytes, ◌==◌}
+use Rattle.std.proofs.Common.{refl, sym, subst, arith}
+use Rattle.std.specs.Prelude.{All, codes, if◌then◌else◌, map, nat_le, ◌==◌}
 use Rattle.std.proofs.lemmas.List.Elements.{All-cons, All-head, All-tail}
 use Rattle.std.proofs.lemmas.Bool.Decides.{nat_tests}
 use Rattle.std.proofs.lemmas.List.{length-map}
-use Rattle.std.specs.declared.alloc.Global.{Global}
+use Rattle.std.proofs.lemmas.Simd.{map-map}
 use Rattle.fuzzy_meaning.specs.declared.block.Block.{Block}
 use Rattle.cpu12_emul.specs.{Take.FrameSeen, declared.ends.Frame.Frame}
 use Rattle.cpu12_parts.specs.State.{State}
@@ -25,11 +25,10 @@ use Rattle.mailbox_runs.specs.Turns.{waiting}
 use Rattle.run_forms.specs.Rows.{boundary_seen, frames_seen}
 use Rattle.mailbox_runs.specs.declared.run.Answer as declared
 use Rattle.run_reports.specs.Posted.{IsOneOf, PostedAnswersAreNear}
-use Rattle.fz_shelf.specs.Lines.{text_of}
 use Rattle.fz_status.specs.{Refusals.IsRefusal, declared.status.Status.Status}
 use Rattle.fz_status.specs.declared.status.Status.TheVariants as status
 use Rattle.command_parts.specs.{Certs.AcceptsCert, Firmwares.GivesFirmware, Lines.counted, Lines.line}
-use Rattle.command_parts.proofs.Algebra.{flat-map, of_seen, text_of-snoc, begun_items}
+use Rattle.command_parts.proofs.Algebra.{of_seen, counted-map, made_with}
 use Rattle.command_parts.specs.declared.firmware.Form.TheVariants.{Mailbox}
 use Rattle.form_commands.specs.Mrun.{AcceptedPostedRunsMakeOutput, answer_line, mrun_lines, mrun_refusals}
 use Rattle.form_commands.specs.Mrun.{posted_report, posts_refusals, taken_line}
@@ -213,23 +212,19 @@ refused_posts files block firmware errors samples s compiled image accepted in_r
 
 -- ---- its lines
 
-pub posted_written : (begun told taken lines : List (String Global)) (final : String Global) (es : List ℕ)
-    (bound resumed : ℕ) (xs : List declared.Answer) (frames : List (ℕ × Frame))
-    → text_of begun ≡ begun_lines es bound
-    → text_of told ≡ text_of begun ++ counted (λ k x. answer_line k (answer_seen x)) 1 xs
-    → text_of taken ≡ text_of told ++ flat_map (λ f. taken_line (boundary_seen f)) frames
-    → lines ≡ taken ++ final ∷ [] → string_bytes final ≡ line (codes "resumed ") resumed
-    → text_of lines ≡ mrun_lines (posted_report es bound (map answer_seen xs) (frames_seen frames) resumed)
+pub posted_written : (begun told taken lines : List (List ℕ)) (final : List ℕ) (es : List ℕ) (bound resumed : ℕ)
+    (xs : List declared.Answer) (frames : List (ℕ × Frame)) → begun ≡ begun_lines es bound
+    → told ≡ begun ++ counted (λ k x. answer_line k (answer_seen x) ∷ []) 1 xs
+    → taken ≡ told ++ map (λ f. taken_line (boundary_seen f)) frames
+    → lines ≡ taken ++ final ∷ [] → final ≡ line (codes "resumed ") resumed
+    → lines ≡ mrun_lines (posted_report es bound (map answer_seen xs) (frames_seen frames) resumed)
 posted_written begun told taken lines final es bound resumed xs frames begun_so told_so taken_so added is =
-    let b = begun_lines es bound in
-    let c = counted answer_line 1 (map answer_seen xs) in
-    let d = flat_map taken_line (frames_seen frames) in
-    let r = line (codes "resumed ") resumed in
-    ap text_of added ∙ text_of-snoc taken final
-    ∙ ap₂ (λ (x y : List ℕ). x ++ y)
-    (taken_so ∙ ap₂ (λ (x y : List ℕ). x ++ y) (begun_items answer_line answer_seen begun told b xs begun_so told_so)
-    (sym (flat-map taken_line boundary_seen frames))) is
-    ∙ append_assoc (b ++ c) d r ∙ append_assoc b c (d ++ r)
+    let answers = counted-map (λ k a. answer_line k a ∷ []) answer_seen 1 xs in
+    let d = map-map taken_line boundary_seen frames in
+    added ∙ made_with told (map (λ f. taken_line (boundary_seen f)) frames) (final ∷ []) taken taken_so
+    ∙ made_with begun (counted (λ k x. answer_line k (answer_seen x) ∷ []) 1 xs)
+    (map (λ f. taken_line (boundary_seen f)) frames ++ final ∷ []) told told_so
+    ∙ (λ i. begun_so i ++ ((sym answers) i ++ ((sym d) i ++ is i ∷ [])))
 
 -- accepted files make an output
 pub posted_made : AnswersKeepTheBound → SpelledBytesFit → PostedAnswersAreNear → LastIsAnswered → AnswersUnderAllPosts

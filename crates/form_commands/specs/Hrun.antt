@@ -12,7 +12,7 @@ use Rattle.trace_io.specs.declared.sample.Sample.{Sample}
 use Rattle.handled_runs.specs.Forms.{HandledSeen}
 use Rattle.command_parts.specs.{Contents.content_at, Firmwares.OfFirmware, Firmwares.RefusesText}
 use Rattle.command_parts.specs.{Handlers.GivesHandler, Handlers.handler_refusals, Lines.counted}
-use Rattle.command_parts.specs.SeenOutputs.{HasOutput, SeenOutput, only_text}
+use Rattle.command_parts.specs.SeenOutputs.{HasOutput, SeenOutput, only_lines}
 use Rattle.command_parts.specs.declared.firmware.Form.TheVariants.{Alone}
 use Rattle.fz_status.specs.{Words.flags_of, declared.status.Status.Status, Refusals.Refusals, Refusals.Refuses}
 use Rattle.fz_status.specs.{Words.Text, Words.word_at}
@@ -43,11 +43,11 @@ handled_files contents = record {
 -- ---- its lines
 
 -- the lines of the k-th sample, as `run` has them, with the steps of the handler at the end of the first
-abbrev pub handled_row_lines : ℕ → HandledSeen → List ℕ
+abbrev pub handled_row_lines : ℕ → HandledSeen → List (List ℕ)
 handled_row_lines k r = labelled_row_lines (codes " handler ") k r.row r.handler
 
 -- the errors, the bound on instructions, and each sample
-abbrev pub hrun_lines : HandledReport → List ℕ
+abbrev pub hrun_lines : HandledReport → List (List ℕ)
 hrun_lines r = begun_lines r.errors r.bound ++ counted handled_row_lines 1 r.rows
 
 abbrev pub handled_report : List ℕ → ℕ → List HandledSeen → HandledReport
@@ -59,7 +59,7 @@ handled_report errors bound rows = record { errors = errors; bound = bound; rows
 pub record HrunGives (hrun : Hrun) (files : HandledFiles) (output : SeenOutput) : Type 0 where
   pub report : HandledReport
   pub certified : HandledRun hrun.flags files report
-  pub output_is : output ≡ only_text (hrun_lines report)
+  pub output_is : output ≡ only_lines (hrun_lines report)
 
 -- why FCL is refused; why HANDLER is, by its records or by its code, FCL giving firmware; and why the files behind are,
 -- HANDLER giving a handler

@@ -1,8 +1,9 @@
 -- The command `lrun SLOW FAST IMAGE SCERT FCERT STRACE FTRACE LEVELS FLAGS`.
 -- Beside the promise.
 use Rattle.std.specs.Prelude.{◌≡◌, ◌<◌, ◌^◌, ℕ, ◌-◌, List, [], ◌∷◌, ◌++◌, codes, decimal, length, Option, Some}
+use Rattle.std.specs.Prelude.{map}
 use Rattle.std.specs.Prelude.{None, option_map, Result, Ok, Err}
-use Rattle.std.specs.List.{flat_map, slice_index_or}
+use Rattle.std.specs.List.{slice_index_or}
 use Rattle.fuzzy_meaning.specs.declared.block.Block.{Block}
 use Rattle.box_tree.specs.declared.cert.CertKind.TheVariants.{Named}
 use Rattle.byte_scaling.specs.declared.width.Width.TheVariants.{Byte}
@@ -13,18 +14,18 @@ use Rattle.trace_io.specs.Traces.{HasFault as TraceHasFault, Spells as SpellsTra
 use Rattle.trace_io.specs.declared.sample.Sample.{Sample}
 use Rattle.two_level_code.specs.declared.two.Two.{Two}
 use Rattle.two_level_runs.specs.{Rows.TwoSeen, Runs.FastSeen}
-use Rattle.fz_shelf.specs.Parts.{newline}
+use Rattle.fz_shelf.specs.Parts.{ended}
 use Rattle.fz_status.specs.{Refusals.Refusals, Refusals.Refuses, Words.Text, Words.word_at}
 use Rattle.fz_status.specs.declared.status.FastFault.TheVariants as told
 use Rattle.fz_status.specs.declared.status.Status.{Status}
 use Rattle.fz_status.specs.declared.status.Status.TheVariants as status
 use Rattle.command_parts.specs.{Certs.AcceptsCert, Certs.HasCertFault, Contents.content_at, Images.RefusesImage}
 use Rattle.command_parts.specs.Twos.{GivesTwo, two_refusals}
-use Rattle.command_parts.specs.SeenOutputs.{HasOutput, SeenOutput, only_text}
-use Rattle.command_parts.specs.Lines.{counted, error_line, line}
+use Rattle.command_parts.specs.SeenOutputs.{HasOutput, SeenOutput, only_lines}
+use Rattle.command_parts.specs.Lines.{counted, error_lines, line}
 use Rattle.fz_status.specs.Words.{flags_of}
-use Rattle.run_reports.specs.LevelRun.{AcceptsCerts, AcceptsLevels, LevelReport, LevelRun, SpellTraces}
-use Rattle.run_reports.specs.RowLines.{answers_told, frame_line, frame_told, sample_line_with}
+use Rattle.run_reports.specs.LevelRun.{AcceptsCerts, AcceptsLevels, LevelReport, LevelRun, SpellTraces, LevelFiles}
+use Rattle.run_reports.specs.RowLines.{answers_told, frame_line, frame_told, sample_told}
 use Rattle.run_reports.specs.declared.files.LevelFiles.{LevelFiles}
 use Rattle.form_commands.specs.declared.lrun.Lrun.{Lrun}
 
@@ -53,41 +54,37 @@ level_files contents = record {
 
 -- ---- its lines
 
--- the error of an output of the fast block
-abbrev pub fast_error_line : ℕ → ℕ → List ℕ
-fast_error_line o e = codes "fast " ++ error_line o e
-
 -- the line of a fast run: the number of its sample, and what `run` tells of a sample from its answers to the resumed
 -- boundaries
 abbrev pub fast_line : FastSeen → List ℕ
-fast_line f = codes "fast " ++ (decimal f.number ++ (answers_told f.answers f.instrs
-    ++ (codes " steps " ++ (decimal f.steps ++ (codes " resumed " ++ (decimal f.resumed ++ newline))))))
+fast_line f = ended (codes "fast " ++ (decimal f.number ++ (answers_told f.answers f.instrs
+    ++ (codes " steps " ++ (decimal f.steps ++ (codes " resumed " ++ decimal f.resumed))))))
 
 -- the line of a frame in it, as `run` has it without a sample
 abbrev pub inner_line : ℕ × FrameSeen → List ℕ
-inner_line f = codes "inner " ++ frame_told f
+inner_line f = ended (codes "inner " ++ frame_told f)
 
 -- a fast run with its frames, if there is one
-abbrev pub fast_lines : Option FastSeen → List ℕ
+abbrev pub fast_lines : Option FastSeen → List (List ℕ)
 fast_lines None = []
-fast_lines (Some f) = fast_line f ++ flat_map inner_line f.frames
+fast_lines (Some f) = fast_line f ∷ map inner_line f.frames
 
 -- the n-th frame of the k-th sample, as `run` has it, and the fast run in its interrupt
-abbrev pub outer_lines : ℕ → List (Option FastSeen) → ℕ → ℕ × FrameSeen → List ℕ
-outer_lines k fast n f = frame_line k f ++ fast_lines (slice_index_or fast (n - 1) None)
+abbrev pub outer_lines : ℕ → List (Option FastSeen) → ℕ → ℕ × FrameSeen → List (List ℕ)
+outer_lines k fast n f = frame_line k f ∷ fast_lines (slice_index_or fast (n - 1) None)
 
 -- the lines of the k-th sample
-abbrev pub level_row_lines : ℕ → TwoSeen → List ℕ
-level_row_lines k r = sample_line_with k r.row newline ++ counted (outer_lines k r.fast) 1 r.row.frames
+abbrev pub level_row_lines : ℕ → TwoSeen → List (List ℕ)
+level_row_lines k r = ended (sample_told k r.row) ∷ counted (outer_lines k r.fast) 1 r.row.frames
 
 -- the errors and the bounds on instructions, of the slow block before the fast one
-abbrev pub level_begun_lines : List ℕ → List ℕ → ℕ → ℕ → List ℕ
+abbrev pub level_begun_lines : List ℕ → List ℕ → ℕ → ℕ → List (List ℕ)
 level_begun_lines errors fast_errors bound fast_bound =
-    counted error_line 1 errors ++ (counted fast_error_line 1 fast_errors
-    ++ (line (codes "instructions ") bound ++ line (codes "fast instructions ") fast_bound))
+    error_lines (codes "error ") errors ++ (error_lines (codes "fast error ") fast_errors
+    ++ line (codes "instructions ") bound ∷ line (codes "fast instructions ") fast_bound ∷ [])
 
 -- and then each slow sample
-abbrev pub lrun_lines : LevelReport → List ℕ
+abbrev pub lrun_lines : LevelReport → List (List ℕ)
 lrun_lines r = level_begun_lines r.errors r.fast_errors r.bound r.fast_bound ++ counted level_row_lines 1 r.rows
 
 abbrev pub level_report : List ℕ → List ℕ → ℕ → ℕ → List TwoSeen → LevelReport
@@ -100,7 +97,7 @@ level_report errors fast_errors bound fast_bound rows =
 pub record LrunGives (lrun : Lrun) (files : LevelFiles) (output : SeenOutput) : Type 0 where
   pub report : LevelReport
   pub at_levels : LevelRun lrun.flags files report
-  pub output_is : output ≡ only_text (lrun_lines report)
+  pub output_is : output ≡ only_lines (lrun_lines report)
 
 -- why a certificate is refused: the slow block's first
 abbrev pub certs_refusals : LevelFiles → Block → Block → Refusals

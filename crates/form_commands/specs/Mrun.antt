@@ -1,8 +1,7 @@
 -- The command `mrun FCL IMAGE CERT TRACE POSTS FLAGS`.
 -- Beside the promise.
-use Rattle.std.specs.Prelude.{◌≡◌, ◌<◌, ◌^◌, ℕ, List, [], ◌∷◌, ◌++◌, codes, decimal, length, Option, option_map}
+use Rattle.std.specs.Prelude.{◌≡◌, ◌<◌, ◌^◌, ℕ, List, [], ◌∷◌, ◌++◌, codes, decimal, length, map, Option, option_map}
 use Rattle.std.specs.Prelude.{Result, Ok, Err}
-use Rattle.std.specs.List.{flat_map}
 use Rattle.fuzzy_meaning.specs.declared.block.Block.{Block}
 use Rattle.cpu12_emul.specs.Take.{FrameSeen}
 use Rattle.alone_code.specs.declared.firmware.Firmware.{Firmware}
@@ -13,14 +12,15 @@ use Rattle.srecord.specs.Texts.{GivesImage}
 use Rattle.trace_io.specs.Traces.{HasFault as TraceHasFault, Spells as SpellsTrace}
 use Rattle.trace_io.specs.declared.sample.Sample.{Sample}
 use Rattle.mailbox_runs.specs.Runs.{AnswerSeen}
-use Rattle.fz_shelf.specs.Parts.{newline}
+use Rattle.fz_shelf.specs.Parts.{ended}
 use Rattle.fz_status.specs.{Refusals.Refusals, Refusals.Refuses, Words.Text, Words.word_at}
 use Rattle.fz_status.specs.declared.status.Status.{Status}
 use Rattle.fz_status.specs.declared.status.Status.TheVariants as status
 use Rattle.command_parts.specs.{Certs.AcceptsCert, Certs.HasCertFault, Contents.content_at, Firmwares.OfFirmware}
-use Rattle.command_parts.specs.{Firmwares.RefusesText, Images.RefusesImage}
-use Rattle.command_parts.specs.{Lines.counted, Lines.line, declared.firmware.Form.TheVariants.Mailbox}
-use Rattle.command_parts.specs.SeenOutputs.{HasOutput, SeenOutput, only_text}
+use Rattle.command_parts.specs.{Firmwares.RefusesText, Images.RefusesImage, Lines.counted, Lines.line}
+use Rattle.command_parts.specs.{declared.firmware.Form.TheVariants.Mailbox}
+use Rattle.command_parts.specs.SeenOutputs.{HasOutput, SeenOutput, only_lines}
+use Rattle.command_parts.specs.Lines.{counted, line}
 use Rattle.fz_status.specs.Words.{flags_of}
 use Rattle.run_reports.specs.PostedRun.{AcceptsPosted, PostedReport, PostedRun}
 use Rattle.run_reports.specs.RowLines.{answered, begun_lines, frame_told}
@@ -52,12 +52,12 @@ posted_files contents = record {
 -- the line of the k-th answer: its sample, the boundary where its turn ends, and what `run` tells of a sample up to its
 -- instructions
 abbrev pub answer_line : ℕ → AnswerSeen → List ℕ
-answer_line k a = codes "answer " ++ (decimal k ++ (codes " sample " ++ (decimal a.sample
-    ++ (codes " at " ++ (decimal a.at ++ (answered a.bytes a.values a.instrs ++ newline))))))
+answer_line k a = ended (codes "answer " ++ (decimal k ++ (codes " sample " ++ (decimal a.sample
+    ++ (codes " at " ++ (decimal a.at ++ answered a.bytes a.values a.instrs))))))
 
 -- the line of a frame, as `run` has it without a sample
 abbrev pub taken_line : ℕ × FrameSeen → List ℕ
-taken_line f = codes "frame " ++ frame_told f
+taken_line f = ended (codes "frame " ++ frame_told f)
 
 abbrev pub posted_report : List ℕ → ℕ → List AnswerSeen → List (ℕ × FrameSeen) → ℕ → PostedReport
 posted_report errors bound answers frames resumed = record {
@@ -69,9 +69,9 @@ posted_report errors bound answers frames resumed = record {
 }
 
 -- the errors and the bound on instructions, each answer, each frame, and the number of resumed boundaries
-abbrev pub mrun_lines : PostedReport → List ℕ
-mrun_lines r = begun_lines r.errors r.bound ++ (counted answer_line 1 r.answers
-    ++ (flat_map taken_line r.frames ++ line (codes "resumed ") r.resumed))
+abbrev pub mrun_lines : PostedReport → List (List ℕ)
+mrun_lines r = begun_lines r.errors r.bound ++ (counted (λ k a. answer_line k a ∷ []) 1 r.answers
+    ++ (map taken_line r.frames ++ line (codes "resumed ") r.resumed ∷ []))
 
 -- ---- what it makes of its files
 
@@ -79,7 +79,7 @@ mrun_lines r = begun_lines r.errors r.bound ++ (counted answer_line 1 r.answers
 pub record MrunGives (mrun : Mrun) (files : PostedFiles) (output : SeenOutput) : Type 0 where
   pub report : PostedReport
   pub posted : PostedRun mrun.flags files report
-  pub output_is : output ≡ only_text (mrun_lines report)
+  pub output_is : output ≡ only_lines (mrun_lines report)
 
 -- why a certificate is refused, FCL giving firmware whose image is IMAGE's; why a trace is, the certificate being
 -- accepted beside; and why posts are, the trace spelling samples beside

@@ -14,7 +14,7 @@ use Rattle.fz_status.specs.{Refusals.Refusals, Refusals.Refuses, Words.Text, Wor
 use Rattle.fz_status.specs.declared.status.Status.{Status}
 use Rattle.fz_status.specs.declared.status.Status.TheVariants as status
 use Rattle.command_parts.specs.{Contents.content_at, Images.RefusesImage, Lines.counted}
-use Rattle.command_parts.specs.SeenOutputs.{HasOutput, SeenOutput, only_text}
+use Rattle.command_parts.specs.SeenOutputs.{HasOutput, SeenOutput, only_lines}
 use Rattle.command_parts.specs.Firmwares.{GivesFirmware, OfFirmware, RefusesText}
 use Rattle.command_parts.specs.declared.firmware.Form.TheVariants.{Watched}
 use Rattle.fz_status.specs.Words.{flags_of}
@@ -46,14 +46,14 @@ watched_files contents = record {
 -- ---- its lines
 
 -- the lines of the k-th sample, as `run` has them, with FAULT at the end of the first
-abbrev pub watched_row_lines : ℕ → FaultSeen → List ℕ
+abbrev pub watched_row_lines : ℕ → FaultSeen → List (List ℕ)
 watched_row_lines k r = labelled_row_lines (codes " fault ") k r.row r.fault
 
 abbrev pub watched_report : List ℕ → ℕ → List FaultSeen → WatchedReport
 watched_report errors bound rows = record { errors = errors; bound = bound; rows = rows }
 
 -- the errors, the bound on instructions, and each sample
-abbrev pub srun_lines : WatchedReport → List ℕ
+abbrev pub srun_lines : WatchedReport → List (List ℕ)
 srun_lines r = begun_lines r.errors r.bound ++ counted watched_row_lines 1 r.rows
 
 -- ---- what it makes of its files
@@ -70,7 +70,7 @@ pub record AcceptsWatched (files : WatchedFiles) (block : Block) (firmware : Fir
 pub record SrunGives (srun : Srun) (files : WatchedFiles) (output : SeenOutput) : Type 0 where
   pub report : WatchedReport
   pub watched : WatchedRun srun.flags files report
-  pub output_is : output ≡ only_text (srun_lines report)
+  pub output_is : output ≡ only_lines (srun_lines report)
 
 -- why FCL is refused; why IMAGE is, FCL giving firmware; why upsets are, all other files being accepted; and why the
 -- files between are, IMAGE holding its image

@@ -9,7 +9,6 @@ ghost use Rattle.run_reports.specs.declared.files.HandledFiles.{HandledFiles};
 ghost use Rattle.form_commands.specs.Hrun.{AcceptedHandledRunsMakeOutput, HrunMakes, handled_files};
 ghost use Rattle.form_commands.specs.Hrun.{handled_row_lines, hrun_in, hrun_refusals};
 ghost use Rattle.form_commands.specs.declared.hrun.Hrun.{Hrun as TheHrun};
-ghost use Rattle.fz_shelf.specs.Lines.{text_of};
 ghost use Rattle.handled_runs.specs.Forms.{row_seen};
 
 use alone_runs::laws::answers_under_plans;
@@ -24,6 +23,7 @@ use command_parts::handlers::{AcceptedHandler, given_handlers_have_no_fault, han
 use command_parts::output::Output;
 use command_parts::words::flags;
 use fcl_check::spelled_blocks_are_one;
+use fz_shelf::Line;
 use fz_status::{Status, word};
 use handled_runs::laws::{handled_answers, handlers_run_alike};
 use handled_runs::{HandledRow, run_handler};
@@ -131,8 +131,8 @@ fn lines(
     errors: &[u32],
     bound: u32,
     rows: &[HandledRow],
-) -> Result<Vec<String>, AllocError>
-    ensures { IfOk result (λ lines. text_of lines.items
+) -> Result<Vec<Line>, AllocError>
+    ensures { IfOk result (λ lines. lines.items
         ≡ begun_lines errors.now bound ++ counted (λ k r. handled_row_lines k (row_seen r)) 1 rows.now) }
 {
     let mut lines = begun(alloc, errors, bound)?;

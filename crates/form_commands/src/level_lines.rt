@@ -1,17 +1,17 @@
 //! The lines of a run at two levels.
-ghost use Rattle.std.specs.Prelude.{◌≡◌, ◌++◌, flat_map, map, string_bytes, IfOk, OnOk, Some, None};
+ghost use Rattle.std.specs.Prelude.{◌≡◌, ◌++◌, map, IfOk, OnOk, Some, None};
 ghost use Rattle.std.specs.List.{slice_index_or};
-ghost use Rattle.fz_shelf.specs.Lines.{text_of};
 ghost use Rattle.run_forms.specs.Rows.{boundary_seen};
 ghost use Rattle.two_level_code.specs.Images.{fast_most};
 ghost use Rattle.two_level_runs.specs.{InnerNotes.inner_seen, Harness.fast_seen, Harness.row_seen};
 ghost use Rattle.command_parts.specs.Lines.{counted};
-ghost use Rattle.form_commands.specs.Lrun.{fast_error_line, fast_line, fast_lines, inner_line, level_begun_lines};
+ghost use Rattle.form_commands.specs.Lrun.{fast_line, fast_lines, inner_line, level_begun_lines};
 ghost use Rattle.form_commands.specs.Lrun.{level_report, level_row_lines, lrun_lines, outer_lines};
 
-use command_parts::lines::{labelled, line_of_error, push_errors};
+use command_parts::lines::{labelled, push_errors};
+use fz_shelf::Line;
 use run_reports::row_lines::{
-    labelled_frame, line_of_frame, push_answers, push_count, sample_text,
+    labelled_frame, line_of_frame, push_answers, push_count, told_sample,
 };
 use std::alloc::{AllocError, Global};
 use std::fmt::Write;
@@ -25,8 +25,8 @@ pub(crate) fn lines(
     fast_errors: &[u32],
     two: &Two,
     rows: &[TwoRow],
-) -> Result<Vec<String>, AllocError>
-    ensures { IfOk result (λ lines. text_of lines.items ≡ lrun_lines (level_report errors.now fast_errors.now
+) -> Result<Vec<Line>, AllocError>
+    ensures { IfOk result (λ lines. lines.items ≡ lrun_lines (level_report errors.now fast_errors.now
         two.now.slow.instr_bound (fast_most two.now.fast.instr_bound) (map row_seen rows.now))) }
 {
     let mut lines = begun(alloc, errors, fast_errors, two)?;
@@ -40,45 +40,21 @@ fn begun(
     errors: &[u32],
     fast_errors: &[u32],
     two: &Two,
-) -> Result<Vec<String>, AllocError>
-    ensures { IfOk result (λ lines. text_of lines.items ≡ level_begun_lines errors.now fast_errors.now
+) -> Result<Vec<Line>, AllocError>
+    ensures { IfOk result (λ lines. lines.items ≡ level_begun_lines errors.now fast_errors.now
         two.now.slow.instr_bound (fast_most two.now.fast.instr_bound)) }
 {
     let mut lines = Vec::new(alloc);
-    push_errors(alloc, &mut lines, errors)?;
-    push_fast_errors(alloc, &mut lines, fast_errors)?;
+    push_errors(alloc, &mut lines, "error ", errors)?;
+    push_errors(alloc, &mut lines, "fast error ", fast_errors)?;
     lines.push(labelled(alloc, "instructions ", u128::from(two.slow.instr_bound))?)?;
     lines.push(labelled(alloc, "fast instructions ", u128::from(two.fast_bound()))?)?;
     Ok(lines)
 }
 
-/// The error of each output of the fast block.
-fn push_fast_errors(
-    alloc: Global,
-    lines: &mut Vec<String>,
-    errors: &[u32],
-) -> Result<(), AllocError>
-    ensures { OnOk result (text_of lines.new.items
-        ≡ text_of lines.old.items ++ counted fast_error_line 1 errors.now) }
-{
-    for (at, error) in errors.iter().enumerate() {
-        lines.push(line_of_fast_error(alloc, at + 1, *error)?)?;
-    }
-    Ok(())
-}
-
-fn line_of_fast_error(alloc: Global, output: usize, error: u32) -> Result<String, AllocError>
-    ensures { IfOk result (λ s. string_bytes s ≡ fast_error_line output error) }
-{
-    let usual = line_of_error(alloc, output, error)?;
-    let mut text = String::from_str(alloc, "fast ")?;
-    text.push_str(usual.as_str())?;
-    Ok(text)
-}
-
 /// Each slow sample with its frames and the fast runs in them.
-fn push_rows(alloc: Global, lines: &mut Vec<String>, rows: &[TwoRow]) -> Result<(), AllocError>
-    ensures { OnOk result (text_of lines.new.items ≡ text_of lines.old.items
+fn push_rows(alloc: Global, lines: &mut Vec<Line>, rows: &[TwoRow]) -> Result<(), AllocError>
+    ensures { OnOk result (lines.new.items ≡ lines.old.items
         ++ counted (λ k r. level_row_lines k (row_seen r)) 1 rows.now) }
 {
     for (at, row) in rows.iter().enumerate() {
@@ -88,18 +64,11 @@ fn push_rows(alloc: Global, lines: &mut Vec<String>, rows: &[TwoRow]) -> Result<
 }
 
 /// The k-th slow sample.
-fn push_row(
-    alloc: Global,
-    lines: &mut Vec<String>,
-    k: usize,
-    row: &TwoRow,
-) -> Result<(), AllocError>
-    ensures { OnOk result (text_of lines.new.items
-        ≡ text_of lines.old.items ++ level_row_lines k (row_seen row.now)) }
+fn push_row(alloc: Global, lines: &mut Vec<Line>, k: usize, row: &TwoRow) -> Result<(), AllocError>
+    ensures { OnOk result (lines.new.items
+        ≡ lines.old.items ++ level_row_lines k (row_seen row.now)) }
 {
-    let mut text = sample_text(alloc, k, &row.row)?;
-    text.push_str("\n")?;
-    lines.push(text)?;
+    lines.push(Line::of(told_sample(alloc, k, &row.row)?)?)?;
     push_outer(alloc, lines, k, row)?;
     Ok(())
 }
@@ -107,11 +76,11 @@ fn push_row(
 /// The frames of the k-th slow sample, each before the fast run in its interrupt.
 fn push_outer(
     alloc: Global,
-    lines: &mut Vec<String>,
+    lines: &mut Vec<Line>,
     k: usize,
     row: &TwoRow,
 ) -> Result<(), AllocError>
-    ensures { OnOk result (text_of lines.new.items ≡ text_of lines.old.items
+    ensures { OnOk result (lines.new.items ≡ lines.old.items
         ++ counted (λ n f. outer_lines k (row_seen row.now).fast n (boundary_seen f)) 1 row.now.row.frames) }
 {
     let frames = row.row.frames.as_slice();
@@ -125,12 +94,12 @@ fn push_outer(
 /// The fast run in the interrupt of this place, if there is one.
 fn push_fast(
     alloc: Global,
-    lines: &mut Vec<String>,
+    lines: &mut Vec<Line>,
     row: &TwoRow,
     at: usize,
 ) -> Result<(), AllocError>
-    ensures { OnOk result (text_of lines.new.items
-        ≡ text_of lines.old.items ++ fast_lines (slice_index_or (row_seen row.now).fast at None)) }
+    ensures { OnOk result (lines.new.items
+        ≡ lines.old.items ++ fast_lines (slice_index_or (row_seen row.now).fast at None)) }
 {
     match row.fast.get(at) {
         Some(Some(fast)) => push_run(alloc, lines, fast),
@@ -139,9 +108,9 @@ fn push_fast(
 }
 
 /// A fast run with its frames.
-fn push_run(alloc: Global, lines: &mut Vec<String>, fast: &FastRow) -> Result<(), AllocError>
-    ensures { OnOk result (text_of lines.new.items
-        ≡ text_of lines.old.items ++ fast_lines (Some (fast_seen fast.now))) }
+fn push_run(alloc: Global, lines: &mut Vec<Line>, fast: &FastRow) -> Result<(), AllocError>
+    ensures { OnOk result (lines.new.items
+        ≡ lines.old.items ++ fast_lines (Some (fast_seen fast.now))) }
 {
     lines.push(line_of_fast(alloc, fast)?)?;
     push_inner(alloc, lines, fast.frames.as_slice())?;
@@ -149,13 +118,9 @@ fn push_run(alloc: Global, lines: &mut Vec<String>, fast: &FastRow) -> Result<()
 }
 
 /// The frames of a fast run.
-fn push_inner(
-    alloc: Global,
-    lines: &mut Vec<String>,
-    frames: &[InnerFrame],
-) -> Result<(), AllocError>
-    ensures { OnOk result (text_of lines.new.items
-        ≡ text_of lines.old.items ++ flat_map (λ f. inner_line (inner_seen f)) frames.now) }
+fn push_inner(alloc: Global, lines: &mut Vec<Line>, frames: &[InnerFrame]) -> Result<(), AllocError>
+    ensures { OnOk result (lines.new.items
+        ≡ lines.old.items ++ map (λ f. inner_line (inner_seen f)) frames.now) }
 {
     for frame in frames {
         lines.push(labelled_frame(alloc, "inner ", frame.boundary, &frame.frame)?)?;
@@ -164,8 +129,8 @@ fn push_inner(
 }
 
 /// The line of a fast run.
-fn line_of_fast(alloc: Global, fast: &FastRow) -> Result<String, AllocError>
-    ensures { IfOk result (λ s. string_bytes s ≡ fast_line (fast_seen fast.now)) }
+fn line_of_fast(alloc: Global, fast: &FastRow) -> Result<Line, AllocError>
+    ensures { IfOk result (λ l. l ≡ fast_line (fast_seen fast.now)) }
 {
     let number = fast.number;
     let mut text = String::from_str(alloc, "fast ")?;
@@ -173,6 +138,5 @@ fn line_of_fast(alloc: Global, fast: &FastRow) -> Result<String, AllocError>
     push_answers(&mut text, fast.answers.as_slice(), fast.instrs)?;
     push_count(&mut text, " steps ", fast.steps as usize)?;
     push_count(&mut text, " resumed ", fast.resumed as usize)?;
-    text.push_str("\n")?;
-    Ok(text)
+    Line::of(text)
 }

@@ -1,12 +1,12 @@
 //! The lines of a run under posts.
-ghost use Rattle.std.specs.Prelude.{◌≡◌, ◌++◌, map, string_bytes, IfOk, OnOk};
-ghost use Rattle.fz_shelf.specs.Lines.{text_of};
+ghost use Rattle.std.specs.Prelude.{◌≡◌, ◌∷◌, ◌++◌, [], map, IfOk, OnOk};
 ghost use Rattle.run_forms.specs.Rows.{frames_seen};
 ghost use Rattle.mailbox_runs.specs.Runs.{answer_seen};
 ghost use Rattle.command_parts.specs.Lines.{counted};
 ghost use Rattle.form_commands.specs.Mrun.{answer_line, mrun_lines, posted_report};
 
 use command_parts::lines::labelled;
+use fz_shelf::Line;
 use mailbox_runs::{Answer, PostRun};
 use run_reports::row_lines::{begun, push_answered, push_labelled_frames};
 use std::alloc::{AllocError, Global};
@@ -18,8 +18,8 @@ pub(crate) fn lines(
     errors: &[u32],
     bound: u32,
     run: &PostRun,
-) -> Result<Vec<String>, AllocError>
-    ensures { IfOk result (λ lines. text_of lines.items ≡ mrun_lines (posted_report errors.now bound
+) -> Result<Vec<Line>, AllocError>
+    ensures { IfOk result (λ lines. lines.items ≡ mrun_lines (posted_report errors.now bound
         (map answer_seen run.now.answers.items) (frames_seen run.now.frames.items) run.now.resumed)) }
 {
     let mut lines = begun(alloc, errors, bound)?;
@@ -30,13 +30,9 @@ pub(crate) fn lines(
 }
 
 /// Each answer.
-fn push_answers(
-    alloc: Global,
-    lines: &mut Vec<String>,
-    answers: &[Answer],
-) -> Result<(), AllocError>
-    ensures { OnOk result (text_of lines.new.items ≡ text_of lines.old.items
-        ++ counted (λ k a. answer_line k (answer_seen a)) 1 answers.now) }
+fn push_answers(alloc: Global, lines: &mut Vec<Line>, answers: &[Answer]) -> Result<(), AllocError>
+    ensures { OnOk result (lines.new.items ≡ lines.old.items
+        ++ counted (λ k a. answer_line k (answer_seen a) ∷ []) 1 answers.now) }
 {
     for (at, answer) in answers.iter().enumerate() {
         lines.push(line_of_answer(alloc, at + 1, answer)?)?;
@@ -45,8 +41,8 @@ fn push_answers(
 }
 
 /// The line of the k-th answer.
-fn line_of_answer(alloc: Global, k: usize, answer: &Answer) -> Result<String, AllocError>
-    ensures { IfOk result (λ s. string_bytes s ≡ answer_line k (answer_seen answer.now)) }
+fn line_of_answer(alloc: Global, k: usize, answer: &Answer) -> Result<Line, AllocError>
+    ensures { IfOk result (λ l. l ≡ answer_line k (answer_seen answer.now)) }
 {
     let sample = answer.sample;
     let at = answer.at;
@@ -58,6 +54,5 @@ fn line_of_answer(alloc: Global, k: usize, answer: &Answer) -> Result<String, Al
         answer.answers.as_slice(),
         answer.instrs,
     )?;
-    text.push_str("\n")?;
-    Ok(text)
+    Line::of(text)
 }

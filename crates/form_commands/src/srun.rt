@@ -9,9 +9,8 @@ ghost use Rattle.command_parts.specs.SeenOutputs.{OutputHasNoFault, OutputsAreOn
 ghost use Rattle.form_commands.specs.Srun.{AcceptedWatchedRunsMakeOutput, AcceptsWatched, SrunMakes, srun_in};
 ghost use Rattle.form_commands.specs.Srun.{srun_refusals, upset_refusals, watched_files, watched_row_lines};
 ghost use Rattle.form_commands.specs.declared.srun.Srun.{Srun as TheSrun};
-ghost use Rattle.run_reports.specs.{RowLines.begun_lines};
+ghost use Rattle.run_reports.specs.{RowLines.begun_lines, WatchedRun.WatchedFiles};
 ghost use Rattle.run_reports.specs.declared.files.WatchedFiles.{WatchedFiles};
-ghost use Rattle.fz_shelf.specs.Lines.{text_of};
 ghost use Rattle.watched_runs.specs.Rows.{row_seen};
 
 use box_tree::CertKind;
@@ -25,6 +24,7 @@ use command_parts::images::{given_images_have_no_fault, require_image};
 use command_parts::output::Output;
 use command_parts::words::flags;
 use cpu12_asm::Image;
+use fz_shelf::Line;
 use fz_status::{Status, word};
 use interrupt_plan::{
     UpsetFault, Upsets, read_upsets, spelled_entries_are_one, spelled_upsets_have_no_fault,
@@ -147,8 +147,8 @@ fn lines(
     errors: &[u32],
     bound: u32,
     rows: &[WatchedRow],
-) -> Result<Vec<String>, AllocError>
-    ensures { IfOk result (λ lines. text_of lines.items
+) -> Result<Vec<Line>, AllocError>
+    ensures { IfOk result (λ lines. lines.items
         ≡ begun_lines errors.now bound ++ counted (λ k r. watched_row_lines k (row_seen r)) 1 rows.now) }
 {
     let mut lines = begun(alloc, errors, bound)?;

@@ -1,10 +1,14 @@
 -- A sink that takes a text piece by piece.
 use Rattle.std.proofs.Common.{zero, suc, get_or, subst, ◌∷◌, ◌≡◌, ◌≤◌, ◌<◌, ◌+◌, ◌-◌, ℕ, List, [], ◌++◌, length, take}
 use Rattle.std.proofs.Common.{drop, refl, sym, ◌∙◌, ap, ap₂, arith, length-append, append_assoc, take-append-drop}
-use Rattle.std.specs.List.{flat_map}
+use Rattle.std.specs.List.{concat, flat_map}
 use Rattle.std.specs.Prelude.{Option, Some, None}
 use Rattle.std.proofs.lemmas.List.{append-nil, take_rest}
-use Rattle.fz_shelf.specs.Told.{Taken, gained, GainedPart, HasRoom}
+use Rattle.std.proofs.Common.{add-one}
+use Rattle.std.proofs.Math.Seq.{take-suc}
+use Rattle.std.proofs.lemmas.List.Folds.{concat-append}
+use Rattle.fz_shelf.specs.Lines.{GainedLines}
+use Rattle.fz_shelf.specs.Told.{Taken, gained, GainedPart, GainedShort, HasRoom}
 
 abbrev told_as : List ℕ → ℕ → Option Taken
 told_as b r = Some (record { bytes = b; room = r })
@@ -127,3 +131,51 @@ module _ {X : Type 0} (f : X → List ℕ) {old now : Option Taken} (xs : List X
   pub in_at : (next : Option Taken) → GainedPart now next (f (get_or xs i d)) → GainedPart old next (flat_map f xs)
   in_at next g = in_piece f xs i (get_or xs i d) (f (get_or xs i d)) lt (get_or-any xs i d (get_or xs i d) lt) refl
       so_far next g
+
+-- ---- lines
+
+-- lines up to one of them, it, and those behind
+cut_at : (lines : List (List ℕ)) (i : ℕ) (d : List ℕ) → i < length lines
+    → lines ≡ take i lines ++ get_or lines i d ∷ drop (i + 1) lines
+cut_at [] i d lt = absurd (omega arith)
+cut_at (x ∷ xs) zero d lt = refl
+cut_at (x ∷ xs) (suc i) d lt = let e : suc i + 1 ≡ suc (i + 1) = omega arith in
+    rw e (ap (λ ls. x ∷ ls) (cut_at xs i d (omega arith)))
+
+module _ (lines : List (List ℕ)) (i : ℕ) (d line : List ℕ) (lt : i < length lines) (is : line ≡ get_or lines i d)
+    (old now : Option Taken) (so_far : now ≡ gained old (concat (take i lines))) where
+  cut_here : lines ≡ take i lines ++ line ∷ drop (i + 1) lines
+  cut_here = rw is (cut_at lines i d lt)
+
+  pub line_put : (next : Option Taken) → next ≡ gained now line → next ≡ gained old (concat (take (i + 1) lines))
+  line_put next told =
+      let more : take (i + 1) lines ≡ take i lines ++ line ∷ [] = rw (add-one, is) (take-suc lines i d lt) in
+      let text : concat (take (i + 1) lines) ≡ concat (take i lines) ++ line =
+      ap concat more ∙ concat-append (take i lines) (line ∷ []) ∙ ap (λ l. concat (take i lines) ++ l) (append-nil line) in
+      told ∙ ap (λ t. gained t line) so_far ∙ gained-append old (concat (take i lines)) line
+      ∙ ap (gained old) (sym text)
+
+  pub line_begun : (next : Option Taken) → GainedShort now next line → GainedLines old next lines
+  line_begun next short = record {
+    whole = take i lines;
+    next = line;
+    others = drop (i + 1) lines;
+    split = cut_here;
+    begun = subst (λ t. GainedShort t next line) so_far short;
+  }
+
+  pub line_fits : HasRoom old (length (concat lines)) → HasRoom now (length line)
+  line_fits h =
+      let before = concat (take i lines) in
+      let behind = concat (drop (i + 1) lines) in
+      let all : concat lines ≡ before ++ (line ++ behind) =
+      ap concat cut_here ∙ concat-append (take i lines) (line ∷ drop (i + 1) lines) in
+      let size : length (concat lines) ≡ length before + (length line + length behind) =
+      ap length all ∙ length-append before (line ++ behind)
+      ∙ ap (λ (n : ℕ). length before + n) (length-append line behind) in
+      less now (length line) (length behind)
+      (rw so_far (room-gained old before (length line + length behind) (rw size at h)))
+    where
+      less : (t : Option Taken) (a b : ℕ) → HasRoom t (a + b) → HasRoom t a
+      less None a b h = h
+      less (Some t) a b h = let h' : a + b ≤ t.room = h in omega arith

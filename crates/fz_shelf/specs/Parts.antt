@@ -10,6 +10,10 @@ use Rattle.fz_shelf.specs.declared.parts.Part.TheVariants.{Text, Number, Address
 abbrev pub newline : List ℕ
 newline = codes "\n"
 
+-- a text, and the end of its line
+abbrev pub ended : List ℕ → List ℕ
+ended text = text ++ newline
+
 -- a byte as two hexadecimal digits, and an address as four
 abbrev pub byte_digits : ℕ → List ℕ
 byte_digits byte = encode_upper (byte ∷ [])

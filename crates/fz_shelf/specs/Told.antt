@@ -1,7 +1,8 @@
 -- What a shelf and a sink tell: the bytes that a sink took and the room that is left, or nothing; counts of faults;
 -- and the list of reads.
 -- Reached by the promise.
-use Rattle.std.specs.Prelude.{◌≡◌, ◌<◌, ◌≤◌, ◌-◌, ◌++◌, ℕ, List, length, take, Option, Some, None, Result, Ok, Err}
+use Rattle.std.specs.Prelude.{◌≡◌, ◌≢◌, ◌<◌, ◌≤◌, ◌-◌, ◌++◌, ℕ, List, [], length, take, Option, Some, None, Result, Ok}
+use Rattle.std.specs.Prelude.{Err}
 use Rattle.fz_shelf.specs.{Files.Names, declared.log.Answer.Answer}
 
 -- the bytes that a sink took, and the room that is left
@@ -39,6 +40,14 @@ pub record GainedPart (old new : Option Taken) (bytes : List ℕ) : Type 0 where
   pub part : List ℕ
   pub rest : List ℕ
   pub split : part ++ rest ≡ bytes
+  pub told : new ≡ gained old part
+
+-- the sink gained a beginning of these bytes, which is not all of them, and nothing else
+pub record GainedShort (old new : Option Taken) (bytes : List ℕ) : Type 0 where
+  pub part : List ℕ
+  pub rest : List ℕ
+  pub split : part ++ rest ≡ bytes
+  pub short : rest ≢ []
   pub told : new ≡ gained old part
 
 -- how many reads failed, how many files were too long, how many writes failed

@@ -1,5 +1,5 @@
 //! Where a program's bytes come from and where they go: a [`Shelf`] of files by name, and
-//! [`Sink`]s that take bytes, such as standard output.
+//! [`Sink`]s that take bytes, such as standard output, and [`Line`]s.
 //!
 //! Both traits say, by what a value tells of itself, what every call leaves: the files with
 //! their bytes and rooms, the list of the names that were read, the bytes taken so far, and
@@ -13,6 +13,7 @@
 
 mod errors;
 mod file_shelf;
+mod line;
 mod log;
 mod mem_shelf;
 mod mem_sink;
@@ -25,6 +26,7 @@ mod whole;
 
 pub use errors::{Failed, ReadError};
 pub use file_shelf::FileShelf;
+pub use line::Line;
 pub use log::{Answer, Asked};
 pub use mem_shelf::{MemFile, MemShelf};
 pub use mem_sink::MemSink;

@@ -1,13 +1,17 @@
 //! Whole texts into a sink that takes prefixes.
 ghost use Rattle.std.specs.Prelude.{◌≡◌, length, OnOk, OnErr, IsOk};
-ghost use Rattle.fz_shelf.specs.{Faults.HasCause, Told.gained, Told.GainedPart, Told.HasRoom, Lines.text_of};
+ghost use Rattle.std.specs.List.{concat};
+ghost use Rattle.fz_shelf.specs.Faults.{HasCause};
+ghost use Rattle.fz_shelf.specs.Told.{gained, GainedPart, GainedShort, HasRoom};
+ghost use Rattle.fz_shelf.specs.Lines.{GainedLines};
 
-use crate::{Failed, Sink};
+use crate::{Failed, Line, Sink};
 
 /// Puts all the bytes. At `Err` the sink has taken a prefix of them.
 pub fn put_all<S: Sink>(sink: &mut S, bytes: &[u8]) -> Result<(), Failed>
     ensures whole { OnOk result (S.told sink.new ≡ gained (S.told sink.old) bytes.now) }
     ensures part { GainedPart (S.told sink.old) (S.told sink.new) bytes.now }
+    ensures short { OnErr result (GainedShort (S.told sink.old) (S.told sink.new) bytes.now) }
     ensures cause { HasCause (S.faults sink.old) (S.faults sink.new) result }
     ensures reliable { S.reliable sink.old → S.reliable sink.new }
     ensures steady { S.reliable sink.old → HasRoom (S.told sink.old) (length bytes.now) → IsOk result }
@@ -21,12 +25,12 @@ pub fn put_all<S: Sink>(sink: &mut S, bytes: &[u8]) -> Result<(), Failed>
 }
 
 /// Puts each line by itself.
-pub fn put_lines<S: Sink>(sink: &mut S, lines: &[String]) -> Result<(), Failed>
-    ensures whole { OnOk result (S.told sink.new ≡ gained (S.told sink.old) (text_of lines.now)) }
-    ensures part { GainedPart (S.told sink.old) (S.told sink.new) (text_of lines.now) }
+pub fn put_lines<S: Sink>(sink: &mut S, lines: &[Line]) -> Result<(), Failed>
+    ensures whole { OnOk result (S.told sink.new ≡ gained (S.told sink.old) (concat lines.now)) }
+    ensures part { OnErr result (GainedLines (S.told sink.old) (S.told sink.new) lines.now) }
     ensures cause { HasCause (S.faults sink.old) (S.faults sink.new) result }
     ensures reliable { S.reliable sink.old → S.reliable sink.new }
-    ensures steady { S.reliable sink.old → HasRoom (S.told sink.old) (length (text_of lines.now)) → IsOk result }
+    ensures steady { S.reliable sink.old → HasRoom (S.told sink.old) (length (concat lines.now)) → IsOk result }
 {
     for line in lines {
         put_all(sink, line.as_bytes())?;

@@ -7,6 +7,7 @@ use Rattle.fz_words.specs.Table.{any_hyphen}
 use Rattle.fz_status.specs.Words.{Text}
 use Rattle.run_reports.specs.declared.files.RunFiles.{RunFiles}
 use Rattle.run_commands.specs.Run.{RunAccepts, run_inputs, run_with}
+use Rattle.std.specs.List.{concat}
 use Rattle.fz_shelf.specs.{Files.Names, Told.Taken}
 use Rattle.command_parts.specs.SeenOutputs.{SeenOutput}
 use Rattle.fz_top.specs.{Accepted.Accepts, Commands.Makes, Commands.command_in, Commands.form_of, Commands.inputs_of}
@@ -75,8 +76,8 @@ pub room_for : CertifiedRunsKeepPromise → (words : List Text) (kind : CertKind
 unfolding Makes
 room_for keep words kind width flags files names told byte room output gives = (
   subst (λ (o : SeenOutput). FileFits words o.file names) (sym gives.output_is) tt,
-  room gives.report output.text
-      (subst (λ (o : SeenOutput). Promise width flags files gives.report o.text) (sym gives.output_is)
+  room gives.report (concat output.lines)
+      (subst (λ (o : SeenOutput). Promise width flags files gives.report (concat o.lines)) (sym gives.output_is)
       (keep kind width flags files gives.report gives.certified byte)),
 )
 

@@ -2,6 +2,7 @@
 use Rattle.std.proofs.Common.{◌≡◌, ◌<◌, ◌^◌, ℕ, List, [], ◌∷◌, length, sym, ap, subst, refl, ◌∙◌}
 use Rattle.std.specs.Prelude.{Bool, true, false, if◌then◌else◌, Option, Some, None, option_and_then, option_map}
 use Rattle.std.specs.Prelude.{Ok, ◌==◌}
+use Rattle.std.specs.List.{concat}
 use Rattle.fz_shelf.specs.Files.{Names}
 use Rattle.fz_words.specs.Table.{Row, any_hyphen, row}
 use Rattle.fz_status.specs.{Words.Text, Words.word_at, declared.status.Status.Status}
@@ -105,10 +106,10 @@ module _ (keep : CertifiedRunsKeepPromise) (words : List Text) (old new : World)
   kept kind width flags byte output contents held done gives = record {
     files = files_in contents;
     are = are_of words old.files contents held;
-    text = output.text;
+    text = concat output.lines;
     put = done.told;
     report = gives.report;
-    promise = subst (λ (o : SeenOutput). Promise width flags (files_in contents) gives.report o.text)
+    promise = subst (λ (o : SeenOutput). Promise width flags (files_in contents) gives.report (concat o.lines))
         (sym gives.output_is)
         (keep kind width flags (files_in contents) gives.report gives.certified byte);
   }

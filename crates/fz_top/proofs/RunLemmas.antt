@@ -3,6 +3,7 @@ use Rattle.std.proofs.Common.{◌≡◌, ◌⊎◌, ◌<◌, inl, inr, ⊎_elim,
 use Rattle.std.proofs.Common.{subst, arith}
 use Rattle.std.specs.Prelude.{Option, Some, None, Result, Ok, Err}
 use Rattle.std.proofs.lemmas.List.{append-nil}
+use Rattle.std.specs.List.{concat}
 use Rattle.fz_shelf.specs.{Faults.Rose, Told.Taken, Told.HasRoom, Told.Log, Told.Counts}
 use Rattle.fz_shelf.specs.Files.{File, IsThere, IsLong, Holds, Names, known as known_file}
 use Rattle.std.specs.declared.alloc.Global.{Global}
@@ -196,7 +197,7 @@ module _ (words : List Text) (files : Names) (command : Command) (contents : Lis
 pub room_of : (words : List Text) (f0 f1 : Names) (k0 k1 : Counts) (a0 a1 : Log) (t0 : Option Taken) (e0 : ℕ)
     (output : SeenOutput) (made : Made words f0 f1 k0 k1 a0 a1 output) (command : Command) (contents : List (List ℕ))
     → IsReady words (world f0 k0 a0 t0 e0) command contents → FileFits words output.file f1
-    × HasRoom t0 (length output.text)
+    × HasRoom t0 (length (concat output.lines))
 room_of words f0 f1 k0 k1 a0 a1 t0 e0 output made command contents ready =
     let room = ready.room output
     (makes_same words f0 command contents ready.is ready.known made.command made.contents

@@ -2,7 +2,8 @@
 -- Beside the promise.
 use Rattle.std.specs.Prelude.{◌≡◌, ◌≢◌, ◌⊎◌, ◌<◌, ◌≤◌, ℕ, List, [], ◌∷◌, ◌++◌, length, Option, Some, None}
 use Rattle.std.specs.Prelude.{is_some, true, Result, Ok, Err}
-use Rattle.fz_shelf.specs.{Faults.Rose, Told.Taken, Told.gained, Told.GainedPart, Told.HasRoom, Files.Names}
+use Rattle.std.specs.List.{concat}
+use Rattle.fz_shelf.specs.{Faults.Rose, Told.Taken, Lines.GainedLines, Told.gained, Told.HasRoom, Files.Names}
 use Rattle.fz_shelf.specs.{Files.Written, Files.Fits, Files.known}
 use Rattle.fz_status.specs.Words.{Text, word_at}
 use Rattle.fz_top.specs.{Accepted.Accepts, Commands.Makes, Commands.command_in, Commands.inputs_of}
@@ -31,7 +32,7 @@ FileFits words (Some p) files = Fits (files (word_at words p.0)) (length p.1)
 pub record Delivered (words : List Text) (output : SeenOutput) (old new : World) : Type 0 where
   pub others : ChangesOnly words output.file old.files new.files
   pub written : IsWritten words output.file old.files new.files
-  pub told : new.told ≡ gained old.told output.text
+  pub told : new.told ≡ gained old.told (concat output.lines)
   pub counts : new.counts ≡ old.counts
   pub faults : new.faults ≡ old.faults
 
@@ -43,12 +44,12 @@ pub record WriteFailed (output : SeenOutput) (old new : World) : Type 0 where
   pub told : new.told ≡ old.told
   pub faults : new.faults ≡ old.faults
 
--- a put failed, and OUT is whole
+-- a put failed, and OUT is whole; so are the lines that were put before the one of which a beginning was
 pub record PutFailed (words : List Text) (output : SeenOutput) (old new : World) : Type 0 where
   pub written : IsWritten words output.file old.files new.files
   pub counts : new.counts ≡ old.counts
   pub rose : Rose old.faults new.faults
-  pub part : GainedPart old.told new.told output.text
+  pub part : GainedLines old.told new.told output.lines
 
 -- the command of the words, the contents that its files have where the shelf tells them, and what it makes of them
 pub record Worked (words : List Text) (old new : World) (r : Result SeenOutput Status) : Type 0 where
@@ -107,7 +108,7 @@ AreKnown files (n ∷ ns) (c ∷ cs) = ((room : ℕ) × (files n ≡ known c roo
 -- there is room for what the command writes and puts, whatever that is
 abbrev pub RoomFor : List Text → Names → Option Taken → (Result SeenOutput Status → Type 0) → Type 0
 RoomFor words files told makes =
-    (output : SeenOutput) → makes (Ok output) → FileFits words output.file files × HasRoom told (length output.text)
+    (output : SeenOutput) → makes (Ok output) → FileFits words output.file files × HasRoom told (length (concat output.lines))
 
 -- the words are of a command whose files are told, and there is room
 pub record IsReady (words : List Text) (old : World) (command : Command) (contents : List (List ℕ)) : Type 0 where

@@ -1,5 +1,6 @@
 //! Writing the file and putting the lines: the one place where anything leaves the program.
 ghost use Rattle.std.specs.Prelude.{◌≡◌, ◌⊎◌, length, OnOk, OnErr, IsOk};
+ghost use Rattle.std.specs.List.{concat};
 ghost use Rattle.fz_shelf.specs.Told.{HasRoom, world};
 ghost use Rattle.fz_status.specs.Words.{texts_of};
 ghost use Rattle.command_parts.specs.SeenOutputs.{seen_output};
@@ -32,7 +33,7 @@ pub(crate) fn deliver<S: Shelf, O: Sink>(
     ensures out_reliable { O.reliable out.old → O.reliable out.new }
     ensures steady { S.reliable shelf.old → O.reliable out.old
         → FileFits (texts_of words.now) (seen_output output.now).file (S.files shelf.old)
-        → HasRoom (O.told out.old) (length (seen_output output.now).text) → IsOk result }
+        → HasRoom (O.told out.old) (length (concat (seen_output output.now).lines)) → IsOk result }
 {
     if let Some((place, bytes)) = &output.file {
         shelf.write(word(words, *place), bytes)?;

@@ -3,9 +3,11 @@ use Rattle.std.proofs.Common.{◌≡◌, ◌≢◌, ◌<◌, ◌≤◌, ◌+◌,
 use Rattle.std.proofs.Common.{ap, arith}
 use Rattle.std.specs.Prelude.{All, codes, decimal}
 use Rattle.std.proofs.lemmas.Fmt.{decimal_by_steps, decimal_injective}
-use Rattle.std.proofs.lemmas.List.{append_assoc, append_cancel_left}
+use Rattle.std.specs.List.{concat}
+use Rattle.std.proofs.lemmas.List.{append_assoc, append_cancel_left, append-nil}
+use Rattle.std.proofs.lemmas.List.Folds.{concat-append}
 use Rattle.fz_shelf.specs.Parts.{newline}
-use Rattle.command_parts.specs.Lines.{counted, error_line, line}
+use Rattle.command_parts.specs.Lines.{counted, error_line, error_lines, line}
 use Rattle.run_reports.specs.{Reports.Report, RowLines.row_lines}
 use Rattle.run_reports.specs.RowLines.{run_lines}
 use Rattle.promise.specs.Laws.{PrintedNumbersAreOne}
@@ -50,14 +52,20 @@ read m n r s hm hn e =
 
 -- a line, and what follows it
 line_then : (label : List ℕ) (n : ℕ) (rest : List ℕ) → line label n ++ rest ≡ label ++ (decimal n ++ 10 ∷ rest)
-line_then label n rest = append_assoc label (decimal n ++ newline) rest
-    ∙ ap (λ t. label ++ t) (append_assoc (decimal n) newline rest)
+line_then label n rest =
+    append_assoc (label ++ decimal n) newline rest ∙ append_assoc label (decimal n) (10 ∷ rest)
 
-error_then : (k e : ℕ) (rest : List ℕ) → error_line k e ++ rest
+error_then : (k e : ℕ) (rest : List ℕ) → error_line (codes "error ") k e ++ rest
     ≡ codes "error " ++ (decimal k ++ (codes " " ++ (decimal e ++ 10 ∷ rest)))
-error_then k e rest = append_assoc (codes "error ") (decimal k ++ line (codes " ") e) rest
-    ∙ ap (λ t. codes "error " ++ t) (append_assoc (decimal k) (line (codes " ") e) rest
-    ∙ ap (λ t. decimal k ++ t) (line_then (codes " ") e rest))
+error_then k e rest =
+    let told = codes " " ++ decimal e in
+    append_assoc (codes "error " ++ (decimal k ++ told)) newline rest
+    ∙ append_assoc (codes "error ") (decimal k ++ told) (10 ∷ rest)
+    ∙ ap (λ t. codes "error " ++ t) (append_assoc (decimal k) told (10 ∷ rest))
+
+-- the text of the errors
+abbrev errors_from : ℕ → List ℕ → List ℕ
+errors_from k es = concat (counted (λ o e. error_line (codes "error ") o e ∷ []) k es)
 
 abbrev Small : List ℕ → Type 0
 Small [] = Unit {0}
@@ -69,7 +77,7 @@ record Begins (es fs : List ℕ) (b c : ℕ) : Type 0 where
 
 -- what stands before the rows
 abbrev ahead : ℕ → List ℕ → ℕ → List ℕ → List ℕ
-ahead k es b rest = counted error_line k es ++ (line (codes "instructions ") b ++ rest)
+ahead k es b rest = errors_from k es ++ (line (codes "instructions ") b ++ rest)
 
 heads_differ : (x y : ℕ) (xs ys : List ℕ) → x ∷ xs ≡ y ∷ ys → (x ≡ y → ⊥) → ⊥
 heads_differ x y xs ys e apart = apart cc
@@ -85,9 +93,9 @@ begins k (x ∷ es) [] b c r s he hf hb hc e = absurd (heads_differ 101 105 _ _ 
 begins k (x ∷ es) (f ∷ fs) b c r s he hf hb hc e =
     let left = ahead (k + 1) es b r in
     let right = ahead (k + 1) fs c s in
-    let here : error_line k x ++ left ≡ error_line k f ++ right =
-    sym (append_assoc (error_line k x) (counted error_line (k + 1) es) (line (codes "instructions ") b ++ r))
-    ∙ (e ∙ append_assoc (error_line k f) (counted error_line (k + 1) fs) (line (codes "instructions ") c ++ s)) in
+    let here : error_line (codes "error ") k x ++ left ≡ error_line (codes "error ") k f ++ right =
+    sym (append_assoc (error_line (codes "error ") k x) (errors_from (k + 1) es) (line (codes "instructions ") b ++ r))
+    ∙ (e ∙ append_assoc (error_line (codes "error ") k f) (errors_from (k + 1) fs) (line (codes "instructions ") c ++ s)) in
     let lines = sym (error_then k x left) ∙ (here ∙ error_then k f right) in
     let labelled = append_cancel_left (codes "error ") (decimal k ++ (codes " " ++ (decimal x ++ 10 ∷ left)))
     (decimal k ++ (codes " " ++ (decimal f ++ 10 ∷ right))) lines in
@@ -107,15 +115,22 @@ all_small (e ∷ es) all = (
   all_small es (λ k d lt. all (suc k) d (omega (arith, lt))),
 )
 
-rows_after : (r : Report) (left : ℕ) → run_lines r left
-    ≡ ahead 1 r.errors r.bound (counted row_lines 1 r.rows ++ line (codes "left ") left)
-rows_after r left = append_assoc (counted error_line 1 r.errors) (line (codes "instructions ") r.bound)
-    (counted row_lines 1 r.rows ++ line (codes "left ") left)
+-- what stands behind the bound
+abbrev behind : Report → ℕ → List ℕ
+behind r left = concat (counted row_lines 1 r.rows ++ line (codes "left ") left ∷ [])
+
+rows_after : (r : Report) (left : ℕ) → concat (run_lines r left) ≡ ahead 1 r.errors r.bound (behind r left)
+rows_after r left =
+    let bound = line (codes "instructions ") r.bound in
+    let errors = error_lines (codes "error ") r.errors in
+    concat-append (errors ++ bound ∷ []) (counted row_lines 1 r.rows ++ line (codes "left ") left ∷ [])
+    ∙ ap (λ t. t ++ behind r left) (concat-append errors (bound ∷ []))
+    ∙ append_assoc (concat errors) (bound ++ []) (behind r left)
+    ∙ ap (λ t. concat errors ++ (t ++ behind r left)) (append-nil bound)
 
 pub printed_once : PrintedNumbersAreOne
 printed_once block other r s left more p q same =
-    let both = begins 1 r.errors s.errors r.bound s.bound (counted row_lines 1 r.rows ++ line (codes "left ") left)
-    (counted row_lines 1 s.rows ++ line (codes "left ") more) (all_small r.errors p.errors)
+    let both = begins 1 r.errors s.errors r.bound s.bound (behind r left) (behind s more) (all_small r.errors p.errors)
     (all_small s.errors q.errors) (omega (arith, p.bound)) (omega (arith, q.bound))
     (sym (rows_after r left) ∙ (same ∙ rows_after s more)) in
     (both.errors, both.bound)

@@ -1,4 +1,5 @@
 -- A certified run keeps its promise.
+use Rattle.std.specs.List.{concat}
 use Rattle.std.proofs.Common.{◌≡◌, ◌<◌, ◌≤◌, ◌^◌, ◌∙◌, ℕ, List, [], refl, sym, ap, subst, arith}
 use Rattle.std.specs.Prelude.{length, map, All, slice_index_or, ◌-◌}
 use Rattle.std.proofs.lemmas.Option.{slice_get-get_or}
@@ -121,5 +122,5 @@ certified_keep answers one arrives few kind width flags files report r byte = re
     bound = subst (λ (n : ℕ). n ≤ 2000) (sym r.reported.bound)
         (few r.block width 0 r.compiled.spelled.valid r.compiled.limits).1;
   };
-  printed = ap (run_lines report) r.left_is;
+  printed = ap (λ left. concat (run_lines report left)) r.left_is;
 }

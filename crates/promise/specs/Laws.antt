@@ -19,6 +19,7 @@ use Rattle.alone_runs.specs.{Answering.AnswersUnder, Rows.firmware_rows}
 use Rattle.run_law.specs.Forms.{RowSeen}
 use Rattle.srecord.specs.Texts.{GivesImage}
 use Rattle.std.specs.Prelude.{◌≡◌, ◌<◌, ◌^◌, ℕ, List, length}
+use Rattle.std.specs.List.{concat}
 use Rattle.trace_io.specs.{Traces.Spells as SpellsTrace, declared.sample.Sample.Sample}
 
 -- What a block's firmware answers under a plan is served by its image.
@@ -34,12 +35,12 @@ AnswersServe = (width : Width) (flags : ℕ) (block : Block) (firmware : Firmwar
 abbrev pub CertifiedRunsKeepPromise : Type 0
 CertifiedRunsKeepPromise = (kind : CertKind) (width : Width) (flags : ℕ) (files : RunFiles) (report : Report)
     (certified : CertifiedRun kind width flags files report)
-    → flags < 2 ^ 8 → Promise width flags files report (run_lines report certified.left)
+    → flags < 2 ^ 8 → Promise width flags files report (concat (run_lines report certified.left))
 
 -- The text has one list of errors and one bound, whatever report it is of.
 abbrev pub PrintedNumbersAreOne : Type 0
 PrintedNumbersAreOne = (block other : Block) (r s : Report) (left more : ℕ) → IsPrintable block r → IsPrintable other s
-    → run_lines r left ≡ run_lines s more → (r.errors ≡ s.errors) × (r.bound ≡ s.bound)
+    → concat (run_lines r left) ≡ concat (run_lines s more) → (r.errors ≡ s.errors) × (r.bound ≡ s.bound)
 
 -- FCL spells a block within the limits, IMAGE holds exactly its image, CERT is a certificate of this kind that is
 -- accepted, TRACE spells samples within their ranges, and PLAN a good plan.

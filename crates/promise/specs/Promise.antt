@@ -1,6 +1,7 @@
 -- What the program promises of a certified run, in the words of its one sentence.
 -- Reached by the promise.
 use Rattle.std.specs.Prelude.{◌≡◌, ◌≤◌, ℕ, List, All, length, map}
+use Rattle.std.specs.List.{concat}
 use Rattle.fuzzy_meaning.specs.declared.block.Block.{Block}
 use Rattle.fcl_check.specs.Texts.{SpellsBlock}
 use Rattle.cpu12_asm.specs.declared.image.Image.{Image}
@@ -51,4 +52,4 @@ pub record Promise (width : Width) (flags : ℕ) (files : RunFiles) (report : Re
   pub within : AreWithinErrors (parts width) block report.errors samples report.rows
   pub instructions : All (λ row. row.instrs ≤ report.bound) report.rows
   pub printable : IsPrintable block report
-  pub printed : text ≡ run_lines report (left_of serves.last.mem)
+  pub printed : text ≡ concat (run_lines report (left_of serves.last.mem))

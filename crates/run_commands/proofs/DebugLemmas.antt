@@ -1,45 +1,41 @@
 -- What a debugged run gives.
-use Rattle.std.proofs.Common.{◌≡◌, ◌∙◌, ℕ, List, [], ◌++◌, ap, ap₂, refl, sym, subst}
-use Rattle.std.specs.Prelude.{None, String, map}
+use Rattle.std.proofs.Common.{◌≡◌, ◌∙◌, ℕ, List, [], ◌∷◌, true, ap, ap₂, refl, subst}
+use Rattle.std.specs.Prelude.{map}
 use Rattle.std.specs.List.{flat_map}
-use Rattle.std.specs.declared.alloc.Global.{Global}
 use Rattle.fuzzy_meaning.specs.declared.block.Block.{Block}
 use Rattle.alone_code.specs.declared.firmware.Firmware.{Firmware}
 use Rattle.interrupt_plan.specs.declared.Request.{Request}
 use Rattle.trace_io.specs.{declared.sample.Sample.Sample, Traces.input_bytes}
 use Rattle.run_law.specs.Forms.{RowSeen}
-use Rattle.alone_runs.specs.{Answering.AnswersItsBlock, Answering.AnswersUnderPlans, declared.rows.Row.Row}
-use Rattle.alone_runs.specs.Rows.{firmware_rows, row_seen}
-use Rattle.fz_shelf.specs.Lines.{text_of}
+use Rattle.alone_runs.specs.{Answering.AnswersItsBlock, Answering.AnswersUnderPlans}
+use Rattle.alone_runs.specs.Rows.{firmware_rows}
+use Rattle.fz_shelf.proofs.Algebra.{bare-append, bare-byte}
+use Rattle.fz_shelf.specs.{Lines.has_no_end, Parts.byte_digits}
 use Rattle.debug_script.specs.{Showing.shown, declared.order.Order.Order, declared.shown.Shown.Shown}
 use Rattle.byte_scaling.specs.declared.width.Width.TheVariants.{Byte}
 use Rattle.srecord.specs.Texts.{GivesImage}
 use Rattle.fz_status.specs.declared.status.Status.{Status}
 use Rattle.fz_status.specs.declared.status.Status.TheVariants as status
-use Rattle.command_parts.specs.{Firmwares.GivesFirmware, SeenOutputs.SeenOutput, Lines.counted}
-use Rattle.run_reports.specs.{Inputs.sample_refusals, RowLines.row_lines, Laws.SpelledBytesFit}
+use Rattle.command_parts.specs.{Firmwares.GivesFirmware, SeenOutputs.only_lines}
+use Rattle.run_reports.specs.{Inputs.sample_refusals, Laws.SpelledBytesFit}
 use Rattle.run_commands.specs.Debug.{DebugFiles, DebugGives, Debugs, debug_lines, debug_refusals, run_positions}
-use Rattle.run_commands.specs.Debug.{AcceptedDebugRunsMakeOutput, shown_line}
+use Rattle.run_commands.specs.Debug.{AcceptedDebugRunsMakeOutput, behind_blank}
 use Rattle.run_commands.specs.declared.debug.DebugRun.{DebugRun}
-use Rattle.command_parts.proofs.Algebra.{counted-map}
 use Rattle.command_parts.specs.declared.firmware.Form.TheVariants.{Alone}
-
-abbrev pub only_text : List ℕ → SeenOutput
-only_text t = record { text = t; file = None }
 
 -- what the debugger answers of accepted files, and its lines
 pub gives : (fit : SpelledBytesFit) (debug : DebugRun) (files : DebugFiles) (block : Block) (firmware : Firmware)
     (samples slice : List Sample)
     (plan : List Request) (script orders : List Order) (items items' : List Shown)
     (rows rows' : List (RowSeen (List ℕ)))
-    (text : List ℕ)
+    (lines : List (List ℕ))
     → Debugs files block firmware samples plan script → slice ≡ samples → orders ≡ script
     → items ≡ shown orders (run_positions firmware debug.flags slice plan)
     → rows ≡ (firmware_rows firmware (map input_bytes slice) plan debug.flags).rows
     → AnswersItsBlock firmware debug.flags (map input_bytes slice) plan rows
-    → text ≡ debug_lines items' rows' → items' ≡ items → rows' ≡ rows
-    → DebugGives debug files (only_text text)
-gives fit debug files block firmware samples slice plan script orders items items' rows rows' text a same obeyed is
+    → lines ≡ debug_lines items' rows' → items' ≡ items → rows' ≡ rows
+    → DebugGives debug files (only_lines lines)
+gives fit debug files block firmware samples slice plan script orders items items' rows rows' lines a same obeyed is
     ran answers
     written same_items same_rows =
     let all : AnswersItsBlock firmware debug.flags (map input_bytes samples) plan rows =
@@ -59,7 +55,7 @@ gives fit debug files block firmware samples slice plan script orders items item
           same ran;
       follows = all block a.compiled.spelled.valid a.compiled.limits a.compiled.compiled.0
           (fit block files.trace samples a.in_range);
-      output_is = ap only_text (written ∙ ap₂ debug_lines shown_is same_rows);
+      output_is = ap only_lines (written ∙ ap₂ debug_lines shown_is same_rows);
     }
 
 -- accepted files make an output
@@ -82,12 +78,8 @@ debug_refused files block firmware gives image (status.Image f) r = absurd r
 debug_refused files block firmware gives image (status.Script n) r = absurd r
 debug_refused files block firmware gives image s r = (block, firmware, gives, (image, r))
 
--- the lines of what is shown, and those of the rows behind them
-pub lines_written : (none begun lines : List (String Global)) (items : List Shown) (rows : List Row) → none ≡ []
-    → text_of begun ≡ text_of none ++ flat_map shown_line items
-    → text_of lines ≡ text_of begun ++ counted (λ k r. row_lines k (row_seen r)) 1 rows
-    → text_of lines ≡ debug_lines items (map row_seen rows)
-lines_written none begun lines items rows start shown_so rows_so =
-    let first : text_of begun ≡ flat_map shown_line items =
-    shown_so ∙ ap (λ (ls : List (String Global)). text_of ls ++ flat_map shown_line items) start in
-    rows_so ∙ ap₂ (λ (x y : List ℕ). x ++ y) first (sym (counted-map row_lines row_seen 1 rows))
+-- ---- no line ends in what is shown of bytes
+
+pub bare-bytes : (bytes : List ℕ) → has_no_end (flat_map behind_blank bytes) ≡ true
+bare-bytes [] = refl
+bare-bytes (b ∷ bytes) = bare-append (byte_digits b) (flat_map behind_blank bytes) (bare-byte b) (bare-bytes bytes)

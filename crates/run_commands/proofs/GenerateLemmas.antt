@@ -1,10 +1,14 @@
 -- A number that is accepted makes an output.
-use Rattle.std.proofs.Common.{map, refl, arith}
+use Rattle.std.proofs.Common.{◌≡◌, ◌∙◌, ℕ, List, [], ◌∷◌, ◌++◌, ap, length, map, refl, arith}
+use Rattle.std.specs.Prelude.{codes}
 use Rattle.byte_scaling.specs.declared.width.Width.TheVariants.{Byte}
 use Rattle.alone_runs.specs.{Answering.AnswersUnderPlans, Rows.firmware_rows}
 use Rattle.trace_io.specs.Traces.{input_bytes}
 use Rattle.run_reports.specs.{Laws.AnswersAreReported, Reports.report_of}
-use Rattle.run_commands.specs.Generate.{AcceptedNumbersMakeOutput}
+use Rattle.run_commands.specs.Generate.{AcceptedNumbersMakeOutput, answers_of, frames_of, generate_lines, resumed_of}
+use Rattle.command_parts.proofs.Algebra.{made_with}
+use Rattle.command_parts.specs.Lines.{error_lines, line}
+use Rattle.run_law.specs.Forms.{RowSeen}
 
 pub generate_made : AnswersAreReported → AnswersUnderPlans → AcceptedNumbersMakeOutput
 generate_made reported under generate (block, firmware, samples, requests, cert, a) =
@@ -31,3 +35,25 @@ generate_made reported under generate (block, firmware, samples, requests, cert,
         output_is = refl;
       },
     )
+
+-- ---- its lines
+
+pub generate_written : (number bound : ℕ) (es : List ℕ) (rows : List (RowSeen (List ℕ)))
+    (l0 l1 l2 l3 l4 l5 l6 l7 : List (List ℕ)) (s1 s3 s4 s5 s6 s7 : List ℕ)
+    → l0 ≡ [] → l1 ≡ l0 ++ s1 ∷ [] → s1 ≡ line (codes "gen ") number
+    → l2 ≡ l1 ++ error_lines (codes "error ") es
+    → l3 ≡ l2 ++ s3 ∷ [] → s3 ≡ line (codes "instructions ") bound
+    → l4 ≡ l3 ++ s4 ∷ [] → s4 ≡ line (codes "samples ") (length rows)
+    → l5 ≡ l4 ++ s5 ∷ [] → s5 ≡ line (codes "frames ") (frames_of rows)
+    → l6 ≡ l5 ++ s6 ∷ [] → s6 ≡ line (codes "resumed ") (resumed_of rows)
+    → l7 ≡ l6 ++ s7 ∷ [] → s7 ≡ line (codes "sum ") (answers_of rows)
+    → l7 ≡ generate_lines number es bound rows
+generate_written number bound es rows l0 l1 l2 l3 l4 l5 l6 l7 s1 s3 s4 s5 s6 s7 start a1 is1 errors a3 is3 a4 is4 a5 is5
+    a6 is6 a7 is7 =
+    let e = error_lines (codes "error ") es in
+    let all : l7 ≡ s1 ∷ (e ++ s3 ∷ s4 ∷ s5 ∷ s6 ∷ s7 ∷ []) =
+    a7 ∙ made_with l5 (s6 ∷ []) (s7 ∷ []) l6 a6 ∙ made_with l4 (s5 ∷ []) (s6 ∷ s7 ∷ []) l5 a5
+    ∙ made_with l3 (s4 ∷ []) (s5 ∷ s6 ∷ s7 ∷ []) l4 a4 ∙ made_with l2 (s3 ∷ []) (s4 ∷ s5 ∷ s6 ∷ s7 ∷ []) l3 a3
+    ∙ made_with l1 e (s3 ∷ s4 ∷ s5 ∷ s6 ∷ s7 ∷ []) l2 errors
+    ∙ ap (λ ls. ls ++ (e ++ s3 ∷ s4 ∷ s5 ∷ s6 ∷ s7 ∷ [])) (a1 ∙ ap (λ ls. ls ++ s1 ∷ []) start) in
+    all ∙ (λ i. is1 i ∷ (e ++ is3 i ∷ is4 i ∷ is5 i ∷ is6 i ∷ is7 i ∷ []))

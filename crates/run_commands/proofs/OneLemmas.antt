@@ -1,6 +1,7 @@
 -- Files, and a number, make at most one output.
 use Rattle.std.proofs.Common.{◌≡◌, ◌∙◌, sym, ap, subst}
-use Rattle.std.specs.Prelude.{None, Ok, Result, map}
+use Rattle.std.specs.Prelude.{Ok, Result, map}
+use Rattle.std.specs.Prelude.{Ok, map}
 use Rattle.fuzzy_meaning.specs.declared.block.Block.{Block}
 use Rattle.debug_script.specs.{Showing.shown}
 use Rattle.eval_code.specs.Bounds.{instruction_bound}
@@ -14,7 +15,7 @@ use Rattle.trace_io.specs.Traces.{Spells as SpellsTrace, input_bytes}
 use Rattle.alone_runs.specs.Rows.{firmware_rows, first_state}
 use Rattle.command_parts.specs.Certs.{AcceptedErrorsAreOne, AcceptsCert}
 use Rattle.command_parts.specs.declared.firmware.Form.TheVariants.{Alone}
-use Rattle.command_parts.specs.{Firmwares.GivenFirmwaresAreOne, SeenOutputs.OutputsAreOne}
+use Rattle.command_parts.specs.{Firmwares.GivenFirmwaresAreOne, SeenOutputs.OutputsAreOne, SeenOutputs.only_lines}
 use Rattle.run_reports.specs.{Laws.SpelledInputsAreOne, Reports.left_of, RowLines.run_lines}
 use Rattle.run_reports.specs.declared.files.RunFiles.{RunFiles}
 use Rattle.run_commands.specs.{Run.RunMakes, Debug.DebugFiles, Debug.DebugMakes, Debug.debug_lines}
@@ -42,7 +43,7 @@ runs_once firmwares accepted inputs run files output other a b =
     let report : a.report ≡ b.report = (λ i. record { errors = errors i; bound = bound i; rows = rows i }) in
     let left : p.left ≡ q.left =
     p.left_is ∙ (λ i. left_of (firmware_rows (one.1 i) (bytes i) (plan i) run.flags).state.mem) ∙ sym q.left_is in
-    a.output_is ∙ (λ i. record { text = run_lines (report i) (left i); file = None }) ∙ sym b.output_is
+    a.output_is ∙ (λ i. only_lines (run_lines (report i) (left i))) ∙ sym b.output_is
 
 pub debug_runs_once : GivenFirmwaresAreOne → SpelledInputsAreOne → (debug : DebugRun) (files : DebugFiles)
     → OutputsAreOne (DebugMakes debug files)
@@ -57,11 +58,8 @@ debug_runs_once firmwares inputs debug files output other a b =
     let script : a.script ≡ b.script = let e : Ok a.script ≡ Ok b.script = sym p.spelled ∙ q.spelled in cc in
     let rows : a.rows ≡ b.rows =
     a.ran ∙ (λ i. (firmware_rows (one.1 i) (bytes i) (plan i) debug.flags).rows) ∙ sym b.ran in
-    a.output_is ∙ (λ i. record {
-      text = debug_lines (shown (script i) (positions (first_state (one.1 i) debug.flags)
-          (firmware_rows (one.1 i) (bytes i) (plan i) debug.flags))) (rows i);
-      file = None;
-    }) ∙ sym b.output_is
+    a.output_is ∙ (λ i. only_lines (debug_lines (shown (script i) (positions (first_state (one.1 i) debug.flags)
+    (firmware_rows (one.1 i) (bytes i) (plan i) debug.flags))) (rows i))) ∙ sym b.output_is
 
 one_ok : (cert other : Cert) → ◌≡◌ {A = Result Cert NotReached} (Ok cert) (Ok other) → cert ≡ other
 one_ok cert other same = cc
@@ -83,6 +81,5 @@ generates_once workloads firmwares answers generate output other a b =
     a.reported.ran ∙ (λ i. (firmware_rows (firmware i) (one.1 i) (one.2 i) 0).rows) ∙ sym b.reported.ran in
     let bound : a.report.bound ≡ b.report.bound =
     a.reported.bound ∙ ap (instruction_bound Byte) one.0 ∙ sym b.reported.bound in
-    a.output_is
-    ∙ (λ i. record { text = generate_lines generate.number (errors i) (bound i) (rows i); file = None })
+    a.output_is ∙ (λ i. only_lines (generate_lines generate.number (errors i) (bound i) (rows i)))
     ∙ sym b.output_is

@@ -1,12 +1,12 @@
 -- The command `debug FCL IMAGE TRACE PLAN FLAGS SCRIPT`.
 -- Beside the promise.
-use Rattle.std.specs.Prelude.{◌≡◌, ◌<◌, ◌^◌, ℕ, List, [], ◌∷◌, ◌++◌, codes, decimal, map, Option, None, option_map}
+use Rattle.std.specs.Prelude.{◌≡◌, ◌<◌, ◌^◌, ℕ, List, [], ◌∷◌, ◌++◌, codes, decimal, map, Option, option_map}
 use Rattle.std.specs.Prelude.{Result, Ok, Err}
 use Rattle.std.specs.List.{flat_map}
 use Rattle.fuzzy_meaning.specs.declared.block.Block.{Block}
 use Rattle.alone_code.specs.declared.firmware.Firmware.{Firmware}
 use Rattle.byte_scaling.specs.declared.width.Width.TheVariants.{Byte}
-use Rattle.fz_shelf.specs.Parts.{address_digits, byte_digits, newline}
+use Rattle.fz_shelf.specs.Parts.{address_digits, byte_digits, ended}
 use Rattle.interrupt_plan.specs.{Plans.Spells as SpellsPlan, declared.Request.Request}
 use Rattle.run_law.specs.Forms.{RowSeen}
 use Rattle.srecord.specs.Texts.{GivesImage}
@@ -18,9 +18,9 @@ use Rattle.debug_script.specs.{Scripts.script_of, Showing.shown}
 use Rattle.debug_script.specs.declared.{order.Order.Order, shown.Shown.Shown}
 use Rattle.debug_script.specs.declared.shown.Shown.TheVariants.{Stop, Registers, Bytes}
 use Rattle.command_parts.specs.{Contents.content_at, SeenOutputs.HasOutput, SeenOutputs.SeenOutput}
-use Rattle.command_parts.specs.{Images.RefusesImage, Lines.counted, Lines.with_registers}
+use Rattle.command_parts.specs.{Images.RefusesImage, Lines.counted, Lines.registers_told}
 use Rattle.command_parts.specs.Firmwares.{GivesFirmware, OfFirmware, RefusesText}
-use Rattle.command_parts.specs.declared.firmware.Form.TheVariants.{Alone}
+use Rattle.command_parts.specs.{SeenOutputs.only_lines, declared.firmware.Form.TheVariants.Alone}
 use Rattle.fz_status.specs.{Words.flags_of, Words.Text, Words.word_at, Refusals.Refusals, Refusals.Refuses}
 use Rattle.fz_status.specs.declared.status.Status.{Status}
 use Rattle.run_reports.specs.{Inputs.sample_refusals, RowLines.row_lines}
@@ -55,14 +55,14 @@ behind_blank byte = codes " " ++ byte_digits byte
 
 -- the line of what an order shows
 abbrev pub shown_line : Shown → List ℕ
-shown_line (Stop sample moment pc) = codes "stop " ++ (decimal sample ++ (codes " " ++ (decimal moment
-    ++ (codes " " ++ (address_digits pc ++ newline)))))
-shown_line (Registers regs) = with_registers regs newline
-shown_line (Bytes at bytes) = codes "mem " ++ (address_digits at ++ (flat_map behind_blank bytes ++ newline))
+shown_line (Stop sample moment pc) = ended (codes "stop " ++ (decimal sample ++ (codes " " ++ (decimal moment
+    ++ (codes " " ++ address_digits pc)))))
+shown_line (Registers regs) = ended (registers_told regs)
+shown_line (Bytes at bytes) = ended (codes "mem " ++ (address_digits at ++ flat_map behind_blank bytes))
 
 -- what a script shows, and then the rows of the whole run, as `run` has them
-abbrev pub debug_lines : List Shown → List (RowSeen (List ℕ)) → List ℕ
-debug_lines shown rows = flat_map shown_line shown ++ counted row_lines 1 rows
+abbrev pub debug_lines : List Shown → List (RowSeen (List ℕ)) → List (List ℕ)
+debug_lines shown rows = map shown_line shown ++ counted row_lines 1 rows
 
 -- ---- what it makes of its files
 
@@ -93,10 +93,8 @@ pub record DebugGives (debug : DebugRun) (files : DebugFiles) (output : SeenOutp
   pub rows : List (RowSeen (List ℕ))
   pub ran : rows ≡ (firmware_rows firmware (map input_bytes samples) plan debug.flags).rows
   pub follows : AnswersUnder block firmware debug.flags (map input_bytes samples) plan rows
-  pub output_is : output ≡ record {
-    text = debug_lines (shown script (run_positions firmware debug.flags samples plan)) rows;
-    file = None;
-  }
+  pub output_is : output
+      ≡ only_lines (debug_lines (shown script (run_positions firmware debug.flags samples plan)) rows)
 
 -- why FCL is refused; why IMAGE is, FCL giving firmware; why a script is, all other files being accepted; and why the
 -- files between are, IMAGE holding its image

@@ -1,6 +1,6 @@
 -- The command `gen NUMBER`.
 -- Beside the promise.
-use Rattle.std.specs.Prelude.{◌≡◌, ℕ, List, [], ◌++◌, length, sum, sum_by, codes, Option, None, option_map}
+use Rattle.std.specs.Prelude.{◌≡◌, ℕ, List, [], ◌∷◌, ◌++◌, length, sum, sum_by, codes, Option, option_map}
 use Rattle.std.specs.Prelude.{Result, Ok, Err}
 use Rattle.fuzzy_meaning.specs.declared.block.Block.{Block}
 use Rattle.byte_scaling.specs.{Widths.parts, declared.width.Width.TheVariants.Byte}
@@ -15,9 +15,10 @@ use Rattle.fz_status.specs.{Refusals.Refusals, Refusals.Refuses, Words.Text, Wor
 use Rattle.fz_status.specs.declared.status.Status.{Status}
 use Rattle.fz_status.specs.declared.status.Status.TheVariants as status
 use Rattle.run_reports.specs.Reports.{IsReportOf, Report}
-use Rattle.command_parts.specs.{Certs.StopsHalving, Firmwares.GivesFirmware, Words.number_up_to}
-use Rattle.command_parts.specs.SeenOutputs.{HasOutput, SeenOutput}
-use Rattle.command_parts.specs.{Lines.counted, Lines.error_line, Lines.line, declared.firmware.Form.TheVariants.Alone}
+use Rattle.command_parts.specs.{Certs.StopsHalving, Firmwares.GivesFirmware, Words.number_up_to, Lines.line}
+use Rattle.command_parts.specs.{declared.firmware.Form.TheVariants.Alone}
+use Rattle.command_parts.specs.SeenOutputs.{HasOutput, SeenOutput, only_lines}
+use Rattle.command_parts.specs.Lines.{error_lines, line}
 use Rattle.run_commands.specs.declared.generate.Generate.{Generate}
 
 abbrev pub generate_with : ℕ → Generate
@@ -44,12 +45,12 @@ abbrev pub answers_of : List (RowSeen (List ℕ)) → ℕ
 answers_of rows = sum_by (λ row. sum row.answers) rows
 
 -- the number, the error of each output, the bound on instructions, how many samples, and the sums over all rows
-abbrev pub generate_lines : ℕ → List ℕ → ℕ → List (RowSeen (List ℕ)) → List ℕ
+abbrev pub generate_lines : ℕ → List ℕ → ℕ → List (RowSeen (List ℕ)) → List (List ℕ)
 generate_lines number errors bound rows =
-    line (codes "gen ") number ++ (counted error_line 1 errors
-    ++ (line (codes "instructions ") bound ++ (line (codes "samples ") (length rows)
-    ++ (line (codes "frames ") (frames_of rows) ++ (line (codes "resumed ") (resumed_of rows)
-    ++ line (codes "sum ") (answers_of rows))))))
+    line (codes "gen ") number ∷ (error_lines (codes "error ") errors
+    ++ line (codes "instructions ") bound ∷ line (codes "samples ") (length rows)
+    ∷ line (codes "frames ") (frames_of rows) ∷ line (codes "resumed ") (resumed_of rows)
+    ∷ line (codes "sum ") (answers_of rows) ∷ [])
 
 -- ---- what it makes of the number
 
@@ -76,7 +77,7 @@ pub record GenerateGives (number : ℕ) (output : SeenOutput) : Type 0 where
   pub report : Report
   pub errors : report.errors ≡ cert.claims
   pub reported : IsReportOf Byte 0 block firmware samples requests report
-  pub output_is : output ≡ record { text = generate_lines number report.errors report.bound report.rows; file = None }
+  pub output_is : output ≡ only_lines (generate_lines number report.errors report.bound report.rows)
 
 -- there is none where halving stops at the block that the number draws
 abbrev pub generate_refusals : ℕ → Refusals

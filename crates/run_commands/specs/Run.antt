@@ -1,7 +1,7 @@
 -- The commands `run FCL IMAGE CERT TRACE PLAN FLAGS`, `run16 ..` with answers of 16 bits, and `trun ..` and `trun16 ..`
 -- under tight certificates.
 -- Beside the promise.
-use Rattle.std.specs.Prelude.{◌≡◌, ◌<◌, ◌^◌, ℕ, List, [], ◌∷◌, Option, None, option_map}
+use Rattle.std.specs.Prelude.{◌≡◌, ◌<◌, ◌^◌, ℕ, List, [], ◌∷◌, Option, option_map}
 use Rattle.std.specs.Prelude.{Result, Ok, Err}
 use Rattle.fuzzy_meaning.specs.declared.block.Block.{Block}
 use Rattle.alone_code.specs.declared.firmware.Firmware.{Firmware}
@@ -10,7 +10,7 @@ use Rattle.byte_scaling.specs.declared.width.Width.{Width}
 use Rattle.interrupt_plan.specs.declared.Request.{Request}
 use Rattle.trace_io.specs.declared.sample.Sample.{Sample}
 use Rattle.srecord.specs.Texts.{GivesImage}
-use Rattle.command_parts.specs.{SeenOutputs.SeenOutput, Images.RefusesImage, Contents.content_at}
+use Rattle.command_parts.specs.{SeenOutputs.SeenOutput, SeenOutputs.only_lines, Images.RefusesImage, Contents.content_at}
 use Rattle.command_parts.specs.Firmwares.{GivesFirmware, OfFirmware, RefusesText}
 use Rattle.command_parts.specs.declared.firmware.Form.TheVariants.{Alone}
 use Rattle.fz_status.specs.{Words.flags_of, declared.status.Status.Status, Refusals.Refusals, Refusals.Refuses}
@@ -52,7 +52,7 @@ pub record Accepts (kind : CertKind) (width : Width) (files : RunFiles) (block :
 pub record RunGives (run : Run) (files : RunFiles) (output : SeenOutput) : Type 0 where
   pub report : Report
   pub certified : CertifiedRun run.kind run.width run.flags files report
-  pub output_is : output ≡ record { text = run_lines report certified.left; file = None }
+  pub output_is : output ≡ only_lines (run_lines report certified.left)
 
 -- why FCL is refused; why IMAGE is, FCL giving firmware; and why the files behind are, IMAGE holding its image
 abbrev pub run_refusals : Run → RunFiles → Refusals

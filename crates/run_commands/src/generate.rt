@@ -5,7 +5,6 @@ ghost use Rattle.fuzzy_meaning.specs.Blocks.{IsValid};
 ghost use Rattle.rule_layout.specs.Layouts.{IsWithinLimits};
 ghost use Rattle.alone_code.specs.Firmwares.{IsFirmwareOf};
 ghost use Rattle.alone_runs.specs.Rows.{row_seen};
-ghost use Rattle.fz_shelf.specs.Lines.{text_of};
 ghost use Rattle.fz_status.specs.Words.{texts_of};
 ghost use Rattle.command_parts.specs.SeenOutputs.{OutputHasNoFault, OutputsAreOne, IsResultOf};
 ghost use Rattle.run_commands.specs.Generate.{AcceptedNumbersMakeOutput, GenerateMakes, generate_in, generate_lines};
@@ -23,6 +22,7 @@ use command_parts::output::Output;
 use command_parts::words::number32_in;
 use error_certifier::answers_are_one;
 use fuzzy_meaning::Block;
+use fz_shelf::Line;
 use fz_status::{Status, word};
 use rule_layout::{LayoutFault, limits_have_no_fault};
 use run_reports::laws::answers_are_reported;
@@ -137,14 +137,14 @@ fn lines(
     errors: &[u32],
     bound: u32,
     rows: &[Row],
-) -> Result<Vec<String>, AllocError>
-    ensures { IfOk result (λ lines. text_of lines.items
+) -> Result<Vec<Line>, AllocError>
+    ensures { IfOk result (λ lines. lines.items
         ≡ generate_lines number errors.now bound (map row_seen rows.now)) }
 {
     let sums = Sums::over(rows);
     let mut lines = Vec::new(alloc);
     lines.push(labelled(alloc, "gen ", u128::from(number))?)?;
-    push_errors(alloc, &mut lines, errors)?;
+    push_errors(alloc, &mut lines, "error ", errors)?;
     lines.push(labelled(alloc, "instructions ", u128::from(bound))?)?;
     lines.push(labelled(alloc, "samples ", rows.len() as u128)?)?;
     lines.push(labelled(alloc, "frames ", sums.frames)?)?;

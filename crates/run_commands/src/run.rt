@@ -2,7 +2,6 @@
 ghost use Rattle.std.specs.Prelude.{◌≡◌, ◌≤◌, length, map, IfOk, IfErr};
 ghost use Rattle.std.specs.List.{All};
 ghost use Rattle.alone_runs.specs.Rows.{row_seen};
-ghost use Rattle.fz_shelf.specs.Lines.{text_of};
 ghost use Rattle.fz_status.specs.{Refusals.IsRefusal, Words.texts_of};
 ghost use Rattle.command_parts.specs.Contents.{bytes_of};
 ghost use Rattle.command_parts.specs.SeenOutputs.{OutputHasNoFault, OutputsAreOne, IsResultOf};
@@ -26,6 +25,7 @@ use command_parts::output::Output;
 use command_parts::words::flags;
 use cpu12_isa::mem::Mem;
 use cpu12_isa::pages::PageMem;
+use fz_shelf::Line;
 use fz_status::{Status, word};
 use run_reports::files::{InputFiles, RunFiles};
 use run_reports::inputs::{Inputs, inputs_of};
@@ -128,8 +128,8 @@ fn lines(
     bound: u32,
     rows: &[Row],
     left: u32,
-) -> Result<Vec<String>, AllocError>
-    ensures { IfOk result (λ lines. text_of lines.items
+) -> Result<Vec<Line>, AllocError>
+    ensures { IfOk result (λ lines. lines.items
         ≡ run_lines (report_of errors.now bound (map row_seen rows.now)) left) }
 {
     let mut lines = begun(alloc, errors, bound)?;

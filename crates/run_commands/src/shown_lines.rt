@@ -1,21 +1,21 @@
 //! The lines of what a script shows.
 ghost use Rattle.std.specs.Prelude.{◌≡◌, ◌++◌, map, string_bytes, IfOk, OnOk};
 ghost use Rattle.std.specs.List.{flat_map};
-ghost use Rattle.fz_shelf.specs.Lines.{text_of};
 ghost use Rattle.alone_runs.specs.Rows.{row_seen};
 ghost use Rattle.debug_script.specs.declared.shown.Shown.TheVariants as seen;
 ghost use Rattle.run_commands.specs.Debug.{behind_blank, debug_lines, shown_line};
 
 use alone_runs::Row;
-use command_parts::lines::{line_of_registers, push_address, push_byte};
+use command_parts::lines::{push_address, push_byte, told_registers};
 use debug_script::Shown;
+use fz_shelf::Line;
 use run_reports::row_lines::push_rows;
 use std::alloc::{AllocError, Global};
 use std::fmt::Write;
 
 /// What a script shows, and each sample with its frames.
-pub(crate) fn lines(alloc: Global, shown: &[Shown], rows: &[Row]) -> Result<Vec<String>, AllocError>
-    ensures { IfOk result (λ lines. text_of lines.items ≡ debug_lines shown.now (map row_seen rows.now)) }
+pub(crate) fn lines(alloc: Global, shown: &[Shown], rows: &[Row]) -> Result<Vec<Line>, AllocError>
+    ensures { IfOk result (λ lines. lines.items ≡ debug_lines shown.now (map row_seen rows.now)) }
 {
     let mut lines = Vec::new(alloc);
     push_shown(alloc, &mut lines, shown)?;
@@ -24,8 +24,8 @@ pub(crate) fn lines(alloc: Global, shown: &[Shown], rows: &[Row]) -> Result<Vec<
 }
 
 /// What a script shows, a line each.
-fn push_shown(alloc: Global, lines: &mut Vec<String>, shown: &[Shown]) -> Result<(), AllocError>
-    ensures { OnOk result (text_of lines.new.items ≡ text_of lines.old.items ++ flat_map shown_line shown.now) }
+fn push_shown(alloc: Global, lines: &mut Vec<Line>, shown: &[Shown]) -> Result<(), AllocError>
+    ensures { OnOk result (lines.new.items ≡ lines.old.items ++ map shown_line shown.now) }
 {
     for item in shown {
         lines.push(line_of(alloc, item)?)?;
@@ -33,36 +33,34 @@ fn push_shown(alloc: Global, lines: &mut Vec<String>, shown: &[Shown]) -> Result
     Ok(())
 }
 
-fn line_of(alloc: Global, item: &Shown) -> Result<String, AllocError>
-    ensures { IfOk result (λ s. string_bytes s ≡ shown_line item.now) }
+fn line_of(alloc: Global, item: &Shown) -> Result<Line, AllocError>
+    ensures { IfOk result (λ l. l ≡ shown_line item.now) }
 {
     match item {
         Shown::Stop(sample, moment, pc) => line_of_stop(alloc, *sample, *moment, *pc),
-        Shown::Registers(regs) => line_of_registers(alloc, regs, "\n"),
+        Shown::Registers(regs) => Line::of(told_registers(alloc, regs)?),
         Shown::Bytes(at, bytes) => line_of_bytes(alloc, *at, bytes.as_slice()),
     }
 }
 
 /// The line of where a run stands.
-fn line_of_stop(alloc: Global, sample: u32, moment: u32, pc: u16) -> Result<String, AllocError>
-    ensures { IfOk result (λ s. string_bytes s ≡ shown_line (seen.Stop sample moment pc)) }
+fn line_of_stop(alloc: Global, sample: u32, moment: u32, pc: u16) -> Result<Line, AllocError>
+    ensures { IfOk result (λ l. l ≡ shown_line (seen.Stop sample moment pc)) }
 {
     let mut text = String::from_str(alloc, "stop ")?;
     write!(&mut text, "{sample} {moment}")?;
     push_address(alloc, &mut text, " ", pc)?;
-    text.push_str("\n")?;
-    Ok(text)
+    Line::of(text)
 }
 
 /// The line of bytes from an address on.
-fn line_of_bytes(alloc: Global, at: u16, bytes: &[u8]) -> Result<String, AllocError>
-    ensures { IfOk result (λ s. string_bytes s ≡ shown_line (seen.Bytes at bytes.now)) }
+fn line_of_bytes(alloc: Global, at: u16, bytes: &[u8]) -> Result<Line, AllocError>
+    ensures { IfOk result (λ l. l ≡ shown_line (seen.Bytes at bytes.now)) }
 {
     let mut text = String::new(alloc);
     push_address(alloc, &mut text, "mem ", at)?;
     push_bytes(alloc, &mut text, bytes)?;
-    text.push_str("\n")?;
-    Ok(text)
+    Line::of(text)
 }
 
 /// Bytes as two digits each, with a blank before each.

@@ -1,38 +1,38 @@
 //! The lines that all runs tell of samples, answers and frames.
-ghost use Rattle.std.specs.Prelude.{ℕ, List, ◌≡◌, ◌++◌, decimal, string_bytes, IfOk, OnOk};
-ghost use Rattle.std.specs.List.{flat_map};
-ghost use Rattle.fz_shelf.specs.Lines.{text_of};
+ghost use Rattle.std.specs.Prelude.{◌≡◌, ◌++◌, decimal, map, string_bytes, true, IfOk, OnOk};
+ghost use Rattle.fz_shelf.specs.{Lines.has_no_end, Parts.ended};
 ghost use Rattle.cpu12_emul.specs.Take.{frame_seen};
 ghost use Rattle.run_forms.specs.Rows.{boundary_seen};
 ghost use Rattle.alone_runs.specs.Rows.{row_seen};
 ghost use Rattle.command_parts.specs.Lines.{counted};
 ghost use Rattle.run_reports.specs.RowLines.{answered, answers_told, begun_lines, frame_line, frame_told};
 ghost use Rattle.run_reports.specs.RowLines.{labelled_row_lines, numbers, row_lines, row_lines_with};
-ghost use Rattle.run_reports.specs.RowLines.{sample_line_with};
+ghost use Rattle.run_reports.specs.RowLines.{sample_told};
 
 use alone_runs::Row;
 use command_parts::lines::{labelled, push_address, push_errors};
 use cpu12_emul::ends::Frame;
+use fz_shelf::Line;
 use std::alloc::{AllocError, Global};
 use std::fmt::Write;
 
 /// The errors and the bound on instructions, with which the lines of a run begin.
-pub fn begun(alloc: Global, errors: &[u32], bound: u32) -> Result<Vec<String>, AllocError>
-    ensures { IfOk result (λ lines. text_of lines.items ≡ begun_lines errors.now bound) }
+pub fn begun(alloc: Global, errors: &[u32], bound: u32) -> Result<Vec<Line>, AllocError>
+    ensures { IfOk result (λ lines. lines.items ≡ begun_lines errors.now bound) }
 {
     let mut lines = Vec::new(alloc);
-    push_errors(alloc, &mut lines, errors)?;
+    push_errors(alloc, &mut lines, "error ", errors)?;
     lines.push(labelled(alloc, "instructions ", u128::from(bound))?)?;
     Ok(lines)
 }
 
 /// Each sample with its frames.
-pub fn push_rows(alloc: Global, lines: &mut Vec<String>, rows: &[Row]) -> Result<(), AllocError>
-    ensures { OnOk result (text_of lines.new.items ≡ text_of lines.old.items
+pub fn push_rows(alloc: Global, lines: &mut Vec<Line>, rows: &[Row]) -> Result<(), AllocError>
+    ensures { OnOk result (lines.new.items ≡ lines.old.items
         ++ counted (λ k r. row_lines k (row_seen r)) 1 rows.now) }
 {
     for (at, row) in rows.iter().enumerate() {
-        push_row(alloc, lines, at + 1, row, "\n")?;
+        push_row(alloc, lines, at + 1, row, "")?;
     }
     Ok(())
 }
@@ -40,33 +40,36 @@ pub fn push_rows(alloc: Global, lines: &mut Vec<String>, rows: &[Row]) -> Result
 /// The k-th sample with a number behind a label at the end of its line, and its frames.
 pub fn push_labelled_row(
     alloc: Global,
-    lines: &mut Vec<String>,
+    lines: &mut Vec<Line>,
     k: usize,
     row: &Row,
     label: &str,
     number: u32,
 ) -> Result<(), AllocError>
-    ensures { OnOk result (text_of lines.new.items
-        ≡ text_of lines.old.items ++ labelled_row_lines label.now k (row_seen row.now) number) }
+    requires { has_no_end label.now ≡ true }
+    ensures { OnOk result (lines.new.items
+        ≡ lines.old.items ++ labelled_row_lines label.now k (row_seen row.now) number) }
 {
-    let rest = labelled(alloc, label, u128::from(number))?;
+    let mut rest = String::new(alloc);
+    push_count(&mut rest, label, number as usize)?;
     push_row(alloc, lines, k, row, rest.as_str())
 }
 
 /// The k-th sample, whose line ends with the rest, and its frames.
 fn push_row(
     alloc: Global,
-    lines: &mut Vec<String>,
+    lines: &mut Vec<Line>,
     k: usize,
     row: &Row,
     rest: &str,
 ) -> Result<(), AllocError>
-    ensures { OnOk result (text_of lines.new.items
-        ≡ text_of lines.old.items ++ row_lines_with k (row_seen row.now) rest.now) }
+    requires { has_no_end rest.now ≡ true }
+    ensures { OnOk result (lines.new.items
+        ≡ lines.old.items ++ row_lines_with k (row_seen row.now) rest.now) }
 {
-    let mut text = sample_text(alloc, k, row)?;
+    let mut text = told_sample(alloc, k, row)?;
     text.push_str(rest)?;
-    lines.push(text)?;
+    lines.push(Line::of(text)?)?;
     push_frames(alloc, lines, k, row.frames.as_slice())?;
     Ok(())
 }
@@ -74,12 +77,12 @@ fn push_row(
 /// The frames of the k-th sample.
 fn push_frames(
     alloc: Global,
-    lines: &mut Vec<String>,
+    lines: &mut Vec<Line>,
     k: usize,
     frames: &[(u32, Frame)],
 ) -> Result<(), AllocError>
-    ensures { OnOk result (text_of lines.new.items ≡ text_of lines.old.items
-        ++ flat_map (λ f. frame_line k (boundary_seen f)) frames.now) }
+    ensures { OnOk result (lines.new.items ≡ lines.old.items
+        ++ map (λ f. frame_line k (boundary_seen f)) frames.now) }
 {
     for frame in frames {
         lines.push(line_of_frame(alloc, k, frame)?)?;
@@ -88,24 +91,25 @@ fn push_frames(
 }
 
 /// The line of a frame of the k-th sample.
-pub fn line_of_frame(alloc: Global, k: usize, frame: &(u32, Frame)) -> Result<String, AllocError>
-    ensures { IfOk result (λ s. string_bytes s ≡ frame_line k (boundary_seen frame.now)) }
+pub fn line_of_frame(alloc: Global, k: usize, frame: &(u32, Frame)) -> Result<Line, AllocError>
+    ensures { IfOk result (λ l. l ≡ frame_line k (boundary_seen frame.now)) }
 {
     let mut text = String::from_str(alloc, "frame ")?;
     write!(&mut text, "{k} ")?;
     push_frame(alloc, &mut text, frame.0, &frame.1)?;
-    Ok(text)
+    Line::of(text)
 }
 
 /// Frames that are told without a sample, behind a label.
 pub fn push_labelled_frames(
     alloc: Global,
-    lines: &mut Vec<String>,
+    lines: &mut Vec<Line>,
     label: &str,
     frames: &[(u32, Frame)],
 ) -> Result<(), AllocError>
-    ensures { OnOk result (text_of lines.new.items ≡ text_of lines.old.items
-        ++ flat_map (λ f. label.now ++ frame_told (boundary_seen f)) frames.now) }
+    requires { has_no_end label.now ≡ true }
+    ensures { OnOk result (lines.new.items ≡ lines.old.items
+        ++ map (λ f. ended (label.now ++ frame_told (boundary_seen f))) frames.now) }
 {
     for frame in frames {
         lines.push(labelled_frame(alloc, label, frame.0, &frame.1)?)?;
@@ -119,15 +123,16 @@ pub fn labelled_frame(
     label: &str,
     boundary: u32,
     frame: &Frame,
-) -> Result<String, AllocError>
-    ensures { IfOk result (λ s. string_bytes s ≡ label.now ++ frame_told (boundary, frame_seen frame.now)) }
+) -> Result<Line, AllocError>
+    requires { has_no_end label.now ≡ true }
+    ensures { IfOk result (λ l. l ≡ ended (label.now ++ frame_told (boundary, frame_seen frame.now))) }
 {
     let mut text = String::from_str(alloc, label)?;
     push_frame(alloc, &mut text, boundary, frame)?;
-    Ok(text)
+    Line::of(text)
 }
 
-/// A frame behind its boundary, and the end of the line.
+/// A frame behind its boundary.
 fn push_frame(
     alloc: Global,
     text: &mut String,
@@ -141,7 +146,7 @@ fn push_frame(
     write!(text, "{boundary}")?;
     push_address(alloc, text, " ", frame.pc)?;
     push_address(alloc, text, " ", frame.sp)?;
-    write!(text, " {bytes}\n")
+    write!(text, " {bytes}")
 }
 
 /// Input bytes, the answers to them, and the number of instructions that these took.
@@ -191,8 +196,9 @@ fn push_numbers(text: &mut String, values: &[u16]) -> Result<(), AllocError>
 }
 
 /// The line of the k-th sample, up to the number of its frames.
-pub fn sample_text(alloc: Global, k: usize, row: &Row) -> Result<String, AllocError>
-    ensures { IfOk result (λ s. (rest : List ℕ) → string_bytes s ++ rest ≡ sample_line_with k (row_seen row.now) rest) }
+pub fn told_sample(alloc: Global, k: usize, row: &Row) -> Result<String, AllocError>
+    ensures told { IfOk result (λ s. string_bytes s ≡ sample_told k (row_seen row.now)) }
+    ensures bare { IfOk result (λ s. has_no_end (string_bytes s) ≡ true) }
 {
     let mut text = String::from_str(alloc, "sample ")?;
     write!(&mut text, "{k}")?;

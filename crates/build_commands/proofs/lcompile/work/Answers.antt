@@ -1,5 +1,4 @@
-use Rattle.std.proofs.Common.{◌∙◌, ℕ, List, ap₂, length, subst}
-use Rattle.fz_shelf.specs.Lines.{text_of}
+use Rattle.std.proofs.Common.{◌∙◌, ℕ, ap₂, length, subst}
 use Rattle.two_level_code.specs.Images.{fast_most}
 use Rattle.build_commands.specs.{Lcompile.LcompileMakes, Lcompile.lcompile_lines, Written.WritesImage}
 use Rattle.build_commands.proofs.WrittenLemmas.{written_makes}
@@ -13,13 +12,13 @@ returns c =
     let slow_bounds = c.alone_has_byte_bounds.ensures both.slow two.slow gives.both.slow_alone in
     let fast_bounds = c.alone_has_byte_bounds.ensures both.fast two.fast gives.both.fast_alone in
     let bytes = length two.image.bytes in
-    written_makes (LcompileMakes c.args.slow.now c.args.fast.now) two.image 4 (text_of c.in_ok-lines.lines.items)
+    written_makes (LcompileMakes c.args.slow.now c.args.fast.now) two.image 4 c.in_ok-lines.lines.items
     c.written_image.result c.written_image.ensures.writes c.written_image.ensures.memory (λ output w. record {
       slow_block = both.slow;
       fast_block = both.fast;
       two = two;
       gives = gives;
-      writes = subst (λ (text : List ℕ). WritesImage two.image 4 text output)
+      writes = subst (λ lines. WritesImage two.image 4 lines output)
           (c.in_ok-lines.ensures
           ∙ ap₂ (λ (s f : ℕ). lcompile_lines s (fast_most f) bytes) slow_bounds.instructions
           fast_bounds.instructions) w;

@@ -1,5 +1,4 @@
 use Rattle.std.proofs.Common.{◌≡◌, ◌++◌, take}
-use Rattle.fz_shelf.specs.Lines.{text_of}
 use Rattle.handled_runs.specs.Forms.{row_seen}
 use Rattle.command_parts.specs.Lines.{counted}
 use Rattle.run_reports.specs.RowLines.{begun_lines}
@@ -7,5 +6,5 @@ use Rattle.form_commands.specs.Hrun.{handled_row_lines}
 use Rattle.form_commands.proofs.hrun.lines.Given as goal
 
 abbrev pub invariant-loop-at : goal.invariant-loop-at
-invariant-loop-at l = text_of l.lines.items
-    ≡ begun_lines l.errors l.bound ++ counted (λ k r. handled_row_lines k (row_seen r)) 1 (take l.at l.rows)
+invariant-loop-at l =
+    l.lines.items ≡ begun_lines l.errors l.bound ++ counted (λ k r. handled_row_lines k (row_seen r)) 1 (take l.at l.rows)

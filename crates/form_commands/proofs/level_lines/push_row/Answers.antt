@@ -1,16 +1,18 @@
-use Rattle.std.proofs.Common.{◌∙◌, ◌++◌, ℕ, List, ap, sym}
-use Rattle.fz_shelf.specs.Lines.{text_of}
+use Rattle.std.proofs.Common.{◌∙◌, ◌∷◌, ◌++◌, ap₂, sym}
+use Rattle.fz_shelf.specs.Parts.{ended}
 use Rattle.run_forms.specs.Rows.{boundary_seen}
 use Rattle.two_level_runs.specs.Harness.{row_seen}
-use Rattle.command_parts.proofs.Algebra.{counted-map, pushed}
+use Rattle.command_parts.proofs.Algebra.{counted-map, made_with}
+use Rattle.command_parts.specs.Lines.{counted}
 use Rattle.form_commands.specs.Lrun.{outer_lines}
 use Rattle.form_commands.proofs.level_lines.push_row.Goals as goal
 
 pub returns : goal.returns
 returns c =
     let row = row_seen c.args.row.now in
-    let frames = counted-map (outer_lines c.args.k row.fast) boundary_seen 1 c.args.row.now.row.frames in
-    pushed c.args.lines.now.items c.push.new.self.items _ _ _ (text_of c.push_outer.new.lines.items)
+    let frames = c.args.row.now.row.frames in
+    c.in_ok-push_outer.ensures
+    ∙ made_with c.args.lines.now.items _ (counted (λ n f. outer_lines c.args.k row.fast n (boundary_seen f)) 1 frames) _
     c.in_ok-push.ensures.items
-    (c.in_ok-push_str.ensures.bytes ∙ c.in_ok-text.ensures _)
-    (c.in_ok-push_outer.ensures ∙ ap (λ (l : List ℕ). text_of c.push.new.self.items ++ l) (sym frames))
+    ∙ ap₂ (λ l ls. c.args.lines.now.items ++ l ∷ ls) (c.in_ok-of.ensures ∙ (λ i. ended (c.in_ok-told_sample.ensures.told i)))
+    (sym (counted-map (outer_lines c.args.k row.fast) boundary_seen 1 frames))

@@ -1,13 +1,11 @@
 use Rattle.std.proofs.Common.{◌+◌, ◌∙◌, ◌++◌, ap}
-use Rattle.fz_shelf.specs.Lines.{text_of}
 use Rattle.two_level_runs.specs.{Harness.row_seen, declared.rows.TwoRow.TwoRow}
-use Rattle.command_parts.proofs.Algebra.{counted_more, text_more}
+use Rattle.command_parts.proofs.Algebra.{lines_more}
 use Rattle.form_commands.specs.Lrun.{level_row_lines}
 use Rattle.form_commands.proofs.level_lines.push_rows.Goals as goal
 
 pub loop-at-preserved : goal.loop-at-preserved
 loop-at-preserved c =
-    let more = λ (r : TwoRow). text_of c.loop-at.lines.items ++ level_row_lines (c.loop-at.at + 1) (row_seen r) in
-    text_more _ _ _ _ _ _ c.loop-at.invariant (c.in_ok-push_row.ensures ∙ ap more c.index-rows-at.is)
-    (counted_more (λ k r. level_row_lines k (row_seen r)) c.args.rows.now c.loop-at.at c.index-rows-at.result
-    c.loop-at-test.true)
+    let more = λ (r : TwoRow). c.loop-at.lines.items ++ level_row_lines (c.loop-at.at + 1) (row_seen r) in
+    lines_more (λ k r. level_row_lines k (row_seen r)) c.args.rows.now c.loop-at.at c.index-rows-at.result _ _ _
+    c.loop-at-test.true c.loop-at.invariant (c.in_ok-push_row.ensures ∙ ap more c.index-rows-at.is)

@@ -1,10 +1,9 @@
 use Rattle.std.proofs.Common.{◌≡◌, ◌++◌, take}
-use Rattle.fz_shelf.specs.Lines.{text_of}
 use Rattle.two_level_runs.specs.Harness.{row_seen}
 use Rattle.command_parts.specs.Lines.{counted}
 use Rattle.form_commands.specs.Lrun.{level_row_lines}
 use Rattle.form_commands.proofs.level_lines.push_rows.Given as goal
 
 abbrev pub invariant-loop-at : goal.invariant-loop-at
-invariant-loop-at l = text_of l.lines.items
-    ≡ text_of l.initial.lines.items ++ counted (λ k r. level_row_lines k (row_seen r)) 1 (take l.at l.rows)
+invariant-loop-at l =
+    l.lines.items ≡ l.initial.lines.items ++ counted (λ k r. level_row_lines k (row_seen r)) 1 (take l.at l.rows)

@@ -3,7 +3,7 @@ use Rattle.std.specs.Prelude.{codes}
 use Rattle.std.proofs.lemmas.List.{length-map}
 use Rattle.alone_runs.specs.Rows.{row_seen}
 use Rattle.command_parts.specs.Lines.{line}
-use Rattle.run_commands.proofs.LineLemmas.{generate_written}
+use Rattle.run_commands.proofs.GenerateLemmas.{generate_written}
 use Rattle.run_commands.proofs.generate.lines.Goals as goal
 
 pub returns : goal.returns

@@ -1,7 +1,14 @@
-use Rattle.run_commands.proofs.LineLemmas.{run_written}
+use Rattle.std.proofs.Common.{◌∷◌, ◌∙◌, ◌++◌, [], ap, ap₂, sym}
+use Rattle.std.specs.Prelude.{codes}
+use Rattle.alone_runs.specs.Rows.{row_seen}
+use Rattle.command_parts.specs.Lines.{line}
+use Rattle.command_parts.proofs.Algebra.{counted-map, made_with}
+use Rattle.run_reports.specs.RowLines.{row_lines}
 use Rattle.run_commands.proofs.run.lines.Goals as goal
 
 pub returns : goal.returns
-returns c = run_written c.in_ok-lines.lines.items c.push_rows.new.lines.items _ c.in_ok-labelled.field-0
-    c.args.errors.now c.args.bound c.args.left c.args.rows.now c.in_ok-lines.ensures c.in_ok-push_rows.ensures
-    c.in_ok-push.ensures.items (rw c.from.ensures at c.in_ok-labelled.ensures)
+returns c =
+    let left = line (codes "left ") c.args.left ∷ [] in
+    (rw (c.in_ok-labelled.ensures, c.from.ensures) at c.in_ok-push.ensures.items)
+    ∙ made_with c.in_ok-lines.lines.items _ left c.push_rows.new.lines.items c.in_ok-push_rows.ensures
+    ∙ ap₂ (λ x y. x ++ (y ++ left)) c.in_ok-lines.ensures (sym (counted-map row_lines row_seen 1 c.args.rows.now))

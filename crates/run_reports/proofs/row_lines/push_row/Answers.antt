@@ -1,9 +1,24 @@
-use Rattle.std.proofs.Common.{◌∙◌}
+use Rattle.std.proofs.Common.{◌≡◌, ◌∙◌, ◌++◌, ℕ, List, ap}
+use Rattle.std.specs.Prelude.{map, string_bytes}
+use Rattle.alone_runs.specs.Rows.{row_seen}
+use Rattle.fz_shelf.proofs.Algebra.{bare-append}
+use Rattle.fz_shelf.specs.Parts.{ended}
+use Rattle.run_forms.specs.Rows.{frames_seen}
 use Rattle.run_reports.proofs.LineLemmas.{row_written}
+use Rattle.run_reports.specs.RowLines.{frame_line, sample_told}
 use Rattle.run_reports.proofs.row_lines.push_row.Goals as goal
 
+pub of-requires : goal.of-requires
+of-requires c = rw c.in_ok-push_str.ensures.bytes
+    (bare-append (string_bytes c.in_ok-text.text) c.args.rest.now c.in_ok-text.ensures.bare c.requires)
+
 pub returns : goal.returns
-returns c = row_written c.args.lines.now.items c.push_frames.new.lines.items c.push.new.self.items _ c.args.k _
-    c.args.row.now.frames c.in_ok-push.ensures.items
-    (c.in_ok-push_str.ensures.bytes ∙ c.in_ok-text.ensures c.args.rest.now)
+returns c =
+    let row = row_seen c.args.row.now in
+    let rest = c.args.rest.now in
+    let line : c.in_ok-of.field-0 ≡ ended (sample_told c.args.k row ++ rest) =
+    c.in_ok-of.ensures ∙ ap ended (c.in_ok-push_str.ensures.bytes
+    ∙ ap (λ (t : List ℕ). t ++ rest) c.in_ok-text.ensures.told) in
+    row_written c.args.lines.now.items c.push.new.self.items c.push_frames.new.lines.items _ c.args.k
+    c.args.row.now.frames (rw line at c.in_ok-push.ensures.items)
     (rw c.as_slice.ensures at c.in_ok-push_frames.ensures)

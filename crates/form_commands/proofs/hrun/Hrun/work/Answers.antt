@@ -1,7 +1,7 @@
 use Rattle.std.proofs.Common.{ℕ, ◌<◌, ◌^◌, List, ◌++◌, ap, ap₂, sym, ◌∙◌, rules}
 use Rattle.std.specs.Prelude.{map}
 use Rattle.handled_runs.specs.{Forms.row_seen, declared.rows.HandledRow.HandledRow}
-use Rattle.command_parts.specs.{SeenOutputs.only_text, Lines.counted}
+use Rattle.command_parts.specs.{Lines.counted, SeenOutputs.only_lines}
 use Rattle.command_parts.proofs.Algebra.{counted-map}
 use Rattle.form_commands.specs.Hrun.{handled_report, handled_row_lines}
 use Rattle.run_reports.specs.RowLines.{begun_lines}
@@ -24,6 +24,6 @@ returns c =
           (map row_seen c.in_ok-rows.rows.items) c.in_ok-accepted.ensures.accepted c.deref.ensures.value
           c.in_ok-rows.ensures.rows
           (c.in_ok-rows.ensures.answers a.handler.handler.instrs c.in_ok-accepted.ensures.accepted.handles.handler);
-      output_is = ap only_text (c.in_ok-lines.ensures ∙ ap₂ lines_of c.deref-2.ensures.value c.deref-3.ensures.value
-          ∙ ap (λ (l : List ℕ). begun_lines a.inputs.errors.items bound ++ l) (sym each));
+      output_is = ap only_lines (c.in_ok-lines.ensures ∙ ap₂ lines_of c.deref-2.ensures.value c.deref-3.ensures.value
+          ∙ ap (λ ls. begun_lines a.inputs.errors.items bound ++ ls) (sym each));
     }

@@ -2,8 +2,8 @@ use Rattle.std.proofs.Common.{ℕ, ◌<◌, ◌^◌, List, ap, ◌∙◌, rules}
 use Rattle.std.specs.Prelude.{map}
 use Rattle.two_level_code.specs.Images.{fast_most}
 use Rattle.two_level_runs.specs.{Harness.row_seen, declared.rows.TwoRow.TwoRow}
-use Rattle.command_parts.specs.{SeenOutputs.only_text}
 use Rattle.form_commands.specs.Lrun.{level_report, lrun_lines}
+use Rattle.command_parts.specs.{SeenOutputs.only_lines}
 use Rattle.form_commands.proofs.LevelLemmas.{levels_run}
 use Rattle.form_commands.proofs.lrun.Lrun.work.Goals as goal
 
@@ -26,7 +26,7 @@ returns c =
           a.traces.fast.items a.levels c.in_ok-accepted.ensures.accepted rows
           (rw (c.deref.ensures.value, c.deref-2.ensures.value) at c.in_ok-rows.ensures.rows)
           (rw (c.deref.ensures.value, c.deref-2.ensures.value) at c.in_ok-rows.ensures.answers);
-      output_is = ap only_text
+      output_is = ap only_lines
           (c.in_ok-lines.ensures ∙ (λ i. lines_of (c.deref-3.ensures.value i) (c.deref-4.ensures.value i)
           (c.deref-5.ensures.value i)));
     }

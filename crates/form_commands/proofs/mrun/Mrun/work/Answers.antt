@@ -2,8 +2,8 @@ use Rattle.std.proofs.Common.{ℕ, List, ap, ◌∙◌}
 use Rattle.std.specs.Prelude.{map}
 use Rattle.run_forms.specs.Rows.{frames_seen}
 use Rattle.mailbox_runs.specs.Runs.{answer_seen}
-use Rattle.command_parts.specs.{SeenOutputs.only_text}
 use Rattle.form_commands.specs.Mrun.{mrun_lines, posted_report}
+use Rattle.command_parts.specs.{SeenOutputs.only_lines}
 use Rattle.form_commands.proofs.PostedLemmas.{posts_run}
 use Rattle.form_commands.proofs.mrun.Mrun.work.Goals as goal
 
@@ -23,5 +23,5 @@ returns c =
           (rw c.deref.ensures.value at c.in_ok-told.ensures.answers) (rw c.deref.ensures.value at c.in_ok-told.ensures.frames)
           (rw c.deref.ensures.value at c.in_ok-told.ensures.resumed)
           (rw c.deref.ensures.value at c.in_ok-told.ensures.by_turns);
-      output_is = ap only_text (c.in_ok-lines.ensures ∙ ap lines_of c.deref-2.ensures.value);
+      output_is = ap only_lines (c.in_ok-lines.ensures ∙ ap lines_of c.deref-2.ensures.value);
     }

@@ -1,7 +1,7 @@
 use Rattle.std.proofs.Common.{List, ℕ, ◌++◌, ap, ap₂, sym, ◌∙◌}
 use Rattle.std.specs.Prelude.{map}
 use Rattle.watched_runs.specs.{Rows.row_seen, declared.form.WatchedRow.WatchedRow}
-use Rattle.command_parts.specs.{SeenOutputs.only_text, Lines.counted}
+use Rattle.command_parts.specs.{Lines.counted, SeenOutputs.only_lines}
 use Rattle.command_parts.proofs.Algebra.{counted-map}
 use Rattle.run_reports.specs.RowLines.{begun_lines}
 use Rattle.form_commands.specs.Srun.{watched_report, watched_row_lines}
@@ -21,6 +21,6 @@ returns c =
           c.args.files.now a.compiled.block a.compiled.firmware a.inputs.errors.items a.inputs.samples.items
           c.deref.result.now a.inputs.plan a.upsets (map row_seen c.in_ok-rows.rows.items)
           c.in_ok-accepted.ensures.accepted c.deref.ensures.value c.in_ok-rows.ensures.rows c.in_ok-rows.ensures.answers;
-      output_is = ap only_text (c.in_ok-lines.ensures ∙ ap₂ lines_of c.deref-2.ensures.value c.deref-3.ensures.value
-          ∙ ap (λ (l : List ℕ). begun_lines a.inputs.errors.items bound ++ l) (sym each));
+      output_is = ap only_lines (c.in_ok-lines.ensures ∙ ap₂ lines_of c.deref-2.ensures.value c.deref-3.ensures.value
+          ∙ ap (λ ls. begun_lines a.inputs.errors.items bound ++ ls) (sym each));
     }

@@ -1,5 +1,5 @@
 use Rattle.std.proofs.Common.{◌≡◌, ℕ, List, ap, ap₂, ◌∙◌, map, refl, sym, subst, rules}
-use Rattle.std.specs.Prelude.{Err, None}
+use Rattle.std.specs.Prelude.{Err}
 use Rattle.fuzzy_meaning.specs.declared.block.Block.{Block}
 use Rattle.box_tree.specs.declared.cert.CertKind.TheVariants.{Named}
 use Rattle.byte_scaling.specs.declared.width.Width.TheVariants.{Byte}
@@ -9,13 +9,11 @@ use Rattle.workload.specs.{Blocks.drawn_block, Draws.draw}
 use Rattle.fz_status.specs.{Refusals.IsRefusal, declared.status.Status.Status}
 use Rattle.fz_status.specs.declared.status.Status.TheVariants as status
 use Rattle.command_parts.specs.{Certs.StopsHalving, Certs.target_refusals, declared.firmware.Form.TheVariants.Alone}
-use Rattle.command_parts.specs.{SeenOutputs.IsFaultOf, SeenOutputs.SeenOutput, Firmwares.GivesFirmware}
+use Rattle.command_parts.specs.{SeenOutputs.IsFaultOf, Firmwares.GivesFirmware, SeenOutputs.only_lines}
+use Rattle.command_parts.specs.Certs.{StopsHalving, target_refusals}
 use Rattle.run_commands.specs.Generate.{GenerateMakes, generate_lines, generate_with, generated_target}
 use Rattle.run_reports.specs.Reports.{report_of}
 use Rattle.run_commands.proofs.generate.Generate.work.Goals as goal
-
-abbrev only_text : List ℕ → SeenOutput
-only_text t = record { text = t; file = None }
 
 pub compiled-requires-clause-limits : goal.compiled-requires-clause-limits
 compiled-requires-clause-limits c =
@@ -70,5 +68,5 @@ returns c =
           w.samples.items w.requests rows gives halving.claims drawn.in_trace
           (rw c.as_slice-samples.ensures.value at c.in_ok-rows.ensures.rows)
           (rw c.as_slice-samples.ensures.value at c.in_ok-rows.ensures.answers);
-      output_is = ap only_text (c.in_ok-lines.ensures ∙ ap₂ lines_of c.as_slice-errors.ensures c.deref.ensures.value);
+      output_is = ap only_lines (c.in_ok-lines.ensures ∙ ap₂ lines_of c.as_slice-errors.ensures c.deref.ensures.value);
     }

@@ -1,13 +1,10 @@
 use Rattle.std.proofs.Common.{ℕ, List, ap, ap₂, ◌∙◌}
-use Rattle.std.specs.Prelude.{None, map}
+use Rattle.std.specs.Prelude.{map}
 use Rattle.alone_runs.specs.{Rows.row_seen, declared.rows.Row.Row}
 use Rattle.run_reports.specs.{Reports.left_of, Reports.report_of, RowLines.run_lines}
-use Rattle.command_parts.specs.{SeenOutputs.SeenOutput}
+use Rattle.command_parts.specs.{SeenOutputs.only_lines}
 use Rattle.run_commands.proofs.AnswerLemmas.{certifies}
 use Rattle.run_commands.proofs.run.Run.work.Goals as goal
-
-abbrev only_text : List ℕ → SeenOutput
-only_text t = record { text = t; file = None }
 
 pub returns : goal.returns
 returns c =
@@ -21,5 +18,5 @@ returns c =
           a.inputs.plan
           (map row_seen c.in_ok-rows.rows.items) c.left_in.result c.in_ok-accepted.ensures.accepted c.deref.ensures.value
           c.in_ok-rows.ensures.rows c.in_ok-rows.ensures.answers (c.left_in.ensures ∙ ap left_of c.in_ok-rows.ensures.memory);
-      output_is = ap only_text (c.in_ok-lines.ensures ∙ ap₂ lines_of c.deref-2.ensures.value c.deref-3.ensures.value);
+      output_is = ap only_lines (c.in_ok-lines.ensures ∙ ap₂ lines_of c.deref-2.ensures.value c.deref-3.ensures.value);
     }

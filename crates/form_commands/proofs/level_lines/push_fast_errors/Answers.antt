@@ -1,8 +1,0 @@
-use Rattle.form_commands.specs.Lrun.{fast_error_line}
-use Rattle.command_parts.proofs.Algebra.{counted_more, line_more}
-use Rattle.form_commands.proofs.level_lines.push_fast_errors.Goals as goal
-
-pub loop-at-preserved : goal.loop-at-preserved
-loop-at-preserved c = line_more _ _ _ _ _ _ c.in_ok-line_of_fast_error.field-0 c.loop-at.invariant
-    c.in_ok-push.ensures.items c.in_ok-line_of_fast_error.ensures
-    (counted_more fast_error_line c.args.errors.now c.loop-at.at _ c.loop-at-test.true)

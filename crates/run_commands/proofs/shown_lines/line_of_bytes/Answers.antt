@@ -1,0 +1,6 @@
+use Rattle.fz_shelf.proofs.Algebra.{bare-address, bare-append}
+use Rattle.run_commands.proofs.DebugLemmas.{bare-bytes}
+use Rattle.run_commands.proofs.shown_lines.line_of_bytes.Goals as goal
+
+pub of-requires : goal.of-requires
+of-requires c = ?

@@ -1,0 +1,5 @@
+use Rattle.fz_shelf.proofs.Algebra.{bare-append, bare-decimal}
+use Rattle.run_reports.proofs.row_lines.push_labelled_row.Goals as goal
+
+pub push_row-requires : goal.push_row-requires
+push_row-requires c = ?
