@@ -67,10 +67,9 @@ pub fn push_byte(alloc: Global, text: &mut String, label: &str, byte: u8) -> Res
     text.push_str(digits.as_str())
 }
 
-/// The registers, in which no line ends.
+/// The registers.
 pub fn told_registers(alloc: Global, regs: &Regs) -> Result<String, AllocError>
-    ensures told { IfOk result (λ s. string_bytes s ≡ registers_told regs.now) }
-    ensures bare { IfOk result (λ s. has_no_end (string_bytes s) ≡ true) }
+    ensures { IfOk result (λ s. string_bytes s ≡ registers_told regs.now) }
 {
     let mut text = String::new(alloc);
     push_address(alloc, &mut text, "pc ", regs.pc)?;
