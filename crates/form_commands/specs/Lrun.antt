@@ -24,7 +24,7 @@ use Rattle.command_parts.specs.Twos.{GivesTwo, two_refusals}
 use Rattle.command_parts.specs.SeenOutputs.{HasOutput, SeenOutput, only_lines}
 use Rattle.command_parts.specs.Lines.{counted, error_lines, line}
 use Rattle.fz_status.specs.Words.{flags_of}
-use Rattle.run_reports.specs.LevelRun.{AcceptsCerts, AcceptsLevels, LevelReport, LevelRun, SpellTraces, LevelFiles}
+use Rattle.run_reports.specs.LevelRun.{AcceptsCerts, AcceptsLevels, LevelReport, LevelRun, SpellTraces}
 use Rattle.run_reports.specs.RowLines.{answers_told, frame_line, frame_told, sample_told}
 use Rattle.run_reports.specs.declared.files.LevelFiles.{LevelFiles}
 use Rattle.form_commands.specs.declared.lrun.Lrun.{Lrun}

@@ -20,7 +20,6 @@ use Rattle.command_parts.specs.{Certs.AcceptsCert, Certs.HasCertFault, Contents.
 use Rattle.command_parts.specs.{Firmwares.RefusesText, Images.RefusesImage, Lines.counted, Lines.line}
 use Rattle.command_parts.specs.{declared.firmware.Form.TheVariants.Mailbox}
 use Rattle.command_parts.specs.SeenOutputs.{HasOutput, SeenOutput, only_lines}
-use Rattle.command_parts.specs.Lines.{counted, line}
 use Rattle.fz_status.specs.Words.{flags_of}
 use Rattle.run_reports.specs.PostedRun.{AcceptsPosted, PostedReport, PostedRun}
 use Rattle.run_reports.specs.RowLines.{answered, begun_lines, frame_told}

@@ -9,7 +9,7 @@ ghost use Rattle.command_parts.specs.SeenOutputs.{OutputHasNoFault, OutputsAreOn
 ghost use Rattle.form_commands.specs.Srun.{AcceptedWatchedRunsMakeOutput, AcceptsWatched, SrunMakes, srun_in};
 ghost use Rattle.form_commands.specs.Srun.{srun_refusals, upset_refusals, watched_files, watched_row_lines};
 ghost use Rattle.form_commands.specs.declared.srun.Srun.{Srun as TheSrun};
-ghost use Rattle.run_reports.specs.{RowLines.begun_lines, WatchedRun.WatchedFiles};
+ghost use Rattle.run_reports.specs.RowLines.{begun_lines};
 ghost use Rattle.run_reports.specs.declared.files.WatchedFiles.{WatchedFiles};
 ghost use Rattle.watched_runs.specs.Rows.{row_seen};
 

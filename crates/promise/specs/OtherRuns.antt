@@ -7,7 +7,8 @@ use Rattle.trace_io.specs.Traces.{input_bytes}
 use Rattle.alone_runs.specs.Rows.{first_state}
 use Rattle.handled_runs.specs.Forms.{first_handled, with_code}
 use Rattle.two_level_runs.specs.{Answering.plan_of, Rows.first_two, Rows.level_form, Rows.levels_of}
-use Rattle.run_commands.specs.{Debug.DebugFiles, Debug.DebugGives, Generate.GenerateGives}
+use Rattle.run_commands.specs.declared.debug.DebugFiles.{DebugFiles}
+use Rattle.run_commands.specs.{Debug.DebugGives, Generate.GenerateGives}
 use Rattle.run_commands.specs.declared.debug.DebugRun.{DebugRun}
 use Rattle.run_reports.specs.HandledRun.{HandledReport, HandledRun}
 use Rattle.run_reports.specs.LevelRun.{LevelReport, LevelRun}

@@ -18,7 +18,8 @@ use Rattle.fz_status.specs.declared.status.Status.{Status}
 use Rattle.fz_status.specs.declared.status.Status.TheVariants as status
 use Rattle.command_parts.specs.{Firmwares.GivesFirmware, SeenOutputs.only_lines}
 use Rattle.run_reports.specs.{Inputs.sample_refusals, Laws.SpelledBytesFit}
-use Rattle.run_commands.specs.Debug.{DebugFiles, DebugGives, Debugs, debug_lines, debug_refusals, run_positions}
+use Rattle.run_commands.specs.declared.debug.DebugFiles.{DebugFiles}
+use Rattle.run_commands.specs.Debug.{DebugGives, Debugs, debug_lines, debug_refusals, run_positions}
 use Rattle.run_commands.specs.Debug.{AcceptedDebugRunsMakeOutput, behind_blank}
 use Rattle.run_commands.specs.declared.debug.DebugRun.{DebugRun}
 use Rattle.command_parts.specs.declared.firmware.Form.TheVariants.{Alone}

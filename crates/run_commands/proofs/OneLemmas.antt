@@ -1,7 +1,6 @@
 -- Files, and a number, make at most one output.
 use Rattle.std.proofs.Common.{◌≡◌, ◌∙◌, sym, ap, subst}
 use Rattle.std.specs.Prelude.{Ok, Result, map}
-use Rattle.std.specs.Prelude.{Ok, map}
 use Rattle.fuzzy_meaning.specs.declared.block.Block.{Block}
 use Rattle.debug_script.specs.{Showing.shown}
 use Rattle.eval_code.specs.Bounds.{instruction_bound}
@@ -18,9 +17,10 @@ use Rattle.command_parts.specs.declared.firmware.Form.TheVariants.{Alone}
 use Rattle.command_parts.specs.{Firmwares.GivenFirmwaresAreOne, SeenOutputs.OutputsAreOne, SeenOutputs.only_lines}
 use Rattle.run_reports.specs.{Laws.SpelledInputsAreOne, Reports.left_of, RowLines.run_lines}
 use Rattle.run_reports.specs.declared.files.RunFiles.{RunFiles}
-use Rattle.run_commands.specs.{Run.RunMakes, Debug.DebugFiles, Debug.DebugMakes, Debug.debug_lines}
+use Rattle.run_commands.specs.declared.debug.DebugFiles.{DebugFiles}
 use Rattle.run_commands.specs.Generate.{GenerateMakes, generate_lines, generated_target}
 use Rattle.run_commands.specs.declared.{debug.DebugRun.DebugRun, generate.Generate.Generate, run.Run.Run}
+use Rattle.run_commands.specs.{Run.RunMakes, Debug.DebugMakes, Debug.debug_lines}
 
 pub runs_once : GivenFirmwaresAreOne → AcceptedErrorsAreOne → SpelledInputsAreOne → (run : Run) (files : RunFiles)
     → OutputsAreOne (RunMakes run files)

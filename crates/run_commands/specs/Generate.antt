@@ -18,7 +18,7 @@ use Rattle.run_reports.specs.Reports.{IsReportOf, Report}
 use Rattle.command_parts.specs.{Certs.StopsHalving, Firmwares.GivesFirmware, Words.number_up_to, Lines.line}
 use Rattle.command_parts.specs.{declared.firmware.Form.TheVariants.Alone}
 use Rattle.command_parts.specs.SeenOutputs.{HasOutput, SeenOutput, only_lines}
-use Rattle.command_parts.specs.Lines.{error_lines, line}
+use Rattle.command_parts.specs.Lines.{error_lines}
 use Rattle.run_commands.specs.declared.generate.Generate.{Generate}
 
 abbrev pub generate_with : ℕ → Generate
