@@ -1,5 +1,5 @@
 -- Files make at most one output.
-use Rattle.std.proofs.Common.{◌≡◌, ◌∙◌, ℕ, List, sym, ap, subst}
+use Rattle.std.proofs.Common.{◌≡◌, ◌∙◌, ℕ, List, [], ◌∷◌, sym, ap, subst}
 use Rattle.std.specs.Prelude.{Ok, Result, Some, codes, length}
 use Rattle.fuzzy_meaning.specs.declared.block.Block.{Block}
 use Rattle.box_tree.specs.{Texts.lines_of, Trees.leaf_count, declared.cert.Cert.Cert}
@@ -106,7 +106,7 @@ assembles_once ascending texts source output other a b =
     (λ at. p.holds.bytes at ∙ ap (λ (g : Given). byte_at g.bytes at) given ∙ sym (q.holds.bytes at)) in
     let start : a.image.start ≡ b.image.start = a.start ∙ ap start_of bytes ∙ sym b.start in
     writes_once texts a.image b.image 3 _ _ output other (λ i. record { bytes = bytes i; start = start i })
-    (λ i. line (codes "bytes ") (length (bytes i))) a.writes b.writes
+    (λ i. line (codes "bytes ") (length (bytes i)) ∷ []) a.writes b.writes
 
 pub counts_once : ImagesAreOne → CountsAreOne → (text : List ℕ) → OutputsAreOne (HcheckMakes text)
 counts_once images counts text output other a b =
