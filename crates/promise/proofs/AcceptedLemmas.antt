@@ -1,5 +1,6 @@
 -- Accepted files give firmware, and keep the promise.
 use Rattle.std.proofs.Common.{length, refl}
+use Rattle.std.specs.List.{concat}
 use Rattle.fuzzy_meaning.specs.declared.block.Block.{Block}
 use Rattle.cpu12_asm.specs.declared.image.Image.{Image}
 use Rattle.alone_code.specs.{Firmwares.IsFirmwareOf, Images.IsImageOf, Images.firmware_items}
@@ -55,5 +56,9 @@ accepted_keep keep made kind width flags files byte a =
     let gives = made (run_with kind width flags) files a.block (firmware_with width a.block a.image) a.errors a.samples
     a.plan byte (accepts kind width files a) in
     let run = gives.1 in
-    let report = run.report in
-    (report, gives.2, run_lines report run.certified.left, keep kind width flags files report run.certified byte)
+    let report = run.report in (
+      report,
+      gives.2,
+      concat (run_lines report run.certified.left),
+      keep kind width flags files report run.certified byte,
+    )

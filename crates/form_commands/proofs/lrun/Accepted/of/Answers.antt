@@ -30,8 +30,8 @@ returns-in_err-traces-clause-fault c =
     c.in_ok-require_image.ensures.image _ _ c.in_ok-errors.ensures.accepted c.in_err-traces.field-0.0
     c.in_err-traces.ensures.fault)
 
-pub levels_of-requires-clause-few : goal.levels_of-requires-clause-few
-levels_of-requires-clause-few c =
+pub levels_of-requires : goal.levels_of-requires
+levels_of-requires c =
     let fast = c.in_ok-traces.traces.fast.items in
     rw c.deref.ensures.value (c.spelled_traces_are_short.ensures _ _ fast c.in_ok-traces.ensures.samples.fast_in_range)
 

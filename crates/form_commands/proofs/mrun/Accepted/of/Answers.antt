@@ -2,8 +2,8 @@ use Rattle.std.proofs.Common.{◌≡◌, Err, rules}
 use Rattle.form_commands.proofs.PostedLemmas.{refused_posts}
 use Rattle.form_commands.proofs.mrun.Accepted.of.Goals as goal
 
-pub posts_of-requires-clause-few : goal.posts_of-requires-clause-few
-posts_of-requires-clause-few c =
+pub posts_of-requires : goal.posts_of-requires
+posts_of-requires c =
     rw c.deref.ensures.value
     (c.spelled_traces_are_short.ensures _ _ c.in_ok-samples.samples.items c.in_ok-samples.ensures.samples)
 
