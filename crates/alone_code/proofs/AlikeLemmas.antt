@@ -1,11 +1,9 @@
 -- A block has one firmware.
-use Rattle.std.proofs.Common.{◌≡◌, Bool, length, sym, ap, ◌∙◌, subst}
+use Rattle.alone_code.proofs.Words.{◌∙◌, ◌≡◌, ap, Bool, firmware_items, instruction_bound, IsImageOf, length}
+use Rattle.alone_code.proofs.Words.{mailbox_bound, mailbox_items, mailbox_map, main_map, step_bound, steps_by, subst}
+use Rattle.alone_code.proofs.Words.{sym, width_of}
 use Rattle.cpu12_asm.specs.{Bytes.start_of, Laws.AscendingBytesAreOne}
 use Rattle.alone_code.specs.Alike.{FirmwaresAreOne, ImagesAreOne, MailboxesAreOne}
-use Rattle.alone_code.specs.Images.{IsImageOf, firmware_items}
-use Rattle.alone_code.specs.Mailboxes.{mailbox_bound, mailbox_items, mailbox_map}
-use Rattle.eval_code.specs.{Bounds.instruction_bound, Bounds.step_bound, Bounds.steps_by, MemoryMaps.main_map}
-use Rattle.byte_scaling.specs.Widths.{width_of}
 use Rattle.alone_code.proofs.Parts.{of_parts}
 
 pub images_are_one : AscendingBytesAreOne → ImagesAreOne

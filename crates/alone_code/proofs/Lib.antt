@@ -3,3 +3,4 @@ pub mod turns
 pub mod AlikeLemmas
 pub mod Algebra
 pub mod Parts
+pub mod Words

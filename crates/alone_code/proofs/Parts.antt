@@ -1,6 +1,5 @@
 -- A firmware is its parts.
-use Rattle.std.proofs.Common.{◌≡◌}
-use Rattle.alone_code.specs.declared.firmware.Firmware.{Firmware}
+use Rattle.alone_code.proofs.Words.{◌≡◌, Firmware}
 
 pub of_parts : (f g : Firmware) → f.image ≡ g.image → f.memory_map ≡ g.memory_map → f.inputs ≡ g.inputs
     → f.outputs ≡ g.outputs → f.wide ≡ g.wide → f.instr_bound ≡ g.instr_bound → f.step_bound ≡ g.step_bound → f ≡ g

@@ -1,13 +1,10 @@
 -- How many instructions and steps a sample takes at least and at most.
-use Rattle.std.proofs.Common.{◌≡◌, ◌*◌, ◌≤◌, List, [], ◌∷◌, length, sum_by, Option, Some, None, refl, arith}
-use Rattle.std.proofs.lemmas.List.Sums.{sum_by-cons}
-use Rattle.fz_num.specs.declared.dec.Dec.{Dec}
-use Rattle.fuzzy_meaning.specs.declared.block.Output.{Output}
-use Rattle.rule_layout.specs.declared.flat.Form.{Form}
+use Rattle.eval_code.proofs.Words.{[], ◌*◌, ◌∷◌, ◌≡◌, ◌≤◌, arith, Dec, Form, form_bound, form_of, instruction_bound}
+use Rattle.eval_code.proofs.Words.{LayoutLaw, length, List, None, Option, Output, output_bound, refl, Some, steps_by}
+use Rattle.eval_code.proofs.Words.{sum_by, sum_by-cons, Width, Word}
+use Rattle.byte_scaling.specs.{declared.width.Width.TheVariants.Byte}
+use Rattle.eval_code.specs.{Bounds.BoundsAreFew}
 use Rattle.rule_layout.specs.declared.flat.Form.TheVariants as form
-use Rattle.rule_layout.specs.Layouts.{form_of, LayoutLaw}
-use Rattle.byte_scaling.specs.declared.{width.Width.Width, width.Width.TheVariants.Byte, width.Width.TheVariants.Word}
-use Rattle.eval_code.specs.Bounds.{output_bound, form_bound, instruction_bound, steps_by, BoundsAreFew}
 use Rattle.eval_code.proofs.{Joins.sum_by-term_count, phases.RuleFacts.block_facts}
 use Rattle.eval_code.proofs.Placement.{element_count-le, sum_by-singleton_count}
 

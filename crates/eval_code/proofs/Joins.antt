@@ -1,22 +1,10 @@
 -- Parts of a firmware put one behind the other.
-use Rattle.std.proofs.Common.{◌≡◌, ◌≤◌, List, [], ◌∷◌, ◌++◌, map, length, sum_by, All, sym, ◌∙◌, ap, arith}
-use Rattle.std.proofs.Common.{append_assoc}
-use Rattle.std.proofs.lemmas.List.{map-append}
-use Rattle.std.proofs.lemmas.List.Elements.{All-get_or}
-use Rattle.std.proofs.lemmas.List.Sums.{sum_by-le}
-use Rattle.cpu12_isa.specs.declared.instr.Instr.{Instr}
-use Rattle.cpu12_asm.specs.declared.items.Item.{Item}
-use Rattle.cpu12_asm.specs.declared.items.Item.TheVariants.{Op, Place, Byte}
-use Rattle.fuzzy_meaning.specs.declared.{block.Input.Input, block.Block.Block, block.Output.Output}
-use Rattle.fuzzy_meaning.specs.Blocks.{IsValidInput}
-use Rattle.rule_layout.specs.declared.{flat.Flat.Flat, flat.Slot.Slot}
-use Rattle.rule_layout.specs.{Slots.slots_of, Slots.term_count, Layouts.HasPartsOf}
-use Rattle.eval_code.specs.declared.memory_map.MemoryMap.{MemoryMap}
-use Rattle.eval_code.specs.Code.{eval_code_over, eval_code, block_code}
-use Rattle.eval_code.specs.Data.{table_bytes, singleton_bytes, weight_bytes_by, weight_bytes, rule_bytes_by}
-use Rattle.eval_code.specs.Data.{rule_bytes}
-use Rattle.eval_code.specs.Items.{code_at, bytes_at, block_items}
-use Rattle.byte_scaling.specs.declared.width.Width.{Width}
+use Rattle.eval_code.proofs.Words.{[], ◌++◌, ◌∙◌, ◌∷◌, ◌≡◌, ◌≤◌, All, All-get_or, ap, append_assoc, arith, Block}
+use Rattle.eval_code.proofs.Words.{block_code, block_items, Byte, bytes_at, code_at, eval_code, eval_code_over, Input}
+use Rattle.eval_code.proofs.Words.{Instr, IsValidInput, Item, length, List, map, map-append, MemoryMap, Op, Output}
+use Rattle.eval_code.proofs.Words.{Place, rule_bytes, rule_bytes_by, singleton_bytes, Slot, slots_of, sum_by}
+use Rattle.eval_code.proofs.Words.{sum_by-le, sym, table_bytes, term_count, weight_bytes, weight_bytes_by, Width}
+use Rattle.rule_layout.specs.{declared.flat.Flat.Flat, Layouts.HasPartsOf}
 
 -- a piece of code behind others
 next_piece : (start later last : List Item) (a b : List Instr) → later ≡ start ++ map Op a → last ≡ later ++ map Op b

@@ -10,3 +10,4 @@ pub mod Placed
 pub mod Parts
 pub mod Few
 pub mod Algebra
+pub mod Words

@@ -1,8 +1,6 @@
 -- How long a rule list is.
-use Rattle.std.proofs.Common.{◌≡◌, ℕ, List, [], ◌∷◌, length, sum_by, refl, arith, length-append}
-use Rattle.std.proofs.lemmas.List.Sums.{sum_by-cons}
-use Rattle.rule_layout.specs.{declared.flat.Conjunction.Conjunction, Lists.marked}
-use Rattle.eval_code.specs.Bounds.{entry_count}
+use Rattle.eval_code.proofs.Words.{[], ◌∷◌, ◌≡◌, arith, Conjunction, entry_count, length, length-append, List, marked}
+use Rattle.eval_code.proofs.Words.{refl, sum_by, sum_by-cons, ℕ}
 
 pub length-marked : (separator end_mark : ℕ) (cs : List Conjunction)
     → length (marked separator end_mark cs) ≡ sum_by entry_count cs

@@ -1,12 +1,9 @@
 -- Each part of a block's data has a byte, and so many at most.
-use Rattle.std.proofs.Common.{◌≤◌, List, [], ◌∷◌, length, sum_by, All, arith}
-use Rattle.std.proofs.lemmas.List.Sums.{sum_by-cons}
-use Rattle.fuzzy_meaning.specs.declared.{block.Input.Input, block.Output.Output}
-use Rattle.fuzzy_meaning.specs.Blocks.{IsValidInput, IsValidOutput}
-use Rattle.rule_layout.specs.declared.flat.Conjunction.{Conjunction}
-use Rattle.rule_layout.specs.{Slots.term_count, Slots.singleton_count, Layouts.conjunctions_of, Layouts.LayoutLaw}
+use Rattle.eval_code.proofs.Words.{[], ◌∷◌, ◌≤◌, All, arith, Conjunction, conjunctions_of, entry_count, Input}
+use Rattle.eval_code.proofs.Words.{IsValidInput, IsValidOutput, LayoutLaw, length, List, Output, singleton_count}
+use Rattle.eval_code.proofs.Words.{sum_by, sum_by-cons, term_count}
+use Rattle.eval_code.specs.{Placed.BlockHasParts}
 use Rattle.byte_scaling.specs.declared.width.Width.TheVariants.{Byte}
-use Rattle.eval_code.specs.{Bounds.entry_count, Placed.BlockHasParts}
 use Rattle.eval_code.proofs.{Sizes.length-tables, Sizes.length-singletons, Placed.parts, phases.RuleFacts.block_facts}
 use Rattle.eval_code.proofs.Placement.{length-weights_of, length-rules, element_count-le}
 

@@ -1,20 +1,13 @@
 -- A block's items at the addresses of any memory map.
-use Rattle.std.proofs.Common.{◌≡◌, ⊎_elim, ℕ, ◌+◌, ◌^◌, ◌<◌, ◌≤◌, List, [], ◌∷◌, ◌++◌, map, length, None, ap, ◌∙◌}
-use Rattle.std.proofs.Common.{subst, arith, append-nil}
-use Rattle.std.proofs.lemmas.List.Elements.{All-nil, All-cons}
-use Rattle.byte_scaling.specs.{Cells.NearestIsByte, declared.width.Width.Width}
-use Rattle.fuzzy_meaning.specs.{declared.block.Block.Block, Blocks.IsValid}
-use Rattle.rule_layout.specs.Layouts.{IsWithinLimits, LayoutLaw}
-use Rattle.cpu12_isa.specs.{declared.instr.Instr.Instr, Code.encode_of, Fits.EncodedAreBytes}
-use Rattle.cpu12_asm.specs.declared.items.Item.{Item}
-use Rattle.cpu12_asm.specs.declared.items.Item.TheVariants.{Place, Byte, Op}
-use Rattle.cpu12_asm.specs.{Bytes.byte_at, Items.place_behind, Items.given_by, Items.IsRisingFrom}
-use Rattle.cpu12_emul.specs.Image.{image_memory, HoldsImage}
-use Rattle.eval_code.specs.declared.memory_map.MemoryMap.{MemoryMap}
-use Rattle.eval_code.specs.Data.{table_bytes, singleton_bytes, weight_bytes, rule_bytes}
-use Rattle.eval_code.specs.Placed.{IsInOrder, BlockRises, BlockIsShort, BlockStaysInside, GivesBehind, GiveBytes}
+use Rattle.eval_code.proofs.Words.{[], ◌++◌, ◌+◌, ◌<◌, ◌^◌, ◌∙◌, ◌∷◌, ◌≡◌, ◌≤◌, All-nil, ap, append-nil, arith, Block}
+use Rattle.eval_code.proofs.Words.{block_code, block_items, Byte, byte_at, bytes_at, code_bytes, encode_of}
+use Rattle.eval_code.proofs.Words.{EncodedAreBytes, eval_code, GiveBytes, given_by, HoldsImage, image_memory, Instr}
+use Rattle.eval_code.proofs.Words.{IsRisingFrom, IsValid, IsWithinLimits, Item, LayoutLaw, length, List, map}
+use Rattle.eval_code.proofs.Words.{MemoryMap, NearestIsByte, None, Op, Place, place_behind, rule_bytes}
+use Rattle.eval_code.proofs.Words.{singleton_bytes, subst, table_bytes, weight_bytes, Width, ℕ, ⊎_elim}
+use Rattle.eval_code.specs.Placed.{IsInOrder, BlockRises, BlockIsShort, BlockStaysInside, GivesBehind}
+use Rattle.std.proofs.{lemmas.List.Elements.All-cons}
 use Rattle.eval_code.specs.Placed.{BlockGivesBytes, HasPlaces, BlockStands}
-use Rattle.eval_code.specs.{Code.code_bytes, Code.eval_code, Code.block_code, Items.bytes_at, Items.block_items}
 use Rattle.eval_code.proofs.{steps.Memory.same_bytes, phases.RuleFacts.BlockFacts, phases.RuleFacts.block_facts}
 use Rattle.eval_code.proofs.Placement.{HasSizes, IsSpaced, HasPartSizes, part_sizes, block_rises, length-block_items}
 use Rattle.eval_code.proofs.phases.RuleMemory.{Below, below_all}

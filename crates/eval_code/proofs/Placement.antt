@@ -1,23 +1,12 @@
 -- The parts of a block stand one above the other.
-use Rattle.std.proofs.Common.{◌≡◌, ℕ, ◌+◌, ◌*◌, ◌≤◌, List, [], ◌∷◌, ◌++◌, map, flat_map, length, sum_by, All, refl, sym}
-use Rattle.std.proofs.Common.{subst, arith, length-append}
-use Rattle.std.proofs.lemmas.List.{length-map}
-use Rattle.std.proofs.lemmas.List.Sums.{sum_by-cons, sum_by-le}
-use Rattle.std.proofs.lemmas.List.Elements.{All-get_or}
-use Rattle.fuzzy_meaning.specs.declared.{block.Block.Block, block.Output.Output}
-use Rattle.fuzzy_meaning.specs.Blocks.{IsValid, IsValidOutput}
-use Rattle.rule_layout.specs.declared.{flat.Conjunction.Conjunction, flat.Form.Form}
-use Rattle.rule_layout.specs.Layouts.{conjunctions_of, weights_of, form_of, conjunction_count, element_width}
-use Rattle.rule_layout.specs.Layouts.{list_size}
-use Rattle.rule_layout.specs.{Slots.slots_of, Slots.singleton_count, Lists.marked, Lists.at_address, Lists.list_words}
-use Rattle.cpu12_isa.specs.declared.instr.Instr.{Instr}
-use Rattle.cpu12_asm.specs.declared.{items.Item.Item, items.Item.TheVariants.Byte, items.Item.TheVariants.Op}
-use Rattle.cpu12_asm.specs.Items.{IsRisingFrom}
-use Rattle.eval_code.specs.{declared.memory_map.MemoryMap.MemoryMap, Items.code_at, Items.bytes_at, Items.block_items}
-use Rattle.eval_code.specs.Data.{table_bytes, singleton_bytes, weight_bytes_by, weight_bytes, bytes_of_word}
-use Rattle.eval_code.specs.Data.{rule_bytes_by, rule_bytes}
-use Rattle.byte_scaling.specs.declared.width.Width.{Width}
-use Rattle.eval_code.specs.{Code.eval_code, Code.block_code, Bounds.entry_count, Bounds.element_count}
+use Rattle.eval_code.proofs.Words.{[], ◌*◌, ◌++◌, ◌+◌, ◌∷◌, ◌≡◌, ◌≤◌, All, All-get_or, arith, at_address, Block}
+use Rattle.eval_code.proofs.Words.{block_code, block_items, Byte, bytes_at, bytes_of_word, code_at, Conjunction}
+use Rattle.eval_code.proofs.Words.{conjunction_count, conjunctions_of, element_count, element_width, entry_count}
+use Rattle.eval_code.proofs.Words.{eval_code, flat_map, Form, form_of, Instr, IsRisingFrom, IsValid, IsValidOutput}
+use Rattle.eval_code.proofs.Words.{Item, length, length-append, length-map, List, list_size, list_words, map, marked}
+use Rattle.eval_code.proofs.Words.{MemoryMap, Op, Output, refl, rule_bytes, rule_bytes_by, singleton_bytes}
+use Rattle.eval_code.proofs.Words.{singleton_count, slots_of, subst, sum_by, sum_by-cons, sum_by-le, sym, table_bytes}
+use Rattle.eval_code.proofs.Words.{weight_bytes, weight_bytes_by, weights_of, Width, ℕ}
 use Rattle.eval_code.proofs.{Joins.sum_by-term_count, Joins.block_then, Joins.block_items-then, Lists.length-marked}
 use Rattle.eval_code.proofs.Sizes.{code_size, code_size-append, length-le-code_size, code_size-eval, length-tables}
 use Rattle.eval_code.proofs.Sizes.{length-singletons, length-rule_weights}

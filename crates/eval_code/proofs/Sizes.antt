@@ -1,26 +1,16 @@
 -- How many bytes the parts of a firmware have at most.
-use Rattle.std.proofs.Common.{◌≡◌, ℕ, zero, suc, ◌+◌, ◌*◌, ◌≤◌, List, [], ◌∷◌, ◌++◌, map, length, replicate, sum_by}
-use Rattle.std.proofs.Common.{flat_map, Option, Some, None, option_map, refl, ◌∙◌, ap, arith, length-append}
-use Rattle.std.proofs.lemmas.List.{length-map}
-use Rattle.std.proofs.lemmas.List.Sums.{sum_by-cons}
-use Rattle.std.proofs.lemmas.Grind.{flat_map-append}
-use Rattle.fuzzy_meaning.specs.declared.{block.Input.Input, block.Output.Output, block.Rule.Rule}
-use Rattle.fuzzy_meaning.specs.declared.block.Trapezoid.{Trapezoid}
-use Rattle.byte_scaling.specs.{Weights.weight_byte_of, Cells.nearest_byte}
-use Rattle.point_slope.specs.Tables.{row_of, rows_of}
-use Rattle.rule_layout.specs.Layouts.{rule_spread, rule_weights, conjunction_count}
-use Rattle.rule_layout.specs.declared.{flat.Slot.Slot, flat.Form.Form}
-use Rattle.rule_layout.specs.declared.flat.Slot.TheVariants.{Term, Complement, Out}
-use Rattle.eval_code.specs.Data.{singleton_bytes_of}
+use Rattle.eval_code.proofs.Words.{[], ◌*◌, ◌++◌, ◌+◌, ◌∙◌, ◌∷◌, ◌≡◌, ◌≤◌, ap, arith, code_bytes, Complement}
+use Rattle.eval_code.proofs.Words.{conjunction_count, encode_of, eval_code_over, flat_map, flat_map-append, Form}
+use Rattle.eval_code.proofs.Words.{fuzzify_code, Input, input_slots, Instr, LdaaImmediate, length, length-append}
+use Rattle.eval_code.proofs.Words.{length-map, List, map, Mem, MemoryMap, nearest_byte, None, Option, option_map, Out}
+use Rattle.eval_code.proofs.Words.{Output, output_code, outputs_code, places, quotient_code, refl, replicate, row_of}
+use Rattle.eval_code.proofs.Words.{rows_of, Rule, rule_spread, rules_code, singleton_bytes_of, singleton_count, Slot}
+use Rattle.eval_code.proofs.Words.{slots_code, Some, suc, sum_by, sum_by-cons, Term, term_count, Trapezoid, Width}
+use Rattle.eval_code.proofs.Words.{Word, zero, ℕ}
+use Rattle.byte_scaling.specs.{Weights.weight_byte_of, declared.width.Width.TheVariants.Byte}
+use Rattle.rule_layout.specs.{Layouts.rule_weights}
+use Rattle.eval_code.specs.{Code.slot_code}
 use Rattle.rule_layout.specs.declared.flat.Form.TheVariants as form
-use Rattle.rule_layout.specs.Slots.{term_count, singleton_count}
-use Rattle.cpu12_isa.specs.{declared.instr.Instr.Instr, Code.encode_of}
-use Rattle.cpu12_isa.specs.declared.instr.Instr.TheVariants.{LdaaImmediate, Mem}
-use Rattle.eval_code.specs.declared.memory_map.MemoryMap.{MemoryMap}
-use Rattle.eval_code.specs.Code.{fuzzify_code, slot_code, slots_code, rules_code, quotient_code, output_code}
-use Rattle.eval_code.specs.Code.{outputs_code, input_slots, eval_code_over, code_bytes}
-use Rattle.byte_scaling.specs.declared.{width.Width.Width, width.Width.TheVariants.Byte, width.Width.TheVariants.Word}
-use Rattle.byte_scaling.specs.Widths.{places}
 
 -- the bytes of instructions
 abbrev pub code_size : List Instr → ℕ

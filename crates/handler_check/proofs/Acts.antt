@@ -1,28 +1,23 @@
 -- What an allowed instruction does to SP, to PC, to the X flag and to memory.
-use Rattle.std.proofs.Common.{◌≡◌, ℕ, ◌+◌, ◌*◌, ◌/◌, ◌%◌, ◌^◌, ◌<◌, ◌≤◌, Bool, true, false, nat_lt, nat_le, ◌-◌, ◌&&◌}
-use Rattle.std.proofs.Common.{◌||◌, List, [], ◌∷◌, get_or, refl, ap, sym, ◌∙◌, subst, arith, rules, inl, inr, bit_and}
-use Rattle.std.proofs.Common.{bit_or}
-use Rattle.std.specs.Prelude.{if◌then◌else◌, ◌==◌}
-use Rattle.std.proofs.lemmas.Bool.{false≢true}
-use Rattle.std.proofs.lemmas.Bool.Decides.{nat_tests}
-use Rattle.cpu12_isa.specs.declared.{instr.Regs.Regs, instr.Ccr.Ccr, instr.Instr.Instr}
-use Rattle.cpu12_isa.specs.declared.instr.Instr.TheVariants.{LdaaImmediate, LdaaExtended, LdabImmediate, LdabExtended}
-use Rattle.cpu12_isa.specs.declared.instr.Instr.TheVariants.{LdxImmediate, LdyImmediate, StaaExtended, StabExtended}
-use Rattle.cpu12_isa.specs.declared.instr.Instr.TheVariants.{ClrExtended, Coma, CpxImmediate, Beq, Bne, Bcc, Bcs, Bra}
-use Rattle.cpu12_isa.specs.declared.instr.Instr.TheVariants.{Orcc, Ediv, Rti, IncExtended, DecExtended, AddaImmediate}
+use Rattle.handler_check.proofs.Words.{[], ◌%◌, ◌&&◌, ◌+◌, ◌-◌, ◌<◌, ◌==◌, ◌^◌, ◌||◌, ◌∙◌, ◌∷◌, ◌≡◌, ◌≤◌, act_of}
+use Rattle.handler_check.proofs.Words.{addresses, ap, arith, Bcc, Bcs, Beq, bit, bit_and_is, bit_or, bit_or_is, Bne}
+use Rattle.handler_check.proofs.Words.{Bool, Bra, Ccr, ClrExtended, DecExtended, effect, false, false≢true}
+use Rattle.handler_check.proofs.Words.{FitsHeight, get_or, GoesForward, height_after, if◌then◌else◌, IncExtended, inl}
+use Rattle.handler_check.proofs.Words.{inr, Instr, IsIn, LdaaImmediate, leads, List, nat_le, nat_lt, nat_tests, plus}
+use Rattle.handler_check.proofs.Words.{Psha, Pula, refl, Regs, Rti, size_of, StaaExtended, StabExtended, subst, sym}
+use Rattle.handler_check.proofs.Words.{target, true, written_by, ℕ}
+use Rattle.std.proofs.Common.{◌*◌, ◌/◌, rules, bit_and}
+use Rattle.cpu12_isa.specs.declared.instr.Instr.TheVariants.{LdaaExtended, LdabImmediate, LdabExtended, LdxImmediate}
+use Rattle.cpu12_isa.specs.declared.instr.Instr.TheVariants.{LdyImmediate, Coma, CpxImmediate, Orcc, Ediv}
+use Rattle.cpu12_isa.specs.declared.instr.Instr.TheVariants.{AddaImmediate, Dey}
+use Rattle.cpu12_isa.specs.Act.{Act, Give, Get, outcome}
+use Rattle.cpu12_isa.specs.{Registers.branched, Registers.divided, Registers.offset}
 use Rattle.cpu12_isa.specs.declared.instr.Instr.TheVariants.{AddaExtended, AddbImmediate, AddbExtended}
 use Rattle.cpu12_isa.specs.declared.instr.Instr.TheVariants.{AddbPostIncrementX, AdcaImmediate, SubaImmediate}
 use Rattle.cpu12_isa.specs.declared.instr.Instr.TheVariants.{SubaExtended, CmpaImmediate, CmpaExtended, AndaImmediate}
 use Rattle.cpu12_isa.specs.declared.instr.Instr.TheVariants.{AndaExtended, OraaImmediate, OraaExtended, Inx, Dex, Iny}
-use Rattle.cpu12_isa.specs.declared.instr.Instr.TheVariants.{Dey, Psha, Pula}
-use Rattle.cpu12_isa.specs.{Act.Act, Act.Give, Act.Get, Act.outcome, Memory.plus}
 use Rattle.cpu12_isa.specs.Flags.{carry, overflow, put, opened, tested, tested_word, added, added_with_carry}
 use Rattle.cpu12_isa.specs.Flags.{subtracted, subtracted_word, sum_with_carry}
-use Rattle.cpu12_isa.specs.{Registers.branched, Registers.divided, Registers.offset, Meaning.act_of, Meaning.effect}
-use Rattle.cpu12_isa.proofs.Algebra.{bit, bit_or_is, bit_and_is}
-use Rattle.cpu12_parts.specs.Laws.{addresses}
-use Rattle.handler_check.specs.Cut.{size_of}
-use Rattle.handler_check.specs.Paths.{IsIn, written_by, target, leads, GoesForward, height_after, FitsHeight}
 use Rattle.handler_check.proofs.Decoding.{is_stepping}
 
 -- whatever bytes are read, the value is of this kind

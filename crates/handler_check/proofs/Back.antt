@@ -1,16 +1,13 @@
 -- Steps up to an RTI, and the RTI.
-use Rattle.std.proofs.Common.{◌≡◌, ℕ, zero, suc, ◌<◌, ◌^◌, Bool, true, false, Result, Ok, List, get_or, refl, ap, ap₂}
-use Rattle.std.proofs.Common.{sym, ◌∙◌, subst, arith, bit_or}
-use Rattle.std.specs.Prelude.{◌==◌}
+use Rattle.handler_check.proofs.Words.{◌<◌, ◌==◌, ◌^◌, ◌∙◌, ◌≡◌, ap, applied, arith, bit, bit_and_is, bit_or}
+use Rattle.handler_check.proofs.Words.{bit_or_is, Bool, Ccr, false, frame_bytes, get_or, IsOff, Left, List, Next}
+use Rattle.handler_check.proofs.Words.{next_of, Ok, Plain, plus, pulled, refl, Regs, Result, Returned, returned, Rti}
+use Rattle.handler_check.proofs.Words.{StandsAt, State, subst, suc, sym, true, until_rti, word_of, zero, ℕ}
+use Rattle.std.proofs.{Common.ap₂}
+use Rattle.cpu12_isa.specs.{Flags.pulled_flags}
+use Rattle.cpu12_isa.proofs.{Algebra.same_ccr}
+use Rattle.handler_check.specs.{Running.then_back, Running.one_step}
 use Rattle.std.proofs.lemmas.Nat.{and_le_l}
-use Rattle.cpu12_isa.specs.declared.{instr.Regs.Regs, instr.Ccr.Ccr, instr.Instr.TheVariants.Rti}
-use Rattle.cpu12_isa.specs.{Memory.plus, Memory.word_of, Flags.pulled_flags, Registers.pulled, Registers.frame_bytes}
-use Rattle.cpu12_isa.specs.Code.{StandsAt}
-use Rattle.cpu12_isa.proofs.Algebra.{bit, bit_or_is, bit_and_is, same_ccr}
-use Rattle.cpu12_parts.specs.{State.State, Laws.IsOff}
-use Rattle.cpu12_emul.specs.declared.ends.Stepped.TheVariants.{Plain}
-use Rattle.cpu12_emul.specs.{Step.Left, Step.Next, Step.applied, Step.next_of, Take.returned}
-use Rattle.handler_check.specs.Running.{Returned, until_rti, then_back, one_step}
 use Rattle.handler_check.proofs.Grounds.{Grounds}
 
 -- k steps lead from s to g, and none of them is an RTI

@@ -1,19 +1,12 @@
 -- What a handler writes, beside what is written to free bytes alone.
-use Rattle.std.proofs.Common.{◌≡◌, ℕ, ◌+◌, ◌<◌, ◌≤◌, Bool, true, false, ◌&&◌, nat_lt, nat_le, List, [], ◌∷◌, ◌++◌}
-use Rattle.std.proofs.Common.{length, get_or, refl, sym, ◌∙◌, subst, arith, inl, inr, ◌⊎◌, get_or-set_other}
-use Rattle.std.proofs.lemmas.Bool.{false≢true, or_parts}
-use Rattle.std.proofs.lemmas.Bool.Decides.{nat_tests}
-use Rattle.std.proofs.lemmas.List.{length-set}
-use Rattle.std.proofs.Math.ListN.{set}
-use Rattle.cpu12_isa.specs.declared.{instr.Instr.Instr, instr.Write.Write}
-use Rattle.cpu12_isa.specs.{Act.write_all, Memory.plus, Memory.bytes_at, Regions.is_free, Regions.is_hidden}
-use Rattle.cpu12_isa.specs.Code.{encode_of, six_from, Begins}
-use Rattle.cpu12_isa.specs.Agreement.{Agree, IsWritten, WritesAgree}
-use Rattle.cpu12_isa.proofs.Algebra.{unwritten}
-use Rattle.cpu12_emul.specs.{Take.pairs_of, Simulation.AreOpen}
-use Rattle.handler_check.specs.{Cut.size_of, Cut.code_bytes, Cut.HasCode, Paths.IsIn}
+use Rattle.handler_check.proofs.Words.{[], ◌&&◌, ◌++◌, ◌+◌, ◌<◌, ◌∙◌, ◌∷◌, ◌≡◌, ◌≤◌, ◌⊎◌, addresses, Agree, AreOpen}
+use Rattle.handler_check.proofs.Words.{arith, Begins, Bool, bytes_at, code_bytes, encode_of, false, false≢true}
+use Rattle.handler_check.proofs.Words.{get_or, HasCode, inl, inr, Instr, is_free, is_hidden, IsIn, IsWritten, length}
+use Rattle.handler_check.proofs.Words.{length-set, List, nat_le, nat_lt, nat_tests, or_parts, pairs_of, plus, refl}
+use Rattle.handler_check.proofs.Words.{set, six_from, size_of, subst, sym, true, unwritten, Write, write_all}
+use Rattle.handler_check.proofs.Words.{WritesAgree, ℕ}
+use Rattle.std.proofs.{Common.get_or-set_other}
 use Rattle.handler_check.proofs.Places.{within}
-use Rattle.cpu12_parts.specs.Laws.{addresses}
 
 -- the stack's bytes below an address are hidden
 abbrev pub under : ℕ → ℕ → Bool

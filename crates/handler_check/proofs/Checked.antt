@@ -1,11 +1,9 @@
 -- What is judged of an image's cut is said of the image.
-use Rattle.std.proofs.Common.{◌≡◌, ◌≢◌, ℕ, Bool, false, List, ◌∙◌}
+use Rattle.handler_check.proofs.Words.{◌∙◌, ◌≡◌, ◌≢◌, Bool, false, HandlerFault, HandlersRunAsTakes, Instr}
+use Rattle.handler_check.proofs.Words.{is_trapped, IsAccepted, IsCut, IsFault, IsFirstFault, IsHandler, IsWhole, List}
+use Rattle.handler_check.proofs.Words.{Memory, ℕ}
+use Rattle.handler_check.specs.{declared.faults.Handler.Handler, Running.RunsAsTakes}
 use Rattle.std.specs.Prelude.{Result, Ok, Err, IfOk, IfErr}
-use Rattle.cpu12_isa.specs.declared.instr.Instr.{Instr}
-use Rattle.handler_check.specs.{declared.faults.Handler.Handler, declared.faults.HandlerFault.HandlerFault}
-use Rattle.handler_check.specs.{declared.faults.HandlerFault.TheVariants.Memory, Accepted.IsAccepted}
-use Rattle.handler_check.specs.{Faults.IsFirstFault, Running.RunsAsTakes, Running.HandlersRunAsTakes}
-use Rattle.handler_check.specs.Images.{IsCut, is_trapped, IsWhole, IsFault, IsHandler}
 use Rattle.handler_check.proofs.Extents.{fault_is}
 
 pub accepted_by : (image : List (ℕ × ℕ)) (is : List Instr) (trapped : Bool) (r : Result Handler HandlerFault)

@@ -1,10 +1,8 @@
 -- What stands encoded at a place is what is decoded there, and its first byte.
-use Rattle.std.proofs.Common.{◌≡◌, ℕ, ◌<◌, ◌≤◌, Bool, true, false, List, get_or, refl, ap, arith, inl, inr, ◌⊎◌}
-use Rattle.std.proofs.lemmas.Bool.{false≢true}
-use Rattle.std.specs.Prelude.{◌==◌}
-use Rattle.cpu12_isa.specs.{declared.instr.Instr.Instr, Code.StandsAt, Meaning.is_plain}
-use Rattle.cpu12_isa.specs.declared.instr.Instr.TheVariants.{LdaaImmediate, Rti, Rev, Revw, Wav, Wavr}
-use Rattle.handler_check.specs.{Paths.is_allowed, Cut.size_of}
+use Rattle.handler_check.proofs.Words.{◌<◌, ◌==◌, ◌≡◌, ◌≤◌, ◌⊎◌, ap, arith, Bool, false, false≢true, get_or, inl, inr}
+use Rattle.handler_check.proofs.Words.{Instr, is_allowed, LdaaImmediate, List, refl, Rti, size_of, StandsAt, true, ℕ}
+use Rattle.cpu12_isa.specs.declared.instr.Instr.TheVariants.{Rev, Revw, Wav, Wavr}
+use Rattle.cpu12_isa.specs.{Meaning.is_plain}
 
 -- whether an instruction is allowed and is not RTI
 abbrev pub is_stepping : Instr → Bool

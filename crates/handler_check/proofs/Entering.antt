@@ -1,21 +1,14 @@
 -- The interrupts of an accepted handler.
-use Rattle.std.proofs.Common.{◌≡◌, ℕ, ◌<◌, ◌≤◌, true, false, ◌&&◌, nat_lt, nat_le, Some, List, get_or, refl}
-use Rattle.std.proofs.Common.{ap, sym, ◌∙◌, subst, arith, inl, inr}
+use Rattle.handler_check.proofs.Words.{◌&&◌, ◌<◌, ◌∙◌, ◌≡◌, ◌≤◌, AcceptedIsTake, Agree, ap, AreOpen, arith, at_code}
+use Rattle.handler_check.proofs.Words.{byte_at, CanBegin, false, framed, get_or, HandlersRunAsTakes, HasHandler, inl}
+use Rattle.handler_check.proofs.Words.{inr, is_free, is_hidden, IsHandler, IsOff, IsWhole, List, nat_le, nat_lt}
+use Rattle.handler_check.proofs.Words.{or_parts, placed, plus, refl, Regs, Some, State, step_limit, subst, sym}
+use Rattle.handler_check.proofs.Words.{TakesQuietly, Temps, true, until_rti, unwritten, word_of, Write, write_all, ℕ}
+use Rattle.cpu12_isa.proofs.{Algebra.agree_with, Algebra.place_of}
+use Rattle.cpu12_parts.specs.{Parts.sum_bytes, Parts.suspended, Parts.wav, Inside.PushesRunning, Inside.PushesNone}
+use Rattle.handler_check.specs.{Running.HasImage, Running.IsTake, Running.HandlersAreQuiet}
 use Rattle.std.specs.Option.{is_some}
-use Rattle.std.proofs.lemmas.Bool.{or_parts}
-use Rattle.cpu12_isa.specs.declared.{instr.Regs.Regs, instr.Write.Write}
-use Rattle.cpu12_isa.specs.Memory.{plus, placed, word_of}
-use Rattle.cpu12_isa.specs.{Act.write_all, Agreement.Agree, Regions.is_free, Regions.is_hidden}
-use Rattle.cpu12_isa.proofs.Algebra.{agree_with, place_of, unwritten}
-use Rattle.cpu12_asm.specs.Bytes.{byte_at}
-use Rattle.cpu12_parts.specs.declared.temps.Temps.{Temps}
 use Rattle.cpu12_parts.specs.declared.temps.Temps.TheVariants.{Free, Running, OnStack}
-use Rattle.cpu12_parts.specs.{State.State, Parts.sum_bytes, Parts.suspended, Parts.wav}
-use Rattle.cpu12_parts.specs.{Laws.IsOff, Inside.PushesRunning, Inside.PushesNone}
-use Rattle.cpu12_emul.specs.{Take.framed, Simulation.AreOpen, Simulation.TakesQuietly}
-use Rattle.handler_check.specs.Images.{IsWhole, IsHandler}
-use Rattle.handler_check.specs.Running.{until_rti, step_limit, at_code, HasHandler, HasImage, CanBegin, IsTake}
-use Rattle.handler_check.specs.Running.{AcceptedIsTake, HandlersRunAsTakes, HandlersAreQuiet}
 use Rattle.handler_check.proofs.{Given.code_by, Good.leaves}
 
 high_at : (image : List (ℕ × ℕ)) (at byte : ℕ) → IsWhole image → byte_at image at ≡ Some byte → 16384 ≤ at

@@ -1,18 +1,14 @@
 -- Where the bytes of an image stand.
-use Rattle.std.proofs.Common.{◌≡◌, ◌≢◌, ℕ, ◌+◌, ◌-◌, ◌^◌, ◌<◌, ◌≤◌, Bool, true, false, ◌&&◌, nat_lt, nat_le, Ok, Option}
-use Rattle.std.proofs.Common.{Some, None, unwrap_or, List, length, get_or, refl, ap, sym, ◌∙◌, subst, arith, inl, inr}
-use Rattle.std.proofs.Common.{◌⊎◌}
-use Rattle.std.specs.Prelude.{if◌then◌else◌, IsSome, is_some}
-use Rattle.std.proofs.lemmas.Bool.{false≢true, cases_lt, cases_eq}
-use Rattle.std.proofs.lemmas.Bool.Decides.{nat_tests}
-use Rattle.cpu12_isa.specs.declared.instr.Instr.{Instr}
-use Rattle.cpu12_isa.specs.Code.{encode_of, FitsOperands, decode_at, DecodesEncoded}
-use Rattle.cpu12_asm.specs.Bytes.{byte_at, IsFirstDifference}
-use Rattle.handler_check.specs.{declared.faults.HandlerFault.HandlerFault, Faults.IsFirstFault, Judging.AreFirsts}
-use Rattle.handler_check.specs.declared.faults.HandlerFault.TheVariants.{Empty, Outside, Dead, Trap, Refused, NotFree}
-use Rattle.handler_check.specs.declared.faults.HandlerFault.TheVariants.{Backward, Target, Height, Falls, Memory}
-use Rattle.handler_check.specs.Cut.{size_of, code_end, AllFit, IsAt, HasCode}
-use Rattle.handler_check.specs.Images.{Gives, IsCut, is_trapped, IsOutside, IsWhole, IsRun, IsFault}
+use Rattle.handler_check.proofs.Words.{◌&&◌, ◌+◌, ◌-◌, ◌<◌, ◌^◌, ◌∙◌, ◌≡◌, ◌≢◌, ◌≤◌, ◌⊎◌, AllFit, ap, AreFirsts}
+use Rattle.handler_check.proofs.Words.{arith, Backward, Bool, byte_at, cases_eq, cases_lt, code_end, Dead, decode_at}
+use Rattle.handler_check.proofs.Words.{DecodesEncoded, Empty, encode_of, Falls, false, false≢true, FitsOperands}
+use Rattle.handler_check.proofs.Words.{get_or, Gives, HandlerFault, HasCode, Height, if◌then◌else◌, inl, inr, Instr}
+use Rattle.handler_check.proofs.Words.{is_some, is_trapped, IsAt, IsCut, IsFault, IsFirstFault, IsOutside, IsSome}
+use Rattle.handler_check.proofs.Words.{IsWhole, length, List, Memory, nat_le, nat_lt, nat_tests, None, NotFree, Ok}
+use Rattle.handler_check.proofs.Words.{Option, Outside, refl, Refused, size_of, Some, subst, sym, Target, Trap, true}
+use Rattle.handler_check.proofs.Words.{unwrap_or, ℕ}
+use Rattle.cpu12_asm.specs.{Bytes.IsFirstDifference}
+use Rattle.handler_check.specs.{Images.IsRun}
 use Rattle.handler_check.proofs.{Decoding.size_low, Places.within}
 use Rattle.handler_check.proofs.Given.{HasBytes, gives_get, gives_all, given_by, one_given}
 

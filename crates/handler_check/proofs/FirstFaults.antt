@@ -1,16 +1,12 @@
 -- The first fault of code; and that accepted code has none.
-use Rattle.std.proofs.Common.{◌≡◌, ℕ, suc, ◌<◌, ◌≤◌, Bool, true, false, Option, Some, None, List, refl, ap, sym, ◌∙◌}
-use Rattle.std.proofs.Common.{subst, arith, inl, inr, ◌⊎◌}
-use Rattle.std.proofs.lemmas.Bool.{false≢true, cases_lt}
-use Rattle.cpu12_isa.specs.declared.instr.Instr.{Instr}
-use Rattle.handler_check.specs.declared.{faults.HandlerFault.HandlerFault, path_summaries.PathSummary.PathSummary}
-use Rattle.handler_check.specs.declared.faults.HandlerFault.TheVariants.{Empty, Outside, Dead, Trap, Refused, NotFree}
-use Rattle.handler_check.specs.declared.faults.HandlerFault.TheVariants.{Backward, Target, Height, Falls, Memory}
-use Rattle.handler_check.specs.{Cut.code_end, Cut.IsAt, Accepted.May, Accepted.IsAccepted, PathSummaries.IsSummary}
-use Rattle.handler_check.specs.Paths.{is_allowed, IsIn, written_by, branches_to, falls_to, leads, GoesForward}
-use Rattle.handler_check.specs.Paths.{height_after, FitsHeight, Path}
-use Rattle.handler_check.specs.Faults.{IsFirst, Meets, Applies, place_of, rank, IsFirstFault}
-use Rattle.handler_check.specs.Judging.{Passes, Fails, AreJudged}
+use Rattle.handler_check.proofs.Words.{◌<◌, ◌∙◌, ◌≡◌, ◌≤◌, ◌⊎◌, ap, Applies, AreJudged, arith, Backward, Bool}
+use Rattle.handler_check.proofs.Words.{branches_to, cases_lt, code_end, Dead, Empty, Falls, falls_to, false}
+use Rattle.handler_check.proofs.Words.{false≢true, FitsHeight, GoesForward, HandlerFault, Height, height_after, inl}
+use Rattle.handler_check.proofs.Words.{inr, Instr, is_allowed, IsAccepted, IsAt, IsFirst, IsFirstFault, IsIn}
+use Rattle.handler_check.proofs.Words.{IsSummary, leads, List, May, Meets, Memory, None, NotFree, Option, Outside}
+use Rattle.handler_check.proofs.Words.{Passes, Path, PathSummary, place_of, rank, refl, Refused, Some, subst, suc}
+use Rattle.handler_check.proofs.Words.{sym, Target, Trap, true, written_by, ℕ}
+use Rattle.handler_check.specs.{Judging.Fails}
 use Rattle.handler_check.proofs.{Places.below_end, Places.one_instr, Marking.below_of}
 use Rattle.handler_check.proofs.Leading.{one_summary, in_left, in_right}
 

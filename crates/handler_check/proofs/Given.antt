@@ -1,10 +1,8 @@
 -- An image's bytes, and the instructions that they are.
-use Rattle.std.proofs.Common.{◌≡◌, ℕ, zero, suc, ◌+◌, ◌<◌, ◌≤◌, Ok, Some, List, [], ◌∷◌, ◌++◌, length, get_or, refl, ap}
-use Rattle.std.proofs.Common.{sym, ◌∙◌, subst, arith, inl, inr}
-use Rattle.cpu12_isa.specs.{declared.instr.Instr.Instr, Memory.bytes_at}
-use Rattle.cpu12_isa.specs.Code.{encode_of, FitsOperands, StandsAt, Begins, six_from, decode_at, DecodesEncoded}
-use Rattle.cpu12_asm.specs.Bytes.{byte_at}
-use Rattle.handler_check.specs.{Cut.size_of, Cut.code_bytes, Cut.code_end, Cut.IsFrom, Cut.HasCode, Images.Gives}
+use Rattle.handler_check.proofs.Words.{[], ◌++◌, ◌+◌, ◌<◌, ◌∙◌, ◌∷◌, ◌≡◌, ◌≤◌, ap, arith, Begins, byte_at, bytes_at}
+use Rattle.handler_check.proofs.Words.{code_bytes, code_end, decode_at, DecodesEncoded, encode_of, FitsOperands}
+use Rattle.handler_check.proofs.Words.{get_or, Gives, HasCode, inl, inr, Instr, IsFrom, length, List, Ok, refl}
+use Rattle.handler_check.proofs.Words.{six_from, size_of, Some, StandsAt, subst, suc, sym, zero, ℕ}
 use Rattle.handler_check.proofs.{Decoding.size_low, Places.within}
 
 -- bytes that an image gives, one by one

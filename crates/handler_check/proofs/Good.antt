@@ -1,18 +1,14 @@
 -- An accepted handler is a take with some writes to free bytes, and so is good code.
-use Rattle.std.proofs.Common.{◌≡◌, ℕ, zero, suc, ◌+◌, ◌%◌, ◌^◌, ◌<◌, ◌≤◌, true, false, ◌&&◌, nat_le, nat_lt, List, []}
-use Rattle.std.proofs.Common.{◌∷◌, ◌++◌, length, get_or, refl, ap, sym, ◌∙◌, subst, arith, inl, inr, lit≤}
-use Rattle.std.proofs.lemmas.Bool.Decides.{nat_tests}
-use Rattle.cpu12_isa.specs.declared.{instr.Regs.Regs, instr.Instr.Instr, instr.Write.Write}
-use Rattle.cpu12_isa.specs.Memory.{plus, placed, from, bytes_at, word_of}
-use Rattle.cpu12_isa.specs.{Registers.frame_bytes, Registers.pulled, Regions.is_free, Regions.LeavesStack}
-use Rattle.cpu12_isa.specs.Agreement.{Agree, AllShown, IsWritten}
-use Rattle.cpu12_isa.proofs.Algebra.{agree_self, bit, read_placed, bytes_unwritten, same_bytes}
-use Rattle.cpu12_parts.specs.{State.State, Laws.IsOff}
-use Rattle.cpu12_emul.specs.{declared.ends.Stepped.TheVariants.Plain, Step.Next, Simulation.AreOpen, Simulation.Same}
-use Rattle.cpu12_emul.specs.Take.{pairs_of, pushed, written, returned, framed}
-use Rattle.handler_check.specs.Running.{Returned, until_rti, step_limit, at_code, CanBegin, HasHandler}
-use Rattle.handler_check.specs.Running.{AcceptedIsTake}
-use Rattle.handler_check.specs.Cut.{code_bytes, HasCode}
+use Rattle.handler_check.proofs.Words.{[], ◌%◌, ◌&&◌, ◌++◌, ◌+◌, ◌<◌, ◌^◌, ◌∙◌, ◌∷◌, ◌≡◌, ◌≤◌, AcceptedIsTake, Agree}
+use Rattle.handler_check.proofs.Words.{ap, AreOpen, arith, at_code, bit, bytes_at, CanBegin, code_bytes, false}
+use Rattle.handler_check.proofs.Words.{frame_bytes, framed, get_or, HasCode, HasHandler, inl, inr, Instr, is_free}
+use Rattle.handler_check.proofs.Words.{IsOff, IsWritten, length, List, nat_le, nat_lt, nat_tests, Next, pairs_of}
+use Rattle.handler_check.proofs.Words.{placed, Plain, plus, pulled, refl, Regs, Returned, returned, State, step_limit}
+use Rattle.handler_check.proofs.Words.{subst, suc, sym, true, until_rti, word_of, Write, zero, ℕ}
+use Rattle.cpu12_isa.proofs.Algebra.{agree_self, read_placed, bytes_unwritten, same_bytes}
+use Rattle.std.proofs.{Common.lit≤}
+use Rattle.cpu12_isa.specs.{Memory.from, Regions.LeavesStack, Agreement.AllShown}
+use Rattle.cpu12_emul.specs.{Simulation.Same, Take.pushed, Take.written}
 use Rattle.handler_check.proofs.{Grounds.Grounds, Running.Stage, Running.arrives, Shortness.accepted_is_short}
 use Rattle.handler_check.proofs.Bytes.{under, AllFine, free_is, stays, code_stays, open_fine, write_append}
 use Rattle.handler_check.proofs.Bytes.{open_append}

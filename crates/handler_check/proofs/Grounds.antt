@@ -1,6 +1,6 @@
 -- The laws of lower crates on which the run of a handler stands.
-use Rattle.cpu12_isa.specs.{Agreement.WritesAgree, Code.DecodesEncoded}
-use Rattle.cpu12_emul.specs.Simulation.{PlainIsStep, TakesQuietly}
+use Rattle.handler_check.proofs.Words.{DecodesEncoded, TakesQuietly, WritesAgree}
+use Rattle.cpu12_emul.specs.{Simulation.PlainIsStep}
 
 pub record Grounds : Type 0 where
   pub decodes : DecodesEncoded

@@ -1,13 +1,10 @@
 -- One more summary leads to places.
-use Rattle.std.proofs.Common.{◌≡◌, ℕ, ◌≤◌, Bool, true, false, ◌||◌, not, nat_lt, Option, Some, None, List, [], ◌∷◌}
-use Rattle.std.proofs.Common.{◌++◌, refl, ap, sym, ◌∙◌, subst, arith, inl, inr, ◌⊎◌}
-use Rattle.std.specs.Prelude.{◌==◌, if◌then◌else◌}
-use Rattle.std.proofs.lemmas.Bool.{cases_eq, false≢true}
-use Rattle.std.proofs.lemmas.Bool.Decides.{nat_tests}
-use Rattle.cpu12_isa.specs.declared.instr.Instr.{Instr}
-use Rattle.handler_check.specs.declared.path_summaries.PathSummary.{PathSummary}
-use Rattle.handler_check.specs.{Paths.IsIn, Faults.Meets, Judging.Has}
-use Rattle.handler_check.specs.PathSummaries.{join, led, led_all, IsSummary}
+use Rattle.handler_check.proofs.Words.{[], ◌++◌, ◌==◌, ◌||◌, ◌∙◌, ◌∷◌, ◌≡◌, ◌≤◌, ◌⊎◌, ap, arith, Bool, cases_eq}
+use Rattle.handler_check.proofs.Words.{false, false≢true, Has, if◌then◌else◌, inl, inr, Instr, IsIn, IsSummary}
+use Rattle.handler_check.proofs.Words.{led_all, List, Meets, nat_lt, nat_tests, None, Option, PathSummary, refl, Some}
+use Rattle.handler_check.proofs.Words.{subst, sym, true, ℕ}
+use Rattle.std.proofs.{Common.not}
+use Rattle.handler_check.specs.{PathSummaries.join, PathSummaries.led}
 
 pub one_summary : (w v : PathSummary) → Some w ≡ Some v → w ≡ v
 one_summary w v e = cc

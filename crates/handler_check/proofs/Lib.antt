@@ -17,3 +17,4 @@ mod Extents
 mod Checked
 mod OneAnswer
 mod Shortness
+pub mod Words

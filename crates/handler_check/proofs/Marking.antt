@@ -1,14 +1,11 @@
 -- Judged place by place, code is accepted.
-use Rattle.std.proofs.Common.{◌≡◌, ℕ, zero, suc, ◌+◌, ◌<◌, ◌≤◌, Bool, true, false, Option, Some, None, List, [], ◌∷◌}
-use Rattle.std.proofs.Common.{length, refl, ap, sym, ◌∙◌, subst, arith, inl, inr, ◌⊎◌}
-use Rattle.std.proofs.lemmas.Bool.{false≢true}
-use Rattle.cpu12_isa.specs.declared.instr.Instr.{Instr}
-use Rattle.cpu12_isa.specs.declared.instr.Instr.TheVariants.{Beq, Bne, Bcc, Bcs, Bra, Rti}
-use Rattle.handler_check.specs.{declared.path_summaries.PathSummary.PathSummary, Accepted.May, Accepted.IsAccepted}
-use Rattle.handler_check.specs.Cut.{size_of, code_bytes, code_end, AllFit, IsAt}
-use Rattle.handler_check.specs.Paths.{IsIn, leads, falls_to, branches_to, GoesForward, height_after, Path}
-use Rattle.handler_check.specs.{Faults.IsFirst, PathSummaries.led_all, PathSummaries.IsSummary}
-use Rattle.handler_check.specs.Judging.{Passes, PathBelow, Has, Judged, AreJudged}
+use Rattle.handler_check.proofs.Words.{[], ◌+◌, ◌<◌, ◌∙◌, ◌∷◌, ◌≡◌, ◌≤◌, ◌⊎◌, AllFit, ap, AreJudged, arith, Bcc, Bcs}
+use Rattle.handler_check.proofs.Words.{Beq, Bne, Bool, Bra, branches_to, code_bytes, code_end, falls_to, false}
+use Rattle.handler_check.proofs.Words.{false≢true, GoesForward, Has, height_after, inl, inr, Instr, IsAccepted, IsAt}
+use Rattle.handler_check.proofs.Words.{IsFirst, IsIn, IsSummary, leads, led_all, length, List, May, None, Option}
+use Rattle.handler_check.proofs.Words.{Passes, Path, PathSummary, refl, Rti, size_of, Some, subst, suc, sym, true}
+use Rattle.handler_check.proofs.Words.{zero, ℕ}
+use Rattle.handler_check.specs.{Judging.PathBelow, Judging.Judged}
 use Rattle.handler_check.proofs.Decoding.{size_low, is_stepping, rti_or}
 use Rattle.handler_check.proofs.Acts.{height_after-low, leads_on, target_is}
 use Rattle.handler_check.proofs.Places.{within, below_end, apart_places}

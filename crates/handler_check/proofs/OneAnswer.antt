@@ -1,22 +1,17 @@
 -- An image is a handler with one count, or has one first fault.
-use Rattle.std.proofs.Common.{◌≡◌, ℕ, suc, ◌+◌, ◌<◌, ◌≤◌, Bool, true, false, nat_lt, Ok, Some, None, List, [], ◌∷◌}
-use Rattle.std.proofs.Common.{length, get_or, refl, ap, sym, ◌∙◌, subst, arith, inl, inr, ◌⊎◌, length-append}
-use Rattle.std.specs.Prelude.{if◌then◌else◌, IsSome, is_some, Result}
-use Rattle.std.proofs.lemmas.Bool.{cases_lt}
-use Rattle.cpu12_isa.specs.declared.instr.Instr.{Instr}
-use Rattle.cpu12_isa.specs.declared.instr.Instr.TheVariants.{StaaExtended, StabExtended, ClrExtended, Beq, Bne, Bcc}
-use Rattle.cpu12_isa.specs.declared.instr.Instr.TheVariants.{Bcs, Bra, Rti, IncExtended, DecExtended, MovbImmediate}
+use Rattle.handler_check.proofs.Words.{[], ◌+◌, ◌<◌, ◌∙◌, ◌∷◌, ◌≡◌, ◌≤◌, ◌⊎◌, AllFit, ap, Applies, arith, Backward}
+use Rattle.handler_check.proofs.Words.{Bcc, Bcs, Beq, Bne, Bool, Bra, branches_to, byte_at, cases_lt, ClrExtended}
+use Rattle.handler_check.proofs.Words.{code_bytes, code_end, Dead, DecExtended, decode_at, DecodesEncoded, Empty}
+use Rattle.handler_check.proofs.Words.{encode_of, Falls, false, FitsOperands, get_or, Gives, HandlerFault, Height}
+use Rattle.handler_check.proofs.Words.{if◌then◌else◌, IncExtended, inl, inr, Instr, is_some, is_trapped, IsAt, IsCut}
+use Rattle.handler_check.proofs.Words.{IsFault, IsFirstFault, IsHandler, IsIn, IsOutside, IsSome, IsWhole, length}
+use Rattle.handler_check.proofs.Words.{length-append, List, Memory, nat_lt, None, NotFree, Ok, Outside, Path}
+use Rattle.handler_check.proofs.Words.{place_of, rank, refl, Refused, Rti, size_of, Some, StaaExtended, StabExtended}
+use Rattle.handler_check.proofs.Words.{subst, suc, sym, Target, target, Trap, true, written_by, ℕ}
+use Rattle.std.specs.{Prelude.Result}
+use Rattle.cpu12_isa.specs.{declared.instr.Instr.TheVariants.MovbImmediate}
 use Rattle.cpu12_isa.specs.declared.instr.Instr.TheVariants.{MovbExtended}
-use Rattle.cpu12_isa.specs.Code.{encode_of, FitsOperands, DecodesEncoded, decode_at}
-use Rattle.cpu12_asm.specs.Bytes.{byte_at}
 use Rattle.cpu12_emul.specs.Image.{byte_or_zero, image_memory, HoldsImage}
-use Rattle.handler_check.specs.declared.faults.HandlerFault.{HandlerFault}
-use Rattle.handler_check.specs.declared.faults.HandlerFault.TheVariants.{Empty, Outside, Dead, Trap, Refused, NotFree}
-use Rattle.handler_check.specs.declared.faults.HandlerFault.TheVariants.{Backward, Target, Height, Falls, Memory}
-use Rattle.handler_check.specs.Cut.{size_of, code_bytes, code_end, AllFit, IsAt}
-use Rattle.handler_check.specs.Paths.{IsIn, written_by, target, branches_to, Path}
-use Rattle.handler_check.specs.Faults.{Applies, place_of, rank, IsFirstFault}
-use Rattle.handler_check.specs.Images.{Gives, IsCut, is_trapped, IsOutside, IsWhole, IsFault, IsHandler}
 use Rattle.handler_check.specs.Images.{HandlersHaveNoFault, FaultsAreOne, CountsAreOne}
 use Rattle.handler_check.proofs.{Decoding.size_low, Places.one_instr, Extents.none_not, FirstFaults.faultless}
 use Rattle.handler_check.proofs.Given.{HasBytes, gives_get, gives_left, gives_right, one_given}

@@ -1,17 +1,12 @@
 -- What is needed where one instruction is judged.
-use Rattle.std.proofs.Common.{◌≡◌, ℕ, suc, ◌+◌, ◌<◌, ◌≤◌, Bool, true, false, Option, Some, None, List, [], ◌∷◌, ◌-◌}
-use Rattle.std.proofs.Common.{zero, nat_le, nat_lt, get_or, unwrap_or, replicate, length, refl, ap, sym, ◌∙◌, subst}
-use Rattle.std.proofs.Common.{arith, inl, inr}
-use Rattle.std.specs.Prelude.{IfSome, MatchOption, slice_get, if◌then◌else◌}
-use Rattle.cpu12_isa.specs.declared.{instr.Instr.Instr, instr.Instr.TheVariants.LdaaImmediate}
-use Rattle.std.proofs.lemmas.Bool.Decides.{nat_tests}
-use Rattle.handler_check.specs.declared.{faults.HandlerFault.HandlerFault, path_summaries.PathSummary.PathSummary}
-use Rattle.handler_check.specs.declared.faults.HandlerFault.TheVariants.{Dead, Trap}
-use Rattle.handler_check.specs.Cut.{code_end, AllFit, IsAt}
-use Rattle.handler_check.specs.Paths.{IsIn, leads, falls_to, branches_to}
-use Rattle.handler_check.specs.{Faults.IsFirst, Faults.IsFirstFault, Accepted.IsAccepted}
-use Rattle.handler_check.specs.PathSummaries.{summary_at, led_all, list_of}
-use Rattle.handler_check.specs.Judging.{AreFirsts, AreJudged}
+use Rattle.handler_check.proofs.Words.{[], ◌+◌, ◌-◌, ◌<◌, ◌∙◌, ◌∷◌, ◌≡◌, ◌≤◌, AllFit, ap, AreFirsts, AreJudged, arith}
+use Rattle.handler_check.proofs.Words.{Bool, branches_to, code_end, Dead, falls_to, false, get_or, HandlerFault}
+use Rattle.handler_check.proofs.Words.{if◌then◌else◌, inl, inr, Instr, IsAccepted, IsAt, IsFirst, IsFirstFault, IsIn}
+use Rattle.handler_check.proofs.Words.{LdaaImmediate, leads, led_all, length, List, nat_le, nat_lt, nat_tests, None}
+use Rattle.handler_check.proofs.Words.{Option, PathSummary, refl, replicate, slice_get, Some, subst, suc, summary_at}
+use Rattle.handler_check.proofs.Words.{sym, Trap, true, unwrap_or, zero, ℕ}
+use Rattle.std.specs.{Prelude.IfSome, Prelude.MatchOption}
+use Rattle.handler_check.specs.{PathSummaries.list_of}
 use Rattle.handler_check.proofs.{Places.below_end, Places.is_at-here, Marking.accepted_of}
 use Rattle.handler_check.proofs.{FirstFaults.dead_first, FirstFaults.trap_first, Leading.all_append, Leading.all_same}
 use Rattle.handler_check.proofs.Tables.{first_within}

@@ -1,8 +1,8 @@
 -- Where the instructions of a list stand.
-use Rattle.std.proofs.Common.{◌≡◌, ℕ, zero, suc, ◌+◌, ◌<◌, ◌≤◌, List, [], ◌∷◌, ◌++◌, length, refl, ap, sym, ◌∙◌, subst}
-use Rattle.std.proofs.Common.{arith, inl, inr, ◌⊎◌, take, get_or, length-append}
-use Rattle.cpu12_isa.specs.{declared.instr.Instr.Instr, Code.encode_of, Code.FitsOperands, Code.StandsAt}
-use Rattle.handler_check.specs.Cut.{size_of, code_bytes, code_end, AllFit, IsFrom, IsAt, HasCode}
+use Rattle.handler_check.proofs.Words.{[], ◌++◌, ◌+◌, ◌<◌, ◌∙◌, ◌∷◌, ◌≡◌, ◌≤◌, ◌⊎◌, AllFit, ap, arith, code_bytes}
+use Rattle.handler_check.proofs.Words.{code_end, encode_of, FitsOperands, get_or, HasCode, inl, inr, Instr, IsAt}
+use Rattle.handler_check.proofs.Words.{IsFrom, length, length-append, List, refl, size_of, StandsAt, subst, suc, sym}
+use Rattle.handler_check.proofs.Words.{take, zero, ℕ}
 use Rattle.handler_check.proofs.Decoding.{size_low}
 
 pub within : (start : ℕ) (is : List Instr) (at : ℕ) (i : Instr) → IsFrom start is at i

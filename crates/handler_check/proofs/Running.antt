@@ -1,18 +1,12 @@
 -- An accepted handler runs to its RTI.
-use Rattle.std.proofs.Common.{◌≡◌, ℕ, zero, suc, ◌+◌, ◌<◌, ◌≤◌, Bool, true, false, Result, Ok, List, [], ◌∷◌, ◌++◌}
-use Rattle.std.proofs.Common.{length, get_or, refl, ap, sym, ◌∙◌, subst, arith, inl, inr}
-use Rattle.std.specs.Prelude.{◌==◌}
-use Rattle.cpu12_isa.specs.declared.{instr.Instr.Instr, instr.Write.Write}
-use Rattle.cpu12_isa.specs.declared.instr.Instr.TheVariants.{LdaaImmediate, Rti, Psha, Pula}
-use Rattle.cpu12_isa.specs.{Act.write_all, Code.FitsOperands, Code.StandsAt, Agreement.Agree, Regions.is_free}
-use Rattle.cpu12_isa.specs.Meaning.{Effect, act_of, effect}
-use Rattle.cpu12_isa.proofs.Algebra.{bit}
-use Rattle.cpu12_parts.specs.{declared.temps.Temps.Temps, State.State, Laws.IsOff, Laws.addresses}
-use Rattle.cpu12_emul.specs.declared.ends.Stepped.TheVariants.{Plain}
-use Rattle.cpu12_emul.specs.{Step.Left, Step.Next, Step.applied, Step.next_of, Take.pairs_of, Simulation.AreOpen}
-use Rattle.handler_check.specs.Cut.{size_of, code_bytes, AllFit, IsFrom, IsAt, HasCode}
-use Rattle.handler_check.specs.Paths.{IsIn, written_by, leads, height_after, FitsHeight, Path}
-use Rattle.handler_check.specs.Accepted.{May, IsAccepted}
+use Rattle.handler_check.proofs.Words.{[], ◌++◌, ◌+◌, ◌<◌, ◌==◌, ◌∙◌, ◌∷◌, ◌≡◌, ◌≤◌, act_of, addresses, Agree, AllFit}
+use Rattle.handler_check.proofs.Words.{ap, applied, AreOpen, arith, bit, Bool, code_bytes, effect, false, FitsHeight}
+use Rattle.handler_check.proofs.Words.{FitsOperands, get_or, HasCode, height_after, inl, inr, Instr, is_free}
+use Rattle.handler_check.proofs.Words.{IsAccepted, IsAt, IsFrom, IsIn, IsOff, LdaaImmediate, leads, Left, length}
+use Rattle.handler_check.proofs.Words.{List, May, Next, next_of, Ok, pairs_of, Path, Plain, Psha, Pula, refl, Result}
+use Rattle.handler_check.proofs.Words.{Rti, size_of, StandsAt, State, subst, suc, sym, Temps, true, Write, write_all}
+use Rattle.handler_check.proofs.Words.{written_by, zero, ℕ}
+use Rattle.cpu12_isa.specs.{Meaning.Effect}
 use Rattle.handler_check.proofs.{Grounds.Grounds, Places.within, Back.ToRti}
 use Rattle.handler_check.proofs.Decoding.{is_stepping, first_byte, plain_of, size_low, rti_or}
 use Rattle.handler_check.proofs.Acts.{Always, always_outcome, there, sp_after, sp_moves, written_at, writes_are}

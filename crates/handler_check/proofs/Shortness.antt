@@ -1,7 +1,6 @@
 -- Paths of a handler are short.
-use Rattle.std.proofs.Common.{ℕ, zero, suc, ◌+◌, ◌≤◌, List, arith}
-use Rattle.cpu12_isa.specs.declared.{instr.Instr.Instr, instr.Instr.TheVariants.Rti}
-use Rattle.handler_check.specs.{Paths.Path, Accepted.IsAccepted, Running.HandlersAreShort}
+use Rattle.handler_check.proofs.Words.{◌+◌, ◌≤◌, arith, Instr, IsAccepted, List, Path, Rti, suc, zero, ℕ}
+use Rattle.handler_check.specs.{Running.HandlersAreShort}
 use Rattle.handler_check.proofs.{Acts.leads_on, Decoding.size_low, Places.within}
 
 -- each instruction of a path stands further on

@@ -1,15 +1,9 @@
 -- The table of the places at which instructions begin.
-use Rattle.std.proofs.Common.{◌≡◌, ℕ, zero, suc, ◌+◌, ◌-◌, ◌<◌, ◌≤◌, Bool, true, false, nat_lt, Option, Some, None}
-use Rattle.std.proofs.Common.{unwrap_or, List, [], ◌∷◌, ◌++◌, length, replicate, refl, ap, sym, ◌∙◌, subst, arith, inl}
-use Rattle.std.proofs.Common.{inr}
-use Rattle.std.specs.Prelude.{slice_get}
-use Rattle.std.proofs.lemmas.Bool.{cases_eq, false≢true}
-use Rattle.std.proofs.lemmas.Bool.Decides.{nat_tests}
-use Rattle.std.proofs.lemmas.List.{length-set}
+use Rattle.handler_check.proofs.Words.{[], ◌++◌, ◌+◌, ◌-◌, ◌<◌, ◌∙◌, ◌∷◌, ◌≡◌, ◌≤◌, ap, AreFirsts, arith, Bool}
+use Rattle.handler_check.proofs.Words.{cases_eq, code_end, code_limit, false, false≢true, inl, inr, Instr, IsAt}
+use Rattle.handler_check.proofs.Words.{IsFirst, length, length-set, List, nat_lt, nat_tests, None, Option, refl}
+use Rattle.handler_check.proofs.Words.{replicate, set, slice_get, Some, subst, suc, sym, true, unwrap_or, zero, ℕ}
 use Rattle.std.proofs.lemmas.Option.{slice_get_within}
-use Rattle.std.proofs.Math.ListN.{set}
-use Rattle.cpu12_isa.specs.declared.instr.Instr.{Instr}
-use Rattle.handler_check.specs.{Cut.code_limit, Cut.code_end, Cut.IsAt, Faults.IsFirst, Judging.AreFirsts}
 use Rattle.handler_check.proofs.Places.{below_end, at-push, at-front, at-last}
 
 -- an element after a write

@@ -1,17 +1,12 @@
 -- Turn after turn.
-use Rattle.std.proofs.Common.{◌≡◌, ◌≢◌, ℕ, zero, suc, ◌+◌, ◌-◌, ◌*◌, ◌<◌, ◌≤◌, min, List, [], ◌∷◌, ◌++◌, length, Bool}
-use Rattle.std.proofs.Common.{true, false, nat_le, refl, sym, ap, ◌∙◌, subst, arith, inl, inr}
-use Rattle.std.proofs.lemmas.Bool.Decides.{nat_tests}
-use Rattle.cpu12_parts.specs.State.{State}
-use Rattle.run_law.specs.{Forms.Ran, Soundness.AllGood, Uninterrupted.uninterrupted}
-use Rattle.interrupt_plan.specs.{declared.Post.Post, Posts.IsGoodPost}
-use Rattle.alone_code.specs.declared.firmware.Firmware.{Firmware}
-use Rattle.byte_scaling.specs.Widths.{width_of, places}
-use Rattle.mailbox_runs.specs.Turns.{Turn, AreTurns, over, idle, answers, up_to, behind, waiting, taken_from}
-use Rattle.mailbox_runs.specs.Runs.{RunSeen, before_turns, turn_from, turns_from}
-use Rattle.mailbox_runs.specs.Answering.{ended, answer_of, frames_in, resumed_in, run_of_turns, SimulateTurns}
-use Rattle.mailbox_runs.specs.Postings.{IsBox, AreOfSize}
-use Rattle.mailbox_runs.specs.{UninterruptedTurns.AllTurnRuns, WholeRuns.RunsAreTurns, UsedLaws.TurnLaws}
+use Rattle.mailbox_runs.proofs.Words.{[], ◌*◌, ◌++◌, ◌+◌, ◌-◌, ◌<◌, ◌∙◌, ◌∷◌, ◌≡◌, ◌≢◌, ◌≤◌, AllGood, AllTurnRuns}
+use Rattle.mailbox_runs.proofs.Words.{answer_of, answers, ap, AreOfSize, AreTurns, arith, before_turns, behind, Bool}
+use Rattle.mailbox_runs.proofs.Words.{ended, false, Firmware, frames_in, idle, inl, inr, IsBox, IsGoodPost, length}
+use Rattle.mailbox_runs.proofs.Words.{List, min, nat_le, nat_tests, over, places, Post, Ran, refl, resumed_in}
+use Rattle.mailbox_runs.proofs.Words.{run_of_turns, RunsAreTurns, RunSeen, State, subst, suc, sym, taken_from, true}
+use Rattle.mailbox_runs.proofs.Words.{Turn, turn_from, TurnLaws, turns_from, uninterrupted, up_to, waiting, width_of}
+use Rattle.mailbox_runs.proofs.Words.{zero, ℕ}
+use Rattle.mailbox_runs.specs.{Answering.SimulateTurns}
 use Rattle.mailbox_runs.proofs.{TakenLists.Rise, TakenLists.rise_behind, AnswerRuns.good_behind}
 use Rattle.mailbox_runs.proofs.LastOnes.{not_zero, some_answered, zero_or}
 use Rattle.mailbox_runs.proofs.TurnsFollow.{Begins, over_turn, idle_turn, answer_next}

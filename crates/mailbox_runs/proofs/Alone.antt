@@ -1,14 +1,9 @@
 -- Turns without posts: the run of a turn is that without interrupts.
-use Rattle.std.proofs.Common.{◌≡◌, ℕ, zero, suc, ◌≤◌, ◌&&◌, nat_lt, Bool, true, false, Ok, List, [], refl, sym, ap, ◌∙◌}
-use Rattle.std.proofs.Common.{subst, arith}
-use Rattle.std.proofs.lemmas.Bool.Decides.{nat_tests}
-use Rattle.cpu12_parts.specs.State.{State}
-use Rattle.cpu12_emul.specs.Step.{Next, next_of, is_part}
-use Rattle.run_law.specs.Forms.{Taking, takes, Ran, ended, before_rest, run_from}
-use Rattle.run_law.specs.{Uninterrupted.uninterrupted, Uninterrupted.state_by, Soundness.Before}
-use Rattle.interrupt_plan.specs.declared.Post.{Post}
-use Rattle.alone_code.specs.{declared.firmware.Firmware.Firmware, Uninterrupted.is_waiting}
-use Rattle.mailbox_runs.specs.Runs.{turn_form}
+use Rattle.mailbox_runs.proofs.Words.{[], ◌&&◌, ◌∙◌, ◌≡◌, ◌≤◌, ap, arith, Before, before_rest, Bool, false, Firmware}
+use Rattle.mailbox_runs.proofs.Words.{is_part, is_waiting, List, nat_lt, nat_tests, Next, next_of, Ok, Post, Ran}
+use Rattle.mailbox_runs.proofs.Words.{refl, run_from, State, state_by, subst, suc, sym, takes, Taking, true}
+use Rattle.mailbox_runs.proofs.Words.{turn_form, uninterrupted, zero, ℕ}
+use Rattle.run_law.specs.{Forms.ended}
 use Rattle.mailbox_runs.proofs.WholeTurns.{IsBusy}
 
 -- a run is the one without interrupts, and ends behind n steps

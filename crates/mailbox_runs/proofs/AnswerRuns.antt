@@ -1,31 +1,19 @@
 -- A turn that answers, under posts.
-use Rattle.std.proofs.Common.{◌≡◌, ℕ, zero, suc, ◌+◌, ◌-◌, ◌*◌, ◌<◌, ◌≤◌, max, nat_le, nat_lt, Bool, true, false, not}
-use Rattle.std.proofs.Common.{◌&&◌, None, List, [], ◌∷◌, ◌++◌, drop, length, map, get_or, refl, sym, ap}
-use Rattle.std.proofs.Common.{◌∙◌, subst, arith, inl, inr}
-use Rattle.std.proofs.lemmas.Bool.{or_parts, cases_lt}
-use Rattle.cpu12_isa.specs.declared.{instr.Instr.TheVariants.Orcc, instr.Regs.Regs}
-use Rattle.cpu12_isa.specs.{Agreement.Agree, Regions.is_free, Regions.is_hidden}
-use Rattle.cpu12_isa.proofs.Algebra.{agree_self, agree_with}
-use Rattle.cpu12_parts.specs.State.{State}
-use Rattle.cpu12_emul.specs.{Image.image_memory, Take.FrameSeen, Simulation.OnStackOnly, Simulation.Same}
-use Rattle.run_law.specs.Forms.{Ran, takes, run_from}
-use Rattle.run_law.specs.Soundness.{AllSimulate, AllGood, Ascend}
-use Rattle.run_law.specs.Uninterrupted.{uninterrupted, counted, is_inside, stepped, taken_at, resumed_of}
-use Rattle.run_law.specs.Uninterrupted.{frames_after}
-use Rattle.run_law.specs.{Following.asked, Following.onto, Following.Completes, Moments.TakenAtFirstOpen}
-use Rattle.run_law.proofs.Algebra.{uninterrupted_add, counted_add}
-use Rattle.interrupt_plan.specs.{declared.Post.Post, Posts.IsGoodPost}
-use Rattle.alone_code.specs.{declared.firmware.Firmware.Firmware, Mailboxes.is_mail, Mailboxes.is_postable}
-use Rattle.alone_code.specs.{Turns.IsAt}
-use Rattle.byte_scaling.specs.Widths.{width_of, places}
-use Rattle.firmware_runs.specs.Facts.{FactsBeside}
-use Rattle.mailbox_runs.specs.{Turns.up_to, Turns.behind, Turns.waiting, Runs.TurnForm, Runs.turn_form}
-use Rattle.mailbox_runs.specs.{Shifts.frames_from, Shifts.ran_from, UninterruptedTurns.IsAnswerRun}
+use Rattle.mailbox_runs.proofs.Words.{[], ◌&&◌, ◌*◌, ◌++◌, ◌+◌, ◌-◌, ◌<◌, ◌∙◌, ◌∷◌, ◌≡◌, ◌≤◌, Agree, agree_self}
+use Rattle.mailbox_runs.proofs.Words.{agree_with, AllGood, AllSimulate, ap, AreOfSize, arith, Ascend, asked, behind}
+use Rattle.mailbox_runs.proofs.Words.{Bool, cases_lt, counted, drop, End, FactsBeside, false, Firmware, frames_after}
+use Rattle.mailbox_runs.proofs.Words.{frames_from, FrameSeen, get_or, HoldsMail, image_memory, inl, inr, is_free}
+use Rattle.mailbox_runs.proofs.Words.{is_hidden, is_inside, is_mail, is_postable, IsAnswerRun, IsAt, IsBox}
+use Rattle.mailbox_runs.proofs.Words.{IsGoodPost, length, List, mailed, map, max, nat_le, nat_lt, None, not, not_mail}
+use Rattle.mailbox_runs.proofs.Words.{OnStackOnly, or_parts, Orcc, part_form, places, plain_frame, Post, posted}
+use Rattle.mailbox_runs.proofs.Words.{posted_by, Ran, ran_from, refl, Regs, resumed_of, run_from, Same, State}
+use Rattle.mailbox_runs.proofs.Words.{stepped, Stepping, subst, suc, sym, TakenAtFirstOpen, takes, true, turn_form}
+use Rattle.mailbox_runs.proofs.Words.{TurnEnds, TurnForm, TurnLaws, uninterrupted, uninterrupted_add, up_to, waiting}
+use Rattle.mailbox_runs.proofs.Words.{width_of, Writing, zero, ℕ}
+use Rattle.run_law.specs.{Uninterrupted.taken_at, Following.onto, Following.Completes}
+use Rattle.run_law.proofs.{Algebra.counted_add}
+use Rattle.mailbox_runs.specs.{PostedTurns.PostedTurnsFollow}
 use Rattle.mailbox_runs.proofs.{Mailing.mailed_apart, Mailing.mailed_alike, Posting.waits_within}
-use Rattle.mailbox_runs.specs.PostedTurns.{End, TurnEnds, plain_frame, PostedTurnsFollow}
-use Rattle.mailbox_runs.specs.Postings.{mailed, posted, IsBox, AreOfSize}
-use Rattle.mailbox_runs.specs.Behind.{part_form, posted_by, not_mail, HoldsMail}
-use Rattle.mailbox_runs.specs.UsedLaws.{Stepping, TurnLaws, Writing}
 use Rattle.mailbox_runs.proofs.Behind.{to_mail, steps_keep}
 use Rattle.mailbox_runs.proofs.Passing.{less_hidden, pass, plain_follows, masked_run, ends_there, not_over}
 use Rattle.mailbox_runs.proofs.TakenLists.{Rise, Splits, splits, rise_behind}

@@ -1,30 +1,23 @@
 -- Behind the copy a turn is a sound form.
-use Rattle.std.proofs.Common.{◌≡◌, ℕ, zero, suc, ◌+◌, ◌*◌, ◌<◌, ◌≤◌, nat_le, nat_lt, Bool, true, false, not, ◌&&◌, Ok}
-use Rattle.std.proofs.Common.{Result, List, [], ◌∷◌, length, min, get_or, refl, sym, ap, ap₂, ◌∙◌, subst, arith, inl}
-use Rattle.std.proofs.Common.{inr}
-use Rattle.std.specs.Prelude.{◌==◌, if◌then◌else◌}
-use Rattle.std.proofs.lemmas.Bool.{or_parts, and_parts}
-use Rattle.std.proofs.lemmas.Bool.Decides.{nat_tests}
-use Rattle.cpu12_isa.specs.{declared.instr.Regs.Regs, Act.outcome, Act.write_all, Regions.is_free, Regions.is_hidden}
-use Rattle.cpu12_isa.specs.Agreement.{Agree, AllShown, IsWritten, WritesAgree, WritesStay}
-use Rattle.cpu12_isa.specs.Memory.{plus, placed, word_of}
-use Rattle.cpu12_isa.proofs.Algebra.{agree_self, agree_with}
-use Rattle.cpu12_parts.specs.declared.temps.Temps.{Temps}
-use Rattle.cpu12_parts.specs.declared.temps.Temps.TheVariants.{Free, Running, OnStack}
-use Rattle.cpu12_parts.specs.{State.State, Parts.sum_bytes, Parts.suspended, Parts.wav, Laws.IsOff, Laws.addresses}
-use Rattle.cpu12_emul.specs.{Step.Left, Step.Next, Step.step_act, Step.applied, Step.next_of, Take.framed}
-use Rattle.cpu12_emul.specs.Simulation.{OnStackOnly, OnStackOrNone, Simulates, AreSumsReady, HasRoom, IsShownStep}
-use Rattle.run_law.specs.Uninterrupted.{stepped, state_by}
+use Rattle.mailbox_runs.proofs.Words.{[], ◌&&◌, ◌*◌, ◌+◌, ◌<◌, ◌∙◌, ◌∷◌, ◌≡◌, ◌≤◌, addresses, Agree, agree_self}
+use Rattle.mailbox_runs.proofs.Words.{agree_with, AllShown, ap, applied, ap₂, AreOfSize, AreSumsReady, arith, Bool}
+use Rattle.mailbox_runs.proofs.Words.{Byte, Facts, FactsBeside, false, Firmware, framed, Free, get_or, HasRoom}
+use Rattle.mailbox_runs.proofs.Words.{HoldsMail, if◌then◌else◌, inl, inr, is_free, is_hidden, is_mail, is_postable}
+use Rattle.mailbox_runs.proofs.Words.{IsBox, IsGoodPost, IsShownStep, IsWritten, last_of, Left, length, List, mailed}
+use Rattle.mailbox_runs.proofs.Words.{min, nat_le, nat_lt, nat_tests, Next, next_of, not, not_mail, Ok, OnStackOnly}
+use Rattle.mailbox_runs.proofs.Words.{or_parts, outcome, part_form, placed, places, plus, Post, post_writes}
+use Rattle.mailbox_runs.proofs.Words.{posted_by, refl, Regs, Result, State, state_by, step_act, stepped, Stepping}
+use Rattle.mailbox_runs.proofs.Words.{subst, suc, suspended, sym, Temps, true, wav, Width, width_of, Word, write_all}
+use Rattle.mailbox_runs.proofs.Words.{zero, ℕ}
+use Rattle.std.specs.{Prelude.◌==◌}
+use Rattle.std.proofs.{lemmas.Bool.and_parts}
+use Rattle.cpu12_isa.specs.{Agreement.WritesAgree, Agreement.WritesStay, Memory.word_of}
+use Rattle.cpu12_parts.specs.{declared.temps.Temps.TheVariants.Running, declared.temps.Temps.TheVariants.OnStack}
+use Rattle.cpu12_parts.specs.{Parts.sum_bytes, Laws.IsOff}
+use Rattle.cpu12_emul.specs.{Simulation.OnStackOrNone, Simulation.Simulates}
+use Rattle.alone_code.specs.{Uninterrupted.values_from}
+use Rattle.firmware_runs.specs.{Facts.IsStackOfOneCall}
 use Rattle.run_law.specs.Soundness.{below_sums, Begins, Sound, WritesAreQuiet}
-use Rattle.interrupt_plan.specs.{declared.Post.Post, Posts.IsGoodPost}
-use Rattle.alone_code.specs.declared.firmware.Firmware.{Firmware}
-use Rattle.alone_code.specs.{Mailboxes.is_mail, Mailboxes.is_postable, Uninterrupted.values_from}
-use Rattle.byte_scaling.specs.declared.{width.Width.Width, width.Width.TheVariants.Byte, width.Width.TheVariants.Word}
-use Rattle.byte_scaling.specs.Widths.{width_of, places}
-use Rattle.firmware_runs.specs.Facts.{Facts, FactsBeside, IsStackOfOneCall}
-use Rattle.mailbox_runs.specs.{Runs.post_writes, UsedLaws.Stepping}
-use Rattle.mailbox_runs.specs.Postings.{mailed, last_of, IsBox, AreOfSize}
-use Rattle.mailbox_runs.specs.Behind.{part_form, posted_by, not_mail, HoldsMail}
 use Rattle.mailbox_runs.proofs.Mailing.{leaves_stack, open_post, post_mailed, mailed_over}
 
 clash : (b : Bool) → b ≡ true → b ≡ false → ⊥

@@ -1,19 +1,13 @@
 -- The steps of a turn that answers up to behind the copy, and where its posts are taken.
-use Rattle.std.proofs.Common.{◌≡◌, ℕ, zero, suc, ◌+◌, ◌-◌, ◌<◌, ◌≤◌, max, Bool, true, false, not, Result, List, [], ◌∷◌}
-use Rattle.std.proofs.Common.{length, refl, sym, ap, ◌∙◌, subst, arith, inl, inr}
-use Rattle.std.proofs.lemmas.Bool.{cases_lt}
-use Rattle.cpu12_isa.specs.declared.instr.Instr.{Instr}
-use Rattle.cpu12_parts.specs.declared.temps.Temps.TheVariants.{Free}
-use Rattle.cpu12_parts.specs.{State.State, Whole.IsPlainStep, Executions.Execution}
-use Rattle.cpu12_emul.specs.declared.{ends.Stepped.Stepped, ends.Stepped.TheVariants.Plain}
-use Rattle.cpu12_emul.specs.{Image.image_memory, Step.Next, Step.is_part, Take.may_interrupt}
-use Rattle.run_law.specs.{Forms.one_if, Moments.TakenAtFirstOpen}
-use Rattle.run_law.specs.Uninterrupted.{uninterrupted, counted, is_inside, stepped, state_by, kind_by, kind_at}
+use Rattle.mailbox_runs.proofs.Words.{[], ◌+◌, ◌-◌, ◌<◌, ◌∙◌, ◌∷◌, ◌≡◌, ◌≤◌, ap, arith, Bool, cases_lt, counted}
+use Rattle.mailbox_runs.proofs.Words.{Execution, false, Firmware, Free, image_memory, inl, inr, Instr, is_inside}
+use Rattle.mailbox_runs.proofs.Words.{is_part, IsAnswerRun, IsMaskedStep, IsPlainStep, kind_by, length, List, max}
+use Rattle.mailbox_runs.proofs.Words.{may_interrupt, MemoryMap, Next, not, one_if, Plain, PlainStepLaws, refl, Result}
+use Rattle.mailbox_runs.proofs.Words.{State, state_by, stepped, subst, suc, sym, TakenAtFirstOpen, true}
+use Rattle.mailbox_runs.proofs.Words.{uninterrupted, uninterrupted_add, zero, ℕ}
+use Rattle.cpu12_emul.specs.{declared.ends.Stepped.Stepped}
+use Rattle.run_law.specs.{Uninterrupted.kind_at}
 use Rattle.run_law.specs.Uninterrupted.{first_open}
-use Rattle.run_law.proofs.Algebra.{uninterrupted_add}
-use Rattle.alone_code.specs.{declared.firmware.Firmware.Firmware, Turns.IsMaskedStep}
-use Rattle.eval_code.specs.declared.memory_map.MemoryMap.{MemoryMap}
-use Rattle.mailbox_runs.specs.{UninterruptedTurns.IsAnswerRun, UsedLaws.PlainStepLaws}
 use Rattle.mailbox_runs.proofs.{Passing.plain_next, TwoSteps.IsHere, TwoSteps.here_at}
 
 -- a plain step

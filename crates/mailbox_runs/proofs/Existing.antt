@@ -1,11 +1,9 @@
 -- Good posts have turns: each turn brings the run nearer to its end.
-use Rattle.std.proofs.Common.{◌≡◌, ◌≢◌, ℕ, zero, suc, ◌+◌, ◌-◌, ◌*◌, ◌<◌, ◌≤◌, nat_le, Bool, true, false, List, [], ◌∷◌}
-use Rattle.std.proofs.Common.{◌++◌, length, min, refl, sym, ap, ◌∙◌, arith, ◌⊎◌, inl, inr, length-append}
-use Rattle.std.specs.Prelude.{All, ◌==◌, if◌then◌else◌}
-use Rattle.std.proofs.lemmas.Bool.Decides.{nat_tests}
-use Rattle.interrupt_plan.specs.{declared.Post.Post, Posts.IsGoodPost}
-use Rattle.mailbox_runs.specs.Turns.{Turn, AreTurns, over, idle, answers, up_to, behind, waiting, taken_from}
-use Rattle.mailbox_runs.specs.TurnsExist.{PostsHaveTurns}
+use Rattle.mailbox_runs.proofs.Words.{[], ◌*◌, ◌++◌, ◌+◌, ◌-◌, ◌<◌, ◌∙◌, ◌∷◌, ◌≡◌, ◌≢◌, ◌≤◌, ◌⊎◌, answers, ap}
+use Rattle.mailbox_runs.proofs.Words.{AreTurns, arith, behind, Bool, false, idle, if◌then◌else◌, inl, inr, IsGoodPost}
+use Rattle.mailbox_runs.proofs.Words.{length, length-append, List, min, nat_le, nat_tests, over, Post, PostsHaveTurns}
+use Rattle.mailbox_runs.proofs.Words.{refl, suc, sym, taken_from, true, Turn, up_to, waiting, zero, ℕ}
+use Rattle.std.specs.{Prelude.All, Prelude.◌==◌}
 use Rattle.mailbox_runs.proofs.LastOnes.{split, zero_or, not_zero, further}
 
 -- posts that come by a moment

@@ -1,10 +1,7 @@
 -- The turns of good posts answer samples that there are, in as many steps as is said.
-use Rattle.std.proofs.Common.{◌≡◌, ℕ, ◌+◌, ◌-◌, ◌≤◌, ◌==◌, false, List, [], ◌∷◌, ◌++◌, All, length, inl, inr, refl, sym}
-use Rattle.std.proofs.Common.{subst, arith}
-use Rattle.std.proofs.lemmas.Bool.Decides.{nat_tests}
-use Rattle.interrupt_plan.specs.{declared.Post.Post, Posts.IsGoodPost}
-use Rattle.mailbox_runs.specs.Turns.{Turn, AreTurns, over, idle, answers, up_to, behind, waiting}
-use Rattle.mailbox_runs.specs.UninterruptedTurns.{HasSteps, HaveSteps, TurnsHaveSteps}
+use Rattle.mailbox_runs.proofs.Words.{[], ◌++◌, ◌+◌, ◌-◌, ◌==◌, ◌∷◌, ◌≡◌, ◌≤◌, All, answers, AreTurns, arith, behind}
+use Rattle.mailbox_runs.proofs.Words.{false, HasSteps, HaveSteps, idle, inl, inr, IsGoodPost, length, List, nat_tests}
+use Rattle.mailbox_runs.proofs.Words.{over, Post, refl, subst, sym, Turn, TurnsHaveSteps, up_to, waiting, ℕ}
 use Rattle.mailbox_runs.proofs.{OneList.answering, LastOnes.some_answered}
 use Rattle.mailbox_runs.proofs.Postings.{first_within, posts_behind, all_drop}
 

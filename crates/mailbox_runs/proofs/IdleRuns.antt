@@ -1,15 +1,9 @@
 -- An idle turn, under posts.
-use Rattle.std.proofs.Common.{◌≡◌, ℕ, suc, ◌+◌, ◌-◌, false, List, [], ◌++◌, map, refl, sym, ap, ◌∙◌, subst, arith}
-use Rattle.std.proofs.Common.{append-nil}
-use Rattle.cpu12_isa.specs.{declared.instr.Regs.Regs, Agreement.Agree, Regions.is_free, Regions.is_hidden}
-use Rattle.cpu12_parts.specs.State.{State}
-use Rattle.cpu12_emul.specs.{Image.image_memory, Take.FrameSeen, Simulation.Same}
-use Rattle.run_law.specs.Forms.{run_from}
-use Rattle.interrupt_plan.specs.declared.Post.{Post}
-use Rattle.mailbox_runs.specs.Turns.{up_to, behind, waiting}
-use Rattle.mailbox_runs.specs.{Runs.TurnForm, Runs.turn_form, Postings.mailed, Postings.posted}
-use Rattle.mailbox_runs.specs.PostedTurns.{TurnEnds, plain_frame, IdleTurnsFollow}
-use Rattle.mailbox_runs.specs.UsedLaws.{PlainStepLaws, TakingLaws}
+use Rattle.mailbox_runs.proofs.Words.{[], ◌++◌, ◌+◌, ◌-◌, ◌∙◌, ◌≡◌, Agree, ap, append-nil, arith, behind, false}
+use Rattle.mailbox_runs.proofs.Words.{FrameSeen, image_memory, is_free, is_hidden, List, mailed, map, plain_frame}
+use Rattle.mailbox_runs.proofs.Words.{PlainStepLaws, Post, posted, refl, Regs, run_from, Same, State, subst, suc, sym}
+use Rattle.mailbox_runs.proofs.Words.{TakingLaws, turn_form, TurnEnds, TurnForm, up_to, waiting, ℕ}
+use Rattle.mailbox_runs.specs.{PostedTurns.IdleTurnsFollow}
 use Rattle.mailbox_runs.proofs.Passing.{ends_there, at_once, pass_end}
 use Rattle.mailbox_runs.proofs.TwoSteps.{here_at, two_steps}
 

@@ -1,7 +1,5 @@
 -- The turns of a firmware with one input and turns of 39 steps, so that posts meet the definition.
-use Rattle.std.proofs.Common.{ℕ, List, [], ◌∷◌, refl, arith}
-use Rattle.interrupt_plan.specs.declared.Post.{Post}
-use Rattle.mailbox_runs.specs.Turns.{Turn, AreTurns, over, idle, answers}
+use Rattle.mailbox_runs.proofs.Words.{[], ◌∷◌, answers, AreTurns, arith, idle, List, over, Post, refl, Turn, ℕ}
 
 abbrev steps : List ℕ → ℕ
 steps samples = 39

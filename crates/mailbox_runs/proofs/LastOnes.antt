@@ -1,13 +1,10 @@
 -- The sample that is posted last is answered last, and each post is taken once.
-use Rattle.std.proofs.Common.{◌≡◌, ◌≢◌, ℕ, zero, suc, ◌+◌, ◌-◌, ◌≤◌, ◌==◌, nat_le, Bool, true, false, List, [], ◌∷◌}
-use Rattle.std.proofs.Common.{◌++◌, map, refl, sym, ap, ap₂, ◌∙◌, arith, ◌⊎◌, inl, inr}
-use Rattle.std.proofs.Common.{append_assoc, append-nil}
-use Rattle.std.specs.Prelude.{if◌then◌else◌, flat_map}
-use Rattle.std.proofs.lemmas.List.{map-append}
-use Rattle.std.proofs.lemmas.Bool.Decides.{nat_tests}
-use Rattle.interrupt_plan.specs.declared.Post.{Post}
-use Rattle.mailbox_runs.specs.Turns.{Turn, AreTurns, LastIsAnswered, AllAreTaken, over, idle, answers, up_to, behind}
-use Rattle.mailbox_runs.specs.Turns.{waiting, taken_from, samples_of}
+use Rattle.mailbox_runs.proofs.Words.{[], ◌++◌, ◌+◌, ◌-◌, ◌==◌, ◌∙◌, ◌∷◌, ◌≡◌, ◌≢◌, ◌≤◌, ◌⊎◌, answers, ap, append-nil}
+use Rattle.mailbox_runs.proofs.Words.{append_assoc, ap₂, AreTurns, arith, behind, Bool, false, idle, if◌then◌else◌}
+use Rattle.mailbox_runs.proofs.Words.{inl, inr, List, map, map-append, nat_le, nat_tests, over, Post, refl}
+use Rattle.mailbox_runs.proofs.Words.{samples_of, suc, sym, taken_from, true, Turn, up_to, waiting, zero, ℕ}
+use Rattle.std.specs.{Prelude.flat_map}
+use Rattle.mailbox_runs.specs.{Turns.LastIsAnswered, Turns.AllAreTaken}
 use Rattle.mailbox_runs.proofs.{Postings.waits_some, OneList.answering}
 
 split_by : (b : Bool) (k : ℕ) (p : Post) (ps : List Post) → nat_le p.moment k ≡ b → up_to k ps ++ behind k ps ≡ ps

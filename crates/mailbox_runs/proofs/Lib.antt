@@ -28,3 +28,4 @@ pub mod SampleRuns
 pub mod TurnSteps
 pub mod TurnRuns
 pub mod RunsOfTurns
+pub mod Words

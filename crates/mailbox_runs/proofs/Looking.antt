@@ -1,14 +1,11 @@
 -- What an idle turn changes is forgotten at the next look.
-use Rattle.std.proofs.Common.{◌≡◌, ℕ, ◌^◌, ◌<◌, ◌==◌, nat_le, Bool, true, false, List, [], ◌∷◌, get_or, set, refl, sym}
-use Rattle.std.proofs.Common.{ap, ap₂, ◌∙◌, arith}
-use Rattle.cpu12_isa.specs.declared.{instr.Ccr.Ccr, instr.Regs.Regs}
-use Rattle.cpu12_isa.specs.declared.instr.Instr.TheVariants.{LdaaExtended, Beq}
-use Rattle.cpu12_isa.specs.Flags.{put, tested, has, zero_result}
-use Rattle.cpu12_isa.specs.{Memory.plus, Registers.loaded_a, Registers.branched}
+use Rattle.mailbox_runs.proofs.Words.{[], ◌<◌, ◌==◌, ◌^◌, ◌∙◌, ◌∷◌, ◌≡◌, ap, ap₂, arith, Beq, Bool, false, get_or}
+use Rattle.mailbox_runs.proofs.Words.{given, has, IsChoice, IsLook, LdaaExtended, List, MemoryMap, nat_le, plus, refl}
+use Rattle.mailbox_runs.proofs.Words.{Regs, set, State, sym, Temps, true, zero_result, ℕ}
+use Rattle.cpu12_isa.specs.{declared.instr.Ccr.Ccr, Flags.put, Flags.tested, Registers.loaded_a, Registers.branched}
+use Rattle.cpu12_parts.specs.{Whole.after_plain}
+use Rattle.eval_code.specs.{Evaluation.put as put_bytes}
 use Rattle.cpu12_isa.proofs.Algebra.{bit, bit_or_is, bit_and_is, same_ccr, fits_put}
-use Rattle.cpu12_parts.specs.{declared.temps.Temps.Temps, State.State, Whole.after_plain}
-use Rattle.eval_code.specs.{declared.memory_map.MemoryMap.MemoryMap, Evaluation.put as put_bytes}
-use Rattle.alone_code.specs.{Answers.given, Turns.IsLook, Turns.IsChoice}
 
 -- N, Z and V put twice
 abbrev three : Ccr → Bool → Bool → Ccr

@@ -1,21 +1,13 @@
 -- What the handler of a post leaves in memory.
-use Rattle.std.proofs.Common.{◌≡◌, ℕ, suc, ◌+◌, ◌-◌, ◌<◌, ◌≤◌, nat_le, nat_lt, Bool, true, false, ◌&&◌, List, [], ◌∷◌}
-use Rattle.std.proofs.Common.{◌++◌, length, set, refl, sym, ap, ◌∙◌, subst, arith, ◌⊎◌, inl, inr, append_assoc}
-use Rattle.std.specs.Prelude.{All, ◌==◌, ◌||◌, if◌then◌else◌}
-use Rattle.std.proofs.lemmas.Bool.{or_parts, cases_lt}
-use Rattle.std.proofs.lemmas.Bool.Decides.{nat_tests}
-use Rattle.cpu12_isa.specs.declared.instr.Write.{Write}
-use Rattle.cpu12_isa.specs.{Act.write_all, Agreement.Agree, Agreement.IsWritten, Memory.plus, Memory.placed}
-use Rattle.cpu12_isa.specs.{Registers.frame_bytes, Regions.is_free, Regions.is_hidden, Regions.LeavesStack}
-use Rattle.cpu12_isa.proofs.Algebra.{agree_self, agree_with}
-use Rattle.cpu12_parts.specs.State.{State}
-use Rattle.cpu12_emul.specs.{Take.pairs_of, Take.framed, Simulation.AreOpen}
-use Rattle.interrupt_plan.specs.declared.Post.{Post}
-use Rattle.eval_code.specs.{declared.memory_map.MemoryMap.MemoryMap, Evaluation.put}
-use Rattle.alone_code.specs.Mailboxes.{is_postable}
-use Rattle.alone_runs.specs.Rows.{bytes_of}
-use Rattle.mailbox_runs.specs.{Runs.writes_from, Runs.post_writes, UsedLaws.Writing}
-use Rattle.mailbox_runs.specs.Postings.{mailed, last_of, IsBox, AreOfSize}
+use Rattle.mailbox_runs.proofs.Words.{[], ◌&&◌, ◌++◌, ◌+◌, ◌-◌, ◌<◌, ◌||◌, ◌∙◌, ◌∷◌, ◌≡◌, ◌≤◌, ◌⊎◌, Agree, agree_self}
+use Rattle.mailbox_runs.proofs.Words.{agree_with, ap, append_assoc, AreOfSize, arith, Bool, bytes_of, cases_lt, false}
+use Rattle.mailbox_runs.proofs.Words.{framed, if◌then◌else◌, inl, inr, is_free, is_hidden, is_postable, IsBox}
+use Rattle.mailbox_runs.proofs.Words.{IsWritten, last_of, length, List, mailed, MemoryMap, nat_le, nat_lt, nat_tests}
+use Rattle.mailbox_runs.proofs.Words.{or_parts, placed, plus, Post, post_writes, put, refl, set, State, subst, suc}
+use Rattle.mailbox_runs.proofs.Words.{sym, true, Write, write_all, writes_from, Writing, ℕ}
+use Rattle.std.specs.{Prelude.All, Prelude.◌==◌}
+use Rattle.cpu12_isa.specs.{Registers.frame_bytes, Regions.LeavesStack}
+use Rattle.cpu12_emul.specs.{Take.pairs_of, Simulation.AreOpen}
 
 -- ---- lists of writes
 

@@ -1,19 +1,15 @@
 -- A run by its next turn: where it is over, and where the turn comes to its end or to none.
-use Rattle.std.proofs.Common.{◌≡◌, ℕ, zero, suc, ◌+◌, ◌-◌, ◌≤◌, ◌==◌, Bool, true, false, ◌&&◌, List, [], ◌++◌}
-use Rattle.std.proofs.Common.{length, take, drop, refl, ap, ap₂, sym, ◌∙◌, arith, append_assoc, append-nil}
-use Rattle.std.specs.Prelude.{slice_index}
-use Rattle.cpu12_parts.specs.State.{State}
-use Rattle.cpu12_emul.specs.Take.{FrameSeen}
-use Rattle.run_law.specs.{Forms.Taking, Forms.Ran, Forms.takes, Forms.is_empty, Forms.run_from, Following.asked}
+use Rattle.mailbox_runs.proofs.Words.{[], ◌&&◌, ◌++◌, ◌+◌, ◌-◌, ◌==◌, ◌∙◌, ◌≡◌, ◌≤◌, answers_by, AnswerSeen, ap}
+use Rattle.mailbox_runs.proofs.Words.{append-nil, append_assoc, ap₂, arith, asked, before_turns, Bool, Brought, drop}
+use Rattle.mailbox_runs.proofs.Words.{false, Firmware, FrameSeen, is_empty, is_over, length, List, no_turn, notes_of}
+use Rattle.mailbox_runs.proofs.Words.{Post, Ran, refl, run_from, RunSeen, slice_index, State, suc, sym, take, takes}
+use Rattle.mailbox_runs.proofs.Words.{Taking, then_turns, true, turn_form, turns_from, waiting, waits_by, with_before}
+use Rattle.mailbox_runs.proofs.Words.{with_rest, zero, ℕ}
+use Rattle.run_forms.specs.Rest.{Brief, brief, after, rest_at}
+use Rattle.mailbox_runs.specs.{Tallies.Counted, Tallies.counted_at}
 use Rattle.run_forms.specs.declared.{sample.Room.Room, sample.Tally.Tally}
-use Rattle.run_forms.specs.Rest.{Brought, with_before, Brief, brief, after, rest_at}
 use Rattle.run_forms.specs.Rest as rest
 use Rattle.run_forms.proofs.Algebra.{ran_told}
-use Rattle.interrupt_plan.specs.declared.Post.{Post}
-use Rattle.alone_code.specs.declared.firmware.Firmware.{Firmware}
-use Rattle.mailbox_runs.specs.{Turns.waiting, Tallies.notes_of, Tallies.Counted, Tallies.counted_at, Tallies.with_rest}
-use Rattle.mailbox_runs.specs.Runs.{turn_form, AnswerSeen, RunSeen, no_turn, before_turns, answers_by, waits_by}
-use Rattle.mailbox_runs.specs.Runs.{then_turns, is_over, turns_from}
 use Rattle.mailbox_runs.proofs.Running.{run_over, run_turn, slice_is}
 
 -- A turn begins: what is due is taken, which leads from tally t and state s to t1 and s1, and then sample v waits,

@@ -1,8 +1,7 @@
 -- Posts have one list of turns.
-use Rattle.std.proofs.Common.{◌≡◌, ℕ, ◌+◌, ◌-◌, List, [], ◌∷◌, ◌++◌, sym, ap, ap₂, ◌∙◌, subst}
-use Rattle.interrupt_plan.specs.declared.Post.{Post}
-use Rattle.mailbox_runs.specs.Turns.{Turn, AreTurns, TurnsAreOne, over, idle, answers, up_to, behind, waiting}
-use Rattle.mailbox_runs.specs.Turns.{taken_from}
+use Rattle.mailbox_runs.proofs.Words.{[], ◌++◌, ◌+◌, ◌-◌, ◌∙◌, ◌∷◌, ◌≡◌, answers, ap, ap₂, AreTurns, behind, idle}
+use Rattle.mailbox_runs.proofs.Words.{List, over, Post, subst, sym, taken_from, Turn, up_to, waiting, ℕ}
+use Rattle.mailbox_runs.specs.{Turns.TurnsAreOne}
 
 -- a turn that answers sample s up to boundary e
 abbrev pub answering : (n g e s : ℕ) (steps : List ℕ → ℕ) (done : List ℕ) (posts : List Post) → Turn

@@ -1,29 +1,20 @@
 -- A boundary of a turn, and its next step.
-use Rattle.std.proofs.Common.{◌≡◌, ◌≢◌, ℕ, zero, suc, ◌+◌, ◌-◌, ◌<◌, ◌≤◌, nat_le, nat_lt, Bool, true, false, not}
-use Rattle.std.proofs.Common.{◌&&◌, Ok, Result, List, [], ◌∷◌, ◌++◌, drop, length, refl, sym, ap, ◌∙◌, subst, arith}
-use Rattle.std.proofs.Common.{◌⊎◌, inl, inr}
+use Rattle.mailbox_runs.proofs.Words.{[], ◌&&◌, ◌++◌, ◌+◌, ◌-◌, ◌<◌, ◌∙◌, ◌∷◌, ◌≡◌, ◌≢◌, ◌≤◌, ◌⊎◌, Agree, AllShown}
+use Rattle.mailbox_runs.proofs.Words.{ap, applied, AreOfSize, AreSumsReady, arith, asked, before_rest, Bool, drop}
+use Rattle.mailbox_runs.proofs.Words.{End, Execution, false, Firmware, FrameSeen, Free, has, HasRoom, inl, inr, Instr}
+use Rattle.mailbox_runs.proofs.Words.{interrupts_masked, is_free, is_hidden, is_mail, is_postable, IsBox}
+use Rattle.mailbox_runs.proofs.Words.{IsMaskedStep, IsPlainStep, IsShownStep, Left, length, List, map-append}
+use Rattle.mailbox_runs.proofs.Words.{may_interrupt, nat_le, nat_lt, nat_tests, Next, next_of, not, Ok, or_parts}
+use Rattle.mailbox_runs.proofs.Words.{outcome, Plain, PlainStepLaws, Post, Ran, refl, Regs, Result, run_from, Same}
+use Rattle.mailbox_runs.proofs.Words.{six_from, State, step_act, subst, suc, sym, takes, Taking, TakingLaws, Temps}
+use Rattle.mailbox_runs.proofs.Words.{true, turn_form, TurnEnds, TurnForm, write_all, zero, ℕ}
+use Rattle.cpu12_isa.specs.{Act.read_by, Agreement.Uncovers}
+use Rattle.cpu12_emul.specs.{Simulation.PlainIsStep}
+use Rattle.run_law.specs.{Forms.ended}
+use Rattle.alone_code.specs.{Interruptible.IsSteady, Interruptible.IsShownPlain}
 use Rattle.std.specs.Prelude.{◌==◌}
-use Rattle.std.proofs.lemmas.Bool.{or_parts}
-use Rattle.std.proofs.lemmas.Bool.Decides.{nat_tests}
-use Rattle.std.proofs.lemmas.List.{map-append}
-use Rattle.cpu12_isa.specs.declared.{instr.Instr.Instr, instr.Regs.Regs}
-use Rattle.cpu12_isa.specs.Act.{outcome, read_by, write_all}
-use Rattle.cpu12_isa.specs.Agreement.{Agree, AllShown, Uncovers}
-use Rattle.cpu12_isa.specs.{Code.six_from, Flags.interrupts_masked, Flags.has, Regions.is_free, Regions.is_hidden}
 use Rattle.cpu12_isa.specs.Meaning.{Effect, act_of, effect}
 use Rattle.cpu12_isa.proofs.Algebra.{shown_append}
-use Rattle.cpu12_parts.specs.declared.{temps.Temps.Temps, temps.Temps.TheVariants.Free}
-use Rattle.cpu12_parts.specs.{State.State, Whole.IsPlainStep, Executions.Execution}
-use Rattle.cpu12_emul.specs.{declared.ends.Stepped.TheVariants.Plain, Take.FrameSeen, Take.may_interrupt}
-use Rattle.cpu12_emul.specs.Step.{Left, Next, step_act, applied, next_of}
-use Rattle.cpu12_emul.specs.Simulation.{Same, HasRoom, IsShownStep, AreSumsReady, PlainIsStep}
-use Rattle.run_law.specs.Forms.{Taking, Ran, takes, before_rest, run_from, ended}
-use Rattle.run_law.specs.Following.{asked}
-use Rattle.interrupt_plan.specs.declared.Post.{Post}
-use Rattle.alone_code.specs.{declared.firmware.Firmware.Firmware, Interruptible.IsSteady, Interruptible.IsShownPlain}
-use Rattle.alone_code.specs.{Mailboxes.is_mail, Mailboxes.is_postable, Turns.IsMaskedStep}
-use Rattle.mailbox_runs.specs.{Runs.TurnForm, Runs.turn_form, PostedTurns.End, PostedTurns.TurnEnds}
-use Rattle.mailbox_runs.specs.{Postings.IsBox, Postings.AreOfSize, UsedLaws.PlainStepLaws, UsedLaws.TakingLaws}
 use Rattle.mailbox_runs.proofs.Posting.{took_none}
 
 abbrev pub plainly : State → Result Next ℕ

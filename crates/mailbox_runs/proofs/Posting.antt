@@ -1,22 +1,15 @@
 -- All posts that are due at a boundary where I is 0 are taken there.
-use Rattle.std.proofs.Common.{◌≡◌, ℕ, zero, suc, ◌≤◌, nat_le, Bool, true, false, not, ◌&&◌, List, [], ◌∷◌, length, map}
-use Rattle.std.proofs.Common.{refl, sym, ap, ap₂, ◌∙◌, subst, arith, inl, inr}
-use Rattle.std.specs.Prelude.{◌==◌, if◌then◌else◌}
-use Rattle.std.proofs.lemmas.Bool.Decides.{nat_tests}
-use Rattle.cpu12_isa.specs.{declared.instr.Regs.Regs, Agreement.Agree, Fits.FitsRegs, Flags.interrupts_masked}
-use Rattle.cpu12_isa.specs.{Flags.has, Regions.is_free, Regions.is_hidden}
-use Rattle.cpu12_isa.proofs.Algebra.{agree_self, agree_with}
-use Rattle.cpu12_parts.specs.{declared.temps.Temps.TheVariants.Free, State.State, Parts.suspended, Parts.wav}
-use Rattle.cpu12_emul.specs.Take.{FrameSeen, frame_of, frame_in, may_interrupt, framed}
-use Rattle.cpu12_emul.specs.Simulation.{Same}
-use Rattle.run_law.specs.Forms.{Taking, takes, taken, told, put_take}
-use Rattle.run_law.specs.{Following.asked, Soundness.AllGood}
-use Rattle.interrupt_plan.specs.{declared.Post.Post, Posts.IsGoodPost}
-use Rattle.alone_code.specs.{declared.firmware.Firmware.Firmware, Mailboxes.is_postable}
-use Rattle.mailbox_runs.specs.Turns.{up_to, behind, waiting}
-use Rattle.mailbox_runs.specs.Runs.{TurnForm, turn_form, post_writes}
-use Rattle.mailbox_runs.specs.Postings.{posted, last_of, IsBox, AreOfSize}
-use Rattle.mailbox_runs.specs.{PostedTurns.plain_frame, UsedLaws.TakingLaws}
+use Rattle.mailbox_runs.proofs.Words.{[], ◌&&◌, ◌∙◌, ◌∷◌, ◌≡◌, ◌≤◌, Agree, agree_self, agree_with, AllGood, ap, ap₂}
+use Rattle.mailbox_runs.proofs.Words.{AreOfSize, arith, asked, behind, Bool, false, Firmware, frame_of, framed}
+use Rattle.mailbox_runs.proofs.Words.{FrameSeen, Free, has, if◌then◌else◌, inl, inr, interrupts_masked, is_free}
+use Rattle.mailbox_runs.proofs.Words.{is_hidden, is_postable, IsBox, IsGoodPost, last_of, length, List, map}
+use Rattle.mailbox_runs.proofs.Words.{may_interrupt, nat_le, nat_tests, not, plain_frame, Post, post_writes, posted}
+use Rattle.mailbox_runs.proofs.Words.{put_take, refl, Regs, Same, State, subst, suc, suspended, sym, taken, takes}
+use Rattle.mailbox_runs.proofs.Words.{Taking, TakingLaws, told, true, turn_form, TurnForm, up_to, waiting, wav, zero}
+use Rattle.mailbox_runs.proofs.Words.{ℕ}
+use Rattle.std.specs.{Prelude.◌==◌}
+use Rattle.cpu12_isa.specs.{Fits.FitsRegs}
+use Rattle.cpu12_emul.specs.{Take.frame_in}
 use Rattle.mailbox_runs.proofs.LastOnes.{zero_or, none_put, some_put}
 use Rattle.mailbox_runs.proofs.Mailing.{leaves_stack, open_post, post_mailed, mailed_apart, mailed_over}
 

@@ -1,13 +1,10 @@
 -- Posts in their order, and the writes of one.
-use Rattle.std.proofs.Common.{◌≡◌, ℕ, zero, suc, ◌+◌, ◌-◌, ◌<◌, ◌≤◌, ◌==◌, Bool, true, false, nat_le, List, [], ◌∷◌}
-use Rattle.std.proofs.Common.{◌++◌, length, get_or, take, drop}
-use Rattle.std.proofs.Common.{refl, ap, sym, ◌∙◌, subst, arith, append_assoc, drop-cons}
-use Rattle.std.proofs.lemmas.List.Elements.{All-cons}
-use Rattle.std.specs.Prelude.{if◌then◌else◌, min, All}
-use Rattle.std.proofs.lemmas.Bool.Decides.{nat_tests}
-use Rattle.cpu12_isa.specs.{declared.instr.Write.Write, Memory.plus}
-use Rattle.interrupt_plan.specs.{declared.Post.Post, Posts.IsGoodPost}
-use Rattle.mailbox_runs.specs.{Turns.up_to, Turns.behind, Turns.waiting, Runs.writes_from}
+use Rattle.mailbox_runs.proofs.Words.{[], ◌++◌, ◌+◌, ◌-◌, ◌<◌, ◌==◌, ◌∙◌, ◌∷◌, ◌≡◌, ◌≤◌, All-cons, ap, append_assoc}
+use Rattle.mailbox_runs.proofs.Words.{arith, behind, Bool, drop, false, get_or, if◌then◌else◌, IsGoodPost, length}
+use Rattle.mailbox_runs.proofs.Words.{List, nat_le, nat_tests, plus, Post, refl, subst, suc, sym, take, true, up_to}
+use Rattle.mailbox_runs.proofs.Words.{waiting, Write, writes_from, zero, ℕ}
+use Rattle.std.proofs.{Common.drop-cons}
+use Rattle.std.specs.{Prelude.min, Prelude.All}
 
 drop_here : {A : Type 0} (xs : List A) (i : ℕ) (d : A) → i < length xs → drop i xs ≡ get_or xs i d ∷ drop (i + 1) xs
 drop_here {A = A} xs i d h =

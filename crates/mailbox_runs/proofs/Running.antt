@@ -1,19 +1,11 @@
 -- What is told of posts, and a run by its next turn.
-use Rattle.std.proofs.Common.{◌≡◌, ℕ, zero, suc, ◌+◌, ◌-◌, ◌≤◌, ◌==◌, true, false, ◌&&◌}
-use Rattle.std.proofs.Common.{List, [], ◌∷◌, ◌++◌, length, take, drop}
-use Rattle.std.proofs.Common.{refl, ap, ap₂, sym, ◌∙◌, arith, length-append, length-drop}
-use Rattle.std.specs.Prelude.{slice_index}
-use Rattle.std.proofs.lemmas.Bool.Decides.{nat_tests}
-use Rattle.cpu12_parts.specs.State.{State}
-use Rattle.cpu12_emul.specs.Take.{FrameSeen}
-use Rattle.run_law.specs.{Forms.Taking, Forms.Ran, Forms.takes, Forms.is_empty, Forms.run_from, Following.asked}
-use Rattle.interrupt_plan.specs.declared.Post.{Post}
-use Rattle.alone_code.specs.{declared.firmware.Firmware.Firmware, Uninterrupted.values_in}
-use Rattle.mailbox_runs.specs.Turns.{up_to, behind, waiting}
-use Rattle.mailbox_runs.specs.Runs.{TurnForm, turn_form, AnswerSeen, no_turn, answers_by, waits_by, then_turns}
-use Rattle.mailbox_runs.specs.Runs.{is_over, turns_from}
-use Rattle.alone_runs.specs.Rows.{bytes_of}
-use Rattle.run_forms.specs.Rest.{Brought, with_before}
+use Rattle.mailbox_runs.proofs.Words.{[], ◌&&◌, ◌++◌, ◌+◌, ◌-◌, ◌==◌, ◌∙◌, ◌∷◌, ◌≡◌, ◌≤◌, answers_by, AnswerSeen, ap}
+use Rattle.mailbox_runs.proofs.Words.{ap₂, arith, asked, behind, Brought, bytes_of, drop, false, Firmware, FrameSeen}
+use Rattle.mailbox_runs.proofs.Words.{is_empty, is_over, length, length-append, List, nat_tests, no_turn, Post, Ran}
+use Rattle.mailbox_runs.proofs.Words.{refl, run_from, slice_index, State, suc, sym, take, takes, Taking, then_turns}
+use Rattle.mailbox_runs.proofs.Words.{true, turn_form, TurnForm, turns_from, up_to, values_in, waiting, waits_by}
+use Rattle.mailbox_runs.proofs.Words.{with_before, zero, ℕ}
+use Rattle.std.proofs.{Common.length-drop}
 use Rattle.run_forms.proofs.Algebra.{taken_told}
 
 -- posts before those that are left are a slice of them

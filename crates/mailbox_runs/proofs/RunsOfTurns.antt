@@ -1,27 +1,17 @@
 -- A block's mailbox firmware runs its turns, from reset on.
-use Rattle.std.proofs.Common.{◌≡◌, ℕ, zero, suc, ◌≤◌, ◌==◌, Bool, true, false, List, [], ◌∷◌, ◌++◌, All, length, map}
-use Rattle.std.proofs.Common.{refl, sym, ap, ◌∙◌, subst, arith}
-use Rattle.std.specs.Prelude.{if◌then◌else◌}
-use Rattle.std.proofs.lemmas.Bool.Decides.{nat_tests}
-use Rattle.std.proofs.lemmas.List.Elements.{All-cons}
-use Rattle.fuzzy_meaning.specs.declared.block.Block.{Block}
-use Rattle.cpu12_parts.specs.declared.temps.Temps.TheVariants.{Free}
-use Rattle.cpu12_parts.specs.{Executions.IsUntil, State.State, Whole.PlainExecution}
-use Rattle.cpu12_emul.specs.{declared.ends.Stepped.TheVariants.Plain, Image.image_memory, Step.reset_with}
-use Rattle.run_law.specs.Uninterrupted.{uninterrupted, state_by}
-use Rattle.alone_code.specs.{declared.firmware.Firmware.Firmware, Mailboxes.mailbox_bound}
+use Rattle.mailbox_runs.proofs.Words.{[], ◌++◌, ◌==◌, ◌∙◌, ◌∷◌, ◌≡◌, ◌≤◌, All, All-cons, answer_in, ap, AreAnswersOf}
+use Rattle.mailbox_runs.proofs.Words.{AreInputBytes, AreSteps, AreUninterrupted, arith, arrival, Block, Bool}
+use Rattle.mailbox_runs.proofs.Words.{bytes_of, false, Firmware, Free, HasSteps, HaveSteps, if◌then◌else◌}
+use Rattle.mailbox_runs.proofs.Words.{image_memory, InstructionsAreSteps, is_waiting, IsUntil, length, List}
+use Rattle.mailbox_runs.proofs.Words.{MailboxRunsTurns, map, MemoryMap, nat_tests, Plain, PlainIsOneStep, refl}
+use Rattle.mailbox_runs.proofs.Words.{run_of_turns, samples_of, State, state_by, steps_by, steps_of, subst, suc, sym}
+use Rattle.mailbox_runs.proofs.Words.{true, Turn, uninterrupted, Width, width_of, zero, ℕ}
+use Rattle.cpu12_parts.specs.{Whole.PlainExecution}
+use Rattle.cpu12_emul.specs.{Step.reset_with}
+use Rattle.alone_code.specs.{Mailboxes.mailbox_bound, Uninterrupted.UninterruptedAreOne}
+use Rattle.eval_code.specs.{Bounds.instruction_bound}
 use Rattle.alone_code.specs.{SampleTurns.MailboxTakesSamples, Turns.MailboxTakesPosts, Turns.MailboxIsUninterrupted}
-use Rattle.alone_code.specs.Uninterrupted.{is_waiting, AreUninterrupted, AreAnswersOf, UninterruptedAreOne}
-use Rattle.eval_code.specs.declared.memory_map.MemoryMap.{MemoryMap}
-use Rattle.eval_code.specs.{Bounds.instruction_bound, Bounds.steps_by, Firing.AreInputBytes}
-use Rattle.byte_scaling.specs.{declared.width.Width.Width, Widths.width_of}
-use Rattle.run_forms.specs.Arrival.{PlainIsOneStep}
-use Rattle.firmware_runs.specs.Instructions.{AreSteps, InstructionsAreSteps}
-use Rattle.mailbox_runs.specs.{Turns.Turn, Turns.samples_of, Runs.arrival, Runs.steps_of}
 use Rattle.mailbox_runs.proofs.{Alone.IsAlone, Alone.alone, Looking.alike_self, TurnSteps.Setting, TurnSteps.Waits}
-use Rattle.mailbox_runs.specs.Answering.{run_of_turns, answer_in}
-use Rattle.mailbox_runs.specs.UninterruptedTurns.{HasSteps, HaveSteps, MailboxRunsTurns}
-use Rattle.alone_runs.specs.Rows.{bytes_of}
 use Rattle.mailbox_runs.proofs.WholeTurns.{IsBusy, no_step, one_step, steps_on}
 use Rattle.mailbox_runs.proofs.TurnRuns.{all_run, sample_bytes}
 

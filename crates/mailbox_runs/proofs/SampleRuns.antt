@@ -1,21 +1,11 @@
 -- The turn of a sample by its steps.
-use Rattle.std.proofs.Common.{◌≡◌, ◌≢◌, ℕ, suc, ◌+◌, ◌-◌, ◌^◌, ◌<◌, ◌≤◌, true, Ok, List, [], ◌∷◌, ◌++◌, length, sym, ap}
-use Rattle.std.proofs.Common.{◌∙◌, subst, arith}
-use Rattle.fuzzy_meaning.specs.declared.block.Block.{Block}
-use Rattle.cpu12_isa.specs.declared.instr.Instr.TheVariants.{LdaaExtended, Beq, Orcc}
-use Rattle.cpu12_parts.specs.{Executions.IsUntil, Executions.all_steps, State.State}
-use Rattle.cpu12_parts.specs.declared.temps.Temps.TheVariants.{Free}
-use Rattle.cpu12_emul.specs.{declared.ends.Stepped.TheVariants.Plain, Image.image_memory, Step.next_of}
-use Rattle.run_law.specs.{Uninterrupted.state_by, Uninterrupted.uninterrupted, Soundness.Before}
-use Rattle.run_law.proofs.Algebra.{uninterrupted_add}
-use Rattle.alone_code.specs.{declared.firmware.Firmware.Firmware, Answers.given, Interruptible.is_idle}
-use Rattle.alone_code.specs.{Mailboxes.is_postable, Mailboxes.IsMailboxOf, SampleTurns.IsSampleTurn}
-use Rattle.alone_code.specs.Turns.{IsAt, IsLook, IsChoice, IsCopied, call_of}
-use Rattle.eval_code.specs.{declared.memory_map.MemoryMap.MemoryMap, Bounds.steps_by}
-use Rattle.byte_scaling.specs.Widths.{width_of}
-use Rattle.run_forms.specs.Arrival.{PlainIsOneStep}
-use Rattle.firmware_runs.specs.Instructions.{AreSteps, IsServing, InstructionsAreSteps}
-use Rattle.mailbox_runs.specs.UninterruptedTurns.{IsAnswerRun}
+use Rattle.mailbox_runs.proofs.Words.{[], ◌++◌, ◌+◌, ◌-◌, ◌<◌, ◌^◌, ◌∙◌, ◌∷◌, ◌≡◌, ◌≢◌, ◌≤◌, all_steps, ap, AreSteps}
+use Rattle.mailbox_runs.proofs.Words.{arith, Before, Beq, Block, Firmware, Free, given, image_memory}
+use Rattle.mailbox_runs.proofs.Words.{InstructionsAreSteps, is_idle, is_postable, IsAnswerRun, IsAt, IsChoice, IsLook}
+use Rattle.mailbox_runs.proofs.Words.{IsMailboxOf, IsServing, IsUntil, LdaaExtended, length, List, MemoryMap, next_of}
+use Rattle.mailbox_runs.proofs.Words.{Ok, Orcc, Plain, PlainIsOneStep, State, state_by, steps_by, subst, suc, sym}
+use Rattle.mailbox_runs.proofs.Words.{true, uninterrupted, uninterrupted_add, width_of, ℕ}
+use Rattle.alone_code.specs.{SampleTurns.IsSampleTurn, Turns.IsCopied, Turns.call_of}
 use Rattle.mailbox_runs.proofs.WholeTurns.{IsBusy, one_step, steps_append, steps_on, masked_steps, masked_count}
 use Rattle.mailbox_runs.proofs.Serving.{IsServed, served, busy_by, facts_by}
 

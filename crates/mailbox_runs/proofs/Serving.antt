@@ -1,15 +1,10 @@
 -- Behind the call POSTED is not written, so that PC is not where the code waits before the end.
-use Rattle.std.proofs.Common.{◌≡◌, inl, inr, ℕ, zero, suc, Bool, true, false, Result, Ok, List, [], ◌∷◌, get_or, refl}
-use Rattle.std.proofs.Common.{sym, ap, ◌∙◌, arith, min}
-use Rattle.std.proofs.lemmas.Bool.Decides.{nat_tests}
-use Rattle.cpu12_isa.specs.{Act.write_all, Agreement.AllShown, Agreement.IsWritten, Regions.is_hidden}
+use Rattle.mailbox_runs.proofs.Words.{[], ◌∙◌, ◌∷◌, ◌≡◌, addresses, AllShown, ap, applied, arith, Before, Bool, Facts}
+use Rattle.mailbox_runs.proofs.Words.{FactsBeside, false, Firmware, get_or, image_memory, inl, inr, is_hidden}
+use Rattle.mailbox_runs.proofs.Words.{is_idle, is_postable, IsServing, IsWritten, Left, List, MemoryMap, min}
+use Rattle.mailbox_runs.proofs.Words.{nat_tests, Next, next_of, Ok, refl, Result, State, state_by, stepped, suc, sym}
+use Rattle.mailbox_runs.proofs.Words.{true, write_all, zero, ℕ}
 use Rattle.cpu12_isa.proofs.Algebra.{unwritten}
-use Rattle.cpu12_parts.specs.{Laws.addresses, State.State}
-use Rattle.cpu12_emul.specs.{Image.image_memory, Step.Left, Step.Next, Step.applied, Step.next_of}
-use Rattle.run_law.specs.{Uninterrupted.stepped, Uninterrupted.state_by, Soundness.Before}
-use Rattle.alone_code.specs.{declared.firmware.Firmware.Firmware, Interruptible.is_idle, Mailboxes.is_postable}
-use Rattle.eval_code.specs.declared.memory_map.MemoryMap.{MemoryMap}
-use Rattle.firmware_runs.specs.{Facts.Facts, Facts.FactsBeside, Instructions.IsServing}
 use Rattle.mailbox_runs.proofs.WholeTurns.{IsBusy}
 
 -- a state behind the call, in which no sample is posted

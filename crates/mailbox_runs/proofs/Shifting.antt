@@ -1,14 +1,12 @@
 -- A run with boundaries counted from a later one.
-use Rattle.std.proofs.Common.{◌≡◌, ℕ, zero, suc, ◌+◌, ◌-◌, ◌≤◌, nat_le, Bool, true, false, not, ◌&&◌, Result, Ok, Err}
-use Rattle.std.proofs.Common.{List, [], ◌∷◌, ◌++◌, refl, sym, ap, ap₂, ◌∙◌, arith}
-use Rattle.std.specs.Prelude.{if◌then◌else◌}
-use Rattle.std.proofs.lemmas.Bool.Decides.{nat_tests}
-use Rattle.std.proofs.lemmas.List.{map-append}
-use Rattle.cpu12_parts.specs.State.{State}
-use Rattle.cpu12_emul.specs.{Step.Next, Step.next_of, Step.is_part, Take.FrameSeen, Take.frame_of, Take.may_interrupt}
-use Rattle.run_law.specs.Forms.{Form, Taking, Ran, takes, taken, told, put_take, is_empty, one_if, then_rest}
-use Rattle.run_law.specs.Forms.{run_from, ended}
-use Rattle.mailbox_runs.specs.Shifts.{counted_from, frames_from, ran_from, RunsCountOn}
+use Rattle.mailbox_runs.proofs.Words.{[], ◌&&◌, ◌++◌, ◌+◌, ◌-◌, ◌∙◌, ◌∷◌, ◌≡◌, ◌≤◌, ap, ap₂, arith, Bool, false}
+use Rattle.mailbox_runs.proofs.Words.{frame_of, frames_from, FrameSeen, if◌then◌else◌, is_empty, is_part, List}
+use Rattle.mailbox_runs.proofs.Words.{map-append, may_interrupt, nat_le, nat_tests, Next, next_of, not, Ok, one_if}
+use Rattle.mailbox_runs.proofs.Words.{put_take, Ran, ran_from, refl, Result, run_from, State, suc, sym, taken, takes}
+use Rattle.mailbox_runs.proofs.Words.{Taking, told, true, zero, ℕ}
+use Rattle.std.proofs.{Common.Err}
+use Rattle.run_law.specs.{Forms.Form, Forms.then_rest, Forms.ended}
+use Rattle.mailbox_runs.specs.{Shifts.counted_from, Shifts.RunsCountOn}
 
 module _ {S A B : Type 0} (f : Form S A B) (g : ℕ) where
   abbrev taking_from : Taking A B → Taking A B

@@ -1,16 +1,11 @@
 -- What is expected of the posts of a turn, boundary by boundary.
-use Rattle.std.proofs.Common.{◌≡◌, ℕ, zero, suc, ◌+◌, ◌-◌, ◌<◌, ◌≤◌, nat_le, nat_lt, max, Bool, true, false, ◌&&◌}
-use Rattle.std.proofs.Common.{Option, Some, None, List, [], ◌∷◌, ◌++◌, map, refl, ap, ap₂, ◌∙◌, arith}
-use Rattle.std.specs.Prelude.{◌==◌, ◌||◌, if◌then◌else◌}
-use Rattle.std.proofs.lemmas.Bool.Decides.{nat_tests}
-use Rattle.cpu12_parts.specs.{declared.temps.Temps.TheVariants.Free, State.State}
-use Rattle.cpu12_emul.specs.Take.{FrameSeen}
-use Rattle.run_law.specs.{Forms.one_if, Soundness.AllGood, Soundness.Ascend}
-use Rattle.run_law.specs.Uninterrupted.{uninterrupted, is_inside, has_moment, taken_before, left_from, resumed_of}
-use Rattle.run_law.specs.Uninterrupted.{frame_on, expected_frame, is_new, frames_after}
-use Rattle.interrupt_plan.specs.declared.Post.{Post}
-use Rattle.mailbox_runs.specs.Turns.{up_to, behind, taken_from}
-use Rattle.mailbox_runs.specs.{PostedTurns.plain_frame, Shifts.frames_from}
+use Rattle.mailbox_runs.proofs.Words.{[], ◌&&◌, ◌++◌, ◌+◌, ◌-◌, ◌<◌, ◌||◌, ◌∙◌, ◌∷◌, ◌≡◌, ◌≤◌, AllGood, ap, ap₂}
+use Rattle.mailbox_runs.proofs.Words.{arith, Ascend, behind, Bool, false, frames_after, frames_from, FrameSeen, Free}
+use Rattle.mailbox_runs.proofs.Words.{has_moment, if◌then◌else◌, is_inside, is_new, List, map, max, nat_le, nat_lt}
+use Rattle.mailbox_runs.proofs.Words.{nat_tests, None, one_if, Option, plain_frame, Post, refl, resumed_of, Some}
+use Rattle.mailbox_runs.proofs.Words.{State, suc, taken_from, true, uninterrupted, up_to, zero, ℕ}
+use Rattle.run_law.specs.Uninterrupted.{taken_before, left_from, frame_on, expected_frame}
+use Rattle.std.specs.{Prelude.◌==◌}
 
 -- ---- posts that ascend
 

@@ -1,22 +1,13 @@
 -- A list of turns, one after another.
-use Rattle.std.proofs.Common.{◌≡◌, ◌≢◌, ◌⊎◌, inl, inr, ℕ, zero, suc, ◌+◌, ◌-◌, ◌≤◌, ◌==◌, Bool, true, false, List, []}
-use Rattle.std.proofs.Common.{◌∷◌, ◌++◌, All, length, map, refl, sym, ap, ap₂, ◌∙◌, subst, arith}
-use Rattle.std.specs.Prelude.{if◌then◌else◌}
-use Rattle.std.proofs.lemmas.Bool.Decides.{nat_tests}
-use Rattle.fuzzy_meaning.specs.declared.block.Block.{Block}
-use Rattle.cpu12_parts.specs.State.{State}
-use Rattle.run_law.specs.Uninterrupted.{uninterrupted, counted}
-use Rattle.alone_code.specs.declared.firmware.Firmware.{Firmware}
-use Rattle.alone_code.specs.{Answers.given, Mailboxes.is_postable, Uninterrupted.values_in}
+use Rattle.mailbox_runs.proofs.Words.{[], ◌++◌, ◌+◌, ◌-◌, ◌==◌, ◌∙◌, ◌∷◌, ◌≡◌, ◌≢◌, ◌≤◌, ◌⊎◌, All, AllTurnRuns}
+use Rattle.mailbox_runs.proofs.Words.{answer, answer_in, answer_of, answered_alone, AnswerSeen, ap, ap₂}
+use Rattle.mailbox_runs.proofs.Words.{AreInputBytes, arith, arrival, begun, Block, Bool, bytes_of, counted, ended}
+use Rattle.mailbox_runs.proofs.Words.{FactsBeside, false, Firmware, given, HasSteps, HaveSteps, if◌then◌else◌, inl}
+use Rattle.mailbox_runs.proofs.Words.{inr, is_postable, IsAnswerRun, IsIdleRun, length, List, map, nat_tests, refl}
+use Rattle.mailbox_runs.proofs.Words.{run_of_turns, samples_of, State, steps_of, subst, suc, sym, true, Turn}
+use Rattle.mailbox_runs.proofs.Words.{uninterrupted, values_in, width_of, zero, ℕ}
+use Rattle.mailbox_runs.specs.{Runs.steps_from, Answering.AllKeepFacts, UninterruptedTurns.IsTurnRun}
 use Rattle.alone_code.specs.{Uninterrupted.AreAnswersTo}
-use Rattle.eval_code.specs.{Firing.AreInputBytes, Widths.answer}
-use Rattle.byte_scaling.specs.Widths.{width_of}
-use Rattle.firmware_runs.specs.Facts.{FactsBeside}
-use Rattle.mailbox_runs.specs.Turns.{Turn, samples_of}
-use Rattle.mailbox_runs.specs.Runs.{AnswerSeen, arrival, answered_alone, steps_from, steps_of}
-use Rattle.mailbox_runs.specs.Answering.{begun, ended, answer_of, run_of_turns, answer_in, AllKeepFacts}
-use Rattle.mailbox_runs.specs.UninterruptedTurns.{HasSteps, HaveSteps, IsIdleRun, IsAnswerRun, IsTurnRun, AllTurnRuns}
-use Rattle.alone_runs.specs.Rows.{bytes_of}
 use Rattle.mailbox_runs.proofs.Looking.{AreAlike, alike_self}
 use Rattle.mailbox_runs.proofs.TurnSteps.{Setting, Waits, idled, Answered, answered}
 

@@ -1,26 +1,14 @@
 -- Turns from where the code waits.
-use Rattle.std.proofs.Common.{◌≡◌, ℕ, suc, ◌+◌, ◌^◌, ◌<◌, ◌==◌, true, not, Bool, Result, Ok, List, ◌∷◌, All, length}
-use Rattle.std.proofs.Common.{get_or, sym, ap, ap₂, ◌∙◌, subst, arith}
-use Rattle.std.specs.Prelude.{if◌then◌else◌}
-use Rattle.std.proofs.lemmas.Bool.Decides.{nat_tests}
-use Rattle.fuzzy_meaning.specs.declared.block.Block.{Block}
-use Rattle.cpu12_isa.specs.declared.instr.Instr.TheVariants.{LdaaExtended, Beq}
-use Rattle.cpu12_isa.specs.Flags.{has, zero_result}
-use Rattle.cpu12_parts.specs.{Executions.IsUntil, Executions.all_steps, State.State}
-use Rattle.cpu12_emul.specs.declared.ends.Stepped.TheVariants.{Plain}
-use Rattle.cpu12_emul.specs.{Image.image_memory, Step.Next, Step.next_of, Step.is_part}
-use Rattle.run_law.specs.Forms.{one_if}
-use Rattle.run_law.specs.Uninterrupted.{state_by, kind_by, uninterrupted, counted}
-use Rattle.alone_code.specs.{declared.firmware.Firmware.Firmware, Answers.given, Interruptible.is_idle}
-use Rattle.alone_code.specs.{Mailboxes.IsMailboxOf, SampleTurns.TakesSamples, Turns.IsAt, Turns.IsLook}
+use Rattle.mailbox_runs.proofs.Words.{◌+◌, ◌<◌, ◌==◌, ◌^◌, ◌∙◌, ◌∷◌, ◌≡◌, All, all_steps, answer, answered_alone, ap}
+use Rattle.mailbox_runs.proofs.Words.{ap₂, AreInputBytes, arith, Beq, Block, Bool, bytes_of, counted, Firmware}
+use Rattle.mailbox_runs.proofs.Words.{get_or, given, has, if◌then◌else◌, image_memory, InstructionsAreSteps, is_idle}
+use Rattle.mailbox_runs.proofs.Words.{is_part, IsAnswerRun, IsAt, IsIdleRun, IsLook, IsMailboxOf, IsUntil, kind_by}
+use Rattle.mailbox_runs.proofs.Words.{LdaaExtended, length, List, nat_tests, Next, next_of, not, Ok, one_if, Plain}
+use Rattle.mailbox_runs.proofs.Words.{PlainIsOneStep, Result, State, state_by, subst, suc, sym, true, uninterrupted}
+use Rattle.mailbox_runs.proofs.Words.{values_in, width_of, zero_result, ℕ}
+use Rattle.alone_code.specs.{SampleTurns.TakesSamples, Uninterrupted.IsAnswerTo}
+use Rattle.eval_code.specs.{Evaluation.HasAnswers}
 use Rattle.alone_code.specs.{Turns.TakesTurns}
-use Rattle.alone_code.specs.Uninterrupted.{values_in, IsAnswerTo}
-use Rattle.eval_code.specs.{Evaluation.HasAnswers, Firing.AreInputBytes, Widths.answer}
-use Rattle.byte_scaling.specs.Widths.{width_of}
-use Rattle.run_forms.specs.Arrival.{PlainIsOneStep}
-use Rattle.firmware_runs.specs.Instructions.{InstructionsAreSteps}
-use Rattle.alone_runs.specs.Rows.{bytes_of}
-use Rattle.mailbox_runs.specs.{Runs.answered_alone, UninterruptedTurns.IsIdleRun, UninterruptedTurns.IsAnswerRun}
 use Rattle.mailbox_runs.proofs.{Looking.AreAlike, Looking.idle_alike, Looking.same_look, SampleRuns.sample_run}
 use Rattle.mailbox_runs.proofs.Alone.{IsAlone, alone, same_alone}
 

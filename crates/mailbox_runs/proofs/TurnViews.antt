@@ -1,16 +1,10 @@
 -- The frames and the resumed boundaries of a turn that answers, as they are read off its own steps.
-use Rattle.std.proofs.Common.{◌≡◌, ◌≢◌, ℕ, ◌+◌, ◌-◌, ◌<◌, ◌≤◌, max, nat_le, Bool, true, false, not, Option, Some, None}
-use Rattle.std.proofs.Common.{List, [], ◌∷◌, ◌++◌, map, refl, sym, ap, ap₂, ◌∙◌, arith, inl, inr}
-use Rattle.std.specs.Prelude.{◌==◌, ◌||◌}
-use Rattle.std.proofs.lemmas.Bool.{cases_lt}
-use Rattle.std.proofs.lemmas.Bool.Decides.{nat_tests}
-use Rattle.cpu12_parts.specs.{declared.temps.Temps.TheVariants.Free, State.State}
-use Rattle.cpu12_emul.specs.Take.{FrameSeen}
-use Rattle.run_law.specs.{Moments.TakenAtFirstOpen, Soundness.AllGood}
-use Rattle.run_law.specs.Uninterrupted.{uninterrupted, is_inside, has_moment, resumed_of, is_new, frames_after}
-use Rattle.interrupt_plan.specs.declared.Post.{Post}
-use Rattle.mailbox_runs.specs.Turns.{up_to, behind, taken_from}
-use Rattle.mailbox_runs.specs.{Shifts.frames_from, PostedTurns.plain_frame, PostedTurns.part_taken}
+use Rattle.mailbox_runs.proofs.Words.{[], ◌++◌, ◌+◌, ◌-◌, ◌<◌, ◌||◌, ◌∙◌, ◌∷◌, ◌≡◌, ◌≢◌, ◌≤◌, AllGood, ap, ap₂, arith}
+use Rattle.mailbox_runs.proofs.Words.{behind, Bool, cases_lt, false, frames_after, frames_from, FrameSeen, Free}
+use Rattle.mailbox_runs.proofs.Words.{has_moment, inl, inr, is_inside, is_new, List, map, max, nat_le, nat_tests}
+use Rattle.mailbox_runs.proofs.Words.{None, not, Option, part_taken, plain_frame, Post, refl, resumed_of, Some, State}
+use Rattle.mailbox_runs.proofs.Words.{sym, taken_from, TakenAtFirstOpen, true, uninterrupted, up_to, ℕ}
+use Rattle.std.specs.{Prelude.◌==◌}
 use Rattle.mailbox_runs.proofs.{LastOnes.split, CopyRuns.IsCopyRun, AnswerRuns.at_is, AnswerRuns.at_past}
 use Rattle.mailbox_runs.proofs.TakenLists.{Rise, frames_at, last_before, frames_behind, resumed_same, has_on}
 

@@ -1,33 +1,22 @@
 -- The run under posts is that of its turns.
-use Rattle.std.proofs.Common.{◌≡◌, ◌≢◌, ℕ, zero, suc, ◌+◌, ◌-◌, ◌*◌, ◌<◌, ◌≤◌, max, nat_le, nat_lt, Bool, true, false}
-use Rattle.std.proofs.Common.{◌&&◌, None, List, [], ◌∷◌, ◌++◌, drop, length, map, get_or, refl, sym, ap}
-use Rattle.std.proofs.Common.{ap₂, ◌∙◌, subst, arith, append-nil, append_assoc}
-use Rattle.std.specs.Prelude.{◌==◌, if◌then◌else◌}
-use Rattle.std.proofs.lemmas.Bool.Decides.{nat_tests}
-use Rattle.cpu12_isa.specs.Regions.{is_free, is_hidden}
-use Rattle.cpu12_parts.specs.State.{State}
-use Rattle.cpu12_emul.specs.{Image.image_memory, Take.FrameSeen, Step.is_part}
-use Rattle.cpu12_emul.specs.Simulation.{OnStackOnly, Same}
-use Rattle.run_law.specs.Forms.{Ran, takes, is_empty, one_if, run_from}
-use Rattle.run_law.specs.Uninterrupted.{uninterrupted, counted, is_inside, has_moment, resumed_of, frames_after}
-use Rattle.run_law.specs.{Following.asked, Soundness.AllSimulate, Soundness.AllGood}
-use Rattle.interrupt_plan.specs.{declared.Post.Post, Posts.IsGoodPost}
-use Rattle.alone_code.specs.declared.firmware.Firmware.{Firmware}
-use Rattle.alone_code.specs.{Answers.given, Mailboxes.is_postable, Turns.IsAt, Uninterrupted.values_in}
-use Rattle.byte_scaling.specs.Widths.{width_of, places}
-use Rattle.mailbox_runs.specs.Turns.{Turn, up_to, behind, waiting, taken_from}
-use Rattle.mailbox_runs.specs.Runs.{turn_form, AnswerSeen, RunSeen, no_turn, before_turns, answers_by, waits_by}
-use Rattle.mailbox_runs.specs.Runs.{then_turns, is_over, turn_from, turns_from}
-use Rattle.mailbox_runs.specs.Answering.{begun, ended, answer_of, frames_in, resumed_in, run_of_turns, SimulatesTurn}
-use Rattle.mailbox_runs.specs.UninterruptedTurns.{IsIdleRun, IsAnswerRun}
-use Rattle.mailbox_runs.specs.PostedTurns.{End, TurnEnds, plain_frame, part_taken}
-use Rattle.mailbox_runs.specs.Postings.{mailed, posted, IsBox, AreOfSize}
-use Rattle.mailbox_runs.specs.{Shifts.frames_from, UsedLaws.TurnLaws}
+use Rattle.mailbox_runs.proofs.Words.{[], ◌&&◌, ◌*◌, ◌++◌, ◌+◌, ◌-◌, ◌<◌, ◌∙◌, ◌∷◌, ◌≡◌, ◌≢◌, ◌≤◌, AllGood}
+use Rattle.mailbox_runs.proofs.Words.{AllSimulate, answer_of, answers_by, AnswerSeen, ap, append-nil, append_assoc}
+use Rattle.mailbox_runs.proofs.Words.{ap₂, AreOfSize, arith, asked, before_turns, begun, behind, Bool, bytes_of}
+use Rattle.mailbox_runs.proofs.Words.{counted, drop, End, ended, false, Firmware, frames_after, frames_from}
+use Rattle.mailbox_runs.proofs.Words.{frames_in, FrameSeen, get_or, given, has_moment, if◌then◌else◌, image_memory}
+use Rattle.mailbox_runs.proofs.Words.{is_empty, is_free, is_hidden, is_inside, is_over, is_part, is_postable}
+use Rattle.mailbox_runs.proofs.Words.{IsAnswerRun, IsAt, IsBox, IsGoodPost, IsIdleRun, length, List, mailed, map, max}
+use Rattle.mailbox_runs.proofs.Words.{nat_le, nat_lt, nat_tests, no_turn, None, one_if, OnStackOnly, part_taken}
+use Rattle.mailbox_runs.proofs.Words.{places, plain_frame, Post, posted, Ran, refl, resumed_in, resumed_of, run_from}
+use Rattle.mailbox_runs.proofs.Words.{run_of_turns, RunSeen, Same, State, subst, suc, sym, taken_from, takes}
+use Rattle.mailbox_runs.proofs.Words.{then_turns, true, Turn, turn_form, turn_from, TurnEnds, TurnLaws, turns_from}
+use Rattle.mailbox_runs.proofs.Words.{uninterrupted, up_to, values_in, waiting, waits_by, width_of, zero, ℕ}
+use Rattle.std.specs.{Prelude.◌==◌}
+use Rattle.mailbox_runs.specs.{Answering.SimulatesTurn}
 use Rattle.mailbox_runs.proofs.{Posting.waits_within, Running.run_over, Running.run_on, Running.waits_behind}
 use Rattle.mailbox_runs.proofs.{CopyRuns.kind_plain, CopyRuns.copy_run, TurnViews.frames_seen, TurnViews.resumed_seen}
 use Rattle.mailbox_runs.proofs.{Mailing.mailed_apart, IdleRuns.idle_turns_follow, AnswerRuns.good_behind}
 use Rattle.mailbox_runs.proofs.{AnswerRuns.posted_turns_follow, Behind.values_alike}
-use Rattle.alone_runs.specs.Rows.{bytes_of}
 use Rattle.mailbox_runs.proofs.LastOnes.{split, waiting_append, further, not_zero}
 use Rattle.mailbox_runs.proofs.TakenLists.{Rise, rise_behind, frames_at, last_before, up_up, behind_up, behind_behind}
 use Rattle.mailbox_runs.proofs.TwoSteps.{IsHere, here_at, Stands, taken_at as taken_here, posted_is}

@@ -1,25 +1,14 @@
 -- The first two boundaries of a turn: the code looks at POSTED, and chooses.
-use Rattle.std.proofs.Common.{◌≡◌, ◌≢◌, ℕ, suc, ◌+◌, ◌≤◌, nat_le, nat_lt, Bool, true, false, not, ◌&&◌, List, [], ◌++◌}
-use Rattle.std.proofs.Common.{length, map, get_or, set, refl, sym, ap, ap₂, ◌∙◌, subst, arith, get_or-set_same}
+use Rattle.mailbox_runs.proofs.Words.{[], ◌&&◌, ◌++◌, ◌+◌, ◌∙◌, ◌≡◌, ◌≢◌, ◌≤◌, Agree, AllGood, AllShown, ap, ap₂}
+use Rattle.mailbox_runs.proofs.Words.{AreOfSize, arith, asked, behind, Beq, Bool, bytes_of, End, false, Firmware}
+use Rattle.mailbox_runs.proofs.Words.{FrameSeen, get_or, is_free, is_hidden, is_mail, is_postable, IsAt, IsBox}
+use Rattle.mailbox_runs.proofs.Words.{IsChoice, IsGoodPost, IsLook, last_of, LdaaExtended, length, List, mailed, map}
+use Rattle.mailbox_runs.proofs.Words.{nat_le, nat_lt, nat_tests, next_of, not, or_parts, plain_frame, PlainStepLaws}
+use Rattle.mailbox_runs.proofs.Words.{Post, posted, put, refl, Regs, run_from, Same, set, six_from, State, subst, suc}
+use Rattle.mailbox_runs.proofs.Words.{sym, takes, TakingLaws, true, turn_form, TurnEnds, TurnForm, up_to, waiting, ℕ}
+use Rattle.std.proofs.{Common.get_or-set_same}
 use Rattle.std.specs.Prelude.{◌==◌}
-use Rattle.std.proofs.lemmas.Bool.{or_parts}
-use Rattle.std.proofs.lemmas.Bool.Decides.{nat_tests}
 use Rattle.std.proofs.lemmas.List.{length-set}
-use Rattle.cpu12_isa.specs.declared.instr.Instr.TheVariants.{LdaaExtended, Beq}
-use Rattle.cpu12_isa.specs.declared.instr.Regs.{Regs}
-use Rattle.cpu12_isa.specs.{Agreement.Agree, Agreement.AllShown, Code.six_from, Regions.is_free, Regions.is_hidden}
-use Rattle.cpu12_parts.specs.State.{State}
-use Rattle.cpu12_emul.specs.{Step.next_of, Take.FrameSeen, Simulation.Same}
-use Rattle.run_law.specs.{Forms.takes, Forms.run_from, Following.asked, Soundness.AllGood}
-use Rattle.interrupt_plan.specs.{declared.Post.Post, Posts.IsGoodPost}
-use Rattle.alone_code.specs.declared.firmware.Firmware.{Firmware}
-use Rattle.alone_code.specs.{Mailboxes.is_mail, Mailboxes.is_postable, Turns.IsAt, Turns.IsLook, Turns.IsChoice}
-use Rattle.eval_code.specs.Evaluation.{put}
-use Rattle.mailbox_runs.specs.Turns.{up_to, behind, waiting}
-use Rattle.mailbox_runs.specs.{Runs.TurnForm, Runs.turn_form, UsedLaws.PlainStepLaws, UsedLaws.TakingLaws}
-use Rattle.mailbox_runs.specs.Postings.{mailed, posted, last_of, IsBox, AreOfSize}
-use Rattle.mailbox_runs.specs.PostedTurns.{End, TurnEnds, plain_frame}
-use Rattle.alone_runs.specs.Rows.{bytes_of}
 use Rattle.mailbox_runs.proofs.LastOnes.{split}
 use Rattle.mailbox_runs.proofs.Mailing.{wide, is_boxed, mailed_apart, mailed_over}
 use Rattle.mailbox_runs.proofs.Posting.{IsReady, ready_as, same_with, waiting_last, waits_within, took_all}

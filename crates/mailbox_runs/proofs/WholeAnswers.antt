@@ -1,24 +1,15 @@
 -- A run under posts from reset.
-use Rattle.std.proofs.Common.{◌≡◌, ℕ, suc, ◌+◌, ◌-◌, ◌*◌, ◌≤◌, List, [], ◌∷◌, length, map, refl, sym, ap, ◌∙◌, subst}
-use Rattle.std.proofs.Common.{arith}
+use Rattle.mailbox_runs.proofs.Words.{[], ◌*◌, ◌+◌, ◌-◌, ◌∙◌, ◌∷◌, ◌≡◌, ◌≤◌, agree_self, AllGood, answer_in, ap}
+use Rattle.mailbox_runs.proofs.Words.{AreAnswersOf, AreInputBytes, AreOfSize, AreUninterrupted, arith, arrival}
+use Rattle.mailbox_runs.proofs.Words.{Ascend, Byte, bytes_of, is_free, is_hidden, IsBox, IsGoodPost, length, List}
+use Rattle.mailbox_runs.proofs.Words.{MailboxRunsTurns, map, MemoryMap, most_turns, places, Post, PostsHaveTurns}
+use Rattle.mailbox_runs.proofs.Words.{refl, run_of_turns, RunsAreTurns, RunSeen, samples_of, State, steps_of, subst}
+use Rattle.mailbox_runs.proofs.Words.{suc, sym, TurnsHaveSteps, Width, width_of, Word, ℕ}
+use Rattle.interrupt_plan.specs.{Posts.NoLater}
+use Rattle.alone_code.specs.{Mailboxes.MailboxStepsAreFew}
+use Rattle.mailbox_runs.specs.{Runs.run_under_posts, Runs.last_boundary, Answering.AnswersUnderAllPosts}
 use Rattle.std.specs.Prelude.{All}
-use Rattle.cpu12_isa.specs.Regions.{is_free, is_hidden}
-use Rattle.cpu12_isa.proofs.Algebra.{agree_self}
-use Rattle.cpu12_parts.specs.State.{State}
-use Rattle.run_law.specs.Soundness.{AllGood, Ascend}
-use Rattle.interrupt_plan.specs.declared.Post.{Post}
 use Rattle.interrupt_plan.specs.Rows as rows
-use Rattle.interrupt_plan.specs.Posts.{IsGoodPost, NoLater}
-use Rattle.eval_code.specs.{declared.memory_map.MemoryMap.MemoryMap, Firing.AreInputBytes}
-use Rattle.byte_scaling.specs.declared.{width.Width.Width, width.Width.TheVariants.Byte, width.Width.TheVariants.Word}
-use Rattle.byte_scaling.specs.Widths.{width_of, places}
-use Rattle.alone_code.specs.{Mailboxes.MailboxStepsAreFew, Uninterrupted.AreUninterrupted, Uninterrupted.AreAnswersOf}
-use Rattle.alone_runs.specs.Rows.{bytes_of}
-use Rattle.mailbox_runs.specs.Runs.{RunSeen, arrival, steps_of, run_under_posts, last_boundary, most_turns}
-use Rattle.mailbox_runs.specs.Answering.{answer_in, run_of_turns, AnswersUnderAllPosts}
-use Rattle.mailbox_runs.specs.UninterruptedTurns.{MailboxRunsTurns, TurnsHaveSteps}
-use Rattle.mailbox_runs.specs.Postings.{IsBox, AreOfSize}
-use Rattle.mailbox_runs.specs.{Turns.samples_of, TurnsExist.PostsHaveTurns, WholeRuns.RunsAreTurns}
 
 each_good : (n : ℕ) (ps : List Post) → All (IsGoodPost n) ps → AllGood (IsGoodPost n) ps
 each_good n [] h = tt

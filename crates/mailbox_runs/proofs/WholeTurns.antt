@@ -1,14 +1,8 @@
 -- Steps one after another on the way to where the code waits, and plain instructions as such.
-use Rattle.std.proofs.Common.{◌≡◌, ◌≢◌, ℕ, ◌+◌, Ok, List, [], ◌∷◌, ◌++◌, length, refl, sym, ap, ◌∙◌, subst}
-use Rattle.std.proofs.Common.{arith}
-use Rattle.cpu12_parts.specs.{Executions.Execution, Executions.all_steps, State.State}
-use Rattle.cpu12_emul.specs.{declared.ends.Stepped.TheVariants.Plain, Step.Next, Step.next_of}
-use Rattle.run_law.specs.{Uninterrupted.uninterrupted, Uninterrupted.counted, Soundness.Before}
+use Rattle.mailbox_runs.proofs.Words.{[], ◌++◌, ◌+◌, ◌∙◌, ◌∷◌, ◌≡◌, ◌≢◌, all_steps, ap, AreSteps, arith, Before}
+use Rattle.mailbox_runs.proofs.Words.{counted, Execution, IsMaskedStep, length, List, MemoryMap, Next, next_of, Ok}
+use Rattle.mailbox_runs.proofs.Words.{Plain, PlainIsOneStep, refl, State, subst, sym, uninterrupted, ℕ}
 use Rattle.run_law.proofs.Algebra.{Stretch, no_stretch, one_stretch, joined}
-use Rattle.eval_code.specs.declared.memory_map.MemoryMap.{MemoryMap}
-use Rattle.alone_code.specs.Turns.{IsMaskedStep}
-use Rattle.run_forms.specs.Arrival.{PlainIsOneStep}
-use Rattle.firmware_runs.specs.Instructions.{AreSteps}
 
 -- a step is defined, and PC is not where the code waits
 pub record IsBusy (l : MemoryMap) (flags : ℕ) (s : State) : Type 0 where

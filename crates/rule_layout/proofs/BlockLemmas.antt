@@ -1,17 +1,14 @@
 -- What the limits of a valid block give the tables.
-use Rattle.std.proofs.Common.{◌≡◌, ℕ, zero, suc, ◌+◌, ◌-◌, ◌<◌, ◌≤◌, Bool, cond, List, [], ◌∷◌, ◌++◌, length, map}
-use Rattle.std.proofs.Common.{filter, refl, ap, ap₂, ◌∙◌, arith}
-use Rattle.std.specs.Prelude.{All, IsSomeAnd, slice_get}
-use Rattle.std.specs.List.{range_with_len}
-use Rattle.std.proofs.lemmas.List.{length-map, append_assoc}
-use Rattle.std.proofs.lemmas.List.Elements.{All-append, All-map, All-head, All-tail, All-cons, All-nil}
-use Rattle.fuzzy_meaning.specs.declared.{block.Block.Block, block.Rule.Rule}
-use Rattle.fuzzy_meaning.specs.Blocks.{IsValid, IsValidInput, IsValidOutput, IsValidRule, HasTerm, HasSingleton}
+use Rattle.rule_layout.proofs.Words.{[], ◌++◌, ◌+◌, ◌-◌, ◌<◌, ◌∙◌, ◌∷◌, ◌≡◌, ◌≤◌, All, All-append, All-cons, All-head}
+use Rattle.rule_layout.proofs.Words.{All-map, All-nil, All-tail, ap, ap₂, AreUsed, arith, Block, Bool}
+use Rattle.rule_layout.proofs.Words.{complement_slot, filter, FitsGrid, HasSingleton, HasTerm, input_terms}
+use Rattle.rule_layout.proofs.Words.{is_complemented, is_marked, IsInGrid, IsInTable, IsSomeAnd, IsValid, length}
+use Rattle.rule_layout.proofs.Words.{length-map, List, map, out_slot, output_terms, range_with_len, refl, Rule}
+use Rattle.rule_layout.proofs.Words.{singleton_count, slice_get, Slot, slots_of, suc, term_count, term_slot}
+use Rattle.rule_layout.proofs.Words.{terms_from, zero, ℕ}
+use Rattle.std.proofs.{Common.cond, lemmas.List.append_assoc}
+use Rattle.fuzzy_meaning.specs.{Blocks.IsValidInput, Blocks.IsValidOutput, Blocks.IsValidRule}
 use Rattle.fuzzy_meaning.proofs.Algebra.{HasLiterals-map}
-use Rattle.rule_layout.specs.{Grid.IsInGrid, Grid.FitsGrid, Tables.IsInTable, Tables.is_marked, Tables.AreUsed}
-use Rattle.rule_layout.specs.Slots.{terms_from, term_count, singleton_count, input_terms, output_terms, term_slot}
-use Rattle.rule_layout.specs.Slots.{complement_slot, out_slot, is_complemented, slots_of}
-use Rattle.rule_layout.specs.declared.flat.Slot.{Slot}
 
 -- the element that a place has is among those of which P holds
 at_place : {X : Type 0} (P Q : X → Type 0) (xs : List X) (k : ℕ) → All P xs → IsSomeAnd (slice_get xs k) Q

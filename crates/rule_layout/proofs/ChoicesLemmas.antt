@@ -1,9 +1,7 @@
 -- Choices of one list from each of two lists of lists.
-use Rattle.std.proofs.Common.{◌≡◌, ℕ, ◌+◌, ◌*◌, ◌<◌, ◌≤◌, take, get_or, List, [], ◌∷◌, ◌++◌, length, map, refl, sym, ap}
-use Rattle.std.proofs.Common.{◌∙◌, arith, append_assoc}
-use Rattle.std.proofs.lemmas.List.{length-append, length-map, map-append, append-nil, take_more}
-use Rattle.std.proofs.lemmas.List.Sums.{sum_by-append, sum_by-cons}
-use Rattle.rule_layout.specs.Spreading.{choices, total_length}
+use Rattle.rule_layout.proofs.Words.{[], ◌*◌, ◌++◌, ◌+◌, ◌<◌, ◌∙◌, ◌∷◌, ◌≡◌, ◌≤◌, ap, append-nil, append_assoc, arith}
+use Rattle.rule_layout.proofs.Words.{choices, get_or, length, length-append, length-map, List, map, map-append, refl}
+use Rattle.rule_layout.proofs.Words.{sum_by-append, sum_by-cons, sym, take, take_more, total_length, ℕ}
 
 pub length-choices : {A : Type 0} (xs ys : List (List A)) → length (choices xs ys) ≡ length xs * length ys
 length-choices [] ys = omega arith

@@ -1,11 +1,10 @@
 -- What is asked of a condition's parts.
-use Rattle.std.proofs.Common.{◌≡◌, ℕ, ◌<◌, ◌≤◌, List, length, get_or, Vec, Global, refl, arith, ◌⊎◌, Some, slice_get}
+use Rattle.rule_layout.proofs.Words.{◌<◌, ◌≡◌, ◌≤◌, ◌⊎◌, AllFitGrid, And, arith, Condition, conditions, FitsGrid}
+use Rattle.rule_layout.proofs.Words.{get_or, Global, IsInGrid, length, List, Node, nodes, Or, refl, Some, total_nodes}
+use Rattle.rule_layout.proofs.Words.{tree, Vec, ℕ}
+use Rattle.std.proofs.{Common.slice_get}
 use Rattle.std.proofs.lemmas.Option.{slice_get_read}
-use Rattle.fuzzy_meaning.specs.{declared.condition.Node.Node, Trees.tree}
-use Rattle.fuzzy_meaning.specs.declared.condition.Node.TheVariants.{And, Or}
-use Rattle.fuzzy_meaning.specs.Conditions.{Condition, conditions, nodes, total_nodes}
 use Rattle.fuzzy_meaning.proofs.Algebra.{parts_nodes, part_nodes, HasLiterals-part, AllHaveLiterals-parts}
-use Rattle.rule_layout.specs.Grid.{IsInGrid, FitsGrid, AllFitGrid}
 
 -- of one of them
 module _ (cs : List Condition) (i : ℕ) (p : Condition) (lt : i < length cs) (same : p ≡ get_or cs i p) where

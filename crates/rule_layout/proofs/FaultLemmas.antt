@@ -1,8 +1,7 @@
 -- A block within its limits has no fault.
-use Rattle.std.proofs.Common.{arith, ◌≤◌, ℕ, zero, suc, List, [], ◌∷◌, length, take, refl}
-use Rattle.std.specs.Prelude.{sum_by}
-use Rattle.std.proofs.lemmas.List.Sums.{sum_by-cons}
-use Rattle.rule_layout.specs.{Faults.LimitsHaveNoFault, Layouts.rule_spread}
+use Rattle.rule_layout.proofs.Words.{[], ◌∷◌, ◌≤◌, arith, length, List, refl, rule_spread, suc, sum_by, sum_by-cons}
+use Rattle.rule_layout.proofs.Words.{take, zero, ℕ}
+use Rattle.rule_layout.specs.{Faults.LimitsHaveNoFault}
 use Rattle.rule_layout.specs.declared.flat.LayoutFault.TheVariants as fault
 
 sum_by-take : {X : Type 0} (f : X → ℕ) (n : ℕ) (xs : List X) → sum_by f (take n xs) ≤ sum_by f xs

@@ -1,24 +1,20 @@
 -- The layout of a valid block has what its lists need.
-use Rattle.std.proofs.Common.{◌≡◌, ℕ, zero, suc, ◌+◌, ◌-◌, ◌*◌, ◌/◌, ◌<◌, ◌≤◌, ◌||◌, Bool, true, false, List, [], ◌∷◌}
-use Rattle.std.proofs.Common.{◌++◌, length, map, filter, get_or, refl, sym, ap, ◌∙◌, subst, arith, add-one, ℤ, pos}
-use Rattle.std.proofs.Common.{negsuc, ◌≤ℤ◌, Option, Some, None}
-use Rattle.std.specs.Prelude.{All, flat_map, IfSome, int_lt, unsigned_abs, nat_le}
-use Rattle.std.specs.List.{range_with_len, list_any}
-use Rattle.std.proofs.lemmas.Bool.{false≢true}
-use Rattle.std.proofs.lemmas.Bool.Decides.{nat_tests}
+use Rattle.rule_layout.proofs.Words.{[], ◌*◌, ◌++◌, ◌+◌, ◌-◌, ◌<◌, ◌||◌, ◌∙◌, ◌∷◌, ◌≡◌, ◌≤◌, add-one, All, All-append}
+use Rattle.rule_layout.proofs.Words.{All-cons, All-head, All-map, All-nil, All-tail, ap, arith, Block, Bool}
+use Rattle.rule_layout.proofs.Words.{Complement, complement_slot, conjunction_of, conjunctions_of, false, false≢true}
+use Rattle.rule_layout.proofs.Words.{filter, Flat, flat_map, flat_of, form_by, form_of, get_or, input_terms}
+use Rattle.rule_layout.proofs.Words.{is_complemented, is_same_slot, IsValid, length, length-append, length-map, List}
+use Rattle.rule_layout.proofs.Words.{list_any, Literal, map, map-append, nat_le, nat_tests, None, number_in, Option}
+use Rattle.rule_layout.proofs.Words.{Out, out_slot, output_terms, place_of, range_with_len, refl, Rev, Revw, Rule}
+use Rattle.rule_layout.proofs.Words.{rule_conjunctions, rule_spread, rule_weights, singleton_count, Slot, slots_of}
+use Rattle.rule_layout.proofs.Words.{Some, subst, suc, sym, Term, term_count, term_slot, terms_from, true}
+use Rattle.rule_layout.proofs.Words.{weight_byte_of, weights_of, zero, ℕ}
+use Rattle.std.proofs.Common.{◌/◌, ℤ, pos, negsuc, ◌≤ℤ◌}
+use Rattle.std.specs.{Prelude.IfSome, Prelude.int_lt, Prelude.unsigned_abs}
+use Rattle.fuzzy_meaning.specs.{Blocks.IsWeight}
+use Rattle.rule_layout.specs.{Layouts.is_below_one, Layouts.IsLaidOut, Layouts.LayoutLaw}
 use Rattle.std.proofs.lemmas.Int.{ints}
-use Rattle.std.proofs.lemmas.List.{length-append, length-map, map-append}
-use Rattle.std.proofs.lemmas.List.Elements.{All-append, All-map, All-head, All-tail, All-cons, All-nil}
 use Rattle.fz_num.specs.declared.dec.Dec.{Dec}
-use Rattle.fuzzy_meaning.specs.{declared.block.Block.Block, declared.block.Rule.Rule, Blocks.IsValid, Blocks.IsWeight}
-use Rattle.byte_scaling.specs.Weights.{weight_byte_of}
-use Rattle.rule_layout.specs.{declared.flat.Slot.Slot, declared.flat.Flat.Flat, Spreading.Literal, Tables.place_of}
-use Rattle.rule_layout.specs.declared.flat.Slot.TheVariants.{Term, Complement, Out}
-use Rattle.rule_layout.specs.declared.flat.Form.TheVariants.{Rev, Revw}
-use Rattle.rule_layout.specs.Slots.{terms_from, term_count, singleton_count, input_terms, output_terms, term_slot}
-use Rattle.rule_layout.specs.Slots.{complement_slot, out_slot, is_complemented, slots_of, is_same_slot, number_in}
-use Rattle.rule_layout.specs.Layouts.{rule_spread, conjunction_of, rule_conjunctions, rule_weights, conjunctions_of}
-use Rattle.rule_layout.specs.Layouts.{weights_of, is_below_one, form_by, form_of, flat_of, IsLaidOut, LayoutLaw}
 use Rattle.rule_layout.specs.Layouts.{FlatHasParts}
 use Rattle.rule_layout.proofs.{SpreadLemmas.some_conjunction, NumberLemmas.slot_from_same}
 use Rattle.rule_layout.proofs.BlockLemmas.{rule_fits, few_terms, few_singletons}

@@ -1,32 +1,26 @@
 -- The layout of a valid block.
-use Rattle.std.proofs.Common.{◌≡◌, ℕ, ◌+◌, ◌*◌, ◌<◌, ◌≤◌, Bool, List, [], ◌∷◌, ◌++◌, length, map, filter, get_or, refl}
-use Rattle.std.proofs.Common.{sym, ap, ap₂, ◌∙◌, subst, arith}
-use Rattle.std.specs.Prelude.{All, flat_map, sum_by, Ok, nat_le, true, false}
-use Rattle.std.proofs.lemmas.List.{length-map, length-append}
+use Rattle.rule_layout.proofs.Words.{[], ◌*◌, ◌++◌, ◌+◌, ◌<◌, ◌∙◌, ◌∷◌, ◌≡◌, ◌≤◌, All, All-append, All-head, All-map}
+use Rattle.rule_layout.proofs.Words.{All-nil, All-tail, ap, ap₂, arith, Block, Bool, complement_slot}
+use Rattle.rule_layout.proofs.Words.{conclusion_number, Conjunction, conjunction_count, conjunction_of}
+use Rattle.rule_layout.proofs.Words.{conjunctions_of, entry_count, filter, Flat, flat_map, flat_of, form_by, form_of}
+use Rattle.rule_layout.proofs.Words.{get_or, input_terms, is_complemented, IsBelow, IsCountable, IsInTable}
+use Rattle.rule_layout.proofs.Words.{IsNumbering, IsSizeOfRules, IsSpreadable, IsValid, length, length-append}
+use Rattle.rule_layout.proofs.Words.{length-map, List, Literal, literal_number, map, marked, mul-le-mul_right, nat_le}
+use Rattle.rule_layout.proofs.Words.{nat_tests, out_slot, output_terms, range_with_len, refl, Rev, Revw, Rule}
+use Rattle.rule_layout.proofs.Words.{rule_conjunctions, rule_entries, rule_spread, rule_weights, singleton_count}
+use Rattle.rule_layout.proofs.Words.{Size, Slot, slots_of, subst, sum_by, sum_by-append, sum_by-cons, sym}
+use Rattle.rule_layout.proofs.Words.{table_conjunction, table_conjunctions, table_literal, table_number, term_count}
+use Rattle.rule_layout.proofs.Words.{term_slot, terms_from, total_length, weights_of, ℕ}
+use Rattle.rule_layout.specs.Layouts.{element_width, list_size, IsTooLong, IsWithinLimits}
+use Rattle.std.specs.{Prelude.Ok, Prelude.true, Prelude.false}
+use Rattle.std.proofs.{lemmas.List.Sums.length-filter, lemmas.List.Sums.count_by-le-length}
+use Rattle.std.proofs.{lemmas.List.Sums.get_or-le-sum_by, lemmas.List.Elements.All-filter}
+use Rattle.fuzzy_meaning.specs.{Blocks.rule_size}
+use Rattle.rule_layout.specs.{declared.flat.Form.Form}
 use Rattle.std.proofs.lemmas.List.FromFn.{length-range_with_len}
-use Rattle.std.proofs.lemmas.List.Sums.{sum_by-append, sum_by-cons, length-filter, count_by-le-length, get_or-le-sum_by}
-use Rattle.std.proofs.lemmas.List.Elements.{All-append, All-map, All-head, All-tail, All-nil, All-filter}
-use Rattle.std.specs.List.{range_with_len}
-use Rattle.fuzzy_meaning.specs.declared.{block.Block.Block, block.Rule.Rule}
-use Rattle.fuzzy_meaning.specs.Blocks.{IsValid, rule_size}
-use Rattle.rule_layout.specs.declared.{flat.Slot.Slot, flat.Conjunction.Conjunction, flat.Form.Form, flat.Flat.Flat}
-use Rattle.rule_layout.specs.declared.flat.Form.TheVariants.{Rev, Revw}
-use Rattle.rule_layout.specs.declared.sizes.Size.{Size}
-use Rattle.rule_layout.specs.{Spreading.Literal, Spreading.total_length, Lists.marked}
-use Rattle.rule_layout.specs.Slots.{terms_from, term_count, singleton_count, input_terms, output_terms, term_slot}
-use Rattle.rule_layout.specs.Slots.{complement_slot, out_slot, is_complemented, slots_of, literal_number}
-use Rattle.rule_layout.specs.Slots.{conclusion_number}
-use Rattle.rule_layout.specs.Tables.{IsInTable, IsNumbering, table_number, table_literal}
-use Rattle.rule_layout.specs.Sizes.{IsCountable, rule_entries, entry_count, IsSizeOfRules}
-use Rattle.rule_layout.specs.Layouts.{rule_spread, conjunction_of, rule_conjunctions, conjunctions_of, IsBelow}
-use Rattle.rule_layout.specs.Layouts.{element_width, form_by, form_of, rule_weights, weights_of, flat_of, list_size}
-use Rattle.rule_layout.specs.Layouts.{conjunction_count, IsTooLong, IsWithinLimits}
-use Rattle.rule_layout.specs.Steps.{table_conjunction, table_conjunctions, IsSpreadable}
 use Rattle.rule_layout.proofs.BlockLemmas.{input_terms_in_grid, output_terms_in_table, few_terms, few_singletons}
 use Rattle.rule_layout.proofs.BlockLemmas.{rule_fits}
 use Rattle.rule_layout.proofs.{ListLemmas.mark, ListLemmas.marked-cons, RuleLemmas.entry_count_le}
-use Rattle.std.proofs.Math.Nat.{mul-le-mul_right}
-use Rattle.std.proofs.lemmas.Bool.Decides.{nat_tests}
 use Rattle.rule_layout.proofs.MemberLemmas.{RuleHasSlots, rules_have_slots}
 
 pub slots_in_table : (b : Block) → IsValid b → All IsInTable (slots_of b)

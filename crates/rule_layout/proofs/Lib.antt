@@ -15,3 +15,4 @@ pub mod MassLemmas
 pub mod LaidOutLemmas
 pub mod PlaceLemmas
 pub mod FaultLemmas
+pub mod Words

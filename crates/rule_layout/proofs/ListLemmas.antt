@@ -1,10 +1,8 @@
 -- Rule lists, conjunction by conjunction.
-use Rattle.std.proofs.Common.{◌≡◌, ◌≢◌, ℕ, ◌+◌, ◌<◌, ◌≤◌, List, [], ◌∷◌, ◌++◌, length, map, drop, refl, sym, ap, ap₂}
-use Rattle.std.proofs.Common.{◌∙◌, subst, arith, append_assoc}
-use Rattle.std.specs.Prelude.{All}
+use Rattle.rule_layout.proofs.Words.{[], ◌++◌, ◌+◌, ◌<◌, ◌∙◌, ◌∷◌, ◌≡◌, ◌≢◌, ◌≤◌, All, All-append, All-cons, All-head}
+use Rattle.rule_layout.proofs.Words.{All-nil, All-tail, ap, append_assoc, ap₂, arith, at_address, Conjunction, drop}
+use Rattle.rule_layout.proofs.Words.{IsBelow, length, List, map, marked, refl, subst, sym, ℕ}
 use Rattle.std.proofs.lemmas.List.{length-drop}
-use Rattle.std.proofs.lemmas.List.Elements.{All-append, All-head, All-tail, All-cons, All-nil}
-use Rattle.rule_layout.specs.{declared.flat.Conjunction.Conjunction, Lists.marked, Lists.at_address, Layouts.IsBelow}
 
 -- the mark behind a conjunction, with others after it or none
 abbrev pub mark : ℕ → ℕ → List Conjunction → ℕ

@@ -1,28 +1,21 @@
 -- The rule list computes the masses of the output terms.
-use Rattle.std.proofs.Common.{◌≡◌, ℕ, ◌+◌, ◌-◌, ◌<◌, ◌≤◌, ◌||◌, min, max, Bool, true, false, List, [], ◌∷◌, ◌++◌}
-use Rattle.std.proofs.Common.{length, map, get_or, refl, sym, ap, ap₂, ◌∙◌, arith, add-one, Option, Some, None}
-use Rattle.std.specs.Prelude.{◌==◌, ◌&&◌, All, flat_map, if◌then◌else◌, slice_get, slice_index, nat_le, nat_lt}
+use Rattle.rule_layout.proofs.Words.{[], ◌&&◌, ◌++◌, ◌+◌, ◌-◌, ◌<◌, ◌==◌, ◌||◌, ◌∙◌, ◌∷◌, ◌≡◌, ◌≤◌, add-one, All}
+use Rattle.rule_layout.proofs.Words.{All-head, All-tail, ap, ap₂, arith, Block, Bool, conclusion_number, Conjunction}
+use Rattle.rule_layout.proofs.Words.{conjunction_of, conjunctions_of, false, flat_map, flat_of, get_or, get_or-map}
+use Rattle.rule_layout.proofs.Words.{greatest_conjunction, HasSingleton, is_same_slot, IsValid, least_literal, length}
+use Rattle.rule_layout.proofs.Words.{length-map, List, list_any, Literal, literal_number, literal_slot, map, max, min}
+use Rattle.rule_layout.proofs.Words.{mul-le-mul_right, nat_le, nat_tests, None, number_in, Option, Out, out_slot}
+use Rattle.rule_layout.proofs.Words.{refl, Rule, rule_conjunctions, rule_spread, rule_weights, slice_get, Slot}
+use Rattle.rule_layout.proofs.Words.{slots_of, Some, sym, Term, true, weight_byte_of, weights_of, ℕ}
+use Rattle.rule_layout.specs.Masses.{slot_bytes, scaled, left_in, MassLaw}
+use Rattle.std.specs.{Prelude.if◌then◌else◌, Prelude.slice_index, Prelude.nat_lt}
+use Rattle.fuzzy_meaning.specs.{Blocks.input_at}
+use Rattle.rule_layout.specs.{Truths.literal_value, Truths.slot_value, Truths.slot_values}
 use Rattle.std.specs.Option.{option_map_or}
-use Rattle.std.specs.List.{list_any}
-use Rattle.std.proofs.lemmas.List.{length-map, get_or-map}
-use Rattle.std.proofs.lemmas.List.Elements.{All-head, All-tail}
-use Rattle.std.proofs.lemmas.Bool.Decides.{nat_tests}
-use Rattle.std.proofs.Math.Nat.{mul-le-mul_right}
-use Rattle.fuzzy_meaning.specs.declared.{block.Block.Block, block.Rule.Rule}
-use Rattle.fuzzy_meaning.specs.Blocks.{IsValid, HasSingleton, input_at}
 use Rattle.fuzzy_meaning.specs.{Conditions.level, Meaning.concludes}
-use Rattle.byte_scaling.specs.Weights.{weight_byte_of}
 use Rattle.point_slope.specs.Tables.{row_of, grade_of, grade_under, side}
 use Rattle.point_slope.specs.Bytes.{literal_grade, byte_strength, byte_mass_among}
-use Rattle.rule_layout.specs.declared.{flat.Slot.Slot, flat.Conjunction.Conjunction}
-use Rattle.rule_layout.specs.Truths.{literal_value, least_literal, greatest_conjunction, slot_value, slot_values}
 use Rattle.rule_layout.specs.Truths.{least_value, greatest_value, RuleTruthLaw}
-use Rattle.rule_layout.specs.Slots.{slots_of, is_same_slot, number_in, literal_slot, literal_number}
-use Rattle.rule_layout.specs.Slots.{conclusion_number, out_slot}
-use Rattle.rule_layout.specs.Layouts.{rule_spread, conjunction_of, rule_conjunctions, rule_weights, conjunctions_of}
-use Rattle.rule_layout.specs.Layouts.{weights_of, flat_of}
-use Rattle.rule_layout.specs.declared.flat.Slot.TheVariants.{Term, Out}
-use Rattle.rule_layout.specs.{Spreading.Literal, Masses.slot_bytes, Masses.scaled, Masses.left_in, Masses.MassLaw}
 use Rattle.rule_layout.proofs.{NumberLemmas.slot_from_same, TruthLemmas.spreading_law_lem}
 use Rattle.rule_layout.proofs.MemberLemmas.{HasSlot, LiteralHasSlot, RuleHasSlots, rules_have_slots, number_in-lt}
 use Rattle.rule_layout.proofs.MemberLemmas.{out_in_slots}

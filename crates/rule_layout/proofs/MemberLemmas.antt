@@ -1,22 +1,18 @@
 -- Every literal and conclusion of a valid block has its slot.
-use Rattle.std.proofs.Common.{◌≡◌, ℕ, zero, suc, ◌+◌, ◌-◌, ◌<◌, ◌≤◌, ◌||◌, ⊎_elim, Bool, true, false, not, List}
-use Rattle.std.proofs.Common.{[], ◌∷◌, ◌++◌, length, get_or, map, filter, refl, ap, ap₂, ◌∙◌, subst, arith}
-use Rattle.std.specs.Prelude.{◌==◌, ◌&&◌, All, IsSomeAnd, slice_get}
-use Rattle.std.specs.List.{range_with_len, list_any}
+use Rattle.rule_layout.proofs.Words.{[], ◌&&◌, ◌++◌, ◌+◌, ◌-◌, ◌<◌, ◌==◌, ◌||◌, ◌∙◌, ◌∷◌, ◌≡◌, ◌≤◌, All, all}
+use Rattle.rule_layout.proofs.Words.{All-append, All-cons, All-head, All-map, All-nil, All-tail, also, any, ap, ap₂}
+use Rattle.rule_layout.proofs.Words.{arith, Block, Bool, choices, Complement, complement_slot, Condition, Conditions}
+use Rattle.rule_layout.proofs.Words.{end, false, false≢true, filter, get_or, has_complement, HasSingleton, HasTerm}
+use Rattle.rule_layout.proofs.Words.{input_terms, is, is_complemented, is_same_slot, IsInTable, IsSomeAnd, IsValid}
+use Rattle.rule_layout.proofs.Words.{length, List, list_any, Literal, literal_slot, map, nat_tests, negation, not}
+use Rattle.rule_layout.proofs.Words.{number_in, Out, out_slot, output_terms, range_with_len, refl, Rule, rule_spread}
+use Rattle.rule_layout.proofs.Words.{singleton_count, slice_get, Slot, slots_of, spread_of, spread_parts, subst, suc}
+use Rattle.rule_layout.proofs.Words.{Term, term_count, term_slot, terms_from, true, zero, ℕ, ⊎_elim}
+use Rattle.std.proofs.{lemmas.Bool.or_cases}
+use Rattle.fuzzy_meaning.specs.{Blocks.IsValidCondition, Conditions.AllHaveLiterals}
+use Rattle.rule_layout.specs.{Spreading.literal}
 use Rattle.std.proofs.lemmas.List.Folds.{list_any-append}
-use Rattle.std.proofs.lemmas.Bool.{or_cases, false≢true}
-use Rattle.std.proofs.lemmas.Bool.Decides.{nat_tests}
-use Rattle.std.proofs.lemmas.List.Elements.{All-append, All-map, All-head, All-tail, All-cons, All-nil}
-use Rattle.fuzzy_meaning.specs.declared.{block.Block.Block, block.Rule.Rule}
-use Rattle.fuzzy_meaning.specs.Blocks.{IsValid, IsValidCondition, HasTerm, HasSingleton}
-use Rattle.fuzzy_meaning.specs.Conditions.{Condition, is, negation, all, any, Conditions, end, also, AllHaveLiterals}
 use Rattle.fuzzy_meaning.proofs.Algebra.{AllHaveLiterals-some}
-use Rattle.rule_layout.specs.{declared.flat.Slot.Slot, Tables.IsInTable, Layouts.rule_spread}
-use Rattle.rule_layout.specs.declared.flat.Slot.TheVariants.{Term, Complement, Out}
-use Rattle.rule_layout.specs.Spreading.{Literal, literal, choices, spread_of, spread_parts}
-use Rattle.rule_layout.specs.Slots.{terms_from, term_count, singleton_count, input_terms, output_terms, term_slot}
-use Rattle.rule_layout.specs.Slots.{complement_slot, out_slot, has_complement, is_complemented, slots_of}
-use Rattle.rule_layout.specs.Slots.{is_same_slot, number_in, literal_slot}
 use Rattle.rule_layout.proofs.BlockLemmas.{term_in_grid, singleton_in_table}
 use Rattle.rule_layout.proofs.SlotLemmas.{some_has_complement}
 

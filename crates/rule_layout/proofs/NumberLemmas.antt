@@ -1,12 +1,8 @@
 -- The numbers of slots in a list.
-use Rattle.std.proofs.Common.{◌≡◌, ◌≢◌, ℕ, ◌+◌, ◌<◌, ◌≤◌, Bool, true, false, List, ◌∷◌, length, get_or, set, drop, refl}
-use Rattle.std.proofs.Common.{sym, ap, ◌∙◌, subst, arith, true≢false}
-use Rattle.std.specs.Prelude.{◌==◌, ◌&&◌, All}
-use Rattle.std.proofs.lemmas.List.{drop_more, get_or-set_same, get_or-set_other}
-use Rattle.std.proofs.lemmas.Bool.Decides.{nat_tests}
-use Rattle.rule_layout.specs.{declared.flat.Slot.Slot, Slots.is_same_slot, Slots.number_in}
-use Rattle.rule_layout.specs.declared.flat.Slot.TheVariants.{Term, Complement, Out}
-use Rattle.rule_layout.specs.Tables.{IsInTable, place_of, table_number}
+use Rattle.rule_layout.proofs.Words.{◌&&◌, ◌+◌, ◌<◌, ◌==◌, ◌∙◌, ◌∷◌, ◌≡◌, ◌≢◌, ◌≤◌, All, ap, arith, Bool, Complement}
+use Rattle.rule_layout.proofs.Words.{drop, drop_more, false, get_or, is_same_slot, IsInTable, length, List, nat_tests}
+use Rattle.rule_layout.proofs.Words.{number_in, Out, place_of, refl, Slot, subst, sym, table_number, Term, true, ℕ}
+use Rattle.std.proofs.{Common.set, Common.true≢false, lemmas.List.get_or-set_same, lemmas.List.get_or-set_other}
 
 same_numbers : (i t j u : ℕ) → i ≡ j → t ≡ u → (i == j && t == u) ≡ true
 same_numbers i t j u e f = grind (arith, nat_tests)

@@ -1,15 +1,11 @@
 -- Where the slots of a term stand.
-use Rattle.std.proofs.Common.{◌≡◌, ℕ, zero, suc, ◌+◌, ◌-◌, ◌<◌, ◌≤◌, List, [], ◌∷◌, ◌++◌, length, map, filter, get_or}
-use Rattle.std.proofs.Common.{take, sym, ap, ◌∙◌, arith}
-use Rattle.std.specs.Prelude.{IsSomeAnd, slice_get, sum_by}
-use Rattle.std.specs.List.{range_with_len}
-use Rattle.std.proofs.lemmas.List.{length-append, length-map, get_or_append_left, get_or-append-add, get_or-map}
+use Rattle.rule_layout.proofs.Words.{[], ◌++◌, ◌+◌, ◌-◌, ◌<◌, ◌∙◌, ◌∷◌, ◌≡◌, ◌≤◌, ap, arith, Block, complement_slot}
+use Rattle.rule_layout.proofs.Words.{filter, get_or, get_or-map, input_terms, is_complemented, IsSomeAnd, IsValid}
+use Rattle.rule_layout.proofs.Words.{length, length-append, length-map, List, map, number_in, Out, out_slot}
+use Rattle.rule_layout.proofs.Words.{output_terms, range_with_len, singleton_count, slice_get, Slot, slots_of, suc}
+use Rattle.rule_layout.proofs.Words.{sum_by, sum_by-cons, sym, take, Term, term_count, term_slot, terms_from, zero, ℕ}
+use Rattle.std.proofs.{lemmas.List.get_or_append_left, lemmas.List.get_or-append-add}
 use Rattle.std.proofs.lemmas.List.FromFn.{length-map-range_with_len, get_or-map-range_with_len}
-use Rattle.std.proofs.lemmas.List.Sums.{sum_by-cons}
-use Rattle.fuzzy_meaning.specs.{declared.block.Block.Block, Blocks.IsValid}
-use Rattle.rule_layout.specs.declared.{flat.Slot.Slot, flat.Slot.TheVariants.Term, flat.Slot.TheVariants.Out}
-use Rattle.rule_layout.specs.Slots.{terms_from, term_count, singleton_count, input_terms, output_terms, term_slot}
-use Rattle.rule_layout.specs.Slots.{complement_slot, out_slot, is_complemented, slots_of, number_in}
 use Rattle.rule_layout.specs.Numbers.{complemented_terms, TermNumberLaw, OutNumberLaw}
 use Rattle.rule_layout.proofs.LaidOutLemmas.{slots_apart}
 

@@ -1,18 +1,13 @@
 -- The sizes of rules, one after another.
-use Rattle.std.proofs.Common.{◌≡◌, ℕ, ◌+◌, ◌*◌, ◌<◌, ◌≤◌, false, List, [], ◌∷◌, ◌++◌, length, map, get_or, take}
-use Rattle.std.proofs.Common.{replicate, Some, Ok, refl, sym, ap, ap₂, ◌∙◌, subst, arith}
-use Rattle.std.specs.Prelude.{All, flat_map}
-use Rattle.std.proofs.lemmas.List.{take_more, get_or-take, length-take, flat_map_more}
-use Rattle.std.proofs.lemmas.List.Sums.{sum_by-cons}
-use Rattle.std.proofs.lemmas.List.Elements.{All-head, All-tail}
-use Rattle.std.proofs.Math.Nat.{mul-le-mul_left}
-use Rattle.fuzzy_meaning.specs.{declared.block.Rule.Rule, Conditions.nodes}
-use Rattle.rule_layout.specs.declared.{sizes.Size.Size, flat.Conjunction.Conjunction}
-use Rattle.rule_layout.specs.{Spreading.Literal, Spreading.total_length, Slots.out_slot}
-use Rattle.rule_layout.specs.Sizes.{IsCountable, rule_entries, entry_count, IsSizeOfRule, IsSizeOfRules, IsSmall}
-use Rattle.rule_layout.specs.Tables.{table_number, table_literal, table_literals}
-use Rattle.rule_layout.specs.Layouts.{rule_spread, conjunction_count}
-use Rattle.rule_layout.specs.Steps.{table_conjunction, table_conjunctions, with_conclusions}
+use Rattle.rule_layout.proofs.Words.{[], ◌*◌, ◌++◌, ◌+◌, ◌<◌, ◌∙◌, ◌∷◌, ◌≡◌, ◌≤◌, All, All-head, All-tail, ap, ap₂}
+use Rattle.rule_layout.proofs.Words.{arith, Conjunction, conjunction_count, entry_count, false, flat_map, get_or}
+use Rattle.rule_layout.proofs.Words.{IsCountable, IsSizeOfRules, IsSmall, length, length-take, List, Literal, map}
+use Rattle.rule_layout.proofs.Words.{mul-le-mul_left, nodes, Ok, out_slot, refl, replicate, Rule, rule_entries}
+use Rattle.rule_layout.proofs.Words.{rule_spread, Size, Some, subst, sum_by-cons, sym, table_conjunction}
+use Rattle.rule_layout.proofs.Words.{table_conjunctions, table_literal, table_literals, table_number, take, take_more}
+use Rattle.rule_layout.proofs.Words.{total_length, with_conclusions, ℕ}
+use Rattle.std.proofs.{lemmas.List.get_or-take, lemmas.List.flat_map_more}
+use Rattle.rule_layout.specs.{Sizes.IsSizeOfRule}
 use Rattle.rule_layout.proofs.{SpreadLemmas.entries_le, SizeLemmas.small_from}
 
 entries_bound : (e m n k : ℕ) → e ≤ m * n → n + k ≤ 1048576 → e + m * (k + 2) ≤ m * 2097152

@@ -1,12 +1,9 @@
 -- The sizes of lists of conjunctions, part by part.
-use Rattle.std.proofs.Common.{◌≡◌, ℕ, ◌+◌, ◌*◌, ◌<◌, ◌≤◌, Bool, true, false, List, length, get_or, take, Option}
-use Rattle.std.proofs.Common.{Some, None, subst, sym, arith}
-use Rattle.std.proofs.lemmas.List.{length-append}
-use Rattle.std.proofs.Math.Nat.{mul-le-mul_left}
-use Rattle.fuzzy_meaning.specs.Conditions.{Condition, conditions}
-use Rattle.rule_layout.specs.declared.sizes.Size.{Size}
-use Rattle.rule_layout.specs.Spreading.{Literal, spreads, spread_of, spread_parts}
-use Rattle.rule_layout.specs.{Grid.AllFitGrid, Sizes.IsSizeIfFew, Sizes.IsSizeOf, Sizes.IsJoined, Sizes.IsSmall}
+use Rattle.rule_layout.proofs.Words.{◌*◌, ◌+◌, ◌<◌, ◌≡◌, ◌≤◌, AllFitGrid, arith, Bool, Condition, conditions, false}
+use Rattle.rule_layout.proofs.Words.{get_or, IsSizeOf, IsSmall, length, length-append, List, Literal, mul-le-mul_left}
+use Rattle.rule_layout.proofs.Words.{None, Option, Size, Some, spread_of, spread_parts, spreads, subst, sym, take}
+use Rattle.rule_layout.proofs.Words.{true, ℕ}
+use Rattle.rule_layout.specs.{Sizes.IsSizeIfFew, Sizes.IsJoined}
 use Rattle.rule_layout.proofs.ChoicesLemmas.{length-choices, total_length-append, total_length-choices}
 use Rattle.rule_layout.proofs.SpreadLemmas.{spread_parts-take, take_le, part_le}
 

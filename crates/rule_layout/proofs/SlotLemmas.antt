@@ -1,14 +1,14 @@
 -- Lists of slots, their terms and their complements.
-use Rattle.std.proofs.Common.{◌≡◌, ℕ, zero, suc, ◌+◌, ◌<◌, ◌||◌, Bool, true, false, List, [], ◌∷◌, ◌++◌, length, map}
-use Rattle.std.proofs.Common.{take, get_or, replicate, refl, sym, ap, not, Vec, Global, ◌⊎◌, ⊎_elim, ◌∙◌, arith, append_assoc}
-use Rattle.std.specs.List.{range_with_len}
-use Rattle.std.proofs.lemmas.List.{map_more, append-nil, length-map, length-take}
+use Rattle.rule_layout.proofs.Words.{[], ◌++◌, ◌+◌, ◌<◌, ◌||◌, ◌∙◌, ◌∷◌, ◌≡◌, ◌⊎◌, also, And, ap, append-nil}
+use Rattle.rule_layout.proofs.Words.{append_assoc, arith, Bool, Condition, Conditions, conditions, end}
+use Rattle.rule_layout.proofs.Words.{evaluate_pushed_parts-take, false, get_or, Global, has_complement, IsMonoid}
+use Rattle.rule_layout.proofs.Words.{length, length-map, length-take, List, map, Node, not, Or, range_with_len, refl}
+use Rattle.rule_layout.proofs.Words.{replicate, suc, sym, take, terms_from, tree, true, Vec, zero, ℕ, ⊎_elim}
+use Rattle.std.proofs.{lemmas.List.map_more}
+use Rattle.fuzzy_meaning.specs.{Conditions.evaluate_pushed_parts}
+use Rattle.fuzzy_meaning.proofs.{Algebra.parts_tree}
+use Rattle.rule_layout.specs.{Slots.in_some_part, Slots.is_complement}
 use Rattle.std.proofs.lemmas.List.FromFn.{map-range_with_len_more}
-use Rattle.fuzzy_meaning.specs.Conditions.{Condition, Conditions, end, also, conditions, evaluate_pushed_parts}
-use Rattle.fuzzy_meaning.specs.{Trees.tree, declared.condition.Node.Node}
-use Rattle.fuzzy_meaning.specs.declared.condition.Node.TheVariants.{And, Or}
-use Rattle.fuzzy_meaning.proofs.Algebra.{parts_tree, IsMonoid, evaluate_pushed_parts-take}
-use Rattle.rule_layout.specs.Slots.{terms_from, in_some_part, is_complement, has_complement}
 
 pub terms_push : (v n j : ℕ) (front : List (ℕ × ℕ)) → 1 + n ≡ j →
     (front ++ map (λ t. (v, t)) (range_with_len 1 n)) ++ (v, j) ∷ [] ≡ front

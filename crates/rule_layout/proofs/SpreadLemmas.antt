@@ -1,13 +1,11 @@
 -- How conditions spread.
-use Rattle.std.proofs.Common.{◌≡◌, ℕ, zero, suc, ◌+◌, ◌*◌, ◌<◌, ◌≤◌, Bool, true, false, not, List, [], ◌∷◌, length}
-use Rattle.std.proofs.Common.{get_or, take, refl, arith, append_assoc}
-use Rattle.std.proofs.lemmas.List.{length-append, append-nil}
-use Rattle.std.proofs.Math.Nat.{mul-le-mul_left, mul-le-mul_right}
-use Rattle.fuzzy_meaning.specs.Conditions.{Condition, is, negation, all, any, Conditions, end, also, conditions}
-use Rattle.fuzzy_meaning.specs.Conditions.{nodes, total_nodes, SomeHaveLiterals}
-use Rattle.fuzzy_meaning.proofs.Algebra.{IsMonoid, evaluate_pushed_parts-take}
-use Rattle.rule_layout.specs.Spreading.{choices, spreads, spread_literal, spread_of, spread_parts, total_length}
-use Rattle.rule_layout.specs.Grid.{IsInGrid, FitsGrid, AllFitGrid}
+use Rattle.rule_layout.proofs.Words.{[], ◌*◌, ◌+◌, ◌<◌, ◌∷◌, ◌≡◌, ◌≤◌, all, AllFitGrid, also, any, append-nil}
+use Rattle.rule_layout.proofs.Words.{append_assoc, arith, Bool, choices, Condition, Conditions, conditions, end}
+use Rattle.rule_layout.proofs.Words.{evaluate_pushed_parts-take, false, FitsGrid, get_or, is, IsInGrid, IsMonoid}
+use Rattle.rule_layout.proofs.Words.{length, length-append, List, mul-le-mul_left, mul-le-mul_right, negation, nodes}
+use Rattle.rule_layout.proofs.Words.{not, refl, spread_literal, spread_of, spread_parts, spreads, suc, take}
+use Rattle.rule_layout.proofs.Words.{total_length, total_nodes, true, zero, ℕ}
+use Rattle.fuzzy_meaning.specs.{Conditions.SomeHaveLiterals}
 use Rattle.rule_layout.proofs.ChoicesLemmas.{length-choices, total_length-append, total_length-choices, choices_assoc}
 use Rattle.rule_layout.proofs.ChoicesLemmas.{nil-choices, choices-nil}
 

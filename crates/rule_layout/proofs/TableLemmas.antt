@@ -1,9 +1,7 @@
 -- Conjunctions by the numbers of a table.
-use Rattle.std.proofs.Common.{◌≡◌, ℕ, ◌+◌, ◌<◌, Bool, true, false, List, length, get_or, map, take, sym, ap, ap₂, ◌∙◌}
-use Rattle.std.proofs.lemmas.List.{map-append}
-use Rattle.fuzzy_meaning.specs.Conditions.{Condition, conditions}
-use Rattle.rule_layout.specs.Spreading.{Literal, spreads, spread_of, spread_parts}
-use Rattle.rule_layout.specs.Tables.{table_literals, table_literal}
+use Rattle.rule_layout.proofs.Words.{◌+◌, ◌<◌, ◌∙◌, ◌≡◌, ap, ap₂, Bool, Condition, conditions, false, get_or, length}
+use Rattle.rule_layout.proofs.Words.{List, Literal, map, map-append, spread_of, spread_parts, spreads, sym}
+use Rattle.rule_layout.proofs.Words.{table_literal, table_literals, take, true, ℕ}
 use Rattle.rule_layout.proofs.{ChoicesLemmas.map-choices, SpreadLemmas.spread_parts-take}
 
 table_literals-join : (table : List ℕ) (any : Bool) (xs ys : List (List Literal))

@@ -1,11 +1,11 @@
 -- Spreading keeps the truth of a condition.
-use Rattle.std.proofs.Common.{◌≡◌, ℕ, ◌-◌, ◌≤◌, min, max, Bool, true, false, not, List, [], ◌∷◌, ◌++◌, map}
-use Rattle.std.proofs.Common.{refl, ap₂, ◌∙◌, arith}
+use Rattle.rule_layout.proofs.Words.{[], ◌++◌, ◌-◌, ◌∙◌, ◌∷◌, ◌≡◌, ◌≤◌, ap₂, arith, Bool, choices, false}
+use Rattle.rule_layout.proofs.Words.{greatest_conjunction, least_literal, List, Literal, map, max, min, not, refl}
+use Rattle.rule_layout.proofs.Words.{spread_literal, spreads, true, ℕ}
+use Rattle.rule_layout.specs.{Truths.SpreadingLaw}
 use Rattle.fuzzy_meaning.specs.Conditions.{levels}
 use Rattle.fuzzy_meaning.proofs.Algebra.{AreJoinsRelated, IsDeMorgan, turned, evaluate_pushed-related}
 use Rattle.fuzzy_meaning.proofs.Algebra.{evaluate_pushed-same}
-use Rattle.rule_layout.specs.Spreading.{Literal, choices, spreads, spread_literal}
-use Rattle.rule_layout.specs.Truths.{least_literal, greatest_conjunction, SpreadingLaw}
 
 levels_are_De_Morgan : (n : ℕ) → IsDeMorgan (λ a. a ≤ n) (λ a b. a ≡ b) (λ a. n - a) (levels n)
 levels_are_De_Morgan n = record {

@@ -1,15 +1,12 @@
 -- The state in which the slow firmware waits for its first sample has the fast code beside it.
-use Rattle.std.proofs.Common.{◌≡◌, ◌==◌, ℕ, zero, suc, ◌^◌, ◌<◌, ◌≤◌, Bool, true, false, if◌then◌else◌, Ok, Err, List}
-use Rattle.std.proofs.Common.{[], length, refl, arith}
+use Rattle.two_level_runs.proofs.Words.{[], ◌<◌, ◌==◌, ◌^◌, ◌≡◌, ◌≤◌, AreBytes, arith, Block, Bool, false, FastStands}
+use Rattle.two_level_runs.proofs.Words.{first_two, FirstAlike, FitsState, if◌then◌else◌, image_memory}
+use Rattle.two_level_runs.proofs.Words.{is_open_to_fast, length, List, Next, next_of, Ok, refl, StandsBeside, State}
+use Rattle.two_level_runs.proofs.Words.{StepFits, suc, true, Two, zero, ℕ}
+use Rattle.std.proofs.{Common.Err}
+use Rattle.cpu12_emul.specs.{Step.reset_with}
 use Rattle.std.specs.Prelude.{Result}
-use Rattle.fuzzy_meaning.specs.declared.block.Block.{Block}
-use Rattle.cpu12_isa.specs.Fits.{AreBytes}
-use Rattle.cpu12_parts.specs.{State.State, Fits.FitsState}
-use Rattle.cpu12_emul.specs.{Fits.StepFits, Image.image_memory, Step.Next, Step.next_of, Step.reset_with}
 use Rattle.run_forms.specs.Rows.{then_arrival, arrival}
-use Rattle.alone_runs.specs.Answering.{FirstAlike}
-use Rattle.two_level_code.specs.{declared.two.Two.Two, MemoryMaps.is_open_to_fast, Standing.StandsBeside}
-use Rattle.two_level_runs.specs.{Rows.first_two, Levels.FastStands}
 use Rattle.two_level_runs.proofs.Standing.{code_stays, outputs_stay}
 
 -- steps on the way leave what fits

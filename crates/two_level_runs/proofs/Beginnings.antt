@@ -1,17 +1,12 @@
 -- The state before a step of the fast code, and what makes it such a state.
-use Rattle.std.proofs.Common.{◌≡◌, ℕ, ◌≤◌, Bool, Ok, List, [], ◌∷◌, length, refl, ap, ap₂, sym, ◌∙◌, subst, arith, inl}
-use Rattle.std.proofs.Common.{inr}
-use Rattle.std.specs.Prelude.{slice_index}
-use Rattle.cpu12_isa.specs.declared.instr.Instr.{Instr}
-use Rattle.cpu12_isa.specs.{Act.outcome, Act.read_by, Act.write_all, Agreement.AllShown, Agreement.WritesStay}
-use Rattle.cpu12_isa.specs.{Code.decode_of, Code.decode_at, Code.six_from, Fits.FitsRegs, Fits.AreBytes}
-use Rattle.cpu12_isa.specs.{Flags.interrupts_masked, Flags.has, Memory.bytes_at, Regions.is_hidden}
-use Rattle.cpu12_parts.specs.declared.temps.Temps.{Temps}
-use Rattle.cpu12_parts.specs.declared.temps.Temps.TheVariants.{Free, Running, OnStack}
-use Rattle.cpu12_parts.specs.{State.State, Fits.FitsTemps, Laws.IsOff, Laws.addresses, Touching.IsIn, Touching.Each}
-use Rattle.cpu12_emul.specs.{Simulation.AreSumsReady, Step.Left, Step.step_act}
-use Rattle.two_level_code.specs.{MemoryMaps.fast_map, Running.HasFastRom, Running.IsFastStack, Running.fast_code}
-use Rattle.two_level_runs.specs.Steps.{is_open_inside, is_foreign, is_kept, IsFastState}
+use Rattle.two_level_runs.proofs.Words.{[], ◌∙◌, ◌∷◌, ◌≡◌, ◌≤◌, addresses, AllShown, ap, ap₂, AreBytes, AreSumsReady}
+use Rattle.two_level_runs.proofs.Words.{arith, Bool, bytes_at, decode_at, Each, fast_code, fast_map, FitsRegs}
+use Rattle.two_level_runs.proofs.Words.{FitsTemps, Free, has, HasFastRom, inl, inr, Instr, interrupts_masked}
+use Rattle.two_level_runs.proofs.Words.{is_foreign, is_hidden, is_kept, is_open_inside, IsFastStack, IsFastState}
+use Rattle.two_level_runs.proofs.Words.{IsIn, IsOff, Left, length, List, Ok, OnStack, outcome, read_by, refl, Running}
+use Rattle.two_level_runs.proofs.Words.{six_from, slice_index, State, step_act, subst, sym, Temps, write_all}
+use Rattle.two_level_runs.proofs.Words.{WritesStay, ℕ}
+use Rattle.cpu12_isa.specs.{Code.decode_of}
 use Rattle.two_level_runs.proofs.Owned.{all_shown, hides_more, not_written, rom_kept}
 
 -- what each state of the fast code has, in which I is 1 or not, and SP is this

@@ -1,14 +1,12 @@
 -- Under interrupts memory stays one of bytes.
-use Rattle.std.proofs.Common.{◌≡◌, ℕ, ◌^◌, ◌<◌, Bool, List, [], ◌∷◌, refl, ap, sym, subst, inl, inr, arith}
-use Rattle.cpu12_isa.specs.{declared.instr.Regs.Regs, Memory.plus, Memory.placed, Registers.frame_bytes}
-use Rattle.cpu12_isa.specs.Fits.{FitsRegs, FitsWrites, AreBytes, BytesStay}
-use Rattle.cpu12_parts.specs.declared.temps.Temps.{Temps}
-use Rattle.cpu12_parts.specs.declared.temps.Temps.TheVariants.{Free, Running, OnStack}
-use Rattle.cpu12_parts.specs.{State.State, Parts.sum_bytes, Parts.suspended, Parts.wav}
-use Rattle.cpu12_parts.specs.{Fits.FitsTemps, Fits.FitsState, Inside.PushesRunning, Inside.PushesNone}
-use Rattle.cpu12_emul.specs.{Fits.StepFits, Step.Next, Take.framed}
-use Rattle.cpu12_emul.specs.Simulation.{OnStackOrNone, Simulates, AreSumsReady, HasRoom, IsShownStep, StepKeeps}
-use Rattle.run_law.specs.{Uninterrupted.stepped, Uninterrupted.state_by, Soundness.Begins, Soundness.SumsFitBelow}
+use Rattle.two_level_runs.proofs.Words.{[], ◌<◌, ◌^◌, ◌∷◌, ◌≡◌, ap, AreBytes, AreSumsReady, arith, Begins, Bool}
+use Rattle.two_level_runs.proofs.Words.{BytesStay, FitsRegs, FitsState, FitsTemps, FitsWrites, frame_bytes, framed}
+use Rattle.two_level_runs.proofs.Words.{Free, HasRoom, inl, inr, List, Next, OnStack, OnStackOrNone, placed, plus}
+use Rattle.two_level_runs.proofs.Words.{refl, Regs, Running, Simulates, State, state_by, StepFits, stepped, subst}
+use Rattle.two_level_runs.proofs.Words.{suspended, sym, Temps, wav, ℕ}
+use Rattle.cpu12_parts.specs.{Parts.sum_bytes, Inside.PushesRunning, Inside.PushesNone}
+use Rattle.cpu12_emul.specs.{Simulation.IsShownStep, Simulation.StepKeeps}
+use Rattle.run_law.specs.{Soundness.SumsFitBelow}
 use Rattle.two_level_runs.proofs.Beginnings.{off_fits}
 
 -- the laws of lower crates

@@ -1,10 +1,8 @@
 -- A state from which the fast code is entered.
-use Rattle.std.proofs.Common.{ℕ, List, refl, inl, arith}
-use Rattle.fuzzy_meaning.specs.declared.block.Block.{Block}
-use Rattle.cpu12_parts.specs.{declared.temps.Temps.TheVariants.Free, State.State}
-use Rattle.cpu12_emul.specs.Image.{image_memory, HoldsImage}
-use Rattle.two_level_code.specs.{declared.two.Two.Two, Standing.StandsBeside, Standing.TwoStandBeside}
-use Rattle.two_level_runs.specs.{Entered.FastIsEntered, Outer.CanEnter, Outer.OuterEnters}
+use Rattle.two_level_runs.proofs.Words.{arith, Block, CanEnter, Free, image_memory, inl, List, OuterEnters, refl}
+use Rattle.two_level_runs.proofs.Words.{StandsBeside, State, Two, TwoStandBeside, ℕ}
+use Rattle.cpu12_emul.specs.{Image.HoldsImage}
+use Rattle.two_level_runs.specs.{Entered.FastIsEntered}
 
 -- the image's memory, with SP at the stack's end
 beginning : List ℕ → State

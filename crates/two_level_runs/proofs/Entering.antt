@@ -1,14 +1,11 @@
 -- An outer interrupt enters the fast code.
-use Rattle.std.proofs.Common.{◌≡◌, ℕ, suc, ◌+◌, ◌*◌, ◌-◌, ◌^◌, ◌<◌, ◌≤◌, true, List, length, bit_or, ap₂, sym, ◌∙◌}
-use Rattle.std.proofs.Common.{subst, inl, inr, arith}
-use Rattle.std.specs.Prelude.{All, slice_index, [], ◌∷◌}
-use Rattle.cpu12_isa.specs.{declared.instr.Ccr.Ccr, Agreement.WritesStay, Code.six_from}
-use Rattle.cpu12_isa.specs.{Fits.FitsRegs, Fits.AreBytes, Fits.BytesStay, Flags.has, Flags.interrupts_masked}
-use Rattle.cpu12_isa.specs.{Memory.plus, Memory.placed, Memory.word_of, Registers.frame_bytes}
-use Rattle.cpu12_isa.proofs.Algebra.{bit_or_is, fits_put}
-use Rattle.cpu12_parts.specs.{State.State, Touching.IsIn, Touching.Each}
-use Rattle.two_level_code.specs.{MemoryMaps.fast_map, Running.fast_code}
-use Rattle.two_level_runs.specs.{Runs.entered, Outer.HasFastCode, Outer.OuterEnters}
+use Rattle.two_level_runs.proofs.Words.{◌*◌, ◌+◌, ◌-◌, ◌<◌, ◌^◌, ◌∙◌, ◌≡◌, ◌≤◌, All, ap₂, AreBytes, arith, bit_or}
+use Rattle.two_level_runs.proofs.Words.{bit_or_is, BytesStay, Ccr, Each, entered, fast_code, fast_map, FitsRegs}
+use Rattle.two_level_runs.proofs.Words.{frame_bytes, has, HasFastCode, inl, inr, interrupts_masked, IsIn, length}
+use Rattle.two_level_runs.proofs.Words.{List, OuterEnters, placed, plus, six_from, slice_index, State, subst, suc}
+use Rattle.two_level_runs.proofs.Words.{sym, true, word_of, WritesStay, ℕ}
+use Rattle.std.specs.{Prelude.[], Prelude.◌∷◌}
+use Rattle.cpu12_isa.proofs.{Algebra.fits_put}
 use Rattle.two_level_runs.proofs.Bytes.{AllBytes, all_none, all_more, placed_fits, frame_fits}
 use Rattle.two_level_runs.proofs.Pushing.{framed_mem, entered_mem, stays, size_stays, sample_read}
 

@@ -1,7 +1,6 @@
 -- The fast code has a run from wherever it is entered.
-use Rattle.cpu12_emul.specs.Image.{image_memory}
-use Rattle.two_level_code.specs.{Running.FastAnswersEntered, Standing.TwoStandBeside}
-use Rattle.two_level_runs.specs.Steps.{FastStepsReturn, FastRunsExist}
+use Rattle.two_level_runs.proofs.Words.{FastRunsExist, FastStepsReturn, image_memory, TwoStandBeside}
+use Rattle.two_level_code.specs.{Running.FastAnswersEntered}
 
 pub fast_runs_exist : TwoStandBeside → FastAnswersEntered → FastStepsReturn → FastRunsExist
 fast_runs_exist stand answers steps slow fast two flags bytes before s vs ls vf lf is fits input entered =

@@ -1,19 +1,16 @@
 -- What is seen of a fast run, by what was counted of it.
-use Rattle.std.proofs.Common.{◌≡◌, ℕ, zero, suc, ◌-◌, ◌<◌, Option, List, [], ◌∷◌, map, length, get_or, ap, ap₂, sym}
-use Rattle.std.proofs.Common.{◌∙◌, arith, Bor}
-use Rattle.std.specs.Prelude.{None, Some, MatchOption, slice_get}
+use Rattle.two_level_runs.proofs.Words.{[], ◌-◌, ◌<◌, ◌∙◌, ◌∷◌, ◌≡◌, ap, ap₂, arith, Brief, bytes_at, counted_at}
+use Rattle.two_level_runs.proofs.Words.{fast_map, fast_run, FastSeen, from, get_or, inner_notes, input_bytes, length}
+use Rattle.two_level_runs.proofs.Words.{length-map, List, map, None, Ran, sample_of, seen_of, slice_get, Some, State}
+use Rattle.two_level_runs.proofs.Words.{suc, sym, zero, ℕ}
+use Rattle.std.proofs.{Common.Option, Common.Bor}
+use Rattle.std.specs.{Prelude.MatchOption}
+use Rattle.trace_io.specs.{declared.sample.Sample.Sample}
+use Rattle.run_forms.specs.{declared.sample.Tally.Tally, Rest.brief}
+use Rattle.two_level_runs.specs.{declared.fast_code.InnerFrame.InnerFrame, InnerNotes.inner_frames_seen}
 use Rattle.std.specs.Slice.{IsItemAt}
-use Rattle.std.proofs.lemmas.List.{length-map}
 use Rattle.std.proofs.lemmas.Option.{slice_get_past}
-use Rattle.cpu12_isa.specs.Memory.{from, bytes_at}
-use Rattle.cpu12_parts.specs.State.{State}
-use Rattle.run_law.specs.Forms.{Ran}
-use Rattle.trace_io.specs.{declared.sample.Sample.Sample, Traces.input_bytes}
-use Rattle.two_level_code.specs.MemoryMaps.{fast_map}
 use Rattle.arrayvec.specs.ArrayVec.{ArrayVec}
-use Rattle.run_forms.specs.{declared.sample.Tally.Tally, Rest.Brief, Rest.brief, Rest.counted_at}
-use Rattle.two_level_runs.specs.{declared.fast_code.InnerFrame.InnerFrame, Runs.FastSeen, Runs.fast_run, Runs.seen_of}
-use Rattle.two_level_runs.specs.{InnerNotes.inner_frames_seen, InnerNotes.inner_notes, Rows.sample_of}
 
 -- what is seen of a run of which this was counted
 abbrev pub seen : ℕ → List ℕ → Tally (ArrayVec InnerFrame) → FastSeen

@@ -1,23 +1,15 @@
 -- The fast runs that levels told of.
-use Rattle.std.proofs.Common.{◌≡◌, ℕ, suc, ◌≤◌, List, [], ◌∷◌, ◌++◌, map, length, refl, ap, sym, subst, arith}
-use Rattle.std.specs.Prelude.{All, Option, None, Some, flat_map}
+use Rattle.two_level_runs.proofs.Words.{[], ◌++◌, ◌∷◌, ◌≡◌, ◌≤◌, All, All-cons, all_onto, answer_of_fast, ap, AreTold}
+use Rattle.two_level_runs.proofs.Words.{arith, Block, Byte, bytes_of, EachTold, fast_most, FastSeen, Form, given}
+use Rattle.two_level_runs.proofs.Words.{IsReadOff, IsTold, IsToldFrom, length, Level, List, map, None, onto, Option}
+use Rattle.two_level_runs.proofs.Words.{outputs_after, refl, rows_from, RowSeen, Some, State, step_bound, subst, suc}
+use Rattle.two_level_runs.proofs.Words.{sym, Two, uninterrupted, ℕ}
+use Rattle.std.specs.{Prelude.flat_map}
+use Rattle.two_level_runs.specs.{Rows.with_fast, Levels.IsAnswerTold, Levels.AreAnswersTold, Answering.runs_told}
+use Rattle.two_level_runs.specs.{Answering.fast_runs, Answering.outputs_told}
 use Rattle.std.specs.List.{cons_option}
-use Rattle.std.proofs.lemmas.List.Elements.{All-cons}
-use Rattle.fuzzy_meaning.specs.declared.block.Block.{Block}
-use Rattle.cpu12_parts.specs.State.{State}
-use Rattle.run_law.specs.Forms.{Form, RowSeen, rows_from}
-use Rattle.run_law.specs.{Following.onto, Following.all_onto, Following.EachTold, Uninterrupted.uninterrupted}
-use Rattle.interrupt_plan.specs.declared.levels.Level.{Level}
-use Rattle.byte_scaling.specs.declared.width.Width.TheVariants.{Byte}
-use Rattle.eval_code.specs.Bounds.{step_bound}
 use Rattle.alone_code.specs.Uninterrupted.{AreAnswersOf}
-use Rattle.two_level_code.specs.{declared.two.Two.Two, Images.fast_most}
 use Rattle.run_forms.specs.Rows.{shown_rows}
-use Rattle.firmware_runs.specs.Ports.{given}
-use Rattle.alone_runs.specs.Rows.{bytes_of}
-use Rattle.two_level_runs.specs.{Runs.FastSeen, Rows.with_fast, Levels.IsAnswerTold, Levels.AreAnswersTold}
-use Rattle.two_level_runs.specs.Answering.{runs_told, fast_runs, answer_of_fast, outputs_told, outputs_after}
-use Rattle.two_level_runs.specs.Answering.{IsReadOff, IsTold, IsToldFrom, AreTold}
 
 -- those of all samples
 abbrev pub runs_in : List (List (Level × Option FastSeen)) → List FastSeen

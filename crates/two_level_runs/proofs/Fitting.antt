@@ -1,17 +1,12 @@
 -- Samples of a block's input bytes are taken as they are.
-use Rattle.std.proofs.Common.{◌≡◌, ℕ, zero, suc, ◌%◌, ◌^◌, ◌<◌, ◌≤◌, Bool, true, false, if◌then◌else◌, List, []}
-use Rattle.std.proofs.Common.{◌∷◌, ◌++◌, map, length, refl, ap, ap₂, ◌∙◌, arith}
-use Rattle.std.specs.Prelude.{◌&&◌, nat_le, All, take}
+use Rattle.two_level_runs.proofs.Words.{[], ◌%◌, ◌++◌, ◌<◌, ◌^◌, ◌∙◌, ◌∷◌, ◌≡◌, ◌≤◌, All, ap, ap₂, AreBytes}
+use Rattle.two_level_runs.proofs.Words.{AreInputBytes, arith, Block, Bool, BytesStay, false, FitsWrites, fitted, Form}
+use Rattle.two_level_runs.proofs.Words.{given, if◌then◌else◌, length, List, map, may_interrupt, MemoryMap, next_of}
+use Rattle.two_level_runs.proofs.Words.{placed, Ran, refl, Rows, rows_from, State, suc, true, zero, ℕ}
+use Rattle.run_law.specs.Forms.{Taking, put_take, takes, taken, told, ended, then_rest, run_from, row_of, put_row}
+use Rattle.std.specs.{Prelude.◌&&◌, Prelude.nat_le, Prelude.take}
+use Rattle.cpu12_emul.specs.{Take.frame_of}
 use Rattle.std.proofs.lemmas.List.{take_all}
-use Rattle.fuzzy_meaning.specs.declared.block.Block.{Block}
-use Rattle.cpu12_isa.specs.{Fits.FitsWrites, Fits.AreBytes, Fits.BytesStay, Memory.placed}
-use Rattle.cpu12_parts.specs.State.{State}
-use Rattle.cpu12_emul.specs.{Step.next_of, Take.frame_of, Take.may_interrupt}
-use Rattle.run_law.specs.Forms.{Form, Taking, put_take, takes, taken, told, Ran, ended, then_rest, run_from, Rows}
-use Rattle.run_law.specs.Forms.{row_of, put_row, rows_from}
-use Rattle.eval_code.specs.{declared.memory_map.MemoryMap.MemoryMap, Firing.AreInputBytes}
-use Rattle.firmware_runs.specs.Ports.{given}
-use Rattle.two_level_runs.specs.Levels.{fitted}
 use Rattle.two_level_runs.proofs.Bytes.{AllBytes, all_none, all_more, placed_fits}
 
 -- at most eight bytes

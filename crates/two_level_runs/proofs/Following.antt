@@ -1,19 +1,14 @@
 -- A run of the fast code under inner requests follows the run without.
-use Rattle.std.proofs.Common.{◌≡◌, ℕ, zero, suc, ◌+◌, ◌-◌, ◌^◌, ◌<◌, ◌≤◌, max, nat_lt, Bool, true, false, if◌then◌else◌}
-use Rattle.std.proofs.Common.{List, [], ◌∷◌, length, refl, ap, ap₂, sym, subst, ◌∙◌, arith}
-use Rattle.std.proofs.lemmas.Bool.Decides.{nat_tests}
-use Rattle.cpu12_isa.specs.{declared.instr.Regs.Regs, Agreement.Agree, Agreement.WritesAgree}
-use Rattle.cpu12_isa.specs.{Memory.plus, Memory.from, Memory.bytes_at, Regions.is_hidden, Regions.LeavesStack}
-use Rattle.std.specs.Prelude.{None}
-use Rattle.cpu12_parts.specs.State.{State}
-use Rattle.cpu12_emul.specs.{Simulation.OnStackOnly, Simulation.Same, Take.may_interrupt}
-use Rattle.run_law.specs.Uninterrupted.{uninterrupted, first_open, taken_at}
-use Rattle.run_law.specs.Soundness.{Before, Sound, WritesAreQuiet, AllGood, Ascend}
-use Rattle.run_law.specs.Following.{RunFollows, Completes, Follows}
-use Rattle.run_law.proofs.Algebra.{before_more}
-use Rattle.two_level_code.specs.MemoryMaps.{fast_map}
-use Rattle.two_level_runs.specs.{Runs.fast_form, Runs.fast_run, Steps.is_open_inside, Steps.IsFastState}
-use Rattle.two_level_runs.specs.Inside.{AnyMoment, HoldsBytes, Inside, FollowsInside, FastRunsFollow, AreOnStack, AreBelow}
+use Rattle.two_level_runs.proofs.Words.{[], ◌+◌, ◌-◌, ◌<◌, ◌^◌, ◌∙◌, ◌∷◌, ◌≡◌, ◌≤◌, Agree, AllGood, ap, ap₂, AreBelow}
+use Rattle.two_level_runs.proofs.Words.{AreOnStack, arith, Ascend, Before, before_more, Bool, bytes_at, Completes}
+use Rattle.two_level_runs.proofs.Words.{false, fast_map, fast_run, FastRunsFollow, FollowsInside, from, if◌then◌else◌}
+use Rattle.two_level_runs.proofs.Words.{is_hidden, is_open_inside, IsFastState, LeavesStack, length, List, max}
+use Rattle.two_level_runs.proofs.Words.{may_interrupt, nat_lt, nat_tests, None, plus, refl, Regs, Same, Sound, State}
+use Rattle.two_level_runs.proofs.Words.{subst, suc, sym, taken_at, true, uninterrupted, WritesAgree, WritesAreQuiet}
+use Rattle.two_level_runs.proofs.Words.{zero, ℕ}
+use Rattle.cpu12_emul.specs.{Simulation.OnStackOnly}
+use Rattle.run_law.specs.{Uninterrupted.first_open, Following.RunFollows, Following.Follows}
+use Rattle.two_level_runs.specs.{Runs.fast_form, Inside.AnyMoment, Inside.HoldsBytes, Inside.Inside}
 use Rattle.two_level_runs.proofs.Frames.{HasFrameRoom, frames_fit, frames_below}
 use Rattle.two_level_runs.proofs.Bytes.{BytesLaws, step_bytes, push_bytes, begins_fits, take_bytes}
 

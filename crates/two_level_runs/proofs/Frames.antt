@@ -1,15 +1,10 @@
 -- Where frames stand.
-use Rattle.std.proofs.Common.{◌≡◌, ℕ, ◌+◌, ◌<◌, ◌≤◌, nat_lt, Bool, true, false, if◌then◌else◌, List, [], ◌∷◌, length}
-use Rattle.std.proofs.Common.{refl, ap, sym, ◌∙◌, arith}
-use Rattle.std.specs.Prelude.{Option, Some}
+use Rattle.two_level_runs.proofs.Words.{[], ◌+◌, ◌<◌, ◌∙◌, ◌∷◌, ◌≡◌, ◌≤◌, ap, AreBelow, AreOnStack, arith, below_sums}
+use Rattle.two_level_runs.proofs.Words.{Bool, expected_frame, false, frames_after, FrameSeen, Free, if◌then◌else◌}
+use Rattle.two_level_runs.proofs.Words.{is_new, length, List, nat_lt, OnStack, Option, plus, refl, Regs, Running}
+use Rattle.two_level_runs.proofs.Words.{Some, State, sym, taken_before, Temps, true, uninterrupted, ℕ}
+use Rattle.run_law.specs.{Uninterrupted.frame_on}
 use Rattle.std.proofs.lemmas.Bool.{ltb-true}
-use Rattle.cpu12_isa.specs.{declared.instr.Regs.Regs, Memory.plus}
-use Rattle.cpu12_parts.specs.{declared.temps.Temps.Temps, State.State}
-use Rattle.cpu12_parts.specs.declared.temps.Temps.TheVariants.{Free, Running, OnStack}
-use Rattle.cpu12_emul.specs.Take.{FrameSeen}
-use Rattle.run_law.specs.Soundness.{below_sums}
-use Rattle.run_law.specs.Uninterrupted.{uninterrupted, taken_before, is_new, frame_on, expected_frame, frames_after}
-use Rattle.two_level_runs.specs.Inside.{AreOnStack, AreBelow}
 
 -- a frame with the sums has room on the stack
 abbrev pub HasFrameRoom : State → Type 0

@@ -1,24 +1,17 @@
 -- Whole instructions of the fast code are stretches of its steps.
-use Rattle.std.proofs.Common.{◌≡◌, ℕ, suc, ◌+◌, ◌-◌, ◌^◌, ◌<◌, Bool, false, Result, Ok, List, [], ◌∷◌, length, refl, ap}
-use Rattle.std.proofs.Common.{sym, ◌∙◌, subst, inl, inr, arith}
-use Rattle.cpu12_isa.specs.declared.{instr.Instr.Instr, instr.Instr.TheVariants.Rev, instr.Instr.TheVariants.Revw}
-use Rattle.cpu12_isa.specs.Meaning.{Effect, act_of, effect}
-use Rattle.cpu12_isa.specs.{Act.read_by, Agreement.AllShown, Code.six_from, Flags.interrupts_masked, Flags.has}
-use Rattle.cpu12_isa.proofs.Algebra.{shown_append}
-use Rattle.cpu12_parts.specs.{declared.temps.Temps.TheVariants.Free, State.State, Parts.rev, Parts.revw, Parts.wav}
+use Rattle.two_level_runs.proofs.Words.{[], ◌+◌, ◌-◌, ◌<◌, ◌^◌, ◌∙◌, ◌∷◌, ◌≡◌, act_of, addresses, all_steps, AllShown}
+use Rattle.two_level_runs.proofs.Words.{ap, applied, arith, Bool, Effect, effect, Execution, false, fast_map, Free}
+use Rattle.two_level_runs.proofs.Words.{has, inl, inr, Instr, interrupts_masked, is_foreign, is_kept, IsFastStack}
+use Rattle.two_level_runs.proofs.Words.{IsFastStep, IsInFast, IsInstructionOver, IsOff, joined, Left, length, List}
+use Rattle.two_level_runs.proofs.Words.{Next, next_of, Ok, one_stretch, PartsTo, Plain, read_by, Reads, refl, Result}
+use Rattle.two_level_runs.proofs.Words.{Rev, Revw, shown_append, six_from, State, StepLaws, Stretch, subst, suc, sym}
+use Rattle.two_level_runs.proofs.Words.{wav, Writes, ℕ}
+use Rattle.cpu12_parts.specs.{Parts.rev, Parts.revw, Averages.wav_read, Touching.IsPlainOver, Whole.IsPlainStep}
+use Rattle.run_law.proofs.{Algebra.no_stretch}
 use Rattle.cpu12_parts.specs.Rules.{rev_form, revw_form, rules_read, rules_written}
-use Rattle.cpu12_parts.specs.{Executions.Execution, Executions.all_steps, Laws.IsOff, Laws.addresses, Laws.PartsTo}
-use Rattle.cpu12_parts.specs.{Averages.wav_read, Touching.IsInstructionOver, Touching.IsPlainOver, Whole.IsPlainStep}
-use Rattle.cpu12_emul.specs.declared.ends.Stepped.TheVariants.{Plain}
-use Rattle.cpu12_emul.specs.Step.{Left, Next, applied, next_of}
-use Rattle.eval_code.specs.Evaluation.{Reads, Writes}
-use Rattle.two_level_code.specs.{MemoryMaps.fast_map, Running.IsFastStack, Running.IsInFast, Running.IsFastStep}
-use Rattle.two_level_runs.specs.Steps.{is_foreign, is_kept}
 use Rattle.two_level_runs.proofs.Owned.{reads_own, writes_own, code_own}
 use Rattle.two_level_runs.proofs.Beginnings.{Begins, Kept, kept, off_ready}
 use Rattle.two_level_runs.proofs.{RuleParts.parts_at, SumParts.average_at}
-use Rattle.run_law.specs.Steps.{StepLaws}
-use Rattle.run_law.proofs.Algebra.{Stretch, no_stretch, joined, one_stretch}
 
 -- a state before an instruction of the fast code
 pub begins : (image : List ℕ) (masked : Bool) (sp : ℕ) (s : State) → IsInFast image s → s.regs.sp ≡ sp

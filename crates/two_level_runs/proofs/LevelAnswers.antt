@@ -1,27 +1,20 @@
 -- Runs at two levels answer.
-use Rattle.std.proofs.Common.{◌≡◌, ℕ, ◌≤◌, List, [], map, length, ap, sym, ◌∙◌, subst}
-use Rattle.std.specs.Prelude.{All, Option}
-use Rattle.cpu12_parts.specs.State.{State}
-use Rattle.cpu12_emul.specs.{Image.image_memory, Simulation.OnStackOrNone}
-use Rattle.run_law.specs.{Forms.RowSeen, Forms.Rows, Moments.TakenAtOnce}
-use Rattle.run_law.specs.Following.{all_onto, AllFollow, RunsFollow}
-use Rattle.interrupt_plan.specs.{declared.levels.Level.Level, Levels.IsGoodLevel}
-use Rattle.byte_scaling.specs.declared.width.Width.TheVariants.{Byte}
-use Rattle.eval_code.specs.Bounds.{step_bound}
+use Rattle.two_level_runs.proofs.Words.{[], ◌∙◌, ◌≡◌, ◌≤◌, All, all_onto, ap, AreOnStack, AreTold, Byte, FactsBeside}
+use Rattle.two_level_runs.proofs.Words.{fast_most, FastSeen, FastStands, first_two, FirstAlike, fitted_form}
+use Rattle.two_level_runs.proofs.Words.{image_memory, is_open_to_fast, IsGoodLevel, length, Level, level_form}
+use Rattle.two_level_runs.proofs.Words.{levels_of, List, map, OnStackOrNone, Option, plan_of, RequestsAreGood, Rows}
+use Rattle.two_level_runs.proofs.Words.{rows_of_samples, RowSeen, StandsBeside, State, step_bound, subst, sym}
+use Rattle.two_level_runs.proofs.Words.{taken_by, TakenAtOnce, TwoStandBeside, ℕ}
+use Rattle.run_law.specs.{Following.AllFollow, Following.RunsFollow}
+use Rattle.alone_runs.specs.{Rows.first_state, Rows.firmware_rows, Answering.FirstStatesAlike}
+use Rattle.alone_runs.specs.{Answering.FirstStatesAgree}
+use Rattle.firmware_runs.specs.{Facts.FactsAlone}
+use Rattle.two_level_runs.specs.{Levels.Levels, Rows.two_rows, Answering.fast_runs_of, Answering.AnswersUnderLevels}
 use Rattle.alone_code.specs.Firmwares.{IsFirmwareOf}
-use Rattle.two_level_code.specs.{Images.fast_most, MemoryMaps.is_open_to_fast}
-use Rattle.two_level_code.specs.Standing.{StandsBeside, TwoStandBeside}
-use Rattle.alone_runs.specs.{Rows.first_state, Rows.firmware_rows, Following.rows_of_samples, Given.RequestsAreGood}
 use Rattle.alone_runs.specs.Answering.{AnswerBlock, AnswersUnder, AnswersUnderPlans, RunsBeside, FirmwareRunsBeside}
-use Rattle.alone_runs.specs.Answering.{FirstAlike, FirstStatesAlike, FirstStatesAgree}
-use Rattle.firmware_runs.specs.Facts.{FactsBeside, FactsAlone}
 use Rattle.run_forms.proofs.Algebra.{all_onto_all}
-use Rattle.two_level_runs.specs.{Runs.FastSeen, Inside.AreOnStack, Levels.Levels, Levels.fitted_form}
-use Rattle.two_level_runs.specs.{Levels.FastStands}
 use Rattle.two_level_runs.proofs.{Arriving.first_stands, LevelPlans.plan_good, LevelPlans.levels_are_good}
 use Rattle.two_level_runs.proofs.{LevelSound.level_sound, LevelTelling.steps_are, LevelTelling.rows_told}
-use Rattle.two_level_runs.specs.Rows.{levels_of, level_form, first_two, two_rows}
-use Rattle.two_level_runs.specs.Answering.{plan_of, fast_runs_of, AreTold, taken_by, AnswersUnderLevels}
 use Rattle.two_level_runs.proofs.FastRuns.{Answer, runs_in, runs_are, all_answers, all_told, few_steps}
 use Rattle.two_level_runs.proofs.Fitting.{AreFitted, all_fitted, rows_fitted}
 use Rattle.two_level_runs.proofs.LevelRows.{SlowFacts, complete, same_numbers, same_rows, same_taken, on_stack}

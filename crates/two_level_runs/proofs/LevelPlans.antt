@@ -1,21 +1,16 @@
 -- Good levels are good requests that write nothing, and each sample's are in order.
-use Rattle.std.proofs.Common.{◌≡◌, ℕ, zero, suc, ◌==◌, nat_lt, Bool, true, false, cond, if◌then◌else◌, List, [], ◌∷◌}
-use Rattle.std.proofs.Common.{map, refl, ap, ap₂, ◌∙◌, subst, arith}
-use Rattle.std.specs.Prelude.{◌&&◌, ◌||◌, ◌+◌, All, filter, Option, None, Some}
-use Rattle.std.proofs.lemmas.List.{length-map}
-use Rattle.std.proofs.lemmas.List.Elements.{All-cons}
-use Rattle.cpu12_parts.specs.State.{State}
-use Rattle.cpu12_emul.specs.Take.{FrameSeen}
-use Rattle.run_law.specs.{Forms.one_if, Soundness.AllGood, Soundness.Ascend}
-use Rattle.run_law.specs.Uninterrupted.{uninterrupted, is_inside, has_moment, taken_before, resumed_of}
-use Rattle.run_law.specs.Uninterrupted.{expected_frame, is_new, frames_after, frames_of}
-use Rattle.interrupt_plan.specs.declared.{Request.Request, levels.Level.Level}
-use Rattle.interrupt_plan.specs.Levels.{IsGoodLevel, LevelNotAfter, AreGoodLevels}
+use Rattle.two_level_runs.proofs.Words.{[], ◌==◌, ◌∙◌, ◌∷◌, ◌≡◌, All, All-cons, AllGood, ap, ap₂, AreGoodLevels}
+use Rattle.two_level_runs.proofs.Words.{arith, Ascend, Bool, expected_frame, false, frames_after, frames_of}
+use Rattle.two_level_runs.proofs.Words.{FrameSeen, if◌then◌else◌, is_new, IsGoodLevel, length-map, Level}
+use Rattle.two_level_runs.proofs.Words.{LevelNotAfter, levels_of, List, map, nat_lt, None, Option, plan_of, refl}
+use Rattle.two_level_runs.proofs.Words.{Request, request_of, requests_of, RequestsAreGood, resumed_of, Some, State}
+use Rattle.two_level_runs.proofs.Words.{subst, suc, taken_before, true, uninterrupted, zero, ℕ}
+use Rattle.std.specs.Prelude.{◌&&◌, ◌||◌, ◌+◌, filter}
+use Rattle.std.proofs.{Common.cond}
+use Rattle.run_law.specs.{Forms.one_if, Uninterrupted.is_inside, Uninterrupted.has_moment}
 use Rattle.interrupt_plan.specs.Plans as plans
 use Rattle.interrupt_plan.specs.Rows as rows
 use Rattle.interrupt_plan.specs.Plans.{IsGoodRequest, IsGood}
-use Rattle.alone_runs.specs.{Rows.requests_of, Given.RequestsAreGood}
-use Rattle.two_level_runs.specs.{Rows.levels_of, Answering.request_of, Answering.plan_of}
 
 -- those of a list that pass a test
 filter_each : {A B : Type 0} (p : B → Bool) (g : A → B) (xs : List A)

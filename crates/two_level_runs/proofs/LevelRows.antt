@@ -1,21 +1,14 @@
 -- What rows under levels are to be.
-use Rattle.std.proofs.Common.{◌≡◌, ◌⊎◌, inl, inr, ℕ, suc, ◌<◌, ◌≤◌, not, Bool, true, false, List, [], ◌∷◌, map, refl}
-use Rattle.std.proofs.Common.{ap, ap₂, sym, ◌∙◌, subst, arith}
-use Rattle.std.specs.Prelude.{All, None}
-use Rattle.std.proofs.lemmas.List.Elements.{All-cons}
-use Rattle.cpu12_parts.specs.State.{State}
-use Rattle.cpu12_emul.specs.Take.{FrameSeen, may_interrupt}
-use Rattle.run_law.specs.{Forms.RowSeen, Soundness.Before, Moments.TakenAtOnce}
-use Rattle.run_law.specs.Uninterrupted.{uninterrupted, counted, taken_at, taken_before, resumed_of, frames_of}
-use Rattle.run_law.specs.Following.{Completes, AllComplete, expected_row, expected_rows, expected_taken}
-use Rattle.interrupt_plan.specs.declared.{Request.Request, levels.Level.Level}
+use Rattle.two_level_runs.proofs.Words.{[], ◌<◌, ◌∙◌, ◌∷◌, ◌≡◌, ◌≤◌, ◌⊎◌, All, All-cons, AllComplete, ap, ap₂}
+use Rattle.two_level_runs.proofs.Words.{AreOnStack, arith, Before, Bool, Completes, counted, FactsBeside, false}
+use Rattle.two_level_runs.proofs.Words.{fitted, fitted_form, frames_of, FrameSeen, given, inl, inr, is_open_to_fast}
+use Rattle.two_level_runs.proofs.Words.{IsStackOfOneCall, Level, levels_of, List, map, may_interrupt, None, not}
+use Rattle.two_level_runs.proofs.Words.{plan_of, refl, Request, request_of, requests_of, resumed_of, rows_of_samples}
+use Rattle.two_level_runs.proofs.Words.{RowSeen, State, subst, suc, sym, taken_at, taken_before, taken_by}
+use Rattle.two_level_runs.proofs.Words.{TakenAtOnce, true, Two, uninterrupted, with_writes, ℕ}
+use Rattle.run_law.specs.{Following.expected_row, Following.expected_rows, Following.expected_taken}
+use Rattle.firmware_runs.specs.{Ports.answers_in}
 use Rattle.alone_code.specs.declared.firmware.Firmware.{Firmware}
-use Rattle.two_level_code.specs.{declared.two.Two.Two, MemoryMaps.is_open_to_fast}
-use Rattle.firmware_runs.specs.Ports.{given, answers_in}
-use Rattle.alone_runs.specs.{Forms.with_writes, Rows.requests_of, Following.rows_of_samples}
-use Rattle.firmware_runs.specs.Facts.{IsStackOfOneCall, FactsBeside}
-use Rattle.two_level_runs.specs.{Inside.AreOnStack, Rows.levels_of, Levels.fitted, Levels.fitted_form}
-use Rattle.two_level_runs.specs.Answering.{request_of, plan_of, taken_by}
 use Rattle.two_level_runs.proofs.{Fitting.AreFitted, Frames.HasFrameRoom, Frames.frames_fit}
 use Rattle.two_level_runs.proofs.LevelPlans.{requests_are, resumed_each, frames_of_each}
 

@@ -1,32 +1,25 @@
 -- A level's interrupt is quiet, and the fast code and its answers stand after it.
-use Rattle.std.proofs.Common.{◌≡◌, ◌⊎◌, inl, inr, ℕ, zero, suc, ◌-◌, ◌^◌, ◌<◌, ◌≤◌, true, false, List, [], ◌∷◌}
-use Rattle.std.proofs.Common.{length, refl, ap, ap₂, sym, ◌∙◌, subst, arith}
-use Rattle.std.specs.Prelude.{Option, None, Some, All, slice_get, slice_index_or}
+use Rattle.two_level_runs.proofs.Words.{[], ◌-◌, ◌<◌, ◌^◌, ◌∙◌, ◌∷◌, ◌≡◌, ◌≤◌, ◌⊎◌, Agree, All, All-cons}
+use Rattle.two_level_runs.proofs.Words.{AloneHasByteBounds, ap, ap₂, AreInputBytes, AreSlow, arith, Ascend, Begins}
+use Rattle.two_level_runs.proofs.Words.{below_sums, Block, bytes_of, CanEnter, counted, entered, FactsBeside, false}
+use Rattle.two_level_runs.proofs.Words.{fast_most, fast_run, FastRunsFollow, FastSeen, FastStands, FollowsInside}
+use Rattle.two_level_runs.proofs.Words.{framed, Free, HasFastCode, HasRoom, image_memory, inl, inr, is_fast_ram}
+use Rattle.two_level_runs.proofs.Words.{is_hidden, is_open_inside, is_open_to_fast, IsGoodLevel, IsQuietRun}
+use Rattle.two_level_runs.proofs.Words.{IsReadOff, IsServable, IsStackOfOneCall, IsTold, LeavesStack, length, Level}
+use Rattle.two_level_runs.proofs.Words.{List, nat_tests, None, OnStack, OnStackOrNone, Option, OuterEnters}
+use Rattle.two_level_runs.proofs.Words.{OuterIsQuiet, OuterIsServable, OuterServes, outputs_after, Quiet, Ran, refl}
+use Rattle.two_level_runs.proofs.Words.{Regs, Running, RunsFast, sample_of, seen_of, served_by, slice_get, Some}
+use Rattle.two_level_runs.proofs.Words.{State, subst, suc, sym, Temps, told_by, true, Two, word_of, zero, ℕ}
+use Rattle.std.specs.{Prelude.slice_index_or}
+use Rattle.fuzzy_meaning.specs.{Blocks.IsValid}
+use Rattle.cpu12_emul.specs.{Simulation.TakesQuietly}
+use Rattle.run_law.specs.{Soundness.FitBelow}
+use Rattle.two_level_code.specs.{Images.HasByteBounds, Images.IsTwoOf}
+use Rattle.firmware_runs.specs.{Facts.AreNoneOrRunning}
+use Rattle.alone_runs.specs.{OpenBytes.StepsLeaveOpen, OpenBytes.GivenLeavesOpen}
+use Rattle.two_level_runs.specs.{Runs.Outer, Runs.served, Runs.told, Rows.outer_of}
 use Rattle.std.specs.List.Sorted.{IsNonDecreasing}
-use Rattle.std.proofs.lemmas.Bool.Decides.{nat_tests}
-use Rattle.std.proofs.lemmas.List.Elements.{All-cons}
-use Rattle.fuzzy_meaning.specs.{declared.block.Block.Block, Blocks.IsValid}
 use Rattle.rule_layout.specs.Layouts.{IsWithinLimits}
-use Rattle.cpu12_isa.specs.declared.instr.Regs.{Regs}
-use Rattle.cpu12_isa.specs.{Agreement.Agree, Memory.word_of, Regions.is_hidden, Regions.LeavesStack}
-use Rattle.cpu12_parts.specs.{declared.temps.Temps.Temps, State.State}
-use Rattle.cpu12_parts.specs.declared.temps.Temps.TheVariants.{Free, Running, OnStack}
-use Rattle.cpu12_emul.specs.{Image.image_memory, Take.framed}
-use Rattle.cpu12_emul.specs.Simulation.{OnStackOrNone, HasRoom, TakesQuietly}
-use Rattle.run_law.specs.{Forms.Ran, Uninterrupted.counted}
-use Rattle.run_law.specs.Soundness.{below_sums, FitBelow, Begins, Quiet, Ascend}
-use Rattle.interrupt_plan.specs.{declared.levels.Level.Level, Levels.IsGoodLevel}
-use Rattle.eval_code.specs.Firing.{AreInputBytes}
-use Rattle.two_level_code.specs.{declared.two.Two.Two, MemoryMaps.is_fast_ram, MemoryMaps.is_open_to_fast}
-use Rattle.two_level_code.specs.Images.{fast_most, AloneHasByteBounds, HasByteBounds, IsTwoOf}
-use Rattle.firmware_runs.specs.Facts.{AreNoneOrRunning, IsStackOfOneCall, FactsBeside}
-use Rattle.alone_runs.specs.{OpenBytes.StepsLeaveOpen, OpenBytes.GivenLeavesOpen, Rows.bytes_of}
-use Rattle.two_level_runs.specs.Runs.{Outer, FastSeen, entered, fast_run, seen_of, served, told, served_by, told_by}
-use Rattle.two_level_runs.specs.{Steps.is_open_inside, Inside.FollowsInside, Inside.FastRunsFollow}
-use Rattle.two_level_runs.specs.Outer.{HasFastCode, OuterEnters, CanEnter, IsQuietRun, OuterIsQuiet, RunsFast, IsServable}
-use Rattle.two_level_runs.specs.Outer.{OuterIsServable, AreSlow, OuterServes}
-use Rattle.two_level_runs.specs.{Rows.sample_of, Rows.outer_of, Levels.FastStands}
-use Rattle.two_level_runs.specs.Answering.{outputs_after, IsReadOff, IsTold}
 use Rattle.two_level_runs.proofs.{Bytes.BytesLaws, Bytes.begins_fits, Bytes.take_bytes, Entering.bytes_stay}
 use Rattle.two_level_runs.proofs.{Serving.open_apart, Standing.stands, Telling.answers_told, Telling.read_off}
 

@@ -1,18 +1,15 @@
 -- A slow firmware whose interrupts serve levels is a sound form.
-use Rattle.std.proofs.Common.{◌≡◌, ℕ, ◌+◌, ◌*◌, ◌<◌, ◌≤◌, Bool, false, Option, List, length, ap, sym, ◌∙◌, subst, inl}
-use Rattle.std.proofs.Common.{arith}
-use Rattle.cpu12_isa.specs.{Agreement.WritesAgree, Fits.AreBytes}
-use Rattle.cpu12_parts.specs.{State.State, Parts.suspended, Parts.wav}
-use Rattle.cpu12_emul.specs.Simulation.{OnStackOrNone, Simulates}
-use Rattle.run_law.specs.{Uninterrupted.stepped, Soundness.Sound, Soundness.WritesAreQuiet}
-use Rattle.interrupt_plan.specs.{declared.levels.Level.Level, Levels.IsGoodLevel}
-use Rattle.eval_code.specs.{declared.memory_map.MemoryMap.MemoryMap, MemoryMaps.main_map}
+use Rattle.two_level_runs.proofs.Words.{◌*◌, ◌+◌, ◌<◌, ◌∙◌, ◌≡◌, ◌≤◌, ap, AreBytes, AreOpenAlike, arith, Bool}
+use Rattle.two_level_runs.proofs.Words.{FactsBeside, false, FastSeen, FastStands, fitted, fitted_form, given, inl}
+use Rattle.two_level_runs.proofs.Words.{is_open_to_fast, IsGoodLevel, length, Level, List, MemoryMap, OnStackOrNone}
+use Rattle.two_level_runs.proofs.Words.{Simulates, Sound, State, stepped, subst, suspended, sym, wav, WritesAgree}
+use Rattle.two_level_runs.proofs.Words.{WritesAreQuiet, ℕ}
+use Rattle.std.proofs.{Common.Option}
+use Rattle.eval_code.specs.{MemoryMaps.main_map}
+use Rattle.firmware_runs.specs.{Ports.answer_size}
+use Rattle.alone_runs.specs.{Following.IsLow, OpenBytes.StepLeavesOpen}
 use Rattle.alone_code.specs.Answers.{LeavesMapped}
-use Rattle.two_level_code.specs.MemoryMaps.{is_open_to_fast}
-use Rattle.firmware_runs.specs.{Ports.given, Ports.answer_size, Facts.FactsBeside}
-use Rattle.alone_runs.specs.{Following.IsLow, OpenBytes.AreOpenAlike, OpenBytes.StepLeavesOpen}
 use Rattle.alone_runs.specs.SoundAloneProof.{LeavesPorts, given_alike, answered_alike, ended_alike}
-use Rattle.two_level_runs.specs.{Runs.FastSeen, Levels.fitted, Levels.fitted_form, Levels.FastStands}
 use Rattle.two_level_runs.proofs.{Bytes.step_bytes, Bytes.push_bytes, Fitting.fitted_few, Fitting.given_bytes}
 use Rattle.two_level_runs.proofs.{Serving.open_apart, Standing.stands}
 use Rattle.two_level_runs.proofs.LevelServing.{LevelLaws, Given, few_outputs, serves}

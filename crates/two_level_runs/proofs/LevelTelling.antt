@@ -1,16 +1,10 @@
 -- What levels told in a run that follows the slow run without interrupts.
-use Rattle.std.proofs.Common.{◌≡◌, ℕ, suc, List, [], ◌∷◌, length, map, refl, ap, sym, subst, arith}
-use Rattle.std.specs.Prelude.{All, Option}
-use Rattle.cpu12_parts.specs.State.{State}
-use Rattle.run_law.specs.{Forms.RowSeen, Soundness.Before, Moments.TakenAtOnce}
-use Rattle.run_law.specs.Uninterrupted.{uninterrupted, taken_at}
-use Rattle.run_law.specs.Following.{onto, AllComplete, IsToldIn, IsToldAt, EachTold, RowsTold}
-use Rattle.interrupt_plan.specs.{declared.Request.Request, declared.levels.Level.Level, Levels.IsGoodLevel}
-use Rattle.two_level_code.specs.{declared.two.Two.Two, MemoryMaps.is_open_to_fast}
-use Rattle.firmware_runs.specs.Ports.{given}
-use Rattle.alone_runs.specs.{Following.rows_of_samples, Forms.with_writes}
-use Rattle.two_level_runs.specs.{Runs.FastSeen, Levels.fitted, Levels.fitted_form, Levels.FastStands}
-use Rattle.two_level_runs.specs.Answering.{outputs_after, IsTold, IsToldFrom, AreTold}
+use Rattle.two_level_runs.proofs.Words.{[], ◌∷◌, ◌≡◌, All, AllComplete, ap, AreTold, arith, Before, EachTold}
+use Rattle.two_level_runs.proofs.Words.{FastSeen, FastStands, fitted, fitted_form, given, is_open_to_fast}
+use Rattle.two_level_runs.proofs.Words.{IsGoodLevel, IsTold, IsToldFrom, length, Level, List, map, onto, Option}
+use Rattle.two_level_runs.proofs.Words.{outputs_after, refl, Request, rows_of_samples, RowSeen, State, subst, suc}
+use Rattle.two_level_runs.proofs.Words.{sym, taken_at, TakenAtOnce, Two, uninterrupted, with_writes, ℕ}
+use Rattle.run_law.specs.{Following.IsToldIn, Following.IsToldAt, Following.RowsTold}
 use Rattle.two_level_runs.proofs.{Fitting.AreFitted, LevelServing.Given, LevelServing.tells}
 use Rattle.two_level_runs.proofs.LevelRows.{SlowFacts, given_is, moments_are}
 

@@ -30,3 +30,4 @@ pub mod Ordering
 pub mod FastRows
 pub mod SampleBytes
 pub mod Entered
+pub mod Words

@@ -1,8 +1,8 @@
 -- The samples of good levels do not fall.
-use Rattle.std.proofs.Common.{ℕ, ◌≤◌, List, [], ◌∷◌, inl, inr, arith}
-use Rattle.interrupt_plan.specs.{declared.levels.Level.Level, Levels.LevelNotAfter, Rows.Ascend}
+use Rattle.two_level_runs.proofs.Words.{[], ◌∷◌, ◌≤◌, arith, inl, inr, Level, LevelNotAfter, List, place_of_level, ℕ}
+use Rattle.interrupt_plan.specs.{Rows.Ascend}
+use Rattle.two_level_runs.specs.{Order.LevelsAreInOrder}
 use Rattle.run_forms.specs.Slices.{Follow}
-use Rattle.two_level_runs.specs.{Rows.place_of_level, Order.LevelsAreInOrder}
 
 sample_le : (a b : Level) → LevelNotAfter a b → a.sample ≤ b.sample
 sample_le a b (inl less) = omega arith

@@ -1,12 +1,8 @@
 -- What the fast code reads and writes is its block's own.
-use Rattle.std.proofs.Common.{◌≡◌, ℕ, zero, suc, ◌+◌, ◌≤◌, ◌<◌, nat_le, nat_lt, ◌&&◌, Bool, true, false, List, [], ◌∷◌}
-use Rattle.std.proofs.Common.{refl, ap, ◌∙◌, arith, inl, inr}
-use Rattle.std.proofs.lemmas.Bool.Decides.{nat_tests}
-use Rattle.cpu12_isa.specs.{Agreement.AllShown, Agreement.IsWritten, Memory.plus, Memory.from, Regions.is_hidden}
-use Rattle.cpu12_parts.specs.{Laws.addresses, Touching.IsIn, Touching.Each}
-use Rattle.eval_code.specs.Evaluation.{Reads, Writes}
-use Rattle.two_level_code.specs.{MemoryMaps.fast_map, MemoryMaps.is_fast_ram, MemoryMaps.is_fast_rom, Running.fast_code}
-use Rattle.two_level_runs.specs.Steps.{is_open_inside, is_foreign, is_kept}
+use Rattle.two_level_runs.proofs.Words.{[], ◌&&◌, ◌+◌, ◌<◌, ◌∙◌, ◌∷◌, ◌≡◌, ◌≤◌, addresses, AllShown, ap, arith, Bool}
+use Rattle.two_level_runs.proofs.Words.{Each, false, fast_code, fast_map, from, inl, inr, is_fast_ram, is_fast_rom}
+use Rattle.two_level_runs.proofs.Words.{is_foreign, is_hidden, is_kept, is_open_inside, IsIn, IsWritten, List, nat_le}
+use Rattle.two_level_runs.proofs.Words.{nat_lt, nat_tests, plus, Reads, refl, suc, true, Writes, zero, ℕ}
 
 -- a byte of the RAM, of the ROM, and of the frame
 pub ram_own : (sp at : ℕ) → 0x1400 ≤ at → at < 0x162C → is_foreign sp at ≡ false

@@ -1,10 +1,9 @@
 -- Registers that are pulled from a frame.
-use Rattle.std.proofs.Common.{◌≡◌, ℕ, ◌^◌, ◌<◌, bit_or, List, ap, ap₂, arith}
-use Rattle.std.specs.Prelude.{slice_index}
+use Rattle.two_level_runs.proofs.Words.{◌<◌, ◌^◌, ◌≡◌, ap, ap₂, arith, bit, bit_or, bit_or_is, Ccr, frame_bytes, List}
+use Rattle.two_level_runs.proofs.Words.{plus, pulled, Regs, slice_index, word_of, ℕ}
+use Rattle.cpu12_isa.specs.{Flags.pulled_flags}
+use Rattle.cpu12_isa.proofs.{Algebra.bit_and_is, Algebra.same_ccr}
 use Rattle.std.proofs.lemmas.Nat.{and_le_l}
-use Rattle.cpu12_isa.specs.declared.{instr.Ccr.Ccr, instr.Regs.Regs}
-use Rattle.cpu12_isa.specs.{Flags.pulled_flags, Memory.plus, Memory.word_of, Registers.pulled, Registers.frame_bytes}
-use Rattle.cpu12_isa.proofs.Algebra.{bit, bit_or_is, bit_and_is, same_ccr}
 
 -- they hang on the bytes, on SP and on the flags
 abbrev with_flags : List ℕ → ℕ → Ccr → Regs

@@ -1,14 +1,11 @@
 -- What an outer interrupt writes as it enters the fast code.
-use Rattle.std.proofs.Common.{◌≡◌, ◌⊎◌, ℕ, ◌+◌, ◌%◌, ◌^◌, ◌<◌, ◌≤◌, List, [], ◌∷◌, length, set, ◌∙◌, subst, inl, inr}
-use Rattle.std.proofs.Common.{arith, get_or-set_same}
-use Rattle.std.specs.Prelude.{slice_index}
+use Rattle.two_level_runs.proofs.Words.{[], ◌%◌, ◌+◌, ◌<◌, ◌^◌, ◌∙◌, ◌∷◌, ◌≡◌, ◌≤◌, ◌⊎◌, arith, bytes_at, fast_map}
+use Rattle.two_level_runs.proofs.Words.{frame_bytes, from, inl, inr, IsWritten, length, List, placed, plus}
+use Rattle.two_level_runs.proofs.Words.{slice_index, State, subst, write_all, WritesStay, ℕ}
+use Rattle.std.proofs.{Common.set, Common.get_or-set_same}
 use Rattle.std.proofs.lemmas.List.{length-set}
-use Rattle.cpu12_isa.specs.{Act.write_all, Agreement.IsWritten, Agreement.WritesStay, Registers.frame_bytes}
-use Rattle.cpu12_isa.specs.Memory.{plus, from, placed, bytes_at}
 use Rattle.cpu12_isa.proofs.Algebra.{read_placed, bytes_unwritten}
-use Rattle.cpu12_parts.specs.State.{State}
 use Rattle.eval_code.specs.Evaluation.{HasBytes}
-use Rattle.two_level_code.specs.MemoryMaps.{fast_map}
 use Rattle.run_forms.proofs.Algebra.{placed_in}
 
 -- memory in which the frame is pushed, and that in which the sample's bytes are written too

@@ -1,20 +1,11 @@
 -- An outer interrupt with a fast run leaves what it may.
-use Rattle.std.proofs.Common.{◌≡◌, ◌⊎◌, ℕ, suc, ◌+◌, ◌-◌, ◌*◌, ◌<◌, ◌≤◌, nat_le, nat_lt, ◌&&◌, not, true, false, List}
-use Rattle.std.proofs.Common.{length, refl, ap, sym, ◌∙◌, subst, inl, inr, arith}
-use Rattle.std.specs.Prelude.{slice_index}
-use Rattle.std.proofs.lemmas.Bool.{or_parts, cases_lt}
-use Rattle.std.proofs.lemmas.Bool.Decides.{nat_tests}
-use Rattle.fuzzy_meaning.specs.declared.block.Block.{Block}
-use Rattle.cpu12_isa.specs.declared.{instr.Ccr.Ccr, instr.Regs.Regs}
-use Rattle.cpu12_isa.specs.{Agreement.WritesStay, Fits.BytesStay, Flags.put, Flags.interrupts_masked}
-use Rattle.cpu12_isa.specs.{Interrupts.FrameComesBack, Regions.is_hidden, Registers.pulled, Registers.frame_bytes}
-use Rattle.cpu12_isa.specs.Memory.{plus, from, bytes_at}
-use Rattle.cpu12_isa.proofs.Algebra.{bit}
-use Rattle.cpu12_parts.specs.{State.State, Laws.IsOff}
-use Rattle.cpu12_emul.specs.Simulation.{Same}
-use Rattle.two_level_code.specs.MemoryMaps.{fast_map, is_fast_ram}
-use Rattle.two_level_runs.specs.{Runs.entered, Runs.fast_run, Steps.is_open_inside}
-use Rattle.two_level_runs.specs.{Inside.FollowsInside, Inside.FastRunsFollow, Outer.CanEnter, Outer.OuterIsQuiet}
+use Rattle.two_level_runs.proofs.Words.{◌&&◌, ◌*◌, ◌+◌, ◌-◌, ◌<◌, ◌∙◌, ◌≡◌, ◌≤◌, ◌⊎◌, ap, arith, bit, Block, bytes_at}
+use Rattle.two_level_runs.proofs.Words.{BytesStay, CanEnter, cases_lt, Ccr, entered, false, fast_map, fast_run}
+use Rattle.two_level_runs.proofs.Words.{FastRunsFollow, FollowsInside, frame_bytes, from, inl, inr, interrupts_masked}
+use Rattle.two_level_runs.proofs.Words.{is_fast_ram, is_hidden, is_open_inside, IsOff, length, List, nat_le, nat_lt}
+use Rattle.two_level_runs.proofs.Words.{nat_tests, not, or_parts, OuterIsQuiet, plus, pulled, refl, Regs, Same}
+use Rattle.two_level_runs.proofs.Words.{slice_index, State, subst, suc, sym, true, WritesStay, ℕ}
+use Rattle.cpu12_isa.specs.{Flags.put, Interrupts.FrameComesBack}
 use Rattle.two_level_runs.proofs.{Entering.bytes_stay, Pulling.pulled_alike}
 use Rattle.two_level_runs.proofs.Pushing.{entered_mem, stays, size_stays, frame_read}
 

@@ -1,23 +1,17 @@
 -- The fast code as steps, up to behind its return.
-use Rattle.std.proofs.Common.{◌≡◌, ℕ, zero, suc, ◌+◌, ◌^◌, ◌<◌, ◌≤◌, not, Bool, true, false, Result, Ok, List, [], ◌∷◌}
-use Rattle.std.proofs.Common.{length, refl, ap, ap₂, sym, ◌∙◌, subst, inl, inr, arith}
-use Rattle.std.specs.Prelude.{slice_index}
-use Rattle.cpu12_isa.specs.{declared.instr.Instr.Instr, Act.read_by, Agreement.AllShown, Agreement.WritesStay}
-use Rattle.cpu12_isa.specs.declared.instr.Instr.TheVariants.{Andcc, Rti, Rev, Revw, Wav}
-use Rattle.cpu12_isa.specs.{Code.decode_at, Code.six_from, Flags.interrupts_masked, Flags.has}
-use Rattle.cpu12_isa.specs.{Meaning.Effect, Meaning.act_of, Meaning.effect, Memory.plus, Memory.from, Memory.bytes_at}
-use Rattle.cpu12_isa.proofs.Algebra.{shown_append}
-use Rattle.cpu12_parts.specs.{State.State, Executions.Execution, Executions.all_steps, Whole.after_plain}
-use Rattle.cpu12_parts.specs.Touching.{IsIn, Each, IsInstructionOver}
-use Rattle.cpu12_emul.specs.{declared.ends.Stepped.TheVariants.Plain, Step.Left, Step.applied, Step.next_of}
-use Rattle.run_law.specs.Uninterrupted.{stepped, state_by, uninterrupted, counted}
-use Rattle.run_law.specs.{Soundness.Before, Steps.StepLaws}
-use Rattle.run_law.proofs.Algebra.{before_more, Stretch, joined, one_stretch}
-use Rattle.fuzzy_meaning.specs.declared.block.Block.{Block}
-use Rattle.eval_code.specs.Evaluation.{Reads, Writes}
-use Rattle.two_level_code.specs.MemoryMaps.{fast_map}
-use Rattle.two_level_code.specs.Running.{IsFastStack, fast_code, IsInFast, IsFastStep, IsFastAnswered}
-use Rattle.two_level_runs.specs.Steps.{is_foreign, is_kept, IsFastState, IsOpenState, IsFastRun, FastStepsReturn}
+use Rattle.two_level_runs.proofs.Words.{[], ◌+◌, ◌<◌, ◌^◌, ◌∙◌, ◌∷◌, ◌≡◌, ◌≤◌, act_of, all_steps, AllShown, ap}
+use Rattle.two_level_runs.proofs.Words.{applied, ap₂, arith, Before, before_more, Block, Bool, bytes_at, counted}
+use Rattle.two_level_runs.proofs.Words.{decode_at, Each, Effect, effect, Execution, false, fast_code, fast_map}
+use Rattle.two_level_runs.proofs.Words.{FastStepsReturn, from, has, inl, inr, Instr, interrupts_masked, is_foreign}
+use Rattle.two_level_runs.proofs.Words.{is_kept, IsFastRun, IsFastStack, IsFastState, IsFastStep, IsIn, IsInFast}
+use Rattle.two_level_runs.proofs.Words.{IsInstructionOver, joined, Left, length, List, next_of, not, Ok, one_stretch}
+use Rattle.two_level_runs.proofs.Words.{Plain, plus, read_by, Reads, refl, Result, Rev, Revw, shown_append, six_from}
+use Rattle.two_level_runs.proofs.Words.{slice_index, State, state_by, StepLaws, stepped, Stretch, subst, suc, sym}
+use Rattle.two_level_runs.proofs.Words.{true, uninterrupted, Wav, Writes, WritesStay, zero, ℕ}
+use Rattle.cpu12_isa.specs.{declared.instr.Instr.TheVariants.Andcc, declared.instr.Instr.TheVariants.Rti}
+use Rattle.cpu12_parts.specs.{Whole.after_plain}
+use Rattle.two_level_code.specs.{Running.IsFastAnswered}
+use Rattle.two_level_runs.specs.{Steps.IsOpenState}
 use Rattle.two_level_runs.proofs.Owned.{code_own, frame_shown, not_written, stack_kept}
 use Rattle.two_level_runs.proofs.Beginnings.{Begins, Kept, kept, off_ready, same_decode}
 use Rattle.two_level_runs.proofs.Pulling.{pulled_same}

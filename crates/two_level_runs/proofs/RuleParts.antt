@@ -1,20 +1,14 @@
 -- The parts of REV and REVW are steps of the fast code.
-use Rattle.std.proofs.Common.{◌≡◌, ℕ, zero, suc, ◌^◌, ◌<◌, Bool, Result, Ok, List, refl, ap, sym, ◌∙◌, subst, arith}
-use Rattle.cpu12_isa.specs.declared.instr.Instr.{Instr}
-use Rattle.cpu12_isa.specs.{Act.read_by, Act.write_all, Agreement.AllShown, Code.decode_at, Code.six_from}
-use Rattle.cpu12_isa.proofs.Algebra.{shown_append}
-use Rattle.cpu12_parts.specs.declared.{temps.PartEnd.PartEnd, temps.PartEnd.TheVariants.More}
-use Rattle.cpu12_parts.specs.{State.State, State.Outcome, Fits.FitsOutcome}
-use Rattle.cpu12_parts.specs.Parts.{Kind, part_of, after_part}
-use Rattle.cpu12_parts.specs.{Laws.IsOff, Laws.addresses, Laws.PartsTo, Touching.IsIn, Touching.Each}
-use Rattle.cpu12_emul.specs.{Simulation.left_of, Step.Left, Step.Next, Step.kind_of, Step.applied, Step.next_of}
-use Rattle.cpu12_emul.specs.declared.ends.Stepped.TheVariants.{LastPart}
-use Rattle.two_level_code.specs.Running.{fast_code}
-use Rattle.two_level_runs.specs.Steps.{is_foreign, is_kept}
+use Rattle.two_level_runs.proofs.Words.{◌<◌, ◌^◌, ◌∙◌, ◌≡◌, addresses, after_part, AllShown, ap, applied, arith, Bool}
+use Rattle.two_level_runs.proofs.Words.{decode_at, Each, fast_code, FitsOutcome, Instr, is_foreign, is_kept, IsIn}
+use Rattle.two_level_runs.proofs.Words.{IsOff, kind_of, LastPart, Left, left_of, List, More, Next, next_of, Ok}
+use Rattle.two_level_runs.proofs.Words.{one_stretch, Outcome, part_of, part_stretch, PartEnd, PartsTo, read_by, refl}
+use Rattle.two_level_runs.proofs.Words.{Result, shown_append, six_from, State, Stretch, subst, suc, sym, write_all}
+use Rattle.two_level_runs.proofs.Words.{zero, ℕ}
+use Rattle.cpu12_parts.specs.{Parts.Kind}
 use Rattle.two_level_runs.proofs.Owned.{code_own}
 use Rattle.two_level_runs.proofs.Beginnings.{Begins, Kept, kept, off_ready, off_fits, same_decode, rom_stays}
 use Rattle.run_law.specs.Steps.{WriteLaws, RuleLaws}
-use Rattle.run_law.proofs.Algebra.{Stretch, one_stretch, part_stretch}
 
 kinded : Kind → ℕ → State → PartEnd → Result Next ℕ
 kinded k flags s e = Ok (record { state = after_part k flags s; kind = kind_of e })

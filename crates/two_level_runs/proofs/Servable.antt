@@ -1,11 +1,7 @@
 -- Each sample of the fast of two blocks has a run from where its code can be entered.
-use Rattle.std.proofs.Common.{◌≡◌, suc, ◌≤◌, sym, subst, arith}
-use Rattle.byte_scaling.specs.declared.width.Width.TheVariants.{Byte}
-use Rattle.eval_code.specs.Bounds.{step_bound}
-use Rattle.cpu12_emul.specs.Image.{image_memory}
-use Rattle.two_level_code.specs.Images.{fast_most, AloneHasByteBounds}
-use Rattle.two_level_runs.specs.{Runs.entered, Steps.IsFastRun, Steps.FastRunsExist}
-use Rattle.two_level_runs.specs.Outer.{OuterEnters, OuterIsServable}
+use Rattle.two_level_runs.proofs.Words.{◌≡◌, ◌≤◌, AloneHasByteBounds, arith, Byte, entered, fast_most, FastRunsExist}
+use Rattle.two_level_runs.proofs.Words.{image_memory, IsFastRun, OuterEnters, OuterIsServable, step_bound, subst, suc}
+use Rattle.two_level_runs.proofs.Words.{sym}
 
 pub outer_is_servable : OuterEnters → FastRunsExist → AloneHasByteBounds → OuterIsServable
 outer_is_servable enters exist bounds slow fast two flags bytes before v vs ls vf lf is hf input can =

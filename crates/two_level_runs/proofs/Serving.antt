@@ -1,17 +1,13 @@
 -- An outer request is quiet.
-use Rattle.std.proofs.Common.{◌≡◌, ℕ, ◌<◌, ◌≤◌, nat_le, nat_lt, ◌&&◌, ◌||◌, Bool, true, false, Option, None, Some, List}
-use Rattle.std.proofs.Common.{[], length, refl, sym, ◌∙◌, inl, inr, arith}
-use Rattle.std.proofs.lemmas.Bool.{or_parts, cases_lt}
-use Rattle.std.proofs.lemmas.Bool.Decides.{nat_tests}
-use Rattle.cpu12_isa.specs.Agreement.{Agree}
-use Rattle.cpu12_isa.specs.Regions.{is_free, is_vector, is_hidden, LeavesStack}
-use Rattle.cpu12_parts.specs.{declared.temps.Temps.Temps, Laws.IsOff}
-use Rattle.cpu12_parts.specs.declared.temps.Temps.TheVariants.{Free, Running, OnStack}
-use Rattle.cpu12_emul.specs.Simulation.{OnStackOrNone}
-use Rattle.run_law.specs.Soundness.{WritesAreQuiet, Quiet, AreLeft}
-use Rattle.two_level_code.specs.MemoryMaps.{is_fast_ram, is_fast_rom, is_open_to_fast}
-use Rattle.two_level_runs.specs.Runs.{entered, fast_run, served_by}
-use Rattle.two_level_runs.specs.Outer.{OuterIsQuiet, IsQuietRun, RunsFast, IsServable, AreSlow, OuterServes}
+use Rattle.two_level_runs.proofs.Words.{[], ◌&&◌, ◌<◌, ◌∙◌, ◌≡◌, ◌≤◌, Agree, AreSlow, arith, Bool, cases_lt, entered}
+use Rattle.two_level_runs.proofs.Words.{false, fast_run, Free, inl, inr, is_fast_ram, is_fast_rom, is_free, is_hidden}
+use Rattle.two_level_runs.proofs.Words.{is_open_to_fast, IsOff, IsQuietRun, IsServable, LeavesStack, length, List}
+use Rattle.two_level_runs.proofs.Words.{nat_le, nat_lt, nat_tests, OnStack, OnStackOrNone, or_parts, OuterIsQuiet}
+use Rattle.two_level_runs.proofs.Words.{OuterServes, Quiet, refl, Running, RunsFast, served_by, sym, Temps, true}
+use Rattle.two_level_runs.proofs.Words.{WritesAreQuiet, ℕ}
+use Rattle.std.proofs.Common.{◌||◌, Option, None, Some}
+use Rattle.cpu12_isa.specs.{Regions.is_vector}
+use Rattle.run_law.specs.{Soundness.AreLeft}
 
 -- what is open to the fast block is not the stack
 pub open_apart : LeavesStack is_open_to_fast

@@ -1,17 +1,9 @@
 -- The fast code and its answers stand where no open byte changes.
-use Rattle.std.proofs.Common.{◌≡◌, ℕ, ◌+◌, ◌-◌, ◌*◌, ◌<◌, ◌≤◌, true, false, Option, List, length, refl, ap₂, ◌∙◌, arith}
-use Rattle.std.proofs.lemmas.Bool.Decides.{nat_tests}
-use Rattle.fuzzy_meaning.specs.declared.block.Block.{Block}
-use Rattle.cpu12_isa.specs.{Fits.AreBytes, Memory.word_of, Regions.is_free}
-use Rattle.cpu12_parts.specs.State.{State}
-use Rattle.cpu12_emul.specs.Image.{image_memory}
-use Rattle.byte_scaling.specs.declared.width.Width.TheVariants.{Byte}
-use Rattle.eval_code.specs.Evaluation.{HasAnswers}
-use Rattle.interrupt_plan.specs.declared.levels.Level.{Level}
-use Rattle.two_level_code.specs.declared.two.Two.{Two}
-use Rattle.two_level_code.specs.MemoryMaps.{fast_map, is_fast_ram, is_fast_rom, is_open_to_fast}
-use Rattle.alone_runs.specs.OpenBytes.{AreOpenAlike}
-use Rattle.two_level_runs.specs.{Runs.FastSeen, Outer.HasFastCode, Levels.FastStands, Answering.outputs_after}
+use Rattle.two_level_runs.proofs.Words.{◌*◌, ◌+◌, ◌-◌, ◌<◌, ◌∙◌, ◌≡◌, ◌≤◌, ap₂, AreBytes, AreOpenAlike, arith, Block}
+use Rattle.two_level_runs.proofs.Words.{Byte, false, fast_map, FastSeen, FastStands, HasAnswers, HasFastCode}
+use Rattle.two_level_runs.proofs.Words.{image_memory, is_fast_ram, is_fast_rom, is_free, is_open_to_fast, length}
+use Rattle.two_level_runs.proofs.Words.{Level, List, nat_tests, outputs_after, refl, State, true, Two, word_of, ℕ}
+use Rattle.std.proofs.{Common.Option}
 
 -- the fast block's ROM and RAM are open
 pub rom_open : (at : ℕ) → 0x4000 ≤ at → at < 0x7F00 → is_open_to_fast at ≡ true

@@ -1,23 +1,18 @@
 -- The parts of WAV are steps of the fast code.
-use Rattle.std.proofs.Common.{◌≡◌, ℕ, zero, suc, ◌^◌, ◌<◌, Bool, false, Result, Ok, List, ◌++◌, length, refl, ap, ap₂}
-use Rattle.std.proofs.Common.{sym, ◌∙◌, subst, inl, inr, arith}
-use Rattle.std.specs.Prelude.{slice_index}
-use Rattle.cpu12_isa.specs.{declared.instr.Instr.TheVariants.Wav, Act.outcome, Act.read_by, Act.write_all}
-use Rattle.cpu12_isa.specs.{Agreement.AllShown, Code.decode_at, Code.six_from, Code.DecodedHasOpcode, Fits.AreBytes}
-use Rattle.cpu12_isa.specs.{Memory.plus, Memory.bytes_at, Regions.is_hidden}
-use Rattle.cpu12_isa.proofs.Algebra.{shown_append}
-use Rattle.cpu12_parts.specs.declared.{temps.Temps.Temps, temps.Temps.TheVariants.Running, temps.PartEnd.PartEnd}
-use Rattle.cpu12_parts.specs.{Parts.wav, Parts.part_of, Parts.after_part, Laws.IsOff, Laws.addresses, Laws.PartsTo}
-use Rattle.cpu12_parts.specs.declared.temps.PartEnd.TheVariants.{More}
-use Rattle.cpu12_parts.specs.{State.State, State.Outcome, Fits.FitsTemps, Fits.FitsOutcome, Inside.second_byte}
-use Rattle.cpu12_emul.specs.{Simulation.AreSumsReady, Simulation.left_of, declared.ends.Stepped.TheVariants.LastPart}
-use Rattle.cpu12_emul.specs.Step.{Left, Next, kind_of, step_act, applied, next_of}
-use Rattle.two_level_code.specs.Running.{HasFastRom}
-use Rattle.two_level_runs.specs.Steps.{is_open_inside, is_foreign, is_kept}
+use Rattle.two_level_runs.proofs.Words.{◌++◌, ◌<◌, ◌^◌, ◌∙◌, ◌≡◌, addresses, after_part, AllShown, ap, applied, ap₂}
+use Rattle.two_level_runs.proofs.Words.{AreBytes, AreSumsReady, arith, Bool, bytes_at, decode_at, false, FitsOutcome}
+use Rattle.two_level_runs.proofs.Words.{FitsTemps, HasFastRom, inl, inr, is_foreign, is_hidden, is_kept}
+use Rattle.two_level_runs.proofs.Words.{is_open_inside, IsOff, kind_of, LastPart, Left, left_of, length, List, More}
+use Rattle.two_level_runs.proofs.Words.{Next, next_of, Ok, one_stretch, Outcome, outcome, part_of, part_stretch}
+use Rattle.two_level_runs.proofs.Words.{PartEnd, PartsTo, plus, read_by, refl, Result, Running, shown_append}
+use Rattle.two_level_runs.proofs.Words.{six_from, slice_index, State, step_act, Stretch, subst, suc, sym, Temps, Wav}
+use Rattle.two_level_runs.proofs.Words.{wav, write_all, zero, ℕ}
+use Rattle.cpu12_isa.specs.{Code.DecodedHasOpcode}
+use Rattle.cpu12_parts.specs.{Inside.second_byte}
+use Rattle.run_law.proofs.{Algebra.kept_sums}
 use Rattle.two_level_runs.proofs.Owned.{code_own, own_shown}
 use Rattle.two_level_runs.proofs.Beginnings.{Stands, Begins, Kept, kept, off_ready, off_fits}
 use Rattle.run_law.specs.Steps.{SumLaws}
-use Rattle.run_law.proofs.Algebra.{Stretch, one_stretch, part_stretch, kept_sums}
 
 -- a state within WAV
 record Summing (image : List ℕ) (masked : Bool) (sp : ℕ) (s : State) : Type 0 where

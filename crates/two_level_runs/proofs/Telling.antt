@@ -1,22 +1,14 @@
 -- What is told of a fast run is read off its run without inner requests, and answers its sample.
-use Rattle.std.proofs.Common.{◌≡◌, ℕ, zero, suc, ◌+◌, ◌-◌, ◌*◌, ◌<◌, ◌≤◌, max, List, length, refl, ap, sym, ◌∙◌, subst}
-use Rattle.std.proofs.Common.{arith}
-use Rattle.std.specs.Prelude.{slice_index}
-use Rattle.fuzzy_meaning.specs.declared.block.Block.{Block}
-use Rattle.cpu12_isa.specs.Memory.{plus, from, bytes_at}
-use Rattle.cpu12_parts.specs.State.{State}
-use Rattle.cpu12_emul.specs.Image.{image_memory}
-use Rattle.run_law.specs.{Forms.Ran, Soundness.Begins}
-use Rattle.run_law.specs.Uninterrupted.{counted, taken_at, resumed_of, frames_of}
-use Rattle.interrupt_plan.specs.declared.levels.Level.{Level}
-use Rattle.byte_scaling.specs.declared.width.Width.TheVariants.{Byte}
-use Rattle.eval_code.specs.{Widths.answer, Evaluation.HasAnswers}
+use Rattle.two_level_runs.proofs.Words.{◌*◌, ◌+◌, ◌-◌, ◌<◌, ◌∙◌, ◌≡◌, ◌≤◌, answer_of_fast, ap, AreBelow, arith}
+use Rattle.two_level_runs.proofs.Words.{Begins, Block, Byte, bytes_at, bytes_of, counted, entered, fast_map}
+use Rattle.two_level_runs.proofs.Words.{fast_most, FollowsInside, frames_of, from, HasAnswers, image_memory}
+use Rattle.two_level_runs.proofs.Words.{is_open_to_fast, IsFastRun, IsReadOff, length, Level, List, max, plus, Ran}
+use Rattle.two_level_runs.proofs.Words.{refl, resumed_of, seen_of, slice_index, State, subst, suc, sym, taken_at, Two}
+use Rattle.two_level_runs.proofs.Words.{zero, ℕ}
+use Rattle.eval_code.specs.{Widths.answer}
+use Rattle.two_level_code.specs.{Running.IsEntered}
+use Rattle.two_level_runs.specs.{Answering.run_of_level}
 use Rattle.alone_code.specs.Uninterrupted.{IsAnswerOf}
-use Rattle.two_level_code.specs.declared.two.Two.{Two}
-use Rattle.two_level_code.specs.{Images.fast_most, MemoryMaps.fast_map, MemoryMaps.is_open_to_fast, Running.IsEntered}
-use Rattle.alone_runs.specs.Rows.{bytes_of}
-use Rattle.two_level_runs.specs.{Runs.entered, Runs.seen_of, Steps.IsFastRun, Inside.FollowsInside, Inside.AreBelow}
-use Rattle.two_level_runs.specs.Answering.{run_of_level, IsReadOff, answer_of_fast}
 use Rattle.two_level_runs.proofs.Frames.{HasFrameRoom, frame_at}
 
 -- bytes one after the other

@@ -1,14 +1,12 @@
 -- The writes of a sample's bytes, and the bytes of its answers, one after the other.
-use Rattle.std.proofs.Common.{◌≡◌, ℕ, zero, suc, ◌<◌, ◌-◌, List, [], ◌∷◌, ◌++◌, length, get_or, take, drop, ap}
-use Rattle.std.proofs.Common.{sym, ◌∙◌, arith, append_assoc, append-nil}
+use Rattle.two_level_runs.proofs.Words.{[], ◌++◌, ◌-◌, ◌<◌, ◌∙◌, ◌∷◌, ◌≡◌, ap, arith, bytes_at, drop, entered}
+use Rattle.two_level_runs.proofs.Words.{fast_map, from, get_or, length, List, pairs_of, placed, plus, State, suc}
+use Rattle.two_level_runs.proofs.Words.{suspended, sym, take, wav, write_all, zero, ℕ}
+use Rattle.std.proofs.{Common.append_assoc, Common.append-nil}
+use Rattle.cpu12_emul.specs.{Take.pushed, Take.vectored}
 use Rattle.std.proofs.lemmas.List.{drop_all}
 use Rattle.cpu12_isa.specs.declared.instr.Write.{Write}
-use Rattle.cpu12_isa.specs.{Act.write_all, Memory.plus, Memory.placed, Memory.from, Memory.bytes_at}
-use Rattle.cpu12_parts.specs.{State.State, Parts.suspended, Parts.wav}
 use Rattle.cpu12_emul.specs.Take as take
-use Rattle.cpu12_emul.specs.Take.{pairs_of, pushed, vectored}
-use Rattle.two_level_code.specs.MemoryMaps.{fast_map}
-use Rattle.two_level_runs.specs.Runs.{entered}
 
 -- what enters the fast code with these writes enters it with the bytes that they put
 pub entered_with : (ws : List Write) (bytes : List ℕ) (k next : ℕ) (s : State) → k ≡ length bytes

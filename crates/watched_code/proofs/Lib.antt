@@ -1,1 +1,2 @@
 pub mod watching
+pub mod Words

@@ -1,30 +1,21 @@
 -- From reset to where the code waits.
-use Rattle.std.proofs.Common.{true, ◌≢◌, ◌≡◌, ◌⊎◌, inl, inr, ⊎_elim, Bool, false, ℕ, ◌+◌, ◌-◌, ◌*◌, ◌/◌, ◌%◌, ◌^◌, ◌<◌}
-use Rattle.std.proofs.Common.{◌≤◌, Ok, List, [], ◌∷◌, ◌++◌, map, length, set, get_or, refl, sym, ap, ap₂, ◌∙◌}
-use Rattle.std.proofs.Common.{subst, arith, length-set, get_or-set_same, get_or-set_other}
-use Rattle.fuzzy_meaning.specs.declared.block.Block.{Block}
-use Rattle.cpu12_isa.specs.declared.instr.Instr.TheVariants.{LdsImmediate, ClrExtended, Andcc}
-use Rattle.cpu12_isa.specs.declared.{instr.Instr.Instr, instr.Regs.Regs}
-use Rattle.cpu12_isa.specs.{Code.decode_at, Fits.FitsRegs, Fits.AreBytes, Agreement.Agree}
-use Rattle.cpu12_asm.specs.declared.{items.Item.Item, items.Item.TheVariants.Op}
-use Rattle.cpu12_asm.specs.Items.{given_by, IsRising}
-use Rattle.cpu12_parts.specs.{State.State, Whole.after_plain, Whole.PlainExecution}
-use Rattle.cpu12_parts.specs.declared.temps.Temps.TheVariants.{Free}
-use Rattle.cpu12_emul.specs.Step.{reset_with}
-use Rattle.eval_code.specs.declared.memory_map.MemoryMap.{MemoryMap}
-use Rattle.eval_code.specs.{Widths.bytes_of, Code.block_code, Code.code_bytes, Items.bytes_at, Items.block_items}
-use Rattle.eval_code.specs.Data.{table_bytes, singleton_bytes, weight_bytes, rule_bytes, bytes_of_word}
-use Rattle.byte_scaling.specs.declared.{width.Width.Width, width.Width.TheVariants.Byte, width.Width.TheVariants.Word}
-use Rattle.byte_scaling.specs.Widths.{places}
-use Rattle.std.proofs.lemmas.Bool.{cases_eq}
-use Rattle.eval_code.specs.{Evaluation.HasBytes, Standing.DecodesWhereItStands, Standing.ZeroBelow}
-use Rattle.eval_code.proofs.Algebra.{unmasked, same_bytes, SameHigh, high_set, bytes_set_out, bytes_after_set}
-use Rattle.eval_code.proofs.Algebra.{decode_same}
-use Rattle.cpu12_emul.specs.Image.{image_memory}
-use Rattle.cpu12_asm.specs.Bytes.{Holds}
+use Rattle.alone_code.proofs.Words.{[], ◌%◌, ◌*◌, ◌++◌, ◌+◌, ◌-◌, ◌/◌, ◌<◌, ◌^◌, ◌∙◌, ◌∷◌, ◌≡◌, ◌≢◌, ◌≤◌, ◌⊎◌}
+use Rattle.alone_code.proofs.Words.{after_plain, Agree, Andcc, ap, ap₂, arith, Block, block_items, Bool, Byte}
+use Rattle.alone_code.proofs.Words.{bytes_after_set, bytes_at, bytes_of, bytes_of_word, bytes_set_out, cases_eq}
+use Rattle.alone_code.proofs.Words.{ClrExtended, code_bytes, decode_at, decode_same, DecodesWhereItStands, false}
+use Rattle.alone_code.proofs.Words.{Free, get_or, get_or-set_other, get_or-set_same, given_by, HasBytes, high_set}
+use Rattle.alone_code.proofs.Words.{Holds, image_memory, inl, inr, Instr, IsRising, IsStarted, Item, length}
+use Rattle.alone_code.proofs.Words.{length-set, List, Live, MemoryMap, Ok, places, PlainExecution, refl, reset_with}
+use Rattle.alone_code.proofs.Words.{rule_bytes, same_bytes, SameHigh, set, Setting, singleton_bytes, start_code}
+use Rattle.alone_code.proofs.Words.{State, subst, sym, table_bytes, true, unmasked, weight_bytes, Width, Word, ℕ}
+use Rattle.alone_code.proofs.Words.{⊎_elim}
+use Rattle.std.proofs.{Common.map}
+use Rattle.cpu12_isa.specs.{declared.instr.Instr.TheVariants.LdsImmediate, declared.instr.Regs.Regs, Fits.FitsRegs}
+use Rattle.cpu12_isa.specs.{Fits.AreBytes}
+use Rattle.cpu12_asm.specs.{declared.items.Item.TheVariants.Op}
+use Rattle.eval_code.specs.{Code.block_code, Standing.ZeroBelow}
+use Rattle.alone_code.specs.{Frames.first_waiting, Frames.StartArrives}
 use Rattle.alone_code.proofs.runs.Framing.{answer_room}
-use Rattle.alone_code.specs.Frames.{first_waiting, IsStarted, start_code, StartArrives}
-use Rattle.alone_code.specs.Settings.{Setting, Live}
 
 -- memory below the code is 0
 pub zero_below : ZeroBelow

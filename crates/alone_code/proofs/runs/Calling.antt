@@ -1,32 +1,24 @@
 -- EVAL called in a firmware that stands alone, from what it owns.
-use Rattle.std.proofs.Common.{◌≡◌, inl, inr, ⊎_elim, ℕ, ◌+◌, ◌*◌, ◌^◌, ◌<◌, ◌≤◌, max, min, nat_lt, nat_le, ◌&&◌, Bool}
-use Rattle.std.proofs.Common.{false, List, [], ◌∷◌, ◌++◌, length, get_or, set, refl}
-use Rattle.std.proofs.Common.{sym, ap, ap₂, ◌∙◌, subst, arith}
-use Rattle.std.proofs.lemmas.Bool.{or_parts}
-use Rattle.std.proofs.lemmas.Bool.Decides.{nat_tests}
-use Rattle.fuzzy_meaning.specs.{declared.block.Block.Block, Blocks.IsValid}
-use Rattle.cpu12_isa.specs.{Memory.plus, Act.read_by, Agreement.AllShown, Code.six_from, Flags.has, Meaning.act_of}
-use Rattle.cpu12_isa.specs.{Meaning.effect, Regions.is_hidden, declared.instr.Instr.Instr}
-use Rattle.cpu12_isa.specs.declared.instr.Instr.TheVariants.{Rts, Rev, Revw}
-use Rattle.cpu12_parts.specs.declared.temps.Temps.TheVariants.{Free}
+use Rattle.alone_code.proofs.Words.{[], ◌&&◌, ◌*◌, ◌++◌, ◌+◌, ◌<◌, ◌^◌, ◌∙◌, ◌∷◌, ◌≡◌, ◌≤◌, act_of, addresses}
+use Rattle.alone_code.proofs.Words.{after_plain, AllShown, ap, ap₂, arith, Back, Block, Bool, code_bytes, Each}
+use Rattle.alone_code.proofs.Words.{effect, eval_bytes, EvalAnswers, Execution, execution_on, false, Free, get_or}
+use Rattle.alone_code.proofs.Words.{has, HasBytes, HasRoutine, Here, high_set, high_writes, inl, inr, Instr}
+use Rattle.alone_code.proofs.Words.{is_hidden, IsApart, IsCalled, IsInCode, IsInterruptibleStep, IsShownInstruction}
+use Rattle.alone_code.proofs.Words.{IsShut, IsValid, length, length-append, List, Live, MemoryMap, min, nat_le}
+use Rattle.alone_code.proofs.Words.{nat_lt, nat_tests, or_parts, plus, read_by, Reads, refl, Rts, rule_bytes}
+use Rattle.alone_code.proofs.Words.{same_bytes, SameHigh, set, Setting, singleton_bytes, six_from, State}
+use Rattle.alone_code.proofs.Words.{steps_append, subst, sym, table_bytes, weight_bytes, Width, WriteBelow, Writes, ℕ}
+use Rattle.alone_code.proofs.Words.{⊎_elim}
+use Rattle.eval_code.specs.Evaluation.{HasEval, IsAtEval, IsEvaluated, code_region, IsEvalStep}
+use Rattle.eval_code.proofs.Algebra.{Below, From, apart_by, below_front, below_back, places_few}
+use Rattle.std.proofs.{Common.max}
+use Rattle.cpu12_isa.specs.{declared.instr.Instr.TheVariants.Rev, declared.instr.Instr.TheVariants.Revw}
+use Rattle.cpu12_parts.specs.{Touching.IsIn, Touching.IsRulesOver, Touching.IsInstructionOver}
+use Rattle.eval_code.specs.{Code.eval_code}
+use Rattle.alone_code.specs.{Interruptible.IsShownRules, Settings.ReturnGoesOn, Calls.CalledEvalReturns}
 use Rattle.cpu12_parts.specs.Rules.{Rule, Form, concluded, all_concluded, named, raised, rules_written, rules_target}
 use Rattle.cpu12_parts.specs.Rules.{strength}
-use Rattle.cpu12_parts.specs.Touching.{IsIn, Each, IsRulesOver, IsInstructionOver}
-use Rattle.cpu12_parts.specs.{State.State, Laws.addresses, Whole.after_plain, Executions.Execution}
-use Rattle.eval_code.specs.declared.memory_map.MemoryMap.{MemoryMap}
-use Rattle.eval_code.specs.Data.{table_bytes, singleton_bytes, weight_bytes, rule_bytes}
-use Rattle.eval_code.specs.Evaluation.{HasBytes, HasEval, IsAtEval, IsEvaluated, EvalAnswers, eval_bytes, Reads}
-use Rattle.eval_code.specs.Evaluation.{Writes, code_region, IsEvalStep}
-use Rattle.byte_scaling.specs.declared.width.Width.{Width}
-use Rattle.eval_code.specs.{Items.IsApart, Code.eval_code, Code.code_bytes}
-use Rattle.alone_code.specs.Interruptible.{IsShownRules, IsShownInstruction, IsInterruptibleStep}
-use Rattle.cpu12_parts.proofs.Algebra.{execution_on, steps_append}
-use Rattle.eval_code.proofs.Algebra.{SameHigh, high_set, same_bytes, high_writes}
-use Rattle.std.proofs.Common.{length-append}
-use Rattle.eval_code.proofs.Algebra.{WriteBelow, Below, From, apart_by, below_front, below_back, places_few}
 use Rattle.alone_code.proofs.runs.Stepping.{plain_next, low_shown, high_shown, not_at}
-use Rattle.alone_code.specs.Settings.{IsShut, Setting, Here, Live, ReturnGoesOn}
-use Rattle.alone_code.specs.Calls.{IsInCode, HasRoutine, IsCalled, Back, CalledEvalReturns}
 
 -- RTS with the return address on the stack
 less_hidden : (open_to : ℕ → Bool) (at : ℕ) → is_hidden open_to 0x2000 at ≡ false → is_hidden open_to 0x1FFE at ≡ false

@@ -1,21 +1,14 @@
 -- A firmware's frame and its reset vector stand in its memory.
-use Rattle.std.proofs.Common.{◌≡◌, ℕ, ◌+◌, ◌<◌, ◌≤◌, false, List, [], ◌∷◌, ◌++◌, length, sym, ap, ◌∙◌, subst, arith}
-use Rattle.std.proofs.Common.{append_assoc, append-nil}
-use Rattle.fuzzy_meaning.specs.declared.block.Block.{Block}
-use Rattle.rule_layout.specs.Slots.{slots_of}
-use Rattle.cpu12_isa.specs.{declared.instr.Instr.Instr, Code.encode_of, Code.decode_at}
-use Rattle.cpu12_isa.specs.declared.instr.Instr.TheVariants.{LdaaExtended, ClrExtended, Beq, Bra, JsrExtended, Rts}
+use Rattle.alone_code.proofs.Words.{[], ◌++◌, ◌+◌, ◌<◌, ◌∙◌, ◌∷◌, ◌≡◌, ◌≤◌, ap, append_assoc, arith, Beq, Block, Bra}
+use Rattle.alone_code.proofs.Words.{bytes_at, bytes_back, bytes_front, bytes_of_word, ClrExtended, code_bytes}
+use Rattle.alone_code.proofs.Words.{decode_at, encode_of, eval_bytes, false, frame_code, given_by, HasBytes}
+use Rattle.alone_code.proofs.Words.{HasRoutine, Holds, image_memory, Instr, IsApart, IsFramed, IsInCode, IsRising}
+use Rattle.alone_code.proofs.Words.{Item, JsrExtended, LdaaExtended, length, List, MemoryMap, Rts, Setting, slots_of}
+use Rattle.alone_code.proofs.Words.{Stands, StandsBetween, start_code, subst, sym, vector_items, Width, ℕ}
+use Rattle.std.proofs.{Common.append-nil}
+use Rattle.eval_code.specs.{Standing.BytesStand}
+use Rattle.alone_code.specs.{Frames.FrameCallsAndLeaves}
 use Rattle.cpu12_isa.specs.declared.instr.Instr.TheVariants.{Rti}
-use Rattle.cpu12_asm.specs.{declared.items.Item.Item, Bytes.Holds, Items.given_by, Items.IsRising}
-use Rattle.cpu12_emul.specs.Image.{image_memory}
-use Rattle.eval_code.specs.declared.memory_map.MemoryMap.{MemoryMap}
-use Rattle.byte_scaling.specs.declared.width.Width.{Width}
-use Rattle.eval_code.specs.{Code.code_bytes, Data.bytes_of_word, Items.bytes_at, Items.IsApart, Evaluation.HasBytes}
-use Rattle.eval_code.specs.{Evaluation.eval_bytes, Placed.StandsBetween, Standing.BytesStand}
-use Rattle.alone_code.specs.{Code.frame_code, Images.vector_items, Calls.HasRoutine, Calls.IsInCode}
-use Rattle.alone_code.specs.Frames.{start_code, IsFramed, FrameCallsAndLeaves}
-use Rattle.alone_code.specs.Settings.{Setting, Stands}
-use Rattle.eval_code.proofs.Algebra.{bytes_front, bytes_back}
 use Rattle.alone_code.proofs.runs.Stepping.{stands_of}
 use Rattle.alone_code.proofs.runs.Framing.{HasFrame, call_run, leave_run}
 

@@ -1,32 +1,22 @@
 -- A sample, from where the code waits back to there.
-use Rattle.std.proofs.Common.{◌≡◌, ◌⊎◌, inl, inr, ℕ, ◌+◌, ◌-◌, ◌*◌, ◌/◌, ◌%◌, ◌^◌, ◌<◌, ◌≤◌, min, Bool, true, false}
-use Rattle.std.proofs.Common.{◌&&◌, nat_lt, nat_le, Ok, List, [], ◌∷◌}
-use Rattle.std.proofs.Common.{◌++◌, length, set, get_or, refl, sym, ap, ap₂, ◌∙◌, subst, arith, length-set}
-use Rattle.std.proofs.Common.{get_or-set_same, get_or-set_other}
-use Rattle.std.specs.Prelude.{◌==◌}
-use Rattle.std.proofs.lemmas.Bool.{cases_eq, or_parts}
-use Rattle.std.proofs.lemmas.Bool.Decides.{nat_tests}
-use Rattle.fuzzy_meaning.specs.{declared.block.Block.Block, Blocks.IsValid}
-use Rattle.rule_layout.specs.Layouts.{IsWithinLimits}
-use Rattle.cpu12_isa.specs.declared.instr.Instr.TheVariants.{LdaaExtended, ClrExtended, Beq, Bra, JsrExtended}
-use Rattle.cpu12_isa.specs.{Agreement.IsWritten, Code.decode_at, Flags.has, Memory.plus, Regions.is_hidden}
-use Rattle.cpu12_parts.specs.{State.State, Whole.after_plain, Executions.Execution, Executions.all_steps}
-use Rattle.eval_code.specs.{declared.memory_map.MemoryMap.MemoryMap, Widths.bytes_of, Widths.answer}
-use Rattle.eval_code.specs.Evaluation.{HasAnswers, EvalAnswers, HasBytes, put}
-use Rattle.byte_scaling.specs.declared.{width.Width.Width, width.Width.TheVariants.Byte, width.Width.TheVariants.Word}
-use Rattle.byte_scaling.specs.Widths.{places}
-use Rattle.eval_code.specs.{Firing.AreInputBytes, Items.IsApart, Bounds.instruction_bound, Bounds.step_bound}
-use Rattle.alone_code.specs.{Answers.given, Interruptible.is_idle, Interruptible.IsInterruptibleStep}
-use Rattle.eval_code.proofs.Algebra.{masked_tested, zero_tested, length-put, has_put, bytes_put_out, bytes_set_out}
-use Rattle.eval_code.proofs.Algebra.{bytes_after_set, bytes_after_put}
-use Rattle.cpu12_parts.proofs.Algebra.{execution_on, steps_append}
-use Rattle.std.proofs.Common.{length-append}
-use Rattle.eval_code.proofs.Algebra.{high_set, high_put}
+use Rattle.alone_code.proofs.Words.{[], ◌%◌, ◌&&◌, ◌*◌, ◌++◌, ◌+◌, ◌-◌, ◌/◌, ◌<◌, ◌==◌, ◌^◌, ◌∙◌, ◌∷◌, ◌≡◌, ◌≤◌, ◌⊎◌}
+use Rattle.alone_code.proofs.Words.{after_plain, answer, ap, ap₂, AreInputBytes, arith, Back, Beq, Block, Bool, Bra}
+use Rattle.alone_code.proofs.Words.{Byte, bytes_after_set, bytes_of, bytes_put_out, bytes_set_out, cases_eq}
+use Rattle.alone_code.proofs.Words.{ClrExtended, code_room, decode_at, EvalAnswers, Execution, execution_on, false}
+use Rattle.alone_code.proofs.Words.{get_or, get_or-set_other, get_or-set_same, given, has, has_put, HasAnswers}
+use Rattle.alone_code.proofs.Words.{HasBytes, HasRoutine, Here, high_set, Home, inl, inr, instruction_bound}
+use Rattle.alone_code.proofs.Words.{is_hidden, is_idle, IsApart, IsCalled, IsInterruptibleStep, IsValid}
+use Rattle.alone_code.proofs.Words.{IsWithinLimits, JsrExtended, LdaaExtended, length, length-append, length-put}
+use Rattle.alone_code.proofs.Words.{length-set, List, Live, masked_tested, MemoryMap, min, nat_le, nat_lt, nat_tests}
+use Rattle.alone_code.proofs.Words.{Next, Ok, or_parts, places, plus, put, refl, set, Setting, Stands, State}
+use Rattle.alone_code.proofs.Words.{step_bound, steps_append, subst, sym, true, Width, Word, zero_tested, ℕ}
+use Rattle.cpu12_isa.specs.{Agreement.IsWritten}
+use Rattle.cpu12_parts.specs.{Executions.all_steps}
+use Rattle.eval_code.proofs.{Algebra.bytes_after_put, Algebra.high_put}
+use Rattle.alone_code.specs.{Frames.Called, Frames.Left, Settings.LiveIsIdle, Settings.GivenIsLive}
 use Rattle.alone_code.proofs.runs.Stepping.{next, plain_next, goes_one, goes_on, interruptible_of, low_shown}
 use Rattle.alone_code.proofs.runs.Stepping.{high_shown, not_at, clr, beq_on}
 use Rattle.alone_code.proofs.runs.Calling.{called}
-use Rattle.alone_code.specs.{Calls.HasRoutine, Calls.IsCalled, Calls.Back, Frames.Home, Frames.Called, Frames.Left}
-use Rattle.alone_code.specs.Settings.{code_room, Setting, Here, Live, LiveIsIdle, GivenIsLive, Stands, Next}
 
 -- the code around EVAL
 pub record HasFrame (c : Setting) : Type 0 where

@@ -1,30 +1,19 @@
 -- The firmware of a block answers every list of samples by the byte answer.
-use Rattle.std.proofs.Common.{◌≡◌, ◌⊎◌, inl, inr, Bool, false, ◌≤◌, ℕ, ◌^◌, ◌<◌, List, [], ◌∷◌, length, All, refl, sym}
-use Rattle.std.proofs.Common.{ap, ◌∙◌, subst, arith}
-use Rattle.fuzzy_meaning.specs.{declared.block.Block.Block, Blocks.IsValid}
-use Rattle.rule_layout.specs.Layouts.{IsWithinLimits}
-use Rattle.cpu12_asm.specs.{Bytes.Holds, Items.given_by, Items.IsRising}
-use Rattle.cpu12_parts.specs.State.{State}
-use Rattle.cpu12_emul.specs.Image.{image_memory}
-use Rattle.eval_code.specs.declared.memory_map.MemoryMap.{MemoryMap}
-use Rattle.eval_code.specs.{MemoryMaps.main_map, Bounds.instruction_bound, Items.IsApart}
-use Rattle.byte_scaling.specs.{declared.width.Width.Width, Widths.width_of}
-use Rattle.eval_code.specs.{Firing.AreInputBytes, Evaluation.HasBytes, Evaluation.Reads, Evaluation.Writes}
-use Rattle.eval_code.specs.{Placed.IsInOrder, Placed.BlockRises, Placed.BlockIsShort, Code.code_bytes, Code.FitCode}
-use Rattle.alone_code.specs.{Code.frame_code, Images.firmware_items, Laws.LowerLaws}
-use Rattle.alone_code.specs.Answers.{IsArrivedBeside, AreAnsweredBeside, FirmwareAnswers, LeavesMapped}
+use Rattle.alone_code.proofs.Words.{[], ◌<◌, ◌^◌, ◌∙◌, ◌∷◌, ◌≡◌, ◌≤◌, ◌⊎◌, Agree, All, ap, AreAnsweredBeside}
+use Rattle.alone_code.proofs.Words.{AreInputBytes, arith, Block, BlockIsShort, BlockRises, Bool, code_bytes, false}
+use Rattle.alone_code.proofs.Words.{firmware_items, FirmwareAnswers, FitCode, frame_code, given_by, HasBytes}
+use Rattle.alone_code.proofs.Words.{HasFirmware, Holds, image_memory, inl, inr, instruction_bound, is_free, IsApart}
+use Rattle.alone_code.proofs.Words.{IsFramed, IsInCode, IsInOrder, IsRising, IsShut, IsStarted, IsValid}
+use Rattle.alone_code.proofs.Words.{IsWithinLimits, length, List, LowerLaws, main_map, MemoryMap, nat_tests, Reads}
+use Rattle.alone_code.proofs.Words.{refl, Rts, Setting, start_code, State, subst, sym, Width, width_of, Writes, ℕ}
+use Rattle.alone_code.specs.{Answers.IsArrivedBeside, Answers.LeavesMapped, Frames.Arrived}
 use Rattle.alone_code.specs.Answers.{FreeBytesLeave, FirmwareAnswersBeside, ArrivesAlike, FirmwareArrivesAlike}
 use Rattle.alone_code.proofs.runs.Stepping.{interruptible_of}
-use Rattle.cpu12_isa.specs.{Regions.is_free, Agreement.Agree}
-use Rattle.std.proofs.lemmas.Bool.Decides.{nat_tests}
 use Rattle.alone_code.proofs.runs.Founding.{frame_bytes, has_frame}
 use Rattle.alone_code.proofs.runs.Placing.{whole_rises, whole_is_short}
 use Rattle.alone_code.proofs.runs.Arriving.{arrive, arrive_alike}
 use Rattle.alone_code.proofs.runs.Framing.{HasFrame, Samples, waits}
 use Rattle.alone_code.proofs.{runs.Standing.has_firmware, runs.Sampling.are_answered}
-use Rattle.alone_code.specs.{Standing.HasFirmware, Calls.IsInCode, Settings.IsShut, Settings.Setting}
-use Rattle.alone_code.specs.Frames.{IsStarted, IsFramed, start_code, Arrived}
-use Rattle.cpu12_isa.specs.declared.instr.Instr.TheVariants.{Rts}
 
 pub main_apart : IsApart main_map
 main_apart = search arith

@@ -1,17 +1,12 @@
 -- A block's items with the vectors behind them, by the laws of blocks at a memory map.
-use Rattle.std.proofs.Common.{ℕ, ◌+◌, ◌/◌, ◌%◌, ◌^◌, ◌<◌, ◌≤◌, List, [], ◌∷◌, ◌++◌, length, All, refl, sym, subst}
-use Rattle.std.proofs.Common.{arith, length-append}
+use Rattle.alone_code.proofs.Words.{[], ◌%◌, ◌++◌, ◌+◌, ◌/◌, ◌<◌, ◌^◌, ◌∷◌, ◌≤◌, All, arith, Block, block_items}
+use Rattle.alone_code.proofs.Words.{BlockIsShort, BlockRises, code_bytes, given_by, Holds, image_memory, Instr}
+use Rattle.alone_code.proofs.Words.{IsApart, IsInOrder, IsRising, IsValid, IsWithinLimits, length, length-append}
+use Rattle.alone_code.proofs.Words.{List, LowerLaws, MemoryMap, refl, slots_of, StandsBetween, subst, sym}
+use Rattle.alone_code.proofs.Words.{vector_items, Width, ℕ}
+use Rattle.rule_layout.specs.{Layouts.flat_of, Layouts.LayoutLaw}
+use Rattle.eval_code.specs.{Placed.GiveBytes, Placed.BlockStands}
 use Rattle.std.proofs.lemmas.List.Elements.{All-nil, All-cons, All-append}
-use Rattle.fuzzy_meaning.specs.{declared.block.Block.Block, Blocks.IsValid}
-use Rattle.rule_layout.specs.{Slots.slots_of, Layouts.flat_of, Layouts.IsWithinLimits, Layouts.LayoutLaw}
-use Rattle.cpu12_isa.specs.declared.instr.Instr.{Instr}
-use Rattle.cpu12_asm.specs.{Bytes.Holds, Items.given_by, Items.IsRising}
-use Rattle.cpu12_emul.specs.Image.{image_memory}
-use Rattle.eval_code.specs.declared.memory_map.MemoryMap.{MemoryMap}
-use Rattle.eval_code.specs.Placed.{IsInOrder, StandsBetween, GiveBytes, BlockRises, BlockIsShort, BlockStands}
-use Rattle.byte_scaling.specs.declared.width.Width.{Width}
-use Rattle.eval_code.specs.{Code.code_bytes, Items.block_items, Items.IsApart}
-use Rattle.alone_code.specs.{Images.vector_items, Laws.LowerLaws}
 
 -- a memory map has room for the slots of a valid block
 pub few_slots : LayoutLaw → (b : Block) → IsValid b → length (slots_of b) ≤ 300

@@ -1,11 +1,7 @@
 -- A list of samples is answered.
-use Rattle.std.proofs.Common.{ℕ, suc, List, [], ◌∷◌, All, arith}
-use Rattle.fuzzy_meaning.specs.declared.block.Block.{Block}
-use Rattle.cpu12_parts.specs.State.{State}
-use Rattle.byte_scaling.specs.declared.width.Width.{Width}
-use Rattle.eval_code.specs.{Widths.answer, Firing.AreInputBytes, Bounds.instruction_bound}
-use Rattle.alone_code.specs.Answers.{given, IsAnsweredBeside, AreAnsweredBeside}
-use Rattle.alone_code.specs.{Frames.Home, Settings.Setting}
+use Rattle.alone_code.proofs.Words.{[], ◌∷◌, All, answer, AreAnsweredBeside, AreInputBytes, arith, Block, given, Home}
+use Rattle.alone_code.proofs.Words.{instruction_bound, List, Setting, State, suc, Width, ℕ}
+use Rattle.alone_code.specs.{Answers.IsAnsweredBeside}
 use Rattle.alone_code.proofs.runs.Stepping.{interruptible_of}
 use Rattle.alone_code.proofs.runs.Framing.{Samples, Sampled, sample_run, waits}
 

@@ -1,9 +1,7 @@
 -- The memory of an image has a block's firmware.
-use Rattle.std.proofs.Common.{◌<◌, [], ◌∷◌, ◌++◌, arith}
-use Rattle.cpu12_isa.specs.declared.instr.Instr.TheVariants.{Rts}
-use Rattle.cpu12_emul.specs.Image.{image_memory}
-use Rattle.eval_code.specs.Items.{block_items}
-use Rattle.alone_code.specs.{Images.vector_items, Laws.LowerLaws, Standing.ImageHasFirmware}
+use Rattle.alone_code.proofs.Words.{[], ◌++◌, ◌<◌, ◌∷◌, arith, block_items, image_memory, LowerLaws, Rts}
+use Rattle.alone_code.proofs.Words.{vector_items}
+use Rattle.alone_code.specs.{Standing.ImageHasFirmware}
 use Rattle.alone_code.proofs.{runs.Arriving.zero_below, runs.Founding.start_stands, runs.Founding.has_routine}
 use Rattle.alone_code.proofs.runs.Placing.{few_slots, whole_rises, whole_stands, whole_fits}
 

@@ -1,22 +1,17 @@
 -- One instruction of the code around EVAL, and where it leads.
-use Rattle.std.proofs.Common.{◌≡◌, ◌≢◌, ◌⊎◌, inl, inr, ⊎_elim, ℕ, ◌+◌, ◌^◌, ◌<◌, ◌≤◌, min, nat_lt, nat_le, ◌&&◌, Bool}
-use Rattle.std.proofs.Common.{true, false, Ok, List, [], ◌∷◌, length}
-use Rattle.std.proofs.Common.{refl, sym, ap, ◌∙◌, arith, length-append}
-use Rattle.std.specs.Prelude.{◌==◌, if◌then◌else◌}
-use Rattle.std.proofs.lemmas.Bool.Decides.{nat_tests}
-use Rattle.cpu12_isa.specs.declared.instr.Instr.{Instr}
-use Rattle.cpu12_isa.specs.declared.instr.Instr.TheVariants.{ClrExtended, Beq}
-use Rattle.cpu12_isa.specs.{Act.read_by, Agreement.AllShown, Agreement.Uncovers, Flags.has}
-use Rattle.cpu12_isa.specs.Code.{encode_of, decode_at, six_from, FitsOperands}
-use Rattle.cpu12_isa.specs.{Meaning.act_of, Meaning.effect, Meaning.is_plain, Memory.plus, Regions.is_hidden}
+use Rattle.alone_code.proofs.Words.{[], ◌&&◌, ◌+◌, ◌<◌, ◌==◌, ◌^◌, ◌∙◌, ◌∷◌, ◌≡◌, ◌≢◌, ◌≤◌, ◌⊎◌, act_of, addresses}
+use Rattle.alone_code.proofs.Words.{after_plain, AllShown, ap, arith, Beq, Bool, bytes_back, bytes_front, ClrExtended}
+use Rattle.alone_code.proofs.Words.{code_bytes, code_room, decode_at, decode_same, Each, effect, encode_of, false}
+use Rattle.alone_code.proofs.Words.{has, Here, high_writes, if◌then◌else◌, inl, inr, Instr, is_hidden, is_idle}
+use Rattle.alone_code.proofs.Words.{IsInterruptibleStep, IsShut, IsSteady, length, length-append, List, Live, Lives}
+use Rattle.alone_code.proofs.Words.{masked_four, MemoryMap, min, nat_le, nat_lt, nat_tests, Next, Ok, plus, read_by}
+use Rattle.alone_code.proofs.Words.{refl, Setting, six_from, State, sym, true, WriteBelow, ℕ, ⊎_elim}
+use Rattle.cpu12_isa.specs.{Agreement.Uncovers, Code.FitsOperands, Meaning.is_plain}
+use Rattle.eval_code.specs.{Masks.interrupt_masks}
+use Rattle.alone_code.specs.{Interruptible.IsShownPlain, Settings.InstructionGoesOn}
+use Rattle.eval_code.proofs.{Algebra.below_more, Algebra.bytes_writes}
 use Rattle.cpu12_isa.proofs.Algebra.{length_writes}
-use Rattle.cpu12_parts.specs.{State.State, Laws.addresses, Touching.Each, Whole.after_plain}
-use Rattle.eval_code.specs.{declared.memory_map.MemoryMap.MemoryMap, Masks.interrupt_masks, Code.code_bytes}
-use Rattle.alone_code.specs.Interruptible.{is_idle, IsSteady, IsShownPlain, IsInterruptibleStep}
-use Rattle.alone_code.specs.Settings.{code_room, IsShut, Setting, Here, Lives, Live, Next, InstructionGoesOn}
 use Rattle.alone_code.specs.Settings.{InstructionsStand, LiveIsInterruptible}
-use Rattle.eval_code.proofs.Algebra.{WriteBelow, below_more, high_writes, bytes_writes, bytes_front, bytes_back}
-use Rattle.eval_code.proofs.Algebra.{decode_same, masked_four}
 use Rattle.cpu12_parts.proofs.Algebra.{Bounded, bounded_one, bounded_on}
 
 pub sp_high : (s : State) → (s.regs.sp ≡ 0x1FFE) ⊎ (s.regs.sp ≡ 0x2000) → s.regs.sp ≤ 0x2000

@@ -1,22 +1,15 @@
 -- The uninterrupted answers of a firmware.
-use Rattle.std.proofs.Common.{◌≡◌, ◌≢◌, inl, inr, ℕ, zero, suc, ◌+◌, ◌-◌, ◌*◌, ◌<◌, false, true, Bool, List, [], ◌∷◌}
-use Rattle.std.proofs.Common.{length, get_or, refl, sym, ap, ap₂, ◌∙◌, subst}
-use Rattle.std.proofs.Common.{arith}
-use Rattle.std.proofs.lemmas.Bool.Decides.{nat_tests}
-use Rattle.fuzzy_meaning.specs.declared.block.Block.{Block}
-use Rattle.cpu12_isa.specs.{Memory.word_of, Regions.is_free}
-use Rattle.cpu12_parts.specs.{State.State, Whole.PlainExecution, Whole.IsWholeStep}
-use Rattle.cpu12_parts.specs.Executions.{Execution, IsStepBefore, IsUntil, ExecutionsAreOne}
-use Rattle.cpu12_emul.specs.{Image.image_memory, Step.reset_with}
-use Rattle.eval_code.specs.declared.memory_map.MemoryMap.{MemoryMap}
-use Rattle.eval_code.specs.{Widths.bytes_of, Widths.answer, Evaluation.HasBytes}
-use Rattle.byte_scaling.specs.declared.{width.Width.Width, width.Width.TheVariants.Byte, width.Width.TheVariants.Word}
-use Rattle.byte_scaling.specs.Widths.{width_of, places}
-use Rattle.alone_code.specs.declared.firmware.Firmware.{Firmware}
-use Rattle.alone_code.specs.Interruptible.{is_idle, IsShownInstruction, IsInterruptibleStep}
-use Rattle.alone_code.specs.Answers.{given, AreAnswered, FirmwareAnswers}
-use Rattle.alone_code.specs.Uninterrupted.{Answer, value_at, values_from, values_in, is_waiting, AreAnswersTo}
-use Rattle.alone_code.specs.Uninterrupted.{UninterruptedAreOne, AreAnswersOf, answers_by, AnsweredAreUninterrupted}
+use Rattle.alone_code.proofs.Words.{[], ◌*◌, ◌+◌, ◌-◌, ◌<◌, ◌∙◌, ◌∷◌, ◌≡◌, ◌≢◌, Answer, answer, ap, ap₂, AreAnswersOf}
+use Rattle.alone_code.proofs.Words.{AreAnswersTo, arith, Block, Bool, Byte, bytes_of, Execution, false, Firmware}
+use Rattle.alone_code.proofs.Words.{FirmwareAnswers, get_or, given, HasBytes, image_memory, inl, inr, is_free}
+use Rattle.alone_code.proofs.Words.{is_idle, IsInterruptibleStep, IsShownInstruction, IsStepBefore, length, List}
+use Rattle.alone_code.proofs.Words.{MemoryMap, nat_tests, places, PlainExecution, refl, reset_with, State, subst, suc}
+use Rattle.alone_code.proofs.Words.{sym, true, values_in, Width, width_of, Word, zero, ℕ}
+use Rattle.alone_code.specs.Uninterrupted.{value_at, values_from, is_waiting, UninterruptedAreOne, answers_by}
+use Rattle.alone_code.specs.Uninterrupted.{AnsweredAreUninterrupted}
+use Rattle.cpu12_isa.specs.{Memory.word_of}
+use Rattle.cpu12_parts.specs.{Whole.IsWholeStep, Executions.IsUntil, Executions.ExecutionsAreOne}
+use Rattle.alone_code.specs.{Answers.AreAnswered}
 use Rattle.alone_code.specs.Uninterrupted.{FirmwareIsUninterrupted}
 
 -- They have one value.

@@ -1,27 +1,16 @@
 -- The turn of a sample, and the uninterrupted answers of the mailbox form.
-use Rattle.std.proofs.Common.{◌≡◌, inl, inr, ℕ, zero, suc, ◌+◌, ◌-◌, ◌*◌, ◌^◌, ◌<◌, ◌≤◌, Bool, false, List, [], ◌∷◌}
-use Rattle.std.proofs.Common.{◌++◌, length, get_or, All, refl, sym, ap}
-use Rattle.std.proofs.Common.{◌∙◌, subst, arith, get_or-set_same}
-use Rattle.std.specs.Prelude.{◌==◌, if◌then◌else◌}
-use Rattle.std.proofs.lemmas.Bool.Decides.{nat_tests}
-use Rattle.fuzzy_meaning.specs.{declared.block.Block.Block, Blocks.IsValid}
-use Rattle.cpu12_isa.specs.declared.instr.Instr.TheVariants.{LdaaExtended, Beq, Orcc}
-use Rattle.cpu12_isa.specs.{Fits.StaysFit, Flags.has}
-use Rattle.cpu12_parts.specs.{State.State, Executions.Execution, Executions.IsStepBefore}
-use Rattle.cpu12_emul.specs.{Image.image_memory, Step.reset_with}
-use Rattle.eval_code.specs.{Standing.DecodesWhereItStands, Firing.AreInputBytes}
-use Rattle.byte_scaling.specs.{Widths.width_of, Widths.places, declared.width.Width.Width}
-use Rattle.eval_code.specs.{Widths.bytes_of, Widths.answer, declared.memory_map.MemoryMap.MemoryMap}
-use Rattle.eval_code.specs.Evaluation.{HasBytes, HasAnswers, put}
-use Rattle.alone_code.specs.declared.firmware.Firmware.{Firmware}
-use Rattle.alone_code.specs.Uninterrupted.{Answer, values_in, AreAnswersTo, AreAnswersOf}
-use Rattle.alone_code.specs.Turns.{IsAt, IsMaskedStep, IsCopied, IsLook, IsChoice, TakesTurns, MailboxTakesPosts}
+use Rattle.alone_code.proofs.Words.{[], ◌*◌, ◌++◌, ◌+◌, ◌-◌, ◌<◌, ◌==◌, ◌^◌, ◌∙◌, ◌∷◌, ◌≡◌, ◌≤◌, All, Answer, answer}
+use Rattle.alone_code.proofs.Words.{ap, AreAnswersOf, AreAnswersTo, AreInputBytes, arith, Beq, Block, Bool, bytes_of}
+use Rattle.alone_code.proofs.Words.{bytes_put_out, bytes_set_out, DecodesWhereItStands, Execution, execution_on}
+use Rattle.alone_code.proofs.Words.{false, Firmware, get_or, get_or-set_same, given, has, has_put, HasAnswers}
+use Rattle.alone_code.proofs.Words.{HasBytes, if◌then◌else◌, image_memory, inl, inr, is_idle, is_postable, IsAt}
+use Rattle.alone_code.proofs.Words.{IsChoice, IsCopied, IsLook, IsMaskedStep, IsStepBefore, IsValid, LdaaExtended}
+use Rattle.alone_code.proofs.Words.{length, length-append, length-put, List, mailbox_map, MailboxTakesPosts}
+use Rattle.alone_code.proofs.Words.{MemoryMap, nat_tests, Orcc, places, put, refl, reset_with, same_bytes, State}
+use Rattle.alone_code.proofs.Words.{StaysFit, subst, suc, sym, TakesTurns, values_in, Width, width_of, zero, ℕ}
+use Rattle.eval_code.proofs.{Algebra.bytes_by}
 use Rattle.alone_code.specs.Turns.{MailboxIsUninterrupted, call_of}
 use Rattle.alone_code.specs.SampleTurns.{IsSampleTurn, TakesSamples, MailboxTakesSamples}
-use Rattle.alone_code.specs.{Interruptible.is_idle, Answers.given, Mailboxes.is_postable, Mailboxes.mailbox_map}
-use Rattle.cpu12_parts.proofs.Algebra.{execution_on}
-use Rattle.std.proofs.Common.{length-append}
-use Rattle.eval_code.proofs.Algebra.{length-put, has_put, bytes_by, bytes_put_out, bytes_set_out, same_bytes}
 use Rattle.alone_code.proofs.runs.Stepping.{not_at}
 use Rattle.alone_code.proofs.runs.Framing.{answer_room, not_ready, given_live, waits as idle}
 use Rattle.alone_code.proofs.runs.Uninterrupted.{uninterrupted, waits, arrival, count_from, value_from}

@@ -1,19 +1,13 @@
 -- MAIL is copied while I is 1.
-use Rattle.std.proofs.Common.{◌≡◌, ◌≢◌, ◌⊎◌, inl, inr, ⊎_elim, ℕ, zero, suc, ◌+◌, ◌*◌, ◌<◌, ◌≤◌, Bool, true, false}
-use Rattle.std.proofs.Common.{List, [], ◌∷◌, ◌++◌, length, get_or, set, min, refl, sym, ap, ◌∙◌}
-use Rattle.std.proofs.Common.{subst, arith, get_or-set_same, get_or-set_other}
-use Rattle.std.proofs.lemmas.Bool.Decides.{nat_tests}
-use Rattle.cpu12_isa.specs.{declared.instr.Instr.Instr, Regions.is_free}
-use Rattle.cpu12_isa.specs.declared.instr.Instr.TheVariants.{ClrExtended, Andcc, Orcc, MovbExtended}
-use Rattle.cpu12_parts.specs.{State.State, Whole.after_plain, Executions.Execution}
-use Rattle.alone_code.specs.Mailboxes.{is_postable, mailbox_map, copy_code, call_code}
-use Rattle.alone_code.specs.Turns.{IsAt, IsMaskedStep, IsCopied}
-use Rattle.cpu12_parts.proofs.Algebra.{execution_on}
-use Rattle.std.proofs.Common.{length-append}
-use Rattle.eval_code.proofs.Algebra.{masked_four, masked_on, unmasked}
+use Rattle.alone_code.proofs.Words.{[], ◌*◌, ◌++◌, ◌+◌, ◌<◌, ◌∙◌, ◌∷◌, ◌≡◌, ◌≢◌, ◌≤◌, ◌⊎◌, after_plain, Andcc, ap}
+use Rattle.alone_code.proofs.Words.{arith, Bool, call_code, ClrExtended, copy_code, Execution, execution_on, false}
+use Rattle.alone_code.proofs.Words.{get_or, get_or-set_other, get_or-set_same, Here, inl, inr, Instr, is_free}
+use Rattle.alone_code.proofs.Words.{is_postable, IsAt, IsCopied, IsMaskedStep, length, length-append, List, Lives}
+use Rattle.alone_code.proofs.Words.{mailbox_map, masked_four, min, MovbExtended, nat_tests, Orcc, refl, set, Stands}
+use Rattle.alone_code.proofs.Words.{State, subst, suc, sym, true, unmasked, zero, ℕ, ⊎_elim}
+use Rattle.eval_code.proofs.{Algebra.masked_on}
 use Rattle.alone_code.proofs.runs.Stepping.{Went, low_shown, plain_went, steady_of}
 use Rattle.alone_code.proofs.turns.Posting.{Post, HasTurn, free_ctx, post_ctx, lives_of, at_of}
-use Rattle.alone_code.specs.Settings.{Here, Lives, Stands}
 
 abbrev Masked : Post → ℕ → State → State → Type 0
 Masked p = IsMaskedStep (mailbox_map p.n) p.image p.flags

@@ -1,8 +1,7 @@
 -- How many steps a sample takes the mailbox firmware at most.
-use Rattle.std.proofs.Common.{arith}
+use Rattle.alone_code.proofs.Words.{arith, mailbox_bound, width_of}
+use Rattle.alone_code.specs.{Mailboxes.MailboxStepsAreFew}
 use Rattle.eval_code.specs.Bounds.{BoundsAreFew}
-use Rattle.byte_scaling.specs.Widths.{width_of}
-use Rattle.alone_code.specs.Mailboxes.{mailbox_bound, MailboxStepsAreFew}
 
 pub steps_are_few : BoundsAreFew → MailboxStepsAreFew
 steps_are_few few b f valid limits h =

@@ -1,21 +1,13 @@
 -- The mailbox form's code stands in its memory.
-use Rattle.std.proofs.Common.{◌≡◌, inr, ℕ, zero, suc, ◌+◌, ◌-◌, ◌*◌, ◌^◌, ◌<◌, ◌≤◌, List, [], ◌∷◌, ◌++◌, length, refl}
-use Rattle.std.proofs.Common.{ap, ap₂, ◌∙◌, subst, arith}
-use Rattle.fuzzy_meaning.specs.{declared.block.Block.Block, Blocks.IsValid}
-use Rattle.rule_layout.specs.Layouts.{IsWithinLimits}
-use Rattle.cpu12_isa.specs.{declared.instr.Instr.Instr, Code.encode_of}
-use Rattle.cpu12_isa.specs.declared.instr.Instr.TheVariants.{LdaaExtended, Beq, Bra, JsrExtended, MovbExtended, Orcc}
-use Rattle.cpu12_isa.specs.declared.instr.Instr.TheVariants.{Rts}
-use Rattle.cpu12_asm.specs.Items.{IsRising}
-use Rattle.byte_scaling.specs.declared.width.Width.{Width}
-use Rattle.eval_code.specs.{Items.IsApart, Evaluation.HasBytes}
-use Rattle.eval_code.specs.{Placed.IsInOrder, Placed.BlockRises, Placed.BlockIsShort, Code.code_bytes, Code.FitCode}
-use Rattle.alone_code.specs.Mailboxes.{mailbox_map, copy_code, call_code, mailbox_code, mailbox_items}
-use Rattle.alone_code.specs.Settings.{Setting, Here, Stands}
-use Rattle.alone_code.specs.{Calls.IsInCode, Frames.IsStarted, Frames.start_code}
+use Rattle.alone_code.proofs.Words.{[], ◌*◌, ◌++◌, ◌+◌, ◌-◌, ◌<◌, ◌^◌, ◌∙◌, ◌∷◌, ◌≡◌, ◌≤◌, ap, ap₂, arith, Beq, Block}
+use Rattle.alone_code.proofs.Words.{BlockIsShort, BlockRises, Bra, bytes_back, bytes_front, call_code, code_bytes}
+use Rattle.alone_code.proofs.Words.{copy_code, encode_of, FitCode, HasBytes, Here, inr, Instr, IsApart, IsInCode}
+use Rattle.alone_code.proofs.Words.{IsInOrder, IsRising, IsStarted, IsValid, IsWithinLimits, JsrExtended}
+use Rattle.alone_code.proofs.Words.{LdaaExtended, length, List, mailbox_code, mailbox_items, mailbox_map}
+use Rattle.alone_code.proofs.Words.{MovbExtended, Orcc, refl, Rts, Setting, Stands, start_code, subst, suc, Width}
+use Rattle.alone_code.proofs.Words.{zero, ℕ}
+use Rattle.eval_code.proofs.Algebra.{length-code_bytes, code_size, code_size-append, fit_append}
 use Rattle.alone_code.proofs.{runs.Stepping.stands_of, runs.Placing.whole_rises, runs.Placing.whole_is_short}
-use Rattle.eval_code.proofs.Algebra.{length-code_bytes, code_size, code_size-append, fit_append, bytes_front}
-use Rattle.eval_code.proofs.Algebra.{bytes_back}
 use Rattle.alone_code.proofs.turns.Posting.{Post, HasTurn, free_ctx, post_ctx}
 
 -- one copy more

@@ -1,13 +1,8 @@
 -- The mailbox firmware of a block takes its turns.
-use Rattle.std.proofs.Common.{ℕ, ◌^◌, ◌<◌, ◌≤◌, List, length, refl, sym, subst, arith}
-use Rattle.fuzzy_meaning.specs.{declared.block.Block.Block, Blocks.IsValid}
-use Rattle.rule_layout.specs.Layouts.{IsWithinLimits}
-use Rattle.cpu12_asm.specs.{Bytes.Holds, Items.given_by}
-use Rattle.cpu12_emul.specs.Image.{image_memory}
-use Rattle.eval_code.specs.declared.memory_map.MemoryMap.{MemoryMap}
-use Rattle.byte_scaling.specs.{declared.width.Width.Width, Widths.width_of}
-use Rattle.alone_code.specs.Mailboxes.{mailbox_map, mailbox_code, mailbox_items, mailbox_bound}
-use Rattle.alone_code.specs.{Turns.TakesTurns, Turns.MailboxTakesPosts, Laws.LowerLaws, Standing.HasFirmware}
+use Rattle.alone_code.proofs.Words.{◌<◌, ◌^◌, ◌≤◌, arith, Block, given_by, HasFirmware, Holds, image_memory, IsValid}
+use Rattle.alone_code.proofs.Words.{IsWithinLimits, length, List, LowerLaws, mailbox_bound, mailbox_code}
+use Rattle.alone_code.proofs.Words.{mailbox_items, mailbox_map, MailboxTakesPosts, MemoryMap, refl, subst, sym}
+use Rattle.alone_code.proofs.Words.{TakesTurns, Width, width_of, ℕ}
 use Rattle.alone_code.proofs.{runs.Arriving.arrive, runs.Standing.has_firmware, turns.Copying.copies_run}
 use Rattle.alone_code.proofs.turns.Posting.{Post, post_ctx, at_of}
 use Rattle.alone_code.proofs.turns.Looking.{look_run, choose_run}

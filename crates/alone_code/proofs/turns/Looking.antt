@@ -1,11 +1,7 @@
 -- The code looks at POSTED.
-use Rattle.std.proofs.Common.{◌≡◌, inl, ℕ, ◌+◌, ◌≤◌, nat_lt, Bool, true, false, get_or, refl, ap, ◌∙◌, arith}
-use Rattle.std.specs.Prelude.{◌==◌, if◌then◌else◌}
-use Rattle.cpu12_isa.specs.declared.instr.Instr.TheVariants.{LdaaExtended, Beq}
-use Rattle.cpu12_isa.specs.{Flags.has, Memory.plus, Regions.is_free}
-use Rattle.cpu12_parts.specs.{State.State, Whole.after_plain}
-use Rattle.alone_code.specs.{Mailboxes.is_postable, Mailboxes.mailbox_map, Turns.IsAt, Turns.IsLook, Turns.IsChoice}
-use Rattle.eval_code.proofs.Algebra.{masked_tested, zero_tested}
+use Rattle.alone_code.proofs.Words.{◌+◌, ◌==◌, ◌∙◌, ◌≡◌, ◌≤◌, after_plain, ap, arith, Beq, Bool, false, get_or, has}
+use Rattle.alone_code.proofs.Words.{if◌then◌else◌, inl, is_free, is_postable, IsAt, IsChoice, IsLook, LdaaExtended}
+use Rattle.alone_code.proofs.Words.{mailbox_map, masked_tested, nat_lt, plus, refl, State, true, zero_tested, ℕ}
 use Rattle.alone_code.proofs.runs.Stepping.{low_shown, plain_went}
 use Rattle.alone_code.proofs.turns.Posting.{Post, HasTurn, free_ctx, lives_of, at_of}
 

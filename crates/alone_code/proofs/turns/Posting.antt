@@ -1,13 +1,8 @@
 -- What the turns of the mailbox form are under.
-use Rattle.std.proofs.Common.{◌≡◌, ◌⊎◌, inl, inr, ℕ, ◌+◌, ◌^◌, ◌<◌, ◌≤◌, Bool, false, Ok, List, ◌∷◌, ◌++◌, arith}
-use Rattle.std.proofs.lemmas.Bool.Decides.{nat_tests}
-use Rattle.cpu12_isa.specs.declared.instr.Instr.TheVariants.{LdaaExtended, Beq, Orcc}
-use Rattle.cpu12_isa.specs.{Code.decode_at, Fits.StaysFit, Regions.is_free}
-use Rattle.cpu12_parts.specs.State.{State}
-use Rattle.eval_code.specs.{Evaluation.Reads, Evaluation.Writes, Standing.DecodesWhereItStands}
-use Rattle.alone_code.specs.{Interruptible.IsSteady, Turns.IsAt}
-use Rattle.alone_code.specs.Mailboxes.{is_postable, mailbox_map, copy_code, call_code}
-use Rattle.alone_code.specs.Settings.{IsShut, Setting, Lives, Stands}
+use Rattle.alone_code.proofs.Words.{◌++◌, ◌+◌, ◌<◌, ◌^◌, ◌∷◌, ◌≡◌, ◌≤◌, ◌⊎◌, arith, Beq, Bool, call_code, copy_code}
+use Rattle.alone_code.proofs.Words.{decode_at, DecodesWhereItStands, false, inl, inr, is_free, is_postable, IsAt}
+use Rattle.alone_code.proofs.Words.{IsShut, IsSteady, LdaaExtended, List, Lives, mailbox_map, nat_tests, Ok, Orcc}
+use Rattle.alone_code.proofs.Words.{Reads, Setting, Stands, State, StaysFit, Writes, ℕ}
 use Rattle.alone_code.proofs.{runs.Law.free_leaves, runs.Stepping.steady_of}
 
 -- the number of inputs, the image's memory and the open flags

@@ -1,25 +1,14 @@
 -- EVAL is called on the copy, and the code waits again.
-use Rattle.std.proofs.Common.{◌≡◌, inl, inr, ℕ, ◌+◌, ◌-◌, ◌*◌, ◌/◌, ◌%◌, ◌^◌, ◌<◌, ◌≤◌, nat_lt, Bool, false, List, []}
-use Rattle.std.proofs.Common.{◌∷◌, ◌++◌, length}
-use Rattle.std.proofs.Common.{get_or, set, refl, sym, ap, ap₂, ◌∙◌, subst, arith, get_or-set_other}
-use Rattle.std.specs.Prelude.{if◌then◌else◌}
-use Rattle.std.proofs.lemmas.Bool.Decides.{nat_tests}
-use Rattle.fuzzy_meaning.specs.{declared.block.Block.Block, Blocks.IsValid}
-use Rattle.rule_layout.specs.Layouts.{IsWithinLimits}
-use Rattle.cpu12_isa.specs.declared.instr.Instr.TheVariants.{JsrExtended, Bra}
-use Rattle.cpu12_isa.specs.Memory.{plus}
-use Rattle.cpu12_parts.specs.{State.State, Whole.after_plain}
-use Rattle.byte_scaling.specs.{declared.width.Width.Width, Widths.places}
-use Rattle.eval_code.specs.{Widths.bytes_of, Evaluation.HasBytes, Evaluation.HasAnswers, Evaluation.EvalAnswers}
-use Rattle.eval_code.specs.{Bounds.instruction_bound, Bounds.steps_by, Firing.AreInputBytes, Items.IsApart}
-use Rattle.alone_code.specs.{Interruptible.IsInterruptibleStep, Turns.IsAt, Turns.IsTurned}
-use Rattle.alone_code.specs.Mailboxes.{is_postable, mailbox_map, mailbox_bound}
-use Rattle.cpu12_parts.proofs.Algebra.{execution_on, steps_append}
-use Rattle.std.proofs.Common.{length-append}
-use Rattle.eval_code.proofs.Algebra.{bytes_set_out}
+use Rattle.alone_code.proofs.Words.{[], ◌%◌, ◌*◌, ◌++◌, ◌+◌, ◌-◌, ◌/◌, ◌<◌, ◌^◌, ◌∙◌, ◌∷◌, ◌≡◌, ◌≤◌, after_plain, ap}
+use Rattle.alone_code.proofs.Words.{ap₂, AreInputBytes, arith, Back, Block, Bool, Bra, bytes_of, bytes_set_out}
+use Rattle.alone_code.proofs.Words.{EvalAnswers, execution_on, false, get_or, get_or-set_other, HasAnswers, HasBytes}
+use Rattle.alone_code.proofs.Words.{HasRoutine, Here, if◌then◌else◌, inl, inr, instruction_bound, is_postable}
+use Rattle.alone_code.proofs.Words.{IsApart, IsAt, IsCalled, IsInterruptibleStep, IsValid, IsWithinLimits}
+use Rattle.alone_code.proofs.Words.{JsrExtended, length, length-append, List, Live, mailbox_bound, mailbox_map}
+use Rattle.alone_code.proofs.Words.{nat_lt, nat_tests, Next, places, plus, refl, set, State, steps_append, steps_by}
+use Rattle.alone_code.proofs.Words.{subst, sym, Width, ℕ}
+use Rattle.alone_code.specs.{Turns.IsTurned}
 use Rattle.alone_code.proofs.{runs.Stepping.next, runs.Stepping.interruptible_of, runs.Calling.called}
-use Rattle.alone_code.specs.{Calls.HasRoutine, Calls.IsCalled, Calls.Back, Settings.Here, Settings.Live}
-use Rattle.alone_code.specs.{Settings.Next}
 use Rattle.alone_code.proofs.runs.Framing.{answer_room, pushed_word, jsr_run}
 use Rattle.alone_code.proofs.turns.Posting.{Post, post_ctx, lives_of, at_of}
 

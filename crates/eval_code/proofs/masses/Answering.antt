@@ -1,23 +1,15 @@
 -- The outputs' numbers are the answers.
-use Rattle.std.proofs.Common.{◌≡◌, ℕ, ◌+◌, ◌*◌, List, [], ◌∷◌, map, length, refl, ap, arith, zero, suc, ◌-◌, ◌<◌, ◌++◌}
-use Rattle.std.proofs.Common.{take, drop, get_or, Option, Some, None, option_map, slice_get, sym, ap₂, ◌∙◌}
-use Rattle.std.proofs.Common.{length-append, append_assoc, take_at, drop_at}
-use Rattle.std.specs.List.{range_with_len}
-use Rattle.std.proofs.lemmas.List.Sums.{sum_by-cons}
-use Rattle.fz_num.specs.declared.dec.Dec.{Dec}
-use Rattle.fuzzy_meaning.specs.declared.{block.Block.Block, block.Output.Output}
-use Rattle.byte_scaling.specs.Cells.{nearest_byte}
-use Rattle.point_slope.specs.Bytes.{ByteShare, byte_mass, byte_shares_from, total_mass, weighted_sum, byte_shares}
+use Rattle.eval_code.proofs.Words.{[], ◌*◌, ◌++◌, ◌+◌, ◌-◌, ◌<◌, ◌∙◌, ◌∷◌, ◌≡◌, answer, ap, append_assoc, ap₂, arith}
+use Rattle.eval_code.proofs.Words.{Block, byte_mass, Dec, dot, drop, get_or, length, length-append, length-map}
+use Rattle.eval_code.proofs.Words.{length-range_with_len, List, map, map-append, nearest_byte, None, Option}
+use Rattle.eval_code.proofs.Words.{option_map, option_map_or, Output, output_terms, parts, range_with_len, refl}
+use Rattle.eval_code.proofs.Words.{singleton_count, slice_get, Some, suc, sum_by-cons, sym, take, take_at, terms_from}
+use Rattle.eval_code.proofs.Words.{total, Width, zero, ℕ}
+use Rattle.point_slope.specs.Bytes.{ByteShare, byte_shares_from, total_mass, weighted_sum, byte_shares}
+use Rattle.std.proofs.{Common.drop_at}
 use Rattle.point_slope.specs.Bytes.{centre, resting_answer}
-use Rattle.cpu12_parts.specs.Averages.{dot, total}
-use Rattle.std.specs.Option.{option_map_or}
-use Rattle.std.proofs.lemmas.List.{length-map, map-append}
-use Rattle.std.proofs.lemmas.List.FromFn.{length-range_with_len}
-use Rattle.rule_layout.specs.Slots.{terms_from, singleton_count, output_terms}
 use Rattle.eval_code.proofs.{phases.SlotValues.slice_get_behind, phases.Quotients.quotient_of}
 use Rattle.eval_code.proofs.phases.Outputs.{output_answer, output_answers}
-use Rattle.byte_scaling.specs.{declared.width.Width.Width, Widths.parts}
-use Rattle.eval_code.specs.Widths.{answer}
 
 -- the sums over an output's terms
 pub sums_total : (b : Block) (bytes : List ℕ) (i : ℕ) (x : Output) (t : ℕ) (us : List Dec)

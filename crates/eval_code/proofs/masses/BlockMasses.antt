@@ -1,25 +1,20 @@
 -- The masses of a block's output terms, by the law on its rule list.
-use Rattle.std.proofs.Common.{◌≡◌, ℕ, zero, suc, ◌+◌, ◌-◌, ◌<◌, ◌≤◌, min, max, Bool, true, false, ◌||◌, List, [], ◌∷◌}
-use Rattle.std.proofs.Common.{◌++◌, map, flat_map, length, drop}
-use Rattle.std.proofs.Common.{get_or, Some, slice_get, refl, sym, ap, ap₂, ◌∙◌, subst, arith, length-append}
-use Rattle.std.proofs.Common.{length-drop, append_assoc, get_or-drop, ext_get_or}
-use Rattle.std.specs.Prelude.{◌==◌, if◌then◌else◌, IsSomeAnd}
-use Rattle.std.specs.List.{list_any, range_with_len}
-use Rattle.std.proofs.lemmas.List.{length-map, get_or-map, get_or-append-add, map-append}
-use Rattle.fuzzy_meaning.specs.declared.{block.Block.Block, block.Rule.Rule}
-use Rattle.fuzzy_meaning.specs.Blocks.{IsValid, HasSingleton}
-use Rattle.point_slope.specs.Bytes.{byte_mass}
-use Rattle.rule_layout.specs.declared.{flat.Slot.Slot, flat.Conjunction.Conjunction}
-use Rattle.rule_layout.specs.declared.flat.Slot.TheVariants.{Term, Complement, Out}
+use Rattle.eval_code.proofs.Words.{[], ◌++◌, ◌+◌, ◌-◌, ◌<◌, ◌==◌, ◌||◌, ◌∙◌, ◌∷◌, ◌≡◌, ◌≤◌, ap, append_assoc, ap₂}
+use Rattle.eval_code.proofs.Words.{arith, Block, Bool, byte_mass, Complement, complement_slot, Conjunction}
+use Rattle.eval_code.proofs.Words.{conjunctions_of, drop, false, flat_map, flat_of, get_or, if◌then◌else◌}
+use Rattle.eval_code.proofs.Words.{input_slots, input_terms, IsValid, LayoutLaw, least_of, length, length-append}
+use Rattle.eval_code.proofs.Words.{length-drop, length-map, List, map, map-append, max, min, number_in, Out, out_slot}
+use Rattle.eval_code.proofs.Words.{output_terms, range_with_len, refl, Rule, rule_spread, RulesGiveMasses}
+use Rattle.eval_code.proofs.Words.{singleton_count, slice_get, Slot, slot_before, slots_after, slots_before, slots_of}
+use Rattle.eval_code.proofs.Words.{Some, subst, suc, sym, Term, term_slot, terms_from, true, weighted, weights_of}
+use Rattle.eval_code.proofs.Words.{zero, ℕ}
+use Rattle.std.proofs.{Common.get_or-drop, Common.ext_get_or, lemmas.List.get_or-map, lemmas.List.get_or-append-add}
+use Rattle.std.specs.{Prelude.IsSomeAnd, List.list_any}
+use Rattle.fuzzy_meaning.specs.{Blocks.HasSingleton}
+use Rattle.rule_layout.specs.{Slots.is_same_slot, Slots.literal_slot, Layouts.conjunction_of}
+use Rattle.rule_layout.specs.{Layouts.rule_conjunctions}
 use Rattle.rule_layout.specs.{Masses.least_byte, Masses.left_in, Masses.MassLaw, Spreading.Literal}
-use Rattle.rule_layout.specs.Slots.{terms_from, singleton_count, input_terms, output_terms, term_slot}
-use Rattle.rule_layout.specs.Slots.{complement_slot, out_slot, is_same_slot, number_in, slots_of, literal_slot}
 use Rattle.rule_layout.specs.Slots.{literal_number, conclusion_number}
-use Rattle.rule_layout.specs.Layouts.{rule_spread, conjunction_of, rule_conjunctions, conjunctions_of, weights_of}
-use Rattle.rule_layout.specs.Layouts.{flat_of, LayoutLaw}
-use Rattle.cpu12_parts.specs.Parts.{weighted}
-use Rattle.eval_code.specs.Code.{input_slots}
-use Rattle.eval_code.specs.Firing.{slot_before, slots_before, least_of, slots_after, RulesGiveMasses}
 use Rattle.eval_code.proofs.phases.RuleMemory.{Below, AllBelow, length-fired}
 use Rattle.eval_code.proofs.phases.RuleFacts.{BlockFacts, block_facts, all_below}
 use Rattle.eval_code.proofs.phases.SlotValues.{complements_of, further_slots, slots_are, length-output_terms}

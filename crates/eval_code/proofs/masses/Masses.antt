@@ -1,13 +1,8 @@
 -- The slots of the outputs' terms hold their masses after the rules.
-use Rattle.std.proofs.Common.{◌≡◌, ⊎_elim, ℕ, ◌<◌, ◌≤◌, min, max, true, false, List, [], ◌∷◌, length, get_or, set, refl}
-use Rattle.std.proofs.Common.{sym, ap, ◌∙◌, subst, arith}
-use Rattle.std.proofs.Common.{length-set, get_or-set_same, get_or-set_other}
-use Rattle.std.specs.Prelude.{◌==◌, if◌then◌else◌}
-use Rattle.std.proofs.lemmas.Bool.{cases_eq}
-use Rattle.std.proofs.lemmas.Bool.Decides.{nat_tests}
-use Rattle.rule_layout.specs.declared.flat.Conjunction.{Conjunction}
-use Rattle.cpu12_parts.specs.Parts.{weighted}
-use Rattle.eval_code.specs.Firing.{least_of, raised_to, fired}
+use Rattle.eval_code.proofs.Words.{[], ◌<◌, ◌==◌, ◌∙◌, ◌∷◌, ◌≡◌, ◌≤◌, ap, arith, cases_eq, Conjunction, false, fired}
+use Rattle.eval_code.proofs.Words.{get_or, get_or-set_other, get_or-set_same, if◌then◌else◌, least_of, length}
+use Rattle.eval_code.proofs.Words.{length-set, List, max, min, nat_tests, raised_to, refl, set, subst, sym, true}
+use Rattle.eval_code.proofs.Words.{weighted, ℕ, ⊎_elim}
 use Rattle.eval_code.proofs.phases.RuleMemory.{Below, length-raised_to}
 
 -- t where k is concluded, and else 0

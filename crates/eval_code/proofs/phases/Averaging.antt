@@ -1,17 +1,13 @@
 -- WAV over an output's singletons and masses.
-use Rattle.std.proofs.Common.{◌≡◌, ℕ, ◌+◌, ◌*◌, ◌^◌, ◌<◌, ◌≤◌, true, List, [], ◌∷◌, length, refl, ap, ap₂, ◌∙◌, arith}
-use Rattle.std.proofs.Common.{inl, inr, zero, suc, ◌-◌, ◌/◌, ◌%◌, Ok}
-use Rattle.std.proofs.Common.{◌++◌, sym, subst}
-use Rattle.cpu12_isa.specs.declared.{instr.Regs.Regs, instr.Instr.TheVariants.Wav}
-use Rattle.cpu12_isa.specs.{Fits.FitsRegs, Fits.AreBytes, Flags.opened, Code.decode_at}
-use Rattle.cpu12_isa.specs.Memory.{plus, from, bytes_at}
-use Rattle.cpu12_isa.proofs.Algebra.{fits_put, fits_opened}
-use Rattle.cpu12_parts.specs.{Parts.wav_end, State.State, Touching.Each}
-use Rattle.cpu12_parts.specs.Averages.{dot, total, wav_whole}
+use Rattle.eval_code.proofs.Words.{[], ◌%◌, ◌*◌, ◌++◌, ◌+◌, ◌-◌, ◌/◌, ◌<◌, ◌^◌, ◌∙◌, ◌∷◌, ◌≡◌, ◌≤◌, ap, ap₂, AreBytes}
+use Rattle.eval_code.proofs.Words.{arith, decode_at, dot, Each, fits_opened, fits_put, FitsRegs, from, inl, inr}
+use Rattle.eval_code.proofs.Words.{length, List, Ok, opened, plus, Reads, refl, Regs, State, subst, suc, sym, total}
+use Rattle.eval_code.proofs.Words.{true, zero, ℕ}
+use Rattle.cpu12_isa.specs.{declared.instr.Instr.TheVariants.Wav, Memory.bytes_at}
+use Rattle.cpu12_parts.specs.{Parts.wav_end, Averages.wav_whole}
 use Rattle.eval_code.proofs.steps.Memory.{HasBytes, same_bytes}
 use Rattle.eval_code.proofs.{steps.Flags.masked_put, steps.Flags.masked_open_hnvc, steps.Decoding.decode_same}
 use Rattle.eval_code.proofs.steps.Stepping.{Ctx, Here, Live, Goes, goes_part, between_of, code_in}
-use Rattle.eval_code.specs.Evaluation.{Reads}
 
 pub bytes_from : (m : List ℕ) (p : ℕ) (bs : List ℕ) → p + length bs < 65536 → HasBytes m p bs
     → bytes_at m (from p (length bs)) ≡ bs

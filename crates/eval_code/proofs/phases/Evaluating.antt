@@ -1,24 +1,15 @@
 -- EVAL, from its first instruction to behind its last.
-use Rattle.std.proofs.Common.{◌≡◌, ℕ, suc, ◌+◌, ◌*◌, ◌≤◌, List, [], ◌∷◌, ◌++◌, map, length, take, drop, sum_by, All}
-use Rattle.std.proofs.Common.{get_or, sym, ap, ◌∙◌, subst, arith}
-use Rattle.std.proofs.Common.{length-take, take-append-drop, inl, ◌-◌, refl, subst₂, length-append, length-drop}
-use Rattle.std.proofs.Common.{append-nil}
-use Rattle.std.proofs.lemmas.List.{length-map}
-use Rattle.std.proofs.lemmas.List.Sums.{sum_by-le}
-use Rattle.fuzzy_meaning.specs.declared.{block.Block.Block, block.Input.Input}
-use Rattle.fuzzy_meaning.specs.Blocks.{IsValid, IsValidOutput}
-use Rattle.rule_layout.specs.declared.{flat.Slot.Slot, flat.Conjunction.Conjunction, flat.Form.Form}
-use Rattle.rule_layout.specs.Lists.{marked, list_words}
-use Rattle.rule_layout.specs.Slots.{singleton_count, slots_of, input_terms, term_slot}
-use Rattle.rule_layout.specs.Layouts.{conjunctions_of, weights_of, form_of, list_size, element_width, IsWithinLimits}
-use Rattle.eval_code.specs.{declared.memory_map.MemoryMap.MemoryMap, Evaluation.put}
-use Rattle.eval_code.specs.Code.{slots_code, input_slots, fuzzify_code, rules_code, outputs_code, eval_code}
-use Rattle.eval_code.specs.Firing.{slot_before, slots_before, slots_after, AreInputBytes, fired}
-use Rattle.eval_code.specs.Bounds.{input_term_count, output_term_count, complement_count, entry_count, element_count}
-use Rattle.eval_code.specs.Bounds.{form_bound}
-use Rattle.eval_code.specs.Data.{table_bytes, singleton_bytes, weight_bytes, weight_bytes_by, rule_bytes}
-use Rattle.eval_code.specs.Data.{rule_bytes_by}
-use Rattle.byte_scaling.specs.{declared.width.Width.Width, Widths.places}
+use Rattle.eval_code.proofs.Words.{[], ◌*◌, ◌++◌, ◌+◌, ◌-◌, ◌∙◌, ◌∷◌, ◌≡◌, ◌≤◌, after_plain, All, ap, append-nil}
+use Rattle.eval_code.proofs.Words.{AreInputBytes, arith, Block, complement_count, Conjunction, conjunctions_of, drop}
+use Rattle.eval_code.proofs.Words.{element_count, element_width, entry_count, eval_code, fired, Form, form_bound}
+use Rattle.eval_code.proofs.Words.{form_of, fuzzify_code, get_or, inl, Input, input_slots, input_term_count}
+use Rattle.eval_code.proofs.Words.{input_terms, Instr, IsValid, IsValidOutput, IsWithinLimits, LdxImmediate}
+use Rattle.eval_code.proofs.Words.{LdyImmediate, length, length-append, length-drop, length-map, length-take, List}
+use Rattle.eval_code.proofs.Words.{list_size, list_words, map, marked, MemoryMap, output_term_count, outputs_code}
+use Rattle.eval_code.proofs.Words.{places, put, refl, rule_bytes, rule_bytes_by, rules_code, singleton_bytes}
+use Rattle.eval_code.proofs.Words.{singleton_count, Slot, slot_before, slots_after, slots_before, slots_code}
+use Rattle.eval_code.proofs.Words.{slots_of, State, subst, subst₂, suc, sum_by, sum_by-le, sym, table_bytes, take}
+use Rattle.eval_code.proofs.Words.{take-append-drop, term_slot, weight_bytes, weight_bytes_by, weights_of, Width, ℕ}
 use Rattle.eval_code.proofs.{Placement.length-weights_of, phases.Quotients.output_most, phases.Quotients.output_parts}
 use Rattle.eval_code.proofs.{Joins.sum_by-term_count, Lists.length-marked, Sizes.code_size, Sizes.code_size-append}
 use Rattle.eval_code.proofs.steps.Memory.{HasBytes, has_put, bytes_back, bytes_put_out}
@@ -33,9 +24,6 @@ use Rattle.eval_code.proofs.steps.Stepping.{Ctx, Live, Stands, Goes, goes_one, g
 use Rattle.eval_code.proofs.steps.Stepping.{Reaches, reaches_at, reaches_after}
 use Rattle.eval_code.proofs.steps.Instructions.{ldx, ldy}
 use Rattle.eval_code.proofs.phases.Outputs.{outputs_run, output_answers, all_bytes, length-all_bytes, places_few}
-use Rattle.cpu12_isa.specs.declared.instr.Instr.{Instr}
-use Rattle.cpu12_isa.specs.declared.instr.Instr.TheVariants.{LdxImmediate, LdyImmediate}
-use Rattle.cpu12_parts.specs.{State.State, Whole.after_plain}
 use Rattle.rule_layout.specs.declared.flat.Form.TheVariants as form
 
 -- the masses as the slots hold them

@@ -1,15 +1,10 @@
 -- The complements, and the cleared slots of the outputs' terms.
-use Rattle.std.proofs.Common.{◌≡◌, ℕ, ◌+◌, ◌-◌, ◌<◌, List, [], ◌∷◌, length, get_or, inl, inr, ◌≤◌, ◌++◌, map, set, refl}
-use Rattle.std.proofs.Common.{sym, ap, ap₂, ◌∙◌, arith, length-append, append_assoc, append-nil}
-use Rattle.fuzzy_meaning.specs.declared.{block.Block.Block, block.Input.Input}
-use Rattle.point_slope.specs.Bytes.{literal_grade}
-use Rattle.rule_layout.specs.declared.flat.Slot.{Slot}
-use Rattle.rule_layout.specs.declared.flat.Slot.TheVariants.{Term, Complement, Out}
-use Rattle.eval_code.specs.Code.{terms_before, slots_code}
+use Rattle.eval_code.proofs.Words.{[], ◌++◌, ◌+◌, ◌-◌, ◌<◌, ◌∙◌, ◌∷◌, ◌≡◌, ◌≤◌, after_plain, ap, append-nil}
+use Rattle.eval_code.proofs.Words.{append_assoc, ap₂, arith, Block, ClrExtended, Coma, Complement, get_or, inl, Input}
+use Rattle.eval_code.proofs.Words.{inr, LdaaExtended, length, length-append, List, literal_grade, map, Out, put, refl}
+use Rattle.eval_code.proofs.Words.{set, Slot, slot_before, slots_code, StaaExtended, State, sym, Term, terms_before}
+use Rattle.eval_code.proofs.Words.{ℕ}
 use Rattle.std.proofs.lemmas.List.{get_or_append_left}
-use Rattle.cpu12_isa.specs.declared.instr.Instr.TheVariants.{LdaaExtended, StaaExtended, ClrExtended, Coma}
-use Rattle.cpu12_parts.specs.{State.State, Whole.after_plain}
-use Rattle.eval_code.specs.{Firing.slot_before, Evaluation.put}
 use Rattle.eval_code.proofs.{steps.Memory.at_put_in, steps.Memory.put_end, Sizes.code_size}
 use Rattle.eval_code.proofs.steps.Stepping.{Ctx, Live, Stands, goes_one, goes_on, Reaches, reaches_none}
 use Rattle.eval_code.proofs.steps.Stepping.{reaches_after, reaches_at}

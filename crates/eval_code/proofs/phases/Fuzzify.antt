@@ -1,20 +1,14 @@
 -- The grades of the inputs' terms.
-use Rattle.std.proofs.Common.{◌≡◌, ℕ, zero, suc, ◌*◌, List, [], ◌∷◌, ◌++◌, map, flat_map, length, replicate, sum_by}
-use Rattle.std.proofs.Common.{refl, arith, length-append, ◌+◌, ◌≤◌, inl, inr, get_or, set, sym, ap, ap₂, ◌∙◌, subst}
-use Rattle.std.proofs.lemmas.List.{length-map}
-use Rattle.std.proofs.lemmas.List.Sums.{sum_by-cons}
-use Rattle.std.proofs.lemmas.Grind.{flat_map-append}
-use Rattle.fuzzy_meaning.specs.declared.{block.Input.Input, block.Trapezoid.Trapezoid}
-use Rattle.point_slope.specs.Tables.{row_of, rows_of, grade_of}
-use Rattle.rule_layout.specs.Slots.{term_count}
-use Rattle.cpu12_isa.specs.declared.instr.Instr.TheVariants.{Mem, LdaaExtended}
+use Rattle.eval_code.proofs.Words.{[], ◌*◌, ◌++◌, ◌+◌, ◌∙◌, ◌∷◌, ◌≡◌, ◌≤◌, after_plain, ap, ap₂, arith, flat_map}
+use Rattle.eval_code.proofs.Words.{flat_map-append, fuzzify_code, get_or, grade_of, inl, Input, inr, LdaaExtended}
+use Rattle.eval_code.proofs.Words.{length, length-append, length-map, List, map, Mem, put, refl, replicate, row_of}
+use Rattle.eval_code.proofs.Words.{rows_of, set, State, subst, suc, sum_by, sum_by-cons, sym, term_count, Trapezoid}
+use Rattle.eval_code.proofs.Words.{zero, ℕ}
 use Rattle.eval_code.proofs.Sizes.{code_size, code_size-append}
 use Rattle.eval_code.proofs.steps.Memory.{HasBytes, bytes_front, bytes_back, bytes_put_out, put_append}
 use Rattle.eval_code.proofs.steps.Stepping.{Ctx, Live, Stands, Next, Goes, goes_none, goes_one, goes_on, goes_most}
 use Rattle.eval_code.proofs.steps.Stepping.{stands_front, stands_back, stands_at}
 use Rattle.eval_code.proofs.steps.Instructions.{ldaa, mem, mem_grade}
-use Rattle.cpu12_parts.specs.{State.State, Whole.after_plain}
-use Rattle.eval_code.specs.{Code.fuzzify_code, Evaluation.put}
 
 abbrev pub row_bytes : Input → List Trapezoid → List ℕ
 row_bytes i ts = flat_map (λ row. row) (map (row_of i) ts)

@@ -1,23 +1,16 @@
 -- EVAL goes to its end over what it owns.
-use Rattle.std.proofs.Common.{◌≡◌, ◌⊎◌, inl, inr, ℕ, suc, ◌+◌, ◌-◌, ◌*◌, ◌<◌, ◌≤◌, List, [], ◌∷◌, length, sum_by, All}
-use Rattle.std.proofs.Common.{Option, Some, None, get_or, refl, sym}
-use Rattle.std.proofs.Common.{ap, ◌∙◌, subst, arith}
-use Rattle.fuzzy_meaning.specs.{declared.block.Block.Block, Blocks.IsValid, Blocks.IsValidOutput}
-use Rattle.std.proofs.lemmas.List.Sums.{sum_by-cons}
-use Rattle.fuzzy_meaning.specs.declared.block.Output.{Output}
-use Rattle.rule_layout.specs.{declared.flat.Conjunction.Conjunction, Slots.slots_of, Slots.singleton_count}
-use Rattle.rule_layout.specs.Layouts.{conjunctions_of, IsWithinLimits, LayoutLaw}
-use Rattle.byte_scaling.specs.{Cells.NearestIsByte, Widths.places}
-use Rattle.byte_scaling.specs.declared.{width.Width.Width, width.Width.TheVariants.Byte, width.Width.TheVariants.Word}
-use Rattle.eval_code.specs.Bounds.{element_count, entry_count, output_bound, instruction_bound, steps_by, step_bound}
-use Rattle.eval_code.specs.Widths.{bytes_of, answer}
-use Rattle.eval_code.specs.Firing.{AreInputBytes, slots_after, RulesGiveMasses}
-use Rattle.eval_code.specs.Evaluation.{put, HasBytes, HasEval, IsAtEval, IsEvaluated, EvalAnswers}
-use Rattle.eval_code.specs.{Masks.interrupt_masks, Code.eval_code, Standing.DecodesWhereItStands}
+use Rattle.eval_code.proofs.Words.{[], ◌*◌, ◌+◌, ◌-◌, ◌<◌, ◌∙◌, ◌∷◌, ◌≡◌, ◌≤◌, ◌⊎◌, All, answer, ap, AreInputBytes}
+use Rattle.eval_code.proofs.Words.{arith, Block, bytes_of, Conjunction, conjunctions_of, Dec, DecodesWhereItStands}
+use Rattle.eval_code.proofs.Words.{element_count, encode_of, entry_count, eval_code, get_or, HasBytes, HasEval, inl}
+use Rattle.eval_code.proofs.Words.{inr, Instr, instruction_bound, interrupt_masks, IsValid, IsValidOutput}
+use Rattle.eval_code.proofs.Words.{IsWithinLimits, LayoutLaw, length, List, NearestIsByte, None, Option, Output}
+use Rattle.eval_code.proofs.Words.{output_bound, places, put, refl, RulesGiveMasses, singleton_count, slots_after}
+use Rattle.eval_code.proofs.Words.{slots_of, Some, State, StaysFit, steps_by, subst, suc, sum_by, sum_by-cons, sym}
+use Rattle.eval_code.proofs.Words.{Width, Word, ℕ}
+use Rattle.byte_scaling.specs.{declared.width.Width.TheVariants.Byte}
+use Rattle.eval_code.specs.{Bounds.step_bound, Evaluation.IsAtEval, Evaluation.IsEvaluated, Evaluation.EvalAnswers}
+use Rattle.cpu12_parts.specs.{Executions.all_steps}
 use Rattle.eval_code.proofs.{masses.Answering.answers_are, phases.Operands.fit_answer, phases.Operands.answer_size}
-use Rattle.fz_num.specs.declared.dec.Dec.{Dec}
-use Rattle.cpu12_isa.specs.{declared.instr.Instr.Instr, Code.encode_of, Fits.StaysFit}
-use Rattle.cpu12_parts.specs.{State.State, Executions.all_steps}
 use Rattle.eval_code.proofs.steps.Memory.{has_put, at_put_out, length-put, bytes_front, bytes_back}
 use Rattle.eval_code.proofs.Sizes.{code_size, length-code_bytes}
 use Rattle.eval_code.proofs.steps.Decoding.{FitCode, code_bytes}

@@ -1,28 +1,21 @@
 -- The operands of EVAL's code fit.
-use Rattle.std.proofs.Common.{◌≡◌, ℕ, zero, suc, ◌+◌, ◌*◌, ◌^◌, ◌<◌, ◌≤◌, List, [], ◌∷◌, map, length, replicate, sum_by}
-use Rattle.std.proofs.Common.{All, Option, Some, None, option_map}
-use Rattle.std.proofs.Common.{sym, ap, subst, arith, length-append}
+use Rattle.eval_code.proofs.Words.{[], ◌*◌, ◌+◌, ◌<◌, ◌^◌, ◌∷◌, ◌≡◌, ◌≤◌, All, ap, arith, Block, Complement, Dec}
+use Rattle.eval_code.proofs.Words.{eval_code, Form, form_of, fuzzify_code, Input, input_slots, input_terms, IsApart}
+use Rattle.eval_code.proofs.Words.{IsValid, IsValidOutput, IsWithin, length, length-append, length-map, List, map}
+use Rattle.eval_code.proofs.Words.{Mem, MemoryMap, nearest_byte, NearestIsByte, None, Option, option_map, Out, Output}
+use Rattle.eval_code.proofs.Words.{output_code, outputs_code, places, quotient_code, replicate, rules_code}
+use Rattle.eval_code.proofs.Words.{singleton_count, Slot, slots_code, slots_of, Some, subst, suc, sum_by, sum_by-cons}
+use Rattle.eval_code.proofs.Words.{sym, Term, term_slot, Width, Word, zero, ℕ}
+use Rattle.std.proofs.{lemmas.List.length-replicate}
+use Rattle.byte_scaling.specs.{declared.width.Width.TheVariants.Byte}
+use Rattle.eval_code.specs.{Code.FitCode}
 use Rattle.std.specs.Prelude.{IfSome}
-use Rattle.std.proofs.lemmas.List.{length-map, length-replicate}
-use Rattle.std.proofs.lemmas.List.Sums.{sum_by-cons}
-use Rattle.fz_num.specs.declared.dec.Dec.{Dec}
-use Rattle.fuzzy_meaning.specs.declared.{block.Block.Block, block.Input.Input, block.Output.Output}
-use Rattle.fuzzy_meaning.specs.Blocks.{IsValid, IsValidOutput, IsWithin}
-use Rattle.byte_scaling.specs.{Cells.nearest_byte, Cells.NearestIsByte, Widths.places}
-use Rattle.byte_scaling.specs.declared.{width.Width.Width, width.Width.TheVariants.Byte, width.Width.TheVariants.Word}
-use Rattle.rule_layout.specs.{declared.flat.Slot.Slot, declared.flat.Form.Form, Layouts.form_of}
-use Rattle.rule_layout.specs.declared.flat.Slot.TheVariants.{Term, Complement, Out}
-use Rattle.rule_layout.specs.Slots.{slots_of, singleton_count, input_terms, term_slot}
 use Rattle.eval_code.proofs.{phases.RuleFacts.BlockFacts, Joins.sum_by-term_count, Sizes.code_size}
 use Rattle.eval_code.proofs.{Sizes.code_size-eval, steps.Decoding.fit_append, phases.Fuzzify.grades}
 use Rattle.eval_code.proofs.{phases.Fuzzify.length-grades, phases.Filling.AllCanFill}
 use Rattle.eval_code.proofs.phases.SlotValues.{further_slots, slots_are, further_fill, length-slots}
 use Rattle.eval_code.proofs.phases.SlotValues.{length-input_terms}
 use Rattle.eval_code.proofs.phases.Evaluating.{slots_code_is, outputs_few}
-use Rattle.cpu12_isa.specs.declared.instr.Instr.TheVariants.{Mem}
-use Rattle.eval_code.specs.{declared.memory_map.MemoryMap.MemoryMap, Items.IsApart}
-use Rattle.eval_code.specs.Code.{fuzzify_code, slots_code, rules_code, input_slots, quotient_code, output_code}
-use Rattle.eval_code.specs.Code.{outputs_code, eval_code, FitCode}
 use Rattle.rule_layout.specs.declared.flat.Form.TheVariants as form
 use Rattle.eval_code.proofs.phases.Outputs.{places_few}
 

@@ -1,17 +1,12 @@
 -- The outputs, with answers of a byte or of a word.
-use Rattle.std.proofs.Common.{◌≡◌, inl, inr, ℕ, zero, suc, ◌+◌, ◌-◌, ◌*◌, ◌^◌, ◌<◌, ◌≤◌, List, [], ◌∷◌, ◌++◌, flat_map}
-use Rattle.std.proofs.Common.{length, take, drop, sum_by, All, get_or, set, Option, option_map, refl, sym, ap, ap₂, ◌∙◌}
-use Rattle.std.proofs.Common.{subst, subst₂, arith, length-append, length-take, length-drop, take-append-drop}
-use Rattle.std.proofs.lemmas.List.{length-map}
-use Rattle.std.proofs.lemmas.List.Sums.{sum_by-cons}
-use Rattle.fuzzy_meaning.specs.{declared.block.Output.Output, Blocks.IsValidOutput}
-use Rattle.byte_scaling.specs.{Cells.nearest_byte, Widths.places}
-use Rattle.byte_scaling.specs.declared.{width.Width.Width, width.Width.TheVariants.Byte, width.Width.TheVariants.Word}
-use Rattle.rule_layout.specs.Slots.{singleton_count}
-use Rattle.cpu12_isa.specs.declared.instr.Instr.TheVariants.{LdabImmediate, LdxImmediate, LdyImmediate}
-use Rattle.cpu12_parts.specs.{State.State, Whole.after_plain, Averages.dot, Averages.total}
-use Rattle.eval_code.specs.{Data.singleton_bytes_of, Evaluation.put, Widths.bytes_of}
-use Rattle.eval_code.specs.Code.{quotient_code, output_code, outputs_code}
+use Rattle.eval_code.proofs.Words.{[], ◌*◌, ◌++◌, ◌+◌, ◌-◌, ◌<◌, ◌^◌, ◌∙◌, ◌∷◌, ◌≡◌, ◌≤◌, after_plain, All, ap, ap₂}
+use Rattle.eval_code.proofs.Words.{arith, bytes_of, dot, drop, flat_map, get_or, inl, inr, IsValidOutput}
+use Rattle.eval_code.proofs.Words.{LdabImmediate, LdxImmediate, LdyImmediate, length, length-append, length-drop}
+use Rattle.eval_code.proofs.Words.{length-map, length-take, List, nearest_byte, Option, option_map, Output}
+use Rattle.eval_code.proofs.Words.{output_code, outputs_code, places, put, quotient_code, refl, set}
+use Rattle.eval_code.proofs.Words.{singleton_bytes_of, singleton_count, State, subst, subst₂, suc, sum_by}
+use Rattle.eval_code.proofs.Words.{sum_by-cons, sym, take, take-append-drop, total, Width, Word, zero, ℕ}
+use Rattle.byte_scaling.specs.{declared.width.Width.TheVariants.Byte}
 use Rattle.eval_code.proofs.phases.Quotients.{quotient_of, quotient_most, output_most, output_parts, quotient_run}
 use Rattle.eval_code.proofs.steps.Memory.{HasBytes, bytes_front, bytes_back, bytes_put_out, put_append}
 use Rattle.eval_code.proofs.steps.Stepping.{Ctx, Live, Stands, goes_one, goes_on, stands_front, stands_back, Reaches}

@@ -1,19 +1,11 @@
 -- One output's answer, and all of them.
-use Rattle.std.proofs.Common.{ℕ, suc, ◌+◌, ◌-◌, ◌*◌, ◌/◌, ◌<◌, ◌≤◌, List, [], ◌∷◌, length, Option, Some, None}
-use Rattle.std.proofs.Common.{option_map, arith, div-lt_iff_lt-mul, ◌≡◌, ◌≢◌, zero, ◌%◌, ◌^◌, true, false, get_or, set}
-use Rattle.std.proofs.Common.{refl, sym, ap, ap₂, ◌∙◌}
-use Rattle.std.specs.Prelude.{◌==◌, if◌then◌else◌}
-use Rattle.std.specs.Option.{option_map_or}
-use Rattle.fuzzy_meaning.specs.declared.block.Output.{Output}
-use Rattle.byte_scaling.specs.{Cells.nearest_byte, Widths.parts}
-use Rattle.byte_scaling.specs.declared.{width.Width.Width, width.Width.TheVariants.Byte, width.Width.TheVariants.Word}
-use Rattle.std.proofs.lemmas.List.{set-get_or}
-use Rattle.std.proofs.lemmas.Bool.Decides.{nat_tests}
-use Rattle.cpu12_isa.specs.{declared.instr.Instr.Instr, Flags.has}
-use Rattle.cpu12_isa.specs.declared.instr.Instr.TheVariants.{LdabImmediate, StabExtended, CpxImmediate, Beq, Bra}
-use Rattle.cpu12_isa.specs.declared.instr.Instr.TheVariants.{TransferYD, Ediv}
-use Rattle.cpu12_parts.specs.{State.State, Whole.after_plain}
-use Rattle.eval_code.specs.{Code.quotient_code, Evaluation.Writes}
+use Rattle.eval_code.proofs.Words.{[], ◌%◌, ◌*◌, ◌+◌, ◌-◌, ◌/◌, ◌<◌, ◌==◌, ◌^◌, ◌∙◌, ◌∷◌, ◌≡◌, ◌≢◌, ◌≤◌, after_plain}
+use Rattle.eval_code.proofs.Words.{ap, ap₂, arith, Beq, Bra, CpxImmediate, div-lt_iff_lt-mul, Ediv, false, get_or}
+use Rattle.eval_code.proofs.Words.{has, if◌then◌else◌, Instr, LdabImmediate, length, List, nat_tests, nearest_byte}
+use Rattle.eval_code.proofs.Words.{None, Option, option_map, option_map_or, Output, parts, quotient_code, refl, set}
+use Rattle.eval_code.proofs.Words.{set-get_or, Some, StabExtended, State, suc, sym, TransferYD, true, Width, Word}
+use Rattle.eval_code.proofs.Words.{Writes, zero, ℕ}
+use Rattle.byte_scaling.specs.{declared.width.Width.TheVariants.Byte}
 use Rattle.eval_code.proofs.Sizes.{code_size}
 use Rattle.eval_code.proofs.steps.Stepping.{Ctx, Live, Stands, Goes, goes_one, goes_on, stands_at, Reaches}
 use Rattle.eval_code.proofs.steps.Stepping.{reaches_at}

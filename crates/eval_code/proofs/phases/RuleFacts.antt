@@ -1,9 +1,8 @@
 -- The conjunctions of a valid block and their weights, by the law on its layout.
-use Rattle.std.proofs.Common.{◌≡◌, ℕ, suc, ◌<◌, ◌≤◌, List, [], ◌∷◌, length, All, get_or, refl, arith}
-use Rattle.fuzzy_meaning.specs.{declared.block.Block.Block, Blocks.IsValid}
-use Rattle.rule_layout.specs.declared.{flat.Slot.Slot, flat.Conjunction.Conjunction, flat.Form.TheVariants.Rev}
-use Rattle.rule_layout.specs.Slots.{slots_of, number_in}
-use Rattle.rule_layout.specs.Layouts.{conjunctions_of, weights_of, form_of, flat_of, IsBelow, LayoutLaw}
+use Rattle.eval_code.proofs.Words.{[], ◌<◌, ◌∷◌, ◌≡◌, ◌≤◌, All, arith, Block, Conjunction, conjunctions_of, flat_of}
+use Rattle.eval_code.proofs.Words.{form_of, get_or, IsBelow, IsValid, LayoutLaw, length, List, number_in, refl, Slot}
+use Rattle.eval_code.proofs.Words.{slots_of, suc, weights_of, ℕ}
+use Rattle.rule_layout.specs.{declared.flat.Form.TheVariants.Rev}
 use Rattle.eval_code.proofs.phases.RuleMemory.{Below, AllBelow, below_all}
 use Rattle.eval_code.proofs.phases.Ruling.{AreFull}
 

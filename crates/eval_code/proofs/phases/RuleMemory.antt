@@ -1,15 +1,12 @@
 -- What REV and REVW leave in the slots.
-use Rattle.std.proofs.Common.{◌≡◌, ℕ, zero, suc, ◌+◌, ◌*◌, ◌^◌, ◌<◌, ◌≤◌, min, max, Bool, true, false, List, [], ◌∷◌}
-use Rattle.std.proofs.Common.{◌++◌, map, length, sum_by, get_or, set, All, refl, sym, ap, ◌∙◌, subst, arith, length-set}
-use Rattle.std.proofs.lemmas.List.{length-map}
-use Rattle.std.proofs.lemmas.List.Sums.{sum_by-cons}
-use Rattle.rule_layout.specs.{declared.flat.Conjunction.Conjunction, Lists.marked}
-use Rattle.cpu12_isa.specs.{Fits.AreBytes, Memory.plus, Memory.from}
-use Rattle.cpu12_parts.specs.Parts.{weighted}
-use Rattle.cpu12_parts.specs.Rules.{Rule, Form, further_elements, elements_of, behind, AreNames, AreRules}
+use Rattle.eval_code.proofs.Words.{[], ◌*◌, ◌++◌, ◌+◌, ◌<◌, ◌^◌, ◌∙◌, ◌∷◌, ◌≡◌, ◌≤◌, All, ap, AreBytes, arith, Bool}
+use Rattle.eval_code.proofs.Words.{Conjunction, element_bytes, elements_of, entry_count, false, fired, from, get_or}
+use Rattle.eval_code.proofs.Words.{least_of, length, length-map, length-set, List, map, marked, max, min, named, plus}
+use Rattle.eval_code.proofs.Words.{put, raised_to, refl, rules_target, set, subst, suc, sum_by, sum_by-cons, sym}
+use Rattle.eval_code.proofs.Words.{true, weighted, zero, ℕ}
+use Rattle.cpu12_parts.specs.Rules.{Rule, Form, further_elements, behind, AreNames, AreRules, weight_bytes, NotIn}
+use Rattle.cpu12_parts.specs.Rules.{AreApart}
 use Rattle.cpu12_parts.specs.Rules.{behind_weights, least, strength, raised, concluded, all_concluded, last_strength}
-use Rattle.cpu12_parts.specs.Rules.{element_bytes, weight_bytes, named, rules_target, NotIn, AreApart}
-use Rattle.eval_code.specs.{Bounds.entry_count, Firing.least_of, Firing.raised_to, Firing.fired, Evaluation.put}
 use Rattle.eval_code.proofs.steps.Memory.{at_put_in, set_put_in, SameHigh, high_set, bytes_after_set}
 use Rattle.eval_code.proofs.Lists.{length-marked}
 

@@ -1,18 +1,15 @@
 -- The rules, by REV and by REVW.
-use Rattle.std.proofs.Common.{◌≡◌, ℕ, ◌+◌, ◌*◌, ◌^◌, ◌<◌, ◌≤◌, true, false, List, [], ◌∷◌, map, flat_map, length}
-use Rattle.std.proofs.Common.{sum_by, get_or, refl, sym, ap, ap₂, ◌∙◌}
-use Rattle.std.proofs.Common.{subst, arith, inl, inr, suc, ◌-◌, Bool, Ok}
-use Rattle.std.proofs.lemmas.List.Sums.{sum_by-cons}
-use Rattle.rule_layout.specs.{declared.flat.Conjunction.Conjunction, Lists.marked, Lists.list_bytes, Lists.list_words}
-use Rattle.cpu12_isa.specs.{Memory.plus, Memory.from, Code.decode_at, Flags.has, Flags.opened}
-use Rattle.cpu12_isa.specs.declared.instr.Instr.{Instr}
-use Rattle.cpu12_isa.specs.declared.instr.Instr.TheVariants.{LdaaImmediate, LdxImmediate, LdyImmediate, Andcc, Orcc}
+use Rattle.eval_code.proofs.Words.{[], ◌*◌, ◌+◌, ◌-◌, ◌<◌, ◌^◌, ◌∙◌, ◌∷◌, ◌≡◌, ◌≤◌, after_plain, Andcc, ap, ap₂}
+use Rattle.eval_code.proofs.Words.{arith, Bool, bytes_of_word, Conjunction, decode_at, Each, element_bytes}
+use Rattle.eval_code.proofs.Words.{elements_of, entry_count, false, fired, fits_opened, fits_put, flat_map, from}
+use Rattle.eval_code.proofs.Words.{get_or, has, inl, inr, Instr, interrupt_masks, LdaaImmediate, LdxImmediate}
+use Rattle.eval_code.proofs.Words.{LdyImmediate, length, List, list_bytes, list_words, map, marked, named, Ok, opened}
+use Rattle.eval_code.proofs.Words.{Orcc, plus, put, Reads, refl, rules_code, rules_target, State, subst, suc, sum_by}
+use Rattle.eval_code.proofs.Words.{sum_by-cons, sym, true, Writes, ℕ}
+use Rattle.cpu12_parts.specs.Rules.{rev_form, revw_form, Listed, AreWeights, Rule, Form, weight_bytes, rules_named}
+use Rattle.cpu12_parts.specs.Rules.{AreReady, rules_whole}
+use Rattle.cpu12_parts.specs.{Touching.IsRulesOver}
 use Rattle.cpu12_isa.specs.declared.instr.Instr.TheVariants.{Rev, Revw}
-use Rattle.cpu12_parts.specs.Rules.{rev_form, revw_form, Listed, AreWeights, Rule, Form, elements_of, element_bytes}
-use Rattle.cpu12_parts.specs.Rules.{weight_bytes, named, rules_named, rules_target, AreReady, rules_whole}
-use Rattle.cpu12_parts.specs.{State.State, Whole.after_plain, Touching.Each, Touching.IsRulesOver}
-use Rattle.eval_code.specs.{Bounds.entry_count, Data.bytes_of_word, Code.rules_code, Firing.fired}
-use Rattle.eval_code.specs.{Evaluation.put, Evaluation.Reads, Evaluation.Writes, Masks.interrupt_masks}
 use Rattle.eval_code.proofs.{steps.Memory.HasBytes, steps.Memory.same_bytes, Sizes.code_size}
 use Rattle.eval_code.proofs.phases.RuleMemory.{NamesSlots, renamed, rules_by, Below, span, rule_by, AllBelow}
 use Rattle.eval_code.proofs.phases.RuleMemory.{apart_by, rules_are, rules_target_low, element_bytes_high}
@@ -25,7 +22,6 @@ use Rattle.eval_code.proofs.{steps.Decoding.decode_same, phases.Averaging.each_a
 use Rattle.eval_code.proofs.steps.Stepping.{Ctx, Live, Stands, Goes, goes_one, goes_on, goes_part, Reaches}
 use Rattle.eval_code.proofs.steps.Stepping.{reaches_at, between_of, code_in}
 use Rattle.eval_code.proofs.steps.Instructions.{ldaa_byte, ldx, ldy, andcc_v, orcc_c}
-use Rattle.cpu12_isa.proofs.Algebra.{fits_put, fits_opened}
 use Rattle.rule_layout.specs.declared.flat.Form.TheVariants as form
 
 -- REV's names are the slots' numbers, REVW's their addresses

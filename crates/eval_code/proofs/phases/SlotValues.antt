@@ -1,21 +1,14 @@
 -- What the slots hold before the rules, slot by slot.
-use Rattle.std.proofs.Common.{◌≡◌, ℕ, zero, suc, ◌+◌, ◌-◌, ◌*◌, ◌<◌, Bool, true, false, List, [], ◌∷◌, ◌++◌, map}
-use Rattle.std.proofs.Common.{filter, length, take, sum_by, get_or, Option}
-use Rattle.std.proofs.Common.{Some, slice_get, refl, sym, ap, ap₂, ◌∙◌, subst, arith, length-append, append_assoc}
-use Rattle.std.proofs.Common.{take_at}
-use Rattle.std.specs.Prelude.{if◌then◌else◌}
-use Rattle.std.specs.List.{range_with_len}
-use Rattle.std.specs.Option.{option_map_or}
-use Rattle.std.proofs.lemmas.List.{length-map, map-append}
-use Rattle.std.proofs.lemmas.List.FromFn.{length-range_with_len}
-use Rattle.std.proofs.lemmas.List.Sums.{sum_by-cons, sum_by-append}
-use Rattle.fuzzy_meaning.specs.declared.{block.Block.Block, block.Input.Input, block.Trapezoid.Trapezoid}
-use Rattle.point_slope.specs.{Tables.row_of, Tables.grade_of, Bytes.literal_grade}
-use Rattle.rule_layout.specs.declared.flat.Slot.{Slot}
-use Rattle.rule_layout.specs.Slots.{terms_from, term_count, singleton_count, input_terms, output_terms}
-use Rattle.rule_layout.specs.Slots.{is_complemented, term_slot, complement_slot, out_slot, slots_of}
-use Rattle.eval_code.specs.Bounds.{input_term_count, output_term_count, complement_count}
-use Rattle.eval_code.specs.{Code.terms_before, Firing.slot_before, Firing.slots_before}
+use Rattle.eval_code.proofs.Words.{[], ◌*◌, ◌++◌, ◌+◌, ◌-◌, ◌<◌, ◌∙◌, ◌∷◌, ◌≡◌, ap, append_assoc, ap₂, arith, Block}
+use Rattle.eval_code.proofs.Words.{Bool, complement_count, complement_slot, false, get_or, grade_of, if◌then◌else◌}
+use Rattle.eval_code.proofs.Words.{Input, input_term_count, input_terms, length, length-append, length-map}
+use Rattle.eval_code.proofs.Words.{length-range_with_len, List, literal_grade, map, map-append, Option, option_map_or}
+use Rattle.eval_code.proofs.Words.{out_slot, output_term_count, output_terms, range_with_len, refl, row_of}
+use Rattle.eval_code.proofs.Words.{singleton_count, slice_get, Slot, slot_before, slots_before, slots_of, Some, subst}
+use Rattle.eval_code.proofs.Words.{suc, sum_by, sum_by-cons, sym, take, take_at, term_count, term_slot, terms_before}
+use Rattle.eval_code.proofs.Words.{terms_from, Trapezoid, true, zero, ℕ}
+use Rattle.std.proofs.{Common.filter, lemmas.List.Sums.sum_by-append}
+use Rattle.rule_layout.specs.{Slots.is_complemented}
 use Rattle.eval_code.proofs.{phases.Fuzzify.grades, phases.Filling.AllCanFill, phases.Filling.fill_count}
 
 -- the element behind a list's front

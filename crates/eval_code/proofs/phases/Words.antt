@@ -1,22 +1,15 @@
 -- The quotient's code, for answers of a byte and of a word.
-use Rattle.std.proofs.Common.{◌≡◌, ◌≢◌, ℕ, zero, suc, ◌+◌, ◌*◌, ◌/◌, ◌%◌, ◌^◌, ◌<◌, ◌≤◌, nat_lt, Bool, true, false}
-use Rattle.std.proofs.Common.{List, [], ◌∷◌, get_or, set, div-lt_iff_lt-mul, Option, Some, None, refl, sym, ap, ap₂}
-use Rattle.std.proofs.Common.{◌∙◌, arith}
-use Rattle.std.specs.Prelude.{◌==◌}
-use Rattle.std.proofs.lemmas.List.{set-get_or}
-use Rattle.std.proofs.lemmas.Bool.Decides.{nat_tests}
+use Rattle.eval_code.proofs.Words.{[], ◌%◌, ◌*◌, ◌+◌, ◌/◌, ◌<◌, ◌==◌, ◌^◌, ◌∙◌, ◌∷◌, ◌≡◌, ◌≢◌, ◌≤◌, after_plain, ap}
+use Rattle.eval_code.proofs.Words.{ap₂, arith, Beq, Bool, Bra, bytes_of, Ccr, ClrExtended, CpxImmediate}
+use Rattle.eval_code.proofs.Words.{div-lt_iff_lt-mul, Ediv, false, get_or, has, Instr, interrupt_masks, LdabImmediate}
+use Rattle.eval_code.proofs.Words.{List, nat_lt, nat_tests, None, Option, plus, put, quotient_code, refl, Regs, set}
+use Rattle.eval_code.proofs.Words.{set-get_or, Some, StaaExtended, StabExtended, State, suc, sym, TransferYD, true}
+use Rattle.eval_code.proofs.Words.{Word, Writes, zero, ℕ}
+use Rattle.cpu12_isa.specs.{declared.instr.Instr.TheVariants.TransferXD, Registers.divided_fraction}
 use Rattle.std.proofs.lemmas.Nat.{div-add-mod'}
 use Rattle.std.proofs.Math.Nat.{div-div-eq-div-mul, mul-div-mul_right, mul-add-div_right, mod-lt}
-use Rattle.cpu12_isa.specs.declared.{instr.Regs.Regs, instr.Instr.Instr, instr.Ccr.Ccr}
-use Rattle.cpu12_isa.specs.declared.instr.Instr.TheVariants.{LdabImmediate, StaaExtended, StabExtended, ClrExtended}
-use Rattle.cpu12_isa.specs.declared.instr.Instr.TheVariants.{CpxImmediate, Beq, Bra, TransferXD, TransferYD, Ediv}
 use Rattle.cpu12_isa.specs.declared.instr.Instr.TheVariants.{Fdiv}
-use Rattle.cpu12_isa.specs.{Flags.has, Memory.plus, Registers.divided_fraction}
-use Rattle.cpu12_parts.specs.{State.State, Whole.after_plain}
-use Rattle.eval_code.specs.{Evaluation.put, Evaluation.Writes, Masks.interrupt_masks, Widths.bytes_of}
 use Rattle.eval_code.proofs.{steps.Flags.masked_put, steps.Memory.HasBytes, Sizes.code_size}
-use Rattle.eval_code.specs.Code.{quotient_code}
-use Rattle.byte_scaling.specs.declared.width.Width.TheVariants.{Word}
 use Rattle.eval_code.proofs.phases.Quotients.{quotient_of, quotient_most, quotient_small}
 use Rattle.eval_code.proofs.steps.Instructions.{divided_is, ldab_byte, staa, stab, clr, cpx, cpx_zero, beq_on}
 use Rattle.eval_code.proofs.steps.Instructions.{beq_off, bra_on, tfr, ediv, ediv_y, ediv_sp}

@@ -1,14 +1,9 @@
 -- A block's code and data stand in the memory of items that go up.
-use Rattle.std.proofs.Common.{◌≡◌, ℕ, ◌+◌, List, ◌++◌, length, sym, ap, ◌∙◌, subst, arith, append_assoc}
-use Rattle.std.proofs.lemmas.Grind.{flat_map-append}
-use Rattle.fuzzy_meaning.specs.declared.block.Block.{Block}
-use Rattle.cpu12_isa.specs.{declared.instr.Instr.Instr, Code.encode_of}
-use Rattle.cpu12_asm.specs.{declared.items.Item.Item, Items.given_by, Items.IsRising}
-use Rattle.eval_code.specs.{declared.memory_map.MemoryMap.MemoryMap, Code.code_bytes, Code.eval_code, Code.block_code}
-use Rattle.eval_code.specs.Data.{table_bytes, singleton_bytes, weight_bytes, rule_bytes}
-use Rattle.eval_code.specs.Items.{code_at, bytes_at, block_items}
-use Rattle.eval_code.specs.Evaluation.{HasBytes, HasEval, eval_bytes}
-use Rattle.byte_scaling.specs.declared.width.Width.{Width}
+use Rattle.eval_code.proofs.Words.{◌++◌, ◌+◌, ◌∙◌, ◌≡◌, ap, append_assoc, arith, Block, block_code, block_items}
+use Rattle.eval_code.proofs.Words.{bytes_at, code_at, code_bytes, encode_of, eval_code, flat_map-append, given_by}
+use Rattle.eval_code.proofs.Words.{HasBytes, HasEval, Instr, IsRising, Item, length, List, MemoryMap, rule_bytes}
+use Rattle.eval_code.proofs.Words.{singleton_bytes, subst, sym, table_bytes, weight_bytes, Width, ℕ}
+use Rattle.eval_code.specs.{Evaluation.eval_bytes}
 use Rattle.eval_code.proofs.{Joins.block_items-then, steps.Memory.bytes_front, steps.Memory.bytes_back}
 use Rattle.eval_code.proofs.Sizes.{code_size, length-code_bytes}
 use Rattle.eval_code.proofs.placing.Standing.{Rises, HasGiven, bytes_stand, code_stands}

@@ -1,30 +1,21 @@
 -- What a block's items give are bytes.
-use Rattle.std.proofs.Common.{◌≡◌, ℕ, zero, suc, ◌+◌, ◌-◌, ◌*◌, ◌/◌, ◌^◌, ◌<◌, ◌≤◌, Bool, false, List, [], ◌∷◌, ◌++◌, map}
-use Rattle.std.proofs.Common.{flat_map, length}
-use Rattle.std.proofs.Common.{All, Option, Some, None, refl, sym, subst, arith, div-lt_iff_lt-mul}
-use Rattle.std.specs.Prelude.{◌==◌, if◌then◌else◌}
-use Rattle.std.proofs.lemmas.Bool.Decides.{nat_tests}
-use Rattle.std.proofs.lemmas.List.{map-append}
-use Rattle.fz_num.specs.declared.dec.Dec.{Dec}
-use Rattle.fuzzy_meaning.specs.declared.{block.Block.Block, block.Input.Input, block.Output.Output}
-use Rattle.fuzzy_meaning.specs.Blocks.{IsValid, IsValidOutput, IsWithin}
-use Rattle.fuzzy_meaning.specs.declared.block.Trapezoid.{Trapezoid}
-use Rattle.byte_scaling.specs.{Cells.byte_of, Cells.nearest_byte, Cells.NearestIsByte, declared.width.Width.Width}
-use Rattle.point_slope.specs.Tables.{slope_of, left_point, left_slope, right_point, right_slope, row_of, rows_of}
-use Rattle.rule_layout.specs.declared.{flat.Conjunction.Conjunction, flat.Form.Form}
-use Rattle.rule_layout.specs.Layouts.{conjunctions_of, weights_of, form_of, IsBelow}
-use Rattle.rule_layout.specs.{Lists.marked, Lists.at_address, Lists.list_bytes, Lists.list_words, Slots.slots_of}
-use Rattle.cpu12_isa.specs.{declared.instr.Instr.Instr, Code.encode_of, Fits.EncodedAreBytes}
-use Rattle.cpu12_asm.specs.declared.{items.Item.Item, items.Item.TheVariants.Byte, items.Item.TheVariants.Op}
-use Rattle.cpu12_asm.specs.{Bytes.placed, Items.item_bytes, Items.place_after, Items.given_from}
-use Rattle.eval_code.specs.{declared.memory_map.MemoryMap.MemoryMap, Code.code_bytes, Code.eval_code, Code.block_code}
-use Rattle.eval_code.specs.Data.{table_bytes, singleton_bytes, singleton_bytes_of, weight_bytes, weight_bytes_by}
-use Rattle.eval_code.specs.Data.{rule_bytes, rule_bytes_by, bytes_of_word}
-use Rattle.eval_code.specs.{Items.block_items, Items.IsApart, Standing.CodeIsBytes}
+use Rattle.eval_code.proofs.Words.{[], ◌*◌, ◌++◌, ◌+◌, ◌-◌, ◌/◌, ◌<◌, ◌==◌, ◌^◌, ◌∷◌, ◌≡◌, ◌≤◌, All, All-nil, arith}
+use Rattle.eval_code.proofs.Words.{at_address, Block, block_code, block_items, Bool, Byte, bytes_of_word, code_bytes}
+use Rattle.eval_code.proofs.Words.{Conjunction, conjunctions_of, Dec, div-lt_iff_lt-mul, encode_of, EncodedAreBytes}
+use Rattle.eval_code.proofs.Words.{eval_code, false, flat_map, Form, form_of, given_from, if◌then◌else◌, Input, Instr}
+use Rattle.eval_code.proofs.Words.{IsApart, IsBelow, IsValid, IsValidOutput, IsWithin, Item, item_bytes, length, List}
+use Rattle.eval_code.proofs.Words.{list_bytes, list_words, map, map-append, marked, MemoryMap, nat_tests}
+use Rattle.eval_code.proofs.Words.{nearest_byte, NearestIsByte, None, Op, Option, Output, place_after, placed, refl}
+use Rattle.eval_code.proofs.Words.{row_of, rows_of, rule_bytes, rule_bytes_by, singleton_bytes, singleton_bytes_of}
+use Rattle.eval_code.proofs.Words.{slots_of, Some, subst, suc, sym, table_bytes, Trapezoid, weight_bytes}
+use Rattle.eval_code.proofs.Words.{weight_bytes_by, weights_of, Width, zero, ℕ}
+use Rattle.point_slope.specs.Tables.{slope_of, left_point, left_slope, right_point, right_slope}
+use Rattle.byte_scaling.specs.{Cells.byte_of}
+use Rattle.eval_code.specs.{Standing.CodeIsBytes}
+use Rattle.std.proofs.{lemmas.List.Elements.All-append}
 use Rattle.eval_code.proofs.{Joins.block_then, Joins.block_items-then, steps.Decoding.FitCode}
 use Rattle.eval_code.proofs.phases.RuleMemory.{Below, below_all, below_append}
 use Rattle.eval_code.proofs.phases.RuleFacts.{BlockFacts, weights_below, rev_is_plain}
-use Rattle.std.proofs.lemmas.List.Elements.{All-nil, All-append}
 use Rattle.eval_code.proofs.phases.Operands.{fit_answer}
 use Rattle.rule_layout.specs.declared.flat.Form.TheVariants as form
 

@@ -1,12 +1,8 @@
 -- A block's items give bytes at their parts alone.
-use Rattle.std.proofs.Common.{◌≡◌, ◌≢◌, ◌⊎◌, inl, inr, ℕ, ◌+◌, List, ◌∷◌, ◌++◌, map, length, None, ap, ◌∙◌}
-use Rattle.std.proofs.lemmas.Bool.{cases_lt}
-use Rattle.cpu12_isa.specs.declared.instr.Instr.{Instr}
-use Rattle.cpu12_asm.specs.{declared.items.Item.Item, Bytes.byte_at, Bytes.placed, Items.given_from, Items.given_by}
-use Rattle.cpu12_asm.specs.declared.items.Item.TheVariants.{Place, Byte, Op}
-use Rattle.cpu12_asm.proofs.Algebra.{or_else, byte_at-append, byte_at-placed}
-use Rattle.eval_code.specs.{Code.block_code, Code.code_bytes, Items.bytes_at}
-use Rattle.eval_code.specs.Data.{table_bytes, singleton_bytes, weight_bytes, rule_bytes}
+use Rattle.eval_code.proofs.Words.{◌++◌, ◌+◌, ◌∙◌, ◌∷◌, ◌≡◌, ◌≢◌, ◌⊎◌, ap, block_code, Byte, byte_at, byte_at-append}
+use Rattle.eval_code.proofs.Words.{byte_at-placed, bytes_at, cases_lt, code_bytes, given_by, given_from, inl, inr}
+use Rattle.eval_code.proofs.Words.{Instr, Item, length, List, map, None, Op, or_else, Place, placed, rule_bytes}
+use Rattle.eval_code.proofs.Words.{singleton_bytes, table_bytes, weight_bytes, ℕ}
 use Rattle.eval_code.specs.Placed.{IsWithin, BlockGivesAtParts}
 use Rattle.eval_code.proofs.Joins.{block_then, block_items-then}
 use Rattle.eval_code.proofs.placing.Standing.{given_bytes, given_code, none_placed_below}

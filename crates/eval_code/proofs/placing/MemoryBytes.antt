@@ -1,14 +1,10 @@
 -- The memory of an image that holds what items give is one of bytes.
-use Rattle.std.proofs.Common.{◌≡◌, inl, inr, ℕ, ◌^◌, ◌<◌, Bool, true, false, cond, List, [], ◌∷◌, length, get_or}
-use Rattle.std.proofs.Common.{Some, arith, nat_cmp}
-use Rattle.std.specs.BTreeMap.{is_at}
-use Rattle.std.proofs.lemmas.Bool.{cases_lt}
+use Rattle.eval_code.proofs.Words.{[], ◌<◌, ◌^◌, ◌∷◌, ◌≡◌, AreBytes, arith, Bool, byte_at, byte_or_zero, cases_lt}
+use Rattle.eval_code.proofs.Words.{cond, false, get_or, GiveBytes, given_by, HoldsImage, image_memory, inl, inr}
+use Rattle.eval_code.proofs.Words.{is_at, length, List, nat_cmp, Some, true, ℕ}
+use Rattle.eval_code.specs.{Standing.ImageIsBytes}
 use Rattle.std.proofs.lemmas.List.{get_or_past}
 use Rattle.std.proofs.lemmas.List.Elements.{All-head, All-tail}
-use Rattle.cpu12_isa.specs.Fits.{AreBytes}
-use Rattle.cpu12_asm.specs.{Bytes.byte_at, Items.given_by}
-use Rattle.cpu12_emul.specs.Image.{byte_or_zero, image_memory, HoldsImage}
-use Rattle.eval_code.specs.{Placed.GiveBytes, Standing.ImageIsBytes}
 use Rattle.eval_code.proofs.placing.Standing.{image_given}
 
 -- a memory that has bytes that are given is one of bytes

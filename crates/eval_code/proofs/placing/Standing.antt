@@ -1,17 +1,12 @@
 -- The parts of items that go up stand in the memory of their image.
-use Rattle.std.proofs.Common.{◌≡◌, ℕ, zero, suc, ◌+◌, ◌<◌, ◌≤◌, true, false, cond, List, [], ◌∷◌, ◌++◌, map, length}
-use Rattle.std.proofs.Common.{get_or, Some, None, refl, sym, ap, ◌∙◌}
-use Rattle.std.proofs.Common.{subst, arith, length-append, append_assoc, nat_cmp}
-use Rattle.std.specs.BTreeMap.{is_at}
-use Rattle.std.proofs.lemmas.Bool.Decides.{nat_tests}
-use Rattle.cpu12_isa.specs.{declared.instr.Instr.Instr, Code.encode_of}
-use Rattle.cpu12_asm.specs.declared.items.Item.{Item}
-use Rattle.cpu12_asm.specs.declared.items.Item.TheVariants.{Place, Byte, Op}
-use Rattle.cpu12_asm.specs.Bytes.{byte_at, placed, Holds}
-use Rattle.cpu12_asm.specs.Items.{item_bytes, place_after, place_behind, given_from, given_by, IsRisingFrom, IsRising}
+use Rattle.eval_code.proofs.Words.{[], ◌++◌, ◌+◌, ◌<◌, ◌∙◌, ◌∷◌, ◌≡◌, ◌≤◌, ap, append_assoc, arith, Byte, byte_at}
+use Rattle.eval_code.proofs.Words.{byte_at-append, byte_at-placed, byte_or_zero, cond, encode_of, false, get_or}
+use Rattle.eval_code.proofs.Words.{given_by, given_from, HoldsImage, image_memory, Instr, is_at, IsRising}
+use Rattle.eval_code.proofs.Words.{IsRisingFrom, Item, item_bytes, length, length-append, List, map, nat_cmp}
+use Rattle.eval_code.proofs.Words.{nat_tests, None, Op, or_else, Place, place_after, place_behind, placed, refl, Some}
+use Rattle.eval_code.proofs.Words.{subst, suc, sym, true, zero, ℕ}
+use Rattle.cpu12_asm.specs.{Bytes.Holds}
 use Rattle.cpu12_asm.specs.Rising.{RisesBehindFirst, EndsInMemory, RisesBehindPart}
-use Rattle.cpu12_asm.proofs.Algebra.{or_else, byte_at-append, byte_at-placed}
-use Rattle.cpu12_emul.specs.Image.{byte_or_zero, image_memory, HoldsImage}
 use Rattle.eval_code.specs.Standing.{BytesStand, CodeStands, ZeroBelow}
 use Rattle.eval_code.proofs.{steps.Memory.HasBytes, steps.Memory.bytes_by, steps.Decoding.code_bytes}
 

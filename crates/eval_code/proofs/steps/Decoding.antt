@@ -1,9 +1,8 @@
 -- The instructions of the code, from their bytes.
-use Rattle.std.proofs.Common.{◌≡◌, ℕ, ◌+◌, ◌<◌, ◌≤◌, List, [], ◌∷◌, ◌++◌, length, get_or, ap, refl, ◌∙◌, arith}
-use Rattle.cpu12_isa.specs.{declared.instr.Instr.Instr, Fits.EncodedIsShort, Memory.plus, Memory.bytes_at}
-use Rattle.cpu12_isa.specs.Code.{encode_of, decode_of, decode_at, six_from, Begins, DecodesEncoded}
+use Rattle.eval_code.proofs.Words.{[], ◌++◌, ◌+◌, ◌<◌, ◌∙◌, ◌∷◌, ◌≡◌, ◌≤◌, ap, arith, decode_at, DecodesWhereItStands}
+use Rattle.eval_code.proofs.Words.{encode_of, get_or, Instr, length, List, plus, refl, six_from, ℕ}
+use Rattle.cpu12_isa.specs.{Fits.EncodedIsShort, Memory.bytes_at, Code.decode_of, Code.Begins, Code.DecodesEncoded}
 pub use Rattle.eval_code.specs.Code.{code_bytes, FitCode}
-use Rattle.eval_code.specs.Standing.{DecodesWhereItStands}
 use Rattle.eval_code.proofs.steps.Memory.{HasBytes, SameHigh}
 
 -- these addresses go up by 1

@@ -1,9 +1,9 @@
 -- The flags that the code rests on: I, X, V, Z and C.
-use Rattle.std.proofs.Common.{◌≡◌, ℕ, zero, suc, ◌-◌, ◌<◌, Bool, true, false, ◌&&◌, ◌||◌, bit_and, bit_or, refl, ap}
-use Rattle.std.proofs.Common.{ap₂, ◌∙◌, arith}
-use Rattle.cpu12_isa.specs.{declared.instr.Ccr.Ccr, Flags.has, Flags.put, Flags.opened}
+use Rattle.eval_code.proofs.Words.{◌-◌, ◌<◌, ◌||◌, ◌∙◌, ◌≡◌, ap, ap₂, arith, Bool, Ccr, false, has, interrupt_masks}
+use Rattle.eval_code.proofs.Words.{opened, refl, suc, true, zero, ℕ}
+use Rattle.std.proofs.{Common.◌&&◌, Common.bit_and, Common.bit_or}
+use Rattle.cpu12_isa.specs.{Flags.put}
 use Rattle.cpu12_isa.proofs.Algebra.{bit, bit_or_is, bit_and_is}
-use Rattle.eval_code.specs.Masks.{interrupt_masks}
 
 abbrev ccr_of : ℕ → Ccr
 ccr_of n = record { 0 = n }

@@ -1,19 +1,15 @@
 -- What each instruction of the generated code does, without a wrap.
-use Rattle.std.proofs.Common.{◌≡◌, ◌≢◌, inl, inr, ℕ, ◌+◌, ◌-◌, ◌*◌, ◌/◌, ◌%◌, ◌^◌, ◌<◌, ◌≤◌, min, nat_lt, ◌||◌, true}
-use Rattle.std.proofs.Common.{false, [], ◌∷◌, get_or, refl, ap, ap₂, ◌∙◌, arith, nat_le}
-use Rattle.std.specs.Prelude.{◌==◌, if◌then◌else◌}
-use Rattle.std.proofs.lemmas.Bool.Decides.{nat_tests}
-use Rattle.cpu12_isa.specs.declared.instr.Regs.{Regs}
-use Rattle.cpu12_isa.specs.declared.instr.Instr.TheVariants.{LdaaImmediate, LdaaExtended, LdabImmediate, LdxImmediate}
-use Rattle.cpu12_isa.specs.declared.instr.Instr.TheVariants.{LdyImmediate, StaaExtended, StabExtended, ClrExtended}
-use Rattle.cpu12_isa.specs.declared.instr.Instr.TheVariants.{Coma, CpxImmediate, Beq, Bra, Andcc, Orcc, TransferYD}
-use Rattle.cpu12_isa.specs.declared.instr.Instr.TheVariants.{Ediv, Mem}
-use Rattle.cpu12_isa.specs.{Flags.has, Flags.put, Flags.tested_word, Memory.plus, Registers.grade, Registers.divided}
-use Rattle.cpu12_parts.specs.{State.State, Whole.after_plain}
-use Rattle.point_slope.specs.Tables.{grade_under, grade_of}
+use Rattle.eval_code.proofs.Words.{[], ◌%◌, ◌*◌, ◌+◌, ◌-◌, ◌/◌, ◌<◌, ◌==◌, ◌^◌, ◌||◌, ◌∙◌, ◌∷◌, ◌≡◌, ◌≢◌, ◌≤◌}
+use Rattle.eval_code.proofs.Words.{after_plain, Andcc, ap, ap₂, arith, Beq, Bra, ClrExtended, Coma, CpxImmediate}
+use Rattle.eval_code.proofs.Words.{Ediv, false, get_or, grade_of, has, if◌then◌else◌, inl, inr, interrupt_masks}
+use Rattle.eval_code.proofs.Words.{LdaaExtended, LdaaImmediate, LdabImmediate, LdxImmediate, LdyImmediate, Mem, min}
+use Rattle.eval_code.proofs.Words.{nat_lt, nat_tests, Orcc, plus, Reads, refl, Regs, StaaExtended, StabExtended}
+use Rattle.eval_code.proofs.Words.{State, TransferYD, true, Writes, ℕ}
+use Rattle.std.proofs.{Common.nat_le}
+use Rattle.cpu12_isa.specs.{Flags.put, Flags.tested_word, Registers.grade, Registers.divided}
+use Rattle.point_slope.specs.{Tables.grade_under}
 use Rattle.eval_code.proofs.steps.Flags.{masked_tested, masked_four, zero_four, masked_open, masked_and, masked_or}
 use Rattle.eval_code.proofs.steps.Stepping.{Ctx, Here, Live, Next, next}
-use Rattle.eval_code.specs.{Masks.interrupt_masks, Evaluation.Reads, Evaluation.Writes}
 
 -- Y:D by X, where the quotient is a word
 pub divided_is : (flags : ℕ) (r : Regs) (n : ℕ) → r.y * 2 ^ 16 + (r.a * 2 ^ 8 + r.b) ≡ n → r.x ≢ 0 → n / r.x < 65536

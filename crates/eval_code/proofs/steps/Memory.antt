@@ -1,11 +1,9 @@
 -- Bytes put into memory, and memories that keep what stands high.
-use Rattle.std.proofs.Common.{◌≡◌, ◌⊎◌, inl, inr, ⊎_elim, ℕ, zero, suc, ◌+◌, ◌^◌, ◌<◌, ◌≤◌, List, [], ◌∷◌, ◌++◌, length}
-use Rattle.std.proofs.Common.{get_or, set, All, refl, sym, ap, ◌∙◌, subst, arith, length-set, get_or-set_same}
-use Rattle.std.proofs.Common.{get_or-set_other}
+use Rattle.eval_code.proofs.Words.{[], ◌++◌, ◌+◌, ◌<◌, ◌^◌, ◌∙◌, ◌∷◌, ◌≡◌, ◌≤◌, ◌⊎◌, All, ap, AreBytes, arith}
+use Rattle.eval_code.proofs.Words.{cases_eq, get_or, get_or-set_other, get_or-set_same, inl, inr, length, length-set}
+use Rattle.eval_code.proofs.Words.{List, put, refl, set, subst, suc, sym, zero, ℕ, ⊎_elim}
+use Rattle.cpu12_isa.specs.{Fits.FitsWrites}
 use Rattle.std.proofs.lemmas.List.{set_comm, set-set}
-use Rattle.std.proofs.lemmas.Bool.{cases_eq}
-use Rattle.cpu12_isa.specs.Fits.{AreBytes, FitsWrites}
-use Rattle.eval_code.specs.Evaluation.{put}
 pub use Rattle.eval_code.specs.Evaluation.{HasBytes}
 use Rattle.cpu12_isa.specs.Act.{write_all}
 

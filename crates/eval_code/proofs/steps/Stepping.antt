@@ -1,14 +1,12 @@
 -- One instruction of EVAL, and where it leads.
-use Rattle.std.proofs.Common.{◌≡◌, inl, inr, ℕ, ◌+◌, ◌^◌, ◌<◌, ◌≤◌, Bool, true, Ok, List, [], ◌∷◌, ◌++◌, length, refl}
-use Rattle.std.proofs.Common.{ap, ◌∙◌, subst, arith}
-use Rattle.cpu12_isa.specs.{declared.instr.Instr.Instr, Act.read_by, Fits.FitsRegs, Fits.AreBytes, Fits.StaysFit}
-use Rattle.cpu12_isa.specs.Code.{encode_of, decode_at, six_from, FitsOperands}
-use Rattle.cpu12_isa.specs.{Meaning.act_of, Meaning.effect, Meaning.is_plain, Memory.plus}
+use Rattle.eval_code.proofs.Words.{[], ◌++◌, ◌+◌, ◌<◌, ◌^◌, ◌∙◌, ◌∷◌, ◌≡◌, ◌≤◌, after_plain, ap, AreBytes, arith}
+use Rattle.eval_code.proofs.Words.{Bool, decode_at, Each, encode_of, FitsRegs, inl, inr, Instr, interrupt_masks}
+use Rattle.eval_code.proofs.Words.{IsApart, length, List, MemoryMap, Ok, plus, Reads, refl, six_from, State, StaysFit}
+use Rattle.eval_code.proofs.Words.{subst, true, Writes, ℕ}
+use Rattle.cpu12_isa.specs.{Act.read_by, Code.FitsOperands, Meaning.act_of, Meaning.effect, Meaning.is_plain}
+use Rattle.cpu12_parts.specs.{Laws.addresses, Laws.IsOff, Touching.IsIn, Touching.IsBetween}
+use Rattle.eval_code.specs.{Evaluation.code_region, Evaluation.IsEvalStep}
 use Rattle.cpu12_isa.proofs.Algebra.{length_writes}
-use Rattle.cpu12_parts.specs.{State.State, Laws.addresses, Laws.IsOff, Whole.after_plain}
-use Rattle.cpu12_parts.specs.Touching.{IsIn, Each, IsBetween}
-use Rattle.eval_code.specs.{declared.memory_map.MemoryMap.MemoryMap, Items.IsApart, Masks.interrupt_masks}
-use Rattle.eval_code.specs.Evaluation.{Writes, Reads, code_region, IsEvalStep}
 use Rattle.eval_code.proofs.steps.Memory.{SameHigh, WriteBelow, high_writes, bytes_writes}
 use Rattle.eval_code.proofs.{Sizes.code_size, steps.Decoding.decode_same}
 use Rattle.cpu12_parts.proofs.Algebra.{Bounded, bounded_none, bounded_one, bounded_on, bounded_more}

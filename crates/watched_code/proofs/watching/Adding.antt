@@ -1,21 +1,17 @@
 -- Bytes added up, one after another.
-use Rattle.std.proofs.Common.{⊎_elim}
-use Rattle.std.proofs.Common.{◌≡◌, ℕ, zero, suc, ◌+◌, ◌-◌, ◌*◌, ◌%◌, ◌^◌, ◌<◌, ◌≤◌, Bool, true, false, nat_lt, List, []}
-use Rattle.std.proofs.Common.{◌∷◌, ◌++◌, length, get_or, refl, sym, ap, ap₂, ◌∙◌, subst, arith}
-use Rattle.std.specs.Prelude.{◌==◌, not, if◌then◌else◌}
-use Rattle.std.proofs.lemmas.Bool.Decides.{nat_tests}
-use Rattle.cpu12_isa.specs.declared.{instr.Ccr.Ccr, instr.Instr.Instr}
-use Rattle.cpu12_isa.specs.declared.instr.Instr.TheVariants.{ClrExtended, LdabImmediate, LdxImmediate, StabExtended}
-use Rattle.cpu12_isa.specs.declared.instr.Instr.TheVariants.{CpxImmediate, Bne, AddbImmediate, AddbPostIncrementX}
-use Rattle.cpu12_isa.specs.{Code.encode_of, Flags.has, Flags.put, Memory.plus}
-use Rattle.cpu12_parts.specs.{State.State, Whole.after_plain}
-use Rattle.watched_code.specs.declared.segments.Segment.{Segment}
-use Rattle.watched_code.specs.WatchedCode.{segment_code, segments_code, IsSegment}
+use Rattle.watched_code.proofs.Words.{[], ◌%◌, ◌*◌, ◌++◌, ◌+◌, ◌-◌, ◌<◌, ◌==◌, ◌^◌, ◌∙◌, ◌∷◌, ◌≡◌, ◌≤◌, AddbImmediate}
+use Rattle.watched_code.proofs.Words.{after_plain, ap, ap₂, arith, Bne, Bool, Bounded, bounded_none, bounded_on}
+use Rattle.watched_code.proofs.Words.{bounded_one, ClrExtended, encode_of, false, get_or, has, if◌then◌else◌, Instr}
+use Rattle.watched_code.proofs.Words.{InstructionGoesOn, IsInterruptibleStep, IsSegment, LdabImmediate, length, List}
+use Rattle.watched_code.proofs.Words.{Live, nat_tests, not, refl, Segment, segment_code, segments_code, Setting}
+use Rattle.watched_code.proofs.Words.{StabExtended, Stands, State, subst, suc, sym, true, zero, ℕ, ⊎_elim}
+use Rattle.std.proofs.{Common.nat_lt}
+use Rattle.cpu12_isa.specs.{declared.instr.Ccr.Ccr, declared.instr.Instr.TheVariants.LdxImmediate}
+use Rattle.cpu12_isa.specs.{declared.instr.Instr.TheVariants.CpxImmediate}
+use Rattle.cpu12_isa.specs.{declared.instr.Instr.TheVariants.AddbPostIncrementX, Flags.put, Memory.plus}
+use Rattle.alone_code.specs.{Settings.Here, Settings.Next}
 use Rattle.eval_code.specs.Masks.{interrupt_masks}
 pub use Rattle.watched_code.specs.WatchedCode.{AreSegments}
-use Rattle.alone_code.specs.Interruptible.{IsInterruptibleStep}
-use Rattle.alone_code.specs.Settings.{Setting, Here, Live, Stands, Next, InstructionGoesOn}
-use Rattle.cpu12_parts.proofs.Algebra.{Bounded, bounded_none, bounded_one, bounded_on}
 use Rattle.eval_code.proofs.Algebra.{masked_or, masked_and, masked_tested, masked_four, zero_four}
 use Rattle.alone_code.proofs.Algebra.{high_shown}
 

@@ -1,23 +1,17 @@
 -- From the image of a firmware with watched tables to its answers.
-use Rattle.std.proofs.Common.{inr, ◌≡◌, inl, ℕ, ◌+◌, ◌^◌, ◌<◌, ◌≤◌, List, [], ◌∷◌, ◌++◌, length, All, refl, sym, ap}
-use Rattle.std.proofs.Common.{◌∙◌, subst, arith, length-append}
-use Rattle.std.specs.Prelude.{Option, Some, None}
-use Rattle.fuzzy_meaning.specs.{declared.block.Block.Block, Blocks.IsValid}
-use Rattle.rule_layout.specs.Layouts.{IsWithinLimits}
-use Rattle.cpu12_isa.specs.{declared.instr.Instr.TheVariants.Rts, Regions.is_free}
-use Rattle.cpu12_asm.specs.{Bytes.Holds, Items.given_by, Items.IsRising}
-use Rattle.cpu12_parts.specs.State.{State}
+use Rattle.watched_code.proofs.Words.{[], ◌++◌, ◌+◌, ◌<◌, ◌^◌, ◌∙◌, ◌∷◌, ◌≡◌, ◌≤◌, All, ap, AreWatchAnswered, arith}
+use Rattle.watched_code.proofs.Words.{Block, block_code, block_items, Byte, Change, code_bytes, code_length, FitCode}
+use Rattle.watched_code.proofs.Words.{FreeBytesLeave, given_by, HasParts, inl, inr, instruction_bound, is_free}
+use Rattle.watched_code.proofs.Words.{IsApart, IsRising, IsValid, IsWithinLimits, length, length-append, List}
+use Rattle.watched_code.proofs.Words.{main_map, MemoryMap, None, Option, refl, Rts, segments_of, Setting, Some, State}
+use Rattle.watched_code.proofs.Words.{subst, sym, vector_items, Watched, watched_bound, watched_front, watched_items}
+use Rattle.watched_code.proofs.Words.{ℕ}
+use Rattle.cpu12_asm.specs.{Bytes.Holds}
+use Rattle.eval_code.specs.{Code.eval_code, Placed.IsInOrder, Placed.BlockRises, Placed.BlockIsShort}
+use Rattle.alone_code.specs.{Answers.IsArrived, Standing.HasFirmware, Frames.Arrived, Settings.IsShut}
+use Rattle.watched_code.specs.{WatchedCode.watched_map, Watched.IsTableChange, Watched.IsGoodSample}
+use Rattle.watched_code.specs.{Watched.WatchedAnswers}
 use Rattle.cpu12_emul.specs.Image.{image_memory}
-use Rattle.eval_code.specs.declared.memory_map.MemoryMap.{MemoryMap}
-use Rattle.eval_code.specs.Code.{code_bytes, eval_code, block_code, FitCode}
-use Rattle.eval_code.specs.Placed.{IsInOrder, HasParts, BlockRises, BlockIsShort}
-use Rattle.byte_scaling.specs.declared.width.Width.TheVariants.{Byte}
-use Rattle.eval_code.specs.{MemoryMaps.main_map, Bounds.instruction_bound, Items.IsApart, Items.block_items}
-use Rattle.alone_code.specs.{Images.vector_items, Answers.IsArrived, Answers.FreeBytesLeave, Standing.HasFirmware}
-use Rattle.alone_code.specs.{Frames.Arrived, Settings.Setting, Settings.IsShut}
-use Rattle.watched_code.specs.WatchedCode.{segments_of, watched_front, watched_map, code_length}
-use Rattle.watched_code.specs.Watched.{watched_items, watched_bound, Change, Watched, IsTableChange, IsGoodSample}
-use Rattle.watched_code.specs.Watched.{AreWatchAnswered, WatchedAnswers}
 use Rattle.alone_code.proofs.Algebra.{not_free}
 use Rattle.watched_code.proofs.{watching.Adding.count_in, watching.Laws.WatchingLaws, watching.Located.located}
 use Rattle.watched_code.proofs.watching.Fronts.{IsWatchedMap, length-more, length-bad, length-front, fits_front}

@@ -1,15 +1,10 @@
 -- The check, to EVAL or to BAD.
-use Rattle.std.proofs.Common.{◌≡◌, ℕ, ◌+◌, ◌*◌, ◌%◌, ◌^◌, ◌<◌, ◌≤◌, true, false, List, [], ◌∷◌, ◌++◌, length, set, refl}
-use Rattle.std.proofs.Common.{ap, ◌∙◌, subst, arith}
-use Rattle.std.specs.Prelude.{◌==◌}
-use Rattle.cpu12_isa.specs.{declared.instr.Instr.Instr, Flags.has}
-use Rattle.cpu12_isa.specs.declared.instr.Instr.TheVariants.{LdabImmediate, ClrExtended, Bne, AddbImmediate}
-use Rattle.cpu12_parts.specs.{State.State, Whole.after_plain}
-use Rattle.watched_code.specs.{declared.segments.Segment.Segment, WatchedCode.segments_code, WatchedCode.fault_at}
-use Rattle.cpu12_parts.proofs.Algebra.{Bounded, bounded_one, bounded_on}
+use Rattle.watched_code.proofs.Words.{[], ◌%◌, ◌*◌, ◌++◌, ◌+◌, ◌<◌, ◌==◌, ◌^◌, ◌∙◌, ◌∷◌, ◌≡◌, ◌≤◌, AddbImmediate}
+use Rattle.watched_code.proofs.Words.{after_plain, ap, arith, Bne, Bounded, bounded_on, bounded_one, ClrExtended}
+use Rattle.watched_code.proofs.Words.{false, fault_at, has, Instr, InstructionGoesOn, LdabImmediate, length, List}
+use Rattle.watched_code.proofs.Words.{Live, refl, Segment, segments_code, set, Setting, Stands, State, subst, true, ℕ}
 use Rattle.watched_code.proofs.watching.Adding.{IsShutAbove, AreSegments, Added, segments_run, sum_in, count_in, clr}
 use Rattle.watched_code.proofs.watching.Adding.{Step, ldab, addb, addb_zero, bne_on, bne_back}
-use Rattle.alone_code.specs.Settings.{Setting, Live, Stands, InstructionGoesOn}
 
 -- the check's last three instructions
 abbrev pub decision : ℕ → ℕ → List Instr

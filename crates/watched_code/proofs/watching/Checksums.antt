@@ -1,10 +1,8 @@
 -- One changed byte changes the sum; two may not.
-use Rattle.std.proofs.Common.{◌≡◌, ◌≢◌, ℕ, ◌+◌, ◌-◌, ◌%◌, ◌^◌, ◌<◌, [], ◌∷◌, get_or, set, refl, arith}
-use Rattle.std.specs.Prelude.{sum}
+use Rattle.watched_code.proofs.Words.{[], ◌%◌, ◌+◌, ◌-◌, ◌<◌, ◌^◌, ◌∷◌, ◌≡◌, ◌≢◌, All-cons, All-nil, arith}
+use Rattle.watched_code.proofs.Words.{check_byte, get_or, refl, set, sum, ℕ}
 use Rattle.std.proofs.lemmas.List.Sums.{sum_by-set}
-use Rattle.std.proofs.lemmas.List.Elements.{All-cons, All-nil}
 use Rattle.watched_code.specs.Checksums.{OneChangeIsSeen, TwoChangesMayPass, TwoChangesUnseen, UnchangedSumIsZero}
-use Rattle.watched_code.specs.Checksums.{check_byte}
 
 zero_mod : (n : ℕ) → (n + (256 - n % 256) % 256) % 256 ≡ 0
 zero_mod n = omega arith

@@ -1,19 +1,15 @@
 -- BAD: FAULT is set, and the outputs get their defaults.
-use Rattle.std.proofs.Common.{◌≡◌, ◌≢◌, false, ◌⊎◌, inl, inr, ⊎_elim, ℕ, zero, suc, ◌+◌, ◌*◌, ◌^◌, ◌<◌, ◌≤◌, List, []}
-use Rattle.std.proofs.Common.{◌∷◌, ◌++◌, length, get_or, set, refl, sym, ap, ◌∙◌, subst, arith, length-set}
-use Rattle.std.proofs.Common.{get_or-set_same, get_or-set_other, append_assoc}
-use Rattle.std.specs.Prelude.{Option, Some, None, option_map, slice_get}
-use Rattle.fz_num.specs.declared.dec.Dec.{Dec}
-use Rattle.fuzzy_meaning.specs.declared.block.Output.{Output}
-use Rattle.byte_scaling.specs.Cells.{nearest_byte}
-use Rattle.cpu12_isa.specs.declared.instr.Instr.{Instr}
-use Rattle.cpu12_isa.specs.declared.instr.Instr.TheVariants.{LdabImmediate, StabExtended}
-use Rattle.cpu12_parts.specs.{State.State, Whole.after_plain}
-use Rattle.watched_code.specs.WatchedCode.{default_code, defaults_code}
-use Rattle.watched_code.specs.Watched.{default_or, default_of}
-use Rattle.cpu12_parts.proofs.Algebra.{Bounded, bounded_none, bounded_one, bounded_on, bounded_more}
+use Rattle.watched_code.proofs.Words.{[], ◌*◌, ◌++◌, ◌+◌, ◌<◌, ◌^◌, ◌∙◌, ◌∷◌, ◌≡◌, ◌≢◌, ◌≤◌, ◌⊎◌, after_plain, ap}
+use Rattle.watched_code.proofs.Words.{arith, Bounded, bounded_none, bounded_on, bounded_one, Dec, default_code}
+use Rattle.watched_code.proofs.Words.{default_of, defaults_code, false, get_or, get_or-set_other, get_or-set_same}
+use Rattle.watched_code.proofs.Words.{inl, inr, Instr, InstructionGoesOn, LdabImmediate, length, length-set, List}
+use Rattle.watched_code.proofs.Words.{Live, nearest_byte, None, Option, option_map, Output, refl, set, Setting, Some}
+use Rattle.watched_code.proofs.Words.{StabExtended, Stands, State, subst, suc, sym, zero, ℕ, ⊎_elim}
+use Rattle.std.proofs.{Common.append_assoc}
+use Rattle.std.specs.{Prelude.slice_get}
+use Rattle.watched_code.specs.{Watched.default_or}
+use Rattle.cpu12_parts.proofs.{Algebra.bounded_more}
 use Rattle.watched_code.proofs.watching.Adding.{ldab, stab, Step}
-use Rattle.alone_code.specs.Settings.{Setting, Live, Stands, InstructionGoesOn}
 
 -- an output's default, where it has one
 abbrev pub default_byte : Output → Option ℕ

@@ -1,20 +1,14 @@
 -- What the calls that make the image rest on.
-use Rattle.std.proofs.Common.{◌≡◌, ℕ, zero, suc, ◌+◌, ◌<◌, ◌≤◌, List, [], ◌∷◌, ◌++◌, length, sum_by, All, get_or, sym}
-use Rattle.std.proofs.Common.{ap, ap₂, ◌∙◌, subst, arith}
-use Rattle.fuzzy_meaning.specs.{declared.block.Block.Block, declared.block.Output.Output, Blocks.IsValid}
-use Rattle.rule_layout.specs.declared.{flat.Flat.Flat, flat.Form.Form}
+use Rattle.watched_code.proofs.Words.{[], ◌++◌, ◌+◌, ◌<◌, ◌∙◌, ◌∷◌, ◌≡◌, ◌≤◌, All, All-cons, All-nil, ap, ap₂}
+use Rattle.watched_code.proofs.Words.{AreSegments, arith, Block, Byte, code_length, Form, form_of, get_or, HasParts}
+use Rattle.watched_code.proofs.Words.{Instr, instruction_bound, IsSegment, IsValid, length, List, main_map, MemoryMap}
+use Rattle.watched_code.proofs.Words.{Output, rule_bytes, Segment, segment, segment_bound, segments_of}
+use Rattle.watched_code.proofs.Words.{singleton_bytes, subst, suc, sum_by, sym, table_bytes, watched_bound}
+use Rattle.watched_code.proofs.Words.{watched_front, watched_front_over, weight_segments, weights_of, zero, ℕ}
+use Rattle.rule_layout.specs.{declared.flat.Flat.Flat, Layouts.flat_of, Layouts.FlatHasParts}
+use Rattle.eval_code.specs.{Data.rule_bytes_by}
 use Rattle.rule_layout.specs.declared.flat.Form.TheVariants as form
-use Rattle.rule_layout.specs.Layouts.{flat_of, form_of, weights_of, FlatHasParts}
-use Rattle.cpu12_isa.specs.declared.instr.Instr.{Instr}
-use Rattle.eval_code.specs.declared.memory_map.MemoryMap.{MemoryMap}
-use Rattle.eval_code.specs.Data.{table_bytes, singleton_bytes, rule_bytes_by, rule_bytes}
-use Rattle.byte_scaling.specs.declared.width.Width.TheVariants.{Byte}
-use Rattle.eval_code.specs.{MemoryMaps.main_map, Bounds.instruction_bound, Placed.HasParts}
-use Rattle.watched_code.specs.{declared.segments.Segment.Segment, Watched.segment_bound, Watched.watched_bound}
 use Rattle.watched_code.proofs.{watching.Answering.short_front, watching.Fronts.length-le}
-use Rattle.watched_code.specs.WatchedCode.{IsSegment, AreSegments, segment, weight_segments, segments_of, code_length}
-use Rattle.watched_code.specs.WatchedCode.{watched_front, watched_front_over}
-use Rattle.std.proofs.lemmas.List.Elements.{All-cons, All-nil}
 
 segment_at : (gs : List Segment) (i : ℕ) (g : Segment) → i < length gs → AreSegments gs → IsSegment (get_or gs i g)
 segment_at [] i g lt h = absurd (omega arith)

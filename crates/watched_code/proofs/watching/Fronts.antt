@@ -1,22 +1,17 @@
 -- The code before EVAL of a firmware with watched tables: its size, and where it stands.
-use Rattle.std.proofs.Common.{◌≡◌, false, ℕ, suc, ◌+◌, ◌-◌, ◌*◌, ◌^◌, ◌<◌, ◌≤◌, List, [], ◌∷◌, ◌++◌, length, All, refl}
-use Rattle.std.proofs.Common.{ap, ◌∙◌, subst, arith, length-append}
-use Rattle.std.specs.Prelude.{Option, Some, None, IfSome, option_map}
+use Rattle.watched_code.proofs.Words.{[], ◌*◌, ◌++◌, ◌+◌, ◌-◌, ◌<◌, ◌^◌, ◌∙◌, ◌∷◌, ◌≡◌, ◌≤◌, All, ap, arith, bad_code}
+use Rattle.watched_code.proofs.Words.{check_byte, ClrExtended, code_bytes, code_length, Dec, default_code}
+use Rattle.watched_code.proofs.Words.{defaults_code, encode_of, false, fault_at, FitCode, FrameCallsAndLeaves}
+use Rattle.watched_code.proofs.Words.{HasBytes, Instr, InstructionsStand, IsApart, LdabImmediate, length}
+use Rattle.watched_code.proofs.Words.{length-append, List, MemoryMap, nearest_byte, NearestIsByte, None, Option}
+use Rattle.watched_code.proofs.Words.{option_map, Output, refl, Rts, Segment, segment_bytes, segment_code}
+use Rattle.watched_code.proofs.Words.{segments_code, Setting, Some, Stands, subst, suc, watched_front_over, ℕ}
+use Rattle.cpu12_isa.specs.declared.instr.Instr.TheVariants.{LdaaExtended, Beq, Bra, JsrExtended, Rti}
+use Rattle.watched_code.specs.WatchedCode.{back_to_bad, check_code, bad_at, check_at}
+use Rattle.std.specs.{Prelude.IfSome}
+use Rattle.fuzzy_meaning.specs.{Blocks.IsValidOutput, Blocks.IsWithin}
+use Rattle.alone_code.specs.{Code.frame_code, Frames.IsStarted, Frames.start_code, Frames.IsFramed}
 use Rattle.std.proofs.lemmas.Grind.{flat_map-append}
-use Rattle.fz_num.specs.declared.dec.Dec.{Dec}
-use Rattle.fuzzy_meaning.specs.{declared.block.Output.Output, Blocks.IsValidOutput, Blocks.IsWithin}
-use Rattle.byte_scaling.specs.Cells.{nearest_byte, NearestIsByte}
-use Rattle.cpu12_isa.specs.{declared.instr.Instr.Instr, Code.encode_of}
-use Rattle.cpu12_isa.specs.declared.instr.Instr.TheVariants.{LdaaExtended, LdabImmediate, ClrExtended, Beq, Bra}
-use Rattle.cpu12_isa.specs.declared.instr.Instr.TheVariants.{JsrExtended, Rts, Rti}
-use Rattle.eval_code.specs.declared.memory_map.MemoryMap.{MemoryMap}
-use Rattle.eval_code.specs.{Items.IsApart, Evaluation.HasBytes, Code.code_bytes, Code.FitCode}
-use Rattle.watched_code.specs.{declared.segments.Segment.Segment, Checksums.check_byte}
-use Rattle.watched_code.specs.WatchedCode.{segment_bytes, code_length, default_code, defaults_code, bad_code}
-use Rattle.watched_code.specs.WatchedCode.{segment_code, segments_code, back_to_bad, check_code, bad_at, check_at}
-use Rattle.watched_code.specs.WatchedCode.{watched_front_over, fault_at}
-use Rattle.alone_code.specs.{Code.frame_code, Settings.InstructionsStand, Settings.Setting, Settings.Stands}
-use Rattle.alone_code.specs.Frames.{IsStarted, start_code, IsFramed, FrameCallsAndLeaves}
 use Rattle.eval_code.proofs.Algebra.{length-le-code_size, length-code_bytes, bytes_front, bytes_back, fit_append}
 use Rattle.watched_code.proofs.watching.Adding.{IsShutAbove, AreSegments}
 use Rattle.watched_code.proofs.watching.Checking.{HasCheck, decision}

@@ -1,26 +1,21 @@
 -- The firmware of a block with watched tables answers every list of samples, with a byte of its tables changed in each.
-use Rattle.std.proofs.Common.{◌≡◌, ◌≢◌, inl, inr, ℕ, suc, ◌+◌, ◌-◌, ◌*◌, ◌%◌, ◌^◌, ◌<◌, ◌≤◌, Bool, true, false, List}
-use Rattle.std.proofs.Common.{[], ◌∷◌, length, All, get_or, set, refl, sym, ap, ◌∙◌, subst, arith, length-set}
-use Rattle.std.proofs.Common.{get_or-set_same, get_or-set_other}
-use Rattle.std.specs.Prelude.{◌==◌, not, Option, Some, None, if◌then◌else◌}
-use Rattle.std.proofs.lemmas.Bool.{cases_eq}
-use Rattle.std.proofs.lemmas.Bool.Decides.{nat_tests}
+use Rattle.watched_code.proofs.Words.{[], ◌%◌, ◌*◌, ◌+◌, ◌-◌, ◌<◌, ◌==◌, ◌^◌, ◌∙◌, ◌∷◌, ◌≡◌, ◌≢◌, ◌≤◌, All, answer}
+use Rattle.watched_code.proofs.Words.{ap, AreInputBytes, AreWatchAnswered, arith, Block, Bool, Byte, bytes_set_out}
+use Rattle.watched_code.proofs.Words.{cases_eq, Change, check_byte, code_bytes, code_length, default_of, Execution}
+use Rattle.watched_code.proofs.Words.{false, fault_at, get_or, get_or-set_other, get_or-set_same, HasBytes}
+use Rattle.watched_code.proofs.Words.{HasRoutine, Home, if◌then◌else◌, inl, inr, instruction_bound, is_free, IsApart}
+use Rattle.watched_code.proofs.Words.{IsInterruptibleStep, IsValid, IsWithinLimits, length, length-set, List, Live}
+use Rattle.watched_code.proofs.Words.{nat_tests, None, not, Option, output_at, refl, SameHigh, Segment, segment_bytes}
+use Rattle.watched_code.proofs.Words.{set, Setting, Some, State, subst, suc, sym, true, Watched, watched_front_over}
+use Rattle.watched_code.proofs.Words.{ℕ}
+use Rattle.watched_code.specs.Watched.{changed, is_upset, watched_answer, watched_fault, upset_given, restored}
+use Rattle.watched_code.specs.Watched.{IsWatchAnswered}
+use Rattle.eval_code.proofs.Algebra.{bytes_after_set, bytes_put_out, has_put, length-put}
+use Rattle.cpu12_isa.specs.{Fits.AreBytes}
+use Rattle.alone_code.specs.{Interruptible.IsInterruptible, Answers.given}
+use Rattle.eval_code.specs.{Evaluation.put}
 use Rattle.std.proofs.lemmas.List.{set-get_or}
-use Rattle.fuzzy_meaning.specs.{declared.block.Block.Block, Blocks.IsValid, Blocks.output_at}
-use Rattle.rule_layout.specs.Layouts.{IsWithinLimits}
-use Rattle.cpu12_isa.specs.{Fits.AreBytes, Regions.is_free}
-use Rattle.cpu12_parts.specs.{State.State, Executions.Execution}
-use Rattle.alone_code.specs.{Interruptible.IsInterruptible, Interruptible.IsInterruptibleStep, Answers.given}
-use Rattle.alone_code.specs.{Calls.HasRoutine, Frames.Home, Settings.Setting, Settings.Live}
-use Rattle.watched_code.specs.{declared.segments.Segment.Segment, Checksums.check_byte}
 use Rattle.watched_code.proofs.{watching.Defaults.FitDefaults, watching.Tables.sum_high, watching.Laws.WatchingLaws}
-use Rattle.watched_code.specs.WatchedCode.{segment_bytes, fault_at, watched_front_over, code_length}
-use Rattle.watched_code.specs.Watched.{Change, changed, is_upset, Watched, default_of, watched_answer, watched_fault}
-use Rattle.watched_code.specs.Watched.{upset_given, restored, IsWatchAnswered, AreWatchAnswered}
-use Rattle.byte_scaling.specs.declared.width.Width.TheVariants.{Byte}
-use Rattle.eval_code.specs.{Widths.answer, Bounds.instruction_bound}
-use Rattle.eval_code.specs.{Items.IsApart, Firing.AreInputBytes, Evaluation.HasBytes, Evaluation.put, Code.code_bytes}
-use Rattle.eval_code.proofs.Algebra.{SameHigh, bytes_set_out, bytes_after_set, bytes_put_out, has_put, length-put}
 use Rattle.watched_code.proofs.watching.Adding.{IsShutAbove, AreSegments, sum_in, count_in}
 use Rattle.watched_code.proofs.watching.Segments.{Apart, In, Stand, stand_passes, change_fails}
 use Rattle.watched_code.proofs.watching.Sampling.{Watches, IsGiven, WatchSampled, answered_well, answered_badly}

@@ -1,11 +1,11 @@
 -- What a firmware with watched tables rests on.
-use Rattle.byte_scaling.specs.Cells.{NearestIsByte}
+use Rattle.watched_code.proofs.Words.{BlockGivesAtParts, FrameCallsAndLeaves, FreeBytesLeave, InstructionGoesOn}
+use Rattle.watched_code.proofs.Words.{InstructionsStand, NearestIsByte}
+use Rattle.eval_code.specs.{Placed.BlockHasParts}
+use Rattle.alone_code.specs.{Calls.CalledEvalReturns, Standing.ImageHasFirmware, Frames.StartArrives}
+use Rattle.alone_code.specs.{Settings.ReturnGoesOn, Settings.LiveIsInterruptible}
 use Rattle.cpu12_isa.specs.Fits.{StaysFit}
-use Rattle.eval_code.specs.Placed.{BlockHasParts, BlockGivesAtParts}
 use Rattle.eval_code.specs.Standing.{DecodesWhereItStands, CodeIsBytes}
-use Rattle.alone_code.specs.{Answers.FreeBytesLeave, Calls.CalledEvalReturns, Standing.ImageHasFirmware}
-use Rattle.alone_code.specs.Frames.{FrameCallsAndLeaves, StartArrives}
-use Rattle.alone_code.specs.Settings.{InstructionsStand, InstructionGoesOn, ReturnGoesOn, LiveIsInterruptible}
 use Rattle.alone_code.specs.Settings.{LiveIsIdle, GivenIsLive}
 
 -- the laws of lower crates

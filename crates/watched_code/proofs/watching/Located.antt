@@ -1,21 +1,16 @@
 -- Where the bytes of an image lie from the tables on: in its segments.
-use Rattle.std.proofs.Common.{◌≡◌, ◌≢◌, inl, inr, ℕ, ◌+◌, ◌<◌, ◌≤◌, false, List, [], ◌∷◌, ◌++◌, map, length, None, refl, arith}
+use Rattle.watched_code.proofs.Words.{[], ◌++◌, ◌+◌, ◌<◌, ◌∷◌, ◌≡◌, ◌≢◌, ◌≤◌, arith, Block, block_code, block_items}
+use Rattle.watched_code.proofs.Words.{BlockGivesAtParts, bytes_of_word, code_bytes, false, Form, form_of, given_by}
+use Rattle.watched_code.proofs.Words.{inl, inr, Instr, length, List, map, MemoryMap, nat_tests, refl, rule_bytes}
+use Rattle.watched_code.proofs.Words.{Segment, segment, segments_of, vector_items, weight_bytes_by, weight_segments}
+use Rattle.watched_code.proofs.Words.{weights_of, ℕ}
+use Rattle.std.proofs.{Common.None}
+use Rattle.cpu12_asm.specs.{declared.items.Item.TheVariants.Byte, Bytes.byte_at}
+use Rattle.eval_code.specs.{Items.bytes_at}
 use Rattle.std.proofs.Common.{nat_cmp}
 use Rattle.std.specs.BTreeMap.{is_at}
-use Rattle.std.proofs.lemmas.Bool.Decides.{nat_tests}
-use Rattle.fuzzy_meaning.specs.declared.block.Block.{Block}
-use Rattle.rule_layout.specs.declared.flat.Form.{Form}
 use Rattle.rule_layout.specs.declared.flat.Form.TheVariants as form
-use Rattle.rule_layout.specs.Layouts.{form_of, weights_of}
-use Rattle.cpu12_isa.specs.declared.instr.Instr.{Instr}
-use Rattle.cpu12_asm.specs.{declared.items.Item.TheVariants.Byte, Bytes.byte_at, Items.given_by}
-use Rattle.eval_code.specs.declared.memory_map.MemoryMap.{MemoryMap}
-use Rattle.eval_code.specs.{Data.weight_bytes_by, Data.rule_bytes, Data.bytes_of_word, Placed.BlockGivesAtParts}
 use Rattle.byte_scaling.specs.declared.width.Width.{Width}
-use Rattle.eval_code.specs.{Code.block_code, Code.code_bytes, Items.bytes_at, Items.block_items}
-use Rattle.watched_code.specs.declared.segments.Segment.{Segment}
-use Rattle.watched_code.specs.WatchedCode.{segment, weight_segments, segments_of}
-use Rattle.alone_code.specs.Images.{vector_items}
 use Rattle.watched_code.proofs.watching.Segments.{Within, In}
 
 -- nothing below the vectors is one of their bytes

@@ -1,31 +1,21 @@
 -- A sample of a firmware with watched tables, from where the code waits back to there.
-use Rattle.std.proofs.Common.{length-append}
-use Rattle.std.proofs.Common.{◌≡◌, inl, inr, ℕ, ◌+◌, ◌-◌, ◌*◌, ◌/◌, ◌%◌, ◌^◌, ◌<◌, ◌≤◌, true, false, List, [], ◌∷◌}
-use Rattle.std.proofs.Common.{◌++◌, length, set, get_or, sum_by, refl, sym, ap, ap₂, ◌∙◌, subst, arith, length-set}
-use Rattle.std.proofs.Common.{get_or-set_same, get_or-set_other}
-use Rattle.std.specs.Prelude.{◌==◌, Option, Some, None}
-use Rattle.std.proofs.lemmas.List.Sums.{sum_by-cons}
-use Rattle.fz_num.specs.declared.dec.Dec.{Dec}
-use Rattle.fuzzy_meaning.specs.declared.{block.Block.Block, block.Output.Output}
-use Rattle.fuzzy_meaning.specs.Blocks.{IsValid, output_at}
-use Rattle.rule_layout.specs.Layouts.{IsWithinLimits}
-use Rattle.cpu12_isa.specs.declared.instr.Instr.{Instr}
-use Rattle.cpu12_isa.specs.declared.instr.Instr.TheVariants.{Rts, LdabImmediate, StabExtended}
-use Rattle.cpu12_parts.specs.{State.State, Rules.Rule, Rules.Form, Whole.after_plain}
-use Rattle.cpu12_parts.specs.Executions.{Execution, all_steps}
-use Rattle.eval_code.specs.declared.memory_map.MemoryMap.{MemoryMap}
-use Rattle.byte_scaling.specs.declared.width.Width.TheVariants.{Byte}
-use Rattle.eval_code.specs.{Widths.answer, Bounds.output_bound, Bounds.instruction_bound, Bounds.steps_by}
-use Rattle.eval_code.specs.{Items.IsApart, Firing.AreInputBytes, Evaluation.HasBytes, Evaluation.HasAnswers}
-use Rattle.watched_code.specs.{declared.segments.Segment.Segment, Checksums.check_byte, Watched.default_of}
+use Rattle.watched_code.proofs.Words.{[], ◌%◌, ◌*◌, ◌++◌, ◌+◌, ◌-◌, ◌<◌, ◌==◌, ◌^◌, ◌∙◌, ◌∷◌, ◌≡◌, ◌≤◌, after_plain}
+use Rattle.watched_code.proofs.Words.{answer, ap, ap₂, AreInputBytes, arith, bad_code, Block, Bounded, bounded_on}
+use Rattle.watched_code.proofs.Words.{bounded_one, Byte, bytes_set_out, check_byte, Dec, default_of, defaults_code}
+use Rattle.watched_code.proofs.Words.{Execution, false, fault_at, get_or, get_or-set_other, get_or-set_same, HasBytes}
+use Rattle.watched_code.proofs.Words.{HasRoutine, Home, inl, inr, Instr, instruction_bound, InstructionGoesOn}
+use Rattle.watched_code.proofs.Words.{IsApart, IsValid, IsWithinLimits, LdabImmediate, length, length-append}
+use Rattle.watched_code.proofs.Words.{length-set, List, Live, MemoryMap, None, Option, Output, output_at, refl, Rts}
+use Rattle.watched_code.proofs.Words.{Segment, segment_bytes, set, Setting, Some, StabExtended, Stands, State}
+use Rattle.watched_code.proofs.Words.{steps_by, subst, sum_by, sum_by-cons, sym, true, ℕ}
+use Rattle.std.proofs.{Common.◌/◌}
+use Rattle.cpu12_parts.specs.{Rules.Rule, Rules.Form, Executions.all_steps}
+use Rattle.eval_code.specs.{Bounds.output_bound, Evaluation.HasAnswers}
+use Rattle.alone_code.specs.{Calls.IsInCode, Calls.IsCalled, Calls.Back, Frames.CallsAndLeaves, Frames.Called}
+use Rattle.alone_code.specs.{Frames.Left}
+use Rattle.cpu12_parts.proofs.{Algebra.execution_on, Algebra.steps_append}
 use Rattle.watched_code.proofs.{watching.Segments.Apart, watching.Segments.sum_below, watching.Laws.WatchingLaws}
-use Rattle.watched_code.specs.WatchedCode.{bad_code, defaults_code, fault_at, segment_bytes}
 use Rattle.alone_code.specs.Interruptible.{IsShownInstruction, IsShownRules}
-use Rattle.alone_code.specs.Calls.{HasRoutine, IsInCode, IsCalled, Back}
-use Rattle.alone_code.specs.Frames.{CallsAndLeaves, Home, Called, Left}
-use Rattle.alone_code.specs.Settings.{Setting, Live, Stands, InstructionGoesOn}
-use Rattle.cpu12_parts.proofs.Algebra.{Bounded, bounded_one, bounded_on, execution_on, steps_append}
-use Rattle.eval_code.proofs.Algebra.{bytes_set_out}
 use Rattle.alone_code.proofs.Algebra.{pushed_word}
 use Rattle.watched_code.proofs.watching.Adding.{sum_in, count_in, Step}
 use Rattle.watched_code.proofs.watching.Checking.{HasCheck, Leads, passed, failed}

@@ -1,13 +1,9 @@
 -- What stands where segments are, summed.
-use Rattle.std.proofs.Common.{◌≡◌, ◌≢◌, ◌⊎◌, inl, inr, ⊎_elim, ℕ, zero, suc, ◌+◌, ◌%◌, ◌^◌, ◌<◌, ◌≤◌, false, true, List}
-use Rattle.std.proofs.Common.{[], ◌∷◌, length, get_or, set, refl, sym, ap, ap₂, ◌∙◌, arith, get_or-set_same}
-use Rattle.std.proofs.Common.{get_or-set_other}
-use Rattle.std.specs.Prelude.{◌==◌, sum}
-use Rattle.std.proofs.lemmas.Bool.{cases_eq}
-use Rattle.std.proofs.lemmas.Bool.Decides.{nat_tests}
-use Rattle.std.proofs.lemmas.List.Sums.{sum_by-cons, sum_by-append}
-use Rattle.eval_code.specs.Evaluation.{HasBytes}
-use Rattle.watched_code.specs.{Checksums.check_byte, WatchedCode.segment_bytes, declared.segments.Segment.Segment}
+use Rattle.watched_code.proofs.Words.{[], ◌%◌, ◌+◌, ◌<◌, ◌==◌, ◌^◌, ◌∙◌, ◌∷◌, ◌≡◌, ◌≢◌, ◌≤◌, ◌⊎◌, ap, ap₂, arith}
+use Rattle.watched_code.proofs.Words.{cases_eq, check_byte, false, get_or, get_or-set_other, get_or-set_same}
+use Rattle.watched_code.proofs.Words.{HasBytes, inl, inr, length, List, nat_tests, refl, Segment, segment_bytes, set}
+use Rattle.watched_code.proofs.Words.{suc, sum, sum_by-cons, sym, true, zero, ℕ, ⊎_elim}
+use Rattle.std.proofs.{lemmas.List.Sums.sum_by-append}
 use Rattle.watched_code.proofs.watching.Adding.{sum_from, sum_in}
 use Rattle.watched_code.proofs.watching.Checksums.{unchanged_sum_is_zero, other_sum}
 

@@ -1,15 +1,10 @@
 -- The segments of a block's image: where they lie, and that they stand.
-use Rattle.std.proofs.Common.{◌≡◌, ℕ, zero, suc, ◌+◌, ◌≤◌, List, [], ◌∷◌, ◌++◌, length, sum_by, refl, ap₂, arith}
-use Rattle.std.proofs.lemmas.List.Sums.{sum_by-cons}
-use Rattle.fuzzy_meaning.specs.declared.block.Block.{Block}
-use Rattle.rule_layout.specs.declared.flat.Form.{Form}
+use Rattle.watched_code.proofs.Words.{[], ◌++◌, ◌+◌, ◌∷◌, ◌≡◌, ◌≤◌, ap₂, arith, Block, Form, form_of, HasBytes}
+use Rattle.watched_code.proofs.Words.{HasParts, length, List, main_map, refl, rule_bytes, SameHigh, Segment, segment}
+use Rattle.watched_code.proofs.Words.{segment_bound, segments_of, singleton_bytes, suc, sum_by, sum_by-cons}
+use Rattle.watched_code.proofs.Words.{table_bytes, weight_bytes_by, weight_segments, weights_of, zero, ℕ}
+use Rattle.eval_code.specs.{Data.weight_bytes}
 use Rattle.rule_layout.specs.declared.flat.Form.TheVariants as form
-use Rattle.rule_layout.specs.Layouts.{form_of, weights_of}
-use Rattle.watched_code.specs.{declared.segments.Segment.Segment, Watched.segment_bound}
-use Rattle.watched_code.specs.WatchedCode.{segment, weight_segments, segments_of}
-use Rattle.eval_code.specs.{MemoryMaps.main_map, Evaluation.HasBytes, Placed.HasParts}
-use Rattle.eval_code.specs.Data.{table_bytes, singleton_bytes, weight_bytes_by, weight_bytes, rule_bytes}
-use Rattle.eval_code.proofs.Algebra.{SameHigh}
 use Rattle.watched_code.proofs.watching.Adding.{AreSegments, sum_from, sum_in, count_in}
 use Rattle.watched_code.proofs.watching.Segments.{Apart, Stand}
 

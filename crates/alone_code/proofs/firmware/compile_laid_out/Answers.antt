@@ -1,9 +1,7 @@
-use Rattle.std.proofs.Common.{◌≡◌, ◌<◌, ◌^◌, Bool, List, length, refl, sym, ap, ◌∙◌, subst, rules}
-use Rattle.cpu12_asm.specs.{declared.items.Item.Item, Items.IsRising}
-use Rattle.byte_scaling.specs.declared.{width.Width.Width, width.Width.TheVariants.Byte, width.Width.TheVariants.Word}
-use Rattle.byte_scaling.specs.Widths.{width_of, is_wide}
-use Rattle.eval_code.specs.{MemoryMaps.main_map, Bounds.instruction_bound, Bounds.steps_by}
-use Rattle.alone_code.specs.Images.{firmware_items, IsImageOf}
+use Rattle.alone_code.proofs.Words.{◌<◌, ◌^◌, ◌∙◌, ◌≡◌, ap, Bool, Byte, firmware_items, instruction_bound, IsImageOf}
+use Rattle.alone_code.proofs.Words.{IsRising, Item, length, List, main_map, refl, rules, steps_by, subst, sym, Width}
+use Rattle.alone_code.proofs.Words.{width_of, Word}
+use Rattle.byte_scaling.specs.{Widths.is_wide}
 use Rattle.alone_code.proofs.runs.Law.{main_rises, length-main_items}
 use Rattle.alone_code.proofs.firmware.compile_laid_out.Goals as goal
 

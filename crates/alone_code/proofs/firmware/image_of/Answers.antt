@@ -1,4 +1,4 @@
-use Rattle.std.proofs.Common.{◌≡◌, true, false, sym, ◌∙◌}
+use Rattle.alone_code.proofs.Words.{◌∙◌, ◌≡◌, false, sym, true}
 use Rattle.alone_code.proofs.firmware.image_of.Goals as goal
 use Rattle.alone_code.proofs.firmware.image_of.Goals.{in-Memory, in_default}
 

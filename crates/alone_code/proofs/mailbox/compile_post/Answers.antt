@@ -1,9 +1,5 @@
-use Rattle.std.proofs.Common.{◌≡◌, ◌<◌, ◌^◌, List, length, sym, ap, ◌∙◌, subst, rules}
-use Rattle.fuzzy_meaning.specs.declared.block.Block.{Block}
-use Rattle.cpu12_asm.specs.{declared.items.Item.Item, Items.IsRising}
-use Rattle.eval_code.specs.declared.memory_map.MemoryMap.{MemoryMap}
-use Rattle.byte_scaling.specs.declared.width.Width.TheVariants.{Byte}
-use Rattle.alone_code.specs.Mailboxes.{mailbox_map, mailbox_items}
+use Rattle.alone_code.proofs.Words.{◌<◌, ◌^◌, ◌∙◌, ◌≡◌, ap, Block, Byte, IsRising, Item, length, List, mailbox_items}
+use Rattle.alone_code.proofs.Words.{mailbox_map, MemoryMap, rules, subst, sym}
 use Rattle.alone_code.proofs.turns.Founding.{length-mailbox_items, mailbox_rises}
 use Rattle.alone_code.proofs.mailbox.compile_post.Goals as goal
 

@@ -1,6 +1,6 @@
-use Rattle.std.proofs.Common.{◌+◌, List, [], ◌∷◌, ◌++◌, ap, sym, ◌∙◌, append_assoc, add-one}
-use Rattle.cpu12_isa.specs.declared.{instr.Instr.Instr, instr.Instr.TheVariants.MovbExtended}
-use Rattle.alone_code.specs.Mailboxes.{copy_code}
+use Rattle.alone_code.proofs.Words.{[], ◌++◌, ◌+◌, ◌∙◌, ◌∷◌, ap, append_assoc, copy_code, Instr, List, MovbExtended}
+use Rattle.alone_code.proofs.Words.{sym}
+use Rattle.std.proofs.{Common.add-one}
 use Rattle.alone_code.proofs.turns.Founding.{copy_more}
 use Rattle.alone_code.proofs.mailbox.push_copies.Goals as goal
 

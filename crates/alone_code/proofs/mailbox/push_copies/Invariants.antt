@@ -1,5 +1,4 @@
-use Rattle.std.proofs.Common.{◌≡◌, ◌++◌}
-use Rattle.alone_code.specs.Mailboxes.{copy_code}
+use Rattle.alone_code.proofs.Words.{◌++◌, ◌≡◌, copy_code}
 use Rattle.alone_code.proofs.mailbox.push_copies.Given as goal
 
 abbrev pub invariant-loop-at : goal.invariant-loop-at

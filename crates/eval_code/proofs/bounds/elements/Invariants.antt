@@ -1,5 +1,4 @@
-use Rattle.std.proofs.Common.{◌≡◌, take, sum_by}
-use Rattle.eval_code.specs.Bounds.{entry_count}
+use Rattle.eval_code.proofs.Words.{◌≡◌, entry_count, sum_by, take}
 use Rattle.eval_code.proofs.bounds.elements.Given as goal
 
 abbrev pub invariant-loop-conjunction : goal.invariant-loop-conjunction

@@ -1,6 +1,6 @@
-use Rattle.std.proofs.Common.{◌≡◌, length, sum_by, ap, ◌∙◌, arith}
-use Rattle.rule_layout.specs.{Slots.slots_of, Slots.term_count, Slots.singleton_count, Layouts.form_of}
-use Rattle.eval_code.specs.Bounds.{input_term_count, output_term_count, output_bound, form_bound, instruction_bound}
+use Rattle.eval_code.proofs.Words.{◌∙◌, ◌≡◌, ap, arith, form_bound, form_of, input_term_count, instruction_bound}
+use Rattle.eval_code.proofs.Words.{length, output_bound, output_term_count, singleton_count, slots_of, sum_by}
+use Rattle.eval_code.proofs.Words.{term_count}
 use Rattle.eval_code.proofs.bounds.instruction_bound.Goals as goal
 
 pub returns-clause-value : goal.returns-clause-value

@@ -1,5 +1,4 @@
-use Rattle.std.proofs.Common.{◌≡◌, ◌*◌, ◌≤◌, take, sum_by}
-use Rattle.eval_code.specs.Bounds.{output_bound}
+use Rattle.eval_code.proofs.Words.{◌*◌, ◌≡◌, ◌≤◌, output_bound, sum_by, take}
 use Rattle.eval_code.proofs.bounds.output_bounds.Given as goal
 
 abbrev pub invariant-loop-output : goal.invariant-loop-output

@@ -1,5 +1,4 @@
-use Rattle.std.proofs.Common.{◌≡◌, ◌*◌, ◌≤◌, take, sum_by}
-use Rattle.rule_layout.specs.Slots.{singleton_count}
+use Rattle.eval_code.proofs.Words.{◌*◌, ◌≡◌, ◌≤◌, singleton_count, sum_by, take}
 use Rattle.eval_code.proofs.bounds.output_terms.Given as goal
 
 abbrev pub invariant-loop-output : goal.invariant-loop-output

@@ -1,6 +1,5 @@
-use Rattle.std.proofs.Common.{◌≡◌, sum_by, ap, ◌∙◌, arith}
-use Rattle.rule_layout.specs.Slots.{singleton_count}
-use Rattle.eval_code.specs.Bounds.{output_term_count, entry_count, element_count, steps_by}
+use Rattle.eval_code.proofs.Words.{◌∙◌, ◌≡◌, ap, arith, element_count, entry_count, output_term_count}
+use Rattle.eval_code.proofs.Words.{singleton_count, steps_by, sum_by}
 use Rattle.eval_code.proofs.Placement.{element_count-le}
 use Rattle.eval_code.proofs.bounds.steps_by.Goals as goal
 

@@ -1,5 +1,4 @@
-use Rattle.std.proofs.Common.{◌≡◌, ◌++◌, map, take}
-use Rattle.cpu12_asm.specs.declared.items.Item.TheVariants.{Op}
+use Rattle.eval_code.proofs.Words.{◌++◌, ◌≡◌, map, Op, take}
 use Rattle.eval_code.proofs.code.push_code.Given as goal
 
 abbrev pub invariant-loop-instruction : goal.invariant-loop-instruction

@@ -1,5 +1,4 @@
-use Rattle.std.proofs.Common.{◌≡◌, ◌++◌, map, replicate}
-use Rattle.cpu12_asm.specs.declared.items.Item.TheVariants.{Op}
+use Rattle.eval_code.proofs.Words.{◌++◌, ◌≡◌, map, Op, replicate}
 use Rattle.eval_code.proofs.code.push_copies.Given as goal
 
 abbrev pub invariant-loop-turn : goal.invariant-loop-turn

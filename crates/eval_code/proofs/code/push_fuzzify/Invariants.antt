@@ -1,6 +1,4 @@
-use Rattle.std.proofs.Common.{◌≡◌, ◌+◌, ◌++◌, map, drop}
-use Rattle.cpu12_asm.specs.declared.items.Item.TheVariants.{Op}
-use Rattle.eval_code.specs.Code.{fuzzify_code}
+use Rattle.eval_code.proofs.Words.{◌++◌, ◌+◌, ◌≡◌, drop, fuzzify_code, map, Op}
 use Rattle.eval_code.proofs.code.push_fuzzify.Given as goal
 
 abbrev pub invariant-loop-input : goal.invariant-loop-input

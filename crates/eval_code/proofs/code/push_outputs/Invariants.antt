@@ -1,6 +1,4 @@
-use Rattle.std.proofs.Common.{◌≡◌, ◌+◌, ◌*◌, ◌≤◌, ◌++◌, map, drop}
-use Rattle.cpu12_asm.specs.declared.items.Item.TheVariants.{Op}
-use Rattle.eval_code.specs.Code.{outputs_code}
+use Rattle.eval_code.proofs.Words.{◌*◌, ◌++◌, ◌+◌, ◌≡◌, ◌≤◌, drop, map, Op, outputs_code}
 use Rattle.eval_code.proofs.code.push_outputs.Given as goal
 
 abbrev pub invariant-loop-output : goal.invariant-loop-output

@@ -1,5 +1,4 @@
-use Rattle.std.proofs.Common.{◌≡◌, take, sum_by}
-use Rattle.rule_layout.specs.Slots.{term_count}
+use Rattle.eval_code.proofs.Words.{◌≡◌, sum_by, take, term_count}
 use Rattle.eval_code.proofs.code.terms_before.Given as goal
 
 abbrev pub invariant-loop-input : goal.invariant-loop-input

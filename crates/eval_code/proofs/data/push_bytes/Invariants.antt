@@ -1,5 +1,4 @@
-use Rattle.std.proofs.Common.{◌≡◌, ◌++◌, map, take}
-use Rattle.cpu12_asm.specs.declared.items.Item.TheVariants.{Byte}
+use Rattle.eval_code.proofs.Words.{◌++◌, ◌≡◌, Byte, map, take}
 use Rattle.eval_code.proofs.data.push_bytes.Given as goal
 
 abbrev pub invariant-loop-byte : goal.invariant-loop-byte

@@ -1,5 +1,4 @@
-use Rattle.std.proofs.Common.{◌≡◌, ◌++◌, map, take, flat_map}
-use Rattle.cpu12_asm.specs.declared.items.Item.TheVariants.{Byte}
+use Rattle.eval_code.proofs.Words.{◌++◌, ◌≡◌, Byte, flat_map, map, take}
 use Rattle.eval_code.proofs.data.push_tables.Given as goal
 
 abbrev pub invariant-loop-row : goal.invariant-loop-row

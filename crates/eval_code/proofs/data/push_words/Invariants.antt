@@ -1,6 +1,4 @@
-use Rattle.std.proofs.Common.{◌≡◌, ◌++◌, map, take, flat_map}
-use Rattle.cpu12_asm.specs.declared.items.Item.TheVariants.{Byte}
-use Rattle.eval_code.specs.Data.{bytes_of_word}
+use Rattle.eval_code.proofs.Words.{◌++◌, ◌≡◌, Byte, bytes_of_word, flat_map, map, take}
 use Rattle.eval_code.proofs.data.push_words.Given as goal
 
 abbrev pub invariant-loop-word : goal.invariant-loop-word

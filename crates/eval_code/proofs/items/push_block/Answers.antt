@@ -1,6 +1,4 @@
-use Rattle.std.proofs.Common.{◌++◌, map, flat_map, ap, ◌∙◌}
-use Rattle.cpu12_asm.specs.declared.items.Item.TheVariants.{Op, Byte}
-use Rattle.eval_code.specs.{Code.eval_code, Data.singleton_bytes_of}
+use Rattle.eval_code.proofs.Words.{◌++◌, ◌∙◌, ap, Byte, eval_code, flat_map, map, Op, singleton_bytes_of}
 use Rattle.eval_code.proofs.Joins.{eval_code_over-flat, three_pieces, rule_data-flat, block_items-parts}
 use Rattle.eval_code.proofs.items.push_block.Goals as goal
 

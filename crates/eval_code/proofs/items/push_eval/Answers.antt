@@ -1,7 +1,5 @@
-use Rattle.std.proofs.Common.{◌≡◌, ◌+◌, [], ◌∷◌, ◌++◌, map, ap, ◌∙◌, arith}
-use Rattle.cpu12_asm.specs.declared.items.Item.TheVariants.{Op}
-use Rattle.cpu12_isa.specs.declared.instr.Instr.TheVariants.{LdxImmediate, LdyImmediate}
-use Rattle.eval_code.specs.Code.{fuzzify_code, slots_code, rules_code, outputs_code, input_slots}
+use Rattle.eval_code.proofs.Words.{[], ◌++◌, ◌+◌, ◌∙◌, ◌∷◌, ◌≡◌, ap, arith, fuzzify_code, input_slots, LdxImmediate}
+use Rattle.eval_code.proofs.Words.{LdyImmediate, map, Op, outputs_code, rules_code, slots_code}
 use Rattle.eval_code.proofs.Joins.{five_pieces, sum_by-term_count}
 use Rattle.eval_code.proofs.items.push_eval.Goals as goal
 

@@ -1,7 +1,5 @@
-use Rattle.std.proofs.Common.{◌-◌, ◌≡◌, ◌<◌, ◌≤◌, ◌&&◌, nat_le, nat_lt, ℕ, None}
-use Rattle.std.specs.Prelude.{IsSome, if◌then◌else◌}
-use Rattle.cpu12_asm.specs.Bytes.{byte_at}
-use Rattle.handler_check.specs.Cut.{code_start, code_limit}
+use Rattle.handler_check.proofs.Words.{◌&&◌, ◌-◌, ◌<◌, ◌≡◌, ◌≤◌, byte_at, code_limit, code_start, if◌then◌else◌}
+use Rattle.handler_check.proofs.Words.{IsSome, nat_le, nat_lt, None, ℕ}
 use Rattle.handler_check.proofs.check.run.Given as goal
 
 abbrev pub invariant-loop-at : goal.invariant-loop-at

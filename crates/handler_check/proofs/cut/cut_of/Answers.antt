@@ -1,8 +1,5 @@
-use Rattle.std.proofs.Common.{◌≡◌, ◌<◌, ◌+◌, ◌++◌, ℕ, length, arith, subst, sym, ap, List, [], ◌∷◌, true}
-use Rattle.std.proofs.lemmas.List.{length-set}
-use Rattle.std.proofs.Math.ListN.{set}
-use Rattle.cpu12_isa.specs.{declared.instr.Instr.Instr, Code.StandsAt}
-use Rattle.handler_check.specs.Cut.{size_of, code_bytes, code_end, AllFit, HasCode}
+use Rattle.handler_check.proofs.Words.{[], ◌++◌, ◌+◌, ◌<◌, ◌∷◌, ◌≡◌, AllFit, ap, arith, code_bytes, code_end, HasCode}
+use Rattle.handler_check.proofs.Words.{Instr, length, length-set, List, set, size_of, StandsAt, subst, sym, true, ℕ}
 use Rattle.handler_check.proofs.Places.{bytes-push, fits-push, code-push}
 use Rattle.handler_check.proofs.Tables.{Table, table_push, table_trap}
 use Rattle.handler_check.proofs.cut.cut_of.Goals as goal

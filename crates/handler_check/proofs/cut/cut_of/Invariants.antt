@@ -1,5 +1,4 @@
-use Rattle.std.proofs.Common.{◌-◌, ◌≡◌, ◌≤◌, ◌+◌, length}
-use Rattle.handler_check.specs.Cut.{code_start, code_end, AllFit, HasCode}
+use Rattle.handler_check.proofs.Words.{◌+◌, ◌-◌, ◌≡◌, ◌≤◌, AllFit, code_end, code_start, HasCode, length}
 use Rattle.handler_check.proofs.Tables.{Table}
 use Rattle.handler_check.proofs.cut.cut_of.Given as goal
 

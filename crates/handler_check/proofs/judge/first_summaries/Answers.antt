@@ -1,5 +1,4 @@
-use Rattle.std.proofs.Common.{◌≡◌, None, false, replicate, refl}
-use Rattle.handler_check.specs.PathSummaries.{summary_at}
+use Rattle.handler_check.proofs.Words.{◌≡◌, false, None, refl, replicate, summary_at}
 use Rattle.handler_check.proofs.{Marking.mark_first, Onward.first_on}
 use Rattle.handler_check.proofs.judge.first_summaries.Goals as goal
 

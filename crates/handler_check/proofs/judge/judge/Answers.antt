@@ -1,6 +1,4 @@
-use Rattle.std.proofs.Common.{◌≡◌, ◌+◌, ℕ, ◌∙◌, subst, sym, arith}
-use Rattle.cpu12_isa.specs.declared.instr.Instr.TheVariants.{LdaaImmediate}
-use Rattle.handler_check.specs.{Judging.AreJudged, PathSummaries.summary_at}
+use Rattle.handler_check.proofs.Words.{◌+◌, ◌∙◌, ◌≡◌, AreJudged, arith, LdaaImmediate, subst, summary_at, sym, ℕ}
 use Rattle.handler_check.proofs.{Places.stands_behind, Places.code_end-all, Tables.code_end-low}
 use Rattle.handler_check.proofs.Onward.{behind_first, accepted_end}
 use Rattle.handler_check.proofs.judge.judge.Goals as goal

@@ -1,5 +1,4 @@
-use Rattle.std.proofs.Common.{◌≡◌, length, take}
-use Rattle.handler_check.specs.{Cut.code_end, Judging.AreJudged, PathSummaries.summary_at}
+use Rattle.handler_check.proofs.Words.{◌≡◌, AreJudged, code_end, length, summary_at, take}
 use Rattle.handler_check.proofs.judge.judge.Given as goal
 
 abbrev pub invariant-loop-instr : goal.invariant-loop-instr

@@ -1,5 +1,4 @@
-use Rattle.std.proofs.Common.{arith, refl, false, ◌+◌, ◌∙◌}
-use Rattle.handler_check.specs.PathSummaries.{summary_at}
+use Rattle.handler_check.proofs.Words.{◌+◌, ◌∙◌, arith, false, refl, summary_at}
 use Rattle.handler_check.proofs.{Marking.summary-short, Marking.mark_on, FirstFaults.fails_first}
 use Rattle.handler_check.proofs.Onward.{dead_at, to_within, on_both}
 use Rattle.handler_check.proofs.judge.judge_one.Goals as goal

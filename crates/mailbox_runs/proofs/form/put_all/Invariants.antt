@@ -1,4 +1,4 @@
-use Rattle.std.proofs.Common.{◌≡◌, ◌+◌, ◌++◌, length, take, drop}
+use Rattle.mailbox_runs.proofs.Words.{◌++◌, ◌+◌, ◌≡◌, drop, length, take}
 use Rattle.mailbox_runs.proofs.form.put_all.Given as goal
 
 -- the writes that are there and those to come are all of them

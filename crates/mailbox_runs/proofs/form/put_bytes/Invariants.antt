@@ -1,5 +1,4 @@
-use Rattle.std.proofs.Common.{◌≡◌, ◌+◌, ◌++◌, length, take, drop}
-use Rattle.mailbox_runs.specs.Runs.{writes_from}
+use Rattle.mailbox_runs.proofs.Words.{◌++◌, ◌+◌, ◌≡◌, drop, length, take, writes_from}
 use Rattle.mailbox_runs.proofs.form.put_bytes.Given as goal
 
 -- the writes that are there and those to come are all of them

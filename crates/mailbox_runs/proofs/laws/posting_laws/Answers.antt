@@ -1,4 +1,4 @@
-use Rattle.mailbox_runs.specs.UsedLaws.{Writing}
+use Rattle.mailbox_runs.proofs.Words.{Writing}
 use Rattle.mailbox_runs.proofs.laws.posting_laws.Goals as goal
 
 pub returns : goal.returns

@@ -1,7 +1,6 @@
-use Rattle.std.proofs.Common.{ℕ, map, sym, subst}
+use Rattle.mailbox_runs.proofs.Words.{input_bytes, map, subst, sym, ℕ}
 use Rattle.std.proofs.lemmas.List.{length-map}
 use Rattle.interrupt_plan.specs.Posts.{AreGoodPosts}
-use Rattle.mailbox_runs.specs.Runs.{input_bytes}
 use Rattle.mailbox_runs.proofs.run.run_posts.Goals as goal
 
 pub returns-clause-by_turns : goal.returns-clause-by_turns

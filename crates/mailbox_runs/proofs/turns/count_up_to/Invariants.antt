@@ -1,5 +1,4 @@
-use Rattle.std.proofs.Common.{◌≡◌, ◌+◌, length, drop}
-use Rattle.mailbox_runs.specs.Turns.{up_to}
+use Rattle.mailbox_runs.proofs.Words.{◌+◌, ◌≡◌, drop, length, up_to}
 use Rattle.mailbox_runs.proofs.turns.count_up_to.Given as goal
 
 abbrev pub invariant-loop-post : goal.invariant-loop-post

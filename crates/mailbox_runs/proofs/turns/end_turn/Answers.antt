@@ -1,7 +1,6 @@
-use Rattle.std.proofs.Common.{◌+◌, ◌++◌, ◌∷◌, [], ◌∙◌, map, length, ap, sym}
-use Rattle.std.specs.Prelude.{if◌then◌else◌, is_ok}
-use Rattle.std.proofs.lemmas.List.{map-append}
-use Rattle.mailbox_runs.specs.Runs.{input_bytes, answer_seen}
+use Rattle.mailbox_runs.proofs.Words.{[], ◌++◌, ◌+◌, ◌∙◌, ◌∷◌, answer_seen, ap, if◌then◌else◌, input_bytes, length}
+use Rattle.mailbox_runs.proofs.Words.{map, map-append, sym}
+use Rattle.std.specs.{Prelude.is_ok}
 use Rattle.mailbox_runs.proofs.Postings.{first_wait, wait_behind, first_is_one, few_wait, few_wait_behind}
 use Rattle.mailbox_runs.proofs.Running.{answered, waits_behind}
 use Rattle.mailbox_runs.proofs.turns.end_turn.Goals as goal

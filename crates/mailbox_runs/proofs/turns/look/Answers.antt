@@ -1,5 +1,4 @@
-use Rattle.std.proofs.Common.{◌∙◌, map, length, ap}
-use Rattle.mailbox_runs.specs.{Turns.waiting, Runs.input_bytes, Tallies.notes_of}
+use Rattle.mailbox_runs.proofs.Words.{◌∙◌, ap, input_bytes, length, map, notes_of, waiting}
 use Rattle.mailbox_runs.proofs.{Postings.wait_taken, Running.taken_slice}
 use Rattle.mailbox_runs.proofs.turns.look.Goals as goal
 

@@ -1,5 +1,4 @@
-use Rattle.std.proofs.Common.{◌∙◌, map, sym}
-use Rattle.mailbox_runs.specs.Runs.{input_bytes, answer_seen}
+use Rattle.mailbox_runs.proofs.Words.{◌∙◌, answer_seen, input_bytes, map, sym}
 use Rattle.mailbox_runs.proofs.NextTurns.{Begins, over_here, stuck_here, turn_here}
 use Rattle.mailbox_runs.proofs.{turns.next_turn.Given.Over, turns.next_turn.Goals.After-look-seen}
 use Rattle.mailbox_runs.proofs.turns.next_turn.Goals as goal

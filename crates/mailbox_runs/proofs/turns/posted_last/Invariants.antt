@@ -1,5 +1,4 @@
-use Rattle.std.proofs.Common.{◌≡◌, drop}
-use Rattle.mailbox_runs.specs.Turns.{waiting}
+use Rattle.mailbox_runs.proofs.Words.{◌≡◌, drop, waiting}
 use Rattle.mailbox_runs.proofs.turns.posted_last.Given as goal
 
 abbrev pub invariant-loop-post : goal.invariant-loop-post

@@ -1,5 +1,5 @@
-use Rattle.std.proofs.Common.{◌≡◌, ◌-◌, ◌∙◌, ℕ, suc, map, drop, ap₂, sym, arith}
-use Rattle.mailbox_runs.specs.{Runs.input_bytes, Runs.answer_seen, Runs.turns_from, Tallies.with_rest}
+use Rattle.mailbox_runs.proofs.Words.{◌-◌, ◌∙◌, ◌≡◌, answer_seen, ap₂, arith, drop, input_bytes, map, suc, sym}
+use Rattle.mailbox_runs.proofs.Words.{turns_from, with_rest, ℕ}
 use Rattle.mailbox_runs.proofs.NextTurns.{none_left}
 use Rattle.mailbox_runs.proofs.turns.run_turns.Goals as goal
 

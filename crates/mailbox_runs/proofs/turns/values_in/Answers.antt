@@ -1,4 +1,4 @@
-use Rattle.std.proofs.Common.{◌∙◌, arith}
+use Rattle.mailbox_runs.proofs.Words.{◌∙◌, arith}
 use Rattle.mailbox_runs.proofs.turns.values_in.Goals as goal
 
 pub returns : goal.returns

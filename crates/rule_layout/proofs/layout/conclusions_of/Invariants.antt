@@ -1,5 +1,4 @@
-use Rattle.std.proofs.Common.{◌≡◌, map, take}
-use Rattle.rule_layout.specs.{Slots.out_slot, Tables.table_number}
+use Rattle.rule_layout.proofs.Words.{◌≡◌, map, out_slot, table_number, take}
 use Rattle.rule_layout.proofs.layout.conclusions_of.Given as goal
 
 abbrev pub invariant-loop-output : goal.invariant-loop-output

@@ -1,5 +1,4 @@
-use Rattle.std.proofs.Common.{◌≡◌, ◌++◌, map}
-use Rattle.rule_layout.specs.Steps.{with_conclusions}
+use Rattle.rule_layout.proofs.Words.{◌++◌, ◌≡◌, map, with_conclusions}
 use Rattle.rule_layout.proofs.layout.push_conjunctions.Given as goal
 
 abbrev pub invariant-loop-literals : goal.invariant-loop-literals

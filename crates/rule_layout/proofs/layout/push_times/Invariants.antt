@@ -1,4 +1,4 @@
-use Rattle.std.proofs.Common.{◌≡◌, ◌++◌, replicate}
+use Rattle.rule_layout.proofs.Words.{◌++◌, ◌≡◌, replicate}
 use Rattle.rule_layout.proofs.layout.push_times.Given as goal
 
 abbrev pub invariant-loop-time : goal.invariant-loop-time

@@ -1,5 +1,4 @@
-use Rattle.std.proofs.Common.{◌+◌, arith}
-use Rattle.std.proofs.Math.Nat.{mul-le-mul_right}
+use Rattle.rule_layout.proofs.Words.{◌+◌, arith, mul-le-mul_right}
 use Rattle.rule_layout.proofs.{SizeLemmas.small_from, SpreadLemmas.entries_le}
 use Rattle.std.specs.Prelude.{false}
 use Rattle.rule_layout.proofs.layout.size_of_rule.Goals as goal

@@ -1,5 +1,4 @@
-use Rattle.std.proofs.Common.{subst, sym}
-use Rattle.rule_layout.specs.Sizes.{IsCountable}
+use Rattle.rule_layout.proofs.Words.{IsCountable, subst, sym}
 use Rattle.rule_layout.proofs.RuleLemmas.{rules_small, rule_small}
 use Rattle.rule_layout.proofs.layout.size_of_rules.Goals as goal
 

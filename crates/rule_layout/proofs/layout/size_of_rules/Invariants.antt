@@ -1,5 +1,4 @@
-use Rattle.std.proofs.Common.{◌≡◌, take, Ok}
-use Rattle.rule_layout.specs.Sizes.{IsSizeOfRules}
+use Rattle.rule_layout.proofs.Words.{◌≡◌, IsSizeOfRules, Ok, take}
 use Rattle.rule_layout.proofs.layout.size_of_rules.Given as goal
 
 abbrev pub invariant-loop-rule : goal.invariant-loop-rule

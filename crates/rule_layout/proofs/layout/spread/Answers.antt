@@ -1,8 +1,5 @@
-use Rattle.std.proofs.Common.{◌≤◌, List, length, ap, ◌∙◌, sym, subst, arith}
-use Rattle.std.specs.Prelude.{All, flat_map}
-use Rattle.fuzzy_meaning.specs.declared.block.Rule.{Rule}
-use Rattle.rule_layout.specs.{declared.flat.Slot.Slot, Tables.IsInTable, Tables.IsNumbering, Sizes.IsCountable}
-use Rattle.rule_layout.specs.Steps.{IsSpreadable, table_conjunctions}
+use Rattle.rule_layout.proofs.Words.{◌∙◌, ◌≤◌, All, ap, arith, flat_map, IsCountable, IsInTable, IsNumbering}
+use Rattle.rule_layout.proofs.Words.{IsSpreadable, length, List, Rule, Slot, subst, sym, table_conjunctions}
 use Rattle.rule_layout.proofs.LayoutLemmas.{slots_in_table, few_slots, rules_countable, rules_spreadable, bytes_fit}
 use Rattle.rule_layout.proofs.LayoutLemmas.{form_found, IsListSize-found, IsTooLong-found, IsWithinLimits-found}
 use Rattle.rule_layout.proofs.LayoutLemmas.{flat_made, conjunctions_by_table, weights_made}

@@ -1,9 +1,6 @@
-use Rattle.std.proofs.Common.{◌≡◌, ◌++◌, List, ℕ, length, map, replicate, ap, ◌∙◌}
-use Rattle.std.proofs.lemmas.List.{length-map}
-use Rattle.byte_scaling.specs.Weights.{weight_byte_of}
-use Rattle.rule_layout.specs.declared.flat.Conjunction.{Conjunction}
-use Rattle.rule_layout.specs.{Slots.out_slot, Tables.table_number, Tables.table_literal}
-use Rattle.rule_layout.specs.{Layouts.rule_spread, Layouts.rule_weights, Steps.table_conjunctions}
+use Rattle.rule_layout.proofs.Words.{◌++◌, ◌∙◌, ◌≡◌, ap, Conjunction, length, length-map, List, map, out_slot}
+use Rattle.rule_layout.proofs.Words.{replicate, rule_spread, rule_weights, table_conjunctions, table_literal}
+use Rattle.rule_layout.proofs.Words.{table_number, weight_byte_of, ℕ}
 use Rattle.rule_layout.proofs.RuleLemmas.{flat_map_step, table_conjunctions_made, replicate_as_map}
 use Rattle.rule_layout.proofs.layout.spread_rules.Goals as goal
 

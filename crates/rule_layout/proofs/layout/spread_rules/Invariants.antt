@@ -1,6 +1,4 @@
-use Rattle.std.proofs.Common.{◌≡◌, take}
-use Rattle.std.specs.Prelude.{flat_map}
-use Rattle.rule_layout.specs.{Layouts.rule_weights, Steps.table_conjunctions}
+use Rattle.rule_layout.proofs.Words.{◌≡◌, flat_map, rule_weights, table_conjunctions, take}
 use Rattle.rule_layout.proofs.layout.spread_rules.Given as goal
 
 abbrev pub invariant-loop-rule : goal.invariant-loop-rule

@@ -1,7 +1,5 @@
-use Rattle.std.proofs.Common.{◌≡◌, ◌+◌, ◌<◌, ◌++◌, ◌∷◌, ℕ, List, drop, map, ap, sym, ◌∙◌, subst}
-use Rattle.std.specs.Prelude.{All}
-use Rattle.std.proofs.lemmas.List.{drop_more}
-use Rattle.rule_layout.specs.{declared.flat.Conjunction.Conjunction, Lists.marked, Lists.at_address, Layouts.IsBelow}
+use Rattle.rule_layout.proofs.Words.{◌++◌, ◌+◌, ◌<◌, ◌∙◌, ◌∷◌, ◌≡◌, All, ap, at_address, Conjunction, drop, drop_more}
+use Rattle.rule_layout.proofs.Words.{IsBelow, List, map, marked, subst, sym, ℕ}
 use Rattle.rule_layout.proofs.ListLemmas.{mark, marked_more, mark_last, mark_inner}
 use Rattle.rule_layout.proofs.lists.marked.Goals as goal
 use Rattle.rule_layout.proofs.lists.marked.Goals.{then-is_last, else-is_last}

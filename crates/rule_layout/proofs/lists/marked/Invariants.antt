@@ -1,5 +1,4 @@
-use Rattle.std.proofs.Common.{◌≡◌, ◌++◌, map, drop}
-use Rattle.rule_layout.specs.Lists.{marked, at_address}
+use Rattle.rule_layout.proofs.Words.{◌++◌, ◌≡◌, at_address, drop, map, marked}
 use Rattle.rule_layout.proofs.lists.marked.Given as goal
 
 abbrev pub invariant-loop-k : goal.invariant-loop-k

@@ -1,4 +1,4 @@
-use Rattle.std.proofs.Common.{◌≡◌, ◌+◌, ◌++◌, map, take}
+use Rattle.rule_layout.proofs.Words.{◌++◌, ◌+◌, ◌≡◌, map, take}
 use Rattle.rule_layout.proofs.lists.push_from.Given as goal
 
 abbrev pub invariant-loop-number : goal.invariant-loop-number

@@ -1,5 +1,5 @@
-use Rattle.std.proofs.Common.{inl, inr, arith, rules, Some}
-use Rattle.fuzzy_meaning.proofs.Algebra.{part_falls, parts_fall, take_nodes}
+use Rattle.rule_layout.proofs.Words.{arith, inl, inr, part_falls, parts_fall, rules, Some}
+use Rattle.fuzzy_meaning.proofs.{Algebra.take_nodes}
 use Rattle.rule_layout.proofs.CondLemmas.{part_fits, part_nodes_le, parts_asked}
 use Rattle.rule_layout.proofs.SpreadLemmas.{entries_le, parts_entries_le}
 use Rattle.rule_layout.proofs.SizeLemmas.{small_from, size_more, size_over_by_part, size_over_by_join}

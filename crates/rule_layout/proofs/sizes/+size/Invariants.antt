@@ -1,6 +1,4 @@
-use Rattle.std.proofs.Common.{Some, take}
-use Rattle.fuzzy_meaning.specs.Conditions.{conditions}
-use Rattle.rule_layout.specs.{Spreading.spread_parts, Sizes.IsSizeOf}
+use Rattle.rule_layout.proofs.Words.{conditions, IsSizeOf, Some, spread_parts, take}
 use Rattle.rule_layout.proofs.sizes.+size.Given as goal
 
 abbrev pub invariant-size_of_parts-loop-part : goal.invariant-size_of_parts-loop-part

@@ -1,6 +1,4 @@
-use Rattle.std.proofs.Common.{◌+◌, ◌++◌, ◌∙◌, ap, map, ℕ, arith}
-use Rattle.std.specs.List.{range_with_len}
-use Rattle.rule_layout.specs.Slots.{term_count}
+use Rattle.rule_layout.proofs.Words.{◌++◌, ◌+◌, ◌∙◌, ap, arith, map, range_with_len, term_count, ℕ}
 use Rattle.rule_layout.proofs.SlotLemmas.{terms_from_more}
 use Rattle.rule_layout.proofs.slots.input_terms.Goals as goal
 

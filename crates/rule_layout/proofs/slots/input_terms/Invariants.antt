@@ -1,5 +1,4 @@
-use Rattle.std.proofs.Common.{◌≡◌, map, take}
-use Rattle.rule_layout.specs.Slots.{terms_from, term_count}
+use Rattle.rule_layout.proofs.Words.{◌≡◌, map, take, term_count, terms_from}
 use Rattle.rule_layout.proofs.slots.input_terms.Given as goal
 
 abbrev pub invariant-loop-input : goal.invariant-loop-input

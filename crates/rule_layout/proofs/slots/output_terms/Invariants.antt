@@ -1,5 +1,4 @@
-use Rattle.std.proofs.Common.{◌≡◌, map, take}
-use Rattle.rule_layout.specs.Slots.{terms_from, singleton_count}
+use Rattle.rule_layout.proofs.Words.{◌≡◌, map, singleton_count, take, terms_from}
 use Rattle.rule_layout.proofs.slots.output_terms.Given as goal
 
 abbrev pub invariant-loop-output : goal.invariant-loop-output

@@ -1,5 +1,4 @@
-use Rattle.std.proofs.Common.{◌≡◌, ◌++◌, map, filter, take}
-use Rattle.rule_layout.specs.{Slots.complement_slot, Tables.is_marked}
+use Rattle.rule_layout.proofs.Words.{◌++◌, ◌≡◌, complement_slot, filter, is_marked, map, take}
 use Rattle.rule_layout.proofs.slots.push_complement_slots.Given as goal
 
 abbrev pub invariant-loop-input : goal.invariant-loop-input

@@ -1,5 +1,4 @@
-use Rattle.std.proofs.Common.{◌≡◌, ◌++◌, map, take}
-use Rattle.rule_layout.specs.Slots.{out_slot}
+use Rattle.rule_layout.proofs.Words.{◌++◌, ◌≡◌, map, out_slot, take}
 use Rattle.rule_layout.proofs.slots.push_out_slots.Given as goal
 
 abbrev pub invariant-loop-output : goal.invariant-loop-output

@@ -1,5 +1,4 @@
-use Rattle.std.proofs.Common.{◌≡◌, ◌++◌, map, take}
-use Rattle.rule_layout.specs.Slots.{term_slot}
+use Rattle.rule_layout.proofs.Words.{◌++◌, ◌≡◌, map, take, term_slot}
 use Rattle.rule_layout.proofs.slots.push_term_slots.Given as goal
 
 abbrev pub invariant-loop-input : goal.invariant-loop-input

@@ -1,4 +1,4 @@
-use Rattle.std.proofs.Common.{◌+◌, ◌++◌, ◌∷◌, [], List, ℕ, ap, ◌∙◌, arith}
+use Rattle.rule_layout.proofs.Words.{[], ◌++◌, ◌+◌, ◌∙◌, ◌∷◌, ap, arith, List, ℕ}
 use Rattle.rule_layout.proofs.SlotLemmas.{terms_push}
 use Rattle.rule_layout.proofs.slots.push_terms.Goals as goal
 

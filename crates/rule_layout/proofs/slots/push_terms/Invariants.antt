@@ -1,5 +1,4 @@
-use Rattle.std.proofs.Common.{◌≡◌, ◌++◌, map}
-use Rattle.std.specs.List.{range_with_len}
+use Rattle.rule_layout.proofs.Words.{◌++◌, ◌≡◌, map, range_with_len}
 use Rattle.rule_layout.proofs.slots.push_terms.Given as goal
 
 abbrev pub invariant-loop-term : goal.invariant-loop-term

@@ -1,8 +1,6 @@
-use Rattle.std.proofs.Common.{ℕ, List, map, ap, ◌∙◌, sym, subst}
-use Rattle.std.specs.Prelude.{All}
-use Rattle.fuzzy_meaning.specs.declared.{block.Input.Input, block.Output.Output, block.Rule.Rule}
-use Rattle.rule_layout.specs.{Grid.FitsGrid, Grid.IsInGrid, Tables.AreUsed}
-use Rattle.rule_layout.specs.Slots.{terms_from, term_count, singleton_count}
+use Rattle.rule_layout.proofs.Words.{◌∙◌, All, ap, AreUsed, FitsGrid, IsInGrid, List, map, Rule, singleton_count}
+use Rattle.rule_layout.proofs.Words.{subst, sym, term_count, terms_from, ℕ}
+use Rattle.fuzzy_meaning.specs.{declared.block.Input.Input, declared.block.Output.Output}
 use Rattle.rule_layout.proofs.BlockLemmas.{rule_fits, input_terms_in_grid, slots_made}
 use Rattle.rule_layout.proofs.slots.slots.Goals as goal
 

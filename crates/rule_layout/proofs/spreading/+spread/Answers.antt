@@ -1,5 +1,4 @@
-use Rattle.std.proofs.Common.{inl, inr, ◌∙◌, rules}
-use Rattle.fuzzy_meaning.proofs.Algebra.{part_falls, parts_fall}
+use Rattle.rule_layout.proofs.Words.{◌∙◌, inl, inr, part_falls, parts_fall, rules}
 use Rattle.rule_layout.proofs.{CondLemmas.part_fits, CondLemmas.parts_fit, TableLemmas.numbers_more}
 use Rattle.rule_layout.proofs.spreading.+spread.Goals as goal
 

@@ -1,6 +1,4 @@
-use Rattle.std.proofs.Common.{◌≡◌, take}
-use Rattle.fuzzy_meaning.specs.Conditions.{conditions}
-use Rattle.rule_layout.specs.{Spreading.spread_parts, Tables.table_literals}
+use Rattle.rule_layout.proofs.Words.{◌≡◌, conditions, spread_parts, table_literals, take}
 use Rattle.rule_layout.proofs.spreading.+spread.Given as goal
 
 abbrev pub invariant-conjunctions_of_parts-loop-part : goal.invariant-conjunctions_of_parts-loop-part

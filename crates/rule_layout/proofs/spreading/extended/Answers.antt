@@ -1,6 +1,5 @@
-use Rattle.std.proofs.Common.{◌≡◌, ◌++◌, map, ◌∙◌, arith}
+use Rattle.rule_layout.proofs.Words.{◌++◌, ◌∙◌, ◌≡◌, arith, choices, map}
 use Rattle.std.proofs.lemmas.Result.{IfOk-weaker}
-use Rattle.rule_layout.specs.Spreading.{choices}
 use Rattle.rule_layout.proofs.ChoicesLemmas.{choices_of_one, choices_more}
 use Rattle.rule_layout.proofs.spreading.extended.Goals as goal
 

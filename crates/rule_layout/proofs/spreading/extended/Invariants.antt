@@ -1,5 +1,4 @@
-use Rattle.std.proofs.Common.{◌≡◌, take}
-use Rattle.rule_layout.specs.Spreading.{choices}
+use Rattle.rule_layout.proofs.Words.{◌≡◌, choices, take}
 use Rattle.rule_layout.proofs.spreading.extended.Given as goal
 
 abbrev pub invariant-loop-head : goal.invariant-loop-head

@@ -1,4 +1,4 @@
-use Rattle.std.proofs.Common.{◌≡◌, ◌++◌, map}
+use Rattle.rule_layout.proofs.Words.{◌++◌, ◌≡◌, map}
 use Rattle.rule_layout.proofs.spreading.followed.Given as goal
 
 abbrev pub invariant-loop-head : goal.invariant-loop-head

@@ -1,4 +1,4 @@
-use Rattle.std.proofs.Common.{◌≡◌, ◌++◌, map, take}
+use Rattle.rule_layout.proofs.Words.{◌++◌, ◌≡◌, map, take}
 use Rattle.rule_layout.proofs.spreading.push_choices.Given as goal
 
 abbrev pub invariant-loop-tail : goal.invariant-loop-tail

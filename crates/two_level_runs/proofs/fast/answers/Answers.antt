@@ -1,5 +1,4 @@
-use Rattle.std.proofs.Common.{◌∙◌, ◌-◌, ◌++◌, ◌∷◌, [], ℕ, List, ap, arith}
-use Rattle.cpu12_isa.specs.Memory.{plus, from, bytes_at}
+use Rattle.two_level_runs.proofs.Words.{[], ◌++◌, ◌-◌, ◌∙◌, ◌∷◌, ap, arith, bytes_at, from, List, plus, ℕ}
 use Rattle.two_level_runs.proofs.Writing.{byte_more}
 use Rattle.two_level_runs.proofs.fast.answers.Goals as goal
 

@@ -1,7 +1,5 @@
-use Rattle.std.proofs.Common.{◌≡◌, ◌+◌, ◌++◌}
+use Rattle.two_level_runs.proofs.Words.{◌++◌, ◌+◌, ◌≡◌, bytes_at, fast_map, from}
 use Rattle.arrayvec.specs.ArrayVec.{array_vec_len}
-use Rattle.cpu12_isa.specs.Memory.{from, bytes_at}
-use Rattle.two_level_code.specs.MemoryMaps.{fast_map}
 use Rattle.two_level_runs.proofs.fast.answers.Given as goal
 
 -- what is there and what is to come are all the answers

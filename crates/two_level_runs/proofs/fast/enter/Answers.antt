@@ -1,4 +1,4 @@
-use Rattle.std.proofs.Common.{◌≡◌, ◌∙◌, length, arith}
+use Rattle.two_level_runs.proofs.Words.{◌∙◌, ◌≡◌, arith, length}
 use Rattle.two_level_runs.proofs.Writing.{entered_with}
 use Rattle.two_level_runs.proofs.fast.enter.Goals as goal
 

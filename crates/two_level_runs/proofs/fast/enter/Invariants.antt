@@ -1,7 +1,4 @@
-use Rattle.std.proofs.Common.{◌≡◌, ◌++◌, length, take, drop}
-use Rattle.cpu12_isa.specs.Memory.{placed}
-use Rattle.cpu12_emul.specs.Take.{pairs_of}
-use Rattle.two_level_code.specs.MemoryMaps.{fast_map}
+use Rattle.two_level_runs.proofs.Words.{◌++◌, ◌≡◌, drop, fast_map, length, pairs_of, placed, take}
 use Rattle.two_level_runs.proofs.fast.enter.Given as goal
 
 -- the writes that are there and those to come put all bytes

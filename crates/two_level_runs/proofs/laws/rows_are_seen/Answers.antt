@@ -1,4 +1,4 @@
-use Rattle.two_level_runs.specs.Rows.{first_two, level_form, levels_of}
+use Rattle.two_level_runs.proofs.Words.{first_two, level_form, levels_of}
 use Rattle.two_level_runs.proofs.FastRuns.{rows_seen}
 use Rattle.two_level_runs.proofs.laws.rows_are_seen.Goals as goal
 

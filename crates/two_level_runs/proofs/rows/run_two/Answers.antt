@@ -1,9 +1,6 @@
-use Rattle.std.proofs.Common.{ℕ, List, map, length, sym, subst}
-use Rattle.std.proofs.lemmas.List.{length-map}
-use Rattle.interrupt_plan.specs.{declared.levels.Level.Level, Levels.AreGoodLevels}
-use Rattle.trace_io.specs.Traces.{input_bytes}
+use Rattle.two_level_runs.proofs.Words.{AreGoodLevels, input_bytes, length, length-map, Level, List, map}
+use Rattle.two_level_runs.proofs.Words.{place_of_level, subst, sym, ℕ}
 use Rattle.run_forms.specs.Slices.{IsInOrder}
-use Rattle.two_level_runs.specs.Rows.{place_of_level}
 use Rattle.two_level_runs.proofs.rows.run_two.Goals as goal
 
 pub run_form-requires : goal.run_form-requires

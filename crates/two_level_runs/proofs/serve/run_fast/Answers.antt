@@ -1,9 +1,5 @@
-use Rattle.std.proofs.Common.{ap}
-use Rattle.std.specs.Prelude.{Some}
-use Rattle.cpu12_parts.specs.Parts.{suspended, wav}
-use Rattle.two_level_code.specs.Images.{fast_most}
-use Rattle.two_level_runs.specs.{Runs.FastSeen, Runs.fast_run, Runs.entered, InnerNotes.inner_notes}
-use Rattle.run_forms.specs.Rest.{Brief, counted_at}
+use Rattle.two_level_runs.proofs.Words.{ap, Brief, counted_at, entered, fast_most, fast_run, FastSeen, inner_notes}
+use Rattle.two_level_runs.proofs.Words.{Some, suspended, wav}
 use Rattle.two_level_runs.proofs.FastRows.{same_run, seen_by_counts}
 use Rattle.two_level_runs.proofs.serve.run_fast.Goals as goal
 

@@ -1,4 +1,4 @@
-use Rattle.std.proofs.Common.{◌<◌, arith}
+use Rattle.two_level_runs.proofs.Words.{◌<◌, arith}
 use Rattle.two_level_runs.proofs.FastRows.{sample_got}
 use Rattle.two_level_runs.proofs.serve.sample_of.Goals as goal
 

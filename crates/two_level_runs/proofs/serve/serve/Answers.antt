@@ -1,8 +1,6 @@
-use Rattle.std.proofs.Common.{◌∙◌, Option, List, ℕ, ap, ap₂, sym}
-use Rattle.std.specs.Prelude.{Some}
-use Rattle.cpu12_parts.specs.Parts.{suspended, wav}
-use Rattle.two_level_code.specs.Images.{fast_most}
-use Rattle.two_level_runs.specs.Runs.{served_by, told_by}
+use Rattle.two_level_runs.proofs.Words.{◌∙◌, ap, ap₂, fast_most, List, served_by, Some, suspended, sym, told_by, wav}
+use Rattle.two_level_runs.proofs.Words.{ℕ}
+use Rattle.std.proofs.{Common.Option}
 use Rattle.two_level_runs.proofs.serve.serve.Goals as goal
 
 pub returns-in-Some-clause-state : goal.returns-in-Some-clause-state

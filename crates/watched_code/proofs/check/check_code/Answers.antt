@@ -1,4 +1,4 @@
-use Rattle.std.proofs.Common.{◌∙◌, arith}
+use Rattle.watched_code.proofs.Words.{◌∙◌, arith}
 use Rattle.watched_code.proofs.watching.Fronts.{length-le, short_bad, short_sum}
 use Rattle.watched_code.proofs.check.check_code.Goals as goal
 

@@ -1,5 +1,4 @@
-use Rattle.std.proofs.Common.{◌≡◌, ◌*◌, ◌≤◌, take}
-use Rattle.watched_code.specs.WatchedCode.{code_length}
+use Rattle.watched_code.proofs.Words.{◌*◌, ◌≡◌, ◌≤◌, code_length, take}
 use Rattle.watched_code.proofs.check.code_length.Given as goal
 
 abbrev pub invariant-loop-instruction : goal.invariant-loop-instruction

@@ -1,5 +1,5 @@
-use Rattle.std.proofs.Common.{◌≡◌, ◌+◌, ◌++◌, drop}
-use Rattle.watched_code.specs.WatchedCode.{defaults_code}
+use Rattle.watched_code.proofs.Words.{◌++◌, ◌+◌, ◌≡◌, defaults_code}
+use Rattle.std.proofs.{Common.drop}
 use Rattle.watched_code.proofs.check.push_defaults.Given as goal
 
 abbrev pub invariant-loop-output : goal.invariant-loop-output

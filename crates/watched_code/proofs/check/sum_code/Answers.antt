@@ -1,4 +1,4 @@
-use Rattle.std.proofs.Common.{arith}
+use Rattle.watched_code.proofs.Words.{arith}
 use Rattle.watched_code.proofs.watching.Emitting.{is_segment}
 use Rattle.watched_code.proofs.check.sum_code.Goals as goal
 

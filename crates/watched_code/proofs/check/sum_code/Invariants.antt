@@ -1,6 +1,4 @@
-use Rattle.std.proofs.Common.{◌≡◌, ◌∷◌, take}
-use Rattle.cpu12_isa.specs.declared.instr.Instr.TheVariants.{LdabImmediate}
-use Rattle.watched_code.specs.WatchedCode.{segments_code}
+use Rattle.watched_code.proofs.Words.{◌∷◌, ◌≡◌, LdabImmediate, segments_code, take}
 use Rattle.watched_code.proofs.check.sum_code.Given as goal
 
 abbrev pub invariant-loop-segment : goal.invariant-loop-segment

@@ -1,5 +1,4 @@
-use Rattle.std.proofs.Common.{ap, ◌∙◌, arith}
-use Rattle.watched_code.specs.WatchedCode.{code_length}
+use Rattle.watched_code.proofs.Words.{◌∙◌, ap, arith, code_length}
 use Rattle.watched_code.proofs.watching.Fronts.{length-le, short_bad}
 use Rattle.watched_code.proofs.check.watched_front.Goals as goal
 

@@ -1,5 +1,4 @@
-use Rattle.std.proofs.Common.{◌≡◌, ◌+◌, ◌%◌, ◌^◌, take}
-use Rattle.std.specs.Prelude.{sum}
+use Rattle.watched_code.proofs.Words.{◌%◌, ◌+◌, ◌^◌, ◌≡◌, sum, take}
 use Rattle.watched_code.proofs.segments.add_bytes.Given as goal
 
 abbrev pub invariant-loop-byte : goal.invariant-loop-byte

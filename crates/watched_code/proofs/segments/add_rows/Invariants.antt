@@ -1,4 +1,4 @@
-use Rattle.std.proofs.Common.{◌≡◌, ◌++◌, take, flat_map}
+use Rattle.watched_code.proofs.Words.{◌++◌, ◌≡◌, flat_map, take}
 use Rattle.watched_code.proofs.segments.add_rows.Given as goal
 
 abbrev pub invariant-loop-row : goal.invariant-loop-row

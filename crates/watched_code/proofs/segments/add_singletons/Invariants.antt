@@ -1,5 +1,4 @@
-use Rattle.std.proofs.Common.{◌≡◌, ◌++◌, map, take}
-use Rattle.byte_scaling.specs.Cells.{nearest_byte}
+use Rattle.watched_code.proofs.Words.{◌++◌, ◌≡◌, map, nearest_byte, take}
 use Rattle.watched_code.proofs.segments.add_singletons.Given as goal
 
 abbrev pub invariant-loop-singleton : goal.invariant-loop-singleton

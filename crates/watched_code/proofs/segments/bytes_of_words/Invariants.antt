@@ -1,5 +1,4 @@
-use Rattle.std.proofs.Common.{◌≡◌, take, flat_map}
-use Rattle.eval_code.specs.Data.{bytes_of_word}
+use Rattle.watched_code.proofs.Words.{◌≡◌, bytes_of_word, flat_map, take}
 use Rattle.watched_code.proofs.segments.bytes_of_words.Given as goal
 
 abbrev pub invariant-loop-word : goal.invariant-loop-word

@@ -1,6 +1,4 @@
-use Rattle.std.proofs.Common.{◌≡◌, ◌%◌, ◌^◌, take}
-use Rattle.std.specs.Prelude.{sum}
-use Rattle.watched_code.specs.WatchedCode.{segment_bytes}
+use Rattle.watched_code.proofs.Words.{◌%◌, ◌^◌, ◌≡◌, segment_bytes, sum, take}
 use Rattle.watched_code.proofs.segments.check_byte.Given as goal
 
 abbrev pub invariant-loop-segment : goal.invariant-loop-segment

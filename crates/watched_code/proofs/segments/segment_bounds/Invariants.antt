@@ -1,5 +1,4 @@
-use Rattle.std.proofs.Common.{◌≡◌, ◌*◌, ◌≤◌, take, sum_by}
-use Rattle.watched_code.specs.Watched.{segment_bound}
+use Rattle.watched_code.proofs.Words.{◌*◌, ◌≡◌, ◌≤◌, segment_bound, sum_by, take}
 use Rattle.watched_code.proofs.segments.segment_bounds.Given as goal
 
 abbrev pub invariant-loop-segment : goal.invariant-loop-segment

@@ -1,5 +1,4 @@
-use Rattle.std.proofs.Common.{flat_map, ap, ◌∙◌}
-use Rattle.eval_code.specs.Data.{singleton_bytes_of}
+use Rattle.watched_code.proofs.Words.{◌∙◌, ap, flat_map, singleton_bytes_of}
 use Rattle.watched_code.proofs.watching.Emitting.{segments_made}
 use Rattle.watched_code.proofs.segments.segments.Goals as goal
 

@@ -1,5 +1,4 @@
-use Rattle.std.proofs.Common.{◌≡◌, take, flat_map}
-use Rattle.eval_code.specs.Data.{singleton_bytes_of}
+use Rattle.watched_code.proofs.Words.{◌≡◌, flat_map, singleton_bytes_of, take}
 use Rattle.watched_code.proofs.segments.singletons.Given as goal
 
 abbrev pub invariant-loop-output : goal.invariant-loop-output

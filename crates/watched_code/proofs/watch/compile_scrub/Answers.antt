@@ -1,7 +1,6 @@
-use Rattle.std.proofs.Common.{◌≡◌, ◌+◌, ◌≤◌, ℕ, List, All, length, refl, sym, ap, ◌∙◌, subst, arith, rules}
-use Rattle.eval_code.specs.{declared.memory_map.MemoryMap.MemoryMap, Bounds.steps_by, MemoryMaps.main_map}
-use Rattle.watched_code.specs.declared.segments.Segment.{Segment}
-use Rattle.watched_code.specs.WatchedCode.{AreSegments, code_length, watched_front}
+use Rattle.watched_code.proofs.Words.{◌+◌, ◌∙◌, ◌≡◌, ◌≤◌, All, ap, AreSegments, arith, code_length, length, List}
+use Rattle.watched_code.proofs.Words.{main_map, MemoryMap, refl, Segment, steps_by, subst, sym, watched_front, ℕ}
+use Rattle.std.proofs.{Common.rules}
 use Rattle.watched_code.proofs.watching.Emitting.{bound_made, front_made, are_short}
 use Rattle.watched_code.proofs.watching.Tables.{are_segments}
 use Rattle.watched_code.proofs.watch.compile_scrub.Goals as goal

@@ -1,5 +1,5 @@
-use Rattle.std.proofs.Common.{length, ◌<◌, ◌^◌, List, sym, ◌∙◌, subst}
-use Rattle.cpu12_asm.specs.{Items.IsRising, declared.items.Item.Item}
+use Rattle.watched_code.proofs.Words.{◌<◌, ◌^◌, ◌∙◌, IsRising, length, List, subst, sym}
+use Rattle.cpu12_asm.specs.{declared.items.Item.Item}
 use Rattle.watched_code.proofs.watching.Answering.{watched_rise, length-watched_items}
 use Rattle.watched_code.proofs.watch.watched_image.Goals as goal
 

@@ -1,4 +1,4 @@
-use Rattle.std.proofs.Common.{sym, ◌∙◌}
+use Rattle.handler_check.proofs.Words.{◌∙◌, sym}
 use Rattle.handler_check.proofs.Tables.{told_first, told_none}
 use Rattle.handler_check.proofs.cut.Cut.is_first.Goals as goal
 

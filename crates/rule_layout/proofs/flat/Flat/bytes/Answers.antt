@@ -1,7 +1,6 @@
-use Rattle.std.proofs.Common.{◌<◌, List, map, ap, sym, ◌∙◌, subst, arith, rules, get_or}
-use Rattle.std.specs.Prelude.{All, length}
-use Rattle.std.proofs.lemmas.List.{take_all}
-use Rattle.rule_layout.specs.{declared.flat.Conjunction.Conjunction, Lists.marked, Lists.at_address, Layouts.IsBelow}
+use Rattle.rule_layout.proofs.Words.{◌<◌, ◌∙◌, All, ap, arith, at_address, Conjunction, get_or, IsBelow, List, map}
+use Rattle.rule_layout.proofs.Words.{marked, rules, subst, sym, take_all}
+use Rattle.std.specs.{Prelude.length}
 use Rattle.rule_layout.proofs.ListLemmas.{IsBelow-weaker, at_base_zero, marked_below}
 use Rattle.rule_layout.proofs.flat.Flat.bytes.Goals as goal
 

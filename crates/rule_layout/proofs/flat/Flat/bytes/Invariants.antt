@@ -1,4 +1,4 @@
-use Rattle.std.proofs.Common.{◌≡◌, take}
+use Rattle.rule_layout.proofs.Words.{◌≡◌, take}
 use Rattle.rule_layout.proofs.flat.Flat.bytes.Given as goal
 
 abbrev pub invariant-loop-element : goal.invariant-loop-element

@@ -1,6 +1,5 @@
-use Rattle.std.proofs.Common.{List, sym, subst}
-use Rattle.std.specs.Prelude.{All, length}
-use Rattle.rule_layout.specs.{declared.flat.Conjunction.Conjunction, Layouts.IsBelow}
+use Rattle.rule_layout.proofs.Words.{All, Conjunction, IsBelow, List, subst, sym}
+use Rattle.std.specs.{Prelude.length}
 use Rattle.rule_layout.proofs.ListLemmas.{IsBelow-weaker}
 use Rattle.rule_layout.proofs.flat.Flat.words_from.Goals as goal
 

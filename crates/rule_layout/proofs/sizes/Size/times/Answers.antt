@@ -1,5 +1,4 @@
-use Rattle.std.proofs.Common.{arith}
-use Rattle.std.proofs.Math.Nat.{mul-le-mul_left, mul-le-mul_right}
+use Rattle.rule_layout.proofs.Words.{arith, mul-le-mul_left, mul-le-mul_right}
 use Rattle.rule_layout.proofs.sizes.Size.times.Goals as goal
 
 pub overflow_mul-result : goal.overflow_mul-result

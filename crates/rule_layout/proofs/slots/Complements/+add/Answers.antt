@@ -1,7 +1,5 @@
-use Rattle.std.proofs.Common.{◌<◌, ◌||◌, Bool, true, List, ap, sym, ◌∙◌, arith, rules}
-use Rattle.std.proofs.lemmas.List.{take_all}
-use Rattle.fuzzy_meaning.specs.Conditions.{Condition, conditions, nodes}
-use Rattle.rule_layout.specs.Tables.{is_marked}
+use Rattle.rule_layout.proofs.Words.{◌<◌, ◌||◌, ◌∙◌, ap, arith, Bool, Condition, conditions, is_marked, List, nodes}
+use Rattle.rule_layout.proofs.Words.{rules, sym, take_all, true}
 use Rattle.rule_layout.proofs.CondLemmas.{part_fits, part_nodes_le, parts_fit, all_nodes_lt}
 use Rattle.rule_layout.proofs.SlotLemmas.{some_has_complement, has_complement-parts, some_has_complement-take}
 use Rattle.rule_layout.proofs.SlotLemmas.{marks_more}

@@ -1,6 +1,4 @@
-use Rattle.std.proofs.Common.{◌≡◌, ◌||◌, ℕ, true, take}
-use Rattle.fuzzy_meaning.specs.Conditions.{conditions}
-use Rattle.rule_layout.specs.{Grid.IsInGrid, Tables.is_marked}
+use Rattle.rule_layout.proofs.Words.{◌||◌, ◌≡◌, conditions, is_marked, IsInGrid, take, true, ℕ}
 use Rattle.rule_layout.proofs.SlotLemmas.{some_has_complement}
 use Rattle.rule_layout.proofs.slots.Complements.+add.Given as goal
 

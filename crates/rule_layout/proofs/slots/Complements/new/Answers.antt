@@ -1,4 +1,4 @@
-use Rattle.rule_layout.specs.{Tables.place_of, declared.flat.Slot.TheVariants.Complement}
+use Rattle.rule_layout.proofs.Words.{Complement, place_of}
 use Rattle.rule_layout.proofs.SlotLemmas.{no_marks}
 use Rattle.rule_layout.proofs.slots.Complements.new.Goals as goal
 

@@ -1,5 +1,4 @@
-use Rattle.std.proofs.Common.{◌≡◌, ℕ, take}
-use Rattle.rule_layout.specs.{Grid.IsInGrid, Slots.is_complemented, Tables.is_marked}
+use Rattle.rule_layout.proofs.Words.{◌≡◌, is_complemented, is_marked, IsInGrid, take, ℕ}
 use Rattle.rule_layout.proofs.slots.Complements.new.Given as goal
 
 abbrev pub invariant-loop-rule : goal.invariant-loop-rule

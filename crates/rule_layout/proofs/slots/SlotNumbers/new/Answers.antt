@@ -1,4 +1,4 @@
-use Rattle.std.proofs.Common.{◌-◌, arith}
+use Rattle.rule_layout.proofs.Words.{◌-◌, arith}
 use Rattle.std.proofs.lemmas.List.{length-set}
 use Rattle.rule_layout.proofs.NumberLemmas.{NumbersFrom_more}
 use Rattle.rule_layout.proofs.slots.SlotNumbers.new.Goals as goal

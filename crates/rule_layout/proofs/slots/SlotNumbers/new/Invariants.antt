@@ -1,5 +1,4 @@
-use Rattle.std.proofs.Common.{◌≡◌, ◌+◌, ◌<◌, length, drop}
-use Rattle.rule_layout.specs.{declared.flat.Slot.Slot, Slots.number_in, Tables.IsInTable, Tables.table_number}
+use Rattle.rule_layout.proofs.Words.{◌+◌, ◌<◌, ◌≡◌, drop, IsInTable, length, number_in, Slot, table_number}
 use Rattle.rule_layout.proofs.slots.SlotNumbers.new.Given as goal
 
 abbrev pub invariant-loop-number : goal.invariant-loop-number

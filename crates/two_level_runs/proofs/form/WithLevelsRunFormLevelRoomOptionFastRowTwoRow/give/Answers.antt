@@ -1,6 +1,4 @@
-use Rattle.std.proofs.Common.{◌≡◌, ◌∙◌, ℕ, List, ap, sym}
-use Rattle.firmware_runs.specs.Ports.{given}
-use Rattle.trace_io.specs.Traces.{input_bytes}
+use Rattle.two_level_runs.proofs.Words.{◌∙◌, ◌≡◌, ap, given, input_bytes, List, sym, ℕ}
 use Rattle.two_level_runs.proofs.SampleBytes.{got}
 use Rattle.two_level_runs.proofs.form.WithLevelsRunFormLevelRoomOptionFastRowTwoRow.give.Goals as goal
 

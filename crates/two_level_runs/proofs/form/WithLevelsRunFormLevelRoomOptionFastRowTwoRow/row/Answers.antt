@@ -1,5 +1,4 @@
-use Rattle.std.proofs.Common.{◌≡◌, ◌∙◌, sym}
-use Rattle.trace_io.specs.Traces.{input_bytes}
+use Rattle.two_level_runs.proofs.Words.{◌∙◌, ◌≡◌, input_bytes, sym}
 use Rattle.two_level_runs.proofs.SampleBytes.{got}
 use Rattle.two_level_runs.proofs.form.WithLevelsRunFormLevelRoomOptionFastRowTwoRow.row.Goals as goal
 
