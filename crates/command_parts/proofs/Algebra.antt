@@ -1,13 +1,16 @@
 -- Lines of items that are counted, texts that are written part by part, and refusals.
-use Rattle.std.proofs.Common.{refl, ◌≡◌, ◌<◌, ◌+◌, ℕ, List, [], ◌∷◌, ◌++◌, length, take, get_or, sym, ◌∙◌, ap}
+use Rattle.std.proofs.Common.{refl, ◌≡◌, ◌<◌, ◌+◌, ℕ, true, List, [], ◌∷◌, ◌++◌, length, take, get_or, sym, ◌∙◌, ap}
 use Rattle.std.proofs.Common.{arith, append_assoc, add-one}
-use Rattle.std.specs.Prelude.{All, map}
+use Rattle.std.specs.Prelude.{All, codes, map}
 use Rattle.std.proofs.Math.Seq.{take-suc}
 use Rattle.std.proofs.lemmas.List.{append-nil, length-take-le}
 use Rattle.std.proofs.lemmas.List.Elements.{All-cons, All-head, All-nil, All-tail}
+use Rattle.cpu12_isa.specs.declared.instr.Regs.{Regs}
+use Rattle.fz_shelf.proofs.Algebra.{bare-address, bare-append, bare-byte}
+use Rattle.fz_shelf.specs.{Lines.has_no_end, Parts.address_digits, Parts.byte_digits}
 use Rattle.fz_status.specs.{Refusals.IsRefusal, Refusals.Refusals, declared.status.Status.Status}
 use Rattle.fz_status.specs.declared.status.Status.TheVariants as status
-use Rattle.command_parts.specs.Lines.{counted}
+use Rattle.command_parts.specs.Lines.{counted, registers_told}
 
 -- ---- counted items, one more
 
@@ -46,6 +49,20 @@ made_with t x more u e = ap (λ l. l ++ more) e ∙ append_assoc t x more
 
 pub made_next : {X : Type 0} (t x y more u : List X) → u ≡ t ++ (x ++ y) → u ++ more ≡ t ++ (x ++ (y ++ more))
 made_next t x y more u e = made_with t (x ++ y) more u e ∙ ap (λ l. t ++ l) (append_assoc x y more)
+
+-- no line ends in what is told of registers
+pub bare-registers : (r : Regs) → has_no_end (registers_told r) ≡ true
+bare-registers r =
+    let ccr = codes " ccr " ++ byte_digits r.ccr.0 in
+    let sp = codes " sp " ++ (address_digits r.sp ++ ccr) in
+    let y = codes " y " ++ (address_digits r.y ++ sp) in
+    let x = codes " x " ++ (address_digits r.x ++ y) in
+    let b = codes " b " ++ (byte_digits r.b ++ x) in
+    let a = codes " a " ++ (byte_digits r.a ++ b) in
+    bare-append (address_digits r.pc) a (bare-address r.pc) (bare-append (byte_digits r.a) b (bare-byte r.a)
+    (bare-append (byte_digits r.b) x (bare-byte r.b) (bare-append (address_digits r.x) y (bare-address r.x)
+    (bare-append (address_digits r.y) sp (bare-address r.y) (bare-append (address_digits r.sp) ccr (bare-address r.sp)
+    (bare-byte r.ccr.0))))))
 
 -- what holds of each item as it is seen
 pub of_seen : {X Y : Type 0} (P : Y → Type 0) (seen : X → Y) (xs : List X) → All P (map seen xs)

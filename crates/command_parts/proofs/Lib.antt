@@ -1,5 +1,4 @@
 pub mod Algebra
 pub mod CertLemmas
 pub mod ImageLemmas
-pub mod LineLemmas
 pub mod NumberLemmas

@@ -10,7 +10,7 @@ use Rattle.two_level_runs.specs.Runs.{FastSeen}
 use Rattle.command_parts.specs.Lines.{counted, error_lines, line}
 use Rattle.command_parts.proofs.Algebra.{lines_more, made_next, made_with}
 use Rattle.form_commands.specs.Lrun.{fast_lines, level_begun_lines, outer_lines}
-use Rattle.run_reports.proofs.LineLemmas.{bare-answers}
+use Rattle.run_reports.proofs.Algebra.{bare-answers}
 use Rattle.run_reports.specs.RowLines.{answers_told, frame_line}
 
 -- the errors and the bounds

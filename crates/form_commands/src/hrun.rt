@@ -70,39 +70,9 @@ struct Accepted {
     inputs: Inputs,
 }
 
-impl Hrun {
-    /// The command of these words.
-    pub fn of(words: &[String]) -> Option<Hrun>
-        ensures { result ≡ hrun_in (texts_of words.now) }
-    {
-        let flags = flags(word(words, 7))?;
-        Some(Hrun { flags })
-    }
-
-    /// Runs the samples of the trace under the plan, each interrupt by the handler's code, once all files
-    /// are accepted, and writes down what came of them.
-    pub fn work(self, alloc: Global, files: &HandledFiles) -> Result<Output, Status>
-        ensures { IsResultOf (HrunMakes self files.now) result }
-    {
-        answers_are_reported();
-        answers_under_plans();
-        spelled_bytes_fit();
-        let accepted = Hrun::accepted(alloc, files)?;
-        let firmware = &accepted.compiled.firmware;
-        let rows = run_handler(
-            alloc,
-            firmware,
-            &accepted.handler.image,
-            &accepted.inputs.samples,
-            &accepted.inputs.plan,
-            self.flags,
-        )?;
-        let lines = lines(alloc, &accepted.inputs.errors, firmware.instr_bound, &rows)?;
-        Ok(Output { lines, file: None })
-    }
-
+impl Accepted {
     /// What the files give, or the first fault in their order.
-    fn accepted(alloc: Global, files: &HandledFiles) -> Result<Accepted, Status>
+    fn of(alloc: Global, files: &HandledFiles) -> Result<Accepted, Status>
         ensures accepted { IfOk result (λ a. AcceptsHandled files.now a.compiled.block
             a.compiled.firmware a.handler.image a.handler.handler.instrs a.inputs.errors.items
             a.inputs.samples.items a.inputs.plan) }
@@ -122,6 +92,38 @@ impl Hrun {
             handler,
             inputs,
         })
+    }
+}
+
+impl Hrun {
+    /// The command of these words.
+    pub fn of(words: &[String]) -> Option<Hrun>
+        ensures { result ≡ hrun_in (texts_of words.now) }
+    {
+        let flags = flags(word(words, 7))?;
+        Some(Hrun { flags })
+    }
+
+    /// Runs the samples of the trace under the plan, each interrupt by the handler's code, once all files
+    /// are accepted, and writes down what came of them.
+    pub fn work(self, alloc: Global, files: &HandledFiles) -> Result<Output, Status>
+        ensures { IsResultOf (HrunMakes self files.now) result }
+    {
+        answers_are_reported();
+        answers_under_plans();
+        spelled_bytes_fit();
+        let accepted = Accepted::of(alloc, files)?;
+        let firmware = &accepted.compiled.firmware;
+        let rows = run_handler(
+            alloc,
+            firmware,
+            &accepted.handler.image,
+            &accepted.inputs.samples,
+            &accepted.inputs.plan,
+            self.flags,
+        )?;
+        let lines = lines(alloc, &accepted.inputs.errors, firmware.instr_bound, &rows)?;
+        Ok(Output { lines, file: None })
     }
 }
 

@@ -188,7 +188,7 @@ impl Command {
 }
 
 /// The name among the words, the program's own name first.
-fn name_of<'a>(alloc: Global, words: &'a [String]) -> Result<Name, Refusal>
+fn name_of(alloc: Global, words: &[String]) -> Result<Name, Refusal>
     ensures named { IfOk result (λ n. name_in (texts_of words.now) ≡ Some n) }
     ensures usage { IsErrOf result Refusal.Usage → name_in (texts_of words.now) ≡ None }
     ensures law { (name_in (texts_of words.now) ≡ None) ↔ IsRefused table (texts_of words.now) }
@@ -197,7 +197,7 @@ fn name_of<'a>(alloc: Global, words: &'a [String]) -> Result<Name, Refusal>
 }
 
 /// The command of the words, the program's name first.
-pub(crate) fn command_of<'a>(alloc: Global, words: &'a [String]) -> Result<Command, Refusal>
+pub(crate) fn command_of(alloc: Global, words: &[String]) -> Result<Command, Refusal>
     ensures value { IfOk result (λ c. command_in (texts_of words.now) ≡ Some c) }
     ensures usage { IsErrOf result Refusal.Usage → command_in (texts_of words.now) ≡ None }
     ensures law { (command_in (texts_of words.now) ≡ None) ↔ IsUsage (texts_of words.now) }

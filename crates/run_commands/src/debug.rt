@@ -72,37 +72,9 @@ struct Accepted {
     script: Script,
 }
 
-impl DebugRun {
-    /// The command of these words.
-    pub fn of(words: &[String]) -> Option<DebugRun>
-        ensures { result ≡ debug_in (texts_of words.now) }
-    {
-        let flags = flags(word(words, 6))?;
-        Some(DebugRun { flags })
-    }
-
-    /// Runs the samples of the trace under the plan and obeys the script on the way, once all files
-    /// are accepted, and writes down what the script shows and what came of the samples.
-    pub fn work(self, alloc: Global, files: &DebugFiles) -> Result<Output, Status>
-        ensures { IsResultOf (DebugMakes self files.now) result }
-    {
-        spelled_bytes_fit();
-        spelled_traces_are_short();
-        let accepted = DebugRun::accepted(alloc, files)?;
-        let (shown, rows) = debug(
-            alloc,
-            &accepted.compiled.firmware,
-            &accepted.samples,
-            &accepted.plan,
-            self.flags,
-            accepted.script.as_slice(),
-        )?;
-        let lines = lines(alloc, &shown, &rows)?;
-        Ok(Output { lines, file: None })
-    }
-
+impl Accepted {
     /// What the files give, or the first fault in their order.
-    fn accepted(alloc: Global, files: &DebugFiles) -> Result<Accepted, Status>
+    fn of(alloc: Global, files: &DebugFiles) -> Result<Accepted, Status>
         ensures accepted { IfOk result (λ a. Debugs files.now
             a.compiled.block a.compiled.firmware a.samples.items a.plan a.script) }
         ensures fault { IfErr result (IsRefusal (debug_refusals files.now)) }
@@ -120,6 +92,36 @@ impl DebugRun {
             Err(ScriptFault::Memory) => Err(Status::Memory),
             Err(ScriptFault::Line(line)) => Err(Status::Script(line)),
         }
+    }
+}
+
+impl DebugRun {
+    /// The command of these words.
+    pub fn of(words: &[String]) -> Option<DebugRun>
+        ensures { result ≡ debug_in (texts_of words.now) }
+    {
+        let flags = flags(word(words, 6))?;
+        Some(DebugRun { flags })
+    }
+
+    /// Runs the samples of the trace under the plan and obeys the script on the way, once all files
+    /// are accepted, and writes down what the script shows and what came of the samples.
+    pub fn work(self, alloc: Global, files: &DebugFiles) -> Result<Output, Status>
+        ensures { IsResultOf (DebugMakes self files.now) result }
+    {
+        spelled_bytes_fit();
+        spelled_traces_are_short();
+        let accepted = Accepted::of(alloc, files)?;
+        let (shown, rows) = debug(
+            alloc,
+            &accepted.compiled.firmware,
+            &accepted.samples,
+            &accepted.plan,
+            self.flags,
+            accepted.script.as_slice(),
+        )?;
+        let lines = lines(alloc, &shown, &rows)?;
+        Ok(Output { lines, file: None })
     }
 }
 

@@ -73,6 +73,20 @@ struct Accepted {
     inputs: Inputs,
 }
 
+impl Accepted {
+    /// What the files give, or the first fault in their order.
+    fn of(alloc: Global, run: Run, files: &RunFiles) -> Result<Accepted, Status>
+        ensures accepted { IfOk result (λ a. Accepts run.kind run.width files.now a.compiled.block
+            a.compiled.firmware a.inputs.errors.items a.inputs.samples.items a.inputs.plan) }
+        ensures fault { IfErr result (IsRefusal (run_refusals run files.now)) }
+    {
+        let compiled = firmware_of(alloc, Form::Alone(run.width), &files.fcl)?;
+        require_image(alloc, &files.image, &compiled.firmware.image)?;
+        let inputs = inputs_of(alloc, run.kind, run.width, &compiled.block, &files.inputs)?;
+        Ok(Accepted { compiled, inputs })
+    }
+}
+
 impl Run {
     /// The command of these words.
     pub fn of(kind: CertKind, width: Width, words: &[String]) -> Option<Run>
@@ -88,7 +102,7 @@ impl Run {
         ensures { IsResultOf (RunMakes self files.now) result }
     {
         answers_are_reported();
-        let accepted = self.accepted(alloc, files)?;
+        let accepted = Accepted::of(alloc, self, files)?;
         let firmware = &accepted.compiled.firmware;
         let (rows, memory) = run_on::<PageMem>(
             alloc,
@@ -106,18 +120,6 @@ impl Run {
             left_in(&memory),
         )?;
         Ok(Output { lines, file: None })
-    }
-
-    /// What the files give, or the first fault in their order.
-    fn accepted(self, alloc: Global, files: &RunFiles) -> Result<Accepted, Status>
-        ensures accepted { IfOk result (λ a. Accepts self.kind self.width files.now a.compiled.block
-            a.compiled.firmware a.inputs.errors.items a.inputs.samples.items a.inputs.plan) }
-        ensures fault { IfErr result (IsRefusal (run_refusals self files.now)) }
-    {
-        let compiled = firmware_of(alloc, Form::Alone(self.width), &files.fcl)?;
-        require_image(alloc, &files.image, &compiled.firmware.image)?;
-        let inputs = inputs_of(alloc, self.kind, self.width, &compiled.block, &files.inputs)?;
-        Ok(Accepted { compiled, inputs })
     }
 }
 

@@ -1,5 +1,5 @@
+pub mod Algebra
 pub mod FaultlessRows
-pub mod LineLemmas
 pub mod NearRows
 pub mod OneLemmas
 pub mod PostedAnswers

@@ -1,6 +1,6 @@
 use Rattle.std.specs.Prelude.{codes, decimal, ◌++◌}
 use Rattle.fz_shelf.proofs.Algebra.{bare-append, bare-decimal}
-use Rattle.command_parts.proofs.LineLemmas.{bare-registers}
+use Rattle.command_parts.proofs.Algebra.{bare-registers}
 use Rattle.command_parts.specs.Lines.{registers_told}
 use Rattle.build_commands.proofs.exec.line_of.Goals as goal
 

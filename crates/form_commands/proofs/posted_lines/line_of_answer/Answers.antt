@@ -2,7 +2,7 @@ use Rattle.std.proofs.Common.{◌≡◌, ◌∙◌, ◌++◌, ℕ, List, ap, app
 use Rattle.std.specs.Prelude.{codes, decimal, string_bytes}
 use Rattle.fz_shelf.proofs.Algebra.{bare-append, bare-decimal}
 use Rattle.command_parts.proofs.Algebra.{made_with}
-use Rattle.run_reports.proofs.LineLemmas.{bare-answered}
+use Rattle.run_reports.proofs.Algebra.{bare-answered}
 use Rattle.run_reports.specs.RowLines.{answered}
 use Rattle.form_commands.proofs.posted_lines.line_of_answer.Goals as goal
 

@@ -1,4 +1,4 @@
-use Rattle.command_parts.proofs.LineLemmas.{bare-registers}
+use Rattle.command_parts.proofs.Algebra.{bare-registers}
 use Rattle.run_commands.proofs.shown_lines.line_of.Goals as goal
 
 pub of-requires : goal.of-requires

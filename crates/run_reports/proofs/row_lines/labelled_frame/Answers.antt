@@ -1,5 +1,5 @@
 use Rattle.fz_shelf.proofs.Algebra.{bare-append}
-use Rattle.run_reports.proofs.LineLemmas.{bare-frame}
+use Rattle.run_reports.proofs.Algebra.{bare-frame}
 use Rattle.run_reports.proofs.row_lines.labelled_frame.Goals as goal
 
 pub of-requires : goal.of-requires

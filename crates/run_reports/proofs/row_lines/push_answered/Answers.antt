@@ -1,4 +1,4 @@
-use Rattle.run_reports.proofs.LineLemmas.{answered_written}
+use Rattle.run_reports.proofs.Algebra.{answered_written}
 use Rattle.run_reports.proofs.row_lines.push_answered.Goals as goal
 
 pub returns : goal.returns

@@ -1,4 +1,4 @@
-use Rattle.run_reports.proofs.LineLemmas.{answers_written}
+use Rattle.run_reports.proofs.Algebra.{answers_written}
 use Rattle.run_reports.proofs.row_lines.push_answers.Goals as goal
 
 pub returns : goal.returns

@@ -1,4 +1,4 @@
-use Rattle.run_reports.proofs.LineLemmas.{number_more}
+use Rattle.run_reports.proofs.Algebra.{number_more}
 use Rattle.run_reports.proofs.row_lines.push_bytes.Goals as goal
 
 pub loop-byte-preserved : goal.loop-byte-preserved

@@ -1,4 +1,4 @@
-use Rattle.run_reports.proofs.LineLemmas.{number_more}
+use Rattle.run_reports.proofs.Algebra.{number_more}
 use Rattle.run_reports.proofs.row_lines.push_numbers.Goals as goal
 
 pub loop-number-preserved : goal.loop-number-preserved

@@ -4,7 +4,7 @@ use Rattle.alone_runs.specs.Rows.{row_seen}
 use Rattle.fz_shelf.proofs.Algebra.{bare-append}
 use Rattle.fz_shelf.specs.Parts.{ended}
 use Rattle.run_forms.specs.Rows.{frames_seen}
-use Rattle.run_reports.proofs.LineLemmas.{row_written}
+use Rattle.run_reports.proofs.Algebra.{row_written}
 use Rattle.run_reports.specs.RowLines.{frame_line, sample_told}
 use Rattle.run_reports.proofs.row_lines.push_row.Goals as goal
 

@@ -5,7 +5,7 @@ use Rattle.run_reports.specs.Inputs.{input_refusals}
 use Rattle.form_commands.specs.Hrun.{hrun_refusals}
 use Rattle.form_commands.proofs.HandledLemmas.{hrun_refused}
 use Rattle.command_parts.proofs.Algebra.{refused}
-use Rattle.form_commands.proofs.hrun.Hrun.accepted.Goals as goal
+use Rattle.form_commands.proofs.hrun.Accepted.of.Goals as goal
 
 pub returns-in_err-inputs-clause-fault : goal.returns-in_err-inputs-clause-fault
 returns-in_err-inputs-clause-fault c =

@@ -3,11 +3,11 @@ use Rattle.run_reports.specs.Inputs.{input_refusals}
 use Rattle.run_commands.specs.Run.{run_refusals}
 use Rattle.run_commands.proofs.AnswerLemmas.{run_refused}
 use Rattle.command_parts.proofs.Algebra.{refused}
-use Rattle.run_commands.proofs.run.Run.accepted.Goals as goal
+use Rattle.run_commands.proofs.run.Accepted.of.Goals as goal
 
 pub returns-in_err-inputs-clause-fault : goal.returns-in_err-inputs-clause-fault
 returns-in_err-inputs-clause-fault c =
-    let run = c.args.self in
+    let run = c.args.run in
     let files = c.args.files.now in
     let compiled = c.in_ok-compiled.compiled in
     let passed : c.from_residual-in_err-inputs.result ≡ Err c.in_err-inputs.field-0.0 = search rules in

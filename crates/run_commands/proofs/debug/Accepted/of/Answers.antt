@@ -3,7 +3,7 @@ use Rattle.run_reports.specs.Inputs.{sample_refusals}
 use Rattle.run_commands.specs.Debug.{debug_refusals}
 use Rattle.run_commands.proofs.DebugLemmas.{debug_refused}
 use Rattle.command_parts.proofs.Algebra.{refused}
-use Rattle.run_commands.proofs.debug.DebugRun.accepted.Goals as goal
+use Rattle.run_commands.proofs.debug.Accepted.of.Goals as goal
 
 pub returns-in_err-samples-clause-fault : goal.returns-in_err-samples-clause-fault
 returns-in_err-samples-clause-fault c =
