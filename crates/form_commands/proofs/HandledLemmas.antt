@@ -1,25 +1,15 @@
 -- What a run gives whose interrupts run a handler's code.
-use Rattle.std.proofs.Common.{◌≡◌, ◌<◌, ◌^◌, ℕ, List, refl, sym, subst}
-use Rattle.std.specs.Prelude.{map}
+use Rattle.form_commands.proofs.Words.{◌<◌, ◌^◌, ◌≡◌, Alone, AnswersAreReported, AnswersItsBlock, AnswersUnderPlans}
+use Rattle.form_commands.proofs.Words.{Block, Byte, Firmware, GivesFirmware, handled_report, handled_seen}
+use Rattle.form_commands.proofs.Words.{HandledFiles, hrun_refusals, input_bytes, input_refusals, List, map, Named}
+use Rattle.form_commands.proofs.Words.{refl, Request, RowSeen, Sample, SpelledBytesFit, Status, subst, sym, ℕ}
+use Rattle.handled_runs.specs.{Forms.HandledSeen}
+use Rattle.command_parts.specs.{Handlers.GivesHandler}
+use Rattle.form_commands.specs.{Hrun.AcceptedHandledRunsMakeOutput}
 use Rattle.cpu12_asm.specs.declared.image.Image.{Image}
-use Rattle.fuzzy_meaning.specs.declared.block.Block.{Block}
-use Rattle.alone_code.specs.declared.firmware.Firmware.{Firmware}
-use Rattle.box_tree.specs.declared.cert.CertKind.TheVariants.{Named}
-use Rattle.byte_scaling.specs.declared.width.Width.TheVariants.{Byte}
-use Rattle.interrupt_plan.specs.declared.Request.{Request}
-use Rattle.trace_io.specs.{declared.sample.Sample.Sample, Traces.input_bytes}
-use Rattle.run_law.specs.Forms.{RowSeen}
-use Rattle.alone_runs.specs.Answering.{AnswersItsBlock, AnswersUnderPlans}
 use Rattle.handled_runs.specs.Answering.{AreListedRows, HandledAnswers, HandlesItsBlock}
-use Rattle.handled_runs.specs.Forms.{HandledSeen, handled_seen}
-use Rattle.fz_status.specs.declared.status.Status.{Status}
 use Rattle.fz_status.specs.declared.status.Status.TheVariants as status
-use Rattle.command_parts.specs.{Firmwares.GivesFirmware, Handlers.GivesHandler}
-use Rattle.command_parts.specs.declared.firmware.Form.TheVariants.{Alone}
-use Rattle.run_reports.specs.{Inputs.input_refusals, Laws.AnswersAreReported, Laws.SpelledBytesFit}
 use Rattle.run_reports.specs.HandledRun.{AcceptsHandled, HandledRun}
-use Rattle.run_reports.specs.declared.files.HandledFiles.{HandledFiles}
-use Rattle.form_commands.specs.Hrun.{AcceptedHandledRunsMakeOutput, handled_report, hrun_refusals}
 
 -- what it answers of accepted files is the run of them
 module _ (reported : AnswersAreReported) (fit : SpelledBytesFit) (all : AnswersUnderPlans) (flags : ℕ)

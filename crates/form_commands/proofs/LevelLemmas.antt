@@ -1,27 +1,18 @@
 -- What a run at two levels gives.
-use Rattle.std.proofs.Common.{◌≡◌, ◌≤◌, ◌<◌, ◌^◌, ◌∙◌, ℕ, List, [], ◌∷◌, length, refl, ap, sym, subst}
-use Rattle.std.specs.Prelude.{All, map}
-use Rattle.std.proofs.lemmas.List.{length-map}
-use Rattle.std.proofs.lemmas.List.Elements.{All-cons, All-head, All-nil, All-tail}
-use Rattle.fuzzy_meaning.specs.declared.block.Block.{Block}
-use Rattle.alone_code.specs.Uninterrupted.{AreAnswersOf}
-use Rattle.byte_scaling.specs.declared.width.Width.TheVariants.{Byte}
-use Rattle.interrupt_plan.specs.{declared.Request.Request, declared.levels.Level.Level, Levels.AreGoodLevels}
-use Rattle.run_law.specs.Forms.{RowSeen}
-use Rattle.trace_io.specs.{declared.sample.Sample.Sample, Traces.input_bytes}
-use Rattle.alone_runs.specs.Answering.{AnswersItsBlock, AnswersUnderPlans}
-use Rattle.alone_runs.specs.Rows.{bytes_of, firmware_rows}
-use Rattle.two_level_code.specs.{Images.AloneHasByteBounds, Images.HasByteBounds, Images.fast_most}
-use Rattle.two_level_code.specs.{declared.two.Two.Two}
+use Rattle.form_commands.proofs.Words.{[], ◌<◌, ◌^◌, ◌∙◌, ◌∷◌, ◌≡◌, ◌≤◌, All, All-cons, All-head, All-nil, All-tail}
+use Rattle.form_commands.proofs.Words.{Alone, AnswersAreReported, AnswersItsBlock, AnswersKeepTheBound}
+use Rattle.form_commands.proofs.Words.{AnswersUnderPlans, ap, AreAnswersOf, Block, Byte, bytes_of, fast_most}
+use Rattle.form_commands.proofs.Words.{FastSeen, GivesFirmware, input_bytes, IsOneOf, length, length-map}
+use Rattle.form_commands.proofs.Words.{level_report, LevelFiles, List, map, of_seen, PostedAnswersAreNear, refl}
+use Rattle.form_commands.proofs.Words.{Request, RowSeen, Sample, SpelledBytesFit, subst, sym, Two, two_seen, ℕ}
+use Rattle.interrupt_plan.specs.{declared.levels.Level.Level, Levels.AreGoodLevels}
+use Rattle.alone_runs.specs.{Rows.firmware_rows}
+use Rattle.two_level_code.specs.{Images.AloneHasByteBounds, Images.HasByteBounds}
+use Rattle.two_level_runs.specs.{Order.LevelsMakeAPlan, Rows.TwoSeen}
+use Rattle.form_commands.specs.{Lrun.AcceptedLevelRunsMakeOutput}
 use Rattle.two_level_runs.specs.Answering.{AnswersAtTwoLevels, AnswersItsBlocks, AnswersUnderLevels, RowsAreSeen}
 use Rattle.two_level_runs.specs.Answering.{answer_of_fast, fast_runs, plan_of}
-use Rattle.two_level_runs.specs.{Order.LevelsMakeAPlan, Rows.TwoSeen, Rows.two_seen, Runs.FastSeen}
-use Rattle.run_reports.specs.{Posted.IsOneOf, Posted.PostedAnswersAreNear, declared.files.LevelFiles.LevelFiles}
 use Rattle.run_reports.specs.LevelRun.{AcceptsLevels, LevelRun, fast_numbers}
-use Rattle.run_reports.specs.Laws.{AnswersAreReported, AnswersKeepTheBound, SpelledBytesFit}
-use Rattle.command_parts.specs.{Firmwares.GivesFirmware, declared.firmware.Form.TheVariants.Alone}
-use Rattle.command_parts.proofs.Algebra.{of_seen}
-use Rattle.form_commands.specs.Lrun.{AcceptedLevelRunsMakeOutput, level_report}
 
 map-twice : {X Y Z : Type 0} (g : Y → Z) (f : X → Y) (xs : List X) → map g (map f xs) ≡ map (λ x. g (f x)) xs
 map-twice g f [] = refl

@@ -1,17 +1,16 @@
 -- The lines of a run at two levels.
-use Rattle.std.proofs.Common.{◌≡◌, ◌+◌, ◌-◌, ◌<◌, ◌∙◌, ℕ, List, [], ◌∷◌, ◌++◌, length, take, get_or, true, ap, arith}
-use Rattle.std.specs.Prelude.{codes, decimal, Option, None}
+use Rattle.form_commands.proofs.Words.{[], ◌++◌, ◌+◌, ◌-◌, ◌<◌, ◌∙◌, ◌∷◌, ◌≡◌, ap, arith, bare-append, bare-decimal}
+use Rattle.form_commands.proofs.Words.{boundary_seen, codes, counted, decimal, FastSeen, Frame, frame_line, length}
+use Rattle.form_commands.proofs.Words.{line, lines_more, List, made_with, outer_lines, take, true, ℕ}
+use Rattle.std.proofs.{Common.get_or}
+use Rattle.std.specs.{Prelude.Option, Prelude.None}
+use Rattle.command_parts.specs.{Lines.error_lines}
+use Rattle.command_parts.proofs.{Algebra.made_next}
+use Rattle.form_commands.specs.{Lrun.fast_lines, Lrun.level_begun_lines}
+use Rattle.run_reports.specs.{RowLines.answers_told}
 use Rattle.std.specs.List.{slice_index_or}
-use Rattle.cpu12_emul.specs.declared.ends.Frame.{Frame}
-use Rattle.fz_shelf.proofs.Algebra.{bare-append, bare-decimal}
 use Rattle.fz_shelf.specs.Lines.{has_no_end}
-use Rattle.run_forms.specs.Rows.{boundary_seen}
-use Rattle.two_level_runs.specs.Runs.{FastSeen}
-use Rattle.command_parts.specs.Lines.{counted, error_lines, line}
-use Rattle.command_parts.proofs.Algebra.{lines_more, made_next, made_with}
-use Rattle.form_commands.specs.Lrun.{fast_lines, level_begun_lines, outer_lines}
 use Rattle.run_reports.proofs.Algebra.{bare-answers}
-use Rattle.run_reports.specs.RowLines.{answers_told, frame_line}
 
 -- the errors and the bounds
 pub begun_written : (none errors fast bounded lines : List (List ℕ)) (one two : List ℕ)

@@ -1,20 +1,12 @@
 -- What refuses the files of a run at two levels, and that nothing refuses accepted ones.
-use Rattle.std.proofs.Common.{ℕ, List, length}
-use Rattle.fuzzy_meaning.specs.declared.block.Block.{Block}
-use Rattle.box_tree.specs.declared.cert.CertKind.TheVariants.{Named}
-use Rattle.byte_scaling.specs.declared.width.Width.TheVariants.{Byte}
-use Rattle.srecord.specs.Texts.{GivesImage}
-use Rattle.trace_io.specs.{Traces.Spells as SpellsTrace, declared.sample.Sample.Sample}
-use Rattle.two_level_code.specs.declared.two.Two.{Two}
-use Rattle.command_parts.specs.{Certs.AcceptsCert, Certs.cert_refusals, Images.image_refusals}
+use Rattle.form_commands.proofs.Words.{AcceptsCert, Block, Byte, GivesImage, IsRefusal, length, LevelFiles, List}
+use Rattle.form_commands.proofs.Words.{Named, refused, Sample, SpellsTrace, Status, Two, ℕ}
+use Rattle.command_parts.specs.{Certs.cert_refusals, Images.image_refusals}
+use Rattle.fz_status.specs.{Refusals.of_fast}
 use Rattle.command_parts.specs.Twos.{GivesTwo, two_refusals}
-use Rattle.fz_status.specs.Refusals.{IsRefusal, of_fast}
 use Rattle.fz_status.specs.declared.status.FastFault.TheVariants as told
-use Rattle.fz_status.specs.declared.status.Status.{Status}
 use Rattle.fz_status.specs.declared.status.Status.TheVariants as status
-use Rattle.command_parts.proofs.Algebra.{refused}
 use Rattle.run_reports.specs.{Inputs.trace_refusals, LevelRun.AcceptsCerts, LevelRun.SpellTraces}
-use Rattle.run_reports.specs.declared.files.LevelFiles.{LevelFiles}
 use Rattle.form_commands.specs.Lrun.{certs_refusals, level_input_refusals, level_sample_refusals, levels_refusals}
 use Rattle.form_commands.specs.Lrun.{lrun_refusals, traces_refusals}
 

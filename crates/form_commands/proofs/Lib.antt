@@ -5,3 +5,4 @@ pub mod LevelRefusals
 pub mod OneLemmas
 pub mod PostedLemmas
 pub mod WatchedLemmas
+pub mod Words

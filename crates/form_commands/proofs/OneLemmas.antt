@@ -1,31 +1,22 @@
 -- Files make at most one output.
-use Rattle.std.proofs.Common.{◌≡◌, ◌∙◌, ℕ, List, arith, sym, ap, subst}
-use Rattle.std.specs.Prelude.{length, map}
-use Rattle.std.proofs.lemmas.List.{length-map}
-use Rattle.fuzzy_meaning.specs.{Blocks.IsValid, declared.block.Block.Block}
-use Rattle.box_tree.specs.declared.cert.CertKind.TheVariants.{Named}
-use Rattle.byte_scaling.specs.declared.width.Width.TheVariants.{Byte}
+use Rattle.form_commands.proofs.Words.{◌∙◌, ◌≡◌, AcceptsCert, Alone, ap, arith, Block, Byte, fast_most, faults_of}
+use Rattle.form_commands.proofs.Words.{Firmware, handled_seen, HandledFiles, input_bytes, length-map, LevelFiles}
+use Rattle.form_commands.proofs.Words.{List, lrun_lines, Mailbox, mailbox_bound, map, mrun_lines, Named, only_lines}
+use Rattle.form_commands.proofs.Words.{PostedFiles, run_of, run_under_posts, Sample, SpellsTrace, subst, sym}
+use Rattle.form_commands.proofs.Words.{two_seen, upset_rows, Watched, WatchedFiles, ℕ}
+use Rattle.std.specs.{Prelude.length}
+use Rattle.fuzzy_meaning.specs.{Blocks.IsValid}
+use Rattle.handled_runs.specs.{Answering.HandlersRunAlike}
+use Rattle.command_parts.specs.{Certs.AcceptedErrorsAreOne, SeenOutputs.OutputsAreOne, Twos.GivenTwosAreOne}
+use Rattle.run_reports.specs.{Laws.SpelledInputsAreOne}
+use Rattle.form_commands.specs.{Hrun.HrunMakes, Hrun.hrun_lines, Lrun.LrunMakes, Mrun.MrunMakes, Srun.SrunMakes}
+use Rattle.form_commands.specs.{Srun.srun_lines}
 use Rattle.eval_code.specs.Bounds.{instruction_bound}
-use Rattle.alone_code.specs.{Mailboxes.mailbox_bound, declared.firmware.Firmware.Firmware}
 use Rattle.watched_code.specs.Watched.{watched_bound}
-use Rattle.two_level_code.specs.Images.{fast_most}
 use Rattle.srecord.specs.Laws.{ImagesAreOne}
 use Rattle.interrupt_plan.specs.{Levels.SpellsLevels, Posts.SpellsPosts, UpsetTexts.SpellsUpsets}
 use Rattle.interrupt_plan.specs.OneReading.{SpelledLevelsAreOne, SpelledPostsAreOne, SpelledUpsetsAreOne}
-use Rattle.trace_io.specs.{Traces.Spells as SpellsTrace, Traces.input_bytes, declared.sample.Sample.Sample}
-use Rattle.handled_runs.specs.{Answering.HandlersRunAlike, Forms.handled_seen}
-use Rattle.watched_runs.specs.Rows.{faults_of, upset_rows}
-use Rattle.mailbox_runs.specs.Runs.{run_under_posts}
-use Rattle.two_level_runs.specs.Rows.{two_seen}
-use Rattle.command_parts.specs.Certs.{AcceptedErrorsAreOne, AcceptsCert}
 use Rattle.command_parts.specs.Firmwares.{GivenFirmwaresAreOne}
-use Rattle.command_parts.specs.declared.firmware.Form.TheVariants.{Alone, Mailbox, Watched}
-use Rattle.command_parts.specs.{SeenOutputs.OutputsAreOne, SeenOutputs.only_lines, Twos.GivenTwosAreOne}
-use Rattle.run_reports.specs.{Laws.SpelledInputsAreOne, PostedRun.run_of}
-use Rattle.run_reports.specs.declared.{files.HandledFiles.HandledFiles, files.LevelFiles.LevelFiles}
-use Rattle.run_reports.specs.declared.{files.PostedFiles.PostedFiles, files.WatchedFiles.WatchedFiles}
-use Rattle.form_commands.specs.{Hrun.HrunMakes, Hrun.hrun_lines, Lrun.LrunMakes, Lrun.lrun_lines}
-use Rattle.form_commands.specs.{Mrun.MrunMakes, Mrun.mrun_lines, Srun.SrunMakes, Srun.srun_lines}
 use Rattle.form_commands.specs.declared.{hrun.Hrun.Hrun, lrun.Lrun.Lrun, mrun.Mrun.Mrun, srun.Srun.Srun}
 
 module _ (accepted : AcceptedErrorsAreOne) (inputs : SpelledInputsAreOne) where

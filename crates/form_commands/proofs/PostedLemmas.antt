@@ -1,40 +1,29 @@
 -- What a run under posts gives.
-use Rattle.std.proofs.Common.{◌≡◌, ◌≢◌, ◌≤◌, ◌+◌, ◌-◌, ◌∙◌, ℕ, Bool, true, false, List, [], ◌∷◌, ◌++◌, length, ap, ap₂}
-use Rattle.std.proofs.Common.{refl, sym, subst, arith}
-use Rattle.std.specs.Prelude.{All, codes, if◌then◌else◌, map, nat_le, ◌==◌}
-use Rattle.std.proofs.lemmas.List.Elements.{All-cons, All-head, All-tail}
+use Rattle.form_commands.proofs.Words.{[], ◌++◌, ◌+◌, ◌-◌, ◌∙◌, ◌∷◌, ◌≡◌, ◌≤◌, AcceptsCert, All, All-cons, All-head}
+use Rattle.form_commands.proofs.Words.{All-tail, answer_line, answer_seen, AnswersKeepTheBound, ap, ap₂, AreAnswersOf}
+use Rattle.form_commands.proofs.Words.{arith, begun_lines, Block, boundary_seen, Byte, bytes_of, codes, counted}
+use Rattle.form_commands.proofs.Words.{counted-map, Firmware, Frame, frames_seen, GivesFirmware, GivesImage}
+use Rattle.form_commands.proofs.Words.{input_bytes, IsOneOf, IsRefusal, length, length-map, line, List, made_with}
+use Rattle.form_commands.proofs.Words.{Mailbox, mailbox_bound, map, map-map, mrun_lines, Named, of_seen}
+use Rattle.form_commands.proofs.Words.{posted_report, PostedAnswersAreNear, PostedFiles, refl, run_of}
+use Rattle.form_commands.proofs.Words.{run_under_posts, Sample, SpelledBytesFit, SpellsTrace, Status, subst, sym}
+use Rattle.form_commands.proofs.Words.{true, ℕ}
+use Rattle.mailbox_runs.specs.Runs.{AnswerSeen, RunSeen, arrival, steps_of}
+use Rattle.form_commands.specs.Mrun.{AcceptedPostedRunsMakeOutput, mrun_refusals, posts_refusals, taken_line}
+use Rattle.run_reports.specs.PostedRun.{AcceptsPosted, PostedReport, PostedRun, answered_samples}
+use Rattle.std.proofs.{Common.◌≢◌, Common.Bool, Common.false}
+use Rattle.std.specs.{Prelude.if◌then◌else◌, Prelude.nat_le, Prelude.◌==◌}
+use Rattle.cpu12_emul.specs.{Take.FrameSeen}
+use Rattle.byte_scaling.specs.{Widths.width_of, declared.width.Width.Width}
 use Rattle.std.proofs.lemmas.Bool.Decides.{nat_tests}
-use Rattle.std.proofs.lemmas.List.{length-map}
-use Rattle.std.proofs.lemmas.Simd.{map-map}
-use Rattle.fuzzy_meaning.specs.declared.block.Block.{Block}
-use Rattle.cpu12_emul.specs.{Take.FrameSeen, declared.ends.Frame.Frame}
 use Rattle.cpu12_parts.specs.State.{State}
-use Rattle.alone_code.specs.{Mailboxes.mailbox_bound, Uninterrupted.AreAnswersOf, declared.firmware.Firmware.Firmware}
-use Rattle.byte_scaling.specs.{Widths.width_of, declared.width.Width.Width, declared.width.Width.TheVariants.Byte}
-use Rattle.box_tree.specs.declared.cert.CertKind.TheVariants.{Named}
-use Rattle.srecord.specs.Texts.{GivesImage}
 use Rattle.interrupt_plan.specs.{Posts.AreGoodPosts, declared.Post.Post}
-use Rattle.trace_io.specs.{Traces.Spells as SpellsTrace, declared.sample.Sample.Sample}
-use Rattle.trace_io.specs.Traces.{input_bytes}
-use Rattle.alone_runs.specs.Rows.{bytes_of}
 use Rattle.mailbox_runs.specs.Answering.{AnswersItsPosts, AnswersUnderAllPosts, AnswersUnderPosts, answer_in, ended}
 use Rattle.mailbox_runs.specs.Answering.{run_of_turns}
-use Rattle.mailbox_runs.specs.Runs.{AnswerSeen, RunSeen, answer_seen, arrival, steps_of, run_under_posts}
 use Rattle.mailbox_runs.specs.Turns.{AreTurns, LastIsAnswered, Turn, behind, over, idle, answers, samples_of, up_to}
 use Rattle.mailbox_runs.specs.Turns.{waiting}
-use Rattle.run_forms.specs.Rows.{boundary_seen, frames_seen}
 use Rattle.mailbox_runs.specs.declared.run.Answer as declared
-use Rattle.run_reports.specs.Posted.{IsOneOf, PostedAnswersAreNear}
-use Rattle.fz_status.specs.{Refusals.IsRefusal, declared.status.Status.Status}
 use Rattle.fz_status.specs.declared.status.Status.TheVariants as status
-use Rattle.command_parts.specs.{Certs.AcceptsCert, Firmwares.GivesFirmware, Lines.counted, Lines.line}
-use Rattle.command_parts.proofs.Algebra.{of_seen, counted-map, made_with}
-use Rattle.command_parts.specs.declared.firmware.Form.TheVariants.{Mailbox}
-use Rattle.form_commands.specs.Mrun.{AcceptedPostedRunsMakeOutput, answer_line, mrun_lines, mrun_refusals}
-use Rattle.form_commands.specs.Mrun.{posted_report, posts_refusals, taken_line}
-use Rattle.run_reports.specs.PostedRun.{AcceptsPosted, PostedReport, PostedRun, answered_samples, run_of}
-use Rattle.run_reports.specs.declared.files.PostedFiles.{PostedFiles}
-use Rattle.run_reports.specs.{RowLines.begun_lines, Laws.AnswersKeepTheBound, Laws.SpelledBytesFit}
 
 -- ---- the samples that turns answer are among those that are posted
 

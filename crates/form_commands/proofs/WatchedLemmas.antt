@@ -1,27 +1,18 @@
 -- What a run under upsets gives.
-use Rattle.std.proofs.Common.{◌≡◌, ◌≤◌, ℕ, List, [], ◌∷◌, refl, subst}
-use Rattle.std.specs.Prelude.{All, map}
-use Rattle.std.proofs.lemmas.List.Elements.{All-cons, All-nil}
-use Rattle.fuzzy_meaning.specs.declared.block.Block.{Block}
+use Rattle.form_commands.proofs.Words.{[], ◌∷◌, ◌≡◌, ◌≤◌, All, All-cons, All-nil, Block, Byte, faults_of, Firmware}
+use Rattle.form_commands.proofs.Words.{GivesFirmware, GivesImage, input_bytes, input_refusals, List, map, Named, refl}
+use Rattle.form_commands.proofs.Words.{Request, Sample, SpelledBytesFit, srun_refusals, Status, subst, upset_refusals}
+use Rattle.form_commands.proofs.Words.{upset_rows, watched_report, WatchedFiles, ℕ}
+use Rattle.interrupt_plan.specs.{declared.upsets.Upset.Upset}
+use Rattle.watched_runs.specs.{Rows.FaultSeen, Samples.with_upsets}
+use Rattle.run_reports.specs.{Inputs.AcceptsInputs, WatchedRun.WatchedRun}
+use Rattle.form_commands.specs.{Srun.AcceptedWatchedRunsMakeOutput, Srun.AcceptsWatched}
 use Rattle.cpu12_emul.specs.Image.{image_memory}
 use Rattle.watched_code.specs.Watched.{Watched, watched_answer}
-use Rattle.alone_code.specs.declared.firmware.Firmware.{Firmware}
-use Rattle.box_tree.specs.declared.cert.CertKind.TheVariants.{Named}
-use Rattle.byte_scaling.specs.declared.width.Width.TheVariants.{Byte}
-use Rattle.srecord.specs.Texts.{GivesImage}
-use Rattle.interrupt_plan.specs.declared.{Request.Request, upsets.Upset.Upset}
-use Rattle.trace_io.specs.{declared.sample.Sample.Sample, Traces.input_bytes}
 use Rattle.watched_runs.specs.Answering.{AnswersItsSamples, AnswersUnderAllUpsets, AnswersUnderUpsets, AreWatchedRows}
-use Rattle.watched_runs.specs.{Rows.FaultSeen, Rows.faults_of, Rows.upset_rows, Samples.with_upsets}
 use Rattle.run_reports.specs.Faultless.{FaultlessAnswersAreNear}
-use Rattle.fz_status.specs.declared.status.Status.{Status}
 use Rattle.fz_status.specs.declared.status.Status.TheVariants as status
-use Rattle.command_parts.specs.Firmwares.{GivesFirmware}
 use Rattle.command_parts.specs.declared.firmware.Form.TheVariants as form
-use Rattle.run_reports.specs.{Inputs.AcceptsInputs, Inputs.input_refusals, Laws.SpelledBytesFit}
-use Rattle.run_reports.specs.{WatchedRun.WatchedRun, declared.files.WatchedFiles.WatchedFiles}
-use Rattle.form_commands.specs.Srun.{AcceptedWatchedRunsMakeOutput, AcceptsWatched, srun_refusals, upset_refusals}
-use Rattle.form_commands.specs.Srun.{watched_report}
 
 instructions_within : (b : Block) (f : Firmware) (before : ℕ → ℕ) (xs : List Watched) (rs : List FaultSeen)
     → AreWatchedRows b f before xs rs → All (λ r. r.row.instrs ≤ f.instr_bound) rs

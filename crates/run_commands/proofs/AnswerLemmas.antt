@@ -1,20 +1,12 @@
 -- A certified run, and what refuses one.
-use Rattle.std.proofs.Common.{◌≡◌, ℕ, List, refl, subst}
+use Rattle.run_commands.proofs.Words.{◌≡◌, Alone, AnswersAreReported, AnswersItsBlock, AnswersUnderPlans, Block}
+use Rattle.run_commands.proofs.Words.{Firmware, firmware_rows, GivesFirmware, GivesImage, input_bytes, input_refusals}
+use Rattle.run_commands.proofs.Words.{left_of, List, refl, report_of, Request, RowSeen, Run, run_refusals, RunFiles}
+use Rattle.run_commands.proofs.Words.{Sample, Status, subst, ℕ}
+use Rattle.run_reports.specs.{CertifiedRun.CertifiedRun}
+use Rattle.run_commands.specs.{Run.AcceptedRunsMakeOutput, Run.Accepts}
 use Rattle.std.specs.Prelude.{map}
-use Rattle.fuzzy_meaning.specs.declared.block.Block.{Block}
-use Rattle.alone_code.specs.declared.firmware.Firmware.{Firmware}
-use Rattle.interrupt_plan.specs.declared.Request.{Request}
-use Rattle.trace_io.specs.{declared.sample.Sample.Sample, Traces.input_bytes}
-use Rattle.run_law.specs.Forms.{RowSeen}
-use Rattle.alone_runs.specs.{Answering.AnswersItsBlock, Answering.AnswersUnderPlans, Rows.firmware_rows}
-use Rattle.srecord.specs.Texts.{GivesImage}
-use Rattle.fz_status.specs.declared.status.Status.{Status}
 use Rattle.fz_status.specs.declared.status.Status.TheVariants as status
-use Rattle.command_parts.specs.{Firmwares.GivesFirmware, declared.firmware.Form.TheVariants.Alone}
-use Rattle.run_reports.specs.{Inputs.input_refusals, Laws.AnswersAreReported, Reports.report_of}
-use Rattle.run_reports.specs.{CertifiedRun.CertifiedRun, Reports.left_of}
-use Rattle.run_reports.specs.declared.files.RunFiles.{RunFiles}
-use Rattle.run_commands.specs.{Run.AcceptedRunsMakeOutput, Run.Accepts, Run.run_refusals, declared.run.Run.Run}
 
 -- what it answers of accepted files is a certified run
 abbrev pub certifies : (reported : AnswersAreReported) (run : Run) (files : RunFiles) (block : Block)

@@ -1,28 +1,16 @@
 -- What a debugged run gives.
-use Rattle.std.proofs.Common.{◌≡◌, ◌∙◌, ℕ, List, [], ◌∷◌, true, ap, ap₂, refl, subst}
+use Rattle.run_commands.proofs.Words.{[], ◌∙◌, ◌∷◌, ◌≡◌, Alone, AnswersItsBlock, AnswersUnderPlans, ap, ap₂}
+use Rattle.run_commands.proofs.Words.{bare-append, behind_blank, Block, Byte, debug_lines, debug_refusals, DebugFiles}
+use Rattle.run_commands.proofs.Words.{DebugRun, Firmware, firmware_rows, flat_map, GivesFirmware, GivesImage}
+use Rattle.run_commands.proofs.Words.{input_bytes, List, only_lines, refl, Request, RowSeen, Sample, sample_refusals}
+use Rattle.run_commands.proofs.Words.{shown, Status, subst, true, ℕ}
+use Rattle.run_commands.specs.Debug.{DebugGives, Debugs, run_positions, AcceptedDebugRunsMakeOutput}
+use Rattle.fz_shelf.proofs.{Algebra.bare-byte}
+use Rattle.debug_script.specs.{declared.order.Order.Order, declared.shown.Shown.Shown}
+use Rattle.run_reports.specs.{Laws.SpelledBytesFit}
 use Rattle.std.specs.Prelude.{map}
-use Rattle.std.specs.List.{flat_map}
-use Rattle.fuzzy_meaning.specs.declared.block.Block.{Block}
-use Rattle.alone_code.specs.declared.firmware.Firmware.{Firmware}
-use Rattle.interrupt_plan.specs.declared.Request.{Request}
-use Rattle.trace_io.specs.{declared.sample.Sample.Sample, Traces.input_bytes}
-use Rattle.run_law.specs.Forms.{RowSeen}
-use Rattle.alone_runs.specs.{Answering.AnswersItsBlock, Answering.AnswersUnderPlans}
-use Rattle.alone_runs.specs.Rows.{firmware_rows}
-use Rattle.fz_shelf.proofs.Algebra.{bare-append, bare-byte}
 use Rattle.fz_shelf.specs.{Lines.has_no_end, Parts.byte_digits}
-use Rattle.debug_script.specs.{Showing.shown, declared.order.Order.Order, declared.shown.Shown.Shown}
-use Rattle.byte_scaling.specs.declared.width.Width.TheVariants.{Byte}
-use Rattle.srecord.specs.Texts.{GivesImage}
-use Rattle.fz_status.specs.declared.status.Status.{Status}
 use Rattle.fz_status.specs.declared.status.Status.TheVariants as status
-use Rattle.command_parts.specs.{Firmwares.GivesFirmware, SeenOutputs.only_lines}
-use Rattle.run_reports.specs.{Inputs.sample_refusals, Laws.SpelledBytesFit}
-use Rattle.run_commands.specs.declared.debug.DebugFiles.{DebugFiles}
-use Rattle.run_commands.specs.Debug.{DebugGives, Debugs, debug_lines, debug_refusals, run_positions}
-use Rattle.run_commands.specs.Debug.{AcceptedDebugRunsMakeOutput, behind_blank}
-use Rattle.run_commands.specs.declared.debug.DebugRun.{DebugRun}
-use Rattle.command_parts.specs.declared.firmware.Form.TheVariants.{Alone}
 
 -- what the debugger answers of accepted files, and its lines
 pub gives : (fit : SpelledBytesFit) (debug : DebugRun) (files : DebugFiles) (block : Block) (firmware : Firmware)

@@ -1,14 +1,9 @@
 -- A number that is accepted makes an output.
-use Rattle.std.proofs.Common.{◌≡◌, ◌∙◌, ℕ, List, [], ◌∷◌, ◌++◌, ap, length, map, refl, arith}
-use Rattle.std.specs.Prelude.{codes}
-use Rattle.byte_scaling.specs.declared.width.Width.TheVariants.{Byte}
-use Rattle.alone_runs.specs.{Answering.AnswersUnderPlans, Rows.firmware_rows}
-use Rattle.trace_io.specs.Traces.{input_bytes}
-use Rattle.run_reports.specs.{Laws.AnswersAreReported, Reports.report_of}
-use Rattle.run_commands.specs.Generate.{AcceptedNumbersMakeOutput, answers_of, frames_of, generate_lines, resumed_of}
-use Rattle.command_parts.proofs.Algebra.{made_with}
-use Rattle.command_parts.specs.Lines.{error_lines, line}
-use Rattle.run_law.specs.Forms.{RowSeen}
+use Rattle.run_commands.proofs.Words.{[], ◌++◌, ◌∙◌, ◌∷◌, ◌≡◌, answers_of, AnswersAreReported, AnswersUnderPlans, ap}
+use Rattle.run_commands.proofs.Words.{arith, Byte, codes, firmware_rows, frames_of, generate_lines, input_bytes}
+use Rattle.run_commands.proofs.Words.{length, line, List, made_with, map, refl, report_of, resumed_of, RowSeen, ℕ}
+use Rattle.run_commands.specs.{Generate.AcceptedNumbersMakeOutput}
+use Rattle.command_parts.specs.{Lines.error_lines}
 
 pub generate_made : AnswersAreReported → AnswersUnderPlans → AcceptedNumbersMakeOutput
 generate_made reported under generate (block, firmware, samples, requests, cert, a) =

@@ -3,3 +3,4 @@ pub mod DebugLemmas
 pub mod GenerateLemmas
 pub mod OneLemmas
 pub mod SumLemmas
+pub mod Words

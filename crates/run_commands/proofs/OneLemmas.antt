@@ -1,26 +1,21 @@
 -- Files, and a number, make at most one output.
-use Rattle.std.proofs.Common.{◌≡◌, ◌∙◌, sym, ap, subst}
+use Rattle.run_commands.proofs.Words.{◌∙◌, ◌≡◌, Alone, ap, Block, Byte, debug_lines, DebugFiles, DebugRun}
+use Rattle.run_commands.proofs.Words.{firmware_rows, generate_lines, generated_target, GenerateMakes, input_bytes}
+use Rattle.run_commands.proofs.Words.{left_of, Named, only_lines, Run, run_lines, RunFiles, shown, subst, sym}
+use Rattle.byte_scaling.specs.{Widths.parts}
+use Rattle.box_tree.specs.{declared.cert.Cert.Cert}
+use Rattle.trace_io.specs.{Traces.Spells as SpellsTrace}
+use Rattle.alone_runs.specs.{Rows.first_state}
+use Rattle.command_parts.specs.{Firmwares.GivenFirmwaresAreOne, SeenOutputs.OutputsAreOne}
+use Rattle.run_reports.specs.{Laws.SpelledInputsAreOne}
+use Rattle.run_commands.specs.{declared.generate.Generate.Generate, Run.RunMakes, Debug.DebugMakes}
 use Rattle.std.specs.Prelude.{Ok, Result, map}
-use Rattle.fuzzy_meaning.specs.declared.block.Block.{Block}
-use Rattle.debug_script.specs.{Showing.shown}
 use Rattle.eval_code.specs.Bounds.{instruction_bound}
-use Rattle.byte_scaling.specs.{Widths.parts, declared.width.Width.TheVariants.Byte}
-use Rattle.box_tree.specs.declared.{cert.Cert.Cert, cert.CertKind.TheVariants.Named}
 use Rattle.error_certifier.specs.{Halving.IsHalving, Laws.AnswersAreOne, declared.certifier.NotReached.NotReached}
 use Rattle.alone_code.specs.{Alike.FirmwaresAreOne, Firmwares.IsFirmwareOf}
 use Rattle.workload.specs.Laws.{WorkloadsAreOne}
 use Rattle.run_forms.specs.Positions.{positions}
-use Rattle.trace_io.specs.Traces.{Spells as SpellsTrace, input_bytes}
-use Rattle.alone_runs.specs.Rows.{firmware_rows, first_state}
 use Rattle.command_parts.specs.Certs.{AcceptedErrorsAreOne, AcceptsCert}
-use Rattle.command_parts.specs.declared.firmware.Form.TheVariants.{Alone}
-use Rattle.command_parts.specs.{Firmwares.GivenFirmwaresAreOne, SeenOutputs.OutputsAreOne, SeenOutputs.only_lines}
-use Rattle.run_reports.specs.{Laws.SpelledInputsAreOne, Reports.left_of, RowLines.run_lines}
-use Rattle.run_reports.specs.declared.files.RunFiles.{RunFiles}
-use Rattle.run_commands.specs.declared.debug.DebugFiles.{DebugFiles}
-use Rattle.run_commands.specs.Generate.{GenerateMakes, generate_lines, generated_target}
-use Rattle.run_commands.specs.declared.{debug.DebugRun.DebugRun, generate.Generate.Generate, run.Run.Run}
-use Rattle.run_commands.specs.{Run.RunMakes, Debug.DebugMakes, Debug.debug_lines}
 
 pub runs_once : GivenFirmwaresAreOne → AcceptedErrorsAreOne → SpelledInputsAreOne → (run : Run) (files : RunFiles)
     → OutputsAreOne (RunMakes run files)

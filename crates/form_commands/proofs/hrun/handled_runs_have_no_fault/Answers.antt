@@ -1,8 +1,4 @@
-use Rattle.std.proofs.Common.{subst}
-use Rattle.fuzzy_meaning.specs.declared.block.Block.{Block}
-use Rattle.box_tree.specs.declared.cert.CertKind.TheVariants.{Named}
-use Rattle.byte_scaling.specs.declared.width.Width.TheVariants.{Byte}
-use Rattle.run_reports.specs.Inputs.{input_refusals}
+use Rattle.form_commands.proofs.Words.{Block, Byte, input_refusals, Named, subst}
 use Rattle.fz_status.specs.declared.status.Status.TheVariants as status
 use Rattle.form_commands.proofs.hrun.handled_runs_have_no_fault.Goals as goal
 

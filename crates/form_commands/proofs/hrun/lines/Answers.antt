@@ -1,7 +1,5 @@
-use Rattle.std.proofs.Common.{◌+◌, ◌∙◌, ◌++◌, ap}
-use Rattle.handled_runs.specs.{Forms.row_seen, declared.rows.HandledRow.HandledRow}
-use Rattle.form_commands.specs.Hrun.{handled_row_lines}
-use Rattle.command_parts.proofs.Algebra.{lines_more}
+use Rattle.form_commands.proofs.Words.{◌++◌, ◌+◌, ◌∙◌, ap, handled_row_lines, HandledRow, lines_more}
+use Rattle.handled_runs.specs.{Forms.row_seen}
 use Rattle.form_commands.proofs.hrun.lines.Goals as goal
 
 pub loop-at-preserved : goal.loop-at-preserved

@@ -1,8 +1,5 @@
-use Rattle.std.proofs.Common.{◌≡◌, ◌++◌, take}
+use Rattle.form_commands.proofs.Words.{◌++◌, ◌≡◌, begun_lines, counted, handled_row_lines, take}
 use Rattle.handled_runs.specs.Forms.{row_seen}
-use Rattle.command_parts.specs.Lines.{counted}
-use Rattle.run_reports.specs.RowLines.{begun_lines}
-use Rattle.form_commands.specs.Hrun.{handled_row_lines}
 use Rattle.form_commands.proofs.hrun.lines.Given as goal
 
 abbrev pub invariant-loop-at : goal.invariant-loop-at

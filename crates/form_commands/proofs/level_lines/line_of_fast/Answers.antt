@@ -1,5 +1,4 @@
-use Rattle.std.proofs.Common.{◌≡◌}
-use Rattle.std.specs.Prelude.{string_bytes}
+use Rattle.form_commands.proofs.Words.{◌≡◌, string_bytes}
 use Rattle.form_commands.proofs.LevelLines.{bare-fast, fast_text, fast_written}
 use Rattle.form_commands.proofs.level_lines.line_of_fast.Goals as goal
 

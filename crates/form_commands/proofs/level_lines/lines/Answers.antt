@@ -1,7 +1,4 @@
-use Rattle.std.proofs.Common.{◌∙◌, ◌++◌, ap₂, sym}
-use Rattle.two_level_runs.specs.Harness.{row_seen}
-use Rattle.form_commands.specs.Lrun.{level_row_lines}
-use Rattle.command_parts.proofs.Algebra.{counted-map}
+use Rattle.form_commands.proofs.Words.{◌++◌, ◌∙◌, ap₂, counted-map, level_row_lines, row_seen, sym}
 use Rattle.form_commands.proofs.level_lines.lines.Goals as goal
 
 pub returns : goal.returns

@@ -1,6 +1,5 @@
-use Rattle.std.proofs.Common.{◌≡◌, ◌++◌, map, take}
-use Rattle.two_level_runs.specs.InnerNotes.{inner_seen}
-use Rattle.form_commands.specs.Lrun.{inner_line}
+use Rattle.form_commands.proofs.Words.{◌++◌, ◌≡◌, inner_line, inner_seen, take}
+use Rattle.std.proofs.{Common.map}
 use Rattle.form_commands.proofs.level_lines.push_inner.Given as goal
 
 abbrev pub invariant-loop-frame : goal.invariant-loop-frame

@@ -1,8 +1,4 @@
-use Rattle.std.proofs.Common.{◌∙◌, ℕ, ap}
-use Rattle.cpu12_emul.specs.declared.ends.Frame.{Frame}
-use Rattle.run_forms.specs.Rows.{boundary_seen}
-use Rattle.two_level_runs.specs.Harness.{row_seen}
-use Rattle.run_reports.specs.RowLines.{frame_line}
+use Rattle.form_commands.proofs.Words.{◌∙◌, ap, boundary_seen, Frame, frame_line, row_seen, ℕ}
 use Rattle.form_commands.proofs.LevelLines.{outer_more}
 use Rattle.form_commands.proofs.level_lines.push_outer.Goals as goal
 

@@ -1,8 +1,4 @@
-use Rattle.std.proofs.Common.{◌≡◌, ◌++◌, take}
-use Rattle.run_forms.specs.Rows.{boundary_seen}
-use Rattle.two_level_runs.specs.Harness.{row_seen}
-use Rattle.command_parts.specs.Lines.{counted}
-use Rattle.form_commands.specs.Lrun.{outer_lines}
+use Rattle.form_commands.proofs.Words.{◌++◌, ◌≡◌, boundary_seen, counted, outer_lines, row_seen, take}
 use Rattle.form_commands.proofs.level_lines.push_outer.Given as goal
 
 abbrev pub invariant-loop-at : goal.invariant-loop-at

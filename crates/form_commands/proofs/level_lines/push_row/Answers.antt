@@ -1,10 +1,6 @@
-use Rattle.std.proofs.Common.{◌∙◌, ◌∷◌, ◌++◌, ap₂, sym}
+use Rattle.form_commands.proofs.Words.{◌++◌, ◌∙◌, ◌∷◌, ap₂, boundary_seen, counted, counted-map, made_with}
+use Rattle.form_commands.proofs.Words.{outer_lines, row_seen, sym}
 use Rattle.fz_shelf.specs.Parts.{ended}
-use Rattle.run_forms.specs.Rows.{boundary_seen}
-use Rattle.two_level_runs.specs.Harness.{row_seen}
-use Rattle.command_parts.proofs.Algebra.{counted-map, made_with}
-use Rattle.command_parts.specs.Lines.{counted}
-use Rattle.form_commands.specs.Lrun.{outer_lines}
 use Rattle.form_commands.proofs.level_lines.push_row.Goals as goal
 
 pub returns : goal.returns

@@ -1,7 +1,4 @@
-use Rattle.std.proofs.Common.{◌+◌, ◌∙◌, ◌++◌, ap}
-use Rattle.two_level_runs.specs.{Harness.row_seen, declared.rows.TwoRow.TwoRow}
-use Rattle.command_parts.proofs.Algebra.{lines_more}
-use Rattle.form_commands.specs.Lrun.{level_row_lines}
+use Rattle.form_commands.proofs.Words.{◌++◌, ◌+◌, ◌∙◌, ap, level_row_lines, lines_more, row_seen, TwoRow}
 use Rattle.form_commands.proofs.level_lines.push_rows.Goals as goal
 
 pub loop-at-preserved : goal.loop-at-preserved

@@ -1,7 +1,4 @@
-use Rattle.std.proofs.Common.{◌≡◌, ◌++◌, take}
-use Rattle.two_level_runs.specs.Harness.{row_seen}
-use Rattle.command_parts.specs.Lines.{counted}
-use Rattle.form_commands.specs.Lrun.{level_row_lines}
+use Rattle.form_commands.proofs.Words.{◌++◌, ◌≡◌, counted, level_row_lines, row_seen, take}
 use Rattle.form_commands.proofs.level_lines.push_rows.Given as goal
 
 abbrev pub invariant-loop-at : goal.invariant-loop-at

@@ -1,8 +1,5 @@
-use Rattle.std.proofs.Common.{◌∙◌, ◌∷◌, ◌++◌, [], ap, ap₂, map, sym}
-use Rattle.std.proofs.lemmas.Simd.{map-map}
-use Rattle.two_level_runs.specs.InnerNotes.{inner_seen}
-use Rattle.command_parts.proofs.Algebra.{made_with}
-use Rattle.form_commands.specs.Lrun.{inner_line}
+use Rattle.form_commands.proofs.Words.{[], ◌++◌, ◌∙◌, ◌∷◌, ap, ap₂, inner_line, inner_seen, made_with, map-map, sym}
+use Rattle.std.proofs.{Common.map}
 use Rattle.form_commands.proofs.level_lines.push_run.Goals as goal
 
 pub returns : goal.returns

@@ -1,11 +1,5 @@
-use Rattle.std.proofs.Common.{ℕ, subst}
-use Rattle.fuzzy_meaning.specs.declared.block.Block.{Block}
-use Rattle.two_level_code.specs.declared.two.Two.{Two}
-use Rattle.trace_io.specs.Traces.{HasFault as TraceHasFault}
+use Rattle.form_commands.proofs.Words.{Block, Byte, HasCertFault, Named, RefusesImage, subst, TraceHasFault, Two, ℕ}
 use Rattle.interrupt_plan.specs.Levels.{LevelsHaveFault}
-use Rattle.command_parts.specs.{Certs.HasCertFault, Images.RefusesImage}
-use Rattle.box_tree.specs.declared.cert.CertKind.TheVariants.{Named}
-use Rattle.byte_scaling.specs.declared.width.Width.TheVariants.{Byte}
 use Rattle.fz_status.specs.declared.status.FastFault.TheVariants as told
 use Rattle.fz_status.specs.declared.status.Status.TheVariants as status
 use Rattle.form_commands.proofs.lrun.level_runs_have_no_fault.Goals as goal

@@ -1,12 +1,6 @@
-use Rattle.std.proofs.Common.{ℕ, subst}
-use Rattle.fuzzy_meaning.specs.declared.block.Block.{Block}
-use Rattle.alone_code.specs.declared.firmware.Firmware.{Firmware}
-use Rattle.trace_io.specs.Traces.{HasFault as TraceHasFault}
+use Rattle.form_commands.proofs.Words.{Block, Byte, Firmware, HasCertFault, Mailbox, Named, RefusesImage, subst}
+use Rattle.form_commands.proofs.Words.{TraceHasFault, ℕ}
 use Rattle.interrupt_plan.specs.Posts.{PostsHaveFault}
-use Rattle.box_tree.specs.declared.cert.CertKind.TheVariants.{Named}
-use Rattle.byte_scaling.specs.declared.width.Width.TheVariants.{Byte}
-use Rattle.command_parts.specs.{Certs.HasCertFault, Images.RefusesImage}
-use Rattle.command_parts.specs.declared.firmware.Form.TheVariants.{Mailbox}
 use Rattle.fz_status.specs.declared.status.Status.TheVariants as status
 use Rattle.form_commands.proofs.mrun.posted_runs_have_no_fault.Goals as goal
 

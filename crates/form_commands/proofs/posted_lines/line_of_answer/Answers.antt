@@ -1,7 +1,6 @@
-use Rattle.std.proofs.Common.{◌≡◌, ◌∙◌, ◌++◌, ℕ, List, ap, append_assoc}
-use Rattle.std.specs.Prelude.{codes, decimal, string_bytes}
-use Rattle.fz_shelf.proofs.Algebra.{bare-append, bare-decimal}
-use Rattle.command_parts.proofs.Algebra.{made_with}
+use Rattle.form_commands.proofs.Words.{◌++◌, ◌∙◌, ◌≡◌, ap, bare-append, bare-decimal, codes, decimal, List, made_with}
+use Rattle.form_commands.proofs.Words.{string_bytes, ℕ}
+use Rattle.std.proofs.{Common.append_assoc}
 use Rattle.run_reports.proofs.Algebra.{bare-answered}
 use Rattle.run_reports.specs.RowLines.{answered}
 use Rattle.form_commands.proofs.posted_lines.line_of_answer.Goals as goal

@@ -1,8 +1,5 @@
-use Rattle.std.proofs.Common.{◌+◌, ◌∙◌, ◌∷◌, ◌++◌, [], ap}
-use Rattle.mailbox_runs.specs.Runs.{answer_seen}
+use Rattle.form_commands.proofs.Words.{[], ◌++◌, ◌+◌, ◌∙◌, ◌∷◌, answer_line, answer_seen, ap, lines_more}
 use Rattle.mailbox_runs.specs.declared.run.Answer as declared
-use Rattle.form_commands.specs.Mrun.{answer_line}
-use Rattle.command_parts.proofs.Algebra.{lines_more}
 use Rattle.form_commands.proofs.posted_lines.push_answers.Goals as goal
 
 pub loop-at-preserved : goal.loop-at-preserved

@@ -1,7 +1,4 @@
-use Rattle.std.proofs.Common.{◌≡◌, ◌∷◌, ◌++◌, [], take}
-use Rattle.mailbox_runs.specs.Runs.{answer_seen}
-use Rattle.command_parts.specs.Lines.{counted}
-use Rattle.form_commands.specs.Mrun.{answer_line}
+use Rattle.form_commands.proofs.Words.{[], ◌++◌, ◌∷◌, ◌≡◌, answer_line, answer_seen, counted, take}
 use Rattle.form_commands.proofs.posted_lines.push_answers.Given as goal
 
 abbrev pub invariant-loop-at : goal.invariant-loop-at

@@ -1,7 +1,5 @@
-use Rattle.std.proofs.Common.{◌+◌, ◌∙◌, ◌++◌, ap}
-use Rattle.watched_runs.specs.{Rows.row_seen, declared.form.WatchedRow.WatchedRow}
-use Rattle.form_commands.specs.Srun.{watched_row_lines}
-use Rattle.command_parts.proofs.Algebra.{lines_more}
+use Rattle.form_commands.proofs.Words.{◌++◌, ◌+◌, ◌∙◌, ap, lines_more, watched_row_lines, WatchedRow}
+use Rattle.watched_runs.specs.{Rows.row_seen}
 use Rattle.form_commands.proofs.srun.lines.Goals as goal
 
 pub loop-at-preserved : goal.loop-at-preserved

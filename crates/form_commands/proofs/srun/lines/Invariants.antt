@@ -1,8 +1,5 @@
-use Rattle.std.proofs.Common.{◌≡◌, ◌++◌, take}
+use Rattle.form_commands.proofs.Words.{◌++◌, ◌≡◌, begun_lines, counted, take, watched_row_lines}
 use Rattle.watched_runs.specs.Rows.{row_seen}
-use Rattle.command_parts.specs.Lines.{counted}
-use Rattle.run_reports.specs.RowLines.{begun_lines}
-use Rattle.form_commands.specs.Srun.{watched_row_lines}
 use Rattle.form_commands.proofs.srun.lines.Given as goal
 
 abbrev pub invariant-loop-at : goal.invariant-loop-at

@@ -1,11 +1,5 @@
-use Rattle.std.proofs.Common.{subst}
-use Rattle.fuzzy_meaning.specs.declared.block.Block.{Block}
-use Rattle.alone_code.specs.declared.firmware.Firmware.{Firmware}
-use Rattle.box_tree.specs.declared.cert.CertKind.TheVariants.{Named}
-use Rattle.byte_scaling.specs.declared.width.Width.TheVariants.{Byte}
+use Rattle.form_commands.proofs.Words.{Block, Byte, Firmware, input_refusals, Named, RefusesImage, subst, Watched}
 use Rattle.interrupt_plan.specs.UpsetTexts.{HasUpsetFault}
-use Rattle.command_parts.specs.{Images.RefusesImage, declared.firmware.Form.TheVariants.Watched}
-use Rattle.run_reports.specs.Inputs.{input_refusals}
 use Rattle.fz_status.specs.declared.status.Status.TheVariants as status
 use Rattle.form_commands.proofs.srun.watched_runs_have_no_fault.Goals as goal
 

@@ -1,10 +1,5 @@
-use Rattle.std.proofs.Common.{◌≡◌, Err, subst}
-use Rattle.fuzzy_meaning.specs.declared.block.Block.{Block}
-use Rattle.alone_code.specs.declared.firmware.Firmware.{Firmware}
-use Rattle.byte_scaling.specs.declared.width.Width.TheVariants.{Byte}
+use Rattle.run_commands.proofs.Words.{◌≡◌, Alone, Block, Byte, Err, Firmware, RefusesImage, sample_refusals, subst}
 use Rattle.debug_script.specs.Scripts.{script_of}
-use Rattle.command_parts.specs.{Images.RefusesImage, declared.firmware.Form.TheVariants.Alone}
-use Rattle.run_reports.specs.Inputs.{sample_refusals}
 use Rattle.fz_status.specs.declared.status.Status.TheVariants as status
 use Rattle.run_commands.proofs.debug.debugged_runs_have_no_fault.Goals as goal
 

@@ -1,9 +1,4 @@
-use Rattle.std.proofs.Common.{sym, subst}
-use Rattle.fuzzy_meaning.specs.declared.block.Block.{Block}
-use Rattle.command_parts.specs.Certs.{StopsHalving}
-use Rattle.box_tree.specs.declared.cert.CertKind.TheVariants.{Named}
-use Rattle.byte_scaling.specs.declared.width.Width.TheVariants.{Byte}
-use Rattle.run_commands.specs.Generate.{generated_target}
+use Rattle.run_commands.proofs.Words.{Block, Byte, generated_target, Named, StopsHalving, subst, sym}
 use Rattle.fz_status.specs.declared.status.Status.TheVariants as status
 use Rattle.run_commands.proofs.generate.generated_runs_have_no_fault.Goals as goal
 

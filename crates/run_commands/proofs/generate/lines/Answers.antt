@@ -1,8 +1,4 @@
-use Rattle.std.proofs.Common.{◌∙◌, map, sym, ap}
-use Rattle.std.specs.Prelude.{codes}
-use Rattle.std.proofs.lemmas.List.{length-map}
-use Rattle.alone_runs.specs.Rows.{row_seen}
-use Rattle.command_parts.specs.Lines.{line}
+use Rattle.run_commands.proofs.Words.{◌∙◌, ap, codes, length-map, line, map, row_seen, sym}
 use Rattle.run_commands.proofs.GenerateLemmas.{generate_written}
 use Rattle.run_commands.proofs.generate.lines.Goals as goal
 

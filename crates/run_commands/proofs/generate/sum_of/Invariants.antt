@@ -1,5 +1,4 @@
-use Rattle.std.proofs.Common.{◌≡◌, ◌≤◌, ◌*◌, take}
-use Rattle.std.specs.Prelude.{sum}
+use Rattle.run_commands.proofs.Words.{◌*◌, ◌≡◌, ◌≤◌, sum, take}
 use Rattle.run_commands.proofs.generate.sum_of.Given as goal
 
 abbrev pub invariant-loop-answer : goal.invariant-loop-answer

@@ -1,8 +1,4 @@
-use Rattle.std.proofs.Common.{subst}
-use Rattle.fuzzy_meaning.specs.declared.block.Block.{Block}
-use Rattle.alone_code.specs.declared.firmware.Firmware.{Firmware}
-use Rattle.command_parts.specs.{Images.RefusesImage, declared.firmware.Form.TheVariants.Alone}
-use Rattle.run_reports.specs.Inputs.{input_refusals}
+use Rattle.run_commands.proofs.Words.{Alone, Block, Firmware, input_refusals, RefusesImage, subst}
 use Rattle.fz_status.specs.declared.status.Status.TheVariants as status
 use Rattle.run_commands.proofs.run.certified_runs_have_no_fault.Goals as goal
 

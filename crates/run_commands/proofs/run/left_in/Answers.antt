@@ -1,6 +1,4 @@
-use Rattle.std.proofs.Common.{◌≡◌, ◌-◌, ◌∙◌, ℕ, ap, arith, drop, take}
-use Rattle.std.specs.Prelude.{sum}
-use Rattle.cpu12_isa.specs.Regions.{free_start, stack_end}
+use Rattle.run_commands.proofs.Words.{◌-◌, ◌∙◌, ◌≡◌, ap, arith, drop, free_start, stack_end, sum, take, ℕ}
 use Rattle.run_commands.proofs.SumLemmas.{next_sum}
 use Rattle.run_commands.proofs.run.left_in.Goals as goal
 

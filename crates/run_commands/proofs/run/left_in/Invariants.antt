@@ -1,6 +1,4 @@
-use Rattle.std.proofs.Common.{◌≡◌, ◌≤◌, ◌*◌, ◌-◌, drop, take}
-use Rattle.std.specs.Prelude.{sum}
-use Rattle.cpu12_isa.specs.Regions.{free_start, stack_end}
+use Rattle.run_commands.proofs.Words.{◌*◌, ◌-◌, ◌≡◌, ◌≤◌, drop, free_start, stack_end, sum, take}
 use Rattle.run_commands.proofs.run.left_in.Given as goal
 
 abbrev pub invariant-loop-at : goal.invariant-loop-at

@@ -1,9 +1,5 @@
-use Rattle.std.proofs.Common.{◌∷◌, ◌∙◌, ◌++◌, [], ap, ap₂, sym}
-use Rattle.std.specs.Prelude.{codes}
-use Rattle.alone_runs.specs.Rows.{row_seen}
-use Rattle.command_parts.specs.Lines.{line}
-use Rattle.command_parts.proofs.Algebra.{counted-map, made_with}
-use Rattle.run_reports.specs.RowLines.{row_lines}
+use Rattle.run_commands.proofs.Words.{[], ◌++◌, ◌∙◌, ◌∷◌, ap, ap₂, codes, counted-map, line, made_with, row_lines}
+use Rattle.run_commands.proofs.Words.{row_seen, sym}
 use Rattle.run_commands.proofs.run.lines.Goals as goal
 
 pub returns : goal.returns

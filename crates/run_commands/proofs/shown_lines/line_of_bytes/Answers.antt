@@ -1,4 +1,4 @@
-use Rattle.fz_shelf.proofs.Algebra.{bare-address, bare-append}
+use Rattle.run_commands.proofs.Words.{bare-address, bare-append}
 use Rattle.run_commands.proofs.DebugLemmas.{bare-bytes}
 use Rattle.run_commands.proofs.shown_lines.line_of_bytes.Goals as goal
 

@@ -1,8 +1,4 @@
-use Rattle.std.proofs.Common.{◌∙◌, ◌++◌, map, ap, ap₂, sym}
-use Rattle.alone_runs.specs.Rows.{row_seen}
-use Rattle.command_parts.proofs.Algebra.{counted-map}
-use Rattle.run_commands.specs.Debug.{shown_line}
-use Rattle.run_reports.specs.RowLines.{row_lines}
+use Rattle.run_commands.proofs.Words.{◌++◌, ◌∙◌, ap, ap₂, counted-map, map, row_lines, row_seen, shown_line, sym}
 use Rattle.run_commands.proofs.shown_lines.lines.Goals as goal
 
 pub returns : goal.returns

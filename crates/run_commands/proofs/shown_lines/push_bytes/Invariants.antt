@@ -1,7 +1,5 @@
-use Rattle.std.proofs.Common.{◌≡◌, ◌++◌, take}
-use Rattle.std.specs.List.{flat_map}
+use Rattle.run_commands.proofs.Words.{◌++◌, ◌≡◌, behind_blank, flat_map, take}
 use Rattle.std.specs.Prelude.{string_bytes}
-use Rattle.run_commands.specs.Debug.{behind_blank}
 use Rattle.run_commands.proofs.shown_lines.push_bytes.Given as goal
 
 abbrev pub invariant-loop-byte : goal.invariant-loop-byte

@@ -1,5 +1,4 @@
-use Rattle.std.proofs.Common.{◌≡◌, ◌++◌, map, take}
-use Rattle.run_commands.specs.Debug.{shown_line}
+use Rattle.run_commands.proofs.Words.{◌++◌, ◌≡◌, map, shown_line, take}
 use Rattle.run_commands.proofs.shown_lines.push_shown.Given as goal
 
 abbrev pub invariant-loop-item : goal.invariant-loop-item

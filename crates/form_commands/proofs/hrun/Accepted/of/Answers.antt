@@ -1,10 +1,5 @@
-use Rattle.std.proofs.Common.{◌≡◌, Err, rules}
-use Rattle.box_tree.specs.declared.cert.CertKind.TheVariants.{Named}
-use Rattle.byte_scaling.specs.declared.width.Width.TheVariants.{Byte}
-use Rattle.run_reports.specs.Inputs.{input_refusals}
-use Rattle.form_commands.specs.Hrun.{hrun_refusals}
+use Rattle.form_commands.proofs.Words.{◌≡◌, Byte, Err, hrun_refusals, input_refusals, Named, refused, rules}
 use Rattle.form_commands.proofs.HandledLemmas.{hrun_refused}
-use Rattle.command_parts.proofs.Algebra.{refused}
 use Rattle.form_commands.proofs.hrun.Accepted.of.Goals as goal
 
 pub returns-in_err-inputs-clause-fault : goal.returns-in_err-inputs-clause-fault

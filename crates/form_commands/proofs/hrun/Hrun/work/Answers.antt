@@ -1,10 +1,7 @@
-use Rattle.std.proofs.Common.{ℕ, ◌<◌, ◌^◌, List, ◌++◌, ap, ap₂, sym, ◌∙◌, rules}
-use Rattle.std.specs.Prelude.{map}
-use Rattle.handled_runs.specs.{Forms.row_seen, declared.rows.HandledRow.HandledRow}
-use Rattle.command_parts.specs.{Lines.counted, SeenOutputs.only_lines}
-use Rattle.command_parts.proofs.Algebra.{counted-map}
-use Rattle.form_commands.specs.Hrun.{handled_report, handled_row_lines}
-use Rattle.run_reports.specs.RowLines.{begun_lines}
+use Rattle.form_commands.proofs.Words.{◌++◌, ◌<◌, ◌^◌, ◌∙◌, ap, ap₂, begun_lines, counted, counted-map}
+use Rattle.form_commands.proofs.Words.{handled_report, handled_row_lines, HandledRow, List, map, only_lines, rules}
+use Rattle.form_commands.proofs.Words.{sym, ℕ}
+use Rattle.handled_runs.specs.{Forms.row_seen}
 use Rattle.form_commands.proofs.HandledLemmas.{handles}
 use Rattle.form_commands.proofs.hrun.Hrun.work.Goals as goal
 

@@ -1,4 +1,4 @@
-use Rattle.std.proofs.Common.{◌≡◌, Err, rules}
+use Rattle.form_commands.proofs.Words.{◌≡◌, Err, rules}
 use Rattle.form_commands.proofs.LevelRefusals.{certs_refused, image_refused, levels_refused, traces_refused}
 use Rattle.form_commands.proofs.LevelRefusals.{two_refused}
 use Rattle.form_commands.proofs.lrun.Accepted.of.Goals as goal

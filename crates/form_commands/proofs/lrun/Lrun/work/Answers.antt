@@ -1,9 +1,5 @@
-use Rattle.std.proofs.Common.{ℕ, ◌<◌, ◌^◌, List, ap, ◌∙◌, rules}
-use Rattle.std.specs.Prelude.{map}
-use Rattle.two_level_code.specs.Images.{fast_most}
-use Rattle.two_level_runs.specs.{Harness.row_seen, declared.rows.TwoRow.TwoRow}
-use Rattle.form_commands.specs.Lrun.{level_report, lrun_lines}
-use Rattle.command_parts.specs.{SeenOutputs.only_lines}
+use Rattle.form_commands.proofs.Words.{◌<◌, ◌^◌, ◌∙◌, ap, fast_most, level_report, List, lrun_lines, map, only_lines}
+use Rattle.form_commands.proofs.Words.{row_seen, rules, TwoRow, ℕ}
 use Rattle.form_commands.proofs.LevelLemmas.{levels_run}
 use Rattle.form_commands.proofs.lrun.Lrun.work.Goals as goal
 

@@ -1,4 +1,4 @@
-use Rattle.std.proofs.Common.{◌≡◌, Err, rules}
+use Rattle.form_commands.proofs.Words.{◌≡◌, Err, rules}
 use Rattle.form_commands.proofs.PostedLemmas.{refused_posts}
 use Rattle.form_commands.proofs.mrun.Accepted.of.Goals as goal
 

@@ -1,9 +1,5 @@
-use Rattle.std.proofs.Common.{ℕ, List, ap, ◌∙◌}
-use Rattle.std.specs.Prelude.{map}
-use Rattle.run_forms.specs.Rows.{frames_seen}
-use Rattle.mailbox_runs.specs.Runs.{answer_seen}
-use Rattle.form_commands.specs.Mrun.{mrun_lines, posted_report}
-use Rattle.command_parts.specs.{SeenOutputs.only_lines}
+use Rattle.form_commands.proofs.Words.{◌∙◌, answer_seen, ap, frames_seen, List, map, mrun_lines, only_lines}
+use Rattle.form_commands.proofs.Words.{posted_report, ℕ}
 use Rattle.form_commands.proofs.PostedLemmas.{posts_run}
 use Rattle.form_commands.proofs.mrun.Mrun.work.Goals as goal
 

@@ -1,9 +1,5 @@
-use Rattle.std.proofs.Common.{◌≡◌, Err, rules}
-use Rattle.box_tree.specs.declared.cert.CertKind.TheVariants.{Named}
-use Rattle.byte_scaling.specs.declared.width.Width.TheVariants.{Byte}
-use Rattle.run_reports.specs.Inputs.{input_refusals}
-use Rattle.form_commands.specs.Srun.{srun_refusals, upset_refusals}
-use Rattle.command_parts.proofs.Algebra.{refused}
+use Rattle.form_commands.proofs.Words.{◌≡◌, Byte, Err, input_refusals, Named, refused, rules, srun_refusals}
+use Rattle.form_commands.proofs.Words.{upset_refusals}
 use Rattle.form_commands.proofs.WatchedLemmas.{srun_refused, upsets_refused}
 use Rattle.form_commands.proofs.srun.Accepted.of.Goals as goal
 

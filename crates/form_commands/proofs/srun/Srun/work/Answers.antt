@@ -1,10 +1,6 @@
-use Rattle.std.proofs.Common.{List, ℕ, ◌++◌, ap, ap₂, sym, ◌∙◌}
-use Rattle.std.specs.Prelude.{map}
-use Rattle.watched_runs.specs.{Rows.row_seen, declared.form.WatchedRow.WatchedRow}
-use Rattle.command_parts.specs.{Lines.counted, SeenOutputs.only_lines}
-use Rattle.command_parts.proofs.Algebra.{counted-map}
-use Rattle.run_reports.specs.RowLines.{begun_lines}
-use Rattle.form_commands.specs.Srun.{watched_report, watched_row_lines}
+use Rattle.form_commands.proofs.Words.{◌++◌, ◌∙◌, ap, ap₂, begun_lines, counted, counted-map, List, map, only_lines}
+use Rattle.form_commands.proofs.Words.{sym, watched_report, watched_row_lines, WatchedRow, ℕ}
+use Rattle.watched_runs.specs.{Rows.row_seen}
 use Rattle.form_commands.proofs.WatchedLemmas.{watches}
 use Rattle.form_commands.proofs.srun.Srun.work.Goals as goal
 

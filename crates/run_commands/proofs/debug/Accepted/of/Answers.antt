@@ -1,8 +1,5 @@
-use Rattle.std.proofs.Common.{◌≡◌, Err, rules}
-use Rattle.run_reports.specs.Inputs.{sample_refusals}
-use Rattle.run_commands.specs.Debug.{debug_refusals}
+use Rattle.run_commands.proofs.Words.{◌≡◌, debug_refusals, Err, refused, rules, sample_refusals}
 use Rattle.run_commands.proofs.DebugLemmas.{debug_refused}
-use Rattle.command_parts.proofs.Algebra.{refused}
 use Rattle.run_commands.proofs.debug.Accepted.of.Goals as goal
 
 pub returns-in_err-samples-clause-fault : goal.returns-in_err-samples-clause-fault

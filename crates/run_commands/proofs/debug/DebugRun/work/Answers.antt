@@ -1,7 +1,5 @@
-use Rattle.std.proofs.Common.{ap, arith, length}
+use Rattle.run_commands.proofs.Words.{ap, arith, length, row_seen, Sample}
 use Rattle.std.specs.Prelude.{List, map}
-use Rattle.trace_io.specs.declared.sample.Sample.{Sample}
-use Rattle.alone_runs.specs.Rows.{row_seen}
 use Rattle.run_commands.proofs.DebugLemmas.{gives}
 use Rattle.run_commands.proofs.debug.DebugRun.work.Goals as goal
 

@@ -1,18 +1,13 @@
-use Rattle.std.proofs.Common.{◌≡◌, ℕ, List, ap, ap₂, ◌∙◌, map, refl, sym, subst, rules}
+use Rattle.run_commands.proofs.Words.{◌∙◌, ◌≡◌, Alone, ap, ap₂, Block, Byte, generate_lines, generated_target}
+use Rattle.run_commands.proofs.Words.{GenerateMakes, GivesFirmware, List, map, Named, only_lines, refl, report_of}
+use Rattle.run_commands.proofs.Words.{Row, row_seen, rules, Status, StopsHalving, subst, sym, target_refusals, ℕ}
+use Rattle.fz_status.specs.{Refusals.IsRefusal}
+use Rattle.command_parts.specs.{SeenOutputs.IsFaultOf}
+use Rattle.run_commands.specs.{Generate.generate_with}
 use Rattle.std.specs.Prelude.{Err}
-use Rattle.fuzzy_meaning.specs.declared.block.Block.{Block}
-use Rattle.box_tree.specs.declared.cert.CertKind.TheVariants.{Named}
-use Rattle.byte_scaling.specs.declared.width.Width.TheVariants.{Byte}
 use Rattle.rule_layout.specs.Layouts.{IsWithinLimits}
-use Rattle.alone_runs.specs.{Rows.row_seen, declared.rows.Row.Row}
 use Rattle.workload.specs.{Blocks.drawn_block, Draws.draw}
-use Rattle.fz_status.specs.{Refusals.IsRefusal, declared.status.Status.Status}
 use Rattle.fz_status.specs.declared.status.Status.TheVariants as status
-use Rattle.command_parts.specs.{Certs.StopsHalving, Certs.target_refusals, declared.firmware.Form.TheVariants.Alone}
-use Rattle.command_parts.specs.{SeenOutputs.IsFaultOf, Firmwares.GivesFirmware, SeenOutputs.only_lines}
-use Rattle.command_parts.specs.Certs.{StopsHalving, target_refusals}
-use Rattle.run_commands.specs.Generate.{GenerateMakes, generate_lines, generate_with, generated_target}
-use Rattle.run_reports.specs.Reports.{report_of}
 use Rattle.run_commands.proofs.generate.Generate.work.Goals as goal
 
 pub compiled-requires-clause-limits : goal.compiled-requires-clause-limits

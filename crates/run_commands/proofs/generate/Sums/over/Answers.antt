@@ -1,8 +1,5 @@
-use Rattle.std.proofs.Common.{arith, ap, length}
-use Rattle.std.specs.Prelude.{sum}
-use Rattle.std.proofs.lemmas.List.{length-map}
+use Rattle.run_commands.proofs.Words.{ap, arith, length, length-map, row_seen, sum}
 use Rattle.run_forms.specs.Rows.{boundary_seen}
-use Rattle.alone_runs.specs.Rows.{row_seen}
 use Rattle.run_commands.proofs.SumLemmas.{seen_more}
 use Rattle.run_commands.proofs.generate.Sums.over.Goals as goal
 

@@ -1,6 +1,5 @@
-use Rattle.std.proofs.Common.{◌≡◌, ◌≤◌, ◌*◌, ◌^◌, map, take}
-use Rattle.alone_runs.specs.Rows.{row_seen}
-use Rattle.run_commands.specs.Generate.{answers_of, frames_of, resumed_of}
+use Rattle.run_commands.proofs.Words.{◌*◌, ◌≡◌, ◌≤◌, answers_of, frames_of, map, resumed_of, row_seen, take}
+use Rattle.std.proofs.{Common.◌^◌}
 use Rattle.run_commands.proofs.generate.Sums.over.Given as goal
 
 abbrev pub invariant-loop-row : goal.invariant-loop-row

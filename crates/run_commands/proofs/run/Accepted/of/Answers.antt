@@ -1,8 +1,5 @@
-use Rattle.std.proofs.Common.{◌≡◌, Err, rules}
-use Rattle.run_reports.specs.Inputs.{input_refusals}
-use Rattle.run_commands.specs.Run.{run_refusals}
+use Rattle.run_commands.proofs.Words.{◌≡◌, Err, input_refusals, refused, rules, run_refusals}
 use Rattle.run_commands.proofs.AnswerLemmas.{run_refused}
-use Rattle.command_parts.proofs.Algebra.{refused}
 use Rattle.run_commands.proofs.run.Accepted.of.Goals as goal
 
 pub returns-in_err-inputs-clause-fault : goal.returns-in_err-inputs-clause-fault

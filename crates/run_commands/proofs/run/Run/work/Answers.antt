@@ -1,8 +1,5 @@
-use Rattle.std.proofs.Common.{ℕ, List, ap, ap₂, ◌∙◌}
+use Rattle.run_commands.proofs.Words.{◌∙◌, ap, ap₂, left_of, List, only_lines, report_of, Row, row_seen, run_lines, ℕ}
 use Rattle.std.specs.Prelude.{map}
-use Rattle.alone_runs.specs.{Rows.row_seen, declared.rows.Row.Row}
-use Rattle.run_reports.specs.{Reports.left_of, Reports.report_of, RowLines.run_lines}
-use Rattle.command_parts.specs.{SeenOutputs.only_lines}
 use Rattle.run_commands.proofs.AnswerLemmas.{certifies}
 use Rattle.run_commands.proofs.run.Run.work.Goals as goal
 

@@ -1,0 +1,31 @@
+-- The names that most proofs of this crate cite, passed on from one place.
+pub use Rattle.run_commands.specs.Debug.{behind_blank, debug_lines, debug_refusals, shown_line}
+pub use Rattle.run_commands.specs.Generate.{GenerateMakes, answers_of, frames_of, generate_lines, generated_target}
+pub use Rattle.run_commands.specs.Generate.{resumed_of}
+pub use Rattle.std.proofs.Common.{Err, List, [], ap, ap₂, arith, drop, length, map, refl, rules, subst, sym, take}
+pub use Rattle.std.proofs.Common.{true, ℕ, ◌*◌, ◌++◌, ◌-◌, ◌∙◌, ◌∷◌, ◌≡◌, ◌≤◌}
+pub use Rattle.alone_code.specs.{declared.firmware.Firmware.Firmware}
+pub use Rattle.alone_runs.specs.{Answering.AnswersItsBlock, Answering.AnswersUnderPlans, Rows.firmware_rows}
+pub use Rattle.alone_runs.specs.{Rows.row_seen, declared.rows.Row.Row}
+pub use Rattle.box_tree.specs.{declared.cert.CertKind.TheVariants.Named}
+pub use Rattle.byte_scaling.specs.{declared.width.Width.TheVariants.Byte}
+pub use Rattle.command_parts.proofs.{Algebra.counted-map, Algebra.made_with, Algebra.refused}
+pub use Rattle.command_parts.specs.{Certs.StopsHalving, Certs.target_refusals, Firmwares.GivesFirmware}
+pub use Rattle.command_parts.specs.{Images.RefusesImage, Lines.line, SeenOutputs.only_lines}
+pub use Rattle.command_parts.specs.{declared.firmware.Form.TheVariants.Alone}
+pub use Rattle.cpu12_isa.specs.{Regions.free_start, Regions.stack_end}
+pub use Rattle.debug_script.specs.{Showing.shown}
+pub use Rattle.fuzzy_meaning.specs.{declared.block.Block.Block}
+pub use Rattle.fz_shelf.proofs.{Algebra.bare-address, Algebra.bare-append}
+pub use Rattle.fz_status.specs.{declared.status.Status.Status}
+pub use Rattle.interrupt_plan.specs.{declared.Request.Request}
+pub use Rattle.run_commands.specs.{Run.run_refusals, declared.debug.DebugFiles.DebugFiles}
+pub use Rattle.run_commands.specs.{declared.debug.DebugRun.DebugRun, declared.run.Run.Run}
+pub use Rattle.run_law.specs.{Forms.RowSeen}
+pub use Rattle.run_reports.specs.{Inputs.input_refusals, Inputs.sample_refusals, Laws.AnswersAreReported}
+pub use Rattle.run_reports.specs.{Reports.left_of, Reports.report_of, RowLines.row_lines, RowLines.run_lines}
+pub use Rattle.run_reports.specs.{declared.files.RunFiles.RunFiles}
+pub use Rattle.srecord.specs.{Texts.GivesImage}
+pub use Rattle.std.proofs.{lemmas.List.length-map}
+pub use Rattle.std.specs.{List.flat_map, Prelude.codes, Prelude.sum}
+pub use Rattle.trace_io.specs.{Traces.input_bytes, declared.sample.Sample.Sample}
