@@ -1,11 +1,10 @@
 -- A certificate that a block accepts is not refused.
 use Rattle.std.proofs.Common.{◌≡◌, ◌≢◌, ℕ, List, sym, subst}
-use Rattle.std.specs.Prelude.{Result, Ok, Err, IfOk, IfErr}
+use Rattle.std.specs.Prelude.{Result, Ok, Err, IfErr}
 use Rattle.std.specs.Global.{Vec}
 use Rattle.fuzzy_meaning.specs.declared.block.Block.{Block}
 use Rattle.byte_scaling.specs.{Widths.parts, declared.width.Width.Width}
-use Rattle.box_tree.specs.Certificates.{HasFault, bad_version, no_version, bad_claims, no_claims, bad_node, left_open}
-use Rattle.box_tree.specs.Certificates.{late, many_leaves}
+use Rattle.box_tree.specs.Certificates.{HasFault, bad_version}
 use Rattle.box_tree.specs.declared.{cert.CertKind.CertKind, cert.CertFault.CertFault}
 use Rattle.box_tree.specs.declared.cert.CertFault.TheVariants as cert
 use Rattle.box_tree.specs.declared.{cert.Cert.Cert, cert.Node.Node}
@@ -47,13 +46,7 @@ certs_apart answers kind width block text errors f valid accepts fault =
 
 text_carries : (k : CertKind) (v : Width) (text : List ℕ) (f : CertFault) → HasFault k v text f → f ≢ cert.Memory
 text_carries k v text _ (bad_version some none) e = cc
-text_carries k v text _ (no_version none) e = cc
-text_carries k v text _ (bad_claims rest is none) e = cc
-text_carries k v text _ (no_claims is) e = cc
-text_carries k v text _ (bad_node claims nodes n rest begins none) e = cc
-text_carries k v text _ (left_open claims nodes n begins some) e = cc
-text_carries k v text _ (late claims nodes node behind begins good) e = cc
-text_carries k v text _ (many_leaves claims nodes n pairs behind begins good some all) e = cc
+text_carries k v text _ _ e = cc
 
 pair_carries : (b : Block) (box : List Interval) (o : ℕ) (leaf : the.Leaf) (line : ℕ) (f : CheckFault)
     → IsPairFault b box o leaf line f → f ≢ check.Memory
@@ -81,11 +74,6 @@ check_carries b h c f (tree g count t) e = tree_carries b h c.nodes f t e
 check_carries b h c _ (claimed es k over count a) e = cc
 
 -- ---- the checker's answer as a status
-
-pub as_errors : (P : List ℕ → Type 0) (answer : Result (Vec ℕ) TheRefusal) (result : Result (Vec ℕ) Status)
-    → IfOk result (λ es. answer ≡ Ok es) → IfOk answer (λ es. P es.items) → IfOk result (λ es. P es.items)
-as_errors P answer (Err s) same h = tt
-as_errors P answer (Ok es) same h = subst (λ a. IfOk a (λ fs. P fs.items)) same h
 
 as_refusal : (kind : CertKind) (width : Width) (block : Block) (text : List ℕ) (r : TheRefusal)
     → (r ≢ refusal.Memory → HasTextFault block (parts width) kind width text r)

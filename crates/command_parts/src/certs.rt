@@ -31,11 +31,11 @@ pub fn errors_under(
     ensures accepts { IfOk result (λ errors. AcceptsCert kind width block.now cert.now errors.items) }
     ensures refused { IfErr result (IsRefusal (cert_refusals kind width block.now cert.now)) }
 {
-    told(check_text_for(alloc, block, cert.bytes(), kind, width))
+    as_status(check_text_for(alloc, block, cert.bytes(), kind, width))
 }
 
 /// The checker's answer, with a refusal as a status.
-fn told(answer: Result<Vec<u32>, Refusal>) -> Result<Vec<u32>, Status>
+fn as_status(answer: Result<Vec<u32>, Refusal>) -> Result<Vec<u32>, Status>
     ensures errors { IfOk result (λ errors. answer ≡ Ok errors) }
     ensures status { IfErr result (λ status.
         (refusal : TheRefusal) × (answer ≡ Err refusal) × (status ≡ status_of refusal)) }
