@@ -1,9 +1,9 @@
 -- Parts of a firmware put one behind the other.
-use Rattle.eval_code.proofs.Words.{[], ◌++◌, ◌∙◌, ◌∷◌, ◌≡◌, ◌≤◌, All, All-get_or, ap, append_assoc, arith, Block}
+use Rattle.eval_code.proofs.Words.{[], ◌*◌, ◌++◌, ◌∙◌, ◌∷◌, ◌≡◌, ◌≤◌, All, All-get_or, ap, append_assoc, arith, Block}
 use Rattle.eval_code.proofs.Words.{block_code, block_items, Byte, bytes_at, code_at, eval_code, eval_code_over, Input}
 use Rattle.eval_code.proofs.Words.{Instr, IsValidInput, Item, length, List, map, map-append, MemoryMap, Op, Output}
 use Rattle.eval_code.proofs.Words.{Place, rule_bytes, rule_bytes_by, singleton_bytes, Slot, slots_of, sum_by}
-use Rattle.eval_code.proofs.Words.{sum_by-le, sym, table_bytes, term_count, weight_bytes, weight_bytes_by, Width}
+use Rattle.eval_code.proofs.Words.{sum_by-le, sym, table_bytes, term_count, weight_bytes, weight_bytes_by, Width, ℕ}
 use Rattle.rule_layout.specs.{declared.flat.Flat.Flat, Layouts.HasPartsOf}
 
 -- a piece of code behind others
@@ -28,13 +28,17 @@ pub three_pieces : (start i1 i2 i3 : List Item) (a b c : List Instr) → i1 ≡ 
     → i3 ≡ i2 ++ map Op c → i3 ≡ start ++ map Op (a ++ (b ++ c))
 three_pieces start i1 i2 i3 a b c h1 h2 h3 = next_piece start i1 i3 a (b ++ c) h1 (next_piece i1 i2 i3 b c h2 h3)
 
+-- of valid parts, each of at most so many
+pub sum_by-valid : {X : Type 0} (IsValid : X → Type 0) (count : X → ℕ) (most : ℕ)
+    → ((x : X) → IsValid x → count x ≤ most) → (xs : List X) → All IsValid xs → sum_by count xs ≤ length xs * most
+sum_by-valid IsValid count most each xs valid =
+    sum_by-le count most xs (λ i d h. each _ (All-get_or IsValid xs i d h valid))
+
 -- of at most eight inputs with at most fifteen terms each
 pub sum_by-term_count : (inputs : List Input) → length inputs ≤ 8 → All IsValidInput inputs
     → sum_by term_count inputs ≤ 120
 sum_by-term_count inputs few valid =
-    let few_terms : All (λ x. term_count x ≤ 15) inputs =
-    λ i d h. (All-get_or IsValidInput inputs i d h valid).few_terms in
-    omega (arith, sum_by-le term_count 15 inputs few_terms)
+    omega (arith, sum_by-valid IsValidInput term_count 15 (λ x v. v.few_terms) inputs valid)
 
 -- the parts of a block in their order
 arranged : (start p e t s b w i1 i3 i4 i5 i6 i7 : List Item) → i1 ≡ start ++ p → i3 ≡ i1 ++ e → i4 ≡ i3 ++ t

@@ -1,13 +1,14 @@
 -- The parts of a block stand one above the other.
-use Rattle.eval_code.proofs.Words.{[], ◌*◌, ◌++◌, ◌+◌, ◌∷◌, ◌≡◌, ◌≤◌, All, All-get_or, arith, at_address, Block}
+use Rattle.eval_code.proofs.Words.{[], ◌*◌, ◌++◌, ◌+◌, ◌∷◌, ◌≡◌, ◌≤◌, All, arith, at_address, Block}
 use Rattle.eval_code.proofs.Words.{block_code, block_items, Byte, bytes_at, bytes_of_word, code_at, Conjunction}
 use Rattle.eval_code.proofs.Words.{conjunction_count, conjunctions_of, element_count, element_width, entry_count}
 use Rattle.eval_code.proofs.Words.{eval_code, flat_map, Form, form_of, Instr, IsRisingFrom, IsValid, IsValidOutput}
 use Rattle.eval_code.proofs.Words.{Item, length, length-append, length-map, List, list_size, list_words, map, marked}
 use Rattle.eval_code.proofs.Words.{MemoryMap, Op, Output, refl, rule_bytes, rule_bytes_by, singleton_bytes}
-use Rattle.eval_code.proofs.Words.{singleton_count, slots_of, subst, sum_by, sum_by-cons, sum_by-le, sym, table_bytes}
+use Rattle.eval_code.proofs.Words.{singleton_count, slots_of, subst, sum_by, sum_by-cons, sym, table_bytes}
 use Rattle.eval_code.proofs.Words.{weight_bytes, weight_bytes_by, weights_of, Width, ℕ}
-use Rattle.eval_code.proofs.{Joins.sum_by-term_count, Joins.block_then, Joins.block_items-then, Lists.length-marked}
+use Rattle.eval_code.proofs.Joins.{block_items-then, block_then, sum_by-term_count, sum_by-valid}
+use Rattle.eval_code.proofs.Lists.{length-marked}
 use Rattle.eval_code.proofs.Sizes.{code_size, code_size-append, length-le-code_size, code_size-eval, length-tables}
 use Rattle.eval_code.proofs.Sizes.{length-singletons, length-rule_weights}
 use Rattle.rule_layout.specs.declared.flat.Form.TheVariants as form
@@ -38,9 +39,7 @@ rises_bytes at (b ∷ bs) items h =
 pub sum_by-singleton_count : (outputs : List Output) → length outputs ≤ 4 → All IsValidOutput outputs
     → sum_by singleton_count outputs ≤ 60
 sum_by-singleton_count outputs few valid =
-    let few_terms : All (λ x. singleton_count x ≤ 15) outputs =
-    λ i d h. (All-get_or IsValidOutput outputs i d h valid).few_terms in
-    omega (arith, sum_by-le singleton_count 15 outputs few_terms)
+    omega (arith, sum_by-valid IsValidOutput singleton_count 15 (λ x v. v.few_terms) outputs valid)
 
 length-weights : (f : Form) (weights : List ℕ) → length (weight_bytes_by f weights) ≤ length weights
 length-weights form.Rev weights = omega arith

@@ -55,32 +55,24 @@ postable_shut n = record {
   high = omega arith;
 }
 
--- up to the copy's end the free bytes are open, from there on the mailbox too
-abbrev pub free_ctx : Post → Setting
-free_ctx p = record {
+abbrev ctx_over : (p : Post) (open_to : ℕ → Bool) → IsShut open_to (mailbox_map p.n) → Setting
+ctx_over p open_to shut = record {
   stays_fit = p.stays_fit;
   decodes = p.decodes;
-  open_to = is_free;
+  open_to = open_to;
   memory_map = mailbox_map p.n;
-  shut =
-      free_shut p.n;
+  shut = shut;
   image = p.image;
   flags = p.flags;
   fits = p.fits;
 }
 
+-- up to the copy's end the free bytes are open, from there on the mailbox too
+abbrev pub free_ctx : Post → Setting
+free_ctx p = ctx_over p is_free (free_shut p.n)
+
 abbrev pub post_ctx : Post → Setting
-post_ctx p = record {
-  stays_fit = p.stays_fit;
-  decodes = p.decodes;
-  open_to = is_postable;
-  memory_map = mailbox_map p.n;
-  shut =
-      postable_shut p.n;
-  image = p.image;
-  flags = p.flags;
-  fits = p.fits;
-}
+post_ctx p = ctx_over p is_postable (postable_shut p.n)
 
 -- the code of a turn stands
 pub record HasTurn (p : Post) : Type 0 where

@@ -4,14 +4,10 @@ use Rattle.watched_code.proofs.check.sum_code.Goals as goal
 
 pub overflow_cast-len : goal.overflow_cast-len
 overflow_cast-len c =
-    let one = is_segment c.args.segments.now c.loop-segment.segment-index c.segment-item.result c.loop-segment-test.true
-    c.segment-item.is c.requires in
-    let top = one.2 in
-    omega (arith, c.len.ensures)
+    omega (arith, c.len.ensures, (is_segment c.args.segments.now c.loop-segment.segment-index c.segment-item.result
+    c.loop-segment-test.true c.segment-item.is c.requires).2)
 
 pub overflow_add-segment : goal.overflow_add-segment
 overflow_add-segment c =
-    let one = is_segment c.args.segments.now c.loop-segment.segment-index c.segment-item.result c.loop-segment-test.true
-    c.segment-item.is c.requires in
-    let top = one.2 in
-    omega (arith, c.len.ensures)
+    omega (arith, c.len.ensures, (is_segment c.args.segments.now c.loop-segment.segment-index c.segment-item.result
+    c.loop-segment-test.true c.segment-item.is c.requires).2)
