@@ -1,4 +1,1 @@
-pub mod Falling
-pub mod CornerSteps
-pub mod Heights
 pub mod CourseSteps

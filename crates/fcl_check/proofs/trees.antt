@@ -1,3 +1,2 @@
 pub mod ConditionParts
-pub mod ConditionSizes
 pub mod RuleSizes

@@ -1,24 +1,447 @@
 -- The degree of a trapezoid along the points that it is read from: on the zeros before its ones, on
 -- its ones, and on the zeros behind them.
-use Rattle.std.proofs.Common.{◌≡◌, Bool, true, false, cond, List, [], ◌∷◌, Some, None, refl, sym, ap, ◌∙◌, arith, inl}
-use Rattle.std.proofs.Common.{inr}
-use Rattle.std.specs.Prelude.{ℤ, ◌≤ℤ◌, ◌<ℤ◌}
-use Rattle.std.specs.List.{filter, list_all, take_while}
-use Rattle.std.proofs.lemmas.Bool.{cases_Bool}
-use Rattle.std.proofs.lemmas.Int.{ints}
-use Rattle.std.proofs.lemmas.List.Sums.{take_while-cons}
-use Rattle.fz_num.specs.{declared.dec.Dec.Dec, Fractions.one, Fractions.none}
-use Rattle.fuzzy_meaning.specs.{declared.block.Trapezoid.Trapezoid, Degrees.degree}
-use Rattle.fcl_syntax.specs.declared.tree.Point.{Point}
-use Rattle.fcl_check.specs.{Courses.AreSame, Courses.course, Loaded.number_of, Loaded.abscissa_of}
-use Rattle.fcl_check.specs.Places.{first, last, drop_while}
-use Rattle.fcl_check.specs.Sections.{has_one, has_shape, has_zero, x_of}
-use Rattle.fcl_check.proofs.courses.Heights.{AreSame-refl, at-top, before, behind, height-one, height-zero}
-use Rattle.fcl_check.proofs.courses.Heights.{line-falling, line-high, line-low, line-rising, on-fall, on-rise}
-use Rattle.fcl_check.proofs.courses.Heights.{open-left, open-right}
-use Rattle.fcl_check.proofs.faultless.Standing.{Ascends, NotBelow, course-between, course-end, course-lone}
-use Rattle.fcl_check.proofs.faultless.Standing.{course-reach, course-run, course-start, course-step, course-top}
-use Rattle.fcl_check.proofs.faultless.Standing.{course-zeros, head-zero, tail-zero, last-over, place}
+use Rattle.std.proofs.lemmas.{Bool.cases_Bool, Bool.Decides.Decides-int_eq, Bool.Decides.nat_tests, Int.ints}
+use Rattle.std.proofs.lemmas.{List.take_more, List.Sums.take_while-cons}
+use Rattle.std.proofs.Common.{◌≡◌, ℕ, true, false, cond, not, ◌&&◌, List, [], ◌∷◌, ◌++◌, Some, None, refl, arith, ◌⊎◌}
+use Rattle.std.proofs.Common.{inl, inr, ap, ◌*◌, ◌≤◌, ◌<◌, Option, ap₂, ◌∙◌, ◌+◌, Bool, get_or, length, take}
+use Rattle.std.proofs.Common.{option_map, sym}
+use Rattle.std.specs.Prelude.{ℤ, ◌≤ℤ◌, ◌<ℤ◌, int_lt, nat_le}
+use Rattle.std.specs.List.{AllByRecursion, filter, list_all, list_any, take_while}
+use Rattle.std.specs.{Option.option_or, Ordering.int_eq, Int.Signed.le_z}
+use Rattle.fuzzy_meaning.specs.declared.block.Trapezoid.{Trapezoid}
+use Rattle.fcl_syntax.specs.declared.tree.{Point.Point, Term.Term}
+use Rattle.fz_num.specs.Fractions.{one, none, Fraction, over, lesser}
+use Rattle.fz_num.specs.declared.dec.Dec.{Dec}
+use Rattle.fuzzy_meaning.specs.Degrees.{rise, fall, degree}
+use Rattle.fcl_check.specs.Courses.{course, height, on_line, AreSame, width}
+use Rattle.fcl_check.specs.Places.{at_each, at_if, first, last, drop_while}
+use Rattle.fcl_check.specs.Sections.{falling_in, has_one, has_zero, is_below, points_of, x_of, has_shape}
+use Rattle.fcl_check.specs.{Loaded.number_of, Loaded.abscissa_of, declared.inputs.Corners.Corners}
+use Rattle.fcl_check.specs.Corners.{AreCornersOf}
+use Rattle.fcl_check.proofs.lists.Elements.{last-push, first-push, take_while-all, drop_while-all, list_all-push}
+use Rattle.fcl_check.proofs.lists.Elements.{take_while-push, drop_while-push, filter-pass, filter-fail, none-passes}
+use Rattle.fcl_check.proofs.lists.Elements.{one-passes}
+
+-- ---- Points that ascend, and where they stand.
+
+-- ---- where a point stands
+
+pub record IsLeft (p : Point) (x : ℤ) : Type 0 where
+  pub less : int_lt (x_of p) x ≡ true
+  pub same : int_eq (x_of p) x ≡ false
+  pub more : int_lt x (x_of p) ≡ false
+
+pub record IsAt (p : Point) (x : ℤ) : Type 0 where
+  pub less : int_lt (x_of p) x ≡ false
+  pub same : int_eq (x_of p) x ≡ true
+  pub more : int_lt x (x_of p) ≡ false
+
+pub record IsRight (p : Point) (x : ℤ) : Type 0 where
+  pub less : int_lt (x_of p) x ≡ false
+  pub same : int_eq (x_of p) x ≡ false
+  pub more : int_lt x (x_of p) ≡ true
+
+no-tie : (a x : ℤ) → (a ≡ x → ⊥) → int_eq a x ≡ false
+no-tie a x h = elim (cases_Bool (int_eq a x)) [ inl e ↦ absurd (h ((Decides-int_eq a x).0 e)) | inr e ↦ e ]
+
+pub left : (p : Point) (x : ℤ) → x_of p <ℤ x → IsLeft p x
+left p x h = record {
+  less = grind (arith, ints);
+  same = no-tie (x_of p) x (λ e. omega (arith, ints));
+  more =
+      grind (arith, ints);
+}
+
+pub right : (p : Point) (x : ℤ) → x <ℤ x_of p → IsRight p x
+right p x h = record
+    { less = grind (arith, ints); same = no-tie (x_of p) x (λ e. omega (arith, ints)); more = grind (arith, ints) }
+
+pub here : (p : Point) (x : ℤ) → x_of p ≡ x → IsAt p x
+here p x h =
+    let less : int_lt (x_of p) x ≡ false = grind (arith, ints) in
+    let more : int_lt x (x_of p) ≡ false = grind (arith, ints) in
+    record { less = less; same = rw (less, more) refl; more = more }
+
+pub place : (a x : ℤ) → (a <ℤ x) ⊎ ((a ≡ x) ⊎ (x <ℤ a))
+place a x = elim (cases_Bool (int_lt a x)) [
+  | inl e ↦ inl (grind (arith, ints))
+  | inr e ↦ elim (cases_Bool (int_lt x a))
+      [ inl f ↦ inr (inr (grind (arith, ints))) | inr f ↦ inr (inl ((Decides-int_eq a x).0 (rw (e, f) refl))) ]
+]
+
+-- ---- points that ascend
+
+abbrev pub NotBelow : ℤ → List Point → Type 0
+NotBelow low points = AllByRecursion (λ (p : Point). low ≤ℤ x_of p) points
+
+abbrev pub Ascends : List Point → Type 0
+Ascends [] = Unit {0}
+Ascends (p ∷ points) = NotBelow (x_of p) points × Ascends points
+
+pub NotBelow-lower : (low high : ℤ) (points : List Point) → low ≤ℤ high → NotBelow high points → NotBelow low points
+NotBelow-lower low high [] h all = tt
+NotBelow-lower low high (p ∷ points) h all = (omega (arith, ints, h, all.0), NotBelow-lower low high points h all.1)
+
+abbrev falls : List Point → Point → List ℕ
+falls before p = at_if (is_below p (first before)) p.open_at
+
+ascends-on : (q : Point) (before points : List Point) → at_each falls (q ∷ before) points ≡ []
+    → NotBelow (x_of q) points × Ascends points
+ascends-on q before [] h = (tt, tt)
+ascends-on q before (p ∷ points) h =
+    elim (int_lt (x_of p) (x_of q)) as
+    (λ b. int_lt (x_of p) (x_of q) ≡ b → at_if b p.open_at ++ at_each falls (p ∷ q ∷ before) points ≡ []
+    → NotBelow (x_of q) (p ∷ points) × Ascends (p ∷ points)) [
+      | true ↦ λ e k. cc
+      | false ↦ λ e k.
+          let on = ascends-on p (q ∷ before) points k in
+          let below : x_of q ≤ℤ x_of p = grind (arith, ints) in
+          ((below, NotBelow-lower (x_of q) (x_of p) points below on.0), on)
+    ] refl h
+
+pub ascends : (t : Term) → falling_in t ≡ [] → Ascends (points_of t)
+ascends t h = ascends-on t.first [] t.more h
+
+-- ---- zeros
+
+pub head-zero : (p : Point) (points : List Point) → list_all has_zero (p ∷ points) ≡ true → has_one p ≡ false
+head-zero p points h =
+    elim (has_one p) as (λ b. (not b && list_all has_zero points) ≡ true → b ≡ false)
+    [ true ↦ λ k. cc | false ↦ λ k. refl ] h
+
+pub tail-zero : (p : Point) (points : List Point) → list_all has_zero (p ∷ points) ≡ true
+    → list_all has_zero points ≡ true
+tail-zero p points h =
+    elim (has_one p) as (λ b. (not b && list_all has_zero points) ≡ true → list_all has_zero points ≡ true)
+    [ true ↦ λ k. cc | false ↦ λ k. k ] h
+
+-- ---- where all points stand on one side
+
+abbrev pub at_x : ℤ → List Point → List Point
+at_x x points = filter (λ (p : Point). int_eq (x_of p) x) points
+
+abbrev pub left_of : ℤ → List Point → List Point
+left_of x points = filter (λ (p : Point). int_lt (x_of p) x) points
+
+none-at : (low x : ℤ) (points : List Point) → x <ℤ low → NotBelow low points → at_x x points ≡ []
+none-at low x [] h all = refl
+none-at low x (p ∷ points) h all = let r = right p x (omega (arith, ints, h, all.0)) in
+    rw r.same (none-at low x points h all.1)
+
+none-left : (low x : ℤ) (points : List Point) → x <ℤ low → NotBelow low points → left_of x points ≡ []
+none-left low x [] h all = refl
+none-left low x (p ∷ points) h all = let r = right p x (omega (arith, ints, h, all.0)) in
+    rw r.less (none-left low x points h all.1)
+
+-- ---- the course, point after point
+
+pub last-over : {A : Type 0} (x y : A) (l : List A) → last (x ∷ y ∷ l) ≡ last (y ∷ l)
+last-over x y l = elim (last l) as (λ o. option_or (option_or o (Some y)) (Some x) ≡ option_or o (Some y))
+    [ None ↦ refl | Some z ↦ refl ]
+
+module _ (x : ℤ) where
+  pub course-step : (p q : Point) (points : List Point) → x_of p <ℤ x → x_of q <ℤ x
+      → course (p ∷ q ∷ points) x ≡ course (q ∷ points) x
+  course-step p q points h k =
+      let r = left p x h in
+      let s = left q x k in
+      rw (r.same, r.less, r.more, s.same, s.less, s.more, last-over p q (left_of x points)) refl
+
+  pub course-end : (p : Point) → x_of p <ℤ x → course (p ∷ []) x ≡ height p
+  course-end p h = let r = left p x h in rw (r.same, r.less, r.more) refl
+
+  pub course-start : (p : Point) (points : List Point) → x <ℤ x_of p → NotBelow (x_of p) points
+      → course (p ∷ points) x ≡ height p
+  course-start p points h all =
+      let r = right p x h in
+      rw (r.same, r.less, r.more, none-at (x_of p) x points h all, none-left (x_of p) x points h all) refl
+
+  pub course-between : (p q : Point) (points : List Point) → x_of p <ℤ x → x <ℤ x_of q → NotBelow (x_of q) points
+      → course (p ∷ q ∷ points) x ≡ on_line p q x
+  course-between p q points h k all =
+      let r = left p x h in
+      let s = right q x k in
+      rw (
+        r.same,
+        r.less,
+        r.more,
+        s.same,
+        s.less,
+        s.more,
+        none-at (x_of q) x points k all,
+        none-left (x_of q) x points k all,
+      ) refl
+
+  -- a point at x behind one that stands before it
+  pub course-reach : (p q : Point) (points : List Point) → x_of p <ℤ x → x_of q ≡ x
+      → course (p ∷ q ∷ points) x ≡ course (q ∷ points) x
+  course-reach p q points h k =
+      let r = left p x h in
+      let s = here q x k in
+      rw (r.same, s.same) refl
+
+  pub course-top : (p : Point) (points : List Point) → x_of p ≡ x → has_one p ≡ true → course (p ∷ points) x ≡ one
+  course-top p points h top = let r = here p x h in rw (r.same, top) refl
+
+  -- a zero at x behind or before other points at x
+  pub course-run : (p q : Point) (points : List Point) → x_of p ≡ x → has_one p ≡ false → x_of q ≡ x
+      → course (p ∷ q ∷ points) x ≡ course (q ∷ points) x
+  course-run p q points h zero k =
+      let r = here p x h in
+      let s = here q x k in
+      rw (r.same, s.same, zero) refl
+
+  pub course-lone : (p q : Point) (points : List Point) → x_of p ≡ x → has_one p ≡ false → x <ℤ x_of q
+      → NotBelow (x_of q) points
+      → course (p ∷ q ∷ points) x ≡ none
+  course-lone p q points h zero k all =
+      let r = here p x h in
+      let s = right q x k in
+      rw (r.same, s.same, none-at (x_of q) x points k all, zero) refl
+
+  no-one : (points : List Point) → list_all has_zero points ≡ true → list_any has_one (at_x x points) ≡ false
+  no-one [] h = refl
+  no-one (p ∷ points) h =
+      let zero = head-zero p points h in
+      elim (int_eq (x_of p) x) as (λ b. list_any has_one (cond b (p ∷ at_x x points) (at_x x points)) ≡ false) [
+        | true ↦ rw zero (no-one points (tail-zero p points h))
+        | false ↦ no-one points (tail-zero p points h)
+      ]
+
+  pub course-zeros : (p : Point) (points : List Point) → x_of p ≡ x → list_all has_zero (p ∷ points) ≡ true
+      → course (p ∷ points) x ≡ none
+  course-zeros p points h zeros =
+      let r = here p x h in
+      rw (r.same, head-zero p points zeros, no-one points (tail-zero p points zeros)) refl
+
+-- ---- The points below the one before them, as a term's points are walked.
+
+-- the same, behind a point at this place
+abbrev pub falling_from : ℤ → List Point → List ℕ
+falling_from x [] = []
+falling_from x (p ∷ points) = at_if (int_lt (x_of p) x) p.open_at ++ falling_from (x_of p) points
+
+falling_behind : (q : Point) (before points : List Point)
+    → at_each (λ (before : List Point) (p : Point). at_if (is_below p (first before)) p.open_at)
+    (q ∷ before) points ≡ falling_from (x_of q) points
+falling_behind q before [] = refl
+falling_behind q before (p ∷ points) =
+    ap (λ ns. at_if (int_lt (x_of p) (x_of q)) p.open_at ++ ns) (falling_behind p (q ∷ before) points)
+
+pub falling_in_first : (t : Term) → falling_in t ≡ falling_from (x_of t.first) t.more
+falling_in_first t = falling_behind t.first [] t.more
+
+-- ---- The degree of a trapezoid by where a number stands, and the lines between points.
+
+yes : (a b : ℤ) → a ≤ℤ b → le_z a b ≡ true
+yes a b h = grind (arith, ints)
+
+no : (a b : ℤ) → b <ℤ a → le_z a b ≡ false
+no a b h = grind (arith, ints)
+
+-- ---- the two sides
+
+rise-top : (a : Option Dec) (b x : Dec) → b.0 ≤ℤ x.0 → rise a b x ≡ one
+rise-top None b x h = refl
+rise-top (Some a) b x h = rw (yes b.0 x.0 h) refl
+
+rise-foot : (a : Option Dec) (b x : Dec) (foot : ℤ) → number_of a ≡ Some foot → x.0 ≤ℤ foot → x.0 <ℤ b.0
+    → rise a b x ≡ none
+rise-foot None b x foot e h k = cc
+rise-foot (Some a) b x foot e h k = let same : a.0 ≡ foot = cc in let low : x.0 ≤ℤ a.0 = rw same h in
+    rw (no b.0 x.0 k, yes x.0 a.0 low) refl
+
+rise-course : (a : Option Dec) (b x : Dec) (foot : ℤ) → number_of a ≡ Some foot → foot <ℤ x.0 → x.0 <ℤ b.0
+    → rise a b x ≡ over (width foot x.0) (width foot b.0)
+rise-course None b x foot e h k = cc
+rise-course (Some a) b x foot e h k = let same : a.0 ≡ foot = cc in let low : a.0 <ℤ x.0 = rw same h in
+    rw (no b.0 x.0 k, no x.0 a.0 low, same) refl
+
+fall-top : (c : Dec) (d : Option Dec) (x : Dec) → x.0 ≤ℤ c.0 → fall c d x ≡ one
+fall-top c None x h = refl
+fall-top c (Some d) x h = rw (yes x.0 c.0 h) refl
+
+fall-foot : (c : Dec) (d : Option Dec) (x : Dec) (foot : ℤ) → number_of d ≡ Some foot → foot ≤ℤ x.0 → c.0 <ℤ x.0
+    → fall c d x ≡ none
+fall-foot c None x foot e h k = cc
+fall-foot c (Some d) x foot e h k = let same : d.0 ≡ foot = cc in let low : d.0 ≤ℤ x.0 = rw same h in
+    rw (no x.0 c.0 k, yes d.0 x.0 low) refl
+
+fall-course : (c : Dec) (d : Option Dec) (x : Dec) (foot : ℤ) → number_of d ≡ Some foot → x.0 <ℤ foot → c.0 <ℤ x.0
+    → fall c d x ≡ over (width x.0 foot) (width c.0 foot)
+fall-course c None x foot e h k = cc
+fall-course c (Some d) x foot e h k = let same : d.0 ≡ foot = cc in let low : x.0 <ℤ d.0 = rw same h in
+    rw (no x.0 c.0 k, no d.0 x.0 low, same) refl
+
+lesser-one : (p q : ℕ) → p ≤ q → lesser (over p q) one ≡ over p q
+lesser-one p q h = let e : nat_le (p * 1) (1 * q) ≡ true = grind (arith, nat_tests) in ap (λ t. cond t (over p q) one) e
+
+one-lesser : (p q : ℕ) → p < q → lesser one (over p q) ≡ over p q
+one-lesser p q h = let e : nat_le (1 * q) (p * 1) ≡ false = grind (arith, nat_tests) in
+    ap (λ t. cond t one (over p q)) e
+
+-- ---- the degree
+
+module _ (z : Trapezoid) (x : Dec) where
+  sides : (f g : Fraction) → rise z.a z.b x ≡ f → fall z.c z.d x ≡ g → degree z x ≡ lesser f g
+  sides f g e h = ap₂ lesser e h
+
+  pub at-top : z.b.0 ≤ℤ x.0 → x.0 ≤ℤ z.c.0 → degree z x ≡ one
+  at-top h k = sides one one (rise-top z.a z.b x h) (fall-top z.c z.d x k)
+
+  no-foot : (a : Option Dec) → number_of a ≡ None → a ≡ None
+  no-foot None e = refl
+  no-foot (Some a) e = cc
+
+  pub open-left : number_of z.a ≡ None → x.0 ≤ℤ z.c.0 → degree z x ≡ one
+  open-left e k = sides one one (ap (λ a. rise a z.b x) (no-foot z.a e)) (fall-top z.c z.d x k)
+
+  pub open-right : number_of z.d ≡ None → z.b.0 ≤ℤ x.0 → degree z x ≡ one
+  open-right e h = sides one one (rise-top z.a z.b x h) (ap (λ d. fall z.c d x) (no-foot z.d e))
+
+  pub before : (foot : ℤ) → number_of z.a ≡ Some foot → x.0 ≤ℤ foot → x.0 <ℤ z.b.0 → x.0 ≤ℤ z.c.0 → degree z x ≡ none
+  before foot e h k m = sides none one (rise-foot z.a z.b x foot e h k) (fall-top z.c z.d x m)
+
+  pub behind : (foot : ℤ) → number_of z.d ≡ Some foot → foot ≤ℤ x.0 → z.c.0 <ℤ x.0 → z.b.0 ≤ℤ x.0 → degree z x ≡ none
+  behind foot e h k m = sides one none (rise-top z.a z.b x m) (fall-foot z.c z.d x foot e h k)
+
+  pub on-rise : (foot : ℤ) → number_of z.a ≡ Some foot → foot <ℤ x.0 → x.0 <ℤ z.b.0 → x.0 ≤ℤ z.c.0
+      → degree z x ≡ over (width foot x.0) (width foot z.b.0)
+  on-rise foot e h k m =
+      sides (over (width foot x.0) (width foot z.b.0)) one (rise-course z.a z.b x foot e h k) (fall-top z.c z.d x m)
+      ∙ lesser-one (width foot x.0) (width foot z.b.0) (omega (arith, ints, h, k))
+
+  pub on-fall : (foot : ℤ) → number_of z.d ≡ Some foot → x.0 <ℤ foot → z.c.0 <ℤ x.0 → z.b.0 ≤ℤ x.0
+      → degree z x ≡ over (width x.0 foot) (width z.c.0 foot)
+  on-fall foot e h k m =
+      sides one (over (width x.0 foot) (width z.c.0 foot)) (rise-top z.a z.b x m) (fall-course z.c z.d x foot e h k)
+      ∙ one-lesser (width x.0 foot) (width z.c.0 foot) (omega (arith, ints, h, k))
+
+-- ---- heights and lines
+
+pub AreSame-refl : (f g : Fraction) → f ≡ g → AreSame f g
+AreSame-refl f g e = rw e (record { cross = refl })
+
+pub height-one : (p : Point) → has_one p ≡ true → height p ≡ one
+height-one p h = rw h refl
+
+pub height-zero : (p : Point) → has_one p ≡ false → height p ≡ none
+height-zero p h = rw h refl
+
+module _ (p q : Point) (x : ℤ) where
+  pub line-low : has_one p ≡ false → has_one q ≡ false → AreSame none (on_line p q x)
+  line-low h k = rw (h, k) (record { cross = omega arith })
+
+  pub line-high : has_one p ≡ true → has_one q ≡ true → x_of p <ℤ x → x <ℤ x_of q → AreSame one (on_line p q x)
+  line-high h k l m = rw (h, k) (record { cross = omega (arith, ints, l, m) })
+
+  pub line-rising : has_one p ≡ false → has_one q ≡ true
+      → AreSame (over (width (x_of p) x) (width (x_of p) (x_of q))) (on_line p q x)
+  line-rising h k = rw (h, k) (record { cross = ap (λ n. n * width (x_of p) (x_of q)) (omega arith) })
+
+  pub line-falling : has_one p ≡ true → has_one q ≡ false
+      → AreSame (over (width x (x_of q)) (width (x_of p) (x_of q))) (on_line p q x)
+  line-falling h k = rw (h, k) (record { cross = ap (λ n. n * width (x_of p) (x_of q)) (omega arith) })
+
+-- ---- The corners of a term's points with one more point.
+
+none-mapped : {A B : Type 0} (f : A → B) (o : Option A) → None ≡ option_map f o → o ≡ None
+none-mapped f None h = refl
+none-mapped f (Some x) h = cc
+
+some-mapped : {A B : Type 0} (f : A → B) (o : Option A) (y : B) → Some y ≡ option_map f o → (x : A) × (o ≡ Some x)
+some-mapped f None y h = cc
+some-mapped f (Some x) y h = (x, refl)
+
+or-mapped : (o : Option Dec) (q : Option Point) (x : Dec) (p : Point) → x.0 ≡ x_of p → number_of o ≡ abscissa_of q
+    → number_of (option_or o (Some x)) ≡ abscissa_of (option_or q (Some p))
+or-mapped None None x p same held = ap Some same
+or-mapped None (Some q) x p same held = cc
+or-mapped (Some y) None x p same held = cc
+or-mapped (Some y) (Some q) x p same held = held
+
+and-false : (b c : Bool) → c ≡ false → (b && c) ≡ false
+and-false true c h = h
+and-false false c h = refl
+
+module _ (seen : List Point) (p : Point) (k : Corners) (held : AreCornersOf seen k) where
+  all-zero : k.top ≡ None → list_all has_zero seen ≡ true
+  all-zero none = none-passes has_one seen
+      (none-mapped x_of _ (ap (option_map (λ (t : Dec × Dec). t.0.0)) (sym none) ∙ held.b))
+
+  not-all-zero : (t : Dec × Dec) → k.top ≡ Some t → list_all has_zero seen ≡ false
+  not-all-zero t some =
+      let found = some-mapped x_of (first (filter has_one seen)) t.0.0
+      (ap (option_map (λ (t : Dec × Dec). t.0.0)) (sym some) ∙ held.b) in
+      one-passes has_one seen found.0 found.1
+
+  -- a zero before every one
+  pub rising : (x : Dec) → x.0 ≡ x_of p → has_one p ≡ false → k.top ≡ None
+      → AreCornersOf (seen ++ p ∷ []) (record { a = Some x; top = k.top; d = k.d })
+  rising x same zero none =
+      let before = all-zero none in
+      let all : list_all has_zero (seen ++ p ∷ []) ≡ true = rw (list_all-push has_zero seen p, before, zero) refl in
+      record {
+        a = rw (take_while-all has_zero (seen ++ p ∷ []) all, last-push seen p) (ap Some same);
+        b = rw (filter-fail has_one seen p zero) held.b;
+        c = rw (filter-fail has_one seen p zero) held.c;
+        d = rw (drop_while-all has_zero (seen ++ p ∷ []) all) (rw (drop_while-all has_zero seen before) at held.d);
+      }
+
+  -- a zero behind a one
+  pub falling : (t : Dec × Dec) (x : Dec) → x.0 ≡ x_of p → has_one p ≡ false → k.top ≡ Some t
+      → AreCornersOf (seen ++ p ∷ []) (record { a = k.a; top = k.top; d = option_or k.d (Some x) })
+  falling t x same zero some =
+      let broken : (list_all has_zero seen && has_zero p) ≡ false = rw (not-all-zero t some) refl in
+      let zeros : filter has_zero (drop_while has_zero (seen ++ p ∷ [])) ≡ filter has_zero (drop_while has_zero seen)
+      ++ p ∷ [] =
+      ap (filter has_zero) (drop_while-push has_zero seen p broken)
+      ∙ filter-pass has_zero (drop_while has_zero seen) p (ap not zero) in
+      record {
+        a = rw (take_while-push has_zero seen p broken) held.a;
+        b = rw (filter-fail has_one seen p zero) held.b;
+        c = rw (filter-fail has_one seen p zero) held.c;
+        d = rw (zeros, first-push (filter has_zero (drop_while has_zero seen)) p)
+            (or-mapped k.d (first (filter has_zero (drop_while has_zero seen))) x p same held.d);
+      }
+
+  -- a one
+  topping : (b x : Dec) → x.0 ≡ x_of p → has_one p ≡ true
+      → Some b.0 ≡ abscissa_of (option_or (first (filter has_one seen)) (Some p))
+      → AreCornersOf (seen ++ p ∷ []) (record { a = k.a; top = Some (b, x); d = k.d })
+  topping b x same top begun =
+      let broken : (list_all has_zero seen && has_zero p) ≡ false = and-false _ _ (ap not top) in
+      let zeros : filter has_zero (drop_while has_zero (seen ++ p ∷ [])) ≡ filter has_zero (drop_while has_zero seen) =
+      ap (filter has_zero) (drop_while-push has_zero seen p broken)
+      ∙ filter-fail has_zero (drop_while has_zero seen) p (ap not top) in
+      record {
+        a = rw (take_while-push has_zero seen p broken) held.a;
+        b = rw (filter-pass has_one seen p top, first-push (filter has_one seen) p) begun;
+        c = rw (filter-pass has_one seen p top, last-push (filter has_one seen) p) (ap Some same);
+        d = rw zeros held.d;
+      }
+
+  -- the first one
+  pub beginning : (x : Dec) → x.0 ≡ x_of p → has_one p ≡ true → k.top ≡ None
+      → AreCornersOf (seen ++ p ∷ []) (record { a = k.a; top = Some (x, x); d = k.d })
+  beginning x same top none =
+      let empty = none-mapped x_of (first (filter has_one seen))
+      (ap (option_map (λ (t : Dec × Dec). t.0.0)) (sym none) ∙ held.b) in
+      topping x x same top (rw empty (ap Some same))
+
+  -- a one behind another
+  pub going-on : (t : Dec × Dec) (x : Dec) → x.0 ≡ x_of p → has_one p ≡ true → k.top ≡ Some t
+      → AreCornersOf (seen ++ p ∷ []) (record { a = k.a; top = Some (t.0, x); d = k.d })
+  going-on t x same top some =
+      let begun : Some t.0.0 ≡ abscissa_of (first (filter has_one seen)) =
+      ap (option_map (λ (t : Dec × Dec). t.0.0)) (sym some) ∙ held.b in
+      let found = some-mapped x_of (first (filter has_one seen)) t.0.0 begun in
+      topping t.0 x same top (rw found.1 (rw found.1 at begun))
+
+pub AreCornersOf-more : (first : Point) (points read : List Point) (i : ℕ) (d : Point) (k : Corners) → read ≡ points
+    → i < length points
+    → AreCornersOf ((first ∷ take i points) ++ get_or read i d ∷ []) k → AreCornersOf (first ∷ take (i + 1) points) k
+AreCornersOf-more first points read i d k same within held = rw (take_more points i d within) (rw same at held)
 
 -- ---- the first and the last of some points
 

@@ -1,13 +1,170 @@
--- A tree without load faults has a block.
-use Rattle.std.proofs.Common.{◌≡◌, ℕ, List, [], ◌∷◌, Option, Some, None, map, option_map, refl}
-use Rattle.std.specs.List.{AllByRecursion}
-use Rattle.fuzzy_meaning.specs.declared.block.Rule.{Rule}
-use Rattle.fcl_syntax.specs.declared.{tree.FunctionBlock.FunctionBlock, tree.Rule.Rule as RuleNode}
+-- A tree without load faults has a block: each declared variable has what a block has of it, and so has each rule.
+use Rattle.std.proofs.lemmas.List.Elements.{recursion_from_All}
+use Rattle.std.proofs.Common.{◌≡◌, true, false, List, [], ◌∷◌, Some, None, refl, not, Option, option_map, ap, sym}
+use Rattle.std.proofs.Common.{map, ◌∙◌, ℕ}
+use Rattle.std.specs.Prelude.{IsSome, if◌then◌else◌, All}
+use Rattle.std.specs.List.{AllByRecursion, AllZip, cons_option, filter_map, filter, take_while}
+use Rattle.std.specs.Option.{option_or}
+use Rattle.fuzzy_meaning.specs.declared.block.{Input.Input, Trapezoid.Trapezoid, Output.Output, Rule.Rule}
+use Rattle.fcl_syntax.specs.declared.tree.{Direction.Direction, Name.Name, Fuzzify.Fuzzify, Point.Point, Term.Term}
+use Rattle.fcl_syntax.specs.declared.tree.{Defuzzify.Defuzzify, SignedNumber.SignedNumber, Singleton.Singleton}
+use Rattle.fcl_syntax.specs.declared.tree.{FunctionBlock.FunctionBlock, Part.Part, Rule.Rule as RuleNode}
 use Rattle.fcl_syntax.specs.declared.tree.Weight.{Weight}
-use Rattle.fcl_check.specs.{Faults.conclusions_of, Sections.value, Texts.TreesHaveBlocks}
-use Rattle.fcl_check.specs.Loaded.{IsRuleOf, conclusion_of, literal_of, number_of, or_condition}
-use Rattle.fcl_check.proofs.{existing.FoundItems.found_items, existing.FoundOutputs.decimal_of}
-use Rattle.fcl_check.proofs.existing.FoundVariables.{found_inputs, found_outputs}
+use Rattle.fcl_syntax.specs.declared.tree.Direction.TheVariants as side
+use Rattle.fz_num.specs.declared.dec.Dec.{Dec}
+use Rattle.fcl_check.specs.Names.{Declared, is_direction, terms_of, singletons_of, as_defuzzify, as_fuzzify}
+use Rattle.fcl_check.specs.Names.{declared_as, declared_in}
+use Rattle.fcl_check.specs.Places.{first, last, at_if, drop_while}
+use Rattle.fcl_check.specs.Loaded.{IsInputOf, IsTermOf, abscissa_of, input_range, number_of, IsOutputOf}
+use Rattle.fcl_check.specs.Loaded.{default_number, output_range, IsInputNamed, IsOutputNamed, IsVariableNamed}
+use Rattle.fcl_check.specs.Loaded.{IsRuleOf, conclusion_of, literal_of, or_condition}
+use Rattle.fcl_check.specs.WellFormed.{IsWellFormedFuzzify, IsWellFormedDefuzzify, HasSection}
+use Rattle.fcl_check.specs.Sections.{has_one, has_shape, has_zero, points_of, x_of, default_of, fallback_number}
+use Rattle.fcl_check.specs.Sections.{value}
+use Rattle.fcl_check.specs.{Faults.first_fault, Faults.conclusions_of, Texts.TreesHaveBlocks}
+use Rattle.fcl_check.proofs.faultless.Faultless.{nowhere, shaped, found_value, input_range_there, one_there}
+use Rattle.fcl_check.proofs.faultless.Faultless.{default_there, output_range_there, input_sections, output_sections}
+use Rattle.fcl_check.proofs.{naming.Naming.named_as, lists.Elements.all_weaker}
+
+-- ---- Values that are found for the items of a list, one for each.
+
+-- a list that has a first item has a last one
+pub last_there : {X : Type 0} (xs : List X) → IsSome (first xs) → IsSome (last xs)
+last_there [] there = absurd cc
+last_there (x ∷ xs) there = elim (last xs) as (λ o. IsSome (option_or o (Some x))) [ None ↦ refl | Some y ↦ refl ]
+
+pub found_items : {X Y : Type 0} (R : X → Y → Type 0) (xs : List X) → AllByRecursion (λ x. (y : Y) × R x y) xs
+    → (ys : List Y) × AllZip R xs ys
+found_items R [] found = ([], tt)
+found_items R (x ∷ xs) found =
+    let rest = found_items R xs found.1 in
+    (found.0.0 ∷ rest.0, (found.0.1, rest.1))
+
+-- of each declared variable of a direction, of its name alone
+pub found_names : {Y : Type 0} (R : Name → Y → Type 0) (side : Direction) (ds : List Declared)
+    → AllByRecursion (λ d. is_direction side d.0 ≡ true → (y : Y) × R d.1 y) ds
+    → AllByRecursion (λ n. (y : Y) × R n y) (filter_map (named_as side) ds)
+found_names R side [] found = tt
+found_names {Y} R side (d ∷ ds) found =
+    let rest = found_names R side ds found.1 in
+    elim (is_direction side d.0) as (λ v. (v ≡ true → (y : Y) × R d.1 y) → AllByRecursion (λ n. (y : Y) × R n y)
+    (cons_option (if v then Some d.1 else None) (filter_map (named_as side) ds))) [
+      | true ↦ λ here. (here refl, rest)
+      | false ↦ λ here. rest
+    ] found.0
+
+-- ---- A well-formed section of an input makes one.
+
+-- ---- terms
+
+-- the corner at a point
+abbrev corner_at : Point → Dec
+corner_at p = record { 0 = x_of p }
+
+number_of-corner : (o : Option Point) → number_of (option_map corner_at o) ≡ abscissa_of o
+number_of-corner None = refl
+number_of-corner (Some p) = refl
+
+found_term : (t : Term) → has_shape (points_of t) ≡ true → (z : Trapezoid) × IsTermOf t z
+found_term t shape =
+    let points = points_of t in
+    let there = one_there points shape in
+    let b = found_value (first (filter has_one points)) there in
+    let c = found_value (last (filter has_one points)) (last_there (filter has_one points) there) in
+    let a = last (take_while has_zero points) in
+    let d = first (filter has_zero (drop_while has_zero points)) in (
+      record { a = option_map corner_at a; b = corner_at b.0; c = corner_at c.0; d = option_map corner_at d },
+      record {
+        a = number_of-corner a;
+        b = sym (ap abscissa_of b.1);
+        c = sym (ap abscissa_of c.1);
+        d = number_of-corner d;
+      },
+    )
+
+-- ---- inputs
+
+pub found_input : (s : Fuzzify) → IsWellFormedFuzzify s → (x : Input) × IsInputOf s x
+found_input s well_formed =
+    let range = found_value (input_range s) (input_range_there s well_formed.some) in
+    let shaped_terms = nowhere (λ (t : Term). at_if (not (has_shape (points_of t))) t.at) (terms_of s)
+    well_formed.shaped in
+    let terms = found_items IsTermOf (terms_of s)
+    (all_weaker (λ (t : Term). at_if (not (has_shape (points_of t))) t.at ≡ [])
+    (λ (t : Term). (z : Trapezoid) × IsTermOf t z) (λ t none. found_term t (shaped (has_shape (points_of t)) t.at none))
+    (terms_of s) shaped_terms) in (
+      record { lo = record { 0 = range.0.0 }; hi = record { 0 = range.0.1 }; terms = terms.0 },
+      record { range = sym range.1; terms = terms.1 },
+    )
+
+-- ---- A well-formed section of an output makes one.
+
+abbrev pub decimal_of : SignedNumber → Dec
+decimal_of n = record { 0 = value n }
+
+number_of-decimal : (o : Option SignedNumber) → number_of (option_map decimal_of o) ≡ option_map value o
+number_of-decimal None = refl
+number_of-decimal (Some n) = refl
+
+singleton_numbers : (ts : List Singleton)
+    → map (λ (d : Dec). d.0) (map (λ (t : Singleton). decimal_of t.value) ts) ≡ map
+    (λ (t : Singleton). value t.value) ts
+singleton_numbers [] = refl
+singleton_numbers (t ∷ ts) = ap (◌∷◌ (value t.value)) (singleton_numbers ts)
+
+pub found_output : (s : Defuzzify) → IsWellFormedDefuzzify s → (y : Output) × IsOutputOf s y
+found_output s well_formed =
+    let range = found_value (output_range s) (output_range_there s well_formed.some) in
+    let d = found_value (default_of s) (default_there s well_formed.complete) in
+    let number = fallback_number d.0.value in (
+      record {
+        lo = record { 0 = range.0.0 };
+        hi = record { 0 = range.0.1 };
+        singletons = map (λ (t : Singleton). decimal_of t.value) (singletons_of s);
+        default = option_map decimal_of number;
+      },
+      record {
+        range = sym range.1;
+        singletons = singleton_numbers (singletons_of s);
+        default = ap Some (number_of-decimal number) ∙ sym (ap (option_map default_number) d.1);
+      },
+    )
+
+-- ---- In a tree without load faults each declared variable has what a block has of it.
+
+module _ {S X : Type 0} (direction : Direction) (as_section : Part → Option S) (IsWellFormed : S → Type 0)
+    (IsOf : S → X → Type 0)
+    (found : (s : S) → IsWellFormed s → (x : X) × IsOf s x) (text : List ℕ) (b : FunctionBlock) where
+  abbrev Named : Name → X → Type 0
+  Named = IsVariableNamed as_section IsOf text b
+
+  found_variable : (d : Declared) → HasSection direction as_section IsWellFormed text b d → is_direction direction d.0
+      ≡ true
+      → (x : X) × Named d.1 x
+  found_variable d has is =
+      let s = has is in
+      let x = found s.0 s.2 in
+      (x.0, (s.0, s.1, x.1))
+
+  found_variables : All (HasSection direction as_section IsWellFormed text b) (declared_in b)
+      → (xs : List X) × AllZip Named (declared_as direction b) xs
+  found_variables have =
+      let each = all_weaker (HasSection direction as_section IsWellFormed text b)
+      (λ (d : Declared). is_direction direction d.0 ≡ true → (x : X) × Named d.1 x)
+      found_variable (declared_in b)
+      (recursion_from_All (HasSection direction as_section IsWellFormed text b) (declared_in b) have) in
+      found_items Named (declared_as direction b) (found_names Named direction (declared_in b) each)
+
+module _ (text : List ℕ) (b : FunctionBlock) (well_formed : first_fault text b ≡ None) where
+  pub found_inputs : (xs : List Input) × AllZip (IsInputNamed text b) (declared_as side.Input b) xs
+  found_inputs = found_variables side.Input as_fuzzify IsWellFormedFuzzify IsInputOf found_input text b
+      (input_sections text b well_formed)
+
+  pub found_outputs : (ys : List Output) × AllZip (IsOutputNamed text b) (declared_as side.Output b) ys
+  found_outputs = found_variables side.Output as_defuzzify IsWellFormedDefuzzify IsOutputOf found_output text b
+      (output_sections text b well_formed)
+
+-- ---- A tree without load faults has a block.
 
 -- ---- rules
 

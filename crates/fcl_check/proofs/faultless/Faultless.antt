@@ -1,24 +1,44 @@
 -- A tree without load faults: no kind has a place, neither in a section nor in a rule.
-use Rattle.std.proofs.Common.{◌≡◌, ℕ, Bool, true, false, cond, not, ◌&&◌, List, [], ◌∷◌, ◌++◌, map, Option, Some, None}
-use Rattle.std.proofs.Common.{option_and_then, refl}
-use Rattle.std.specs.Prelude.{is_none}
-use Rattle.std.specs.List.{AllByRecursion, find, flat_map}
-use Rattle.fcl_syntax.specs.declared.{tree.Conclusion.Conclusion, tree.Defuzzify.Defuzzify, tree.Direction.Direction}
-use Rattle.fcl_syntax.specs.declared.tree.Direction.TheVariants.{Input, Output}
-use Rattle.fcl_syntax.specs.declared.{tree.FunctionBlock.FunctionBlock, tree.Fuzzify.Fuzzify, tree.Name.Name}
-use Rattle.fcl_syntax.specs.declared.tree.Part.{Part}
+use denote.Enum.Bare.{sameb}
+use Rattle.std.proofs.lemmas.{Bool.lt-leb, Bool.Decides.nat_tests, List.length-drop, List.length-map}
+use Rattle.std.proofs.lemmas.{List.Elements.All-from_recursion, Slice.Eq.bytes_eq-Decides, Option.same_Some}
+use Rattle.std.proofs.Common.{◌≡◌, ℕ, Bool, true, false, cond, not, ◌&&◌, List, [], ◌∷◌, ◌++◌, map, Option, Some}
+use Rattle.std.proofs.Common.{None, option_and_then, refl, option_map, suc, zero, ◌+◌, drop, length, sym, ap, ◌∙◌}
+use Rattle.std.proofs.Common.{arith, ◌≤◌, ◌||◌, if◌then◌else◌, ◌<◌, get_or, subst}
+use Rattle.std.specs.Prelude.{is_none, nat_le, slice_get, All, IsSome, ℤ}
+use Rattle.std.specs.List.{AllByRecursion, find, flat_map, filter, cons_option, list_any, filter_map}
+use Rattle.std.specs.{Option.option_or, Borrow.Bor}
+use Rattle.fcl_syntax.specs.declared.tree.{Conclusion.Conclusion, Defuzzify.Defuzzify, Direction.Direction}
+use Rattle.fcl_syntax.specs.declared.tree.{Direction.TheVariants.Input, Direction.TheVariants.Output}
+use Rattle.fcl_syntax.specs.declared.tree.{FunctionBlock.FunctionBlock, Fuzzify.Fuzzify, Name.Name, Part.Part}
+use Rattle.fcl_syntax.specs.declared.tree.{Rule.Rule, DefuzzyLine.DefuzzyLine, SignedNumber.SignedNumber, Point.Point}
+use Rattle.fcl_syntax.specs.declared.tree.{Range.Range, Term.Term, Tree.Tree}
 use Rattle.fcl_syntax.specs.declared.tree.Part.TheVariants as part
-use Rattle.fcl_syntax.specs.declared.tree.Rule.{Rule}
-use Rattle.fcl_check.specs.{declared.fault.LoadFault.LoadFault, WellFormed.IsKnown, WellFormed.IsWellFormedRule}
+use Rattle.fcl_syntax.specs.declared.tree.Direction.TheVariants as side
+use Rattle.fcl_syntax.specs.declared.tree.DefuzzyLine.TheVariants as defuzzy
+use Rattle.fz_num.specs.declared.dec.Dec.{Dec}
+use Rattle.fcl_syntax.specs.contracts.tree.Direction.{the_type}
+use Rattle.fcl_check.specs.WellFormed.{IsKnown, IsWellFormedRule, HasSection, IsWellFormedDefuzzify}
+use Rattle.fcl_check.specs.WellFormed.{IsWellFormedFuzzify}
 use Rattle.fcl_check.specs.Faults.{Pair, conclusions_of, condition_pairs, direction, first_fault, is_declared_as}
 use Rattle.fcl_check.specs.Faults.{is_some_direction, kinds, mistaken, mistaken_in, mistaken_section, missing_part}
 use Rattle.fcl_check.specs.Faults.{too_many, twice, unknown, unknown_in, unknown_pair, unknown_section}
-use Rattle.fcl_check.specs.Faults.{weight_outside, wrong_side}
+use Rattle.fcl_check.specs.Faults.{weight_outside, wrong_side, is_over, most_of, repeated, same_declared}
+use Rattle.fcl_check.specs.Faults.{without_section}
 use Rattle.fcl_check.specs.Names.{as_defuzzify, as_fuzzify, defuzzify_of, fuzzify_of, is_direction, is_named, letters}
-use Rattle.fcl_check.specs.Names.{section_of, section_name, term_number}
-use Rattle.fcl_check.specs.Places.{at_if, at_some, first}
+use Rattle.fcl_check.specs.Names.{section_of, section_name, term_number, Declared, declared_in, direction_of}
+use Rattle.fcl_check.specs.Names.{singleton_of, terms_of}
+use Rattle.fcl_check.specs.Places.{at_if, at_some, first, at_each, drop_while}
 use Rattle.fcl_check.specs.Sections.{bad_range, falling_points, incomplete, numbers_outside, points_outside}
-use Rattle.fcl_check.specs.Sections.{shapeless_terms, terms_over_limit, without_terms}
+use Rattle.fcl_check.specs.Sections.{shapeless_terms, terms_over_limit, without_terms, Ends, default_of}
+use Rattle.fcl_check.specs.Sections.{defuzzy_range, fallback_number, fuzzy_range, has_one, has_shape, has_zero}
+use Rattle.fcl_check.specs.Sections.{hull_of, method_line, number_line, points_of, value, x_of}
+use Rattle.fcl_check.specs.Loaded.{abscissa_of, given_or, input_range, output_hull, output_range, widened}
+use Rattle.fcl_check.specs.{declared.fault.LoadFault.LoadFault, Steps.room_behind, declared.checks.Room.Room}
+use Rattle.fcl_check.specs.{ByLetters.names_of, declared.inputs.Corners.Corners, Corners.AreCornersOf}
+use Rattle.fcl_check.proofs.places.Places.{first-append, first-map, first-map-drop}
+use Rattle.fcl_check.proofs.{lists.Elements.drop_while-all, lists.Elements.none-passes, naming.Naming.same-direction}
+use Rattle.fcl_check.proofs.naming.Naming.{section-at}
 
 -- ---- lists without items
 
@@ -217,3 +237,394 @@ module _ (text : List ℕ) (b : FunctionBlock) where
         let names = no_items (flat_map (unknown_section text b) b.parts) _ well_formed.names in
         let sides = no_items (flat_map (mistaken_section text b) b.parts) _ well_formed.sides in
         all_well_formed b.rules.rules names.1 sides.1 well_formed.weights
+
+-- ---- The first kind of fault that occurs, kind by kind.
+
+abbrev pub first_of_kinds : List ((ℕ → LoadFault) × List ℕ) → Option LoadFault
+first_of_kinds [] = None
+first_of_kinds (k ∷ ks) = option_or (option_map k.0 (first k.1)) (first_of_kinds ks)
+
+first-kinds : (ks : List ((ℕ → LoadFault) × List ℕ)) → first (flat_map (λ k. map k.0 k.1) ks) ≡ first_of_kinds ks
+first-kinds [] = refl
+first-kinds (k ∷ ks) =
+    rw (first-append (map k.0 k.1) (flat_map (λ k. map k.0 k.1) ks), first-map k.0 k.1, first-kinds ks) refl
+
+pub first_fault_by_kinds : (text : List ℕ) (b : FunctionBlock) → first_fault text b ≡ first_of_kinds (kinds text b)
+first_fault_by_kinds text b = first-kinds (kinds text b)
+
+-- ---- The first of what is over a limit.
+
+-- the first place with no room left
+abbrev pub over_from : Room → List Declared → Option ℕ
+over_from r [] = None
+over_from r (d ∷ ds) = elim (room_behind r d.0) [ None ↦ Some d.1.at | Some left ↦ over_from left ds ]
+
+abbrev room : ℕ → ℕ → Room
+room i o = record { inputs = i; outputs = o }
+
+abbrev count : Direction → List Declared → ℕ
+count side before = length (filter (λ (e : Declared). is_direction side e.0) before)
+
+abbrev over_places : List Declared → Declared → List ℕ
+over_places before d = at_if (is_over before d) d.1.at
+
+over_is : (i o : ℕ) (before ds : List Declared) → i + count Input before ≡ 8 → o + count Output before ≡ 4
+    → over_from (room i o) ds ≡ first (at_each over_places before ds)
+over_is i o before [] hi ho = refl
+over_is zero o before ((Input, n) ∷ ds) hi ho =
+    let e : count Input before ≡ 8 = omega arith in
+    rw e refl
+over_is (suc i) o before ((Input, n) ∷ ds) hi ho =
+    let e : nat_le 8 (count Input before) ≡ false = lt-leb 8 (count Input before) (omega arith) in
+    rw e (over_is i o ((Input, n) ∷ before) ds (omega arith) ho)
+over_is i zero before ((Output, n) ∷ ds) hi ho =
+    let e : count Output before ≡ 4 = omega arith in
+    rw e refl
+over_is i (suc o) before ((Output, n) ∷ ds) hi ho =
+    let e : nat_le 4 (count Output before) ≡ false = lt-leb 4 (count Output before) (omega arith) in
+    rw e (over_is i o ((Output, n) ∷ before) ds hi (omega arith))
+
+pub over_first : (ds : List Declared)
+    → first (at_each (λ (before : List Declared) (d : Declared). at_if (is_over before d) d.1.at) [] ds) ≡ over_from
+    (room 8 4) ds
+over_first ds = sym (over_is 8 4 [] ds refl refl)
+
+pub too_many_first : (text : List ℕ) (b : FunctionBlock)
+    → first (too_many text b) ≡ option_or (first (at_each over_places [] (declared_in b)))
+    (option_or (first (flat_map terms_over_limit b.parts))
+    (option_map (λ (r : Rule). r.at) (slice_get b.rules.rules 256)))
+too_many_first text b =
+    let names = at_each over_places [] (declared_in b) in
+    let terms = flat_map terms_over_limit b.parts in
+    let rules = map (λ (r : Rule). r.at) (drop 256 b.rules.rules) in
+    first-append names (terms ++ rules) ∙ ap (option_or (first names)) (first-append terms rules
+    ∙ ap (option_or (first terms)) (first-map-drop (λ (r : Rule). r.at) 256 b.rules.rules))
+
+-- ---- How many names, terms and rules there are where none is missing and none too many.
+
+pub some_item : {X : Type 0} (xs : List X) (at : ℕ) → at_if (is_none (first xs)) at ≡ [] → 1 ≤ length xs
+some_item [] at h = absurd cc
+some_item (x ∷ xs) at h = omega arith
+
+pub few_items : {X Y : Type 0} (n : ℕ) (f : X → Y) (xs : List X) → map f (drop n xs) ≡ [] → length xs ≤ n
+few_items n f xs h = let none : length (map f (drop n xs)) ≡ 0 = ap length h in
+    omega (arith, none, length-map (drop n xs) f, length-drop n xs)
+
+pub some_at_all : {X : Type 0} (xs : List X) → is_none (slice_get xs 0) ≡ false → 1 ≤ length xs
+some_at_all [] h = cc
+some_at_all (x ∷ xs) h = omega arith
+
+-- ---- how many names a side has
+
+abbrev pub of_side : Direction → List Declared → ℕ
+of_side side before = length (filter (λ (e : Declared). is_direction side e.0) before)
+
+abbrev pub over : List Declared → Declared → List ℕ
+over before d = at_if (is_over before d) d.1.at
+
+not_over : (n m : ℕ) → nat_le n m ≡ false → m + 1 ≤ n
+not_over n m h = grind (arith, nat_tests)
+
+pub some_names : (side : Direction) (ds : List Declared) → list_any (λ (d : Declared). is_direction side d.0) ds ≡ true
+    → 1 ≤ length (names_of side ds)
+some_names side [] h = cc
+some_names side (d ∷ ds) h =
+    elim (is_direction side d.0) as (λ b. (b || list_any (λ (d : Declared). is_direction side d.0) ds) ≡ true
+    → 1 ≤ length (cons_option (if b then Some d.1 else None) (names_of side ds))) [
+      | true ↦ λ k. omega arith
+      | false ↦ λ k. some_names side ds k
+    ] h
+
+pub few_names : (side : Direction) (before ds : List Declared) → of_side side before ≤ most_of side
+    → at_each over before ds ≡ []
+    → of_side side before + length (names_of side ds) ≤ most_of side
+few_names side before [] h none = omega (arith, h)
+few_names side.Input before ((side.Input, n) ∷ ds) h none =
+    let here = no_items (over before (side.Input, n)) _ none in
+    let room = not_over 8 (of_side side.Input before) (no_place (is_over before (side.Input, n)) n.at here.0) in
+    let rest = few_names side.Input ((side.Input, n) ∷ before) ds (omega (arith, room)) here.1 in
+    omega (arith, rest)
+few_names side.Input before ((side.Output, n) ∷ ds) h none =
+    few_names side.Input ((side.Output, n) ∷ before) ds h (no_items (over before (side.Output, n)) _ none).1
+few_names side.Output before ((side.Output, n) ∷ ds) h none =
+    let here = no_items (over before (side.Output, n)) _ none in
+    let room = not_over 4 (of_side side.Output before) (no_place (is_over before (side.Output, n)) n.at here.0) in
+    let rest = few_names side.Output ((side.Output, n) ∷ before) ds (omega (arith, room)) here.1 in
+    omega (arith, rest)
+few_names side.Output before ((side.Input, n) ∷ ds) h none =
+    few_names side.Output ((side.Input, n) ∷ before) ds h (no_items (over before (side.Input, n)) _ none).1
+
+-- ---- What a tree without load faults has where the builder looks for it.
+
+pub mapped_there : {X Y : Type 0} (f : X → Y) (o : Option X) (p : Option Y) → option_map f o ≡ p → IsSome p → IsSome o
+mapped_there f None None e h = h
+mapped_there f None (Some y) e h = absurd cc
+mapped_there f (Some x) p e h = refl
+
+pub found_value : {X : Type 0} (o : Option X) → IsSome o → (x : X) × (o ≡ Some x)
+found_value None there = absurd cc
+found_value (Some x) there = (x, refl)
+
+-- ---- lines
+
+-- none at what a line has
+pub none_at : {X Y Z : Type 0} (f : Y → List Z) (g : X → Option Y) (xs : List X) (i : ℕ) (d : X) (y : Y)
+    → flat_map f (filter_map g xs) ≡ [] → i < length xs
+    → g (get_or xs i d) ≡ Some y → f y ≡ []
+none_at f g [] i d y none within is = absurd (omega arith)
+none_at f g (x ∷ xs) zero d y none within is = (no_items (f y) _ (rw is at none)).0
+none_at f g (x ∷ xs) (suc i) d y none within is =
+    let rest = elim (g x) as (λ o. flat_map f (cons_option o (filter_map g xs)) ≡ []
+    → flat_map f (filter_map g xs) ≡ []) [ None ↦ λ k. k | Some z ↦ λ k. (no_items (f z) _ k).1 ] none in
+    none_at f g xs i d y rest (omega arith) is
+
+-- ---- a term
+
+-- the points of a term have one of degree 1
+pub one_there : (points : List Point) → has_shape points ≡ true → IsSome (first (filter has_one points))
+one_there points shape =
+    elim (first (filter has_one points)) as (λ o. first (filter has_one points) ≡ o → IsSome o) [
+      | None ↦ λ none.
+          let front : drop_while has_zero points ≡ [] =
+          drop_while-all has_zero points (none-passes has_one points none) in
+          let no : false ≡ true = rw front at shape in
+          cc
+      | Some p ↦ λ e. refl
+    ] refl
+
+abscissa_there : (o : Option Point) → IsSome o → IsSome (abscissa_of o)
+abscissa_there None there = there
+abscissa_there (Some p) there = refl
+
+-- and so the corners have a top
+pub top_there : (points : List Point) (k : Corners) → AreCornersOf points k → has_shape points ≡ true → IsSome k.top
+top_there points k held shape =
+    mapped_there (λ (t : Dec × Dec). t.0.0) k.top (abscissa_of (first (filter has_one points))) held.b
+    (abscissa_there (first (filter has_one points)) (one_there points shape))
+
+-- ---- ranges
+
+given_there : (hull : Option Ends) (r : Option Range) → IsSome hull → IsSome (given_or hull r)
+given_there hull None h = h
+given_there hull (Some r) h = refl
+
+hull_there : (ts : List Term) (at : ℕ) → at_if (is_none (first ts)) at ≡ []
+    → IsSome (hull_of (map x_of (flat_map points_of ts)))
+hull_there [] at h = absurd cc
+hull_there (t ∷ ts) at h = refl
+
+pub input_range_there : (s : Fuzzify) → without_terms (part.Fuzzify s) ≡ [] → IsSome (input_range s)
+input_range_there s h = given_there _ (fuzzy_range s) (hull_there (terms_of s) s.end h)
+
+numbers_there : (lines : List DefuzzyLine) (at : ℕ) → at_if (is_none (first (filter_map singleton_of lines))) at ≡ []
+    → IsSome (hull_of (map (λ (n : ℤ × ℕ). n.0) (filter_map number_line lines)))
+numbers_there [] at h = absurd cc
+numbers_there (defuzzy.Singleton t ∷ lines) at h = refl
+numbers_there (defuzzy.Accu x ∷ lines) at h = numbers_there lines at h
+numbers_there (defuzzy.Method x ∷ lines) at h = numbers_there lines at h
+numbers_there (defuzzy.Default d ∷ lines) at h =
+    elim (fallback_number d.value) as (λ o. IsSome (hull_of (map (λ (n : ℤ × ℕ). n.0)
+    (cons_option (option_map (λ (n : SignedNumber). (value n, d.at)) o) (filter_map number_line lines))))) [
+      | None ↦ numbers_there lines at h
+      | Some n ↦ refl
+    ]
+numbers_there (defuzzy.Range x ∷ lines) at h = numbers_there lines at h
+
+widened_there : (hull : Option Ends) → IsSome hull → IsSome (option_map widened hull)
+widened_there None h = h
+widened_there (Some e) h = refl
+
+pub output_range_there : (s : Defuzzify) → without_terms (part.Defuzzify s) ≡ [] → IsSome (output_range s)
+output_range_there s h =
+    given_there _ (defuzzy_range s) (widened_there (output_hull s) (numbers_there s.lines s.end h))
+
+-- ---- DEFAULT
+
+neither : {X : Type 0} (test : Bool) (o : Option X) → (test || is_none o) ≡ false → IsSome o
+neither true o h = cc
+neither false None h = cc
+neither false (Some x) h = refl
+
+pub default_there : (s : Defuzzify) → incomplete (part.Defuzzify s) ≡ [] → IsSome (default_of s)
+default_there s h = neither (is_none (first (filter_map method_line s.lines))) (default_of s) (no_place _ s.end h)
+
+-- ---- the sections of declared names
+
+-- the side that a section is for
+abbrev section_side : Part → Direction
+section_side (part.Fuzzify s) = Input
+section_side (part.Defuzzify s) = Output
+
+sided_section : (text : List ℕ) (b : FunctionBlock) (p : Part)
+    → mistaken_section text b p ≡ mistaken text b (section_side p) (section_name p)
+sided_section text b (part.Fuzzify s) = refl
+sided_section text b (part.Defuzzify s) = refl
+
+pub as_side : (side x : Direction) → is_direction side x ≡ true → x ≡ side
+as_side Input Input h = refl
+as_side Input Output h = cc
+as_side Output Input h = cc
+as_side Output Output h = refl
+
+found-passes : {X : Type 0} (test : X → Bool) (xs : List X) (x : X) → find test xs ≡ Some x → test x ≡ true
+found-passes test [] x h = cc
+found-passes test (y ∷ xs) x h =
+    elim (test y) as (λ b. test y ≡ b → cond b (Some y) (find test xs) ≡ Some x → test x ≡ true) [
+      | true ↦ λ e k. let same : y ≡ x = cc in rw (← same) e
+      | false ↦ λ e k. found-passes test xs x k
+    ] refl h
+
+neither_test : (p q : Bool) → (p || q) ≡ false → (p ≡ false) × (q ≡ false)
+neither_test true q h = absurd cc
+neither_test false q h = (refl, h)
+
+-- where no item is the same as one before it, each is the first that is the same as itself
+module _ {X : Type 0} (same : X → X → Bool) (at : X → ℕ) (itself : (x : X) → same x x ≡ true) where
+  abbrev again : List X → X → List ℕ
+  again before x = at_if (list_any (same x) before) (at x)
+
+  not-before : (before xs : List X) (i : ℕ) (d : X) → at_each again before xs ≡ [] → i < length xs
+      → list_any (same (get_or xs i d)) before ≡ false
+  not-before before [] i d h within = absurd (omega arith)
+  not-before before (x ∷ xs) zero d h within =
+      no_place (list_any (same x) before) (at x) (no_items (again before x) _ h).0
+  not-before before (x ∷ xs) (suc i) d h within =
+      (neither_test (same (get_or xs i d) x) _
+      (not-before (x ∷ before) xs i d (no_items (again before x) _ h).1 (omega arith))).1
+
+  first-same : (before xs : List X) (i : ℕ) (d : X) → at_each again before xs ≡ [] → i < length xs
+      → find (same (get_or xs i d)) xs ≡ Some (get_or xs i d)
+  first-same before [] i d h within = absurd (omega arith)
+  first-same before (x ∷ xs) zero d h within = rw (itself x) refl
+  first-same before (x ∷ xs) (suc i) d h within =
+      let rest = (no_items (again before x) _ h).1 in
+      let other = (neither_test (same (get_or xs i d) x) _ (not-before (x ∷ before) xs i d rest (omega arith))).0 in
+      rw other (first-same (x ∷ before) xs i d rest (omega arith))
+
+module _ (text : List ℕ) (b : FunctionBlock) (well_formed : first_fault text b ≡ None) where
+  module _ (i : ℕ) (d : Declared) (within : i < length (declared_in b)) where
+    abbrev here : Declared
+    here = get_or (declared_in b) i d
+
+    direction_there : direction text b here.1 ≡ Some here.0
+    direction_there =
+        let once = (no_items (repeated (same_declared text b) (λ (e : Declared). e.1.at) (declared_in b)) _
+        (faultless text b well_formed).once).0 in
+        let found = first-same (same_declared text b) (λ (e : Declared). e.1.at) (λ e.
+        (bytes_eq-Decides (letters text e.1) (letters text e.1)).1 refl) [] (declared_in b) i d once within in
+        ap (option_map (λ (e : Declared). e.0)) found
+
+    section_there : IsSome (section_of text b (letters text here.1))
+    section_there =
+        let none = All-from_recursion (λ (e : Declared). without_section text b e ≡ []) (declared_in b)
+        (nowhere (without_section text b) (declared_in b) (no_items _ _ (faultless text b well_formed).missing).0) i
+        d within in
+        elim (section_of text b (letters text here.1)) as (λ o. at_if (is_none o) here.1.at ≡ [] → IsSome o)
+        [ None ↦ λ h. absurd cc | Some p ↦ λ h. refl ] none
+
+    -- the section of a name is one of its own variable, and so of its side
+    same_direction : (p : Part) → section_of text b (letters text here.1) ≡ Some p
+        → direction text b (section_name p) ≡ Some here.0
+    same_direction p found =
+        let ls = letters text here.1 in
+        let equal : ls ≡ letters text (section_name p) =
+        (bytes_eq-Decides ls (letters text (section_name p))).0
+        (found-passes (λ (q : Part). is_named text ls (section_name q)) b.parts p found) in
+        subst (λ (ms : List ℕ). direction_of text b ms ≡ Some here.0) equal direction_there
+
+    same_side : (p : Part) → section_of text b (letters text here.1) ≡ Some p
+        → is_direction (section_side p) here.0 ≡ true
+    same_side p found =
+        let sided = (part_well_formed text b (faultless text b well_formed) (letters text here.1) p found).sided in
+        shaped (is_direction (section_side p) here.0) (section_name p).at
+        (rw (same_direction p found) at (rw (sided_section text b p) at sided))
+
+  -- the well-formed section of each declared variable of a side
+  module _ {S : Type 0} (side : Direction) (as_section : Part → Option S) (IsWellFormed : S → Type 0)
+      (of_side : (p : Part) → section_side p ≡ side → IsWellFormedPart text b p
+      → (s : S) × (as_section p ≡ Some s) × IsWellFormed s) where
+    side_sections : All (HasSection side as_section IsWellFormed text b) (declared_in b)
+    side_sections i d within is =
+        let ls = letters text (here i d within).1 in
+        let p = found_value (section_of text b ls) (section_there i d within) in
+        let same : section_side p.0 ≡ side =
+        sym (as_side (section_side p.0) (here i d within).0 (same_side i d within p.0 p.1))
+        ∙ as_side side (here i d within).0 is in
+        let s = of_side p.0 same (part_well_formed text b (faultless text b well_formed) ls p.0 p.1) in
+        (s.0, ap (option_and_then as_section) p.1 ∙ s.1, s.2)
+
+  pub input_sections : All (HasSection Input as_fuzzify IsWellFormedFuzzify text b) (declared_in b)
+  input_sections = side_sections Input as_fuzzify IsWellFormedFuzzify of_input
+    where
+      of_input : (p : Part) → section_side p ≡ Input → IsWellFormedPart text b p
+          → (s : Fuzzify) × (as_fuzzify p ≡ Some s) × IsWellFormedFuzzify s
+      of_input (part.Fuzzify s) is well_formed_part =
+          (s, refl, record { some = well_formed_part.some; shaped = well_formed_part.shaped })
+      of_input (part.Defuzzify s) is well_formed_part = absurd cc
+
+  pub output_sections : All (HasSection Output as_defuzzify IsWellFormedDefuzzify text b) (declared_in b)
+  output_sections = side_sections Output as_defuzzify IsWellFormedDefuzzify of_output
+    where
+      of_output : (p : Part) → section_side p ≡ Output → IsWellFormedPart text b p
+          → (s : Defuzzify) × (as_defuzzify p ≡ Some s) × IsWellFormedDefuzzify s
+      of_output (part.Fuzzify s) is well_formed_part = absurd cc
+      of_output (part.Defuzzify s) is well_formed_part =
+          (s, refl, record { some = well_formed_part.some; complete = well_formed_part.complete })
+
+-- ---- the section of a declared variable that is read
+
+pub part_there : {S : Type 0} (f : Part → Option S) (o : Option Part) (s : S) → option_and_then f o ≡ Some s
+    → (p : Part) × (o ≡ Some p) × (f p ≡ Some s)
+part_there f None s h = absurd cc
+part_there f (Some p) s h = (p, refl, h)
+
+pub section_read : {S : Type 0} (side : Direction) (as_section : Part → Option S) (IsWellFormed : S → Type 0)
+    (text : List ℕ)
+    (b : FunctionBlock)
+    → All (HasSection side as_section IsWellFormed text b) (declared_in b) → (read : List Declared) (i : ℕ)
+    (d : Declared)
+    → read ≡ declared_in b
+    → i < length read → is_direction side (get_or read i d).0 ≡ true
+    → (s : S) × (option_and_then as_section (section_of text b (letters text (get_or read i d).1)) ≡ Some s)
+    × IsWellFormed s
+section_read side as_section IsWellFormed text b have read i d same within is =
+    subst (All (HasSection side as_section IsWellFormed text b)) (sym same) have i d within is
+
+-- ---- The section of a declared variable of a side, as it is looked for.
+
+-- what is made of the section that a name's letters find is what `IsVariableNamed` says of the name
+pub IsVariableNamed-read : {S Y : Type 0} (as_section : Part → Option S) (IsOf : S → Y → Type 0) (tree : Tree)
+    (ls ms : List ℕ) (o : Option (Bor Part)) (p : Bor Part) (s : S) (y : Y) → ls ≡ ms
+    → option_map (λ (q : Bor Part). q.now) o ≡ section_of tree.text.items tree.block ls → o ≡ Some p
+    → Some s ≡ as_section p.now → IsOf s y
+    → (t : S) × (option_and_then as_section (section_of tree.text.items tree.block ms) ≡ Some t) × IsOf t y
+IsVariableNamed-read as_section IsOf tree ls ms o p s y spelled looked unwrapped is of =
+    (s, section-at as_section tree.text.items tree.block ls ms o p spelled looked unwrapped ∙ sym is, of)
+
+module _ {S : Type 0} (side : Direction) (as_section : Part → Option S) (IsWellFormed : S → Type 0) (tree : Tree)
+    (have : All (HasSection side as_section IsWellFormed tree.text.items tree.block) (declared_in tree.block))
+    (read : List Declared) (i : ℕ) (d : Declared) (same : read ≡ declared_in tree.block) (within : i < length read)
+    (sided : sameb the_type (get_or read i d).0 side ≡ true) (ls : List ℕ)
+    (spelled : ls ≡ letters tree.text.items (get_or read i d).1) (o : Option (Bor Part))
+    (looked : option_map (λ (q : Bor Part). q.now) o ≡ section_of tree.text.items tree.block ls) where
+  there : (s : S) × (option_and_then as_section
+      (section_of tree.text.items tree.block (letters tree.text.items (get_or read i d).1)) ≡ Some s) × IsWellFormed s
+  there = section_read side as_section IsWellFormed tree.text.items tree.block have read i d same within
+      (same-direction (get_or read i d).0 side ∙ sided)
+
+  pub part_read : IsSome o
+  part_read =
+      let p = part_there as_section _ there.0 there.1 in
+      mapped_there _ o _ looked (rw (spelled, p.1) refl)
+
+  -- the part is a section of this kind, and well-formed
+  module _ (p : Bor Part) (unwrapped : o ≡ Some p) where
+    as_section-part : as_section p.now ≡ Some there.0
+    as_section-part =
+        sym (section-at as_section tree.text.items tree.block ls _ o p spelled looked unwrapped) ∙ there.1
+
+    pub kind_read : (q : Option (Bor S)) → option_map (λ (s : Bor S). s.now) q ≡ as_section p.now → IsSome q
+    kind_read q is = mapped_there _ q _ is (rw as_section-part refl)
+
+    pub IsWellFormed-read : (s : S) → Some s ≡ as_section p.now → IsWellFormed s
+    IsWellFormed-read s is = subst IsWellFormed (same_Some there.0 s (sym as_section-part ∙ sym is)) there.2

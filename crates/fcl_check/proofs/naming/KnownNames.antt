@@ -10,9 +10,9 @@ use Rattle.fcl_check.specs.ByLetters.{names_of, variable_in}
 use Rattle.fcl_check.specs.Faults.{direction, first_fault, is_some_direction, most_of}
 use Rattle.fcl_check.specs.Names.{declared_as, declared_in, defuzzify_of, fuzzify_of, letters, number_in}
 use Rattle.fcl_check.specs.Names.{singleton_names, singletons_of, term_names, term_number, terms_of, variable_number}
-use Rattle.fcl_check.proofs.lists.Counts.{few_items, few_names, over}
-use Rattle.fcl_check.proofs.faultless.Faultless.{faultless, no_items, well_formed_input, well_formed_output}
-use Rattle.fcl_check.proofs.{naming.NumberedNames.number_within, faultless.Present.as_side}
+use Rattle.fcl_check.proofs.faultless.Faultless.{few_items, few_names, over, faultless, no_items, well_formed_input}
+use Rattle.fcl_check.proofs.faultless.Faultless.{well_formed_output, as_side}
+use Rattle.fcl_check.proofs.naming.Naming.{number_within}
 
 -- ---- numbers
 

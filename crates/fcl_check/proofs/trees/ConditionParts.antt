@@ -14,7 +14,7 @@ use Rattle.fcl_syntax.specs.Conditions.{nots_of, ands_of, not_size, nots_size, a
 use Rattle.fcl_check.specs.Faults.{Pair, and_pairs, ands_pairs, not_pairs, nots_pairs, or_pairs}
 use Rattle.fcl_check.specs.Loaded.{not_condition, nots_conditions, and_condition, ands_conditions, or_condition}
 use Rattle.fcl_check.specs.Places.{first as first_at}
-use Rattle.fcl_check.proofs.{lists.Elements.parts_of, places.FirstPlaces.read_further, places.Places.first-append}
+use Rattle.fcl_check.proofs.{lists.Elements.parts_of, places.Places.read_further, places.Places.first-append}
 
 -- AND and its parts, or OR and its parts
 pub record Kind (X W : Type 0) : Type 0 where

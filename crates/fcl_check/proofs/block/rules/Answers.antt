@@ -1,8 +1,8 @@
 use Rattle.std.proofs.Common.{take, refl, subst, sym}
 use Rattle.std.proofs.lemmas.List.Elements.{All-from_recursion}
 use Rattle.fcl_check.specs.{Loaded.IsRuleOf, WellFormed.IsWellFormedRule}
-use Rattle.fcl_check.proofs.faultless.Faultless.{faultless, well_formed_rules}
-use Rattle.fcl_check.proofs.{places.FirstPlaces.one_further, lists.OneByOne.all_related_more}
+use Rattle.fcl_check.proofs.{faultless.Faultless.faultless, faultless.Faultless.well_formed_rules}
+use Rattle.fcl_check.proofs.{places.Places.one_further, lists.Elements.all_related_more}
 use Rattle.fcl_check.proofs.block.rules.Goals as goal
 
 pub each-preserved : goal.each-preserved

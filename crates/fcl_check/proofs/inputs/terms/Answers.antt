@@ -3,7 +3,7 @@ use Rattle.std.proofs.lemmas.List.{append-nil}
 use Rattle.std.proofs.lemmas.Slice.Zip.{all_zipped_more}
 use Rattle.fcl_syntax.specs.declared.tree.Term.{Term}
 use Rattle.fcl_check.specs.{Loaded.IsTermOf, Names.term_of, Places.at_if, Sections.has_shape, Sections.points_of}
-use Rattle.fcl_check.proofs.{faultless.Faultless.shaped, faultless.Present.none_at, lists.Pushes.filter_map-more}
+use Rattle.fcl_check.proofs.{faultless.Faultless.shaped, faultless.Faultless.none_at, lists.Elements.filter_map-more}
 use Rattle.fcl_check.proofs.inputs.terms.Goals as goal
 use Rattle.fcl_check.proofs.inputs.terms.Goals.{in-Term+in_ok-push, in_default}
 

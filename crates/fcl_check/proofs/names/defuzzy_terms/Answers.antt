@@ -1,7 +1,7 @@
 use Rattle.std.proofs.Common.{◌≡◌, Err, rules, refl, sym, ◌∙◌}
 use Rattle.std.proofs.lemmas.List.{take_more}
-use Rattle.fcl_check.proofs.naming.TermNames.{KnowsSingletons-other, KnowsSingletons-singleton, is_no_singleton}
-use Rattle.fcl_check.proofs.naming.TermNames.{other_twice, singleton_twice}
+use Rattle.fcl_check.proofs.naming.DeclaredNames.{KnowsSingletons-other, KnowsSingletons-singleton, is_no_singleton}
+use Rattle.fcl_check.proofs.naming.DeclaredNames.{other_twice, singleton_twice}
 use Rattle.fcl_check.proofs.names.defuzzy_terms.Goals as goal
 use Rattle.fcl_check.proofs.names.defuzzy_terms.Goals.{in-Singleton+in_ok-add_term}
 use Rattle.fcl_check.proofs.names.defuzzy_terms.Goals.{in_default+else-has_kind+in_ok-push}

@@ -1,6 +1,6 @@
 use Rattle.std.proofs.Common.{◌≡◌, Err, rules, refl, sym, ◌∙◌}
-use Rattle.fcl_check.proofs.naming.TermNames.{KnowsTerms-range, KnowsTerms-term, range_twice, term_twice}
-use Rattle.fcl_check.proofs.places.FirstPlaces.{read_further}
+use Rattle.fcl_check.proofs.naming.DeclaredNames.{KnowsTerms-range, KnowsTerms-term, range_twice, term_twice}
+use Rattle.fcl_check.proofs.places.Places.{read_further}
 use Rattle.fcl_check.proofs.names.fuzzy_terms.Goals as goal
 use Rattle.fcl_check.proofs.names.fuzzy_terms.Goals.{in-Term+in_ok-add_term-in-Term, in-Range+else-has_range}
 

@@ -1,5 +1,4 @@
-use Rattle.fcl_check.proofs.lists.Lines.{no-singleton}
-use Rattle.fcl_check.proofs.ranges.OutputLines.{singletons-more, singletons-passed}
+use Rattle.fcl_check.proofs.ranges.Ranges.{no-singleton, singletons-more, singletons-passed}
 use Rattle.fcl_check.proofs.outputs.singletons.Goals as goal
 use Rattle.fcl_check.proofs.outputs.singletons.Goals.{in-Singleton+in_ok-push, in_default}
 

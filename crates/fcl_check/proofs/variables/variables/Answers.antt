@@ -1,6 +1,6 @@
 use Rattle.std.proofs.Common.{sym, arith, ◌∙◌}
 use Rattle.fcl_check.specs.Loaded.{IsVariableNamed}
-use Rattle.fcl_check.proofs.faultless.ReadSections.{IsVariableNamed-read, IsWellFormed-read, kind_read, part_read}
+use Rattle.fcl_check.proofs.faultless.Faultless.{IsVariableNamed-read, IsWellFormed-read, kind_read, part_read}
 use Rattle.fcl_check.proofs.naming.Naming.{named-more, unnamed-more}
 use Rattle.fcl_check.proofs.variables.variables.Goals as goal
 use Rattle.fcl_check.proofs.variables.variables.Goals.{then-eq+in_ok-from_section+in_ok-push, else-eq}

@@ -1,0 +1,647 @@
+-- The names that a tree declares, of variables, terms and sections, as one more is read.
+use Rattle.std.proofs.lemmas.List.{append-nil, flat_map_more, take_more, map-append}
+use Rattle.std.proofs.lemmas.{List.Elements.filter_map-append, List.Elements.filter-append, List.Folds.find-append}
+use Rattle.std.proofs.lemmas.List.Folds.{list_any-append}
+use Rattle.std.proofs.Common.{◌≡◌, ℕ, suc, ◌+◌, ◌<◌, ◌≤◌, Bool, true, false, cond, ◌&&◌, ◌||◌, List, [], ◌∷◌, ◌++◌}
+use Rattle.std.proofs.Common.{length, map, take, get_or, Option, Some, None, is_some, option_map, refl, ap, ◌∙◌}
+use Rattle.std.proofs.Common.{arith, length-append, sym, IfSome}
+use Rattle.std.specs.List.{find, list_any, filter, filter_map}
+use Rattle.std.specs.Prelude.{if◌then◌else◌}
+use Rattle.std.specs.{BTreeMap.BTreeMap, BTreeMap.btree_map_len, Borrow.Bor, Option.option_or}
+use Rattle.fcl_syntax.specs.declared.tree.{Declaration.Declaration, Direction.Direction, Direction.TheVariants.Input}
+use Rattle.fcl_syntax.specs.declared.tree.{Direction.TheVariants.Output, FunctionBlock.FunctionBlock, Name.Name}
+use Rattle.fcl_syntax.specs.declared.tree.{DefuzzyLine.DefuzzyLine, FuzzyLine.FuzzyLine, Range.Range}
+use Rattle.fcl_syntax.specs.declared.tree.{Singleton.Singleton, Term.Term, Part.Part}
+use Rattle.fcl_syntax.specs.declared.tree.DefuzzyLine.TheVariants as defuzzy
+use Rattle.fcl_syntax.specs.declared.tree.FuzzyLine.TheVariants as fuzzy
+use Rattle.fcl_check.specs.ByLetters.{at_letters, count_of, names_of, variable_in, names_in, HoldsSections}
+use Rattle.fcl_check.specs.Faults.{repeated, same_declared, same_kind, same_line, line_at, same_output_line}
+use Rattle.fcl_check.specs.Faults.{output_line_at, repeated_lines, repeated_section, same_section}
+use Rattle.fcl_check.specs.Places.{at_if, first, at_each}
+use Rattle.fcl_check.specs.Names.{Declared, is_direction, is_named, letters, number_in, singleton_of, section_name}
+use Rattle.fcl_check.specs.{declared.fault.LoadFault.LoadFault, declared.names.Counts.Counts}
+use Rattle.fcl_check.specs.{declared.names.Variable.Variable, Loaded.or_zero, declared.names.Section.Section}
+use Rattle.fcl_check.specs.declared.fault.LoadFault.TheVariants as load
+use Rattle.fcl_check.proofs.naming.Naming.{names_declared, found_any, no_value, number_any, number_push}
+use Rattle.fcl_check.proofs.naming.Naming.{names_of_terms, names_of_singletons, is_range, is_other}
+use Rattle.fcl_check.proofs.places.Places.{Says, passed_by, place_here, or_false, or_true, repeated_here}
+use Rattle.fcl_check.proofs.places.Places.{repeated_more, first_at_here, first_at_more, list_any-all_walked}
+use Rattle.fcl_check.proofs.places.Places.{same_place}
+
+-- ---- Declared variables with their numbers, as one more is declared.
+
+same_direction : (side : Direction) → is_direction side side ≡ true
+same_direction Input = refl
+same_direction Output = refl
+
+one_of : (side : Direction) (d : Declared) → names_of side (d ∷ []) ≡ cond (is_direction side d.0) (d.1 ∷ []) []
+one_of Input (Input, n) = refl
+one_of Input (Output, n) = refl
+one_of Output (Input, n) = refl
+one_of Output (Output, n) = refl
+
+pub names_push : (side : Direction) (ds : List Declared) (d : Declared)
+    → names_of side (ds ++ d ∷ []) ≡ names_of side ds ++
+    cond (is_direction side d.0) (d.1 ∷ []) []
+names_push side ds d =
+    filter_map-append (λ (e : Declared). if is_direction side e.0 then Some e.1 else None) ds (d ∷ [])
+    ∙ ap (λ ns. names_of side ds ++ ns) (one_of side d)
+
+names_cons : (side : Direction) (d : Declared) (ds : List Declared)
+    → names_of side (d ∷ ds) ≡ cond (is_direction side d.0) (d.1 ∷ names_of side ds)
+    (names_of side ds)
+names_cons Input (Input, n) ds = refl
+names_cons Input (Output, n) ds = refl
+names_cons Output (Input, n) ds = refl
+names_cons Output (Output, n) ds = refl
+
+-- the count of a direction, one declared name on
+count_more : (b : Bool) (ns : List Name) (n : Name)
+    → length (ns ++ cond b (n ∷ []) []) ≡ cond b (length ns + 1) (length ns)
+count_more true ns n = length-append ns (n ∷ [])
+count_more false ns n = omega (arith, length-append {A = Name} ns [])
+
+pub count_push : (side : Direction) (ds : List Declared) (d : Declared)
+    → length (names_of side (ds ++ d ∷ [])) ≡ cond (is_direction side d.0)
+    (length (names_of side ds) + 1) (length (names_of side ds))
+count_push side ds d = rw (names_push side ds d) (count_more (is_direction side d.0) (names_of side ds) d.1)
+
+fewer : (b : Bool) (n : Name) (ns : List Name) → length (cond b (n ∷ ns) ns) ≤ suc (length ns)
+fewer true n ns = omega arith
+fewer false n ns = omega arith
+
+pub count_bound : (side : Direction) (ds : List Declared) → length (names_of side ds) ≤ length ds
+count_bound side [] = omega arith
+count_bound side (d ∷ ds) =
+    rw (names_cons side d ds) (omega (arith, fewer (is_direction side d.0) d.1 (names_of side ds), count_bound side ds))
+
+either : (b : Bool) → (b || true) ≡ true
+either true = refl
+either false = refl
+
+module _ (text ls : List ℕ) where
+  -- the first variable of these letters, among declared ones
+  abbrev first_named : List Declared → Option Declared
+  first_named ds = find (λ (d : Declared). is_named text ls d.1) ds
+
+  any_more : (b c : Bool) (n : Name) (ns : List Name) → is_named text ls n ≡ c
+      → list_any (is_named text ls) (cond b (n ∷ ns) ns) ≡
+      ((b && c) || list_any (is_named text ls) ns)
+  any_more true c n ns h = rw h refl
+  any_more false c n ns h = refl
+
+  any_cons : (side : Direction) (d : Declared) (ds : List Declared)
+      → list_any (is_named text ls) (names_of side (d ∷ ds)) ≡
+      ((is_direction side d.0 && is_named text ls d.1) || list_any (is_named text ls) (names_of side ds))
+  any_cons side d ds =
+      rw (names_cons side d ds) (any_more (is_direction side d.0) (is_named text ls d.1) d.1 (names_of side ds) refl)
+
+  -- the first variable has a number, and where there is none no number is found
+  numbered : (b : Bool) (d : Declared) (ds : List Declared) (e : Declared) → is_named text ls d.1 ≡ b
+      → first_named (d ∷ ds) ≡ Some e
+      → (first_named ds ≡ Some e → list_any (is_named text ls) (names_of e.0 ds) ≡ true)
+      → list_any (is_named text ls) (names_of e.0 (d ∷ ds)) ≡ true
+  numbered true d ds e h found rest =
+      let same : d ≡ e = (let some : Some d ≡ Some e = rw h at found in cc) in
+      rw (any_cons e.0 d ds, h, ap (λ (x : Declared). is_direction e.0 x.0) same, same_direction e.0) refl
+  numbered false d ds e h found rest =
+      rw (any_cons e.0 d ds, rest (rw h at found)) (either (is_direction e.0 d.0 && is_named text ls d.1))
+
+  found_number : (ds : List Declared) (e : Declared) → first_named ds ≡ Some e
+      → list_any (is_named text ls) (names_of e.0 ds) ≡ true
+  found_number [] e found = cc
+  found_number (d ∷ ds) e found = numbered (is_named text ls d.1) d ds e refl found (found_number ds e)
+
+  neither : (a b : Bool) → b ≡ false → (a && b) ≡ false
+  neither true b h = h
+  neither false b h = refl
+
+  absent : (b : Bool) (side : Direction) (d : Declared) (ds : List Declared) → is_named text ls d.1 ≡ b
+      → first_named (d ∷ ds) ≡ None
+      → (first_named ds ≡ None → list_any (is_named text ls) (names_of side ds) ≡ false)
+      → list_any (is_named text ls) (names_of side (d ∷ ds)) ≡ false
+  absent true side d ds h none rest = let some : ◌≡◌ {A = Option Declared} (Some d) None = rw h at none in cc
+  absent false side d ds h none rest =
+      rw (any_cons side d ds, rest (rw h at none), neither (is_direction side d.0) (is_named text ls d.1) h) refl
+
+  no_number : (side : Direction) (ds : List Declared) → first_named ds ≡ None
+      → list_any (is_named text ls) (names_of side ds) ≡ false
+  no_number side [] none = refl
+  no_number side (d ∷ ds) none = absent (is_named text ls d.1) side d ds refl none (no_number side ds)
+
+  -- a number that was found stays
+  kept : (o p : Option ℕ) → is_some o ≡ true → option_or o p ≡ o
+  kept None p h = cc
+  kept (Some n) p h = refl
+
+  number_kept : (b : Bool) (ns : List Name) (n : Name) → list_any (is_named text ls) ns ≡ true
+      → number_in text (ns ++ cond b (n ∷ []) []) ls ≡ number_in text ns ls
+  number_kept true ns n h =
+      number_push text ns n ls
+      ∙ kept (number_in text ns ls) (cond (is_named text ls n) (Some (suc (length ns))) None)
+      (number_any text ns ls ∙ h)
+  number_kept false ns n h = ap (λ ms. number_in text ms ls) (append-nil ns)
+
+  abbrev as_variable : Direction → Option ℕ → Variable
+  as_variable side number = record { direction = side; number = or_zero number }
+
+  abbrev numbered_in : List Declared → Option Declared → Option Variable
+  numbered_in ds first =
+      option_map (λ (side : Direction). as_variable side (number_in text (names_of side ds) ls))
+      (option_map (λ (d : Declared). d.0) first)
+
+  -- the number of a new name of new letters
+  new_number : (ds : List Declared) (d : Declared) → is_named text ls d.1 ≡ true → first_named ds ≡ None
+      → number_in text (names_of d.0 (ds ++ d ∷ [])) ls ≡ Some (length (names_of d.0 ds) + 1)
+  new_number ds d named none =
+      let nothing : number_in text (names_of d.0 ds) ls ≡ None =
+      no_value (number_in text (names_of d.0 ds) ls) (number_any text (names_of d.0 ds) ls ∙ no_number d.0 ds none) in
+      rw (names_push d.0 ds d, same_direction d.0, number_push text (names_of d.0 ds) d.1 ls, nothing, named)
+      (ap (λ n. Some n) (omega arith))
+
+  declared_step : (o : Option Declared) (b : Bool) (ds : List Declared) (d : Declared) → first_named ds ≡ o
+      → is_named text ls d.1 ≡ b
+      → numbered_in (ds ++ d ∷ []) (option_or o (cond b (Some d) None)) ≡ option_or (numbered_in ds o)
+      (cond b (Some (record { direction = d.0; number = length (names_of d.0 ds) + 1 })) None)
+  declared_step (Some e) b ds d h named =
+      rw (names_push e.0 ds d, number_kept (is_direction e.0 d.0) (names_of e.0 ds) d.1 (found_number ds e h)) refl
+  declared_step None true ds d h named = rw (new_number ds d named h) refl
+  declared_step None false ds d h named = refl
+
+  first_push : (ds : List Declared) (d : Declared)
+      → first_named (ds ++ d ∷ []) ≡ option_or (first_named ds) (cond (is_named text ls d.1) (Some d) None)
+  first_push ds d = find-append (λ (e : Declared). is_named text ls e.1) ds (d ∷ [])
+
+  -- a variable that is declared behind others
+  pub variable_push : (ds : List Declared) (d : Declared)
+      → variable_in text (ds ++ d ∷ []) ls ≡ option_or (variable_in text ds ls)
+      (cond (is_named text ls d.1) (Some (record { direction = d.0; number = length (names_of d.0 ds) + 1 })) None)
+  variable_push ds d = ap (numbered_in (ds ++ d ∷ [])) (first_push ds d)
+      ∙ declared_step (first_named ds) (is_named text ls d.1) ds d refl refl
+
+  -- whether letters are those of a declared variable
+  some_variable : (o : Option Declared) (ds : List Declared) → is_some (numbered_in ds o) ≡ is_some o
+  some_variable None ds = refl
+  some_variable (Some d) ds = refl
+
+  pub variable_any : (ds : List Declared)
+      → is_some (variable_in text ds ls) ≡ list_any (λ (d : Declared). is_named text ls d.1) ds
+  variable_any ds = some_variable (first_named ds) ds ∙ found_any (λ (d : Declared). is_named text ls d.1) ds
+
+-- the step of the loop over the declarations of a section
+pub names_declared_more : (side : Direction) (declarations : List Declaration) (i : ℕ) (declaration : Declaration)
+    (before old new : List Declared)
+    → i < length declarations
+    → declaration ≡ get_or declarations i declaration
+    → old ≡ before ++ names_declared side (take i declarations)
+    → new ≡ old ++ map (λ (n : Name). (side, n)) (declaration.first ∷ declaration.more)
+    → new ≡ before ++ names_declared side (take (i + 1) declarations)
+names_declared_more side declarations i declaration before old new h is so_far pushed =
+    let names = λ (d : Declaration). map (λ (n : Name). (side, n)) (d.first ∷ d.more) in
+    let more = flat_map_more names before (take i declarations) declaration in
+    rw (take_more declarations i declaration h, ← is) (pushed ∙ ap (λ ds. ds ++ names declaration) so_far ∙ more)
+
+module _ (text : List ℕ) (b : FunctionBlock) (ds : List Declared) (i : ℕ) (d : Declared) where
+  taken : (m : BTreeMap (Bor (List ℕ)) Variable) → ((ls : List ℕ) → at_letters m ls ≡ variable_in text (take i ds) ls)
+      → is_some (at_letters m (letters text (get_or ds i d).1)) ≡ list_any (same_declared text b (get_or ds i d))
+      (take i ds)
+  taken m holds = ap is_some (holds (letters text (get_or ds i d).1))
+      ∙ variable_any text (letters text (get_or ds i d).1) (take i ds)
+
+  -- the steps of the loop over the declared names
+  pub variables_more : (m n : BTreeMap (Bor (List ℕ)) Variable) (counts : Counts) (k : ℕ) → i < length ds
+      → ((ls : List ℕ) → at_letters m ls ≡ variable_in text (take i ds) ls)
+      → ((side : Direction) → count_of side counts ≡ length (names_of side (take i ds)))
+      → k ≡ count_of (get_or ds i d).0 counts + 1
+      → ((ls : List ℕ) → at_letters n ls ≡ option_or (at_letters m ls) (cond (is_named text ls (get_or ds i d).1)
+      (Some (record { direction = (get_or ds i d).0; number = k })) None))
+      → (ls : List ℕ) → at_letters n ls ≡ variable_in text (take (i + 1) ds) ls
+  variables_more m n counts k h holds counted number added ls =
+      rw (
+        take_more ds i d h,
+        variable_push text ls (take i ds) (get_or ds i d),
+        ← counted (get_or ds i d).0,
+        ← number,
+        ← holds ls,
+      ) (added ls)
+
+  pub counts_more : (counts next : Counts) → i < length ds
+      → ((side : Direction) → count_of side counts ≡ length (names_of side (take i ds)))
+      → ((side : Direction)
+      → count_of side next ≡ cond (is_direction side (get_or ds i d).0) (count_of side counts + 1)
+      (count_of side counts))
+      → (side : Direction) → count_of side next ≡ length (names_of side (take (i + 1) ds))
+  counts_more counts next h counted stepped side =
+      rw (take_more ds i d h, count_push side (take i ds) (get_or ds i d), ← counted side) (stepped side)
+
+  pub variables_once : (m : BTreeMap (Bor (List ℕ)) Variable) → i < length ds
+      → ((ls : List ℕ) → at_letters m ls ≡ variable_in text (take i ds) ls)
+      → first (repeated (same_declared text b) (λ (e : Declared). e.1.at) (take i ds)) ≡ None
+      → option_map load.Twice
+      (first (at_if (is_some (at_letters m (letters text (get_or ds i d).1))) (get_or ds i d).1.at)) ≡ None
+      → first (repeated (same_declared text b) (λ (e : Declared). e.1.at) (take (i + 1) ds)) ≡ None
+  variables_once m h holds once nothing =
+      passed_by (same_declared text b) (λ (e : Declared). e.1.at) ds i (get_or ds i d) (take_more ds i d h) once _
+      (taken m holds) nothing
+
+  pub variables_twice : (m : BTreeMap (Bor (List ℕ)) Variable) (e : LoadFault) → i < length ds
+      → ((ls : List ℕ) → at_letters m ls ≡ variable_in text (take i ds) ls)
+      → first (repeated (same_declared text b) (λ (e : Declared). e.1.at) (take i ds)) ≡ None
+      → Says e (option_map load.Twice
+      (first (at_if (is_some (at_letters m (letters text (get_or ds i d).1))) (get_or ds i d).1.at)))
+      → Says e (option_map load.Twice (first (repeated (same_declared text b) (λ (e : Declared). e.1.at) ds)))
+  variables_twice m e h holds once found =
+      place_here (same_declared text b) (λ (e : Declared). e.1.at) ds i (get_or ds i d) (take_more ds i d h) once _ e
+      (taken m holds) found
+
+-- ---- Terms with their numbers, and what a section has twice, as one more line is read.
+
+-- ---- numbers
+
+-- a map that has the numbers of some names
+pub record Numbers (text : List ℕ) (ns : List Name) (m : BTreeMap (Bor (List ℕ)) ℕ) : Type 0 where
+  pub numbers : (ls : List ℕ) → at_letters m ls ≡ number_in text ns ls
+  pub count : btree_map_len m ≡ length ns
+
+pub numbers_more : (text : List ℕ) (ns : List Name) (name : Name) (m n : BTreeMap (Bor (List ℕ)) ℕ) → Numbers text ns m
+    → ((ls : List ℕ) → at_letters n ls ≡ option_or (at_letters m ls)
+    (cond (is_named text ls name) (Some (btree_map_len m + 1)) None))
+    → btree_map_len n ≡ btree_map_len m + 1 → Numbers text (ns ++ name ∷ []) n
+numbers_more text ns name m n holds added grown =
+    let number : suc (length ns) ≡ btree_map_len m + 1 = omega (arith, holds.count) in
+    record {
+      numbers = λ ls. rw (number_push text ns name ls, number, ← holds.numbers ls) (added ls);
+      count = omega (arith, length-append ns (name ∷ []), holds.count);
+    }
+
+pub number_taken : (text : List ℕ) (ns : List Name) (name : Name) (m : BTreeMap (Bor (List ℕ)) ℕ) → Numbers text ns m
+    → is_some (at_letters m (letters text name)) ≡ list_any (is_named text (letters text name)) ns
+number_taken text ns name m holds = ap is_some (holds.numbers (letters text name))
+    ∙ number_any text ns (letters text name)
+
+-- ---- lines
+
+module _ (text : List ℕ) (b : FunctionBlock) where
+  any_terms : (t : Term) (lines : List FuzzyLine)
+      → list_any (same_line text b (fuzzy.Term t)) lines ≡ list_any (is_named text (letters text t.name))
+      (names_of_terms lines)
+  any_terms t [] = refl
+  any_terms t (fuzzy.Term s ∷ lines) = ap (λ a. is_named text (letters text t.name) s.name || a) (any_terms t lines)
+  any_terms t (fuzzy.Range r ∷ lines) = any_terms t lines
+
+  any_ranges : (q : Range) (lines : List FuzzyLine)
+      → list_any (same_line text b (fuzzy.Range q)) lines ≡ list_any is_range lines
+  any_ranges q [] = refl
+  any_ranges q (fuzzy.Term s ∷ lines) = any_ranges q lines
+  any_ranges q (fuzzy.Range r ∷ lines) = refl
+
+  any_singletons : (t : Singleton) (lines : List DefuzzyLine)
+      → list_any (same_output_line text b (defuzzy.Singleton t)) lines ≡ list_any
+      (is_named text (letters text t.name)) (names_of_singletons lines)
+  any_singletons t [] = refl
+  any_singletons t (defuzzy.Singleton s ∷ lines) =
+      ap (λ a. is_named text (letters text t.name) s.name || a) (any_singletons t lines)
+  any_singletons t (defuzzy.Accu s ∷ lines) = any_singletons t lines
+  any_singletons t (defuzzy.Method s ∷ lines) = any_singletons t lines
+  any_singletons t (defuzzy.Default s ∷ lines) = any_singletons t lines
+  any_singletons t (defuzzy.Range s ∷ lines) = any_singletons t lines
+
+  -- lines that are no terms are the same where they are of one kind
+  same_other : (x y : DefuzzyLine) → is_other x ≡ true → same_output_line text b x y ≡ same_kind x y
+  same_other (defuzzy.Singleton s) y h = cc
+  same_other (defuzzy.Accu s) y h = refl
+  same_other (defuzzy.Method s) y h = refl
+  same_other (defuzzy.Default s) y h = refl
+  same_other (defuzzy.Range s) y h = refl
+
+  differ : (x : DefuzzyLine) (t : Singleton) → same_kind x (defuzzy.Singleton t) ≡ false
+  differ (defuzzy.Singleton s) t = refl
+  differ (defuzzy.Accu s) t = refl
+  differ (defuzzy.Method s) t = refl
+  differ (defuzzy.Default s) t = refl
+  differ (defuzzy.Range s) t = refl
+
+  any_of_kind : (x : DefuzzyLine) (lines : List DefuzzyLine)
+      → list_any (same_kind x) lines ≡ list_any (same_kind x) (filter is_other lines)
+  any_of_kind x [] = refl
+  any_of_kind x (defuzzy.Singleton s ∷ lines) = rw (differ x s) (any_of_kind x lines)
+  any_of_kind x (defuzzy.Accu s ∷ lines) = ap (λ a. same_kind x (defuzzy.Accu s) || a) (any_of_kind x lines)
+  any_of_kind x (defuzzy.Method s ∷ lines) = ap (λ a. same_kind x (defuzzy.Method s) || a) (any_of_kind x lines)
+  any_of_kind x (defuzzy.Default s ∷ lines) = ap (λ a. same_kind x (defuzzy.Default s) || a) (any_of_kind x lines)
+  any_of_kind x (defuzzy.Range s ∷ lines) = ap (λ a. same_kind x (defuzzy.Range s) || a) (any_of_kind x lines)
+
+  any_same : (x : DefuzzyLine) (lines : List DefuzzyLine) → is_other x ≡ true
+      → list_any (same_output_line text b x) lines ≡ list_any (same_kind x) lines
+  any_same x [] h = refl
+  any_same x (y ∷ lines) h = rw (same_other x y h, any_same x lines h) refl
+
+names_with_term : (lines : List FuzzyLine) (t : Term)
+    → names_of_terms (lines ++ fuzzy.Term t ∷ []) ≡ names_of_terms lines ++ t.name ∷ []
+names_with_term [] t = refl
+names_with_term (fuzzy.Term s ∷ lines) t = ap (λ ns. s.name ∷ ns) (names_with_term lines t)
+names_with_term (fuzzy.Range r ∷ lines) t = names_with_term lines t
+
+names_with_range : (lines : List FuzzyLine) (q : Range)
+    → names_of_terms (lines ++ fuzzy.Range q ∷ []) ≡ names_of_terms lines
+names_with_range [] q = refl
+names_with_range (fuzzy.Term s ∷ lines) q = ap (λ ns. s.name ∷ ns) (names_with_range lines q)
+names_with_range (fuzzy.Range r ∷ lines) q = names_with_range lines q
+
+names_with_singleton : (lines : List DefuzzyLine) (t : Singleton)
+    → names_of_singletons (lines ++ defuzzy.Singleton t ∷ []) ≡ names_of_singletons lines ++
+    t.name ∷ []
+names_with_singleton [] t = refl
+names_with_singleton (defuzzy.Singleton s ∷ lines) t = ap (λ ns. s.name ∷ ns) (names_with_singleton lines t)
+names_with_singleton (defuzzy.Accu s ∷ lines) t = names_with_singleton lines t
+names_with_singleton (defuzzy.Method s ∷ lines) t = names_with_singleton lines t
+names_with_singleton (defuzzy.Default s ∷ lines) t = names_with_singleton lines t
+names_with_singleton (defuzzy.Range s ∷ lines) t = names_with_singleton lines t
+
+no_name : (x : DefuzzyLine) → is_other x ≡ true → names_of_singletons (x ∷ []) ≡ []
+no_name (defuzzy.Singleton s) h = cc
+no_name (defuzzy.Accu s) h = refl
+no_name (defuzzy.Method s) h = refl
+no_name (defuzzy.Default s) h = refl
+no_name (defuzzy.Range s) h = refl
+
+pub is_no_singleton : (x : DefuzzyLine) → ((t : Singleton) → x ≡ defuzzy.Singleton t → ⊥) → is_other x ≡ true
+is_no_singleton (defuzzy.Singleton s) h = absurd (h s refl)
+is_no_singleton (defuzzy.Accu s) h = refl
+is_no_singleton (defuzzy.Method s) h = refl
+is_no_singleton (defuzzy.Default s) h = refl
+is_no_singleton (defuzzy.Range s) h = refl
+
+names_with_other : (lines : List DefuzzyLine) (x : DefuzzyLine) → is_other x ≡ true
+    → names_of_singletons (lines ++ x ∷ []) ≡ names_of_singletons lines
+names_with_other lines x h =
+    let apart = filter_map-append singleton_of lines (x ∷ []) in
+    ap (λ (ts : List Singleton). map (λ (t : Singleton). t.name) ts) apart
+    ∙ map-append (λ (t : Singleton). t.name) (filter_map singleton_of lines)
+    (filter_map singleton_of (x ∷ [])) ∙ ap (λ ns. names_of_singletons lines ++ ns) (no_name x h)
+    ∙ append-nil (names_of_singletons lines)
+
+-- a name is added to a map, with the next number
+pub record IsAdded (text : List ℕ) (name : Name) (m n : BTreeMap (Bor (List ℕ)) ℕ) : Type 0 where
+  pub fault : option_map load.Twice (first (at_if (is_some (at_letters m (letters text name))) name.at)) ≡ None
+  pub added : (ls : List ℕ) → at_letters n ls ≡ option_or (at_letters m ls)
+      (cond (is_named text ls name) (Some (btree_map_len m + 1)) None)
+  pub len : btree_map_len n ≡ btree_map_len m + 1
+
+-- ---- steps over the lines of an input's section
+
+module _ (text : List ℕ) (b : FunctionBlock) (lines : List FuzzyLine) (i : ℕ) (x : FuzzyLine)
+    (more : take (i + 1) lines ≡ take i lines ++ x ∷ [])
+    (once : first (repeated (same_line text b) line_at (take i lines)) ≡ None) where
+  module _ (t : Term) (is : x ≡ fuzzy.Term t) (m : BTreeMap (Bor (List ℕ)) ℕ)
+      (holds : Numbers text (names_of_terms (take i lines)) m) where
+    term_more : take (i + 1) lines ≡ take i lines ++ fuzzy.Term t ∷ []
+    term_more = more ∙ ap (λ y. take i lines ++ y ∷ []) is
+
+    term_taken : is_some (at_letters m (letters text t.name)) ≡ list_any (same_line text b (fuzzy.Term t))
+        (take i lines)
+    term_taken = number_taken text (names_of_terms (take i lines)) t.name m holds
+        ∙ sym (any_terms text b t (take i lines))
+
+    pub term_twice : (e : LoadFault)
+        → Says e (option_map load.Twice (first (at_if (is_some (at_letters m (letters text t.name))) t.name.at)))
+        → Says e (option_map load.Twice (first (repeated (same_line text b) line_at lines)))
+    term_twice e found =
+        place_here (same_line text b) line_at lines i (fuzzy.Term t) term_more once _ e term_taken found
+
+    term_once : option_map load.Twice
+        (first (at_if (is_some (at_letters m (letters text t.name))) t.name.at)) ≡ None
+        → first (repeated (same_line text b) line_at (take (i + 1) lines)) ≡ None
+    term_once nothing =
+        passed_by (same_line text b) line_at lines i (fuzzy.Term t) term_more once _ term_taken nothing
+
+    term_numbers : (n : BTreeMap (Bor (List ℕ)) ℕ) → ((ls : List ℕ) → at_letters n ls ≡ option_or (at_letters m ls)
+        (cond (is_named text ls t.name) (Some (btree_map_len m + 1)) None))
+        → btree_map_len n ≡ btree_map_len m + 1 → Numbers text (names_of_terms (take (i + 1) lines)) n
+    term_numbers n added grown = rw (term_more, names_with_term (take i lines) t)
+        (numbers_more text (names_of_terms (take i lines)) t.name m n holds added grown)
+
+    term_range : (has_range : Bool) → has_range ≡ list_any is_range (take i lines)
+        → has_range ≡ list_any is_range (take (i + 1) lines)
+    term_range has_range had =
+        rw (term_more, list_any-append is_range (take i lines) (fuzzy.Term t ∷ []))
+        (had ∙ sym (or_false (list_any is_range (take i lines))))
+
+  module _ (q : Range) (is : x ≡ fuzzy.Range q) where
+    range_more : take (i + 1) lines ≡ take i lines ++ fuzzy.Range q ∷ []
+    range_more = more ∙ ap (λ y. take i lines ++ y ∷ []) is
+
+    pub range_twice : true ≡ list_any is_range (take i lines)
+        → first (repeated (same_line text b) line_at lines) ≡ Some q.at
+    range_twice found = repeated_here (same_line text b) line_at lines i (fuzzy.Range q)
+        range_more once
+        (any_ranges text b q (take i lines) ∙ sym found)
+
+    range_once : false ≡ list_any is_range (take i lines)
+        → first (repeated (same_line text b) line_at (take (i + 1) lines)) ≡ None
+    range_once found = repeated_more (same_line text b) line_at lines i (fuzzy.Range q)
+        range_more once
+        (any_ranges text b q (take i lines) ∙ sym found)
+
+    range_numbers : (m : BTreeMap (Bor (List ℕ)) ℕ) → Numbers text (names_of_terms (take i lines)) m
+        → Numbers text (names_of_terms (take (i + 1) lines)) m
+    range_numbers m holds =
+        rw (range_more, names_with_range (take i lines) q) holds
+
+    range_seen : true ≡ list_any is_range (take (i + 1) lines)
+    range_seen = rw (
+      range_more,
+      list_any-append is_range (take i lines) (fuzzy.Range q ∷ []),
+    )
+        (sym (or_true (list_any is_range (take i lines))))
+
+-- what is known of the lines of an input's section, as far as they are read
+abbrev pub KnowsTerms : List ℕ → FunctionBlock → List FuzzyLine → BTreeMap (Bor (List ℕ)) ℕ → Bool → Type 0
+KnowsTerms text b lines m has_range = record {
+  numbers : Numbers text (names_of_terms lines) m;
+  range : has_range ≡ list_any is_range lines;
+  once : first (repeated (same_line text b) line_at lines) ≡ None;
+}
+
+module _ (text : List ℕ) (b : FunctionBlock) (lines : List FuzzyLine) (i : ℕ) (x : FuzzyLine)
+    (more : take (i + 1) lines ≡ take i lines ++ x ∷ []) (m : BTreeMap (Bor (List ℕ)) ℕ) (has_range : Bool)
+    (known : KnowsTerms text b (take i lines) m has_range) where
+  pub KnowsTerms-term : (t : Term) (n : BTreeMap (Bor (List ℕ)) ℕ) → x ≡ fuzzy.Term t → IsAdded text t.name m n
+      → KnowsTerms text b (take (i + 1) lines) n has_range
+  KnowsTerms-term t n is added = record {
+    numbers = term_numbers text b lines i x more known.once t is m known.numbers n added.added added.len;
+    range = term_range text b lines i x more known.once t is m known.numbers has_range known.range;
+    once = term_once text b lines i x more known.once t is m known.numbers added.fault;
+  }
+
+  pub KnowsTerms-range : (q : Range) → x ≡ fuzzy.Range q → has_range ≡ false
+      → KnowsTerms text b (take (i + 1) lines) m true
+  KnowsTerms-range q is none = record {
+    numbers = range_numbers text b lines i x more known.once q is m known.numbers;
+    range = range_seen text b lines i x more known.once q is;
+    once = range_once text b lines i x more known.once q is (sym none ∙ known.range);
+  }
+
+-- ---- steps over the lines of an output's section
+
+module _ (text : List ℕ) (b : FunctionBlock) (lines : List DefuzzyLine) (i : ℕ) (x : DefuzzyLine)
+    (more : take (i + 1) lines ≡ take i lines ++ x ∷ [])
+    (once : first (repeated (same_output_line text b) output_line_at (take i lines)) ≡ None) where
+  module _ (t : Singleton) (is : x ≡ defuzzy.Singleton t) (m : BTreeMap (Bor (List ℕ)) ℕ)
+      (holds : Numbers text (names_of_singletons (take i lines)) m) where
+    singleton_more : take (i + 1) lines ≡ take i lines ++ defuzzy.Singleton t ∷ []
+    singleton_more = more ∙ ap (λ y. take i lines ++ y ∷ []) is
+
+    singleton_taken : is_some (at_letters m (letters text t.name)) ≡ list_any
+        (same_output_line text b (defuzzy.Singleton t)) (take i lines)
+    singleton_taken = number_taken text (names_of_singletons (take i lines)) t.name m holds
+        ∙ sym (any_singletons text b t (take i lines))
+
+    pub singleton_twice : (e : LoadFault)
+        → Says e (option_map load.Twice (first (at_if (is_some (at_letters m (letters text t.name))) t.name.at)))
+        → Says e (option_map load.Twice (first (repeated (same_output_line text b) output_line_at lines)))
+    singleton_twice e found =
+        place_here (same_output_line text b) output_line_at lines i (defuzzy.Singleton t) singleton_more once _ e
+        singleton_taken found
+
+    singleton_once : option_map load.Twice
+        (first (at_if (is_some (at_letters m (letters text t.name))) t.name.at)) ≡ None
+        → first (repeated (same_output_line text b) output_line_at (take (i + 1) lines)) ≡ None
+    singleton_once nothing =
+        passed_by (same_output_line text b) output_line_at lines i (defuzzy.Singleton t) singleton_more once _
+        singleton_taken nothing
+
+    singleton_numbers : (n : BTreeMap (Bor (List ℕ)) ℕ)
+        → ((ls : List ℕ) → at_letters n ls ≡ option_or (at_letters m ls)
+        (cond (is_named text ls t.name) (Some (btree_map_len m + 1)) None))
+        → btree_map_len n ≡ btree_map_len m + 1 → Numbers text (names_of_singletons (take (i + 1) lines)) n
+    singleton_numbers n added grown =
+        rw (singleton_more, names_with_singleton (take i lines) t)
+        (numbers_more text (names_of_singletons (take i lines)) t.name m n holds added grown)
+
+    singleton_others : filter is_other (take (i + 1) lines) ≡ filter is_other (take i lines)
+    singleton_others = rw (singleton_more, filter-append is_other (take i lines) (defuzzy.Singleton t ∷ []))
+        (append-nil (filter is_other (take i lines)))
+
+  module _ (other : is_other x ≡ true) where
+    seen : list_any (same_output_line text b x) (take i lines) ≡ list_any (same_kind x) (filter is_other (take i lines))
+    seen = any_same text b x (take i lines) other ∙ any_of_kind text b x (take i lines)
+
+    pub other_twice : true ≡ list_any (same_kind x) (filter is_other (take i lines))
+        → first (repeated (same_output_line text b) output_line_at lines) ≡ Some (output_line_at x)
+    other_twice found = repeated_here (same_output_line text b) output_line_at lines i x more once (seen ∙ sym found)
+
+    other_once : false ≡ list_any (same_kind x) (filter is_other (take i lines))
+        → first (repeated (same_output_line text b) output_line_at (take (i + 1) lines)) ≡ None
+    other_once found = repeated_more (same_output_line text b) output_line_at lines i x more once (seen ∙ sym found)
+
+    other_numbers : (m : BTreeMap (Bor (List ℕ)) ℕ) → Numbers text (names_of_singletons (take i lines)) m
+        → Numbers text (names_of_singletons (take (i + 1) lines)) m
+    other_numbers m holds = rw (more, names_with_other (take i lines) x other) holds
+
+    others_more : filter is_other (take (i + 1) lines) ≡ filter is_other (take i lines) ++ x ∷ []
+    others_more = rw (more, filter-append is_other (take i lines) (x ∷ []), other) refl
+
+-- what is known of the lines of an output's section, as far as they are read
+abbrev pub KnowsSingletons : List ℕ → FunctionBlock → List DefuzzyLine → BTreeMap (Bor (List ℕ)) ℕ → List DefuzzyLine
+    → Type 0
+KnowsSingletons text b lines m others = record {
+  numbers : Numbers text (names_of_singletons lines) m;
+  others : others ≡ filter is_other lines;
+  once : first (repeated (same_output_line text b) output_line_at lines) ≡ None;
+}
+
+module _ (text : List ℕ) (b : FunctionBlock) (lines : List DefuzzyLine) (i : ℕ) (x : DefuzzyLine)
+    (more : take (i + 1) lines ≡ take i lines ++ x ∷ []) (m : BTreeMap (Bor (List ℕ)) ℕ) (others : List DefuzzyLine)
+    (known : KnowsSingletons text b (take i lines) m others) where
+  pub KnowsSingletons-singleton : (t : Singleton) (n : BTreeMap (Bor (List ℕ)) ℕ) → x ≡ defuzzy.Singleton t
+      → IsAdded text t.name m n → KnowsSingletons text b (take (i + 1) lines) n others
+  KnowsSingletons-singleton t n is added = record {
+    numbers = singleton_numbers text b lines i x more known.once t is m known.numbers n added.added added.len;
+    others = known.others ∙ sym (singleton_others text b lines i x more known.once t is m known.numbers);
+    once = singleton_once text b lines i x more known.once t is m known.numbers added.fault;
+  }
+
+  pub KnowsSingletons-other : is_other x ≡ true → list_any (same_kind x) others ≡ false
+      → KnowsSingletons text b (take (i + 1) lines) m (others ++ x ∷ [])
+  KnowsSingletons-other other none = record {
+    numbers = other_numbers text b lines i x more known.once other m known.numbers;
+    others = rw (known.others) (sym (others_more text b lines i x more known.once other));
+    once = other_once text b lines i x more known.once other (rw (known.others) at (sym none));
+  }
+
+-- ---- Sections by their letters, and what a tree has twice, as one more section is read.
+
+is_some-map : {A B : Type 0} (f : A → B) (o : Option A) → is_some (option_map f o) ≡ is_some o
+is_some-map f None = refl
+is_some-map f (Some a) = refl
+
+map_or : {A B : Type 0} (f : A → B) (o : Option A) (p : Option B) (b : Bool) (a : A) → option_map f o ≡ p
+    → option_map f (option_or o (cond b (Some a) None)) ≡ option_or p (cond b (Some (f a)) None)
+map_or f None p true a h = rw (← h) refl
+map_or f None p false a h = rw (← h) refl
+map_or f (Some c) p b a h = rw (← h) refl
+
+if_or : {A : Type 0} (P : A → Type 0) (o : Option A) (b : Bool) (a : A) → IfSome o P → P a
+    → IfSome (option_or o (cond b (Some a) None)) P
+if_or P None true a h k = k
+if_or P None false a h k = h
+if_or P (Some c) b a h k = h
+
+nowhere : (o : Option ℕ) → option_map load.Twice o ≡ None → o ≡ None
+nowhere None h = refl
+nowhere (Some n) h = cc
+
+module _ (text : List ℕ) (b : FunctionBlock) (parts : List Part) (i : ℕ) (p : Part)
+    (more : take (i + 1) parts ≡ take i parts ++ p ∷ [])
+    (m : BTreeMap (Bor (List ℕ)) Section) (holds : HoldsSections text (take i parts) m) (name : Name)
+    (named : name ≡ section_name p) where
+  section_taken : is_some (at_letters m (letters text name)) ≡ list_any (same_section text b p) (take i parts)
+  section_taken =
+      rw named (sym (is_some-map (λ (s : Section). s.part.now) (at_letters m (letters text (section_name p))))
+      ∙ ap is_some (holds.parts (letters text (section_name p)))
+      ∙ found_any (λ (q : Part). is_named text (letters text (section_name p)) (section_name q)) (take i parts))
+
+  module _ (once : first (at_each (repeated_section text b) [] (take i parts)) ≡ None) where
+    pub section_twice : is_some (at_letters m (letters text name)) ≡ true
+        → first (at_each (repeated_section text b) [] parts) ≡ Some name.at
+    section_twice found =
+        first_at_here (repeated_section text b) parts i p more once name.at (rw (
+          list_any-all_walked (same_section text b p) (take i parts),
+          ← section_taken,
+          found,
+          named,
+        ) refl)
+
+    module _ (free : is_some (at_letters m (letters text name)) ≡ false) where
+      pub line_twice : (e : LoadFault) → Says e (option_map load.Twice (first (repeated_lines text b p)))
+          → Says e (option_map load.Twice (first (at_each (repeated_section text b) [] parts)))
+      line_twice e found =
+          same_place e (first (repeated_lines text b p)) _
+          (λ n at. first_at_here (repeated_section text b) parts i p more once n
+          (rw (list_any-all_walked (same_section text b p) (take i parts), ← section_taken, free) at)) found
+
+      pub section_once : option_map load.Twice (first (repeated_lines text b p)) ≡ None
+          → first (at_each (repeated_section text b) [] (take (i + 1) parts)) ≡ None
+      section_once none =
+          first_at_more (repeated_section text b) parts i p more once
+          (rw (list_any-all_walked (same_section text b p) (take i parts), ← section_taken, free)
+          (nowhere (first (repeated_lines text b p)) none))
+
+  pub sections_more : (n : BTreeMap (Bor (List ℕ)) Section) (s : Section) → s.part.now ≡ p
+      → ((ts : List ℕ) → at_letters s.terms ts ≡ number_in text (names_in p) ts)
+      → ((ls : List ℕ) → at_letters n ls ≡ option_or (at_letters m ls) (cond (is_named text ls name) (Some s) None))
+      → HoldsSections text (take (i + 1) parts) n
+  sections_more n s is terms added = record {
+    parts = λ ls. rw (
+      more,
+      find-append (λ (q : Part). is_named text ls (section_name q)) (take i parts) (p ∷ []),
+      added ls,
+      ← named,
+      ← is,
+    )
+        (map_or (λ (s : Section). s.part.now) (at_letters m ls) _ (is_named text ls name) s (holds.parts ls));
+    terms = λ ls. rw (added ls)
+        (if_or (λ (s : Section). (ts : List ℕ) → at_letters s.terms ts ≡ number_in text (names_in s.part.now) ts)
+        (at_letters m ls)
+        (is_named text ls name) s (holds.terms ls) (λ ts. rw is (terms ts)));
+  }
