@@ -262,26 +262,27 @@ over_from r (d ∷ ds) = elim (room_behind r d.0) [ None ↦ Some d.1.at | Some 
 abbrev room : ℕ → ℕ → Room
 room i o = record { inputs = i; outputs = o }
 
-abbrev count : Direction → List Declared → ℕ
-count side before = length (filter (λ (e : Declared). is_direction side e.0) before)
+-- how many names a side has
+abbrev pub of_side : Direction → List Declared → ℕ
+of_side side before = length (filter (λ (e : Declared). is_direction side e.0) before)
 
-abbrev over_places : List Declared → Declared → List ℕ
-over_places before d = at_if (is_over before d) d.1.at
+abbrev pub over : List Declared → Declared → List ℕ
+over before d = at_if (is_over before d) d.1.at
 
-over_is : (i o : ℕ) (before ds : List Declared) → i + count Input before ≡ 8 → o + count Output before ≡ 4
-    → over_from (room i o) ds ≡ first (at_each over_places before ds)
+over_is : (i o : ℕ) (before ds : List Declared) → i + of_side Input before ≡ 8 → o + of_side Output before ≡ 4
+    → over_from (room i o) ds ≡ first (at_each over before ds)
 over_is i o before [] hi ho = refl
 over_is zero o before ((Input, n) ∷ ds) hi ho =
-    let e : count Input before ≡ 8 = omega arith in
+    let e : of_side Input before ≡ 8 = omega arith in
     rw e refl
 over_is (suc i) o before ((Input, n) ∷ ds) hi ho =
-    let e : nat_le 8 (count Input before) ≡ false = lt-leb 8 (count Input before) (omega arith) in
+    let e : nat_le 8 (of_side Input before) ≡ false = lt-leb 8 (of_side Input before) (omega arith) in
     rw e (over_is i o ((Input, n) ∷ before) ds (omega arith) ho)
 over_is i zero before ((Output, n) ∷ ds) hi ho =
-    let e : count Output before ≡ 4 = omega arith in
+    let e : of_side Output before ≡ 4 = omega arith in
     rw e refl
 over_is i (suc o) before ((Output, n) ∷ ds) hi ho =
-    let e : nat_le 4 (count Output before) ≡ false = lt-leb 4 (count Output before) (omega arith) in
+    let e : nat_le 4 (of_side Output before) ≡ false = lt-leb 4 (of_side Output before) (omega arith) in
     rw e (over_is i o ((Output, n) ∷ before) ds hi (omega arith))
 
 pub over_first : (ds : List Declared)
@@ -290,11 +291,11 @@ pub over_first : (ds : List Declared)
 over_first ds = sym (over_is 8 4 [] ds refl refl)
 
 pub too_many_first : (text : List ℕ) (b : FunctionBlock)
-    → first (too_many text b) ≡ option_or (first (at_each over_places [] (declared_in b)))
+    → first (too_many text b) ≡ option_or (first (at_each over [] (declared_in b)))
     (option_or (first (flat_map terms_over_limit b.parts))
     (option_map (λ (r : Rule). r.at) (slice_get b.rules.rules 256)))
 too_many_first text b =
-    let names = at_each over_places [] (declared_in b) in
+    let names = at_each over [] (declared_in b) in
     let terms = flat_map terms_over_limit b.parts in
     let rules = map (λ (r : Rule). r.at) (drop 256 b.rules.rules) in
     first-append names (terms ++ rules) ∙ ap (option_or (first names)) (first-append terms rules
@@ -314,14 +315,6 @@ pub some_at_all : {X : Type 0} (xs : List X) → is_none (slice_get xs 0) ≡ fa
 some_at_all [] h = cc
 some_at_all (x ∷ xs) h = omega arith
 
--- ---- how many names a side has
-
-abbrev pub of_side : Direction → List Declared → ℕ
-of_side side before = length (filter (λ (e : Declared). is_direction side e.0) before)
-
-abbrev pub over : List Declared → Declared → List ℕ
-over before d = at_if (is_over before d) d.1.at
-
 not_over : (n m : ℕ) → nat_le n m ≡ false → m + 1 ≤ n
 not_over n m h = grind (arith, nat_tests)
 
@@ -335,24 +328,26 @@ some_names side (d ∷ ds) h =
       | false ↦ λ k. some_names side ds k
     ] h
 
+-- one more name, which is of this side or of the other
+next : (side x : Direction) (n : Name) (before ds : List Declared) → of_side side before ≤ most_of side
+    → of_side x before + 1 ≤ most_of x
+    → (of_side side ((x, n) ∷ before) ≤ most_of side
+    → of_side side ((x, n) ∷ before) + length (names_of side ds) ≤ most_of side)
+    → of_side side before + length (names_of side ((x, n) ∷ ds)) ≤ most_of side
+next side.Input side.Input n before ds h room rest = let few = rest (omega (arith, room)) in omega (arith, few)
+next side.Output side.Output n before ds h room rest = let few = rest (omega (arith, room)) in omega (arith, few)
+next side.Input side.Output n before ds h room rest = rest h
+next side.Output side.Input n before ds h room rest = rest h
+
 pub few_names : (side : Direction) (before ds : List Declared) → of_side side before ≤ most_of side
     → at_each over before ds ≡ []
     → of_side side before + length (names_of side ds) ≤ most_of side
 few_names side before [] h none = omega (arith, h)
-few_names side.Input before ((side.Input, n) ∷ ds) h none =
-    let here = no_items (over before (side.Input, n)) _ none in
-    let room = not_over 8 (of_side side.Input before) (no_place (is_over before (side.Input, n)) n.at here.0) in
-    let rest = few_names side.Input ((side.Input, n) ∷ before) ds (omega (arith, room)) here.1 in
-    omega (arith, rest)
-few_names side.Input before ((side.Output, n) ∷ ds) h none =
-    few_names side.Input ((side.Output, n) ∷ before) ds h (no_items (over before (side.Output, n)) _ none).1
-few_names side.Output before ((side.Output, n) ∷ ds) h none =
-    let here = no_items (over before (side.Output, n)) _ none in
-    let room = not_over 4 (of_side side.Output before) (no_place (is_over before (side.Output, n)) n.at here.0) in
-    let rest = few_names side.Output ((side.Output, n) ∷ before) ds (omega (arith, room)) here.1 in
-    omega (arith, rest)
-few_names side.Output before ((side.Input, n) ∷ ds) h none =
-    few_names side.Output ((side.Input, n) ∷ before) ds h (no_items (over before (side.Input, n)) _ none).1
+few_names side before ((x, n) ∷ ds) h none =
+    let here = no_items (over before (x, n)) _ none in
+    let room = not_over (most_of x) (of_side x before) (no_place (is_over before (x, n)) n.at here.0) in
+    let rest = few_names side ((x, n) ∷ before) ds in
+    next side x n before ds h room (λ few. rest few here.1)
 
 -- ---- What a tree without load faults has where the builder looks for it.
 
@@ -420,15 +415,13 @@ numbers_there : (lines : List DefuzzyLine) (at : ℕ) → at_if (is_none (first 
     → IsSome (hull_of (map (λ (n : ℤ × ℕ). n.0) (filter_map number_line lines)))
 numbers_there [] at h = absurd cc
 numbers_there (defuzzy.Singleton t ∷ lines) at h = refl
-numbers_there (defuzzy.Accu x ∷ lines) at h = numbers_there lines at h
-numbers_there (defuzzy.Method x ∷ lines) at h = numbers_there lines at h
 numbers_there (defuzzy.Default d ∷ lines) at h =
     elim (fallback_number d.value) as (λ o. IsSome (hull_of (map (λ (n : ℤ × ℕ). n.0)
     (cons_option (option_map (λ (n : SignedNumber). (value n, d.at)) o) (filter_map number_line lines))))) [
       | None ↦ numbers_there lines at h
       | Some n ↦ refl
     ]
-numbers_there (defuzzy.Range x ∷ lines) at h = numbers_there lines at h
+numbers_there (_ ∷ lines) at h = numbers_there lines at h
 
 widened_there : (hull : Option Ends) → IsSome hull → IsSome (option_map widened hull)
 widened_there None h = h

@@ -301,34 +301,22 @@ module _ (text : List ℕ) (b : FunctionBlock) where
   any_singletons t [] = refl
   any_singletons t (defuzzy.Singleton s ∷ lines) =
       ap (λ a. is_named text (letters text t.name) s.name || a) (any_singletons t lines)
-  any_singletons t (defuzzy.Accu s ∷ lines) = any_singletons t lines
-  any_singletons t (defuzzy.Method s ∷ lines) = any_singletons t lines
-  any_singletons t (defuzzy.Default s ∷ lines) = any_singletons t lines
-  any_singletons t (defuzzy.Range s ∷ lines) = any_singletons t lines
+  any_singletons t (_ ∷ lines) = any_singletons t lines
 
   -- lines that are no terms are the same where they are of one kind
   same_other : (x y : DefuzzyLine) → is_other x ≡ true → same_output_line text b x y ≡ same_kind x y
   same_other (defuzzy.Singleton s) y h = cc
-  same_other (defuzzy.Accu s) y h = refl
-  same_other (defuzzy.Method s) y h = refl
-  same_other (defuzzy.Default s) y h = refl
-  same_other (defuzzy.Range s) y h = refl
+  same_other _ y h = refl
 
   differ : (x : DefuzzyLine) (t : Singleton) → same_kind x (defuzzy.Singleton t) ≡ false
   differ (defuzzy.Singleton s) t = refl
-  differ (defuzzy.Accu s) t = refl
-  differ (defuzzy.Method s) t = refl
-  differ (defuzzy.Default s) t = refl
-  differ (defuzzy.Range s) t = refl
+  differ _ t = refl
 
   any_of_kind : (x : DefuzzyLine) (lines : List DefuzzyLine)
       → list_any (same_kind x) lines ≡ list_any (same_kind x) (filter is_other lines)
   any_of_kind x [] = refl
   any_of_kind x (defuzzy.Singleton s ∷ lines) = rw (differ x s) (any_of_kind x lines)
-  any_of_kind x (defuzzy.Accu s ∷ lines) = ap (λ a. same_kind x (defuzzy.Accu s) || a) (any_of_kind x lines)
-  any_of_kind x (defuzzy.Method s ∷ lines) = ap (λ a. same_kind x (defuzzy.Method s) || a) (any_of_kind x lines)
-  any_of_kind x (defuzzy.Default s ∷ lines) = ap (λ a. same_kind x (defuzzy.Default s) || a) (any_of_kind x lines)
-  any_of_kind x (defuzzy.Range s ∷ lines) = ap (λ a. same_kind x (defuzzy.Range s) || a) (any_of_kind x lines)
+  any_of_kind x (y ∷ lines) = ap (λ a. same_kind x y || a) (any_of_kind x lines)
 
   any_same : (x : DefuzzyLine) (lines : List DefuzzyLine) → is_other x ≡ true
       → list_any (same_output_line text b x) lines ≡ list_any (same_kind x) lines
@@ -352,24 +340,15 @@ names_with_singleton : (lines : List DefuzzyLine) (t : Singleton)
     t.name ∷ []
 names_with_singleton [] t = refl
 names_with_singleton (defuzzy.Singleton s ∷ lines) t = ap (λ ns. s.name ∷ ns) (names_with_singleton lines t)
-names_with_singleton (defuzzy.Accu s ∷ lines) t = names_with_singleton lines t
-names_with_singleton (defuzzy.Method s ∷ lines) t = names_with_singleton lines t
-names_with_singleton (defuzzy.Default s ∷ lines) t = names_with_singleton lines t
-names_with_singleton (defuzzy.Range s ∷ lines) t = names_with_singleton lines t
+names_with_singleton (_ ∷ lines) t = names_with_singleton lines t
 
 no_name : (x : DefuzzyLine) → is_other x ≡ true → names_of_singletons (x ∷ []) ≡ []
 no_name (defuzzy.Singleton s) h = cc
-no_name (defuzzy.Accu s) h = refl
-no_name (defuzzy.Method s) h = refl
-no_name (defuzzy.Default s) h = refl
-no_name (defuzzy.Range s) h = refl
+no_name _ h = refl
 
 pub is_no_singleton : (x : DefuzzyLine) → ((t : Singleton) → x ≡ defuzzy.Singleton t → ⊥) → is_other x ≡ true
 is_no_singleton (defuzzy.Singleton s) h = absurd (h s refl)
-is_no_singleton (defuzzy.Accu s) h = refl
-is_no_singleton (defuzzy.Method s) h = refl
-is_no_singleton (defuzzy.Default s) h = refl
-is_no_singleton (defuzzy.Range s) h = refl
+is_no_singleton _ h = refl
 
 names_with_other : (lines : List DefuzzyLine) (x : DefuzzyLine) → is_other x ≡ true
     → names_of_singletons (lines ++ x ∷ []) ≡ names_of_singletons lines

@@ -142,9 +142,7 @@ module _ (text : List ℕ) (b : FunctionBlock) where
 pub at_rule_line : (test : Bool) (l : RuleLine)
     → StandIn (at_if test (rule_line_at l)) (rule_line_text (view_rule_line l))
 at_rule_line test (line.And s) = at_head test s.at refl
-at_rule_line test (line.Or s) = at_head test s.at refl
-at_rule_line test (line.Act a) = at_head test a.at refl
-at_rule_line test (line.Accu s) = at_head test s.at refl
+at_rule_line test l = at_head test (rule_line_at l) refl
 
 -- ---- Places of a section's faults stand in the section's text.
 
@@ -211,10 +209,7 @@ at_line test (fuzzy.Range r) = at_head test r.at refl
 at_output_line : (test : Bool) (l : DefuzzyLine)
     → StandIn (at_if test (output_line_at l)) (defuzzy_line_text (view_defuzzy_line l))
 at_output_line test (defuzzy.Singleton t) = passed (at_head test t.name.at refl)
-at_output_line test (defuzzy.Accu m) = at_head test m.at refl
-at_output_line test (defuzzy.Method m) = at_head test m.at refl
-at_output_line test (defuzzy.Default d) = at_head test d.at refl
-at_output_line test (defuzzy.Range r) = at_head test r.at refl
+at_output_line test l = at_head test (output_line_at l) refl
 
 in_terms : (f : Term → List ℕ) (s : Fuzzify) → ((t : Term) → StandIn (f t) (term_text (view_term t)))
     → StandIn (flat_map f (terms_of s)) (part_text (view_part (part.Fuzzify s)))

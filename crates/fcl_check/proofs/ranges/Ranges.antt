@@ -160,10 +160,8 @@ numbers-in : (lines : List DefuzzyLine)
     → AllByRecursion IsInScale (map (λ (n : ℤ × ℕ). n.0) (filter_map number_line lines))
 numbers-in [] = tt
 numbers-in (defuzzy.Singleton t ∷ lines) = (IsInScale-value t.value, numbers-in lines)
-numbers-in (defuzzy.Accu x ∷ lines) = numbers-in lines
-numbers-in (defuzzy.Method x ∷ lines) = numbers-in lines
 numbers-in (defuzzy.Default d ∷ lines) = fallback-in d.value d.at (filter_map number_line lines) (numbers-in lines)
-numbers-in (defuzzy.Range x ∷ lines) = numbers-in lines
+numbers-in (_ ∷ lines) = numbers-in lines
 
 -- all numbers of an output's section are
 pub output_numbers-in : (s : Defuzzify) → AllByRecursion IsInScale (map (λ (n : ℤ × ℕ). n.0) (output_numbers s))
@@ -268,11 +266,8 @@ widened-over e x h =
 -- ---- Lines of a section that are no singletons.
 
 pub no-singleton : (line : DefuzzyLine) → ((x : Singleton) → line ≡ defuzzy.Singleton x → ⊥) → singleton_of line ≡ None
-no-singleton (defuzzy.Default x) h = refl
 no-singleton (defuzzy.Singleton x) h = absurd (h x refl)
-no-singleton (defuzzy.Accu x) h = refl
-no-singleton (defuzzy.Method x) h = refl
-no-singleton (defuzzy.Range x) h = refl
+no-singleton _ h = refl
 
 -- ---- The numbers of an output's section, line after line.
 

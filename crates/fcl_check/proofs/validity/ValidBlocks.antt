@@ -272,23 +272,19 @@ module _ (P : ℤ → Type 0) where
       → AllByRecursion (λ (t : Singleton). P (value t.value)) (filter_map singleton_of lines)
   all_singletons [] all = tt
   all_singletons (defuzzy.Singleton t ∷ lines) all = (all.0, all_singletons lines all.1)
-  all_singletons (defuzzy.Accu x ∷ lines) all = all_singletons lines all
-  all_singletons (defuzzy.Method x ∷ lines) all = all_singletons lines all
   all_singletons (defuzzy.Default d ∷ lines) all =
       all_singletons lines (behind d.value d.at (filter_map number_line lines) all)
-  all_singletons (defuzzy.Range x ∷ lines) all = all_singletons lines all
+  all_singletons (_ ∷ lines) all = all_singletons lines all
 
   at_default : (lines : List DefuzzyLine) (d : Fallback) (n : SignedNumber) → AllNumbers lines
       → first (filter_map default_line lines) ≡ Some d
       → fallback_number d.value ≡ Some n → P (value n)
   at_default [] d n all found is = absurd cc
   at_default (defuzzy.Singleton t ∷ lines) d n all found is = at_default lines d n all.1 found is
-  at_default (defuzzy.Accu x ∷ lines) d n all found is = at_default lines d n all found is
-  at_default (defuzzy.Method x ∷ lines) d n all found is = at_default lines d n all found is
   at_default (defuzzy.Default c ∷ lines) d n all found is =
       let same : c ≡ d = cc in
       fallback_of c.value n c.at (filter_map number_line lines) (rw same is) all
-  at_default (defuzzy.Range x ∷ lines) d n all found is = at_default lines d n all found is
+  at_default (_ ∷ lines) d n all found is = at_default lines d n all found is
 
   fallback_in : (o : Option SignedNumber) (n : ℤ) → option_map value o ≡ Some n
       → ((m : SignedNumber) → o ≡ Some m → P (value m)) → P n
