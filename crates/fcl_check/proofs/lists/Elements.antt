@@ -68,15 +68,6 @@ pub mapped_more : {A B : Type 0} (g : A → B) (first : A) (xs : List A) (i : �
 mapped_more g first xs i d so_far next y h same image pushed =
     rw (take_more xs i d h, map-append g (take i xs) (get_or xs i d ∷ []), pushed, same, image) refl
 
--- one more item and what it relates to
-pub all_related_more : {A B : Type 0} (R : A → B → Type 0) (xs : List A) (ys : List B) (x : A) (y : B)
-    → AllZip R xs ys → R x y
-    → AllZip R (xs ++ x ∷ []) (ys ++ y ∷ [])
-all_related_more R [] [] x y h r = (r, tt)
-all_related_more R [] (b ∷ ys) x y h r = absurd h
-all_related_more R (a ∷ xs) [] x y h r = absurd h
-all_related_more R (a ∷ xs) (b ∷ ys) x y h r = (h.0, all_related_more R xs ys x y h.1 r)
-
 -- ---- Fronts, ends and parts of a list with one more item, and the step of a loop that keeps such parts.
 
 pub last-push : {A : Type 0} (xs : List A) (y : A) → last (xs ++ y ∷ []) ≡ Some y

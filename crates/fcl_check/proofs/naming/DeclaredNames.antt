@@ -2,6 +2,7 @@
 use Rattle.std.proofs.lemmas.List.{append-nil, flat_map_more, take_more, map-append}
 use Rattle.std.proofs.lemmas.{List.Elements.filter_map-append, List.Elements.filter-append, List.Folds.find-append}
 use Rattle.std.proofs.lemmas.List.Folds.{list_any-append}
+use Rattle.std.proofs.Math.Bool.{or-false, or-true}
 use Rattle.std.proofs.Common.{◌≡◌, ℕ, suc, ◌+◌, ◌<◌, ◌≤◌, Bool, true, false, cond, ◌&&◌, ◌||◌, List, [], ◌∷◌, ◌++◌}
 use Rattle.std.proofs.Common.{length, map, take, get_or, Option, Some, None, is_some, option_map, refl, ap, ◌∙◌}
 use Rattle.std.proofs.Common.{arith, length-append, sym, IfSome}
@@ -22,9 +23,9 @@ use Rattle.fcl_check.specs.Names.{Declared, is_direction, is_named, letters, num
 use Rattle.fcl_check.specs.{declared.fault.LoadFault.LoadFault, declared.names.Counts.Counts}
 use Rattle.fcl_check.specs.{declared.names.Variable.Variable, Loaded.or_zero, declared.names.Section.Section}
 use Rattle.fcl_check.specs.declared.fault.LoadFault.TheVariants as load
-use Rattle.fcl_check.proofs.naming.Naming.{names_declared, found_any, no_value, number_any, number_push}
+use Rattle.fcl_check.proofs.naming.Naming.{is_some-map, names_declared, found_any, no_value, number_any, number_push}
 use Rattle.fcl_check.proofs.naming.Naming.{names_of_terms, names_of_singletons, is_range, is_other}
-use Rattle.fcl_check.proofs.places.Places.{Says, passed_by, place_here, or_false, or_true, repeated_here}
+use Rattle.fcl_check.proofs.places.Places.{Says, passed_by, place_here, repeated_here}
 use Rattle.fcl_check.proofs.places.Places.{repeated_more, first_at_here, first_at_more, list_any-all_walked}
 use Rattle.fcl_check.proofs.places.Places.{same_place}
 
@@ -34,19 +35,6 @@ same_direction : (side : Direction) → is_direction side side ≡ true
 same_direction Input = refl
 same_direction Output = refl
 
-one_of : (side : Direction) (d : Declared) → names_of side (d ∷ []) ≡ cond (is_direction side d.0) (d.1 ∷ []) []
-one_of Input (Input, n) = refl
-one_of Input (Output, n) = refl
-one_of Output (Input, n) = refl
-one_of Output (Output, n) = refl
-
-pub names_push : (side : Direction) (ds : List Declared) (d : Declared)
-    → names_of side (ds ++ d ∷ []) ≡ names_of side ds ++
-    cond (is_direction side d.0) (d.1 ∷ []) []
-names_push side ds d =
-    filter_map-append (λ (e : Declared). if is_direction side e.0 then Some e.1 else None) ds (d ∷ [])
-    ∙ ap (λ ns. names_of side ds ++ ns) (one_of side d)
-
 names_cons : (side : Direction) (d : Declared) (ds : List Declared)
     → names_of side (d ∷ ds) ≡ cond (is_direction side d.0) (d.1 ∷ names_of side ds)
     (names_of side ds)
@@ -54,6 +42,13 @@ names_cons Input (Input, n) ds = refl
 names_cons Input (Output, n) ds = refl
 names_cons Output (Input, n) ds = refl
 names_cons Output (Output, n) ds = refl
+
+pub names_push : (side : Direction) (ds : List Declared) (d : Declared)
+    → names_of side (ds ++ d ∷ []) ≡ names_of side ds ++
+    cond (is_direction side d.0) (d.1 ∷ []) []
+names_push side ds d =
+    filter_map-append (λ (e : Declared). if is_direction side e.0 then Some e.1 else None) ds (d ∷ [])
+    ∙ ap (λ ns. names_of side ds ++ ns) (names_cons side d [])
 
 -- the count of a direction, one declared name on
 count_more : (b : Bool) (ns : List Name) (n : Name)
@@ -74,10 +69,6 @@ pub count_bound : (side : Direction) (ds : List Declared) → length (names_of s
 count_bound side [] = omega arith
 count_bound side (d ∷ ds) =
     rw (names_cons side d ds) (omega (arith, fewer (is_direction side d.0) d.1 (names_of side ds), count_bound side ds))
-
-either : (b : Bool) → (b || true) ≡ true
-either true = refl
-either false = refl
 
 module _ (text ls : List ℕ) where
   -- the first variable of these letters, among declared ones
@@ -105,7 +96,7 @@ module _ (text ls : List ℕ) where
       let same : d ≡ e = (let some : Some d ≡ Some e = rw h at found in cc) in
       rw (any_cons e.0 d ds, h, ap (λ (x : Declared). is_direction e.0 x.0) same, same_direction e.0) refl
   numbered false d ds e h found rest =
-      rw (any_cons e.0 d ds, rest (rw h at found)) (either (is_direction e.0 d.0 && is_named text ls d.1))
+      rw (any_cons e.0 d ds, rest (rw h at found)) (or-true (is_direction e.0 d.0 && is_named text ls d.1))
 
   found_number : (ds : List Declared) (e : Declared) → first_named ds ≡ Some e
       → list_any (is_named text ls) (names_of e.0 ds) ≡ true
@@ -403,7 +394,7 @@ module _ (text : List ℕ) (b : FunctionBlock) (lines : List FuzzyLine) (i : ℕ
         → has_range ≡ list_any is_range (take (i + 1) lines)
     term_range has_range had =
         rw (term_more, list_any-append is_range (take i lines) (fuzzy.Term t ∷ []))
-        (had ∙ sym (or_false (list_any is_range (take i lines))))
+        (had ∙ sym (or-false (list_any is_range (take i lines))))
 
   module _ (q : Range) (is : x ≡ fuzzy.Range q) where
     range_more : take (i + 1) lines ≡ take i lines ++ fuzzy.Range q ∷ []
@@ -431,7 +422,7 @@ module _ (text : List ℕ) (b : FunctionBlock) (lines : List FuzzyLine) (i : ℕ
       range_more,
       list_any-append is_range (take i lines) (fuzzy.Range q ∷ []),
     )
-        (sym (or_true (list_any is_range (take i lines))))
+        (sym (or-true (list_any is_range (take i lines))))
 
 -- what is known of the lines of an input's section, as far as they are read
 abbrev pub KnowsTerms : List ℕ → FunctionBlock → List FuzzyLine → BTreeMap (Bor (List ℕ)) ℕ → Bool → Type 0
@@ -549,10 +540,6 @@ module _ (text : List ℕ) (b : FunctionBlock) (lines : List DefuzzyLine) (i : �
   }
 
 -- ---- Sections by their letters, and what a tree has twice, as one more section is read.
-
-is_some-map : {A B : Type 0} (f : A → B) (o : Option A) → is_some (option_map f o) ≡ is_some o
-is_some-map f None = refl
-is_some-map f (Some a) = refl
 
 map_or : {A B : Type 0} (f : A → B) (o : Option A) (p : Option B) (b : Bool) (a : A) → option_map f o ≡ p
     → option_map f (option_or o (cond b (Some a) None)) ≡ option_or p (cond b (Some (f a)) None)

@@ -110,13 +110,13 @@ number_push text ns n ls =
     rw (position_push (is_named text ls) ns n)
     (one_more (position (is_named text ls) ns) (is_named text ls n) (length ns))
 
-is_some-suc : (o : Option ℕ) → is_some (option_map suc o) ≡ is_some o
-is_some-suc None = refl
-is_some-suc (Some k) = refl
+pub is_some-map : {A B : Type 0} (f : A → B) (o : Option A) → is_some (option_map f o) ≡ is_some o
+is_some-map f None = refl
+is_some-map f (Some a) = refl
 
 is_some-cons : (b : Bool) (o : Option ℕ) → is_some (cond b (Some 0) (option_map suc o)) ≡ (b || is_some o)
 is_some-cons true o = refl
-is_some-cons false o = is_some-suc o
+is_some-cons false o = is_some-map suc o
 
 position_any : {X : Type 0} (p : X → Bool) (xs : List X) → is_some (position p xs) ≡ list_any p xs
 position_any p [] = refl
@@ -124,7 +124,7 @@ position_any p (x ∷ xs) = rw (position-cons p x xs, is_some-cons (p x) (positi
 
 pub number_any : (text : List ℕ) (ns : List Name) (ls : List ℕ)
     → is_some (number_in text ns ls) ≡ list_any (is_named text ls) ns
-number_any text ns ls = is_some-suc (position (is_named text ls) ns) ∙ position_any (is_named text ls) ns
+number_any text ns ls = is_some-map suc (position (is_named text ls) ns) ∙ position_any (is_named text ls) ns
 
 -- ---- The number of a declared name, and what stands at it.
 

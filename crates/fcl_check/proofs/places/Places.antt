@@ -1,6 +1,7 @@
 -- The first of some places, and of the lines of a sort.
 use Rattle.std.proofs.lemmas.List.{at_drop_more, append-nil, take_more, take-append-drop, drop-map}
 use Rattle.std.proofs.lemmas.{Option.slice_get-map, List.Concat.flat_map_single}
+use Rattle.std.proofs.Math.Bool.{or-false}
 use Rattle.std.proofs.Common.{◌≡◌, ℕ, zero, suc, ◌+◌, ◌<◌, Bool, List, [], ◌∷◌, ◌++◌, Option, Some, None, drop}
 use Rattle.std.proofs.Common.{get_or, length, map, option_map, refl, sym, ap, ◌∙◌, ◌||◌, ◌≢◌, true, false, take}
 use Rattle.std.proofs.Common.{append_assoc, ◌≤◌, subst, arith}
@@ -34,7 +35,7 @@ first-map-drop f n xs = first-map f (drop n xs) ∙ ap (option_map f) (first-dro
 -- under a name that an attribute can cite
 pub ruleset firsts = (first-append)
 
-map-cons_option : {Y Z : Type 0} (f : Y → Z) (o : Option Y) (ys : List Y)
+pub map-cons_option : {Y Z : Type 0} (f : Y → Z) (o : Option Y) (ys : List Y)
     → map f (cons_option o ys) ≡ cons_option (option_map f o) (map f ys)
 map-cons_option f None ys = refl
 map-cons_option f (Some y) ys = refl
@@ -155,16 +156,8 @@ list_any-walked p before [] = refl
 list_any-walked p before (x ∷ xs) =
     rw (list_any-walked p (x ∷ before) xs) (swap (list_any p xs) (p x) (list_any p before))
 
-pub or_true : (a : Bool) → (a || true) ≡ true
-or_true true = refl
-or_true false = refl
-
-pub or_false : (a : Bool) → (a || false) ≡ a
-or_false true = refl
-or_false false = refl
-
 pub list_any-all_walked : {A : Type 0} (p : A → Bool) (xs : List A) → list_any p (walked [] xs) ≡ list_any p xs
-list_any-all_walked p xs = list_any-walked p [] xs ∙ or_false (list_any p xs)
+list_any-all_walked p xs = list_any-walked p [] xs ∙ or-false (list_any p xs)
 
 pub no_place : (taken : Bool) (n : ℕ) → option_map load.Twice (first (at_if taken n)) ≡ None → taken ≡ false
 no_place true n h = cc

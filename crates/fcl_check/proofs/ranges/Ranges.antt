@@ -25,6 +25,7 @@ use Rattle.fcl_check.specs.Sections.{fuzzy_range, hull_of, magnitude, number_lin
 use Rattle.fcl_check.specs.Sections.{is_empty_range, lies_in}
 use Rattle.fcl_check.specs.Loaded.{given_or, input_range, widened, output_hull}
 use Rattle.fcl_check.specs.{Steps.extended, Kept.IsKept, Kept.NumbersAreKept, Places.at_if}
+use Rattle.fcl_check.proofs.places.Places.{map-cons_option}
 use Rattle.fcl_check.proofs.{lists.Elements.all_weaker, lists.Elements.filter_map-next, faultless.Faultless.no_place}
 use Rattle.fcl_check.proofs.faultless.Faultless.{nowhere}
 
@@ -285,10 +286,6 @@ hull_of-push : (xs : List ℤ) (x : ℤ) → hull_of (xs ++ x ∷ []) ≡ Some (
 hull_of-push [] x = refl
 hull_of-push (y ∷ xs) x = ap Some (reach-push (y, y) xs x)
 
-map-cons_option : {A B : Type 0} (f : A → B) (o : Option A) → map f (cons_option o []) ≡ cons_option (option_map f o) []
-map-cons_option f None = refl
-map-cons_option f (Some x) = refl
-
 abbrev pub numbers : List DefuzzyLine → List ℤ
 numbers lines = map (λ (n : ℤ × ℕ). n.0) (filter_map number_line lines)
 
@@ -303,7 +300,7 @@ module _ (lines read : List DefuzzyLine) (i : ℕ) (d : DefuzzyLine) (same : rea
       ap (map (λ (n : ℤ × ℕ). n.0)) (filter_map-next number_line lines read i d same within)
       ∙ map-append (λ (n : ℤ × ℕ). n.0) (filter_map number_line (take i lines))
       (cons_option (number_line (get_or read i d)) [])
-      ∙ ap (λ ns. numbers (take i lines) ++ ns) (map-cons_option (λ (n : ℤ × ℕ). n.0) (number_line (get_or read i d)))
+      ∙ ap (λ ns. numbers (take i lines) ++ ns) (map-cons_option (λ (n : ℤ × ℕ). n.0) (number_line (get_or read i d)) [])
 
   pub hull-found : (hull : Option Ends) (x : ℤ) → hull ≡ hull_of (numbers (take i lines))
       → Some x ≡ option_map (λ (n : ℤ × ℕ). n.0) (number_line (get_or read i d))

@@ -124,8 +124,7 @@ module _ (f : Name → Name → Condition) where
       depth_and (and_of t no_nots) n clean = omega (arith, depth_not t n (clean_parts (not_text t n) [] clean).0)
       depth_and (and_of t (more_nots at u ts)) n clean =
           let both = clean_parts (not_text t n) (nots_text (more_nots at u ts) n) clean in
-          let rest = clean_parts (not_text u n) (nots_text ts n) both.1.1 in
-          omega (arith, depth_not t n both.0, depth_not u n rest.0, depth_nots ts n rest.1)
+          omega (arith, depth_not t n both.0, depth_nots (more_nots at u ts) n both.1)
 
       depth_ands : (items : TAnds) (n : ℕ) → IsClean (ands_text items n)
           → greatest_depth (ands_conditions f items) ≤ 2 * n + 3
@@ -138,8 +137,7 @@ module _ (f : Name → Name → Condition) where
       depth_or (or_of a no_ands) n clean = omega (arith, depth_and a n (clean_parts (and_text a n) [] clean).0)
       depth_or (or_of a (more_ands at c items)) n clean =
           let both = clean_parts (and_text a n) (ands_text (more_ands at c items) n) clean in
-          let rest = clean_parts (and_text c n) (ands_text items n) both.1.1 in
-          omega (arith, depth_and a n both.0, depth_and c n rest.0, depth_ands items n rest.1)
+          omega (arith, depth_and a n both.0, depth_ands (more_ands at c items) n both.1)
 
 -- ---- The condition of a rule is valid where each of its pairs is: in a clean text no name stands alone.
 

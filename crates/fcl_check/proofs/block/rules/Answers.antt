@@ -1,8 +1,8 @@
 use Rattle.std.proofs.Common.{take, refl, subst, sym}
-use Rattle.std.proofs.lemmas.List.Elements.{All-from_recursion}
+use Rattle.std.proofs.lemmas.{List.Elements.All-from_recursion, Slice.Zip.all_zipped_more}
 use Rattle.fcl_check.specs.{Loaded.IsRuleOf, WellFormed.IsWellFormedRule}
-use Rattle.fcl_check.proofs.{faultless.Faultless.faultless, faultless.Faultless.well_formed_rules}
-use Rattle.fcl_check.proofs.{places.Places.one_further, lists.Elements.all_related_more}
+use Rattle.fcl_check.proofs.faultless.Faultless.{faultless, well_formed_rules}
+use Rattle.fcl_check.proofs.places.Places.{one_further}
 use Rattle.fcl_check.proofs.block.rules.Goals as goal
 
 pub each-preserved : goal.each-preserved
@@ -13,7 +13,7 @@ each-preserved c =
     let more = one_further nodes c.each.next-index node node (rw value at c.each-test.true)
     (rw value at c.next-item.is) refl in
     let IsRule = IsRuleOf c.args.source.now.tree.now.text.items c.args.source.now.tree.now.block in
-    rw (c.in_ok-push.ensures.items, more) (all_related_more IsRule
+    rw (c.in_ok-push.ensures.items, more) (all_zipped_more IsRule
     (take c.each.next-index nodes) c.each.rules.items node c.in_ok-next.next c.each.invariant c.in_ok-next.ensures)
 
 pub rule-requires : goal.rule-requires
