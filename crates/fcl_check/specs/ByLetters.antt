@@ -1,18 +1,15 @@
 -- What the maps from letters hold while the names of a tree are gathered. No public clause cites it.
 -- Beside the promise.
 use Rattle.std.specs.Prelude.{◌≡◌, if◌then◌else◌, ℕ, List, Option, Some, None, option_map, IfSome}
-use Rattle.std.specs.BTreeMap.{BTreeMap, get_by}
-use Rattle.std.specs.Borrow.{Bor}
-use Rattle.std.specs.Cmp.Lexicographic.{slice_cmp}
-use Rattle.std.specs.List.{filter_map, find}
-use Rattle.std.specs.Ordering.{nat_cmp}
-use Rattle.fcl_syntax.specs.declared.{tree.Direction.Direction, tree.Name.Name, tree.Part.Part}
-use Rattle.fcl_syntax.specs.declared.tree.Direction.TheVariants.{Input, Output}
+use Rattle.std.specs.{BTreeMap.BTreeMap, BTreeMap.get_by, Borrow.Bor, Cmp.Lexicographic.slice_cmp, List.filter_map}
+use Rattle.std.specs.{List.find, Ordering.nat_cmp}
+use Rattle.fcl_syntax.specs.declared.tree.{Direction.Direction, Name.Name, Part.Part, Direction.TheVariants.Input}
+use Rattle.fcl_syntax.specs.declared.tree.Direction.TheVariants.{Output}
 use Rattle.fcl_syntax.specs.declared.tree.Part.TheVariants as part
-use Rattle.fcl_check.specs.declared.{names.Counts.Counts, names.Section.Section, names.Variable.Variable}
-use Rattle.fcl_check.specs.Loaded.{or_zero}
 use Rattle.fcl_check.specs.Names.{Declared, is_direction, is_named, number_in, section_name, singleton_names}
 use Rattle.fcl_check.specs.Names.{term_names}
+use Rattle.fcl_check.specs.{declared.names.Counts.Counts, declared.names.Section.Section}
+use Rattle.fcl_check.specs.{declared.names.Variable.Variable, Loaded.or_zero}
 
 -- the value at some letters
 abbrev pub at_letters : {X : Type 0} → BTreeMap (Bor (List ℕ)) X → List ℕ → Option X

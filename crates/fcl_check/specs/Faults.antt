@@ -3,26 +3,23 @@
 use Rattle.std.specs.Prelude.{ℕ, Bool, true, false, not, ◌&&◌, ◌||◌, nat_le, ◌≡◌, ◌≢◌, List, [], ◌∷◌, ◌++◌, drop}
 use Rattle.std.specs.Prelude.{length, map, Result, Ok, Err, Option, Some, None, is_none, slice_get, int_lt, pos}
 use Rattle.std.specs.List.{filter, flat_map, list_any}
+use Rattle.fcl_syntax.specs.declared.tree.{Conclusion.Conclusion, DefuzzyLine.DefuzzyLine, Direction.Direction}
+use Rattle.fcl_syntax.specs.declared.tree.{FunctionBlock.FunctionBlock, Direction.TheVariants.Input}
+use Rattle.fcl_syntax.specs.declared.tree.{Direction.TheVariants.Output, FuzzyLine.FuzzyLine, Name.Name, Part.Part}
+use Rattle.fcl_syntax.specs.declared.tree.{Rule.Rule, RuleLine.RuleLine, Weight.Weight}
+use Rattle.fcl_syntax.specs.declared.tree.DefuzzyLine.TheVariants as defuzzy
+use Rattle.fcl_syntax.specs.declared.tree.FuzzyLine.TheVariants as fuzzy
+use Rattle.fcl_syntax.specs.declared.tree.Part.TheVariants as part
+use Rattle.fcl_syntax.specs.declared.tree.RuleLine.TheVariants as line
 use Rattle.fcl_syntax.specs.Grammar.{TNot, neg, group, is, lone, TNots, no_nots, more_nots, TAnd, and_of, TAnds}
 use Rattle.fcl_syntax.specs.Grammar.{no_ands, more_ands, TOr, or_of}
-use Rattle.fcl_syntax.specs.declared.{tree.Conclusion.Conclusion, tree.DefuzzyLine.DefuzzyLine}
-use Rattle.fcl_syntax.specs.declared.tree.DefuzzyLine.TheVariants as defuzzy
-use Rattle.fcl_syntax.specs.declared.{tree.Direction.Direction, tree.FunctionBlock.FunctionBlock}
-use Rattle.fcl_syntax.specs.declared.tree.Direction.TheVariants.{Input, Output}
-use Rattle.fcl_syntax.specs.declared.tree.FuzzyLine.{FuzzyLine}
-use Rattle.fcl_syntax.specs.declared.tree.FuzzyLine.TheVariants as fuzzy
-use Rattle.fcl_syntax.specs.declared.{tree.Name.Name, tree.Part.Part}
-use Rattle.fcl_syntax.specs.declared.tree.Part.TheVariants as part
-use Rattle.fcl_syntax.specs.declared.{tree.Rule.Rule, tree.RuleLine.RuleLine}
-use Rattle.fcl_syntax.specs.declared.tree.RuleLine.TheVariants as line
-use Rattle.fcl_syntax.specs.declared.tree.Weight.{Weight}
-use Rattle.fcl_check.specs.declared.fault.LoadFault.{LoadFault}
-use Rattle.fcl_check.specs.declared.fault.LoadFault.TheVariants as load
 use Rattle.fcl_check.specs.Names.{Declared, is_direction, section_name, declared_in, direction_of, section_of}
 use Rattle.fcl_check.specs.Names.{term_number, letters, is_named}
 use Rattle.fcl_check.specs.Places.{at_if, at_some, at_each, first}
 use Rattle.fcl_check.specs.Sections.{without_terms, terms_over_limit, falling_points, shapeless_terms, points_outside}
 use Rattle.fcl_check.specs.Sections.{bad_range, numbers_outside, incomplete, value}
+use Rattle.fcl_check.specs.declared.fault.LoadFault.{LoadFault}
+use Rattle.fcl_check.specs.declared.fault.LoadFault.TheVariants as load
 
 -- ---- names in conditions and conclusions
 

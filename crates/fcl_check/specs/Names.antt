@@ -5,16 +5,15 @@ use Rattle.std.specs.Prelude.{if◌then◌else◌, ℕ, suc, Bool, true, false, 
 use Rattle.std.specs.Prelude.{option_map, option_and_then}
 use Rattle.std.specs.List.{filter_map, find, flat_map, position, take_while}
 use Rattle.std.specs.Str.{bytes_eq}
-use Rattle.fcl_syntax.specs.{Tokens.is_name_byte, declared.tree.Declaration.Declaration}
-use Rattle.fcl_syntax.specs.{declared.tree.Defuzzify.Defuzzify, declared.tree.DefuzzyLine.DefuzzyLine}
+use Rattle.fcl_syntax.specs.declared.tree.{Declaration.Declaration, Defuzzify.Defuzzify, DefuzzyLine.DefuzzyLine}
+use Rattle.fcl_syntax.specs.declared.tree.{Direction.Direction, FunctionBlock.FunctionBlock}
+use Rattle.fcl_syntax.specs.declared.tree.{Direction.TheVariants.Input, Direction.TheVariants.Output, Fuzzify.Fuzzify}
+use Rattle.fcl_syntax.specs.declared.tree.{FuzzyLine.FuzzyLine, Name.Name, Part.Part, Singleton.Singleton, Term.Term}
+use Rattle.fcl_syntax.specs.declared.tree.Variables.{Variables}
 use Rattle.fcl_syntax.specs.declared.tree.DefuzzyLine.TheVariants as defuzzy
-use Rattle.fcl_syntax.specs.declared.{tree.Direction.Direction, tree.FunctionBlock.FunctionBlock}
-use Rattle.fcl_syntax.specs.declared.tree.Direction.TheVariants.{Input, Output}
-use Rattle.fcl_syntax.specs.declared.{tree.Fuzzify.Fuzzify, tree.FuzzyLine.FuzzyLine}
 use Rattle.fcl_syntax.specs.declared.tree.FuzzyLine.TheVariants as fuzzy
-use Rattle.fcl_syntax.specs.declared.{tree.Name.Name, tree.Part.Part}
 use Rattle.fcl_syntax.specs.declared.tree.Part.TheVariants as part
-use Rattle.fcl_syntax.specs.declared.{tree.Singleton.Singleton, tree.Term.Term, tree.Variables.Variables}
+use Rattle.fcl_syntax.specs.Tokens.{is_name_byte}
 
 -- a declared variable
 abbrev pub Declared : Type 0

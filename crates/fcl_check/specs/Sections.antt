@@ -1,28 +1,24 @@
 -- The numbers of a section, and the places of the faults that one section has alone. All numbers are in
 -- 1/10000.
 -- Reached by the promise.
-use Rattle.std.specs.Prelude.{ℕ, Bool, false, not, ◌&&◌, ◌||◌, List, [], ◌∷◌, drop, map, Option, Some, None, option_map}
-use Rattle.std.specs.Prelude.{is_none, ℤ, pos, neg_ℤ, int_lt}
-use Rattle.std.specs.Int.{int_min, int_max}
+use Rattle.std.specs.Prelude.{ℕ, Bool, false, not, ◌&&◌, ◌||◌, List, [], ◌∷◌, drop, map, Option, Some, None}
+use Rattle.std.specs.Prelude.{option_map, is_none, ℤ, pos, neg_ℤ, int_lt}
 use Rattle.std.specs.List.{filter_map, flat_map, list_all}
+use Rattle.std.specs.Int.{int_min, int_max}
+use Rattle.fcl_syntax.specs.declared.tree.{Defuzzify.Defuzzify, DefuzzyLine.DefuzzyLine, Degree.Degree}
+use Rattle.fcl_syntax.specs.declared.tree.{Fallback.Fallback, FallbackValue.FallbackValue, Fuzzify.Fuzzify}
+use Rattle.fcl_syntax.specs.declared.tree.{FuzzyLine.FuzzyLine, Name.Name, SignedNumber.SignedNumber, Part.Part}
+use Rattle.fcl_syntax.specs.declared.tree.{Point.Point, Range.Range, Setting.Setting, Singleton.Singleton, Term.Term}
+use Rattle.fcl_syntax.specs.declared.tree.DefuzzyLine.TheVariants as defuzzy
+use Rattle.fcl_syntax.specs.declared.tree.Degree.TheVariants as degree
+use Rattle.fcl_syntax.specs.declared.tree.FallbackValue.TheVariants as fallback
+use Rattle.fcl_syntax.specs.declared.tree.FuzzyLine.TheVariants as fuzzy
+use Rattle.fcl_syntax.specs.declared.tree.SignedNumber.TheVariants as signed
+use Rattle.fcl_syntax.specs.declared.tree.Part.TheVariants as part
 use Rattle.fcl_syntax.specs.declared.token.Amount.{Amount}
 use Rattle.fcl_syntax.specs.declared.token.Amount.TheVariants as amount
-use Rattle.fcl_syntax.specs.declared.{tree.Defuzzify.Defuzzify, tree.DefuzzyLine.DefuzzyLine}
-use Rattle.fcl_syntax.specs.declared.tree.DefuzzyLine.TheVariants as defuzzy
-use Rattle.fcl_syntax.specs.declared.tree.Degree.{Degree}
-use Rattle.fcl_syntax.specs.declared.tree.Degree.TheVariants as degree
-use Rattle.fcl_syntax.specs.declared.{tree.Fallback.Fallback, tree.FallbackValue.FallbackValue}
-use Rattle.fcl_syntax.specs.declared.tree.FallbackValue.TheVariants as fallback
-use Rattle.fcl_syntax.specs.declared.{tree.Fuzzify.Fuzzify, tree.FuzzyLine.FuzzyLine}
-use Rattle.fcl_syntax.specs.declared.tree.FuzzyLine.TheVariants as fuzzy
-use Rattle.fcl_syntax.specs.declared.{tree.Name.Name, tree.SignedNumber.SignedNumber}
-use Rattle.fcl_syntax.specs.declared.tree.SignedNumber.TheVariants as signed
-use Rattle.fcl_syntax.specs.declared.tree.Part.{Part}
-use Rattle.fcl_syntax.specs.declared.tree.Part.TheVariants as part
-use Rattle.fcl_syntax.specs.declared.{tree.Point.Point, tree.Range.Range, tree.Setting.Setting}
-use Rattle.fcl_syntax.specs.declared.{tree.Singleton.Singleton, tree.Term.Term}
-use Rattle.fcl_check.specs.Names.{terms_of, singletons_of}
 use Rattle.fcl_check.specs.Places.{at_if, at_some, at_each, first, drop_while}
+use Rattle.fcl_check.specs.Names.{terms_of, singletons_of}
 
 -- ---- numbers
 

@@ -2,12 +2,11 @@
 -- Beside the promise.
 use Rattle.std.specs.Prelude.{◌≡◌, ℕ, true, List, [], Option, Some, option_and_then}
 use Rattle.std.specs.List.{AllByRecursion}
-use Rattle.fcl_syntax.specs.declared.{tree.Conclusion.Conclusion, tree.Defuzzify.Defuzzify, tree.Direction.Direction}
-use Rattle.fcl_syntax.specs.declared.tree.Direction.TheVariants.{Input, Output}
-use Rattle.fcl_syntax.specs.declared.{tree.FunctionBlock.FunctionBlock, tree.Fuzzify.Fuzzify, tree.Name.Name}
-use Rattle.fcl_syntax.specs.declared.tree.Part.{Part}
-use Rattle.fcl_syntax.specs.declared.tree.Part.TheVariants as part
+use Rattle.fcl_syntax.specs.declared.tree.{Conclusion.Conclusion, Defuzzify.Defuzzify, Direction.Direction}
+use Rattle.fcl_syntax.specs.declared.tree.{Direction.TheVariants.Input, Direction.TheVariants.Output}
+use Rattle.fcl_syntax.specs.declared.tree.{FunctionBlock.FunctionBlock, Fuzzify.Fuzzify, Name.Name, Part.Part}
 use Rattle.fcl_syntax.specs.declared.tree.Rule.{Rule}
+use Rattle.fcl_syntax.specs.declared.tree.Part.TheVariants as part
 use Rattle.fcl_check.specs.Faults.{Pair, conclusions_of, condition_pairs, is_declared_as, weight_outside}
 use Rattle.fcl_check.specs.Names.{Declared, is_direction, letters, section_of, term_number}
 use Rattle.fcl_check.specs.Sections.{incomplete, shapeless_terms, without_terms}

@@ -32,7 +32,7 @@ const OUTPUTS: usize = 4;
 const RULES: usize = 256;
 
 // The first place at a section, or else at a rule.
-#[tactic(auto, using(crate::proofs::places::Places::firsts))]
+#[tactic(auto, using(crate::proofs::Places::firsts))]
 fn first_in<S: Fn(&Part) -> Option<u32>, R: Fn(&Rule) -> Option<u32>>(
     tree: &Tree,
     section: S,
@@ -235,7 +235,7 @@ fn is_whole(names: &Names<'_>, tree: &Tree) -> bool
 }
 
 /// A section, a line of one, an input, an output or a rule that is missing.
-#[tactic(auto, using(crate::proofs::places::Places::firsts))]
+#[tactic(auto, using(crate::proofs::Places::firsts))]
 pub fn missing_part(names: &Names<'_>, tree: &Tree) -> Option<u32>
     requires { Knows tree.now names.now }
     ensures { result ≡ first (missing_part tree.now.text.items tree.now.block) }

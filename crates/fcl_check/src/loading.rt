@@ -26,7 +26,7 @@ macro_rules! refuse {
 }
 
 // The first fault, where nothing is given twice.
-#[tactic(auto, using(crate::proofs::faultless::Faultless::first_fault_by_kinds))]
+#[tactic(auto, using(crate::proofs::Faultless::first_fault_by_kinds))]
 fn first_fault(names: &Names<'_>, tree: &Tree) -> Option<LoadFault>
     requires known { Knows tree.now names.now }
     requires once { twice tree.now.text.items tree.now.block ≡ [] }

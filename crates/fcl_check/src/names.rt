@@ -31,11 +31,14 @@ pub struct Variable {
     pub number: usize,
 }
 
-/// A section, with the numbers of its terms by their names.
+/// The numbers of the terms of a section by their names in small letters.
+pub type Terms<'a> = BTreeMap<&'a [u8], usize>;
+
+/// A section, with the numbers of its terms.
 #[derive(Drop)]
 pub struct Section<'a> {
     pub part: &'a Part,
-    pub terms: BTreeMap<&'a [u8], usize>,
+    pub terms: Terms<'a>,
 }
 
 /// The variables and sections of a tree by their names in small letters.
@@ -226,11 +229,7 @@ fn variables<'a>(
 }
 
 // Adds a term under the letters of its name, with the next number.
-fn add_term<'a>(
-    terms: &mut BTreeMap<&'a [u8], usize>,
-    tree: &'a Tree,
-    name: Name,
-) -> Result<(), LoadFault>
+fn add_term<'a>(terms: &mut Terms<'a>, tree: &'a Tree, name: Name) -> Result<(), LoadFault>
     ensures fault { Answers result (option_map load.Twice (first (at_if (is_some (at_letters terms.old
         (letters tree.now.text.items name))) name.at))) }
     ensures added { OnOk result ((ls : List ℕ) → at_letters terms.new ls ≡ option_or (at_letters terms.old ls)
@@ -242,11 +241,7 @@ fn add_term<'a>(
 }
 
 // The numbers of the terms of an input's section, whose lines stand once each.
-fn fuzzy_terms<'a>(
-    alloc: Global,
-    tree: &'a Tree,
-    section: &Fuzzify,
-) -> Result<BTreeMap<&'a [u8], usize>, LoadFault>
+fn fuzzy_terms<'a>(alloc: Global, tree: &'a Tree, section: &Fuzzify) -> Result<Terms<'a>, LoadFault>
     ensures terms { IfOk result (λ m. (ls : List ℕ) → at_letters m ls ≡
         number_in tree.now.text.items (term_names section.now) ls) }
     ensures fault { Answers result (option_map load.Twice (first
@@ -302,7 +297,7 @@ fn defuzzy_terms<'a>(
     alloc: Global,
     tree: &'a Tree,
     section: &Defuzzify,
-) -> Result<BTreeMap<&'a [u8], usize>, LoadFault>
+) -> Result<Terms<'a>, LoadFault>
     ensures terms { IfOk result (λ m. (ls : List ℕ) → at_letters m ls ≡
         number_in tree.now.text.items (singleton_names section.now) ls) }
     ensures fault { Answers result (option_map load.Twice (first
@@ -324,11 +319,7 @@ fn defuzzy_terms<'a>(
     Ok(terms)
 }
 
-fn terms<'a>(
-    alloc: Global,
-    tree: &'a Tree,
-    part: &Part,
-) -> Result<BTreeMap<&'a [u8], usize>, LoadFault>
+fn terms<'a>(alloc: Global, tree: &'a Tree, part: &Part) -> Result<Terms<'a>, LoadFault>
     ensures terms { IfOk result (λ m. (ls : List ℕ) → at_letters m ls ≡
         number_in tree.now.text.items (names_in part.now) ls) }
     ensures fault { Answers result (option_map load.Twice (first

@@ -81,7 +81,7 @@ fn unknown_conclusion(names: &Names<'_>, tree: &Tree, conclusion: &Conclusion) -
     unknown_pair(names, tree, Direction::Output, variable, term)
 }
 
-#[tactic(auto, using(crate::proofs::places::Places::firsts))]
+#[tactic(auto, using(crate::proofs::Places::firsts))]
 fn unknown_conclusions(names: &Names<'_>, tree: &Tree, rule: &Rule) -> Option<u32>
     requires { Knows tree.now names.now }
     ensures { result ≡ first (flat_map
@@ -97,7 +97,7 @@ fn unknown_conclusions(names: &Names<'_>, tree: &Tree, rule: &Rule) -> Option<u3
 }
 
 /// The first name of a rule that is unknown.
-#[tactic(auto, using(crate::proofs::places::Places::firsts))]
+#[tactic(auto, using(crate::proofs::Places::firsts))]
 pub fn unknown_name(names: &Names<'_>, tree: &Tree, rule: &Rule) -> Option<u32>
     requires { Knows tree.now names.now }
     ensures { result ≡ first (unknown_in tree.now.text.items tree.now.block rule.now) }
@@ -154,7 +154,7 @@ fn mistaken_operand(names: &Names<'_>, tree: &Tree, condition: &Or) -> Option<u3
     first_in_or(condition, &place)
 }
 
-#[tactic(auto, using(crate::proofs::places::Places::firsts))]
+#[tactic(auto, using(crate::proofs::Places::firsts))]
 fn mistaken_conclusion(names: &Names<'_>, tree: &Tree, rule: &Rule) -> Option<u32>
     requires { Knows tree.now names.now }
     ensures { result ≡ first (flat_map
@@ -170,7 +170,7 @@ fn mistaken_conclusion(names: &Names<'_>, tree: &Tree, rule: &Rule) -> Option<u3
 }
 
 /// The first variable of a rule that stands on the wrong side.
-#[tactic(auto, using(crate::proofs::places::Places::firsts))]
+#[tactic(auto, using(crate::proofs::Places::firsts))]
 pub fn mistaken_name(names: &Names<'_>, tree: &Tree, rule: &Rule) -> Option<u32>
     requires { Knows tree.now names.now }
     ensures { result ≡ first (mistaken_in tree.now.text.items tree.now.block rule.now) }

@@ -125,7 +125,7 @@ pub fn term_over_limit(part: &Part) -> Option<u32>
 }
 
 // The parenthesis of the first point that lies below the one before it.
-#[tactic(auto, using(crate::proofs::courses::CourseSteps::falling_in_first))]
+#[tactic(auto, using(crate::proofs::CourseSteps::falling_in_first))]
 fn falling_in(term: &Term) -> Option<u32>
     ensures { result ≡ first (falling_in term.now) }
 {

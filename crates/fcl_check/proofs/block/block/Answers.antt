@@ -1,4 +1,4 @@
-use Rattle.fcl_check.proofs.faultless.Faultless.{input_sections, output_sections}
+use Rattle.fcl_check.proofs.Faultless.{input_sections, output_sections}
 use Rattle.fcl_check.proofs.block.block.Goals as goal
 
 pub variables-requires-clause-well_formed : goal.variables-requires-clause-well_formed

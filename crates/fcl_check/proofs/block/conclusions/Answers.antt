@@ -1,6 +1,6 @@
 use Rattle.std.proofs.Common.{refl}
 use Rattle.fcl_check.specs.Loaded.{conclusion_of}
-use Rattle.fcl_check.proofs.lists.Elements.{mapped_more}
+use Rattle.fcl_check.proofs.Elements.{mapped_more}
 use Rattle.fcl_check.proofs.block.conclusions.Goals as goal
 
 pub each-init : goal.each-init

@@ -1,5 +1,5 @@
 use Rattle.std.proofs.Common.{sym}
-use Rattle.fcl_check.proofs.faultless.Faultless.{over_first}
+use Rattle.fcl_check.proofs.Faultless.{over_first}
 use Rattle.fcl_check.proofs.checks.declared_over_limit.Goals as goal
 
 pub loop-direction-init : goal.loop-direction-init

@@ -1,6 +1,6 @@
 use Rattle.std.proofs.Common.{◌≡◌, List, [], drop}
 use Rattle.fcl_check.specs.{Faults.is_over, Names.Declared, Places.at_each, Places.at_if, Places.first}
-use Rattle.fcl_check.proofs.faultless.Faultless.{over_from}
+use Rattle.fcl_check.proofs.Faultless.{over_from}
 use Rattle.fcl_check.proofs.checks.declared_over_limit.Given as goal
 
 abbrev pub invariant-loop-direction : goal.invariant-loop-direction

@@ -1,5 +1,5 @@
 use Rattle.std.proofs.Common.{rules}
-use Rattle.fcl_check.proofs.faultless.Faultless.{too_many_first}
+use Rattle.fcl_check.proofs.Faultless.{too_many_first}
 use Rattle.fcl_check.proofs.checks.too_many.Goals as goal
 
 pub returns : goal.returns

@@ -1,6 +1,6 @@
 use Rattle.std.proofs.Common.{◌≡◌, ◌∷◌, map, take}
 use Rattle.fcl_check.specs.Loaded.{literal_of, not_condition, and_condition}
-use Rattle.fcl_check.proofs.trees.ConditionParts.{and_kind, or_kind}
+use Rattle.fcl_check.proofs.ConditionParts.{and_kind, or_kind}
 use Rattle.fcl_check.proofs.conditions.+condition.Given as goal
 
 abbrev pub invariant-and-each : goal.invariant-and-each

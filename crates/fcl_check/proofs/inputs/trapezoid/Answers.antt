@@ -1,6 +1,6 @@
 use Rattle.std.proofs.Common.{◌≡◌, [], ◌∷◌, take, refl}
 use Rattle.std.proofs.lemmas.List.{take_all}
-use Rattle.fcl_check.proofs.{courses.CourseSteps.AreCornersOf-more, faultless.Faultless.top_there}
+use Rattle.fcl_check.proofs.{CourseSteps.AreCornersOf-more, Faultless.top_there}
 use Rattle.fcl_check.proofs.inputs.trapezoid.Goals as goal
 
 pub loop-point-init : goal.loop-point-init

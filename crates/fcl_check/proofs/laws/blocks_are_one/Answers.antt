@@ -1,4 +1,4 @@
-use Rattle.fcl_check.proofs.existing.JudgedTexts.{one_block}
+use Rattle.fcl_check.proofs.JudgedTexts.{one_block}
 use Rattle.fcl_check.proofs.laws.blocks_are_one.Goals as goal
 
 pub returns : goal.returns

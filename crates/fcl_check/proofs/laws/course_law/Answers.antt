@@ -1,4 +1,4 @@
-use Rattle.fcl_check.proofs.courses.CourseSteps.{keeps, ascends}
+use Rattle.fcl_check.proofs.CourseSteps.{keeps, ascends}
 use Rattle.fcl_check.proofs.laws.course_law.Goals as goal
 
 pub returns : goal.returns

@@ -1,4 +1,4 @@
-use Rattle.fcl_check.proofs.existing.JudgedTexts.{judged_texts}
+use Rattle.fcl_check.proofs.JudgedTexts.{judged_texts}
 use Rattle.fcl_check.proofs.laws.each_text_is_judged.Goals as goal
 
 pub returns : goal.returns

@@ -1,4 +1,4 @@
-use Rattle.fcl_check.proofs.ranges.Ranges.{all_kept}
+use Rattle.fcl_check.proofs.Ranges.{all_kept}
 use Rattle.fcl_check.proofs.laws.numbers_are_kept.Goals as goal
 
 pub returns : goal.returns

@@ -1,4 +1,4 @@
-use Rattle.fcl_check.proofs.places.TreePlaces.{places_ascend}
+use Rattle.fcl_check.proofs.TreePlaces.{places_ascend}
 use Rattle.fcl_check.proofs.laws.places_ascend.Goals as goal
 
 pub returns : goal.returns

@@ -1,4 +1,4 @@
-use Rattle.fcl_check.proofs.validity.ValidBlocks.{spelled_blocks}
+use Rattle.fcl_check.proofs.ValidBlocks.{spelled_blocks}
 use Rattle.fcl_check.proofs.laws.spelled_blocks_are_valid.Goals as goal
 
 pub returns : goal.returns

@@ -1,4 +1,4 @@
-use Rattle.fcl_check.proofs.existing.FoundBlocks.{found_block}
+use Rattle.fcl_check.proofs.JudgedTexts.{found_block}
 use Rattle.fcl_check.proofs.laws.trees_have_blocks.Goals as goal
 
 pub returns : goal.returns

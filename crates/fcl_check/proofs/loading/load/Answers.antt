@@ -1,5 +1,5 @@
 use Rattle.std.proofs.Common.{rules}
-use Rattle.fcl_check.proofs.validity.ValidBlocks.{kept_block}
+use Rattle.fcl_check.proofs.ValidBlocks.{kept_block}
 use Rattle.fcl_check.proofs.loading.load.Goals as goal
 
 pub returns-clause-valid : goal.returns-clause-valid

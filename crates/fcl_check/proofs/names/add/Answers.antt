@@ -1,6 +1,6 @@
 use Rattle.std.proofs.Common.{◌≡◌, None, sym, ◌∙◌}
 use Rattle.fcl_check.specs.{ByLetters.at_letters, Names.letters}
-use Rattle.fcl_check.proofs.naming.Naming.{letters_added, no_value}
+use Rattle.fcl_check.proofs.Naming.{letters_added, no_value}
 use Rattle.fcl_check.proofs.names.add.Goals as goal
 
 pub returns-clause-added : goal.returns-clause-added

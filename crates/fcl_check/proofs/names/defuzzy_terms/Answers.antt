@@ -1,7 +1,7 @@
 use Rattle.std.proofs.Common.{◌≡◌, Err, rules, refl, sym, ◌∙◌}
 use Rattle.std.proofs.lemmas.List.{take_more}
-use Rattle.fcl_check.proofs.naming.DeclaredNames.{KnowsSingletons-other, KnowsSingletons-singleton, is_no_singleton}
-use Rattle.fcl_check.proofs.naming.DeclaredNames.{other_twice, singleton_twice}
+use Rattle.fcl_check.proofs.DeclaredNames.{KnowsSingletons-other, KnowsSingletons-singleton, is_no_singleton}
+use Rattle.fcl_check.proofs.DeclaredNames.{named_twice, other_twice, singleton_lines}
 use Rattle.fcl_check.proofs.names.defuzzy_terms.Goals as goal
 use Rattle.fcl_check.proofs.names.defuzzy_terms.Goals.{in-Singleton+in_ok-add_term}
 use Rattle.fcl_check.proofs.names.defuzzy_terms.Goals.{in_default+else-has_kind+in_ok-push}
@@ -11,9 +11,10 @@ returns-in_err-add_term-clause-fault c =
     let passed : c.from_residual.result ≡ Err c.in_err-add_term.field-0.0 = search rules in
     let value = c.as_slice-line-items.ensures in
     let more = take_more c.args.section.now.lines c.each.line-index _ (rw value at c.each-test.true) in
-    rw passed (singleton_twice c.args.tree.now.text.items c.args.tree.now.block c.args.section.now.lines
-    c.each.line-index _ more c.each.invariant.once c.in-Singleton.singleton (rw value at c.in-Singleton.is) c.each.terms
-    c.each.invariant.numbers c.in_err-add_term.field-0.0 c.in_err-add_term.ensures.fault)
+    rw passed (named_twice (singleton_lines c.args.tree.now.text.items c.args.tree.now.block)
+    c.args.section.now.lines c.each.line-index _ more c.each.invariant.once c.in-Singleton.singleton
+    (rw value at c.in-Singleton.is) c.each.terms c.each.invariant.numbers c.in_err-add_term.field-0.0
+    c.in_err-add_term.ensures.fault)
 
 pub returns-then-has_kind : goal.returns-then-has_kind
 returns-then-has_kind c =

@@ -1,5 +1,5 @@
 use Rattle.std.proofs.Common.{take}
-use Rattle.fcl_check.proofs.naming.DeclaredNames.{KnowsSingletons}
+use Rattle.fcl_check.proofs.DeclaredNames.{KnowsSingletons}
 use Rattle.fcl_check.proofs.names.defuzzy_terms.Given as goal
 
 abbrev pub invariant-each : goal.invariant-each

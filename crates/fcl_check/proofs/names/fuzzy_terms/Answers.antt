@@ -1,8 +1,8 @@
 use Rattle.std.proofs.Common.{◌≡◌, Err, rules, refl, sym, ◌∙◌}
-use Rattle.fcl_check.proofs.naming.DeclaredNames.{KnowsTerms-range, KnowsTerms-term, range_twice, term_twice}
-use Rattle.fcl_check.proofs.places.Places.{read_further}
-use Rattle.fcl_check.proofs.names.fuzzy_terms.Goals as goal
+use Rattle.fcl_check.proofs.DeclaredNames.{KnowsTerms-range, KnowsTerms-term, named_twice, range_twice, term_lines}
+use Rattle.fcl_check.proofs.Places.{read_further}
 use Rattle.fcl_check.proofs.names.fuzzy_terms.Goals.{in-Term+in_ok-add_term-in-Term, in-Range+else-has_range}
+use Rattle.fcl_check.proofs.names.fuzzy_terms.Goals as goal
 
 pub returns-in_err-add_term-in-Term-clause-fault : goal.returns-in_err-add_term-in-Term-clause-fault
 returns-in_err-add_term-in-Term-clause-fault c =
@@ -10,8 +10,8 @@ returns-in_err-add_term-in-Term-clause-fault c =
     let lines = c.args.section.now.lines in
     let more = read_further lines _ c.each.line-index c.line-item.result c.as_slice-line-items.ensures
     c.each-test.true c.line-item.is in
-    rw passed (term_twice c.args.tree.now.text.items c.args.tree.now.block lines c.each.line-index c.line-item.result
-    more c.each.invariant.once c.in-Term.term c.in-Term.is c.each.terms c.each.invariant.numbers
+    rw passed (named_twice (term_lines c.args.tree.now.text.items c.args.tree.now.block) lines c.each.line-index
+    c.line-item.result more c.each.invariant.once c.in-Term.term c.in-Term.is c.each.terms c.each.invariant.numbers
     c.in_err-add_term-in-Term.field-0.0 c.in_err-add_term-in-Term.ensures.fault)
 
 pub returns-then-has_range-clause-fault : goal.returns-then-has_range-clause-fault

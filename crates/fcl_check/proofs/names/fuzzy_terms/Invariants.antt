@@ -1,5 +1,5 @@
 use Rattle.std.proofs.Common.{take}
-use Rattle.fcl_check.proofs.naming.DeclaredNames.{KnowsTerms}
+use Rattle.fcl_check.proofs.DeclaredNames.{KnowsTerms}
 use Rattle.fcl_check.proofs.names.fuzzy_terms.Given as goal
 
 abbrev pub invariant-each : goal.invariant-each

@@ -1,4 +1,4 @@
-use Rattle.fcl_check.proofs.naming.DeclaredNames.{names_declared_more}
+use Rattle.fcl_check.proofs.DeclaredNames.{names_declared_more}
 use Rattle.fcl_check.proofs.names.push_variables.Goals as goal
 
 pub each-preserved : goal.each-preserved

@@ -1,5 +1,5 @@
 use Rattle.std.proofs.Common.{◌≡◌, ◌++◌, take}
-use Rattle.fcl_check.proofs.naming.Naming.{names_declared}
+use Rattle.fcl_check.proofs.Naming.{names_declared}
 use Rattle.fcl_check.proofs.names.push_variables.Given as goal
 
 abbrev pub invariant-each : goal.invariant-each

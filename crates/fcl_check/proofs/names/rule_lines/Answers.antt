@@ -1,7 +1,7 @@
 use Rattle.std.proofs.Common.{refl, sym}
 use Rattle.std.proofs.lemmas.List.{take_more}
 use Rattle.fcl_check.specs.Faults.{same_rule_line, rule_line_at}
-use Rattle.fcl_check.proofs.places.Places.{repeated_here}
+use Rattle.fcl_check.proofs.Places.{repeated_here}
 use Rattle.fcl_check.proofs.names.rule_lines.Goals as goal
 
 pub returns-then-has_rule_line : goal.returns-then-has_rule_line

@@ -1,6 +1,6 @@
 use Rattle.std.proofs.Common.{◌≡◌, Err, rules, refl, sym}
-use Rattle.fcl_check.proofs.naming.DeclaredNames.{section_twice, line_twice, section_once, sections_more}
-use Rattle.fcl_check.proofs.places.Places.{read_further}
+use Rattle.fcl_check.proofs.DeclaredNames.{section_twice, line_twice, section_once, sections_more}
+use Rattle.fcl_check.proofs.Places.{read_further}
 use Rattle.fcl_check.proofs.names.sections.Goals as goal
 
 pub returns-then-contains_key-clause-fault : goal.returns-then-contains_key-clause-fault

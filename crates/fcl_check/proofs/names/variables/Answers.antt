@@ -1,7 +1,6 @@
 use Rattle.std.proofs.Common.{◌≡◌, Err, take, length-take, rules, arith}
 use Rattle.fcl_syntax.specs.declared.tree.Direction.TheVariants.{Input, Output}
-use Rattle.fcl_check.proofs.naming.DeclaredNames.{count_bound, variables_more, counts_more, variables_once}
-use Rattle.fcl_check.proofs.naming.DeclaredNames.{variables_twice}
+use Rattle.fcl_check.proofs.DeclaredNames.{count_bound, variables_more, counts_more, variables_once, variables_twice}
 use Rattle.fcl_check.proofs.names.variables.Goals as goal
 
 pub next-requires : goal.next-requires

@@ -1,26 +1,17 @@
 use Rattle.std.proofs.Common.{refl, sym, ◌∙◌}
-use Rattle.std.proofs.lemmas.Fn.{says_at}
-use Rattle.std.proofs.lemmas.List.{append-nil}
-use Rattle.fcl_check.proofs.trees.ConditionParts.{and_kind, first_place, or_kind}
+use Rattle.std.proofs.lemmas.{Fn.says_at, List.append-nil}
+use Rattle.fcl_check.proofs.ConditionParts.{and_kind, first_place, or_kind}
 use Rattle.fcl_check.proofs.operands.+operands.Goals as goal
 
 pub first_in_or-loop-alternative-init : goal.first_in_or-loop-alternative-init
 first_in_or-loop-alternative-init g t c = λ places says.
     let none = sym (c.first_in_and.ensures places says) ∙ c.in_default.is in
-    rw (
-      c.deref-alternative-items.ensures.value,
-      first_place or_kind c.or.inside.more.items c.or.view_is places,
-      none,
-    ) refl
+    rw (c.deref-alternative-items.ensures.value, first_place or_kind _ c.or.view_is places, none) refl
 
 pub first_in_and-loop-conjunct-init : goal.first_in_and-loop-conjunct-init
 first_in_and-loop-conjunct-init g t c = λ places says.
     let none = sym (c.first_in_not.ensures places says) ∙ c.in_default.is in
-    rw (
-      c.deref-conjunct-items.ensures.value,
-      first_place and_kind c.and.inside.more.items c.and.view_is places,
-      none,
-    ) refl
+    rw (c.deref-conjunct-items.ensures.value, first_place and_kind _ c.and.view_is places, none) refl
 
 pub first_in_not-returns-in-Is : goal.first_in_not-returns-in-Is
 first_in_not-returns-in-Is g t c = λ places says.

@@ -1,4 +1,4 @@
-use Rattle.fcl_check.proofs.faultless.Faultless.{default_there}
+use Rattle.fcl_check.proofs.Faultless.{default_there}
 use Rattle.fcl_check.proofs.outputs.default.Goals as goal
 
 pub unwrap-requires : goal.unwrap-requires

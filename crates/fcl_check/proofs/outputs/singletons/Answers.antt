@@ -1,4 +1,4 @@
-use Rattle.fcl_check.proofs.ranges.Ranges.{no-singleton, singletons-more, singletons-passed}
+use Rattle.fcl_check.proofs.Ranges.{no-singleton, singletons-more, singletons-passed}
 use Rattle.fcl_check.proofs.outputs.singletons.Goals as goal
 use Rattle.fcl_check.proofs.outputs.singletons.Goals.{in-Singleton+in_ok-push, in_default}
 

@@ -1,5 +1,5 @@
 use Rattle.fcl_check.specs.Spans.{ends_in}
-use Rattle.fcl_check.proofs.ranges.Ranges.{output_hull-in}
+use Rattle.fcl_check.proofs.Ranges.{output_hull-in}
 use Rattle.fcl_check.proofs.outputs.wide_hull.Goals as goal
 
 pub widened-requires : goal.widened-requires

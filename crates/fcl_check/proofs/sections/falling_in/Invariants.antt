@@ -1,6 +1,6 @@
 use Rattle.std.proofs.Common.{◌≡◌, drop}
 use Rattle.fcl_check.specs.{Places.first, Sections.falling_in}
-use Rattle.fcl_check.proofs.courses.CourseSteps.{falling_from}
+use Rattle.fcl_check.proofs.CourseSteps.{falling_from}
 use Rattle.fcl_check.proofs.sections.falling_in.Given as goal
 
 abbrev pub invariant-loop-point : goal.invariant-loop-point

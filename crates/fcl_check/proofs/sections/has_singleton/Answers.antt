@@ -1,10 +1,9 @@
 use Rattle.std.proofs.Common.{◌∙◌, rules, tests}
+use Rattle.std.proofs.lemmas.{Iterator.YieldsList-from_slice, Iterator.Search.any_from_yields_List}
 use Rattle.std.specs.Prelude.{is_some}
-use Rattle.std.proofs.lemmas.Iterator.{YieldsList-from_slice}
-use Rattle.std.proofs.lemmas.Iterator.Search.{any_from_yields_List}
 use Rattle.fcl_syntax.specs.declared.tree.DefuzzyLine.{DefuzzyLine}
 use Rattle.fcl_check.specs.Names.{singleton_of}
-use Rattle.fcl_check.proofs.places.Places.{any_found}
+use Rattle.fcl_check.proofs.Places.{any_found}
 use Rattle.fcl_check.proofs.sections.has_singleton.Goals as goal
 
 pub returns : goal.returns

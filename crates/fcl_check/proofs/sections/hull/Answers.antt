@@ -1,10 +1,9 @@
-use Rattle.std.proofs.Common.{◌∙◌, option_map}
+use Rattle.std.proofs.Common.{◌∙◌, option_map, arith, rules}
 use Rattle.std.proofs.lemmas.Grind.{common_steps}
-use Rattle.std.proofs.Common.{arith, rules}
 use Rattle.fcl_check.specs.Spans.{ends_in}
-use Rattle.fcl_check.proofs.ranges.Ranges.{hull_term}
-use Rattle.fcl_check.proofs.sections.hull.Goals as goal
+use Rattle.fcl_check.proofs.Ranges.{hull_term}
 use Rattle.fcl_check.proofs.sections.hull.Goals.{in-Term, in_default}
+use Rattle.fcl_check.proofs.sections.hull.Goals as goal
 
 pub loop-line-preserved : goal.loop-line-preserved
 loop-line-preserved c =

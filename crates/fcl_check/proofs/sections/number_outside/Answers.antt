@@ -1,5 +1,5 @@
 use Rattle.std.proofs.Common.{rules}
-use Rattle.fcl_check.proofs.places.Places.{flat_map-filter_map}
+use Rattle.fcl_check.proofs.Places.{flat_map-filter_map}
 use Rattle.fcl_check.proofs.sections.number_outside.Goals as goal
 
 pub returns : goal.returns

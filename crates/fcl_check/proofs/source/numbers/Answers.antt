@@ -1,5 +1,5 @@
 use Rattle.std.proofs.Common.{arith, sym, ◌∙◌}
-use Rattle.fcl_check.proofs.naming.KnownNames.{number_few, term_few}
+use Rattle.fcl_check.proofs.Faultless.{number_few, term_few}
 use Rattle.fcl_check.proofs.source.numbers.Goals as goal
 
 pub overflow_cast-result : goal.overflow_cast-result

@@ -1,7 +1,7 @@
 use Rattle.std.proofs.Common.{sym, arith, ◌∙◌}
 use Rattle.fcl_check.specs.Loaded.{IsVariableNamed}
-use Rattle.fcl_check.proofs.faultless.Faultless.{IsVariableNamed-read, IsWellFormed-read, kind_read, part_read}
-use Rattle.fcl_check.proofs.naming.Naming.{named-more, unnamed-more}
+use Rattle.fcl_check.proofs.Faultless.{IsVariableNamed-read, IsWellFormed-read, kind_read, part_read}
+use Rattle.fcl_check.proofs.Naming.{named-more, unnamed-more}
 use Rattle.fcl_check.proofs.variables.variables.Goals as goal
 use Rattle.fcl_check.proofs.variables.variables.Goals.{then-eq+in_ok-from_section+in_ok-push, else-eq}
 
@@ -29,27 +29,21 @@ each-preserved g c =
 
 pub unwrap-part-requires : goal.unwrap-part-requires
 unwrap-part-requires g c =
-    part_read g.V.FromSection.side g.V.FromSection.as_section g.V.FromSection.IsWellFormed c.args.tree.now
-    c.requires.well_formed c.deref-direction-items.result.now c.each.direction-index _
-    (c.deref-direction-items.ensures.value ∙ c.requires.known.declared) (omega arith)
-    (sym (rw c.direction.ensures at c.eq.ensures) ∙ c.if-eq.true) _ c.letters.ensures c.section.result
-    (c.section.ensures c.args.tree.now c.requires.known)
+    part_read _ _ _ c.args.tree.now c.requires.well_formed _ c.each.direction-index _
+    (c.deref-direction-items.ensures.value ∙ c.requires.known.declared) _ c.letters.ensures _ (omega arith)
+    (sym (rw c.direction.ensures at c.eq.ensures) ∙ c.if-eq.true) (c.section.ensures c.args.tree.now c.requires.known)
 
 pub unwrap-section-requires : goal.unwrap-section-requires
 unwrap-section-requires g c =
-    kind_read g.V.FromSection.side g.V.FromSection.as_section g.V.FromSection.IsWellFormed c.args.tree.now
-    c.requires.well_formed c.deref-direction-items.result.now c.each.direction-index _
-    (c.deref-direction-items.ensures.value ∙ c.requires.known.declared) (omega arith)
-    (sym (rw c.direction.ensures at c.eq.ensures) ∙ c.if-eq.true) _ c.letters.ensures c.section.result
-    (c.section.ensures c.args.tree.now c.requires.known)
+    kind_read _ _ _ c.args.tree.now c.requires.well_formed _ c.each.direction-index _
+    (c.deref-direction-items.ensures.value ∙ c.requires.known.declared) _ c.letters.ensures _ (omega arith)
+    (sym (rw c.direction.ensures at c.eq.ensures) ∙ c.if-eq.true) (c.section.ensures c.args.tree.now c.requires.known)
     c.unwrap-part.result c.unwrap-part.ensures c.section-then-eq.result c.section-then-eq.ensures
 
 pub from_section-requires : goal.from_section-requires
 from_section-requires g c =
-    IsWellFormed-read g.V.FromSection.side g.V.FromSection.as_section g.V.FromSection.IsWellFormed c.args.tree.now
-    c.requires.well_formed c.deref-direction-items.result.now c.each.direction-index _
-    (c.deref-direction-items.ensures.value ∙ c.requires.known.declared) (omega arith)
-    (sym (rw c.direction.ensures at c.eq.ensures) ∙ c.if-eq.true) _ c.letters.ensures c.section.result
-    (c.section.ensures c.args.tree.now c.requires.known)
+    IsWellFormed-read _ _ _ c.args.tree.now c.requires.well_formed _ c.each.direction-index _
+    (c.deref-direction-items.ensures.value ∙ c.requires.known.declared) _ c.letters.ensures _ (omega arith)
+    (sym (rw c.direction.ensures at c.eq.ensures) ∙ c.if-eq.true) (c.section.ensures c.args.tree.now c.requires.known)
     c.unwrap-part.result c.unwrap-part.ensures c.unwrap-section.result.now
     (rw c.unwrap-section.ensures at c.section-then-eq.ensures)

@@ -1,6 +1,6 @@
 use Rattle.std.proofs.Common.{rules, refl}
 use Rattle.std.proofs.lemmas.Fn.{says_at}
-use Rattle.fcl_check.proofs.places.Places.{found_here, none_here}
+use Rattle.fcl_check.proofs.Places.{found_here, none_here}
 use Rattle.fcl_check.proofs.walk.first_at.Goals as goal
 
 pub returns-in-Some : goal.returns-in-Some

@@ -1,6 +1,5 @@
 use Rattle.std.proofs.Common.{◌≡◌, ℕ, List, Option, drop}
-use Rattle.std.specs.Fn.{FnReturnsAt}
-use Rattle.std.specs.List.{flat_map}
+use Rattle.std.specs.{Fn.FnReturnsAt, List.flat_map}
 use Rattle.fcl_check.specs.Places.{first}
 use Rattle.fcl_check.proofs.walk.first_at.Given as goal
 

@@ -1,5 +1,5 @@
 use Rattle.std.proofs.Common.{rules}
-use Rattle.fcl_check.proofs.courses.CourseSteps.{rising, falling, beginning, going-on}
+use Rattle.fcl_check.proofs.CourseSteps.{rising, falling, beginning, going-on}
 use Rattle.fcl_check.proofs.inputs.Corners.with.Goals as goal
 
 pub returns-in-false-None : goal.returns-in-false-None

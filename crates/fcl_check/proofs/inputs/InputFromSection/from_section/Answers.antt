@@ -1,5 +1,5 @@
 use Rattle.fcl_check.specs.Spans.{ends_in}
-use Rattle.fcl_check.proofs.faultless.Faultless.{input_range_there, mapped_there}
+use Rattle.fcl_check.proofs.Faultless.{input_range_there, mapped_there}
 use Rattle.fcl_check.proofs.inputs.InputFromSection.from_section.Goals as goal
 
 pub unwrap-span-requires : goal.unwrap-span-requires

@@ -1,5 +1,5 @@
 use Rattle.fcl_check.specs.Spans.{ends_in}
-use Rattle.fcl_check.proofs.faultless.Faultless.{mapped_there, output_range_there}
+use Rattle.fcl_check.proofs.Faultless.{mapped_there, output_range_there}
 use Rattle.fcl_check.proofs.outputs.OutputFromSection.from_section.Goals as goal
 
 pub unwrap-span-requires : goal.unwrap-span-requires

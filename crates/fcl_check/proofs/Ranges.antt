@@ -1,8 +1,8 @@
 -- Ranges of written numbers: what lies in them, and that they are in scale.
-use Rattle.std.proofs.lemmas.List.{at_drop_more, append-nil, map-append}
-use Rattle.std.proofs.lemmas.{Int.ints, Int.clamps, Bool.cases_Bool, Bool.Decides.Decides-int_eq}
 use Rattle.std.proofs.Common.{◌≡◌, ℕ, ◌+◌, ◌<◌, List, [], ◌∷◌, ◌++◌, drop, get_or, length, map, Option, Some, None}
 use Rattle.std.proofs.Common.{refl, ap, sym, ◌∙◌, arith, cond, true, false, option_map, not, subst, inl, inr, take}
+use Rattle.std.proofs.lemmas.List.{at_drop_more, append-nil, map-append}
+use Rattle.std.proofs.lemmas.{Int.ints, Int.clamps, Bool.cases_Bool, Bool.Decides.Decides-int_eq}
 use Rattle.std.specs.Prelude.{ℤ, pos, neg_ℤ, ◌≤ℤ◌, ◌+ℤ◌, ◌<ℤ◌, int_lt}
 use Rattle.std.specs.List.{filter_map, flat_map, AllByRecursion, cons_option}
 use Rattle.std.specs.{Int.int_min, Int.int_max, Ordering.int_eq}
@@ -25,9 +25,8 @@ use Rattle.fcl_check.specs.Sections.{fuzzy_range, hull_of, magnitude, number_lin
 use Rattle.fcl_check.specs.Sections.{is_empty_range, lies_in}
 use Rattle.fcl_check.specs.Loaded.{given_or, input_range, widened, output_hull}
 use Rattle.fcl_check.specs.{Steps.extended, Kept.IsKept, Kept.NumbersAreKept, Places.at_if}
-use Rattle.fcl_check.proofs.places.Places.{map-cons_option}
-use Rattle.fcl_check.proofs.{lists.Elements.all_weaker, lists.Elements.filter_map-next, faultless.Faultless.no_place}
-use Rattle.fcl_check.proofs.faultless.Faultless.{nowhere}
+use Rattle.fcl_check.proofs.{Places.map-cons_option, Elements.all_weaker, Elements.filter_map-next}
+use Rattle.fcl_check.proofs.{Faultless.no_place, Faultless.nowhere}
 
 -- ---- The reach of numbers, from the reach of those before.
 
@@ -300,7 +299,8 @@ module _ (lines read : List DefuzzyLine) (i : ℕ) (d : DefuzzyLine) (same : rea
       ap (map (λ (n : ℤ × ℕ). n.0)) (filter_map-next number_line lines read i d same within)
       ∙ map-append (λ (n : ℤ × ℕ). n.0) (filter_map number_line (take i lines))
       (cons_option (number_line (get_or read i d)) [])
-      ∙ ap (λ ns. numbers (take i lines) ++ ns) (map-cons_option (λ (n : ℤ × ℕ). n.0) (number_line (get_or read i d)) [])
+      ∙ ap (λ ns. numbers (take i lines) ++ ns)
+      (map-cons_option (λ (n : ℤ × ℕ). n.0) (number_line (get_or read i d)) [])
 
   pub hull-found : (hull : Option Ends) (x : ℤ) → hull ≡ hull_of (numbers (take i lines))
       → Some x ≡ option_map (λ (n : ℤ × ℕ). n.0) (number_line (get_or read i d))

@@ -46,17 +46,15 @@ pub all_related : {X Y : Type 0} (P : X → Type 0) (R : X → Y → Type 0) (Q 
     → ((x : X) (y : Y) → P x → R x y → Q y) → (xs : List X) (ys : List Y)
     → AllByRecursion P xs → AllZip R xs ys → AllByRecursion Q ys
 all_related P R Q image [] [] all zip = tt
-all_related P R Q image [] (y ∷ ys) all zip = absurd zip
-all_related P R Q image (x ∷ xs) [] all zip = absurd zip
 all_related P R Q image (x ∷ xs) (y ∷ ys) all zip = (image x y all.0 zip.0, all_related P R Q image xs ys all.1 zip.1)
+all_related P R Q image _ _ all zip = absurd zip
 
 pub all_images : {X Y : Type 0} (R : X → Y → Type 0) (Q : Y → Type 0) → ((x : X) (y : Y) → R x y → Q y)
     → (xs : List X) (ys : List Y) → AllZip R xs ys
     → AllByRecursion Q ys
 all_images R Q image [] [] zip = tt
-all_images R Q image [] (y ∷ ys) zip = absurd zip
-all_images R Q image (x ∷ xs) [] zip = absurd zip
 all_images R Q image (x ∷ xs) (y ∷ ys) zip = (image x y zip.0, all_images R Q image xs ys zip.1)
+all_images R Q image _ _ zip = absurd zip
 
 -- ---- Lists that are built from others one by one.
 

@@ -12,7 +12,7 @@ use Rattle.fcl_syntax.specs.declared.tree.{Conclusion.Conclusion, Defuzzify.Defu
 use Rattle.fcl_syntax.specs.declared.tree.{Direction.TheVariants.Input, Direction.TheVariants.Output}
 use Rattle.fcl_syntax.specs.declared.tree.{FunctionBlock.FunctionBlock, Fuzzify.Fuzzify, Name.Name, Part.Part}
 use Rattle.fcl_syntax.specs.declared.tree.{Rule.Rule, DefuzzyLine.DefuzzyLine, SignedNumber.SignedNumber, Point.Point}
-use Rattle.fcl_syntax.specs.declared.tree.{Range.Range, Term.Term, Tree.Tree}
+use Rattle.fcl_syntax.specs.declared.tree.{Range.Range, Term.Term, Tree.Tree, Singleton.Singleton}
 use Rattle.fcl_syntax.specs.declared.tree.Part.TheVariants as part
 use Rattle.fcl_syntax.specs.declared.tree.Direction.TheVariants as side
 use Rattle.fcl_syntax.specs.declared.tree.DefuzzyLine.TheVariants as defuzzy
@@ -27,18 +27,20 @@ use Rattle.fcl_check.specs.Faults.{weight_outside, wrong_side, is_over, most_of,
 use Rattle.fcl_check.specs.Faults.{without_section}
 use Rattle.fcl_check.specs.Names.{as_defuzzify, as_fuzzify, defuzzify_of, fuzzify_of, is_direction, is_named, letters}
 use Rattle.fcl_check.specs.Names.{section_of, section_name, term_number, Declared, declared_in, direction_of}
-use Rattle.fcl_check.specs.Names.{singleton_of, terms_of}
+use Rattle.fcl_check.specs.Names.{singleton_of, terms_of, declared_as, number_in, singleton_names, singletons_of}
+use Rattle.fcl_check.specs.Names.{term_names, variable_number}
 use Rattle.fcl_check.specs.Places.{at_if, at_some, first, at_each, drop_while}
 use Rattle.fcl_check.specs.Sections.{bad_range, falling_points, incomplete, numbers_outside, points_outside}
 use Rattle.fcl_check.specs.Sections.{shapeless_terms, terms_over_limit, without_terms, Ends, default_of}
 use Rattle.fcl_check.specs.Sections.{defuzzy_range, fallback_number, fuzzy_range, has_one, has_shape, has_zero}
 use Rattle.fcl_check.specs.Sections.{hull_of, method_line, number_line, points_of, value, x_of}
-use Rattle.fcl_check.specs.Loaded.{abscissa_of, given_or, input_range, output_hull, output_range, widened}
+use Rattle.fcl_check.specs.Loaded.{abscissa_of, given_or, input_range, output_hull, output_range, widened, or_zero}
 use Rattle.fcl_check.specs.{declared.fault.LoadFault.LoadFault, Steps.room_behind, declared.checks.Room.Room}
-use Rattle.fcl_check.specs.{ByLetters.names_of, declared.inputs.Corners.Corners, Corners.AreCornersOf}
-use Rattle.fcl_check.proofs.places.Places.{first-append, first-map, first-map-drop}
-use Rattle.fcl_check.proofs.{lists.Elements.drop_while-all, lists.Elements.none-passes, naming.Naming.same-direction}
-use Rattle.fcl_check.proofs.naming.Naming.{section-at}
+use Rattle.fcl_check.specs.{ByLetters.names_of, ByLetters.variable_in, declared.inputs.Corners.Corners}
+use Rattle.fcl_check.specs.{Corners.AreCornersOf, declared.names.Variable.Variable}
+use Rattle.fcl_check.proofs.Places.{first-append, first-map, first-map-drop}
+use Rattle.fcl_check.proofs.Naming.{same-direction, section-at, number_within}
+use Rattle.fcl_check.proofs.Elements.{drop_while-all, none-passes}
 
 -- ---- lists without items
 
@@ -89,22 +91,19 @@ known_side side (Some d) at h k =
 
 known_number : (test : Bool) (o : Option ℕ) (at : ℕ) → test ≡ true → at_if (test && is_none o) at ≡ []
     → (n : ℕ) × (o ≡ Some n)
-known_number true None at h k = absurd cc
 known_number true (Some n) at h k = (n, refl)
-known_number false o at h k = absurd cc
+known_number _ _ at h k = absurd cc
 
 -- ---- sections by their sort
 
 fuzzify_found : (o : Option Part) (s : Fuzzify) → option_and_then as_fuzzify o ≡ Some s → o ≡ Some (part.Fuzzify s)
-fuzzify_found None s h = cc
 fuzzify_found (Some (part.Fuzzify f)) s h = cc
-fuzzify_found (Some (part.Defuzzify f)) s h = cc
+fuzzify_found _ s h = cc
 
 defuzzify_found : (o : Option Part) (s : Defuzzify) → option_and_then as_defuzzify o ≡ Some s
     → o ≡ Some (part.Defuzzify s)
-defuzzify_found None s h = cc
-defuzzify_found (Some (part.Fuzzify f)) s h = cc
 defuzzify_found (Some (part.Defuzzify f)) s h = cc
+defuzzify_found _ s h = cc
 
 module _ (text : List ℕ) (b : FunctionBlock) where
   known : (side : Direction) (v t : Name) → unknown_pair text b side v t ≡ [] → mistaken text b side v ≡ []
@@ -434,9 +433,8 @@ output_range_there s h =
 -- ---- DEFAULT
 
 neither : {X : Type 0} (test : Bool) (o : Option X) → (test || is_none o) ≡ false → IsSome o
-neither true o h = cc
-neither false None h = cc
 neither false (Some x) h = refl
+neither _ _ h = cc
 
 pub default_there : (s : Defuzzify) → incomplete (part.Defuzzify s) ≡ [] → IsSome (default_of s)
 default_there s h = neither (is_none (first (filter_map method_line s.lines))) (default_of s) (no_place _ s.end h)
@@ -455,9 +453,8 @@ sided_section text b (part.Defuzzify s) = refl
 
 pub as_side : (side x : Direction) → is_direction side x ≡ true → x ≡ side
 as_side Input Input h = refl
-as_side Input Output h = cc
-as_side Output Input h = cc
 as_side Output Output h = refl
+as_side _ _ h = cc
 
 found-passes : {X : Type 0} (test : X → Bool) (xs : List X) (x : X) → find test xs ≡ Some x → test x ≡ true
 found-passes test [] x h = cc
@@ -596,9 +593,9 @@ IsVariableNamed-read as_section IsOf tree ls ms o p s y spelled looked unwrapped
 
 module _ {S : Type 0} (side : Direction) (as_section : Part → Option S) (IsWellFormed : S → Type 0) (tree : Tree)
     (have : All (HasSection side as_section IsWellFormed tree.text.items tree.block) (declared_in tree.block))
-    (read : List Declared) (i : ℕ) (d : Declared) (same : read ≡ declared_in tree.block) (within : i < length read)
-    (sided : sameb the_type (get_or read i d).0 side ≡ true) (ls : List ℕ)
-    (spelled : ls ≡ letters tree.text.items (get_or read i d).1) (o : Option (Bor Part))
+    (read : List Declared) (i : ℕ) (d : Declared) (same : read ≡ declared_in tree.block) (ls : List ℕ)
+    (spelled : ls ≡ letters tree.text.items (get_or read i d).1) (o : Option (Bor Part)) (within : i < length read)
+    (sided : sameb the_type (get_or read i d).0 side ≡ true)
     (looked : option_map (λ (q : Bor Part). q.now) o ≡ section_of tree.text.items tree.block ls) where
   there : (s : S) × (option_and_then as_section
       (section_of tree.text.items tree.block (letters tree.text.items (get_or read i d).1)) ≡ Some s) × IsWellFormed s
@@ -621,3 +618,60 @@ module _ {S : Type 0} (side : Direction) (as_section : Part → Option S) (IsWel
 
     pub IsWellFormed-read : (s : S) → Some s ≡ as_section p.now → IsWellFormed s
     IsWellFormed-read s is = subst IsWellFormed (same_Some there.0 s (sym as_section-part ∙ sym is)) there.2
+
+-- ---- The numbers of known names: they are there, and bytes.
+
+-- ---- numbers
+
+or_zero-le : (o : Option ℕ) (n : ℕ) → ((k : ℕ) → o ≡ Some k → k ≤ n) → or_zero o ≤ n
+or_zero-le None n few = omega arith
+or_zero-le (Some k) n few = few k refl
+
+most-le : (side : Direction) → most_of side ≤ 8
+most-le Input = omega arith
+most-le Output = omega arith
+
+declared_so : (side : Direction) (o : Option Direction) → is_some_direction side o ≡ true → o ≡ Some side
+declared_so side None h = cc
+declared_so side (Some d) h = ap Some (as_side side d h)
+
+few_in : {X : Type 0} (text : List ℕ) (ls : List ℕ) (names : X → List Name) (o : Option X) (n : ℕ)
+    → ((x : X) → o ≡ Some x → length (names x) ≤ 15)
+    → option_and_then (λ x. number_in text (names x) ls) o ≡ Some n → n ≤ 15
+few_in text ls names None n few e = absurd cc
+few_in text ls names (Some x) n few e = omega (arith, few x refl, (number_within text (names x) ls n e).1)
+
+module _ (text : List ℕ) (b : FunctionBlock) (well_formed : first_fault text b ≡ None) where
+  variable_few : (side : Direction) (ls : List ℕ) → or_zero (variable_number text b side ls) ≤ 8
+  variable_few side ls =
+      let many = no_items (at_each over [] (declared_in b)) _ (faultless text b well_formed).counts in
+      let few = few_names side [] (declared_in b) (omega arith) many.0 in
+      or_zero-le (variable_number text b side ls) 8
+      (λ k e. omega (arith, (number_within text (declared_as side b) ls k e).1, few, most-le side))
+
+  pub term_few : (side : Direction) (ls ts : List ℕ) (n : ℕ) → term_number text b side ls ts ≡ Some n → n ≤ 15
+  term_few Input ls ts n e = few_in text ts term_names (fuzzify_of text b ls) n (λ s h. omega (
+    arith,
+    few_items 15 (λ (t : Term). t.name.at) (terms_of s) (well_formed_input text b (faultless text b well_formed) ls s
+        h).few,
+    length-map (terms_of s) (λ (t : Term). t.name),
+  )) e
+  term_few Output ls ts n e = few_in text ts singleton_names (defuzzify_of text b ls) n
+      (λ s h. omega (
+        arith,
+        few_items 15 (λ (t : Singleton). t.name.at) (singletons_of s)
+            (well_formed_output text b (faultless text b well_formed) ls s h).few,
+        length-map (singletons_of s) (λ (t : Singleton). t.name),
+      )) e
+
+  pub number_few : (side : Direction) (v t : Name) (ls : List ℕ) (d : Variable) → IsKnown text b side v t
+      → ls ≡ letters text v
+      → Some d ≡ variable_in text (declared_in b) ls → d.number ≤ 8
+  number_few side v t ls d known spelled found =
+      let numbered : Direction → Variable =
+      λ (d : Direction). record
+      { direction = d; number = or_zero (number_in text (names_of d (declared_in b)) (letters text v)) } in
+      let there : variable_in text (declared_in b) (letters text v) ≡ Some (numbered side) =
+      ap (option_map numbered) (declared_so side (direction text b v) known.declared) in
+      let same : d ≡ numbered side = (let e : Some d ≡ Some (numbered side) = (rw spelled at found) ∙ there in cc) in
+      rw same (variable_few side (letters text v))

@@ -1,20 +1,17 @@
 -- An AND or an OR with its parts: what it comes to, that they are smaller, and which names they have.
-use Rattle.std.proofs.Common.{◌≡◌, ℕ, zero, suc, ◌+◌, ◌<◌, ◌≤◌, Bool, true, false, List, [], ◌∷◌, ◌++◌, get_or, length}
-use Rattle.std.proofs.Common.{map, take, refl, sym, ap, subst, ◌∙◌, arith}
+use Rattle.std.proofs.Common.{◌≡◌, ℕ, zero, suc, ◌+◌, ◌<◌, ◌≤◌, Bool, true, false, List, [], ◌∷◌, ◌++◌, Option}
+use Rattle.std.proofs.Common.{get_or, length, map, take, refl, sym, ap, subst, ◌∙◌, arith}
+use Rattle.std.proofs.lemmas.{Bool.eqb-true, Bool.eqb-false, List.map-append, List.take_all, Grind.flat_map-append}
 use Rattle.std.proofs.Math.Dec.{eqb}
-use Rattle.std.proofs.lemmas.Bool.{eqb-true, eqb-false}
-use Rattle.std.proofs.lemmas.List.{map-append, take_all}
-use Rattle.std.proofs.lemmas.Grind.{flat_map-append}
-use Rattle.std.specs.List.{AllByRecursion, flat_map}
-use Rattle.std.specs.Option.{option_or}
+use Rattle.std.specs.{List.AllByRecursion, List.flat_map, Option.option_or}
+use Rattle.fcl_syntax.specs.declared.tree.{Name.Name, Operand.Operand}
 use Rattle.fuzzy_meaning.specs.Conditions.{Condition, Conditions, all, also, any, conditions}
-use Rattle.fcl_syntax.specs.declared.tree.Name.{Name}
 use Rattle.fcl_syntax.specs.Grammar.{TNot, TAnd, TOr, and_of, or_of}
 use Rattle.fcl_syntax.specs.Conditions.{nots_of, ands_of, not_size, nots_size, and_size, ands_size, or_size}
 use Rattle.fcl_check.specs.Faults.{Pair, and_pairs, ands_pairs, not_pairs, nots_pairs, or_pairs}
 use Rattle.fcl_check.specs.Loaded.{not_condition, nots_conditions, and_condition, ands_conditions, or_condition}
-use Rattle.fcl_check.specs.Places.{first as first_at}
-use Rattle.fcl_check.proofs.{lists.Elements.parts_of, places.Places.read_further, places.Places.first-append}
+use Rattle.fcl_check.specs.{Places.first as first_at, Steps.pair_of}
+use Rattle.fcl_check.proofs.{Elements.parts_of, Places.read_further, Places.first-append}
 
 -- AND and its parts, or OR and its parts
 pub record Kind (X W : Type 0) : Type 0 where
@@ -135,6 +132,12 @@ module _ {X W : Type 0} (k : Kind X W) where
 
   abbrev pub places_in : (Pair → List ℕ) → ℕ × X → List ℕ
   places_in places x = flat_map places (k.pairs x.1)
+
+  -- the parts that are left have the first place of all, whichever places an operand's answers tell of
+  abbrev pub HaveFirst : (Operand → Option ℕ → Type 0) → List (ℕ × X) → W → Type 0
+  HaveFirst answers left whole =
+      (places : Pair → List ℕ) → ((o : Operand) (at : Option ℕ) → answers o at → at ≡ first_at (places (pair_of o)))
+      → first_at (flat_map (places_in places) left) ≡ first_at (flat_map places (k.pairs_whole whole))
 
   places_of : (places : Pair → List ℕ) (xs : List (ℕ × X))
       → flat_map places (k.all_pairs xs) ≡ flat_map (places_in places) xs

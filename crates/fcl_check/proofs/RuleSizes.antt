@@ -25,7 +25,7 @@ use Rattle.fcl_syntax.specs.declared.token.Token.TheVariants as tok
 use Rattle.fcl_check.specs.Loaded.{not_condition, nots_conditions, and_condition, ands_conditions, or_condition}
 use Rattle.fcl_check.specs.Loaded.{IsRuleOf, conclusion_of, literal_of}
 use Rattle.fcl_check.specs.Faults.{Pair, and_pairs, ands_pairs, not_pairs, nots_pairs, or_pairs, conclusions_of}
-use Rattle.fcl_check.proofs.lists.Elements.{parts_of}
+use Rattle.fcl_check.proofs.Elements.{parts_of}
 
 -- ---- How deep the condition of a text is, and how many conditions there are: no more than the text's offsets.
 
@@ -144,6 +144,15 @@ module _ (f : Name → Name → Condition) where
 module _ (block : Block) (f : Name → Name → Condition) (P : Pair → Type 0)
     (valid : (v t : Name) → P (record { variable = v; term = t })
     → IsValidCondition block (f v t)) where
+  -- what follows from a clean text and its pairs follows of two texts, one behind the other
+  of_both : {A B : Type 0} (front back : List Sym) (ps qs : List Pair) → IsClean (front ++ back)
+      → AllByRecursion P (ps ++ qs) → (IsClean front → AllByRecursion P ps → A)
+      → (IsClean back → AllByRecursion P qs → B) → A × B
+  of_both front back ps qs clean all f g =
+      let both = clean_parts front back clean in
+      let pairs = parts_of P ps qs all in
+      (f both.0 pairs.0, g both.1 pairs.1)
+
   mutual
     valid_not : (t : TNot) (n : ℕ) → IsClean (not_text t n) → AllByRecursion P (not_pairs t)
         → IsValidCondition block (not_condition f t)
@@ -158,35 +167,31 @@ module _ (block : Block) (f : Name → Name → Condition) (P : Pair → Type 0)
         → AllHaveLiterals (HasTerm block) (nots_conditions f ts)
     valid_nots no_nots n clean all = tt
     valid_nots (more_nots at t ts) n clean all =
-        let both = clean_parts (not_text t n) (nots_text ts n) clean.1 in
-        let pairs = parts_of P (not_pairs t) (nots_pairs ts) all in
-        (valid_not t n both.0 pairs.0, valid_nots ts n both.1 pairs.1)
+        of_both (not_text t n) (nots_text ts n) (not_pairs t) (nots_pairs ts) clean.1 all (valid_not t n)
+        (valid_nots ts n)
 
     valid_and : (a : TAnd) (n : ℕ) → IsClean (and_text a n) → AllByRecursion P (and_pairs a)
         → IsValidCondition block (and_condition f a)
     valid_and (and_of t no_nots) n clean all =
         valid_not t n (clean_parts (not_text t n) [] clean).0 (parts_of P (not_pairs t) [] all).0
     valid_and (and_of t (more_nots at u ts)) n clean all =
-        let both = clean_parts (not_text t n) (nots_text (more_nots at u ts) n) clean in
-        let pairs = parts_of P (not_pairs t) (nots_pairs (more_nots at u ts)) all in
-        (valid_not t n both.0 pairs.0, valid_nots (more_nots at u ts) n both.1 pairs.1)
+        of_both (not_text t n) (nots_text (more_nots at u ts) n) (not_pairs t) (nots_pairs (more_nots at u ts)) clean all
+        (valid_not t n) (valid_nots (more_nots at u ts) n)
 
     valid_ands : (items : TAnds) (n : ℕ) → IsClean (ands_text items n) → AllByRecursion P (ands_pairs items)
         → AllHaveLiterals (HasTerm block) (ands_conditions f items)
     valid_ands no_ands n clean all = tt
     valid_ands (more_ands at a items) n clean all =
-        let both = clean_parts (and_text a n) (ands_text items n) clean.1 in
-        let pairs = parts_of P (and_pairs a) (ands_pairs items) all in
-        (valid_and a n both.0 pairs.0, valid_ands items n both.1 pairs.1)
+        of_both (and_text a n) (ands_text items n) (and_pairs a) (ands_pairs items) clean.1 all (valid_and a n)
+        (valid_ands items n)
 
     pub valid_or : (o : TOr) (n : ℕ) → IsClean (or_text o n) → AllByRecursion P (or_pairs o)
         → IsValidCondition block (or_condition f o)
     valid_or (or_of a no_ands) n clean all =
         valid_and a n (clean_parts (and_text a n) [] clean).0 (parts_of P (and_pairs a) [] all).0
     valid_or (or_of a (more_ands at c items)) n clean all =
-        let both = clean_parts (and_text a n) (ands_text (more_ands at c items) n) clean in
-        let pairs = parts_of P (and_pairs a) (ands_pairs (more_ands at c items)) all in
-        (valid_and a n both.0 pairs.0, valid_ands (more_ands at c items) n both.1 pairs.1)
+        of_both (and_text a n) (ands_text (more_ands at c items) n) (and_pairs a) (ands_pairs (more_ands at c items))
+        clean all (valid_and a n) (valid_ands (more_ands at c items) n)
 
 -- ---- The size of the rules of a text is no more than its offsets, and they are not too deep.
 
@@ -225,8 +230,6 @@ module _ (text : List ℕ) (b : FunctionBlock) where
   pub rule_sizes : (rs : List RuleNode) (qs : List Rule) → AllZip (IsRuleOf text b) rs qs
       → sum_by rule_size qs ≤ count (each rule_item_text (map view_rule_item rs))
   rule_sizes [] [] zip = omega arith
-  rule_sizes [] (q ∷ qs) zip = absurd zip
-  rule_sizes (r ∷ rs) [] zip = absurd zip
   rule_sizes (r ∷ rs) (q ∷ qs) zip =
       omega (
         arith,
@@ -235,6 +238,7 @@ module _ (text : List ℕ) (b : FunctionBlock) where
         rule_sizes rs qs zip.1,
         count-append (rule_item_text (view_rule_item r)) (each rule_item_text (map view_rule_item rs)),
       )
+  rule_sizes _ _ zip = absurd zip
 
 -- ---- the rules in the text of a block
 

@@ -18,9 +18,9 @@ use Rattle.fcl_check.specs.Places.{at_each, at_if, first, last, drop_while}
 use Rattle.fcl_check.specs.Sections.{falling_in, has_one, has_zero, is_below, points_of, x_of, has_shape}
 use Rattle.fcl_check.specs.{Loaded.number_of, Loaded.abscissa_of, declared.inputs.Corners.Corners}
 use Rattle.fcl_check.specs.Corners.{AreCornersOf}
-use Rattle.fcl_check.proofs.lists.Elements.{last-push, first-push, take_while-all, drop_while-all, list_all-push}
-use Rattle.fcl_check.proofs.lists.Elements.{take_while-push, drop_while-push, filter-pass, filter-fail, none-passes}
-use Rattle.fcl_check.proofs.lists.Elements.{one-passes}
+use Rattle.fcl_check.proofs.Elements.{last-push, first-push, take_while-all, drop_while-all, list_all-push}
+use Rattle.fcl_check.proofs.Elements.{take_while-push, drop_while-push, filter-pass, filter-fail, none-passes}
+use Rattle.fcl_check.proofs.Elements.{one-passes}
 
 -- ---- Points that ascend, and where they stand.
 

@@ -1,14 +1,14 @@
 -- The names that a tree declares, of variables, terms and sections, as one more is read.
+use Rattle.std.proofs.Common.{◌≡◌, ℕ, suc, ◌+◌, ◌<◌, ◌≤◌, Bool, true, false, cond, ◌&&◌, ◌||◌, List, [], ◌∷◌, ◌++◌}
+use Rattle.std.proofs.Common.{length, map, take, get_or, Option, Some, None, is_some, option_map, refl, ap, ◌∙◌}
+use Rattle.std.proofs.Common.{arith, length-append, sym, IfSome}
 use Rattle.std.proofs.lemmas.List.{append-nil, flat_map_more, take_more, map-append}
 use Rattle.std.proofs.lemmas.{List.Elements.filter_map-append, List.Elements.filter-append, List.Folds.find-append}
 use Rattle.std.proofs.lemmas.List.Folds.{list_any-append}
 use Rattle.std.proofs.Math.Bool.{or-false, or-true}
-use Rattle.std.proofs.Common.{◌≡◌, ℕ, suc, ◌+◌, ◌<◌, ◌≤◌, Bool, true, false, cond, ◌&&◌, ◌||◌, List, [], ◌∷◌, ◌++◌}
-use Rattle.std.proofs.Common.{length, map, take, get_or, Option, Some, None, is_some, option_map, refl, ap, ◌∙◌}
-use Rattle.std.proofs.Common.{arith, length-append, sym, IfSome}
-use Rattle.std.specs.List.{find, list_any, filter, filter_map}
+use Rattle.std.specs.List.{cons_option, find, list_any, filter, filter_map}
 use Rattle.std.specs.Prelude.{if◌then◌else◌}
-use Rattle.std.specs.{BTreeMap.BTreeMap, BTreeMap.btree_map_len, Borrow.Bor, Option.option_or}
+use Rattle.std.specs.{BTreeMap.BTreeMap, BTreeMap.btree_map_len, Borrow.Bor, Option.option_map_or, Option.option_or}
 use Rattle.fcl_syntax.specs.declared.tree.{Declaration.Declaration, Direction.Direction, Direction.TheVariants.Input}
 use Rattle.fcl_syntax.specs.declared.tree.{Direction.TheVariants.Output, FunctionBlock.FunctionBlock, Name.Name}
 use Rattle.fcl_syntax.specs.declared.tree.{DefuzzyLine.DefuzzyLine, FuzzyLine.FuzzyLine, Range.Range}
@@ -20,14 +20,14 @@ use Rattle.fcl_check.specs.Faults.{repeated, same_declared, same_kind, same_line
 use Rattle.fcl_check.specs.Faults.{output_line_at, repeated_lines, repeated_section, same_section}
 use Rattle.fcl_check.specs.Places.{at_if, first, at_each}
 use Rattle.fcl_check.specs.Names.{Declared, is_direction, is_named, letters, number_in, singleton_of, section_name}
+use Rattle.fcl_check.specs.Names.{term_of}
 use Rattle.fcl_check.specs.{declared.fault.LoadFault.LoadFault, declared.names.Counts.Counts}
 use Rattle.fcl_check.specs.{declared.names.Variable.Variable, Loaded.or_zero, declared.names.Section.Section}
 use Rattle.fcl_check.specs.declared.fault.LoadFault.TheVariants as load
-use Rattle.fcl_check.proofs.naming.Naming.{is_some-map, names_declared, found_any, no_value, number_any, number_push}
-use Rattle.fcl_check.proofs.naming.Naming.{names_of_terms, names_of_singletons, is_range, is_other}
-use Rattle.fcl_check.proofs.places.Places.{Says, passed_by, place_here, repeated_here}
-use Rattle.fcl_check.proofs.places.Places.{repeated_more, first_at_here, first_at_more, list_any-all_walked}
-use Rattle.fcl_check.proofs.places.Places.{same_place}
+use Rattle.fcl_check.proofs.Naming.{names_declared, found_any, no_value, number_any, number_push, is_some-map}
+use Rattle.fcl_check.proofs.Naming.{names_of_terms, names_of_singletons, is_range, is_other}
+use Rattle.fcl_check.proofs.Places.{Says, passed_by, place_here, repeated_here, repeated_more, first_at_here}
+use Rattle.fcl_check.proofs.Places.{first_at_more, list_any-all_walked, same_place}
 
 -- ---- Declared variables with their numbers, as one more is declared.
 
@@ -273,12 +273,10 @@ number_taken text ns name m holds = ap is_some (holds.numbers (letters text name
 -- ---- lines
 
 module _ (text : List ℕ) (b : FunctionBlock) where
-  any_terms : (t : Term) (lines : List FuzzyLine)
-      → list_any (same_line text b (fuzzy.Term t)) lines ≡ list_any (is_named text (letters text t.name))
-      (names_of_terms lines)
-  any_terms t [] = refl
-  any_terms t (fuzzy.Term s ∷ lines) = ap (λ a. is_named text (letters text t.name) s.name || a) (any_terms t lines)
-  any_terms t (fuzzy.Range r ∷ lines) = any_terms t lines
+  pub same_terms : (t : Term) (l : FuzzyLine) → same_line text b (fuzzy.Term t) l
+      ≡ option_map_or (λ (s : Term). is_named text (letters text t.name) s.name) (term_of l) false
+  same_terms t (fuzzy.Term s) = refl
+  same_terms t (fuzzy.Range r) = refl
 
   any_ranges : (q : Range) (lines : List FuzzyLine)
       → list_any (same_line text b (fuzzy.Range q)) lines ≡ list_any is_range lines
@@ -286,13 +284,10 @@ module _ (text : List ℕ) (b : FunctionBlock) where
   any_ranges q (fuzzy.Term s ∷ lines) = any_ranges q lines
   any_ranges q (fuzzy.Range r ∷ lines) = refl
 
-  any_singletons : (t : Singleton) (lines : List DefuzzyLine)
-      → list_any (same_output_line text b (defuzzy.Singleton t)) lines ≡ list_any
-      (is_named text (letters text t.name)) (names_of_singletons lines)
-  any_singletons t [] = refl
-  any_singletons t (defuzzy.Singleton s ∷ lines) =
-      ap (λ a. is_named text (letters text t.name) s.name || a) (any_singletons t lines)
-  any_singletons t (_ ∷ lines) = any_singletons t lines
+  pub same_singletons : (t : Singleton) (l : DefuzzyLine) → same_output_line text b (defuzzy.Singleton t) l
+      ≡ option_map_or (λ (s : Singleton). is_named text (letters text t.name) s.name) (singleton_of l) false
+  same_singletons t (defuzzy.Singleton s) = refl
+  same_singletons t _ = refl
 
   -- lines that are no terms are the same where they are of one kind
   same_other : (x y : DefuzzyLine) → is_other x ≡ true → same_output_line text b x y ≡ same_kind x y
@@ -314,41 +309,13 @@ module _ (text : List ℕ) (b : FunctionBlock) where
   any_same x [] h = refl
   any_same x (y ∷ lines) h = rw (same_other x y h, any_same x lines h) refl
 
-names_with_term : (lines : List FuzzyLine) (t : Term)
-    → names_of_terms (lines ++ fuzzy.Term t ∷ []) ≡ names_of_terms lines ++ t.name ∷ []
-names_with_term [] t = refl
-names_with_term (fuzzy.Term s ∷ lines) t = ap (λ ns. s.name ∷ ns) (names_with_term lines t)
-names_with_term (fuzzy.Range r ∷ lines) t = names_with_term lines t
-
-names_with_range : (lines : List FuzzyLine) (q : Range)
-    → names_of_terms (lines ++ fuzzy.Range q ∷ []) ≡ names_of_terms lines
-names_with_range [] q = refl
-names_with_range (fuzzy.Term s ∷ lines) q = ap (λ ns. s.name ∷ ns) (names_with_range lines q)
-names_with_range (fuzzy.Range r ∷ lines) q = names_with_range lines q
-
-names_with_singleton : (lines : List DefuzzyLine) (t : Singleton)
-    → names_of_singletons (lines ++ defuzzy.Singleton t ∷ []) ≡ names_of_singletons lines ++
-    t.name ∷ []
-names_with_singleton [] t = refl
-names_with_singleton (defuzzy.Singleton s ∷ lines) t = ap (λ ns. s.name ∷ ns) (names_with_singleton lines t)
-names_with_singleton (_ ∷ lines) t = names_with_singleton lines t
-
-no_name : (x : DefuzzyLine) → is_other x ≡ true → names_of_singletons (x ∷ []) ≡ []
-no_name (defuzzy.Singleton s) h = cc
-no_name _ h = refl
+other_sort : (x : DefuzzyLine) → is_other x ≡ true → singleton_of x ≡ None
+other_sort (defuzzy.Singleton s) h = cc
+other_sort _ h = refl
 
 pub is_no_singleton : (x : DefuzzyLine) → ((t : Singleton) → x ≡ defuzzy.Singleton t → ⊥) → is_other x ≡ true
 is_no_singleton (defuzzy.Singleton s) h = absurd (h s refl)
 is_no_singleton _ h = refl
-
-names_with_other : (lines : List DefuzzyLine) (x : DefuzzyLine) → is_other x ≡ true
-    → names_of_singletons (lines ++ x ∷ []) ≡ names_of_singletons lines
-names_with_other lines x h =
-    let apart = filter_map-append singleton_of lines (x ∷ []) in
-    ap (λ (ts : List Singleton). map (λ (t : Singleton). t.name) ts) apart
-    ∙ map-append (λ (t : Singleton). t.name) (filter_map singleton_of lines)
-    (filter_map singleton_of (x ∷ [])) ∙ ap (λ ns. names_of_singletons lines ++ ns) (no_name x h)
-    ∙ append-nil (names_of_singletons lines)
 
 -- a name is added to a map, with the next number
 pub record IsAdded (text : List ℕ) (name : Name) (m n : BTreeMap (Bor (List ℕ)) ℕ) : Type 0 where
@@ -357,71 +324,126 @@ pub record IsAdded (text : List ℕ) (name : Name) (m n : BTreeMap (Bor (List �
       (cond (is_named text ls name) (Some (btree_map_len m + 1)) None)
   pub len : btree_map_len n ≡ btree_map_len m + 1
 
--- ---- steps over the lines of an input's section
+-- ---- steps over the lines of a section
+
+-- the lines with a name among those of a section, of an input or of an output
+pub record NamedLines (text : List ℕ) (L T : Type 0) : Type 0 where
+  pub of : T → L
+  pub sort : L → Option T
+  pub name : T → Name
+  pub same : L → L → Bool
+  pub place : L → ℕ
+  pub sorted : (t : T) → sort (of t) ≡ Some t
+  pub same_of : (t : T) (l : L)
+      → same (of t) l ≡ option_map_or (λ (s : T). is_named text (letters text (name t)) (name s)) (sort l) false
+
+abbrev pub term_lines : (text : List ℕ) → FunctionBlock → NamedLines text FuzzyLine Term
+term_lines text b = record {
+  of = λ t. fuzzy.Term t;
+  sort = term_of;
+  name = λ t. t.name;
+  same = same_line text b;
+  place = line_at;
+  sorted = λ t. refl;
+  same_of = same_terms text b;
+}
+
+abbrev pub singleton_lines : (text : List ℕ) → FunctionBlock → NamedLines text DefuzzyLine Singleton
+singleton_lines text b = record {
+  of = λ t. defuzzy.Singleton t;
+  sort = singleton_of;
+  name = λ t. t.name;
+  same = same_output_line text b;
+  place = output_line_at;
+  sorted = λ t. refl;
+  same_of = same_singletons text b;
+}
+
+one_line : {L : Type 0} (lines : List L) (i : ℕ) {x y : L} → take (i + 1) lines ≡ take i lines ++ x ∷ [] → x ≡ y
+    → take (i + 1) lines ≡ take i lines ++ y ∷ []
+one_line lines i more is = more ∙ ap (λ y. take i lines ++ y ∷ []) is
+
+module _ {text : List ℕ} {L T : Type 0} (k : NamedLines text L T) where
+  abbrev names : List L → List Name
+  names lines = map k.name (filter_map k.sort lines)
+
+  any_named : (t : T) (lines : List L)
+      → list_any (k.same (k.of t)) lines ≡ list_any (is_named text (letters text (k.name t))) (names lines)
+  any_named t [] = refl
+  any_named t (l ∷ lines) =
+      let named : Name → Bool = is_named text (letters text (k.name t)) in
+      rw (k.same_of t l) (
+      elim (k.sort l) as (λ o. (option_map_or (λ (s : T). named (k.name s)) o false
+      || list_any (k.same (k.of t)) lines) ≡ list_any named (map k.name (cons_option o (filter_map k.sort lines)))) [
+        | None ↦ any_named t lines
+        | Some s ↦ ap (λ a. named (k.name s) || a) (any_named t lines)
+      ])
+
+  names_with : (lines : List L) (x : L)
+      → names (lines ++ x ∷ []) ≡ names lines ++ map k.name (cons_option (k.sort x) [])
+  names_with lines x = ap (map k.name) (filter_map-append k.sort lines (x ∷ []))
+      ∙ map-append k.name (filter_map k.sort lines) (cons_option (k.sort x) [])
+
+  names_without : (lines : List L) (x : L) → k.sort x ≡ None → names (lines ++ x ∷ []) ≡ names lines
+  names_without lines x none = rw (names_with lines x, none) (append-nil (names lines))
+
+  module _ (lines : List L) (i : ℕ) (x : L) (more : take (i + 1) lines ≡ take i lines ++ x ∷ [])
+      (once : first (repeated k.same k.place (take i lines)) ≡ None) (t : T) (is : x ≡ k.of t)
+      (m : BTreeMap (Bor (List ℕ)) ℕ) (holds : Numbers text (names (take i lines)) m) where
+    abbrev fault : Option LoadFault
+    fault =
+        option_map load.Twice (first (at_if (is_some (at_letters m (letters text (k.name t)))) (k.place (k.of t))))
+
+    named_taken : is_some (at_letters m (letters text (k.name t))) ≡ list_any (k.same (k.of t)) (take i lines)
+    named_taken = number_taken text (names (take i lines)) (k.name t) m holds ∙ sym (any_named t (take i lines))
+
+    pub named_twice : (e : LoadFault) → Says e fault
+        → Says e (option_map load.Twice (first (repeated k.same k.place lines)))
+    named_twice e found =
+        place_here k.same k.place lines i (k.of t) (one_line lines i more is) once _ e named_taken found
+
+    named_once : fault ≡ None → first (repeated k.same k.place (take (i + 1) lines)) ≡ None
+    named_once nothing =
+        passed_by k.same k.place lines i (k.of t) (one_line lines i more is) once _ named_taken nothing
+
+    named_numbers : (n : BTreeMap (Bor (List ℕ)) ℕ) → ((ls : List ℕ) → at_letters n ls ≡ option_or (at_letters m ls)
+        (cond (is_named text ls (k.name t)) (Some (btree_map_len m + 1)) None))
+        → btree_map_len n ≡ btree_map_len m + 1 → Numbers text (names (take (i + 1) lines)) n
+    named_numbers n added grown =
+        rw (one_line lines i more is, names_with (take i lines) (k.of t), k.sorted t)
+        (numbers_more text (names (take i lines)) (k.name t) m n holds added grown)
+
+-- ---- of an input's section
 
 module _ (text : List ℕ) (b : FunctionBlock) (lines : List FuzzyLine) (i : ℕ) (x : FuzzyLine)
     (more : take (i + 1) lines ≡ take i lines ++ x ∷ [])
     (once : first (repeated (same_line text b) line_at (take i lines)) ≡ None) where
-  module _ (t : Term) (is : x ≡ fuzzy.Term t) (m : BTreeMap (Bor (List ℕ)) ℕ)
-      (holds : Numbers text (names_of_terms (take i lines)) m) where
-    term_more : take (i + 1) lines ≡ take i lines ++ fuzzy.Term t ∷ []
-    term_more = more ∙ ap (λ y. take i lines ++ y ∷ []) is
-
-    term_taken : is_some (at_letters m (letters text t.name)) ≡ list_any (same_line text b (fuzzy.Term t))
-        (take i lines)
-    term_taken = number_taken text (names_of_terms (take i lines)) t.name m holds
-        ∙ sym (any_terms text b t (take i lines))
-
-    pub term_twice : (e : LoadFault)
-        → Says e (option_map load.Twice (first (at_if (is_some (at_letters m (letters text t.name))) t.name.at)))
-        → Says e (option_map load.Twice (first (repeated (same_line text b) line_at lines)))
-    term_twice e found =
-        place_here (same_line text b) line_at lines i (fuzzy.Term t) term_more once _ e term_taken found
-
-    term_once : option_map load.Twice
-        (first (at_if (is_some (at_letters m (letters text t.name))) t.name.at)) ≡ None
-        → first (repeated (same_line text b) line_at (take (i + 1) lines)) ≡ None
-    term_once nothing =
-        passed_by (same_line text b) line_at lines i (fuzzy.Term t) term_more once _ term_taken nothing
-
-    term_numbers : (n : BTreeMap (Bor (List ℕ)) ℕ) → ((ls : List ℕ) → at_letters n ls ≡ option_or (at_letters m ls)
-        (cond (is_named text ls t.name) (Some (btree_map_len m + 1)) None))
-        → btree_map_len n ≡ btree_map_len m + 1 → Numbers text (names_of_terms (take (i + 1) lines)) n
-    term_numbers n added grown = rw (term_more, names_with_term (take i lines) t)
-        (numbers_more text (names_of_terms (take i lines)) t.name m n holds added grown)
-
-    term_range : (has_range : Bool) → has_range ≡ list_any is_range (take i lines)
-        → has_range ≡ list_any is_range (take (i + 1) lines)
-    term_range has_range had =
-        rw (term_more, list_any-append is_range (take i lines) (fuzzy.Term t ∷ []))
-        (had ∙ sym (or-false (list_any is_range (take i lines))))
+  term_range : (t : Term) → x ≡ fuzzy.Term t → (has_range : Bool) → has_range ≡ list_any is_range (take i lines)
+      → has_range ≡ list_any is_range (take (i + 1) lines)
+  term_range t is has_range had =
+      rw (one_line lines i more is, list_any-append is_range (take i lines) (fuzzy.Term t ∷ []))
+      (had ∙ sym (or-false (list_any is_range (take i lines))))
 
   module _ (q : Range) (is : x ≡ fuzzy.Range q) where
     range_more : take (i + 1) lines ≡ take i lines ++ fuzzy.Range q ∷ []
-    range_more = more ∙ ap (λ y. take i lines ++ y ∷ []) is
+    range_more = one_line lines i more is
 
     pub range_twice : true ≡ list_any is_range (take i lines)
         → first (repeated (same_line text b) line_at lines) ≡ Some q.at
-    range_twice found = repeated_here (same_line text b) line_at lines i (fuzzy.Range q)
-        range_more once
+    range_twice found = repeated_here (same_line text b) line_at lines i (fuzzy.Range q) range_more once
         (any_ranges text b q (take i lines) ∙ sym found)
 
     range_once : false ≡ list_any is_range (take i lines)
         → first (repeated (same_line text b) line_at (take (i + 1) lines)) ≡ None
-    range_once found = repeated_more (same_line text b) line_at lines i (fuzzy.Range q)
-        range_more once
+    range_once found = repeated_more (same_line text b) line_at lines i (fuzzy.Range q) range_more once
         (any_ranges text b q (take i lines) ∙ sym found)
 
     range_numbers : (m : BTreeMap (Bor (List ℕ)) ℕ) → Numbers text (names_of_terms (take i lines)) m
         → Numbers text (names_of_terms (take (i + 1) lines)) m
-    range_numbers m holds =
-        rw (range_more, names_with_range (take i lines) q) holds
+    range_numbers m holds = rw (range_more, names_without (term_lines text b) (take i lines) (fuzzy.Range q) refl) holds
 
     range_seen : true ≡ list_any is_range (take (i + 1) lines)
-    range_seen = rw (
-      range_more,
-      list_any-append is_range (take i lines) (fuzzy.Range q ∷ []),
-    )
+    range_seen = rw (range_more, list_any-append is_range (take i lines) (fuzzy.Range q ∷ []))
         (sym (or-true (list_any is_range (take i lines))))
 
 -- what is known of the lines of an input's section, as far as they are read
@@ -438,9 +460,9 @@ module _ (text : List ℕ) (b : FunctionBlock) (lines : List FuzzyLine) (i : ℕ
   pub KnowsTerms-term : (t : Term) (n : BTreeMap (Bor (List ℕ)) ℕ) → x ≡ fuzzy.Term t → IsAdded text t.name m n
       → KnowsTerms text b (take (i + 1) lines) n has_range
   KnowsTerms-term t n is added = record {
-    numbers = term_numbers text b lines i x more known.once t is m known.numbers n added.added added.len;
-    range = term_range text b lines i x more known.once t is m known.numbers has_range known.range;
-    once = term_once text b lines i x more known.once t is m known.numbers added.fault;
+    numbers = named_numbers (term_lines text b) lines i x more known.once t is m known.numbers n added.added added.len;
+    range = term_range text b lines i x more known.once t is has_range known.range;
+    once = named_once (term_lines text b) lines i x more known.once t is m known.numbers added.fault;
   }
 
   pub KnowsTerms-range : (q : Range) → x ≡ fuzzy.Range q → has_range ≡ false
@@ -451,46 +473,16 @@ module _ (text : List ℕ) (b : FunctionBlock) (lines : List FuzzyLine) (i : ℕ
     once = range_once text b lines i x more known.once q is (sym none ∙ known.range);
   }
 
--- ---- steps over the lines of an output's section
+-- ---- of an output's section
 
 module _ (text : List ℕ) (b : FunctionBlock) (lines : List DefuzzyLine) (i : ℕ) (x : DefuzzyLine)
     (more : take (i + 1) lines ≡ take i lines ++ x ∷ [])
     (once : first (repeated (same_output_line text b) output_line_at (take i lines)) ≡ None) where
-  module _ (t : Singleton) (is : x ≡ defuzzy.Singleton t) (m : BTreeMap (Bor (List ℕ)) ℕ)
-      (holds : Numbers text (names_of_singletons (take i lines)) m) where
-    singleton_more : take (i + 1) lines ≡ take i lines ++ defuzzy.Singleton t ∷ []
-    singleton_more = more ∙ ap (λ y. take i lines ++ y ∷ []) is
-
-    singleton_taken : is_some (at_letters m (letters text t.name)) ≡ list_any
-        (same_output_line text b (defuzzy.Singleton t)) (take i lines)
-    singleton_taken = number_taken text (names_of_singletons (take i lines)) t.name m holds
-        ∙ sym (any_singletons text b t (take i lines))
-
-    pub singleton_twice : (e : LoadFault)
-        → Says e (option_map load.Twice (first (at_if (is_some (at_letters m (letters text t.name))) t.name.at)))
-        → Says e (option_map load.Twice (first (repeated (same_output_line text b) output_line_at lines)))
-    singleton_twice e found =
-        place_here (same_output_line text b) output_line_at lines i (defuzzy.Singleton t) singleton_more once _ e
-        singleton_taken found
-
-    singleton_once : option_map load.Twice
-        (first (at_if (is_some (at_letters m (letters text t.name))) t.name.at)) ≡ None
-        → first (repeated (same_output_line text b) output_line_at (take (i + 1) lines)) ≡ None
-    singleton_once nothing =
-        passed_by (same_output_line text b) output_line_at lines i (defuzzy.Singleton t) singleton_more once _
-        singleton_taken nothing
-
-    singleton_numbers : (n : BTreeMap (Bor (List ℕ)) ℕ)
-        → ((ls : List ℕ) → at_letters n ls ≡ option_or (at_letters m ls)
-        (cond (is_named text ls t.name) (Some (btree_map_len m + 1)) None))
-        → btree_map_len n ≡ btree_map_len m + 1 → Numbers text (names_of_singletons (take (i + 1) lines)) n
-    singleton_numbers n added grown =
-        rw (singleton_more, names_with_singleton (take i lines) t)
-        (numbers_more text (names_of_singletons (take i lines)) t.name m n holds added grown)
-
-    singleton_others : filter is_other (take (i + 1) lines) ≡ filter is_other (take i lines)
-    singleton_others = rw (singleton_more, filter-append is_other (take i lines) (defuzzy.Singleton t ∷ []))
-        (append-nil (filter is_other (take i lines)))
+  singleton_others : (t : Singleton) → x ≡ defuzzy.Singleton t
+      → filter is_other (take (i + 1) lines) ≡ filter is_other (take i lines)
+  singleton_others t is =
+      rw (one_line lines i more is, filter-append is_other (take i lines) (defuzzy.Singleton t ∷ []))
+      (append-nil (filter is_other (take i lines)))
 
   module _ (other : is_other x ≡ true) where
     seen : list_any (same_output_line text b x) (take i lines) ≡ list_any (same_kind x) (filter is_other (take i lines))
@@ -506,7 +498,8 @@ module _ (text : List ℕ) (b : FunctionBlock) (lines : List DefuzzyLine) (i : �
 
     other_numbers : (m : BTreeMap (Bor (List ℕ)) ℕ) → Numbers text (names_of_singletons (take i lines)) m
         → Numbers text (names_of_singletons (take (i + 1) lines)) m
-    other_numbers m holds = rw (more, names_with_other (take i lines) x other) holds
+    other_numbers m holds =
+        rw (more, names_without (singleton_lines text b) (take i lines) x (other_sort x other)) holds
 
     others_more : filter is_other (take (i + 1) lines) ≡ filter is_other (take i lines) ++ x ∷ []
     others_more = rw (more, filter-append is_other (take i lines) (x ∷ []), other) refl
@@ -526,9 +519,10 @@ module _ (text : List ℕ) (b : FunctionBlock) (lines : List DefuzzyLine) (i : �
   pub KnowsSingletons-singleton : (t : Singleton) (n : BTreeMap (Bor (List ℕ)) ℕ) → x ≡ defuzzy.Singleton t
       → IsAdded text t.name m n → KnowsSingletons text b (take (i + 1) lines) n others
   KnowsSingletons-singleton t n is added = record {
-    numbers = singleton_numbers text b lines i x more known.once t is m known.numbers n added.added added.len;
-    others = known.others ∙ sym (singleton_others text b lines i x more known.once t is m known.numbers);
-    once = singleton_once text b lines i x more known.once t is m known.numbers added.fault;
+    numbers =
+        named_numbers (singleton_lines text b) lines i x more known.once t is m known.numbers n added.added added.len;
+    others = known.others ∙ sym (singleton_others text b lines i x more known.once t is);
+    once = named_once (singleton_lines text b) lines i x more known.once t is m known.numbers added.fault;
   }
 
   pub KnowsSingletons-other : is_other x ≡ true → list_any (same_kind x) others ≡ false

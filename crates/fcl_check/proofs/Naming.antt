@@ -21,7 +21,7 @@ use Rattle.fcl_syntax.specs.contracts.tree.Direction.{the_type}
 use Rattle.fcl_check.specs.Names.{Declared, singleton_of, term_of, letters, is_named, number_in, is_direction}
 use Rattle.fcl_check.specs.Names.{section_of}
 use Rattle.fcl_check.specs.{ByLetters.at_letters, ByLetters.names_of, Faults.is_some_direction}
-use Rattle.fcl_check.proofs.lists.Elements.{filter_map-next}
+use Rattle.fcl_check.proofs.Elements.{filter_map-next}
 
 -- ---- The names that are gathered from declarations and lines.
 

@@ -1,10 +1,10 @@
 -- The block of a tree without load faults is valid, where it is not too deep and not too large: as it is
 -- where a text spells the tree.
-use Rattle.std.proofs.lemmas.{Bool.cases_Bool, Int.ints, List.Sums.take_while-cons, List.Elements.All-from_recursion}
-use Rattle.std.proofs.lemmas.{Slice.Zip.AllZip-long, List.length-map, Slice.Eq.bytes_eq-Decides}
 use Rattle.std.proofs.Common.{◌≡◌, true, false, List, [], ◌∷◌, Option, Some, None, arith, inl, inr, ℕ, not, ◌&&◌, sym}
 use Rattle.std.proofs.Common.{subst, length, map, option_map, refl, ap, ◌∙◌, suc, ◌-◌, ◌≤◌, ◌||◌, option_and_then}
 use Rattle.std.proofs.Common.{Bool}
+use Rattle.std.proofs.lemmas.{Bool.cases_Bool, Int.ints, List.Sums.take_while-cons, List.Elements.All-from_recursion}
+use Rattle.std.proofs.lemmas.{Slice.Zip.AllZip-long, List.length-map, Slice.Eq.bytes_eq-Decides}
 use Rattle.std.proofs.Math.Logic.{∥∥₁_elim}
 use Rattle.std.specs.Prelude.{IfSome, ℤ, ◌≤ℤ◌, ◌<ℤ◌, IsSomeAnd, pos, int_lt, is_none, sum_by}
 use Rattle.std.specs.List.{filter, list_all, take_while, AllByRecursion, flat_map, cons_option, filter_map, AllZip}
@@ -43,19 +43,18 @@ use Rattle.fcl_check.specs.Names.{terms_of, singleton_of, singletons_of, as_defu
 use Rattle.fcl_check.specs.Names.{declared_in, letters, number_in, section_of, singleton_names, term_names}
 use Rattle.fcl_check.specs.Names.{term_number, variable_number}
 use Rattle.fcl_check.specs.{WellFormed.IsKnown, WellFormed.IsWellFormedRule, Texts.SpelledBlocksAreValid}
-use Rattle.fcl_check.proofs.courses.CourseSteps.{no-ones, Ascends, ascends, last-over, tail-zero}
-use Rattle.fcl_check.proofs.ranges.Ranges.{AllIn, In, all_inside, hull-over, not_empty, input_range-in, hull-ordered}
-use Rattle.fcl_check.proofs.ranges.Ranges.{widened-ordered, widened-over, AreInScale, IsWide, IsWide-widened}
-use Rattle.fcl_check.proofs.ranges.Ranges.{IsInScale-between, ends_of-in, output_hull-in}
-use Rattle.fcl_check.proofs.faultless.Faultless.{few_items, some_item, IsWellFormedPart, known_side, no_items}
-use Rattle.fcl_check.proofs.faultless.Faultless.{no_place, nowhere, shaped, few_names, over, some_at_all, some_names}
-use Rattle.fcl_check.proofs.faultless.Faultless.{IsFaultless, faultless, well_formed_input, well_formed_output}
-use Rattle.fcl_check.proofs.faultless.Faultless.{well_formed_rules}
-use Rattle.fcl_check.proofs.lists.Elements.{all_related, all_unmapped, all_weaker, parts_of, all_mapped, rest_of}
-use Rattle.fcl_check.proofs.lists.Elements.{all_both, all_images}
-use Rattle.fcl_check.proofs.trees.RuleSizes.{HasCleanCondition, shallow_rule, valid_or, few_within, clean_rules}
-use Rattle.fcl_check.proofs.trees.RuleSizes.{count-rules, rule_sizes}
-use Rattle.fcl_check.proofs.naming.Naming.{declared_any, number_within, numbered}
+use Rattle.fcl_check.proofs.CourseSteps.{no-ones, Ascends, ascends, last-over, tail-zero}
+use Rattle.fcl_check.proofs.Ranges.{AllIn, In, all_inside, hull-over, not_empty, input_range-in, hull-ordered}
+use Rattle.fcl_check.proofs.Ranges.{widened-ordered, widened-over, AreInScale, IsWide, IsWide-widened}
+use Rattle.fcl_check.proofs.Ranges.{IsInScale-between, ends_of-in, output_hull-in}
+use Rattle.fcl_check.proofs.Faultless.{few_items, some_item, IsWellFormedPart, known_side, no_items, no_place}
+use Rattle.fcl_check.proofs.Faultless.{nowhere, shaped, few_names, over, some_at_all, some_names, IsFaultless}
+use Rattle.fcl_check.proofs.Faultless.{faultless, well_formed_input, well_formed_output, well_formed_rules}
+use Rattle.fcl_check.proofs.Elements.{all_related, all_unmapped, all_weaker, parts_of, all_mapped, rest_of, all_both}
+use Rattle.fcl_check.proofs.Elements.{all_images}
+use Rattle.fcl_check.proofs.RuleSizes.{HasCleanCondition, shallow_rule, valid_or, few_within, clean_rules}
+use Rattle.fcl_check.proofs.RuleSizes.{count-rules, rule_sizes}
+use Rattle.fcl_check.proofs.Naming.{declared_any, number_within, numbered}
 
 -- ---- The trapezoid of a term whose points ascend within a range is valid within it.
 
@@ -321,7 +320,8 @@ in_both : (s : Defuzzify) (span e : Ends) → AreInScale span → ((x : ℤ) →
 in_both s span e ends over all = all_weaker (λ (n : ℤ × ℕ). In span n.0) (λ (n : ℤ × ℕ). In e n.0 × IsInScale n.0)
     (λ (n : ℤ × ℕ) h. (over n.0 h, IsInScale-between span n.0 ends h)) (output_numbers s) all
 
-output_range_of : (s : Defuzzify) (o : Option Range) (e : Ends) → Some e ≡ given_or (option_map widened (output_hull s)) o
+output_range_of : (s : Defuzzify) (o : Option Range) (e : Ends)
+    → Some e ≡ given_or (option_map widened (output_hull s)) o
     → outside (λ e. flat_map (λ (n : ℤ × ℕ). at_if (not (lies_in e n.0)) n.1) (output_numbers s)) o ≡ []
     → at_some empty_range o ≡ [] → GoodRange s e
 output_range_of s None e is inside range =
@@ -418,7 +418,9 @@ module _ {S X : Type 0} (as_section : Part → Option S) (IsOf : S → X → Typ
       → is_declared_as text b side v ≡ true
       → option_and_then (λ (s : S). number_in text (names s) (letters text t))
       (option_and_then as_section (section_of text b (letters text v))) ≡ Some k
-      → HasNumbers size xs (or_zero (variable_number text b side (letters text v))) k
+      → HasNumbers size xs (or_zero (variable_number text b side (letters text v)))
+      (or_zero (option_and_then (λ (s : S). number_in text (names s) (letters text t))
+      (option_and_then as_section (section_of text b (letters text v)))))
   has_numbers side xs all v t k declared number =
       let ls = letters text v in
       let at = numbered text ls (IsVariableNamed as_section IsOf text b) (declared_as side b) xs all
@@ -429,9 +431,8 @@ module _ {S X : Type 0} (as_section : Part → Option S) (IsOf : S → X → Typ
       subst (λ (ms : List ℕ). option_and_then as_section (section_of text b ms) ≡ Some s) (sym same) at.related.1 in
       let here : number_in text (names s) (letters text t) ≡ Some k = rw section at number in
       let within = number_within text (names s) (letters text t) k here in
-      numbers_at size xs (or_zero (variable_number text b side ls)) k at.index at.item
-      (ap or_zero at.number) at.here within.0
-      (omega (arith, within.1, long s at.item at.related.2))
+      rw number (numbers_at size xs (or_zero (variable_number text b side ls)) k at.index at.item
+      (ap or_zero at.number) at.here within.0 (omega (arith, within.1, long s at.item at.related.2)))
 
 many_terms : (s : Fuzzify) (x : Input) → IsInputOf s x → length x.terms ≡ length (term_names s)
 many_terms s x of = omega
@@ -480,23 +481,17 @@ module _ (text : List ℕ) (b : FunctionBlock) (block : Block) (of : IsBlockOf t
       → HasTerm block (or_zero (variable_number text b side.Input (letters text v)))
       (or_zero (term_number text b side.Input (letters text v) (letters text t)))
   has_term v t known =
-      let term : or_zero (term_number text b side.Input (letters text v) (letters text t)) ≡ known.number =
-      ap or_zero known.numbered in
       let has = has_numbers as_fuzzify IsInputOf term_names (λ (x : Input). length x.terms) many_terms text b side.Input
-      block.inputs of.inputs v t known.number
-      known.declared known.numbered in
-      rw term (record { input_from = has.variable_from; term_from = has.term_from; term_to = has.term_to })
+      block.inputs of.inputs v t known.number known.declared known.numbered in
+      record { input_from = has.variable_from; term_from = has.term_from; term_to = has.term_to }
 
   has_singleton : (v t : Name) → IsKnown text b side.Output v t
       → HasSingleton block (or_zero (variable_number text b side.Output (letters text v)))
       (or_zero (term_number text b side.Output (letters text v) (letters text t)))
   has_singleton v t known =
-      let term : or_zero (term_number text b side.Output (letters text v) (letters text t)) ≡ known.number =
-      ap or_zero known.numbered in
       let has = has_numbers as_defuzzify IsOutputOf singleton_names (λ (y : Output). length y.singletons)
-      many_singletons text b side.Output block.outputs
-      of.outputs v t known.number known.declared known.numbered in
-      rw term (record { output_from = has.variable_from; term_from = has.term_from; term_to = has.term_to })
+      many_singletons text b side.Output block.outputs of.outputs v t known.number known.declared known.numbered in
+      record { output_from = has.variable_from; term_from = has.term_from; term_to = has.term_to }
 
   pub valid_rule : (r : RuleNode) (q : Rule) → IsWellFormedRule text b r × HasCleanCondition r → IsRuleOf text b r q
       → IsValidRule block q
@@ -522,10 +517,8 @@ module _ (text : List ℕ) (b : FunctionBlock) (block : Block) (of : IsBlockOf t
       }
 
 all_three : (p q r : Bool) → not (p && q && not r) ≡ false → (p ≡ true) × ((q ≡ true) × (r ≡ false))
-all_three true true true h = absurd cc
 all_three true true false h = (refl, (refl, refl))
-all_three true false r h = absurd cc
-all_three false q r h = absurd cc
+all_three _ _ _ h = absurd cc
 
 -- ---- the block
 

@@ -1,7 +1,7 @@
 -- The places of each kind of fault stand in the text that spells the tree, so they ascend.
-use Rattle.std.proofs.lemmas.{Grind.flat_map-append, List.append-nil, List.Elements.All-nil, List.Elements.All-cons}
 use Rattle.std.proofs.Common.{ℕ, Bool, List, [], ◌∷◌, ◌++◌, Option, Some, None, pos, refl, not, ◌&&◌, map, option_map}
 use Rattle.std.proofs.Common.{ℤ, ◌⊎◌, ◌≡◌, length, ap, All}
+use Rattle.std.proofs.lemmas.{Grind.flat_map-append, List.append-nil, List.Elements.All-nil, List.Elements.All-cons}
 use Rattle.std.specs.Prelude.{◌||◌, is_none, int_lt}
 use Rattle.std.specs.{List.flat_map, List.list_any, Str.str_to_ascii_lowercase}
 use Rattle.fcl_syntax.specs.declared.tree.{Conclusion.Conclusion, Direction.Direction, Direction.TheVariants.Input}
@@ -45,10 +45,9 @@ use Rattle.fcl_check.specs.Sections.{empty_range, bad_fuzzy_range, bad_range, in
 use Rattle.fcl_check.specs.Names.{is_direction, section_name, term_of, terms_of, singleton_of, singletons_of}
 use Rattle.fcl_check.specs.Names.{Declared, declared_by, declared_in, section_of, letters}
 use Rattle.fcl_check.specs.{declared.fault.LoadFault.LoadFault, Order.PlacesAscend}
-use Rattle.fcl_check.proofs.places.Places.{StandIn, none, passed, taken, no_places, join, in_front, in_back, at_head}
-use Rattle.fcl_check.proofs.places.Places.{at_head_and, in_some, in_row, dropped_items, in_each, in_each_after}
-use Rattle.fcl_check.proofs.places.Places.{in_each_kept, in_first_kept, in_repeated, in_each_of_each}
-use Rattle.fcl_check.proofs.places.Places.{AscendWithin-places}
+use Rattle.fcl_check.proofs.Places.{StandIn, none, passed, taken, no_places, join, in_front, in_back, at_head}
+use Rattle.fcl_check.proofs.Places.{at_head_and, in_some, in_row, dropped_items, in_each, in_each_after, in_each_kept}
+use Rattle.fcl_check.proofs.Places.{in_first_kept, in_repeated, in_each_of_each, AscendWithin-places}
 
 -- ---- Places of a rule's faults stand in the rule's text, and those of repeated lines in theirs.
 
@@ -68,6 +67,10 @@ module _ (f : Name → Name → List ℕ) (d : AtPair f) where
   in_operand v t i (Some n) =
       rw (append-nil (f v t)) (d v t (plain (tok.Word i key.Is) ∷ plain (tok.Word n key.Not) ∷ []))
 
+  in_both : (ps qs : List Pair) {front back : List Sym} → StandIn (flat_map of_pair ps) front
+      → StandIn (flat_map of_pair qs) back → StandIn (flat_map of_pair (ps ++ qs)) (front ++ back)
+  in_both ps qs d e = rw (flat_map-append of_pair ps qs) (join d e)
+
   mutual
     in_not : (t : TNot) (n : ℕ) → StandIn (flat_map of_pair (not_pairs t)) (not_text t n)
     in_not (neg at t) n = passed (in_not t (less n))
@@ -77,21 +80,18 @@ module _ (f : Name → Name → List ℕ) (d : AtPair f) where
 
     in_nots : (ts : TNots) (n : ℕ) → StandIn (flat_map of_pair (nots_pairs ts)) (nots_text ts n)
     in_nots no_nots n = none
-    in_nots (more_nots at t ts) n =
-        rw (flat_map-append of_pair (not_pairs t) (nots_pairs ts)) (passed (join (in_not t n) (in_nots ts n)))
+    in_nots (more_nots at t ts) n = passed (in_both (not_pairs t) (nots_pairs ts) (in_not t n) (in_nots ts n))
 
     in_and : (a : TAnd) (n : ℕ) → StandIn (flat_map of_pair (and_pairs a)) (and_text a n)
-    in_and (and_of t ts) n =
-        rw (flat_map-append of_pair (not_pairs t) (nots_pairs ts)) (join (in_not t n) (in_nots ts n))
+    in_and (and_of t ts) n = in_both (not_pairs t) (nots_pairs ts) (in_not t n) (in_nots ts n)
 
     in_ands : (items : TAnds) (n : ℕ) → StandIn (flat_map of_pair (ands_pairs items)) (ands_text items n)
     in_ands no_ands n = none
     in_ands (more_ands at a items) n =
-        rw (flat_map-append of_pair (and_pairs a) (ands_pairs items)) (passed (join (in_and a n) (in_ands items n)))
+        passed (in_both (and_pairs a) (ands_pairs items) (in_and a n) (in_ands items n))
 
     in_or : (o : TOr) (n : ℕ) → StandIn (flat_map of_pair (or_pairs o)) (or_text o n)
-    in_or (or_of a items) n =
-        rw (flat_map-append of_pair (and_pairs a) (ands_pairs items)) (join (in_and a n) (in_ands items n))
+    in_or (or_of a items) n = in_both (and_pairs a) (ands_pairs items) (in_and a n) (in_ands items n)
 
   in_conclusion : (c : Conclusion) → StandIn (f c.variable c.term) (conclusion_text c)
   in_conclusion c = d c.variable c.term (plain (tok.Word c.is_at key.Is) ∷ [])

@@ -1,2 +1,0 @@
-pub mod FoundBlocks
-pub mod JudgedTexts

@@ -1,2 +1,0 @@
-pub mod ConditionParts
-pub mod RuleSizes
