@@ -36,8 +36,7 @@ same_direction Input = refl
 same_direction Output = refl
 
 names_cons : (side : Direction) (d : Declared) (ds : List Declared)
-    → names_of side (d ∷ ds) ≡ cond (is_direction side d.0) (d.1 ∷ names_of side ds)
-    (names_of side ds)
+    → names_of side (d ∷ ds) ≡ cond (is_direction side d.0) (d.1 ∷ names_of side ds) (names_of side ds)
 names_cons Input (Input, n) ds = refl
 names_cons Input (Output, n) ds = refl
 names_cons Output (Input, n) ds = refl
@@ -76,8 +75,7 @@ module _ (text ls : List ℕ) where
   first_named ds = find (λ (d : Declared). is_named text ls d.1) ds
 
   any_more : (b c : Bool) (n : Name) (ns : List Name) → is_named text ls n ≡ c
-      → list_any (is_named text ls) (cond b (n ∷ ns) ns) ≡
-      ((b && c) || list_any (is_named text ls) ns)
+      → list_any (is_named text ls) (cond b (n ∷ ns) ns) ≡ ((b && c) || list_any (is_named text ls) ns)
   any_more true c n ns h = rw h refl
   any_more false c n ns h = refl
 

@@ -569,8 +569,7 @@ part_there f None s h = absurd cc
 part_there f (Some p) s h = (p, refl, h)
 
 pub section_read : {S : Type 0} (side : Direction) (as_section : Part → Option S) (IsWellFormed : S → Type 0)
-    (text : List ℕ)
-    (b : FunctionBlock)
+    (text : List ℕ) (b : FunctionBlock)
     → All (HasSection side as_section IsWellFormed text b) (declared_in b) → (read : List Declared) (i : ℕ)
     (d : Declared)
     → read ≡ declared_in b

@@ -225,8 +225,7 @@ same-direction Output Input = refl
 same-direction Output Output = refl
 
 module _ {Y : Type 0} (R : Name → Y → Type 0) (side : Direction) (declared read : List Declared) (i : ℕ) (d : Declared)
-    (items : List Y)
-    (same : read ≡ declared) (within : i < length declared) where
+    (items : List Y) (same : read ≡ declared) (within : i < length declared) where
   -- one more that is declared so
   pub named-more : (y : Y) → sameb the_type (get_or read i d).0 side ≡ true
       → AllZip R (filter_map (named_as side) (take i declared)) items

@@ -116,8 +116,7 @@ first-at_each-append f before xs ys = ap first (at_each-append f before xs ys)
 
 -- what is found up to an item and at it, where nothing is found before it
 module _ {A : Type 0} (f : List A → A → List ℕ) (xs : List A) (i : ℕ) (x : A)
-    (more : take (i + 1) xs ≡ take i xs ++ x ∷ [])
-    (none : first (at_each f [] (take i xs)) ≡ None) where
+    (more : take (i + 1) xs ≡ take i xs ++ x ∷ []) (none : first (at_each f [] (take i xs)) ≡ None) where
   first-at_each-take : first (at_each f [] (take (i + 1) xs)) ≡ first (f (walked [] (take i xs)) x)
   first-at_each-take =
       rw (more, first-at_each-append f [] (take i xs) (x ∷ []), none, append-nil (f (walked [] (take i xs)) x)) refl
@@ -175,8 +174,7 @@ read_further xs read i x same h here = one_further xs i x x (rw same at h) (rw s
 
 -- the same of what is repeated
 module _ {A : Type 0} (same : A → A → Bool) (at : A → ℕ) (xs : List A) (i : ℕ) (x : A)
-    (more : take (i + 1) xs ≡ take i xs ++ x ∷ [])
-    (none : first (repeated same at (take i xs)) ≡ None) where
+    (more : take (i + 1) xs ≡ take i xs ++ x ∷ []) (none : first (repeated same at (take i xs)) ≡ None) where
   pub repeated_here : list_any (same x) (take i xs) ≡ true → first (repeated same at xs) ≡ Some (at x)
   repeated_here found =
       first_at_here _ xs i x more none (at x) (rw (list_any-all_walked (same x) (take i xs), found) refl)

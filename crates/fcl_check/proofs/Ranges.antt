@@ -49,8 +49,7 @@ numbers_of lines = map x_of (flat_map points_of (filter_map term_of lines))
 pub hull_term : (hull : Option Ends) (e : Ends) (lines : List FuzzyLine) (i : ℕ) (line : FuzzyLine) (t : Term)
     → i < length lines → line ≡ get_or lines i line
     → line ≡ fuzzy.Term t → Some e ≡ extended hull (map x_of (points_of t))
-    → extended (Some e) (numbers_of (drop (i + 1) lines)) ≡ extended hull
-    (numbers_of (drop i lines))
+    → extended (Some e) (numbers_of (drop (i + 1) lines)) ≡ extended hull (numbers_of (drop i lines))
 hull_term hull e lines i line t h same is here =
     let rest = drop (i + 1) lines in
     let step : numbers_of (drop i lines) ≡ numbers_of (fuzzy.Term t ∷ rest) =

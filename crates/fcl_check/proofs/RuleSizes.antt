@@ -36,6 +36,9 @@ count symbols = length (offsets symbols)
 pub count-append : (a b : List Sym) → count (a ++ b) ≡ count a + count b
 count-append a b = rw (filter_map-append (λ (s : Sym). offset_of s.token) a b) (length-append (offsets a) (offsets b))
 
+count-three : (a b c : List Sym) → count (a ++ (b ++ c)) ≡ count a + (count b + count c)
+count-three a b c = rw (count-append a (b ++ c), count-append b c) refl
+
 -- there are no more numbers that ascend than lie between their bounds
 pub few_within : (low end : ℕ) (ns : List ℕ) → AscendWithin low end ns → length ns ≤ end - low
 few_within low end [] up = omega arith
@@ -75,14 +78,9 @@ module _ (f : Name → Name → Condition) where
 
       nodes_and : (a : TAnd) (n : ℕ) → nodes (and_condition f a) ≤ count (and_text a n)
       nodes_and (and_of t no_nots) n = omega (arith, nodes_not t n, count-append (not_text t n) [])
-      nodes_and (and_of t (more_nots at u ts)) n = omega (
-        arith,
-        nodes_not t n,
-        nodes_not u n,
-        nodes_nots ts n,
-        count-append (not_text t n) (nots_text (more_nots at u ts) n),
-        count-append (not_text u n) (nots_text ts n),
-      )
+      nodes_and (and_of t (more_nots at u ts)) n =
+          let all = count-three (not_text t n) (plain (tok.Word at key.And) ∷ not_text u n) (nots_text ts n) in
+          omega (arith, nodes_not t n, nodes_not u n, nodes_nots ts n, all)
 
       nodes_ands : (items : TAnds) (n : ℕ) → total_nodes (ands_conditions f items) ≤ count (ands_text items n)
       nodes_ands no_ands n = omega arith
@@ -91,14 +89,9 @@ module _ (f : Name → Name → Condition) where
 
       pub nodes_or : (o : TOr) (n : ℕ) → nodes (or_condition f o) ≤ count (or_text o n)
       nodes_or (or_of a no_ands) n = omega (arith, nodes_and a n, count-append (and_text a n) [])
-      nodes_or (or_of a (more_ands at c items)) n = omega (
-        arith,
-        nodes_and a n,
-        nodes_and c n,
-        nodes_ands items n,
-        count-append (and_text a n) (ands_text (more_ands at c items) n),
-        count-append (and_text c n) (ands_text items n),
-      )
+      nodes_or (or_of a (more_ands at c items)) n =
+          let all = count-three (and_text a n) (plain (tok.Word at key.Or) ∷ and_text c n) (ands_text items n) in
+          omega (arith, nodes_and a n, nodes_and c n, nodes_ands items n, all)
 
   -- ---- how deep
 

@@ -213,8 +213,7 @@ at_output_line test l = at_head test (output_line_at l) refl
 
 in_terms : (f : Term → List ℕ) (s : Fuzzify) → ((t : Term) → StandIn (f t) (term_text (view_term t)))
     → StandIn (flat_map f (terms_of s)) (part_text (view_part (part.Fuzzify s)))
-in_terms f s d = in_lines (part.Fuzzify s)
-    (in_each_kept fuzzy_line_text view_fuzzy_line term_of f s.lines at_term)
+in_terms f s d = in_lines (part.Fuzzify s) (in_each_kept fuzzy_line_text view_fuzzy_line term_of f s.lines at_term)
   where
     at_term : (l : FuzzyLine) → StandIn (at_some f (term_of l)) (fuzzy_line_text (view_fuzzy_line l))
     at_term (fuzzy.Term t) = d t
@@ -224,8 +223,7 @@ in_singletons : (f : Singleton → List ℕ) (s : Defuzzify)
     → ((t : Singleton) → StandIn (f t) (singleton_text (view_singleton t)))
     → StandIn (flat_map f (singletons_of s)) (part_text (view_part (part.Defuzzify s)))
 in_singletons f s d =
-    in_lines (part.Defuzzify s)
-    (in_each_kept defuzzy_line_text view_defuzzy_line singleton_of f s.lines at_singleton)
+    in_lines (part.Defuzzify s) (in_each_kept defuzzy_line_text view_defuzzy_line singleton_of f s.lines at_singleton)
   where
     at_singleton : (l : DefuzzyLine) → StandIn (at_some f (singleton_of l)) (defuzzy_line_text (view_defuzzy_line l))
     at_singleton (defuzzy.Singleton t) = d t
@@ -333,8 +331,7 @@ names_of side d = map (λ (n : Name). (side, n)) (d.first ∷ d.more)
 module _ (f : List Declared → Declared → List ℕ)
     (d : (before : List Declared) (e : Declared) → StandIn (f before e) (name_text e.1)) where
   in_names : (side : Direction) (before : List Declared) (names : List Name)
-      → StandIn (at_each f before (map (λ (n : Name). (side, n)) names))
-      (behind tok.Comma name_text names)
+      → StandIn (at_each f before (map (λ (n : Name). (side, n)) names)) (behind tok.Comma name_text names)
   in_names side before [] = none
   in_names side before (n ∷ names) = passed (join (d before (side, n)) (in_names side ((side, n) ∷ before) names))
 
@@ -412,29 +409,24 @@ module _ (text : List ℕ) (b : FunctionBlock) where
       at_rule_line))
 
   unknown_in_block : StandIn (unknown text b) (block_text (view b))
-  unknown_in_block = in_block b
-      (no_places _)
+  unknown_in_block = in_block b (no_places _)
       (in_each part_text view_part (unknown_section text b) b.parts
       (λ p. at_name (is_none (direction text b (section_name p))) p))
       (in_rules b (in_each rule_item_text view_rule_item (unknown_in text b) b.rules.rules
       (unknown_in_rule text b)))
 
   too_many_in_block : StandIn (too_many text b) (block_text (view b))
-  too_many_in_block = in_block b
-      (in_declared _ (λ before e. at_head (is_over before e) e.1.at refl) b)
+  too_many_in_block = in_block b (in_declared _ (λ before e. at_head (is_over before e) e.1.at refl) b)
       (in_each part_text view_part terms_over_limit b.parts terms_over_limit_in_section)
       (in_rules b (dropped_items (λ (r : Rule). r.at) 256 b.rules.rules
       (in_each rule_item_text view_rule_item _ b.rules.rules at_rule)))
 
   weight_outside_in_block : StandIn (flat_map weight_outside b.rules.rules) (block_text (view b))
-  weight_outside_in_block = in_block b
-      (no_places _)
-      (no_places _)
+  weight_outside_in_block = in_block b (no_places _) (no_places _)
       (in_rules b (in_each rule_item_text view_rule_item weight_outside b.rules.rules weight_outside_in_rule))
 
   wrong_side_in_block : StandIn (wrong_side text b) (block_text (view b))
-  wrong_side_in_block = in_block b
-      (no_places _)
+  wrong_side_in_block = in_block b (no_places _)
       (in_each part_text view_part (mistaken_section text b) b.parts (mistaken_in_section text b))
       (in_rules b (in_each rule_item_text view_rule_item (mistaken_in text b) b.rules.rules
       (mistaken_in_rule text b)))

@@ -11,8 +11,7 @@ loop-line-preserved c =
     elim c.match-number_line.branch [
       | in-Some+in-Some-hull w ↦ rw w.hull-is
           (ap Some w.with.ensures ∙ hull-found lines read.result.now c.loop-line.line-index _ read.ensures
-          (rw read.ensures at c.loop-line-test.true)
-          (Some (ends_in w.in-Some-hull.span)) w.in-Some.x.0
+          (rw read.ensures at c.loop-line-test.true) (Some (ends_in w.in-Some-hull.span)) w.in-Some.x.0
           (rw w.in-Some-hull.is at c.loop-line.invariant) (ap (option_map (λ n. n.0)) w.in-Some.ensures))
       | in-Some+in-None w ↦ rw w.hull-is
           (ap Some w.at.ensures ∙ hull-found lines read.result.now c.loop-line.line-index _ read.ensures

@@ -10,5 +10,4 @@ pub returns : goal.returns
 returns c =
     let lines = c.args.section.now.lines in
     any_from_yields_List (λ (l : DefuzzyLine). is_some (singleton_of l)) _ _ _ c.any.ensures.ran
-    (YieldsList-from_slice lines cc)
-    (λ x b q k. search (rules, tests)) ∙ any_found singleton_of lines
+    (YieldsList-from_slice lines cc) (λ x b q k. search (rules, tests)) ∙ any_found singleton_of lines
