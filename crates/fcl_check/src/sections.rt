@@ -76,21 +76,15 @@ fn singleton_at(line: &DefuzzyLine) -> Option<u32>
 fn has_term(section: &Fuzzify) -> bool
     ensures { result ≡ is_some (first (terms_of section.now)) }
 {
-    section
-        .lines
-        .as_slice()
-        .iter()
-        .any(|line| term_at(line).is_some())
+    let lines = section.lines.as_slice();
+    lines.iter().any(|line| term_at(line).is_some())
 }
 
 fn has_singleton(section: &Defuzzify) -> bool
     ensures { result ≡ is_some (first (singletons_of section.now)) }
 {
-    section
-        .lines
-        .as_slice()
-        .iter()
-        .any(|line| singleton_at(line).is_some())
+    let lines = section.lines.as_slice();
+    lines.iter().any(|line| singleton_at(line).is_some())
 }
 
 /// The END word of a section without TERM.
@@ -109,18 +103,14 @@ pub fn term_over_limit(part: &Part) -> Option<u32>
     ensures { result ≡ first (terms_over_limit part.now) }
 {
     match part {
-        Part::Fuzzify(section) => section
-            .lines
-            .as_slice()
-            .iter()
-            .filter_map(term_at)
-            .nth(TERMS),
-        Part::Defuzzify(section) => section
-            .lines
-            .as_slice()
-            .iter()
-            .filter_map(singleton_at)
-            .nth(TERMS),
+        Part::Fuzzify(section) => {
+            let lines = section.lines.as_slice();
+            lines.iter().filter_map(term_at).nth(TERMS)
+        }
+        Part::Defuzzify(section) => {
+            let lines = section.lines.as_slice();
+            lines.iter().filter_map(singleton_at).nth(TERMS)
+        }
     }
 }
 
