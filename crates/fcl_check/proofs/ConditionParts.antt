@@ -200,8 +200,8 @@ module _ {X W : Type 0} (k : Kind X W) where
             rw (← seen) (made ∙ whole_alone more none)
 
         -- the conditions of all parts that were read
-        pub whole_of_all : {read : List (ℕ × X)} {i : ℕ} (cs : List Condition) (c : Condition) → empty ≡ false → read ≡ more
-            → length read ≤ i
+        pub whole_of_all : {read : List (ℕ × X)} {i : ℕ} (cs : List Condition) (c : Condition) → empty ≡ false
+            → read ≡ more → length read ≤ i
             → cs ≡ k.condition f (k.first whole) ∷ map (λ (x : ℕ × X). k.condition f x.1) (take i more)
             → c ≡ k.join (conditions cs) → c ≡ k.condition_whole f whole
         whole_of_all {read} {i} cs c is same behind parts made =

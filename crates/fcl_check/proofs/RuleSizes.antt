@@ -168,8 +168,8 @@ module _ (block : Block) (f : Name → Name → Condition) (P : Pair → Type 0)
     valid_and (and_of t no_nots) n clean all =
         valid_not t n (clean_parts (not_text t n) [] clean).0 (parts_of P (not_pairs t) [] all).0
     valid_and (and_of t (more_nots at u ts)) n clean all =
-        of_both (not_text t n) (nots_text (more_nots at u ts) n) (not_pairs t) (nots_pairs (more_nots at u ts)) clean all
-        (valid_not t n) (valid_nots (more_nots at u ts) n)
+        of_both (not_text t n) (nots_text (more_nots at u ts) n) (not_pairs t) (nots_pairs (more_nots at u ts))
+        clean all (valid_not t n) (valid_nots (more_nots at u ts) n)
 
     valid_ands : (items : TAnds) (n : ℕ) → IsClean (ands_text items n) → AllByRecursion P (ands_pairs items)
         → AllHaveLiterals (HasTerm block) (ands_conditions f items)
@@ -202,11 +202,8 @@ ending r = plain (tok.Word r.then_at key.Then)
 count-conclusions : (r : RuleNode) → length (conclusions_of r) ≤ count (ending r)
 count-conclusions r =
     let more = behind tok.Comma conclusion_text r.more in
-    omega (
-      arith,
-      count-behind r.more,
-      count-append more (either_text weight_text semicolon_text (view_weight r.weight)),
-    )
+    let weight = either_text weight_text semicolon_text (view_weight r.weight) in
+    omega (arith, count-behind r.more, count-append more weight)
 
 module _ (text : List ℕ) (b : FunctionBlock) where
   rule_size-le : (r : RuleNode) (q : Rule) → IsRuleOf text b r q
@@ -224,13 +221,8 @@ module _ (text : List ℕ) (b : FunctionBlock) where
       → sum_by rule_size qs ≤ count (each rule_item_text (map view_rule_item rs))
   rule_sizes [] [] zip = omega arith
   rule_sizes (r ∷ rs) (q ∷ qs) zip =
-      omega (
-        arith,
-        sum_by-cons rule_size q qs,
-        rule_size-le r q zip.0,
-        rule_sizes rs qs zip.1,
-        count-append (rule_item_text (view_rule_item r)) (each rule_item_text (map view_rule_item rs)),
-      )
+      let texts = count-append (rule_item_text (view_rule_item r)) (each rule_item_text (map view_rule_item rs)) in
+      omega (arith, sum_by-cons rule_size q qs, rule_size-le r q zip.0, rule_sizes rs qs zip.1, texts)
   rule_sizes _ _ zip = absurd zip
 
 -- ---- the rules in the text of a block

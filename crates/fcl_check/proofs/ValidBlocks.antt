@@ -547,6 +547,7 @@ module _ (text : List ℕ) (b : FunctionBlock) (block : Block) (well_formed : Is
       let long_ins = AllZip-long (IsInputNamed text b) ins block.inputs of.inputs in
       let long_outs = AllZip-long (IsOutputNamed text b) outs block.outputs of.outputs in
       let long_rules = AllZip-long (IsRuleOf text b) rules block.rules of.rules in
+      let few = no_items (flat_map terms_over_limit b.parts) _ many.1 in
       let fit = all_both (IsWellFormedRule text b) HasCleanCondition rules (well_formed_rules text b well_formed)
       (clean_rules b clean) in
       record {
@@ -555,12 +556,7 @@ module _ (text : List ℕ) (b : FunctionBlock) (block : Block) (well_formed : Is
         some_output = omega (arith, long_outs, some_names side.Output (declared_in b) whole.1.0);
         few_outputs = omega (arith, long_outs, few_names side.Output [] (declared_in b) (omega arith) many.0);
         some_rule = omega (arith, long_rules, some_at_all rules whole.1.1);
-        few_rules = omega (
-          arith,
-          long_rules,
-          few_items 256 (λ (r : RuleNode). r.at) rules
-              (no_items (flat_map terms_over_limit b.parts) _ many.1).1,
-        );
+        few_rules = omega (arith, long_rules, few_items 256 (λ (r : RuleNode). r.at) rules few.1);
         inputs = All-from_recursion IsValidInput block.inputs
             (all_images (IsInputNamed text b) IsValidInput named_input ins block.inputs of.inputs);
         outputs = All-from_recursion IsValidOutput block.outputs

@@ -6,19 +6,10 @@ use Rattle.fcl_check.proofs.names.variables.Goals as goal
 pub next-requires : goal.next-requires
 next-requires c =
     let before = take c.each.direction-index c.args.declared.now in
+    let short = length-take c.each.direction-index c.args.declared.now in
     record {
-      inputs = omega (
-        arith,
-        c.each.invariant.counts Input,
-        count_bound Input before,
-        length-take c.each.direction-index c.args.declared.now,
-      );
-      outputs = omega (
-        arith,
-        c.each.invariant.counts Output,
-        count_bound Output before,
-        length-take c.each.direction-index c.args.declared.now,
-      );
+      inputs = omega (arith, c.each.invariant.counts Input, count_bound Input before, short);
+      outputs = omega (arith, c.each.invariant.counts Output, count_bound Output before, short);
     }
 
 pub returns-in_err-add-clause-fault : goal.returns-in_err-add-clause-fault

@@ -7,21 +7,16 @@ overflow_cast-result c =
     let source = c.args.source.now in
     let text = source.tree.now.text.items in
     let block = source.tree.now.block in
-    omega (
-      arith,
-      number_few text block source.well_formed c.args.side c.args.variable c.args.term _ c.unwrap-declared.result
-          c.requires
-          c.letters-letters.ensures
-          (sym c.unwrap-declared.ensures ∙ c.variable.ensures source.tree.now source.known),
-    )
+    let few = number_few text block source.well_formed c.args.side c.args.variable c.args.term _
+    c.unwrap-declared.result c.requires c.letters-letters.ensures
+    (sym c.unwrap-declared.ensures ∙ c.variable.ensures source.tree.now source.known) in
+    omega (arith, few)
 
 pub overflow_cast-result-2 : goal.overflow_cast-result-2
 overflow_cast-result-2 c =
     let source = c.args.source.now in
     let text = source.tree.now.text.items in
     let block = source.tree.now.block in
-    omega (
-      arith,
-      term_few text block source.well_formed c.args.side _ _ c.unwrap-term.result
-          (sym (c.term.ensures source.tree.now source.known) ∙ c.unwrap-term.ensures),
-    )
+    let few = term_few text block source.well_formed c.args.side _ _ c.unwrap-term.result
+    (sym (c.term.ensures source.tree.now source.known) ∙ c.unwrap-term.ensures) in
+    omega (arith, few)
