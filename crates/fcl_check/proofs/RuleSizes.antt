@@ -160,31 +160,29 @@ module _ (block : Block) (f : Name → Name → Condition) (P : Pair → Type 0)
         → AllHaveLiterals (HasTerm block) (nots_conditions f ts)
     valid_nots no_nots n clean all = tt
     valid_nots (more_nots at t ts) n clean all =
-        of_both (not_text t n) (nots_text ts n) (not_pairs t) (nots_pairs ts) clean.1 all (valid_not t n)
-        (valid_nots ts n)
+        of_both _ (nots_text ts n) _ (nots_pairs ts) clean.1 all (valid_not t n) (valid_nots ts n)
 
     valid_and : (a : TAnd) (n : ℕ) → IsClean (and_text a n) → AllByRecursion P (and_pairs a)
         → IsValidCondition block (and_condition f a)
     valid_and (and_of t no_nots) n clean all =
         valid_not t n (clean_parts (not_text t n) [] clean).0 (parts_of P (not_pairs t) [] all).0
     valid_and (and_of t (more_nots at u ts)) n clean all =
-        of_both (not_text t n) (nots_text (more_nots at u ts) n) (not_pairs t) (nots_pairs (more_nots at u ts))
-        clean all (valid_not t n) (valid_nots (more_nots at u ts) n)
+        of_both _ (nots_text (more_nots at u ts) n) _ (nots_pairs (more_nots at u ts)) clean all (valid_not t n)
+        (valid_nots (more_nots at u ts) n)
 
     valid_ands : (items : TAnds) (n : ℕ) → IsClean (ands_text items n) → AllByRecursion P (ands_pairs items)
         → AllHaveLiterals (HasTerm block) (ands_conditions f items)
     valid_ands no_ands n clean all = tt
     valid_ands (more_ands at a items) n clean all =
-        of_both (and_text a n) (ands_text items n) (and_pairs a) (ands_pairs items) clean.1 all (valid_and a n)
-        (valid_ands items n)
+        of_both _ (ands_text items n) _ (ands_pairs items) clean.1 all (valid_and a n) (valid_ands items n)
 
     pub valid_or : (o : TOr) (n : ℕ) → IsClean (or_text o n) → AllByRecursion P (or_pairs o)
         → IsValidCondition block (or_condition f o)
     valid_or (or_of a no_ands) n clean all =
         valid_and a n (clean_parts (and_text a n) [] clean).0 (parts_of P (and_pairs a) [] all).0
     valid_or (or_of a (more_ands at c items)) n clean all =
-        of_both (and_text a n) (ands_text (more_ands at c items) n) (and_pairs a) (ands_pairs (more_ands at c items))
-        clean all (valid_and a n) (valid_ands (more_ands at c items) n)
+        of_both _ (ands_text (more_ands at c items) n) _ (ands_pairs (more_ands at c items)) clean all (valid_and a n)
+        (valid_ands (more_ands at c items) n)
 
 -- ---- The size of the rules of a text is no more than its offsets, and they are not too deep.
 
