@@ -6,6 +6,7 @@ use test_program_calls::{Difference, Left, NONE, call, push_bytes, push_file, sh
 use test_texts::{BLOCK, RECORDS};
 
 /// A trace, a plan and a script, and what a run of the heater leaves under these.
+#[derive(Clone, Copy)]
 struct Debugged {
     trace: &'static str,
     plan: &'static str,
@@ -13,108 +14,58 @@ struct Debugged {
     left: Left<'static>,
 }
 
+/// The heater's run with no plan, under no script.
+const HEATER: Debugged = Debugged {
+    trace: "64\n",
+    plan: "",
+    script: "",
+    left: Left::Lines("sample 1 bytes 64 answers 64 instructions 28 steps 36 resumed 0 frames 0\n"),
+};
+
 /// Two interrupts between the two parts of WAV.
 const TWICE: &str = "1,26\n1,26\n";
 
 // The positions and registers are worked out from the listing of the heater: the loop begins at C008, REV stands at
 // C031 with its eight bytes of rules, WAV at C03B, and the instruction before C04C stores the answer.
-static DEBUGGED: [Debugged; 10] = [
-    Debugged {
-        trace: "64\n",
-        plan: TWICE,
-        script: "watch 1010\ngo\nregs\nmem 1010 1\n",
-        left: Left::Lines(
-            "stop 1 33 C04C
+static DEBUGGED: [Debugged; 10] = rows! { Debugged:
+    HEATER { plan: TWICE, script: "watch 1010\ngo\nregs\nmem 1010 1\n" } leaves "stop 1 33 C04C
 pc C04C a 00 b 40 x 00FF y 0040 sp 1FFE ccr C0
 mem 1010 40
 sample 1 bytes 64 answers 64 instructions 28 steps 36 resumed 1 frames 2
 frame 1 26 C03C 1FEF 15
 frame 1 26 C03C 1FEF 9
-",
-        ),
-    },
-    Debugged {
-        trace: "64\n",
-        plan: TWICE,
-        script: "break C031\ngo\nstep 3\n",
-        left: Left::Lines(
-            "stop 1 14 C031
+";
+    HEATER { plan: TWICE, script: "break C031\ngo\nstep 3\n" } leaves "stop 1 14 C031
 stop 1 17 C031
 sample 1 bytes 64 answers 64 instructions 28 steps 36 resumed 1 frames 2
 frame 1 26 C03C 1FEF 15
 frame 1 26 C03C 1FEF 9
-",
-        ),
-    },
-    Debugged {
-        trace: "64\n",
-        plan: "",
-        script: "",
-        left: Left::Lines(
-            "sample 1 bytes 64 answers 64 instructions 28 steps 36 resumed 0 frames 0\n",
-        ),
-    },
-    Debugged {
-        trace: "64\n",
-        plan: "",
-        script: "unbreak C031\nbreak C031\nwatch 1010\nbreak c031\nunbreak C031\nunwatch 1010\ngo\ngo\nstep 1\n",
-        left: Left::Lines(
-            "stop 1 36 C008
+";
+    HEATER {};
+    HEATER {
+        script: "unbreak C031\nbreak C031\nwatch 1010\nbreak c031\nunbreak C031\nunwatch 1010\ngo\ngo\nstep 1\n"
+    } leaves "stop 1 36 C008
 stop 1 36 C008
 stop 1 36 C008
 sample 1 bytes 64 answers 64 instructions 28 steps 36 resumed 0 frames 0
-",
-        ),
-    },
-    Debugged {
-        trace: "64\n0\n",
-        plan: "",
-        script: "mem FFFE 4\nbreak C008\ngo\ngo\nstep 1000000\n",
-        left: Left::Lines(
-            "mem FFFE C0 00 00 00
+";
+    HEATER { trace: "64\n0\n", script: "mem FFFE 4\nbreak C008\ngo\ngo\nstep 1000000\n" }
+        leaves "mem FFFE C0 00 00 00
 stop 1 36 C008
 stop 2 0 C008
 stop 2 36 C008
 sample 1 bytes 64 answers 64 instructions 28 steps 36 resumed 0 frames 0
 sample 2 bytes 0 answers 0 instructions 28 steps 36 resumed 0 frames 0
-",
-        ),
-    },
-    Debugged {
-        trace: "",
-        plan: "",
-        script: "regs\nstep 5\n",
-        left: Left::Lines(
-            "pc C008 a 00 b 00 x 0000 y 0000 sp 2000 ccr C4
+";
+    HEATER { trace: "", script: "regs\nstep 5\n" } leaves "pc C008 a 00 b 00 x 0000 y 0000 sp 2000 ccr C4
 stop 0 0 C008
-",
-        ),
-    },
-    Debugged {
-        trace: "64\n",
-        plan: "",
-        script: "step 0\n",
-        left: Left::Refused(15, "script: line 1\n"),
-    },
-    Debugged {
-        trace: "64\n",
-        plan: "",
-        script: "go\nbreak  C031\n",
-        left: Left::Refused(15, "script: line 2\n"),
-    },
-    Debugged {
-        trace: "64\n",
-        plan: "0,0\n",
-        script: "step 0\n",
-        left: Left::Refused(7, "plan: row 1: bad row\n"),
-    },
-    Debugged {
-        trace: "257\n",
-        plan: "0,0\n",
-        script: "step 0\n",
-        left: Left::Refused(7, "trace: row 1: input 1 out of range\n"),
-    },
-];
+";
+    HEATER { script: "step 0\n" } refused 15 "script: line 1\n";
+    HEATER { script: "go\nbreak  C031\n" } refused 15 "script: line 2\n";
+    HEATER { plan: "0,0\n", script: "step 0\n" } refused 7 "plan: row 1: bad row\n";
+    HEATER { trace: "257\n", plan: "0,0\n", script: "step 0\n" }
+        refused 7 "trace: row 1: input 1 out of range\n";
+};
 
 const LINE: [&str; 8] = [
     "fuzz12", "debug", "a.fcl", "a.s19", "a.csv", "a.plan", "00", "script",

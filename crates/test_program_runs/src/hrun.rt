@@ -26,145 +26,62 @@ sample 1 bytes 64 answers 64 instructions 28 steps 36 resumed 0 frames 0 handler
 };
 
 // The lines are those of `run` under the same plan, and each interrupt does the steps of the handler's path.
-static RUNS: [FiveFiles; 17] = [
-    HEATER,
-    FiveFiles {
-        trace: "",
-        left: Left::Lines("error 1 19609\ninstructions 28\n"),
-        ..HEATER
-    },
+static RUNS: [FiveFiles; 17] = rows! { FiveFiles:
+    HEATER {};
+    HEATER { trace: "" } leaves "error 1 19609\ninstructions 28\n";
     // inside REV
-    FiveFiles {
-        requests: "1,17\n",
-        left: Left::Lines(
-            "error 1 19609
+    HEATER { requests: "1,17\n" } leaves "error 1 19609
 instructions 28
 sample 1 bytes 64 answers 64 instructions 28 steps 36 resumed 1 frames 1 handler 2
 frame 1 17 C031 1FF5 9
-",
-        ),
-        ..HEATER
-    },
+";
     // behind its first part and before its last
-    FiveFiles {
-        records: COUNT_WIDE,
-        requests: "1,15\n1,21\n",
-        left: Left::Lines(
-            "error 1 19609
+    HEATER { records: COUNT_WIDE, requests: "1,15\n1,21\n" } leaves "error 1 19609
 instructions 28
 sample 1 bytes 64 answers 64 instructions 28 steps 36 resumed 2 frames 2 handler 10
 frame 1 15 C031 1FF5 9
 frame 1 21 C031 1FF5 9
-",
-        ),
-        ..HEATER
-    },
-    FiveFiles {
-        requests: "1,26\n",
-        left: Left::Lines(
-            "error 1 19609
+";
+    HEATER { requests: "1,26\n" } leaves "error 1 19609
 instructions 28
 sample 1 bytes 64 answers 64 instructions 28 steps 36 resumed 1 frames 1 handler 2
 frame 1 26 C03C 1FEF 15
-",
-        ),
-        ..HEATER
-    },
-    FiveFiles {
-        requests: "1,26\n1,26\n",
-        left: Left::Lines(
-            "error 1 19609
+";
+    HEATER { requests: "1,26\n1,26\n" } leaves "error 1 19609
 instructions 28
 sample 1 bytes 64 answers 64 instructions 28 steps 36 resumed 1 frames 2 handler 4
 frame 1 26 C03C 1FEF 15
 frame 1 26 C03C 1FEF 9
-",
-        ),
-        ..HEATER
-    },
+";
     // a request that is not taken
-    FiveFiles {
-        requests: "1,36\n",
-        ..HEATER
-    },
+    HEATER { requests: "1,36\n" };
     // the branch is taken
-    FiveFiles {
-        records: COUNT_WIDE,
-        requests: "1,26\n",
-        left: Left::Lines(
-            "error 1 19609
+    HEATER { records: COUNT_WIDE, requests: "1,26\n" } leaves "error 1 19609
 instructions 28
 sample 1 bytes 64 answers 64 instructions 28 steps 36 resumed 1 frames 1 handler 5
 frame 1 26 C03C 1FEF 15
-",
-        ),
-        ..HEATER
-    },
+";
     // it is not, where the request writes FF first, and it is at the next
-    FiveFiles {
-        records: COUNT_WIDE,
-        trace: "64\n64\n",
-        requests: "2,26,1800,FF\n2,26\n",
-        left: Left::Lines(
-            "error 1 19609
+    HEATER { records: COUNT_WIDE, trace: "64\n64\n", requests: "2,26,1800,FF\n2,26\n" } leaves "error 1 19609
 instructions 28
 sample 1 bytes 64 answers 64 instructions 28 steps 36 resumed 0 frames 0 handler 0
 sample 2 bytes 64 answers 64 instructions 28 steps 36 resumed 1 frames 2 handler 11
 frame 2 26 C03C 1FEF 15
 frame 2 26 C03C 1FEF 9
-",
-        ),
-        ..HEATER
-    },
+";
     // `INC $17FF`, RTI
-    FiveFiles {
-        records: "S10740007217FF0B25\nS9030000FC\n",
-        left: Left::Refused(14, "handler: 4000: not free 17FF\n"),
-        ..HEATER
-    },
+    HEATER { records: "S10740007217FF0B25\nS9030000FC\n" } refused 14 "handler: 4000: not free 17FF\n";
     // PSHA, RTI
-    FiveFiles {
-        records: "S1054000360B79\nS9030000FC\n",
-        left: Left::Refused(14, "handler: 4001: height\n"),
-        ..HEATER
-    },
+    HEATER { records: "S1054000360B79\nS9030000FC\n" } refused 14 "handler: 4001: height\n";
     // the first of two faults is told
-    FiveFiles {
-        fcl: "",
-        records: "",
-        left: Left::Refused(4, "fcl: at 0: expected\n"),
-        ..HEATER
-    },
-    FiveFiles {
-        records: "",
-        cert: &[],
-        left: Left::Refused(5, "image: no end\n"),
-        ..HEATER
-    },
-    FiveFiles {
-        records: "S9030000FC\n",
-        cert: &[],
-        left: Left::Refused(14, "handler: empty\n"),
-        ..HEATER
-    },
-    FiveFiles {
-        cert: &["FZC 1\nclaim 19608\n", HALVES],
-        trace: "256.0001",
-        left: Left::Refused(6, "cert: output 1 claims 19608, computed 19609\n"),
-        ..HEATER
-    },
-    FiveFiles {
-        trace: "256.0001",
-        requests: "0,1\n",
-        left: Left::Refused(7, "trace: row 1: input 1 out of range\n"),
-        ..HEATER
-    },
-    FiveFiles {
-        requests: "1,0,17FF,00\n",
-        left: Left::Refused(7, "plan: row 1: not free 17FF\n"),
-        ..HEATER
-    },
-];
+    HEATER { fcl: "", records: "" } refused 4 "fcl: at 0: expected\n";
+    HEATER { records: "", cert: &[] } refused 5 "image: no end\n";
+    HEATER { records: "S9030000FC\n", cert: &[] } refused 14 "handler: empty\n";
+    HEATER { cert: &["FZC 1\nclaim 19608\n", HALVES], trace: "256.0001" }
+        refused 6 "cert: output 1 claims 19608, computed 19609\n";
+    HEATER { trace: "256.0001", requests: "0,1\n" } refused 7 "trace: row 1: input 1 out of range\n";
+    HEATER { requests: "1,0,17FF,00\n" } refused 7 "plan: row 1: not free 17FF\n";
+};
 
 #[test]
 fn handled_runs(rt: HostRuntime) -> Result<(), Fail> {

@@ -7,6 +7,7 @@ use test_program_calls::{
 use test_texts::{BLOCK, RECORDS_OF_BOTH};
 
 /// The texts of SLOW and of FAST, if that is there, what is left, and what OUT holds then.
+#[derive(Clone, Copy)]
 struct Both {
     slow: &'static str,
     fast: Option<&'static str>,
@@ -14,44 +15,23 @@ struct Both {
     records: &'static str,
 }
 
-static BOTH: [Both; 6] = [
-    Both {
-        slow: BLOCK,
-        fast: Some(BLOCK),
-        left: Left::Lines("instructions 28\nfast 24\nbytes 174\n"),
-        records: RECORDS_OF_BOTH,
-    },
-    Both {
-        slow: "",
-        fast: Some("x"),
-        left: Left::Refused(4, "fcl: at 0: expected\n"),
-        records: BEFORE,
-    },
-    Both {
-        slow: BLOCK,
-        fast: Some("x"),
-        left: Left::Refused(4, "fast fcl: at 0: expected\n"),
-        records: BEFORE,
-    },
-    Both {
-        slow: BLOCK,
-        fast: Some("FUNCTION_BLOCK a RULEBLOCK r END_RULEBLOCK END_FUNCTION_BLOCK"),
-        left: Left::Refused(4, "fast fcl: at 43: load 12\n"),
-        records: BEFORE,
-    },
-    Both {
-        slow: "",
-        fast: None,
-        left: Left::Refused(2, "read fault: fast\n"),
-        records: BEFORE,
-    },
-    Both {
-        slow: BLOCK,
-        fast: None,
-        left: Left::Refused(2, "read fault: fast\n"),
-        records: BEFORE,
-    },
-];
+/// The heater at both levels.
+const HEATERS: Both = Both {
+    slow: BLOCK,
+    fast: Some(BLOCK),
+    left: Left::Lines("instructions 28\nfast 24\nbytes 174\n"),
+    records: RECORDS_OF_BOTH,
+};
+
+static BOTH: [Both; 6] = rows! { Both:
+    HEATERS {};
+    HEATERS { slow: "", fast: Some("x"), records: BEFORE } refused 4 "fcl: at 0: expected\n";
+    HEATERS { fast: Some("x"), records: BEFORE } refused 4 "fast fcl: at 0: expected\n";
+    HEATERS { fast: Some("FUNCTION_BLOCK a RULEBLOCK r END_RULEBLOCK END_FUNCTION_BLOCK"), records: BEFORE }
+        refused 4 "fast fcl: at 43: load 12\n";
+    HEATERS { slow: "", fast: None, records: BEFORE } refused 2 "read fault: fast\n";
+    HEATERS { fast: None, records: BEFORE } refused 2 "read fault: fast\n";
+};
 
 fn compile_both(alloc: Global, row: &Both) -> Result<(), Difference> {
     let mut files = Vec::new(alloc);

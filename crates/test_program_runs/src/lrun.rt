@@ -45,12 +45,9 @@ sample 1 bytes 64 answers 64 instructions 28 steps 36 resumed 0 frames 0
 // The fast code comes to EVAL by one instruction in the place of the slow one's three. So it is at a boundary where the
 // slow code is two behind, and at an address that is `$8014` lower: in REV at boundary 15 and `$401D`, in WAV at
 // boundary 24 and `$4028`. Its return is at boundary 31 and `$4038`.
-static RUNS: [AtLevels; 11] = [
-    HEATERS,
-    AtLevels {
-        levels: "1,26,1,24\n",
-        left: Left::Lines(
-            "error 1 19609
+static RUNS: [AtLevels; 11] = rows! { AtLevels:
+    HEATERS {};
+    HEATERS { levels: "1,26,1,24\n" } leaves "error 1 19609
 fast error 1 19609
 instructions 28
 fast instructions 24
@@ -58,15 +55,9 @@ sample 1 bytes 64 answers 64 instructions 28 steps 36 resumed 1 frames 1
 frame 1 26 C03C 1FEF 15
 fast 1 answers 0 instructions 24 steps 32 resumed 1
 inner 24 4028 1FE0 15
-",
-        ),
-        ..HEATERS
-    },
+";
     // I is first 0 after ANDCC.
-    AtLevels {
-        levels: "1,26,1,0\n",
-        left: Left::Lines(
-            "error 1 19609
+    HEATERS { levels: "1,26,1,0\n" } leaves "error 1 19609
 fast error 1 19609
 instructions 28
 fast instructions 24
@@ -74,16 +65,9 @@ sample 1 bytes 64 answers 64 instructions 28 steps 36 resumed 1 frames 1
 frame 1 26 C03C 1FEF 15
 fast 1 answers 0 instructions 24 steps 32 resumed 0
 inner 1 4002 1FE6 9
-",
-        ),
-        ..HEATERS
-    },
+";
     // No fast run, and then one at the same boundary; the sums of the slow WAV stand on the stack already.
-    AtLevels {
-        fast_trace: "0\n64\n",
-        levels: "1,26,0\n1,26,2,24,24\n",
-        left: Left::Lines(
-            "error 1 19609
+    HEATERS { fast_trace: "0\n64\n", levels: "1,26,0\n1,26,2,24,24\n" } leaves "error 1 19609
 fast error 1 19609
 instructions 28
 fast instructions 24
@@ -93,15 +77,9 @@ frame 1 26 C03C 1FEF 9
 fast 2 answers 64 instructions 24 steps 32 resumed 1
 inner 24 4028 1FE0 15
 inner 24 4028 1FE0 9
-",
-        ),
-        ..HEATERS
-    },
+";
     // Before and inside REV, inside WAV, before the return, and behind it.
-    AtLevels {
-        levels: "1,26,1,12,15,24,31,32\n",
-        left: Left::Lines(
-            "error 1 19609
+    HEATERS { levels: "1,26,1,12,15,24,31,32\n" } leaves "error 1 19609
 fast error 1 19609
 instructions 28
 fast instructions 24
@@ -112,17 +90,10 @@ inner 12 401D 1FE6 9
 inner 15 401D 1FE6 9
 inner 24 4028 1FE0 15
 inner 31 4038 1FE6 9
-",
-        ),
-        ..HEATERS
-    },
+";
     // In two samples, of which the second ends before its level's moment, and one that is not there.
-    AtLevels {
-        slow_trace: "64\n0\n256\n",
-        fast_trace: "0\n64\n",
-        levels: "1,0,2,0,0\n2,36,1\n3,14,1\n4,0,1\n",
-        left: Left::Lines(
-            "error 1 19609
+    HEATERS { slow_trace: "64\n0\n256\n", fast_trace: "0\n64\n", levels: "1,0,2,0,0\n2,36,1\n3,14,1\n4,0,1\n" }
+        leaves "error 1 19609
 fast error 1 19609
 instructions 28
 fast instructions 24
@@ -135,30 +106,19 @@ sample 2 bytes 0 answers 0 instructions 28 steps 36 resumed 0 frames 0
 sample 3 bytes 255 answers 255 instructions 28 steps 36 resumed 0 frames 1
 frame 3 14 C031 1FF5 9
 fast 1 answers 0 instructions 24 steps 32 resumed 0
-",
-        ),
-        ..HEATERS
-    },
+";
     // Traces with no sample.
-    AtLevels {
-        slow_trace: "",
-        fast_trace: "",
-        levels: "1,26,0\n",
-        left: Left::Lines(
-            "error 1 19609\nfast error 1 19609\ninstructions 28\nfast instructions 24\n",
-        ),
-        ..HEATERS
-    },
+    HEATERS { slow_trace: "", fast_trace: "", levels: "1,26,0\n" }
+        leaves "error 1 19609\nfast error 1 19609\ninstructions 28\nfast instructions 24\n";
     // A fast block that keeps its answer answers after the fast run before, whichever samples these are of.
-    AtLevels {
+    HEATERS {
         fast: &[LATCH],
         image: None,
         fast_cert: &["FZC 1\nclaim 3922\n", NODES_OF_THE_LATCH],
         slow_trace: "64\n64\n",
         fast_trace: "0\n128\n200\n",
-        levels: "1,0,2\n1,0,3\n1,0,2\n2,0,1\n2,0,2\n",
-        left: Left::Lines(
-            "error 1 19609
+        levels: "1,0,2\n1,0,3\n1,0,2\n2,0,1\n2,0,2\n"
+    } leaves "error 1 19609
 fast error 1 3922
 instructions 28
 fast instructions 26
@@ -174,20 +134,16 @@ frame 2 0 C008 1FF7 9
 fast 1 answers 255 instructions 26 steps 34 resumed 0
 frame 2 0 C008 1FF7 9
 fast 2 answers 255 instructions 23 steps 31 resumed 0
-",
-        ),
-        ..HEATERS
-    },
+";
     // The same as the slow one.
-    AtLevels {
+    HEATERS {
         slow: &[LATCH],
         image: None,
         slow_cert: &["FZC 1\nclaim 3922\n", NODES_OF_THE_LATCH],
         slow_trace: "0\n128\n",
         fast_trace: "64\n",
-        levels: "1,0,1\n2,0,1,0\n",
-        left: Left::Lines(
-            "error 1 3922
+        levels: "1,0,1\n2,0,1,0\n"
+    } leaves "error 1 3922
 fast error 1 19609
 instructions 30
 fast instructions 24
@@ -198,21 +154,17 @@ sample 2 bytes 128 answers 255 instructions 27 steps 35 resumed 0 frames 1
 frame 2 0 C008 1FF7 9
 fast 1 answers 64 instructions 24 steps 32 resumed 0
 inner 1 4002 1FEE 9
-",
-        ),
-        ..HEATERS
-    },
+";
     // Weights at both levels.
-    AtLevels {
+    HEATERS {
         slow: &HALF_WEIGHT,
         fast: &HALF_WEIGHT,
         image: None,
         slow_cert: WEIGHTED,
         fast_cert: WEIGHTED,
         fast_trace: "64\n",
-        levels: "1,0,1,0\n",
-        left: Left::Lines(
-            "error 1 51417
+        levels: "1,0,1,0\n"
+    } leaves "error 1 51417
 fast error 1 51417
 instructions 29
 fast instructions 25
@@ -220,101 +172,34 @@ sample 1 bytes 64 answers 102 instructions 29 steps 37 resumed 0 frames 1
 frame 1 0 C008 1FF7 9
 fast 1 answers 102 instructions 25 steps 33 resumed 0
 inner 1 4002 1FEE 9
-",
-        ),
-        ..HEATERS
-    },
+";
     // Claims above the errors.
-    AtLevels {
-        slow_cert: &["FZC 1\nclaim 20000\n", HALVES],
-        fast_cert: &["FZC 1\nclaim 20001\n", HALVES],
-        ..HEATERS
-    },
-];
+    HEATERS { slow_cert: &["FZC 1\nclaim 20000\n", HALVES], fast_cert: &["FZC 1\nclaim 20001\n", HALVES] };
+};
 
 const WEIGHTED: &[&str] = &["FZC 1\nclaim 51417\nsplit 1 128\nleaf 1 63\nleaf 2 127\n"];
 
 const LOW_CLAIM: &[&str] = &["FZC 1\nclaim 19608\n", HALVES];
 
 // Of two faults the first is told.
-static REFUSED: [AtLevels; 13] = [
-    AtLevels {
-        slow: &[],
-        fast: &["x"],
-        left: Left::Refused(4, "fcl: at 0: expected\n"),
-        ..HEATERS
-    },
-    AtLevels {
-        fast: &["x"],
-        image: Some(""),
-        left: Left::Refused(4, "fast fcl: at 0: expected\n"),
-        ..HEATERS
-    },
-    AtLevels {
-        image: Some(""),
-        slow_cert: &[],
-        left: Left::Refused(5, "image: no end\n"),
-        ..HEATERS
-    },
+static REFUSED: [AtLevels; 13] = rows! { AtLevels:
+    HEATERS { slow: &[], fast: &["x"] } refused 4 "fcl: at 0: expected\n";
+    HEATERS { fast: &["x"], image: Some("") } refused 4 "fast fcl: at 0: expected\n";
+    HEATERS { image: Some(""), slow_cert: &[] } refused 5 "image: no end\n";
     // The image of `compile`.
-    AtLevels {
-        image: Some(RECORDS),
-        left: Left::Refused(5, "image: 4000: none, compile gives 10\n"),
-        ..HEATERS
-    },
-    AtLevels {
-        slow_cert: LOW_CLAIM,
-        fast_cert: &[],
-        left: Left::Refused(6, "cert: output 1 claims 19608, computed 19609\n"),
-        ..HEATERS
-    },
-    AtLevels {
-        fast_cert: LOW_CLAIM,
-        slow_trace: "256.0001",
-        left: Left::Refused(6, "fast cert: output 1 claims 19608, computed 19609\n"),
-        ..HEATERS
-    },
-    AtLevels {
-        fast_cert: &[],
-        left: Left::Refused(6, "fast cert: early\n"),
-        ..HEATERS
-    },
-    AtLevels {
-        slow_trace: "256.0001",
-        fast_trace: "x",
-        left: Left::Refused(7, "trace: row 1: input 1 out of range\n"),
-        ..HEATERS
-    },
-    AtLevels {
-        fast_trace: "0\n256.0001",
-        levels: "x",
-        left: Left::Refused(7, "fast trace: row 2: input 1 out of range\n"),
-        ..HEATERS
-    },
+    HEATERS { image: Some(RECORDS) } refused 5 "image: 4000: none, compile gives 10\n";
+    HEATERS { slow_cert: LOW_CLAIM, fast_cert: &[] } refused 6 "cert: output 1 claims 19608, computed 19609\n";
+    HEATERS { fast_cert: LOW_CLAIM, slow_trace: "256.0001" }
+        refused 6 "fast cert: output 1 claims 19608, computed 19609\n";
+    HEATERS { fast_cert: &[] } refused 6 "fast cert: early\n";
+    HEATERS { slow_trace: "256.0001", fast_trace: "x" } refused 7 "trace: row 1: input 1 out of range\n";
+    HEATERS { fast_trace: "0\n256.0001", levels: "x" } refused 7 "fast trace: row 2: input 1 out of range\n";
     // There is one fast sample.
-    AtLevels {
-        slow_trace: "64\n0\n",
-        levels: "1,26,2\n",
-        left: Left::Refused(7, "plan: row 1: bad row\n"),
-        ..HEATERS
-    },
-    AtLevels {
-        fast_trace: "",
-        levels: "1,26,0\n1,26,1\n",
-        left: Left::Refused(7, "plan: row 2: bad row\n"),
-        ..HEATERS
-    },
-    AtLevels {
-        levels: "1,26,1,5,4\n",
-        left: Left::Refused(7, "plan: row 1: bad row\n"),
-        ..HEATERS
-    },
-    AtLevels {
-        levels: "2,5,0\n1,9,1\n",
-        left: Left::Refused(7, "plan: row 2: not ascending\n"),
-        ..HEATERS
-    },
-];
+    HEATERS { slow_trace: "64\n0\n", levels: "1,26,2\n" } refused 7 "plan: row 1: bad row\n";
+    HEATERS { fast_trace: "", levels: "1,26,0\n1,26,1\n" } refused 7 "plan: row 2: bad row\n";
+    HEATERS { levels: "1,26,1,5,4\n" } refused 7 "plan: row 1: bad row\n";
+    HEATERS { levels: "2,5,0\n1,9,1\n" } refused 7 "plan: row 2: not ascending\n";
+};
 
 /// The eight files, the image being empty where `lcompile` is to write it.
 fn shelf(alloc: Global, run: &AtLevels) -> Result<MemShelf, Difference> {

@@ -16,56 +16,35 @@ const HEATER: FiveFiles = FiveFiles {
 
 // A turn that answers takes the 36 steps of `run`, without CLR READY, and with ORCC, a copy, CLR POSTED and ANDCC: 39.
 // I is 1 from its boundary 3 to 6; REV begins at boundary 18, and WAV at 29.
-static RUNS: [FiveFiles; 18] = [
-    HEATER,
+static RUNS: [FiveFiles; 18] = rows! { FiveFiles:
+    HEATER {};
     // The second comes while the first is copied.
-    FiveFiles {
-        requests: "0,1\n3,2\n",
-        left: Left::Lines(
-            "error 1 19609
+    HEATER { requests: "0,1\n3,2\n" } leaves "error 1 19609
 instructions 31
 answer 1 sample 1 at 39 bytes 64 answers 64 instructions 31
 answer 2 sample 2 at 78 bytes 0 answers 0 instructions 31
 frame 0 C008 1FF7 9
 frame 6 C01A 1FF7 9
 resumed 0
-",
-        ),
-        ..HEATER
-    },
+";
     // It comes before the copy, in place of the first.
-    FiveFiles {
-        requests: "0,1\n2,2\n",
-        left: Left::Lines(
-            "error 1 19609
+    HEATER { requests: "0,1\n2,2\n" } leaves "error 1 19609
 instructions 31
 answer 1 sample 2 at 39 bytes 0 answers 0 instructions 31
 frame 0 C008 1FF7 9
 frame 2 C00D 1FF7 9
 resumed 0
-",
-        ),
-        ..HEATER
-    },
+";
     // Idle turns, and a post of no sample.
-    FiveFiles {
-        requests: "3,1,1800,FF\n5,0\n",
-        left: Left::Lines(
-            "error 1 19609
+    HEATER { requests: "3,1,1800,FF\n5,0\n" } leaves "error 1 19609
 instructions 31
 answer 1 sample 1 at 43 bytes 64 answers 64 instructions 31
 frame 3 C00B 1FF7 9
 frame 5 C00B 1FF7 9
 resumed 0
-",
-        ),
-        ..HEATER
-    },
+";
     // Inside REV, and inside WAV, which pushes its sums too.
-    FiveFiles {
-        requests: "0,1\n21,0\n30,2\n",
-        left: Left::Lines(
-            "error 1 19609
+    HEATER { requests: "0,1\n21,0\n30,2\n" } leaves "error 1 19609
 instructions 31
 answer 1 sample 1 at 39 bytes 64 answers 64 instructions 31
 answer 2 sample 2 at 78 bytes 0 answers 0 instructions 31
@@ -73,94 +52,33 @@ frame 0 C008 1FF7 9
 frame 21 C03B 1FF5 9
 frame 30 C046 1FEF 15
 resumed 2
-",
-        ),
-        ..HEATER
-    },
+";
     // A sample again, behind idle turns up to boundary 999999.
-    FiveFiles {
-        requests: "0,1\n1000000,1\n",
-        left: Left::Lines(
-            "error 1 19609
+    HEATER { requests: "0,1\n1000000,1\n" } leaves "error 1 19609
 instructions 31
 answer 1 sample 1 at 39 bytes 64 answers 64 instructions 31
 answer 2 sample 1 at 1000040 bytes 64 answers 64 instructions 31
 frame 0 C008 1FF7 9
 frame 1000000 C00B 1FF7 9
 resumed 0
-",
-        ),
-        ..HEATER
-    },
-    FiveFiles {
-        trace: "",
-        requests: "0,0\n",
-        left: Left::Lines("error 1 19609\ninstructions 31\nframe 0 C008 1FF7 9\nresumed 0\n"),
-        ..HEATER
-    },
+";
+    HEATER { trace: "", requests: "0,0\n" }
+        leaves "error 1 19609\ninstructions 31\nframe 0 C008 1FF7 9\nresumed 0\n";
     // the first of two faults is told
-    FiveFiles {
-        fcl: "",
-        records: "",
-        left: Left::Refused(4, "fcl: at 0: expected\n"),
-        ..HEATER
-    },
-    FiveFiles {
-        records: "",
-        cert: &[],
-        left: Left::Refused(5, "image: no end\n"),
-        ..HEATER
-    },
+    HEATER { fcl: "", records: "" } refused 4 "fcl: at 0: expected\n";
+    HEATER { records: "", cert: &[] } refused 5 "image: no end\n";
     // the image of `compile`
-    FiveFiles {
-        records: RECORDS,
-        left: Left::Refused(5, "image: C005: 00, compile gives 28\n"),
-        ..HEATER
-    },
-    FiveFiles {
-        cert: &["FZC 1\nclaim 19608\n", HALVES],
-        trace: "256.0001",
-        left: Left::Refused(6, "cert: output 1 claims 19608, computed 19609\n"),
-        ..HEATER
-    },
-    FiveFiles {
-        trace: "256.0001",
-        requests: "x",
-        left: Left::Refused(7, "trace: row 1: input 1 out of range\n"),
-        ..HEATER
-    },
-    FiveFiles {
-        requests: "3,1\n0,2\n",
-        left: Left::Refused(7, "plan: row 2: not ascending\n"),
-        ..HEATER
-    },
-    FiveFiles {
-        requests: "0,2\n0,3\n",
-        left: Left::Refused(7, "plan: row 2: bad row\n"),
-        ..HEATER
-    },
-    FiveFiles {
-        trace: "",
-        requests: "0,1\n",
-        left: Left::Refused(7, "plan: row 1: bad row\n"),
-        ..HEATER
-    },
-    FiveFiles {
-        requests: "1000001,1\n",
-        left: Left::Refused(7, "plan: row 1: bad row\n"),
-        ..HEATER
-    },
-    FiveFiles {
-        requests: "0,1,1028,00\n",
-        left: Left::Refused(7, "plan: row 1: not free 1028\n"),
-        ..HEATER
-    },
-    FiveFiles {
-        requests: "0\n",
-        left: Left::Refused(7, "plan: row 1: bad row\n"),
-        ..HEATER
-    },
-];
+    HEATER { records: RECORDS } refused 5 "image: C005: 00, compile gives 28\n";
+    HEATER { cert: &["FZC 1\nclaim 19608\n", HALVES], trace: "256.0001" }
+        refused 6 "cert: output 1 claims 19608, computed 19609\n";
+    HEATER { trace: "256.0001", requests: "x" } refused 7 "trace: row 1: input 1 out of range\n";
+    HEATER { requests: "3,1\n0,2\n" } refused 7 "plan: row 2: not ascending\n";
+    HEATER { requests: "0,2\n0,3\n" } refused 7 "plan: row 2: bad row\n";
+    HEATER { trace: "", requests: "0,1\n" } refused 7 "plan: row 1: bad row\n";
+    HEATER { requests: "1000001,1\n" } refused 7 "plan: row 1: bad row\n";
+    HEATER { requests: "0,1,1028,00\n" } refused 7 "plan: row 1: not free 1028\n";
+    HEATER { requests: "0\n" } refused 7 "plan: row 1: bad row\n";
+};
 
 #[test]
 fn posted_runs(rt: HostRuntime) -> Result<(), Fail> {

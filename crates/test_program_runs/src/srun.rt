@@ -45,195 +45,86 @@ const HEATER: Ran = Ran {
 
 /// The check takes 61 instructions more than the heater's 28: 3 for each of 18 bytes, 1 for each of 3 segments, and 4.
 /// Where it fails, BAD follows after 63: 5 with the return, and 2 to LOOP.
-static RUNS: [Ran; 25] = [
-    HEATER,
-    Ran {
-        upsets: "1,D201,FE\n",
-        left: UPSET,
-        ..HEATER
-    },
-    Ran {
-        upsets: "1,D201,FF\n",
-        ..HEATER
-    },
-    Ran {
-        upsets: "2,D201,FE\n",
-        ..HEATER
-    },
+static RUNS: [Ran; 25] = rows! { Ran:
+    HEATER {};
+    HEATER { upsets: "1,D201,FE\n", left: UPSET };
+    HEATER { upsets: "1,D201,FF\n" };
+    HEATER { upsets: "2,D201,FE\n" };
     // The tables' first and last bytes, and the rule list's.
-    Ran {
-        upsets: "1,D000,80\n",
-        left: UPSET,
-        ..HEATER
-    },
-    Ran {
-        upsets: "1,D007,01\n",
-        left: UPSET,
-        ..HEATER
-    },
-    Ran {
-        upsets: "1,D200,FF\n",
-        left: UPSET,
-        ..HEATER
-    },
-    Ran {
-        upsets: "1,D800,01\n",
-        left: UPSET,
-        ..HEATER
-    },
+    HEATER { upsets: "1,D000,80\n", left: UPSET };
+    HEATER { upsets: "1,D007,01\n", left: UPSET };
+    HEATER { upsets: "1,D200,FF\n", left: UPSET };
+    HEATER { upsets: "1,D800,01\n", left: UPSET };
     // The list without its end: it is not evaluated.
-    Ran {
-        upsets: "1,D807,FE\n",
-        left: UPSET,
-        ..HEATER
-    },
+    HEATER { upsets: "1,D807,FE\n", left: UPSET };
     // The byte stands there again for the next sample.
-    Ran {
-        trace: "64\n64\n64\n255\n",
-        upsets: "2,D804,00\n4,D001,7F\n",
-        left: Left::Lines(
-            "error 1 19609
+    HEATER { trace: "64\n64\n64\n255\n", upsets: "2,D804,00\n4,D001,7F\n" } leaves "error 1 19609
 instructions 89
 sample 1 bytes 64 answers 64 instructions 89 steps 97 resumed 0 frames 0 fault 0
 sample 2 bytes 64 answers 0 instructions 70 steps 70 resumed 0 frames 0 fault 1
 sample 3 bytes 64 answers 64 instructions 89 steps 97 resumed 0 frames 0 fault 0
 sample 4 bytes 255 answers 0 instructions 70 steps 70 resumed 0 frames 0 fault 1
-",
-        ),
-        ..HEATER
-    },
-    Ran {
-        trace: "",
-        upsets: "1,D201,FE\n",
-        left: Left::Lines("error 1 19609\ninstructions 89\n"),
-        ..HEATER
-    },
+";
+    HEATER { trace: "", upsets: "1,D201,FE\n" } leaves "error 1 19609\ninstructions 89\n";
     // An interrupt inside the check, before its first branch back.
-    Ran {
-        plan: "1,7,1800,55\n",
-        left: Left::Lines(
-            "error 1 19609
+    HEATER { plan: "1,7,1800,55\n" } leaves "error 1 19609
 instructions 89
 sample 1 bytes 64 answers 64 instructions 89 steps 97 resumed 0 frames 1 fault 0
 frame 1 7 C02B 1FF5 9
-",
-        ),
-        ..HEATER
-    },
-    Ran {
-        plan: "1,7,1800,55\n",
-        upsets: "1,D201,FE\n",
-        left: Left::Lines(
-            "error 1 19609
+";
+    HEATER { plan: "1,7,1800,55\n", upsets: "1,D201,FE\n" } leaves "error 1 19609
 instructions 89
 sample 1 bytes 64 answers 0 instructions 70 steps 70 resumed 0 frames 1 fault 1
 frame 1 7 C02B 1FF5 9
-",
-        ),
-        ..HEATER
-    },
+";
     // One inside REV, 61 steps later than without the check.
-    Ran {
-        plan: "1,78\n",
-        left: Left::Lines(
-            "error 1 19609
+    HEATER { plan: "1,78\n" } leaves "error 1 19609
 instructions 89
 sample 1 bytes 64 answers 64 instructions 89 steps 97 resumed 1 frames 1 fault 0
 frame 1 78 C063 1FF5 9
-",
-        ),
-        ..HEATER
-    },
+";
     // With NC the answer before stands, and is the one before the next answer too.
-    Ran {
+    HEATER {
         fcl: &[LATCH],
         cert: &["FZC 1\nclaim 3922\n", NODES_OF_THE_LATCH],
         trace: "0\n200\n128\n200\n128\n",
-        upsets: "2,D200,01\n",
-        left: Left::Lines(
-            "error 1 3922
+        upsets: "2,D200,01\n"
+    } leaves "error 1 3922
 instructions 91
 sample 1 bytes 0 answers 255 instructions 91 steps 99 resumed 0 frames 0 fault 0
 sample 2 bytes 200 answers 255 instructions 68 steps 68 resumed 0 frames 0 fault 1
 sample 3 bytes 128 answers 255 instructions 88 steps 96 resumed 0 frames 0 fault 0
 sample 4 bytes 200 answers 0 instructions 91 steps 99 resumed 0 frames 0 fault 0
 sample 5 bytes 128 answers 0 instructions 88 steps 96 resumed 0 frames 0 fault 0
-",
-        ),
-        ..HEATER
-    },
+";
     // REVW: four segments of 28 bytes in all, 92 instructions more than without the check.
-    Ran {
-        fcl: &HALF_WEIGHT,
-        cert: &["FZC 1\nclaim 51417\nsplit 1 128\nleaf 1 63\nleaf 2 127\n"],
-        left: Left::Lines(
-            "error 1 51417
+    HEATER { fcl: &HALF_WEIGHT, cert: &["FZC 1\nclaim 51417\nsplit 1 128\nleaf 1 63\nleaf 2 127\n"] }
+        leaves "error 1 51417
 instructions 121
 sample 1 bytes 64 answers 102 instructions 121 steps 129 resumed 0 frames 0 fault 0
-",
-        ),
-        ..HEATER
-    },
+";
     // A weight of it.
-    Ran {
+    HEATER {
         fcl: &HALF_WEIGHT,
         cert: &["FZC 1\nclaim 51417\nsplit 1 128\nleaf 1 63\nleaf 2 127\n"],
-        upsets: "1,D300,00\n",
-        left: Left::Lines(
-            "error 1 51417
+        upsets: "1,D300,00\n"
+    } leaves "error 1 51417
 instructions 121
 sample 1 bytes 64 answers 0 instructions 101 steps 101 resumed 0 frames 0 fault 1
-",
-        ),
-        ..HEATER
-    },
+";
     // Each file but FCL is refused, and those behind it with it.
-    Ran {
-        image_by: "compile",
-        cert: &["FZC 1\nclaim 19608\n", HALVES],
-        left: Left::Refused(5, "image: C00F: 16, compile gives 21\n"),
-        ..HEATER
-    },
-    Ran {
-        cert: &["FZC 1\nclaim 19608\n", HALVES],
-        trace: "257\n",
-        left: Left::Refused(6, "cert: output 1 claims 19608, computed 19609\n"),
-        ..HEATER
-    },
-    Ran {
-        trace: "257\n",
-        plan: "0,1\n",
-        upsets: "1,D202,00\n",
-        left: Left::Refused(7, "trace: row 1: input 1 out of range\n"),
-        ..HEATER
-    },
-    Ran {
-        plan: "1,0,17FF,00\n",
-        upsets: "1,D202,00\n",
-        left: Left::Refused(7, "plan: row 1: not free 17FF\n"),
-        ..HEATER
-    },
-    Ran {
-        upsets: "1,D202,00\n",
-        left: Left::Refused(7, "upset: row 1: not table D202\n"),
-        ..HEATER
-    },
-    Ran {
-        upsets: "1,D201,FE\n2,D201\n",
-        left: Left::Refused(7, "upset: row 2: bad row\n"),
-        ..HEATER
-    },
-    Ran {
-        upsets: "1,D201,FE\n1,D200,01\n",
-        left: Left::Refused(7, "upset: row 2: not ascending\n"),
-        ..HEATER
-    },
-    Ran {
-        upsets: "1,C000,FE\n",
-        left: Left::Refused(7, "upset: row 1: not table C000\n"),
-        ..HEATER
-    },
-];
+    HEATER { image_by: "compile", cert: &["FZC 1\nclaim 19608\n", HALVES] }
+        refused 5 "image: C00F: 16, compile gives 21\n";
+    HEATER { cert: &["FZC 1\nclaim 19608\n", HALVES], trace: "257\n" }
+        refused 6 "cert: output 1 claims 19608, computed 19609\n";
+    HEATER { trace: "257\n", plan: "0,1\n", upsets: "1,D202,00\n" }
+        refused 7 "trace: row 1: input 1 out of range\n";
+    HEATER { plan: "1,0,17FF,00\n", upsets: "1,D202,00\n" } refused 7 "plan: row 1: not free 17FF\n";
+    HEATER { upsets: "1,D202,00\n" } refused 7 "upset: row 1: not table D202\n";
+    HEATER { upsets: "1,D201,FE\n2,D201\n" } refused 7 "upset: row 2: bad row\n";
+    HEATER { upsets: "1,D201,FE\n1,D200,01\n" } refused 7 "upset: row 2: not ascending\n";
+    HEATER { upsets: "1,C000,FE\n" } refused 7 "upset: row 1: not table C000\n";
+};
 
 /// The six files, the image being empty.
 fn shelf(alloc: Global, ran: &Ran, trace: &str, upsets: &str) -> Result<MemShelf, Difference> {
