@@ -25,47 +25,18 @@ const HEATER: Search = Search {
     out: Some("FZC 1\nclaim 19609\nsplit 1 128\nleaf 1 127\nleaf 2 127\n"),
 };
 
-static SEARCHES: [Search; 11] = [
-    HEATER,
-    Search {
-        target: "0019609",
-        ..HEATER
-    },
-    Search {
-        command: "certify16",
-        target: "15702",
-        left: Left::Lines("error 1 15702\nleaves 2\n"),
-        out: Some("FZC 2\nclaim 15702\nsplit 1 128\nleaf 1 127\nleaf 2 127\n"),
-        ..HEATER
-    },
-    Search {
-        target: "5000",
-        left: Left::Refused(8, "not reached: cell 0 output 1 bound 11765\n"),
-        out: Some(BEFORE),
-        ..HEATER
-    },
-    Search {
-        fcl: &[FRONT, "50", MIDDLE, BACK],
-        target: "1000000",
-        left: Left::Refused(8, "not reached: cell 254 output 1 bound 1000001\n"),
-        out: Some(BEFORE),
-        ..HEATER
-    },
-    Search {
-        fcl: &[LATCH],
-        target: "3922",
-        left: Left::Lines("error 1 3922\nleaves 4\n"),
-        out: Some(
-            "FZC 1\nclaim 3922\nsplit 1 128\nsplit 1 64\nleaf 1 255\nleaf 0 0\nsplit 1 192\nleaf 0 0\nleaf 2 255\n",
-        ),
-        ..HEATER
-    },
-    Search {
-        fcl: &[TWO_OUTPUTS],
-        target: "21569",
-        left: Left::Lines("error 1 19609\nerror 2 21569\nleaves 4\n"),
-        out: Some(
-            "FZC 1
+static SEARCHES: [Search; 11] = rows! { Search:
+    HEATER {};
+    HEATER { target: "0019609" };
+    HEATER { command: "certify16", target: "15702" } leaves "error 1 15702\nleaves 2\n"
+        makes "FZC 2\nclaim 15702\nsplit 1 128\nleaf 1 127\nleaf 2 127\n";
+    HEATER { target: "5000" } refused 8 "not reached: cell 0 output 1 bound 11765\n" makes BEFORE;
+    HEATER { fcl: &[FRONT, "50", MIDDLE, BACK], target: "1000000" }
+        refused 8 "not reached: cell 254 output 1 bound 1000001\n" makes BEFORE;
+    HEATER { fcl: &[LATCH], target: "3922" } leaves "error 1 3922\nleaves 4\n"
+        makes "FZC 1\nclaim 3922\nsplit 1 128\nsplit 1 64\nleaf 1 255\nleaf 0 0\nsplit 1 192\nleaf 0 0\nleaf 2 255\n";
+    HEATER { fcl: &[TWO_OUTPUTS], target: "21569" } leaves "error 1 19609\nerror 2 21569\nleaves 4\n"
+        makes "FZC 1
 claim 19609 21569
 split 1 128
 split 2 128
@@ -74,37 +45,13 @@ leaf 1 127 4 127
 split 2 128
 leaf 2 127 3 127
 leaf 2 127 4 127
-",
-        ),
-        ..HEATER
-    },
+";
     // A target of 14000 needs 2944 leaves.
-    Search {
-        fcl: &[TWO_OUTPUTS],
-        target: "13757",
-        left: Left::Refused(8, "not reached: leaf limit\n"),
-        out: Some(BEFORE),
-        ..HEATER
-    },
-    Search {
-        fcl: &[],
-        left: Left::Refused(4, "fcl: at 0: expected\n"),
-        out: Some(BEFORE),
-        ..HEATER
-    },
-    Search {
-        target: "1000001",
-        left: USAGE,
-        out: Some(BEFORE),
-        ..HEATER
-    },
-    Search {
-        target: "1e4",
-        left: USAGE,
-        out: Some(BEFORE),
-        ..HEATER
-    },
-];
+    HEATER { fcl: &[TWO_OUTPUTS], target: "13757" } refused 8 "not reached: leaf limit\n" makes BEFORE;
+    HEATER { fcl: &[] } refused 4 "fcl: at 0: expected\n" makes BEFORE;
+    HEATER { target: "1000001", left: USAGE } makes BEFORE;
+    HEATER { target: "1e4", left: USAGE } makes BEFORE;
+};
 
 pub(crate) fn find(alloc: Global, row: &Search) -> Result<(), Difference> {
     let mut files = Vec::new(alloc);

@@ -36,146 +36,60 @@ const BOTH: Certificate = Certificate {
     ..HEATER
 };
 
-static CERTIFICATES: [Certificate; 17] = [
-    HEATER,
-    Certificate {
-        cert: &["FZC 1\nclaim 20000\n", HALVES],
-        ..HEATER
-    },
-    Certificate {
-        cert: &["FZC 1\nclaim 19608\n", HALVES],
-        left: Left::Refused(6, "cert: output 1 claims 19608, computed 19609\n"),
-        ..HEATER
-    },
-    Certificate {
-        cert: &["FZC 1\nclaim 19609\nsplit 1 128\n"],
-        left: Left::Refused(6, "cert: early\n"),
-        ..HEATER
-    },
-    Certificate {
-        cert: &["FZC 1\nclaim 19609\nsplit 1 128\nleaf 1 128\nleaf 2 127\n"],
-        left: Left::Refused(6, "cert: line 4: weak rule 1 k 128 low 500000000\n"),
-        ..HEATER
-    },
-    Certificate {
-        cert: &["FZC 1\nclaim 19609\nsplit 1 0\nleaf 1 127\nleaf 2 127\n"],
-        left: Left::Refused(6, "cert: line 3: bad cut\n"),
-        ..HEATER
-    },
-    Certificate {
-        cert: &["FZC 1\nclaim 19609\nsplit 1 128\nleaf 2 127\nleaf 2 127\n"],
-        left: Left::Refused(6, "cert: line 4: weak rule 2 k 127 low 0\n"),
-        ..HEATER
-    },
-    Certificate {
-        cert: &["FZC 1\nclaim 19609\nsplit 1 128\nleaf 0 0\nleaf 2 127\n"],
-        left: Left::Refused(6, "cert: line 4: silent rule 1 high 1000000000\n"),
-        ..HEATER
-    },
-    Certificate {
-        cert: &["FZC 1\nclaim 19609\n", HALVES, "leaf 0 0\n"],
-        left: Left::Refused(6, "cert: line 6: late\n"),
-        ..HEATER
-    },
-    Certificate {
-        cert: &["FZC 1\nclaim 1 1\nleaf 0 0 0 0\n"],
-        left: Left::Refused(6, "cert: outputs 2 1\n"),
-        ..HEATER
-    },
-    Certificate {
-        command: "check16",
-        cert: &["FZC 2\nclaim 15702\n", HALVES],
-        left: Left::Lines("error 1 15702\ninstructions 31\n"),
-        ..HEATER
-    },
-    Certificate {
-        command: "check16",
-        cert: &["FZC 1\nclaim 19609\n", HALVES],
-        left: Left::Refused(6, "cert: line 1: bad line\n"),
-        ..HEATER
-    },
-    Certificate {
-        fcl: &HALF_WEIGHT,
-        cert: &["FZC 1\nclaim 51417\nsplit 1 128\nleaf 1 63\nleaf 2 127\n"],
-        left: Left::Lines("error 1 51417\ninstructions 29\n"),
-        ..HEATER
-    },
-    Certificate {
-        fcl: &HALF_WEIGHT,
-        cert: &["FZC 1\nclaim 51417\nsplit 1 128\nleaf 1 64\nleaf 2 127\n"],
-        left: Left::Refused(6, "cert: line 4: weak rule 1 k 64 low 250000000\n"),
-        ..HEATER
-    },
-    Certificate {
-        fcl: &[LATCH],
-        cert: &["FZC 1\nclaim 3922\n", NODES_OF_THE_LATCH],
-        left: Left::Lines("error 1 3922\ninstructions 30\n"),
-        ..HEATER
-    },
-    Certificate {
-        fcl: &[LATCH],
-        cert: &["FZC 1\nclaim 19609\n", HALVES],
-        left: Left::Refused(6, "cert: line 4: weak rule 1 k 127 low 0\n"),
-        ..HEATER
-    },
-    Certificate {
-        fcl: &[],
-        cert: &["FZC 3\n"],
-        left: Left::Refused(4, "fcl: at 0: expected\n"),
-        ..HEATER
-    },
-];
+static CERTIFICATES: [Certificate; 17] = rows! { Certificate:
+    HEATER {};
+    HEATER { cert: &["FZC 1\nclaim 20000\n", HALVES] };
+    HEATER { cert: &["FZC 1\nclaim 19608\n", HALVES] }
+        refused 6 "cert: output 1 claims 19608, computed 19609\n";
+    HEATER { cert: &["FZC 1\nclaim 19609\nsplit 1 128\n"] } refused 6 "cert: early\n";
+    HEATER { cert: &["FZC 1\nclaim 19609\nsplit 1 128\nleaf 1 128\nleaf 2 127\n"] }
+        refused 6 "cert: line 4: weak rule 1 k 128 low 500000000\n";
+    HEATER { cert: &["FZC 1\nclaim 19609\nsplit 1 0\nleaf 1 127\nleaf 2 127\n"] }
+        refused 6 "cert: line 3: bad cut\n";
+    HEATER { cert: &["FZC 1\nclaim 19609\nsplit 1 128\nleaf 2 127\nleaf 2 127\n"] }
+        refused 6 "cert: line 4: weak rule 2 k 127 low 0\n";
+    HEATER { cert: &["FZC 1\nclaim 19609\nsplit 1 128\nleaf 0 0\nleaf 2 127\n"] }
+        refused 6 "cert: line 4: silent rule 1 high 1000000000\n";
+    HEATER { cert: &["FZC 1\nclaim 19609\n", HALVES, "leaf 0 0\n"] } refused 6 "cert: line 6: late\n";
+    HEATER { cert: &["FZC 1\nclaim 1 1\nleaf 0 0 0 0\n"] } refused 6 "cert: outputs 2 1\n";
+    HEATER { command: "check16", cert: &["FZC 2\nclaim 15702\n", HALVES] }
+        leaves "error 1 15702\ninstructions 31\n";
+    HEATER { command: "check16", cert: &["FZC 1\nclaim 19609\n", HALVES] }
+        refused 6 "cert: line 1: bad line\n";
+    HEATER { fcl: &HALF_WEIGHT, cert: &["FZC 1\nclaim 51417\nsplit 1 128\nleaf 1 63\nleaf 2 127\n"] }
+        leaves "error 1 51417\ninstructions 29\n";
+    HEATER { fcl: &HALF_WEIGHT, cert: &["FZC 1\nclaim 51417\nsplit 1 128\nleaf 1 64\nleaf 2 127\n"] }
+        refused 6 "cert: line 4: weak rule 1 k 64 low 250000000\n";
+    HEATER { fcl: &[LATCH], cert: &["FZC 1\nclaim 3922\n", NODES_OF_THE_LATCH] }
+        leaves "error 1 3922\ninstructions 30\n";
+    HEATER { fcl: &[LATCH], cert: &["FZC 1\nclaim 19609\n", HALVES] }
+        refused 6 "cert: line 4: weak rule 1 k 127 low 0\n";
+    HEATER { fcl: &[], cert: &["FZC 3\n"] } refused 4 "fcl: at 0: expected\n";
+};
 
-static OTHERS: [Certificate; 9] = [
-    BOTH,
-    Certificate {
-        cert: &["FZC 1\nclaim 19609 21568\n", QUARTERS],
-        left: Left::Refused(6, "cert: output 2 claims 21568, computed 21569\n"),
-        ..BOTH
-    },
-    Certificate {
-        cert: &["FZC 1\nclaim 19608 21568\n", QUARTERS],
-        left: Left::Refused(6, "cert: output 1 claims 19608, computed 19609\n"),
-        ..BOTH
-    },
-    Certificate {
+static OTHERS: [Certificate; 9] = rows! { Certificate:
+    BOTH {};
+    BOTH { cert: &["FZC 1\nclaim 19609 21568\n", QUARTERS] }
+        refused 6 "cert: output 2 claims 21568, computed 21569\n";
+    BOTH { cert: &["FZC 1\nclaim 19608 21568\n", QUARTERS] }
+        refused 6 "cert: output 1 claims 19608, computed 19609\n";
+    BOTH {
         cert: &[
             "FZC 1\nclaim 19609 21569\nsplit 1 128\nsplit 2 128\nleaf 1 127 3 128\nleaf 1 128 4 127\n",
             "leaf 1 127 3 127\n",
-        ],
-        left: Left::Refused(6, "cert: line 5: weak rule 3 k 128 low 500000000\n"),
-        ..BOTH
-    },
-    Certificate {
-        cert: &["FZC 1\nclaim 19609\nsplit 1 128\nleaf 3 127\nleaf 2 127\n"],
-        left: Left::Refused(6, "cert: line 4: bad rule\n"),
-        ..HEATER
-    },
-    Certificate {
-        fcl: &[ROUNDED],
-        cert: &["FZC 1\nclaim 19609\nsplit 1 56\nleaf 2 1\nleaf 0 0\n"],
-        left: Left::Refused(6, "cert: line 4: still rule 2\n"),
-        ..HEATER
-    },
-    Certificate {
-        fcl: &[ROUNDED],
-        cert: &["FZC 1\nclaim 19609\nsplit 1 56\nleaf 2 2\nleaf 0 0\n"],
-        left: Left::Refused(6, "cert: line 4: weak rule 2 k 2 low 5000000\n"),
-        ..HEATER
-    },
-    Certificate {
-        fcl: &[ROUNDED],
-        cert: &["FZC 1\nclaim 19609\nsplit 1 56\nleaf 0 0\nleaf 0 0\n"],
-        left: Left::Refused(6, "cert: line 4: loud rule 1 byte 55\n"),
-        ..HEATER
-    },
-    Certificate {
-        fcl: &[ROUNDED],
-        cert: &["FZC 1\nclaim 19609\nsplit 1 57\nleaf 0 0\nleaf 0 0\n"],
-        left: Left::Refused(6, "cert: line 4: silent rule 1 high 5000000\n"),
-        ..HEATER
-    },
-];
+        ]
+    } refused 6 "cert: line 5: weak rule 3 k 128 low 500000000\n";
+    HEATER { cert: &["FZC 1\nclaim 19609\nsplit 1 128\nleaf 3 127\nleaf 2 127\n"] }
+        refused 6 "cert: line 4: bad rule\n";
+    HEATER { fcl: &[ROUNDED], cert: &["FZC 1\nclaim 19609\nsplit 1 56\nleaf 2 1\nleaf 0 0\n"] }
+        refused 6 "cert: line 4: still rule 2\n";
+    HEATER { fcl: &[ROUNDED], cert: &["FZC 1\nclaim 19609\nsplit 1 56\nleaf 2 2\nleaf 0 0\n"] }
+        refused 6 "cert: line 4: weak rule 2 k 2 low 5000000\n";
+    HEATER { fcl: &[ROUNDED], cert: &["FZC 1\nclaim 19609\nsplit 1 56\nleaf 0 0\nleaf 0 0\n"] }
+        refused 6 "cert: line 4: loud rule 1 byte 55\n";
+    HEATER { fcl: &[ROUNDED], cert: &["FZC 1\nclaim 19609\nsplit 1 57\nleaf 0 0\nleaf 0 0\n"] }
+        refused 6 "cert: line 4: silent rule 1 high 5000000\n";
+};
 
 pub(crate) fn judge(alloc: Global, rows: &[Certificate]) -> Result<(), Difference> {
     for row in rows {

@@ -30,128 +30,33 @@ const TEN_STEPS: Execution = Execution {
     left: ARRIVED,
 };
 
-static EXECUTIONS: [Execution; 24] = [
-    TEN_STEPS,
-    Execution {
-        steps: "2",
-        ..TEN_STEPS
-    },
-    Execution {
-        steps: "0000000000000002",
-        ..TEN_STEPS
-    },
-    Execution {
-        steps: "1",
-        left: Left::Refused(13, "budget: 1\n"),
-        ..TEN_STEPS
-    },
-    Execution {
-        steps: "0",
-        left: Left::Refused(13, "budget: 0\n"),
-        ..TEN_STEPS
-    },
-    Execution {
-        records: ENDLESS,
-        steps: "1000000",
-        left: Left::Refused(13, "budget: 1000000\n"),
-        ..TEN_STEPS
-    },
-    Execution {
-        records: NO_FRAME,
-        steps: "1000000",
-        left: Left::Lines("pc C001 a 00 b 00 x 0000 y 0000 sp 0006 ccr D4 steps 1\n"),
-        ..TEN_STEPS
-    },
-    Execution {
-        records: RETURN,
-        steps: "1000000",
-        left: Left::Refused(12, "trap: 0000 00\n"),
-        ..TEN_STEPS
-    },
-    Execution {
-        records: "S903C0003C",
-        left: Left::Refused(12, "trap: 0000 00\n"),
-        ..TEN_STEPS
-    },
-    Execution {
-        records: "S903C0003C",
-        steps: "0",
-        left: Left::Refused(13, "budget: 0\n"),
-        ..TEN_STEPS
-    },
-    Execution {
-        records: "S903C0003D",
-        left: Left::Refused(5, "image: line 1: bad sum 3D 3C\n"),
-        ..TEN_STEPS
-    },
-    Execution {
-        records: "",
-        left: Left::Refused(5, "image: no end\n"),
-        ..TEN_STEPS
-    },
-    Execution {
-        records: "S105FFFF0000FC",
-        left: Left::Refused(5, "image: line 1: bad line\n"),
-        ..TEN_STEPS
-    },
-    Execution {
-        records: "S0030000FC\nS804000000FB\n",
-        left: Left::Refused(5, "image: line 2: wide\n"),
-        ..TEN_STEPS
-    },
-    Execution {
-        records: "S5030002FA\n",
-        steps: "0",
-        left: Left::Refused(5, "image: count 2 0\n"),
-        ..TEN_STEPS
-    },
-    Execution {
-        records: "S903C0003C\n\n",
-        steps: "0",
-        left: Left::Refused(5, "image: line 2: after end\n"),
-        ..TEN_STEPS
-    },
-    Execution {
-        steps: "",
-        left: USAGE,
-        ..TEN_STEPS
-    },
-    Execution {
-        steps: "1000001",
-        left: USAGE,
-        ..TEN_STEPS
-    },
-    Execution {
-        steps: "4294967298",
-        left: USAGE,
-        ..TEN_STEPS
-    },
-    Execution {
-        steps: "+1",
-        left: USAGE,
-        ..TEN_STEPS
-    },
-    Execution {
-        steps: "1 ",
-        left: USAGE,
-        ..TEN_STEPS
-    },
-    Execution {
-        steps: "0x1",
-        left: USAGE,
-        ..TEN_STEPS
-    },
-    Execution {
-        steps: "A",
-        left: USAGE,
-        ..TEN_STEPS
-    },
-    Execution {
-        flags: "0",
-        left: USAGE,
-        ..TEN_STEPS
-    },
-];
+static EXECUTIONS: [Execution; 24] = rows! { Execution:
+    TEN_STEPS {};
+    TEN_STEPS { steps: "2" };
+    TEN_STEPS { steps: "0000000000000002" };
+    TEN_STEPS { steps: "1" } refused 13 "budget: 1\n";
+    TEN_STEPS { steps: "0" } refused 13 "budget: 0\n";
+    TEN_STEPS { records: ENDLESS, steps: "1000000" } refused 13 "budget: 1000000\n";
+    TEN_STEPS { records: NO_FRAME, steps: "1000000" }
+        leaves "pc C001 a 00 b 00 x 0000 y 0000 sp 0006 ccr D4 steps 1\n";
+    TEN_STEPS { records: RETURN, steps: "1000000" } refused 12 "trap: 0000 00\n";
+    TEN_STEPS { records: "S903C0003C" } refused 12 "trap: 0000 00\n";
+    TEN_STEPS { records: "S903C0003C", steps: "0" } refused 13 "budget: 0\n";
+    TEN_STEPS { records: "S903C0003D" } refused 5 "image: line 1: bad sum 3D 3C\n";
+    TEN_STEPS { records: "" } refused 5 "image: no end\n";
+    TEN_STEPS { records: "S105FFFF0000FC" } refused 5 "image: line 1: bad line\n";
+    TEN_STEPS { records: "S0030000FC\nS804000000FB\n" } refused 5 "image: line 2: wide\n";
+    TEN_STEPS { records: "S5030002FA\n", steps: "0" } refused 5 "image: count 2 0\n";
+    TEN_STEPS { records: "S903C0003C\n\n", steps: "0" } refused 5 "image: line 2: after end\n";
+    TEN_STEPS { steps: "", left: USAGE };
+    TEN_STEPS { steps: "1000001", left: USAGE };
+    TEN_STEPS { steps: "4294967298", left: USAGE };
+    TEN_STEPS { steps: "+1", left: USAGE };
+    TEN_STEPS { steps: "1 ", left: USAGE };
+    TEN_STEPS { steps: "0x1", left: USAGE };
+    TEN_STEPS { steps: "A", left: USAGE };
+    TEN_STEPS { flags: "0", left: USAGE };
+};
 
 #[test]
 fn executions(rt: HostRuntime) -> Result<(), Fail> {

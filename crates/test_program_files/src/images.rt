@@ -14,67 +14,27 @@ struct Written {
     command: &'static str,
     source: &'static str,
     left: Left<'static>,
-    records: Option<&'static str>,
+    out: Option<&'static str>,
 }
 
 const COMPILED: Written = Written {
     command: "compile",
     source: BLOCK,
     left: Left::Lines("instructions 28\nsteps 36\nbytes 99\n"),
-    records: Some(RECORDS),
+    out: Some(RECORDS),
 };
 
-static WRITTEN: [Written; 9] = [
-    COMPILED,
-    Written {
-        command: "compile16",
-        left: Left::Lines("instructions 31\nsteps 39\nbytes 112\n"),
-        records: None,
-        ..COMPILED
-    },
-    Written {
-        source: TWO_OUTPUTS,
-        left: Left::Lines("instructions 43\nsteps 60\nbytes 153\n"),
-        records: None,
-        ..COMPILED
-    },
-    Written {
-        command: "scompile",
-        left: Left::Lines("instructions 89\nsteps 97\nbytes 149\n"),
-        records: Some(WATCHED_RECORDS),
-        ..COMPILED
-    },
-    Written {
-        command: "mcompile",
-        left: Left::Lines("instructions 31\nsteps 39\nbytes 109\n"),
-        records: Some(MAILBOX_RECORDS),
-        ..COMPILED
-    },
-    Written {
-        command: "mcompile",
-        source: "",
-        left: Left::Refused(4, "fcl: at 0: expected\n"),
-        records: Some(BEFORE),
-    },
-    Written {
-        source: "",
-        left: Left::Refused(4, "fcl: at 0: expected\n"),
-        records: Some(BEFORE),
-        ..COMPILED
-    },
-    Written {
-        command: "asm",
-        source: SOURCE,
-        left: Left::Lines("bytes 7\n"),
-        records: Some(SOURCE_RECORDS),
-    },
-    Written {
-        command: "asm",
-        source: "A NOP\na NOP\n",
-        left: Left::Refused(11, "asm: line 2: twice\n"),
-        records: Some(BEFORE),
-    },
-];
+static WRITTEN: [Written; 9] = rows! { Written:
+    COMPILED {};
+    COMPILED { command: "compile16", out: None } leaves "instructions 31\nsteps 39\nbytes 112\n";
+    COMPILED { source: TWO_OUTPUTS, out: None } leaves "instructions 43\nsteps 60\nbytes 153\n";
+    COMPILED { command: "scompile" } leaves "instructions 89\nsteps 97\nbytes 149\n" makes WATCHED_RECORDS;
+    COMPILED { command: "mcompile" } leaves "instructions 31\nsteps 39\nbytes 109\n" makes MAILBOX_RECORDS;
+    COMPILED { command: "mcompile", source: "" } refused 4 "fcl: at 0: expected\n" makes BEFORE;
+    COMPILED { source: "" } refused 4 "fcl: at 0: expected\n" makes BEFORE;
+    COMPILED { command: "asm", source: SOURCE } leaves "bytes 7\n" makes SOURCE_RECORDS;
+    COMPILED { command: "asm", source: "A NOP\na NOP\n" } refused 11 "asm: line 2: twice\n" makes BEFORE;
+};
 
 fn write(alloc: Global, row: &Written) -> Result<(), Difference> {
     let mut files = Vec::new(alloc);
@@ -83,8 +43,8 @@ fn write(alloc: Global, row: &Written) -> Result<(), Difference> {
     let mut shelf = shelf_of(alloc, files, &NONE)?;
     let line = ["fuzz12", row.command, "in", "out"];
     call(alloc, &line, &mut shelf, &NONE, &row.left)?;
-    if let Some(records) = row.records {
-        file_holds(alloc, &mut shelf, "out", records.as_bytes())?;
+    if let Some(out) = row.out {
+        file_holds(alloc, &mut shelf, "out", out.as_bytes())?;
     }
     Ok(())
 }

@@ -14,44 +14,18 @@ const HEATER: Search = Search {
     out: Some("FZC 3\nclaim 19547\nsplit 1 128\nleaf\nleaf\n"),
 };
 
-static HEATERS: [Search; 6] = [
-    HEATER,
-    Search {
-        target: "11734",
-        left: Left::Lines("error 1 11724\nleaves 4\n"),
-        out: Some(
-            "FZC 3\nclaim 11724\nsplit 1 128\nsplit 1 64\ncells\nleaf\nsplit 1 192\nleaf\ncells\n",
-        ),
-        ..HEATER
-    },
-    Search {
-        target: "3907",
-        left: Left::Lines("error 1 3907\nleaves 4\n"),
-        out: Some(
-            "FZC 3\nclaim 3907\nsplit 1 128\nsplit 1 64\ncells\ncells\nsplit 1 192\ncells\ncells\n",
-        ),
-        ..HEATER
-    },
-    Search {
-        target: "3906",
-        left: Left::Refused(8, "not reached: cell 0 output 1 bound 3907\n"),
-        out: Some(BEFORE),
-        ..HEATER
-    },
-    Search {
-        command: "tcertify16",
-        left: Left::Lines("error 1 15641\nleaves 2\n"),
-        out: Some("FZC 4\nclaim 15641\nsplit 1 128\nleaf\nleaf\n"),
-        ..HEATER
-    },
-    Search {
-        command: "tcertify16",
-        target: "3906",
-        left: Left::Refused(8, "not reached: cell 0 output 1 bound 3907\n"),
-        out: Some(BEFORE),
-        ..HEATER
-    },
-];
+static HEATERS: [Search; 6] = rows! { Search:
+    HEATER {};
+    HEATER { target: "11734" } leaves "error 1 11724\nleaves 4\n"
+        makes "FZC 3\nclaim 11724\nsplit 1 128\nsplit 1 64\ncells\nleaf\nsplit 1 192\nleaf\ncells\n";
+    HEATER { target: "3907" } leaves "error 1 3907\nleaves 4\n"
+        makes "FZC 3\nclaim 3907\nsplit 1 128\nsplit 1 64\ncells\ncells\nsplit 1 192\ncells\ncells\n";
+    HEATER { target: "3906" } refused 8 "not reached: cell 0 output 1 bound 3907\n" makes BEFORE;
+    HEATER { command: "tcertify16" } leaves "error 1 15641\nleaves 2\n"
+        makes "FZC 4\nclaim 15641\nsplit 1 128\nleaf\nleaf\n";
+    HEATER { command: "tcertify16", target: "3906" } refused 8 "not reached: cell 0 output 1 bound 3907\n"
+        makes BEFORE;
+};
 
 /// The heater with half the weight on its first rule.
 const HALF: Search = Search {
@@ -71,58 +45,20 @@ const ONE_RULE: Search = Search {
     ..HEATER
 };
 
-static OTHERS: [Search; 9] = [
-    HALF,
-    Search {
-        target: "20000",
-        left: Left::Lines("error 1 19567\nleaves 4\n"),
-        out: None,
-        ..HALF
-    },
-    Search {
-        target: "11583",
-        left: Left::Lines("error 1 11583\nleaves 4\n"),
-        out: None,
-        ..HALF
-    },
-    Search {
-        target: "11582",
-        left: Left::Refused(8, "not reached: cell 1 output 1 bound 11583\n"),
-        out: Some(BEFORE),
-        ..HALF
-    },
-    ONE_RULE,
-    Search {
-        target: "501960",
-        left: Left::Refused(8, "not reached: cell 255 output 1 bound 501961\n"),
-        out: Some(BEFORE),
-        ..ONE_RULE
-    },
-    Search {
-        fcl: &[FRONT, "NC", MIDDLE, BACK],
-        left: Left::Refused(8, "not reached: cell 255 output 1 bound 1000001\n"),
-        out: Some(BEFORE),
-        ..ONE_RULE
-    },
-    Search {
-        fcl: &[LATCH],
-        target: "3922",
-        left: Left::Lines("error 1 3922\nleaves 4\n"),
-        out: Some(
-            "FZC 3\nclaim 3922\nsplit 1 128\nsplit 1 64\nleaf\nleaf\nsplit 1 192\nleaf\nleaf\n",
-        ),
-        ..HEATER
-    },
-    Search {
-        fcl: &[LATCH],
-        target: "0",
-        left: Left::Lines("error 1 0\nleaves 4\n"),
-        out: Some(
-            "FZC 3\nclaim 0\nsplit 1 128\nsplit 1 64\ncells\nleaf\nsplit 1 192\nleaf\ncells\n",
-        ),
-        ..HEATER
-    },
-];
+static OTHERS: [Search; 9] = rows! { Search:
+    HALF {};
+    HALF { target: "20000", out: None } leaves "error 1 19567\nleaves 4\n";
+    HALF { target: "11583", out: None } leaves "error 1 11583\nleaves 4\n";
+    HALF { target: "11582" } refused 8 "not reached: cell 1 output 1 bound 11583\n" makes BEFORE;
+    ONE_RULE {};
+    ONE_RULE { target: "501960" } refused 8 "not reached: cell 255 output 1 bound 501961\n" makes BEFORE;
+    ONE_RULE { fcl: &[FRONT, "NC", MIDDLE, BACK] } refused 8 "not reached: cell 255 output 1 bound 1000001\n"
+        makes BEFORE;
+    HEATER { fcl: &[LATCH], target: "3922" } leaves "error 1 3922\nleaves 4\n"
+        makes "FZC 3\nclaim 3922\nsplit 1 128\nsplit 1 64\nleaf\nleaf\nsplit 1 192\nleaf\nleaf\n";
+    HEATER { fcl: &[LATCH], target: "0" } leaves "error 1 0\nleaves 4\n"
+        makes "FZC 3\nclaim 0\nsplit 1 128\nsplit 1 64\ncells\nleaf\nsplit 1 192\nleaf\ncells\n";
+};
 
 #[test]
 fn tight_searches(rt: HostRuntime) -> Result<(), Fail> {
@@ -143,51 +79,20 @@ const TIGHT: Certificate = Certificate {
     left: Left::Lines("error 1 19547\ninstructions 28\n"),
 };
 
-static CERTIFICATES: [Certificate; 9] = [
-    TIGHT,
-    Certificate {
-        command: "tcheck16",
-        cert: &["FZC 4\nclaim 15641\nsplit 1 128\nleaf\nleaf\n"],
-        left: Left::Lines("error 1 15641\ninstructions 31\n"),
-        ..TIGHT
-    },
-    Certificate {
-        cert: &["FZC 3\nclaim 19546\nsplit 1 128\nleaf\nleaf\n"],
-        left: Left::Refused(6, "cert: output 1 claims 19546, computed 19547\n"),
-        ..TIGHT
-    },
-    Certificate {
-        cert: &["FZC 3\nclaim 19547\nleaf\n"],
-        left: Left::Refused(6, "cert: line 3: unsure output 1\n"),
-        ..TIGHT
-    },
-    Certificate {
-        cert: &["FZC 3\nclaim 19547\ncells\n"],
-        left: Left::Refused(6, "cert: line 3: too many cells\n"),
-        ..TIGHT
-    },
-    Certificate {
-        cert: &["FZC 3\nclaim 19547\nsplit 1 0\nleaf\nleaf\n"],
-        left: Left::Refused(6, "cert: line 3: bad cut\n"),
-        ..TIGHT
-    },
+static CERTIFICATES: [Certificate; 9] = rows! { Certificate:
+    TIGHT {};
+    TIGHT { command: "tcheck16", cert: &["FZC 4\nclaim 15641\nsplit 1 128\nleaf\nleaf\n"] }
+        leaves "error 1 15641\ninstructions 31\n";
+    TIGHT { cert: &["FZC 3\nclaim 19546\nsplit 1 128\nleaf\nleaf\n"] }
+        refused 6 "cert: output 1 claims 19546, computed 19547\n";
+    TIGHT { cert: &["FZC 3\nclaim 19547\nleaf\n"] } refused 6 "cert: line 3: unsure output 1\n";
+    TIGHT { cert: &["FZC 3\nclaim 19547\ncells\n"] } refused 6 "cert: line 3: too many cells\n";
+    TIGHT { cert: &["FZC 3\nclaim 19547\nsplit 1 0\nleaf\nleaf\n"] } refused 6 "cert: line 3: bad cut\n";
     // A certificate of another kind or width is none.
-    Certificate {
-        cert: &["FZC 1\nclaim 19609\n", HALVES],
-        left: Left::Refused(6, "cert: line 1: bad line\n"),
-        ..TIGHT
-    },
-    Certificate {
-        command: "tcheck16",
-        left: Left::Refused(6, "cert: line 1: bad line\n"),
-        ..TIGHT
-    },
-    Certificate {
-        command: "check",
-        left: Left::Refused(6, "cert: line 1: bad line\n"),
-        ..TIGHT
-    },
-];
+    TIGHT { cert: &["FZC 1\nclaim 19609\n", HALVES] } refused 6 "cert: line 1: bad line\n";
+    TIGHT { command: "tcheck16" } refused 6 "cert: line 1: bad line\n";
+    TIGHT { command: "check" } refused 6 "cert: line 1: bad line\n";
+};
 
 #[test]
 fn tight_certificates(rt: HostRuntime) -> Result<(), Fail> {
