@@ -2,6 +2,7 @@
 //! read, or their first faults, which are told again.
 ghost use Rattle.std.specs.Prelude.{◌≤◌, length};
 
+use box_tree::CertFault::{BadLine, Early, Late};
 use box_tree::CertKind::Tight;
 use box_tree::{CertFault, Lines, read, read_for, read16, write, write_for, write16};
 use byte_scaling::Width::{Byte, Word};
@@ -16,78 +17,30 @@ const HEATER: &[u8] = b"FZC 1\nclaim 19609\nsplit 1 128\nleaf 1 127\nleaf 2 127\
 /// A version, a text, and what is told of it.
 static ROWS: [(u8, &[u8], Told); 25] = [
     (1, HEATER, Ok(3)),
-    (2, HEATER, Err(CertFault::BadLine(1))),
+    (2, HEATER, Err(BadLine(1))),
     (2, b"FZC 2\nclaim 0 7\nleaf 0 0 256 255\n", Ok(1)),
-    (1, b"", Err(CertFault::Early)),
-    (1, b"FZC 1\n", Err(CertFault::Early)),
-    (1, b"FZC 1\nclaim 1\n", Err(CertFault::Early)),
-    (
-        1,
-        b"FZC 1\nclaim 1\nsplit 1 1\nleaf 0 0\n",
-        Err(CertFault::Early),
-    ),
-    (1, b"FZC 1", Err(CertFault::BadLine(1))),
-    (1, b"FZC 2\nclaim 1\nleaf 0 0\n", Err(CertFault::BadLine(1))),
-    (1, b"FZC 01\n", Err(CertFault::BadLine(1))),
-    (1, b"FZC 1\nclaim\n", Err(CertFault::BadLine(2))),
-    (1, b"FZC 1\nclaim 1000001\n", Err(CertFault::BadLine(2))),
-    (1, b"FZC 1\nclaim 1 1 1 1 1\n", Err(CertFault::BadLine(2))),
-    (1, b"FZC 1\nclaim 1\nleaf 0 1\n", Err(CertFault::BadLine(3))),
-    (
-        1,
-        b"FZC 1\nclaim 1\nleaf 257 1\n",
-        Err(CertFault::BadLine(3)),
-    ),
-    (
-        1,
-        b"FZC 1\nclaim 1\nleaf 1 1 1 1\n",
-        Err(CertFault::BadLine(3)),
-    ),
-    (
-        1,
-        b"FZC 1\nclaim 1\nleaf  1 1\n",
-        Err(CertFault::BadLine(3)),
-    ),
-    (
-        1,
-        b"FZC 1\nclaim 1\nsplit 9 1\n",
-        Err(CertFault::BadLine(3)),
-    ),
-    (
-        1,
-        b"FZC 1\nclaim 1\nsplit 1 256\n",
-        Err(CertFault::BadLine(3)),
-    ),
-    (
-        1,
-        b"FZC 1\nclaim 1\nleaf 1 1\r\n",
-        Err(CertFault::BadLine(3)),
-    ),
-    (
-        1,
-        b"FZC 1\nclaim 1\nleaf 1 1\nleaf 0 0\n",
-        Err(CertFault::Late(4)),
-    ),
-    (
-        1,
-        b"FZC 1\nclaim 1\nleaf 1 1\nleaf\n",
-        Err(CertFault::BadLine(4)),
-    ),
-    (
-        1,
-        b"FZC 1\nclaim 1\nleaf 1 1\nleaf 0 0",
-        Err(CertFault::BadLine(4)),
-    ),
-    (
-        1,
-        b"FZC 1\nclaim 1\nsplit 1 1\nleaf 1 1",
-        Err(CertFault::BadLine(4)),
-    ),
-    (
-        2,
-        b"FZC 2\nclaim 1\nleaf 0 0\nleaf 0 0\n",
-        Err(CertFault::Late(4)),
-    ),
+    (1, b"", Err(Early)),
+    (1, b"FZC 1\n", Err(Early)),
+    (1, b"FZC 1\nclaim 1\n", Err(Early)),
+    (1, b"FZC 1\nclaim 1\nsplit 1 1\nleaf 0 0\n", Err(Early)),
+    (1, b"FZC 1", Err(BadLine(1))),
+    (1, b"FZC 2\nclaim 1\nleaf 0 0\n", Err(BadLine(1))),
+    (1, b"FZC 01\n", Err(BadLine(1))),
+    (1, b"FZC 1\nclaim\n", Err(BadLine(2))),
+    (1, b"FZC 1\nclaim 1000001\n", Err(BadLine(2))),
+    (1, b"FZC 1\nclaim 1 1 1 1 1\n", Err(BadLine(2))),
+    (1, b"FZC 1\nclaim 1\nleaf 0 1\n", Err(BadLine(3))),
+    (1, b"FZC 1\nclaim 1\nleaf 257 1\n", Err(BadLine(3))),
+    (1, b"FZC 1\nclaim 1\nleaf 1 1 1 1\n", Err(BadLine(3))),
+    (1, b"FZC 1\nclaim 1\nleaf  1 1\n", Err(BadLine(3))),
+    (1, b"FZC 1\nclaim 1\nsplit 9 1\n", Err(BadLine(3))),
+    (1, b"FZC 1\nclaim 1\nsplit 1 256\n", Err(BadLine(3))),
+    (1, b"FZC 1\nclaim 1\nleaf 1 1\r\n", Err(BadLine(3))),
+    (1, b"FZC 1\nclaim 1\nleaf 1 1\nleaf 0 0\n", Err(Late(4))),
+    (1, b"FZC 1\nclaim 1\nleaf 1 1\nleaf\n", Err(BadLine(4))),
+    (1, b"FZC 1\nclaim 1\nleaf 1 1\nleaf 0 0", Err(BadLine(4))),
+    (1, b"FZC 1\nclaim 1\nsplit 1 1\nleaf 1 1", Err(BadLine(4))),
+    (2, b"FZC 2\nclaim 1\nleaf 0 0\nleaf 0 0\n", Err(Late(4))),
 ];
 
 /// The same of tight certificates.
@@ -98,22 +51,18 @@ static TIGHT_ROWS: [(u8, &[u8], Told); 14] = [
         Ok(7),
     ),
     (4, b"FZC 4\nclaim 0 7\ncells\n", Ok(1)),
-    (1, b"FZC 3\nclaim 1\nleaf\n", Err(CertFault::BadLine(1))),
-    (3, HEATER, Err(CertFault::BadLine(1))),
-    (3, b"FZC 4\nclaim 1\nleaf\n", Err(CertFault::BadLine(1))),
-    (4, b"FZC 3\nclaim 1\nleaf\n", Err(CertFault::BadLine(1))),
-    (1, b"FZC 1\nclaim 1\nleaf\n", Err(CertFault::BadLine(3))),
-    (2, b"FZC 2\nclaim 1\ncells\n", Err(CertFault::BadLine(3))),
-    (3, b"FZC 3\nclaim 1\nleaf 0 0\n", Err(CertFault::BadLine(3))),
-    (3, b"FZC 3\nclaim 1\ncells 1\n", Err(CertFault::BadLine(3))),
-    (3, b"FZC 3\nclaim 1\nleaf \n", Err(CertFault::BadLine(3))),
-    (4, b"FZC 4\nclaim 1\ncell\n", Err(CertFault::BadLine(3))),
-    (3, b"FZC 3\nclaim 1\nleaf\ncells\n", Err(CertFault::Late(4))),
-    (
-        4,
-        b"FZC 4\nclaim 1\nsplit 1 1\ncells\n",
-        Err(CertFault::Early),
-    ),
+    (1, b"FZC 3\nclaim 1\nleaf\n", Err(BadLine(1))),
+    (3, HEATER, Err(BadLine(1))),
+    (3, b"FZC 4\nclaim 1\nleaf\n", Err(BadLine(1))),
+    (4, b"FZC 3\nclaim 1\nleaf\n", Err(BadLine(1))),
+    (1, b"FZC 1\nclaim 1\nleaf\n", Err(BadLine(3))),
+    (2, b"FZC 2\nclaim 1\ncells\n", Err(BadLine(3))),
+    (3, b"FZC 3\nclaim 1\nleaf 0 0\n", Err(BadLine(3))),
+    (3, b"FZC 3\nclaim 1\ncells 1\n", Err(BadLine(3))),
+    (3, b"FZC 3\nclaim 1\nleaf \n", Err(BadLine(3))),
+    (4, b"FZC 4\nclaim 1\ncell\n", Err(BadLine(3))),
+    (3, b"FZC 3\nclaim 1\nleaf\ncells\n", Err(Late(4))),
+    (4, b"FZC 4\nclaim 1\nsplit 1 1\ncells\n", Err(Early)),
 ];
 
 /// How many nodes the certificate of a text of this version has, and what is written of it, or the

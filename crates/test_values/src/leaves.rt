@@ -5,6 +5,7 @@ ghost use Rattle.error_bound.specs.Boxes.{IsBoxOf};
 
 use super::blocks::block_of;
 use arrayvec::ArrayVec;
+use error_bound::LeafFault::{Loud, Silent, Still, Weak};
 use error_bound::{
     ByteBox, Interval, Leaf, LeafFault, best, is_pair_for, leaf_bound, leaf_bound16,
 };
@@ -27,94 +28,47 @@ struct Boxed {
     leaves: &'static [Bounded],
 }
 
-static BOXES: [Boxed; 8] = [
-    Boxed {
-        fcl: BLOCK,
-        from: 0,
-        to: 255,
-        best: None,
-        leaves: &[
-            ((0, 0), Err(LeafFault::Silent(1, Nano(1_000_000_000)))),
-            ((1, 1), Err(LeafFault::Weak(1, 1, Nano(0)))),
-            ((2, 1), Err(LeafFault::Weak(2, 1, Nano(0)))),
-        ],
-    },
-    Boxed {
-        fcl: BLOCK,
-        from: 0,
-        to: 127,
-        best: Some((1, 127)),
-        leaves: &[
-            ((1, 127), Ok((19609, 15702))),
-            ((1, 128), Err(LeafFault::Weak(1, 128, Nano(500_000_000)))),
-            ((1, 1), Ok((1_000_000, 1_000_000))),
-        ],
-    },
+// A row is a block's text, the bytes from one to another, the best leaf, and leaves with what is told of them.
+macro_rules! boxes {
+    ($($fcl:ident $from:literal to $to:literal best $best:expr => [$($leaf:expr),*];)*) => {
+        [$(Boxed { fcl: $fcl, from: $from, to: $to, best: $best, leaves: &[$($leaf),*] }),*]
+    };
+}
+
+static BOXES: [Boxed; 8] = boxes! {
+    BLOCK 0 to 255 best None => [
+        ((0, 0), Err(Silent(1, Nano(1_000_000_000)))),
+        ((1, 1), Err(Weak(1, 1, Nano(0)))),
+        ((2, 1), Err(Weak(2, 1, Nano(0))))
+    ];
+    BLOCK 0 to 127 best Some((1, 127)) => [
+        ((1, 127), Ok((19609, 15702))),
+        ((1, 128), Err(Weak(1, 128, Nano(500_000_000)))),
+        ((1, 1), Ok((1_000_000, 1_000_000)))
+    ];
     // Both rules come down to 127/256, and to the byte 127.
-    Boxed {
-        fcl: BLOCK,
-        from: 127,
-        to: 128,
-        best: Some((1, 126)),
-        leaves: &[
-            ((1, 126), Ok((11859, 7952))),
-            ((2, 126), Ok((11859, 7952))),
-            ((2, 127), Err(LeafFault::Weak(2, 127, Nano(496_093_750)))),
-        ],
-    },
-    Boxed {
-        fcl: ROUNDED,
-        from: 0,
-        to: 55,
-        best: None,
-        leaves: &[
-            ((0, 0), Err(LeafFault::Loud(1, 55))),
-            ((1, 1), Err(LeafFault::Weak(1, 1, Nano(0)))),
-            ((2, 1), Err(LeafFault::Still(2))),
-            ((2, 2), Err(LeafFault::Weak(2, 2, Nano(5_000_000)))),
-        ],
-    },
-    Boxed {
-        fcl: ROUNDED,
-        from: 0,
-        to: 56,
-        best: None,
-        leaves: &[
-            ((0, 0), Err(LeafFault::Silent(1, Nano(5_000_000)))),
-            ((2, 1), Err(LeafFault::Still(2))),
-        ],
-    },
-    Boxed {
-        fcl: ROUNDED,
-        from: 128,
-        to: 255,
-        best: Some((1, 91)),
-        leaves: &[
-            ((1, 91), Ok((813_580, 809_674))),
-            ((2, 1), Err(LeafFault::Weak(2, 1, Nano(0)))),
-        ],
-    },
-    Boxed {
-        fcl: LATCH,
-        from: 64,
-        to: 191,
-        best: Some((0, 0)),
-        leaves: &[
-            ((0, 0), Ok((0, 0))),
-            ((1, 1), Err(LeafFault::Weak(1, 1, Nano(0)))),
-        ],
-    },
-    Boxed {
-        fcl: LATCH,
-        from: 192,
-        to: 255,
-        best: Some((2, 255)),
-        leaves: &[
-            ((2, 255), Ok((3922, 16))),
-            ((0, 0), Err(LeafFault::Silent(2, Nano(1_000_000_000)))),
-        ],
-    },
-];
+    BLOCK 127 to 128 best Some((1, 126)) => [
+        ((1, 126), Ok((11859, 7952))),
+        ((2, 126), Ok((11859, 7952))),
+        ((2, 127), Err(Weak(2, 127, Nano(496_093_750))))
+    ];
+    ROUNDED 0 to 55 best None => [
+        ((0, 0), Err(Loud(1, 55))),
+        ((1, 1), Err(Weak(1, 1, Nano(0)))),
+        ((2, 1), Err(Still(2))),
+        ((2, 2), Err(Weak(2, 2, Nano(5_000_000))))
+    ];
+    ROUNDED 0 to 56 best None => [((0, 0), Err(Silent(1, Nano(5_000_000)))), ((2, 1), Err(Still(2)))];
+    ROUNDED 128 to 255 best Some((1, 91)) => [
+        ((1, 91), Ok((813_580, 809_674))),
+        ((2, 1), Err(Weak(2, 1, Nano(0))))
+    ];
+    LATCH 64 to 191 best Some((0, 0)) => [((0, 0), Ok((0, 0))), ((1, 1), Err(Weak(1, 1, Nano(0))))];
+    LATCH 192 to 255 best Some((2, 255)) => [
+        ((2, 255), Ok((3922, 16))),
+        ((0, 0), Err(Silent(2, Nano(1_000_000_000))))
+    ];
+};
 
 /// The box from one byte to another of a block's only input.
 pub(crate) fn box_of(block: &Block, from: u8, to: u8) -> ByteBox
