@@ -31,15 +31,14 @@ error_line_of words (status.Handler f) = handler_line f
 error_line_of words (status.Script line) = with_number (codes "script: line ") line []
 error_line_of words (status.Fast f) = fast_line f
 
--- a text is put: from what the sink told, its faults and its soundness before to those after
-pub record Puts {E : Type 0} (text : List ℕ) (told told' : Option Taken) (faults faults' : ℕ)
-    (reliable reliable' : Type 0)
-    (result : Result Unit E) : Type 0 where
-  pub whole : OnOk result (told' ≡ gained told text)
-  pub part : GainedPart told told' text
-  pub cause : HasCause faults faults' result
-  pub keeps : reliable → reliable'
-  pub steady : reliable → HasRoom told (length text) → IsOk result
+-- a text is put into a sink: what it tells, its faults and its soundness, of the old one and of the new
+pub record Puts {V E : Type 0} (told : V → Option Taken) (faults : V → ℕ) (reliable : V → Type 0) (old new : V)
+    (text : List ℕ) (result : Result Unit E) : Type 0 where
+  pub whole : OnOk result (told new ≡ gained (told old) text)
+  pub part : GainedPart (told old) (told new) text
+  pub cause : HasCause (faults old) (faults new) result
+  pub keeps : reliable old → reliable new
+  pub steady : reliable old → HasRoom (told old) (length text) → IsOk result
 
 -- the sink gained a prefix of the line, and all of it where its count did not rise
 pub record Complains (text : List ℕ) (told told' : Option Taken) (faults faults' : ℕ) : Type 0 where

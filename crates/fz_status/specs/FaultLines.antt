@@ -2,7 +2,6 @@
 -- Beside the promise.
 use Rattle.std.specs.Prelude.{ℕ, List, [], ◌++◌, codes, decimal, Option, Some, None}
 use Rattle.std.specs.List.{flat_map}
-use Rattle.box_tree.specs.declared.cert.CertFault.{CertFault}
 use Rattle.box_tree.specs.declared.cert.CertFault.TheVariants as cert
 use Rattle.cert_check.specs.declared.checker.CheckFault.{CheckFault}
 use Rattle.cert_check.specs.declared.checker.CheckFault.TheVariants as check
@@ -23,7 +22,6 @@ use Rattle.interrupt_plan.specs.declared.PlanFault.{PlanFault}
 use Rattle.interrupt_plan.specs.declared.PlanFault.TheVariants as plan
 use Rattle.interrupt_plan.specs.declared.upsets.UpsetFault.{UpsetFault}
 use Rattle.interrupt_plan.specs.declared.upsets.UpsetFault.TheVariants as upset
-use Rattle.rule_layout.specs.declared.flat.LayoutFault.{LayoutFault}
 use Rattle.rule_layout.specs.declared.flat.LayoutFault.TheVariants as layout
 use Rattle.srecord.specs.declared.fault.SrecFault.{SrecFault}
 use Rattle.srecord.specs.declared.fault.SrecFault.TheVariants as srec
@@ -46,13 +44,6 @@ with_name label name = label ++ (name ++ newline)
 abbrev pub with_number : Text → ℕ → Text → List ℕ
 with_number label n rest = label ++ (decimal n ++ (rest ++ newline))
 
-abbrev pub with_two : Text → ℕ → Text → ℕ → Text → List ℕ
-with_two label n middle m rest = label ++ (decimal n ++ (middle ++ (decimal m ++ (rest ++ newline))))
-
--- a row at which a file is refused, and an address that it names
-abbrev pub row_at : Text → ℕ → Text → ℕ → List ℕ
-row_at label row why at = label ++ (decimal row ++ (why ++ (address_digits at ++ newline)))
-
 abbrev pub want_of_memory : List ℕ
 want_of_memory = codes "memory" ++ newline
 
@@ -61,12 +52,12 @@ syntax_line (syntax.BadByte at) = with_number (codes "fcl: at ") at (codes ": ba
 syntax_line (syntax.OpenComment at) = with_number (codes "fcl: at ") at (codes ": open comment")
 syntax_line (syntax.Number at f) = with_number (codes "fcl: at ") at (codes ": number")
 syntax_line (syntax.Expected at) = with_number (codes "fcl: at ") at (codes ": expected")
-syntax_line (syntax.Unsupported at code) = with_two (codes "fcl: at ") at (codes ": unsupported ") code []
+syntax_line (syntax.Unsupported at code) = with_number (codes "fcl: at ") at (codes ": unsupported " ++ decimal code)
 syntax_line (syntax.Deep at) = with_number (codes "fcl: at ") at (codes ": too deep")
 syntax_line syntax.Memory = want_of_memory
 
 abbrev pub load_kind : ℕ → ℕ → List ℕ
-load_kind at kind = with_two (codes "fcl: at ") at (codes ": load ") kind []
+load_kind at kind = with_number (codes "fcl: at ") at (codes ": load " ++ decimal kind)
 
 abbrev pub load_line : LoadFault → List ℕ
 load_line (load.Twice at) = load_kind at 1
@@ -83,21 +74,18 @@ load_line (load.WrongSide at) = load_kind at 11
 load_line (load.MissingPart at) = load_kind at 12
 load_line load.Memory = want_of_memory
 
-abbrev pub layout_line : LayoutFault → List ℕ
-layout_line (layout.TooManyRules rule) = with_number (codes "fcl: too many rules at rule ") rule []
-layout_line (layout.ListTooLong n) = with_number (codes "fcl: list too long ") n []
-layout_line layout.Memory = want_of_memory
-
 abbrev pub fcl_line : FclFault → List ℕ
 fcl_line (fcl.Syntax f) = syntax_line f
 fcl_line (fcl.Load f) = load_line f
-fcl_line (fcl.Layout f) = layout_line f
+fcl_line (fcl.Layout (layout.TooManyRules rule)) = with_number (codes "fcl: too many rules at rule ") rule []
+fcl_line (fcl.Layout (layout.ListTooLong n)) = with_number (codes "fcl: list too long ") n []
+fcl_line (fcl.Layout layout.Memory) = want_of_memory
 
 abbrev pub trace_line : TraceFault → List ℕ
 trace_line trace.TooMany = codes "trace: too many rows" ++ newline
 trace_line (trace.BadRow row) = with_number (codes "trace: row ") row (codes ": bad row")
 trace_line (trace.OutOfRange row input) =
-    with_two (codes "trace: row ") row (codes ": input ") input (codes " out of range")
+    codes "trace: row " ++ (decimal row ++ (codes ": input " ++ (decimal input ++ (codes " out of range" ++ newline))))
 trace_line trace.Memory = want_of_memory
 
 abbrev pub asm_line : AsmFault → List ℕ
@@ -118,7 +106,7 @@ records_line (srec.BadSum n got wanted) =
     ++ (byte_digits got ++ (codes " " ++ (byte_digits wanted ++ newline)))))
 records_line (srec.Wide n) = with_number (codes "image: line ") n (codes ": wide")
 records_line (srec.Overlap n) = with_number (codes "image: line ") n (codes ": overlap")
-records_line (srec.CountDiffers got wanted) = with_two (codes "image: count ") got (codes " ") wanted []
+records_line (srec.CountDiffers got wanted) = with_number (codes "image: count ") got (codes " " ++ decimal wanted)
 records_line srec.NoEnd = codes "image: no end" ++ newline
 records_line (srec.AfterEnd n) = with_number (codes "image: line ") n (codes ": after end")
 records_line srec.Memory = want_of_memory
@@ -138,19 +126,12 @@ image_line (image.Start got wanted) =
 
 -- ---- certificates
 
-abbrev pub text_line : CertFault → List ℕ
-text_line (cert.BadLine n) = with_number (codes "cert: line ") n (codes ": bad line")
-text_line cert.Early = codes "cert: early" ++ newline
-text_line (cert.Late n) = with_number (codes "cert: line ") n (codes ": late")
-text_line (cert.TooManyLeaves n) = with_number (codes "cert: line ") n (codes ": too many leaves")
-text_line cert.Memory = want_of_memory
-
 -- the line of a leaf that does not hold
 abbrev pub leaf_line : ℕ → LeafFault → List ℕ
 leaf_line n (leaf.Weak rule k low) =
     codes "cert: line " ++ (decimal n ++ (codes ": weak rule " ++ (decimal rule
     ++ (codes " k " ++ (decimal k ++ (codes " low " ++ (decimal low.0 ++ newline)))))))
-leaf_line n (leaf.Still rule) = with_two (codes "cert: line ") n (codes ": still rule ") rule []
+leaf_line n (leaf.Still rule) = with_number (codes "cert: line ") n (codes ": still rule " ++ decimal rule)
 leaf_line n (leaf.Silent rule high) =
     codes "cert: line " ++ (decimal n ++ (codes ": silent rule " ++ (decimal rule
     ++ (codes " high " ++ (decimal high.0 ++ newline)))))
@@ -159,11 +140,11 @@ leaf_line n (leaf.Loud rule byte) =
     ++ (codes " byte " ++ (decimal byte ++ newline)))))
 
 abbrev pub check_line : CheckFault → List ℕ
-check_line (check.Outputs got wanted) = with_two (codes "cert: outputs ") got (codes " ") wanted []
+check_line (check.Outputs got wanted) = with_number (codes "cert: outputs ") got (codes " " ++ decimal wanted)
 check_line (check.BadCut n) = with_number (codes "cert: line ") n (codes ": bad cut")
 check_line (check.BadRule n) = with_number (codes "cert: line ") n (codes ": bad rule")
 check_line (check.Leaf n f) = leaf_line n f
-check_line (check.Unsure n output) = with_two (codes "cert: line ") n (codes ": unsure output ") output []
+check_line (check.Unsure n output) = with_number (codes "cert: line ") n (codes ": unsure output " ++ decimal output)
 check_line (check.TooManyCells n) = with_number (codes "cert: line ") n (codes ": too many cells")
 check_line (check.Claimed output claimed computed) =
     codes "cert: output " ++ (decimal output ++ (codes " claims " ++ (decimal claimed
@@ -171,7 +152,11 @@ check_line (check.Claimed output claimed computed) =
 check_line check.Memory = want_of_memory
 
 abbrev pub cert_line : CertRefusal → List ℕ
-cert_line (refusal.Text f) = text_line f
+cert_line (refusal.Text (cert.BadLine n)) = with_number (codes "cert: line ") n (codes ": bad line")
+cert_line (refusal.Text cert.Early) = codes "cert: early" ++ newline
+cert_line (refusal.Text (cert.Late n)) = with_number (codes "cert: line ") n (codes ": late")
+cert_line (refusal.Text (cert.TooManyLeaves n)) = with_number (codes "cert: line ") n (codes ": too many leaves")
+cert_line (refusal.Text cert.Memory) = want_of_memory
 cert_line (refusal.Check f) = check_line f
 
 -- halving stops at a cell, of which each byte stands behind a blank, or at the limit of leaves
@@ -187,14 +172,14 @@ not_reached_line stop.Memory = want_of_memory
 abbrev pub plan_line : PlanFault → List ℕ
 plan_line plan.TooMany = codes "plan: too many rows" ++ newline
 plan_line (plan.BadRow row) = with_number (codes "plan: row ") row (codes ": bad row")
-plan_line (plan.NotFree row at) = row_at (codes "plan: row ") row (codes ": not free ") at
+plan_line (plan.NotFree row at) = with_number (codes "plan: row ") row (codes ": not free " ++ address_digits at)
 plan_line (plan.NotAscending row) = with_number (codes "plan: row ") row (codes ": not ascending")
 plan_line plan.Memory = want_of_memory
 
 abbrev pub upset_line : UpsetFault → List ℕ
 upset_line upset.TooMany = codes "upset: too many rows" ++ newline
 upset_line (upset.BadRow row) = with_number (codes "upset: row ") row (codes ": bad row")
-upset_line (upset.NotTable row at) = row_at (codes "upset: row ") row (codes ": not table ") at
+upset_line (upset.NotTable row at) = with_number (codes "upset: row ") row (codes ": not table " ++ address_digits at)
 upset_line (upset.NotAscending row) = with_number (codes "upset: row ") row (codes ": not ascending")
 upset_line upset.Memory = want_of_memory
 
@@ -208,20 +193,15 @@ trap_line pc byte = codes "trap: " ++ (address_digits pc ++ (codes " " ++ (byte_
 abbrev pub at_address : ℕ → Text → List ℕ
 at_address at why = codes "handler: " ++ (address_digits at ++ (codes ": " ++ (why ++ newline)))
 
--- the same, with another address
-abbrev pub at_addresses : ℕ → Text → ℕ → List ℕ
-at_addresses at why to =
-    codes "handler: " ++ (address_digits at ++ (codes ": " ++ (why ++ (address_digits to ++ newline))))
-
 abbrev pub handler_line : HandlerFault → List ℕ
 handler_line handler.Empty = codes "handler: empty" ++ newline
 handler_line (handler.Outside at) = at_address at (codes "outside")
 handler_line (handler.Dead at) = at_address at (codes "dead")
 handler_line (handler.Trap at) = at_address at (codes "trap")
 handler_line (handler.Refused at) = at_address at (codes "refused")
-handler_line (handler.NotFree at to) = at_addresses at (codes "not free ") to
+handler_line (handler.NotFree at to) = at_address at (codes "not free " ++ address_digits to)
 handler_line (handler.Backward at) = at_address at (codes "backward")
-handler_line (handler.Target at to) = at_addresses at (codes "target ") to
+handler_line (handler.Target at to) = at_address at (codes "target " ++ address_digits to)
 handler_line (handler.Height at) = at_address at (codes "height")
 handler_line (handler.Falls at) = at_address at (codes "falls")
 handler_line handler.Memory = want_of_memory

@@ -1,35 +1,19 @@
 //! The one line on err, put in parts that take no memory.
 ghost use Rattle.std.specs.Prelude.{◌≡◌, ◌++◌, length};
 ghost use Rattle.fz_shelf.specs.Told.{gained, HasRoom};
-ghost use Rattle.fz_status.specs.{Words.texts_of, FaultLines.with_name};
+ghost use Rattle.fz_status.specs.Words.{texts_of};
 ghost use Rattle.fz_status.specs.Errors.{Puts, Complains, error_line_of};
 
 use crate::Status;
 use crate::fault_lines::{
-    put, put_asm, put_cert, put_fast, put_fcl, put_handler, put_image, put_not_reached, put_number,
-    put_plan, put_text, put_trace, put_upset,
+    put, put_asm, put_cert, put_fast, put_fcl, put_handler, put_image, put_name, put_not_reached,
+    put_number, put_plan, put_text, put_trace, put_trap, put_upset,
 };
 use crate::words::word;
-use fz_shelf::{Failed, Part, Sink};
-
-/// A name behind a text, and the end of the line.
-fn put_name<'a, F: Sink>(err: &mut F, label: &'a [u8], name: &'a str) -> Result<(), Failed>
-    ensures { Puts (with_name label.now name.now) (F.told err.old) (F.told err.new)
-        (F.faults err.old) (F.faults err.new) (F.reliable err.old) (F.reliable err.new) result }
-{
-    put(
-        err,
-        &[
-            Part::Text(label),
-            Part::Text(name.as_bytes()),
-            Part::Text(b"\n"),
-        ],
-    )
-}
+use fz_shelf::{Failed, Sink};
 
 fn put_line<F: Sink>(err: &mut F, words: &[String], status: &Status) -> Result<(), Failed>
-    ensures { Puts (error_line_of (texts_of words.now) status.now) (F.told err.old) (F.told err.new)
-        (F.faults err.old) (F.faults err.new) (F.reliable err.old) (F.reliable err.new) result }
+    ensures { Puts F.told F.faults F.reliable err.old err.new (error_line_of (texts_of words.now) status.now) result }
 {
     match status {
         Status::Ok => put(err, &[]),
@@ -49,16 +33,7 @@ fn put_line<F: Sink>(err: &mut F, words: &[String], status: &Status) -> Result<(
         Status::Memory => put_text(err, b"memory"),
         Status::TooLong(place) => put_name(err, b"too long: ", word(words, *place)),
         Status::Asm(fault) => put_asm(err, fault),
-        Status::Trap(pc, byte) => put(
-            err,
-            &[
-                Part::Text(b"trap: "),
-                Part::Address(*pc),
-                Part::Text(b" "),
-                Part::Byte(*byte),
-                Part::Text(b"\n"),
-            ],
-        ),
+        Status::Trap(pc, byte) => put_trap(err, *pc, *byte),
         Status::Budget(steps) => put_number(err, b"budget: ", *steps, b""),
         Status::Handler(fault) => put_handler(err, fault),
         Status::Script(line) => put_number(err, b"script: line ", *line, b""),

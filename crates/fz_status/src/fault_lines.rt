@@ -2,11 +2,10 @@
 ghost use Rattle.std.specs.Prelude.{◌≡◌, ◌++◌};
 ghost use Rattle.fz_shelf.specs.Parts.{part_text, parts_text, newline};
 ghost use Rattle.fz_status.specs.Errors.{Puts};
-ghost use Rattle.fz_status.specs.FaultLines.{asm_line, at_address, at_addresses, byte_or_none, cert_line, check_line};
-ghost use Rattle.fz_status.specs.FaultLines.{fast_line, fcl_line, handler_line, image_line, layout_line, leaf_line};
-ghost use Rattle.fz_status.specs.FaultLines.{load_kind, load_line, not_reached_line, plan_line, records_line, row_at};
-ghost use Rattle.fz_status.specs.FaultLines.{syntax_line, text_line, trace_line, upset_line, usual_line, with_number};
-ghost use Rattle.fz_status.specs.FaultLines.{with_two};
+ghost use Rattle.fz_status.specs.FaultLines.{asm_line, at_address, byte_or_none, cert_line, check_line, fast_line};
+ghost use Rattle.fz_status.specs.FaultLines.{fcl_line, handler_line, image_line, leaf_line, load_kind, load_line};
+ghost use Rattle.fz_status.specs.FaultLines.{not_reached_line, plan_line, records_line, syntax_line, trace_line};
+ghost use Rattle.fz_status.specs.FaultLines.{trap_line, upset_line, usual_line, with_name, with_number};
 
 use crate::{CertRefusal, FastFault, FclFault, ImageFault};
 use box_tree::CertFault;
@@ -25,18 +24,29 @@ use trace_io::TraceFault;
 
 /// Puts the parts one after the other.
 pub(crate) fn put<F: Sink>(err: &mut F, parts: &[Part]) -> Result<(), Failed>
-    ensures { Puts (parts_text parts.now) (F.told err.old) (F.told err.new)
-        (F.faults err.old) (F.faults err.new) (F.reliable err.old) (F.reliable err.new) result }
+    ensures { Puts F.told F.faults F.reliable err.old err.new (parts_text parts.now) result }
 {
     put_parts(err, parts)
 }
 
+/// Puts texts, behind each of them a part or none, and the end of the line.
+macro_rules! write_line {
+    ($err:ident; $($text:tt $($kind:ident $value:expr)?),+) => {
+        put($err, &[$(Part::Text($text), $(part!($kind $value),)?)+ Part::Text(b"\n")])
+    };
+}
+
+macro_rules! part {
+    (Number $n:expr) => { Part::Number(u64::from($n)) };
+    (Part $part:expr) => { $part };
+    ($kind:ident $value:expr) => { Part::$kind($value) };
+}
+
 /// A text and the end of the line.
 pub(crate) fn put_text<F: Sink>(err: &mut F, text: &[u8]) -> Result<(), Failed>
-    ensures { Puts (text.now ++ newline) (F.told err.old) (F.told err.new)
-        (F.faults err.old) (F.faults err.new) (F.reliable err.old) (F.reliable err.new) result }
+    ensures { Puts F.told F.faults F.reliable err.old err.new (text.now ++ newline) result }
 {
-    put(err, &[Part::Text(text), Part::Text(b"\n")])
+    write_line!(err; text)
 }
 
 /// A number between two texts, and the end of the line.
@@ -46,71 +56,32 @@ pub(crate) fn put_number<'a, F: Sink>(
     n: u32,
     rest: &'a [u8],
 ) -> Result<(), Failed>
-    ensures { Puts (with_number label.now n rest.now) (F.told err.old) (F.told err.new)
-        (F.faults err.old) (F.faults err.new) (F.reliable err.old) (F.reliable err.new) result }
+    ensures { Puts F.told F.faults F.reliable err.old err.new (with_number label.now n rest.now) result }
 {
-    put(
-        err,
-        &[
-            Part::Text(label),
-            Part::Number(u64::from(n)),
-            Part::Text(rest),
-            Part::Text(b"\n"),
-        ],
-    )
+    write_line!(err; label Number n, rest)
 }
 
-/// Two numbers behind two texts, and the end of the line.
-fn put_two<'a, F: Sink>(
+/// A name behind a text, and the end of the line.
+pub(crate) fn put_name<'a, F: Sink>(
     err: &mut F,
     label: &'a [u8],
-    n: u32,
-    middle: &'a [u8],
-    m: u32,
-    rest: &'a [u8],
+    name: &'a str,
 ) -> Result<(), Failed>
-    ensures { Puts (with_two label.now n middle.now m rest.now) (F.told err.old) (F.told err.new)
-        (F.faults err.old) (F.faults err.new) (F.reliable err.old) (F.reliable err.new) result }
+    ensures { Puts F.told F.faults F.reliable err.old err.new (with_name label.now name.now) result }
 {
-    put(
-        err,
-        &[
-            Part::Text(label),
-            Part::Number(u64::from(n)),
-            Part::Text(middle),
-            Part::Number(u64::from(m)),
-            Part::Text(rest),
-            Part::Text(b"\n"),
-        ],
-    )
+    let name = name.as_bytes();
+    write_line!(err; label, name)
 }
 
-/// A row and an address behind two texts, and the end of the line.
-fn put_row_at<'a, F: Sink>(
-    err: &mut F,
-    label: &'a [u8],
-    row: u32,
-    why: &'a [u8],
-    at: u16,
-) -> Result<(), Failed>
-    ensures { Puts (row_at label.now row why.now at) (F.told err.old) (F.told err.new)
-        (F.faults err.old) (F.faults err.new) (F.reliable err.old) (F.reliable err.new) result }
+/// The byte at an address is no instruction.
+pub(crate) fn put_trap<F: Sink>(err: &mut F, pc: u16, byte: u8) -> Result<(), Failed>
+    ensures { Puts F.told F.faults F.reliable err.old err.new (trap_line pc byte) result }
 {
-    put(
-        err,
-        &[
-            Part::Text(label),
-            Part::Number(u64::from(row)),
-            Part::Text(why),
-            Part::Address(at),
-            Part::Text(b"\n"),
-        ],
-    )
+    write_line!(err; b"trap: " Address pc, b" " Byte byte)
 }
 
 fn put_syntax<F: Sink>(err: &mut F, fault: &SyntaxFault) -> Result<(), Failed>
-    ensures { Puts (syntax_line fault.now) (F.told err.old) (F.told err.new)
-        (F.faults err.old) (F.faults err.new) (F.reliable err.old) (F.reliable err.new) result }
+    ensures { Puts F.told F.faults F.reliable err.old err.new (syntax_line fault.now) result }
 {
     match fault {
         SyntaxFault::BadByte(at) => put_number(err, b"fcl: at ", *at, b": bad byte"),
@@ -118,14 +89,7 @@ fn put_syntax<F: Sink>(err: &mut F, fault: &SyntaxFault) -> Result<(), Failed>
         SyntaxFault::Number(at, _) => put_number(err, b"fcl: at ", *at, b": number"),
         SyntaxFault::Expected(at) => put_number(err, b"fcl: at ", *at, b": expected"),
         SyntaxFault::Unsupported(at, code) => {
-            put_two(
-                err,
-                b"fcl: at ",
-                *at,
-                b": unsupported ",
-                u32::from(*code),
-                b"",
-            )
+            write_line!(err; b"fcl: at " Number *at, b": unsupported " Number *code)
         }
         SyntaxFault::Deep(at) => put_number(err, b"fcl: at ", *at, b": too deep"),
         SyntaxFault::Memory => put_text(err, b"memory"),
@@ -133,15 +97,13 @@ fn put_syntax<F: Sink>(err: &mut F, fault: &SyntaxFault) -> Result<(), Failed>
 }
 
 fn put_kind<F: Sink>(err: &mut F, at: u32, kind: u32) -> Result<(), Failed>
-    ensures { Puts (load_kind at kind) (F.told err.old) (F.told err.new)
-        (F.faults err.old) (F.faults err.new) (F.reliable err.old) (F.reliable err.new) result }
+    ensures { Puts F.told F.faults F.reliable err.old err.new (load_kind at kind) result }
 {
-    put_two(err, b"fcl: at ", at, b": load ", kind, b"")
+    write_line!(err; b"fcl: at " Number at, b": load " Number kind)
 }
 
 fn put_load<F: Sink>(err: &mut F, fault: &LoadFault) -> Result<(), Failed>
-    ensures { Puts (load_line fault.now) (F.told err.old) (F.told err.new)
-        (F.faults err.old) (F.faults err.new) (F.reliable err.old) (F.reliable err.new) result }
+    ensures { Puts F.told F.faults F.reliable err.old err.new (load_line fault.now) result }
 {
     match fault {
         LoadFault::Twice(at) => put_kind(err, *at, 1),
@@ -160,61 +122,35 @@ fn put_load<F: Sink>(err: &mut F, fault: &LoadFault) -> Result<(), Failed>
     }
 }
 
-fn put_layout<F: Sink>(err: &mut F, fault: &LayoutFault) -> Result<(), Failed>
-    ensures { Puts (layout_line fault.now) (F.told err.old) (F.told err.new)
-        (F.faults err.old) (F.faults err.new) (F.reliable err.old) (F.reliable err.new) result }
-{
-    match fault {
-        LayoutFault::TooManyRules(rule) => put_number(
-            err,
-            b"fcl: too many rules at rule ",
-            u32::from(*rule),
-            b"",
-        ),
-        LayoutFault::ListTooLong(n) => put_number(err, b"fcl: list too long ", *n, b""),
-        LayoutFault::Memory => put_text(err, b"memory"),
-    }
-}
-
 pub(crate) fn put_fcl<F: Sink>(err: &mut F, fault: &FclFault) -> Result<(), Failed>
-    ensures { Puts (fcl_line fault.now) (F.told err.old) (F.told err.new)
-        (F.faults err.old) (F.faults err.new) (F.reliable err.old) (F.reliable err.new) result }
+    ensures { Puts F.told F.faults F.reliable err.old err.new (fcl_line fault.now) result }
 {
     match fault {
         FclFault::Syntax(fault) => put_syntax(err, fault),
         FclFault::Load(fault) => put_load(err, fault),
-        FclFault::Layout(fault) => put_layout(err, fault),
+        FclFault::Layout(LayoutFault::TooManyRules(rule)) => {
+            write_line!(err; b"fcl: too many rules at rule " Number *rule)
+        }
+        FclFault::Layout(LayoutFault::ListTooLong(n)) => {
+            write_line!(err; b"fcl: list too long " Number *n)
+        }
+        FclFault::Layout(LayoutFault::Memory) => put_text(err, b"memory"),
     }
 }
 
 fn put_records<F: Sink>(err: &mut F, fault: &SrecFault) -> Result<(), Failed>
-    ensures { Puts (records_line fault.now) (F.told err.old) (F.told err.new)
-        (F.faults err.old) (F.faults err.new) (F.reliable err.old) (F.reliable err.new) result }
+    ensures { Puts F.told F.faults F.reliable err.old err.new (records_line fault.now) result }
 {
     match fault {
         SrecFault::BadLine(line) => put_number(err, b"image: line ", *line, b": bad line"),
-        SrecFault::BadSum(line, got, wanted) => put(
-            err,
-            &[
-                Part::Text(b"image: line "),
-                Part::Number(u64::from(*line)),
-                Part::Text(b": bad sum "),
-                Part::Byte(*got),
-                Part::Text(b" "),
-                Part::Byte(*wanted),
-                Part::Text(b"\n"),
-            ],
-        ),
+        SrecFault::BadSum(line, got, wanted) => {
+            write_line!(err; b"image: line " Number *line, b": bad sum " Byte *got, b" " Byte *wanted)
+        }
         SrecFault::Wide(line) => put_number(err, b"image: line ", *line, b": wide"),
         SrecFault::Overlap(line) => put_number(err, b"image: line ", *line, b": overlap"),
-        SrecFault::CountDiffers(got, wanted) => put_two(
-            err,
-            b"image: count ",
-            *got,
-            b" ",
-            *wanted,
-            b"",
-        ),
+        SrecFault::CountDiffers(got, wanted) => {
+            write_line!(err; b"image: count " Number *got, b" " Number *wanted)
+        }
         SrecFault::NoEnd => put_text(err, b"image: no end"),
         SrecFault::AfterEnd(line) => put_number(err, b"image: line ", *line, b": after end"),
         SrecFault::Memory => put_text(err, b"memory"),
@@ -232,238 +168,140 @@ fn byte_part(byte: Option<u8>) -> Part<'static>
 }
 
 pub(crate) fn put_image<F: Sink>(err: &mut F, fault: &ImageFault) -> Result<(), Failed>
-    ensures { Puts (image_line fault.now) (F.told err.old) (F.told err.new)
-        (F.faults err.old) (F.faults err.new) (F.reliable err.old) (F.reliable err.new) result }
+    ensures { Puts F.told F.faults F.reliable err.old err.new (image_line fault.now) result }
 {
     match fault {
         ImageFault::Records(fault) => put_records(err, fault),
-        ImageFault::Byte(at, got, wanted) => put(
-            err,
-            &[
-                Part::Text(b"image: "),
-                Part::Address(*at),
-                Part::Text(b": "),
-                byte_part(*got),
-                Part::Text(b", compile gives "),
-                byte_part(*wanted),
-                Part::Text(b"\n"),
-            ],
-        ),
-        ImageFault::Start(got, wanted) => put(
-            err,
-            &[
-                Part::Text(b"image: start "),
-                Part::Address(*got),
-                Part::Text(b", compile gives "),
-                Part::Address(*wanted),
-                Part::Text(b"\n"),
-            ],
-        ),
-    }
-}
-
-fn put_cert_text<F: Sink>(err: &mut F, fault: &CertFault) -> Result<(), Failed>
-    ensures { Puts (text_line fault.now) (F.told err.old) (F.told err.new)
-        (F.faults err.old) (F.faults err.new) (F.reliable err.old) (F.reliable err.new) result }
-{
-    match fault {
-        CertFault::BadLine(line) => put_number(err, b"cert: line ", *line, b": bad line"),
-        CertFault::Early => put_text(err, b"cert: early"),
-        CertFault::Late(line) => put_number(err, b"cert: line ", *line, b": late"),
-        CertFault::TooManyLeaves(line) => put_number(
-            err,
-            b"cert: line ",
-            *line,
-            b": too many leaves",
-        ),
-        CertFault::Memory => put_text(err, b"memory"),
+        ImageFault::Byte(at, got, wanted) => {
+            write_line!(err; b"image: " Address *at, b": " Part byte_part(*got),
+                b", compile gives " Part byte_part(*wanted))
+        }
+        ImageFault::Start(got, wanted) => {
+            write_line!(err; b"image: start " Address *got, b", compile gives " Address *wanted)
+        }
     }
 }
 
 /// A leaf on that line does not hold.
 fn put_leaf<F: Sink>(err: &mut F, line: u32, fault: &LeafFault) -> Result<(), Failed>
-    ensures { Puts (leaf_line line fault.now) (F.told err.old) (F.told err.new)
-        (F.faults err.old) (F.faults err.new) (F.reliable err.old) (F.reliable err.new) result }
+    ensures { Puts F.told F.faults F.reliable err.old err.new (leaf_line line fault.now) result }
 {
     match fault {
-        LeafFault::Weak(rule, k, low) => put(
-            err,
-            &[
-                Part::Text(b"cert: line "),
-                Part::Number(u64::from(line)),
-                Part::Text(b": weak rule "),
-                Part::Number(u64::from(*rule)),
-                Part::Text(b" k "),
-                Part::Number(u64::from(*k)),
-                Part::Text(b" low "),
-                Part::Number(low.0),
-                Part::Text(b"\n"),
-            ],
-        ),
-        LeafFault::Still(rule) => put_two(
-            err,
-            b"cert: line ",
-            line,
-            b": still rule ",
-            u32::from(*rule),
-            b"",
-        ),
-        LeafFault::Silent(rule, high) => put(
-            err,
-            &[
-                Part::Text(b"cert: line "),
-                Part::Number(u64::from(line)),
-                Part::Text(b": silent rule "),
-                Part::Number(u64::from(*rule)),
-                Part::Text(b" high "),
-                Part::Number(high.0),
-                Part::Text(b"\n"),
-            ],
-        ),
-        LeafFault::Loud(rule, byte) => put(
-            err,
-            &[
-                Part::Text(b"cert: line "),
-                Part::Number(u64::from(line)),
-                Part::Text(b": loud rule "),
-                Part::Number(u64::from(*rule)),
-                Part::Text(b" byte "),
-                Part::Number(u64::from(*byte)),
-                Part::Text(b"\n"),
-            ],
-        ),
+        LeafFault::Weak(rule, k, low) => {
+            write_line!(err; b"cert: line " Number line, b": weak rule " Number *rule, b" k " Number *k,
+                b" low " Number low.0)
+        }
+        LeafFault::Still(rule) => {
+            write_line!(err; b"cert: line " Number line, b": still rule " Number *rule)
+        }
+        LeafFault::Silent(rule, high) => {
+            write_line!(err; b"cert: line " Number line, b": silent rule " Number *rule, b" high " Number high.0)
+        }
+        LeafFault::Loud(rule, byte) => {
+            write_line!(err; b"cert: line " Number line, b": loud rule " Number *rule, b" byte " Number *byte)
+        }
     }
 }
 
 fn put_check<F: Sink>(err: &mut F, fault: &CheckFault) -> Result<(), Failed>
-    ensures { Puts (check_line fault.now) (F.told err.old) (F.told err.new)
-        (F.faults err.old) (F.faults err.new) (F.reliable err.old) (F.reliable err.new) result }
+    ensures { Puts F.told F.faults F.reliable err.old err.new (check_line fault.now) result }
 {
     match fault {
-        CheckFault::Outputs(got, wanted) => put_two(
-            err,
-            b"cert: outputs ",
-            *got,
-            b" ",
-            *wanted,
-            b"",
-        ),
+        CheckFault::Outputs(got, wanted) => {
+            write_line!(err; b"cert: outputs " Number *got, b" " Number *wanted)
+        }
         CheckFault::BadCut(line) => put_number(err, b"cert: line ", *line, b": bad cut"),
         CheckFault::BadRule(line) => put_number(err, b"cert: line ", *line, b": bad rule"),
         CheckFault::Leaf(line, fault) => put_leaf(err, *line, fault),
-        CheckFault::Unsure(line, output) => put_two(
-            err,
-            b"cert: line ",
-            *line,
-            b": unsure output ",
-            u32::from(*output),
-            b"",
-        ),
+        CheckFault::Unsure(line, output) => {
+            write_line!(err; b"cert: line " Number *line, b": unsure output " Number *output)
+        }
         CheckFault::TooManyCells(line) => {
             put_number(err, b"cert: line ", *line, b": too many cells")
         }
-        CheckFault::Claimed(output, claimed, computed) => put(
-            err,
-            &[
-                Part::Text(b"cert: output "),
-                Part::Number(u64::from(*output)),
-                Part::Text(b" claims "),
-                Part::Number(u64::from(*claimed)),
-                Part::Text(b", computed "),
-                Part::Number(u64::from(*computed)),
-                Part::Text(b"\n"),
-            ],
-        ),
+        CheckFault::Claimed(output, claimed, computed) => {
+            write_line!(err; b"cert: output " Number *output, b" claims " Number *claimed,
+                b", computed " Number *computed)
+        }
         CheckFault::Memory => put_text(err, b"memory"),
     }
 }
 
 pub(crate) fn put_cert<F: Sink>(err: &mut F, fault: &CertRefusal) -> Result<(), Failed>
-    ensures { Puts (cert_line fault.now) (F.told err.old) (F.told err.new)
-        (F.faults err.old) (F.faults err.new) (F.reliable err.old) (F.reliable err.new) result }
+    ensures { Puts F.told F.faults F.reliable err.old err.new (cert_line fault.now) result }
 {
     match fault {
-        CertRefusal::Text(fault) => put_cert_text(err, fault),
+        CertRefusal::Text(CertFault::BadLine(line)) => {
+            write_line!(err; b"cert: line " Number *line, b": bad line")
+        }
+        CertRefusal::Text(CertFault::Early) => put_text(err, b"cert: early"),
+        CertRefusal::Text(CertFault::Late(line)) => {
+            write_line!(err; b"cert: line " Number *line, b": late")
+        }
+        CertRefusal::Text(CertFault::TooManyLeaves(line)) => {
+            write_line!(err; b"cert: line " Number *line, b": too many leaves")
+        }
+        CertRefusal::Text(CertFault::Memory) => put_text(err, b"memory"),
         CertRefusal::Check(fault) => put_check(err, fault),
     }
 }
 
 pub(crate) fn put_trace<F: Sink>(err: &mut F, fault: &TraceFault) -> Result<(), Failed>
-    ensures { Puts (trace_line fault.now) (F.told err.old) (F.told err.new)
-        (F.faults err.old) (F.faults err.new) (F.reliable err.old) (F.reliable err.new) result }
+    ensures { Puts F.told F.faults F.reliable err.old err.new (trace_line fault.now) result }
 {
     match fault {
         TraceFault::TooMany => put_text(err, b"trace: too many rows"),
         TraceFault::BadRow(row) => put_number(err, b"trace: row ", *row, b": bad row"),
-        TraceFault::OutOfRange(row, input) => put_two(
-            err,
-            b"trace: row ",
-            *row,
-            b": input ",
-            u32::from(*input),
-            b" out of range",
-        ),
+        TraceFault::OutOfRange(row, input) => {
+            write_line!(err; b"trace: row " Number *row, b": input " Number *input, b" out of range")
+        }
         TraceFault::Memory => put_text(err, b"memory"),
     }
 }
 
 pub(crate) fn put_plan<F: Sink>(err: &mut F, fault: &PlanFault) -> Result<(), Failed>
-    ensures { Puts (plan_line fault.now) (F.told err.old) (F.told err.new)
-        (F.faults err.old) (F.faults err.new) (F.reliable err.old) (F.reliable err.new) result }
+    ensures { Puts F.told F.faults F.reliable err.old err.new (plan_line fault.now) result }
 {
     match fault {
         PlanFault::TooMany => put_text(err, b"plan: too many rows"),
         PlanFault::BadRow(row) => put_number(err, b"plan: row ", *row, b": bad row"),
-        PlanFault::NotFree(row, at) => put_row_at(err, b"plan: row ", *row, b": not free ", *at),
+        PlanFault::NotFree(row, at) => {
+            write_line!(err; b"plan: row " Number *row, b": not free " Address *at)
+        }
         PlanFault::NotAscending(row) => put_number(err, b"plan: row ", *row, b": not ascending"),
         PlanFault::Memory => put_text(err, b"memory"),
     }
 }
 
 pub(crate) fn put_upset<F: Sink>(err: &mut F, fault: &UpsetFault) -> Result<(), Failed>
-    ensures { Puts (upset_line fault.now) (F.told err.old) (F.told err.new)
-        (F.faults err.old) (F.faults err.new) (F.reliable err.old) (F.reliable err.new) result }
+    ensures { Puts F.told F.faults F.reliable err.old err.new (upset_line fault.now) result }
 {
     match fault {
         UpsetFault::TooMany => put_text(err, b"upset: too many rows"),
         UpsetFault::BadRow(row) => put_number(err, b"upset: row ", *row, b": bad row"),
-        UpsetFault::NotTable(row, at) => put_row_at(
-            err,
-            b"upset: row ",
-            *row,
-            b": not table ",
-            *at,
-        ),
+        UpsetFault::NotTable(row, at) => {
+            write_line!(err; b"upset: row " Number *row, b": not table " Address *at)
+        }
         UpsetFault::NotAscending(row) => put_number(err, b"upset: row ", *row, b": not ascending"),
         UpsetFault::Memory => put_text(err, b"memory"),
     }
 }
 
 pub(crate) fn put_not_reached<F: Sink>(err: &mut F, fault: &NotReached) -> Result<(), Failed>
-    ensures { Puts (not_reached_line fault.now) (F.told err.old) (F.told err.new)
-        (F.faults err.old) (F.faults err.new) (F.reliable err.old) (F.reliable err.new) result }
+    ensures { Puts F.told F.faults F.reliable err.old err.new (not_reached_line fault.now) result }
 {
     match fault {
-        NotReached::Cell(bytes, output, bound) => put(
-            err,
-            &[
-                Part::Text(b"not reached: cell"),
-                Part::Numbers(bytes.as_slice()),
-                Part::Text(b" output "),
-                Part::Number(u64::from(*output)),
-                Part::Text(b" bound "),
-                Part::Number(u64::from(*bound)),
-                Part::Text(b"\n"),
-            ],
-        ),
+        NotReached::Cell(bytes, output, bound) => {
+            write_line!(err; b"not reached: cell" Numbers bytes.as_slice(), b" output " Number *output,
+                b" bound " Number *bound)
+        }
         NotReached::LeafLimit => put_text(err, b"not reached: leaf limit"),
         NotReached::Memory => put_text(err, b"memory"),
     }
 }
 
 pub(crate) fn put_asm<F: Sink>(err: &mut F, fault: &AsmFault) -> Result<(), Failed>
-    ensures { Puts (asm_line fault.now) (F.told err.old) (F.told err.new)
-        (F.faults err.old) (F.faults err.new) (F.reliable err.old) (F.reliable err.new) result }
+    ensures { Puts F.told F.faults F.reliable err.old err.new (asm_line fault.now) result }
 {
     match fault {
         AsmFault::BadLine(line) => put_number(err, b"asm: line ", *line, b": bad line"),
@@ -478,42 +316,13 @@ pub(crate) fn put_asm<F: Sink>(err: &mut F, fault: &AsmFault) -> Result<(), Fail
 
 /// Why the instruction at an address is refused.
 fn put_at<'a, F: Sink>(err: &mut F, at: u16, why: &'a [u8]) -> Result<(), Failed>
-    ensures { Puts (at_address at why.now) (F.told err.old) (F.told err.new)
-        (F.faults err.old) (F.faults err.new) (F.reliable err.old) (F.reliable err.new) result }
+    ensures { Puts F.told F.faults F.reliable err.old err.new (at_address at why.now) result }
 {
-    put(
-        err,
-        &[
-            Part::Text(b"handler: "),
-            Part::Address(at),
-            Part::Text(b": "),
-            Part::Text(why),
-            Part::Text(b"\n"),
-        ],
-    )
-}
-
-/// Why the instruction at an address is refused, with another address.
-fn put_at_to<'a, F: Sink>(err: &mut F, at: u16, why: &'a [u8], to: u16) -> Result<(), Failed>
-    ensures { Puts (at_addresses at why.now to) (F.told err.old) (F.told err.new)
-        (F.faults err.old) (F.faults err.new) (F.reliable err.old) (F.reliable err.new) result }
-{
-    put(
-        err,
-        &[
-            Part::Text(b"handler: "),
-            Part::Address(at),
-            Part::Text(b": "),
-            Part::Text(why),
-            Part::Address(to),
-            Part::Text(b"\n"),
-        ],
-    )
+    write_line!(err; b"handler: " Address at, b": ", why)
 }
 
 pub(crate) fn put_handler<F: Sink>(err: &mut F, fault: &HandlerFault) -> Result<(), Failed>
-    ensures { Puts (handler_line fault.now) (F.told err.old) (F.told err.new)
-        (F.faults err.old) (F.faults err.new) (F.reliable err.old) (F.reliable err.new) result }
+    ensures { Puts F.told F.faults F.reliable err.old err.new (handler_line fault.now) result }
 {
     match fault {
         HandlerFault::Empty => put_text(err, b"handler: empty"),
@@ -521,9 +330,13 @@ pub(crate) fn put_handler<F: Sink>(err: &mut F, fault: &HandlerFault) -> Result<
         HandlerFault::Dead(at) => put_at(err, *at, b"dead"),
         HandlerFault::Trap(at) => put_at(err, *at, b"trap"),
         HandlerFault::Refused(at) => put_at(err, *at, b"refused"),
-        HandlerFault::NotFree(at, to) => put_at_to(err, *at, b"not free ", *to),
+        HandlerFault::NotFree(at, to) => {
+            write_line!(err; b"handler: " Address *at, b": not free " Address *to)
+        }
         HandlerFault::Backward(at) => put_at(err, *at, b"backward"),
-        HandlerFault::Target(at, to) => put_at_to(err, *at, b"target ", *to),
+        HandlerFault::Target(at, to) => {
+            write_line!(err; b"handler: " Address *at, b": target " Address *to)
+        }
         HandlerFault::Height(at) => put_at(err, *at, b"height"),
         HandlerFault::Falls(at) => put_at(err, *at, b"falls"),
         HandlerFault::Memory => put_text(err, b"memory"),
@@ -532,8 +345,7 @@ pub(crate) fn put_handler<F: Sink>(err: &mut F, fault: &HandlerFault) -> Result<
 
 /// The line of a fault of the fast block's file: that of the same fault of another block, with `fast ` in front.
 pub(crate) fn put_fast<F: Sink>(err: &mut F, fault: &FastFault) -> Result<(), Failed>
-    ensures { Puts (fast_line fault.now) (F.told err.old) (F.told err.new)
-        (F.faults err.old) (F.faults err.new) (F.reliable err.old) (F.reliable err.new) result }
+    ensures { Puts F.told F.faults F.reliable err.old err.new (fast_line fault.now) result }
 {
     put(err, &[Part::Text(b"fast ")])?;
     put_usual(err, fault)
@@ -541,8 +353,7 @@ pub(crate) fn put_fast<F: Sink>(err: &mut F, fault: &FastFault) -> Result<(), Fa
 
 /// The line of the same fault of another block.
 fn put_usual<F: Sink>(err: &mut F, fault: &FastFault) -> Result<(), Failed>
-    ensures { Puts (usual_line fault.now) (F.told err.old) (F.told err.new)
-        (F.faults err.old) (F.faults err.new) (F.reliable err.old) (F.reliable err.new) result }
+    ensures { Puts F.told F.faults F.reliable err.old err.new (usual_line fault.now) result }
 {
     match fault {
         FastFault::Fcl(fault) => put_fcl(err, fault),
