@@ -58,10 +58,6 @@ first_annotation-clean (s ∷ a) n h = rw (h.0) (first_annotation-clean a n h.1)
 
 -- ---- sets
 
-cond_true : (b c : Bool) → cond b true c ≡ false → (b ≡ false) × (c ≡ false)
-cond_true true c e = absurd cc
-cond_true false c e = (refl, e)
-
 cond_false : (b c : Bool) → cond b false c ≡ true → (b ≡ false) × (c ≡ true)
 cond_false true c e = absurd cc
 cond_false false c e = (refl, e)
@@ -100,22 +96,3 @@ pub SameHead-append : (k : Kind) (x : Token) (a c bad : List Token) → SameHead
     → SameHead k (x ∷ (a ++ c)) bad
 SameHead-append k x a c [] s = absurd s
 SameHead-append k x a c (y ∷ b) s = (s.0, SameNext-append (looks_on k) a c b s.1)
-
-abbrev pub subset : List ℕ → List ℕ → Bool
-subset [] ys = true
-subset (x ∷ xs) ys = cond (mem x ys) (subset xs ys) false
-
-cond_both : (b c : Bool) → cond b c false ≡ true → (b ≡ true) × (c ≡ true)
-cond_both true c e = (refl, e)
-cond_both false c e = absurd cc
-
-pub included : (xs ys : List ℕ) → subset xs ys ≡ true → (t : Token) → mem (class_of t) xs ≡ true
-    → mem (class_of t) ys ≡ true
-included [] ys s t h = absurd cc
-included (x ∷ xs) ys s t h =
-    let g = cond_both (mem x ys) (subset xs ys) s in
-    elim (eqb (class_of t) x) as
-    (λ b. eqb (class_of t) x ≡ b → cond b true (mem (class_of t) xs) ≡ true → mem (class_of t) ys ≡ true) [
-      | true ↦ λ e _. let same : class_of t ≡ x = eqb-true _ _ e in rw same g.0
-      | false ↦ λ e h. included xs ys g.1 t h
-    ] refl h

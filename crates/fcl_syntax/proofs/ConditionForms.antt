@@ -1,5 +1,5 @@
 -- The forms of conditions, by how many more "(" and NOT may be open.
-use Rattle.std.proofs.Common.{◌≡◌, ℕ, zero, suc, true, false, List, [], ◌∷◌, ◌++◌, length, Option, Some, None, Ok, refl}
+use Rattle.std.proofs.Common.{◌≡◌, ℕ, zero, suc, true, List, [], ◌∷◌, ◌++◌, length, Option, Some, None, Ok, refl}
 use Rattle.std.proofs.Common.{sym, ap, ◌∙◌, inl, inr, ◌⊎◌}
 use Rattle.fcl_syntax.specs.declared.fault.Kind.TheVariants.{Deep}
 use Rattle.fcl_syntax.specs.declared.token.Amount.TheVariants as amount
@@ -255,53 +255,11 @@ some_not = is some_name 0 None some_name
 
 pub deep_cover : (y : Token) → mem (class_of y) opener_classes ≡ true → (x : (ℕ × TNot) ⊎ (ℕ × TOr)) × (deep_head x ≡ y)
 deep_cover (tok.Open at) h = (inr (at, or_of (and_of some_not no_nots) no_ands), refl)
-deep_cover (tok.Word at key.FunctionBlock) h = absurd cc
-deep_cover (tok.Word at key.EndFunctionBlock) h = absurd cc
-deep_cover (tok.Word at key.VarInput) h = absurd cc
-deep_cover (tok.Word at key.VarOutput) h = absurd cc
-deep_cover (tok.Word at key.EndVar) h = absurd cc
-deep_cover (tok.Word at key.Var) h = absurd cc
-deep_cover (tok.Word at key.Fuzzify) h = absurd cc
-deep_cover (tok.Word at key.EndFuzzify) h = absurd cc
-deep_cover (tok.Word at key.Defuzzify) h = absurd cc
-deep_cover (tok.Word at key.EndDefuzzify) h = absurd cc
-deep_cover (tok.Word at key.Term) h = absurd cc
-deep_cover (tok.Word at key.Range) h = absurd cc
-deep_cover (tok.Word at key.Accu) h = absurd cc
-deep_cover (tok.Word at key.Method) h = absurd cc
-deep_cover (tok.Word at key.Default) h = absurd cc
-deep_cover (tok.Word at key.Ruleblock) h = absurd cc
-deep_cover (tok.Word at key.EndRuleblock) h = absurd cc
-deep_cover (tok.Word at key.Rule) h = absurd cc
-deep_cover (tok.Word at key.If) h = absurd cc
-deep_cover (tok.Word at key.Then) h = absurd cc
-deep_cover (tok.Word at key.With) h = absurd cc
-deep_cover (tok.Word at key.Is) h = absurd cc
 deep_cover (tok.Word at key.Not) h = (inl (at, some_not), refl)
-deep_cover (tok.Word at key.And) h = absurd cc
-deep_cover (tok.Word at key.Or) h = absurd cc
-deep_cover (tok.Word at key.Act) h = absurd cc
-deep_cover (tok.Word at key.Options) h = absurd cc
-deep_cover (tok.Word at key.EndOptions) h = absurd cc
 deep_cover (tok.Name at word.Real) h = absurd cc
-deep_cover (tok.Name at word.Min) h = absurd cc
-deep_cover (tok.Name at word.Max) h = absurd cc
-deep_cover (tok.Name at word.Prod) h = absurd cc
-deep_cover (tok.Name at word.Bdif) h = absurd cc
-deep_cover (tok.Name at word.Asum) h = absurd cc
-deep_cover (tok.Name at word.Bsum) h = absurd cc
-deep_cover (tok.Name at word.Nsum) h = absurd cc
-deep_cover (tok.Name at word.Cogs) h = absurd cc
-deep_cover (tok.Name at word.Centre) h = absurd cc
-deep_cover (tok.Name at word.Extreme) h = absurd cc
-deep_cover (tok.Name at word.Nc) h = absurd cc
-deep_cover (tok.Name at word.Other) h = absurd cc
 deep_cover (tok.Number at amount.Zero true) h = absurd cc
-deep_cover (tok.Number at amount.Zero false) h = absurd cc
 deep_cover (tok.Number at amount.One true) h = absurd cc
-deep_cover (tok.Number at amount.One false) h = absurd cc
 deep_cover (tok.Number at (amount.Other n) true) h = absurd cc
-deep_cover (tok.Number at (amount.Other n) false) h = absurd cc
 deep_cover _ h = absurd cc
 
 abbrev pub deep_dead : Dead ((ℕ × TNot) ⊎ (ℕ × TOr))

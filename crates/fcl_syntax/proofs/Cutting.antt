@@ -1,8 +1,6 @@
 -- The lexer's loop.
 use Rattle.std.proofs.Common.{◌≡◌, ℕ, zero, suc, ◌+◌, ◌<◌, ◌≤◌, Bool, true, false, eqb, List, [], ◌∷◌, ◌++◌, length}
 use Rattle.std.proofs.Common.{drop, Ok, Err, refl, sym, ap, ◌∙◌, append_assoc, arith}
-use Rattle.std.specs.Prelude.{◌||◌}
-use Rattle.std.specs.Char.{is_ascii_digit}
 use Rattle.std.specs.List.{prefix_len}
 use Rattle.std.proofs.lemmas.List.Folds.{length-prefix_len}
 use Rattle.std.proofs.lemmas.Bool.{eqb-true}
@@ -10,7 +8,6 @@ use Rattle.std.proofs.lemmas.List.{append-nil, length-drop}
 use Rattle.fcl_syntax.specs.declared.{lexer.LexKind.LexKind, lexer.Piece.Piece}
 use Rattle.fcl_syntax.specs.declared.lexer.Piece.TheVariants as piece
 use Rattle.fcl_syntax.specs.declared.token.Token.{Token}
-use Rattle.fcl_syntax.specs.Tokens.{starts_name, is_name_byte, is_name_start}
 use Rattle.fcl_syntax.specs.Lexing.{piece_of, run, lexed, Lexed, in_front, next_piece}
 
 abbrev pub fronted : List Token → List ℕ → Lexed → Lexed
@@ -21,13 +18,6 @@ pub record Cutting (ts : List Token) (ats : List ℕ) (at : ℕ) (rest : List �
   pub fuel : ℕ
   pub enough : length rest ≤ fuel
   pub so_far : fronted ts ats (lexed fuel at rest) ≡ total
-
-pub cut_begun : (bytes : List ℕ) → Cutting [] [] 0 bytes (lexed (length bytes) 0 bytes)
-cut_begun bytes = record { fuel = length bytes; enough = omega arith; so_far = go (lexed (length bytes) 0 bytes) }
-  where
-    go : (l : Lexed) → fronted [] [] l ≡ l
-    go (Ok l) = refl
-    go (Err e) = refl
 
 pub cut_skips : (ts : List Token) (ats : List ℕ) (at n : ℕ) (bytes : List ℕ) (total : Lexed) → 0 < length bytes
     → piece.Skip n ≡ piece_of at bytes → 0 < n
@@ -103,14 +93,6 @@ run_first p b bytes h =
     let len : run p (b ∷ bytes) ≡ prefix_len p (b ∷ bytes) = length-prefix_len p (b ∷ bytes) in
     let more : prefix_len p (b ∷ bytes) ≡ 1 + prefix_len p bytes = rw h refl in
     omega (arith, len, more)
-
-either : (x y : Bool) → x ≡ true → (x || y) ≡ true
-either true y e = refl
-either false y e = absurd cc
-
-pub name_run : (bytes : List ℕ) → starts_name bytes ≡ true → 0 < run is_name_byte bytes
-name_run [] h = absurd cc
-name_run (b ∷ bytes) h = run_first is_name_byte b bytes (either (is_name_start b) (is_ascii_digit b) h)
 
 pub positive : (n : ℕ) (r : Bool) → r ≡ eqb n 0 → r ≡ false → 0 < n
 positive zero r a b = absurd cc

@@ -39,10 +39,6 @@ texts-append p [] b = refl
 texts-append p (x ∷ a) b = ap (λ (l : List Sym). p.text x ++ l) (texts-append p a b)
     ∙ sym (append_assoc (p.text x) (texts p a) (texts p b))
 
-same-front : (e : Fault) (f bad b : List Token) (first : List ℕ) → SameHead e.kind bad b
-    → starts first (f ++ bad) ≡ false → starts first (f ++ b) ≡ false
-same-front e f bad b first same h = starts-same first e.kind f bad b same ∙ h
-
 -- ---- P {Q}
 
 module _ {A B : Type 0} (p : Form A) (q : Form B) where

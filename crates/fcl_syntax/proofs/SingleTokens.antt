@@ -34,53 +34,12 @@ bare_is tok.Comma x e = refl
 bare_is tok.Plus x e = refl
 bare_is tok.Minus x e = refl
 bare_is (tok.Open at) x e = absurd (none_some x e)
-bare_is (tok.Word at key.FunctionBlock) x e = absurd (none_some x e)
-bare_is (tok.Word at key.EndFunctionBlock) x e = absurd (none_some x e)
-bare_is (tok.Word at key.VarInput) x e = absurd (none_some x e)
-bare_is (tok.Word at key.VarOutput) x e = absurd (none_some x e)
-bare_is (tok.Word at key.EndVar) x e = absurd (none_some x e)
-bare_is (tok.Word at key.Var) x e = absurd (none_some x e)
-bare_is (tok.Word at key.Fuzzify) x e = absurd (none_some x e)
-bare_is (tok.Word at key.EndFuzzify) x e = absurd (none_some x e)
-bare_is (tok.Word at key.Defuzzify) x e = absurd (none_some x e)
-bare_is (tok.Word at key.EndDefuzzify) x e = absurd (none_some x e)
-bare_is (tok.Word at key.Term) x e = absurd (none_some x e)
-bare_is (tok.Word at key.Range) x e = absurd (none_some x e)
-bare_is (tok.Word at key.Accu) x e = absurd (none_some x e)
-bare_is (tok.Word at key.Method) x e = absurd (none_some x e)
-bare_is (tok.Word at key.Default) x e = absurd (none_some x e)
-bare_is (tok.Word at key.Ruleblock) x e = absurd (none_some x e)
-bare_is (tok.Word at key.EndRuleblock) x e = absurd (none_some x e)
 bare_is (tok.Word at key.Rule) x e = absurd (none_some x e)
-bare_is (tok.Word at key.If) x e = absurd (none_some x e)
-bare_is (tok.Word at key.Then) x e = absurd (none_some x e)
-bare_is (tok.Word at key.With) x e = absurd (none_some x e)
-bare_is (tok.Word at key.Is) x e = absurd (none_some x e)
-bare_is (tok.Word at key.Not) x e = absurd (none_some x e)
-bare_is (tok.Word at key.And) x e = absurd (none_some x e)
-bare_is (tok.Word at key.Or) x e = absurd (none_some x e)
-bare_is (tok.Word at key.Act) x e = absurd (none_some x e)
-bare_is (tok.Word at key.Options) x e = absurd (none_some x e)
-bare_is (tok.Word at key.EndOptions) x e = absurd (none_some x e)
 bare_is (tok.Name at word.Real) x e = absurd (none_some x e)
-bare_is (tok.Name at word.Min) x e = absurd (none_some x e)
-bare_is (tok.Name at word.Max) x e = absurd (none_some x e)
-bare_is (tok.Name at word.Prod) x e = absurd (none_some x e)
-bare_is (tok.Name at word.Bdif) x e = absurd (none_some x e)
-bare_is (tok.Name at word.Asum) x e = absurd (none_some x e)
-bare_is (tok.Name at word.Bsum) x e = absurd (none_some x e)
-bare_is (tok.Name at word.Nsum) x e = absurd (none_some x e)
-bare_is (tok.Name at word.Cogs) x e = absurd (none_some x e)
-bare_is (tok.Name at word.Centre) x e = absurd (none_some x e)
-bare_is (tok.Name at word.Extreme) x e = absurd (none_some x e)
-bare_is (tok.Name at word.Nc) x e = absurd (none_some x e)
-bare_is (tok.Name at word.Other) x e = absurd (none_some x e)
 bare_is (tok.Number at amount.Zero true) x e = absurd (none_some x e)
-bare_is (tok.Number at amount.Zero false) x e = absurd (none_some x e)
 bare_is (tok.Number at amount.One true) x e = absurd (none_some x e)
-bare_is (tok.Number at amount.One false) x e = absurd (none_some x e)
 bare_is (tok.Number at (amount.Other n) true) x e = absurd (none_some x e)
-bare_is (tok.Number at (amount.Other n) false) x e = absurd (none_some x e)
+bare_is _ x e = absurd (none_some x e)
 
 pub same_class : (x y : Token) → IsBare x → class_of y ≡ class_of x → x ≡ y
 same_class x y b e =
@@ -184,18 +143,7 @@ name_among a = go a.at a.word
   where
     go : (at : ℕ) (w : Word) → mem (class_of (tok.Name at w)) name_classes ≡ true
     go at word.Real = refl
-    go at word.Min = refl
-    go at word.Max = refl
-    go at word.Prod = refl
-    go at word.Bdif = refl
-    go at word.Asum = refl
-    go at word.Bsum = refl
-    go at word.Nsum = refl
-    go at word.Cogs = refl
-    go at word.Centre = refl
-    go at word.Extreme = refl
-    go at word.Nc = refl
-    go at word.Other = refl
+    go at _ = refl
 
 abbrev pub name_single : Single Name
 name_single = record {
@@ -220,9 +168,7 @@ number_among a = go a.at a.amount a.whole
     go at amount.Zero true = refl
     go at amount.One true = refl
     go at (amount.Other n) true = refl
-    go at amount.Zero false = refl
-    go at amount.One false = refl
-    go at (amount.Other n) false = refl
+    go at _ _ = refl
 
 abbrev pub number_single : Single Number
 number_single = record {
@@ -248,9 +194,8 @@ unit_among a = go a.at a.is_one a.whole
   where
     go : (at : ℕ) (b w : Bool) → mem (class_of (tok.Number at (unit_amount b) w)) unit_classes ≡ true
     go at true true = refl
-    go at true false = refl
     go at false true = refl
-    go at false false = refl
+    go at _ _ = refl
 
 pub unit_forth : (a : UnitNumber) → unit_want (unit_token a) ≡ Some a
 unit_forth a = go a.at a.is_one a.whole
@@ -274,7 +219,6 @@ unit_single = record {
 pub zero_back : (x : Token) (a : ZeroNumber) → zero_want x ≡ Some a → zero_token a ≡ x
 zero_back (tok.Number at amount.Zero w) a e = let is : record { at = at; whole = w } ≡ a = cc in ap zero_token (sym is)
 zero_back (tok.Number at amount.One w) a e = absurd cc
-zero_back (tok.Number at (amount.Other n) w) a e = absurd cc
 zero_back _ a e = absurd cc
 
 pub zero_among : (a : ZeroNumber) → mem (class_of (zero_token a)) zero_classes ≡ true
@@ -305,8 +249,7 @@ label_among a = go a.at a.amount
   where
     go : (at : ℕ) (n : Amount) → mem (class_of (tok.Number at n true)) whole_classes ≡ true
     go at amount.Zero = refl
-    go at amount.One = refl
-    go at (amount.Other n) = refl
+    go at _ = refl
 
 abbrev pub label_single : Single Label
 label_single = record {

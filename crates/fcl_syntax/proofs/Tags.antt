@@ -11,33 +11,7 @@ use Rattle.fcl_syntax.specs.TokenClasses.{keyword_class, word_class, mem}
 
 pub tag-key : (k : Keyword) → tag_of the_type k ≡ keyword_class k
 tag-key key.FunctionBlock = refl
-tag-key key.EndFunctionBlock = refl
-tag-key key.VarInput = refl
-tag-key key.VarOutput = refl
-tag-key key.EndVar = refl
-tag-key key.Var = refl
-tag-key key.Fuzzify = refl
-tag-key key.EndFuzzify = refl
-tag-key key.Defuzzify = refl
-tag-key key.EndDefuzzify = refl
-tag-key key.Term = refl
-tag-key key.Range = refl
-tag-key key.Accu = refl
-tag-key key.Method = refl
-tag-key key.Default = refl
-tag-key key.Ruleblock = refl
-tag-key key.EndRuleblock = refl
-tag-key key.Rule = refl
-tag-key key.If = refl
-tag-key key.Then = refl
-tag-key key.With = refl
-tag-key key.Is = refl
-tag-key key.Not = refl
-tag-key key.And = refl
-tag-key key.Or = refl
-tag-key key.Act = refl
-tag-key key.Options = refl
-tag-key key.EndOptions = refl
+tag-key _ = refl
 
 if_itself : (b : Bool) → b ≡ cond b true false
 if_itself true = refl
@@ -55,18 +29,7 @@ key_one j k e = tag_one the_type tt j k (tag-key j ∙ e ∙ sym (tag-key k))
 
 pub tag-word : (w : Word) → tag_of word_type w + 30 ≡ word_class w
 tag-word word.Real = refl
-tag-word word.Min = refl
-tag-word word.Max = refl
-tag-word word.Prod = refl
-tag-word word.Bdif = refl
-tag-word word.Asum = refl
-tag-word word.Bsum = refl
-tag-word word.Nsum = refl
-tag-word word.Cogs = refl
-tag-word word.Centre = refl
-tag-word word.Extreme = refl
-tag-word word.Nc = refl
-tag-word word.Other = refl
+tag-word _ = refl
 
 pub word_one : (v w : Word) → word_class v ≡ word_class w → v ≡ w
 word_one v w e = tag_one word_type tt v w (omega (arith, tag-word v, tag-word w, e))

@@ -1,7 +1,6 @@
 //! RULEBLOCK.
 
-ghost use Rattle.std.specs.Prelude.{◌≡◌};
-ghost use Rattle.std.proofs.Common.{inl, inr};
+ghost use Rattle.std.proofs.Common.{inr};
 ghost use Rattle.fcl_syntax.specs.{declared.tree.Conclusion.Conclusion, Readers.Gives};
 ghost use Rattle.fcl_syntax.specs.TokenClasses.{comma_classes, rule_item_classes, rule_line_classes};
 ghost use Rattle.fcl_syntax.specs.Grammar.{TRuleItem, TRuleLine, and_classes, or_classes};

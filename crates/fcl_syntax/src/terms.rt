@@ -1,7 +1,7 @@
 //! FUZZIFY and DEFUZZIFY.
 
 ghost use Rattle.std.specs.Prelude.{◌≡◌, ◌⊎◌, [], ◌∷◌, map, Ok};
-ghost use Rattle.std.proofs.Common.{inl, inr};
+ghost use Rattle.std.proofs.Common.{inr};
 ghost use Rattle.fcl_syntax.specs.TokenClasses.{open_classes, fuzzy_line_classes, defuzzy_line_classes, part_classes};
 ghost use Rattle.fcl_syntax.specs.TokenClasses.{word_class};
 ghost use Rattle.fcl_syntax.specs.Grammar.{TPoint, TTerm, TRange, TDefuzzyLine, TPart};

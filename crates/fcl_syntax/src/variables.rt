@@ -1,6 +1,5 @@
 //! VAR_INPUT and VAR_OUTPUT.
 
-ghost use Rattle.std.specs.Prelude.{◌≡◌};
 ghost use Rattle.std.proofs.Common.{inr};
 ghost use Rattle.fcl_syntax.specs.{declared.tree.Name.Name, Grammar.TDeclaration, Grammar.TSection, Readers.Gives};
 ghost use Rattle.fcl_syntax.specs.TokenClasses.{comma_classes, name_classes, section_classes};
