@@ -1,5 +1,5 @@
 -- The forms of conditions, by how many more "(" and NOT may be open.
-use Rattle.std.proofs.Common.{◌≡◌, ℕ, zero, suc, true, List, [], ◌∷◌, ◌++◌, length, Option, Some, None, Ok, refl}
+use Rattle.std.proofs.Common.{◌≡◌, ℕ, zero, suc, true, List, [], ◌∷◌, ◌++◌, Option, Some, None, Ok, refl}
 use Rattle.std.proofs.Common.{sym, ap, ◌∙◌, inl, inr, ◌⊎◌}
 use Rattle.fcl_syntax.specs.declared.fault.Kind.TheVariants.{Deep}
 use Rattle.fcl_syntax.specs.declared.token.Amount.TheVariants as amount
@@ -10,17 +10,17 @@ use Rattle.fcl_syntax.specs.declared.token.Token.TheVariants as tok
 use Rattle.fcl_syntax.specs.declared.token.Word.TheVariants as word
 use Rattle.fcl_syntax.specs.{declared.tree.Name.Name, Annotations.Sym, Annotations.plain, Annotations.annotated}
 use Rattle.fcl_syntax.specs.TokenClasses.{class_of, mem, follow_classes, Among, keyword_class, opener_classes}
-use Rattle.fcl_syntax.specs.{Readers.◌>>=◌, Readers.loop, Conditions.nots_of, Conditions.ands_of}
+use Rattle.fcl_syntax.specs.{Readers.◌>>=◌, Conditions.nots_of, Conditions.ands_of}
 use Rattle.fcl_syntax.specs.Grammar.{TNot, neg, group, is, lone, TNots, no_nots, more_nots, TAnd, and_of, TAnds}
 use Rattle.fcl_syntax.specs.Grammar.{no_ands, more_ands, TOr, or_of, not_text, nots_text, and_text, ands_text}
 use Rattle.fcl_syntax.specs.Grammar.{or_text}
-use Rattle.fcl_syntax.specs.Reading.{name_at, not_word_at, operand_at, behind_key_in, joined_in, neg_in, group_in}
+use Rattle.fcl_syntax.specs.Reading.{token_at, not_word_at, operand_at, behind_key_in, joined_in, neg_in, group_in}
 use Rattle.fcl_syntax.specs.Reading.{opened_in, not_at}
 use Rattle.fcl_syntax.proofs.{Form.disjoint, Form.Form, Ahead.Ahead, Ahead.ahead}
-use Rattle.fcl_syntax.proofs.{Chains.bind_assoc, Chains.bind_cond, Chains.chain2, SingleTokens.name_single}
+use Rattle.fcl_syntax.proofs.{Chains.bind_assoc, Chains.bind_cond, SingleTokens.name_single}
 use Rattle.fcl_syntax.proofs.{Dead.via, Dead.Dead, Dead.dead_or, Loop.texts, Repeat.then_rep, Seq.seq}
 use Rattle.fcl_syntax.proofs.Forms.{bare_form, key_form, open_form, name_form}
-use Rattle.fcl_syntax.proofs.Named.{named, either, in_left, in_right}
+use Rattle.fcl_syntax.proofs.Named.{Reads, named, either, in_left, in_right}
 
 -- ---- name IS [NOT] name
 
@@ -54,7 +54,7 @@ to_operand (inl t) = to_is t.0 t.1.0 t.1.1
 to_operand (inr t) = lone t.0 t.1
 
 pub operand_is : (ts : List Token) → operand_at ts ≡ (operand_raw.read ts >>= λ a. Ok (to_operand a.0, a.1))
-unfolding operand_at name_at not_word_at
+unfolding operand_at token_at not_word_at
 operand_is ts = simp (bind_assoc, bind_cond)
 
 -- ---- what is inside
@@ -98,12 +98,12 @@ or_round (or_of t ts) = ap (λ (l : TAnds). or_of t l) (ands_round ts)
 
 -- parts with a keyword between them
 module _ {A : Type 0} (k : Keyword) (p : Form A) where
-  pub behind_key_is : (ts : List Token) → behind_key_in k p.read ts ≡ (seq (key_form k) p refl).read ts
+  pub behind_key_is : Reads (behind_key_in k p.read) (seq (key_form k) p refl)
   unfolding behind_key_in
-  behind_key_is ts = refl
+  behind_key_is = record { same = λ ts. refl }
 
   abbrev pub behind_key_form : Form (ℕ × A)
-  behind_key_form = named (seq (key_form k) p refl) (behind_key_in k p.read) behind_key_is
+  behind_key_form = named behind_key_is
 
   module _ (apart : disjoint p.goes (keyword_class k ∷ []) ≡ true) where
     abbrev pub joined_seq : Form (A × List (ℕ × A))
@@ -112,24 +112,20 @@ module _ {A : Type 0} (k : Keyword) (p : Form A) where
     module _ {W : Type 0} (whole : A → List (ℕ × A) → W) (parts : W → A × List (ℕ × A))
         (round : (w : W) → whole (parts w).0 (parts w).1 ≡ w) (text : W → List Sym)
         (same : (t : A × List (ℕ × A)) → text (whole t.0 t.1) ≡ joined_seq.text t) where
-      abbrev pub joined_raw : Form W
-      joined_raw = via joined_seq (λ t. whole t.0 t.1) parts text round same
-
-      pub joined_is : (ts : List Token) → joined_in k p.read whole ts ≡ joined_raw.read ts
+      pub joined_is : Reads (joined_in k p.read whole) (via joined_seq (λ t. whole t.0 t.1) parts text round same)
       unfolding joined_in
-      joined_is ts = chain2 p.read (λ l. loop (keyword_class k ∷ []) (behind_key_in k p.read) (length l) l)
-          (λ t. whole t.0 t.1) ts
+      joined_is = record { same = λ ts. simp (bind_assoc) }
 
       abbrev pub joined_form : Form W
-      joined_form = named joined_raw (joined_in k p.read whole) joined_is
+      joined_form = named joined_is
 
 module _ (n : ℕ) (p : Part n) where
   -- the part, read by the parser's own reader
-  pub inner_is : (ts : List Token) → not_at n ts ≡ p.form.read ts
-  inner_is ts = rw (← p.read) refl
+  pub inner_is : Reads (not_at n) p.form
+  inner_is = record { same = λ ts. rw (← p.read) refl }
 
   abbrev pub inner : Form TNot
-  inner = named p.form (not_at n) inner_is
+  inner = named inner_is
 
   abbrev pub conjunct_form : Form (ℕ × TNot)
   conjunct_form = behind_key_form key.And inner

@@ -3,7 +3,7 @@ use Rattle.std.proofs.Common.{◌≡◌, ℕ, zero, suc, ◌+◌, ◌≤◌, Boo
 use Rattle.std.proofs.Common.{None, Result, Ok, Err, refl, sym, ap, subst, ◌∙◌, append_assoc, arith, inl, inr}
 use Rattle.std.proofs.lemmas.List.{append-nil, length-append}
 use Rattle.fcl_syntax.specs.declared.{fault.Fault.Fault, token.Token.Token}
-use Rattle.fcl_syntax.specs.Annotations.{Sym, tokens_of, IsClean}
+use Rattle.fcl_syntax.specs.{Annotations.Sym, Annotations.tokens_of, Annotations.IsClean, Grammar.each}
 use Rattle.fcl_syntax.specs.Readers.{◌>>=◌, starts, with_front, turn, loop}
 use Rattle.fcl_syntax.proofs.Form.{disjoint, Stops, Starts, first_annotation, or_else, answer, Fails, Form}
 use Rattle.fcl_syntax.proofs.AnnotatedTexts.{bind_ok, bind_err, ok_is, tokens_of-append, length-tokens}
@@ -13,8 +13,7 @@ use Rattle.fcl_syntax.proofs.Small.{starts-is}
 
 module _ {A : Type 0} (p : Form A) where
   abbrev pub texts : List A → List Sym
-  texts [] = []
-  texts (a ∷ items) = p.text a ++ texts items
+  texts items = each p.text items
 
   -- while there are any, at most n
   abbrev pub rep : ℕ → List Token → Result (List A × List Token) Fault

@@ -6,9 +6,12 @@ use Rattle.fcl_syntax.specs.{Annotations.refused_text, First.looks_on, Readers.R
 use Rattle.fcl_syntax.proofs.{Form.disjoint, Form.Form, Small.alt, Dead.Dead, Dead.dead_or}
 use Rattle.fcl_syntax.proofs.Repeat.{mem-append, many}
 
-abbrev pub named : {A : Type 0} (p : Form A) (read : List Token → Read A)
-    → ((ts : List Token) → read ts ≡ p.read ts) → Form A
-named p read same = record {
+-- the reader answers what the form does
+pub record Reads {A : Type 0} (read : List Token → Read A) (p : Form A) : Type 0 where
+  pub same : (ts : List Token) → read ts ≡ p.read ts
+
+abbrev pub named : {A : Type 0} {read : List Token → Read A} {p : Form A} → Reads read p → Form A
+named {read = read} {p = p} is = record {
   text = p.text;
   read = read;
   first = p.first;
@@ -16,10 +19,10 @@ named p read same = record {
   some = p.some;
   some_clean = p.some_clean;
   begins = p.begins;
-  stands = λ ts t rest h. p.stands ts t rest (sym (same ts) ∙ h);
-  again = λ t rest stops. same _ ∙ p.again t rest stops;
+  stands = λ ts t rest h. p.stands ts t rest (sym (is.same ts) ∙ h);
+  again = λ t rest stops. is.same _ ∙ p.again t rest stops;
   fails = λ ts e h.
-      let f = p.fails ts e (sym (same ts) ∙ h) in
+      let f = p.fails ts e (sym (is.same ts) ∙ h) in
       record {
         front = f.front;
         bad = f.bad;
@@ -27,7 +30,7 @@ named p read same = record {
         left = f.left;
         viable = f.viable;
         shows = f.shows;
-        local = λ b s. same (f.front ++ b) ∙ f.local b s;
+        local = λ b s. is.same (f.front ++ b) ∙ f.local b s;
       };
 }
 

@@ -38,7 +38,27 @@ unit = tt
 abbrev pub refuse_at : {A : Type 0} → ℕ → List Token → Read A
 refuse_at code ts = Err (fault_at (Unsupported code) (length ts))
 
+-- what is read, where one of the classes is refused
+abbrev pub refusing : {A : Type 0} → (classes : List ℕ) → ℕ → (List Token → Read A) → List Token
+    → Read (Among classes ⊎ A)
+refusing classes code read ts = cond_read (starts classes ts) (refuse_at code ts) (do
+  x ← read ts
+  Ok (inr x.0, x.1))
+
+-- one where the classes are next, and else the other
+abbrev pub either_at : {A B : Type 0} → List ℕ → (List Token → Read A) → (List Token → Read B) → List Token
+    → Read (A ⊎ B)
+either_at classes one other ts = cond_read (starts classes ts) (do
+  x ← one ts
+  Ok (inl x.0, x.1)) (do
+    x ← other ts
+    Ok (inr x.0, x.1))
+
 -- ---- single tokens
+
+-- the next token, where it is one that is wanted
+unfoldable pub token_at : {A : Type 0} → (Token → Option A) → List Token → Read A
+token_at want ts = one_at want ts
 
 abbrev pub some_unit : Bool → Option (Unit {0})
 some_unit true = Some tt
@@ -67,73 +87,73 @@ IsBare x = bare_of (class_of x) ≡ Some x
 abbrev pub bare_want : Token → Token → Option (Unit {0})
 bare_want x y = some_unit (class_of y == class_of x)
 
-unfoldable pub expect_at : Token → List Token → Read (Unit {0})
-expect_at x ts = one_at (bare_want x) ts
+abbrev pub expect_at : Token → List Token → Read (Unit {0})
+expect_at x = token_at (bare_want x)
 
 abbrev pub key_want : Keyword → Token → Option ℕ
 key_want k (tok.Word at j) = at_if (keyword_class j == keyword_class k) at
 key_want k _ = None
 
-unfoldable pub key_at : Keyword → List Token → Read ℕ
-key_at k ts = one_at (key_want k) ts
+abbrev pub key_at : Keyword → List Token → Read ℕ
+key_at k = token_at (key_want k)
 
 abbrev pub word_want : Word → Token → Option ℕ
 word_want w (tok.Name at v) = at_if (word_class v == word_class w) at
 word_want w _ = None
 
-unfoldable pub word_at : Word → List Token → Read ℕ
-word_at w ts = one_at (word_want w) ts
+abbrev pub word_at : Word → List Token → Read ℕ
+word_at w = token_at (word_want w)
 
 abbrev pub open_want : Token → Option ℕ
 open_want (tok.Open at) = Some at
 open_want _ = None
 
-unfoldable pub open_at : List Token → Read ℕ
-open_at ts = one_at open_want ts
+abbrev pub open_at : List Token → Read ℕ
+open_at = token_at open_want
 
 abbrev pub name_want : Token → Option Name
 name_want (tok.Name at w) = Some (record { at = at; word = w })
 name_want _ = None
 
-unfoldable pub name_at : List Token → Read Name
-name_at ts = one_at name_want ts
+abbrev pub name_at : List Token → Read Name
+name_at = token_at name_want
 
 abbrev pub number_want : Token → Option Number
 number_want (tok.Number at n w) = Some (record { at = at; amount = n; whole = w })
 number_want _ = None
 
-unfoldable pub number_at : List Token → Read Number
-number_at ts = one_at number_want ts
+abbrev pub number_at : List Token → Read Number
+number_at = token_at number_want
 
 abbrev pub unit_want : Token → Option UnitNumber
 unit_want (tok.Number at amount.Zero w) = Some (record { at = at; is_one = false; whole = w })
 unit_want (tok.Number at amount.One w) = Some (record { at = at; is_one = true; whole = w })
 unit_want _ = None
 
-unfoldable pub unit_number_at : List Token → Read UnitNumber
-unit_number_at ts = one_at unit_want ts
+abbrev pub unit_number_at : List Token → Read UnitNumber
+unit_number_at = token_at unit_want
 
 abbrev pub zero_want : Token → Option ZeroNumber
 zero_want (tok.Number at amount.Zero w) = Some (record { at = at; whole = w })
 zero_want _ = None
 
-unfoldable pub zero_number_at : List Token → Read ZeroNumber
-zero_number_at ts = one_at zero_want ts
+abbrev pub zero_number_at : List Token → Read ZeroNumber
+zero_number_at = token_at zero_want
 
 abbrev pub label_want : Token → Option Label
 label_want (tok.Number at n true) = Some (record { at = at; amount = n })
 label_want _ = None
 
-unfoldable pub label_at : List Token → Read Label
-label_at ts = one_at label_want ts
+abbrev pub label_at : List Token → Read Label
+label_at = token_at label_want
 
 abbrev pub direction_want : Token → Option (ℕ × Direction)
 direction_want (tok.Word at key.VarInput) = Some (at, Input)
 direction_want (tok.Word at key.VarOutput) = Some (at, Output)
 direction_want _ = None
 
-unfoldable pub direction_at : List Token → Read (ℕ × Direction)
-direction_at ts = one_at direction_want ts
+abbrev pub direction_at : List Token → Read (ℕ × Direction)
+direction_at = token_at direction_want
 
 -- ---- numbers
 
@@ -165,24 +185,16 @@ abbrev pub signed_number_at : List Token → Read TSignedNumber
 signed_number_at = signed_at number_at number_at
 
 unfoldable pub coordinate_number_at : List Token → Read TCoordinate
-coordinate_number_at ts = cond_read (starts name_classes ts) (refuse_at 10 ts) (do
-  n ← number_at ts
-  Ok (inr n.0, n.1))
+coordinate_number_at ts = refusing name_classes 10 number_at ts
 
 abbrev pub coordinate_at : List Token → Read (TSigned TCoordinate TCoordinate)
 coordinate_at = signed_at coordinate_number_at coordinate_number_at
 
 unfoldable pub unit_at : List Token → Read TUnit
-unit_at ts = cond_read (starts name_classes ts) (refuse_at 10 ts)
-    (cond_read (starts beyond_unit_classes ts) (refuse_at 11 ts) (do
-      n ← unit_number_at ts
-      Ok (inr (inr n.0), n.1)))
+unit_at ts = refusing name_classes 10 (refusing beyond_unit_classes 11 unit_number_at) ts
 
 unfoldable pub zero_at : List Token → Read TZero
-zero_at ts = cond_read (starts name_classes ts) (refuse_at 10 ts)
-    (cond_read (starts beyond_zero_classes ts) (refuse_at 11 ts) (do
-      n ← zero_number_at ts
-      Ok (inr (inr n.0), n.1)))
+zero_at ts = refusing name_classes 10 (refusing beyond_zero_classes 11 zero_number_at) ts
 
 abbrev pub degree_at : List Token → Read (TSigned TUnit TZero)
 degree_at = signed_at unit_at zero_at
@@ -202,9 +214,7 @@ names_at ts = do
 
 -- REAL, by its offset
 unfoldable pub type_at : List Token → Read TType
-type_at ts = cond_read (starts other_type_classes ts) (refuse_at 5 ts) (do
-  r ← word_at word.Real ts
-  Ok (inr r.0, r.1))
+type_at ts = refusing other_type_classes 5 (word_at word.Real) ts
 
 unfoldable pub declaration_at : List Token → Read TDeclaration
 declaration_at ts = do
@@ -225,9 +235,7 @@ variables_at ts = do
   Ok (record { at = v.0.0; direction = v.0.1; declarations = ds.0; end = e.0 }, e.1)
 
 unfoldable pub section_at : List Token → Read TSection
-section_at ts = cond_read (starts var_classes ts) (refuse_at 6 ts) (do
-  v ← variables_at ts
-  Ok (inr v.0, v.1))
+section_at ts = refusing var_classes 6 variables_at ts
 
 abbrev pub sections_at : List Token → Read (List TSection)
 sections_at ts = loop section_classes section_at (length ts) ts
@@ -250,9 +258,7 @@ some_points_at ts = do
   Ok ((p.0, more.0), more.1)
 
 unfoldable pub points_at : List Token → Read TPoints
-points_at ts = cond_read (starts signed_classes ts) (refuse_at 14 ts) (do
-  p ← some_points_at ts
-  Ok (inr p.0, p.1))
+points_at ts = refusing signed_classes 14 some_points_at ts
 
 unfoldable pub term_at : List Token → Read TTerm
 term_at ts = do
@@ -283,11 +289,7 @@ range_at ts = do
   Ok (record { at = r.0; assigned = o.0.0; open_at = o.0.1; low = l.0; high = h.0 }, s.1)
 
 unfoldable pub fuzzy_line_at : List Token → Read (TTerm ⊎ TRange)
-fuzzy_line_at ts = cond_read (starts (keyword_class key.Term ∷ []) ts) (do
-  t ← term_at ts
-  Ok (inl t.0, t.1)) (do
-    r ← range_at ts
-    Ok (inr r.0, r.1))
+fuzzy_line_at ts = either_at (keyword_class key.Term ∷ []) term_at range_at ts
 
 abbrev pub fuzzy_lines_at : List Token → Read (List (TTerm ⊎ TRange))
 fuzzy_lines_at ts = loop fuzzy_line_classes fuzzy_line_at (length ts) ts
@@ -303,9 +305,7 @@ fuzzify_at ts = do
 -- ---- terms of an output
 
 unfoldable pub choice_at : Word → (classes : List ℕ) → ℕ → List Token → Read (Among classes ⊎ ℕ)
-choice_at w classes code ts = cond_read (starts classes ts) (refuse_at code ts) (do
-  x ← word_at w ts
-  Ok (inr x.0, x.1))
+choice_at w classes code ts = refusing classes code (word_at w) ts
 
 unfoldable pub setting_at : Keyword → Word → (classes : List ℕ) → ℕ → List Token → Read (TSetting classes)
 setting_at k w classes code ts = do
@@ -322,9 +322,7 @@ abbrev pub method_at : List Token → Read TMethod
 method_at = setting_at key.Method word.Cogs method_classes 1
 
 unfoldable pub singleton_value_at : List Token → Read (Among open_classes ⊎ TSignedNumber)
-singleton_value_at ts = cond_read (starts open_classes ts) (refuse_at 13 ts) (do
-  n ← signed_number_at ts
-  Ok (inr n.0, n.1))
+singleton_value_at ts = refusing open_classes 13 signed_number_at ts
 
 unfoldable pub singleton_at : List Token → Read TSingleton
 singleton_at ts = do
@@ -336,11 +334,7 @@ singleton_at ts = do
   Ok (record { at = t.0; name = n.0; value = v.0 }, s.1)
 
 unfoldable pub fallback_value_at : List Token → Read (TSignedNumber ⊎ ℕ)
-fallback_value_at ts = cond_read (starts signed_classes ts) (do
-  n ← signed_number_at ts
-  Ok (inl n.0, n.1)) (do
-    x ← word_at word.Nc ts
-    Ok (inr x.0, x.1))
+fallback_value_at ts = either_at signed_classes signed_number_at (word_at word.Nc) ts
 
 unfoldable pub fallback_at : List Token → Read TFallback
 fallback_at ts = do
@@ -351,17 +345,9 @@ fallback_at ts = do
   Ok (record { at = d.0; value = v.0 }, s.1)
 
 unfoldable pub defuzzy_line_at : List Token → Read TDefuzzyLine
-defuzzy_line_at ts = cond_read (starts (keyword_class key.Term ∷ []) ts) (do
-  t ← singleton_at ts
-  Ok (inl t.0, t.1)) (cond_read (starts (keyword_class key.Accu ∷ []) ts) (do
-    a ← accu_at ts
-    Ok (inr (inl a.0), a.1)) (cond_read (starts (keyword_class key.Method ∷ []) ts) (do
-      m ← method_at ts
-      Ok (inr (inr (inl m.0)), m.1)) (cond_read (starts (keyword_class key.Default ∷ []) ts) (do
-        d ← fallback_at ts
-        Ok (inr (inr (inr (inl d.0))), d.1)) (do
-          r ← range_at ts
-          Ok (inr (inr (inr (inr r.0))), r.1)))))
+defuzzy_line_at ts = either_at (keyword_class key.Term ∷ []) singleton_at (either_at (keyword_class key.Accu ∷ []) accu_at
+    (either_at (keyword_class key.Method ∷ []) method_at
+    (either_at (keyword_class key.Default ∷ []) fallback_at range_at))) ts
 
 abbrev pub defuzzy_lines_at : List Token → Read (List TDefuzzyLine)
 defuzzy_lines_at ts = loop defuzzy_line_classes defuzzy_line_at (length ts) ts
@@ -375,12 +361,7 @@ defuzzify_at ts = do
   Ok (record { at = d.0; name = n.0; lines = ls.0; end = e.0 }, e.1)
 
 unfoldable pub part_at : List Token → Read TPart
-part_at ts = cond_read (starts option_classes ts) (refuse_at 7 ts)
-    (cond_read (starts (keyword_class key.Fuzzify ∷ []) ts) (do
-      f ← fuzzify_at ts
-      Ok (inr (inl f.0), f.1)) (do
-        d ← defuzzify_at ts
-        Ok (inr (inr d.0), d.1)))
+part_at ts = refusing option_classes 7 (either_at (keyword_class key.Fuzzify ∷ []) fuzzify_at defuzzify_at) ts
 
 abbrev pub parts_at : List Token → Read (List TPart)
 parts_at ts = loop part_classes part_at (length ts) ts
@@ -465,9 +446,7 @@ conclusions_at ts = do
   Ok ((c.0, more.0), more.1)
 
 unfoldable pub weight_value_at : List Token → Read (Among name_classes ⊎ TSignedNumber)
-weight_value_at ts = cond_read (starts name_classes ts) (refuse_at 15 ts) (do
-  n ← signed_number_at ts
-  Ok (inr n.0, n.1))
+weight_value_at ts = refusing name_classes 15 signed_number_at ts
 
 unfoldable pub with_at : List Token → Read TWeight
 with_at ts = do
@@ -477,11 +456,7 @@ with_at ts = do
   Ok (record { at = w.0; value = v.0 }, s.1)
 
 unfoldable pub weight_at : List Token → Read (TWeight ⊎ Unit {0})
-weight_at ts = cond_read (starts (keyword_class key.With ∷ []) ts) (do
-  w ← with_at ts
-  Ok (inl w.0, w.1)) (do
-    s ← expect_at tok.Semicolon ts
-    Ok (inr s.0, s.1))
+weight_at ts = either_at (keyword_class key.With ∷ []) with_at (expect_at tok.Semicolon) ts
 
 unfoldable pub rule_at : List Token → Read TRule
 rule_at ts = do
@@ -499,19 +474,13 @@ rule_at ts = do
   )
 
 unfoldable pub rule_item_at : List Token → Read TRuleItem
-rule_item_at ts = cond_read (starts option_classes ts) (refuse_at 7 ts) (do
-  r ← rule_at ts
-  Ok (inr r.0, r.1))
+rule_item_at ts = refusing option_classes 7 rule_at ts
 
 abbrev pub rules_at : List Token → Read (List TRuleItem)
 rules_at ts = loop rule_item_classes rule_item_at (length ts) ts
 
 unfoldable pub act_word_at : List Token → Read (ℕ ⊎ ℕ)
-act_word_at ts = cond_read (starts (word_class word.Min ∷ []) ts) (do
-  m ← word_at word.Min ts
-  Ok (inl m.0, m.1)) (do
-    p ← word_at word.Prod ts
-    Ok (inr p.0, p.1))
+act_word_at ts = either_at (word_class word.Min ∷ []) (word_at word.Min) (word_at word.Prod) ts
 
 unfoldable pub act_at : List Token → Read TAct
 act_at ts = do
@@ -522,15 +491,9 @@ act_at ts = do
   Ok (record { at = a.0; word = w.0 }, s.1)
 
 unfoldable pub rule_line_at : List Token → Read TRuleLine
-rule_line_at ts = cond_read (starts (keyword_class key.And ∷ []) ts) (do
-  a ← setting_at key.And word.Min and_classes 2 ts
-  Ok (inl a.0, a.1)) (cond_read (starts (keyword_class key.Or ∷ []) ts) (do
-    o ← setting_at key.Or word.Max or_classes 3 ts
-    Ok (inr (inl o.0), o.1)) (cond_read (starts (keyword_class key.Act ∷ []) ts) (do
-      a ← act_at ts
-      Ok (inr (inr (inl a.0)), a.1)) (do
-        a ← accu_at ts
-        Ok (inr (inr (inr a.0)), a.1))))
+rule_line_at ts = either_at (keyword_class key.And ∷ []) (setting_at key.And word.Min and_classes 2)
+    (either_at (keyword_class key.Or ∷ []) (setting_at key.Or word.Max or_classes 3)
+    (either_at (keyword_class key.Act ∷ []) act_at accu_at)) ts
 
 abbrev pub rule_lines_at : List Token → Read (List TRuleLine)
 rule_lines_at ts = loop rule_line_classes rule_line_at (length ts) ts
@@ -545,10 +508,7 @@ rulebase_at ts = do
   Ok (record { at = b.0; name = n.0; lines = ls.0; rules = rs.0; end = e.0 }, e.1)
 
 unfoldable pub end_at : List Token → Read TEnd
-end_at ts = cond_read (starts option_classes ts) (refuse_at 7 ts)
-    (cond_read (starts ruleblock_classes ts) (refuse_at 8 ts) (do
-      e ← key_at key.EndFunctionBlock ts
-      Ok (inr (inr e.0), e.1)))
+end_at ts = refusing option_classes 7 (refusing ruleblock_classes 8 (key_at key.EndFunctionBlock)) ts
 
 unfoldable pub block_at : List Token → Read TBlock
 block_at ts = do

@@ -22,7 +22,7 @@ pub fn fault(kind: Kind, tokens: &[Token]) -> ParseError
 }
 
 /// What is behind this token, where it is next.
-#[tactic(auto, unfolding(crate::specs::Reading::expect_at))]
+#[tactic(auto, unfolding(crate::specs::Reading::token_at))]
 pub fn optional(tokens: &[Token], token: Token) -> Option<&[Token]>
     requires { IsBare token }
     ensures next { is_some result ≡ starts (class_of token ∷ []) tokens.now }
@@ -60,7 +60,7 @@ fn same_keyword(word: Keyword, wanted: Keyword) -> bool
 }
 
 /// The place of this keyword and what is behind it, where it is next.
-#[tactic(auto, unfolding(crate::specs::Reading::key_at))]
+#[tactic(auto, unfolding(crate::specs::Reading::token_at))]
 pub fn optional_keyword(tokens: &[Token], wanted: Keyword) -> Option<(u32, &[Token])>
     ensures next { is_some result ≡ starts (keyword_class wanted ∷ []) tokens.now }
     ensures read { key_at wanted tokens.now ≡
@@ -87,7 +87,7 @@ pub fn is_keyword(tokens: &[Token], wanted: Keyword) -> bool
     optional_keyword(tokens, wanted).is_some()
 }
 
-#[tactic(auto, unfolding(crate::specs::Reading::word_at))]
+#[tactic(auto, unfolding(crate::specs::Reading::token_at))]
 pub fn word(tokens: &[Token], wanted: Word) -> Result<(u32, &[Token]), ParseError>
     ensures { Gives (λ x. (x.0, x.1.now)) result (word_at wanted tokens.now) }
 {
@@ -106,7 +106,7 @@ pub fn is_word(tokens: &[Token], wanted: Word) -> bool
     }
 }
 
-#[tactic(auto, unfolding(crate::specs::Reading::open_at))]
+#[tactic(auto, unfolding(crate::specs::Reading::token_at))]
 pub fn open(tokens: &[Token]) -> Result<(u32, &[Token]), ParseError>
     ensures { Gives (λ x. (x.0, x.1.now)) result (open_at tokens.now) }
 {
@@ -122,7 +122,7 @@ pub fn is_open(tokens: &[Token]) -> bool
     matches!(tokens, [Token::Open(_), ..])
 }
 
-#[tactic(auto, unfolding(crate::specs::Reading::name_at))]
+#[tactic(auto, unfolding(crate::specs::Reading::token_at))]
 pub fn name(tokens: &[Token]) -> Result<(Name, &[Token]), ParseError>
     ensures { Gives (λ x. (x.0, x.1.now)) result (name_at tokens.now) }
 {
@@ -151,7 +151,7 @@ pub fn is_other_type(tokens: &[Token]) -> bool
     is_name(tokens) && !is_word(tokens, Word::Real)
 }
 
-#[tactic(auto, unfolding(crate::specs::Reading::number_at))]
+#[tactic(auto, unfolding(crate::specs::Reading::token_at))]
 pub fn number(tokens: &[Token]) -> Result<(Number, &[Token]), ParseError>
     ensures { Gives (λ x. (x.0, x.1.now)) result (number_at tokens.now) }
 {
@@ -169,7 +169,7 @@ pub fn number(tokens: &[Token]) -> Result<(Number, &[Token]), ParseError>
 }
 
 /// A number that is 0 or 1.
-#[tactic(auto, unfolding(crate::specs::Reading::unit_number_at))]
+#[tactic(auto, unfolding(crate::specs::Reading::token_at))]
 pub fn unit_number(tokens: &[Token]) -> Result<(UnitNumber, &[Token]), ParseError>
     ensures { Gives (λ x. (x.0, x.1.now)) result (unit_number_at tokens.now) }
 {
@@ -195,7 +195,7 @@ pub fn unit_number(tokens: &[Token]) -> Result<(UnitNumber, &[Token]), ParseErro
 }
 
 /// A number that is 0.
-#[tactic(auto, unfolding(crate::specs::Reading::zero_number_at))]
+#[tactic(auto, unfolding(crate::specs::Reading::token_at))]
 pub fn zero_number(tokens: &[Token]) -> Result<(ZeroNumber, &[Token]), ParseError>
     ensures { Gives (λ x. (x.0, x.1.now)) result (zero_number_at tokens.now) }
 {
@@ -212,7 +212,7 @@ pub fn zero_number(tokens: &[Token]) -> Result<(ZeroNumber, &[Token]), ParseErro
 }
 
 /// A number without a point.
-#[tactic(auto, unfolding(crate::specs::Reading::label_at))]
+#[tactic(auto, unfolding(crate::specs::Reading::token_at))]
 pub fn label(tokens: &[Token]) -> Result<(Label, &[Token]), ParseError>
     ensures { Gives (λ x. (x.0, x.1.now)) result (label_at tokens.now) }
 {
@@ -259,7 +259,7 @@ pub fn is_beyond_zero(tokens: &[Token]) -> bool
 }
 
 /// VAR_INPUT or VAR_OUTPUT.
-#[tactic(auto, unfolding(crate::specs::Reading::direction_at))]
+#[tactic(auto, unfolding(crate::specs::Reading::token_at))]
 pub fn direction(tokens: &[Token]) -> Result<((u32, Direction), &[Token]), ParseError>
     ensures { Gives (λ x. (x.0, x.1.now)) result (direction_at tokens.now) }
 {
