@@ -193,16 +193,12 @@ from_part (is v i b t) = inr (from_is v i b t)
 from_part (lone v f) = inr (inr (v, f))
 
 pub part_round : (t : TNot) → to_part (from_part t) ≡ t
-part_round (neg at t) = refl
-part_round (group at o) = refl
 part_round (is v i (Some n) t) = refl
-part_round (is v i None t) = refl
-part_round (lone v f) = refl
+part_round _ = refl
 
 pub operand_same : (n : ℕ) (t : OperandRaw) → not_text (to_operand t) n ≡ operand_raw.text t
 operand_same n (inl (v, (i, inl t))) = refl
-operand_same n (inl (v, (i, inr t))) = refl
-operand_same n (inr t) = refl
+operand_same n _ = refl
 
 module _ (n : ℕ) (p : Part n) where
   pub part_same : (t : ((ℕ × TNot) ⊎ (ℕ × (TOr × Unit {0}))) ⊎ OperandRaw)
@@ -288,11 +284,8 @@ from_last (is v i b t) = inr (from_is v i b t)
 from_last (lone v f) = inr (inr (v, f))
 
 pub last_round : (t : TNot) → to_last (from_last t) ≡ t
-last_round (neg at t) = refl
-last_round (group at o) = refl
 last_round (is v i (Some n) t) = refl
-last_round (is v i None t) = refl
-last_round (lone v f) = refl
+last_round _ = refl
 
 pub last_same : (t : ((ℕ × TNot) ⊎ (ℕ × TOr)) ⊎ OperandRaw) → not_text (to_last t) 0 ≡ last_raw.text t
 last_same (inl (inl t)) = refl

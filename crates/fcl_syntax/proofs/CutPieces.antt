@@ -616,41 +616,24 @@ sign_stands at b bytes t s h star equals =
           | assign k g ↦ absurd (equals k behind (next_bytes b 58 bytes other (61 ∷ []) behind e g))
         ]
 
-to_stands : (at : ℕ) (bytes : List ℕ) → Found at (46 ∷ 46 ∷ bytes) (Some tok.To) 2
-to_stands at bytes =
-    make at (46 ∷ 46 ∷ bytes) (46 ∷ 46 ∷ []) bytes (Some tok.To) 2 refl refl refl longest
-    (not_faulty 46 (46 ∷ bytes) (46 ∷ 46 ∷ []) bytes refl (inr (inr (at, tok.To, refl))) refl
-    (λ inside e. absurd (omega (arith, same_head 46 40 (46 ∷ bytes) (42 ∷ inside) e))))
+-- a delimiter of two bytes
+pair_stands : (at a b : ℕ) (bytes : List ℕ) (t : Token) → is_ascii_digit a ≡ false → is_name_start a ≡ false
+    → (a == 40) ≡ false → (a == 47) ≡ false → IsToken at (a ∷ b ∷ []) t → Found at (a ∷ b ∷ bytes) (Some t) 2
+pair_stands at a b bytes t digit begins no40 no47 h =
+    make at (a ∷ b ∷ bytes) (a ∷ b ∷ []) bytes (Some t) 2 refl refl h longest
+    (not_faulty a (b ∷ bytes) (a ∷ b ∷ []) bytes refl (inr (inr (at, t, h))) digit
+    (λ inside e. absurd (both_ways (a == 40) no40 (eq-eqb a 40 (same_head a 40 (b ∷ bytes) (42 ∷ inside) e)))))
   where
-    longest : IsLongest (46 ∷ 46 ∷ []) (46 ∷ 46 ∷ bytes)
+    longest : IsLongest (a ∷ b ∷ []) (a ∷ b ∷ bytes)
     longest other behind e t =
-        elim (head 46 (46 ∷ bytes) other behind e t) [
-          | blank k g ↦ absurd cc
-          | comment k c ↦ absurd (omega (arith, k))
-          | line k l ↦ absurd (omega (arith, k))
-          | number k w d ↦ absurd cc
-          | name k d ↦ absurd cc
-          | sign k g ↦ absurd cc
-          | to k g ↦ omega (arith, ap length g)
-          | assign k g ↦ absurd (omega (arith, k))
-        ]
-
-assign_stands : (at : ℕ) (bytes : List ℕ) → Found at (58 ∷ 61 ∷ bytes) (Some tok.Assign) 2
-assign_stands at bytes =
-    make at (58 ∷ 61 ∷ bytes) (58 ∷ 61 ∷ []) bytes (Some tok.Assign) 2 refl refl refl longest
-    (not_faulty 58 (61 ∷ bytes) (58 ∷ 61 ∷ []) bytes refl (inr (inr (at, tok.Assign, refl))) refl
-    (λ inside e. absurd (omega (arith, same_head 58 40 (61 ∷ bytes) (42 ∷ inside) e))))
-  where
-    longest : IsLongest (58 ∷ 61 ∷ []) (58 ∷ 61 ∷ bytes)
-    longest other behind e t =
-        elim (head 58 (61 ∷ bytes) other behind e t) [
-          | blank k g ↦ absurd cc
-          | comment k c ↦ absurd (omega (arith, k))
-          | line k l ↦ absurd (omega (arith, k))
-          | number k w d ↦ absurd cc
-          | name k d ↦ absurd cc
+        elim (head a (b ∷ bytes) other behind e t) [
+          | blank k g ↦ omega (arith, ap length g)
+          | comment k c ↦ absurd (both_ways (a == 40) no40 (eq-eqb a 40 k))
+          | line k l ↦ absurd (both_ways (a == 47) no47 (eq-eqb a 47 k))
+          | number k w d ↦ absurd (both_ways (is_ascii_digit a) digit k)
+          | name k d ↦ absurd (both_ways (is_name_start a) begins k)
           | sign k g ↦ omega (arith, ap length g)
-          | to k g ↦ absurd (omega (arith, k))
+          | to k g ↦ omega (arith, ap length g)
           | assign k g ↦ omega (arith, ap length g)
         ]
 
@@ -717,7 +700,8 @@ unfolding point_piece
 point_stands at [] = bad_stands 46 [] refl refl refl refl (λ k. absurd (omega (arith, k))) (λ k rest e. cc)
 point_stands at (b ∷ bytes) =
     choose at (46 ∷ b ∷ bytes) (b == 46) _ _
-    (λ e. subst (λ (n : ℕ). Found at (46 ∷ n ∷ bytes) (Some tok.To) 2) (sym (eqb-true b 46 e)) (to_stands at bytes))
+    (λ e. subst (λ (n : ℕ). Found at (46 ∷ n ∷ bytes) (Some tok.To) 2) (sym (eqb-true b 46 e))
+    (pair_stands at 46 46 bytes tok.To refl refl refl refl refl))
     (λ e. bad_stands 46 (b ∷ bytes) refl refl refl refl (λ k. absurd (omega (arith, k)))
     (λ _ rest k. both_ways (b == 46) e (eq-eqb b 46 (same_head b 46 bytes rest k))))
 
@@ -727,7 +711,7 @@ colon_stands at [] = sign_stands at 58 [] tok.Colon refl refl (λ k. absurd (ome
 colon_stands at (b ∷ bytes) =
     choose at (58 ∷ b ∷ bytes) (b == 61) _ _
     (λ e. subst (λ (n : ℕ). Found at (58 ∷ n ∷ bytes) (Some tok.Assign) 2) (sym (eqb-true b 61 e))
-    (assign_stands at bytes))
+    (pair_stands at 58 61 bytes tok.Assign refl refl refl refl refl))
     (λ e. sign_stands at 58 (b ∷ bytes) tok.Colon refl refl (λ k. absurd (omega (arith, k)))
     (λ _ rest k. both_ways (b == 61) e (eq-eqb b 61 (same_head b 61 bytes rest k))))
 

@@ -41,14 +41,7 @@ token_some at bytes (tok.Word place k) h = name_some bytes h.1
 token_some at bytes (tok.Name place w) h = name_some bytes h.1
 token_some at bytes (tok.Number place n whole) h = number_some whole bytes h.1
 token_some at bytes (tok.Open place) h = omega (arith, ap length h.1)
-token_some at bytes tok.Close h = omega (arith, ap length h)
-token_some at bytes tok.Assign h = omega (arith, ap length h)
-token_some at bytes tok.To h = omega (arith, ap length h)
-token_some at bytes tok.Colon h = omega (arith, ap length h)
-token_some at bytes tok.Semicolon h = omega (arith, ap length h)
-token_some at bytes tok.Comma h = omega (arith, ap length h)
-token_some at bytes tok.Plus h = omega (arith, ap length h)
-token_some at bytes tok.Minus h = omega (arith, ap length h)
+token_some at bytes _ h = omega (arith, ap length h)
 
 pub some_bytes : (bytes : List ℕ) → IsTogether bytes → 0 < length bytes
 some_bytes bytes (inl (inl g)) = omega (arith, ap length g.1)
@@ -240,16 +233,7 @@ token_piece at bytes (tok.Number place n whole) h =
 token_piece at bytes (tok.Open place) h =
     subst (λ (l : List ℕ). piece_of at l ≡ piece.Token (tok.Open place) (length l)) (sym h.1)
     (ap (λ (n : ℕ). piece.Token (tok.Open n) 1) (sym h.0))
-token_piece at bytes tok.Close h = subst (λ (l : List ℕ). piece_of at l ≡ piece.Token tok.Close (length l)) (sym h) refl
-token_piece at bytes tok.Assign h =
-    subst (λ (l : List ℕ). piece_of at l ≡ piece.Token tok.Assign (length l)) (sym h) refl
-token_piece at bytes tok.To h = subst (λ (l : List ℕ). piece_of at l ≡ piece.Token tok.To (length l)) (sym h) refl
-token_piece at bytes tok.Colon h = subst (λ (l : List ℕ). piece_of at l ≡ piece.Token tok.Colon (length l)) (sym h) refl
-token_piece at bytes tok.Semicolon h =
-    subst (λ (l : List ℕ). piece_of at l ≡ piece.Token tok.Semicolon (length l)) (sym h) refl
-token_piece at bytes tok.Comma h = subst (λ (l : List ℕ). piece_of at l ≡ piece.Token tok.Comma (length l)) (sym h) refl
-token_piece at bytes tok.Plus h = subst (λ (l : List ℕ). piece_of at l ≡ piece.Token tok.Plus (length l)) (sym h) refl
-token_piece at bytes tok.Minus h = subst (λ (l : List ℕ). piece_of at l ≡ piece.Token tok.Minus (length l)) (sym h) refl
+token_piece at bytes _ h = rw h refl
 
 same_token : (p : Piece) (t u : Token) (m n : ℕ) → p ≡ piece.Token t m → p ≡ piece.Token u n → t ≡ u
 same_token (piece.Skip k) t u m n a b = absurd cc

@@ -68,8 +68,7 @@ direction_form = token_form single.direction_single
 pub behind_sign_alike : {A : Type 0} (f : List Token → Read A) (s : Sign) (ts : List Token)
     → behind_sign f f s ts ≡ (f ts >>= λ n. Ok (signed s n.0, n.1))
 behind_sign_alike f sign.Plus ts = refl
-behind_sign_alike f sign.Minus ts = refl
-behind_sign_alike f sign.Bare ts = refl
+behind_sign_alike f _ ts = refl
 
 abbrev pub SignedRaw : Type 0 → Type 0 → Type 0
 SignedRaw A B = (Unit {0} × A) ⊎ ((Unit {0} × B) ⊎ A)
@@ -86,8 +85,7 @@ from_signed (bare a) = inr (inr a)
 
 pub signed_round : {A B : Type 0} (t : TSigned A B) → to_signed (from_signed t) ≡ t
 signed_round (plus a) = refl
-signed_round (minus b) = refl
-signed_round (bare a) = refl
+signed_round _ = refl
 
 module _ {A B : Type 0} (p : Form A) (q : Form B)
     (apart_plus : disjoint (class_of tok.Plus ∷ []) (class_of tok.Minus ∷ p.first) ≡ true)
@@ -97,9 +95,8 @@ module _ {A B : Type 0} (p : Form A) (q : Form B)
       (either (seq (bare_form tok.Minus refl) q refl) p apart_minus same) apart_plus refl
 
   pub signed_same : (t : SignedRaw A B) → signed_text p.text q.text (to_signed t) ≡ signed_raw.text t
-  signed_same (inl t) = refl
   signed_same (inr (inl t)) = refl
-  signed_same (inr (inr a)) = refl
+  signed_same _ = refl
 
   pub signed_is : Reads (signed_at p.read q.read)
       (via signed_raw to_signed from_signed (signed_text p.text q.text) signed_round signed_same)

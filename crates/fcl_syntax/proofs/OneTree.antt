@@ -72,16 +72,14 @@ signed_back f (bare a) = signed.Bare (f a)
 
 signed_is : (x : SignedNumber) → signed_back (λ n. n) (view_signed_number x) ≡ x
 signed_is (signed.Plus n) = refl
-signed_is (signed.Minus n) = refl
-signed_is (signed.Bare n) = refl
+signed_is _ = refl
 
 signed_undone : IsUndone view_signed_number
 signed_undone = record { back = signed_back (λ n. n); is = signed_is }
 
 coordinate_is : (x : SignedNumber) → signed_back (right_or number) (view_coordinate x) ≡ x
 coordinate_is (signed.Plus n) = refl
-coordinate_is (signed.Minus n) = refl
-coordinate_is (signed.Bare n) = refl
+coordinate_is _ = refl
 
 abbrev unit : TUnit → UnitNumber
 unit u =
@@ -98,8 +96,7 @@ degree_back (bare u) = degree.Bare (unit u)
 
 degree_is : (d : Degree) → degree_back (view_degree d) ≡ d
 degree_is (degree.Plus n) = refl
-degree_is (degree.Minus n) = refl
-degree_is (degree.Bare n) = refl
+degree_is _ = refl
 
 -- ---- variables, terms and ranges
 

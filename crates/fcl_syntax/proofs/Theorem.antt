@@ -120,13 +120,11 @@ spells_read text t s =
 
 token_fault_is : (text : List ℕ) (k : LexKind) (at : ℕ) → HasTokenFault text k at → IsFirstFault text (of_kind k at)
 token_fault_is text kinds.BadByte at h = h
-token_fault_is text kinds.OpenComment at h = h
-token_fault_is text (kinds.Number e) at h = h
+token_fault_is text _ at h = h
 
 grammar_fault_is : (text : List ℕ) (k : Kind) (at : ℕ) → HasFault text k at → IsFirstFault text (grammar_fault k at)
 grammar_fault_is text Expected at h = h
-grammar_fault_is text Deep at h = h
-grammar_fault_is text (Unsupported n) at h = h
+grammar_fault_is text _ at h = h
 
 pub read_faults : (text : List ℕ) (e : SyntaxFault) → read_text text ≡ Err e → IsFirstFault text e
 read_faults text e h = go (tokenization text) refl h
@@ -173,13 +171,8 @@ faults_read text faults.Memory h = absurd h
 
 or_memory : (P Q : SyntaxFault → Type 0) (e : SyntaxFault) → ((d : SyntaxFault) → P d → Q d) → OrMemory P e
     → OrMemory Q e
-or_memory P Q (faults.BadByte at) f h = f _ h
-or_memory P Q (faults.OpenComment at) f h = f _ h
-or_memory P Q (faults.Number at e) f h = f _ h
-or_memory P Q (faults.Expected at) f h = f _ h
-or_memory P Q (faults.Unsupported at code) f h = f _ h
-or_memory P Q (faults.Deep at) f h = f _ h
 or_memory P Q faults.Memory f h = tt
+or_memory P Q _ f h = f _ h
 
 pub found : (text : List ℕ) (r : Result Tree SyntaxFault) → Reads r (read_text text)
     → IfOk r (λ tree. SpellsTree text (view tree.block))

@@ -35,17 +35,15 @@ fn block(alloc: Global, tokens: &[Token]) -> Result<(FunctionBlock, &[Token]), P
     let (parts, rest) = many::<Part>(alloc, rest)?;
     let (rules, rest) = rulebase(alloc, rest)?;
     let (end, rest) = end(rest)?;
-    Ok((
-        FunctionBlock {
-            at,
-            name,
-            variables,
-            parts,
-            rules,
-            end,
-        },
-        rest,
-    ))
+    let block = FunctionBlock {
+        at,
+        name,
+        variables,
+        parts,
+        rules,
+        end,
+    };
+    Ok((block, rest))
 }
 
 /// The tree that the tokens spell, or their first fault.

@@ -16,7 +16,7 @@ use crate::repeated::{Repeated, many};
 use crate::single::{
     expect, fault, is_keyword, is_name, is_next, is_word, keyword, label, name, word,
 };
-use crate::terms::{Refused, accu, setting, signed_number};
+use crate::terms::{accu, setting, signed_number};
 use crate::token::{Keyword, Token, Word};
 use crate::tree::{
     ActWord, Activation, Conclusion, Rule, RuleLine, Rulebase, Setting, SignedNumber, Weight,
@@ -36,14 +36,12 @@ fn conclusion(tokens: &[Token]) -> Result<(Conclusion, &[Token]), ParseError>
     let (variable, rest) = name(tokens)?;
     let (is_at, rest) = keyword(rest, Keyword::Is)?;
     let (term, rest) = name(rest)?;
-    Ok((
-        Conclusion {
-            variable,
-            is_at,
-            term,
-        },
-        rest,
-    ))
+    let conclusion = Conclusion {
+        variable,
+        is_at,
+        term,
+    };
+    Ok((conclusion, rest))
 }
 
 #[tactic(auto, unfolding(crate::specs::Reading::comma_conclusion_at))]
@@ -133,19 +131,17 @@ fn rule(alloc: Global, tokens: &[Token]) -> Result<(Rule, &[Token]), ParseError>
     let (then_at, rest) = keyword(rest, Keyword::Then)?;
     let ((first, more), rest) = conclusions(alloc, rest)?;
     let (weight, rest) = weight(rest)?;
-    Ok((
-        Rule {
-            at,
-            label,
-            if_at,
-            condition,
-            then_at,
-            first,
-            more,
-            weight,
-        },
-        rest,
-    ))
+    let rule = Rule {
+        at,
+        label,
+        if_at,
+        condition,
+        then_at,
+        first,
+        more,
+        weight,
+    };
+    Ok((rule, rest))
 }
 
 #[tactic(auto, unfolding(crate::specs::Reading::rule_item_at))]
@@ -207,23 +203,13 @@ fn and_line(tokens: &[Token]) -> Result<(Setting, &[Token]), ParseError>
     ensures { Gives (λ x. (view_setting x.0, x.1.now)) result
         (setting_at Keyword.And Word.Min and_classes 2 tokens.now) }
 {
-    let refused = Refused {
-        first: Word::Prod,
-        second: Word::Bdif,
-        code: 2,
-    };
-    setting(tokens, Keyword::And, Word::Min, refused)
+    setting(tokens, Keyword::And, Word::Min, (Word::Prod, Word::Bdif), 2)
 }
 
 fn or_line(tokens: &[Token]) -> Result<(Setting, &[Token]), ParseError>
     ensures { Gives (λ x. (view_setting x.0, x.1.now)) result (setting_at Keyword.Or Word.Max or_classes 3 tokens.now) }
 {
-    let refused = Refused {
-        first: Word::Asum,
-        second: Word::Bsum,
-        code: 3,
-    };
-    setting(tokens, Keyword::Or, Word::Max, refused)
+    setting(tokens, Keyword::Or, Word::Max, (Word::Asum, Word::Bsum), 3)
 }
 
 #[tactic(auto, unfolding(crate::specs::Reading::rule_line_at))]
@@ -276,14 +262,12 @@ pub fn rulebase(alloc: Global, tokens: &[Token]) -> Result<(Rulebase, &[Token]),
     let (lines, rest) = many::<RuleLine>(alloc, rest)?;
     let (rules, rest) = many::<Rule>(alloc, rest)?;
     let (end, rest) = keyword(rest, Keyword::EndRuleblock)?;
-    Ok((
-        Rulebase {
-            at,
-            name,
-            lines,
-            rules,
-            end,
-        },
-        rest,
-    ))
+    let rulebase = Rulebase {
+        at,
+        name,
+        lines,
+        rules,
+        end,
+    };
+    Ok((rulebase, rest))
 }

@@ -206,15 +206,13 @@ fn term(alloc: Global, tokens: &[Token]) -> Result<(Term, &[Token]), ParseError>
     let rest = expect(rest, Token::Assign)?;
     let ((first, more), rest) = points(alloc, rest)?;
     let rest = expect(rest, Token::Semicolon)?;
-    Ok((
-        Term {
-            at,
-            name,
-            first,
-            more,
-        },
-        rest,
-    ))
+    let term = Term {
+        at,
+        name,
+        first,
+        more,
+    };
+    Ok((term, rest))
 }
 
 // ---- ranges
@@ -243,16 +241,14 @@ fn range(tokens: &[Token]) -> Result<(Range, &[Token]), ParseError>
     let (high, rest) = signed_number(rest)?;
     let rest = expect(rest, Token::Close)?;
     let rest = expect(rest, Token::Semicolon)?;
-    Ok((
-        Range {
-            at,
-            assigned,
-            open_at,
-            low,
-            high,
-        },
-        rest,
-    ))
+    let range = Range {
+        at,
+        assigned,
+        open_at,
+        low,
+        high,
+    };
+    Ok((range, rest))
 }
 
 // ---- FUZZIFY
@@ -295,52 +291,49 @@ fn fuzzify(alloc: Global, tokens: &[Token]) -> Result<(Fuzzify, &[Token]), Parse
     let (name, rest) = name(rest)?;
     let (lines, rest) = many::<FuzzyLine>(alloc, rest)?;
     let (end, rest) = keyword(rest, Keyword::EndFuzzify)?;
-    Ok((
-        Fuzzify {
-            at,
-            name,
-            lines,
-            end,
-        },
-        rest,
-    ))
+    let fuzzify = Fuzzify {
+        at,
+        name,
+        lines,
+        end,
+    };
+    Ok((fuzzify, rest))
 }
 
 // ---- settings
 
-/// Two words that are refused, and the code.
-#[derive(Clone, Copy)]
-pub struct Refused {
-    pub first: Word,
-    pub second: Word,
-    pub code: u8,
-}
-
+// A word, where two others are refused, with this code.
 #[tactic(auto, unfolding(crate::specs::Reading::choice_at))]
-fn choice(tokens: &[Token], wanted: Word, refused: Refused) -> Result<(u32, &[Token]), ParseError>
+fn choice(
+    tokens: &[Token],
+    wanted: Word,
+    refused: (Word, Word),
+    code: u8,
+) -> Result<(u32, &[Token]), ParseError>
     ensures { Gives (λ x. (inr x.0, x.1.now)) result
-        (choice_at wanted (word_class refused.first ∷ word_class refused.second ∷ []) refused.code tokens.now) }
+        (choice_at wanted (word_class refused.0 ∷ word_class refused.1 ∷ []) code tokens.now) }
 {
-    if is_word(tokens, refused.first) || is_word(tokens, refused.second) {
-        return Err(fault(Kind::Unsupported(refused.code), tokens));
+    if is_word(tokens, refused.0) || is_word(tokens, refused.1) {
+        return Err(fault(Kind::Unsupported(code), tokens));
     }
     word(tokens, wanted)
 }
 
-/// `KEYWORD : word ;`
+/// `KEYWORD : word ;`, where two other words are refused, with this code.
 #[tactic(auto, unfolding(crate::specs::Reading::setting_at))]
 pub fn setting(
     tokens: &[Token],
     wanted: Keyword,
     word: Word,
-    refused: Refused,
+    refused: (Word, Word),
+    code: u8,
 ) -> Result<(Setting, &[Token]), ParseError>
     ensures { Gives (λ x. (view_setting x.0, x.1.now)) result
-        (setting_at wanted word (word_class refused.first ∷ word_class refused.second ∷ []) refused.code tokens.now) }
+        (setting_at wanted word (word_class refused.0 ∷ word_class refused.1 ∷ []) code tokens.now) }
 {
     let (at, rest) = keyword(tokens, wanted)?;
     let rest = expect(rest, Token::Colon)?;
-    let (word, rest) = choice(rest, word, refused)?;
+    let (word, rest) = choice(rest, word, refused, code)?;
     let rest = expect(rest, Token::Semicolon)?;
     Ok((Setting { at, word }, rest))
 }
@@ -348,23 +341,25 @@ pub fn setting(
 pub fn accu(tokens: &[Token]) -> Result<(Setting, &[Token]), ParseError>
     ensures { Gives (λ x. (view_setting x.0, x.1.now)) result (accu_at tokens.now) }
 {
-    let refused = Refused {
-        first: Word::Bsum,
-        second: Word::Nsum,
-        code: 4,
-    };
-    setting(tokens, Keyword::Accu, Word::Max, refused)
+    setting(
+        tokens,
+        Keyword::Accu,
+        Word::Max,
+        (Word::Bsum, Word::Nsum),
+        4,
+    )
 }
 
 fn method(tokens: &[Token]) -> Result<(Setting, &[Token]), ParseError>
     ensures { Gives (λ x. (view_setting x.0, x.1.now)) result (method_at tokens.now) }
 {
-    let refused = Refused {
-        first: Word::Centre,
-        second: Word::Extreme,
-        code: 1,
-    };
-    setting(tokens, Keyword::Method, Word::Cogs, refused)
+    setting(
+        tokens,
+        Keyword::Method,
+        Word::Cogs,
+        (Word::Centre, Word::Extreme),
+        1,
+    )
 }
 
 // ---- DEFUZZIFY
@@ -470,15 +465,13 @@ fn defuzzify(alloc: Global, tokens: &[Token]) -> Result<(Defuzzify, &[Token]), P
     let (name, rest) = name(rest)?;
     let (lines, rest) = many::<DefuzzyLine>(alloc, rest)?;
     let (end, rest) = keyword(rest, Keyword::EndDefuzzify)?;
-    Ok((
-        Defuzzify {
-            at,
-            name,
-            lines,
-            end,
-        },
-        rest,
-    ))
+    let defuzzify = Defuzzify {
+        at,
+        name,
+        lines,
+        end,
+    };
+    Ok((defuzzify, rest))
 }
 
 // ---- both

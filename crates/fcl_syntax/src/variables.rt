@@ -98,15 +98,13 @@ fn variables(alloc: Global, tokens: &[Token]) -> Result<(Variables, &[Token]), P
     let ((at, direction), rest) = direction(tokens)?;
     let (declarations, rest) = many::<Declaration>(alloc, rest)?;
     let (end, rest) = keyword(rest, Keyword::EndVar)?;
-    Ok((
-        Variables {
-            at,
-            direction,
-            declarations,
-            end,
-        },
-        rest,
-    ))
+    let variables = Variables {
+        at,
+        direction,
+        declarations,
+        end,
+    };
+    Ok((variables, rest))
 }
 
 #[tactic(auto, unfolding(crate::specs::Reading::section_at))]
