@@ -10,16 +10,16 @@ use Rattle.fcl_syntax.specs.declared.token.Token.TheVariants as tok
 use Rattle.fcl_syntax.specs.declared.token.Word.TheVariants as word
 use Rattle.fcl_syntax.specs.{declared.tree.Name.Name, Annotations.Sym, Annotations.plain, Annotations.annotated}
 use Rattle.fcl_syntax.specs.TokenClasses.{class_of, mem, follow_classes, Among, keyword_class, opener_classes}
-use Rattle.fcl_syntax.specs.{Readers.◌>>=◌, Conditions.nots_of, Conditions.ands_of}
+use Rattle.fcl_syntax.specs.{Readers.◌>>=◌, Readers.TakesSome, Conditions.nots_of, Conditions.ands_of}
 use Rattle.fcl_syntax.specs.Grammar.{TNot, neg, group, is, lone, TNots, no_nots, more_nots, TAnd, and_of, TAnds}
-use Rattle.fcl_syntax.specs.Grammar.{no_ands, more_ands, TOr, or_of, not_text, nots_text, and_text, ands_text}
-use Rattle.fcl_syntax.specs.Grammar.{or_text}
+use Rattle.fcl_syntax.specs.Grammar.{no_ands, more_ands, TOr, or_of, not_text, nots_text, and_text, ands_text, or_text}
 use Rattle.fcl_syntax.specs.Reading.{token_at, not_word_at, operand_at, behind_key_in, joined_in, neg_in, group_in}
-use Rattle.fcl_syntax.specs.Reading.{opened_in, not_at}
+use Rattle.fcl_syntax.specs.Reading.{opened_in, not_at, and_in}
 use Rattle.fcl_syntax.proofs.{Form.disjoint, Form.Form, Ahead.Ahead, Ahead.ahead}
 use Rattle.fcl_syntax.proofs.{Chains.bind_assoc, Chains.bind_cond, SingleTokens.name_single}
 use Rattle.fcl_syntax.proofs.{Dead.via, Dead.Dead, Dead.dead_or, Loop.texts, Repeat.then_rep, Seq.seq}
 use Rattle.fcl_syntax.proofs.Forms.{bare_form, key_form, open_form, name_form}
+use Rattle.fcl_syntax.proofs.Run.{takes_some}
 use Rattle.fcl_syntax.proofs.Named.{Reads, named, either, in_left, in_right}
 
 -- ---- name IS [NOT] name
@@ -302,3 +302,9 @@ last_is ts = sym (rw operand_is (simp (bind_assoc, bind_cond)))
 pub part : (n : ℕ) → Part n
 part zero = record { form = last_form; goes = refl; text = λ t. refl; read = λ i ts. last_is ts i }
 part (suc n) = next_part n (part n)
+
+pub conjuncts_take : (n : ℕ) → TakesSome (behind_key_in key.And (not_at n))
+conjuncts_take n = takes_some (behind_key_is key.And (inner n (part n)))
+
+pub alternatives_take : (n : ℕ) → TakesSome (behind_key_in key.Or (and_in (not_at n)))
+alternatives_take n = takes_some (behind_key_is key.Or (and_form n (part n)))

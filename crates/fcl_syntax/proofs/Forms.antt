@@ -1,5 +1,5 @@
 -- The forms of variables, terms and ranges.
-use Rattle.std.proofs.Common.{◌≡◌, ℕ, true, List, [], ◌∷◌, ◌++◌, Ok, refl, ap, ◌∙◌, inl, inr, ◌⊎◌}
+use Rattle.std.proofs.Common.{◌≡◌, ℕ, true, List, [], ◌∷◌, ◌++◌, Ok, refl, ap, inl, inr, ◌⊎◌}
 use Rattle.fcl_syntax.specs.declared.{fault.Kind.TheVariants.Unsupported, terms.Sign.Sign}
 use Rattle.fcl_syntax.specs.declared.terms.Sign.TheVariants as sign
 use Rattle.fcl_syntax.specs.declared.token.Keyword.{Keyword}
@@ -11,19 +11,19 @@ use Rattle.fcl_syntax.specs.declared.token.Word.TheVariants as word
 use Rattle.fcl_syntax.specs.declared.{tree.Direction.Direction, tree.Name.Name, tree.Number.Number}
 use Rattle.fcl_syntax.specs.declared.{tree.UnitNumber.UnitNumber, tree.ZeroNumber.ZeroNumber}
 use Rattle.fcl_syntax.specs.TokenClasses.{name_classes, other_type_classes, beyond_unit_classes, beyond_zero_classes}
-use Rattle.fcl_syntax.specs.TokenClasses.{class_of}
-use Rattle.fcl_syntax.specs.{Annotations.Sym, Annotations.plain, Readers.◌>>=◌, Readers.Read}
-use Rattle.fcl_syntax.specs.Grammar.{behind, name_text, names_text, TSigned, plus, minus, bare}
+use Rattle.fcl_syntax.specs.TokenClasses.{class_of, comma_classes}
+use Rattle.fcl_syntax.specs.{Annotations.Sym, Annotations.plain, Readers.◌>>=◌, Readers.Read, Readers.TakesSome}
+use Rattle.fcl_syntax.specs.Grammar.{behind, TSigned, plus, minus, bare}
 use Rattle.fcl_syntax.specs.Grammar.{signed_text, TSignedNumber, TType, TDeclaration, declaration_text}
 use Rattle.fcl_syntax.specs.Grammar.{TVariables, variables_text, var_classes, TSection, TCoordinate, TUnit, TZero}
-use Rattle.fcl_syntax.specs.Reading.{IsBare, token_at}
-use Rattle.fcl_syntax.specs.Reading.{behind_sign, sign_at, signed, signed_at}
-use Rattle.fcl_syntax.specs.Reading.{coordinate_number_at, unit_at, zero_at, comma_name_at, names_at, type_at}
+use Rattle.fcl_syntax.specs.Reading.{IsBare, token_at, behind_sign, sign_at, signed, signed_at, name_at}
+use Rattle.fcl_syntax.specs.Reading.{coordinate_number_at, unit_at, zero_at, comma_at, listed_at, type_at}
 use Rattle.fcl_syntax.specs.Reading.{declaration_at, variables_at, section_at}
 use Rattle.fcl_syntax.proofs.Form.{disjoint, Form}
 use Rattle.fcl_syntax.proofs.Chains.{bind_assoc, bind_cond, bind_ret}
 use Rattle.fcl_syntax.proofs.SingleTokens as single
 use Rattle.fcl_syntax.proofs.{Dead.via, Loop.texts, Repeat.then_rep, Seq.seq, Small.Single, Small.one}
+use Rattle.fcl_syntax.proofs.Run.{takes_some}
 use Rattle.fcl_syntax.proofs.Named.{Reads, named, either, refuse, many_then}
 
 -- ---- single tokens
@@ -140,34 +140,36 @@ degree_form = signed_form unit_form zero_form refl refl refl
 
 -- ---- variables
 
-pub comma_name_is : Reads comma_name_at (via (seq (bare_form tok.Comma refl) name_form refl) (λ t. t.1) (λ n. (tt, n))
-    (λ n. plain tok.Comma ∷ name_text n) (λ n. refl) (λ t. refl))
-unfolding comma_name_at
-comma_name_is = record { same = λ ts. simp (bind_assoc, bind_ret) }
+-- one and more, with commas between them
+module _ {A : Type 0} (p : Form A) (apart : disjoint p.goes comma_classes ≡ true) where
+  pub comma_is : Reads (comma_at p.read) (via (seq (bare_form tok.Comma refl) p refl) (λ t. t.1) (λ a. (tt, a))
+      (λ a. plain tok.Comma ∷ p.text a) (λ a. refl) (λ t. refl))
+  unfolding comma_at
+  comma_is = record { same = λ ts. simp (bind_assoc, bind_ret) }
 
-abbrev pub comma_name_form : Form Name
-comma_name_form = named comma_name_is
+  abbrev pub comma_form : Form A
+  comma_form = named comma_is
 
-pub behind_texts : {A : Type 0} (x : Token) (text : A → List Sym) (q : Form A) →
-    ((a : A) → plain x ∷ text a ≡ q.text a)
-    → (items : List A)
-    → behind x text items ≡ texts q items
-behind_texts x text q same [] = refl
-behind_texts x text q same (a ∷ items) =
-    ap (λ (l : List Sym). plain x ∷ (text a ++ l)) (behind_texts x text q same items)
-    ∙ ap (λ (l : List Sym). l ++ texts q items) (same a)
+  behind_texts : (items : List A) → behind tok.Comma p.text items ≡ texts comma_form items
+  behind_texts [] = refl
+  behind_texts (a ∷ items) = ap (λ (l : List Sym). plain tok.Comma ∷ (p.text a ++ l)) (behind_texts items)
 
-pub names_same : (t : Name × List Name) → names_text t ≡ name_text t.0 ++ texts comma_name_form t.1
-names_same t = ap (λ (l : List Sym). name_text t.0 ++ l)
-    (behind_texts tok.Comma name_text comma_name_form (λ a. refl) t.1)
+  pub listed_same : (t : A × List A) → p.text t.0 ++ behind tok.Comma p.text t.1 ≡ p.text t.0 ++ texts comma_form t.1
+  listed_same t = ap (λ (l : List Sym). p.text t.0 ++ l) (behind_texts t.1)
 
-pub names_is : Reads names_at (via (then_rep name_form comma_name_form refl refl) (λ t. t) (λ t. t) names_text
-    (λ t. refl) names_same)
-unfolding names_at
-names_is = record { same = λ ts. simp (bind_assoc) }
+  pub listed_is : Reads (listed_at p.read) (via (then_rep p comma_form apart refl) (λ t. t) (λ t. t)
+      (λ t. p.text t.0 ++ behind tok.Comma p.text t.1) (λ t. refl) listed_same)
+  unfolding listed_at
+  listed_is = record { same = λ ts. simp (bind_assoc) }
+
+  abbrev pub listed_form : Form (A × List A)
+  listed_form = named listed_is
 
 abbrev pub names_form : Form (Name × List Name)
-names_form = named names_is
+names_form = listed_form name_form refl
+
+pub names_take : TakesSome (comma_at name_at)
+names_take = takes_some (comma_is name_form refl)
 
 pub type_is : Reads type_at (refuse (Unsupported 5) other_type_classes (word_form word.Real) refl refl)
 unfolding type_at

@@ -11,15 +11,15 @@ use Rattle.fcl_syntax.specs.declared.tree.FallbackValue.TheVariants as fallback
 use Rattle.fcl_syntax.specs.declared.tree.FuzzyLine.TheVariants as fuzzy
 use Rattle.fcl_syntax.specs.declared.tree.SignedNumber.TheVariants as signed
 use Rattle.fcl_syntax.specs.declared.tree.Part.TheVariants as part
-use Rattle.fcl_syntax.specs.declared.{tree.Point.Point, tree.UnitNumber.UnitNumber, tree.ZeroNumber.ZeroNumber}
+use Rattle.fcl_syntax.specs.declared.{tree.Point.Point}
 use Rattle.fcl_syntax.specs.Grammar.{TSigned, plus, minus, bare, TSignedNumber, signed_number_text, number_text, each}
 use Rattle.fcl_syntax.specs.Grammar.{TCoordinate, coordinate_text, signed_text, unit_text, zero_text, TUnit, TZero}
 use Rattle.fcl_syntax.specs.Grammar.{degree_text, TPoint, point_text, TPoints, points_text, TTerm, term_text, TRange}
 use Rattle.fcl_syntax.specs.Grammar.{range_text, TFuzzify, fuzzify_text, TSetting, setting_text, accu_classes}
 use Rattle.fcl_syntax.specs.Grammar.{method_classes, TSingleton, singleton_text, TFallback, word_text, TDefuzzyLine}
 use Rattle.fcl_syntax.specs.Grammar.{defuzzy_line_text, TDefuzzify, defuzzify_text, key_text, TPart, part_text}
-use Rattle.fcl_syntax.specs.TokenClasses.{name_classes, beyond_unit_classes, beyond_zero_classes, open_classes}
-use Rattle.fcl_syntax.specs.Annotations.{IsClean, plain, either_text, or_refused}
+use Rattle.fcl_syntax.specs.TokenClasses.{Among, name_classes, beyond_unit_classes, beyond_zero_classes, open_classes}
+use Rattle.fcl_syntax.specs.Annotations.{IsClean, Sym, plain, either_text, or_refused}
 use Rattle.fcl_syntax.specs.View.{view_signed_number, view_coordinate, view_degree, view_point, view_term, view_range}
 use Rattle.fcl_syntax.specs.View.{view_fuzzy_line, view_fuzzify, view_setting, view_singleton, view_value}
 use Rattle.fcl_syntax.specs.View.{view_fallback, view_defuzzy_line, view_defuzzify, view_part}
@@ -58,13 +58,7 @@ fallback_tree d =
     let value = value_tree d.value in
     (record { at = d.at; value = value.0 }, λ i. record { at = d.at; value = value.1 i })
 
--- the views of parts that are no trees of their own
-abbrev view_unit : UnitNumber → TUnit
-view_unit n = inr (inr n)
-
-abbrev view_zero : ZeroNumber → TZero
-view_zero n = inr (inr n)
-
+-- the view of points, which are no tree of their own
 abbrev view_points : Point × List Point → TPoints
 view_points p = inr (view_point p.0, map view_point p.1)
 
@@ -79,30 +73,22 @@ coordinate_tree (minus c) h = let found = accepted (Unsupported 10) name_classes
 coordinate_tree (bare c) h = let found = accepted (Unsupported 10) name_classes number_text c h in
     (signed.Bare found.0, ap bare found.1)
 
-unit_tree : (u : TUnit)
-    → IsClean (or_refused (Unsupported 10) name_classes
-    (or_refused (Unsupported 11) beyond_unit_classes unit_text) u)
-    → HasTree view_unit u
-unit_tree u h =
-    let in_place = accepted (Unsupported 10) name_classes
-    (or_refused (Unsupported 11) beyond_unit_classes unit_text) u h in
-    let found = accepted (Unsupported 11) beyond_unit_classes unit_text in_place.0 in_place.2 in
-    (found.0, ap inr found.1 ∙ in_place.1)
-
-zero_tree : (z : TZero)
-    → IsClean (or_refused (Unsupported 10) name_classes
-    (or_refused (Unsupported 11) beyond_zero_classes zero_text) z)
-    → HasTree view_zero z
-zero_tree z h =
-    let in_place = accepted (Unsupported 10) name_classes
-    (or_refused (Unsupported 11) beyond_zero_classes zero_text) z h in
-    let found = accepted (Unsupported 11) beyond_zero_classes zero_text in_place.0 in_place.2 in
+-- a number where names and some other numbers are refused
+in_place_tree : {A : Type 0} (classes : List ℕ) (text : A → List Sym) (x : Among name_classes ⊎ (Among classes ⊎ A))
+    → IsClean (or_refused (Unsupported 10) name_classes (or_refused (Unsupported 11) classes text) x)
+    → HasTree (λ (a : A). inr (inr a)) x
+in_place_tree classes text x h =
+    let in_place = accepted (Unsupported 10) name_classes (or_refused (Unsupported 11) classes text) x h in
+    let found = accepted (Unsupported 11) classes text in_place.0 in_place.2 in
     (found.0, ap inr found.1 ∙ in_place.1)
 
 degree_tree : (d : TSigned TUnit TZero) → IsClean (degree_text d) → HasTree view_degree d
-degree_tree (plus u) h = let found = unit_tree u h.1 in (degree.Plus found.0, ap plus found.1)
-degree_tree (minus z) h = let found = zero_tree z h.1 in (degree.Minus found.0, ap minus found.1)
-degree_tree (bare u) h = let found = unit_tree u h in (degree.Bare found.0, ap bare found.1)
+degree_tree (plus u) h = let found = in_place_tree beyond_unit_classes unit_text u h.1 in
+    (degree.Plus found.0, ap plus found.1)
+degree_tree (minus z) h = let found = in_place_tree beyond_zero_classes zero_text z h.1 in
+    (degree.Minus found.0, ap minus found.1)
+degree_tree (bare u) h = let found = in_place_tree beyond_unit_classes unit_text u h in
+    (degree.Bare found.0, ap bare found.1)
 
 point_tree : (p : TPoint) → IsClean (point_text p) → HasTree view_point p
 point_tree p h =

@@ -7,9 +7,8 @@ use Rattle.fcl_syntax.specs.{TokenClasses.class_of, TokenClasses.mem, First.Same
 use Rattle.fcl_syntax.specs.Annotations.{Sym, tokens_of, IsClean}
 use Rattle.fcl_syntax.specs.Readers.{◌>>=◌, fault_at, starts}
 use Rattle.fcl_syntax.proofs.Form.{disjoint, Stops, Starts, first_annotation, or_else, answer, Stands, Fails, Form}
-use Rattle.fcl_syntax.proofs.AnnotatedTexts.{bind_ok, bind_err, ok_is, tokens_of-append, length-tokens}
-use Rattle.fcl_syntax.proofs.AnnotatedTexts.{IsClean-append, first_annotation-append, first_annotation-clean}
-use Rattle.fcl_syntax.proofs.AnnotatedTexts.{starts-stops, Stops-same}
+use Rattle.fcl_syntax.proofs.AnnotatedTexts.{bind_ok, bind_err, ok_is, tokens_of-append, length-tokens, IsClean-append}
+use Rattle.fcl_syntax.proofs.AnnotatedTexts.{first_annotation-append, first_annotation-clean, starts-stops, Stops-same}
 use Rattle.fcl_syntax.proofs.{Seq.Shows-in, Seq.Viable-in, Small.starts-not, Small.starts-same, Small.widen}
 use Rattle.fcl_syntax.proofs.Loop.{texts, rep, Settled, all_settled, Ran, FailsIn, rep_runs, rep_again, rep_local}
 use Rattle.fcl_syntax.proofs.Loop.{rep_fails, stops_before, starts-Starts}

@@ -1,27 +1,23 @@
 -- The forms of rules and of the block.
-use Rattle.std.proofs.Common.{◌≡◌, ℕ, true, List, [], ◌∷◌, ◌++◌, refl, ap, ◌⊎◌}
+use Rattle.std.proofs.Common.{◌≡◌, ℕ, true, List, [], ◌∷◌, refl, ◌⊎◌}
 use Rattle.fcl_syntax.specs.declared.fault.Kind.TheVariants.{Unsupported}
 use Rattle.fcl_syntax.specs.declared.token.Keyword.TheVariants as key
 use Rattle.fcl_syntax.specs.declared.token.Token.TheVariants as tok
 use Rattle.fcl_syntax.specs.declared.token.Word.TheVariants as word
 use Rattle.fcl_syntax.specs.declared.{tree.Conclusion.Conclusion, tree.Label.Label}
 use Rattle.fcl_syntax.specs.TokenClasses.{Among, name_classes, keyword_class}
-use Rattle.fcl_syntax.specs.{Annotations.Sym, Annotations.plain}
-use Rattle.fcl_syntax.specs.Grammar.{conclusion_text, conclusions_text, TSignedNumber}
-use Rattle.fcl_syntax.specs.Grammar.{TWeight, weight_text, TOr, TRule, rule_text, option_classes, TRuleItem}
-use Rattle.fcl_syntax.specs.Grammar.{and_classes, or_classes, TAct, act_text, TRuleLine, TRulebase}
-use Rattle.fcl_syntax.specs.Grammar.{rulebase_text, ruleblock_classes, TEnd}
-use Rattle.fcl_syntax.specs.Grammar.{TBlock, block_text}
-use Rattle.fcl_syntax.specs.Reading.{conclusion_at, comma_conclusion_at}
-use Rattle.fcl_syntax.specs.Reading.{conclusions_at, weight_value_at, with_at, weight_at, rule_at}
-use Rattle.fcl_syntax.specs.Reading.{rule_item_at, act_word_at, act_at, rule_line_at}
-use Rattle.fcl_syntax.specs.Reading.{rulebase_at, end_at, block_at}
+use Rattle.fcl_syntax.specs.Grammar.{conclusion_text, TSignedNumber, TWeight, weight_text, TOr, TRule, rule_text}
+use Rattle.fcl_syntax.specs.Grammar.{option_classes, TRuleItem, and_classes, or_classes, TAct, act_text, TRuleLine}
+use Rattle.fcl_syntax.specs.Grammar.{TRulebase, rulebase_text, ruleblock_classes, TEnd, TBlock, block_text}
+use Rattle.fcl_syntax.specs.Readers.{TakesSome}
+use Rattle.fcl_syntax.specs.Reading.{comma_at, conclusion_at, weight_value_at, with_at, weight_at, rule_at}
+use Rattle.fcl_syntax.specs.Reading.{rule_item_at, act_word_at, act_at, rule_line_at, rulebase_at, end_at, block_at}
 use Rattle.fcl_syntax.proofs.Form.{disjoint, Form}
-use Rattle.fcl_syntax.proofs.Chains.{bind_assoc, bind_ret}
+use Rattle.fcl_syntax.proofs.Chains.{bind_assoc}
 use Rattle.fcl_syntax.proofs.SingleTokens as single
-use Rattle.fcl_syntax.proofs.{ConditionForms.part, ConditionForms.or_form, Dead.via, Loop.texts, Repeat.then_rep}
+use Rattle.fcl_syntax.proofs.{Run.takes_some, ConditionForms.part, ConditionForms.or_form, Dead.via}
 use Rattle.fcl_syntax.proofs.Forms.{bare_form, key_form, word_form, name_form, signed_number_form, section_form}
-use Rattle.fcl_syntax.proofs.Forms.{behind_texts, token_form}
+use Rattle.fcl_syntax.proofs.Forms.{comma_is, listed_form, token_form}
 use Rattle.fcl_syntax.proofs.Named.{Reads, named, either, refuse, many_then}
 use Rattle.fcl_syntax.proofs.{Seq.seq, TermForms.setting_form, TermForms.accu_form, TermForms.part_form}
 
@@ -39,27 +35,11 @@ conclusion_is = record { same = λ ts. simp (bind_assoc) }
 abbrev pub conclusion_form : Form Conclusion
 conclusion_form = named conclusion_is
 
-pub comma_conclusion_is : Reads comma_conclusion_at (via (seq (bare_form tok.Comma refl) conclusion_form refl)
-    (λ t. t.1) (λ c. (tt, c)) (λ c. plain tok.Comma ∷ conclusion_text c) (λ c. refl) (λ t. refl))
-unfolding comma_conclusion_at
-comma_conclusion_is = record { same = λ ts. simp (bind_assoc, bind_ret) }
-
-abbrev pub comma_conclusion_form : Form Conclusion
-comma_conclusion_form = named comma_conclusion_is
-
-pub conclusions_same : (t : Conclusion × List Conclusion)
-    → conclusions_text t ≡ conclusion_text t.0 ++ texts comma_conclusion_form t.1
-conclusions_same t =
-    ap (λ (l : List Sym). conclusion_text t.0 ++ l)
-    (behind_texts tok.Comma conclusion_text comma_conclusion_form (λ a. refl) t.1)
-
-pub conclusions_is : Reads conclusions_at (via (then_rep conclusion_form comma_conclusion_form refl refl)
-    (λ t. t) (λ t. t) conclusions_text (λ t. refl) conclusions_same)
-unfolding conclusions_at
-conclusions_is = record { same = λ ts. simp (bind_assoc) }
-
 abbrev pub conclusions_form : Form (Conclusion × List Conclusion)
-conclusions_form = named conclusions_is
+conclusions_form = listed_form conclusion_form refl
+
+pub conclusions_take : TakesSome (comma_at conclusion_at)
+conclusions_take = takes_some (comma_is conclusion_form refl)
 
 pub weight_value_is : Reads weight_value_at (refuse (Unsupported 15) name_classes signed_number_form refl refl)
 unfolding weight_value_at

@@ -2,12 +2,11 @@
 use Rattle.std.proofs.Common.{◌≡◌, ℕ, zero, suc, ◌≤◌, ◌<◌, true, false, List, [], ◌∷◌, ◌++◌, length, map, Result, Ok}
 use Rattle.std.proofs.Common.{Err, refl, sym, ap, subst, ◌∙◌, append_assoc, arith}
 use Rattle.std.proofs.lemmas.List.{append-nil, length-append, map_push}
-use Rattle.std.specs.Prelude.{IfOk}
 use Rattle.fcl_syntax.specs.declared.{fault.Fault.Fault, fault.ParseError.ParseError}
 use Rattle.fcl_syntax.specs.declared.fault.ParseError.TheVariants as errors
 use Rattle.fcl_syntax.specs.{declared.token.Token.Token, Annotations.tokens_of}
-use Rattle.fcl_syntax.specs.Readers.{Gives, ◌>>=◌, starts, with_front, loop, FailsAs}
-use Rattle.fcl_syntax.proofs.Form.{Starts, Form}
+use Rattle.fcl_syntax.specs.Readers.{Read, TakesSome, ◌>>=◌, starts, with_front, loop, FailsAs}
+use Rattle.fcl_syntax.proofs.{Form.Starts, Form.Form, Named.Reads}
 
 abbrev pub prefixed : {A : Type 0} → List A → Result (List A × List Token) Fault → Result (List A × List Token) Fault
 prefixed front r = r >>= λ x. Ok (front ++ x.0, x.1)
@@ -90,11 +89,6 @@ is_done first read front ts total ends g = go g.fuel g.so_far
         let one : prefixed front (loop first read (suc n) ts) ≡ Ok (front, ts) = rw ends done in
         sym so_far ∙ one
 
-pub shorter_by : {A : Type 0} (p : Form A) (f : List Token → Result (A × List Token) Fault)
-    → ((ts : List Token) → f ts ≡ p.read ts)
-    → (ts : List Token) (a : A) (rest : List Token) → f ts ≡ Ok (a, rest) → length rest < length ts
-shorter_by p f same ts a rest h = shrinks p ts a rest (sym (same ts) ∙ h)
-
 -- one more item, which is pushed
 pub pushed : {X A : Type 0} (view : X → A) (first : List ℕ) (read : List Token → Result (A × List Token) Fault)
     (items more : List X) (x : X)
@@ -107,9 +101,5 @@ pushed view first read items more x ts after total is begins h shorter g =
     rw e (goes_on first read (map view items) ts (view x) after total begins h shorter g)
 
 -- what reads as a form takes a token at least
-pub takes_some : {X R A : Type 0} (p : Form A) (f : List Token → Result (A × List Token) Fault)
-    → ((ts : List Token) → f ts ≡ p.read ts)
-    → (view : X → A) (ts : List Token) (r : Result (X × R) ParseError) (now : R → List Token)
-    → Gives (λ x. (view x.0, now x.1)) r (f ts) → IfOk r (λ x. length (now x.1) < length ts)
-takes_some p f same view ts (Ok x) now h = shorter_by p f same ts (view x.0) (now x.1) h
-takes_some p f same view ts (Err e) now h = tt
+pub takes_some : {A : Type 0} {read : List Token → Read A} {p : Form A} → Reads read p → TakesSome read
+takes_some {p = p} is = record { shrinks = λ ts a rest h. shrinks p ts a rest (sym (is.same ts) ∙ h) }

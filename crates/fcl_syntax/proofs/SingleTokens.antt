@@ -1,5 +1,5 @@
 -- The classes of single tokens.
-use Rattle.std.proofs.Common.{◌≡◌, ℕ, Bool, true, false, eqb, eq-eqb, [], ◌∷◌, Some, None, refl, sym, ap, ◌∙◌}
+use Rattle.std.proofs.Common.{◌≡◌, ℕ, Bool, true, false, eqb, eq-eqb, List, [], ◌∷◌, Option, Some, None, refl, sym, ap, ◌∙◌}
 use Rattle.std.proofs.lemmas.Bool.{eqb-true}
 use Rattle.fcl_syntax.specs.declared.token.Amount.{Amount}
 use Rattle.fcl_syntax.specs.declared.token.Amount.TheVariants as amount
@@ -72,49 +72,44 @@ at_if-is : (b : Bool) (at a : ℕ) → at_if b at ≡ Some a → (b ≡ true) ×
 at_if-is true at a e = (refl, some_of at a e)
 at_if-is false at a e = absurd cc
 
+-- what is asked of a token, what makes it, the classes of those made, one, and that all agree
+abbrev single : {A : Type 0} (want : Token → Option A) (make : A → Token) (among : List ℕ) → A
+    → ((x : Token) (a : A) → want x ≡ Some a → make a ≡ x) → ((a : A) → want (make a) ≡ Some a)
+    → ((a : A) → mem (class_of (make a)) among ≡ true) → Single A
+single want make among example back forth classes = record {
+  want = want;
+  make = make;
+  among = among;
+  example = example;
+  back = back;
+  forth = forth;
+  classes = classes;
+}
+
 -- ---- words of the grammar, and names in their places
 
+made_is : {K : Type 0} (make : ℕ → K → Token) (class : K → ℕ) → ((j k : K) → class j ≡ class k → j ≡ k)
+    → (j k : K) (at a : ℕ) → at_if (eqb (class j) (class k)) at ≡ Some a → make a k ≡ make at j
+made_is make class one j k at a e =
+    let h = at_if-is (eqb (class j) (class k)) at a e in
+    let same : j ≡ k = one j k (eqb-true _ _ h.0) in
+    ap (λ (n : ℕ). make n k) (sym h.1) ∙ ap (λ (i : _). make at i) (sym same)
+
 pub key_back : (k : Keyword) (x : Token) (a : ℕ) → key_want k x ≡ Some a → tok.Word a k ≡ x
-key_back k (tok.Word at j) a e =
-    let h = at_if-is (eqb (keyword_class j) (keyword_class k)) at a e in
-    let same : j ≡ k = key_one j k (eqb-true _ _ h.0) in
-    ap (λ (n : ℕ). tok.Word n k) (sym h.1) ∙ ap (λ (i : Keyword). tok.Word at i) (sym same)
+key_back k (tok.Word at j) a e = made_is (λ n i. tok.Word n i) keyword_class key_one j k at a e
 key_back k _ a e = absurd cc
 
-pub key_forth : (k : Keyword) (a : ℕ) → key_want k (tok.Word a k) ≡ Some a
-key_forth k a = rw (eqb-self (keyword_class k)) refl
-
 abbrev pub key_single : Keyword → Single ℕ
-key_single k = record {
-  want = key_want k;
-  make = λ n. tok.Word n k;
-  among = keyword_class k ∷ [];
-  example = 0;
-  back = key_back k;
-  forth = key_forth k;
-  classes = λ a. rw (eqb-self (keyword_class k)) refl;
-}
+key_single k = single (key_want k) (λ n. tok.Word n k) (keyword_class k ∷ []) 0 (key_back k)
+    (λ a. rw (eqb-self (keyword_class k)) refl) (λ a. rw (eqb-self (keyword_class k)) refl)
 
 pub word_back : (w : Word) (x : Token) (a : ℕ) → word_want w x ≡ Some a → tok.Name a w ≡ x
-word_back w (tok.Name at v) a e =
-    let h = at_if-is (eqb (word_class v) (word_class w)) at a e in
-    let same : v ≡ w = word_one v w (eqb-true _ _ h.0) in
-    ap (λ (n : ℕ). tok.Name n w) (sym h.1) ∙ ap (λ (i : Word). tok.Name at i) (sym same)
+word_back w (tok.Name at v) a e = made_is (λ n i. tok.Name n i) word_class word_one v w at a e
 word_back w _ a e = absurd cc
 
-pub word_forth : (w : Word) (a : ℕ) → word_want w (tok.Name a w) ≡ Some a
-word_forth w a = rw (eqb-self (word_class w)) refl
-
 abbrev pub word_single : Word → Single ℕ
-word_single w = record {
-  want = word_want w;
-  make = λ n. tok.Name n w;
-  among = word_class w ∷ [];
-  example = 0;
-  back = word_back w;
-  forth = word_forth w;
-  classes = λ a. rw (eqb-self (word_class w)) refl;
-}
+word_single w = single (word_want w) (λ n. tok.Name n w) (word_class w ∷ []) 0 (word_back w)
+    (λ a. rw (eqb-self (word_class w)) refl) (λ a. rw (eqb-self (word_class w)) refl)
 
 -- ---- the others
 
@@ -123,16 +118,7 @@ open_back (tok.Open at) a e = ap (λ (n : ℕ). tok.Open n) (sym (some_of at a e
 open_back _ a e = absurd cc
 
 abbrev pub open_single : Single ℕ
-open_single = record {
-  want = open_want;
-  make = λ n. tok.Open n;
-  among = open_classes;
-  example = 0;
-  back = open_back;
-  forth =
-      λ a. refl;
-  classes = λ a. refl;
-}
+open_single = single open_want (λ n. tok.Open n) open_classes 0 open_back (λ a. refl) (λ a. refl)
 
 pub name_back : (x : Token) (a : Name) → name_want x ≡ Some a → name_token a ≡ x
 name_back (tok.Name at w) a e = let is : record { at = at; word = w } ≡ a = cc in ap name_token (sym is)
@@ -146,15 +132,8 @@ name_among a = go a.at a.word
     go at _ = refl
 
 abbrev pub name_single : Single Name
-name_single = record {
-  want = name_want;
-  make = name_token;
-  among = name_classes;
-  example = record { at = 0; word = word.Other };
-  back = name_back;
-  forth = λ a. refl;
-  classes = name_among;
-}
+name_single = single name_want name_token name_classes
+    (record { at = 0; word = word.Other }) name_back (λ a. refl) name_among
 
 pub number_back : (x : Token) (a : Number) → number_want x ≡ Some a → number_token a ≡ x
 number_back (tok.Number at n w) a e = let is : record { at = at; amount = n; whole = w } ≡ a = cc in
@@ -171,15 +150,8 @@ number_among a = go a.at a.amount a.whole
     go at _ _ = refl
 
 abbrev pub number_single : Single Number
-number_single = record {
-  want = number_want;
-  make = number_token;
-  among = number_classes;
-  example = record { at = 0; amount = amount.Zero; whole = true };
-  back = number_back;
-  forth = λ a. refl;
-  classes = number_among;
-}
+number_single = single number_want number_token number_classes
+    (record { at = 0; amount = amount.Zero; whole = true }) number_back (λ a. refl) number_among
 
 pub unit_back : (x : Token) (a : UnitNumber) → unit_want x ≡ Some a → unit_token a ≡ x
 unit_back (tok.Number at amount.Zero w) a e = let is : record { at = at; is_one = false; whole = w } ≡ a = cc in
@@ -206,15 +178,8 @@ unit_forth a = go a.at a.is_one a.whole
     go at false w = refl
 
 abbrev pub unit_single : Single UnitNumber
-unit_single = record {
-  want = unit_want;
-  make = unit_token;
-  among = unit_classes;
-  example = record { at = 0; is_one = false; whole = true };
-  back = unit_back;
-  forth = unit_forth;
-  classes = unit_among;
-}
+unit_single = single unit_want unit_token unit_classes
+    (record { at = 0; is_one = false; whole = true }) unit_back unit_forth unit_among
 
 pub zero_back : (x : Token) (a : ZeroNumber) → zero_want x ≡ Some a → zero_token a ≡ x
 zero_back (tok.Number at amount.Zero w) a e = let is : record { at = at; whole = w } ≡ a = cc in ap zero_token (sym is)
@@ -229,15 +194,8 @@ zero_among a = go a.at a.whole
     go at false = refl
 
 abbrev pub zero_single : Single ZeroNumber
-zero_single = record {
-  want = zero_want;
-  make = zero_token;
-  among = zero_classes;
-  example = record { at = 0; whole = true };
-  back = zero_back;
-  forth = λ a. refl;
-  classes = zero_among;
-}
+zero_single = single zero_want zero_token zero_classes
+    (record { at = 0; whole = true }) zero_back (λ a. refl) zero_among
 
 pub label_back : (x : Token) (a : Label) → label_want x ≡ Some a → label_token a ≡ x
 label_back (tok.Number at n true) a e = let is : record { at = at; amount = n } ≡ a = cc in ap label_token (sym is)
@@ -252,15 +210,8 @@ label_among a = go a.at a.amount
     go at _ = refl
 
 abbrev pub label_single : Single Label
-label_single = record {
-  want = label_want;
-  make = label_token;
-  among = whole_classes;
-  example = record { at = 0; amount = amount.Zero };
-  back = label_back;
-  forth = λ a. refl;
-  classes = label_among;
-}
+label_single = single label_want label_token whole_classes
+    (record { at = 0; amount = amount.Zero }) label_back (λ a. refl) label_among
 
 abbrev pub direction_token : ℕ × Direction → Token
 direction_token a = tok.Word a.0 (direction_key a.1)
@@ -280,12 +231,5 @@ direction_among (at, Input) = refl
 direction_among (at, Output) = refl
 
 abbrev pub direction_single : Single (ℕ × Direction)
-direction_single = record {
-  want = direction_want;
-  make = direction_token;
-  among = direction_classes;
-  example = (0, Input);
-  back = direction_back;
-  forth = direction_forth;
-  classes = direction_among;
-}
+direction_single = single direction_want direction_token direction_classes
+    (0, Input) direction_back direction_forth direction_among

@@ -7,16 +7,14 @@ use Rattle.fcl_syntax.specs.declared.token.Word.{Word}
 use Rattle.fcl_syntax.specs.declared.token.Word.TheVariants as word
 use Rattle.fcl_syntax.specs.{First.looks_on}
 use Rattle.fcl_syntax.specs.TokenClasses.{Among, word_class, signed_classes, open_classes}
-use Rattle.fcl_syntax.specs.Grammar.{TSignedNumber}
-use Rattle.fcl_syntax.specs.Grammar.{TPoint, point_text, TPoints, TTerm, term_text, TRange, range_text, opening_text}
-use Rattle.fcl_syntax.specs.Grammar.{TFuzzify, fuzzify_text, TSetting, setting_text, accu_classes, TAccu}
+use Rattle.fcl_syntax.specs.Grammar.{TSignedNumber, TPoint, point_text, TPoints, TTerm, term_text, TRange, range_text}
+use Rattle.fcl_syntax.specs.Grammar.{opening_text, TFuzzify, fuzzify_text, TSetting, setting_text, accu_classes, TAccu}
 use Rattle.fcl_syntax.specs.Grammar.{method_classes, TMethod, TSingleton, singleton_text, TFallback, fallback_text}
 use Rattle.fcl_syntax.specs.Grammar.{TDefuzzyLine, TDefuzzify, defuzzify_text, option_classes, TPart}
-use Rattle.fcl_syntax.specs.Reading.{open_at}
-use Rattle.fcl_syntax.specs.Reading.{point_at, some_points_at, points_at, term_at, opening_at, range_at}
-use Rattle.fcl_syntax.specs.Reading.{fuzzy_line_at, fuzzify_at, choice_at, setting_at}
-use Rattle.fcl_syntax.specs.Reading.{singleton_value_at, singleton_at, fallback_value_at, fallback_at}
-use Rattle.fcl_syntax.specs.Reading.{defuzzy_line_at, defuzzify_at, part_at}
+use Rattle.fcl_syntax.specs.Reading.{open_at, point_at, some_points_at, points_at, term_at, opening_at, range_at}
+use Rattle.fcl_syntax.specs.Reading.{fuzzy_line_at, fuzzify_at, choice_at, setting_at, singleton_value_at}
+use Rattle.fcl_syntax.specs.Reading.{singleton_at, fallback_value_at, fallback_at, defuzzy_line_at, defuzzify_at}
+use Rattle.fcl_syntax.specs.Reading.{part_at}
 use Rattle.fcl_syntax.proofs.{Form.disjoint, Form.Form, Dead.via, Repeat.then_rep, Seq.seq}
 use Rattle.fcl_syntax.proofs.Chains.{bind_assoc, bind_cond}
 use Rattle.fcl_syntax.proofs.Named.{Reads, named, either, refuse, many_then}

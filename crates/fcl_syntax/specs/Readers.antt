@@ -1,7 +1,7 @@
 -- What reads a list of tokens from the left, and how such are put together. No public clause cites it.
 -- Beside the promise.
 use Rattle.std.specs.Prelude.{◌≡◌, ℕ, zero, suc, Bool, true, false, List, [], ◌∷◌, length, Option, Some, None, Result}
-use Rattle.std.specs.Prelude.{Ok, Err}
+use Rattle.std.specs.Prelude.{Ok, Err, ◌<◌}
 use Rattle.fcl_syntax.specs.declared.{fault.Fault.Fault, fault.Kind.Kind, fault.Kind.TheVariants.Expected}
 use Rattle.fcl_syntax.specs.declared.fault.ParseError.{ParseError}
 use Rattle.fcl_syntax.specs.declared.fault.ParseError.TheVariants as errors
@@ -70,3 +70,7 @@ abbrev pub loop : {A : Type 0} → List ℕ → (List Token → Result (A × Lis
     → Result (List A × List Token) Fault
 loop first read zero ts = Ok ([], ts)
 loop first read (suc n) ts = turn (starts first ts) (read ts >>= λ a. with_front a.0 (loop first read n a.1)) ts
+
+-- what is read has at least one token
+pub record TakesSome {A : Type 0} (read : List Token → Read A) : Type 0 where
+  pub shrinks : (ts : List Token) (a : A) (rest : List Token) → read ts ≡ Ok (a, rest) → length rest < length ts

@@ -201,16 +201,21 @@ degree_at = signed_at unit_at zero_at
 
 -- ---- variables
 
-unfoldable pub comma_name_at : List Token → Read Name
-comma_name_at ts = do
+-- what is behind a comma
+unfoldable pub comma_at : {A : Type 0} → (List Token → Read A) → List Token → Read A
+comma_at item ts = do
   c ← expect_at tok.Comma ts
-  name_at c.1
+  item c.1
 
-unfoldable pub names_at : List Token → Read (Name × List Name)
-names_at ts = do
-  n ← name_at ts
-  more ← loop comma_classes comma_name_at (length n.1) n.1
-  Ok ((n.0, more.0), more.1)
+-- one and more, with commas between them
+unfoldable pub listed_at : {A : Type 0} → (List Token → Read A) → List Token → Read (A × List A)
+listed_at item ts = do
+  a ← item ts
+  more ← loop comma_classes (comma_at item) (length a.1) a.1
+  Ok ((a.0, more.0), more.1)
+
+abbrev pub names_at : List Token → Read (Name × List Name)
+names_at = listed_at name_at
 
 -- REAL, by its offset
 unfoldable pub type_at : List Token → Read TType
@@ -434,16 +439,8 @@ conclusion_at ts = do
   t ← name_at i.1
   Ok (record { variable = v.0; is_at = i.0; term = t.0 }, t.1)
 
-unfoldable pub comma_conclusion_at : List Token → Read Conclusion
-comma_conclusion_at ts = do
-  x ← expect_at tok.Comma ts
-  conclusion_at x.1
-
-unfoldable pub conclusions_at : List Token → Read (Conclusion × List Conclusion)
-conclusions_at ts = do
-  c ← conclusion_at ts
-  more ← loop comma_classes comma_conclusion_at (length c.1) c.1
-  Ok ((c.0, more.0), more.1)
+abbrev pub conclusions_at : List Token → Read (Conclusion × List Conclusion)
+conclusions_at = listed_at conclusion_at
 
 unfoldable pub weight_value_at : List Token → Read (Among name_classes ⊎ TSignedNumber)
 weight_value_at ts = refusing name_classes 15 signed_number_at ts

@@ -25,7 +25,7 @@ fn end(tokens: &[Token]) -> Result<(u32, &[Token]), ParseError>
     keyword(tokens, Keyword::EndFunctionBlock)
 }
 
-#[tactic(auto, unfolding(crate::specs::Reading::block_at))]
+#[tactic(auto, unfolding(crate::specs::Reading::block_at), using(crate::proofs::Run::takes_some, crate::proofs::Forms::section_is, crate::proofs::TermForms::part_is))]
 fn block(alloc: Global, tokens: &[Token]) -> Result<(FunctionBlock, &[Token]), ParseError>
     ensures { Gives (λ x. (view x.0, x.1.now)) result (block_at tokens.now) }
 {

@@ -1,8 +1,8 @@
 //! What the grammar repeats.
 
-ghost use Rattle.std.specs.Prelude.{◌≡◌, ℕ, ◌<◌, List as Items, length, map, IfOk};
+ghost use Rattle.std.specs.Prelude.{◌≡◌, ℕ, List as Items, length, map};
 ghost use Rattle.fcl_syntax.specs.declared.token.Token.{Token};
-ghost use Rattle.fcl_syntax.specs.Readers.{Read, Gives, loop, starts};
+ghost use Rattle.fcl_syntax.specs.Readers.{Read, Gives, TakesSome, loop, starts};
 
 use crate::fault::ParseError;
 use crate::token::Token;
@@ -27,14 +27,14 @@ pub trait Repeated: Sized + Drop {
     fn is_next(tokens: &[Token]) -> bool
         ensures { result ≡ starts first tokens.now };
 
-    /// The next one, and what is behind it. It has at least one token.
+    /// The next one, and what is behind it.
     fn next(alloc: Global, tokens: &[Token]) -> Result<(Self, &[Token]), ParseError>
-        ensures read { Gives (λ x. (view x.0, x.1.now)) result (read_at tokens.now) }
-        ensures shorter { IfOk result (λ x. length x.1.now < length tokens.now) };
+        ensures { Gives (λ x. (view x.0, x.1.now)) result (read_at tokens.now) };
 }
 
-/// As many as there are, and what is behind them.
+/// As many as there are, and what is behind them. One has at least one token.
 pub fn many<R: Repeated>(alloc: Global, tokens: &[Token]) -> Result<(List<R>, &[Token]), ParseError>
+    requires { TakesSome R.read_at }
     ensures { Gives (λ x. (map R.view x.0, x.1.now)) result
         (loop R.first R.read_at (length tokens.now) tokens.now) }
 {

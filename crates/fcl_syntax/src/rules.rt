@@ -4,7 +4,7 @@ ghost use Rattle.std.proofs.Common.{inr};
 ghost use Rattle.fcl_syntax.specs.{declared.tree.Conclusion.Conclusion, Readers.Gives};
 ghost use Rattle.fcl_syntax.specs.TokenClasses.{comma_classes, rule_item_classes, rule_line_classes};
 ghost use Rattle.fcl_syntax.specs.Grammar.{TRuleItem, TRuleLine, and_classes, or_classes};
-ghost use Rattle.fcl_syntax.specs.Reading.{conclusion_at, comma_conclusion_at, conclusions_at, weight_value_at};
+ghost use Rattle.fcl_syntax.specs.Reading.{conclusion_at, comma_at, conclusions_at, weight_value_at};
 ghost use Rattle.fcl_syntax.specs.Reading.{setting_at, with_at, weight_at, rule_at, rule_item_at, act_word_at};
 ghost use Rattle.fcl_syntax.specs.Reading.{act_at, rule_line_at, rulebase_at};
 ghost use Rattle.fcl_syntax.specs.View.{view_signed_number, view_setting, view_with, view_weight, view_rule};
@@ -44,20 +44,12 @@ fn conclusion(tokens: &[Token]) -> Result<(Conclusion, &[Token]), ParseError>
     Ok((conclusion, rest))
 }
 
-#[tactic(auto, unfolding(crate::specs::Reading::comma_conclusion_at))]
-fn comma_conclusion(tokens: &[Token]) -> Result<(Conclusion, &[Token]), ParseError>
-    ensures { Gives (λ x. (x.0, x.1.now)) result (comma_conclusion_at tokens.now) }
-{
-    let rest = expect(tokens, Token::Comma)?;
-    conclusion(rest)
-}
-
 impl Repeated for Conclusion {
     ghost Tree = { Conclusion };
 
     ghost first = { comma_classes };
 
-    ghost read_at = { comma_conclusion_at };
+    ghost read_at = { comma_at conclusion_at };
 
     ghost view = { λ c. c };
 
@@ -65,12 +57,14 @@ impl Repeated for Conclusion {
         is_next(tokens, Token::Comma)
     }
 
+    #[tactic(auto, unfolding(crate::specs::Reading::comma_at))]
     fn next(alloc: Global, tokens: &[Token]) -> Result<(Conclusion, &[Token]), ParseError> {
-        comma_conclusion(tokens)
+        let rest = expect(tokens, Token::Comma)?;
+        conclusion(rest)
     }
 }
 
-#[tactic(auto, unfolding(crate::specs::Reading::conclusions_at))]
+#[tactic(auto, unfolding(crate::specs::Reading::listed_at), using(crate::proofs::RuleForms::conclusions_take))]
 fn conclusions(
     alloc: Global,
     tokens: &[Token],
@@ -144,16 +138,6 @@ fn rule(alloc: Global, tokens: &[Token]) -> Result<(Rule, &[Token]), ParseError>
     Ok((rule, rest))
 }
 
-#[tactic(auto, unfolding(crate::specs::Reading::rule_item_at))]
-fn rule_item(alloc: Global, tokens: &[Token]) -> Result<(Rule, &[Token]), ParseError>
-    ensures { Gives (λ x. (view_rule_item x.0, x.1.now)) result (rule_item_at tokens.now) }
-{
-    if is_keyword(tokens, Keyword::Options) {
-        return Err(fault(Kind::Unsupported(7), tokens));
-    }
-    rule(alloc, tokens)
-}
-
 // One is next where a rule is, or OPTION in its place.
 impl Repeated for Rule {
     ghost Tree = { TRuleItem };
@@ -168,8 +152,12 @@ impl Repeated for Rule {
         is_keyword(tokens, Keyword::Options) || is_keyword(tokens, Keyword::Rule)
     }
 
+    #[tactic(auto, unfolding(crate::specs::Reading::rule_item_at))]
     fn next(alloc: Global, tokens: &[Token]) -> Result<(Rule, &[Token]), ParseError> {
-        rule_item(alloc, tokens)
+        if is_keyword(tokens, Keyword::Options) {
+            return Err(fault(Kind::Unsupported(7), tokens));
+        }
+        rule(alloc, tokens)
     }
 }
 
@@ -212,26 +200,6 @@ fn or_line(tokens: &[Token]) -> Result<(Setting, &[Token]), ParseError>
     setting(tokens, Keyword::Or, Word::Max, (Word::Asum, Word::Bsum), 3)
 }
 
-#[tactic(auto, unfolding(crate::specs::Reading::rule_line_at))]
-fn rule_line(tokens: &[Token]) -> Result<(RuleLine, &[Token]), ParseError>
-    ensures { Gives (λ x. (view_rule_line x.0, x.1.now)) result (rule_line_at tokens.now) }
-{
-    if is_keyword(tokens, Keyword::And) {
-        let (line, rest) = and_line(tokens)?;
-        return Ok((RuleLine::And(line), rest));
-    }
-    if is_keyword(tokens, Keyword::Or) {
-        let (line, rest) = or_line(tokens)?;
-        return Ok((RuleLine::Or(line), rest));
-    }
-    if is_keyword(tokens, Keyword::Act) {
-        let (line, rest) = act(tokens)?;
-        return Ok((RuleLine::Act(line), rest));
-    }
-    let (line, rest) = accu(tokens)?;
-    Ok((RuleLine::Accu(line), rest))
-}
-
 impl Repeated for RuleLine {
     ghost Tree = { TRuleLine };
 
@@ -248,12 +216,26 @@ impl Repeated for RuleLine {
             || is_keyword(tokens, Keyword::Accu)
     }
 
+    #[tactic(auto, unfolding(crate::specs::Reading::rule_line_at))]
     fn next(alloc: Global, tokens: &[Token]) -> Result<(RuleLine, &[Token]), ParseError> {
-        rule_line(tokens)
+        if is_keyword(tokens, Keyword::And) {
+            let (line, rest) = and_line(tokens)?;
+            return Ok((RuleLine::And(line), rest));
+        }
+        if is_keyword(tokens, Keyword::Or) {
+            let (line, rest) = or_line(tokens)?;
+            return Ok((RuleLine::Or(line), rest));
+        }
+        if is_keyword(tokens, Keyword::Act) {
+            let (line, rest) = act(tokens)?;
+            return Ok((RuleLine::Act(line), rest));
+        }
+        let (line, rest) = accu(tokens)?;
+        Ok((RuleLine::Accu(line), rest))
     }
 }
 
-#[tactic(auto, unfolding(crate::specs::Reading::rulebase_at))]
+#[tactic(auto, unfolding(crate::specs::Reading::rulebase_at), using(crate::proofs::Run::takes_some, crate::proofs::RuleForms::rule_line_is, crate::proofs::RuleForms::rule_item_is))]
 pub fn rulebase(alloc: Global, tokens: &[Token]) -> Result<(Rulebase, &[Token]), ParseError>
     ensures { Gives (λ x. (view_rulebase x.0, x.1.now)) result (rulebase_at tokens.now) }
 {

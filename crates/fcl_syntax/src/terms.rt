@@ -143,18 +143,6 @@ fn degree(tokens: &[Token]) -> Result<(Degree, &[Token]), ParseError>
 
 // ---- terms of an input
 
-#[tactic(auto, unfolding(crate::specs::Reading::point_at))]
-fn point(tokens: &[Token]) -> Result<(Point, &[Token]), ParseError>
-    ensures { Gives (λ x. (view_point x.0, x.1.now)) result (point_at tokens.now) }
-{
-    let (open_at, rest) = open(tokens)?;
-    let (x, rest) = coordinate(rest)?;
-    let rest = expect(rest, Token::Comma)?;
-    let (degree, rest) = degree(rest)?;
-    let rest = expect(rest, Token::Close)?;
-    Ok((Point { open_at, x, degree }, rest))
-}
-
 impl Repeated for Point {
     ghost Tree = { TPoint };
 
@@ -168,12 +156,18 @@ impl Repeated for Point {
         is_open(tokens)
     }
 
+    #[tactic(auto, unfolding(crate::specs::Reading::point_at))]
     fn next(alloc: Global, tokens: &[Token]) -> Result<(Point, &[Token]), ParseError> {
-        point(tokens)
+        let (open_at, rest) = open(tokens)?;
+        let (x, rest) = coordinate(rest)?;
+        let rest = expect(rest, Token::Comma)?;
+        let (degree, rest) = degree(rest)?;
+        let rest = expect(rest, Token::Close)?;
+        Ok((Point { open_at, x, degree }, rest))
     }
 }
 
-#[tactic(auto, unfolding(crate::specs::Reading::some_points_at))]
+#[tactic(auto, unfolding(crate::specs::Reading::some_points_at), using(crate::proofs::Run::takes_some, crate::proofs::TermForms::point_is))]
 fn some_points(
     alloc: Global,
     tokens: &[Token],
@@ -181,7 +175,7 @@ fn some_points(
     ensures { Gives (λ x. ((view_point x.0.0, map view_point x.0.1), x.1.now)) result
         (some_points_at tokens.now) }
 {
-    let (first, rest) = point(tokens)?;
+    let (first, rest) = Point::next(alloc, tokens)?;
     let (more, rest) = many::<Point>(alloc, rest)?;
     Ok(((first, more), rest))
 }
@@ -253,18 +247,6 @@ fn range(tokens: &[Token]) -> Result<(Range, &[Token]), ParseError>
 
 // ---- FUZZIFY
 
-#[tactic(auto, unfolding(crate::specs::Reading::fuzzy_line_at))]
-fn fuzzy_line(alloc: Global, tokens: &[Token]) -> Result<(FuzzyLine, &[Token]), ParseError>
-    ensures { Gives (λ x. (view_fuzzy_line x.0, x.1.now)) result (fuzzy_line_at tokens.now) }
-{
-    if is_keyword(tokens, Keyword::Term) {
-        let (term, rest) = term(alloc, tokens)?;
-        return Ok((FuzzyLine::Term(term), rest));
-    }
-    let (range, rest) = range(tokens)?;
-    Ok((FuzzyLine::Range(range), rest))
-}
-
 impl Repeated for FuzzyLine {
     ghost Tree = { TTerm ⊎ TRange };
 
@@ -278,12 +260,18 @@ impl Repeated for FuzzyLine {
         is_keyword(tokens, Keyword::Term) || is_keyword(tokens, Keyword::Range)
     }
 
+    #[tactic(auto, unfolding(crate::specs::Reading::fuzzy_line_at))]
     fn next(alloc: Global, tokens: &[Token]) -> Result<(FuzzyLine, &[Token]), ParseError> {
-        fuzzy_line(alloc, tokens)
+        if is_keyword(tokens, Keyword::Term) {
+            let (term, rest) = term(alloc, tokens)?;
+            return Ok((FuzzyLine::Term(term), rest));
+        }
+        let (range, rest) = range(tokens)?;
+        Ok((FuzzyLine::Range(range), rest))
     }
 }
 
-#[tactic(auto, unfolding(crate::specs::Reading::fuzzify_at))]
+#[tactic(auto, unfolding(crate::specs::Reading::fuzzify_at), using(crate::proofs::Run::takes_some, crate::proofs::TermForms::fuzzy_line_is))]
 fn fuzzify(alloc: Global, tokens: &[Token]) -> Result<(Fuzzify, &[Token]), ParseError>
     ensures { Gives (λ x. (view_fuzzify x.0, x.1.now)) result (fuzzify_at tokens.now) }
 {
@@ -411,30 +399,6 @@ fn fallback(tokens: &[Token]) -> Result<(Fallback, &[Token]), ParseError>
     Ok((Fallback { at, value }, rest))
 }
 
-#[tactic(auto, unfolding(crate::specs::Reading::defuzzy_line_at))]
-fn defuzzy_line(tokens: &[Token]) -> Result<(DefuzzyLine, &[Token]), ParseError>
-    ensures { Gives (λ x. (view_defuzzy_line x.0, x.1.now)) result (defuzzy_line_at tokens.now) }
-{
-    if is_keyword(tokens, Keyword::Term) {
-        let (line, rest) = singleton(tokens)?;
-        return Ok((DefuzzyLine::Singleton(line), rest));
-    }
-    if is_keyword(tokens, Keyword::Accu) {
-        let (line, rest) = accu(tokens)?;
-        return Ok((DefuzzyLine::Accu(line), rest));
-    }
-    if is_keyword(tokens, Keyword::Method) {
-        let (line, rest) = method(tokens)?;
-        return Ok((DefuzzyLine::Method(line), rest));
-    }
-    if is_keyword(tokens, Keyword::Default) {
-        let (line, rest) = fallback(tokens)?;
-        return Ok((DefuzzyLine::Default(line), rest));
-    }
-    let (line, rest) = range(tokens)?;
-    Ok((DefuzzyLine::Range(line), rest))
-}
-
 impl Repeated for DefuzzyLine {
     ghost Tree = { TDefuzzyLine };
 
@@ -452,12 +416,30 @@ impl Repeated for DefuzzyLine {
             || is_keyword(tokens, Keyword::Range)
     }
 
+    #[tactic(auto, unfolding(crate::specs::Reading::defuzzy_line_at))]
     fn next(alloc: Global, tokens: &[Token]) -> Result<(DefuzzyLine, &[Token]), ParseError> {
-        defuzzy_line(tokens)
+        if is_keyword(tokens, Keyword::Term) {
+            let (line, rest) = singleton(tokens)?;
+            return Ok((DefuzzyLine::Singleton(line), rest));
+        }
+        if is_keyword(tokens, Keyword::Accu) {
+            let (line, rest) = accu(tokens)?;
+            return Ok((DefuzzyLine::Accu(line), rest));
+        }
+        if is_keyword(tokens, Keyword::Method) {
+            let (line, rest) = method(tokens)?;
+            return Ok((DefuzzyLine::Method(line), rest));
+        }
+        if is_keyword(tokens, Keyword::Default) {
+            let (line, rest) = fallback(tokens)?;
+            return Ok((DefuzzyLine::Default(line), rest));
+        }
+        let (line, rest) = range(tokens)?;
+        Ok((DefuzzyLine::Range(line), rest))
     }
 }
 
-#[tactic(auto, unfolding(crate::specs::Reading::defuzzify_at))]
+#[tactic(auto, unfolding(crate::specs::Reading::defuzzify_at), using(crate::proofs::Run::takes_some, crate::proofs::TermForms::defuzzy_line_is))]
 fn defuzzify(alloc: Global, tokens: &[Token]) -> Result<(Defuzzify, &[Token]), ParseError>
     ensures { Gives (λ x. (view_defuzzify x.0, x.1.now)) result (defuzzify_at tokens.now) }
 {
@@ -476,21 +458,6 @@ fn defuzzify(alloc: Global, tokens: &[Token]) -> Result<(Defuzzify, &[Token]), P
 
 // ---- both
 
-#[tactic(auto, unfolding(crate::specs::Reading::part_at))]
-fn part(alloc: Global, tokens: &[Token]) -> Result<(Part, &[Token]), ParseError>
-    ensures { Gives (λ x. (view_part x.0, x.1.now)) result (part_at tokens.now) }
-{
-    if is_keyword(tokens, Keyword::Options) {
-        return Err(fault(Kind::Unsupported(7), tokens));
-    }
-    if is_keyword(tokens, Keyword::Fuzzify) {
-        let (part, rest) = fuzzify(alloc, tokens)?;
-        return Ok((Part::Fuzzify(part), rest));
-    }
-    let (part, rest) = defuzzify(alloc, tokens)?;
-    Ok((Part::Defuzzify(part), rest))
-}
-
 // One is next where a part is, or OPTION in its place.
 impl Repeated for Part {
     ghost Tree = { TPart };
@@ -507,7 +474,16 @@ impl Repeated for Part {
             || is_keyword(tokens, Keyword::Defuzzify)
     }
 
+    #[tactic(auto, unfolding(crate::specs::Reading::part_at))]
     fn next(alloc: Global, tokens: &[Token]) -> Result<(Part, &[Token]), ParseError> {
-        part(alloc, tokens)
+        if is_keyword(tokens, Keyword::Options) {
+            return Err(fault(Kind::Unsupported(7), tokens));
+        }
+        if is_keyword(tokens, Keyword::Fuzzify) {
+            let (part, rest) = fuzzify(alloc, tokens)?;
+            return Ok((Part::Fuzzify(part), rest));
+        }
+        let (part, rest) = defuzzify(alloc, tokens)?;
+        Ok((Part::Defuzzify(part), rest))
     }
 }

@@ -3,7 +3,7 @@
 ghost use Rattle.std.proofs.Common.{inr};
 ghost use Rattle.fcl_syntax.specs.{declared.tree.Name.Name, Grammar.TDeclaration, Grammar.TSection, Readers.Gives};
 ghost use Rattle.fcl_syntax.specs.TokenClasses.{comma_classes, name_classes, section_classes};
-ghost use Rattle.fcl_syntax.specs.Reading.{comma_name_at, names_at, type_at, declaration_at, variables_at};
+ghost use Rattle.fcl_syntax.specs.Reading.{comma_at, name_at, names_at, type_at, declaration_at, variables_at};
 ghost use Rattle.fcl_syntax.specs.Reading.{section_at};
 ghost use Rattle.fcl_syntax.specs.View.{view_declaration, view_variables, view_section};
 
@@ -17,20 +17,12 @@ use crate::tree::{Declaration, Name, Variables};
 use fz_list::List;
 use std::alloc::Global;
 
-#[tactic(auto, unfolding(crate::specs::Reading::comma_name_at))]
-fn comma_name(tokens: &[Token]) -> Result<(Name, &[Token]), ParseError>
-    ensures { Gives (λ x. (x.0, x.1.now)) result (comma_name_at tokens.now) }
-{
-    let rest = expect(tokens, Token::Comma)?;
-    name(rest)
-}
-
 impl Repeated for Name {
     ghost Tree = { Name };
 
     ghost first = { comma_classes };
 
-    ghost read_at = { comma_name_at };
+    ghost read_at = { comma_at name_at };
 
     ghost view = { λ n. n };
 
@@ -38,12 +30,14 @@ impl Repeated for Name {
         is_next(tokens, Token::Comma)
     }
 
+    #[tactic(auto, unfolding(crate::specs::Reading::comma_at))]
     fn next(alloc: Global, tokens: &[Token]) -> Result<(Name, &[Token]), ParseError> {
-        comma_name(tokens)
+        let rest = expect(tokens, Token::Comma)?;
+        name(rest)
     }
 }
 
-#[tactic(auto, unfolding(crate::specs::Reading::names_at))]
+#[tactic(auto, unfolding(crate::specs::Reading::listed_at), using(crate::proofs::Forms::names_take))]
 fn names(alloc: Global, tokens: &[Token]) -> Result<((Name, List<Name>), &[Token]), ParseError>
     ensures { Gives (λ x. ((x.0.0, x.0.1), x.1.now)) result (names_at tokens.now) }
 {
@@ -62,17 +56,6 @@ fn real(tokens: &[Token]) -> Result<(u32, &[Token]), ParseError>
     word(tokens, Word::Real)
 }
 
-#[tactic(auto, unfolding(crate::specs::Reading::declaration_at))]
-fn declaration(alloc: Global, tokens: &[Token]) -> Result<(Declaration, &[Token]), ParseError>
-    ensures { Gives (λ x. (view_declaration x.0, x.1.now)) result (declaration_at tokens.now) }
-{
-    let ((first, more), rest) = names(alloc, tokens)?;
-    let rest = expect(rest, Token::Colon)?;
-    let (real, rest) = real(rest)?;
-    let rest = expect(rest, Token::Semicolon)?;
-    Ok((Declaration { first, more, real }, rest))
-}
-
 impl Repeated for Declaration {
     ghost Tree = { TDeclaration };
 
@@ -86,12 +69,17 @@ impl Repeated for Declaration {
         is_name(tokens)
     }
 
+    #[tactic(auto, unfolding(crate::specs::Reading::declaration_at))]
     fn next(alloc: Global, tokens: &[Token]) -> Result<(Declaration, &[Token]), ParseError> {
-        declaration(alloc, tokens)
+        let ((first, more), rest) = names(alloc, tokens)?;
+        let rest = expect(rest, Token::Colon)?;
+        let (real, rest) = real(rest)?;
+        let rest = expect(rest, Token::Semicolon)?;
+        Ok((Declaration { first, more, real }, rest))
     }
 }
 
-#[tactic(auto, unfolding(crate::specs::Reading::variables_at))]
+#[tactic(auto, unfolding(crate::specs::Reading::variables_at), using(crate::proofs::Run::takes_some, crate::proofs::Forms::declaration_is))]
 fn variables(alloc: Global, tokens: &[Token]) -> Result<(Variables, &[Token]), ParseError>
     ensures { Gives (λ x. (view_variables x.0, x.1.now)) result (variables_at tokens.now) }
 {
@@ -105,16 +93,6 @@ fn variables(alloc: Global, tokens: &[Token]) -> Result<(Variables, &[Token]), P
         end,
     };
     Ok((variables, rest))
-}
-
-#[tactic(auto, unfolding(crate::specs::Reading::section_at))]
-fn section(alloc: Global, tokens: &[Token]) -> Result<(Variables, &[Token]), ParseError>
-    ensures { Gives (λ x. (view_section x.0, x.1.now)) result (section_at tokens.now) }
-{
-    if is_keyword(tokens, Keyword::Var) {
-        return Err(fault(Kind::Unsupported(6), tokens));
-    }
-    variables(alloc, tokens)
 }
 
 // One is next where variables are, or VAR in their place.
@@ -133,7 +111,11 @@ impl Repeated for Variables {
             || is_keyword(tokens, Keyword::VarOutput)
     }
 
+    #[tactic(auto, unfolding(crate::specs::Reading::section_at))]
     fn next(alloc: Global, tokens: &[Token]) -> Result<(Variables, &[Token]), ParseError> {
-        section(alloc, tokens)
+        if is_keyword(tokens, Keyword::Var) {
+            return Err(fault(Kind::Unsupported(6), tokens));
+        }
+        variables(alloc, tokens)
     }
 }
