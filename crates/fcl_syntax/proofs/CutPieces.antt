@@ -26,7 +26,7 @@ use Rattle.fcl_syntax.specs.Tokens.{IsToken, IsSpelling, IsTogether, IsLongest, 
 use Rattle.fcl_syntax.specs.Lexing.{run, comment_end, comment_piece, has_fraction, number_len, decimal_piece}
 use Rattle.fcl_syntax.specs.Lexing.{number_piece, token_of, word_token, open_piece, slash_piece, point_piece}
 use Rattle.fcl_syntax.specs.Lexing.{colon_piece, delimiter_piece, piece_of}
-use Rattle.fcl_syntax.proofs.Cutting.{run_first}
+use Rattle.fcl_syntax.proofs.Cutting.{or_left, run_first}
 use Rattle.fcl_syntax.proofs.CutLists.{same_front, begins_with, all_in_run, run_ends, run_is, run_passes, run_splits}
 use Rattle.fcl_syntax.proofs.CutLists.{FirstEnd, comment_ends, comment_open, same_head, same_tail}
 
@@ -223,13 +223,9 @@ word_spells : (at : ℕ) (bytes : List ℕ) (m : Meaning) → IsName bytes → m
 word_spells at bytes (meaning.Keyword k) n e = (refl, n, e)
 word_spells at bytes (meaning.Name w) n e = (refl, n, e)
 
-either : (x y : Bool) → x ≡ true → (x || y) ≡ true
-either true y e = refl
-either false y e = absurd cc
-
 name_is : (b : ℕ) (bytes : List ℕ) → is_name_start b ≡ true → IsName (take_while is_name_byte (b ∷ bytes))
 name_is b bytes h =
-    let first : is_name_byte b ≡ true = either (is_name_start b) (is_ascii_digit b) h in
+    let first : is_name_byte b ≡ true = or_left (is_name_start b) (is_ascii_digit b) h in
     (rw (take_while-cons is_name_byte b bytes, first) h, run_passes is_name_byte (b ∷ bytes))
 
 name_longest : (b : ℕ) (bytes front : List ℕ) → is_blank b ≡ false → is_name_start b ≡ true
@@ -666,6 +662,16 @@ choose : (at : ℕ) (text : List ℕ) (c : Bool) (p q : Piece) → (c ≡ true �
 choose at text true p q f g = f refl
 choose at text false p q f g = g refl
 
+-- by whether a byte of the text is this one
+by_byte : (at n b : ℕ) (text : ℕ → List ℕ) (p q : Piece) → PieceStands at (text n) p
+    → ((b == n) ≡ false → PieceStands at (text b) q) → PieceStands at (text b) (if b == n then p else q)
+by_byte at n b text p q same other =
+    choose at (text b) (b == n) p q (λ e. subst (λ (m : ℕ). PieceStands at (text m) p) (sym (eqb-true b n e)) same)
+    other
+
+not_next : (b n : ℕ) (bytes : List ℕ) → (b == n) ≡ false → (rest : List ℕ) → b ∷ bytes ≡ n ∷ rest → ⊥
+not_next b n bytes e rest k = both_ways (b == n) e (eq-eqb b n (same_head b n bytes rest k))
+
 open_alone : (at : ℕ) (bytes : List ℕ) → ((rest : List ℕ) → bytes ≡ 42 ∷ rest → ⊥)
     → Found at (40 ∷ bytes) (Some (tok.Open at)) 1
 open_alone at bytes star =
@@ -675,10 +681,8 @@ open_stands : (at : ℕ) (bytes : List ℕ) → PieceStands at (40 ∷ bytes) (o
 unfolding open_piece
 open_stands at [] = open_alone at [] (λ rest e. cc)
 open_stands at (b ∷ bytes) =
-    choose at (40 ∷ b ∷ bytes) (b == 42) _ _
-    (λ e. subst (λ (n : ℕ). PieceStands at (40 ∷ n ∷ bytes) (comment_piece (comment_end bytes))) (sym (eqb-true b 42 e))
-    (commented (comment_end bytes) refl))
-    (λ e. open_alone at (b ∷ bytes) (λ rest k. both_ways (b == 42) e (eq-eqb b 42 (same_head b 42 bytes rest k))))
+    by_byte at 42 b (λ m. 40 ∷ m ∷ bytes) _ _ (commented (comment_end bytes) refl)
+    (λ e. open_alone at (b ∷ bytes) (not_next b 42 bytes e))
   where
     commented : (o : Option ℕ) → comment_end bytes ≡ o → PieceStands at (40 ∷ 42 ∷ bytes) (comment_piece o)
     commented None e = (bytes, refl, comment_open bytes e)
@@ -688,68 +692,45 @@ slash_stands : (at : ℕ) (bytes : List ℕ) → PieceStands at (47 ∷ bytes) (
 unfolding slash_piece
 slash_stands at [] = bad_stands 47 [] refl refl refl refl (λ k rest e. cc) (λ k. absurd (omega (arith, k)))
 slash_stands at (b ∷ bytes) =
-    choose at (47 ∷ b ∷ bytes) (b == 47) _ _
-    (λ e. subst (λ (n : ℕ). Found at (47 ∷ n ∷ bytes) None (2 + run is_line_byte bytes)) (sym (eqb-true b 47 e))
-    (line_stands at bytes))
-    (λ e. bad_stands 47 (b ∷ bytes) refl refl refl refl
-    (λ _ rest k. both_ways (b == 47) e (eq-eqb b 47 (same_head b 47 bytes rest k)))
-    (λ k. absurd (omega (arith, k))))
+    by_byte at 47 b (λ m. 47 ∷ m ∷ bytes) _ _ (line_stands at bytes)
+    (λ e. bad_stands 47 (b ∷ bytes) refl refl refl refl (λ _. not_next b 47 bytes e) (λ k. absurd (omega (arith, k))))
 
 point_stands : (at : ℕ) (bytes : List ℕ) → PieceStands at (46 ∷ bytes) (point_piece bytes)
 unfolding point_piece
 point_stands at [] = bad_stands 46 [] refl refl refl refl (λ k. absurd (omega (arith, k))) (λ k rest e. cc)
 point_stands at (b ∷ bytes) =
-    choose at (46 ∷ b ∷ bytes) (b == 46) _ _
-    (λ e. subst (λ (n : ℕ). Found at (46 ∷ n ∷ bytes) (Some tok.To) 2) (sym (eqb-true b 46 e))
-    (pair_stands at 46 46 bytes tok.To refl refl refl refl refl))
-    (λ e. bad_stands 46 (b ∷ bytes) refl refl refl refl (λ k. absurd (omega (arith, k)))
-    (λ _ rest k. both_ways (b == 46) e (eq-eqb b 46 (same_head b 46 bytes rest k))))
+    by_byte at 46 b (λ m. 46 ∷ m ∷ bytes) _ _ (pair_stands at 46 46 bytes tok.To refl refl refl refl refl)
+    (λ e. bad_stands 46 (b ∷ bytes) refl refl refl refl (λ k. absurd (omega (arith, k))) (λ _. not_next b 46 bytes e))
 
 colon_stands : (at : ℕ) (bytes : List ℕ) → PieceStands at (58 ∷ bytes) (colon_piece bytes)
 unfolding colon_piece
 colon_stands at [] = sign_stands at 58 [] tok.Colon refl refl (λ k. absurd (omega (arith, k))) (λ k rest e. cc)
 colon_stands at (b ∷ bytes) =
-    choose at (58 ∷ b ∷ bytes) (b == 61) _ _
-    (λ e. subst (λ (n : ℕ). Found at (58 ∷ n ∷ bytes) (Some tok.Assign) 2) (sym (eqb-true b 61 e))
-    (pair_stands at 58 61 bytes tok.Assign refl refl refl refl refl))
+    by_byte at 61 b (λ m. 58 ∷ m ∷ bytes) _ _ (pair_stands at 58 61 bytes tok.Assign refl refl refl refl refl)
     (λ e. sign_stands at 58 (b ∷ bytes) tok.Colon refl refl (λ k. absurd (omega (arith, k)))
-    (λ _ rest k. both_ways (b == 61) e (eq-eqb b 61 (same_head b 61 bytes rest k))))
+    (λ _. not_next b 61 bytes e))
 
 -- a delimiter of one byte with which nothing longer begins
-single_stands : (at b n : ℕ) (bytes : List ℕ) (t : Token) → (b == n) ≡ true → mem n signs ≡ true → (n == 40) ≡ false
-    → (n == 58) ≡ false → IsToken at (n ∷ []) t
-    → Found at (b ∷ bytes) (Some t) 1
-single_stands at b n bytes t e s no40 no58 h =
-    subst (λ (m : ℕ). Found at (m ∷ bytes) (Some t) 1) (sym (eqb-true b n e))
-    (sign_stands at n bytes t s h (λ k. absurd (both_ways (n == 40) no40 (eq-eqb n 40 k)))
-    (λ k. absurd (both_ways (n == 58) no58 (eq-eqb n 58 k))))
+single_stands : (at n : ℕ) (bytes : List ℕ) (t : Token) → mem n signs ≡ true → (n == 40) ≡ false → (n == 58) ≡ false
+    → IsToken at (n ∷ []) t → Found at (n ∷ bytes) (Some t) 1
+single_stands at n bytes t s no40 no58 h =
+    sign_stands at n bytes t s h (λ k. absurd (both_ways (n == 40) no40 (eq-eqb n 40 k)))
+    (λ k. absurd (both_ways (n == 58) no58 (eq-eqb n 58 k)))
 
 delimiter_stands : (at b : ℕ) (bytes : List ℕ) → is_blank b ≡ false → is_name_start b ≡ false → is_ascii_digit b ≡ false
     → PieceStands at (b ∷ bytes) (delimiter_piece at b bytes)
 unfolding delimiter_piece
 delimiter_stands at b bytes dark begins digit =
-    let text : List ℕ = b ∷ bytes in
-    choose at text (b == 40) _ _
-    (λ e. subst (λ (n : ℕ). PieceStands at (n ∷ bytes) (open_piece at bytes)) (sym (eqb-true b 40 e))
-    (open_stands at bytes))
-    (λ n40.
-    choose at text (b == 47) _ _
-    (λ e. subst (λ (n : ℕ). PieceStands at (n ∷ bytes) (slash_piece bytes)) (sym (eqb-true b 47 e))
-    (slash_stands at bytes))
-    (λ n47.
-    choose at text (b == 46) _ _
-    (λ e. subst (λ (n : ℕ). PieceStands at (n ∷ bytes) (point_piece bytes)) (sym (eqb-true b 46 e))
-    (point_stands at bytes))
-    (λ n46.
-    choose at text (b == 58) _ _
-    (λ e. subst (λ (n : ℕ). PieceStands at (n ∷ bytes) (colon_piece bytes)) (sym (eqb-true b 58 e))
-    (colon_stands at bytes))
-    (λ n58.
-    choose at text (b == 59) _ _ (λ e. single_stands at b 59 bytes tok.Semicolon e refl refl refl refl) (λ n59.
-    choose at text (b == 44) _ _ (λ e. single_stands at b 44 bytes tok.Comma e refl refl refl refl) (λ n44.
-    choose at text (b == 41) _ _ (λ e. single_stands at b 41 bytes tok.Close e refl refl refl refl) (λ n41.
-    choose at text (b == 43) _ _ (λ e. single_stands at b 43 bytes tok.Plus e refl refl refl refl) (λ n43.
-    choose at text (b == 45) _ _ (λ e. single_stands at b 45 bytes tok.Minus e refl refl refl refl) (λ n45.
+    let text : ℕ → List ℕ = λ m. m ∷ bytes in
+    by_byte at 40 b text _ _ (open_stands at bytes) (λ n40.
+    by_byte at 47 b text _ _ (slash_stands at bytes) (λ n47.
+    by_byte at 46 b text _ _ (point_stands at bytes) (λ n46.
+    by_byte at 58 b text _ _ (colon_stands at bytes) (λ n58.
+    by_byte at 59 b text _ _ (single_stands at 59 bytes tok.Semicolon refl refl refl refl) (λ n59.
+    by_byte at 44 b text _ _ (single_stands at 44 bytes tok.Comma refl refl refl refl) (λ n44.
+    by_byte at 41 b text _ _ (single_stands at 41 bytes tok.Close refl refl refl refl) (λ n41.
+    by_byte at 43 b text _ _ (single_stands at 43 bytes tok.Plus refl refl refl refl) (λ n43.
+    by_byte at 45 b text _ _ (single_stands at 45 bytes tok.Minus refl refl refl refl) (λ n45.
     bad_stands b bytes dark begins digit (rw (n40, n41, n58, n59, n44, n43, n45) refl)
     (λ k. absurd (both_ways (b == 47) n47 (eq-eqb b 47 k)))
     (λ k. absurd (both_ways (b == 46) n46 (eq-eqb b 46 k))))))))))))

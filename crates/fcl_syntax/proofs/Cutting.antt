@@ -1,7 +1,7 @@
 -- The lexer's loop.
 use Rattle.std.proofs.Common.{◌≡◌, ℕ, zero, suc, ◌+◌, ◌<◌, ◌≤◌, Bool, true, false, eqb, List, [], ◌∷◌, ◌++◌, length}
 use Rattle.std.proofs.Common.{drop, Ok, Err, refl, sym, ap, ◌∙◌, append_assoc, arith}
-use Rattle.std.specs.List.{prefix_len}
+use Rattle.std.specs.{List.prefix_len, Prelude.◌||◌}
 use Rattle.std.proofs.lemmas.List.Folds.{length-prefix_len}
 use Rattle.std.proofs.lemmas.Bool.{eqb-true}
 use Rattle.std.proofs.lemmas.List.{append-nil, length-drop}
@@ -93,6 +93,10 @@ run_first p b bytes h =
     let len : run p (b ∷ bytes) ≡ prefix_len p (b ∷ bytes) = length-prefix_len p (b ∷ bytes) in
     let more : prefix_len p (b ∷ bytes) ≡ 1 + prefix_len p bytes = rw h refl in
     omega (arith, len, more)
+
+pub or_left : (x y : Bool) → x ≡ true → (x || y) ≡ true
+or_left true y e = refl
+or_left false y e = absurd cc
 
 pub positive : (n : ℕ) (r : Bool) → r ≡ eqb n 0 → r ≡ false → 0 < n
 positive zero r a b = absurd cc

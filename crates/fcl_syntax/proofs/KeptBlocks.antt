@@ -31,7 +31,7 @@ act_word_tree (inr at) = (act.Prod at, refl)
 act_tree : (a : TAct) → HasTree view_act a
 act_tree a =
     let found = act_word_tree a.word in
-    (record { at = a.at; word = found.0 }, λ i. record { at = a.at; word = found.1 i })
+    (record { at = a.at; word = found.0 }, λ i. record a { word = found.1 i })
 
 -- ---- variables
 
@@ -41,7 +41,7 @@ declaration_tree d h =
     let real = accepted (Unsupported 5) other_type_classes (word_text word.Real) d.type
     (clean_front (type_text d.type) (plain tok.Semicolon ∷ [])
     (clean_back (names_text d.names) rest h).1) in
-    (record { first = d.names.0; more = d.names.1; real = real.0 }, λ i. record { names = d.names; type = real.1 i })
+    (record { first = d.names.0; more = d.names.1; real = real.0 }, λ i. record d { type = real.1 i })
 
 variables_tree : (v : TVariables) → IsClean (variables_text v) → HasTree view_variables v
 variables_tree v h =
@@ -50,7 +50,7 @@ variables_tree v h =
     (clean_front (each declaration_text v.declarations) (key_text key.EndVar v.end)
     h.1) in (
       record { at = v.at; direction = v.direction; declarations = declarations.0; end = v.end },
-      λ i. record { at = v.at; direction = v.direction; declarations = declarations.1 i; end = v.end },
+      λ i. record v { declarations = declarations.1 i },
     )
 
 section_tree : (s : TSection) → IsClean (section_text s) → HasTree view_section s
@@ -66,7 +66,7 @@ weight_tree (inl w) h =
     (plain tok.Semicolon ∷ []) h.1) in
     let number = signed_number_tree found.0 in
     let is : inr (view_signed_number number.0) ≡ w.value = ap inr number.1 ∙ found.1 in
-    (Some (record { at = w.at; value = number.0 }), λ i. inl (record { at = w.at; value = is i }))
+    (Some (record { at = w.at; value = number.0 }), λ i. inl (record w { value = is i }))
 weight_tree (inr u) h = (None, refl)
 
 rule_tree : (r : TRule) → IsClean (rule_text r) → HasTree view_rule r
@@ -87,15 +87,7 @@ rule_tree r h =
         more = r.conclusions.1;
         weight = weight.0;
       },
-      λ i. record {
-        at = r.at;
-        label = r.label;
-        if_at = r.if_at;
-        condition = r.condition;
-        then_at = r.then_at;
-        conclusions = r.conclusions;
-        weight = weight.1 i;
-      },
+      λ i. record r { weight = weight.1 i },
     )
 
 rule_item_tree : (r : TRuleItem) → IsClean (rule_item_text r) → HasTree view_rule_item r
@@ -121,7 +113,7 @@ rulebase_tree r h =
     let rules = each_tree view_rule_item rule_item_text rule_item_tree r.rules
     (clean_front (each rule_item_text r.rules) (key_text key.EndRuleblock r.end) behind_lines) in (
       record { at = r.at; name = r.name; lines = lines.0; rules = rules.0; end = r.end },
-      λ i. record { at = r.at; name = r.name; lines = lines.1 i; rules = rules.1 i; end = r.end },
+      λ i. record r { lines = lines.1 i; rules = rules.1 i },
     )
 
 -- ---- blocks
@@ -145,14 +137,7 @@ block_tree b h =
     let rules = rulebase_tree b.rules (clean_front (rulebase_text b.rules) (end_text b.end) behind_parts) in
     let end = end_tree b.end (clean_back (rulebase_text b.rules) (end_text b.end) behind_parts) in (
       record { at = b.at; name = b.name; variables = variables.0; parts = parts.0; rules = rules.0; end = end.0 },
-      λ i. record {
-        at = b.at;
-        name = b.name;
-        variables = variables.1 i;
-        parts = parts.1 i;
-        rules = rules.1 i;
-        end = end.1 i;
-      },
+      λ i. record b { variables = variables.1 i; parts = parts.1 i; rules = rules.1 i; end = end.1 i },
     )
 
 -- ---- texts

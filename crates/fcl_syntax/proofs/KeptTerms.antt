@@ -43,20 +43,20 @@ setting_tree k w classes code s h =
     let found = accepted (Unsupported code) classes (word_text w) s.word
     (clean_front (or_refused (Unsupported code) classes (word_text w) s.word)
     (plain tok.Semicolon ∷ []) h.1.1) in
-    (record { at = s.at; word = found.0 }, λ i. record { at = s.at; word = found.1 i })
+    (record { at = s.at; word = found.0 }, λ i. record s { word = found.1 i })
 
 range_tree : (r : TRange) → HasTree view_range r
 range_tree r =
     let low = signed_number_tree r.low in
     let high = signed_number_tree r.high in (
       record { at = r.at; assigned = r.assigned; open_at = r.open_at; low = low.0; high = high.0 },
-      λ i. record { at = r.at; assigned = r.assigned; open_at = r.open_at; low = low.1 i; high = high.1 i },
+      λ i. record r { low = low.1 i; high = high.1 i },
     )
 
 fallback_tree : (d : TFallback) → HasTree view_fallback d
 fallback_tree d =
     let value = value_tree d.value in
-    (record { at = d.at; value = value.0 }, λ i. record { at = d.at; value = value.1 i })
+    (record { at = d.at; value = value.0 }, λ i. record d { value = value.1 i })
 
 -- the view of points, which are no tree of their own
 abbrev view_points : Point × List Point → TPoints
@@ -99,7 +99,7 @@ point_tree p h =
     (clean_front (degree_text p.degree) (plain tok.Close ∷ [])
     (clean_back front back h.1).1) in (
       record { open_at = p.open_at; x = x.0; degree = d.0 },
-      λ i. record { open_at = p.open_at; x = x.1 i; degree = d.1 i },
+      λ i. record p { x = x.1 i; degree = d.1 i },
     )
 
 points_tree : (x : TPoints) → IsClean (points_text x) → HasTree view_points x
@@ -117,7 +117,7 @@ term_tree t h =
     let found = points_tree t.points
     (clean_front (points_text t.points) (plain tok.Semicolon ∷ []) h.1.1.1) in (
       record { at = t.at; name = t.name; first = found.0.0; more = found.0.1 },
-      λ i. record { at = t.at; name = t.name; points = found.1 i },
+      λ i. record t { points = found.1 i },
     )
 
 fuzzy_line_tree : (l : TTerm ⊎ TRange) → IsClean (either_text term_text range_text l) → HasTree view_fuzzy_line l
@@ -130,7 +130,7 @@ fuzzify_tree f h =
     (clean_front (each (either_text term_text range_text) f.lines) (key_text key.EndFuzzify f.end)
     h.1.1) in (
       record { at = f.at; name = f.name; lines = lines.0; end = f.end },
-      λ i. record { at = f.at; name = f.name; lines = lines.1 i; end = f.end },
+      λ i. record f { lines = lines.1 i },
     )
 
 -- ---- outputs
@@ -142,7 +142,7 @@ singleton_tree s h =
     (plain tok.Semicolon ∷ []) h.1.1.1) in
     let value = signed_number_tree found.0 in
     let is : inr (view_signed_number value.0) ≡ s.value = ap inr value.1 ∙ found.1 in
-    (record { at = s.at; name = s.name; value = value.0 }, λ i. record { at = s.at; name = s.name; value = is i })
+    (record { at = s.at; name = s.name; value = value.0 }, λ i. record s { value = is i })
 
 defuzzy_line_tree : (l : TDefuzzyLine) → IsClean (defuzzy_line_text l) → HasTree view_defuzzy_line l
 defuzzy_line_tree (inl s) h = let found = singleton_tree s h in (defuzzy.Singleton found.0, ap inl found.1)
@@ -161,7 +161,7 @@ defuzzify_tree d h =
     let lines = each_tree view_defuzzy_line defuzzy_line_text defuzzy_line_tree d.lines
     (clean_front (each defuzzy_line_text d.lines) (key_text key.EndDefuzzify d.end) h.1.1) in (
       record { at = d.at; name = d.name; lines = lines.0; end = d.end },
-      λ i. record { at = d.at; name = d.name; lines = lines.1 i; end = d.end },
+      λ i. record d { lines = lines.1 i },
     )
 
 -- ---- parts

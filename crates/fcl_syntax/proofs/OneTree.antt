@@ -108,12 +108,7 @@ variables_undone =
     }) in
     record {
       back = λ v. record { at = v.at; direction = v.direction; declarations = each.back v.declarations; end = v.end };
-      is = λ v i. record {
-        at = v.at;
-        direction = v.direction;
-        declarations = each.is v.declarations i;
-        end = v.end;
-      };
+      is = λ v i. record v { declarations = each.is v.declarations i };
     }
 
 point_undone : IsUndone view_point
@@ -123,7 +118,7 @@ point_undone = record {
     x = signed_back (right_or number) p.x;
     degree = degree_back p.degree;
   };
-  is = λ p i. record { open_at = p.open_at; x = coordinate_is p.x i; degree = degree_is p.degree i };
+  is = λ p i. record p { x = coordinate_is p.x i; degree = degree_is p.degree i };
 }
 
 term_undone : IsUndone view_term
@@ -137,7 +132,7 @@ term_undone =
     record {
       back = λ t. let points = right_or (none, []) t.points in
           record { at = t.at; name = t.name; first = point_undone.back points.0; more = each.back points.1 };
-      is = λ t i. record { at = t.at; name = t.name; first = point_undone.is t.first i; more = each.is t.more i };
+      is = λ t i. record t { first = point_undone.is t.first i; more = each.is t.more i };
     }
 
 range_undone : IsUndone view_range
@@ -149,13 +144,7 @@ range_undone = record {
     low = signed_undone.back r.low;
     high = signed_undone.back r.high;
   };
-  is = λ r i. record {
-    at = r.at;
-    assigned = r.assigned;
-    open_at = r.open_at;
-    low = signed_undone.is r.low i;
-    high = signed_undone.is r.high i;
-  };
+  is = λ r i. record r { low = signed_undone.is r.low i; high = signed_undone.is r.high i };
 }
 
 abbrev fuzzy_line_back : TTerm ⊎ TRange → FuzzyLine
@@ -171,7 +160,7 @@ fuzzify_undone =
     let each = each_undone (record { back = fuzzy_line_back; is = fuzzy_line_is }) in
     record {
       back = λ f. record { at = f.at; name = f.name; lines = each.back f.lines; end = f.end };
-      is = λ f i. record { at = f.at; name = f.name; lines = each.is f.lines i; end = f.end };
+      is = λ f i. record f { lines = each.is f.lines i };
     }
 
 -- ---- outputs
@@ -182,7 +171,7 @@ setting_back s = record { at = s.at; word = right_or 0 s.word }
 singleton_undone : IsUndone view_singleton
 singleton_undone = record {
   back = λ s. record { at = s.at; name = s.name; value = signed_undone.back (right_or (bare number) s.value) };
-  is = λ s i. record { at = s.at; name = s.name; value = signed_undone.is s.value i };
+  is = λ s i. record s { value = signed_undone.is s.value i };
 }
 
 abbrev value_back : TSignedNumber ⊎ ℕ → FallbackValue
@@ -204,7 +193,7 @@ defuzzy_line_is : (l : DefuzzyLine) → defuzzy_line_back (view_defuzzy_line l) 
 defuzzy_line_is (defuzzy.Singleton s) = ap defuzzy.Singleton (singleton_undone.is s)
 defuzzy_line_is (defuzzy.Accu s) = refl
 defuzzy_line_is (defuzzy.Method s) = refl
-defuzzy_line_is (defuzzy.Default d) = λ i. defuzzy.Default (record { at = d.at; value = value_is d.value i })
+defuzzy_line_is (defuzzy.Default d) = λ i. defuzzy.Default (record d { value = value_is d.value i })
 defuzzy_line_is (defuzzy.Range r) = ap defuzzy.Range (range_undone.is r)
 
 defuzzify_undone : IsUndone view_defuzzify
@@ -212,7 +201,7 @@ defuzzify_undone =
     let each = each_undone (record { back = defuzzy_line_back; is = defuzzy_line_is }) in
     record {
       back = λ d. record { at = d.at; name = d.name; lines = each.back d.lines; end = d.end };
-      is = λ d i. record { at = d.at; name = d.name; lines = each.is d.lines i; end = d.end };
+      is = λ d i. record d { lines = each.is d.lines i };
     }
 
 -- ---- rules
@@ -223,7 +212,7 @@ weight_back (inr u) = None
 
 weight_is : (w : Option Weight) → weight_back (view_weight w) ≡ w
 weight_is None = refl
-weight_is (Some w) = λ i. Some (record { at = w.at; value = signed_undone.is w.value i })
+weight_is (Some w) = λ i. Some (record w { value = signed_undone.is w.value i })
 
 rule_undone : IsUndone view_rule
 rule_undone = record {
@@ -237,16 +226,7 @@ rule_undone = record {
     more = r.conclusions.1;
     weight = weight_back r.weight;
   };
-  is = λ r i. record {
-    at = r.at;
-    label = r.label;
-    if_at = r.if_at;
-    condition = r.condition;
-    then_at = r.then_at;
-    first = r.first;
-    more = r.more;
-    weight = weight_is r.weight i;
-  };
+  is = λ r i. record r { weight = weight_is r.weight i };
 }
 
 abbrev act_word_back : ℕ ⊎ ℕ → ActWord
@@ -266,7 +246,7 @@ rule_line_back (inr (inr (inr s))) = line.Accu (setting_back s)
 rule_line_is : (l : RuleLine) → rule_line_back (view_rule_line l) ≡ l
 rule_line_is (line.And s) = refl
 rule_line_is (line.Or s) = refl
-rule_line_is (line.Act a) = λ i. line.Act (record { at = a.at; word = act_word_is a.word i })
+rule_line_is (line.Act a) = λ i. line.Act (record a { word = act_word_is a.word i })
 rule_line_is (line.Accu s) = refl
 
 rulebase_undone : IsUndone view_rulebase
@@ -281,13 +261,7 @@ rulebase_undone =
         rules = rules.back r.rules;
         end = r.end;
       };
-      is = λ r i. record {
-        at = r.at;
-        name = r.name;
-        lines = lines.is r.lines i;
-        rules = rules.is r.rules i;
-        end = r.end;
-      };
+      is = λ r i. record r { lines = lines.is r.lines i; rules = rules.is r.rules i };
     }
 
 -- ---- blocks
@@ -315,14 +289,8 @@ back b = record {
 }
 
 back-view : (b : FunctionBlock) → back (view b) ≡ b
-back-view b = λ i. record {
-  at = b.at;
-  name = b.name;
-  variables = variables_kept.is b.variables i;
-  parts = parts_is b.parts i;
-  rules = rulebase_undone.is b.rules i;
-  end = b.end;
-}
+back-view b = λ i.
+    record b { variables = variables_kept.is b.variables i; parts = parts_is b.parts i; rules = rulebase_undone.is b.rules i }
 
 pub one_tree : (p q : FunctionBlock) → view p ≡ view q → p ≡ q
 one_tree p q e = sym (back-view p) ∙ ap back e ∙ back-view q

@@ -329,25 +329,15 @@ pub fn setting(
 pub fn accu(tokens: &[Token]) -> Result<(Setting, &[Token]), ParseError>
     ensures { Gives (λ x. (view_setting x.0, x.1.now)) result (accu_at tokens.now) }
 {
-    setting(
-        tokens,
-        Keyword::Accu,
-        Word::Max,
-        (Word::Bsum, Word::Nsum),
-        4,
-    )
+    let refused = (Word::Bsum, Word::Nsum);
+    setting(tokens, Keyword::Accu, Word::Max, refused, 4)
 }
 
 fn method(tokens: &[Token]) -> Result<(Setting, &[Token]), ParseError>
     ensures { Gives (λ x. (view_setting x.0, x.1.now)) result (method_at tokens.now) }
 {
-    setting(
-        tokens,
-        Keyword::Method,
-        Word::Cogs,
-        (Word::Centre, Word::Extreme),
-        1,
-    )
+    let refused = (Word::Centre, Word::Extreme);
+    setting(tokens, Keyword::Method, Word::Cogs, refused, 1)
 }
 
 // ---- DEFUZZIFY

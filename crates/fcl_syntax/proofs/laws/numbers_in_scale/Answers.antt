@@ -1,4 +1,4 @@
-use Rattle.fcl_syntax.proofs.Scale.{numbers_in_scale_lem}
+use Rattle.fcl_syntax.proofs.Offsets.{numbers_in_scale_lem}
 use Rattle.fcl_syntax.proofs.laws.numbers_in_scale.Goals as goal
 
 pub returns : goal.returns
