@@ -127,13 +127,10 @@ pub fn name(tokens: &[Token]) -> Result<(Name, &[Token]), ParseError>
     ensures { Gives (λ x. (x.0, x.1.now)) result (name_at tokens.now) }
 {
     match tokens {
-        [Token::Name(at, word), rest @ ..] => Ok((
-            Name {
-                at: *at,
-                word: *word,
-            },
-            rest,
-        )),
+        [Token::Name(at, word), rest @ ..] => {
+            let (at, word) = (*at, *word);
+            Ok((Name { at, word }, rest))
+        }
         _ => Err(fault(Kind::Expected, tokens)),
     }
 }
@@ -156,14 +153,10 @@ pub fn number(tokens: &[Token]) -> Result<(Number, &[Token]), ParseError>
     ensures { Gives (λ x. (x.0, x.1.now)) result (number_at tokens.now) }
 {
     match tokens {
-        [Token::Number(at, amount, whole), rest @ ..] => Ok((
-            Number {
-                at: *at,
-                amount: *amount,
-                whole: *whole,
-            },
-            rest,
-        )),
+        [Token::Number(at, amount, whole), rest @ ..] => {
+            let (at, amount, whole) = (*at, *amount, *whole);
+            Ok((Number { at, amount, whole }, rest))
+        }
         _ => Err(fault(Kind::Expected, tokens)),
     }
 }
@@ -200,13 +193,10 @@ pub fn zero_number(tokens: &[Token]) -> Result<(ZeroNumber, &[Token]), ParseErro
     ensures { Gives (λ x. (x.0, x.1.now)) result (zero_number_at tokens.now) }
 {
     match tokens {
-        [Token::Number(at, Amount::Zero, whole), rest @ ..] => Ok((
-            ZeroNumber {
-                at: *at,
-                whole: *whole,
-            },
-            rest,
-        )),
+        [Token::Number(at, Amount::Zero, whole), rest @ ..] => {
+            let (at, whole) = (*at, *whole);
+            Ok((ZeroNumber { at, whole }, rest))
+        }
         _ => Err(fault(Kind::Expected, tokens)),
     }
 }
@@ -217,13 +207,10 @@ pub fn label(tokens: &[Token]) -> Result<(Label, &[Token]), ParseError>
     ensures { Gives (λ x. (x.0, x.1.now)) result (label_at tokens.now) }
 {
     match tokens {
-        [Token::Number(at, amount, true), rest @ ..] => Ok((
-            Label {
-                at: *at,
-                amount: *amount,
-            },
-            rest,
-        )),
+        [Token::Number(at, amount, true), rest @ ..] => {
+            let (at, amount) = (*at, *amount);
+            Ok((Label { at, amount }, rest))
+        }
         _ => Err(fault(Kind::Expected, tokens)),
     }
 }
