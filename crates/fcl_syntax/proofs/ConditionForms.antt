@@ -19,7 +19,7 @@ use Rattle.fcl_syntax.proofs.{Form.disjoint, Form.Form, Ahead.Ahead, Ahead.ahead
 use Rattle.fcl_syntax.proofs.{Chains.bind_assoc, Chains.bind_cond, SingleTokens.name_single}
 use Rattle.fcl_syntax.proofs.{Dead.via, Dead.Dead, Dead.dead_or, Loop.texts, Repeat.then_rep, Seq.seq}
 use Rattle.fcl_syntax.proofs.Forms.{bare_form, key_form, open_form, name_form}
-use Rattle.fcl_syntax.proofs.Run.{takes_some}
+use Rattle.fcl_syntax.proofs.Run.{form_takes}
 use Rattle.fcl_syntax.proofs.Named.{Reads, named, either, in_left, in_right}
 
 -- ---- name IS [NOT] name
@@ -245,7 +245,8 @@ some_name = record { at = 0; word = word.Other }
 abbrev pub some_not : TNot
 some_not = is some_name 0 None some_name
 
-pub deep_cover : (y : Token) → mem (class_of y) opener_classes ≡ true → (x : (ℕ × TNot) ⊎ (ℕ × TOr)) × (deep_head x ≡ y)
+pub deep_cover : (y : Token) → mem (class_of y) opener_classes ≡ true → (x : (ℕ × TNot) ⊎ (ℕ × TOr)) ×
+    (deep_head x ≡ y)
 deep_cover (tok.Open at) h = (inr (at, or_of (and_of some_not no_nots) no_ands), refl)
 deep_cover (tok.Word at key.Not) h = (inl (at, some_not), refl)
 deep_cover (tok.Name at word.Real) h = absurd cc
@@ -304,7 +305,7 @@ part zero = record { form = last_form; goes = refl; text = λ t. refl; read = λ
 part (suc n) = next_part n (part n)
 
 pub conjuncts_take : (n : ℕ) → TakesSome (behind_key_in key.And (not_at n))
-conjuncts_take n = takes_some (behind_key_is key.And (inner n (part n)))
+conjuncts_take n = form_takes (behind_key_form key.And (inner n (part n)))
 
 pub alternatives_take : (n : ℕ) → TakesSome (behind_key_in key.Or (and_in (not_at n)))
-alternatives_take n = takes_some (behind_key_is key.Or (and_form n (part n)))
+alternatives_take n = form_takes (behind_key_form key.Or (and_form n (part n)))

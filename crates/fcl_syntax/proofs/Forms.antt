@@ -1,6 +1,6 @@
 -- The forms of variables, terms and ranges.
 use Rattle.std.proofs.Common.{◌≡◌, ℕ, true, List, [], ◌∷◌, ◌++◌, Ok, refl, ap, inl, inr, ◌⊎◌}
-use Rattle.fcl_syntax.specs.declared.{fault.Kind.TheVariants.Unsupported, terms.Sign.Sign}
+use Rattle.fcl_syntax.specs.declared.{terms.Sign.Sign}
 use Rattle.fcl_syntax.specs.declared.terms.Sign.TheVariants as sign
 use Rattle.fcl_syntax.specs.declared.token.Keyword.{Keyword}
 use Rattle.fcl_syntax.specs.declared.token.Keyword.TheVariants as key
@@ -16,14 +16,13 @@ use Rattle.fcl_syntax.specs.{Annotations.Sym, Annotations.plain, Readers.◌>>=�
 use Rattle.fcl_syntax.specs.Grammar.{behind, TSigned, plus, minus, bare}
 use Rattle.fcl_syntax.specs.Grammar.{signed_text, TSignedNumber, TType, TDeclaration, declaration_text}
 use Rattle.fcl_syntax.specs.Grammar.{TVariables, variables_text, var_classes, TSection, TCoordinate, TUnit, TZero}
-use Rattle.fcl_syntax.specs.Reading.{IsBare, token_at, behind_sign, sign_at, signed, signed_at, name_at}
-use Rattle.fcl_syntax.specs.Reading.{coordinate_number_at, unit_at, zero_at, comma_at, listed_at, type_at}
-use Rattle.fcl_syntax.specs.Reading.{declaration_at, variables_at, section_at}
+use Rattle.fcl_syntax.specs.Reading.{IsBare, token_at, behind_sign, sign_at, signed, signed_at, name_at, comma_at}
+use Rattle.fcl_syntax.specs.Reading.{listed_at, declaration_at, variables_at, section_at}
 use Rattle.fcl_syntax.proofs.Form.{disjoint, Form}
 use Rattle.fcl_syntax.proofs.Chains.{bind_assoc, bind_cond, bind_ret}
 use Rattle.fcl_syntax.proofs.SingleTokens as single
 use Rattle.fcl_syntax.proofs.{Dead.via, Loop.texts, Repeat.then_rep, Seq.seq, Small.Single, Small.one}
-use Rattle.fcl_syntax.proofs.Run.{takes_some}
+use Rattle.fcl_syntax.proofs.Run.{form_takes}
 use Rattle.fcl_syntax.proofs.Named.{Reads, named, either, refuse, many_then}
 
 -- ---- single tokens
@@ -109,31 +108,17 @@ module _ {A B : Type 0} (p : Form A) (q : Form B)
 abbrev pub signed_number_form : Form TSignedNumber
 signed_number_form = signed_form number_form number_form refl refl refl
 
-pub coordinate_number_is : Reads coordinate_number_at (refuse (Unsupported 10) name_classes number_form refl refl)
-unfolding coordinate_number_at
-coordinate_number_is = record { same = λ ts. refl }
-
 abbrev pub coordinate_number_form : Form TCoordinate
-coordinate_number_form = named coordinate_number_is
+coordinate_number_form = refuse 10 name_classes number_form refl refl
 
 abbrev pub coordinate_form : Form (TSigned TCoordinate TCoordinate)
 coordinate_form = signed_form coordinate_number_form coordinate_number_form refl refl refl
 
-pub unit_is : Reads unit_at (refuse (Unsupported 10) name_classes
-    (refuse (Unsupported 11) beyond_unit_classes unit_number_form refl refl) refl refl)
-unfolding unit_at
-unit_is = record { same = λ ts. refl }
-
 abbrev pub unit_form : Form TUnit
-unit_form = named unit_is
-
-pub zero_is : Reads zero_at (refuse (Unsupported 10) name_classes
-    (refuse (Unsupported 11) beyond_zero_classes zero_number_form refl refl) refl refl)
-unfolding zero_at
-zero_is = record { same = λ ts. refl }
+unit_form = refuse 10 name_classes (refuse 11 beyond_unit_classes unit_number_form refl refl) refl refl
 
 abbrev pub zero_form : Form TZero
-zero_form = named zero_is
+zero_form = refuse 10 name_classes (refuse 11 beyond_zero_classes zero_number_form refl refl) refl refl
 
 abbrev pub degree_form : Form (TSigned TUnit TZero)
 degree_form = signed_form unit_form zero_form refl refl refl
@@ -154,7 +139,8 @@ module _ {A : Type 0} (p : Form A) (apart : disjoint p.goes comma_classes ≡ tr
   behind_texts [] = refl
   behind_texts (a ∷ items) = ap (λ (l : List Sym). plain tok.Comma ∷ (p.text a ++ l)) (behind_texts items)
 
-  pub listed_same : (t : A × List A) → p.text t.0 ++ behind tok.Comma p.text t.1 ≡ p.text t.0 ++ texts comma_form t.1
+  pub listed_same : (t : A × List A) → p.text t.0 ++ behind tok.Comma p.text t.1 ≡ p.text t.0 ++ texts comma_form
+      t.1
   listed_same t = ap (λ (l : List Sym). p.text t.0 ++ l) (behind_texts t.1)
 
   pub listed_is : Reads (listed_at p.read) (via (then_rep p comma_form apart refl) (λ t. t) (λ t. t)
@@ -169,14 +155,10 @@ abbrev pub names_form : Form (Name × List Name)
 names_form = listed_form name_form refl
 
 pub names_take : TakesSome (comma_at name_at)
-names_take = takes_some (comma_is name_form refl)
-
-pub type_is : Reads type_at (refuse (Unsupported 5) other_type_classes (word_form word.Real) refl refl)
-unfolding type_at
-type_is = record { same = λ ts. refl }
+names_take = form_takes (comma_form name_form refl)
 
 abbrev pub type_form : Form TType
-type_form = named type_is
+type_form = refuse 5 other_type_classes (word_form word.Real) refl refl
 
 pub declaration_is : Reads declaration_at (via
     (seq names_form (seq (bare_form tok.Colon refl) (seq type_form (bare_form tok.Semicolon refl) refl) refl) refl)
@@ -188,6 +170,9 @@ declaration_is = record { same = λ ts. simp (bind_assoc) }
 abbrev pub declaration_form : Form TDeclaration
 declaration_form = named declaration_is
 
+pub declaration_take : TakesSome declaration_at
+declaration_take = form_takes declaration_form
+
 pub variables_is : Reads variables_at (via
     (seq direction_form (many_then declaration_form (key_form key.EndVar) refl refl refl) refl)
     (λ t. record { at = t.0.0; direction = t.0.1; declarations = t.1.0; end = t.1.1 })
@@ -198,9 +183,8 @@ variables_is = record { same = λ ts. simp (bind_assoc) }
 abbrev pub variables_form : Form TVariables
 variables_form = named variables_is
 
-pub section_is : Reads section_at (refuse (Unsupported 6) var_classes variables_form refl refl)
-unfolding section_at
-section_is = record { same = λ ts. refl }
-
 abbrev pub section_form : Form TSection
-section_form = named section_is
+section_form = refuse 6 var_classes variables_form refl refl
+
+pub section_take : TakesSome section_at
+section_take = form_takes section_form

@@ -1,8 +1,9 @@
 -- A form under another reader that answers the same, and choices with their classes worked out.
 use Rattle.std.proofs.Common.{◌≡◌, ℕ, Bool, true, false, cond, List, [], ◌++◌, refl, sym, ◌∙◌, ◌⊎◌}
-use Rattle.fcl_syntax.specs.declared.{fault.Kind.Kind, token.Token.Token}
+use Rattle.fcl_syntax.specs.declared.{fault.Kind.Kind, fault.Kind.TheVariants.Unsupported, token.Token.Token}
 use Rattle.fcl_syntax.specs.TokenClasses.{class_of, mem, Among}
 use Rattle.fcl_syntax.specs.{Annotations.refused_text, First.looks_on, Readers.Read}
+use Rattle.fcl_syntax.specs.Reading.{refusing, either_at}
 use Rattle.fcl_syntax.proofs.{Form.disjoint, Form.Form, Small.alt, Dead.Dead, Dead.dead_or}
 use Rattle.fcl_syntax.proofs.Repeat.{mem-append, many}
 
@@ -65,11 +66,24 @@ among_dead k classes here = record {
   here = here;
 }
 
-abbrev pub refuse : {A : Type 0} (k : Kind) (classes : List ℕ) (p : Form A) → looks_on k ≡ false
-    → disjoint classes p.first ≡ true → Form (Among classes ⊎ A)
-refuse k classes p here apart =
-    dead_or (among_dead k classes here) p apart (classes ++ p.first) (in_left classes p.first)
-    (in_right classes p.first)
+module _ {A : Type 0} (code : ℕ) (classes : List ℕ) (p : Form A) (here : looks_on (Unsupported code) ≡ false)
+    (apart : disjoint classes p.first ≡ true) where
+  pub refusing_is : Reads (refusing classes code p.read) (dead_or (among_dead (Unsupported code) classes here) p apart
+      (classes ++ p.first) (in_left classes p.first) (in_right classes p.first))
+  unfolding refusing
+  refusing_is = record { same = λ ts. refl }
+
+  abbrev pub refuse : Form (Among classes ⊎ A)
+  refuse = named refusing_is
+
+module _ {A B : Type 0} (p : Form A) (q : Form B) (apart : disjoint p.first q.first ≡ true) (same : p.goes ≡ q.goes)
+  where
+    pub either_is : Reads (either_at p.first p.read q.read) (either p q apart same)
+    unfolding either_at
+    either_is = record { same = λ ts. refl }
+
+    abbrev pub one_of : Form (A ⊎ B)
+    one_of = named either_is
 
 abbrev pub many_then : {A B : Type 0} (p : Form A) (q : Form B) → disjoint p.goes p.first ≡ true
     → disjoint p.goes q.first ≡ true

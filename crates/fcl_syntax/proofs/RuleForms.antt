@@ -1,6 +1,5 @@
 -- The forms of rules and of the block.
 use Rattle.std.proofs.Common.{◌≡◌, ℕ, true, List, [], ◌∷◌, refl, ◌⊎◌}
-use Rattle.fcl_syntax.specs.declared.fault.Kind.TheVariants.{Unsupported}
 use Rattle.fcl_syntax.specs.declared.token.Keyword.TheVariants as key
 use Rattle.fcl_syntax.specs.declared.token.Token.TheVariants as tok
 use Rattle.fcl_syntax.specs.declared.token.Word.TheVariants as word
@@ -10,15 +9,15 @@ use Rattle.fcl_syntax.specs.Grammar.{conclusion_text, TSignedNumber, TWeight, we
 use Rattle.fcl_syntax.specs.Grammar.{option_classes, TRuleItem, and_classes, or_classes, TAct, act_text, TRuleLine}
 use Rattle.fcl_syntax.specs.Grammar.{TRulebase, rulebase_text, ruleblock_classes, TEnd, TBlock, block_text}
 use Rattle.fcl_syntax.specs.Readers.{TakesSome}
-use Rattle.fcl_syntax.specs.Reading.{comma_at, conclusion_at, weight_value_at, with_at, weight_at, rule_at}
-use Rattle.fcl_syntax.specs.Reading.{rule_item_at, act_word_at, act_at, rule_line_at, rulebase_at, end_at, block_at}
+use Rattle.fcl_syntax.specs.Reading.{comma_at, conclusion_at, with_at, rule_at}
+use Rattle.fcl_syntax.specs.Reading.{rule_item_at, act_at, rule_line_at, rulebase_at, block_at}
 use Rattle.fcl_syntax.proofs.Form.{disjoint, Form}
 use Rattle.fcl_syntax.proofs.Chains.{bind_assoc}
 use Rattle.fcl_syntax.proofs.SingleTokens as single
-use Rattle.fcl_syntax.proofs.{Run.takes_some, ConditionForms.part, ConditionForms.or_form, Dead.via}
+use Rattle.fcl_syntax.proofs.{Run.form_takes, ConditionForms.part, ConditionForms.or_form, Dead.via}
 use Rattle.fcl_syntax.proofs.Forms.{bare_form, key_form, word_form, name_form, signed_number_form, section_form}
-use Rattle.fcl_syntax.proofs.Forms.{comma_is, listed_form, token_form}
-use Rattle.fcl_syntax.proofs.Named.{Reads, named, either, refuse, many_then}
+use Rattle.fcl_syntax.proofs.Forms.{comma_form, listed_form, token_form}
+use Rattle.fcl_syntax.proofs.Named.{Reads, one_of, named, refuse, many_then}
 use Rattle.fcl_syntax.proofs.{Seq.seq, TermForms.setting_form, TermForms.accu_form, TermForms.part_form}
 
 abbrev pub label_form : Form Label
@@ -39,14 +38,10 @@ abbrev pub conclusions_form : Form (Conclusion × List Conclusion)
 conclusions_form = listed_form conclusion_form refl
 
 pub conclusions_take : TakesSome (comma_at conclusion_at)
-conclusions_take = takes_some (comma_is conclusion_form refl)
-
-pub weight_value_is : Reads weight_value_at (refuse (Unsupported 15) name_classes signed_number_form refl refl)
-unfolding weight_value_at
-weight_value_is = record { same = λ ts. refl }
+conclusions_take = form_takes (comma_form conclusion_form refl)
 
 abbrev pub weight_value_form : Form (Among name_classes ⊎ TSignedNumber)
-weight_value_form = named weight_value_is
+weight_value_form = refuse 15 name_classes signed_number_form refl refl
 
 pub with_is : Reads with_at (via
     (seq (key_form key.With) (seq weight_value_form (bare_form tok.Semicolon refl) refl) refl)
@@ -57,12 +52,8 @@ with_is = record { same = λ ts. simp (bind_assoc) }
 abbrev pub with_form : Form TWeight
 with_form = named with_is
 
-pub weight_is : Reads weight_at (either with_form (bare_form tok.Semicolon refl) refl refl)
-unfolding weight_at
-weight_is = record { same = λ ts. refl }
-
 abbrev pub weight_form : Form (TWeight ⊎ Unit {0})
-weight_form = named weight_is
+weight_form = one_of with_form (bare_form tok.Semicolon refl) refl refl
 
 -- ---- rules
 
@@ -73,7 +64,8 @@ pub condition_apart : disjoint condition_form.goes (keyword_class key.Then ∷ [
 condition_apart = rw (part 64).goes refl
 
 pub rule_is : Reads rule_at (via (seq (key_form key.Rule) (seq label_form (seq (bare_form tok.Colon refl)
-    (seq (key_form key.If) (seq condition_form (seq (key_form key.Then) (seq conclusions_form weight_form refl) refl)
+    (seq (key_form key.If) (seq condition_form (seq (key_form key.Then) (seq conclusions_form weight_form refl)
+    refl)
     condition_apart) refl) refl) refl) refl)
     (λ t. record {
       at = t.0;
@@ -92,21 +84,16 @@ rule_is = record { same = λ ts. simp (bind_assoc) }
 abbrev pub rule_form : Form TRule
 rule_form = named rule_is
 
-pub rule_item_is : Reads rule_item_at (refuse (Unsupported 7) option_classes rule_form refl refl)
-unfolding rule_item_at
-rule_item_is = record { same = λ ts. refl }
-
 abbrev pub rule_item_form : Form TRuleItem
-rule_item_form = named rule_item_is
+rule_item_form = refuse 7 option_classes rule_form refl refl
+
+pub rule_item_take : TakesSome rule_item_at
+rule_item_take = form_takes rule_item_form
 
 -- ---- the lines before the rules
 
-pub act_word_is : Reads act_word_at (either (word_form word.Min) (word_form word.Prod) refl refl)
-unfolding act_word_at
-act_word_is = record { same = λ ts. refl }
-
 abbrev pub act_word_form : Form (ℕ ⊎ ℕ)
-act_word_form = named act_word_is
+act_word_form = one_of (word_form word.Min) (word_form word.Prod) refl refl
 
 pub act_is : Reads act_at (via
     (seq (key_form key.Act)
@@ -118,14 +105,13 @@ act_is = record { same = λ ts. simp (bind_assoc) }
 abbrev pub act_form : Form TAct
 act_form = named act_is
 
-pub rule_line_is : Reads rule_line_at (either (setting_form key.And word.Min and_classes 2 refl refl)
-    (either (setting_form key.Or word.Max or_classes 3 refl refl)
-    (either act_form accu_form refl refl) refl refl) refl refl)
-unfolding rule_line_at
-rule_line_is = record { same = λ ts. refl }
-
 abbrev pub rule_line_form : Form TRuleLine
-rule_line_form = named rule_line_is
+rule_line_form = one_of (setting_form key.And word.Min and_classes 2 refl refl)
+    (one_of (setting_form key.Or word.Max or_classes 3 refl refl) (one_of act_form accu_form refl refl) refl refl)
+    refl refl
+
+pub rule_line_take : TakesSome rule_line_at
+rule_line_take = form_takes rule_line_form
 
 -- ---- RULEBLOCK
 
@@ -141,13 +127,8 @@ rulebase_form = named rulebase_is
 
 -- ---- the block
 
-pub end_is : Reads end_at (refuse (Unsupported 7) option_classes
-    (refuse (Unsupported 8) ruleblock_classes (key_form key.EndFunctionBlock) refl refl) refl refl)
-unfolding end_at
-end_is = record { same = λ ts. refl }
-
 abbrev pub end_form : Form TEnd
-end_form = named end_is
+end_form = refuse 7 option_classes (refuse 8 ruleblock_classes (key_form key.EndFunctionBlock) refl refl) refl refl
 
 pub block_is : Reads block_at (via (seq (key_form key.FunctionBlock) (seq name_form (many_then section_form
     (many_then part_form (seq rulebase_form end_form refl) refl refl refl) refl refl refl) refl) refl)

@@ -5,8 +5,8 @@ use Rattle.std.proofs.lemmas.List.{append-nil, length-append, map_push}
 use Rattle.fcl_syntax.specs.declared.{fault.Fault.Fault, fault.ParseError.ParseError}
 use Rattle.fcl_syntax.specs.declared.fault.ParseError.TheVariants as errors
 use Rattle.fcl_syntax.specs.{declared.token.Token.Token, Annotations.tokens_of}
-use Rattle.fcl_syntax.specs.Readers.{Read, TakesSome, ◌>>=◌, starts, with_front, loop, FailsAs}
-use Rattle.fcl_syntax.proofs.{Form.Starts, Form.Form, Named.Reads}
+use Rattle.fcl_syntax.specs.Readers.{TakesSome, ◌>>=◌, starts, with_front, loop, FailsAs}
+use Rattle.fcl_syntax.proofs.{Form.Starts, Form.Form}
 
 abbrev pub prefixed : {A : Type 0} → List A → Result (List A × List Token) Fault → Result (List A × List Token) Fault
 prefixed front r = r >>= λ x. Ok (front ++ x.0, x.1)
@@ -101,5 +101,5 @@ pushed view first read items more x ts after total is begins h shorter g =
     rw e (goes_on first read (map view items) ts (view x) after total begins h shorter g)
 
 -- what reads as a form takes a token at least
-pub takes_some : {A : Type 0} {read : List Token → Read A} {p : Form A} → Reads read p → TakesSome read
-takes_some {p = p} is = record { shrinks = λ ts a rest h. shrinks p ts a rest (sym (is.same ts) ∙ h) }
+pub form_takes : {A : Type 0} (p : Form A) → TakesSome p.read
+form_takes p = record { shrinks = shrinks p }

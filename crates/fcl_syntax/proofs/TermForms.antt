@@ -11,13 +11,14 @@ use Rattle.fcl_syntax.specs.Grammar.{TSignedNumber, TPoint, point_text, TPoints,
 use Rattle.fcl_syntax.specs.Grammar.{opening_text, TFuzzify, fuzzify_text, TSetting, setting_text, accu_classes, TAccu}
 use Rattle.fcl_syntax.specs.Grammar.{method_classes, TMethod, TSingleton, singleton_text, TFallback, fallback_text}
 use Rattle.fcl_syntax.specs.Grammar.{TDefuzzyLine, TDefuzzify, defuzzify_text, option_classes, TPart}
-use Rattle.fcl_syntax.specs.Reading.{open_at, point_at, some_points_at, points_at, term_at, opening_at, range_at}
-use Rattle.fcl_syntax.specs.Reading.{fuzzy_line_at, fuzzify_at, choice_at, setting_at, singleton_value_at}
-use Rattle.fcl_syntax.specs.Reading.{singleton_at, fallback_value_at, fallback_at, defuzzy_line_at, defuzzify_at}
+use Rattle.fcl_syntax.specs.Reading.{open_at, point_at, some_points_at, term_at, opening_at, range_at, fuzzy_line_at}
+use Rattle.fcl_syntax.specs.Reading.{fuzzify_at, setting_at, singleton_at, fallback_at, defuzzy_line_at, defuzzify_at}
 use Rattle.fcl_syntax.specs.Reading.{part_at}
 use Rattle.fcl_syntax.proofs.{Form.disjoint, Form.Form, Dead.via, Repeat.then_rep, Seq.seq}
 use Rattle.fcl_syntax.proofs.Chains.{bind_assoc, bind_cond}
-use Rattle.fcl_syntax.proofs.Named.{Reads, named, either, refuse, many_then}
+use Rattle.fcl_syntax.specs.Readers.{TakesSome}
+use Rattle.fcl_syntax.proofs.Run.{form_takes}
+use Rattle.fcl_syntax.proofs.Named.{Reads, one_of, named, either, refuse, many_then}
 use Rattle.fcl_syntax.proofs.Forms.{bare_form, key_form, word_form, open_form, name_form, signed_number_form}
 use Rattle.fcl_syntax.proofs.Forms.{coordinate_form, degree_form}
 
@@ -33,6 +34,9 @@ point_is = record { same = λ ts. simp (bind_assoc) }
 abbrev pub point_form : Form TPoint
 point_form = named point_is
 
+pub point_take : TakesSome point_at
+point_take = form_takes point_form
+
 pub some_points_is : Reads some_points_at (then_rep point_form point_form refl refl)
 unfolding some_points_at
 some_points_is = record { same = λ ts. refl }
@@ -40,12 +44,8 @@ some_points_is = record { same = λ ts. refl }
 abbrev pub some_points_form : Form (TPoint × List TPoint)
 some_points_form = named some_points_is
 
-pub points_is : Reads points_at (refuse (Unsupported 14) signed_classes some_points_form refl refl)
-unfolding points_at
-points_is = record { same = λ ts. refl }
-
 abbrev pub points_form : Form TPoints
-points_form = named points_is
+points_form = refuse 14 signed_classes some_points_form refl refl
 
 pub term_is : Reads term_at (via (seq (key_form key.Term) (seq name_form (seq (bare_form tok.Assign refl)
     (seq points_form (bare_form tok.Semicolon refl) refl) refl) refl) refl)
@@ -102,12 +102,11 @@ range_form = named range_is
 
 -- ---- FUZZIFY
 
-pub fuzzy_line_is : Reads fuzzy_line_at (either term_form range_form refl refl)
-unfolding fuzzy_line_at
-fuzzy_line_is = record { same = λ ts. refl }
-
 abbrev pub fuzzy_line_form : Form (TTerm ⊎ TRange)
-fuzzy_line_form = named fuzzy_line_is
+fuzzy_line_form = one_of term_form range_form refl refl
+
+pub fuzzy_line_take : TakesSome fuzzy_line_at
+fuzzy_line_take = form_takes fuzzy_line_form
 
 pub fuzzify_is : Reads fuzzify_at (via (seq (key_form key.Fuzzify)
     (seq name_form (many_then fuzzy_line_form (key_form key.EndFuzzify) refl refl refl) refl) refl)
@@ -123,12 +122,8 @@ fuzzify_form = named fuzzify_is
 
 module _ (k : Keyword) (w : Word) (classes : List ℕ) (code : ℕ) (here : looks_on (Unsupported code) ≡ false)
     (apart : disjoint classes (word_class w ∷ []) ≡ true) where
-  pub choice_is : Reads (choice_at w classes code) (refuse (Unsupported code) classes (word_form w) here apart)
-  unfolding choice_at
-  choice_is = record { same = λ ts. refl }
-
   abbrev pub choice_form : Form (Among classes ⊎ ℕ)
-  choice_form = named choice_is
+  choice_form = refuse code classes (word_form w) here apart
 
   pub setting_is : Reads (setting_at k w classes code) (via
       (seq (key_form k)
@@ -149,13 +144,8 @@ method_form = setting_form key.Method word.Cogs method_classes 1 refl refl
 
 -- ---- DEFUZZIFY
 
-pub singleton_value_is : Reads singleton_value_at
-    (refuse (Unsupported 13) open_classes signed_number_form refl refl)
-unfolding singleton_value_at
-singleton_value_is = record { same = λ ts. refl }
-
 abbrev pub singleton_value_form : Form (Among open_classes ⊎ TSignedNumber)
-singleton_value_form = named singleton_value_is
+singleton_value_form = refuse 13 open_classes signed_number_form refl refl
 
 pub singleton_is : Reads singleton_at (via (seq (key_form key.Term) (seq name_form (seq (bare_form tok.Assign refl)
     (seq singleton_value_form (bare_form tok.Semicolon refl) refl) refl) refl) refl)
@@ -167,12 +157,8 @@ singleton_is = record { same = λ ts. simp (bind_assoc) }
 abbrev pub singleton_form : Form TSingleton
 singleton_form = named singleton_is
 
-pub fallback_value_is : Reads fallback_value_at (either signed_number_form (word_form word.Nc) refl refl)
-unfolding fallback_value_at
-fallback_value_is = record { same = λ ts. refl }
-
 abbrev pub fallback_value_form : Form (TSignedNumber ⊎ ℕ)
-fallback_value_form = named fallback_value_is
+fallback_value_form = one_of signed_number_form (word_form word.Nc) refl refl
 
 pub fallback_is : Reads fallback_at (via (seq (key_form key.Default) (seq (bare_form tok.Assign refl)
     (seq fallback_value_form (bare_form tok.Semicolon refl) refl) refl) refl)
@@ -184,13 +170,12 @@ fallback_is = record { same = λ ts. simp (bind_assoc) }
 abbrev pub fallback_form : Form TFallback
 fallback_form = named fallback_is
 
-pub defuzzy_line_is : Reads defuzzy_line_at (either singleton_form (either accu_form
-    (either method_form (either fallback_form range_form refl refl) refl refl) refl refl) refl refl)
-unfolding defuzzy_line_at
-defuzzy_line_is = record { same = λ ts. refl }
-
 abbrev pub defuzzy_line_form : Form TDefuzzyLine
-defuzzy_line_form = named defuzzy_line_is
+defuzzy_line_form = one_of singleton_form (one_of accu_form (one_of method_form
+    (one_of fallback_form range_form refl refl) refl refl) refl refl) refl refl
+
+pub defuzzy_line_take : TakesSome defuzzy_line_at
+defuzzy_line_take = form_takes defuzzy_line_form
 
 pub defuzzify_is : Reads defuzzify_at (via (seq (key_form key.Defuzzify)
     (seq name_form (many_then defuzzy_line_form (key_form key.EndDefuzzify) refl refl refl) refl) refl)
@@ -204,10 +189,8 @@ defuzzify_form = named defuzzify_is
 
 -- ---- both
 
-pub part_is : Reads part_at
-    (refuse (Unsupported 7) option_classes (either fuzzify_form defuzzify_form refl refl) refl refl)
-unfolding part_at
-part_is = record { same = λ ts. refl }
-
 abbrev pub part_form : Form TPart
-part_form = named part_is
+part_form = refuse 7 option_classes (one_of fuzzify_form defuzzify_form refl refl) refl refl
+
+pub part_take : TakesSome part_at
+part_take = form_takes part_form

@@ -39,14 +39,14 @@ abbrev pub refuse_at : {A : Type 0} → ℕ → List Token → Read A
 refuse_at code ts = Err (fault_at (Unsupported code) (length ts))
 
 -- what is read, where one of the classes is refused
-abbrev pub refusing : {A : Type 0} → (classes : List ℕ) → ℕ → (List Token → Read A) → List Token
+unfoldable pub refusing : {A : Type 0} → (classes : List ℕ) → ℕ → (List Token → Read A) → List Token
     → Read (Among classes ⊎ A)
 refusing classes code read ts = cond_read (starts classes ts) (refuse_at code ts) (do
   x ← read ts
   Ok (inr x.0, x.1))
 
 -- one where the classes are next, and else the other
-abbrev pub either_at : {A B : Type 0} → List ℕ → (List Token → Read A) → (List Token → Read B) → List Token
+unfoldable pub either_at : {A B : Type 0} → List ℕ → (List Token → Read A) → (List Token → Read B) → List Token
     → Read (A ⊎ B)
 either_at classes one other ts = cond_read (starts classes ts) (do
   x ← one ts
@@ -184,17 +184,17 @@ signed_at f g ts = do
 abbrev pub signed_number_at : List Token → Read TSignedNumber
 signed_number_at = signed_at number_at number_at
 
-unfoldable pub coordinate_number_at : List Token → Read TCoordinate
-coordinate_number_at ts = refusing name_classes 10 number_at ts
+abbrev pub coordinate_number_at : List Token → Read TCoordinate
+coordinate_number_at = refusing name_classes 10 number_at
 
 abbrev pub coordinate_at : List Token → Read (TSigned TCoordinate TCoordinate)
 coordinate_at = signed_at coordinate_number_at coordinate_number_at
 
-unfoldable pub unit_at : List Token → Read TUnit
-unit_at ts = refusing name_classes 10 (refusing beyond_unit_classes 11 unit_number_at) ts
+abbrev pub unit_at : List Token → Read TUnit
+unit_at = refusing name_classes 10 (refusing beyond_unit_classes 11 unit_number_at)
 
-unfoldable pub zero_at : List Token → Read TZero
-zero_at ts = refusing name_classes 10 (refusing beyond_zero_classes 11 zero_number_at) ts
+abbrev pub zero_at : List Token → Read TZero
+zero_at = refusing name_classes 10 (refusing beyond_zero_classes 11 zero_number_at)
 
 abbrev pub degree_at : List Token → Read (TSigned TUnit TZero)
 degree_at = signed_at unit_at zero_at
@@ -218,8 +218,8 @@ abbrev pub names_at : List Token → Read (Name × List Name)
 names_at = listed_at name_at
 
 -- REAL, by its offset
-unfoldable pub type_at : List Token → Read TType
-type_at ts = refusing other_type_classes 5 (word_at word.Real) ts
+abbrev pub type_at : List Token → Read TType
+type_at = refusing other_type_classes 5 (word_at word.Real)
 
 unfoldable pub declaration_at : List Token → Read TDeclaration
 declaration_at ts = do
@@ -239,8 +239,8 @@ variables_at ts = do
   e ← key_at key.EndVar ds.1
   Ok (record { at = v.0.0; direction = v.0.1; declarations = ds.0; end = e.0 }, e.1)
 
-unfoldable pub section_at : List Token → Read TSection
-section_at ts = refusing var_classes 6 variables_at ts
+abbrev pub section_at : List Token → Read TSection
+section_at = refusing var_classes 6 variables_at
 
 abbrev pub sections_at : List Token → Read (List TSection)
 sections_at ts = loop section_classes section_at (length ts) ts
@@ -262,8 +262,8 @@ some_points_at ts = do
   more ← loop open_classes point_at (length p.1) p.1
   Ok ((p.0, more.0), more.1)
 
-unfoldable pub points_at : List Token → Read TPoints
-points_at ts = refusing signed_classes 14 some_points_at ts
+abbrev pub points_at : List Token → Read TPoints
+points_at = refusing signed_classes 14 some_points_at
 
 unfoldable pub term_at : List Token → Read TTerm
 term_at ts = do
@@ -293,8 +293,8 @@ range_at ts = do
   s ← expect_at tok.Semicolon c.1
   Ok (record { at = r.0; assigned = o.0.0; open_at = o.0.1; low = l.0; high = h.0 }, s.1)
 
-unfoldable pub fuzzy_line_at : List Token → Read (TTerm ⊎ TRange)
-fuzzy_line_at ts = either_at (keyword_class key.Term ∷ []) term_at range_at ts
+abbrev pub fuzzy_line_at : List Token → Read (TTerm ⊎ TRange)
+fuzzy_line_at = either_at (keyword_class key.Term ∷ []) term_at range_at
 
 abbrev pub fuzzy_lines_at : List Token → Read (List (TTerm ⊎ TRange))
 fuzzy_lines_at ts = loop fuzzy_line_classes fuzzy_line_at (length ts) ts
@@ -309,8 +309,8 @@ fuzzify_at ts = do
 
 -- ---- terms of an output
 
-unfoldable pub choice_at : Word → (classes : List ℕ) → ℕ → List Token → Read (Among classes ⊎ ℕ)
-choice_at w classes code ts = refusing classes code (word_at w) ts
+abbrev pub choice_at : Word → (classes : List ℕ) → ℕ → List Token → Read (Among classes ⊎ ℕ)
+choice_at w classes code = refusing classes code (word_at w)
 
 unfoldable pub setting_at : Keyword → Word → (classes : List ℕ) → ℕ → List Token → Read (TSetting classes)
 setting_at k w classes code ts = do
@@ -326,8 +326,8 @@ accu_at = setting_at key.Accu word.Max accu_classes 4
 abbrev pub method_at : List Token → Read TMethod
 method_at = setting_at key.Method word.Cogs method_classes 1
 
-unfoldable pub singleton_value_at : List Token → Read (Among open_classes ⊎ TSignedNumber)
-singleton_value_at ts = refusing open_classes 13 signed_number_at ts
+abbrev pub singleton_value_at : List Token → Read (Among open_classes ⊎ TSignedNumber)
+singleton_value_at = refusing open_classes 13 signed_number_at
 
 unfoldable pub singleton_at : List Token → Read TSingleton
 singleton_at ts = do
@@ -338,8 +338,8 @@ singleton_at ts = do
   s ← expect_at tok.Semicolon v.1
   Ok (record { at = t.0; name = n.0; value = v.0 }, s.1)
 
-unfoldable pub fallback_value_at : List Token → Read (TSignedNumber ⊎ ℕ)
-fallback_value_at ts = either_at signed_classes signed_number_at (word_at word.Nc) ts
+abbrev pub fallback_value_at : List Token → Read (TSignedNumber ⊎ ℕ)
+fallback_value_at = either_at signed_classes signed_number_at (word_at word.Nc)
 
 unfoldable pub fallback_at : List Token → Read TFallback
 fallback_at ts = do
@@ -349,10 +349,10 @@ fallback_at ts = do
   s ← expect_at tok.Semicolon v.1
   Ok (record { at = d.0; value = v.0 }, s.1)
 
-unfoldable pub defuzzy_line_at : List Token → Read TDefuzzyLine
-defuzzy_line_at ts = either_at (keyword_class key.Term ∷ []) singleton_at (either_at (keyword_class key.Accu ∷ []) accu_at
+abbrev pub defuzzy_line_at : List Token → Read TDefuzzyLine
+defuzzy_line_at = either_at (keyword_class key.Term ∷ []) singleton_at (either_at (keyword_class key.Accu ∷ []) accu_at
     (either_at (keyword_class key.Method ∷ []) method_at
-    (either_at (keyword_class key.Default ∷ []) fallback_at range_at))) ts
+    (either_at (keyword_class key.Default ∷ []) fallback_at range_at)))
 
 abbrev pub defuzzy_lines_at : List Token → Read (List TDefuzzyLine)
 defuzzy_lines_at ts = loop defuzzy_line_classes defuzzy_line_at (length ts) ts
@@ -365,8 +365,8 @@ defuzzify_at ts = do
   e ← key_at key.EndDefuzzify ls.1
   Ok (record { at = d.0; name = n.0; lines = ls.0; end = e.0 }, e.1)
 
-unfoldable pub part_at : List Token → Read TPart
-part_at ts = refusing option_classes 7 (either_at (keyword_class key.Fuzzify ∷ []) fuzzify_at defuzzify_at) ts
+abbrev pub part_at : List Token → Read TPart
+part_at = refusing option_classes 7 (either_at (keyword_class key.Fuzzify ∷ []) fuzzify_at defuzzify_at)
 
 abbrev pub parts_at : List Token → Read (List TPart)
 parts_at ts = loop part_classes part_at (length ts) ts
@@ -442,8 +442,8 @@ conclusion_at ts = do
 abbrev pub conclusions_at : List Token → Read (Conclusion × List Conclusion)
 conclusions_at = listed_at conclusion_at
 
-unfoldable pub weight_value_at : List Token → Read (Among name_classes ⊎ TSignedNumber)
-weight_value_at ts = refusing name_classes 15 signed_number_at ts
+abbrev pub weight_value_at : List Token → Read (Among name_classes ⊎ TSignedNumber)
+weight_value_at = refusing name_classes 15 signed_number_at
 
 unfoldable pub with_at : List Token → Read TWeight
 with_at ts = do
@@ -452,8 +452,8 @@ with_at ts = do
   s ← expect_at tok.Semicolon v.1
   Ok (record { at = w.0; value = v.0 }, s.1)
 
-unfoldable pub weight_at : List Token → Read (TWeight ⊎ Unit {0})
-weight_at ts = either_at (keyword_class key.With ∷ []) with_at (expect_at tok.Semicolon) ts
+abbrev pub weight_at : List Token → Read (TWeight ⊎ Unit {0})
+weight_at = either_at (keyword_class key.With ∷ []) with_at (expect_at tok.Semicolon)
 
 unfoldable pub rule_at : List Token → Read TRule
 rule_at ts = do
@@ -470,14 +470,14 @@ rule_at ts = do
     w.1,
   )
 
-unfoldable pub rule_item_at : List Token → Read TRuleItem
-rule_item_at ts = refusing option_classes 7 rule_at ts
+abbrev pub rule_item_at : List Token → Read TRuleItem
+rule_item_at = refusing option_classes 7 rule_at
 
 abbrev pub rules_at : List Token → Read (List TRuleItem)
 rules_at ts = loop rule_item_classes rule_item_at (length ts) ts
 
-unfoldable pub act_word_at : List Token → Read (ℕ ⊎ ℕ)
-act_word_at ts = either_at (word_class word.Min ∷ []) (word_at word.Min) (word_at word.Prod) ts
+abbrev pub act_word_at : List Token → Read (ℕ ⊎ ℕ)
+act_word_at = either_at (word_class word.Min ∷ []) (word_at word.Min) (word_at word.Prod)
 
 unfoldable pub act_at : List Token → Read TAct
 act_at ts = do
@@ -487,10 +487,10 @@ act_at ts = do
   s ← expect_at tok.Semicolon w.1
   Ok (record { at = a.0; word = w.0 }, s.1)
 
-unfoldable pub rule_line_at : List Token → Read TRuleLine
-rule_line_at ts = either_at (keyword_class key.And ∷ []) (setting_at key.And word.Min and_classes 2)
+abbrev pub rule_line_at : List Token → Read TRuleLine
+rule_line_at = either_at (keyword_class key.And ∷ []) (setting_at key.And word.Min and_classes 2)
     (either_at (keyword_class key.Or ∷ []) (setting_at key.Or word.Max or_classes 3)
-    (either_at (keyword_class key.Act ∷ []) act_at accu_at)) ts
+    (either_at (keyword_class key.Act ∷ []) act_at accu_at))
 
 abbrev pub rule_lines_at : List Token → Read (List TRuleLine)
 rule_lines_at ts = loop rule_line_classes rule_line_at (length ts) ts
@@ -504,8 +504,8 @@ rulebase_at ts = do
   e ← key_at key.EndRuleblock rs.1
   Ok (record { at = b.0; name = n.0; lines = ls.0; rules = rs.0; end = e.0 }, e.1)
 
-unfoldable pub end_at : List Token → Read TEnd
-end_at ts = refusing option_classes 7 (refusing ruleblock_classes 8 (key_at key.EndFunctionBlock)) ts
+abbrev pub end_at : List Token → Read TEnd
+end_at = refusing option_classes 7 (refusing ruleblock_classes 8 (key_at key.EndFunctionBlock))
 
 unfoldable pub block_at : List Token → Read TBlock
 block_at ts = do

@@ -12,7 +12,7 @@ use crate::tree::{FunctionBlock, Part, Variables};
 use std::alloc::Global;
 
 // END_FUNCTION_BLOCK, where OPTION and RULEBLOCK are refused.
-#[tactic(auto, unfolding(crate::specs::Reading::end_at))]
+#[tactic(auto, unfolding(crate::specs::Reading::refusing))]
 fn end(tokens: &[Token]) -> Result<(u32, &[Token]), ParseError>
     ensures { Gives (λ x. (inr (inr x.0), x.1.now)) result (end_at tokens.now) }
 {
@@ -25,7 +25,7 @@ fn end(tokens: &[Token]) -> Result<(u32, &[Token]), ParseError>
     keyword(tokens, Keyword::EndFunctionBlock)
 }
 
-#[tactic(auto, unfolding(crate::specs::Reading::block_at), using(crate::proofs::Run::takes_some, crate::proofs::Forms::section_is, crate::proofs::TermForms::part_is))]
+#[tactic(auto, unfolding(crate::specs::Reading::block_at), using(crate::proofs::Forms::section_take, crate::proofs::TermForms::part_take))]
 fn block(alloc: Global, tokens: &[Token]) -> Result<(FunctionBlock, &[Token]), ParseError>
     ensures { Gives (λ x. (view x.0, x.1.now)) result (block_at tokens.now) }
 {

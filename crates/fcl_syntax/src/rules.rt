@@ -77,7 +77,7 @@ fn conclusions(
 }
 
 // The number behind WITH, where a name is refused.
-#[tactic(auto, unfolding(crate::specs::Reading::weight_value_at))]
+#[tactic(auto, unfolding(crate::specs::Reading::refusing))]
 fn weight_value(tokens: &[Token]) -> Result<(SignedNumber, &[Token]), ParseError>
     ensures { Gives (λ x. (inr (view_signed_number x.0), x.1.now)) result (weight_value_at tokens.now) }
 {
@@ -99,7 +99,7 @@ fn with(tokens: &[Token]) -> Result<(Weight, &[Token]), ParseError>
 }
 
 // [WITH signed_number] ";"
-#[tactic(auto, unfolding(crate::specs::Reading::weight_at))]
+#[tactic(auto, unfolding(crate::specs::Reading::either_at))]
 fn weight(tokens: &[Token]) -> Result<(Option<Weight>, &[Token]), ParseError>
     ensures { Gives (λ x. (view_weight x.0, x.1.now)) result (weight_at tokens.now) }
 {
@@ -152,7 +152,7 @@ impl Repeated for Rule {
         is_keyword(tokens, Keyword::Options) || is_keyword(tokens, Keyword::Rule)
     }
 
-    #[tactic(auto, unfolding(crate::specs::Reading::rule_item_at))]
+    #[tactic(auto, unfolding(crate::specs::Reading::refusing))]
     fn next(alloc: Global, tokens: &[Token]) -> Result<(Rule, &[Token]), ParseError> {
         if is_keyword(tokens, Keyword::Options) {
             return Err(fault(Kind::Unsupported(7), tokens));
@@ -164,7 +164,7 @@ impl Repeated for Rule {
 // ---- the lines before the rules
 
 // MIN | PROD
-#[tactic(auto, unfolding(crate::specs::Reading::act_word_at))]
+#[tactic(auto, unfolding(crate::specs::Reading::either_at))]
 fn act_word(tokens: &[Token]) -> Result<(ActWord, &[Token]), ParseError>
     ensures { Gives (λ x. (view_act_word x.0, x.1.now)) result (act_word_at tokens.now) }
 {
@@ -216,7 +216,7 @@ impl Repeated for RuleLine {
             || is_keyword(tokens, Keyword::Accu)
     }
 
-    #[tactic(auto, unfolding(crate::specs::Reading::rule_line_at))]
+    #[tactic(auto, unfolding(crate::specs::Reading::either_at))]
     fn next(alloc: Global, tokens: &[Token]) -> Result<(RuleLine, &[Token]), ParseError> {
         if is_keyword(tokens, Keyword::And) {
             let (line, rest) = and_line(tokens)?;
@@ -235,7 +235,7 @@ impl Repeated for RuleLine {
     }
 }
 
-#[tactic(auto, unfolding(crate::specs::Reading::rulebase_at), using(crate::proofs::Run::takes_some, crate::proofs::RuleForms::rule_line_is, crate::proofs::RuleForms::rule_item_is))]
+#[tactic(auto, unfolding(crate::specs::Reading::rulebase_at), using(crate::proofs::RuleForms::rule_line_take, crate::proofs::RuleForms::rule_item_take))]
 pub fn rulebase(alloc: Global, tokens: &[Token]) -> Result<(Rulebase, &[Token]), ParseError>
     ensures { Gives (λ x. (view_rulebase x.0, x.1.now)) result (rulebase_at tokens.now) }
 {

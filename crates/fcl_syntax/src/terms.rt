@@ -74,7 +74,7 @@ pub fn signed_number(tokens: &[Token]) -> Result<(SignedNumber, &[Token]), Parse
 }
 
 // A number of a point, where a name is refused.
-#[tactic(auto, unfolding(crate::specs::Reading::coordinate_number_at))]
+#[tactic(auto, unfolding(crate::specs::Reading::refusing))]
 fn coordinate_number(tokens: &[Token]) -> Result<(Number, &[Token]), ParseError>
     ensures { Gives (λ x. (inr x.0, x.1.now)) result (coordinate_number_at tokens.now) }
 {
@@ -94,7 +94,7 @@ fn coordinate(tokens: &[Token]) -> Result<(SignedNumber, &[Token]), ParseError>
 }
 
 // 0 or 1, where a name and another number are refused.
-#[tactic(auto, unfolding(crate::specs::Reading::unit_at))]
+#[tactic(auto, unfolding(crate::specs::Reading::refusing))]
 fn zero_or_one(tokens: &[Token]) -> Result<(UnitNumber, &[Token]), ParseError>
     ensures { Gives (λ x. (inr (inr x.0), x.1.now)) result (unit_at tokens.now) }
 {
@@ -108,7 +108,7 @@ fn zero_or_one(tokens: &[Token]) -> Result<(UnitNumber, &[Token]), ParseError>
 }
 
 // 0 behind a minus sign, where a name and another number are refused.
-#[tactic(auto, unfolding(crate::specs::Reading::zero_at))]
+#[tactic(auto, unfolding(crate::specs::Reading::refusing))]
 fn zero(tokens: &[Token]) -> Result<(ZeroNumber, &[Token]), ParseError>
     ensures { Gives (λ x. (inr (inr x.0), x.1.now)) result (zero_at tokens.now) }
 {
@@ -167,7 +167,7 @@ impl Repeated for Point {
     }
 }
 
-#[tactic(auto, unfolding(crate::specs::Reading::some_points_at), using(crate::proofs::Run::takes_some, crate::proofs::TermForms::point_is))]
+#[tactic(auto, unfolding(crate::specs::Reading::some_points_at), using(crate::proofs::TermForms::point_take))]
 fn some_points(
     alloc: Global,
     tokens: &[Token],
@@ -181,7 +181,7 @@ fn some_points(
 }
 
 // The points of a term, where a number and a sign are refused.
-#[tactic(auto, unfolding(crate::specs::Reading::points_at))]
+#[tactic(auto, unfolding(crate::specs::Reading::refusing))]
 fn points(alloc: Global, tokens: &[Token]) -> Result<((Point, List<Point>), &[Token]), ParseError>
     ensures { Gives (λ x. (inr (view_point x.0.0, map view_point x.0.1), x.1.now)) result (points_at tokens.now) }
 {
@@ -260,7 +260,7 @@ impl Repeated for FuzzyLine {
         is_keyword(tokens, Keyword::Term) || is_keyword(tokens, Keyword::Range)
     }
 
-    #[tactic(auto, unfolding(crate::specs::Reading::fuzzy_line_at))]
+    #[tactic(auto, unfolding(crate::specs::Reading::either_at))]
     fn next(alloc: Global, tokens: &[Token]) -> Result<(FuzzyLine, &[Token]), ParseError> {
         if is_keyword(tokens, Keyword::Term) {
             let (term, rest) = term(alloc, tokens)?;
@@ -271,7 +271,7 @@ impl Repeated for FuzzyLine {
     }
 }
 
-#[tactic(auto, unfolding(crate::specs::Reading::fuzzify_at), using(crate::proofs::Run::takes_some, crate::proofs::TermForms::fuzzy_line_is))]
+#[tactic(auto, unfolding(crate::specs::Reading::fuzzify_at), using(crate::proofs::TermForms::fuzzy_line_take))]
 fn fuzzify(alloc: Global, tokens: &[Token]) -> Result<(Fuzzify, &[Token]), ParseError>
     ensures { Gives (λ x. (view_fuzzify x.0, x.1.now)) result (fuzzify_at tokens.now) }
 {
@@ -291,7 +291,7 @@ fn fuzzify(alloc: Global, tokens: &[Token]) -> Result<(Fuzzify, &[Token]), Parse
 // ---- settings
 
 // A word, where two others are refused, with this code.
-#[tactic(auto, unfolding(crate::specs::Reading::choice_at))]
+#[tactic(auto, unfolding(crate::specs::Reading::refusing))]
 fn choice(
     tokens: &[Token],
     wanted: Word,
@@ -343,7 +343,7 @@ fn method(tokens: &[Token]) -> Result<(Setting, &[Token]), ParseError>
 // ---- DEFUZZIFY
 
 // The number of a singleton, where "(" is refused.
-#[tactic(auto, unfolding(crate::specs::Reading::singleton_value_at))]
+#[tactic(auto, unfolding(crate::specs::Reading::refusing))]
 fn singleton_value(tokens: &[Token]) -> Result<(SignedNumber, &[Token]), ParseError>
     ensures { Gives (λ x. (inr (view_signed_number x.0), x.1.now)) result (singleton_value_at tokens.now) }
 {
@@ -366,7 +366,7 @@ fn singleton(tokens: &[Token]) -> Result<(Singleton, &[Token]), ParseError>
 }
 
 // signed_number | NC
-#[tactic(auto, unfolding(crate::specs::Reading::fallback_value_at))]
+#[tactic(auto, unfolding(crate::specs::Reading::either_at))]
 fn fallback_value(tokens: &[Token]) -> Result<(FallbackValue, &[Token]), ParseError>
     ensures { Gives (λ x. (view_value x.0, x.1.now)) result (fallback_value_at tokens.now) }
 {
@@ -406,7 +406,7 @@ impl Repeated for DefuzzyLine {
             || is_keyword(tokens, Keyword::Range)
     }
 
-    #[tactic(auto, unfolding(crate::specs::Reading::defuzzy_line_at))]
+    #[tactic(auto, unfolding(crate::specs::Reading::either_at))]
     fn next(alloc: Global, tokens: &[Token]) -> Result<(DefuzzyLine, &[Token]), ParseError> {
         if is_keyword(tokens, Keyword::Term) {
             let (line, rest) = singleton(tokens)?;
@@ -429,7 +429,7 @@ impl Repeated for DefuzzyLine {
     }
 }
 
-#[tactic(auto, unfolding(crate::specs::Reading::defuzzify_at), using(crate::proofs::Run::takes_some, crate::proofs::TermForms::defuzzy_line_is))]
+#[tactic(auto, unfolding(crate::specs::Reading::defuzzify_at), using(crate::proofs::TermForms::defuzzy_line_take))]
 fn defuzzify(alloc: Global, tokens: &[Token]) -> Result<(Defuzzify, &[Token]), ParseError>
     ensures { Gives (λ x. (view_defuzzify x.0, x.1.now)) result (defuzzify_at tokens.now) }
 {
@@ -464,7 +464,7 @@ impl Repeated for Part {
             || is_keyword(tokens, Keyword::Defuzzify)
     }
 
-    #[tactic(auto, unfolding(crate::specs::Reading::part_at))]
+    #[tactic(auto, unfolding(crate::specs::Reading::refusing, crate::specs::Reading::either_at))]
     fn next(alloc: Global, tokens: &[Token]) -> Result<(Part, &[Token]), ParseError> {
         if is_keyword(tokens, Keyword::Options) {
             return Err(fault(Kind::Unsupported(7), tokens));

@@ -46,7 +46,7 @@ fn names(alloc: Global, tokens: &[Token]) -> Result<((Name, List<Name>), &[Token
     Ok(((first, more), rest))
 }
 
-#[tactic(auto, unfolding(crate::specs::Reading::type_at))]
+#[tactic(auto, unfolding(crate::specs::Reading::refusing))]
 fn real(tokens: &[Token]) -> Result<(u32, &[Token]), ParseError>
     ensures { Gives (λ x. (inr x.0, x.1.now)) result (type_at tokens.now) }
 {
@@ -79,7 +79,7 @@ impl Repeated for Declaration {
     }
 }
 
-#[tactic(auto, unfolding(crate::specs::Reading::variables_at), using(crate::proofs::Run::takes_some, crate::proofs::Forms::declaration_is))]
+#[tactic(auto, unfolding(crate::specs::Reading::variables_at), using(crate::proofs::Forms::declaration_take))]
 fn variables(alloc: Global, tokens: &[Token]) -> Result<(Variables, &[Token]), ParseError>
     ensures { Gives (λ x. (view_variables x.0, x.1.now)) result (variables_at tokens.now) }
 {
@@ -111,7 +111,7 @@ impl Repeated for Variables {
             || is_keyword(tokens, Keyword::VarOutput)
     }
 
-    #[tactic(auto, unfolding(crate::specs::Reading::section_at))]
+    #[tactic(auto, unfolding(crate::specs::Reading::refusing))]
     fn next(alloc: Global, tokens: &[Token]) -> Result<(Variables, &[Token]), ParseError> {
         if is_keyword(tokens, Keyword::Var) {
             return Err(fault(Kind::Unsupported(6), tokens));
