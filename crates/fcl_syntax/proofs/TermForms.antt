@@ -11,7 +11,7 @@ use Rattle.fcl_syntax.specs.Grammar.{TSignedNumber, TPoint, point_text, TPoints,
 use Rattle.fcl_syntax.specs.Grammar.{opening_text, TFuzzify, fuzzify_text, TSetting, setting_text, accu_classes, TAccu}
 use Rattle.fcl_syntax.specs.Grammar.{method_classes, TMethod, TSingleton, singleton_text, TFallback, fallback_text}
 use Rattle.fcl_syntax.specs.Grammar.{TDefuzzyLine, TDefuzzify, defuzzify_text, option_classes, TPart}
-use Rattle.fcl_syntax.specs.Reading.{open_at, point_at, some_points_at, term_at, opening_at, range_at, fuzzy_line_at}
+use Rattle.fcl_syntax.specs.Reading.{point_at, some_points_at, term_at, opening_at, range_at, fuzzy_line_at}
 use Rattle.fcl_syntax.specs.Reading.{fuzzify_at, setting_at, singleton_at, fallback_at, defuzzy_line_at, defuzzify_at}
 use Rattle.fcl_syntax.specs.Reading.{part_at}
 use Rattle.fcl_syntax.proofs.{Form.disjoint, Form.Form, Dead.via, Repeat.then_rep, Seq.seq}
