@@ -289,8 +289,11 @@ back b = record {
 }
 
 back-view : (b : FunctionBlock) → back (view b) ≡ b
-back-view b = λ i.
-    record b { variables = variables_kept.is b.variables i; parts = parts_is b.parts i; rules = rulebase_undone.is b.rules i }
+back-view b = λ i. record b {
+  variables = variables_kept.is b.variables i;
+  parts = parts_is b.parts i;
+  rules = rulebase_undone.is b.rules i;
+}
 
 pub one_tree : (p q : FunctionBlock) → view p ≡ view q → p ≡ q
 one_tree p q e = sym (back-view p) ∙ ap back e ∙ back-view q
