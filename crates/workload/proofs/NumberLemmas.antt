@@ -1,8 +1,8 @@
 -- The texts of numbers are read as these numbers.
 use Rattle.std.proofs.Common.{arith, ◌≡◌, ◌<◌, ◌≤◌, ◌+◌, ◌-◌, ◌*◌, ◌/◌, ◌%◌, ◌^◌, ℕ, zero, suc, Bool, true, false, List}
-use Rattle.std.proofs.Common.{[], ◌∷◌, ◌++◌, length, take, drop, refl, sym, ap, subst, ◌∙◌, Result, Ok, Err, pos, ℤ}
+use Rattle.std.proofs.Common.{[], ◌∷◌, ◌++◌, length, take, drop, refl, ap, ◌∙◌, Result, Ok, Err, pos, ℤ}
 use Rattle.std.proofs.Common.{Some, None}
-use Rattle.std.specs.Prelude.{◌&&◌, ◌||◌, ◌==◌, not, nat_lt, nat_le, if◌then◌else◌, fold}
+use Rattle.std.specs.Prelude.{◌&&◌, ◌||◌, ◌==◌, not, nat_lt, nat_le, if◌then◌else◌, fold, slice_index}
 use Rattle.std.specs.Fmt.{decimal as digits}
 use Rattle.std.specs.List.{list_all, position_or_len, before_first, after_first}
 use Rattle.std.specs.Str.Parse.{AllDigits, digits_value_after}
@@ -10,20 +10,19 @@ use Rattle.std.specs.Char.{digit_value}
 use Rattle.std.proofs.lemmas.Bool.{and_parts}
 use Rattle.std.proofs.lemmas.Bool.Decides.{nat_tests}
 use Rattle.std.proofs.lemmas.Fmt.{decimal_is_IsNumeral, length-decimal-le}
-use Rattle.std.proofs.lemmas.List.{append-nil}
 use Rattle.std.proofs.lemmas.List.Sums.{fold-append}
 use Rattle.std.proofs.lemmas.Str.{digit_value_digit}
 use Rattle.std.proofs.lemmas.Str.Parse.{digit_from_value}
-use Rattle.std.proofs.Math.ListN.{drop_of_length-le}
 use Rattle.std.proofs.Math.Seq.{drop-append-add, take-append_seam}
 use Rattle.fz_num.specs.Decimals.{are_digits, decimal, four_places, has_four_places, is_digit, is_negative}
 use Rattle.fz_num.specs.Decimals.{is_numeral, is_point, magnitude, next_number, number, signed, without_sign}
 use Rattle.fz_num.specs.declared.{dec.Dec.Dec, dec.DecFault.DecFault}
 use Rattle.fz_num.specs.declared.dec.DecFault.TheVariants.{Shape, Places, Large}
-use Rattle.hex.specs.Hex.{IsBytes, decode_sized, encode_upper, upper_digits}
+use Rattle.hex.specs.Hex.{IsBytes, decode_sized, encode_upper, encode_with, upper_digits}
 use Rattle.hex.proofs.HexLemmas.{decode_of-encode_upper, decode_sized-twice, length-encode_with}
 use Rattle.interrupt_plan.specs.Rows.{byte_of, count_of, the_write, word_of, write_of}
-use Rattle.workload.specs.Texts.{decimal_text}
+use Rattle.workload.specs.Texts.{decimal_text, last_digit}
+use Rattle.workload.proofs.RowLemmas.{are_plain, is_plain}
 
 -- ---- digits
 
@@ -100,12 +99,6 @@ point_behind (c ∷ cs) ps h =
     let parts = and_parts (is_digit c) (list_all is_digit cs) h in
     rw (other_than_point c parts.0) (omega (arith, point_behind cs ps parts.1))
 
-no_point : (ds : List ℕ) → list_all is_digit ds ≡ true → position_or_len is_point ds ≡ length ds
-no_point [] h = refl
-no_point (c ∷ cs) h =
-    let parts = and_parts (is_digit c) (list_all is_digit cs) h in
-    rw (other_than_point c parts.0) (omega (arith, no_point cs parts.1))
-
 -- a text of digits, and places behind a point or none
 record Parts (text units places : List ℕ) : Type 0 where
   before : before_first is_point text ≡ units
@@ -159,34 +152,6 @@ decimal-decimal_text n small =
     fold-append next_number 0 units places ∙ (omega (arith, whole)) in
     parts_decimal (decimal_text n) units places n (unsigned_text units (46 ∷ places) are) parts numeral refl size small
 
--- digits alone are a whole number
-pub decimal-digits : (n : ℕ) → n ≤ 100000 → decimal (digits n) ≡ Ok (record { 0 = pos (n * 10000) })
-decimal-digits n small =
-    let units = digits n in
-    let are = digits_are n (omega arith) in
-    let all = (and_parts (nat_lt 0 (length units)) (list_all is_digit units) are).1 in
-    let at = no_point units all in
-    let parts : Parts units units [] = record {
-      before = ap (λ (k : ℕ). take k units) at ∙ take-all (length units) units refl;
-      after = ap (λ (k : ℕ). drop (k + 1) units) at ∙ drop_of_length-le units (omega arith);
-    } in
-    let numeral : is_numeral units ≡ true =
-    both _ _ (ap are_digits parts.before ∙ are)
-    (left _ _ (ap (λ (k : ℕ). nat_le (length units) k) at ∙ grind (arith, nat_tests))) in
-    let whole = number-digits n (omega arith) in
-    let size : number (units ++ (48 ∷ 48 ∷ 48 ∷ 48 ∷ [])) ≡ n * 10000 =
-    fold-append next_number 0 units (48 ∷ 48 ∷ 48 ∷ 48 ∷ []) ∙ (omega (arith, whole)) in
-    parts_decimal units units [] (n * 10000) (subst IsUnsigned (append-nil units) (unsigned_text units [] are)) parts
-    numeral refl size (omega arith)
-  where
-    left : (a b : Bool) → a ≡ true → (a || b) ≡ true
-    left true b h = refl
-    left false b h = absurd cc
-
-    take-all : (k : ℕ) (xs : List ℕ) → length xs ≡ k → take k xs ≡ xs
-    take-all k xs h =
-        sym (ap (λ (j : ℕ). take j xs) h) ∙ ap (take (length xs)) (sym (append-nil xs)) ∙ take-append_seam xs []
-
 -- ---- the fields of a plan
 
 pub count_of-digits : (n : ℕ) → n < 1000000000 → count_of (digits n) ≡ Some n
@@ -194,6 +159,10 @@ count_of-digits n small =
     let few = length-decimal-le 9 n (omega arith) (omega arith) (omega arith) in
     let short : nat_le (length (digits n)) 9 ≡ true = grind (arith, nat_tests, few) in
     (λ i. if short i && digits_are n (omega arith) i then Some (number-digits n (omega arith) i) else None)
+
+bytes_of_one : (b : ℕ) → b < 256 → IsBytes (b ∷ [])
+bytes_of_one b h zero = h
+bytes_of_one b h (suc k) = omega arith
 
 bytes_of_two : (h l : ℕ) → h < 256 → l < 256 → IsBytes (h ∷ l ∷ [])
 bytes_of_two h l a b zero = a
@@ -215,7 +184,50 @@ write_of-encoded at value word byte =
     let whole : at / 256 * 256 + at % 256 ≡ at = omega arith in
     (λ i. the_write (word_of (address i)) (byte_of (written i)))
     ∙ ap (λ (a : ℕ). Some (record { at = a; value = value })) whole
-  where
-    bytes_of_one : (b : ℕ) → b < 256 → IsBytes (b ∷ [])
-    bytes_of_one b h zero = h
-    bytes_of_one b h (suc k) = omega arith
+
+-- ---- no field needs quotes
+
+plain_append : (cs ds : List ℕ) → are_plain cs ≡ true → are_plain ds ≡ true → are_plain (cs ++ ds) ≡ true
+plain_append [] ds h k = k
+plain_append (c ∷ cs) ds h k =
+    let parts = and_parts _ (are_plain cs) h in both _ _ parts.0 (plain_append cs ds parts.1 k)
+
+plain_all : (ds : List ℕ) → list_all is_digit ds ≡ true → are_plain ds ≡ true
+plain_all [] h = refl
+plain_all (c ∷ cs) h =
+    let parts = and_parts (is_digit c) (list_all is_digit cs) h in
+    let digit = parts.0 in
+    both _ _ (grind (arith, nat_tests, digit)) (plain_all cs parts.1)
+
+pub digits_are_plain : (n : ℕ) → n < 2 ^ 32 → are_plain (digits n) ≡ true
+digits_are_plain n small =
+    plain_all (digits n) (and_parts (nat_lt 0 (length (digits n))) (list_all is_digit (digits n))
+    (digits_are n (omega arith))).1
+
+pub decimal_is_plain : (n : ℕ) → n < 2 ^ 32 → are_plain (decimal_text n) ≡ true
+decimal_is_plain n small =
+    let units = digits (n / 10000) in
+    let places = last_digit (n / 1000) ∷ last_digit (n / 100) ∷ last_digit (n / 10) ∷ last_digit n ∷ [] in
+    plain_append units (46 ∷ places) (digits_are_plain (n / 10000) (omega arith))
+    (plain_all places (and_parts (nat_lt 0 (length places)) (list_all is_digit places)
+    (four_digits (n / 1000 % 10) (n / 100 % 10) (n / 10 % 10) (n % 10) (omega arith) (omega arith) (omega arith)
+    (omega arith))).1)
+
+plain_at : (cs : List ℕ) (k : ℕ) → are_plain cs ≡ true → k < length cs → is_plain (slice_index cs k) ≡ true
+plain_at [] k h lt = absurd (omega arith)
+plain_at (c ∷ cs) zero h lt = (and_parts (is_plain c) (are_plain cs) h).0
+plain_at (c ∷ cs) (suc k) h lt = plain_at cs k (and_parts (is_plain c) (are_plain cs) h).1 (omega arith)
+
+encoded_is_plain : (bytes : List ℕ) → IsBytes bytes → are_plain (encode_upper bytes) ≡ true
+unfolding encode_with
+encoded_is_plain [] h = refl
+encoded_is_plain (b ∷ bytes) h =
+    let small : b < 256 = h zero in
+    both _ _ (plain_at upper_digits (b / 16) refl (omega (arith, small)))
+    (both _ _ (plain_at upper_digits (b % 16) refl (omega arith)) (encoded_is_plain bytes (λ i. h (suc i))))
+
+pub encoded_byte_is_plain : (b : ℕ) → b < 256 → are_plain (encode_upper (b ∷ [])) ≡ true
+encoded_byte_is_plain b h = encoded_is_plain (b ∷ []) (bytes_of_one b h)
+
+pub encoded_word_is_plain : (h l : ℕ) → h < 256 → l < 256 → are_plain (encode_upper (h ∷ l ∷ [])) ≡ true
+encoded_word_is_plain h l a b = encoded_is_plain (h ∷ l ∷ []) (bytes_of_two h l a b)

@@ -1,7 +1,7 @@
 -- Rows that are written are the first rows of their text.
 use Rattle.std.proofs.Common.{arith, ◌≡◌, ◌≤◌, ◌+◌, ◌*◌, ℕ, suc, true, false, List, [], ◌∷◌, ◌++◌, length, get_or, refl}
-use Rattle.std.proofs.Common.{sym, ap, subst, ◌∙◌, inl, inr, length-append}
-use Rattle.std.specs.Prelude.{◌==◌, flat_map, nat_lt}
+use Rattle.std.proofs.Common.{sym, ap, subst, ◌∙◌, inl, inr, append_assoc, length-append}
+use Rattle.std.specs.Prelude.{◌&&◌, ◌==◌, Bool, flat_map, nat_le, nat_lt}
 use Rattle.std.specs.List.{list_all, list_any}
 use Rattle.std.proofs.lemmas.Bool.{and_parts, cases_Bool}
 use Rattle.std.proofs.lemmas.Bool.Decides.{nat_tests}
@@ -185,3 +185,65 @@ four_length f g h k =
       length-append c (44 ∷ (d ++ [])),
       length-append d [],
     )
+
+-- ---- rows whose fields need no quotes
+
+-- a digit, a point or a capital up to F
+abbrev pub is_plain : ℕ → Bool
+is_plain c = nat_le 46 c && nat_le c 70
+
+abbrev pub are_plain : List ℕ → Bool
+are_plain cs = list_all is_plain cs
+
+unquoted_byte : (c : ℕ) → is_plain c ≡ true → needs_byte default_writer c ≡ false
+unquoted_byte c h =
+    let comma : (c == 44) ≡ false = grind (arith, nat_tests, h) in
+    let quote : (c == 34) ≡ false = grind (arith, nat_tests, h) in
+    let return : (c == 13) ≡ false = grind (arith, nat_tests, h) in
+    let feed : (c == 10) ≡ false = grind (arith, nat_tests, h) in
+    rw (comma, quote, return, feed) refl
+
+unquoted : (f : List ℕ) → are_plain f ≡ true → list_any (needs_byte default_writer) f ≡ false
+unquoted [] h = refl
+unquoted (c ∷ cs) h =
+    let parts = and_parts (is_plain c) (are_plain cs) h in rw (unquoted_byte c parts.0) (unquoted cs parts.1)
+
+abbrev pub joined : List ℕ → Fields → List ℕ
+joined f [] = f ++ (10 ∷ [])
+joined f (g ∷ gs) = f ++ (44 ∷ joined g gs)
+
+fields_ended : (f : List ℕ) (gs : Fields) → list_all are_plain gs ≡ true
+    → (f ++ fields_text default_writer gs) ++ (10 ∷ []) ≡ joined f gs
+unfolding fields_text
+fields_ended f [] h = append_assoc f [] (10 ∷ [])
+fields_ended f (g ∷ gs) h =
+    let parts = and_parts (are_plain g) (list_all are_plain gs) h in
+    rw (unquoted g parts.0)
+    (append_assoc f (44 ∷ (g ++ fields_text default_writer gs)) (10 ∷ [])
+    ∙ ap (λ (l : List ℕ). f ++ (44 ∷ l)) (fields_ended g gs parts.1))
+
+row_text-plain : (f g : List ℕ) (gs : Fields) → are_plain f ≡ true → list_all are_plain (g ∷ gs) ≡ true
+    → row_text default_writer (f ∷ g ∷ gs) ≡ joined f (g ∷ gs)
+unfolding is_blank
+row_text-plain f g gs p ps = rw (unquoted f p) (fields_ended f (g ∷ gs) ps)
+
+-- a field with its comma, and what stands behind them
+then : (text f rest more : List ℕ) → more ≡ text ++ (f ++ (44 ∷ [])) → more ++ rest ≡ text ++ (f ++ (44 ∷ rest))
+then text f rest more is =
+    ap (λ (l : List ℕ). l ++ rest) is ∙ append_assoc text (f ++ (44 ∷ [])) rest
+    ∙ ap (λ (l : List ℕ). text ++ l) (append_assoc f (44 ∷ []) rest)
+
+pub pair_written : (f g t t1 t2 : List ℕ) → are_plain f ≡ true → are_plain g ≡ true
+    → t1 ≡ t ++ (f ++ (44 ∷ [])) → t2 ≡ t1 ++ (g ++ (10 ∷ [])) → t2 ≡ t ++ row_text default_writer (f ∷ g ∷ [])
+pair_written f g t t1 t2 p q e1 e2 =
+    e2 ∙ then t f (g ++ (10 ∷ [])) t1 e1
+    ∙ ap (λ (l : List ℕ). t ++ l) (sym (row_text-plain f g [] p (rw q refl)))
+
+pub four_written : (f g h k t t1 t2 t3 t4 : List ℕ) → are_plain f ≡ true → are_plain g ≡ true → are_plain h ≡ true
+    → are_plain k ≡ true → t1 ≡ t ++ (f ++ (44 ∷ [])) → t2 ≡ t1 ++ (g ++ (44 ∷ [])) → t3 ≡ t2 ++ (h ++ (44 ∷ []))
+    → t4 ≡ t3 ++ (k ++ (10 ∷ [])) → t4 ≡ t ++ row_text default_writer (f ∷ g ∷ h ∷ k ∷ [])
+four_written f g h k t t1 t2 t3 t4 pf pg ph pk e1 e2 e3 e4 =
+    let last = k ++ (10 ∷ []) in
+    let third = h ++ (44 ∷ last) in
+    e4 ∙ then t2 h last t3 e3 ∙ then t1 g third t2 e2 ∙ then t f (g ++ (44 ∷ third)) t1 e1
+    ∙ ap (λ (l : List ℕ). t ++ l) (sym (row_text-plain f g (h ∷ k ∷ []) pf (rw (pg, ph, pk) refl)))

@@ -6,7 +6,7 @@ ghost use Rattle.csv.specs.Writing.{default_writer, row_text};
 ghost use Rattle.workload.specs.{Draws.state_after, Texts.request_fields, Workloads.AreDrawnRequests};
 
 use crate::draws::Draws;
-use crate::rows::with_row;
+use crate::rows::with_field;
 use cpu12_isa::instr::Write;
 use fz_list::List;
 use interrupt_plan::{Plan, Request};
@@ -63,15 +63,10 @@ fn with_request(
     let address = FIRST_FREE + at;
     let address_digits = hex::encode_upper(alloc, &[(address / 256) as u8, (address % 256) as u8])?;
     let value_digits = hex::encode_upper(alloc, &[value as u8])?;
-    with_row(
-        text,
-        &[
-            sample_buffer.format(sample).as_bytes(),
-            moment_buffer.format(moment).as_bytes(),
-            address_digits.as_bytes(),
-            value_digits.as_bytes(),
-        ],
-    )
+    let with_sample = with_field(text, sample_buffer.format(sample).as_bytes(), b',')?;
+    let with_moment = with_field(with_sample, moment_buffer.format(moment).as_bytes(), b',')?;
+    let with_address = with_field(with_moment, address_digits.as_bytes(), b',')?;
+    with_field(with_address, value_digits.as_bytes(), b'\n')
 }
 
 /// A request for one byte in a sample, so far behind the first free one.

@@ -1,25 +1,17 @@
-//! Rows of comma-separated text, and the texts of their numbers.
-ghost use Rattle.std.specs.Prelude.{◌≡◌, ◌++◌, IfOk, map};
-ghost use Rattle.csv.specs.Writing.{default_writer, row_text};
+//! Rows of comma-separated text, field by field, and the texts of their numbers.
+ghost use Rattle.std.specs.Prelude.{◌≡◌, ◌∷◌, ◌++◌, [], IfOk};
 ghost use Rattle.workload.specs.Texts.{decimal_text, last_digit};
 
-use csv::WriterBuilder;
 use itoa::Buffer;
 use std::alloc::{AllocError, Global};
 
-/// The text with a row of these fields behind it.
-pub(crate) fn with_row(text: Vec<u8>, fields: &[&[u8]]) -> Result<Vec<u8>, AllocError>
-    ensures { IfOk result (λ t. t.items ≡ text.items ++ row_text default_writer (map (λ f. f.now) fields.now)) }
+/// The text with a field behind it, and the byte that ends the field.
+pub(crate) fn with_field(mut text: Vec<u8>, field: &[u8], end: u8) -> Result<Vec<u8>, AllocError>
+    ensures { IfOk result (λ t. t.items ≡ text.items ++ (field.now ++ (end ∷ []))) }
 {
-    let mut writer = WriterBuilder::new().from_writer(text);
-    match writer.write_fields(fields) {
-        Ok(()) => {}
-        Err(_) => return Err(AllocError),
-    }
-    match writer.into_inner() {
-        Ok(text) => Ok(text),
-        Err(_) => Err(AllocError),
-    }
+    text.extend_from_slice(field)?;
+    text.push(end)?;
+    Ok(text)
 }
 
 /// A number in 1/10000: its units, a point and four places.

@@ -1,12 +1,13 @@
 //! The samples that are drawn, and the trace that spells them.
-ghost use Rattle.std.specs.Prelude.{◌≡◌, ◌≤◌, ℕ, [], ◌∷◌, length, pos, IfOk, OnOk};
+ghost use Rattle.std.specs.Prelude.{◌≡◌, ◌≤◌, ℕ, [], ◌∷◌, ◌++◌, length, pos, IfOk, OnOk};
 ghost use Rattle.byte_scaling.specs.Cells.{bytes_of};
 ghost use Rattle.fuzzy_meaning.specs.Blocks.{IsValidInput};
 ghost use Rattle.trace_io.specs.Traces.{Spells};
-ghost use Rattle.workload.specs.{Blocks.drawn_input, Draws.state_after, Workloads.AreDrawnSamples};
+ghost use Rattle.csv.specs.Writing.{default_writer, row_text};
+ghost use Rattle.workload.specs.{Blocks.drawn_input, Draws.state_after, Texts.sample_fields, Workloads.AreDrawnSamples};
 
 use crate::draws::Draws;
-use crate::rows::{decimal_of, with_row};
+use crate::rows::{decimal_of, with_field};
 use arrayvec::ArrayVec;
 use byte_scaling::byte_within;
 use fuzzy_meaning::Input;
@@ -42,12 +43,20 @@ pub(crate) fn drawn_trace(
     let mut samples = Vec::new(alloc);
     for _row in 0..1000u32 {
         let (x, y) = draws.sample();
-        let first = decimal_of(alloc, x)?;
-        let second = decimal_of(alloc, y)?;
-        text = with_row(text, &[first.as_slice(), second.as_slice()])?;
+        text = with_sample(alloc, text, x, y)?;
         samples.push(sample_of(alloc, input, x, y)?)?;
     }
     Ok(Trace { text, samples })
+}
+
+/// The text with a sample's row behind it.
+fn with_sample(alloc: Global, text: Vec<u8>, x: u32, y: u32) -> Result<Vec<u8>, AllocError>
+    ensures { IfOk result (λ t. t.items ≡ text.items ++ row_text default_writer (sample_fields (x, y))) }
+{
+    let first = decimal_of(alloc, x)?;
+    let second = decimal_of(alloc, y)?;
+    let begun = with_field(text, &first, b',')?;
+    with_field(begun, &second, b'\n')
 }
 
 /// The sample of two numbers in 1/10000.

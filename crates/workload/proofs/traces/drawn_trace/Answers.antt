@@ -18,10 +18,7 @@ loop-row-preserved c =
     let inv = c.loop-row.invariant in
     let x = c.sample-x.result.0 in
     let y = c.sample-x.result.1 in
-    let row : c.in_ok-text.text.items ≡ c.loop-row.text.items ++ row_text default_writer (sample_fields (x, y)) =
-    c.in_ok-text.ensures
-    ∙ (λ i. c.loop-row.text.items ++ row_text default_writer ((c.as_slice.ensures.value ∙ c.in_ok-first.ensures) i
-    ∷ (c.as_slice-in-loop-row.ensures.value ∙ c.in_ok-second.ensures) i ∷ [])) in
+    let row = c.in_ok-text.ensures in
     record {
       state = λ number begun.
           c.sample-x.ensures.state number (1 + 2 * n) (inv.state number begun)
