@@ -1,31 +1,32 @@
--- A flat condition reaches as far as the one that it is made of.
+-- A flat condition reaches as far as the one that it is made of, and so do its parts, from the last on.
 use Rattle.std.proofs.Common.{◌≡◌, ℕ, zero, suc, ◌+◌, ◌-◌, ◌<◌, ◌≤◌, Bool, true, false, List, [], ◌∷◌, ◌++◌, drop}
-use Rattle.std.proofs.Common.{length, get_or, Option, Some, None, refl, sym, ap, ap₂, ◌∙◌, arith}
+use Rattle.std.proofs.Common.{length, get_or, Option, Some, None, refl, sym, ap, ap₂, ◌∙◌, arith, subst}
+use Rattle.std.proofs.{lemmas.List.at_drop_more, lemmas.List.at_drop_all, lemmas.List.drop_all, Math.Seq.drop-cons}
 use mathlib.Core.Bool.{beq}
-use Rattle.std.specs.Prelude.{not, ◌==◌, slice_get}
-use Rattle.std.specs.Option.{option_map_or}
-use Rattle.std.proofs.lemmas.List.{at_drop_more, at_drop_all}
-use Rattle.fz_num.specs.{Fractions.IsProper, Fractions.AtMost, Fractions.one, Fractions.none, Decimals.distance}
+use Rattle.std.specs.{Prelude.not, Prelude.◌==◌, Prelude.slice_get, Option.option_map_or}
+use Rattle.fz_num.specs.Fractions.{IsProper, AtMost, one, none, one_minus}
+use Rattle.fz_num.specs.Decimals.{distance}
 use Rattle.fz_num.proofs.Algebra.{by_lesser}
-use Rattle.fuzzy_meaning.specs.declared.{block.Block.Block, block.Input.Input, block.Trapezoid.Trapezoid}
-use Rattle.fuzzy_meaning.specs.{Blocks.input_at, Blocks.HasTerm, Places.points_of, Places.rise_at, Places.fall_at}
-use Rattle.fuzzy_meaning.specs.Conditions.{Condition, is, negation, all, any, Conditions, end, also, conditions}
-use Rattle.fuzzy_meaning.specs.Conditions.{group, under, HasLiterals, SomeHaveLiterals, AllHaveLiterals, Joins}
-use Rattle.fuzzy_meaning.specs.Conditions.{evaluate, evaluate_parts}
+use Rattle.fuzzy_meaning.specs.Conditions.{Condition, is, negation, all, any, Conditions, end, also, conditions, group}
+use Rattle.fuzzy_meaning.specs.Conditions.{under, HasLiterals, SomeHaveLiterals, AllHaveLiterals, Joins, evaluate}
+use Rattle.fuzzy_meaning.specs.{declared.block.Trapezoid.Trapezoid, Places.points_of, Places.rise_at, Places.fall_at}
+use Rattle.fuzzy_meaning.specs.{Conditions.evaluate_parts, Conditions.levels, declared.block.Block.Block}
+use Rattle.fuzzy_meaning.specs.{declared.block.Input.Input, Blocks.input_at, Blocks.HasTerm, Meaning.truths}
 use Rattle.fuzzy_meaning.proofs.Algebra.{AllHaveLiterals-some, AreJoinsRelated, evaluate_pushed-related, IsDeMorgan}
 use Rattle.fuzzy_meaning.proofs.Algebra.{turned, evaluate-good, evaluate_parts-good, evaluate_pushed-same}
 use Rattle.byte_scaling.specs.Cells.{cell_start, cell_end}
 use Rattle.point_slope.specs.Tables.{row_of, grade_of}
-use Rattle.error_bound.specs.{declared.boxes.Interval.Interval, Spans.Span, Spans.only, Spans.span, Places.rise_end}
 use Rattle.error_bound.specs.Boxes.{least_from, greatest_from, degrees_over, grades_over, at_literal, literal_span}
-use Rattle.error_bound.specs.Boxes.{literal_byte_span}
 use Rattle.error_bound.specs.Flattening.{followed, parts, flats, flat_under, flat_parts, flat, IsSame, AreSame}
-use Rattle.error_bound.specs.Flattening.{FlatteningKeepsReaches}
+use Rattle.error_bound.specs.Spans.{Span, only, span, end_of, reversed, spans}
+use Rattle.error_bound.specs.{Flattening.FlatteningKeepsReaches, declared.boxes.Interval.Interval, Places.rise_end}
+use Rattle.error_bound.specs.{Ratios.value_of, Ratios.IsRatio, Reaches.IsEndOfCondition, Boxes.literal_byte_span}
+use Rattle.error_bound.specs.declared.ends.End.{End}
+use Rattle.error_bound.proofs.SpanLemmas.{IsGrouping, AreGood, IsDegree, nothing_degree, spans_de_morgan}
+use Rattle.error_bound.proofs.SpanLemmas.{spans_grouping, truths_de_morgan, truths_grouping, levels_de_morgan}
+use Rattle.error_bound.proofs.SpanLemmas.{levels_grouping, errors_de_morgan, errors_grouping}
 use Rattle.error_bound.proofs.{CellErrors.low_proper, CellErrors.high_proper, Literals.grade-le}
-use Rattle.error_bound.proofs.Limits.{rise_all, fall_all, end_all}
-use Rattle.error_bound.proofs.Operations.{IsGrouping, AreGood, IsDegree, nothing_degree, spans_de_morgan}
-use Rattle.error_bound.proofs.Operations.{spans_grouping, truths_de_morgan, truths_grouping, levels_de_morgan}
-use Rattle.error_bound.proofs.Operations.{levels_grouping, errors_de_morgan, errors_grouping}
+use Rattle.error_bound.proofs.Sides.{rise_all, fall_all, end_all}
 
 -- ---- the code's lists
 
@@ -288,3 +289,62 @@ reaches_kept b c = record {
       (literal_to_255 b box) c);
   errors = λ e. flat_same errors_de_morgan errors_grouping (λ i t. tt) c;
 }
+
+-- ---- the ends of the reaches of the parts of an AND or OR, from the last on
+
+-- ---- ends of spans
+
+module _ {A : Type 0} (minus : A → A) (j : Joins A) (s : ℕ → ℕ → Span A) where
+  abbrev reach : Bool → Condition → A
+  reach upper c = end_of upper (evaluate (reversed minus) (spans j) s c)
+
+  reach-also : (upper or : Bool) (c : Condition) (cs : Conditions)
+      → reach upper (group or (also c cs)) ≡ j.join or (reach upper c) (reach upper (group or cs))
+  reach-also true true c cs = refl
+  reach-also true false c cs = refl
+  reach-also false true c cs = refl
+  reach-also false false c cs = refl
+
+  reach-end : (upper or : Bool) → reach upper (group or end) ≡ j.none or
+  reach-end true true = refl
+  reach-end true false = refl
+  reach-end false true = refl
+  reach-end false false = refl
+
+-- ---- of conditions
+
+-- the conditions from a place on: that of the place, and those behind
+from_place : (parts : List Condition) (k : ℕ) (part : Condition) → 1 ≤ k → k ≤ length parts
+    → part ≡ get_or parts (k - 1) part → conditions (drop (k - 1) parts) ≡ also part (conditions (drop k parts))
+from_place parts k part from to here_is =
+    let within : k - 1 < length parts = omega arith in
+    let back : suc (k - 1) ≡ k = omega arith in
+    ap conditions (drop-cons parts (k - 1) part within ∙ ap₂ (λ x n. x ∷ drop n parts) (sym here_is) back)
+
+pub end_from : (b : Block) (box : List Interval) (or upper : Bool) (parts : List Condition) (k : ℕ) (part : Condition)
+    (p r s : End) → 1 ≤ k → k ≤ length parts → part ≡ get_or parts (k - 1) part
+    → IsEndOfCondition b box part upper p
+    → IsEndOfCondition b box (group or (conditions (drop k parts))) upper r
+    → value_of s.truth ≡ truths.join or (value_of p.truth) (value_of r.truth)
+    → s.byte ≡ (levels 255).join or p.byte r.byte → IsRatio 1000000000000 s.truth
+    → IsEndOfCondition b box (group or (conditions (drop (k - 1) parts))) upper s
+end_from b box or upper parts k part p r s from to here_is hp hr value byte small =
+    let cs = conditions (drop k parts) in
+    subst (λ ds. IsEndOfCondition b box (group or ds) upper s) (sym (from_place parts k part from to here_is)) (record {
+      value = value ∙ ap₂ (truths.join or) hp.value hr.value
+          ∙ sym (reach-also one_minus truths (literal_span b box) upper or part cs);
+      byte = byte ∙ ap₂ ((levels 255).join or) hp.byte hr.byte
+          ∙ sym (reach-also (λ n. 255 - n) (levels 255) (literal_byte_span b box) upper or part cs);
+      small = small;
+    })
+
+pub end_from_none : (b : Block) (box : List Interval) (or upper : Bool) (parts : List Condition) (r : End)
+    → value_of r.truth ≡ truths.none or → r.byte ≡ (levels 255).none or → IsRatio 1000000000000 r.truth
+    → IsEndOfCondition b box (group or (conditions (drop (length parts) parts))) upper r
+end_from_none b box or upper parts r value byte small =
+    subst (λ ps. IsEndOfCondition b box (group or (conditions ps)) upper r)
+    (sym (drop_all (length parts) parts (omega arith))) (record {
+      value = value ∙ sym (reach-end one_minus truths (literal_span b box) upper or);
+      byte = byte ∙ sym (reach-end (λ n. 255 - n) (levels 255) (literal_byte_span b box) upper or);
+      small = small;
+    })

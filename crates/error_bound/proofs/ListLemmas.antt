@@ -1,7 +1,9 @@
--- What a slice reads at a place is what the list that it is of has there.
-use Rattle.std.proofs.Common.{◌≡◌, ℕ, ◌<◌, List, length, get_or, Some, refl, ap, ◌∙◌, subst}
-use Rattle.std.specs.Prelude.{slice_get}
+-- What a slice reads at a place is what the list that it is of has there, and is valid where all its parts are.
+use Rattle.std.proofs.Common.{◌≡◌, ℕ, ◌<◌, List, length, get_or, Some, refl, ap, ◌∙◌, subst, ◌-◌, ◌≤◌, arith}
 use Rattle.std.proofs.lemmas.Option.{slice_get_read, slice_get-get_or, get_or_from_slice_get}
+use Rattle.std.specs.Prelude.{slice_get}
+use Rattle.fuzzy_meaning.specs.Blocks.{IsValidCondition, AreValidConditions, PartsAreValid}
+use Rattle.fuzzy_meaning.specs.{Conditions.Condition, Conditions.conditions, declared.block.Block.Block}
 
 -- the list has what is read at a place of it
 pub slice_get-read : {X : Type 0} (xs ys : List X) (n : ℕ) (x : X) → xs ≡ ys → n < length ys → x ≡ get_or xs n x
@@ -24,3 +26,12 @@ slice_get-get_or_slice xs ys n d same within =
 pub get_or-slice : {X : Type 0} (xs ys : List X) (n : ℕ) (d y : X) → xs ≡ ys → slice_get ys n ≡ Some y
     → get_or xs n d ≡ y
 get_or-slice xs ys n d y same found = ap (λ l. get_or l n d) same ∙ get_or_from_slice_get ys n y d found
+
+-- ---- the parts of a valid AND or OR are valid
+
+-- the part number k
+pub IsValidCondition-part : PartsAreValid → (b : Block) (parts : List Condition) (k : ℕ) (part : Condition) → 1 ≤ k
+    → k ≤ length parts → part ≡ get_or parts (k - 1) part → AreValidConditions b (conditions parts)
+    → IsValidCondition b part
+IsValidCondition-part parts_are_valid b parts k part from to is valid =
+    parts_are_valid b parts (k - 1) part valid (slice_get-read parts parts (k - 1) part refl (omega arith) is)

@@ -1,28 +1,140 @@
--- The literals of a block on a box: their grades are within the errors, and degrees and grades within the spans.
-use Rattle.std.proofs.Common.{◌≡◌, ⊎_elim, ℕ, zero, suc, ◌+◌, ◌-◌, ◌*◌, ◌<◌, ◌≤◌, min, max, Bool, true, false, List}
-use Rattle.std.proofs.Common.{length, Option, Some, None, refl, subst, arith, mul-le-mul_right, mul-pos}
-use Rattle.std.specs.Prelude.{◌==◌, if◌then◌else◌, slice_get, slice_index}
-use Rattle.std.proofs.lemmas.Bool.{cases_lt}
-use Rattle.std.proofs.lemmas.Bool.Decides.{nat_tests}
-use Rattle.std.proofs.lemmas.Int.{ints}
-use Rattle.std.proofs.lemmas.Option.{slice_get_within, slice_get-get_or}
+-- Conditions and literals on a box: errors, and the spans that truths and levels lie in.
+use Rattle.std.proofs.Common.{ℕ, ◌-◌, ◌≤◌, min, max, Bool, true, false, arith, ◌≡◌, ⊎_elim, zero, suc, ◌+◌, ◌*◌, ◌<◌}
+use Rattle.std.proofs.Common.{List, length, Option, Some, None, refl, subst, mul-le-mul_right, mul-pos}
+use Rattle.std.proofs.{lemmas.Option.slice_get_within, lemmas.Option.slice_get-get_or, lemmas.Bool.Decides.nat_tests}
+use Rattle.std.proofs.{lemmas.Bool.cases_lt, lemmas.Int.ints}
+use Rattle.fz_num.specs.Fractions.{Fraction, IsProper, AtMost, lesser, greater, one_minus, one, none, IsNear, over}
 use Rattle.fz_num.specs.{declared.dec.Dec.Dec, Decimals.distance}
-use Rattle.fz_num.specs.Fractions.{Fraction, over, IsProper, AtMost, one}
-use Rattle.fz_num.proofs.Algebra.{AtMost-trans, AtMost-lesser_left}
-use Rattle.fuzzy_meaning.specs.declared.{block.Block.Block, block.Input.Input, block.Trapezoid.Trapezoid}
-use Rattle.fuzzy_meaning.specs.Blocks.{IsValid, IsValidInput, IsValidTerm, input_at}
-use Rattle.fuzzy_meaning.specs.{Degrees.degree, Meaning.literal_degree}
+use Rattle.fz_num.proofs.Algebra.{AtMost-refl, AtMost-trans, IsProper-lesser, IsProper-greater, AtMost-lesser_left}
+use Rattle.fz_num.proofs.Algebra.{AtMost-greater, IsNear-lesser, IsNear-greater, IsNear-one_minus}
+use Rattle.fuzzy_meaning.specs.Conditions.{Condition, is, negation, all, any, Conditions, end, also, levels, level}
 use Rattle.fuzzy_meaning.specs.Places.{Points, points_of, rise_at, fall_at, degree_at, NumbersHaveTheirDegrees}
+use Rattle.fuzzy_meaning.specs.Blocks.{IsValid, IsValidInput, IsValidTerm, input_at}
+use Rattle.fuzzy_meaning.specs.{Meaning.truths, Meaning.truth, Meaning.literal_degree, declared.block.Block.Block}
+use Rattle.fuzzy_meaning.specs.{declared.block.Trapezoid.Trapezoid, declared.block.Input.Input, Degrees.degree}
+use Rattle.fuzzy_meaning.specs.Conditions.{evaluate_parts}
+use Rattle.error_bound.specs.Boxes.{LieIn, LieInCells, degrees_over, grades_over, least_from, greatest_from}
+use Rattle.error_bound.specs.Spans.{Span, only, span, byte_span, greatest_literal}
+use Rattle.error_bound.specs.Errors.{billion, IsTermError, AreTermErrors}
+use Rattle.error_bound.specs.{Boxes.literal_span, Boxes.literal_byte_span, Laws.CellsHaveBounds, Laws.TermErrorsAre}
+use Rattle.error_bound.specs.{CellErrors.term_error, CellErrors.term_errors, declared.boxes.Interval.Interval}
+use Rattle.error_bound.proofs.Sides.{none_least, low_bounds, high_bounds, side_rise_proper, degree_proper, rise_all}
+use Rattle.error_bound.proofs.SpanLemmas.{IsBetween, between, AreOrdered, ordered-refl, truths_monotone}
+use Rattle.error_bound.proofs.CellErrors.{low_proper, high_proper, cells_bounds, cells_least}
+use Rattle.error_bound.proofs.{Sides.low_greatest, Sides.high_least, Sides.IsPeaked-points, SpanLemmas.levels_monotone}
+use Rattle.std.specs.Prelude.{◌==◌, slice_get, slice_index, if◌then◌else◌}
 use Rattle.fz_list.proofs.Algebra.{All-slice_get, some_at}
 use Rattle.byte_scaling.specs.Cells.{IsFromTo, inside, at_end, IsInCell, cell_start, cell_end}
 use Rattle.point_slope.specs.{Tables.row_of, Tables.grade_of, Bytes.literal_grade}
-use Rattle.error_bound.specs.declared.boxes.Interval.{Interval}
-use Rattle.error_bound.specs.Boxes.{LieIn, LieInCells, degrees_over, grades_over, least_from, greatest_from}
-use Rattle.error_bound.specs.Boxes.{literal_span, literal_byte_span}
-use Rattle.error_bound.specs.Errors.{billion, IsTermError, AreTermErrors}
-use Rattle.error_bound.proofs.Sides.{low_bounds, high_bounds, side_rise_proper}
-use Rattle.error_bound.proofs.{Limits.degree_proper, Limits.rise_all, CellErrors.low_proper, CellErrors.high_proper}
-use Rattle.error_bound.proofs.ConditionLemmas.{IsWithinSpans, within_none}
+
+-- a truth from 0 to 1 and a byte within e parts of t of it
+pub record IsHeld (t g : ℕ) (f : Fraction) (e : ℕ) : Type 0 where
+  pub proper : IsProper f
+  pub to_one : AtMost f one
+  pub to_255 : g ≤ 255
+  pub near : IsNear t g f e
+
+-- and within spans
+pub record IsWithinSpans (t : ℕ) (f : Fraction) (g e : ℕ) (s : Span Fraction) (r : Span ℕ) : Type 0 where
+  pub held : IsHeld t g f e
+  pub between : IsBetween AreOrdered s f
+  pub ordered : IsBetween (λ m n. m ≤ n) r g
+
+minus_one : (f : Fraction) → AtMost (one_minus f) one
+minus_one f = record { cross = omega arith }
+
+held_minus : (t g e : ℕ) (f : Fraction) → IsHeld t g f e → IsHeld t (255 - g) (one_minus f) e
+held_minus t g e f h =
+    record {
+      proper = record { pos = h.proper.pos };
+      to_one = minus_one f;
+      to_255 = omega arith;
+      near =
+          IsNear-one_minus t g e f h.to_255 h.to_one h.near;
+    }
+
+held_lesser : (t g1 g2 e1 e2 : ℕ) (f1 f2 : Fraction) → IsHeld t g1 f1 e1 → IsHeld t g2 f2 e2
+    → IsHeld t (min g1 g2) (lesser f1 f2) (max e1 e2)
+held_lesser t g1 g2 e1 e2 f1 f2 h1 h2 =
+    record {
+      proper = IsProper-lesser f1 f2 h1.proper h2.proper;
+      to_one =
+          AtMost-trans (lesser f1 f2) f1 one h1.proper (AtMost-lesser_left f1 f2) h1.to_one;
+      to_255 =
+          (let a = h1.to_255 in omega arith);
+      near = IsNear-lesser t g1 g2 e1 e2 f1 f2 h1.proper h2.proper h1.near h2.near;
+    }
+
+pub held_greater : (t g1 g2 e1 e2 : ℕ) (f1 f2 : Fraction) → IsHeld t g1 f1 e1 → IsHeld t g2 f2 e2
+    → IsHeld t (max g1 g2) (greater f1 f2) (max e1 e2)
+held_greater t g1 g2 e1 e2 f1 f2 h1 h2 =
+    record {
+      proper = IsProper-greater f1 f2 h1.proper h2.proper;
+      to_one =
+          AtMost-greater f1 f2 one h1.to_one h2.to_one;
+      to_255 =
+          (let a = h1.to_255 in let b = h2.to_255 in omega arith);
+      near =
+          IsNear-greater t g1 g2 e1 e2 f1 f2 h1.proper h2.proper h1.near h2.near;
+    }
+
+-- of no parts
+none_held : (t e : ℕ) → IsHeld t 0 none e
+none_held t e = record {
+  proper = record { pos = omega arith };
+  to_one = none_least one;
+  to_255 = omega arith;
+  near = record { up = omega arith; down = omega arith };
+}
+
+no_parts_held : (t : ℕ) (or : Bool) → IsHeld t ((levels 255).none or) (truths.none or) 0
+no_parts_held t true = none_held t 0
+no_parts_held t false = record {
+  proper = record { pos = omega arith };
+  to_one = AtMost-refl one;
+  to_255 = omega arith;
+  near = record { up = omega arith; down = omega arith };
+}
+
+held_joined : (t : ℕ) (or : Bool) (g1 g2 e1 e2 : ℕ) (f1 f2 : Fraction) → IsHeld t g1 f1 e1 → IsHeld t g2 f2 e2
+    → IsHeld t ((levels 255).join or g1 g2) (truths.join or f1 f2) (max e1 e2)
+held_joined t true = held_greater t
+held_joined t false = held_lesser t
+
+pub within_none : (t e : ℕ) → IsWithinSpans t none 0 e (only none) (only 0)
+within_none t e =
+    let h = none_held t e in
+    let same = ordered-refl none h.proper in
+    record {
+      held = h;
+      between = record { low = same; high = same };
+      ordered = record { low = omega arith; high = omega arith };
+    }
+
+module _ (t : ℕ) (d : ℕ → ℕ → Fraction) (g e : ℕ → ℕ → ℕ) (l : (i k : ℕ) → IsHeld t (g i k) (d i k) (e i k)) where
+  mutual
+    held : (c : Condition) → IsHeld t (level 255 g c) (truth d c) (greatest_literal e c)
+    held (is i k) = l i k
+    held (negation c) = held_minus t _ _ _ (held c)
+    held (all cs) = parts_held false cs
+    held (any cs) = parts_held true cs
+
+    parts_held : (or : Bool) (cs : Conditions)
+        → IsHeld t (evaluate_parts (λ n. 255 - n) (levels 255) g or cs) (evaluate_parts one_minus truths d or cs)
+        (evaluate_parts (λ n. n) (record { none = λ any. 0; join = λ any. max }) e or cs)
+    parts_held or end = no_parts_held t or
+    parts_held or (also c cs) = held_joined t or _ _ _ _ _ _ (held c) (parts_held or cs)
+
+pub within_spans : (t : ℕ) (d : ℕ → ℕ → Fraction) (g e : ℕ → ℕ → ℕ) (s : ℕ → ℕ → Span Fraction) (r : ℕ → ℕ → Span ℕ)
+    → ((i k : ℕ) → IsWithinSpans t (d i k) (g i k) (e i k) (s i k) (r i k)) → (c : Condition)
+    → IsWithinSpans t (truth d c) (level 255 g c) (greatest_literal e c) (span s c) (byte_span r c)
+within_spans t d g e s r l c = record {
+  held = held t d g e (λ i k. (l i k).held) c;
+  between = between truths_monotone (λ i k. (l i k).between) c;
+  ordered = between levels_monotone (λ i k. (l i k).ordered) c;
+}
+
+-- ---- the literals of a block on a box: their grades are within the errors, and degrees and grades within the spans
 
 -- a place of an interval lies in each that has its bytes
 pub wider : (w p q p' q' : ℕ) (x : Fraction) → 0 < w → IsProper x → p ≤ p' → q' ≤ q
@@ -173,3 +285,51 @@ module _ (of_numbers : NumbersHaveTheirDegrees) (b : Block) (box : List Interval
       → IsWithinSpans billion (literal_degree b xs i t) (literal_grade b bytes i t) (e i t) (literal_span b box i t)
       (literal_byte_span b box i t)
   literals i t = by_input i t (input_at b i) refl
+
+-- ---- laws of boxes and their errors
+
+start_below : (w p q : ℕ) → 0 < w → p ≤ q → p * w < (q + 1) * w
+start_below w p q hw h = let m : p * w ≤ q * w = mul-le-mul_right w h in omega arith
+
+pub cells_bounded : CellsHaveBounds
+cells_bounded i t v vi vt h =
+    let w = distance i.lo i.hi in
+    let k = points_of i t in
+    let s = cell_start w v.from in
+    let f = cell_end w v.to in
+    let c = v.to == 255 in
+    let ps : IsProper s = record { pos = omega arith } in
+    let pf : IsProper f = record { pos = omega arith } in
+    let lt = start_below w v.from v.to (width_pos i vi) h in
+    record {
+      lower = λ x px inn. low_bounds k s f x c ps pf px inn;
+      greatest = λ u pu g. low_greatest k (v.from * w) ((v.to + 1) * w) 256 c u (omega arith) lt pu g;
+      upper = λ x px inn. high_bounds k s f x c ps pf px inn;
+      least = λ u pu g. high_least k (v.from * w) ((v.to + 1) * w) 256 c u (IsPeaked-points i t vt)
+          (omega arith) lt pu g;
+    }
+
+pub term_error-is : (i : Input) (t : Trapezoid) (v : Interval) → IsValidInput i → IsValidTerm i.lo i.hi t
+    → v.from ≤ v.to → IsTermError i t v (term_error i t v)
+term_error-is i t v vi vt h =
+    let w = distance i.lo i.hi in
+    let g = grade_of (row_of i t) in
+    let m = v.to - v.from in
+    record {
+      covers = λ n h1 h2 x c. cells_bounds billion w (points_of i t) g v.from m n h1 (omega arith) x c;
+      least = λ f c. cells_least billion w (points_of i t) g v.from m f (IsPeaked-points i t vt) (width_pos i vi)
+          (omega arith) (λ n h1 h2 x inn. c n h1 (omega arith) x inn);
+    }
+
+-- where each interval has a byte
+pub term_errors-from : (b : Block) (box : List Interval) → IsValid b
+    → ((k : ℕ) (v : Interval) → slice_get box k ≡ Some v → v.from ≤ v.to) → AreTermErrors b box (term_errors b box)
+term_errors-from b box valid some = record {
+  error = λ i t x term v ex et ev.
+      let vx : IsValidInput x = All-slice_get IsValidInput b.inputs (i - 1) x valid.inputs ex in
+      let vt : IsValidTerm x.lo x.hi term = All-slice_get (IsValidTerm x.lo x.hi) x.terms (t - 1) term vx.terms et in
+      rw (ex, et, ev) (term_error-is x term v vx vt (some (i - 1) v ev));
+}
+
+pub term_errors-are : TermErrorsAre
+term_errors-are b box valid some = term_errors-from b box valid (λ k v e. (some.some k v e).0)

@@ -1,11 +1,101 @@
 -- A box's Bound, over the rows of an output's terms.
-use Rattle.std.proofs.Common.{◌≡◌, ⊎_elim, ℕ, zero, suc, ◌+◌, ◌*◌, ◌<◌, ◌≤◌, List, [], ◌∷◌, sym, subst, arith}
-use Rattle.std.proofs.Common.{mul-le-mul_right, le_of_mul-le-mul_right, mul-pos}
-use Rattle.std.proofs.lemmas.Bool.{cases_lt}
-use Rattle.fz_num.specs.Fractions.{Fraction, IsProper, AtMost, IsNear, over, up_div}
+use Rattle.std.proofs.Common.{◌≡◌, ⊎_elim, ℕ, ◌+◌, ◌-◌, ◌*◌, ◌<◌, ◌≤◌, sym, subst, arith, mul-le-mul_right}
+use Rattle.std.proofs.Common.{le_of_mul-le-mul_right, zero, suc, List, [], ◌∷◌, mul-pos, ap}
+use Rattle.std.proofs.{lemmas.Bool.cases_lt, lemmas.Nat.mul-le, lemmas.Int.ints}
+use Rattle.fz_num.specs.Fractions.{Fraction, IsProper, AtMost, IsNear, over, up_div, IsClose}
+use Rattle.fz_num.specs.{declared.dec.Dec.Dec, Decimals.distance}
 use Rattle.fz_num.proofs.Algebra.{le-up_div}
-use Rattle.error_bound.specs.{Errors.apart, Bounds.ratio_bound}
-use Rattle.error_bound.proofs.{Sums.Apart, Sums.term_le, Quotients.Parts, Quotients.within}
+use Rattle.error_bound.specs.{Bounds.ratio_bound, Bounds.in_millionths, Bounds.offset, Errors.apart}
+use Rattle.std.specs.Prelude.{ℤ, pos, ◌+ℤ◌, ◌-ℤ◌, ◌*ℤ◌, ◌<ℤ◌, unsigned_abs}
+use borrow.Author.Differences.{up, down}
+use Rattle.fuzzy_meaning.specs.{declared.block.Output.Output, Meaning.quotient_of, Blocks.IsWithin}
+use Rattle.byte_scaling.specs.Cells.{nearest_byte, NearestIsByte, value_in}
+
+-- two numbers differ by at most d
+pub record Apart (m g d : ℕ) : Type 0 where
+  pub up : m ≤ g + d
+  pub down : g ≤ m + d
+
+-- one term: where u and A/G are at most w apart, (G u - A) (m - g) is at most G w d
+pub term_le : (gg aa u w m g d : ℕ) → Apart (gg * u) aa (gg * w) → m ≤ g + d → g ≤ m + d
+    → gg * u * m + aa * g ≤ aa * m + gg * u * g + gg * w * d
+term_le gg aa u w m g d near h1 h2 = ⊎_elim less more (cases_lt m g)
+  where
+    less : m < g → gg * u * m + aa * g ≤ aa * m + gg * u * g + gg * w * d
+    less l = let x = g - m in
+        let e : g ≡ m + x = omega arith in
+        let p : aa * x ≤ (gg * u + gg * w) * x = mul-le aa x (gg * u + gg * w) x near.down (omega arith) in
+        let q : gg * w * x ≤ gg * w * d = mul-le (gg * w) x (gg * w) d (omega arith) (omega arith) in
+        subst (λ n. gg * u * m + aa * n ≤ aa * m + gg * u * n + gg * w * d) (sym e) (omega arith)
+
+    more : g ≤ m → gg * u * m + aa * g ≤ aa * m + gg * u * g + gg * w * d
+    more l = let x = m - g in
+        let e : m ≡ g + x = omega arith in
+        let p : gg * u * x ≤ (aa + gg * w) * x = mul-le (gg * u) x (aa + gg * w) x near.up (omega arith) in
+        let q : gg * w * x ≤ gg * w * d = mul-le (gg * w) x (gg * w) d (omega arith) (omega arith) in
+        subst (λ n. gg * u * n + aa * g ≤ aa * n + gg * u * g + gg * w * d) (sym e) (omega arith)
+
+-- ---- the error of a quotient of sums, from the errors of the parts, by cross products
+
+-- what a box knows, in numbers alone:
+-- pp/mm is the exact answer above lo, aa/gg the same from the machine's degrees, a/gg with the singletons' bytes, and
+-- the first two are at most w num/den apart
+pub record Parts (w h num den dl q a aa gg pp mm d : ℕ) : Type 0 where
+  pub den_pos : 0 < den
+  pub g_pos : 0 < gg
+  pub sums : Apart (gg * pp) (aa * mm) (gg * d)
+  pub gaps : d * den ≤ mm * (w * num)
+  pub singles : Apart (a * w) (aa * 255) (dl * gg)
+  pub floor_low : q * gg ≤ h * a
+  pub floor_high : h * a ≤ (q + 1) * gg
+
+up_scaled : (w h num den dl q a aa gg pp mm d : ℕ) → Parts w h num den dl q a aa gg pp mm d
+    → q * w * mm * den ≤ 255 * h * pp * den + mm * (num * 255 * w * h + dl * den * h)
+up_scaled w h num den dl q a aa gg pp mm d p =
+    let s1 : (q * gg) * w ≤ (h * a) * w = mul-le-mul_right w p.floor_low in
+    let s2 : (a * w) * h ≤ (aa * 255 + dl * gg) * h = mul-le-mul_right h p.singles.up in
+    let s3 : (q * gg * w) * (mm * den) ≤ ((aa * 255 + dl * gg) * h) * (mm * den) =
+    mul-le-mul_right (mm * den) (omega arith) in
+    let s4 : (aa * mm) * (255 * h * den) ≤ (gg * pp + gg * d) * (255 * h * den) =
+    mul-le-mul_right (255 * h * den) p.sums.down in
+    let s5 : (d * den) * (gg * 255 * h) ≤ (mm * (w * num)) * (gg * 255 * h) =
+    mul-le-mul_right (gg * 255 * h) p.gaps in
+    let s6 : (q * w * mm * den) * gg ≤ (255 * h * pp * den + mm * (num * 255 * w * h + dl * den * h)) * gg =
+    omega arith in
+    le_of_mul-le-mul_right s6 p.g_pos
+
+down_scaled : (w h num den dl q a aa gg pp mm d : ℕ) → Parts w h num den dl q a aa gg pp mm d
+    → 255 * h * pp * den ≤ q * w * mm * den + mm * (num * 255 * w * h + dl * den * h + w * den)
+down_scaled w h num den dl q a aa gg pp mm d p =
+    let s1 : (h * a) * w ≤ ((q + 1) * gg) * w = mul-le-mul_right w p.floor_high in
+    let s2 : (aa * 255) * h ≤ (a * w + dl * gg) * h = mul-le-mul_right h p.singles.down in
+    let s3 : ((aa * 255) * h) * (mm * den) ≤ ((q + 1) * gg * w + dl * gg * h) * (mm * den) =
+    mul-le-mul_right (mm * den) (omega arith) in
+    let s4 : (gg * pp) * (255 * h * den) ≤ (aa * mm + gg * d) * (255 * h * den) =
+    mul-le-mul_right (255 * h * den) p.sums.up in
+    let s5 : (d * den) * (gg * 255 * h) ≤ (mm * (w * num)) * (gg * 255 * h) =
+    mul-le-mul_right (gg * 255 * h) p.gaps in
+    let s6 : (255 * h * pp * den) * gg
+    ≤ (q * w * mm * den + mm * (num * 255 * w * h + dl * den * h + w * den)) * gg = omega arith in
+    le_of_mul-le-mul_right s6 p.g_pos
+
+-- with a bound b in parts of t
+pub within : (t b w h num den dl q a aa gg pp mm d : ℕ) → Parts w h num den dl q a aa gg pp mm d
+    → t * (num * 255 * w * h + dl * den * h + w * den) ≤ b * (den * 255 * w * h)
+    → Apart (q * w * mm * t) (255 * h * pp * t) (b * w * 255 * h * mm)
+within t b w h num den dl q a aa gg pp mm d p hb =
+    let u1 : (q * w * mm * den) * t ≤ (255 * h * pp * den + mm * (num * 255 * w * h + dl * den * h)) * t =
+    mul-le-mul_right t (up_scaled w h num den dl q a aa gg pp mm d p) in
+    let d1 : (255 * h * pp * den) * t
+    ≤ (q * w * mm * den + mm * (num * 255 * w * h + dl * den * h + w * den)) * t =
+    mul-le-mul_right t (down_scaled w h num den dl q a aa gg pp mm d p) in
+    let bm : (t * (num * 255 * w * h + dl * den * h + w * den)) * mm ≤ (b * (den * 255 * w * h)) * mm =
+    mul-le-mul_right mm hb in
+    let u2 : (q * w * mm * t) * den ≤ (255 * h * pp * t + b * w * 255 * h * mm) * den = omega arith in
+    let d2 : (255 * h * pp * t) * den ≤ (q * w * mm * t + b * w * 255 * h * mm) * den = omega arith in
+    record { up = le_of_mul-le-mul_right u2 p.den_pos; down = le_of_mul-le-mul_right d2 p.den_pos }
+
+-- ---- a box's Bound, over the rows of an output's terms
 
 -- one term of an output: how far its singleton stands above lo, the singleton's byte, its mass, the bytes' mass, its
 -- error in parts of t, how far it may be from the answer, and a number of parts of 255 t that its mass has at least
@@ -221,3 +311,61 @@ module _ (t w d : ℕ) (rs : List Row) (tp : 0 < t) (wp : 0 < w) (ok : AllOk t w
           mul-le-mul_right h (weighted_le t w d (total_g rs) (dot_u rs) rs ok) in
           subst (λ n. Apart (q * w * mass_sum rs * 1000000) (weighted rs * (255 * h) * 1000000)
           (n * w * (255 * h) * mass_sum rs)) (sym e) (record { up = omega arith; down = omega arith })
+
+-- ---- from distances above the low end back to numbers
+
+-- the same without the range, over parts of the whole range
+crossed : (lo x : ℤ) (parts qw m wd e : ℕ) → x ≡ lo *ℤ pos m +ℤ pos wd → Apart (qw * m) (parts * wd) e
+    → unsigned_abs ((pos parts *ℤ lo +ℤ pos qw) *ℤ pos (m * 10000) -ℤ x *ℤ pos (10000 * parts)) ≤ e * 10000
+crossed lo x parts qw m wd e ex a =
+    let v = pos parts *ℤ lo +ℤ pos qw in
+    let r1 : up v + parts * down lo ≡ down v + parts * up lo + qw = omega (arith, ints) in
+    let r2 : up x + down lo * m ≡ down x + up lo * m + wd = omega (arith, ints) in
+    let s1 : (up v + parts * down lo) * m ≡ (down v + parts * up lo + qw) * m = ap (λ k. k * m) r1 in
+    let s2 : (up x + down lo * m) * parts ≡ (down x + up lo * m + wd) * parts = ap (λ k. k * parts) r2 in
+    omega (arith, ints, a.up, a.down)
+
+-- a value against x/m, which stands wd/m above the low end
+pub close_value : (h : ℕ) (o : Output) (n q : ℕ) (x : ℤ) (m wd : ℕ) → 0 < h → 0 < m → x ≡ o.lo.0 *ℤ pos m +ℤ pos wd
+    → Apart (q * distance o.lo o.hi * m * 1000000) (wd * (255 * h) * 1000000) (n * distance o.lo o.hi * (255 * h) * m)
+    → IsClose (distance o.lo o.hi) n (value_in h o q) (record { num = x; den = m * 10000 })
+close_value h o n q x m wd hh hm ex a =
+    let w = distance o.lo o.hi in
+    let l = q * w * m in
+    let r = 255 * h * wd in
+    let z = apart l r in
+    let c = crossed o.lo.0 x (255 * h) (q * w) m wd z ex (record { up = omega arith; down = omega arith }) in
+    let e1 : z * 1000000 ≤ n * w * (255 * h) * m = omega (arith, a.up, a.down) in
+    record {
+      dens = mul-pos (mul-pos (omega arith) (mul-pos (omega arith) hh)) (mul-pos hm (omega arith));
+      cross =
+          omega arith;
+    }
+
+-- the default's byte in h parts against the default
+pub close_default : NearestIsByte → (h : ℕ) (o : Output) (d : Dec) → 0 < h → o.lo.0 <ℤ o.hi.0 → IsWithin o.lo o.hi d
+    → IsClose (distance o.lo o.hi) (in_millionths (over (offset o d) (255 * distance o.lo o.hi)))
+    (value_in h o (h * nearest_byte o d)) (quotient_of d)
+close_default is_byte h o d hh range within =
+    let w = distance o.lo o.hi in
+    let s = nearest_byte o d in
+    let u = distance o.lo d in
+    let f = offset o d in
+    let n = in_millionths (over f (255 * w)) in
+    let wp : 0 < w = omega (arith, ints) in
+    let hu : u ≤ w = omega (arith, ints, within.low, within.high) in
+    let hs : s ≤ 255 = is_byte o d range within in
+    let ms : s * w ≤ 255 * w = mul-le-mul_right w hs in
+    let up_le = le-up_div (1000000 * f) (255 * w) (mul-pos (omega arith) wp) in
+    let small : f ≤ 255 * w = omega arith in
+    let fits : 1000000 * f ≤ n * (255 * w) = ⊎_elim
+    (λ (l : up_div (1000000 * f) (255 * w) < 1000000). let e : up_div (1000000 * f) (255 * w) ≡ n = omega arith in
+    subst (λ k. 1000000 * f ≤ k * (255 * w)) e up_le)
+    (λ (l : 1000000 ≤ up_div (1000000 * f) (255 * w)). let e : 1000000 ≡ n = omega arith in
+    subst (λ k. 1000000 * f ≤ k * (255 * w)) e (omega arith))
+    (cases_lt (up_div (1000000 * f) (255 * w)) 1000000) in
+    let m : (1000000 * f) * h ≤ (n * (255 * w)) * h = mul-le-mul_right h fits in
+    let up1 : (s * w) * h ≤ (u * 255 + f) * h = mul-le-mul_right h (omega arith) in
+    let down1 : (u * 255) * h ≤ (s * w + f) * h = mul-le-mul_right h (omega arith) in
+    close_value h o n (h * s) d.0 1 u hh (omega arith) (omega (arith, ints, within.low))
+    (record { up = omega arith; down = omega arith })

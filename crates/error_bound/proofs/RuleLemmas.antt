@@ -1,22 +1,32 @@
--- The strength of a rule and the mass of a term: errors and spans.
-use Rattle.std.proofs.Common.{◌≡◌, ℕ, ◌+◌, ◌-◌, ◌*◌, ◌/◌, ◌≤◌, List, Option}
-use Rattle.std.proofs.Common.{Some, None, sym, subst, arith, mul-le-mul_right, mul-pos}
-use Rattle.std.specs.Prelude.{IfSome, ◌==◌, if◌then◌else◌}
-use Rattle.std.proofs.lemmas.Bool.{cond_both}
-use Rattle.std.proofs.lemmas.Bool.Decides.{nat_tests}
-use Rattle.std.proofs.lemmas.Int.{ints}
-use Rattle.fz_num.specs.declared.dec.Dec.{Dec}
-use Rattle.fz_num.specs.Fractions.{Fraction, IsProper, AtMost, times, one, IsNear, up_div}
-use Rattle.fz_num.proofs.Algebra.{le-up_div}
-use Rattle.fuzzy_meaning.specs.{declared.block.Block.Block, declared.block.Rule.Rule, Blocks.IsWeight}
-use Rattle.fuzzy_meaning.specs.Meaning.{literal_degree, truth, weight_of, strength}
-use Rattle.byte_scaling.specs.Weights.{weight_byte_of}
-use Rattle.point_slope.specs.Bytes.{literal_grade, byte_truth, byte_strength}
-use Rattle.error_bound.specs.{declared.boxes.Interval.Interval, Spans.span, Spans.byte_span, Spans.greatest_literal}
-use Rattle.error_bound.specs.Boxes.{literal_span, literal_byte_span, rule_span, rule_byte_span}
+-- The strength of a rule and the mass of a term over a box: errors, spans, and what is read from fractions.
+use Rattle.std.proofs.Common.{◌≡◌, ℕ, ◌+◌, ◌-◌, ◌*◌, ◌/◌, ◌≤◌, List, Option, Some, None, sym, subst, arith}
+use Rattle.std.proofs.Common.{mul-le-mul_right, mul-pos, zero, suc, ◌<◌, max, Bool, true, false, cond, [], ◌∷◌, refl}
+use Rattle.std.proofs.Common.{ap, ◌∙◌, le_of_mul-le-mul_right, ⊎_elim}
+use Rattle.std.proofs.{lemmas.Bool.cond_both, lemmas.Bool.cases_lt, lemmas.Bool.Decides.nat_tests, lemmas.Nat.le-div}
+use Rattle.std.proofs.{lemmas.List.Sums.sum_by-cons, lemmas.Int.ints}
+use Rattle.std.specs.Prelude.{IfSome, ◌==◌, All, IsTrue, ◌&&◌, if◌then◌else◌}
+use Rattle.fz_num.specs.Fractions.{Fraction, IsProper, AtMost, times, one, IsNear, up_div, greater, Quotient, over}
+use Rattle.fz_num.specs.{Fractions.IsBelow, Fractions.none, declared.dec.Dec.Dec}
+use Rattle.fz_num.proofs.Algebra.{le-up_div, by_greater, AtMost-trans, AtMost-greater_left, AtMost-greater_right}
+use Rattle.fz_num.proofs.Algebra.{up_div-le}
+use Rattle.fuzzy_meaning.specs.Meaning.{literal_degree, truth, weight_of, strength, concludes, mass_among, mass, Share}
+use Rattle.fuzzy_meaning.specs.Meaning.{shares_from, common_den, total_mass, weighted_sum, centre}
+use Rattle.fuzzy_meaning.specs.{declared.block.Output.Output, declared.block.Block.Block, declared.block.Rule.Rule}
+use Rattle.fuzzy_meaning.specs.Blocks.{IsWeight}
+use Rattle.byte_scaling.specs.{Weights.weight_byte_of, Cells.nearest_byte}
+use Rattle.point_slope.specs.Bytes.{literal_grade, byte_truth, byte_strength, ByteShare, byte_mass_among, byte_mass}
+use Rattle.point_slope.specs.{Bytes.byte_shares_from, Bytes.total_mass as byte_total, Tables.row_of, Tables.grade_of}
+use Rattle.error_bound.specs.Boxes.{literal_span, literal_byte_span, rule_span, rule_byte_span, least_from}
+use Rattle.error_bound.specs.Faults.{parts_down, parts_up, IsStrongFault, weak, still, IsSilentFault, silent, loud}
+use Rattle.error_bound.specs.declared.boxes.LeafFault.TheVariants.{Weak, Silent, Loud}
+use Rattle.error_bound.specs.Spans.{span, byte_span, greatest_literal, only, Span}
+use Rattle.error_bound.specs.{Tight.greatest_of, Tight.low_part, Tight.is_still, Tight.moving_error, Leaves.IsStill}
 use Rattle.error_bound.specs.Errors.{billion, apart, weight_error, rule_error}
-use Rattle.error_bound.proofs.ConditionLemmas.{IsHeld, IsWithinSpans, within_spans}
-use Rattle.error_bound.proofs.SpanLemmas.{AreOrdered}
+use Rattle.error_bound.specs.{declared.boxes.LeafFault.LeafFault, Boxes.greatest_from, Boxes.grades_over}
+use Rattle.error_bound.specs.{declared.boxes.Interval.Interval, declared.boxes.Leaf.Leaf, Flattening.IsSame}
+use Rattle.error_bound.proofs.Literals.{IsHeld, IsWithinSpans, within_spans, held_greater, within_none}
+use Rattle.error_bound.proofs.SpanLemmas.{AreOrdered, between, levels_monotone}
+use Rattle.error_bound.proofs.FlatteningLemmas.{at_literal-holds, span_good}
 
 -- q parts for g (v + 1)/256
 pub weighted_near : (t g e v w ew er q : ℕ) (f : Fraction) → v ≤ 256 → w ≤ 10000 → AtMost f one → IsNear t g f e
@@ -139,3 +149,313 @@ module _ (b : Block) (box : List Interval) (bytes : List ℕ) (xs : List Dec) (e
               scaled-mono (byte_truth b bytes c) m.high (v + 1) h.ordered.high;
         };
       }
+
+-- ---- a rule's strengths over a box: the low's denominator is above 0, and over bytes the low is at most the high
+
+least_to_greatest : (g : ℕ → ℕ) (p n : ℕ) → least_from g p n ≤ greatest_from g p n
+least_to_greatest g p zero = omega arith
+least_to_greatest g p (suc n) = let h = least_to_greatest g p n in omega arith
+
+module _ (b : Block) (box : List Interval) where
+  pub rule_low_proper : (r : Rule) → IsProper (rule_span b box r).low
+  rule_low_proper r = times_proper _ _ (span_good b box r.cond).low.proper
+
+  pub bytes_ordered : (r : Rule) → (rule_byte_span b box r).low ≤ (rule_byte_span b box r).high
+  bytes_ordered r =
+      let literal = at_literal-holds b box (λ m. m.low ≤ m.high) grades_over (only 0) (omega arith)
+      (λ x term v. least_to_greatest (grade_of (row_of x term)) v.from (v.to - v.from)) in
+      let h = between levels_monotone {s = literal_byte_span b box} {v = λ i t. (literal_byte_span b box i t).low}
+      (λ i t. record { low = omega arith; high = literal i t }) r.cond in
+      scaled-mono _ _ _ (omega (arith, h.low, h.high))
+
+-- ---- on a silent leaf nothing fires
+
+zero_times : (n d : ℕ) → n * d ≤ 0 → 0 < d → n ≡ 0
+zero_times n d h hd = let p : n ≤ 0 = le_of_mul-le-mul_right {k = d} (omega arith) hd in omega arith
+
+-- what is at most a fraction of 0 is 0
+pub none_below : (f g : Fraction) → IsProper g → AtMost f g → g.num ≡ 0 → f.num ≡ 0
+none_below f g pg l z =
+    let c = l.cross in
+    let p : g.num * f.den ≡ 0 = ap (λ n. n * f.den) z ∙ omega arith in
+    zero_times f.num g.den (omega arith) pg.pos
+
+either_none : (x y : Fraction) → x.num ≡ 0 → y.num ≡ 0 → (greater x y).num ≡ 0
+either_none x y a b = by_greater (λ f. f.num ≡ 0) x y (λ _. a) (λ _. b)
+
+pub centre_none : (ss : List Share) (otherwise : Quotient) → total_mass ss ≡ 0 → centre ss otherwise ≡ otherwise
+centre_none ss otherwise h = let e : (total_mass ss == 0) ≡ true = grind (arith, nat_tests) in
+    ap (λ c. cond c otherwise (record { num = weighted_sum ss; den = total_mass ss * 10000 })) e
+
+module _ (b : Block) (box : List Interval) (bytes : List ℕ) (xs : List Dec) (e : ℕ → ℕ → ℕ)
+    (l : (i t : ℕ) → IsWithinSpans billion (literal_degree b xs i t) (literal_grade b bytes i t) (e i t)
+    (literal_span b box i t) (literal_byte_span b box i t)) (o : ℕ) where
+  pub still_rule : (r : Rule) → IfSome r.weight IsWeight → IsStill b box r
+      → ((strength b xs r).num ≡ 0) × (byte_strength b bytes r ≡ 0)
+  still_rule r hw s =
+      let bt = rule_within b box bytes xs e l r hw in
+      let m1 : byte_strength b bytes r ≤ (rule_byte_span b box r).high = bt.ordered.high in
+      let m0 : (rule_byte_span b box r).high ≡ 0 = s.byte_high in
+      let high = bt.between.high in
+      (none_below (strength b xs r) (rule_span b box r).high high.right high.below s.high, none_at m1 m0)
+    where
+      none_at : {a c : ℕ} → a ≤ c → c ≡ 0 → a ≡ 0
+      none_at h1 h2 = omega arith
+
+  still_mass : (t : ℕ) (rs : List Rule) → All (λ r. IfSome r.weight IsWeight) rs
+      → All (λ r. (t : ℕ) → IsTrue (concludes r o t) → IsStill b box r) rs
+      → ((mass_among b xs o t rs).num ≡ 0) × (byte_mass_among b bytes o t rs ≡ 0)
+  still_mass t [] hw h = (refl, refl)
+  still_mass t (r ∷ rs) hw h =
+      more (still_mass t rs (λ k d i. hw (suc k) d (omega arith)) (λ k d i. h (suc k) d (omega arith)))
+      (concludes r o t) (λ c. still_rule r (hw 0 r (omega arith)) (h 0 r (omega arith) t c))
+    where
+      more : ((mass_among b xs o t rs).num ≡ 0) × (byte_mass_among b bytes o t rs ≡ 0) → (c : Bool)
+          → (IsTrue c → ((strength b xs r).num ≡ 0) × (byte_strength b bytes r ≡ 0))
+          → ((if c then greater (strength b xs r) (mass_among b xs o t rs) else mass_among b xs o t rs).num ≡ 0)
+          × ((if c then max (byte_strength b bytes r) (byte_mass_among b bytes o t rs) else byte_mass_among b bytes
+          o t rs) ≡ 0)
+      more p true q = let s = q refl in
+          (either_none (strength b xs r) (mass_among b xs o t rs) s.0 p.0, omega (arith, s.1, p.1))
+      more p false q = p
+
+  pub still_sums : (x : Output) (t : ℕ) (us : List Dec) → All (λ r. IfSome r.weight IsWeight) b.rules
+      → All (λ r. (t : ℕ) → IsTrue (concludes r o t) → IsStill b box r) b.rules
+      → (total_mass (shares_from b xs o t us) ≡ 0) × (byte_total (byte_shares_from b bytes o x t us) ≡ 0)
+  still_sums x t [] hw h = (refl, refl)
+  still_sums x t (u ∷ us) hw h =
+      let k = still_sums x (t + 1) us hw h in
+      let m = still_mass t b.rules hw h in
+      let ss = shares_from b xs o (t + 1) us in
+      let f = mass b xs o t in
+      let a1 : f.num * common_den ss ≡ 0 = ap (λ n. n * common_den ss) m.0 ∙ omega arith in
+      let a2 : f.den * total_mass ss ≡ 0 = ap (λ n. f.den * n) k.0 ∙ omega arith in
+      let g0 : byte_mass b bytes o t ≡ 0 = m.1 in
+      let k1 : byte_total (byte_shares_from b bytes o x (t + 1) us) ≡ 0 = k.1 in (
+        omega (arith, a1, a2),
+        omega (
+          arith,
+          g0,
+          k1,
+          sum_by-cons (λ (s : ByteShare). s.mass) (record { byte = nearest_byte x u; mass = byte_mass b bytes o t })
+              (byte_shares_from b bytes o x (t + 1) us),
+        ),
+      )
+
+-- ---- how far a term's mass reaches over a box
+
+both_true : (a c : Bool) → (a && c) ≡ true → (a ≡ true) × (c ≡ true)
+both_true true c h = (refl, h)
+both_true false c h = absurd (let z : ⊥ = cc in z)
+
+pub IsStill-test : (b : Block) (box : List Interval) (r : Rule) → is_still b box r ≡ true → IsStill b box r
+IsStill-test b box r h =
+    let p = both_true ((rule_span b box r).high.num == 0) ((rule_byte_span b box r).high == 0) h in
+    record { high = zero_test p.0; byte_high = zero_test p.1 }
+  where
+    zero_test : {n : ℕ} → (n == 0) ≡ true → n ≡ 0
+    zero_test h = grind (arith, nat_tests)
+
+floor_least : (n d : ℕ) → 255 * billion * n / d * d ≤ n * (255 * billion)
+floor_least n d = omega arith
+
+pub part_least : (f : Fraction) → IsProper f → AtMost (over (255 * billion * f.num / f.den) (255 * billion)) f
+part_least f p = record { cross = floor_least f.num f.den }
+
+joined_least : (n a c : ℕ) (f g : Fraction) → IsProper f → IsProper g → AtMost (over a n) f → AtMost (over c n) g
+    → AtMost (over (max a c) n) (greater f g)
+joined_least n a c f g pf pg h k = ⊎_elim
+    (λ (l : a < c). (
+    let e : c ≡ max a c = omega arith in
+    subst (λ m. AtMost (over m n) (greater f g)) e
+    (AtMost-trans (over c n) g (greater f g) pg k (AtMost-greater_right f g))))
+    (λ (l : c ≤ a). (
+    let e : a ≡ max a c = omega arith in
+    subst (λ m. AtMost (over m n) (greater f g)) e
+    (AtMost-trans (over a n) f (greater f g) pf h (AtMost-greater_left f g))))
+    (cases_lt a c)
+
+max-mono : {a b c d : ℕ} → a ≤ c → b ≤ d → max a b ≤ max c d
+max-mono h k = omega arith
+
+module _ (b : Block) (box : List Interval) (bytes : List ℕ) (xs : List Dec) (e : ℕ → ℕ → ℕ)
+    (l : (i t : ℕ) → IsWithinSpans billion (literal_degree b xs i t) (literal_grade b bytes i t) (e i t)
+    (literal_span b box i t) (literal_byte_span b box i t)) (o : ℕ) where
+  resting : (g : ℕ) (f : Fraction) → f.num ≡ 0 → g ≡ 0 → IsNear billion g f 0
+  resting g f n z = let p : g * f.den ≡ 0 = ap (λ m. m * f.den) z ∙ omega arith in
+      record { up = omega arith; down = omega arith }
+
+  moving_held : (r : Rule) → IfSome r.weight IsWeight
+      → IsHeld billion (byte_strength b bytes r) (strength b xs r) (moving_error b box e r)
+  moving_held r hw = by_bool (is_still b box r) refl
+    where
+      k : IsHeld billion (byte_strength b bytes r) (strength b xs r) (rule_error e r)
+      k = (rule_within b box bytes xs e l r hw).held
+
+      by_bool : (c : Bool) → is_still b box r ≡ c
+          → IsHeld billion (byte_strength b bytes r) (strength b xs r) (if c then 0 else rule_error e r)
+      by_bool true h =
+          let z = still_rule b box bytes xs e l o r hw (IsStill-test b box r h) in
+          record {
+            proper = k.proper;
+            to_one = k.to_one;
+            to_255 = k.to_255;
+            near = resting (byte_strength b bytes r) (strength b xs r) z.0 z.1;
+          }
+      by_bool false h = k
+
+  -- its bytes' mass is so near to it
+  pub term_held : (t : ℕ) (rs : List Rule) → All (λ r. IfSome r.weight IsWeight) rs
+      → IsHeld billion (byte_mass_among b bytes o t rs) (mass_among b xs o t rs)
+      (greatest_of (moving_error b box e) o t rs)
+  term_held t [] hw = (within_none billion 0).held
+  term_held t (r ∷ rs) hw = by_bool (term_held t rs (λ k d i. hw (suc k) d (omega arith))) (concludes r o t)
+    where
+      by_bool : IsHeld billion (byte_mass_among b bytes o t rs) (mass_among b xs o t rs)
+          (greatest_of (moving_error b box e) o t rs) → (c : Bool)
+          → IsHeld billion
+          (if c then max (byte_strength b bytes r) (byte_mass_among b bytes o t rs) else byte_mass_among b bytes o t rs)
+          (if c then greater (strength b xs r) (mass_among b xs o t rs) else mass_among b xs o t rs)
+          (if c then max (moving_error b box e r) (greatest_of (moving_error b box e) o t rs) else
+          greatest_of (moving_error b box e) o t rs)
+      by_bool rest true = held_greater billion (byte_strength b bytes r) (byte_mass_among b bytes o t rs)
+          (moving_error b box e r) (greatest_of (moving_error b box e) o t rs) (strength b xs r)
+          (mass_among b xs o t rs) (moving_held r (hw 0 r (omega arith))) rest
+      by_bool rest false = rest
+
+  -- and it is at least so much
+  pub term_low : (t : ℕ) (rs : List Rule) → All (λ r. IfSome r.weight IsWeight) rs
+      → AtMost (over (greatest_of (low_part b box) o t rs) (255 * billion)) (mass_among b xs o t rs)
+  term_low t [] hw = record { cross = omega arith }
+  term_low t (r ∷ rs) hw = by_bool (term_low t rs (λ k d i. hw (suc k) d (omega arith))) (concludes r o t)
+    where
+      w : IsWithinSpans billion (strength b xs r) (byte_strength b bytes r) (rule_error e r) (rule_span b box r)
+          (rule_byte_span b box r)
+      w = rule_within b box bytes xs e l r (hw 0 r (omega arith))
+
+      part : AtMost (over (low_part b box r) (255 * billion)) (strength b xs r)
+      part = AtMost-trans (over (low_part b box r) (255 * billion)) (rule_span b box r).low (strength b xs r)
+          w.between.low.left (part_least (rule_span b box r).low w.between.low.left) w.between.low.below
+
+      rest_proper : IsProper (mass_among b xs o t rs)
+      rest_proper = (term_held t rs (λ k d i. hw (suc k) d (omega arith))).proper
+
+      by_bool : AtMost (over (greatest_of (low_part b box) o t rs) (255 * billion)) (mass_among b xs o t rs)
+          → (c : Bool)
+          → AtMost (over (if c then max (low_part b box r) (greatest_of (low_part b box) o t rs) else
+          greatest_of (low_part b box) o t rs) (255 * billion))
+          (if c then greater (strength b xs r) (mass_among b xs o t rs) else mass_among b xs o t rs)
+      by_bool rest true = joined_least (255 * billion) (low_part b box r) (greatest_of (low_part b box) o t rs)
+          (strength b xs r) (mass_among b xs o t rs) w.between.low.right rest_proper part rest
+      by_bool rest false = rest
+
+  -- its bytes' mass is at least so much, and at most
+  pub term_bytes : (t : ℕ) (rs : List Rule) → All (λ r. IfSome r.weight IsWeight) rs
+      → (greatest_of (λ r. (rule_byte_span b box r).low) o t rs ≤ byte_mass_among b bytes o t rs)
+      × (byte_mass_among b bytes o t rs ≤ greatest_of (λ r. (rule_byte_span b box r).high) o t rs)
+  term_bytes t [] hw = (omega arith, omega arith)
+  term_bytes t (r ∷ rs) hw = by_bool (term_bytes t rs (λ k d i. hw (suc k) d (omega arith))) (concludes r o t)
+    where
+      w : IsWithinSpans billion (strength b xs r) (byte_strength b bytes r) (rule_error e r) (rule_span b box r)
+          (rule_byte_span b box r)
+      w = rule_within b box bytes xs e l r (hw 0 r (omega arith))
+
+      by_bool : (greatest_of (λ r. (rule_byte_span b box r).low) o t rs ≤ byte_mass_among b bytes o t rs)
+          × (byte_mass_among b bytes o t rs ≤ greatest_of (λ r. (rule_byte_span b box r).high) o t rs)
+          → (c : Bool)
+          → ((if c then max (rule_byte_span b box r).low (greatest_of (λ r. (rule_byte_span b box r).low) o t rs) else
+          greatest_of (λ r. (rule_byte_span b box r).low) o t rs)
+          ≤ (if c then max (byte_strength b bytes r) (byte_mass_among b bytes o t rs) else byte_mass_among b bytes o t
+          rs))
+          × ((if c then max (byte_strength b bytes r) (byte_mass_among b bytes o t rs) else byte_mass_among b bytes o t
+          rs)
+          ≤ (if c then max (rule_byte_span b box r).high (greatest_of (λ r. (rule_byte_span b box r).high) o t rs) else
+          greatest_of (λ r. (rule_byte_span b box r).high) o t rs))
+      by_bool rest true = (max-mono w.ordered.low rest.0, max-mono w.ordered.high rest.1)
+      by_bool rest false = rest
+
+-- ---- what is read from fractions of one value
+
+-- ---- times a weight
+
+pub times_same : (f g : Fraction) (w : ℕ) → IsSame f g → IsSame (times f w) (times g w)
+times_same f g w a = record {
+  left = times_proper f w a.left;
+  right = times_proper g w a.right;
+  below = times_mono f g w a.below;
+  above = times_mono g f w a.above;
+}
+
+-- ---- what is read
+
+both_ways : {m n : ℕ} → m ≤ n → n ≤ m → m ≡ n
+both_ways l k = omega arith
+
+floor_below : (c : ℕ) (f g : Fraction) → IsProper f → IsProper g → AtMost f g → f.num * c / f.den ≤ g.num * c / g.den
+floor_below c f g pf pg l =
+    let q = f.num * c / f.den in
+    let a : q * f.den ≤ f.num * c = (let p = pf.pos in omega arith) in
+    let b : (q * f.den) * g.den ≤ (f.num * c) * g.den = mul-le-mul_right g.den a in
+    let d : (f.num * g.den) * c ≤ (g.num * f.den) * c = mul-le-mul_right c l.cross in
+    let e : (q * g.den) * f.den ≤ (g.num * c) * f.den = omega arith in
+    le-div q (g.num * c) g.den pg.pos (le_of_mul-le-mul_right e pf.pos)
+
+floor_same : (c : ℕ) (f g : Fraction) → IsSame f g → f.num * c / f.den ≡ g.num * c / g.den
+floor_same c f g a = both_ways (floor_below c f g a.left a.right a.below) (floor_below c g f a.right a.left a.above)
+
+pub down_same : (f g : Fraction) → IsSame f g → parts_down f ≡ parts_down g
+down_same f g a = floor_same billion f g a
+
+turned : (c n d : ℕ) → c * n / d ≡ n * c / d
+turned c n d = let e : c * n ≡ n * c = omega arith in ap (λ m. m / d) e
+
+pub part_same : (f g : Fraction) → IsSame f g → 255 * f.num / f.den ≡ 255 * g.num / g.den
+part_same f g a = subst (λ m. m ≡ 255 * g.num / g.den) (sym (turned 255 f.num f.den))
+    (subst (λ m. f.num * 255 / f.den ≡ m) (sym (turned 255 g.num g.den)) (floor_same 255 f g a))
+
+up_below : (f g : Fraction) → IsProper f → IsProper g → AtMost f g → parts_up f ≤ parts_up g
+up_below f g pf pg l =
+    let e = parts_up g in
+    let a : g.num * billion ≤ e * g.den = le-up_div (g.num * billion) g.den pg.pos in
+    let b : (g.num * billion) * f.den ≤ (e * g.den) * f.den = mul-le-mul_right f.den a in
+    let d : (f.num * g.den) * billion ≤ (g.num * f.den) * billion = mul-le-mul_right billion l.cross in
+    let h : (f.num * billion) * g.den ≤ (e * f.den) * g.den = omega arith in
+    up_div-le (f.num * billion) f.den e pf.pos (le_of_mul-le-mul_right h pg.pos)
+
+pub up_same : (f g : Fraction) → IsSame f g → parts_up f ≡ parts_up g
+up_same f g a = both_ways (up_below f g a.left a.right a.below) (up_below g f a.right a.left a.above)
+
+pub below_same : (f g h : Fraction) → IsSame f g → IsBelow f h → IsBelow g h
+below_same f g h a l = ⊎_elim
+    (λ (k : g.num * h.den < h.num * g.den). record { cross = k })
+    (λ (k : h.num * g.den ≤ g.num * h.den). absurd
+    (let reached : AtMost h f = AtMost-trans h g f a.right (record { cross = k }) a.above in
+    let x = reached.cross in let y = l.cross in omega arith))
+    (cases_lt (g.num * h.den) (h.num * g.den))
+
+pub none_same : (f g : Fraction) → IsSame f g → f.num ≡ 0 → g.num ≡ 0
+none_same f g a z = none_below g f a.left a.above z
+
+pub some_same : (f g : Fraction) → IsSame f g → 0 < f.num → 0 < g.num
+some_same f g a some = ⊎_elim
+    (λ (k : 0 < g.num). k)
+    (λ (k : g.num ≤ 0). absurd (let z = none_below f g a.right a.below (omega arith) in omega arith))
+    (cases_lt 0 g.num)
+
+-- ---- faults
+
+pub strong_same : (leaf : Leaf) (f : Fraction) (n : ℕ) (r : Span Fraction) (m : Span ℕ) (fault : LeafFault)
+    → IsSame f r.low → n ≡ m.low → IsStrongFault leaf (only f) (only n) fault → IsStrongFault leaf r m fault
+strong_same leaf f n r m fault a e (weak l) =
+    subst (λ k. IsStrongFault leaf r m (Weak leaf.rule leaf.k (record { 0 = k }))) (sym (down_same f r.low a))
+    (weak (below_same f r.low (over leaf.k 255) a l))
+strong_same leaf f n r m fault a e (still l none) =
+    still (AtMost-trans (over leaf.k 255) f r.low a.left l a.below) (sym e ∙ none)
+
+pub silent_same : (k : ℕ) (f : Fraction) (n : ℕ) (r : Span Fraction) (m : Span ℕ) (fault : LeafFault)
+    → IsSame f r.high → n ≡ m.high → IsSilentFault k (only f) (only n) fault → IsSilentFault k r m fault
+silent_same k f n r m fault a e (silent some) =
+    subst (λ j. IsSilentFault k r m (Silent k (record { 0 = j }))) (sym (up_same f r.high a))
+    (silent (some_same f r.high a some))
+silent_same k f n r m fault a e (loud none some) =
+    subst (λ j. IsSilentFault k r m (Loud k j)) (sym e) (loud (none_same f r.high a none) (subst (λ j. 0 < j) e some))

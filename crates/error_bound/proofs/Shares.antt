@@ -1,28 +1,27 @@
--- The rows of an output's terms, and the sums over its shares and over its byte shares.
-use Rattle.std.proofs.Common.{◌≡◌, ⊎_elim, ℕ, suc, ◌+◌, ◌*◌, ◌<◌, ◌≤◌, max, Bool, true, false, List, [], ◌∷◌}
-use Rattle.std.proofs.Common.{refl, ap, ap₂, ◌∙◌, subst, arith, mul-le-mul_right}
-use Rattle.std.specs.Prelude.{All, IfSome, if◌then◌else◌, ◌==◌, ◌&&◌, ◌||◌, ℤ, pos, ◌+ℤ◌, ◌*ℤ◌, ◌≤ℤ◌, ◌<ℤ◌}
-use Rattle.std.specs.List.{list_any}
-use Rattle.std.proofs.lemmas.Bool.{cases_lt}
-use Rattle.std.proofs.lemmas.Bool.Decides.{nat_tests}
+-- The rows of an output's terms, the sums over its shares and byte shares, and its answers where a box is sure.
+use Rattle.std.proofs.Common.{◌≡◌, ⊎_elim, ℕ, suc, ◌+◌, ◌*◌, ◌<◌, ◌≤◌, max, Bool, true, false, List, [], ◌∷◌, refl, ap}
+use Rattle.std.proofs.Common.{ap₂, ◌∙◌, subst, arith, mul-le-mul_right, cond, Some, sym, ◌-◌}
+use Rattle.std.proofs.{lemmas.Bool.Decides.nat_tests, lemmas.List.Sums.sum_by-cons, lemmas.Bool.cases_lt}
 use Rattle.std.proofs.lemmas.Int.{ints}
-use Rattle.std.proofs.lemmas.List.Sums.{sum_by-cons}
+use Rattle.std.specs.Prelude.{All, IfSome, ◌==◌, ◌&&◌, ◌||◌, ℤ, pos, ◌+ℤ◌, ◌*ℤ◌, ◌≤ℤ◌, ◌<ℤ◌, if◌then◌else◌}
+use Rattle.std.specs.List.{list_any}
 use borrow.Author.Differences.{up, down}
-use Rattle.fz_num.specs.{declared.dec.Dec.Dec, Decimals.distance}
-use Rattle.fuzzy_meaning.specs.declared.{block.Block.Block, block.Output.Output}
-use Rattle.fuzzy_meaning.specs.Blocks.{IsWithin, IsWeight, HasSingleton}
-use Rattle.fuzzy_meaning.specs.Meaning.{literal_degree, mass, Share, shares_from, common_den, total_mass}
-use Rattle.fuzzy_meaning.specs.Meaning.{weighted_sum}
-use Rattle.byte_scaling.specs.Cells.{nearest_byte, NearestIsByte}
+use Rattle.fz_num.specs.{Fractions.Quotient, Fractions.IsClose, declared.dec.Dec.Dec, Decimals.distance}
+use Rattle.fuzzy_meaning.specs.Meaning.{literal_degree, mass, Share, shares_from, common_den, total_mass, weighted_sum}
+use Rattle.fuzzy_meaning.specs.Blocks.{IsWithin, IsWeight, HasSingleton, IsValid, output_at, IsValidOutput}
+use Rattle.fuzzy_meaning.specs.{declared.block.Output.Output, declared.block.Block.Block}
+use Rattle.fuzzy_meaning.specs.Meaning.{shares, centre}
+use Rattle.byte_scaling.specs.Cells.{nearest_byte, NearestIsByte, value_in}
 use Rattle.point_slope.specs.Bytes.{ByteShare, literal_grade, byte_mass, byte_shares_from, total_mass as byte_total}
-use Rattle.point_slope.specs.Bytes.{weighted_sum as byte_weighted}
-use Rattle.error_bound.specs.{declared.boxes.Interval.Interval, Boxes.literal_span, Boxes.literal_byte_span}
-use Rattle.error_bound.specs.{Errors.billion, Errors.apart, Bounds.offset}
+use Rattle.point_slope.specs.Bytes.{weighted_sum as byte_weighted, byte_shares}
 use Rattle.error_bound.specs.Tight.{sum_over, greatest_over, low_of, byte_low_of, byte_high_of, error_of, if_live}
-use Rattle.error_bound.specs.Tight.{farthest, live_offset}
-use Rattle.error_bound.proofs.{ConditionLemmas.IsWithinSpans, Sums.Apart}
-use Rattle.error_bound.proofs.TermReaches.{term_held, term_low, term_bytes}
-use Rattle.error_bound.proofs.Rows.{Row, dens, mass_sum, weighted, total_g, dot_u, dot_s, gaps, lows, AllOk}
+use Rattle.error_bound.specs.Tight.{farthest, live_offset, IsSure, sure_bound}
+use Rattle.error_bound.specs.{Boxes.literal_span, Boxes.literal_byte_span, declared.boxes.Interval.Interval}
+use Rattle.error_bound.specs.{Bounds.offset, Bounds.ratio_bound, Errors.billion, Errors.apart}
+use Rattle.error_bound.proofs.Rows.{Apart, Row, dens, mass_sum, weighted, total_g, dot_u, dot_s, gaps, lows, AllOk}
+use Rattle.error_bound.proofs.RuleLemmas.{term_held, term_low, term_bytes}
+use Rattle.error_bound.proofs.{Rows.close_value, Rows.rows_near, Rows.mass_pos, Literals.IsWithinSpans}
+use Rattle.fz_list.proofs.Algebra.{All-slice_get}
 
 -- of the terms of output o from number t on
 abbrev pub rows_from : Block → List Interval → List ℕ → List Dec → (ℕ → ℕ → ℕ) → ℕ → Output → ℕ → List Dec → List Row
@@ -235,3 +234,72 @@ concluded b o t (c ∷ cs) h e =
         let e0 : c.0 ≡ o = grind (arith, nat_tests) in
         let e1 : c.1 ≡ t = grind (arith, nat_tests) in
         subst (λ k. HasSingleton b o k) e1 (subst (λ k. HasSingleton b k c.1) e0 (h 0 c (omega arith)))
+
+-- ---- where a box is sure, the answers are near the exact ones
+
+-- a valid block's weights are weights
+pub weights : (b : Block) → IsValid b → All (λ r. IfSome r.weight IsWeight) b.rules
+weights b v k d l = (v.rules k d l).weight
+
+-- where the masses' sum is above 0
+pub centre_some : (ss : List Share) (otherwise : Quotient) → 0 < total_mass ss
+    → centre ss otherwise ≡ record { num = weighted_sum ss; den = total_mass ss * 10000 }
+centre_some ss otherwise h = let e : (total_mass ss == 0) ≡ false = grind (arith, nat_tests) in
+    ap (λ c. cond c otherwise (record { num = weighted_sum ss; den = total_mass ss * 10000 })) e
+
+-- what a sure box says of the sums
+pub record IsFiring (b : Block) (bytes : List ℕ) (xs : List Dec) (o : ℕ) (x : Output) (h n : ℕ) : Type 0 where
+  pub byte_pos : 0 < byte_total (byte_shares b bytes o x)
+  pub close : (q : ℕ) (otherwise : Quotient)
+      → q * byte_total (byte_shares b bytes o x) ≤ h * byte_weighted (byte_shares b bytes o x)
+      → h * byte_weighted (byte_shares b bytes o x) ≤ (q + 1) * byte_total (byte_shares b bytes o x)
+      → IsClose (distance x.lo x.hi) n (value_in h x q) (centre (shares b xs o x) otherwise)
+
+module _ (b : Block) (box : List Interval) (bytes : List ℕ) (xs : List Dec) (e : ℕ → ℕ → ℕ) (valid : IsValid b)
+    (l : (i t : ℕ) → IsWithinSpans billion (literal_degree b xs i t) (literal_grade b bytes i t) (e i t)
+    (literal_span b box i t) (literal_byte_span b box i t)) where
+  pub firing : NearestIsByte → (o : ℕ) (x : Output) (h : ℕ) → output_at b o ≡ Some x → 0 < h → IsSure b box o x
+      → IsFiring b bytes xs o x h (sure_bound b box e o x h)
+  firing is_byte o x h ex hh s =
+      let w = distance x.lo x.hi in
+      let d = live_offset b box o x in
+      let rs = rows_from b box bytes xs e o x 1 x.singletons in
+      let ss = shares b xs o x in
+      let vx = All-slice_get IsValidOutput b.outputs (o - 1) x valid.outputs ex in
+      let range = vx.range in
+      let wp : 0 < w = omega (arith, ints) in
+      let hw = weights b valid in
+      let ok = all_ok b box bytes xs e l hw o x is_byte range vx.singletons in
+      let sm = same_sum b box bytes xs e o x 1 x.singletons vx.singletons in
+      let gt = byte_total_is b box bytes xs e o x 1 x.singletons in
+      let wt = byte_weighted_is b box bytes xs e o x 1 x.singletons in
+      let lp : 0 < lows rs = subst (λ m. 0 < m) (lows_is b box bytes xs e o x 1 x.singletons) s.sum in
+      let gp : 0 < total_g rs = at_least s.bytes (bytes_least b box bytes xs e l hw o x 1 x.singletons) in
+      let mp : 0 < mass_sum rs = mass_pos billion w d (total_g rs) (dot_u rs) rs ok lp in
+      let tp : 0 < total_mass ss = subst (λ m. 0 < m) (sym sm.masses_is) mp in
+      let same : ratio_bound w h (255 * gaps rs) (w * lows rs) d ≡ sure_bound b box e o x h =
+      ap₂ (λ a c. ratio_bound w h (255 * a) (w * c) d) (sym (gaps_is b box bytes xs e o x 1 x.singletons))
+      (sym (lows_is b box bytes xs e o x 1 x.singletons)) in
+      record {
+        byte_pos = subst (λ m. 0 < m) (sym gt) gp;
+        close = λ q otherwise f1 f2.
+            let g1 : q * total_g rs ≤ h * dot_s rs =
+            subst (λ g. q * g ≤ h * dot_s rs) gt
+            (subst (λ a. q * byte_total (byte_shares b bytes o x) ≤ h * a) wt f1) in
+            let g2 : h * dot_s rs ≤ (q + 1) * total_g rs =
+            subst (λ g. h * dot_s rs ≤ (q + 1) * g) gt
+            (subst (λ a. h * a ≤ (q + 1) * byte_total (byte_shares b bytes o x)) wt f2) in
+            let n = ratio_bound w h (255 * gaps rs) (w * lows rs) d in
+            let st = rows_near billion w d rs (omega arith) wp ok lp gp h q hh g1 g2 in
+            let c = close_value h x n q (weighted_sum ss) (mass_sum rs) (weighted rs) hh mp sm.sum_is st in
+            let c1 : IsClose (distance x.lo x.hi) n (value_in h x q)
+            (record { num = weighted_sum ss; den = total_mass ss * 10000 }) =
+            subst (λ m. IsClose (distance x.lo x.hi) n (value_in h x q)
+            (record { num = weighted_sum ss; den = m * 10000 })) (sym sm.masses_is) c in
+            subst (λ y. IsClose (distance x.lo x.hi) y (value_in h x q) (centre ss otherwise)) same
+            (subst (λ y. IsClose (distance x.lo x.hi) n (value_in h x q) y)
+            (sym (centre_some ss otherwise tp)) c1);
+      }
+    where
+      at_least : {a c : ℕ} → 1 ≤ a → a ≤ c → 0 < c
+      at_least h1 h2 = omega arith

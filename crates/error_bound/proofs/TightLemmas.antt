@@ -1,24 +1,38 @@
--- Of the tight Bound's parts: what rises and falls with them, and a strong leaf's Bound.
-use Rattle.std.proofs.Common.{◌≡◌, ⊎_elim, ℕ, zero, suc, ◌+◌, ◌-◌, ◌*◌, ◌/◌, ◌<◌, ◌≤◌, max, Bool, true, false, List, []}
-use Rattle.std.proofs.Common.{◌∷◌, length, get_or, Some, refl, sym, subst, arith, mul-le-mul_right, mul-pos}
-use Rattle.std.specs.Prelude.{All, ◌==◌, if◌then◌else◌, slice_get, ◌<ℤ◌}
-use Rattle.std.proofs.lemmas.Int.{ints}
-use Rattle.std.proofs.lemmas.Bool.{cases_lt}
-use Rattle.std.proofs.lemmas.Nat.{mul-le, le-div}
-use Rattle.fz_list.proofs.Algebra.{All-slice_get, IsSomeAnd-some}
-use Rattle.fz_num.specs.declared.dec.Dec.{Dec}
-use Rattle.fz_num.specs.{Fractions.Fraction, Fractions.over, Fractions.IsProper, Fractions.AtMost, Decimals.distance}
-use Rattle.fuzzy_meaning.specs.declared.{block.Block.Block, block.Output.Output, block.Rule.Rule}
+-- The tight Bound's parts, the ends of a term's mass, and rules that are still.
+use Rattle.std.proofs.Common.{◌≡◌, ⊎_elim, ℕ, zero, suc, ◌+◌, ◌-◌, ◌*◌, ◌/◌, ◌<◌, ◌≤◌, max, Bool, true, false, List}
+use Rattle.std.proofs.Common.{[], ◌∷◌, length, get_or, Some, refl, sym, subst, arith, mul-le-mul_right, mul-pos}
+use Rattle.std.proofs.{Common.Option, Common.None, Common.le_of_mul-le-mul_right, lemmas.Option.slice_get_within}
+use Rattle.std.proofs.{lemmas.Nat.mul-le, lemmas.Nat.le-div, lemmas.Bool.cases_lt, lemmas.Int.ints}
+use Rattle.std.specs.Prelude.{All, ◌==◌, slice_get, ◌<ℤ◌, IfSome, if◌then◌else◌}
+use Rattle.fz_list.proofs.Algebra.{All-slice_get, IsSomeAnd-some, some_at}
+use Rattle.fz_num.specs.Fractions.{Fraction, over, IsProper, AtMost, greater, none, up_div, lesser}
+use Rattle.fz_num.specs.{declared.dec.Dec.Dec, Decimals.distance}
 use Rattle.fuzzy_meaning.specs.Blocks.{IsValid, IsValidRule, IsWithin, HasSingleton, output_at, IsValidOutput}
-use Rattle.fuzzy_meaning.specs.Meaning.{concludes}
-use Rattle.error_bound.specs.declared.boxes.Interval.{Interval}
-use Rattle.error_bound.specs.Errors.{billion, apart, rule_error, output_error, output_error_among}
-use Rattle.error_bound.specs.Bounds.{errors_from, strong_bound, offset, greatest_offset}
+use Rattle.fuzzy_meaning.specs.Meaning.{concludes, literal_degree, strength, mass_among, weight_of}
+use Rattle.fuzzy_meaning.specs.Conditions.{Condition, Conditions, all, also, conditions}
+use Rattle.fuzzy_meaning.specs.{Blocks.IsValidInput, Blocks.IsWeight, Blocks.input_at, declared.block.Output.Output}
+use Rattle.fuzzy_meaning.specs.{declared.block.Trapezoid.Trapezoid, Places.points_of, Places.degree_at}
+use Rattle.fuzzy_meaning.specs.{declared.block.Block.Block, declared.block.Input.Input, declared.block.Rule.Rule}
+use Rattle.error_bound.specs.Errors.{billion, apart, rule_error, output_error, output_error_among, IsTermError}
 use Rattle.error_bound.specs.Tight.{greatest_of, sum_over, greatest_over, low_part, is_still, moving_error, low_of}
 use Rattle.error_bound.specs.Tight.{byte_low_of, byte_high_of, error_of, if_live, farthest, live_offset, sure_sum}
-use Rattle.error_bound.specs.Tight.{sure_bytes, swing, sure_bound, IsSure}
-use Rattle.error_bound.specs.{Boxes.rule_span, Boxes.rule_byte_span, Leaves.IsStrong}
-use Rattle.error_bound.proofs.{BoundLemmas.ratio-mono, RuleOrder.low_proper, Shares.concluded, Shares.within_width}
+use Rattle.error_bound.specs.Boxes.{rule_span, rule_byte_span, IsBox, literal_span, literal_byte_span, grades_over}
+use Rattle.error_bound.specs.Bounds.{errors_from, strong_bound, offset, greatest_offset}
+use Rattle.error_bound.specs.Tight.{sure_bytes, swing, sure_bound, IsSure, high_part}
+use Rattle.error_bound.specs.{Leaves.IsStrong, Leaves.IsStill, Leaves.concludes_some, declared.boxes.Interval.Interval}
+use Rattle.error_bound.specs.{CellErrors.term_error, CellErrors.term_errors, Masses.IsRuleMass, Masses.no_mass}
+use Rattle.error_bound.specs.{Spans.Span, Spans.only, Spans.span, Spans.byte_span, Errors.AreTermErrors}
+use Rattle.error_bound.specs.{Reaches.IsNowhere, Best.IsCandidate}
+use Rattle.error_bound.proofs.RuleLemmas.{rule_low_proper, term_held, rule_within, times_ordered, none_below}
+use Rattle.error_bound.proofs.SpanLemmas.{IsBetween, AreOrdered, ordered-refl, between, truths_monotone}
+use Rattle.error_bound.proofs.Literals.{IsWithinSpans, term_errors-are, at_place, width_pos, least_le, le_greatest}
+use Rattle.error_bound.proofs.FlatteningLemmas.{span_to_itself, at_literal-holds}
+use Rattle.error_bound.proofs.{RuleLemmas.scaled-mono, RuleLemmas.times_proper, Shares.concluded, Shares.within_width}
+use Rattle.error_bound.proofs.{SpanLemmas.levels_monotone, LeafLemmas.candidate-rule, Nested.ratio-mono}
+use Rattle.fz_num.proofs.Algebra.{by_greater, le-up_div, AtMost-refl, AtMost-lesser_left, AtMost-lesser_right}
+use Rattle.fz_num.proofs.Algebra.{up_div-le}
+use Rattle.byte_scaling.specs.{Cells.IsInCell, Cells.cell_start, Cells.inside, Weights.weight_byte_of}
+use Rattle.point_slope.specs.{Tables.row_of, Tables.grade_of, Bytes.literal_grade}
 
 -- ---- the greatest of rules, sums and greatest of terms
 
@@ -54,26 +68,26 @@ greatest_of-least f o t (s ∷ rs) (suc n) r e c =
 
 pub sum_over-mono : {P : Dec → Type 0} (f g : ℕ → Dec → ℕ) → ((t : ℕ) (u : Dec) → P u → f t u ≤ g t u) → (t : ℕ)
     (us : List Dec) → All P us → sum_over f t us ≤ sum_over g t us
-sum_over-mono f g h t [] all = omega arith
-sum_over-mono f g h t (u ∷ us) all =
-    both (h t u (all 0 u (omega arith))) (sum_over-mono f g h (t + 1) us (λ k d l. all (suc k) d (omega arith)))
+sum_over-mono f g h t [] each = omega arith
+sum_over-mono f g h t (u ∷ us) each =
+    both (h t u (each 0 u (omega arith))) (sum_over-mono f g h (t + 1) us (λ k d l. each (suc k) d (omega arith)))
   where
     both : {p q r s : ℕ} → p ≤ q → r ≤ s → p + r ≤ q + s
     both h k = omega arith
 
 pub greatest_over-mono : {P : Dec → Type 0} (f g : ℕ → Dec → ℕ) → ((t : ℕ) (u : Dec) → P u → f t u ≤ g t u)
     → (t : ℕ) (us : List Dec) → All P us → greatest_over f t us ≤ greatest_over g t us
-greatest_over-mono f g h t [] all = omega arith
-greatest_over-mono f g h t (u ∷ us) all =
-    max-mono (h t u (all 0 u (omega arith)))
-    (greatest_over-mono f g h (t + 1) us (λ k d l. all (suc k) d (omega arith)))
+greatest_over-mono f g h t [] each = omega arith
+greatest_over-mono f g h t (u ∷ us) each =
+    max-mono (h t u (each 0 u (omega arith)))
+    (greatest_over-mono f g h (t + 1) us (λ k d l. each (suc k) d (omega arith)))
 
 pub greatest_over-below : {P : Dec → Type 0} (f : ℕ → Dec → ℕ) (m : ℕ) → ((t : ℕ) (u : Dec) → P u → f t u ≤ m)
     → (t : ℕ) (us : List Dec) → All P us → greatest_over f t us ≤ m
-greatest_over-below f m h t [] all = omega arith
-greatest_over-below f m h t (u ∷ us) all =
-    both (h t u (all 0 u (omega arith)))
-    (greatest_over-below f m h (t + 1) us (λ k d l. all (suc k) d (omega arith)))
+greatest_over-below f m h t [] each = omega arith
+greatest_over-below f m h t (u ∷ us) each =
+    both (h t u (each 0 u (omega arith)))
+    (greatest_over-below f m h (t + 1) us (λ k d l. each (suc k) d (omega arith)))
   where
     both : {p q : ℕ} → p ≤ m → q ≤ m → max p q ≤ m
     both h k = omega arith
@@ -171,7 +185,7 @@ module _ (b : Block) (box : List Interval) (e : ℕ → ℕ → ℕ) (o : ℕ) (
 
   sum_least : billion * k ≤ sure_sum b box o x
   sum_least =
-      let a = part_above k (rule_span b box r).low (low_proper b box r) s.low in
+      let a = part_above k (rule_span b box r).low (rule_low_proper b box r) s.low in
       let c = greatest_of-least (low_part b box) o s.term b.rules n r er s.concludes_it in
       let d = sum_over-least (λ t. low_of b box o t) 1 s.term x.singletons in_singletons.0 in_singletons.1 in
       least (billion * k) (low_part b box r) (low_of b box o s.term) (sure_sum b box o x) a c d
@@ -216,3 +230,243 @@ module _ (b : Block) (box : List Interval) (e : ℕ → ℕ → ℕ) (o : ℕ) (
       crossed a s w m p h k =
           let z : a * p ≤ (w * s) * m = mul-le a p (w * s) m h k in
           omega arith
+
+-- ---- the mass of a term lies between its ends, and no lower end is above the upper one
+
+-- ---- one mass, in c parts
+
+pub record IsMassBetween (c l h : ℕ) (f : Fraction) : Type 0 where
+  pub low : l * f.den ≤ c * f.num
+  pub high : c * f.num ≤ h * f.den
+
+down_le : (c : ℕ) (s f : Fraction) → IsProper s → AtMost s f → (c * s.num / s.den) * f.den ≤ c * f.num
+down_le c s f p l =
+    let q = c * s.num / s.den in
+    let d = p.pos in
+    let a : s.den * q ≤ c * s.num = omega arith in
+    let a1 : (s.den * q) * f.den ≤ (c * s.num) * f.den = mul-le-mul_right f.den a in
+    let a2 : (s.num * f.den) * c ≤ (f.num * s.den) * c = mul-le-mul_right c l.cross in
+    let a3 : (q * f.den) * s.den ≤ (c * f.num) * s.den = omega arith in
+    le_of_mul-le-mul_right a3 d
+
+up_le : (c : ℕ) (s f : Fraction) → IsProper s → AtMost f s → c * f.num ≤ up_div (c * s.num) s.den * f.den
+up_le c s f p l =
+    let d = p.pos in
+    let q = up_div (c * s.num) s.den in
+    let a : c * s.num ≤ q * s.den = le-up_div (c * s.num) s.den d in
+    let a1 : (c * s.num) * f.den ≤ (q * s.den) * f.den = mul-le-mul_right f.den a in
+    let a2 : (f.num * s.den) * c ≤ (s.num * f.den) * c = mul-le-mul_right c l.cross in
+    let a3 : (c * f.num) * s.den ≤ (q * f.den) * s.den = omega arith in
+    le_of_mul-le-mul_right a3 d
+
+part_between : (c : ℕ) (l f h : Fraction) → AreOrdered l f → AreOrdered f h
+    → IsMassBetween c (c * l.num / l.den) (up_div (c * h.num) h.den) f
+part_between c l f h a b = record { low = down_le c l f a.left a.below; high = up_le c h f b.right b.below }
+
+low_more : (c l : ℕ) (f g : Fraction) → IsProper f → AtMost f g → l * f.den ≤ c * f.num → l * g.den ≤ c * g.num
+low_more c l f g p k h =
+    let a1 : (l * f.den) * g.den ≤ (c * f.num) * g.den = mul-le-mul_right g.den h in
+    let a2 : (f.num * g.den) * c ≤ (g.num * f.den) * c = mul-le-mul_right c k.cross in
+    let a3 : (l * g.den) * f.den ≤ (c * g.num) * f.den = omega arith in
+    le_of_mul-le-mul_right a3 p.pos
+
+max_le : (a b d n : ℕ) → a * d ≤ n → b * d ≤ n → max a b * d ≤ n
+max_le a b d n h k = ⊎_elim
+    (λ (l : a < b). let e : b ≡ max a b = omega arith in subst (λ m. m * d ≤ n) e k)
+    (λ (l : b ≤ a). let e : a ≡ max a b = omega arith in subst (λ m. m * d ≤ n) e h)
+    (cases_lt a b)
+
+between_greater : (c l1 h1 l2 h2 : ℕ) (f g : Fraction) → IsProper f → IsProper g → IsMassBetween c l1 h1 f
+    → IsMassBetween c l2 h2 g → IsMassBetween c (max l1 l2) (max h1 h2) (greater f g)
+between_greater c l1 h1 l2 h2 f g pf pg bf bg = by_greater (IsMassBetween c (max l1 l2) (max h1 h2)) f g
+    (λ k. record {
+      low = max_le l1 l2 f.den (c * f.num) bf.low (low_more c l2 g f pg k bg.low);
+      high = let m : h1 * f.den ≤ max h1 h2 * f.den = mul-le-mul_right f.den (omega arith) in
+          let a = bf.high in omega arith;
+    })
+    (λ k. record {
+      low = max_le l1 l2 g.den (c * g.num) (low_more c l1 f g pf k bf.low) bg.low;
+      high = let m : h2 * g.den ≤ max h1 h2 * g.den = mul-le-mul_right g.den (omega arith) in
+          let a = bg.high in omega arith;
+    })
+
+module _ (b : Block) (box : List Interval) (bytes : List ℕ) (xs : List Dec) (e : ℕ → ℕ → ℕ)
+    (l : (i t : ℕ) → IsWithinSpans billion (literal_degree b xs i t) (literal_grade b bytes i t) (e i t)
+    (literal_span b box i t) (literal_byte_span b box i t)) (o : ℕ) where
+  pub mass_between : (t : ℕ) (rs : List Rule) → All (λ r. IfSome r.weight IsWeight) rs
+      → IsMassBetween (255 * billion) (greatest_of (low_part b box) o t rs) (greatest_of (high_part b box) o t rs)
+      (mass_among b xs o t rs)
+  mass_between t [] h = record { low = omega arith; high = omega arith }
+  mass_between t (r ∷ rs) h =
+      let hs : All (λ r. IfSome r.weight IsWeight) rs = λ k d i. h (suc k) d (omega arith) in
+      by_bool (rule_within b box bytes xs e l r (h 0 r (omega arith))).between
+      (term_held b box bytes xs e l o t rs hs).proper (mass_between t rs hs) (concludes r o t)
+    where
+      by_bool : IsBetween AreOrdered (rule_span b box r) (strength b xs r) → IsProper (mass_among b xs o t rs)
+          → IsMassBetween (255 * billion) (greatest_of (low_part b box) o t rs) (greatest_of (high_part b box) o t rs)
+          (mass_among b xs o t rs) → (c : Bool)
+          → IsMassBetween (255 * billion)
+          (if c then max (low_part b box r) (greatest_of (low_part b box) o t rs)
+          else greatest_of (low_part b box) o t rs)
+          (if c then max (high_part b box r) (greatest_of (high_part b box) o t rs)
+          else greatest_of (high_part b box) o t rs)
+          (if c then greater (strength b xs r) (mass_among b xs o t rs) else mass_among b xs o t rs)
+      by_bool bt proper rest true =
+          between_greater (255 * billion) (low_part b box r) (high_part b box r) (greatest_of (low_part b box) o t rs)
+          (greatest_of (high_part b box) o t rs) (strength b xs r) (mass_among b xs o t rs) bt.low.right proper
+          (part_between (255 * billion) (rule_span b box r).low (strength b xs r) (rule_span b box r).high bt.low
+          bt.high) rest
+      by_bool bt proper rest false = rest
+
+-- ---- the two ends
+
+-- a cell's start lies in it
+start_in : (w b : ℕ) → 0 < w → IsInCell w b (cell_start w b)
+start_in w b p = record {
+  proper = record { pos = omega arith };
+  place = inside (AtMost-refl (cell_start w b)) (record { cross = omega arith });
+}
+
+-- a literal's degree somewhere in the box
+abbrev IsSomewhere : Block → List Interval → ℕ → ℕ → Type 0
+IsSomewhere b box i t = (f : Fraction) × IsBetween AreOrdered (literal_span b box i t) f
+
+parts_ordered : (c : ℕ) (l f h : Fraction) → AreOrdered l f → AreOrdered f h
+    → c * l.num / l.den ≤ up_div (c * h.num) h.den
+parts_ordered c l f h a b =
+    let m = part_between c l f h a b in
+    let k : (c * l.num / l.den) * f.den ≤ up_div (c * h.num) h.den * f.den = along m.low m.high in
+    le_of_mul-le-mul_right k a.right.pos
+  where
+    along : {x y z : ℕ} → x ≤ y → y ≤ z → x ≤ z
+    along p q = omega arith
+
+module _ (b : Block) (box : List Interval) (valid : IsValid b) (count : length box ≡ length b.inputs) (is : IsBox box)
+  where
+    nowhere : IsBetween AreOrdered (record { low = none; high = none }) none
+    nowhere =
+        let same = ordered-refl none (record { pos = omega arith }) in record { low = same; high = same }
+
+    by_term : (i t : ℕ) (x : Input) → input_at b i ≡ Some x → (o : Option Trapezoid) → slice_get x.terms (t - 1) ≡ o
+        → IsSomewhere b box i t
+    by_term i t x ex None et = (none, rw (ex, et) nowhere)
+    by_term i t x ex (Some term) et =
+        let l : i - 1 < length b.inputs = slice_get_within b.inputs (i - 1) x ex in
+        let v = some_at box (i - 1) (omega arith) in
+        let ev : slice_get box (i - 1) ≡ Some v.0 = v.1 in
+        let vx : IsValidInput x = All-slice_get IsValidInput b.inputs (i - 1) x valid.inputs ex in
+        let w = distance x.lo x.hi in
+        let hw = width_pos x vx in
+        let s = is.some (i - 1) v.0 ev in
+        let errors : AreTermErrors b box (term_errors b box) = term_errors-are b box valid is in
+        let er : IsTermError x term v.0 (term_error x term v.0) =
+        rw (ex, et, ev) at (errors.error i t x term v.0 ex et ev) in
+        let p = at_place x term v.0 v.0.from (term_error x term v.0) (cell_start w v.0.from) er hw (omega arith) s.0
+        (start_in w v.0.from hw) in
+        (degree_at (points_of x term) (cell_start w v.0.from), rw (ex, et, ev) p.between)
+
+    by_input : (i t : ℕ) (o : Option Input) → input_at b i ≡ o → IsSomewhere b box i t
+    by_input i t None ex = (none, rw ex nowhere)
+    by_input i t (Some x) ex = by_term i t x ex (slice_get x.terms (t - 1)) refl
+
+    pub rule_parts_ordered : (r : Rule) → low_part b box r ≤ high_part b box r
+    rule_parts_ordered r =
+        let at : (i t : ℕ) → IsSomewhere b box i t = λ i t. by_input i t (input_at b i) refl in
+        let h = between truths_monotone {s = literal_span b box} {v = λ i t. (at i t).0} (λ i t. (at i t).1) r.cond in
+        let w = weight_of r.weight in
+        parts_ordered (255 * billion) (rule_span b box r).low _ (rule_span b box r).high
+        (times_ordered _ _ w h.low) (times_ordered _ _ w h.high)
+
+    pub ends_ordered : (o t : ℕ) (rs : List Rule)
+        → greatest_of (low_part b box) o t rs ≤ greatest_of (high_part b box) o t rs
+    ends_ordered o t rs = greatest_of-mono (low_part b box) (high_part b box) o t rs
+        (λ k d l. rule_parts_ordered (get_or rs k d))
+
+-- ---- a condition with a part that is true nowhere on a box, and the rule that it stands in
+
+-- ---- conditions
+
+module _ (b : Block) (box : List Interval) where
+  abbrev highest : Condition → Fraction
+  highest c = (span (literal_span b box) c).high
+
+  highest_proper : (c : Condition) → IsProper (highest c)
+  highest_proper c = (span_to_itself b box c).high.left
+
+  nowhere_first : (c : Condition) (cs : Conditions) → IsNowhere b box c → IsNowhere b box (all (also c cs))
+  nowhere_first c cs h = record {
+    high = none_below (lesser (highest c) (highest (all cs))) (highest c) (highest_proper c)
+        (AtMost-lesser_left (highest c) (highest (all cs))) h.high;
+    byte_high = (let z = h.byte_high in omega arith);
+  }
+
+  nowhere_later : (c : Condition) (cs : Conditions) → IsNowhere b box (all cs) → IsNowhere b box (all (also c cs))
+  nowhere_later c cs h = record {
+    high = none_below (lesser (highest c) (highest (all cs))) (highest (all cs)) (highest_proper (all cs))
+        (AtMost-lesser_right (highest c) (highest (all cs))) h.high;
+    byte_high = (let z = h.byte_high in omega arith);
+  }
+
+  -- an AND is where one of its parts is
+  pub nowhere_part : (parts : List Condition) (k : ℕ) (part : Condition) → slice_get parts k ≡ Some part
+      → IsNowhere b box part → IsNowhere b box (all (conditions parts))
+  nowhere_part [] k part e h = absurd (let z : ⊥ = cc in z)
+  nowhere_part (c ∷ cs) zero part e h =
+      let same : part ≡ c = cc in nowhere_first c (conditions cs) (subst (IsNowhere b box) same h)
+  nowhere_part (c ∷ cs) (suc k) part e h = nowhere_later c (conditions cs) (nowhere_part cs k part e h)
+
+-- ---- rules
+
+module _ (b : Block) (box : List Interval) where
+  abbrev IsUpright : Span ℕ → Type 0
+  IsUpright s = s.low ≤ s.high
+
+  literal_upright : (i t : ℕ) → IsUpright (literal_byte_span b box i t)
+  literal_upright = at_literal-holds b box IsUpright grades_over (only 0) (omega arith) (λ x term v.
+      let g = grade_of (row_of x term) in
+      let l = least_le g v.from (v.to - v.from) v.from (omega arith) (omega arith) in
+      let u = le_greatest g v.from (v.to - v.from) v.from (omega arith) (omega arith) in
+      omega arith)
+
+  rule_upright : (r : Rule) → IsUpright (rule_byte_span b box r)
+  rule_upright r =
+      let h = between levels_monotone {s = literal_byte_span b box} {v = λ i t. (literal_byte_span b box i t).low}
+      (λ i t. record { low = omega arith; high = literal_upright i t }) r.cond in
+      let s = byte_span (literal_byte_span b box) r.cond in
+      let l : s.low ≤ s.high = (let x = h.low in let y = h.high in omega arith) in
+      scaled-mono s.low s.high (weight_byte_of r.weight + 1) l
+
+  -- a rule that is still has no mass
+  pub still_mass : IsValid b → length box ≡ length b.inputs → IsBox box → (r : Rule) → IsStill b box r
+      → IsRuleMass b box r no_mass
+  still_mass valid count box_is r still =
+      let s = (rule_span b box r).high in
+      let proper : IsProper s = times_proper (highest b box r.cond) (weight_of r.weight) (highest_proper b box r.cond) in
+      let upper : high_part b box r ≤ 0 = up_div-le (255 * billion * s.num) s.den 0 proper.pos
+      (let z = still.high in omega arith) in
+      let lower = rule_parts_ordered b box valid count box_is r in
+      let bytes = rule_upright r in
+      let byte_none = still.byte_high in
+      record {
+        low = omega arith;
+        high = omega arith;
+        byte_low = omega arith;
+        byte_high = omega arith;
+        error = rw (still.high, still.byte_high) refl;
+        low_small = omega arith;
+        high_small = omega arith;
+        byte_low_small = omega arith;
+        byte_high_small = omega arith;
+        error_small = omega arith;
+      }
+
+  -- nor does a leaf count on it
+  pub IsCandidate-still : (o n : ℕ) (r : Rule) → slice_get b.rules n ≡ Some r
+      → (concludes_some r o ≡ true → IsStill b box r) → (k : ℕ) → IsCandidate b box o (n + 1) k → ⊥
+  IsCandidate-still o n r found still k c =
+      let same = candidate-rule b box o n r found c.rule c.rule_is in
+      let quiet = still (subst (λ q. concludes_some q o ≡ true) same c.concludes_one) in
+      let low = subst (λ q. 1 ≤ (rule_byte_span b box q).low) same c.byte_low in
+      let none = quiet.byte_high in
+      let upright = rule_upright r in
+      omega arith

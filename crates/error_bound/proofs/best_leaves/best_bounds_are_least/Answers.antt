@@ -1,4 +1,4 @@
-use Rattle.error_bound.proofs.BestLemmas.{best_least}
+use Rattle.error_bound.proofs.LeafLemmas.{best_least}
 use Rattle.error_bound.proofs.best_leaves.best_bounds_are_least.Goals as goal
 
 pub returns : goal.returns

@@ -1,4 +1,4 @@
-use Rattle.error_bound.proofs.BestLemmas.{best_one}
+use Rattle.error_bound.proofs.LeafLemmas.{best_one}
 use Rattle.error_bound.proofs.best_leaves.best_leaves_are_one.Goals as goal
 
 pub returns : goal.returns

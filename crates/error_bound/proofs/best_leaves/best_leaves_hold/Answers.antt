@@ -1,4 +1,4 @@
-use Rattle.error_bound.proofs.BestLemmas.{best_holds}
+use Rattle.error_bound.proofs.LeafLemmas.{best_holds}
 use Rattle.error_bound.proofs.best_leaves.best_leaves_hold.Goals as goal
 
 pub returns : goal.returns

@@ -1,8 +1,7 @@
 use Rattle.std.proofs.Common.{◌≡◌, ℕ, suc, ◌+◌, ◌-◌, ◌<◌, max, ◌∷◌, length, drop, get_or, sym, ap, ◌∙◌, subst, arith}
+use Rattle.std.proofs.{lemmas.List.length-set, Math.Seq.drop-cons}
 use Rattle.std.specs.Prelude.{slice_index, slice_set, if◌then◌else◌}
-use Rattle.std.proofs.Math.Seq.{drop-cons}
-use Rattle.std.proofs.lemmas.List.{length-set}
-use Rattle.error_bound.proofs.ConclusionLemmas.{concludes_among, raised_by}
+use Rattle.error_bound.proofs.LeafLemmas.{concludes_among, raised_by}
 use Rattle.error_bound.proofs.bounds.raise_terms.Goals as goal
 
 pub loop-k-preserved-then-output-out : goal.loop-k-preserved-then-output-out

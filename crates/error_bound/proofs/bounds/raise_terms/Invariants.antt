@@ -1,6 +1,6 @@
 use Rattle.std.proofs.Common.{◌≡◌, ℕ, ◌+◌, ◌<◌, max, length, drop}
 use Rattle.std.specs.Prelude.{slice_index, if◌then◌else◌}
-use Rattle.error_bound.proofs.ConclusionLemmas.{concludes_among}
+use Rattle.error_bound.proofs.LeafLemmas.{concludes_among}
 use Rattle.error_bound.proofs.bounds.raise_terms.Given as goal
 
 abbrev pub invariant-loop-k : goal.invariant-loop-k

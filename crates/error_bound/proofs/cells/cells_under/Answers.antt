@@ -1,5 +1,5 @@
 use Rattle.std.proofs.Common.{arith}
-use Rattle.error_bound.proofs.CellTables.{AreCellsBefore-none, AreCellsBefore-more}
+use Rattle.error_bound.proofs.CellErrors.{AreCellsBefore-none, AreCellsBefore-more}
 use Rattle.error_bound.proofs.cells.cells_under.Goals as goal
 
 pub loop-b-init : goal.loop-b-init

@@ -1,4 +1,4 @@
-use Rattle.error_bound.proofs.CellTables.{AreCellsBefore}
+use Rattle.error_bound.proofs.CellErrors.{AreCellsBefore}
 use Rattle.error_bound.proofs.cells.cells_under.Given as goal
 
 abbrev pub invariant-loop-b : goal.invariant-loop-b

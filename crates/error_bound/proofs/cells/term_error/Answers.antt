@@ -1,11 +1,11 @@
 use Rattle.std.proofs.Common.{◌≡◌, ℕ, ◌-◌, ◌≤◌, Option, Some, None, refl, sym, ◌∙◌, subst, arith}
 use Rattle.std.specs.Prelude.{slice_get, slice_index, IfSome}
-use Rattle.fuzzy_meaning.specs.declared.{block.Input.Input, block.Trapezoid.Trapezoid}
-use Rattle.fuzzy_meaning.specs.Blocks.{IsValidInput, IsValidTerm}
+use Rattle.fuzzy_meaning.specs.{declared.block.Trapezoid.Trapezoid, Blocks.IsValidInput, Blocks.IsValidTerm}
+use Rattle.fuzzy_meaning.specs.declared.block.Input.{Input}
 use Rattle.fz_list.proofs.Algebra.{All-slice_get}
-use Rattle.error_bound.specs.declared.{boxes.Interval.Interval, cells.TermCells.TermCells}
-use Rattle.error_bound.specs.{Boxes.greatest_from, Errors.IsTermError, Reaches.AreTermCells}
-use Rattle.error_bound.proofs.{CellTables.error_is, LawLemmas.term_error-is}
+use Rattle.error_bound.specs.{declared.cells.TermCells.TermCells, declared.boxes.Interval.Interval, Errors.IsTermError}
+use Rattle.error_bound.specs.{Reaches.AreTermCells, Boxes.greatest_from}
+use Rattle.error_bound.proofs.{Literals.term_error-is, CellErrors.error_is}
 use Rattle.error_bound.proofs.cells.term_error.Goals as goal
 
 is_error : (i : Input) (n : ℕ) (v : Interval) (c : TermCells) (e : ℕ) → IsValidInput i → v.from ≤ v.to

@@ -2,9 +2,10 @@ use Rattle.std.proofs.Common.{◌-◌, inl, inr, sym, ap, ◌∙◌, subst, rule
 use Rattle.fuzzy_meaning.specs.{Blocks.IsValidCondition, Trees.tree}
 use Rattle.error_bound.specs.Reaches.{IsEndOfCondition}
 use Rattle.fuzzy_meaning.proofs.Algebra.{part_falls, parts_fall}
-use Rattle.error_bound.proofs.{ConditionParts.IsValidCondition-part, ReachLemmas.end_from, ReachLemmas.end_from_none}
-use Rattle.error_bound.proofs.ends.+ends.Goals as goal
 use Rattle.error_bound.proofs.ends.+ends.Goals.{end_among-in-Some, end_among-in-None}
+use Rattle.error_bound.proofs.FlatteningLemmas.{end_from, end_from_none}
+use Rattle.error_bound.proofs.ListLemmas.{IsValidCondition-part}
+use Rattle.error_bound.proofs.ends.+ends.Goals as goal
 
 pub end_among-end_of_literal-end-requires-clause-literal : goal.end_among-end_of_literal-end-requires-clause-literal
 end_among-end_of_literal-end-requires-clause-literal t c =

@@ -1,4 +1,4 @@
-use Rattle.error_bound.proofs.WideLemmas.{bounds_fall_with_parts}
+use Rattle.error_bound.proofs.Nested.{bounds_fall_with_parts}
 use Rattle.error_bound.proofs.laws.bounds_fall_with_parts.Goals as goal
 
 pub returns : goal.returns

@@ -1,4 +1,4 @@
-use Rattle.error_bound.proofs.FaultLemmas as lemmas
+use Rattle.error_bound.proofs.LeafLemmas as lemmas
 use Rattle.error_bound.proofs.laws.leaf_faults_are_one.Goals as goal
 
 pub returns : goal.returns

@@ -1,4 +1,4 @@
-use Rattle.error_bound.proofs.LawLemmas.{term_errors-are}
+use Rattle.error_bound.proofs.Literals.{term_errors-are}
 use Rattle.error_bound.proofs.laws.term_errors_are.Goals as goal
 
 pub returns : goal.returns

@@ -1,7 +1,7 @@
 use Rattle.std.proofs.Common.{◌≡◌, ◌-◌, ◌≤◌, length, Some, refl, subst, arith}
-use Rattle.std.specs.Prelude.{slice_get}
 use Rattle.std.proofs.lemmas.Option.{slice_get_read}
-use Rattle.error_bound.proofs.PairLemmas.{pair_named, pair_unnamed}
+use Rattle.std.specs.Prelude.{slice_get}
+use Rattle.error_bound.proofs.LeafLemmas.{pair_named, pair_unnamed}
 use Rattle.error_bound.proofs.leaves.is_pair_for.Goals as goal
 
 pub returns-in-Some : goal.returns-in-Some

@@ -1,9 +1,9 @@
 use Rattle.std.proofs.Common.{◌≡◌, ℕ, Bool, true, false, ◌-◌, max, inl, inr, refl, sym, ap, ◌∙◌, subst, rules}
-use Rattle.fuzzy_meaning.specs.{declared.block.Block.Block, Blocks.IsValidCondition, Trees.tree}
 use Rattle.fuzzy_meaning.specs.Conditions.{Condition, is, all, any, Conditions, end, also, conditions, under}
+use Rattle.fuzzy_meaning.specs.{declared.block.Block.Block, Blocks.IsValidCondition, Trees.tree}
 use Rattle.error_bound.specs.{CellErrors.term_errors, Spans.greatest_literal}
 use Rattle.fuzzy_meaning.proofs.Algebra.{part_falls, parts_fall}
-use Rattle.error_bound.proofs.ConditionParts.{IsValidCondition-part}
+use Rattle.error_bound.proofs.ListLemmas.{IsValidCondition-part}
 use Rattle.error_bound.proofs.literal_errors.+errors.Goals as goal
 
 valid_under : (b : Block) (odd : Bool) (c : Condition) → IsValidCondition b (under odd c) → IsValidCondition b c

@@ -1,6 +1,5 @@
-use Rattle.error_bound.proofs.ListLemmas.{slice_get-slice}
+use Rattle.error_bound.proofs.{ListLemmas.slice_get-slice, TightLemmas.nowhere_part}
 use Rattle.std.proofs.Common.{refl}
-use Rattle.error_bound.proofs.StillRules.{nowhere_part}
 use Rattle.error_bound.proofs.nowhere.some_is_nowhere.Goals as goal
 
 pub returns-then-term_is_nowhere : goal.returns-then-term_is_nowhere

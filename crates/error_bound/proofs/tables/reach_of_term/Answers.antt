@@ -1,6 +1,6 @@
 use Rattle.std.proofs.Common.{◌≤◌, ◌∙◌, ap₂, sym, subst, arith}
 use Rattle.error_bound.specs.Errors.{billion}
-use Rattle.error_bound.proofs.CellTables.{least_is, greatest_is, error_is, error_small}
+use Rattle.error_bound.proofs.CellErrors.{least_is, greatest_is, error_is, error_small}
 use Rattle.error_bound.proofs.tables.reach_of_term.Goals as goal
 
 pub returns : goal.returns

@@ -2,8 +2,8 @@ use Rattle.std.proofs.Common.{◌≡◌, ◌+◌, ◌-◌, ◌<◌, ◌≤◌, m
 use Rattle.std.specs.Prelude.{slice_index, pos, if◌then◌else◌, ◌==◌}
 use Rattle.fz_num.specs.{declared.dec.Dec.Dec, Decimals.distance}
 use Rattle.fuzzy_meaning.specs.Blocks.{IsWithin}
-use Rattle.error_bound.specs.{Errors.apart, Masses.if_some}
-use Rattle.error_bound.proofs.MassLemmas.{greatest_back, reach_small, chosen_small, max_small}
+use Rattle.error_bound.specs.{Masses.if_some, Errors.apart}
+use Rattle.error_bound.proofs.TightLawLemmas.{greatest_back, reach_small, chosen_small, max_small}
 use Rattle.error_bound.proofs.tight.farthest.Goals as goal
 
 pub loop-k-preserved : goal.loop-k-preserved

@@ -1,8 +1,8 @@
 use Rattle.std.proofs.Common.{◌≡◌, ◌+◌, ◌-◌, ◌≤◌, max, get_or, sym, ap₂, ◌∙◌, subst, arith}
 use Rattle.std.specs.Prelude.{slice_index, pos, if◌then◌else◌, ◌==◌}
 use Rattle.fz_num.specs.declared.dec.Dec.{Dec}
-use Rattle.error_bound.specs.{Bounds.offset, Masses.if_some}
-use Rattle.error_bound.proofs.MassLemmas.{greatest_back, chosen_small, max_small}
+use Rattle.error_bound.specs.{Masses.if_some, Bounds.offset}
+use Rattle.error_bound.proofs.TightLawLemmas.{greatest_back, chosen_small, max_small}
 use Rattle.error_bound.proofs.tight.live_offset.Goals as goal
 
 pub loop-k-preserved : goal.loop-k-preserved

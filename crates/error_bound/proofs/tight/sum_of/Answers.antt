@@ -1,7 +1,7 @@
 use Rattle.std.proofs.Common.{◌≡◌, ◌+◌, ◌-◌, ◌<◌, ap, ap₂, ◌∙◌, arith}
 use Rattle.std.specs.Prelude.{slice_index, pos}
 use Rattle.fz_num.specs.declared.dec.Dec.{Dec}
-use Rattle.error_bound.proofs.MassLemmas.{sum_back}
+use Rattle.error_bound.proofs.TightLawLemmas.{sum_back}
 use Rattle.error_bound.proofs.tight.sum_of.Goals as goal
 
 pub loop-k-preserved : goal.loop-k-preserved

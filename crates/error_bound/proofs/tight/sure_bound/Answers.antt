@@ -1,7 +1,7 @@
 use Rattle.std.proofs.Common.{◌≡◌, ◌+◌, ◌*◌, ◌<◌, ap, ap₂, ◌∙◌, sym, subst, arith, mul-pos}
-use Rattle.fz_num.specs.{Fractions.over, Decimals.distance}
+use Rattle.fz_num.specs.{Decimals.distance, Fractions.over}
 use Rattle.error_bound.specs.Bounds.{in_millionths}
-use Rattle.error_bound.proofs.MassLemmas.{ratio_bound-is, width_some}
+use Rattle.error_bound.proofs.TightLawLemmas.{ratio_bound-is, width_some}
 use Rattle.error_bound.proofs.tight.sure_bound.Goals as goal
 
 pub in_millionths-requires-clause-den_from : goal.in_millionths-requires-clause-den_from

@@ -1,4 +1,4 @@
-use Rattle.error_bound.proofs.RangeAnswers.{answers_to_masses}
+use Rattle.error_bound.proofs.AnswerLemmas.{answers_to_masses}
 use Rattle.error_bound.proofs.tight_laws.answers_to_masses_are_near.Goals as goal
 
 pub returns : goal.returns

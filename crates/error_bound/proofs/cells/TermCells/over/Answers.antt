@@ -1,7 +1,7 @@
 use Rattle.std.proofs.Common.{◌≡◌, ℕ, ◌+◌, ◌-◌, ◌≤◌, min, max, ap, sym, ◌∙◌, subst, arith}
 use Rattle.std.specs.Prelude.{slice_index}
 use Rattle.error_bound.specs.Boxes.{greatest_from}
-use Rattle.error_bound.proofs.CellTables.{least_more, greatest_more}
+use Rattle.error_bound.proofs.CellErrors.{least_more, greatest_more}
 use Rattle.error_bound.proofs.cells.TermCells.over.Goals as goal
 
 pub loop-b-preserved : goal.loop-b-preserved

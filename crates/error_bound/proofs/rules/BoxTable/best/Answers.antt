@@ -1,10 +1,10 @@
 use Rattle.std.proofs.Common.{ℕ, List, Option, Some, None, refl}
 use Rattle.std.specs.Prelude.{IfSome, IfNone}
 use Rattle.fuzzy_meaning.specs.declared.block.Block.{Block}
-use Rattle.error_bound.specs.declared.{boxes.Interval.Interval, boxes.Leaf.Leaf}
-use Rattle.error_bound.specs.Leaves.{Holds, silent as holds_silent}
 use Rattle.error_bound.specs.Best.{IsBest, silent, strong, nothing, IsCandidate, IsFirstGreatest, silent_leaf}
-use Rattle.error_bound.proofs.FaultLemmas.{faulty_fail}
+use Rattle.error_bound.specs.{Leaves.Holds, Leaves.silent as holds_silent, declared.boxes.Interval.Interval}
+use Rattle.error_bound.specs.declared.boxes.Leaf.{Leaf}
+use Rattle.error_bound.proofs.LeafLemmas.{faulty_fail}
 use Rattle.error_bound.proofs.rules.BoxTable.best.Goals as goal
 
 pub returns-in-None : goal.returns-in-None

@@ -1,12 +1,11 @@
-use Rattle.std.proofs.Common.{◌≡◌, ℕ, suc, ◌+◌, ◌-◌, ◌<◌, ◌≤◌, max, Bool, true, false, ◌∷◌, length, drop, refl}
-use Rattle.std.proofs.Common.{sym, ap, ap₂, ◌∙◌, arith}
-use Rattle.std.specs.Prelude.{if◌then◌else◌}
+use Rattle.std.proofs.Common.{◌≡◌, ℕ, suc, ◌+◌, ◌-◌, ◌<◌, ◌≤◌, max, Bool, true, false, ◌∷◌, length, drop, refl, sym}
+use Rattle.std.proofs.{lemmas.Option.slice_get_read, Common.ap, Common.ap₂, Common.◌∙◌, Common.arith}
 use Rattle.std.proofs.Math.Seq.{drop-cons}
-use Rattle.std.proofs.lemmas.Option.{slice_get_read}
-use Rattle.fuzzy_meaning.specs.{Meaning.concludes, declared.block.Rule.Rule}
-use Rattle.error_bound.specs.{CellErrors.term_errors, Leaves.concludes_some}
-use Rattle.error_bound.specs.Errors.{output_error_among, rule_error}
-use Rattle.error_bound.proofs.ConclusionLemmas.{any-some}
+use Rattle.std.specs.Prelude.{if◌then◌else◌}
+use Rattle.fuzzy_meaning.specs.{declared.block.Rule.Rule, Meaning.concludes}
+use Rattle.error_bound.specs.{Errors.output_error_among, Errors.rule_error, CellErrors.term_errors}
+use Rattle.error_bound.specs.Leaves.{concludes_some}
+use Rattle.error_bound.proofs.LeafLemmas.{any-some}
 use Rattle.error_bound.proofs.rules.BoxTable.errors_by_term.Goals as goal
 
 raised-le : (p : Bool) (x y a n : ℕ) → a ≡ (if p then max x y else y) → x ≤ n → y ≤ n → a ≤ n

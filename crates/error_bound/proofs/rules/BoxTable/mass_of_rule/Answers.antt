@@ -1,7 +1,7 @@
 use Rattle.std.proofs.Common.{◌∙◌, ap, sym, subst, arith, ◌≤◌}
 use Rattle.std.specs.Prelude.{if◌then◌else◌}
 use Rattle.fz_list.proofs.Algebra.{some_at}
-use Rattle.error_bound.proofs.MassLemmas.{still-same, low_part-end, high_part-end, chosen_small}
+use Rattle.error_bound.proofs.TightLawLemmas.{still-same, low_part-end, high_part-end, chosen_small}
 use Rattle.error_bound.specs.Tight.{is_still}
 use Rattle.error_bound.proofs.rules.BoxTable.mass_of_rule.Goals as goal
 

@@ -1,14 +1,12 @@
-use Rattle.std.proofs.Common.{◌≡◌, suc, true, ◌+◌, ◌-◌, ◌<◌, ◌∷◌, length, drop, get_or, Some, refl, sym, ap}
-use Rattle.std.proofs.Common.{ap₂, ◌∙◌, subst, arith}
+use Rattle.std.proofs.Common.{◌≡◌, suc, true, ◌+◌, ◌-◌, ◌<◌, ◌∷◌, length, drop, get_or, Some, refl, sym, ap, ap₂, ◌∙◌}
+use Rattle.std.proofs.{lemmas.Option.slice_get_read, Common.subst, Common.arith, Math.Seq.drop-cons}
 use Rattle.std.specs.Prelude.{slice_get}
-use Rattle.std.proofs.Math.Seq.{drop-cons}
-use Rattle.std.proofs.lemmas.Option.{slice_get_read}
 use Rattle.fuzzy_meaning.specs.declared.block.Rule.{Rule}
-use Rattle.error_bound.specs.{Boxes.rule_byte_span, CellErrors.term_errors, Leaves.concludes_some}
-use Rattle.error_bound.specs.{Masses.IsRuleMass, Masses.no_mass, Tight.low_part, Tight.high_part, Tight.moving_error}
+use Rattle.error_bound.specs.{Tight.low_part, Tight.high_part, Tight.moving_error, Masses.IsRuleMass, Masses.no_mass}
+use Rattle.error_bound.specs.{CellErrors.term_errors, Leaves.concludes_some, Boxes.rule_byte_span}
 use Rattle.fz_list.proofs.Algebra.{some_at}
-use Rattle.error_bound.proofs.{MassEnds.ends_ordered, ListLemmas.get_or-slice, StillRules.still_mass}
-use Rattle.error_bound.proofs.MassLemmas.{AreGreatest-raised, AreGreatest-skipped}
+use Rattle.error_bound.proofs.TightLawLemmas.{AreGreatest-raised, AreGreatest-skipped}
+use Rattle.error_bound.proofs.{TightLemmas.ends_ordered, TightLemmas.still_mass, ListLemmas.get_or-slice}
 use Rattle.error_bound.proofs.rules.BoxTable.masses.Goals as goal
 
 pub loop-n-preserved-then-may_fire : goal.loop-n-preserved-then-may_fire

@@ -1,5 +1,5 @@
 use Rattle.fz_list.proofs.Algebra.{some_at}
-use Rattle.error_bound.proofs.{Candidates.IsCandidate-part, Candidates.IsCandidate-only, StillRules.IsCandidate-still}
+use Rattle.error_bound.proofs.{LeafLemmas.IsCandidate-part, LeafLemmas.IsCandidate-only, TightLemmas.IsCandidate-still}
 use Rattle.error_bound.proofs.rules.BoxTable.part_of_rule.Goals as goal
 
 pub returns-then-may_fire-clause-candidate : goal.returns-then-may_fire-clause-candidate

@@ -1,8 +1,8 @@
 use Rattle.std.proofs.Common.{length, ap, arith}
 use Rattle.fz_list.proofs.Algebra.{some_at}
-use Rattle.error_bound.proofs.FirstFiring.{IsStill-end, HasLeafFault-firing, AreStillBefore-next, AreStillBefore-all}
-use Rattle.error_bound.proofs.rules.BoxTable.silent_fault.Goals as goal
+use Rattle.error_bound.proofs.LeafLemmas.{IsStill-end, HasLeafFault-firing, AreStillBefore-next, AreStillBefore-all}
 use Rattle.error_bound.proofs.rules.BoxTable.silent_fault.Goals.{then-may_fire+in_default, else-may_fire}
+use Rattle.error_bound.proofs.rules.BoxTable.silent_fault.Goals as goal
 
 pub firing_fault-requires : goal.firing_fault-requires
 firing_fault-requires c =

@@ -1,4 +1,4 @@
-use Rattle.error_bound.proofs.FirstFiring.{AreStillBefore}
+use Rattle.error_bound.proofs.LeafLemmas.{AreStillBefore}
 use Rattle.error_bound.proofs.rules.BoxTable.silent_fault.Given as goal
 
 abbrev pub invariant-loop-n : goal.invariant-loop-n

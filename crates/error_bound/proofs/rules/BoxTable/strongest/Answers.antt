@@ -1,9 +1,9 @@
 use Rattle.std.proofs.Common.{arith}
 use Rattle.error_bound.specs.Best.{IsCandidate}
-use Rattle.error_bound.proofs.Candidates.{IsStrongest-greater, IsStrongest-not_greater, IsFirstGreatest-strongest}
-use Rattle.error_bound.proofs.Candidates.{IsCandidate-strongest}
-use Rattle.error_bound.proofs.rules.BoxTable.strongest.Goals as goal
+use Rattle.error_bound.proofs.LeafLemmas.{IsStrongest-greater, IsStrongest-not_greater, IsFirstGreatest-strongest}
 use Rattle.error_bound.proofs.rules.BoxTable.strongest.Goals.{then-k-part, else-k-part}
+use Rattle.error_bound.proofs.LeafLemmas.{IsCandidate-strongest}
+use Rattle.error_bound.proofs.rules.BoxTable.strongest.Goals as goal
 
 pub loop-n-preserved : goal.loop-n-preserved
 loop-n-preserved c =

@@ -1,5 +1,5 @@
 use Rattle.error_bound.specs.Best.{IsCandidate}
-use Rattle.error_bound.proofs.Candidates.{IsStrongest}
+use Rattle.error_bound.proofs.LeafLemmas.{IsStrongest}
 use Rattle.error_bound.proofs.rules.BoxTable.strongest.Given as goal
 
 abbrev pub invariant-loop-n : goal.invariant-loop-n

@@ -1,10 +1,9 @@
-use Rattle.std.proofs.Common.{refl}
-use Rattle.error_bound.specs.{Best.silent_leaf, Leaves.silent as holds_silent, Tight.IsTightBound, Tight.silent}
+use Rattle.std.proofs.Common.{refl, ◌-◌}
+use Rattle.error_bound.specs.{Leaves.silent as holds_silent, Tight.IsTightBound, Tight.silent, Best.silent_leaf}
 use Rattle.fz_list.proofs.Algebra.{All-slice_get}
 use Rattle.fuzzy_meaning.specs.Blocks.{IsValidOutput}
-use Rattle.std.proofs.Common.{◌-◌}
-use Rattle.error_bound.proofs.{FaultLemmas.faulty_fail, LawLemmas.term_errors-are, LeafLemmas.output_at-read}
-use Rattle.error_bound.proofs.MassLemmas.{some_bound, none_sure, none_quiet}
+use Rattle.error_bound.proofs.TightLawLemmas.{some_bound, none_sure, none_quiet}
+use Rattle.error_bound.proofs.{LeafLemmas.faulty_fail, LeafLemmas.output_at-read, Literals.term_errors-are}
 use Rattle.error_bound.proofs.rules.BoxTable.tight_bound_by.Goals as goal
 
 pub returns-in-None-clause-bound : goal.returns-in-None-clause-bound

@@ -1,13 +1,12 @@
 use Rattle.std.proofs.Common.{◌≡◌, ◌+◌, length, get_or, Some, sym, ap, ◌∙◌, subst, arith}
 use Rattle.std.specs.Prelude.{slice_get, slice_set}
 use Rattle.fz_list.proofs.Algebra.{slice_get-set_same}
-use Rattle.error_bound.specs.declared.{boxes.Interval.Interval, tables.BoxTerms.BoxTerms}
-use Rattle.error_bound.specs.Reaches.{AreBoxTerms}
-use Rattle.error_bound.proofs.ListLemmas.{slice_get-slice, slice_get-get_or_slice}
-use Rattle.error_bound.proofs.MovedRows.{AreAlikeBefore, AreAlikeBefore-next, AreAlikeBefore-set, alike_all}
-use Rattle.error_bound.proofs.MovedRows.{AreBoxTerms-moved}
-use Rattle.error_bound.proofs.tables.BoxTerms.move_to.Goals as goal
+use Rattle.error_bound.specs.{declared.tables.BoxTerms.BoxTerms, declared.boxes.Interval.Interval, Reaches.AreBoxTerms}
+use Rattle.error_bound.proofs.TableLemmas.{AreAlikeBefore, AreAlikeBefore-next, AreAlikeBefore-set, alike_all}
 use Rattle.error_bound.proofs.tables.BoxTerms.move_to.Goals.{then-not-is_same, else-not-is_same}
+use Rattle.error_bound.proofs.ListLemmas.{slice_get-slice, slice_get-get_or_slice}
+use Rattle.error_bound.proofs.TableLemmas.{AreBoxTerms-moved}
+use Rattle.error_bound.proofs.tables.BoxTerms.move_to.Goals as goal
 
 pub loop-i-preserved : goal.loop-i-preserved
 loop-i-preserved c =
