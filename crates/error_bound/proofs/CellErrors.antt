@@ -16,7 +16,7 @@ use Rattle.error_bound.specs.{declared.cells.TermCells.TermCells, declared.boxes
 use Rattle.error_bound.specs.{Boxes.least_from, Boxes.greatest_from, Places.rise_end, Places.low, Places.high}
 use Rattle.error_bound.specs.Reaches.{AreTermCells}
 use Rattle.error_bound.proofs.Sides.{IsPeaked, low_bounds, high_bounds, side_rise_proper, side_fall_proper}
-use Rattle.error_bound.proofs.Sides.{side_end_proper, low_greatest, high_least}
+use Rattle.error_bound.proofs.Sides.{side_end_proper, low_greatest, high_least, degree_proper}
 use Rattle.point_slope.specs.Tables.{row_of, grade_of}
 
 -- in parts of t, over the bytes from p to q and every place of their cells
@@ -53,21 +53,43 @@ high_proper k s e c ps pe =
     IsProper-lesser (rise_end c k.a k.b e) (fall_at k.c k.d s) (side_end_proper c k.a k.b e pe)
     (side_fall_proper k.c k.d s ps)
 
--- one cell
+-- one cell: its bounds, and that each degree there is between them
+module _ (w : ℕ) (k : Points) (b : ℕ) where
+  abbrev start : Fraction
+  start = over (b * w) 256
+
+  abbrev next : Fraction
+  next = over ((b + 1) * w) 256
+
+  abbrev least : Fraction
+  least = low k start next
+
+  abbrev greatest : Fraction
+  greatest = high k start next (b == 255)
+
+  least_proper : IsProper least
+  least_proper = low_proper k start next (cell_proper (b * w)) (cell_proper ((b + 1) * w))
+
+  greatest_proper : IsProper greatest
+  greatest_proper = high_proper k start next (b == 255) (cell_proper (b * w)) (cell_proper ((b + 1) * w))
+
+  between : (x : Fraction) → IsProper x → IsFromTo start next (b == 255) x
+      → AtMost least (degree_at k x) × AtMost (degree_at k x) greatest
+  between x px i = (
+    low_bounds k start next x (b == 255) (cell_proper (b * w)) (cell_proper ((b + 1) * w)) px i,
+    high_bounds k start next x (b == 255) (cell_proper (b * w)) (cell_proper ((b + 1) * w)) px i,
+  )
+
 pub cell_bounds : (t w : ℕ) (k : Points) (grade : ℕ → ℕ) (b : ℕ) (x : Fraction) → IsInCell w b x
     → IsNear t (grade b) (degree_at k x) (cell_error t k w grade b)
 cell_bounds t w k grade b x i =
-    let px = i.proper in
-    let s = over (b * w) 256 in
-    let e = over ((b + 1) * w) 256 in
-    let l = low k s e in
-    let h = high k s e (b == 255) in
     let g = grade b in
-    let pl = low_proper k s e (cell_proper (b * w)) (cell_proper ((b + 1) * w)) in
-    let ph = high_proper k s e (b == 255) (cell_proper (b * w)) (cell_proper ((b + 1) * w)) in
-    near_between t g (max (gap t g l) (gap t g h)) l (degree_at k x) h pl ph
-    (low_bounds k s e x (b == 255) (cell_proper (b * w)) (cell_proper ((b + 1) * w)) px i.place)
-    (high_bounds k s e x (b == 255) (cell_proper (b * w)) (cell_proper ((b + 1) * w)) px i.place)
+    let l = least w k b in
+    let h = greatest w k b in
+    let pl = least_proper w k b in
+    let ph = greatest_proper w k b in
+    let around = between w k b x i.proper i.place in
+    near_between t g (max (gap t g l) (gap t g h)) l (degree_at k x) h pl ph around.0 around.1
     (near_more t g l (gap t g l) (max (gap t g l) (gap t g h)) (max_left (gap t g l) (gap t g h))
     (gap-near t g l pl.pos))
     (near_more t g h (gap t g h) (max (gap t g l) (gap t g h)) (max_right (gap t g l) (gap t g h))
@@ -82,20 +104,19 @@ cell_bounds t w k grade b x i =
 pub cell_least : (t w : ℕ) (k : Points) (grade : ℕ → ℕ) (b e' : ℕ) → IsPeaked k → 0 < w → 0 < t
     → ((x : Fraction) → IsInCell w b x → IsNear t (grade b) (degree_at k x) e') → cell_error t k w grade b ≤ e'
 cell_least t w k grade b e' gk hw ht n =
-    let s = over (b * w) 256 in
-    let e = over ((b + 1) * w) 256 in
-    let l = low k s e in
-    let h = high k s e (b == 255) in
+    let s = start w k b in
+    let l = least w k b in
+    let h = greatest w k b in
     let g = grade b in
-    let pl = low_proper k s e (cell_proper (b * w)) (cell_proper ((b + 1) * w)) in
-    let ph = high_proper k s e (b == 255) (cell_proper (b * w)) (cell_proper ((b + 1) * w)) in
+    let pl = least_proper w k b in
+    let ph = greatest_proper w k b in
     let top = over (g * t + e' * 255) (255 * t) in
     let bot = over (g * t - e' * 255) (255 * t) in
     let pt : IsProper top = record { pos = mul-pos (omega arith) ht } in
     let pb : IsProper bot = record { pos = mul-pos (omega arith) ht } in
     let se : b * w < (b + 1) * w = omega arith in
     let at_top : AtMost h top =
-    high_least k (b * w) ((b + 1) * w) 256 (b == 255) top gk (omega arith) se pt
+    high_least k (b * w) ((b + 1) * w) 256 (b == 255) top (omega arith) se pt gk
     (λ x px i. record { cross = let u = (n x (record { proper = px; place = i })).up in omega arith }) in
     let at_bot : AtMost bot l =
     low_greatest k (b * w) ((b + 1) * w) 256 (b == 255) bot (omega arith) se pb
@@ -103,14 +124,9 @@ cell_least t w k grade b e' gk hw ht n =
       cross = let d = (n x (record { proper = px; place = i })).down in let f = degree_at k x in
           omega (arith, mul-sub f.den (g * t) (e' * 255));
     }) in
-    let x0 = s in
-    let i0 : IsFromTo s e (b == 255) x0 = inside (AtMost-refl x0) (record { cross = omega arith }) in
-    let lh : AtMost l h =
-    AtMost-trans l (degree_at k x0) h
-    (IsProper-lesser (rise_at k.a k.b x0) (fall_at k.c k.d x0) (side_rise_proper k.a k.b x0 (cell_proper (b * w)))
-    (side_fall_proper k.c k.d x0 (cell_proper (b * w))))
-    (low_bounds k s e x0 (b == 255) (cell_proper (b * w)) (cell_proper ((b + 1) * w)) (cell_proper (b * w)) i0)
-    (high_bounds k s e x0 (b == 255) (cell_proper (b * w)) (cell_proper ((b + 1) * w)) (cell_proper (b * w)) i0) in
+    let ps = cell_proper (b * w) in
+    let first = between w k b s ps (inside (AtMost-refl s) (record { cross = omega arith })) in
+    let lh : AtMost l h = AtMost-trans l (degree_at k s) h (degree_proper k s ps) first.0 first.1 in
     let nl : IsNear t g l e' = both t g e' l (AtMost-trans l h top ph lh at_top) at_bot in
     let nh : IsNear t g h e' = both t g e' h at_top (AtMost-trans bot l h pl at_bot lh) in
     both_max (gap t g l) (gap t g h) e' (gap-least t g l e' pl.pos nl) (gap-least t g h e' ph.pos nh)

@@ -256,10 +256,6 @@ AreStillBefore-all b box o n before all k d lt t y =
 -- ---- whether a leaf holds, and its Bound, by what the code has found
 
 -- the output that a number names
-pub output_at-read : (b : Block) (o : ℕ) (x : Output) (outputs : List Output) → outputs ≡ b.outputs → 1 ≤ o
-    → o ≤ length b.outputs → x ≡ get_or outputs (o - 1) x → output_at b o ≡ Some x
-output_at-read b o x outputs same from to is = slice_get-read outputs b.outputs (o - 1) x same (omega arith) is
-
 -- ---- silent leaves
 
 -- their faults are of the rules alone

@@ -1,9 +1,17 @@
 -- What a slice reads at a place is what the list that it is of has there, and is valid where all its parts are.
-use Rattle.std.proofs.Common.{◌≡◌, ℕ, ◌<◌, List, length, get_or, Some, refl, ap, ◌∙◌, subst, ◌-◌, ◌≤◌, arith}
+use Rattle.std.proofs.Common.{◌≡◌, ℕ, ◌+◌, ◌-◌, ◌*◌, ◌<◌, ◌≤◌, ◌⊎◌, ⊎_elim, List, [], ◌∷◌, ◌++◌, length, length-append}
+use Rattle.std.proofs.Common.{get_or, Some, refl, sym, ap, ◌∙◌, subst, arith, Vec, Global}
 use Rattle.std.proofs.lemmas.Option.{slice_get_read, slice_get-get_or, get_or_from_slice_get}
 use Rattle.std.specs.Prelude.{slice_get}
+use Rattle.fz_list.proofs.Algebra.{AreFilled, AreFilled-push}
+use denote.Param.Weighed.{most}
+use Rattle.fuzzy_meaning.specs.declared.{condition.Condition.TheDeep.size-Condition, condition.Node.Node}
+use Rattle.fuzzy_meaning.specs.declared.condition.Node.TheVariants.{And, Or}
+use Rattle.fuzzy_meaning.specs.Trees.{tree}
+use Rattle.fuzzy_meaning.proofs.Algebra.{part_falls, parts_fall, parts_tree}
 use Rattle.fuzzy_meaning.specs.Blocks.{IsValidCondition, AreValidConditions, PartsAreValid}
-use Rattle.fuzzy_meaning.specs.{Conditions.Condition, Conditions.conditions, declared.block.Block.Block}
+use Rattle.fuzzy_meaning.specs.{Conditions.Condition, Conditions.conditions, Conditions.nodes}
+use Rattle.fuzzy_meaning.specs.declared.block.Block.{Block}
 
 -- the list has what is read at a place of it
 pub slice_get-read : {X : Type 0} (xs ys : List X) (n : ℕ) (x : X) → xs ≡ ys → n < length ys → x ≡ get_or xs n x
@@ -27,11 +35,34 @@ pub get_or-slice : {X : Type 0} (xs ys : List X) (n : ℕ) (d y : X) → xs ≡ 
     → get_or xs n d ≡ y
 get_or-slice xs ys n d y same found = ap (λ l. get_or l n d) same ∙ get_or_from_slice_get ys n y d found
 
+-- a list is filled by what is read of another with one more
+pub AreFilled-read : {X Y : Type 0} (P : ℕ → X → Y → Type 0) (xs read : List X) (t : ℕ) (x : X) → read ≡ xs
+    → x ≡ get_or read t x → (ys new : List Y) (y : Y) → (length ys ≡ t) × AreFilled P xs ys t → new ≡ ys ++ y ∷ []
+    → P t x y → (length new ≡ t + 1) × AreFilled P xs new (t + 1)
+AreFilled-read P xs read t x same x_is ys new y before new_is here =
+    let longer : length (ys ++ y ∷ []) ≡ t + 1 = omega (arith, length-append ys (y ∷ []), before.0) in (
+      ap length new_is ∙ longer,
+      subst (λ zs. AreFilled P xs zs (t + 1)) (sym new_is) (AreFilled-push P xs ys t y before.0 before.1
+          (λ z e. subst (λ w. P t w y) (x_is ∙ get_or-slice read xs t x z same e) here)),
+    )
+
 -- ---- the parts of a valid AND or OR are valid
 
--- the part number k
-pub IsValidCondition-part : PartsAreValid → (b : Block) (parts : List Condition) (k : ℕ) (part : Condition) → 1 ≤ k
+-- the part number k falls, and is valid
+pub part_asks : PartsAreValid → (b : Block) (parts : List Condition) (k : ℕ) (part : Condition) → 1 ≤ k
     → k ≤ length parts → part ≡ get_or parts (k - 1) part → AreValidConditions b (conditions parts)
-    → IsValidCondition b part
-IsValidCondition-part parts_are_valid b parts k part from to is valid =
-    parts_are_valid b parts (k - 1) part valid (slice_get-read parts parts (k - 1) part refl (omega arith) is)
+    → (size-Condition part ≤ most size-Condition parts) × IsValidCondition b part
+part_asks parts_are_valid b parts k part from to is valid = (
+  part_falls parts (k - 1) part (omega arith) is,
+  parts_are_valid b parts (k - 1) part valid (slice_get-read parts parts (k - 1) part refl (omega arith) is),
+)
+
+-- all of them do, and are
+pub parts_ask : (b : Block) {n : Node} {c : Condition} (seen : tree n ≡ c) {v : Vec Condition Global}
+    (sort : (n ≡ And v) ⊎ (n ≡ Or v)) {read : List Condition} → read ≡ v.items → IsValidCondition b c
+    → (most size-Condition read ≤ 2 * nodes c) × AreValidConditions b (conditions read)
+parts_ask b seen sort {read} same valid = (
+  parts_fall seen sort same,
+  subst (λ (cs : List Condition). AreValidConditions b (conditions cs)) (sym same) (⊎_elim
+      (λ e. subst (IsValidCondition b) e valid) (λ e. subst (IsValidCondition b) e valid) (parts_tree seen sort)),
+)

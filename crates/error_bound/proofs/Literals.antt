@@ -305,8 +305,8 @@ cells_bounded i t v vi vt h =
       lower = λ x px inn. low_bounds k s f x c ps pf px inn;
       greatest = λ u pu g. low_greatest k (v.from * w) ((v.to + 1) * w) 256 c u (omega arith) lt pu g;
       upper = λ x px inn. high_bounds k s f x c ps pf px inn;
-      least = λ u pu g. high_least k (v.from * w) ((v.to + 1) * w) 256 c u (IsPeaked-points i t vt)
-          (omega arith) lt pu g;
+      least = λ u pu g. high_least k (v.from * w) ((v.to + 1) * w) 256 c u (omega arith) lt pu
+          (IsPeaked-points i t vt) g;
     }
 
 pub term_error-is : (i : Input) (t : Trapezoid) (v : Interval) → IsValidInput i → IsValidTerm i.lo i.hi t

@@ -3,7 +3,7 @@ use Rattle.std.proofs.Common.{◌≡◌, ⊎_elim, ℕ, suc, ◌+◌, ◌*◌, �
 use Rattle.std.proofs.Common.{ap₂, ◌∙◌, subst, arith, mul-le-mul_right, cond, Some, sym, ◌-◌}
 use Rattle.std.proofs.{lemmas.Bool.Decides.nat_tests, lemmas.List.Sums.sum_by-cons, lemmas.Bool.cases_lt}
 use Rattle.std.proofs.lemmas.Int.{ints}
-use Rattle.std.specs.Prelude.{All, IfSome, ◌==◌, ◌&&◌, ◌||◌, ℤ, pos, ◌+ℤ◌, ◌*ℤ◌, ◌≤ℤ◌, ◌<ℤ◌, if◌then◌else◌}
+use Rattle.std.specs.Prelude.{All, sum_by, IfSome, ◌==◌, ◌&&◌, ◌||◌, ℤ, pos, ◌+ℤ◌, ◌*ℤ◌, ◌≤ℤ◌, ◌<ℤ◌, if◌then◌else◌}
 use Rattle.std.specs.List.{list_any}
 use borrow.Author.Differences.{up, down}
 use Rattle.fz_num.specs.{Fractions.Quotient, Fractions.IsClose, declared.dec.Dec.Dec, Decimals.distance}
@@ -76,29 +76,25 @@ module _ (b : Block) (box : List Interval) (bytes : List ℕ) (xs : List Dec) (e
             ∙ ap (λ a. x.lo.0 *ℤ pos (f.num * dens rs + f.den * mass_sum rs) +ℤ pos a) (omega arith);
       }
 
+  byte_sum_is : (f : ByteShare → ℕ) (g : List Row → ℕ) → 0 ≡ g []
+      → ((t : ℕ) (u : Dec) (us : List Dec) → g (rows_from b box bytes xs e o x t (u ∷ us))
+      ≡ f (record { byte = nearest_byte x u; mass = byte_mass b bytes o t }) + g (rows_from b box bytes xs e o x (t + 1) us))
+      → (t : ℕ) (us : List Dec) → sum_by f (byte_shares_from b bytes o x t us) ≡ g (rows_from b box bytes xs e o x t us)
+  byte_sum_is f g none more t [] = none
+  byte_sum_is f g none more t (u ∷ us) = omega (
+    arith,
+    byte_sum_is f g none more (t + 1) us,
+    more t u us,
+    sum_by-cons f (record { byte = nearest_byte x u; mass = byte_mass b bytes o t }) (byte_shares_from b bytes o x (t + 1) us),
+  )
+
   pub byte_total_is : (t : ℕ) (us : List Dec)
       → byte_total (byte_shares_from b bytes o x t us) ≡ total_g (rows_from b box bytes xs e o x t us)
-  byte_total_is t [] = refl
-  byte_total_is t (u ∷ us) = let k = byte_total_is (t + 1) us in
-      omega (
-        arith,
-        k,
-        sum_by-cons (λ (s : ByteShare). s.mass)
-            (record { byte = nearest_byte x u; mass = byte_mass b bytes o t })
-            (byte_shares_from b bytes o x (t + 1) us),
-      )
+  byte_total_is = byte_sum_is (λ s. s.mass) total_g refl (λ _ _ _. refl)
 
   pub byte_weighted_is : (t : ℕ) (us : List Dec)
       → byte_weighted (byte_shares_from b bytes o x t us) ≡ dot_s (rows_from b box bytes xs e o x t us)
-  byte_weighted_is t [] = refl
-  byte_weighted_is t (u ∷ us) = let k = byte_weighted_is (t + 1) us in
-      omega (
-        arith,
-        k,
-        sum_by-cons (λ (s : ByteShare). s.byte * s.mass)
-            (record { byte = nearest_byte x u; mass = byte_mass b bytes o t })
-            (byte_shares_from b bytes o x (t + 1) us),
-      )
+  byte_weighted_is = byte_sum_is (λ s. s.byte * s.mass) dot_s refl (λ _ _ _. refl)
 
   pub gaps_is : (t : ℕ) (us : List Dec)
       → sum_over (λ t u. farthest b box o x u * error_of b box e o t) t us ≡ gaps (rows_from b box bytes xs e o x t us)

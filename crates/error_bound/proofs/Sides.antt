@@ -116,34 +116,32 @@ past_less b x y px l h =
     let q : (b * y.den) * x.den < y.num * x.den = omega (arith, l.cross) in
     lt_of_mul-lt-mul_right x.den q
 
+-- before b a side is none up to a, and the slope at most that of a place to the right
+early_none : (a b : ℕ) (x : Fraction) → (b * x.den ≤ x.num → ⊥) → x.num ≤ a * x.den
+    → AtMost (rise_at (Some a) b x) none
+early_none a b x early h = by_rise (λ f. AtMost f none) a b x (λ g. absurd (early g)) (λ _ _. AtMost-refl none)
+    (λ g _. absurd (omega arith))
+
+early_slope : (a b : ℕ) (x y : Fraction) → (b * x.den ≤ x.num → ⊥) → AtMost x y
+    → AtMost (rise_at (Some a) b x) (over (y.num - a * y.den) ((b - a) * y.den))
+early_slope a b x y early l = by_rise (λ f. AtMost f (over (y.num - a * y.den) ((b - a) * y.den))) a b x
+    (λ g. absurd (early g)) (λ _ _. none_least (over (y.num - a * y.den) ((b - a) * y.den)))
+    (λ _ _. slope_mono a b x y l)
+
 pub rise_mono : (a b : ℕ) (x y : Fraction) → IsProper x → IsProper y → AtMost x y
     → AtMost (rise_at (Some a) b x) (rise_at (Some a) b y)
-rise_mono a b x y px py l = by_rise (λ f. AtMost (rise_at (Some a) b x) f) a b y
-    (λ _. rise_one a b x)
-    (λ h1 h2. by_rise (λ f. AtMost f none) a b x
-    (λ g. absurd (let p = past b x y px l g in omega arith))
-    (λ _ _. AtMost-refl none)
-    (λ g _. absurd (let p = before a x y py l h2 in omega arith)))
-    (λ h1 h2. by_rise (λ f. AtMost f (over (y.num - a * y.den) ((b - a) * y.den))) a b x
-    (λ g. absurd (let p = past b x y px l g in omega arith))
-    (λ _ _. none_least (over (y.num - a * y.den) ((b - a) * y.den)))
-    (λ _ _. slope_mono a b x y l))
+rise_mono a b x y px py l = by_rise (λ f. AtMost (rise_at (Some a) b x) f) a b y (λ _. rise_one a b x)
+    (λ h1 h2. early_none a b x (λ g. let p = past b x y px l g in omega arith) (before a x y py l h2))
+    (λ h1 h2. early_slope a b x y (λ g. let p = past b x y px l g in omega arith) l)
 
 -- below y, a rising side is at most its limit at y
 pub rise_limit : (a b : ℕ) (x y : Fraction) → IsProper x → IsProper y → IsBelow x y
     → AtMost (rise_at (Some a) b x) (rise_until (Some a) b y)
 rise_limit a b x y px py s =
     let l = at_most_of_less x y s in
-    by_rise_to (λ f. AtMost (rise_at (Some a) b x) f) a b y
-    (λ _. rise_one a b x)
-    (λ h1 h2. by_rise (λ f. AtMost f none) a b x
-    (λ g. absurd (let p = past_less b x y px s g in omega arith))
-    (λ _ _. AtMost-refl none)
-    (λ g _. absurd (let p = before a x y py l h2 in omega arith)))
-    (λ h1 h2. by_rise (λ f. AtMost f (over (y.num - a * y.den) ((b - a) * y.den))) a b x
-    (λ g. absurd (let p = past_less b x y px s g in omega arith))
-    (λ _ _. none_least (over (y.num - a * y.den) ((b - a) * y.den)))
-    (λ _ _. slope_mono a b x y l))
+    by_rise_to (λ f. AtMost (rise_at (Some a) b x) f) a b y (λ _. rise_one a b x)
+    (λ h1 h2. early_none a b x (λ g. let p = past_less b x y px s g in omega arith) (before a x y py l h2))
+    (λ h1 h2. early_slope a b x y (λ g. let p = past_less b x y px s g in omega arith) l)
 
 rise_to_proper : (a b : ℕ) (x : Fraction) → IsProper x → IsProper (rise_until (Some a) b x)
 rise_to_proper a b x px = by_rise_to IsProper a b x
@@ -407,109 +405,100 @@ degree_proper t x px =
     IsProper-lesser (rise_at t.a t.b x) (fall_at t.c t.d x) (side_rise_proper t.a t.b x px)
     (side_fall_proper t.c t.d x px)
 
--- no fraction above low is at most every degree_at of the cell
-pub low_greatest : (t : Points) (s e m : ℕ) (k : Bool) (v : Fraction) → 0 < m → s < e → IsProper v
-    → ((x : Fraction) → IsProper x → IsFromTo (over s m) (over e m) k x → AtMost v (degree_at t x))
-    → AtMost v (low t (over s m) (over e m))
-low_greatest t s e m k v hm he pv h =
-    AtMost-lesser v (rise_at t.a t.b (over s m)) (fall_at t.c t.d (over e m))
-    (AtMost-trans v (degree_at t xs) (rise_at t.a t.b xs) (degree_proper t xs ps) (h xs ps start)
-    (AtMost-lesser_left (rise_at t.a t.b xs) (fall_at t.c t.d xs)))
-    (at_fall t.d (λ x px i. AtMost-trans v (degree_at t x) (fall_at t.c t.d x) (degree_proper t x px) (h x px i)
-    (AtMost-lesser_right (rise_at t.a t.b x) (fall_at t.c t.d x))))
-  where
-    xs : Fraction
-    xs = over s m
+module _ (t : Points) (s e m : ℕ) (k : Bool) (v : Fraction) (hm : 0 < m) (he : s < e) (pv : IsProper v) where
+  abbrev xs : Fraction
+  xs = over s m
 
-    ps : IsProper xs
-    ps = record { pos = hm }
+  ps : IsProper xs
+  ps = record { pos = hm }
 
-    start : IsFromTo (over s m) (over e m) k xs
-    start = inside (AtMost-refl xs) (record { cross = (let p = scaled_less s e m he in omega arith) })
+  start : IsFromTo (over s m) (over e m) k xs
+  start = inside (AtMost-refl xs) (record { cross = (let p = scaled_less s e m he in omega arith) })
 
-    at_fall : (d : Option ℕ)
-        → ((x : Fraction) → IsProper x → IsFromTo (over s m) (over e m) k x → AtMost v (fall_at t.c d x))
-        → AtMost v (fall_at t.c d (over e m))
-    at_fall None g = g xs ps start
-    at_fall (Some d) g =
-        fall_lim t.c d e m v hm (omega arith) pv
-        (g (close e m (v.den + 2)) (close_proper e m (v.den + 2) hm (omega arith))
-        (close_in s e m (v.den + 2) k hm (omega arith) he))
+  -- no fraction above low is at most every degree_at of the cell
+  pub low_greatest : ((x : Fraction) → IsProper x → IsFromTo (over s m) (over e m) k x → AtMost v (degree_at t x))
+      → AtMost v (low t (over s m) (over e m))
+  low_greatest h =
+      AtMost-lesser v (rise_at t.a t.b (over s m)) (fall_at t.c t.d (over e m))
+      (AtMost-trans v (degree_at t xs) (rise_at t.a t.b xs) (degree_proper t xs ps) (h xs ps start)
+      (AtMost-lesser_left (rise_at t.a t.b xs) (fall_at t.c t.d xs)))
+      (at_fall t.d (λ x px i. AtMost-trans v (degree_at t x) (fall_at t.c t.d x) (degree_proper t x px) (h x px i)
+      (AtMost-lesser_right (rise_at t.a t.b x) (fall_at t.c t.d x))))
+    where
+      at_fall : (d : Option ℕ)
+          → ((x : Fraction) → IsProper x → IsFromTo (over s m) (over e m) k x → AtMost v (fall_at t.c d x))
+          → AtMost v (fall_at t.c d (over e m))
+      at_fall None g = g xs ps start
+      at_fall (Some d) g =
+          fall_lim t.c d e m v hm (omega arith) pv
+          (g (close e m (v.den + 2)) (close_proper e m (v.den + 2) hm (omega arith))
+          (close_in s e m (v.den + 2) k hm (omega arith) he))
 
--- no fraction below high is at least every degree_at of the cell
-pub high_least : (t : Points) (s e m : ℕ) (k : Bool) (v : Fraction) → IsPeaked t → 0 < m → s < e → IsProper v
-    → ((x : Fraction) → IsProper x → IsFromTo (over s m) (over e m) k x → AtMost (degree_at t x) v)
-    → AtMost (high t (over s m) (over e m) k) v
-high_least t s e m k v gt hm he pv h = ⊎_elim right left (cases_lt (t.c * m) s)
-  where
-    xs : Fraction
-    xs = over s m
+  -- no fraction below high is at least every degree_at of the cell
+  pub high_least : IsPeaked t
+      → ((x : Fraction) → IsProper x → IsFromTo (over s m) (over e m) k x → AtMost (degree_at t x) v)
+      → AtMost (high t (over s m) (over e m) k) v
+  high_least gt h = ⊎_elim right left (cases_lt (t.c * m) s)
+    where
+      xe : Fraction
+      xe = over e m
 
-    xe : Fraction
-    xe = over e m
+      hd : Fraction
+      hd = high t xs xe k
 
-    ps : IsProper xs
-    ps = record { pos = hm }
+      -- to the right of c
+      right : t.c * m < s → AtMost hd v
+      right l =
+          let b1 : t.b * m ≤ s = (let p : t.b * m ≤ t.c * m = mul-le-mul_right m gt.peak in omega arith) in
+          AtMost-trans hd (fall_at t.c t.d xs) v (side_fall_proper t.c t.d xs ps)
+          (AtMost-lesser_right (rise_end k t.a t.b xe) (fall_at t.c t.d xs))
+          (AtMost-trans (fall_at t.c t.d xs) (degree_at t xs) v (degree_proper t xs ps) (degree_fall t xs b1)
+          (h xs ps start))
 
-    start : IsFromTo (over s m) (over e m) k xs
-    start = inside (AtMost-refl xs) (record { cross = (let p = scaled_less s e m he in omega arith) })
+      left : s ≤ t.c * m → AtMost hd v
+      left l = AtMost-trans hd (rise_end k t.a t.b xe) v (side_end_proper k t.a t.b xe (record { pos = hm }))
+          (AtMost-lesser_left (rise_end k t.a t.b xe) (fall_at t.c t.d xs))
+          (⊎_elim (λ (g : t.b * m < e). AtMost-trans (rise_end k t.a t.b xe) one v one_proper (end_all k t.a t.b xe)
+          (top g)) (λ (g : e ≤ t.b * m). early k t.a (λ x px i g2. by_rising x px (h x px i) g2) g)
+          (cases_lt (t.b * m) e))
+        where
+          peak_c : t.b * m ≤ t.c * m
+          peak_c = mul-le-mul_right m gt.peak
 
-    hd : Fraction
-    hd = high t xs xe k
+          -- a place of the peak lies in the cell
+          top : t.b * m < e → AtMost one v
+          top g = ⊎_elim
+              (λ (n : s < t.b * m). let x = over (t.b * m) m in let px : IsProper x = record { pos = hm } in
+              at_top x px (inside (record { cross = mul-le-mul_right m (le_of_lt n) })
+              (record { cross = (let p = scaled_less (t.b * m) e m g in omega arith) })) (omega arith) peak_c)
+              (λ (n : t.b * m ≤ s). at_top xs ps start n l)
+              (cases_lt s (t.b * m))
+            where
+              at_top : (x : Fraction) → IsProper x → IsFromTo xs xe k x → t.b * x.den ≤ x.num → x.num ≤ t.c * x.den
+                  → AtMost one v
+              at_top x px i g1 g2 =
+                  AtMost-trans one (rise_at t.a t.b x) v (side_rise_proper t.a t.b x px) (rise_top t.a t.b x g1)
+                  (AtMost-trans (rise_at t.a t.b x) (degree_at t x) v (degree_proper t x px) (degree_rise t x g2)
+                  (h x px i))
 
-    -- to the right of c
-    right : t.c * m < s → AtMost hd v
-    right l =
-        let b1 : t.b * m ≤ s = (let p : t.b * m ≤ t.c * m = mul-le-mul_right m gt.peak in omega arith) in
-        AtMost-trans hd (fall_at t.c t.d xs) v (side_fall_proper t.c t.d xs ps)
-        (AtMost-lesser_right (rise_end k t.a t.b xe) (fall_at t.c t.d xs))
-        (AtMost-trans (fall_at t.c t.d xs) (degree_at t xs) v (degree_proper t xs ps) (degree_fall t xs b1)
-        (h xs ps start))
+          by_rising : (x : Fraction) → IsProper x → AtMost (degree_at t x) v → x.num ≤ t.c * x.den
+              → AtMost (rise_at t.a t.b x) v
+          by_rising x px i g2 =
+              AtMost-trans (rise_at t.a t.b x) (degree_at t x) v (degree_proper t x px) (degree_rise t x g2) i
 
-    left : s ≤ t.c * m → AtMost hd v
-    left l = AtMost-trans hd (rise_end k t.a t.b xe) v (side_end_proper k t.a t.b xe (record { pos = hm }))
-        (AtMost-lesser_left (rise_end k t.a t.b xe) (fall_at t.c t.d xs))
-        (⊎_elim (λ (g : t.b * m < e). AtMost-trans (rise_end k t.a t.b xe) one v one_proper (end_all k t.a t.b xe)
-        (top g)) (λ (g : e ≤ t.b * m). early k t.a (λ x px i g2. by_rising x px (h x px i) g2) g)
-        (cases_lt (t.b * m) e))
-      where
-        peak_c : t.b * m ≤ t.c * m
-        peak_c = mul-le-mul_right m gt.peak
-
-        -- a place of the peak lies in the cell
-        top : t.b * m < e → AtMost one v
-        top g = ⊎_elim
-            (λ (n : s < t.b * m). let x = over (t.b * m) m in let px : IsProper x = record { pos = hm } in
-            at_top x px (inside (record { cross = mul-le-mul_right m (le_of_lt n) })
-            (record { cross = (let p = scaled_less (t.b * m) e m g in omega arith) })) (omega arith) peak_c)
-            (λ (n : t.b * m ≤ s). at_top xs ps start n l)
-            (cases_lt s (t.b * m))
-          where
-            at_top : (x : Fraction) → IsProper x → IsFromTo xs xe k x → t.b * x.den ≤ x.num → x.num ≤ t.c * x.den
-                → AtMost one v
-            at_top x px i g1 g2 =
-                AtMost-trans one (rise_at t.a t.b x) v (side_rise_proper t.a t.b x px) (rise_top t.a t.b x g1)
-                (AtMost-trans (rise_at t.a t.b x) (degree_at t x) v (degree_proper t x px) (degree_rise t x g2)
-                (h x px i))
-
-        by_rising : (x : Fraction) → IsProper x → AtMost (degree_at t x) v → x.num ≤ t.c * x.den
-            → AtMost (rise_at t.a t.b x) v
-        by_rising x px i g2 =
-            AtMost-trans (rise_at t.a t.b x) (degree_at t x) v (degree_proper t x px) (degree_rise t x g2) i
-
-        early : (k : Bool) (a : Option ℕ)
-            → ((x : Fraction) → IsProper x → IsFromTo xs xe k x → x.num ≤ t.c * x.den → AtMost (rise_at a t.b x) v)
-            → e ≤ t.b * m → AtMost (rise_end k a t.b xe) v
-        early true a f g = f xe (record { pos = hm })
-            (at_end (record { cross = mul-le-mul_right m (le_of_lt he) }) (AtMost-refl xe) refl) (omega (arith, peak_c))
-        early false None f g =
-            f xs ps (inside (AtMost-refl xs) (record { cross = (let p = scaled_less s e m he in omega arith) })) l
-        early false (Some a) f g =
-            rise_lim a t.b e m v hm (omega arith) pv
-            (f (close e m (v.den + 2)) (close_proper e m (v.den + 2) hm (omega arith))
-            (close_in s e m (v.den + 2) false hm (omega arith) he)
-            (let p : e * (v.den + 2) ≤ (t.c * m) * (v.den + 2) = mul-le-mul_right (v.den + 2) (omega (arith, peak_c)) in
-            omega arith))
+          early : (k : Bool) (a : Option ℕ)
+              → ((x : Fraction) → IsProper x → IsFromTo xs xe k x → x.num ≤ t.c * x.den → AtMost (rise_at a t.b x) v)
+              → e ≤ t.b * m → AtMost (rise_end k a t.b xe) v
+          early true a f g = f xe (record { pos = hm })
+              (at_end (record { cross = mul-le-mul_right m (le_of_lt he) }) (AtMost-refl xe) refl) (omega (arith, peak_c))
+          early false None f g =
+              f xs ps (inside (AtMost-refl xs) (record { cross = (let p = scaled_less s e m he in omega arith) })) l
+          early false (Some a) f g =
+              rise_lim a t.b e m v hm (omega arith) pv
+              (f (close e m (v.den + 2)) (close_proper e m (v.den + 2) hm (omega arith))
+              (close_in s e m (v.den + 2) false hm (omega arith) he)
+              (let p : e * (v.den + 2) ≤ (t.c * m) * (v.den + 2) = mul-le-mul_right (v.den + 2) (omega (arith, peak_c)) in
+              omega arith))
 
 -- ---- a term's points are in order
 

@@ -335,13 +335,35 @@ sum_back f us k d some upto =
     ap (λ n. f (k - 1 + 1) (get_or us (k - 1) d) + sum_over f n (drop k us)) next
     ∙ sym (ap (sum_over f (k - 1 + 1)) (drop_back us k d some upto))
 
-pub greatest_back : (f : ℕ → Dec → ℕ) (us : List Dec) (k : ℕ) (d : Dec) → 1 ≤ k → k ≤ length us
+greatest_back : (f : ℕ → Dec → ℕ) (us : List Dec) (k : ℕ) (d : Dec) → 1 ≤ k → k ≤ length us
     → max (f (k - 1 + 1) (get_or us (k - 1) d)) (greatest_over f (k + 1) (drop k us))
     ≡ greatest_over f (k - 1 + 1) (drop (k - 1) us)
 greatest_back f us k d some upto =
     let next : k + 1 ≡ k - 1 + 1 + 1 = omega arith in
     ap (λ n. max (f (k - 1 + 1) (get_or us (k - 1) d)) (greatest_over f n (drop k us))) next
     ∙ sym (ap (greatest_over f (k - 1 + 1)) (drop_back us k d some upto))
+
+pub chosen_small : {n m : ℕ} (c : Bool) → n ≤ m → (if c then 0 else n) ≤ m
+chosen_small true h = omega arith
+chosen_small false h = h
+
+max_small : {a c m n : ℕ} → n ≡ max a c → a ≤ m → c ≤ m → n ≤ m
+max_small e h k = omega arith
+
+-- one singleton more, where its term has a mass
+pub greatest_if_some : (f : Dec → ℕ) (m : ℕ) (highs : List ℕ) (us : List Dec) (k : ℕ) (d : Dec) (n chosen old new : ℕ)
+    → 1 ≤ k → k ≤ length us → n ≡ f (get_or us (k - 1) d) → n ≤ m
+    → chosen ≡ (if slice_index highs (k - 1) == 0 then 0 else n) → new ≡ max chosen old
+    → (old ≤ m) × (old ≡ greatest_over (λ t s. if_some highs t (f s)) (k + 1) (drop k us))
+    → (new ≤ m) × (new ≡ greatest_over (λ t s. if_some highs t (f s)) (k - 1 + 1) (drop (k - 1) us))
+greatest_if_some f m highs us k d n chosen old new some upto n_is small chosen_is new_is before =
+    let here : k - 1 ≡ k - 1 + 1 - 1 = omega arith in
+    let value : chosen ≡ if_some highs (k - 1 + 1) (f (get_or us (k - 1) d)) =
+    chosen_is ∙ ap₂ (λ j a. if slice_index highs j == 0 then 0 else a) here n_is in (
+      max_small new_is (subst (λ a. a ≤ m) (sym chosen_is) (chosen_small (slice_index highs (k - 1) == 0) small)) before.0,
+      new_is ∙ ap₂ (λ a c. max a c) value before.1
+          ∙ greatest_back (λ t s. if_some highs t (f s)) us k d some upto,
+    )
 
 -- ---- of rules
 
@@ -533,13 +555,6 @@ reach_small x u s v hu hs =
   where
     through : (p q w : ℕ) → p ≤ w → q ≤ w → w ≤ 2000010000 → apart p q ≤ 2000010000
     through p q w h k l = omega arith
-
-pub chosen_small : {n m : ℕ} (c : Bool) → n ≤ m → (if c then 0 else n) ≤ m
-chosen_small true h = omega arith
-chosen_small false h = h
-
-pub max_small : {a c m n : ℕ} → n ≡ max a c → a ≤ m → c ≤ m → n ≤ m
-max_small e h k = omega arith
 
 -- ---- of a box
 

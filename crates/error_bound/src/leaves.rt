@@ -3,7 +3,8 @@ ghost use Rattle.std.specs.Prelude.{◌≡◌, ◌↔◌, ◌≤◌, ◌<◌, �
 ghost use Rattle.std.specs.Prelude.{Some, length};
 ghost use Rattle.fz_num.specs.Fractions.{over, AtMost};
 ghost use Rattle.fuzzy_meaning.specs.declared.block.Rule.{Rule as TheRule};
-ghost use Rattle.fuzzy_meaning.specs.{Blocks.IsValid, Blocks.output_at, Meaning.concludes as concludes_it};
+ghost use Rattle.fuzzy_meaning.specs.Blocks.{IsValid, IsValidOutput, output_at};
+ghost use Rattle.fuzzy_meaning.specs.Meaning.{concludes as concludes_it};
 ghost use Rattle.error_bound.specs.{Boxes.IsBoxOf, Bounds.IsBound, Spans.only, Reaches.IsTable};
 ghost use Rattle.error_bound.specs.Faults.{HasLeafFault, IsStrongFault, IsSilentFault};
 ghost use Rattle.error_bound.specs.Leaves.{rule_at, Holds, IsStill, concludes_some as concludes_any, IsPairFor};
@@ -13,10 +14,21 @@ use crate::bounds::{silent_bound, strong_bound};
 use crate::boxes::{ByteBox, Leaf, LeafFault};
 use crate::ends::End;
 use crate::rules::BoxTable;
-use fuzzy_meaning::{Block, Rule};
+use fuzzy_meaning::{Block, Output, Rule};
+
+/// An output of a block. They count from 1.
+pub fn output_of(block: &Block, out: u8) -> &Output
+    requires block { IsValid block.now }
+    requires from { 1 ≤ out }
+    requires to { out ≤ length block.now.outputs }
+    ensures found { output_at block.now out ≡ Some result.now }
+    ensures valid { IsValidOutput result.now }
+{
+    &block.outputs.as_slice()[out as usize - 1]
+}
 
 /// The Bound of a leaf's pair for an output on a box, in millionths of the output's range, or its
-/// first fault, for answers that are bytes. Outputs count from 1.
+/// first fault, for answers that are bytes.
 pub fn leaf_bound(block: &Block, bytes: &ByteBox, leaf: &Leaf, out: u8) -> Result<u32, LeafFault>
     requires block { IsValid block.now }
     requires bytes { IsBoxOf block.now bytes.now.0.items }
@@ -62,7 +74,7 @@ impl BoxTable<'_> {
             (λ x. IsBound block.now self.now.bytes.0.items out x parts leaf.now n)) }
         ensures fault { IfErr result (HasLeafFault block.now self.now.bytes.0.items out leaf.now) }
     {
-        let output = &block.outputs.as_slice()[out as usize - 1];
+        let output = output_of(block, out);
         if leaf.k == 0 {
             return match self.silent_fault(block, out) {
                 Some(fault) => Err(fault),

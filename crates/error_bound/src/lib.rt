@@ -35,7 +35,7 @@ pub use laws::{
     cells_have_bounds, faulty_leaves_fail, leaf_faults_are_one, leaves_hold_inside,
     term_errors_are,
 };
-pub use leaves::{is_pair_for, leaf_bound, leaf_bound16};
+pub use leaves::{is_pair_for, leaf_bound, leaf_bound16, output_of};
 pub use rules::BoxTable;
 pub use tables::BlockTable;
 pub use tight::Masses;

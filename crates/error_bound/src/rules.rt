@@ -80,7 +80,8 @@ impl<'a> BoxTable<'a> {
             → IsErrorOfRule block.now self.now.bytes.0.items r result }
     {
         let rule = &block.rules.as_slice()[place];
-        error_of_strength(self.kept, place, rule, block, &self.terms)
+        let condition = condition_in(self.kept, place, rule, block);
+        error_of_strength(rule, condition, block, &self.terms)
     }
 
     /// The upper end of the strength of the rule at a place, or the lower.
@@ -92,7 +93,8 @@ impl<'a> BoxTable<'a> {
             → IsEndOfRule block.now self.now.bytes.0.items r upper result }
     {
         let rule = &block.rules.as_slice()[place];
-        end_of_strength(self.kept, place, rule, upper, block, &self.terms)
+        let condition = condition_in(self.kept, place, rule, block);
+        end_of_strength(rule, condition, upper, block, &self.terms)
     }
 
     /// Whether the rule at a place concludes a term of an output, and no term that it asks for is nowhere on the box.
@@ -121,20 +123,18 @@ impl<'a> BoxTable<'a> {
 
 /// The upper end of the strength of the rule at a place, or the lower.
 fn end_of_strength(
-    kept: Option<&BlockTable>,
-    place: usize,
     rule: &Rule,
+    condition: &Condition,
     upper: bool,
     block: &Block,
     terms: &BoxTerms,
 ) -> End
-    requires kept { IfSome kept (λ table. HasAlike block.now rule.now place table.now.conditions.items) }
+    requires condition { ReachesAlike block.now rule.now.cond condition.now }
     requires rule { IsValidRule block.now rule.now }
     requires block { IsValid block.now }
     requires terms { AreBoxTerms block.now terms.now }
     ensures { IsEndOfRule block.now terms.now.bytes.0.items rule.now upper result }
 {
-    let condition = condition_in(kept, place, rule, block);
     let end = end_of(condition, upper, block, terms);
     let weight = rule.weight.unwrap_or(Dec(10_000));
     End {
@@ -144,20 +144,13 @@ fn end_of_strength(
 }
 
 /// The error of the strength of the rule at a place.
-fn error_of_strength(
-    kept: Option<&BlockTable>,
-    place: usize,
-    rule: &Rule,
-    block: &Block,
-    terms: &BoxTerms,
-) -> u64
-    requires kept { IfSome kept (λ table. HasAlike block.now rule.now place table.now.conditions.items) }
+fn error_of_strength(rule: &Rule, condition: &Condition, block: &Block, terms: &BoxTerms) -> u64
+    requires condition { ReachesAlike block.now rule.now.cond condition.now }
     requires rule { IsValidRule block.now rule.now }
     requires block { IsValid block.now }
     requires terms { AreBoxTerms block.now terms.now }
     ensures { IsErrorOfRule block.now terms.now.bytes.0.items rule.now result }
 {
-    let condition = condition_in(kept, place, rule, block);
     let weight = rule.weight.unwrap_or(Dec(10_000));
     let byte = weight_byte(rule.weight);
     error_of(condition, block, terms) + weight_error(weight, byte) + floor_error(byte)

@@ -12,6 +12,7 @@ ghost use Rattle.error_bound.specs.{Reaches.IsTable, Tight.IsTightBound, Tight.I
 
 use crate::bounds::{in_millionths, offset, raise_terms, silent_bound};
 use crate::ends::End;
+use crate::leaves::output_of;
 use crate::rules::BoxTable;
 use fuzzy_meaning::{Block, Output};
 use fz_num::Dec;
@@ -76,7 +77,7 @@ impl BoxTable<'_> {
         ensures unsure { IfNone result (IfSome (output_at block.now out)
             (λ x. IsSure block.now self.now.bytes.0.items out x → ⊥)) }
     {
-        let output = &block.outputs.as_slice()[out as usize - 1];
+        let output = output_of(block, out);
         match self.silent_fault(block, out) {
             None => Some(silent_bound(output)),
             Some(_) => masses.bound(output, parts),

@@ -1,28 +1,22 @@
-use Rattle.std.proofs.Common.{◌-◌, inl, inr, sym, ap, ◌∙◌, subst, rules}
-use Rattle.fuzzy_meaning.specs.{Blocks.IsValidCondition, Trees.tree}
+use Rattle.std.proofs.Common.{◌-◌, inl, inr, subst, rules}
+use Rattle.fuzzy_meaning.specs.Blocks.{IsValidCondition}
 use Rattle.error_bound.specs.Reaches.{IsEndOfCondition}
-use Rattle.fuzzy_meaning.proofs.Algebra.{part_falls, parts_fall}
-use Rattle.error_bound.proofs.ends.+ends.Goals.{end_among-in-Some, end_among-in-None}
+use Rattle.error_bound.proofs.{ListLemmas.part_asks, ListLemmas.parts_ask}
 use Rattle.error_bound.proofs.FlatteningLemmas.{end_from, end_from_none}
-use Rattle.error_bound.proofs.ListLemmas.{IsValidCondition-part}
 use Rattle.error_bound.proofs.ends.+ends.Goals as goal
+use Rattle.error_bound.proofs.ends.+ends.Goals.{end_among-in-Some, end_among-in-None}
 
 pub end_among-end_of_literal-end-requires-clause-literal : goal.end_among-end_of_literal-end-requires-clause-literal
 end_among-end_of_literal-end-requires-clause-literal t c =
-    subst (IsValidCondition c.args.block.now) c.in-Some.ensures
-    (IsValidCondition-part c.parts_are_valid.ensures c.args.block.now c.args.parts.now c.loop-k.k c.index-parts-k.result
-    (search rules) (search rules) c.index-parts-k.is c.requires.parts)
+    let asks = part_asks c.parts_are_valid.ensures c.args.block.now c.args.parts.now c.loop-k.k c.index-parts-k.result
+    (search rules) (search rules) c.index-parts-k.is c.requires.parts in
+    subst (IsValidCondition c.args.block.now) c.in-Some.ensures asks.1
 
 pub end_among-end_of-end-requires : goal.end_among-end_of-end-requires
 end_among-end_of-end-requires t c =
-    let valid = IsValidCondition-part c.parts_are_valid.ensures c.args.block.now c.args.parts.now c.loop-k.k
-    c.index-parts-k.result (search rules) (search rules) c.index-parts-k.is c.requires.parts in (
-      search (
-        rules,
-        part_falls c.args.parts.now (c.loop-k.k - 1) c.index-parts-k.result (search rules) c.index-parts-k.is,
-      ),
-      (valid, (c.requires.block, c.requires.terms)),
-    )
+    let asks = part_asks c.parts_are_valid.ensures c.args.block.now c.args.parts.now c.loop-k.k c.index-parts-k.result
+    (search rules) (search rules) c.index-parts-k.is c.requires.parts in
+    (search (rules, asks.0), (asks.1, (c.requires.block, c.requires.terms)))
 
 pub end_among-joined-joined-requires-clause-left : goal.end_among-joined-joined-requires-clause-left
 end_among-joined-joined-requires-clause-left t c = elim c.match-literal_in.branch [
@@ -52,18 +46,10 @@ end_among-loop-k-init t c =
 
 pub end_of-end_among-requires : goal.end_of-end_among-requires
 end_of-end_among-requires t c =
-    let parts = c.as_slice.ensures.value in
-    let valid = subst (IsValidCondition c.args.block.now) (sym c.condition.view_is ∙ ap tree c.in-And.is)
-    c.requires.condition in (
-      search (rules, parts_fall c.condition.view_is (inl c.in-And.is) parts),
-      (rw parts valid, (c.requires.block, c.requires.terms)),
-    )
+    let asks = parts_ask c.args.block.now c.condition.view_is (inl c.in-And.is) c.as_slice.ensures.value
+    c.requires.condition in (search (rules, asks.0), (asks.1, (c.requires.block, c.requires.terms)))
 
 pub end_of-end_among-requires-in-Or : goal.end_of-end_among-requires-in-Or
 end_of-end_among-requires-in-Or t c =
-    let parts = c.as_slice-in-Or.ensures.value in
-    let valid = subst (IsValidCondition c.args.block.now) (sym c.condition.view_is ∙ ap tree c.in-Or.is)
-    c.requires.condition in (
-      search (rules, parts_fall c.condition.view_is (inr c.in-Or.is) parts),
-      (rw parts valid, (c.requires.block, c.requires.terms)),
-    )
+    let asks = parts_ask c.args.block.now c.condition.view_is (inr c.in-Or.is) c.as_slice-in-Or.ensures.value
+    c.requires.condition in (search (rules, asks.0), (asks.1, (c.requires.block, c.requires.terms)))

@@ -1,9 +1,8 @@
 use Rattle.std.proofs.Common.{◌≡◌, ℕ, Bool, true, false, ◌-◌, max, inl, inr, refl, sym, ap, ◌∙◌, subst, rules}
-use Rattle.fuzzy_meaning.specs.Conditions.{Condition, is, all, any, Conditions, end, also, conditions, under}
 use Rattle.fuzzy_meaning.specs.{declared.block.Block.Block, Blocks.IsValidCondition, Trees.tree}
+use Rattle.fuzzy_meaning.specs.Conditions.{Condition, is, all, any, Conditions, end, also, conditions, under}
 use Rattle.error_bound.specs.{CellErrors.term_errors, Spans.greatest_literal}
-use Rattle.fuzzy_meaning.proofs.Algebra.{part_falls, parts_fall}
-use Rattle.error_bound.proofs.ListLemmas.{IsValidCondition-part}
+use Rattle.error_bound.proofs.ListLemmas.{part_asks, parts_ask}
 use Rattle.error_bound.proofs.literal_errors.+errors.Goals as goal
 
 valid_under : (b : Block) (odd : Bool) (c : Condition) → IsValidCondition b (under odd c) → IsValidCondition b c
@@ -25,36 +24,23 @@ error_of-returns-in-Or-clause-value t c =
 pub error_among-reach_of_literal-requires-clause-term : goal.error_among-reach_of_literal-requires-clause-term
 error_among-reach_of_literal-requires-clause-term t c =
     let l = c.in-Some.literal in
-    let valid = IsValidCondition-part c.parts_are_valid.ensures c.args.block.now c.args.parts.now c.loop-k.k
-    c.index-parts-k.result (search rules) (search rules) c.index-parts-k.is c.requires.parts in
+    let asks = part_asks c.parts_are_valid.ensures c.args.block.now c.args.parts.now c.loop-k.k c.index-parts-k.result
+    (search rules) (search rules) c.index-parts-k.is c.requires.parts in
     valid_under c.args.block.now l.negated (is l.input l.term)
-    (subst (IsValidCondition c.args.block.now) c.in-Some.ensures valid)
+    (subst (IsValidCondition c.args.block.now) c.in-Some.ensures asks.1)
 
 pub error_among-error_of-error-requires : goal.error_among-error_of-error-requires
 error_among-error_of-error-requires t c =
-    let valid = IsValidCondition-part c.parts_are_valid.ensures c.args.block.now c.args.parts.now c.loop-k.k
-    c.index-parts-k.result (search rules) (search rules) c.index-parts-k.is c.requires.parts in (
-      search (
-        rules,
-        part_falls c.args.parts.now (c.loop-k.k - 1) c.index-parts-k.result (search rules) c.index-parts-k.is,
-      ),
-      (valid, (c.requires.block, c.requires.terms)),
-    )
+    let asks = part_asks c.parts_are_valid.ensures c.args.block.now c.args.parts.now c.loop-k.k c.index-parts-k.result
+    (search rules) (search rules) c.index-parts-k.is c.requires.parts in
+    (search (rules, asks.0), (asks.1, (c.requires.block, c.requires.terms)))
 
 pub error_of-error_among-requires : goal.error_of-error_among-requires
 error_of-error_among-requires t c =
-    let parts = c.as_slice.ensures.value in
-    let valid = subst (IsValidCondition c.args.block.now) (sym c.condition.view_is ∙ ap tree c.in-And.is)
-    c.requires.condition in (
-      search (rules, parts_fall c.condition.view_is (inl c.in-And.is) parts),
-      (rw parts valid, (c.requires.block, c.requires.terms)),
-    )
+    let asks = parts_ask c.args.block.now c.condition.view_is (inl c.in-And.is) c.as_slice.ensures.value
+    c.requires.condition in (search (rules, asks.0), (asks.1, (c.requires.block, c.requires.terms)))
 
 pub error_of-error_among-requires-in-Or : goal.error_of-error_among-requires-in-Or
 error_of-error_among-requires-in-Or t c =
-    let parts = c.as_slice-in-Or.ensures.value in
-    let valid = subst (IsValidCondition c.args.block.now) (sym c.condition.view_is ∙ ap tree c.in-Or.is)
-    c.requires.condition in (
-      search (rules, parts_fall c.condition.view_is (inr c.in-Or.is) parts),
-      (rw parts valid, (c.requires.block, c.requires.terms)),
-    )
+    let asks = parts_ask c.args.block.now c.condition.view_is (inr c.in-Or.is) c.as_slice-in-Or.ensures.value
+    c.requires.condition in (search (rules, asks.0), (asks.1, (c.requires.block, c.requires.terms)))

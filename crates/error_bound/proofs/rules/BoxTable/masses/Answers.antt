@@ -17,10 +17,8 @@ loop-n-preserved-then-may_fire c =
     let o = c.args.out in
     let j = c.loop-n.n - 1 in
     let all : rules ≡ b.rules = c.as_slice-rules.ensures in
-    let some = c.loop-n-test.true in
-    let upto = c.loop-n.auto.n in
-    let within : j < length rules = omega arith in
-    let back : suc j ≡ c.loop-n.n = omega arith in
+    let within : j < length rules = omega (arith, c.loop-n-test.true, c.loop-n.auto.n) in
+    let back : suc j ≡ c.loop-n.n = omega (arith, c.loop-n-test.true) in
     let before = c.loop-n.invariant in
     let of_rule = c.mass_of_rule-rule.ensures in
     let value = c.mass_of_rule-rule.result in
@@ -73,18 +71,14 @@ loop-n-preserved c =
     let b = c.args.block.now in
     let box = c.args.self.now.bytes.0.items in
     let rules = c.as_slice-rules.result.now in
-    let o = c.args.out in
     let j = c.loop-n.n - 1 in
-    let all : rules ≡ b.rules = c.as_slice-rules.ensures in
-    let some = c.loop-n-test.true in
-    let upto = c.loop-n.auto.n in
-    let lens = ap length all in
-    let r = some_at b.rules j (omega arith) in
-    let back : suc j ≡ c.loop-n.n = omega arith in
-    let here : drop j rules ≡ r.0 ∷ drop c.loop-n.n rules = drop-cons rules j r.0 (omega arith)
-    ∙ ap₂ (λ q n. q ∷ drop n rules) (get_or-slice rules b.rules j r.0 r.0 all r.1) back in
+    let within : j < length rules = omega (arith, c.loop-n-test.true, c.loop-n.auto.n) in
+    let r = some_at b.rules j (omega (arith, ap length c.as_slice-rules.ensures, within)) in
+    let back : suc j ≡ c.loop-n.n = omega (arith, c.loop-n-test.true) in
+    let here : drop j rules ≡ r.0 ∷ drop c.loop-n.n rules = drop-cons rules j r.0 within
+    ∙ ap₂ (λ q n. q ∷ drop n rules) (get_or-slice rules b.rules j r.0 r.0 c.as_slice-rules.ensures r.1) back in
     let table = c.requires.table.box_is in
-    let none : concludes_some r.0 o ≡ true → IsRuleMass b box r.0 no_mass = λ one.
+    let none : concludes_some r.0 c.args.out ≡ true → IsRuleMass b box r.0 no_mass = λ one.
     still_mass b box c.requires.block table.count table.intervals r.0
     (c.may_fire.ensures.still c.if-may_fire.false r.0 r.1 one) in
     let rest = drop c.loop-n.n rules in
@@ -95,15 +89,15 @@ loop-n-preserved c =
       byte_lows_count = before.byte_lows_count;
       byte_highs_count = before.byte_highs_count;
       errors_count = before.errors_count;
-      lows = AreGreatest-skipped (low_part b box) 255000000000 o r.0 rest (drop j rules) c.loop-n.lows here
+      lows = AreGreatest-skipped (low_part b box) 255000000000 c.args.out r.0 rest (drop j rules) c.loop-n.lows here
           (λ one. sym (none one).low) before.lows;
-      highs = AreGreatest-skipped (high_part b box) 255000000000 o r.0 rest (drop j rules) c.loop-n.highs here
+      highs = AreGreatest-skipped (high_part b box) 255000000000 c.args.out r.0 rest (drop j rules) c.loop-n.highs here
           (λ one. sym (none one).high) before.highs;
-      byte_lows = AreGreatest-skipped (λ q. (rule_byte_span b box q).low) 255 o r.0 rest (drop j rules)
+      byte_lows = AreGreatest-skipped (λ q. (rule_byte_span b box q).low) 255 c.args.out r.0 rest (drop j rules)
           c.loop-n.byte_lows here (λ one. sym (none one).byte_low) before.byte_lows;
-      byte_highs = AreGreatest-skipped (λ q. (rule_byte_span b box q).high) 255 o r.0 rest (drop j rules)
+      byte_highs = AreGreatest-skipped (λ q. (rule_byte_span b box q).high) 255 c.args.out r.0 rest (drop j rules)
           c.loop-n.byte_highs here (λ one. sym (none one).byte_high) before.byte_highs;
-      errors = AreGreatest-skipped (moving_error b box (term_errors b box)) 3000000000 o r.0 rest (drop j rules)
+      errors = AreGreatest-skipped (moving_error b box (term_errors b box)) 3000000000 c.args.out r.0 rest (drop j rules)
           c.loop-n.errors here (λ one. sym (none one).error) before.errors;
     }
 
