@@ -1,17 +1,296 @@
--- The Bound of a cell, by what the code finds.
-use Rattle.std.proofs.Common.{◌≡◌, ◌⊎◌, ⊎_elim, ℕ, ◌-◌, ◌≤◌, List, length, Option, Some, None, sym, subst, arith}
-use Rattle.std.specs.Prelude.{IfSome, IfNone}
-use Rattle.fz_list.proofs.Algebra.{some_at}
-use Rattle.cell_error.specs.Errors.{Covers, CoveredMassesHaveErrors}
-use Rattle.fuzzy_meaning.specs.declared.{block.Block.Block, block.Output.Output}
-use Rattle.fuzzy_meaning.specs.Blocks.{IsValid, output_at}
-use Rattle.error_bound.specs.{declared.boxes.Interval.Interval, Best.silent_leaf, Boxes.IsBoxOf, Leaves.Holds}
-use Rattle.error_bound.specs.Tight.{IsTightBound, IsSure, silent as tight_silent, sure, of_bound as count_of}
-use Rattle.error_bound.specs.TightLaws.{TightBoundsAreOne, TightBoundsAreSmall}
-use Rattle.cell_bounds.specs.{declared.masses.CellMasses.CellMasses, Cells.IsErrorOnCell, Cells.IsUnsure}
+-- On a cell: what masses lie between, the one answer over bytes, the one error, and the Bound.
+use Rattle.std.proofs.Common.{◌≡◌, ℕ, zero, suc, ◌*◌, ◌/◌, List, [], ◌∷◌, length, map, Some, None, refl, sym, subst}
+use Rattle.std.proofs.Common.{ap, ◌∙◌, cond, true, arith, ⊎_elim, ◌+◌, ◌-◌, ◌<◌, ◌≤◌, take, drop, get_or, Option, ap₂}
+use Rattle.std.proofs.Common.{mul-le-mul_right, max, ◌⊎◌}
+use Rattle.std.proofs.{lemmas.Option.slice_get_within, lemmas.Option.slice_get-get_or, lemmas.List.Sums.sum_by-cons}
+use Rattle.std.proofs.{lemmas.Bool.eq-eqb, lemmas.Bool.cases_lt, Math.Seq.drop-cons, lemmas.Int.ints}
+use Rattle.std.specs.Prelude.{slice_get, ◌==◌, All, IfSome, IfNone, slice_set, ◌<ℤ◌, if◌then◌else◌, slice_index}
+use Rattle.std.specs.Option.{option_map_or}
+use Rattle.fuzzy_meaning.specs.Blocks.{output_at, IsWithin as IsInRange, input_at, IsValid}
+use Rattle.fuzzy_meaning.specs.{Conditions.Condition, Conditions.level, Conditions.levels, declared.block.Block.Block}
+use Rattle.fuzzy_meaning.specs.{declared.block.Trapezoid.Trapezoid, declared.block.Output.Output, Meaning.concludes}
+use Rattle.fuzzy_meaning.specs.{declared.block.Input.Input, declared.block.Rule.Rule}
+use Rattle.byte_scaling.specs.{Weights.weight_byte_of, Cells.nearest_byte}
+use Rattle.point_slope.specs.Bytes.{byte_shares, total_mass, weighted_sum, answer_in, resting_answer, literal_grade}
+use Rattle.point_slope.specs.Bytes.{byte_strength, byte_mass_among, byte_mass, ByteShare, byte_shares_from}
+use Rattle.point_slope.specs.Bytes.{total_mass as byte_total, weighted_sum as byte_weighted}
+use Rattle.point_slope.specs.Tables.{row_of, grade_of}
+use Rattle.error_bound.specs.Boxes.{IsBox, LieIn, literal_byte_span, rule_byte_span, grades_over, least_from}
+use Rattle.error_bound.specs.Tight.{greatest_of, byte_high_of, IsTightBound, IsSure, silent as tight_silent, sure}
+use Rattle.error_bound.specs.MassRanges.{ranges, answer_at, rest_of, ranges_at, sure_mass}
+use Rattle.error_bound.specs.{TightLaws.TightBoundsAreOne, TightLaws.TightBoundsAreSmall, Tight.of_bound as count_of}
+use Rattle.error_bound.specs.{Spans.Span, Spans.only, Spans.reversed, Spans.spans, Spans.byte_span, Leaves.Holds}
+use Rattle.error_bound.specs.{declared.boxes.Interval.Interval, Boxes.greatest_from, Boxes.IsBoxOf, Best.silent_leaf}
+use Rattle.cell_error.specs.Errors.{Covers, IsRange, IsCellError, CoveredMassesHaveErrors}
+use Rattle.cell_error.specs.{declared.ranges.MassRange.MassRange, declared.ranges.Answer.Answer}
+use Rattle.cell_bounds.specs.Cells.{unsure, silent, ErrorsOnCellsAreOne, UnsureCellsHaveNone, IsErrorOnCell, IsUnsure}
 use Rattle.cell_bounds.specs.CellBounds.{HasCellBound, of_tight, of_error, IsCellBound}
-use Rattle.cell_bounds.specs.CellMasses.{AreFit, AreCellMasses, terms_of}
-use Rattle.cell_bounds.proofs.{OneError.errors_one, OneError.unsure_none, RangeLemmas.error_on}
+use Rattle.cell_bounds.specs.Cells.{IsCell, mass_sum, dot_sum, answer_by}
+use Rattle.cell_bounds.specs.CellMasses.{AreCellMasses, terms_of, AreFit}
+use Rattle.cell_bounds.specs.declared.masses.CellMasses.{CellMasses}
+use Rattle.fz_list.proofs.Algebra.{All-none, All-cons, some_at}
+use Rattle.fz_num.specs.{declared.dec.Dec.Dec, Decimals.distance}
+use Rattle.fuzzy_meaning.proofs.Algebra.{evaluate-alike}
+
+-- some bytes lie in each box
+abbrev pub lowest : List Interval → List ℕ
+lowest box = map (λ (v : Interval). v.from) box
+
+lowest_long : (box : List Interval) → length (lowest box) ≡ length box
+lowest_long [] = refl
+lowest_long (v ∷ vs) = ap suc (lowest_long vs)
+
+lowest_at : (box : List Interval) (k : ℕ) (v : Interval) (n : ℕ) → slice_get box k ≡ Some v → slice_get (lowest box) k ≡ Some n
+    → v.from ≡ n
+lowest_at [] k v n e f = absurd (let z : ⊥ = cc in z)
+lowest_at (w ∷ vs) zero v n e f = let s : w ≡ v = cc in let t : w.from ≡ n = cc in sym (ap (λ (i : Interval). i.from) s) ∙ t
+lowest_at (w ∷ vs) (suc k) v n e f = lowest_at vs k v n e f
+
+pub lowest_in : (box : List Interval) → IsBox box → LieIn box (lowest box)
+lowest_in box h = record {
+  count = lowest_long box;
+  within = λ k v n e f.
+      let s = lowest_at box k v n e f in
+      let w = h.some k v e in
+      let w0 = w.0 in
+      (omega arith, omega arith);
+}
+
+pub errors_one : ErrorsOnCellsAreOne
+errors_one b cell o x h n m is e f =
+    let bytes = lowest cell in
+    let inside = lowest_in cell is in
+    let same : e.answer ≡ f.answer = sym (e.is_answer bytes 0 inside) ∙ f.is_answer bytes 0 inside in
+    let p = e.error.least m (subst (λ q. Covers (answer_at h x q) (ranges b cell o x) (rest_of x) m) (sym same)
+    f.error.covers) in
+    let q = f.error.least n (subst (λ q. Covers (answer_at h x q) (ranges b cell o x) (rest_of x) n) same
+    e.error.covers) in
+    omega arith
+
+-- without masses over bytes NC keeps the answer before, whatever it is
+keeps : (b : Block) (o h : ℕ) (x : Output) (bytes : List ℕ) (before : ℕ) → output_at b o ≡ Some x → x.default ≡ None
+    → total_mass (byte_shares b bytes o x) ≡ 0 → answer_in h b o bytes before ≡ before
+keeps b o h x bytes before ex nc z =
+    let e : (total_mass (byte_shares b bytes o x) == 0) ≡ true = eq-eqb (total_mass (byte_shares b bytes o x)) 0 z in
+    let one = ap (λ v. cond v (resting_answer h x before)
+    (h * weighted_sum (byte_shares b bytes o x) / total_mass (byte_shares b bytes o x))) e in
+    let two = ap (λ d. option_map_or (λ d. h * nearest_byte x d) d before) nc in
+    rw ex (one ∙ two)
+
+pub unsure_none : UnsureCellsHaveNone
+unsure_none b cell o x h n is ex (unsure nc z) e = let s = e.sure nc in absurd (omega arith)
+unsure_none b cell o x h n is ex (silent nc none) e =
+    let bytes = lowest cell in
+    let inside = lowest_in cell is in
+    let zero_is = sym (keeps b o h x bytes 0 ex nc (none bytes inside)) ∙ e.is_answer bytes 0 inside in
+    let one_is = sym (keeps b o h x bytes 1 ex nc (none bytes inside)) ∙ e.is_answer bytes 1 inside in
+    absurd (omega arith)
+
+-- ---- the list of what masses lie between, as the code has it
+
+pub quotient_le : (a b n : ℕ) → 0 < b → a ≤ n * b → a / b ≤ n
+quotient_le a b n h l = ⊎_elim
+    (λ (k : n < a / b). let j : suc n * b ≤ (a / b) * b = mul-le-mul_right b k in absurd (omega arith))
+    (λ (k : a / b ≤ n). k)
+    (cases_lt n (a / b))
+
+-- a loop from the back fills a list's first n places
+pub fill : (xs : List MassRange) (n k : ℕ) (v : MassRange) → k < n → n ≤ length xs
+    → drop k (take n (slice_set xs k v)) ≡ v ∷ drop (suc k) (take n xs)
+fill [] n k v h l = absurd (omega arith)
+fill (x ∷ xs) zero k v h l = absurd (omega arith)
+fill (x ∷ xs) (suc n) zero v h l = refl
+fill (x ∷ xs) (suc n) (suc k) v h l = fill xs n k v (omega arith) (omega arith)
+
+pub fill_next : (f g : ℕ → ℕ) (lo : Dec) (ss : List Dec) (rs : List MassRange) (k a m : ℕ) (d : Dec) → 0 < k
+    → k ≤ length ss → length ss ≤ length rs → a ≡ distance lo (get_or ss (k - 1) d) → m ≡ g (k - 1)
+    → drop k (take (length ss) rs) ≡ ranges_at f g lo k (drop k ss)
+    → drop (k - 1) (take (length ss) (slice_set rs (k - 1) (record { at = a; low = f (k - 1); high = m })))
+    ≡ ranges_at f g lo (k - 1) (drop (k - 1) ss)
+fill_next f g lo ss rs k a m d some upto room ea em done =
+    let n = length ss in
+    let j = k - 1 in
+    let back : k ≡ suc j = omega arith in
+    let next : k ≡ j + 1 = omega arith in
+    let v : MassRange = record { at = a; low = f j; high = m } in
+    let e1 = fill rs n j v (omega arith) room in
+    let e2 : drop (suc j) (take n rs) ≡ ranges_at f g lo (j + 1) (drop (suc j) ss) =
+    subst (λ i. drop i (take n rs) ≡ ranges_at f g lo (j + 1) (drop i ss)) back
+    (subst (λ i. drop k (take n rs) ≡ ranges_at f g lo i (drop k ss)) next done) in
+    let e3 : drop j ss ≡ get_or ss j d ∷ drop (suc j) ss = drop-cons ss j d (omega arith) in
+    let e4 : v ∷ ranges_at f g lo (j + 1) (drop (suc j) ss) ≡ ranges_at f g lo j (get_or ss j d ∷ drop (suc j) ss) =
+    ap₂ (λ (p q : ℕ). let t : MassRange = record { at = p; low = f j; high = q } in
+    t ∷ ranges_at f g lo (j + 1) (drop (suc j) ss)) ea em in
+    e1 ∙ ap (λ ts. v ∷ ts) e2 ∙ e4 ∙ sym (ap (ranges_at f g lo j) e3)
+
+pub ranges_same : (f f' g g' : ℕ → ℕ) (lo : Dec) → ((j : ℕ) → j < 15 → f j ≡ f' j) → ((j : ℕ) → j < 15 → g j ≡ g' j)
+    → (k : ℕ) (us : List Dec) → k + length us ≤ 15 → ranges_at f g lo k us ≡ ranges_at f' g' lo k us
+ranges_same f f' g g' lo hf hg k [] l = refl
+ranges_same f f' g g' lo hf hg k (u ∷ us) l =
+    let one : MassRange → MassRange → Type 0 = λ a b. a ≡ b in
+    ap₂ (λ (t : MassRange) (ts : List MassRange). t ∷ ts)
+    (ap₂ (λ (m n : ℕ). let t : MassRange = record { at = distance lo u; low = m; high = n } in t)
+    (hf k (omega arith)) (hg k (omega arith)))
+    (ranges_same f f' g g' lo hf hg (k + 1) us (omega arith))
+
+pub ranges_ok : (f g : ℕ → ℕ) (lo hi : Dec) → lo.0 <ℤ hi.0 → ((j : ℕ) → j < 15 → f j ≤ 255000000000)
+    → ((j : ℕ) → j < 15 → g j ≤ 255000000000) → ((j : ℕ) → j < 15 → f j ≤ g j) → (k : ℕ) (us : List Dec) → k + length us ≤ 15 → All (IsInRange lo hi) us
+    → All (IsRange (distance lo hi)) (ranges_at f g lo k us)
+ranges_ok f g lo hi range hf hg fg k [] l h = All-none (IsRange (distance lo hi))
+ranges_ok f g lo hi range hf hg fg k (u ∷ us) l h =
+    let r = h 0 u (omega arith) in
+    let a = hf k (omega arith) in
+    let b = hg k (omega arith) in
+    All-cons (IsRange (distance lo hi)) (record { at = distance lo u; low = f k; high = g k })
+    (ranges_at f g lo (k + 1) us)
+    (record {
+      at_to = omega (arith, ints, r.low, r.high);
+      low_to = fg k (omega arith);
+      high_to = hg k (omega arith);
+    })
+    (ranges_ok f g lo hi range hf hg fg (k + 1) us (omega arith) (λ i d j. h (suc i) d (omega arith)))
+
+-- ---- what the code finds
+
+pub masses_are : (b : Block) (box : List Interval) (o : ℕ) (x : Output) (h v : ℕ) (ts : List MassRange)
+    (r : Option CellMasses) → output_at b o ≡ Some x
+    → ((bytes : List ℕ) (before : ℕ) → LieIn box bytes → answer_in h b o bytes before ≡ v)
+    → ts ≡ ranges b box o x → IfSome r (λ c. c.answer ≡ answer_at h x v) → IfSome r (λ c. terms_of c ≡ ts)
+    → IfSome r (λ c. c.rest ≡ rest_of x) → IfSome r (λ c. x.default ≡ None → 0 < sure_mass ts)
+    → IfSome r (λ c. IfSome (output_at b o) (λ y. AreCellMasses b box o y h c))
+masses_are b box o x h v ts None ex is et answer terms rest some = tt
+masses_are b box o x h v ts (Some c) ex is et answer terms rest some =
+    let value : c.answer.value ≡ v = ap (λ (a : Answer). a.value) answer in
+    rw ex (record {
+      answer_is = answer ∙ ap (answer_at h x) (sym value);
+      answers = λ bytes before inside. is bytes before inside ∙ sym value;
+      terms_are = terms ∙ et;
+      rest_is = rest;
+      sure = subst (λ us. x.default ≡ None → 0 < sure_mass us) et some;
+    })
+
+pub unfinished : (b : Block) (box : List Interval) (o : ℕ) (x : Output) (ts : List MassRange) (r : Option CellMasses)
+    → output_at b o ≡ Some x → ts ≡ ranges b box o x → IfNone r (x.default ≡ None) → IfNone r (sure_mass ts ≡ 0)
+    → IfNone r (IfSome (output_at b o) (IsUnsure b box o))
+unfinished b box o x ts (Some n) ex et nc none = tt
+unfinished b box o x ts None ex et nc none =
+    rw ex (unsure nc (subst (λ us. sure_mass us ≡ 0) et none))
+
+pub unanswered : (b : Block) (box : List Interval) (o : ℕ) (x : Output) → output_at b o ≡ Some x → x.default ≡ None
+    → ((bytes : List ℕ) → LieIn box bytes → total_mass (byte_shares b bytes o x) ≡ 0)
+    → IfSome (output_at b o) (IsUnsure b box o)
+unanswered b box o x ex nc none = rw ex (silent nc none)
+
+pub error_on : (b : Block) (box : List Interval) (o : ℕ) (x : Output) (h n : ℕ) (c : CellMasses)
+    → AreCellMasses b box o x h c → IsCellError c.answer (terms_of c) c.rest n → IsErrorOnCell b box o x h n
+error_on b box o x h n c m e = record {
+  answer = c.answer.value;
+  is_answer = m.answers;
+  sure = m.sure;
+  error = subst (λ a. IsCellError a (ranges b box o x) (rest_of x) n) m.answer_is
+      (subst (λ ts. IsCellError c.answer ts (rest_of x) n) m.terms_are
+      (subst (λ r. IsCellError c.answer (terms_of c) r n) m.rest_is e));
+}
+
+-- ---- on a cell the answer over bytes is one
+
+-- a span of one byte for each literal is one for each condition
+point : (g : ℕ → ℕ → ℕ) (r : ℕ → ℕ → Span ℕ) → ((i t : ℕ) → r i t ≡ only (g i t)) → (c : Condition)
+    → byte_span r c ≡ only (level 255 g c)
+point g r = evaluate-alike (λ (s : Span ℕ) (n : ℕ). s ≡ only n)
+    (record {
+      none = λ or. refl;
+      join = λ or s r m n h k. ap₂ (λ (a b : Span ℕ). (spans (levels 255)).join or a b) h k;
+    })
+    (λ s n h. ap (reversed (λ n. 255 - n)) h)
+
+grades_point : (i : Input) (t : Trapezoid) (v : Interval) → v.from ≡ v.to
+    → grades_over i t v ≡ only (grade_of (row_of i t) v.from)
+grades_point i t v e =
+    let g : ℕ → ℕ = grade_of (row_of i t) in
+    let z : 0 ≡ v.to - v.from = omega arith in
+    subst (λ n. let s : Span ℕ = record { low = least_from g v.from n; high = greatest_from g v.from n } in
+    s ≡ only (g v.from)) z refl
+
+module _ (b : Block) (box : List Interval) (bytes : List ℕ) (count : length box ≡ length b.inputs) (cell : IsCell box)
+    (inside : LieIn box bytes) where
+  by_term : (i t : ℕ) (x : Input) → input_at b i ≡ Some x → (o : Option Trapezoid) → slice_get x.terms (t - 1) ≡ o
+      → literal_byte_span b box i t ≡ only (literal_grade b bytes i t)
+  by_term i t x ex None et = rw (ex, et) refl
+  by_term i t x ex (Some term) et =
+      let l : i - 1 < length b.inputs = slice_get_within b.inputs (i - 1) x ex in
+      let c2 = inside.count in
+      let v = some_at box (i - 1) (omega arith) in
+      let k : i - 1 < length bytes = omega arith in
+      let en : slice_get bytes (i - 1) ≡ Some (slice_index bytes (i - 1)) = slice_get-get_or bytes (i - 1) 0 k in
+      let ev : slice_get box (i - 1) ≡ Some v.0 = v.1 in
+      let one = cell.single (i - 1) v.0 ev in
+      let w = inside.within (i - 1) v.0 (slice_index bytes (i - 1)) ev en in
+      let w0 = w.0 in
+      let w1 = w.1 in
+      let same : v.0.from ≡ slice_index bytes (i - 1) = omega arith in
+      let p : grades_over x term v.0 ≡ only (grade_of (row_of x term) (slice_index bytes (i - 1))) =
+      grades_point x term v.0 one ∙ ap (λ n. only (grade_of (row_of x term) n)) same in
+      rw (ex, et, ev) p
+
+  by_input : (i t : ℕ) (o : Option Input) → input_at b i ≡ o
+      → literal_byte_span b box i t ≡ only (literal_grade b bytes i t)
+  by_input i t None ex = rw ex refl
+  by_input i t (Some x) ex = by_term i t x ex (slice_get x.terms (t - 1)) refl
+
+  rule_point : (r : Rule) → (rule_byte_span b box r).high ≡ byte_strength b bytes r
+  rule_point r = ap (λ (s : Span ℕ). s.high * (weight_byte_of r.weight + 1) / 256)
+      (point (literal_grade b bytes) (literal_byte_span b box) (λ i t. by_input i t (input_at b i) refl) r.cond)
+
+  mass_point : (o t : ℕ) (rs : List Rule) → greatest_of (λ r. (rule_byte_span b box r).high) o t rs ≡ byte_mass_among b bytes o t rs
+  mass_point o t [] = refl
+  mass_point o t (r ∷ rs) =
+      ap₂ (λ m n. if concludes r o t then max m n else n) (rule_point r) (mass_point o t rs)
+
+  -- sums by the masses at their places
+  module _ (o : ℕ) (x : Output) (g : ℕ → ℕ) (gs : (k : ℕ) → k < 15 → g k ≡ byte_high_of b box o (k + 1)) where
+    total_point : (k : ℕ) (us : List Dec) → k + length us ≤ 15
+        → byte_total (byte_shares_from b bytes o x (k + 1) us) ≡ mass_sum g k us
+    total_point k [] l = refl
+    total_point k (u ∷ us) l =
+        let tail : byte_total (byte_shares_from b bytes o x (k + 1 + 1) us) ≡ mass_sum g (k + 1) us =
+        total_point (k + 1) us (omega arith) in
+        let one : g k ≡ byte_mass b bytes o (k + 1) = gs k (omega arith) ∙ mass_point o (k + 1) b.rules in
+        omega (
+          arith,
+          sum_by-cons (λ (s : ByteShare). s.mass)
+              (record { byte = nearest_byte x u; mass = byte_mass b bytes o (k + 1) })
+              (byte_shares_from b bytes o x (k + 1 + 1) us),
+        )
+
+    dot_point : (k : ℕ) (us : List Dec) → k + length us ≤ 15
+        → byte_weighted (byte_shares_from b bytes o x (k + 1) us) ≡ dot_sum g x k us
+    dot_point k [] l = refl
+    dot_point k (u ∷ us) l =
+        let tail : byte_weighted (byte_shares_from b bytes o x (k + 1 + 1) us) ≡ dot_sum g x (k + 1) us =
+        dot_point (k + 1) us (omega arith) in
+        let one : g k ≡ byte_mass b bytes o (k + 1) = gs k (omega arith) ∙ mass_point o (k + 1) b.rules in
+        let two : nearest_byte x u * g k ≡ nearest_byte x u * byte_mass b bytes o (k + 1) =
+        ap (λ n. nearest_byte x u * n) one in
+        omega (
+          arith,
+          sum_by-cons (λ (s : ByteShare). s.byte * s.mass)
+              (record { byte = nearest_byte x u; mass = byte_mass b bytes o (k + 1) })
+              (byte_shares_from b bytes o x (k + 1 + 1) us),
+        )
+
+    pub answer_point : (h before : ℕ) → output_at b o ≡ Some x → length x.singletons ≤ 15
+        → answer_in h b o bytes before ≡ answer_by g h x before
+    answer_point h before ex l =
+        let l0 : 0 + length x.singletons ≤ 15 = omega arith in
+        rw ex (ap₂ (λ m n. if m == 0 then resting_answer h x before else h * n / m) (total_point 0 x.singletons l0)
+        (dot_point 0 x.singletons l0))
+
+    pub none_point : length x.singletons ≤ 15 → mass_sum g 0 x.singletons ≡ 0
+        → byte_total (byte_shares b bytes o x) ≡ 0
+    none_point l z = let l0 : 0 + length x.singletons ≤ 15 = omega arith in total_point 0 x.singletons l0 ∙ z
+
+-- ---- the Bound of a cell, by what the code finds
 
 -- what holds of an output that is there
 pub at_output : {P Q : Output → Type 0} (b : Block) (o : ℕ) → 1 ≤ o → o ≤ length b.outputs
@@ -46,12 +325,12 @@ module _ (b : Block) (cell : List Interval) (o : ℕ) (x : Output) (h : ℕ) (va
   tight_side : (l : Option ℕ) → IfSome l (λ n. IfSome (output_at b o) (λ x. IsTightBound b cell o x h n))
       → IfNone l (Holds b cell o silent_leaf → ⊥) → IfNone l (IfSome (output_at b o) (λ x. IsSure b cell o x → ⊥))
       → IsTightSide l
-  tight_side None p loud unsure = record {
+  tight_side None p loud never = record {
     bound = tt;
     loud = loud;
-    unsure = subst (λ r. IfSome r (λ x. IsSure b cell o x → ⊥)) ex unsure;
+    unsure = subst (λ r. IfSome r (λ x. IsSure b cell o x → ⊥)) ex never;
   }
-  tight_side (Some n) p loud unsure = record {
+  tight_side (Some n) p loud never = record {
     bound = subst (λ r. IfSome r (λ x. IsTightBound b cell o x h n)) ex p;
     loud = tt;
     unsure = tt;
@@ -59,8 +338,8 @@ module _ (b : Block) (cell : List Interval) (o : ℕ) (x : Output) (h : ℕ) (va
 
   error_side : (r : Option ℕ) → IfSome r (λ n. IfSome (output_at b o) (λ x. IsErrorOnCell b cell o x h n))
       → IfNone r (IfSome (output_at b o) (IsUnsure b cell o)) → IsErrorSide r
-  error_side None p unsure = record { error = tt; unsure = subst (λ r. IfSome r (IsUnsure b cell o)) ex unsure }
-  error_side (Some n) p unsure = record {
+  error_side None p none = record { error = tt; unsure = subst (λ r. IfSome r (IsUnsure b cell o)) ex none }
+  error_side (Some n) p none = record {
     error = subst (λ r. IfSome r (λ x. IsErrorOnCell b cell o x h n)) ex p;
     unsure = tt;
   }
@@ -105,15 +384,6 @@ module _ (b : Block) (cell : List Interval) (o h : ℕ) (from : 1 ≤ o) (to : o
     (no_sure : IfNone l (IfSome (output_at b o) (λ x. IsSure b cell o x → ⊥)))
     (error : IfSome r (λ n. IfSome (output_at b o) (λ x. IsErrorOnCell b cell o x h n)))
     (unsure : IfNone r (IfSome (output_at b o) (IsUnsure b cell o))) where
-  pub bound_found : (s : Option ℕ) → IfSome s (λ n. (l ≡ Some n) ⊎ (r ≡ Some n))
-      → IfSome s (λ n. IfSome l (λ t. n ≤ t)) → IfSome s (λ n. IfSome r (λ t. n ≤ t))
-      → IfSome s (λ n. IfSome (output_at b o) (λ x. IsCellBound b cell o x h n))
-  bound_found None one le le' = tt
-  bound_found (Some n) one le le' = each_output b o from to (λ x ex.
-      less_is b cell o x h valid is ex ones l r n
-      (tight_side b cell o x h valid is ex ones l bound loud no_sure)
-      (error_side b cell o x h valid is ex ones r error unsure) one le le')
-
   small_side : (s : Option ℕ) → IfSome s (λ n. n ≤ 1000000) → (n : ℕ) → s ≡ Some n → n ≤ 1000000
   small_side None h n e = absurd (let z : ⊥ = cc in z)
   small_side (Some m) h n e = let same : m ≡ n = cc in omega arith
@@ -126,24 +396,24 @@ module _ (b : Block) (cell : List Interval) (o h : ℕ) (from : 1 ≤ o) (to : o
       let e : output_at b o ≡ Some x.0 = x.1 in
       small b cell o x.0 h n (subst (λ r. IfSome r (λ x. IsTightBound b cell o x h n)) e p)
 
-  pub small_found : TightBoundsAreSmall → IfSome r (λ n. n ≤ 1000000) → (s : Option ℕ)
-      → IfSome s (λ n. (l ≡ Some n) ⊎ (r ≡ Some n)) → IfSome s (λ n. n ≤ 1000000)
-  small_found small small_r None one = tt
-  small_found small small_r (Some n) one = ⊎_elim (λ (e : l ≡ Some n). small_side l (small_left small l bound) n e)
-      (λ (e : r ≡ Some n). small_side r small_r n e) one
-
-  pub none_found : (s : Option ℕ) → IfNone s (l ≡ None) → IfNone s (r ≡ None)
-      → IfNone s (IfSome (output_at b o) (λ x. (n : ℕ) → HasCellBound b cell o x h n → ⊥))
-  none_found None no_left no_right = each_output b o from to (λ x ex.
-      neither b cell o x h valid is ex ones l r
-      (tight_side b cell o x h valid is ex ones l bound loud no_sure)
-      (error_side b cell o x h valid is ex ones r error unsure) no_left no_right)
-  none_found (Some n) no_left no_right = tt
-
--- what is within, by an error that serves
-pub served : CoveredMassesHaveErrors → (b : Block) (cell : List Interval) (o : ℕ) (x : Output) (h n : ℕ) (c : CellMasses)
-    → AreFit c → AreCellMasses b cell o x h c → Covers c.answer (terms_of c) c.rest n
-    → (m : ℕ) × HasCellBound b cell o x h m × (m ≤ n)
-served errors b cell o x h n c fit m covers =
-    let e = errors c.answer (terms_of c) c.rest n fit.terms covers in
-    (e.0, of_error (error_on b cell o x h e.0 c m e.1), e.2)
+  -- the less of the two has what the Bound of the cell is, and where there is none, the cell has none
+  pub less_found : TightBoundsAreSmall → IfSome r (λ n. n ≤ 1000000) → (s : Option ℕ)
+      → IfSome s (λ n. (l ≡ Some n) ⊎ (r ≡ Some n)) → IfSome s (λ n. IfSome l (λ t. n ≤ t))
+      → IfSome s (λ n. IfSome r (λ t. n ≤ t)) → IfNone s (l ≡ None) → IfNone s (r ≡ None)
+      → IfSome s (λ n. IfSome (output_at b o) (λ x. IsCellBound b cell o x h n)) × IfSome s (λ n. n ≤ 1000000)
+      × IfNone s (IfSome (output_at b o) (λ x. (n : ℕ) → HasCellBound b cell o x h n → ⊥))
+  less_found small small_r None one le le' no_left no_right = (
+    tt,
+    tt,
+    each_output b o from to (λ x ex. neither b cell o x h valid is ex ones l r
+        (tight_side b cell o x h valid is ex ones l bound loud no_sure)
+        (error_side b cell o x h valid is ex ones r error unsure) no_left no_right),
+  )
+  less_found small small_r (Some n) one le le' no_left no_right = (
+    each_output b o from to (λ x ex. less_is b cell o x h valid is ex ones l r n
+        (tight_side b cell o x h valid is ex ones l bound loud no_sure)
+        (error_side b cell o x h valid is ex ones r error unsure) one le le'),
+    ⊎_elim (λ (e : l ≡ Some n). small_side l (small_left small l bound) n e)
+        (λ (e : r ≡ Some n). small_side r small_r n e) one,
+    tt,
+  )

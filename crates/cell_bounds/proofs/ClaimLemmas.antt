@@ -1,26 +1,25 @@
 -- Laws of claims, by cases.
 use Rattle.std.proofs.Common.{◌≡◌, ◌⊎◌, ⊎_elim, ℕ, ◌≤◌, List, length, Option, Some, None, refl, sym, subst, ◌∙◌, arith}
-use Rattle.std.specs.Prelude.{IfSome}
 use Rattle.std.proofs.lemmas.Bool.{cases_eq}
+use Rattle.std.specs.Prelude.{IfSome}
 use Rattle.fz_num.specs.{declared.dec.Dec.Dec, Fractions.Quotient}
-use Rattle.fuzzy_meaning.specs.declared.{block.Block.Block, block.Output.Output}
-use Rattle.fuzzy_meaning.specs.{Blocks.IsValid, Meaning.answer_after}
+use Rattle.fuzzy_meaning.specs.{declared.block.Output.Output, declared.block.Block.Block, Meaning.answer_after}
+use Rattle.fuzzy_meaning.specs.Blocks.{IsValid}
 use Rattle.byte_scaling.specs.Cells.{value_in}
 use Rattle.point_slope.specs.Bytes.{answer_in}
-use Rattle.error_bound.specs.declared.{boxes.Interval.Interval, boxes.Leaf.Leaf}
-use Rattle.error_bound.specs.BestLeaves.{IsBestBound, of_leaf, of_none, BestLeavesAreOne, BestBoundsAreLeast}
 use Rattle.error_bound.specs.TightLaws.{IsAnsweredWithin, kept, near, TightAnswersAreNear, TightBoundsAreOne}
+use Rattle.error_bound.specs.BestLeaves.{IsBestBound, of_leaf, of_none, BestLeavesAreOne, BestBoundsAreLeast}
 use Rattle.error_bound.specs.TightLaws.{TightBoundsAreLeast, TightBoundsHoldInside, TightBoundsFallWithParts}
-use Rattle.error_bound.specs.{Answers.Follows, Answers.AnswersAreNear, Bounds.IsBound, Laws.BoundsAreDetermined}
-use Rattle.error_bound.specs.{Laws.BoundsFallWithParts, Tight.of_bound as tight_of_bound}
-use Rattle.cell_bounds.specs.declared.claims.Claim.TheVariants.{Pair, Tight, Cells}
-use Rattle.box_tree.specs.declared.cert.CertKind.TheVariants as kind
-use Rattle.cell_bounds.specs.Cells.{cell_of}
+use Rattle.error_bound.specs.{Laws.BoundsAreDetermined, Laws.BoundsFallWithParts, declared.boxes.Interval.Interval}
+use Rattle.error_bound.specs.{Tight.of_bound as tight_of_bound, Answers.Follows, Answers.AnswersAreNear}
+use Rattle.error_bound.specs.{declared.boxes.Leaf.Leaf, Bounds.IsBound}
 use Rattle.cell_bounds.specs.CellBounds.{HasCellBound, of_tight, IsCellCount, of_bound, of_none as no_bound}
-use Rattle.cell_bounds.specs.CellBounds.{BoxesOfCellsAnswer}
 use Rattle.cell_bounds.specs.Claims.{ClaimAnswersAreNear, ClaimBoundsAreOne, ClaimBoundsFallWithParts}
 use Rattle.cell_bounds.specs.Claims.{TightClaimsAreLeast, CountsAreLeast, BoxCountsAreOne, CountsAreOne}
-use Rattle.cell_bounds.proofs.BoxesOfCells.{bounds_one, counts_one, box_is, cell_inside, long}
+use Rattle.cell_bounds.specs.declared.claims.Claim.TheVariants.{Pair, Tight, Cells}
+use Rattle.cell_bounds.specs.{CellBounds.BoxesOfCellsAnswer, Cells.cell_of}
+use Rattle.cell_bounds.proofs.WalkLemmas.{bounds_one, counts_one, box_is, cell_inside, long}
+use Rattle.box_tree.specs.declared.cert.CertKind.TheVariants as kind
 
 answered : (x : Output) (leaf : Leaf) (n q q' : ℕ) (p' before after : Quotient)
     → Follows x leaf n q q' p' before after → IsAnsweredWithin x n q q' p' before after

@@ -11,7 +11,7 @@ ghost use Rattle.cell_bounds.specs.CellMasses.{AreFit, AreCellMasses, terms_of};
 
 use byte_scaling::near;
 use cell_error::{Answer, MassRange, least_error, serves};
-use error_bound::{BoxTable, Masses};
+use error_bound::{BoxTable, Masses, output_of};
 use fuzzy_meaning::{Block, Output};
 
 /// What the masses of an output's terms lie between on a cell, how far above the low end what stands in for an
@@ -69,7 +69,7 @@ pub(crate) fn cell_masses(
     ensures none { IfNone result
         (IfSome (output_at block.now out) (IsUnsure block.now table.now.bytes.0.items out)) }
 {
-    let output = &block.outputs.as_slice()[out as usize - 1];
+    let output = output_of(block, out);
     let ranges = ranges_of(output, &masses.lows, &masses.highs);
     match answer(output, &masses.byte_highs, parts) {
         Some(value) => with_rest(output, ranges, parts, value),

@@ -21,25 +21,18 @@ unreachable-requires c =
     let holds = (c.best_leaves_hold.ensures b box o c.in-Some.leaf small c.in-Some.ensures).0 in
     c.faulty_leaves_fail.ensures b box o c.in-Some.leaf c.in-Err.field-0 c.in-Err.ensures.fault holds
 
-pub returns-clause-count : goal.returns-clause-count
-returns-clause-count c =
+pub returns : goal.returns
+returns c =
     let b = c.args.block.now in
     let box = c.args.table.now.bytes.0.items in
     let o = c.args.out in
     let leaf = c.in-Some.leaf in
     let n = c.in-Ok.bound in
-    each_more (λ (x : Output). IsBound b box o x c.args.parts leaf n)
-    (λ (x : Output). IsBestBound b box o x c.args.parts n) (output_at b o)
-    (λ x p. of_leaf leaf n c.in-Some.ensures p) c.in-Ok.ensures.bound
-
-pub returns-clause-bound : goal.returns-clause-bound
-returns-clause-bound c =
-    let b = c.args.block.now in
-    let box = c.args.table.now.bytes.0.items in
-    let o = c.args.out in
-    let leaf = c.in-Some.leaf in
-    let n = c.in-Ok.bound in
-    let holds = c.in-Ok.ensures.holds in
-    each_more (λ (x : Output). IsBound b box o x c.args.parts leaf n)
-    (λ (x : Output). HasClaimBound b box o x c.args.parts (Pair leaf) n) (output_at b o)
-    (λ x p. (holds, p)) c.in-Ok.ensures.bound
+    let bound = λ (x : Output). IsBound b box o x c.args.parts leaf n in
+    record {
+      of_kind = tt;
+      bound = each_more bound (λ (x : Output). HasClaimBound b box o x c.args.parts (Pair leaf) n) (output_at b o)
+          (λ x p. (c.in-Ok.ensures.holds, p)) c.in-Ok.ensures.bound;
+      count = each_more bound (λ (x : Output). IsBestBound b box o x c.args.parts n) (output_at b o)
+          (λ x p. of_leaf leaf n c.in-Some.ensures p) c.in-Ok.ensures.bound;
+    }

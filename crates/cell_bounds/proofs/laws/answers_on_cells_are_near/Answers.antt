@@ -1,4 +1,4 @@
-use Rattle.cell_bounds.proofs.BoxesOfCells.{answers_on_cells}
+use Rattle.cell_bounds.proofs.WalkLemmas.{answers_on_cells}
 use Rattle.cell_bounds.proofs.laws.answers_on_cells_are_near.Goals as goal
 
 pub returns : goal.returns

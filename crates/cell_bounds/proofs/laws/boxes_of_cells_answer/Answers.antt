@@ -1,4 +1,4 @@
-use Rattle.cell_bounds.proofs.BoxesOfCells.{boxes_answer}
+use Rattle.cell_bounds.proofs.WalkLemmas.{boxes_answer}
 use Rattle.cell_bounds.proofs.laws.boxes_of_cells_answer.Goals as goal
 
 pub returns : goal.returns

@@ -1,4 +1,4 @@
-use Rattle.cell_bounds.proofs.BoxesOfCells.{counts_one}
+use Rattle.cell_bounds.proofs.WalkLemmas.{counts_one}
 use Rattle.cell_bounds.proofs.laws.cell_counts_are_one.Goals as goal
 
 pub returns : goal.returns

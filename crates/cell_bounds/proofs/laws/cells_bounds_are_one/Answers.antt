@@ -1,4 +1,4 @@
-use Rattle.cell_bounds.proofs.BoxesOfCells.{bounds_one}
+use Rattle.cell_bounds.proofs.WalkLemmas.{bounds_one}
 use Rattle.cell_bounds.proofs.laws.cells_bounds_are_one.Goals as goal
 
 pub returns : goal.returns

@@ -1,4 +1,4 @@
-use Rattle.cell_bounds.proofs.BoxesOfCells.{bounds_fall}
+use Rattle.cell_bounds.proofs.WalkLemmas.{bounds_fall}
 use Rattle.cell_bounds.proofs.laws.cells_bounds_fall_inside.Goals as goal
 
 pub returns : goal.returns

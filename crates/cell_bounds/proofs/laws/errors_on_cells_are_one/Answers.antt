@@ -1,4 +1,4 @@
-use Rattle.cell_bounds.proofs.OneError.{errors_one}
+use Rattle.cell_bounds.proofs.CellLemmas.{errors_one}
 use Rattle.cell_bounds.proofs.laws.errors_on_cells_are_one.Goals as goal
 
 pub returns : goal.returns

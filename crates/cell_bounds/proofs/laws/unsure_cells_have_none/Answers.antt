@@ -1,4 +1,4 @@
-use Rattle.cell_bounds.proofs.OneError.{unsure_none}
+use Rattle.cell_bounds.proofs.CellLemmas.{unsure_none}
 use Rattle.cell_bounds.proofs.laws.unsure_cells_have_none.Goals as goal
 
 pub returns : goal.returns

@@ -1,5 +1,5 @@
 use Rattle.std.proofs.Common.{◌≡◌, ◌≤◌, ◌*◌, arith, mul-le-mul_right}
-use Rattle.cell_bounds.proofs.RangeLemmas.{quotient_le}
+use Rattle.cell_bounds.proofs.CellLemmas.{quotient_le}
 use Rattle.cell_bounds.proofs.masses.answer.Goals as goal
 
 pub returns-then-mass-gt0-clause-small : goal.returns-then-mass-gt0-clause-small

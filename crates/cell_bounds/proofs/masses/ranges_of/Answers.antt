@@ -1,8 +1,8 @@
 use Rattle.std.proofs.Common.{◌-◌, length, get_or, refl, ap, arith}
-use Rattle.std.specs.Prelude.{slice_index, pos}
 use Rattle.std.proofs.lemmas.List.{length-set}
+use Rattle.std.specs.Prelude.{slice_index, pos}
 use Rattle.cell_error.specs.declared.ranges.MassRange.{MassRange}
-use Rattle.cell_bounds.proofs.RangeLemmas.{fill_next}
+use Rattle.cell_bounds.proofs.CellLemmas.{fill_next}
 use Rattle.cell_bounds.proofs.masses.ranges_of.Goals as goal
 
 pub loop-k-preserved : goal.loop-k-preserved
